@@ -1,0 +1,5 @@
+pub mod Counting
+pub mod Channel
+pub mod Packet
+pub mod Trace
+pub mod Clock

@@ -1,0 +1,16 @@
+//! Traces of channels as plain data: channels, packets, events, and when a trace is well-formed.
+//!
+//! The definitions stand in `specs/`: `Channel` (channel tables), `Packet` (what one cycle records),
+//! `Trace` (*Well-formed*) and `Clock` (the vector clock of an event). All of them count: "the j-th
+//! packet in which c starts" is `IsNth` of `Counting`.
+#![tactic(auto)]
+
+mod channel;
+mod event;
+mod packet;
+mod trace;
+
+pub use channel::{Channel, Channels, Dir};
+pub use event::{Event, Events, Kind};
+pub use packet::{Packet, Packets};
+pub use trace::Trace;
