@@ -1,0 +1,65 @@
+-- *Encoding*: the bytes of a trace, version 1, as a concatenation (this project's profile). All numbers are big-endian.
+--
+--   VIDITRC1 | channel count | channels | packets | 00, packet count (4 bytes)
+--   a channel: direction (0 inward, 1 outward) | name length | name | port count | a width a port
+--   a packet: 01 | start mask | end mask | contents of the starting channels
+use Rattle.std.specs.Prelude.{◌≡◌, ℕ, ◌+◌, ◌*◌, ◌/◌, ◌<◌, ◌^◌, List, [], ◌∷◌, ◌++◌, length, codes}
+use Rattle.std.specs.List.{flat_map, zip}
+use Rattle.std.specs.Int.{bytes_high_first, bytes_low_first}
+use Rattle.trace_model.specs.declared.channel.Channel.{Channel}
+use Rattle.trace_model.specs.declared.channel.Dir.{Dir}
+use Rattle.trace_model.specs.declared.channel.Dir.TheVariants.{Inward, Outward}
+use Rattle.trace_model.specs.declared.packet.Packet.{Packet}
+use Rattle.trace_model.specs.declared.trace.Trace.{Trace}
+use Rattle.trace_model.specs.Channel.{byte_count, IsTable}
+use Rattle.trace_model.specs.Packet.{widths_under}
+use Rattle.trace_model.specs.Trace.{IsWellFormed}
+
+abbrev pub magic : List ℕ
+magic = codes "VIDITRC1"
+
+abbrev pub direction_byte : Dir → ℕ
+direction_byte Inward = 0
+direction_byte Outward = 1
+
+abbrev pub channel_bytes : Channel → List ℕ
+channel_bytes c = direction_byte c.dir ∷ length c.name ∷ (c.name ++ length c.widths ∷ c.widths)
+
+abbrev pub header_bytes : List Channel → List ℕ
+header_bytes channels = magic ++ length channels ∷ flat_map channel_bytes channels
+
+-- the bytes of a mask of n channels
+abbrev pub mask_len : ℕ → ℕ
+mask_len n = (n + 7) / 8
+
+-- the bytes of a packet of n channels without contents
+abbrev pub head_len : ℕ → ℕ
+head_len n = 1 + 2 * mask_len n
+
+-- channel c is bit c mod 8, bit 0 the lowest, of byte c / 8; spare bits are those of the mask, 0
+abbrev pub mask_bytes : ℕ → ℕ → List ℕ
+mask_bytes n mask = bytes_low_first 0 (mask_len n) mask
+
+-- each number in the bytes of its port's width, the highest byte first
+abbrev pub number_bytes : List ℕ → List ℕ → List ℕ
+number_bytes widths numbers = flat_map (λ (x : ℕ × ℕ). bytes_high_first (byte_count x.0) x.1) (zip widths numbers)
+
+abbrev pub packet_bytes : List Channel → Packet → List ℕ
+packet_bytes channels p = 1 ∷ (mask_bytes (length channels) p.starts
+    ++ (mask_bytes (length channels) p.ends ++ number_bytes (widths_under p.starts channels) p.contents))
+
+abbrev pub end_mark : ℕ → List ℕ
+end_mark packets = 0 ∷ bytes_high_first 4 packets
+
+abbrev pub encode : Trace → List ℕ
+encode t = header_bytes t.channels ++ (flat_map (packet_bytes t.channels) t.packets ++ end_mark (length t.packets))
+
+-- the traces that have an encoding: a lawful header, a well-formed trace, and a count that fits its 4 bytes
+pub record HasEncoding (t : Trace) : Type 0 where
+  pub table : IsTable t.channels
+  pub well_formed : IsWellFormed t
+  pub few : length t.packets < 2 ^ 32
+
+-- the bytes are the encoding of t
+abbrev pub Encodes : Trace → List ℕ → Type 0
+Encodes t bytes = HasEncoding t × (encode t ≡ bytes)

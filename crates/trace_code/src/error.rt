@@ -1,0 +1,45 @@
+ghost use Rattle.std.specs.Prelude.{◌≡◌};
+
+use std::alloc::{AllocError, AllocFailed};
+use thiserror::Error;
+use vidi_bits::Memory;
+
+/// Why bytes give no trace.
+#[derive(Clone, Copy, Debug, PartialEq, Eq, Error)]
+pub enum CodeError {
+    /// The bytes are no encoding of a well-formed trace; `at` is the place of the fault in bytes, for now 0.
+    #[error("bad trace at {at}")]
+    BadTrace { at: u64 },
+    #[error("out of memory")]
+    Memory,
+}
+
+impl From<Memory> for CodeError {
+    ghost use Rattle.trace_code.specs.declared.error.CodeError.{CodeError};
+
+    ghost from_gives = { λ _ e. e ≡ CodeError.Memory };
+
+    fn from(_error: Memory) -> CodeError {
+        CodeError::Memory
+    }
+}
+
+impl From<AllocError> for CodeError {
+    ghost use Rattle.trace_code.specs.declared.error.CodeError.{CodeError};
+
+    ghost from_gives = { λ _ e. e ≡ CodeError.Memory };
+
+    fn from(_error: AllocError) -> CodeError {
+        CodeError::Memory
+    }
+}
+
+impl<T: Drop> From<AllocFailed<T>> for CodeError {
+    ghost use Rattle.trace_code.specs.declared.error.CodeError.{CodeError};
+
+    ghost from_gives = { λ _ e. e ≡ CodeError.Memory };
+
+    fn from(_error: AllocFailed<T>) -> CodeError {
+        CodeError::Memory
+    }
+}

@@ -1,0 +1,12 @@
+//! What Vidi reads and writes: a `Shelf` of named files and a `Sink` of bytes.
+//!
+//! A shelf or sink may tell what it holds; every clause about told bytes is then an equation on an
+//! `Option`, which says nothing of one that tells nothing. Each counts its faults, and no call
+//! answers `Failed` unless the count rose (`specs/Cause`).
+#![tactic(auto)]
+
+mod shelf;
+mod sink;
+
+pub use shelf::{FetchError, Shelf};
+pub use sink::{Failed, Sink};
