@@ -1,5 +1,5 @@
 -- Channel tables: names, content ports and their sizes (this project's profile).
-use Rattle.std.specs.Prelude.{◌≢◌, ℕ, ◌+◌, ◌/◌, ◌≤◌, ◌⊎◌, ◌==◌, ◌||◌, ◌&&◌, Bool, IsTrue, List, [], ◌∷◌, length, nat_le, All, sum_by}
+use Rattle.std.specs.Prelude.{◌≢◌, ℕ, ◌+◌, ◌/◌, ◌≤◌, ◌==◌, ◌||◌, ◌&&◌, Bool, IsTrue, List, [], ◌∷◌, length, nat_le, All, sum_by}
 use Rattle.std.specs.List.{AllPairs}
 use Rattle.trace_model.specs.declared.channel.Channel.{Channel}
 

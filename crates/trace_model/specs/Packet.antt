@@ -1,5 +1,5 @@
 -- What one packet records: the starts and the ends of a cycle, and the contents of the starts.
-use Rattle.std.specs.Prelude.{◌≡◌, ◌≢◌, ℕ, ◌<◌, ◌^◌, ◌⊎◌, Bool, List, [], Option, Some, None, take, drop, length, slice_get, count_by, if◌then◌else◌}
+use Rattle.std.specs.Prelude.{◌≢◌, ℕ, ◌<◌, ◌^◌, ◌⊎◌, Bool, List, [], Option, Some, None, take, drop, length, slice_get, count_by, if◌then◌else◌}
 use Rattle.std.specs.List.{AllZip, flat_map, enumerate_from}
 use Rattle.trace_model.specs.declared.channel.Channel.{Channel}
 use Rattle.trace_model.specs.declared.event.Kind.{Kind}

@@ -7,10 +7,12 @@
 
 mod channel;
 mod event;
+mod flight;
 mod packet;
 mod trace;
 
 pub use channel::{Channel, Channels, Dir};
 pub use event::{Event, Events, Kind};
+pub use flight::in_flight_after;
 pub use packet::{Packet, Packets};
 pub use trace::Trace;
