@@ -1,7 +1,8 @@
 -- Alternation and the channels in flight, one packet at a time.
-use Rattle.std.proofs.Common.{◌≡◌, ℕ, suc, ◌+◌, ◌<◌, ◌≤◌, true, false, List, [], ◌∷◌, ◌++◌, Some, length, slice_get, bit_and, bit_or, ◌-◌, ◌^◌, ◌≢◌, ⊎_elim, refl, arith}
+use Rattle.std.proofs.Common.{◌≡◌, ℕ, suc, ◌+◌, ◌<◌, ◌≤◌, true, false, List, [], ◌∷◌, ◌++◌, Some, None, length, take, drop, get_or, slice_get, bit_and, bit_or, ◌-◌, ◌^◌, ◌≢◌, ⊎_elim, refl, sym, ◌∙◌, ◌⊎◌, zero, arith}
 use Rattle.std.specs.Int.{bit_at}
-use Rattle.std.proofs.lemmas.List.{take-append-le, take_all, take_at, length_push}
+use Rattle.std.proofs.lemmas.List.{take-append-le, take-append-drop, take_all, take_at, length_push}
+use Rattle.std.proofs.lemmas.Option.{slice_get_within, slice_get_cases}
 use Rattle.std.proofs.lemmas.Nat.Bits.{bit_at-zero, bit_at-lt, bit_at_or}
 use Rattle.std.proofs.lemmas.Bool.{cases_Bool}
 use Rattle.std.proofs.lemmas.Nat.{or_lt}
@@ -10,8 +11,8 @@ use Rattle.trace_model.specs.declared.packet.Packet.{Packet}
 use Rattle.trace_model.specs.Counting.{has}
 use Rattle.trace_model.specs.Packet.{count}
 use Rattle.trace_model.specs.Trace.{Alternates, InFlight}
-use Rattle.trace_model.proofs.CountingLemmas.{count-push, slice_get-push, slice_get-last}
-use Rattle.trace_model.proofs.MaskLemmas.{cond-has, bit-from-has, no-bit-from-has, bits-apart, bits-within, bit_at-without, some-common-bit, some-bit-without}
+use Rattle.trace_model.proofs.CountingLemmas.{count-push, slice_get-push, slice_get-last, slice_get-append, take-suc_get}
+use Rattle.trace_model.proofs.MaskLemmas.{cond-has, bit-from-has, has-from-bit, no-bit-from-has, bits-apart, bits-within, bit_at-without, some-common-bit, some-bit-without}
 
 -- no packet: nothing is in flight
 pub alternates-nil : Alternates []
@@ -125,3 +126,62 @@ refused-end ps p flying starts ends s e lf ls le without before a =
     let o = bit_at_or flying starts found.0 in
     let u : bit_at ends found.0 ≤ bit_at flying found.0 + bit_at starts found.0 = rw (s, e) at t in
     omega arith
+
+-- ---- fronts
+-- a front of packets that alternate alternates
+pub alternates-front : (ps qs : List Packet) → Alternates (ps ++ qs) → Alternates ps
+alternates-front ps qs a = record {
+  starts = λ p c packet at h.
+      let l = slice_get_within ps p packet at in
+      rw (take-append-le p ps qs (omega arith)) at (a.starts p c packet (slice_get-append ps qs p packet at) h);
+  ends = λ p c packet at h.
+      let l = slice_get_within ps p packet at in
+      rw (take-append-le p ps qs (omega arith), take-append-le (suc p) ps qs (omega arith)) at (a.ends p c packet (slice_get-append ps qs p packet at) h);
+}
+
+pub alternates-take : (n : ℕ) (ps : List Packet) → Alternates ps → Alternates (take n ps)
+alternates-take n ps a = alternates-front (take n ps) (drop n ps) (rw (take-append-drop n ps) a)
+
+-- the counts after a front one longer
+pub count-start-suc : (ps : List Packet) (n : ℕ) (p : Packet) (c : ℕ) → slice_get ps n ≡ Some p → count Start c (take (suc n) ps) ≡ count Start c (take n ps) + bit_at p.starts c
+count-start-suc ps n p c at = rw (take-suc_get ps n p at) (count-start-push (take n ps) p c)
+
+pub count-end-suc : (ps : List Packet) (n : ℕ) (p : Packet) (c : ℕ) → slice_get ps n ≡ Some p → count End c (take (suc n) ps) ≡ count End c (take n ps) + bit_at p.ends c
+count-end-suc ps n p c at = rw (take-suc_get ps n p at) (count-end-push (take n ps) p c)
+
+-- what alternation says of a packet's bits
+pub start-bit : (ps : List Packet) → Alternates ps → (n c : ℕ) (p : Packet) → slice_get ps n ≡ Some p → bit_at p.starts c ≡ 1 → count Start c (take n ps) ≡ count End c (take n ps)
+start-bit ps a n c p at h = a.starts n c p at (has-from-bit p.starts c h)
+
+pub end-bit : (ps : List Packet) → Alternates ps → (n c : ℕ) (p : Packet) → slice_get ps n ≡ Some p → bit_at p.ends c ≡ 1 → count End c (take n ps) < count Start c (take (suc n) ps)
+end-bit ps a n c p at h = a.ends n c p at (has-from-bit p.ends c h)
+
+-- after each front a channel has as many starts as ends, or one more
+pub record Balanced (starts ends : ℕ) : Type 0 where
+  pub least : ends ≤ starts
+  pub most : starts ≤ suc ends
+
+balanced_step : (ps : List Packet) → Alternates ps → (c n : ℕ) → Balanced (count Start c (take n ps)) (count End c (take n ps)) → (p : Packet) → slice_get ps n ≡ Some p → Balanced (count Start c (take (suc n) ps)) (count End c (take (suc n) ps))
+balanced_step ps a c n before p at =
+    let s = count-start-suc ps n p c at in
+    let t = count-end-suc ps n p c at in
+    let starts = start-bit ps a n c p at in
+    let ends = end-bit ps a n c p at in
+    let ls = bit_at-lt p.starts c in
+    let le = bit_at-lt p.ends c in
+    record { least = grind arith; most = grind arith }
+
+balanced_suc : (ps : List Packet) → Alternates ps → (c n : ℕ) → Balanced (count Start c (take n ps)) (count End c (take n ps)) → ((p : Packet) × (n < length ps) × (slice_get ps n ≡ Some p) × (get_or ps n p ≡ p)) ⊎ ((length ps ≤ n) × (slice_get ps n ≡ None)) → Balanced (count Start c (take (suc n) ps)) (count End c (take (suc n) ps))
+balanced_suc ps a c n before cases = ⊎_elim
+    (λ (w : (p : Packet) × (n < length ps) × (slice_get ps n ≡ Some p) × (get_or ps n p ≡ p)). balanced_step ps a c n before w.0 w.2)
+    (λ (w : (length ps ≤ n) × (slice_get ps n ≡ None)).
+    let all : take (suc n) ps ≡ take n ps = take_all (suc n) ps (omega (arith, w.0)) ∙ sym (take_all n ps w.0) in
+    rw all before)
+    cases
+
+pub balanced : (ps : List Packet) → Alternates ps → (c n : ℕ) → Balanced (count Start c (take n ps)) (count End c (take n ps))
+balanced ps a c zero = record { least = omega arith; most = omega arith }
+balanced ps a c (suc n) = balanced_suc ps a c n (balanced ps a c n) (slice_get_cases ps n).1
+
+pub balanced-all : (ps : List Packet) → Alternates ps → (c : ℕ) → Balanced (count Start c ps) (count End c ps)
+balanced-all ps a c = rw (take_all (length ps) ps (omega arith)) at (balanced ps a c (length ps))
