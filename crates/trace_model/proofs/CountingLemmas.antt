@@ -1,7 +1,7 @@
 -- Counts of the items of a list that pass a test, in its fronts, and the j-th of them.
-use Rattle.std.proofs.Common.{◌≡◌, ◌⊎◌, ℕ, zero, suc, ◌+◌, ◌<◌, ◌≤◌, Bool, true, false, cond, List, [], ◌∷◌, ◌++◌, Some, length, take, drop, slice_get, count_by, inl, inr, ⊎_elim, refl, ap, sym, ◌∙◌, arith}
+use Rattle.std.proofs.Common.{◌≡◌, ◌⊎◌, ℕ, zero, suc, ◌+◌, ◌<◌, ◌≤◌, Bool, true, false, cond, List, [], ◌∷◌, ◌++◌, Some, length, take, drop, get_or, slice_get, count_by, inl, inr, ⊎_elim, refl, ap, sym, ◌∙◌, arith}
 use Rattle.std.proofs.lemmas.Bool.{cases_Bool, cases_lt, cases_order}
-use Rattle.std.proofs.lemmas.List.{take-take, take-append-le, take-append-drop}
+use Rattle.std.proofs.lemmas.List.{take-take, take-append-le, take-append-drop, take_more}
 use Rattle.std.proofs.lemmas.List.Sums.{sum_by_push, sum_by-cons, sum_by-take-le}
 use Rattle.std.proofs.lemmas.Option.{same_Some, slice_get_within}
 use Rattle.trace_model.specs.Counting.{IsNth}
@@ -39,6 +39,10 @@ pub take-suc_get : {X : Type 0} (xs : List X) (p : ℕ) (x : X) → slice_get xs
 take-suc_get [] p x e = absurd (cc)
 take-suc_get (z ∷ zs) zero x e = ap (λ y. y ∷ []) (same_Some z x e)
 take-suc_get (z ∷ zs) (suc p) x e = ap (λ ys. z ∷ ys) (take-suc_get zs p x e)
+
+-- the front one longer, by an item that a loop reads
+pub take-more_read : {X : Type 0} (xs : List X) (i : ℕ) (x : X) → i < length xs → x ≡ get_or xs i x → take (i + 1) xs ≡ take i xs ++ x ∷ []
+take-more_read xs i x l e = take_more xs i x l ∙ ap (λ y. take i xs ++ y ∷ []) (sym e)
 
 -- ---- counts
 -- an item at the end counts where it passes

@@ -1,3 +1,4 @@
 pub mod CountingLemmas
 pub mod MaskLemmas
 pub mod FlightLemmas
+pub mod ContentsLemmas

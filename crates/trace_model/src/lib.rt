@@ -6,13 +6,16 @@
 #![tactic(auto)]
 
 mod channel;
+mod contents;
 mod event;
 mod flight;
+mod lawful;
 mod packet;
 mod trace;
 
 pub use channel::{Channel, Channels, Dir};
 pub use event::{Event, Events, Kind};
 pub use flight::in_flight_after;
+pub use lawful::{is_packet, well_formed};
 pub use packet::{Packet, Packets};
 pub use trace::Trace;

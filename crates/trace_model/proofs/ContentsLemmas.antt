@@ -1,0 +1,108 @@
+-- The numbers of contents against the widths of their ports, piece by piece.
+use Rattle.std.proofs.Common.{◌≡◌, ◌↔◌, ℕ, suc, ◌+◌, ◌/◌, ◌<◌, ◌≤◌, ◌^◌, cond, ◌==◌, bit_and, List, [], ◌∷◌, ◌++◌, length, take, drop, get_or, refl, ap, sym, ◌∙◌, arith, add-one, IsTrue}
+use Rattle.std.specs.Int.{bit_at}
+use Rattle.std.specs.List.{flat_map, enumerate_from}
+use Rattle.std.proofs.Math.Nat.{pow-le-pow_right, div-eq_of_lt}
+use Rattle.std.proofs.lemmas.Bool.{eqb-true}
+use Rattle.std.proofs.lemmas.List.{drop_more, take-append-drop, length-append}
+use Rattle.std.proofs.lemmas.List.Elements.{length_all_zip, AllZip-get_or}
+use Rattle.std.proofs.lemmas.Nat.{pow_pos, shr_split, and_mask}
+use Rattle.std.proofs.lemmas.Nat.Bits.{bit_at-suc, bit_at_lowest}
+use Rattle.trace_model.specs.declared.channel.Channel.{Channel}
+use Rattle.trace_model.specs.Counting.{has}
+use Rattle.trace_model.specs.Packet.{Fit, widths_under}
+
+-- ---- one number
+pub below-wide : (number bits : ℕ) → number < 2 ^ 128 → 128 ≤ bits → number < 2 ^ bits
+below-wide number bits l h = let p : 2 ^ 128 ≤ 2 ^ bits = pow-le-pow_right (omega arith) h in omega arith
+
+pub below-from_shift : (number bits : ℕ) → number / 2 ^ bits ≡ 0 → number < 2 ^ bits
+below-from_shift number bits h = let split = rw h at (shr_split number bits) in let p = pow_pos bits in omega arith
+
+pub shift-from_below : (number bits : ℕ) → number < 2 ^ bits → number / 2 ^ bits ≡ 0
+shift-from_below number bits l = div-eq_of_lt l
+
+-- ---- pieces
+pub fit-append : (widths more numbers rest : List ℕ) → Fit widths numbers → Fit more rest → Fit (widths ++ more) (numbers ++ rest)
+fit-append [] more [] rest f g = g
+fit-append [] more (x ∷ xs) rest f g = absurd f
+fit-append (w ∷ ws) more [] rest f g = absurd f
+fit-append (w ∷ ws) more (x ∷ xs) rest f g = (f.0, fit-append ws more xs rest f.1 g)
+
+pub fit-front : (widths more numbers : List ℕ) → Fit (widths ++ more) numbers → Fit widths (take (length widths) numbers)
+fit-front [] more numbers f = tt
+fit-front (w ∷ ws) more [] f = absurd f
+fit-front (w ∷ ws) more (x ∷ xs) f = (f.0, fit-front ws more xs f.1)
+
+pub fit-rest : (widths more numbers : List ℕ) → Fit (widths ++ more) numbers → Fit more (drop (length widths) numbers)
+fit-rest [] more numbers f = f
+fit-rest (w ∷ ws) more [] f = absurd f
+fit-rest (w ∷ ws) more (x ∷ xs) f = fit-rest ws more xs f.1
+
+pub fit-joined : (widths more numbers : List ℕ) → Fit widths (take (length widths) numbers) → Fit more (drop (length widths) numbers) → Fit (widths ++ more) numbers
+fit-joined widths more numbers f g = rw (take-append-drop (length widths) numbers) at (fit-append widths more (take (length widths) numbers) (drop (length widths) numbers) f g)
+
+-- where the front fits, the whole fits exactly where what follows it does
+pub fit-past : (widths numbers : List ℕ) → Fit widths (take (length widths) numbers) → (more : List ℕ) → Fit (widths ++ more) numbers ↔ Fit more (drop (length widths) numbers)
+fit-past widths numbers f more = (λ h. fit-rest widths more numbers h, λ g. fit-joined widths more numbers f g)
+
+pub fit-length : (widths numbers : List ℕ) → Fit widths numbers → length widths ≡ length numbers
+fit-length widths numbers f = length_all_zip (λ w x. x < 2 ^ w) widths numbers f
+
+pub fit-long : (widths more numbers : List ℕ) → Fit (widths ++ more) numbers → length widths ≤ length numbers
+fit-long widths more numbers f = omega (arith, fit-length (widths ++ more) numbers f, length-append widths more)
+
+-- each number below its power, place by place
+pub fit-from_places : (widths numbers : List ℕ) → length widths ≡ length numbers → ((k : ℕ) → k < length widths → get_or numbers k 0 < 2 ^ get_or widths k 0) → Fit widths numbers
+fit-from_places [] [] e f = tt
+fit-from_places [] (x ∷ xs) e f = absurd (omega arith)
+fit-from_places (w ∷ ws) [] e f = absurd (omega arith)
+fit-from_places (w ∷ ws) (x ∷ xs) e f = (f 0 (omega arith), fit-from_places ws xs (omega arith) (λ k l. f (suc k) (omega arith)))
+
+pub fit-at : (widths numbers : List ℕ) (k : ℕ) → Fit widths numbers → k < length widths → get_or numbers k 0 < 2 ^ get_or widths k 0
+fit-at widths numbers k f l = AllZip-get_or (λ w x. x < 2 ^ w) widths numbers k 0 0 f l
+
+-- ---- the widths under a mask, one channel at a time
+abbrev widths_from : ℕ → ℕ → List Channel → List ℕ
+widths_from mask n channels = flat_map (λ (c : ℕ × Channel). cond (has mask c.0) c.1.widths []) (enumerate_from n channels)
+
+widths-shift : (mask n : ℕ) (channels : List Channel) → widths_from mask (n + 1) channels ≡ widths_from (mask / 2) n channels
+widths-shift mask n [] = refl
+widths-shift mask n (c ∷ cs) =
+    let bit : bit_at mask (n + 1) ≡ bit_at (mask / 2) n = rw add-one (bit_at-suc mask n) in
+    ap (λ b. cond (b == 1) c.widths [] ++ widths_from mask (n + 1 + 1) cs) bit ∙ ap (λ ws. cond (has (mask / 2) n) c.widths [] ++ ws) (widths-shift mask (n + 1) cs)
+
+pub widths-cons : (mask : ℕ) (c : Channel) (cs : List Channel) → widths_under mask (c ∷ cs) ≡ cond (has mask 0) c.widths [] ++ widths_under (mask / 2) cs
+widths-cons mask c cs = ap (λ ws. cond (has mask 0) c.widths [] ++ ws) (widths-shift mask 0 cs)
+
+pub widths-none : (channels : List Channel) → widths_under 0 channels ≡ []
+widths-none [] = refl
+widths-none (c ∷ cs) = widths-cons 0 c cs ∙ widths-none cs
+
+-- ---- a walk down the table, with the mask shifted by one at each channel
+low-bit : (mask : ℕ) → (bit_and mask 1 == 1) ≡ has mask 0
+low-bit mask = ap (λ b. b == 1) (and_mask mask 1 ∙ sym (bit_at_lowest mask))
+
+widths-drop : (mask : ℕ) (cs : List Channel) (i : ℕ) (c : Channel) → i < length cs → c ≡ get_or cs i c → widths_under mask (drop i cs) ≡ cond (bit_and mask 1 == 1) c.widths [] ++ widths_under (mask / 2) (drop (i + 1) cs)
+widths-drop mask cs i c l e =
+    let here : drop i cs ≡ c ∷ drop (i + 1) cs = drop_more cs i c l ∙ ap (λ d. d ∷ drop (i + 1) cs) (sym e) in
+    ap (λ ds. widths_under mask ds) here
+    ∙ widths-cons mask c (drop (i + 1) cs)
+    ∙ ap (λ b. cond b c.widths [] ++ widths_under (mask / 2) (drop (i + 1) cs)) (sym (low-bit mask))
+
+-- one channel further
+pub walk-on : (mask : ℕ) (cs : List Channel) (i : ℕ) (c : Channel) → i < length cs → c ≡ get_or cs i c → (numbers after : List ℕ) → ((more : List ℕ) → Fit (cond (bit_and mask 1 == 1) c.widths [] ++ more) numbers ↔ Fit more after) → (P : Type 0) → (Fit (widths_under mask (drop i cs)) numbers ↔ P) → Fit (widths_under (mask / 2) (drop (i + 1) cs)) after ↔ P
+walk-on mask cs i c l e numbers after piece P whole =
+    let w = widths-drop mask cs i c l e in
+    let there = piece (widths_under (mask / 2) (drop (i + 1) cs)) in
+    (λ f. whole.0 (rw w (there.1 f)), λ p. there.0 (rw w at (whole.1 p)))
+
+-- no channel left that starts
+fit-none : (numbers : List ℕ) → IsTrue (length numbers == 0) ↔ Fit [] numbers
+fit-none [] = (λ _. tt, λ _. refl)
+fit-none (x ∷ xs) = (λ h. absurd (omega (arith, eqb-true (suc (length xs)) 0 h)), λ f. absurd f)
+
+pub walk-end : (mask : ℕ) (cs : List Channel) (numbers : List ℕ) → mask ≡ 0 → (P : Type 0) → (Fit (widths_under mask cs) numbers ↔ P) → IsTrue (length numbers == 0) ↔ P
+walk-end mask cs numbers z P whole =
+    let w : widths_under mask cs ≡ [] = rw z (widths-none cs) in
+    (λ h. whole.0 (rw w ((fit-none numbers).0 h)), λ p. (fit-none numbers).1 (rw w at (whole.1 p)))
