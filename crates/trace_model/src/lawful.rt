@@ -1,6 +1,6 @@
-ghost use Rattle.std.specs.Prelude.{◌≡◌, ◌<◌, ◌^◌, ◌↔◌, IsTrue, length};
+ghost use Rattle.std.specs.Prelude.{◌≡◌, ◌<◌, ◌^◌, ◌↔◌, IsTrue, length, All};
 ghost use Rattle.trace_model.specs.Packet.{IsPacket};
-ghost use Rattle.trace_model.specs.Trace.{IsWellFormed};
+ghost use Rattle.trace_model.specs.Trace.{Alternates, IsWellFormed};
 
 use crate::channel::Channels;
 use crate::contents::{contents_fit, fits};
@@ -29,15 +29,14 @@ pub fn is_packet(p: &Packet, channels: &Channels) -> bool
     contents_fit(channels.as_slice(), p.starts, p.contents.as_slice())
 }
 
-/// Whether a trace is well-formed: each packet is one over the trace's channels, and on each
-/// channel starts and ends alternate, beginning with a start, where in one packet the start comes
-/// first.
-pub fn well_formed(t: &Trace) -> bool
-    ensures { IsTrue result ↔ IsWellFormed t.now }
+/// Whether each packet is one over these channels, and on each channel starts and ends alternate,
+/// beginning with a start, where in one packet the start comes first.
+fn are_lawful(packets: &[Packet], channels: &Channels) -> bool
+    ensures { IsTrue result ↔ All (IsPacket channels.now) packets.now × Alternates packets.now }
 {
     let mut flying = 0;
-    for p in t.packets.as_slice() {
-        if !is_packet(p, &t.channels) {
+    for p in packets {
+        if !is_packet(p, channels) {
             return false;
         }
         let Some(after) = in_flight_after(flying, p.starts, p.ends) else {
@@ -46,4 +45,12 @@ pub fn well_formed(t: &Trace) -> bool
         flying = after;
     }
     true
+}
+
+/// Whether a trace is well-formed: its packets are lawful over its channels, and the starts and
+/// ends of each channel alternate in them.
+pub fn well_formed(t: &Trace) -> bool
+    ensures { IsTrue result ↔ IsWellFormed t.now }
+{
+    are_lawful(t.packets.as_slice(), &t.channels)
 }

@@ -19,3 +19,6 @@ pub use flight::in_flight_after;
 pub use lawful::{is_packet, well_formed};
 pub use packet::{Packet, Packets};
 pub use trace::Trace;
+
+#[cfg(test)]
+mod tests;
