@@ -4,9 +4,13 @@
 //! lists with equal items are equal whatever their capacities. `push` alone takes memory.
 #![tactic(auto)]
 
+mod arithmetic;
+mod bits;
 mod items;
 mod memory;
 
+pub use arithmetic::{add_w, mul_w, shl_w, shr_w, sub_w};
+pub use bits::{join, put, slice, trim};
 pub use items::{Bytes, Items, Name, Numbers};
 pub use memory::Memory;
 

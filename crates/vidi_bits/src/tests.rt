@@ -1,3 +1,5 @@
+use crate::arithmetic::{add_w, mul_w, shl_w, shr_w, sub_w};
+use crate::bits::{join, put, slice, trim};
 use crate::items::{Bytes, Items, Name, Numbers};
 use crate::memory::Memory;
 use std::alloc::Global;
@@ -42,4 +44,55 @@ fn lists_nest(rt: HostRuntime) -> Result<(), Fail> {
     assert!(rt; matches!(Tree::Node(trees), Tree::Node(inner) if inner.len() == 1));
     assert_eq!(rt; Numbers::new(alloc).len(), 0);
     Ok(())
+}
+
+// Each whole-number call at 1, 64, 127 and 128 bits, and past the last bit, by hand.
+#[test]
+fn numbers_wrap_at_their_width(rt: HostRuntime) {
+    const ALL: u128 = u128::MAX;
+    const LOW: u128 = 0xffff_ffff_ffff_ffff;
+    let cases: [(&str, u128, u128); 39] = [
+        ("trim 1", trim(6, 1), 0),
+        ("trim 64", trim(ALL, 64), LOW),
+        ("trim 127", trim(ALL, 127), ALL >> 1),
+        ("trim 128", trim(ALL, 128), ALL),
+        ("slice 1", slice(6, 1, 1), 1),
+        ("slice 64", slice(ALL, 64, 64), LOW),
+        ("slice 127", slice(1 << 127, 1, 127), 1 << 126),
+        ("slice 128", slice(ALL, 0, 128), ALL),
+        ("slice past 127", slice(ALL, 100, 128), 0xfff_ffff),
+        ("slice at 128", slice(ALL, 128, 1), 0),
+        ("put 1", put(0, 127, 1, 3), 1 << 127),
+        ("put 64", put(ALL, 64, 64, 5), (5 << 64) + LOW),
+        ("put 127", put(0, 1, 127, ALL), ALL - 1),
+        ("put 128", put(7, 0, 128, 9), 9),
+        ("put past 127", put(3, 124, 128, ALL), (15 << 124) + 3),
+        ("put at 128", put(5, 128, 1, 1), 5),
+        ("join 1", join(1, 3, 1), 3),
+        ("join 64", join(5, ALL, 64), (5 << 64) + LOW),
+        ("join 127", join(1, ALL, 127), ALL),
+        ("add 1", add_w(1, 1, 1), 0),
+        ("add 64", add_w(LOW, 2, 64), 1),
+        ("add 127", add_w(ALL >> 1, 3, 127), 2),
+        ("add 128", add_w(ALL, 5, 128), 4),
+        ("sub 1", sub_w(0, 1, 1), 1),
+        ("sub 64", sub_w(3, 5, 64), LOW - 1),
+        ("sub 127", sub_w(0, 1, 127), ALL >> 1),
+        ("sub 128", sub_w(1, 2, 128), ALL),
+        ("mul 1", mul_w(1, 1, 1), 1),
+        ("mul 64", mul_w(1 << 63, 3, 64), 1 << 63),
+        ("mul 127", mul_w(LOW + 2, LOW + 2, 127), (1 << 65) + 1),
+        ("mul 128", mul_w(ALL >> 1, ALL >> 1, 128), 1),
+        ("shl 1", shl_w(1, 1, 1), 0),
+        ("shl 64", shl_w(3, 63, 64), 1 << 63),
+        ("shl 127", shl_w(3, 126, 127), 1 << 126),
+        ("shl 128", shl_w(3, 127, 128), 1 << 127),
+        ("shl by 2 to the 64", shl_w(3, LOW + 1, 128), 0),
+        ("shr 64", shr_w(1 << 63, 63, 64), 1),
+        ("shr 128", shr_w(1 << 127, 127, 128), 1),
+        ("shr by 2 to the 64", shr_w(ALL, LOW + 1, 128), 0),
+    ];
+    for (name, got, want) in cases {
+        assert_eq!(rt; got, want, "{name}");
+    }
 }
