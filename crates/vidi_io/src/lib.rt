@@ -7,6 +7,8 @@
 
 mod shelf;
 mod sink;
+mod words;
 
 pub use shelf::{FetchError, Shelf};
 pub use sink::{Failed, Sink};
+pub use words::{Text, Words};
