@@ -1,3 +1,4 @@
 pub mod Cause
+pub mod Reading
 pub mod Shelf
 pub mod Sink

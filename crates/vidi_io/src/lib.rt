@@ -5,10 +5,12 @@
 //! answers `Failed` unless the count rose (`specs/Cause`).
 #![tactic(auto)]
 
+mod reading;
 mod shelf;
 mod sink;
 mod words;
 
+pub use reading::{ReadError, read_whole};
 pub use shelf::{FetchError, Shelf};
 pub use sink::{Failed, Sink};
 pub use words::{Text, Words};
