@@ -1,4 +1,5 @@
 pub mod Cause
+pub mod Entries
 pub mod Reading
 pub mod Shelf
 pub mod Sink

@@ -5,12 +5,20 @@
 //! answers `Failed` unless the count rose (`specs/Cause`).
 #![tactic(auto)]
 
+mod entries;
+mod mem_shelf;
+mod mem_sink;
 mod reading;
 mod shelf;
 mod sink;
 mod words;
 
+pub use mem_shelf::MemShelf;
+pub use mem_sink::MemSink;
 pub use reading::{ReadError, read_whole};
 pub use shelf::{FetchError, Shelf};
 pub use sink::{Failed, Sink};
 pub use words::{Text, Words};
+
+#[cfg(test)]
+mod tests;

@@ -1,0 +1,62 @@
+use crate::mem_shelf::MemShelf;
+use crate::mem_sink::MemSink;
+use crate::reading::{ReadError, read_whole};
+use crate::shelf::Shelf;
+use crate::sink::Sink;
+use crate::words::Text;
+use std::test::Fail;
+use vidi_bits::Memory;
+
+#[test]
+fn texts_keep_their_bytes(rt: HostRuntime) -> Result<(), Fail> {
+    let text = Text::from_str(rt.alloc(), "réplay")?;
+    assert_eq!(rt; text.as_str(), "réplay");
+    let owned = Text::from_string(String::from_str(rt.alloc(), "dump")?);
+    assert_eq!(rt; owned.as_str(), "dump");
+    Ok(())
+}
+
+#[test]
+fn memory_shelf_answers_with_ample_memory(rt: HostRuntime) -> Result<(), Fail> {
+    let mut shelf = MemShelf::new(rt.alloc());
+    assert_eq!(rt; shelf.put_file("a", b"one"), Ok::<(), Memory>(()));
+    assert_eq!(rt; shelf.room_for("b", 4), Ok::<(), Memory>(()));
+    assert_eq!(rt; shelf.file("b"), None);
+    shelf.start("b")?;
+    shelf.append("b", b"two")?;
+    shelf.append("c", b"three")?;
+    assert_eq!(rt; shelf.put_file("a", b"four"), Ok::<(), Memory>(()));
+    assert_eq!(rt; shelf.file("a"), Some(b"four".as_slice()));
+    assert_eq!(rt; shelf.file("b"), Some(b"two".as_slice()));
+    assert_eq!(rt; shelf.file("c"), Some(b"three".as_slice()));
+    shelf.start("c")?;
+    assert_eq!(rt; shelf.file("c"), Some(b"".as_slice()));
+    Ok(())
+}
+
+// A file of more than one fetch, within its limit and one byte past it.
+#[test]
+fn files_are_read_whole(rt: HostRuntime) -> Result<(), Fail> {
+    let bytes = vec![in rt.alloc(); 7u8; 70000]?;
+    let mut shelf = MemShelf::new(rt.alloc());
+    shelf.put_file("long", bytes.as_slice())?;
+    let read = read_whole(rt.alloc(), &mut shelf, "long", 70000)?;
+    assert_eq!(rt; read.as_slice(), bytes.as_slice());
+    for (name, limit, want) in [
+        ("long", 69999, ReadError::TooLong { limit: 69999 }),
+        ("none", 70000, ReadError::Missing),
+    ] {
+        let refused = read_whole(rt.alloc(), &mut shelf, name, limit);
+        assert_eq!(rt; refused.err(), Some(want), "at {name}");
+    }
+    Ok(())
+}
+
+#[test]
+fn memory_sink_answers_with_ample_memory(rt: HostRuntime) -> Result<(), Fail> {
+    let mut sink = MemSink::new(rt.alloc());
+    sink.push(b"on")?;
+    sink.push(b"e")?;
+    assert_eq!(rt; sink.bytes(), b"one".as_slice());
+    Ok(())
+}
