@@ -6,6 +6,7 @@
 #![tactic(auto)]
 
 mod entries;
+mod host;
 mod mem_shelf;
 mod mem_sink;
 mod reading;
@@ -13,6 +14,7 @@ mod shelf;
 mod sink;
 mod words;
 
+pub use host::{HostShelf, HostSink};
 pub use mem_shelf::MemShelf;
 pub use mem_sink::MemSink;
 pub use reading::{ReadError, read_whole};

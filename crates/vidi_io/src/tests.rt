@@ -1,10 +1,12 @@
+use crate::host::{HostShelf, HostSink};
 use crate::mem_shelf::MemShelf;
 use crate::mem_sink::MemSink;
 use crate::reading::{ReadError, read_whole};
 use crate::shelf::Shelf;
-use crate::sink::Sink;
+use crate::sink::{Failed, Sink};
 use crate::words::Text;
 use std::test::Fail;
+use std::{env, fs, process};
 use vidi_bits::Memory;
 
 #[test]
@@ -58,5 +60,32 @@ fn memory_sink_answers_with_ample_memory(rt: HostRuntime) -> Result<(), Fail> {
     sink.push(b"on")?;
     sink.push(b"e")?;
     assert_eq!(rt; sink.bytes(), b"one".as_slice());
+    Ok(())
+}
+
+// A real file, a name that isn't there, and a directory in place of a file.
+#[test]
+fn host_files_are_written_and_read(rt: HostRuntime) -> Result<(), Fail> {
+    let folder = env::temp_dir(&rt)?;
+    let name = format!(in rt.alloc(); "vidi_io-{}", process::id(rt.process()))?;
+    let path = folder.join(rt.alloc(), name.as_str())?;
+    let file = path.as_path().to_str().expect(&rt, "a path that is text");
+    let mut shelf = HostShelf::new(&rt);
+    let missing = read_whole(rt.alloc(), &mut shelf, file, 8);
+    assert_eq!(rt; missing.err(), Some(ReadError::Missing));
+    shelf.append(file, b"old")?;
+    shelf.start(file)?;
+    shelf.append(file, b"on")?;
+    shelf.append(file, b"e")?;
+    let read = read_whole(rt.alloc(), &mut shelf, file, 3)?;
+    assert_eq!(rt; read.as_slice(), b"one".as_slice());
+    fs::remove_file(&rt, file)?;
+    fs::create_dir(&rt, file)?;
+    let refused = read_whole(rt.alloc(), &mut shelf, file, 8);
+    let started = shelf.start(file);
+    fs::remove_dir(&rt, file)?;
+    assert_eq!(rt; refused.err(), Some(ReadError::Failed));
+    assert_eq!(rt; started, Err::<(), Failed>(Failed));
+    HostSink::new(&rt).push(b"one\n")?;
     Ok(())
 }

@@ -1,0 +1,169 @@
+ghost use Rattle.std.specs.Prelude.{◌≡◌, ◌≤◌, length, IfOk, OnOk};
+ghost use Rattle.std.specs.Io.KnownBytes.{Appends};
+ghost use Rattle.vidi_io.specs.Cause.{Rose};
+
+use crate::shelf::{FetchError, Shelf};
+use crate::sink::{Failed, Sink};
+use std::fs::OpenOptions;
+use std::io::{ErrorKind, Read, Seek, SeekFrom, Write};
+use std::rt::Files;
+use std::{fs, io};
+
+/// The host's files by their paths. It doesn't tell them.
+#[derive(Drop)]
+pub struct HostShelf<'a, R: Files> {
+    host: &'a R,
+    read_faults: u64,
+    write_faults: u64,
+}
+
+impl<'a, R: Files> HostShelf<'a, R> {
+    /// The files of this host, with counts of 0.
+    pub fn new(host: &'a R) -> HostShelf<'a, R>
+        ensures reads { result.read_faults ≡ 0 }
+        ensures writes { result.write_faults ≡ 0 }
+    {
+        HostShelf {
+            host,
+            read_faults: 0,
+            write_faults: 0,
+        }
+    }
+
+    /// Counts a failed read, of whichever name.
+    fn read_fault(&mut self) -> FetchError
+        ensures failed { result ≡ FetchError.Failed }
+        ensures later { self.old.read_faults ≤ self.new.read_faults }
+        ensures rose { Rose self.old.read_faults self.new.read_faults }
+        ensures writes { self.new.write_faults ≡ self.old.write_faults }
+    {
+        self.read_faults = self.read_faults.saturating_add(1);
+        FetchError::Failed
+    }
+
+    /// Counts a failed write.
+    fn write_fault(&mut self) -> Failed
+        ensures reads { self.new.read_faults ≡ self.old.read_faults }
+        ensures later { self.old.write_faults ≤ self.new.write_faults }
+        ensures rose { Rose self.old.write_faults self.new.write_faults }
+    {
+        self.write_faults = self.write_faults.saturating_add(1);
+        Failed
+    }
+}
+
+impl<'a, R: Files> Shelf for HostShelf<'a, R> {
+    ghost use Rattle.std.specs.Prelude.{None};
+
+    ghost files = { λ _. None };
+
+    ghost read_faults = { λ s _. s.read_faults };
+
+    ghost write_faults = { λ s. s.write_faults };
+
+    fn fetch(&mut self, name: &str, at: u64, buf: &mut [u8]) -> Result<usize, FetchError> {
+        let opened = fs::open(self.host, name);
+        match opened {
+            Ok(mut file) => match read_at(&mut file, at, buf) {
+                Ok(n) => Ok(n),
+                Err(_) => Err(self.read_fault()),
+            },
+            Err(error) => {
+                if error.kind() == ErrorKind::NotFound {
+                    return Err(FetchError::Missing);
+                }
+                Err(self.read_fault())
+            }
+        }
+    }
+
+    fn start(&mut self, name: &str) -> Result<(), Failed> {
+        match fs::create(self.host, name) {
+            Ok(_) => Ok(()),
+            Err(_) => Err(self.write_fault()),
+        }
+    }
+
+    fn append(&mut self, name: &str, piece: &[u8]) -> Result<(), Failed> {
+        match append_to(self.host, name, piece) {
+            Ok(()) => Ok(()),
+            Err(_) => Err(self.write_fault()),
+        }
+    }
+}
+
+/// The host's standard output. It doesn't tell what was written.
+#[derive(Drop)]
+pub struct HostSink<'a, P: Print> {
+    host: &'a P,
+    faults: u64,
+}
+
+impl<'a, P: Print> HostSink<'a, P> {
+    /// The standard output of this host, with a count of 0.
+    pub fn new(host: &'a P) -> HostSink<'a, P>
+        ensures { result.faults ≡ 0 }
+    {
+        HostSink { host, faults: 0 }
+    }
+}
+
+impl<'a, P: Print> Sink for HostSink<'a, P> {
+    ghost use Rattle.std.specs.Prelude.{None};
+
+    ghost told = { λ _. None };
+
+    ghost faults = { λ s. s.faults };
+
+    ghost place = { λ _. None };
+
+    ghost has_frame = { λ _ _. Unit {0} };
+
+    fn push(&mut self, piece: &[u8]) -> Result<(), Failed> {
+        if write_whole(&mut io::writer(self.host), piece).is_err() {
+            self.faults = self.faults.saturating_add(1);
+            return Err(Failed);
+        }
+        Ok(())
+    }
+}
+
+/// Reads from place `at` on until the buffer is full or the file ends.
+fn read_at<F: Read + Seek>(file: &mut F, at: u64, buf: &mut [u8]) -> io::Result<usize>
+    ensures { IfOk result (λ n. n ≤ length buf.new) }
+{
+    file.seek(SeekFrom::Start(at))?;
+    let mut filled = 0;
+    while filled < buf.len() {
+        let n = file.read(&mut buf[filled..])?;
+        if n == 0 {
+            break;
+        }
+        filled += n;
+    }
+    Ok(filled)
+}
+
+/// Adds a piece to a file, which is made where it isn't there.
+fn append_to<R: Files>(host: &R, name: &str, piece: &[u8]) -> io::Result<()> {
+    let mut file = OpenOptions::new()
+        .append(true)
+        .create(true)
+        .open(host, name)?;
+    write_whole(&mut file, piece)
+}
+
+/// Writes the whole piece. A write that takes nothing of it is an error.
+fn write_whole<W: Write>(to: &mut W, piece: &[u8]) -> io::Result<()>
+    ensures { OnOk result (Appends (W.contents to.old) (W.contents to.new) piece.now) }
+{
+    let mut rest = piece;
+    while !rest.is_empty() {
+        let n = to.write(rest)?;
+        if n == 0 {
+            return Err(ErrorKind::WriteZero.into());
+        }
+        rest = &rest[n..];
+    }
+    Ok(())
+}
