@@ -1,5 +1,4 @@
-use Rattle.std.proofs.Common.{Some, sym, subst}
-use Rattle.vidi_io.proofs.Names.{IsAt, Keeps, on_ok, on_err, becomes, stays, grows, full_before, room_now}
+use Rattle.vidi_io.proofs.Names.{IsAt, Keeps, on_ok, on_err, becomes, stays}
 use Rattle.vidi_io.proofs.entries.hold_file.Goals as goal
 
 pub returns-clause-ok : goal.returns-clause-ok

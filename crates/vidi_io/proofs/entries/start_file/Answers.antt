@@ -1,5 +1,5 @@
-use Rattle.std.proofs.Common.{Some, sym, subst, arith}
-use Rattle.vidi_io.proofs.Names.{IsAt, Keeps, on_ok, on_err, becomes, stays, grows, full_before, room_now}
+use Rattle.std.proofs.Common.{arith}
+use Rattle.vidi_io.proofs.Names.{IsAt, Keeps, becomes}
 use Rattle.vidi_io.proofs.entries.start_file.Goals as goal
 
 pub returns-clause-ok : goal.returns-clause-ok
