@@ -78,7 +78,7 @@ impl Shelf for MemShelf {
     ghost write_faults = { λ s. s.write_faults };
 
     fn fetch(&mut self, name: &str, at: u64, buf: &mut [u8]) -> Result<usize, FetchError> {
-        match file_of(self.entries.as_slice(), name) {
+        match self.file(name) {
             Some(file) => Ok(copy_at(file, at, buf)),
             None => Err(FetchError::Missing),
         }
