@@ -1,0 +1,55 @@
+-- *Encoding* computes to the bytes of worked examples.
+use Rattle.std.proofs.Common.{◌≡◌, ℕ, List, [], ◌∷◌, ◌++◌, refl}
+use Rattle.std.specs.Prelude.{codes}
+use Rattle.std.specs.List.{flat_map}
+use Rattle.trace_model.specs.declared.channel.Channel.{Channel}
+use Rattle.trace_model.specs.declared.channel.Dir.TheVariants.{Inward, Outward}
+use Rattle.trace_model.specs.declared.packet.Packet.{Packet}
+use Rattle.trace_model.specs.declared.trace.Trace.{Trace}
+use Rattle.trace_code.specs.Encoding.{encode, packet_bytes}
+
+-- a buffer of one place: a byte goes in at a and comes out at b
+pass : List Channel
+pass = record { dir = Inward; name = codes "a"; widths = 8 ∷ [] } ∷ record { dir = Outward; name = codes "b"; widths = 8 ∷ [] } ∷ []
+
+packet : ℕ → ℕ → List ℕ → Packet
+packet starts ends contents = record { starts = starts; ends = ends; contents = contents }
+
+trace : List Packet → Trace
+trace packets = record { channels = pass; packets = packets }
+
+-- its header: VIDITRC1, two channels, and for each direction, name and width
+header : List ℕ
+header = 0x56 ∷ 0x49 ∷ 0x44 ∷ 0x49 ∷ 0x54 ∷ 0x52 ∷ 0x43 ∷ 0x31 ∷ 0x02 ∷ 0x00 ∷ 0x01 ∷ 0x61 ∷ 0x01 ∷ 0x08 ∷ 0x01 ∷ 0x01 ∷ 0x62 ∷ 0x01 ∷ 0x08 ∷ []
+
+-- nothing was sent
+no_send : encode (trace []) ≡ header ++ 0 ∷ 0 ∷ 0 ∷ 0 ∷ 0 ∷ []
+unfolding trace header pass
+no_send = refl
+
+-- 5 goes through
+one_send : encode (trace (packet 1 1 (5 ∷ []) ∷ packet 2 2 (5 ∷ []) ∷ []))
+    ≡ header ++ 1 ∷ 1 ∷ 1 ∷ 5 ∷ 1 ∷ 2 ∷ 2 ∷ 5 ∷ 0 ∷ 0 ∷ 0 ∷ 0 ∷ 2 ∷ []
+unfolding trace header pass packet
+one_send = refl
+
+-- 5 and then 6 go through
+two_sends : encode (trace (packet 1 1 (5 ∷ []) ∷ packet 3 2 (6 ∷ 5 ∷ []) ∷ packet 0 1 [] ∷ packet 2 2 (6 ∷ []) ∷ []))
+    ≡ header ++ 1 ∷ 1 ∷ 1 ∷ 5 ∷ 1 ∷ 3 ∷ 2 ∷ 6 ∷ 5 ∷ 1 ∷ 0 ∷ 1 ∷ 1 ∷ 2 ∷ 2 ∷ 6 ∷ 0 ∷ 0 ∷ 0 ∷ 0 ∷ 4 ∷ []
+unfolding trace header pass packet
+two_sends = refl
+
+-- registers behind AXI4-Lite channels
+regs : List Channel
+regs = record { dir = Inward; name = codes "aw"; widths = 32 ∷ [] }
+    ∷ record { dir = Inward; name = codes "w"; widths = 32 ∷ 4 ∷ [] }
+    ∷ record { dir = Outward; name = codes "b"; widths = 2 ∷ [] }
+    ∷ record { dir = Inward; name = codes "ar"; widths = 32 ∷ [] }
+    ∷ record { dir = Outward; name = codes "r"; widths = 32 ∷ 2 ∷ [] }
+    ∷ []
+
+-- a write of 1000 at 0, its response, a read at 0 and what it gives
+regs_rounds : flat_map (packet_bytes regs) (packet 3 3 (0 ∷ 1000 ∷ 15 ∷ []) ∷ packet 4 4 (0 ∷ []) ∷ packet 8 8 (0 ∷ []) ∷ packet 16 16 (1000 ∷ 0 ∷ []) ∷ [])
+    ≡ 1 ∷ 3 ∷ 3 ∷ 0 ∷ 0 ∷ 0 ∷ 0 ∷ 0 ∷ 0 ∷ 3 ∷ 0xe8 ∷ 0x0f ∷ 1 ∷ 4 ∷ 4 ∷ 0 ∷ 1 ∷ 8 ∷ 8 ∷ 0 ∷ 0 ∷ 0 ∷ 0 ∷ 1 ∷ 16 ∷ 16 ∷ 0 ∷ 0 ∷ 3 ∷ 0xe8 ∷ 0 ∷ []
+unfolding regs packet
+regs_rounds = refl
