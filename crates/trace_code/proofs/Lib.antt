@@ -1,1 +1,4 @@
 pub mod Examples
+pub mod Loop
+pub mod Table
+pub mod Names

@@ -2,5 +2,6 @@
 #![tactic(auto)]
 
 mod error;
+mod header;
 
 pub use error::CodeError;

@@ -1,0 +1,238 @@
+//! Reading the header of a trace.
+
+ghost use Rattle.std.specs.Prelude.{◌≡◌, ℕ, ◌≤◌, ◌⊎◌, ◌≢◌, ◌↔◌, IsTrue, List, ◌++◌, length, All, sum_by, IfOk, IfErr, MatchResult, ◌<◌};
+ghost use Rattle.std.specs.Str.{bytes_eq};
+ghost use Rattle.std.specs.List.{AllPairs, list_all, Any};
+ghost use Rattle.trace_model.specs.declared.channel.Channel.{Channel};
+ghost use Rattle.trace_model.specs.Channel.{is_letter, is_letter_or_digit, IsTable, byte_count, content_bytes};
+ghost use Rattle.trace_code.specs.Encoding.{header_bytes};
+ghost use Rattle.trace_code.specs.Reading.{Gives, Fails, magic_at, dir_at, counted_at, is_width, is_name, are_widths, name_at, widths_at, channel_at, channels_at, count_at, header_at, AreChannels};
+
+use crate::error::CodeError;
+use std::alloc::Global;
+use trace_model::{Channel, Channels, Dir};
+use vidi_bits::{Bytes, Items, Name};
+
+const MAGIC: [u8; 8] = *b"VIDITRC1";
+const MAX_CHANNELS: u8 = 32;
+const MAX_PORTS: usize = 16;
+const MAX_CONTENT: usize = 1024;
+
+/// The bytes are no trace.
+pub(crate) const FAULT: CodeError = CodeError::BadTrace { at: 0 };
+
+#[tactic(auto, unfolding(crate::specs::Reading::magic_at))]
+fn read_magic(bytes: &[u8]) -> Result<&[u8], CodeError>
+    ensures { Gives (λ rest. rest.now) result (magic_at bytes.now) }
+{
+    match bytes.strip_prefix(&MAGIC) {
+        Some(rest) => Ok(rest),
+        None => Err(FAULT),
+    }
+}
+
+#[tactic(auto, unfolding(crate::specs::Reading::dir_at))]
+fn read_dir(bytes: &[u8]) -> Result<(Dir, &[u8]), CodeError>
+    ensures { Gives (λ x. (x.0, x.1.now)) result (dir_at bytes.now) }
+{
+    match bytes {
+        [0, rest @ ..] => Ok((Dir::Inward, rest)),
+        [1, rest @ ..] => Ok((Dir::Outward, rest)),
+        _ => Err(FAULT),
+    }
+}
+
+// The bytes after a byte that counts them.
+#[tactic(auto, unfolding(crate::specs::Reading::counted_at))]
+fn read_counted(bytes: &[u8]) -> Result<(&[u8], &[u8]), CodeError>
+    ensures { Gives (λ x. (x.0.now, x.1.now)) result (counted_at bytes.now) }
+{
+    match bytes {
+        [] => Err(FAULT),
+        [count, rest @ ..] => {
+            let count = usize::from(*count);
+            if rest.len() < count {
+                return Err(FAULT);
+            }
+            Ok(rest.split_at(count))
+        }
+    }
+}
+
+fn is_letter(b: u8) -> bool
+    ensures { result ≡ is_letter b }
+{
+    matches!(b, b'A'..=b'Z' | b'a'..=b'z' | b'_')
+}
+
+fn is_letter_or_digit(b: u8) -> bool
+    ensures { result ≡ is_letter_or_digit b }
+{
+    is_letter(b) || matches!(b, b'0'..=b'9')
+}
+
+fn are_letters_or_digits(bytes: &[u8]) -> bool
+    ensures { result ≡ list_all is_letter_or_digit bytes.now }
+{
+    bytes.iter().all(|b| is_letter_or_digit(*b))
+}
+
+#[tactic(auto, unfolding(crate::specs::Reading::is_name))]
+fn is_name(name: &[u8]) -> bool
+    ensures { result ≡ is_name name.now }
+{
+    match name {
+        [] => false,
+        [first, others @ ..] => {
+            is_letter(*first) && others.len() <= 63 && are_letters_or_digits(others)
+        }
+    }
+}
+
+// Each width is one of 1 to 128 bits.
+fn are_lawful(widths: &[u8]) -> bool
+    ensures { result ≡ list_all is_width widths.now }
+{
+    widths.iter().all(|width| 1 <= *width && *width <= 128)
+}
+
+#[tactic(auto, unfolding(crate::specs::Reading::are_widths))]
+fn are_widths(widths: &[u8]) -> bool
+    ensures { result ≡ are_widths widths.now }
+{
+    widths.len() <= MAX_PORTS && are_lawful(widths)
+}
+
+#[tactic(auto, unfolding(crate::specs::Reading::name_at))]
+fn read_name(alloc: Global, bytes: &[u8]) -> Result<(Name, &[u8]), CodeError>
+    ensures { Gives (λ x. (x.0, x.1.now)) result (name_at bytes.now) }
+{
+    let (name, rest) = read_counted(bytes)?;
+    if !is_name(name) {
+        return Err(FAULT);
+    }
+    let name = Vec::from_slice(alloc, name)?;
+    Ok((Items::from_vec(name), rest))
+}
+
+#[tactic(auto, unfolding(crate::specs::Reading::widths_at))]
+fn read_widths(alloc: Global, bytes: &[u8]) -> Result<(Bytes, &[u8]), CodeError>
+    ensures { Gives (λ x. (x.0, x.1.now)) result (widths_at bytes.now) }
+{
+    let (widths, rest) = read_counted(bytes)?;
+    if !are_widths(widths) {
+        return Err(FAULT);
+    }
+    let widths = Vec::from_slice(alloc, widths)?;
+    Ok((Items::from_vec(widths), rest))
+}
+
+#[tactic(auto, unfolding(crate::specs::Reading::channel_at))]
+fn read_channel(alloc: Global, bytes: &[u8]) -> Result<(Channel, &[u8]), CodeError>
+    ensures { Gives (λ x. (x.0, x.1.now)) result (channel_at bytes.now) }
+{
+    let (dir, rest) = read_dir(bytes)?;
+    let (name, rest) = read_name(alloc, rest)?;
+    let (widths, rest) = read_widths(alloc, rest)?;
+    Ok((Channel { dir, name, widths }, rest))
+}
+
+fn read_channels(alloc: Global, count: u8, bytes: &[u8]) -> Result<(Channels, &[u8]), CodeError>
+    ensures { Gives (λ x. (x.0, x.1.now)) result (channels_at count bytes.now) }
+{
+    let mut channels = Items::new(alloc);
+    let mut rest = bytes;
+    for _ in 0..count {
+        let (channel, after) = read_channel(alloc, rest)?;
+        channels.push(channel)?;
+        rest = after;
+    }
+    Ok((channels, rest))
+}
+
+#[tactic(auto, unfolding(crate::specs::Reading::count_at))]
+fn read_count(bytes: &[u8]) -> Result<(u8, &[u8]), CodeError>
+    ensures { Gives (λ x. (x.0, x.1.now)) result (count_at bytes.now) }
+{
+    match bytes {
+        [count @ 1..=MAX_CHANNELS, rest @ ..] => Ok((*count, rest)),
+        _ => Err(FAULT),
+    }
+}
+
+#[tactic(auto, unfolding(crate::specs::Reading::header_at))]
+fn read_fields(alloc: Global, bytes: &[u8]) -> Result<(Channels, &[u8]), CodeError>
+    ensures { Gives (λ x. (x.0, x.1.now)) result (header_at bytes.now) }
+{
+    let rest = read_magic(bytes)?;
+    let (count, rest) = read_count(rest)?;
+    read_channels(alloc, count, rest)
+}
+
+// The header, whatever its names and the sizes of its contents.
+fn read_table(alloc: Global, bytes: &[u8]) -> Result<(Channels, &[u8]), CodeError>
+    ensures found { IfOk result (λ x. AreChannels x.0 × (bytes.now ≡ header_bytes x.0 ++ x.1.now)) }
+    ensures only { (channels : List Channel) (rest : List ℕ) → AreChannels channels → bytes.now ≡ header_bytes channels ++ rest
+        → MatchResult result (λ x. (x.0 ≡ channels) × (x.1.now ≡ rest)) (λ e. e ≡ CodeError.Memory) }
+    ensures fault { IfErr result (λ e. (e ≡ CodeError.Memory) ⊎ (e ≡ CodeError.BadTrace 0)) }
+{
+    read_fields(alloc, bytes)
+}
+
+fn has_name(channels: &[Channel], name: &[u8]) -> bool
+    ensures { IsTrue result ↔ Any (λ c. c.name ≡ name.now) channels.now }
+{
+    channels.iter().any(|channel| channel.name.as_slice() == name)
+}
+
+fn names_differ(channels: &[Channel]) -> bool
+    ensures { IsTrue result ↔ AllPairs (λ (a b : Channel). a.name ≢ b.name) channels.now }
+{
+    for (i, channel) in channels.iter().enumerate() {
+        if has_name(&channels[..i], channel.name.as_slice()) {
+            return false;
+        }
+    }
+    true
+}
+
+fn content_len(channel: &Channel) -> usize
+    requires { length channel.now.widths ≤ 16 }
+    ensures small { result ≤ 512 }
+    ensures value { result ≡ content_bytes channel.now }
+{
+    let mut total = 0;
+    for width in channel.widths.as_slice() {
+        total += (usize::from(*width) + 7) / 8;
+    }
+    total
+}
+
+fn contents_len(channels: &[Channel]) -> usize
+    requires few { length channels.now ≤ 32 }
+    requires ports { All (λ (c : Channel). length c.widths ≤ 16) channels.now }
+    ensures { result ≡ sum_by content_bytes channels.now }
+{
+    let mut total = 0;
+    for channel in channels {
+        total += content_len(channel);
+    }
+    total
+}
+
+/// The header at the front of the bytes, and the bytes after it. `BadTrace { at: 0 }` where no lawful header stands there.
+pub(crate) fn read_header(alloc: Global, bytes: &[u8]) -> Result<(Channels, &[u8]), CodeError>
+    ensures found { IfOk result (λ x. IsTable x.0 × (bytes.now ≡ header_bytes x.0 ++ x.1.now)) }
+    ensures only { (channels : List Channel) (rest : List ℕ) → IsTable channels → bytes.now ≡ header_bytes channels ++ rest
+        → MatchResult result (λ x. (x.0 ≡ channels) × (x.1.now ≡ rest)) (λ e. e ≡ CodeError.Memory) }
+    ensures fault { IfErr result (λ e. (e ≡ CodeError.Memory) ⊎ (e ≡ CodeError.BadTrace 0)) }
+{
+    let (channels, rest) = read_table(alloc, bytes)?;
+    if !names_differ(channels.as_slice()) {
+        return Err(FAULT);
+    }
+    if contents_len(channels.as_slice()) > MAX_CONTENT {
+        return Err(FAULT);
+    }
+    Ok((channels, rest))
+}
