@@ -2,3 +2,4 @@ pub mod Examples
 pub mod Loop
 pub mod Table
 pub mod Names
+pub mod Readings

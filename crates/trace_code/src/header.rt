@@ -14,8 +14,11 @@ use trace_model::{Channel, Channels, Dir};
 use vidi_bits::{Bytes, Items, Name};
 
 const MAGIC: [u8; 8] = *b"VIDITRC1";
+
 const MAX_CHANNELS: u8 = 32;
+
 const MAX_PORTS: usize = 16;
+
 const MAX_CONTENT: usize = 1024;
 
 /// The bytes are no trace.
@@ -182,7 +185,9 @@ fn read_table(alloc: Global, bytes: &[u8]) -> Result<(Channels, &[u8]), CodeErro
 fn has_name(channels: &[Channel], name: &[u8]) -> bool
     ensures { IsTrue result ↔ Any (λ c. c.name ≡ name.now) channels.now }
 {
-    channels.iter().any(|channel| channel.name.as_slice() == name)
+    channels
+        .iter()
+        .any(|channel| channel.name.as_slice() == name)
 }
 
 fn names_differ(channels: &[Channel]) -> bool

@@ -14,8 +14,8 @@ pub loop-i-preserved : goal.loop-i-preserved
 loop-i-preserved c =
     let cs = c.args.channels.now in
     apart_more cs c.loop-i.i c.index-channels-i.result c.loop-i-test.true c.index-channels-i.is
-        (λ twice. false≢true (sym c.if-has_name.false ∙ c.has_name.ensures.1 (subst (λ (n : List ℕ). HasName (take c.loop-i.i cs) n) (sym c.as_slice.ensures) twice)))
-        c.loop-i.invariant
+    (λ twice. false≢true (sym c.if-has_name.false ∙ c.has_name.ensures.1 (subst (λ (n : List ℕ). HasName (take c.loop-i.i cs) n) (sym c.as_slice.ensures) twice)))
+    c.loop-i.invariant
 
 pub returns : goal.returns
 returns c =
