@@ -7,7 +7,8 @@ use Rattle.trace_model.specs.declared.packet.Packet.{Packet}
 use Rattle.trace_model.specs.declared.trace.Trace.{Trace}
 use Rattle.trace_model.specs.Channel.{IsTable}
 use Rattle.trace_code.specs.Encoding.{header_bytes, packet_bytes, end_mark, encode, Encodes}
-use Rattle.trace_code.specs.Reading.{header_at, AreChannels, body_bytes}
+use Rattle.trace_code.specs.Reading.{header_at, AreChannels}
+use Rattle.trace_code.specs.PacketReading.{body_bytes}
 use Rattle.trace_code.specs.Decoding.{OneReading}
 use Rattle.trace_code.proofs.Table.{header_again}
 

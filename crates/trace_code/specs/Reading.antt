@@ -1,17 +1,14 @@
 -- Reading the parts of a trace at the front of bytes: the part and the bytes after it, or None where no such part stands there.
-use Rattle.std.specs.Prelude.{◌≡◌, ℕ, zero, suc, ◌≤◌, ◌<◌, ◌^◌, Bool, true, false, ◌&&◌, List, [], ◌∷◌, ◌++◌, length, take, drop, Option, Some, None, Result, Ok, Err, nat_lt, nat_le, option_and_then, if◌then◌else◌, All}
-use Rattle.std.specs.List.{list_all, flat_map}
+use Rattle.std.specs.Prelude.{◌≡◌, ℕ, zero, suc, ◌≤◌, Bool, true, false, ◌&&◌, List, [], ◌∷◌, length, take, drop, Option, Some, None, Result, Ok, Err, nat_lt, nat_le, option_and_then, if◌then◌else◌, All}
+use Rattle.std.specs.List.{list_all}
 use Rattle.std.specs.Str.{bytes_eq}
 use Rattle.trace_model.specs.declared.channel.Channel.{Channel}
 use Rattle.trace_model.specs.declared.channel.Dir.{Dir}
 use Rattle.trace_model.specs.declared.channel.Dir.TheVariants.{Inward, Outward}
 use Rattle.trace_model.specs.Channel.{is_letter, is_letter_or_digit, IsChannel}
-use Rattle.trace_model.specs.declared.packet.Packet.{Packet}
-use Rattle.trace_model.specs.Packet.{IsPacket}
-use Rattle.trace_model.specs.Trace.{Alternates}
 use Rattle.trace_code.specs.declared.error.CodeError.{CodeError}
 use Rattle.trace_code.specs.declared.error.CodeError.TheVariants.{BadTrace, Memory}
-use Rattle.trace_code.specs.Encoding.{magic, packet_bytes, end_mark}
+use Rattle.trace_code.specs.Encoding.{magic}
 
 infixl 10 ◌>>=◌
 abbrev pub ◌>>=◌ : {A B : Type 0} → Option A → (A → Option B) → Option B
@@ -91,14 +88,3 @@ pub record AreChannels (channels : List Channel) : Type 0 where
   pub some : 1 ≤ length channels
   pub few : length channels ≤ 32
   pub each : All IsChannel channels
-
--- packets that well-formed traces with these channels have; for now none
-pub record ArePackets (channels : List Channel) (packets : List Packet) : Type 0 where
-  pub each : All (IsPacket channels) packets
-  pub alternate : Alternates packets
-  pub few : length packets < 2 ^ 32
-  pub none : packets ≡ []
-
--- the bytes after the header of a trace with these packets
-abbrev pub body_bytes : List Channel → List Packet → List ℕ
-body_bytes channels packets = flat_map (packet_bytes channels) packets ++ end_mark (length packets)

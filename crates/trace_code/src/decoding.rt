@@ -5,7 +5,7 @@ ghost use Rattle.trace_model.specs.declared.packet.Packet.{Packet};
 ghost use Rattle.trace_model.specs.declared.trace.Trace.{Trace};
 ghost use Rattle.trace_code.specs.Encoding.{Encodes, end_mark};
 ghost use Rattle.trace_code.specs.Decoding.{Decodes};
-ghost use Rattle.trace_code.specs.Reading.{ArePackets, body_bytes};
+ghost use Rattle.trace_code.specs.PacketReading.{ArePackets, body_bytes};
 
 use crate::error::CodeError;
 use crate::header::{FAULT, read_header};

@@ -5,6 +5,8 @@ mod decoding;
 mod error;
 mod header;
 mod laws;
+mod number;
+mod packets;
 
 pub use decoding::decode;
 pub use error::CodeError;

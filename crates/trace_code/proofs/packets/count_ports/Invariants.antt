@@ -1,0 +1,10 @@
+use Rattle.std.proofs.Common.{◌≡◌, ◌≤◌, ◌+◌, ◌*◌, drop, length}
+use Rattle.trace_model.specs.Packet.{widths_under}
+use Rattle.trace_code.specs.PacketReading.{widths_from}
+use Rattle.trace_code.proofs.packets.count_ports.Given as goal
+
+abbrev pub invariant-loop-c : goal.invariant-loop-c
+invariant-loop-c l = record {
+  counted : l.ports + length (widths_from l.c l.starts (drop l.c l.channels)) ≡ length (widths_under l.starts l.channels);
+  small : l.ports ≤ 16 * l.c;
+}

@@ -1,0 +1,7 @@
+use Rattle.std.proofs.Common.{◌≡◌, drop}
+use Rattle.trace_model.specs.Packet.{widths_under}
+use Rattle.trace_code.specs.PacketReading.{numbers_at, with_front, widths_from}
+use Rattle.trace_code.proofs.packets.read_contents.Given as goal
+
+abbrev pub invariant-loop-c : goal.invariant-loop-c
+invariant-loop-c l = with_front l.numbers.items (numbers_at (widths_from l.c l.starts (drop l.c l.channels)) l.rest) ≡ numbers_at (widths_under l.starts l.channels) l.bytes

@@ -1,0 +1,79 @@
+-- Reading the packets of a trace, in the manner of `Reading`.
+use Rattle.std.specs.Prelude.{◌≡◌, ℕ, ◌+◌, ◌*◌, ◌<◌, ◌^◌, ◌==◌, ◌&&◌, List, [], ◌∷◌, ◌++◌, length, take, drop, Option, Some, None, nat_lt, if◌then◌else◌, All}
+use Rattle.std.specs.List.{flat_map, fold, enumerate_from}
+use Rattle.trace_model.specs.declared.channel.Channel.{Channel}
+use Rattle.trace_model.specs.declared.packet.Packet.{Packet}
+use Rattle.trace_model.specs.Counting.{has}
+use Rattle.trace_model.specs.Channel.{byte_count}
+use Rattle.trace_model.specs.Packet.{IsPacket, widths_under}
+use Rattle.trace_model.specs.Trace.{Alternates}
+use Rattle.trace_code.specs.Encoding.{mask_len, packet_bytes, end_mark}
+use Rattle.trace_code.specs.Reading.{◌>>=◌}
+
+-- the number in bytes, the lowest first
+abbrev pub low_value : List ℕ → ℕ
+low_value [] = 0
+low_value (b ∷ bs) = b + 256 * low_value bs
+
+-- the number in bytes, the highest first
+unfoldable pub high_value : List ℕ → ℕ
+high_value bytes = fold (λ high b. high * 256 + b) 0 bytes
+
+-- the value of the first len bytes, where it is below the limit
+unfoldable pub sized_at : (List ℕ → ℕ) → ℕ → ℕ → List ℕ → Option (ℕ × List ℕ)
+sized_at value len limit bytes = if nat_lt (length bytes) len then None
+    else (if nat_lt (value (take len bytes)) limit then Some (value (take len bytes), drop len bytes) else None)
+
+-- the mask of n channels
+abbrev pub mask_at : ℕ → List ℕ → Option (ℕ × List ℕ)
+mask_at n bytes = sized_at low_value (mask_len n) (2 ^ n) bytes
+
+-- a number of this width in bits
+abbrev pub number_at : ℕ → List ℕ → Option (ℕ × List ℕ)
+number_at width bytes = sized_at high_value (byte_count width) (2 ^ width) bytes
+
+-- a number of each width
+unfoldable pub numbers_at : List ℕ → List ℕ → Option (List ℕ × List ℕ)
+numbers_at [] bytes = Some ([], bytes)
+numbers_at (width ∷ widths) bytes = do
+  first ← number_at width bytes
+  others ← numbers_at widths first.1
+  Some (first.0 ∷ others.0, others.1)
+
+-- the numbers before, and those that reading gives
+abbrev pub with_front : List ℕ → Option (List ℕ × List ℕ) → Option (List ℕ × List ℕ)
+with_front front read = read >>= λ x. Some (front ++ x.0, x.1)
+
+-- the byte of a packet
+unfoldable pub tag_at : List ℕ → Option (List ℕ)
+tag_at [] = None
+tag_at (b ∷ rest) = if b == 1 then Some rest else None
+
+-- the starts and the ends, of which there are some
+unfoldable pub masks_at : ℕ → List ℕ → Option (ℕ × ℕ × List ℕ)
+masks_at n bytes = do
+  starts ← mask_at n bytes
+  ends ← mask_at n starts.1
+  if starts.0 == 0 && ends.0 == 0 then None else Some (starts.0, ends.0, ends.1)
+
+unfoldable pub packet_at : List Channel → List ℕ → Option (Packet × List ℕ)
+packet_at channels bytes = do
+  rest ← tag_at bytes
+  masks ← masks_at (length channels) rest
+  contents ← numbers_at (widths_under masks.0 channels) masks.2
+  Some (record { starts = masks.0; ends = masks.1; contents = contents.0 }, contents.1)
+
+-- the widths under a mask, of the channels from c on
+abbrev pub widths_from : ℕ → ℕ → List Channel → List ℕ
+widths_from c mask channels = flat_map (λ (x : ℕ × Channel). if has mask x.0 then x.1.widths else []) (enumerate_from c channels)
+
+-- packets that a well-formed trace with these channels has; for now none
+pub record ArePackets (channels : List Channel) (packets : List Packet) : Type 0 where
+  pub each : All (IsPacket channels) packets
+  pub alternate : Alternates packets
+  pub few : length packets < 2 ^ 32
+  pub none : packets ≡ []
+
+-- the bytes after the header of a trace with these packets
+abbrev pub body_bytes : List Channel → List Packet → List ℕ
+body_bytes channels packets = flat_map (packet_bytes channels) packets ++ end_mark (length packets)

@@ -1,0 +1,82 @@
+//! Reading the masks and the numbers of a packet.
+
+ghost use Rattle.std.specs.Prelude.{◌≡◌, ℕ, ◌+◌, ◌*◌, ◌^◌, ◌≤◌, ◌<◌, List, [], length, nat_lt, All, Some, if◌then◌else◌};
+ghost use Rattle.trace_model.specs.declared.channel.Channel.{Channel};
+ghost use Rattle.trace_model.specs.Packet.{widths_under};
+ghost use Rattle.trace_model.specs.Channel.{IsChannel};
+ghost use Rattle.trace_code.specs.Reading.{Gives};
+ghost use Rattle.trace_code.specs.PacketReading.{low_value, high_value, mask_at, number_at, numbers_at, with_front, sized_at};
+
+use crate::error::CodeError;
+use crate::header::FAULT;
+use std::alloc::Global;
+use trace_model::Channel;
+use vidi_bits::{Items, Numbers};
+
+fn low_first(bytes: &[u8]) -> u128
+    requires { length bytes.now ≤ 16 }
+    ensures { result ≡ low_value bytes.now }
+{
+    let mut value = 0;
+    for i in (0..bytes.len()).rev() {
+        value = value * 256 + u128::from(bytes[i]);
+    }
+    value
+}
+
+#[tactic(auto, unfolding(crate::specs::PacketReading::high_value))]
+fn high_first(bytes: &[u8]) -> u128
+    requires { length bytes.now ≤ 16 }
+    ensures { result ≡ high_value bytes.now }
+{
+    let mut value = 0;
+    for byte in bytes {
+        value = value * 256 + u128::from(*byte);
+    }
+    value
+}
+
+// The number has no bit from this one on.
+fn fits(number: u128, bits: usize) -> bool
+    requires { bits ≤ 128 }
+    ensures { result ≡ nat_lt number (2 ^ bits) }
+{
+    bits == 128 || number >> bits == 0
+}
+
+/// The mask of this many channels at the front of the bytes, and the bytes after it.
+#[tactic(auto, unfolding(crate::specs::PacketReading::sized_at))]
+pub(crate) fn read_mask(channels: usize, bytes: &[u8]) -> Result<(u128, &[u8]), CodeError>
+    requires { channels ≤ 128 }
+    ensures { Gives (λ x. (x.0, x.1.now)) result (mask_at channels bytes.now) }
+{
+    let len = (channels + 7) / 8;
+    if bytes.len() < len {
+        return Err(FAULT);
+    }
+    let (front, rest) = bytes.split_at(len);
+    let mask = low_first(front);
+    if !fits(mask, channels) {
+        return Err(FAULT);
+    }
+    Ok((mask, rest))
+}
+
+/// The number of this width in bits at the front of the bytes, and the bytes after it.
+#[tactic(auto, unfolding(crate::specs::PacketReading::sized_at))]
+pub(crate) fn read_number(width: u8, bytes: &[u8]) -> Result<(u128, &[u8]), CodeError>
+    requires { width ≤ 128 }
+    ensures { Gives (λ x. (x.0, x.1.now)) result (number_at width bytes.now) }
+{
+    let width = usize::from(width);
+    let len = (width + 7) / 8;
+    if bytes.len() < len {
+        return Err(FAULT);
+    }
+    let (front, rest) = bytes.split_at(len);
+    let number = high_first(front);
+    if !fits(number, width) {
+        return Err(FAULT);
+    }
+    Ok((number, rest))
+}

@@ -1,0 +1,146 @@
+//! Reading one packet of a trace.
+
+ghost use Rattle.std.specs.Prelude.{◌≡◌, ℕ, ◌+◌, ◌*◌, ◌^◌, ◌≤◌, ◌<◌, ◌⊎◌, List, [], ◌++◌, length, All, IfOk, IfErr, MatchResult, if◌then◌else◌};
+ghost use Rattle.trace_model.specs.declared.channel.Channel.{Channel};
+ghost use Rattle.trace_model.specs.declared.packet.Packet.{Packet};
+ghost use Rattle.trace_model.specs.Packet.{widths_under, IsPacket};
+ghost use Rattle.trace_model.specs.Channel.{IsChannel, IsTable};
+ghost use Rattle.trace_code.specs.Encoding.{packet_bytes};
+ghost use Rattle.trace_code.specs.Reading.{Gives};
+ghost use Rattle.trace_code.specs.PacketReading.{numbers_at, with_front, tag_at, masks_at, packet_at, widths_from};
+
+use crate::error::CodeError;
+use crate::header::FAULT;
+use crate::number::{read_mask, read_number};
+use std::alloc::Global;
+use trace_model::{Channel, Packet};
+use vidi_bits::{Items, Numbers};
+
+// A number of each width, added to those before.
+fn read_content<'a>(
+    numbers: &mut Vec<u128>,
+    widths: &[u8],
+    bytes: &'a [u8],
+) -> Result<&'a [u8], CodeError>
+    requires { All (λ w. w ≤ 128) widths.now }
+    ensures { Gives (λ rest. (numbers.new.items, rest.now)) result (with_front numbers.old.items (numbers_at widths.now bytes.now)) }
+{
+    let mut rest = bytes;
+    for width in widths {
+        let (number, after) = read_number(*width, rest)?;
+        numbers.push(number)?;
+        rest = after;
+    }
+    Ok(rest)
+}
+
+// The content of a channel, where it starts.
+fn read_start<'a>(
+    numbers: &mut Vec<u128>,
+    channel: &Channel,
+    starts: bool,
+    bytes: &'a [u8],
+) -> Result<&'a [u8], CodeError>
+    requires { All (λ w. w ≤ 128) channel.now.widths }
+    ensures { Gives (λ rest. (numbers.new.items, rest.now)) result (with_front numbers.old.items (numbers_at (if starts then channel.now.widths else []) bytes.now)) }
+{
+    if starts {
+        read_content(numbers, channel.widths.as_slice(), bytes)
+    } else {
+        Ok(bytes)
+    }
+}
+
+// The number of the ports of the channels that start.
+fn count_ports(channels: &[Channel], starts: u128) -> usize
+    requires few { length channels.now ≤ 32 }
+    requires each { All IsChannel channels.now }
+    ensures { result ≡ length (widths_under starts channels.now) }
+{
+    let mut ports = 0;
+    for (c, channel) in channels.iter().enumerate() {
+        if (starts >> c) & 1 == 1 {
+            ports += channel.widths.len();
+        }
+    }
+    ports
+}
+
+fn read_contents<'a>(
+    alloc: Global,
+    channels: &[Channel],
+    starts: u128,
+    bytes: &'a [u8],
+) -> Result<(Numbers, &'a [u8]), CodeError>
+    requires few { length channels.now ≤ 32 }
+    requires each { All IsChannel channels.now }
+    ensures { Gives (λ x. (x.0, x.1.now)) result (numbers_at (widths_under starts channels.now) bytes.now) }
+{
+    let mut numbers = Vec::with_capacity(alloc, count_ports(channels, starts))?;
+    let mut rest = bytes;
+    for (c, channel) in channels.iter().enumerate() {
+        rest = read_start(&mut numbers, channel, (starts >> c) & 1 == 1, rest)?;
+    }
+    Ok((Items::from_vec(numbers), rest))
+}
+
+#[tactic(auto, unfolding(crate::specs::PacketReading::tag_at))]
+fn read_tag(bytes: &[u8]) -> Result<&[u8], CodeError>
+    ensures { Gives (λ rest. rest.now) result (tag_at bytes.now) }
+{
+    match bytes {
+        [1, rest @ ..] => Ok(rest),
+        _ => Err(FAULT),
+    }
+}
+
+// The starts and the ends, of which there are some.
+#[tactic(auto, unfolding(crate::specs::PacketReading::masks_at))]
+fn read_masks(channels: usize, bytes: &[u8]) -> Result<(u128, u128, &[u8]), CodeError>
+    requires { channels ≤ 128 }
+    ensures { Gives (λ x. (x.0, x.1, x.2.now)) result (masks_at channels bytes.now) }
+{
+    let (starts, rest) = read_mask(channels, bytes)?;
+    let (ends, rest) = read_mask(channels, rest)?;
+    if starts == 0 && ends == 0 {
+        return Err(FAULT);
+    }
+    Ok((starts, ends, rest))
+}
+
+#[tactic(auto, unfolding(crate::specs::PacketReading::packet_at))]
+fn read_fields<'a>(
+    alloc: Global,
+    channels: &[Channel],
+    bytes: &'a [u8],
+) -> Result<(Packet, &'a [u8]), CodeError>
+    requires few { length channels.now ≤ 32 }
+    requires each { All IsChannel channels.now }
+    ensures { Gives (λ x. (x.0, x.1.now)) result (packet_at channels.now bytes.now) }
+{
+    let rest = read_tag(bytes)?;
+    let (starts, ends, rest) = read_masks(channels.len(), rest)?;
+    let (contents, rest) = read_contents(alloc, channels, starts, rest)?;
+    let packet = Packet {
+        starts,
+        ends,
+        contents,
+    };
+    Ok((packet, rest))
+}
+
+/// The packet at the front of the bytes, and the bytes after it. `BadTrace { at: 0 }` where no packet over the channels stands there.
+pub(crate) fn read_packet<'a>(
+    alloc: Global,
+    channels: &[Channel],
+    bytes: &'a [u8],
+) -> Result<(Packet, &'a [u8]), CodeError>
+    requires few { length channels.now ≤ 32 }
+    requires each { All IsChannel channels.now }
+    ensures found { IfOk result (λ x. IsPacket channels.now x.0 × (bytes.now ≡ packet_bytes channels.now x.0 ++ x.1.now)) }
+    ensures only { (p : Packet) (rest : List ℕ) → IsPacket channels.now p → bytes.now ≡ packet_bytes channels.now p ++ rest
+        → MatchResult result (λ x. (x.0 ≡ p) × (x.1.now ≡ rest)) (λ e. e ≡ CodeError.Memory) }
+    ensures fault { IfErr result (λ e. (e ≡ CodeError.Memory) ⊎ (e ≡ CodeError.BadTrace 0)) }
+{
+    read_fields(alloc, channels, bytes)
+}
