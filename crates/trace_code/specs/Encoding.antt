@@ -60,6 +60,6 @@ pub record HasEncoding (t : Trace) : Type 0 where
   pub well_formed : IsWellFormed t
   pub few : length t.packets < 2 ^ 32
 
--- the bytes are the encoding of t; for now t has no packets
+-- the bytes are the encoding of t
 abbrev pub Encodes : Trace → List ℕ → Type 0
-Encodes t bytes = HasEncoding t × (encode t ≡ bytes) × (t.packets ≡ [])
+Encodes t bytes = HasEncoding t × (encode t ≡ bytes)

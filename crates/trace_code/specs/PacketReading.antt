@@ -67,12 +67,11 @@ packet_at channels bytes = do
 abbrev pub widths_from : ℕ → ℕ → List Channel → List ℕ
 widths_from c mask channels = flat_map (λ (x : ℕ × Channel). if has mask x.0 then x.1.widths else []) (enumerate_from c channels)
 
--- packets that a well-formed trace with these channels has; for now none
+-- packets that a well-formed trace with these channels has
 pub record ArePackets (channels : List Channel) (packets : List Packet) : Type 0 where
   pub each : All (IsPacket channels) packets
   pub alternate : Alternates packets
   pub few : length packets < 2 ^ 32
-  pub none : packets ≡ []
 
 -- the bytes after the header of a trace with these packets
 abbrev pub body_bytes : List Channel → List Packet → List ℕ
