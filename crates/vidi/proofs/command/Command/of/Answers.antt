@@ -1,0 +1,11 @@
+use Rattle.std.proofs.Common.{List, [], ◌∷◌, ℕ, sym, ◌∙◌, ap, codes}
+use Rattle.std.specs.Cmp.Lexicographic.{same_text}
+use Rattle.vidi.proofs.WordLists.{two}
+use Rattle.vidi.proofs.command.Command.of.Goals as goal
+
+pub returns-in-len2 : goal.returns-in-len2
+returns-in-len2 c =
+    let shape = two c.as_slice.result.now c.name-item.result c.trace-item.result c.in-len2.len_at_least c.in-len2.len_below c.name-item.is c.trace-item.is in
+    let name = same_text _ _ (sym c.if-eq.true ∙ c.eq.ensures) in
+    sym c.as_slice.ensures ∙ shape ∙ ap (λ (x : List ℕ). x ∷ c.trace-item.result ∷ []) (sym c.as_str.ensures ∙ name)
+    ∙ ap (λ (x : List ℕ). codes "dump" ∷ x ∷ []) (sym c.as_str-in-len2.ensures)

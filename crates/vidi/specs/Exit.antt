@@ -1,0 +1,12 @@
+-- The exit numbers of the program (this project's profile).
+use Rattle.std.specs.Prelude.{ℕ}
+use Rattle.vidi.specs.declared.status.Status.{Status}
+use Rattle.vidi.specs.declared.status.Status.TheVariants.{Done, Usage, ReadFault, WriteFault, Refused, Memory}
+
+abbrev pub exit_number : Status → ℕ
+exit_number Done = 0
+exit_number Usage = 1
+exit_number (ReadFault word) = 2
+exit_number WriteFault = 3
+exit_number (Refused word reason) = 4
+exit_number Memory = 8

@@ -1,0 +1,5 @@
+pub mod Command
+pub mod Said
+pub mod Answer
+pub mod Unread
+pub mod Exit

@@ -1,0 +1,12 @@
+//! Laws of the definitions.
+
+ghost use Rattle.vidi.specs.Answer.{OneAnswer};
+
+use trace_code::one_reading;
+
+/// Of what a shelf tells, with no failed read, words earn one answer and one text, or want of memory.
+pub fn one_answer()
+    ensures { OneAnswer }
+{
+    one_reading()
+}

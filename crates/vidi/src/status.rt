@@ -1,0 +1,50 @@
+ghost use Rattle.std.specs.Prelude.{◌≡◌};
+ghost use Rattle.vidi.specs.Exit as exit;
+
+/// A file among a command's words.
+#[derive(Clone, Copy, Debug, PartialEq, Eq)]
+pub enum Word {
+    Trace,
+}
+
+/// Why a file is refused.
+#[derive(Clone, Copy, Debug, PartialEq, Eq)]
+pub enum Reason {
+    /// The file has more than `limit` bytes.
+    TooLong { limit: u64 },
+    /// The file is no encoding of a trace; `at` is the place of the fault in bytes.
+    BadTrace { at: u64 },
+}
+
+/// What a call of `vidi` answers.
+#[derive(Clone, Copy, Debug, PartialEq, Eq)]
+pub enum Status {
+    /// The command did what it does, and its whole text was written.
+    Done,
+    /// The words are no command.
+    Usage,
+    /// The file isn't there, or a read of it failed.
+    ReadFault { word: Word },
+    /// A write failed.
+    WriteFault,
+    /// The file isn't accepted.
+    Refused { word: Word, reason: Reason },
+    /// No memory was found.
+    Memory,
+}
+
+impl Status {
+    /// The number with which the program ends.
+    pub fn exit_number(self) -> u8
+        ensures { result ≡ exit.exit_number self }
+    {
+        match self {
+            Status::Done => 0,
+            Status::Usage => 1,
+            Status::ReadFault { word: _ } => 2,
+            Status::WriteFault => 3,
+            Status::Refused { word: _, reason: _ } => 4,
+            Status::Memory => 8,
+        }
+    }
+}

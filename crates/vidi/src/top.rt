@@ -1,0 +1,57 @@
+ghost use Rattle.std.specs.Prelude.{◌≡◌, ℕ, ◌≤◌, ◌⊎◌, List};
+ghost use Rattle.vidi_io.specs.Cause.{Rose};
+ghost use Rattle.vidi_io.specs.Shelf.{Later};
+ghost use Rattle.vidi_io.specs.Sink.{Frame};
+ghost use Rattle.vidi.specs.Answer.{Answers, Earns, Says};
+
+use crate::answer::answer_to;
+use crate::status::Status;
+use std::alloc::Global;
+use vidi_bits::Memory;
+use vidi_io::{Failed, Shelf, Sink, Words};
+
+/// Does what the words ask for: reads and writes files of the shelf, and says its text to `out`.
+///
+/// - `dump TRACE` prints a trace.
+///
+/// The clause `answers` has the cause of each answer: `Usage` where the words give no command, else
+/// what the command owes for the files that the shelf tells. Reads and writes that fail are answered
+/// only where a count of faults rose. Want of memory alone is free.
+pub fn vidi<S: Shelf, O: Sink>(alloc: Global, words: &Words, shelf: &mut S, out: &mut O) -> Status
+    // Each answer with its cause, and what was said.
+    ensures answers { Answers
+        (Earns words.now (S.files shelf.old) (λ name. Rose (S.read_faults shelf.old name) (S.read_faults shelf.new name)))
+        (Rose (S.write_faults shelf.old) (S.write_faults shelf.new) ⊎ Rose (O.faults out.old) (O.faults out.new))
+        (O.told out.old) (O.told out.new) result }
+
+    // Where no count rose, the answer is that of a call in which nothing fails.
+    ensures complete { ((name : List ℕ) → ¬ Rose (S.read_faults shelf.old name) (S.read_faults shelf.new name))
+        → ¬ Rose (S.write_faults shelf.old) (S.write_faults shelf.new)
+        → ¬ Rose (O.faults out.old) (O.faults out.new)
+        → Answers (Earns words.now (S.files shelf.old) (λ name. ⊥)) ⊥ (O.told out.old) (O.told out.new) result }
+
+    // What every answer leaves.
+    ensures files { S.files shelf.new ≡ S.files shelf.old }
+    ensures counts { Later (S.read_faults shelf.old) (S.read_faults shelf.new) (S.write_faults shelf.old) (S.write_faults shelf.new) }
+    ensures faults { O.faults out.old ≤ O.faults out.new }
+    ensures place { O.place out.new ≡ O.place out.old }
+    ensures frame { (f : Frame) → O.has_frame out.old f → O.has_frame out.new f }
+{
+    match answer_to(alloc, words, shelf) {
+        Ok(answer) => say(out, answer.status, answer.text.as_slice()),
+        Err(Memory) => say(out, Status::Memory, b"vidi: out of memory\n"),
+    }
+}
+
+/// Writes the text of a status. Where that fails, the answer is `WriteFault` in its place.
+fn say<O: Sink>(out: &mut O, status: Status, text: &[u8]) -> Status
+    ensures said { Says status text.now (Rose (O.faults out.old) (O.faults out.new)) (O.told out.old) (O.told out.new) result }
+    ensures faults { O.faults out.old ≤ O.faults out.new }
+    ensures place { O.place out.new ≡ O.place out.old }
+    ensures frame { (f : Frame) → O.has_frame out.old f → O.has_frame out.new f }
+{
+    match out.push(text) {
+        Ok(()) => status,
+        Err(Failed) => Status::WriteFault,
+    }
+}
