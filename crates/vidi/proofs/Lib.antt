@@ -1,3 +1,6 @@
 pub mod WordLists
 pub mod Saying
 pub mod OneAnswer
+pub mod Lines
+pub mod Clocks
+pub mod Packets
