@@ -1,16 +1,21 @@
 -- The numbers of contents against the widths of their ports, piece by piece.
-use Rattle.std.proofs.Common.{◌≡◌, ◌↔◌, ℕ, suc, ◌+◌, ◌/◌, ◌<◌, ◌≤◌, ◌^◌, cond, ◌==◌, bit_and, List, [], ◌∷◌, ◌++◌, length, take, drop, get_or, refl, ap, sym, ◌∙◌, arith, add-one, IsTrue}
+use Rattle.std.proofs.Common.{◌≡◌, ◌↔◌, ℕ, suc, ◌+◌, ◌/◌, ◌<◌, ◌≤◌, ◌^◌, Bool, true, false, Option, subst, cond, ◌==◌, bit_and, List, [], ◌∷◌, ◌++◌, length, take, drop, get_or, refl, ap, sym, ◌∙◌, arith, add-one, IsTrue, add-zero, slice_get, Some}
 use Rattle.std.specs.Int.{bit_at}
 use Rattle.std.specs.List.{flat_map, enumerate_from}
 use Rattle.std.proofs.Math.Nat.{pow-le-pow_right, div-eq_of_lt}
 use Rattle.std.proofs.lemmas.Bool.{eqb-true}
-use Rattle.std.proofs.lemmas.List.{drop_more, take-append-drop, length-append}
+use Rattle.std.proofs.lemmas.List.{append-nil, append_assoc, take_all, length-take-le, drop_more, take-append-drop, length-append}
 use Rattle.std.proofs.lemmas.List.Elements.{length_all_zip, AllZip-get_or}
 use Rattle.std.proofs.lemmas.Nat.{pow_pos, shr_split, and_mask}
 use Rattle.std.proofs.lemmas.Nat.Bits.{bit_at-suc, bit_at_lowest}
 use Rattle.trace_model.specs.declared.channel.Channel.{Channel}
 use Rattle.trace_model.specs.Counting.{has}
-use Rattle.trace_model.specs.Packet.{Fit, widths_under}
+use Rattle.trace_model.specs.declared.packet.Packet.{Packet}
+use Rattle.trace_model.specs.Packet.{Fit, widths_of, widths_under, content_of}
+use Rattle.trace_model.proofs.CountingLemmas.{take-suc_get}
+use Rattle.std.proofs.lemmas.Option.{slice_get_within}
+use Rattle.std.proofs.lemmas.List.Concat.{flat_map-append}
+use Rattle.std.proofs.Math.Seq.{take-add}
 
 -- ---- one number
 pub below-wide : (number bits : ℕ) → number < 2 ^ 128 → 128 ≤ bits → number < 2 ^ bits
@@ -78,6 +83,64 @@ widths-cons mask c cs = ap (λ ws. cond (has mask 0) c.widths [] ++ ws) (widths-
 pub widths-none : (channels : List Channel) → widths_under 0 channels ≡ []
 widths-none [] = refl
 widths-none (c ∷ cs) = widths-cons 0 c cs ∙ widths-none cs
+
+-- ---- a table as a front and what follows it
+enumerate-append : {X : Type 0} (n : ℕ) (xs ys : List X) → enumerate_from n (xs ++ ys) ≡ enumerate_from n xs ++ enumerate_from (n + length xs) ys
+enumerate-append n [] ys = ap (λ m. enumerate_from m ys) (sym (add-zero n))
+enumerate-append n (x ∷ xs) ys =
+    let place : (n + 1) + length xs ≡ n + suc (length xs) = omega arith in
+    ap (λ zs. (n, x) ∷ zs) (enumerate-append (n + 1) xs ys ∙ ap (λ m. enumerate_from (n + 1) xs ++ enumerate_from m ys) place)
+
+widths-append : (mask : ℕ) (xs ys : List Channel) → widths_under mask (xs ++ ys) ≡ widths_under mask xs ++ widths_from mask (0 + length xs) ys
+widths-append mask xs ys =
+    let one : ℕ × Channel → List ℕ = λ c. cond (has mask c.0) c.1.widths [] in
+    ap (λ zs. flat_map one zs) (enumerate-append 0 xs ys) ∙ flat_map-append one (enumerate_from 0 xs) (enumerate_from (0 + length xs) ys)
+
+-- the widths under a mask in a table begin with those in each front of it
+pub widths-front : (mask n : ℕ) (channels : List Channel) → (rest : List ℕ) × (widths_under mask channels ≡ widths_under mask (take n channels) ++ rest)
+widths-front mask n channels = (
+  widths_from mask (0 + length (take n channels)) (drop n channels),
+  ap (λ cs. widths_under mask cs) (sym (take-append-drop n channels)) ∙ widths-append mask (take n channels) (drop n channels),
+)
+
+-- one channel more
+pub widths-suc : (mask : ℕ) (channels : List Channel) (n : ℕ) (c : Channel) → slice_get channels n ≡ Some c → widths_under mask (take (suc n) channels) ≡ widths_under mask (take n channels) ++ cond (has mask n) c.widths []
+widths-suc mask channels n c at =
+    let l = slice_get_within channels n c at in
+    let place : 0 + length (take n channels) ≡ n = omega (arith, length-take-le n channels (omega arith)) in
+    ap (λ cs. widths_under mask cs) (take-suc_get channels n c at)
+    ∙ widths-append mask (take n channels) (c ∷ [])
+    ∙ ap (λ m. widths_under mask (take n channels) ++ (cond (has mask m) c.widths [] ++ [])) place
+    ∙ ap (λ ws. widths_under mask (take n channels) ++ ws) (append-nil (cond (has mask n) c.widths []))
+
+-- ---- the content of one channel
+-- it has one number for each port, which fits it
+pub content-fits : (channels : List Channel) (p : Packet) (n : ℕ) (c : Channel) → Fit (widths_under p.starts channels) p.contents → slice_get channels n ≡ Some c → has p.starts n ≡ true → Fit c.widths (content_of channels p n)
+content-fits channels p n c f at h =
+    let before = widths_under p.starts (take n channels) in
+    let front = widths-front p.starts (suc n) channels in
+    let whole : widths_under p.starts channels ≡ before ++ (c.widths ++ front.0) =
+    front.1
+    ∙ ap (λ ws. ws ++ front.0) (widths-suc p.starts channels n c at ∙ ap (λ b. before ++ cond b c.widths []) h)
+    ∙ append_assoc before c.widths front.0 in
+    let pieces : Fit (before ++ (c.widths ++ front.0)) p.contents = subst (λ (ws : List ℕ). Fit ws p.contents) whole f in
+    let mine = fit-front c.widths front.0 (drop (length before) p.contents) (fit-rest before (c.widths ++ front.0) p.contents pieces) in
+    subst (λ (o : Option Channel). Fit c.widths (take (length (widths_of o)) (drop (length before) p.contents))) (sym at) mine
+
+piece : (starts : Bool) (before widths contents : List ℕ) → take (length (before ++ cond starts widths [])) contents ≡ take (length before) contents ++ cond starts (take (length widths) (drop (length before) contents)) []
+piece true before widths contents = ap (λ n. take n contents) (length-append before widths) ∙ take-add (length before) (length widths) contents
+piece false before widths contents = ap (λ ws. take (length ws) contents) (append-nil before) ∙ sym (append-nil (take (length before) contents))
+
+-- the contents of the channels up to it are those of the channels before it, and its own where it starts
+pub contents-suc : (channels : List Channel) (p : Packet) (n : ℕ) (c : Channel) → slice_get channels n ≡ Some c → take (length (widths_under p.starts (take (suc n) channels))) p.contents ≡ take (length (widths_under p.starts (take n channels))) p.contents ++ cond (has p.starts n) (content_of channels p n) []
+contents-suc channels p n c at =
+    let before = widths_under p.starts (take n channels) in
+    ap (λ ws. take (length ws) p.contents) (widths-suc p.starts channels n c at)
+    ∙ piece (has p.starts n) before c.widths p.contents
+    ∙ ap (λ (o : Option Channel). take (length before) p.contents ++ cond (has p.starts n) (take (length (widths_of o)) (drop (length before) p.contents)) []) (sym at)
+
+pub contents-all : (channels : List Channel) (p : Packet) → Fit (widths_under p.starts channels) p.contents → take (length (widths_under p.starts channels)) p.contents ≡ p.contents
+contents-all channels p f = take_all (length (widths_under p.starts channels)) p.contents (omega (arith, fit-length (widths_under p.starts channels) p.contents f))
 
 -- ---- a walk down the table, with the mask shifted by one at each channel
 low-bit : (mask : ℕ) → (bit_and mask 1 == 1) ≡ has mask 0
