@@ -1,5 +1,5 @@
 -- What a look-up by name finds in a list of entries after one of them was set.
-use Rattle.std.proofs.Common.{◌≡◌, ℕ, ◌<◌, ◌≤◌, ◌+◌, Bool, true, false, cond, not, List, [], ◌∷◌, ◌++◌, Option, Some, None, Result, Ok, Err, OnOk, OnErr, length, get_or, IfSome, IsSomeAnd, unwrap_or, option_map, slice_get, nat_lt, vec_capacity, refl, sym, ap, subst, ◌∙◌, arith, length-append, lt-ltb}
+use Rattle.std.proofs.Common.{◌≡◌, ℕ, ◌<◌, ◌≤◌, ◌+◌, Bool, true, false, cond, not, List, [], ◌∷◌, ◌++◌, Option, Some, None, IsSome, MatchBool, Result, Ok, Err, OnOk, OnErr, length, get_or, IfSome, IsSomeAnd, unwrap_or, option_map, slice_get, nat_lt, vec_capacity, refl, sym, ap, subst, ◌∙◌, arith, length-append, lt-ltb}
 use Rattle.std.proofs.lemmas.Bool.Decides.{nat_tests}
 use Rattle.std.proofs.lemmas.List.Folds.{find_at, find-set, find_past, find-append}
 use Rattle.std.proofs.lemmas.List.Quantifiers.{position-Some}
@@ -7,13 +7,15 @@ use Rattle.std.proofs.lemmas.Map.Text.{is_eq-slice_cmp}
 use Rattle.std.proofs.lemmas.Option.{slice_get-get_or, slice_get_past}
 use Rattle.std.proofs.lemmas.Slice.Eq.{bytes_eq-Decides}
 use Rattle.std.proofs.Math.ListN.{set}
+use Rattle.std.proofs.Math.Nat.{le_refl}
 use Rattle.std.specs.Cmp.Lexicographic.{nat_list_cmp_total, slice_cmp}
 use Rattle.std.specs.FinMap.{get, insert, remove, get-empty, get-insert, get-remove, same_map, slice_cmp-IsAntisymmetric, nat_cmp-IsAntisymmetric}
 use Rattle.std.specs.List.{find, position, position_or_len}
 use Rattle.std.specs.Option.{option_or}
 use Rattle.std.specs.Ordering.{nat_cmp}
 use Rattle.std.specs.Str.{bytes_eq}
-use Rattle.vidi_io.specs.Entries.{entry_of, files_of, file_in, faults_of, room_of, Became}
+use Rattle.vidi_io.specs.Cause.{Rose}
+use Rattle.vidi_io.specs.Entries.{entry_of, files_of, file_in, faults_of, room_of, Became, RoomsStay, ReadFailed}
 use Rattle.vidi_io.specs.Shelf.{Files, bytes_of}
 use Rattle.vidi_io.specs.declared.entries.Entry.{Entry}
 
@@ -56,12 +58,18 @@ at_least : (r : Option ℕ) → IfSome r (λ n. IsSomeAnd r (λ k. n ≤ k))
 at_least None = tt
 at_least (Some n) = omega arith
 
+files_after : (old new : List Entry) (name : List ℕ) (e : Entry) (files : Files) → Puts old new name e → ((q : List ℕ) → get files q ≡ cond (bytes_eq q name) (file_in e) (get (files_of old) q)) → files_of new ≡ files
+files_after old new name e files puts is = same_files _ _ (λ q. get-files_of new q ∙ ap told (puts q) ∙ told-cond (bytes_eq q name) e (entry_of old q) ∙ ap (cond (bytes_eq q name) (file_in e)) (sym (get-files_of old q)) ∙ sym (is q))
+
+rooms_after : (old new : List Entry) (name : List ℕ) (e : Entry) → Puts old new name e → IfSome (room_of old name) (λ room. room ≤ vec_capacity e.bytes) → RoomsStay old new
+rooms_after old new name e puts room = at_each (λ q o. IfSome (room_of old q) (λ n. IsSomeAnd (option_map (λ (x : Entry). vec_capacity x.bytes) o) (λ k. n ≤ k))) old new name e puts room (λ q. at_least (room_of old q))
+
 pub became : (old new : List Entry) (name : List ℕ) (e : Entry) (files : Files) → Puts old new name e → ((q : List ℕ) → get files q ≡ cond (bytes_eq q name) (file_in e) (get (files_of old) q))
     → e.faults ≡ faults_of old name → IfSome (room_of old name) (λ room. room ≤ vec_capacity e.bytes) → Became old new files
 became old new name e files puts is faults room = record {
-  are = same_files _ _ (λ q. get-files_of new q ∙ ap told (puts q) ∙ told-cond (bytes_eq q name) e (entry_of old q) ∙ ap (cond (bytes_eq q name) (file_in e)) (sym (get-files_of old q)) ∙ sym (is q));
+  are = files_after old new name e files puts is;
   faults = at_each (λ q o. unwrap_or (option_map (λ (x : Entry). x.faults) o) 0 ≡ faults_of old q) old new name e puts faults (λ q. refl);
-  rooms = at_each (λ q o. IfSome (room_of old q) (λ n. IsSomeAnd (option_map (λ (x : Entry). vec_capacity x.bytes) o) (λ k. n ≤ k))) old new name e puts room (λ q. at_least (room_of old q));
+  rooms = rooms_after old new name e puts room;
 }
 
 -- the place of the first entry of a name, in entries that say what the old ones did, and that entry
@@ -238,3 +246,32 @@ added_named es new name e none is pushed file faults =
 pub place_named : (es new : List Entry) (name : List ℕ) (e : Entry) (i : ℕ) → position (λ x. bytes_eq name x.name) es ≡ None → name ≡ e.name → new ≡ es ++ e ∷ [] → i ≡ length es → Some i ≡ position (λ x. bytes_eq name x.name) new
 place_named es new name e i none is pushed last =
     ap Some last ∙ place_added es name e (sym none) is ∙ ap (position (λ (x : Entry). bytes_eq name x.name)) (sym pushed)
+
+pub same_entries : (es : List Entry) → Became es es (files_of es)
+same_entries es = record { are = refl; faults = λ q. refl; rooms = λ q. at_least (room_of es q) }
+
+-- the reads of the entry at this place failed once more
+pub read_failed : (es : List Entry) (name : List ℕ) (i : ℕ) (o e : Entry) → Some i ≡ position (λ x. bytes_eq name x.name) es → o ≡ get_or es i o → e.name ≡ o.name → vec_capacity e.bytes ≡ vec_capacity o.bytes
+    → file_in e ≡ file_in o → IsSome (file_in o) → o.faults ≤ e.faults → Rose o.faults e.faults → ReadFailed es (set es i e) name
+read_failed es name i o e first item same room file there later rose =
+    let puts : Puts es (set es i e) name e = puts_set es name i o e first item same in
+    let found : entry_of es name ≡ Some o = entry_at es name i o first item in
+    let before : faults_of es name ≡ o.faults = ap (λ (x : Option Entry). unwrap_or (option_map (λ (y : Entry). y.faults) x) 0) found in
+    let now : faults_of (set es i e) name ≡ e.faults = ap (λ (x : Option Entry). unwrap_or (option_map (λ (y : Entry). y.faults) x) 0) (puts name ∙ ap (λ t. cond t (Some e) (entry_of es name)) (bytes_eq-self name)) in
+    record {
+      there = subst (λ (f : Option (List ℕ)). IsSome f) (sym (found_file es name i o first item)) there;
+      files = files_after es (set es i e) name e (files_of es) puts (λ q. stays_at es es name q e _ refl refl (found_file es name i o first item ∙ sym file));
+      rose = rw (before, now) rose;
+      later = at_each (λ q x. faults_of es q ≤ unwrap_or (option_map (λ (y : Entry). y.faults) x) 0) es (set es i e) name e puts (rw before later) (λ q. le_refl (faults_of es q));
+      rooms = rooms_after es (set es i e) name e puts (subst (λ (x : Option Entry). IfSome (option_map (λ (y : Entry). vec_capacity y.bytes) x) (λ now. now ≤ vec_capacity e.bytes)) (sym found) (omega (arith, room)));
+    }
+
+-- a try to count a failed read at this place
+pub fault_at : (b : Bool) (es : List Entry) (name : List ℕ) (i : ℕ) (o e : Entry) → Some i ≡ position (λ x. bytes_eq name x.name) es → o ≡ get_or es i o → e.name ≡ o.name → vec_capacity e.bytes ≡ vec_capacity o.bytes
+    → file_in e ≡ file_in o → MatchBool b (IsSome (file_in o)) ((file_in o ≡ None) × (e.faults ≡ o.faults)) → o.faults ≤ e.faults → (b ≡ true → Rose o.faults e.faults)
+    → MatchBool b (ReadFailed es (set es i e) name) (Became es (set es i e) (files_of es) × (get (files_of es) name ≡ None))
+fault_at true es name i o e first item same room file there later rose = read_failed es name i o e first item same room file there later (rose refl)
+fault_at false es name i o e first item same room file there later rose = (
+  stays e (record { since = same_entries es; first = first; item = item }) (record { name = same; faults = there.1; more = omega (arith, room) }) file,
+  found_file es name i o first item ∙ there.0,
+)

@@ -1,9 +1,10 @@
 -- What a memory shelf holds: a list of entries, of which the first of a name counts.
-use Rattle.std.specs.Prelude.{◌≡◌, ℕ, ◌≤◌, if◌then◌else◌, List, [], ◌∷◌, Option, None, Some, option_map, unwrap_or, IfSome, IsSomeAnd, vec_capacity}
+use Rattle.std.specs.Prelude.{◌≡◌, ℕ, ◌+◌, ◌<◌, ◌≤◌, if◌then◌else◌, List, [], ◌∷◌, Option, None, Some, IsSome, length, option_map, unwrap_or, IfSome, IsSomeAnd, vec_capacity}
 use Rattle.std.specs.List.{find}
 use Rattle.std.specs.Str.{bytes_eq}
-use Rattle.std.specs.FinMap.{empty, insert, remove}
-use Rattle.vidi_io.specs.Shelf.{Files}
+use Rattle.std.specs.FinMap.{get, empty, insert, remove}
+use Rattle.vidi_io.specs.Cause.{Rose}
+use Rattle.vidi_io.specs.Shelf.{Files, bytes_of}
 use Rattle.vidi_io.specs.declared.entries.Entry.{Entry}
 
 -- the first entry of this name
@@ -27,8 +28,24 @@ room_of entries name = option_map (λ e. vec_capacity e.bytes) (entry_of entries
 abbrev pub file_in : Entry → Option (List ℕ)
 file_in e = if e.there then Some e.bytes.items else None
 
+-- no room was lost
+abbrev pub RoomsStay : List Entry → List Entry → Type 0
+RoomsStay old new = (name : List ℕ) → IfSome (room_of old name) (λ room. IsSomeAnd (room_of new name) (λ now. room ≤ now))
+
 -- the told files became these, no read failed and no room was lost
 pub record Became (old new : List Entry) (files : Files) : Type 0 where
   pub are : files_of new ≡ files
   pub faults : (name : List ℕ) → faults_of new name ≡ faults_of old name
-  pub rooms : (name : List ℕ) → IfSome (room_of old name) (λ room. IsSomeAnd (room_of new name) (λ now. room ≤ now))
+  pub rooms : RoomsStay old new
+
+-- no room was taken that holds n bytes more of this file
+abbrev pub LacksRoom : List Entry → List ℕ → ℕ → Type 0
+LacksRoom entries name n = IfSome (room_of entries name) (λ room. room < length (bytes_of (files_of entries) name) + n)
+
+-- a read of this name failed, of a file that is there
+pub record ReadFailed (old new : List Entry) (name : List ℕ) : Type 0 where
+  pub there : IsSome (get (files_of old) name)
+  pub files : files_of new ≡ files_of old
+  pub rose : Rose (faults_of old name) (faults_of new name)
+  pub later : (q : List ℕ) → faults_of old q ≤ faults_of new q
+  pub rooms : RoomsStay old new

@@ -1,10 +1,11 @@
-ghost use Rattle.std.specs.Prelude.{◌≡◌, ◌+◌, ◌<◌, ◌≤◌, ◌++◌, [], Some, None, length, IfOk, OnOk, OnErr, IsSomeAnd, IfSome, unwrap_or, vec_capacity};
+ghost use Rattle.std.specs.Prelude.{◌≡◌, ◌+◌, ◌<◌, ◌≤◌, ◌++◌, [], Some, None, IsSome, IsTrue, MatchBool, length, IfOk, OnOk, OnErr, IsSomeAnd, unwrap_or, vec_capacity};
 ghost use Rattle.std.specs.Option.{option_copied};
 ghost use Rattle.std.specs.List.{position};
 ghost use Rattle.std.specs.Str.{bytes_eq};
 ghost use Rattle.std.specs.FinMap.{get, insert};
 ghost use Rattle.vidi_io.specs.Shelf.{bytes_of};
-ghost use Rattle.vidi_io.specs.Entries.{files_of, file_in, room_of, Became};
+ghost use Rattle.vidi_io.specs.Cause.{Rose};
+ghost use Rattle.vidi_io.specs.Entries.{files_of, file_in, room_of, Became, LacksRoom, ReadFailed};
 
 use std::alloc::AllocError;
 use vidi_bits::Name;
@@ -69,6 +70,21 @@ impl Entry {
         self.reserve(bytes.len())?;
         self.start();
         self.grow(bytes)
+    }
+
+    /// Counts a failed read of the file, and says whether the file is there.
+    fn count_fault(&mut self) -> bool
+        ensures name { self.new.name ≡ self.old.name }
+        ensures file { file_in self.new ≡ file_in self.old }
+        ensures room { vec_capacity self.new.bytes ≡ vec_capacity self.old.bytes }
+        ensures there { MatchBool result (IsSome (file_in self.old)) ((file_in self.old ≡ None) × (self.new.faults ≡ self.old.faults)) }
+        ensures later { self.old.faults ≤ self.new.faults }
+        ensures rose { IsTrue result → Rose self.old.faults self.new.faults }
+    {
+        if self.there {
+            self.faults = self.faults.saturating_add(1);
+        }
+        self.there
     }
 }
 
@@ -148,7 +164,7 @@ pub fn start_file(entries: &mut Vec<Entry>, name: &str) -> Result<(), AllocError
 pub fn append_file(entries: &mut Vec<Entry>, name: &str, piece: &[u8]) -> Result<(), AllocError>
     ensures ok { OnOk result (Became entries.old.items entries.new.items (insert (files_of entries.old.items) name.now (bytes_of (files_of entries.old.items) name.now ++ piece.now))) }
     ensures err { OnErr result (Became entries.old.items entries.new.items (files_of entries.old.items)) }
-    ensures full { OnErr result (IfSome (room_of entries.old.items name.now) (λ room. room < length (bytes_of (files_of entries.old.items) name.now) + length piece.now)) }
+    ensures full { OnErr result (LacksRoom entries.old.items name.now (length piece.now)) }
 {
     let i = place_for(entries, name)?;
     entries[i].grow(piece)
@@ -161,4 +177,14 @@ pub fn hold_file(entries: &mut Vec<Entry>, name: &str, bytes: &[u8]) -> Result<(
 {
     let i = place_for(entries, name)?;
     entries[i].hold(bytes)
+}
+
+/// Counts a failed read of the file of this name, and says whether it is there.
+pub fn count_fault(entries: &mut Vec<Entry>, name: &str) -> bool
+    ensures { MatchBool result (ReadFailed entries.old.items entries.new.items name.now) (Became entries.old.items entries.new.items (files_of entries.old.items) × (get (files_of entries.old.items) name.now ≡ None)) }
+{
+    match place(entries.as_slice(), name) {
+        Some(i) => entries[i].count_fault(),
+        None => false,
+    }
 }

@@ -6,6 +6,7 @@
 #![tactic(auto)]
 
 mod entries;
+mod fails;
 mod host;
 mod mem_shelf;
 mod mem_sink;
@@ -14,6 +15,7 @@ mod shelf;
 mod sink;
 mod words;
 
+pub use fails::{Fail, FailCall, Fails};
 pub use host::{HostShelf, HostSink};
 pub use mem_shelf::MemShelf;
 pub use mem_sink::MemSink;

@@ -1,32 +1,46 @@
-ghost use Rattle.std.specs.Prelude.{◌≡◌, ℕ, ◌+◌, ◌<◌, ◌≤◌, ◌⊎◌, List, Option, None, Some, Err, length, IfOk, OnOk, OnErr, IfSome, IsSomeAnd, IsErrOf};
+ghost use Rattle.std.specs.Prelude.{◌≡◌, ℕ, ◌≤◌, ◌⊎◌, List, None, Some, Err, IsErr, length, take, IfOk, OnOk, OnErr, OnSome, IfNone, IfSome, IsSomeAnd, IsErrOf, MatchOption};
 ghost use Rattle.std.specs.Option.{option_copied};
 ghost use Rattle.std.specs.FinMap.{get, empty, insert};
 ghost use Rattle.vidi_io.specs.Cause.{Rose};
-ghost use Rattle.vidi_io.specs.Entries.{files_of, faults_of, room_of, Became};
-ghost use Rattle.vidi_io.specs.Shelf.{Gives, Later, SameCounts};
+ghost use Rattle.vidi_io.specs.Entries.{files_of, faults_of, room_of, Became, LacksRoom, ReadFailed, RoomsStay};
+ghost use Rattle.vidi_io.specs.Fails.{next_listed, counted};
+ghost use Rattle.vidi_io.specs.Listed.{FetchAnswer, KeptFront};
+ghost use Rattle.vidi_io.specs.Shelf.{Gives, GrewBySome, Later, SameCounts, appended, emptied};
 
-use crate::entries::{Entry, append_file, file_of, hold_file, reserve_file, start_file};
+use crate::entries::{
+    Entry, append_file, count_fault, file_of, hold_file, reserve_file, start_file,
+};
+use crate::fails::{FailCall, Fails, Plan};
 use crate::shelf::{FetchError, Shelf};
 use crate::sink::Failed;
 use std::alloc::Global;
 use vidi_bits::Memory;
 
-/// Files in memory, which it tells. A call fails only for want of memory.
+/// Files in memory, which it tells. A start or append that isn't listed to fail fails only for want of
+/// memory.
 #[derive(Debug, Drop)]
 pub struct MemShelf {
     entries: Vec<Entry>,
+    plan: Plan,
     write_faults: u64,
 }
 
 impl MemShelf {
-    /// A shelf of no files, whose counts are 0.
-    pub fn new(alloc: Global) -> MemShelf
+    /// A shelf of no files, whose counts are 0 and whose listed calls fail.
+    pub fn new(alloc: Global, fails: Fails) -> MemShelf
         ensures files { files_of result.entries.items ≡ empty }
         ensures reads { (name : List ℕ) → faults_of result.entries.items name ≡ 0 }
         ensures writes { result.write_faults ≡ 0 }
+        ensures plan { result.plan ≡ record { fails = fails; fetches = 0; starts = 0; appends = 0 } }
     {
         MemShelf {
             entries: Vec::new(alloc),
+            plan: Plan {
+                fails,
+                fetches: 0,
+                starts: 0,
+                appends: 0,
+            },
             write_faults: 0,
         }
     }
@@ -35,6 +49,7 @@ impl MemShelf {
     pub fn put_file(&mut self, name: &str, bytes: &[u8]) -> Result<(), Memory>
         ensures ok { OnOk result (Became self.old.entries.items self.new.entries.items (insert (files_of self.old.entries.items) name.now bytes.now)) }
         ensures err { OnErr result (Became self.old.entries.items self.new.entries.items (files_of self.old.entries.items)) }
+        ensures plan { self.new.plan ≡ self.old.plan }
         ensures writes { self.new.write_faults ≡ self.old.write_faults }
     {
         hold_file(&mut self.entries, name, bytes)?;
@@ -48,20 +63,46 @@ impl MemShelf {
         file_of(self.entries.as_slice(), name)
     }
 
-    /// Takes room for a file of this name: no start or append of it fails while it has at most `n`
-    /// bytes.
+    /// Takes room for a file of this name: no start or append of it that isn't listed fails
+    /// while it has at most `n` bytes.
     pub fn room_for(&mut self, name: &str, n: usize) -> Result<(), Memory>
         ensures same { Became self.old.entries.items self.new.entries.items (files_of self.old.entries.items) }
         ensures room { OnOk result (IsSomeAnd (room_of self.new.entries.items name.now) (λ room. n ≤ room)) }
+        ensures plan { self.new.plan ≡ self.old.plan }
         ensures writes { self.new.write_faults ≡ self.old.write_faults }
     {
         reserve_file(&mut self.entries, name, n)?;
         Ok(())
     }
 
+    /// Answers a fetch that is listed, and counts it where the file is there.
+    fn failed_fetch(&mut self, name: &str) -> Result<usize, FetchError>
+        ensures answer { MatchOption (get (files_of self.old.entries.items) name.now) ((result ≡ Err FetchError.Missing) × Became self.old.entries.items self.new.entries.items (files_of self.old.entries.items)) (λ _. (result ≡ Err FetchError.Failed) × ReadFailed self.old.entries.items self.new.entries.items name.now) }
+        ensures plan { self.new.plan ≡ self.old.plan }
+        ensures writes { self.new.write_faults ≡ self.old.write_faults }
+    {
+        if count_fault(&mut self.entries, name) {
+            return Err(FetchError::Failed);
+        }
+        Err(FetchError::Missing)
+    }
+
+    /// Adds the first `kept` bytes of a piece, as far as there is memory, and counts a failed write.
+    fn keep_front(&mut self, name: &str, piece: &[u8], kept: usize) -> Failed
+        ensures kept { KeptFront self.old.entries.items self.new.entries.items name.now (take kept piece.now) }
+        ensures plan { self.new.plan ≡ self.old.plan }
+        ensures later { self.old.write_faults ≤ self.new.write_faults }
+        ensures rose { Rose self.old.write_faults self.new.write_faults }
+    {
+        let front = &piece[..kept.min(piece.len())];
+        let _ = append_file(&mut self.entries, name, front);
+        self.fault()
+    }
+
     /// Counts a failed write.
     fn fault(&mut self) -> Failed
         ensures entries { self.new.entries ≡ self.old.entries }
+        ensures plan { self.new.plan ≡ self.old.plan }
         ensures later { self.old.write_faults ≤ self.new.write_faults }
         ensures rose { Rose self.old.write_faults self.new.write_faults }
     {
@@ -77,24 +118,64 @@ impl Shelf for MemShelf {
 
     ghost write_faults = { λ s. s.write_faults };
 
-    fn fetch(&mut self, name: &str, at: u64, buf: &mut [u8]) -> Result<usize, FetchError> {
-        match self.file(name) {
-            Some(file) => Ok(copy_at(file, at, buf)),
-            None => Err(FetchError::Missing),
+    fn fetch(&mut self, name: &str, at: u64, buf: &mut [u8]) -> Result<usize, FetchError>
+        ensures within { IfOk result (λ n. n ≤ length buf.new) }
+        ensures bytes { IfOk result (λ n. IsSomeAnd (get (files_of self.old.entries.items) name.now) (λ file. Gives file at n buf.new)) }
+        ensures missing { IsErrOf result FetchError.Missing → get (files_of self.old.entries.items) name.now ≡ None }
+        ensures absent { get (files_of self.old.entries.items) name.now ≡ None → result ≡ Err FetchError.Missing }
+        ensures quiet { IsErrOf result FetchError.Missing → SameCounts (faults_of self.old.entries.items) (faults_of self.new.entries.items) self.old.write_faults self.new.write_faults }
+        ensures failed { IsErrOf result FetchError.Failed → Rose (faults_of self.old.entries.items name.now) (faults_of self.new.entries.items name.now) }
+        ensures files { Some (files_of self.new.entries.items) ≡ Some (files_of self.old.entries.items) }
+        ensures counts { Later (faults_of self.old.entries.items) (faults_of self.new.entries.items) self.old.write_faults self.new.write_faults }
+        ensures answer { FetchAnswer (get (files_of self.old.entries.items) name.now) (next_listed self.old.plan FailCall.Fetch) result }
+        ensures plan { self.new.plan ≡ counted self.old.plan FailCall.Fetch }
+        ensures rooms { RoomsStay self.old.entries.items self.new.entries.items }
+    {
+        match self.plan.next(FailCall::Fetch) {
+            Some(_) => self.failed_fetch(name),
+            None => match self.file(name) {
+                Some(file) => Ok(copy_at(file, at, buf)),
+                None => Err(FetchError::Missing),
+            },
         }
     }
 
-    fn start(&mut self, name: &str) -> Result<(), Failed> {
+    fn start(&mut self, name: &str) -> Result<(), Failed>
+        ensures ok { OnOk result (Some (files_of self.new.entries.items) ≡ emptied (Some (files_of self.old.entries.items)) name.now) }
+        ensures err { OnErr result ((Some (files_of self.new.entries.items) ≡ Some (files_of self.old.entries.items)) ⊎ (Some (files_of self.new.entries.items) ≡ emptied (Some (files_of self.old.entries.items)) name.now)) }
+        ensures failed { OnErr result (Rose self.old.write_faults self.new.write_faults) }
+        ensures counts { Later (faults_of self.old.entries.items) (faults_of self.new.entries.items) self.old.write_faults self.new.write_faults }
+        ensures left { OnErr result (Became self.old.entries.items self.new.entries.items (files_of self.old.entries.items)) }
+        ensures listed { OnSome (next_listed self.old.plan FailCall.Start) (IsErr result) }
+        ensures unlisted { IfNone (next_listed self.old.plan FailCall.Start) (OnErr result (room_of self.old.entries.items name.now ≡ None)) }
+        ensures plan { self.new.plan ≡ counted self.old.plan FailCall.Start }
+        ensures rooms { RoomsStay self.old.entries.items self.new.entries.items }
+    {
+        if self.plan.next(FailCall::Start).is_some() {
+            return Err(self.fault());
+        }
         match start_file(&mut self.entries, name) {
             Ok(()) => Ok(()),
             Err(_) => Err(self.fault()),
         }
     }
 
-    fn append(&mut self, name: &str, piece: &[u8]) -> Result<(), Failed> {
-        match append_file(&mut self.entries, name, piece) {
-            Ok(()) => Ok(()),
-            Err(_) => Err(self.fault()),
+    fn append(&mut self, name: &str, piece: &[u8]) -> Result<(), Failed>
+        ensures ok { OnOk result (Some (files_of self.new.entries.items) ≡ appended (Some (files_of self.old.entries.items)) name.now piece.now) }
+        ensures err { OnErr result (GrewBySome (Some (files_of self.old.entries.items)) (Some (files_of self.new.entries.items)) name.now piece.now) }
+        ensures failed { OnErr result (Rose self.old.write_faults self.new.write_faults) }
+        ensures counts { Later (faults_of self.old.entries.items) (faults_of self.new.entries.items) self.old.write_faults self.new.write_faults }
+        ensures listed { IfSome (next_listed self.old.plan FailCall.Append) (λ fail. IsErr result × KeptFront self.old.entries.items self.new.entries.items name.now (take fail.kept piece.now)) }
+        ensures unlisted { IfNone (next_listed self.old.plan FailCall.Append) (OnErr result (Became self.old.entries.items self.new.entries.items (files_of self.old.entries.items) × LacksRoom self.old.entries.items name.now (length piece.now))) }
+        ensures plan { self.new.plan ≡ counted self.old.plan FailCall.Append }
+        ensures rooms { RoomsStay self.old.entries.items self.new.entries.items }
+    {
+        match self.plan.next(FailCall::Append) {
+            Some(kept) => Err(self.keep_front(name, piece, kept)),
+            None => match append_file(&mut self.entries, name, piece) {
+                Ok(()) => Ok(()),
+                Err(_) => Err(self.fault()),
+            },
         }
     }
 }

@@ -1,16 +1,16 @@
+use crate::fails::{Fail, FailCall, Fails};
 use crate::host::{HostShelf, HostSink};
 use crate::mem_shelf::MemShelf;
 use crate::mem_sink::MemSink;
 use crate::reading::{ReadError, read_whole};
-use crate::shelf::Shelf;
+use crate::shelf::{FetchError, Shelf};
 use crate::sink::{Failed, Sink};
 use crate::words::Text;
-use std::test::Fail;
-use std::{env, fs, process};
-use vidi_bits::Memory;
+use std::{env, fs, process, test};
+use vidi_bits::{Memory, Numbers};
 
 #[test]
-fn texts_keep_their_bytes(rt: HostRuntime) -> Result<(), Fail> {
+fn texts_keep_their_bytes(rt: HostRuntime) -> Result<(), test::Fail> {
     let text = Text::from_str(rt.alloc(), "réplay")?;
     assert_eq!(rt; text.as_str(), "réplay");
     let owned = Text::from_string(String::from_str(rt.alloc(), "dump")?);
@@ -19,8 +19,8 @@ fn texts_keep_their_bytes(rt: HostRuntime) -> Result<(), Fail> {
 }
 
 #[test]
-fn memory_shelf_answers_with_ample_memory(rt: HostRuntime) -> Result<(), Fail> {
-    let mut shelf = MemShelf::new(rt.alloc());
+fn memory_shelf_answers_with_ample_memory(rt: HostRuntime) -> Result<(), test::Fail> {
+    let mut shelf = MemShelf::new(rt.alloc(), Fails::new(rt.alloc()));
     assert_eq!(rt; shelf.put_file("a", b"one"), Ok::<(), Memory>(()));
     assert_eq!(rt; shelf.room_for("b", 4), Ok::<(), Memory>(()));
     assert_eq!(rt; shelf.file("b"), None);
@@ -38,9 +38,9 @@ fn memory_shelf_answers_with_ample_memory(rt: HostRuntime) -> Result<(), Fail> {
 
 // A file of more than one fetch, within its limit and one byte past it.
 #[test]
-fn files_are_read_whole(rt: HostRuntime) -> Result<(), Fail> {
+fn files_are_read_whole(rt: HostRuntime) -> Result<(), test::Fail> {
     let bytes = vec![in rt.alloc(); 7u8; 70000]?;
-    let mut shelf = MemShelf::new(rt.alloc());
+    let mut shelf = MemShelf::new(rt.alloc(), Fails::new(rt.alloc()));
     shelf.put_file("long", bytes.as_slice())?;
     let read = read_whole(rt.alloc(), &mut shelf, "long", 70000)?;
     assert_eq!(rt; read.as_slice(), bytes.as_slice());
@@ -54,18 +54,48 @@ fn files_are_read_whole(rt: HostRuntime) -> Result<(), Fail> {
     Ok(())
 }
 
+// The first call of a kind has number 1, and each kind is counted by itself.
 #[test]
-fn memory_sink_answers_with_ample_memory(rt: HostRuntime) -> Result<(), Fail> {
-    let mut sink = MemSink::new(rt.alloc());
-    sink.push(b"on")?;
-    sink.push(b"e")?;
+fn listed_calls_fail(rt: HostRuntime) -> Result<(), test::Fail> {
+    let mut fails = Fails::new(rt.alloc());
+    for (call, number, kept) in [
+        (FailCall::Append, 2, 1),
+        (FailCall::Fetch, 1, 0),
+        (FailCall::Start, 1, 0),
+    ] {
+        fails.push(Fail { call, number, kept })?;
+    }
+    let mut shelf = MemShelf::new(rt.alloc(), fails);
+    shelf.put_file("a", b"one")?;
+    let mut buf = [0u8; 8];
+    assert_eq!(rt;
+        shelf.fetch("a", 0, &mut buf),
+        Err::<usize, FetchError>(FetchError::Failed)
+    );
+    assert_eq!(rt; shelf.fetch("a", 1, &mut buf), Ok::<usize, FetchError>(2));
+    assert_eq!(rt; shelf.start("a"), Err::<(), Failed>(Failed));
+    assert_eq!(rt; shelf.append("a", b"two"), Ok::<(), Failed>(()));
+    assert_eq!(rt; shelf.append("a", b"six"), Err::<(), Failed>(Failed));
+    assert_eq!(rt; shelf.file("a"), Some(b"onetwos".as_slice()));
+    Ok(())
+}
+
+#[test]
+fn memory_sink_fails_where_listed(rt: HostRuntime) -> Result<(), test::Fail> {
+    let mut fails = Numbers::new(rt.alloc());
+    fails.push(2)?;
+    let mut sink = MemSink::new(rt.alloc(), fails);
+    assert_eq!(rt; sink.room_for(3), Ok::<(), Memory>(()));
+    assert_eq!(rt; sink.push(b"on"), Ok::<(), Failed>(()));
+    assert_eq!(rt; sink.push(b"two"), Err::<(), Failed>(Failed));
+    assert_eq!(rt; sink.push(b"e"), Ok::<(), Failed>(()));
     assert_eq!(rt; sink.bytes(), b"one".as_slice());
     Ok(())
 }
 
 // A real file, a name that isn't there, and a directory in place of a file.
 #[test]
-fn host_files_are_written_and_read(rt: HostRuntime) -> Result<(), Fail> {
+fn host_files_are_written_and_read(rt: HostRuntime) -> Result<(), test::Fail> {
     let folder = env::temp_dir(&rt)?;
     let name = format!(in rt.alloc(); "vidi_io-{}", process::id(rt.process()))?;
     let path = folder.join(rt.alloc(), name.as_str())?;
