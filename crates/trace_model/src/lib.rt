@@ -10,6 +10,7 @@ mod contents;
 mod event;
 mod flight;
 mod lawful;
+mod mask;
 mod packet;
 mod trace;
 
@@ -17,6 +18,7 @@ pub use channel::{Channel, Channels, Dir};
 pub use event::{Event, Events, Kind};
 pub use flight::in_flight_after;
 pub use lawful::{is_packet, well_formed};
+pub use mask::names;
 pub use packet::{Packet, Packets};
 pub use trace::Trace;
 

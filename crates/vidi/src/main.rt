@@ -20,6 +20,9 @@ use std::rt::Env;
 use vidi_bits::Memory;
 use vidi_io::{HostShelf, HostSink, Text, Words};
 
+#[cfg(test)]
+mod tests;
+
 fn main(rt: HostRuntime) -> ExitCode {
     let status = match words_after_name(&rt) {
         Ok(words) => {

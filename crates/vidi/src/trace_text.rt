@@ -1,12 +1,11 @@
 ghost use Rattle.std.specs.Prelude.{◌≡◌, ℕ, ◌+◌, ◌-◌, ◌^◌, ◌<◌, ◌++◌, OnOk, IfOk, if◌then◌else◌, [], length, take, drop, replicate, slice_index, codes, decimal};
 ghost use Rattle.std.specs.Int.{bit_at};
 ghost use Rattle.std.specs.List.{flat_map, enumerate_from};
-ghost use Rattle.trace_model.specs.Counting as counting;
 ghost use Rattle.vidi.specs.Said as said;
 
 use crate::text::{put, put_number, put_numbers};
 use std::alloc::Global;
-use trace_model::{Channel, Dir, Packet, Trace};
+use trace_model::{Channel, Dir, Packet, Trace, names};
 use vidi_bits::{Bytes, Memory};
 
 /// The lines that `dump` prints of a trace.
@@ -111,17 +110,10 @@ fn count_ends(completed: &mut [u64], ends: u128)
     ensures { (c : ℕ) → c < length completed.old → slice_index completed.new c ≡ slice_index completed.old c + bit_at ends c }
 {
     for (channel, count) in completed.iter_mut().enumerate() {
-        if has(ends, channel) {
+        if names(ends, channel) {
             *count += 1;
         }
     }
-}
-
-/// Whether a mask names a channel.
-fn has(mask: u128, channel: usize) -> bool
-    ensures { result ≡ counting.has mask channel }
-{
-    channel < 128 && (mask >> channel) & 1 == 1
 }
 
 fn put_starts(
@@ -135,7 +127,7 @@ fn put_starts(
 {
     let mut rest = packet.contents.as_slice();
     for (c, channel) in channels.iter().enumerate() {
-        let starts = has(packet.starts, c);
+        let starts = names(packet.starts, c);
         rest = put_start(text, number, channel, starts, rest, clock)?;
     }
     Ok(())
@@ -185,7 +177,7 @@ fn put_ends(
     ensures { OnOk result (text.new.items ≡ text.old.items ++ said.end_lines channels.now number packet.now clock.now) }
 {
     for (c, channel) in channels.iter().enumerate() {
-        if has(packet.ends, c) {
+        if names(packet.ends, c) {
             put_end(text, number, channel, clock)?;
         }
     }
