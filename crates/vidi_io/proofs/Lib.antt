@@ -1,3 +1,4 @@
 pub mod Fronts
 pub mod Names
 pub mod Sent
+pub mod Whole
