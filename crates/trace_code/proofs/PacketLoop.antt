@@ -1,8 +1,7 @@
 -- Reading the numbers of a packet one after the other, as loops over widths and channels do.
-use Rattle.std.proofs.Common.{◌≡◌, ℕ, zero, suc, ◌+◌, ◌-◌, ◌*◌, ◌/◌, ◌^◌, ◌<◌, ◌≤◌, Bool, true, false, cond, eqb, List, [], ◌∷◌, ◌++◌, length, get_or, take, drop, Option, Some, None, refl, sym, ap, subst, ◌∙◌, append_assoc, arith}
+use Rattle.std.proofs.Common.{◌≡◌, ℕ, ◌+◌, ◌/◌, ◌^◌, ◌<◌, ◌≤◌, Bool, cond, eqb, List, [], ◌∷◌, ◌++◌, length, get_or, drop, Option, Some, None, refl, sym, ap, ◌∙◌, append_assoc}
 use Rattle.std.specs.Prelude.{bit_and}
-use Rattle.std.specs.Int.{bit_at}
-use Rattle.std.proofs.lemmas.List.{append-nil, drop_more, drop_all, length-append, get_or_default}
+use Rattle.std.proofs.lemmas.List.{append-nil, drop_more, drop_all}
 use Rattle.std.proofs.lemmas.Nat.Bits.{shr_and_one}
 use Rattle.trace_model.specs.declared.channel.Channel.{Channel}
 use Rattle.trace_model.specs.Counting.{has}

@@ -10,8 +10,8 @@ ghost use Rattle.trace_code.specs.Encoding.{Encodes, packet_bytes, end_mark};
 ghost use Rattle.trace_code.specs.Decoding.{Decodes};
 ghost use Rattle.trace_code.specs.PacketReading.{ArePackets, body_bytes};
 
-use crate::error::CodeError;
-use crate::header::{FAULT, read_header};
+use crate::error::{CodeError, FAULT};
+use crate::header::read_header;
 use crate::packets::read_packet;
 use std::alloc::Global;
 use trace_model::{Channel, Packet, Packets, Trace, in_flight_after};
@@ -82,7 +82,8 @@ fn read_packets(alloc: Global, channels: &[Channel], bytes: &[u8]) -> Result<Pac
     Ok(packets)
 }
 
-/// The trace that the bytes encode. `BadTrace` exactly where they are no encoding of a well-formed trace.
+/// The trace that the bytes encode (*Encoding*). `BadTrace` exactly where they are the encoding of no
+/// well-formed trace, and `Memory` where none was found.
 pub fn decode(alloc: Global, bytes: &[u8]) -> Result<Trace, CodeError>
     ensures decodes { Decodes bytes.now result }
     // What is encoded is read, unless memory runs out.

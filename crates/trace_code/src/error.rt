@@ -14,6 +14,9 @@ pub enum CodeError {
     Memory,
 }
 
+/// The bytes are no trace.
+pub(crate) const FAULT: CodeError = CodeError::BadTrace { at: 0 };
+
 impl From<Memory> for CodeError {
     ghost use Rattle.trace_code.specs.declared.error.CodeError.{CodeError};
 

@@ -8,7 +8,8 @@ ghost use Rattle.trace_model.specs.Channel.{is_letter, is_letter_or_digit, IsTab
 ghost use Rattle.trace_code.specs.Encoding.{header_bytes};
 ghost use Rattle.trace_code.specs.Reading.{Gives, Fails, magic_at, dir_at, counted_at, is_width, is_name, are_widths, name_at, widths_at, channel_at, channels_at, count_at, header_at, AreChannels};
 
-use crate::error::CodeError;
+use crate::error::{CodeError, FAULT};
+use crate::number::byte_count;
 use std::alloc::Global;
 use trace_model::{Channel, Channels, Dir};
 use vidi_bits::{Bytes, Items, Name};
@@ -20,9 +21,6 @@ const MAX_CHANNELS: u8 = 32;
 const MAX_PORTS: usize = 16;
 
 const MAX_CONTENT: usize = 1024;
-
-/// The bytes are no trace.
-pub(crate) const FAULT: CodeError = CodeError::BadTrace { at: 0 };
 
 #[tactic(auto, unfolding(crate::specs::Reading::magic_at))]
 fn read_magic(bytes: &[u8]) -> Result<&[u8], CodeError>
@@ -208,7 +206,7 @@ fn content_len(channel: &Channel) -> usize
 {
     let mut total = 0;
     for width in channel.widths.as_slice() {
-        total += (usize::from(*width) + 7) / 8;
+        total += byte_count(*width);
     }
     total
 }

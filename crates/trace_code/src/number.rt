@@ -3,15 +3,18 @@
 ghost use Rattle.std.specs.Prelude.{◌≡◌, ℕ, ◌+◌, ◌*◌, ◌^◌, ◌≤◌, ◌<◌, List, [], length, nat_lt, All, Some, if◌then◌else◌};
 ghost use Rattle.trace_model.specs.declared.channel.Channel.{Channel};
 ghost use Rattle.trace_model.specs.Packet.{widths_under};
-ghost use Rattle.trace_model.specs.Channel.{IsChannel};
+ghost use Rattle.trace_model.specs.Channel.{byte_count};
 ghost use Rattle.trace_code.specs.Reading.{Gives};
 ghost use Rattle.trace_code.specs.PacketReading.{low_value, high_value, mask_at, number_at, numbers_at, with_front, sized_at};
 
-use crate::error::CodeError;
-use crate::header::FAULT;
-use std::alloc::Global;
-use trace_model::Channel;
-use vidi_bits::{Items, Numbers};
+use crate::error::{CodeError, FAULT};
+
+/// The bytes that hold a number of this width in bits.
+pub(crate) fn byte_count(width: u8) -> usize
+    ensures { result ≡ byte_count width }
+{
+    usize::from(width).div_ceil(8)
+}
 
 fn low_first(bytes: &[u8]) -> u128
     requires { length bytes.now ≤ 16 }
@@ -50,7 +53,7 @@ pub(crate) fn read_mask(channels: usize, bytes: &[u8]) -> Result<(u128, &[u8]), 
     requires { channels ≤ 128 }
     ensures { Gives (λ x. (x.0, x.1.now)) result (mask_at channels bytes.now) }
 {
-    let len = (channels + 7) / 8;
+    let len = channels.div_ceil(8);
     if bytes.len() < len {
         return Err(FAULT);
     }
@@ -68,14 +71,13 @@ pub(crate) fn read_number(width: u8, bytes: &[u8]) -> Result<(u128, &[u8]), Code
     requires { width ≤ 128 }
     ensures { Gives (λ x. (x.0, x.1.now)) result (number_at width bytes.now) }
 {
-    let width = usize::from(width);
-    let len = (width + 7) / 8;
+    let len = byte_count(width);
     if bytes.len() < len {
         return Err(FAULT);
     }
     let (front, rest) = bytes.split_at(len);
     let number = high_first(front);
-    if !fits(number, width) {
+    if !fits(number, usize::from(width)) {
         return Err(FAULT);
     }
     Ok((number, rest))

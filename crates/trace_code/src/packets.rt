@@ -9,8 +9,7 @@ ghost use Rattle.trace_code.specs.Encoding.{packet_bytes};
 ghost use Rattle.trace_code.specs.Reading.{Gives};
 ghost use Rattle.trace_code.specs.PacketReading.{numbers_at, with_front, tag_at, masks_at, packet_at, widths_from};
 
-use crate::error::CodeError;
-use crate::header::FAULT;
+use crate::error::{CodeError, FAULT};
 use crate::number::{read_mask, read_number};
 use std::alloc::Global;
 use trace_model::{Channel, Packet};

@@ -1,4 +1,3 @@
-use Rattle.std.proofs.Common.{◌≡◌, ◌++◌, ◌∷◌, []}
 use Rattle.std.proofs.lemmas.Result.{err_from_is_err_and}
 use Rattle.trace_code.specs.Reading.{channels_at}
 use Rattle.trace_code.proofs.Loop.{goes_on, ends, is_done}

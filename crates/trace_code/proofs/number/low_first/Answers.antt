@@ -1,4 +1,4 @@
-use Rattle.std.proofs.Common.{arith, ◌-◌, length, drop, get_or}
+use Rattle.std.proofs.Common.{arith, ◌-◌, length}
 use Rattle.trace_code.proofs.NumberLaws.{value_fits, low_value-down, grows-down}
 use Rattle.trace_code.proofs.number.low_first.Goals as goal
 

@@ -1,4 +1,3 @@
-use Rattle.std.proofs.Common.{◌≡◌, ◌++◌, ◌∷◌, [], List, ℕ, subst, sym}
 use Rattle.std.proofs.lemmas.Result.{err_from_is_err_and}
 use Rattle.trace_code.specs.PacketReading.{numbers_at, with_front}
 use Rattle.trace_code.proofs.PacketLoop.{number_goes_on, number_ends, number_is_done}

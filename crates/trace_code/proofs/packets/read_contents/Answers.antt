@@ -1,8 +1,7 @@
-use Rattle.std.proofs.Common.{◌≡◌, ◌++◌, ◌∷◌, [], List, ℕ, subst, sym}
 use Rattle.std.proofs.lemmas.Result.{err_from_is_err_and}
 use Rattle.trace_model.specs.Packet.{widths_under}
-use Rattle.trace_code.specs.PacketReading.{numbers_at, with_front}
-use Rattle.trace_code.proofs.PacketLoop.{start_goes_on, start_ends, start_is_done, start_begins}
+use Rattle.trace_code.specs.PacketReading.{numbers_at}
+use Rattle.trace_code.proofs.PacketLoop.{start_goes_on, start_ends, start_is_done}
 use Rattle.trace_code.proofs.packets.read_contents.Goals as goal
 
 pub returns-in_err-rest : goal.returns-in_err-rest
