@@ -1,6 +1,7 @@
 -- Reading the numbers of a packet one after the other, as loops over widths and channels do.
 use Rattle.std.proofs.Common.{◌≡◌, ℕ, ◌+◌, ◌/◌, ◌^◌, ◌<◌, ◌≤◌, Bool, cond, eqb, List, [], ◌∷◌, ◌++◌, length, get_or, drop, Option, Some, None, refl, sym, ap, ◌∙◌, append_assoc}
 use Rattle.std.specs.Prelude.{bit_and}
+use Rattle.std.specs.List.{flat_map, enumerate_from}
 use Rattle.std.proofs.lemmas.List.{append-nil, drop_more, drop_all}
 use Rattle.std.proofs.lemmas.Nat.Bits.{shr_and_one}
 use Rattle.trace_model.specs.declared.channel.Channel.{Channel}
@@ -8,7 +9,11 @@ use Rattle.trace_model.specs.Counting.{has}
 use Rattle.trace_code.specs.declared.error.CodeError.{CodeError}
 use Rattle.trace_code.specs.declared.error.CodeError.TheVariants.{BadTrace, Memory}
 use Rattle.trace_code.specs.Reading.{◌>>=◌, Fails}
-use Rattle.trace_code.specs.PacketReading.{number_at, numbers_at, with_front, widths_from}
+use Rattle.trace_code.specs.PacketReading.{number_at, numbers_at, with_front}
+
+-- the widths under a mask, of the channels from c on
+abbrev pub widths_from : ℕ → ℕ → List Channel → List ℕ
+widths_from c mask channels = flat_map (λ (x : ℕ × Channel). cond (has mask x.0) x.1.widths []) (enumerate_from c channels)
 
 abbrev Read : Type 0
 Read = Option (List ℕ × List ℕ)

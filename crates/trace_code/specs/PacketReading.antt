@@ -1,9 +1,8 @@
 -- Reading the packets of a trace, in the manner of `Reading`.
 use Rattle.std.specs.Prelude.{ℕ, ◌+◌, ◌*◌, ◌<◌, ◌^◌, ◌==◌, ◌&&◌, List, [], ◌∷◌, ◌++◌, length, take, drop, Option, Some, None, nat_lt, if◌then◌else◌, All}
-use Rattle.std.specs.List.{flat_map, fold, enumerate_from}
+use Rattle.std.specs.List.{flat_map, fold}
 use Rattle.trace_model.specs.declared.channel.Channel.{Channel}
 use Rattle.trace_model.specs.declared.packet.Packet.{Packet}
-use Rattle.trace_model.specs.Counting.{has}
 use Rattle.trace_model.specs.Channel.{byte_count}
 use Rattle.trace_model.specs.Packet.{IsPacket, widths_under}
 use Rattle.trace_model.specs.Trace.{Alternates}
@@ -62,10 +61,6 @@ packet_at channels bytes = do
   masks ← masks_at (length channels) rest
   contents ← numbers_at (widths_under masks.0 channels) masks.2
   Some (record { starts = masks.0; ends = masks.1; contents = contents.0 }, contents.1)
-
--- the widths under a mask, of the channels from c on
-abbrev pub widths_from : ℕ → ℕ → List Channel → List ℕ
-widths_from c mask channels = flat_map (λ (x : ℕ × Channel). if has mask x.0 then x.1.widths else []) (enumerate_from c channels)
 
 -- packets that a well-formed trace with these channels has
 pub record ArePackets (channels : List Channel) (packets : List Packet) : Type 0 where

@@ -1,12 +1,11 @@
 //! Reading the header of a trace.
 
-ghost use Rattle.std.specs.Prelude.{◌≡◌, ℕ, ◌≤◌, ◌⊎◌, ◌≢◌, ◌↔◌, IsTrue, List, ◌++◌, length, All, sum_by, IfOk, IfErr, MatchResult, ◌<◌};
-ghost use Rattle.std.specs.Str.{bytes_eq};
+ghost use Rattle.std.specs.Prelude.{◌≡◌, ℕ, ◌≤◌, ◌⊎◌, ◌≢◌, ◌↔◌, IsTrue, List, ◌++◌, length, All, sum_by, IfOk, IfErr, MatchResult};
 ghost use Rattle.std.specs.List.{AllPairs, list_all, Any};
 ghost use Rattle.trace_model.specs.declared.channel.Channel.{Channel};
-ghost use Rattle.trace_model.specs.Channel.{is_letter, is_letter_or_digit, IsTable, byte_count, content_bytes};
+ghost use Rattle.trace_model.specs.Channel.{is_letter, is_letter_or_digit, IsTable, content_bytes};
 ghost use Rattle.trace_code.specs.Encoding.{header_bytes};
-ghost use Rattle.trace_code.specs.Reading.{Gives, Fails, magic_at, dir_at, counted_at, is_width, is_name, are_widths, name_at, widths_at, channel_at, channels_at, count_at, header_at, AreChannels};
+ghost use Rattle.trace_code.specs.Reading.{Gives, magic_at, dir_at, counted_at, is_width, is_name, are_widths, name_at, widths_at, channel_at, channels_at, count_at, header_at, AreChannels};
 
 use crate::error::{CodeError, FAULT};
 use crate::number::byte_count;

@@ -1,11 +1,9 @@
 //! Reading the masks and the numbers of a packet.
 
-ghost use Rattle.std.specs.Prelude.{◌≡◌, ℕ, ◌+◌, ◌*◌, ◌^◌, ◌≤◌, ◌<◌, List, [], length, nat_lt, All, Some, if◌then◌else◌};
-ghost use Rattle.trace_model.specs.declared.channel.Channel.{Channel};
-ghost use Rattle.trace_model.specs.Packet.{widths_under};
+ghost use Rattle.std.specs.Prelude.{◌≡◌, ◌^◌, ◌≤◌, length, nat_lt};
 ghost use Rattle.trace_model.specs.Channel.{byte_count};
 ghost use Rattle.trace_code.specs.Reading.{Gives};
-ghost use Rattle.trace_code.specs.PacketReading.{low_value, high_value, mask_at, number_at, numbers_at, with_front, sized_at};
+ghost use Rattle.trace_code.specs.PacketReading.{low_value, high_value, mask_at, number_at};
 
 use crate::error::{CodeError, FAULT};
 
@@ -16,6 +14,7 @@ pub(crate) fn byte_count(width: u8) -> usize
     usize::from(width).div_ceil(8)
 }
 
+// The number in the bytes, the lowest first.
 fn low_first(bytes: &[u8]) -> u128
     requires { length bytes.now ≤ 16 }
     ensures { result ≡ low_value bytes.now }
@@ -27,6 +26,7 @@ fn low_first(bytes: &[u8]) -> u128
     value
 }
 
+// The number in the bytes, the highest first.
 #[tactic(auto, unfolding(crate::specs::PacketReading::high_value))]
 fn high_first(bytes: &[u8]) -> u128
     requires { length bytes.now ≤ 16 }
@@ -39,7 +39,7 @@ fn high_first(bytes: &[u8]) -> u128
     value
 }
 
-// The number has no bit from this one on.
+// The number has this many bits at most.
 fn fits(number: u128, bits: usize) -> bool
     requires { bits ≤ 128 }
     ensures { result ≡ nat_lt number (2 ^ bits) }

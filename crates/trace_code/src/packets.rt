@@ -1,13 +1,12 @@
 //! Reading one packet of a trace.
 
-ghost use Rattle.std.specs.Prelude.{◌≡◌, ℕ, ◌+◌, ◌*◌, ◌^◌, ◌≤◌, ◌<◌, ◌⊎◌, List, [], ◌++◌, length, All, IfOk, IfErr, MatchResult, if◌then◌else◌};
-ghost use Rattle.trace_model.specs.declared.channel.Channel.{Channel};
+ghost use Rattle.std.specs.Prelude.{◌≡◌, ℕ, ◌≤◌, ◌⊎◌, List, [], ◌++◌, length, All, IfOk, IfErr, MatchResult, if◌then◌else◌};
 ghost use Rattle.trace_model.specs.declared.packet.Packet.{Packet};
 ghost use Rattle.trace_model.specs.Packet.{widths_under, IsPacket};
-ghost use Rattle.trace_model.specs.Channel.{IsChannel, IsTable};
+ghost use Rattle.trace_model.specs.Channel.{IsChannel};
 ghost use Rattle.trace_code.specs.Encoding.{packet_bytes};
 ghost use Rattle.trace_code.specs.Reading.{Gives};
-ghost use Rattle.trace_code.specs.PacketReading.{numbers_at, with_front, tag_at, masks_at, packet_at, widths_from};
+ghost use Rattle.trace_code.specs.PacketReading.{numbers_at, with_front, tag_at, masks_at, packet_at};
 
 use crate::error::{CodeError, FAULT};
 use crate::number::{read_mask, read_number};
@@ -65,6 +64,7 @@ fn count_ports(channels: &[Channel], starts: u128) -> usize
     ports
 }
 
+// The contents of the channels that start.
 fn read_contents<'a>(
     alloc: Global,
     channels: &[Channel],
@@ -83,6 +83,7 @@ fn read_contents<'a>(
     Ok((Items::from_vec(numbers), rest))
 }
 
+// The byte with which a packet begins.
 #[tactic(auto, unfolding(crate::specs::PacketReading::tag_at))]
 fn read_tag(bytes: &[u8]) -> Result<&[u8], CodeError>
     ensures { Gives (λ rest. rest.now) result (tag_at bytes.now) }

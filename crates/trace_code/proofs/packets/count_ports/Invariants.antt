@@ -1,6 +1,6 @@
 use Rattle.std.proofs.Common.{◌≡◌, ◌≤◌, ◌+◌, ◌*◌, drop, length}
 use Rattle.trace_model.specs.Packet.{widths_under}
-use Rattle.trace_code.specs.PacketReading.{widths_from}
+use Rattle.trace_code.proofs.PacketLoop.{widths_from}
 use Rattle.trace_code.proofs.packets.count_ports.Given as goal
 
 abbrev pub invariant-loop-c : goal.invariant-loop-c
