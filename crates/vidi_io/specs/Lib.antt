@@ -5,3 +5,5 @@ pub mod Listed
 pub mod Reading
 pub mod Shelf
 pub mod Sink
+pub mod MemShelf
+pub mod MemSink

@@ -4,6 +4,7 @@ ghost use Rattle.std.specs.FinMap.{get, empty, insert};
 ghost use Rattle.vidi_io.specs.Cause.{Rose};
 ghost use Rattle.vidi_io.specs.Entries.{files_of, faults_of, room_of, Became, LacksRoom, ReadFailed, RoomsStay};
 ghost use Rattle.vidi_io.specs.Fails.{next_listed, counted};
+ghost use Rattle.vidi_io.specs.MemShelf.{entries, planned, failed_writes};
 ghost use Rattle.vidi_io.specs.Listed.{FetchAnswer, KeptFront};
 ghost use Rattle.vidi_io.specs.Shelf.{Gives, GrewBySome, Later, SameCounts, appended, emptied};
 
@@ -28,10 +29,10 @@ pub struct MemShelf {
 impl MemShelf {
     /// A shelf of no files, whose counts are 0 and whose listed calls fail.
     pub fn new(alloc: Global, fails: Fails) -> MemShelf
-        ensures files { files_of result.entries.items ≡ empty }
-        ensures reads { (name : List ℕ) → faults_of result.entries.items name ≡ 0 }
-        ensures writes { result.write_faults ≡ 0 }
-        ensures plan { result.plan ≡ record { fails = fails; fetches = 0; starts = 0; appends = 0 } }
+        ensures files { files_of (entries result) ≡ empty }
+        ensures reads { (name : List ℕ) → faults_of (entries result) name ≡ 0 }
+        ensures writes { failed_writes result ≡ 0 }
+        ensures plan { planned result ≡ record { fails = fails; fetches = 0; starts = 0; appends = 0 } }
     {
         MemShelf {
             entries: Vec::new(alloc),
@@ -47,10 +48,10 @@ impl MemShelf {
 
     /// Makes these bytes the file of this name. Without memory for it the files stay.
     pub fn put_file(&mut self, name: &str, bytes: &[u8]) -> Result<(), Memory>
-        ensures ok { OnOk result (Became self.old.entries.items self.new.entries.items (insert (files_of self.old.entries.items) name.now bytes.now)) }
-        ensures err { OnErr result (Became self.old.entries.items self.new.entries.items (files_of self.old.entries.items)) }
-        ensures plan { self.new.plan ≡ self.old.plan }
-        ensures writes { self.new.write_faults ≡ self.old.write_faults }
+        ensures ok { OnOk result (Became (entries self.old) (entries self.new) (insert (files_of (entries self.old)) name.now bytes.now)) }
+        ensures err { OnErr result (Became (entries self.old) (entries self.new) (files_of (entries self.old))) }
+        ensures plan { planned self.new ≡ planned self.old }
+        ensures writes { failed_writes self.new ≡ failed_writes self.old }
     {
         hold_file(&mut self.entries, name, bytes)?;
         Ok(())
@@ -58,7 +59,7 @@ impl MemShelf {
 
     /// The bytes of the file of this name, where there is one.
     pub fn file(&self, name: &str) -> Option<&[u8]>
-        ensures { option_copied result ≡ get (files_of self.now.entries.items) name.now }
+        ensures { option_copied result ≡ get (files_of (entries self.now)) name.now }
     {
         file_of(self.entries.as_slice(), name)
     }
@@ -66,10 +67,10 @@ impl MemShelf {
     /// Takes room for a file of this name: no start or append of it that isn't listed fails
     /// while it has at most `n` bytes.
     pub fn room_for(&mut self, name: &str, n: usize) -> Result<(), Memory>
-        ensures same { Became self.old.entries.items self.new.entries.items (files_of self.old.entries.items) }
-        ensures room { OnOk result (IsSomeAnd (room_of self.new.entries.items name.now) (λ room. n ≤ room)) }
-        ensures plan { self.new.plan ≡ self.old.plan }
-        ensures writes { self.new.write_faults ≡ self.old.write_faults }
+        ensures same { Became (entries self.old) (entries self.new) (files_of (entries self.old)) }
+        ensures room { OnOk result (IsSomeAnd (room_of (entries self.new) name.now) (λ room. n ≤ room)) }
+        ensures plan { planned self.new ≡ planned self.old }
+        ensures writes { failed_writes self.new ≡ failed_writes self.old }
     {
         reserve_file(&mut self.entries, name, n)?;
         Ok(())
@@ -77,9 +78,9 @@ impl MemShelf {
 
     /// Answers a fetch that is listed, and counts it where the file is there.
     fn failed_fetch(&mut self, name: &str) -> Result<usize, FetchError>
-        ensures answer { MatchOption (get (files_of self.old.entries.items) name.now) ((result ≡ Err FetchError.Missing) × Became self.old.entries.items self.new.entries.items (files_of self.old.entries.items)) (λ _. (result ≡ Err FetchError.Failed) × ReadFailed self.old.entries.items self.new.entries.items name.now) }
-        ensures plan { self.new.plan ≡ self.old.plan }
-        ensures writes { self.new.write_faults ≡ self.old.write_faults }
+        ensures answer { MatchOption (get (files_of (entries self.old)) name.now) ((result ≡ Err FetchError.Missing) × Became (entries self.old) (entries self.new) (files_of (entries self.old))) (λ _. (result ≡ Err FetchError.Failed) × ReadFailed (entries self.old) (entries self.new) name.now) }
+        ensures plan { planned self.new ≡ planned self.old }
+        ensures writes { failed_writes self.new ≡ failed_writes self.old }
     {
         if count_fault(&mut self.entries, name) {
             return Err(FetchError::Failed);
@@ -89,10 +90,10 @@ impl MemShelf {
 
     /// Adds the first `kept` bytes of a piece, as far as there is memory, and counts a failed write.
     fn keep_front(&mut self, name: &str, piece: &[u8], kept: usize) -> Failed
-        ensures kept { KeptFront self.old.entries.items self.new.entries.items name.now (take kept piece.now) }
-        ensures plan { self.new.plan ≡ self.old.plan }
-        ensures later { self.old.write_faults ≤ self.new.write_faults }
-        ensures rose { Rose self.old.write_faults self.new.write_faults }
+        ensures kept { KeptFront (entries self.old) (entries self.new) name.now (take kept piece.now) }
+        ensures plan { planned self.new ≡ planned self.old }
+        ensures later { failed_writes self.old ≤ failed_writes self.new }
+        ensures rose { Rose (failed_writes self.old) (failed_writes self.new) }
     {
         let front = &piece[..kept.min(piece.len())];
         let _ = append_file(&mut self.entries, name, front);
@@ -102,9 +103,9 @@ impl MemShelf {
     /// Counts a failed write.
     fn fault(&mut self) -> Failed
         ensures entries { self.new.entries ≡ self.old.entries }
-        ensures plan { self.new.plan ≡ self.old.plan }
-        ensures later { self.old.write_faults ≤ self.new.write_faults }
-        ensures rose { Rose self.old.write_faults self.new.write_faults }
+        ensures plan { planned self.new ≡ planned self.old }
+        ensures later { failed_writes self.old ≤ failed_writes self.new }
+        ensures rose { Rose (failed_writes self.old) (failed_writes self.new) }
     {
         self.write_faults = self.write_faults.saturating_add(1);
         Failed
@@ -120,16 +121,16 @@ impl Shelf for MemShelf {
 
     fn fetch(&mut self, name: &str, at: u64, buf: &mut [u8]) -> Result<usize, FetchError>
         ensures within { IfOk result (λ n. n ≤ length buf.new) }
-        ensures bytes { IfOk result (λ n. IsSomeAnd (get (files_of self.old.entries.items) name.now) (λ file. Gives file at n buf.new)) }
-        ensures missing { IsErrOf result FetchError.Missing → get (files_of self.old.entries.items) name.now ≡ None }
-        ensures absent { get (files_of self.old.entries.items) name.now ≡ None → result ≡ Err FetchError.Missing }
-        ensures quiet { IsErrOf result FetchError.Missing → SameCounts (faults_of self.old.entries.items) (faults_of self.new.entries.items) self.old.write_faults self.new.write_faults }
-        ensures failed { IsErrOf result FetchError.Failed → Rose (faults_of self.old.entries.items name.now) (faults_of self.new.entries.items name.now) }
-        ensures files { Some (files_of self.new.entries.items) ≡ Some (files_of self.old.entries.items) }
-        ensures counts { Later (faults_of self.old.entries.items) (faults_of self.new.entries.items) self.old.write_faults self.new.write_faults }
-        ensures answer { FetchAnswer (get (files_of self.old.entries.items) name.now) (next_listed self.old.plan FailCall.Fetch) result }
-        ensures plan { self.new.plan ≡ counted self.old.plan FailCall.Fetch }
-        ensures rooms { RoomsStay self.old.entries.items self.new.entries.items }
+        ensures bytes { IfOk result (λ n. IsSomeAnd (get (files_of (entries self.old)) name.now) (λ file. Gives file at n buf.new)) }
+        ensures missing { IsErrOf result FetchError.Missing → get (files_of (entries self.old)) name.now ≡ None }
+        ensures absent { get (files_of (entries self.old)) name.now ≡ None → result ≡ Err FetchError.Missing }
+        ensures quiet { IsErrOf result FetchError.Missing → SameCounts (faults_of (entries self.old)) (faults_of (entries self.new)) (failed_writes self.old) (failed_writes self.new) }
+        ensures failed { IsErrOf result FetchError.Failed → Rose (faults_of (entries self.old) name.now) (faults_of (entries self.new) name.now) }
+        ensures files { Some (files_of (entries self.new)) ≡ Some (files_of (entries self.old)) }
+        ensures counts { Later (faults_of (entries self.old)) (faults_of (entries self.new)) (failed_writes self.old) (failed_writes self.new) }
+        ensures answer { FetchAnswer (get (files_of (entries self.old)) name.now) (next_listed (planned self.old) FailCall.Fetch) result }
+        ensures plan { planned self.new ≡ counted (planned self.old) FailCall.Fetch }
+        ensures rooms { RoomsStay (entries self.old) (entries self.new) }
     {
         match self.plan.next(FailCall::Fetch) {
             Some(_) => self.failed_fetch(name),
@@ -141,15 +142,15 @@ impl Shelf for MemShelf {
     }
 
     fn start(&mut self, name: &str) -> Result<(), Failed>
-        ensures ok { OnOk result (Some (files_of self.new.entries.items) ≡ emptied (Some (files_of self.old.entries.items)) name.now) }
-        ensures err { OnErr result ((Some (files_of self.new.entries.items) ≡ Some (files_of self.old.entries.items)) ⊎ (Some (files_of self.new.entries.items) ≡ emptied (Some (files_of self.old.entries.items)) name.now)) }
-        ensures failed { OnErr result (Rose self.old.write_faults self.new.write_faults) }
-        ensures counts { Later (faults_of self.old.entries.items) (faults_of self.new.entries.items) self.old.write_faults self.new.write_faults }
-        ensures left { OnErr result (Became self.old.entries.items self.new.entries.items (files_of self.old.entries.items)) }
-        ensures listed { OnSome (next_listed self.old.plan FailCall.Start) (IsErr result) }
-        ensures unlisted { IfNone (next_listed self.old.plan FailCall.Start) (OnErr result (room_of self.old.entries.items name.now ≡ None)) }
-        ensures plan { self.new.plan ≡ counted self.old.plan FailCall.Start }
-        ensures rooms { RoomsStay self.old.entries.items self.new.entries.items }
+        ensures ok { OnOk result (Some (files_of (entries self.new)) ≡ emptied (Some (files_of (entries self.old))) name.now) }
+        ensures err { OnErr result ((Some (files_of (entries self.new)) ≡ Some (files_of (entries self.old))) ⊎ (Some (files_of (entries self.new)) ≡ emptied (Some (files_of (entries self.old))) name.now)) }
+        ensures failed { OnErr result (Rose (failed_writes self.old) (failed_writes self.new)) }
+        ensures counts { Later (faults_of (entries self.old)) (faults_of (entries self.new)) (failed_writes self.old) (failed_writes self.new) }
+        ensures left { OnErr result (Became (entries self.old) (entries self.new) (files_of (entries self.old))) }
+        ensures listed { OnSome (next_listed (planned self.old) FailCall.Start) (IsErr result) }
+        ensures unlisted { IfNone (next_listed (planned self.old) FailCall.Start) (OnErr result (room_of (entries self.old) name.now ≡ None)) }
+        ensures plan { planned self.new ≡ counted (planned self.old) FailCall.Start }
+        ensures rooms { RoomsStay (entries self.old) (entries self.new) }
     {
         if self.plan.next(FailCall::Start).is_some() {
             return Err(self.fault());
@@ -161,14 +162,14 @@ impl Shelf for MemShelf {
     }
 
     fn append(&mut self, name: &str, piece: &[u8]) -> Result<(), Failed>
-        ensures ok { OnOk result (Some (files_of self.new.entries.items) ≡ appended (Some (files_of self.old.entries.items)) name.now piece.now) }
-        ensures err { OnErr result (GrewBySome (Some (files_of self.old.entries.items)) (Some (files_of self.new.entries.items)) name.now piece.now) }
-        ensures failed { OnErr result (Rose self.old.write_faults self.new.write_faults) }
-        ensures counts { Later (faults_of self.old.entries.items) (faults_of self.new.entries.items) self.old.write_faults self.new.write_faults }
-        ensures listed { IfSome (next_listed self.old.plan FailCall.Append) (λ fail. IsErr result × KeptFront self.old.entries.items self.new.entries.items name.now (take fail.kept piece.now)) }
-        ensures unlisted { IfNone (next_listed self.old.plan FailCall.Append) (OnErr result (Became self.old.entries.items self.new.entries.items (files_of self.old.entries.items) × LacksRoom self.old.entries.items name.now (length piece.now))) }
-        ensures plan { self.new.plan ≡ counted self.old.plan FailCall.Append }
-        ensures rooms { RoomsStay self.old.entries.items self.new.entries.items }
+        ensures ok { OnOk result (Some (files_of (entries self.new)) ≡ appended (Some (files_of (entries self.old))) name.now piece.now) }
+        ensures err { OnErr result (GrewBySome (Some (files_of (entries self.old))) (Some (files_of (entries self.new))) name.now piece.now) }
+        ensures failed { OnErr result (Rose (failed_writes self.old) (failed_writes self.new)) }
+        ensures counts { Later (faults_of (entries self.old)) (faults_of (entries self.new)) (failed_writes self.old) (failed_writes self.new) }
+        ensures listed { IfSome (next_listed (planned self.old) FailCall.Append) (λ fail. IsErr result × KeptFront (entries self.old) (entries self.new) name.now (take fail.kept piece.now)) }
+        ensures unlisted { IfNone (next_listed (planned self.old) FailCall.Append) (OnErr result (Became (entries self.old) (entries self.new) (files_of (entries self.old)) × LacksRoom (entries self.old) name.now (length piece.now))) }
+        ensures plan { planned self.new ≡ counted (planned self.old) FailCall.Append }
+        ensures rooms { RoomsStay (entries self.old) (entries self.new) }
     {
         match self.plan.next(FailCall::Append) {
             Some(kept) => Err(self.keep_front(name, piece, kept)),

@@ -2,6 +2,7 @@ ghost use Rattle.std.specs.Prelude.{◌≡◌, ◌+◌, ◌<◌, ◌≤◌, [], 
 ghost use Rattle.std.specs.Io.KnownBytes.{append_known};
 ghost use Rattle.vidi_io.specs.Cause.{HasCause};
 ghost use Rattle.vidi_io.specs.Fails.{push_listed, one_more};
+ghost use Rattle.vidi_io.specs.MemSink.{written, capacity, listed, pushes_made, failed_pushes};
 ghost use Rattle.vidi_io.specs.Sink.{AppendsSome};
 
 use crate::sink::{Failed, Sink};
@@ -22,10 +23,10 @@ impl MemSink {
     /// A sink of no bytes, whose count is 0. `fails` has the numbers of the pushes that fail, counted
     /// from 1 to at most 4,294,967,295.
     pub fn new(alloc: Global, fails: Numbers) -> MemSink
-        ensures bytes { result.bytes.items ≡ [] }
-        ensures faults { result.faults ≡ 0 }
-        ensures fails { result.fails ≡ fails }
-        ensures pushes { result.pushes ≡ 0 }
+        ensures bytes { written result ≡ [] }
+        ensures faults { failed_pushes result ≡ 0 }
+        ensures fails { listed result ≡ fails }
+        ensures pushes { pushes_made result ≡ 0 }
     {
         MemSink {
             bytes: Vec::new(alloc),
@@ -37,7 +38,7 @@ impl MemSink {
 
     /// The bytes written so far.
     pub fn bytes(&self) -> &[u8]
-        ensures { result.now ≡ self.now.bytes.items }
+        ensures { result.now ≡ written self.now }
     {
         self.bytes.as_slice()
     }
@@ -45,10 +46,12 @@ impl MemSink {
     /// Takes room for `n` bytes more: no push that isn't listed fails while at most `n` further bytes
     /// were pushed.
     pub fn room_for(&mut self, n: usize) -> Result<(), Memory>
-        ensures same { self.new ≡ record self.old { bytes = self.new.bytes } }
-        ensures bytes { self.new.bytes.items ≡ self.old.bytes.items }
-        ensures more { vec_capacity self.old.bytes ≤ vec_capacity self.new.bytes }
-        ensures room { OnOk result (length self.old.bytes.items + n ≤ vec_capacity self.new.bytes) }
+        ensures fails { listed self.new ≡ listed self.old }
+        ensures pushes { pushes_made self.new ≡ pushes_made self.old }
+        ensures faults { failed_pushes self.new ≡ failed_pushes self.old }
+        ensures bytes { written self.new ≡ written self.old }
+        ensures more { capacity self.old ≤ capacity self.new }
+        ensures room { OnOk result (length (written self.old) + n ≤ capacity self.new) }
     {
         self.bytes.reserve(n)?;
         Ok(())
@@ -56,8 +59,8 @@ impl MemSink {
 
     /// Counts a push, and says whether it is listed.
     fn next(&mut self) -> bool
-        ensures listed { result ≡ push_listed self.old.fails self.old.pushes }
-        ensures pushes { self.new ≡ record self.old { pushes = one_more self.old.pushes } }
+        ensures listed { result ≡ push_listed (listed self.old) (pushes_made self.old) }
+        ensures pushes { self.new ≡ record self.old { pushes = one_more (pushes_made self.old) } }
     {
         match self.pushes.checked_add(1) {
             Some(number) => {
@@ -81,14 +84,14 @@ impl Sink for MemSink {
     ghost has_frame = { λ _ _. Unit {0} };
 
     fn push(&mut self, piece: &[u8]) -> Result<(), Failed>
-        ensures ok { OnOk result (Some self.new.bytes.items ≡ append_known (Some self.old.bytes.items) piece.now) }
-        ensures err { OnErr result (AppendsSome (Some self.old.bytes.items) (Some self.new.bytes.items) piece.now) }
-        ensures cause { HasCause self.old.faults self.new.faults result }
-        ensures left { OnErr result (self.new.bytes.items ≡ self.old.bytes.items) }
-        ensures listed { MatchBool (push_listed self.old.fails self.old.pushes) (IsErr result) (OnErr result (vec_capacity self.old.bytes < length self.old.bytes.items + length piece.now)) }
-        ensures pushes { self.new.pushes ≡ one_more self.old.pushes }
-        ensures fails { self.new.fails ≡ self.old.fails }
-        ensures room { vec_capacity self.old.bytes ≤ vec_capacity self.new.bytes }
+        ensures ok { OnOk result (Some (written self.new) ≡ append_known (Some (written self.old)) piece.now) }
+        ensures err { OnErr result (AppendsSome (Some (written self.old)) (Some (written self.new)) piece.now) }
+        ensures cause { HasCause (failed_pushes self.old) (failed_pushes self.new) result }
+        ensures left { OnErr result (written self.new ≡ written self.old) }
+        ensures listed { MatchBool (push_listed (listed self.old) (pushes_made self.old)) (IsErr result) (OnErr result (capacity self.old < length (written self.old) + length piece.now)) }
+        ensures pushes { pushes_made self.new ≡ one_more (pushes_made self.old) }
+        ensures fails { listed self.new ≡ listed self.old }
+        ensures room { capacity self.old ≤ capacity self.new }
     {
         if self.next() || self.bytes.extend_from_slice(piece).is_err() {
             self.faults = self.faults.saturating_add(1);
