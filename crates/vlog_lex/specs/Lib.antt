@@ -1,0 +1,6 @@
+pub mod Span
+pub mod Words
+pub mod Lexeme
+pub mod Gap
+pub mod Reading
+pub mod Front
