@@ -151,16 +151,17 @@ reads_stuck bytes rest tokens line n reads some gap no_gap token = record {
   rest = rest;
   leads = reads.leads;
   some = λ e. eqb-false (length rest) 0 some (ap length e);
-  none = λ piece after e lawful. neither piece after rest e lawful (gap.none (omega arith)) token;
+  no_gap = gap.none (omega arith);
+  no_token = token;
 }
-  where
-    neither : (piece : Piece) (after rest : List ℕ) → rest ≡ text_of piece ++ after → IsPiece piece after
-        → ((front tail : List ℕ) → front ++ tail ≡ rest → ¬ IsGap front tail) → ((kind : TokenKind) (front tail : List ℕ) → front ++ tail ≡ rest → ¬ IsToken kind front) → ⊥
-    neither (Gap text) after rest e lawful gap token = gap text after (sym e) lawful
-    neither (Lexeme kind text) after rest e lawful gap token = token kind text after (sym e) lawful.token
 
 pub one_answer : (bytes : List ℕ) (ts us : List Token) → HasTokens bytes ts → HasTokens bytes us → ts ≡ us
 one_answer bytes ts us a b = a.2 ∙ ap (tokens_of 1) (one_reading a.0 b.0 bytes a.1 b.1) ∙ sym b.2
 
 pub not_both : (bytes : List ℕ) (ts : List Token) → HasTokens bytes ts → ¬ IsStuck bytes
-not_both bytes ts a stuck = no_stop a.0 stuck.pieces bytes stuck.rest a.1 stuck.leads stuck.some stuck.none
+not_both bytes ts a stuck = no_stop a.0 stuck.pieces bytes stuck.rest a.1 stuck.leads stuck.some (λ piece after e lawful. neither piece after stuck.rest e lawful stuck.no_gap stuck.no_token)
+  where
+    neither : (piece : Piece) (after rest : List ℕ) → rest ≡ text_of piece ++ after → IsPiece piece after
+        → ((text after : List ℕ) → text ++ after ≡ rest → ¬ IsGap text after) → ((kind : TokenKind) (text after : List ℕ) → text ++ after ≡ rest → ¬ IsToken kind text) → ⊥
+    neither (Gap text) after rest e lawful gap token = gap text after (sym e) lawful
+    neither (Lexeme kind text) after rest e lawful gap token = token kind text after (sym e) lawful.token

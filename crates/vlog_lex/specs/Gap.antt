@@ -1,4 +1,4 @@
--- What stands between tokens (IEEE 1364-2005, 3.2, 3.3 and 19; this project's profile).
+-- What stands between tokens (IEEE 1364-2005, 3.2, 3.3, 19.2 and 19.8; this project's profile).
 use Rattle.std.specs.Prelude.{◌≡◌, ℕ, Bool, IsTrue, List, [], ◌∷◌, ◌++◌, ◌==◌, ◌⊎◌, not, codes}
 use Rattle.std.specs.Char.{is_ascii_whitespace}
 use Rattle.vlog_lex.specs.Span.{IsSpan}

@@ -19,7 +19,7 @@ continues_name b = begins_name b || (is_ascii_digit b || (b == 36))
 abbrev pub IsName : List ℕ → Type 0
 IsName text = IsRun begins_name continues_name text
 
--- 3.5.1: a digit of the base whose letter is given, in either case: b, o, d or h
+-- 3.5.1: a digit of the base whose letter is given, in either case: b (98, 66), o (111, 79), d (100, 68) or h (104, 72)
 abbrev pub is_digit_of : ℕ → ℕ → Bool
 is_digit_of base b =
     (((base == 98) || (base == 66)) && is_in_range 48 49 b)
@@ -48,7 +48,7 @@ pub record IsBased (text : List ℕ) : Type 0 where
   pub sized : (size ≡ []) ⊎ IsDecimal size
   pub valued : IsDigits base digits
 
--- 3.3 and 5.1: an operator or punctuation
+-- 3.4: an operator or punctuation
 abbrev pub IsSymbol : List ℕ → Type 0
 IsSymbol text = IsTrue (is_symbol text)
 

@@ -4,7 +4,7 @@ use Rattle.vlog_lex.specs.declared.token.Token.{Token}
 use Rattle.vlog_lex.specs.declared.token.TokenKind.{TokenKind}
 use Rattle.vlog_lex.specs.declared.error.LexError.{LexError}
 use Rattle.vlog_lex.specs.declared.error.LexError.TheVariants.{Word, Memory}
-use Rattle.vlog_lex.specs.Lexeme.{IsLongest}
+use Rattle.vlog_lex.specs.Lexeme.{IsToken, IsLongest}
 use Rattle.vlog_lex.specs.Gap.{IsGap}
 
 pub data Piece : Type 0 where
@@ -43,13 +43,14 @@ tokens_of line (piece ∷ pieces) = token_of line piece ++ tokens_of (line + new
 abbrev pub HasTokens : List ℕ → List Token → Type 0
 HasTokens bytes tokens = (pieces : List Piece) × Leads pieces bytes [] × (tokens ≡ tokens_of 1 pieces)
 
--- E1: a place is reached at which neither a gap nor a token begins
+-- `Word`: a place is reached at which neither a gap nor a token begins
 pub record IsStuck (bytes : List ℕ) : Type 0 where
   pub pieces : List Piece
   pub rest : List ℕ
   pub leads : Leads pieces bytes rest
   pub some : rest ≢ []
-  pub none : (piece : Piece) (after : List ℕ) → rest ≡ text_of piece ++ after → ¬ IsPiece piece after
+  pub no_gap : (text after : List ℕ) → text ++ after ≡ rest → ¬ IsGap text after
+  pub no_token : (kind : TokenKind) (text after : List ℕ) → text ++ after ≡ rest → ¬ IsToken kind text
 
 -- what `lex` answers for these bytes
 abbrev pub Lexes : List ℕ → Result (List Token) LexError → Type 0
@@ -61,6 +62,6 @@ Lexes bytes (Err Memory) = Unit {0}
 abbrev pub OneReading : Type 0
 OneReading = (bytes : List ℕ) (ts us : List Token) → HasTokens bytes ts → HasTokens bytes us → ts ≡ us
 
--- no bytes have tokens and E1
+-- no bytes both have tokens and are stuck
 abbrev pub ReadOrStuck : Type 0
 ReadOrStuck = (bytes : List ℕ) (ts : List Token) → HasTokens bytes ts → ¬ IsStuck bytes

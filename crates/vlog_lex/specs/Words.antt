@@ -33,7 +33,7 @@ reserved_words =
     codes "wand" ∷ codes "weak0" ∷ codes "weak1" ∷ codes "while" ∷ codes "wire" ∷ codes "wor" ∷ codes "xnor" ∷
     codes "xor" ∷ []
 
--- IEEE 1364-2005, 3.3 and 5.1: the operators and punctuation of this project's profile
+-- IEEE 1364-2005, 3.4: the operators and punctuation of this project's profile
 abbrev pub symbols : List (List ℕ)
 symbols =
     codes "(" ∷ codes ")" ∷ codes "[" ∷ codes "]" ∷ codes "{" ∷ codes "}" ∷ codes ";" ∷ codes "," ∷ codes "." ∷
@@ -42,7 +42,7 @@ symbols =
     codes "==" ∷ codes "!=" ∷ codes "&&" ∷ codes "||" ∷ codes "<<" ∷ codes ">>" ∷ codes "<<<" ∷ codes ">>>" ∷
     codes "~&" ∷ codes "~|" ∷ codes "~^" ∷ codes "^~" ∷ codes "+:" ∷ []
 
--- IEEE 1364-2005, 19: the compiler directives of this project's profile
+-- IEEE 1364-2005, 19.2 and 19.8: the compiler directives of this project's profile
 abbrev pub directives : List (List ℕ)
 directives = codes "timescale" ∷ codes "default_nettype" ∷ []
 

@@ -1,4 +1,4 @@
-use Rattle.std.proofs.Common.{sym, ◌∙◌, arith}
+use Rattle.std.proofs.Common.{sym, ◌∙◌, refl}
 use Rattle.vlog_lex.proofs.Readings.{reads_gap, reads_token, reads_all, reads_stuck, shorter, one_answer, not_both}
 use Rattle.vlog_lex.proofs.lexer.lex.Goals as goal
 
@@ -13,10 +13,17 @@ loop-rest-preserved c =
 pub loop-rest-smaller : goal.loop-rest-smaller
 loop-rest-smaller c = shorter c.loop-rest.rest.now c.in-Some.len c.in-Some.kind c.in-Some.ensures.0 c.in-Some.ensures.1
 
+pub returns-in_default-clause-answer : goal.returns-in_default-clause-answer
+returns-in_default-clause-answer c =
+    (refl, reads_stuck c.args.bytes.now c.loop-rest.rest.now c.loop-rest.tokens c.loop-rest.line c.gap_len-gap.result c.loop-rest.invariant (sym c.is_empty.ensures ∙ c.loop-rest-test.true) c.gap_len-gap.ensures c.if-gap-gt0.false c.in_default.ensures)
+
 pub returns-in_default-clause-only : goal.returns-in_default-clause-only
 returns-in_default-clause-only c = λ tokens has.
     absurd (not_both c.args.bytes.now tokens has
     (reads_stuck c.args.bytes.now c.loop-rest.rest.now c.loop-rest.tokens c.loop-rest.line c.gap_len-gap.result c.loop-rest.invariant (sym c.is_empty.ensures ∙ c.loop-rest-test.true) c.gap_len-gap.ensures c.if-gap-gt0.false c.in_default.ensures))
+
+pub returns-clause-answer : goal.returns-clause-answer
+returns-clause-answer c = reads_all c.args.bytes.now c.loop-rest.rest.now c.loop-rest.tokens c.loop-rest.line c.loop-rest.invariant (sym c.is_empty.ensures ∙ c.loop-rest-test.false)
 
 pub returns-clause-only : goal.returns-clause-only
 returns-clause-only c = λ tokens has.
