@@ -27,6 +27,91 @@ const FLICK_TOKENS: &str =
 const SYMBOLS: &str =
     "( ) [ ] { } ; , . : ? # @ = + - * ! ~ & | ^ < > <= >= == != && || << >> <<< >>> ~& ~| ~^ ^~ +:";
 
+const CASES: [(&str, &[(TokenKind, &str, u32)]); 15] = [
+    (
+        "a$b _ Begin",
+        &[
+            (Identifier, "a$b", 1),
+            (Identifier, "_", 1),
+            (Identifier, "Begin", 1),
+        ],
+    ),
+    (
+        "begin or endmodule2",
+        &[
+            (Reserved, "begin", 1),
+            (Reserved, "or", 1),
+            (Identifier, "endmodule2", 1),
+        ],
+    ),
+    (
+        "1_000_ 9a",
+        &[
+            (Decimal, "1_000_", 1),
+            (Decimal, "9", 1),
+            (Identifier, "a", 1),
+        ],
+    ),
+    (
+        "'hF 16'Hde_ad 1_2'o7",
+        &[
+            (Based, "'hF", 1),
+            (Based, "16'Hde_ad", 1),
+            (Based, "1_2'o7", 1),
+        ],
+    ),
+    ("4'b012", &[(Based, "4'b01", 1), (Decimal, "2", 1)]),
+    ("<<<<<", &[(Other, "<<<", 1), (Other, "<<", 1)]),
+    (
+        "a<==b",
+        &[
+            (Identifier, "a", 1),
+            (Other, "<=", 1),
+            (Other, "=", 1),
+            (Identifier, "b", 1),
+        ],
+    ),
+    (
+        "^~^&&&",
+        &[
+            (Other, "^~", 1),
+            (Other, "^", 1),
+            (Other, "&&", 1),
+            (Other, "&", 1),
+        ],
+    ),
+    ("", &[]),
+    (" \t\r\n\x0c", &[]),
+    (
+        "a // b\r c\nd",
+        &[(Identifier, "a", 1), (Identifier, "d", 2)],
+    ),
+    (
+        "a /* b\n\n // */ c",
+        &[(Identifier, "a", 1), (Identifier, "c", 3)],
+    ),
+    ("/*/ a /* */ b", &[(Identifier, "b", 1)]),
+    ("`timescale 1ns /*\na", &[(Identifier, "a", 2)]),
+    ("`default_nettype none", &[]),
+];
+
+const REFUSED: [&str; 14] = [
+    "4'hx",
+    "8'd",
+    "8'd_9",
+    "a $b",
+    "/*/",
+    "a /* b *",
+    "a / b",
+    "`timescalex",
+    "`timescale1",
+    "` timescale",
+    "`define",
+    "\"a\"",
+    "% 1",
+    "é",
+];
+
 fn expect_tokens(
     rt: &impl Abort,
     alloc: Global,
@@ -44,167 +129,57 @@ fn expect_tokens(
     Ok(())
 }
 
-fn expect_word(rt: &impl Abort, alloc: Global, text: &str) {
-    assert!(rt; text.len() < 10000);
-    let answer = lex(alloc, text.as_bytes());
-    assert!(rt;
-        matches!(answer, Err(LexError::Word { line: 0 })),
-        "{text:?}"
-    );
-}
-
-// Each line of a design has the tokens that a reader counts in it.
+// The numbers of tokens are those that a reader counts in each line.
 #[test]
-fn a_design_has_its_tokens_by_line(rt: HostRuntime) -> Result<(), Fail> {
+fn each_line_of_a_design_has_its_tokens(rt: HostRuntime) -> Result<(), Fail> {
     assert!(rt; PASS.len() < 10000);
     let tokens = lex(rt.alloc(), PASS.as_bytes())?;
-    let counts = [20usize, 15, 3, 8, 6, 5, 5, 6, 16, 9, 1];
-    let mut line = 1u32;
-    for count in counts {
+    assert_eq!(rt; tokens.len(), 94);
+    for (line, count) in [
+        (1, 20usize),
+        (2, 15),
+        (3, 3),
+        (4, 8),
+        (8, 6),
+        (9, 16),
+        (10, 9),
+        (11, 1),
+    ] {
         let found = tokens.as_slice().iter().filter(|t| t.line == line).count();
         assert_eq!(rt; found, count, "line {line}");
-        assert!(rt; line < 100);
-        line += 1;
-    }
-    assert_eq!(rt; tokens.len(), 94);
-    Ok(())
-}
-
-#[test]
-fn a_design_has_its_tokens_in_order(rt: HostRuntime) -> Result<(), Fail> {
-    assert!(rt; FLICK.len() < 10000);
-    let tokens = lex(rt.alloc(), FLICK.as_bytes())?;
-    assert_eq!(rt; tokens.len(), 33);
-    for (token, word) in tokens.as_slice().iter().zip(FLICK_TOKENS.split(' ')) {
-        assert_eq!(rt; token.text.as_slice(), word.as_bytes());
     }
     Ok(())
 }
 
 #[test]
-fn each_kind_has_its_texts(rt: HostRuntime) -> Result<(), Fail> {
-    let alloc = rt.alloc();
-    expect_tokens(
-        &rt,
-        alloc,
-        "a$b _ _9 Begin endmodule2",
-        &[
-            (Identifier, "a$b", 1),
-            (Identifier, "_", 1),
-            (Identifier, "_9", 1),
-            (Identifier, "Begin", 1),
-            (Identifier, "endmodule2", 1),
-        ],
-    )?;
-    expect_tokens(
-        &rt,
-        alloc,
-        "begin or pulsestyle_ondetect",
-        &[
-            (Reserved, "begin", 1),
-            (Reserved, "or", 1),
-            (Reserved, "pulsestyle_ondetect", 1),
-        ],
-    )?;
-    expect_tokens(
-        &rt,
-        alloc,
-        "1_000_ 0",
-        &[(Decimal, "1_000_", 1), (Decimal, "0", 1)],
-    )?;
-    expect_tokens(
-        &rt,
-        alloc,
-        "'hF 16'Hde_ad 4'b012 1_2'o7 9a",
-        &[
-            (Based, "'hF", 1),
-            (Based, "16'Hde_ad", 1),
-            (Based, "4'b01", 1),
-            (Decimal, "2", 1),
-            (Based, "1_2'o7", 1),
-            (Decimal, "9", 1),
-            (Identifier, "a", 1),
-        ],
-    )?;
-    let symbols = lex(alloc, SYMBOLS.as_bytes())?;
-    assert_eq!(rt; symbols.len(), 39);
-    for symbol in symbols.as_slice() {
-        assert_eq!(rt; symbol.kind, Other);
+fn tokens_come_in_the_order_of_the_text(rt: HostRuntime) -> Result<(), Fail> {
+    for (text, words, count) in [(FLICK, FLICK_TOKENS, 33), (SYMBOLS, SYMBOLS, 39)] {
+        assert!(rt; text.len() < 10000);
+        let tokens = lex(rt.alloc(), text.as_bytes())?;
+        assert_eq!(rt; tokens.len(), count);
+        for (token, word) in tokens.as_slice().iter().zip(words.split(' ')) {
+            assert_eq!(rt; token.text.as_slice(), word.as_bytes());
+        }
     }
     Ok(())
 }
 
 #[test]
-fn the_longest_token_is_taken(rt: HostRuntime) -> Result<(), Fail> {
-    let alloc = rt.alloc();
-    expect_tokens(&rt, alloc, "<<<<<", &[(Other, "<<<", 1), (Other, "<<", 1)])?;
-    expect_tokens(
-        &rt,
-        alloc,
-        "a<=b=>c",
-        &[
-            (Identifier, "a", 1),
-            (Other, "<=", 1),
-            (Identifier, "b", 1),
-            (Other, "=", 1),
-            (Other, ">", 1),
-            (Identifier, "c", 1),
-        ],
-    )?;
-    expect_tokens(
-        &rt,
-        alloc,
-        "^~^&&&",
-        &[
-            (Other, "^~", 1),
-            (Other, "^", 1),
-            (Other, "&&", 1),
-            (Other, "&", 1),
-        ],
-    )
+fn texts_have_the_longest_tokens(rt: HostRuntime) -> Result<(), Fail> {
+    for (text, expected) in CASES {
+        expect_tokens(&rt, rt.alloc(), text, expected)?;
+    }
+    Ok(())
 }
 
 #[test]
-fn white_space_and_comments_are_dropped(rt: HostRuntime) -> Result<(), Fail> {
-    let alloc = rt.alloc();
-    expect_tokens(&rt, alloc, "", &[])?;
-    expect_tokens(&rt, alloc, " \t\r\n\x0c", &[])?;
-    expect_tokens(
-        &rt,
-        alloc,
-        "a // b\r c\nd",
-        &[(Identifier, "a", 1), (Identifier, "d", 2)],
-    )?;
-    expect_tokens(
-        &rt,
-        alloc,
-        "a /* b\n\n // */ c",
-        &[(Identifier, "a", 1), (Identifier, "c", 3)],
-    )?;
-    expect_tokens(&rt, alloc, "/*/ a /* */ b", &[(Identifier, "b", 1)])?;
-    expect_tokens(&rt, alloc, "`timescale 1ns /*\na", &[(Identifier, "a", 2)])?;
-    expect_tokens(&rt, alloc, "`default_nettype none", &[])
-}
-
-#[test]
-fn where_no_token_begins_a_text_is_refused(rt: HostRuntime) {
-    let alloc = rt.alloc();
-    for text in [
-        "4'hx",
-        "8'd",
-        "8'd_9",
-        "a $b",
-        "/*/",
-        "a /* b *",
-        "a / b",
-        "`timescalex",
-        "`timescale1",
-        "` timescale",
-        "`define",
-        "\"a\"",
-        "% 1",
-        "é",
-    ] {
-        expect_word(&rt, alloc, text);
+fn a_text_is_refused_where_no_token_begins(rt: HostRuntime) {
+    for text in REFUSED {
+        assert!(rt; text.len() < 10000);
+        let answer = lex(rt.alloc(), text.as_bytes());
+        assert!(rt;
+            matches!(answer, Err(LexError::Word { line: 0 })),
+            "{text:?}"
+        );
     }
 }
