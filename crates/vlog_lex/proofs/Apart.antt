@@ -1,10 +1,10 @@
 -- No byte begins both a gap and a token.
-use Rattle.std.proofs.Common.{◌≡◌, ℕ, Bool, true, false, not, List, [], ◌∷◌, ◌++◌, ◌⊎◌, ◌==◌, ◌||◌, inl, inr, sym, refl, ap, ◌∙◌, ⊎_elim, subst, arith}
+use Rattle.std.proofs.Common.{◌≡◌, ℕ, Bool, true, false, not, List, [], ◌∷◌, ◌++◌, ◌⊎◌, ◌==◌, ◌||◌, inl, inr, sym, refl, ap, ◌∙◌, arith}
 use Rattle.std.specs.Char.{is_ascii_whitespace}
 use Rattle.std.proofs.lemmas.Bool.{both_ways, or_left, not-true}
 use Rattle.std.proofs.lemmas.Bool.Decides.{nat_tests}
 use Rattle.vlog_lex.specs.Words.{symbols, is_symbol}
-use Rattle.vlog_lex.specs.Lexeme.{begins_name, is_digit_of, IsName, IsDecimal, IsBased, IsToken}
+use Rattle.vlog_lex.specs.Lexeme.{begins_name, is_digit_of, IsName, IsDecimal, IsToken}
 use Rattle.vlog_lex.specs.Gap.{IsGap}
 use Rattle.vlog_lex.specs.declared.token.TokenKind.{TokenKind}
 use Rattle.vlog_lex.specs.declared.token.TokenKind.TheVariants.{Identifier, Reserved, Decimal, Based, Other}

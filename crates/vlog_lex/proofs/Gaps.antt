@@ -1,18 +1,17 @@
 -- A place has one gap at most.
-use Rattle.std.proofs.Common.{◌≡◌, ℕ, suc, ◌+◌, ◌-◌, ◌<◌, ◌≤◌, Bool, true, false, cond, not, List, [], ◌∷◌, ◌++◌, ◌⊎◌, ◌==◌, ◌||◌, Bor, Option, Some, None, IfSome, IfNone, MatchOption, inl, inr, length, take, drop, get_or, eqb, codes, sym, refl, ap, ◌∙◌, subst, ⊎_elim, arith, append_assoc, append-nil, take-append-drop, length-take-le, length-append, length-take, length-drop, take_at, drop_at, get_or-take, get_or-append-add}
+use Rattle.std.proofs.Common.{◌≡◌, ℕ, suc, ◌+◌, ◌-◌, ◌<◌, ◌≤◌, true, false, cond, List, [], ◌∷◌, ◌++◌, ◌==◌, Bor, Option, Some, None, IfSome, IfNone, MatchOption, inl, inr, length, take, drop, get_or, codes, sym, refl, ap, ◌∙◌, subst, ⊎_elim, arith, append_assoc, append-nil, take-append-drop, length-take-le, length-append, length-drop, take_at, get_or-take, get_or-append-add}
 use Rattle.std.specs.List.{prefix_len}
 use Rattle.std.specs.Char.{is_ascii_whitespace}
-use Rattle.std.proofs.lemmas.Bool.{false≢true, eqb-true, cases_lt, both_ways}
-use Rattle.std.proofs.lemmas.Bool.Decides.{nat_tests}
+use Rattle.std.proofs.lemmas.Bool.{cases_lt, both_ways}
 use Rattle.std.proofs.lemmas.List.{append_cancel_left, take_more, nil_from_length}
 use Rattle.std.proofs.lemmas.List.Sums.{prefix_len-le-length}
 use Rattle.std.proofs.Math.Seq.{take-append-add, drop-append-add}
-use Rattle.vlog_lex.specs.Span.{Each, Stops, IsSpan}
+use Rattle.vlog_lex.specs.Span.{IsSpan}
 use Rattle.vlog_lex.specs.Front.{IsFrontBefore}
 use Rattle.vlog_lex.specs.Words.{is_directive}
 use Rattle.vlog_lex.specs.Lexeme.{continues_name}
-use Rattle.vlog_lex.specs.Gap.{is_no_newline, EndsLine, IsWhite, IsLineComment, EndsComment, IsBlockComment, IsDirective, IsGap}
-use Rattle.vlog_lex.proofs.Spans.{span_len, same_front, one_span, front_goes_on, span_front}
+use Rattle.vlog_lex.specs.Gap.{is_no_newline, IsWhite, IsLineComment, EndsComment, IsBlockComment, IsDirective, IsGap}
+use Rattle.vlog_lex.proofs.Spans.{span_len, one_span, front_goes_on, span_front}
 
 -- which gap the first two bytes begin
 abbrev second : List ℕ → ℕ

@@ -1,5 +1,5 @@
 -- The longest token of any kind is the longest of the kinds that begin with its first byte.
-use Rattle.std.proofs.Common.{◌≡◌, ℕ, suc, ◌+◌, ◌<◌, ◌≤◌, Bool, true, false, cond, List, [], ◌∷◌, ◌++◌, ◌⊎◌, ◌==◌, ◌||◌, inl, inr, length, take, drop, eqb, sym, refl, ap, ◌∙◌, subst, ⊎_elim, arith, nat_le, append_assoc, append-nil, take-append-drop, length-take-le, length-append, take_at}
+use Rattle.std.proofs.Common.{◌≡◌, ℕ, suc, ◌+◌, ◌<◌, ◌≤◌, Bool, true, false, cond, List, [], ◌∷◌, ◌++◌, ◌==◌, ◌||◌, length, take, drop, sym, refl, ap, ◌∙◌, subst, ⊎_elim, arith, nat_le, append_assoc, append-nil, take-append-drop, length-take-le, length-append, take_at}
 use Rattle.std.specs.List.{list_any, list_all}
 use Rattle.std.specs.Str.{bytes_eq}
 use Rattle.std.proofs.lemmas.Slice.Eq.{bytes_eq-Decides}
@@ -8,12 +8,12 @@ use Rattle.std.proofs.lemmas.Bool.Decides.{nat_tests}
 use Rattle.std.proofs.lemmas.List.Sums.{sum_by-cons, sum_by-append}
 use Rattle.vlog_lex.specs.Span.{Each}
 use Rattle.vlog_lex.specs.Reading.{newlines}
-use Rattle.vlog_lex.specs.Words.{is_among, symbols, is_symbol, is_reserved}
+use Rattle.vlog_lex.specs.Words.{is_among, symbols, is_symbol}
 use Rattle.vlog_lex.specs.Front.{IsLongestFront, has_symbol}
 use Rattle.vlog_lex.specs.Lexeme.{begins_name, continues_name, is_digit_of, continues_digits, IsName, IsDigits, IsDecimal, IsBased, IsSymbol, IsToken, IsLongest}
 use Rattle.vlog_lex.specs.declared.token.TokenKind.{TokenKind}
 use Rattle.vlog_lex.specs.declared.token.TokenKind.TheVariants.{Identifier, Reserved, Decimal, Based, Other}
-use Rattle.vlog_lex.proofs.Spans.{run_some, run_each}
+use Rattle.vlog_lex.proofs.Spans.{run_each}
 use Rattle.vlog_lex.proofs.Numbers.{decimal_before_quote, decimal_each}
 
 -- what a byte can begin: a name, a number, or neither

@@ -1,7 +1,7 @@
 -- The longest based literal, by the longest size and the longest digits after it.
-use Rattle.std.proofs.Common.{◌≡◌, ℕ, zero, suc, ◌+◌, ◌-◌, ◌<◌, ◌≤◌, Bool, true, false, List, [], ◌∷◌, ◌++◌, ◌⊎◌, inl, inr, length, take, drop, sym, refl, ap, ◌∙◌, subst, ⊎_elim, arith, append_assoc, take-append-drop, length-take-le, length-append, length-drop, take_at, drop_at}
-use Rattle.std.proofs.lemmas.Bool.{false≢true, or_left, cases_lt}
-use Rattle.vlog_lex.specs.Span.{Each, IsRun, Stops}
+use Rattle.std.proofs.Common.{◌≡◌, ℕ, zero, suc, ◌+◌, ◌-◌, ◌<◌, ◌≤◌, true, List, [], ◌∷◌, ◌++◌, ◌⊎◌, inl, inr, length, take, drop, sym, refl, ap, ◌∙◌, subst, arith, append_assoc, take-append-drop, length-take-le, length-append, length-drop, take_at, drop_at}
+use Rattle.std.proofs.lemmas.Bool.{false≢true, or_left}
+use Rattle.vlog_lex.specs.Span.{Each}
 use Rattle.vlog_lex.specs.Front.{IsLongestFront}
 use Rattle.vlog_lex.specs.Lexeme.{is_digit_of, continues_digits, IsDigits, IsDecimal, IsBased}
 use Rattle.vlog_lex.proofs.Spans.{span_len, longest_run, no_run, one_longest, run_some, run_each, before_stop, at_zero}

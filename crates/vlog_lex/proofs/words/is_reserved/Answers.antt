@@ -1,4 +1,4 @@
-use Rattle.std.proofs.Common.{ℕ, ◌<◌, ◌≡◌, length, sym, ◌∙◌, arith}
+use Rattle.std.proofs.Common.{◌<◌, length, ◌∙◌, arith}
 use Rattle.vlog_lex.proofs.Lookup.{reserved_of, reserved_below, reserved_above}
 use Rattle.vlog_lex.proofs.words.is_reserved.Goals as goal
 
