@@ -263,9 +263,6 @@ gap_directive white line block n bytes a x b y c z d = record {
     which front tail e (inr (inr (inl gap))) a b c d = c front tail e gap
     which front tail e (inr (inr (inr gap))) a b c d = d front tail e gap
 
-white_found : (b : ℕ) (bs : List ℕ) → is_ascii_whitespace b ≡ true → IsFrontBefore (λ text rest. IsWhite text) 1 (b ∷ bs)
-white_found b bs white = some_front (λ text rest. IsWhite text) 1 (b ∷ bs) (omega arith) (omega arith) (b, refl, white)
-
 -- what `strip_prefix` tells, at each of its variants
 pub after_is : (s p : List ℕ) (r : Option (Bor (List ℕ))) → MatchOption r ((rest : List ℕ) → s ≡ p ++ rest → ⊥) (λ x. s ≡ p ++ x.now)
     → IfSome r (λ x. s ≡ p ++ x.now) × IfNone r ((rest : List ℕ) → s ≡ p ++ rest → ⊥)

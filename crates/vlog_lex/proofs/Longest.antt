@@ -1,5 +1,5 @@
 -- The longest token of any kind is the longest of the kinds that begin with its first byte.
-use Rattle.std.proofs.Common.{◌≡◌, ℕ, suc, ◌+◌, ◌<◌, ◌≤◌, Bool, true, false, cond, List, [], ◌∷◌, ◌++◌, ◌==◌, ◌||◌, length, take, drop, sym, refl, ap, ◌∙◌, subst, ⊎_elim, arith, nat_le, append_assoc, append-nil, take-append-drop, length-take-le, length-append, take_at}
+use Rattle.std.proofs.Common.{◌≡◌, ◌≢◌, ℕ, suc, ◌+◌, ◌<◌, ◌≤◌, Bool, true, false, cond, List, [], ◌∷◌, ◌++◌, ◌==◌, ◌||◌, length, take, drop, sym, refl, ap, ◌∙◌, subst, ⊎_elim, arith, nat_le, append_assoc, append-nil, take-append-drop, length-take-le, length-append, take_at}
 use Rattle.std.specs.List.{list_any, list_all}
 use Rattle.std.specs.Str.{bytes_eq}
 use Rattle.std.proofs.lemmas.Slice.Eq.{bytes_eq-Decides}
@@ -278,3 +278,9 @@ from_1 t one two three m more few =
     (λ (small : m < 2). let is : 1 ≡ m = omega arith in subst P is one)
     (λ large. from_2 t two three m large few)
     (cases_lt m 2)
+
+-- a text whose longest token is a part of it is no token
+pub part_token : (kind other : TokenKind) (n : ℕ) (text : List ℕ) → n ≤ length text → IsLongest kind (take n text) (drop n text) → n ≢ length text → ¬ IsToken other text
+part_token kind other n text fits longest part token =
+    let no_more = longest.longest other text [] (append-nil text ∙ sym (take-append-drop n text)) token in
+    part (omega (arith, no_more, fits, length-take-le n text fits))

@@ -101,9 +101,6 @@ pub record Reads (bytes rest : List ℕ) (tokens : List Token) (line : ℕ) : Ty
   pub positive : 1 ≤ line
   pub bound : line + length rest ≤ 1 + length bytes
 
-pub reads_none : (bytes : List ℕ) → Reads bytes bytes [] 1
-reads_none bytes = record { pieces = []; leads = refl; told = refl; counted = refl; positive = omega arith; bound = omega arith }
-
 pub reads_more : (bytes rest after : List ℕ) (tokens : List Token) (line : ℕ) (p : Piece) → Reads bytes rest tokens line → rest ≡ text_of p ++ after → IsPiece p after
     → Reads bytes after (tokens ++ token_of line p) (line + newlines (text_of p))
 reads_more bytes rest after tokens line p reads e lawful = record {

@@ -132,21 +132,13 @@ front_goes_on (c ∷ a) r (d ∷ b) s e l =
     let same = found.1 in
     (found.0, cc)
 
--- a list with a byte, or with two, in the form that a slice pattern reads
+-- a list with a byte, in the form that a slice pattern reads
 one_and_rest : (xs : List ℕ) → 1 ≤ length xs → xs ≡ get_or xs 0 0 ∷ drop 1 xs
 one_and_rest [] h = absurd (omega arith)
 one_and_rest (x ∷ xs) h = refl
 
 pub one_read : (xs : List ℕ) → 1 ≤ length xs → xs ≡ get_or xs 0 0 ∷ take (length xs - 1) (drop 1 xs)
 one_read xs h = one_and_rest xs h ∙ ap (λ t. get_or xs 0 0 ∷ t) (sym (take_rest xs 1))
-
-two_and_rest : (xs : List ℕ) → 2 ≤ length xs → xs ≡ get_or xs 0 0 ∷ get_or xs 1 0 ∷ drop 2 xs
-two_and_rest [] h = absurd (omega arith)
-two_and_rest (x ∷ []) h = absurd (omega arith)
-two_and_rest (x ∷ y ∷ xs) h = refl
-
-pub two_read : (xs : List ℕ) → 2 ≤ length xs → xs ≡ get_or xs 0 0 ∷ get_or xs 1 0 ∷ take (length xs - 2) (drop 2 xs)
-two_read xs h = two_and_rest xs h ∙ ap (λ t. get_or xs 0 0 ∷ get_or xs 1 0 ∷ t) (sym (take_rest xs 2))
 
 -- the run of a list whose first byte passes
 pub read_run : (p q : ℕ → Bool) (xs : List ℕ) (n : ℕ) → 1 ≤ length xs → p (get_or xs 0 0) ≡ true → n ≡ prefix_len q (take (length xs - 1) (drop 1 xs)) → IsLongestFront (IsRun p q) (1 + n) xs

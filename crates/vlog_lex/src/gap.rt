@@ -7,7 +7,7 @@ use crate::scan::name_part_len;
 use crate::words::is_directive;
 
 /// The bytes after this mark, where they begin with it.
-fn after<'a>(bytes: &'a [u8], mark: &[u8]) -> Option<&'a [u8]>
+fn after_mark<'a>(bytes: &'a [u8], mark: &[u8]) -> Option<&'a [u8]>
     ensures found { IfSome result (λ rest. bytes.now ≡ mark.now ++ rest.now) }
     ensures none { IfNone result ((rest : List ℕ) → bytes.now ≢ mark.now ++ rest) }
 {
@@ -36,7 +36,7 @@ fn white_len(bytes: &[u8]) -> usize
 fn line_comment_len(bytes: &[u8]) -> usize
     ensures { IsFrontBefore IsLineComment result bytes.now }
 {
-    match after(bytes, b"//") {
+    match after_mark(bytes, b"//") {
         Some(body) => 2 + line_len(body),
         None => 0,
     }
@@ -58,7 +58,7 @@ fn comment_end_len(bytes: &[u8]) -> usize
 fn block_comment_len(bytes: &[u8]) -> usize
     ensures { IsFrontBefore (λ text rest. IsBlockComment text) result bytes.now }
 {
-    let Some(body) = after(bytes, b"/*") else {
+    let Some(body) = after_mark(bytes, b"/*") else {
         return 0;
     };
     let end = comment_end_len(body);
@@ -69,7 +69,7 @@ fn block_comment_len(bytes: &[u8]) -> usize
 fn directive_len(bytes: &[u8]) -> usize
     ensures { IsFrontBefore IsDirective result bytes.now }
 {
-    let Some(rest) = after(bytes, b"`") else {
+    let Some(rest) = after_mark(bytes, b"`") else {
         return 0;
     };
     let word = name_part_len(rest);

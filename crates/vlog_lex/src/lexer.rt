@@ -1,6 +1,8 @@
-ghost use Rattle.std.specs.Prelude.{◌≡◌, ◌≢◌, ◌<◌, ◌^◌, ℕ, List, IfOk, IsErr, MatchResult, length};
+ghost use Rattle.std.specs.Prelude.{◌≡◌, ◌≢◌, ◌<◌, ◌^◌, ℕ, List, IfOk, IsErr, MatchOption, MatchResult, length};
 ghost use Rattle.vlog_lex.specs.declared.token.Token.{Token};
+ghost use Rattle.vlog_lex.specs.declared.token.TokenKind.{TokenKind};
 ghost use Rattle.vlog_lex.specs.declared.error.LexError.{LexError};
+ghost use Rattle.vlog_lex.specs.Lexeme.{IsToken};
 ghost use Rattle.vlog_lex.specs.Reading.{newlines, HasTokens, IsStuck, Lexes, OneReading, ReadOrStuck};
 
 use crate::error::LexError;
@@ -54,6 +56,14 @@ pub fn lex(alloc: Global, bytes: &[u8]) -> Result<Tokens, LexError>
         }
     }
     Ok(tokens)
+}
+
+/// The kind of token that the whole text is, `None` where it is no token.
+pub fn kind_of(text: &[u8]) -> Option<TokenKind>
+    ensures { MatchOption result ((kind : TokenKind) → ¬ IsToken kind text.now) (λ kind. IsToken kind text.now) }
+{
+    let (kind, len) = next_token(text)?;
+    if len == text.len() { Some(kind) } else { None }
 }
 
 /// No text has two lists of tokens.

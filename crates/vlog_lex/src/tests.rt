@@ -1,4 +1,4 @@
-use crate::{LexError, TokenKind, lex};
+use crate::{LexError, TokenKind, kind_of, lex};
 use TokenKind::{Based, Decimal, Identifier, Other, Reserved};
 use std::alloc::Global;
 use std::process::Abort;
@@ -124,6 +124,7 @@ fn expect_tokens(
     for (token, (kind, spelled, line)) in tokens.as_slice().iter().zip(expected) {
         assert_eq!(rt; token.kind, *kind, "in {text:?}");
         assert_eq!(rt; token.text.as_slice(), spelled.as_bytes(), "in {text:?}");
+        assert_eq!(rt; kind_of(spelled.as_bytes()), Some(*kind), "of {spelled:?}");
         assert_eq!(rt; token.line, *line, "in {text:?}");
     }
     Ok(())

@@ -4,41 +4,41 @@ ghost use Rattle.std.specs.Str.{bytes_eq};
 ghost use Rattle.vlog_lex.specs.Words.{is_reserved, is_symbol, is_directive};
 
 // The reserved words (IEEE 1364-2005, Annex B) by their lengths.
-const OF_2: [&str; 2] = ["if", "or"];
+const RESERVED_2: [&str; 2] = ["if", "or"];
 
-const OF_3: [&str; 11] = [
+const RESERVED_3: [&str; 11] = [
     "and", "buf", "end", "for", "nor", "not", "reg", "tri", "use", "wor", "xor",
 ];
 
-const OF_4: [&str; 20] = [
+const RESERVED_4: [&str; 20] = [
     "case", "cell", "cmos", "edge", "else", "fork", "join", "nand", "nmos", "pmos", "real", "task",
     "time", "tran", "tri0", "tri1", "wait", "wand", "wire", "xnor",
 ];
 
-const OF_5: [&str; 21] = [
+const RESERVED_5: [&str; 21] = [
     "begin", "casex", "casez", "event", "force", "inout", "input", "large", "pull0", "pull1",
     "rcmos", "rnmos", "rpmos", "rtran", "small", "table", "trior", "uwire", "weak0", "weak1",
     "while",
 ];
 
-const OF_6: [&str; 21] = [
+const RESERVED_6: [&str; 21] = [
     "always", "assign", "bufif0", "bufif1", "config", "design", "genvar", "highz0", "highz1",
     "ifnone", "incdir", "medium", "module", "notif0", "notif1", "output", "pullup", "repeat",
     "signed", "triand", "trireg",
 ];
 
-const OF_7: [&str; 20] = [
+const RESERVED_7: [&str; 20] = [
     "default", "disable", "endcase", "endtask", "forever", "include", "initial", "integer",
     "liblist", "library", "negedge", "posedge", "release", "specify", "strong0", "strong1",
     "supply0", "supply1", "tranif0", "tranif1",
 ];
 
-const OF_8: [&str; 13] = [
+const RESERVED_8: [&str; 13] = [
     "deassign", "defparam", "endtable", "function", "generate", "instance", "pulldown", "realtime",
     "rtranif0", "rtranif1", "scalared", "unsigned", "vectored",
 ];
 
-const OF_9: [&str; 6] = [
+const RESERVED_9: [&str; 6] = [
     "automatic",
     "endconfig",
     "endmodule",
@@ -47,9 +47,9 @@ const OF_9: [&str; 6] = [
     "specparam",
 ];
 
-const OF_10: [&str; 2] = ["endspecify", "localparam"];
+const RESERVED_10: [&str; 2] = ["endspecify", "localparam"];
 
-const LONGER: [&str; 8] = [
+const RESERVED_LONGER: [&str; 8] = [
     "endfunction",
     "endgenerate",
     "endprimitive",
@@ -73,16 +73,16 @@ pub fn is_reserved(text: &[u8]) -> bool
 {
     match text.len() {
         0..=1 => false,
-        2 => is_one_of(text, &OF_2),
-        3 => is_one_of(text, &OF_3),
-        4 => is_one_of(text, &OF_4),
-        5 => is_one_of(text, &OF_5),
-        6 => is_one_of(text, &OF_6),
-        7 => is_one_of(text, &OF_7),
-        8 => is_one_of(text, &OF_8),
-        9 => is_one_of(text, &OF_9),
-        10 => is_one_of(text, &OF_10),
-        _ => is_one_of(text, &LONGER),
+        2 => is_one_of(text, &RESERVED_2),
+        3 => is_one_of(text, &RESERVED_3),
+        4 => is_one_of(text, &RESERVED_4),
+        5 => is_one_of(text, &RESERVED_5),
+        6 => is_one_of(text, &RESERVED_6),
+        7 => is_one_of(text, &RESERVED_7),
+        8 => is_one_of(text, &RESERVED_8),
+        9 => is_one_of(text, &RESERVED_9),
+        10 => is_one_of(text, &RESERVED_10),
+        _ => is_one_of(text, &RESERVED_LONGER),
     }
 }
 

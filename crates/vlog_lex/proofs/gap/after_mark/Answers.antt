@@ -1,7 +1,7 @@
 use Rattle.std.proofs.lemmas.Slice.Eq.{strip_prefix_is}
 use Rattle.std.proofs.lemmas.Bool.Decides.{Decides-eqb}
 use Rattle.vlog_lex.proofs.Gaps.{after_is}
-use Rattle.vlog_lex.proofs.gap.after.Goals as goal
+use Rattle.vlog_lex.proofs.gap.after_mark.Goals as goal
 
 pub returns-clause-found : goal.returns-clause-found
 returns-clause-found c =
