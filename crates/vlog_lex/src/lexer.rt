@@ -30,7 +30,8 @@ fn token_of(alloc: Global, kind: TokenKind, text: &[u8], line: u32) -> Result<To
 
 /// The tokens of a design text, without white space and comments (IEEE 1364-2005, clause 3).
 ///
-/// `Word` comes exactly where at some place neither a token nor white space nor a comment begins.
+/// `Word` comes exactly where at some place neither a token nor white space nor a comment begins,
+/// `Memory` where no memory was found. Each byte is read a bounded number of times.
 pub fn lex(alloc: Global, bytes: &[u8]) -> Result<Tokens, LexError>
     requires { length bytes.now < 2 ^ 31 }
     ensures answer { Lexes bytes.now result }
