@@ -1,0 +1,5 @@
+pub mod Commas
+pub mod Each
+pub mod Marks
+pub mod OneKind
+pub mod Rows

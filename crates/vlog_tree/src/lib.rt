@@ -1,0 +1,36 @@
+//! The syntax tree of a design text (IEEE 1364-2005, this project's profile).
+//!
+//! There is one type per rule of the grammar, with its parts in their order; parentheses and optional
+//! words are kept. A line stands beside the token whose line it is: names, numbers, unary operators,
+//! opening parentheses and braces, and `always`.
+//!
+//! The definitions stand in `specs/`: `Tree` (the trees as plain data, with a type in the place of
+//! lines), `Plain` (a tree of the code as such), `Spelling` (the tokens of a tree), `Shape` (good
+//! shape) and `Lines` (the lines of first tokens, and trees without lines).
+#![tactic(auto)]
+
+mod expr;
+mod lines;
+mod lists;
+mod module;
+mod shape;
+mod spelling;
+mod stmt;
+mod terminal;
+
+pub use expr::{
+    BinaryOp, Expr, Exprs, Ident, Number, NumberKind, Prim, Ref, Sel, Sign, Unary, UnaryOp,
+};
+pub use lines::{expr_line, target_line};
+pub use lists::{begin, concat, concat_target, see_begin, see_concat, see_concat_target};
+pub use module::{
+    Always, Assign, Assigns, Direction, DrivenWire, DrivenWires, Event, File, Idents, Item, Module,
+    Modules, NetKind, Port, PortHead, Ports, Range, Reg1, Reg1s, RegTail,
+};
+pub use shape::{good_shape, level_of};
+pub use spelling::tokens_of;
+pub use stmt::{AssignOp, Body, Stmt, Stmts, Target, Targets};
+pub use terminal::Terminal;
+
+#[cfg(test)]
+mod tests;

@@ -1,0 +1,45 @@
+ghost use Rattle.std.specs.Prelude.{◌≡◌};
+ghost use Rattle.vlog_tree.specs.Tree.{ConcatPrim, ConcatTarget, BeginStmt};
+ghost use Rattle.vlog_tree.specs.Plain.{plain_prim, plain_exprs, plain_target, plain_targets, plain_stmt, plain_stmts};
+ghost use Rattle.vlog_tree.specs.declared.expr.Prim as declared_prim;
+ghost use Rattle.vlog_tree.specs.declared.stmt.Target as declared_target;
+ghost use Rattle.vlog_tree.specs.declared.stmt.Stmt as declared_stmt;
+
+use crate::expr::{Exprs, Prim as Operand};
+use crate::stmt::{Stmt, Stmts, Target, Targets};
+
+/// The operand `{part, ..}`, whose `{` stands on `line`.
+pub fn concat(line: u32, parts: Exprs) -> Operand
+    ensures { plain_prim result ≡ ConcatPrim line (plain_exprs parts) }
+{
+    Operand::Concat { line, parts }
+}
+
+/// The target `{part, ..}`, whose `{` stands on `line`.
+pub fn concat_target(line: u32, parts: Targets) -> Target
+    ensures { plain_target result ≡ ConcatTarget line (plain_targets parts) }
+{
+    Target::Concat { line, parts }
+}
+
+/// The statement `begin .. end`.
+pub fn begin(stmts: Stmts) -> Stmt
+    ensures { plain_stmt result ≡ BeginStmt (plain_stmts stmts) }
+{
+    Stmt::Begin(stmts)
+}
+
+/// What `Prim::Concat` is as plain data, for proofs of an arm that matches it.
+pub fn see_concat(line: u32, parts: &Exprs)
+    ensures { (p : declared_prim.Prim) → p ≡ declared_prim.Concat line parts.now → plain_prim p ≡ ConcatPrim line (plain_exprs parts.now) }
+{}
+
+/// What `Target::Concat` is as plain data, for proofs of an arm that matches it.
+pub fn see_concat_target(line: u32, parts: &Targets)
+    ensures { (t : declared_target.Target) → t ≡ declared_target.Concat line parts.now → plain_target t ≡ ConcatTarget line (plain_targets parts.now) }
+{}
+
+/// What `Stmt::Begin` is as plain data, for proofs of an arm that matches it.
+pub fn see_begin(stmts: &Stmts)
+    ensures { (s : declared_stmt.Stmt) → s ≡ declared_stmt.Begin stmts.now → plain_stmt s ≡ BeginStmt (plain_stmts stmts.now) }
+{}

@@ -1,0 +1,144 @@
+use crate::expr::{Expr, Ident};
+use crate::stmt::{Body, Target};
+use vidi_bits::{Items, Name};
+
+/// A design text: its modules, in their order.
+#[derive(Debug, Drop)]
+pub struct File {
+    pub modules: Modules,
+}
+
+/// A list of modules.
+pub type Modules = Items<Module>;
+
+/// A module (IEEE 1364-2005, 12.1).
+#[derive(Debug, Drop)]
+pub struct Module {
+    pub name: Name,
+    pub ports: Ports,
+    pub items: Items<Item>,
+}
+
+/// A list of ports.
+pub type Ports = Items<Port>;
+
+/// A port of a module's header.
+#[derive(Debug, Drop)]
+pub struct Port {
+    /// Its direction and range. A port without takes those of the port before.
+    pub head: Option<PortHead>,
+    pub id: Ident,
+    /// The value after `=`.
+    pub init: Option<Expr>,
+}
+
+/// The direction of a port, and its range.
+#[derive(Debug, Drop)]
+pub struct PortHead {
+    pub direction: Direction,
+    pub range: Option<Range>,
+}
+
+/// The direction of a port, with the word that may stand after it.
+#[derive(Clone, Copy, Debug, PartialEq, Eq)]
+pub enum Direction {
+    /// `input`, with `wire` or without.
+    Input { wire: bool },
+    /// `output`, with `wire` or `reg` or without.
+    Output { kind: Option<NetKind> },
+}
+
+/// The word after `output`.
+#[derive(Clone, Copy, Debug, PartialEq, Eq)]
+pub enum NetKind {
+    Wire,
+    Reg,
+}
+
+/// `[first:second]`
+#[derive(Debug, Drop)]
+pub struct Range {
+    pub first: Expr,
+    pub second: Expr,
+}
+
+/// An item of a module.
+#[derive(Debug, Drop)]
+pub enum Item {
+    /// `wire range name, ..;`
+    Wires {
+        range: Option<Range>,
+        names: Idents,
+    },
+    /// `wire range name = value, ..;`
+    DrivenWires {
+        range: Option<Range>,
+        wires: DrivenWires,
+    },
+    /// `reg range reg, ..;`
+    Regs {
+        range: Option<Range>,
+        regs: Reg1s,
+    },
+    /// `assign target = value, ..;`
+    Assign {
+        assigns: Assigns,
+    },
+    Always(Always),
+}
+
+/// A list of declared names.
+pub type Idents = Items<Ident>;
+
+/// A declared wire with its value: `name = value`.
+#[derive(Debug, Drop)]
+pub struct DrivenWire {
+    pub id: Ident,
+    pub value: Expr,
+}
+
+/// A list of declared wires with their values.
+pub type DrivenWires = Items<DrivenWire>;
+
+/// A declared register.
+#[derive(Debug, Drop)]
+pub struct Reg1 {
+    pub id: Ident,
+    pub tail: Option<RegTail>,
+}
+
+/// What stands after a register's name.
+#[derive(Debug, Drop)]
+pub enum RegTail {
+    /// `= value`
+    Init(Expr),
+}
+
+/// A list of declared registers.
+pub type Reg1s = Items<Reg1>;
+
+/// A continuous assignment: `target = value`.
+#[derive(Debug, Drop)]
+pub struct Assign {
+    pub target: Target,
+    pub value: Expr,
+}
+
+/// A list of continuous assignments.
+pub type Assigns = Items<Assign>;
+
+/// An `always` block (IEEE 1364-2005, 9.9.2).
+#[derive(Debug, Drop)]
+pub struct Always {
+    /// The line of `always`.
+    pub line: u32,
+    pub event: Event,
+    pub body: Body,
+}
+
+/// What an `always` block waits for.
+#[derive(Debug, Drop)]
+pub enum Event {
+    /// `@(posedge clock)`
+    Posedge(Ident),
+}

@@ -1,0 +1,7 @@
+mod expr;
+mod module;
+mod stmt;
+mod token;
+
+pub use expr::level_of;
+pub use module::good_shape;

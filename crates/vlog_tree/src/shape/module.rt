@@ -1,0 +1,207 @@
+ghost use Rattle.std.specs.Prelude.{◌≡◌, ◌↔◌, IsTrue, List, option_map, map};
+ghost use Rattle.std.specs.List.{AllByRecursion};
+ghost use Rattle.vlog_tree.specs.Plain.{plain_ident, plain_range, plain_head, plain_port, plain_wire, plain_tail, plain_reg, plain_assign, plain_event, plain_always, plain_item, plain_module, plain, plain_expr};
+ghost use Rattle.vlog_tree.specs.Shape.{IsGoodOption, AreSomeGood, IsGoodExpr, IsGoodIdent, IsGoodRange, IsGoodHead, IsGoodPort, IsFirstDirected, IsGoodWire, IsGoodTail, IsGoodReg, IsGoodAssign, IsGoodEvent, IsGoodAlways, IsGoodItem, IsGoodModule, IsGood};
+
+use crate::expr::{Expr, Ident};
+use crate::module::{
+    Always, Assign, DrivenWire, Event, File, Item, Module, Port, PortHead, Range, Reg1, RegTail,
+};
+use crate::shape::expr::good_expr;
+use crate::shape::stmt::{good_body, good_target};
+use crate::shape::token::good_name;
+
+/// A part of a tree that stands in lists.
+trait Shaped {
+    /// That it has good shape.
+    ghost is_good: { Self → Type 0 };
+
+    /// Whether it has good shape.
+    fn good(&self) -> bool
+        ensures { IsTrue result ↔ is_good self.now };
+}
+
+/// Whether each of these parts has good shape.
+fn each_good<T: Shaped>(parts: &[T]) -> bool
+    ensures { IsTrue result ↔ AllByRecursion T.is_good parts.now }
+{
+    for part in parts {
+        if !part.good() {
+            return false;
+        }
+    }
+    true
+}
+
+/// Whether there is a part, and each has good shape.
+fn some_good<T: Shaped>(parts: &[T]) -> bool
+    ensures { IsTrue result ↔ AreSomeGood T.is_good parts.now }
+{
+    match parts {
+        [] => false,
+        _ => each_good(parts),
+    }
+}
+
+impl Shaped for Ident {
+    ghost is_good = { λ id. IsGoodIdent (plain_ident id) };
+
+    fn good(&self) -> bool {
+        good_name(&self.name)
+    }
+}
+
+fn good_range(range: &Option<Range>) -> bool
+    ensures { IsTrue result ↔ IsGoodOption IsGoodRange (option_map plain_range range.now) }
+{
+    match range {
+        None => true,
+        Some(range) => good_expr(&range.first) && good_expr(&range.second),
+    }
+}
+
+fn good_head(head: &Option<PortHead>) -> bool
+    ensures { IsTrue result ↔ IsGoodOption IsGoodHead (option_map plain_head head.now) }
+{
+    match head {
+        None => true,
+        Some(head) => good_range(&head.range),
+    }
+}
+
+fn good_init(init: &Option<Expr>) -> bool
+    ensures { IsTrue result ↔ IsGoodOption IsGoodExpr (option_map plain_expr init.now) }
+{
+    match init {
+        None => true,
+        Some(value) => good_expr(value),
+    }
+}
+
+impl Shaped for Port {
+    ghost is_good = { λ p. IsGoodPort (plain_port p) };
+
+    fn good(&self) -> bool {
+        good_head(&self.head) && good_name(&self.id.name) && good_init(&self.init)
+    }
+}
+
+impl Shaped for DrivenWire {
+    ghost is_good = { λ w. IsGoodWire (plain_wire w) };
+
+    fn good(&self) -> bool {
+        good_name(&self.id.name) && good_expr(&self.value)
+    }
+}
+
+fn good_tail(tail: &Option<RegTail>) -> bool
+    ensures { IsTrue result ↔ IsGoodOption IsGoodTail (option_map plain_tail tail.now) }
+{
+    match tail {
+        None => true,
+        Some(RegTail::Init(value)) => good_expr(value),
+    }
+}
+
+impl Shaped for Reg1 {
+    ghost is_good = { λ r. IsGoodReg (plain_reg r) };
+
+    fn good(&self) -> bool {
+        good_name(&self.id.name) && good_tail(&self.tail)
+    }
+}
+
+impl Shaped for Assign {
+    ghost is_good = { λ a. IsGoodAssign (plain_assign a) };
+
+    fn good(&self) -> bool {
+        good_target(&self.target) && good_expr(&self.value)
+    }
+}
+
+fn good_names(names: &[Ident]) -> bool
+    ensures { IsTrue result ↔ AreSomeGood IsGoodIdent (map plain_ident names.now) }
+{
+    some_good(names)
+}
+
+fn good_wires(wires: &[DrivenWire]) -> bool
+    ensures { IsTrue result ↔ AreSomeGood IsGoodWire (map plain_wire wires.now) }
+{
+    some_good(wires)
+}
+
+fn good_regs(regs: &[Reg1]) -> bool
+    ensures { IsTrue result ↔ AreSomeGood IsGoodReg (map plain_reg regs.now) }
+{
+    some_good(regs)
+}
+
+fn good_assigns(assigns: &[Assign]) -> bool
+    ensures { IsTrue result ↔ AreSomeGood IsGoodAssign (map plain_assign assigns.now) }
+{
+    some_good(assigns)
+}
+
+fn good_always(always: &Always) -> bool
+    ensures { IsTrue result ↔ IsGoodAlways (plain_always always.now) }
+{
+    let Event::Posedge(clock) = &always.event;
+    good_name(&clock.name) && good_body(&always.body)
+}
+
+impl Shaped for Item {
+    ghost is_good = { λ i. IsGoodItem (plain_item i) };
+
+    fn good(&self) -> bool {
+        match self {
+            Item::Wires { range, names } => good_range(range) && good_names(names.as_slice()),
+            Item::DrivenWires { range, wires } => good_range(range) && good_wires(wires.as_slice()),
+            Item::Regs { range, regs } => good_range(range) && good_regs(regs.as_slice()),
+            Item::Assign { assigns } => good_assigns(assigns.as_slice()),
+            Item::Always(always) => good_always(always),
+        }
+    }
+}
+
+fn good_ports(ports: &[Port]) -> bool
+    ensures { IsTrue result ↔ AllByRecursion IsGoodPort (map plain_port ports.now) }
+{
+    each_good(ports)
+}
+
+/// Whether the first port, where there is one, has a direction.
+fn first_directed(ports: &[Port]) -> bool
+    ensures { IsTrue result ↔ IsFirstDirected (map plain_port ports.now) }
+{
+    match ports {
+        [] => true,
+        [first, ..] => first.head.is_some(),
+    }
+}
+
+fn good_items(items: &[Item]) -> bool
+    ensures { IsTrue result ↔ AllByRecursion IsGoodItem (map plain_item items.now) }
+{
+    each_good(items)
+}
+
+impl Shaped for Module {
+    ghost is_good = { λ m. IsGoodModule (plain_module m) };
+
+    fn good(&self) -> bool {
+        good_name(&self.name)
+            && first_directed(self.ports.as_slice())
+            && good_ports(self.ports.as_slice())
+            && good_items(self.items.as_slice())
+    }
+}
+
+/// Whether the tree has good shape: it is one of the grammar, names and numbers are lawful tokens,
+/// operands stand at or above the level that their place asks, a lone bracket of a ref is its last one
+/// and no `else` could belong to a nearer `if`. Lines don't count.
+pub fn good_shape(file: &File) -> bool
+    ensures { IsTrue result ↔ IsGood (plain file.now) }
+{
+    some_good(file.modules.as_slice())
+}

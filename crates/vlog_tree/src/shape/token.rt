@@ -1,0 +1,37 @@
+ghost use Rattle.std.specs.Prelude.{◌≡◌, ◌↔◌, IsTrue};
+ghost use Rattle.vlog_lex.specs.Lexeme.{IsToken};
+ghost use Rattle.vlog_tree.specs.Shape.{IsGoodName};
+ghost use Rattle.vlog_tree.specs.Words.{number_kind};
+
+use crate::expr::{Number, NumberKind};
+use vidi_bits::Name;
+use vlog_lex::{TokenKind, kind_of};
+
+/// Whether the text is a token of this kind.
+#[tactic(auto, using(crate::proofs::OneKind::same_kind))]
+fn is_token(kind: TokenKind, text: &[u8]) -> bool
+    ensures { IsTrue result ↔ IsToken kind text.now }
+{
+    match kind_of(text) {
+        Some(found) => found == kind,
+        None => false,
+    }
+}
+
+/// Whether the name is an identifier and no reserved word.
+pub fn good_name(name: &Name) -> bool
+    ensures { IsTrue result ↔ IsGoodName name.now }
+{
+    is_token(TokenKind::Identifier, name.as_slice())
+}
+
+/// Whether the number is a lawful literal of its kind.
+pub fn good_number(number: &Number) -> bool
+    ensures { IsTrue result ↔ IsToken (number_kind number.now.kind) number.now.text }
+{
+    let kind = match number.kind {
+        NumberKind::Decimal => TokenKind::Decimal,
+        NumberKind::Based => TokenKind::Based,
+    };
+    is_token(kind, number.text.as_slice())
+}

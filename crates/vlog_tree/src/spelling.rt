@@ -1,0 +1,6 @@
+mod expr;
+mod module;
+mod stmt;
+mod token;
+
+pub use module::tokens_of;

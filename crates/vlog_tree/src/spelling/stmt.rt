@@ -1,0 +1,112 @@
+ghost use Rattle.std.specs.Prelude.{◌≡◌, [], ◌∷◌, ◌++◌, OnOk};
+ghost use Rattle.vlog_tree.specs.Words.{tokens_of};
+ghost use Rattle.vlog_tree.specs.Plain.{plain_target, plain_targets, plain_stmt, plain_stmts, plain_body};
+ghost use Rattle.vlog_tree.specs.Spelling.{assign_terminal, target_words, targets_words, stmt_words, stmts_words, body_words};
+
+use crate::lists::{see_begin, see_concat_target};
+use crate::spelling::expr::{push_expr, push_ref};
+use crate::spelling::token::put_fixed;
+use crate::stmt::{AssignOp, Body, Stmt, Target};
+use crate::terminal::Terminal;
+use std::alloc::Global;
+use vidi_bits::Memory;
+use vlog_lex::Tokens;
+
+fn assign_terminal(op: AssignOp) -> Terminal
+    ensures { result ≡ assign_terminal op }
+{
+    match op {
+        AssignOp::Blocking => Terminal::Equals,
+        AssignOp::Nonblocking => Terminal::LessEquals,
+    }
+}
+
+#[cycle(push_targets)]
+pub fn push_target(alloc: Global, out: &mut Tokens, target: &Target) -> Result<(), Memory>
+    ensures { OnOk result (out.new ≡ out.old ++ tokens_of (target_words (plain_target target.now))) }
+{
+    match target {
+        Target::Ref(name) => push_ref(alloc, out, name),
+        Target::Concat { line, parts } => {
+            see_concat_target(*line, parts);
+            put_fixed(alloc, out, Terminal::BraceOpen)?;
+            push_targets(alloc, out, parts.as_slice())?;
+            put_fixed(alloc, out, Terminal::BraceClose)
+        }
+    }
+}
+
+#[cycle(push_targets)]
+fn push_targets(alloc: Global, out: &mut Tokens, targets: &[Target]) -> Result<(), Memory>
+    ensures { OnOk result (out.new ≡ out.old ++ tokens_of (targets_words (plain_targets targets.now))) }
+{
+    match targets {
+        [] => Ok(()),
+        [first, rest @ ..] => {
+            push_target(alloc, out, first)?;
+            for target in rest {
+                put_fixed(alloc, out, Terminal::Comma)?;
+                push_target(alloc, out, target)?;
+            }
+            Ok(())
+        }
+    }
+}
+
+#[cycle(push_stmts)]
+fn push_stmt(alloc: Global, out: &mut Tokens, stmt: &Stmt) -> Result<(), Memory>
+    ensures { OnOk result (out.new ≡ out.old ++ tokens_of (stmt_words (plain_stmt stmt.now))) }
+{
+    match stmt {
+        Stmt::Begin(stmts) => {
+            see_begin(stmts);
+            put_fixed(alloc, out, Terminal::Begin)?;
+            push_stmts(alloc, out, stmts.as_slice())?;
+            put_fixed(alloc, out, Terminal::End)
+        }
+        Stmt::If {
+            condition,
+            then_body,
+            else_body,
+        } => {
+            put_fixed(alloc, out, Terminal::If)?;
+            put_fixed(alloc, out, Terminal::ParenOpen)?;
+            push_expr(alloc, out, condition)?;
+            put_fixed(alloc, out, Terminal::ParenClose)?;
+            push_body(alloc, out, then_body)?;
+            match else_body {
+                None => Ok(()),
+                Some(body) => {
+                    put_fixed(alloc, out, Terminal::Else)?;
+                    push_body(alloc, out, body)
+                }
+            }
+        }
+        Stmt::Assign { target, op, value } => {
+            push_target(alloc, out, target)?;
+            put_fixed(alloc, out, assign_terminal(*op))?;
+            push_expr(alloc, out, value)?;
+            put_fixed(alloc, out, Terminal::Semicolon)
+        }
+    }
+}
+
+#[cycle(push_stmts)]
+pub fn push_body(alloc: Global, out: &mut Tokens, body: &Body) -> Result<(), Memory>
+    ensures { OnOk result (out.new ≡ out.old ++ tokens_of (body_words (plain_body body.now))) }
+{
+    match body {
+        Body::Stmt(stmt) => push_stmt(alloc, out, stmt),
+        Body::Empty => put_fixed(alloc, out, Terminal::Semicolon),
+    }
+}
+
+#[cycle(push_stmts)]
+fn push_stmts(alloc: Global, out: &mut Tokens, stmts: &[Stmt]) -> Result<(), Memory>
+    ensures { OnOk result (out.new ≡ out.old ++ tokens_of (stmts_words (plain_stmts stmts.now))) }
+{
+    for stmt in stmts {
+        push_stmt(alloc, out, stmt)?;
+    }
+    Ok(())
+}

@@ -1,0 +1,47 @@
+ghost use Rattle.std.specs.Prelude.{◌≡◌, [], ◌∷◌, ◌++◌, OnOk};
+ghost use Rattle.vlog_tree.specs.Words.{NameWord, NumberWord, Fixed, number_kind, tokens_of};
+
+use crate::expr::{Ident, Number, NumberKind};
+use crate::terminal::Terminal;
+use std::alloc::Global;
+use vidi_bits::{Memory, Name};
+use vlog_lex::{Token, TokenKind, Tokens};
+
+/// Adds a token with a copy of this text and with line 0.
+fn put(alloc: Global, out: &mut Tokens, kind: TokenKind, text: &[u8]) -> Result<(), Memory>
+    ensures { OnOk result (out.new ≡ out.old ++ record { kind = kind; text = text.now; line = 0 } ∷ []) }
+{
+    let text = Name::from_vec(Vec::from_slice(alloc, text)?);
+    out.push(Token {
+        kind,
+        text,
+        line: 0,
+    })
+}
+
+pub fn put_fixed(alloc: Global, out: &mut Tokens, terminal: Terminal) -> Result<(), Memory>
+    ensures { OnOk result (out.new ≡ out.old ++ tokens_of (Fixed terminal ∷ [])) }
+{
+    put(alloc, out, terminal.kind(), terminal.text())
+}
+
+pub fn put_name(alloc: Global, out: &mut Tokens, name: &Name) -> Result<(), Memory>
+    ensures { OnOk result (out.new ≡ out.old ++ tokens_of (NameWord name.now ∷ [])) }
+{
+    put(alloc, out, TokenKind::Identifier, name.as_slice())
+}
+
+fn kind_of(kind: NumberKind) -> TokenKind
+    ensures { result ≡ number_kind kind }
+{
+    match kind {
+        NumberKind::Decimal => TokenKind::Decimal,
+        NumberKind::Based => TokenKind::Based,
+    }
+}
+
+pub fn put_number(alloc: Global, out: &mut Tokens, number: &Number) -> Result<(), Memory>
+    ensures { OnOk result (out.new ≡ out.old ++ tokens_of (NumberWord number.now.kind number.now.text ∷ [])) }
+{
+    put(alloc, out, kind_of(number.kind), number.text.as_slice())
+}

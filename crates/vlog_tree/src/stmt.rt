@@ -1,0 +1,53 @@
+use crate::expr::{Expr, Ref};
+use vidi_bits::Items;
+
+/// What an assignment writes.
+#[derive(Debug, Drop)]
+pub enum Target {
+    Ref(Ref),
+    /// `{part, ..}`; `line` is that of `{`.
+    Concat { line: u32, parts: Items<Target> },
+}
+
+/// A list of targets.
+pub type Targets = Items<Target>;
+
+/// The two signs of procedural assignments (IEEE 1364-2005, 9.2).
+#[derive(Clone, Copy, Debug, PartialEq, Eq)]
+pub enum AssignOp {
+    /// `=`
+    Blocking,
+    /// `<=`
+    Nonblocking,
+}
+
+/// A statement (IEEE 1364-2005, clause 9).
+#[cycle(stmt)]
+#[derive(Debug, Drop)]
+pub enum Stmt {
+    /// `begin .. end`
+    Begin(Items<Stmt>),
+    /// `if (condition) then_body else else_body`
+    If {
+        condition: Expr,
+        then_body: Body,
+        else_body: Option<Body>,
+    },
+    /// `target = value;` or `target <= value;`
+    Assign {
+        target: Target,
+        op: AssignOp,
+        value: Expr,
+    },
+}
+
+/// A list of statements.
+pub type Stmts = Items<Stmt>;
+
+/// A statement, or `;` alone.
+#[cycle(stmt)]
+#[derive(Debug, Drop)]
+pub enum Body {
+    Stmt(Box<Stmt>),
+    Empty,
+}
