@@ -1,5 +1,5 @@
 -- The running counts of completions are the clocks.
-use Rattle.std.proofs.Common.{◌≡◌, ℕ, suc, ◌+◌, ◌<◌, ◌≤◌, ◌^◌, List, ◌++◌, Some, length, get_or, slice_get, take, drop, map, replicate, refl, sym, ap, ◌∙◌, add-one, arith}
+use Rattle.std.proofs.Common.{◌≡◌, ℕ, ◌+◌, ◌<◌, ◌≤◌, List, Some, length, get_or, slice_get, take, map, sym, ap, ◌∙◌, add-one, arith}
 use Rattle.std.proofs.lemmas.List.{length-take-le}
 use Rattle.std.proofs.lemmas.List.Sums.{count_by-le-length}
 use Rattle.std.proofs.lemmas.List.FromFn.{fill_by_all, get_or-map-range_with_len, length-map-range_with_len}
@@ -7,7 +7,7 @@ use Rattle.std.specs.Int.{bit_at}
 use Rattle.std.specs.List.{range_with_len}
 use Rattle.trace_model.specs.declared.event.Kind.TheVariants.{End}
 use Rattle.trace_model.specs.declared.packet.Packet.{Packet}
-use Rattle.trace_model.specs.Packet.{does, count}
+use Rattle.trace_model.specs.Packet.{does}
 use Rattle.trace_model.specs.Clock.{clock}
 use Rattle.trace_model.proofs.FlightLemmas.{count-end-suc}
 

@@ -7,7 +7,6 @@ use Rattle.trace_code.specs.Encoding.{Encodes}
 use Rattle.trace_code.specs.Decoding.{OneReading}
 use Rattle.vidi_io.specs.Shelf.{Files}
 use Rattle.vidi.specs.declared.status.Word.{Word}
-use Rattle.vidi.specs.declared.status.Word.TheVariants as words
 use Rattle.vidi.specs.declared.status.Reason.{Reason}
 use Rattle.vidi.specs.declared.status.Reason.TheVariants.{TooLong, BadTrace}
 use Rattle.vidi.specs.declared.status.Status.{Status}

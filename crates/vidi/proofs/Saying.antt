@@ -1,5 +1,5 @@
 -- From what was earned and what was said to the answer of a call.
-use Rattle.std.proofs.Common.{◌≡◌, ◌≢◌, ℕ, ◌⊎◌, List, Option, inl, inr, sym, subst, refl, ap}
+use Rattle.std.proofs.Common.{◌≡◌, ◌≢◌, ℕ, List, Option, inl, inr, sym, subst, refl}
 use Rattle.std.specs.Io.KnownBytes.{append_known}
 use Rattle.vidi_io.specs.Shelf.{Files}
 use Rattle.vidi.specs.declared.status.Status.{Status}

@@ -1,4 +1,4 @@
-use Rattle.std.proofs.Common.{◌≡◌, ℕ, List, ◌++◌, drop, []}
+use Rattle.std.proofs.Common.{◌≡◌, ℕ, ◌++◌, drop, []}
 use Rattle.std.specs.Prelude.{if◌then◌else◌}
 use Rattle.std.specs.List.{flat_map, enumerate_from}
 use Rattle.trace_model.specs.declared.channel.Channel.{Channel}

@@ -1,4 +1,4 @@
-use Rattle.std.proofs.Common.{◌≡◌, ℕ, List, ◌++◌, take, drop, length, []}
+use Rattle.std.proofs.Common.{◌≡◌, ℕ, ◌++◌, take, drop, length, []}
 use Rattle.std.specs.Prelude.{if◌then◌else◌}
 use Rattle.std.specs.List.{flat_map, enumerate_from}
 use Rattle.trace_model.specs.declared.channel.Channel.{Channel}
