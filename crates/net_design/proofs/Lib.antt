@@ -1,0 +1,9 @@
+pub mod NumberLemmas
+pub mod Rows
+pub mod LawfulCode
+pub mod UpdateLaws
+pub mod PinLemmas
+pub mod SettledParts
+pub mod EquationLaws
+pub mod FrameLaws
+pub mod TargetLaws

@@ -1,0 +1,73 @@
+-- The parts of a settled map, told by tests.
+use Rattle.std.proofs.Common.{◌≡◌, ℕ, ◌==◌, ◌&&◌, ◌↔◌, Bool, true, false, IsTrue, List, Some, All, get_or, slice_index, refl, sym, subst, ◌∙◌}
+use Rattle.std.specs.Int.{bit_at}
+use Rattle.std.proofs.lemmas.Bool.{eqb-true, eq-eqb}
+use Rattle.std.proofs.lemmas.List.Folds.{Any-from_list_any, list_any_at}
+use Rattle.net_design.specs.declared.design.Register.{Register}
+use Rattle.net_design.specs.declared.design.Driver.{Driver}
+use Rattle.net_design.specs.declared.design.Direction.TheVariants.{Input}
+use Rattle.net_design.specs.declared.design.Design.{Design}
+use Rattle.net_design.specs.declared.values.Values.{Values}
+use Rattle.net_design.specs.Number.{has}
+use Rattle.net_design.specs.Updates.{run}
+use Rattle.net_design.specs.Settled.{IsSettled, FitNets, pins_of, held}
+
+-- the two lists of numbers have the same bits of a register
+abbrev SameBits : List ℕ → List ℕ → Register → Type 0
+SameBits v s r = (k : ℕ) → has r.held k ≡ true → bit_at (slice_index v r.net) k ≡ bit_at (slice_index s r.net) k
+
+abbrev SameHeld : Design → List ℕ → List ℕ → Type 0
+SameHeld d v s = (m k : ℕ) → held d m k ≡ true → bit_at (slice_index v m) k ≡ bit_at (slice_index s m) k
+
+and_parts : (a b : Bool) → (a && b) ≡ true → (a ≡ true) × (b ≡ true)
+and_parts true b h = (refl, h)
+and_parts false b h = absurd cc
+
+and_both : (a b : Bool) → a ≡ true → b ≡ true → (a && b) ≡ true
+and_both a b h k = rw h k
+
+by_registers : (d : Design) (v s : List ℕ) → All (SameBits v s) d.registers → SameHeld d v s
+by_registers d v s all m k h =
+    let found = Any-from_list_any _ d.registers h in
+    let r : Register = found.1 in
+    let t = and_parts _ _ found.4 in
+    let here : r.net ≡ m = eqb-true _ _ t.0 in
+    let same : SameBits v s r = subst (λ (x : Register). SameBits v s x) found.3 (all found.0 r found.2) in
+    subst (λ n. bit_at (slice_index v n) k ≡ bit_at (slice_index s n) k) here (same k t.1)
+
+by_bits : (d : Design) (v s : List ℕ) → SameHeld d v s → All (SameBits v s) d.registers
+by_bits d v s same i r l k h =
+    let x : Register = get_or d.registers i r in
+    same x.net k (list_any_at (λ (y : Register). (y.net == x.net) && has y.held k) d.registers i r l (and_both _ _ (eq-eqb x.net x.net refl) h))
+
+pub settled_parts : (d : Design) (s : Values) (pins inputs : List ℕ) (v : Values) (a b c e f g : Bool)
+    → IsTrue a ↔ FitNets d v.nets
+    → IsTrue b ↔ (inputs ≡ pins)
+    → IsTrue c ↔ ((k : ℕ) → d.clock ≡ Some k → slice_index v.nets k ≡ 0)
+    → IsTrue e ↔ All (SameBits v.nets s.nets) d.registers
+    → IsTrue f ↔ (v.words ≡ s.words)
+    → IsTrue g ↔ All (λ (x : Driver). run x.code.acts v ≡ v) d.drivers
+    → inputs ≡ pins_of Input d.ports v.nets
+    → IsTrue (a && (b && (c && (e && (f && g))))) ↔ IsSettled d s pins v
+settled_parts d s pins inputs v a b c e f g ha hb hc he hf hg same = (
+  (λ h.
+      let t = and_parts a _ h in
+      let u = and_parts b _ t.1 in
+      let w = and_parts c _ u.1 in
+      let x = and_parts e _ w.1 in
+      let y = and_parts f g x.1 in
+      record {
+        fit = ha.0 t.0;
+        inputs = sym same ∙ hb.0 u.0;
+        clock = hc.0 w.0;
+        state = by_registers d v.nets s.nets (he.0 x.0);
+        words = hf.0 y.0;
+        driven = hg.0 y.1;
+      }),
+  (λ h.
+      and_both a _ (ha.1 h.fit)
+      (and_both b _ (hb.1 (same ∙ h.inputs))
+      (and_both c _ (hc.1 h.clock)
+      (and_both e _ (he.1 (by_bits d v.nets s.nets h.state))
+      (and_both f g (hf.1 h.words) (hg.1 h.driven)))))),
+)

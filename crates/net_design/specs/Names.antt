@@ -1,0 +1,29 @@
+-- Full names: an instance path and a name in it (IEEE 1364-2005, 12.5, with the top's own name left out).
+use Rattle.std.specs.Prelude.{ℕ, zero, suc, List, [], ◌∷◌, ◌++◌, map}
+use Rattle.net_design.specs.declared.design.Instance.{Instance}
+use Rattle.net_design.specs.declared.design.Net.{Net}
+use Rattle.net_design.specs.declared.design.Array.{Array}
+use Rattle.net_design.specs.declared.design.Design.{Design}
+
+-- list i of the lists, the empty one past the end
+abbrev pub list_at : {X : Type 0} → List (List X) → ℕ → List X
+list_at [] i = []
+list_at (xs ∷ rest) zero = xs
+list_at (xs ∷ rest) (suc i) = list_at rest i
+
+-- the paths of instances, where `known` are those of the instances before them: that of the parent, and the instance's name
+abbrev pub paths_after : List (List (List ℕ)) → List Instance → List (List (List ℕ))
+paths_after known [] = known
+paths_after known (i ∷ rest) = paths_after (known ++ (list_at known i.parent ++ i.name ∷ []) ∷ []) rest
+
+-- the path of each instance; the top's is empty
+abbrev pub paths : List Instance → List (List (List ℕ))
+paths [] = []
+paths (top ∷ rest) = paths_after ([] ∷ []) rest
+
+-- the full name of each net and of each memory
+abbrev pub net_names : Design → List (List (List ℕ))
+net_names d = map (λ (n : Net). list_at (paths d.instances) n.instance ++ n.name ∷ []) d.nets
+
+abbrev pub memory_names : Design → List (List (List ℕ))
+memory_names d = map (λ (a : Array). list_at (paths d.instances) a.instance ++ a.name ∷ []) d.memories

@@ -1,0 +1,33 @@
+//! The flat design: what a Verilog text means, as plain data, and what its numbers are in a cycle.
+//!
+//! The definitions stand in `specs/`: `Value` (the number of an expression), `Updates` (what a block
+//! writes), `Bits` (the bits that code reads and writes), `Settled` (the settled map, the next state and
+//! the initial state) and `Lawful` (the designs that elaboration answers). `reference` evaluates them as
+//! they are written, slowly.
+#![tactic(auto)]
+
+mod act;
+mod counts;
+mod design;
+mod expression;
+mod laws;
+mod operators;
+mod reference;
+mod rhs;
+mod sized;
+mod statement;
+mod values;
+
+pub use act::{Act, Code, Guard, Lhs, Mask, Place, Timing};
+pub use design::{Array, Counts, Design, Direction, Driver, Instance, Net, Port, Register};
+pub use laws::{
+    assignment_is_equation, blocks_in_order, choice_by_lists, connection_is_equation,
+    lawful_is_sized, target_is_equation, unwritten_bits_stay, updates_in_order,
+};
+pub use reference::{initial_state, is_settled, next_state, output_pins};
+pub use rhs::{BinaryOp, Rhs, Room, Span, UnaryOp};
+pub use sized::is_sized;
+pub use values::{Target, Update, Values};
+
+#[cfg(test)]
+mod tests;

@@ -1,0 +1,29 @@
+//! The numbers of nets and words, and changes of them.
+
+use vidi_bits::Numbers;
+
+/// A number for each net and each memory word of a design, in order: a state, or what a state and the
+/// inputs settle to.
+#[derive(Debug, Drop)]
+pub struct Values {
+    pub nets: Numbers,
+    pub words: Numbers,
+}
+
+/// What an update changes.
+#[derive(Clone, Copy, Debug, PartialEq, Eq)]
+pub enum Target {
+    /// A net, by number.
+    Net(usize),
+    /// A word, counted over all memories.
+    Word(usize),
+}
+
+/// `width` bits of a net or word, from bit `low` on, become the low bits of `number`.
+#[derive(Clone, Copy, Debug, PartialEq, Eq)]
+pub struct Update {
+    pub target: Target,
+    pub low: u32,
+    pub width: u32,
+    pub number: u128,
+}
