@@ -1,0 +1,39 @@
+-- The width of parts of lawful widths in all.
+use Rattle.std.proofs.Common.{◌≡◌, ℕ, ◌+◌, ◌*◌, ◌≤◌, ◌<◌, ◌^◌, Bool, true, false, ◌&&◌, not, min, List, [], ◌∷◌, length, refl, arith, ap, sym, ◌∙◌}
+use Rattle.vlog_size.specs.declared.error.SizeError.{SizeError}
+use Rattle.vlog_size.specs.declared.error.SizeError.TheVariants as error
+use Rattle.std.proofs.lemmas.Grind.{common_steps}
+use Rattle.vlog_size.specs.Limits.{TOP}
+use Rattle.vlog_size.specs.Literal.{is_lawful}
+use Rattle.vlog_size.specs.Findings.{first, told_if}
+use Rattle.vlog_size.specs.Size.{Sizes, all_lawful, total_width, sum_fault}
+
+one_lawful : (w : ℕ) (rest : Bool) → (is_lawful w && rest) ≡ true → w ≤ 128
+one_lawful w rest h = grind arith
+
+rest_lawful : (b rest : Bool) → (b && rest) ≡ true → rest ≡ true
+rest_lawful true rest h = h
+rest_lawful false rest h = (cc)
+
+pub lawful_total : (ps : List Sizes) → all_lawful ps ≡ true → total_width ps ≤ 128 * length ps
+lawful_total [] h = omega arith
+lawful_total (p ∷ ps) h =
+    let split : total_width (p ∷ ps) ≡ p.width + total_width ps = grind (arith, common_steps) in
+    let more : length (p ∷ ps) ≡ 1 + length ps = omega arith in
+    omega (arith, split, more, one_lawful p.width (all_lawful ps) h, lawful_total ps (rest_lawful (is_lawful p.width) (all_lawful ps) h))
+
+told_at : (line sum total : ℕ) (lawful : Bool) → (lawful ≡ true → sum ≡ total)
+    → first (told_if (lawful && not (is_lawful sum)) (error.Width line sum)) ≡ first (told_if (lawful && not (is_lawful total)) (error.Width line total))
+told_at line sum total false h = refl
+told_at line sum total true h = ap (λ (n : ℕ). first (told_if (not (is_lawful n)) (error.Width line n))) (h refl)
+
+capped : (sum total count : ℕ) → sum ≡ min total TOP → total ≤ 128 * count → count < 2 ^ 64 → sum ≡ total
+capped sum total count h k small = omega arith
+
+pub sum_told : (line sum count : ℕ) (lawful : Bool) (all : List Sizes) → lawful ≡ all_lawful all → sum ≡ min (total_width all) TOP → count ≡ length all → count < 2 ^ 64
+    → first (told_if (lawful && not (is_lawful sum)) (error.Width line sum)) ≡ first (sum_fault line all)
+sum_told line sum count lawful all same whole counted small =
+    let exact : lawful ≡ true → sum ≡ total_width all =
+    λ (h : lawful ≡ true). capped sum (total_width all) (length all) whole (lawful_total all (sym same ∙ h)) (omega arith) in
+    told_at line sum (total_width all) lawful exact
+    ∙ ap (λ (b : Bool). first (told_if (b && not (is_lawful (total_width all))) (error.Width line (total_width all)))) same

@@ -1,0 +1,8 @@
+pub mod Findings
+pub mod Limits
+pub mod Literal
+pub mod Names
+pub mod Operators
+pub mod Size
+pub mod Facts
+pub mod Kinds

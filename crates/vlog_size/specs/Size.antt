@@ -1,0 +1,447 @@
+-- *Constants and widths*: what "Constants, widths and values" says of an expression, and its faults, each
+-- from those of its parts. A list of faults is in text order, the whole before its parts.
+use Rattle.std.specs.Prelude.{ℕ, ◌+◌, ◌-◌, ◌*◌, ◌/◌, ◌%◌, ◌^◌, min, max, Bool, true, false, ◌==◌, ◌&&◌, ◌||◌, not, nat_lt, nat_le, if◌then◌else◌, List, [], ◌∷◌, ◌++◌, Option, Some, None, flat_map, sum_by, is_none}
+use Rattle.std.specs.List.{list_all}
+use Rattle.vlog_tree.specs.declared.expr.NumberKind.{NumberKind}
+use Rattle.vlog_tree.specs.declared.expr.NumberKind.TheVariants.{Decimal, Based}
+use Rattle.vlog_tree.specs.declared.expr.BinaryOp.{BinaryOp}
+use Rattle.vlog_tree.specs.declared.expr.UnaryOp.{UnaryOp}
+use Rattle.vlog_tree.specs.Tree.{NumberOf, SignOf, ExprOf, UnaryExpr, BinaryExpr, ChoiceExpr, PrimOf, NumberPrim, RefPrim, ParenPrim, ConcatPrim, RefOf, RefWith, IndexOf, NoIndex, Index, LastOf, NoLast, Last, SelOf, IndexSel, PartSel, IndexedSel, ExprsOf, NoExprs, MoreExprs}
+use Rattle.vlog_size.specs.declared.error.SizeError.{SizeError}
+use Rattle.vlog_size.specs.declared.error.SizeError.TheVariants as error
+use Rattle.vlog_size.specs.declared.scope.Const.{Const}
+use Rattle.vlog_size.specs.declared.scope.Const.TheVariants as const
+use Rattle.vlog_size.specs.declared.scope.Scope.{Scope}
+use Rattle.vlog_size.specs.Limits.{TOP}
+use Rattle.vlog_size.specs.Findings.{is_nil, first, told_if}
+use Rattle.vlog_size.specs.Literal.{is_lawful, literal_width, literal_number, is_bad_literal, is_without_size, digits_from}
+use Rattle.vlog_size.specs.declared.names.Meaning.{Meaning}
+use Rattle.vlog_size.specs.declared.names.Meaning.TheVariants.{Parameter, Place, Undeclared}
+use Rattle.vlog_size.specs.declared.operators.Kind.{Kind}
+use Rattle.vlog_size.specs.declared.operators.Kind.TheVariants.{Sum, Comparison, Logic, Shift}
+use Rattle.vlog_size.specs.Names.{meaning_of, fixed}
+use Rattle.vlog_size.specs.Operators.{kind_of, in_range, whole_value, is_plain_op, is_plain_shift, bit, binary_value, is_wide, unary_value}
+
+-- what is said of an expression
+pub record Sizes : Type 0 where
+  -- the line of its first token
+  pub line : ℕ
+  pub plain : Bool
+  pub unsized : Bool
+  -- a based literal without a size, bare or in parentheses
+  pub without_size : Bool
+  -- it reads parameters alone
+  pub constant : Bool
+  -- its self-determined width
+  pub width : ℕ
+  -- a plain expression's value in whole numbers; none where a part is at fault
+  pub whole : Option ℕ
+  -- a constant expression's number at a width; none where a width in it is unlawful
+  pub value : ℕ → Option ℕ
+  -- E5
+  pub const_faults : List SizeError
+  -- E6
+  pub width_faults : List SizeError
+
+-- a value of no, one or two numbers
+abbrev pub of_one : (ℕ → ℕ) → Option ℕ → Option ℕ
+of_one f None = None
+of_one f (Some a) = Some (f a)
+
+abbrev pub of_two : (ℕ → ℕ → Option ℕ) → Option ℕ → Option ℕ → Option ℕ
+of_two f (Some a) (Some b) = f a b
+of_two f _ _ = None
+
+abbrev pub is_sound : Sizes → Bool
+is_sound e = is_none (first e.const_faults) && is_none (first e.width_faults)
+
+-- the width of a constant expression, where it is lawful
+unfoldable pub own_width : Sizes → Option ℕ
+own_width e = if e.constant && is_lawful e.width then Some e.width else None
+
+abbrev pub at_width : (ℕ → Option ℕ) → Option ℕ → Option ℕ
+at_width value None = None
+at_width value (Some w) = value w
+
+-- the number of a constant expression at its own width
+unfoldable pub own : Sizes → Option ℕ
+own e = at_width e.value (own_width e)
+
+-- the number of a constant expression without a fault
+unfoldable pub number : Sizes → Option ℕ
+number e = if e.plain then e.whole else (if is_sound e then own e else None)
+
+-- a number at or above the limit
+abbrev pub reaches : ℕ → Option ℕ → Bool
+reaches limit None = false
+reaches limit (Some n) = nat_le limit n
+
+abbrev pub or_zero : Option ℕ → ℕ
+or_zero None = 0
+or_zero (Some n) = n
+
+-- an unsized decimal
+abbrev pub is_decimal : NumberKind → Bool
+is_decimal Decimal = true
+is_decimal Based = false
+
+abbrev pub no_faults : List SizeError
+no_faults = []
+
+-- the value of an unsized decimal
+abbrev pub decimal_value : NumberKind → List ℕ → Option ℕ
+decimal_value Decimal text = in_range (digits_from 10 0 text)
+decimal_value Based text = None
+
+abbrev pub of_number : NumberOf ℕ → Sizes
+of_number n = record {
+  line = n.line;
+  plain = is_decimal n.kind;
+  unsized = is_decimal n.kind;
+  without_size = is_without_size n.kind n.text;
+  constant = true;
+  width = literal_width n.kind n.text;
+  whole = decimal_value n.kind n.text;
+  value = λ w. literal_number n.kind n.text;
+  const_faults = told_if (is_bad_literal n.kind n.text || (is_decimal n.kind && is_none (decimal_value n.kind n.text))) (error.Const n.line);
+  width_faults = no_faults;
+}
+
+abbrev pub is_plain_const : Const → Bool
+is_plain_const (const.Plain n) = true
+is_plain_const (const.Sized w n) = false
+
+-- a plain constant is 32 bits wide
+abbrev pub const_width : Const → ℕ
+const_width (const.Plain n) = 32
+const_width (const.Sized w n) = w
+
+abbrev pub const_number : Const → ℕ
+const_number (const.Plain n) = n
+const_number (const.Sized w n) = n
+
+-- what stands in the last bracket
+pub data Bracket : Type 0 where
+  NoBracket : Bracket
+  Bit : Sizes → Bracket
+  -- `first:second`
+  Part : Sizes → Sizes → Bracket
+  -- `base +: width`
+  Indexed : Sizes → Sizes → Bracket
+
+abbrev pub bounds_width : Option ℕ → Option ℕ → ℕ
+bounds_width (Some a) (Some b) = a + 1 - b
+bounds_width _ _ = 0
+
+-- the width of a select of a vector, of which an index picks some bits
+abbrev pub part_width : ℕ → ℕ → Bracket → ℕ
+part_width whole picked NoBracket = whole
+part_width whole picked (Bit i) = picked
+part_width whole picked (Part a b) = bounds_width (number a) (number b)
+part_width whole picked (Indexed base width) = or_zero (number width)
+
+-- an index or bound outside 0 to limit - 1
+abbrev pub outside : ℕ → Sizes → List SizeError
+outside limit i = told_if (reaches limit (number i)) (error.Width i.line (or_zero (number i)))
+
+-- a bound or width that is sized and above 2,147,483,647
+abbrev pub too_large : Sizes → List SizeError
+too_large e = told_if (not e.plain && reaches 2147483648 (number e)) (error.Const e.line)
+
+abbrev pub part_const_faults : Bracket → List SizeError
+part_const_faults NoBracket = no_faults
+part_const_faults (Bit i) = i.const_faults
+part_const_faults (Part a b) = (too_large a ++ a.const_faults) ++ (too_large b ++ b.const_faults)
+part_const_faults (Indexed base width) = base.const_faults ++ (too_large width ++ width.const_faults)
+
+abbrev pub is_wrong_order : ℕ → Option ℕ → Option ℕ → Bool
+is_wrong_order whole (Some a) (Some b) = nat_lt a b && nat_lt b whole
+is_wrong_order whole _ _ = false
+
+-- a width of a part of a vector of lawful width that is unlawful
+abbrev pub is_wrong_part : ℕ → Sizes → Option ℕ → Bool
+is_wrong_part whole base (Some k) = (is_lawful whole && is_lawful base.width) && not (is_lawful k)
+is_wrong_part whole base None = false
+
+-- the first bound below the second one, both in range: the line is the first one's, the number the second one's
+abbrev pub wrong_order : ℕ → Sizes → Sizes → List SizeError
+wrong_order whole a b = told_if (is_wrong_order whole (number a) (number b)) (error.Width a.line (or_zero (number b)))
+
+-- the width after `+:` is unlawful
+abbrev pub wrong_part : ℕ → ℕ → Sizes → Sizes → List SizeError
+wrong_part line whole base width = told_if (is_wrong_part whole base (number width)) (error.Width line (or_zero (number width)))
+
+-- of a select on this line of a vector of `whole` bits, of which an index is below the limit
+abbrev pub part_width_faults : ℕ → ℕ → ℕ → Bracket → List SizeError
+part_width_faults line whole limit NoBracket = no_faults
+part_width_faults line whole limit (Bit i) = outside limit i ++ i.width_faults
+part_width_faults line whole limit (Part a b) = (outside whole a ++ a.width_faults) ++ ((outside whole b ++ b.width_faults) ++ wrong_order whole a b)
+part_width_faults line whole limit (Indexed base width) =
+    wrong_part line whole base width ++ (base.width_faults ++ width.width_faults)
+
+-- a parameter
+abbrev pub of_param : ℕ → Const → Sizes
+of_param line c = record {
+  line = line;
+  plain = is_plain_const c;
+  unsized = is_plain_const c;
+  without_size = false;
+  constant = true;
+  width = const_width c;
+  whole = in_range (const_number c);
+  value = λ w. Some (const_number c);
+  const_faults = told_if (is_plain_const c && is_none (in_range (const_number c))) (error.Const line);
+  width_faults = told_if (not (is_lawful (const_width c))) (error.Width line (const_width c));
+}
+
+-- what is read at run time, with the faults of its brackets
+abbrev pub of_read : ℕ → ℕ → List SizeError → List SizeError → Sizes
+of_read line width const_faults width_faults = record {
+  line = line;
+  plain = false;
+  unsized = false;
+  without_size = false;
+  constant = false;
+  width = width;
+  whole = None;
+  value = λ w. None;
+  const_faults = const_faults;
+  width_faults = width_faults;
+}
+
+-- a net, a memory's word, or a select of one; where there are two brackets the first one holds the word's index
+abbrev pub of_place : ℕ → ℕ → ℕ → ℕ → Option Sizes → Bracket → Sizes
+of_place line width picked limit None last =
+    of_read line (part_width width picked last) (part_const_faults last) (part_width_faults line width limit last)
+of_place line width picked limit (Some i) last =
+    of_read line (part_width width 1 last) (i.const_faults ++ part_const_faults last)
+    ((outside limit i ++ i.width_faults) ++ part_width_faults line width width last)
+
+-- where there is no such net or memory, and so in a constant position, the read is at fault
+abbrev pub of_ref : ℕ → Meaning → Option Sizes → Bracket → Sizes
+of_ref line (Parameter c) index last = of_param line c
+of_ref line (Place width picked limit) index last = of_place line width picked limit index last
+of_ref line Undeclared index last = of_read line 0 (error.Const line ∷ []) no_faults
+
+abbrev pub of_paren : ℕ → Sizes → Sizes
+of_paren line e = record e { line = line }
+
+abbrev pub all_constant : List Sizes → Bool
+all_constant parts = list_all (λ (p : Sizes). p.constant) parts
+
+abbrev pub all_lawful : List Sizes → Bool
+all_lawful parts = list_all (λ (p : Sizes). is_lawful p.width) parts
+
+abbrev pub total_width : List Sizes → ℕ
+total_width parts = sum_by (λ (p : Sizes). p.width) parts
+
+-- E6: parts of lawful widths make an unlawful one
+abbrev pub sum_fault : ℕ → List Sizes → List SizeError
+sum_fault line parts =
+    told_if (all_lawful parts && not (is_lawful (total_width parts)))
+    (error.Width line (total_width parts))
+
+-- a part of v bits with the number m below the number n of the parts before, of w bits in all
+abbrev pub join_part : ℕ → ℕ → ℕ → ℕ → ℕ
+join_part w v n m = (n * 2 ^ v % 2 ^ w + m) % 2 ^ w
+
+abbrev pub join_with : ℕ → Option ℕ → Sizes → Option ℕ → Option ℕ
+join_with w n p None = None
+join_with w n p (Some v) = of_two (λ (a b : ℕ). Some (join_part w v a b)) n (p.value v)
+
+-- the parts' numbers after the number of those before; the first part is the highest
+abbrev pub joined : ℕ → Option ℕ → List Sizes → Option ℕ
+joined w n [] = n
+joined w n (p ∷ parts) = joined w (join_with w n p (own_width p)) parts
+
+-- the width of constant parts in all, where it is lawful
+abbrev pub concat_own_width : List Sizes → Option ℕ
+concat_own_width parts = if all_constant parts && is_lawful (total_width parts) then Some (total_width parts) else None
+
+abbrev pub joined_at : List Sizes → Option ℕ → Option ℕ
+joined_at parts None = None
+joined_at parts (Some w) = joined w (Some 0) parts
+
+abbrev pub concat_value : List Sizes → Option ℕ
+concat_value parts = joined_at parts (concat_own_width parts)
+
+-- a part that is unsized, or a based literal without a size
+abbrev pub sizeless_part : Sizes → List SizeError
+sizeless_part p = told_if (p.unsized || p.without_size) (error.Const p.line)
+
+abbrev pub parts_const_faults : List Sizes → List SizeError
+parts_const_faults parts = flat_map (λ (p : Sizes). sizeless_part p ++ p.const_faults) parts
+
+abbrev pub parts_width_faults : List Sizes → List SizeError
+parts_width_faults parts = flat_map (λ (p : Sizes). p.width_faults) parts
+
+-- `{part, ..}`
+abbrev pub of_concat : ℕ → List Sizes → Sizes
+of_concat line parts = record {
+  line = line;
+  plain = false;
+  unsized = false;
+  without_size = false;
+  constant = all_constant parts;
+  width = total_width parts;
+  whole = None;
+  value = λ w. concat_value parts;
+  const_faults = parts_const_faults parts;
+  width_faults = sum_fault line parts ++ parts_width_faults parts;
+}
+
+abbrev pub narrow_value : UnaryOp → (ℕ → Option ℕ) → Option ℕ → Option ℕ
+narrow_value op value None = None
+narrow_value op value (Some w) = of_one (λ (n : ℕ). unary_value op n w) (value w)
+
+-- an operator before an operand
+abbrev pub of_sign : ℕ → UnaryOp → Sizes → Sizes
+of_sign line op a = record {
+  line = line;
+  plain = false;
+  unsized = false;
+  without_size = false;
+  constant = a.constant;
+  width = if is_wide op then a.width else 1;
+  whole = None;
+  value = λ w. if is_wide op then of_one (λ (n : ℕ). unary_value op n w) (a.value w) else narrow_value op a.value (own_width a);
+  const_faults = told_if (is_wide op && a.unsized) (error.Const line) ++ a.const_faults;
+  width_faults = a.width_faults;
+}
+
+abbrev pub binary_width : Kind → ℕ → ℕ → ℕ
+binary_width Sum a b = max a b
+binary_width Comparison a b = 1
+binary_width Logic a b = 1
+binary_width Shift a b = a
+
+-- an operator all of whose operands are unsized, of a shift the left one, that isn't lawful
+abbrev pub is_bad_kind : Kind → BinaryOp → Bool → Bool → Bool → Bool → Bool
+is_bad_kind Sum op a b a_plain b_plain = (a && b) && not (is_plain_op op && (a_plain && b_plain))
+is_bad_kind Comparison op a b a_plain b_plain = (a && b) && not (a_plain && b_plain)
+is_bad_kind Logic op a b a_plain b_plain = false
+is_bad_kind Shift op a b a_plain b_plain = a && not (is_plain_shift op && a_plain)
+
+-- of two operands that are unsized and plain or not
+abbrev pub is_bad_operator : BinaryOp → Bool → Bool → Bool → Bool → Bool
+is_bad_operator op a b a_plain b_plain = is_bad_kind (kind_of op) op a b a_plain b_plain
+
+-- the larger width of two constant expressions, where it is lawful
+unfoldable pub shared_width : Sizes → Sizes → Option ℕ
+shared_width a b = if (a.constant && b.constant) && is_lawful (max a.width b.width) then Some (max a.width b.width) else None
+
+abbrev pub compared : BinaryOp → (ℕ → Option ℕ) → (ℕ → Option ℕ) → Option ℕ → Option ℕ
+compared op a b None = None
+compared op a b (Some w) = of_two (λ (m n : ℕ). Some (binary_value op m n w)) (a w) (b w)
+
+abbrev pub binary_number : Kind → BinaryOp → Sizes → Sizes → ℕ → Option ℕ
+binary_number Sum op a b w = of_two (λ (m n : ℕ). Some (binary_value op m n w)) (a.value w) (b.value w)
+binary_number Comparison op a b w = compared op a.value b.value (shared_width a b)
+binary_number Logic op a b w = of_two (λ (m n : ℕ). Some (binary_value op m n w)) (own a) (own b)
+binary_number Shift op a b w = of_two (λ (m n : ℕ). Some (binary_value op m n w)) (a.value w) (own b)
+
+-- of the numbers of parts without a fault, one out of range
+abbrev pub is_out : BinaryOp → Option ℕ → Option ℕ → Bool
+is_out op (Some a) (Some b) = is_none (whole_value op a b)
+is_out op _ _ = false
+
+-- two operands with an operator between them
+abbrev pub of_binary : BinaryOp → Sizes → Sizes → Sizes
+of_binary op a b = record {
+  line = a.line;
+  plain = is_plain_op op && (a.plain && b.plain);
+  unsized = (is_plain_op op && (a.plain && b.plain)) || (is_plain_shift op && a.plain);
+  without_size = false;
+  constant = a.constant && b.constant;
+  width = binary_width (kind_of op) a.width b.width;
+  whole = of_two (whole_value op) a.whole b.whole;
+  value = λ w. binary_number (kind_of op) op a b w;
+  const_faults =
+      told_if (is_bad_operator op a.unsized b.unsized a.plain b.plain || ((is_plain_op op && (a.plain && b.plain)) && is_out op a.whole b.whole)) (error.Const a.line)
+      ++ (a.const_faults ++ b.const_faults);
+  width_faults = a.width_faults ++ b.width_faults;
+}
+
+-- the branch that is taken
+abbrev pub chosen_value : Option ℕ → Option ℕ → Option ℕ → Option ℕ
+chosen_value None a b = None
+chosen_value (Some c) a b = if c == 0 then b else a
+
+-- also the branch that isn't taken has a value
+abbrev pub chosen_whole : Option ℕ → Option ℕ → Option ℕ → Option ℕ
+chosen_whole c (Some a) (Some b) = chosen_value c (Some a) (Some b)
+chosen_whole c _ _ = None
+
+-- `c ? a : b`
+abbrev pub of_choice : Sizes → Sizes → Sizes → Sizes
+of_choice c a b = record {
+  line = c.line;
+  plain = c.constant && (a.plain && b.plain);
+  unsized = a.unsized && b.unsized;
+  without_size = false;
+  constant = c.constant && (a.constant && b.constant);
+  width = max a.width b.width;
+  whole = chosen_whole (number c) a.whole b.whole;
+  value = λ w. chosen_value (own c) (a.value w) (b.value w);
+  const_faults = c.const_faults ++ (a.const_faults ++ b.const_faults);
+  width_faults = c.width_faults ++ (a.width_faults ++ b.width_faults);
+}
+
+abbrev mutual
+  pub sizes_of : Scope → ExprOf ℕ → Sizes
+  sizes_of s (UnaryExpr None prim) = sizes_of_prim s prim
+  sizes_of s (UnaryExpr (Some sign) prim) = of_sign sign.line sign.op (sizes_of_prim s prim)
+  sizes_of s (BinaryExpr a op b) = of_binary op (sizes_of s a) (sizes_of s b)
+  sizes_of s (ChoiceExpr c a b) = of_choice (sizes_of s c) (sizes_of s a) (sizes_of s b)
+
+  pub sizes_of_prim : Scope → PrimOf ℕ → Sizes
+  sizes_of_prim s (NumberPrim n) = of_number n
+  sizes_of_prim s (RefPrim r) = sizes_of_ref s r
+  sizes_of_prim s (ParenPrim line e) = of_paren line (sizes_of s e)
+  sizes_of_prim s (ConcatPrim line es) = of_concat line (sizes_of_all s es)
+
+  pub sizes_of_ref : Scope → RefOf ℕ → Sizes
+  sizes_of_ref s (RefWith id index last) = of_ref id.line (meaning_of s id.name) (sizes_of_index s index) (sizes_of_last s last)
+
+  pub sizes_of_index : Scope → IndexOf ℕ → Option Sizes
+  sizes_of_index s NoIndex = None
+  sizes_of_index s (Index e) = Some (sizes_of s e)
+
+  pub sizes_of_last : Scope → LastOf ℕ → Bracket
+  sizes_of_last s NoLast = NoBracket
+  sizes_of_last s (Last sel) = sizes_of_sel s sel
+
+  -- bounds and the width after `+:` are constant positions
+  pub sizes_of_sel : Scope → SelOf ℕ → Bracket
+  sizes_of_sel s (IndexSel e) = Bit (sizes_of s e)
+  sizes_of_sel s (PartSel first second) = Part (sizes_of (fixed s) first) (sizes_of (fixed s) second)
+  sizes_of_sel s (IndexedSel base width) = Indexed (sizes_of s base) (sizes_of (fixed s) width)
+
+  pub sizes_of_all : Scope → ExprsOf ℕ → List Sizes
+  sizes_of_all s NoExprs = []
+  sizes_of_all s (MoreExprs e es) = sizes_of s e ∷ sizes_of_all s es
+
+-- E5's findings, then E6's
+unfoldable pub faults : Sizes → List SizeError
+faults e = e.const_faults ++ e.width_faults
+
+-- an expression without a fault that has no number isn't a constant
+unfoldable pub constant_faults : Sizes → List SizeError
+constant_faults e = faults e ++ told_if (is_none (number e)) (error.Const e.line)
+
+-- plain, or of the width
+abbrev pub constant_at : Bool → ℕ → Option ℕ → Option Const
+constant_at plain width None = None
+constant_at plain width (Some n) = Some (if plain then const.Plain n else const.Sized width n)
+
+-- the constant, where there is no fault
+unfoldable pub constant_of : Sizes → Option Const
+constant_of e = constant_at e.plain e.width (number e)
+
+-- the width of a constant expression, no more than the largest number
+unfoldable pub constant_width : Sizes → Option ℕ
+constant_width e = if e.constant then Some (min e.width TOP) else None
+
+-- the width of constant parts after n, no more than the largest number
+unfoldable pub constant_widths : ℕ → List Sizes → Option ℕ
+constant_widths n parts = if all_constant parts then Some (min (n + total_width parts) TOP) else None

@@ -1,0 +1,446 @@
+ghost use Rattle.std.specs.Prelude.{◌≡◌, ◌<◌, ◌≤◌, Some, None, [], ◌∷◌, ℕ, List, min, length, ◌&&◌, not};
+ghost use Rattle.vlog_tree.specs.Tree.{NumberOf};
+ghost use Rattle.vlog_tree.specs.Plain.{plain_number};
+ghost use Rattle.vlog_size.specs.Findings.{first, told_if, or_first};
+ghost use Rattle.vlog_size.specs.Literal.{is_lawful, literal_width, is_bad_literal};
+ghost use Rattle.vlog_size.specs.Size.{Sizes, of_number, of_param, of_read, of_sign, of_binary, of_choice, of_paren, is_decimal, is_plain_const, decimal_value, is_bad_operator, is_out, of_two, number, chosen_whole, outside, too_large, wrong_order, wrong_part, bounds_width, Bit, Part, Indexed, of_concat, all_lawful, total_width, sum_fault};
+ghost use Rattle.vlog_size.specs.Limits.{TOP};
+ghost use Rattle.vlog_size.specs.Operators.{whole_value};
+ghost use Rattle.vlog_size.specs.Facts.{Shows, ShowsNumber, ShowsSelect, ShowsRest};
+ghost use Rattle.vlog_size.specs.declared.error.SizeError.{SizeError};
+
+use crate::error::SizeError;
+use crate::literal::{is_bad_literal, is_lawful, is_without_size, literal_width, spelled_number};
+use crate::operators::{
+    Kind, in_range, is_plain_op, is_plain_shift, is_wide, kind_of, whole_value,
+};
+use crate::scope::Const;
+use crate::value::{binary_width, const_number, const_width};
+use vlog_tree::{BinaryOp, Number, NumberKind, UnaryOp};
+
+/// What is said of an expression, with the first fault of each kind alone.
+#[derive(Clone, Copy)]
+pub struct Facts {
+    /// The line of its first token.
+    pub line: u32,
+    pub plain: bool,
+    pub sizeless: bool,
+    /// A based literal without a size, bare or in parentheses.
+    pub without_size: bool,
+    /// It reads parameters alone.
+    pub constant: bool,
+    /// Its width, or the largest number where it is larger.
+    pub width: u128,
+    /// A plain expression's value; none where a part is at fault.
+    pub whole: Option<u32>,
+    pub const_fault: Option<SizeError>,
+    pub width_fault: Option<SizeError>,
+}
+
+/// The first of two findings, where there is one.
+pub fn either(a: Option<SizeError>, b: Option<SizeError>) -> Option<SizeError>
+    ensures { result ≡ or_first a b }
+{
+    match a {
+        None => b,
+        Some(e) => Some(e),
+    }
+}
+
+/// The finding where the test holds.
+pub fn told_if(test: bool, e: SizeError) -> Option<SizeError>
+    ensures { result ≡ first (told_if test e) }
+{
+    if test { Some(e) } else { None }
+}
+
+fn is_decimal(kind: NumberKind) -> bool
+    ensures { result ≡ is_decimal kind }
+{
+    matches!(kind, NumberKind::Decimal)
+}
+
+/// The value of a decimal literal, where it is in range.
+fn decimal_value(kind: NumberKind, text: &[u8]) -> Option<u32>
+    ensures { result ≡ decimal_value kind text.now }
+{
+    match kind {
+        NumberKind::Decimal => in_range(spelled_number(kind, text)?),
+        NumberKind::Based => None,
+    }
+}
+
+/// What is said of a literal.
+pub fn number_facts(number: &Number) -> Facts
+    ensures { Shows result (of_number (plain_number number.now)) }
+{
+    let text = number.text.as_slice();
+    let decimal = is_decimal(number.kind);
+    let whole = decimal_value(number.kind, text);
+    let bad = is_bad_literal(number.kind, text) || (decimal && whole.is_none());
+    Facts {
+        line: number.line,
+        plain: decimal,
+        sizeless: decimal,
+        without_size: is_without_size(number.kind, text),
+        constant: true,
+        width: literal_width(number.kind, text),
+        whole,
+        const_fault: told_if(bad, SizeError::Const { line: number.line }),
+        width_fault: None,
+    }
+}
+
+fn is_plain_const(value: Const) -> bool
+    ensures { result ≡ is_plain_const value }
+{
+    matches!(value, Const::Plain { .. })
+}
+
+/// What is said of a parameter that is read on this line.
+pub fn param_facts(line: u32, value: Const) -> Facts
+    ensures { Shows result (of_param line value) }
+{
+    let plain = is_plain_const(value);
+    let whole = in_range(const_number(value));
+    let width = u128::from(const_width(value));
+    let wrong = !is_lawful(width);
+    Facts {
+        line,
+        plain,
+        sizeless: plain,
+        without_size: false,
+        constant: true,
+        width,
+        whole,
+        const_fault: told_if(plain && whole.is_none(), SizeError::Const { line }),
+        width_fault: told_if(wrong, SizeError::Width { line, got: width }),
+    }
+}
+
+/// What is said of an operator before an operand.
+#[tactic(auto, using(crate::proofs::Firsts::first_append))]
+pub fn sign_facts(line: u32, op: UnaryOp, a: &Facts) -> Facts
+    ensures { (A : Sizes) → Shows a.now A → Shows result (of_sign line op A) }
+{
+    let wide = is_wide(op);
+    let bad = told_if(wide && a.sizeless, SizeError::Const { line });
+    Facts {
+        line,
+        plain: false,
+        sizeless: false,
+        without_size: false,
+        constant: a.constant,
+        width: if wide { a.width } else { 1 },
+        whole: None,
+        const_fault: either(bad, a.const_fault),
+        width_fault: a.width_fault,
+    }
+}
+
+/// Whether all operands that count are unsized, and the operator isn't lawful there.
+fn is_bad_operator(op: BinaryOp, a: &Facts, b: &Facts) -> bool
+    ensures { result ≡ is_bad_operator op a.now.sizeless b.now.sizeless a.now.plain b.now.plain }
+{
+    match kind_of(op) {
+        Kind::Sum => a.sizeless && b.sizeless && !(is_plain_op(op) && a.plain && b.plain),
+        Kind::Comparison => a.sizeless && b.sizeless && !(a.plain && b.plain),
+        Kind::Logic => false,
+        Kind::Shift => a.sizeless && !(is_plain_shift(op) && a.plain),
+    }
+}
+
+/// Whether both numbers are there, and the value isn't in range.
+fn is_out(op: BinaryOp, a: Option<u32>, b: Option<u32>) -> bool
+    ensures { result ≡ is_out op a b }
+{
+    match (a, b) {
+        (Some(a), Some(b)) => whole_value(op, a, b).is_none(),
+        _ => false,
+    }
+}
+
+/// The value in whole numbers, where both numbers are there.
+fn whole_of(op: BinaryOp, a: Option<u32>, b: Option<u32>) -> Option<u32>
+    ensures { result ≡ of_two (whole_value op) a b }
+{
+    match (a, b) {
+        (Some(a), Some(b)) => whole_value(op, a, b),
+        _ => None,
+    }
+}
+
+/// What is said of two operands with an operator between them.
+#[tactic(auto, using(crate::proofs::Firsts::first_append))]
+pub fn binary_facts(op: BinaryOp, a: &Facts, b: &Facts) -> Facts
+    ensures { (A B : Sizes) → Shows a.now A → Shows b.now B → Shows result (of_binary op A B) }
+{
+    let plain = is_plain_op(op) && (a.plain && b.plain);
+    let bad = is_bad_operator(op, a, b) || (plain && is_out(op, a.whole, b.whole));
+    let own = told_if(bad, SizeError::Const { line: a.line });
+    let parts = either(a.const_fault, b.const_fault);
+    Facts {
+        line: a.line,
+        plain,
+        sizeless: plain || (is_plain_shift(op) && a.plain),
+        without_size: false,
+        constant: a.constant && b.constant,
+        width: binary_width(kind_of(op), a.width, b.width),
+        whole: whole_of(op, a.whole, b.whole),
+        const_fault: either(own, parts),
+        width_fault: either(a.width_fault, b.width_fault),
+    }
+}
+
+/// The value of the branch that is taken, where the condition and both branches have one.
+fn whole_choice(chosen: Option<u128>, a: Option<u32>, b: Option<u32>) -> Option<u32>
+    ensures { result ≡ chosen_whole chosen a b }
+{
+    match (chosen, a, b) {
+        (Some(0), Some(_), Some(b)) => Some(b),
+        (Some(_), Some(a), Some(_)) => Some(a),
+        _ => None,
+    }
+}
+
+/// What is said of `condition ? a : b`.
+#[tactic(auto, using(crate::proofs::Firsts::first_append))]
+pub fn choice_facts(condition: &Facts, chosen: Option<u128>, a: &Facts, b: &Facts) -> Facts
+    ensures { (C A B : Sizes) → Shows condition.now C → chosen ≡ number C → Shows a.now A → Shows b.now B → Shows result (of_choice C A B) }
+{
+    let consts = either(a.const_fault, b.const_fault);
+    let widths = either(a.width_fault, b.width_fault);
+    Facts {
+        line: condition.line,
+        plain: condition.constant && (a.plain && b.plain),
+        sizeless: a.sizeless && b.sizeless,
+        without_size: false,
+        constant: condition.constant && (a.constant && b.constant),
+        width: a.width.max(b.width),
+        whole: whole_choice(chosen, a.whole, b.whole),
+        const_fault: either(condition.const_fault, consts),
+        width_fault: either(condition.width_fault, widths),
+    }
+}
+
+/// What is said of what is read at run time.
+pub fn read_facts(
+    line: u32,
+    width: u128,
+    const_fault: Option<SizeError>,
+    width_fault: Option<SizeError>,
+) -> Facts
+    ensures { (w : ℕ) (consts widths : List SizeError) → width ≡ min w TOP → const_fault ≡ first consts → width_fault ≡ first widths → Shows result (of_read line w consts widths) }
+{
+    Facts {
+        line,
+        plain: false,
+        sizeless: false,
+        without_size: false,
+        constant: false,
+        width,
+        whole: None,
+        const_fault,
+        width_fault,
+    }
+}
+
+/// What is said of an expression in parentheses.
+pub fn paren_facts(line: u32, inner: &Facts) -> Facts
+    ensures { (E : Sizes) → Shows inner.now E → Shows result (of_paren line E) }
+{
+    Facts { line, ..*inner }
+}
+
+/// What is said of an expression, and its number where it has one.
+#[derive(Clone, Copy)]
+pub struct Numbered {
+    pub facts: Facts,
+    pub number: Option<u128>,
+}
+
+/// The index or bound, where it isn't below the limit.
+pub fn outside(limit: u32, index: &Numbered) -> Option<SizeError>
+    ensures { (I : Sizes) → ShowsNumber index.now I → result ≡ first (outside limit I) }
+{
+    match index.number {
+        Some(got) if got >= u128::from(limit) => Some(SizeError::Width {
+            line: index.facts.line,
+            got,
+        }),
+        _ => None,
+    }
+}
+
+/// The bound or width, where it is sized and above 2,147,483,647.
+pub fn too_large(bound: &Numbered) -> Option<SizeError>
+    ensures { (E : Sizes) → ShowsNumber bound.now E → result ≡ first (too_large E) }
+{
+    match bound.number {
+        Some(n) if !bound.facts.plain && n >= 2_147_483_648 => Some(SizeError::Const {
+            line: bound.facts.line,
+        }),
+        _ => None,
+    }
+}
+
+/// The bounds, where both are below the limit and the first one is below the second one.
+pub fn wrong_order(limit: u32, a: &Numbered, b: &Numbered) -> Option<SizeError>
+    ensures { (A B : Sizes) → ShowsNumber a.now A → ShowsNumber b.now B → result ≡ first (wrong_order limit A B) }
+{
+    match (a.number, b.number) {
+        (Some(first), Some(got)) if first < got && got < u128::from(limit) => Some(
+            SizeError::Width {
+                line: a.facts.line,
+                got,
+            },
+        ),
+        _ => None,
+    }
+}
+
+/// The width after `+:`, where the vector and the base have lawful widths and it is unlawful.
+pub fn wrong_part(line: u32, whole: u32, base: &Facts, width: &Numbered) -> Option<SizeError>
+    ensures { (B W : Sizes) → Shows base.now B → ShowsNumber width.now W → result ≡ first (wrong_part line whole B W) }
+{
+    let got = width.number?;
+    let lawful = is_lawful(u128::from(whole)) && is_lawful(base.width);
+    told_if(lawful && !is_lawful(got), SizeError::Width { line, got })
+}
+
+/// What a select adds to the name before it.
+#[derive(Clone, Copy)]
+pub struct Select {
+    pub width: u128,
+    pub const_fault: Option<SizeError>,
+    pub width_fault: Option<SizeError>,
+}
+
+/// The select of the bits that an index below the limit picks.
+#[tactic(auto, using(crate::proofs::Firsts::first_append))]
+pub fn bit_select(picked: u32, limit: u32, index: &Numbered) -> Select
+    ensures { (I : Sizes) (line whole : ℕ) → ShowsNumber index.now I → ShowsSelect line whole picked limit result (Bit I) }
+{
+    Select {
+        width: u128::from(picked),
+        const_fault: index.facts.const_fault,
+        width_fault: either(outside(limit, index), index.facts.width_fault),
+    }
+}
+
+/// The width of a select by two bounds, 0 where one has no number.
+fn bounds_width(a: Option<u128>, b: Option<u128>) -> u128
+    ensures { result ≡ min (bounds_width a b) TOP }
+{
+    match (a, b) {
+        (Some(a), Some(b)) if a < b => 0,
+        (Some(a), Some(b)) => (a - b).saturating_add(1),
+        _ => 0,
+    }
+}
+
+/// The select of the bits from the first bound down to the second one.
+#[tactic(auto, using(crate::proofs::Firsts::first_append))]
+pub fn part_select(whole: u32, a: &Numbered, b: &Numbered) -> Select
+    ensures { (A B : Sizes) (line picked limit : ℕ) → ShowsNumber a.now A → ShowsNumber b.now B → ShowsSelect line whole picked limit result (Part A B) }
+{
+    let a_const = either(too_large(a), a.facts.const_fault);
+    let b_const = either(too_large(b), b.facts.const_fault);
+    let a_width = either(outside(whole, a), a.facts.width_fault);
+    let b_width = either(outside(whole, b), b.facts.width_fault);
+    let rest = either(b_width, wrong_order(whole, a, b));
+    Select {
+        width: bounds_width(a.number, b.number),
+        const_fault: either(a_const, b_const),
+        width_fault: either(a_width, rest),
+    }
+}
+
+/// The select of some bits from a base on.
+#[tactic(auto, using(crate::proofs::Firsts::first_append))]
+pub fn indexed_select(line: u32, whole: u32, base: &Facts, width: &Numbered) -> Select
+    ensures { (B W : Sizes) (picked limit : ℕ) → Shows base.now B → ShowsNumber width.now W → ShowsSelect line whole picked limit result (Indexed B W) }
+{
+    let width_const = either(too_large(width), width.facts.const_fault);
+    let parts = either(base.width_fault, width.facts.width_fault);
+    Select {
+        width: width.number.unwrap_or(0),
+        const_fault: either(base.const_fault, width_const),
+        width_fault: either(wrong_part(line, whole, base, width), parts),
+    }
+}
+
+/// What is said of the parts of a concatenation so far.
+#[derive(Clone, Copy)]
+pub struct Parts {
+    pub constant: bool,
+    /// Each width is lawful.
+    pub lawful: bool,
+    /// The widths in all, or the largest number where they are more.
+    pub sum: u128,
+    pub const_fault: Option<SizeError>,
+    pub width_fault: Option<SizeError>,
+}
+
+/// No part so far.
+pub fn no_parts() -> Parts
+    ensures { (all : List Sizes) → ShowsRest result all all }
+{
+    Parts {
+        constant: true,
+        lawful: true,
+        sum: 0,
+        const_fault: None,
+        width_fault: None,
+    }
+}
+
+/// The parts with one more.
+#[tactic(auto, using(crate::proofs::Firsts::first_append, crate::proofs::Firsts::or_first_assoc, crate::proofs::Firsts::and_assoc))]
+pub fn with_part(parts: &Parts, part: &Facts) -> Parts
+    ensures { (P : Sizes) (rest all : List Sizes) → ShowsRest parts.now (P ∷ rest) all → Shows part.now P → ShowsRest result rest all }
+{
+    let sizeless = part.sizeless || part.without_size;
+    let own = told_if(sizeless, SizeError::Const { line: part.line });
+    let consts = either(own, part.const_fault);
+    Parts {
+        constant: parts.constant && part.constant,
+        lawful: parts.lawful && is_lawful(part.width),
+        sum: parts.sum.saturating_add(part.width),
+        const_fault: either(parts.const_fault, consts),
+        width_fault: either(parts.width_fault, part.width_fault),
+    }
+}
+
+fn is_wrong_sum(lawful: bool, sum: u128) -> bool
+    ensures { result ≡ (lawful && not (is_lawful sum)) }
+{
+    lawful && !is_lawful(sum)
+}
+
+/// The width of `count` parts of lawful widths in all, where it is unlawful.
+fn sum_fault(line: u32, lawful: bool, sum: u128, count: usize) -> Option<SizeError>
+    ensures { (all : List Sizes) → lawful ≡ all_lawful all → sum ≡ min (total_width all) TOP → count ≡ length all → result ≡ first (sum_fault line all) }
+{
+    let wrong = is_wrong_sum(lawful, sum);
+    told_if(wrong, SizeError::Width { line, got: sum })
+}
+
+/// What is said of a concatenation of these `count` parts.
+#[tactic(auto, using(crate::proofs::Firsts::first_append))]
+pub fn concat_facts(line: u32, parts: &Parts, count: usize) -> Facts
+    ensures { (all : List Sizes) → ShowsRest parts.now [] all → count ≡ length all → Shows result (of_concat line all) }
+{
+    let own = sum_fault(line, parts.lawful, parts.sum, count);
+    Facts {
+        line,
+        plain: false,
+        sizeless: false,
+        without_size: false,
+        constant: parts.constant,
+        width: parts.sum,
+        whole: None,
+        const_fault: parts.const_fault,
+        width_fault: either(own, parts.width_fault),
+    }
+}
