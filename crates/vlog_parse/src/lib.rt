@@ -13,6 +13,7 @@ mod parse;
 mod target;
 
 pub use error::ParseError;
+pub use parse::parse_expression;
 pub use laws::{lines_dont_count, one_expr, read_is_spelled, spelled_is_read};
 
 #[cfg(test)]

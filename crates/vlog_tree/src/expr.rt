@@ -136,13 +136,13 @@ pub struct Sign {
 #[derive(Debug, Drop)]
 pub struct Unary {
     pub sign: Option<Sign>,
-    pub prim: Prim,
+    pub prim: Primary,
 }
 
 /// An operand without operator.
 #[cycle(expr)]
 #[derive(Debug, Drop)]
-pub enum Prim {
+pub enum Primary {
     Number(Number),
     Ref(Ref),
     /// `(inner)`; `line` is that of `(`.

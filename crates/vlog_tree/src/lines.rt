@@ -2,19 +2,19 @@ ghost use Rattle.std.specs.Prelude.{◌≡◌};
 ghost use Rattle.vlog_tree.specs.Plain.{plain_expr, plain_prim, plain_target};
 ghost use Rattle.vlog_tree.specs.Lines.{expr_line, prim_line, target_line};
 
-use crate::expr::{Expr, Prim as Operand};
+use crate::expr::{Expr, Primary};
 use crate::lists::{see_concat, see_concat_target};
 use crate::stmt::Target;
 
 /// The line of an operand's first token.
-fn prim_line(prim: &Operand) -> u32
+fn prim_line(prim: &Primary) -> u32
     ensures { result ≡ prim_line (plain_prim prim.now) }
 {
     match prim {
-        Operand::Number(number) => number.line,
-        Operand::Ref(name) => name.id.line,
-        Operand::Paren { line, inner: _ } => *line,
-        Operand::Concat { line, parts } => {
+        Primary::Number(number) => number.line,
+        Primary::Ref(name) => name.id.line,
+        Primary::Paren { line, inner: _ } => *line,
+        Primary::Concat { line, parts } => {
             see_concat(*line, parts);
             *line
         }

@@ -1,18 +1,18 @@
 ghost use Rattle.std.specs.Prelude.{◌≡◌};
 ghost use Rattle.vlog_tree.specs.Tree.{ConcatPrim, ConcatTarget, BeginStmt};
 ghost use Rattle.vlog_tree.specs.Plain.{plain_prim, plain_exprs, plain_target, plain_targets, plain_stmt, plain_stmts};
-ghost use Rattle.vlog_tree.specs.declared.expr.Prim as declared_prim;
+ghost use Rattle.vlog_tree.specs.declared.expr.Primary as declared_prim;
 ghost use Rattle.vlog_tree.specs.declared.stmt.Target as declared_target;
 ghost use Rattle.vlog_tree.specs.declared.stmt.Stmt as declared_stmt;
 
-use crate::expr::{Exprs, Prim as Operand};
+use crate::expr::{Exprs, Primary};
 use crate::stmt::{Stmt, Stmts, Target, Targets};
 
 /// The operand `{part, ..}`, whose `{` stands on `line`.
-pub fn concat(line: u32, parts: Exprs) -> Operand
+pub fn concat(line: u32, parts: Exprs) -> Primary
     ensures { plain_prim result ≡ ConcatPrim line (plain_exprs parts) }
 {
-    Operand::Concat { line, parts }
+    Primary::Concat { line, parts }
 }
 
 /// The target `{part, ..}`, whose `{` stands on `line`.
@@ -29,9 +29,9 @@ pub fn begin(stmts: Stmts) -> Stmt
     Stmt::Begin(stmts)
 }
 
-/// What `Prim::Concat` is as plain data, for proofs of an arm that matches it.
+/// What `Primary::Concat` is as plain data, for proofs of an arm that matches it.
 pub fn see_concat(line: u32, parts: &Exprs)
-    ensures { (p : declared_prim.Prim) → p ≡ declared_prim.Concat line parts.now → plain_prim p ≡ ConcatPrim line (plain_exprs parts.now) }
+    ensures { (p : declared_prim.Primary) → p ≡ declared_prim.Concat line parts.now → plain_prim p ≡ ConcatPrim line (plain_exprs parts.now) }
 {}
 
 /// What `Target::Concat` is as plain data, for proofs of an arm that matches it.

@@ -2,7 +2,7 @@ ghost use Rattle.std.specs.Prelude.{◌≡◌, ◌↔◌, IsTrue};
 ghost use Rattle.vlog_tree.specs.Plain.{plain_expr, plain_prim, plain_unary, plain_ref, plain_sel, plain_exprs};
 ghost use Rattle.vlog_tree.specs.Shape.{level_of, level, IsGoodExpr, IsGoodPrim, IsGoodRef, IsGoodSel, AreGoodExprs};
 
-use crate::expr::{BinaryOp, Expr, Prim as Operand, Ref, Sel, Unary};
+use crate::expr::{BinaryOp, Expr, Primary, Ref, Sel, Unary};
 use crate::lists::see_concat;
 use crate::shape::token::{good_name, good_number};
 
@@ -72,14 +72,14 @@ fn good_unary(unary: &Unary) -> bool
 }
 
 #[cycle(good)]
-fn good_prim(prim: &Operand) -> bool
+fn good_prim(prim: &Primary) -> bool
     ensures { IsTrue result ↔ IsGoodPrim (plain_prim prim.now) }
 {
     match prim {
-        Operand::Number(number) => good_number(number),
-        Operand::Ref(name) => good_ref(name),
-        Operand::Paren { line: _, inner } => good_expr(inner),
-        Operand::Concat { line, parts } => {
+        Primary::Number(number) => good_number(number),
+        Primary::Ref(name) => good_ref(name),
+        Primary::Paren { line: _, inner } => good_expr(inner),
+        Primary::Concat { line, parts } => {
             see_concat(*line, parts);
             good_exprs(parts.as_slice())
         }

@@ -3,7 +3,7 @@ ghost use Rattle.vlog_tree.specs.Words.{tokens_of};
 ghost use Rattle.vlog_tree.specs.Plain.{plain_sign, plain_expr, plain_prim, plain_unary, plain_ref, plain_sel, plain_exprs};
 ghost use Rattle.vlog_tree.specs.Spelling.{unary_terminal, binary_terminal, sign_words, expr_words, prim_words, ref_words, sel_words, exprs_words};
 
-use crate::expr::{BinaryOp, Expr, Prim as Operand, Ref, Sel, Sign, Unary, UnaryOp};
+use crate::expr::{BinaryOp, Expr, Primary, Ref, Sel, Sign, Unary, UnaryOp};
 use crate::lists::see_concat;
 use crate::spelling::token::{put_fixed, put_name, put_number};
 use crate::terminal::Terminal;
@@ -99,18 +99,18 @@ fn push_unary(alloc: Global, out: &mut Tokens, unary: &Unary) -> Result<(), Memo
 }
 
 #[cycle(push)]
-fn push_prim(alloc: Global, out: &mut Tokens, prim: &Operand) -> Result<(), Memory>
+fn push_prim(alloc: Global, out: &mut Tokens, prim: &Primary) -> Result<(), Memory>
     ensures { OnOk result (out.new ≡ out.old ++ tokens_of (prim_words (plain_prim prim.now))) }
 {
     match prim {
-        Operand::Number(number) => put_number(alloc, out, number),
-        Operand::Ref(name) => push_ref(alloc, out, name),
-        Operand::Paren { line: _, inner } => {
+        Primary::Number(number) => put_number(alloc, out, number),
+        Primary::Ref(name) => push_ref(alloc, out, name),
+        Primary::Paren { line: _, inner } => {
             put_fixed(alloc, out, Terminal::ParenOpen)?;
             push_expr(alloc, out, inner)?;
             put_fixed(alloc, out, Terminal::ParenClose)
         }
-        Operand::Concat { line, parts } => {
+        Primary::Concat { line, parts } => {
             see_concat(*line, parts);
             put_fixed(alloc, out, Terminal::BraceOpen)?;
             push_exprs(alloc, out, parts.as_slice())?;
