@@ -1,7 +1,8 @@
 -- Tokens and trees without their lines.
-use Rattle.std.specs.Prelude.{List, map, option_map}
+use Rattle.std.specs.Prelude.{List, map}
 use Rattle.vlog_lex.specs.declared.token.Token.{Token}
-use Rattle.vlog_tree.specs.Tree.{IdentOf, NumberOf, SignOf, ExprOf, UnaryExpr, BinaryExpr, ChoiceExpr, PrimOf, NumberPrim, RefPrim, ParenPrim, ConcatPrim, RefOf, RefWith, IndexOf, NoIndex, Index, LastOf, NoLast, Last, SelOf, IndexSel, PartSel, IndexedSel, ExprsOf, NoExprs, MoreExprs, TargetOf, RefTarget, ConcatTarget, TargetsOf, NoTargets, MoreTargets}
+use Rattle.vlog_tree.specs.Tree.{IdentOf, NumberOf, SignOf, ExprOf, PrimOf, RefOf, IndexOf, LastOf, SelOf, ExprsOf, TargetOf, TargetsOf, StmtOf, BodyOf, ElseOf, StmtsOf, RangeOf, PortHeadOf, PortOf, DrivenWireOf, RegTailOf, Reg1Of, AssignOf, EventOf, ItemOf, ModuleOf, FileOf}
+use Rattle.vlog_tree.specs.Lines.{no_mark, map_ident, map_number, map_sign, map_expr, map_prim, map_ref, map_index, map_last, map_sel, map_exprs, map_target, map_targets, map_stmt, map_body, map_else, map_stmts, map_range, map_head, map_port, map_wire, map_tail, map_reg, map_assign, map_event, map_item, map_module, map_file}
 use Rattle.vlog_parse.specs.Marks.{TokenOf, Toks}
 
 abbrev pub forget : {A : Type 0} → TokenOf A → TokenOf (Unit {0})
@@ -15,51 +16,82 @@ abbrev pub without_lines : List Token → List Token
 without_lines ts = map (λ (t : Token). record { kind = t.kind; text = t.text; line = 0 }) ts
 
 abbrev pub bare_ident : {A : Type 0} → IdentOf A → IdentOf (Unit {0})
-bare_ident id = record { name = id.name; line = tt }
+bare_ident x = map_ident no_mark x
 
 abbrev pub bare_number : {A : Type 0} → NumberOf A → NumberOf (Unit {0})
-bare_number n = record { kind = n.kind; text = n.text; line = tt }
+bare_number x = map_number no_mark x
 
 abbrev pub bare_sign : {A : Type 0} → SignOf A → SignOf (Unit {0})
-bare_sign s = record { op = s.op; line = tt }
+bare_sign x = map_sign no_mark x
 
-abbrev mutual
-  pub bare_expr : {A : Type 0} → ExprOf A → ExprOf (Unit {0})
-  bare_expr (UnaryExpr sign prim) = UnaryExpr (option_map bare_sign sign) (bare_prim prim)
-  bare_expr (BinaryExpr left op right) = BinaryExpr (bare_expr left) op (bare_expr right)
-  bare_expr (ChoiceExpr condition a b) = ChoiceExpr (bare_expr condition) (bare_expr a) (bare_expr b)
+abbrev pub bare_expr : {A : Type 0} → ExprOf A → ExprOf (Unit {0})
+bare_expr x = map_expr no_mark x
 
-  pub bare_prim : {A : Type 0} → PrimOf A → PrimOf (Unit {0})
-  bare_prim (NumberPrim n) = NumberPrim (bare_number n)
-  bare_prim (RefPrim r) = RefPrim (bare_ref r)
-  bare_prim (ParenPrim line e) = ParenPrim tt (bare_expr e)
-  bare_prim (ConcatPrim line es) = ConcatPrim tt (bare_exprs es)
+abbrev pub bare_prim : {A : Type 0} → PrimOf A → PrimOf (Unit {0})
+bare_prim x = map_prim no_mark x
 
-  pub bare_ref : {A : Type 0} → RefOf A → RefOf (Unit {0})
-  bare_ref (RefWith id index last) = RefWith (bare_ident id) (bare_index index) (bare_last last)
+abbrev pub bare_ref : {A : Type 0} → RefOf A → RefOf (Unit {0})
+bare_ref x = map_ref no_mark x
 
-  pub bare_index : {A : Type 0} → IndexOf A → IndexOf (Unit {0})
-  bare_index NoIndex = NoIndex
-  bare_index (Index e) = Index (bare_expr e)
+abbrev pub bare_index : {A : Type 0} → IndexOf A → IndexOf (Unit {0})
+bare_index x = map_index no_mark x
 
-  pub bare_last : {A : Type 0} → LastOf A → LastOf (Unit {0})
-  bare_last NoLast = NoLast
-  bare_last (Last s) = Last (bare_sel s)
+abbrev pub bare_last : {A : Type 0} → LastOf A → LastOf (Unit {0})
+bare_last x = map_last no_mark x
 
-  pub bare_sel : {A : Type 0} → SelOf A → SelOf (Unit {0})
-  bare_sel (IndexSel e) = IndexSel (bare_expr e)
-  bare_sel (PartSel first second) = PartSel (bare_expr first) (bare_expr second)
-  bare_sel (IndexedSel base width) = IndexedSel (bare_expr base) (bare_expr width)
+abbrev pub bare_sel : {A : Type 0} → SelOf A → SelOf (Unit {0})
+bare_sel x = map_sel no_mark x
 
-  pub bare_exprs : {A : Type 0} → ExprsOf A → ExprsOf (Unit {0})
-  bare_exprs NoExprs = NoExprs
-  bare_exprs (MoreExprs e es) = MoreExprs (bare_expr e) (bare_exprs es)
+abbrev pub bare_exprs : {A : Type 0} → ExprsOf A → ExprsOf (Unit {0})
+bare_exprs x = map_exprs no_mark x
 
-abbrev mutual
-  pub bare_target : {A : Type 0} → TargetOf A → TargetOf (Unit {0})
-  bare_target (RefTarget r) = RefTarget (bare_ref r)
-  bare_target (ConcatTarget line xs) = ConcatTarget tt (bare_targets xs)
+abbrev pub bare_target : {A : Type 0} → TargetOf A → TargetOf (Unit {0})
+bare_target x = map_target no_mark x
 
-  pub bare_targets : {A : Type 0} → TargetsOf A → TargetsOf (Unit {0})
-  bare_targets NoTargets = NoTargets
-  bare_targets (MoreTargets x xs) = MoreTargets (bare_target x) (bare_targets xs)
+abbrev pub bare_targets : {A : Type 0} → TargetsOf A → TargetsOf (Unit {0})
+bare_targets x = map_targets no_mark x
+
+abbrev pub bare_stmt : {A : Type 0} → StmtOf A → StmtOf (Unit {0})
+bare_stmt x = map_stmt no_mark x
+
+abbrev pub bare_body : {A : Type 0} → BodyOf A → BodyOf (Unit {0})
+bare_body x = map_body no_mark x
+
+abbrev pub bare_else : {A : Type 0} → ElseOf A → ElseOf (Unit {0})
+bare_else x = map_else no_mark x
+
+abbrev pub bare_stmts : {A : Type 0} → StmtsOf A → StmtsOf (Unit {0})
+bare_stmts x = map_stmts no_mark x
+
+abbrev pub bare_range : {A : Type 0} → RangeOf A → RangeOf (Unit {0})
+bare_range x = map_range no_mark x
+
+abbrev pub bare_head : {A : Type 0} → PortHeadOf A → PortHeadOf (Unit {0})
+bare_head x = map_head no_mark x
+
+abbrev pub bare_port : {A : Type 0} → PortOf A → PortOf (Unit {0})
+bare_port x = map_port no_mark x
+
+abbrev pub bare_wire : {A : Type 0} → DrivenWireOf A → DrivenWireOf (Unit {0})
+bare_wire x = map_wire no_mark x
+
+abbrev pub bare_tail : {A : Type 0} → RegTailOf A → RegTailOf (Unit {0})
+bare_tail x = map_tail no_mark x
+
+abbrev pub bare_reg : {A : Type 0} → Reg1Of A → Reg1Of (Unit {0})
+bare_reg x = map_reg no_mark x
+
+abbrev pub bare_assign : {A : Type 0} → AssignOf A → AssignOf (Unit {0})
+bare_assign x = map_assign no_mark x
+
+abbrev pub bare_event : {A : Type 0} → EventOf A → EventOf (Unit {0})
+bare_event x = map_event no_mark x
+
+abbrev pub bare_item : {A : Type 0} → ItemOf A → ItemOf (Unit {0})
+bare_item x = map_item no_mark x
+
+abbrev pub bare_module : {A : Type 0} → ModuleOf A → ModuleOf (Unit {0})
+bare_module x = map_module no_mark x
+
+abbrev pub bare_file : {A : Type 0} → FileOf A → FileOf (Unit {0})
+bare_file x = map_file no_mark x

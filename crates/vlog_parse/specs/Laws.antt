@@ -1,12 +1,14 @@
 -- What the reader of expressions means: what is spelled is read, and what is read is spelled.
-use Rattle.std.specs.Prelude.{◌≡◌, ◌≤◌, ℕ, Option, None, Some, length}
+use Rattle.std.specs.Prelude.{◌≡◌, ◌≤◌, ℕ, List, Option, None, Some, length, option_map, true, []}
 use Rattle.vlog_tree.specs.declared.terminal.Terminal.TheVariants as t
-use Rattle.vlog_tree.specs.Tree.{ExprOf, RefOf, TargetOf}
-use Rattle.vlog_tree.specs.Spelling.{expr_words, ref_words, target_words}
-use Rattle.vlog_tree.specs.Shape.{IsGoodExpr, IsGoodRef, IsGoodTarget}
+use Rattle.vlog_tree.specs.Tree.{ExprOf, RefOf, TargetOf, BodyOf, FileOf}
+use Rattle.vlog_tree.specs.Spelling.{expr_words, ref_words, target_words, body_words, file_words}
+use Rattle.vlog_tree.specs.Shape.{IsGoodExpr, IsGoodRef, IsGoodTarget, IsGoodBody, is_open_body, IsGood}
 use Rattle.vlog_parse.specs.Marks.{Toks, spell, AreLawful, after}
-use Rattle.vlog_parse.specs.Bare.{forget_all, bare_expr, bare_ref, bare_target}
+use Rattle.vlog_parse.specs.Bare.{forget_all, bare_expr, bare_ref, bare_target, bare_body, bare_file}
 use Rattle.vlog_parse.specs.Reader.{Read, binary_front, expr_at, ref_at, target_at, fuel_for}
+use Rattle.vlog_parse.specs.StmtReader.{body_at}
+use Rattle.vlog_parse.specs.FileReader.{file_at}
 
 -- no bracket follows, and no operator of this level or above it
 pub record Stops (l : ℕ) (rest : Toks (Unit {0})) : Type 0 where
@@ -36,6 +38,16 @@ TargetsAreRead =
     (x : TargetOf (Unit {0})) (rest : Toks (Unit {0})) (fuel : ℕ) → IsGoodTarget x → after t.BracketOpen rest ≡ None → fuel_for (length (target_words x)) ≤ fuel
     → target_at fuel (spell (target_words x) rest) ≡ Some (x, rest)
 
+-- the same of a body, which no `else` follows that would belong to an `if` in it
+abbrev pub BodiesAreRead : Type 0
+BodiesAreRead =
+    (b : BodyOf (Unit {0})) (rest : Toks (Unit {0})) (fuel : ℕ) → IsGoodBody b → (is_open_body b ≡ true → after t.Else rest ≡ None) → fuel_for (length (body_words b)) ≤ fuel
+    → body_at fuel (spell (body_words b) rest) ≡ Some (b, rest)
+
+-- the tokens of a file of good shape are read as it
+abbrev pub FilesAreRead : Type 0
+FilesAreRead = (f : FileOf (Unit {0})) (fuel : ℕ) → IsGood f → fuel_for (length (file_words f)) ≤ fuel → file_at fuel (spell (file_words f) []) ≡ Some f
+
 -- where something is read, this holds of it
 abbrev pub Holds : {X : Type 0} → Option X → (X → Type 0) → Type 0
 Holds None P = Unit {0}
@@ -53,6 +65,14 @@ ReadRefsAreSpelled A =
 abbrev pub ReadTargetsAreSpelled : Type 0 → Type 0
 ReadTargetsAreSpelled A =
     (fuel : ℕ) (ws : Toks A) → AreLawful ws → Holds (target_at fuel ws) (λ x. IsGoodTarget x.0 × (forget_all ws ≡ spell (target_words x.0) (forget_all x.1)))
+
+abbrev pub ReadBodiesAreSpelled : Type 0 → Type 0
+ReadBodiesAreSpelled A =
+    (fuel : ℕ) (ws : Toks A) → AreLawful ws
+    → Holds (body_at fuel ws) (λ x. IsGoodBody x.0 × (is_open_body x.0 ≡ true → after t.Else x.1 ≡ None) × (forget_all ws ≡ spell (body_words x.0) (forget_all x.1)))
+
+abbrev pub ReadFilesAreSpelled : Type 0 → Type 0
+ReadFilesAreSpelled A = (fuel : ℕ) (ws : Toks A) → AreLawful ws → Holds (file_at fuel ws) (λ f. IsGood f × (forget_all ws ≡ spell (file_words f) []))
 
 -- no two expressions of good shape have the same words
 abbrev pub OneExpr : Type 0
@@ -72,3 +92,13 @@ RefLinesDontCount A = (fuel : ℕ) (ws : Toks A) → ref_at fuel (forget_all ws)
 
 abbrev pub TargetLinesDontCount : Type 0 → Type 0
 TargetLinesDontCount A = (fuel : ℕ) (ws : Toks A) → target_at fuel (forget_all ws) ≡ seen bare_target (target_at fuel ws)
+
+abbrev pub BodyLinesDontCount : Type 0 → Type 0
+BodyLinesDontCount A = (fuel : ℕ) (ws : Toks A) → body_at fuel (forget_all ws) ≡ seen bare_body (body_at fuel ws)
+
+abbrev pub FileLinesDontCount : Type 0 → Type 0
+FileLinesDontCount A = (fuel : ℕ) (ws : Toks A) → file_at fuel (forget_all ws) ≡ option_map bare_file (file_at fuel ws)
+
+-- no two files of good shape have the same words
+abbrev pub OneFile : Type 0
+OneFile = (a b : FileOf (Unit {0})) → IsGood a → IsGood b → file_words a ≡ file_words b → a ≡ b

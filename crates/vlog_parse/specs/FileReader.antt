@@ -1,0 +1,138 @@
+-- The reader of items, modules and files, rule by rule of the grammar, with fuel for the expressions and statements in them.
+use Rattle.std.specs.Prelude.{ℕ, zero, suc, ◌+◌, true, false, List, [], ◌∷◌, ◌++◌, Option, None, Some, length}
+use Rattle.vlog_tree.specs.declared.module.Direction.{Direction}
+use Rattle.vlog_tree.specs.declared.module.Direction.TheVariants as direction
+use Rattle.vlog_tree.specs.declared.module.NetKind.TheVariants as kind
+use Rattle.vlog_tree.specs.declared.terminal.Terminal.TheVariants as t
+use Rattle.vlog_tree.specs.Tree.{IdentOf, ExprOf, RangeOf, PortHeadOf, PortOf, DrivenWireOf, RegTailOf, InitTail, Reg1Of, AssignOf, EventOf, PosedgeEvent, AlwaysOf, ItemOf, WiresItem, DrivenWiresItem, RegsItem, AssignItem, AlwaysItem, ModuleOf, FileOf}
+use Rattle.vlog_parse.specs.Marks.{Toks, after, name_front}
+use Rattle.vlog_parse.specs.Reader.{◌>>=◌, found_or, Read, expr_at, target_at, fuel_for}
+use Rattle.vlog_parse.specs.StmtReader.{body_at}
+
+-- { "," x } behind the ones so far
+abbrev pub more_at : {A X : Type 0} → (Toks A → Read A X) → ℕ → List X → Toks A → Read A (List X)
+more_at one zero front ws = None
+more_at one (suc n) front ws = found_or (after t.Comma ws) (Some (front, ws)) (λ c. one c.1 >>= λ x. more_at one n (front ++ x.0 ∷ []) x.1)
+
+-- x { "," x }
+abbrev pub some_at : {A X : Type 0} → (Toks A → Read A X) → ℕ → Toks A → Read A (List X)
+some_at one n ws = one ws >>= λ x. more_at one n (x.0 ∷ []) x.1
+
+-- expr ":" expr "]"
+abbrev pub range_at : {A : Type 0} → ℕ → Toks A → Read A (RangeOf A)
+range_at n ws = expr_at n ws >>= λ a. after t.Colon a.1 >>= λ o. expr_at n o.1 >>= λ b. after t.BracketClose b.1 >>= λ c. Some (record { first = a.0; second = b.0 }, c.1)
+
+-- [range]
+abbrev pub range_front : {A : Type 0} → ℕ → Toks A → Read A (Option (RangeOf A))
+range_front n ws = found_or (after t.BracketOpen ws) (Some (None, ws)) (λ o. range_at n o.1 >>= λ r. Some (Some r.0, r.1))
+
+-- [ "=" expr ]
+abbrev pub init_front : {A : Type 0} → ℕ → Toks A → Read A (Option (ExprOf A))
+init_front n ws = found_or (after t.Equals ws) (Some (None, ws)) (λ o. expr_at n o.1 >>= λ e. Some (Some e.0, e.1))
+
+-- ["wire"] behind "input"
+abbrev pub input_at : {A : Type 0} → Toks A → Read A Direction
+input_at ws = found_or (after t.Wire ws) (Some (direction.Input false, ws)) (λ o. Some (direction.Input true, o.1))
+
+-- ["wire"|"reg"] behind "output"
+abbrev pub output_at : {A : Type 0} → Toks A → Read A Direction
+output_at ws =
+    found_or (after t.Wire ws) (found_or (after t.Reg ws) (Some (direction.Output None, ws)) (λ o. Some (direction.Output (Some kind.Reg), o.1))) (λ o. Some (direction.Output (Some kind.Wire), o.1))
+
+-- "input" ["wire"] | "output" ["wire"|"reg"]
+abbrev pub direction_front : {A : Type 0} → Toks A → Read A Direction
+direction_front ws = found_or (after t.Input ws) (after t.Output ws >>= λ o. output_at o.1) (λ o. input_at o.1)
+
+-- [ direction [range] ]
+abbrev pub head_front : {A : Type 0} → ℕ → Toks A → Read A (Option (PortHeadOf A))
+head_front n ws = found_or (direction_front ws) (Some (None, ws)) (λ d. range_front n d.1 >>= λ r. Some (Some (record { direction = d.0; range = r.0 }), r.1))
+
+-- [ direction [range] ] id [ "=" expr ]
+abbrev pub port_at : {A : Type 0} → ℕ → Toks A → Read A (PortOf A)
+port_at n ws = head_front n ws >>= λ h. name_front h.1 >>= λ id. init_front n id.1 >>= λ i. Some (record { head = h.0; id = id.0; init = i.0 }, i.1)
+
+abbrev pub given_head : {A B : Type 0} → Option (PortHeadOf A) → B → Option B
+given_head None x = None
+given_head (Some h) x = Some x
+
+-- a port with a direction
+abbrev pub first_port_at : {A : Type 0} → ℕ → Toks A → Read A (PortOf A)
+first_port_at n ws = port_at n ws >>= λ p. given_head p.0.head p
+
+-- [ port { "," port } ] ")", where the first port has a direction
+abbrev pub ports_at : {A : Type 0} → ℕ → Toks A → Read A (List (PortOf A))
+ports_at n ws =
+    found_or (after t.ParenClose ws) (first_port_at n ws >>= λ p. more_at (port_at n) n (p.0 ∷ []) p.1 >>= λ ps. after t.ParenClose ps.1 >>= λ c. Some (ps.0, c.1)) (λ o. Some ([], o.1))
+
+-- id "=" expr
+abbrev pub wire_at : {A : Type 0} → ℕ → Toks A → Read A (DrivenWireOf A)
+wire_at n ws = name_front ws >>= λ id. after t.Equals id.1 >>= λ o. expr_at n o.1 >>= λ e. Some (record { id = id.0; value = e.0 }, e.1)
+
+-- id [ "=" expr ]
+abbrev pub reg_at : {A : Type 0} → ℕ → Toks A → Read A (Reg1Of A)
+reg_at n ws =
+    name_front ws >>= λ id. found_or (after t.Equals id.1) (Some (record { id = id.0; tail = None }, id.1)) (λ o. expr_at n o.1 >>= λ e. Some (record { id = id.0; tail = Some (InitTail e.0) }, e.1))
+
+-- target "=" expr
+abbrev pub assign_at : {A : Type 0} → ℕ → Toks A → Read A (AssignOf A)
+assign_at n ws = target_at n ws >>= λ x. after t.Equals x.1 >>= λ o. expr_at n o.1 >>= λ e. Some (record { target = x.0; value = e.0 }, e.1)
+
+-- { "," id } ";" behind the first name
+abbrev pub names_at : {A : Type 0} → ℕ → Option (RangeOf A) → IdentOf A → Toks A → Read A (ItemOf A)
+names_at n range id ws = more_at name_front n (id ∷ []) ws >>= λ ids. after t.Semicolon ids.1 >>= λ c. Some (WiresItem range ids.0, c.1)
+
+-- expr { "," id "=" expr } ";" behind the first name and its "="
+abbrev pub driven_at : {A : Type 0} → ℕ → Option (RangeOf A) → IdentOf A → Toks A → Read A (ItemOf A)
+driven_at n range id ws =
+    expr_at n ws >>= λ e. more_at (wire_at n) n (record { id = id; value = e.0 } ∷ []) e.1 >>= λ xs. after t.Semicolon xs.1 >>= λ c. Some (DrivenWiresItem range xs.0, c.1)
+
+-- behind "wire"
+abbrev pub wires_at : {A : Type 0} → ℕ → Toks A → Read A (ItemOf A)
+wires_at n ws = range_front n ws >>= λ r. name_front r.1 >>= λ id. found_or (after t.Equals id.1) (names_at n r.0 id.0 id.1) (λ o. driven_at n r.0 id.0 o.1)
+
+-- behind "reg"
+abbrev pub regs_at : {A : Type 0} → ℕ → Toks A → Read A (ItemOf A)
+regs_at n ws = range_front n ws >>= λ r. some_at (reg_at n) n r.1 >>= λ xs. after t.Semicolon xs.1 >>= λ c. Some (RegsItem r.0 xs.0, c.1)
+
+-- behind "assign"
+abbrev pub assigns_at : {A : Type 0} → ℕ → Toks A → Read A (ItemOf A)
+assigns_at n ws = some_at (assign_at n) n ws >>= λ xs. after t.Semicolon xs.1 >>= λ c. Some (AssignItem xs.0, c.1)
+
+-- "@" "(" "posedge" id ")"
+abbrev pub event_at : {A : Type 0} → Toks A → Read A (EventOf A)
+event_at ws = after t.At ws >>= λ a. after t.ParenOpen a.1 >>= λ o. after t.Posedge o.1 >>= λ p. name_front p.1 >>= λ id. after t.ParenClose id.1 >>= λ c. Some (PosedgeEvent id.0, c.1)
+
+-- behind "always", whose line this is
+abbrev pub always_at : {A : Type 0} → ℕ → A → Toks A → Read A (ItemOf A)
+always_at n line ws = event_at ws >>= λ v. body_at n v.1 >>= λ b. Some (AlwaysItem (record { line = line; event = v.0; body = b.0 }), b.1)
+
+abbrev pub item_at : {A : Type 0} → ℕ → Toks A → Read A (ItemOf A)
+item_at n ws =
+    found_or (after t.Wire ws) (found_or (after t.Reg ws) (found_or (after t.Assign ws) (after t.Always ws >>= λ o. always_at n o.0 o.1) (λ o. assigns_at n o.1)) (λ o. regs_at n o.1)) (λ o. wires_at n o.1)
+
+-- { item } "endmodule" behind the items so far; n is the fuel of each
+abbrev pub items_at : {A : Type 0} → ℕ → ℕ → List (ItemOf A) → Toks A → Read A (List (ItemOf A))
+items_at n zero front ws = None
+items_at n (suc left) front ws = found_or (after t.Endmodule ws) (item_at n ws >>= λ i. items_at n left (front ++ i.0 ∷ []) i.1) (λ o. Some (front, o.1))
+
+-- "module" id "(" [ port { "," port } ] ")" ";"
+abbrev pub header_at : {A : Type 0} → ℕ → Toks A → Read A (List ℕ × List (PortOf A))
+header_at n ws = after t.Module ws >>= λ m. name_front m.1 >>= λ id. after t.ParenOpen id.1 >>= λ o. ports_at n o.1 >>= λ ps. after t.Semicolon ps.1 >>= λ c. Some ((id.0.name, ps.0), c.1)
+
+-- a header, items and "endmodule"
+abbrev pub module_at : {A : Type 0} → ℕ → Toks A → Read A (ModuleOf A)
+module_at n ws = header_at n ws >>= λ h. items_at n n [] h.1 >>= λ xs. Some (record { name = h.0.0; ports = h.0.1; items = xs.0 }, xs.1)
+
+-- { module } behind the modules so far, with no token behind it
+abbrev pub modules_at : {A : Type 0} → ℕ → ℕ → List (ModuleOf A) → Toks A → Option (List (ModuleOf A))
+modules_at n zero front ws = None
+modules_at n (suc left) front [] = Some front
+modules_at n (suc left) front (token ∷ rest) = module_at n (token ∷ rest) >>= λ m. modules_at n left (front ++ m.0 ∷ []) m.1
+
+-- module { module }
+abbrev pub file_at : {A : Type 0} → ℕ → Toks A → Option (FileOf A)
+file_at n ws = module_at n ws >>= λ m. modules_at n n (m.0 ∷ []) m.1 >>= λ ms. Some (record { modules = ms })
+
+-- the file that all the tokens spell
+unfoldable pub file_of : {A : Type 0} → Toks A → Option (FileOf A)
+file_of ws = file_at (fuel_for (length ws)) ws
