@@ -13,8 +13,8 @@ use Rattle.vlog_tree.specs.Tree.{ExprOf, UnaryExpr, BinaryExpr, ChoiceExpr, Prim
 use Rattle.vlog_tree.specs.Plain.{plain_expr}
 use Rattle.vlog_tree.specs.Spelling.{binary_terminal, expr_words, prim_words, ref_words, index_words, last_words, sel_words, exprs_words, more_exprs_words}
 use Rattle.vlog_tree.specs.Shape.{IsGoodExpr, IsGoodPrim, IsGoodRef, IsGoodIndex, IsGoodLast, IsGoodSel, AreGoodExprs, AreAllGoodExprs}
-use Rattle.vlog_parse.specs.declared.error.ParseError.{ParseError}
-use Rattle.vlog_parse.specs.declared.error.ParseError.TheVariants as errors
+use Rattle.vlog_parse.specs.declared.unread.Unread.{Unread}
+use Rattle.vlog_parse.specs.declared.unread.Unread.TheVariants as errors
 use Rattle.vlog_parse.specs.Marks.{TokenOf, Toks, spelled, spell, all_marked, IsLawfulText, AreLawful}
 use Rattle.vlog_parse.specs.Bare.{forget, forget_all, bare_expr, without_lines}
 use Rattle.vlog_parse.specs.Reader.{◌>>=◌, Read, expr_at, whole, fuel_for, expr_of}
@@ -184,7 +184,7 @@ all_again ws e g h =
     from_seen (expr_at fuel ws) e (sym (expr_natural ℕ fuel ws) ∙ sym (ap (λ (us : Toks U). expr_at fuel us) h) ∙ expr_read e [] fuel g ends_nil (omega arith))
 
 -- the clauses
-pub found_clause : (r : Result Expr ParseError) (ts : List Token) → AreLawful (all_marked ts) → Gives plain_expr r (expr_of (all_marked ts))
+pub found_clause : (r : Result Expr Unread) (ts : List Token) → AreLawful (all_marked ts) → Gives plain_expr r (expr_of (all_marked ts))
     → IfOk r (λ e. IsGoodExpr (plain_expr e) × (tokens_of (expr_words (plain_expr e)) ≡ without_lines ts))
 found_clause (Err e) ts l h = tt
 found_clause (Ok e) ts l h =
@@ -194,7 +194,7 @@ found_clause (Ok e) ts l h =
 same_some : (x y : ExprOf ℕ) → Some x ≡ Some y → x ≡ y
 same_some x y h = cc
 
-pub only_clause : (r : Result Expr ParseError) (ts : List Token) → Gives plain_expr r (expr_of (all_marked ts))
+pub only_clause : (r : Result Expr Unread) (ts : List Token) → Gives plain_expr r (expr_of (all_marked ts))
     → (e : ExprOf U) → IsGoodExpr e → tokens_of (expr_words e) ≡ without_lines ts → MatchResult r (λ x. bare_expr (plain_expr x) ≡ e) (λ x. x ≡ errors.Memory)
 only_clause (Ok x) ts h e g w =
     let a = all_again (all_marked ts) e g (tokens_spelled (expr_words e) ts w) in
@@ -204,6 +204,6 @@ only_clause (Err errors.Fault) ts h e g w =
     let a = all_again (all_marked ts) e g (tokens_spelled (expr_words e) ts w) in
     absurd (none_some a.0 (sym h ∙ a.1))
 
-pub lines_clause : (r : Result Expr ParseError) (ts : List Token) → Gives plain_expr r (expr_of (all_marked ts)) → IfOk r (λ e. expr_of (all_marked ts) ≡ Some (plain_expr e))
+pub lines_clause : (r : Result Expr Unread) (ts : List Token) → Gives plain_expr r (expr_of (all_marked ts)) → IfOk r (λ e. expr_of (all_marked ts) ≡ Some (plain_expr e))
 lines_clause (Ok e) ts h = h
 lines_clause (Err e) ts h = tt

@@ -11,10 +11,11 @@ mod lawful;
 mod laws;
 mod parse;
 mod target;
+mod unread;
 
 pub use error::ParseError;
-pub use parse::parse_expression;
 pub use laws::{lines_dont_count, one_expr, read_is_spelled, spelled_is_read};
+pub use parse::parse_expression;
 
 #[cfg(test)]
 mod tests;
