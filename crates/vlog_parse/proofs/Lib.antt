@@ -5,4 +5,5 @@ pub mod Spelled
 pub mod TargetFound
 pub mod TargetNatural
 pub mod TargetSpelled
+pub mod Turns
 pub mod Whole

@@ -7,9 +7,13 @@
 mod error;
 mod expr;
 mod front;
+mod item;
 mod lawful;
 mod laws;
+mod listed;
+mod module;
 mod parse;
+mod stmt;
 mod target;
 mod unread;
 
