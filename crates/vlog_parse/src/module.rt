@@ -112,12 +112,14 @@ fn items_of(alloc: Global, tokens: &[Token], fuel: usize) -> Parsed<'_, Items<It
     let mut left = fuel;
     while left > 0 {
         left -= 1;
-        if let Some((_, behind)) = after(Terminal::Endmodule, rest) {
-            return Ok((items, behind));
+        match after(Terminal::Endmodule, rest) {
+            Some((_, behind)) => return Ok((items, behind)),
+            None => {
+                let (item, behind) = item_of(alloc, rest, fuel)?;
+                items.push(item)?;
+                rest = behind;
+            }
         }
-        let (item, behind) = item_of(alloc, rest, fuel)?;
-        items.push(item)?;
-        rest = behind;
     }
     Err(Unread::Fault)
 }
