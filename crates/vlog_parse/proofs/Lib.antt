@@ -1,3 +1,4 @@
+pub mod DepthLemmas
 pub mod Found
 pub mod Maps
 pub mod Natural

@@ -4,6 +4,7 @@
 //! rules as a reader on lists of tokens) and `Laws` (what is spelled is read, and what is read is spelled).
 #![tactic(auto)]
 
+mod depth;
 mod error;
 mod expr;
 mod front;
@@ -17,6 +18,7 @@ mod stmt;
 mod target;
 mod unread;
 
+pub use depth::deep_line;
 pub use error::ParseError;
 pub use laws::{lines_dont_count, one_expr, read_is_spelled, spelled_is_read};
 pub use parse::parse_expression;
