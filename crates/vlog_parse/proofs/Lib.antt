@@ -1,3 +1,4 @@
+pub mod FileSpelled
 pub mod Found
 pub mod Maps
 pub mod Natural
