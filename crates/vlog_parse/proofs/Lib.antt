@@ -3,6 +3,7 @@ pub mod Found
 pub mod Maps
 pub mod Natural
 pub mod Spelled
+pub mod StmtNatural
 pub mod StmtSpelled
 pub mod TargetFound
 pub mod TargetNatural
