@@ -1,3 +1,4 @@
+pub mod FileNatural
 pub mod FileSpelled
 pub mod Found
 pub mod Maps

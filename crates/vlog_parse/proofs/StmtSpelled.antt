@@ -1,5 +1,5 @@
 -- What is spelled is read: statements and bodies of good shape.
-use Rattle.std.proofs.Common.{◌≡◌, ℕ, zero, suc, ◌+◌, ◌<◌, ◌≤◌, Bool, true, false, Option, None, Some, List, [], ◌∷◌, ◌++◌, length, sym, refl, ap, ◌∙◌, arith, append_assoc, append-nil, length-append}
+use Rattle.std.proofs.Common.{◌≡◌, ℕ, zero, suc, ◌+◌, ◌<◌, ◌≤◌, true, Option, None, Some, List, [], ◌∷◌, ◌++◌, length, sym, refl, ap, ◌∙◌, arith, append_assoc, append-nil, length-append}
 use Rattle.std.proofs.lemmas.Bool.{true≢false}
 use Rattle.vlog_tree.specs.declared.stmt.AssignOp.{AssignOp}
 use Rattle.vlog_tree.specs.declared.stmt.AssignOp.TheVariants as assign
@@ -9,7 +9,7 @@ use Rattle.vlog_tree.specs.Tree.{ExprOf, RefWith, TargetOf, RefTarget, ConcatTar
 use Rattle.vlog_tree.specs.Spelling.{assign_terminal, expr_words, target_words, stmt_words, body_words, else_words, stmts_words}
 use Rattle.vlog_tree.specs.Shape.{IsGoodExpr, IsGoodTarget, is_open, is_open_body, is_open_else, IsShut, IsGoodStmt, IsGoodBody, IsGoodElse, AreGoodStmts}
 use Rattle.vlog_parse.specs.Marks.{Toks, spelled, spell, after}
-use Rattle.vlog_parse.specs.Reader.{◌>>=◌, found_or, Read, expr_at, target_at, fuel_for}
+use Rattle.vlog_parse.specs.Reader.{◌>>=◌, found_or, Read, expr_at}
 use Rattle.vlog_parse.specs.StmtReader.{assign_op_at, assign_stmt_at, stmt_at, if_at, body_at, else_at, stmts_at}
 use Rattle.vlog_parse.specs.Laws.{Ends, BodiesAreRead}
 use Rattle.vlog_parse.proofs.Spelled.{U, size, spell_append, ends_paren, expr_read}
