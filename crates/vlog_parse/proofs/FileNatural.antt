@@ -15,13 +15,13 @@ use Rattle.vlog_parse.proofs.Natural.{U, over_bind, over_found, expr_natural}
 use Rattle.vlog_parse.proofs.TargetNatural.{target_natural}
 use Rattle.vlog_parse.proofs.StmtNatural.{map_snoc, over_after, over_optional, body_natural}
 
-abbrev bare_ports : {A : Type 0} → List (PortOf A) → List (PortOf U)
+abbrev pub bare_ports : {A : Type 0} → List (PortOf A) → List (PortOf U)
 bare_ports ps = map bare_port ps
 
-abbrev bare_range_option : {A : Type 0} → Option (RangeOf A) → Option (RangeOf U)
+abbrev pub bare_range_option : {A : Type 0} → Option (RangeOf A) → Option (RangeOf U)
 bare_range_option r = option_map bare_range r
 
-abbrev bare_header : {A : Type 0} → List ℕ × List (PortOf A) → List ℕ × List (PortOf U)
+abbrev pub bare_header : {A : Type 0} → List ℕ × List (PortOf A) → List ℕ × List (PortOf U)
 bare_header h = (h.0, map bare_port h.1)
 
 module _ (A : Type 0) where
@@ -259,7 +259,7 @@ module _ (A : Type 0) where
       (λ b. Some (AlwaysItem (record { line = line; event = v.0; body = b.0 }), b.1)) (λ b. Some (AlwaysItem (record { line = tt; event = bare_event v.0; body = b.0 }), b.1))
       (body_natural A n v.1) (λ b. refl))
 
-  item_natural : (n : ℕ) (ws : Toks A) → item_at n (forget_all ws) ≡ seen bare_item (item_at n ws)
+  pub item_natural : (n : ℕ) (ws : Toks A) → item_at n (forget_all ws) ≡ seen bare_item (item_at n ws)
   item_natural n ws =
       over_optional A bare_item t.Wire ws
       (found_or (after t.Reg ws) (found_or (after t.Assign ws) (after t.Always ws >>= λ o. always_at n o.0 o.1) (λ o. assigns_at n o.1)) (λ o. regs_at n o.1))
@@ -287,7 +287,7 @@ module _ (A : Type 0) where
       (λ o. refl)
 
   -- modules
-  header_natural : (n : ℕ) (ws : Toks A) → header_at n (forget_all ws) ≡ seen bare_header (header_at n ws)
+  pub header_natural : (n : ℕ) (ws : Toks A) → header_at n (forget_all ws) ≡ seen bare_header (header_at n ws)
   header_natural n ws =
       over_after A bare_header t.Module ws
       (λ m. name_front m.1 >>= λ id. after t.ParenOpen id.1 >>= λ o. ports_at n o.1 >>= λ ps. after t.Semicolon ps.1 >>= λ c. Some ((id.0.name, ps.0), c.1))
@@ -303,7 +303,7 @@ module _ (A : Type 0) where
       (ports_natural n o.1)
       (λ ps. over_after A bare_header t.Semicolon ps.1 (λ c. Some ((id.0.name, ps.0), c.1)) (λ c. Some ((id.0.name, bare_ports ps.0), c.1)) (λ c. refl)))))
 
-  module_natural : (n : ℕ) (ws : Toks A) → module_at n (forget_all ws) ≡ seen bare_module (module_at n ws)
+  pub module_natural : (n : ℕ) (ws : Toks A) → module_at n (forget_all ws) ≡ seen bare_module (module_at n ws)
   module_natural n ws =
       over_bind A bare_header bare_module (header_at n ws) (header_at n (forget_all ws))
       (λ h. items_at n n [] h.1 >>= λ xs. Some (record { name = h.0.0; ports = h.0.1; items = xs.0 }, xs.1))

@@ -17,16 +17,16 @@ use Rattle.vlog_parse.proofs.Spelled.{U, spell_append, ends_bracket, ends_colon,
 use Rattle.vlog_parse.proofs.TargetSpelled.{target_read}
 use Rattle.vlog_parse.proofs.StmtSpelled.{ends_semicolon, body_read}
 
-abbrev pub semicolon : Toks U → Toks U
+abbrev semicolon : Toks U → Toks U
 semicolon r = spelled (Fixed t.Semicolon) ∷ r
 
-abbrev pub paren : Toks U → Toks U
+abbrev paren : Toks U → Toks U
 paren r = spelled (Fixed t.ParenClose) ∷ r
 
 -- lists with commas: what can stand behind an element
-pub record Parts (r : Toks U) : Type 0 where
-  pub ends : Ends r
-  pub equals : after t.Equals r ≡ None
+record Parts (r : Toks U) : Type 0 where
+  ends : Ends r
+  equals : after t.Equals r ≡ None
 
 parts_comma : (r : Toks U) → Parts (spelled (Fixed t.Comma) ∷ r)
 parts_comma r = record { ends = ends_comma r; equals = refl }
@@ -42,7 +42,7 @@ parts_more words [] r p = p
 parts_more words (x ∷ xs) r p = parts_comma (spell (words x ++ after_commas words xs) r)
 
 -- an element is read before what can stand behind it
-abbrev pub ReadsOne : {X : Type 0} → (X → List Word) → (X → Type 0) → (Toks U → Read U X) → ℕ → Type 0
+abbrev ReadsOne : {X : Type 0} → (X → List Word) → (X → Type 0) → (Toks U → Read U X) → ℕ → Type 0
 ReadsOne {X} words IsFit one fuel = (x : X) (r : Toks U) → IsFit x → Parts r → fuel_for (length (words x)) ≤ fuel → one (spell (words x) r) ≡ Some (x, r)
 
 more_read : {X : Type 0} (words : X → List Word) (IsFit : X → Type 0) (one : Toks U → Read U X) (fuel : ℕ) → ReadsOne words IsFit one fuel
@@ -284,7 +284,7 @@ item_always : (v : EventOf U) (b : BodyOf U) (n : ℕ) (r : Toks U) → IsGoodBo
     → item_at n (spell (item_words (always_with v b)) r) ≡ Some (always_with v b, r)
 item_always (PosedgeEvent id) b n r g e h = ap (λ (o : Read U (BodyOf U)). o >>= λ b. Some (always_with (PosedgeEvent id) b.0, b.1)) (body_read b r n g (λ o. e) (omega arith))
 
-item_read : (i : ItemOf U) (n : ℕ) (r : Toks U) → IsGoodItem i → after t.Else r ≡ None → fuel_for (length (item_words i)) ≤ n → item_at n (spell (item_words i) r) ≡ Some (i, r)
+pub item_read : (i : ItemOf U) (n : ℕ) (r : Toks U) → IsGoodItem i → after t.Else r ≡ None → fuel_for (length (item_words i)) ≤ n → item_at n (spell (item_words i) r) ≡ Some (i, r)
 item_read (WiresItem range []) n r g e h = absurd g.1
 item_read (WiresItem range (id ∷ ids)) n r g e h = item_wires range id ids n r g h
 item_read (DrivenWiresItem range []) n r g e h = absurd g.1
@@ -343,7 +343,7 @@ items_read (x ∷ xs) n (suc left) front r g h k =
 abbrev header_of : List ℕ → Read U (List (PortOf U)) → Read U (List ℕ × List (PortOf U))
 header_of name o = o >>= λ ps. after t.Semicolon ps.1 >>= λ c. Some ((name, ps.0), c.1)
 
-header_read : (name : List ℕ) (ps : List (PortOf U)) (body : List Word) (n : ℕ) (r : Toks U) → IsFirstDirected ps → AllByRecursion IsGoodPort ps → fuel_for (length (with_commas port_words ps)) ≤ n
+pub header_read : (name : List ℕ) (ps : List (PortOf U)) (body : List Word) (n : ℕ) (r : Toks U) → IsFirstDirected ps → AllByRecursion IsGoodPort ps → fuel_for (length (with_commas port_words ps)) ≤ n
     → header_at n (spell (Fixed t.Module ∷ NameWord name ∷ Fixed t.ParenOpen ∷ (with_commas port_words ps ++ Fixed t.ParenClose ∷ Fixed t.Semicolon ∷ body)) r) ≡ Some ((name, ps), spell body r)
 header_read name ps body n r d g h =
     ap (λ (ws : Toks U). header_of name (ports_at n ws)) (spell_append (with_commas port_words ps) (Fixed t.ParenClose ∷ Fixed t.Semicolon ∷ body) r)
@@ -355,7 +355,7 @@ module_of n o = o >>= λ h. items_at n n [] h.1 >>= λ xs. Some (record { name =
 abbrev module_from : List ℕ → List (PortOf U) → Read U (List (ItemOf U)) → Read U (ModuleOf U)
 module_from name ps o = o >>= λ xs. Some (record { name = name; ports = ps; items = xs.0 }, xs.1)
 
-module_read : (m : ModuleOf U) (n : ℕ) (r : Toks U) → IsGoodModule m → fuel_for (length (module_words m)) ≤ n → module_at n (spell (module_words m) r) ≡ Some (m, r)
+pub module_read : (m : ModuleOf U) (n : ℕ) (r : Toks U) → IsGoodModule m → fuel_for (length (module_words m)) ≤ n → module_at n (spell (module_words m) r) ≡ Some (m, r)
 module_read m n r g h =
     let body = in_row item_words m.items ++ Fixed t.Endmodule ∷ [] in
     let long = length-append (with_commas port_words m.ports) (Fixed t.ParenClose ∷ Fixed t.Semicolon ∷ body) in

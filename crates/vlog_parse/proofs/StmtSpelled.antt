@@ -15,19 +15,19 @@ use Rattle.vlog_parse.specs.Laws.{Ends, BodiesAreRead}
 use Rattle.vlog_parse.proofs.Spelled.{U, size, spell_append, ends_paren, expr_read}
 use Rattle.vlog_parse.proofs.TargetSpelled.{target_read}
 
-abbrev pub StmtClaim : StmtOf U → Type 0
+abbrev StmtClaim : StmtOf U → Type 0
 StmtClaim s = (n : ℕ) (r : Toks U) → (is_open s ≡ true → after t.Else r ≡ None) → size (stmt_words s) ≤ n → stmt_at n (spell (stmt_words s) r) ≡ Some (s, r)
 
-abbrev pub BodyClaim : BodyOf U → Type 0
+abbrev BodyClaim : BodyOf U → Type 0
 BodyClaim b = (n : ℕ) (r : Toks U) → (is_open_body b ≡ true → after t.Else r ≡ None) → size (body_words b) + 2 ≤ n → body_at n (spell (body_words b) r) ≡ Some (b, r)
 
-abbrev pub ElseClaim : ElseOf U → Type 0
+abbrev ElseClaim : ElseOf U → Type 0
 ElseClaim o = (n : ℕ) (r : Toks U) → (is_open_else o ≡ true → after t.Else r ≡ None) → size (else_words o) + 1 ≤ n → else_at n (spell (else_words o) r) ≡ Some (o, r)
 
-abbrev pub shut : Toks U → Toks U
+abbrev shut : Toks U → Toks U
 shut r = spelled (Fixed t.End) ∷ r
 
-abbrev pub list_of : StmtsOf U → List (StmtOf U)
+abbrev list_of : StmtsOf U → List (StmtOf U)
 list_of NoStmts = []
 list_of (MoreStmts s ss) = s ∷ list_of ss
 
@@ -35,7 +35,7 @@ listed : (ss : StmtsOf U) → stmts_of (list_of ss) ≡ ss
 listed NoStmts = refl
 listed (MoreStmts s ss) = ap (MoreStmts s) (listed ss)
 
-abbrev pub StmtsClaim : StmtsOf U → Type 0
+abbrev StmtsClaim : StmtsOf U → Type 0
 StmtsClaim ss = (n : ℕ) (front : List (StmtOf U)) (r : Toks U) → size (stmts_words ss) + 1 ≤ n → stmts_at n front (spell (stmts_words ss) (shut r)) ≡ Some (front ++ list_of ss, r)
 
 -- what can stand behind an expression
