@@ -1,8 +1,12 @@
 pub mod DepthLemmas
+pub mod FileNatural
+pub mod FileSpelled
 pub mod Found
 pub mod Maps
 pub mod Natural
 pub mod Spelled
+pub mod StmtNatural
+pub mod StmtSpelled
 pub mod TargetFound
 pub mod TargetNatural
 pub mod TargetSpelled
