@@ -2,6 +2,7 @@ pub mod Found
 pub mod Maps
 pub mod Natural
 pub mod Spelled
+pub mod StmtFound
 pub mod TargetFound
 pub mod TargetNatural
 pub mod TargetSpelled
