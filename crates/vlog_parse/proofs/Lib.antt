@@ -1,3 +1,4 @@
+pub mod FileFound
 pub mod Found
 pub mod Maps
 pub mod Natural

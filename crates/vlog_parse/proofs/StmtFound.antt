@@ -26,8 +26,8 @@ nothing = record { holds = tt }
 pub sure : {X : Type 0} {P : X → Type 0} (x : X) → P x → Sure (Some x) P
 sure x p = record { holds = p }
 
-pub then : {X Y : Type 0} {P : X → Type 0} {Q : Y → Type 0} {o : Option X} {f : X → Option Y} → Sure o P → ((x : X) → P x → Sure (f x) Q) → Sure (o >>= f) Q
-then {P = P} {Q = Q} {o = o} {f = f} h k = record { holds = bind P Q o f h.holds (λ x p. (k x p).holds) }
+pub next : {X Y : Type 0} {P : X → Type 0} {Q : Y → Type 0} {o : Option X} {f : X → Option Y} → Sure o P → ((x : X) → P x → Sure (f x) Q) → Sure (o >>= f) Q
+next {P = P} {Q = Q} {o = o} {f = f} h k = record { holds = bind P Q o f h.holds (λ x p. (k x p).holds) }
 
 pub either : {X Y : Type 0} {P : X → Type 0} {Q : Y → Type 0} {o : Option X} {other : Option Y} {f : X → Option Y}
     → Sure o P → Sure other Q → ((x : X) → P x → Sure (f x) Q) → Sure (found_or o other f) Q
@@ -44,7 +44,7 @@ infixr 5 ◌▹◌
 pub ◌▹◌ : {A : Type 0} {ws mid rest : Toks A} {a b : List Word} → From A ws a mid → From A mid b rest → From A ws (a ++ b) rest
 ◌▹◌ {A = A} {ws = ws} {mid = mid} {rest = rest} {a = a} {b = b} f g = join A ws mid rest a b f g
 
-some_none : {X : Type 0} (x : X) → Some x ≡ None → ⊥
+pub some_none : {X : Type 0} (x : X) → Some x ≡ None → ⊥
 some_none x h = cc
 
 not_true : (b : Bool) → (b ≡ true → ⊥) → b ≡ false
@@ -140,14 +140,14 @@ module _ (A : Type 0) where
   shut b (Else other) ws h f = not_true (is_open_body b) (λ e. f (h e))
 
   op_found : (ws : Toks A) → AreLawful ws → Sure (assign_op_at ws) (AtOp ws)
-  op_found ws h = either (after_found t.Equals ws h) (then (after_found t.LessEquals ws h) (λ o f. sure _ f)) (λ o f. sure _ f)
+  op_found ws h = either (after_found t.Equals ws h) (next (after_found t.LessEquals ws h) (λ o f. sure _ f)) (λ o f. sure _ f)
 
   assign_found : (n : ℕ) (ws : Toks A) → AreLawful ws → Sure (assign_stmt_at n ws) (AtStmt ws)
   assign_found n ws h =
-      then (target_found n ws h) (λ x gx.
-      then (op_found x.1 gx.1.lawful) (λ o fo.
-      then (expr_found n o.1 fo.lawful) (λ e ge.
-      then (after_found t.Semicolon e.1 ge.1.lawful) (λ c fc.
+      next (target_found n ws h) (λ x gx.
+      next (op_found x.1 gx.1.lawful) (λ o fo.
+      next (expr_found n o.1 fo.lawful) (λ e ge.
+      next (after_found t.Semicolon e.1 ge.1.lawful) (λ c fc.
       sure _ ((gx.0, ge.0), shut_false, gx.1 ▹ fo ▹ ge.1 ▹ fc)))))
 
   mutual
@@ -156,33 +156,33 @@ module _ (A : Type 0) where
     stmt_found (suc n) ws h =
         either (after_found t.Begin ws h)
         (either (after_found t.If ws h) (assign_found n ws h) (λ o f. branch_found n ws o.1 f))
-        (λ o f. then (stmts_found n o.1 o.1 [] (tt, start o.1 f.lawful)) (λ ss g. sure _ (g.0, shut_false, f ▹ g.1)))
+        (λ o f. next (stmts_found n o.1 o.1 [] (tt, start o.1 f.lawful)) (λ ss g. sure _ (g.0, shut_false, f ▹ g.1)))
 
     branch_found : (n : ℕ) (w ws : Toks A) → From A w (Fixed t.If ∷ []) ws → Sure (if_at n ws) (AtStmt w)
     branch_found zero w ws f = nothing
     branch_found (suc n) w ws f =
-        then (after_found t.ParenOpen ws f.lawful) (λ o fo.
-        then (expr_found n o.1 fo.lawful) (λ e ge.
-        then (after_found t.ParenClose e.1 ge.1.lawful) (λ c fc.
-        then (body_found n c.1 fc.lawful) (λ b gb.
-        then (else_found n b.1 gb.2.lawful) (λ x gx.
+        next (after_found t.ParenOpen ws f.lawful) (λ o fo.
+        next (expr_found n o.1 fo.lawful) (λ e ge.
+        next (after_found t.ParenClose e.1 ge.1.lawful) (λ c fc.
+        next (body_found n c.1 fc.lawful) (λ b gb.
+        next (else_found n b.1 gb.2.lawful) (λ x gx.
         sure _ ((ge.0, gb.0, shut b.0 x.0 b.1 gb.1 gx.3, gx.0), gx.1, f ▹ fo ▹ ge.1 ▹ fc ▹ gb.2 ▹ gx.2))))))
 
     pub body_found : (n : ℕ) (ws : Toks A) → AreLawful ws → Sure (body_at n ws) (AtBody ws)
     body_found zero ws h = nothing
-    body_found (suc n) ws h = either (after_found t.Semicolon ws h) (then (stmt_found n ws h) (λ s g. sure _ g)) (λ o f. sure _ (tt, shut_false, f))
+    body_found (suc n) ws h = either (after_found t.Semicolon ws h) (next (stmt_found n ws h) (λ s g. sure _ g)) (λ o f. sure _ (tt, shut_false, f))
 
     else_found : (n : ℕ) (ws : Toks A) → AreLawful ws → Sure (else_at n ws) (AtElse ws)
     else_found zero ws h = nothing
     else_found (suc n) ws h =
         kept (after_found t.Else ws h) (λ e. sure _ (tt, (λ _. e), start ws h, tt))
-        (λ o e f. then (body_found n o.1 f.lawful) (λ b g. sure _ (g.0, g.1, f ▹ g.2, (λ none. some_none o (sym e ∙ none)))))
+        (λ o e f. next (body_found n o.1 f.lawful) (λ b g. sure _ (g.0, g.1, f ▹ g.2, (λ none. some_none o (sym e ∙ none)))))
 
     stmts_found : (n : ℕ) (w ws : Toks A) (xs : List (StmtOf A)) → AtFront w (xs, ws) → Sure (stmts_at n xs ws) (AtBlock w)
     stmts_found zero w ws xs g = nothing
     stmts_found (suc n) w ws xs g =
         either (after_found t.End ws g.1.lawful)
-        (then (stmt_found n ws g.1.lawful) (λ s gs. stmts_found n w s.1 (xs ++ s.0 ∷ []) (stmts_snoc w ws s.1 xs s.0 g gs)))
+        (next (stmt_found n ws g.1.lawful) (λ s gs. stmts_found n w s.1 (xs ++ s.0 ∷ []) (stmts_snoc w ws s.1 xs s.0 g gs)))
         (λ o f. sure _ (g.0, g.1 ▹ f))
 
   body_cases : (ws : Toks A) (o : Option (BodyOf A × Toks A)) → Sure o (AtBody ws)
