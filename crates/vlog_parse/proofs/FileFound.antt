@@ -6,7 +6,7 @@ use Rattle.vlog_lex.specs.declared.token.TokenKind.TheVariants.{Identifier, Rese
 use Rattle.vlog_tree.specs.declared.module.Direction.{Direction}
 use Rattle.vlog_tree.specs.declared.terminal.Terminal.TheVariants as t
 use Rattle.vlog_tree.specs.Words.{Word, NameWord, Fixed}
-use Rattle.vlog_tree.specs.Tree.{IdentOf, ExprOf, RangeOf, PortHeadOf, PortOf, DrivenWireOf, Reg1Of, AssignOf, EventOf, ItemOf, ModuleOf, FileOf}
+use Rattle.vlog_tree.specs.Tree.{IdentOf, RangeOf, PortHeadOf, PortOf, DrivenWireOf, Reg1Of, AssignOf, ItemOf, ModuleOf, FileOf}
 use Rattle.vlog_tree.specs.Spelling.{ident_words, after_commas, with_commas, in_row, range_words, optional, direction_words, head_words, init_words, port_words, wire_words, reg_words, assign_words, event_words, item_words, module_words, file_words}
 use Rattle.vlog_tree.specs.Shape.{IsGoodName, IsGoodExpr, IsGoodOption, IsGoodRange, IsGoodHead, IsGoodPort, IsFirstDirected, IsGoodIdent, IsGoodWire, IsGoodReg, IsGoodAssign, IsGoodEvent, AreSomeGood, IsGoodItem, IsGoodModule, IsGood}
 use Rattle.vlog_parse.specs.Marks.{Toks, spell, IsLawfulText, AreLawful, is_name, name_front}

@@ -1,4 +1,5 @@
 pub mod FileFound
+pub mod FileWhole
 pub mod Found
 pub mod Maps
 pub mod Natural
