@@ -17,7 +17,7 @@ use Rattle.vlog_parse.specs.Laws.{ReadFilesAreSpelled}
 use Rattle.vlog_parse.proofs.Found.{From, again}
 use Rattle.vlog_parse.proofs.StmtFound.{Sure, nothing, sure, next, either, ◌▹◌, some_none, start, after_found, expr_found, target_found, body_found}
 
--- a list that is not empty, whose first is led in by another condition
+-- at least one, of which the first meets a condition of its own
 abbrev AreLed : {X : Type 0} → (X → Type 0) → (X → Type 0) → List X → Type 0
 AreLed First Good [] = ⊥
 AreLed First Good (x ∷ xs) = First x × AllByRecursion Good xs

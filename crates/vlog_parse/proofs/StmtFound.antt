@@ -26,9 +26,11 @@ nothing = record { holds = tt }
 pub sure : {X : Type 0} {P : X → Type 0} (x : X) → P x → Sure (Some x) P
 sure x p = record { holds = p }
 
+-- what is read next, behind what was read
 pub next : {X Y : Type 0} {P : X → Type 0} {Q : Y → Type 0} {o : Option X} {f : X → Option Y} → Sure o P → ((x : X) → P x → Sure (f x) Q) → Sure (o >>= f) Q
 next {P = P} {Q = Q} {o = o} {f = f} h k = record { holds = bind P Q o f h.holds (λ x p. (k x p).holds) }
 
+-- one thing, or else another
 pub either : {X Y : Type 0} {P : X → Type 0} {Q : Y → Type 0} {o : Option X} {other : Option Y} {f : X → Option Y}
     → Sure o P → Sure other Q → ((x : X) → P x → Sure (f x) Q) → Sure (found_or o other f) Q
 either {P = P} {Q = Q} {o = o} {other = other} {f = f} h e k = record { holds = found P Q o other f h.holds e.holds (λ x p. (k x p).holds) }
@@ -51,8 +53,8 @@ not_true : (b : Bool) → (b ≡ true → ⊥) → b ≡ false
 not_true true h = absurd (h refl)
 not_true false h = refl
 
-shut_false : {X : Type 0} → false ≡ true → X
-shut_false h = absurd (differ h)
+false_true : {X : Type 0} → false ≡ true → X
+false_true h = absurd (differ h)
   where
     differ : false ≡ true → ⊥
     differ h = cc
@@ -148,7 +150,7 @@ module _ (A : Type 0) where
       next (op_found x.1 gx.1.lawful) (λ o fo.
       next (expr_found n o.1 fo.lawful) (λ e ge.
       next (after_found t.Semicolon e.1 ge.1.lawful) (λ c fc.
-      sure _ ((gx.0, ge.0), shut_false, gx.1 ▹ fo ▹ ge.1 ▹ fc)))))
+      sure _ ((gx.0, ge.0), false_true, gx.1 ▹ fo ▹ ge.1 ▹ fc)))))
 
   mutual
     stmt_found : (n : ℕ) (ws : Toks A) → AreLawful ws → Sure (stmt_at n ws) (AtStmt ws)
@@ -156,7 +158,7 @@ module _ (A : Type 0) where
     stmt_found (suc n) ws h =
         either (after_found t.Begin ws h)
         (either (after_found t.If ws h) (assign_found n ws h) (λ o f. branch_found n ws o.1 f))
-        (λ o f. next (stmts_found n o.1 o.1 [] (tt, start o.1 f.lawful)) (λ ss g. sure _ (g.0, shut_false, f ▹ g.1)))
+        (λ o f. next (stmts_found n o.1 o.1 [] (tt, start o.1 f.lawful)) (λ ss g. sure _ (g.0, false_true, f ▹ g.1)))
 
     branch_found : (n : ℕ) (w ws : Toks A) → From A w (Fixed t.If ∷ []) ws → Sure (if_at n ws) (AtStmt w)
     branch_found zero w ws f = nothing
@@ -170,7 +172,7 @@ module _ (A : Type 0) where
 
     pub body_found : (n : ℕ) (ws : Toks A) → AreLawful ws → Sure (body_at n ws) (AtBody ws)
     body_found zero ws h = nothing
-    body_found (suc n) ws h = either (after_found t.Semicolon ws h) (next (stmt_found n ws h) (λ s g. sure _ g)) (λ o f. sure _ (tt, shut_false, f))
+    body_found (suc n) ws h = either (after_found t.Semicolon ws h) (next (stmt_found n ws h) (λ s g. sure _ g)) (λ o f. sure _ (tt, false_true, f))
 
     else_found : (n : ℕ) (ws : Toks A) → AreLawful ws → Sure (else_at n ws) (AtElse ws)
     else_found zero ws h = nothing
