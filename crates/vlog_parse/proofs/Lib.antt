@@ -1,10 +1,13 @@
 pub mod DepthLemmas
+pub mod FileFound
 pub mod FileNatural
 pub mod FileSpelled
+pub mod FileWhole
 pub mod Found
 pub mod Maps
 pub mod Natural
 pub mod Spelled
+pub mod StmtFound
 pub mod StmtNatural
 pub mod StmtSpelled
 pub mod TargetFound
