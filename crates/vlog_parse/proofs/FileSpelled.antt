@@ -12,7 +12,7 @@ use Rattle.vlog_tree.specs.Shape.{IsGoodExpr, IsGoodBody, IsGoodOption, IsGoodRa
 use Rattle.vlog_parse.specs.Marks.{Toks, spelled, spell, after, name_front}
 use Rattle.vlog_parse.specs.Reader.{◌>>=◌, found_or, Read, expr_at, fuel_for}
 use Rattle.vlog_parse.specs.FileReader.{more_at, some_at, range_at, range_front, init_front, direction_front, head_front, port_at, given_head, first_port_at, ports_at, wire_at, reg_at, assign_at, names_at, driven_at, wires_at, regs_at, assigns_at, item_at, items_at, header_at, module_at, modules_at, file_at}
-use Rattle.vlog_parse.specs.Laws.{Ends, FilesAreRead, OneFile}
+use Rattle.vlog_parse.specs.Laws.{Ends, FilesAreRead}
 use Rattle.vlog_parse.proofs.Spelled.{U, spell_append, ends_bracket, ends_colon, ends_comma, ends_paren, expr_read}
 use Rattle.vlog_parse.proofs.TargetSpelled.{target_read}
 use Rattle.vlog_parse.proofs.StmtSpelled.{ends_semicolon, body_read}
@@ -389,14 +389,3 @@ modules_file (m ∷ ms) n g h =
 
 pub file_read : FilesAreRead
 file_read f fuel g h = modules_file f.modules fuel g h
-
-abbrev file_or : Option (FileOf U) → FileOf U → FileOf U
-file_or None f = f
-file_or (Some x) f = x
-
-pub one_file : OneFile
-one_file a b ga gb e =
-    let fuel = fuel_for (length (file_words a)) in
-    let x = file_read a fuel ga (omega arith) in
-    let y = file_read b fuel gb (omega (arith, ap (length {A = Word}) e)) in
-    ap (λ (o : Option (FileOf U)). file_or o a) (sym x ∙ ap (λ (ws : List Word). file_at fuel (spell ws [])) e ∙ y)

@@ -1,4 +1,5 @@
 pub mod DepthLemmas
+pub mod FileClauses
 pub mod FileFound
 pub mod FileNatural
 pub mod FileSpelled

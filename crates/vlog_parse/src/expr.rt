@@ -4,10 +4,10 @@ ghost use Rattle.vlog_parse.specs.Marks.{all_marked};
 ghost use Rattle.vlog_parse.specs.Reader.{expr_at, choice_at, binary_at, chain_at, unary_at, prim_at, paren_at, concat_at, parts_at, ref_at, second_at, sel_at, bounds_at, index_of};
 ghost use Rattle.vlog_parse.specs.Given.{Gives};
 
-use crate::unread::Unread;
 use crate::front::{
     Parsed, after, binary_front, copied, expect, name_of, number_front, sign_front,
 };
+use crate::unread::Unread;
 use std::alloc::Global;
 use vlog_lex::Token;
 use vlog_tree::{Expr, Exprs, Ident, Number, Prim as Operand, Ref, Sel, Terminal, Unary, concat};

@@ -13,8 +13,8 @@ use crate::target::target_of;
 use std::alloc::Global;
 use vlog_lex::Token;
 use vlog_tree::{
-    Always, Assign, DrivenWire, DrivenWires, Event, Expr, Ident, Idents, Item, Range, Reg1, RegTail,
-    Terminal,
+    Always, Assign, DrivenWire, DrivenWires, Event, Expr, Ident, Idents, Item, Range, Reg1,
+    RegTail, Terminal,
 };
 
 /// The bounds behind `[`, and `]`.
@@ -52,7 +52,9 @@ pub fn init_front(alloc: Global, tokens: &[Token], fuel: usize) -> Parsed<'_, Op
 
 impl Listed for Ident {
     ghost Plain = { IdentOf ℕ };
+
     ghost plain = { plain_ident };
+
     ghost one_at = { λ _ ws. name_front ws };
 
     fn read(alloc: Global, tokens: &[Token], _fuel: usize) -> Parsed<'_, Ident> {
@@ -62,7 +64,9 @@ impl Listed for Ident {
 
 impl Listed for DrivenWire {
     ghost Plain = { DrivenWireOf ℕ };
+
     ghost plain = { plain_wire };
+
     ghost one_at = { wire_at };
 
     fn read(alloc: Global, tokens: &[Token], fuel: usize) -> Parsed<'_, DrivenWire> {
@@ -75,7 +79,9 @@ impl Listed for DrivenWire {
 
 impl Listed for Reg1 {
     ghost Plain = { Reg1Of ℕ };
+
     ghost plain = { plain_reg };
+
     ghost one_at = { reg_at };
 
     fn read(alloc: Global, tokens: &[Token], fuel: usize) -> Parsed<'_, Reg1> {
@@ -91,7 +97,9 @@ impl Listed for Reg1 {
 
 impl Listed for Assign {
     ghost Plain = { AssignOf ℕ };
+
     ghost plain = { plain_assign };
+
     ghost one_at = { assign_at };
 
     fn read(alloc: Global, tokens: &[Token], fuel: usize) -> Parsed<'_, Assign> {

@@ -15,6 +15,7 @@ use vlog_tree::Terminal;
 pub trait Listed {
     /// What it is as plain data.
     ghost Plain: { Type 0 };
+
     ghost plain: { Self → Plain };
 
     /// The reader of one on lists of tokens.
@@ -51,7 +52,11 @@ pub fn more_of<T: Listed + Drop>(
 }
 
 /// At least one, with commas between them.
-pub fn some_of<T: Listed + Drop>(alloc: Global, tokens: &[Token], fuel: usize) -> Parsed<'_, Items<T>>
+pub fn some_of<T: Listed + Drop>(
+    alloc: Global,
+    tokens: &[Token],
+    fuel: usize,
+) -> Parsed<'_, Items<T>>
     ensures { Gives (λ x. (map T.plain x.0, all_marked x.1.now)) result (some_at (T.one_at fuel) fuel (all_marked tokens.now)) }
 {
     let (first, rest) = T::read(alloc, tokens, fuel)?;

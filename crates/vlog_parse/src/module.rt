@@ -65,7 +65,9 @@ fn head_front(alloc: Global, tokens: &[Token], fuel: usize) -> Parsed<'_, Option
 
 impl Listed for Port {
     ghost Plain = { PortOf ℕ };
+
     ghost plain = { plain_port };
+
     ghost one_at = { port_at };
 
     fn read(alloc: Global, tokens: &[Token], fuel: usize) -> Parsed<'_, Port> {

@@ -4,9 +4,9 @@ ghost use Rattle.vlog_parse.specs.Marks.{all_marked};
 ghost use Rattle.vlog_parse.specs.Reader.{target_at, targets_at};
 ghost use Rattle.vlog_parse.specs.Given.{Gives};
 
-use crate::unread::Unread;
 use crate::expr::ref_of;
 use crate::front::{Parsed, after, expect};
+use crate::unread::Unread;
 use std::alloc::Global;
 use vlog_lex::Token;
 use vlog_tree::{Target, Targets, Terminal, concat_target};

@@ -1,5 +1,5 @@
 use crate::error::ParseError;
-use crate::parse::parse_expression;
+use crate::parser::parse_expression;
 use std::alloc::{AllocError, Global};
 use std::process::Abort;
 use std::test::Fail;
