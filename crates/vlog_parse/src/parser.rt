@@ -118,3 +118,6 @@ pub fn parse(alloc: Global, tokens: &Tokens) -> Result<File, ParseError>
         Err(Unread::Memory) => Err(ParseError::Memory),
     }
 }
+
+#[cfg(test)]
+mod tests;

@@ -19,7 +19,8 @@ mod stmt;
 mod terminal;
 
 pub use expr::{
-    BinaryOp, Expr, Exprs, Ident, Number, NumberKind, Primary as Prim, Ref, Sel, Sign, Unary, UnaryOp,
+    BinaryOp, Expr, Exprs, Ident, Number, NumberKind, Primary as Prim, Ref, Sel, Sign, Unary,
+    UnaryOp,
 };
 pub use lines::{expr_line, target_line};
 pub use lists::{begin, concat, concat_target, see_begin, see_concat, see_concat_target};
