@@ -15,4 +15,5 @@ pub mod TargetFound
 pub mod TargetNatural
 pub mod TargetSpelled
 pub mod Turns
+pub mod Units
 pub mod Whole

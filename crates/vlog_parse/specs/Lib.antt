@@ -7,3 +7,4 @@ pub mod Marks
 pub mod Parsing
 pub mod Reader
 pub mod StmtReader
+pub mod Units

@@ -1,5 +1,5 @@
 -- The reader of statements, rule by rule of the grammar. Each call has one less of fuel than its caller.
-use Rattle.std.specs.Prelude.{ℕ, zero, suc, List, [], ◌∷◌, ◌++◌, Option, None, Some}
+use Rattle.std.specs.Prelude.{ℕ, zero, suc, List, [], ◌∷◌, ◌++◌, None, Some}
 use Rattle.vlog_tree.specs.declared.stmt.AssignOp.{AssignOp}
 use Rattle.vlog_tree.specs.declared.stmt.AssignOp.TheVariants as assign
 use Rattle.vlog_tree.specs.declared.terminal.Terminal.TheVariants as t

@@ -2,6 +2,7 @@ ghost use Rattle.std.specs.Prelude.{ℕ};
 ghost use Rattle.vlog_parse.specs.Laws.{ExprsAreRead, RefsAreRead, TargetsAreRead, ReadExprsAreSpelled, ReadRefsAreSpelled, ReadTargetsAreSpelled, ExprLinesDontCount, RefLinesDontCount, TargetLinesDontCount, OneExpr, BodiesAreRead, FilesAreRead, ReadBodiesAreSpelled, ReadFilesAreSpelled, BodyLinesDontCount, FileLinesDontCount};
 ghost use Rattle.vlog_parse.specs.Parsing.{OneFile};
 ghost use Rattle.vlog_parse.specs.Depth.{OneDepth};
+ghost use Rattle.vlog_parse.specs.Units.{UnitsAreSpelled};
 
 /// What is spelled is read.
 pub fn spelled_is_read()
@@ -43,4 +44,9 @@ pub fn one_file()
 /// A limit is first passed on one line, or nowhere.
 pub fn one_depth()
     ensures { OneDepth ℕ }
+{}
+
+/// The units of a file are its tokens.
+pub fn units_are_spelled()
+    ensures { UnitsAreSpelled }
 {}

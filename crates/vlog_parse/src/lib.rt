@@ -21,7 +21,10 @@ mod target;
 mod unread;
 
 pub use error::ParseError;
-pub use laws::{lines_dont_count, one_depth, one_expr, one_file, read_is_spelled, spelled_is_read};
+pub use laws::{
+    lines_dont_count, one_depth, one_expr, one_file, read_is_spelled, spelled_is_read,
+    units_are_spelled,
+};
 pub use parser::{parse, parse_expression};
 
 #[cfg(test)]

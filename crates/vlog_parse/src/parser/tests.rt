@@ -5,7 +5,8 @@ use std::process::Abort;
 use std::test::Fail;
 use vlog_lex::{Tokens, lex};
 use vlog_tree::{
-    Always, AssignOp, Body, Direction, Event, File, Item, Module, NetKind, Port, Reg1, Stmt, tokens_of,
+    Always, AssignOp, Body, Direction, Event, File, Item, Module, NetKind, Port, Reg1, Stmt,
+    tokens_of,
 };
 
 // A file as signs. Ports: `i`, `iw`, `o`, `ow`, `or` or nothing, `[]` for a range, the name, `=` for a
@@ -23,16 +24,34 @@ const FILES: [(&str, &str); 15] = [
         "module m(); wire a; wire [3:0] b, c; wire d = 1; wire [1:0] e = 2, f = a; endmodule",
         "m()W1W[]2D1D[]2",
     ),
-    ("module m(); reg a; reg [3:0] b = 1, c, d = 2; endmodule", "m()R1R[]3=="),
-    ("module m(); assign a = 1, {b, c[0]} = d; assign e[3:0] = f; endmodule", "m()A2A1"),
+    (
+        "module m(); reg a; reg [3:0] b = 1, c, d = 2; endmodule",
+        "m()R1R[]3==",
+    ),
+    (
+        "module m(); assign a = 1, {b, c[0]} = d; assign e[3:0] = f; endmodule",
+        "m()A2A1",
+    ),
     (
         "module m();\nalways @(posedge k) a <= b;\n\nalways @(posedge l) ; endmodule",
         "m()@2k<@4l;",
     ),
-    ("module m(); always @(posedge k) begin end endmodule", "m()@1k{}"),
-    ("module m(); always @(posedge k) begin a = 1; b <= 2; end endmodule", "m()@1k{=<}"),
-    ("module m(); always @(posedge k) if (a) b <= 1; endmodule", "m()@1k?(<)()"),
-    ("module m(); always @(posedge k) if (a) ; else b <= 1; endmodule", "m()@1k?(;)(<)"),
+    (
+        "module m(); always @(posedge k) begin end endmodule",
+        "m()@1k{}",
+    ),
+    (
+        "module m(); always @(posedge k) begin a = 1; b <= 2; end endmodule",
+        "m()@1k{=<}",
+    ),
+    (
+        "module m(); always @(posedge k) if (a) b <= 1; endmodule",
+        "m()@1k?(<)()",
+    ),
+    (
+        "module m(); always @(posedge k) if (a) ; else b <= 1; endmodule",
+        "m()@1k?(;)(<)",
+    ),
     (
         "module m(); always @(posedge k) if (a) if (b) c <= 1; else c = 2; endmodule",
         "m()@1k?(?(<)(=))()",
@@ -291,7 +310,10 @@ fn files_have_their_tokens(rt: HostRuntime) -> Result<(), Fail> {
         let spelled = tokens_of(rt.alloc(), &file)?;
         assert_eq!(rt; spelled.len(), given.len(), "{text}");
         for (a, b) in spelled.as_slice().iter().zip(given.as_slice()) {
-            assert!(rt; a.kind == b.kind && a.text.as_slice() == b.text.as_slice(), "{text}");
+            assert!(rt;
+                a.kind == b.kind && a.text.as_slice() == b.text.as_slice(),
+                "{text}"
+            );
         }
     }
     Ok(())

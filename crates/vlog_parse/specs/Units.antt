@@ -1,0 +1,52 @@
+-- The whole units of a design text: a module's header up to its `;`, an item, and `endmodule`.
+use Rattle.std.specs.Prelude.{◌≡◌, ◌≤◌, ℕ, List, [], ◌∷◌, ◌++◌, None, length, map}
+use Rattle.std.specs.List.{flat_map}
+use Rattle.vlog_tree.specs.declared.terminal.Terminal.TheVariants as t
+use Rattle.vlog_tree.specs.Words.{Word, NameWord, Fixed}
+use Rattle.vlog_tree.specs.Tree.{PortOf, ItemOf, AlwaysItem, ModuleOf, FileOf}
+use Rattle.vlog_tree.specs.Spelling.{with_commas, in_row, port_words, item_words, file_words}
+use Rattle.vlog_tree.specs.Shape.{IsGood}
+use Rattle.vlog_parse.specs.Marks.{Toks, spell, after}
+
+pub data UnitOf (A : Type 0) : Type 0 where
+  Header : List ℕ → List (PortOf A) → UnitOf A
+  ItemUnit : ItemOf A → UnitOf A
+  Endmodule : UnitOf A
+
+abbrev pub module_units : {A : Type 0} → ModuleOf A → List (UnitOf A)
+module_units m = Header m.name m.ports ∷ (map ItemUnit m.items ++ Endmodule ∷ [])
+
+abbrev pub file_units : {A : Type 0} → FileOf A → List (UnitOf A)
+file_units f = flat_map module_units f.modules
+
+abbrev pub unit_words : {A : Type 0} → UnitOf A → List Word
+unit_words (Header name ports) = Fixed t.Module ∷ NameWord name ∷ Fixed t.ParenOpen ∷ (with_commas port_words ports ++ Fixed t.ParenClose ∷ Fixed t.Semicolon ∷ [])
+unit_words (ItemUnit i) = item_words i
+unit_words Endmodule = Fixed t.Endmodule ∷ []
+
+-- an `always` that `else` follows isn't a whole unit
+abbrev pub IsWhole : {A : Type 0} → UnitOf A → Toks (Unit {0}) → Type 0
+IsWhole (ItemUnit (AlwaysItem a)) rest = after t.Else rest ≡ None
+IsWhole _ rest = Unit {0}
+
+abbrev pub AreWhole : {A : Type 0} → List (UnitOf A) → Toks (Unit {0}) → Type 0
+AreWhole [] rest = Unit {0}
+AreWhole (u ∷ us) rest = IsWhole u (spell (in_row unit_words us) rest) × AreWhole us rest
+
+-- the tokens are these whole units, with which some file of good shape begins, and then the rest
+pub record BeginWith (units : List (UnitOf (Unit {0}))) (ws rest : Toks (Unit {0})) : Type 0 where
+  pub file : FileOf (Unit {0})
+  pub good : IsGood file
+  pub more : List (UnitOf (Unit {0}))
+  pub parts : file_units file ≡ units ++ more
+  pub spelled : ws ≡ spell (in_row unit_words units) rest
+  pub whole : AreWhole units rest
+
+-- the longest list of whole units with which the tokens begin, and the tokens behind it
+pub record AreLongest (units : List (UnitOf (Unit {0}))) (ws rest : Toks (Unit {0})) : Type 0 where
+  pub begins : BeginWith units ws rest
+  pub longest : (us : List (UnitOf (Unit {0}))) (r : Toks (Unit {0})) → BeginWith us ws r → length us ≤ length units
+
+-- the units of a file, one after the other, are its words
+abbrev pub UnitsAreSpelled : Type 0
+UnitsAreSpelled = (f : FileOf (Unit {0})) → in_row unit_words (file_units f) ≡ file_words f
