@@ -1,8 +1,7 @@
 -- The constant of an expression with a number.
-use Rattle.std.proofs.Common.{◌≡◌, ℕ, ◌≤◌, Bool, true, false, ◌&&◌, if◌then◌else◌, Option, Some, None, ap, sym, ◌∙◌, refl, arith, subst, min}
+use Rattle.std.proofs.Common.{◌≡◌, ℕ, ◌≤◌, Bool, true, false, ◌&&◌, if◌then◌else◌, Option, Some, None, ap, sym, ◌∙◌, refl, arith}
 use Rattle.vlog_size.specs.declared.scope.Const.TheVariants as const
 use Rattle.vlog_size.specs.Literal.{is_lawful}
-use Rattle.vlog_size.specs.Limits.{TOP}
 use Rattle.vlog_size.specs.Size.{Sizes, number, own, own_width, at_width, is_sound, constant_of, constant_at}
 
 lawful_small : (b : Bool) (w : ℕ) → (b && is_lawful w) ≡ true → w ≤ 128
@@ -34,13 +33,13 @@ pub plain_whole : (e : Sizes) (n : ℕ) → e.plain ≡ true → number e ≡ So
 unfolding number
 plain_whole e n p h = is_plain e.plain e.whole (if is_sound e then own e else None) n p h
 
-pub constant_plain : (e : Sizes) (n : ℕ) → e.plain ≡ true → number e ≡ Some n → constant_of e ≡ Some (const.Plain n)
+pub constant_plain : (e : Sizes) (n : ℕ) → e.plain ≡ true → number e ≡ Some n → constant_of e ≡ const.Plain n
 unfolding constant_of
 constant_plain e n p h =
     ap (λ (o : Option ℕ). constant_at e.plain e.width o) h ∙ ap (λ (b : Bool). constant_at b e.width (Some n)) p
 
-pub constant_sized : (e : Sizes) (w n : ℕ) → e.plain ≡ false → number e ≡ Some n → w ≡ e.width → constant_of e ≡ Some (const.Sized w n)
+pub constant_sized : (e : Sizes) (w n : ℕ) → e.plain ≡ false → number e ≡ Some n → w ≡ e.width → constant_of e ≡ const.Sized w n
 unfolding constant_of
 constant_sized e w n p h k =
     ap (λ (o : Option ℕ). constant_at e.plain e.width o) h
-    ∙ (ap (λ (b : Bool). constant_at b e.width (Some n)) p ∙ ap (λ (v : ℕ). Some (const.Sized v n)) (sym k))
+    ∙ (ap (λ (b : Bool). constant_at b e.width (Some n)) p ∙ ap (λ (v : ℕ). const.Sized v n) (sym k))

@@ -1,6 +1,12 @@
+pub mod Answered
 pub mod Constants
+pub mod Faultless
 pub mod Firsts
+pub mod KindExamples
+pub mod Lists
 pub mod Numbers
+pub mod Parts
 pub mod Rests
 pub mod Shifts
+pub mod Sized
 pub mod Totals

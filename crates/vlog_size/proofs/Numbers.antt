@@ -1,5 +1,5 @@
 -- Digits only make a number larger.
-use Rattle.std.proofs.Common.{◌≡◌, ℕ, ◌+◌, ◌*◌, ◌≤◌, ◌<◌, ◌^◌, Bool, true, false, ◌==◌, List, [], ◌∷◌, if◌then◌else◌, arith, Option, None, Some, refl, drop, length, get_or, sym, ap, ◌∙◌, suc, ◌≢◌, drop-cons}
+use Rattle.std.proofs.Common.{◌≡◌, ℕ, ◌+◌, ◌*◌, ◌≤◌, ◌<◌, ◌^◌, Bool, true, false, ◌==◌, List, [], ◌∷◌, if◌then◌else◌, arith, None, Some, refl, drop, length, get_or, sym, ap, ◌∙◌, suc, ◌≢◌, drop-cons}
 use Rattle.std.proofs.lemmas.List.{drop_all}
 use Rattle.std.proofs.Math.Nat.{mul-le-mul_left}
 use Rattle.vlog_size.specs.Literal.{digit, digits_from, below_top}

@@ -1,6 +1,5 @@
 -- The width of parts of lawful widths in all.
 use Rattle.std.proofs.Common.{◌≡◌, ℕ, ◌+◌, ◌*◌, ◌≤◌, ◌<◌, ◌^◌, Bool, true, false, ◌&&◌, not, min, List, [], ◌∷◌, length, refl, arith, ap, sym, ◌∙◌}
-use Rattle.vlog_size.specs.declared.error.SizeError.{SizeError}
 use Rattle.vlog_size.specs.declared.error.SizeError.TheVariants as error
 use Rattle.std.proofs.lemmas.Grind.{common_steps}
 use Rattle.vlog_size.specs.Limits.{TOP}

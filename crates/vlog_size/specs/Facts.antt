@@ -1,13 +1,14 @@
 -- What the code keeps of an expression.
-use Rattle.std.specs.Prelude.{◌≡◌, ℕ, ◌+◌, ◌&&◌, min, Option, List}
+use Rattle.std.specs.Prelude.{◌≡◌, ℕ, ◌+◌, ◌&&◌, min, List}
 use Rattle.vlog_size.specs.declared.facts.Facts.{Facts}
 use Rattle.vlog_size.specs.declared.facts.Numbered.{Numbered}
 use Rattle.vlog_size.specs.declared.facts.Select.{Select}
 use Rattle.vlog_size.specs.declared.facts.Parts.{Parts}
 use Rattle.vlog_size.specs.Findings.{first, or_first}
 use Rattle.vlog_size.specs.Limits.{TOP}
-use Rattle.vlog_size.specs.Size.{Sizes, number, Bracket, part_width, part_const_faults, part_width_faults, all_constant, all_lawful, total_width, parts_const_faults, parts_width_faults}
+use Rattle.vlog_size.specs.Size.{Sizes, number, Bracket, part_width, part_const_faults, part_fault, part_width_faults, all_constant, all_lawful, total_width, parts_const_faults, parts_width_faults}
 
+-- the code's facts of an expression: of its faults the first of each kind, of its width no more than the largest number
 pub record Shows (f : Facts) (e : Sizes) : Type 0 where
   pub line : f.line ≡ e.line
   pub plain : f.plain ≡ e.plain
@@ -19,6 +20,7 @@ pub record Shows (f : Facts) (e : Sizes) : Type 0 where
   pub const_fault : f.const_fault ≡ first e.const_faults
   pub width_fault : f.width_fault ≡ first e.width_faults
 
+-- the facts and the number of an expression
 pub record ShowsNumber (f : Numbered) (e : Sizes) : Type 0 where
   pub facts : Shows f.facts e
   pub number : f.number ≡ number e
@@ -27,7 +29,8 @@ pub record ShowsNumber (f : Numbered) (e : Sizes) : Type 0 where
 pub record ShowsSelect (line whole picked limit : ℕ) (s : Select) (b : Bracket) : Type 0 where
   pub width : s.width ≡ min (part_width whole picked b) TOP
   pub const_fault : s.const_fault ≡ first (part_const_faults b)
-  pub width_fault : s.width_fault ≡ first (part_width_faults line whole limit b)
+  pub own_fault : s.own_fault ≡ first (part_fault line whole b)
+  pub width_fault : s.width_fault ≡ first (part_width_faults whole limit b)
 
 -- the parts so far and the rest of the parts make all of them
 pub record ShowsRest (so_far : Parts) (rest all : List Sizes) : Type 0 where

@@ -1,9 +1,8 @@
 -- The widths and numbers of literals (IEEE 1364-2005, 3.5.1; this project's profile).
-use Rattle.std.specs.Prelude.{ℕ, ◌+◌, ◌-◌, ◌*◌, ◌%◌, ◌^◌, Bool, true, false, ◌==◌, ◌&&◌, ◌||◌, not, nat_lt, nat_le, if◌then◌else◌, List, [], ◌∷◌, Option, Some, None, is_none}
+use Rattle.std.specs.Prelude.{ℕ, ◌+◌, ◌-◌, ◌*◌, ◌%◌, ◌^◌, Bool, false, ◌==◌, ◌&&◌, ◌||◌, not, nat_lt, nat_le, if◌then◌else◌, List, [], ◌∷◌, Option, Some, None, is_none}
 use Rattle.std.specs.List.{before_first, after_first}
 use Rattle.vlog_tree.specs.declared.expr.NumberKind.{NumberKind}
 use Rattle.vlog_tree.specs.declared.expr.NumberKind.TheVariants.{Decimal, Based}
-use Rattle.vlog_tree.specs.Tree.{NumberOf}
 use Rattle.vlog_size.specs.Findings.{is_nil}
 
 -- `0` to `9`, `A` to `F`, `a` to `f`
@@ -30,6 +29,7 @@ below_top n = if nat_lt n (2 ^ 128) then Some n else None
 abbrev pub is_lawful : ℕ → Bool
 is_lawful w = nat_lt 0 w && nat_le w 128
 
+-- `'`
 abbrev pub is_quote : ℕ → Bool
 is_quote b = b == 39
 

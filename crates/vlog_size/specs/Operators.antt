@@ -7,6 +7,7 @@ use Rattle.vlog_tree.specs.declared.expr.UnaryOp.TheVariants as unary
 use Rattle.vlog_tree.specs.declared.expr.BinaryOp.{BinaryOp}
 use Rattle.vlog_tree.specs.declared.expr.BinaryOp.TheVariants.{LogicalOr, LogicalAnd, Or, Xor, XorTilde, TildeXor, And, Equal, NotEqual, Less, LessOrEqual, Greater, GreaterOrEqual, ShiftLeft, ShiftRight, ArithmeticShiftLeft, ArithmeticShiftRight, Plus, Minus, Times}
 
+-- how an operator takes the widths of its operands
 abbrev pub kind_of : BinaryOp → Kind
 kind_of LogicalOr = Logic
 kind_of LogicalAnd = Logic
@@ -57,6 +58,7 @@ is_plain_shift ShiftLeft = true
 is_plain_shift ShiftRight = true
 is_plain_shift _ = false
 
+-- a truth value as a number
 abbrev pub bit : Bool → ℕ
 bit true = 1
 bit false = 0
@@ -65,6 +67,7 @@ bit false = 0
 abbrev pub difference : ℕ → ℕ → ℕ → ℕ
 difference a b w = (a + (2 ^ w - b % 2 ^ w)) % 2 ^ w
 
+-- -a modulo 2^w
 abbrev pub negative : ℕ → ℕ → ℕ
 negative a w = difference 0 a w
 
@@ -102,7 +105,7 @@ is_wide unary.Minus = true
 is_wide unary.BitNot = true
 is_wide _ = false
 
--- the number of an operator before an operand of w bits
+-- the number of an operator before an operand of w bits; all bits are 1 where one more is 0 modulo 2^w
 abbrev pub unary_value : UnaryOp → ℕ → ℕ → ℕ
 unary_value unary.Plus a w = a
 unary_value unary.Minus a w = negative a w

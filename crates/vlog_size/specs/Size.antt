@@ -1,32 +1,35 @@
--- *Constants and widths*: what "Constants, widths and values" says of an expression, and its faults, each
--- from those of its parts. A list of faults is in text order, the whole before its parts.
-use Rattle.std.specs.Prelude.{ℕ, ◌+◌, ◌-◌, ◌*◌, ◌/◌, ◌%◌, ◌^◌, min, max, Bool, true, false, ◌==◌, ◌&&◌, ◌||◌, not, nat_lt, nat_le, if◌then◌else◌, List, [], ◌∷◌, ◌++◌, Option, Some, None, flat_map, sum_by, is_none}
+-- Constants and widths (IEEE 1364-2005, 3.5, 5.1 and 5.4; this project's profile): whether an expression is plain,
+-- unsized and constant, its width and its number, and its faults, each from those of its parts. A list of faults is in
+-- text order, the whole before its parts. E5 is a fault of a constant, E6 one of a width, an index or a bound.
+use Rattle.std.specs.Prelude.{ℕ, ◌+◌, ◌-◌, ◌*◌, ◌%◌, ◌^◌, min, max, Bool, true, false, ◌==◌, ◌&&◌, ◌||◌, not, nat_lt, nat_le, if◌then◌else◌, List, [], ◌∷◌, ◌++◌, Option, Some, None, flat_map, sum_by, is_none}
 use Rattle.std.specs.List.{list_all}
 use Rattle.vlog_tree.specs.declared.expr.NumberKind.{NumberKind}
 use Rattle.vlog_tree.specs.declared.expr.NumberKind.TheVariants.{Decimal, Based}
 use Rattle.vlog_tree.specs.declared.expr.BinaryOp.{BinaryOp}
 use Rattle.vlog_tree.specs.declared.expr.UnaryOp.{UnaryOp}
-use Rattle.vlog_tree.specs.Tree.{NumberOf, SignOf, ExprOf, UnaryExpr, BinaryExpr, ChoiceExpr, PrimOf, NumberPrim, RefPrim, ParenPrim, ConcatPrim, RefOf, RefWith, IndexOf, NoIndex, Index, LastOf, NoLast, Last, SelOf, IndexSel, PartSel, IndexedSel, ExprsOf, NoExprs, MoreExprs}
+use Rattle.vlog_tree.specs.Tree.{NumberOf, ExprOf, UnaryExpr, BinaryExpr, ChoiceExpr, PrimOf, NumberPrim, RefPrim, ParenPrim, ConcatPrim, RefOf, RefWith, IndexOf, NoIndex, Index, LastOf, NoLast, Last, SelOf, IndexSel, PartSel, IndexedSel, ExprsOf, NoExprs, MoreExprs}
 use Rattle.vlog_size.specs.declared.error.SizeError.{SizeError}
 use Rattle.vlog_size.specs.declared.error.SizeError.TheVariants as error
 use Rattle.vlog_size.specs.declared.scope.Const.{Const}
 use Rattle.vlog_size.specs.declared.scope.Const.TheVariants as const
 use Rattle.vlog_size.specs.declared.scope.Scope.{Scope}
 use Rattle.vlog_size.specs.Limits.{TOP}
-use Rattle.vlog_size.specs.Findings.{is_nil, first, told_if}
+use Rattle.vlog_size.specs.Findings.{first, told_if}
 use Rattle.vlog_size.specs.Literal.{is_lawful, literal_width, literal_number, is_bad_literal, is_without_size, digits_from}
 use Rattle.vlog_size.specs.declared.names.Meaning.{Meaning}
 use Rattle.vlog_size.specs.declared.names.Meaning.TheVariants.{Parameter, Place, Undeclared}
 use Rattle.vlog_size.specs.declared.operators.Kind.{Kind}
 use Rattle.vlog_size.specs.declared.operators.Kind.TheVariants.{Sum, Comparison, Logic, Shift}
 use Rattle.vlog_size.specs.Names.{meaning_of, fixed}
-use Rattle.vlog_size.specs.Operators.{kind_of, in_range, whole_value, is_plain_op, is_plain_shift, bit, binary_value, is_wide, unary_value}
+use Rattle.vlog_size.specs.Operators.{kind_of, in_range, whole_value, is_plain_op, is_plain_shift, binary_value, is_wide, unary_value}
 
 -- what is said of an expression
 pub record Sizes : Type 0 where
   -- the line of its first token
   pub line : ℕ
+  -- a decimal or plain parameter, or made of such by `+ - * << >>` or `?:`
   pub plain : Bool
+  -- plain, a `?:` of unsized branches, or `<<` or `>>` with a plain left operand
   pub unsized : Bool
   -- a based literal without a size, bare or in parentheses
   pub without_size : Bool
@@ -48,10 +51,12 @@ abbrev pub of_one : (ℕ → ℕ) → Option ℕ → Option ℕ
 of_one f None = None
 of_one f (Some a) = Some (f a)
 
+-- what a function makes of two numbers that are there
 abbrev pub of_two : (ℕ → ℕ → Option ℕ) → Option ℕ → Option ℕ → Option ℕ
 of_two f (Some a) (Some b) = f a b
 of_two f _ _ = None
 
+-- nothing is found
 abbrev pub is_sound : Sizes → Bool
 is_sound e = is_none (first e.const_faults) && is_none (first e.width_faults)
 
@@ -59,6 +64,7 @@ is_sound e = is_none (first e.const_faults) && is_none (first e.width_faults)
 unfoldable pub own_width : Sizes → Option ℕ
 own_width e = if e.constant && is_lawful e.width then Some e.width else None
 
+-- the value at a width that is there
 abbrev pub at_width : (ℕ → Option ℕ) → Option ℕ → Option ℕ
 at_width value None = None
 at_width value (Some w) = value w
@@ -76,6 +82,7 @@ abbrev pub reaches : ℕ → Option ℕ → Bool
 reaches limit None = false
 reaches limit (Some n) = nat_le limit n
 
+-- a number that isn't there counts as 0
 abbrev pub or_zero : Option ℕ → ℕ
 or_zero None = 0
 or_zero (Some n) = n
@@ -85,6 +92,7 @@ abbrev pub is_decimal : NumberKind → Bool
 is_decimal Decimal = true
 is_decimal Based = false
 
+-- nothing is found
 abbrev pub no_faults : List SizeError
 no_faults = []
 
@@ -93,6 +101,7 @@ abbrev pub decimal_value : NumberKind → List ℕ → Option ℕ
 decimal_value Decimal text = in_range (digits_from 10 0 text)
 decimal_value Based text = None
 
+-- a literal
 abbrev pub of_number : NumberOf ℕ → Sizes
 of_number n = record {
   line = n.line;
@@ -107,6 +116,7 @@ of_number n = record {
   width_faults = no_faults;
 }
 
+-- whether a constant is plain
 abbrev pub is_plain_const : Const → Bool
 is_plain_const (const.Plain n) = true
 is_plain_const (const.Sized w n) = false
@@ -116,9 +126,15 @@ abbrev pub const_width : Const → ℕ
 const_width (const.Plain n) = 32
 const_width (const.Sized w n) = w
 
+-- the number that a constant holds
 abbrev pub const_number : Const → ℕ
 const_number (const.Plain n) = n
 const_number (const.Sized w n) = n
+
+-- the number of a constant; one outside 0 to 2,147,483,647 is no plain one's
+abbrev pub const_value : Const → Option ℕ
+const_value (const.Plain n) = in_range n
+const_value (const.Sized w n) = Some n
 
 -- what stands in the last bracket
 pub data Bracket : Type 0 where
@@ -129,6 +145,7 @@ pub data Bracket : Type 0 where
   -- `base +: width`
   Indexed : Sizes → Sizes → Bracket
 
+-- the number of bits from the first bound down to the second
 abbrev pub bounds_width : Option ℕ → Option ℕ → ℕ
 bounds_width (Some a) (Some b) = a + 1 - b
 bounds_width _ _ = 0
@@ -148,12 +165,14 @@ outside limit i = told_if (reaches limit (number i)) (error.Width i.line (or_zer
 abbrev pub too_large : Sizes → List SizeError
 too_large e = told_if (not e.plain && reaches 2147483648 (number e)) (error.Const e.line)
 
+-- what is found in the last bracket: of each bound its own fault, then those within it
 abbrev pub part_const_faults : Bracket → List SizeError
 part_const_faults NoBracket = no_faults
 part_const_faults (Bit i) = i.const_faults
 part_const_faults (Part a b) = (too_large a ++ a.const_faults) ++ (too_large b ++ b.const_faults)
 part_const_faults (Indexed base width) = base.const_faults ++ (too_large width ++ width.const_faults)
 
+-- whether the first bound is below the second one, and that one in range
 abbrev pub is_wrong_order : ℕ → Option ℕ → Option ℕ → Bool
 is_wrong_order whole (Some a) (Some b) = nat_lt a b && nat_lt b whole
 is_wrong_order whole _ _ = false
@@ -171,15 +190,19 @@ wrong_order whole a b = told_if (is_wrong_order whole (number a) (number b)) (er
 abbrev pub wrong_part : ℕ → ℕ → Sizes → Sizes → List SizeError
 wrong_part line whole base width = told_if (is_wrong_part whole base (number width)) (error.Width line (or_zero (number width)))
 
--- of a select on this line of a vector of `whole` bits, of which an index is below the limit
-abbrev pub part_width_faults : ℕ → ℕ → ℕ → Bracket → List SizeError
-part_width_faults line whole limit NoBracket = no_faults
-part_width_faults line whole limit (Bit i) = outside limit i ++ i.width_faults
-part_width_faults line whole limit (Part a b) = (outside whole a ++ a.width_faults) ++ ((outside whole b ++ b.width_faults) ++ wrong_order whole a b)
-part_width_faults line whole limit (Indexed base width) =
-    wrong_part line whole base width ++ (base.width_faults ++ width.width_faults)
+-- the own fault of a select on this line of a vector of `whole` bits
+abbrev pub part_fault : ℕ → ℕ → Bracket → List SizeError
+part_fault line whole (Indexed base width) = wrong_part line whole base width
+part_fault line whole _ = no_faults
 
--- a parameter
+-- the faults in the last bracket after a vector of `whole` bits, of which an index is below the limit
+abbrev pub part_width_faults : ℕ → ℕ → Bracket → List SizeError
+part_width_faults whole limit NoBracket = no_faults
+part_width_faults whole limit (Bit i) = outside limit i ++ i.width_faults
+part_width_faults whole limit (Part a b) = (outside whole a ++ a.width_faults) ++ ((outside whole b ++ b.width_faults) ++ wrong_order whole a b)
+part_width_faults whole limit (Indexed base width) = base.width_faults ++ width.width_faults
+
+-- a parameter; what makes its constant is at fault, and not its name where it is read
 abbrev pub of_param : ℕ → Const → Sizes
 of_param line c = record {
   line = line;
@@ -189,9 +212,9 @@ of_param line c = record {
   constant = true;
   width = const_width c;
   whole = in_range (const_number c);
-  value = λ w. Some (const_number c);
-  const_faults = told_if (is_plain_const c && is_none (in_range (const_number c))) (error.Const line);
-  width_faults = told_if (not (is_lawful (const_width c))) (error.Width line (const_width c));
+  value = λ w. const_value c;
+  const_faults = no_faults;
+  width_faults = no_faults;
 }
 
 -- what is read at run time, with the faults of its brackets
@@ -212,10 +235,10 @@ of_read line width const_faults width_faults = record {
 -- a net, a memory's word, or a select of one; where there are two brackets the first one holds the word's index
 abbrev pub of_place : ℕ → ℕ → ℕ → ℕ → Option Sizes → Bracket → Sizes
 of_place line width picked limit None last =
-    of_read line (part_width width picked last) (part_const_faults last) (part_width_faults line width limit last)
+    of_read line (part_width width picked last) (part_const_faults last) (part_fault line width last ++ part_width_faults width limit last)
 of_place line width picked limit (Some i) last =
     of_read line (part_width width 1 last) (i.const_faults ++ part_const_faults last)
-    ((outside limit i ++ i.width_faults) ++ part_width_faults line width width last)
+    (part_fault line width last ++ ((outside limit i ++ i.width_faults) ++ part_width_faults width width last))
 
 -- where there is no such net or memory, and so in a constant position, the read is at fault
 abbrev pub of_ref : ℕ → Meaning → Option Sizes → Bracket → Sizes
@@ -223,15 +246,19 @@ of_ref line (Parameter c) index last = of_param line c
 of_ref line (Place width picked limit) index last = of_place line width picked limit index last
 of_ref line Undeclared index last = of_read line 0 (error.Const line ∷ []) no_faults
 
+-- `(e)`
 abbrev pub of_paren : ℕ → Sizes → Sizes
 of_paren line e = record e { line = line }
 
+-- each part is constant
 abbrev pub all_constant : List Sizes → Bool
 all_constant parts = list_all (λ (p : Sizes). p.constant) parts
 
+-- each part has a lawful width
 abbrev pub all_lawful : List Sizes → Bool
 all_lawful parts = list_all (λ (p : Sizes). is_lawful p.width) parts
 
+-- the widths of all parts
 abbrev pub total_width : List Sizes → ℕ
 total_width parts = sum_by (λ (p : Sizes). p.width) parts
 
@@ -245,6 +272,7 @@ sum_fault line parts =
 abbrev pub join_part : ℕ → ℕ → ℕ → ℕ → ℕ
 join_part w v n m = (n * 2 ^ v % 2 ^ w + m) % 2 ^ w
 
+-- the numbers of the parts before, then that of a part of v bits
 abbrev pub join_with : ℕ → Option ℕ → Sizes → Option ℕ → Option ℕ
 join_with w n p None = None
 join_with w n p (Some v) = of_two (λ (a b : ℕ). Some (join_part w v a b)) n (p.value v)
@@ -258,10 +286,12 @@ joined w n (p ∷ parts) = joined w (join_with w n p (own_width p)) parts
 abbrev pub concat_own_width : List Sizes → Option ℕ
 concat_own_width parts = if all_constant parts && is_lawful (total_width parts) then Some (total_width parts) else None
 
+-- the parts' numbers joined, where their width is lawful
 abbrev pub joined_at : List Sizes → Option ℕ → Option ℕ
 joined_at parts None = None
 joined_at parts (Some w) = joined w (Some 0) parts
 
+-- the number of a concatenation
 abbrev pub concat_value : List Sizes → Option ℕ
 concat_value parts = joined_at parts (concat_own_width parts)
 
@@ -269,9 +299,11 @@ concat_value parts = joined_at parts (concat_own_width parts)
 abbrev pub sizeless_part : Sizes → List SizeError
 sizeless_part p = told_if (p.unsized || p.without_size) (error.Const p.line)
 
+-- what is found in the parts, of each one that it is unsized first
 abbrev pub parts_const_faults : List Sizes → List SizeError
 parts_const_faults parts = flat_map (λ (p : Sizes). sizeless_part p ++ p.const_faults) parts
 
+-- what is found in the parts
 abbrev pub parts_width_faults : List Sizes → List SizeError
 parts_width_faults parts = flat_map (λ (p : Sizes). p.width_faults) parts
 
@@ -290,6 +322,7 @@ of_concat line parts = record {
   width_faults = sum_fault line parts ++ parts_width_faults parts;
 }
 
+-- the number of an operator that works on an operand of its own width
 abbrev pub narrow_value : UnaryOp → (ℕ → Option ℕ) → Option ℕ → Option ℕ
 narrow_value op value None = None
 narrow_value op value (Some w) = of_one (λ (n : ℕ). unary_value op n w) (value w)
@@ -309,6 +342,7 @@ of_sign line op a = record {
   width_faults = a.width_faults;
 }
 
+-- the width of two operands with an operator of this kind between them
 abbrev pub binary_width : Kind → ℕ → ℕ → ℕ
 binary_width Sum a b = max a b
 binary_width Comparison a b = 1
@@ -330,10 +364,12 @@ is_bad_operator op a b a_plain b_plain = is_bad_kind (kind_of op) op a b a_plain
 unfoldable pub shared_width : Sizes → Sizes → Option ℕ
 shared_width a b = if (a.constant && b.constant) && is_lawful (max a.width b.width) then Some (max a.width b.width) else None
 
+-- a comparison of two operands at the width that they share
 abbrev pub compared : BinaryOp → (ℕ → Option ℕ) → (ℕ → Option ℕ) → Option ℕ → Option ℕ
 compared op a b None = None
 compared op a b (Some w) = of_two (λ (m n : ℕ). Some (binary_value op m n w)) (a w) (b w)
 
+-- the number of two operands at width w, by the kind of the operator between them
 abbrev pub binary_number : Kind → BinaryOp → Sizes → Sizes → ℕ → Option ℕ
 binary_number Sum op a b w = of_two (λ (m n : ℕ). Some (binary_value op m n w)) (a.value w) (b.value w)
 binary_number Comparison op a b w = compared op a.value b.value (shared_width a b)
@@ -388,6 +424,7 @@ of_choice c a b = record {
 }
 
 abbrev mutual
+  -- an expression in a scope
   pub sizes_of : Scope → ExprOf ℕ → Sizes
   sizes_of s (UnaryExpr None prim) = sizes_of_prim s prim
   sizes_of s (UnaryExpr (Some sign) prim) = of_sign sign.line sign.op (sizes_of_prim s prim)
@@ -425,17 +462,18 @@ abbrev mutual
 unfoldable pub faults : Sizes → List SizeError
 faults e = e.const_faults ++ e.width_faults
 
--- an expression without a fault that has no number isn't a constant
-unfoldable pub constant_faults : Sizes → List SizeError
-constant_faults e = faults e ++ told_if (is_none (number e)) (error.Const e.line)
+-- a constant that has no number: a plain one out of range, or one of width 0
+abbrev pub numberless : Bool → Const
+numberless true = const.Plain 4294967295
+numberless false = const.Sized 0 0
 
 -- plain, or of the width
-abbrev pub constant_at : Bool → ℕ → Option ℕ → Option Const
-constant_at plain width None = None
-constant_at plain width (Some n) = Some (if plain then const.Plain n else const.Sized width n)
+abbrev pub constant_at : Bool → ℕ → Option ℕ → Const
+constant_at plain width None = numberless plain
+constant_at plain width (Some n) = if plain then const.Plain n else const.Sized width n
 
--- the constant, where there is no fault
-unfoldable pub constant_of : Sizes → Option Const
+-- the constant of an expression without a fault
+unfoldable pub constant_of : Sizes → Const
 constant_of e = constant_at e.plain e.width (number e)
 
 -- the width of a constant expression, no more than the largest number

@@ -102,19 +102,16 @@ pub fn param_facts(line: u32, value: Const) -> Facts
     ensures { Shows result (of_param line value) }
 {
     let plain = is_plain_const(value);
-    let whole = in_range(const_number(value));
-    let width = u128::from(const_width(value));
-    let wrong = !is_lawful(width);
     Facts {
         line,
         plain,
         sizeless: plain,
         without_size: false,
         constant: true,
-        width,
-        whole,
-        const_fault: told_if(plain && whole.is_none(), SizeError::Const { line }),
-        width_fault: told_if(wrong, SizeError::Width { line, got: width }),
+        width: u128::from(const_width(value)),
+        whole: in_range(const_number(value)),
+        const_fault: None,
+        width_fault: None,
     }
 }
 
@@ -312,6 +309,9 @@ pub fn wrong_part(line: u32, whole: u32, base: &Facts, width: &Numbered) -> Opti
 #[derive(Clone, Copy)]
 pub struct Select {
     pub width: u128,
+    /// The fault of the select itself.
+    pub own_fault: Option<SizeError>,
+    /// The first faults in its brackets.
     pub const_fault: Option<SizeError>,
     pub width_fault: Option<SizeError>,
 }
@@ -323,6 +323,7 @@ pub fn bit_select(picked: u32, limit: u32, index: &Numbered) -> Select
 {
     Select {
         width: u128::from(picked),
+        own_fault: None,
         const_fault: index.facts.const_fault,
         width_fault: either(outside(limit, index), index.facts.width_fault),
     }
@@ -351,6 +352,7 @@ pub fn part_select(whole: u32, a: &Numbered, b: &Numbered) -> Select
     let rest = either(b_width, wrong_order(whole, a, b));
     Select {
         width: bounds_width(a.number, b.number),
+        own_fault: None,
         const_fault: either(a_const, b_const),
         width_fault: either(a_width, rest),
     }
@@ -365,8 +367,9 @@ pub fn indexed_select(line: u32, whole: u32, base: &Facts, width: &Numbered) -> 
     let parts = either(base.width_fault, width.facts.width_fault);
     Select {
         width: width.number.unwrap_or(0),
+        own_fault: wrong_part(line, whole, base, width),
         const_fault: either(base.const_fault, width_const),
-        width_fault: either(wrong_part(line, whole, base, width), parts),
+        width_fault: parts,
     }
 }
 

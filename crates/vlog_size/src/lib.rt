@@ -13,6 +13,7 @@ mod value;
 
 pub use error::SizeError;
 pub use scope::{Const, Param, Params, Scope, ScopeMemories, ScopeMemory, ScopeNet, ScopeNets};
+pub use size::{constant, width};
 
 #[cfg(test)]
 mod tests;

@@ -1,11 +1,12 @@
-ghost use Rattle.std.specs.Prelude.{◌≡◌, ℕ, [], ◌∷◌, min, Some, None, IfOk};
+ghost use Rattle.std.specs.Prelude.{◌≡◌, ℕ, true, [], ◌∷◌, min, Some, None, IfOk};
 ghost use Rattle.vlog_size.specs.declared.scope.Const.TheVariants as const;
 ghost use Rattle.vlog_size.specs.declared.error.SizeError.TheVariants as error;
 ghost use Rattle.vlog_tree.specs.Plain.{plain_expr, plain_prim, plain_unary, plain_ref, plain_sel, plain_exprs};
 ghost use Rattle.vlog_size.specs.Findings.{Tried};
 ghost use Rattle.vlog_size.specs.Limits.{TOP};
-ghost use Rattle.vlog_size.specs.Names.{scope_of, scope_of_params};
-ghost use Rattle.vlog_size.specs.Size.{sizes_of, sizes_of_prim, sizes_of_ref, sizes_of_sel, sizes_of_all, Sizes, Bracket, NoBracket, number, of_concat, of_read, of_place, no_faults, faults, constant_faults, constant_of};
+ghost use Rattle.vlog_size.specs.Literal.{is_lawful};
+ghost use Rattle.vlog_size.specs.Names.{scope_of, scope_of_params, is_lawful_const, are_lawful_params, is_lawful_scope};
+ghost use Rattle.vlog_size.specs.Size.{sizes_of, sizes_of_prim, sizes_of_ref, sizes_of_sel, sizes_of_all, Sizes, Bracket, NoBracket, number, of_concat, of_read, of_place, no_faults, faults, constant_of, numberless, const_number};
 ghost use Rattle.vlog_size.specs.Facts.{Shows, ShowsNumber, ShowsSelect, ShowsRest};
 
 use crate::error::SizeError;
@@ -130,7 +131,7 @@ fn ref_facts(view: &View<'_>, name: &Ref) -> Facts
             (None, None) => plain_facts(line, width),
             (None, Some(sel)) => {
                 let last = select(view, line, width, picked, limit, sel);
-                read_facts(line, last.width, last.const_fault, last.width_fault)
+                select_facts(line, &last)
             }
             (Some(index), None) => {
                 let word = numbered(view, index);
@@ -159,12 +160,22 @@ fn plain_facts(line: u32, width: u32) -> Facts
     read_facts(line, u128::from(width), None, None)
 }
 
+/// What is said of a select of a net, or of a memory's word by its index.
+#[tactic(auto, using(crate::proofs::Firsts::first_append))]
+fn select_facts(line: u32, last: &Select) -> Facts
+    ensures { (L : Bracket) (width picked limit : ℕ) → ShowsSelect line width picked limit last.now L → Shows result (of_place line width picked limit None L) }
+{
+    let widths = either(last.own_fault, last.width_fault);
+    read_facts(line, last.width, last.const_fault, widths)
+}
+
 /// No select of a word.
 fn whole_word(width: u32) -> Select
     ensures { (line : ℕ) → ShowsSelect line width 1 width result NoBracket }
 {
     Select {
         width: u128::from(width),
+        own_fault: None,
         const_fault: None,
         width_fault: None,
     }
@@ -177,7 +188,8 @@ fn word_facts(line: u32, limit: u32, word: &Numbered, last: &Select) -> Facts
 {
     let index = either(outside(limit, word), word.facts.width_fault);
     let consts = either(word.facts.const_fault, last.const_fault);
-    read_facts(line, last.width, consts, either(index, last.width_fault))
+    let parts = either(index, last.width_fault);
+    read_facts(line, last.width, consts, either(last.own_fault, parts))
 }
 
 /// What is said of a memory's word without a select.
@@ -227,7 +239,7 @@ fn width_answer(facts: &Facts) -> Result<u32, SizeError>
 
 /// The constant of this number: plain, or of the expression's width.
 fn constant_from(facts: &Facts, n: u128) -> Const
-    ensures { (E : Sizes) → Shows facts.now E → number E ≡ Some n → constant_of E ≡ Some result }
+    ensures { (E : Sizes) → Shows facts.now E → number E ≡ Some n → result ≡ constant_of E }
 {
     if facts.plain {
         return plain_from(facts.whole);
@@ -235,6 +247,17 @@ fn constant_from(facts: &Facts, n: u128) -> Const
     Const::Sized {
         width: narrow(facts.width),
         n,
+    }
+}
+
+/// A constant that has no number.
+fn numberless(plain: bool) -> Const
+    ensures { result ≡ numberless plain }
+{
+    if plain {
+        Const::Plain { n: u32::MAX }
+    } else {
+        Const::Sized { width: 0, n: 0 }
     }
 }
 
@@ -255,33 +278,60 @@ fn plain_from(whole: Option<u32>) -> Const
     }
 }
 
-/// The constant, or the first fault.
-#[tactic(auto, unfolding(crate::specs::Size::faults, crate::specs::Size::constant_faults))]
-fn constant_answer(whole: &Numbered) -> Result<Const, SizeError>
-    ensures told { (E : Sizes) → ShowsNumber whole.now E → Tried result (constant_faults E) }
-    ensures value { (E : Sizes) → ShowsNumber whole.now E → IfOk result (λ c. constant_of E ≡ Some c) }
+/// The constant of an expression without a fault.
+#[tactic(auto, unfolding(crate::specs::Size::constant_of))]
+fn constant_of(whole: &Numbered) -> Const
+    ensures { (E : Sizes) → ShowsNumber whole.now E → result ≡ constant_of E }
 {
-    width_answer(&whole.facts)?;
-    let line = whole.facts.line;
-    let n = whole.number.ok_or(SizeError::Const { line })?;
-    Ok(constant_from(&whole.facts, n))
+    match whole.number {
+        None => numberless(whole.facts.plain),
+        Some(n) => constant_from(&whole.facts, n),
+    }
 }
 
-/// The constant of an expression by "Constants, widths and values", where parameters alone may be
-/// read: plain, or of its self-determined width.
+/// The constant, or the first fault.
+#[tactic(auto, unfolding(crate::specs::Size::faults))]
+fn constant_answer(whole: &Numbered) -> Result<Const, SizeError>
+    ensures told { (E : Sizes) → ShowsNumber whole.now E → Tried result (faults E) }
+    ensures value { (E : Sizes) → ShowsNumber whole.now E → IfOk result (λ c. c ≡ constant_of E) }
+{
+    width_answer(&whole.facts)?;
+    Ok(constant_of(whole))
+}
+
+/// The constant of an expression that may read parameters alone: plain, or of its self-determined
+/// width (IEEE 1364-2005, 5.4.1). Any other name is a fault.
+///
+/// The caller sees to it that no bracket follows a parameter's name. Of an unlawful parameter no
+/// number is known, and what rests on it is answered as an unlawful constant.
+///
+/// # Errors
+///
+/// The first `Const` in text order, else the first `Width`.
 pub fn constant(e: &Expr, params: &Params) -> Result<Const, SizeError>
-    ensures told { Tried result (constant_faults (sizes_of (scope_of_params params.now) (plain_expr e.now))) }
-    ensures value { IfOk result (λ c. constant_of (sizes_of (scope_of_params params.now) (plain_expr e.now)) ≡ Some c) }
+    ensures told { Tried result (faults (sizes_of (scope_of_params params.now) (plain_expr e.now))) }
+    ensures value { IfOk result (λ c. c ≡ constant_of (sizes_of (scope_of_params params.now) (plain_expr e.now))) }
+    ensures lawful { are_lawful_params params.now ≡ true → IfOk result (λ c. (is_lawful_const c ≡ true) × (number (sizes_of (scope_of_params params.now) (plain_expr e.now)) ≡ Some (const_number c))) }
 {
     let view = params_view(params);
     let whole = numbered(&view, e);
     constant_answer(&whole)
 }
 
-/// The self-determined width of an expression in bits, by "Constants, widths and values".
+/// The self-determined width of an expression in bits (IEEE 1364-2005, 5.4.1), or `u32::MAX` where
+/// it is larger, which no lawful scope gives: there it is 1 to 128.
+///
+/// The caller sees to it that the scope has each name, and that each is used as what it is: a
+/// memory with an index, a vector with at most one bracket, a scalar or a parameter with none. What
+/// is found of a net or a parameter that is too wide stands where it is declared, and not here.
+///
+/// # Errors
+///
+/// The first `Const` in text order, else the first `Width`.
 pub fn width(e: &Expr, scope: &Scope) -> Result<u32, SizeError>
     ensures told { Tried result (faults (sizes_of scope.now (plain_expr e.now))) }
     ensures value { IfOk result (λ w. w ≡ min (sizes_of scope.now (plain_expr e.now)).width 4294967295) }
+    ensures lawful { is_lawful_scope scope.now ≡ true → IfOk result (λ w. (w ≡ (sizes_of scope.now (plain_expr e.now)).width) × (is_lawful w ≡ true)) }
 {
     let view = whole_view(scope);
     let facts = facts_of(&view, e);

@@ -2,7 +2,7 @@ ghost use Rattle.std.specs.Prelude.{◌≡◌, ◌<◌, ◌≤◌, Some, None, i
 ghost use Rattle.vlog_size.specs.Literal.{is_lawful};
 ghost use Rattle.vlog_tree.specs.Plain.{plain_expr, plain_prim, plain_unary, plain_ref, plain_exprs};
 ghost use Rattle.vlog_size.specs.Names.{scope_of};
-ghost use Rattle.vlog_size.specs.Size.{sizes_of, sizes_of_prim, sizes_of_ref, sizes_of_all, own, own_width, shared_width, constant_width, constant_widths, const_width, const_number, binary_width, all_constant, total_width, joined, join_part, join_with, concat_value, of_concat, of_binary, concat_own_width, of_two, narrow_value};
+ghost use Rattle.vlog_size.specs.Size.{sizes_of, sizes_of_prim, sizes_of_ref, sizes_of_all, own, own_width, shared_width, constant_width, constant_widths, const_width, const_number, const_value, binary_width, all_constant, total_width, joined, join_part, join_with, concat_value, of_concat, of_binary, concat_own_width, of_two, narrow_value};
 
 use crate::literal::{is_lawful, literal_number, literal_width};
 use crate::names::{Meaning, View, meaning_of};
@@ -28,6 +28,17 @@ pub fn const_number(value: Const) -> u128
     match value {
         Const::Plain { n } => u128::from(n),
         Const::Sized { n, .. } => n,
+    }
+}
+
+/// A constant's number; a plain one has none past 2,147,483,647.
+fn const_value(value: Const) -> Option<u128>
+    ensures { result ≡ const_value value }
+{
+    match value {
+        Const::Plain { n } if n <= 2_147_483_647 => Some(u128::from(n)),
+        Const::Plain { .. } => None,
+        Const::Sized { n, .. } => Some(n),
     }
 }
 
@@ -255,7 +266,7 @@ fn ref_number(view: &View<'_>, name: &Ref) -> Option<u128>
     ensures { (w : ℕ) → result ≡ (sizes_of_ref (scope_of view.now) (plain_ref name.now)).value w }
 {
     match meaning_of(view, name.id.name.as_slice()) {
-        Meaning::Parameter(value) => Some(const_number(value)),
+        Meaning::Parameter(value) => const_value(value),
         _ => None,
     }
 }

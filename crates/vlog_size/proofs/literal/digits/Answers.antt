@@ -1,5 +1,5 @@
 use Rattle.vlog_size.proofs.Numbers.{past_at, ended}
-use Rattle.std.proofs.Common.{◌≡◌, sym, None}
+use Rattle.std.proofs.Common.{sym}
 use Rattle.vlog_size.proofs.literal.digits.Goals as goal
 
 pub returns-in_err-n : goal.returns-in_err-n

@@ -1,7 +1,7 @@
-use Rattle.std.proofs.Common.{◌≡◌, ap, sym, ◌∙◌, subst}
+use Rattle.std.proofs.Common.{ap, sym, ◌∙◌, subst}
 use Rattle.vlog_tree.specs.Plain.{plain_expr, plain_sel}
 use Rattle.vlog_size.specs.declared.scope.Scope.{Scope}
-use Rattle.vlog_size.specs.Names.{scope_of, fixed}
+use Rattle.vlog_size.specs.Names.{scope_of}
 use Rattle.vlog_size.specs.Size.{Bracket, Part, Indexed, sizes_of, sizes_of_sel}
 use Rattle.vlog_size.specs.Facts.{ShowsSelect}
 use Rattle.vlog_size.proofs.Rests.{count_same, next_rest, no_rest}

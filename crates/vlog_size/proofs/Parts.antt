@@ -1,0 +1,106 @@
+-- Of parts without a fault: what a concatenation and a select make of their widths and numbers.
+use Rattle.std.proofs.Common.{◌≡◌, ℕ, Bool, true, false, ◌&&◌, not, if◌then◌else◌, Option, None, Some, is_none, List, [], ◌∷◌, ◌++◌, refl}
+use Rattle.vlog_size.specs.declared.error.SizeError.TheVariants as error
+use Rattle.vlog_size.specs.Literal.{is_lawful}
+use Rattle.vlog_size.specs.Size.{Sizes, own_width, number, reaches, all_constant, all_lawful, total_width, sum_fault, sizeless_part, parts_const_faults, parts_width_faults, joined, join_with, join_part, joined_at, of_concat, Bracket, NoBracket, Bit, Part, Indexed, part_width, part_const_faults, part_fault, part_width_faults, outside, too_large, wrong_order, is_wrong_order, is_wrong_part, bounds_width, or_zero}
+use Rattle.vlog_size.proofs.Lists.{nil_left, nil_right, untold, never, left_of, right_of, both_of, so, bounds_lawful}
+use Rattle.vlog_size.proofs.Sized.{IsSized, Sized, two_there, number_there}
+
+-- ---- `{part, ..}`
+pub record AreSized (ps : List Sizes) : Type 0 where
+  pub lawful : all_lawful ps ≡ true
+  pub known : all_constant ps ≡ true → (w : ℕ) (n : Option ℕ) → is_none n ≡ false → is_none (joined w n ps) ≡ false
+
+abbrev pub AllSized : List Sizes → Type 0
+AllSized ps = parts_const_faults ps ≡ [] → parts_width_faults ps ≡ [] → AreSized ps
+
+pub none_sized : AllSized []
+none_sized h k = record {
+  lawful = refl;
+  known = λ c w n there. there;
+}
+
+join_at : (w : ℕ) (n : Option ℕ) (p : Sizes) (c l : Bool) (v : ℕ) → c ≡ true → l ≡ true → is_none n ≡ false → is_none (p.value v) ≡ false → is_none (join_with w n p (if c && l then Some v else None)) ≡ false
+join_at w n p true true v h k there known = two_there (λ (a b : ℕ). join_part w v a b) n (p.value v) there known
+join_at w n p true false v h k there known = (cc)
+join_at w n p false l v h k there known = (cc)
+
+join_there : (w : ℕ) (n : Option ℕ) (p : Sizes) → IsSized p → p.constant ≡ true → is_none n ≡ false → is_none (join_with w n p (own_width p)) ≡ false
+unfolding own_width
+join_there w n p s c there = join_at w n p p.constant (is_lawful p.width) p.width c s.lawful there (s.known c p.width)
+
+pub more_sized : (p : Sizes) (ps : List Sizes) → Sized p → AllSized ps → AllSized (p ∷ ps)
+more_sized p ps head tail h k =
+    let own : sizeless_part p ++ p.const_faults ≡ [] = nil_left (sizeless_part p ++ p.const_faults) (parts_const_faults ps) h in
+    let s : IsSized p = head (nil_right (sizeless_part p) p.const_faults own) (nil_left p.width_faults (parts_width_faults ps) k) in
+    let rest : AreSized ps = tail (nil_right (sizeless_part p ++ p.const_faults) (parts_const_faults ps) h) (nil_right p.width_faults (parts_width_faults ps) k) in
+    record {
+      lawful = both_of (is_lawful p.width) (all_lawful ps) s.lawful rest.lawful;
+      known = λ c w n there. rest.known (right_of p.constant (all_constant ps) c) w (join_with w n p (own_width p)) (join_there w n p s (left_of p.constant (all_constant ps) c) there);
+    }
+
+concat_at : (ps : List Sizes) (c l : Bool) (w : ℕ) → c ≡ true → l ≡ true → ((w : ℕ) (n : Option ℕ) → is_none n ≡ false → is_none (joined w n ps) ≡ false) → is_none (joined_at ps (if c && l then Some w else None)) ≡ false
+concat_at ps true true w h k known = known w (Some 0) refl
+concat_at ps true false w h k known = (cc)
+concat_at ps false l w h k known = (cc)
+
+pub concat_sized : (line : ℕ) (ps : List Sizes) → AllSized ps → Sized (of_concat line ps)
+concat_sized line ps inner h k =
+    let own : sum_fault line ps ≡ [] = nil_left (sum_fault line ps) (parts_width_faults ps) k in
+    let s : AreSized ps = inner h (nil_right (sum_fault line ps) (parts_width_faults ps) k) in
+    let fits : is_lawful (total_width ps) ≡ true = so (all_lawful ps) (is_lawful (total_width ps)) (untold (all_lawful ps && not (is_lawful (total_width ps))) (error.Width line (total_width ps)) own) s.lawful in
+    record {
+      lawful = fits;
+      known = λ c w. concat_at ps (all_constant ps) (is_lawful (total_width ps)) (total_width ps) c fits (s.known c);
+      whole = λ p. never (true ≡ false) p;
+    }
+
+-- ---- the last bracket
+-- without a fault a constant position has a number
+abbrev pub Known : Sizes → Type 0
+Known e = e.const_faults ≡ [] → e.width_faults ≡ [] → is_none (number e) ≡ false
+
+pub known_sized : (e : Sizes) → Sized e → (e.const_faults ≡ [] → e.constant ≡ true) → Known e
+known_sized e s c h k = number_there e (s h k) (c h) h k
+
+abbrev pub BracketSized : Bracket → Type 0
+BracketSized NoBracket = Unit {0}
+BracketSized (Bit i) = Unit {0}
+BracketSized (Part a b) = Known a × Known b
+BracketSized (Indexed base width) = Sized base × Known width
+
+bounds_fit : (whole : ℕ) (a b : Option ℕ) → is_lawful whole ≡ true → is_none a ≡ false → is_none b ≡ false → reaches whole a ≡ false → reaches whole b ≡ false → is_wrong_order whole a b ≡ false → is_lawful (bounds_width a b) ≡ true
+bounds_fit whole None b l h k i j o = (cc)
+bounds_fit whole (Some a) None l h k i j o = (cc)
+bounds_fit whole (Some a) (Some b) l h k i j o = bounds_lawful a b whole l i j o
+
+part_fits : (whole : ℕ) (base : Sizes) (k : Option ℕ) → is_lawful whole ≡ true → is_lawful base.width ≡ true → is_none k ≡ false → is_wrong_part whole base k ≡ false → is_lawful (or_zero k) ≡ true
+part_fits whole base None l b h o = (cc)
+part_fits whole base (Some k) l b h o = so (is_lawful whole && is_lawful base.width) (is_lawful k) o (both_of (is_lawful whole) (is_lawful base.width) l b)
+
+in_reach : (limit : ℕ) (i : Sizes) → outside limit i ≡ [] → reaches limit (number i) ≡ false
+in_reach limit i h = untold (reaches limit (number i)) (error.Width i.line (or_zero (number i))) h
+
+pub part_lawful : (line whole picked limit : ℕ) (b : Bracket) → BracketSized b → is_lawful whole ≡ true → is_lawful picked ≡ true → part_const_faults b ≡ [] → part_fault line whole b ≡ [] → part_width_faults whole limit b ≡ []
+    → is_lawful (part_width whole picked b) ≡ true
+part_lawful line whole picked limit NoBracket s l p h o k = l
+part_lawful line whole picked limit (Bit i) s l p h o k = p
+part_lawful line whole picked limit (Part a b) s l p h o k =
+    let a_const : a.const_faults ≡ [] = nil_right (too_large a) a.const_faults (nil_left (too_large a ++ a.const_faults) (too_large b ++ b.const_faults) h) in
+    let b_const : b.const_faults ≡ [] = nil_right (too_large b) b.const_faults (nil_right (too_large a ++ a.const_faults) (too_large b ++ b.const_faults) h) in
+    let a_all : outside whole a ++ a.width_faults ≡ [] = nil_left (outside whole a ++ a.width_faults) ((outside whole b ++ b.width_faults) ++ wrong_order whole a b) k in
+    let rest : (outside whole b ++ b.width_faults) ++ wrong_order whole a b ≡ [] = nil_right (outside whole a ++ a.width_faults) ((outside whole b ++ b.width_faults) ++ wrong_order whole a b) k in
+    let b_all : outside whole b ++ b.width_faults ≡ [] = nil_left (outside whole b ++ b.width_faults) (wrong_order whole a b) rest in
+    let order : is_wrong_order whole (number a) (number b) ≡ false =
+    untold (is_wrong_order whole (number a) (number b)) (error.Width a.line (or_zero (number b))) (nil_right (outside whole b ++ b.width_faults) (wrong_order whole a b) rest) in
+    bounds_fit whole (number a) (number b) l
+    (s.0 a_const (nil_right (outside whole a) a.width_faults a_all))
+    (s.1 b_const (nil_right (outside whole b) b.width_faults b_all))
+    (in_reach whole a (nil_left (outside whole a) a.width_faults a_all))
+    (in_reach whole b (nil_left (outside whole b) b.width_faults b_all))
+    order
+part_lawful line whole picked limit (Indexed base width) s l p h o k =
+    let inner : IsSized base = s.0 (nil_left base.const_faults (too_large width ++ width.const_faults) h) (nil_left base.width_faults width.width_faults k) in
+    part_fits whole base (number width) l inner.lawful
+    (s.1 (nil_right (too_large width) width.const_faults (nil_right base.const_faults (too_large width ++ width.const_faults) h)) (nil_right base.width_faults width.width_faults k))
+    (untold (is_wrong_part whole base (number width)) (error.Width line (or_zero (number width))) o)
