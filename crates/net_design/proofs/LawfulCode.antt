@@ -99,8 +99,9 @@ room_within d law r n h =
 pub block_sized : (d : Design) → IsLawful d → (acts : List Act) → IsBlock (IsSpan d) (IsRoom d) acts → IsSizedBlock acts
 block_sized d law acts h =
     let small : word_count d < 2 ^ 32 = law.small.words in
-    block_more (IsSpan d) IsShort (IsRoom d) IsCountable
-    (λ s x. let w = net_width_le d law s.net in omega arith)
+    let few : length d.nets < 2 ^ 32 = law.small.nets in
+    block_more (IsSpan d) (IsShort (2 ^ 64)) (IsRoom d) (IsCountable (2 ^ 64))
+    (λ s x. let w = net_width_le d law s.net in (omega (arith, x.0), omega arith))
     (λ r n x. let w = room_within d law r n x in (omega arith, w.1))
     acts h
 

@@ -1,5 +1,11 @@
 pub mod NumberLemmas
+pub mod Lists
 pub mod Rows
+pub mod MovedRows
+pub mod MovedValues
+pub mod MovedBits
+pub mod MovedSizes
+pub mod ExampleLaws
 pub mod LawfulCode
 pub mod UpdateLaws
 pub mod PinLemmas

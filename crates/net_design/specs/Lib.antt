@@ -6,3 +6,5 @@ pub mod Bits
 pub mod Settled
 pub mod Names
 pub mod Lawful
+pub mod Moved
+pub mod Example

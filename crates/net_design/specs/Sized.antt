@@ -50,25 +50,25 @@ module _ (P : Span → Type 0) (R : Room → ℕ → Type 0) where
   abbrev pub AreGuards : List Guard → Type 0
   AreGuards guards = AllByRecursion (λ (g : Guard). IsRhs g.condition × IsBlock g.body) guards
 
--- a span within 128 bits, and a memory of at most 128 bits a word, whose words have numbers of 64 bits
-abbrev pub IsShort : Span → Type 0
-IsShort s = s.low + s.width ≤ 128
+-- a span within 128 bits of one of the first nets, and a memory of at most 128 bits a word within the first words
+abbrev pub IsShort : ℕ → Span → Type 0
+IsShort limit s = (s.net < limit) × (s.low + s.width ≤ 128)
 
-abbrev pub IsCountable : Room → ℕ → Type 0
-IsCountable r n = (r.first + r.length < 2 ^ 64) × (n ≤ 128)
+abbrev pub IsCountable : ℕ → Room → ℕ → Type 0
+IsCountable limit r n = (r.first + r.length < limit) × (n ≤ 128)
 
--- code that can be evaluated, whatever nets and memories there are
+-- code that can be evaluated, whatever nets and memories there are: its places have 64 bits
 abbrev pub IsSizedRhs : Rhs → Type 0
-IsSizedRhs e = IsRhs IsShort IsCountable e
+IsSizedRhs e = IsRhs (IsShort (2 ^ 64)) (IsCountable (2 ^ 64)) e
 
 abbrev pub IsSizedPlace : Place → Type 0
-IsSizedPlace p = IsPlace IsShort IsCountable p
+IsSizedPlace p = IsPlace (IsShort (2 ^ 64)) (IsCountable (2 ^ 64)) p
 
 abbrev pub IsSizedBlock : List Act → Type 0
-IsSizedBlock acts = IsBlock IsShort IsCountable acts
+IsSizedBlock acts = IsBlock (IsShort (2 ^ 64)) (IsCountable (2 ^ 64)) acts
 
 abbrev pub IsSizedAct : Act → Type 0
-IsSizedAct a = IsAct IsShort IsCountable a
+IsSizedAct a = IsAct (IsShort (2 ^ 64)) (IsCountable (2 ^ 64)) a
 
 abbrev pub AreSizedGuards : List Guard → Type 0
-AreSizedGuards guards = AreGuards IsShort IsCountable guards
+AreSizedGuards guards = AreGuards (IsShort (2 ^ 64)) (IsCountable (2 ^ 64)) guards

@@ -1,6 +1,6 @@
 //! How much a design has.
 
-ghost use Rattle.std.specs.Prelude.{◌≡◌, ◌<◌, ◌^◌};
+ghost use Rattle.std.specs.Prelude.{◌≡◌, ◌<◌, ◌≤◌, ◌↔◌, ◌^◌, IsTrue};
 ghost use Rattle.net_design.specs.Settled.{word_count};
 ghost use Rattle.net_design.specs.Lawful.{AreSmall, counts};
 
@@ -18,7 +18,40 @@ pub fn count_words(design: &Design) -> usize
     count
 }
 
+/// Whether all memories have fewer than `limit` words.
+pub fn few_words(design: &Design, limit: u128) -> bool
+    requires some { 1 ≤ limit }
+    requires small { limit ≤ 2 ^ 64 }
+    ensures { IsTrue result ↔ (word_count design.now < limit) }
+{
+    let mut total: u128 = 0;
+    for memory in design.memories.as_slice() {
+        total += memory.room.length as u128;
+        if total >= limit {
+            return false;
+        }
+    }
+    true
+}
+
+fn is_small(count: usize) -> bool
+    ensures { IsTrue result ↔ (count < 2 ^ 32) }
+{
+    (count as u64) < 1 << 32
+}
+
 impl Design {
+    /// Whether each of the five numbers of `counts` is below 2^32, which is so of every lawful design.
+    pub fn is_small(&self) -> bool
+        ensures { IsTrue result ↔ AreSmall (counts self.now) }
+    {
+        is_small(self.instances.len())
+            && is_small(self.nets.len())
+            && is_small(self.drivers.len())
+            && is_small(self.blocks.len())
+            && few_words(self, 1 << 32)
+    }
+
     /// The numbers of instances, nets, drivers, clocked blocks and memory words.
     pub fn counts(&self) -> Counts
         requires { AreSmall (counts self.now) }

@@ -1,6 +1,6 @@
 //! The number of an expression.
 
-ghost use Rattle.std.specs.Prelude.{◌≡◌, ◌+◌, ◌<◌, ◌≤◌, MatchOption, slice_index};
+ghost use Rattle.std.specs.Prelude.{◌≡◌, ◌+◌, ◌<◌, ◌≤◌, ◌^◌, MatchOption, slice_index};
 ghost use Rattle.net_design.specs.Number.{IsWidth};
 ghost use Rattle.net_design.specs.Value.{value, word_at, read};
 ghost use Rattle.net_design.specs.Sized.{IsSizedRhs, IsCountable};
@@ -27,7 +27,7 @@ pub fn read_bits(span: Span, values: &Values) -> u128
 
 /// The place of word `i` of a memory among all words, where it has that word.
 pub fn word_in(room: Room, i: u128) -> Option<usize>
-    requires { IsCountable room 0 }
+    requires { IsCountable (2 ^ 64) room 0 }
     ensures { MatchOption result (room.length ≤ i) (λ k. (i < room.length) × (k ≡ room.first + i)) }
 {
     if i >= room.length as u128 {
@@ -37,7 +37,7 @@ pub fn word_in(room: Room, i: u128) -> Option<usize>
 }
 
 fn read_word(room: Room, i: u128, values: &Values) -> u128
-    requires { IsCountable room 0 }
+    requires { IsCountable (2 ^ 64) room 0 }
     ensures { result ≡ word_at room i values.now }
 {
     match word_in(room, i) {

@@ -18,6 +18,7 @@ ghost use Rattle.net_design.specs.Updates.{apply, updates, block_updates, guard_
 ghost use Rattle.net_design.specs.Bits.{Apart, block_writes};
 ghost use Rattle.net_design.specs.Settled.{IsSized};
 ghost use Rattle.net_design.specs.Lawful.{IsLawful};
+ghost use Rattle.net_design.specs.Example.{example, driven_twice, not_driven, held_driven};
 
 /// The updates of two lists are made by making those of the first, then those of the second.
 pub fn updates_in_order()
@@ -64,4 +65,13 @@ pub fn unwritten_bits_stay()
 /// A lawful design can be evaluated.
 pub fn lawful_is_sized()
     ensures { (d : Design) → IsLawful d → IsSized d }
+{}
+
+/// A lawful design is shown, with a clock, a register, a memory, an `assign` and an `always @*`, and three neighbours of it that
+/// aren't lawful.
+pub fn lawful_design_shown()
+    ensures lawful { IsLawful example }
+    ensures driven_twice { IsLawful driven_twice → ⊥ }
+    ensures not_driven { IsLawful not_driven → ⊥ }
+    ensures held_driven { IsLawful held_driven → ⊥ }
 {}

@@ -2,8 +2,9 @@
 //!
 //! The definitions stand in `specs/`: `Value` (the number of an expression), `Updates` (what a block
 //! writes), `Bits` (the bits that code reads and writes), `Settled` (the settled map, the next state and
-//! the initial state) and `Lawful` (the designs that elaboration answers). `reference` evaluates them as
-//! they are written, slowly.
+//! the initial state), `Lawful` (the designs that elaboration answers), `Example` (one of them) and
+//! `Moved` (code moved to an instance's first places). `reference` evaluates them as they are written,
+//! slowly.
 #![tactic(auto)]
 
 mod act;
@@ -11,6 +12,8 @@ mod counts;
 mod design;
 mod expression;
 mod laws;
+mod move_laws;
+mod moved;
 mod operators;
 mod reference;
 mod rhs;
@@ -22,7 +25,12 @@ pub use act::{Act, Code, Guard, Lhs, Mask, Place, Timing};
 pub use design::{Array, Counts, Design, Direction, Driver, Instance, Net, Port, Register};
 pub use laws::{
     assignment_is_equation, blocks_in_order, choice_by_lists, connection_is_equation,
-    lawful_is_sized, target_is_equation, unwritten_bits_stay, updates_in_order,
+    lawful_design_shown, lawful_is_sized, target_is_equation, unwritten_bits_stay,
+    updates_in_order,
+};
+pub use move_laws::{
+    moved_changes, moved_code_bits, moved_is_fixed, moved_is_sized, moved_number, moved_shape,
+    moved_updates,
 };
 pub use reference::{initial_state, is_settled, next_state, output_pins};
 pub use rhs::{BinaryOp, Rhs, Room, Span, UnaryOp};

@@ -4,11 +4,12 @@ ghost use Rattle.std.specs.Prelude.{◌≡◌, ◌≤◌, ◌<◌, ◌↔◌, �
 ghost use Rattle.std.specs.List.{AllByRecursion};
 ghost use Rattle.net_design.specs.declared.act.Act.{Act};
 ghost use Rattle.net_design.specs.Number.{IsWidth};
-ghost use Rattle.net_design.specs.Sized.{IsShort, IsCountable, IsSizedRhs, IsSizedPlace, IsSizedAct, IsSizedBlock, AreSizedGuards};
+ghost use Rattle.net_design.specs.Sized.{IsShort, IsCountable, IsRhs, IsPlace, IsAct, IsBlock, AreGuards, IsSizedBlock};
 ghost use Rattle.net_design.specs.Updates.{target_width};
-ghost use Rattle.net_design.specs.Settled.{IsSized, word_count};
+ghost use Rattle.net_design.specs.Settled.{IsSized};
 
 use crate::act::{Act, Code, Guard, Place};
+use crate::counts::few_words;
 use crate::design::{Design, Driver, Net};
 use crate::rhs::{Rhs, Room, Span};
 use crate::statement::{see_branch, width_of};
@@ -21,39 +22,42 @@ fn is_width(w: u32) -> bool
     1 <= w && w <= 128
 }
 
-/// Whether a span lies within 128 bits and has some.
-fn span_sized(span: Span) -> bool
-    ensures { IsTrue result ↔ (IsWidth span.width × IsShort span) }
+/// Whether a span lies within 128 bits of one of the first nets, and has some.
+fn span_sized(span: Span, limit: u128) -> bool
+    ensures { IsTrue result ↔ (IsWidth span.width × IsShort limit span) }
 {
-    is_width(span.width) && span.low <= 128 && span.low + span.width <= 128
+    is_width(span.width)
+        && (span.net as u128) < limit
+        && span.low <= 128
+        && span.low + span.width <= 128
 }
 
-/// Whether the words of a memory have numbers of 64 bits, and `n` bits fit one.
-fn room_sized(room: Room, n: u128) -> bool
-    ensures { IsTrue result ↔ IsCountable room n }
+/// Whether the words of a memory are among the first, and `n` bits fit one.
+fn room_sized(room: Room, n: u128, limit: u128) -> bool
+    ensures { IsTrue result ↔ IsCountable limit room n }
 {
-    room.first as u128 + (room.length as u128) < (1u128 << 64) && n <= 128
+    room.first as u128 + (room.length as u128) < limit && n <= 128
 }
 
-fn rhs_sized(e: &Rhs) -> bool
-    ensures { IsTrue result ↔ IsSizedRhs e.now }
+fn rhs_sized(e: &Rhs, limit: u128) -> bool
+    ensures { IsTrue result ↔ IsRhs (IsShort limit) (IsCountable limit) e.now }
 {
     match e {
         Rhs::Number(_) => true,
-        Rhs::Bits(span) => span_sized(*span),
-        Rhs::Word { room, at } => room_sized(*room, 0) && rhs_sized(at),
-        Rhs::Unary { operand, width, .. } => is_width(*width) && rhs_sized(operand),
+        Rhs::Bits(span) => span_sized(*span, limit),
+        Rhs::Word { room, at } => room_sized(*room, 0, limit) && rhs_sized(at, limit),
+        Rhs::Unary { operand, width, .. } => is_width(*width) && rhs_sized(operand, limit),
         Rhs::Binary {
             left,
             right,
             width,
             ..
-        } => is_width(*width) && rhs_sized(left) && rhs_sized(right),
+        } => is_width(*width) && rhs_sized(left, limit) && rhs_sized(right, limit),
         Rhs::Choose {
             condition,
             chosen,
             other,
-        } => rhs_sized(condition) && rhs_sized(chosen) && rhs_sized(other),
+        } => rhs_sized(condition, limit) && rhs_sized(chosen, limit) && rhs_sized(other, limit),
         Rhs::Join {
             high,
             low,
@@ -63,28 +67,28 @@ fn rhs_sized(e: &Rhs) -> bool
             is_width(*high_width)
                 && is_width(*low_width)
                 && *high_width + *low_width <= 128
-                && rhs_sized(high)
-                && rhs_sized(low)
+                && rhs_sized(high, limit)
+                && rhs_sized(low, limit)
         }
         Rhs::Repeat { count, part, width } => {
             is_width(*width)
                 && 1 <= *count
                 && u64::from(*count) * u64::from(*width) <= 128
-                && rhs_sized(part)
+                && rhs_sized(part, limit)
         }
         Rhs::Select { vector, at, width } => {
-            is_width(*width) && rhs_sized(vector) && rhs_sized(at)
+            is_width(*width) && rhs_sized(vector, limit) && rhs_sized(at, limit)
         }
     }
 }
 
-fn place_sized(place: &Place) -> bool
-    ensures { IsTrue result ↔ IsSizedPlace place.now }
+fn place_sized(place: &Place, limit: u128) -> bool
+    ensures { IsTrue result ↔ IsPlace (IsShort limit) (IsCountable limit) place.now }
 {
     match place {
-        Place::Bits(span) => span_sized(*span),
+        Place::Bits(span) => span_sized(*span, limit),
         Place::BitsFrom { whole, at, width } => {
-            is_width(*width) && span_sized(*whole) && rhs_sized(at)
+            is_width(*width) && span_sized(*whole, limit) && rhs_sized(at, limit)
         }
         Place::Word {
             room,
@@ -93,8 +97,8 @@ fn place_sized(place: &Place) -> bool
             width,
         } => {
             is_width(*width)
-                && room_sized(*room, u128::from(*low) + u128::from(*width))
-                && rhs_sized(word)
+                && room_sized(*room, u128::from(*low) + u128::from(*width), limit)
+                && rhs_sized(word, limit)
         }
         Place::WordFrom {
             room,
@@ -105,18 +109,18 @@ fn place_sized(place: &Place) -> bool
         } => {
             is_width(*width)
                 && is_width(*size)
-                && room_sized(*room, u128::from(*size))
-                && rhs_sized(word)
-                && rhs_sized(at)
+                && room_sized(*room, u128::from(*size), limit)
+                && rhs_sized(word, limit)
+                && rhs_sized(at, limit)
         }
     }
 }
 
-fn places_sized(places: &[Place]) -> bool
-    ensures { IsTrue result ↔ AllByRecursion (λ p. IsSizedPlace p) places.now }
+fn places_sized(places: &[Place], limit: u128) -> bool
+    ensures { IsTrue result ↔ AllByRecursion (λ p. IsPlace (IsShort limit) (IsCountable limit) p) places.now }
 {
     for place in places {
-        if !place_sized(place) {
+        if !place_sized(place, limit) {
             return false;
         }
     }
@@ -138,30 +142,32 @@ fn narrow(places: &[Place]) -> bool
 }
 
 #[cycle(sizes)]
-fn act_sized(act: &Act) -> bool
-    ensures { IsTrue result ↔ IsSizedAct act.now }
+fn act_sized(act: &Act, limit: u128) -> bool
+    ensures { IsTrue result ↔ IsAct (IsShort limit) (IsCountable limit) act.now }
 {
     match act {
-        Act::Copy { to, from } => span_sized(*to) && span_sized(*from),
+        Act::Copy { to, from } => span_sized(*to, limit) && span_sized(*from, limit),
         Act::Set { target, value } => {
-            narrow(target.as_slice()) && places_sized(target.as_slice()) && rhs_sized(value)
+            narrow(target.as_slice())
+                && places_sized(target.as_slice(), limit)
+                && rhs_sized(value, limit)
         }
         Act::Branch { guards, otherwise } => {
             see_branch(guards, otherwise);
-            guards_sized(guards) && acts_sized(otherwise)
+            guards_sized(guards, limit) && acts_sized(otherwise, limit)
         }
     }
 }
 
 #[cycle(sizes)]
-fn guards_sized(guards: &Items<Guard>) -> bool
-    ensures { IsTrue result ↔ AreSizedGuards guards.now }
+fn guards_sized(guards: &Items<Guard>, limit: u128) -> bool
+    ensures { IsTrue result ↔ AreGuards (IsShort limit) (IsCountable limit) guards.now }
 {
     for guard in guards.as_slice() {
-        if !rhs_sized(&guard.condition) {
+        if !rhs_sized(&guard.condition, limit) {
             return false;
         }
-        if !acts_sized(&guard.body) {
+        if !acts_sized(&guard.body, limit) {
             return false;
         }
     }
@@ -169,24 +175,11 @@ fn guards_sized(guards: &Items<Guard>) -> bool
 }
 
 #[cycle(sizes)]
-fn acts_sized(acts: &Items<Act>) -> bool
-    ensures { IsTrue result ↔ IsSizedBlock acts.now }
+pub fn acts_sized(acts: &Items<Act>, limit: u128) -> bool
+    ensures { IsTrue result ↔ IsBlock (IsShort limit) (IsCountable limit) acts.now }
 {
     for act in acts.as_slice() {
-        if !act_sized(act) {
-            return false;
-        }
-    }
-    true
-}
-
-fn few_words(design: &Design) -> bool
-    ensures { IsTrue result ↔ (word_count design.now < 2 ^ 64) }
-{
-    let mut total: u128 = 0;
-    for memory in design.memories.as_slice() {
-        total += memory.room.length as u128;
-        if total >= 1u128 << 64 {
+        if !act_sized(act, limit) {
             return false;
         }
     }
@@ -202,13 +195,13 @@ fn nets_narrow(nets: &[Net]) -> bool
 fn drivers_sized(drivers: &[Driver]) -> bool
     ensures { IsTrue result ↔ All (λ x. IsSizedBlock x.code.acts) drivers.now }
 {
-    drivers.iter().all(|x| acts_sized(&x.code.acts))
+    drivers.iter().all(|x| acts_sized(&x.code.acts, 1 << 64))
 }
 
 fn blocks_sized(blocks: &[Code]) -> bool
     ensures { IsTrue result ↔ All (λ c. IsSizedBlock c.acts) blocks.now }
 {
-    blocks.iter().all(|c| acts_sized(&c.acts))
+    blocks.iter().all(|c| acts_sized(&c.acts, 1 << 64))
 }
 
 /// Whether a design can be evaluated: each width in it is at most 128, and each word has a number of 64 bits.
@@ -218,5 +211,5 @@ pub fn is_sized(design: &Design) -> bool
     nets_narrow(design.nets.as_slice())
         && drivers_sized(design.drivers.as_slice())
         && blocks_sized(design.blocks.as_slice())
-        && few_words(design)
+        && few_words(design, 1 << 64)
 }

@@ -1,10 +1,10 @@
 //! What statements write.
 
-ghost use Rattle.std.specs.Prelude.{◌≡◌, ◌∷◌, [], ◌++◌, ◌+◌, ◌^◌, ◌<◌, ◌≤◌, ◌↔◌, List, OnOk, IfOk, IfSome, All, slice_set};
+ghost use Rattle.std.specs.Prelude.{◌≡◌, ℕ, ◌∷◌, [], ◌++◌, ◌+◌, ◌^◌, ◌<◌, ◌≤◌, ◌↔◌, List, OnOk, IfOk, IfSome, All, slice_set};
 ghost use Rattle.std.specs.List.{AllByRecursion};
 ghost use Rattle.std.specs.Option.{option_to_list, unwrap_or};
 ghost use Rattle.net_design.specs.Number.{IsWidth};
-ghost use Rattle.net_design.specs.Sized.{IsSizedPlace, IsSizedAct, IsSizedBlock, AreSizedGuards};
+ghost use Rattle.net_design.specs.Sized.{IsAct, AreGuards, IsBlock, IsShort, IsCountable, IsSizedPlace, IsSizedAct, IsSizedBlock, AreSizedGuards};
 ghost use Rattle.net_design.specs.declared.act.Act.{Act};
 ghost use Rattle.net_design.specs.declared.act.Timing.{Timing};
 ghost use Rattle.net_design.specs.declared.values.Values.{Values};
@@ -227,8 +227,9 @@ pub fn copy(alloc: Global, values: &Values) -> Result<Values, Memory>
 pub fn see_branch(guards: &Items<Guard>, otherwise: &Items<Act>)
     ensures updates { (a : Act) (t : Timing) (v : Values) → a ≡ Act.Branch guards.now otherwise.now
         → updates t a v ≡ guard_updates t guards.now (block_updates t otherwise.now v) v }
-    ensures sized { (a : Act) → a ≡ Act.Branch guards.now otherwise.now
-        → IsSizedAct a ↔ (AreSizedGuards guards.now × IsSizedBlock otherwise.now) }
+    ensures sized { (a : Act) (limit : ℕ) → a ≡ Act.Branch guards.now otherwise.now
+        → IsAct (IsShort limit) (IsCountable limit) a
+        ↔ (AreGuards (IsShort limit) (IsCountable limit) guards.now × IsBlock (IsShort limit) (IsCountable limit) otherwise.now) }
 {}
 
 /// The updates of a statement.

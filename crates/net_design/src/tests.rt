@@ -1,4 +1,4 @@
-use crate::act::{Act, Code, Guard, Place};
+use crate::act::{Act, Code, Guard, Mask, Place};
 use crate::design::{Array, Design, Direction, Driver, Instance, Net, Port, Register};
 use crate::reference::{initial_state, is_settled, next_state, output_pins};
 use crate::rhs::{BinaryOp, Rhs, Room, Span, UnaryOp};
@@ -567,5 +567,88 @@ fn output_pins_in_port_order(rt: HostRuntime) -> Result<(), Fail> {
     let settled = values(alloc, &[1, 0, 2], &[])?;
     let pins = output_pins(alloc, &design, &settled)?;
     assert_eq!(rt; pins.as_slice(), [2u128].as_slice());
+    Ok(())
+}
+
+// ---- counts and moves
+
+// Two instances, three nets, five drivers, one clocked block and 4 + 3 words in two memories.
+#[test]
+fn counts_of_a_design(rt: HostRuntime) -> Result<(), Fail> {
+    let alloc = rt.alloc();
+    let mut design = nets_alone(alloc, &[1, 1, 1])?;
+    design.instances.push(Instance {
+        parent: 0,
+        name: Items::new(alloc),
+    })?;
+    for (first, length) in [(0usize, 4usize), (4, 3)] {
+        memory(alloc, &mut design, Room { first, length })?;
+    }
+    for _driver in 0..5 {
+        assign(alloc, &mut design, span(1, 0, 1), bits(0, 0, 1))?;
+    }
+    clock(
+        alloc,
+        &mut design,
+        Place::Bits(span(2, 0, 1)),
+        bits(0, 0, 1),
+    )?;
+    assert!(rt; design.is_small());
+    let counts = design.counts();
+    assert_eq!(rt; counts.instances, 2);
+    assert_eq!(rt; counts.nets, 3);
+    assert_eq!(rt; counts.drivers, 5);
+    assert_eq!(rt; counts.blocks, 1);
+    assert_eq!(rt; counts.words, 7);
+    Ok(())
+}
+
+// `y = m[~a]`, where a and y are nets 0 and 1 of an instance and m is its words 0 and 1
+fn word_read(alloc: Global) -> Result<Code, Memory> {
+    let room = Room {
+        first: 0,
+        length: 2,
+    };
+    let turned = unary(alloc, UnaryOp::Complement, bits(0, 0, 1), 1)?;
+    let at = Box::new(alloc, turned)?;
+    let act = set(alloc, Place::Bits(span(1, 0, 8)), Rhs::Word { room, at })?;
+    let acts = only(alloc, act)?;
+    let mut read = code(alloc, acts);
+    read.writes.push(Mask { net: 1, bits: 255 })?;
+    read.reads.push(Mask { net: 0, bits: 1 })?;
+    Ok(read)
+}
+
+// Moved to net 3 and word 5 it gives net 4 what word 6 has, where net 3 is 0: all numbers before these stay.
+#[test]
+fn moved_code_uses_the_instance(rt: HostRuntime) -> Result<(), Fail> {
+    let alloc = rt.alloc();
+    let mut design = nets_alone(alloc, &[8, 8, 8, 1, 8])?;
+    for (first, length) in [(0usize, 5usize), (5, 2)] {
+        memory(alloc, &mut design, Room { first, length })?;
+    }
+    let mut read = word_read(alloc)?;
+    assert!(rt; read.is_near());
+    read.move_to(alloc, 3, 5);
+    assert_eq!(rt;
+        read.writes.as_slice(),
+        [Mask { net: 4, bits: 255 }].as_slice()
+    );
+    assert_eq!(rt;
+        read.reads.as_slice(),
+        [Mask { net: 3, bits: 1 }].as_slice()
+    );
+    design.drivers.push(Driver {
+        line: 1,
+        always: false,
+        code: read,
+    })?;
+    let state = values(alloc, &[0, 0, 0, 0, 0], &[1, 2, 3, 4, 5, 60, 70])?;
+    for (a, want) in [(0u128, 70u128), (1, 60)] {
+        for y in [60u128, 70, 1, 2] {
+            let settled = settles(&rt, alloc, &design, &state, &[], &[9, 9, 9, a, y])?;
+            assert_eq!(rt; settled, y == want, "a {a} y {y}");
+        }
+    }
     Ok(())
 }

@@ -1,0 +1,222 @@
+//! Code of one instance, moved to the instance's first net and first memory word.
+
+ghost use Rattle.std.specs.Prelude.{◌≡◌, ℕ, ◌<◌, ◌^◌, ◌↔◌, IsTrue, All, map};
+ghost use Rattle.std.specs.List.{AllByRecursion};
+ghost use Rattle.net_design.specs.declared.act.Act.{Act};
+ghost use Rattle.net_design.specs.declared.act.Mask.{Mask};
+ghost use Rattle.net_design.specs.Sized.{IsRhs, IsPlace, IsAct, IsBlock, AreGuards, IsShort, IsCountable};
+ghost use Rattle.net_design.specs.Moved.{moved_span, moved_room, moved_rhs, moved_place, moved_act, moved_guard, moved_mask, moved, IsNear, IsNearBlock};
+
+use crate::act::{Act, Code, Guard, Mask, Place};
+use crate::rhs::{Rhs, Room, Span};
+use crate::sized::acts_sized;
+use std::alloc::Global;
+use std::mem;
+use vidi_bits::Items;
+
+/// The first net and the first memory word of an instance.
+#[derive(Clone, Copy)]
+pub struct First {
+    pub net: u32,
+    pub word: u32,
+}
+
+fn move_span(span: &mut Span, first: First)
+    requires { span.old.net < 2 ^ 32 }
+    ensures { span.new ≡ moved_span first.net first.word span.old }
+{
+    span.net += first.net as usize;
+}
+
+fn move_room(room: &mut Room, first: First)
+    requires { room.old.first < 2 ^ 32 }
+    ensures { room.new ≡ moved_room first.net first.word room.old }
+{
+    room.first += first.word as usize;
+}
+
+fn move_rhs(e: &mut Rhs, first: First)
+    requires { IsRhs (IsShort (2 ^ 32)) (IsCountable (2 ^ 32)) e.old }
+    ensures { e.new ≡ moved_rhs first.net first.word e.old }
+{
+    match e {
+        Rhs::Number(_) => (),
+        Rhs::Bits(span) => move_span(span, first),
+        Rhs::Word { room, at } => {
+            move_room(room, first);
+            move_rhs(at, first);
+        }
+        Rhs::Unary { operand, .. } => move_rhs(operand, first),
+        Rhs::Binary { left, right, .. } => {
+            move_rhs(left, first);
+            move_rhs(right, first);
+        }
+        Rhs::Choose {
+            condition,
+            chosen,
+            other,
+        } => {
+            move_rhs(condition, first);
+            move_rhs(chosen, first);
+            move_rhs(other, first);
+        }
+        Rhs::Join { high, low, .. } => {
+            move_rhs(high, first);
+            move_rhs(low, first);
+        }
+        Rhs::Repeat { part, .. } => move_rhs(part, first),
+        Rhs::Select { vector, at, .. } => {
+            move_rhs(vector, first);
+            move_rhs(at, first);
+        }
+    }
+}
+
+fn move_place(place: &mut Place, first: First)
+    requires { IsPlace (IsShort (2 ^ 32)) (IsCountable (2 ^ 32)) place.old }
+    ensures { place.new ≡ moved_place first.net first.word place.old }
+{
+    match place {
+        Place::Bits(span) => move_span(span, first),
+        Place::BitsFrom { whole, at, .. } => {
+            move_span(whole, first);
+            move_rhs(at, first);
+        }
+        Place::Word { room, word, .. } => {
+            move_room(room, first);
+            move_rhs(word, first);
+        }
+        Place::WordFrom { room, word, at, .. } => {
+            move_room(room, first);
+            move_rhs(word, first);
+            move_rhs(at, first);
+        }
+    }
+}
+
+fn move_places(alloc: Global, places: &mut Items<Place>, first: First)
+    requires { AllByRecursion (λ p. IsPlace (IsShort (2 ^ 32)) (IsCountable (2 ^ 32)) p) places.old }
+    ensures { places.new ≡ map (moved_place first.net first.word) places.old }
+{
+    let mut list = mem::replace(places, Items::new(alloc)).into_vec();
+    for place in list.iter_mut() {
+        move_place(place, first);
+    }
+    *places = Items::from_vec(list);
+}
+
+fn move_mask(mask: &mut Mask, first: First)
+    requires { mask.old.net < 2 ^ 32 }
+    ensures { mask.new ≡ moved_mask first.net first.word mask.old }
+{
+    mask.net += first.net as usize;
+}
+
+fn move_masks(alloc: Global, masks: &mut Items<Mask>, first: First)
+    requires { All (λ x. x.net < 2 ^ 32) masks.old }
+    ensures { masks.new ≡ map (moved_mask first.net first.word) masks.old }
+{
+    let mut list = mem::replace(masks, Items::new(alloc)).into_vec();
+    for mask in list.iter_mut() {
+        move_mask(mask, first);
+    }
+    *masks = Items::from_vec(list);
+}
+
+/// What a moved choice is, over its lists.
+fn see_moved(guards: &Items<Guard>, otherwise: &Items<Act>)
+    ensures near { (a : Act) → a ≡ Act.Branch guards.now otherwise.now
+        → IsAct (IsShort (2 ^ 32)) (IsCountable (2 ^ 32)) a
+        ↔ (AreGuards (IsShort (2 ^ 32)) (IsCountable (2 ^ 32)) guards.now × IsNearBlock otherwise.now) }
+    ensures moved { (net word : ℕ) (a : Act) → a ≡ Act.Branch guards.now otherwise.now
+        → moved_act net word a ≡ Act.Branch (map (moved_guard net word) guards.now) (map (moved_act net word) otherwise.now) }
+{}
+
+#[cycle(moves)]
+fn move_act(alloc: Global, act: &mut Act, first: First)
+    requires { IsAct (IsShort (2 ^ 32)) (IsCountable (2 ^ 32)) act.old }
+    ensures { act.new ≡ moved_act first.net first.word act.old }
+{
+    match act {
+        Act::Copy { to, from } => {
+            move_span(to, first);
+            move_span(from, first);
+        }
+        Act::Set { target, value } => {
+            move_places(alloc, target, first);
+            move_rhs(value, first);
+        }
+        Act::Branch { guards, otherwise } => {
+            see_moved(guards, otherwise);
+            move_guards(alloc, guards, first);
+            move_acts(alloc, otherwise, first);
+        }
+    }
+}
+
+#[cycle(moves)]
+fn move_guard(alloc: Global, guard: &mut Guard, first: First)
+    requires condition { IsRhs (IsShort (2 ^ 32)) (IsCountable (2 ^ 32)) guard.old.condition }
+    requires body { IsNearBlock guard.old.body }
+    ensures { guard.new ≡ moved_guard first.net first.word guard.old }
+{
+    move_rhs(&mut guard.condition, first);
+    move_acts(alloc, &mut guard.body, first);
+}
+
+#[cycle(moves)]
+fn move_guards(alloc: Global, guards: &mut Items<Guard>, first: First)
+    requires { AreGuards (IsShort (2 ^ 32)) (IsCountable (2 ^ 32)) guards.old }
+    ensures { guards.new ≡ map (moved_guard first.net first.word) guards.old }
+{
+    let mut list = mem::replace(guards, Items::new(alloc)).into_vec();
+    for guard in list.iter_mut() {
+        move_guard(alloc, guard, first);
+    }
+    *guards = Items::from_vec(list);
+}
+
+#[cycle(moves)]
+fn move_acts(alloc: Global, acts: &mut Items<Act>, first: First)
+    requires { IsNearBlock acts.old }
+    ensures { acts.new ≡ map (moved_act first.net first.word) acts.old }
+{
+    let mut list = mem::replace(acts, Items::new(alloc)).into_vec();
+    for act in list.iter_mut() {
+        move_act(alloc, act, first);
+    }
+    *acts = Items::from_vec(list);
+}
+
+/// Whether each mask names a net of a place below 2^32.
+fn masks_near(masks: &[Mask]) -> bool
+    ensures { IsTrue result ↔ All (λ x. x.net < 2 ^ 32) masks.now }
+{
+    masks.iter().all(|x| (x.net as u64) < 1 << 32)
+}
+
+impl Code {
+    /// Whether the code can be moved: its places are below 2^32, its widths 1 to 128.
+    pub fn is_near(&self) -> bool
+        ensures { IsTrue result ↔ IsNear self.now }
+    {
+        acts_sized(&self.acts, 1 << 32)
+            && masks_near(self.writes.as_slice())
+            && masks_near(self.reads.as_slice())
+    }
+
+    /// Moves the code of an instance, which counts nets and memory words from the instance's first ones, to these places.
+    /// It takes no memory: `alloc` is for lists without items alone.
+    pub fn move_to(&mut self, alloc: Global, first_net: u32, first_word: u32)
+        requires { IsNear self.old }
+        ensures { self.new ≡ moved first_net first_word self.old }
+    {
+        let first = First {
+            net: first_net,
+            word: first_word,
+        };
+        move_acts(alloc, &mut self.acts, first);
+        move_masks(alloc, &mut self.writes, first);
+        move_masks(alloc, &mut self.reads, first);
+    }
+}
