@@ -1,7 +1,8 @@
-ghost use Rattle.std.specs.Prelude.{◌≡◌, ◌≤◌, map};
+ghost use Rattle.std.specs.Prelude.{◌≡◌, ◌≤◌, ◌+◌, ℕ, map};
+ghost use Rattle.vlog_tree.specs.Tree.{ExprOf, BinaryExpr};
 ghost use Rattle.vlog_tree.specs.Plain.{plain_ident, plain_expr, plain_prim, plain_ref, plain_sel};
-ghost use Rattle.vlog_parse.specs.Marks.{all_marked};
-ghost use Rattle.vlog_parse.specs.Reader.{expr_at, choice_at, binary_at, chain_at, unary_at, prim_at, paren_at, concat_at, parts_at, ref_at, second_at, sel_at, bounds_at, index_of};
+ghost use Rattle.vlog_parse.specs.Marks.{Toks, all_marked};
+ghost use Rattle.vlog_parse.specs.Reader.{◌>>=◌ as bind, expr_at, choice_at, binary_at, chain_at, unary_at, prim_at, paren_at, concat_at, parts_at, ref_at, second_at, sel_at, bounds_at, index_of};
 ghost use Rattle.vlog_parse.specs.Given.{Gives};
 
 use crate::front::{
@@ -10,7 +11,9 @@ use crate::front::{
 use crate::unread::Unread;
 use std::alloc::Global;
 use vlog_lex::Token;
-use vlog_tree::{Expr, Exprs, Ident, Number, Prim as Operand, Ref, Sel, Terminal, Unary, concat};
+use vlog_tree::{
+    BinaryOp, Expr, Exprs, Ident, Number, Prim as Operand, Ref, Sel, Terminal, Unary, concat,
+};
 
 /// The level of an operand with its operator, above all binary operators.
 const UNARY: u32 = 11;
@@ -58,44 +61,43 @@ fn binary_of(alloc: Global, tokens: &[Token], level: u32, fuel: usize) -> Parsed
     requires { level ≤ 11 }
     ensures { Gives (λ x. (plain_expr x.0, all_marked x.1.now)) result (binary_at fuel level (all_marked tokens.now)) }
 {
-    if fuel == 0 {
+    if fuel < 2 {
         return Err(Unread::Fault);
     }
     if level == UNARY {
         return unary_of(alloc, tokens, fuel - 1);
     }
     let (left, rest) = binary_of(alloc, tokens, level + 1, fuel - 1)?;
-    chain_of(alloc, left, rest, level, fuel - 1)
+    match binary_front(level, rest) {
+        Some((op, rest)) => chain_of(alloc, left, op, rest, level, fuel - 2),
+        None => Ok((left, rest)),
+    }
 }
 
-/// The operators of this level that follow a left operand, from the left.
+/// The right operand of this operator, and the operators of its level that follow, from the left.
 #[cycle(reader)]
 fn chain_of(
     alloc: Global,
     left: Expr,
+    op: BinaryOp,
     tokens: &[Token],
     level: u32,
     fuel: usize,
 ) -> Parsed<'_, Expr>
     requires { level ≤ 10 }
-    ensures { Gives (λ x. (plain_expr x.0, all_marked x.1.now)) result (chain_at fuel level (plain_expr left) (all_marked tokens.now)) }
+    ensures { Gives {Y = ExprOf ℕ × Toks ℕ} (λ x. (plain_expr x.0, all_marked x.1.now)) result (bind (binary_at fuel (level + 1) (all_marked tokens.now)) (λ b. chain_at fuel level (BinaryExpr (plain_expr left) op b.0) b.1)) }
 {
     if fuel == 0 {
         return Err(Unread::Fault);
     }
-    let Some((op, rest)) = binary_front(level, tokens) else {
-        return Ok((left, tokens));
-    };
-    let (right, rest) = binary_of(alloc, rest, level + 1, fuel - 1)?;
+    let (right, rest) = binary_of(alloc, tokens, level + 1, fuel)?;
     let left = Box::new(alloc, left)?;
     let right = Box::new(alloc, right)?;
-    chain_of(
-        alloc,
-        Expr::Binary { left, op, right },
-        rest,
-        level,
-        fuel - 1,
-    )
+    let both = Expr::Binary { left, op, right };
+    match binary_front(level, rest) {
+        Some((op, rest)) => chain_of(alloc, both, op, rest, level, fuel - 1),
+        None => Ok((both, rest)),
+    }
 }
 
 /// An operand, perhaps with an operator before it.

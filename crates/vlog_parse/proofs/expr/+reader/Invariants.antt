@@ -14,7 +14,7 @@ abbrev pub decreases-binary_of : goal.decreases-binary_of
 decreases-binary_of l = 2 * l.fuel
 
 abbrev pub decreases-chain_of : goal.decreases-chain_of
-decreases-chain_of l = 2 * l.fuel
+decreases-chain_of l = 2 * l.fuel + 1
 
 abbrev pub decreases-unary_of : goal.decreases-unary_of
 decreases-unary_of l = 2 * l.fuel
