@@ -1,3 +1,4 @@
+pub mod Climb
 pub mod DepthLemmas
 pub mod FileClauses
 pub mod FileFound

@@ -1,20 +1,12 @@
 -- One turn of each loop of the reader.
-use Rattle.std.proofs.Common.{◌≡◌, ◌≢◌, ℕ, suc, ◌+◌, ◌==◌, Bool, if◌then◌else◌, ne_eqb, length, refl, Option, None, Some, List, [], ◌∷◌, ◌++◌, ap, ◌∙◌}
+use Rattle.std.proofs.Common.{◌≡◌, ◌≢◌, ℕ, suc, length, refl, Option, None, Some, List, [], ◌∷◌, ◌++◌, ap, ◌∙◌}
 use Rattle.vlog_tree.specs.declared.terminal.Terminal.TheVariants as t
-use Rattle.vlog_tree.specs.Tree.{ExprOf, BinaryExpr, StmtOf, ItemOf, ModuleOf}
+use Rattle.vlog_tree.specs.Tree.{StmtOf, ItemOf, ModuleOf}
 use Rattle.vlog_lex.specs.declared.token.Token.{Token}
 use Rattle.vlog_parse.specs.Marks.{Toks, after, all_marked}
-use Rattle.vlog_parse.specs.Reader.{◌>>=◌, found_or, Read, binary_front, binary_at, chain_at, unary_at}
+use Rattle.vlog_parse.specs.Reader.{◌>>=◌, found_or, Read}
 use Rattle.vlog_parse.specs.StmtReader.{stmt_at, stmts_at}
 use Rattle.vlog_parse.specs.FileReader.{more_at, item_at, items_at, module_at, modules_at}
-
-pub binary_turn : {A : Type 0} (m k n l : ℕ) (ws : Toks A) (x : ExprOf A × Toks A) → m ≡ suc k → k ≡ suc n → l ≢ 11 → binary_at k (l + 1) ws ≡ Some x
-    → binary_at m l ws ≡ found_or (binary_front l x.1) (Some x) (λ o. binary_at n (l + 1) o.1 >>= λ b. chain_at n l (BinaryExpr x.0 o.0 b.0) b.1)
-binary_turn {A} m k n l ws x e f h g =
-    ap (λ (i : ℕ). binary_at i l ws) e
-    ∙ ap (λ (b : Bool). if b then unary_at k ws else (binary_at k (l + 1) ws >>= λ a. chain_at k l a.0 a.1)) (ne_eqb l 11 h)
-    ∙ ap (λ (o : Read A (ExprOf A)). o >>= λ a. chain_at k l a.0 a.1) g
-    ∙ ap (λ (i : ℕ). chain_at i l x.0 x.1) f
 
 pub more_turn : {A X : Type 0} (one : Toks A → Read A X) (m n : ℕ) (front : List X) (ws : Toks A) (comma : A × Toks A) (x : X × Toks A)
     → m ≡ suc n → after t.Comma ws ≡ Some comma → one comma.1 ≡ Some x → more_at one m front ws ≡ more_at one n (front ++ x.0 ∷ []) x.1

@@ -1,5 +1,5 @@
 -- The reader of expressions and targets, rule by rule of the grammar. Each call has one less of fuel than its caller.
-use Rattle.std.specs.Prelude.{if◌then◌else◌, ℕ, zero, suc, ◌+◌, ◌*◌, ◌==◌, List, [], ◌∷◌, ◌++◌, Option, None, Some, length}
+use Rattle.std.specs.Prelude.{if◌then◌else◌, ℕ, zero, suc, pred, ◌+◌, ◌*◌, ◌==◌, List, [], ◌∷◌, ◌++◌, Option, None, Some, length}
 use Rattle.vlog_tree.specs.declared.expr.BinaryOp.{BinaryOp}
 use Rattle.vlog_tree.specs.declared.terminal.Terminal.TheVariants as t
 use Rattle.vlog_tree.specs.Tree.{IdentOf, SignOf, ExprOf, UnaryExpr, BinaryExpr, ChoiceExpr, PrimOf, NumberPrim, RefPrim, ParenPrim, ConcatPrim, RefOf, RefWith, NoIndex, Index, NoLast, Last, SelOf, IndexSel, PartSel, IndexedSel, exprs_of, TargetOf, RefTarget, ConcatTarget, targets_of}
@@ -102,6 +102,11 @@ abbrev mutual
   bounds_at zero a ws = None
   bounds_at (suc n) a ws =
       found_or (after t.Colon ws) (found_or (after t.PlusColon ws) (Some (IndexSel a, ws)) (λ o. expr_at n o.1 >>= λ b. Some (IndexedSel a b.0, b.1))) (λ o. expr_at n o.1 >>= λ b. Some (PartSel a b.0, b.1))
+
+-- operators behind an operand, from level `top` down, as many levels as the third number says; each level has one more of fuel
+abbrev pub climb_at : {A : Type 0} → ℕ → ℕ → ℕ → ExprOf A × Toks A → Read A (ExprOf A)
+climb_at fuel top zero x = Some x
+climb_at fuel top (suc levels) x = chain_at (suc fuel) top x.0 x.1 >>= climb_at (suc fuel) (pred top) levels
 
 abbrev mutual
   pub target_at : {A : Type 0} → ℕ → Toks A → Read A (TargetOf A)

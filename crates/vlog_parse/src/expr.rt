@@ -1,8 +1,8 @@
-ghost use Rattle.std.specs.Prelude.{◌≡◌, ◌≤◌, ◌+◌, ℕ, map};
+ghost use Rattle.std.specs.Prelude.{◌≡◌, ◌≤◌, ◌<◌, ◌+◌, ◌-◌, ◌^◌, ℕ, map};
 ghost use Rattle.vlog_tree.specs.Tree.{ExprOf, BinaryExpr};
 ghost use Rattle.vlog_tree.specs.Plain.{plain_ident, plain_expr, plain_prim, plain_ref, plain_sel};
 ghost use Rattle.vlog_parse.specs.Marks.{Toks, all_marked};
-ghost use Rattle.vlog_parse.specs.Reader.{◌>>=◌ as bind, expr_at, choice_at, binary_at, chain_at, unary_at, prim_at, paren_at, concat_at, parts_at, ref_at, second_at, sel_at, bounds_at, index_of};
+ghost use Rattle.vlog_parse.specs.Reader.{◌>>=◌ as bind, expr_at, choice_at, binary_at, climb_at, chain_at, unary_at, prim_at, paren_at, concat_at, parts_at, ref_at, second_at, sel_at, bounds_at, index_of};
 ghost use Rattle.vlog_parse.specs.Given.{Gives};
 
 use crate::front::{
@@ -61,17 +61,47 @@ fn binary_of(alloc: Global, tokens: &[Token], level: u32, fuel: usize) -> Parsed
     requires { level ≤ 11 }
     ensures { Gives (λ x. (plain_expr x.0, all_marked x.1.now)) result (binary_at fuel level (all_marked tokens.now)) }
 {
-    if fuel < 2 {
+    let levels = (UNARY - level) as usize;
+    if fuel <= levels {
         return Err(Unread::Fault);
     }
-    if level == UNARY {
-        return unary_of(alloc, tokens, fuel - 1);
+    let base = fuel - levels - 1;
+    match unary_of(alloc, tokens, base) {
+        Ok((operand, rest)) => climb_of(alloc, operand, rest, level, base),
+        Err(unread) => Err(unread),
     }
-    let (left, rest) = binary_of(alloc, tokens, level + 1, fuel - 1)?;
-    match binary_front(level, rest) {
-        Some((op, rest)) => chain_of(alloc, left, op, rest, level, fuel - 2),
-        None => Ok((left, rest)),
+}
+
+/// The operators that follow an operand, from the highest level down to this one.
+#[cycle(reader)]
+fn climb_of(
+    alloc: Global,
+    operand: Expr,
+    tokens: &[Token],
+    level: u32,
+    base: usize,
+) -> Parsed<'_, Expr>
+    requires level { level ≤ 11 }
+    requires base { base + (11 - level) < 2 ^ 64 }
+    ensures { Gives (λ x. (plain_expr x.0, all_marked x.1.now)) result (climb_at base 10 (11 - level) (plain_expr operand, all_marked tokens.now)) }
+{
+    let mut left = operand;
+    let mut rest = tokens;
+    let mut fuel = base;
+    let mut at = UNARY;
+    while at > level {
+        at -= 1;
+        fuel += 1;
+        match binary_front(at, rest) {
+            Some((op, behind)) => {
+                let (more, behind) = chain_of(alloc, left, op, behind, at, fuel - 1)?;
+                left = more;
+                rest = behind;
+            }
+            None => {}
+        }
     }
+    Ok((left, rest))
 }
 
 /// The right operand of this operator, and the operators of its level that follow, from the left.

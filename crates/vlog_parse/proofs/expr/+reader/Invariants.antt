@@ -1,7 +1,7 @@
-use Rattle.std.proofs.Common.{◌≡◌, ◌≤◌, ◌+◌, ◌*◌, map}
+use Rattle.std.proofs.Common.{◌≡◌, ◌≤◌, ◌+◌, ◌-◌, ◌*◌, map}
 use Rattle.vlog_tree.specs.Plain.{plain_expr}
 use Rattle.vlog_parse.specs.Marks.{all_marked}
-use Rattle.vlog_parse.specs.Reader.{parts_at}
+use Rattle.vlog_parse.specs.Reader.{climb_at, parts_at}
 use Rattle.vlog_parse.proofs.expr.+reader.Given as goal
 
 abbrev pub decreases-expr_of : goal.decreases-expr_of
@@ -12,6 +12,17 @@ decreases-choice_of l = 2 * l.fuel
 
 abbrev pub decreases-binary_of : goal.decreases-binary_of
 decreases-binary_of l = 2 * l.fuel
+
+abbrev pub decreases-climb_of : goal.decreases-climb_of
+decreases-climb_of l = 2 * (l.base + (11 - l.level)) + 1
+
+abbrev pub decreases-climb_of-loop-at : goal.decreases-climb_of-loop-at
+decreases-climb_of-loop-at l = l.at
+
+abbrev pub invariant-climb_of-loop-at : goal.invariant-climb_of-loop-at
+invariant-climb_of-loop-at l =
+    (l.level ≤ l.at) × (l.at ≤ 11) × (l.fuel + (l.at - l.level) ≡ l.base + (11 - l.level))
+    × (climb_at l.fuel (l.at - 1) (l.at - l.level) (plain_expr l.left, all_marked l.rest) ≡ climb_at l.base 10 (11 - l.level) (plain_expr l.fn.operand, all_marked l.tokens))
 
 abbrev pub decreases-chain_of : goal.decreases-chain_of
 decreases-chain_of l = 2 * l.fuel + 1
