@@ -1,5 +1,5 @@
 -- Levels of operators, taken from the highest one down behind an operand.
-use Rattle.std.proofs.Common.{◌≡◌, ◌≤◌, ℕ, zero, suc, pred, ◌+◌, ◌==◌, Bool, if◌then◌else◌, Option, None, Some, refl, sym, ap, ◌∙◌, arith, ne_eqb}
+use Rattle.std.proofs.Common.{◌≡◌, ◌≤◌, ℕ, zero, suc, pred, ◌+◌, Bool, if◌then◌else◌, Option, None, Some, refl, sym, ap, ◌∙◌, arith, ne_eqb}
 use Rattle.vlog_tree.specs.declared.expr.BinaryOp.{BinaryOp}
 use Rattle.vlog_tree.specs.Tree.{ExprOf, BinaryExpr}
 use Rattle.vlog_parse.specs.declared.unread.Unread.{Unread}

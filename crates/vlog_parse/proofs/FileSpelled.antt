@@ -7,7 +7,7 @@ use Rattle.vlog_tree.specs.declared.module.NetKind.TheVariants as kind
 use Rattle.vlog_tree.specs.declared.terminal.Terminal.TheVariants as t
 use Rattle.vlog_tree.specs.Words.{Word, NameWord, Fixed}
 use Rattle.vlog_tree.specs.Tree.{IdentOf, ExprOf, TargetOf, BodyOf, RangeOf, PortHeadOf, PortOf, DrivenWireOf, RegTailOf, InitTail, Reg1Of, AssignOf, EventOf, PosedgeEvent, ItemOf, WiresItem, DrivenWiresItem, RegsItem, AssignItem, AlwaysItem, ModuleOf, FileOf}
-use Rattle.vlog_tree.specs.Spelling.{ident_words, expr_words, target_words, after_commas, with_commas, in_row, range_words, optional, direction_words, head_words, init_words, port_words, wire_words, reg_words, assign_words, item_words, module_words, file_words}
+use Rattle.vlog_tree.specs.Spelling.{ident_words, expr_words, target_words, after_commas, with_commas, in_row, range_words, optional, direction_words, head_words, init_words, port_words, wire_words, reg_words, assign_words, item_words, module_words}
 use Rattle.vlog_tree.specs.Shape.{IsGoodExpr, IsGoodBody, IsGoodOption, IsGoodRange, IsGoodHead, IsGoodPort, IsFirstDirected, IsGoodIdent, IsGoodWire, IsGoodTail, IsGoodReg, IsGoodAssign, AreSomeGood, IsGoodItem, IsGoodModule}
 use Rattle.vlog_parse.specs.Marks.{Toks, spelled, spell, after, name_front}
 use Rattle.vlog_parse.specs.Reader.{◌>>=◌, found_or, Read, expr_at, fuel_for}

@@ -8,7 +8,6 @@ use Rattle.vlog_tree.specs.declared.stmt.Target.{Target}
 use Rattle.vlog_tree.specs.declared.stmt.Stmt.{Stmt}
 use Rattle.vlog_tree.specs.declared.module.Item.{Item}
 use Rattle.vlog_tree.specs.declared.module.Module.{Module}
-use Rattle.std.specs.Prelude.{ℕ}
 
 pub map_snoc : {X Y : Type 0} (f : X → Y) (xs : List X) (x : X) → map f (xs ++ x ∷ []) ≡ map f xs ++ f x ∷ []
 map_snoc f [] x = refl

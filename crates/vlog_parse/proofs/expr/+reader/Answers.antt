@@ -1,8 +1,7 @@
 use Rattle.std.proofs.Common.{rules, arith, ◌≡◌, ◌+◌, ◌-◌, ℕ, Some, None, sym, subst, ap, ◌∙◌}
-use Rattle.vlog_tree.specs.declared.expr.BinaryOp.{BinaryOp}
 use Rattle.vlog_tree.specs.Tree.{ExprOf}
 use Rattle.vlog_tree.specs.Plain.{plain_expr}
-use Rattle.vlog_parse.specs.Marks.{Toks, all_marked}
+use Rattle.vlog_parse.specs.Marks.{all_marked}
 use Rattle.vlog_parse.specs.Reader.{◌>>=◌, Read, binary_front, climb_at, unary_at}
 use Rattle.vlog_parse.specs.Given.{Gives, Fails}
 use Rattle.vlog_parse.proofs.Climb.{binary_climb, binary_short, climb_some, climb_none, fails_on}

@@ -1,4 +1,4 @@
-use Rattle.std.proofs.Common.{rules, arith, ◌≡◌, ◌≤◌, ◌-◌, Some, List, map, sym, ap, ◌∙◌}
+use Rattle.std.proofs.Common.{rules, arith, ◌-◌, map, sym, ap, ◌∙◌}
 use Rattle.vlog_parse.specs.Marks.{all_marked}
 use Rattle.vlog_parse.specs.FileReader.{more_at}
 use Rattle.vlog_parse.proofs.Maps.{map_snoc}

@@ -1,4 +1,4 @@
-use Rattle.std.proofs.Common.{rules, arith, ◌≡◌, ◌≤◌, ◌-◌, List, map, sym, ap, ◌∙◌}
+use Rattle.std.proofs.Common.{rules, arith, ◌-◌, List, map, sym, ap, ◌∙◌}
 use Rattle.vlog_tree.specs.declared.module.Module.{Module}
 use Rattle.vlog_tree.specs.Tree.{ModuleOf}
 use Rattle.vlog_tree.specs.Plain.{plain_module}

@@ -1,5 +1,4 @@
-use Rattle.std.proofs.Common.{List, sym, subst, true≢false, ◌∙◌}
-use Rattle.vlog_parse.specs.Given.{Gives}
+use Rattle.std.proofs.Common.{sym, true≢false, ◌∙◌}
 use Rattle.vlog_parse.proofs.Whole.{lawful_from, found_clause, only_clause}
 use Rattle.vlog_parse.proofs.parser.lawful_expr.Goals as goal
 
