@@ -1,10 +1,11 @@
 ghost use Rattle.std.specs.Prelude.{◌≡◌, IfOk};
 ghost use Rattle.vidi_io.specs.Cause.{Rose};
 ghost use Rattle.vidi_io.specs.Shelf.{Later};
-ghost use Rattle.vidi.specs.Answer.{Dumps, Earns};
+ghost use Rattle.vidi.specs.Answer.{Dumps, Checks, Earns};
 ghost use Rattle.vidi.specs.Said as said;
 ghost use Rattle.vidi.specs.Unread.{IsUnread};
 
+use crate::check::check;
 use crate::command::Command;
 use crate::reason_text::{read_fault_line, reason_line};
 use crate::status::{Reason, Status, Word};
@@ -33,6 +34,7 @@ pub fn answer_to<S: Shelf>(alloc: Global, words: &Words, shelf: &mut S) -> Resul
 {
     match Command::of(words) {
         Some(Command::Dump { trace }) => dump(alloc, trace, shelf),
+        Some(Command::Check { design, top: _ }) => check(alloc, design, shelf),
         None => usage(alloc),
     }
 }
@@ -64,7 +66,7 @@ fn dump<S: Shelf>(alloc: Global, trace: &str, shelf: &mut S) -> Result<Answer, M
 }
 
 /// The answer for a file that `read_whole` didn't give.
-fn unread(alloc: Global, word: Word, error: ReadError) -> Result<Answer, Memory>
+pub fn unread(alloc: Global, word: Word, error: ReadError) -> Result<Answer, Memory>
     ensures { IfOk result (λ a. IsUnread word error a.status a.text) }
 {
     match error {
@@ -83,7 +85,7 @@ fn read_fault(alloc: Global, word: Word) -> Result<Answer, Memory>
     })
 }
 
-fn refused(alloc: Global, word: Word, reason: Reason) -> Result<Answer, Memory>
+pub fn refused(alloc: Global, word: Word, reason: Reason) -> Result<Answer, Memory>
     ensures { IfOk result (λ a. (a.status ≡ Status.Refused word reason) × (a.text ≡ said.reason_line word reason)) }
 {
     Ok(Answer {

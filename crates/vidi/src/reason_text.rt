@@ -27,6 +27,18 @@ fn put_reason(text: &mut Vec<u8>, reason: &Reason) -> Result<(), Memory>
             put(text, b"too long, limit ")?;
             put_number(text, *limit)
         }
+        Reason::Word { line } => {
+            put(text, b"E1 word line ")?;
+            put_number(text, *line)
+        }
+        Reason::Deep { line } => {
+            put(text, b"E14 deep line ")?;
+            put_number(text, *line)
+        }
+        Reason::Item { line } => {
+            put(text, b"E2 item line ")?;
+            put_number(text, *line)
+        }
         Reason::BadTrace { at } => {
             put(text, b"bad trace at ")?;
             put_number(text, *at)
@@ -49,6 +61,7 @@ fn word_text(word: Word) -> &'static [u8]
     ensures { result.now ≡ said.word_text word }
 {
     match word {
+        Word::Design => b"design",
         Word::Trace => b"trace",
     }
 }

@@ -13,6 +13,8 @@ use vidi_io::{Failed, Shelf, Sink, Words};
 /// Does what the words ask for: reads and writes files of the shelf, and says its text to `out`.
 ///
 /// - `dump TRACE` prints a trace.
+/// - `check DESIGN TOP` reads a design text and prints how many modules and items it has; `top` isn't looked
+///   at.
 ///
 /// The clause `answers` has the cause of each answer: `Usage` where the words give no command, else
 /// what the command owes for the files that the shelf tells. Reads and writes that fail are answered
