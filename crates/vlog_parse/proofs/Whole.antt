@@ -13,8 +13,8 @@ use Rattle.vlog_tree.specs.Tree.{ExprOf, UnaryExpr, BinaryExpr, ChoiceExpr, Prim
 use Rattle.vlog_tree.specs.Plain.{plain_expr}
 use Rattle.vlog_tree.specs.Spelling.{binary_terminal, expr_words, prim_words, ref_words, index_words, last_words, sel_words, exprs_words, more_exprs_words}
 use Rattle.vlog_tree.specs.Shape.{IsGoodExpr, IsGoodPrim, IsGoodRef, IsGoodIndex, IsGoodLast, IsGoodSel, AreGoodExprs, AreAllGoodExprs}
-use Rattle.vlog_parse.specs.declared.error.ParseError.{ParseError}
-use Rattle.vlog_parse.specs.declared.error.ParseError.TheVariants as errors
+use Rattle.vlog_parse.specs.declared.unread.Unread.{Unread}
+use Rattle.vlog_parse.specs.declared.unread.Unread.TheVariants as errors
 use Rattle.vlog_parse.specs.Marks.{TokenOf, Toks, spelled, spell, all_marked, IsLawfulText, AreLawful}
 use Rattle.vlog_parse.specs.Bare.{forget, forget_all, bare_expr, without_lines}
 use Rattle.vlog_parse.specs.Reader.{◌>>=◌, Read, expr_at, whole, fuel_for, expr_of}
@@ -64,13 +64,13 @@ pub tokens_spelled : (ws : List Word) (ts : List Token) → tokens_of ws ≡ wit
 tokens_spelled ws ts h = sym (markless_spell ws) ∙ ap (λ (us : List Token). map markless us) h ∙ markless_without ts
 
 -- the words of a tree of good shape are lawful
-abbrev AreLawfulWords : List Word → Type 0
+abbrev pub AreLawfulWords : List Word → Type 0
 AreLawfulWords [] = Unit {0}
 AreLawfulWords (NameWord text ∷ ws) = IsToken Identifier text × AreLawfulWords ws
 AreLawfulWords (NumberWord kind text ∷ ws) = IsToken (number_kind kind) text × AreLawfulWords ws
 AreLawfulWords (Fixed x ∷ ws) = Unit {0} × AreLawfulWords ws
 
-lawful_append : (a b : List Word) → AreLawfulWords a → AreLawfulWords b → AreLawfulWords (a ++ b)
+pub lawful_append : (a b : List Word) → AreLawfulWords a → AreLawfulWords b → AreLawfulWords (a ++ b)
 lawful_append [] b g h = h
 lawful_append (NameWord text ∷ a) b g h = (g.0, lawful_append a b g.1 h)
 lawful_append (NumberWord kind text ∷ a) b g h = (g.0, lawful_append a b g.1 h)
@@ -84,18 +84,18 @@ number_lawful : (k : NumberKind) (text : List ℕ) → IsToken (number_kind k) t
 number_lawful number.Decimal text h = h
 number_lawful number.Based text h = h
 
-spell_lawful : (ws : List Word) → AreLawfulWords ws → AreLawful (spell ws [])
+pub spell_lawful : (ws : List Word) → AreLawfulWords ws → AreLawful (spell ws [])
 spell_lawful [] h = tt
 spell_lawful (NameWord text ∷ ws) h = (h.0, spell_lawful ws h.1)
 spell_lawful (NumberWord kind text ∷ ws) h = (number_lawful kind text h.0, spell_lawful ws h.1)
 spell_lawful (Fixed x ∷ ws) h = (fixed_lawful x (terminal_text x), spell_lawful ws h.1)
 
-forget_lawful : (ws : Toks ℕ) → AreLawful (forget_all ws) → AreLawful ws
+pub forget_lawful : (ws : Toks ℕ) → AreLawful (forget_all ws) → AreLawful ws
 forget_lawful [] h = tt
 forget_lawful (token ∷ ws) h = (h.0, forget_lawful ws h.1)
 
 mutual
-  expr_lawful : (e : ExprOf U) → IsGoodExpr e → AreLawfulWords (expr_words e)
+  pub expr_lawful : (e : ExprOf U) → IsGoodExpr e → AreLawfulWords (expr_words e)
   expr_lawful (UnaryExpr None p) g = prim_lawful p g
   expr_lawful (UnaryExpr (Some s) p) g = (tt, prim_lawful p g)
   expr_lawful (BinaryExpr a op b) g = lawful_append (expr_words a) (Fixed (binary_terminal op) ∷ expr_words b) (expr_lawful a g.2) (tt, expr_lawful b g.3)
@@ -117,7 +117,7 @@ mutual
   more_lawful NoExprs g = tt
   more_lawful (MoreExprs e es) g = (tt, lawful_append (expr_words e) (more_exprs_words es) (expr_lawful e g.0) (more_lawful es g.1))
 
-  ref_lawful : (x : RefOf U) → IsGoodRef x → AreLawfulWords (ref_words x)
+  pub ref_lawful : (x : RefOf U) → IsGoodRef x → AreLawfulWords (ref_words x)
   ref_lawful (RefWith id index last) g = (g.0, lawful_append (index_words index) (last_words last) (index_lawful index g.2) (last_lawful last g.3))
 
   index_lawful : (i : IndexOf U) → IsGoodIndex i → AreLawfulWords (index_words i)
@@ -149,11 +149,11 @@ all_sound ws h =
     bind (λ (x : ExprOf ℕ × Toks ℕ). IsGoodExpr x.0 × (forget_all ws ≡ spell (expr_words x.0) (forget_all x.1))) (λ (e : ExprOf ℕ). IsGoodExpr e × (forget_all ws ≡ spell (expr_words e) []))
     (expr_at (fuel_for (length ws)) ws) whole (expr_spelled ℕ (fuel_for (length ws)) ws h) (λ x g. whole_sound ws x.0 x.1 g)
 
-length_spell : (ws : List Word) → length (spell ws []) ≡ length ws
+pub length_spell : (ws : List Word) → length (spell ws []) ≡ length ws
 length_spell [] = refl
 length_spell (w ∷ ws) = ap suc (length_spell ws)
 
-length_forget : (ws : Toks ℕ) → length (forget_all ws) ≡ length ws
+pub length_forget : (ws : Toks ℕ) → length (forget_all ws) ≡ length ws
 length_forget [] = refl
 length_forget (token ∷ ws) = ap suc (length_forget ws)
 
@@ -168,7 +168,7 @@ rest_of (Some x) = x.1
 no_cons : (token : TokenOf U) (ws : Toks U) → token ∷ ws ≡ [] → ⊥
 no_cons token ws h = cc
 
-none_some : {X : Type 0} (x : X) → None ≡ Some x → ⊥
+pub none_some : {X : Type 0} (x : X) → None ≡ Some x → ⊥
 none_some x h = cc
 
 from_seen : (o : Read ℕ (ExprOf ℕ)) (e : ExprOf U) → seen bare_expr o ≡ Some (e, []) → (x : ExprOf ℕ) × ((o >>= whole) ≡ Some x) × (bare_expr x ≡ e)
@@ -184,7 +184,7 @@ all_again ws e g h =
     from_seen (expr_at fuel ws) e (sym (expr_natural ℕ fuel ws) ∙ sym (ap (λ (us : Toks U). expr_at fuel us) h) ∙ expr_read e [] fuel g ends_nil (omega arith))
 
 -- the clauses
-pub found_clause : (r : Result Expr ParseError) (ts : List Token) → AreLawful (all_marked ts) → Gives plain_expr r (expr_of (all_marked ts))
+pub found_clause : (r : Result Expr Unread) (ts : List Token) → AreLawful (all_marked ts) → Gives plain_expr r (expr_of (all_marked ts))
     → IfOk r (λ e. IsGoodExpr (plain_expr e) × (tokens_of (expr_words (plain_expr e)) ≡ without_lines ts))
 found_clause (Err e) ts l h = tt
 found_clause (Ok e) ts l h =
@@ -194,7 +194,7 @@ found_clause (Ok e) ts l h =
 same_some : (x y : ExprOf ℕ) → Some x ≡ Some y → x ≡ y
 same_some x y h = cc
 
-pub only_clause : (r : Result Expr ParseError) (ts : List Token) → Gives plain_expr r (expr_of (all_marked ts))
+pub only_clause : (r : Result Expr Unread) (ts : List Token) → Gives plain_expr r (expr_of (all_marked ts))
     → (e : ExprOf U) → IsGoodExpr e → tokens_of (expr_words e) ≡ without_lines ts → MatchResult r (λ x. bare_expr (plain_expr x) ≡ e) (λ x. x ≡ errors.Memory)
 only_clause (Ok x) ts h e g w =
     let a = all_again (all_marked ts) e g (tokens_spelled (expr_words e) ts w) in
@@ -204,6 +204,6 @@ only_clause (Err errors.Fault) ts h e g w =
     let a = all_again (all_marked ts) e g (tokens_spelled (expr_words e) ts w) in
     absurd (none_some a.0 (sym h ∙ a.1))
 
-pub lines_clause : (r : Result Expr ParseError) (ts : List Token) → Gives plain_expr r (expr_of (all_marked ts)) → IfOk r (λ e. expr_of (all_marked ts) ≡ Some (plain_expr e))
+pub lines_clause : (r : Result Expr Unread) (ts : List Token) → Gives plain_expr r (expr_of (all_marked ts)) → IfOk r (λ e. expr_of (all_marked ts) ≡ Some (plain_expr e))
 lines_clause (Ok e) ts h = h
 lines_clause (Err e) ts h = tt

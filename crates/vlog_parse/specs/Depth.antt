@@ -78,3 +78,8 @@ IsDeep {A} ws line = (before : Toks A) × IsFirstDeep ws line before
 -- no limit is passed at any token
 abbrev pub IsShallow : {A : Type 0} → Toks A → Type 0
 IsShallow {A} ws = (b : Toks A) (x : TokenOf A) (r : Toks A) → ws ≡ b ++ x ∷ r → Passes b x → ⊥
+
+-- a limit is first passed on one line, or nowhere
+pub record OneDepth (A : Type 0) : Type 0 where
+  pub line : (ws : Toks A) (a b : A) → IsDeep ws a → IsDeep ws b → a ≡ b
+  pub apart : (ws : Toks A) (a : A) → IsDeep ws a → IsShallow ws → ⊥

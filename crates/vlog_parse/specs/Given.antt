@@ -1,14 +1,21 @@
 -- What a reader of the code answers against the reader on lists.
 use Rattle.std.specs.Prelude.{◌≡◌, Result, Ok, Err, Option, None, Some}
+use Rattle.vlog_parse.specs.declared.unread.Unread.{Unread}
+use Rattle.vlog_parse.specs.declared.unread.Unread.TheVariants as unread
 use Rattle.vlog_parse.specs.declared.error.ParseError.{ParseError}
 use Rattle.vlog_parse.specs.declared.error.ParseError.TheVariants as errors
 
 -- a fault is that nothing is read; want of memory says nothing
-abbrev pub Fails : {Y : Type 0} → ParseError → Option Y → Type 0
-Fails errors.Memory read = Unit {0}
-Fails errors.Fault read = read ≡ None
+abbrev pub Fails : {Y : Type 0} → Unread → Option Y → Type 0
+Fails unread.Memory read = Unit {0}
+Fails unread.Fault read = read ≡ None
 
 -- what was returned, seen by view, is what is read, unless memory ran out
-abbrev pub Gives : {X Y : Type 0} → (X → Y) → Result X ParseError → Option Y → Type 0
+abbrev pub Gives : {X Y : Type 0} → (X → Y) → Result X Unread → Option Y → Type 0
 Gives view (Ok x) read = read ≡ Some (view x)
 Gives view (Err e) read = Fails e read
+
+-- the answer that a whole text gets
+abbrev pub refusal : Unread → ParseError
+refusal unread.Fault = errors.Item 0
+refusal unread.Memory = errors.Memory

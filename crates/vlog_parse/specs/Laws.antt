@@ -1,5 +1,5 @@
 -- What the reader of expressions means: what is spelled is read, and what is read is spelled.
-use Rattle.std.specs.Prelude.{◌≡◌, ◌≤◌, ℕ, List, Option, None, Some, length, option_map, true, []}
+use Rattle.std.specs.Prelude.{◌≡◌, ◌≤◌, ℕ, Option, None, Some, length, option_map, true, []}
 use Rattle.vlog_tree.specs.declared.terminal.Terminal.TheVariants as t
 use Rattle.vlog_tree.specs.Tree.{ExprOf, RefOf, TargetOf, BodyOf, FileOf}
 use Rattle.vlog_tree.specs.Spelling.{expr_words, ref_words, target_words, body_words, file_words}
@@ -98,7 +98,3 @@ BodyLinesDontCount A = (fuel : ℕ) (ws : Toks A) → body_at fuel (forget_all w
 
 abbrev pub FileLinesDontCount : Type 0 → Type 0
 FileLinesDontCount A = (fuel : ℕ) (ws : Toks A) → file_at fuel (forget_all ws) ≡ option_map bare_file (file_at fuel ws)
-
--- no two files of good shape have the same words
-abbrev pub OneFile : Type 0
-OneFile = (a b : FileOf (Unit {0})) → IsGood a → IsGood b → file_words a ≡ file_words b → a ≡ b

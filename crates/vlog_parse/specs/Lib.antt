@@ -4,5 +4,6 @@ pub mod FileReader
 pub mod Given
 pub mod Laws
 pub mod Marks
+pub mod Parsing
 pub mod Reader
 pub mod StmtReader

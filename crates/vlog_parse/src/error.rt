@@ -1,45 +1,30 @@
 ghost use Rattle.std.specs.Prelude.{◌≡◌};
 
-use std::alloc::{AllocError, AllocFailed};
+use crate::unread::Unread;
 use thiserror::Error;
-use vidi_bits::Memory;
 
 /// Why no tree was read.
 #[derive(Clone, Copy, Debug, PartialEq, Eq, Error)]
 pub enum ParseError {
-    /// No tree of good shape has these tokens.
-    #[error("no tree of good shape has these tokens")]
-    Fault,
+    /// A limit of nesting or length is passed, first at a token of this line.
+    #[error("line {line}: nested too deep or too long")]
+    Deep { line: u32 },
+    /// No tree of good shape has these tokens. The line is 0 for now.
+    #[error("line {line}: not in the grammar")]
+    Item { line: u32 },
     #[error("out of memory")]
     Memory,
 }
 
-impl From<Memory> for ParseError {
-    ghost use Rattle.vlog_parse.specs.declared.error.ParseError.{ParseError};
+impl From<Unread> for ParseError {
+    ghost use Rattle.vlog_parse.specs.Given.{refusal};
 
-    ghost from_gives = { λ _ e. e ≡ ParseError.Memory };
+    ghost from_gives = { λ u e. e ≡ refusal u };
 
-    fn from(_error: Memory) -> ParseError {
-        ParseError::Memory
-    }
-}
-
-impl From<AllocError> for ParseError {
-    ghost use Rattle.vlog_parse.specs.declared.error.ParseError.{ParseError};
-
-    ghost from_gives = { λ _ e. e ≡ ParseError.Memory };
-
-    fn from(_error: AllocError) -> ParseError {
-        ParseError::Memory
-    }
-}
-
-impl<T: Drop> From<AllocFailed<T>> for ParseError {
-    ghost use Rattle.vlog_parse.specs.declared.error.ParseError.{ParseError};
-
-    ghost from_gives = { λ _ e. e ≡ ParseError.Memory };
-
-    fn from(_error: AllocFailed<T>) -> ParseError {
-        ParseError::Memory
+    fn from(unread: Unread) -> ParseError {
+        match unread {
+            Unread::Fault => ParseError::Item { line: 0 },
+            Unread::Memory => ParseError::Memory,
+        }
     }
 }

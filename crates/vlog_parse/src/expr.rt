@@ -4,10 +4,10 @@ ghost use Rattle.vlog_parse.specs.Marks.{all_marked};
 ghost use Rattle.vlog_parse.specs.Reader.{expr_at, choice_at, binary_at, chain_at, unary_at, prim_at, paren_at, concat_at, parts_at, ref_at, second_at, sel_at, bounds_at, index_of};
 ghost use Rattle.vlog_parse.specs.Given.{Gives};
 
-use crate::error::ParseError;
 use crate::front::{
     Parsed, after, binary_front, copied, expect, name_of, number_front, sign_front,
 };
+use crate::unread::Unread;
 use std::alloc::Global;
 use vlog_lex::Token;
 use vlog_tree::{Expr, Exprs, Ident, Number, Prim as Operand, Ref, Sel, Terminal, Unary, concat};
@@ -21,7 +21,7 @@ pub fn expr_of(alloc: Global, tokens: &[Token], fuel: usize) -> Parsed<'_, Expr>
     ensures { Gives (λ x. (plain_expr x.0, all_marked x.1.now)) result (expr_at fuel (all_marked tokens.now)) }
 {
     if fuel == 0 {
-        return Err(ParseError::Fault);
+        return Err(Unread::Fault);
     }
     let (condition, rest) = binary_of(alloc, tokens, 1, fuel - 1)?;
     choice_of(alloc, condition, rest, fuel - 1)
@@ -33,7 +33,7 @@ fn choice_of(alloc: Global, condition: Expr, tokens: &[Token], fuel: usize) -> P
     ensures { Gives (λ x. (plain_expr x.0, all_marked x.1.now)) result (choice_at fuel (plain_expr condition) (all_marked tokens.now)) }
 {
     if fuel == 0 {
-        return Err(ParseError::Fault);
+        return Err(Unread::Fault);
     }
     let Some((_, rest)) = after(Terminal::Question, tokens) else {
         return Ok((condition, tokens));
@@ -59,7 +59,7 @@ fn binary_of(alloc: Global, tokens: &[Token], level: u32, fuel: usize) -> Parsed
     ensures { Gives (λ x. (plain_expr x.0, all_marked x.1.now)) result (binary_at fuel level (all_marked tokens.now)) }
 {
     if fuel == 0 {
-        return Err(ParseError::Fault);
+        return Err(Unread::Fault);
     }
     if level == UNARY {
         return unary_of(alloc, tokens, fuel - 1);
@@ -81,7 +81,7 @@ fn chain_of(
     ensures { Gives (λ x. (plain_expr x.0, all_marked x.1.now)) result (chain_at fuel level (plain_expr left) (all_marked tokens.now)) }
 {
     if fuel == 0 {
-        return Err(ParseError::Fault);
+        return Err(Unread::Fault);
     }
     let Some((op, rest)) = binary_front(level, tokens) else {
         return Ok((left, tokens));
@@ -104,7 +104,7 @@ fn unary_of(alloc: Global, tokens: &[Token], fuel: usize) -> Parsed<'_, Expr>
     ensures { Gives (λ x. (plain_expr x.0, all_marked x.1.now)) result (unary_at fuel (all_marked tokens.now)) }
 {
     if fuel == 0 {
-        return Err(ParseError::Fault);
+        return Err(Unread::Fault);
     }
     let Some((sign, rest)) = sign_front(tokens) else {
         let (prim, rest) = prim_of(alloc, tokens, fuel - 1)?;
@@ -121,7 +121,7 @@ fn prim_of(alloc: Global, tokens: &[Token], fuel: usize) -> Parsed<'_, Operand>
     ensures { Gives (λ x. (plain_prim x.0, all_marked x.1.now)) result (prim_at fuel (all_marked tokens.now)) }
 {
     if fuel == 0 {
-        return Err(ParseError::Fault);
+        return Err(Unread::Fault);
     }
     if let Some((kind, token, rest)) = number_front(tokens) {
         let text = copied(alloc, &token.text)?;
@@ -144,7 +144,7 @@ fn paren_of(alloc: Global, line: u32, tokens: &[Token], fuel: usize) -> Parsed<'
     ensures { Gives (λ x. (plain_prim x.0, all_marked x.1.now)) result (paren_at fuel line (all_marked tokens.now)) }
 {
     if fuel == 0 {
-        return Err(ParseError::Fault);
+        return Err(Unread::Fault);
     }
     let (inner, rest) = expr_of(alloc, tokens, fuel - 1)?;
     let (_, rest) = expect(Terminal::ParenClose, rest)?;
@@ -158,7 +158,7 @@ fn concat_of(alloc: Global, line: u32, tokens: &[Token], fuel: usize) -> Parsed<
     ensures { Gives (λ x. (plain_prim x.0, all_marked x.1.now)) result (concat_at fuel line (all_marked tokens.now)) }
 {
     if fuel == 0 {
-        return Err(ParseError::Fault);
+        return Err(Unread::Fault);
     }
     let (part, rest) = expr_of(alloc, tokens, fuel - 1)?;
     let mut parts = Exprs::new(alloc);
@@ -186,7 +186,7 @@ fn parts_of(alloc: Global, parts: Exprs, tokens: &[Token], fuel: usize) -> Parse
         parts.push(part)?;
         rest = behind;
     }
-    Err(ParseError::Fault)
+    Err(Unread::Fault)
 }
 
 /// A name with at most two brackets.
@@ -195,7 +195,7 @@ pub fn ref_of(alloc: Global, tokens: &[Token], fuel: usize) -> Parsed<'_, Ref>
     ensures { Gives (λ x. (plain_ref x.0, all_marked x.1.now)) result (ref_at fuel (all_marked tokens.now)) }
 {
     if fuel == 0 {
-        return Err(ParseError::Fault);
+        return Err(Unread::Fault);
     }
     let (id, rest) = name_of(alloc, tokens)?;
     let Some((_, behind)) = after(Terminal::BracketOpen, rest) else {
@@ -214,7 +214,7 @@ pub fn ref_of(alloc: Global, tokens: &[Token], fuel: usize) -> Parsed<'_, Ref>
 }
 
 /// The expression of a bracket that holds one alone.
-fn index_of(sel: Sel) -> Result<Expr, ParseError>
+fn index_of(sel: Sel) -> Result<Expr, Unread>
     ensures { Gives plain_expr result (index_of (plain_sel sel)) }
 {
     match sel {
@@ -222,8 +222,8 @@ fn index_of(sel: Sel) -> Result<Expr, ParseError>
         Sel::Part {
             first: _,
             second: _,
-        } => Err(ParseError::Fault),
-        Sel::Indexed { base: _, width: _ } => Err(ParseError::Fault),
+        } => Err(Unread::Fault),
+        Sel::Indexed { base: _, width: _ } => Err(Unread::Fault),
     }
 }
 
@@ -233,7 +233,7 @@ fn second_of(alloc: Global, id: Ident, first: Sel, tokens: &[Token], fuel: usize
     ensures { Gives (λ x. (plain_ref x.0, all_marked x.1.now)) result (second_at fuel (plain_ident id) (plain_sel first) (all_marked tokens.now)) }
 {
     if fuel == 0 {
-        return Err(ParseError::Fault);
+        return Err(Unread::Fault);
     }
     let Some((_, rest)) = after(Terminal::BracketOpen, tokens) else {
         let sel = Some(Box::new(alloc, first)?);
@@ -254,7 +254,7 @@ fn sel_of(alloc: Global, tokens: &[Token], fuel: usize) -> Parsed<'_, Sel>
     ensures { Gives (λ x. (plain_sel x.0, all_marked x.1.now)) result (sel_at fuel (all_marked tokens.now)) }
 {
     if fuel == 0 {
-        return Err(ParseError::Fault);
+        return Err(Unread::Fault);
     }
     let (first, rest) = expr_of(alloc, tokens, fuel - 1)?;
     bounds_of(alloc, first, rest, fuel - 1)
@@ -266,7 +266,7 @@ fn bounds_of(alloc: Global, first: Expr, tokens: &[Token], fuel: usize) -> Parse
     ensures { Gives (λ x. (plain_sel x.0, all_marked x.1.now)) result (bounds_at fuel (plain_expr first) (all_marked tokens.now)) }
 {
     if fuel == 0 {
-        return Err(ParseError::Fault);
+        return Err(Unread::Fault);
     }
     if let Some((_, rest)) = after(Terminal::Colon, tokens) {
         let (second, rest) = expr_of(alloc, rest, fuel - 1)?;

@@ -4,14 +4,14 @@ ghost use Rattle.vlog_parse.specs.Marks.{marked, all_marked, is_terminal, after,
 ghost use Rattle.vlog_parse.specs.Reader.{sign_front, binary_front};
 ghost use Rattle.vlog_parse.specs.Given.{Gives};
 
-use crate::error::ParseError;
+use crate::unread::Unread;
 use std::alloc::Global;
 use vidi_bits::Name;
 use vlog_lex::{Token, TokenKind};
 use vlog_tree::{BinaryOp, Ident, NumberKind, Sign, Terminal, UnaryOp, level_of};
 
 /// What was read, and the tokens behind it.
-pub type Parsed<'a, T> = Result<(T, &'a [Token]), ParseError>;
+pub type Parsed<'a, T> = Result<(T, &'a [Token]), Unread>;
 
 /// Whether the token is this terminal.
 fn is_terminal(terminal: Terminal, token: &Token) -> bool
@@ -36,12 +36,12 @@ pub fn expect(terminal: Terminal, tokens: &[Token]) -> Parsed<'_, u32>
 {
     match after(terminal, tokens) {
         Some(found) => Ok(found),
-        None => Err(ParseError::Fault),
+        None => Err(Unread::Fault),
     }
 }
 
 /// A copy of the text.
-pub fn copied(alloc: Global, text: &Name) -> Result<Name, ParseError>
+pub fn copied(alloc: Global, text: &Name) -> Result<Name, Unread>
     ensures { Gives (λ n. n) result (Rattle.std.specs.Prelude.Some text.now) }
 {
     Ok(Name::from_vec(Vec::from_slice(alloc, text.as_slice())?))
@@ -57,7 +57,7 @@ pub fn name_of(alloc: Global, tokens: &[Token]) -> Parsed<'_, Ident>
             let line = first.line;
             Ok((Ident { name, line }, rest))
         }
-        _ => Err(ParseError::Fault),
+        _ => Err(Unread::Fault),
     }
 }
 

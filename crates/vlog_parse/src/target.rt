@@ -4,9 +4,9 @@ ghost use Rattle.vlog_parse.specs.Marks.{all_marked};
 ghost use Rattle.vlog_parse.specs.Reader.{target_at, targets_at};
 ghost use Rattle.vlog_parse.specs.Given.{Gives};
 
-use crate::error::ParseError;
 use crate::expr::ref_of;
 use crate::front::{Parsed, after, expect};
+use crate::unread::Unread;
 use std::alloc::Global;
 use vlog_lex::Token;
 use vlog_tree::{Target, Targets, Terminal, concat_target};
@@ -17,7 +17,7 @@ pub fn target_of(alloc: Global, tokens: &[Token], fuel: usize) -> Parsed<'_, Tar
     ensures { Gives (λ x. (plain_target x.0, all_marked x.1.now)) result (target_at fuel (all_marked tokens.now)) }
 {
     if fuel == 0 {
-        return Err(ParseError::Fault);
+        return Err(Unread::Fault);
     }
     let Some((line, rest)) = after(Terminal::BraceOpen, tokens) else {
         let (name, rest) = ref_of(alloc, tokens, fuel - 1)?;
@@ -49,5 +49,5 @@ fn targets_of(alloc: Global, parts: Targets, tokens: &[Token], fuel: usize) -> P
         parts.push(part)?;
         rest = behind;
     }
-    Err(ParseError::Fault)
+    Err(Unread::Fault)
 }

@@ -1,5 +1,5 @@
 use crate::error::ParseError;
-use crate::parse::parse_expression;
+use crate::parser::parse_expression;
 use std::alloc::{AllocError, Global};
 use std::process::Abort;
 use std::test::Fail;
@@ -215,7 +215,7 @@ fn no_trees(rt: HostRuntime) -> Result<(), Fail> {
         let tokens = lex(rt.alloc(), text.as_bytes())?;
         let fault = matches!(
             parse_expression(rt.alloc(), &tokens),
-            Err(ParseError::Fault)
+            Err(ParseError::Item { line: 0 })
         );
         assert!(rt; fault, "{text}");
     }

@@ -1,0 +1,25 @@
+-- What `parse` owes: the file of good shape that the tokens spell, or the reason why there is none.
+use Rattle.std.specs.Prelude.{◌≡◌, List}
+use Rattle.vlog_lex.specs.declared.token.Token.{Token}
+use Rattle.vlog_tree.specs.Tree.{FileOf}
+use Rattle.vlog_tree.specs.Spelling.{toks}
+use Rattle.vlog_tree.specs.Shape.{IsGood}
+use Rattle.vlog_parse.specs.declared.error.ParseError.{ParseError}
+use Rattle.vlog_parse.specs.declared.error.ParseError.TheVariants.{Deep, Item, Memory}
+use Rattle.vlog_parse.specs.Marks.{all_marked}
+use Rattle.vlog_parse.specs.Bare.{without_lines}
+use Rattle.vlog_parse.specs.Depth.{IsDeep, IsShallow}
+
+-- a file of good shape that these tokens spell; lines don't count
+abbrev pub IsFileOf : List Token → FileOf (Unit {0}) → Type 0
+IsFileOf tokens f = IsGood f × (toks f ≡ without_lines tokens)
+
+-- a limit is passed, first at a token of this line; else no file of good shape has these tokens; want of memory is free
+abbrev pub Refuses : List Token → ParseError → Type 0
+Refuses tokens (Deep line) = IsDeep (all_marked tokens) line
+Refuses tokens (Item line) = (line ≡ 0) × IsShallow (all_marked tokens) × ((f : FileOf (Unit {0})) → ¬ IsFileOf tokens f)
+Refuses tokens Memory = Unit {0}
+
+-- no two files of good shape have the same tokens
+abbrev pub OneFile : Type 0
+OneFile = (a b : FileOf (Unit {0})) → IsGood a → IsGood b → toks a ≡ toks b → a ≡ b

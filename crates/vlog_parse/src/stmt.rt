@@ -1,0 +1,139 @@
+ghost use Rattle.std.specs.Prelude.{◌≡◌, ◌≤◌, ℕ, Some, [], map};
+ghost use Rattle.vlog_tree.specs.Tree.{StmtOf, IfStmt};
+ghost use Rattle.vlog_tree.specs.Plain.{plain_expr, plain_stmt, plain_body};
+ghost use Rattle.vlog_parse.specs.Marks.{Toks, all_marked};
+ghost use Rattle.vlog_parse.specs.Reader.{◌>>=◌ as bind};
+ghost use Rattle.vlog_parse.specs.StmtReader.{assign_op_at, assign_stmt_at, stmt_at, if_at, body_at, else_at, stmts_at};
+ghost use Rattle.vlog_parse.specs.Given.{Gives};
+
+use crate::expr::expr_of;
+use crate::front::{Parsed, after, expect};
+use crate::target::target_of;
+use crate::unread::Unread;
+use std::alloc::Global;
+use vlog_lex::Token;
+use vlog_tree::{AssignOp, Body, Expr, Stmt, Stmts, Terminal, begin};
+
+/// The sign of a procedural assignment.
+fn assign_op(tokens: &[Token]) -> Parsed<'_, AssignOp>
+    ensures { Gives (λ x. (x.0, all_marked x.1.now)) result (assign_op_at (all_marked tokens.now)) }
+{
+    if let Some((_, rest)) = after(Terminal::Equals, tokens) {
+        return Ok((AssignOp::Blocking, rest));
+    }
+    let (_, rest) = expect(Terminal::LessEquals, tokens)?;
+    Ok((AssignOp::Nonblocking, rest))
+}
+
+/// An assignment with its `;`.
+fn assign_stmt_of(alloc: Global, tokens: &[Token], fuel: usize) -> Parsed<'_, Stmt>
+    ensures { Gives (λ x. (plain_stmt x.0, all_marked x.1.now)) result (assign_stmt_at fuel (all_marked tokens.now)) }
+{
+    let (target, rest) = target_of(alloc, tokens, fuel)?;
+    let (op, rest) = assign_op(rest)?;
+    let (value, rest) = expr_of(alloc, rest, fuel)?;
+    let (_, rest) = expect(Terminal::Semicolon, rest)?;
+    Ok((Stmt::Assign { target, op, value }, rest))
+}
+
+/// A statement.
+#[cycle(stmts)]
+fn stmt_of(alloc: Global, tokens: &[Token], fuel: usize) -> Parsed<'_, Stmt>
+    ensures { Gives (λ x. (plain_stmt x.0, all_marked x.1.now)) result (stmt_at fuel (all_marked tokens.now)) }
+{
+    if fuel == 0 {
+        return Err(Unread::Fault);
+    }
+    if let Some((_, rest)) = after(Terminal::Begin, tokens) {
+        let (stmts, rest) = stmts_of(alloc, rest, fuel - 1)?;
+        return Ok((begin(stmts), rest));
+    }
+    if let Some((_, rest)) = after(Terminal::If, tokens) {
+        return if_of(alloc, rest, fuel - 1);
+    }
+    assign_stmt_of(alloc, tokens, fuel - 1)
+}
+
+/// What stands behind `if`.
+#[cycle(stmts)]
+fn if_of(alloc: Global, tokens: &[Token], fuel: usize) -> Parsed<'_, Stmt>
+    ensures { Gives (λ x. (plain_stmt x.0, all_marked x.1.now)) result (if_at fuel (all_marked tokens.now)) }
+{
+    if fuel == 0 {
+        return Err(Unread::Fault);
+    }
+    let (_, rest) = expect(Terminal::ParenOpen, tokens)?;
+    let (condition, rest) = expr_of(alloc, rest, fuel - 1)?;
+    let (_, rest) = expect(Terminal::ParenClose, rest)?;
+    let (then_body, rest) = body_of(alloc, rest, fuel - 1)?;
+    else_of(alloc, condition, then_body, rest, fuel - 1)
+}
+
+/// The whole `if`, where `else` and a body may follow its first body.
+#[cycle(stmts)]
+fn else_of(
+    alloc: Global,
+    condition: Expr,
+    then_body: Body,
+    tokens: &[Token],
+    fuel: usize,
+) -> Parsed<'_, Stmt>
+    ensures { Gives {Y = StmtOf ℕ × Toks ℕ} (λ x. (plain_stmt x.0, all_marked x.1.now)) result (bind (else_at fuel (all_marked tokens.now)) (λ x. Some (IfStmt (plain_expr condition) (plain_body then_body) x.0, x.1))) }
+{
+    if fuel == 0 {
+        return Err(Unread::Fault);
+    }
+    let Some((_, rest)) = after(Terminal::Else, tokens) else {
+        let stmt = Stmt::If {
+            condition,
+            then_body,
+            else_body: None,
+        };
+        return Ok((stmt, tokens));
+    };
+    let (body, rest) = body_of(alloc, rest, fuel - 1)?;
+    let stmt = Stmt::If {
+        condition,
+        then_body,
+        else_body: Some(body),
+    };
+    Ok((stmt, rest))
+}
+
+/// A statement, or `;` alone.
+#[cycle(stmts)]
+pub fn body_of(alloc: Global, tokens: &[Token], fuel: usize) -> Parsed<'_, Body>
+    ensures { Gives (λ x. (plain_body x.0, all_marked x.1.now)) result (body_at fuel (all_marked tokens.now)) }
+{
+    if fuel == 0 {
+        return Err(Unread::Fault);
+    }
+    if let Some((_, rest)) = after(Terminal::Semicolon, tokens) {
+        return Ok((Body::Empty, rest));
+    }
+    let (stmt, rest) = stmt_of(alloc, tokens, fuel - 1)?;
+    Ok((Body::Stmt(Box::new(alloc, stmt)?), rest))
+}
+
+/// The statements up to `end`, and what stands behind it.
+#[cycle(stmts)]
+#[tactic(auto, using(crate::proofs::Maps::stmts_snoc))]
+fn stmts_of(alloc: Global, tokens: &[Token], fuel: usize) -> Parsed<'_, Stmts>
+    ensures { Gives (λ x. (map plain_stmt x.0, all_marked x.1.now)) result (stmts_at fuel [] (all_marked tokens.now)) }
+{
+    let mut stmts = Stmts::new(alloc);
+    let mut rest = tokens;
+    let mut left = fuel;
+    while left > 0 {
+        left -= 1;
+        match after(Terminal::End, rest) {
+            Some((_, behind)) => return Ok((stmts, behind)),
+            None => {
+                let (stmt, behind) = stmt_of(alloc, rest, left)?;
+                stmts.push(stmt)?;
+                rest = behind;
+            }
+        }
+    }
+    Err(Unread::Fault)
+}
