@@ -3,21 +3,15 @@ use Rattle.std.specs.Prelude.{◌≡◌, ℕ, List}
 use Rattle.vlog_lex.specs.declared.token.Token.{Token}
 use Rattle.vlog_lex.specs.Reading.{HasTokens, IsStuck}
 use Rattle.vlog_tree.specs.Tree.{FileOf}
-use Rattle.vlog_tree.specs.Spelling.{toks}
-use Rattle.vlog_tree.specs.Shape.{IsGood}
 use Rattle.vlog_parse.specs.Marks.{all_marked}
-use Rattle.vlog_parse.specs.Bare.{without_lines}
 use Rattle.vlog_parse.specs.Depth.{IsDeep, IsShallow}
+use Rattle.vlog_parse.specs.Parsing.{IsFileOf}
 use Rattle.vidi.specs.declared.status.Reason.{Reason}
 use Rattle.vidi.specs.declared.status.Reason.TheVariants as reasons
 
 -- the longest design text, in bytes
 abbrev pub text_limit : ℕ
 text_limit = 4194304
-
--- a file of good shape that these tokens spell
-abbrev pub IsFileOf : List Token → FileOf (Unit {0}) → Type 0
-IsFileOf tokens f = IsGood f × (toks f ≡ without_lines tokens)
 
 -- the text spells the file f, and none of the three limits is passed
 abbrev pub Spells : List ℕ → FileOf (Unit {0}) → Type 0

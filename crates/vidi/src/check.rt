@@ -2,7 +2,7 @@ ghost use Rattle.std.specs.Prelude.{◌≡◌, ◌≤◌, ◌+◌, ◌*◌, ◌+
 ghost use Rattle.vidi_io.specs.Cause.{Rose};
 ghost use Rattle.vidi_io.specs.Shelf.{Later};
 ghost use Rattle.vlog_tree.specs.Plain.{plain};
-ghost use Rattle.vlog_parse.specs.Bare.{bare_file};
+ghost use Rattle.vlog_tree.specs.Lines.{bare};
 ghost use Rattle.vidi.specs.Answer.{Checks};
 ghost use Rattle.vidi.specs.Design.{text_limit, Spells};
 ghost use Rattle.vidi.specs.Refusal.{IsRefused};
@@ -47,7 +47,7 @@ pub fn check<S: Shelf>(alloc: Global, design: &str, shelf: &mut S) -> Result<Ans
 /// The tree of a design text.
 fn file_of(alloc: Global, text: &[u8]) -> Result<File, Refusal>
     requires { length text.now ≤ text_limit }
-    ensures { MatchResult result (λ f. Spells text.now (bare_file (plain f))) (λ r. IsRefused text.now r) }
+    ensures { MatchResult result (λ f. Spells text.now (bare (plain f))) (λ r. IsRefused text.now r) }
 {
     let tokens = match lex(alloc, text) {
         Ok(tokens) => tokens,
@@ -63,7 +63,7 @@ fn file_of(alloc: Global, text: &[u8]) -> Result<File, Refusal>
 }
 
 fn checked(alloc: Global, file: &File) -> Result<Answer, Memory>
-    ensures { IfOk result (λ a. (a.status ≡ Status.Done) × (a.text ≡ said.check_text (bare_file (plain file.now)))) }
+    ensures { IfOk result (λ a. (a.status ≡ Status.Done) × (a.text ≡ said.check_text (bare (plain file.now)))) }
 {
     let mut text = Vec::new(alloc);
     put(&mut text, b"modules ")?;
@@ -79,7 +79,7 @@ fn checked(alloc: Global, file: &File) -> Result<Answer, Memory>
 
 /// The number of items of all modules.
 fn items(file: &File) -> u128
-    ensures { result ≡ said.items (bare_file (plain file.now)) }
+    ensures { result ≡ said.items (bare (plain file.now)) }
 {
     let mut items: u128 = 0;
     for module in file.modules.as_slice() {
