@@ -3,11 +3,11 @@ use Rattle.std.proofs.Common.{◌≡◌, ℕ, ◌<◌, ◌≤◌, ◌⊎◌, Lis
 use Rattle.std.specs.Prelude.{IsSomeAnd}
 use Rattle.std.specs.FinMap.{get}
 use Rattle.vlog_lex.specs.declared.token.Token.{Token}
-use Rattle.vlog_lex.specs.Reading.{HasTokens, IsStuck, OneReading, ReadOrStuck}
+use Rattle.vlog_lex.specs.Reading.{OneReading, ReadOrStuck}
 use Rattle.vlog_tree.specs.Tree.{FileOf}
 use Rattle.vlog_parse.specs.Marks.{all_marked}
 use Rattle.vlog_parse.specs.Bare.{without_lines}
-use Rattle.vlog_parse.specs.Depth.{IsDeep, IsShallow, OneDepth}
+use Rattle.vlog_parse.specs.Depth.{IsDeep, OneDepth}
 use Rattle.vlog_parse.specs.Parsing.{IsFileOf, OneFile}
 use Rattle.vidi_io.specs.Shelf.{Files}
 use Rattle.vidi.specs.declared.status.Word.TheVariants as words
@@ -17,7 +17,7 @@ use Rattle.vidi.specs.declared.status.Status.{Status}
 use Rattle.vidi.specs.declared.status.Status.TheVariants.{Done, Usage, ReadFault, WriteFault, Refused, Memory}
 use Rattle.vidi.specs.Design.{text_limit, Spells, HasReason}
 use Rattle.vidi.specs.Said.{check_text}
-use Rattle.vidi.specs.Answer.{Told, Absent, RefusesDesign, Checks}
+use Rattle.vidi.specs.Answer.{Absent, RefusesDesign, Checks}
 use Rattle.vidi.proofs.Owed.{Owed, Apart, Same, one_owed}
 use Rattle.vidi.proofs.Told.{both, also, there}
 

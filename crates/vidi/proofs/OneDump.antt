@@ -1,6 +1,5 @@
 -- Of a shelf that tells its files, with no failed read, `dump` has one answer.
-use Rattle.std.proofs.Common.{◌≡◌, ℕ, ◌<◌, ◌≤◌, ◌⊎◌, List, Some, None, length, sym, ap, subst, ◌∙◌, arith}
-use Rattle.std.specs.Prelude.{IsSomeAnd}
+use Rattle.std.proofs.Common.{◌≡◌, ℕ, ◌<◌, ◌≤◌, ◌⊎◌, List, Some, length, sym, ap, subst, ◌∙◌, arith}
 use Rattle.std.specs.FinMap.{get}
 use Rattle.trace_model.specs.declared.trace.Trace.{Trace}
 use Rattle.trace_code.specs.Encoding.{Encodes}
@@ -12,7 +11,7 @@ use Rattle.vidi.specs.declared.status.Reason.TheVariants.{TooLong, Word, Deep, I
 use Rattle.vidi.specs.declared.status.Status.{Status}
 use Rattle.vidi.specs.declared.status.Status.TheVariants.{Done, Usage, ReadFault, WriteFault, Refused, Memory}
 use Rattle.vidi.specs.Said.{dump_text}
-use Rattle.vidi.specs.Answer.{Told, Absent, RefusesTrace, Dumps, trace_limit}
+use Rattle.vidi.specs.Answer.{Absent, RefusesTrace, Dumps, trace_limit}
 use Rattle.vidi.proofs.Owed.{Owed, Apart, Same, one_owed}
 use Rattle.vidi.proofs.Told.{both, there}
 

@@ -27,7 +27,7 @@ endmodule
 ";
 
 const FLICK: &str =
-    "module flick(input clk, output b_v, input b_r); reg t; assign b_v = t; always @(posedge clk) t <= ~t; endmodule";
+    "module flick(input clk, output b_v, input b_r); reg t; assign b_v = t; always @(posedge clk) t <= ~t; endmodule\n";
 
 const LOOP2: &str = "module loop2(input clk, output x, output y);
 assign x = y;
