@@ -3,7 +3,7 @@
 
     make_design.py BYTES
 
-Each module has a clock, some ports, wires, registers, assignments and clocked blocks, about two thousand bytes in all.
+Each module has a clock, some ports, wires, registers, assignments and clocked blocks, about 1,800 bytes in all.
 The numbers come from a small generator with a fixed seed, so the same word always gives the same bytes. The text is the
 longest list of whole modules with at most BYTES bytes.
 """

@@ -59,6 +59,7 @@ Checks design files ReadFailed (Refused word reason) text =
     (word ≡ words.Design) × RefusesDesign design files reason × (text ≡ reason_line word reason)
 Checks design files ReadFailed status text = ⊥
 
+-- what a command owes
 abbrev pub Does : Command → Option Files → (List ℕ → Type 0) → Status → List ℕ → Type 0
 Does (Dump trace) = Dumps trace
 Does (Check design top) = Checks design
