@@ -1,6 +1,11 @@
 pub mod WordLists
 pub mod Saying
+pub mod Told
+pub mod Owed
+pub mod OneDump
+pub mod OneCheck
 pub mod OneAnswer
+pub mod Checking
 pub mod Lines
 pub mod Clocks
 pub mod Packets

@@ -4,11 +4,12 @@ use Rattle.std.specs.Io.KnownBytes.{append_known}
 use Rattle.vidi_io.specs.Shelf.{Files}
 use Rattle.vidi.specs.declared.status.Status.{Status}
 use Rattle.vidi.specs.declared.status.Status.TheVariants.{Done, Usage, ReadFault, WriteFault, Refused, Memory}
-use Rattle.vidi.specs.Command.{Command, Dump}
-use Rattle.vidi.specs.Answer.{Dumps, Does, Earns, Answers, Says}
+use Rattle.vidi.specs.Command.{Command, Dump, Check}
+use Rattle.vidi.specs.Answer.{Dumps, Checks, Does, Earns, Answers, Says}
 
 not_writing : (words : List (List ℕ)) (files : Option Files) (F : List ℕ → Type 0) (text : List ℕ) → Earns words files F WriteFault text → ⊥
 not_writing words files F text (Dump trace, given, none) = none
+not_writing words files F text (Check design top, given, none) = none
 
 answered : (E : Status → List ℕ → Type 0) (W : Type 0) (old new : Option (List ℕ)) (status : Status) (text : List ℕ)
     → E status text → status ≢ WriteFault → new ≡ append_known old text → Answers E W old new status
@@ -37,9 +38,20 @@ quiet_dump trace files F WriteFault text quiet d = d
 quiet_dump trace files F (Refused word reason) text quiet d = d
 quiet_dump trace files F Memory text quiet d = d
 
+quiet_check : (design : List ℕ) (files : Option Files) (F : List ℕ → Type 0) (status : Status) (text : List ℕ) → ((name : List ℕ) → ¬ F name)
+    → Checks design files F status text → Checks design files (λ _. ⊥) status text
+quiet_check design files F Done text quiet d = d
+quiet_check design files F Usage text quiet d = d
+quiet_check design files F (ReadFault word) text quiet (same, inl absent, said) = (same, inl absent, said)
+quiet_check design files F (ReadFault word) text quiet (same, inr failed, said) = absurd (quiet design failed)
+quiet_check design files F WriteFault text quiet d = d
+quiet_check design files F (Refused word reason) text quiet d = d
+quiet_check design files F Memory text quiet d = d
+
 quiet_does : (c : Command) (files : Option Files) (F : List ℕ → Type 0) (status : Status) (text : List ℕ) → ((name : List ℕ) → ¬ F name)
     → Does c files F status text → Does c files (λ _. ⊥) status text
 quiet_does (Dump trace) = quiet_dump trace
+quiet_does (Check design top) = quiet_check design
 
 quiet_earns : (words : List (List ℕ)) (files : Option Files) (F : List ℕ → Type 0) (status : Status) (text : List ℕ) → ((name : List ℕ) → ¬ F name)
     → Earns words files F status text → Earns words files (λ _. ⊥) status text

@@ -6,13 +6,15 @@ use Rattle.trace_model.specs.declared.trace.Trace.{Trace}
 use Rattle.trace_code.specs.Encoding.{Encodes}
 use Rattle.vidi_io.specs.Shelf.{Files}
 use Rattle.vidi_io.specs.Sink.{AppendsSome}
+use Rattle.vlog_tree.specs.Tree.{FileOf}
 use Rattle.vidi.specs.declared.status.Word.TheVariants as words
 use Rattle.vidi.specs.declared.status.Reason.{Reason}
-use Rattle.vidi.specs.declared.status.Reason.TheVariants.{TooLong, BadTrace}
+use Rattle.vidi.specs.declared.status.Reason.TheVariants as reasons
 use Rattle.vidi.specs.declared.status.Status.{Status}
 use Rattle.vidi.specs.declared.status.Status.TheVariants.{Done, Usage, ReadFault, WriteFault, Refused, Memory}
-use Rattle.vidi.specs.Command.{Command, Dump, IsGiven}
-use Rattle.vidi.specs.Said.{dump_text, usage_line, memory_line, read_fault_line, reason_line}
+use Rattle.vidi.specs.Command.{Command, Dump, Check, IsGiven}
+use Rattle.vidi.specs.Design.{text_limit, Spells, HasReason}
+use Rattle.vidi.specs.Said.{dump_text, check_text, usage_line, memory_line, read_fault_line, reason_line}
 
 -- where the shelf tells its files: the file of this name is there, and P holds of its bytes
 abbrev pub Told : Option Files → List ℕ → (List ℕ → Type 0) → Type 0
@@ -28,8 +30,9 @@ trace_limit = 67108864
 
 -- the reasons that are no fault of reading, in the order in which they are tried
 abbrev pub RefusesTrace : List ℕ → Option Files → Reason → Type 0
-RefusesTrace trace files (TooLong limit) = (limit ≡ trace_limit) × Told files trace (λ file. limit < length file)
-RefusesTrace trace files (BadTrace at) = (at ≡ 0) × Told files trace (λ file. (length file ≤ trace_limit) × ((t : Trace) → ¬ Encodes t file))
+RefusesTrace trace files (reasons.TooLong limit) = (limit ≡ trace_limit) × Told files trace (λ file. limit < length file)
+RefusesTrace trace files (reasons.BadTrace at) = (at ≡ 0) × Told files trace (λ file. (length file ≤ trace_limit) × ((t : Trace) → ¬ Encodes t file))
+RefusesTrace trace files _ = ⊥
 
 -- `dump TRACE`: the answer and its text, where ReadFailed says of which names a read has failed
 abbrev pub Dumps : List ℕ → Option Files → (List ℕ → Type 0) → Status → List ℕ → Type 0
@@ -41,8 +44,25 @@ Dumps trace files ReadFailed (Refused word reason) text =
     (word ≡ words.Trace) × RefusesTrace trace files reason × (text ≡ reason_line word reason)
 Dumps trace files ReadFailed status text = ⊥
 
+-- the reasons for which a design text is refused: its length first
+abbrev pub RefusesDesign : List ℕ → Option Files → Reason → Type 0
+RefusesDesign design files (reasons.TooLong limit) = (limit ≡ text_limit) × Told files design (λ file. limit < length file)
+RefusesDesign design files reason = Told files design (λ file. (length file ≤ text_limit) × HasReason file reason)
+
+-- `check DESIGN TOP`: the answer and its text, where ReadFailed says of which names a read has failed
+abbrev pub Checks : List ℕ → Option Files → (List ℕ → Type 0) → Status → List ℕ → Type 0
+Checks design files ReadFailed Done text =
+    (f : FileOf (Unit {0})) × (file : List ℕ) × Spells file f × (length file ≤ text_limit) × Told files design (λ told. told ≡ file) × (text ≡ check_text f)
+Checks design files ReadFailed (ReadFault word) text =
+    (word ≡ words.Design) × (Absent files design ⊎ ReadFailed design) × (text ≡ read_fault_line word)
+Checks design files ReadFailed (Refused word reason) text =
+    (word ≡ words.Design) × RefusesDesign design files reason × (text ≡ reason_line word reason)
+Checks design files ReadFailed status text = ⊥
+
+-- what a command owes
 abbrev pub Does : Command → Option Files → (List ℕ → Type 0) → Status → List ℕ → Type 0
 Does (Dump trace) = Dumps trace
+Does (Check design top) = Checks design
 
 -- An answer is earned by these words, with this text: Usage where they give no command, else what the command owes. Want of memory is free.
 abbrev pub Earns : List (List ℕ) → Option Files → (List ℕ → Type 0) → Status → List ℕ → Type 0

@@ -1,5 +1,7 @@
-pub mod Command
-pub mod Said
 pub mod Answer
-pub mod Unread
+pub mod Command
+pub mod Design
 pub mod Exit
+pub mod Refusal
+pub mod Said
+pub mod Unread

@@ -1,6 +1,6 @@
 -- *Said*: the printed texts (this project's profile). Every line ends with a newline, and numbers are decimal.
 use Rattle.std.specs.Prelude.{ℕ, List, [], ◌∷◌, ◌++◌, length, map, codes, decimal, if◌then◌else◌}
-use Rattle.std.specs.List.{flat_map, enumerate_from, range_with_len}
+use Rattle.std.specs.List.{flat_map, enumerate_from, range_with_len, sum_by}
 use Rattle.trace_model.specs.declared.channel.Channel.{Channel}
 use Rattle.trace_model.specs.declared.channel.Dir.{Dir}
 use Rattle.trace_model.specs.declared.channel.Dir.TheVariants.{Inward, Outward}
@@ -9,10 +9,11 @@ use Rattle.trace_model.specs.declared.trace.Trace.{Trace}
 use Rattle.trace_model.specs.Counting.{has}
 use Rattle.trace_model.specs.Packet.{content_of}
 use Rattle.trace_model.specs.Clock.{clock}
+use Rattle.vlog_tree.specs.Tree.{ModuleOf, FileOf}
 use Rattle.vidi.specs.declared.status.Word.{Word}
 use Rattle.vidi.specs.declared.status.Word.TheVariants as words
 use Rattle.vidi.specs.declared.status.Reason.{Reason}
-use Rattle.vidi.specs.declared.status.Reason.TheVariants.{TooLong, BadTrace}
+use Rattle.vidi.specs.declared.status.Reason.TheVariants as reasons
 
 abbrev pub newline : List ℕ
 newline = 10 ∷ []
@@ -63,7 +64,16 @@ packet_lines channels packets x = start_lines channels x.0 x.1 (clock_text (leng
 abbrev pub dump_text : Trace → List ℕ
 dump_text t = channel_lines 0 t.channels ++ (flat_map (packet_lines t.channels t.packets) (enumerate_from 0 t.packets) ++ packets_line (length t.packets))
 
+-- the items of all modules
+abbrev pub items : {A : Type 0} → FileOf A → ℕ
+items {A} f = sum_by (λ (m : ModuleOf A). length m.items) f.modules
+
+-- `modules N items N`: what `check` prints of a file
+abbrev pub check_text : {A : Type 0} → FileOf A → List ℕ
+check_text f = codes "modules " ++ (decimal (length f.modules) ++ (codes " items " ++ (decimal (items f) ++ newline)))
+
 abbrev pub word_text : Word → List ℕ
+word_text words.Design = codes "design"
 word_text words.Trace = codes "trace"
 
 abbrev pub usage_line : List ℕ
@@ -77,8 +87,11 @@ abbrev pub read_fault_line : Word → List ℕ
 read_fault_line word = codes "vidi: read fault " ++ (word_text word ++ newline)
 
 abbrev pub reason_text : Reason → List ℕ
-reason_text (TooLong limit) = codes "too long, limit " ++ decimal limit
-reason_text (BadTrace at) = codes "bad trace at " ++ decimal at
+reason_text (reasons.TooLong limit) = codes "too long, limit " ++ decimal limit
+reason_text (reasons.Word line) = codes "E1 word line " ++ decimal line
+reason_text (reasons.Deep line) = codes "E14 deep line " ++ decimal line
+reason_text (reasons.Item line) = codes "E2 item line " ++ decimal line
+reason_text (reasons.BadTrace at) = codes "bad trace at " ++ decimal at
 
 -- `vidi: refused W: ` and the reason
 abbrev pub reason_line : Word → Reason → List ℕ

@@ -7,6 +7,8 @@ use vidi_io::Words;
 #[derive(Clone, Copy)]
 pub enum Command<'a> {
     Dump { trace: &'a str },
+    /// `top` is the name of a module.
+    Check { design: &'a str, top: &'a str },
 }
 
 impl<'a> Command<'a> {
@@ -17,6 +19,10 @@ impl<'a> Command<'a> {
         match words.as_slice() {
             [name, trace] if name.as_str() == "dump" => Some(Command::Dump {
                 trace: trace.as_str(),
+            }),
+            [name, design, top] if name.as_str() == "check" => Some(Command::Check {
+                design: design.as_str(),
+                top: top.as_str(),
             }),
             _ => None,
         }

@@ -8,5 +8,9 @@ use trace_code::one_reading;
 pub fn one_answer()
     ensures { OneAnswer }
 {
-    one_reading()
+    one_reading();
+    vlog_lex::one_reading();
+    vlog_lex::read_or_stuck();
+    vlog_parse::one_file();
+    vlog_parse::one_depth()
 }

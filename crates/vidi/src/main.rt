@@ -3,7 +3,9 @@
 #![tactic(auto)]
 
 mod answer;
+mod check;
 mod command;
+mod dump;
 mod laws;
 mod reason_text;
 mod status;
@@ -20,6 +22,8 @@ use std::rt::Env;
 use vidi_bits::Memory;
 use vidi_io::{HostShelf, HostSink, Text, Words};
 
+#[cfg(test)]
+mod check_tests;
 #[cfg(test)]
 mod tests;
 

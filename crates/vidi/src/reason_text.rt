@@ -3,6 +3,7 @@ ghost use Rattle.vidi.specs.Said as said;
 
 use crate::status::{Reason, Word};
 use crate::text::{put, put_number};
+use itoa::Integer;
 use std::alloc::Global;
 use vidi_bits::{Bytes, Memory};
 
@@ -23,15 +24,20 @@ fn put_reason(text: &mut Vec<u8>, reason: &Reason) -> Result<(), Memory>
     ensures { OnOk result (text.new.items ≡ text.old.items ++ said.reason_text reason.now) }
 {
     match reason {
-        Reason::TooLong { limit } => {
-            put(text, b"too long, limit ")?;
-            put_number(text, *limit)
-        }
-        Reason::BadTrace { at } => {
-            put(text, b"bad trace at ")?;
-            put_number(text, *at)
-        }
+        Reason::TooLong { limit } => put_with(text, b"too long, limit ", *limit),
+        Reason::Word { line } => put_with(text, b"E1 word line ", *line),
+        Reason::Deep { line } => put_with(text, b"E14 deep line ", *line),
+        Reason::Item { line } => put_with(text, b"E2 item line ", *line),
+        Reason::BadTrace { at } => put_with(text, b"bad trace at ", *at),
     }
+}
+
+/// Adds a label, and a number in decimal.
+fn put_with<I: Integer>(text: &mut Vec<u8>, label: &[u8], number: I) -> Result<(), Memory>
+    ensures { OnOk result (text.new.items ≡ text.old.items ++ (label.now ++ I.text number)) }
+{
+    put(text, label)?;
+    put_number(text, number)
 }
 
 /// The line for a file that could not be read.
@@ -49,6 +55,7 @@ fn word_text(word: Word) -> &'static [u8]
     ensures { result.now ≡ said.word_text word }
 {
     match word {
+        Word::Design => b"design",
         Word::Trace => b"trace",
     }
 }

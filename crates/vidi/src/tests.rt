@@ -67,7 +67,7 @@ fn with_header(alloc: Global, body: &[u8]) -> Result<Vec<u8>, Failure> {
 }
 
 /// The words of a line.
-fn words_of(alloc: Global, line: &str) -> Result<Words, Failure> {
+pub fn words_of(alloc: Global, line: &str) -> Result<Words, Failure> {
     let mut words = Words::new(alloc);
     for text in line.split_whitespace() {
         words.push(Text::from_str(alloc, text)?)?;
@@ -76,7 +76,7 @@ fn words_of(alloc: Global, line: &str) -> Result<Words, Failure> {
 }
 
 /// A shelf that holds a file `t`, and whose fetch of this number fails.
-fn shelf_of(alloc: Global, file: &[u8], failing: u32) -> Result<MemShelf, Failure> {
+pub fn shelf_of(alloc: Global, file: &[u8], failing: u32) -> Result<MemShelf, Failure> {
     let mut fails = Fails::new(alloc);
     fails.push(Fail {
         call: FailCall::Fetch,
@@ -89,7 +89,7 @@ fn shelf_of(alloc: Global, file: &[u8], failing: u32) -> Result<MemShelf, Failur
 }
 
 /// A sink with room for any text here, whose push of this number fails.
-fn sink_of(alloc: Global, failing: u128) -> Result<MemSink, Failure> {
+pub fn sink_of(alloc: Global, failing: u128) -> Result<MemSink, Failure> {
     let mut fails = Numbers::new(alloc);
     fails.push(failing)?;
     let mut sink = MemSink::new(alloc, fails);
@@ -97,7 +97,24 @@ fn sink_of(alloc: Global, failing: u128) -> Result<MemSink, Failure> {
     Ok(sink)
 }
 
-/// Dumps a file `t` and compares the answer, the whole text and the file.
+/// Gives the words of a line with a file `t`, and compares the answer, the whole text and the file.
+pub fn expect(
+    rt: &impl Abort,
+    alloc: Global,
+    line: &str,
+    file: &[u8],
+    status: Status,
+    text: &str,
+) -> Result<(), Failure> {
+    let mut shelf = shelf_of(alloc, file, 0)?;
+    let mut out = sink_of(alloc, 0)?;
+    let words = words_of(alloc, line)?;
+    assert_eq!(rt; vidi(alloc, &words, &mut shelf, &mut out), status, "{text}");
+    assert_eq!(rt; out.bytes(), text.as_bytes());
+    assert_eq!(rt; shelf.file("t").ok_or("no file")?, file);
+    Ok(())
+}
+
 fn expect_dump(
     rt: &impl Abort,
     alloc: Global,
@@ -105,13 +122,7 @@ fn expect_dump(
     status: Status,
     text: &str,
 ) -> Result<(), Failure> {
-    let mut shelf = shelf_of(alloc, file, 0)?;
-    let mut out = sink_of(alloc, 0)?;
-    let words = words_of(alloc, "dump t")?;
-    assert_eq!(rt; vidi(alloc, &words, &mut shelf, &mut out), status);
-    assert_eq!(rt; out.bytes(), text.as_bytes());
-    assert_eq!(rt; shelf.file("t").ok_or("no file")?, file);
-    Ok(())
+    expect(rt, alloc, "dump t", file, status, text)
 }
 
 #[test]
@@ -156,6 +167,9 @@ fn other_words_are_usage(rt: HostRuntime) -> Result<(), Failure> {
         "",
         "dump",
         "dump t t",
+        "check",
+        "check t",
+        "check t m t",
         "run",
         "record d m s t",
         "replay d m t 0 o",

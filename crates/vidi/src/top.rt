@@ -1,10 +1,13 @@
-ghost use Rattle.std.specs.Prelude.{◌≡◌, ℕ, ◌≤◌, ◌⊎◌, List};
+ghost use Rattle.std.specs.Prelude.{◌≡◌, ℕ, ◌≤◌, ◌⊎◌, List, IfOk};
 ghost use Rattle.vidi_io.specs.Cause.{Rose};
 ghost use Rattle.vidi_io.specs.Shelf.{Later};
 ghost use Rattle.vidi_io.specs.Sink.{Frame};
 ghost use Rattle.vidi.specs.Answer.{Answers, Earns, Says};
 
-use crate::answer::answer_to;
+use crate::answer::{Answer, usage};
+use crate::check::check;
+use crate::command::Command;
+use crate::dump::dump;
 use crate::status::Status;
 use std::alloc::Global;
 use vidi_bits::Memory;
@@ -13,6 +16,8 @@ use vidi_io::{Failed, Shelf, Sink, Words};
 /// Does what the words ask for: reads and writes files of the shelf, and says its text to `out`.
 ///
 /// - `dump TRACE` prints a trace.
+/// - `check DESIGN TOP` reads a design text and prints how many modules and items it has; `top` isn't looked
+///   at.
 ///
 /// The clause `answers` has the cause of each answer: `Usage` where the words give no command, else
 /// what the command owes for the files that the shelf tells. Reads and writes that fail are answered
@@ -40,6 +45,19 @@ pub fn vidi<S: Shelf, O: Sink>(alloc: Global, words: &Words, shelf: &mut S, out:
     match answer_to(alloc, words, shelf) {
         Ok(answer) => say(out, answer.status, answer.text.as_slice()),
         Err(Memory) => say(out, Status::Memory, b"vidi: out of memory\n"),
+    }
+}
+
+/// What these words are answered, before anything is said.
+fn answer_to<S: Shelf>(alloc: Global, words: &Words, shelf: &mut S) -> Result<Answer, Memory>
+    ensures earned { IfOk result (λ a. Earns words.now (S.files shelf.old) (λ name. Rose (S.read_faults shelf.old name) (S.read_faults shelf.new name)) a.status a.text) }
+    ensures files { S.files shelf.new ≡ S.files shelf.old }
+    ensures counts { Later (S.read_faults shelf.old) (S.read_faults shelf.new) (S.write_faults shelf.old) (S.write_faults shelf.new) }
+{
+    match Command::of(words) {
+        Some(Command::Dump { trace }) => dump(alloc, trace, shelf),
+        Some(Command::Check { design, top: _ }) => check(alloc, design, shelf),
+        None => usage(alloc),
     }
 }
 

@@ -1,5 +1,8 @@
+use Rattle.vidi.proofs.OneCheck.{TextLaws}
 use Rattle.vidi.proofs.OneAnswer.{one_answer_lem}
 use Rattle.vidi.proofs.laws.one_answer.Goals as goal
 
 pub returns : goal.returns
-returns c = one_answer_lem c.one_reading.ensures
+returns c =
+    let texts : TextLaws = record { reading = c.one_reading-2.ensures; stuck = c.read_or_stuck.ensures; file = c.one_file.ensures; depth = c.one_depth.ensures } in
+    one_answer_lem c.one_reading.ensures texts

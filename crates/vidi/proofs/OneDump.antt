@@ -1,0 +1,94 @@
+-- Of a shelf that tells its files, with no failed read, `dump` has one answer.
+use Rattle.std.proofs.Common.{◌≡◌, ℕ, ◌<◌, ◌≤◌, ◌⊎◌, List, Some, length, sym, ap, subst, ◌∙◌, arith}
+use Rattle.std.specs.FinMap.{get}
+use Rattle.trace_model.specs.declared.trace.Trace.{Trace}
+use Rattle.trace_code.specs.Encoding.{Encodes}
+use Rattle.trace_code.specs.Decoding.{OneReading}
+use Rattle.vidi_io.specs.Shelf.{Files}
+use Rattle.vidi.specs.declared.status.Word.TheVariants as words
+use Rattle.vidi.specs.declared.status.Reason.{Reason}
+use Rattle.vidi.specs.declared.status.Reason.TheVariants.{TooLong, Word, Deep, Item, BadTrace}
+use Rattle.vidi.specs.declared.status.Status.{Status}
+use Rattle.vidi.specs.declared.status.Status.TheVariants.{Done, Usage, ReadFault, WriteFault, Refused, Memory}
+use Rattle.vidi.specs.Said.{dump_text}
+use Rattle.vidi.specs.Answer.{Absent, RefusesTrace, Dumps, trace_limit}
+use Rattle.vidi.proofs.Owed.{Owed, Apart, Same, one_owed}
+use Rattle.vidi.proofs.Told.{both, there}
+
+abbrev IsDone : List ℕ → Files → List ℕ → Type 0
+IsDone trace files text = Dumps trace (Some files) (λ _. ⊥) Done text
+
+abbrev Unread : List ℕ → Files → Type 0
+Unread trace files = Absent (Some files) trace ⊎ ⊥
+
+abbrev Refuses : List ℕ → Files → Reason → Type 0
+Refuses trace files = RefusesTrace trace (Some files)
+
+abbrev NoTrace : List ℕ → Type 0
+NoTrace file = (length file ≤ trace_limit) × ((t : Trace) → ¬ Encodes t file)
+
+one_text : OneReading → (trace : List ℕ) (files : Files) (x y : List ℕ) → IsDone trace files x → IsDone trace files y → x ≡ y
+one_text one trace files x y (t, file, coded, small, told, text) (u, file', coded', small', told', text') =
+    let f = both (get files trace) (λ file'. file' ≡ file) (λ f. f ≡ file') told told' in
+    let same = one file t u coded (subst (λ (f : List ℕ). Encodes u f) (sym f.2 ∙ f.1) coded') in
+    text ∙ ap dump_text same ∙ sym text'
+
+one_reason : (trace : List ℕ) (files : Files) (r s : Reason) → Refuses trace files r → Refuses trace files s → r ≡ s
+one_reason trace files (TooLong m) (TooLong n) (is, told) (is', told') = ap TooLong (is ∙ sym is')
+one_reason trace files (TooLong m) (BadTrace n) (is, told) (is', told') =
+    let f = both (get files trace) (λ file. m < length file) NoTrace told told' in
+    absurd (omega (arith, is, f.1, f.2.0))
+one_reason trace files (BadTrace m) (TooLong n) (is, told) (is', told') =
+    let f = both (get files trace) NoTrace (λ file. n < length file) told told' in
+    absurd (omega (arith, is', f.1.0, f.2))
+one_reason trace files (BadTrace m) (BadTrace n) (is, told) (is', told') = ap BadTrace (is ∙ sym is')
+one_reason trace files (Word l) s p q = absurd p
+one_reason trace files (Deep l) s p q = absurd p
+one_reason trace files (Item l) s p q = absurd p
+one_reason trace files r (Word l) p q = absurd q
+one_reason trace files r (Deep l) p q = absurd q
+one_reason trace files r (Item l) p q = absurd q
+
+done_is_accepted : (trace : List ℕ) (files : Files) (x : List ℕ) (r : Reason) → IsDone trace files x → Refuses trace files r → ⊥
+done_is_accepted trace files x (TooLong n) (t, file, coded, small, told, text) (is, long) =
+    let f = both (get files trace) (λ f. f ≡ file) (λ file. n < length file) told long in
+    let same : length f.0 ≡ length file = ap length f.1 in
+    let longer : n < length f.0 = f.2 in
+    omega (arith, same, longer, is, small)
+done_is_accepted trace files x (BadTrace n) (t, file, coded, small, told, text) (is, bad) =
+    let f = both (get files trace) (λ f. f ≡ file) NoTrace told bad in
+    f.2.1 t (subst (λ (f : List ℕ). Encodes t f) (sym f.1) coded)
+done_is_accepted trace files x (Word l) d p = p
+done_is_accepted trace files x (Deep l) d p = p
+done_is_accepted trace files x (Item l) d p = p
+
+done_is_read : (trace : List ℕ) (files : Files) (x : List ℕ) → IsDone trace files x → Unread trace files → ⊥
+done_is_read trace files x (t, file, coded, small, told, text) unread = there (get files trace) (λ f. f ≡ file) told unread
+
+refused_is_read : (trace : List ℕ) (files : Files) (r : Reason) → Refuses trace files r → Unread trace files → ⊥
+refused_is_read trace files (TooLong n) (is, told) unread = there (get files trace) (λ file. n < length file) told unread
+refused_is_read trace files (BadTrace n) (is, told) unread = there (get files trace) NoTrace told unread
+refused_is_read trace files (Word l) p unread = p
+refused_is_read trace files (Deep l) p unread = p
+refused_is_read trace files (Item l) p unread = p
+
+owed : (trace : List ℕ) (files : Files) (a : Status) (x : List ℕ) → Dumps trace (Some files) (λ _. ⊥) a x
+    → Owed words.Trace (IsDone trace files) (Unread trace files) (Refuses trace files) a x
+owed trace files Done x d = d
+owed trace files Usage x d = d
+owed trace files (ReadFault w) x d = d
+owed trace files WriteFault x d = d
+owed trace files (Refused w r) x d = d
+owed trace files Memory x d = d
+
+pub one_dump : OneReading → (trace : List ℕ) (files : Files) (a b : Status) (x y : List ℕ)
+    → Dumps trace (Some files) (λ _. ⊥) a x → Dumps trace (Some files) (λ _. ⊥) b y → Same a b x y
+one_dump one trace files a b x y d e =
+    let apart : Apart (IsDone trace files) (Unread trace files) (Refuses trace files) = record {
+      one_text = one_text one trace files;
+      done_is_read = done_is_read trace files;
+      done_is_accepted = done_is_accepted trace files;
+      refused_is_read = refused_is_read trace files;
+      one_reason = one_reason trace files;
+    } in
+    one_owed words.Trace (IsDone trace files) (Unread trace files) (Refuses trace files) apart a b x y (owed trace files a x d) (owed trace files b y e)

@@ -1,0 +1,45 @@
+//! The command `dump`.
+
+ghost use Rattle.std.specs.Prelude.{◌≡◌, IfOk};
+ghost use Rattle.vidi_io.specs.Cause.{Rose};
+ghost use Rattle.vidi_io.specs.Shelf.{Later};
+ghost use Rattle.vidi.specs.Answer.{Dumps};
+ghost use Rattle.vidi.specs.Said as said;
+
+use crate::answer::{Answer, refused, unread};
+use crate::status::{Reason, Status, Word};
+use crate::trace_text::dump_text;
+use std::alloc::Global;
+use trace_code::{CodeError, decode};
+use trace_model::Trace;
+use vidi_bits::Memory;
+use vidi_io::{Shelf, read_whole};
+
+/// The longest trace file, in bytes.
+const TRACE_LIMIT: u64 = 67_108_864;
+
+/// What `dump` is answered.
+pub fn dump<S: Shelf>(alloc: Global, trace: &str, shelf: &mut S) -> Result<Answer, Memory>
+    ensures earned { IfOk result (λ a. Dumps trace.now (S.files shelf.old) (λ name. Rose (S.read_faults shelf.old name) (S.read_faults shelf.new name)) a.status a.text) }
+    ensures files { S.files shelf.new ≡ S.files shelf.old }
+    ensures counts { Later (S.read_faults shelf.old) (S.read_faults shelf.new) (S.write_faults shelf.old) (S.write_faults shelf.new) }
+{
+    let bytes = match read_whole(alloc, shelf, trace, TRACE_LIMIT) {
+        Ok(bytes) => bytes,
+        Err(error) => return unread(alloc, Word::Trace, error),
+    };
+    match decode(alloc, bytes.as_slice()) {
+        Ok(trace) => shown(alloc, &trace),
+        Err(CodeError::BadTrace { at }) => refused(alloc, Word::Trace, Reason::BadTrace { at }),
+        Err(CodeError::Memory) => Err(Memory),
+    }
+}
+
+fn shown(alloc: Global, trace: &Trace) -> Result<Answer, Memory>
+    ensures { IfOk result (λ a. (a.status ≡ Status.Done) × (a.text ≡ said.dump_text trace.now)) }
+{
+    Ok(Answer {
+        status: Status::Done,
+        text: dump_text(alloc, trace)?,
+    })
+}
