@@ -8,7 +8,7 @@ ghost use Rattle.vlog_parse.specs.Given.{Gives};
 use crate::expr::expr_of;
 use crate::front::{Parsed, after, expect, name_of};
 use crate::listed::{Listed, more_of, some_of};
-use crate::stmt::body_of;
+use crate::stmt::{MOST_NESTED, body_of};
 use crate::target::target_of;
 use std::alloc::Global;
 use vlog_lex::Token;
@@ -193,7 +193,7 @@ fn always_of(alloc: Global, line: u32, tokens: &[Token], fuel: usize) -> Parsed<
     ensures { Gives (λ x. (plain_item x.0, all_marked x.1.now)) result (always_at fuel line (all_marked tokens.now)) }
 {
     let (event, rest) = event_of(alloc, tokens)?;
-    let (body, rest) = body_of(alloc, rest, fuel)?;
+    let (body, rest) = body_of(alloc, rest, fuel, MOST_NESTED)?;
     Ok((Item::Always(Always { line, event, body }), rest))
 }
 

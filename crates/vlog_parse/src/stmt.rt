@@ -14,6 +14,10 @@ use std::alloc::Global;
 use vlog_lex::Token;
 use vlog_tree::{AssignOp, Body, Expr, Stmt, Stmts, Terminal, begin};
 
+/// The statements within one another that the stack has room for. The limits of a design text allow more, of which
+/// want of memory is answered.
+pub const MOST_NESTED: u32 = 2_048;
+
 /// The sign of a procedural assignment.
 fn assign_op(tokens: &[Token]) -> Parsed<'_, AssignOp>
     ensures { Gives (λ x. (x.0, all_marked x.1.now)) result (assign_op_at (all_marked tokens.now)) }
@@ -36,27 +40,30 @@ fn assign_stmt_of(alloc: Global, tokens: &[Token], fuel: usize) -> Parsed<'_, St
     Ok((Stmt::Assign { target, op, value }, rest))
 }
 
-/// A statement.
+/// A statement, with at most so many statements within one another.
 #[cycle(stmts)]
-fn stmt_of(alloc: Global, tokens: &[Token], fuel: usize) -> Parsed<'_, Stmt>
+fn stmt_of(alloc: Global, tokens: &[Token], fuel: usize, nested: u32) -> Parsed<'_, Stmt>
     ensures { Gives (λ x. (plain_stmt x.0, all_marked x.1.now)) result (stmt_at fuel (all_marked tokens.now)) }
 {
     if fuel == 0 {
         return Err(Unread::Fault);
     }
+    if nested == 0 {
+        return Err(Unread::Memory);
+    }
     if let Some((_, rest)) = after(Terminal::Begin, tokens) {
-        let (stmts, rest) = stmts_of(alloc, rest, fuel - 1)?;
+        let (stmts, rest) = stmts_of(alloc, rest, fuel - 1, nested - 1)?;
         return Ok((begin(stmts), rest));
     }
     if let Some((_, rest)) = after(Terminal::If, tokens) {
-        return if_of(alloc, rest, fuel - 1);
+        return if_of(alloc, rest, fuel - 1, nested - 1);
     }
     assign_stmt_of(alloc, tokens, fuel - 1)
 }
 
 /// What stands behind `if`.
 #[cycle(stmts)]
-fn if_of(alloc: Global, tokens: &[Token], fuel: usize) -> Parsed<'_, Stmt>
+fn if_of(alloc: Global, tokens: &[Token], fuel: usize, nested: u32) -> Parsed<'_, Stmt>
     ensures { Gives (λ x. (plain_stmt x.0, all_marked x.1.now)) result (if_at fuel (all_marked tokens.now)) }
 {
     if fuel == 0 {
@@ -65,8 +72,8 @@ fn if_of(alloc: Global, tokens: &[Token], fuel: usize) -> Parsed<'_, Stmt>
     let (_, rest) = expect(Terminal::ParenOpen, tokens)?;
     let (condition, rest) = expr_of(alloc, rest, fuel - 1)?;
     let (_, rest) = expect(Terminal::ParenClose, rest)?;
-    let (then_body, rest) = body_of(alloc, rest, fuel - 1)?;
-    else_of(alloc, condition, then_body, rest, fuel - 1)
+    let (then_body, rest) = body_of(alloc, rest, fuel - 1, nested)?;
+    else_of(alloc, condition, then_body, rest, fuel - 1, nested)
 }
 
 /// The whole `if`, where `else` and a body may follow its first body.
@@ -77,6 +84,7 @@ fn else_of(
     then_body: Body,
     tokens: &[Token],
     fuel: usize,
+    nested: u32,
 ) -> Parsed<'_, Stmt>
     ensures { Gives {Y = StmtOf ℕ × Toks ℕ} (λ x. (plain_stmt x.0, all_marked x.1.now)) result (bind (else_at fuel (all_marked tokens.now)) (λ x. Some (IfStmt (plain_expr condition) (plain_body then_body) x.0, x.1))) }
 {
@@ -91,7 +99,7 @@ fn else_of(
         };
         return Ok((stmt, tokens));
     };
-    let (body, rest) = body_of(alloc, rest, fuel - 1)?;
+    let (body, rest) = body_of(alloc, rest, fuel - 1, nested)?;
     let stmt = Stmt::If {
         condition,
         then_body,
@@ -102,7 +110,7 @@ fn else_of(
 
 /// A statement, or `;` alone.
 #[cycle(stmts)]
-pub fn body_of(alloc: Global, tokens: &[Token], fuel: usize) -> Parsed<'_, Body>
+pub fn body_of(alloc: Global, tokens: &[Token], fuel: usize, nested: u32) -> Parsed<'_, Body>
     ensures { Gives (λ x. (plain_body x.0, all_marked x.1.now)) result (body_at fuel (all_marked tokens.now)) }
 {
     if fuel == 0 {
@@ -111,14 +119,14 @@ pub fn body_of(alloc: Global, tokens: &[Token], fuel: usize) -> Parsed<'_, Body>
     if let Some((_, rest)) = after(Terminal::Semicolon, tokens) {
         return Ok((Body::Empty, rest));
     }
-    let (stmt, rest) = stmt_of(alloc, tokens, fuel - 1)?;
+    let (stmt, rest) = stmt_of(alloc, tokens, fuel - 1, nested)?;
     Ok((Body::Stmt(Box::new(alloc, stmt)?), rest))
 }
 
 /// The statements up to `end`, and what stands behind it.
 #[cycle(stmts)]
 #[tactic(auto, using(crate::proofs::Maps::stmts_snoc))]
-fn stmts_of(alloc: Global, tokens: &[Token], fuel: usize) -> Parsed<'_, Stmts>
+fn stmts_of(alloc: Global, tokens: &[Token], fuel: usize, nested: u32) -> Parsed<'_, Stmts>
     ensures { Gives (λ x. (map plain_stmt x.0, all_marked x.1.now)) result (stmts_at fuel [] (all_marked tokens.now)) }
 {
     let mut stmts = Stmts::new(alloc);
@@ -129,7 +137,7 @@ fn stmts_of(alloc: Global, tokens: &[Token], fuel: usize) -> Parsed<'_, Stmts>
         match after(Terminal::End, rest) {
             Some((_, behind)) => return Ok((stmts, behind)),
             None => {
-                let (stmt, behind) = stmt_of(alloc, rest, left)?;
+                let (stmt, behind) = stmt_of(alloc, rest, left, nested)?;
                 stmts.push(stmt)?;
                 rest = behind;
             }

@@ -318,3 +318,34 @@ fn files_have_their_tokens(rt: HostRuntime) -> Result<(), Fail> {
     }
     Ok(())
 }
+
+// So many times a hundred `if`s within one another, of which each hundred ends with an empty body.
+fn nested(alloc: Global, hundreds: usize) -> Result<Vec<u8>, AllocError> {
+    let mut text = Vec::new(alloc);
+    put(&mut text, b"module m(); always @(posedge k) ")?;
+    for hundred in 0..hundreds {
+        if hundred > 0 {
+            put(&mut text, b"else ")?;
+        }
+        for _ in 0..100 {
+            put(&mut text, b"if (a) ")?;
+        }
+        put(&mut text, b"; ")?;
+    }
+    put(&mut text, b"endmodule")?;
+    Ok(text)
+}
+
+#[test]
+fn statements_within_one_another(rt: HostRuntime) -> Result<(), Fail> {
+    for (hundreds, fits) in [(20, true), (21, false), (100, false)] {
+        let text = nested(rt.alloc(), hundreds)?;
+        assert!(rt; text.len() < 100_000);
+        let tokens = lex(rt.alloc(), text.as_slice())?;
+        match parse(rt.alloc(), &tokens) {
+            Ok(_) => assert!(rt; fits, "{hundreds}"),
+            Err(error) => assert!(rt; !fits && error == ParseError::Memory, "{hundreds}"),
+        }
+    }
+    Ok(())
+}
