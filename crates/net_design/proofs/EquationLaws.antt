@@ -11,7 +11,7 @@ use Rattle.net_design.specs.declared.rhs.Rhs.{Rhs}
 use Rattle.net_design.specs.declared.act.Place.TheVariants.{Bits}
 use Rattle.net_design.specs.declared.act.Act.TheVariants.{Copy, Set}
 use Rattle.net_design.specs.declared.values.Values.{Values}
-use Rattle.net_design.specs.Number.{part_of, put_of}
+use Rattle.vlog_operators.specs.Number.{part_of, put_of}
 use Rattle.net_design.specs.Value.{read, value}
 use Rattle.net_design.specs.Updates.{run}
 

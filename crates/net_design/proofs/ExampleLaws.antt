@@ -11,7 +11,7 @@ use Rattle.net_design.specs.declared.design.Array.{Array}
 use Rattle.net_design.specs.declared.design.Driver.{Driver}
 use Rattle.net_design.specs.declared.design.Port.{Port}
 use Rattle.net_design.specs.declared.design.Design.{Design}
-use Rattle.net_design.specs.Number.{has, IsWidth}
+use Rattle.vlog_operators.specs.Number.{has, IsWidth}
 use Rattle.net_design.specs.Bits.{named, bits_of}
 use Rattle.net_design.specs.Settled.{net_width, held}
 use Rattle.net_design.specs.Lawful.{IsLawful, IsSpan, IsRoom, IsCode, IsDriver, IsClocked, IsBit, is_input}

@@ -14,7 +14,7 @@ use Rattle.net_design.specs.declared.values.Target.{Target}
 use Rattle.net_design.specs.declared.values.Target.TheVariants.{Net, Word as WordTarget}
 use Rattle.net_design.specs.declared.values.Update.{Update}
 use Rattle.net_design.specs.declared.values.Values.{Values}
-use Rattle.net_design.specs.Number.{put_of}
+use Rattle.vlog_operators.specs.Number.{put_of}
 use Rattle.net_design.specs.Value.{value}
 use Rattle.net_design.specs.Updates.{written_to, apply, place_updates, target_width, target_updates, seen, updates, guard_row, act_row, block_updates}
 use Rattle.net_design.specs.Bits.{place_writes, target_writes, writes, writes_guards, writes_row, block_writes}

@@ -8,7 +8,7 @@ use Rattle.net_design.specs.declared.act.Place.{Place}
 use Rattle.net_design.specs.declared.act.Place.TheVariants.{Bits as PlaceBits, BitsFrom, Word as PlaceWord, WordFrom}
 use Rattle.net_design.specs.declared.act.Mask.{Mask}
 use Rattle.net_design.specs.declared.act.Act.{Act, Copy, Set, Branch', Row_of-Act, end_of-Act, more_of-Act, Row_of-Guard, end_of-Guard, more_of-Guard}
-use Rattle.net_design.specs.Number.{has}
+use Rattle.vlog_operators.specs.Number.{has}
 use Rattle.net_design.specs.Bits.{BitSet, no_bits, either, bits_of, named, reads, place_reads, place_writes, place_adds, target_reads, target_writes, target_adds, Apart, writes, writes_guards, writes_row, adds, adds_guards, adds_row, open_reads, open_reads_guards, open_reads_row, block_writes, block_adds, block_open_reads, place_is_word, writes_words, guards_write_words, row_writes_words, block_writes_words}
 use Rattle.net_design.specs.Moved.{moved_span, moved_rhs, moved_place, moved_act, moved_guards, moved_row, moved_mask, moved_bits}
 

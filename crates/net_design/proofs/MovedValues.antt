@@ -14,8 +14,9 @@ use Rattle.net_design.specs.declared.values.Target.{Target}
 use Rattle.net_design.specs.declared.values.Target.TheVariants.{Net, Word as WordTarget}
 use Rattle.net_design.specs.declared.values.Update.{Update}
 use Rattle.net_design.specs.declared.values.Values.{Values}
-use Rattle.net_design.specs.Number.{part_of, put_of, repeated}
-use Rattle.net_design.specs.Value.{read, word_at, value, unary_number, binary_number}
+use Rattle.vlog_operators.specs.Number.{part_of, put_of, repeated}
+use Rattle.net_design.specs.Value.{read, word_at, value}
+use Rattle.vlog_operators.specs.Operators.{unary_number, binary_number}
 use Rattle.net_design.specs.Updates.{written_to, apply, update, part_updates, word_updates, place_updates, place_width, target_width, target_updates, seen, updates, guard_row, act_row, block_updates, run}
 use Rattle.net_design.specs.Moved.{moved_span, moved_room, moved_rhs, moved_place, moved_act, moved_guards, moved_row, from_first, moved_target, moved_update}
 

@@ -8,7 +8,7 @@ use Rattle.net_design.specs.declared.design.Driver.{Driver}
 use Rattle.net_design.specs.declared.design.Direction.TheVariants.{Input}
 use Rattle.net_design.specs.declared.design.Design.{Design}
 use Rattle.net_design.specs.declared.values.Values.{Values}
-use Rattle.net_design.specs.Number.{has}
+use Rattle.vlog_operators.specs.Number.{has}
 use Rattle.net_design.specs.Updates.{run}
 use Rattle.net_design.specs.Settled.{IsSettled, FitNets, pins_of, held}
 

@@ -14,7 +14,7 @@ use Rattle.net_design.specs.declared.act.Act.TheVariants.{Set}
 use Rattle.net_design.specs.declared.values.Target.TheVariants.{Net}
 use Rattle.net_design.specs.declared.values.Update.{Update}
 use Rattle.net_design.specs.declared.values.Values.{Values}
-use Rattle.net_design.specs.Number.{put_of}
+use Rattle.vlog_operators.specs.Number.{put_of}
 use Rattle.net_design.specs.Value.{read, value}
 use Rattle.net_design.specs.Updates.{written_to, apply, update, target_width, target_updates, run, ArePlaced, HasParts}
 use Rattle.net_design.specs.Bits.{bits_of, Apart}

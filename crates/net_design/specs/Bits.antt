@@ -8,7 +8,7 @@ use Rattle.net_design.specs.declared.act.Place.{Place}
 use Rattle.net_design.specs.declared.act.Place.TheVariants.{Bits as PlaceBits, BitsFrom, Word as PlaceWord, WordFrom}
 use Rattle.net_design.specs.declared.act.Mask.{Mask}
 use Rattle.net_design.specs.declared.act.Act.{Act, Copy, Set, Branch', Row_of-Act, end_of-Act, more_of-Act, Row_of-Guard, end_of-Guard, more_of-Guard}
-use Rattle.net_design.specs.Number.{has}
+use Rattle.vlog_operators.specs.Number.{has}
 
 abbrev pub BitSet : Type 0
 BitSet = ℕ → ℕ → Bool

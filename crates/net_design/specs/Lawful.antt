@@ -15,7 +15,7 @@ use Rattle.net_design.specs.declared.design.Direction.TheVariants.{Input}
 use Rattle.net_design.specs.declared.design.Design.{Design}
 use Rattle.net_design.specs.declared.design.Counts.{Counts}
 use Rattle.net_design.specs.declared.values.Values.{Values}
-use Rattle.net_design.specs.Number.{IsWidth}
+use Rattle.vlog_operators.specs.Number.{IsWidth}
 use Rattle.net_design.specs.Sized.{IsBlock}
 use Rattle.net_design.specs.Bits.{named, no_bits, Apart, block_writes, block_adds, block_open_reads, block_writes_words}
 use Rattle.net_design.specs.Settled.{net_width, held, word_count, same_direction, FitNets}

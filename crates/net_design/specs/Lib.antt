@@ -1,4 +1,3 @@
-pub mod Number
 pub mod Value
 pub mod Updates
 pub mod Sized

@@ -15,7 +15,7 @@ use Rattle.net_design.specs.declared.design.Direction.TheVariants.{Input, Output
 use Rattle.net_design.specs.declared.design.Design.{Design}
 use Rattle.net_design.specs.declared.values.Update.{Update}
 use Rattle.net_design.specs.declared.values.Values.{Values}
-use Rattle.net_design.specs.Number.{has}
+use Rattle.vlog_operators.specs.Number.{has}
 use Rattle.net_design.specs.Sized.{IsSizedBlock}
 use Rattle.net_design.specs.Bits.{BitSet}
 use Rattle.net_design.specs.Updates.{apply, block_updates, run}

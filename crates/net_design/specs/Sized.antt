@@ -9,7 +9,7 @@ use Rattle.net_design.specs.declared.act.Place.{Place}
 use Rattle.net_design.specs.declared.act.Place.TheVariants.{Bits as PlaceBits, BitsFrom, Word as PlaceWord, WordFrom}
 use Rattle.net_design.specs.declared.act.Guard.{Guard}
 use Rattle.net_design.specs.declared.act.Act.{Act, Copy, Set, Branch', Row_of-Act, end_of-Act, more_of-Act, Row_of-Guard, end_of-Guard, more_of-Guard}
-use Rattle.net_design.specs.Number.{IsWidth}
+use Rattle.vlog_operators.specs.Number.{IsWidth}
 use Rattle.net_design.specs.Updates.{target_width}
 
 module _ (P : Span → Type 0) (R : Room → ℕ → Type 0) where

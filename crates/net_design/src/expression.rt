@@ -1,14 +1,14 @@
 //! The number of an expression.
 
 ghost use Rattle.std.specs.Prelude.{◌≡◌, ◌+◌, ◌<◌, ◌≤◌, ◌^◌, MatchOption, slice_index};
-ghost use Rattle.net_design.specs.Number.{IsWidth};
+ghost use Rattle.vlog_operators.specs.Number.{IsWidth};
 ghost use Rattle.net_design.specs.Value.{value, word_at, read};
 ghost use Rattle.net_design.specs.Sized.{IsSizedRhs, IsCountable};
 
-use crate::operators::{binary, joined, selected, times, unary};
 use crate::rhs::{Rhs, Room, Span};
 use crate::values::Values;
 use vidi_bits::{Numbers, slice};
+use vlog_operators::{binary, joined, selected, times, unary};
 
 /// Number `i` of a list, 0 past its end.
 pub fn number_at(list: &Numbers, i: usize) -> u128

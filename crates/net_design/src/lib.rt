@@ -14,7 +14,6 @@ mod expression;
 mod laws;
 mod move_laws;
 mod moved;
-mod operators;
 mod reference;
 mod rhs;
 mod sized;
@@ -33,7 +32,7 @@ pub use move_laws::{
     moved_updates,
 };
 pub use reference::{initial_state, is_settled, next_state, output_pins};
-pub use rhs::{BinaryOp, Rhs, Room, Span, UnaryOp};
+pub use rhs::{Rhs, Room, Span};
 pub use sized::is_sized;
 pub use values::{Target, Update, Values};
 

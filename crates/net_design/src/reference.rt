@@ -5,7 +5,7 @@ ghost use Rattle.std.specs.Int.{bit_at};
 ghost use Rattle.net_design.specs.declared.design.Net.{Net};
 ghost use Rattle.net_design.specs.declared.design.Direction.TheVariants.{Input, Output};
 ghost use Rattle.net_design.specs.declared.design.Register.{Register};
-ghost use Rattle.net_design.specs.Number.{has};
+ghost use Rattle.vlog_operators.specs.Number.{has};
 ghost use Rattle.net_design.specs.Sized.{IsSizedBlock};
 ghost use Rattle.net_design.specs.Updates.{run};
 ghost use Rattle.net_design.specs.Settled.{IsSized, IsSettled, FitNets, net_width, same_direction, pins_of, held, next, initial, initial_number, word_count};

@@ -1,6 +1,7 @@
 //! Expressions: the right sides of assignments, and conditions and indexes.
 
 use std::boxed::Box;
+use vlog_operators::{BinaryOp, UnaryOp};
 
 /// `width` bits of a net, from bit `low` on.
 #[derive(Clone, Copy, Debug, PartialEq, Eq)]
@@ -15,68 +16,6 @@ pub struct Span {
 pub struct Room {
     pub first: usize,
     pub length: usize,
-}
-
-/// The operators of one operand, but for `+`, which changes nothing (IEEE 1364-2005, 5.1).
-#[derive(Clone, Copy, Debug, PartialEq, Eq)]
-pub enum UnaryOp {
-    /// `-`
-    Negate,
-    /// `~`
-    Complement,
-    /// `!`
-    LogicalNot,
-    /// `&`
-    ReduceAnd,
-    /// `~&`
-    ReduceNand,
-    /// `|`
-    ReduceOr,
-    /// `~|`
-    ReduceNor,
-    /// `^`
-    ReduceXor,
-    /// `~^` and `^~`
-    ReduceXnor,
-}
-
-/// The operators of two operands (IEEE 1364-2005, 5.1). All numbers are unsigned.
-#[derive(Clone, Copy, Debug, PartialEq, Eq)]
-pub enum BinaryOp {
-    /// `+`
-    Add,
-    /// `-`
-    Subtract,
-    /// `*`
-    Multiply,
-    /// `&`
-    And,
-    /// `|`
-    Or,
-    /// `^`
-    Xor,
-    /// `^~` and `~^`
-    Xnor,
-    /// `<<` and `<<<`
-    ShiftLeft,
-    /// `>>` and `>>>`
-    ShiftRight,
-    /// `<`
-    Less,
-    /// `<=`
-    LessEqual,
-    /// `>`
-    Greater,
-    /// `>=`
-    GreaterEqual,
-    /// `==`
-    Equal,
-    /// `!=`
-    NotEqual,
-    /// `&&`
-    LogicalAnd,
-    /// `||`
-    LogicalOr,
 }
 
 /// An expression, sized: each operator stands beside the width in bits at which it works.

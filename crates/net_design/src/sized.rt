@@ -3,7 +3,7 @@
 ghost use Rattle.std.specs.Prelude.{◌≡◌, ◌≤◌, ◌<◌, ◌↔◌, ◌&&◌, ◌^◌, IsTrue, All};
 ghost use Rattle.std.specs.List.{AllByRecursion};
 ghost use Rattle.net_design.specs.declared.act.Act.{Act};
-ghost use Rattle.net_design.specs.Number.{IsWidth};
+ghost use Rattle.vlog_operators.specs.Number.{IsWidth};
 ghost use Rattle.net_design.specs.Sized.{IsShort, IsCountable, IsRhs, IsPlace, IsAct, IsBlock, AreGuards, IsSizedBlock};
 ghost use Rattle.net_design.specs.Updates.{target_width};
 ghost use Rattle.net_design.specs.Settled.{IsSized};

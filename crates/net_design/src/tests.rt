@@ -1,7 +1,7 @@
 use crate::act::{Act, Code, Guard, Mask, Place};
 use crate::design::{Array, Design, Direction, Driver, Instance, Net, Port, Register};
 use crate::reference::{initial_state, is_settled, next_state, output_pins};
-use crate::rhs::{BinaryOp, Rhs, Room, Span, UnaryOp};
+use crate::rhs::{Rhs, Room, Span};
 use crate::sized::is_sized;
 use crate::values::Values;
 use std::alloc::Global;

@@ -1,7 +1,7 @@
 ghost use Rattle.std.specs.Prelude.{◌≡◌, ◌+◌, ◌-◌, ◌*◌, ◌/◌, ◌%◌, ◌^◌, ◌<◌, ◌≤◌};
 
-/// The number of `w` ones.
-fn ones(w: u32) -> u128
+/// The number of `w` ones, 1 to 128 of them.
+pub fn ones(w: u32) -> u128
     requires some { 0 < w }
     requires most { w ≤ 128 }
     ensures { result ≡ 2 ^ w - 1 }

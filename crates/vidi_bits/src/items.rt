@@ -29,6 +29,9 @@ impl<T, A: Allocator> Model for Items<T, A> {
 }
 
 impl<T, A: Allocator> Items<T, A> {
+    ghost use Rattle.std.specs.Borrow.{sem};
+    ghost use Rattle.vidi_bits.specs.Lends.{lends_items};
+
     /// The empty list, which grows by this allocator.
     pub fn new(alloc: A) -> Items<T, A>
         ensures { result ≡ [] }
@@ -79,6 +82,14 @@ impl<T, A: Allocator> Items<T, A> {
         ensures { result.now ≡ self.now }
     {
         self.items.as_slice()
+    }
+
+    /// The items as a slice, to be written: the list becomes what stands there when the borrow ends.
+    pub fn as_mut_slice(&mut self) -> &mut [T]
+        ensures* writes_back { sem 𝓛 (lends_items T.row A.row A.Allocator self.entry result) }
+        ensures value { result.now ≡ self.old }
+    {
+        self.items.as_mut_slice()
     }
 
     /// Takes the last item off, where there is one.

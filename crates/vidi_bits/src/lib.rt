@@ -10,7 +10,7 @@ mod items;
 mod memory;
 
 pub use arithmetic::{add_w, mul_w, shl_w, shr_w, sub_w};
-pub use bits::{join, put, slice, trim};
+pub use bits::{join, ones, put, slice, trim};
 pub use items::{Bytes, Items, Name, Numbers};
 pub use memory::Memory;
 

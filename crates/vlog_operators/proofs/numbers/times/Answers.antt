@@ -1,5 +1,5 @@
-use Rattle.net_design.proofs.NumberLemmas.{repeated_room, repeated_fits, repeated_next, rows_left}
-use Rattle.net_design.proofs.operators.times.Goals as goal
+use Rattle.vlog_operators.proofs.NumberLemmas.{repeated_room, repeated_fits, repeated_next, rows_left}
+use Rattle.vlog_operators.proofs.numbers.times.Goals as goal
 
 pub join-all-requires-clause-fits : goal.join-all-requires-clause-fits
 join-all-requires-clause-fits c =

@@ -1,19 +1,11 @@
-//! The operators on numbers.
+//! What operators make of numbers.
 
-ghost use Rattle.std.specs.Prelude.{◌≡◌, ◌+◌, ◌-◌, ◌*◌, ◌%◌, ◌^◌, ◌≤◌};
-ghost use Rattle.net_design.specs.Number.{IsWidth, complement, truth, repeated, part_of};
-ghost use Rattle.net_design.specs.Value.{unary_number, binary_number};
+ghost use Rattle.std.specs.Prelude.{◌≡◌, ◌+◌, ◌*◌, ◌%◌, ◌^◌, ◌≤◌};
+ghost use Rattle.vlog_operators.specs.Number.{IsWidth, complement, truth, repeated, part_of};
+ghost use Rattle.vlog_operators.specs.Operators.{unary_number, binary_number};
 
-use crate::rhs::{BinaryOp, UnaryOp};
-use vidi_bits::{add_w, join, mul_w, shl_w, shr_w, sub_w, trim};
-
-/// The number of `w` ones.
-fn ones(w: u32) -> u128
-    requires { IsWidth w }
-    ensures { result ≡ 2 ^ w - 1 }
-{
-    u128::MAX >> (128 - w)
-}
+use crate::operators::{BinaryOp, UnaryOp};
+use vidi_bits::{add_w, join, mul_w, ones, shl_w, shr_w, sub_w, trim};
 
 /// Each of the low `w` bits of `a` turned.
 fn turned(a: u128, w: u32) -> u128
