@@ -28,7 +28,11 @@ fn calls_answer_with_ample_memory(rt: HostRuntime) -> Result<(), Fail> {
     assert_eq!(rt; list.get(1), Some(&9));
     assert_eq!(rt; list.get(2), None);
     assert_eq!(rt; list.as_slice(), [5u128, 9].as_slice());
-    assert_eq!(rt; list.into_vec().as_slice(), [5u128, 9].as_slice());
+    for x in list.as_mut_slice().iter_mut() {
+        *x = 6;
+    }
+    assert_eq!(rt; list.as_slice(), [6u128, 6].as_slice());
+    assert_eq!(rt; list.into_vec().as_slice(), [6u128, 6].as_slice());
     Ok(())
 }
 
