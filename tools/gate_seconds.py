@@ -1,0 +1,88 @@
+"""Prints the processor seconds that `rt ci` takes for each crate: its proof, its tests, its edits.
+
+Usage: python3 tools/gate_seconds.py COMMAND WORD ..      for example: python3 tools/gate_seconds.py rt ci --anew
+
+It runs the command, reads /proc twice a second and keeps, for each process of the checker whose parent is none, the last time
+that was seen of it and of its children that ended. So the last half second of a process may be missing. Only processes below the
+command count. At the end it prints a table in Markdown; the lines of a crate are those of src/, specs/ and proofs/.
+"""
+
+import os
+import pathlib
+import subprocess
+import sys
+import time
+
+TICKS = os.sysconf("SC_CLK_TCK")
+
+
+def processes():
+    """Each process: its parent, its words and its seconds."""
+    found = {}
+    for entry in os.listdir("/proc"):
+        if not entry.isdigit():
+            continue
+        try:
+            stat = pathlib.Path("/proc", entry, "stat").read_text()
+            words = pathlib.Path("/proc", entry, "cmdline").read_bytes().decode(errors="replace").split("\0")
+        except OSError:
+            continue
+        fields = stat[stat.rindex(")") + 2 :].split()
+        found[int(entry)] = (int(fields[1]), words, sum(map(int, fields[11:15])) / TICKS)
+    return found
+
+
+def label(words):
+    """The crate that a checker's process works on, and why; None for another process."""
+    if not words[0].endswith("/rattle") or "--crate-name" not in words:
+        return None
+    crate = words[words.index("--crate-name") + 1]
+    text = " ".join(words)
+    if "must-fail" in text or "mustfail" in text or "edit" in text:
+        return crate, "edits"
+    return crate, "tests" if "--test" in words else "proof"
+
+
+def is_below(found, pid, root):
+    while pid in found and pid != root:
+        pid = found[pid][0]
+    return pid == root
+
+
+def lines_of(crate):
+    folder = pathlib.Path("crates", crate)
+    files = [f for f in folder.rglob("*") if f.suffix in (".rt", ".antt") and "out" not in f.parts]
+    return sum(len(f.read_text().splitlines()) for f in files)
+
+
+def main():
+    command = subprocess.Popen(sys.argv[1:])
+    seconds = {}
+    begin = time.time()
+    while command.poll() is None:
+        found = processes()
+        for pid, (parent, words, spent) in found.items():
+            named = label(words)
+            if named is None or (parent in found and label(found[parent][1]) is not None):
+                continue
+            if is_below(found, pid, command.pid):
+                seconds[pid, named] = spent
+        time.sleep(0.5)
+    table = {}
+    for (_, (crate, why)), spent in seconds.items():
+        row = table.setdefault(crate, {"proof": 0.0, "tests": 0.0, "edits": 0.0})
+        row[why] += spent
+    print("| Crate | lines | proof | tests | edits | all | minutes a 1,000 lines |")
+    print("|---|---|---|---|---|---|---|")
+    lines_all, all_all = 0, 0.0
+    for crate, row in sorted(table.items(), key=lambda x: -sum(x[1].values())):
+        lines, spent = lines_of(crate), sum(row.values())
+        lines_all, all_all = lines_all + lines, all_all + spent
+        rate = spent / 60 / max(lines, 1) * 1000
+        print(f"| {crate} | {lines} | {row['proof']:.0f} | {row['tests']:.0f} | {row['edits']:.0f} | {spent:.0f} | {rate:.1f} |")
+    print(f"| all | {lines_all} | | | | {all_all:.0f} | {all_all / 60 / max(lines_all, 1) * 1000:.1f} |")
+    print(f"{time.time() - begin:.0f} seconds by the clock")
+    sys.exit(command.returncode)
+
+
+main()
