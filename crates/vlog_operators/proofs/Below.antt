@@ -17,13 +17,13 @@ truth_below : (b : Bool) (w : ℕ) → IsWidth w → truth b < 2 ^ w
 truth_below true w h = omega (arith, above_one w h)
 truth_below false w h = omega (arith, above_one w h)
 
-rest_below : (a w : ℕ) → a % 2 ^ w < 2 ^ w
+pub rest_below : (a w : ℕ) → a % 2 ^ w < 2 ^ w
 rest_below a w = mod_below a (2 ^ w) (pow_pos w)
 
 complement_below : (a w : ℕ) → complement a w < 2 ^ w
 complement_below a w = let p : 0 < 2 ^ w = pow_pos w in omega arith
 
-quotient_below : (a b w : ℕ) → a % 2 ^ w / 2 ^ b < 2 ^ w
+pub quotient_below : (a b w : ℕ) → a % 2 ^ w / 2 ^ b < 2 ^ w
 quotient_below a b w = let r : a % 2 ^ w < 2 ^ w = rest_below a w in let p : 0 < 2 ^ b = pow_pos b in grind arith
 
 -- a truth value
@@ -31,11 +31,14 @@ pub truth_bit : (b : Bool) → truth b ≤ 1
 truth_bit true = omega arith
 truth_bit false = omega arith
 
-parity_below : (n w : ℕ) → IsWidth w → n % 2 < 2 ^ w
-parity_below n w h = omega (arith, above_one w h, mod_below n 2 (omega arith))
+pub parity_bit : (n : ℕ) → n % 2 ≤ 1
+parity_bit n = omega (arith, mod_below n 2 (omega arith))
 
-odd_below : (n w : ℕ) → IsWidth w → 1 - n % 2 < 2 ^ w
-odd_below n w h = omega (arith, above_one w h)
+pub odd_bit : (n : ℕ) → 1 - n % 2 ≤ 1
+odd_bit n = omega arith
+
+bit_below : (m w : ℕ) → IsWidth w → m ≤ 1 → m < 2 ^ w
+bit_below m w h l = omega (arith, above_one w h)
 
 pub unary_below : (op : UnaryOp) (a w : ℕ) → IsWidth w → a < 2 ^ w → unary_number op a w < 2 ^ w
 unary_below unary.Negate a w h l = rest_below (0 + (2 ^ w - a % 2 ^ w)) w
@@ -45,8 +48,8 @@ unary_below unary.ReduceAnd a w h l = truth_below (a == 2 ^ w - 1) w h
 unary_below unary.ReduceNand a w h l = truth_below (not (a == 2 ^ w - 1)) w h
 unary_below unary.ReduceOr a w h l = truth_below (not (a == 0)) w h
 unary_below unary.ReduceNor a w h l = truth_below (a == 0) w h
-unary_below unary.ReduceXor a w h l = parity_below (count_ones a) w h
-unary_below unary.ReduceXnor a w h l = odd_below (count_ones a) w h
+unary_below unary.ReduceXor a w h l = bit_below (count_ones a % 2) w h (parity_bit (count_ones a))
+unary_below unary.ReduceXnor a w h l = bit_below (1 - count_ones a % 2) w h (odd_bit (count_ones a))
 
 pub binary_below : (op : BinaryOp) (a b w : ℕ) → IsWidth w → a < 2 ^ w → b < 2 ^ w → binary_number op a b w < 2 ^ w
 binary_below binary.Add a b w h l m = rest_below (a + b) w
