@@ -26,6 +26,10 @@ difference a b w = (a + (2 ^ w - b % 2 ^ w)) % 2 ^ w
 abbrev pub complement : ℕ → ℕ → ℕ
 complement a w = 2 ^ w - 1 - a % 2 ^ w
 
+-- the low bits of two numbers, the high ones above the low ones
+abbrev pub side_by_side : ℕ → ℕ → ℕ → ℕ → ℕ
+side_by_side high low high_width low_width = high % 2 ^ high_width * 2 ^ low_width + low % 2 ^ low_width
+
 -- n times the w bits of x, side by side
 abbrev pub repeated : ℕ → ℕ → ℕ → ℕ
 repeated zero x w = 0

@@ -4,8 +4,10 @@
 //! `specs/Operators` the number of each operator.
 #![tactic(auto)]
 
+mod laws;
 mod numbers;
 mod operators;
 
+pub use laws::numbers_fit;
 pub use numbers::{binary, joined, selected, times, unary};
 pub use operators::{BinaryOp, UnaryOp};

@@ -1,7 +1,7 @@
 //! What operators make of numbers.
 
-ghost use Rattle.std.specs.Prelude.{◌≡◌, ◌+◌, ◌*◌, ◌%◌, ◌^◌, ◌≤◌};
-ghost use Rattle.vlog_operators.specs.Number.{IsWidth, complement, truth, repeated, part_of};
+ghost use Rattle.std.specs.Prelude.{◌≡◌, ◌+◌, ◌*◌, ◌≤◌};
+ghost use Rattle.vlog_operators.specs.Number.{IsWidth, complement, truth, repeated, part_of, side_by_side};
 ghost use Rattle.vlog_operators.specs.Operators.{unary_number, binary_number};
 
 use crate::operators::{BinaryOp, UnaryOp};
@@ -79,7 +79,7 @@ pub fn joined(high: u128, low: u128, high_width: u32, low_width: u32) -> u128
     requires high { IsWidth high_width }
     requires low { IsWidth low_width }
     requires both { high_width + low_width ≤ 128 }
-    ensures { result ≡ high % 2 ^ high_width * 2 ^ low_width + low % 2 ^ low_width }
+    ensures { result ≡ side_by_side high low high_width low_width }
 {
     join(trim(high, high_width), low, low_width)
 }

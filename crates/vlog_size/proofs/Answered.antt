@@ -1,25 +1,27 @@
--- The constant and the width that are answered.
-use Rattle.std.proofs.Common.{◌≡◌, ℕ, ◌+◌, ◌-◌, ◌*◌, ◌/◌, ◌^◌, Bool, true, false, ◌==◌, nat_le, min, if◌then◌else◌, Option, None, Some, is_none, Result, Ok, Err, IfOk, List, [], refl, ap, ◌∙◌, arith}
+-- The constant and the width of an expression without a fault.
+use Rattle.std.proofs.Common.{◌≡◌, ℕ, ◌+◌, ◌-◌, ◌*◌, ◌/◌, ◌^◌, ◌<◌, ◌≤◌, Bool, true, false, ◌==◌, ◌&&◌, nat_le, nat_lt, min, if◌then◌else◌}
+use Rattle.std.proofs.Common.{Option, None, Some, is_none, List, [], refl, ap, sym, ◌∙◌, subst, option_map, arith}
 use Rattle.vlog_tree.specs.declared.expr.NumberKind.{NumberKind}
 use Rattle.vlog_tree.specs.declared.expr.NumberKind.TheVariants.{Decimal, Based}
 use Rattle.vlog_tree.specs.declared.expr.BinaryOp.{BinaryOp}
 use Rattle.vlog_tree.specs.declared.expr.BinaryOp.TheVariants.{ShiftLeft, ShiftRight, Plus, Minus, Times}
-use Rattle.vlog_tree.specs.Tree.{ExprOf, UnaryExpr, BinaryExpr, ChoiceExpr, PrimOf, NumberPrim, RefPrim, ParenPrim, ConcatPrim, RefWith}
-use Rattle.vlog_size.specs.declared.error.SizeError.{SizeError}
-use Rattle.vlog_size.specs.declared.scope.Const.{Const}
-use Rattle.vlog_size.specs.declared.scope.Param.{Param}
-use Rattle.vlog_size.specs.declared.scope.Scope.{Scope}
+use Rattle.vlog_tree.specs.Tree.{ExprOf, UnaryExpr, BinaryExpr, ChoiceExpr, PrimOf, NumberPrim, RefPrim, ParenPrim, ConcatPrim, RefWith, TargetOf}
 use Rattle.vlog_size.specs.declared.names.Meaning.{Meaning}
 use Rattle.vlog_size.specs.declared.names.Meaning.TheVariants.{Parameter, Place, Undeclared}
-use Rattle.vlog_size.specs.Findings.{Tried}
 use Rattle.vlog_size.specs.Literal.{is_lawful, digits_from}
 use Rattle.vlog_size.specs.Operators.{in_range, whole_value}
-use Rattle.vlog_size.specs.Names.{meaning_of, is_lawful_const, are_lawful_params, is_lawful_scope, scope_of_params}
-use Rattle.vlog_size.specs.Size.{Sizes, sizes_of, sizes_of_prim, sizes_of_index, sizes_of_last, of_ref, number, faults, decimal_value, const_number, of_two, chosen_value, chosen_whole, constant_at, constant_of, Bracket}
-use Rattle.vlog_size.proofs.Lists.{nil_left, nil_right}
-use Rattle.vlog_size.proofs.Constants.{plain_whole}
+use Rattle.vlog_size.specs.Names.{Readable, fixed, meaning_of, is_lawful_const, are_lawful_params, is_lawful_readable}
+use Rattle.vlog_size.specs.Size.{Sizes, sizes_of, sizes_of_prim, sizes_of_index, sizes_of_last, sizes_of_target, of_ref, number, own, own_width, at_width}
+use Rattle.vlog_size.specs.Size.{is_sound, faults, decimal_value, const_number, of_two, chosen_value, chosen_whole, constant_at, constant_of, Bracket}
+use Rattle.vlog_size.specs.Limits.{TOP}
+use Rattle.vlog_size.specs.Facts.{ShowsNumber}
+use Rattle.vlog_size.specs.declared.facts.Numbered.{Numbered}
+use Rattle.vlog_size.specs.declared.scope.Const.{Const}
+use Rattle.vlog_size.specs.declared.scope.Const.TheVariants as const
+use Rattle.vlog_size.proofs.Lists.{nil_left, nil_right, left_of}
 use Rattle.vlog_size.proofs.Sized.{IsSized, number_there}
-use Rattle.vlog_size.proofs.Faultless.{expr_sized, expr_constant, params_lawful}
+use Rattle.vlog_size.proofs.Meanings.{constants_lawful}
+use Rattle.vlog_size.proofs.Faultless.{expr_sized, expr_constant, target_sized}
 
 -- ---- values in whole numbers are in range
 IsSmall : Option ℕ → Type 0
@@ -64,74 +66,137 @@ decimal_small Decimal text = range_small (digits_from 10 0 text)
 decimal_small Based text = none_small
 
 ref_small : (line : ℕ) (m : Meaning) (index : Option Sizes) (last : Bracket) → IsSmall (of_ref line m index last).whole
-ref_small line (Parameter c) index last = range_small (const_number c)
+ref_small line (Parameter c known) index last = branch_small known (in_range (const_number c)) None (range_small (const_number c)) none_small
 ref_small line (Place width picked limit) None last = none_small
 ref_small line (Place width picked limit) (Some i) last = none_small
 ref_small line Undeclared index last = none_small
 
 mutual
-  whole_small : (s : Scope) (e : ExprOf ℕ) → IsSmall (sizes_of s e).whole
+  whole_small : (s : Readable) (e : ExprOf ℕ) → IsSmall (sizes_of s e).whole
   whole_small s (UnaryExpr None prim) = prim_small s prim
   whole_small s (UnaryExpr (Some sign) prim) = none_small
   whole_small s (BinaryExpr a op b) = two_small op (sizes_of s a).whole (sizes_of s b).whole
   whole_small s (ChoiceExpr c a b) = choice_small (number (sizes_of s c)) (sizes_of s a).whole (sizes_of s b).whole (whole_small s a) (whole_small s b)
 
-  prim_small : (s : Scope) (p : PrimOf ℕ) → IsSmall (sizes_of_prim s p).whole
+  prim_small : (s : Readable) (p : PrimOf ℕ) → IsSmall (sizes_of_prim s p).whole
   prim_small s (NumberPrim n) = decimal_small n.kind n.text
   prim_small s (RefPrim (RefWith id index last)) = ref_small id.line (meaning_of s id.name) (sizes_of_index s index) (sizes_of_last s last)
   prim_small s (ParenPrim line e) = whole_small s e
   prim_small s (ConcatPrim line es) = none_small
 
 -- ---- the constant
--- it is lawful, and has the number
-abbrev IsConstant : Option ℕ → Const → Type 0
-IsConstant n c = (is_lawful_const c ≡ true) × (n ≡ Some (const_number c))
+-- the number of an expression that isn't plain is its value at its own width
+own_value : (b : Bool) (value : ℕ → Option ℕ) (w n : ℕ) → at_width value (if b then Some w else None) ≡ Some n → value w ≡ Some n
+own_value true value w n h = h
+own_value false value w n h = (cc)
 
-at_number : (p : Bool) (w : ℕ) (n : Option ℕ) → is_none n ≡ false → (p ≡ true → (m : ℕ) → n ≡ Some m → nat_le m 2147483647 ≡ true) → is_lawful w ≡ true → IsConstant n (constant_at p w n)
-at_number p w None h small l = (cc)
-at_number true w (Some n) h small l = (small refl n refl, refl)
-at_number false w (Some n) h small l = (l, refl)
+sized_number : (p s : Bool) (whole own : Option ℕ) (n : ℕ) → p ≡ false → (if p then whole else (if s then own else None)) ≡ Some n → own ≡ Some n
+sized_number true s whole own n p h = (cc)
+sized_number false true whole own n p h = h
+sized_number false false whole own n p h = (cc)
 
-plain_small : (e : Sizes) → IsSmall e.whole → e.plain ≡ true → (m : ℕ) → number e ≡ Some m → nat_le m 2147483647 ≡ true
+pub own_number : (e : Sizes) (n : ℕ) → e.plain ≡ false → number e ≡ Some n → e.value e.width ≡ Some n
+unfolding number own own_width
+own_number e n p h =
+    own_value (e.constant && is_lawful e.width) e.value e.width n
+    (sized_number e.plain (is_sound e) e.whole (own e) n p h)
+
+plain_number : (p s : Bool) (whole own : Option ℕ) (n : ℕ) → p ≡ true → (if p then whole else (if s then own else None)) ≡ Some n → whole ≡ Some n
+plain_number true s whole own n p h = h
+plain_number false s whole own n p h = (cc)
+
+pub whole_number : (e : Sizes) (n : ℕ) → e.plain ≡ true → number e ≡ Some n → e.whole ≡ Some n
+unfolding number
+whole_number e n p h = plain_number e.plain (is_sound e) e.whole (own e) n p h
+
+pub within : (w v : ℕ) → is_lawful w ≡ true → v ≡ min w TOP → v ≡ w
+within w v l h = grind arith
+
+pub narrow : (w : ℕ) → is_lawful w ≡ true → w < 2 ^ 32
+narrow w l = grind arith
+
+lawful_width : (w : ℕ) → is_lawful w ≡ true → w ≤ 128
+lawful_width w h = grind arith
+
+sized_lawful : (w n : ℕ) → is_lawful w ≡ true → n < 2 ^ w → (is_lawful w && nat_lt n (2 ^ w)) ≡ true
+sized_lawful w n h l = rw h (grind arith)
+
+const_at : (p : Bool) (w n : ℕ) → is_lawful w ≡ true → (p ≡ true → nat_le n 2147483647 ≡ true) → (p ≡ false → n < 2 ^ w) → is_lawful_const (constant_at p w n) ≡ true
+const_at true w n l small fits = small refl
+const_at false w n l small fits = sized_lawful w n l (fits refl)
+
+number_lawful : (e : Sizes) (n : ℕ) → IsSized e → IsSmall e.whole → number e ≡ Some n → is_lawful_const (constant_at e.plain e.width n) ≡ true
 unfolding IsSmall
-plain_small e small p m h = small m (plain_whole e m p h)
+number_lawful e n s small h =
+    const_at e.plain e.width n s.lawful
+    (λ (p : e.plain ≡ true). small n (whole_number e n p h))
+    (λ (p : e.plain ≡ false). s.fits e.width (omega arith) (lawful_width e.width s.lawful) n (own_number e n p h))
 
-constant_there : (e : Sizes) → IsSized e → IsSmall e.whole → is_none (number e) ≡ false → IsConstant (number e) (constant_of e)
-unfolding constant_of
-constant_there e s small there = at_number e.plain e.width (number e) there (plain_small e small) s.lawful
+-- a number, which makes a lawful constant
+abbrev pub HasConstant : Sizes → Option ℕ → Type 0
+HasConstant e None = ⊥
+HasConstant e (Some n) = is_lawful_const (constant_at e.plain e.width n) ≡ true
 
-of_faultless : (params : List Param) (e : ExprOf ℕ) → are_lawful_params params ≡ true → faults (sizes_of (scope_of_params params) e) ≡ []
-    → IsConstant (number (sizes_of (scope_of_params params) e)) (constant_of (sizes_of (scope_of_params params) e))
+has_constant : (e : Sizes) (o : Option ℕ) → IsSized e → IsSmall e.whole → number e ≡ o → is_none o ≡ false → HasConstant e o
+has_constant e None s small h there = (cc)
+has_constant e (Some n) s small h there = number_lawful e n s small h
+
+pub faultless_constant : (r : Readable) (e : ExprOf ℕ) → are_lawful_params r.constants ≡ true → faults (sizes_of (fixed r) e) ≡ []
+    → HasConstant (sizes_of (fixed r) e) (number (sizes_of (fixed r) e))
 unfolding faults
-of_faultless params e l h =
-    let s = scope_of_params params in
-    let found = sizes_of s e in
+faultless_constant r e l h =
+    let found = sizes_of (fixed r) e in
     let no_const : found.const_faults ≡ [] = nil_left found.const_faults found.width_faults h in
     let no_width : found.width_faults ≡ [] = nil_right found.const_faults found.width_faults h in
-    let sized : IsSized found = expr_sized s (params_lawful s l) e no_const no_width in
-    constant_there found sized (whole_small s e) (number_there found sized (expr_constant s e no_const) no_const no_width)
+    let sized : IsSized found = expr_sized (fixed r) (constants_lawful r l) e no_const no_width in
+    has_constant found (number found) sized (whole_small (fixed r) e) refl (number_there found sized (expr_constant r e no_const) no_const no_width)
 
-answered : (r : Result Const SizeError) (e : Sizes) → Tried r (faults e) → IfOk r (λ (c : Const). c ≡ constant_of e) → (faults e ≡ [] → IsConstant (number e) (constant_of e)) → IfOk r (λ (c : Const). IsConstant (number e) c)
-answered (Ok c) e told value there = rw value (there told)
-answered (Err f) e told value there = tt
+-- what the code answers of an expression with the number n
+pub record IsFound (f : Numbered) (e : Sizes) (n : ℕ) : Type 0 where
+  pub room : (if f.facts.plain then n else f.facts.width) < 2 ^ 32
+  pub same : constant_of e ≡ Some (constant_at f.facts.plain f.facts.width n)
+  pub lawful : is_lawful_const (constant_at f.facts.plain f.facts.width n) ≡ true
 
-pub constant_answered : (r : Result Const SizeError) (params : List Param) (e : ExprOf ℕ) → are_lawful_params params ≡ true → Tried r (faults (sizes_of (scope_of_params params) e))
-    → IfOk r (λ (c : Const). c ≡ constant_of (sizes_of (scope_of_params params) e))
-    → IfOk r (λ (c : Const). (is_lawful_const c ≡ true) × (number (sizes_of (scope_of_params params) e) ≡ Some (const_number c)))
-constant_answered r params e l told value = answered r (sizes_of (scope_of_params params) e) told value (of_faultless params e l)
+sized_width : (w v n : ℕ) → v ≡ min w TOP → (is_lawful w && nat_lt n (2 ^ w)) ≡ true → v ≡ w
+sized_width w v n h l = let lawful : is_lawful w ≡ true = left_of (is_lawful w) (nat_lt n (2 ^ w)) l in within w v lawful h
+
+same_constant : (p : Bool) (w v n : ℕ) → v ≡ min w TOP → is_lawful_const (constant_at p w n) ≡ true → constant_at p v n ≡ constant_at p w n
+same_constant true w v n h l = refl
+same_constant false w v n h l = ap (λ (u : ℕ). const.Sized u n) (sized_width w v n h l)
+
+room_for : (p : Bool) (w n : ℕ) → is_lawful_const (constant_at p w n) ≡ true → (if p then n else w) < 2 ^ 32
+room_for true w n l = grind arith
+room_for false w n l = let lawful : is_lawful w ≡ true = left_of (is_lawful w) (nat_lt n (2 ^ w)) l in grind arith
+
+pub found_constant : (f : Numbered) (e : Sizes) (n : ℕ) → ShowsNumber f e → HasConstant e (number e) → f.number ≡ Some n → IsFound f e n
+unfolding constant_of
+found_constant f e n s has h =
+    let there : number e ≡ Some n = sym s.number ∙ h in
+    let P : Option ℕ → Type 0 = λ o. HasConstant e o in
+    let own : is_lawful_const (constant_at e.plain e.width n) ≡ true = subst P there has in
+    let same : constant_at f.facts.plain f.facts.width n ≡ constant_at e.plain e.width n =
+    ap (λ (p : Bool). constant_at p f.facts.width n) s.facts.plain ∙ same_constant e.plain e.width f.facts.width n s.facts.width own in
+    let lawful : is_lawful_const (constant_at f.facts.plain f.facts.width n) ≡ true = ap is_lawful_const same ∙ own in
+    record {
+      room = room_for f.facts.plain f.facts.width n lawful;
+      same = ap (option_map (constant_at e.plain e.width)) there ∙ ap (λ (k : Const). Some k) (sym same);
+      lawful = lawful;
+    }
+
+pub no_constant : (f : Numbered) (e : Sizes) → ShowsNumber f e → HasConstant e (number e) → f.number ≡ None → ⊥
+no_constant f e s has h = let P : Option ℕ → Type 0 = λ o. HasConstant e o in subst P (sym s.number ∙ h) has
 
 -- ---- the width
-within : (w v : ℕ) → is_lawful w ≡ true → v ≡ min w 4294967295 → (v ≡ w) × (is_lawful v ≡ true)
-within w v l h = let same : v ≡ w = grind arith in (same, ap is_lawful same ∙ l)
-
-lawful_width : (s : Scope) (e : ExprOf ℕ) → is_lawful_scope s ≡ true → faults (sizes_of s e) ≡ [] → is_lawful (sizes_of s e).width ≡ true
+pub faultless_width : (r : Readable) (e : ExprOf ℕ) → is_lawful_readable r ≡ true → faults (sizes_of r e) ≡ [] → is_lawful (sizes_of r e).width ≡ true
 unfolding faults
-lawful_width s e l h =
-    let found = sizes_of s e in
-    let sized : IsSized found = expr_sized s l e (nil_left found.const_faults found.width_faults h) (nil_right found.const_faults found.width_faults h) in
+faultless_width r e l h =
+    let found = sizes_of r e in
+    let sized : IsSized found = expr_sized r l e (nil_left found.const_faults found.width_faults h) (nil_right found.const_faults found.width_faults h) in
     sized.lawful
 
-pub width_answered : (r : Result ℕ SizeError) (s : Scope) (e : ExprOf ℕ) → is_lawful_scope s ≡ true → Tried r (faults (sizes_of s e)) → IfOk r (λ (w : ℕ). w ≡ min (sizes_of s e).width 4294967295)
-    → IfOk r (λ (w : ℕ). (w ≡ (sizes_of s e).width) × (is_lawful w ≡ true))
-width_answered (Ok w) s e l told value = within (sizes_of s e).width w (lawful_width s e l told) value
-width_answered (Err f) s e l told value = tt
+pub faultless_target : (r : Readable) (t : TargetOf ℕ) → is_lawful_readable r ≡ true → faults (sizes_of_target r t) ≡ [] → is_lawful (sizes_of_target r t).width ≡ true
+unfolding faults
+faultless_target r t l h =
+    let found = sizes_of_target r t in
+    let sized : IsSized found = target_sized r l t (nil_left found.const_faults found.width_faults h) (nil_right found.const_faults found.width_faults h) in
+    sized.lawful

@@ -1,9 +1,12 @@
 pub mod Answered
-pub mod Constants
 pub mod Faultless
 pub mod Firsts
+pub mod Fits
 pub mod KindExamples
+pub mod Joins
 pub mod Lists
+pub mod Literals
+pub mod Meanings
 pub mod Numbers
 pub mod Parts
 pub mod Rests

@@ -41,5 +41,5 @@ so false b h k = (cc)
 pub larger_lawful : (a b : ℕ) → is_lawful a ≡ true → is_lawful b ≡ true → is_lawful (max a b) ≡ true
 larger_lawful a b h k = grind arith
 
-pub bounds_lawful : (x y whole : ℕ) → is_lawful whole ≡ true → nat_le whole x ≡ false → nat_le whole y ≡ false → (nat_lt x y && nat_lt y whole) ≡ false → is_lawful (x + 1 - y) ≡ true
-bounds_lawful x y whole l h k o = grind arith
+pub bounds_lawful : (x y whole : ℕ) → is_lawful whole ≡ true → nat_le whole x ≡ false → nat_lt x y ≡ false → is_lawful (x + 1 - y) ≡ true
+bounds_lawful x y whole l h o = grind arith

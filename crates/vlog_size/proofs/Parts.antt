@@ -1,15 +1,17 @@
 -- Of parts without a fault: what a concatenation and a select make of their widths and numbers.
-use Rattle.std.proofs.Common.{◌≡◌, ℕ, Bool, true, false, ◌&&◌, not, if◌then◌else◌, Option, None, Some, is_none, List, [], ◌∷◌, ◌++◌, refl}
+use Rattle.std.proofs.Common.{◌≡◌, ◌≤◌, ◌<◌, ◌+◌, ◌^◌, arith, ℕ, Bool, true, false, ◌&&◌, not, if◌then◌else◌, Option, None, Some, is_none, List, [], ◌∷◌, ◌++◌, refl}
 use Rattle.vlog_size.specs.declared.error.SizeError.TheVariants as error
 use Rattle.vlog_size.specs.Literal.{is_lawful}
-use Rattle.vlog_size.specs.Size.{Sizes, own_width, number, reaches, all_constant, all_lawful, total_width, sum_fault, sizeless_part, parts_const_faults, parts_width_faults, joined, join_with, join_part, joined_at, of_concat, Bracket, NoBracket, Bit, Part, Indexed, part_width, part_const_faults, part_fault, part_width_faults, outside, too_large, wrong_order, is_wrong_order, is_wrong_part, bounds_width, or_zero}
+use Rattle.vlog_size.specs.Size.{Sizes, own_width, number, reaches, all_constant, all_lawful, total_width, sum_fault, unsized_part, parts_const_faults, parts_width_faults, joined, join_with, joined_at, concat_own_width, concat_value, of_concat, Bracket, NoBracket, Bit, Part, Indexed, part_width, part_const_faults, part_fault, part_width_faults, outside, too_large, wrong_order, is_wrong_order, is_wrong_part, bounds_width, or_zero}
 use Rattle.vlog_size.proofs.Lists.{nil_left, nil_right, untold, never, left_of, right_of, both_of, so, bounds_lawful}
+use Rattle.vlog_operators.specs.Number.{side_by_side}
+use Rattle.vlog_size.proofs.Fits.{Below, below_none, below_some, wider, joined_fits}
 use Rattle.vlog_size.proofs.Sized.{IsSized, Sized, two_there, number_there}
 
 -- ---- `{part, ..}`
 pub record AreSized (ps : List Sizes) : Type 0 where
   pub lawful : all_lawful ps ≡ true
-  pub known : all_constant ps ≡ true → (w : ℕ) (n : Option ℕ) → is_none n ≡ false → is_none (joined w n ps) ≡ false
+  pub known : all_constant ps ≡ true → (before : ℕ) (n : Option ℕ) → is_none n ≡ false → is_none (joined before n ps) ≡ false
 
 abbrev pub AllSized : List Sizes → Type 0
 AllSized ps = parts_const_faults ps ≡ [] → parts_width_faults ps ≡ [] → AreSized ps
@@ -21,7 +23,7 @@ none_sized h k = record {
 }
 
 join_at : (w : ℕ) (n : Option ℕ) (p : Sizes) (c l : Bool) (v : ℕ) → c ≡ true → l ≡ true → is_none n ≡ false → is_none (p.value v) ≡ false → is_none (join_with w n p (if c && l then Some v else None)) ≡ false
-join_at w n p true true v h k there known = two_there (λ (a b : ℕ). join_part w v a b) n (p.value v) there known
+join_at w n p true true v h k there known = two_there (λ (a b : ℕ). side_by_side a b w v) n (p.value v) there known
 join_at w n p true false v h k there known = (cc)
 join_at w n p false l v h k there known = (cc)
 
@@ -31,18 +33,25 @@ join_there w n p s c there = join_at w n p p.constant (is_lawful p.width) p.widt
 
 pub more_sized : (p : Sizes) (ps : List Sizes) → Sized p → AllSized ps → AllSized (p ∷ ps)
 more_sized p ps head tail h k =
-    let own : sizeless_part p ++ p.const_faults ≡ [] = nil_left (sizeless_part p ++ p.const_faults) (parts_const_faults ps) h in
-    let s : IsSized p = head (nil_right (sizeless_part p) p.const_faults own) (nil_left p.width_faults (parts_width_faults ps) k) in
-    let rest : AreSized ps = tail (nil_right (sizeless_part p ++ p.const_faults) (parts_const_faults ps) h) (nil_right p.width_faults (parts_width_faults ps) k) in
+    let own : unsized_part p ++ p.const_faults ≡ [] = nil_left (unsized_part p ++ p.const_faults) (parts_const_faults ps) h in
+    let s : IsSized p = head (nil_right (unsized_part p) p.const_faults own) (nil_left p.width_faults (parts_width_faults ps) k) in
+    let rest : AreSized ps = tail (nil_right (unsized_part p ++ p.const_faults) (parts_const_faults ps) h) (nil_right p.width_faults (parts_width_faults ps) k) in
     record {
       lawful = both_of (is_lawful p.width) (all_lawful ps) s.lawful rest.lawful;
-      known = λ c w n there. rest.known (right_of p.constant (all_constant ps) c) w (join_with w n p (own_width p)) (join_there w n p s (left_of p.constant (all_constant ps) c) there);
+      known = λ c w n there. rest.known (right_of p.constant (all_constant ps) c) (w + p.width) (join_with w n p (own_width p)) (join_there w n p s (left_of p.constant (all_constant ps) c) there);
     }
 
 concat_at : (ps : List Sizes) (c l : Bool) (w : ℕ) → c ≡ true → l ≡ true → ((w : ℕ) (n : Option ℕ) → is_none n ≡ false → is_none (joined w n ps) ≡ false) → is_none (joined_at ps (if c && l then Some w else None)) ≡ false
-concat_at ps true true w h k known = known w (Some 0) refl
+concat_at ps true true w h k known = known 0 (Some 0) refl
 concat_at ps true false w h k known = (cc)
 concat_at ps false l w h k known = (cc)
+
+none_before : Below 0 (Some 0)
+none_before = below_some 0 0 (omega arith)
+
+all_fit : (ps : List Sizes) (v : ℕ) (b : Bool) → total_width ps ≤ v → Below v (joined_at ps (if b then Some (total_width ps) else None))
+all_fit ps v true h = wider (0 + total_width ps) v (joined 0 (Some 0) ps) (omega arith) (joined_fits ps 0 (Some 0) none_before)
+all_fit ps v false h = below_none v
 
 pub concat_sized : (line : ℕ) (ps : List Sizes) → AllSized ps → Sized (of_concat line ps)
 concat_sized line ps inner h k =
@@ -51,6 +60,7 @@ concat_sized line ps inner h k =
     let fits : is_lawful (total_width ps) ≡ true = so (all_lawful ps) (is_lawful (total_width ps)) (untold (all_lawful ps && not (is_lawful (total_width ps))) (error.Width line (total_width ps)) own) s.lawful in
     record {
       lawful = fits;
+      fits = λ w h k. all_fit ps w (all_constant ps && is_lawful (total_width ps)) h;
       known = λ c w. concat_at ps (all_constant ps) (is_lawful (total_width ps)) (total_width ps) c fits (s.known c);
       whole = λ p. never (true ≡ false) p;
     }
@@ -69,10 +79,10 @@ BracketSized (Bit i) = Unit {0}
 BracketSized (Part a b) = Known a × Known b
 BracketSized (Indexed base width) = Sized base × Known width
 
-bounds_fit : (whole : ℕ) (a b : Option ℕ) → is_lawful whole ≡ true → is_none a ≡ false → is_none b ≡ false → reaches whole a ≡ false → reaches whole b ≡ false → is_wrong_order whole a b ≡ false → is_lawful (bounds_width a b) ≡ true
-bounds_fit whole None b l h k i j o = (cc)
-bounds_fit whole (Some a) None l h k i j o = (cc)
-bounds_fit whole (Some a) (Some b) l h k i j o = bounds_lawful a b whole l i j o
+bounds_fit : (whole : ℕ) (a b : Option ℕ) → is_lawful whole ≡ true → is_none a ≡ false → is_none b ≡ false → reaches whole a ≡ false → is_wrong_order a b ≡ false → is_lawful (bounds_width a b) ≡ true
+bounds_fit whole None b l h k i o = (cc)
+bounds_fit whole (Some a) None l h k i o = (cc)
+bounds_fit whole (Some a) (Some b) l h k i o = bounds_lawful a b whole l i o
 
 part_fits : (whole : ℕ) (base : Sizes) (k : Option ℕ) → is_lawful whole ≡ true → is_lawful base.width ≡ true → is_none k ≡ false → is_wrong_part whole base k ≡ false → is_lawful (or_zero k) ≡ true
 part_fits whole base None l b h o = (cc)
@@ -88,16 +98,18 @@ part_lawful line whole picked limit (Bit i) s l p h o k = p
 part_lawful line whole picked limit (Part a b) s l p h o k =
     let a_const : a.const_faults ≡ [] = nil_right (too_large a) a.const_faults (nil_left (too_large a ++ a.const_faults) (too_large b ++ b.const_faults) h) in
     let b_const : b.const_faults ≡ [] = nil_right (too_large b) b.const_faults (nil_right (too_large a ++ a.const_faults) (too_large b ++ b.const_faults) h) in
-    let a_all : outside whole a ++ a.width_faults ≡ [] = nil_left (outside whole a ++ a.width_faults) ((outside whole b ++ b.width_faults) ++ wrong_order whole a b) k in
-    let rest : (outside whole b ++ b.width_faults) ++ wrong_order whole a b ≡ [] = nil_right (outside whole a ++ a.width_faults) ((outside whole b ++ b.width_faults) ++ wrong_order whole a b) k in
-    let b_all : outside whole b ++ b.width_faults ≡ [] = nil_left (outside whole b ++ b.width_faults) (wrong_order whole a b) rest in
-    let order : is_wrong_order whole (number a) (number b) ≡ false =
-    untold (is_wrong_order whole (number a) (number b)) (error.Width a.line (or_zero (number b))) (nil_right (outside whole b ++ b.width_faults) (wrong_order whole a b) rest) in
+    let rest_a = wrong_order a b ++ a.width_faults in
+    let at_a = outside whole a ++ rest_a in
+    let at_b = outside whole b ++ b.width_faults in
+    let a_all : at_a ≡ [] = nil_left at_a at_b k in
+    let b_all : at_b ≡ [] = nil_right at_a at_b k in
+    let a_rest : rest_a ≡ [] = nil_right (outside whole a) rest_a a_all in
+    let order : is_wrong_order (number a) (number b) ≡ false =
+    untold (is_wrong_order (number a) (number b)) (error.Width a.line (or_zero (number b))) (nil_left (wrong_order a b) a.width_faults a_rest) in
     bounds_fit whole (number a) (number b) l
-    (s.0 a_const (nil_right (outside whole a) a.width_faults a_all))
+    (s.0 a_const (nil_right (wrong_order a b) a.width_faults a_rest))
     (s.1 b_const (nil_right (outside whole b) b.width_faults b_all))
-    (in_reach whole a (nil_left (outside whole a) a.width_faults a_all))
-    (in_reach whole b (nil_left (outside whole b) b.width_faults b_all))
+    (in_reach whole a (nil_left (outside whole a) rest_a a_all))
     order
 part_lawful line whole picked limit (Indexed base width) s l p h o k =
     let inner : IsSized base = s.0 (nil_left base.const_faults (too_large width ++ width.const_faults) h) (nil_left base.width_faults width.width_faults k) in

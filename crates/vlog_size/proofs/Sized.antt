@@ -1,5 +1,6 @@
 -- Of parts without a fault: what each form of expression makes of their widths and numbers.
-use Rattle.std.proofs.Common.{◌≡◌, ℕ, Bool, true, false, ◌&&◌, ◌||◌, max, if◌then◌else◌, Option, None, Some, is_none, [], ◌++◌, refl, ◌==◌}
+use Rattle.std.proofs.Common.{◌≡◌, ◌≤◌, ℕ, Bool, true, false, ◌&&◌, ◌||◌, max, if◌then◌else◌, Option, None, Some, is_none, [], ◌++◌, refl, ◌==◌, arith}
+use Rattle.vlog_operators.specs.Number.{IsWidth}
 use Rattle.vlog_size.specs.declared.error.SizeError.TheVariants as error
 use Rattle.vlog_size.specs.declared.operators.Kind.{Kind}
 use Rattle.vlog_size.specs.declared.operators.Kind.TheVariants.{Sum, Comparison, Logic, Shift}
@@ -8,12 +9,16 @@ use Rattle.vlog_tree.specs.declared.expr.UnaryOp.{UnaryOp}
 use Rattle.vlog_size.specs.Findings.{told_if}
 use Rattle.vlog_size.specs.Literal.{is_lawful}
 use Rattle.vlog_size.specs.Operators.{kind_of, is_plain_op, is_wide, whole_value, binary_value, unary_value}
-use Rattle.vlog_size.specs.Size.{Sizes, own, own_width, at_width, number, is_sound, of_one, of_two, binary_width, binary_number, compared, shared_width, of_binary, is_out, is_bad_operator, narrow_value, of_sign, chosen_value, chosen_whole, of_choice, of_paren}
+use Rattle.vlog_size.specs.Size.{Sizes, own, own_width, at_width, number, is_sound, of_one, of_two, binary_width, operated, compared, shared_width}
+use Rattle.vlog_size.specs.Size.{of_binary, is_out, is_bad_operator, is_plain_binary, is_bad_binary, wide_value, narrow_value, of_sign}
+use Rattle.vlog_size.specs.Size.{chosen_value, chosen_whole, of_choice, of_paren}
+use Rattle.vlog_size.proofs.Fits.{Below, below_none, wide_fits, narrow_fits, sum_fits, comparison_fits, logic_fits, shift_fits}
 use Rattle.vlog_size.proofs.Lists.{nil_left, nil_right, untold, both_nil, never, left_of, right_of, both_of, larger_lawful}
 
--- a lawful width, the number of a constant, and the value of a plain expression
+-- a lawful width, the number of a constant, which fits each width that is large enough, and the value of a plain expression
 pub record IsSized (e : Sizes) : Type 0 where
   pub lawful : is_lawful e.width ≡ true
+  pub fits : (w : ℕ) → e.width ≤ w → w ≤ 128 → Below w (e.value w)
   pub known : e.constant ≡ true → (w : ℕ) → is_none (e.value w) ≡ false
   pub whole : e.plain ≡ true → is_none e.whole ≡ false
 
@@ -63,16 +68,30 @@ narrow_own : (op : UnaryOp) (a : Sizes) → IsSized a → a.constant ≡ true �
 unfolding own_width
 narrow_own op a s c = narrow_there op a.value a.constant (is_lawful a.width) a.width c s.lawful (s.known c)
 
+width_from : (v w : ℕ) → is_lawful v ≡ true → v ≤ w → w ≤ 128 → IsWidth w
+width_from v w l h k = (grind arith, k)
+
+narrow_own_fits : (op : UnaryOp) (value : ℕ → Option ℕ) (v : Option ℕ) (w : ℕ) → is_wide op ≡ false → 1 ≤ w → Below w (narrow_value op value v)
+narrow_own_fits op value None w b h = below_none w
+narrow_own_fits op value (Some v) w b h = narrow_fits op (value v) v w b h
+
+sign_fits : (b : Bool) (op : UnaryOp) (a : Sizes) (w : ℕ) → is_wide op ≡ b → IsSized a → (if b then a.width else 1) ≤ w → w ≤ 128
+    → Below w (if b then wide_value op a.value w else narrow_value op a.value (own_width a))
+sign_fits true op a w e s h k = wide_fits op (a.value w) w (width_from a.width w s.lawful h k) (s.fits w h k)
+sign_fits false op a w e s h k = narrow_own_fits op a.value (own_width a) w e h
+
 either_there : (b : Bool) (x y : Option ℕ) → is_none x ≡ false → is_none y ≡ false → is_none (if b then x else y) ≡ false
 either_there true x y h k = h
 either_there false x y h k = k
 
 pub sign_sized : (line : ℕ) (op : UnaryOp) (a : Sizes) → Sized a → Sized (of_sign line op a)
 sign_sized line op a inner h k =
-    let s : IsSized a = inner (nil_right (told_if (is_wide op && a.unsized) (error.Const line)) a.const_faults h) k in
+    let s : IsSized a = inner (nil_right (told_if (is_wide op && a.is_unsized) (error.Const line)) a.const_faults h) k in
     record {
       lawful = sign_lawful (is_wide op) a.width s.lawful;
-      known = λ c w. either_there (is_wide op) (of_one (λ (n : ℕ). unary_value op n w) (a.value w)) (narrow_value op a.value (own_width a)) (one_there (λ (n : ℕ). unary_value op n w) (a.value w) (s.known c w)) (narrow_own op a s c);
+      fits = λ w h k. sign_fits (is_wide op) op a w refl s h k;
+      known = λ c w. either_there (is_wide op) (wide_value op a.value w) (narrow_value op a.value (own_width a))
+          (one_there (λ (n : ℕ). unary_value op n w) (a.value w) (s.known c w)) (narrow_own op a s c);
       whole = λ p. never (true ≡ false) p;
     }
 
@@ -88,7 +107,26 @@ unfolding shared_width
 comparison_there op a b s t c d =
     compared_there op a.value b.value (a.constant && b.constant) (is_lawful (max a.width b.width)) (max a.width b.width) (both_of a.constant b.constant c d) (larger_lawful a.width b.width s.lawful t.lawful) (s.known c) (t.known d)
 
-binary_there : (kind : Kind) (op : BinaryOp) (a b : Sizes) (w : ℕ) → IsSized a → IsSized b → a.constant ≡ true → b.constant ≡ true → is_none (binary_number kind op a b w) ≡ false
+compared_fits : (op : BinaryOp) (a b : ℕ → Option ℕ) (v : Option ℕ) (w : ℕ) → kind_of op ≡ Comparison → 1 ≤ w → Below w (compared op a b v)
+compared_fits op a b None w k h = below_none w
+compared_fits op a b (Some v) w k h = comparison_fits op (a v) (b v) v w k h
+
+left_fits : (a b w : ℕ) → max a b ≤ w → a ≤ w
+left_fits a b w h = omega arith
+
+right_fits : (a b w : ℕ) → max a b ≤ w → b ≤ w
+right_fits a b w h = omega arith
+
+binary_fits : (kind : Kind) (op : BinaryOp) (a b : Sizes) (w : ℕ) → kind_of op ≡ kind → IsSized a → IsSized b → binary_width kind a.width b.width ≤ w → w ≤ 128
+    → Below w (operated kind op a b w)
+binary_fits Sum op a b w e s t h k =
+    sum_fits op (a.value w) (b.value w) w (width_from a.width w s.lawful (left_fits a.width b.width w h) k)
+    (s.fits w (left_fits a.width b.width w h) k) (t.fits w (right_fits a.width b.width w h) k)
+binary_fits Comparison op a b w e s t h k = compared_fits op a.value b.value (shared_width a b) w e h
+binary_fits Logic op a b w e s t h k = logic_fits op (own a) (own b) w e h
+binary_fits Shift op a b w e s t h k = shift_fits op (a.value w) (own b) w e
+
+binary_there : (kind : Kind) (op : BinaryOp) (a b : Sizes) (w : ℕ) → IsSized a → IsSized b → a.constant ≡ true → b.constant ≡ true → is_none (operated kind op a b w) ≡ false
 binary_there Sum op a b w s t c d = two_there (λ (m n : ℕ). binary_value op m n w) (a.value w) (b.value w) (s.known c w) (t.known d w)
 binary_there Comparison op a b w s t c d = comparison_there op a b s t c d
 binary_there Logic op a b w s t c d = two_there (λ (m n : ℕ). binary_value op m n w) (own a) (own b) (own_there a s c) (own_there b t d)
@@ -114,21 +152,30 @@ not_out false false q r o h k = (cc)
 
 pub binary_sized : (op : BinaryOp) (a b : Sizes) → Sized a → Sized b → Sized (of_binary op a b)
 binary_sized op a b left right h k =
-    let bad = is_bad_operator op a.unsized b.unsized a.plain b.plain || ((is_plain_op op && (a.plain && b.plain)) && is_out op a.whole b.whole) in
+    let bad = is_bad_binary op a b in
     let parts : a.const_faults ++ b.const_faults ≡ [] = nil_right (told_if bad (error.Const a.line)) (a.const_faults ++ b.const_faults) h in
     let s : IsSized a = left (nil_left a.const_faults b.const_faults parts) (nil_left a.width_faults b.width_faults k) in
     let t : IsSized b = right (nil_right a.const_faults b.const_faults parts) (nil_right a.width_faults b.width_faults k) in
     let good : bad ≡ false = untold bad (error.Const a.line) (nil_left (told_if bad (error.Const a.line)) (a.const_faults ++ b.const_faults) h) in
     record {
       lawful = binary_lawful (kind_of op) a.width b.width s.lawful t.lawful;
+      fits = λ w h k. binary_fits (kind_of op) op a b w refl s t h k;
       known = λ c w. binary_there (kind_of op) op a b w s t (left_of a.constant b.constant c) (right_of a.constant b.constant c);
       whole = λ p. in_range_there op a.whole b.whole
           (s.whole (left_of a.plain b.plain (right_of (is_plain_op op) (a.plain && b.plain) p)))
           (t.whole (right_of a.plain b.plain (right_of (is_plain_op op) (a.plain && b.plain) p)))
-          (not_out (is_bad_operator op a.unsized b.unsized a.plain b.plain) (is_plain_op op) a.plain b.plain (is_out op a.whole b.whole) good p);
+          (not_out (is_bad_operator op a.is_unsized b.is_unsized a.plain b.plain) (is_plain_op op) a.plain b.plain (is_out op a.whole b.whole) good p);
     }
 
 -- ---- `?:`
+either_fits : (b : Bool) (x y : Option ℕ) (w : ℕ) → Below w x → Below w y → Below w (if b then x else y)
+either_fits true x y w h k = h
+either_fits false x y w h k = k
+
+chosen_fits : (c a b : Option ℕ) (w : ℕ) → Below w a → Below w b → Below w (chosen_value c a b)
+chosen_fits None a b w h k = below_none w
+chosen_fits (Some c) a b w h k = either_fits (c == 0) b a w k h
+
 chosen_there : (c a b : Option ℕ) → is_none c ≡ false → is_none a ≡ false → is_none b ≡ false → is_none (chosen_value c a b) ≡ false
 chosen_there None a b h k l = h
 chosen_there (Some c) a b h k l = either_there (c == 0) b a l k
@@ -149,6 +196,7 @@ choice_sized c a b condition one other h k =
     let t : IsSized b = other (nil_right a.const_faults b.const_faults branches) (nil_right a.width_faults b.width_faults widths) in
     record {
       lawful = larger_lawful a.width b.width s.lawful t.lawful;
+      fits = λ w h k. chosen_fits (own c) (a.value w) (b.value w) w (s.fits w (left_fits a.width b.width w h) k) (t.fits w (right_fits a.width b.width w h) k);
       known = λ o w. chosen_there (own c) (a.value w) (b.value w) (own_there c r (left_of c.constant (a.constant && b.constant) o))
           (s.known (left_of a.constant b.constant (right_of c.constant (a.constant && b.constant) o)) w)
           (t.known (right_of a.constant b.constant (right_of c.constant (a.constant && b.constant) o)) w);
@@ -162,6 +210,7 @@ paren_sized line e inner h k =
     let s : IsSized e = inner h k in
     record {
       lawful = s.lawful;
+      fits = s.fits;
       known = s.known;
       whole = s.whole;
     }

@@ -29,10 +29,10 @@ told_at line sum total true h = ap (λ (n : ℕ). first (told_if (not (is_lawful
 capped : (sum total count : ℕ) → sum ≡ min total TOP → total ≤ 128 * count → count < 2 ^ 64 → sum ≡ total
 capped sum total count h k small = omega arith
 
-pub sum_told : (line sum count : ℕ) (lawful : Bool) (all : List Sizes) → lawful ≡ all_lawful all → sum ≡ min (total_width all) TOP → count ≡ length all → count < 2 ^ 64
+pub sum_told : (line sum : ℕ) (lawful : Bool) (all : List Sizes) → length all < 2 ^ 64 → lawful ≡ all_lawful all → sum ≡ min (total_width all) TOP
     → first (told_if (lawful && not (is_lawful sum)) (error.Width line sum)) ≡ first (sum_fault line all)
-sum_told line sum count lawful all same whole counted small =
+sum_told line sum lawful all small same whole =
     let exact : lawful ≡ true → sum ≡ total_width all =
-    λ (h : lawful ≡ true). capped sum (total_width all) (length all) whole (lawful_total all (sym same ∙ h)) (omega arith) in
+    λ (h : lawful ≡ true). capped sum (total_width all) (length all) whole (lawful_total all (sym same ∙ h)) small in
     told_at line sum (total_width all) lawful exact
     ∙ ap (λ (b : Bool). first (told_if (b && not (is_lawful (total_width all))) (error.Width line (total_width all)))) same

@@ -1,19 +1,21 @@
 -- What the code keeps of an expression.
-use Rattle.std.specs.Prelude.{◌≡◌, ℕ, ◌+◌, ◌&&◌, min, List}
+use Rattle.std.specs.Prelude.{◌≡◌, ℕ, ◌+◌, ◌&&◌, min, List, Option, Some, None}
 use Rattle.vlog_size.specs.declared.facts.Facts.{Facts}
 use Rattle.vlog_size.specs.declared.facts.Numbered.{Numbered}
 use Rattle.vlog_size.specs.declared.facts.Select.{Select}
 use Rattle.vlog_size.specs.declared.facts.Parts.{Parts}
+use Rattle.vlog_size.specs.declared.value.Joined.{Joined}
 use Rattle.vlog_size.specs.Findings.{first, or_first}
 use Rattle.vlog_size.specs.Limits.{TOP}
-use Rattle.vlog_size.specs.Size.{Sizes, number, Bracket, part_width, part_const_faults, part_fault, part_width_faults, all_constant, all_lawful, total_width, parts_const_faults, parts_width_faults}
+use Rattle.vlog_size.specs.Size.{Sizes, number, Bracket, part_width, part_const_faults, part_fault, part_width_faults}
+use Rattle.vlog_size.specs.Size.{own_width, join_with, all_constant, all_lawful, total_width, parts_const_faults, parts_width_faults}
 
 -- the code's facts of an expression: of its faults the first of each kind, of its width no more than the largest number
 pub record Shows (f : Facts) (e : Sizes) : Type 0 where
   pub line : f.line ≡ e.line
   pub plain : f.plain ≡ e.plain
-  pub sizeless : f.sizeless ≡ e.unsized
-  pub without_size : f.without_size ≡ e.without_size
+  pub is_unsized : f.is_unsized ≡ e.is_unsized
+  pub unsized_literal : f.unsized_literal ≡ e.unsized_literal
   pub constant : f.constant ≡ e.constant
   pub width : f.width ≡ min e.width TOP
   pub whole : f.whole ≡ e.whole
@@ -39,3 +41,9 @@ pub record ShowsRest (so_far : Parts) (rest all : List Sizes) : Type 0 where
   pub sum : min (so_far.sum + total_width rest) TOP ≡ min (total_width all) TOP
   pub const_fault : or_first so_far.const_fault (first (parts_const_faults rest)) ≡ first (parts_const_faults all)
   pub width_fault : or_first so_far.width_fault (first (parts_width_faults rest)) ≡ first (parts_width_faults all)
+
+-- the parts so far with one more, where that has a number
+abbrev pub IsJoined : Joined → Sizes → Option Joined → Type 0
+IsJoined so_far p None = join_with so_far.width (Some so_far.number) p (own_width p) ≡ None
+IsJoined so_far p (Some all) =
+    (all.width ≡ so_far.width + p.width) × (join_with so_far.width (Some so_far.number) p (own_width p) ≡ Some all.number)

@@ -56,9 +56,9 @@ literal_width Decimal text = 32
 literal_width Based text = size_of (before_quote text)
 
 -- a based literal without a size
-abbrev pub is_without_size : NumberKind → List ℕ → Bool
-is_without_size Decimal text = false
-is_without_size Based text = is_nil (before_quote text)
+abbrev pub is_unsized_literal : NumberKind → List ℕ → Bool
+is_unsized_literal Decimal text = false
+is_unsized_literal Based text = is_nil (before_quote text)
 
 -- the number that is spelled, below 2^128
 abbrev pub spelled_number : NumberKind → List ℕ → Option ℕ

@@ -1,11 +1,20 @@
--- The kinds of operators, and their numbers (IEEE 1364-2005, clause 5.1; this project's profile).
-use Rattle.std.specs.Prelude.{ℕ, ◌+◌, ◌-◌, ◌*◌, ◌/◌, ◌%◌, ◌^◌, Bool, true, false, ◌==◌, ◌&&◌, ◌||◌, not, nat_lt, nat_le, if◌then◌else◌, Option, Some, None, bit_and, bit_or, bit_xor, count_ones}
+-- The kinds of the trees' operators, the operators that they stand for, and values in whole numbers (IEEE 1364-2005, 5.1;
+-- this project's profile).
+use Rattle.std.specs.Prelude.{ℕ, ◌+◌, ◌-◌, ◌*◌, ◌/◌, ◌^◌, Bool, true, false, nat_le, if◌then◌else◌, Option, Some, None}
 use Rattle.vlog_size.specs.declared.operators.Kind.{Kind}
 use Rattle.vlog_size.specs.declared.operators.Kind.TheVariants.{Sum, Comparison, Logic, Shift}
 use Rattle.vlog_tree.specs.declared.expr.UnaryOp.{UnaryOp}
 use Rattle.vlog_tree.specs.declared.expr.UnaryOp.TheVariants as unary
 use Rattle.vlog_tree.specs.declared.expr.BinaryOp.{BinaryOp}
-use Rattle.vlog_tree.specs.declared.expr.BinaryOp.TheVariants.{LogicalOr, LogicalAnd, Or, Xor, XorTilde, TildeXor, And, Equal, NotEqual, Less, LessOrEqual, Greater, GreaterOrEqual, ShiftLeft, ShiftRight, ArithmeticShiftLeft, ArithmeticShiftRight, Plus, Minus, Times}
+use Rattle.vlog_tree.specs.declared.expr.BinaryOp.TheVariants.{LogicalOr, LogicalAnd, Or, Xor, XorTilde, TildeXor, And}
+use Rattle.vlog_tree.specs.declared.expr.BinaryOp.TheVariants.{Equal, NotEqual, Less, LessOrEqual, Greater, GreaterOrEqual}
+use Rattle.vlog_tree.specs.declared.expr.BinaryOp.TheVariants.{ShiftLeft, ShiftRight, ArithmeticShiftLeft, ArithmeticShiftRight}
+use Rattle.vlog_tree.specs.declared.expr.BinaryOp.TheVariants.{Plus, Minus, Times}
+use Rattle.vlog_operators.specs.declared.operators.UnaryOp as flat_unary
+use Rattle.vlog_operators.specs.declared.operators.UnaryOp.TheVariants as flat_unaries
+use Rattle.vlog_operators.specs.declared.operators.BinaryOp as flat_binary
+use Rattle.vlog_operators.specs.declared.operators.BinaryOp.TheVariants as flat_binaries
+use Rattle.vlog_operators.specs.Operators as numbers
 
 -- how an operator takes the widths of its operands
 abbrev pub kind_of : BinaryOp → Kind
@@ -58,45 +67,47 @@ is_plain_shift ShiftLeft = true
 is_plain_shift ShiftRight = true
 is_plain_shift _ = false
 
--- a truth value as a number
-abbrev pub bit : Bool → ℕ
-bit true = 1
-bit false = 0
+-- the operator that a tree's binary operator stands for; all is unsigned, so `<<<` is `<<` and `>>>` is `>>`
+abbrev pub operator_of : BinaryOp → flat_binary.BinaryOp
+operator_of LogicalOr = flat_binaries.LogicalOr
+operator_of LogicalAnd = flat_binaries.LogicalAnd
+operator_of Or = flat_binaries.Or
+operator_of Xor = flat_binaries.Xor
+operator_of XorTilde = flat_binaries.Xnor
+operator_of TildeXor = flat_binaries.Xnor
+operator_of And = flat_binaries.And
+operator_of Equal = flat_binaries.Equal
+operator_of NotEqual = flat_binaries.NotEqual
+operator_of Less = flat_binaries.Less
+operator_of LessOrEqual = flat_binaries.LessEqual
+operator_of Greater = flat_binaries.Greater
+operator_of GreaterOrEqual = flat_binaries.GreaterEqual
+operator_of ShiftLeft = flat_binaries.ShiftLeft
+operator_of ShiftRight = flat_binaries.ShiftRight
+operator_of ArithmeticShiftLeft = flat_binaries.ShiftLeft
+operator_of ArithmeticShiftRight = flat_binaries.ShiftRight
+operator_of Plus = flat_binaries.Add
+operator_of Minus = flat_binaries.Subtract
+operator_of Times = flat_binaries.Multiply
 
--- modulo 2^w
-abbrev pub difference : ℕ → ℕ → ℕ → ℕ
-difference a b w = (a + (2 ^ w - b % 2 ^ w)) % 2 ^ w
+-- the operator that a tree's unary operator stands for; `+` changes nothing
+abbrev pub unary_operator_of : UnaryOp → Option flat_unary.UnaryOp
+unary_operator_of unary.Plus = None
+unary_operator_of unary.Minus = Some flat_unaries.Negate
+unary_operator_of unary.LogicalNot = Some flat_unaries.LogicalNot
+unary_operator_of unary.BitNot = Some flat_unaries.Complement
+unary_operator_of unary.And = Some flat_unaries.ReduceAnd
+unary_operator_of unary.Nand = Some flat_unaries.ReduceNand
+unary_operator_of unary.Or = Some flat_unaries.ReduceOr
+unary_operator_of unary.Nor = Some flat_unaries.ReduceNor
+unary_operator_of unary.Xor = Some flat_unaries.ReduceXor
+unary_operator_of unary.TildeXor = Some flat_unaries.ReduceXnor
+unary_operator_of unary.XorTilde = Some flat_unaries.ReduceXnor
 
--- -a modulo 2^w
-abbrev pub negative : ℕ → ℕ → ℕ
-negative a w = difference 0 a w
-
--- each bit turned: -a - 1
-abbrev pub complement : ℕ → ℕ → ℕ
-complement a w = difference (negative a w) 1 w
-
--- the number of a binary operator of two numbers; `+ - * & | ^ ~^` and shifts work modulo 2^w
-abbrev pub binary_value : BinaryOp → ℕ → ℕ → ℕ → ℕ
-binary_value Plus a b w = (a + b) % 2 ^ w
-binary_value Minus a b w = difference a b w
-binary_value Times a b w = a * b % 2 ^ w
-binary_value And a b w = bit_and a b
-binary_value Or a b w = bit_or a b
-binary_value Xor a b w = bit_xor a b
-binary_value XorTilde a b w = complement (bit_xor a b) w
-binary_value TildeXor a b w = complement (bit_xor a b) w
-binary_value Less a b w = bit (nat_lt a b)
-binary_value LessOrEqual a b w = bit (nat_le a b)
-binary_value Greater a b w = bit (nat_lt b a)
-binary_value GreaterOrEqual a b w = bit (nat_le b a)
-binary_value Equal a b w = bit (a == b)
-binary_value NotEqual a b w = bit (not (a == b))
-binary_value LogicalAnd a b w = bit (not (a == 0) && not (b == 0))
-binary_value LogicalOr a b w = bit (not (a == 0) || not (b == 0))
-binary_value ShiftLeft a b w = a * 2 ^ b % 2 ^ w
-binary_value ArithmeticShiftLeft a b w = a * 2 ^ b % 2 ^ w
-binary_value ShiftRight a b w = a / 2 ^ b
-binary_value ArithmeticShiftRight a b w = a / 2 ^ b
+-- the number that an operator makes of an operand of w bits; none changes nothing
+abbrev pub applied : Option flat_unary.UnaryOp → ℕ → ℕ → ℕ
+applied None a w = a
+applied (Some op) a w = numbers.unary_number op a w
 
 -- `+ - ~`, which work at the width of the whole; the others are 1 bit wide
 abbrev pub is_wide : UnaryOp → Bool
@@ -105,16 +116,10 @@ is_wide unary.Minus = true
 is_wide unary.BitNot = true
 is_wide _ = false
 
--- the number of an operator before an operand of w bits; all bits are 1 where one more is 0 modulo 2^w
+-- the number of an operator before an operand of w bits
 abbrev pub unary_value : UnaryOp → ℕ → ℕ → ℕ
-unary_value unary.Plus a w = a
-unary_value unary.Minus a w = negative a w
-unary_value unary.BitNot a w = complement a w
-unary_value unary.LogicalNot a w = bit (a == 0)
-unary_value unary.And a w = bit ((a + 1) % 2 ^ w == 0)
-unary_value unary.Nand a w = bit (not ((a + 1) % 2 ^ w == 0))
-unary_value unary.Or a w = bit (not (a == 0))
-unary_value unary.Nor a w = bit (a == 0)
-unary_value unary.Xor a w = count_ones a % 2
-unary_value unary.TildeXor a w = 1 - count_ones a % 2
-unary_value unary.XorTilde a w = 1 - count_ones a % 2
+unary_value op a w = applied (unary_operator_of op) a w
+
+-- the number of an operator between two operands at w bits
+abbrev pub binary_value : BinaryOp → ℕ → ℕ → ℕ → ℕ
+binary_value op a b w = numbers.binary_number (operator_of op) a b w

@@ -1,27 +1,31 @@
 -- Constants and widths (IEEE 1364-2005, 3.5, 5.1 and 5.4; this project's profile): whether an expression is plain,
 -- unsized and constant, its width and its number, and its faults, each from those of its parts. A list of faults is in
 -- text order, the whole before its parts. E5 is a fault of a constant, E6 one of a width, an index or a bound.
-use Rattle.std.specs.Prelude.{ℕ, ◌+◌, ◌-◌, ◌*◌, ◌%◌, ◌^◌, min, max, Bool, true, false, ◌==◌, ◌&&◌, ◌||◌, not, nat_lt, nat_le, if◌then◌else◌, List, [], ◌∷◌, ◌++◌, Option, Some, None, flat_map, sum_by, is_none}
+use Rattle.std.specs.Prelude.{ℕ, ◌+◌, ◌-◌, ◌%◌, ◌^◌, min, max, Bool, true, false, ◌==◌, ◌&&◌, ◌||◌, not, nat_lt, nat_le}
+use Rattle.std.specs.Prelude.{if◌then◌else◌, List, [], ◌∷◌, ◌++◌, Option, Some, None, option_map, flat_map, sum_by, is_none}
 use Rattle.std.specs.List.{list_all}
 use Rattle.vlog_tree.specs.declared.expr.NumberKind.{NumberKind}
 use Rattle.vlog_tree.specs.declared.expr.NumberKind.TheVariants.{Decimal, Based}
 use Rattle.vlog_tree.specs.declared.expr.BinaryOp.{BinaryOp}
 use Rattle.vlog_tree.specs.declared.expr.UnaryOp.{UnaryOp}
-use Rattle.vlog_tree.specs.Tree.{NumberOf, ExprOf, UnaryExpr, BinaryExpr, ChoiceExpr, PrimOf, NumberPrim, RefPrim, ParenPrim, ConcatPrim, RefOf, RefWith, IndexOf, NoIndex, Index, LastOf, NoLast, Last, SelOf, IndexSel, PartSel, IndexedSel, ExprsOf, NoExprs, MoreExprs}
+use Rattle.vlog_tree.specs.Tree.{NumberOf, ExprOf, UnaryExpr, BinaryExpr, ChoiceExpr, ExprsOf, NoExprs, MoreExprs}
+use Rattle.vlog_tree.specs.Tree.{PrimOf, NumberPrim, RefPrim, ParenPrim, ConcatPrim, RefOf, RefWith, IndexOf, NoIndex, Index}
+use Rattle.vlog_tree.specs.Tree.{LastOf, NoLast, Last, SelOf, IndexSel, PartSel, IndexedSel}
+use Rattle.vlog_tree.specs.Tree.{TargetOf, RefTarget, ConcatTarget, TargetsOf, NoTargets, MoreTargets}
 use Rattle.vlog_size.specs.declared.error.SizeError.{SizeError}
 use Rattle.vlog_size.specs.declared.error.SizeError.TheVariants as error
 use Rattle.vlog_size.specs.declared.scope.Const.{Const}
 use Rattle.vlog_size.specs.declared.scope.Const.TheVariants as const
-use Rattle.vlog_size.specs.declared.scope.Scope.{Scope}
 use Rattle.vlog_size.specs.Limits.{TOP}
 use Rattle.vlog_size.specs.Findings.{first, told_if}
-use Rattle.vlog_size.specs.Literal.{is_lawful, literal_width, literal_number, is_bad_literal, is_without_size, digits_from}
+use Rattle.vlog_size.specs.Literal.{is_lawful, literal_width, literal_number, is_bad_literal, is_unsized_literal, digits_from}
 use Rattle.vlog_size.specs.declared.names.Meaning.{Meaning}
 use Rattle.vlog_size.specs.declared.names.Meaning.TheVariants.{Parameter, Place, Undeclared}
 use Rattle.vlog_size.specs.declared.operators.Kind.{Kind}
 use Rattle.vlog_size.specs.declared.operators.Kind.TheVariants.{Sum, Comparison, Logic, Shift}
-use Rattle.vlog_size.specs.Names.{meaning_of, fixed}
+use Rattle.vlog_size.specs.Names.{Readable, meaning_of, fixed}
 use Rattle.vlog_size.specs.Operators.{kind_of, in_range, whole_value, is_plain_op, is_plain_shift, binary_value, is_wide, unary_value}
+use Rattle.vlog_operators.specs.Number.{side_by_side}
 
 -- what is said of an expression
 pub record Sizes : Type 0 where
@@ -30,9 +34,9 @@ pub record Sizes : Type 0 where
   -- a decimal or plain parameter, or made of such by `+ - * << >>` or `?:`
   pub plain : Bool
   -- plain, a `?:` of unsized branches, or `<<` or `>>` with a plain left operand
-  pub unsized : Bool
+  pub is_unsized : Bool
   -- a based literal without a size, bare or in parentheses
-  pub without_size : Bool
+  pub unsized_literal : Bool
   -- it reads parameters alone
   pub constant : Bool
   -- its self-determined width
@@ -101,18 +105,22 @@ abbrev pub decimal_value : NumberKind → List ℕ → Option ℕ
 decimal_value Decimal text = in_range (digits_from 10 0 text)
 decimal_value Based text = None
 
+-- a literal that can't stand, or a decimal out of range
+abbrev pub is_bad_number : NumberOf ℕ → Bool
+is_bad_number n = is_bad_literal n.kind n.text || (is_decimal n.kind && is_none (decimal_value n.kind n.text))
+
 -- a literal
 abbrev pub of_number : NumberOf ℕ → Sizes
 of_number n = record {
   line = n.line;
   plain = is_decimal n.kind;
-  unsized = is_decimal n.kind;
-  without_size = is_without_size n.kind n.text;
+  is_unsized = is_decimal n.kind;
+  unsized_literal = is_unsized_literal n.kind n.text;
   constant = true;
   width = literal_width n.kind n.text;
   whole = decimal_value n.kind n.text;
   value = λ w. literal_number n.kind n.text;
-  const_faults = told_if (is_bad_literal n.kind n.text || (is_decimal n.kind && is_none (decimal_value n.kind n.text))) (error.Const n.line);
+  const_faults = told_if (is_bad_number n) (error.Const n.line);
   width_faults = no_faults;
 }
 
@@ -130,11 +138,6 @@ const_width (const.Sized w n) = w
 abbrev pub const_number : Const → ℕ
 const_number (const.Plain n) = n
 const_number (const.Sized w n) = n
-
--- the number of a constant; one outside 0 to 2,147,483,647 is no plain one's
-abbrev pub const_value : Const → Option ℕ
-const_value (const.Plain n) = in_range n
-const_value (const.Sized w n) = Some n
 
 -- what stands in the last bracket
 pub data Bracket : Type 0 where
@@ -172,23 +175,24 @@ part_const_faults (Bit i) = i.const_faults
 part_const_faults (Part a b) = (too_large a ++ a.const_faults) ++ (too_large b ++ b.const_faults)
 part_const_faults (Indexed base width) = base.const_faults ++ (too_large width ++ width.const_faults)
 
--- whether the first bound is below the second one, and that one in range
-abbrev pub is_wrong_order : ℕ → Option ℕ → Option ℕ → Bool
-is_wrong_order whole (Some a) (Some b) = nat_lt a b && nat_lt b whole
-is_wrong_order whole _ _ = false
+-- whether the first bound is below the second one
+abbrev pub is_wrong_order : Option ℕ → Option ℕ → Bool
+is_wrong_order (Some a) (Some b) = nat_lt a b
+is_wrong_order _ _ = false
 
 -- a width of a part of a vector of lawful width that is unlawful
 abbrev pub is_wrong_part : ℕ → Sizes → Option ℕ → Bool
 is_wrong_part whole base (Some k) = (is_lawful whole && is_lawful base.width) && not (is_lawful k)
 is_wrong_part whole base None = false
 
--- the first bound below the second one, both in range: the line is the first one's, the number the second one's
-abbrev pub wrong_order : ℕ → Sizes → Sizes → List SizeError
-wrong_order whole a b = told_if (is_wrong_order whole (number a) (number b)) (error.Width a.line (or_zero (number b)))
+-- the first bound below the second one: the line is the first one's, the number the second one's
+abbrev pub wrong_order : Sizes → Sizes → List SizeError
+wrong_order a b = told_if (is_wrong_order (number a) (number b)) (error.Width a.line (or_zero (number b)))
 
 -- the width after `+:` is unlawful
 abbrev pub wrong_part : ℕ → ℕ → Sizes → Sizes → List SizeError
-wrong_part line whole base width = told_if (is_wrong_part whole base (number width)) (error.Width line (or_zero (number width)))
+wrong_part line whole base width =
+    told_if (is_wrong_part whole base (number width)) (error.Width line (or_zero (number width)))
 
 -- the own fault of a select on this line of a vector of `whole` bits
 abbrev pub part_fault : ℕ → ℕ → Bracket → List SizeError
@@ -199,20 +203,21 @@ part_fault line whole _ = no_faults
 abbrev pub part_width_faults : ℕ → ℕ → Bracket → List SizeError
 part_width_faults whole limit NoBracket = no_faults
 part_width_faults whole limit (Bit i) = outside limit i ++ i.width_faults
-part_width_faults whole limit (Part a b) = (outside whole a ++ a.width_faults) ++ ((outside whole b ++ b.width_faults) ++ wrong_order whole a b)
+part_width_faults whole limit (Part a b) =
+    (outside whole a ++ (wrong_order a b ++ a.width_faults)) ++ (outside whole b ++ b.width_faults)
 part_width_faults whole limit (Indexed base width) = base.width_faults ++ width.width_faults
 
--- a parameter; what makes its constant is at fault, and not its name where it is read
-abbrev pub of_param : ℕ → Const → Sizes
-of_param line c = record {
+-- a parameter; where what makes it is at fault its number isn't known, and its name is no fault where it is read
+abbrev pub of_param : ℕ → Const → Bool → Sizes
+of_param line c known = record {
   line = line;
   plain = is_plain_const c;
-  unsized = is_plain_const c;
-  without_size = false;
+  is_unsized = is_plain_const c;
+  unsized_literal = false;
   constant = true;
   width = const_width c;
-  whole = in_range (const_number c);
-  value = λ w. const_value c;
+  whole = if known then in_range (const_number c) else None;
+  value = λ w. if known then Some (const_number c) else None;
   const_faults = no_faults;
   width_faults = no_faults;
 }
@@ -222,8 +227,8 @@ abbrev pub of_read : ℕ → ℕ → List SizeError → List SizeError → Sizes
 of_read line width const_faults width_faults = record {
   line = line;
   plain = false;
-  unsized = false;
-  without_size = false;
+  is_unsized = false;
+  unsized_literal = false;
   constant = false;
   width = width;
   whole = None;
@@ -235,14 +240,15 @@ of_read line width const_faults width_faults = record {
 -- a net, a memory's word, or a select of one; where there are two brackets the first one holds the word's index
 abbrev pub of_place : ℕ → ℕ → ℕ → ℕ → Option Sizes → Bracket → Sizes
 of_place line width picked limit None last =
-    of_read line (part_width width picked last) (part_const_faults last) (part_fault line width last ++ part_width_faults width limit last)
+    of_read line (part_width width picked last) (part_const_faults last)
+    (part_fault line width last ++ part_width_faults width limit last)
 of_place line width picked limit (Some i) last =
     of_read line (part_width width 1 last) (i.const_faults ++ part_const_faults last)
     (part_fault line width last ++ ((outside limit i ++ i.width_faults) ++ part_width_faults width width last))
 
 -- where there is no such net or memory, and so in a constant position, the read is at fault
 abbrev pub of_ref : ℕ → Meaning → Option Sizes → Bracket → Sizes
-of_ref line (Parameter c) index last = of_param line c
+of_ref line (Parameter c known) index last = of_param line c known
 of_ref line (Place width picked limit) index last = of_place line width picked limit index last
 of_ref line Undeclared index last = of_read line 0 (error.Const line ∷ []) no_faults
 
@@ -268,40 +274,37 @@ sum_fault line parts =
     told_if (all_lawful parts && not (is_lawful (total_width parts)))
     (error.Width line (total_width parts))
 
--- a part of v bits with the number m below the number n of the parts before, of w bits in all
-abbrev pub join_part : ℕ → ℕ → ℕ → ℕ → ℕ
-join_part w v n m = (n * 2 ^ v % 2 ^ w + m) % 2 ^ w
-
--- the numbers of the parts before, then that of a part of v bits
+-- the number of `before` bits that the parts before make, then that of a part of v bits
 abbrev pub join_with : ℕ → Option ℕ → Sizes → Option ℕ → Option ℕ
-join_with w n p None = None
-join_with w n p (Some v) = of_two (λ (a b : ℕ). Some (join_part w v a b)) n (p.value v)
+join_with before n p None = None
+join_with before n p (Some v) = of_two (λ (high low : ℕ). Some (side_by_side high low before v)) n (p.value v)
 
--- the parts' numbers after the number of those before; the first part is the highest
+-- the parts' numbers after that of those before, of `before` bits; the first part is the highest
 abbrev pub joined : ℕ → Option ℕ → List Sizes → Option ℕ
-joined w n [] = n
-joined w n (p ∷ parts) = joined w (join_with w n p (own_width p)) parts
+joined before n [] = n
+joined before n (p ∷ parts) = joined (before + p.width) (join_with before n p (own_width p)) parts
 
 -- the width of constant parts in all, where it is lawful
 abbrev pub concat_own_width : List Sizes → Option ℕ
-concat_own_width parts = if all_constant parts && is_lawful (total_width parts) then Some (total_width parts) else None
+concat_own_width parts =
+    if all_constant parts && is_lawful (total_width parts) then Some (total_width parts) else None
 
 -- the parts' numbers joined, where their width is lawful
 abbrev pub joined_at : List Sizes → Option ℕ → Option ℕ
 joined_at parts None = None
-joined_at parts (Some w) = joined w (Some 0) parts
+joined_at parts (Some w) = joined 0 (Some 0) parts
 
 -- the number of a concatenation
 abbrev pub concat_value : List Sizes → Option ℕ
 concat_value parts = joined_at parts (concat_own_width parts)
 
 -- a part that is unsized, or a based literal without a size
-abbrev pub sizeless_part : Sizes → List SizeError
-sizeless_part p = told_if (p.unsized || p.without_size) (error.Const p.line)
+abbrev pub unsized_part : Sizes → List SizeError
+unsized_part p = told_if (p.is_unsized || p.unsized_literal) (error.Const p.line)
 
 -- what is found in the parts, of each one that it is unsized first
 abbrev pub parts_const_faults : List Sizes → List SizeError
-parts_const_faults parts = flat_map (λ (p : Sizes). sizeless_part p ++ p.const_faults) parts
+parts_const_faults parts = flat_map (λ (p : Sizes). unsized_part p ++ p.const_faults) parts
 
 -- what is found in the parts
 abbrev pub parts_width_faults : List Sizes → List SizeError
@@ -312,8 +315,8 @@ abbrev pub of_concat : ℕ → List Sizes → Sizes
 of_concat line parts = record {
   line = line;
   plain = false;
-  unsized = false;
-  without_size = false;
+  is_unsized = false;
+  unsized_literal = false;
   constant = all_constant parts;
   width = total_width parts;
   whole = None;
@@ -321,6 +324,10 @@ of_concat line parts = record {
   const_faults = parts_const_faults parts;
   width_faults = sum_fault line parts ++ parts_width_faults parts;
 }
+
+-- the number of an operator that works at the width of the whole
+abbrev pub wide_value : UnaryOp → (ℕ → Option ℕ) → ℕ → Option ℕ
+wide_value op value w = of_one (λ (n : ℕ). unary_value op n w) (value w)
 
 -- the number of an operator that works on an operand of its own width
 abbrev pub narrow_value : UnaryOp → (ℕ → Option ℕ) → Option ℕ → Option ℕ
@@ -332,13 +339,13 @@ abbrev pub of_sign : ℕ → UnaryOp → Sizes → Sizes
 of_sign line op a = record {
   line = line;
   plain = false;
-  unsized = false;
-  without_size = false;
+  is_unsized = false;
+  unsized_literal = false;
   constant = a.constant;
   width = if is_wide op then a.width else 1;
   whole = None;
-  value = λ w. if is_wide op then of_one (λ (n : ℕ). unary_value op n w) (a.value w) else narrow_value op a.value (own_width a);
-  const_faults = told_if (is_wide op && a.unsized) (error.Const line) ++ a.const_faults;
+  value = λ w. if is_wide op then wide_value op a.value w else narrow_value op a.value (own_width a);
+  const_faults = told_if (is_wide op && a.is_unsized) (error.Const line) ++ a.const_faults;
   width_faults = a.width_faults;
 }
 
@@ -362,7 +369,8 @@ is_bad_operator op a b a_plain b_plain = is_bad_kind (kind_of op) op a b a_plain
 
 -- the larger width of two constant expressions, where it is lawful
 unfoldable pub shared_width : Sizes → Sizes → Option ℕ
-shared_width a b = if (a.constant && b.constant) && is_lawful (max a.width b.width) then Some (max a.width b.width) else None
+shared_width a b =
+    if (a.constant && b.constant) && is_lawful (max a.width b.width) then Some (max a.width b.width) else None
 
 -- a comparison of two operands at the width that they share
 abbrev pub compared : BinaryOp → (ℕ → Option ℕ) → (ℕ → Option ℕ) → Option ℕ → Option ℕ
@@ -370,31 +378,38 @@ compared op a b None = None
 compared op a b (Some w) = of_two (λ (m n : ℕ). Some (binary_value op m n w)) (a w) (b w)
 
 -- the number of two operands at width w, by the kind of the operator between them
-abbrev pub binary_number : Kind → BinaryOp → Sizes → Sizes → ℕ → Option ℕ
-binary_number Sum op a b w = of_two (λ (m n : ℕ). Some (binary_value op m n w)) (a.value w) (b.value w)
-binary_number Comparison op a b w = compared op a.value b.value (shared_width a b)
-binary_number Logic op a b w = of_two (λ (m n : ℕ). Some (binary_value op m n w)) (own a) (own b)
-binary_number Shift op a b w = of_two (λ (m n : ℕ). Some (binary_value op m n w)) (a.value w) (own b)
+abbrev pub operated : Kind → BinaryOp → Sizes → Sizes → ℕ → Option ℕ
+operated Sum op a b w = of_two (λ (m n : ℕ). Some (binary_value op m n w)) (a.value w) (b.value w)
+operated Comparison op a b w = compared op a.value b.value (shared_width a b)
+operated Logic op a b w = of_two (λ (m n : ℕ). Some (binary_value op m n w)) (own a) (own b)
+operated Shift op a b w = of_two (λ (m n : ℕ). Some (binary_value op m n w)) (a.value w) (own b)
 
 -- of the numbers of parts without a fault, one out of range
 abbrev pub is_out : BinaryOp → Option ℕ → Option ℕ → Bool
 is_out op (Some a) (Some b) = is_none (whole_value op a b)
 is_out op _ _ = false
 
+-- two plain operands with an operator of plain expressions between them
+abbrev pub is_plain_binary : BinaryOp → Sizes → Sizes → Bool
+is_plain_binary op a b = is_plain_op op && (a.plain && b.plain)
+
+-- an operator that isn't lawful there, or a value out of range
+abbrev pub is_bad_binary : BinaryOp → Sizes → Sizes → Bool
+is_bad_binary op a b =
+    is_bad_operator op a.is_unsized b.is_unsized a.plain b.plain || (is_plain_binary op a b && is_out op a.whole b.whole)
+
 -- two operands with an operator between them
 abbrev pub of_binary : BinaryOp → Sizes → Sizes → Sizes
 of_binary op a b = record {
   line = a.line;
-  plain = is_plain_op op && (a.plain && b.plain);
-  unsized = (is_plain_op op && (a.plain && b.plain)) || (is_plain_shift op && a.plain);
-  without_size = false;
+  plain = is_plain_binary op a b;
+  is_unsized = is_plain_binary op a b || (is_plain_shift op && a.plain);
+  unsized_literal = false;
   constant = a.constant && b.constant;
   width = binary_width (kind_of op) a.width b.width;
   whole = of_two (whole_value op) a.whole b.whole;
-  value = λ w. binary_number (kind_of op) op a b w;
-  const_faults =
-      told_if (is_bad_operator op a.unsized b.unsized a.plain b.plain || ((is_plain_op op && (a.plain && b.plain)) && is_out op a.whole b.whole)) (error.Const a.line)
-      ++ (a.const_faults ++ b.const_faults);
+  value = λ w. operated (kind_of op) op a b w;
+  const_faults = told_if (is_bad_binary op a b) (error.Const a.line) ++ (a.const_faults ++ b.const_faults);
   width_faults = a.width_faults ++ b.width_faults;
 }
 
@@ -413,8 +428,8 @@ abbrev pub of_choice : Sizes → Sizes → Sizes → Sizes
 of_choice c a b = record {
   line = c.line;
   plain = c.constant && (a.plain && b.plain);
-  unsized = a.unsized && b.unsized;
-  without_size = false;
+  is_unsized = a.is_unsized && b.is_unsized;
+  unsized_literal = false;
   constant = c.constant && (a.constant && b.constant);
   width = max a.width b.width;
   whole = chosen_whole (number c) a.whole b.whole;
@@ -424,57 +439,74 @@ of_choice c a b = record {
 }
 
 abbrev mutual
-  -- an expression in a scope
-  pub sizes_of : Scope → ExprOf ℕ → Sizes
-  sizes_of s (UnaryExpr None prim) = sizes_of_prim s prim
-  sizes_of s (UnaryExpr (Some sign) prim) = of_sign sign.line sign.op (sizes_of_prim s prim)
-  sizes_of s (BinaryExpr a op b) = of_binary op (sizes_of s a) (sizes_of s b)
-  sizes_of s (ChoiceExpr c a b) = of_choice (sizes_of s c) (sizes_of s a) (sizes_of s b)
+  -- an expression, where these names may be read
+  pub sizes_of : Readable → ExprOf ℕ → Sizes
+  sizes_of r (UnaryExpr None prim) = sizes_of_prim r prim
+  sizes_of r (UnaryExpr (Some sign) prim) = of_sign sign.line sign.op (sizes_of_prim r prim)
+  sizes_of r (BinaryExpr a op b) = of_binary op (sizes_of r a) (sizes_of r b)
+  sizes_of r (ChoiceExpr c a b) = of_choice (sizes_of r c) (sizes_of r a) (sizes_of r b)
 
-  pub sizes_of_prim : Scope → PrimOf ℕ → Sizes
-  sizes_of_prim s (NumberPrim n) = of_number n
-  sizes_of_prim s (RefPrim r) = sizes_of_ref s r
-  sizes_of_prim s (ParenPrim line e) = of_paren line (sizes_of s e)
-  sizes_of_prim s (ConcatPrim line es) = of_concat line (sizes_of_all s es)
+  pub sizes_of_prim : Readable → PrimOf ℕ → Sizes
+  sizes_of_prim r (NumberPrim n) = of_number n
+  sizes_of_prim r (RefPrim ref) = sizes_of_ref r ref
+  sizes_of_prim r (ParenPrim line e) = of_paren line (sizes_of r e)
+  sizes_of_prim r (ConcatPrim line es) = of_concat line (sizes_of_all r es)
 
-  pub sizes_of_ref : Scope → RefOf ℕ → Sizes
-  sizes_of_ref s (RefWith id index last) = of_ref id.line (meaning_of s id.name) (sizes_of_index s index) (sizes_of_last s last)
+  pub sizes_of_ref : Readable → RefOf ℕ → Sizes
+  sizes_of_ref r (RefWith id index last) =
+      of_ref id.line (meaning_of r id.name) (sizes_of_index r index) (sizes_of_last r last)
 
-  pub sizes_of_index : Scope → IndexOf ℕ → Option Sizes
-  sizes_of_index s NoIndex = None
-  sizes_of_index s (Index e) = Some (sizes_of s e)
+  pub sizes_of_index : Readable → IndexOf ℕ → Option Sizes
+  sizes_of_index r NoIndex = None
+  sizes_of_index r (Index e) = Some (sizes_of r e)
 
-  pub sizes_of_last : Scope → LastOf ℕ → Bracket
-  sizes_of_last s NoLast = NoBracket
-  sizes_of_last s (Last sel) = sizes_of_sel s sel
+  pub sizes_of_last : Readable → LastOf ℕ → Bracket
+  sizes_of_last r NoLast = NoBracket
+  sizes_of_last r (Last sel) = sizes_of_sel r sel
 
   -- bounds and the width after `+:` are constant positions
-  pub sizes_of_sel : Scope → SelOf ℕ → Bracket
-  sizes_of_sel s (IndexSel e) = Bit (sizes_of s e)
-  sizes_of_sel s (PartSel first second) = Part (sizes_of (fixed s) first) (sizes_of (fixed s) second)
-  sizes_of_sel s (IndexedSel base width) = Indexed (sizes_of s base) (sizes_of (fixed s) width)
+  pub sizes_of_sel : Readable → SelOf ℕ → Bracket
+  sizes_of_sel r (IndexSel e) = Bit (sizes_of r e)
+  sizes_of_sel r (PartSel first second) = Part (sizes_of (fixed r) first) (sizes_of (fixed r) second)
+  sizes_of_sel r (IndexedSel base width) = Indexed (sizes_of r base) (sizes_of (fixed r) width)
 
-  pub sizes_of_all : Scope → ExprsOf ℕ → List Sizes
-  sizes_of_all s NoExprs = []
-  sizes_of_all s (MoreExprs e es) = sizes_of s e ∷ sizes_of_all s es
+  pub sizes_of_all : Readable → ExprsOf ℕ → List Sizes
+  sizes_of_all r NoExprs = []
+  sizes_of_all r (MoreExprs e es) = sizes_of r e ∷ sizes_of_all r es
+
+-- a target has the width and the faults of the expression of the same form
+abbrev mutual
+  pub sizes_of_target : Readable → TargetOf ℕ → Sizes
+  sizes_of_target r (RefTarget ref) = sizes_of_ref r ref
+  sizes_of_target r (ConcatTarget line ts) = of_concat line (sizes_of_targets r ts)
+
+  pub sizes_of_targets : Readable → TargetsOf ℕ → List Sizes
+  sizes_of_targets r NoTargets = []
+  sizes_of_targets r (MoreTargets t ts) = sizes_of_target r t ∷ sizes_of_targets r ts
 
 -- E5's findings, then E6's
 unfoldable pub faults : Sizes → List SizeError
 faults e = e.const_faults ++ e.width_faults
 
--- a constant that has no number: a plain one out of range, or one of width 0
-abbrev pub numberless : Bool → Const
-numberless true = const.Plain 4294967295
-numberless false = const.Sized 0 0
+-- a number as the constant of an expression: plain, or of the expression's width
+abbrev pub constant_at : Bool → ℕ → ℕ → Const
+constant_at plain width n = if plain then const.Plain n else const.Sized width n
 
--- plain, or of the width
-abbrev pub constant_at : Bool → ℕ → Option ℕ → Const
-constant_at plain width None = numberless plain
-constant_at plain width (Some n) = if plain then const.Plain n else const.Sized width n
+-- the constant of an expression that has a number
+unfoldable pub constant_of : Sizes → Option Const
+constant_of e = option_map (constant_at e.plain e.width) (number e)
 
--- the constant of an expression without a fault
-unfoldable pub constant_of : Sizes → Const
-constant_of e = constant_at e.plain e.width (number e)
+-- the width at which a constant expression is evaluated where it is assigned to w bits: the larger one
+abbrev pub assigned_width : ℕ → Sizes → Option ℕ
+assigned_width w e = if e.constant && is_lawful e.width then Some (max w e.width) else None
+
+-- the number of a constant expression without a fault at that width
+abbrev pub wide_number : ℕ → Sizes → Option ℕ
+wide_number w e = if e.plain then e.whole else (if is_sound e then at_width e.value (assigned_width w e) else None)
+
+-- the number that w bits have where a constant expression without a fault is assigned to them: evaluated, then cut
+unfoldable pub assigned_number : ℕ → Sizes → Option ℕ
+assigned_number w e = of_one (λ (n : ℕ). n % 2 ^ w) (wide_number w e)
 
 -- the width of a constant expression, no more than the largest number
 unfoldable pub constant_width : Sizes → Option ℕ

@@ -1,16 +1,21 @@
-ghost use Rattle.std.specs.Prelude.{◌≡◌, ◌<◌, ◌≤◌, Some, None, [], ◌∷◌, ℕ, List, min, length, ◌&&◌, not};
+//! What is said of each form of expression, from what is said of its parts.
+
+ghost use Rattle.std.specs.Prelude.{◌≡◌, ◌<◌, ◌^◌, [], ◌∷◌, ℕ, List, min, length, ◌&&◌, not};
 ghost use Rattle.vlog_tree.specs.Tree.{NumberOf};
 ghost use Rattle.vlog_tree.specs.Plain.{plain_number};
 ghost use Rattle.vlog_size.specs.Findings.{first, told_if, or_first};
 ghost use Rattle.vlog_size.specs.Literal.{is_lawful, literal_width, is_bad_literal};
-ghost use Rattle.vlog_size.specs.Size.{Sizes, of_number, of_param, of_read, of_sign, of_binary, of_choice, of_paren, is_decimal, is_plain_const, decimal_value, is_bad_operator, is_out, of_two, number, chosen_whole, outside, too_large, wrong_order, wrong_part, bounds_width, Bit, Part, Indexed, of_concat, all_lawful, total_width, sum_fault};
+ghost use Rattle.vlog_size.specs.Size.{Sizes, of_number, of_param, of_read, of_sign, of_binary, of_choice, of_paren, of_concat};
+ghost use Rattle.vlog_size.specs.Size.{is_decimal, is_plain_const, decimal_value, is_bad_operator, is_out, of_two, number};
+ghost use Rattle.vlog_size.specs.Size.{chosen_whole, outside, too_large, wrong_order, wrong_part, bounds_width, Bit, Part, Indexed};
+ghost use Rattle.vlog_size.specs.Size.{all_lawful, total_width, sum_fault};
 ghost use Rattle.vlog_size.specs.Limits.{TOP};
 ghost use Rattle.vlog_size.specs.Operators.{whole_value};
 ghost use Rattle.vlog_size.specs.Facts.{Shows, ShowsNumber, ShowsSelect, ShowsRest};
 ghost use Rattle.vlog_size.specs.declared.error.SizeError.{SizeError};
 
 use crate::error::SizeError;
-use crate::literal::{is_bad_literal, is_lawful, is_without_size, literal_width, spelled_number};
+use crate::literal::{is_bad_literal, is_lawful, is_unsized_literal, literal_width, spelled_number};
 use crate::operators::{
     Kind, in_range, is_plain_op, is_plain_shift, is_wide, kind_of, whole_value,
 };
@@ -24,9 +29,9 @@ pub struct Facts {
     /// The line of its first token.
     pub line: u32,
     pub plain: bool,
-    pub sizeless: bool,
+    pub is_unsized: bool,
     /// A based literal without a size, bare or in parentheses.
-    pub without_size: bool,
+    pub unsized_literal: bool,
     /// It reads parameters alone.
     pub constant: bool,
     /// Its width, or the largest number where it is larger.
@@ -81,8 +86,8 @@ pub fn number_facts(number: &Number) -> Facts
     Facts {
         line: number.line,
         plain: decimal,
-        sizeless: decimal,
-        without_size: is_without_size(number.kind, text),
+        is_unsized: decimal,
+        unsized_literal: is_unsized_literal(number.kind, text),
         constant: true,
         width: literal_width(number.kind, text),
         whole,
@@ -98,18 +103,22 @@ fn is_plain_const(value: Const) -> bool
 }
 
 /// What is said of a parameter that is read on this line.
-pub fn param_facts(line: u32, value: Const) -> Facts
-    ensures { Shows result (of_param line value) }
+pub fn param_facts(line: u32, value: Const, known: bool) -> Facts
+    ensures { Shows result (of_param line value known) }
 {
     let plain = is_plain_const(value);
     Facts {
         line,
         plain,
-        sizeless: plain,
-        without_size: false,
+        is_unsized: plain,
+        unsized_literal: false,
         constant: true,
         width: u128::from(const_width(value)),
-        whole: in_range(const_number(value)),
+        whole: if known {
+            in_range(const_number(value))
+        } else {
+            None
+        },
         const_fault: None,
         width_fault: None,
     }
@@ -121,12 +130,12 @@ pub fn sign_facts(line: u32, op: UnaryOp, a: &Facts) -> Facts
     ensures { (A : Sizes) → Shows a.now A → Shows result (of_sign line op A) }
 {
     let wide = is_wide(op);
-    let bad = told_if(wide && a.sizeless, SizeError::Const { line });
+    let bad = told_if(wide && a.is_unsized, SizeError::Const { line });
     Facts {
         line,
         plain: false,
-        sizeless: false,
-        without_size: false,
+        is_unsized: false,
+        unsized_literal: false,
         constant: a.constant,
         width: if wide { a.width } else { 1 },
         whole: None,
@@ -137,13 +146,13 @@ pub fn sign_facts(line: u32, op: UnaryOp, a: &Facts) -> Facts
 
 /// Whether all operands that count are unsized, and the operator isn't lawful there.
 fn is_bad_operator(op: BinaryOp, a: &Facts, b: &Facts) -> bool
-    ensures { result ≡ is_bad_operator op a.now.sizeless b.now.sizeless a.now.plain b.now.plain }
+    ensures { result ≡ is_bad_operator op a.now.is_unsized b.now.is_unsized a.now.plain b.now.plain }
 {
     match kind_of(op) {
-        Kind::Sum => a.sizeless && b.sizeless && !(is_plain_op(op) && a.plain && b.plain),
-        Kind::Comparison => a.sizeless && b.sizeless && !(a.plain && b.plain),
+        Kind::Sum => a.is_unsized && b.is_unsized && !(is_plain_op(op) && a.plain && b.plain),
+        Kind::Comparison => a.is_unsized && b.is_unsized && !(a.plain && b.plain),
         Kind::Logic => false,
-        Kind::Shift => a.sizeless && !(is_plain_shift(op) && a.plain),
+        Kind::Shift => a.is_unsized && !(is_plain_shift(op) && a.plain),
     }
 }
 
@@ -179,8 +188,8 @@ pub fn binary_facts(op: BinaryOp, a: &Facts, b: &Facts) -> Facts
     Facts {
         line: a.line,
         plain,
-        sizeless: plain || (is_plain_shift(op) && a.plain),
-        without_size: false,
+        is_unsized: plain || (is_plain_shift(op) && a.plain),
+        unsized_literal: false,
         constant: a.constant && b.constant,
         width: binary_width(kind_of(op), a.width, b.width),
         whole: whole_of(op, a.whole, b.whole),
@@ -210,8 +219,8 @@ pub fn choice_facts(condition: &Facts, chosen: Option<u128>, a: &Facts, b: &Fact
     Facts {
         line: condition.line,
         plain: condition.constant && (a.plain && b.plain),
-        sizeless: a.sizeless && b.sizeless,
-        without_size: false,
+        is_unsized: a.is_unsized && b.is_unsized,
+        unsized_literal: false,
         constant: condition.constant && (a.constant && b.constant),
         width: a.width.max(b.width),
         whole: whole_choice(chosen, a.whole, b.whole),
@@ -232,8 +241,8 @@ pub fn read_facts(
     Facts {
         line,
         plain: false,
-        sizeless: false,
-        without_size: false,
+        is_unsized: false,
+        unsized_literal: false,
         constant: false,
         width,
         whole: None,
@@ -281,17 +290,15 @@ pub fn too_large(bound: &Numbered) -> Option<SizeError>
     }
 }
 
-/// The bounds, where both are below the limit and the first one is below the second one.
-pub fn wrong_order(limit: u32, a: &Numbered, b: &Numbered) -> Option<SizeError>
-    ensures { (A B : Sizes) → ShowsNumber a.now A → ShowsNumber b.now B → result ≡ first (wrong_order limit A B) }
+/// The first bound, where it is below the second one.
+pub fn wrong_order(a: &Numbered, b: &Numbered) -> Option<SizeError>
+    ensures { (A B : Sizes) → ShowsNumber a.now A → ShowsNumber b.now B → result ≡ first (wrong_order A B) }
 {
     match (a.number, b.number) {
-        (Some(first), Some(got)) if first < got && got < u128::from(limit) => Some(
-            SizeError::Width {
-                line: a.facts.line,
-                got,
-            },
-        ),
+        (Some(first), Some(got)) if first < got => Some(SizeError::Width {
+            line: a.facts.line,
+            got,
+        }),
         _ => None,
     }
 }
@@ -347,14 +354,14 @@ pub fn part_select(whole: u32, a: &Numbered, b: &Numbered) -> Select
 {
     let a_const = either(too_large(a), a.facts.const_fault);
     let b_const = either(too_large(b), b.facts.const_fault);
-    let a_width = either(outside(whole, a), a.facts.width_fault);
+    let a_own = either(wrong_order(a, b), a.facts.width_fault);
+    let a_width = either(outside(whole, a), a_own);
     let b_width = either(outside(whole, b), b.facts.width_fault);
-    let rest = either(b_width, wrong_order(whole, a, b));
     Select {
         width: bounds_width(a.number, b.number),
         own_fault: None,
         const_fault: either(a_const, b_const),
-        width_fault: either(a_width, rest),
+        width_fault: either(a_width, b_width),
     }
 }
 
@@ -403,8 +410,8 @@ pub fn no_parts() -> Parts
 pub fn with_part(parts: &Parts, part: &Facts) -> Parts
     ensures { (P : Sizes) (rest all : List Sizes) → ShowsRest parts.now (P ∷ rest) all → Shows part.now P → ShowsRest result rest all }
 {
-    let sizeless = part.sizeless || part.without_size;
-    let own = told_if(sizeless, SizeError::Const { line: part.line });
+    let is_unsized = part.is_unsized || part.unsized_literal;
+    let own = told_if(is_unsized, SizeError::Const { line: part.line });
     let consts = either(own, part.const_fault);
     Parts {
         constant: parts.constant && part.constant,
@@ -421,25 +428,25 @@ fn is_wrong_sum(lawful: bool, sum: u128) -> bool
     lawful && !is_lawful(sum)
 }
 
-/// The width of `count` parts of lawful widths in all, where it is unlawful.
-fn sum_fault(line: u32, lawful: bool, sum: u128, count: usize) -> Option<SizeError>
-    ensures { (all : List Sizes) → lawful ≡ all_lawful all → sum ≡ min (total_width all) TOP → count ≡ length all → result ≡ first (sum_fault line all) }
+/// The width of parts of lawful widths in all, where it is unlawful.
+fn sum_fault(line: u32, lawful: bool, sum: u128) -> Option<SizeError>
+    ensures { (all : List Sizes) → length all < 2 ^ 64 → lawful ≡ all_lawful all → sum ≡ min (total_width all) TOP → result ≡ first (sum_fault line all) }
 {
     let wrong = is_wrong_sum(lawful, sum);
     told_if(wrong, SizeError::Width { line, got: sum })
 }
 
-/// What is said of a concatenation of these `count` parts.
+/// What is said of a concatenation of these parts.
 #[tactic(auto, using(crate::proofs::Firsts::first_append))]
-pub fn concat_facts(line: u32, parts: &Parts, count: usize) -> Facts
-    ensures { (all : List Sizes) → ShowsRest parts.now [] all → count ≡ length all → Shows result (of_concat line all) }
+pub fn concat_facts(line: u32, parts: &Parts) -> Facts
+    ensures { (all : List Sizes) → length all < 2 ^ 64 → ShowsRest parts.now [] all → Shows result (of_concat line all) }
 {
-    let own = sum_fault(line, parts.lawful, parts.sum, count);
+    let own = sum_fault(line, parts.lawful, parts.sum);
     Facts {
         line,
         plain: false,
-        sizeless: false,
-        without_size: false,
+        is_unsized: false,
+        unsized_literal: false,
         constant: parts.constant,
         width: parts.sum,
         whole: None,

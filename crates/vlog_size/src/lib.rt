@@ -2,6 +2,7 @@
 //! clauses 3.5 and 5; this project's profile).
 #![tactic(auto)]
 
+mod answers;
 mod error;
 mod facts;
 mod literal;
@@ -11,9 +12,12 @@ mod scope;
 mod size;
 mod value;
 
+pub use answers::{constant, target_width, width};
 pub use error::SizeError;
+pub use facts::{Facts, Numbered, too_large};
+pub use names::{View, fixed, params_view, whole_view};
+pub use operators::{operator_of, unary_operator_of};
 pub use scope::{Const, Param, Params, Scope, ScopeMemories, ScopeMemory, ScopeNet, ScopeNets};
-pub use size::{constant, width};
+pub use size::{assigned_number, facts_of, numbered, target_facts};
+pub use value::is_constant;
 
-#[cfg(test)]
-mod tests;

@@ -1,5 +1,5 @@
 ghost use Rattle.std.specs.Prelude.{◌≡◌, ◌≤◌, ◌+◌, ◌*◌, ◌<◌, ◌^◌, length};
-ghost use Rattle.vlog_size.specs.Literal.{digit, base_of, below_top, digits_from, before_quote, after_quote, based_number, size_of, literal_width, is_without_size, spelled_number, literal_number, is_lawful, is_quote, is_bad_literal};
+ghost use Rattle.vlog_size.specs.Literal.{digit, base_of, below_top, digits_from, before_quote, after_quote, based_number, size_of, literal_width, is_unsized_literal, spelled_number, literal_number, is_lawful, is_quote, is_bad_literal};
 ghost use Rattle.vlog_size.specs.Limits.{TOP};
 ghost use Rattle.std.specs.List.{position_or_len};
 ghost use Rattle.std.specs.Prelude.{min};
@@ -108,8 +108,8 @@ pub fn literal_width(kind: NumberKind, text: &[u8]) -> u128
 }
 
 /// Whether the literal is a based one without a size.
-pub fn is_without_size(kind: NumberKind, text: &[u8]) -> bool
-    ensures { result ≡ is_without_size kind text.now }
+pub fn is_unsized_literal(kind: NumberKind, text: &[u8]) -> bool
+    ensures { result ≡ is_unsized_literal kind text.now }
 {
     match kind {
         NumberKind::Decimal => false,

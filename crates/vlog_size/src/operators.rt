@@ -1,7 +1,13 @@
-ghost use Rattle.std.specs.Prelude.{◌≡◌, ◌*◌, ◌<◌, ◌≤◌, ◌^◌};
-ghost use Rattle.vlog_size.specs.Operators.{kind_of, in_range, whole_value, is_plain_op, is_plain_shift, bit, negative, complement, binary_value, is_wide, unary_value};
+//! The operators of the trees: their kinds, what they stand for, and their numbers.
 
-use vidi_bits::{add_w, mul_w, shl_w, shr_w, sub_w};
+ghost use Rattle.std.specs.Prelude.{◌≡◌, ◌*◌, ◌^◌};
+ghost use Rattle.vlog_operators.specs.Number.{IsWidth};
+ghost use Rattle.vlog_size.specs.Operators.{kind_of, in_range, whole_value, is_plain_op, is_plain_shift, is_wide};
+ghost use Rattle.vlog_size.specs.Operators.{operator_of, unary_operator_of, binary_value, unary_value};
+
+use vidi_bits::{shl_w, shr_w};
+use vlog_operators as operators;
+use vlog_operators::{binary, unary};
 use vlog_tree::{BinaryOp, UnaryOp};
 
 /// The kinds of binary operators.
@@ -69,58 +75,66 @@ pub fn is_wide(op: UnaryOp) -> bool
     matches!(op, UnaryOp::Plus | UnaryOp::Minus | UnaryOp::BitNot)
 }
 
-/// The difference modulo 2 to the power of `w`, each bit turned: `-a - 1`.
-fn complement(a: u128, w: u32) -> u128
-    requires some { 0 < w }
-    requires most { w ≤ 128 }
-    ensures { result ≡ complement a w }
-{
-    sub_w(sub_w(0, a, w), 1, w)
-}
-
-/// The number of a binary operator of two numbers at a width of `w` bits, 1 to 128.
-pub fn binary_value(op: BinaryOp, a: u128, b: u128, w: u32) -> u128
-    requires some { 0 < w }
-    requires most { w ≤ 128 }
-    ensures { result ≡ binary_value op a b w }
+/// The operator that a binary operator of the trees stands for: all is unsigned, so `<<<` is `<<`
+/// and `>>>` is `>>` (IEEE 1364-2005, 5.1.12).
+pub fn operator_of(op: BinaryOp) -> operators::BinaryOp
+    ensures { result ≡ operator_of op }
 {
     match op {
-        BinaryOp::Plus => add_w(a, b, w),
-        BinaryOp::Minus => sub_w(a, b, w),
-        BinaryOp::Times => mul_w(a, b, w),
-        BinaryOp::And => a & b,
-        BinaryOp::Or => a | b,
-        BinaryOp::Xor => a ^ b,
-        BinaryOp::XorTilde | BinaryOp::TildeXor => complement(a ^ b, w),
-        BinaryOp::Less => u128::from(a < b),
-        BinaryOp::LessOrEqual => u128::from(a <= b),
-        BinaryOp::Greater => u128::from(b < a),
-        BinaryOp::GreaterOrEqual => u128::from(b <= a),
-        BinaryOp::Equal => u128::from(a == b),
-        BinaryOp::NotEqual => u128::from(a != b),
-        BinaryOp::LogicalAnd => u128::from(a != 0 && b != 0),
-        BinaryOp::LogicalOr => u128::from(a != 0 || b != 0),
-        BinaryOp::ShiftLeft | BinaryOp::ArithmeticShiftLeft => shl_w(a, b, w),
-        BinaryOp::ShiftRight | BinaryOp::ArithmeticShiftRight => shr_w(a, b, 128),
+        BinaryOp::LogicalOr => operators::BinaryOp::LogicalOr,
+        BinaryOp::LogicalAnd => operators::BinaryOp::LogicalAnd,
+        BinaryOp::Or => operators::BinaryOp::Or,
+        BinaryOp::Xor => operators::BinaryOp::Xor,
+        BinaryOp::XorTilde | BinaryOp::TildeXor => operators::BinaryOp::Xnor,
+        BinaryOp::And => operators::BinaryOp::And,
+        BinaryOp::Equal => operators::BinaryOp::Equal,
+        BinaryOp::NotEqual => operators::BinaryOp::NotEqual,
+        BinaryOp::Less => operators::BinaryOp::Less,
+        BinaryOp::LessOrEqual => operators::BinaryOp::LessEqual,
+        BinaryOp::Greater => operators::BinaryOp::Greater,
+        BinaryOp::GreaterOrEqual => operators::BinaryOp::GreaterEqual,
+        BinaryOp::ShiftLeft | BinaryOp::ArithmeticShiftLeft => operators::BinaryOp::ShiftLeft,
+        BinaryOp::ShiftRight | BinaryOp::ArithmeticShiftRight => operators::BinaryOp::ShiftRight,
+        BinaryOp::Plus => operators::BinaryOp::Add,
+        BinaryOp::Minus => operators::BinaryOp::Subtract,
+        BinaryOp::Times => operators::BinaryOp::Multiply,
     }
 }
 
-/// The number of an operator before an operand of `w` bits, 1 to 128.
-pub fn unary_value(op: UnaryOp, a: u128, w: u32) -> u128
-    requires some { 0 < w }
-    requires most { w ≤ 128 }
-    ensures { result ≡ unary_value op a w }
+/// The operator that a unary operator of the trees stands for; `+` changes nothing.
+pub fn unary_operator_of(op: UnaryOp) -> Option<operators::UnaryOp>
+    ensures { result ≡ unary_operator_of op }
 {
     match op {
-        UnaryOp::Plus => a,
-        UnaryOp::Minus => sub_w(0, a, w),
-        UnaryOp::BitNot => complement(a, w),
-        UnaryOp::LogicalNot | UnaryOp::Nor => u128::from(a == 0),
-        UnaryOp::Or => u128::from(a != 0),
-        UnaryOp::And => u128::from(add_w(a, 1, w) == 0),
-        UnaryOp::Nand => u128::from(add_w(a, 1, w) != 0),
-        UnaryOp::Xor => u128::from(a.count_ones() % 2),
-        UnaryOp::TildeXor | UnaryOp::XorTilde => u128::from(1 - a.count_ones() % 2),
+        UnaryOp::Plus => None,
+        UnaryOp::Minus => Some(operators::UnaryOp::Negate),
+        UnaryOp::LogicalNot => Some(operators::UnaryOp::LogicalNot),
+        UnaryOp::BitNot => Some(operators::UnaryOp::Complement),
+        UnaryOp::And => Some(operators::UnaryOp::ReduceAnd),
+        UnaryOp::Nand => Some(operators::UnaryOp::ReduceNand),
+        UnaryOp::Or => Some(operators::UnaryOp::ReduceOr),
+        UnaryOp::Nor => Some(operators::UnaryOp::ReduceNor),
+        UnaryOp::Xor => Some(operators::UnaryOp::ReduceXor),
+        UnaryOp::TildeXor | UnaryOp::XorTilde => Some(operators::UnaryOp::ReduceXnor),
+    }
+}
+
+/// The number of a binary operator of two numbers at a width of `w` bits.
+pub fn binary_value(op: BinaryOp, a: u128, b: u128, w: u32) -> u128
+    requires { IsWidth w }
+    ensures { result ≡ binary_value op a b w }
+{
+    binary(operator_of(op), a, b, w)
+}
+
+/// The number of an operator before an operand of `w` bits.
+pub fn unary_value(op: UnaryOp, a: u128, w: u32) -> u128
+    requires { IsWidth w }
+    ensures { result ≡ unary_value op a w }
+{
+    match unary_operator_of(op) {
+        Some(op) => unary(op, a, w),
+        None => a,
     }
 }
 

@@ -1,12 +1,14 @@
-ghost use Rattle.std.specs.Prelude.{◌≡◌, ℕ, true, [], ◌∷◌, min, Some, None, IfOk};
-ghost use Rattle.vlog_size.specs.declared.scope.Const.TheVariants as const;
+//! What is said of an expression and of a target, and the number of an expression.
+
+ghost use Rattle.std.specs.Prelude.{◌≡◌, ℕ, [], ◌∷◌, Some, None};
 ghost use Rattle.vlog_size.specs.declared.error.SizeError.TheVariants as error;
+ghost use Rattle.vlog_operators.specs.Number.{IsWidth};
 ghost use Rattle.vlog_tree.specs.Plain.{plain_expr, plain_prim, plain_unary, plain_ref, plain_sel, plain_exprs};
-ghost use Rattle.vlog_size.specs.Findings.{Tried};
-ghost use Rattle.vlog_size.specs.Limits.{TOP};
-ghost use Rattle.vlog_size.specs.Literal.{is_lawful};
-ghost use Rattle.vlog_size.specs.Names.{scope_of, scope_of_params, is_lawful_const, are_lawful_params, is_lawful_scope};
-ghost use Rattle.vlog_size.specs.Size.{sizes_of, sizes_of_prim, sizes_of_ref, sizes_of_sel, sizes_of_all, Sizes, Bracket, NoBracket, number, of_concat, of_read, of_place, no_faults, faults, constant_of, numberless, const_number};
+ghost use Rattle.vlog_tree.specs.Plain.{plain_target, plain_targets};
+ghost use Rattle.vlog_size.specs.Names.{readable_in};
+ghost use Rattle.vlog_size.specs.Size.{sizes_of, sizes_of_prim, sizes_of_ref, sizes_of_sel, sizes_of_all};
+ghost use Rattle.vlog_size.specs.Size.{sizes_of_target, sizes_of_targets};
+ghost use Rattle.vlog_size.specs.Size.{Sizes, Bracket, NoBracket, number, wide_number, assigned_number, of_concat, of_read, of_place, no_faults};
 ghost use Rattle.vlog_size.specs.Facts.{Shows, ShowsNumber, ShowsSelect, ShowsRest};
 
 use crate::error::SizeError;
@@ -15,15 +17,15 @@ use crate::facts::{
     indexed_select, no_parts, number_facts, outside, param_facts, paren_facts, part_select,
     read_facts, sign_facts, with_part,
 };
-use crate::names::{Meaning, View, fixed, meaning_of, params_view, whole_view};
-use crate::scope::{Const, Params, Scope};
-use crate::value::own;
-use vlog_tree::{Expr, Prim as Operand, Ref, Sel, Unary, see_concat};
+use crate::names::{Meaning, View, fixed, meaning_of};
+use crate::value::{assigned_value, own};
+use vidi_bits::trim;
+use vlog_tree::{Expr, Prim as Operand, Ref, Sel, Target, Unary, see_concat, see_concat_target};
 
 /// The number of an expression without a fault that is constant.
 #[tactic(auto, unfolding(crate::specs::Size::number))]
 fn number_of(view: &View<'_>, e: &Expr, facts: &Facts) -> Option<u128>
-    ensures { Shows facts.now (sizes_of (scope_of view.now) (plain_expr e.now)) → result ≡ number (sizes_of (scope_of view.now) (plain_expr e.now)) }
+    ensures { Shows facts.now (sizes_of (readable_in view.now) (plain_expr e.now)) → result ≡ number (sizes_of (readable_in view.now) (plain_expr e.now)) }
 {
     if facts.plain {
         return match facts.whole {
@@ -39,8 +41,8 @@ fn number_of(view: &View<'_>, e: &Expr, facts: &Facts) -> Option<u128>
 
 /// What is said of an expression.
 #[cycle(facts)]
-fn facts_of(view: &View<'_>, e: &Expr) -> Facts
-    ensures { Shows result (sizes_of (scope_of view.now) (plain_expr e.now)) }
+pub fn facts_of(view: &View<'_>, e: &Expr) -> Facts
+    ensures { Shows result (sizes_of (readable_in view.now) (plain_expr e.now)) }
 {
     match e {
         Expr::Unary(unary) => unary_facts(view, unary),
@@ -64,8 +66,8 @@ fn facts_of(view: &View<'_>, e: &Expr) -> Facts
 
 /// What is said of an expression, and its number.
 #[cycle(facts)]
-fn numbered(view: &View<'_>, e: &Expr) -> Numbered
-    ensures { ShowsNumber result (sizes_of (scope_of view.now) (plain_expr e.now)) }
+pub fn numbered(view: &View<'_>, e: &Expr) -> Numbered
+    ensures { ShowsNumber result (sizes_of (readable_in view.now) (plain_expr e.now)) }
 {
     let facts = facts_of(view, e);
     let number = number_of(view, e, &facts);
@@ -74,7 +76,7 @@ fn numbered(view: &View<'_>, e: &Expr) -> Numbered
 
 #[cycle(facts)]
 fn unary_facts(view: &View<'_>, unary: &Unary) -> Facts
-    ensures { Shows result (sizes_of (scope_of view.now) (plain_unary unary.now)) }
+    ensures { Shows result (sizes_of (readable_in view.now) (plain_unary unary.now)) }
 {
     match unary.sign {
         None => prim_facts(view, &unary.prim),
@@ -87,7 +89,7 @@ fn unary_facts(view: &View<'_>, unary: &Unary) -> Facts
 
 #[cycle(facts)]
 fn prim_facts(view: &View<'_>, prim: &Operand) -> Facts
-    ensures { Shows result (sizes_of_prim (scope_of view.now) (plain_prim prim.now)) }
+    ensures { Shows result (sizes_of_prim (readable_in view.now) (plain_prim prim.now)) }
 {
     match prim {
         Operand::Number(number) => number_facts(number),
@@ -105,23 +107,23 @@ fn prim_facts(view: &View<'_>, prim: &Operand) -> Facts
 
 #[cycle(facts)]
 fn parts_facts(view: &View<'_>, line: u32, parts: &[Expr]) -> Facts
-    ensures { Shows result (of_concat line (sizes_of_all (scope_of view.now) (plain_exprs parts.now))) }
+    ensures { Shows result (of_concat line (sizes_of_all (readable_in view.now) (plain_exprs parts.now))) }
 {
     let mut so_far = no_parts();
     for part in parts {
         let facts = facts_of(view, part);
         so_far = with_part(&so_far, &facts);
     }
-    concat_facts(line, &so_far, parts.len())
+    concat_facts(line, &so_far)
 }
 
 #[cycle(facts)]
 fn ref_facts(view: &View<'_>, name: &Ref) -> Facts
-    ensures { Shows result (sizes_of_ref (scope_of view.now) (plain_ref name.now)) }
+    ensures { Shows result (sizes_of_ref (readable_in view.now) (plain_ref name.now)) }
 {
     let line = name.id.line;
     match meaning_of(view, name.id.name.as_slice()) {
-        Meaning::Parameter(value) => param_facts(line, value),
+        Meaning::Parameter { value, known } => param_facts(line, value, known),
         Meaning::Undeclared => undeclared_facts(line),
         Meaning::Place {
             width,
@@ -203,7 +205,7 @@ fn lone_word_facts(line: u32, width: u32, limit: u32, word: &Numbered) -> Facts
 /// What a select adds. An index picks some bits below the limit.
 #[cycle(facts)]
 fn select(view: &View<'_>, line: u32, whole: u32, picked: u32, limit: u32, sel: &Sel) -> Select
-    ensures { ShowsSelect line whole picked limit result (sizes_of_sel (scope_of view.now) (plain_sel sel.now)) }
+    ensures { ShowsSelect line whole picked limit result (sizes_of_sel (readable_in view.now) (plain_sel sel.now)) }
 {
     match sel {
         Sel::Index(e) => {
@@ -225,115 +227,59 @@ fn select(view: &View<'_>, line: u32, whole: u32, picked: u32, limit: u32, sel: 
     }
 }
 
-/// The width, or the first fault.
-#[tactic(auto, unfolding(crate::specs::Size::faults))]
-fn width_answer(facts: &Facts) -> Result<u32, SizeError>
-    ensures told { (E : Sizes) → Shows facts.now E → Tried result (faults E) }
-    ensures value { (E : Sizes) → Shows facts.now E → IfOk result (λ w. w ≡ min E.width 4294967295) }
+/// What is said of a target: its width in bits, and its first faults (IEEE 1364-2005, 9.2).
+#[cycle(targets)]
+pub fn target_facts(view: &View<'_>, target: &Target) -> Facts
+    ensures { Shows result (sizes_of_target (readable_in view.now) (plain_target target.now)) }
 {
-    match (facts.const_fault, facts.width_fault) {
-        (Some(e), _) | (None, Some(e)) => Err(e),
-        (None, None) => Ok(narrow(facts.width)),
+    match target {
+        Target::Ref(name) => ref_facts(view, name),
+        Target::Concat { line, parts } => {
+            see_concat_target(*line, parts);
+            targets_facts(view, *line, parts.as_slice())
+        }
     }
 }
 
-/// The constant of this number: plain, or of the expression's width.
-fn constant_from(facts: &Facts, n: u128) -> Const
-    ensures { (E : Sizes) → Shows facts.now E → number E ≡ Some n → result ≡ constant_of E }
+#[cycle(targets)]
+fn targets_facts(view: &View<'_>, line: u32, parts: &[Target]) -> Facts
+    ensures { Shows result (of_concat line (sizes_of_targets (readable_in view.now) (plain_targets parts.now))) }
+{
+    let mut so_far = no_parts();
+    for part in parts {
+        let facts = target_facts(view, part);
+        so_far = with_part(&so_far, &facts);
+    }
+    concat_facts(line, &so_far)
+}
+
+/// The number that `w` bits have where a constant expression is assigned to them, as a parameter's
+/// range or a register does: it is evaluated at the larger of `w` and its own width, and then cut
+/// (IEEE 1364-2005, 5.4.1). There is none where the expression isn't constant, has a fault, or
+/// rests on a parameter whose number isn't known.
+#[tactic(auto, unfolding(crate::specs::Size::assigned_number))]
+pub fn assigned_number(view: &View<'_>, e: &Expr, w: u32) -> Option<u128>
+    requires { IsWidth w }
+    ensures { result ≡ assigned_number w (sizes_of (readable_in view.now) (plain_expr e.now)) }
+{
+    let facts = facts_of(view, e);
+    let n = wide_number(view, e, &facts, w)?;
+    Some(trim(n, w))
+}
+
+/// The number of a constant expression without a fault at the larger of `w` and its own width.
+fn wide_number(view: &View<'_>, e: &Expr, facts: &Facts, w: u32) -> Option<u128>
+    requires { IsWidth w }
+    ensures { Shows facts.now (sizes_of (readable_in view.now) (plain_expr e.now)) → result ≡ wide_number w (sizes_of (readable_in view.now) (plain_expr e.now)) }
 {
     if facts.plain {
-        return plain_from(facts.whole);
+        return match facts.whole {
+            Some(n) => Some(u128::from(n)),
+            None => None,
+        };
     }
-    Const::Sized {
-        width: narrow(facts.width),
-        n,
+    if facts.const_fault.is_none() && facts.width_fault.is_none() {
+        return assigned_value(view, e, w);
     }
-}
-
-/// A constant that has no number.
-fn numberless(plain: bool) -> Const
-    ensures { result ≡ numberless plain }
-{
-    if plain {
-        Const::Plain { n: u32::MAX }
-    } else {
-        Const::Sized { width: 0, n: 0 }
-    }
-}
-
-/// The number, or the largest one of 32 bits where it is larger.
-fn narrow(w: u128) -> u32
-    ensures { result ≡ min w 4294967295 }
-{
-    u32::try_from(w).unwrap_or(u32::MAX)
-}
-
-/// The plain constant of the value, where there is one.
-fn plain_from(whole: Option<u32>) -> Const
-    ensures { (n : ℕ) → whole ≡ Some n → result ≡ const.Plain n }
-{
-    match whole {
-        Some(n) => Const::Plain { n },
-        None => Const::Plain { n: 0 },
-    }
-}
-
-/// The constant of an expression without a fault.
-#[tactic(auto, unfolding(crate::specs::Size::constant_of))]
-fn constant_of(whole: &Numbered) -> Const
-    ensures { (E : Sizes) → ShowsNumber whole.now E → result ≡ constant_of E }
-{
-    match whole.number {
-        None => numberless(whole.facts.plain),
-        Some(n) => constant_from(&whole.facts, n),
-    }
-}
-
-/// The constant, or the first fault.
-#[tactic(auto, unfolding(crate::specs::Size::faults))]
-fn constant_answer(whole: &Numbered) -> Result<Const, SizeError>
-    ensures told { (E : Sizes) → ShowsNumber whole.now E → Tried result (faults E) }
-    ensures value { (E : Sizes) → ShowsNumber whole.now E → IfOk result (λ c. c ≡ constant_of E) }
-{
-    width_answer(&whole.facts)?;
-    Ok(constant_of(whole))
-}
-
-/// The constant of an expression that may read parameters alone: plain, or of its self-determined
-/// width (IEEE 1364-2005, 5.4.1). Any other name is a fault.
-///
-/// The caller sees to it that no bracket follows a parameter's name. Of an unlawful parameter no
-/// number is known, and what rests on it is answered as an unlawful constant.
-///
-/// # Errors
-///
-/// The first `Const` in text order, else the first `Width`.
-pub fn constant(e: &Expr, params: &Params) -> Result<Const, SizeError>
-    ensures told { Tried result (faults (sizes_of (scope_of_params params.now) (plain_expr e.now))) }
-    ensures value { IfOk result (λ c. c ≡ constant_of (sizes_of (scope_of_params params.now) (plain_expr e.now))) }
-    ensures lawful { are_lawful_params params.now ≡ true → IfOk result (λ c. (is_lawful_const c ≡ true) × (number (sizes_of (scope_of_params params.now) (plain_expr e.now)) ≡ Some (const_number c))) }
-{
-    let view = params_view(params);
-    let whole = numbered(&view, e);
-    constant_answer(&whole)
-}
-
-/// The self-determined width of an expression in bits (IEEE 1364-2005, 5.4.1), or `u32::MAX` where
-/// it is larger, which no lawful scope gives: there it is 1 to 128.
-///
-/// The caller sees to it that the scope has each name, and that each is used as what it is: a
-/// memory with an index, a vector with at most one bracket, a scalar or a parameter with none. What
-/// is found of a net or a parameter that is too wide stands where it is declared, and not here.
-///
-/// # Errors
-///
-/// The first `Const` in text order, else the first `Width`.
-pub fn width(e: &Expr, scope: &Scope) -> Result<u32, SizeError>
-    ensures told { Tried result (faults (sizes_of scope.now (plain_expr e.now))) }
-    ensures value { IfOk result (λ w. w ≡ min (sizes_of scope.now (plain_expr e.now)).width 4294967295) }
-    ensures lawful { is_lawful_scope scope.now ≡ true → IfOk result (λ w. (w ≡ (sizes_of scope.now (plain_expr e.now)).width) × (is_lawful w ≡ true)) }
-{
-    let view = whole_view(scope);
-    let facts = facts_of(&view, e);
-    width_answer(&facts)
+    None
 }

@@ -1,14 +1,21 @@
-ghost use Rattle.std.specs.Prelude.{◌≡◌, ◌<◌, ◌≤◌, Some, None, if◌then◌else◌, IfSome, ℕ, [], ◌∷◌};
+//! The widths and the numbers of constant expressions.
+
+ghost use Rattle.std.specs.Prelude.{◌≡◌, ◌≤◌, ◌+◌, Some, None, if◌then◌else◌, IfSome, ℕ};
+ghost use Rattle.vlog_operators.specs.Number.{IsWidth, side_by_side};
 ghost use Rattle.vlog_size.specs.Literal.{is_lawful};
 ghost use Rattle.vlog_tree.specs.Plain.{plain_expr, plain_prim, plain_unary, plain_ref, plain_exprs};
-ghost use Rattle.vlog_size.specs.Names.{scope_of};
-ghost use Rattle.vlog_size.specs.Size.{sizes_of, sizes_of_prim, sizes_of_ref, sizes_of_all, own, own_width, shared_width, constant_width, constant_widths, const_width, const_number, const_value, binary_width, all_constant, total_width, joined, join_part, join_with, concat_value, of_concat, of_binary, concat_own_width, of_two, narrow_value};
+ghost use Rattle.vlog_size.specs.Names.{readable_in};
+ghost use Rattle.vlog_size.specs.Size.{sizes_of, sizes_of_prim, sizes_of_ref, sizes_of_all, own, own_width, shared_width};
+ghost use Rattle.vlog_size.specs.Size.{at_width, assigned_width};
+ghost use Rattle.vlog_size.specs.Size.{constant_width, constant_widths, const_width, const_number, binary_width};
+ghost use Rattle.vlog_size.specs.Size.{all_constant, total_width, concat_value, of_concat, concat_own_width};
+ghost use Rattle.vlog_size.specs.Facts.{IsJoined};
 
 use crate::literal::{is_lawful, literal_number, literal_width};
 use crate::names::{Meaning, View, meaning_of};
 use crate::operators::{Kind, binary_value, is_wide, kind_of, unary_value};
 use crate::scope::Const;
-use vidi_bits::{add_w, shl_w};
+use vidi_bits::trim;
 use vlog_tree::{Expr, Prim as Operand, Ref, Unary, see_concat};
 
 /// A constant's width. A plain one is 32 bits wide.
@@ -31,17 +38,6 @@ pub fn const_number(value: Const) -> u128
     }
 }
 
-/// A constant's number; a plain one has none past 2,147,483,647.
-fn const_value(value: Const) -> Option<u128>
-    ensures { result ≡ const_value value }
-{
-    match value {
-        Const::Plain { n } if n <= 2_147_483_647 => Some(u128::from(n)),
-        Const::Plain { .. } => None,
-        Const::Sized { n, .. } => Some(n),
-    }
-}
-
 /// The width of two operands of these widths with an operator of this kind between them.
 pub fn binary_width(kind: Kind, left: u128, right: u128) -> u128
     ensures { result ≡ binary_width kind left right }
@@ -58,7 +54,7 @@ pub fn binary_width(kind: Kind, left: u128, right: u128) -> u128
 #[cycle(width)]
 #[tactic(auto, unfolding(crate::specs::Size::constant_width))]
 fn constant_width(view: &View<'_>, e: &Expr) -> Option<u128>
-    ensures { result ≡ constant_width (sizes_of (scope_of view.now) (plain_expr e.now)) }
+    ensures { result ≡ constant_width (sizes_of (readable_in view.now) (plain_expr e.now)) }
 {
     match e {
         Expr::Unary(unary) => unary_width(view, unary),
@@ -83,7 +79,7 @@ fn constant_width(view: &View<'_>, e: &Expr) -> Option<u128>
 #[cycle(width)]
 #[tactic(auto, unfolding(crate::specs::Size::constant_width))]
 fn unary_width(view: &View<'_>, unary: &Unary) -> Option<u128>
-    ensures { result ≡ constant_width (sizes_of (scope_of view.now) (plain_unary unary.now)) }
+    ensures { result ≡ constant_width (sizes_of (readable_in view.now) (plain_unary unary.now)) }
 {
     let width = prim_width(view, &unary.prim)?;
     match unary.sign {
@@ -95,7 +91,7 @@ fn unary_width(view: &View<'_>, unary: &Unary) -> Option<u128>
 #[cycle(width)]
 #[tactic(auto, unfolding(crate::specs::Size::constant_width))]
 fn prim_width(view: &View<'_>, prim: &Operand) -> Option<u128>
-    ensures { result ≡ constant_width (sizes_of_prim (scope_of view.now) (plain_prim prim.now)) }
+    ensures { result ≡ constant_width (sizes_of_prim (readable_in view.now) (plain_prim prim.now)) }
 {
     match prim {
         Operand::Number(number) => Some(literal_width(number.kind, number.text.as_slice())),
@@ -110,10 +106,10 @@ fn prim_width(view: &View<'_>, prim: &Operand) -> Option<u128>
 
 #[tactic(auto, unfolding(crate::specs::Size::constant_width))]
 fn ref_width(view: &View<'_>, name: &Ref) -> Option<u128>
-    ensures { result ≡ constant_width (sizes_of_ref (scope_of view.now) (plain_ref name.now)) }
+    ensures { result ≡ constant_width (sizes_of_ref (readable_in view.now) (plain_ref name.now)) }
 {
     match meaning_of(view, name.id.name.as_slice()) {
-        Meaning::Parameter(value) => Some(u128::from(const_width(value))),
+        Meaning::Parameter { value, known: _ } => Some(u128::from(const_width(value))),
         _ => None,
     }
 }
@@ -122,7 +118,7 @@ fn ref_width(view: &View<'_>, name: &Ref) -> Option<u128>
 #[cycle(width)]
 #[tactic(auto, unfolding(crate::specs::Size::constant_width, crate::specs::Size::constant_widths))]
 fn concat_width(view: &View<'_>, parts: &[Expr]) -> Option<u128>
-    ensures { result ≡ constant_width (of_concat 0 (sizes_of_all (scope_of view.now) (plain_exprs parts.now))) }
+    ensures { result ≡ constant_width (of_concat 0 (sizes_of_all (readable_in view.now) (plain_exprs parts.now))) }
 {
     let mut sum: u128 = 0;
     for part in parts {
@@ -142,8 +138,8 @@ fn lawful_width(w: u128) -> Option<u32>
 /// The width of a constant expression, where it is lawful.
 #[tactic(auto, unfolding(crate::specs::Size::constant_width, crate::specs::Size::own_width))]
 fn own_width(view: &View<'_>, e: &Expr) -> Option<u32>
-    ensures value { result ≡ own_width (sizes_of (scope_of view.now) (plain_expr e.now)) }
-    ensures lawful { IfSome result (λ w. 0 < w × w ≤ 128) }
+    ensures value { result ≡ own_width (sizes_of (readable_in view.now) (plain_expr e.now)) }
+    ensures lawful { IfSome result (λ w. IsWidth w) }
 {
     lawful_width(constant_width(view, e)?)
 }
@@ -151,8 +147,8 @@ fn own_width(view: &View<'_>, e: &Expr) -> Option<u32>
 /// The width of a constant operand, where it is lawful.
 #[tactic(auto, unfolding(crate::specs::Size::constant_width, crate::specs::Size::own_width))]
 fn own_prim_width(view: &View<'_>, prim: &Operand) -> Option<u32>
-    ensures value { result ≡ own_width (sizes_of_prim (scope_of view.now) (plain_prim prim.now)) }
-    ensures lawful { IfSome result (λ w. 0 < w × w ≤ 128) }
+    ensures value { result ≡ own_width (sizes_of_prim (readable_in view.now) (plain_prim prim.now)) }
+    ensures lawful { IfSome result (λ w. IsWidth w) }
 {
     lawful_width(prim_width(view, prim)?)
 }
@@ -160,8 +156,8 @@ fn own_prim_width(view: &View<'_>, prim: &Operand) -> Option<u32>
 /// The larger width of two constant expressions, where it is lawful.
 #[tactic(auto, unfolding(crate::specs::Size::constant_width, crate::specs::Size::shared_width))]
 fn shared_width(view: &View<'_>, left: &Expr, right: &Expr) -> Option<u32>
-    ensures value { result ≡ shared_width (sizes_of (scope_of view.now) (plain_expr left.now)) (sizes_of (scope_of view.now) (plain_expr right.now)) }
-    ensures lawful { IfSome result (λ w. 0 < w × w ≤ 128) }
+    ensures value { result ≡ shared_width (sizes_of (readable_in view.now) (plain_expr left.now)) (sizes_of (readable_in view.now) (plain_expr right.now)) }
+    ensures lawful { IfSome result (λ w. IsWidth w) }
 {
     let left = constant_width(view, left)?;
     let right = constant_width(view, right)?;
@@ -172,18 +168,35 @@ fn shared_width(view: &View<'_>, left: &Expr, right: &Expr) -> Option<u32>
 #[cycle(value)]
 #[tactic(auto, unfolding(crate::specs::Size::own))]
 pub fn own(view: &View<'_>, e: &Expr) -> Option<u128>
-    ensures { result ≡ own (sizes_of (scope_of view.now) (plain_expr e.now)) }
+    ensures { result ≡ own (sizes_of (readable_in view.now) (plain_expr e.now)) }
 {
     let w = own_width(view, e)?;
     value(view, e, w)
 }
 
+/// The number of a constant expression at the larger of `w` and its own width, where that is lawful.
+#[tactic(auto, unfolding(crate::specs::Size::own_width))]
+pub fn assigned_value(view: &View<'_>, e: &Expr, w: u32) -> Option<u128>
+    requires { IsWidth w }
+    ensures { result ≡ at_width (sizes_of (readable_in view.now) (plain_expr e.now)).value (assigned_width w (sizes_of (readable_in view.now) (plain_expr e.now))) }
+{
+    let own = own_width(view, e)?;
+    value(view, e, w.max(own))
+}
+
+/// Whether an expression reads parameters alone.
+#[tactic(auto, unfolding(crate::specs::Size::constant_width))]
+pub fn is_constant(view: &View<'_>, e: &Expr) -> bool
+    ensures { result ≡ (sizes_of (readable_in view.now) (plain_expr e.now)).constant }
+{
+    constant_width(view, e).is_some()
+}
+
 /// The number of a constant expression at a width of `w` bits, 1 to 128.
 #[cycle(value)]
 fn value(view: &View<'_>, e: &Expr, w: u32) -> Option<u128>
-    requires some { 0 < w }
-    requires most { w ≤ 128 }
-    ensures { result ≡ (sizes_of (scope_of view.now) (plain_expr e.now)).value w }
+    requires { IsWidth w }
+    ensures { result ≡ (sizes_of (readable_in view.now) (plain_expr e.now)).value w }
 {
     match e {
         Expr::Unary(unary) => unary_number(view, unary, w),
@@ -227,9 +240,8 @@ fn value(view: &View<'_>, e: &Expr, w: u32) -> Option<u128>
 
 #[cycle(value)]
 fn unary_number(view: &View<'_>, unary: &Unary, w: u32) -> Option<u128>
-    requires some { 0 < w }
-    requires most { w ≤ 128 }
-    ensures { result ≡ (sizes_of (scope_of view.now) (plain_unary unary.now)).value w }
+    requires { IsWidth w }
+    ensures { result ≡ (sizes_of (readable_in view.now) (plain_unary unary.now)).value w }
 {
     match unary.sign {
         None => prim_number(view, &unary.prim, w),
@@ -247,9 +259,8 @@ fn unary_number(view: &View<'_>, unary: &Unary, w: u32) -> Option<u128>
 
 #[cycle(value)]
 fn prim_number(view: &View<'_>, prim: &Operand, w: u32) -> Option<u128>
-    requires some { 0 < w }
-    requires most { w ≤ 128 }
-    ensures { result ≡ (sizes_of_prim (scope_of view.now) (plain_prim prim.now)).value w }
+    requires { IsWidth w }
+    ensures { result ≡ (sizes_of_prim (readable_in view.now) (plain_prim prim.now)).value w }
 {
     match prim {
         Operand::Number(number) => literal_number(number.kind, number.text.as_slice()),
@@ -263,54 +274,70 @@ fn prim_number(view: &View<'_>, prim: &Operand, w: u32) -> Option<u128>
 }
 
 fn ref_number(view: &View<'_>, name: &Ref) -> Option<u128>
-    ensures { (w : ℕ) → result ≡ (sizes_of_ref (scope_of view.now) (plain_ref name.now)).value w }
+    ensures { (w : ℕ) → result ≡ (sizes_of_ref (readable_in view.now) (plain_ref name.now)).value w }
 {
     match meaning_of(view, name.id.name.as_slice()) {
-        Meaning::Parameter(value) => const_value(value),
+        Meaning::Parameter { value, known: true } => Some(const_number(value)),
         _ => None,
     }
 }
 
-/// The numbers `n` and `part`, of `v` bits, joined at a width of `w` bits, 1 to 128.
-fn join_part(w: u32, v: u32, n: u128, part: u128) -> u128
-    requires some { 0 < w }
-    requires most { w ≤ 128 }
-    ensures { result ≡ join_part w v n part }
+/// The numbers of the parts before, of `before` bits, and of a part of `v` bits side by side.
+fn join_part(before: u32, v: u32, high: u128, low: u128) -> u128
+    requires part { IsWidth v }
+    requires all { before + v ≤ 128 }
+    ensures { result ≡ side_by_side high low before v }
 {
-    add_w(shl_w(n, u128::from(v), w), part, w)
+    if before == 0 {
+        trim(low, v)
+    } else {
+        vlog_operators::joined(high, low, before, v)
+    }
+}
+
+/// What parts of a concatenation make: so many bits, and a number.
+#[derive(Clone, Copy)]
+struct Joined {
+    width: u32,
+    number: u128,
 }
 
 /// The number of a concatenation of constant parts.
 #[cycle(value)]
 fn concat_number(view: &View<'_>, parts: &[Expr]) -> Option<u128>
-    ensures { result ≡ concat_value (sizes_of_all (scope_of view.now) (plain_exprs parts.now)) }
+    ensures { result ≡ concat_value (sizes_of_all (readable_in view.now) (plain_exprs parts.now)) }
 {
-    let w = own_concat_width(view, parts)?;
-    let mut n = Some(0);
+    let _whole = own_concat_width(view, parts)?;
+    let mut so_far = Joined {
+        width: 0,
+        number: 0,
+    };
     for part in parts {
-        n = joined_with(view, w, n, part);
+        so_far = joined_with(view, &so_far, part)?;
     }
-    n
+    Some(so_far.number)
 }
 
 /// The width of constant parts in all, where it is lawful.
 #[tactic(auto, unfolding(crate::specs::Size::constant_width))]
 fn own_concat_width(view: &View<'_>, parts: &[Expr]) -> Option<u32>
-    ensures value { result ≡ concat_own_width (sizes_of_all (scope_of view.now) (plain_exprs parts.now)) }
-    ensures lawful { IfSome result (λ w. 0 < w × w ≤ 128) }
+    ensures value { result ≡ concat_own_width (sizes_of_all (readable_in view.now) (plain_exprs parts.now)) }
+    ensures lawful { IfSome result (λ w. IsWidth w) }
 {
     lawful_width(concat_width(view, parts)?)
 }
 
-/// The number `n` with that of the next part.
+/// The parts so far with the next one, where that has a number.
 #[cycle(value)]
-fn joined_with(view: &View<'_>, w: u32, n: Option<u128>, part: &Expr) -> Option<u128>
-    requires some { 0 < w }
-    requires most { w ≤ 128 }
-    ensures { result ≡ joined w n (sizes_of (scope_of view.now) (plain_expr part.now) ∷ []) }
+#[tactic(auto, unfolding(crate::specs::Size::own_width))]
+fn joined_with(view: &View<'_>, so_far: &Joined, part: &Expr) -> Option<Joined>
+    requires { so_far.now.width + (sizes_of (readable_in view.now) (plain_expr part.now)).width ≤ 128 }
+    ensures { IsJoined so_far.now (sizes_of (readable_in view.now) (plain_expr part.now)) result }
 {
     let v = own_width(view, part)?;
-    let before = n?;
-    let next = value(view, part, v)?;
-    Some(join_part(w, v, before, next))
+    let low = value(view, part, v)?;
+    Some(Joined {
+        width: so_far.width + v,
+        number: join_part(so_far.width, v, so_far.number, low),
+    })
 }

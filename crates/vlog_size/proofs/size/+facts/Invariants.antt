@@ -1,10 +1,10 @@
 use Rattle.std.proofs.Common.{drop}
 use Rattle.vlog_tree.specs.Plain.{plain_exprs}
-use Rattle.vlog_size.specs.Names.{scope_of}
+use Rattle.vlog_size.specs.Names.{readable_in}
 use Rattle.vlog_size.specs.Size.{sizes_of_all}
 use Rattle.vlog_size.specs.Facts.{ShowsRest}
 use Rattle.vlog_size.proofs.size.+facts.Given as goal
 
 abbrev pub invariant-parts_facts-loop-part : goal.invariant-parts_facts-loop-part
 invariant-parts_facts-loop-part l =
-    ShowsRest l.so_far (sizes_of_all (scope_of l.view) (plain_exprs (drop l.part-index l.parts))) (sizes_of_all (scope_of l.view) (plain_exprs l.parts))
+    ShowsRest l.so_far (sizes_of_all (readable_in l.view) (plain_exprs (drop l.part-index l.parts))) (sizes_of_all (readable_in l.view) (plain_exprs l.parts))

@@ -1,0 +1,145 @@
+-- What a name means in a lawful scope is lawful.
+use Rattle.std.proofs.Common.{◌≡◌, ℕ, zero, suc, ◌^◌, ◌<◌, ◌≤◌, Bool, true, false, ◌&&◌, nat_le, nat_lt, if◌then◌else◌, take}
+use Rattle.std.proofs.Common.{Option, None, Some, is_none, List, [], ◌∷◌, refl, arith}
+use Rattle.std.proofs.Math.Pow.{pow_mono}
+use Rattle.std.specs.List.{list_all}
+use Rattle.std.specs.Str.{bytes_eq}
+use Rattle.vlog_size.specs.declared.scope.Const.{Const}
+use Rattle.vlog_size.specs.declared.scope.Const.TheVariants as const
+use Rattle.vlog_size.specs.declared.scope.Param.{Param}
+use Rattle.vlog_size.specs.declared.scope.ScopeNet.{ScopeNet}
+use Rattle.vlog_size.specs.declared.scope.ScopeMemory.{ScopeMemory}
+use Rattle.vlog_size.specs.declared.scope.Scope.{Scope}
+use Rattle.vlog_size.specs.declared.names.Meaning.{Meaning}
+use Rattle.vlog_size.specs.declared.names.Meaning.TheVariants.{Parameter, Place, Undeclared}
+use Rattle.vlog_size.specs.Findings.{or_first}
+use Rattle.vlog_size.specs.Literal.{is_lawful}
+use Rattle.vlog_size.specs.Operators.{in_range}
+use Rattle.vlog_size.specs.Names.{Readable, readable_of, fixed, param_of, net_of, memory_of, or_undeclared, meaning_of}
+use Rattle.vlog_size.specs.Names.{is_lawful_const, are_lawful_params, is_lawful_readable, is_lawful_scope}
+use Rattle.vlog_size.specs.Size.{of_param, const_width, is_plain_const, const_number}
+use Rattle.vlog_size.proofs.Lists.{left_of, right_of, both_of}
+use Rattle.vlog_size.proofs.Fits.{Below, below_none, below_some, wider}
+use Rattle.vlog_size.proofs.Sized.{Sized}
+
+in_range_there : (n : ℕ) → nat_le n 2147483647 ≡ true → is_none (in_range n) ≡ false
+in_range_there n h = rw h refl
+
+const_lawful : (c : Const) → is_lawful_const c ≡ true → is_lawful (const_width c) ≡ true
+const_lawful (const.Plain n) h = refl
+const_lawful (const.Sized w n) h = left_of (is_lawful w) (nat_lt n (2 ^ w)) h
+
+plain_below : (w n : ℕ) → 32 ≤ w → nat_le n 2147483647 ≡ true → n < 2 ^ w
+plain_below w n h l = let grows : 2 ^ 32 ≤ 2 ^ w = pow_mono h in let small : n ≤ 2147483647 = grind arith in omega arith
+
+sized_below : (w n : ℕ) → (is_lawful w && nat_lt n (2 ^ w)) ≡ true → n < 2 ^ w
+sized_below w n h = let fits : nat_lt n (2 ^ w) ≡ true = right_of (is_lawful w) (nat_lt n (2 ^ w)) h in grind arith
+
+const_fits : (c : Const) (w : ℕ) → is_lawful_const c ≡ true → const_width c ≤ w → Below w (Some (const_number c))
+const_fits (const.Plain n) w h l = below_some w n (plain_below w n l h)
+const_fits (const.Sized v n) w h l = wider v w (Some n) l (below_some v n (sized_below v n h))
+
+known_fits : (b : Bool) (c : Const) (w : ℕ) → is_lawful_const c ≡ true → const_width c ≤ w → Below w (if b then Some (const_number c) else None)
+known_fits true c w h l = const_fits c w h l
+known_fits false c w h l = below_none w
+
+known_there : (b : Bool) (n : ℕ) → b ≡ true → is_none (if b then Some n else None) ≡ false
+known_there true n h = refl
+known_there false n h = (cc)
+
+plain_there : (b : Bool) (c : Const) → b ≡ true → is_lawful_const c ≡ true → is_plain_const c ≡ true → is_none (if b then in_range (const_number c) else None) ≡ false
+plain_there true (const.Plain n) k h p = in_range_there n h
+plain_there true (const.Sized w n) k h p = (cc)
+plain_there false c k h p = (cc)
+
+pub param_sized : (line : ℕ) (c : Const) (known : Bool) → known ≡ true → is_lawful_const c ≡ true → Sized (of_param line c known)
+param_sized line c known k l h i = record {
+  lawful = const_lawful c l;
+  fits = λ w wide top. known_fits known c w l wide;
+  known = λ o w. known_there known (const_number c) k;
+  whole = plain_there known c k l;
+}
+
+-- what is found is lawful
+abbrev pub IsLawfulMeaning : Meaning → Type 0
+IsLawfulMeaning (Parameter c known) = (known ≡ true) × (is_lawful_const c ≡ true)
+IsLawfulMeaning (Place width picked limit) = (is_lawful width ≡ true) × (is_lawful picked ≡ true)
+IsLawfulMeaning Undeclared = Unit {0}
+
+abbrev IsLawfulFound : Option Meaning → Type 0
+IsLawfulFound None = Unit {0}
+IsLawfulFound (Some m) = IsLawfulMeaning m
+
+found_or : (b : Bool) (m : Meaning) (o : Option Meaning) → IsLawfulMeaning m → IsLawfulFound o → IsLawfulFound (if b then Some m else o)
+found_or true m o h k = h
+found_or false m o h k = k
+
+param_lawful : (ps : List Param) (name : List ℕ) → are_lawful_params ps ≡ true → IsLawfulFound (param_of ps name)
+param_lawful [] name h = tt
+param_lawful (p ∷ ps) name h =
+    let own : (p.known && is_lawful_const p.value) ≡ true = left_of (p.known && is_lawful_const p.value) (are_lawful_params ps) h in
+    found_or (bytes_eq p.name name) (Parameter p.value p.known) (param_of ps name)
+    (left_of p.known (is_lawful_const p.value) own, right_of p.known (is_lawful_const p.value) own)
+    (param_lawful ps name (right_of (p.known && is_lawful_const p.value) (are_lawful_params ps) h))
+
+net_lawful : (ns : List ScopeNet) (name : List ℕ) → list_all (λ (n : ScopeNet). is_lawful n.width) ns ≡ true → IsLawfulFound (net_of ns name)
+net_lawful [] name h = tt
+net_lawful (n ∷ ns) name h =
+    found_or (bytes_eq n.name name) (Place n.width 1 n.width) (net_of ns name)
+    (left_of (is_lawful n.width) (list_all (λ (n : ScopeNet). is_lawful n.width) ns) h, refl)
+    (net_lawful ns name (right_of (is_lawful n.width) (list_all (λ (n : ScopeNet). is_lawful n.width) ns) h))
+
+memory_lawful : (ms : List ScopeMemory) (name : List ℕ) → list_all (λ (m : ScopeMemory). is_lawful m.width) ms ≡ true → IsLawfulFound (memory_of ms name)
+memory_lawful [] name h = tt
+memory_lawful (m ∷ ms) name h =
+    let w : is_lawful m.width ≡ true = left_of (is_lawful m.width) (list_all (λ (m : ScopeMemory). is_lawful m.width) ms) h in
+    found_or (bytes_eq m.name name) (Place m.width m.width m.length) (memory_of ms name) (w, w)
+    (memory_lawful ms name (right_of (is_lawful m.width) (list_all (λ (m : ScopeMemory). is_lawful m.width) ms) h))
+
+first_lawful : (a b : Option Meaning) → IsLawfulFound a → IsLawfulFound b → IsLawfulFound (or_first a b)
+first_lawful None b h k = k
+first_lawful (Some m) b h k = h
+
+or_lawful : (o : Option Meaning) → IsLawfulFound o → IsLawfulMeaning (or_undeclared o)
+or_lawful None h = tt
+or_lawful (Some m) h = h
+
+pub meaning_lawful : (r : Readable) (name : List ℕ) → is_lawful_readable r ≡ true → IsLawfulMeaning (meaning_of r name)
+meaning_lawful r name h =
+    let params = are_lawful_params r.params && are_lawful_params r.constants in
+    let nets = list_all (λ (n : ScopeNet). is_lawful n.width) r.nets in
+    let memories = list_all (λ (m : ScopeMemory). is_lawful m.width) r.memories in
+    let rest : (nets && memories) ≡ true = right_of params (nets && memories) h in
+    let among : Option Meaning = or_first (net_of r.nets name) (memory_of r.memories name) in
+    or_lawful (or_first (param_of r.params name) among)
+    (first_lawful (param_of r.params name) among
+    (param_lawful r.params name (left_of (are_lawful_params r.params) (are_lawful_params r.constants) (left_of params (nets && memories) h)))
+    (first_lawful (net_of r.nets name) (memory_of r.memories name)
+    (net_lawful r.nets name (left_of nets memories rest))
+    (memory_lawful r.memories name (right_of nets memories rest))))
+
+pub constants_lawful : (r : Readable) → are_lawful_params r.constants ≡ true → is_lawful_readable (fixed r) ≡ true
+constants_lawful r h = rw h refl
+
+pub fixed_lawful : (r : Readable) → is_lawful_readable r ≡ true → is_lawful_readable (fixed r) ≡ true
+fixed_lawful r h =
+    let params = are_lawful_params r.params && are_lawful_params r.constants in
+    let places = list_all (λ (n : ScopeNet). is_lawful n.width) r.nets && list_all (λ (m : ScopeMemory). is_lawful m.width) r.memories in
+    constants_lawful r (right_of (are_lawful_params r.params) (are_lawful_params r.constants) (left_of params places h))
+
+front_lawful : (n : ℕ) (ps : List Param) → are_lawful_params ps ≡ true → are_lawful_params (take n ps) ≡ true
+front_lawful zero ps h = refl
+front_lawful (suc n) [] h = refl
+front_lawful (suc n) (p ∷ ps) h =
+    both_of (p.known && is_lawful_const p.value) (are_lawful_params (take n ps))
+    (left_of (p.known && is_lawful_const p.value) (are_lawful_params ps) h)
+    (front_lawful n ps (right_of (p.known && is_lawful_const p.value) (are_lawful_params ps) h))
+
+pub scope_lawful : (s : Scope) → is_lawful_scope s ≡ true → is_lawful_readable (readable_of s) ≡ true
+scope_lawful s h =
+    let nets = list_all (λ (n : ScopeNet). is_lawful n.width) s.nets in
+    let memories = list_all (λ (m : ScopeMemory). is_lawful m.width) s.memories in
+    let params : are_lawful_params s.params ≡ true = left_of (are_lawful_params s.params) (nets && memories) h in
+    both_of (are_lawful_params s.params && are_lawful_params (take s.declared s.params)) (nets && memories)
+    (both_of (are_lawful_params s.params) (are_lawful_params (take s.declared s.params)) params (front_lawful s.declared s.params params))
+    (right_of (are_lawful_params s.params) (nets && memories) h)

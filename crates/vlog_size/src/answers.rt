@@ -1,0 +1,102 @@
+//! The constant and the width of an expression, or its first fault.
+
+ghost use Rattle.std.specs.Prelude.{◌≡◌, ◌<◌, ◌^◌, true, Some, IfOk, if◌then◌else◌};
+ghost use Rattle.vlog_tree.specs.Plain.{plain_expr, plain_target};
+ghost use Rattle.vlog_size.specs.Findings.{Tried};
+ghost use Rattle.vlog_size.specs.Literal.{is_lawful};
+ghost use Rattle.vlog_size.specs.Names.{readable_of, params_alone, is_lawful_const, are_lawful_params, is_lawful_scope};
+ghost use Rattle.vlog_size.specs.Size.{Sizes, sizes_of, sizes_of_target, faults, constant_at, constant_of};
+ghost use Rattle.vlog_size.specs.Facts.{Shows};
+
+use crate::error::SizeError;
+use crate::facts::Facts;
+use crate::names::{params_view, whole_view};
+use crate::scope::{Const, Params, Scope};
+use crate::size::{facts_of, numbered, target_facts};
+use vlog_tree::{Expr, Target};
+
+/// The first fault, where there is one: the first `Const` in text order, else the first `Width`.
+#[tactic(auto, unfolding(crate::specs::Size::faults))]
+fn faultless(facts: &Facts) -> Result<(), SizeError>
+    ensures { (E : Sizes) → Shows facts.now E → Tried result (faults E) }
+{
+    match (facts.const_fault, facts.width_fault) {
+        (Some(e), _) | (None, Some(e)) => Err(e),
+        (None, None) => Ok(()),
+    }
+}
+
+/// The constant of this number: plain, or of the expression's width.
+fn constant_from(facts: &Facts, n: u128) -> Const
+    requires { (if facts.now.plain then n else facts.now.width) < 2 ^ 32 }
+    ensures { result ≡ constant_at facts.now.plain facts.now.width n }
+{
+    if facts.plain {
+        Const::Plain { n: n as u32 }
+    } else {
+        Const::Sized {
+            width: facts.width as u32,
+            n,
+        }
+    }
+}
+
+/// The constant of an expression that may read these parameters alone: plain, or of its
+/// self-determined width (IEEE 1364-2005, 5.4.1). Any other name is a fault.
+///
+/// The caller sees to it that no bracket follows a parameter's name.
+///
+/// # Errors
+///
+/// The first `Const` in text order, else the first `Width`.
+pub fn constant(e: &Expr, params: &Params) -> Result<Const, SizeError>
+    requires { are_lawful_params params.now ≡ true }
+    ensures told { Tried result (faults (sizes_of (params_alone params.now) (plain_expr e.now))) }
+    ensures value { IfOk result (λ c. constant_of (sizes_of (params_alone params.now) (plain_expr e.now)) ≡ Some c) }
+    ensures lawful { IfOk result (λ c. is_lawful_const c ≡ true) }
+{
+    let view = params_view(params);
+    let whole = numbered(&view, e);
+    faultless(&whole.facts)?;
+    match whole.number {
+        Some(n) => Ok(constant_from(&whole.facts, n)),
+        None => unreachable!(),
+    }
+}
+
+/// The self-determined width of an expression in bits, 1 to 128 (IEEE 1364-2005, 5.4.1).
+///
+/// The caller sees to it that the scope has each name, and that each is used as what it is: a
+/// memory with an index, a vector with at most one bracket, a scalar or a parameter with none.
+///
+/// # Errors
+///
+/// The first `Const` in text order, else the first `Width`.
+pub fn width(e: &Expr, scope: &Scope) -> Result<u32, SizeError>
+    requires { is_lawful_scope scope.now ≡ true }
+    ensures told { Tried result (faults (sizes_of (readable_of scope.now) (plain_expr e.now))) }
+    ensures value { IfOk result (λ w. w ≡ (sizes_of (readable_of scope.now) (plain_expr e.now)).width) }
+    ensures lawful { IfOk result (λ w. is_lawful w ≡ true) }
+{
+    let view = whole_view(scope);
+    let facts = facts_of(&view, e);
+    faultless(&facts)?;
+    Ok(facts.width as u32)
+}
+
+/// The width of a target in bits, 1 to 128, with the conditions and the errors of `width`.
+///
+/// # Errors
+///
+/// The first `Const` in text order, else the first `Width`.
+pub fn target_width(target: &Target, scope: &Scope) -> Result<u32, SizeError>
+    requires { is_lawful_scope scope.now ≡ true }
+    ensures told { Tried result (faults (sizes_of_target (readable_of scope.now) (plain_target target.now))) }
+    ensures value { IfOk result (λ w. w ≡ (sizes_of_target (readable_of scope.now) (plain_target target.now)).width) }
+    ensures lawful { IfOk result (λ w. is_lawful w ≡ true) }
+{
+    let view = whole_view(scope);
+    let facts = target_facts(&view, target);
+    faultless(&facts)?;
+    Ok(facts.width as u32)
+}
