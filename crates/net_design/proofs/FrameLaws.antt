@@ -96,14 +96,14 @@ mutual
       let parts = or_parts (writes a m k) (writes_row rest m k) h in
       joined (updates t a v) (act_row t rest (seen t (updates t a v) v)) m k (act_touch t a v m k parts.0) (row_touch t rest (seen t (updates t a v) v) m k parts.1)
 
-block_touch : (t : Timing) (acts : List Act) (v : Values) (m k : ℕ) → block_writes acts m k ≡ false → touched (block_updates t acts v) m k ≡ false
+pub block_touch : (t : Timing) (acts : List Act) (v : Values) (m k : ℕ) → block_writes acts m k ≡ false → touched (block_updates t acts v) m k ≡ false
 block_touch t [] v m k h = refl
 block_touch t (a ∷ rest) v m k h =
     let parts = or_parts (writes a m k) (block_writes rest m k) h in
     joined (updates t a v) (block_updates t rest (seen t (updates t a v) v)) m k (act_touch t a v m k parts.0) (block_touch t rest (seen t (updates t a v) v) m k parts.1)
 
 -- ---- what isn't touched stays
-set_past : (xs : List ℕ) (i y : ℕ) → length xs ≤ i → slice_set xs i y ≡ xs
+pub set_past : (xs : List ℕ) (i y : ℕ) → length xs ≤ i → slice_set xs i y ≡ xs
 set_past [] i y h = refl
 set_past (x ∷ xs) zero y h = absurd (omega arith)
 set_past (x ∷ xs) (suc i) y h = ap (λ r. x ∷ r) (set_past xs i y (omega arith))
@@ -130,7 +130,7 @@ same_net xs n low w y k l h = ⊎_elim
     (λ (past : length xs ≤ n). ap (λ zs. bit_at (slice_index zs n) k) (set_past xs n (put_of (slice_index xs n) low w y) past))
     (cases_lt n (length xs))
 
-same_or_other : (n m : ℕ) → (n ≡ m) ⊎ (m ≢ n)
+pub same_or_other : (n m : ℕ) → (n ≡ m) ⊎ (m ≢ n)
 same_or_other n m = ⊎_elim
     (λ (l : n < m). inr (λ e. omega arith))
     (λ (g : m ≤ n). ⊎_elim (λ (h : m < n). inr (λ e. omega arith)) (λ (h : n ≤ m). inl (omega arith)) (cases_lt m n))

@@ -13,3 +13,4 @@ pub mod SettledParts
 pub mod EquationLaws
 pub mod FrameLaws
 pub mod TargetLaws
+pub mod StateLaws

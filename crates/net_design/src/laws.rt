@@ -16,8 +16,8 @@ ghost use Rattle.net_design.specs.declared.values.Values.{Values};
 ghost use Rattle.net_design.specs.Value.{read, value};
 ghost use Rattle.net_design.specs.Updates.{apply, updates, block_updates, guard_updates, seen, run, ArePlaced, HasParts};
 ghost use Rattle.net_design.specs.Bits.{Apart, block_writes};
-ghost use Rattle.net_design.specs.Settled.{IsSized};
-ghost use Rattle.net_design.specs.Lawful.{IsLawful};
+ghost use Rattle.net_design.specs.Settled.{IsSized, initial, next};
+ghost use Rattle.net_design.specs.Lawful.{IsLawful, IsState};
 ghost use Rattle.net_design.specs.Example.{example, driven_twice, not_driven, held_driven, stray_initial, named_twice};
 
 /// The updates of two lists are made by making those of the first, then those of the second.
@@ -60,6 +60,16 @@ pub fn unwritten_bits_stay()
 /// A lawful design can be evaluated.
 pub fn lawful_is_sized()
     ensures { (d : Design) → IsLawful d → IsSized d }
+{}
+
+/// The initial state of a lawful design is a state.
+pub fn initial_is_state()
+    ensures { (d : Design) → IsLawful d → IsState d (initial d) }
+{}
+
+/// The next state of a state is a state, whatever the clocked blocks read.
+pub fn next_is_state()
+    ensures { (d : Design) (v s : Values) → IsLawful d → IsState d s → IsState d (next d v s) }
 {}
 
 /// A lawful design is shown, with a clock, a register, a memory, an `assign` and an `always @*`, and five neighbours of it that
