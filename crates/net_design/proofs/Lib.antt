@@ -14,3 +14,4 @@ pub mod EquationLaws
 pub mod FrameLaws
 pub mod TargetLaws
 pub mod StateLaws
+pub mod MaskLaws

@@ -8,6 +8,7 @@
 #![tactic(auto)]
 
 mod act;
+mod bit_map;
 mod counts;
 mod design;
 mod expression;
