@@ -1,7 +1,7 @@
 -- An assignment changes nothing exactly where the bits of its target are those of its value.
-use Rattle.std.proofs.Common.{◌≡◌, ℕ, ◌+◌, ◌-◌, ◌*◌, ◌/◌, ◌%◌, ◌^◌, ◌<◌, ◌≤◌, ◌↔◌, [], ◌∷◌, length, slice_index, slice_set, ⊎_elim, ap, sym, subst, ◌∙◌, arith}
+use Rattle.std.proofs.Common.{◌≡◌, ℕ, ◌==◌, Bool, true, false, if◌then◌else◌, refl, ◌+◌, ◌-◌, ◌*◌, ◌/◌, ◌%◌, ◌^◌, ◌<◌, ◌≤◌, ◌↔◌, [], ◌∷◌, append-nil, length, slice_index, slice_set, ⊎_elim, ap, sym, subst, ◌∙◌, arith}
 use Rattle.std.specs.Int.{bit_at}
-use Rattle.std.proofs.lemmas.Bool.{cases_lt}
+use Rattle.std.proofs.lemmas.Bool.{cases_lt, eqb-true}
 use Rattle.std.proofs.lemmas.List.{get_or-set_same, set-get_or}
 use Rattle.std.proofs.lemmas.Nat.{pow_pos, mod_below, shr_split}
 use Rattle.std.proofs.lemmas.Nat.Bits.{bit_at_cat_low, same_from_bits_below}
@@ -9,11 +9,12 @@ use Rattle.vidi_bits.proofs.BitLemmas.{bit_at-part, bit_at-put_below, bit_at-put
 use Rattle.net_design.specs.declared.rhs.Span.{Span}
 use Rattle.net_design.specs.declared.rhs.Rhs.{Rhs}
 use Rattle.net_design.specs.declared.act.Place.TheVariants.{Bits}
-use Rattle.net_design.specs.declared.act.Act.TheVariants.{Copy, Set}
+use Rattle.net_design.specs.declared.act.Act.TheVariants.{Set}
+use Rattle.net_design.specs.declared.values.Target.TheVariants.{Net}
 use Rattle.net_design.specs.declared.values.Values.{Values}
 use Rattle.vlog_operators.specs.Number.{part_of, put_of}
 use Rattle.net_design.specs.Value.{read, value}
-use Rattle.net_design.specs.Updates.{run}
+use Rattle.net_design.specs.Updates.{apply, update, bit_updates, target_updates, run}
 
 pub bit_at-rest : (n k i : ℕ) → i < k → bit_at (n % 2 ^ k) i ≡ bit_at n i
 bit_at-rest n k i l = sym (bit_at_cat_low (n / 2 ^ k) k (n % 2 ^ k) i l) ∙ ap (λ m. bit_at m i) (shr_split n k)
@@ -63,15 +64,30 @@ written_same v m low w x there fits l = (
       ∙ ap (λ xs. record { nets = xs; words = v.words }) (set-get_or v.nets m 0)),
 )
 
-pub copy_equation : (to from : Span) (v : Values) → to.net < length v.nets → slice_index v.nets to.net < 2 ^ 128 → to.low + to.width ≤ 128
-    → (run (Copy to from ∷ []) v ≡ v) ↔ (read to v ≡ read from v % 2 ^ to.width)
-copy_equation to from v there fits l = written_same v to.net to.low to.width (read from v) there fits l
+pub rest_one : (n : ℕ) → n % 2 ^ 0 ≡ 0
+rest_one n = omega arith
+
+bits_by : (none : Bool) (v : Values) (m low w x : ℕ) → (none ≡ true → w ≡ 0) → m < length v.nets → slice_index v.nets m < 2 ^ 128 → low + w ≤ 128
+    → (apply (if none then [] else update (Net m) low w x ∷ []) v ≡ v) ↔ (part_of (slice_index v.nets m) low w ≡ x % 2 ^ w)
+bits_by true v m low w x z there fits l = (
+  (λ h. subst (λ k. slice_index v.nets m / 2 ^ low % 2 ^ k ≡ x % 2 ^ k) (sym (z refl)) (rest_one (slice_index v.nets m / 2 ^ low) ∙ sym (rest_one x))),
+  (λ h. refl),
+)
+bits_by false v m low w x z there fits l = written_same v m low w x there fits l
+
+-- the same of an assignment to bits, of which there may be none
+pub bits_same : (v : Values) (m low w x : ℕ) → m < length v.nets → slice_index v.nets m < 2 ^ 128 → low + w ≤ 128
+    → (apply (bit_updates (Net m) low w x) v ≡ v) ↔ (part_of (slice_index v.nets m) low w ≡ x % 2 ^ w)
+bits_same v m low w x there fits l = bits_by (w == 0) v m low w x (λ t. eqb-true _ _ t) there fits l
 
 whole : (x : ℕ) → x / 2 ^ 0 ≡ x
 whole x = omega arith
 
-pub set_equation : (s : Span) (e : Rhs) (v : Values) → s.net < length v.nets → slice_index v.nets s.net < 2 ^ 128 → s.low + s.width ≤ 128
-    → (run (Set (Bits s ∷ []) e ∷ []) v ≡ v) ↔ (read s v ≡ value e v % 2 ^ s.width)
-set_equation s e v there fits l =
-    subst (λ x. (run (Set (Bits s ∷ []) e ∷ []) v ≡ v) ↔ (read s v ≡ x % 2 ^ s.width)) (whole (value e v))
-    (written_same v s.net s.low s.width (value e v / 2 ^ 0) there fits l)
+pub set_equation : (s : Span) (n : ℕ) (e : Rhs) (v : Values) → s.net < length v.nets → slice_index v.nets s.net < 2 ^ 128 → s.low + s.width ≤ 128
+    → (run (Set (Bits s n ∷ []) e ∷ []) v ≡ v) ↔ (read s v ≡ value e v % 2 ^ s.width)
+set_equation s n e v there fits l =
+    let x : ℕ = value e v in
+    let same : run (Set (Bits s n ∷ []) e ∷ []) v ≡ apply (bit_updates (Net s.net) s.low s.width x) v =
+    ap (λ us. apply us v) (append-nil (target_updates (Bits s n ∷ []) x v) ∙ append-nil (bit_updates (Net s.net) s.low s.width (x / 2 ^ 0)))
+    ∙ ap (λ y. apply (bit_updates (Net s.net) s.low s.width y) v) (whole x) in
+    subst (λ u. (u ≡ v) ↔ (read s v ≡ x % 2 ^ s.width)) (sym same) (bits_same v s.net s.low s.width x there fits l)

@@ -1,21 +1,24 @@
 -- The example is lawful, and its neighbours aren't.
-use Rattle.std.proofs.Common.{◌≡◌, ℕ, zero, suc, ◌^◌, ◌<◌, ◌≤◌, ◌==◌, ◌&&◌, ◌||◌, nat_lt, Bool, true, false, ◌⊎◌, inl, inr, Option, Some, None, All, slice_get, take, refl, ap, sym, subst, ◌∙◌, arith}
+use Rattle.std.proofs.Common.{◌≡◌, ◌≢◌, IsTrue, List, [], ◌∷◌, ℕ, zero, suc, ◌^◌, ◌<◌, ◌≤◌, ◌==◌, ◌&&◌, ◌||◌, nat_lt, Bool, true, false, ◌⊎◌, inl, inr, Option, Some, None, All, slice_get, take, refl, ap, sym, subst, ◌∙◌, arith}
 use Rattle.std.specs.Int.{bit_at}
-use Rattle.std.specs.List.{count_by, sum_by}
+use Rattle.std.specs.List.{AllPairs, count_by, sum_by}
 use Rattle.std.proofs.lemmas.Bool.{eqb-true, ltb-true, le-leb}
 use Rattle.std.proofs.lemmas.Nat.Bits.{bit_at_above}
 use Rattle.net_design.specs.declared.design.Instance.{Instance}
 use Rattle.net_design.specs.declared.design.Net.{Net}
 use Rattle.net_design.specs.declared.design.Register.{Register}
-use Rattle.net_design.specs.declared.design.Array.{Array}
+use Rattle.net_design.specs.declared.design.DesignMemory.{DesignMemory}
 use Rattle.net_design.specs.declared.design.Driver.{Driver}
 use Rattle.net_design.specs.declared.design.Port.{Port}
 use Rattle.net_design.specs.declared.design.Design.{Design}
 use Rattle.vlog_operators.specs.Number.{has, IsWidth}
 use Rattle.net_design.specs.Bits.{named, bits_of}
 use Rattle.net_design.specs.Settled.{net_width, held}
-use Rattle.net_design.specs.Lawful.{IsLawful, IsSpan, IsRoom, IsCode, IsDriver, IsClocked, IsBit, is_input}
-use Rattle.net_design.specs.Example.{net_of, four_words, pair, copies, stores, assigned, combined, example, driven_twice, not_driven, held_driven}
+use Rattle.net_design.specs.declared.act.Timing.{Timing}
+use Rattle.net_design.specs.declared.act.Timing.TheVariants.{Blocking, Nonblocking}
+use Rattle.net_design.specs.Names.{net_names}
+use Rattle.net_design.specs.Lawful.{IsLawful, is_span, is_room, IsCode, IsDriver, IsClocked, IsRegister, IsBit, is_input}
+use Rattle.net_design.specs.Example.{net_of, four_words, pair, copies, stores, assigned, combined, example, driven_twice, not_driven, held_driven, stray_initial, named_twice}
 
 by_true : (b : Bool) → (b ≡ true → ⊥) → b ≡ false
 by_true true h = absurd (h refl)
@@ -55,26 +58,30 @@ in_pair : (n m k : ℕ) → (((n == m) && has 3 k) || false) ≡ true → n ≡ 
 in_pair n m k h = eqb-true _ _ (first (n == m) (has 3 k) h)
 
 module _ (d : Design) where
-  copies_code : (to from : ℕ) → IsSpan d (pair to) → IsSpan d (pair from) → IsCode d (copies to from)
-  copies_code to from t f = record {
-    acts = ((omega arith, (((omega arith, omega arith), t), tt), ((omega arith, omega arith), f)), tt);
-    writes = λ m k. ap (λ b. b || false) (pair_bits to m k) ∙ more (bits_of (pair to) m k);
-    reads = λ m k. ap (λ b. b || false) (pair_bits from m k) ∙ open_one (bits_of (pair from) m k);
+  copies_code : (to from : ℕ) → (t : Timing) → IsTrue (is_span d (pair to)) → IsTrue (is_span d (pair from)) → IsCode d t (copies to from)
+  copies_code to from time t f = record {
+    acts = ((omega arith, (((omega arith, omega arith), omega arith, t), tt), ((omega arith, omega arith), f)), tt);
+    bits = record {
+      writes = λ m k. ap (λ b. b || false) (pair_bits to m k) ∙ more (bits_of (pair to) m k);
+      reads = λ m k. ap (λ b. b || false) (pair_bits from m k) ∙ open_one (bits_of (pair from) m k);
+    };
   }
 
-  stores_code : (at from : ℕ) → IsRoom d four_words 2 → IsSpan d (pair at) → IsSpan d (pair from) → IsCode d (stores at from)
-  stores_code at from r a f = record {
-    acts = ((omega arith, (((omega arith, omega arith), r, ((omega arith, omega arith), a)), tt), ((omega arith, omega arith), f)), tt);
-    writes = λ m k. refl;
-    reads = λ m k.
-        ap (λ b. b || (((from == m) && has 3 k) || false)) (pair_bits at m k)
-        ∙ ap (λ b. bits_of (pair at) m k || (b || false)) (pair_bits from m k)
-        ∙ open_two (bits_of (pair at) m k) (bits_of (pair from) m k);
+  stores_code : (at from : ℕ) → (t : Timing) → IsTrue (is_room d four_words 2) → IsTrue (is_span d (pair at)) → IsTrue (is_span d (pair from)) → IsCode d t (stores at from)
+  stores_code at from time r a f = record {
+    acts = ((omega arith, (((omega arith, omega arith), omega arith, r, ((omega arith, omega arith), a)), tt), ((omega arith, omega arith), f)), tt);
+    bits = record {
+      writes = λ m k. refl;
+      reads = λ m k.
+          ap (λ b. b || (((from == m) && has 3 k) || false)) (pair_bits at m k)
+          ∙ ap (λ b. bits_of (pair at) m k || (b || false)) (pair_bits from m k)
+          ∙ open_two (bits_of (pair at) m k) (bits_of (pair from) m k);
+    };
   }
 
 assigned_driver : IsDriver example assigned
 assigned_driver = record {
-  code = copies_code example 2 4 (omega arith, omega arith) (omega arith, omega arith);
+  code = copies_code example 2 4 Blocking refl refl;
   whole = λ m k h. sym (ap (λ b. b || false) (pair_bits 2 m k) ∙ more (bits_of (pair 2) m k)) ∙ h;
   no_words = refl;
   equation = λ h. ((λ m k t. refl), tt);
@@ -83,7 +90,7 @@ assigned_driver = record {
 
 combined_driver : IsDriver example combined
 combined_driver = record {
-  code = copies_code example 4 3 (omega arith, omega arith) (omega arith, omega arith);
+  code = copies_code example 4 3 Blocking refl refl;
   whole = λ m k h. sym (ap (λ b. b || false) (pair_bits 4 m k) ∙ more (bits_of (pair 4) m k)) ∙ h;
   no_words = refl;
   equation = λ h. absurd cc;
@@ -104,12 +111,17 @@ all_nets (suc (suc (suc zero))) d l = one_net 113 2 (omega arith) (omega arith)
 all_nets (suc (suc (suc (suc zero)))) d l = one_net 116 2 (omega arith) (omega arith)
 all_nets (suc (suc (suc (suc (suc k))))) d l = absurd (omega arith)
 
-all_memories : All (λ (a : Array). IsWidth a.width × (1 ≤ a.room.length) × (a.instance < 2)) example.memories
+all_memories : All (λ (a : DesignMemory). IsWidth a.width × (1 ≤ a.room.length) × (a.instance < 2)) example.memories
 all_memories zero d l = ((omega arith, omega arith), omega arith, omega arith)
 all_memories (suc k) d l = absurd (omega arith)
 
-all_registers : All (λ (r : Register). (r.net < 5) × (is_input example r.net ≡ false) × (r.held < 2 ^ net_width example r.net) × (r.initial < 2 ^ net_width example r.net)) example.registers
-all_registers zero d l = (omega arith, refl, omega arith, omega arith)
+no_other_bit : (k : ℕ) → has 3 k ≡ false → bit_at 2 k ≡ 0
+no_other_bit zero h = refl
+no_other_bit (suc zero) h = absurd cc
+no_other_bit (suc (suc k)) h = bit_at_above 2 2 (suc (suc k)) (omega arith) (omega arith)
+
+all_registers : All (IsRegister example) example.registers
+all_registers zero d l = record { net = omega arith; driven = refl; held = omega arith; initial = no_other_bit }
 all_registers (suc k) d l = absurd (omega arith)
 
 all_drivers : All (IsDriver example) example.drivers
@@ -118,8 +130,8 @@ all_drivers (suc zero) d l = combined_driver
 all_drivers (suc (suc k)) d l = absurd (omega arith)
 
 all_blocks : All (IsClocked example) example.blocks
-all_blocks zero d l = record { code = copies_code example 3 1 (omega arith, omega arith) (omega arith, omega arith); held = λ m k h. h }
-all_blocks (suc zero) d l = record { code = stores_code example 3 1 refl (omega arith, omega arith) (omega arith, omega arith); held = λ m k h. absurd cc }
+all_blocks zero d l = record { code = copies_code example 3 1 Nonblocking refl refl; held = λ m k h. h }
+all_blocks (suc zero) d l = record { code = stores_code example 3 1 Nonblocking refl refl refl; held = λ m k h. absurd cc }
 all_blocks (suc (suc k)) d l = absurd (omega arith)
 
 abbrev held_in : {X : Type 0} → Option X → X → X
@@ -147,9 +159,44 @@ parent_first zero x h l = absurd (omega arith)
 parent_first (suc zero) x h l = subst (λ (y : Instance). y.parent < 1) (same_in _ x h) (omega arith)
 parent_first (suc (suc i)) x h l = absurd cc
 
-room_places : (i : ℕ) (a : Array) → slice_get example.memories i ≡ Some a → a.room.first ≡ sum_by (λ (x : Array). x.room.length) (take i example.memories)
-room_places zero a h = sym (ap (λ (y : Array). y.room.first) (same_in _ a h))
+room_places : (i : ℕ) (a : DesignMemory) → slice_get example.memories i ≡ Some a → a.room.first ≡ sum_by (λ (x : DesignMemory). x.room.length) (take i example.memories)
+room_places zero a h = sym (ap (λ (y : DesignMemory). y.room.first) (same_in _ a h))
 room_places (suc i) a h = absurd cc
+
+abbrev letter_of : List (List ℕ) → ℕ
+letter_of [] = 0
+letter_of ([] ∷ rest) = 0
+letter_of ((x ∷ xs) ∷ rest) = x
+
+other : (a b : List (List ℕ)) → (letter_of a ≡ letter_of b → ⊥) → a ≢ b
+other a b h e = h (ap letter_of e)
+
+names_differ : AllPairs (λ (a b : List (List ℕ)). a ≢ b) (net_names example)
+names_differ zero zero d l h = absurd (omega arith)
+names_differ zero (suc zero) d l h = other _ _ (λ e. omega arith)
+names_differ zero (suc (suc zero)) d l h = other _ _ (λ e. omega arith)
+names_differ zero (suc (suc (suc zero))) d l h = other _ _ (λ e. omega arith)
+names_differ zero (suc (suc (suc (suc zero)))) d l h = other _ _ (λ e. omega arith)
+names_differ zero (suc (suc (suc (suc (suc j))))) d l h = absurd (omega arith)
+names_differ (suc zero) zero d l h = absurd (omega arith)
+names_differ (suc zero) (suc zero) d l h = absurd (omega arith)
+names_differ (suc zero) (suc (suc zero)) d l h = other _ _ (λ e. omega arith)
+names_differ (suc zero) (suc (suc (suc zero))) d l h = other _ _ (λ e. omega arith)
+names_differ (suc zero) (suc (suc (suc (suc zero)))) d l h = other _ _ (λ e. omega arith)
+names_differ (suc zero) (suc (suc (suc (suc (suc j))))) d l h = absurd (omega arith)
+names_differ (suc (suc zero)) zero d l h = absurd (omega arith)
+names_differ (suc (suc zero)) (suc zero) d l h = absurd (omega arith)
+names_differ (suc (suc zero)) (suc (suc zero)) d l h = absurd (omega arith)
+names_differ (suc (suc zero)) (suc (suc (suc zero))) d l h = other _ _ (λ e. omega arith)
+names_differ (suc (suc zero)) (suc (suc (suc (suc zero)))) d l h = other _ _ (λ e. omega arith)
+names_differ (suc (suc zero)) (suc (suc (suc (suc (suc j))))) d l h = absurd (omega arith)
+names_differ (suc (suc (suc zero))) (suc (suc (suc (suc zero)))) d l h = other _ _ (λ e. omega arith)
+names_differ (suc (suc (suc zero))) (suc (suc (suc (suc (suc j))))) d l h = absurd (omega arith)
+names_differ (suc (suc (suc zero))) (suc (suc (suc zero))) d l h = absurd (omega arith)
+names_differ (suc (suc (suc zero))) (suc (suc zero)) d l h = absurd (omega arith)
+names_differ (suc (suc (suc zero))) (suc zero) d l h = absurd (omega arith)
+names_differ (suc (suc (suc zero))) zero d l h = absurd (omega arith)
+names_differ (suc (suc (suc (suc i)))) j d l h = absurd (omega arith)
 
 each_driven : (m k : ℕ) → IsBit example m k → is_input example m ≡ false → held example m k ≡ false → count_by (λ (x : Driver). named x.code.writes m k) example.drivers ≡ 1
 each_driven zero k b i h = absurd cc
@@ -181,6 +228,7 @@ lawful = record {
   small = record { instances = omega arith; nets = omega arith; drivers = omega arith; blocks = omega arith; words = omega arith };
   top = omega arith;
   parents = parent_first;
+  names = names_differ;
   nets = all_nets;
   memories = all_memories;
   rooms = room_places;
@@ -209,3 +257,12 @@ undriven law = no_one _ refl (law.driven 4 0 (omega arith) refl refl)
 
 pub both_kinds : IsLawful held_driven → ⊥
 both_kinds law = no_one _ (law.others 3 0 (inr refl)) refl
+
+one_or_none : (a : ℕ) → a ≡ 1 → a ≡ 0 → ⊥
+one_or_none a h k = omega arith
+
+pub stray : IsLawful stray_initial → ⊥
+stray law = one_or_none (bit_at 6 2) refl ((law.registers 0 (record { net = 0; held = 0; initial = 0 }) (omega arith)).initial 2 refl)
+
+pub same_name : IsLawful named_twice → ⊥
+same_name law = law.names 3 4 [] (omega arith) (omega arith) refl

@@ -8,7 +8,7 @@ use Rattle.std.proofs.lemmas.List.Folds.{list_any-append}
 use Rattle.vidi_bits.proofs.BitLemmas.{bit_at-put_below, bit_at-put_above}
 use Rattle.net_design.specs.declared.act.Place.{Place}
 use Rattle.net_design.specs.declared.act.Place.TheVariants.{Bits, BitsFrom, Word, WordFrom}
-use Rattle.net_design.specs.declared.act.Act.{Act, Copy, Set, Branch', Row_of-Act, end_of-Act, more_of-Act, Row_of-Guard, end_of-Guard, more_of-Guard}
+use Rattle.net_design.specs.declared.act.Act.{Act, Set, Read, Branch', Row_of-Act, end_of-Act, more_of-Act, Row_of-Guard, end_of-Guard, more_of-Guard}
 use Rattle.net_design.specs.declared.act.Timing.{Timing}
 use Rattle.net_design.specs.declared.values.Target.{Target}
 use Rattle.net_design.specs.declared.values.Target.TheVariants.{Net, Word as WordTarget}
@@ -46,6 +46,10 @@ either_way : (b : Bool) (xs ys : List Update) (m k : ℕ) → touched xs m k ≡
 either_way true xs ys m k h g = h
 either_way false xs ys m k h g = g
 
+none_or : (b : Bool) (xs : List Update) (m k : ℕ) → touched xs m k ≡ false → touched (if b then [] else xs) m k ≡ false
+none_or true xs m k h = refl
+none_or false xs m k h = h
+
 joined : (xs ys : List Update) (m k : ℕ) → touched xs m k ≡ false → touched ys m k ≡ false → touched (xs ++ ys) m k ≡ false
 joined xs ys m k h g = list_any-append (λ (u : Update). touches_at u.target u m k) xs ys ∙ or_from _ _ h g
 
@@ -59,9 +63,9 @@ inner n m k low size i w h = by_true _ (λ t.
     both_ways _ h (and_both _ _ p.0 (and_both _ _ (le-leb low k (omega arith)) (lt-ltb k (low + size) (omega arith)))))
 
 place_touch : (p : Place) (x : ℕ) (v : Values) (m k : ℕ) → place_writes p m k ≡ false → touched (place_updates p x v) m k ≡ false
-place_touch (Bits s) x v m k h = or_from _ _ h refl
+place_touch (Bits s n) x v m k h = none_or (s.width == 0) _ m k (or_from _ _ h refl)
 place_touch (BitsFrom s i w) x v m k h = either_way (nat_lt (value i v) s.width) _ _ m k (or_from _ _ (inner s.net m k s.low s.width (value i v) w h) refl) refl
-place_touch (Word r i low w) x v m k h = either_way (nat_lt (value i v) r.length) _ _ m k refl refl
+place_touch (Word r i low w n) x v m k h = either_way (nat_lt (value i v) r.length) _ _ m k (none_or (w == 0) _ m k refl) refl
 place_touch (WordFrom r i size j w) x v m k h =
     either_way (nat_lt (value i v) r.length) _ _ m k (either_way (nat_lt (value j v) size) _ _ m k refl refl) refl
 
@@ -73,8 +77,8 @@ target_touch (p ∷ ps) x v m k h =
 
 mutual
   act_touch : (t : Timing) (a : Act) (v : Values) (m k : ℕ) → writes a m k ≡ false → touched (updates t a v) m k ≡ false
-  act_touch t (Copy to from) v m k h = or_from _ _ h refl
   act_touch t (Set target e) v m k h = target_touch target (value e v) v m k h
+  act_touch t (Read e) v m k h = refl
   act_touch t (Branch' n guards l otherwise) v m k h =
       let parts = or_parts (writes_guards guards m k) (writes_row otherwise m k) h in
       guards_touch t guards (act_row t otherwise v) v m k parts.0 (row_touch t otherwise v m k parts.1)
@@ -92,14 +96,14 @@ mutual
       let parts = or_parts (writes a m k) (writes_row rest m k) h in
       joined (updates t a v) (act_row t rest (seen t (updates t a v) v)) m k (act_touch t a v m k parts.0) (row_touch t rest (seen t (updates t a v) v) m k parts.1)
 
-block_touch : (t : Timing) (acts : List Act) (v : Values) (m k : ℕ) → block_writes acts m k ≡ false → touched (block_updates t acts v) m k ≡ false
+pub block_touch : (t : Timing) (acts : List Act) (v : Values) (m k : ℕ) → block_writes acts m k ≡ false → touched (block_updates t acts v) m k ≡ false
 block_touch t [] v m k h = refl
 block_touch t (a ∷ rest) v m k h =
     let parts = or_parts (writes a m k) (block_writes rest m k) h in
     joined (updates t a v) (block_updates t rest (seen t (updates t a v) v)) m k (act_touch t a v m k parts.0) (block_touch t rest (seen t (updates t a v) v) m k parts.1)
 
 -- ---- what isn't touched stays
-set_past : (xs : List ℕ) (i y : ℕ) → length xs ≤ i → slice_set xs i y ≡ xs
+pub set_past : (xs : List ℕ) (i y : ℕ) → length xs ≤ i → slice_set xs i y ≡ xs
 set_past [] i y h = refl
 set_past (x ∷ xs) zero y h = absurd (omega arith)
 set_past (x ∷ xs) (suc i) y h = ap (λ r. x ∷ r) (set_past xs i y (omega arith))
@@ -126,7 +130,7 @@ same_net xs n low w y k l h = ⊎_elim
     (λ (past : length xs ≤ n). ap (λ zs. bit_at (slice_index zs n) k) (set_past xs n (put_of (slice_index xs n) low w y) past))
     (cases_lt n (length xs))
 
-same_or_other : (n m : ℕ) → (n ≡ m) ⊎ (m ≢ n)
+pub same_or_other : (n m : ℕ) → (n ≡ m) ⊎ (m ≢ n)
 same_or_other n m = ⊎_elim
     (λ (l : n < m). inr (λ e. omega arith))
     (λ (g : m ≤ n). ⊎_elim (λ (h : m < n). inr (λ e. omega arith)) (λ (h : n ≤ m). inl (omega arith)) (cases_lt m n))

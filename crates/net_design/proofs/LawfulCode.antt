@@ -1,7 +1,7 @@
 -- The code of a lawful design is sized: what its evaluators ask for.
-use Rattle.std.proofs.Common.{◌≡◌, ℕ, zero, suc, ◌+◌, ◌^◌, ◌<◌, ◌≤◌, Bool, true, false, ◌&&◌, List, [], ◌∷◌, Some, All, length, get_or, take, map, slice_index, slice_get, refl, ap, sym, subst, arith}
+use Rattle.std.proofs.Common.{◌≡◌, ℕ, zero, suc, ◌+◌, ◌^◌, ◌<◌, ◌≤◌, Bool, true, false, ◌&&◌, IsTrue, List, [], ◌∷◌, Some, All, length, get_or, take, map, slice_index, slice_get, refl, ap, sym, subst, arith}
 use Rattle.std.specs.List.{AllByRecursion, sum_by}
-use Rattle.std.proofs.lemmas.Bool.{leb-true, eqb-true}
+use Rattle.std.proofs.lemmas.Bool.{leb-true, ltb-true, eqb-true}
 use Rattle.std.proofs.lemmas.List.Folds.{Any-from_list_any}
 use Rattle.std.proofs.lemmas.List.Sums.{sum_by_more_le}
 use Rattle.net_design.specs.declared.rhs.Span.{Span}
@@ -9,15 +9,15 @@ use Rattle.net_design.specs.declared.rhs.Room.{Room}
 use Rattle.net_design.specs.declared.rhs.Rhs.{Rhs, Number, Bits, Word', Unary', Binary', Choose', Join', Repeat', Select'}
 use Rattle.net_design.specs.declared.act.Place.{Place}
 use Rattle.net_design.specs.declared.act.Place.TheVariants.{Bits as PlaceBits, BitsFrom, Word as PlaceWord, WordFrom}
-use Rattle.net_design.specs.declared.act.Act.{Act, Copy, Set, Branch', Row_of-Act, end_of-Act, more_of-Act, Row_of-Guard, end_of-Guard, more_of-Guard}
+use Rattle.net_design.specs.declared.act.Act.{Act, Set, Read, Branch', Row_of-Act, end_of-Act, more_of-Act, Row_of-Guard, end_of-Guard, more_of-Guard}
 use Rattle.net_design.specs.declared.act.Code.{Code}
 use Rattle.net_design.specs.declared.design.Driver.{Driver}
 use Rattle.net_design.specs.declared.design.Net.{Net}
-use Rattle.net_design.specs.declared.design.Array.{Array}
+use Rattle.net_design.specs.declared.design.DesignMemory.{DesignMemory}
 use Rattle.net_design.specs.declared.design.Design.{Design}
 use Rattle.net_design.specs.Sized.{IsRhs, IsPlace, IsAct, IsGuardRow, IsActRow, IsBlock, IsShort, IsCountable, IsSizedBlock}
 use Rattle.net_design.specs.Settled.{IsSized, net_width, word_count}
-use Rattle.net_design.specs.Lawful.{IsLawful, IsSpan, IsRoom}
+use Rattle.net_design.specs.Lawful.{IsLawful, IsInRange, is_span, is_room}
 
 -- ---- what asks for less of spans and rooms holds of more code
 module _ (P Q : Span → Type 0) (R S : Room → ℕ → Type 0) (p : (s : Span) → P s → Q s) (r : (x : Room) (n : ℕ) → R x n → S x n) where
@@ -33,9 +33,9 @@ module _ (P Q : Span → Type 0) (R S : Room → ℕ → Type 0) (p : (s : Span)
   rhs_more (Select' q a t i w) h = (h.0, rhs_more a h.1, rhs_more i h.2)
 
   place_more : (x : Place) → IsPlace P R x → IsPlace Q S x
-  place_more (PlaceBits s) h = (h.0, p s h.1)
+  place_more (PlaceBits s n) h = (h.0, h.1, p s h.2)
   place_more (BitsFrom s i w) h = (h.0, h.1, p s h.2, rhs_more i h.3)
-  place_more (PlaceWord x i low w) h = (h.0, r x (low + w) h.1, rhs_more i h.2)
+  place_more (PlaceWord x i low w n) h = (h.0, h.1, r x (low + w) h.2, rhs_more i h.3)
   place_more (WordFrom x i size j w) h = (h.0, h.1, r x size h.2, rhs_more i h.3, rhs_more j h.4)
 
   places_more : (xs : List Place) → AllByRecursion (IsPlace P R) xs → AllByRecursion (IsPlace Q S) xs
@@ -44,8 +44,8 @@ module _ (P Q : Span → Type 0) (R S : Room → ℕ → Type 0) (p : (s : Span)
 
   mutual
     act_more : (a : Act) → IsAct P R a → IsAct Q S a
-    act_more (Copy to from) h = (h.0, p to h.1, h.2, p from h.3)
     act_more (Set target e) h = (h.0, places_more target h.1, rhs_more e h.2)
+    act_more (Read e) h = rhs_more e h
     act_more (Branch' n guards m otherwise) h = (guards_more guards h.0, row_more otherwise h.1)
 
     guards_more : {n : _} → (row : Row_of-Guard n) → IsGuardRow P R row → IsGuardRow Q S row
@@ -78,11 +78,11 @@ both : (a b : Bool) → (a && b) ≡ true → (a ≡ true) × (b ≡ true)
 both true b h = (refl, h)
 both false b h = absurd cc
 
-pub room_within : (d : Design) → IsLawful d → (r : Room) (n : ℕ) → IsRoom d r n → (r.first + r.length ≤ word_count d) × (n ≤ 128)
+pub room_within : (d : Design) → IsLawful d → (r : Room) (n : ℕ) → IsTrue (is_room d r n) → (r.first + r.length ≤ word_count d) × (n ≤ 128)
 room_within d law r n h =
     let found = Any-from_list_any _ d.memories h in
     let k = found.0 in
-    let a : Array = found.1 in
+    let a : DesignMemory = found.1 in
     let at : slice_get d.memories k ≡ Some a = slice_get-at d.memories k a found.2 found.3 in
     let t = both _ _ found.4 in
     let u = both _ _ t.1 in
@@ -90,18 +90,23 @@ room_within d law r n h =
     let size : a.room.length ≡ r.length = eqb-true _ _ u.0 in
     let wide : n ≤ a.width = leb-true _ _ u.1 in
     let before = law.rooms k a at in
-    let all : sum_by (λ (x : Array). x.room.length) (take k d.memories) + (get_or d.memories k a).room.length ≤ word_count d = sum_by_more_le (λ (x : Array). x.room.length) d.memories k a found.2 in
-    let item : (get_or d.memories k a).room.length ≡ a.room.length = ap (λ (x : Array). x.room.length) found.3 in
+    let all : sum_by (λ (x : DesignMemory). x.room.length) (take k d.memories) + (get_or d.memories k a).room.length ≤ word_count d = sum_by_more_le (λ (x : DesignMemory). x.room.length) d.memories k a found.2 in
+    let item : (get_or d.memories k a).room.length ≡ a.room.length = ap (λ (x : DesignMemory). x.room.length) found.3 in
     let widest : (get_or d.memories k a).width ≤ 128 = (law.memories k a found.2).0.1 in
-    let width : (get_or d.memories k a).width ≡ a.width = ap (λ (x : Array). x.width) found.3 in
+    let width : (get_or d.memories k a).width ≡ a.width = ap (λ (x : DesignMemory). x.width) found.3 in
     (omega arith, omega arith)
 
-pub block_sized : (d : Design) → IsLawful d → (acts : List Act) → IsBlock (IsSpan d) (IsRoom d) acts → IsSizedBlock acts
+pub span_within : (d : Design) → IsLawful d → (s : Span) → IsTrue (is_span d s) → (s.net < length d.nets) × (s.low + s.width ≤ net_width d s.net)
+span_within d law s h =
+    let t = both _ _ h in
+    (ltb-true _ _ t.0, leb-true _ _ t.1)
+
+pub block_sized : (d : Design) → IsLawful d → (acts : List Act) → IsInRange d acts → IsSizedBlock acts
 block_sized d law acts h =
     let small : word_count d < 2 ^ 32 = law.small.words in
     let few : length d.nets < 2 ^ 32 = law.small.nets in
-    block_more (IsSpan d) (IsShort (2 ^ 64)) (IsRoom d) (IsCountable (2 ^ 64))
-    (λ s x. let w = net_width_le d law s.net in (omega (arith, x.0), omega arith))
+    block_more (λ s. IsTrue (is_span d s)) (IsShort (2 ^ 64)) (λ r n. IsTrue (is_room d r n)) (IsCountable (2 ^ 64))
+    (λ s x. let w = net_width_le d law s.net in let t = span_within d law s x in (omega (arith, t.0), omega (arith, t.1)))
     (λ r n x. let w = room_within d law r n x in (omega arith, w.1))
     acts h
 

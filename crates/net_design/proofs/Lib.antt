@@ -13,3 +13,5 @@ pub mod SettledParts
 pub mod EquationLaws
 pub mod FrameLaws
 pub mod TargetLaws
+pub mod StateLaws
+pub mod MaskLaws

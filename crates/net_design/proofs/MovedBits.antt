@@ -7,10 +7,14 @@ use Rattle.net_design.specs.declared.rhs.Rhs.{Rhs, Number, Bits, Word', Unary', 
 use Rattle.net_design.specs.declared.act.Place.{Place}
 use Rattle.net_design.specs.declared.act.Place.TheVariants.{Bits as PlaceBits, BitsFrom, Word as PlaceWord, WordFrom}
 use Rattle.net_design.specs.declared.act.Mask.{Mask}
-use Rattle.net_design.specs.declared.act.Act.{Act, Copy, Set, Branch', Row_of-Act, end_of-Act, more_of-Act, Row_of-Guard, end_of-Guard, more_of-Guard}
+use Rattle.net_design.specs.declared.act.Act.{Act, Set, Read, Branch', Row_of-Act, end_of-Act, more_of-Act, Row_of-Guard, end_of-Guard, more_of-Guard}
+use Rattle.net_design.specs.declared.act.Code.{Code}
+use Rattle.net_design.specs.declared.act.Timing.{Timing}
+use Rattle.net_design.specs.declared.act.Timing.TheVariants.{Blocking, Nonblocking}
 use Rattle.vlog_operators.specs.Number.{has}
-use Rattle.net_design.specs.Bits.{BitSet, no_bits, either, bits_of, named, reads, place_reads, place_writes, place_adds, target_reads, target_writes, target_adds, Apart, writes, writes_guards, writes_row, adds, adds_guards, adds_row, open_reads, open_reads_guards, open_reads_row, block_writes, block_adds, block_open_reads, place_is_word, writes_words, guards_write_words, row_writes_words, block_writes_words}
-use Rattle.net_design.specs.Moved.{moved_span, moved_rhs, moved_place, moved_act, moved_guards, moved_row, moved_mask, moved_bits}
+use Rattle.net_design.specs.Bits.{BitSet, no_bits, bits_of, named, reads, place_reads, place_writes, place_adds, target_reads, target_writes, target_adds, Apart, writes, writes_guards, writes_row, adds, adds_guards, adds_row, known_after, open_reads, open_reads_guards, open_reads_row}
+use Rattle.net_design.specs.Bits.{HasBits, block_writes, block_adds, block_open_reads, block_reads, place_is_word, writes_words, guards_write_words, row_writes_words, block_writes_words}
+use Rattle.net_design.specs.Moved.{moved_span, moved_rhs, moved_place, moved_act, moved_guards, moved_row, moved_mask, moved_bits, moved}
 
 -- ---- Bool
 same_test : (a b : Bool) → (a ≡ true → b ≡ true) → (b ≡ true → a ≡ true) → a ≡ b
@@ -84,21 +88,21 @@ module _ (net word : ℕ) where
   reads_moved (Select' p a q i w) m k = under_or (nat_le net m) _ _ _ _ (reads_moved a m k) (reads_moved i m k)
 
   place_reads_moved : (p : Place) (m k : ℕ) → place_reads (moved_place net word p) m k ≡ moved_bits net word (place_reads p) m k
-  place_reads_moved (PlaceBits s) m k = no (nat_le net m)
+  place_reads_moved (PlaceBits s n) m k = no (nat_le net m)
   place_reads_moved (BitsFrom s i w) m k = reads_moved i m k
-  place_reads_moved (PlaceWord r i low w) m k = reads_moved i m k
+  place_reads_moved (PlaceWord r i low w n) m k = reads_moved i m k
   place_reads_moved (WordFrom r i size j w) m k = under_or (nat_le net m) _ _ _ _ (reads_moved i m k) (reads_moved j m k)
 
   place_writes_moved : (p : Place) (m k : ℕ) → place_writes (moved_place net word p) m k ≡ moved_bits net word (place_writes p) m k
-  place_writes_moved (PlaceBits s) m k = span_moved s m k
+  place_writes_moved (PlaceBits s n) m k = span_moved s m k
   place_writes_moved (BitsFrom s i w) m k = span_moved s m k
-  place_writes_moved (PlaceWord r i low w) m k = no (nat_le net m)
+  place_writes_moved (PlaceWord r i low w n) m k = no (nat_le net m)
   place_writes_moved (WordFrom r i size j w) m k = no (nat_le net m)
 
   place_adds_moved : (p : Place) (m k : ℕ) → place_adds (moved_place net word p) m k ≡ moved_bits net word (place_adds p) m k
-  place_adds_moved (PlaceBits s) m k = span_moved s m k
+  place_adds_moved (PlaceBits s n) m k = span_moved s m k
   place_adds_moved (BitsFrom s i w) m k = no (nat_le net m)
-  place_adds_moved (PlaceWord r i low w) m k = no (nat_le net m)
+  place_adds_moved (PlaceWord r i low w n) m k = no (nat_le net m)
   place_adds_moved (WordFrom r i size j w) m k = no (nat_le net m)
 
   target_reads_moved : (ps : List Place) (m k : ℕ) → target_reads (map (moved_place net word) ps) m k ≡ moved_bits net word (target_reads ps) m k
@@ -116,8 +120,8 @@ module _ (net word : ℕ) where
   -- ---- statements
   mutual
     writes_moved : (a : Act) (m k : ℕ) → writes (moved_act net word a) m k ≡ moved_bits net word (writes a) m k
-    writes_moved (Copy to from) m k = span_moved to m k
     writes_moved (Set target e) m k = target_writes_moved target m k
+    writes_moved (Read e) m k = no (nat_le net m)
     writes_moved (Branch' n guards l otherwise) m k = under_or (nat_le net m) _ _ _ _ (guard_writes_moved guards m k) (row_writes_moved otherwise m k)
 
     guard_writes_moved : {n : _} → (row : Row_of-Guard n) (m k : ℕ) → writes_guards (moved_guards net word row) m k ≡ moved_bits net word (writes_guards row) m k
@@ -130,8 +134,8 @@ module _ (net word : ℕ) where
 
   mutual
     adds_moved : (a : Act) (m k : ℕ) → adds (moved_act net word a) m k ≡ moved_bits net word (adds a) m k
-    adds_moved (Copy to from) m k = span_moved to m k
     adds_moved (Set target e) m k = target_adds_moved target m k
+    adds_moved (Read e) m k = no (nat_le net m)
     adds_moved (Branch' n guards l otherwise) m k = all_of (nat_le net m) _ _ _ _ (guard_adds_moved guards m k) (row_adds_moved otherwise m k)
 
     guard_adds_moved : {n : _} → (row : Row_of-Guard n) (m k : ℕ) → nat_le net m ≡ true → adds_guards (moved_guards net word row) m k ≡ adds_guards row (m - net) k
@@ -148,30 +152,32 @@ module _ (net word : ℕ) where
   abbrev Same : BitSet → BitSet → Type 0
   Same s t = (m k : ℕ) → nat_le net m ≡ true → s m k ≡ t (m - net) k
 
-  more_known : (s t : BitSet) (a : Act) → Same s t → Same (either s (adds (moved_act net word a))) (either t (adds a))
-  more_known s t a h m k l = both_of _ _ _ _ (h m k l) (under_true (nat_le net m) _ _ (adds_moved a m k) l)
+  more_known : (t : Timing) (s u : BitSet) (a : Act) → Same s u → Same (known_after t s (adds (moved_act net word a))) (known_after t u (adds a))
+  more_known Blocking s u a h m k l = both_of _ _ _ _ (h m k l) (under_true (nat_le net m) _ _ (adds_moved a m k) l)
+  more_known Nonblocking s u a h m k l = h m k l
 
   mutual
-    open_moved : (a : Act) (s t : BitSet) → Same s t → (m k : ℕ) → open_reads (moved_act net word a) s m k ≡ moved_bits net word (open_reads a t) m k
-    open_moved (Copy to from) s t h m k = under_not (nat_le net m) _ _ _ _ (span_moved from m k) (h m k)
-    open_moved (Set target e) s t h m k =
+    open_moved : (t : Timing) (a : Act) (s u : BitSet) → Same s u → (m k : ℕ)
+        → open_reads t (moved_act net word a) s m k ≡ moved_bits net word (open_reads t a u) m k
+    open_moved t (Set target e) s u h m k =
         under_not (nat_le net m) _ _ _ _ (under_or (nat_le net m) _ _ _ _ (reads_moved e m k) (target_reads_moved target m k)) (h m k)
-    open_moved (Branch' n guards l otherwise) s t h m k =
-        under_or (nat_le net m) _ _ _ _ (guard_open_moved guards s t h m k) (row_open_moved otherwise s t h m k)
+    open_moved t (Read e) s u h m k = under_not (nat_le net m) _ _ _ _ (reads_moved e m k) (h m k)
+    open_moved t (Branch' n guards l otherwise) s u h m k =
+        under_or (nat_le net m) _ _ _ _ (guard_open_moved t guards s u h m k) (row_open_moved t otherwise s u h m k)
 
-    guard_open_moved : {n : _} → (row : Row_of-Guard n) (s t : BitSet) → Same s t → (m k : ℕ)
-        → open_reads_guards (moved_guards net word row) s m k ≡ moved_bits net word (open_reads_guards row t) m k
-    guard_open_moved end_of-Guard s t h m k = no (nat_le net m)
-    guard_open_moved (more_of-Guard c n body rest) s t h m k =
+    guard_open_moved : {n : _} → (t : Timing) (row : Row_of-Guard n) (s u : BitSet) → Same s u → (m k : ℕ)
+        → open_reads_guards t (moved_guards net word row) s m k ≡ moved_bits net word (open_reads_guards t row u) m k
+    guard_open_moved t end_of-Guard s u h m k = no (nat_le net m)
+    guard_open_moved t (more_of-Guard c n body rest) s u h m k =
         under_or (nat_le net m) _ _ _ _ (under_not (nat_le net m) _ _ _ _ (reads_moved c m k) (h m k))
-        (under_or (nat_le net m) _ _ _ _ (row_open_moved body s t h m k) (guard_open_moved rest s t h m k))
+        (under_or (nat_le net m) _ _ _ _ (row_open_moved t body s u h m k) (guard_open_moved t rest s u h m k))
 
-    row_open_moved : {n : _} → (row : Row_of-Act n) (s t : BitSet) → Same s t → (m k : ℕ)
-        → open_reads_row (moved_row net word row) s m k ≡ moved_bits net word (open_reads_row row t) m k
-    row_open_moved end_of-Act s t h m k = no (nat_le net m)
-    row_open_moved (more_of-Act a rest) s t h m k =
-        under_or (nat_le net m) _ _ _ _ (open_moved a s t h m k)
-        (row_open_moved rest (either s (adds (moved_act net word a))) (either t (adds a)) (more_known s t a h) m k)
+    row_open_moved : {n : _} → (t : Timing) (row : Row_of-Act n) (s u : BitSet) → Same s u → (m k : ℕ)
+        → open_reads_row t (moved_row net word row) s m k ≡ moved_bits net word (open_reads_row t row u) m k
+    row_open_moved t end_of-Act s u h m k = no (nat_le net m)
+    row_open_moved t (more_of-Act a rest) s u h m k =
+        under_or (nat_le net m) _ _ _ _ (open_moved t a s u h m k)
+        (row_open_moved t rest (known_after t s (adds (moved_act net word a))) (known_after t u (adds a)) (more_known t s u a h) m k)
 
   -- ---- blocks
   pub block_writes_moved : (acts : List Act) (m k : ℕ) → block_writes (map (moved_act net word) acts) m k ≡ moved_bits net word (block_writes acts) m k
@@ -182,20 +188,28 @@ module _ (net word : ℕ) where
   block_adds_moved [] m k = no (nat_le net m)
   block_adds_moved (a ∷ rest) m k = under_or (nat_le net m) _ _ _ _ (adds_moved a m k) (block_adds_moved rest m k)
 
-  block_open : (acts : List Act) (s t : BitSet) → Same s t → (m k : ℕ)
-      → block_open_reads (map (moved_act net word) acts) s m k ≡ moved_bits net word (block_open_reads acts t) m k
-  block_open [] s t h m k = no (nat_le net m)
-  block_open (a ∷ rest) s t h m k =
-      under_or (nat_le net m) _ _ _ _ (open_moved a s t h m k) (block_open rest (either s (adds (moved_act net word a))) (either t (adds a)) (more_known s t a h) m k)
+  block_open : (t : Timing) (acts : List Act) (s u : BitSet) → Same s u → (m k : ℕ)
+      → block_open_reads t (map (moved_act net word) acts) s m k ≡ moved_bits net word (block_open_reads t acts u) m k
+  block_open t [] s u h m k = no (nat_le net m)
+  block_open t (a ∷ rest) s u h m k =
+      under_or (nat_le net m) _ _ _ _ (open_moved t a s u h m k)
+      (block_open t rest (known_after t s (adds (moved_act net word a))) (known_after t u (adds a)) (more_known t s u a h) m k)
 
-  pub block_open_moved : (acts : List Act) (m k : ℕ) → block_open_reads (map (moved_act net word) acts) no_bits m k ≡ moved_bits net word (block_open_reads acts no_bits) m k
-  block_open_moved acts m k = block_open acts no_bits no_bits (λ x y h. refl) m k
+  pub block_open_moved : (t : Timing) (acts : List Act) (m k : ℕ)
+      → block_reads t (map (moved_act net word) acts) m k ≡ moved_bits net word (block_reads t acts) m k
+  block_open_moved t acts m k = block_open t acts no_bits no_bits (λ x y h. refl) m k
+
+  pub bits_moved : (t : Timing) (c : Code) → HasBits t c → HasBits t (moved net word c)
+  bits_moved t c h = record {
+    writes = λ m k. named_moved c.writes m k ∙ ap (λ b. nat_le net m && b) (h.writes (m - net) k) ∙ sym (block_writes_moved c.acts m k);
+    reads = λ m k. named_moved c.reads m k ∙ ap (λ b. nat_le net m && b) (h.reads (m - net) k) ∙ sym (block_open_moved t c.acts m k);
+  }
 
   -- ---- memories, and targets that name no bit twice
   place_word_moved : (p : Place) → place_is_word (moved_place net word p) ≡ place_is_word p
-  place_word_moved (PlaceBits s) = refl
+  place_word_moved (PlaceBits s n) = refl
   place_word_moved (BitsFrom s i w) = refl
-  place_word_moved (PlaceWord r i low w) = refl
+  place_word_moved (PlaceWord r i low w n) = refl
   place_word_moved (WordFrom r i size j w) = refl
 
   target_words_moved : (ps : List Place) → list_any place_is_word (map (moved_place net word) ps) ≡ list_any place_is_word ps
@@ -204,8 +218,8 @@ module _ (net word : ℕ) where
 
   mutual
     words_moved : (a : Act) → writes_words (moved_act net word a) ≡ writes_words a
-    words_moved (Copy to from) = refl
     words_moved (Set target e) = target_words_moved target
+    words_moved (Read e) = refl
     words_moved (Branch' n guards l otherwise) = both_of _ _ _ _ (guard_words_moved guards) (row_words_moved otherwise)
 
     guard_words_moved : {n : _} → (row : Row_of-Guard n) → guards_write_words (moved_guards net word row) ≡ guards_write_words row

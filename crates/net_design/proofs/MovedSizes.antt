@@ -6,7 +6,7 @@ use Rattle.net_design.specs.declared.rhs.Room.{Room}
 use Rattle.net_design.specs.declared.rhs.Rhs.{Rhs, Number, Bits, Word', Unary', Binary', Choose', Join', Repeat', Select'}
 use Rattle.net_design.specs.declared.act.Place.{Place}
 use Rattle.net_design.specs.declared.act.Place.TheVariants.{Bits as PlaceBits, BitsFrom, Word as PlaceWord, WordFrom}
-use Rattle.net_design.specs.declared.act.Act.{Act, Copy, Set, Branch', Row_of-Act, end_of-Act, more_of-Act, Row_of-Guard, end_of-Guard, more_of-Guard}
+use Rattle.net_design.specs.declared.act.Act.{Act, Set, Read, Branch', Row_of-Act, end_of-Act, more_of-Act, Row_of-Guard, end_of-Guard, more_of-Guard}
 use Rattle.net_design.specs.Sized.{IsRhs, IsPlace, IsAct, IsGuardRow, IsActRow, IsBlock}
 use Rattle.net_design.specs.Moved.{moved_span, moved_room, moved_rhs, moved_place, moved_act, moved_guards, moved_row}
 use Rattle.net_design.proofs.MovedValues.{width_moved}
@@ -24,9 +24,9 @@ module _ (net word : ℕ) (P Q : Span → Type 0) (R S : Room → ℕ → Type 0
   rhs_in (Select' q a t i w) h = (h.0, rhs_in a h.1, rhs_in i h.2)
 
   place_in : (x : Place) → IsPlace P R x → IsPlace Q S (moved_place net word x)
-  place_in (PlaceBits s) h = (h.0, p s h.1)
+  place_in (PlaceBits s n) h = (h.0, h.1, p s h.2)
   place_in (BitsFrom s i w) h = (h.0, h.1, p s h.2, rhs_in i h.3)
-  place_in (PlaceWord x i low w) h = (h.0, r x (low + w) h.1, rhs_in i h.2)
+  place_in (PlaceWord x i low w n) h = (h.0, h.1, r x (low + w) h.2, rhs_in i h.3)
   place_in (WordFrom x i size j w) h = (h.0, h.1, r x size h.2, rhs_in i h.3, rhs_in j h.4)
 
   places_in : (xs : List Place) → AllByRecursion (IsPlace P R) xs → AllByRecursion (IsPlace Q S) (map (moved_place net word) xs)
@@ -35,8 +35,8 @@ module _ (net word : ℕ) (P Q : Span → Type 0) (R S : Room → ℕ → Type 0
 
   mutual
     act_in : (a : Act) → IsAct P R a → IsAct Q S (moved_act net word a)
-    act_in (Copy to from) h = (h.0, p to h.1, h.2, p from h.3)
     act_in (Set target e) h = (subst (λ w. w ≤ 128) (sym (width_moved net word target)) h.0, places_in target h.1, rhs_in e h.2)
+    act_in (Read e) h = rhs_in e h
     act_in (Branch' n guards m otherwise) h = (guards_in guards h.0, row_in otherwise h.1)
 
     guards_in : {n : _} → (row : Row_of-Guard n) → IsGuardRow P R row → IsGuardRow Q S (moved_guards net word row)

@@ -7,7 +7,7 @@ use Rattle.net_design.specs.declared.rhs.Room.{Room}
 use Rattle.net_design.specs.declared.rhs.Rhs.{Rhs, Number, Bits, Word', Unary', Binary', Choose', Join', Repeat', Select'}
 use Rattle.net_design.specs.declared.act.Place.{Place}
 use Rattle.net_design.specs.declared.act.Place.TheVariants.{Bits as PlaceBits, BitsFrom, Word as PlaceWord, WordFrom}
-use Rattle.net_design.specs.declared.act.Act.{Act, Copy, Set, Branch', Row_of-Act, end_of-Act, more_of-Act, Row_of-Guard, end_of-Guard, more_of-Guard}
+use Rattle.net_design.specs.declared.act.Act.{Act, Set, Read, Branch', Row_of-Act, end_of-Act, more_of-Act, Row_of-Guard, end_of-Guard, more_of-Guard}
 use Rattle.net_design.specs.declared.act.Timing.{Timing}
 use Rattle.net_design.specs.declared.act.Timing.TheVariants.{Blocking, Nonblocking}
 use Rattle.net_design.specs.declared.values.Target.{Target}
@@ -17,7 +17,7 @@ use Rattle.net_design.specs.declared.values.Values.{Values}
 use Rattle.vlog_operators.specs.Number.{part_of, put_of, repeated}
 use Rattle.net_design.specs.Value.{read, word_at, value}
 use Rattle.vlog_operators.specs.Operators.{unary_number, binary_number}
-use Rattle.net_design.specs.Updates.{written_to, apply, update, part_updates, word_updates, place_updates, place_width, target_width, target_updates, seen, updates, guard_row, act_row, block_updates, run}
+use Rattle.net_design.specs.Updates.{written_to, apply, update, bit_updates, part_updates, word_updates, place_updates, place_width, target_width, target_updates, seen, updates, guard_row, act_row, block_updates, run}
 use Rattle.net_design.specs.Moved.{moved_span, moved_room, moved_rhs, moved_place, moved_act, moved_guards, moved_row, from_first, moved_target, moved_update}
 
 module _ (net word : ℕ) where
@@ -54,6 +54,10 @@ module _ (net word : ℕ) where
   if_map true xs = refl
   if_map false xs = refl
 
+  none_map : (b : Bool) (xs : List Update) → (if b then [] else map (moved_update net word) xs) ≡ map (moved_update net word) (if b then [] else xs)
+  none_map true xs = refl
+  none_map false xs = refl
+
   part_moved : (t : Target) (low size i w x : ℕ) → part_updates (moved_target net word t) low size i w x ≡ map (moved_update net word) (part_updates t low size i w x)
   part_moved t low size i w x = if_map (nat_lt i size) (update t (low + i) (min w (size - i)) x ∷ [])
 
@@ -64,12 +68,13 @@ module _ (net word : ℕ) where
       ∙ if_map (nat_lt i r.length) (g (WordTarget (r.first + i)))
 
   place_moved : (p : Place) (x : ℕ) (v : Values) → place_updates (moved_place net word p) x v ≡ map (moved_update net word) (place_updates p x (from_first net word v))
-  place_moved (PlaceBits s) x v = refl
+  place_moved (PlaceBits s n) x v = none_map (s.width == 0) (update (Net s.net) s.low s.width x ∷ [])
   place_moved (BitsFrom s i w) x v =
       ap (λ k. part_updates (Net (net + s.net)) s.low s.width k w x) (value_moved i v) ∙ part_moved (Net s.net) s.low s.width (value i (from_first net word v)) w x
-  place_moved (PlaceWord r i low w) x v =
-      ap (λ k. word_updates (moved_room net word r) k (λ t. update t low w x ∷ [])) (value_moved i v)
-      ∙ words_moved r (value i (from_first net word v)) (λ t. update t low w x ∷ []) (λ t. update t low w x ∷ []) (λ t. refl)
+  place_moved (PlaceWord r i low w n) x v =
+      ap (λ k. word_updates (moved_room net word r) k (λ t. bit_updates t low w x)) (value_moved i v)
+      ∙ words_moved r (value i (from_first net word v)) (λ t. bit_updates t low w x) (λ t. bit_updates t low w x)
+      (λ t. none_map (w == 0) (update t low w x ∷ []))
   place_moved (WordFrom r i size j w) x v =
       ap (λ k. word_updates (moved_room net word r) k (λ t. part_updates t 0 size (value (moved_rhs net word j) v) w x)) (value_moved i v)
       ∙ words_moved r (value i (from_first net word v)) (λ t. part_updates t 0 size (value (moved_rhs net word j) v) w x)
@@ -77,9 +82,9 @@ module _ (net word : ℕ) where
       (λ t. ap (λ k. part_updates (moved_target net word t) 0 size k w x) (value_moved j v) ∙ part_moved t 0 size (value j (from_first net word v)) w x)
 
   width_place : (p : Place) → place_width (moved_place net word p) ≡ place_width p
-  width_place (PlaceBits s) = refl
+  width_place (PlaceBits s n) = refl
   width_place (BitsFrom s i w) = refl
-  width_place (PlaceWord r i low w) = refl
+  width_place (PlaceWord r i low w n) = refl
   width_place (WordFrom r i size j w) = refl
 
   pub width_moved : (ps : List Place) → target_width (map (moved_place net word) ps) ≡ target_width ps
@@ -156,9 +161,9 @@ module _ (net word : ℕ) where
 
   mutual
     act_moved : (t : Timing) (a : Act) (v : Values) → updates t (moved_act net word a) v ≡ map (moved_update net word) (updates t a (from_first net word v))
-    act_moved t (Copy to from) v = ap (λ x. update (Net (net + to.net)) to.low to.width x ∷ []) (read_moved from v)
     act_moved t (Set target e) v =
         ap (λ x. target_updates (map (moved_place net word) target) x v) (value_moved e v) ∙ target_moved target (value e (from_first net word v)) v
+    act_moved t (Read e) v = refl
     act_moved t (Branch' n guards l otherwise) v =
         guards_moved t guards (act_row t (moved_row net word otherwise) v) (act_row t otherwise (from_first net word v)) v (row_moved t otherwise v)
 

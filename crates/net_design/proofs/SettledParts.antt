@@ -40,34 +40,5 @@ by_bits d v s same i r l k h =
     let x : Register = get_or d.registers i r in
     same x.net k (list_any_at (λ (y : Register). (y.net == x.net) && has y.held k) d.registers i r l (and_both _ _ (eq-eqb x.net x.net refl) h))
 
-pub settled_parts : (d : Design) (s : Values) (pins inputs : List ℕ) (v : Values) (a b c e f g : Bool)
-    → IsTrue a ↔ FitNets d v.nets
-    → IsTrue b ↔ (inputs ≡ pins)
-    → IsTrue c ↔ ((k : ℕ) → d.clock ≡ Some k → slice_index v.nets k ≡ 0)
-    → IsTrue e ↔ All (SameBits v.nets s.nets) d.registers
-    → IsTrue f ↔ (v.words ≡ s.words)
-    → IsTrue g ↔ All (λ (x : Driver). run x.code.acts v ≡ v) d.drivers
-    → inputs ≡ pins_of Input d.ports v.nets
-    → IsTrue (a && (b && (c && (e && (f && g))))) ↔ IsSettled d s pins v
-settled_parts d s pins inputs v a b c e f g ha hb hc he hf hg same = (
-  (λ h.
-      let t = and_parts a _ h in
-      let u = and_parts b _ t.1 in
-      let w = and_parts c _ u.1 in
-      let x = and_parts e _ w.1 in
-      let y = and_parts f g x.1 in
-      record {
-        fit = ha.0 t.0;
-        inputs = sym same ∙ hb.0 u.0;
-        clock = hc.0 w.0;
-        state = by_registers d v.nets s.nets (he.0 x.0);
-        words = hf.0 y.0;
-        driven = hg.0 y.1;
-      }),
-  (λ h.
-      and_both a _ (ha.1 h.fit)
-      (and_both b _ (hb.1 (same ∙ h.inputs))
-      (and_both c _ (hc.1 h.clock)
-      (and_both e _ (he.1 (by_bits d v.nets s.nets h.state))
-      (and_both f g (hf.1 h.words) (hg.1 h.driven)))))),
-)
+pub same_held : (d : Design) (v s : List ℕ) → All (SameBits v s) d.registers ↔ SameHeld d v s
+same_held d v s = (by_registers d v s, by_bits d v s)

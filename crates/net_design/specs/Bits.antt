@@ -7,7 +7,10 @@ use Rattle.net_design.specs.declared.rhs.Rhs.{Rhs, Number, Bits, Word', Unary', 
 use Rattle.net_design.specs.declared.act.Place.{Place}
 use Rattle.net_design.specs.declared.act.Place.TheVariants.{Bits as PlaceBits, BitsFrom, Word as PlaceWord, WordFrom}
 use Rattle.net_design.specs.declared.act.Mask.{Mask}
-use Rattle.net_design.specs.declared.act.Act.{Act, Copy, Set, Branch', Row_of-Act, end_of-Act, more_of-Act, Row_of-Guard, end_of-Guard, more_of-Guard}
+use Rattle.net_design.specs.declared.act.Act.{Act, Set, Read, Branch', Row_of-Act, end_of-Act, more_of-Act, Row_of-Guard, end_of-Guard, more_of-Guard}
+use Rattle.net_design.specs.declared.act.Code.{Code}
+use Rattle.net_design.specs.declared.act.Timing.{Timing}
+use Rattle.net_design.specs.declared.act.Timing.TheVariants.{Blocking, Nonblocking}
 use Rattle.vlog_operators.specs.Number.{has}
 
 abbrev pub BitSet : Type 0
@@ -15,12 +18,6 @@ BitSet = ℕ → ℕ → Bool
 
 abbrev pub no_bits : BitSet
 no_bits m k = false
-
-abbrev pub either : BitSet → BitSet → BitSet
-either a b m k = a m k || b m k
-
-abbrev pub without : BitSet → BitSet → BitSet
-without a b m k = a m k && not (b m k)
 
 abbrev pub bits_of : Span → BitSet
 bits_of s m k = (s.net == m) && (nat_le s.low k && nat_lt k (s.low + s.width))
@@ -44,23 +41,23 @@ reads (Select' p a q i w) m k = reads a m k || reads i m k
 
 -- the bits that a place's indexes read
 abbrev pub place_reads : Place → BitSet
-place_reads (PlaceBits s) m k = false
+place_reads (PlaceBits s n) m k = false
 place_reads (BitsFrom s i w) m k = reads i m k
-place_reads (PlaceWord r i low w) m k = reads i m k
+place_reads (PlaceWord r i low w n) m k = reads i m k
 place_reads (WordFrom r i size j w) m k = reads i m k || reads j m k
 
 -- the bits that an assignment to a place may write
 abbrev pub place_writes : Place → BitSet
-place_writes (PlaceBits s) m k = bits_of s m k
+place_writes (PlaceBits s n) m k = bits_of s m k
 place_writes (BitsFrom s i w) m k = bits_of s m k
-place_writes (PlaceWord r i low w) m k = false
+place_writes (PlaceWord r i low w n) m k = false
 place_writes (WordFrom r i size j w) m k = false
 
 -- those that it surely writes
 abbrev pub place_adds : Place → BitSet
-place_adds (PlaceBits s) m k = bits_of s m k
+place_adds (PlaceBits s n) m k = bits_of s m k
 place_adds (BitsFrom s i w) m k = false
-place_adds (PlaceWord r i low w) m k = false
+place_adds (PlaceWord r i low w n) m k = false
 place_adds (WordFrom r i size j w) m k = false
 
 abbrev pub target_reads : List Place → BitSet
@@ -81,8 +78,8 @@ Apart (p ∷ ps) = ((m k : ℕ) → place_writes p m k ≡ true → target_write
 
 abbrev mutual
   pub writes : Act → BitSet
-  writes (Copy to from) m k = bits_of to m k
   writes (Set target e) m k = target_writes target m k
+  writes (Read e) m k = false
   writes (Branch' n guards l otherwise) m k = writes_guards guards m k || writes_row otherwise m k
 
   pub writes_guards : {n : _} → Row_of-Guard n → BitSet
@@ -97,8 +94,8 @@ abbrev mutual
 
 abbrev mutual
   pub adds : Act → BitSet
-  adds (Copy to from) m k = bits_of to m k
   adds (Set target e) m k = target_adds target m k
+  adds (Read e) m k = false
   adds (Branch' n guards l otherwise) m k = adds_guards guards m k && adds_row otherwise m k
 
   pub adds_guards : {n : _} → Row_of-Guard n → BitSet
@@ -109,21 +106,28 @@ abbrev mutual
   adds_row end_of-Act m k = false
   adds_row (more_of-Act a rest) m k = adds a m k || adds_row rest m k
 
--- ---- the bits that they read before they were surely assigned, where those of `known` are surely assigned before
+-- ---- the bits that they read, but for those of `known`, which were surely assigned before
+
+-- what is known to the next statement: also what a statement surely assigns, where assignments take effect at once (9.2.1);
+-- else it reads the old values (9.2.2)
+abbrev pub known_after : Timing → BitSet → BitSet → BitSet
+known_after Blocking known more m k = known m k || more m k
+known_after Nonblocking known more m k = known m k
 
 abbrev mutual
-  pub open_reads : Act → BitSet → BitSet
-  open_reads (Copy to from) known m k = bits_of from m k && not (known m k)
-  open_reads (Set target e) known m k = (reads e m k || target_reads target m k) && not (known m k)
-  open_reads (Branch' n guards l otherwise) known m k = open_reads_guards guards known m k || open_reads_row otherwise known m k
+  pub open_reads : Timing → Act → BitSet → BitSet
+  open_reads t (Set target e) known m k = (reads e m k || target_reads target m k) && not (known m k)
+  open_reads t (Read e) known m k = reads e m k && not (known m k)
+  open_reads t (Branch' n guards l otherwise) known m k = open_reads_guards t guards known m k || open_reads_row t otherwise known m k
 
-  pub open_reads_guards : {n : _} → Row_of-Guard n → BitSet → BitSet
-  open_reads_guards end_of-Guard known m k = false
-  open_reads_guards (more_of-Guard c n body rest) known m k = (reads c m k && not (known m k)) || (open_reads_row body known m k || open_reads_guards rest known m k)
+  pub open_reads_guards : {n : _} → Timing → Row_of-Guard n → BitSet → BitSet
+  open_reads_guards t end_of-Guard known m k = false
+  open_reads_guards t (more_of-Guard c n body rest) known m k =
+      (reads c m k && not (known m k)) || (open_reads_row t body known m k || open_reads_guards t rest known m k)
 
-  pub open_reads_row : {n : _} → Row_of-Act n → BitSet → BitSet
-  open_reads_row end_of-Act known m k = false
-  open_reads_row (more_of-Act a rest) known m k = open_reads a known m k || open_reads_row rest (either known (adds a)) m k
+  pub open_reads_row : {n : _} → Timing → Row_of-Act n → BitSet → BitSet
+  open_reads_row t end_of-Act known m k = false
+  open_reads_row t (more_of-Act a rest) known m k = open_reads t a known m k || open_reads_row t rest (known_after t known (adds a)) m k
 
 -- ---- whole blocks
 
@@ -133,22 +137,31 @@ block_writes acts m k = list_any (λ (a : Act). writes a m k) acts
 abbrev pub block_adds : List Act → BitSet
 block_adds acts m k = list_any (λ (a : Act). adds a m k) acts
 
-abbrev pub block_open_reads : List Act → BitSet → BitSet
-block_open_reads [] known m k = false
-block_open_reads (a ∷ rest) known m k = open_reads a known m k || block_open_reads rest (either known (adds a)) m k
+abbrev pub block_open_reads : Timing → List Act → BitSet → BitSet
+block_open_reads t [] known m k = false
+block_open_reads t (a ∷ rest) known m k = open_reads t a known m k || block_open_reads t rest (known_after t known (adds a)) m k
+
+-- the bits that a block reads: in an `always @*` those that it didn't surely assign before, in a clocked block all
+abbrev pub block_reads : Timing → List Act → BitSet
+block_reads t acts m k = block_open_reads t acts no_bits m k
+
+-- the masks of code name the bits that its statements may write, and those that they read
+pub record HasBits (t : Timing) (c : Code) : Type 0 where
+  pub writes : (m k : ℕ) → named c.writes m k ≡ block_writes c.acts m k
+  pub reads : (m k : ℕ) → named c.reads m k ≡ block_reads t c.acts m k
 
 -- ---- memories: whether a statement writes words
 
 abbrev pub place_is_word : Place → Bool
-place_is_word (PlaceBits s) = false
+place_is_word (PlaceBits s n) = false
 place_is_word (BitsFrom s i w) = false
-place_is_word (PlaceWord r i low w) = true
+place_is_word (PlaceWord r i low w n) = true
 place_is_word (WordFrom r i size j w) = true
 
 abbrev mutual
   pub writes_words : Act → Bool
-  writes_words (Copy to from) = false
   writes_words (Set target e) = list_any place_is_word target
+  writes_words (Read e) = false
   writes_words (Branch' n guards l otherwise) = guards_write_words guards || row_writes_words otherwise
 
   pub guards_write_words : {n : _} → Row_of-Guard n → Bool

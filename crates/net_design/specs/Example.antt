@@ -31,7 +31,7 @@ both_bits net = record { net = net; bits = 3 } ∷ []
 
 -- the two bits of one net become those of another
 abbrev pub copies : ℕ → ℕ → Code
-copies to from = record { acts = Set (PlaceBits (pair to) ∷ []) (Bits (pair from)) ∷ []; writes = both_bits to; reads = both_bits from }
+copies to from = record { acts = Set (PlaceBits (pair to) 2 ∷ []) (Bits (pair from)) ∷ []; writes = both_bits to; reads = both_bits from }
 
 abbrev pub four_words : Room
 four_words = record { first = 0; length = 4 }
@@ -39,7 +39,7 @@ four_words = record { first = 0; length = 4 }
 -- a word of the memory at a place that a net has becomes the bits of another net
 abbrev pub stores : ℕ → ℕ → Code
 stores at from = record {
-  acts = Set (PlaceWord four_words (Bits (pair at)) 0 2 ∷ []) (Bits (pair from)) ∷ [];
+  acts = Set (PlaceWord four_words (Bits (pair at)) 0 2 2 ∷ []) (Bits (pair from)) ∷ [];
   writes = [];
   reads = both_bits at ++ both_bits from;
 }
@@ -76,3 +76,11 @@ not_driven = with_drivers (assigned ∷ [])
 -- an assign drives the register too
 abbrev pub held_driven : Design
 held_driven = with_drivers (assigned ∷ combined ∷ record { line = 3; always = false; code = copies 3 1 } ∷ [])
+
+-- the register begins with a bit that the state doesn't hold
+abbrev pub stray_initial : Design
+stray_initial = record example { registers = record { net = 3; held = 3; initial = 6 } ∷ [] }
+
+-- two nets have one name
+abbrev pub named_twice : Design
+named_twice = record example { nets = net_of 0 99 1 ∷ net_of 0 100 2 ∷ net_of 0 121 2 ∷ net_of 0 113 2 ∷ net_of 0 113 2 ∷ [] }

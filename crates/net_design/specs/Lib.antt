@@ -3,6 +3,7 @@ pub mod Updates
 pub mod Sized
 pub mod Bits
 pub mod Settled
+pub mod BitMap
 pub mod Names
 pub mod Lawful
 pub mod Moved

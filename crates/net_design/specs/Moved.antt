@@ -8,13 +8,14 @@ use Rattle.net_design.specs.declared.act.Place.{Place}
 use Rattle.net_design.specs.declared.act.Place.TheVariants.{Bits as PlaceBits, BitsFrom, Word as PlaceWord, WordFrom}
 use Rattle.net_design.specs.declared.act.Mask.{Mask}
 use Rattle.net_design.specs.declared.act.Guard.{Guard}
-use Rattle.net_design.specs.declared.act.Act.{Act, Copy, Set, Branch', Row_of-Act, end_of-Act, more_of-Act, Row_of-Guard, end_of-Guard, more_of-Guard}
+use Rattle.net_design.specs.declared.act.Act.{Act, Set, Read, Branch', Row_of-Act, end_of-Act, more_of-Act, Row_of-Guard, end_of-Guard, more_of-Guard}
 use Rattle.net_design.specs.declared.act.Code.{Code}
 use Rattle.net_design.specs.declared.values.Target.{Target}
 use Rattle.net_design.specs.declared.values.Target.TheVariants.{Net, Word as WordTarget}
 use Rattle.net_design.specs.declared.values.Update.{Update}
 use Rattle.net_design.specs.declared.values.Values.{Values}
-use Rattle.net_design.specs.Sized.{IsBlock, IsShort, IsCountable}
+use Rattle.std.specs.List.{AllByRecursion}
+use Rattle.net_design.specs.Sized.{IsRhs, IsPlace, IsBlock, IsShort, IsCountable}
 use Rattle.net_design.specs.Bits.{BitSet}
 
 module _ (net word : ℕ) where
@@ -36,15 +37,15 @@ module _ (net word : ℕ) where
   moved_rhs (Select' p a q i w) = Select' p (moved_rhs a) q (moved_rhs i) w
 
   abbrev pub moved_place : Place → Place
-  moved_place (PlaceBits s) = PlaceBits (moved_span s)
+  moved_place (PlaceBits s n) = PlaceBits (moved_span s) n
   moved_place (BitsFrom s i w) = BitsFrom (moved_span s) (moved_rhs i) w
-  moved_place (PlaceWord r i low w) = PlaceWord (moved_room r) (moved_rhs i) low w
+  moved_place (PlaceWord r i low w n) = PlaceWord (moved_room r) (moved_rhs i) low w n
   moved_place (WordFrom r i size j w) = WordFrom (moved_room r) (moved_rhs i) size (moved_rhs j) w
 
   abbrev mutual
     pub moved_act : Act → Act
-    moved_act (Copy to from) = Copy (moved_span to) (moved_span from)
     moved_act (Set target e) = Set (map moved_place target) (moved_rhs e)
+    moved_act (Read e) = Read (moved_rhs e)
     moved_act (Branch' n guards l otherwise) = Branch' n (moved_guards guards) l (moved_row otherwise)
 
     pub moved_guards : {n : _} → Row_of-Guard n → Row_of-Guard n
@@ -80,6 +81,12 @@ module _ (net word : ℕ) where
   moved_update u = record { target = moved_target u.target; low = u.low; width = u.width; number = u.number }
 
 -- ---- code that can be moved: its places are below 2 to the power of 32
+
+abbrev pub IsNearRhs : Rhs → Type 0
+IsNearRhs e = IsRhs (IsShort (2 ^ 32)) (IsCountable (2 ^ 32)) e
+
+abbrev pub AreNearPlaces : List Place → Type 0
+AreNearPlaces places = AllByRecursion (λ (p : Place). IsPlace (IsShort (2 ^ 32)) (IsCountable (2 ^ 32)) p) places
 
 abbrev pub IsNearBlock : List Act → Type 0
 IsNearBlock acts = IsBlock (IsShort (2 ^ 32)) (IsCountable (2 ^ 32)) acts

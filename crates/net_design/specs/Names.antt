@@ -2,7 +2,7 @@
 use Rattle.std.specs.Prelude.{ℕ, zero, suc, List, [], ◌∷◌, ◌++◌, map}
 use Rattle.net_design.specs.declared.design.Instance.{Instance}
 use Rattle.net_design.specs.declared.design.Net.{Net}
-use Rattle.net_design.specs.declared.design.Array.{Array}
+use Rattle.net_design.specs.declared.design.DesignMemory.{DesignMemory}
 use Rattle.net_design.specs.declared.design.Design.{Design}
 
 -- list i of the lists, the empty one past the end
@@ -26,4 +26,4 @@ abbrev pub net_names : Design → List (List (List ℕ))
 net_names d = map (λ (n : Net). list_at (paths d.instances) n.instance ++ n.name ∷ []) d.nets
 
 abbrev pub memory_names : Design → List (List (List ℕ))
-memory_names d = map (λ (a : Array). list_at (paths d.instances) a.instance ++ a.name ∷ []) d.memories
+memory_names d = map (λ (a : DesignMemory). list_at (paths d.instances) a.instance ++ a.name ∷ []) d.memories

@@ -1,13 +1,14 @@
 -- *Settled map*, *Next state* and the initial state of a flat design (IEEE 1364-2005: 6.1 continuous assignments, 9.7.5 `always @*`,
 -- 9.9 and 9.2.2 clocked blocks, 11.4 for the cycle; that all settles between two edges is this project's profile).
-use Rattle.std.specs.Prelude.{◌≡◌, ℕ, ◌^◌, ◌<◌, ◌≤◌, ◌==◌, ◌&&◌, Bool, true, false, List, [], ◌∷◌, map, replicate, length, slice_index, All, Some, if◌then◌else◌}
+use Rattle.std.specs.Prelude.{◌≡◌, ℕ, ◌^◌, ◌<◌, ◌≤◌, ◌==◌, ◌&&◌, Bool, true, false, Some, if◌then◌else◌}
+use Rattle.std.specs.Prelude.{List, [], ◌∷◌, map, replicate, length, slice_index, All}
 use Rattle.std.specs.List.{list_any, flat_map, enumerate_from, sum_by}
 use Rattle.std.specs.Int.{bit_at}
 use Rattle.net_design.specs.declared.act.Code.{Code}
 use Rattle.net_design.specs.declared.act.Timing.TheVariants.{Nonblocking}
 use Rattle.net_design.specs.declared.design.Net.{Net}
 use Rattle.net_design.specs.declared.design.Register.{Register}
-use Rattle.net_design.specs.declared.design.Array.{Array}
+use Rattle.net_design.specs.declared.design.DesignMemory.{DesignMemory}
 use Rattle.net_design.specs.declared.design.Driver.{Driver}
 use Rattle.net_design.specs.declared.design.Port.{Port}
 use Rattle.net_design.specs.declared.design.Direction.{Direction}
@@ -30,7 +31,7 @@ abbrev pub held : Design → BitSet
 held d m k = list_any (λ (r : Register). (r.net == m) && has r.held k) d.registers
 
 abbrev pub word_count : Design → ℕ
-word_count d = sum_by (λ (a : Array). a.room.length) d.memories
+word_count d = sum_by (λ (a : DesignMemory). a.room.length) d.memories
 
 abbrev pub same_direction : Direction → Direction → Bool
 same_direction Input Input = true
@@ -51,14 +52,18 @@ pub record FitNets (d : Design) (numbers : List ℕ) : Type 0 where
 
 -- ---- the settled map
 
--- v is settled for the state s and the numbers of the input pins: it has what inputs and state hold, and running any driver on
--- it changes nothing
-pub record IsSettled (d : Design) (s : Values) (pins : List ℕ) (v : Values) : Type 0 where
+-- v fits the nets and has what the state s holds, and the clock is 0
+pub record Keeps (d : Design) (s v : Values) : Type 0 where
   pub fit : FitNets d v.nets
-  pub inputs : pins_of Input d.ports v.nets ≡ pins
   pub clock : (k : ℕ) → d.clock ≡ Some k → slice_index v.nets k ≡ 0
   pub state : (m k : ℕ) → held d m k ≡ true → bit_at (slice_index v.nets m) k ≡ bit_at (slice_index s.nets m) k
   pub words : v.words ≡ s.words
+
+-- v is settled for the state s and the numbers of the input pins: it has what inputs and state hold, and running any driver on
+-- it changes nothing
+pub record IsSettled (d : Design) (s : Values) (pins : List ℕ) (v : Values) : Type 0 where
+  pub keeps : Keeps d s v
+  pub inputs : pins_of Input d.ports v.nets ≡ pins
   pub driven : All (λ (driver : Driver). run driver.code.acts v ≡ v) d.drivers
 
 -- ---- the next state and the initial state

@@ -1,5 +1,5 @@
--- Sized code: each width is 1 to 128 (this project's profile), each span meets P, and each memory of which n bits of a word are
--- written meets R at n, which is 0 where words are read alone.
+-- Sized code: each width is 1 to 128 (this project's profile), no place is written more bits than it takes, each span meets P, and each
+-- memory of which n bits of a word are written meets R at n, which is 0 where words are read alone.
 use Rattle.std.specs.Prelude.{ℕ, ◌+◌, ◌*◌, ◌^◌, ◌<◌, ◌≤◌, List}
 use Rattle.std.specs.List.{AllByRecursion}
 use Rattle.net_design.specs.declared.rhs.Span.{Span}
@@ -8,7 +8,7 @@ use Rattle.net_design.specs.declared.rhs.Rhs.{Rhs, Number, Bits, Word', Unary', 
 use Rattle.net_design.specs.declared.act.Place.{Place}
 use Rattle.net_design.specs.declared.act.Place.TheVariants.{Bits as PlaceBits, BitsFrom, Word as PlaceWord, WordFrom}
 use Rattle.net_design.specs.declared.act.Guard.{Guard}
-use Rattle.net_design.specs.declared.act.Act.{Act, Copy, Set, Branch', Row_of-Act, end_of-Act, more_of-Act, Row_of-Guard, end_of-Guard, more_of-Guard}
+use Rattle.net_design.specs.declared.act.Act.{Act, Set, Read, Branch', Row_of-Act, end_of-Act, more_of-Act, Row_of-Guard, end_of-Guard, more_of-Guard}
 use Rattle.vlog_operators.specs.Number.{IsWidth}
 use Rattle.net_design.specs.Updates.{target_width}
 
@@ -25,15 +25,15 @@ module _ (P : Span → Type 0) (R : Room → ℕ → Type 0) where
   IsRhs (Select' p a q i w) = IsWidth w × IsRhs a × IsRhs i
 
   abbrev pub IsPlace : Place → Type 0
-  IsPlace (PlaceBits s) = IsWidth s.width × P s
+  IsPlace (PlaceBits s n) = IsWidth n × (s.width ≤ n) × P s
   IsPlace (BitsFrom s i w) = IsWidth w × IsWidth s.width × P s × IsRhs i
-  IsPlace (PlaceWord r i low w) = IsWidth w × R r (low + w) × IsRhs i
+  IsPlace (PlaceWord r i low w n) = IsWidth n × (w ≤ n) × R r (low + w) × IsRhs i
   IsPlace (WordFrom r i size j w) = IsWidth w × IsWidth size × R r size × IsRhs i × IsRhs j
 
   abbrev mutual
     pub IsAct : Act → Type 0
-    IsAct (Copy to from) = IsWidth to.width × P to × IsWidth from.width × P from
     IsAct (Set target e) = (target_width target ≤ 128) × AllByRecursion IsPlace target × IsRhs e
+    IsAct (Read e) = IsRhs e
     IsAct (Branch' n guards m otherwise) = IsGuardRow guards × IsActRow otherwise
 
     pub IsGuardRow : {n : _} → Row_of-Guard n → Type 0

@@ -5,7 +5,7 @@ use Rattle.net_design.specs.declared.rhs.Room.{Room}
 use Rattle.net_design.specs.declared.act.Place.{Place}
 use Rattle.net_design.specs.declared.act.Place.TheVariants.{Bits, BitsFrom, Word, WordFrom}
 use Rattle.net_design.specs.declared.act.Guard.{Guard}
-use Rattle.net_design.specs.declared.act.Act.{Act, Copy, Set, Branch', Row_of-Act, end_of-Act, more_of-Act, Row_of-Guard, end_of-Guard, more_of-Guard}
+use Rattle.net_design.specs.declared.act.Act.{Act, Set, Read, Branch', Row_of-Act, end_of-Act, more_of-Act, Row_of-Guard, end_of-Guard, more_of-Guard}
 use Rattle.net_design.specs.declared.act.Timing.{Timing}
 use Rattle.net_design.specs.declared.act.Timing.TheVariants.{Blocking, Nonblocking}
 use Rattle.net_design.specs.declared.values.Target.{Target}
@@ -35,6 +35,10 @@ apply (u ∷ us) v = apply us (written_to u.target u v)
 abbrev pub update : Target → ℕ → ℕ → ℕ → Update
 update target low width number = record { target = target; low = low; width = width; number = number }
 
+-- the low bits of x become w bits from bit low on, where there are some
+abbrev pub bit_updates : Target → ℕ → ℕ → ℕ → List Update
+bit_updates target low w x = if w == 0 then [] else update target low w x ∷ []
+
 -- w bits from place i on of the `size` bits from bit low on, as far as there are that many
 abbrev pub part_updates : Target → ℕ → ℕ → ℕ → ℕ → ℕ → List Update
 part_updates target low size i w x = if nat_lt i size then update target (low + i) (min w (size - i)) x ∷ [] else []
@@ -45,15 +49,16 @@ word_updates r i f = if nat_lt i r.length then f (WordTarget (r.first + i)) else
 
 -- the updates that give a place the number x; its indexes are read at v
 abbrev pub place_updates : Place → ℕ → Values → List Update
-place_updates (Bits s) x v = update (Net s.net) s.low s.width x ∷ []
+place_updates (Bits s n) x v = bit_updates (Net s.net) s.low s.width x
 place_updates (BitsFrom s i w) x v = part_updates (Net s.net) s.low s.width (value i v) w x
-place_updates (Word r i low w) x v = word_updates r (value i v) (λ t. update t low w x ∷ [])
+place_updates (Word r i low w n) x v = word_updates r (value i v) (λ t. bit_updates t low w x)
 place_updates (WordFrom r i size j w) x v = word_updates r (value i v) (λ t. part_updates t 0 size (value j v) w x)
 
+-- how many bits of the value a place takes
 abbrev pub place_width : Place → ℕ
-place_width (Bits s) = s.width
+place_width (Bits s n) = n
 place_width (BitsFrom s i w) = w
-place_width (Word r i low w) = w
+place_width (Word r i low w n) = n
 place_width (WordFrom r i size j w) = w
 
 abbrev pub target_width : List Place → ℕ
@@ -74,8 +79,8 @@ seen Nonblocking us v = v
 -- a statement at v; a row is the list of statements, or of guards, that a statement holds
 abbrev mutual
   pub updates : Timing → Act → Values → List Update
-  updates t (Copy to from) v = update (Net to.net) to.low to.width (read from v) ∷ []
   updates t (Set target e) v = target_updates target (value e v) v
+  updates t (Read e) v = []
   updates t (Branch' n guards m otherwise) v = guard_row t guards (act_row t otherwise v) v
 
   -- the first guard that is true, else us (9.4, 9.5)
@@ -104,11 +109,11 @@ run acts v = apply (block_updates Blocking acts v) v
 -- each part of a target has its bits of the number x, where the parts are bits of nets
 abbrev pub HasParts : List Place → ℕ → Values → Type 0
 HasParts [] x v = Unit {0}
-HasParts (Bits s ∷ ps) x v = (read s v ≡ x / 2 ^ target_width ps % 2 ^ s.width) × HasParts ps x v
+HasParts (Bits s n ∷ ps) x v = (read s v ≡ x / 2 ^ target_width ps % 2 ^ s.width) × HasParts ps x v
 HasParts (p ∷ ps) x v = ⊥
 
 -- the parts of a target are bits of nets that are there
 abbrev pub ArePlaced : List Place → Values → Type 0
 ArePlaced [] v = Unit {0}
-ArePlaced (Bits s ∷ ps) v = (s.net < length v.nets) × (slice_index v.nets s.net < 2 ^ 128) × (s.low + s.width ≤ 128) × ArePlaced ps v
+ArePlaced (Bits s n ∷ ps) v = (s.net < length v.nets) × (slice_index v.nets s.net < 2 ^ 128) × (s.low + s.width ≤ 128) × ArePlaced ps v
 ArePlaced (p ∷ ps) v = ⊥

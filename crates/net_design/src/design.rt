@@ -5,7 +5,7 @@ use crate::rhs::Room;
 use vidi_bits::{Items, Name};
 
 /// An instance of a module. The first is the top, whose name and parent say nothing.
-#[derive(Debug, Drop)]
+#[derive(Drop)]
 pub struct Instance {
     /// The number of the instance that holds this one; it comes before this one.
     pub parent: usize,
@@ -13,7 +13,7 @@ pub struct Instance {
 }
 
 /// A net: a port, a wire or a reg of an instance.
-#[derive(Debug, Drop)]
+#[derive(Drop)]
 pub struct Net {
     pub instance: usize,
     pub name: Name,
@@ -21,8 +21,8 @@ pub struct Net {
     pub width: u32,
 }
 
-/// A reg of the state: the bits of it that no `always @*` writes, and its initial number.
-#[derive(Clone, Copy, Debug, PartialEq, Eq)]
+/// A reg of the state: the bits of it that no `always @*` writes, and its initial number, which has no other bits.
+#[derive(Clone, Copy)]
 pub struct Register {
     pub net: usize,
     pub held: u128,
@@ -30,8 +30,8 @@ pub struct Register {
 }
 
 /// A memory of an instance.
-#[derive(Debug, Drop)]
-pub struct Array {
+#[derive(Drop)]
+pub struct DesignMemory {
     pub instance: usize,
     pub name: Name,
     /// The width of a word, 1 to 128 bits.
@@ -40,7 +40,7 @@ pub struct Array {
 }
 
 /// What gives bits of nets their numbers: an `assign`, a wire's expression, a connection or an `always @*`.
-#[derive(Debug, Drop)]
+#[derive(Drop)]
 pub struct Driver {
     pub line: u32,
     /// Whether it is an `always @*`.
@@ -49,14 +49,14 @@ pub struct Driver {
 }
 
 /// The direction of a port, as seen from the design.
-#[derive(Clone, Copy, Debug, PartialEq, Eq)]
+#[derive(Clone, Copy, PartialEq, Eq)]
 pub enum Direction {
     Input,
     Output,
 }
 
 /// A port of the top.
-#[derive(Debug, Drop)]
+#[derive(Drop)]
 pub struct Port {
     pub name: Name,
     pub direction: Direction,
@@ -66,12 +66,12 @@ pub struct Port {
 /// A flat design. Nets and memories are named by their places. The nets of all instances stand in preorder of
 /// the instances and within one in text order, so that port k of the top is net k; the words of the memories
 /// stand one memory after the other.
-#[derive(Debug, Drop)]
+#[derive(Drop)]
 pub struct Design {
     pub instances: Items<Instance>,
     pub nets: Items<Net>,
     pub registers: Items<Register>,
-    pub memories: Items<Array>,
+    pub memories: Items<DesignMemory>,
     pub drivers: Items<Driver>,
     /// What each `always @(posedge ..)` does.
     pub blocks: Items<Code>,
@@ -81,7 +81,7 @@ pub struct Design {
 }
 
 /// How much a design has.
-#[derive(Clone, Copy, Debug, PartialEq, Eq)]
+#[derive(Clone, Copy, PartialEq, Eq)]
 pub struct Counts {
     pub instances: u32,
     pub nets: u32,

@@ -3,7 +3,7 @@
 ghost use Rattle.std.specs.Prelude.{◌≡◌, ℕ, ◌+◌, ◌%◌, ◌^◌, ◌<◌, ◌≤◌, ◌↔◌, false, List, [], ◌∷◌, ◌++◌, length, slice_index};
 ghost use Rattle.std.specs.Int.{bit_at};
 ghost use Rattle.net_design.specs.declared.act.Act.{Act};
-ghost use Rattle.net_design.specs.declared.act.Act.TheVariants.{Copy, Set, Branch};
+ghost use Rattle.net_design.specs.declared.act.Act.TheVariants.{Set, Branch};
 ghost use Rattle.net_design.specs.declared.act.Guard.{Guard};
 ghost use Rattle.net_design.specs.declared.act.Place.{Place};
 ghost use Rattle.net_design.specs.declared.act.Place.TheVariants.{Bits};
@@ -16,9 +16,9 @@ ghost use Rattle.net_design.specs.declared.values.Values.{Values};
 ghost use Rattle.net_design.specs.Value.{read, value};
 ghost use Rattle.net_design.specs.Updates.{apply, updates, block_updates, guard_updates, seen, run, ArePlaced, HasParts};
 ghost use Rattle.net_design.specs.Bits.{Apart, block_writes};
-ghost use Rattle.net_design.specs.Settled.{IsSized};
-ghost use Rattle.net_design.specs.Lawful.{IsLawful};
-ghost use Rattle.net_design.specs.Example.{example, driven_twice, not_driven, held_driven};
+ghost use Rattle.net_design.specs.Settled.{IsSized, initial, next};
+ghost use Rattle.net_design.specs.Lawful.{IsLawful, IsState};
+ghost use Rattle.net_design.specs.Example.{example, driven_twice, not_driven, held_driven, stray_initial, named_twice};
 
 /// The updates of two lists are made by making those of the first, then those of the second.
 pub fn updates_in_order()
@@ -40,20 +40,15 @@ pub fn choice_by_lists()
 
 /// Running an assignment to bits of a net changes nothing exactly where those bits are the low bits of its value.
 pub fn assignment_is_equation()
-    ensures { (s : Span) (e : Rhs) (v : Values) → s.net < length v.nets → slice_index v.nets s.net < 2 ^ 128 → s.low + s.width ≤ 128
-        → (run (Set (Bits s ∷ []) e ∷ []) v ≡ v) ↔ (read s v ≡ value e v % 2 ^ s.width) }
+    ensures { (s : Span) (n : ℕ) (e : Rhs) (v : Values)
+        → s.net < length v.nets → slice_index v.nets s.net < 2 ^ 128 → s.low + s.width ≤ 128
+        → (run (Set (Bits s n ∷ []) e ∷ []) v ≡ v) ↔ (read s v ≡ value e v % 2 ^ s.width) }
 {}
 
 /// The same of a concatenated target, whose parts name no bit twice.
 pub fn target_is_equation()
     ensures { (target : List Place) (e : Rhs) (v : Values) → ArePlaced target v → Apart target
         → (run (Set target e ∷ []) v ≡ v) ↔ HasParts target (value e v) v }
-{}
-
-/// Running a plain connection changes nothing exactly where the target's bits are the low bits of the source's.
-pub fn connection_is_equation()
-    ensures { (to from : Span) (v : Values) → to.net < length v.nets → slice_index v.nets to.net < 2 ^ 128 → to.low + to.width ≤ 128
-        → (run (Copy to from ∷ []) v ≡ v) ↔ (read to v ≡ read from v % 2 ^ to.width) }
 {}
 
 /// Bits that a block doesn't write stay, whatever numbers it read.
@@ -67,11 +62,23 @@ pub fn lawful_is_sized()
     ensures { (d : Design) → IsLawful d → IsSized d }
 {}
 
-/// A lawful design is shown, with a clock, a register, a memory, an `assign` and an `always @*`, and three neighbours of it that
+/// The initial state of a lawful design is a state.
+pub fn initial_is_state()
+    ensures { (d : Design) → IsLawful d → IsState d (initial d) }
+{}
+
+/// The next state of a state is a state, whatever the clocked blocks read.
+pub fn next_is_state()
+    ensures { (d : Design) (v s : Values) → IsLawful d → IsState d s → IsState d (next d v s) }
+{}
+
+/// A lawful design is shown, with a clock, a register, a memory, an `assign` and an `always @*`, and five neighbours of it that
 /// aren't lawful.
 pub fn lawful_design_shown()
     ensures lawful { IsLawful example }
     ensures driven_twice { IsLawful driven_twice → ⊥ }
     ensures not_driven { IsLawful not_driven → ⊥ }
     ensures held_driven { IsLawful held_driven → ⊥ }
+    ensures stray_initial { IsLawful stray_initial → ⊥ }
+    ensures named_twice { IsLawful named_twice → ⊥ }
 {}

@@ -2,6 +2,7 @@
 
 ghost use Rattle.std.specs.Prelude.{◌≡◌, ℕ, ◌↔◌, Bool, IsTrue, List, map, take};
 ghost use Rattle.net_design.specs.declared.act.Act.{Act};
+ghost use Rattle.net_design.specs.declared.act.Code.{Code};
 ghost use Rattle.net_design.specs.declared.act.Mask.{Mask};
 ghost use Rattle.net_design.specs.declared.act.Place.{Place};
 ghost use Rattle.net_design.specs.declared.act.Timing.{Timing};
@@ -12,9 +13,9 @@ ghost use Rattle.net_design.specs.declared.values.Update.{Update};
 ghost use Rattle.net_design.specs.declared.values.Values.{Values};
 ghost use Rattle.net_design.specs.Value.{value};
 ghost use Rattle.net_design.specs.Updates.{apply, block_updates, run};
-ghost use Rattle.net_design.specs.Bits.{no_bits, named, reads, Apart, block_writes, block_adds, block_open_reads, block_writes_words};
+ghost use Rattle.net_design.specs.Bits.{named, reads, Apart, HasBits, block_writes, block_adds, block_reads, block_writes_words};
 ghost use Rattle.net_design.specs.Sized.{IsBlock};
-ghost use Rattle.net_design.specs.Moved.{moved_span, moved_room, moved_rhs, moved_place, moved_act, moved_mask, moved_bits, moved_update, from_first};
+ghost use Rattle.net_design.specs.Moved.{moved_span, moved_room, moved_rhs, moved_place, moved_act, moved_mask, moved_bits, moved_update, moved, from_first};
 
 /// The number of a moved expression is that of the expression, where nets and words count from the first places.
 pub fn moved_number()
@@ -49,10 +50,11 @@ pub fn moved_code_bits()
         → block_writes (map (moved_act net word) acts) m k ≡ moved_bits net word (block_writes acts) m k }
     ensures adds { (net word : ℕ) (acts : List Act) (m k : ℕ)
         → block_adds (map (moved_act net word) acts) m k ≡ moved_bits net word (block_adds acts) m k }
-    ensures open_reads { (net word : ℕ) (acts : List Act) (m k : ℕ)
-        → block_open_reads (map (moved_act net word) acts) no_bits m k ≡ moved_bits net word (block_open_reads acts no_bits) m k }
+    ensures open_reads { (net word : ℕ) (t : Timing) (acts : List Act) (m k : ℕ)
+        → block_reads t (map (moved_act net word) acts) m k ≡ moved_bits net word (block_reads t acts) m k }
     ensures masks { (net word : ℕ) (masks : List Mask) (m k : ℕ)
         → named (map (moved_mask net word) masks) m k ≡ moved_bits net word (named masks) m k }
+    ensures code { (net word : ℕ) (t : Timing) (c : Code) → HasBits t c → HasBits t (moved net word c) }
 {}
 
 /// Moved code writes words where the code does, and a moved target names no bit twice where the target names none twice.

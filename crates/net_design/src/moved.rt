@@ -1,17 +1,15 @@
 //! Code of one instance, moved to the instance's first net and first memory word.
 
 ghost use Rattle.std.specs.Prelude.{◌≡◌, ℕ, ◌<◌, ◌^◌, ◌↔◌, IsTrue, All, map};
-ghost use Rattle.std.specs.List.{AllByRecursion};
 ghost use Rattle.net_design.specs.declared.act.Act.{Act};
 ghost use Rattle.net_design.specs.declared.act.Mask.{Mask};
 ghost use Rattle.net_design.specs.Sized.{IsRhs, IsPlace, IsAct, IsBlock, AreGuards, IsShort, IsCountable};
-ghost use Rattle.net_design.specs.Moved.{moved_span, moved_room, moved_rhs, moved_place, moved_act, moved_guard, moved_mask, moved, IsNear, IsNearBlock};
+ghost use Rattle.net_design.specs.Moved.{moved_span, moved_room, moved_rhs, moved_place, moved_act, moved_guard, moved_mask, moved};
+ghost use Rattle.net_design.specs.Moved.{IsNear, IsNearBlock, IsNearRhs, AreNearPlaces};
 
-use crate::act::{Act, Code, Guard, Mask, Place};
+use crate::act::{Act, Code, Guard, Lhs, Mask, Place};
 use crate::rhs::{Rhs, Room, Span};
-use crate::sized::acts_sized;
-use std::alloc::Global;
-use std::mem;
+use crate::sized::{acts_sized, places_sized, rhs_sized};
 use vidi_bits::Items;
 
 /// The first net and the first memory word of an instance.
@@ -77,7 +75,7 @@ fn move_place(place: &mut Place, first: First)
     ensures { place.new ≡ moved_place first.net first.word place.old }
 {
     match place {
-        Place::Bits(span) => move_span(span, first),
+        Place::Bits { span, .. } => move_span(span, first),
         Place::BitsFrom { whole, at, .. } => {
             move_span(whole, first);
             move_rhs(at, first);
@@ -94,15 +92,13 @@ fn move_place(place: &mut Place, first: First)
     }
 }
 
-fn move_places(alloc: Global, places: &mut Items<Place>, first: First)
-    requires { AllByRecursion (λ p. IsPlace (IsShort (2 ^ 32)) (IsCountable (2 ^ 32)) p) places.old }
+fn move_places(places: &mut Lhs, first: First)
+    requires { AreNearPlaces places.old }
     ensures { places.new ≡ map (moved_place first.net first.word) places.old }
 {
-    let mut list = mem::replace(places, Items::new(alloc)).into_vec();
-    for place in list.iter_mut() {
+    for place in places.as_mut_slice() {
         move_place(place, first);
     }
-    *places = Items::from_vec(list);
 }
 
 fn move_mask(mask: &mut Mask, first: First)
@@ -112,15 +108,13 @@ fn move_mask(mask: &mut Mask, first: First)
     mask.net += first.net as usize;
 }
 
-fn move_masks(alloc: Global, masks: &mut Items<Mask>, first: First)
+fn move_masks(masks: &mut Items<Mask>, first: First)
     requires { All (λ x. x.net < 2 ^ 32) masks.old }
     ensures { masks.new ≡ map (moved_mask first.net first.word) masks.old }
 {
-    let mut list = mem::replace(masks, Items::new(alloc)).into_vec();
-    for mask in list.iter_mut() {
+    for mask in masks.as_mut_slice() {
         move_mask(mask, first);
     }
-    *masks = Items::from_vec(list);
 }
 
 /// What a moved choice is, over its lists.
@@ -133,59 +127,52 @@ fn see_moved(guards: &Items<Guard>, otherwise: &Items<Act>)
 {}
 
 #[cycle(moves)]
-fn move_act(alloc: Global, act: &mut Act, first: First)
+fn move_act(act: &mut Act, first: First)
     requires { IsAct (IsShort (2 ^ 32)) (IsCountable (2 ^ 32)) act.old }
     ensures { act.new ≡ moved_act first.net first.word act.old }
 {
     match act {
-        Act::Copy { to, from } => {
-            move_span(to, first);
-            move_span(from, first);
-        }
         Act::Set { target, value } => {
-            move_places(alloc, target, first);
+            move_places(target, first);
             move_rhs(value, first);
         }
+        Act::Read(value) => move_rhs(value, first),
         Act::Branch { guards, otherwise } => {
             see_moved(guards, otherwise);
-            move_guards(alloc, guards, first);
-            move_acts(alloc, otherwise, first);
+            move_guards(guards, first);
+            move_acts(otherwise, first);
         }
     }
 }
 
 #[cycle(moves)]
-fn move_guard(alloc: Global, guard: &mut Guard, first: First)
+fn move_guard(guard: &mut Guard, first: First)
     requires condition { IsRhs (IsShort (2 ^ 32)) (IsCountable (2 ^ 32)) guard.old.condition }
     requires body { IsNearBlock guard.old.body }
     ensures { guard.new ≡ moved_guard first.net first.word guard.old }
 {
     move_rhs(&mut guard.condition, first);
-    move_acts(alloc, &mut guard.body, first);
+    move_acts(&mut guard.body, first);
 }
 
 #[cycle(moves)]
-fn move_guards(alloc: Global, guards: &mut Items<Guard>, first: First)
+fn move_guards(guards: &mut Items<Guard>, first: First)
     requires { AreGuards (IsShort (2 ^ 32)) (IsCountable (2 ^ 32)) guards.old }
     ensures { guards.new ≡ map (moved_guard first.net first.word) guards.old }
 {
-    let mut list = mem::replace(guards, Items::new(alloc)).into_vec();
-    for guard in list.iter_mut() {
-        move_guard(alloc, guard, first);
+    for guard in guards.as_mut_slice() {
+        move_guard(guard, first);
     }
-    *guards = Items::from_vec(list);
 }
 
 #[cycle(moves)]
-fn move_acts(alloc: Global, acts: &mut Items<Act>, first: First)
+fn move_acts(acts: &mut Items<Act>, first: First)
     requires { IsNearBlock acts.old }
     ensures { acts.new ≡ map (moved_act first.net first.word) acts.old }
 {
-    let mut list = mem::replace(acts, Items::new(alloc)).into_vec();
-    for act in list.iter_mut() {
-        move_act(alloc, act, first);
+    for act in acts.as_mut_slice() {
+        move_act(act, first);
     }
-    *acts = Items::from_vec(list);
 }
 
 /// Whether each mask names a net of a place below 2^32.
@@ -206,8 +193,7 @@ impl Code {
     }
 
     /// Moves the code of an instance, which counts nets and memory words from the instance's first ones, to these places.
-    /// It takes no memory: `alloc` is for lists without items alone.
-    pub fn move_to(&mut self, alloc: Global, first_net: u32, first_word: u32)
+    pub fn move_to(&mut self, first_net: u32, first_word: u32)
         requires { IsNear self.old }
         ensures { self.new ≡ moved first_net first_word self.old }
     {
@@ -215,8 +201,48 @@ impl Code {
             net: first_net,
             word: first_word,
         };
-        move_acts(alloc, &mut self.acts, first);
-        move_masks(alloc, &mut self.writes, first);
-        move_masks(alloc, &mut self.reads, first);
+        move_acts(&mut self.acts, first);
+        move_masks(&mut self.writes, first);
+        move_masks(&mut self.reads, first);
     }
+}
+
+impl Rhs {
+    /// Whether the expression can be moved: its places are below 2^32, its widths 1 to 128.
+    pub fn is_near(&self) -> bool
+        ensures { IsTrue result ↔ IsNearRhs self.now }
+    {
+        rhs_sized(self, 1 << 32)
+    }
+
+    /// Moves an expression of an instance as `Code::move_to` moves code.
+    pub fn move_to(&mut self, first_net: u32, first_word: u32)
+        requires { IsNearRhs self.old }
+        ensures { self.new ≡ moved_rhs first_net first_word self.old }
+    {
+        let first = First {
+            net: first_net,
+            word: first_word,
+        };
+        move_rhs(self, first);
+    }
+}
+
+/// Whether a target can be moved: its places are below 2^32, its widths 1 to 128.
+pub fn target_is_near(target: &Lhs) -> bool
+    ensures { IsTrue result ↔ AreNearPlaces target.now }
+{
+    places_sized(target.as_slice(), 1 << 32)
+}
+
+/// Moves a target of an instance as `Code::move_to` moves code.
+pub fn move_target(target: &mut Lhs, first_net: u32, first_word: u32)
+    requires { AreNearPlaces target.old }
+    ensures { target.new ≡ map (moved_place first_net first_word) target.old }
+{
+    let first = First {
+        net: first_net,
+        word: first_word,
+    };
+    move_places(target, first);
 }

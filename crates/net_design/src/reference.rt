@@ -1,6 +1,7 @@
 //! The definitions, evaluated as they are written: slow and simple. Tests and faster evaluators are compared with it.
 
-ghost use Rattle.std.specs.Prelude.{◌≡◌, ℕ, ◌+◌, ◌^◌, ◌<◌, ◌≤◌, ◌↔◌, ◌&&◌, ◌++◌, ◌∷◌, [], Some, true, OnOk, if◌then◌else◌, IsTrue, IfOk, All, length, map, slice_index};
+ghost use Rattle.std.specs.Prelude.{◌≡◌, ℕ, ◌^◌, ◌<◌, ◌≤◌, ◌↔◌, if◌then◌else◌, IsTrue, true};
+ghost use Rattle.std.specs.Prelude.{◌++◌, ◌∷◌, [], All, map, slice_index, Some, OnOk, IfOk};
 ghost use Rattle.std.specs.Int.{bit_at};
 ghost use Rattle.net_design.specs.declared.design.Net.{Net};
 ghost use Rattle.net_design.specs.declared.design.Direction.TheVariants.{Input, Output};
@@ -8,7 +9,8 @@ ghost use Rattle.net_design.specs.declared.design.Register.{Register};
 ghost use Rattle.vlog_operators.specs.Number.{has};
 ghost use Rattle.net_design.specs.Sized.{IsSizedBlock};
 ghost use Rattle.net_design.specs.Updates.{run};
-ghost use Rattle.net_design.specs.Settled.{IsSized, IsSettled, FitNets, net_width, same_direction, pins_of, held, next, initial, initial_number, word_count};
+ghost use Rattle.net_design.specs.Settled.{IsSized, IsSettled, Keeps, FitNets, net_width, same_direction, pins_of};
+ghost use Rattle.net_design.specs.Settled.{held, next, initial, initial_number, word_count};
 
 use crate::act::{Act, Timing};
 use crate::counts::count_words;
@@ -20,7 +22,7 @@ use std::alloc::Global;
 use vidi_bits::{Items, Memory, Numbers};
 
 /// The width of net `m`, 0 past the last one.
-fn width_of(nets: &Items<Net>, m: usize) -> u32
+fn net_width(nets: &Items<Net>, m: usize) -> u32
     ensures { result ≡ slice_index (map (λ (n : Net). n.width) nets.now) m }
 {
     let nets = nets.as_slice();
@@ -42,7 +44,7 @@ fn fits_net(design: &Design, numbers: &Numbers, m: usize) -> bool
     requires { IsSized design.now }
     ensures { IsTrue result ↔ (slice_index numbers.now m < 2 ^ net_width design.now m) }
 {
-    fits(number_at(numbers, m), width_of(&design.nets, m))
+    fits(number_at(numbers, m), net_width(&design.nets, m))
 }
 
 /// Whether there is one number for each net, which fits it.
@@ -185,12 +187,20 @@ fn clock_is_low(design: &Design, nets: &Numbers) -> bool
     }
 }
 
-/// Whether the two have the same bits of all registers.
-fn same_state(registers: &Items<Register>, a: &Values, b: &Values) -> bool
+/// Whether the two have the same bits of these registers.
+fn same_registers(registers: &Items<Register>, a: &Values, b: &Values) -> bool
     ensures { IsTrue result ↔ All (λ r. (k : ℕ) → has r.held k ≡ true
         → bit_at (slice_index a.now.nets r.net) k ≡ bit_at (slice_index b.now.nets r.net) k) registers.now }
 {
     registers.as_slice().iter().all(|r| same_bits(*r, a, b))
+}
+
+/// Whether the two have the same bits of the state.
+fn same_state(design: &Design, a: &Values, b: &Values) -> bool
+    ensures { IsTrue result ↔ ((m k : ℕ) → held design.now m k ≡ true
+        → bit_at (slice_index a.now.nets m) k ≡ bit_at (slice_index b.now.nets m) k) }
+{
+    same_registers(&design.registers, a, b)
 }
 
 /// Whether no driver changes anything.
@@ -214,13 +224,6 @@ fn same_numbers(a: &Numbers, b: &[u128]) -> bool
     a.as_slice() == b
 }
 
-/// Whether all six hold.
-fn all_of(a: bool, b: bool, c: bool, d: bool, e: bool, f: bool) -> bool
-    ensures { result ≡ (a && (b && (c && (d && (e && f))))) }
-{
-    a && b && c && d && e && f
-}
-
 /// Whether `values` are settled for a state and the numbers of the input pins, in port order.
 pub fn is_settled(
     alloc: Global,
@@ -234,12 +237,19 @@ pub fn is_settled(
 {
     let inputs = input_pins(alloc, design, values)?;
     let fixed = all_fixed(alloc, design, values)?;
-    let fit = fit_nets(design, &values.nets);
-    let low = clock_is_low(design, &values.nets);
-    let kept = same_state(&design.registers, values, state);
     let entered = same_numbers(&inputs, pins);
-    let stored = same_numbers(&values.words, state.words.as_slice());
-    Ok(all_of(fit, entered, low, kept, stored, fixed))
+    Ok(fixed && entered && keeps(design, state, values))
+}
+
+/// Whether `values` fit the nets, have what the state holds, and the clock is 0.
+fn keeps(design: &Design, state: &Values, values: &Values) -> bool
+    requires { IsSized design.now }
+    ensures { IsTrue result ↔ Keeps design.now state.now values.now }
+{
+    fit_nets(design, &values.nets)
+        && clock_is_low(design, &values.nets)
+        && same_state(design, values, state)
+        && same_numbers(&values.words, state.words.as_slice())
 }
 
 /// The numbers of the input pins, in port order.

@@ -4,7 +4,7 @@ use std::boxed::Box;
 use vlog_operators::{BinaryOp, UnaryOp};
 
 /// `width` bits of a net, from bit `low` on.
-#[derive(Clone, Copy, Debug, PartialEq, Eq)]
+#[derive(Clone, Copy)]
 pub struct Span {
     pub net: usize,
     pub low: u32,
@@ -12,14 +12,14 @@ pub struct Span {
 }
 
 /// The words of a memory: `length` of them from word `first` on, counted over all memories of the design.
-#[derive(Clone, Copy, Debug, PartialEq, Eq)]
+#[derive(Clone, Copy)]
 pub struct Room {
     pub first: usize,
     pub length: usize,
 }
 
 /// An expression, sized: each operator stands beside the width in bits at which it works.
-#[derive(Debug, Drop)]
+#[derive(Drop)]
 pub enum Rhs {
     /// A constant.
     Number(u128),

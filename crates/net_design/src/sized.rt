@@ -12,7 +12,7 @@ use crate::act::{Act, Code, Guard, Place};
 use crate::counts::few_words;
 use crate::design::{Design, Driver, Net};
 use crate::rhs::{Rhs, Room, Span};
-use crate::statement::{see_branch, width_of};
+use crate::statement::{place_width, see_branch};
 use vidi_bits::Items;
 
 /// Whether a width is 1 to 128.
@@ -22,14 +22,18 @@ fn is_width(w: u32) -> bool
     1 <= w && w <= 128
 }
 
+/// Whether a span lies within 128 bits of one of the first nets.
+fn span_short(span: Span, limit: u128) -> bool
+    ensures { IsTrue result ↔ IsShort limit span }
+{
+    (span.net as u128) < limit && u64::from(span.low) + u64::from(span.width) <= 128
+}
+
 /// Whether a span lies within 128 bits of one of the first nets, and has some.
 fn span_sized(span: Span, limit: u128) -> bool
     ensures { IsTrue result ↔ (IsWidth span.width × IsShort limit span) }
 {
-    is_width(span.width)
-        && (span.net as u128) < limit
-        && span.low <= 128
-        && span.low + span.width <= 128
+    is_width(span.width) && span_short(span, limit)
 }
 
 /// Whether the words of a memory are among the first, and `n` bits fit one.
@@ -39,7 +43,7 @@ fn room_sized(room: Room, n: u128, limit: u128) -> bool
     room.first as u128 + (room.length as u128) < limit && n <= 128
 }
 
-fn rhs_sized(e: &Rhs, limit: u128) -> bool
+pub fn rhs_sized(e: &Rhs, limit: u128) -> bool
     ensures { IsTrue result ↔ IsRhs (IsShort limit) (IsCountable limit) e.now }
 {
     match e {
@@ -86,7 +90,9 @@ fn place_sized(place: &Place, limit: u128) -> bool
     ensures { IsTrue result ↔ IsPlace (IsShort limit) (IsCountable limit) place.now }
 {
     match place {
-        Place::Bits(span) => span_sized(*span, limit),
+        Place::Bits { span, takes } => {
+            is_width(*takes) && span.width <= *takes && span_short(*span, limit)
+        }
         Place::BitsFrom { whole, at, width } => {
             is_width(*width) && span_sized(*whole, limit) && rhs_sized(at, limit)
         }
@@ -95,8 +101,10 @@ fn place_sized(place: &Place, limit: u128) -> bool
             word,
             low,
             width,
+            takes,
         } => {
-            is_width(*width)
+            is_width(*takes)
+                && *width <= *takes
                 && room_sized(*room, u128::from(*low) + u128::from(*width), limit)
                 && rhs_sized(word, limit)
         }
@@ -116,7 +124,7 @@ fn place_sized(place: &Place, limit: u128) -> bool
     }
 }
 
-fn places_sized(places: &[Place], limit: u128) -> bool
+pub fn places_sized(places: &[Place], limit: u128) -> bool
     ensures { IsTrue result ↔ AllByRecursion (λ p. IsPlace (IsShort limit) (IsCountable limit) p) places.now }
 {
     for place in places {
@@ -133,7 +141,7 @@ fn narrow(places: &[Place]) -> bool
 {
     let mut total: u64 = 0;
     for place in places {
-        total += u64::from(width_of(place));
+        total += u64::from(place_width(place));
         if total > 128 {
             return false;
         }
@@ -146,12 +154,12 @@ fn act_sized(act: &Act, limit: u128) -> bool
     ensures { IsTrue result ↔ IsAct (IsShort limit) (IsCountable limit) act.now }
 {
     match act {
-        Act::Copy { to, from } => span_sized(*to, limit) && span_sized(*from, limit),
         Act::Set { target, value } => {
             narrow(target.as_slice())
                 && places_sized(target.as_slice(), limit)
                 && rhs_sized(value, limit)
         }
+        Act::Read(value) => rhs_sized(value, limit),
         Act::Branch { guards, otherwise } => {
             see_branch(guards, otherwise);
             guards_sized(guards, limit) && acts_sized(otherwise, limit)

@@ -1,24 +1,43 @@
 //! What statements write.
 
-ghost use Rattle.std.specs.Prelude.{◌≡◌, ℕ, ◌∷◌, [], ◌++◌, ◌+◌, ◌^◌, ◌<◌, ◌≤◌, ◌↔◌, List, OnOk, IfOk, IfSome, All, slice_set};
+ghost use Rattle.std.specs.Prelude.{◌≡◌, ℕ, ◌++◌, ◌+◌, ◌≤◌, ◌↔◌, List, OnOk, IfOk, IfSome, All};
 ghost use Rattle.std.specs.List.{AllByRecursion};
 ghost use Rattle.std.specs.Option.{option_to_list, unwrap_or};
 ghost use Rattle.vlog_operators.specs.Number.{IsWidth};
-ghost use Rattle.net_design.specs.Sized.{IsAct, AreGuards, IsBlock, IsShort, IsCountable, IsSizedPlace, IsSizedAct, IsSizedBlock, AreSizedGuards};
+ghost use Rattle.net_design.specs.Sized.{IsAct, AreGuards, IsBlock, IsShort, IsCountable};
+ghost use Rattle.net_design.specs.Sized.{IsSizedPlace, IsSizedAct, IsSizedBlock, AreSizedGuards};
 ghost use Rattle.net_design.specs.declared.act.Act.{Act};
 ghost use Rattle.net_design.specs.declared.act.Timing.{Timing};
 ghost use Rattle.net_design.specs.declared.values.Values.{Values};
 ghost use Rattle.net_design.specs.declared.values.Update.{Update};
-ghost use Rattle.net_design.specs.Updates.{written, written_to, apply, part_updates, place_updates, place_width, target_width, target_updates, seen, updates, block_updates, guard_updates};
+ghost use Rattle.net_design.specs.Updates.{written, written_to, apply, bit_updates, part_updates, place_updates, place_width};
+ghost use Rattle.net_design.specs.Updates.{target_width, target_updates, seen, updates, block_updates, guard_updates};
 
 use crate::act::{Act, Guard, Place, Timing};
-use crate::expression::{number_at, read_bits, value_of, word_in};
+use crate::expression::{number_at, value_of, word_in};
 use crate::values::{Target, Update, Values};
 use std::alloc::Global;
 use vidi_bits::{Items, Memory, Numbers, put, shr_w};
 
 /// A list of updates, in order.
 pub type Updates = Items<Update>;
+
+/// The low bits of a number for `width` bits of a target from bit `low` on, where there are some.
+fn bit_update(target: Target, low: u32, width: u32, number: u128) -> Option<Update>
+    requires { width ≤ 128 }
+    ensures same { option_to_list result ≡ bit_updates target low width number }
+    ensures sized { IfSome result (λ u. IsWidth u.width) }
+{
+    if width == 0 {
+        return None;
+    }
+    Some(Update {
+        target,
+        low,
+        width,
+        number,
+    })
+}
 
 /// `width` bits of a target from the place `at` on of its `size` bits from bit `low` on, as far as they are there.
 fn part_update(
@@ -53,12 +72,7 @@ fn place_update(place: &Place, number: u128, values: &Values) -> Option<Update>
     ensures sized { IfSome result (λ u. IsWidth u.width) }
 {
     match place {
-        Place::Bits(span) => Some(Update {
-            target: Target::Net(span.net),
-            low: span.low,
-            width: span.width,
-            number,
-        }),
+        Place::Bits { span, .. } => bit_update(Target::Net(span.net), span.low, span.width, number),
         Place::BitsFrom { whole, at, width } => {
             let at = value_of(at, values);
             part_update(
@@ -75,14 +89,10 @@ fn place_update(place: &Place, number: u128, values: &Values) -> Option<Update>
             word,
             low,
             width,
+            ..
         } => {
             let word = word_in(*room, value_of(word, values))?;
-            Some(Update {
-                target: Target::Word(word),
-                low: *low,
-                width: *width,
-                number,
-            })
+            bit_update(Target::Word(word), *low, *width, number)
         }
         Place::WordFrom {
             room,
@@ -98,13 +108,14 @@ fn place_update(place: &Place, number: u128, values: &Values) -> Option<Update>
     }
 }
 
-pub fn width_of(place: &Place) -> u32
+/// How many bits of the value a place takes.
+pub fn place_width(place: &Place) -> u32
     ensures { result ≡ place_width place.now }
 {
     match place {
-        Place::Bits(span) => span.width,
+        Place::Bits { takes, .. } => *takes,
         Place::BitsFrom { width, .. } => *width,
-        Place::Word { width, .. } => *width,
+        Place::Word { takes, .. } => *takes,
         Place::WordFrom { width, .. } => *width,
     }
 }
@@ -115,7 +126,7 @@ fn total_width(places: &[Place]) -> u32
 {
     let mut width = 0;
     for place in places {
-        width += width_of(place);
+        width += place_width(place);
     }
     width
 }
@@ -191,7 +202,7 @@ fn target_updates(
     let mut out = Items::new(alloc);
     let mut rest = total_width(places);
     for place in places {
-        rest -= width_of(place);
+        rest -= place_width(place);
         let part = shr_w(number, u128::from(rest), 128);
         push_some(&mut out, place_update(place, part, values))?;
     }
@@ -240,21 +251,11 @@ fn act_updates(alloc: Global, timing: Timing, act: &Act, values: &Values) -> Res
     ensures sized { IfOk result (λ us. All (λ u. IsWidth u.width) us) }
 {
     match act {
-        Act::Copy { to, from } => {
-            let number = read_bits(*from, values);
-            let mut out = Items::new(alloc);
-            out.push(Update {
-                target: Target::Net(to.net),
-                low: to.low,
-                width: to.width,
-                number,
-            })?;
-            Ok(out)
-        }
         Act::Set { target, value } => {
             let number = value_of(value, values);
             target_updates(alloc, target.as_slice(), number, values)
         }
+        Act::Read(_) => Ok(Items::new(alloc)),
         Act::Branch { guards, otherwise } => {
             see_branch(guards, otherwise);
             if let Some(made) = first_true(alloc, timing, guards, values)? {

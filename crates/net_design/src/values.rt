@@ -4,14 +4,14 @@ use vidi_bits::Numbers;
 
 /// A number for each net and each memory word of a design, in order: a state, or what a state and the
 /// inputs settle to.
-#[derive(Debug, Drop)]
+#[derive(Drop)]
 pub struct Values {
     pub nets: Numbers,
     pub words: Numbers,
 }
 
 /// What an update changes.
-#[derive(Clone, Copy, Debug, PartialEq, Eq)]
+#[derive(Clone, Copy)]
 pub enum Target {
     /// A net, by number.
     Net(usize),
@@ -20,7 +20,7 @@ pub enum Target {
 }
 
 /// `width` bits of a net or word, from bit `low` on, become the low bits of `number`.
-#[derive(Clone, Copy, Debug, PartialEq, Eq)]
+#[derive(Clone, Copy)]
 pub struct Update {
     pub target: Target,
     pub low: u32,

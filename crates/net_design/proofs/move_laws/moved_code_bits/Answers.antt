@@ -1,4 +1,4 @@
-use Rattle.net_design.proofs.MovedBits.{reads_moved, block_writes_moved, block_adds_moved, block_open_moved, named_moved}
+use Rattle.net_design.proofs.MovedBits.{reads_moved, block_writes_moved, block_adds_moved, block_open_moved, named_moved, bits_moved}
 use Rattle.net_design.proofs.move_laws.moved_code_bits.Goals as goal
 
 pub returns-clause-reads : goal.returns-clause-reads
@@ -15,3 +15,6 @@ returns-clause-open_reads c = block_open_moved
 
 pub returns-clause-masks : goal.returns-clause-masks
 returns-clause-masks c = named_moved
+
+pub returns-clause-code : goal.returns-clause-code
+returns-clause-code c = bits_moved
