@@ -6,3 +6,6 @@ pub mod Readings
 pub mod NumberLaws
 pub mod PacketLoop
 pub mod PacketLaws
+pub mod Overwriting
+pub mod Picking
+pub mod RowBytes

@@ -8,7 +8,8 @@ use Rattle.std.proofs.lemmas.Bool.{cases_lt, ltb-true, ltb-false, lt-ltb, le-ltb
 use Rattle.std.proofs.lemmas.Option.{cond_some}
 use Rattle.std.proofs.lemmas.List.{take_at, drop_at, take-append-drop, length-append, length-take, drop_more, get_or-drop, get_or-take, get_or_past}
 use Rattle.trace_model.specs.Channel.{byte_count}
-use Rattle.trace_code.specs.Encoding.{mask_len, mask_bytes}
+use Rattle.trace_model.specs.Length.{mask_len}
+use Rattle.trace_code.specs.Encoding.{mask_bytes}
 use Rattle.trace_code.specs.PacketReading.{low_value, high_value, sized_at, mask_at, number_at}
 
 -- ---- one byte more in a loop
@@ -74,7 +75,7 @@ byte_at-pow (suc k) x = refl
 
 -- ---- the lowest byte first
 
-length-low : (i k x : ℕ) → length (bytes_low_first i k x) ≡ k
+pub length-low : (i k x : ℕ) → length (bytes_low_first i k x) ≡ k
 length-low i zero x = refl
 length-low i (suc k) x = ap suc (length-low (suc i) k x)
 
@@ -106,7 +107,7 @@ low-again i (suc k) x =
 
 -- ---- the highest byte first
 
-length-high : (k x : ℕ) → length (bytes_high_first k x) ≡ k
+pub length-high : (k x : ℕ) → length (bytes_high_first k x) ≡ k
 length-high zero x = refl
 length-high (suc k) x = ap suc (length-high k x)
 

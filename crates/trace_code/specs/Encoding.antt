@@ -3,16 +3,19 @@
 --   VIDITRC1 | channel count | channels | packets | 00, packet count (4 bytes)
 --   a channel: direction (0 inward, 1 outward) | name length | name | port count | a width a port
 --   a packet: 01 | start mask | end mask | contents of the starting channels
-use Rattle.std.specs.Prelude.{◌≡◌, ℕ, ◌+◌, ◌*◌, ◌/◌, ◌<◌, ◌^◌, List, ◌∷◌, ◌++◌, length, codes}
+use Rattle.std.specs.Prelude.{◌≡◌, ℕ, ◌+◌, ◌*◌, ◌/◌, ◌<◌, ◌^◌, List, [], ◌∷◌, ◌++◌, length, codes, if◌then◌else◌}
 use Rattle.std.specs.List.{flat_map, zip}
 use Rattle.std.specs.Int.{bytes_high_first, bytes_low_first}
 use Rattle.trace_model.specs.declared.channel.Channel.{Channel}
 use Rattle.trace_model.specs.declared.channel.Dir.{Dir}
 use Rattle.trace_model.specs.declared.channel.Dir.TheVariants.{Inward, Outward}
 use Rattle.trace_model.specs.declared.packet.Packet.{Packet}
+use Rattle.trace_model.specs.declared.row.Row.{Row}
 use Rattle.trace_model.specs.declared.trace.Trace.{Trace}
 use Rattle.trace_model.specs.Channel.{byte_count, IsTable}
+use Rattle.trace_model.specs.Length.{mask_len}
 use Rattle.trace_model.specs.Packet.{widths_under}
+use Rattle.trace_model.specs.Recording.{has_event, packet_of}
 use Rattle.trace_model.specs.Trace.{IsWellFormed}
 
 abbrev pub magic : List ℕ
@@ -28,14 +31,6 @@ channel_bytes c = direction_byte c.dir ∷ length c.name ∷ (c.name ++ length c
 abbrev pub header_bytes : List Channel → List ℕ
 header_bytes channels = magic ++ length channels ∷ flat_map channel_bytes channels
 
--- the bytes of a mask of n channels
-abbrev pub mask_len : ℕ → ℕ
-mask_len n = (n + 7) / 8
-
--- the bytes of a packet of n channels without contents
-abbrev pub head_len : ℕ → ℕ
-head_len n = 1 + 2 * mask_len n
-
 -- channel c is bit c mod 8, bit 0 the lowest, of byte c / 8; spare bits are those of the mask, 0
 abbrev pub mask_bytes : ℕ → ℕ → List ℕ
 mask_bytes n mask = bytes_low_first 0 (mask_len n) mask
@@ -47,6 +42,10 @@ number_bytes widths numbers = flat_map (λ (x : ℕ × ℕ). bytes_high_first (b
 abbrev pub packet_bytes : List Channel → Packet → List ℕ
 packet_bytes channels p = 1 ∷ (mask_bytes (length channels) p.starts
     ++ (mask_bytes (length channels) p.ends ++ number_bytes (widths_under p.starts channels) p.contents))
+
+-- the bytes of the packet of a row, of which there are none where it has no event
+abbrev pub row_bytes : List Channel → Row → List ℕ
+row_bytes channels row = if has_event row then packet_bytes channels (packet_of channels row) else []
 
 abbrev pub end_mark : ℕ → List ℕ
 end_mark packets = 0 ∷ bytes_high_first 4 packets

@@ -6,7 +6,8 @@ use Rattle.trace_model.specs.declared.packet.Packet.{Packet}
 use Rattle.trace_model.specs.Channel.{byte_count}
 use Rattle.trace_model.specs.Packet.{IsPacket, widths_under}
 use Rattle.trace_model.specs.Trace.{Alternates}
-use Rattle.trace_code.specs.Encoding.{mask_len, packet_bytes, end_mark}
+use Rattle.trace_model.specs.Length.{mask_len}
+use Rattle.trace_code.specs.Encoding.{packet_bytes, end_mark}
 use Rattle.trace_code.specs.Reading.{◌>>=◌}
 
 -- the number in bytes, the lowest first

@@ -13,7 +13,8 @@ use std::alloc::Global;
 use trace_model::{Channel, Channels, Dir};
 use vidi_bits::{Bytes, Items, Name};
 
-const MAGIC: [u8; 8] = *b"VIDITRC1";
+/// The first bytes of a trace of version 1.
+pub(crate) const MAGIC: [u8; 8] = *b"VIDITRC1";
 
 const MAX_CHANNELS: u8 = 32;
 
@@ -210,7 +211,8 @@ fn content_len(channel: &Channel) -> usize
     total
 }
 
-fn contents_len(channels: &[Channel]) -> usize
+/// The bytes of the contents of all channels.
+pub(crate) fn contents_len(channels: &[Channel]) -> usize
     requires few { length channels.now ≤ 32 }
     requires ports { All (λ (c : Channel). length c.widths ≤ 16) channels.now }
     ensures { result ≡ sum_by content_bytes channels.now }

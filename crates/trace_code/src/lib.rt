@@ -2,15 +2,19 @@
 #![tactic(auto)]
 
 mod decoding;
+mod encoding;
 mod error;
 mod header;
 mod laws;
 mod number;
 mod packets;
+mod writing;
 
 pub use decoding::decode;
+pub use encoding::{encode, end_mark, header_bytes};
 pub use error::CodeError;
 pub use laws::one_reading;
+pub use writing::write_packet;
 
 #[cfg(test)]
 mod tests;

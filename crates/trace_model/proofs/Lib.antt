@@ -2,3 +2,4 @@ pub mod CountingLemmas
 pub mod MaskLemmas
 pub mod FlightLemmas
 pub mod ContentsLemmas
+pub mod RowLemmas

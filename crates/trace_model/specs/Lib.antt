@@ -3,3 +3,7 @@ pub mod Channel
 pub mod Packet
 pub mod Trace
 pub mod Clock
+pub mod Length
+pub mod Row
+pub mod Recording
+pub mod Stability

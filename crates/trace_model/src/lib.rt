@@ -12,6 +12,9 @@ mod flight;
 mod lawful;
 mod mask;
 mod packet;
+mod row;
+mod stability;
+mod table;
 mod trace;
 
 pub use channel::{Channel, Channels, Dir};
@@ -20,6 +23,9 @@ pub use flight::in_flight_after;
 pub use lawful::{is_packet, well_formed};
 pub use mask::names;
 pub use packet::{Packet, Packets};
+pub use row::{Offers, Row, Rows};
+pub use stability::unstable;
+pub use table::same_channels;
 pub use trace::Trace;
 
 #[cfg(test)]

@@ -1,0 +1,121 @@
+//! Writing a whole trace.
+
+ghost use Rattle.std.specs.Prelude.{◌≡◌, ◌+◌, ◌≤◌, ◌++◌, length, All, OnOk, IfOk, sum_by};
+ghost use Rattle.std.specs.List.{flat_map};
+ghost use Rattle.trace_model.specs.Channel.{IsChannel, IsTable, content_bytes};
+ghost use Rattle.trace_model.specs.Length.{head_len};
+ghost use Rattle.trace_model.specs.Packet.{IsPacket};
+ghost use Rattle.trace_code.specs.Encoding.{direction_byte, channel_bytes, header_bytes, packet_bytes, end_mark, encode, HasEncoding};
+
+use crate::header::{MAGIC, contents_len};
+use crate::writing::write_events;
+use std::alloc::Global;
+use trace_model::{Channel, Channels, Dir, Packet, Trace};
+use vidi_bits::{Bytes, Items, Memory};
+
+fn direction_byte(dir: Dir) -> u8
+    ensures { result ≡ direction_byte dir }
+{
+    match dir {
+        Dir::Inward => 0,
+        Dir::Outward => 1,
+    }
+}
+
+/// Adds the bytes of a channel.
+fn push_channel(out: &mut Vec<u8>, channel: &Channel) -> Result<(), Memory>
+    requires { IsChannel channel.now }
+    ensures { OnOk result (out.new.items ≡ out.old.items ++ channel_bytes channel.now) }
+{
+    out.push(direction_byte(channel.dir))?;
+    out.push(channel.name.len() as u8)?;
+    out.extend_from_slice(channel.name.as_slice())?;
+    out.push(channel.widths.len() as u8)?;
+    out.extend_from_slice(channel.widths.as_slice())?;
+    Ok(())
+}
+
+/// Adds the bytes of channels, one after the other.
+fn push_channels(out: &mut Vec<u8>, channels: &[Channel]) -> Result<(), Memory>
+    requires { All IsChannel channels.now }
+    ensures { OnOk result (out.new.items ≡ out.old.items ++ flat_map channel_bytes channels.now) }
+{
+    for channel in channels {
+        push_channel(out, channel)?;
+    }
+    Ok(())
+}
+
+/// The bytes of the header of a lawful table of channels.
+pub fn header_bytes(alloc: Global, channels: &Channels) -> Result<Bytes, Memory>
+    requires { IsTable channels.now }
+    ensures { IfOk result (λ bytes. bytes ≡ header_bytes channels.now) }
+{
+    let mut out = Vec::from_slice(alloc, &MAGIC)?;
+    out.push(channels.len() as u8)?;
+    push_channels(&mut out, channels.as_slice())?;
+    Ok(Items::from_vec(out))
+}
+
+/// Adds the bytes of packets, one after the other, each by way of a buffer that has room for it.
+fn push_packets(
+    out: &mut Vec<u8>,
+    channels: &[Channel],
+    packets: &[Packet],
+    buf: &mut [u8],
+) -> Result<(), Memory>
+    requires few { length channels.now ≤ 128 }
+    requires each { All IsChannel channels.now }
+    requires packets { All (IsPacket channels.now) packets.now }
+    requires room { head_len (length channels.now) + sum_by content_bytes channels.now ≤ length buf.old }
+    ensures { OnOk result (out.new.items ≡ out.old.items ++ flat_map (packet_bytes channels.now) packets.now) }
+{
+    for packet in packets {
+        let contents = packet.contents.as_slice();
+        let len = write_events(
+            buf,
+            channels,
+            packet.starts,
+            packet.starts,
+            packet.ends,
+            contents,
+        );
+        out.extend_from_slice(&buf[..len])?;
+    }
+    Ok(())
+}
+
+/// The bytes of the end of a trace with this many packets.
+pub fn end_mark(packets: u32) -> [u8; 5]
+    ensures { result ≡ end_mark packets }
+{
+    let [a, b, c, d] = packets.to_be_bytes();
+    [0, a, b, c, d]
+}
+
+/// The bytes of the longest packet of these channels, in which all of them start.
+fn longest_packet(channels: &[Channel]) -> usize
+    requires { IsTable channels.now }
+    ensures { result ≡ head_len (length channels.now) + sum_by content_bytes channels.now }
+{
+    1 + 2 * channels.len().div_ceil(8) + contents_len(channels)
+}
+
+/// The bytes of a trace (*Encoding*): a well-formed one with a lawful table of channels and fewer than
+/// 2^32 packets.
+pub fn encode(alloc: Global, t: &Trace) -> Result<Bytes, Memory>
+    requires { HasEncoding t.now }
+    ensures { IfOk result (λ bytes. bytes ≡ encode t.now) }
+{
+    let channels = t.channels.as_slice();
+    let mut out = header_bytes(alloc, &t.channels)?.into_vec();
+    let mut buf = vec![in alloc; 0u8; longest_packet(channels)]?;
+    push_packets(
+        &mut out,
+        channels,
+        t.packets.as_slice(),
+        buf.as_mut_slice(),
+    )?;
+    out.extend_from_slice(&end_mark(t.packets.len() as u32))?;
+    Ok(Items::from_vec(out))
+}
