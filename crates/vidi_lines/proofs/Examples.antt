@@ -1,5 +1,5 @@
 -- The definitions on worked files and words.
-use Rattle.std.specs.Prelude.{◌≡◌, List, [], ◌∷◌, ◌++◌, codes, Some, None, refl, ◌-◌, ◌^◌}
+use Rattle.std.specs.Prelude.{◌≡◌, [], ◌∷◌, ◌++◌, codes, Some, None, refl, ◌-◌, ◌^◌}
 use Rattle.vidi_lines.specs.Lines.{file_lines, words_between, before_comment, bad_lines, is_bad}
 use Rattle.vidi_lines.specs.Number.{number_of}
 
