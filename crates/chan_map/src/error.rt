@@ -4,6 +4,7 @@ ghost use Rattle.std.specs.Prelude.{◌≡◌};
 
 use std::alloc::{AllocError, AllocFailed};
 use vidi_bits::{Memory, Name};
+use vidi_lines::LineError;
 
 /// A limit of a map.
 #[derive(Clone, Copy, PartialEq, Eq)]
@@ -60,3 +61,15 @@ impl<T: Drop> From<AllocFailed<T>> for MapError {
     }
 }
 
+impl From<LineError> for MapError {
+    ghost use Rattle.chan_map.specs.Text.{line_error};
+
+    ghost from_gives = { λ x e. e ≡ line_error x };
+
+    fn from(error: LineError) -> MapError {
+        match error {
+            LineError::BadLine { line } => MapError::Line { line },
+            LineError::Memory => MapError::Memory,
+        }
+    }
+}

@@ -7,7 +7,9 @@
 mod error;
 mod forms;
 mod map_text;
+mod reading;
+mod seen;
 
 pub use error::{MapError, MapLimit};
+pub use reading::read_map;
 pub use map_text::{ChannelLine, Entry, MapLine, MapLines, MapText};
-pub use forms::entry_of;

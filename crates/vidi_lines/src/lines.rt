@@ -125,7 +125,8 @@ fn line_of(alloc: Global, number: u32, line: &[u8]) -> Result<Line, LineError>
 /// such line, counted from 1. `Memory` comes where no memory was found. Each byte is read a bounded number of times.
 pub fn lines_of(alloc: Global, bytes: &[u8]) -> Result<Lines, LineError>
     requires { length bytes.now < 2 ^ 31 }
-    ensures { HasLines bytes.now result }
+    ensures lines { HasLines bytes.now result }
+    ensures few { IfOk result (λ lines. length lines ≤ length bytes.now) }
 {
     let mut lines = Lines::new(alloc);
     let mut rest = bytes;
