@@ -1,0 +1,113 @@
+-- M1: the first line of a map that is bad, of no form, out of place, or missing (this project's profile).
+use Rattle.std.specs.Prelude.{◌≡◌, ℕ, ◌+◌, ◌&&◌, ◌||◌, not, Bool, true, false, if◌then◌else◌, List, [], ◌∷◌, ◌++◌, map, length, Option, Some, None, Result, Ok, Err}
+use Rattle.std.specs.List.{list_any, flat_map}
+use Rattle.std.specs.Option.{option_to_list, option_map}
+use Rattle.std.specs.Str.{bytes_eq}
+use Rattle.vidi_lines.specs.declared.lines.Line.{Line}
+use Rattle.vidi_lines.specs.declared.error.LineError.{LineError}
+use Rattle.vidi_lines.specs.declared.error.LineError.TheVariants as L
+use Rattle.vidi_lines.specs.Findings.{is_nil, first, told_if}
+use Rattle.vidi_lines.specs.Lines.{bad_lines, file_lines, words_of}
+use Rattle.chan_map.specs.declared.error.MapError.{MapError}
+use Rattle.chan_map.specs.declared.error.MapError.TheVariants as E
+use Rattle.chan_map.specs.declared.map_text.Entry.{Entry}
+use Rattle.chan_map.specs.declared.map_text.Entry.TheVariants.{Top, Clock, Tie, Reset, Ignore, Channel}
+use Rattle.chan_map.specs.declared.map_text.MapLine.{MapLine}
+use Rattle.chan_map.specs.declared.map_text.MapText.{MapText}
+use Rattle.chan_map.specs.Forms.{entry_of}
+
+abbrev pub line_error : LineError → MapError
+line_error (L.BadLine line) = E.Line line
+line_error L.Memory = E.Memory
+
+abbrev pub is_top : Entry → Bool
+is_top (Top name) = true
+is_top entry = false
+
+abbrev pub is_clock : Entry → Bool
+is_clock (Clock port) = true
+is_clock entry = false
+
+abbrev pub is_reset : Entry → Bool
+is_reset (Reset port active cycles) = true
+is_reset entry = false
+
+abbrev pub top_name : Entry → List (List ℕ)
+top_name (Top name) = name ∷ []
+top_name entry = []
+
+abbrev pub channel_name : Entry → List (List ℕ)
+channel_name (Channel c) = c.name ∷ []
+channel_name entry = []
+
+abbrev pub channel_names : List Entry → List (List ℕ)
+channel_names entries = flat_map channel_name entries
+
+-- a second `clock` or `reset`, or a channel with a name that was there
+abbrev pub repeats : List Entry → Entry → Bool
+repeats before (Clock port) = list_any is_clock before
+repeats before (Reset port active cycles) = list_any is_reset before
+repeats before (Channel c) = list_any (bytes_eq c.name) (channel_names before)
+repeats before entry = false
+
+-- the first line with words is `top`, and no other is
+abbrev pub may_follow : List Entry → Entry → Bool
+may_follow before entry = if is_nil before then is_top entry else not (is_top entry) && not (repeats before entry)
+
+abbrev pub may_stand : List Entry → Option Entry → Bool
+may_stand before None = false
+may_stand before (Some entry) = may_follow before entry
+
+-- the line with number n, where it has words: its words have no listed form, or what they say may not follow the lines before
+abbrev pub line_faults : List Entry → ℕ → Line → List ℕ
+line_faults before n line = if is_nil line.words then [] else told_if (not (may_stand before (entry_of line.words))) n
+
+-- what the line with number n says
+abbrev pub said : ℕ → Line → List MapLine
+said n line = option_to_list (option_map (λ (e : Entry). record { line = n; entry = e }) (entry_of line.words))
+
+abbrev pub entries : List MapLine → List Entry
+entries lines = map (λ (l : MapLine). l.entry) lines
+
+-- what lines say, the first having number n
+abbrev pub all_said : ℕ → List Line → List MapLine
+all_said n [] = []
+all_said n (line ∷ lines) = said n line ++ all_said (n + 1) lines
+
+-- the numbers of lines at fault behind entries that aren't; behind a first fault the others don't count
+abbrev pub form_faults : List Entry → ℕ → List Line → List ℕ
+form_faults before n [] = []
+form_faults before n (line ∷ lines) = line_faults before n line ++ form_faults (before ++ entries (said n line)) (n + 1) lines
+
+-- the last line's number plus 1, where `top` or `clock` is missing
+abbrev pub missing_faults : List Entry → ℕ → List ℕ
+missing_faults said last = told_if (is_nil (flat_map top_name said) || not (list_any is_clock said)) (last + 1)
+
+abbrev pub map_lines : List ℕ → List Line
+map_lines bytes = map words_of (file_lines bytes)
+
+-- the three steps of M1, one after the other
+abbrev pub text_faults : List ℕ → List ℕ
+text_faults bytes = bad_lines bytes
+    ++ (form_faults [] 1 (map_lines bytes) ++ missing_faults (entries (all_said 1 (map_lines bytes))) (length (map_lines bytes)))
+
+-- the map holds what its lines say, and the name of its one top
+pub record IsText (bytes : List ℕ) (text : MapText) : Type 0 where
+  pub lines : text.lines ≡ all_said 1 (map_lines bytes)
+  pub top : flat_map top_name (entries text.lines) ≡ text.top ∷ []
+
+-- the first of the findings; want of memory is free
+abbrev pub IsFirstLine : List ℕ → MapError → Type 0
+IsFirstLine faults (E.Line line) = first faults ≡ Some line
+IsFirstLine faults E.Memory = Unit {0}
+IsFirstLine faults error = ⊥
+
+-- a map exactly where nothing is found, else the first finding
+abbrev pub ReadsMap : List ℕ → Result MapText MapError → Type 0
+ReadsMap bytes (Ok text) = (text_faults bytes ≡ []) × IsText bytes text
+ReadsMap bytes (Err error) = IsFirstLine (text_faults bytes) error
+
+-- what reading a line leaves, where the lines before said `old`
+abbrev pub TakesLine : List MapLine → List MapLine → ℕ → Line → Result (Unit {0}) MapError → Type 0
+TakesLine old new n line (Ok done) = (line_faults (entries old) n line ≡ []) × (new ≡ old ++ said n line)
+TakesLine old new n line (Err error) = IsFirstLine (line_faults (entries old) n line) error

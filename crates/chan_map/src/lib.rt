@@ -1,0 +1,15 @@
+//! The map: which ports of the top are channels, ties, the reset and the clock (this project's profile).
+//!
+//! The definitions stand in `specs/`: `Forms` (what a line of a map says), `Text` (reason M1, over a whole file),
+//! `Ports` (the ports that words name), `Reasons` (M2, M3 and M4) and `Bound` (the map that lines and a design make).
+#![tactic(auto)]
+
+mod error;
+mod forms;
+mod map_text;
+mod reading;
+mod seen;
+
+pub use error::{MapError, MapLimit};
+pub use reading::read_map;
+pub use map_text::{ChannelLine, Entry, MapLine, MapLines, MapText};

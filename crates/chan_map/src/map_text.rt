@@ -1,0 +1,50 @@
+//! A map as its lines say it.
+
+ghost use Rattle.std.specs.Prelude.{◌≡◌};
+ghost use Rattle.std.specs.String.{string_bytes};
+
+use trace_model::Dir;
+use vidi_bits::{Items, Name};
+use vidi_lines::Names;
+
+/// A line `in` or `out`.
+#[derive(Drop)]
+pub struct ChannelLine {
+    pub dir: Dir,
+    pub name: Name,
+    pub valid: Name,
+    pub ready: Name,
+    pub contents: Names,
+}
+
+/// What a line of a map says. Ports are named.
+#[derive(Drop)]
+pub enum Entry {
+    /// The top module.
+    Top { name: Name },
+    Clock { port: Name },
+    /// An input that is held at a number.
+    Tie { port: Name, number: u128 },
+    /// The reset port, its active value, and for how many cycles it is active: 1 to 1,000.
+    Reset { port: Name, active: bool, cycles: u32 },
+    /// An output that is passed over.
+    Ignore { port: Name },
+    Channel { channel: ChannelLine },
+}
+
+/// What the line with this number, counted from 1, says.
+#[derive(Drop)]
+pub struct MapLine {
+    pub line: u32,
+    pub entry: Entry,
+}
+
+/// A list of lines that have words, in the order of the text.
+pub type MapLines = Items<MapLine>;
+
+/// A map that was read: its lines with words, and the name of the top module.
+#[derive(Drop)]
+pub struct MapText {
+    pub(crate) top: Name,
+    pub(crate) lines: MapLines,
+}

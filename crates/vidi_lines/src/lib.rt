@@ -1,0 +1,16 @@
+//! Input files as lines of words, and the numbers that words write (this project's profile).
+//!
+//! The definitions stand in `specs/`: `Lines` (a file's lines, what a comment is, which lines are bad, and their
+//! words), `Number` (what a word writes) and `Findings` (a reason as the list of all its findings).
+#![tactic(auto)]
+
+mod error;
+mod lines;
+mod numeral;
+
+pub use error::LineError;
+pub use lines::{Line, Lines, Names, lines_of};
+pub use numeral::number;
+
+#[cfg(test)]
+mod tests;
