@@ -5,8 +5,8 @@ use Rattle.std.specs.FinMap.{get}
 use Rattle.vlog_lex.specs.declared.token.Token.{Token}
 use Rattle.vlog_lex.specs.Reading.{OneReading, ReadOrStuck}
 use Rattle.vlog_tree.specs.Tree.{FileOf}
-use Rattle.vlog_parse.specs.Marks.{all_marked}
-use Rattle.vlog_parse.specs.Bare.{without_lines}
+use Rattle.vlog_expr.specs.Marks.{all_marked}
+use Rattle.vlog_expr.specs.Bare.{without_lines}
 use Rattle.vlog_parse.specs.Depth.{IsDeep, OneDepth}
 use Rattle.vlog_parse.specs.Parsing.{IsFileOf, OneFile}
 use Rattle.vidi_io.specs.Shelf.{Files}

@@ -1,4 +1,4 @@
-ghost use Rattle.std.specs.Prelude.{◌≡◌, ◌≢◌, ◌<◌, ◌^◌, ℕ, List, IfOk, IsErr, MatchOption, MatchResult, length};
+ghost use Rattle.std.specs.Prelude.{◌≡◌, ◌≢◌, ◌<◌, ◌^◌, ◌↔◌, ℕ, List, IsTrue, IfOk, IsErr, MatchOption, MatchResult, length};
 ghost use Rattle.vlog_lex.specs.declared.token.Token.{Token};
 ghost use Rattle.vlog_lex.specs.declared.token.TokenKind.{TokenKind};
 ghost use Rattle.vlog_lex.specs.declared.error.LexError.{LexError};
@@ -20,11 +20,18 @@ fn newlines(text: &[u8]) -> u32
     text.iter().filter(|b| **b == b'\n').count() as u32
 }
 
+/// A copy of the text.
+pub fn copied(alloc: Global, text: &[u8]) -> Result<Name, Memory>
+    ensures { IfOk result (λ name. name ≡ text.now) }
+{
+    Ok(Name::from_vec(Vec::from_slice(alloc, text)?))
+}
+
 /// A token with a copy of this text.
 fn token_of(alloc: Global, kind: TokenKind, text: &[u8], line: u32) -> Result<Token, Memory>
     ensures { IfOk result (λ t. t ≡ record { kind = kind; text = text.now; line = line }) }
 {
-    let text = Name::from_vec(Vec::from_slice(alloc, text)?);
+    let text = copied(alloc, text)?;
     Ok(Token { kind, text, line })
 }
 
@@ -65,6 +72,17 @@ pub fn kind_of(text: &[u8]) -> Option<TokenKind>
 {
     let (kind, len) = next_token(text)?;
     if len == text.len() { Some(kind) } else { None }
+}
+
+/// Whether the text is a token of this kind.
+#[tactic(auto, using(crate::proofs::Longest::one_kind))]
+pub fn is_token(kind: TokenKind, text: &[u8]) -> bool
+    ensures { IsTrue result ↔ IsToken kind text.now }
+{
+    match kind_of(text) {
+        Some(found) => found == kind,
+        None => false,
+    }
 }
 
 /// No text has two lists of tokens.

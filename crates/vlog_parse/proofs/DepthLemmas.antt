@@ -6,7 +6,7 @@ use Rattle.std.proofs.lemmas.List.{append-nil, append_assoc, length-append, map-
 use Rattle.std.proofs.lemmas.List.Elements.{All-nil, All-push, All-pop}
 use Rattle.std.proofs.lemmas.List.Sums.{sum_by_push}
 use Rattle.vlog_lex.specs.declared.token.Token.{Token}
-use Rattle.vlog_parse.specs.Marks.{TokenOf, Toks, marked, all_marked}
+use Rattle.vlog_expr.specs.Marks.{TokenOf, Toks, marked, all_marked}
 use Rattle.vlog_parse.specs.Depth.{is_word, open_at, open_behind, is_cut, HaveNoCut, is_else, IsNoAlways, Passes, IsDeep, IsFirstDeep, IsShallow}
 
 -- k tokens without a cut stand at the end

@@ -10,14 +10,14 @@ use Rattle.vlog_tree.specs.Lines.{bare}
 use Rattle.vlog_tree.specs.Spelling.{toks, file_words}
 use Rattle.vlog_tree.specs.Shape.{IsGood}
 use Rattle.vlog_tree.proofs.Marks.{toks_bare}
-use Rattle.vlog_parse.specs.declared.unread.Unread.{Unread}
-use Rattle.vlog_parse.specs.declared.unread.Unread.TheVariants as unread
-use Rattle.vlog_parse.specs.Marks.{Toks, all_marked, spell, AreLawful}
-use Rattle.vlog_parse.specs.Bare.{forget_all, without_lines}
-use Rattle.vlog_parse.specs.Reader.{fuel_for}
+use Rattle.vlog_expr.specs.declared.unread.Unread.{Unread}
+use Rattle.vlog_expr.specs.declared.unread.Unread.TheVariants as unread
+use Rattle.vlog_expr.specs.Marks.{Toks, all_marked, spell, AreLawful}
+use Rattle.vlog_expr.specs.Bare.{forget_all, without_lines}
+use Rattle.vlog_expr.specs.Reader.{fuel_for}
 use Rattle.vlog_parse.specs.FileReader.{file_at, file_of}
-use Rattle.vlog_parse.specs.Laws.{Holds}
-use Rattle.vlog_parse.specs.Given.{Gives}
+use Rattle.vlog_expr.specs.Laws.{Holds}
+use Rattle.vlog_expr.specs.Given.{Gives}
 use Rattle.vlog_parse.specs.Parsing.{IsFileOf, OneFile}
 use Rattle.vlog_parse.proofs.FileSpelled.{file_read}
 use Rattle.vlog_parse.proofs.FileNatural.{file_natural}

@@ -9,12 +9,13 @@ use Rattle.vlog_tree.specs.Words.{Word, NameWord, Fixed}
 use Rattle.vlog_tree.specs.Tree.{IdentOf, RangeOf, PortHeadOf, PortOf, DrivenWireOf, Reg1Of, AssignOf, ItemOf, ModuleOf, FileOf}
 use Rattle.vlog_tree.specs.Spelling.{ident_words, after_commas, with_commas, in_row, range_words, optional, direction_words, head_words, init_words, port_words, wire_words, reg_words, assign_words, event_words, item_words, module_words, file_words}
 use Rattle.vlog_tree.specs.Shape.{IsGoodName, IsGoodExpr, IsGoodOption, IsGoodRange, IsGoodHead, IsGoodPort, IsFirstDirected, IsGoodIdent, IsGoodWire, IsGoodReg, IsGoodAssign, IsGoodEvent, AreSomeGood, IsGoodItem, IsGoodModule, IsGood}
-use Rattle.vlog_parse.specs.Marks.{Toks, spell, IsLawfulText, AreLawful, is_name, name_front}
-use Rattle.vlog_parse.specs.Bare.{forget_all}
-use Rattle.vlog_parse.specs.Reader.{Read}
-use Rattle.vlog_parse.specs.FileReader.{more_at, some_at, range_at, range_front, init_front, input_at, output_at, direction_front, head_front, port_at, given_head, first_port_at, ports_at, wire_at, reg_at, assign_at, names_at, driven_at, wires_at, regs_at, assigns_at, event_at, always_at, item_at, items_at, header_at, module_at, modules_at, file_at}
-use Rattle.vlog_parse.specs.Laws.{ReadFilesAreSpelled}
-use Rattle.vlog_parse.proofs.Found.{From, again}
+use Rattle.vlog_expr.specs.Marks.{Toks, spell, IsLawfulText, AreLawful, is_name, name_front}
+use Rattle.vlog_expr.specs.Bare.{forget_all}
+use Rattle.vlog_expr.specs.Reader.{Read}
+use Rattle.vlog_parse.specs.FileReader.{range_at, range_front, init_front, input_at, output_at, direction_front, head_front, port_at, given_head, first_port_at, ports_at, wire_at, reg_at, assign_at, names_at, driven_at, wires_at, regs_at, assigns_at, event_at, always_at, item_at, items_at, header_at, module_at, modules_at, file_at}
+use Rattle.vlog_expr.specs.Reader.{more_at, some_at}
+use Rattle.vlog_parse.specs.FileLaws.{ReadFilesAreSpelled}
+use Rattle.vlog_expr.proofs.Found.{From, again}
 use Rattle.vlog_parse.proofs.StmtFound.{Sure, nothing, sure, next, either, ◌▹◌, some_none, start, after_found, expr_found, target_found, body_found}
 
 -- at least one, of which the first meets a condition of its own

@@ -5,14 +5,17 @@ use Rattle.vlog_tree.specs.declared.module.Direction.TheVariants as direction
 use Rattle.vlog_tree.specs.declared.module.NetKind.TheVariants as kind
 use Rattle.vlog_tree.specs.declared.terminal.Terminal.TheVariants as t
 use Rattle.vlog_tree.specs.Tree.{IdentOf, ExprOf, RangeOf, PortHeadOf, PortOf, InitTail, PosedgeEvent, ItemOf, WiresItem, DrivenWiresItem, RegsItem, AssignItem, AlwaysItem, ModuleOf}
-use Rattle.vlog_parse.specs.Marks.{Toks, after, is_name, name_front}
-use Rattle.vlog_parse.specs.Bare.{forget, forget_all, bare_ident, bare_expr, bare_target, bare_body, bare_range, bare_head, bare_port, bare_wire, bare_reg, bare_assign, bare_event, bare_item, bare_module, bare_file}
-use Rattle.vlog_parse.specs.Reader.{◌>>=◌, found_or, Read, expr_at, target_at}
+use Rattle.vlog_expr.specs.Marks.{Toks, after, is_name, name_front}
+use Rattle.vlog_expr.specs.Bare.{forget, forget_all, bare_ident, bare_expr, bare_target}
+use Rattle.vlog_parse.specs.BareFile.{bare_body, bare_range, bare_head, bare_port, bare_wire, bare_reg, bare_assign, bare_event, bare_item, bare_module, bare_file}
+use Rattle.vlog_expr.specs.Reader.{◌>>=◌, found_or, Read, expr_at, target_at}
 use Rattle.vlog_parse.specs.StmtReader.{body_at}
-use Rattle.vlog_parse.specs.FileReader.{more_at, some_at, range_at, range_front, init_front, input_at, output_at, direction_front, head_front, port_at, given_head, first_port_at, ports_at, wire_at, reg_at, assign_at, names_at, driven_at, wires_at, regs_at, assigns_at, event_at, always_at, item_at, items_at, header_at, module_at, modules_at}
-use Rattle.vlog_parse.specs.Laws.{seen, FileLinesDontCount}
-use Rattle.vlog_parse.proofs.Natural.{U, over_bind, over_found, expr_natural}
-use Rattle.vlog_parse.proofs.TargetNatural.{target_natural}
+use Rattle.vlog_parse.specs.FileReader.{range_at, range_front, init_front, input_at, output_at, direction_front, head_front, port_at, given_head, first_port_at, ports_at, wire_at, reg_at, assign_at, names_at, driven_at, wires_at, regs_at, assigns_at, event_at, always_at, item_at, items_at, header_at, module_at, modules_at}
+use Rattle.vlog_expr.specs.Reader.{more_at, some_at}
+use Rattle.vlog_expr.specs.Laws.{seen}
+use Rattle.vlog_parse.specs.FileLaws.{FileLinesDontCount}
+use Rattle.vlog_expr.proofs.Natural.{U, over_bind, over_found, expr_natural}
+use Rattle.vlog_expr.proofs.TargetNatural.{target_natural}
 use Rattle.vlog_parse.proofs.StmtNatural.{map_snoc, over_after, over_optional, body_natural}
 
 abbrev pub bare_ports : {A : Type 0} → List (PortOf A) → List (PortOf U)

@@ -9,12 +9,14 @@ use Rattle.vlog_tree.specs.Words.{Word, NameWord, Fixed}
 use Rattle.vlog_tree.specs.Tree.{IdentOf, ExprOf, TargetOf, BodyOf, RangeOf, PortHeadOf, PortOf, DrivenWireOf, RegTailOf, InitTail, Reg1Of, AssignOf, EventOf, PosedgeEvent, ItemOf, WiresItem, DrivenWiresItem, RegsItem, AssignItem, AlwaysItem, ModuleOf, FileOf}
 use Rattle.vlog_tree.specs.Spelling.{ident_words, expr_words, target_words, after_commas, with_commas, in_row, range_words, optional, direction_words, head_words, init_words, port_words, wire_words, reg_words, assign_words, item_words, module_words}
 use Rattle.vlog_tree.specs.Shape.{IsGoodExpr, IsGoodBody, IsGoodOption, IsGoodRange, IsGoodHead, IsGoodPort, IsFirstDirected, IsGoodIdent, IsGoodWire, IsGoodTail, IsGoodReg, IsGoodAssign, AreSomeGood, IsGoodItem, IsGoodModule}
-use Rattle.vlog_parse.specs.Marks.{Toks, spelled, spell, after, name_front}
-use Rattle.vlog_parse.specs.Reader.{◌>>=◌, found_or, Read, expr_at, fuel_for}
-use Rattle.vlog_parse.specs.FileReader.{more_at, some_at, range_at, range_front, init_front, direction_front, head_front, port_at, given_head, first_port_at, ports_at, wire_at, reg_at, assign_at, names_at, driven_at, wires_at, regs_at, assigns_at, item_at, items_at, header_at, module_at, modules_at, file_at}
-use Rattle.vlog_parse.specs.Laws.{Ends, FilesAreRead}
-use Rattle.vlog_parse.proofs.Spelled.{U, spell_append, ends_bracket, ends_colon, ends_comma, ends_paren, expr_read}
-use Rattle.vlog_parse.proofs.TargetSpelled.{target_read}
+use Rattle.vlog_expr.specs.Marks.{Toks, spelled, spell, after, name_front}
+use Rattle.vlog_expr.specs.Reader.{◌>>=◌, found_or, Read, expr_at, fuel_for}
+use Rattle.vlog_parse.specs.FileReader.{range_at, range_front, init_front, direction_front, head_front, port_at, given_head, first_port_at, ports_at, wire_at, reg_at, assign_at, names_at, driven_at, wires_at, regs_at, assigns_at, item_at, items_at, header_at, module_at, modules_at, file_at}
+use Rattle.vlog_expr.specs.Reader.{more_at, some_at}
+use Rattle.vlog_expr.specs.Laws.{Ends}
+use Rattle.vlog_parse.specs.FileLaws.{FilesAreRead}
+use Rattle.vlog_expr.proofs.Spelled.{U, spell_append, ends_bracket, ends_colon, ends_comma, ends_paren, expr_read}
+use Rattle.vlog_expr.proofs.TargetSpelled.{target_read}
 use Rattle.vlog_parse.proofs.StmtSpelled.{ends_semicolon, body_read}
 
 abbrev semicolon : Toks U → Toks U

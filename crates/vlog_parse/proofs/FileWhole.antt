@@ -10,14 +10,16 @@ use Rattle.vlog_tree.specs.Words.{Word, Fixed, tokens_of}
 use Rattle.vlog_tree.specs.Tree.{IdentOf, ExprOf, RangeOf, PortHeadOf, PortOf, DrivenWireOf, RegTailOf, InitTail, Reg1Of, AssignOf, EventOf, PosedgeEvent, ItemOf, WiresItem, DrivenWiresItem, RegsItem, AssignItem, AlwaysItem, ModuleOf, FileOf, TargetOf, RefTarget, ConcatTarget, TargetsOf, NoTargets, MoreTargets, StmtOf, BeginStmt, IfStmt, AssignStmt, BodyOf, StmtBody, EmptyBody, ElseOf, NoElse, Else, StmtsOf, NoStmts, MoreStmts}
 use Rattle.vlog_tree.specs.Spelling.{assign_terminal, ident_words, expr_words, target_words, targets_words, more_targets_words, stmt_words, body_words, else_words, stmts_words, after_commas, with_commas, in_row, range_words, optional, direction_words, head_words, init_words, port_words, wire_words, tail_words, reg_words, assign_words, event_words, item_words, module_words, file_words}
 use Rattle.vlog_tree.specs.Shape.{IsGoodExpr, IsGoodTarget, AreGoodTargets, AreAllGoodTargets, IsGoodStmt, IsGoodBody, IsGoodElse, AreGoodStmts, IsGoodOption, IsGoodRange, IsGoodHead, IsGoodPort, IsGoodIdent, IsGoodWire, IsGoodTail, IsGoodReg, IsGoodAssign, IsGoodEvent, AreSomeGood, IsGoodItem, IsGoodModule, IsGood}
-use Rattle.vlog_parse.specs.Marks.{Toks, spell, all_marked, AreLawful}
-use Rattle.vlog_parse.specs.Bare.{forget_all, bare_file, without_lines}
-use Rattle.vlog_parse.specs.Reader.{fuel_for}
+use Rattle.vlog_expr.specs.Marks.{Toks, spell, all_marked, AreLawful}
+use Rattle.vlog_expr.specs.Bare.{forget_all, without_lines}
+use Rattle.vlog_parse.specs.BareFile.{bare_file}
+use Rattle.vlog_expr.specs.Reader.{fuel_for}
 use Rattle.vlog_parse.specs.FileReader.{file_at, file_of}
-use Rattle.vlog_parse.specs.Laws.{Holds, FilesAreRead, FileLinesDontCount}
-use Rattle.vlog_parse.proofs.Spelled.{U}
+use Rattle.vlog_expr.specs.Laws.{Holds}
+use Rattle.vlog_parse.specs.FileLaws.{FilesAreRead, FileLinesDontCount}
+use Rattle.vlog_expr.proofs.Spelled.{U}
 use Rattle.vlog_parse.proofs.FileFound.{file_spelled}
-use Rattle.vlog_parse.proofs.Whole.{spelled_tokens, tokens_spelled, AreLawfulWords, lawful_append, spell_lawful, forget_lawful, expr_lawful, ref_lawful, length_spell, length_forget, none_some}
+use Rattle.vlog_expr.proofs.Whole.{spelled_tokens, tokens_spelled, AreLawfulWords, lawful_append, spell_lawful, forget_lawful, expr_lawful, ref_lawful, length_spell, length_forget, none_some}
 
 mutual
   target_lawful : (x : TargetOf U) → IsGoodTarget x → AreLawfulWords (target_words x)

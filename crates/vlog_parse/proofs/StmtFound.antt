@@ -7,14 +7,15 @@ use Rattle.vlog_tree.specs.Words.{Word, Fixed}
 use Rattle.vlog_tree.specs.Tree.{TargetOf, StmtOf, BodyOf, ElseOf, NoElse, Else, stmts_of}
 use Rattle.vlog_tree.specs.Spelling.{assign_terminal, target_words, stmt_words, body_words, else_words, stmts_words}
 use Rattle.vlog_tree.specs.Shape.{IsGoodTarget, is_open, is_open_body, is_open_else, IsShut, IsGoodStmt, IsGoodBody, IsGoodElse, AreGoodStmts}
-use Rattle.vlog_parse.specs.Marks.{Toks, spell, AreLawful, after}
-use Rattle.vlog_parse.specs.Bare.{forget_all}
-use Rattle.vlog_parse.specs.Reader.{◌>>=◌, found_or, expr_at, target_at}
+use Rattle.vlog_expr.specs.Marks.{Toks, spell, AreLawful, after}
+use Rattle.vlog_expr.specs.Bare.{forget_all}
+use Rattle.vlog_expr.specs.Reader.{◌>>=◌, found_or, expr_at, target_at}
 use Rattle.vlog_parse.specs.StmtReader.{assign_op_at, assign_stmt_at, stmt_at, if_at, body_at, else_at, stmts_at}
-use Rattle.vlog_parse.specs.Laws.{Holds, ReadBodiesAreSpelled}
-use Rattle.vlog_parse.proofs.Spelled.{U}
-use Rattle.vlog_parse.proofs.Found.{bind, found, From, join, again, after_sound, Behind, AtExpr, sound}
-use Rattle.vlog_parse.proofs.TargetFound.{target_spelled}
+use Rattle.vlog_expr.specs.Laws.{Holds}
+use Rattle.vlog_parse.specs.FileLaws.{ReadBodiesAreSpelled}
+use Rattle.vlog_expr.proofs.Spelled.{U}
+use Rattle.vlog_expr.proofs.Found.{bind, found, From, join, again, after_sound, Behind, AtExpr, sound}
+use Rattle.vlog_expr.proofs.TargetFound.{target_spelled}
 
 -- the same as Holds, in a form from which the checker finds what is read
 pub record Sure {X : Type 0} (o : Option X) (P : X → Type 0) : Type 0 where

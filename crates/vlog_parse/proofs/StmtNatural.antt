@@ -5,13 +5,15 @@ use Rattle.vlog_tree.specs.declared.stmt.AssignOp.TheVariants as assign
 use Rattle.vlog_tree.specs.declared.terminal.Terminal.{Terminal}
 use Rattle.vlog_tree.specs.declared.terminal.Terminal.TheVariants as t
 use Rattle.vlog_tree.specs.Tree.{StmtOf, BeginStmt, IfStmt, AssignStmt, StmtBody, EmptyBody, NoElse, Else, StmtsOf, MoreStmts, stmts_of}
-use Rattle.vlog_parse.specs.Marks.{Toks, after}
-use Rattle.vlog_parse.specs.Bare.{forget_all, bare_expr, bare_target, bare_stmt, bare_body, bare_else, bare_stmts}
-use Rattle.vlog_parse.specs.Reader.{◌>>=◌, found_or, Read, expr_at, target_at}
+use Rattle.vlog_expr.specs.Marks.{Toks, after}
+use Rattle.vlog_expr.specs.Bare.{forget_all, bare_expr, bare_target}
+use Rattle.vlog_parse.specs.BareFile.{bare_stmt, bare_body, bare_else, bare_stmts}
+use Rattle.vlog_expr.specs.Reader.{◌>>=◌, found_or, Read, expr_at, target_at}
 use Rattle.vlog_parse.specs.StmtReader.{assign_op_at, assign_stmt_at, stmt_at, if_at, body_at, else_at, stmts_at}
-use Rattle.vlog_parse.specs.Laws.{seen, BodyLinesDontCount}
-use Rattle.vlog_parse.proofs.Natural.{U, over_bind, over_found, after_natural, expr_natural}
-use Rattle.vlog_parse.proofs.TargetNatural.{target_natural}
+use Rattle.vlog_expr.specs.Laws.{seen}
+use Rattle.vlog_parse.specs.FileLaws.{BodyLinesDontCount}
+use Rattle.vlog_expr.proofs.Natural.{U, over_bind, over_found, after_natural, expr_natural}
+use Rattle.vlog_expr.proofs.TargetNatural.{target_natural}
 
 pub map_snoc : {X Y : Type 0} (f : X → Y) (xs : List X) (x : X) → map f xs ++ f x ∷ [] ≡ map f (xs ++ x ∷ [])
 map_snoc f [] x = refl

@@ -8,12 +8,13 @@ use Rattle.vlog_tree.specs.Words.{Fixed}
 use Rattle.vlog_tree.specs.Tree.{ExprOf, RefWith, TargetOf, RefTarget, ConcatTarget, StmtOf, BeginStmt, IfStmt, AssignStmt, BodyOf, StmtBody, EmptyBody, ElseOf, NoElse, Else, StmtsOf, NoStmts, MoreStmts, stmts_of}
 use Rattle.vlog_tree.specs.Spelling.{assign_terminal, expr_words, target_words, stmt_words, body_words, else_words, stmts_words}
 use Rattle.vlog_tree.specs.Shape.{IsGoodExpr, IsGoodTarget, is_open, is_open_body, is_open_else, IsShut, IsGoodStmt, IsGoodBody, IsGoodElse, AreGoodStmts}
-use Rattle.vlog_parse.specs.Marks.{Toks, spelled, spell, after}
-use Rattle.vlog_parse.specs.Reader.{◌>>=◌, found_or, Read, expr_at}
+use Rattle.vlog_expr.specs.Marks.{Toks, spelled, spell, after}
+use Rattle.vlog_expr.specs.Reader.{◌>>=◌, found_or, Read, expr_at}
 use Rattle.vlog_parse.specs.StmtReader.{assign_op_at, assign_stmt_at, stmt_at, if_at, body_at, else_at, stmts_at}
-use Rattle.vlog_parse.specs.Laws.{Ends, BodiesAreRead}
-use Rattle.vlog_parse.proofs.Spelled.{U, size, spell_append, ends_paren, expr_read}
-use Rattle.vlog_parse.proofs.TargetSpelled.{target_read}
+use Rattle.vlog_expr.specs.Laws.{Ends}
+use Rattle.vlog_parse.specs.FileLaws.{BodiesAreRead}
+use Rattle.vlog_expr.proofs.Spelled.{U, size, spell_append, ends_paren, expr_read}
+use Rattle.vlog_expr.proofs.TargetSpelled.{target_read}
 
 abbrev StmtClaim : StmtOf U → Type 0
 StmtClaim s = (n : ℕ) (r : Toks U) → (is_open s ≡ true → after t.Else r ≡ None) → size (stmt_words s) ≤ n → stmt_at n (spell (stmt_words s) r) ≡ Some (s, r)

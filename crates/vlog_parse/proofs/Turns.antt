@@ -3,17 +3,10 @@ use Rattle.std.proofs.Common.{◌≡◌, ◌≢◌, ℕ, suc, length, refl, Opti
 use Rattle.vlog_tree.specs.declared.terminal.Terminal.TheVariants as t
 use Rattle.vlog_tree.specs.Tree.{StmtOf, ItemOf, ModuleOf}
 use Rattle.vlog_lex.specs.declared.token.Token.{Token}
-use Rattle.vlog_parse.specs.Marks.{Toks, after, all_marked}
-use Rattle.vlog_parse.specs.Reader.{◌>>=◌, found_or, Read}
+use Rattle.vlog_expr.specs.Marks.{Toks, after, all_marked}
+use Rattle.vlog_expr.specs.Reader.{◌>>=◌, found_or, Read}
 use Rattle.vlog_parse.specs.StmtReader.{stmt_at, stmts_at}
-use Rattle.vlog_parse.specs.FileReader.{more_at, item_at, items_at, module_at, modules_at}
-
-pub more_turn : {A X : Type 0} (one : Toks A → Read A X) (m n : ℕ) (front : List X) (ws : Toks A) (comma : A × Toks A) (x : X × Toks A)
-    → m ≡ suc n → after t.Comma ws ≡ Some comma → one comma.1 ≡ Some x → more_at one m front ws ≡ more_at one n (front ++ x.0 ∷ []) x.1
-more_turn {A} {X} one m n front ws comma x e h k =
-    ap (λ (l : ℕ). more_at one l front ws) e
-    ∙ ap (λ (o : Option (A × Toks A)). found_or o (Some (front, ws)) (λ c. one c.1 >>= λ x. more_at one n (front ++ x.0 ∷ []) x.1)) h
-    ∙ ap (λ (o : Read A X). o >>= λ x. more_at one n (front ++ x.0 ∷ []) x.1) k
+use Rattle.vlog_parse.specs.FileReader.{item_at, items_at, module_at, modules_at}
 
 pub stmts_turn : {A : Type 0} (m n : ℕ) (front : List (StmtOf A)) (ws : Toks A) (x : StmtOf A × Toks A)
     → m ≡ suc n → after t.End ws ≡ None → stmt_at n ws ≡ Some x → stmts_at m front ws ≡ stmts_at n (front ++ x.0 ∷ []) x.1

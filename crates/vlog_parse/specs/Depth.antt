@@ -2,7 +2,7 @@
 use Rattle.std.specs.Prelude.{◌≡◌, if◌then◌else◌, ℕ, zero, suc, ◌≤◌, ◌<◌, leb, Bool, true, false, ◌&&◌, ◌||◌, ◌⊎◌, List, [], ◌∷◌, ◌++◌, All, codes, count_by, length}
 use Rattle.std.specs.Str.{bytes_eq}
 use Rattle.vlog_lex.specs.declared.token.TokenKind.TheVariants.{Reserved, Other}
-use Rattle.vlog_parse.specs.Marks.{TokenOf, Toks, same_kind}
+use Rattle.vlog_expr.specs.Marks.{TokenOf, Toks, same_kind}
 
 abbrev pub is_word : {A : Type 0} → List ℕ → TokenOf A → Bool
 is_word text x = same_kind x.kind Reserved && bytes_eq x.text text

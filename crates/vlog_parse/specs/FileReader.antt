@@ -5,18 +5,9 @@ use Rattle.vlog_tree.specs.declared.module.Direction.TheVariants as direction
 use Rattle.vlog_tree.specs.declared.module.NetKind.TheVariants as kind
 use Rattle.vlog_tree.specs.declared.terminal.Terminal.TheVariants as t
 use Rattle.vlog_tree.specs.Tree.{IdentOf, ExprOf, RangeOf, PortHeadOf, PortOf, DrivenWireOf, InitTail, Reg1Of, AssignOf, EventOf, PosedgeEvent, ItemOf, WiresItem, DrivenWiresItem, RegsItem, AssignItem, AlwaysItem, ModuleOf, FileOf}
-use Rattle.vlog_parse.specs.Marks.{Toks, after, name_front}
-use Rattle.vlog_parse.specs.Reader.{◌>>=◌, found_or, Read, expr_at, target_at, fuel_for}
+use Rattle.vlog_expr.specs.Marks.{Toks, after, name_front}
+use Rattle.vlog_expr.specs.Reader.{◌>>=◌, found_or, Read, expr_at, target_at, fuel_for, more_at, some_at}
 use Rattle.vlog_parse.specs.StmtReader.{body_at}
-
--- { "," x } behind the ones so far
-abbrev pub more_at : {A X : Type 0} → (Toks A → Read A X) → ℕ → List X → Toks A → Read A (List X)
-more_at one zero front ws = None
-more_at one (suc n) front ws = found_or (after t.Comma ws) (Some (front, ws)) (λ c. one c.1 >>= λ x. more_at one n (front ++ x.0 ∷ []) x.1)
-
--- x { "," x }
-abbrev pub some_at : {A X : Type 0} → (Toks A → Read A X) → ℕ → Toks A → Read A (List X)
-some_at one n ws = one ws >>= λ x. more_at one n (x.0 ∷ []) x.1
 
 -- expr ":" expr "]"
 abbrev pub range_at : {A : Type 0} → ℕ → Toks A → Read A (RangeOf A)

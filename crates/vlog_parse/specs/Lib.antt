@@ -1,10 +1,7 @@
-pub mod Bare
+pub mod BareFile
 pub mod Depth
+pub mod FileLaws
 pub mod FileReader
-pub mod Given
-pub mod Laws
-pub mod Marks
 pub mod Parsing
-pub mod Reader
 pub mod StmtReader
 pub mod Units

@@ -6,8 +6,8 @@ use Rattle.vlog_tree.specs.Spelling.{toks}
 use Rattle.vlog_tree.specs.Shape.{IsGood}
 use Rattle.vlog_parse.specs.declared.error.ParseError.{ParseError}
 use Rattle.vlog_parse.specs.declared.error.ParseError.TheVariants.{Deep, Item, Memory}
-use Rattle.vlog_parse.specs.Marks.{all_marked}
-use Rattle.vlog_parse.specs.Bare.{without_lines}
+use Rattle.vlog_expr.specs.Marks.{all_marked}
+use Rattle.vlog_expr.specs.Bare.{without_lines}
 use Rattle.vlog_parse.specs.Depth.{IsDeep, IsShallow}
 
 -- a file of good shape that these tokens spell; lines don't count

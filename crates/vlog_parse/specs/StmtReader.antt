@@ -4,8 +4,8 @@ use Rattle.vlog_tree.specs.declared.stmt.AssignOp.{AssignOp}
 use Rattle.vlog_tree.specs.declared.stmt.AssignOp.TheVariants as assign
 use Rattle.vlog_tree.specs.declared.terminal.Terminal.TheVariants as t
 use Rattle.vlog_tree.specs.Tree.{StmtOf, BeginStmt, IfStmt, AssignStmt, BodyOf, StmtBody, EmptyBody, ElseOf, NoElse, Else, stmts_of}
-use Rattle.vlog_parse.specs.Marks.{Toks, after}
-use Rattle.vlog_parse.specs.Reader.{◌>>=◌, found_or, Read, expr_at, target_at}
+use Rattle.vlog_expr.specs.Marks.{Toks, after}
+use Rattle.vlog_expr.specs.Reader.{◌>>=◌, found_or, Read, expr_at, target_at}
 
 -- "=" | "<="
 abbrev pub assign_op_at : {A : Type 0} → Toks A → Read A AssignOp

@@ -6,7 +6,7 @@ use Rattle.vlog_tree.specs.Words.{Word, NameWord, Fixed}
 use Rattle.vlog_tree.specs.Tree.{PortOf, ItemOf, AlwaysItem, ModuleOf, FileOf}
 use Rattle.vlog_tree.specs.Spelling.{with_commas, in_row, port_words, item_words, file_words}
 use Rattle.vlog_tree.specs.Shape.{IsGood}
-use Rattle.vlog_parse.specs.Marks.{Toks, spell, after}
+use Rattle.vlog_expr.specs.Marks.{Toks, spell, after}
 
 pub data UnitOf (A : Type 0) : Type 0 where
   Header : List ℕ → List (PortOf A) → UnitOf A

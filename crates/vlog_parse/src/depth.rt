@@ -1,5 +1,7 @@
+//! The limits of nesting and length.
+
 ghost use Rattle.std.specs.Prelude.{◌≡◌, if◌then◌else◌, suc, ℕ, ◌≤◌, ◌<◌, ◌↔◌, true, IsTrue, Some, None, codes};
-ghost use Rattle.vlog_parse.specs.Marks.{marked, all_marked};
+ghost use Rattle.vlog_expr.specs.Marks.{marked, all_marked};
 ghost use Rattle.vlog_parse.specs.Depth.{is_word, is_symbol, opens, closes, open_at, is_cut, is_else, IsDeep, IsShallow};
 
 use vlog_lex::{Token, TokenKind};
@@ -76,7 +78,7 @@ fn is_cut(depth: u32, token: &Token) -> bool
 
 impl Limits {
     /// Counts the token, and tells whether no limit is passed at it.
-    fn pass(&mut self, token: &Token) -> bool
+    fn count(&mut self, token: &Token) -> bool
         requires depth { self.old.depth ≤ 32 }
         requires run { self.old.run ≤ 1024 }
         requires elses { self.old.elses ≤ 1024 }
@@ -119,12 +121,9 @@ pub fn deep_line(tokens: &[Token]) -> Option<u32>
         elses: 0,
     };
     for token in tokens {
-        if !limits.pass(token) {
+        if !limits.count(token) {
             return Some(token.line);
         }
     }
     None
 }
-
-#[cfg(test)]
-mod tests;

@@ -1,6 +1,5 @@
-ghost use Rattle.std.specs.Prelude.{◌≡◌};
+//! Why no tree was read.
 
-use crate::unread::Unread;
 use thiserror::Error;
 
 /// Why no tree was read.
@@ -14,17 +13,4 @@ pub enum ParseError {
     Item { line: u32 },
     #[error("out of memory")]
     Memory,
-}
-
-impl From<Unread> for ParseError {
-    ghost use Rattle.vlog_parse.specs.Given.{refusal};
-
-    ghost from_gives = { λ u e. e ≡ refusal u };
-
-    fn from(unread: Unread) -> ParseError {
-        match unread {
-            Unread::Fault => ParseError::Item { line: 0 },
-            Unread::Memory => ParseError::Memory,
-        }
-    }
 }

@@ -1,16 +1,16 @@
+//! The reader of items.
+
 ghost use Rattle.std.specs.Prelude.{◌≡◌, ℕ, option_map, Some};
 ghost use Rattle.vlog_tree.specs.Tree.{IdentOf, DrivenWireOf, Reg1Of, AssignOf};
 ghost use Rattle.vlog_tree.specs.Plain.{plain_ident, plain_expr, plain_range, plain_wire, plain_reg, plain_assign, plain_event, plain_item};
-ghost use Rattle.vlog_parse.specs.Marks.{all_marked, name_front};
+ghost use Rattle.vlog_expr.specs.Marks.{all_marked, name_front};
 ghost use Rattle.vlog_parse.specs.FileReader.{range_at, range_front, init_front, wire_at, reg_at, assign_at, names_at, driven_at, wires_at, regs_at, assigns_at, event_at, always_at, item_at};
-ghost use Rattle.vlog_parse.specs.Given.{Gives};
+ghost use Rattle.vlog_expr.specs.Given.{Gives};
 
-use crate::expr::expr_of;
-use crate::front::{Parsed, after, expect, name_of};
 use crate::listed::{Listed, more_of, some_of};
 use crate::stmt::{MOST_NESTED, body_of};
-use crate::target::target_of;
 use std::alloc::Global;
+use vlog_expr::{Parsed, after, expect, expr_of, name_of, target_of};
 use vlog_lex::Token;
 use vlog_tree::{
     Always, Assign, DrivenWire, DrivenWires, Event, Expr, Ident, Idents, Item, Range, Reg1,
@@ -18,19 +18,29 @@ use vlog_tree::{
 };
 
 /// The bounds behind `[`, and `]`.
-fn range_of(alloc: Global, tokens: &[Token], fuel: usize) -> Parsed<'_, Range>
-    ensures { Gives (λ x. (plain_range x.0, all_marked x.1.now)) result (range_at fuel (all_marked tokens.now)) }
+fn range_of(alloc: Global, tokens: &[Token], fuel: usize) -> Parsed<'_, Box<Range>>
+    ensures { Gives (λ x. (plain_range x.0.value, all_marked x.1.now)) result (range_at fuel (all_marked tokens.now)) }
 {
     let (first, rest) = expr_of(alloc, tokens, fuel)?;
+    let first = Box::new(alloc, first)?;
     let (_, rest) = expect(Terminal::Colon, rest)?;
     let (second, rest) = expr_of(alloc, rest, fuel)?;
+    let first = Box::into_inner(first);
+    let range = Box::new(alloc, Range { first, second })?;
     let (_, rest) = expect(Terminal::BracketClose, rest)?;
-    Ok((Range { first, second }, rest))
+    Ok((range, rest))
+}
+
+/// The range, no longer on the heap.
+pub fn unboxed(range: Option<Box<Range>>) -> Option<Range>
+    ensures { option_map plain_range result ≡ option_map (λ b. plain_range b.value) range }
+{
+    Some(Box::into_inner(range?))
 }
 
 /// The range, where one stands at the front.
-pub fn range_front(alloc: Global, tokens: &[Token], fuel: usize) -> Parsed<'_, Option<Range>>
-    ensures { Gives (λ x. (option_map plain_range x.0, all_marked x.1.now)) result (range_front fuel (all_marked tokens.now)) }
+pub fn range_front(alloc: Global, tokens: &[Token], fuel: usize) -> Parsed<'_, Option<Box<Range>>>
+    ensures { Gives (λ x. (option_map (λ b. plain_range b.value) x.0, all_marked x.1.now)) result (range_front fuel (all_marked tokens.now)) }
 {
     let Some((_, rest)) = after(Terminal::BracketOpen, tokens) else {
         return Ok((None, tokens));
@@ -113,35 +123,37 @@ impl Listed for Assign {
 /// Wires without values, behind the name of the first one.
 fn names_of(
     alloc: Global,
-    range: Option<Range>,
+    range: Option<Box<Range>>,
     id: Ident,
     tokens: &[Token],
     fuel: usize,
 ) -> Parsed<'_, Item>
-    ensures { Gives (λ x. (plain_item x.0, all_marked x.1.now)) result (names_at fuel (option_map plain_range range) (plain_ident id) (all_marked tokens.now)) }
+    ensures { Gives (λ x. (plain_item x.0, all_marked x.1.now)) result (names_at fuel (option_map (λ b. plain_range b.value) range) (plain_ident id) (all_marked tokens.now)) }
 {
     let mut front = Idents::new(alloc);
     front.push(id)?;
     let (names, rest) = more_of(alloc, front, tokens, fuel)?;
     let (_, rest) = expect(Terminal::Semicolon, rest)?;
+    let range = unboxed(range);
     Ok((Item::Wires { range, names }, rest))
 }
 
 /// Wires with their values, behind the name and the `=` of the first one.
 fn driven_of(
     alloc: Global,
-    range: Option<Range>,
+    range: Option<Box<Range>>,
     id: Ident,
     tokens: &[Token],
     fuel: usize,
 ) -> Parsed<'_, Item>
-    ensures { Gives (λ x. (plain_item x.0, all_marked x.1.now)) result (driven_at fuel (option_map plain_range range) (plain_ident id) (all_marked tokens.now)) }
+    ensures { Gives (λ x. (plain_item x.0, all_marked x.1.now)) result (driven_at fuel (option_map (λ b. plain_range b.value) range) (plain_ident id) (all_marked tokens.now)) }
 {
     let (value, rest) = expr_of(alloc, tokens, fuel)?;
     let mut front = DrivenWires::new(alloc);
     front.push(DrivenWire { id, value })?;
     let (wires, rest) = more_of(alloc, front, rest, fuel)?;
     let (_, rest) = expect(Terminal::Semicolon, rest)?;
+    let range = unboxed(range);
     Ok((Item::DrivenWires { range, wires }, rest))
 }
 
@@ -164,6 +176,7 @@ fn regs_of(alloc: Global, tokens: &[Token], fuel: usize) -> Parsed<'_, Item>
     let (range, rest) = range_front(alloc, tokens, fuel)?;
     let (regs, rest) = some_of(alloc, rest, fuel)?;
     let (_, rest) = expect(Terminal::Semicolon, rest)?;
+    let range = unboxed(range);
     Ok((Item::Regs { range, regs }, rest))
 }
 

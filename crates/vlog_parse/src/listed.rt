@@ -1,13 +1,14 @@
-ghost use Rattle.std.specs.Prelude.{◌≡◌, ◌≤◌, ℕ, map};
-ghost use Rattle.vlog_parse.specs.Marks.{Toks, all_marked};
-ghost use Rattle.vlog_parse.specs.Reader.{Read};
-ghost use Rattle.vlog_parse.specs.FileReader.{more_at, some_at};
-ghost use Rattle.vlog_parse.specs.Given.{Gives};
+//! Lists with commas.
 
-use crate::front::{Parsed, after};
-use crate::unread::Unread;
+ghost use Rattle.std.specs.Prelude.{◌≡◌, ◌≤◌, ℕ, map};
+ghost use Rattle.vlog_expr.specs.Marks.{Toks, all_marked};
+ghost use Rattle.vlog_expr.specs.Reader.{Read};
+ghost use Rattle.vlog_expr.specs.Reader.{more_at, some_at};
+ghost use Rattle.vlog_expr.specs.Given.{Gives};
+
 use std::alloc::Global;
 use vidi_bits::Items;
+use vlog_expr::{Parsed, Unread, after};
 use vlog_lex::Token;
 use vlog_tree::Terminal;
 
@@ -27,7 +28,7 @@ pub trait Listed {
 }
 
 /// The ones that follow the first ones, each behind a comma.
-#[tactic(auto, using(crate::proofs::Maps::map_snoc))]
+#[tactic(auto, using(vlog_expr::proofs::Maps::map_snoc))]
 pub fn more_of<T: Listed + Drop>(
     alloc: Global,
     front: Items<T>,

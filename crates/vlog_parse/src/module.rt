@@ -1,16 +1,17 @@
+//! The reader of modules and files.
+
 ghost use Rattle.std.specs.Prelude.{◌≡◌, ◌≤◌, ℕ, Some, [], map, option_map};
 ghost use Rattle.vlog_tree.specs.Tree.{PortOf};
 ghost use Rattle.vlog_tree.specs.Plain.{plain_expr, plain_head, plain_port, plain_item, plain_module, plain};
-ghost use Rattle.vlog_parse.specs.Marks.{all_marked};
+ghost use Rattle.vlog_expr.specs.Marks.{all_marked};
 ghost use Rattle.vlog_parse.specs.FileReader.{input_at, output_at, direction_front, head_front, port_at, first_port_at, ports_at, items_at, header_at, module_at, modules_at, file_at};
-ghost use Rattle.vlog_parse.specs.Given.{Gives};
+ghost use Rattle.vlog_expr.specs.Given.{Gives};
 
-use crate::front::{Parsed, after, expect, name_of};
-use crate::item::{init_front, item_of, range_front};
+use crate::item::{init_front, item_of, range_front, unboxed};
 use crate::listed::{Listed, more_of};
-use crate::unread::Unread;
 use std::alloc::Global;
 use vidi_bits::{Items, Name};
+use vlog_expr::{Parsed, Unread, after, expect, name_of};
 use vlog_lex::Token;
 use vlog_tree::{Direction, File, Item, Module, Modules, NetKind, Port, PortHead, Ports, Terminal};
 
@@ -53,14 +54,22 @@ fn direction_front(tokens: &[Token]) -> Option<(Direction, &[Token])>
 }
 
 /// The direction and its range, where a direction stands at the front.
-fn head_front(alloc: Global, tokens: &[Token], fuel: usize) -> Parsed<'_, Option<PortHead>>
-    ensures { Gives (λ x. (option_map plain_head x.0, all_marked x.1.now)) result (head_front fuel (all_marked tokens.now)) }
+fn head_front(alloc: Global, tokens: &[Token], fuel: usize) -> Parsed<'_, Option<Box<PortHead>>>
+    ensures { Gives (λ x. (option_map (λ b. plain_head b.value) x.0, all_marked x.1.now)) result (head_front fuel (all_marked tokens.now)) }
 {
     let Some((direction, rest)) = direction_front(tokens) else {
         return Ok((None, tokens));
     };
     let (range, rest) = range_front(alloc, rest, fuel)?;
-    Ok((Some(PortHead { direction, range }), rest))
+    let range = unboxed(range);
+    Ok((Some(Box::new(alloc, PortHead { direction, range })?), rest))
+}
+
+/// The direction and its range, no longer on the heap.
+fn unboxed_head(head: Option<Box<PortHead>>) -> Option<PortHead>
+    ensures { option_map plain_head result ≡ option_map (λ b. plain_head b.value) head }
+{
+    Some(Box::into_inner(head?))
 }
 
 impl Listed for Port {
@@ -74,6 +83,7 @@ impl Listed for Port {
         let (head, rest) = head_front(alloc, tokens, fuel)?;
         let (id, rest) = name_of(alloc, rest)?;
         let (init, rest) = init_front(alloc, rest, fuel)?;
+        let head = unboxed_head(head);
         Ok((Port { head, id, init }, rest))
     }
 }

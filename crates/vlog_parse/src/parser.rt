@@ -1,90 +1,38 @@
-ghost use Rattle.std.specs.Prelude.{◌≡◌, ◌⊎◌, ℕ, Some, Err, IfOk, IfErr, MatchResult};
-ghost use Rattle.vlog_tree.specs.Words.{tokens_of};
-ghost use Rattle.vlog_tree.specs.Tree.{ExprOf, FileOf};
-ghost use Rattle.vlog_tree.specs.Plain.{plain_expr, plain};
+//! Whole lists of tokens as one file.
+
+ghost use Rattle.std.specs.Prelude.{◌≡◌, ℕ, Some, Err, IfOk, IfErr, MatchResult};
+ghost use Rattle.vlog_tree.specs.Tree.{FileOf};
+ghost use Rattle.vlog_tree.specs.Plain.{plain};
 ghost use Rattle.vlog_tree.specs.Lines.{bare};
-ghost use Rattle.vlog_tree.specs.Spelling.{expr_words};
-ghost use Rattle.vlog_tree.specs.Shape.{IsGoodExpr};
-ghost use Rattle.vlog_parse.specs.declared.error.ParseError.{ParseError};
 ghost use Rattle.vlog_parse.specs.declared.error.ParseError.TheVariants as variants;
-ghost use Rattle.vlog_parse.specs.declared.unread.Unread.{Unread};
-ghost use Rattle.vlog_parse.specs.Bare.{without_lines, bare_expr};
-ghost use Rattle.vlog_parse.specs.Marks.{all_marked};
-ghost use Rattle.vlog_parse.specs.Reader.{expr_of};
-ghost use Rattle.vlog_parse.specs.FileReader as FileReader;
+ghost use Rattle.vlog_expr.specs.declared.unread.Unread.{Unread};
+ghost use Rattle.vlog_expr.specs.Marks.{all_marked};
+ghost use Rattle.vlog_parse.specs.FileReader.{file_of};
 ghost use Rattle.vlog_parse.specs.Depth.{IsDeep, IsShallow};
 ghost use Rattle.vlog_parse.specs.Parsing.{IsFileOf, Refuses};
-ghost use Rattle.vlog_parse.specs.Given.{Gives};
+ghost use Rattle.vlog_expr.specs.Given.{Gives};
 
 use crate::depth::deep_line;
 use crate::error::ParseError;
-use crate::expr::expr_of;
-use crate::lawful::are_lawful;
 use crate::module::file_of;
-use crate::unread::Unread;
 use std::alloc::Global;
+use vlog_expr::{Unread, are_lawful, fuel_for};
 use vlog_lex::{Token, Tokens};
-use vlog_tree::{Expr, File};
-
-/// The expression of all the tokens, whose names and numbers aren't looked at.
-#[tactic(auto, using(crate::proofs::Maps::marked_length), unfolding(crate::specs::Reader::expr_of))]
-fn whole_expr(alloc: Global, tokens: &[Token]) -> Result<Expr, Unread>
-    ensures { Gives plain_expr result (expr_of (all_marked tokens.now)) }
-{
-    let fuel = 32 * tokens.len() + 14;
-    let (e, rest) = expr_of(alloc, tokens, fuel)?;
-    if rest.is_empty() {
-        Ok(e)
-    } else {
-        Err(Unread::Fault)
-    }
-}
-
-/// The expression that all the tokens spell, where their names and numbers are lawful.
-fn lawful_expr(alloc: Global, tokens: &[Token]) -> Result<Expr, Unread>
-    ensures found { IfOk result (λ e. IsGoodExpr (plain_expr e) × (tokens_of (expr_words (plain_expr e)) ≡ without_lines tokens.now)) }
-    ensures only { (t : ExprOf (Unit {0})) → IsGoodExpr t → tokens_of (expr_words t) ≡ without_lines tokens.now → MatchResult result (λ e. bare_expr (plain_expr e) ≡ t) (λ e. e ≡ Unread.Memory) }
-    ensures lines { IfOk result (λ e. expr_of (all_marked tokens.now) ≡ Some (plain_expr e)) }
-{
-    if !are_lawful(tokens) {
-        return Err(Unread::Fault);
-    }
-    whole_expr(alloc, tokens)
-}
-
-/// The expression of good shape that all the tokens spell, with their lines.
-///
-/// `Item` comes exactly where no expression of good shape has these tokens, `Memory` where no memory
-/// was found. Lines don't count where tokens are compared. `Deep` never comes.
-pub fn parse_expression(alloc: Global, tokens: &Tokens) -> Result<Expr, ParseError>
-    // What is read has good shape and these tokens.
-    ensures found { IfOk result (λ e. IsGoodExpr (plain_expr e) × (tokens_of (expr_words (plain_expr e)) ≡ without_lines tokens.now)) }
-    // The tree of good shape that has these tokens is read, unless memory runs out.
-    ensures only { (t : ExprOf (Unit {0})) → IsGoodExpr t → tokens_of (expr_words t) ≡ without_lines tokens.now → MatchResult result (λ e. bare_expr (plain_expr e) ≡ t) (λ e. e ≡ ParseError.Memory) }
-    // Its lines are those that the reader on lists takes from the tokens.
-    ensures lines { IfOk result (λ e. expr_of (all_marked tokens.now) ≡ Some (plain_expr e)) }
-    ensures refused { IfErr result (λ e. (e ≡ variants.Item 0) ⊎ (e ≡ variants.Memory)) }
-{
-    match lawful_expr(alloc, tokens.as_slice()) {
-        Ok(e) => Ok(e),
-        Err(Unread::Fault) => Err(ParseError::Item { line: 0 }),
-        Err(Unread::Memory) => Err(ParseError::Memory),
-    }
-}
+use vlog_tree::File;
 
 /// The file of all the tokens, whose names and numbers aren't looked at.
-#[tactic(auto, using(crate::proofs::Maps::marked_length), unfolding(crate::specs::FileReader::file_of))]
+#[tactic(auto, using(vlog_expr::proofs::Maps::marked_length), unfolding(crate::specs::FileReader::file_of))]
 fn whole_file(alloc: Global, tokens: &[Token]) -> Result<File, Unread>
-    ensures { Gives plain result (FileReader.file_of (all_marked tokens.now)) }
+    ensures { Gives plain result (file_of (all_marked tokens.now)) }
 {
-    file_of(alloc, tokens, 32 * tokens.len() + 14)
+    file_of(alloc, tokens, fuel_for(tokens))
 }
 
 /// The file that all the tokens spell, where their names and numbers are lawful.
 fn lawful_file(alloc: Global, tokens: &[Token]) -> Result<File, Unread>
     ensures found { IfOk result (λ f. IsFileOf tokens.now (bare (plain f))) }
     ensures only { (f : FileOf (Unit {0})) → IsFileOf tokens.now f → MatchResult result (λ g. bare (plain g) ≡ f) (λ e. e ≡ Unread.Memory) }
-    ensures lines { IfOk result (λ f. FileReader.file_of (all_marked tokens.now) ≡ Some (plain f)) }
+    ensures lines { IfOk result (λ f. file_of (all_marked tokens.now) ≡ Some (plain f)) }
 {
     if !are_lawful(tokens) {
         return Err(Unread::Fault);
@@ -107,7 +55,7 @@ pub fn parse(alloc: Global, tokens: &Tokens) -> Result<File, ParseError>
     // The file of good shape that has these tokens is read, unless memory runs out.
     ensures only { (f : FileOf (Unit {0})) → IsShallow (all_marked tokens.now) → IsFileOf tokens.now f → MatchResult result (λ g. bare (plain g) ≡ f) (λ e. e ≡ variants.Memory) }
     // Its lines are those that the reader on lists takes from the tokens.
-    ensures lines { IfOk result (λ f. FileReader.file_of (all_marked tokens.now) ≡ Some (plain f)) }
+    ensures lines { IfOk result (λ f. file_of (all_marked tokens.now) ≡ Some (plain f)) }
 {
     if let Some(line) = deep_line(tokens.as_slice()) {
         return Err(ParseError::Deep { line });
@@ -118,6 +66,3 @@ pub fn parse(alloc: Global, tokens: &Tokens) -> Result<File, ParseError>
         Err(Unread::Memory) => Err(ParseError::Memory),
     }
 }
-
-#[cfg(test)]
-mod tests;

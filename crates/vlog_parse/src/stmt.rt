@@ -1,16 +1,15 @@
+//! The reader of statements.
+
 ghost use Rattle.std.specs.Prelude.{◌≡◌, ◌≤◌, ℕ, Some, [], map};
 ghost use Rattle.vlog_tree.specs.Tree.{StmtOf, IfStmt};
 ghost use Rattle.vlog_tree.specs.Plain.{plain_expr, plain_stmt, plain_body};
-ghost use Rattle.vlog_parse.specs.Marks.{Toks, all_marked};
-ghost use Rattle.vlog_parse.specs.Reader.{◌>>=◌ as bind};
+ghost use Rattle.vlog_expr.specs.Marks.{Toks, all_marked};
+ghost use Rattle.vlog_expr.specs.Reader.{◌>>=◌ as bind};
 ghost use Rattle.vlog_parse.specs.StmtReader.{assign_op_at, assign_stmt_at, stmt_at, if_at, body_at, else_at, stmts_at};
-ghost use Rattle.vlog_parse.specs.Given.{Gives};
+ghost use Rattle.vlog_expr.specs.Given.{Gives};
 
-use crate::expr::expr_of;
-use crate::front::{Parsed, after, expect};
-use crate::target::target_of;
-use crate::unread::Unread;
 use std::alloc::Global;
+use vlog_expr::{Parsed, Unread, after, expect, expr_of, target_of};
 use vlog_lex::Token;
 use vlog_tree::{AssignOp, Body, Expr, Stmt, Stmts, Terminal, begin};
 
@@ -73,12 +72,12 @@ fn if_of(alloc: Global, tokens: &[Token], fuel: usize, nested: u32) -> Parsed<'_
     let (condition, rest) = expr_of(alloc, rest, fuel - 1)?;
     let (_, rest) = expect(Terminal::ParenClose, rest)?;
     let (then_body, rest) = body_of(alloc, rest, fuel - 1, nested)?;
-    else_of(alloc, condition, then_body, rest, fuel - 1, nested)
+    rest_of_if(alloc, condition, then_body, rest, fuel - 1, nested)
 }
 
 /// The whole `if`, where `else` and a body may follow its first body.
 #[cycle(stmts)]
-fn else_of(
+fn rest_of_if(
     alloc: Global,
     condition: Expr,
     then_body: Body,

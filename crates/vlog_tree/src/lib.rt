@@ -33,5 +33,3 @@ pub use spelling::tokens_of;
 pub use stmt::{AssignOp, Body, Stmt, Stmts, Target, Targets};
 pub use terminal::Terminal;
 
-#[cfg(test)]
-mod tests;

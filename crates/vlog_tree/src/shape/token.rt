@@ -5,18 +5,7 @@ ghost use Rattle.vlog_tree.specs.Words.{number_kind};
 
 use crate::expr::{Number, NumberKind};
 use vidi_bits::Name;
-use vlog_lex::{TokenKind, kind_of};
-
-/// Whether the text is a token of this kind.
-#[tactic(auto, using(crate::proofs::OneKind::same_kind))]
-fn is_token(kind: TokenKind, text: &[u8]) -> bool
-    ensures { IsTrue result ↔ IsToken kind text.now }
-{
-    match kind_of(text) {
-        Some(found) => found == kind,
-        None => false,
-    }
-}
+use vlog_lex::{TokenKind, is_token};
 
 /// Whether the name is an identifier and no reserved word.
 pub fn good_name(name: &Name) -> bool

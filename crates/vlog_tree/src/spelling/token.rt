@@ -5,13 +5,13 @@ use crate::expr::{Ident, Number, NumberKind};
 use crate::terminal::Terminal;
 use std::alloc::Global;
 use vidi_bits::{Memory, Name};
-use vlog_lex::{Token, TokenKind, Tokens};
+use vlog_lex::{Token, TokenKind, Tokens, copied};
 
 /// Adds a token with a copy of this text and with line 0.
 fn put(alloc: Global, out: &mut Tokens, kind: TokenKind, text: &[u8]) -> Result<(), Memory>
     ensures { OnOk result (out.new ≡ out.old ++ record { kind = kind; text = text.now; line = 0 } ∷ []) }
 {
-    let text = Name::from_vec(Vec::from_slice(alloc, text)?);
+    let text = copied(alloc, text)?;
     out.push(Token {
         kind,
         text,

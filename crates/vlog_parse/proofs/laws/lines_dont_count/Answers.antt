@@ -1,9 +1,7 @@
 use Rattle.std.proofs.Common.{ℕ}
-use Rattle.vlog_parse.proofs.Natural.{expr_natural, ref_natural}
-use Rattle.vlog_parse.proofs.TargetNatural.{target_natural}
 use Rattle.vlog_parse.proofs.StmtNatural.{body_natural}
 use Rattle.vlog_parse.proofs.FileNatural.{file_natural}
 use Rattle.vlog_parse.proofs.laws.lines_dont_count.Goals as goal
 
 pub returns : goal.returns
-returns c = record { exprs = expr_natural ℕ; refs = ref_natural ℕ; targets = target_natural ℕ; bodies = body_natural ℕ; files = file_natural ℕ }
+returns c = record { bodies = body_natural ℕ; files = file_natural ℕ }

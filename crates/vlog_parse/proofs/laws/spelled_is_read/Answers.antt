@@ -1,8 +1,6 @@
-use Rattle.vlog_parse.proofs.Spelled.{expr_read, ref_read}
-use Rattle.vlog_parse.proofs.TargetSpelled.{target_read}
 use Rattle.vlog_parse.proofs.StmtSpelled.{body_read}
 use Rattle.vlog_parse.proofs.FileSpelled.{file_read}
 use Rattle.vlog_parse.proofs.laws.spelled_is_read.Goals as goal
 
 pub returns : goal.returns
-returns c = record { exprs = expr_read; refs = ref_read; targets = target_read; bodies = body_read; files = file_read }
+returns c = record { bodies = body_read; files = file_read }

@@ -1,8 +1,8 @@
 use Rattle.std.proofs.Common.{rules, arith, ◌-◌, map, sym, ap, ◌∙◌}
-use Rattle.vlog_parse.specs.Marks.{all_marked}
-use Rattle.vlog_parse.specs.FileReader.{more_at}
-use Rattle.vlog_parse.proofs.Maps.{map_snoc}
-use Rattle.vlog_parse.proofs.Turns.{more_turn}
+use Rattle.vlog_expr.specs.Marks.{all_marked}
+use Rattle.vlog_expr.specs.Reader.{more_at}
+use Rattle.vlog_expr.proofs.Maps.{map_snoc}
+use Rattle.vlog_expr.proofs.Turns.{more_turn}
 use Rattle.vlog_parse.proofs.listed.more_of.Goals as goal
 
 pub loop-left-preserved : goal.loop-left-preserved

@@ -1,6 +1,6 @@
 use Rattle.std.proofs.Common.{◌≡◌, ◌≤◌, map}
-use Rattle.vlog_parse.specs.Marks.{all_marked}
-use Rattle.vlog_parse.specs.FileReader.{more_at}
+use Rattle.vlog_expr.specs.Marks.{all_marked}
+use Rattle.vlog_expr.specs.Reader.{more_at}
 use Rattle.vlog_parse.proofs.listed.more_of.Given as goal
 
 abbrev pub decreases-loop-left : goal.decreases-loop-left

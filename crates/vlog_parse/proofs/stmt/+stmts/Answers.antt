@@ -2,7 +2,7 @@ use Rattle.std.proofs.Common.{rules, arith, ◌-◌, List, map, sym, ap, ◌∙�
 use Rattle.vlog_tree.specs.declared.stmt.Stmt.{Stmt}
 use Rattle.vlog_tree.specs.Tree.{StmtOf}
 use Rattle.vlog_tree.specs.Plain.{plain_stmt}
-use Rattle.vlog_parse.specs.Marks.{all_marked}
+use Rattle.vlog_expr.specs.Marks.{all_marked}
 use Rattle.vlog_parse.specs.StmtReader.{stmts_at}
 use Rattle.vlog_parse.proofs.Maps.{stmts_snoc}
 use Rattle.vlog_parse.proofs.Turns.{stmts_turn}

@@ -1,6 +1,6 @@
 use Rattle.std.proofs.Common.{◌≡◌, ◌≤◌, ◌+◌, ◌*◌, [], map}
 use Rattle.vlog_tree.specs.Plain.{plain_stmt}
-use Rattle.vlog_parse.specs.Marks.{all_marked}
+use Rattle.vlog_expr.specs.Marks.{all_marked}
 use Rattle.vlog_parse.specs.StmtReader.{stmts_at}
 use Rattle.vlog_parse.proofs.stmt.+stmts.Given as goal
 
@@ -10,8 +10,8 @@ decreases-stmt_of l = 2 * l.fuel
 abbrev pub decreases-if_of : goal.decreases-if_of
 decreases-if_of l = 2 * l.fuel
 
-abbrev pub decreases-else_of : goal.decreases-else_of
-decreases-else_of l = 2 * l.fuel
+abbrev pub decreases-rest_of_if : goal.decreases-rest_of_if
+decreases-rest_of_if l = 2 * l.fuel
 
 abbrev pub decreases-body_of : goal.decreases-body_of
 decreases-body_of l = 2 * l.fuel

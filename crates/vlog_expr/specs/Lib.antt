@@ -1,0 +1,5 @@
+pub mod Bare
+pub mod Given
+pub mod Laws
+pub mod Marks
+pub mod Reader

@@ -1,5 +1,0 @@
-use Rattle.vlog_parse.proofs.Spelled.{one_expr}
-use Rattle.vlog_parse.proofs.laws.one_expr.Goals as goal
-
-pub returns : goal.returns
-returns c = one_expr

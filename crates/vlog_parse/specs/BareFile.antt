@@ -1,0 +1,48 @@
+-- Statements, items and files without their lines.
+use Rattle.vlog_tree.specs.Tree.{StmtOf, BodyOf, ElseOf, StmtsOf, RangeOf, PortHeadOf, PortOf, DrivenWireOf, RegTailOf, Reg1Of, AssignOf, EventOf, ItemOf, ModuleOf, FileOf}
+use Rattle.vlog_tree.specs.Lines.{no_mark, map_stmt, map_body, map_else, map_stmts, map_range, map_head, map_port, map_wire, map_tail, map_reg, map_assign, map_event, map_item, map_module, map_file}
+
+abbrev pub bare_stmt : {A : Type 0} → StmtOf A → StmtOf (Unit {0})
+bare_stmt x = map_stmt no_mark x
+
+abbrev pub bare_body : {A : Type 0} → BodyOf A → BodyOf (Unit {0})
+bare_body x = map_body no_mark x
+
+abbrev pub bare_else : {A : Type 0} → ElseOf A → ElseOf (Unit {0})
+bare_else x = map_else no_mark x
+
+abbrev pub bare_stmts : {A : Type 0} → StmtsOf A → StmtsOf (Unit {0})
+bare_stmts x = map_stmts no_mark x
+
+abbrev pub bare_range : {A : Type 0} → RangeOf A → RangeOf (Unit {0})
+bare_range x = map_range no_mark x
+
+abbrev pub bare_head : {A : Type 0} → PortHeadOf A → PortHeadOf (Unit {0})
+bare_head x = map_head no_mark x
+
+abbrev pub bare_port : {A : Type 0} → PortOf A → PortOf (Unit {0})
+bare_port x = map_port no_mark x
+
+abbrev pub bare_wire : {A : Type 0} → DrivenWireOf A → DrivenWireOf (Unit {0})
+bare_wire x = map_wire no_mark x
+
+abbrev pub bare_tail : {A : Type 0} → RegTailOf A → RegTailOf (Unit {0})
+bare_tail x = map_tail no_mark x
+
+abbrev pub bare_reg : {A : Type 0} → Reg1Of A → Reg1Of (Unit {0})
+bare_reg x = map_reg no_mark x
+
+abbrev pub bare_assign : {A : Type 0} → AssignOf A → AssignOf (Unit {0})
+bare_assign x = map_assign no_mark x
+
+abbrev pub bare_event : {A : Type 0} → EventOf A → EventOf (Unit {0})
+bare_event x = map_event no_mark x
+
+abbrev pub bare_item : {A : Type 0} → ItemOf A → ItemOf (Unit {0})
+bare_item x = map_item no_mark x
+
+abbrev pub bare_module : {A : Type 0} → ModuleOf A → ModuleOf (Unit {0})
+bare_module x = map_module no_mark x
+
+abbrev pub bare_file : {A : Type 0} → FileOf A → FileOf (Unit {0})
+bare_file x = map_file no_mark x

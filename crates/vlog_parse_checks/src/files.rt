@@ -1,0 +1,381 @@
+//! Files as the reader takes them.
+
+use std::alloc::{AllocError, Global};
+use std::test::Fail;
+use vlog_lex::{Token, lex};
+use vlog_parse::{ParseError, parse};
+use vlog_tree::{
+    Always, AssignOp, Body, Direction, Event, File, Item, Module, NetKind, Port, Reg1, Stmt,
+    tokens_of,
+};
+
+// A file as signs. Ports: `i`, `iw`, `o`, `ow`, `or` or nothing, `[]` for a range, the name, `=` for a
+// value. Items: `W`, `D`, `R`, `A` with a range and the number of its parts, of which `=` counts those
+// of `R` with a value; `@` with the line of `always`, the clock and its body. Statements: `{..}`,
+// `?(..)(..)` with its two bodies, `=`, `<`; `;` is an empty body.
+const FILES: [(&str, &str); 15] = [
+    ("module m(); endmodule", "m()"),
+    (
+        "module m(input a, input wire [1:0] b, output c, output wire d, output reg [3:0] e = 1, f, g = 2); endmodule",
+        "m(i a,iw[] b,o c,ow d,or[] e=, f, g=)",
+    ),
+    ("module a(); endmodule module b(); endmodule", "a()b()"),
+    (
+        "module m(); wire a; wire [3:0] b, c; wire d = 1; wire [1:0] e = 2, f = a; endmodule",
+        "m()W1W[]2D1D[]2",
+    ),
+    (
+        "module m(); reg a; reg [3:0] b = 1, c, d = 2; endmodule",
+        "m()R1R[]3==",
+    ),
+    (
+        "module m(); assign a = 1, {b, c[0]} = d; assign e[3:0] = f; endmodule",
+        "m()A2A1",
+    ),
+    (
+        "module m();\nalways @(posedge k) a <= b;\n\nalways @(posedge l) ; endmodule",
+        "m()@2k<@4l;",
+    ),
+    (
+        "module m(); always @(posedge k) begin end endmodule",
+        "m()@1k{}",
+    ),
+    (
+        "module m(); always @(posedge k) begin a = 1; b <= 2; end endmodule",
+        "m()@1k{=<}",
+    ),
+    (
+        "module m(); always @(posedge k) if (a) b <= 1; endmodule",
+        "m()@1k?(<)()",
+    ),
+    (
+        "module m(); always @(posedge k) if (a) ; else b <= 1; endmodule",
+        "m()@1k?(;)(<)",
+    ),
+    (
+        "module m(); always @(posedge k) if (a) if (b) c <= 1; else c = 2; endmodule",
+        "m()@1k?(?(<)(=))()",
+    ),
+    (
+        "module m(); always @(posedge k) if (a) begin if (b) c <= 1; end else c = 2; endmodule",
+        "m()@1k?({?(<)()})(=)",
+    ),
+    (
+        "module m(); always @(posedge k) if (a) b = 1; else if (c) b <= 1; else ; wire w; endmodule",
+        "m()@1k?(=)(?(<)(;))W1",
+    ),
+    (
+        "module m(); always @(posedge k) if (a) if (b) c = 1; else if (d) c <= 1; else c = 2; else c <= 3; endmodule",
+        "m()@1k?(?(=)(?(<)(=)))(<)",
+    ),
+];
+
+const REFUSED: [&str; 38] = [
+    "",
+    ";",
+    "module m()",
+    "module m(); endmodule x",
+    "module m(); endmodule;",
+    "module m() endmodule",
+    "module (); endmodule",
+    "module if(); endmodule",
+    "module m; endmodule",
+    "module m(a); endmodule",
+    "module m([1:0] a); endmodule",
+    "module m(wire a); endmodule",
+    "module m(input); endmodule",
+    "module m(input a,); endmodule",
+    "module m(input reg a); endmodule",
+    "module m(input a output b); endmodule",
+    "module m(); wire; endmodule",
+    "module m(); wire a,; endmodule",
+    "module m(); wire a, b = 1; endmodule",
+    "module m(); wire a = 1, b; endmodule",
+    "module m(); wire [3] a; endmodule",
+    "module m(); assign a = ; endmodule",
+    "module m(); assign a <= b; endmodule",
+    "module m(); a = b; endmodule",
+    "module m(); always a = b; endmodule",
+    "module m(); always @(k) a = b; endmodule",
+    "module m(); always @(posedge k) endmodule",
+    "module m(); always @(posedge k) a = b; else a = c; endmodule",
+    "module m(); always @(posedge k) begin ; end endmodule",
+    "module m(); always @(posedge k) begin a = b; endmodule",
+    // The forms that aren't there yet.
+    "module m #(parameter P = 1)(); endmodule",
+    "module m(); localparam P = 1; endmodule",
+    "module m(); n u(); endmodule",
+    "module m(); reg [7:0] r [0:3]; endmodule",
+    "module m(); always @* a = b; endmodule",
+    "module m(); always @(*) a = b; endmodule",
+    "module m(); always @(posedge k) case (a) 1: a = b; endcase endmodule",
+    "module m(); assign a = {2{b}}; endmodule",
+];
+
+fn put(out: &mut Vec<u8>, text: &[u8]) -> Result<(), AllocError> {
+    out.extend_from_slice(text)
+}
+
+fn show_file(alloc: Global, out: &mut Vec<u8>, file: &File) -> Result<(), AllocError> {
+    for module in file.modules.as_slice() {
+        show_module(alloc, out, module)?;
+    }
+    Ok(())
+}
+
+fn show_module(alloc: Global, out: &mut Vec<u8>, module: &Module) -> Result<(), AllocError> {
+    put(out, module.name.as_slice())?;
+    put(out, b"(")?;
+    show_ports(out, module.ports.as_slice())?;
+    put(out, b")")?;
+    for item in module.items.as_slice() {
+        show_item(alloc, out, item)?;
+    }
+    Ok(())
+}
+
+fn show_ports(out: &mut Vec<u8>, ports: &[Port]) -> Result<(), AllocError> {
+    for (number, port) in ports.iter().enumerate() {
+        if number > 0 {
+            put(out, b",")?;
+        }
+        show_port(out, port)?;
+    }
+    Ok(())
+}
+
+fn show_port(out: &mut Vec<u8>, port: &Port) -> Result<(), AllocError> {
+    if let Some(head) = &port.head {
+        put(out, direction(head.direction))?;
+        put(out, bounds(head.range.is_some()))?;
+    }
+    put(out, b" ")?;
+    put(out, port.id.name.as_slice())?;
+    put(out, value(port.init.is_some()))
+}
+
+fn direction(direction: Direction) -> &'static [u8] {
+    match direction {
+        Direction::Input { wire: false } => b"i",
+        Direction::Input { wire: true } => b"iw",
+        Direction::Output { kind: None } => b"o",
+        Direction::Output {
+            kind: Some(NetKind::Wire),
+        } => b"ow",
+        Direction::Output {
+            kind: Some(NetKind::Reg),
+        } => b"or",
+    }
+}
+
+fn bounds(some: bool) -> &'static [u8] {
+    if some { b"[]" } else { b"" }
+}
+
+fn value(some: bool) -> &'static [u8] {
+    if some { b"=" } else { b"" }
+}
+
+fn show_list(
+    alloc: Global,
+    out: &mut Vec<u8>,
+    name: &[u8],
+    range: bool,
+    parts: usize,
+) -> Result<(), AllocError> {
+    put(out, name)?;
+    put(out, bounds(range))?;
+    put(out, format!(in alloc; "{parts}")?.as_bytes())
+}
+
+fn show_values(out: &mut Vec<u8>, regs: &[Reg1]) -> Result<(), AllocError> {
+    for reg in regs {
+        put(out, value(reg.tail.is_some()))?;
+    }
+    Ok(())
+}
+
+fn show_item(alloc: Global, out: &mut Vec<u8>, item: &Item) -> Result<(), AllocError> {
+    match item {
+        Item::Wires { range, names } => show_list(alloc, out, b"W", range.is_some(), names.len()),
+        Item::DrivenWires { range, wires } => {
+            show_list(alloc, out, b"D", range.is_some(), wires.len())
+        }
+        Item::Regs { range, regs } => {
+            show_list(alloc, out, b"R", range.is_some(), regs.len())?;
+            show_values(out, regs.as_slice())
+        }
+        Item::Assign { assigns } => show_list(alloc, out, b"A", false, assigns.len()),
+        Item::Always(always) => show_always(alloc, out, always),
+    }
+}
+
+fn show_always(alloc: Global, out: &mut Vec<u8>, always: &Always) -> Result<(), AllocError> {
+    let line = always.line;
+    put(out, format!(in alloc; "@{line}")?.as_bytes())?;
+    let Event::Posedge(clock) = &always.event;
+    put(out, clock.name.as_slice())?;
+    show_body(out, &always.body)
+}
+
+#[cycle(show)]
+fn show_body(out: &mut Vec<u8>, body: &Body) -> Result<(), AllocError> {
+    match body {
+        Body::Stmt(stmt) => show_stmt(out, stmt),
+        Body::Empty => put(out, b";"),
+    }
+}
+
+#[cycle(show)]
+fn show_stmts(out: &mut Vec<u8>, stmts: &[Stmt]) -> Result<(), AllocError> {
+    for stmt in stmts {
+        show_stmt(out, stmt)?;
+    }
+    Ok(())
+}
+
+#[cycle(show)]
+fn show_stmt(out: &mut Vec<u8>, stmt: &Stmt) -> Result<(), AllocError> {
+    match stmt {
+        Stmt::Begin(stmts) => {
+            put(out, b"{")?;
+            show_stmts(out, stmts.as_slice())?;
+            put(out, b"}")
+        }
+        Stmt::If {
+            condition: _,
+            then_body,
+            else_body,
+        } => {
+            put(out, b"?(")?;
+            show_body(out, then_body)?;
+            put(out, b")(")?;
+            if let Some(body) = else_body {
+                show_body(out, body)?;
+            }
+            put(out, b")")
+        }
+        Stmt::Assign {
+            target: _,
+            op: AssignOp::Blocking,
+            value: _,
+        } => put(out, b"="),
+        Stmt::Assign {
+            target: _,
+            op: AssignOp::Nonblocking,
+            value: _,
+        } => put(out, b"<"),
+    }
+}
+
+// Whether the text is read as these signs.
+fn is_shown(alloc: Global, text: &str, signs: &str) -> Result<bool, Fail> {
+    if text.len() >= 1000 {
+        return Ok(false);
+    }
+    let tokens = lex(alloc, text.as_bytes())?;
+    let file = parse(alloc, &tokens)?;
+    let mut out = Vec::new(alloc);
+    show_file(alloc, &mut out, &file)?;
+    Ok(out.as_slice() == signs.as_bytes())
+}
+
+#[test]
+fn files(rt: HostRuntime) -> Result<(), Fail> {
+    for (text, signs) in FILES {
+        assert!(rt; is_shown(rt.alloc(), text, signs)?, "{text}");
+    }
+    Ok(())
+}
+
+// The answer without its tree, where the text is refused.
+fn refusal(alloc: Global, text: &str) -> Result<Option<ParseError>, Fail> {
+    if text.len() >= 1000 {
+        return Ok(None);
+    }
+    let tokens = lex(alloc, text.as_bytes())?;
+    Ok(parse(alloc, &tokens).err())
+}
+
+#[test]
+fn no_files(rt: HostRuntime) -> Result<(), Fail> {
+    for text in REFUSED {
+        let item = ParseError::Item { line: 0 };
+        assert!(rt; refusal(rt.alloc(), text)? == Some(item), "{text}");
+    }
+    Ok(())
+}
+
+#[test]
+fn depth_comes_before_items(rt: HostRuntime) -> Result<(), Fail> {
+    let text = "\n((((((((((((((((((((((((((((((((\n(";
+    let deep = ParseError::Deep { line: 3 };
+    assert!(rt; refusal(rt.alloc(), text)? == Some(deep));
+    Ok(())
+}
+
+// Whether the tokens are the same, but for their lines.
+fn are_same(a: &[Token], b: &[Token]) -> bool {
+    a.len() == b.len()
+        && a.iter()
+            .zip(b)
+            .all(|(x, y)| x.kind == y.kind && x.text.as_slice() == y.text.as_slice())
+}
+
+// Whether the tree of the text has the text's tokens.
+fn is_spelled(alloc: Global, text: &str) -> Result<bool, Fail> {
+    if text.len() >= 1000 {
+        return Ok(false);
+    }
+    let given = lex(alloc, text.as_bytes())?;
+    let file = parse(alloc, &given)?;
+    let spelled = tokens_of(alloc, &file)?;
+    Ok(are_same(spelled.as_slice(), given.as_slice()))
+}
+
+#[test]
+fn files_have_their_tokens(rt: HostRuntime) -> Result<(), Fail> {
+    for (text, _) in FILES {
+        assert!(rt; is_spelled(rt.alloc(), text)?, "{text}");
+    }
+    Ok(())
+}
+
+// So many times a hundred `if`s within one another, of which each hundred ends with an empty body.
+fn nested(alloc: Global, hundreds: usize) -> Result<Vec<u8>, AllocError> {
+    let mut text = Vec::new(alloc);
+    put(&mut text, b"module m(); always @(posedge k) ")?;
+    for hundred in 0..hundreds {
+        if hundred > 0 {
+            put(&mut text, b"else ")?;
+        }
+        for _ in 0..100 {
+            put(&mut text, b"if (a) ")?;
+        }
+        put(&mut text, b"; ")?;
+    }
+    put(&mut text, b"endmodule")?;
+    Ok(text)
+}
+
+// Whether so many `if`s within one another are read, and else want of memory is answered.
+fn fits(alloc: Global, hundreds: usize) -> Result<Option<bool>, Fail> {
+    let text = nested(alloc, hundreds)?;
+    if text.len() >= 100_000 {
+        return Ok(None);
+    }
+    let tokens = lex(alloc, text.as_slice())?;
+    match parse(alloc, &tokens) {
+        Ok(_) => Ok(Some(true)),
+        Err(ParseError::Memory) => Ok(Some(false)),
+        Err(_) => Ok(None),
+    }
+}
+
+#[test]
+fn statements_within_one_another(rt: HostRuntime) -> Result<(), Fail> {
+    for (hundreds, read) in [(20, true), (21, false), (100, false)] {
+        assert!(rt; fits(rt.alloc(), hundreds)? == Some(read), "{hundreds}");
+    }
+    Ok(())
+}
