@@ -10,6 +10,7 @@ mod names;
 mod operators;
 mod scope;
 mod size;
+mod table;
 mod value;
 
 pub use answers::{constant, target_width, width};
@@ -19,5 +20,6 @@ pub use names::{View, fixed, params_view, whole_view};
 pub use operators::{operator_of, unary_operator_of};
 pub use scope::{Const, Param, Params, Scope, ScopeMemories, ScopeMemory, ScopeNet, ScopeNets};
 pub use size::{assigned_number, facts_of, numbered, target_facts};
+pub use table::Table;
 pub use value::is_constant;
 
