@@ -1,19 +1,18 @@
 -- An expression without a fault has a lawful width in a lawful scope, and a number where it stands in a constant position.
 use Rattle.std.proofs.Common.{◌≡◌, ℕ, Bool, true, false, ◌&&◌, if◌then◌else◌, Option, None, Some, List, [], ◌∷◌, ◌++◌, refl}
-use Rattle.std.specs.Str.{bytes_eq}
 use Rattle.vlog_tree.specs.Tree.{NumberOf, ExprOf, UnaryExpr, BinaryExpr, ChoiceExpr, ExprsOf, NoExprs, MoreExprs}
 use Rattle.vlog_tree.specs.Tree.{PrimOf, NumberPrim, RefPrim, ParenPrim, ConcatPrim, RefOf, RefWith}
 use Rattle.vlog_tree.specs.Tree.{LastOf, NoLast, Last, SelOf, IndexSel, PartSel, IndexedSel}
 use Rattle.vlog_tree.specs.Tree.{TargetOf, RefTarget, ConcatTarget, TargetsOf, NoTargets, MoreTargets}
 use Rattle.vlog_size.specs.declared.error.SizeError.TheVariants as error
-use Rattle.vlog_size.specs.declared.scope.Const.{Const}
 use Rattle.vlog_size.specs.declared.scope.Param.{Param}
 use Rattle.vlog_size.specs.declared.names.Meaning.{Meaning}
 use Rattle.vlog_size.specs.declared.names.Meaning.TheVariants.{Parameter, Place, Undeclared}
-use Rattle.vlog_size.specs.Findings.{told_if, or_first}
+use Rattle.vlog_size.specs.Table.{value_of}
+use Rattle.vlog_size.specs.Findings.{told_if}
 use Rattle.vlog_size.specs.Literal.{is_lawful}
 use Rattle.vlog_size.specs.Operators.{is_wide}
-use Rattle.vlog_size.specs.Names.{Readable, fixed, param_of, or_undeclared, meaning_of, is_lawful_readable}
+use Rattle.vlog_size.specs.Names.{Readable, fixed, or_meaning, meaning_of, is_lawful_readable}
 use Rattle.vlog_size.specs.Size.{Sizes, sizes_of, sizes_of_prim, sizes_of_ref, sizes_of_index, sizes_of_last, sizes_of_sel, sizes_of_all}
 use Rattle.vlog_size.specs.Size.{sizes_of_target, sizes_of_targets, of_place, of_ref, Bracket, part_const_faults, part_fault, part_width_faults}
 use Rattle.vlog_size.specs.Size.{outside, all_constant, parts_const_faults, unsized_part, is_bad_binary}
@@ -47,18 +46,10 @@ ref_sized line (Place width picked limit) index last l s = place_sized line widt
 ref_sized line Undeclared index last l s = λ h k. (cc)
 
 -- ---- a constant position reads parameters alone
-read_or : (line : ℕ) (b : Bool) (c : Const) (known : Bool) (o : Option Meaning) (index : Option Sizes) (last : Bracket)
-    → ((of_ref line (or_undeclared (or_first o None)) index last).const_faults ≡ [] → (of_ref line (or_undeclared (or_first o None)) index last).constant ≡ true)
-    → (of_ref line (or_undeclared (or_first (if b then Some (Parameter c known) else o) None)) index last).const_faults ≡ []
-    → (of_ref line (or_undeclared (or_first (if b then Some (Parameter c known) else o) None)) index last).constant ≡ true
-read_or line true c known o index last rest h = refl
-read_or line false c known o index last rest h = rest h
-
-param_read : (line : ℕ) (ps : List Param) (name : List ℕ) (index : Option Sizes) (last : Bracket)
-    → (of_ref line (or_undeclared (or_first (param_of ps name) None)) index last).const_faults ≡ []
-    → (of_ref line (or_undeclared (or_first (param_of ps name) None)) index last).constant ≡ true
-param_read line [] name index last h = (cc)
-param_read line (p ∷ ps) name index last h = read_or line (bytes_eq p.name name) p.value p.known (param_of ps name) index last (param_read line ps name index last) h
+param_read : (line : ℕ) (o : Option Param) (index : Option Sizes) (last : Bracket) → (of_ref line (or_meaning o Undeclared) index last).const_faults ≡ []
+    → (of_ref line (or_meaning o Undeclared) index last).constant ≡ true
+param_read line None index last h = (cc)
+param_read line (Some p) index last h = refl
 
 mutual
   pub expr_constant : (s : Readable) (e : ExprOf ℕ) → (sizes_of (fixed s) e).const_faults ≡ [] → (sizes_of (fixed s) e).constant ≡ true
@@ -80,7 +71,7 @@ mutual
 
   prim_constant : (s : Readable) (p : PrimOf ℕ) → (sizes_of_prim (fixed s) p).const_faults ≡ [] → (sizes_of_prim (fixed s) p).constant ≡ true
   prim_constant s (NumberPrim n) h = refl
-  prim_constant s (RefPrim (RefWith id index last)) h = param_read id.line s.constants id.name (sizes_of_index (fixed s) index) (sizes_of_last (fixed s) last) h
+  prim_constant s (RefPrim (RefWith id index last)) h = param_read id.line (value_of s.constants id.name) (sizes_of_index (fixed s) index) (sizes_of_last (fixed s) last) h
   prim_constant s (ParenPrim line e) h = expr_constant s e h
   prim_constant s (ConcatPrim line es) h = all_parts_constant s es h
 
