@@ -1,5 +1,5 @@
 -- The constant and the width of an expression without a fault.
-use Rattle.std.proofs.Common.{◌≡◌, ℕ, ◌+◌, ◌-◌, ◌*◌, ◌/◌, ◌^◌, ◌<◌, ◌≤◌, Bool, true, false, ◌==◌, ◌&&◌, nat_le, nat_lt, min, if◌then◌else◌}
+use Rattle.std.proofs.Common.{◌≡◌, ℕ, ◌+◌, ◌-◌, ◌*◌, ◌/◌, ◌%◌, ◌^◌, ◌<◌, ◌≤◌, Bool, true, false, ◌==◌, ◌&&◌, nat_le, nat_lt, min, max, true≢false, if◌then◌else◌}
 use Rattle.std.proofs.Common.{Option, None, Some, is_none, List, [], refl, ap, sym, ◌∙◌, subst, option_map, arith}
 use Rattle.vlog_tree.specs.declared.expr.NumberKind.{NumberKind}
 use Rattle.vlog_tree.specs.declared.expr.NumberKind.TheVariants.{Decimal, Based}
@@ -12,13 +12,15 @@ use Rattle.vlog_size.specs.Literal.{is_lawful, digits_from}
 use Rattle.vlog_size.specs.Operators.{in_range, whole_value}
 use Rattle.vlog_size.specs.Names.{Readable, fixed, meaning_of, is_lawful_const, are_lawful_params, is_lawful_readable}
 use Rattle.vlog_size.specs.Size.{Sizes, sizes_of, sizes_of_prim, sizes_of_index, sizes_of_last, sizes_of_target, of_ref, number, own, own_width, at_width}
-use Rattle.vlog_size.specs.Size.{is_sound, faults, decimal_value, const_number, of_two, chosen_value, chosen_whole, constant_at, constant_of, Bracket}
+use Rattle.vlog_size.specs.Size.{is_sound, faults, decimal_value, const_number, of_two, chosen_value, chosen_whole, constant_at, constant_of, of_one, assigned_width, wide_number, assigned_number, Bracket}
+use Rattle.vlog_operators.specs.Number.{IsWidth}
+use Rattle.vlog_operators.proofs.Below.{rest_below}
 use Rattle.vlog_size.specs.Limits.{TOP}
 use Rattle.vlog_size.specs.Facts.{ShowsNumber}
 use Rattle.vlog_size.specs.declared.facts.Numbered.{Numbered}
 use Rattle.vlog_size.specs.declared.scope.Const.{Const}
 use Rattle.vlog_size.specs.declared.scope.Const.TheVariants as const
-use Rattle.vlog_size.proofs.Lists.{nil_left, nil_right, left_of}
+use Rattle.vlog_size.proofs.Lists.{nil_left, nil_right, both_nil, left_of}
 use Rattle.vlog_size.proofs.Sized.{IsSized, number_there}
 use Rattle.vlog_size.proofs.Meanings.{constants_lawful}
 use Rattle.vlog_size.proofs.Faultless.{expr_sized, expr_constant, target_sized}
@@ -150,6 +152,45 @@ faultless_constant r e l h =
     let no_width : found.width_faults ≡ [] = nil_right found.const_faults found.width_faults h in
     let sized : IsSized found = expr_sized (fixed r) (constants_lawful r l) e no_const no_width in
     has_constant found (number found) sized (whole_small (fixed r) e) refl (number_there found sized (expr_constant r e no_const) no_const no_width)
+
+constant_there : (e : Sizes) (o : Option ℕ) → HasConstant e o → number e ≡ o → (c : Const) × (constant_of e ≡ Some c) × (is_lawful_const c ≡ true)
+unfolding constant_of
+constant_there e None has h = absurd has
+constant_there e (Some n) has h = (constant_at e.plain e.width n, ap (option_map (constant_at e.plain e.width)) h, has)
+
+pub lawful_constant : (r : Readable) (e : ExprOf ℕ) → are_lawful_params r.constants ≡ true → faults (sizes_of (fixed r) e) ≡ []
+    → (c : Const) × (constant_of (sizes_of (fixed r) e) ≡ Some c) × (is_lawful_const c ≡ true)
+lawful_constant r e l h = constant_there (sizes_of (fixed r) e) (number (sizes_of (fixed r) e)) (faultless_constant r e l h) refl
+
+-- ---- the number that some bits have
+assigned_there : (value : ℕ → Option ℕ) (c l : Bool) (w : ℕ) → c ≡ true → l ≡ true → is_none (value w) ≡ false → is_none (at_width value (if c && l then Some w else None)) ≡ false
+assigned_there value true true w h k there = there
+assigned_there value true false w h k there = (cc)
+assigned_there value false l w h k there = (cc)
+
+pick : (p s : Bool) (a b : Option ℕ) → (p ≡ true → is_none a ≡ false) → s ≡ true → is_none b ≡ false → is_none (if p then a else (if s then b else None)) ≡ false
+pick true s a b h k there = h refl
+pick false true a b h k there = there
+pick false false a b h k there = (cc)
+
+cut : (w : ℕ) (o : Option ℕ) → is_none o ≡ false → (n : ℕ) × (of_one (λ (m : ℕ). m % 2 ^ w) o ≡ Some n) × (n < 2 ^ w)
+cut w None h = absurd (true≢false h)
+cut w (Some m) h = (m % 2 ^ w, refl, rest_below m w)
+
+wide_there : (w : ℕ) (e : Sizes) → IsSized e → e.constant ≡ true → e.const_faults ≡ [] → e.width_faults ≡ [] → is_none (wide_number w e) ≡ false
+wide_there w e s c h k =
+    pick e.plain (is_sound e) e.whole (at_width e.value (assigned_width w e)) s.whole (both_nil e.const_faults e.width_faults h k)
+    (assigned_there e.value e.constant (is_lawful e.width) (max w e.width) c s.lawful (s.known c (max w e.width)))
+
+pub lawful_assigned : (r : Readable) (e : ExprOf ℕ) (w : ℕ) → IsWidth w → are_lawful_params r.constants ≡ true → faults (sizes_of (fixed r) e) ≡ []
+    → (n : ℕ) × (assigned_number w (sizes_of (fixed r) e) ≡ Some n) × (n < 2 ^ w)
+unfolding faults assigned_number
+lawful_assigned r e w b l h =
+    let found = sizes_of (fixed r) e in
+    let no_const : found.const_faults ≡ [] = nil_left found.const_faults found.width_faults h in
+    let no_width : found.width_faults ≡ [] = nil_right found.const_faults found.width_faults h in
+    let sized : IsSized found = expr_sized (fixed r) (constants_lawful r l) e no_const no_width in
+    cut w (wide_number w found) (wide_there w found sized (expr_constant r e no_const) no_const no_width)
 
 -- what the code answers of an expression with the number n
 pub record IsFound (f : Numbered) (e : Sizes) (n : ℕ) : Type 0 where

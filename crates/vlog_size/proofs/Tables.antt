@@ -3,10 +3,11 @@ use Rattle.std.proofs.Common.{◌≡◌, ℕ, zero, suc, ◌+◌, ◌<◌, ◌�
 use Rattle.std.proofs.Common.{List, [], ◌∷◌, ◌++◌, map, take, length, position, slice_get, refl, ap, sym, ◌∙◌, arith}
 use Rattle.std.specs.List.{position_or_len}
 use Rattle.std.specs.Global.{Vec}
+use Rattle.std.specs.Str.{bytes_eq}
 use Rattle.std.specs.Map.{lookup, keys_of}
 use Rattle.std.specs.Cmp.Lexicographic.{pointwise}
 use Rattle.indexmap.specs.IndexMap.{insert_entry}
-use Rattle.vlog_size.specs.Table.{Named, named, value_of, added}
+use Rattle.vlog_size.specs.Table.{Named, named, value_of, place_of, added}
 
 -- whether a key is this name
 abbrev pub is_name : List ℕ → Vec ℕ → Bool
@@ -136,3 +137,17 @@ kept es name v there =
 pub not_there : {V : Type 0} → (o : Option V) → is_some o ≡ false → o ≡ None
 not_there None h = refl
 not_there (Some v) h = (cc)
+
+-- ---- places
+places_same : {V : Type 0} → (es : List (Vec ℕ × V)) (name : List ℕ) → position_or_len (is_name name) (keys_of es) ≡ position_or_len (λ x. bytes_eq name x.name) (named es)
+places_same [] name = refl
+places_same (e ∷ es) name = ap (λ i. cond (not (is_name name e.0)) (1 + i) 0) (places_same es name)
+
+lengths_same : {V : Type 0} → (es : List (Vec ℕ × V)) → length (keys_of es) ≡ length (named es)
+lengths_same [] = refl
+lengths_same (e ∷ es) = ap suc (lengths_same es)
+
+pub placed : {V : Type 0} → (es : List (Vec ℕ × V)) (name : List ℕ) → position (is_name name) (keys_of es) ≡ place_of (named es) name
+placed es name =
+    ap (λ i. cond (nat_lt i (length (keys_of es))) (Some i) None) (places_same es name)
+    ∙ ap (λ l. cond (nat_lt (position_or_len (λ x. bytes_eq name x.name) (named es)) l) (Some (position_or_len (λ x. bytes_eq name x.name) (named es))) None) (lengths_same es)

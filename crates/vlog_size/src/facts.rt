@@ -15,7 +15,9 @@ ghost use Rattle.vlog_size.specs.Facts.{Shows, ShowsNumber, ShowsSelect, ShowsRe
 ghost use Rattle.vlog_size.specs.declared.error.SizeError.{SizeError};
 
 use crate::error::SizeError;
-use crate::literal::{is_bad_literal, is_lawful, is_unsized_literal, literal_width, spelled_number};
+use crate::literal::{
+    is_bad_literal, is_lawful, is_unsized_literal, literal_width, spelled_number,
+};
 use crate::operators::{
     Kind, in_range, is_plain_op, is_plain_shift, is_wide, kind_of, whole_value,
 };

@@ -2,7 +2,7 @@
 
 ghost use Rattle.std.specs.Prelude.{◌≡◌, [], take, length, OnOk, OnErr};
 ghost use Rattle.std.specs.Option.{option_copied};
-ghost use Rattle.vlog_size.specs.Table.{Named, value_of, added};
+ghost use Rattle.vlog_size.specs.Table.{Named, value_of, place_of, added};
 
 use indexmap::IndexMap;
 use std::alloc::Global;
@@ -48,6 +48,13 @@ impl<V> Table<V> {
     {
         let (place, _name, value) = self.entries.get_full(name)?;
         if place < count { Some(value) } else { None }
+    }
+
+    /// The place of this name, counted from 0 in the order in which names were added.
+    pub fn place(&self, name: &[u8]) -> Option<usize>
+        ensures { result ≡ place_of self.now name.now }
+    {
+        self.entries.get_index_of(name)
     }
 
     /// The value of this name.
