@@ -1,5 +1,6 @@
 -- Lists of findings that are empty, and numbers that are there.
-use Rattle.std.proofs.Common.{◌≡◌, ℕ, ◌+◌, ◌-◌, Bool, true, false, ◌&&◌, not, nat_lt, nat_le, max, is_none, List, [], ◌∷◌, ◌++◌, take, length, refl, arith}
+use Rattle.std.proofs.Common.{◌≡◌, ℕ, ◌+◌, ◌-◌, Bool, true, false, ◌&&◌, not, nat_lt, nat_le, max, is_none, List, [], ◌∷◌, ◌++◌, take}
+use Rattle.std.proofs.Common.{length, refl, arith}
 use Rattle.std.proofs.Math.Seq.{take-length}
 use Rattle.vlog_size.specs.Findings.{first, told_if}
 use Rattle.vlog_size.specs.Literal.{is_lawful}

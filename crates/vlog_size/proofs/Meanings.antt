@@ -16,7 +16,8 @@ use Rattle.vlog_size.specs.Table.{Named, value_of}
 use Rattle.vlog_size.specs.Findings.{or_first}
 use Rattle.vlog_size.specs.Literal.{is_lawful}
 use Rattle.vlog_size.specs.Operators.{in_range}
-use Rattle.vlog_size.specs.Names.{Readable, readable_of, fixed, net_meaning, memory_meaning, or_undeclared, place_meaning, or_meaning, meaning_of}
+use Rattle.vlog_size.specs.Names.{Readable, readable_of, fixed, net_meaning, memory_meaning, or_undeclared, place_meaning, or_meaning}
+use Rattle.vlog_size.specs.Names.{meaning_of}
 use Rattle.vlog_size.specs.Names.{is_lawful_const, are_lawful_params, are_lawful_places, is_lawful_readable, is_lawful_scope}
 use Rattle.vlog_size.specs.Size.{of_param, const_width, is_plain_const, const_number}
 use Rattle.vlog_size.proofs.Lists.{left_of, right_of, both_of}
@@ -40,7 +41,8 @@ const_fits : (c : Const) (w : ℕ) → is_lawful_const c ≡ true → const_widt
 const_fits (const.Plain n) w h l = below_some w n (plain_below w n l h)
 const_fits (const.Sized v n) w h l = wider v w (Some n) l (below_some v n (sized_below v n h))
 
-known_fits : (b : Bool) (c : Const) (w : ℕ) → is_lawful_const c ≡ true → const_width c ≤ w → Below w (if b then Some (const_number c) else None)
+known_fits : (b : Bool) (c : Const) (w : ℕ) → is_lawful_const c ≡ true → const_width c ≤ w
+    → Below w (if b then Some (const_number c) else None)
 known_fits true c w h l = const_fits c w h l
 known_fits false c w h l = below_none w
 
@@ -48,7 +50,8 @@ known_there : (b : Bool) (n : ℕ) → b ≡ true → is_none (if b then Some n 
 known_there true n h = refl
 known_there false n h = (cc)
 
-plain_there : (b : Bool) (c : Const) → b ≡ true → is_lawful_const c ≡ true → is_plain_const c ≡ true → is_none (if b then in_range (const_number c) else None) ≡ false
+plain_there : (b : Bool) (c : Const) → b ≡ true → is_lawful_const c ≡ true → is_plain_const c ≡ true
+    → is_none (if b then in_range (const_number c) else None) ≡ false
 plain_there true (const.Plain n) k h p = in_range_there n h
 plain_there true (const.Sized w n) k h p = (cc)
 plain_there false c k h p = (cc)
@@ -75,7 +78,8 @@ abbrev IsLawfulFound : Option Meaning → Type 0
 IsLawfulFound None = Unit {0}
 IsLawfulFound (Some m) = IsLawfulMeaning m
 
-param_or : (b : Bool) (p : Param) (o : Option Param) → (p.known && is_lawful_const p.value) ≡ true → IsLawfulParam o → IsLawfulParam (if b then Some p else o)
+param_or : (b : Bool) (p : Param) (o : Option Param) → (p.known && is_lawful_const p.value) ≡ true → IsLawfulParam o
+    → IsLawfulParam (if b then Some p else o)
 param_or true p o h k = (left_of p.known (is_lawful_const p.value) h, right_of p.known (is_lawful_const p.value) h)
 param_or false p o h k = k
 
@@ -86,15 +90,18 @@ param_lawful (p ∷ ps) name h =
     (left_of (p.value.known && is_lawful_const p.value.value) (are_lawful_params ps) h)
     (param_lawful ps name (right_of (p.value.known && is_lawful_const p.value.value) (are_lawful_params ps) h))
 
-net_or : (b : Bool) (n : ScopeNet) (o : Option ScopeNet) → is_lawful n.width ≡ true → IsLawfulFound (option_map net_meaning o) → IsLawfulFound (option_map net_meaning (if b then Some n else o))
+net_or : (b : Bool) (n : ScopeNet) (o : Option ScopeNet) → is_lawful n.width ≡ true → IsLawfulFound (option_map net_meaning o)
+    → IsLawfulFound (option_map net_meaning (if b then Some n else o))
 net_or true n o h k = (h, refl)
 net_or false n o h k = k
 
-net_lawful : (ns : List (Named ScopeNet)) (name : List ℕ) → list_all (λ (n : Named ScopeNet). is_lawful n.value.width) ns ≡ true → IsLawfulFound (option_map net_meaning (value_of ns name))
+net_lawful : (ns : List (Named ScopeNet)) (name : List ℕ) → list_all (λ (n : Named ScopeNet). is_lawful n.value.width) ns ≡ true
+    → IsLawfulFound (option_map net_meaning (value_of ns name))
 net_lawful [] name h = tt
 net_lawful (n ∷ ns) name h =
     let rest = list_all (λ (n : Named ScopeNet). is_lawful n.value.width) ns in
-    net_or (bytes_eq name n.name) n.value (value_of ns name) (left_of (is_lawful n.value.width) rest h) (net_lawful ns name (right_of (is_lawful n.value.width) rest h))
+    net_or (bytes_eq name n.name) n.value (value_of ns name) (left_of (is_lawful n.value.width) rest h)
+    (net_lawful ns name (right_of (is_lawful n.value.width) rest h))
 
 memory_or : (b : Bool) (m : ScopeMemory) (o : Option ScopeMemory) → is_lawful m.width ≡ true → IsLawfulFound (option_map memory_meaning o)
     → IsLawfulFound (option_map memory_meaning (if b then Some m else o))
@@ -106,7 +113,8 @@ memory_lawful : (ms : List (Named ScopeMemory)) (name : List ℕ) → list_all (
 memory_lawful [] name h = tt
 memory_lawful (m ∷ ms) name h =
     let rest = list_all (λ (m : Named ScopeMemory). is_lawful m.value.width) ms in
-    memory_or (bytes_eq name m.name) m.value (value_of ms name) (left_of (is_lawful m.value.width) rest h) (memory_lawful ms name (right_of (is_lawful m.value.width) rest h))
+    memory_or (bytes_eq name m.name) m.value (value_of ms name) (left_of (is_lawful m.value.width) rest h)
+    (memory_lawful ms name (right_of (is_lawful m.value.width) rest h))
 
 first_lawful : (a b : Option Meaning) → IsLawfulFound a → IsLawfulFound b → IsLawfulMeaning (or_undeclared (or_first a b))
 first_lawful None None h k = tt
@@ -117,7 +125,8 @@ or_lawful : (o : Option Param) (m : Meaning) → IsLawfulParam o → IsLawfulMea
 or_lawful None m h k = k
 or_lawful (Some p) m h k = h
 
-place_lawful : (nets : List (Named ScopeNet)) (memories : List (Named ScopeMemory)) (name : List ℕ) → are_lawful_places nets memories ≡ true → IsLawfulMeaning (place_meaning nets memories name)
+place_lawful : (nets : List (Named ScopeNet)) (memories : List (Named ScopeMemory)) (name : List ℕ)
+    → are_lawful_places nets memories ≡ true → IsLawfulMeaning (place_meaning nets memories name)
 place_lawful nets memories name h =
     let some = list_all (λ (n : Named ScopeNet). is_lawful n.value.width) nets in
     let other = list_all (λ (m : Named ScopeMemory). is_lawful m.value.width) memories in
@@ -138,14 +147,16 @@ constants_lawful r h = rw h refl
 pub fixed_lawful : (r : Readable) → is_lawful_readable r ≡ true → is_lawful_readable (fixed r) ≡ true
 fixed_lawful r h =
     let params = are_lawful_params r.params && are_lawful_params r.constants in
-    constants_lawful r (right_of (are_lawful_params r.params) (are_lawful_params r.constants) (left_of params (are_lawful_places r.nets r.memories) h))
+    constants_lawful r (right_of (are_lawful_params r.params) (are_lawful_params r.constants)
+    (left_of params (are_lawful_places r.nets r.memories) h))
 
 front_lawful : (n : ℕ) (ps : List (Named Param)) → are_lawful_params ps ≡ true → are_lawful_params (take n ps) ≡ true
 front_lawful zero ps h = refl
 front_lawful (suc n) [] h = refl
 front_lawful (suc n) (p ∷ ps) h =
     let own = p.value.known && is_lawful_const p.value.value in
-    both_of own (are_lawful_params (take n ps)) (left_of own (are_lawful_params ps) h) (front_lawful n ps (right_of own (are_lawful_params ps) h))
+    both_of own (are_lawful_params (take n ps)) (left_of own (are_lawful_params ps) h)
+    (front_lawful n ps (right_of own (are_lawful_params ps) h))
 
 pub scope_lawful : (s : Scope) → is_lawful_scope s ≡ true → is_lawful_readable (readable_of s) ≡ true
 scope_lawful s h =

@@ -16,4 +16,5 @@ returns-clause-ok g c =
     let absent : is_some (lookup (is_name c.args.name) es) ≡ false =
     ap (λ n. is_some (lookup (is_name n) es)) (sym c.as_slice.ensures) ∙ (sym c.contains_key.ensures ∙ c.if-contains_key.false) in
     rw (← c.self.view_is)
-    (pushed es c.insert.new.self.entries c.into_vec.result c.args.name c.args.value c.into_vec.ensures (not_there (lookup (is_name c.args.name) es) absent) c.in_ok-insert.ensures.entries)
+    (pushed es c.insert.new.self.entries c.into_vec.result c.args.name c.args.value c.into_vec.ensures
+    (not_there (lookup (is_name c.args.name) es) absent) c.in_ok-insert.ensures.entries)
