@@ -1,24 +1,30 @@
 -- The constant and the width of an expression without a fault.
-use Rattle.std.proofs.Common.{◌≡◌, ℕ, ◌+◌, ◌-◌, ◌*◌, ◌/◌, ◌^◌, ◌<◌, ◌≤◌, Bool, true, false, ◌==◌, ◌&&◌, nat_le, nat_lt, min, if◌then◌else◌}
+use Rattle.std.proofs.Common.{◌≡◌, ℕ, ◌+◌, ◌-◌, ◌*◌, ◌/◌, ◌%◌, ◌^◌, ◌<◌, ◌≤◌, Bool, true, false, ◌==◌, ◌&&◌, nat_le, nat_lt, min, max}
+use Rattle.std.proofs.Common.{true≢false, if◌then◌else◌}
 use Rattle.std.proofs.Common.{Option, None, Some, is_none, List, [], refl, ap, sym, ◌∙◌, subst, option_map, arith}
 use Rattle.vlog_tree.specs.declared.expr.NumberKind.{NumberKind}
 use Rattle.vlog_tree.specs.declared.expr.NumberKind.TheVariants.{Decimal, Based}
 use Rattle.vlog_tree.specs.declared.expr.BinaryOp.{BinaryOp}
 use Rattle.vlog_tree.specs.declared.expr.BinaryOp.TheVariants.{ShiftLeft, ShiftRight, Plus, Minus, Times}
-use Rattle.vlog_tree.specs.Tree.{ExprOf, UnaryExpr, BinaryExpr, ChoiceExpr, PrimOf, NumberPrim, RefPrim, ParenPrim, ConcatPrim, RefWith, TargetOf}
+use Rattle.vlog_tree.specs.Tree.{ExprOf, UnaryExpr, BinaryExpr, ChoiceExpr, PrimOf, NumberPrim, RefPrim, ParenPrim, ConcatPrim, RefWith}
+use Rattle.vlog_tree.specs.Tree.{TargetOf}
 use Rattle.vlog_size.specs.declared.names.Meaning.{Meaning}
 use Rattle.vlog_size.specs.declared.names.Meaning.TheVariants.{Parameter, Place, Undeclared}
 use Rattle.vlog_size.specs.Literal.{is_lawful, digits_from}
 use Rattle.vlog_size.specs.Operators.{in_range, whole_value}
 use Rattle.vlog_size.specs.Names.{Readable, fixed, meaning_of, is_lawful_const, are_lawful_params, is_lawful_readable}
-use Rattle.vlog_size.specs.Size.{Sizes, sizes_of, sizes_of_prim, sizes_of_index, sizes_of_last, sizes_of_target, of_ref, number, own, own_width, at_width}
-use Rattle.vlog_size.specs.Size.{is_sound, faults, decimal_value, const_number, of_two, chosen_value, chosen_whole, constant_at, constant_of, Bracket}
+use Rattle.vlog_size.specs.Size.{Sizes, sizes_of, sizes_of_prim, sizes_of_index, sizes_of_last, sizes_of_target, of_ref, number, own}
+use Rattle.vlog_size.specs.Size.{own_width, at_width}
+use Rattle.vlog_size.specs.Size.{is_sound, faults, decimal_value, const_number, of_two, chosen_value, chosen_whole, constant_at}
+use Rattle.vlog_size.specs.Size.{constant_of, of_one, assigned_width, wide_number, assigned_number, Bracket}
+use Rattle.vlog_operators.specs.Number.{IsWidth}
+use Rattle.vlog_operators.proofs.Below.{rest_below}
 use Rattle.vlog_size.specs.Limits.{TOP}
 use Rattle.vlog_size.specs.Facts.{ShowsNumber}
 use Rattle.vlog_size.specs.declared.facts.Numbered.{Numbered}
 use Rattle.vlog_size.specs.declared.scope.Const.{Const}
 use Rattle.vlog_size.specs.declared.scope.Const.TheVariants as const
-use Rattle.vlog_size.proofs.Lists.{nil_left, nil_right, left_of}
+use Rattle.vlog_size.proofs.Lists.{nil_left, nil_right, both_nil, left_of}
 use Rattle.vlog_size.proofs.Sized.{IsSized, number_there}
 use Rattle.vlog_size.proofs.Meanings.{constants_lawful}
 use Rattle.vlog_size.proofs.Faultless.{expr_sized, expr_constant, target_sized}
@@ -66,7 +72,8 @@ decimal_small Decimal text = range_small (digits_from 10 0 text)
 decimal_small Based text = none_small
 
 ref_small : (line : ℕ) (m : Meaning) (index : Option Sizes) (last : Bracket) → IsSmall (of_ref line m index last).whole
-ref_small line (Parameter c known) index last = branch_small known (in_range (const_number c)) None (range_small (const_number c)) none_small
+ref_small line (Parameter c known) index last =
+    branch_small known (in_range (const_number c)) None (range_small (const_number c)) none_small
 ref_small line (Place width picked limit) None last = none_small
 ref_small line (Place width picked limit) (Some i) last = none_small
 ref_small line Undeclared index last = none_small
@@ -76,7 +83,8 @@ mutual
   whole_small s (UnaryExpr None prim) = prim_small s prim
   whole_small s (UnaryExpr (Some sign) prim) = none_small
   whole_small s (BinaryExpr a op b) = two_small op (sizes_of s a).whole (sizes_of s b).whole
-  whole_small s (ChoiceExpr c a b) = choice_small (number (sizes_of s c)) (sizes_of s a).whole (sizes_of s b).whole (whole_small s a) (whole_small s b)
+  whole_small s (ChoiceExpr c a b) =
+      choice_small (number (sizes_of s c)) (sizes_of s a).whole (sizes_of s b).whole (whole_small s a) (whole_small s b)
 
   prim_small : (s : Readable) (p : PrimOf ℕ) → IsSmall (sizes_of_prim s p).whole
   prim_small s (NumberPrim n) = decimal_small n.kind n.text
@@ -90,7 +98,8 @@ own_value : (b : Bool) (value : ℕ → Option ℕ) (w n : ℕ) → at_width val
 own_value true value w n h = h
 own_value false value w n h = (cc)
 
-sized_number : (p s : Bool) (whole own : Option ℕ) (n : ℕ) → p ≡ false → (if p then whole else (if s then own else None)) ≡ Some n → own ≡ Some n
+sized_number : (p s : Bool) (whole own : Option ℕ) (n : ℕ) → p ≡ false → (if p then whole else (if s then own else None)) ≡ Some n
+    → own ≡ Some n
 sized_number true s whole own n p h = (cc)
 sized_number false true whole own n p h = h
 sized_number false false whole own n p h = (cc)
@@ -101,7 +110,8 @@ own_number e n p h =
     own_value (e.constant && is_lawful e.width) e.value e.width n
     (sized_number e.plain (is_sound e) e.whole (own e) n p h)
 
-plain_number : (p s : Bool) (whole own : Option ℕ) (n : ℕ) → p ≡ true → (if p then whole else (if s then own else None)) ≡ Some n → whole ≡ Some n
+plain_number : (p s : Bool) (whole own : Option ℕ) (n : ℕ) → p ≡ true → (if p then whole else (if s then own else None)) ≡ Some n
+    → whole ≡ Some n
 plain_number true s whole own n p h = h
 plain_number false s whole own n p h = (cc)
 
@@ -121,11 +131,13 @@ lawful_width w h = grind arith
 sized_lawful : (w n : ℕ) → is_lawful w ≡ true → n < 2 ^ w → (is_lawful w && nat_lt n (2 ^ w)) ≡ true
 sized_lawful w n h l = rw h (grind arith)
 
-const_at : (p : Bool) (w n : ℕ) → is_lawful w ≡ true → (p ≡ true → nat_le n 2147483647 ≡ true) → (p ≡ false → n < 2 ^ w) → is_lawful_const (constant_at p w n) ≡ true
+const_at : (p : Bool) (w n : ℕ) → is_lawful w ≡ true → (p ≡ true → nat_le n 2147483647 ≡ true) → (p ≡ false → n < 2 ^ w)
+    → is_lawful_const (constant_at p w n) ≡ true
 const_at true w n l small fits = small refl
 const_at false w n l small fits = sized_lawful w n l (fits refl)
 
-number_lawful : (e : Sizes) (n : ℕ) → IsSized e → IsSmall e.whole → number e ≡ Some n → is_lawful_const (constant_at e.plain e.width n) ≡ true
+number_lawful : (e : Sizes) (n : ℕ) → IsSized e → IsSmall e.whole → number e ≡ Some n
+    → is_lawful_const (constant_at e.plain e.width n) ≡ true
 unfolding IsSmall
 number_lawful e n s small h =
     const_at e.plain e.width n s.lawful
@@ -149,7 +161,52 @@ faultless_constant r e l h =
     let no_const : found.const_faults ≡ [] = nil_left found.const_faults found.width_faults h in
     let no_width : found.width_faults ≡ [] = nil_right found.const_faults found.width_faults h in
     let sized : IsSized found = expr_sized (fixed r) (constants_lawful r l) e no_const no_width in
-    has_constant found (number found) sized (whole_small (fixed r) e) refl (number_there found sized (expr_constant r e no_const) no_const no_width)
+    has_constant found (number found) sized (whole_small (fixed r) e) refl
+    (number_there found sized (expr_constant r e no_const) no_const no_width)
+
+constant_there : (e : Sizes) (o : Option ℕ) → HasConstant e o → number e ≡ o
+    → (c : Const) × (constant_of e ≡ Some c) × (is_lawful_const c ≡ true)
+unfolding constant_of
+constant_there e None has h = absurd has
+constant_there e (Some n) has h = (constant_at e.plain e.width n, ap (option_map (constant_at e.plain e.width)) h, has)
+
+pub lawful_constant : (r : Readable) (e : ExprOf ℕ) → are_lawful_params r.constants ≡ true → faults (sizes_of (fixed r) e) ≡ []
+    → (c : Const) × (constant_of (sizes_of (fixed r) e) ≡ Some c) × (is_lawful_const c ≡ true)
+lawful_constant r e l h = constant_there (sizes_of (fixed r) e) (number (sizes_of (fixed r) e)) (faultless_constant r e l h) refl
+
+-- ---- the number that some bits have
+assigned_there : (value : ℕ → Option ℕ) (c l : Bool) (w : ℕ) → c ≡ true → l ≡ true → is_none (value w) ≡ false
+    → is_none (at_width value (if c && l then Some w else None)) ≡ false
+assigned_there value true true w h k there = there
+assigned_there value true false w h k there = (cc)
+assigned_there value false l w h k there = (cc)
+
+pick : (p s : Bool) (a b : Option ℕ) → (p ≡ true → is_none a ≡ false) → s ≡ true → is_none b ≡ false
+    → is_none (if p then a else (if s then b else None)) ≡ false
+pick true s a b h k there = h refl
+pick false true a b h k there = there
+pick false false a b h k there = (cc)
+
+cut : (w : ℕ) (o : Option ℕ) → is_none o ≡ false → (n : ℕ) × (of_one (λ (m : ℕ). m % 2 ^ w) o ≡ Some n) × (n < 2 ^ w)
+cut w None h = absurd (true≢false h)
+cut w (Some m) h = (m % 2 ^ w, refl, rest_below m w)
+
+wide_there : (w : ℕ) (e : Sizes) → IsSized e → e.constant ≡ true → e.const_faults ≡ [] → e.width_faults ≡ []
+    → is_none (wide_number w e) ≡ false
+wide_there w e s c h k =
+    pick e.plain (is_sound e) e.whole (at_width e.value (assigned_width w e)) s.whole (both_nil e.const_faults e.width_faults h k)
+    (assigned_there e.value e.constant (is_lawful e.width) (max w e.width) c s.lawful (s.known c (max w e.width)))
+
+pub lawful_assigned : (r : Readable) (e : ExprOf ℕ) (w : ℕ) → IsWidth w → are_lawful_params r.constants ≡ true
+    → faults (sizes_of (fixed r) e) ≡ []
+    → (n : ℕ) × (assigned_number w (sizes_of (fixed r) e) ≡ Some n) × (n < 2 ^ w)
+unfolding faults assigned_number
+lawful_assigned r e w b l h =
+    let found = sizes_of (fixed r) e in
+    let no_const : found.const_faults ≡ [] = nil_left found.const_faults found.width_faults h in
+    let no_width : found.width_faults ≡ [] = nil_right found.const_faults found.width_faults h in
+    let sized : IsSized found = expr_sized (fixed r) (constants_lawful r l) e no_const no_width in
+    cut w (wide_number w found) (wide_there w found sized (expr_constant r e no_const) no_const no_width)
 
 -- what the code answers of an expression with the number n
 pub record IsFound (f : Numbered) (e : Sizes) (n : ℕ) : Type 0 where
@@ -187,16 +244,20 @@ pub no_constant : (f : Numbered) (e : Sizes) → ShowsNumber f e → HasConstant
 no_constant f e s has h = let P : Option ℕ → Type 0 = λ o. HasConstant e o in subst P (sym s.number ∙ h) has
 
 -- ---- the width
-pub faultless_width : (r : Readable) (e : ExprOf ℕ) → is_lawful_readable r ≡ true → faults (sizes_of r e) ≡ [] → is_lawful (sizes_of r e).width ≡ true
+pub faultless_width : (r : Readable) (e : ExprOf ℕ) → is_lawful_readable r ≡ true → faults (sizes_of r e) ≡ []
+    → is_lawful (sizes_of r e).width ≡ true
 unfolding faults
 faultless_width r e l h =
     let found = sizes_of r e in
-    let sized : IsSized found = expr_sized r l e (nil_left found.const_faults found.width_faults h) (nil_right found.const_faults found.width_faults h) in
+    let sized : IsSized found =
+    expr_sized r l e (nil_left found.const_faults found.width_faults h) (nil_right found.const_faults found.width_faults h) in
     sized.lawful
 
-pub faultless_target : (r : Readable) (t : TargetOf ℕ) → is_lawful_readable r ≡ true → faults (sizes_of_target r t) ≡ [] → is_lawful (sizes_of_target r t).width ≡ true
+pub faultless_target : (r : Readable) (t : TargetOf ℕ) → is_lawful_readable r ≡ true → faults (sizes_of_target r t) ≡ []
+    → is_lawful (sizes_of_target r t).width ≡ true
 unfolding faults
 faultless_target r t l h =
     let found = sizes_of_target r t in
-    let sized : IsSized found = target_sized r l t (nil_left found.const_faults found.width_faults h) (nil_right found.const_faults found.width_faults h) in
+    let sized : IsSized found =
+    target_sized r l t (nil_left found.const_faults found.width_faults h) (nil_right found.const_faults found.width_faults h) in
     sized.lawful

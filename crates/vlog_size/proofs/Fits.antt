@@ -93,22 +93,27 @@ pub narrow_fits : (op : UnaryOp) (o : Option ℕ) (v w : ℕ) → is_wide op ≡
 narrow_fits op None v w b h = below_none w
 narrow_fits op (Some a) v w b h = below_some w (unary_value op a v) (bit_fits w (unary_value op a v) h (narrow_bit op a v b))
 
-pub sum_fits : (op : BinaryOp) (a b : Option ℕ) (w : ℕ) → IsWidth w → Below w a → Below w b → Below w (of_two (λ (m n : ℕ). Some (binary_value op m n w)) a b)
+pub sum_fits : (op : BinaryOp) (a b : Option ℕ) (w : ℕ) → IsWidth w → Below w a → Below w b
+    → Below w (of_two (λ (m n : ℕ). Some (binary_value op m n w)) a b)
 sum_fits op None b w h k l = below_none w
 sum_fits op (Some a) None w h k l = below_none w
 sum_fits op (Some a) (Some b) w h k l = below_some w (binary_value op a b w) (binary_below (operator_of op) a b w h (k a refl) (l b refl))
 
-pub comparison_fits : (op : BinaryOp) (a b : Option ℕ) (v w : ℕ) → kind_of op ≡ Comparison → 1 ≤ w → Below w (of_two (λ (m n : ℕ). Some (binary_value op m n v)) a b)
+pub comparison_fits : (op : BinaryOp) (a b : Option ℕ) (v w : ℕ) → kind_of op ≡ Comparison → 1 ≤ w
+    → Below w (of_two (λ (m n : ℕ). Some (binary_value op m n v)) a b)
 comparison_fits op None b v w k h = below_none w
 comparison_fits op (Some a) None v w k h = below_none w
-comparison_fits op (Some a) (Some b) v w k h = below_some w (binary_value op a b v) (bit_fits w (binary_value op a b v) h (comparison_bit op a b v k))
+comparison_fits op (Some a) (Some b) v w k h =
+    below_some w (binary_value op a b v) (bit_fits w (binary_value op a b v) h (comparison_bit op a b v k))
 
-pub logic_fits : (op : BinaryOp) (a b : Option ℕ) (w : ℕ) → kind_of op ≡ Logic → 1 ≤ w → Below w (of_two (λ (m n : ℕ). Some (binary_value op m n w)) a b)
+pub logic_fits : (op : BinaryOp) (a b : Option ℕ) (w : ℕ) → kind_of op ≡ Logic → 1 ≤ w
+    → Below w (of_two (λ (m n : ℕ). Some (binary_value op m n w)) a b)
 logic_fits op None b w k h = below_none w
 logic_fits op (Some a) None w k h = below_none w
 logic_fits op (Some a) (Some b) w k h = below_some w (binary_value op a b w) (bit_fits w (binary_value op a b w) h (logic_bit op a b w k))
 
-pub shift_fits : (op : BinaryOp) (a b : Option ℕ) (w : ℕ) → kind_of op ≡ Shift → Below w (of_two (λ (m n : ℕ). Some (binary_value op m n w)) a b)
+pub shift_fits : (op : BinaryOp) (a b : Option ℕ) (w : ℕ) → kind_of op ≡ Shift
+    → Below w (of_two (λ (m n : ℕ). Some (binary_value op m n w)) a b)
 shift_fits op None b w k = below_none w
 shift_fits op (Some a) None w k = below_none w
 shift_fits op (Some a) (Some b) w k = below_some w (binary_value op a b w) (shift_below op a b w k)
@@ -119,7 +124,8 @@ two_joined before v None b = below_none (before + v)
 two_joined before v (Some a) None = below_none (before + v)
 two_joined before v (Some a) (Some b) = below_some (before + v) (side_by_side a b before v) (joined_below a b before v)
 
-one_joined : (before v : ℕ) (n : Option ℕ) (p : Sizes) (there : Bool) → Below (before + v) (join_with before n p (if there then Some v else None))
+one_joined : (before v : ℕ) (n : Option ℕ) (p : Sizes) (there : Bool)
+    → Below (before + v) (join_with before n p (if there then Some v else None))
 one_joined before v n p true = two_joined before v n (p.value v)
 one_joined before v n p false = below_none (before + v)
 

@@ -1,5 +1,6 @@
 -- The parts of a concatenation so far have no number.
-use Rattle.std.proofs.Common.{◌≡◌, ℕ, ◌+◌, ◌<◌, Bool, true, false, Option, Some, None, List, [], ◌∷◌, length, drop, suc, get_or, drop-cons, ap, sym, ◌∙◌, refl}
+use Rattle.std.proofs.Common.{◌≡◌, ℕ, ◌+◌, ◌<◌, Bool, true, false, Option, Some, None, List, [], ◌∷◌, length, drop, suc, get_or}
+use Rattle.std.proofs.Common.{drop-cons, ap, sym, ◌∙◌, refl}
 use Rattle.vlog_tree.specs.declared.expr.Expr.{Expr}
 use Rattle.vlog_tree.specs.Plain.{plain_expr, plain_exprs}
 use Rattle.vlog_size.specs.Names.{Readable}
@@ -14,10 +15,12 @@ none_joined [] before = refl
 none_joined (p ∷ ps) before =
     ap (λ (o : Option ℕ). joined (before + p.width) o ps) (no_join before p (own_width p)) ∙ none_joined ps (before + p.width)
 
-stuck : (p : Sizes) (ps : List Sizes) (before : ℕ) (n : Option ℕ) → join_with before n p (own_width p) ≡ None → joined before n (p ∷ ps) ≡ None
+stuck : (p : Sizes) (ps : List Sizes) (before : ℕ) (n : Option ℕ) → join_with before n p (own_width p) ≡ None
+    → joined before n (p ∷ ps) ≡ None
 stuck p ps before n h = ap (λ (o : Option ℕ). joined (before + p.width) o ps) h ∙ none_joined ps (before + p.width)
 
-pub none_at : (s : Readable) (es : List Expr) (i : ℕ) (x : Expr) (before : ℕ) (n : Option ℕ) (all : Option ℕ) → i < length es → x ≡ get_or es i x
+pub none_at : (s : Readable) (es : List Expr) (i : ℕ) (x : Expr) (before : ℕ) (n : Option ℕ) (all : Option ℕ) → i < length es
+    → x ≡ get_or es i x
     → join_with before n (sizes_of s (plain_expr x)) (own_width (sizes_of s (plain_expr x))) ≡ None
     → joined before n (sizes_of_all s (plain_exprs (drop i es))) ≡ all → all ≡ None
 none_at s es i x before n all within is h whole =

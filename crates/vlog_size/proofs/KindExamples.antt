@@ -3,8 +3,10 @@ use Rattle.std.proofs.Common.{◌≡◌, ℕ, true, false, ◌==◌, if◌then�
 use Rattle.vlog_tree.specs.declared.expr.NumberKind.TheVariants.{Decimal}
 use Rattle.vlog_tree.specs.declared.expr.BinaryOp.TheVariants.{Plus}
 use Rattle.vlog_tree.specs.declared.expr.UnaryOp.TheVariants as unary
-use Rattle.vlog_tree.specs.Tree.{ExprOf, UnaryExpr, BinaryExpr, ChoiceExpr, NumberPrim, RefPrim, ParenPrim, ConcatPrim, RefWith, NoIndex, Index, LastOf, NoLast, Last, IndexSel, PartSel, IndexedSel, NoExprs, MoreExprs}
-use Rattle.vlog_size.specs.Kinds.{Class, IsParameter, IsScalar, IsVector, IsScalarMemory, IsVectorMemory, IsInstance, is_wrong_kind, is_wrong_use, unknown_names, wrong_kinds}
+use Rattle.vlog_tree.specs.Tree.{ExprOf, UnaryExpr, BinaryExpr, ChoiceExpr, NumberPrim, RefPrim, ParenPrim, ConcatPrim, RefWith, NoIndex}
+use Rattle.vlog_tree.specs.Tree.{Index, LastOf, NoLast, Last, IndexSel, PartSel, IndexedSel, NoExprs, MoreExprs}
+use Rattle.vlog_size.specs.Kinds.{Class, IsParameter, IsScalar, IsVector, IsScalarMemory, IsVectorMemory, IsInstance, is_wrong_kind}
+use Rattle.vlog_size.specs.Kinds.{is_wrong_use, unknown_names, wrong_kinds}
 
 -- `1`
 abbrev one : ExprOf ℕ
@@ -100,10 +102,12 @@ abbrev named : ℕ → ℕ → LastOf ℕ → ExprOf ℕ
 named letter line last = UnaryExpr None (RefPrim (RefWith (record { name = letter ∷ []; line = line }) NoIndex last))
 
 abbrev negative : ExprOf ℕ
-negative = UnaryExpr (Some (record { op = unary.Minus; line = 1 })) (RefPrim (RefWith (record { name = 118 ∷ []; line = 1 }) NoIndex (Last (IndexSel (named 113 2 NoLast)))))
+negative = UnaryExpr (Some (record { op = unary.Minus; line = 1 }))
+    (RefPrim (RefWith (record { name = 118 ∷ []; line = 1 }) NoIndex (Last (IndexSel (named 113 2 NoLast)))))
 
 abbrev row : ExprOf ℕ
-row = UnaryExpr None (ConcatPrim 4 (MoreExprs (named 117 4 NoLast) (MoreExprs (named 116 5 NoLast) (MoreExprs (named 109 6 NoLast) NoExprs))))
+row = UnaryExpr None (ConcatPrim 4
+    (MoreExprs (named 117 4 NoLast) (MoreExprs (named 116 5 NoLast) (MoreExprs (named 109 6 NoLast) NoExprs))))
 
 abbrev whole : ExprOf ℕ
 whole = BinaryExpr (BinaryExpr negative Plus (UnaryExpr None (ParenPrim 3 (named 115 3 bit)))) Plus row
@@ -118,7 +122,8 @@ whole_wrong = refl
 
 -- in `s ? v[u:1] : v[1 +: q]` also the brackets are looked at
 abbrev choice : ExprOf ℕ
-choice = ChoiceExpr (named 115 1 NoLast) (named 118 2 (Last (PartSel (named 117 3 NoLast) one))) (named 118 4 (Last (IndexedSel one (named 113 5 NoLast))))
+choice = ChoiceExpr (named 115 1 NoLast) (named 118 2 (Last (PartSel (named 117 3 NoLast) one)))
+    (named 118 4 (Last (IndexedSel one (named 113 5 NoLast))))
 
 choice_unknown : unknown_names class_of choice ≡ ((113 ∷ []) ∷ [])
 choice_unknown = refl

@@ -12,4 +12,5 @@ pub mod Parts
 pub mod Rests
 pub mod Shifts
 pub mod Sized
+pub mod Tables
 pub mod Totals

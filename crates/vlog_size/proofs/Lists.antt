@@ -1,7 +1,12 @@
 -- Lists of findings that are empty, and numbers that are there.
-use Rattle.std.proofs.Common.{◌≡◌, ℕ, ◌+◌, ◌-◌, Bool, true, false, ◌&&◌, not, nat_lt, nat_le, max, is_none, List, [], ◌∷◌, ◌++◌, refl, arith}
+use Rattle.std.proofs.Common.{◌≡◌, ℕ, ◌+◌, ◌-◌, Bool, true, false, ◌&&◌, not, nat_lt, nat_le, max, is_none, List, [], ◌∷◌, ◌++◌, take}
+use Rattle.std.proofs.Common.{length, refl, arith}
+use Rattle.std.proofs.Math.Seq.{take-length}
 use Rattle.vlog_size.specs.Findings.{first, told_if}
 use Rattle.vlog_size.specs.Literal.{is_lawful}
+
+pub take_whole : {A : Type 0} → (xs : List A) → take (length xs) xs ≡ xs
+take_whole xs = take-length xs
 
 pub nil_left : {A : Type 0} → (xs ys : List A) → xs ++ ys ≡ [] → xs ≡ []
 nil_left [] ys h = refl

@@ -1,12 +1,14 @@
 -- A literal without a fault has a lawful width, and a number that fits it.
-use Rattle.std.proofs.Common.{◌≡◌, ℕ, ◌%◌, ◌^◌, ◌<◌, ◌≤◌, Bool, true, false, ◌&&◌, ◌||◌, not, if◌then◌else◌, Option, None, Some, is_none, List, refl, arith}
+use Rattle.std.proofs.Common.{◌≡◌, ℕ, ◌%◌, ◌^◌, ◌<◌, ◌≤◌, Bool, true, false, ◌&&◌, ◌||◌, not, if◌then◌else◌, Option, None, Some, is_none}
+use Rattle.std.proofs.Common.{List, refl, arith}
 use Rattle.std.proofs.Math.Pow.{pow_mono}
 use Rattle.vlog_operators.proofs.Below.{rest_below}
 use Rattle.vlog_tree.specs.declared.expr.NumberKind.{NumberKind}
 use Rattle.vlog_tree.specs.declared.expr.NumberKind.TheVariants.{Decimal, Based}
 use Rattle.vlog_tree.specs.Tree.{NumberOf}
 use Rattle.vlog_size.specs.declared.error.SizeError.TheVariants as error
-use Rattle.vlog_size.specs.Literal.{is_lawful, literal_width, literal_number, spelled_number, trimmed, is_bad_literal, below_top, digits_from}
+use Rattle.vlog_size.specs.Literal.{is_lawful, literal_width, literal_number, spelled_number, trimmed, is_bad_literal, below_top}
+use Rattle.vlog_size.specs.Literal.{digits_from}
 use Rattle.vlog_size.specs.Operators.{in_range}
 use Rattle.vlog_size.specs.Size.{of_number, is_bad_number, is_decimal, decimal_value}
 use Rattle.vlog_size.proofs.Lists.{untold}
@@ -42,7 +44,8 @@ literal_there Based text h =
     (good_spelled (is_none (spelled_number Based text)) (is_lawful (literal_width Based text)) h)
     (good_width (is_none (spelled_number Based text)) (is_lawful (literal_width Based text)) h)
 
-decimal_there : (kind : NumberKind) (text : List ℕ) → (is_decimal kind && is_none (decimal_value kind text)) ≡ false → is_decimal kind ≡ true → is_none (decimal_value kind text) ≡ false
+decimal_there : (kind : NumberKind) (text : List ℕ) → (is_decimal kind && is_none (decimal_value kind text)) ≡ false
+    → is_decimal kind ≡ true → is_none (decimal_value kind text) ≡ false
 decimal_there Decimal text h p = h
 decimal_there Based text h p = (cc)
 
@@ -61,7 +64,8 @@ decimal_below o n w h r e m f =
     let grows : 2 ^ 32 ≤ 2 ^ w = pow_mono h in
     omega arith
 
-literal_fits : (kind : NumberKind) (text : List ℕ) (w : ℕ) → (is_decimal kind && is_none (decimal_value kind text)) ≡ false → literal_width kind text ≤ w → Below w (literal_number kind text)
+literal_fits : (kind : NumberKind) (text : List ℕ) (w : ℕ) → (is_decimal kind && is_none (decimal_value kind text)) ≡ false
+    → literal_width kind text ≤ w → Below w (literal_number kind text)
 literal_fits Decimal text w good h = decimal_below (literal_number Decimal text) (digits_from 10 0 text) w h good refl
 literal_fits Based text w good h = trimmed_below (spelled_number Based text) (literal_width Based text) w h
 

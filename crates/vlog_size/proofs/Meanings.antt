@@ -1,6 +1,6 @@
 -- What a name means in a lawful scope is lawful.
 use Rattle.std.proofs.Common.{◌≡◌, ℕ, zero, suc, ◌^◌, ◌<◌, ◌≤◌, Bool, true, false, ◌&&◌, nat_le, nat_lt, if◌then◌else◌, take}
-use Rattle.std.proofs.Common.{Option, None, Some, is_none, List, [], ◌∷◌, refl, arith}
+use Rattle.std.proofs.Common.{Option, None, Some, is_none, List, [], ◌∷◌, option_map, refl, arith}
 use Rattle.std.proofs.Math.Pow.{pow_mono}
 use Rattle.std.specs.List.{list_all}
 use Rattle.std.specs.Str.{bytes_eq}
@@ -12,11 +12,13 @@ use Rattle.vlog_size.specs.declared.scope.ScopeMemory.{ScopeMemory}
 use Rattle.vlog_size.specs.declared.scope.Scope.{Scope}
 use Rattle.vlog_size.specs.declared.names.Meaning.{Meaning}
 use Rattle.vlog_size.specs.declared.names.Meaning.TheVariants.{Parameter, Place, Undeclared}
+use Rattle.vlog_size.specs.Table.{Named, value_of}
 use Rattle.vlog_size.specs.Findings.{or_first}
 use Rattle.vlog_size.specs.Literal.{is_lawful}
 use Rattle.vlog_size.specs.Operators.{in_range}
-use Rattle.vlog_size.specs.Names.{Readable, readable_of, fixed, param_of, net_of, memory_of, or_undeclared, meaning_of}
-use Rattle.vlog_size.specs.Names.{is_lawful_const, are_lawful_params, is_lawful_readable, is_lawful_scope}
+use Rattle.vlog_size.specs.Names.{Readable, readable_of, fixed, net_meaning, memory_meaning, or_undeclared, place_meaning, or_meaning}
+use Rattle.vlog_size.specs.Names.{meaning_of}
+use Rattle.vlog_size.specs.Names.{is_lawful_const, are_lawful_params, are_lawful_places, is_lawful_readable, is_lawful_scope}
 use Rattle.vlog_size.specs.Size.{of_param, const_width, is_plain_const, const_number}
 use Rattle.vlog_size.proofs.Lists.{left_of, right_of, both_of}
 use Rattle.vlog_size.proofs.Fits.{Below, below_none, below_some, wider}
@@ -39,7 +41,8 @@ const_fits : (c : Const) (w : ℕ) → is_lawful_const c ≡ true → const_widt
 const_fits (const.Plain n) w h l = below_some w n (plain_below w n l h)
 const_fits (const.Sized v n) w h l = wider v w (Some n) l (below_some v n (sized_below v n h))
 
-known_fits : (b : Bool) (c : Const) (w : ℕ) → is_lawful_const c ≡ true → const_width c ≤ w → Below w (if b then Some (const_number c) else None)
+known_fits : (b : Bool) (c : Const) (w : ℕ) → is_lawful_const c ≡ true → const_width c ≤ w
+    → Below w (if b then Some (const_number c) else None)
 known_fits true c w h l = const_fits c w h l
 known_fits false c w h l = below_none w
 
@@ -47,7 +50,8 @@ known_there : (b : Bool) (n : ℕ) → b ≡ true → is_none (if b then Some n 
 known_there true n h = refl
 known_there false n h = (cc)
 
-plain_there : (b : Bool) (c : Const) → b ≡ true → is_lawful_const c ≡ true → is_plain_const c ≡ true → is_none (if b then in_range (const_number c) else None) ≡ false
+plain_there : (b : Bool) (c : Const) → b ≡ true → is_lawful_const c ≡ true → is_plain_const c ≡ true
+    → is_none (if b then in_range (const_number c) else None) ≡ false
 plain_there true (const.Plain n) k h p = in_range_there n h
 plain_there true (const.Sized w n) k h p = (cc)
 plain_there false c k h p = (cc)
@@ -66,57 +70,76 @@ IsLawfulMeaning (Parameter c known) = (known ≡ true) × (is_lawful_const c ≡
 IsLawfulMeaning (Place width picked limit) = (is_lawful width ≡ true) × (is_lawful picked ≡ true)
 IsLawfulMeaning Undeclared = Unit {0}
 
+abbrev IsLawfulParam : Option Param → Type 0
+IsLawfulParam None = Unit {0}
+IsLawfulParam (Some p) = IsLawfulMeaning (Parameter p.value p.known)
+
 abbrev IsLawfulFound : Option Meaning → Type 0
 IsLawfulFound None = Unit {0}
 IsLawfulFound (Some m) = IsLawfulMeaning m
 
-found_or : (b : Bool) (m : Meaning) (o : Option Meaning) → IsLawfulMeaning m → IsLawfulFound o → IsLawfulFound (if b then Some m else o)
-found_or true m o h k = h
-found_or false m o h k = k
+param_or : (b : Bool) (p : Param) (o : Option Param) → (p.known && is_lawful_const p.value) ≡ true → IsLawfulParam o
+    → IsLawfulParam (if b then Some p else o)
+param_or true p o h k = (left_of p.known (is_lawful_const p.value) h, right_of p.known (is_lawful_const p.value) h)
+param_or false p o h k = k
 
-param_lawful : (ps : List Param) (name : List ℕ) → are_lawful_params ps ≡ true → IsLawfulFound (param_of ps name)
+param_lawful : (ps : List (Named Param)) (name : List ℕ) → are_lawful_params ps ≡ true → IsLawfulParam (value_of ps name)
 param_lawful [] name h = tt
 param_lawful (p ∷ ps) name h =
-    let own : (p.known && is_lawful_const p.value) ≡ true = left_of (p.known && is_lawful_const p.value) (are_lawful_params ps) h in
-    found_or (bytes_eq p.name name) (Parameter p.value p.known) (param_of ps name)
-    (left_of p.known (is_lawful_const p.value) own, right_of p.known (is_lawful_const p.value) own)
-    (param_lawful ps name (right_of (p.known && is_lawful_const p.value) (are_lawful_params ps) h))
+    param_or (bytes_eq name p.name) p.value (value_of ps name)
+    (left_of (p.value.known && is_lawful_const p.value.value) (are_lawful_params ps) h)
+    (param_lawful ps name (right_of (p.value.known && is_lawful_const p.value.value) (are_lawful_params ps) h))
 
-net_lawful : (ns : List ScopeNet) (name : List ℕ) → list_all (λ (n : ScopeNet). is_lawful n.width) ns ≡ true → IsLawfulFound (net_of ns name)
+net_or : (b : Bool) (n : ScopeNet) (o : Option ScopeNet) → is_lawful n.width ≡ true → IsLawfulFound (option_map net_meaning o)
+    → IsLawfulFound (option_map net_meaning (if b then Some n else o))
+net_or true n o h k = (h, refl)
+net_or false n o h k = k
+
+net_lawful : (ns : List (Named ScopeNet)) (name : List ℕ) → list_all (λ (n : Named ScopeNet). is_lawful n.value.width) ns ≡ true
+    → IsLawfulFound (option_map net_meaning (value_of ns name))
 net_lawful [] name h = tt
 net_lawful (n ∷ ns) name h =
-    found_or (bytes_eq n.name name) (Place n.width 1 n.width) (net_of ns name)
-    (left_of (is_lawful n.width) (list_all (λ (n : ScopeNet). is_lawful n.width) ns) h, refl)
-    (net_lawful ns name (right_of (is_lawful n.width) (list_all (λ (n : ScopeNet). is_lawful n.width) ns) h))
+    let rest = list_all (λ (n : Named ScopeNet). is_lawful n.value.width) ns in
+    net_or (bytes_eq name n.name) n.value (value_of ns name) (left_of (is_lawful n.value.width) rest h)
+    (net_lawful ns name (right_of (is_lawful n.value.width) rest h))
 
-memory_lawful : (ms : List ScopeMemory) (name : List ℕ) → list_all (λ (m : ScopeMemory). is_lawful m.width) ms ≡ true → IsLawfulFound (memory_of ms name)
+memory_or : (b : Bool) (m : ScopeMemory) (o : Option ScopeMemory) → is_lawful m.width ≡ true → IsLawfulFound (option_map memory_meaning o)
+    → IsLawfulFound (option_map memory_meaning (if b then Some m else o))
+memory_or true m o h k = (h, h)
+memory_or false m o h k = k
+
+memory_lawful : (ms : List (Named ScopeMemory)) (name : List ℕ) → list_all (λ (m : Named ScopeMemory). is_lawful m.value.width) ms ≡ true
+    → IsLawfulFound (option_map memory_meaning (value_of ms name))
 memory_lawful [] name h = tt
 memory_lawful (m ∷ ms) name h =
-    let w : is_lawful m.width ≡ true = left_of (is_lawful m.width) (list_all (λ (m : ScopeMemory). is_lawful m.width) ms) h in
-    found_or (bytes_eq m.name name) (Place m.width m.width m.length) (memory_of ms name) (w, w)
-    (memory_lawful ms name (right_of (is_lawful m.width) (list_all (λ (m : ScopeMemory). is_lawful m.width) ms) h))
+    let rest = list_all (λ (m : Named ScopeMemory). is_lawful m.value.width) ms in
+    memory_or (bytes_eq name m.name) m.value (value_of ms name) (left_of (is_lawful m.value.width) rest h)
+    (memory_lawful ms name (right_of (is_lawful m.value.width) rest h))
 
-first_lawful : (a b : Option Meaning) → IsLawfulFound a → IsLawfulFound b → IsLawfulFound (or_first a b)
-first_lawful None b h k = k
+first_lawful : (a b : Option Meaning) → IsLawfulFound a → IsLawfulFound b → IsLawfulMeaning (or_undeclared (or_first a b))
+first_lawful None None h k = tt
+first_lawful None (Some m) h k = k
 first_lawful (Some m) b h k = h
 
-or_lawful : (o : Option Meaning) → IsLawfulFound o → IsLawfulMeaning (or_undeclared o)
-or_lawful None h = tt
-or_lawful (Some m) h = h
+or_lawful : (o : Option Param) (m : Meaning) → IsLawfulParam o → IsLawfulMeaning m → IsLawfulMeaning (or_meaning o m)
+or_lawful None m h k = k
+or_lawful (Some p) m h k = h
+
+place_lawful : (nets : List (Named ScopeNet)) (memories : List (Named ScopeMemory)) (name : List ℕ)
+    → are_lawful_places nets memories ≡ true → IsLawfulMeaning (place_meaning nets memories name)
+place_lawful nets memories name h =
+    let some = list_all (λ (n : Named ScopeNet). is_lawful n.value.width) nets in
+    let other = list_all (λ (m : Named ScopeMemory). is_lawful m.value.width) memories in
+    first_lawful (option_map net_meaning (value_of nets name)) (option_map memory_meaning (value_of memories name))
+    (net_lawful nets name (left_of some other h)) (memory_lawful memories name (right_of some other h))
 
 pub meaning_lawful : (r : Readable) (name : List ℕ) → is_lawful_readable r ≡ true → IsLawfulMeaning (meaning_of r name)
 meaning_lawful r name h =
     let params = are_lawful_params r.params && are_lawful_params r.constants in
-    let nets = list_all (λ (n : ScopeNet). is_lawful n.width) r.nets in
-    let memories = list_all (λ (m : ScopeMemory). is_lawful m.width) r.memories in
-    let rest : (nets && memories) ≡ true = right_of params (nets && memories) h in
-    let among : Option Meaning = or_first (net_of r.nets name) (memory_of r.memories name) in
-    or_lawful (or_first (param_of r.params name) among)
-    (first_lawful (param_of r.params name) among
-    (param_lawful r.params name (left_of (are_lawful_params r.params) (are_lawful_params r.constants) (left_of params (nets && memories) h)))
-    (first_lawful (net_of r.nets name) (memory_of r.memories name)
-    (net_lawful r.nets name (left_of nets memories rest))
-    (memory_lawful r.memories name (right_of nets memories rest))))
+    let places = are_lawful_places r.nets r.memories in
+    or_lawful (value_of r.params name) (place_meaning r.nets r.memories name)
+    (param_lawful r.params name (left_of (are_lawful_params r.params) (are_lawful_params r.constants) (left_of params places h)))
+    (place_lawful r.nets r.memories name (right_of params places h))
 
 pub constants_lawful : (r : Readable) → are_lawful_params r.constants ≡ true → is_lawful_readable (fixed r) ≡ true
 constants_lawful r h = rw h refl
@@ -124,22 +147,21 @@ constants_lawful r h = rw h refl
 pub fixed_lawful : (r : Readable) → is_lawful_readable r ≡ true → is_lawful_readable (fixed r) ≡ true
 fixed_lawful r h =
     let params = are_lawful_params r.params && are_lawful_params r.constants in
-    let places = list_all (λ (n : ScopeNet). is_lawful n.width) r.nets && list_all (λ (m : ScopeMemory). is_lawful m.width) r.memories in
-    constants_lawful r (right_of (are_lawful_params r.params) (are_lawful_params r.constants) (left_of params places h))
+    constants_lawful r (right_of (are_lawful_params r.params) (are_lawful_params r.constants)
+    (left_of params (are_lawful_places r.nets r.memories) h))
 
-front_lawful : (n : ℕ) (ps : List Param) → are_lawful_params ps ≡ true → are_lawful_params (take n ps) ≡ true
+front_lawful : (n : ℕ) (ps : List (Named Param)) → are_lawful_params ps ≡ true → are_lawful_params (take n ps) ≡ true
 front_lawful zero ps h = refl
 front_lawful (suc n) [] h = refl
 front_lawful (suc n) (p ∷ ps) h =
-    both_of (p.known && is_lawful_const p.value) (are_lawful_params (take n ps))
-    (left_of (p.known && is_lawful_const p.value) (are_lawful_params ps) h)
-    (front_lawful n ps (right_of (p.known && is_lawful_const p.value) (are_lawful_params ps) h))
+    let own = p.value.known && is_lawful_const p.value.value in
+    both_of own (are_lawful_params (take n ps)) (left_of own (are_lawful_params ps) h)
+    (front_lawful n ps (right_of own (are_lawful_params ps) h))
 
 pub scope_lawful : (s : Scope) → is_lawful_scope s ≡ true → is_lawful_readable (readable_of s) ≡ true
 scope_lawful s h =
-    let nets = list_all (λ (n : ScopeNet). is_lawful n.width) s.nets in
-    let memories = list_all (λ (m : ScopeMemory). is_lawful m.width) s.memories in
-    let params : are_lawful_params s.params ≡ true = left_of (are_lawful_params s.params) (nets && memories) h in
-    both_of (are_lawful_params s.params && are_lawful_params (take s.declared s.params)) (nets && memories)
+    let places = are_lawful_places s.nets s.memories in
+    let params : are_lawful_params s.params ≡ true = left_of (are_lawful_params s.params) places h in
+    both_of (are_lawful_params s.params && are_lawful_params (take s.declared s.params)) places
     (both_of (are_lawful_params s.params) (are_lawful_params (take s.declared s.params)) params (front_lawful s.declared s.params params))
-    (right_of (are_lawful_params s.params) (nets && memories) h)
+    (right_of (are_lawful_params s.params) places h)

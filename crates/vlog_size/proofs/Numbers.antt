@@ -1,5 +1,6 @@
 -- Digits only make a number larger.
-use Rattle.std.proofs.Common.{◌≡◌, ℕ, ◌+◌, ◌*◌, ◌≤◌, ◌<◌, ◌^◌, Bool, true, false, ◌==◌, List, [], ◌∷◌, if◌then◌else◌, arith, None, Some, refl, drop, length, get_or, sym, ap, ◌∙◌, suc, ◌≢◌, drop-cons}
+use Rattle.std.proofs.Common.{◌≡◌, ℕ, ◌+◌, ◌*◌, ◌≤◌, ◌<◌, ◌^◌, Bool, true, false, ◌==◌, List, [], ◌∷◌, if◌then◌else◌, arith, None, Some}
+use Rattle.std.proofs.Common.{refl, drop, length, get_or, sym, ap, ◌∙◌, suc, ◌≢◌, drop-cons}
 use Rattle.std.proofs.lemmas.List.{drop_all}
 use Rattle.std.proofs.Math.Nat.{mul-le-mul_left}
 use Rattle.vlog_size.specs.Literal.{digit, digits_from, below_top}
@@ -22,11 +23,13 @@ stays_past base n text h past = let grows : n ≤ digits_from base n text = digi
 not_mark : (b : ℕ) → b ≢ 95 → (b == 95) ≡ false
 not_mark b h = grind arith
 
-pub past_at : (base n m i : ℕ) (text : List ℕ) → 1 ≤ base → i < length text → get_or text i 0 ≢ 95 → below_top (n * base + digit (get_or text i 0)) ≡ None → digits_from base n (drop i text) ≡ m → None ≡ below_top m
+pub past_at : (base n m i : ℕ) (text : List ℕ) → 1 ≤ base → i < length text → get_or text i 0 ≢ 95
+    → below_top (n * base + digit (get_or text i 0)) ≡ None → digits_from base n (drop i text) ≡ m → None ≡ below_top m
 past_at base n m i text one within mark past whole =
     let no_mark : (get_or text i 0 == 95) ≡ false = not_mark (get_or text i 0) mark in
     let split : digits_from base n (drop i text) ≡ digits_from base (n * base + digit (get_or text i 0)) (drop (suc i) text) =
-    rw (drop-cons text i 0) (ap (λ (t : Bool). digits_from base (if t then n else n * base + digit (get_or text i 0)) (drop (suc i) text)) no_mark) in
+    rw (drop-cons text i 0)
+    (ap (λ (t : Bool). digits_from base (if t then n else n * base + digit (get_or text i 0)) (drop (suc i) text)) no_mark) in
     stays_past base (n * base + digit (get_or text i 0)) (drop (suc i) text) one past ∙ ap below_top (sym split ∙ whole)
 
 fits : (n : ℕ) → n < 2 ^ 128 → Some n ≡ below_top n

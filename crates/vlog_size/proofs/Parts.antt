@@ -1,8 +1,12 @@
 -- Of parts without a fault: what a concatenation and a select make of their widths and numbers.
-use Rattle.std.proofs.Common.{◌≡◌, ◌≤◌, ◌<◌, ◌+◌, ◌^◌, arith, ℕ, Bool, true, false, ◌&&◌, not, if◌then◌else◌, Option, None, Some, is_none, List, [], ◌∷◌, ◌++◌, refl}
+use Rattle.std.proofs.Common.{◌≡◌, ◌≤◌, ◌<◌, ◌+◌, ◌^◌, arith, ℕ, Bool, true, false, ◌&&◌, not, if◌then◌else◌, Option, None, Some, is_none}
+use Rattle.std.proofs.Common.{List, [], ◌∷◌, ◌++◌, refl}
 use Rattle.vlog_size.specs.declared.error.SizeError.TheVariants as error
 use Rattle.vlog_size.specs.Literal.{is_lawful}
-use Rattle.vlog_size.specs.Size.{Sizes, own_width, number, reaches, all_constant, all_lawful, total_width, sum_fault, unsized_part, parts_const_faults, parts_width_faults, joined, join_with, joined_at, concat_own_width, concat_value, of_concat, Bracket, NoBracket, Bit, Part, Indexed, part_width, part_const_faults, part_fault, part_width_faults, outside, too_large, wrong_order, is_wrong_order, is_wrong_part, bounds_width, or_zero}
+use Rattle.vlog_size.specs.Size.{Sizes, own_width, number, reaches, all_constant, all_lawful, total_width, sum_fault, unsized_part}
+use Rattle.vlog_size.specs.Size.{parts_const_faults, parts_width_faults, joined, join_with, joined_at, concat_own_width, concat_value}
+use Rattle.vlog_size.specs.Size.{of_concat, Bracket, NoBracket, Bit, Part, Indexed, part_width, part_const_faults, part_fault}
+use Rattle.vlog_size.specs.Size.{part_width_faults, outside, too_large, wrong_order, is_wrong_order, is_wrong_part, bounds_width, or_zero}
 use Rattle.vlog_size.proofs.Lists.{nil_left, nil_right, untold, never, left_of, right_of, both_of, so, bounds_lawful}
 use Rattle.vlog_operators.specs.Number.{side_by_side}
 use Rattle.vlog_size.proofs.Fits.{Below, below_none, below_some, wider, joined_fits}
@@ -22,12 +26,14 @@ none_sized h k = record {
   known = λ c w n there. there;
 }
 
-join_at : (w : ℕ) (n : Option ℕ) (p : Sizes) (c l : Bool) (v : ℕ) → c ≡ true → l ≡ true → is_none n ≡ false → is_none (p.value v) ≡ false → is_none (join_with w n p (if c && l then Some v else None)) ≡ false
+join_at : (w : ℕ) (n : Option ℕ) (p : Sizes) (c l : Bool) (v : ℕ) → c ≡ true → l ≡ true → is_none n ≡ false → is_none (p.value v) ≡ false
+    → is_none (join_with w n p (if c && l then Some v else None)) ≡ false
 join_at w n p true true v h k there known = two_there (λ (a b : ℕ). side_by_side a b w v) n (p.value v) there known
 join_at w n p true false v h k there known = (cc)
 join_at w n p false l v h k there known = (cc)
 
-join_there : (w : ℕ) (n : Option ℕ) (p : Sizes) → IsSized p → p.constant ≡ true → is_none n ≡ false → is_none (join_with w n p (own_width p)) ≡ false
+join_there : (w : ℕ) (n : Option ℕ) (p : Sizes) → IsSized p → p.constant ≡ true → is_none n ≡ false
+    → is_none (join_with w n p (own_width p)) ≡ false
 unfolding own_width
 join_there w n p s c there = join_at w n p p.constant (is_lawful p.width) p.width c s.lawful there (s.known c p.width)
 
@@ -35,13 +41,17 @@ pub more_sized : (p : Sizes) (ps : List Sizes) → Sized p → AllSized ps → A
 more_sized p ps head tail h k =
     let own : unsized_part p ++ p.const_faults ≡ [] = nil_left (unsized_part p ++ p.const_faults) (parts_const_faults ps) h in
     let s : IsSized p = head (nil_right (unsized_part p) p.const_faults own) (nil_left p.width_faults (parts_width_faults ps) k) in
-    let rest : AreSized ps = tail (nil_right (unsized_part p ++ p.const_faults) (parts_const_faults ps) h) (nil_right p.width_faults (parts_width_faults ps) k) in
+    let rest : AreSized ps = tail (nil_right (unsized_part p ++ p.const_faults) (parts_const_faults ps) h)
+    (nil_right p.width_faults (parts_width_faults ps) k) in
     record {
       lawful = both_of (is_lawful p.width) (all_lawful ps) s.lawful rest.lawful;
-      known = λ c w n there. rest.known (right_of p.constant (all_constant ps) c) (w + p.width) (join_with w n p (own_width p)) (join_there w n p s (left_of p.constant (all_constant ps) c) there);
+      known = λ c w n there. rest.known (right_of p.constant (all_constant ps) c) (w + p.width) (join_with w n p (own_width p))
+          (join_there w n p s (left_of p.constant (all_constant ps) c) there);
     }
 
-concat_at : (ps : List Sizes) (c l : Bool) (w : ℕ) → c ≡ true → l ≡ true → ((w : ℕ) (n : Option ℕ) → is_none n ≡ false → is_none (joined w n ps) ≡ false) → is_none (joined_at ps (if c && l then Some w else None)) ≡ false
+concat_at : (ps : List Sizes) (c l : Bool) (w : ℕ) → c ≡ true → l ≡ true
+    → ((w : ℕ) (n : Option ℕ) → is_none n ≡ false → is_none (joined w n ps) ≡ false)
+    → is_none (joined_at ps (if c && l then Some w else None)) ≡ false
 concat_at ps true true w h k known = known 0 (Some 0) refl
 concat_at ps true false w h k known = (cc)
 concat_at ps false l w h k known = (cc)
@@ -57,7 +67,8 @@ pub concat_sized : (line : ℕ) (ps : List Sizes) → AllSized ps → Sized (of_
 concat_sized line ps inner h k =
     let own : sum_fault line ps ≡ [] = nil_left (sum_fault line ps) (parts_width_faults ps) k in
     let s : AreSized ps = inner h (nil_right (sum_fault line ps) (parts_width_faults ps) k) in
-    let fits : is_lawful (total_width ps) ≡ true = so (all_lawful ps) (is_lawful (total_width ps)) (untold (all_lawful ps && not (is_lawful (total_width ps))) (error.Width line (total_width ps)) own) s.lawful in
+    let fits : is_lawful (total_width ps) ≡ true = so (all_lawful ps) (is_lawful (total_width ps))
+    (untold (all_lawful ps && not (is_lawful (total_width ps))) (error.Width line (total_width ps)) own) s.lawful in
     record {
       lawful = fits;
       fits = λ w h k. all_fit ps w (all_constant ps && is_lawful (total_width ps)) h;
@@ -79,25 +90,31 @@ BracketSized (Bit i) = Unit {0}
 BracketSized (Part a b) = Known a × Known b
 BracketSized (Indexed base width) = Sized base × Known width
 
-bounds_fit : (whole : ℕ) (a b : Option ℕ) → is_lawful whole ≡ true → is_none a ≡ false → is_none b ≡ false → reaches whole a ≡ false → is_wrong_order a b ≡ false → is_lawful (bounds_width a b) ≡ true
+bounds_fit : (whole : ℕ) (a b : Option ℕ) → is_lawful whole ≡ true → is_none a ≡ false → is_none b ≡ false → reaches whole a ≡ false
+    → is_wrong_order a b ≡ false → is_lawful (bounds_width a b) ≡ true
 bounds_fit whole None b l h k i o = (cc)
 bounds_fit whole (Some a) None l h k i o = (cc)
 bounds_fit whole (Some a) (Some b) l h k i o = bounds_lawful a b whole l i o
 
-part_fits : (whole : ℕ) (base : Sizes) (k : Option ℕ) → is_lawful whole ≡ true → is_lawful base.width ≡ true → is_none k ≡ false → is_wrong_part whole base k ≡ false → is_lawful (or_zero k) ≡ true
+part_fits : (whole : ℕ) (base : Sizes) (k : Option ℕ) → is_lawful whole ≡ true → is_lawful base.width ≡ true → is_none k ≡ false
+    → is_wrong_part whole base k ≡ false → is_lawful (or_zero k) ≡ true
 part_fits whole base None l b h o = (cc)
-part_fits whole base (Some k) l b h o = so (is_lawful whole && is_lawful base.width) (is_lawful k) o (both_of (is_lawful whole) (is_lawful base.width) l b)
+part_fits whole base (Some k) l b h o =
+    so (is_lawful whole && is_lawful base.width) (is_lawful k) o (both_of (is_lawful whole) (is_lawful base.width) l b)
 
 in_reach : (limit : ℕ) (i : Sizes) → outside limit i ≡ [] → reaches limit (number i) ≡ false
 in_reach limit i h = untold (reaches limit (number i)) (error.Width i.line (or_zero (number i))) h
 
-pub part_lawful : (line whole picked limit : ℕ) (b : Bracket) → BracketSized b → is_lawful whole ≡ true → is_lawful picked ≡ true → part_const_faults b ≡ [] → part_fault line whole b ≡ [] → part_width_faults whole limit b ≡ []
+pub part_lawful : (line whole picked limit : ℕ) (b : Bracket) → BracketSized b → is_lawful whole ≡ true → is_lawful picked ≡ true
+    → part_const_faults b ≡ [] → part_fault line whole b ≡ [] → part_width_faults whole limit b ≡ []
     → is_lawful (part_width whole picked b) ≡ true
 part_lawful line whole picked limit NoBracket s l p h o k = l
 part_lawful line whole picked limit (Bit i) s l p h o k = p
 part_lawful line whole picked limit (Part a b) s l p h o k =
-    let a_const : a.const_faults ≡ [] = nil_right (too_large a) a.const_faults (nil_left (too_large a ++ a.const_faults) (too_large b ++ b.const_faults) h) in
-    let b_const : b.const_faults ≡ [] = nil_right (too_large b) b.const_faults (nil_right (too_large a ++ a.const_faults) (too_large b ++ b.const_faults) h) in
+    let a_const : a.const_faults ≡ [] =
+    nil_right (too_large a) a.const_faults (nil_left (too_large a ++ a.const_faults) (too_large b ++ b.const_faults) h) in
+    let b_const : b.const_faults ≡ [] =
+    nil_right (too_large b) b.const_faults (nil_right (too_large a ++ a.const_faults) (too_large b ++ b.const_faults) h) in
     let rest_a = wrong_order a b ++ a.width_faults in
     let at_a = outside whole a ++ rest_a in
     let at_b = outside whole b ++ b.width_faults in
@@ -105,14 +122,17 @@ part_lawful line whole picked limit (Part a b) s l p h o k =
     let b_all : at_b ≡ [] = nil_right at_a at_b k in
     let a_rest : rest_a ≡ [] = nil_right (outside whole a) rest_a a_all in
     let order : is_wrong_order (number a) (number b) ≡ false =
-    untold (is_wrong_order (number a) (number b)) (error.Width a.line (or_zero (number b))) (nil_left (wrong_order a b) a.width_faults a_rest) in
+    untold (is_wrong_order (number a) (number b)) (error.Width a.line (or_zero (number b)))
+    (nil_left (wrong_order a b) a.width_faults a_rest) in
     bounds_fit whole (number a) (number b) l
     (s.0 a_const (nil_right (wrong_order a b) a.width_faults a_rest))
     (s.1 b_const (nil_right (outside whole b) b.width_faults b_all))
     (in_reach whole a (nil_left (outside whole a) rest_a a_all))
     order
 part_lawful line whole picked limit (Indexed base width) s l p h o k =
-    let inner : IsSized base = s.0 (nil_left base.const_faults (too_large width ++ width.const_faults) h) (nil_left base.width_faults width.width_faults k) in
+    let inner : IsSized base =
+    s.0 (nil_left base.const_faults (too_large width ++ width.const_faults) h) (nil_left base.width_faults width.width_faults k) in
     part_fits whole base (number width) l inner.lawful
-    (s.1 (nil_right (too_large width) width.const_faults (nil_right base.const_faults (too_large width ++ width.const_faults) h)) (nil_right base.width_faults width.width_faults k))
+    (s.1 (nil_right (too_large width) width.const_faults (nil_right base.const_faults (too_large width ++ width.const_faults) h))
+    (nil_right base.width_faults width.width_faults k))
     (untold (is_wrong_part whole base (number width)) (error.Width line (or_zero (number width))) o)

@@ -1,5 +1,6 @@
 -- The parts of a concatenation that are left, of an expression and of a target.
-use Rattle.std.proofs.Common.{◌≡◌, ℕ, ◌+◌, ◌^◌, ◌<◌, ◌≤◌, suc, List, [], ◌∷◌, length, drop, get_or, drop-cons, add-one, ap, sym, ◌∙◌, refl, subst, arith}
+use Rattle.std.proofs.Common.{◌≡◌, ℕ, ◌+◌, ◌^◌, ◌<◌, ◌≤◌, suc, List, [], ◌∷◌, length, drop, get_or, drop-cons, add-one, ap, sym, ◌∙◌}
+use Rattle.std.proofs.Common.{refl, subst, arith}
 use Rattle.std.proofs.lemmas.List.{drop_all}
 use Rattle.vlog_tree.specs.declared.expr.Expr.{Expr}
 use Rattle.vlog_tree.specs.declared.stmt.Target.{Target}
@@ -39,7 +40,8 @@ targets_same s (t ∷ ts) = ap suc (targets_same s ts)
 pub targets_few : (s : Readable) (ts : List Target) → length ts < 2 ^ 64 → length (sizes_of_targets s (plain_targets ts)) < 2 ^ 64
 targets_few s ts h = omega (arith, targets_same s ts)
 
-pub next_target : (so_far : Parts) (s : Readable) (es : List Target) (i : ℕ) (x : Target) (all : List Sizes) → i < length es → x ≡ get_or es i x
+pub next_target : (so_far : Parts) (s : Readable) (es : List Target) (i : ℕ) (x : Target) (all : List Sizes) → i < length es
+    → x ≡ get_or es i x
     → ShowsRest so_far (sizes_of_targets s (plain_targets (drop i es))) all
     → ShowsRest so_far (sizes_of_target s (plain_target x) ∷ sizes_of_targets s (plain_targets (drop (i + 1) es))) all
 next_target so_far s es i x all within is h =

@@ -1,5 +1,6 @@
 -- Of parts without a fault: what each form of expression makes of their widths and numbers.
-use Rattle.std.proofs.Common.{◌≡◌, ◌≤◌, ℕ, Bool, true, false, ◌&&◌, ◌||◌, max, if◌then◌else◌, Option, None, Some, is_none, [], ◌++◌, refl, ◌==◌, arith}
+use Rattle.std.proofs.Common.{◌≡◌, ◌≤◌, ℕ, Bool, true, false, ◌&&◌, ◌||◌, max, if◌then◌else◌, Option, None, Some, is_none, [], ◌++◌, refl}
+use Rattle.std.proofs.Common.{◌==◌, arith}
 use Rattle.vlog_operators.specs.Number.{IsWidth}
 use Rattle.vlog_size.specs.declared.error.SizeError.TheVariants as error
 use Rattle.vlog_size.specs.declared.operators.Kind.{Kind}
@@ -9,7 +10,8 @@ use Rattle.vlog_tree.specs.declared.expr.UnaryOp.{UnaryOp}
 use Rattle.vlog_size.specs.Findings.{told_if}
 use Rattle.vlog_size.specs.Literal.{is_lawful}
 use Rattle.vlog_size.specs.Operators.{kind_of, is_plain_op, is_wide, whole_value, binary_value, unary_value}
-use Rattle.vlog_size.specs.Size.{Sizes, own, own_width, at_width, number, is_sound, of_one, of_two, binary_width, operated, compared, shared_width}
+use Rattle.vlog_size.specs.Size.{Sizes, own, own_width, at_width, number, is_sound, of_one, of_two, binary_width, operated, compared}
+use Rattle.vlog_size.specs.Size.{shared_width}
 use Rattle.vlog_size.specs.Size.{of_binary, is_out, is_bad_operator, is_plain_binary, is_bad_binary, wide_value, narrow_value, of_sign}
 use Rattle.vlog_size.specs.Size.{chosen_value, chosen_whole, of_choice, of_paren}
 use Rattle.vlog_size.proofs.Fits.{Below, below_none, wide_fits, narrow_fits, sum_fits, comparison_fits, logic_fits, shift_fits}
@@ -26,7 +28,8 @@ pub record IsSized (e : Sizes) : Type 0 where
 abbrev pub Sized : Sizes → Type 0
 Sized e = e.const_faults ≡ [] → e.width_faults ≡ [] → IsSized e
 
-at_own : (value : ℕ → Option ℕ) (c l : Bool) (w : ℕ) → c ≡ true → l ≡ true → ((w : ℕ) → is_none (value w) ≡ false) → is_none (at_width value (if c && l then Some w else None)) ≡ false
+at_own : (value : ℕ → Option ℕ) (c l : Bool) (w : ℕ) → c ≡ true → l ≡ true → ((w : ℕ) → is_none (value w) ≡ false)
+    → is_none (at_width value (if c && l then Some w else None)) ≡ false
 at_own value true true w h k known = known w
 at_own value true false w h k known = (cc)
 at_own value false l w h k known = (cc)
@@ -35,7 +38,8 @@ pub own_there : (e : Sizes) → IsSized e → e.constant ≡ true → is_none (o
 unfolding own own_width
 own_there e s c = at_own e.value e.constant (is_lawful e.width) e.width c s.lawful (s.known c)
 
-pick : (p s : Bool) (a b : Option ℕ) → (p ≡ true → is_none a ≡ false) → s ≡ true → is_none b ≡ false → is_none (if p then a else (if s then b else None)) ≡ false
+pick : (p s : Bool) (a b : Option ℕ) → (p ≡ true → is_none a ≡ false) → s ≡ true → is_none b ≡ false
+    → is_none (if p then a else (if s then b else None)) ≡ false
 pick true s a b h k there = h refl
 pick false true a b h k there = there
 pick false false a b h k there = (cc)
@@ -49,7 +53,8 @@ one_there : (f : ℕ → ℕ) (a : Option ℕ) → is_none a ≡ false → is_no
 one_there f None h = h
 one_there f (Some a) h = refl
 
-pub two_there : (f : ℕ → ℕ → ℕ) (a b : Option ℕ) → is_none a ≡ false → is_none b ≡ false → is_none (of_two (λ (m n : ℕ). Some (f m n)) a b) ≡ false
+pub two_there : (f : ℕ → ℕ → ℕ) (a b : Option ℕ) → is_none a ≡ false → is_none b ≡ false
+    → is_none (of_two (λ (m n : ℕ). Some (f m n)) a b) ≡ false
 two_there f None b h k = h
 two_there f (Some a) None h k = k
 two_there f (Some a) (Some b) h k = refl
@@ -59,7 +64,8 @@ sign_lawful : (b : Bool) (w : ℕ) → is_lawful w ≡ true → is_lawful (if b 
 sign_lawful true w h = h
 sign_lawful false w h = refl
 
-narrow_there : (op : UnaryOp) (value : ℕ → Option ℕ) (c l : Bool) (w : ℕ) → c ≡ true → l ≡ true → ((w : ℕ) → is_none (value w) ≡ false) → is_none (narrow_value op value (if c && l then Some w else None)) ≡ false
+narrow_there : (op : UnaryOp) (value : ℕ → Option ℕ) (c l : Bool) (w : ℕ) → c ≡ true → l ≡ true → ((w : ℕ) → is_none (value w) ≡ false)
+    → is_none (narrow_value op value (if c && l then Some w else None)) ≡ false
 narrow_there op value true true w h k known = one_there (λ (n : ℕ). unary_value op n w) (value w) (known w)
 narrow_there op value true false w h k known = (cc)
 narrow_there op value false l w h k known = (cc)
@@ -71,7 +77,8 @@ narrow_own op a s c = narrow_there op a.value a.constant (is_lawful a.width) a.w
 width_from : (v w : ℕ) → is_lawful v ≡ true → v ≤ w → w ≤ 128 → IsWidth w
 width_from v w l h k = (grind arith, k)
 
-narrow_own_fits : (op : UnaryOp) (value : ℕ → Option ℕ) (v : Option ℕ) (w : ℕ) → is_wide op ≡ false → 1 ≤ w → Below w (narrow_value op value v)
+narrow_own_fits : (op : UnaryOp) (value : ℕ → Option ℕ) (v : Option ℕ) (w : ℕ) → is_wide op ≡ false → 1 ≤ w
+    → Below w (narrow_value op value v)
 narrow_own_fits op value None w b h = below_none w
 narrow_own_fits op value (Some v) w b h = narrow_fits op (value v) v w b h
 
@@ -96,16 +103,19 @@ sign_sized line op a inner h k =
     }
 
 -- ---- two operands
-compared_there : (op : BinaryOp) (a b : ℕ → Option ℕ) (c l : Bool) (w : ℕ) → c ≡ true → l ≡ true → ((w : ℕ) → is_none (a w) ≡ false) → ((w : ℕ) → is_none (b w) ≡ false)
+compared_there : (op : BinaryOp) (a b : ℕ → Option ℕ) (c l : Bool) (w : ℕ) → c ≡ true → l ≡ true → ((w : ℕ) → is_none (a w) ≡ false)
+    → ((w : ℕ) → is_none (b w) ≡ false)
     → is_none (compared op a b (if c && l then Some w else None)) ≡ false
 compared_there op a b true true w h k x y = two_there (λ (m n : ℕ). binary_value op m n w) (a w) (b w) (x w) (y w)
 compared_there op a b true false w h k x y = (cc)
 compared_there op a b false l w h k x y = (cc)
 
-comparison_there : (op : BinaryOp) (a b : Sizes) → IsSized a → IsSized b → a.constant ≡ true → b.constant ≡ true → is_none (compared op a.value b.value (shared_width a b)) ≡ false
+comparison_there : (op : BinaryOp) (a b : Sizes) → IsSized a → IsSized b → a.constant ≡ true → b.constant ≡ true
+    → is_none (compared op a.value b.value (shared_width a b)) ≡ false
 unfolding shared_width
 comparison_there op a b s t c d =
-    compared_there op a.value b.value (a.constant && b.constant) (is_lawful (max a.width b.width)) (max a.width b.width) (both_of a.constant b.constant c d) (larger_lawful a.width b.width s.lawful t.lawful) (s.known c) (t.known d)
+    compared_there op a.value b.value (a.constant && b.constant) (is_lawful (max a.width b.width)) (max a.width b.width)
+    (both_of a.constant b.constant c d) (larger_lawful a.width b.width s.lawful t.lawful) (s.known c) (t.known d)
 
 compared_fits : (op : BinaryOp) (a b : ℕ → Option ℕ) (v : Option ℕ) (w : ℕ) → kind_of op ≡ Comparison → 1 ≤ w → Below w (compared op a b v)
 compared_fits op a b None w k h = below_none w
@@ -117,7 +127,8 @@ left_fits a b w h = omega arith
 right_fits : (a b w : ℕ) → max a b ≤ w → b ≤ w
 right_fits a b w h = omega arith
 
-binary_fits : (kind : Kind) (op : BinaryOp) (a b : Sizes) (w : ℕ) → kind_of op ≡ kind → IsSized a → IsSized b → binary_width kind a.width b.width ≤ w → w ≤ 128
+binary_fits : (kind : Kind) (op : BinaryOp) (a b : Sizes) (w : ℕ) → kind_of op ≡ kind → IsSized a → IsSized b
+    → binary_width kind a.width b.width ≤ w → w ≤ 128
     → Below w (operated kind op a b w)
 binary_fits Sum op a b w e s t h k =
     sum_fits op (a.value w) (b.value w) w (width_from a.width w s.lawful (left_fits a.width b.width w h) k)
@@ -126,7 +137,8 @@ binary_fits Comparison op a b w e s t h k = compared_fits op a.value b.value (sh
 binary_fits Logic op a b w e s t h k = logic_fits op (own a) (own b) w e h
 binary_fits Shift op a b w e s t h k = shift_fits op (a.value w) (own b) w e
 
-binary_there : (kind : Kind) (op : BinaryOp) (a b : Sizes) (w : ℕ) → IsSized a → IsSized b → a.constant ≡ true → b.constant ≡ true → is_none (operated kind op a b w) ≡ false
+binary_there : (kind : Kind) (op : BinaryOp) (a b : Sizes) (w : ℕ) → IsSized a → IsSized b → a.constant ≡ true → b.constant ≡ true
+    → is_none (operated kind op a b w) ≡ false
 binary_there Sum op a b w s t c d = two_there (λ (m n : ℕ). binary_value op m n w) (a.value w) (b.value w) (s.known c w) (t.known d w)
 binary_there Comparison op a b w s t c d = comparison_there op a b s t c d
 binary_there Logic op a b w s t c d = two_there (λ (m n : ℕ). binary_value op m n w) (own a) (own b) (own_there a s c) (own_there b t d)
@@ -138,7 +150,8 @@ binary_lawful Comparison a b h k = refl
 binary_lawful Logic a b h k = refl
 binary_lawful Shift a b h k = h
 
-in_range_there : (op : BinaryOp) (a b : Option ℕ) → is_none a ≡ false → is_none b ≡ false → is_out op a b ≡ false → is_none (of_two (whole_value op) a b) ≡ false
+in_range_there : (op : BinaryOp) (a b : Option ℕ) → is_none a ≡ false → is_none b ≡ false → is_out op a b ≡ false
+    → is_none (of_two (whole_value op) a b) ≡ false
 in_range_there op None b h k o = h
 in_range_there op (Some a) None h k o = k
 in_range_there op (Some a) (Some b) h k o = o
@@ -156,7 +169,8 @@ binary_sized op a b left right h k =
     let parts : a.const_faults ++ b.const_faults ≡ [] = nil_right (told_if bad (error.Const a.line)) (a.const_faults ++ b.const_faults) h in
     let s : IsSized a = left (nil_left a.const_faults b.const_faults parts) (nil_left a.width_faults b.width_faults k) in
     let t : IsSized b = right (nil_right a.const_faults b.const_faults parts) (nil_right a.width_faults b.width_faults k) in
-    let good : bad ≡ false = untold bad (error.Const a.line) (nil_left (told_if bad (error.Const a.line)) (a.const_faults ++ b.const_faults) h) in
+    let good : bad ≡ false =
+    untold bad (error.Const a.line) (nil_left (told_if bad (error.Const a.line)) (a.const_faults ++ b.const_faults) h) in
     record {
       lawful = binary_lawful (kind_of op) a.width b.width s.lawful t.lawful;
       fits = λ w h k. binary_fits (kind_of op) op a b w refl s t h k;
@@ -164,7 +178,8 @@ binary_sized op a b left right h k =
       whole = λ p. in_range_there op a.whole b.whole
           (s.whole (left_of a.plain b.plain (right_of (is_plain_op op) (a.plain && b.plain) p)))
           (t.whole (right_of a.plain b.plain (right_of (is_plain_op op) (a.plain && b.plain) p)))
-          (not_out (is_bad_operator op a.is_unsized b.is_unsized a.plain b.plain) (is_plain_op op) a.plain b.plain (is_out op a.whole b.whole) good p);
+          (not_out (is_bad_operator op a.is_unsized b.is_unsized a.plain b.plain) (is_plain_op op) a.plain b.plain
+          (is_out op a.whole b.whole) good p);
     }
 
 -- ---- `?:`
@@ -196,7 +211,8 @@ choice_sized c a b condition one other h k =
     let t : IsSized b = other (nil_right a.const_faults b.const_faults branches) (nil_right a.width_faults b.width_faults widths) in
     record {
       lawful = larger_lawful a.width b.width s.lawful t.lawful;
-      fits = λ w h k. chosen_fits (own c) (a.value w) (b.value w) w (s.fits w (left_fits a.width b.width w h) k) (t.fits w (right_fits a.width b.width w h) k);
+      fits = λ w h k. chosen_fits (own c) (a.value w) (b.value w) w (s.fits w (left_fits a.width b.width w h) k)
+          (t.fits w (right_fits a.width b.width w h) k);
       known = λ o w. chosen_there (own c) (a.value w) (b.value w) (own_there c r (left_of c.constant (a.constant && b.constant) o))
           (s.known (left_of a.constant b.constant (right_of c.constant (a.constant && b.constant) o)) w)
           (t.known (right_of a.constant b.constant (right_of c.constant (a.constant && b.constant) o)) w);

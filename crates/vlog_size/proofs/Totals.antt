@@ -1,5 +1,6 @@
 -- The width of parts of lawful widths in all.
-use Rattle.std.proofs.Common.{◌≡◌, ℕ, ◌+◌, ◌*◌, ◌≤◌, ◌<◌, ◌^◌, Bool, true, false, ◌&&◌, not, min, List, [], ◌∷◌, length, refl, arith, ap, sym, ◌∙◌}
+use Rattle.std.proofs.Common.{◌≡◌, ℕ, ◌+◌, ◌*◌, ◌≤◌, ◌<◌, ◌^◌, Bool, true, false, ◌&&◌, not, min, List, [], ◌∷◌, length, refl, arith, ap}
+use Rattle.std.proofs.Common.{sym, ◌∙◌}
 use Rattle.vlog_size.specs.declared.error.SizeError.TheVariants as error
 use Rattle.std.proofs.lemmas.Grind.{common_steps}
 use Rattle.vlog_size.specs.Limits.{TOP}
@@ -22,14 +23,16 @@ lawful_total (p ∷ ps) h =
     omega (arith, split, more, one_lawful p.width (all_lawful ps) h, lawful_total ps (rest_lawful (is_lawful p.width) (all_lawful ps) h))
 
 told_at : (line sum total : ℕ) (lawful : Bool) → (lawful ≡ true → sum ≡ total)
-    → first (told_if (lawful && not (is_lawful sum)) (error.Width line sum)) ≡ first (told_if (lawful && not (is_lawful total)) (error.Width line total))
+    → first (told_if (lawful && not (is_lawful sum)) (error.Width line sum)) ≡ first
+    (told_if (lawful && not (is_lawful total)) (error.Width line total))
 told_at line sum total false h = refl
 told_at line sum total true h = ap (λ (n : ℕ). first (told_if (not (is_lawful n)) (error.Width line n))) (h refl)
 
 capped : (sum total count : ℕ) → sum ≡ min total TOP → total ≤ 128 * count → count < 2 ^ 64 → sum ≡ total
 capped sum total count h k small = omega arith
 
-pub sum_told : (line sum : ℕ) (lawful : Bool) (all : List Sizes) → length all < 2 ^ 64 → lawful ≡ all_lawful all → sum ≡ min (total_width all) TOP
+pub sum_told : (line sum : ℕ) (lawful : Bool) (all : List Sizes) → length all < 2 ^ 64 → lawful ≡ all_lawful all
+    → sum ≡ min (total_width all) TOP
     → first (told_if (lawful && not (is_lawful sum)) (error.Width line sum)) ≡ first (sum_fault line all)
 sum_told line sum lawful all small same whole =
     let exact : lawful ≡ true → sum ≡ total_width all =

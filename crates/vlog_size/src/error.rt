@@ -1,3 +1,5 @@
+//! Why an expression has no constant or no width.
+
 use thiserror::Error;
 
 /// Why an expression has no constant or no width.

@@ -15,7 +15,9 @@ ghost use Rattle.vlog_size.specs.Facts.{Shows, ShowsNumber, ShowsSelect, ShowsRe
 ghost use Rattle.vlog_size.specs.declared.error.SizeError.{SizeError};
 
 use crate::error::SizeError;
-use crate::literal::{is_bad_literal, is_lawful, is_unsized_literal, literal_width, spelled_number};
+use crate::literal::{
+    is_bad_literal, is_lawful, is_unsized_literal, literal_width, spelled_number,
+};
 use crate::operators::{
     Kind, in_range, is_plain_op, is_plain_shift, is_wide, kind_of, whole_value,
 };
@@ -40,6 +42,13 @@ pub struct Facts {
     pub whole: Option<u32>,
     pub const_fault: Option<SizeError>,
     pub width_fault: Option<SizeError>,
+}
+
+/// What is said of an expression, and its number where it has one.
+#[derive(Clone, Copy)]
+pub struct Numbered {
+    pub facts: Facts,
+    pub number: Option<u128>,
 }
 
 /// The first of two findings, where there is one.
@@ -211,21 +220,22 @@ fn whole_choice(chosen: Option<u128>, a: Option<u32>, b: Option<u32>) -> Option<
 
 /// What is said of `condition ? a : b`.
 #[tactic(auto, using(crate::proofs::Firsts::first_append))]
-pub fn choice_facts(condition: &Facts, chosen: Option<u128>, a: &Facts, b: &Facts) -> Facts
-    ensures { (C A B : Sizes) → Shows condition.now C → chosen ≡ number C → Shows a.now A → Shows b.now B → Shows result (of_choice C A B) }
+pub fn choice_facts(condition: &Numbered, a: &Facts, b: &Facts) -> Facts
+    ensures { (C A B : Sizes) → ShowsNumber condition.now C → Shows a.now A → Shows b.now B → Shows result (of_choice C A B) }
 {
+    let chosen = &condition.facts;
     let consts = either(a.const_fault, b.const_fault);
     let widths = either(a.width_fault, b.width_fault);
     Facts {
-        line: condition.line,
-        plain: condition.constant && (a.plain && b.plain),
+        line: chosen.line,
+        plain: chosen.constant && (a.plain && b.plain),
         is_unsized: a.is_unsized && b.is_unsized,
         unsized_literal: false,
-        constant: condition.constant && (a.constant && b.constant),
+        constant: chosen.constant && (a.constant && b.constant),
         width: a.width.max(b.width),
-        whole: whole_choice(chosen, a.whole, b.whole),
-        const_fault: either(condition.const_fault, consts),
-        width_fault: either(condition.width_fault, widths),
+        whole: whole_choice(condition.number, a.whole, b.whole),
+        const_fault: either(chosen.const_fault, consts),
+        width_fault: either(chosen.width_fault, widths),
     }
 }
 
@@ -236,7 +246,8 @@ pub fn read_facts(
     const_fault: Option<SizeError>,
     width_fault: Option<SizeError>,
 ) -> Facts
-    ensures { (w : ℕ) (consts widths : List SizeError) → width ≡ min w TOP → const_fault ≡ first consts → width_fault ≡ first widths → Shows result (of_read line w consts widths) }
+    ensures { (w : ℕ) (consts widths : List SizeError) → width ≡ min w TOP → const_fault ≡ first consts → width_fault ≡ first widths
+        → Shows result (of_read line w consts widths) }
 {
     Facts {
         line,
@@ -256,13 +267,6 @@ pub fn paren_facts(line: u32, inner: &Facts) -> Facts
     ensures { (E : Sizes) → Shows inner.now E → Shows result (of_paren line E) }
 {
     Facts { line, ..*inner }
-}
-
-/// What is said of an expression, and its number where it has one.
-#[derive(Clone, Copy)]
-pub struct Numbered {
-    pub facts: Facts,
-    pub number: Option<u128>,
 }
 
 /// The index or bound, where it isn't below the limit.
@@ -350,7 +354,8 @@ fn bounds_width(a: Option<u128>, b: Option<u128>) -> u128
 /// The select of the bits from the first bound down to the second one.
 #[tactic(auto, using(crate::proofs::Firsts::first_append))]
 pub fn part_select(whole: u32, a: &Numbered, b: &Numbered) -> Select
-    ensures { (A B : Sizes) (line picked limit : ℕ) → ShowsNumber a.now A → ShowsNumber b.now B → ShowsSelect line whole picked limit result (Part A B) }
+    ensures { (A B : Sizes) (line picked limit : ℕ) → ShowsNumber a.now A
+        → ShowsNumber b.now B → ShowsSelect line whole picked limit result (Part A B) }
 {
     let a_const = either(too_large(a), a.facts.const_fault);
     let b_const = either(too_large(b), b.facts.const_fault);
@@ -368,7 +373,8 @@ pub fn part_select(whole: u32, a: &Numbered, b: &Numbered) -> Select
 /// The select of some bits from a base on.
 #[tactic(auto, using(crate::proofs::Firsts::first_append))]
 pub fn indexed_select(line: u32, whole: u32, base: &Facts, width: &Numbered) -> Select
-    ensures { (B W : Sizes) (picked limit : ℕ) → Shows base.now B → ShowsNumber width.now W → ShowsSelect line whole picked limit result (Indexed B W) }
+    ensures { (B W : Sizes) (picked limit : ℕ) → Shows base.now B → ShowsNumber width.now W
+        → ShowsSelect line whole picked limit result (Indexed B W) }
 {
     let width_const = either(too_large(width), width.facts.const_fault);
     let parts = either(base.width_fault, width.facts.width_fault);
@@ -430,7 +436,8 @@ fn is_wrong_sum(lawful: bool, sum: u128) -> bool
 
 /// The width of parts of lawful widths in all, where it is unlawful.
 fn sum_fault(line: u32, lawful: bool, sum: u128) -> Option<SizeError>
-    ensures { (all : List Sizes) → length all < 2 ^ 64 → lawful ≡ all_lawful all → sum ≡ min (total_width all) TOP → result ≡ first (sum_fault line all) }
+    ensures { (all : List Sizes) → length all < 2 ^ 64 → lawful ≡ all_lawful all → sum ≡ min (total_width all) TOP
+        → result ≡ first (sum_fault line all) }
 {
     let wrong = is_wrong_sum(lawful, sum);
     told_if(wrong, SizeError::Width { line, got: sum })

@@ -5,19 +5,22 @@
 mod answers;
 mod error;
 mod facts;
+mod laws;
 mod literal;
 mod names;
 mod operators;
 mod scope;
 mod size;
+mod table;
 mod value;
 
 pub use answers::{constant, target_width, width};
 pub use error::SizeError;
 pub use facts::{Facts, Numbered, too_large};
+pub use laws::{constants_are_lawful, widths_are_lawful};
 pub use names::{View, fixed, params_view, whole_view};
 pub use operators::{operator_of, unary_operator_of};
 pub use scope::{Const, Param, Params, Scope, ScopeMemories, ScopeMemory, ScopeNet, ScopeNets};
 pub use size::{assigned_number, facts_of, numbered, target_facts};
+pub use table::Table;
 pub use value::is_constant;
-

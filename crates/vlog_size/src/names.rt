@@ -1,18 +1,20 @@
-//! Look-ups of names.
+//! What an expression may read, and what a name means there.
 
 ghost use Rattle.std.specs.Prelude.{◌≡◌, take};
-ghost use Rattle.vlog_size.specs.Names.{param_of, net_of, memory_of, meaning_of, fixed, readable_of, readable_in, params_alone};
+ghost use Rattle.vlog_size.specs.Names.{meaning_of, place_meaning, fixed, readable_of, readable_in, params_alone};
 
-use crate::scope::{Const, Param, Params, Scope, ScopeMemory, ScopeNet};
+use crate::scope::{Const, Params, Scope};
 
-/// The names that an expression may read.
+/// What an expression may read. A view of a scope takes no memory, and may be copied.
 #[derive(Clone, Copy)]
 pub struct View<'a> {
-    pub params: &'a [Param],
-    /// The parameters that a constant position may read.
-    pub constants: &'a [Param],
-    pub nets: &'a [ScopeNet],
-    pub memories: &'a [ScopeMemory],
+    pub params: &'a Params,
+    /// The number of parameters that may be read: the first so many.
+    pub readable: usize,
+    /// The number of parameters that a constant position may read: the first so many.
+    pub declared: usize,
+    /// The scope whose nets and memories may be read.
+    pub places: Option<&'a Scope>,
 }
 
 /// What a name means.
@@ -26,65 +28,39 @@ pub enum Meaning {
     Undeclared,
 }
 
-/// The parameter of this name.
-fn param_of(params: &[Param], name: &[u8]) -> Option<Meaning>
-    ensures { result ≡ param_of params.now name.now }
+/// What the name of a net or a memory means.
+fn place_meaning(scope: &Scope, name: &[u8]) -> Meaning
+    ensures { result ≡ place_meaning scope.now.nets scope.now.memories name.now }
 {
-    for param in params {
-        if param.name.as_slice() == name {
-            return Some(Meaning::Parameter {
-                value: param.value,
-                known: param.known,
-            });
-        }
+    if let Some(net) = scope.nets.get(name) {
+        return Meaning::Place {
+            width: net.width,
+            picked: 1,
+            limit: net.width,
+        };
     }
-    None
-}
-
-/// The net of this name.
-fn net_of(nets: &[ScopeNet], name: &[u8]) -> Option<Meaning>
-    ensures { result ≡ net_of nets.now name.now }
-{
-    for net in nets {
-        if net.name.as_slice() == name {
-            return Some(Meaning::Place {
-                width: net.width,
-                picked: 1,
-                limit: net.width,
-            });
-        }
+    match scope.memories.get(name) {
+        Some(memory) => Meaning::Place {
+            width: memory.width,
+            picked: memory.width,
+            limit: memory.length,
+        },
+        None => Meaning::Undeclared,
     }
-    None
-}
-
-/// The memory of this name.
-fn memory_of(memories: &[ScopeMemory], name: &[u8]) -> Option<Meaning>
-    ensures { result ≡ memory_of memories.now name.now }
-{
-    for memory in memories {
-        if memory.name.as_slice() == name {
-            return Some(Meaning::Place {
-                width: memory.width,
-                picked: memory.width,
-                limit: memory.length,
-            });
-        }
-    }
-    None
 }
 
 /// What the name means: a parameter, else a net, else a memory.
 pub fn meaning_of(view: &View<'_>, name: &[u8]) -> Meaning
     ensures { result ≡ meaning_of (readable_in view.now) name.now }
 {
-    if let Some(param) = param_of(view.params, name) {
-        return param;
+    if let Some(param) = view.params.get_among(view.readable, name) {
+        return Meaning::Parameter {
+            value: param.value,
+            known: param.known,
+        };
     }
-    if let Some(net) = net_of(view.nets, name) {
-        return net;
-    }
-    match memory_of(view.memories, name) {
-        Some(memory) => memory,
+    match view.places {
+        Some(scope) => place_meaning(scope, name),
         None => Meaning::Undeclared,
     }
 }
@@ -94,44 +70,35 @@ pub fn fixed<'a>(view: &View<'a>) -> View<'a>
     ensures { readable_in result ≡ fixed (readable_in view.now) }
 {
     View {
-        params: view.constants,
-        constants: view.constants,
-        nets: &[],
-        memories: &[],
-    }
-}
-
-/// The first `count` parameters.
-fn front(params: &[Param], count: usize) -> &[Param]
-    ensures { result.now ≡ take count params.now }
-{
-    if count < params.len() {
-        &params[..count]
-    } else {
-        params
+        params: view.params,
+        readable: view.declared,
+        declared: view.declared,
+        places: None,
     }
 }
 
 /// The names of a scope.
+#[tactic(auto, using(crate::proofs::Lists::take_whole))]
 pub fn whole_view(scope: &Scope) -> View<'_>
     ensures { readable_in result ≡ readable_of scope.now }
 {
     View {
-        params: scope.params.as_slice(),
-        constants: front(scope.params.as_slice(), scope.declared),
-        nets: scope.nets.as_slice(),
-        memories: scope.memories.as_slice(),
+        params: &scope.params,
+        readable: scope.params.len(),
+        declared: scope.declared,
+        places: Some(scope),
     }
 }
 
 /// The names of parameters alone.
+#[tactic(auto, using(crate::proofs::Lists::take_whole))]
 pub fn params_view(params: &Params) -> View<'_>
     ensures { readable_in result ≡ params_alone params.now }
 {
     View {
-        params: params.as_slice(),
-        constants: params.as_slice(),
-        nets: &[],
-        memories: &[],
+        params,
+        readable: params.len(),
+        declared: params.len(),
+        places: None,
     }
 }

@@ -1,6 +1,6 @@
 //! The names that an expression may read, and what they stand for.
 
-use vidi_bits::{Items, Name};
+use crate::table::Table;
 
 /// A constant (IEEE 1364-2005, 3.5.1 and 3.11).
 #[derive(Clone, Copy, PartialEq, Eq)]
@@ -11,41 +11,38 @@ pub enum Const {
     Sized { width: u32, n: u128 },
 }
 
-/// A parameter and its value.
-#[derive(Drop)]
+/// What a parameter stands for.
+#[derive(Clone, Copy)]
 pub struct Param {
-    pub name: Name,
     pub value: Const,
     /// Whether the number is known. It isn't where what makes the parameter is at fault: then
     /// `value` tells only whether it is plain, and its width.
     pub known: bool,
 }
 
-/// The parameters declared so far, in text order.
-pub type Params = Items<Param>;
+/// The parameters declared so far, by name and in text order.
+pub type Params = Table<Param>;
 
-/// A net and its width in bits.
-#[derive(Drop)]
+/// A net: its width in bits.
+#[derive(Clone, Copy)]
 pub struct ScopeNet {
-    pub name: Name,
     pub width: u32,
 }
 
-/// A list of nets.
-pub type ScopeNets = Items<ScopeNet>;
+/// Nets by name, in text order.
+pub type ScopeNets = Table<ScopeNet>;
 
-/// A memory, the width of its words in bits, and the number of its words.
-#[derive(Drop)]
+/// A memory: the width of its words in bits, and the number of its words.
+#[derive(Clone, Copy)]
 pub struct ScopeMemory {
-    pub name: Name,
     pub width: u32,
     pub length: u32,
 }
 
-/// A list of memories.
-pub type ScopeMemories = Items<ScopeMemory>;
+/// Memories by name, in text order.
+pub type ScopeMemories = Table<ScopeMemory>;
 
-/// The names of one module instance, each list in text order.
+/// The names of one module instance.
 #[derive(Drop)]
 pub struct Scope {
     pub params: Params,

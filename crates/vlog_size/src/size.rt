@@ -8,7 +8,8 @@ ghost use Rattle.vlog_tree.specs.Plain.{plain_target, plain_targets};
 ghost use Rattle.vlog_size.specs.Names.{readable_in};
 ghost use Rattle.vlog_size.specs.Size.{sizes_of, sizes_of_prim, sizes_of_ref, sizes_of_sel, sizes_of_all};
 ghost use Rattle.vlog_size.specs.Size.{sizes_of_target, sizes_of_targets};
-ghost use Rattle.vlog_size.specs.Size.{Sizes, Bracket, NoBracket, number, wide_number, assigned_number, of_concat, of_read, of_place, no_faults};
+ghost use Rattle.vlog_size.specs.Size.{Sizes, Bracket, NoBracket, number, wide_number, assigned_number, of_concat, of_read, of_place};
+ghost use Rattle.vlog_size.specs.Size.{no_faults};
 ghost use Rattle.vlog_size.specs.Facts.{Shows, ShowsNumber, ShowsSelect, ShowsRest};
 
 use crate::error::SizeError;
@@ -25,7 +26,8 @@ use vlog_tree::{Expr, Prim as Operand, Ref, Sel, Target, Unary, see_concat, see_
 /// The number of an expression without a fault that is constant.
 #[tactic(auto, unfolding(crate::specs::Size::number))]
 fn number_of(view: &View<'_>, e: &Expr, facts: &Facts) -> Option<u128>
-    ensures { Shows facts.now (sizes_of (readable_in view.now) (plain_expr e.now)) → result ≡ number (sizes_of (readable_in view.now) (plain_expr e.now)) }
+    ensures { Shows facts.now (sizes_of (readable_in view.now) (plain_expr e.now))
+        → result ≡ number (sizes_of (readable_in view.now) (plain_expr e.now)) }
 {
     if facts.plain {
         return match facts.whole {
@@ -59,7 +61,7 @@ pub fn facts_of(view: &View<'_>, e: &Expr) -> Facts
             let chosen = numbered(view, condition);
             let a = facts_of(view, then_value);
             let b = facts_of(view, else_value);
-            choice_facts(&chosen.facts, chosen.number, &a, &b)
+            choice_facts(&chosen, &a, &b)
         }
     }
 }
@@ -165,7 +167,8 @@ fn plain_facts(line: u32, width: u32) -> Facts
 /// What is said of a select of a net, or of a memory's word by its index.
 #[tactic(auto, using(crate::proofs::Firsts::first_append))]
 fn select_facts(line: u32, last: &Select) -> Facts
-    ensures { (L : Bracket) (width picked limit : ℕ) → ShowsSelect line width picked limit last.now L → Shows result (of_place line width picked limit None L) }
+    ensures { (L : Bracket) (width picked limit : ℕ) → ShowsSelect line width picked limit last.now L
+        → Shows result (of_place line width picked limit None L) }
 {
     let widths = either(last.own_fault, last.width_fault);
     read_facts(line, last.width, last.const_fault, widths)
@@ -186,7 +189,8 @@ fn whole_word(width: u32) -> Select
 /// What is said of a memory's word, or of a select of it.
 #[tactic(auto, using(crate::proofs::Firsts::first_append))]
 fn word_facts(line: u32, limit: u32, word: &Numbered, last: &Select) -> Facts
-    ensures { (I : Sizes) (L : Bracket) (width : ℕ) → ShowsNumber word.now I → ShowsSelect line width 1 width last.now L → Shows result (of_place line width 0 limit (Some I) L) }
+    ensures { (I : Sizes) (L : Bracket) (width : ℕ) → ShowsNumber word.now I → ShowsSelect line width 1 width last.now L
+        → Shows result (of_place line width 0 limit (Some I) L) }
 {
     let index = either(outside(limit, word), word.facts.width_fault);
     let consts = either(word.facts.const_fault, last.const_fault);
@@ -270,7 +274,8 @@ pub fn assigned_number(view: &View<'_>, e: &Expr, w: u32) -> Option<u128>
 /// The number of a constant expression without a fault at the larger of `w` and its own width.
 fn wide_number(view: &View<'_>, e: &Expr, facts: &Facts, w: u32) -> Option<u128>
     requires { IsWidth w }
-    ensures { Shows facts.now (sizes_of (readable_in view.now) (plain_expr e.now)) → result ≡ wide_number w (sizes_of (readable_in view.now) (plain_expr e.now)) }
+    ensures { Shows facts.now (sizes_of (readable_in view.now) (plain_expr e.now))
+        → result ≡ wide_number w (sizes_of (readable_in view.now) (plain_expr e.now)) }
 {
     if facts.plain {
         return match facts.whole {

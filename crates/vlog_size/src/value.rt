@@ -156,7 +156,8 @@ fn own_prim_width(view: &View<'_>, prim: &Operand) -> Option<u32>
 /// The larger width of two constant expressions, where it is lawful.
 #[tactic(auto, unfolding(crate::specs::Size::constant_width, crate::specs::Size::shared_width))]
 fn shared_width(view: &View<'_>, left: &Expr, right: &Expr) -> Option<u32>
-    ensures value { result ≡ shared_width (sizes_of (readable_in view.now) (plain_expr left.now)) (sizes_of (readable_in view.now) (plain_expr right.now)) }
+    ensures value { result ≡ shared_width (sizes_of (readable_in view.now) (plain_expr left.now))
+        (sizes_of (readable_in view.now) (plain_expr right.now)) }
     ensures lawful { IfSome result (λ w. IsWidth w) }
 {
     let left = constant_width(view, left)?;
@@ -178,7 +179,7 @@ pub fn own(view: &View<'_>, e: &Expr) -> Option<u128>
 #[tactic(auto, unfolding(crate::specs::Size::own_width))]
 pub fn assigned_value(view: &View<'_>, e: &Expr, w: u32) -> Option<u128>
     requires { IsWidth w }
-    ensures { result ≡ at_width (sizes_of (readable_in view.now) (plain_expr e.now)).value (assigned_width w (sizes_of (readable_in view.now) (plain_expr e.now))) }
+    ensures { let E = sizes_of (readable_in view.now) (plain_expr e.now) in result ≡ at_width E.value (assigned_width w E) }
 {
     let own = own_width(view, e)?;
     value(view, e, w.max(own))

@@ -14,7 +14,8 @@ constant_from-requires c =
     let shown : ShowsNumber c.numbered-whole.result E = subst P c.params_view-view.ensures c.numbered-whole.ensures in
     let has : HasConstant E (number E) =
     faultless_constant (params_alone c.args.params.now) (plain_expr c.args.e.now) c.requires (c.in_ok-faultless.ensures E shown.facts) in
-    let found : IsFound c.numbered-whole.result E c.in-Some.n = found_constant c.numbered-whole.result E c.in-Some.n shown has c.in-Some.is in
+    let found : IsFound c.numbered-whole.result E c.in-Some.n =
+    found_constant c.numbered-whole.result E c.in-Some.n shown has c.in-Some.is in
     found.room
 
 pub unreachable-requires : goal.unreachable-requires
@@ -33,7 +34,8 @@ returns-clause-value c =
     let shown : ShowsNumber c.numbered-whole.result E = subst P c.params_view-view.ensures c.numbered-whole.ensures in
     let has : HasConstant E (number E) =
     faultless_constant (params_alone c.args.params.now) (plain_expr c.args.e.now) c.requires (c.in_ok-faultless.ensures E shown.facts) in
-    let found : IsFound c.numbered-whole.result E c.in-Some.n = found_constant c.numbered-whole.result E c.in-Some.n shown has c.in-Some.is in
+    let found : IsFound c.numbered-whole.result E c.in-Some.n =
+    found_constant c.numbered-whole.result E c.in-Some.n shown has c.in-Some.is in
     found.same ∙ ap (λ (k : Const). Some k) (sym c.constant_from.ensures)
 
 pub returns-clause-lawful : goal.returns-clause-lawful
@@ -43,5 +45,6 @@ returns-clause-lawful c =
     let shown : ShowsNumber c.numbered-whole.result E = subst P c.params_view-view.ensures c.numbered-whole.ensures in
     let has : HasConstant E (number E) =
     faultless_constant (params_alone c.args.params.now) (plain_expr c.args.e.now) c.requires (c.in_ok-faultless.ensures E shown.facts) in
-    let found : IsFound c.numbered-whole.result E c.in-Some.n = found_constant c.numbered-whole.result E c.in-Some.n shown has c.in-Some.is in
+    let found : IsFound c.numbered-whole.result E c.in-Some.n =
+    found_constant c.numbered-whole.result E c.in-Some.n shown has c.in-Some.is in
     ap is_lawful_const c.constant_from.ensures ∙ found.lawful

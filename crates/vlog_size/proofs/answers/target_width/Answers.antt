@@ -14,7 +14,8 @@ overflow_cast-result c =
     let E = sizes_of_target R (plain_target c.args.target.now) in
     let P : Readable → Type 0 = λ r. Shows c.target_facts-facts.result (sizes_of_target r (plain_target c.args.target.now)) in
     let shown : Shows c.target_facts-facts.result E = subst P c.whole_view-view.ensures c.target_facts-facts.ensures in
-    let lawful : is_lawful E.width ≡ true = faultless_target R (plain_target c.args.target.now) (scope_lawful c.args.scope.now c.requires) (c.in_ok-faultless.ensures E shown) in
+    let lawful : is_lawful E.width ≡ true = faultless_target R (plain_target c.args.target.now) (scope_lawful c.args.scope.now c.requires)
+    (c.in_ok-faultless.ensures E shown) in
     let same : c.target_facts-facts.result.width ≡ E.width = within E.width c.target_facts-facts.result.width lawful shown.width in
     omega (arith, same, narrow E.width lawful)
 
@@ -24,7 +25,8 @@ returns-clause-value c =
     let E = sizes_of_target R (plain_target c.args.target.now) in
     let P : Readable → Type 0 = λ r. Shows c.target_facts-facts.result (sizes_of_target r (plain_target c.args.target.now)) in
     let shown : Shows c.target_facts-facts.result E = subst P c.whole_view-view.ensures c.target_facts-facts.ensures in
-    let lawful : is_lawful E.width ≡ true = faultless_target R (plain_target c.args.target.now) (scope_lawful c.args.scope.now c.requires) (c.in_ok-faultless.ensures E shown) in
+    let lawful : is_lawful E.width ≡ true = faultless_target R (plain_target c.args.target.now) (scope_lawful c.args.scope.now c.requires)
+    (c.in_ok-faultless.ensures E shown) in
     let same : c.target_facts-facts.result.width ≡ E.width = within E.width c.target_facts-facts.result.width lawful shown.width in
     same
 
@@ -34,6 +36,7 @@ returns-clause-lawful c =
     let E = sizes_of_target R (plain_target c.args.target.now) in
     let P : Readable → Type 0 = λ r. Shows c.target_facts-facts.result (sizes_of_target r (plain_target c.args.target.now)) in
     let shown : Shows c.target_facts-facts.result E = subst P c.whole_view-view.ensures c.target_facts-facts.ensures in
-    let lawful : is_lawful E.width ≡ true = faultless_target R (plain_target c.args.target.now) (scope_lawful c.args.scope.now c.requires) (c.in_ok-faultless.ensures E shown) in
+    let lawful : is_lawful E.width ≡ true = faultless_target R (plain_target c.args.target.now) (scope_lawful c.args.scope.now c.requires)
+    (c.in_ok-faultless.ensures E shown) in
     let same : c.target_facts-facts.result.width ≡ E.width = within E.width c.target_facts-facts.result.width lawful shown.width in
     ap is_lawful same ∙ lawful

@@ -14,7 +14,8 @@ overflow_cast-result c =
     let E = sizes_of R (plain_expr c.args.e.now) in
     let P : Readable → Type 0 = λ r. Shows c.facts_of-facts.result (sizes_of r (plain_expr c.args.e.now)) in
     let shown : Shows c.facts_of-facts.result E = subst P c.whole_view-view.ensures c.facts_of-facts.ensures in
-    let lawful : is_lawful E.width ≡ true = faultless_width R (plain_expr c.args.e.now) (scope_lawful c.args.scope.now c.requires) (c.in_ok-faultless.ensures E shown) in
+    let lawful : is_lawful E.width ≡ true =
+    faultless_width R (plain_expr c.args.e.now) (scope_lawful c.args.scope.now c.requires) (c.in_ok-faultless.ensures E shown) in
     let same : c.facts_of-facts.result.width ≡ E.width = within E.width c.facts_of-facts.result.width lawful shown.width in
     omega (arith, same, narrow E.width lawful)
 
@@ -24,7 +25,8 @@ returns-clause-value c =
     let E = sizes_of R (plain_expr c.args.e.now) in
     let P : Readable → Type 0 = λ r. Shows c.facts_of-facts.result (sizes_of r (plain_expr c.args.e.now)) in
     let shown : Shows c.facts_of-facts.result E = subst P c.whole_view-view.ensures c.facts_of-facts.ensures in
-    let lawful : is_lawful E.width ≡ true = faultless_width R (plain_expr c.args.e.now) (scope_lawful c.args.scope.now c.requires) (c.in_ok-faultless.ensures E shown) in
+    let lawful : is_lawful E.width ≡ true =
+    faultless_width R (plain_expr c.args.e.now) (scope_lawful c.args.scope.now c.requires) (c.in_ok-faultless.ensures E shown) in
     let same : c.facts_of-facts.result.width ≡ E.width = within E.width c.facts_of-facts.result.width lawful shown.width in
     same
 
@@ -34,6 +36,7 @@ returns-clause-lawful c =
     let E = sizes_of R (plain_expr c.args.e.now) in
     let P : Readable → Type 0 = λ r. Shows c.facts_of-facts.result (sizes_of r (plain_expr c.args.e.now)) in
     let shown : Shows c.facts_of-facts.result E = subst P c.whole_view-view.ensures c.facts_of-facts.ensures in
-    let lawful : is_lawful E.width ≡ true = faultless_width R (plain_expr c.args.e.now) (scope_lawful c.args.scope.now c.requires) (c.in_ok-faultless.ensures E shown) in
+    let lawful : is_lawful E.width ≡ true =
+    faultless_width R (plain_expr c.args.e.now) (scope_lawful c.args.scope.now c.requires) (c.in_ok-faultless.ensures E shown) in
     let same : c.facts_of-facts.result.width ≡ E.width = within E.width c.facts_of-facts.result.width lawful shown.width in
     ap is_lawful same ∙ lawful

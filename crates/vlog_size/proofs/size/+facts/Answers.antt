@@ -10,7 +10,9 @@ use Rattle.vlog_size.proofs.size.+facts.Goals as goal
 pub parts_facts-loop-part-preserved : goal.parts_facts-loop-part-preserved
 parts_facts-loop-part-preserved t c =
     c.with_part-so_far.ensures _ _ _
-    (next_rest c.loop-part.so_far (readable_in c.args.view.now) c.args.parts.now c.loop-part.part-index c.part-item.result _ c.loop-part-test.true c.part-item.is c.loop-part.invariant)
+    (next_rest c.loop-part.so_far
+    (readable_in c.args.view.now) c.args.parts.now c.loop-part.part-index c.part-item.result _ c.loop-part-test.true c.part-item.is
+    c.loop-part.invariant)
     c.facts_of-facts.ensures
 
 pub parts_facts-returns : goal.parts_facts-returns
@@ -18,7 +20,8 @@ parts_facts-returns t c =
     let few : length c.args.parts.now < 2 ^ 64 = omega arith in
     c.concat_facts.ensures (sizes_of_all (readable_in c.args.view.now) (plain_exprs c.args.parts.now))
     (parts_few (readable_in c.args.view.now) c.args.parts.now few)
-    (no_rest c.loop-part.so_far (readable_in c.args.view.now) c.args.parts.now c.loop-part.part-index _ c.loop-part-test.false c.loop-part.invariant)
+    (no_rest c.loop-part.so_far
+    (readable_in c.args.view.now) c.args.parts.now c.loop-part.part-index _ c.loop-part-test.false c.loop-part.invariant)
 
 pub select-returns-in-Index : goal.select-returns-in-Index
 select-returns-in-Index t c =
@@ -30,7 +33,8 @@ pub select-returns-in-Part : goal.select-returns-in-Part
 select-returns-in-Part t c =
     let P : Bracket → Type 0 = λ b. ShowsSelect c.args.line c.args.whole c.args.picked c.args.limit c.part_select.result b in
     subst P
-    (ap (λ (s : Readable). Part (sizes_of s (plain_expr c.in-Part.first)) (sizes_of s (plain_expr c.in-Part.second))) c.fixed-constants.ensures
+    (ap (λ (s : Readable). Part (sizes_of s (plain_expr c.in-Part.first))
+    (sizes_of s (plain_expr c.in-Part.second))) c.fixed-constants.ensures
     ∙ sym (ap (λ (s : Sel). sizes_of_sel (readable_in c.args.view.now) (plain_sel s)) c.in-Part.is))
     (c.part_select.ensures _ _ _ _ _ c.numbered-a.ensures c.numbered-b.ensures)
 
@@ -38,6 +42,7 @@ pub select-returns-in-Indexed : goal.select-returns-in-Indexed
 select-returns-in-Indexed t c =
     let P : Bracket → Type 0 = λ b. ShowsSelect c.args.line c.args.whole c.args.picked c.args.limit c.indexed_select.result b in
     subst P
-    (ap (λ (s : Readable). Indexed (sizes_of (readable_in c.args.view.now) (plain_expr c.in-Indexed.base)) (sizes_of s (plain_expr c.in-Indexed.width))) c.fixed-constants-in-Indexed.ensures
+    (ap (λ (s : Readable). Indexed (sizes_of (readable_in c.args.view.now) (plain_expr c.in-Indexed.base))
+    (sizes_of s (plain_expr c.in-Indexed.width))) c.fixed-constants-in-Indexed.ensures
     ∙ sym (ap (λ (s : Sel). sizes_of_sel (readable_in c.args.view.now) (plain_sel s)) c.in-Indexed.is))
     (c.indexed_select.ensures _ _ _ _ c.facts_of-base.ensures c.numbered-width.ensures)

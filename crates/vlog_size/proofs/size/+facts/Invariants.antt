@@ -7,4 +7,5 @@ use Rattle.vlog_size.proofs.size.+facts.Given as goal
 
 abbrev pub invariant-parts_facts-loop-part : goal.invariant-parts_facts-loop-part
 invariant-parts_facts-loop-part l =
-    ShowsRest l.so_far (sizes_of_all (readable_in l.view) (plain_exprs (drop l.part-index l.parts))) (sizes_of_all (readable_in l.view) (plain_exprs l.parts))
+    ShowsRest l.so_far (sizes_of_all (readable_in l.view) (plain_exprs (drop l.part-index l.parts)))
+    (sizes_of_all (readable_in l.view) (plain_exprs l.parts))

@@ -10,4 +10,5 @@ returns c = λ I L width n l.
     l.width
     (c.either-consts.ensures ∙ first_both _ _ _ _ n.facts.const_fault l.const_fault)
     (c.either.ensures ∙ first_both _ _ _ _ l.own_fault
-    (c.either-parts.ensures ∙ first_both _ _ _ _ (c.either-index.ensures ∙ first_both _ _ _ _ (c.outside.ensures I n) n.facts.width_fault) l.width_fault))
+    (c.either-parts.ensures ∙ first_both _ _ _ _
+    (c.either-index.ensures ∙ first_both _ _ _ _ (c.outside.ensures I n) n.facts.width_fault) l.width_fault))

@@ -9,7 +9,8 @@ pub concat_number-returns-in_err-so_far : goal.concat_number-returns-in_err-so_f
 concat_number-returns-in_err-so_far t c =
     let all = sizes_of_all (readable_in c.args.view.now) (plain_exprs c.args.parts.now) in
     let none : joined 0 (Some 0) all ≡ None =
-    none_at (readable_in c.args.view.now) c.args.parts.now c.loop-part.part-index c.part-item.result c.loop-part.so_far.width (Some c.loop-part.so_far.number) _
+    none_at (readable_in c.args.view.now) c.args.parts.now c.loop-part.part-index c.part-item.result c.loop-part.so_far.width
+    (Some c.loop-part.so_far.number) _
     c.loop-part-test.true c.part-item.is c.in_err-so_far.ensures c.loop-part.invariant.number in
     c.from_residual-in_err-so_far.ensures
     ∙ sym (whole_value all (concat_own_width all) c.in_ok-_whole._whole (sym c.in_ok-_whole.ensures.value) ∙ none)
