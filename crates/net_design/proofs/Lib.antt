@@ -15,3 +15,5 @@ pub mod FrameLaws
 pub mod TargetLaws
 pub mod StateLaws
 pub mod MaskLaws
+pub mod FoundLaws
+pub mod RowBits

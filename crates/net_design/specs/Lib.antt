@@ -4,6 +4,7 @@ pub mod Sized
 pub mod Bits
 pub mod Settled
 pub mod BitMap
+pub mod Found
 pub mod Names
 pub mod Lawful
 pub mod Moved

@@ -9,6 +9,7 @@
 
 mod act;
 mod bit_map;
+mod code_bits;
 mod counts;
 mod design;
 mod expression;
