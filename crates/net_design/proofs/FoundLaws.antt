@@ -30,7 +30,7 @@ open_then false true q true = both_false q
 open_then false true q false = refl
 open_then false false q k = refl
 
-or_assoc : (a b c : Bool) → ((a || b) || c) ≡ (a || (b || c))
+pub or_assoc : (a b c : Bool) → ((a || b) || c) ≡ (a || (b || c))
 or_assoc true b c = refl
 or_assoc false b c = refl
 
@@ -121,7 +121,7 @@ learn_same p q known after fresh new h a = record {
   masks = λ m k. a.masks m k ∙ ap (λ b. named fresh m k || (b && not (in_map known m k))) (h m k);
 }
 
-or_fresh : (k p : Bool) → (k || (p && not k)) ≡ (k || p)
+pub or_fresh : (k p : Bool) → (k || (p && not k)) ≡ (k || p)
 or_fresh true p = refl
 or_fresh false true = refl
 or_fresh false false = refl

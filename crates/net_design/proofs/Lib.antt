@@ -17,3 +17,4 @@ pub mod StateLaws
 pub mod MaskLaws
 pub mod FoundLaws
 pub mod RowBits
+pub mod WalkLaws

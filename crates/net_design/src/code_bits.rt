@@ -3,17 +3,18 @@
 //! What is surely assigned at a statement is kept as a mask for each net. An arm of a choice gives back what it learned: those
 //! bits alone that every arm assigns are known after the choice.
 
-ghost use Rattle.std.specs.Prelude.{◌≡◌, ℕ, ◌==◌, ◌&&◌, ◌||◌, ◌+◌, ◌≤◌, not, nat_le, nat_lt, OnOk, IfOk};
+ghost use Rattle.std.specs.Prelude.{◌≡◌, ℕ, ◌==◌, ◌&&◌, ◌||◌, ◌+◌, ◌≤◌, not, nat_le, nat_lt, List, [], OnOk, IfOk};
 ghost use Rattle.std.specs.List.{AllByRecursion};
 ghost use Rattle.vlog_operators.specs.Number.{has};
 ghost use Rattle.net_design.specs.declared.act.Act.{Act};
 ghost use Rattle.net_design.specs.declared.act.Timing.{Timing};
+ghost use Rattle.net_design.specs.declared.code_bits.Found.{Found};
 ghost use Rattle.net_design.specs.Sized.{IsSizedRhs, IsSizedPlace, IsSizedAct, IsSizedBlock, AreSizedGuards};
 ghost use Rattle.net_design.specs.Bits.{BitSet, no_bits, bits_of, named, reads, place_reads, place_writes, place_adds};
 ghost use Rattle.net_design.specs.Bits.{target_reads, target_writes, target_adds};
 ghost use Rattle.net_design.specs.Bits.{writes, adds, open_reads, block_writes, block_adds, block_open_reads, HasBits};
 ghost use Rattle.net_design.specs.BitMap.{in_map};
-ghost use Rattle.net_design.specs.Found.{Reads, Learns, Walks, learned, guard_writes, guard_adds, guard_reads};
+ghost use Rattle.net_design.specs.Found.{Reads, Learns, Walks, WalksChoice, Arm, AfterArms, learned, guard_writes, guard_adds, guard_reads};
 
 use crate::act::{Act, Code, Guard, Lhs, Mask, Place, Timing};
 use crate::bit_map::BitMap;
@@ -260,3 +261,97 @@ fn see_bits(guards: &Items<Guard>, otherwise: &Items<Act>)
     ensures reads { (t : Timing) (a : Act) → a ≡ Act.Branch guards.now otherwise.now → (known : BitSet) (m k : ℕ)
         → open_reads t a known m k ≡ (guard_reads t guards.now known m k || block_open_reads t otherwise.now known m k) }
 {}
+
+/// A statement.
+#[cycle(walks)]
+fn act_bits(alloc: Global, timing: Timing, act: &Act, found: &mut Found, fresh: &mut Items<Mask>) -> Result<(), Memory>
+    requires { IsSizedAct act.now }
+    ensures { OnOk result (Walks timing (writes act.now) (adds act.now) (open_reads timing act.now) found.old found.new fresh.old fresh.new) }
+{
+    match act {
+        Act::Set { target, value } => set_bits(timing, target, value, found, fresh),
+        Act::Read(value) => read_bits(timing, value, found, fresh),
+        Act::Branch { guards, otherwise } => {
+            see_branch(guards, otherwise);
+            see_bits(guards, otherwise);
+            let mut all = Items::new(alloc);
+            acts_bits(alloc, timing, otherwise, found, &mut all)?;
+            forget(all.as_slice(), &mut found.known)?;
+            guards_bits(alloc, timing, guards, all, found, fresh)?;
+            Ok(())
+        }
+    }
+}
+
+/// A list of statements.
+#[cycle(walks)]
+fn acts_bits(alloc: Global, timing: Timing, acts: &Items<Act>, found: &mut Found, fresh: &mut Items<Mask>) -> Result<(), Memory>
+    requires { IsSizedBlock acts.now }
+    ensures { OnOk result (Walks timing (block_writes acts.now) (block_adds acts.now) (block_open_reads timing acts.now)
+        found.old found.new fresh.old fresh.new) }
+{
+    for act in acts.as_slice() {
+        act_bits(alloc, timing, act, found, fresh)?;
+    }
+    Ok(())
+}
+
+/// A guard, whose arm gives back what it learned: of the bits that each arm before it assigned, those that it assigns too.
+#[cycle(walks)]
+fn guard_bits(alloc: Global, timing: Timing, guard: &Guard, all: &Items<Mask>, found: &mut Found) -> Result<Items<Mask>, Memory>
+    requires condition { IsSizedRhs guard.now.condition }
+    requires body { IsSizedBlock guard.now.body }
+    ensures { IfOk result (λ both. Arm timing guard.now all.now both found.old found.new) }
+{
+    read_rhs(&guard.condition, &found.known, &mut found.reads)?;
+    let mut own = Items::new(alloc);
+    acts_bits(alloc, timing, &guard.body, found, &mut own)?;
+    let both = narrow(alloc, all.as_slice(), &found.known)?;
+    forget(own.as_slice(), &mut found.known)?;
+    Ok(both)
+}
+
+/// The guards of a choice, after its last arm: the bits that each arm assigns are known after it.
+#[cycle(walks)]
+fn guards_bits(
+    alloc: Global,
+    timing: Timing,
+    guards: &Items<Guard>,
+    mut all: Items<Mask>,
+    found: &mut Found,
+    fresh: &mut Items<Mask>,
+) -> Result<(), Memory>
+    requires { AreSizedGuards guards.now }
+    ensures { OnOk result ((others : List Act) (before : Found) → AfterArms timing [] others before found.old all
+        → WalksChoice timing guards.now others before found.new fresh.old fresh.new) }
+{
+    for guard in guards.as_slice() {
+        all = guard_bits(alloc, timing, guard, &all, found)?;
+    }
+    learn_masks(all.as_slice(), &mut found.known, fresh)
+}
+
+impl Code {
+    /// The code of statements: their bits are found in one walk over them. With `Blocking` it is a driver's code, with
+    /// `Nonblocking` a clocked block's.
+    pub fn of(alloc: Global, timing: Timing, acts: Items<Act>) -> Result<Code, Memory>
+        requires { IsSizedBlock acts }
+        ensures acts { IfOk result (λ code. code.acts ≡ acts) }
+        ensures bits { IfOk result (λ code. HasBits timing code) }
+    {
+        let mut found = Found {
+            writes: BitMap::new(alloc),
+            reads: BitMap::new(alloc),
+            known: BitMap::new(alloc),
+        };
+        let mut fresh = Items::new(alloc);
+        acts_bits(alloc, timing, &acts, &mut found, &mut fresh)?;
+        let writes = found.writes.to_masks(alloc)?;
+        let reads = found.reads.to_masks(alloc)?;
+        Ok(Code {
+            acts,
+            writes,
+            reads,
+        })
+    }
+}
