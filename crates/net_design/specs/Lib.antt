@@ -2,6 +2,7 @@ pub mod Value
 pub mod Updates
 pub mod Sized
 pub mod Bits
+pub mod Last
 pub mod Settled
 pub mod BitMap
 pub mod Found
