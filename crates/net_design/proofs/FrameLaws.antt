@@ -136,7 +136,7 @@ same_or_other n m = ⊎_elim
     (λ (g : m ≤ n). ⊎_elim (λ (h : m < n). inr (λ e. omega arith)) (λ (h : n ≤ m). inl (omega arith)) (cases_lt m n))
     (cases_lt n m)
 
-written_stays : (target : Target) (u : Update) (v : Values) (m k : ℕ) → k < 128 → touches_at target u m k ≡ false
+pub written_stays : (target : Target) (u : Update) (v : Values) (m k : ℕ) → k < 128 → touches_at target u m k ≡ false
     → bit_at (slice_index (written_to target u v).nets m) k ≡ bit_at (slice_index v.nets m) k
 written_stays (Net n) u v m k l h = ⊎_elim
     (λ (e : n ≡ m).

@@ -14,4 +14,8 @@ pub mod EquationLaws
 pub mod FrameLaws
 pub mod TargetLaws
 pub mod StateLaws
+pub mod LastLaws
 pub mod MaskLaws
+pub mod FoundLaws
+pub mod RowBits
+pub mod WalkLaws

@@ -171,3 +171,14 @@ pub one_mask : (out : List Mask) (x : Mask) (rest : List (ℕ × ℕ)) (m k : �
 one_mask out x rest m k =
     ap (λ b. b || named_entries rest m k) (list_any-append (λ (y : Mask). (y.net == m) && has y.bits k) out (x ∷ []))
     ∙ regroup (named out m k) ((x.net == m) && has x.bits k) (named_entries rest m k)
+
+and_bits : (x y : ℕ) → x < 2 → y < 2 → (min x y == 1) ≡ ((x == 1) && (y == 1))
+and_bits zero zero l h = refl
+and_bits zero (suc zero) l h = refl
+and_bits (suc zero) zero l h = refl
+and_bits (suc zero) (suc zero) l h = refl
+and_bits x (suc (suc y)) l h = absurd (omega arith)
+and_bits (suc (suc x)) y l h = absurd (omega arith)
+
+pub has_and : (a b k : ℕ) → has (bit_and a b) k ≡ (has a k && has b k)
+has_and a b k = ap (λ n. n == 1) (bit_at_and a b k) ∙ and_bits (bit_at a k) (bit_at b k) (bit_at-lt a k) (bit_at-lt b k)

@@ -159,7 +159,7 @@ initial_state d law = record {
 }
 
 -- ---- updates keep lengths and 128 bits
-written_long : (t : Target) (u : Update) (v : Values)
+pub written_long : (t : Target) (u : Update) (v : Values)
     → (length (written_to t u v).nets ≡ length v.nets) × (length (written_to t u v).words ≡ length v.words)
 written_long (NetTarget m) u v = (length-set v.nets m (put_of (slice_index v.nets m) u.low u.width u.number), refl)
 written_long (WordTarget i) u v = (refl, length-set v.words i (put_of (slice_index v.words i) u.low u.width u.number))
@@ -174,7 +174,7 @@ applied_long (u ∷ us) v =
 abbrev pub AreNarrow : List ℕ → Type 0
 AreNarrow xs = (m : ℕ) → slice_index xs m < 2 ^ 128
 
-set_narrow : (xs : List ℕ) (n low w y : ℕ) → AreNarrow xs → AreNarrow (slice_set xs n (put_of (slice_index xs n) low w y))
+pub set_narrow : (xs : List ℕ) (n low w y : ℕ) → AreNarrow xs → AreNarrow (slice_set xs n (put_of (slice_index xs n) low w y))
 set_narrow xs n low w y h m = ⊎_elim
     (λ (e : n ≡ m). ⊎_elim
     (λ (there : n < length xs). subst (λ k. slice_index (slice_set xs n (put_of (slice_index xs n) low w y)) k < 2 ^ 128) e

@@ -2,8 +2,10 @@ pub mod Value
 pub mod Updates
 pub mod Sized
 pub mod Bits
+pub mod Last
 pub mod Settled
 pub mod BitMap
+pub mod Found
 pub mod Names
 pub mod Lawful
 pub mod Moved

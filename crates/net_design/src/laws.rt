@@ -16,6 +16,8 @@ ghost use Rattle.net_design.specs.declared.values.Values.{Values};
 ghost use Rattle.net_design.specs.Value.{read, value};
 ghost use Rattle.net_design.specs.Updates.{apply, updates, block_updates, guard_updates, seen, run, ArePlaced, HasParts};
 ghost use Rattle.net_design.specs.Bits.{Apart, block_writes};
+ghost use Rattle.net_design.specs.Last.{HasLast, IsNarrow};
+ghost use Rattle.net_design.specs.declared.act.Timing.TheVariants.{Blocking};
 ghost use Rattle.net_design.specs.Settled.{IsSized, initial, next};
 ghost use Rattle.net_design.specs.Lawful.{IsLawful, IsState};
 ghost use Rattle.net_design.specs.Example.{example, driven_twice, not_driven, held_driven, stray_initial, named_twice};
@@ -49,6 +51,13 @@ pub fn assignment_is_equation()
 pub fn target_is_equation()
     ensures { (target : List Place) (e : Rhs) (v : Values) → ArePlaced target v → Apart target
         → (run (Set target e ∷ []) v ≡ v) ↔ HasParts target (value e v) v }
+{}
+
+/// Updates change nothing exactly where each bit that they write is what the last of them makes it; so running an `always @*`
+/// changes nothing exactly where each bit that it writes is what the last of its updates makes it.
+pub fn last_update_stands()
+    ensures updates { (us : List Update) (v : Values) → IsNarrow v → (apply us v ≡ v) ↔ HasLast us v }
+    ensures block { (acts : List Act) (v : Values) → IsNarrow v → (run acts v ≡ v) ↔ HasLast (block_updates Blocking acts v) v }
 {}
 
 /// Bits that a block doesn't write stay, whatever numbers it read.

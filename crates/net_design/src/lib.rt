@@ -9,6 +9,7 @@
 
 mod act;
 mod bit_map;
+mod code_bits;
 mod counts;
 mod design;
 mod expression;
@@ -27,7 +28,7 @@ pub use design::{
 };
 pub use laws::{
     assignment_is_equation, blocks_in_order, choice_by_lists, initial_is_state, lawful_design_shown,
-    lawful_is_sized, next_is_state, target_is_equation, unwritten_bits_stay, updates_in_order,
+    last_update_stands, lawful_is_sized, next_is_state, target_is_equation, unwritten_bits_stay, updates_in_order,
 };
 pub use move_laws::{
     moved_changes, moved_code_bits, moved_is_fixed, moved_is_sized, moved_number, moved_shape,
