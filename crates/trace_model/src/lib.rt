@@ -20,7 +20,7 @@ mod trace;
 pub use channel::{Channel, Channels, Dir};
 pub use event::{Event, Events, Kind};
 pub use flight::in_flight_after;
-pub use lawful::{is_packet, well_formed};
+pub use lawful::{is_over, is_packet, well_formed};
 pub use mask::names;
 pub use packet::{Packet, Packets};
 pub use row::{Offers, Row, Rows};
