@@ -27,6 +27,3 @@ pub use row::{Offers, Row, Rows};
 pub use stability::unstable;
 pub use table::same_channels;
 pub use trace::Trace;
-
-#[cfg(test)]
-mod tests;

@@ -27,6 +27,3 @@ pub use shelf::{FetchError, Shelf};
 pub use shelf_sink::ShelfSink;
 pub use sink::{Failed, Sink};
 pub use words::{Text, Words};
-
-#[cfg(test)]
-mod tests;

@@ -1,13 +1,10 @@
-use crate::fails::{Fail, FailCall, Fails};
-use crate::host::{HostShelf, HostSink};
-use crate::mem_shelf::MemShelf;
-use crate::mem_sink::MemSink;
-use crate::reading::{ReadError, read_whole};
-use crate::shelf::{FetchError, Shelf};
-use crate::sink::{Failed, Sink};
-use crate::words::Text;
+use std::alloc::Global;
 use std::{env, fs, process, test};
-use vidi_bits::{Memory, Numbers};
+use vidi_bits::{Bytes, Memory, Numbers};
+use vidi_io::{
+    Fail, FailCall, Failed, Fails, FetchError, FixedSink, HostShelf, HostSink, MemShelf, MemSink,
+    ReadError, Shelf, ShelfSink, Sink, Text, read_whole,
+};
 
 #[test]
 fn texts_keep_their_bytes(rt: HostRuntime) -> Result<(), test::Fail> {
@@ -93,7 +90,55 @@ fn memory_sink_fails_where_listed(rt: HostRuntime) -> Result<(), test::Fail> {
     Ok(())
 }
 
-// A real file, a name that isn't there, and a directory in place of a file.
+#[test]
+fn a_fixed_sink_is_filled_to_its_last_byte(rt: HostRuntime) -> Result<(), test::Fail> {
+    let buf = vec![in rt.alloc(); 0u8; 4]?;
+    let mut sink = FixedSink::new(Bytes::from_vec(buf));
+    for (piece, done) in [("abc", true), ("de", false), ("d", true), ("", true), ("e", false)] {
+        assert_eq!(rt; sink.push(piece.as_bytes()).is_ok(), done, "{piece}");
+    }
+    assert_eq!(rt; sink.bytes(), b"abcd".as_slice());
+    Ok(())
+}
+
+// Whether pushes of nothing, "one" and "two" to a file that holds "old" answer so and leave this, where
+// this call of the shelf fails.
+fn leaves(
+    alloc: Global,
+    fail: Fail,
+    one_done: bool,
+    two_done: bool,
+    file: &[u8],
+) -> Result<bool, test::Fail> {
+    let mut fails = Fails::new(alloc);
+    fails.push(fail)?;
+    let mut shelf = MemShelf::new(alloc, fails);
+    shelf.put_file("a", b"old")?;
+    shelf.room_for("a", 8)?;
+    let mut sink = ShelfSink::new(&mut shelf, "a");
+    let none = sink.push(b"").is_ok();
+    let one = sink.push(b"one").is_ok();
+    let two = sink.push(b"two").is_ok();
+    Ok(none && one == one_done && two == two_done && shelf.file("a") == Some(file))
+}
+
+#[test]
+fn a_file_holds_what_was_pushed(rt: HostRuntime) -> Result<(), test::Fail> {
+    for (call, number, kept, one, two, file) in [
+        (FailCall::Append, 3, 0, true, true, "onetwo"),
+        (FailCall::Start, 1, 0, false, true, "two"),
+        (FailCall::Start, 2, 0, true, true, "onetwo"),
+        (FailCall::Append, 1, 2, false, true, "ontwo"),
+        (FailCall::Append, 2, 1, true, false, "onet"),
+    ] {
+        let fail = Fail { call, number, kept };
+        let held = leaves(rt.alloc(), fail, one, two, file.as_bytes())?;
+        assert!(rt; held, "{file}");
+    }
+    Ok(())
+}
+
+// A real file, a name that isn't there, a path below a plain file, and a directory in place of a file.
 #[test]
 fn host_files_are_written_and_read(rt: HostRuntime) -> Result<(), test::Fail> {
     let folder = env::temp_dir(&rt)?;
@@ -109,11 +154,15 @@ fn host_files_are_written_and_read(rt: HostRuntime) -> Result<(), test::Fail> {
     shelf.append(file, b"e")?;
     let read = read_whole(rt.alloc(), &mut shelf, file, 3)?;
     assert_eq!(rt; read.as_slice(), b"one".as_slice());
+    let below = path.join(rt.alloc(), "below")?;
+    let below = below.as_path().to_str().expect(&rt, "a path that is text");
+    let inside = read_whole(rt.alloc(), &mut shelf, below, 8);
     fs::remove_file(&rt, file)?;
     fs::create_dir(&rt, file)?;
     let refused = read_whole(rt.alloc(), &mut shelf, file, 8);
     let started = shelf.start(file);
     fs::remove_dir(&rt, file)?;
+    assert_eq!(rt; inside.err(), Some(ReadError::Failed));
     assert_eq!(rt; refused.err(), Some(ReadError::Failed));
     assert_eq!(rt; started, Err::<(), Failed>(Failed));
     HostSink::new(&rt).push(b"one\n")?;

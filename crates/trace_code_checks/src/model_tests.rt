@@ -1,9 +1,6 @@
-use crate::channel::{Channel, Dir};
-use crate::lawful::well_formed;
-use crate::packet::Packet;
-use crate::trace::Trace;
 use std::alloc::Global;
 use std::test::Fail;
+use trace_model::{Channel, Dir, Packet, Trace, well_formed};
 use vidi_bits::{Bytes, Items, Numbers};
 
 fn channel(alloc: Global, dir: Dir, name: u8) -> Result<Channel, Fail> {
