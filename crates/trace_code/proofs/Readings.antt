@@ -1,5 +1,5 @@
 -- No bytes have two readings, and neither has a front of them.
-use Rattle.std.proofs.Common.{◌≡◌, ℕ, List, [], ◌∷◌, ◌++◌, length, All, refl, sym, ap, subst, ◌∙◌, append_assoc, arith}
+use Rattle.std.proofs.Common.{◌≡◌, ℕ, ◌+◌, ◌-◌, ◌^◌, ◌<◌, ◌≤◌, ◌⊎◌, List, [], ◌∷◌, ◌++◌, length, All, Result, Ok, Err, inl, inr, ⊎_elim, refl, sym, ap, subst, ◌∙◌, append_assoc, arith}
 use Rattle.std.specs.List.{flat_map, AllByRecursion}
 use Rattle.std.proofs.lemmas.List.{append-nil, get_or_at, length-append, flat_map_more}
 use Rattle.std.proofs.lemmas.List.Elements.{recursion_from_All}
@@ -11,10 +11,12 @@ use Rattle.trace_model.specs.Channel.{IsTable}
 use Rattle.trace_model.specs.Packet.{IsPacket}
 use Rattle.trace_model.specs.Trace.{Alternates}
 use Rattle.trace_model.proofs.FlightLemmas.{alternates-front}
-use Rattle.trace_code.specs.Encoding.{header_bytes, packet_bytes, end_mark, Encodes}
+use Rattle.trace_code.specs.declared.error.CodeError.{CodeError}
+use Rattle.trace_code.specs.declared.error.CodeError.TheVariants.{BadTrace, Memory}
+use Rattle.trace_code.specs.Encoding.{header_bytes, packet_bytes, end_mark, encode, Encodes}
 use Rattle.trace_code.specs.Reading.{header_at, AreChannels}
-use Rattle.trace_code.specs.PacketReading.{packet_at, ArePackets, body_bytes}
-use Rattle.trace_code.specs.Decoding.{OneReading}
+use Rattle.trace_code.specs.PacketReading.{packet_at, AreAll}
+use Rattle.trace_code.specs.Decoding.{Splits, SplitsLongest, HasNoHeader, IsBehindPackets, IsFaultAt, Decodes, OneReading, OnePlace, ReadsBack}
 use Rattle.trace_code.proofs.Table.{header_again}
 use Rattle.trace_code.proofs.PacketLaws.{packet_again}
 
@@ -37,92 +39,171 @@ same_packet cs p q xs ys hp hq e =
     let s = same_Some (p, xs) (q, ys) (sym (packet_again cs p xs hp) ∙ ap (packet_at cs) e ∙ packet_again cs q ys hq) in
     (ap (λ (x : Packet × List ℕ). x.0) s, ap (λ (x : Packet × List ℕ). x.1) s)
 
--- the packets of which these are the first, and what is left of the bytes
-pub record Remains (cs : List Channel) (front all : List Packet) (rest : List ℕ) (n : ℕ) : Type 0 where
-  pub others : List Packet
-  pub whole : all ≡ front ++ others
-  pub left : rest ≡ flat_map (packet_bytes cs) others ++ end_mark n
-
 regroup : (cs : List Channel) (p : Packet) (ps : List Packet) (rest : List ℕ) → flat_map (packet_bytes cs) (p ∷ ps) ++ rest ≡ packet_bytes cs p ++ (flat_map (packet_bytes cs) ps ++ rest)
 regroup cs p ps rest = append_assoc (packet_bytes cs p) (flat_map (packet_bytes cs) ps) rest
 
-remains : (cs : List Channel) (front all : List Packet) (rest : List ℕ) (n : ℕ) → AllByRecursion (IsPacket cs) front → AllByRecursion (IsPacket cs) all
-    → flat_map (packet_bytes cs) front ++ rest ≡ flat_map (packet_bytes cs) all ++ end_mark n → Remains cs front all rest n
-remains cs [] all rest n hf ha e = record { others = all; whole = refl; left = e }
-remains cs (p ∷ front) [] rest n hf ha e = absurd cc
-remains cs (p ∷ front) (q ∷ all) rest n hf ha e =
-    let s = same_packet cs p q (flat_map (packet_bytes cs) front ++ rest) (flat_map (packet_bytes cs) all ++ end_mark n) hf.0 ha.0 (sym (regroup cs p front rest) ∙ e ∙ regroup cs q all (end_mark n)) in
-    let below = remains cs front all rest n hf.1 ha.1 s.1 in
-    let both : q ∷ all ≡ p ∷ (front ++ below.others) = ap (λ (x : Packet). x ∷ all) (sym s.0) ∙ ap (λ (xs : List Packet). p ∷ xs) below.whole in
-    record { others = below.others; whole = both; left = below.left }
+-- a list of packets goes on where another ends, with what follows each
+pub record GoesOn (cs : List Channel) (front all : List Packet) (rest left : List ℕ) : Type 0 where
+  pub others : List Packet
+  pub whole : all ≡ front ++ others
+  pub parts : rest ≡ flat_map (packet_bytes cs) others ++ left
 
-pub remaining : (cs : List Channel) (front all : List Packet) (bytes rest : List ℕ) → All (IsPacket cs) front → bytes ≡ flat_map (packet_bytes cs) front ++ rest
-    → ArePackets cs all → bytes ≡ body_bytes cs all → Remains cs front all rest (length all)
-remaining cs front all bytes rest each parts are whole =
-    remains cs front all rest (length all) (recursion_from_All (IsPacket cs) front each) (recursion_from_All (IsPacket cs) all are.each) (sym parts ∙ whole)
+goes_on-cons : (cs : List Channel) (p q : Packet) (front all : List Packet) (rest left : List ℕ) → p ≡ q → GoesOn cs front all rest left → GoesOn cs (p ∷ front) (q ∷ all) rest left
+goes_on-cons cs p q front all rest left e g = record {
+  others = g.others;
+  whole = ap (λ (x : Packet). x ∷ all) (sym e) ∙ ap (λ (xs : List Packet). p ∷ xs) g.whole;
+  parts = g.parts;
+}
+
+-- of two lists of packets in the same bytes one goes on where the other ends
+two-lists : (cs : List Channel) (ps qs : List Packet) (r s : List ℕ) → AllByRecursion (IsPacket cs) ps → AllByRecursion (IsPacket cs) qs
+    → flat_map (packet_bytes cs) ps ++ r ≡ flat_map (packet_bytes cs) qs ++ s → GoesOn cs ps qs r s ⊎ GoesOn cs qs ps s r
+two-lists cs [] qs r s hp hq e = inl (record { others = qs; whole = refl; parts = e })
+two-lists cs (p ∷ ps) [] r s hp hq e = inr (record { others = p ∷ ps; whole = refl; parts = sym e })
+two-lists cs (p ∷ ps) (q ∷ qs) r s hp hq e =
+    let same = same_packet cs p q (flat_map (packet_bytes cs) ps ++ r) (flat_map (packet_bytes cs) qs ++ s) hp.0 hq.0 (sym (regroup cs p ps r) ∙ e ∙ regroup cs q qs s) in
+    ⊎_elim
+    (λ (g : GoesOn cs ps qs r s). inl (goes_on-cons cs p q ps qs r s same.0 g))
+    (λ (g : GoesOn cs qs ps s r). inr (goes_on-cons cs q p qs ps s r (sym same.0) g))
+    (two-lists cs ps qs r s hp.1 hq.1 same.1)
+
+pub compared : (cs : List Channel) (ps qs : List Packet) (r s : List ℕ) → All (IsPacket cs) ps → All (IsPacket cs) qs
+    → flat_map (packet_bytes cs) ps ++ r ≡ flat_map (packet_bytes cs) qs ++ s → GoesOn cs ps qs r s ⊎ GoesOn cs qs ps s r
+compared cs ps qs r s hp hq e = two-lists cs ps qs r s (recursion_from_All (IsPacket cs) ps hp) (recursion_from_All (IsPacket cs) qs hq) e
+
+-- none goes on where the end of a trace stands
+pub ended : (cs : List Channel) (front all : List Packet) (n : ℕ) (left : List ℕ) → GoesOn cs front all (end_mark n) left → (all ≡ front) × (end_mark n ≡ left)
+ended cs front all n left g = cases g.others g.whole g.parts
+  where
+    cases : (others : List Packet) → all ≡ front ++ others → end_mark n ≡ flat_map (packet_bytes cs) others ++ left → (all ≡ front) × (end_mark n ≡ left)
+    cases [] whole parts = (whole ∙ append-nil front, parts)
+    cases (q ∷ qs) whole parts = absurd cc
 
 -- ---- the whole
 
 same_trace : (t u : Trace) → t.channels ≡ u.channels → t.packets ≡ u.packets → t ≡ u
 same_trace t u c p = λ i. record { channels = c i; packets = p i }
 
--- nothing remains where the end stands
-pub none_remain : (cs : List Channel) (front all : List Packet) (m n : ℕ) → Remains cs front all (end_mark m) n → all ≡ front
-none_remain cs front all m n r = ended r.others r.whole r.left
-  where
-    ended : (others : List Packet) → all ≡ front ++ others → end_mark m ≡ flat_map (packet_bytes cs) others ++ end_mark n → all ≡ front
-    ended [] whole left = whole ∙ append-nil front
-    ended (q ∷ qs) whole left = absurd cc
+-- an encoding is a header, packets, and the end
+pub encoding-splits : (t : Trace) (bytes : List ℕ) → Encodes t bytes → Splits bytes t.channels t.packets (end_mark (length t.packets))
+encoding-splits t bytes h = record { table = h.0.table; each = h.0.well_formed.packets; alternate = h.0.well_formed.alternate; parts = sym h.1 }
 
-packets_of : (t : Trace) (bytes : List ℕ) → Encodes t bytes → ArePackets t.channels t.packets
-packets_of t bytes h = record { each = h.0.well_formed.packets; alternate = h.0.well_formed.alternate; few = h.0.few }
+-- two splits of the same bytes
+pub same-table : (bytes : List ℕ) (cs ds : List Channel) (ps qs : List Packet) (r s : List ℕ) → Splits bytes cs ps r → Splits bytes ds qs s → cs ≡ ds
+same-table bytes cs ds ps qs r s a b = (same_header cs ds (flat_map (packet_bytes cs) ps ++ r) (flat_map (packet_bytes ds) qs ++ s) a.table b.table (sym a.parts ∙ b.parts)).0
 
+pub two-splits : (bytes : List ℕ) (cs : List Channel) (ps qs : List Packet) (r s : List ℕ) → Splits bytes cs ps r → Splits bytes cs qs s → GoesOn cs ps qs r s ⊎ GoesOn cs qs ps s r
+two-splits bytes cs ps qs r s a b =
+    compared cs ps qs r s a.each b.each (same_header cs cs (flat_map (packet_bytes cs) ps ++ r) (flat_map (packet_bytes cs) qs ++ s) a.table b.table (sym a.parts ∙ b.parts)).1
+
+-- a split of the bytes of a trace whose rest is another end
 pub one_reading : OneReading
 one_reading bytes t u a b =
-    let s = same_header t.channels u.channels (body_bytes t.channels t.packets) (body_bytes u.channels u.packets) a.0.table b.0.table (a.1 ∙ sym b.1) in
-    let p = packets_of t bytes a in
-    let q = subst (λ (cs : List Channel). ArePackets cs u.packets) (sym s.0) (packets_of u bytes b) in
-    let same : body_bytes t.channels t.packets ≡ body_bytes t.channels u.packets = s.1 ∙ ap (λ (cs : List Channel). body_bytes cs u.packets) (sym s.0) in
-    let r = remaining t.channels t.packets u.packets (body_bytes t.channels t.packets) (end_mark (length t.packets)) p.each refl q same in
-    same_trace t u s.0 (sym (none_remain t.channels t.packets u.packets (length t.packets) (length u.packets) r))
+    let s = encoding-splits t bytes a in
+    let c = same-table bytes t.channels u.channels t.packets u.packets (end_mark (length t.packets)) (end_mark (length u.packets)) s (encoding-splits u bytes b) in
+    let r = subst (λ (cs : List Channel). Splits bytes cs u.packets (end_mark (length u.packets))) (sym c) (encoding-splits u bytes b) in
+    same_trace t u c (⊎_elim
+      (λ (g : GoesOn t.channels t.packets u.packets (end_mark (length t.packets)) (end_mark (length u.packets))). sym (ended t.channels t.packets u.packets (length t.packets) (end_mark (length u.packets)) g).0)
+      (λ (g : GoesOn t.channels u.packets t.packets (end_mark (length u.packets)) (end_mark (length t.packets))). (ended t.channels u.packets t.packets (length u.packets) (end_mark (length t.packets)) g).0)
+      (two-splits bytes t.channels t.packets u.packets (end_mark (length t.packets)) (end_mark (length u.packets)) s r))
 
--- ---- a loop over packets
+pub reads_back : ReadsBack
+reads_back t (Ok u) has code = inl (ap (λ (v : Trace). Ok v) (one_reading (encode t) u t code (has, refl)))
+reads_back t (Err (BadTrace at)) has code = absurd (code.1 t (has, refl))
+reads_back t (Err Memory) has code = inr refl
 
+-- ---- the place of a fault
+longer : {X : Type 0} (front all others : List X) → all ≡ front ++ others → length front ≤ length all
+longer front all others e = omega (arith, ap length e, length-append front others)
+
+-- as long, and begun by it: the same
+as-long : {X : Type 0} (front all others : List X) → all ≡ front ++ others → length all ≤ length front → all ≡ front
+as-long front all [] e l = e ∙ append-nil front
+as-long front all (x ∷ xs) e l = absurd (omega (arith, ap length e, length-append front (x ∷ xs)))
+
+one-longest : (bytes : List ℕ) (cs : List Channel) (ps qs : List Packet) (r s : List ℕ) → SplitsLongest bytes cs ps r → SplitsLongest bytes cs qs s → ps ≡ qs
+one-longest bytes cs ps qs r s a b = ⊎_elim
+    (λ (g : GoesOn cs ps qs r s). sym (as-long ps qs g.others g.whole (a.most qs s b.splits)))
+    (λ (g : GoesOn cs qs ps s r). as-long qs ps g.others g.whole (b.most ps r a.splits))
+    (two-splits bytes cs ps qs r s a.splits b.splits)
+
+both-behind : (bytes : List ℕ) (a b : ℕ) → IsBehindPackets bytes a → IsBehindPackets bytes b → a ≡ b
+both-behind bytes a b p q =
+    let c = same-table bytes p.channels q.channels p.packets q.packets p.rest q.rest p.longest.splits q.longest.splits in
+    let there = subst (λ (cs : List Channel). SplitsLongest bytes cs q.packets q.rest) (sym c) q.longest in
+    let ps = one-longest bytes p.channels p.packets q.packets p.rest q.rest p.longest there in
+    p.place ∙ ap (λ (xs : List Packet). length (header_bytes p.channels) + length (flat_map (packet_bytes p.channels) xs)) ps ∙ ap (λ (cs : List Channel). length (header_bytes cs) + length (flat_map (packet_bytes cs) q.packets)) c ∙ sym q.place
+
+headed : (bytes : List ℕ) (at : ℕ) → HasNoHeader bytes → IsBehindPackets bytes at → ⊥
+headed bytes at none p = none p.channels (flat_map (packet_bytes p.channels) p.packets ++ p.rest) p.longest.splits.table p.longest.splits.parts
+
+pub one_place : OnePlace
+one_place bytes a b (inl p) (inl q) = p.1 ∙ sym q.1
+one_place bytes a b (inl p) (inr q) = absurd (headed bytes b p.0 q)
+one_place bytes a b (inr p) (inl q) = absurd (headed bytes a q.0 p)
+one_place bytes a b (inr p) (inr q) = both-behind bytes a b p q
+
+-- ---- what the code reads
 All-middle : (cs : List Channel) (front : List Packet) (q : Packet) (qs : List Packet) → All (IsPacket cs) (front ++ q ∷ qs) → IsPacket cs q
 All-middle cs front q qs each =
     subst (IsPacket cs) (get_or_at front q qs q (length front) refl) (each (length front) q (omega (arith, length-append front (q ∷ qs))))
 
--- where a packet begins, the next one stands
-pub record Follows (cs : List Channel) (front : List Packet) (rest : List ℕ) : Type 0 where
-  pub next : Packet
-  pub after : List ℕ
-  pub lawful : IsPacket cs next
-  pub alternate : Alternates (front ++ next ∷ [])
-  pub parts : rest ≡ packet_bytes cs next ++ after
-
-pub follows : (cs : List Channel) (front all : List Packet) (rest : List ℕ) → ArePackets cs all → (more : List ℕ) × (rest ≡ 1 ∷ more) → Remains cs front all rest (length all) → Follows cs front rest
-follows cs front all rest are begins r = first r.others r.whole r.left
+-- behind all packets none goes on
+none-behind : (cs : List Channel) (bytes rest left : List ℕ) (ps qs : List Packet) → AreAll cs bytes ps rest → All (IsPacket cs) qs → Alternates qs → GoesOn cs ps qs rest left → (qs ≡ ps) × (rest ≡ left)
+none-behind cs bytes rest left ps qs all each alternate g = cases g.others g.whole g.parts
   where
-    first : (others : List Packet) → all ≡ front ++ others → rest ≡ flat_map (packet_bytes cs) others ++ end_mark (length all) → Follows cs front rest
-    first [] whole left = (let e = sym begins.1 ∙ left in absurd cc)
-    first (q ∷ qs) whole left =
-        let grouped : all ≡ (front ++ q ∷ []) ++ qs = whole ∙ sym (append_assoc front (q ∷ []) qs) in
-        record {
-          next = q;
-          after = flat_map (packet_bytes cs) qs ++ end_mark (length all);
-          lawful = All-middle cs front q qs (subst (All (IsPacket cs)) whole are.each);
-          alternate = alternates-front (front ++ q ∷ []) qs (subst Alternates grouped are.alternate);
-          parts = left ∙ regroup cs q qs (end_mark (length all));
-        }
+    cases : (others : List Packet) → qs ≡ ps ++ others → rest ≡ flat_map (packet_bytes cs) others ++ left → (qs ≡ ps) × (rest ≡ left)
+    cases [] whole parts = (whole ∙ append-nil ps, parts)
+    cases (q ∷ others) whole parts =
+        let grouped : qs ≡ (ps ++ q ∷ []) ++ others = whole ∙ sym (append_assoc ps (q ∷ []) others) in
+        absurd (all.last q (flat_map (packet_bytes cs) others ++ left) (All-middle cs ps q others (subst (All (IsPacket cs)) whole each)) (alternates-front (ps ++ q ∷ []) others (subst Alternates grouped alternate)) (parts ∙ regroup cs q others left))
 
--- where none begins, none remains, and the end stands
-pub is_over : (cs : List Channel) (front all : List Packet) (rest : List ℕ) → ¬ ((more : List ℕ) × (rest ≡ 1 ∷ more)) → Remains cs front all rest (length all) → (all ≡ front) × (rest ≡ end_mark (length front))
-is_over cs front all rest none r = over r.others r.whole r.left
-  where
-    over : (others : List Packet) → all ≡ front ++ others → rest ≡ flat_map (packet_bytes cs) others ++ end_mark (length all) → (all ≡ front) × (rest ≡ end_mark (length front))
-    over [] whole left = (let same = whole ∙ append-nil front in (same, left ∙ ap (λ (ps : List Packet). end_mark (length ps)) same))
-    over (q ∷ qs) whole left = absurd (none (_, left))
+-- the header and all packets behind it
+pub all-split : (cs : List Channel) (bytes body rest : List ℕ) (ps : List Packet) → IsTable cs → bytes ≡ header_bytes cs ++ body → AreAll cs body ps rest → Splits bytes cs ps rest
+all-split cs bytes body rest ps table whole all = record { table = table; each = all.each; alternate = all.alternate; parts = whole ∙ ap (λ bs. header_bytes cs ++ bs) all.parts }
 
+pub all-longest : (cs : List Channel) (bytes body rest : List ℕ) (ps : List Packet) → IsTable cs → bytes ≡ header_bytes cs ++ body → AreAll cs body ps rest → SplitsLongest bytes cs ps rest
+all-longest cs bytes body rest ps table whole all =
+    let mine = all-split cs bytes body rest ps table whole all in
+    record {
+      splits = mine;
+      most = λ more left other. ⊎_elim
+          (λ (g : GoesOn cs ps more rest left). let same = ap length (none-behind cs body rest left ps more all other.each other.alternate g).0 in omega arith)
+          (λ (g : GoesOn cs more ps left rest). longer more ps g.others g.whole)
+          (two-splits bytes cs ps more rest left mine other);
+    }
+
+-- where the end doesn't stand, no trace is encoded
+pub no-end : (cs : List Channel) (bytes body rest : List ℕ) (ps : List Packet) → IsTable cs → bytes ≡ header_bytes cs ++ body → AreAll cs body ps rest → ((length ps < 2 ^ 32) × (rest ≡ end_mark (length ps)) → ⊥) → (t : Trace) → Encodes t bytes → ⊥
+no-end cs bytes body rest ps table whole all never t code =
+    let mine = all-split cs bytes body rest ps table whole all in
+    let there = encoding-splits t bytes code in
+    let c = same-table bytes t.channels cs t.packets ps (end_mark (length t.packets)) rest there mine in
+    let moved = subst (λ (ds : List Channel). Splits bytes ds t.packets (end_mark (length t.packets))) c there in
+    let same : (t.packets ≡ ps) × (rest ≡ end_mark (length t.packets)) = ⊎_elim
+    (λ (g : GoesOn cs ps t.packets rest (end_mark (length t.packets))). none-behind cs body rest (end_mark (length t.packets)) ps t.packets all moved.each moved.alternate g)
+    (λ (g : GoesOn cs t.packets ps (end_mark (length t.packets)) rest). (let e = ended cs t.packets ps (length t.packets) rest g in (sym e.0, sym e.1)))
+    (two-splits bytes cs ps t.packets rest (end_mark (length t.packets)) mine moved) in
+    never (subst (λ (qs : List Packet). length qs < 2 ^ 32) same.0 code.0.few, same.1 ∙ ap (λ (qs : List Packet). end_mark (length qs)) same.0)
+
+-- the place that is left behind by the rest
+pub place-behind : (cs : List Channel) (bytes body rest : List ℕ) (ps : List Packet) (at : ℕ) → IsTable cs → bytes ≡ header_bytes cs ++ body → AreAll cs body ps rest → at ≡ length bytes - length rest → IsBehindPackets bytes at
+place-behind cs bytes body rest ps at table whole all e = record {
+  channels = cs;
+  packets = ps;
+  rest = rest;
+  longest = all-longest cs bytes body rest ps table whole all;
+  place = omega (arith, e, ap length whole, length-append (header_bytes cs) body, ap length all.parts, length-append (flat_map (packet_bytes cs) ps) rest);
+}
+
+-- where it stands, the trace is read
+pub all-encoded : (cs : List Channel) (bytes body rest : List ℕ) (ps : List Packet) → IsTable cs → bytes ≡ header_bytes cs ++ body → AreAll cs body ps rest → (length ps < 2 ^ 32) × (rest ≡ end_mark (length ps)) → Encodes (record { channels = cs; packets = ps }) bytes
+all-encoded cs bytes body rest ps table whole all (few, end) = (
+  record { table = table; well_formed = record { packets = all.each; alternate = all.alternate }; few = few },
+  ap (λ bs. header_bytes cs ++ (flat_map (packet_bytes cs) ps ++ bs)) (sym end) ∙ ap (λ bs. header_bytes cs ++ bs) (sym all.parts) ∙ sym whole,
+)
+
+-- ---- a loop over packets
 -- one packet more
 pub parts-push : (cs : List Channel) (front new : List Packet) (p : Packet) (bytes rest after : List ℕ) → bytes ≡ flat_map (packet_bytes cs) front ++ rest → rest ≡ packet_bytes cs p ++ after → new ≡ front ++ p ∷ []
     → bytes ≡ flat_map (packet_bytes cs) new ++ after

@@ -1,5 +1,5 @@
 -- Reading the packets of a trace, in the manner of `Reading`.
-use Rattle.std.specs.Prelude.{ℕ, ◌+◌, ◌*◌, ◌<◌, ◌^◌, ◌==◌, ◌&&◌, List, [], ◌∷◌, ◌++◌, length, take, drop, Option, Some, None, nat_lt, if◌then◌else◌, All}
+use Rattle.std.specs.Prelude.{◌≡◌, ◌≢◌, ℕ, ◌+◌, ◌*◌, ◌<◌, ◌^◌, ◌==◌, ◌&&◌, List, [], ◌∷◌, ◌++◌, length, take, drop, Option, Some, None, nat_lt, if◌then◌else◌, All}
 use Rattle.std.specs.List.{flat_map, fold}
 use Rattle.trace_model.specs.declared.channel.Channel.{Channel}
 use Rattle.trace_model.specs.declared.packet.Packet.{Packet}
@@ -7,7 +7,7 @@ use Rattle.trace_model.specs.Channel.{byte_count}
 use Rattle.trace_model.specs.Packet.{IsPacket, widths_under}
 use Rattle.trace_model.specs.Trace.{Alternates}
 use Rattle.trace_model.specs.Length.{mask_len}
-use Rattle.trace_code.specs.Encoding.{packet_bytes, end_mark}
+use Rattle.trace_code.specs.Encoding.{packet_bytes}
 use Rattle.trace_code.specs.Reading.{◌>>=◌}
 
 -- the number in bytes, the lowest first
@@ -63,12 +63,9 @@ packet_at channels bytes = do
   contents ← numbers_at (widths_under masks.0 channels) masks.2
   Some (record { starts = masks.0; ends = masks.1; contents = contents.0 }, contents.1)
 
--- packets that a well-formed trace with these channels has
-pub record ArePackets (channels : List Channel) (packets : List Packet) : Type 0 where
+-- the bytes are these packets, each lawful after those before it, and a rest that begins with none that is lawful after them
+pub record AreAll (channels : List Channel) (bytes : List ℕ) (packets : List Packet) (rest : List ℕ) : Type 0 where
   pub each : All (IsPacket channels) packets
   pub alternate : Alternates packets
-  pub few : length packets < 2 ^ 32
-
--- the bytes after the header of a trace with these packets
-abbrev pub body_bytes : List Channel → List Packet → List ℕ
-body_bytes channels packets = flat_map (packet_bytes channels) packets ++ end_mark (length packets)
+  pub parts : bytes ≡ flat_map (packet_bytes channels) packets ++ rest
+  pub last : (p : Packet) (after : List ℕ) → IsPacket channels p → Alternates (packets ++ p ∷ []) → rest ≢ packet_bytes channels p ++ after

@@ -7,14 +7,15 @@ use vidi_bits::Memory;
 /// Why bytes give no trace.
 #[derive(Clone, Copy, Debug, PartialEq, Eq, Error)]
 pub enum CodeError {
-    /// The bytes are no encoding of a well-formed trace; `at` is the place of the fault in bytes, for now 0.
+    /// The bytes are no encoding of a well-formed trace; `at` is the length in bytes of the header and
+    /// of the whole lawful packets before the fault, 0 where the header is at fault.
     #[error("bad trace at {at}")]
     BadTrace { at: u64 },
     #[error("out of memory")]
     Memory,
 }
 
-/// The bytes are no trace.
+/// No such part of a trace stands at the front of these bytes.
 pub(crate) const FAULT: CodeError = CodeError::BadTrace { at: 0 };
 
 impl From<Memory> for CodeError {

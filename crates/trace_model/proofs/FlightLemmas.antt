@@ -53,8 +53,13 @@ pub record Follows (flying : ℕ) (p : Packet) : Type 0 where
   pub starts : (c : ℕ) → bit_at flying c + bit_at p.starts c ≤ 1
   pub ends : (c : ℕ) → bit_at p.ends c ≤ bit_at flying c + bit_at p.starts c
 
-pub alternates-push : (ps : List Packet) (new : Packet) (flying : ℕ) → Alternates ps → InFlight ps flying → Follows flying new → Alternates (ps ++ new ∷ [])
-alternates-push ps new flying a before follows = record {
+-- the same of any count of what is in flight
+pub record FollowsBy (flying : ℕ → ℕ) (p : Packet) : Type 0 where
+  pub starts : (c : ℕ) → flying c + bit_at p.starts c ≤ 1
+  pub ends : (c : ℕ) → bit_at p.ends c ≤ flying c + bit_at p.starts c
+
+pub alternates-push_by : (ps : List Packet) (new : Packet) (flying : ℕ → ℕ) → Alternates ps → ((c : ℕ) → count Start c ps ≡ count End c ps + flying c) → FollowsBy flying new → Alternates (ps ++ new ∷ [])
+alternates-push_by ps new flying a before follows = record {
   starts = λ p c packet at h. ⊎_elim
       (λ (w : (p < length ps) × (slice_get ps p ≡ Some packet)). rw (take-append-le p ps (new ∷ []) (omega (arith, w.0))) (a.starts p c packet w.1 h))
       (λ (w : (p ≡ length ps) × (new ≡ packet)).
@@ -73,6 +78,9 @@ alternates-push ps new flying a before follows = record {
       rw (w.0, take-append-le (length ps) ps (new ∷ []) (omega arith), take_all (length ps) ps (omega arith), take_all (suc (length ps)) (ps ++ new ∷ []) (omega (arith, length_push ps new))) (omega arith))
       (slice_get-push ps new packet p at);
 }
+
+pub alternates-push : (ps : List Packet) (new : Packet) (flying : ℕ) → Alternates ps → InFlight ps flying → Follows flying new → Alternates (ps ++ new ∷ [])
+alternates-push ps new flying a before follows = alternates-push_by ps new (bit_at flying) a before (record { starts = follows.starts; ends = follows.ends })
 
 -- a packet that alternates with what was before follows what is in flight there
 pub follows-from-alternates : (ps : List Packet) (new : Packet) (flying : ℕ) → InFlight ps flying → Alternates (ps ++ new ∷ []) → Follows flying new

@@ -3,3 +3,4 @@ pub mod MaskLemmas
 pub mod FlightLemmas
 pub mod ContentsLemmas
 pub mod RowLemmas
+pub mod RowLaws

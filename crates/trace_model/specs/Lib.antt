@@ -7,3 +7,4 @@ pub mod Length
 pub mod Row
 pub mod Recording
 pub mod Stability
+pub mod Laws

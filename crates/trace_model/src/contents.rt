@@ -1,5 +1,6 @@
 ghost use Rattle.std.specs.Prelude.{◌≡◌, ◌<◌, ◌^◌, ◌++◌, ◌↔◌, ℕ, List, [], IsTrue, IfSome, IfNone, if◌then◌else◌};
 ghost use Rattle.trace_model.specs.Packet.{Fit, widths_under};
+ghost use Rattle.trace_model.specs.Row.{all_widths};
 
 use crate::channel::Channel;
 
@@ -68,6 +69,21 @@ pub(crate) fn contents_fit(channels: &[Channel], starts: u128, contents: &[u128]
         };
         rest = after;
         left >>= 1;
+    }
+    rest.is_empty()
+}
+
+/// Whether the contents are those of all channels: one number for each of their ports, which fits it,
+/// and no other.
+pub(crate) fn all_contents_fit(channels: &[Channel], contents: &[u128]) -> bool
+    ensures { IsTrue result ↔ Fit (all_widths channels.now) contents.now }
+{
+    let mut rest = contents;
+    for channel in channels {
+        let Some(after) = after_content(channel.widths.as_slice(), rest) else {
+            return false;
+        };
+        rest = after;
     }
     rest.is_empty()
 }

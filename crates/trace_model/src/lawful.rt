@@ -1,11 +1,13 @@
 ghost use Rattle.std.specs.Prelude.{◌≡◌, ◌<◌, ◌^◌, ◌↔◌, IsTrue, length, All};
 ghost use Rattle.trace_model.specs.Packet.{IsPacket};
+ghost use Rattle.trace_model.specs.Row.{IsOver};
 ghost use Rattle.trace_model.specs.Trace.{Alternates, IsWellFormed};
 
 use crate::channel::Channels;
-use crate::contents::{contents_fit, fits};
+use crate::contents::{all_contents_fit, contents_fit, fits};
 use crate::flight::in_flight_after;
 use crate::packet::Packet;
+use crate::row::Row;
 use crate::trace::Trace;
 
 /// Whether both masks of a packet name none but the first `channels` channels.
@@ -53,4 +55,18 @@ pub fn well_formed(t: &Trace) -> bool
     ensures { IsTrue result ↔ IsWellFormed t.now }
 {
     are_lawful(t.packets.as_slice(), &t.channels)
+}
+
+/// Whether a row is one over these channels: its masks name channels of the table, and it has one
+/// number for each of their ports, which fits its width.
+pub fn is_over(row: &Row, channels: &Channels) -> bool
+    ensures { IsTrue result ↔ IsOver channels.now row.now }
+{
+    let count = channels.len();
+    fits(row.gates, count)
+        && fits(row.valids, count)
+        && fits(row.readies, count)
+        && fits(row.starts, count)
+        && fits(row.ends, count)
+        && all_contents_fit(channels.as_slice(), row.contents.as_slice())
 }

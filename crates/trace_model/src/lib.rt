@@ -10,6 +10,7 @@ mod contents;
 mod event;
 mod flight;
 mod lawful;
+mod laws;
 mod mask;
 mod packet;
 mod row;
@@ -20,13 +21,11 @@ mod trace;
 pub use channel::{Channel, Channels, Dir};
 pub use event::{Event, Events, Kind};
 pub use flight::in_flight_after;
-pub use lawful::{is_packet, well_formed};
+pub use lawful::{is_over, is_packet, well_formed};
+pub use laws::{row_adds_its_packet, rows_are_well_formed, starts_wait_for_ends};
 pub use mask::names;
 pub use packet::{Packet, Packets};
 pub use row::{Offers, Row, Rows};
 pub use stability::unstable;
 pub use table::same_channels;
 pub use trace::Trace;
-
-#[cfg(test)]
-mod tests;

@@ -1,6 +1,6 @@
 -- Of a shelf that tells its files, with no failed read, two answers that are earned are one.
 use Rattle.std.proofs.Common.{◌≡◌, ℕ, ◌⊎◌, List, [], ◌∷◌, Some, length, inl, inr, refl, sym, ap, subst, ◌∙◌, arith, codes}
-use Rattle.trace_code.specs.Decoding.{OneReading}
+use Rattle.trace_code.specs.Decoding.{OnePlace, OneReading}
 use Rattle.vidi_io.specs.Shelf.{Files}
 use Rattle.vidi.specs.declared.status.Status.{Status}
 use Rattle.vidi.specs.declared.status.Status.TheVariants.{Done, Usage, ReadFault, WriteFault, Refused, Memory}
@@ -26,10 +26,10 @@ one_command words (Dump t) (Check e q) g h = absurd (two_three (codes "dump") t 
 one_command words (Check d p) (Dump u) g h = absurd (two_three (codes "dump") u (codes "check") d p (sym h ∙ g))
 one_command words (Check d p) (Check e q) g h = check_parts (codes "check") d p e q (sym g ∙ h)
 
-one_deed : OneReading → TextLaws → (c : Command) (files : Files) (a b : Status) (x y : List ℕ)
+one_deed : OneReading → OnePlace → TextLaws → (c : Command) (files : Files) (a b : Status) (x y : List ℕ)
     → Does c (Some files) (λ _. ⊥) a x → Does c (Some files) (λ _. ⊥) b y → Same a b x y
-one_deed traces texts (Dump trace) = one_dump traces trace
-one_deed traces texts (Check design top) = one_check texts design
+one_deed traces places texts (Dump trace) = one_dump traces places trace
+one_deed traces places texts (Check design top) = one_check texts design
 
 abbrev NoCommand : List (List ℕ) → Type 0
 NoCommand words = (c : Command) → ¬ IsGiven words c
@@ -46,16 +46,16 @@ split words files WriteFault x e = inr (inr e)
 split words files (Refused word reason) x e = inr (inr e)
 split words files Memory x e = inl refl
 
-joined : OneReading → TextLaws → (words : List (List ℕ)) (files : Files) (a b : Status) (x y : List ℕ) → Split words files a x → Split words files b y
+joined : OneReading → OnePlace → TextLaws → (words : List (List ℕ)) (files : Files) (a b : Status) (x y : List ℕ) → Split words files a x → Split words files b y
     → (a ≡ Memory) ⊎ ((b ≡ Memory) ⊎ Same a b x y)
-joined traces texts words files a b x y (inl memory) _ = inl memory
-joined traces texts words files a b x y (inr _) (inl memory) = inr (inl memory)
-joined traces texts words files a b x y (inr (inl (is, none, text))) (inr (inl (is', none', text'))) = inr (inr (is ∙ sym is', text ∙ sym text'))
-joined traces texts words files a b x y (inr (inl (is, none, text))) (inr (inr (c, given, deed))) = absurd (none c given)
-joined traces texts words files a b x y (inr (inr (c, given, deed))) (inr (inl (is, none, text))) = absurd (none c given)
-joined traces texts words files a b x y (inr (inr (c, given, deed))) (inr (inr (d, given', deed'))) =
+joined traces places texts words files a b x y (inl memory) _ = inl memory
+joined traces places texts words files a b x y (inr _) (inl memory) = inr (inl memory)
+joined traces places texts words files a b x y (inr (inl (is, none, text))) (inr (inl (is', none', text'))) = inr (inr (is ∙ sym is', text ∙ sym text'))
+joined traces places texts words files a b x y (inr (inl (is, none, text))) (inr (inr (c, given, deed))) = absurd (none c given)
+joined traces places texts words files a b x y (inr (inr (c, given, deed))) (inr (inl (is, none, text))) = absurd (none c given)
+joined traces places texts words files a b x y (inr (inr (c, given, deed))) (inr (inr (d, given', deed'))) =
     let same = one_command words d c given' given in
-    inr (inr (one_deed traces texts c files a b x y deed (subst (λ (k : Command). Does k (Some files) (λ _. ⊥) b y) same deed')))
+    inr (inr (one_deed traces places texts c files a b x y deed (subst (λ (k : Command). Does k (Some files) (λ _. ⊥) b y) same deed')))
 
-pub one_answer_lem : OneReading → TextLaws → OneAnswer
-one_answer_lem traces texts words files a b x y e f = joined traces texts words files a b x y (split words files a x e) (split words files b y f)
+pub one_answer_lem : OneReading → OnePlace → TextLaws → OneAnswer
+one_answer_lem traces places texts words files a b x y e f = joined traces places texts words files a b x y (split words files a x e) (split words files b y f)

@@ -3,6 +3,7 @@ use Rattle.std.specs.Prelude.{◌≡◌, ℕ, ◌<◌, ◌≤◌, ◌⊎◌, Lis
 use Rattle.std.specs.FinMap.{get}
 use Rattle.std.specs.Io.KnownBytes.{append_known}
 use Rattle.trace_model.specs.declared.trace.Trace.{Trace}
+use Rattle.trace_code.specs.Decoding.{IsFaultAt}
 use Rattle.trace_code.specs.Encoding.{Encodes}
 use Rattle.vidi_io.specs.Shelf.{Files}
 use Rattle.vidi_io.specs.Sink.{AppendsSome}
@@ -31,7 +32,7 @@ trace_limit = 67108864
 -- the reasons that are no fault of reading, in the order in which they are tried
 abbrev pub RefusesTrace : List ℕ → Option Files → Reason → Type 0
 RefusesTrace trace files (reasons.TooLong limit) = (limit ≡ trace_limit) × Told files trace (λ file. limit < length file)
-RefusesTrace trace files (reasons.BadTrace at) = (at ≡ 0) × Told files trace (λ file. (length file ≤ trace_limit) × ((t : Trace) → ¬ Encodes t file))
+RefusesTrace trace files (reasons.BadTrace at) = Told files trace (λ file. (length file ≤ trace_limit) × IsFaultAt file at × ((t : Trace) → ¬ Encodes t file))
 RefusesTrace trace files _ = ⊥
 
 -- `dump TRACE`: the answer and its text, where ReadFailed says of which names a read has failed

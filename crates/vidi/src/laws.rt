@@ -2,13 +2,14 @@
 
 ghost use Rattle.vidi.specs.Answer.{OneAnswer};
 
-use trace_code::one_reading;
+use trace_code::{one_place, one_reading};
 
 /// Of what a shelf tells, with no failed read, words earn one answer and one text, or want of memory.
 pub fn one_answer()
     ensures { OneAnswer }
 {
     one_reading();
+    one_place();
     vlog_lex::one_reading();
     vlog_lex::read_or_stuck();
     vlog_parse::one_file();

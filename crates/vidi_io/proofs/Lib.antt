@@ -1,4 +1,5 @@
 pub mod Fronts
 pub mod Names
+pub mod Started
 pub mod Sent
 pub mod Whole

@@ -1,5 +1,6 @@
 -- What a look-up by name finds in a list of entries after one of them was set.
-use Rattle.std.proofs.Common.{◌≡◌, ℕ, ◌<◌, ◌≤◌, ◌+◌, Bool, true, false, cond, not, List, [], ◌∷◌, ◌++◌, Option, Some, None, IsSome, MatchBool, Result, Ok, Err, OnOk, OnErr, length, get_or, IfSome, IsSomeAnd, unwrap_or, option_map, slice_get, nat_lt, vec_capacity, refl, sym, ap, subst, ◌∙◌, arith, length-append, lt-ltb}
+use Rattle.std.proofs.Common.{◌≡◌, ◌≢◌, ℕ, ◌<◌, ◌≤◌, ◌+◌, Bool, true, false, cond, not, List, [], ◌∷◌, ◌++◌, Option, Some, None, IsSome, MatchBool, Result, Ok, Err, OnOk, OnErr, length, get_or, IfSome, IsSomeAnd, unwrap_or, option_map, slice_get, nat_lt, vec_capacity, refl, sym, ap, subst, ⊎_elim, ◌∙◌, arith, length-append, lt-ltb}
+use Rattle.std.proofs.lemmas.Bool.{cases_Bool}
 use Rattle.std.proofs.lemmas.Bool.Decides.{nat_tests}
 use Rattle.std.proofs.lemmas.List.Folds.{find_at, find-set, find_past, find-append}
 use Rattle.std.proofs.lemmas.List.Quantifiers.{position-Some}
@@ -36,14 +37,17 @@ pub get-files_of : (es : List Entry) (q : List ℕ) → get (files_of es) q ≡ 
 get-files_of [] q = get-empty (slice_cmp nat_cmp) q
 get-files_of (e ∷ es) q = get-one e (files_of es) q e.there ∙ ap (cond (bytes_eq q e.name) (file_in e)) (get-files_of es q) ∙ sym (told-cond (bytes_eq q e.name) e (entry_of es q))
 
-same_files : (m n : Files) → ((q : List ℕ) → get m q ≡ get n q) → m ≡ n
+pub same_files : (m n : Files) → ((q : List ℕ) → get m q ≡ get n q) → m ≡ n
 same_files m n is = same_map nat_list_cmp_total (slice_cmp-IsAntisymmetric nat_cmp-IsAntisymmetric) m n is
 
 -- the entry of this name became e, and the others stayed
 abbrev pub Puts : List Entry → List Entry → List ℕ → Entry → Type 0
 Puts old new name e = (q : List ℕ) → entry_of new q ≡ cond (bytes_eq q name) (Some e) (entry_of old q)
 
-bytes_eq-self : (xs : List ℕ) → bytes_eq xs xs ≡ true
+bytes_eq-other : (xs ys : List ℕ) → xs ≢ ys → bytes_eq xs ys ≡ false
+bytes_eq-other xs ys other = ⊎_elim (λ (t : bytes_eq xs ys ≡ true). absurd (other ((bytes_eq-Decides xs ys).0 t))) (λ (f : bytes_eq xs ys ≡ false). f) (cases_Bool (bytes_eq xs ys))
+
+pub bytes_eq-self : (xs : List ℕ) → bytes_eq xs xs ≡ true
 bytes_eq-self xs = (bytes_eq-Decides xs xs).1 refl
 
 -- a fact at each name from the fact at the one that was set
@@ -263,6 +267,7 @@ read_failed es name i o e first item same room file there later rose =
       files = files_after es (set es i e) name e (files_of es) puts (λ q. stays_at es es name q e _ refl refl (found_file es name i o first item ∙ sym file));
       rose = rw (before, now) rose;
       later = at_each (λ q x. faults_of es q ≤ unwrap_or (option_map (λ (y : Entry). y.faults) x) 0) es (set es i e) name e puts (rw before later) (λ q. le_refl (faults_of es q));
+      alone = λ q other. ap (λ (x : Option Entry). unwrap_or (option_map (λ (y : Entry). y.faults) x) 0) (puts q ∙ ap (λ t. cond t (Some e) (entry_of es q)) (bytes_eq-other q name other));
       rooms = rooms_after es (set es i e) name e puts (subst (λ (x : Option Entry). IfSome (option_map (λ (y : Entry). vec_capacity y.bytes) x) (λ now. now ≤ vec_capacity e.bytes)) (sym found) (omega (arith, room)));
     }
 

@@ -1,5 +1,5 @@
 -- What a memory shelf holds: a list of entries, of which the first of a name counts.
-use Rattle.std.specs.Prelude.{◌≡◌, ℕ, ◌+◌, ◌<◌, ◌≤◌, if◌then◌else◌, List, [], ◌∷◌, Option, None, Some, IsSome, length, option_map, unwrap_or, IfSome, IsSomeAnd, vec_capacity}
+use Rattle.std.specs.Prelude.{◌≡◌, ◌≢◌, ℕ, ◌+◌, ◌<◌, ◌≤◌, if◌then◌else◌, List, [], ◌∷◌, Option, None, Some, IsSome, length, option_map, unwrap_or, IfSome, IsSomeAnd, vec_capacity}
 use Rattle.std.specs.List.{find}
 use Rattle.std.specs.Str.{bytes_eq}
 use Rattle.std.specs.FinMap.{get, empty, insert, remove}
@@ -48,4 +48,5 @@ pub record ReadFailed (old new : List Entry) (name : List ℕ) : Type 0 where
   pub files : files_of new ≡ files_of old
   pub rose : Rose (faults_of old name) (faults_of new name)
   pub later : (q : List ℕ) → faults_of old q ≤ faults_of new q
+  pub alone : (q : List ℕ) → q ≢ name → faults_of new q ≡ faults_of old q
   pub rooms : RoomsStay old new

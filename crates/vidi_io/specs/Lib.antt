@@ -7,3 +7,5 @@ pub mod Shelf
 pub mod Sink
 pub mod MemShelf
 pub mod MemSink
+pub mod FixedSink
+pub mod ShelfSink

@@ -7,22 +7,23 @@
 
 mod entries;
 mod fails;
+mod fixed_sink;
 mod host;
 mod mem_shelf;
 mod mem_sink;
 mod reading;
 mod shelf;
+mod shelf_sink;
 mod sink;
 mod words;
 
 pub use fails::{Fail, FailCall, Fails};
+pub use fixed_sink::FixedSink;
 pub use host::{HostShelf, HostSink};
 pub use mem_shelf::MemShelf;
 pub use mem_sink::MemSink;
 pub use reading::{ReadError, read_whole};
 pub use shelf::{FetchError, Shelf};
+pub use shelf_sink::ShelfSink;
 pub use sink::{Failed, Sink};
 pub use words::{Text, Words};
-
-#[cfg(test)]
-mod tests;

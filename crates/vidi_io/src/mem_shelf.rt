@@ -1,4 +1,4 @@
-ghost use Rattle.std.specs.Prelude.{◌≡◌, ℕ, ◌≤◌, ◌⊎◌, List, None, Some, Err, IsErr, length, take, IfOk, OnOk, OnErr, OnSome, IfNone, IfSome, IsSomeAnd, IsErrOf, MatchOption};
+ghost use Rattle.std.specs.Prelude.{◌≡◌, ◌≢◌, ℕ, ◌≤◌, ◌⊎◌, List, None, Some, Err, IsErr, length, take, IfOk, OnOk, OnErr, OnSome, IfNone, IfSome, IsSomeAnd, IsErrOf, MatchOption};
 ghost use Rattle.std.specs.Option.{option_copied};
 ghost use Rattle.std.specs.FinMap.{get, empty, insert};
 ghost use Rattle.vidi_io.specs.Cause.{Rose};
@@ -128,6 +128,8 @@ impl Shelf for MemShelf {
         ensures failed { IsErrOf result FetchError.Failed → Rose (faults_of (entries self.old) name.now) (faults_of (entries self.new) name.now) }
         ensures files { Some (files_of (entries self.new)) ≡ Some (files_of (entries self.old)) }
         ensures counts { Later (faults_of (entries self.old)) (faults_of (entries self.new)) (failed_writes self.old) (failed_writes self.new) }
+        ensures sound { IfOk result (λ _. SameCounts (faults_of (entries self.old)) (faults_of (entries self.new)) (failed_writes self.old) (failed_writes self.new)) }
+        ensures alone { IsErrOf result FetchError.Failed → ((q : List ℕ) → q ≢ name.now → faults_of (entries self.new) q ≡ faults_of (entries self.old) q) × (failed_writes self.new ≡ failed_writes self.old) }
         ensures answer { FetchAnswer (get (files_of (entries self.old)) name.now) (next_listed (planned self.old) FailCall.Fetch) result }
         ensures plan { planned self.new ≡ counted (planned self.old) FailCall.Fetch }
         ensures rooms { RoomsStay (entries self.old) (entries self.new) }
@@ -146,6 +148,8 @@ impl Shelf for MemShelf {
         ensures err { OnErr result ((Some (files_of (entries self.new)) ≡ Some (files_of (entries self.old))) ⊎ (Some (files_of (entries self.new)) ≡ emptied (Some (files_of (entries self.old))) name.now)) }
         ensures failed { OnErr result (Rose (failed_writes self.old) (failed_writes self.new)) }
         ensures counts { Later (faults_of (entries self.old)) (faults_of (entries self.new)) (failed_writes self.old) (failed_writes self.new) }
+        ensures sound { OnOk result (SameCounts (faults_of (entries self.old)) (faults_of (entries self.new)) (failed_writes self.old) (failed_writes self.new)) }
+        ensures reads { OnErr result ((q : List ℕ) → faults_of (entries self.new) q ≡ faults_of (entries self.old) q) }
         ensures left { OnErr result (Became (entries self.old) (entries self.new) (files_of (entries self.old))) }
         ensures listed { OnSome (next_listed (planned self.old) FailCall.Start) (IsErr result) }
         ensures unlisted { IfNone (next_listed (planned self.old) FailCall.Start) (OnErr result (room_of (entries self.old) name.now ≡ None)) }
@@ -166,6 +170,8 @@ impl Shelf for MemShelf {
         ensures err { OnErr result (GrewBySome (Some (files_of (entries self.old))) (Some (files_of (entries self.new))) name.now piece.now) }
         ensures failed { OnErr result (Rose (failed_writes self.old) (failed_writes self.new)) }
         ensures counts { Later (faults_of (entries self.old)) (faults_of (entries self.new)) (failed_writes self.old) (failed_writes self.new) }
+        ensures sound { OnOk result (SameCounts (faults_of (entries self.old)) (faults_of (entries self.new)) (failed_writes self.old) (failed_writes self.new)) }
+        ensures reads { OnErr result ((q : List ℕ) → faults_of (entries self.new) q ≡ faults_of (entries self.old) q) }
         ensures listed { IfSome (next_listed (planned self.old) FailCall.Append) (λ fail. IsErr result × KeptFront (entries self.old) (entries self.new) name.now (take fail.kept piece.now)) }
         ensures unlisted { IfNone (next_listed (planned self.old) FailCall.Append) (OnErr result (Became (entries self.old) (entries self.new) (files_of (entries self.old)) × LacksRoom (entries self.old) name.now (length piece.now))) }
         ensures plan { planned self.new ≡ counted (planned self.old) FailCall.Append }

@@ -87,6 +87,7 @@ impl Sink for MemSink {
         ensures ok { OnOk result (Some (written self.new) ≡ append_known (Some (written self.old)) piece.now) }
         ensures err { OnErr result (AppendsSome (Some (written self.old)) (Some (written self.new)) piece.now) }
         ensures cause { HasCause (failed_pushes self.old) (failed_pushes self.new) result }
+        ensures sound { OnOk result (failed_pushes self.new ≡ failed_pushes self.old) }
         ensures left { OnErr result (written self.new ≡ written self.old) }
         ensures listed { MatchBool (push_listed (listed self.old) (pushes_made self.old)) (IsErr result) (OnErr result (capacity self.old < length (written self.old) + length piece.now)) }
         ensures pushes { pushes_made self.new ≡ one_more (pushes_made self.old) }

@@ -5,13 +5,13 @@ use Rattle.trace_model.specs.Trace.{Alternates, InFlight}
 use Rattle.trace_code.specs.Encoding.{packet_bytes}
 use Rattle.trace_code.proofs.decoding.read_packets.Given as goal
 
-abbrev pub invariant-loop-alloc : goal.invariant-loop-alloc
-invariant-loop-alloc l = record {
+abbrev pub invariant-loop-packets : goal.invariant-loop-packets
+invariant-loop-packets l = record {
   each : All (IsPacket l.channels) l.packets;
   alternate : Alternates l.packets;
   flying : InFlight l.packets l.flying;
   parts : l.bytes ≡ flat_map (packet_bytes l.channels) l.packets ++ l.rest;
 }
 
-abbrev pub decreases-loop-alloc : goal.decreases-loop-alloc
-decreases-loop-alloc l = length l.rest
+abbrev pub decreases-loop-packets : goal.decreases-loop-packets
+decreases-loop-packets l = length l.rest

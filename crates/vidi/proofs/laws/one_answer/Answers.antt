@@ -5,4 +5,4 @@ use Rattle.vidi.proofs.laws.one_answer.Goals as goal
 pub returns : goal.returns
 returns c =
     let texts : TextLaws = record { reading = c.one_reading-2.ensures; stuck = c.read_or_stuck.ensures; file = c.one_file.ensures; depth = c.one_depth.ensures } in
-    one_answer_lem c.one_reading.ensures texts
+    one_answer_lem c.one_reading.ensures c.one_place.ensures texts

@@ -1,0 +1,8 @@
+//! Tests of `trace_model` and `trace_code`, which stand apart so that these crates are proved without
+//! them.
+#![tactic(auto)]
+
+#[cfg(test)]
+mod bytes_tests;
+#[cfg(test)]
+mod model_tests;

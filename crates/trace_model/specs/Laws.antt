@@ -1,0 +1,34 @@
+-- What follows from the definitions of rows and traces.
+use Rattle.std.specs.Prelude.{◌≡◌, ℕ, suc, ◌<◌, ◌≤◌, true, List, [], ◌∷◌, ◌++◌, Some, slice_get, if◌then◌else◌}
+use Rattle.trace_model.specs.declared.channel.Channel.{Channel}
+use Rattle.trace_model.specs.declared.event.Kind.TheVariants.{Start, End}
+use Rattle.trace_model.specs.declared.row.Row.{Row}
+use Rattle.trace_model.specs.Counting.{IsNth}
+use Rattle.trace_model.specs.Recording.{has_event, packet_of, packets_of, row_does, trace_of}
+use Rattle.trace_model.specs.Row.{AreRows, is_in_flight, row_before, sink_valid}
+use Rattle.trace_model.specs.Trace.{IsWellFormed}
+
+-- a row more adds its packet, where it has an event
+abbrev pub RowAddsItsPacket : Type 0
+RowAddsItsPacket = (channels : List Channel) (rows : List Row) (row : Row)
+    → packets_of channels (rows ++ row ∷ []) ≡ packets_of channels rows ++ (if has_event row then packet_of channels row ∷ [] else [])
+
+-- what is in flight after a row is still shown to the sink in the next one: no valid is taken back before its transfer
+abbrev pub KeepsInFlight : List Row → Type 0
+KeepsInFlight rows = (t : ℕ) (before row : Row) → row_before rows t ≡ Some before → slice_get rows t ≡ Some row → (c : ℕ) → is_in_flight before c ≡ true → sink_valid row c ≡ true
+
+-- such rows have a well-formed trace
+abbrev pub RowsAreWellFormed : Type 0
+RowsAreWellFormed = (channels : List Channel) (rows : List Row) → AreRows channels rows → KeepsInFlight rows → IsWellFormed (trace_of channels rows)
+
+-- the j-th transaction completes between the j-th start and the one after it
+pub record CompletesBetween (rows : List Row) (c j t u : ℕ) : Type 0 where
+  pub s : ℕ
+  pub row : Row
+  pub ends : IsNth (row_does End c) rows j s row
+  pub after : t ≤ s
+  pub before : s < u
+
+abbrev pub StartsWaitForEnds : Type 0
+StartsWaitForEnds = (channels : List Channel) (rows : List Row) → AreRows channels rows → KeepsInFlight rows → (c j t u : ℕ) (first second : Row)
+    → IsNth (row_does Start c) rows j t first → IsNth (row_does Start c) rows (suc j) u second → CompletesBetween rows c j t u
