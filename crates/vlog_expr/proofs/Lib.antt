@@ -1,5 +1,6 @@
 pub mod Climb
 pub mod Found
+pub mod LawfulFront
 pub mod Maps
 pub mod Natural
 pub mod Spelled

@@ -1,7 +1,8 @@
 //! Names and numbers that are lawful tokens.
 
-ghost use Rattle.std.specs.Prelude.{◌≡◌, ◌↔◌, IsTrue};
+ghost use Rattle.std.specs.Prelude.{◌≡◌, ◌≤◌, ◌↔◌, IsTrue, length, take, drop};
 ghost use Rattle.vlog_expr.specs.Marks.{IsLawfulText, all_marked, AreLawful};
+ghost use Rattle.vlog_expr.specs.Lawful.{IsUnlawful};
 
 use vlog_lex::{Token, TokenKind, is_token};
 
@@ -27,4 +28,20 @@ pub fn are_lawful(tokens: &[Token]) -> bool
         }
     }
     true
+}
+
+/// The number of tokens before the first name or number that isn't a lawful one.
+pub fn lawful_len(tokens: &[Token]) -> usize
+    ensures range { result ≤ length tokens.now }
+    ensures lawful { AreLawful (all_marked (take result tokens.now)) }
+    ensures unlawful { IsUnlawful (all_marked (drop result tokens.now)) }
+{
+    let mut len = 0;
+    for token in tokens {
+        if !is_lawful(token) {
+            return len;
+        }
+        len += 1;
+    }
+    len
 }

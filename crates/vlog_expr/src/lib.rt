@@ -16,7 +16,7 @@ mod unread;
 
 pub use expr::{expr_of, ref_of};
 pub use front::{Parsed, after, expect, name_of};
-pub use lawful::are_lawful;
+pub use lawful::{are_lawful, lawful_len};
 pub use laws::{lines_dont_count, one_expr, read_is_spelled, spelled_is_read};
 pub use parser::{fuel_for, parse_expression};
 pub use target::target_of;

@@ -5,3 +5,4 @@ pub mod Lookup
 pub mod Gaps
 pub mod Apart
 pub mod Readings
+pub mod Sample

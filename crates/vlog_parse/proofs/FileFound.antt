@@ -135,7 +135,7 @@ module _ (A : Type 0) where
   first_found : (n : ℕ) (ws : Toks A) → AreLawful ws → Sure (first_port_at n ws) (At IsDirected port_words ws)
   first_found n ws h = next (port_found n ws h) (λ p g. directed_found ws p p.0.head refl g)
 
-  abbrev ArePorts : List (PortOf A) → Type 0
+  abbrev pub ArePorts : List (PortOf A) → Type 0
   ArePorts ps = IsFirstDirected ps × AllByRecursion IsGoodPort ps
 
   led_ports : (ps : List (PortOf A)) → AreLed IsDirected IsGoodPort ps → ArePorts ps
@@ -172,7 +172,7 @@ module _ (A : Type 0) where
       next (after_found A t.Equals x.1 gx.1.lawful) (λ o fo.
       next (expr_found A n o.1 fo.lawful) (λ e ge. sure _ ((gx.0, ge.0), gx.1 ▹ fo ▹ ge.1))))
 
-  abbrev AtItem : Toks A → ItemOf A × Toks A → Type 0
+  abbrev pub AtItem : Toks A → ItemOf A × Toks A → Type 0
   AtItem w x = IsGoodItem x.0 × From A w (item_words x.0) x.1
 
   module _ (n : ℕ) (w mid : Toks A) (range : Option (RangeOf A)) (g : IsGoodOption IsGoodRange range) (f : From A w (Fixed t.Wire ∷ optional range_words range) mid) where
@@ -219,7 +219,7 @@ module _ (A : Type 0) where
       next (event_found ws f.lawful) (λ v gv.
       next (body_found A n v.1 gv.1.lawful) (λ b gb. sure _ ((gv.0, gb.0), f ▹ gv.1 ▹ gb.2)))
 
-  item_found : (n : ℕ) (ws : Toks A) → AreLawful ws → Sure (item_at n ws) (AtItem ws)
+  pub item_found : (n : ℕ) (ws : Toks A) → AreLawful ws → Sure (item_at n ws) (AtItem ws)
   item_found n ws h =
       either (after_found A t.Wire ws h)
       (either (after_found A t.Reg ws h)
@@ -242,11 +242,11 @@ module _ (A : Type 0) where
       (λ o f. sure _ (g.0, g.1 ▹ f))
 
   -- a header, whose words end in ")" and ";"
-  abbrev AtHeader : Toks A → (List ℕ × List (PortOf A)) × Toks A → Type 0
+  abbrev pub AtHeader : Toks A → (List ℕ × List (PortOf A)) × Toks A → Type 0
   AtHeader w x = IsGoodName x.0.0 × ArePorts x.0.1
       × From A w (Fixed t.Module ∷ NameWord x.0.0 ∷ Fixed t.ParenOpen ∷ ((with_commas port_words x.0.1 ++ Fixed t.ParenClose ∷ []) ++ Fixed t.Semicolon ∷ [])) x.1
 
-  header_found : (n : ℕ) (ws : Toks A) → AreLawful ws → Sure (header_at n ws) (AtHeader ws)
+  pub header_found : (n : ℕ) (ws : Toks A) → AreLawful ws → Sure (header_at n ws) (AtHeader ws)
   header_found n ws h =
       next (after_found A t.Module ws h) (λ m fm.
       next (name_found m.1 fm.lawful) (λ id gi.

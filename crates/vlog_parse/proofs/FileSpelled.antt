@@ -15,6 +15,7 @@ use Rattle.vlog_parse.specs.FileReader.{range_at, range_front, init_front, direc
 use Rattle.vlog_expr.specs.Reader.{more_at, some_at}
 use Rattle.vlog_expr.specs.Laws.{Ends}
 use Rattle.vlog_parse.specs.FileLaws.{FilesAreRead}
+use Rattle.vlog_parse.specs.Units.{ItemUnit, IsWhole}
 use Rattle.vlog_expr.proofs.Spelled.{U, spell_append, ends_bracket, ends_colon, ends_comma, ends_paren, expr_read}
 use Rattle.vlog_expr.proofs.TargetSpelled.{target_read}
 use Rattle.vlog_parse.proofs.StmtSpelled.{ends_semicolon, body_read}
@@ -286,7 +287,7 @@ item_always : (v : EventOf U) (b : BodyOf U) (n : ℕ) (r : Toks U) → IsGoodBo
     → item_at n (spell (item_words (always_with v b)) r) ≡ Some (always_with v b, r)
 item_always (PosedgeEvent id) b n r g e h = ap (λ (o : Read U (BodyOf U)). o >>= λ b. Some (always_with (PosedgeEvent id) b.0, b.1)) (body_read b r n g (λ o. e) (omega arith))
 
-pub item_read : (i : ItemOf U) (n : ℕ) (r : Toks U) → IsGoodItem i → after t.Else r ≡ None → fuel_for (length (item_words i)) ≤ n → item_at n (spell (item_words i) r) ≡ Some (i, r)
+pub item_read : (i : ItemOf U) (n : ℕ) (r : Toks U) → IsGoodItem i → IsWhole (ItemUnit i) r → fuel_for (length (item_words i)) ≤ n → item_at n (spell (item_words i) r) ≡ Some (i, r)
 item_read (WiresItem range []) n r g e h = absurd g.1
 item_read (WiresItem range (id ∷ ids)) n r g e h = item_wires range id ids n r g h
 item_read (DrivenWiresItem range []) n r g e h = absurd g.1
@@ -305,19 +306,26 @@ no_else (RegsItem range xs) r = refl
 no_else (AssignItem xs) r = refl
 no_else (AlwaysItem a) r = refl
 
-no_endmodule : (i : ItemOf U) (r : Toks U) → after t.Endmodule (spell (item_words i) r) ≡ None
+pub no_endmodule : (i : ItemOf U) (r : Toks U) → after t.Endmodule (spell (item_words i) r) ≡ None
 no_endmodule (WiresItem range ids) r = refl
 no_endmodule (DrivenWiresItem range ws) r = refl
 no_endmodule (RegsItem range xs) r = refl
 no_endmodule (AssignItem xs) r = refl
 no_endmodule (AlwaysItem a) r = refl
 
-some_item : (i : ItemOf U) → 0 < length (item_words i)
+pub some_item : (i : ItemOf U) → 0 < length (item_words i)
 some_item (WiresItem range ids) = omega arith
 some_item (DrivenWiresItem range ws) = omega arith
 some_item (RegsItem range xs) = omega arith
 some_item (AssignItem xs) = omega arith
 some_item (AlwaysItem a) = omega arith
+
+whole_before : (i : ItemOf U) (r : Toks U) → after t.Else r ≡ None → IsWhole (ItemUnit i) r
+whole_before (WiresItem range ids) r h = tt
+whole_before (DrivenWiresItem range ws) r h = tt
+whole_before (RegsItem range xs) r h = tt
+whole_before (AssignItem xs) r h = tt
+whole_before (AlwaysItem a) r h = h
 
 abbrev last : Toks U → Toks U
 last r = spelled (Fixed t.Endmodule) ∷ r
@@ -337,7 +345,7 @@ items_read (x ∷ xs) n (suc left) front r g h k =
     let rest = spell (in_row item_words xs) (last r) in
     ap (λ (ws : Toks U). items_at n (suc left) front ws) (spell_append (item_words x) (in_row item_words xs) (last r))
     ∙ ap (λ (o : Option (U × Toks U)). found_or o (item_at n (spell (item_words x) rest) >>= λ i. items_at n left (front ++ i.0 ∷ []) i.1) (λ o. Some (front, o.1))) (no_endmodule x rest)
-    ∙ ap (λ (o : Read U (ItemOf U)). o >>= λ i. items_at n left (front ++ i.0 ∷ []) i.1) (item_read x n rest g.0 (no_else_in xs r) (omega arith))
+    ∙ ap (λ (o : Read U (ItemOf U)). o >>= λ i. items_at n left (front ++ i.0 ∷ []) i.1) (item_read x n rest g.0 (whole_before x rest (no_else_in xs r)) (omega arith))
     ∙ items_read xs n left (front ++ x ∷ []) r g.1 (omega arith) (omega arith)
     ∙ ap (λ (ys : List (ItemOf U)). Some (ys, r)) (append_assoc front (x ∷ []) xs)
 

@@ -71,7 +71,7 @@ module _ (X : Type 0) (Good : X → Type 0) (words : X → List Word) (each : (x
   after_commas_lawful [] g = tt
   after_commas_lawful (x ∷ xs) g = (tt, lawful_append (words x) (after_commas words xs) (each x g.0) (after_commas_lawful xs g.1))
 
-  all_commas_lawful : (xs : List X) → AllByRecursion Good xs → AreLawfulWords (with_commas words xs)
+  pub all_commas_lawful : (xs : List X) → AllByRecursion Good xs → AreLawfulWords (with_commas words xs)
   all_commas_lawful [] g = tt
   all_commas_lawful (x ∷ xs) g = lawful_append (words x) (after_commas words xs) (each x g.0) (after_commas_lawful xs g.1)
 
@@ -110,7 +110,7 @@ head_lawful h g = lawful_append (direction_words h.direction) (optional range_wo
 init_lawful : (e : ExprOf U) → IsGoodExpr e → AreLawfulWords (init_words e)
 init_lawful e g = (tt, expr_lawful e g)
 
-port_lawful : (p : PortOf U) → IsGoodPort p → AreLawfulWords (port_words p)
+pub port_lawful : (p : PortOf U) → IsGoodPort p → AreLawfulWords (port_words p)
 port_lawful p g = lawful_append (optional head_words p.head) (ident_words p.id ++ optional init_words p.init)
     (optional_lawful (PortHeadOf U) IsGoodHead head_words head_lawful p.head g.0)
     (g.1, optional_lawful (ExprOf U) IsGoodExpr init_words init_lawful p.init g.2)
@@ -140,7 +140,7 @@ listed_lawful words h = lawful_append words (Fixed t.Semicolon ∷ []) h (tt, tt
 ranged_lawful : (o : Option (RangeOf U)) (words : List Word) → IsGoodOption IsGoodRange o → AreLawfulWords words → AreLawfulWords (optional range_words o ++ (words ++ Fixed t.Semicolon ∷ []))
 ranged_lawful o words g h = lawful_append (optional range_words o) (words ++ Fixed t.Semicolon ∷ []) (ranges_lawful o g) (listed_lawful words h)
 
-item_lawful : (x : ItemOf U) → IsGoodItem x → AreLawfulWords (item_words x)
+pub item_lawful : (x : ItemOf U) → IsGoodItem x → AreLawfulWords (item_words x)
 item_lawful (WiresItem o ids) g = (tt, ranged_lawful o (with_commas ident_words ids) g.0 (commas_lawful (IdentOf U) IsGoodIdent ident_words ident_lawful ids g.1))
 item_lawful (DrivenWiresItem o xs) g = (tt, ranged_lawful o (with_commas wire_words xs) g.0 (commas_lawful (DrivenWireOf U) IsGoodWire wire_words wire_lawful xs g.1))
 item_lawful (RegsItem o xs) g = (tt, ranged_lawful o (with_commas reg_words xs) g.0 (commas_lawful (Reg1Of U) IsGoodReg reg_words reg_lawful xs g.1))

@@ -4,9 +4,10 @@ pub mod FileFound
 pub mod FileNatural
 pub mod FileSpelled
 pub mod FileWhole
+pub mod Longest
 pub mod Maps
 pub mod StmtFound
 pub mod StmtNatural
 pub mod StmtSpelled
 pub mod Turns
-pub mod Units
+pub mod UnitWords

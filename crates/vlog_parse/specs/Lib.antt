@@ -4,4 +4,5 @@ pub mod FileLaws
 pub mod FileReader
 pub mod Parsing
 pub mod StmtReader
+pub mod UnitReader
 pub mod Units

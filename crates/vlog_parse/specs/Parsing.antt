@@ -9,6 +9,7 @@ use Rattle.vlog_parse.specs.declared.error.ParseError.TheVariants.{Deep, Item, M
 use Rattle.vlog_expr.specs.Marks.{all_marked}
 use Rattle.vlog_expr.specs.Bare.{without_lines}
 use Rattle.vlog_parse.specs.Depth.{IsDeep, IsShallow}
+use Rattle.vlog_parse.specs.Units.{IsItemLine}
 
 -- a file of good shape that these tokens spell; lines don't count
 abbrev pub IsFileOf : List Token → FileOf (Unit {0}) → Type 0
@@ -17,7 +18,7 @@ IsFileOf tokens f = IsGood f × (toks f ≡ without_lines tokens)
 -- a limit is passed, first at a token of this line; else no file of good shape has these tokens; want of memory is free
 abbrev pub Refuses : List Token → ParseError → Type 0
 Refuses tokens (Deep line) = IsDeep (all_marked tokens) line
-Refuses tokens (Item line) = (line ≡ 0) × IsShallow (all_marked tokens) × ((f : FileOf (Unit {0})) → ¬ IsFileOf tokens f)
+Refuses tokens (Item line) = IsItemLine (all_marked tokens) line × IsShallow (all_marked tokens) × ((f : FileOf (Unit {0})) → ¬ IsFileOf tokens f)
 Refuses tokens Memory = Unit {0}
 
 -- no two files of good shape have the same tokens

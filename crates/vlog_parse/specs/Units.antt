@@ -1,5 +1,5 @@
 -- The whole units of a design text: a module's header up to its `;`, an item, and `endmodule`.
-use Rattle.std.specs.Prelude.{◌≡◌, ◌≤◌, ℕ, List, [], ◌∷◌, ◌++◌, None, length, map}
+use Rattle.std.specs.Prelude.{◌≡◌, ◌≤◌, ◌-◌, ℕ, List, [], ◌∷◌, ◌++◌, None, length, drop, map}
 use Rattle.std.specs.List.{flat_map}
 use Rattle.vlog_tree.specs.declared.terminal.Terminal.TheVariants as t
 use Rattle.vlog_tree.specs.Words.{Word, NameWord, Fixed}
@@ -7,6 +7,7 @@ use Rattle.vlog_tree.specs.Tree.{PortOf, ItemOf, AlwaysItem, ModuleOf, FileOf}
 use Rattle.vlog_tree.specs.Spelling.{with_commas, in_row, port_words, item_words, file_words}
 use Rattle.vlog_tree.specs.Shape.{IsGood}
 use Rattle.vlog_expr.specs.Marks.{Toks, spell, after}
+use Rattle.vlog_expr.specs.Bare.{forget_all}
 
 pub data UnitOf (A : Type 0) : Type 0 where
   Header : List ℕ → List (PortOf A) → UnitOf A
@@ -46,6 +47,30 @@ pub record BeginWith (units : List (UnitOf (Unit {0}))) (ws rest : Toks (Unit {0
 pub record AreLongest (units : List (UnitOf (Unit {0}))) (ws rest : Toks (Unit {0})) : Type 0 where
   pub begins : BeginWith units ws rest
   pub longest : (us : List (UnitOf (Unit {0}))) (r : Toks (Unit {0})) → BeginWith us ws r → length us ≤ length units
+
+-- the line of the first of these tokens, or else the other
+abbrev pub line_or : ℕ → Toks ℕ → ℕ
+line_or other [] = other
+line_or other (token ∷ rest) = token.line
+
+-- the line of the last token, 1 if there is none
+abbrev pub last_line : Toks ℕ → ℕ
+last_line all = line_or 1 (drop (length all - 1) all)
+
+-- the line of the first of these tokens, or else of the last of all
+abbrev pub first_line : Toks ℕ → Toks ℕ → ℕ
+first_line all rest = line_or (last_line all) rest
+
+-- the line of the first token behind the longest list of whole units, or where no token follows the last token's line, 1 if there is none
+pub record IsItemLine (ws : Toks ℕ) (line : ℕ) : Type 0 where
+  pub units : List (UnitOf (Unit {0}))
+  pub rest : Toks (Unit {0})
+  pub longest : AreLongest units (forget_all ws) rest
+  pub its_line : line ≡ first_line ws (drop (length ws - length rest) ws)
+
+-- a list of tokens has one such line
+abbrev pub OneItemLine : Type 0
+OneItemLine = (ws : Toks ℕ) (a b : ℕ) → IsItemLine ws a → IsItemLine ws b → a ≡ b
 
 -- the units of a file, one after the other, are its words
 abbrev pub UnitsAreSpelled : Type 0

@@ -5,7 +5,7 @@ ghost use Rattle.vlog_parse.specs.FileLaws.{BodiesAreRead, FilesAreRead, ReadBod
 ghost use Rattle.vlog_parse.specs.FileLaws.{BodyLinesDontCount, FileLinesDontCount};
 ghost use Rattle.vlog_parse.specs.Parsing.{OneFile};
 ghost use Rattle.vlog_parse.specs.Depth.{OneDepth};
-ghost use Rattle.vlog_parse.specs.Units.{UnitsAreSpelled};
+ghost use Rattle.vlog_parse.specs.Units.{UnitsAreSpelled, OneItemLine};
 
 /// What is spelled is read.
 pub fn spelled_is_read()
@@ -33,6 +33,11 @@ pub fn one_file()
 /// A limit is first passed on one line, or nowhere.
 pub fn one_depth()
     ensures { OneDepth ℕ }
+{}
+
+/// A text that is no file is refused for one line.
+pub fn one_item_line()
+    ensures { OneItemLine }
 {}
 
 /// The units of a file are its tokens.

@@ -14,9 +14,11 @@ mod listed;
 mod module;
 mod parser;
 mod stmt;
+mod units;
 
 pub use error::ParseError;
 pub use laws::{
-    lines_dont_count, one_depth, one_file, read_is_spelled, spelled_is_read, units_are_spelled,
+    lines_dont_count, one_depth, one_file, one_item_line, read_is_spelled, spelled_is_read,
+    units_are_spelled,
 };
 pub use parser::parse;

@@ -137,7 +137,7 @@ fn items_of(alloc: Global, tokens: &[Token], fuel: usize) -> Parsed<'_, Items<It
 }
 
 /// The header of a module: its name and its ports.
-fn header_of(alloc: Global, tokens: &[Token], fuel: usize) -> Parsed<'_, (Name, Ports)>
+pub fn header_of(alloc: Global, tokens: &[Token], fuel: usize) -> Parsed<'_, (Name, Ports)>
     ensures { Gives (λ x. ((x.0.0, map plain_port x.0.1), all_marked x.1.now)) result (header_at fuel (all_marked tokens.now)) }
 {
     let (_, rest) = expect(Terminal::Module, tokens)?;

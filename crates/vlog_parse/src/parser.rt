@@ -15,7 +15,9 @@ ghost use Rattle.vlog_expr.specs.Given.{Gives};
 use crate::depth::deep_line;
 use crate::error::ParseError;
 use crate::module::file_of;
+use crate::units::item_line;
 use std::alloc::Global;
+use vidi_bits::Memory;
 use vlog_expr::{Unread, are_lawful, fuel_for};
 use vlog_lex::{Token, Tokens};
 use vlog_tree::File;
@@ -44,7 +46,8 @@ fn lawful_file(alloc: Global, tokens: &[Token]) -> Result<File, Unread>
 /// lines that a tree keeps.
 ///
 /// `Deep` comes exactly where a limit of nesting or length is passed, else `Item` exactly where no file
-/// of good shape has these tokens. `Memory` comes where no memory was found.
+/// of good shape has these tokens, with the line of the first token behind the longest list of whole units.
+/// `Memory` comes where no memory was found.
 pub fn parse(alloc: Global, tokens: &Tokens) -> Result<File, ParseError>
     // The file has good shape and these tokens, and no limit is passed.
     ensures found { IfOk result (λ f. IsShallow (all_marked tokens.now) × IsFileOf tokens.now (bare (plain f))) }
@@ -62,7 +65,10 @@ pub fn parse(alloc: Global, tokens: &Tokens) -> Result<File, ParseError>
     }
     match lawful_file(alloc, tokens.as_slice()) {
         Ok(file) => Ok(file),
-        Err(Unread::Fault) => Err(ParseError::Item { line: 0 }),
+        Err(Unread::Fault) => match item_line(alloc, tokens.as_slice()) {
+            Ok(line) => Err(ParseError::Item { line }),
+            Err(Memory) => Err(ParseError::Memory),
+        },
         Err(Unread::Memory) => Err(ParseError::Memory),
     }
 }

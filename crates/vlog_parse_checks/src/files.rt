@@ -317,9 +317,7 @@ fn depth_comes_before_items(rt: HostRuntime) -> Result<(), Fail> {
 // Whether the tokens are the same, but for their lines.
 fn are_same(a: &[Token], b: &[Token]) -> bool {
     a.len() == b.len()
-        && a.iter()
-            .zip(b)
-            .all(|(x, y)| x.kind == y.kind && x.text.as_slice() == y.text.as_slice())
+        && a.iter().zip(b).all(|(x, y)| x.kind == y.kind && x.text.as_slice() == y.text.as_slice())
 }
 
 // Whether the tree of the text has the text's tokens.

@@ -8,6 +8,4 @@ mod files;
 #[cfg(test)]
 mod limits;
 #[cfg(test)]
-mod sample;
-#[cfg(test)]
 mod shapes;

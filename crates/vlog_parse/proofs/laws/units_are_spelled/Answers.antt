@@ -1,4 +1,4 @@
-use Rattle.vlog_parse.proofs.Units.{units_spelled}
+use Rattle.vlog_parse.proofs.UnitWords.{units_spelled}
 use Rattle.vlog_parse.proofs.laws.units_are_spelled.Goals as goal
 
 pub returns : goal.returns
