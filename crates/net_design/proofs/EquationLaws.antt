@@ -1,5 +1,6 @@
 -- An assignment changes nothing exactly where the bits of its target are those of its value.
-use Rattle.std.proofs.Common.{◌≡◌, ℕ, ◌==◌, Bool, true, false, if◌then◌else◌, refl, ◌+◌, ◌-◌, ◌*◌, ◌/◌, ◌%◌, ◌^◌, ◌<◌, ◌≤◌, ◌↔◌, [], ◌∷◌, append-nil, length, slice_index, slice_set, ⊎_elim, ap, sym, subst, ◌∙◌, arith}
+use Rattle.std.proofs.Common.{◌≡◌, ℕ, ◌==◌, Bool, true, false, if◌then◌else◌, refl, ◌+◌, ◌-◌, ◌*◌, ◌/◌, ◌%◌, ◌^◌, ◌<◌, ◌≤◌, ◌↔◌, [], ◌∷◌}
+use Rattle.std.proofs.Common.{append-nil, length, slice_index, slice_set, ⊎_elim, ap, sym, subst, ◌∙◌, arith}
 use Rattle.std.specs.Int.{bit_at}
 use Rattle.std.proofs.lemmas.Bool.{cases_lt, eqb-true}
 use Rattle.std.proofs.lemmas.List.{get_or-set_same, set-get_or}
@@ -55,7 +56,8 @@ pub written_same : (v : Values) (m low w x : ℕ) → m < length v.nets → slic
     (after ≡ v) ↔ (part_of (slice_index v.nets m) low w ≡ x % 2 ^ w)
 written_same v m low w x there fits l = (
   (λ h.
-      let e : slice_index (slice_set v.nets m (put_of (slice_index v.nets m) low w x)) m ≡ slice_index v.nets m = ap (λ (u : Values). slice_index u.nets m) h in
+      let e : slice_index (slice_set v.nets m (put_of (slice_index v.nets m) low w x)) m ≡ slice_index v.nets m = ap
+      (λ (u : Values). slice_index u.nets m) h in
       let p = get_or-set_same v.nets m (put_of (slice_index v.nets m) low w x) 0 there in
       ap (λ n. part_of n low w) (sym e ∙ p) ∙ part-put (slice_index v.nets m) low w x l),
   (λ h.
@@ -67,10 +69,12 @@ written_same v m low w x there fits l = (
 pub rest_one : (n : ℕ) → n % 2 ^ 0 ≡ 0
 rest_one n = omega arith
 
-bits_by : (none : Bool) (v : Values) (m low w x : ℕ) → (none ≡ true → w ≡ 0) → m < length v.nets → slice_index v.nets m < 2 ^ 128 → low + w ≤ 128
+bits_by : (none : Bool) (v : Values) (m low w x : ℕ) → (none ≡ true → w ≡ 0) → m < length v.nets → slice_index v.nets m < 2 ^ 128
+    → low + w ≤ 128
     → (apply (if none then [] else update (Net m) low w x ∷ []) v ≡ v) ↔ (part_of (slice_index v.nets m) low w ≡ x % 2 ^ w)
 bits_by true v m low w x z there fits l = (
-  (λ h. subst (λ k. slice_index v.nets m / 2 ^ low % 2 ^ k ≡ x % 2 ^ k) (sym (z refl)) (rest_one (slice_index v.nets m / 2 ^ low) ∙ sym (rest_one x))),
+  (λ h. subst (λ k. slice_index v.nets m / 2 ^ low % 2 ^ k ≡ x % 2 ^ k) (sym (z refl)) (rest_one (slice_index v.nets m / 2 ^ low)
+      ∙ sym (rest_one x))),
   (λ h. refl),
 )
 bits_by false v m low w x z there fits l = written_same v m low w x there fits l
@@ -83,7 +87,8 @@ bits_same v m low w x there fits l = bits_by (w == 0) v m low w x (λ t. eqb-tru
 whole : (x : ℕ) → x / 2 ^ 0 ≡ x
 whole x = omega arith
 
-pub set_equation : (s : Span) (n : ℕ) (e : Rhs) (v : Values) → s.net < length v.nets → slice_index v.nets s.net < 2 ^ 128 → s.low + s.width ≤ 128
+pub set_equation : (s : Span) (n : ℕ) (e : Rhs) (v : Values) → s.net < length v.nets → slice_index v.nets s.net < 2 ^ 128
+    → s.low + s.width ≤ 128
     → (run (Set (Bits s n ∷ []) e ∷ []) v ≡ v) ↔ (read s v ≡ value e v % 2 ^ s.width)
 set_equation s n e v there fits l =
     let x : ℕ = value e v in

@@ -1,5 +1,6 @@
 -- The example is lawful, and its neighbours aren't.
-use Rattle.std.proofs.Common.{◌≡◌, ◌≢◌, IsTrue, List, [], ◌∷◌, ℕ, zero, suc, ◌^◌, ◌<◌, ◌≤◌, ◌==◌, ◌&&◌, ◌||◌, nat_lt, Bool, true, false, ◌⊎◌, inl, inr, Option, Some, None, All, slice_get, take, refl, ap, sym, subst, ◌∙◌, arith}
+use Rattle.std.proofs.Common.{◌≡◌, ◌≢◌, IsTrue, List, [], ◌∷◌, ℕ, zero, suc, ◌^◌, ◌<◌, ◌≤◌, ◌==◌, ◌&&◌, ◌||◌, nat_lt, Bool, true, false}
+use Rattle.std.proofs.Common.{◌⊎◌, inl, inr, Option, Some, None, All, slice_get, take, refl, ap, sym, subst, ◌∙◌, arith}
 use Rattle.std.specs.Int.{bit_at}
 use Rattle.std.specs.List.{AllPairs, count_by, sum_by}
 use Rattle.std.proofs.lemmas.Bool.{eqb-true, ltb-true, le-leb}
@@ -18,7 +19,8 @@ use Rattle.net_design.specs.declared.act.Timing.{Timing}
 use Rattle.net_design.specs.declared.act.Timing.TheVariants.{Blocking, Nonblocking}
 use Rattle.net_design.specs.Names.{net_names}
 use Rattle.net_design.specs.Lawful.{IsLawful, is_span, is_room, IsCode, IsDriver, IsClocked, IsRegister, IsBit, is_input}
-use Rattle.net_design.specs.Example.{net_of, four_words, pair, copies, stores, assigned, combined, example, driven_twice, not_driven, held_driven, stray_initial, named_twice}
+use Rattle.net_design.specs.Example.{net_of, four_words, pair, copies, stores, assigned, combined, example, driven_twice, not_driven}
+use Rattle.net_design.specs.Example.{held_driven, stray_initial, named_twice}
 
 by_true : (b : Bool) → (b ≡ true → ⊥) → b ≡ false
 by_true true h = absurd (h refl)
@@ -67,9 +69,17 @@ module _ (d : Design) where
     };
   }
 
-  stores_code : (at from : ℕ) → (t : Timing) → IsTrue (is_room d four_words 2) → IsTrue (is_span d (pair at)) → IsTrue (is_span d (pair from)) → IsCode d t (stores at from)
+  stores_code : (at from : ℕ) → (t : Timing) → IsTrue (is_room d four_words 2) → IsTrue (is_span d (pair at))
+      → IsTrue (is_span d (pair from)) → IsCode d t (stores at from)
   stores_code at from time r a f = record {
-    acts = ((omega arith, (((omega arith, omega arith), omega arith, r, ((omega arith, omega arith), a)), tt), ((omega arith, omega arith), f)), tt);
+    acts = (
+      (
+        omega arith,
+        (((omega arith, omega arith), omega arith, r, ((omega arith, omega arith), a)), tt),
+        ((omega arith, omega arith), f),
+      ),
+      tt,
+    );
     bits = record {
       writes = λ m k. refl;
       reads = λ m k.
@@ -145,10 +155,15 @@ same_port : (q p : Port) (x n : Net) → x.name ≡ q.name → x.width ≡ q.wid
     → (n.name ≡ p.name) × (n.width ≡ p.width) × (n.instance ≡ 0)
 same_port q p x n name width top a b =
     let e = same_in q p a in
-    let f = same_in x n b in
-    (sym (ap (λ (y : Net). y.name) f) ∙ name ∙ ap (λ (y : Port). y.name) e, sym (ap (λ (y : Net). y.width) f) ∙ width ∙ ap (λ (y : Port). y.width) e, sym (ap (λ (y : Net). y.instance) f) ∙ top)
+    let f = same_in x n b in (
+      sym (ap (λ (y : Net). y.name) f) ∙ name ∙ ap (λ (y : Port). y.name) e,
+      sym (ap (λ (y : Net). y.width) f) ∙ width
+          ∙ ap (λ (y : Port). y.width) e,
+      sym (ap (λ (y : Net). y.instance) f) ∙ top,
+    )
 
-ports_nets : (k : ℕ) (p : Port) (n : Net) → slice_get example.ports k ≡ Some p → slice_get example.nets k ≡ Some n → (n.name ≡ p.name) × (n.width ≡ p.width) × (n.instance ≡ 0)
+ports_nets : (k : ℕ) (p : Port) (n : Net) → slice_get example.ports k ≡ Some p → slice_get example.nets k ≡ Some n
+    → (n.name ≡ p.name) × (n.width ≡ p.width) × (n.instance ≡ 0)
 ports_nets zero p n a b = same_port _ p _ n refl refl refl a b
 ports_nets (suc zero) p n a b = same_port _ p _ n refl refl refl a b
 ports_nets (suc (suc zero)) p n a b = same_port _ p _ n refl refl refl a b
@@ -159,7 +174,8 @@ parent_first zero x h l = absurd (omega arith)
 parent_first (suc zero) x h l = subst (λ (y : Instance). y.parent < 1) (same_in _ x h) (omega arith)
 parent_first (suc (suc i)) x h l = absurd cc
 
-room_places : (i : ℕ) (a : DesignMemory) → slice_get example.memories i ≡ Some a → a.room.first ≡ sum_by (λ (x : DesignMemory). x.room.length) (take i example.memories)
+room_places : (i : ℕ) (a : DesignMemory) → slice_get example.memories i ≡ Some a
+    → a.room.first ≡ sum_by (λ (x : DesignMemory). x.room.length) (take i example.memories)
 room_places zero a h = sym (ap (λ (y : DesignMemory). y.room.first) (same_in _ a h))
 room_places (suc i) a h = absurd cc
 
@@ -198,7 +214,8 @@ names_differ (suc (suc (suc zero))) (suc zero) d l h = absurd (omega arith)
 names_differ (suc (suc (suc zero))) zero d l h = absurd (omega arith)
 names_differ (suc (suc (suc (suc i)))) j d l h = absurd (omega arith)
 
-each_driven : (m k : ℕ) → IsBit example m k → is_input example m ≡ false → held example m k ≡ false → count_by (λ (x : Driver). named x.code.writes m k) example.drivers ≡ 1
+each_driven : (m k : ℕ) → IsBit example m k → is_input example m ≡ false → held example m k ≡ false
+    → count_by (λ (x : Driver). named x.code.writes m k) example.drivers ≡ 1
 each_driven zero k b i h = absurd cc
 each_driven (suc zero) k b i h = absurd cc
 each_driven (suc (suc zero)) zero b i h = refl
@@ -212,7 +229,8 @@ each_driven (suc (suc (suc (suc zero)))) (suc zero) b i h = refl
 each_driven (suc (suc (suc (suc zero)))) (suc (suc k)) b i h = let l : suc (suc k) < 2 = b in absurd (omega arith)
 each_driven (suc (suc (suc (suc (suc m))))) k b i h = absurd (omega arith)
 
-none_else : (m k : ℕ) → (is_input example m ≡ true) ⊎ (held example m k ≡ true) → count_by (λ (x : Driver). named x.code.writes m k) example.drivers ≡ 0
+none_else : (m k : ℕ) → (is_input example m ≡ true) ⊎ (held example m k ≡ true)
+    → count_by (λ (x : Driver). named x.code.writes m k) example.drivers ≡ 0
 none_else zero k h = refl
 none_else (suc zero) k h = refl
 none_else (suc (suc zero)) k (inl h) = absurd cc

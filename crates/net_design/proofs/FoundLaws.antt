@@ -54,15 +54,21 @@ module _ (known : BitMap) where
   unfolding in_map
   fresh_bits net bits m k l h =
       ap (λ b. (net == m) && b) (has_less bits (mask_of known net) k l h)
-      ∙ fresh_case (net == m) (has (mask_of known net) k) (has (mask_of known m) k) (has bits k) true (λ t. ap (λ n. has (mask_of known n) k) (eqb-true net m t))
+      ∙ fresh_case (net == m) (has (mask_of known net) k) (has (mask_of known m) k) (has bits k) true
+      (λ t. ap (λ n. has (mask_of known n) k) (eqb-true net m t))
 
   pub reads_nothing : (p : BitSet) (out : BitMap) → ((m k : ℕ) → p m k ≡ false) → Reads p known out out
-  reads_nothing p out h = record { more = λ m k. or_none (in_map out m k) (not (in_map known m k)) ∙ ap (λ b. in_map out m k || (b && not (in_map known m k))) (sym (h m k)) }
+  reads_nothing p out h = record {
+    more = λ m k. or_none (in_map out m k) (not (in_map known m k))
+        ∙ ap (λ b. in_map out m k || (b && not (in_map known m k))) (sym (h m k));
+  }
 
-  pub reads_both : (p q : BitSet) (out mid end : BitMap) → Reads p known out mid → Reads q known mid end → Reads (λ m k. p m k || q m k) known out end
+  pub reads_both : (p q : BitSet) (out mid end : BitMap) → Reads p known out mid → Reads q known mid end
+      → Reads (λ m k. p m k || q m k) known out end
   reads_both p q out mid end a b = record {
     more = λ m k.
-        b.more m k ∙ ap (λ z. z || (q m k && not (in_map known m k))) (a.more m k) ∙ open_then (in_map out m k) (p m k) (q m k) (in_map known m k);
+        b.more m k ∙ ap (λ z. z || (q m k && not (in_map known m k))) (a.more m k)
+        ∙ open_then (in_map out m k) (p m k) (q m k) (in_map known m k);
   }
 
   pub read_one : (s : Span) (bits mask : ℕ) (out end : BitMap) → bits < 2 ^ 128 → mask < 2 ^ 128 → mask ≡ mask_of known s.net
@@ -100,10 +106,12 @@ places_written places i p out mid l e h m k =
 pub learn_nothing : (p : BitSet) (known : BitMap) (fresh : List Mask) → ((m k : ℕ) → p m k ≡ false) → Learns p known known fresh fresh
 learn_nothing p known fresh h = record {
   bits = λ m k. or_none (in_map known m k) true ∙ ap (λ b. in_map known m k || b) (sym (h m k));
-  masks = λ m k. or_none (named fresh m k) (not (in_map known m k)) ∙ ap (λ b. named fresh m k || (b && not (in_map known m k))) (sym (h m k));
+  masks = λ m k. or_none (named fresh m k) (not (in_map known m k)) ∙ ap (λ b. named fresh m k || (b && not (in_map known m k)))
+      (sym (h m k));
 }
 
-pub learn_both : (p q : BitSet) (known mid end : BitMap) (fresh new last : List Mask) → Learns p known mid fresh new → Learns q mid end new last
+pub learn_both : (p q : BitSet) (known mid end : BitMap) (fresh new last : List Mask) → Learns p known mid fresh new
+    → Learns q mid end new last
     → Learns (λ m k. p m k || q m k) known end fresh last
 learn_both p q known mid end fresh new last a b = record {
   bits = λ m k. b.bits m k ∙ ap (λ z. z || q m k) (a.bits m k) ∙ or_assoc (in_map known m k) (p m k) (q m k);
@@ -114,7 +122,8 @@ learn_both p q known mid end fresh new last a b = record {
       ∙ fresh_then (named fresh m k) (in_map known m k) (p m k) (q m k);
 }
 
-pub learn_same : (p q : BitSet) (known after : BitMap) (fresh new : List Mask) → ((m k : ℕ) → p m k ≡ q m k) → Learns p known after fresh new
+pub learn_same : (p q : BitSet) (known after : BitMap) (fresh new : List Mask) → ((m k : ℕ) → p m k ≡ q m k)
+    → Learns p known after fresh new
     → Learns q known after fresh new
 learn_same p q known after fresh new h a = record {
   bits = λ m k. a.bits m k ∙ ap (λ b. in_map known m k || b) (h m k);
@@ -130,17 +139,22 @@ last : (b : Bool) → (b || false) ≡ b
 last true = refl
 last false = refl
 
-pub push_named : (fresh : List Mask) (x : Mask) (m k : ℕ) → named (fresh ++ x ∷ []) m k ≡ (named fresh m k || ((x.net == m) && has x.bits k))
+pub push_named : (fresh : List Mask) (x : Mask) (m k : ℕ) → named (fresh ++ x ∷ []) m k ≡
+    (named fresh m k || ((x.net == m) && has x.bits k))
 push_named fresh x m k =
-    list_any-append (λ (y : Mask). (y.net == m) && has y.bits k) fresh (x ∷ []) ∙ ap (λ b. named fresh m k || b) (last ((x.net == m) && has x.bits k))
+    list_any-append (λ (y : Mask). (y.net == m) && has y.bits k) fresh (x ∷ [])
+    ∙ ap (λ b. named fresh m k || b) (last ((x.net == m) && has x.bits k))
 
-pub learn_one : (net bits mask : ℕ) (known after : BitMap) (fresh new : List Mask) → bits < 2 ^ 128 → mask < 2 ^ 128 → mask ≡ mask_of known net
+pub learn_one : (net bits mask : ℕ) (known after : BitMap) (fresh new : List Mask) → bits < 2 ^ 128 → mask < 2 ^ 128
+    → mask ≡ mask_of known net
     → ((m k : ℕ) → in_map after m k ≡ (in_map known m k || ((net == m) && has (bit_and bits (2 ^ 128 - 1 - mask)) k)))
     → new ≡ fresh ++ record { net = net; bits = bit_and bits (2 ^ 128 - 1 - mask) } ∷ []
     → Learns (λ m k. (net == m) && has bits k) known after fresh new
 learn_one net bits mask known after fresh new lb lm is all pushed =
-    let same : (m k : ℕ) → ((net == m) && has (bit_and bits (2 ^ 128 - 1 - mask)) k) ≡ (((net == m) && has bits k) && not (in_map known m k)) =
-    λ m k. ap (λ n. (net == m) && has (bit_and bits (2 ^ 128 - 1 - n)) k) is ∙ fresh_bits known net bits m k lb (subst (λ n. n < 2 ^ 128) is lm) in
+    let same : (m k : ℕ) → ((net == m) && has (bit_and bits (2 ^ 128 - 1 - mask)) k) ≡
+    (((net == m) && has bits k) && not (in_map known m k)) =
+    λ m k. ap (λ n. (net == m) && has (bit_and bits (2 ^ 128 - 1 - n)) k) is
+    ∙ fresh_bits known net bits m k lb (subst (λ n. n < 2 ^ 128) is lm) in
     record {
       bits = λ m k. all m k ∙ ap (λ b. in_map known m k || b) (same m k) ∙ or_fresh (in_map known m k) ((net == m) && has bits k);
       masks = λ m k.
@@ -155,11 +169,13 @@ LearnsRest whole rest known now fresh new =
     ((m k : ℕ) → (in_map now m k || rest m k) ≡ (in_map known m k || whole m k))
     × ((m k : ℕ) → (named new m k || (rest m k && not (in_map now m k))) ≡ (named fresh m k || (whole m k && not (in_map known m k))))
 
-pub rest_step : (whole p rest later : BitSet) (known now mid : BitMap) (fresh new last : List Mask) → ((m k : ℕ) → rest m k ≡ (p m k || later m k))
+pub rest_step : (whole p rest later : BitSet) (known now mid : BitMap) (fresh new last : List Mask)
+    → ((m k : ℕ) → rest m k ≡ (p m k || later m k))
     → LearnsRest whole rest known now fresh new → Learns p now mid new last → LearnsRest whole later known mid fresh last
 rest_step whole p rest later known now mid fresh new last split h a = (
   (λ m k.
-      ap (λ z. z || later m k) (a.bits m k) ∙ or_assoc (in_map now m k) (p m k) (later m k) ∙ ap (λ b. in_map now m k || b) (sym (split m k)) ∙ h.0 m k),
+      ap (λ z. z || later m k) (a.bits m k) ∙ or_assoc (in_map now m k) (p m k) (later m k)
+      ∙ ap (λ b. in_map now m k || b) (sym (split m k)) ∙ h.0 m k),
   (λ m k.
       ap (λ z. z || (later m k && not (in_map mid m k))) (a.masks m k)
       ∙ ap (λ z. (named new m k || (p m k && not (in_map now m k))) || (later m k && not z)) (a.bits m k)
@@ -168,11 +184,13 @@ rest_step whole p rest later known now mid fresh new last split h a = (
       ∙ h.1 m k),
 )
 
-pub rest_done : (whole rest : BitSet) (known now : BitMap) (fresh new : List Mask) → ((m k : ℕ) → rest m k ≡ false) → LearnsRest whole rest known now fresh new
+pub rest_done : (whole rest : BitSet) (known now : BitMap) (fresh new : List Mask) → ((m k : ℕ) → rest m k ≡ false)
+    → LearnsRest whole rest known now fresh new
     → Learns whole known now fresh new
 rest_done whole rest known now fresh new none h = record {
   bits = λ m k. or_none (in_map now m k) true ∙ ap (λ b. in_map now m k || b) (sym (none m k)) ∙ h.0 m k;
-  masks = λ m k. or_none (named new m k) (not (in_map now m k)) ∙ ap (λ b. named new m k || (b && not (in_map now m k))) (sym (none m k)) ∙ h.1 m k;
+  masks = λ m k. or_none (named new m k) (not (in_map now m k)) ∙ ap (λ b. named new m k || (b && not (in_map now m k))) (sym (none m k))
+      ∙ h.1 m k;
 }
 
 -- ---- masks narrowed
@@ -188,15 +206,19 @@ narrow_then false true true false = refl
 narrow_then false true false false = refl
 narrow_then false false r n = refl
 
-narrow_bits : (known : BitMap) (net bits m k : ℕ) → ((net == m) && has (bit_and bits (mask_of known net)) k) ≡ (((net == m) && has bits k) && in_map known m k)
+narrow_bits : (known : BitMap) (net bits m k : ℕ) → ((net == m) && has (bit_and bits (mask_of known net)) k) ≡
+    (((net == m) && has bits k) && in_map known m k)
 unfolding in_map
 narrow_bits known net bits m k =
     ap (λ b. (net == m) && b) (has_and bits (mask_of known net) k)
-    ∙ narrow_case (net == m) (has (mask_of known net) k) (has (mask_of known m) k) (has bits k) (λ t. ap (λ n. has (mask_of known n) k) (eqb-true net m t))
+    ∙ narrow_case (net == m) (has (mask_of known net) k) (has (mask_of known m) k) (has bits k)
+    (λ t. ap (λ n. has (mask_of known n) k) (eqb-true net m t))
 
-pub masks_narrowed : (known : BitMap) (masks out new : List Mask) (i : ℕ) (x : Mask) (mask : ℕ) → i < length masks → x ≡ get_or masks i x → mask ≡ mask_of known x.net
+pub masks_narrowed : (known : BitMap) (masks out new : List Mask) (i : ℕ) (x : Mask) (mask : ℕ) → i < length masks → x ≡ get_or masks i x
+    → mask ≡ mask_of known x.net
     → ((m k : ℕ) → named new m k ≡ (named out m k || ((x.net == m) && has (bit_and x.bits mask) k))) → (m k : ℕ)
-    → (named new m k || (named (drop (i + 1) masks) m k && in_map known m k)) ≡ (named out m k || (named (drop i masks) m k && in_map known m k))
+    → (named new m k || (named (drop (i + 1) masks) m k && in_map known m k)) ≡
+    (named out m k || (named (drop i masks) m k && in_map known m k))
 masks_narrowed known masks out new i x mask l e is all m k =
     ap (λ b. b || (named (drop (i + 1) masks) m k && in_map known m k))
     (all m k ∙ ap (λ b. named out m k || b) (ap (λ n. (x.net == m) && has (bit_and x.bits n) k) is ∙ narrow_bits known x.net x.bits m k))

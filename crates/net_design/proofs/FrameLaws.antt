@@ -1,5 +1,7 @@
 -- Bits that code doesn't write stay.
-use Rattle.std.proofs.Common.{◌≡◌, ◌≢◌, ℕ, ◌+◌, ◌-◌, ◌/◌, ◌^◌, ◌<◌, ◌≤◌, min, zero, suc, ◌==◌, ◌&&◌, ◌||◌, Bool, true, false, List, [], ◌∷◌, ◌++◌, ◌⊎◌, inl, inr, if◌then◌else◌, nat_le, nat_lt, slice_index, slice_set, length, ⊎_elim, refl, ap, subst, ◌∙◌, arith}
+use Rattle.std.proofs.Common.{◌≡◌, ◌≢◌, ℕ, ◌+◌, ◌-◌, ◌/◌, ◌^◌, ◌<◌, ◌≤◌, min, zero, suc, ◌==◌, ◌&&◌, ◌||◌, Bool, true, false, List, [], ◌∷◌}
+use Rattle.std.proofs.Common.{◌++◌, ◌⊎◌, inl, inr, if◌then◌else◌, nat_le, nat_lt, slice_index, slice_set, length, ⊎_elim, refl, ap, subst}
+use Rattle.std.proofs.Common.{◌∙◌, arith}
 use Rattle.std.specs.Int.{bit_at}
 use Rattle.std.specs.List.{list_any}
 use Rattle.std.proofs.lemmas.Bool.{cases_lt, or_from, eq-eqb, leb-true, le-leb, ltb-true, lt-ltb, both_ways}
@@ -8,7 +10,8 @@ use Rattle.std.proofs.lemmas.List.Folds.{list_any-append}
 use Rattle.vidi_bits.proofs.BitLemmas.{bit_at-put_below, bit_at-put_above}
 use Rattle.net_design.specs.declared.act.Place.{Place}
 use Rattle.net_design.specs.declared.act.Place.TheVariants.{Bits, BitsFrom, Word, WordFrom}
-use Rattle.net_design.specs.declared.act.Act.{Act, Set, Read, Branch', Row_of-Act, end_of-Act, more_of-Act, Row_of-Guard, end_of-Guard, more_of-Guard}
+use Rattle.net_design.specs.declared.act.Act.{Act, Set, Read, Branch', Row_of-Act, end_of-Act, more_of-Act, Row_of-Guard, end_of-Guard}
+use Rattle.net_design.specs.declared.act.Act.{more_of-Guard}
 use Rattle.net_design.specs.declared.act.Timing.{Timing}
 use Rattle.net_design.specs.declared.values.Target.{Target}
 use Rattle.net_design.specs.declared.values.Target.TheVariants.{Net, Word as WordTarget}
@@ -16,7 +19,8 @@ use Rattle.net_design.specs.declared.values.Update.{Update}
 use Rattle.net_design.specs.declared.values.Values.{Values}
 use Rattle.vlog_operators.specs.Number.{put_of}
 use Rattle.net_design.specs.Value.{value}
-use Rattle.net_design.specs.Updates.{written_to, apply, place_updates, target_width, target_updates, seen, updates, guard_row, act_row, block_updates}
+use Rattle.net_design.specs.Updates.{written_to, apply, place_updates, target_width, target_updates, seen, updates, guard_row, act_row}
+use Rattle.net_design.specs.Updates.{block_updates}
 use Rattle.net_design.specs.Bits.{place_writes, target_writes, writes, writes_guards, writes_row, block_writes}
 
 -- an update changes bit k of net m
@@ -42,7 +46,8 @@ or_parts : (a b : Bool) → (a || b) ≡ false → (a ≡ false) × (b ≡ false
 or_parts true b h = absurd cc
 or_parts false b h = (refl, h)
 
-either_way : (b : Bool) (xs ys : List Update) (m k : ℕ) → touched xs m k ≡ false → touched ys m k ≡ false → touched (if b then xs else ys) m k ≡ false
+either_way : (b : Bool) (xs ys : List Update) (m k : ℕ) → touched xs m k ≡ false → touched ys m k ≡ false
+    → touched (if b then xs else ys) m k ≡ false
 either_way true xs ys m k h g = h
 either_way false xs ys m k h g = g
 
@@ -64,16 +69,19 @@ inner n m k low size i w h = by_true _ (λ t.
 
 place_touch : (p : Place) (x : ℕ) (v : Values) (m k : ℕ) → place_writes p m k ≡ false → touched (place_updates p x v) m k ≡ false
 place_touch (Bits s n) x v m k h = none_or (s.width == 0) _ m k (or_from _ _ h refl)
-place_touch (BitsFrom s i w) x v m k h = either_way (nat_lt (value i v) s.width) _ _ m k (or_from _ _ (inner s.net m k s.low s.width (value i v) w h) refl) refl
+place_touch (BitsFrom s i w) x v m k h =
+    either_way (nat_lt (value i v) s.width) _ _ m k (or_from _ _ (inner s.net m k s.low s.width (value i v) w h) refl) refl
 place_touch (Word r i low w n) x v m k h = either_way (nat_lt (value i v) r.length) _ _ m k (none_or (w == 0) _ m k refl) refl
 place_touch (WordFrom r i size j w) x v m k h =
     either_way (nat_lt (value i v) r.length) _ _ m k (either_way (nat_lt (value j v) size) _ _ m k refl refl) refl
 
-pub target_touch : (ps : List Place) (x : ℕ) (v : Values) (m k : ℕ) → target_writes ps m k ≡ false → touched (target_updates ps x v) m k ≡ false
+pub target_touch : (ps : List Place) (x : ℕ) (v : Values) (m k : ℕ) → target_writes ps m k ≡ false
+    → touched (target_updates ps x v) m k ≡ false
 target_touch [] x v m k h = refl
 target_touch (p ∷ ps) x v m k h =
     let t = or_parts (place_writes p m k) (target_writes ps m k) h in
-    joined (place_updates p (x / 2 ^ target_width ps) v) (target_updates ps x v) m k (place_touch p (x / 2 ^ target_width ps) v m k t.0) (target_touch ps x v m k t.1)
+    joined (place_updates p (x / 2 ^ target_width ps) v) (target_updates ps x v) m k (place_touch p (x / 2 ^ target_width ps) v m k t.0)
+    (target_touch ps x v m k t.1)
 
 mutual
   act_touch : (t : Timing) (a : Act) (v : Values) (m k : ℕ) → writes a m k ≡ false → touched (updates t a v) m k ≡ false
@@ -83,24 +91,30 @@ mutual
       let parts = or_parts (writes_guards guards m k) (writes_row otherwise m k) h in
       guards_touch t guards (act_row t otherwise v) v m k parts.0 (row_touch t otherwise v m k parts.1)
 
-  guards_touch : {n : _} → (t : Timing) (row : Row_of-Guard n) (us : List Update) (v : Values) (m k : ℕ) → writes_guards row m k ≡ false → touched us m k ≡ false
+  guards_touch : {n : _} → (t : Timing) (row : Row_of-Guard n) (us : List Update) (v : Values) (m k : ℕ) → writes_guards row m k ≡ false
+      → touched us m k ≡ false
       → touched (guard_row t row us v) m k ≡ false
   guards_touch t end_of-Guard us v m k h g = g
   guards_touch t (more_of-Guard c l body rest) us v m k h g =
       let parts = or_parts (writes_row body m k) (writes_guards rest m k) h in
-      either_way (value c v == 0) (guard_row t rest us v) (act_row t body v) m k (guards_touch t rest us v m k parts.1 g) (row_touch t body v m k parts.0)
+      either_way (value c v == 0) (guard_row t rest us v) (act_row t body v) m k (guards_touch t rest us v m k parts.1 g)
+      (row_touch t body v m k parts.0)
 
-  row_touch : {n : _} → (t : Timing) (row : Row_of-Act n) (v : Values) (m k : ℕ) → writes_row row m k ≡ false → touched (act_row t row v) m k ≡ false
+  row_touch : {n : _} → (t : Timing) (row : Row_of-Act n) (v : Values) (m k : ℕ) → writes_row row m k ≡ false
+      → touched (act_row t row v) m k ≡ false
   row_touch t end_of-Act v m k h = refl
   row_touch t (more_of-Act a rest) v m k h =
       let parts = or_parts (writes a m k) (writes_row rest m k) h in
-      joined (updates t a v) (act_row t rest (seen t (updates t a v) v)) m k (act_touch t a v m k parts.0) (row_touch t rest (seen t (updates t a v) v) m k parts.1)
+      joined (updates t a v) (act_row t rest (seen t (updates t a v) v)) m k (act_touch t a v m k parts.0)
+      (row_touch t rest (seen t (updates t a v) v) m k parts.1)
 
-pub block_touch : (t : Timing) (acts : List Act) (v : Values) (m k : ℕ) → block_writes acts m k ≡ false → touched (block_updates t acts v) m k ≡ false
+pub block_touch : (t : Timing) (acts : List Act) (v : Values) (m k : ℕ) → block_writes acts m k ≡ false
+    → touched (block_updates t acts v) m k ≡ false
 block_touch t [] v m k h = refl
 block_touch t (a ∷ rest) v m k h =
     let parts = or_parts (writes a m k) (block_writes rest m k) h in
-    joined (updates t a v) (block_updates t rest (seen t (updates t a v) v)) m k (act_touch t a v m k parts.0) (block_touch t rest (seen t (updates t a v) v) m k parts.1)
+    joined (updates t a v) (block_updates t rest (seen t (updates t a v) v)) m k (act_touch t a v m k parts.0)
+    (block_touch t rest (seen t (updates t a v) v) m k parts.1)
 
 -- ---- what isn't touched stays
 pub set_past : (xs : List ℕ) (i y : ℕ) → length xs ≤ i → slice_set xs i y ≡ xs
@@ -126,7 +140,8 @@ put_outside x low w y k l h = ⊎_elim
 same_net : (xs : List ℕ) (n low w y k : ℕ) → k < 128 → (nat_le low k && nat_lt k (low + w)) ≡ false
     → bit_at (slice_index (slice_set xs n (put_of (slice_index xs n) low w y)) n) k ≡ bit_at (slice_index xs n) k
 same_net xs n low w y k l h = ⊎_elim
-    (λ (there : n < length xs). ap (λ z. bit_at z k) (get_or-set_same xs n (put_of (slice_index xs n) low w y) 0 there) ∙ put_outside (slice_index xs n) low w y k l h)
+    (λ (there : n < length xs). ap (λ z. bit_at z k) (get_or-set_same xs n (put_of (slice_index xs n) low w y) 0 there)
+    ∙ put_outside (slice_index xs n) low w y k l h)
     (λ (past : length xs ≤ n). ap (λ zs. bit_at (slice_index zs n) k) (set_past xs n (put_of (slice_index xs n) low w y) past))
     (cases_lt n (length xs))
 
@@ -141,7 +156,8 @@ pub written_stays : (target : Target) (u : Update) (v : Values) (m k : ℕ) → 
 written_stays (Net n) u v m k l h = ⊎_elim
     (λ (e : n ≡ m).
     let range : (nat_le u.low k && nat_lt k (u.low + u.width)) ≡ false = by_true _ (λ t. both_ways _ h (and_both _ _ (eq-eqb n m e) t)) in
-    subst (λ j. bit_at (slice_index (slice_set v.nets n (put_of (slice_index v.nets n) u.low u.width u.number)) j) k ≡ bit_at (slice_index v.nets j) k) e
+    subst (λ j. bit_at (slice_index (slice_set v.nets n (put_of (slice_index v.nets n) u.low u.width u.number)) j) k ≡ bit_at
+    (slice_index v.nets j) k) e
     (same_net v.nets n u.low u.width u.number k l range))
     (λ (d : m ≢ n). ap (λ x. bit_at x k) (get_or-set_other v.nets n m (put_of (slice_index v.nets n) u.low u.width u.number) 0 d))
     (same_or_other n m)

@@ -26,7 +26,8 @@ abbrev turned : Values → Values
 turned v = record { nets = v.words; words = v.nets }
 
 -- ---- one update
-stays : (target t : Target) (u : Update) (v : Values) (k : ℕ) → k < 128 → touches (record u { target = target }) t k ≡ false → bit_of t k (written_to target u v) ≡ bit_of t k v
+stays : (target t : Target) (u : Update) (v : Values) (k : ℕ) → k < 128 → touches (record u { target = target }) t k ≡ false
+    → bit_of t k (written_to target u v) ≡ bit_of t k v
 stays (Net n) (Net m) u v k l h = written_stays (Net n) u v m k l h
 stays (Net n) (Word j) u v k l h = refl
 stays (Word i) (Net m) u v k l h = refl
@@ -56,7 +57,8 @@ by_test false x new old h g = g refl
 one : (u : Update) (t : Target) (v : Values) (k : ℕ) → IsThere t v → k < 128
     → bit_of t k (written_to u.target u v) ≡ unwrap_or (if touches u t k then Some (bit_at u.number (k - u.low)) else None) (bit_of t k v)
 one u t v k there l =
-    by_test (touches u t k) (bit_at u.number (k - u.low)) (bit_of t k (written_to u.target u v)) (bit_of t k v) (made u.target t u v k there l) (stays u.target t u v k l)
+    by_test (touches u t k) (bit_at u.number (k - u.low)) (bit_of t k (written_to u.target u v)) (bit_of t k v)
+    (made u.target t u v k there l) (stays u.target t u v k l)
 
 -- ---- a list of updates
 still_there : (t : Target) (v w : Values) → length w.nets ≡ length v.nets → length w.words ≡ length v.words → IsThere t v → IsThere t w
@@ -67,7 +69,8 @@ or_unwrap : (o p : Option ℕ) (d : ℕ) → unwrap_or o (unwrap_or p d) ≡ unw
 or_unwrap None p d = refl
 or_unwrap (Some x) p d = refl
 
-all_made : (us : List Update) (t : Target) (v : Values) (k : ℕ) → IsThere t v → k < 128 → bit_of t k (apply us v) ≡ unwrap_or (last_bit us t k) (bit_of t k v)
+all_made : (us : List Update) (t : Target) (v : Values) (k : ℕ) → IsThere t v → k < 128
+    → bit_of t k (apply us v) ≡ unwrap_or (last_bit us t k) (bit_of t k v)
 all_made [] t v k there l = refl
 all_made (u ∷ us) t v k there l =
     let w : Values = written_to u.target u v in
@@ -85,14 +88,17 @@ same_bit : (o : Option ℕ) (d : ℕ) → ((b : ℕ) → o ≡ Some b → d ≡ 
 same_bit None d h = refl
 same_bit (Some b) d h = sym (h b refl)
 
-bit_stays : (us : List Update) (v : Values) → HasLast us v → (t : Target) (k : ℕ) → IsThere t v → k < 128 → bit_of t k (apply us v) ≡ bit_of t k v
+bit_stays : (us : List Update) (v : Values) → HasLast us v → (t : Target) (k : ℕ) → IsThere t v → k < 128
+    → bit_of t k (apply us v) ≡ bit_of t k v
 bit_stays us v h t k there l = all_made us t v k there l ∙ same_bit (last_bit us t k) (bit_of t k v) (λ b e. h t k b there l e)
 
-word_narrow : (t : Target) (u : Update) (v : Values) → ((i : ℕ) → slice_index v.words i < 2 ^ 128) → (i : ℕ) → slice_index (written_to t u v).words i < 2 ^ 128
+word_narrow : (t : Target) (u : Update) (v : Values) → ((i : ℕ) → slice_index v.words i < 2 ^ 128) → (i : ℕ)
+    → slice_index (written_to t u v).words i < 2 ^ 128
 word_narrow (Net m) u v h i = h i
 word_narrow (Word j) u v h i = set_narrow v.words j u.low u.width u.number h i
 
-words_narrow : (us : List Update) (v : Values) → ((i : ℕ) → slice_index v.words i < 2 ^ 128) → (i : ℕ) → slice_index (apply us v).words i < 2 ^ 128
+words_narrow : (us : List Update) (v : Values) → ((i : ℕ) → slice_index v.words i < 2 ^ 128) → (i : ℕ)
+    → slice_index (apply us v).words i < 2 ^ 128
 words_narrow [] v h = h
 words_narrow (u ∷ us) v h = words_narrow us (written_to u.target u v) (word_narrow u.target u v h)
 
@@ -100,9 +106,11 @@ nothing_changes : (us : List Update) (v : Values) → IsNarrow v → HasLast us 
 nothing_changes us v narrow h =
     let w : Values = apply us v in
     let long = applied_long us v in
-    let nets : w.nets ≡ v.nets = ext_get_or 0 w.nets v.nets long.0 (λ m l. same_from_bits_below 128 _ _ (nets_narrow us v narrow.nets m) (narrow.nets m)
+    let nets : w.nets ≡ v.nets = ext_get_or 0 w.nets v.nets long.0
+    (λ m l. same_from_bits_below 128 _ _ (nets_narrow us v narrow.nets m) (narrow.nets m)
     (λ k f. bit_stays us v h (Net m) k (subst (λ n. m < n) long.0 l) f)) in
-    let words : w.words ≡ v.words = ext_get_or 0 w.words v.words long.1 (λ i l. same_from_bits_below 128 _ _ (words_narrow us v narrow.words i) (narrow.words i)
+    let words : w.words ≡ v.words = ext_get_or 0 w.words v.words long.1
+    (λ i l. same_from_bits_below 128 _ _ (words_narrow us v narrow.words i) (narrow.words i)
     (λ k f. bit_stays us v h (Word i) k (subst (λ n. i < n) long.1 l) f)) in
     ap (λ xs. record { nets = xs; words = w.words }) nets ∙ ap (λ xs. record { nets = v.nets; words = xs }) words
 

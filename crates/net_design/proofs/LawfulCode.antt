@@ -1,5 +1,6 @@
 -- The code of a lawful design is sized: what its evaluators ask for.
-use Rattle.std.proofs.Common.{◌≡◌, ℕ, zero, suc, ◌+◌, ◌^◌, ◌<◌, ◌≤◌, Bool, true, false, ◌&&◌, IsTrue, List, [], ◌∷◌, Some, All, length, get_or, take, map, slice_index, slice_get, refl, ap, sym, subst, arith}
+use Rattle.std.proofs.Common.{◌≡◌, ℕ, zero, suc, ◌+◌, ◌^◌, ◌<◌, ◌≤◌, Bool, true, false, ◌&&◌, IsTrue, List, [], ◌∷◌, Some, All, length}
+use Rattle.std.proofs.Common.{get_or, take, map, slice_index, slice_get, refl, ap, sym, subst, arith}
 use Rattle.std.specs.List.{AllByRecursion, sum_by}
 use Rattle.std.proofs.lemmas.Bool.{leb-true, ltb-true, eqb-true}
 use Rattle.std.proofs.lemmas.List.Folds.{Any-from_list_any}
@@ -9,7 +10,8 @@ use Rattle.net_design.specs.declared.rhs.Room.{Room}
 use Rattle.net_design.specs.declared.rhs.Rhs.{Rhs, Number, Bits, Word', Unary', Binary', Choose', Join', Repeat', Select'}
 use Rattle.net_design.specs.declared.act.Place.{Place}
 use Rattle.net_design.specs.declared.act.Place.TheVariants.{Bits as PlaceBits, BitsFrom, Word as PlaceWord, WordFrom}
-use Rattle.net_design.specs.declared.act.Act.{Act, Set, Read, Branch', Row_of-Act, end_of-Act, more_of-Act, Row_of-Guard, end_of-Guard, more_of-Guard}
+use Rattle.net_design.specs.declared.act.Act.{Act, Set, Read, Branch', Row_of-Act, end_of-Act, more_of-Act, Row_of-Guard, end_of-Guard}
+use Rattle.net_design.specs.declared.act.Act.{more_of-Guard}
 use Rattle.net_design.specs.declared.act.Code.{Code}
 use Rattle.net_design.specs.declared.design.Driver.{Driver}
 use Rattle.net_design.specs.declared.design.Net.{Net}
@@ -90,13 +92,15 @@ room_within d law r n h =
     let size : a.room.length ≡ r.length = eqb-true _ _ u.0 in
     let wide : n ≤ a.width = leb-true _ _ u.1 in
     let before = law.rooms k a at in
-    let all : sum_by (λ (x : DesignMemory). x.room.length) (take k d.memories) + (get_or d.memories k a).room.length ≤ word_count d = sum_by_more_le (λ (x : DesignMemory). x.room.length) d.memories k a found.2 in
+    let all : sum_by (λ (x : DesignMemory). x.room.length) (take k d.memories) +
+    (get_or d.memories k a).room.length ≤ word_count d = sum_by_more_le (λ (x : DesignMemory). x.room.length) d.memories k a found.2 in
     let item : (get_or d.memories k a).room.length ≡ a.room.length = ap (λ (x : DesignMemory). x.room.length) found.3 in
     let widest : (get_or d.memories k a).width ≤ 128 = (law.memories k a found.2).0.1 in
     let width : (get_or d.memories k a).width ≡ a.width = ap (λ (x : DesignMemory). x.width) found.3 in
     (omega arith, omega arith)
 
-pub span_within : (d : Design) → IsLawful d → (s : Span) → IsTrue (is_span d s) → (s.net < length d.nets) × (s.low + s.width ≤ net_width d s.net)
+pub span_within : (d : Design) → IsLawful d → (s : Span) → IsTrue (is_span d s)
+    → (s.net < length d.nets) × (s.low + s.width ≤ net_width d s.net)
 span_within d law s h =
     let t = both _ _ h in
     (ltb-true _ _ t.0, leb-true _ _ t.1)
@@ -125,5 +129,6 @@ net_width_small d sized m = width_at d.nets sized.nets m
 pub clocked_sized : (d : Design) → IsSized d → (k : ℕ) (c : Code) → k < length d.blocks → c ≡ get_or d.blocks k c → IsSizedBlock c.acts
 clocked_sized d sized k c l e = subst (λ (x : Code). IsSizedBlock x.acts) (sym e) (sized.blocks k c l)
 
-pub driver_sized : (d : Design) → IsSized d → (k : ℕ) (x : Driver) → k < length d.drivers → x ≡ get_or d.drivers k x → IsSizedBlock x.code.acts
+pub driver_sized : (d : Design) → IsSized d → (k : ℕ) (x : Driver) → k < length d.drivers → x ≡ get_or d.drivers k x
+    → IsSizedBlock x.code.acts
 driver_sized d sized k x l e = subst (λ (y : Driver). IsSizedBlock y.code.acts) (sym e) (sized.drivers k x l)

@@ -12,7 +12,8 @@ module _ {X : Type 0} (f : X → X) (xs ys zs : List X) (i : ℕ) (x y : X) wher
       let here : i < length xs = subst (λ us. i < length us) z l in
       subst (λ u. set ys i u ≡ map f (take (i + 1) xs) ++ drop (i + 1) xs) (ap f is ∙ sym made) (map_over_more f xs ys i x here same is)
 
-  pub others : (P : X → Type 0) → i < length zs → length ys ≡ length zs → AllByRecursion P (drop i ys) → AllByRecursion P (drop (i + 1) (set ys i y))
+  pub others : (P : X → Type 0) → i < length zs → length ys ≡ length zs → AllByRecursion P (drop i ys)
+      → AllByRecursion P (drop (i + 1) (set ys i y))
   others P l long h =
       let here : i < length ys = omega arith in
       subst (AllByRecursion P) (sym (drop-set-lt (i + 1) ys i y (omega arith))) (subst (AllByRecursion P) (drop_more ys i x here) h).1

@@ -1,6 +1,8 @@
 -- Masks as sets of bits, and maps of masks.
-use Rattle.std.proofs.Common.{◌≡◌, ℕ, zero, suc, ◌+◌, ◌-◌, ◌*◌, ◌/◌, ◌%◌, ◌^◌, ◌<◌, ◌≤◌, min, max, ◌==◌, ◌&&◌, ◌||◌, not, nat_le, nat_lt, Bool, true, false}
-use Rattle.std.proofs.Common.{List, [], ◌∷◌, ◌++◌, Option, Some, None, bit_and, bit_or, if◌then◌else◌, ⊎_elim, refl, ap, sym, subst, ◌∙◌, arith}
+use Rattle.std.proofs.Common.{◌≡◌, ℕ, zero, suc, ◌+◌, ◌-◌, ◌*◌, ◌/◌, ◌%◌, ◌^◌, ◌<◌, ◌≤◌, min, max, ◌==◌, ◌&&◌, ◌||◌, not, nat_le, nat_lt}
+use Rattle.std.proofs.Common.{Bool, true, false}
+use Rattle.std.proofs.Common.{List, [], ◌∷◌, ◌++◌, Option, Some, None, bit_and, bit_or, if◌then◌else◌, ⊎_elim, refl, ap, sym, subst, ◌∙◌}
+use Rattle.std.proofs.Common.{arith}
 use Rattle.std.specs.Int.{bit_at, w128}
 use Rattle.std.specs.List.{list_any, AllByRecursion, IsDistinct}
 use Rattle.std.specs.Option.{unwrap_or}
@@ -52,7 +54,8 @@ has_less a b k la lb = ⊎_elim
     ∙ less_bits (bit_at a k) (bit_at b k) (bit_at-lt a k) (bit_at-lt b k))
     (λ (g : 128 ≤ k).
     let z : bit_at a k ≡ 0 = bit_at_above a 128 k la g in
-    let none : bit_at (bit_and a (2 ^ 128 - 1 - b)) k ≡ 0 = bit_at_and a (2 ^ 128 - 1 - b) k ∙ ap (λ n. min n (bit_at (2 ^ 128 - 1 - b) k)) z ∙ omega arith in
+    let none : bit_at (bit_and a (2 ^ 128 - 1 - b)) k ≡ 0 = bit_at_and a (2 ^ 128 - 1 - b) k
+    ∙ ap (λ n. min n (bit_at (2 ^ 128 - 1 - b) k)) z ∙ omega arith in
     ap (λ n. n == 1) none ∙ sym (ap (λ n. (n == 1) && not (has b k)) z))
     (cases_lt k 128)
 
@@ -61,7 +64,8 @@ pub has_span : (low w k : ℕ) → low + w ≤ 128 → has (put_of 0 low w (2 ^ 
 has_span low w k l = ⊎_elim
     (λ (below : k < low).
     let out : nat_le low k ≡ false = by_true _ (λ t. let h : low ≤ k = leb-true _ _ t in omega arith) in
-    ap (λ n. n == 1) (bit_at-put_below 0 low w (2 ^ w - 1) k (omega arith) below ∙ bit_at-zero k) ∙ sym (ap (λ b. b && nat_lt k (low + w)) out))
+    ap (λ n. n == 1) (bit_at-put_below 0 low w (2 ^ w - 1) k (omega arith) below ∙ bit_at-zero k)
+    ∙ sym (ap (λ b. b && nat_lt k (low + w)) out))
     (λ (from : low ≤ k). ⊎_elim
     (λ (inside : k < low + w).
     ap (λ n. n == 1) (bit_at-put_inside 0 low w (2 ^ w - 1) k (omega arith) from inside ∙ bit_at_ones w (k - low) (omega arith))
@@ -85,7 +89,8 @@ and_all : (b : Bool) → b ≡ (b && true)
 and_all true = refl
 and_all false = refl
 
-add_case : (b : Bool) (mask bits old k : ℕ) → (b ≡ true → mask ≡ old) → has (if b then bit_or mask bits else old) k ≡ (has old k || (b && has bits k))
+add_case : (b : Bool) (mask bits old k : ℕ) → (b ≡ true → mask ≡ old) → has (if b then bit_or mask bits else old) k ≡
+    (has old k || (b && has bits k))
 add_case true mask bits old k h = has_or mask bits k ∙ ap (λ n. has n k || has bits k) (h refl)
 add_case false mask bits old k h = or_none (has old k)
 
@@ -137,7 +142,8 @@ eq_sym a b = same_test (a == b) (b == a) (λ t. eq-eqb b a (sym (eqb-true a b t)
 at_key : (m x : ℕ) → is_at (nat_cmp m) x ≡ (x == m)
 at_key m x = unsigned_tied m x ∙ eq_sym m x
 
-no_key : (es : List (ℕ × ℕ)) (x m k : ℕ) → AllByRecursion (λ y. eq_by_cmp nat_cmp x y ≡ false) (keys_of es) → x ≡ m → named_entries es m k ≡ false
+no_key : (es : List (ℕ × ℕ)) (x m k : ℕ) → AllByRecursion (λ y. eq_by_cmp nat_cmp x y ≡ false) (keys_of es) → x ≡ m
+    → named_entries es m k ≡ false
 no_key [] x m k h e = refl
 no_key (f ∷ es) x m k h e =
     let apart : (f.0 == m) ≡ false = eq_sym f.0 m ∙ ap (λ n. n == f.0) (sym e) ∙ sym (unsigned_tied x f.0) ∙ h.0 in
@@ -153,10 +159,12 @@ pub entries_named : (es : List (ℕ × ℕ)) → IsDistinct (eq_by_cmp nat_cmp) 
 unfolding IsDistinct
 entries_named [] h m k = sym (has_zero k)
 entries_named (e ∷ es) h m k =
-    entry_case (e.0 == m) (lookup (is_at (nat_cmp m)) es) e.1 k (named_entries es m k) (λ t. no_key es e.0 m k h.0 (eqb-true e.0 m t)) (entries_named es h.1 m k)
+    entry_case (e.0 == m) (lookup (is_at (nat_cmp m)) es) e.1 k (named_entries es m k) (λ t. no_key es e.0 m k h.0 (eqb-true e.0 m t))
+    (entries_named es h.1 m k)
     ∙ ap (λ b. has (unwrap_or (if b then Some e.1 else lookup (is_at (nat_cmp m)) es) 0) k) (sym (at_key m e.0))
 
-pub map_named : (b : BitMap) → IsDistinct (eq_by_cmp nat_cmp) (keys_of b.masks.entries) → (m k : ℕ) → named_entries b.masks.entries m k ≡ in_map b m k
+pub map_named : (b : BitMap) → IsDistinct (eq_by_cmp nat_cmp) (keys_of b.masks.entries) → (m k : ℕ)
+    → named_entries b.masks.entries m k ≡ in_map b m k
 unfolding in_map
 map_named b h m k = entries_named b.masks.entries h m k
 

@@ -1,5 +1,6 @@
 -- The bits of moved code are those of the code, moved.
-use Rattle.std.proofs.Common.{◌≡◌, ℕ, ◌+◌, ◌-◌, ◌≤◌, ◌==◌, ◌&&◌, ◌||◌, not, nat_le, nat_lt, Bool, true, false, List, [], ◌∷◌, map, refl, ap, sym, ◌∙◌, arith}
+use Rattle.std.proofs.Common.{◌≡◌, ℕ, ◌+◌, ◌-◌, ◌≤◌, ◌==◌, ◌&&◌, ◌||◌, not, nat_le, nat_lt, Bool, true, false, List, [], ◌∷◌, map, refl, ap}
+use Rattle.std.proofs.Common.{sym, ◌∙◌, arith}
 use Rattle.std.specs.List.{list_any}
 use Rattle.std.proofs.lemmas.Bool.{eqb-true, eq-eqb, leb-true, le-leb}
 use Rattle.net_design.specs.declared.rhs.Span.{Span}
@@ -7,13 +8,17 @@ use Rattle.net_design.specs.declared.rhs.Rhs.{Rhs, Number, Bits, Word', Unary', 
 use Rattle.net_design.specs.declared.act.Place.{Place}
 use Rattle.net_design.specs.declared.act.Place.TheVariants.{Bits as PlaceBits, BitsFrom, Word as PlaceWord, WordFrom}
 use Rattle.net_design.specs.declared.act.Mask.{Mask}
-use Rattle.net_design.specs.declared.act.Act.{Act, Set, Read, Branch', Row_of-Act, end_of-Act, more_of-Act, Row_of-Guard, end_of-Guard, more_of-Guard}
+use Rattle.net_design.specs.declared.act.Act.{Act, Set, Read, Branch', Row_of-Act, end_of-Act, more_of-Act, Row_of-Guard, end_of-Guard}
+use Rattle.net_design.specs.declared.act.Act.{more_of-Guard}
 use Rattle.net_design.specs.declared.act.Code.{Code}
 use Rattle.net_design.specs.declared.act.Timing.{Timing}
 use Rattle.net_design.specs.declared.act.Timing.TheVariants.{Blocking, Nonblocking}
 use Rattle.vlog_operators.specs.Number.{has}
-use Rattle.net_design.specs.Bits.{BitSet, no_bits, bits_of, named, reads, place_reads, place_writes, place_adds, target_reads, target_writes, target_adds, Apart, writes, writes_guards, writes_row, adds, adds_guards, adds_row, known_after, open_reads, open_reads_guards, open_reads_row}
-use Rattle.net_design.specs.Bits.{HasBits, block_writes, block_adds, block_open_reads, block_reads, place_is_word, writes_words, guards_write_words, row_writes_words, block_writes_words}
+use Rattle.net_design.specs.Bits.{BitSet, no_bits, bits_of, named, reads, place_reads, place_writes, place_adds, target_reads}
+use Rattle.net_design.specs.Bits.{target_writes, target_adds, Apart, writes, writes_guards, writes_row, adds, adds_guards, adds_row}
+use Rattle.net_design.specs.Bits.{known_after, open_reads, open_reads_guards, open_reads_row}
+use Rattle.net_design.specs.Bits.{HasBits, block_writes, block_adds, block_open_reads, block_reads, place_is_word, writes_words}
+use Rattle.net_design.specs.Bits.{guards_write_words, row_writes_words, block_writes_words}
 use Rattle.net_design.specs.Moved.{moved_span, moved_rhs, moved_place, moved_act, moved_guards, moved_row, moved_mask, moved_bits, moved}
 
 -- ---- Bool
@@ -105,15 +110,18 @@ module _ (net word : ℕ) where
   place_adds_moved (PlaceWord r i low w n) m k = no (nat_le net m)
   place_adds_moved (WordFrom r i size j w) m k = no (nat_le net m)
 
-  target_reads_moved : (ps : List Place) (m k : ℕ) → target_reads (map (moved_place net word) ps) m k ≡ moved_bits net word (target_reads ps) m k
+  target_reads_moved : (ps : List Place) (m k : ℕ) → target_reads (map (moved_place net word) ps) m k ≡ moved_bits net word
+      (target_reads ps) m k
   target_reads_moved [] m k = no (nat_le net m)
   target_reads_moved (p ∷ ps) m k = under_or (nat_le net m) _ _ _ _ (place_reads_moved p m k) (target_reads_moved ps m k)
 
-  target_writes_moved : (ps : List Place) (m k : ℕ) → target_writes (map (moved_place net word) ps) m k ≡ moved_bits net word (target_writes ps) m k
+  target_writes_moved : (ps : List Place) (m k : ℕ) → target_writes (map (moved_place net word) ps) m k ≡ moved_bits net word
+      (target_writes ps) m k
   target_writes_moved [] m k = no (nat_le net m)
   target_writes_moved (p ∷ ps) m k = under_or (nat_le net m) _ _ _ _ (place_writes_moved p m k) (target_writes_moved ps m k)
 
-  target_adds_moved : (ps : List Place) (m k : ℕ) → target_adds (map (moved_place net word) ps) m k ≡ moved_bits net word (target_adds ps) m k
+  target_adds_moved : (ps : List Place) (m k : ℕ) → target_adds (map (moved_place net word) ps) m k ≡ moved_bits net word
+      (target_adds ps) m k
   target_adds_moved [] m k = no (nat_le net m)
   target_adds_moved (p ∷ ps) m k = under_or (nat_le net m) _ _ _ _ (place_adds_moved p m k) (target_adds_moved ps m k)
 
@@ -122,13 +130,17 @@ module _ (net word : ℕ) where
     writes_moved : (a : Act) (m k : ℕ) → writes (moved_act net word a) m k ≡ moved_bits net word (writes a) m k
     writes_moved (Set target e) m k = target_writes_moved target m k
     writes_moved (Read e) m k = no (nat_le net m)
-    writes_moved (Branch' n guards l otherwise) m k = under_or (nat_le net m) _ _ _ _ (guard_writes_moved guards m k) (row_writes_moved otherwise m k)
+    writes_moved (Branch' n guards l otherwise) m k =
+        under_or (nat_le net m) _ _ _ _ (guard_writes_moved guards m k) (row_writes_moved otherwise m k)
 
-    guard_writes_moved : {n : _} → (row : Row_of-Guard n) (m k : ℕ) → writes_guards (moved_guards net word row) m k ≡ moved_bits net word (writes_guards row) m k
+    guard_writes_moved : {n : _} → (row : Row_of-Guard n) (m k : ℕ) → writes_guards (moved_guards net word row) m k ≡ moved_bits net word
+        (writes_guards row) m k
     guard_writes_moved end_of-Guard m k = no (nat_le net m)
-    guard_writes_moved (more_of-Guard c n body rest) m k = under_or (nat_le net m) _ _ _ _ (row_writes_moved body m k) (guard_writes_moved rest m k)
+    guard_writes_moved (more_of-Guard c n body rest) m k =
+        under_or (nat_le net m) _ _ _ _ (row_writes_moved body m k) (guard_writes_moved rest m k)
 
-    row_writes_moved : {n : _} → (row : Row_of-Act n) (m k : ℕ) → writes_row (moved_row net word row) m k ≡ moved_bits net word (writes_row row) m k
+    row_writes_moved : {n : _} → (row : Row_of-Act n) (m k : ℕ) → writes_row (moved_row net word row) m k ≡ moved_bits net word
+        (writes_row row) m k
     row_writes_moved end_of-Act m k = no (nat_le net m)
     row_writes_moved (more_of-Act a rest) m k = under_or (nat_le net m) _ _ _ _ (writes_moved a m k) (row_writes_moved rest m k)
 
@@ -136,15 +148,18 @@ module _ (net word : ℕ) where
     adds_moved : (a : Act) (m k : ℕ) → adds (moved_act net word a) m k ≡ moved_bits net word (adds a) m k
     adds_moved (Set target e) m k = target_adds_moved target m k
     adds_moved (Read e) m k = no (nat_le net m)
-    adds_moved (Branch' n guards l otherwise) m k = all_of (nat_le net m) _ _ _ _ (guard_adds_moved guards m k) (row_adds_moved otherwise m k)
+    adds_moved (Branch' n guards l otherwise) m k =
+        all_of (nat_le net m) _ _ _ _ (guard_adds_moved guards m k) (row_adds_moved otherwise m k)
 
-    guard_adds_moved : {n : _} → (row : Row_of-Guard n) (m k : ℕ) → nat_le net m ≡ true → adds_guards (moved_guards net word row) m k ≡ adds_guards row (m - net) k
+    guard_adds_moved : {n : _} → (row : Row_of-Guard n) (m k : ℕ) → nat_le net m ≡ true
+        → adds_guards (moved_guards net word row) m k ≡ adds_guards row (m - net) k
     guard_adds_moved end_of-Guard m k h = refl
     guard_adds_moved (more_of-Guard c n body rest) m k h =
         ap (λ z. z && adds_guards (moved_guards net word rest) m k) (under_true (nat_le net m) _ _ (row_adds_moved body m k) h)
         ∙ ap (λ z. adds_row body (m - net) k && z) (guard_adds_moved rest m k h)
 
-    row_adds_moved : {n : _} → (row : Row_of-Act n) (m k : ℕ) → adds_row (moved_row net word row) m k ≡ moved_bits net word (adds_row row) m k
+    row_adds_moved : {n : _} → (row : Row_of-Act n) (m k : ℕ) → adds_row (moved_row net word row) m k ≡ moved_bits net word
+        (adds_row row) m k
     row_adds_moved end_of-Act m k = no (nat_le net m)
     row_adds_moved (more_of-Act a rest) m k = under_or (nat_le net m) _ _ _ _ (adds_moved a m k) (row_adds_moved rest m k)
 
@@ -152,7 +167,8 @@ module _ (net word : ℕ) where
   abbrev Same : BitSet → BitSet → Type 0
   Same s t = (m k : ℕ) → nat_le net m ≡ true → s m k ≡ t (m - net) k
 
-  more_known : (t : Timing) (s u : BitSet) (a : Act) → Same s u → Same (known_after t s (adds (moved_act net word a))) (known_after t u (adds a))
+  more_known : (t : Timing) (s u : BitSet) (a : Act) → Same s u → Same (known_after t s (adds (moved_act net word a)))
+      (known_after t u (adds a))
   more_known Blocking s u a h m k l = both_of _ _ _ _ (h m k l) (under_true (nat_le net m) _ _ (adds_moved a m k) l)
   more_known Nonblocking s u a h m k l = h m k l
 
@@ -180,11 +196,13 @@ module _ (net word : ℕ) where
         (row_open_moved t rest (known_after t s (adds (moved_act net word a))) (known_after t u (adds a)) (more_known t s u a h) m k)
 
   -- ---- blocks
-  pub block_writes_moved : (acts : List Act) (m k : ℕ) → block_writes (map (moved_act net word) acts) m k ≡ moved_bits net word (block_writes acts) m k
+  pub block_writes_moved : (acts : List Act) (m k : ℕ) → block_writes (map (moved_act net word) acts) m k ≡ moved_bits net word
+      (block_writes acts) m k
   block_writes_moved [] m k = no (nat_le net m)
   block_writes_moved (a ∷ rest) m k = under_or (nat_le net m) _ _ _ _ (writes_moved a m k) (block_writes_moved rest m k)
 
-  pub block_adds_moved : (acts : List Act) (m k : ℕ) → block_adds (map (moved_act net word) acts) m k ≡ moved_bits net word (block_adds acts) m k
+  pub block_adds_moved : (acts : List Act) (m k : ℕ) → block_adds (map (moved_act net word) acts) m k ≡ moved_bits net word
+      (block_adds acts) m k
   block_adds_moved [] m k = no (nat_le net m)
   block_adds_moved (a ∷ rest) m k = under_or (nat_le net m) _ _ _ _ (adds_moved a m k) (block_adds_moved rest m k)
 

@@ -6,12 +6,14 @@ use Rattle.net_design.specs.declared.rhs.Room.{Room}
 use Rattle.net_design.specs.declared.rhs.Rhs.{Rhs, Number, Bits, Word', Unary', Binary', Choose', Join', Repeat', Select'}
 use Rattle.net_design.specs.declared.act.Place.{Place}
 use Rattle.net_design.specs.declared.act.Place.TheVariants.{Bits as PlaceBits, BitsFrom, Word as PlaceWord, WordFrom}
-use Rattle.net_design.specs.declared.act.Act.{Act, Set, Read, Branch', Row_of-Act, end_of-Act, more_of-Act, Row_of-Guard, end_of-Guard, more_of-Guard}
+use Rattle.net_design.specs.declared.act.Act.{Act, Set, Read, Branch', Row_of-Act, end_of-Act, more_of-Act, Row_of-Guard, end_of-Guard}
+use Rattle.net_design.specs.declared.act.Act.{more_of-Guard}
 use Rattle.net_design.specs.Sized.{IsRhs, IsPlace, IsAct, IsGuardRow, IsActRow, IsBlock}
 use Rattle.net_design.specs.Moved.{moved_span, moved_room, moved_rhs, moved_place, moved_act, moved_guards, moved_row}
 use Rattle.net_design.proofs.MovedValues.{width_moved}
 
-module _ (net word : ℕ) (P Q : Span → Type 0) (R S : Room → ℕ → Type 0) (p : (s : Span) → P s → Q (moved_span net word s)) (r : (x : Room) (n : ℕ) → R x n → S (moved_room net word x) n) where
+module _ (net word : ℕ) (P Q : Span → Type 0) (R S : Room → ℕ → Type 0) (p : (s : Span) → P s
+    → Q (moved_span net word s)) (r : (x : Room) (n : ℕ) → R x n → S (moved_room net word x) n) where
   rhs_in : (e : Rhs) → IsRhs P R e → IsRhs Q S (moved_rhs net word e)
   rhs_in (Number n) h = tt
   rhs_in (Bits s) h = (h.0, p s h.1)

@@ -3,7 +3,9 @@ use Rattle.std.proofs.Common.{◌≡◌, ℕ, ◌==◌, Bool, List, ◌++◌, if
 use Rattle.net_design.specs.declared.rhs.Span.{Span}
 use Rattle.net_design.specs.declared.rhs.Room.{Room}
 use Rattle.net_design.specs.declared.act.Guard.{Guard}
-use Rattle.net_design.specs.declared.act.Act.{Act, Row_of-Act, end_of-Act, more_of-Act, Row_of-Guard, end_of-Guard, more_of-Guard, items-the_row-Act, items_shown-the_row-Act-0, items_hidden-the_row-Act-0, items-the_row-Guard, items_hidden-the_row-Guard-1}
+use Rattle.net_design.specs.declared.act.Act.{Act, Row_of-Act, end_of-Act, more_of-Act, Row_of-Guard, end_of-Guard, more_of-Guard}
+use Rattle.net_design.specs.declared.act.Act.{items-the_row-Act, items_shown-the_row-Act-0, items_hidden-the_row-Act-0, items-the_row-Guard}
+use Rattle.net_design.specs.declared.act.Act.{items_hidden-the_row-Guard-1}
 use Rattle.net_design.specs.declared.act.Act.TheVariants.{Branch}
 use Rattle.net_design.specs.declared.act.Act.TheBlock.{hidden-the_row-Act-0, hidden-the_row-Guard-1, shown-the_row-Act-0}
 use Rattle.net_design.specs.declared.act.Timing.{Timing}
@@ -20,18 +22,22 @@ act_items t (more_of-Act a rest) v = ap (λ us. updates t a v ++ us) (act_items 
 pub act_hidden : (t : Timing) (acts : List Act) (v : Values) → act_row t (hidden-the_row-Act-0 acts) v ≡ block_updates t acts v
 act_hidden t acts v = act_items t (hidden-the_row-Act-0 acts) v ∙ ap (λ xs. block_updates t xs v) (items_hidden-the_row-Act-0 acts)
 
-body_items : {n : _} → (t : Timing) (body : Row_of-Act n) (v : Values) (acts : List Act) → acts ≡ items-the_row-Act n body → act_row t body v ≡ block_updates t acts v
+body_items : {n : _} → (t : Timing) (body : Row_of-Act n) (v : Values) (acts : List Act) → acts ≡ items-the_row-Act n body
+    → act_row t body v ≡ block_updates t acts v
 body_items t body v acts h = act_items t body v ∙ ap (λ xs. block_updates t xs v) (sym h)
 
 choice : (b : Bool) (x x' y y' : List Update) → x ≡ x' → y ≡ y' → (if b then x else y) ≡ (if b then x' else y')
 choice b x x' y y' h k = ap (λ u. if b then u else y) h ∙ ap (λ u. if b then x' else u) k
 
-guard_items : {n : _} → (t : Timing) (row : Row_of-Guard n) (us : List Update) (v : Values) → guard_row t row us v ≡ guard_updates t (items-the_row-Guard n row) us v
+guard_items : {n : _} → (t : Timing) (row : Row_of-Guard n) (us : List Update) (v : Values)
+    → guard_row t row us v ≡ guard_updates t (items-the_row-Guard n row) us v
 guard_items t end_of-Guard us v = refl
 guard_items t (more_of-Guard c k body rest) us v =
-    choice (value c v == 0) _ _ _ _ (guard_items t rest us v) (body_items t body v (shown-the_row-Act-0 k body) (items_shown-the_row-Act-0 k body))
+    choice (value c v == 0) _ _ _ _ (guard_items t rest us v)
+    (body_items t body v (shown-the_row-Act-0 k body) (items_shown-the_row-Act-0 k body))
 
-pub updates_branch : (t : Timing) (guards : List Guard) (acts : List Act) (v : Values) → updates t (Branch guards acts) v ≡ guard_updates t guards (block_updates t acts v) v
+pub updates_branch : (t : Timing) (guards : List Guard) (acts : List Act) (v : Values)
+    → updates t (Branch guards acts) v ≡ guard_updates t guards (block_updates t acts v) v
 updates_branch t guards acts v =
     guard_items t (hidden-the_row-Guard-1 guards) (act_row t (hidden-the_row-Act-0 acts) v) v
     ∙ ap (λ xs. guard_updates t xs (act_row t (hidden-the_row-Act-0 acts) v) v) (items_hidden-the_row-Guard-1 guards)

@@ -1,5 +1,6 @@
 -- The parts of a settled map, told by tests.
-use Rattle.std.proofs.Common.{◌≡◌, ℕ, ◌==◌, ◌&&◌, ◌↔◌, Bool, true, false, IsTrue, List, Some, All, get_or, slice_index, refl, sym, subst, ◌∙◌}
+use Rattle.std.proofs.Common.{◌≡◌, ℕ, ◌==◌, ◌&&◌, ◌↔◌, Bool, true, false, IsTrue, List, Some, All, get_or, slice_index, refl, sym, subst}
+use Rattle.std.proofs.Common.{◌∙◌}
 use Rattle.std.specs.Int.{bit_at}
 use Rattle.std.proofs.lemmas.Bool.{eqb-true, eq-eqb}
 use Rattle.std.proofs.lemmas.List.Folds.{Any-from_list_any, list_any_at}
@@ -38,7 +39,8 @@ by_registers d v s all m k h =
 by_bits : (d : Design) (v s : List ℕ) → SameHeld d v s → All (SameBits v s) d.registers
 by_bits d v s same i r l k h =
     let x : Register = get_or d.registers i r in
-    same x.net k (list_any_at (λ (y : Register). (y.net == x.net) && has y.held k) d.registers i r l (and_both _ _ (eq-eqb x.net x.net refl) h))
+    same x.net k (list_any_at (λ (y : Register). (y.net == x.net) && has y.held k) d.registers i r l
+    (and_both _ _ (eq-eqb x.net x.net refl) h))
 
 pub same_held : (d : Design) (v s : List ℕ) → All (SameBits v s) d.registers ↔ SameHeld d v s
 same_held d v s = (by_registers d v s, by_bits d v s)

@@ -1,6 +1,8 @@
 -- The initial state is a state, and so is the next state of a state.
-use Rattle.std.proofs.Common.{◌≡◌, ◌≢◌, ℕ, zero, suc, ◌+◌, ◌-◌, ◌*◌, ◌/◌, ◌%◌, ◌^◌, ◌<◌, ◌≤◌, ◌==◌, ◌&&◌, ◌||◌, min, nat_lt, Bool, true, false, IsTrue}
-use Rattle.std.proofs.Common.{List, [], ◌∷◌, ◌++◌, map, take, replicate, length, get_or, slice_index, slice_set, slice_get, All, Option, Some, None}
+use Rattle.std.proofs.Common.{◌≡◌, ◌≢◌, ℕ, zero, suc, ◌+◌, ◌-◌, ◌*◌, ◌/◌, ◌%◌, ◌^◌, ◌<◌, ◌≤◌, ◌==◌, ◌&&◌, ◌||◌, min, nat_lt, Bool, true}
+use Rattle.std.proofs.Common.{false, IsTrue}
+use Rattle.std.proofs.Common.{List, [], ◌∷◌, ◌++◌, map, take, replicate, length, get_or, slice_index, slice_set, slice_get, All, Option}
+use Rattle.std.proofs.Common.{Some, None}
 use Rattle.std.proofs.Common.{if◌then◌else◌, ⊎_elim, refl, ap, sym, subst, ◌∙◌, arith}
 use Rattle.std.specs.Int.{bit_at}
 use Rattle.std.specs.List.{AllByRecursion, Contains, list_any, flat_map, enumerate_from, sum_by}
@@ -16,7 +18,8 @@ use Rattle.vidi_bits.proofs.BitLemmas.{bit_at-mod, bit_at-mod_above, bit_at-put_
 use Rattle.net_design.specs.declared.rhs.Room.{Room}
 use Rattle.net_design.specs.declared.act.Place.{Place}
 use Rattle.net_design.specs.declared.act.Place.TheVariants.{Bits, BitsFrom, Word, WordFrom}
-use Rattle.net_design.specs.declared.act.Act.{Act, Set, Read, Branch', Row_of-Act, end_of-Act, more_of-Act, Row_of-Guard, end_of-Guard, more_of-Guard}
+use Rattle.net_design.specs.declared.act.Act.{Act, Set, Read, Branch', Row_of-Act, end_of-Act, more_of-Act, Row_of-Guard, end_of-Guard}
+use Rattle.net_design.specs.declared.act.Act.{more_of-Guard}
 use Rattle.net_design.specs.declared.act.Code.{Code}
 use Rattle.net_design.specs.declared.act.Timing.{Timing}
 use Rattle.net_design.specs.declared.act.Timing.TheVariants.{Nonblocking}
@@ -31,7 +34,8 @@ use Rattle.net_design.specs.declared.values.Values.{Values}
 use Rattle.vlog_operators.specs.Number.{has, put_of}
 use Rattle.net_design.specs.Value.{value}
 use Rattle.net_design.specs.Sized.{IsPlace, IsAct, IsGuardRow, IsActRow, IsBlock}
-use Rattle.net_design.specs.Updates.{written_to, apply, place_updates, target_width, target_updates, seen, updates, guard_row, act_row, block_updates}
+use Rattle.net_design.specs.Updates.{written_to, apply, place_updates, target_width, target_updates, seen, updates, guard_row, act_row}
+use Rattle.net_design.specs.Updates.{block_updates}
 use Rattle.net_design.specs.Bits.{block_writes}
 use Rattle.net_design.specs.Settled.{net_width, held, word_count, FitNets, clocked, next, initial_number, initial}
 use Rattle.net_design.specs.Lawful.{IsLawful, IsClocked, IsRegister, IsInRange, IsState, is_span, is_room}
@@ -98,7 +102,8 @@ state_fits d law numbers long rest = record {
 }
 
 -- ---- the initial state
-either_number : (b c : Bool) (x y k : ℕ) → ((b && c) ≡ false → b ≡ true → bit_at x k ≡ 0) → (b && c) ≡ false → bit_at y k ≡ 0 → bit_at (if b then x else y) k ≡ 0
+either_number : (b c : Bool) (x y k : ℕ) → ((b && c) ≡ false → b ≡ true → bit_at x k ≡ 0) → (b && c) ≡ false → bit_at y k ≡ 0
+    → bit_at (if b then x else y) k ≡ 0
 either_number true c x y k f h g = f h refl
 either_number false c x y k f h g = g
 
@@ -106,7 +111,8 @@ and_true : (b c : Bool) → (b && c) ≡ false → b ≡ true → c ≡ false
 and_true true c h t = h
 and_true false c h t = absurd cc
 
-initial_rest : (rs : List Register) → ((i : ℕ) (r : Register) → slice_get rs i ≡ Some r → (k : ℕ) → has r.held k ≡ false → bit_at r.initial k ≡ 0) → (m k : ℕ)
+initial_rest : (rs : List Register) → ((i : ℕ) (r : Register) → slice_get rs i ≡ Some r → (k : ℕ) → has r.held k ≡ false
+    → bit_at r.initial k ≡ 0) → (m k : ℕ)
     → list_any (λ (r : Register). (r.net == m) && has r.held k) rs ≡ false → bit_at (initial_number rs m) k ≡ 0
 initial_rest [] all m k h = bit_at_above 0 0 k (omega arith) (omega arith)
 initial_rest (r ∷ rest) all m k h =
@@ -123,7 +129,8 @@ numbers_long : (rs : List Register) (start : ℕ) (ns : List Net) → length (nu
 numbers_long rs start [] = refl
 numbers_long rs start (n ∷ ns) = ap suc (numbers_long rs (start + 1) ns)
 
-number_at : (rs : List Register) (start : ℕ) (ns : List Net) (m : ℕ) → m < length ns → slice_index (numbers_from rs start ns) m ≡ initial_number rs (start + m)
+number_at : (rs : List Register) (start : ℕ) (ns : List Net) (m : ℕ) → m < length ns
+    → slice_index (numbers_from rs start ns) m ≡ initial_number rs (start + m)
 number_at rs start [] m l = absurd (omega arith)
 number_at rs start (n ∷ ns) zero l = ap (initial_number rs) (omega arith)
 number_at rs start (n ∷ ns) (suc m) l = number_at rs (start + 1) ns m (omega arith) ∙ ap (initial_number rs) (omega arith)
@@ -132,7 +139,8 @@ zero_bits : (k : ℕ) → bit_at 0 k ≡ 0
 zero_bits k = bit_at_above 0 0 k (omega arith) (omega arith)
 
 register_at : (d : Design) → IsLawful d → (i : ℕ) (r : Register) → slice_get d.registers i ≡ Some r → IsRegister d r
-register_at d law i r e = subst (IsRegister d) (get_or_from_slice_get d.registers i r r e) (law.registers i r (slice_get_within d.registers i r e))
+register_at d law i r e =
+    subst (IsRegister d) (get_or_from_slice_get d.registers i r r e) (law.registers i r (slice_get_within d.registers i r e))
 
 initial_bits : (d : Design) → IsLawful d → (m k : ℕ) → held d m k ≡ false → bit_at (slice_index (initial d).nets m) k ≡ 0
 initial_bits d law m k h = ⊎_elim
@@ -140,7 +148,8 @@ initial_bits d law m k h = ⊎_elim
     ap (λ n. bit_at n k) (number_at d.registers 0 d.nets m l ∙ ap (initial_number d.registers) (omega arith))
     ∙ initial_rest d.registers (λ i r e. (register_at d law i r e).initial) m k h)
     (λ (g : length d.nets ≤ m).
-    let past : slice_index (initial d).nets m ≡ 0 = get_or_past (initial d).nets m 0 (subst (λ n. n ≤ m) (sym (numbers_long d.registers 0 d.nets)) g) in
+    let past : slice_index (initial d).nets m ≡ 0 = get_or_past (initial d).nets m 0
+    (subst (λ n. n ≤ m) (sym (numbers_long d.registers 0 d.nets)) g) in
     ap (λ n. bit_at n k) past ∙ zero_bits k)
     (cases_lt m (length d.nets))
 
@@ -164,7 +173,8 @@ pub written_long : (t : Target) (u : Update) (v : Values)
 written_long (NetTarget m) u v = (length-set v.nets m (put_of (slice_index v.nets m) u.low u.width u.number), refl)
 written_long (WordTarget i) u v = (refl, length-set v.words i (put_of (slice_index v.words i) u.low u.width u.number))
 
-pub applied_long : (us : List Update) (v : Values) → (length (apply us v).nets ≡ length v.nets) × (length (apply us v).words ≡ length v.words)
+pub applied_long : (us : List Update) (v : Values) → (length (apply us v).nets ≡ length v.nets) ×
+    (length (apply us v).words ≡ length v.words)
 applied_long [] v = (refl, refl)
 applied_long (u ∷ us) v =
     let first = written_long u.target u v in
@@ -180,7 +190,8 @@ set_narrow xs n low w y h m = ⊎_elim
     (λ (there : n < length xs). subst (λ k. slice_index (slice_set xs n (put_of (slice_index xs n) low w y)) k < 2 ^ 128) e
     (subst (λ z. z < 2 ^ 128) (sym (get_or-set_same xs n (put_of (slice_index xs n) low w y) 0 there))
     (mod_below ((slice_index xs n / 2 ^ (low + w) * 2 ^ w + y % 2 ^ w) * 2 ^ low + slice_index xs n % 2 ^ low) (2 ^ 128) (pow_pos 128))))
-    (λ (past : length xs ≤ n). subst (λ zs. slice_index zs m < 2 ^ 128) (sym (set_past xs n (put_of (slice_index xs n) low w y) past)) (h m))
+    (λ (past : length xs ≤ n). subst (λ zs. slice_index zs m < 2 ^ 128) (sym (set_past xs n (put_of (slice_index xs n) low w y) past))
+    (h m))
     (cases_lt n (length xs)))
     (λ (d : m ≢ n). subst (λ z. z < 2 ^ 128) (sym (get_or-set_other xs n m (put_of (slice_index xs n) low w y) 0 d)) (h m))
     (same_or_other n m)
@@ -217,7 +228,8 @@ same_in : {X : Type 0} (x y : X) → Some x ≡ Some y → x ≡ y
 same_in x y h = ap (λ o. from_some o x) h
 
 -- the words before memory q have those of memory p, where p comes first
-before : (ms : List DesignMemory) (p q : ℕ) (a : DesignMemory) → slice_get ms p ≡ Some a → p < q → sum_by size_of (take p ms) + size_of a ≤ sum_by size_of (take q ms)
+before : (ms : List DesignMemory) (p q : ℕ) (a : DesignMemory) → slice_get ms p ≡ Some a → p < q
+    → sum_by size_of (take p ms) + size_of a ≤ sum_by size_of (take q ms)
 before [] p q a h l = absurd cc
 before (m ∷ ms) zero zero a h l = absurd (omega arith)
 before (m ∷ ms) zero (suc q) a h l =
@@ -245,7 +257,8 @@ one_memory d law p q a b ha hb x y lx ly e =
     (cases_lt q p))
     (cases_lt p q)
 
-room_within : (d : Design) → IsLawful d → (r : Room) (n : ℕ) → IsTrue (is_room d r n) → (x m : ℕ) → x < r.length → m ≤ n → IsWithin d (WordTarget (r.first + x)) m
+room_within : (d : Design) → IsLawful d → (r : Room) (n : ℕ) → IsTrue (is_room d r n) → (x m : ℕ) → x < r.length → m ≤ n
+    → IsWithin d (WordTarget (r.first + x)) m
 room_within d law r n h x m lx lm a i c l e =
     let found = Any-from_list_any _ d.memories h in
     let b : DesignMemory = found.1 in
@@ -293,29 +306,35 @@ module _ (d : Design) (law : IsLawful d) where
   target_within (p ∷ ps) h x v = within_both _ _ (place_within p h.0 (x / 2 ^ target_width ps) v) (target_within ps h.1 x v)
 
   mutual
-    act_within : (t : Timing) (a : Act) → IsAct (λ s. IsTrue (is_span d s)) (λ r n. IsTrue (is_room d r n)) a → (v : Values) → AreWithin d (updates t a v)
+    act_within : (t : Timing) (a : Act) → IsAct (λ s. IsTrue (is_span d s)) (λ r n. IsTrue (is_room d r n)) a → (v : Values)
+        → AreWithin d (updates t a v)
     act_within t (Set target e) h v = target_within target h.1 (value e v) v
     act_within t (Read e) h v = tt
     act_within t (Branch' n guards m otherwise) h v = guards_within t guards h.0 (act_row t otherwise v) v (row_within t otherwise h.1 v)
 
-    guards_within : {n : _} → (t : Timing) (row : Row_of-Guard n) → IsGuardRow (λ s. IsTrue (is_span d s)) (λ r n. IsTrue (is_room d r n)) row
+    guards_within : {n : _} → (t : Timing) (row : Row_of-Guard n) → IsGuardRow (λ s. IsTrue (is_span d s))
+        (λ r n. IsTrue (is_room d r n)) row
         → (us : List Update) (v : Values) → AreWithin d us → AreWithin d (guard_row t row us v)
     guards_within t end_of-Guard h us v k = k
     guards_within t (more_of-Guard c l body rest) h us v k =
-        if_within (value c v == 0) (guard_row t rest us v) (act_row t body v) (λ u. guards_within t rest h.1 us v k) (row_within t body h.0.1 v)
+        if_within (value c v == 0) (guard_row t rest us v) (act_row t body v) (λ u. guards_within t rest h.1 us v k)
+        (row_within t body h.0.1 v)
 
     row_within : {n : _} → (t : Timing) (row : Row_of-Act n) → IsActRow (λ s. IsTrue (is_span d s)) (λ r n. IsTrue (is_room d r n)) row
         → (v : Values) → AreWithin d (act_row t row v)
     row_within t end_of-Act h v = tt
     row_within t (more_of-Act a rest) h v =
-        within_both (updates t a v) (act_row t rest (seen t (updates t a v) v)) (act_within t a h.0 v) (row_within t rest h.1 (seen t (updates t a v) v))
+        within_both (updates t a v) (act_row t rest (seen t (updates t a v) v)) (act_within t a h.0 v)
+        (row_within t rest h.1 (seen t (updates t a v) v))
 
   block_within : (t : Timing) (acts : List Act) → IsInRange d acts → (v : Values) → AreWithin d (block_updates t acts v)
   block_within t [] h v = tt
   block_within t (a ∷ rest) h v =
-      within_both (updates t a v) (block_updates t rest (seen t (updates t a v) v)) (act_within t a h.0 v) (block_within t rest h.1 (seen t (updates t a v) v))
+      within_both (updates t a v) (block_updates t rest (seen t (updates t a v) v)) (act_within t a h.0 v)
+      (block_within t rest h.1 (seen t (updates t a v) v))
 
-  written_fit : (t : Target) (u : Update) (v : Values) → IsWithin d t (u.low + u.width) → WordsFit d v.words → WordsFit d (written_to t u v).words
+  written_fit : (t : Target) (u : Update) (v : Values) → IsWithin d t (u.low + u.width) → WordsFit d v.words
+      → WordsFit d (written_to t u v).words
   written_fit (NetTarget m) u v h k a i c l = k a i c l
   written_fit (WordTarget j) u v h k a i c l =
       let x : ℕ = put_of (slice_index v.words j) u.low u.width u.number in
@@ -323,8 +342,10 @@ module _ (d : Design) (law : IsLawful d) where
       (λ (e : j ≡ a.room.first + i). ⊎_elim
       (λ (there : j < length v.words). subst (λ n. slice_index (slice_set v.words j x) n < 2 ^ a.width) e
       (subst (λ z. z < 2 ^ a.width) (sym (get_or-set_same v.words j x 0 there))
-      (put_fits (slice_index v.words j) u.low u.width u.number a.width (subst (λ n. slice_index v.words n < 2 ^ a.width) (sym e) (k a i c l)) (h a i c l (sym e)))))
-      (λ (past : length v.words ≤ j). subst (λ zs. slice_index zs (a.room.first + i) < 2 ^ a.width) (sym (set_past v.words j x past)) (k a i c l))
+      (put_fits (slice_index v.words j) u.low u.width u.number a.width
+      (subst (λ n. slice_index v.words n < 2 ^ a.width) (sym e) (k a i c l)) (h a i c l (sym e)))))
+      (λ (past : length v.words ≤ j). subst (λ zs. slice_index zs (a.room.first + i) < 2 ^ a.width) (sym (set_past v.words j x past))
+      (k a i c l))
       (cases_lt j (length v.words)))
       (λ (o : a.room.first + i ≢ j). subst (λ z. z < 2 ^ a.width) (sym (get_or-set_other v.words j (a.room.first + i) x 0 o)) (k a i c l))
       (same_or_other j (a.room.first + i))
@@ -349,7 +370,8 @@ module _ (d : Design) (law : IsLawful d) where
       within_both (block_updates Nonblocking c.acts v) (all_updates bs v) (block_within Nonblocking c.acts (h zero c refl).code.acts v)
       (all_within bs (λ i x e. h (suc i) x e) v)
 
-  untouched : (c : Code) → IsClocked d c → (v : Values) (m k : ℕ) → held d m k ≡ false → touched (block_updates Nonblocking c.acts v) m k ≡ false
+  untouched : (c : Code) → IsClocked d c → (v : Values) (m k : ℕ) → held d m k ≡ false
+      → touched (block_updates Nonblocking c.acts v) m k ≡ false
   untouched c h v m k e =
       block_touch Nonblocking c.acts v m k (by_true _ (λ t. not_both _ (h.held m k (h.code.bits.writes m k ∙ t)) e))
 

@@ -1,5 +1,6 @@
 -- A concatenated target: running its assignment changes nothing exactly where each part has its bits of the value.
-use Rattle.std.proofs.Common.{◌≡◌, ℕ, ◌==◌, Bool, true, false, if◌then◌else◌, subst, ◌+◌, ◌-◌, ◌/◌, ◌%◌, ◌^◌, ◌<◌, ◌≤◌, ◌↔◌, List, [], ◌∷◌, ◌++◌, length, slice_index, append-nil, refl, ap, sym, ◌∙◌, arith}
+use Rattle.std.proofs.Common.{◌≡◌, ℕ, ◌==◌, Bool, true, false, if◌then◌else◌, subst, ◌+◌, ◌-◌, ◌/◌, ◌%◌, ◌^◌, ◌<◌, ◌≤◌, ◌↔◌, List, [], ◌∷◌}
+use Rattle.std.proofs.Common.{◌++◌, length, slice_index, append-nil, refl, ap, sym, ◌∙◌, arith}
 use Rattle.std.specs.Int.{bit_at}
 use Rattle.std.proofs.lemmas.Bool.{le-leb, lt-ltb, eq-eqb, eqb-true}
 use Rattle.std.proofs.lemmas.List.{get_or-set_same}
@@ -23,7 +24,9 @@ use Rattle.net_design.proofs.UpdateLaws.{apply_both}
 use Rattle.net_design.proofs.FrameLaws.{applied_stays, target_touch, and_both}
 
 in_span : (s : Span) (i : ℕ) → i < s.width → bits_of s s.net (s.low + i) ≡ true
-in_span s i l = and_both _ _ (eq-eqb s.net s.net refl) (and_both _ _ (le-leb s.low (s.low + i) (omega arith)) (lt-ltb (s.low + i) (s.low + s.width) (omega arith)))
+in_span s i l =
+    and_both _ _ (eq-eqb s.net s.net refl) (and_both _ _ (le-leb s.low (s.low + i) (omega arith))
+    (lt-ltb (s.low + i) (s.low + s.width) (omega arith)))
 
 -- v after w bits were written, or none
 abbrev after_bits : Bool → ℕ → ℕ → ℕ → ℕ → Values → Values
@@ -36,7 +39,8 @@ first_part : (none : Bool) (m low w : ℕ) (us : List Update) (x : ℕ) (v : Val
     → apply us (after_bits none m low w x v) ≡ v
     → part_of (slice_index v.nets m) low w ≡ x % 2 ^ w
 first_part true m low w us x v z there wide stay same =
-    subst (λ k. slice_index v.nets m / 2 ^ low % 2 ^ k ≡ x % 2 ^ k) (sym (z refl)) (rest_one (slice_index v.nets m / 2 ^ low) ∙ sym (rest_one x))
+    subst (λ k. slice_index v.nets m / 2 ^ low % 2 ^ k ≡ x % 2 ^ k) (sym (z refl)) (rest_one (slice_index v.nets m / 2 ^ low)
+    ∙ sym (rest_one x))
 first_part false m low w us x v z there wide stay same =
     same_from_bits_below w _ _ (mod_below (slice_index v.nets m / 2 ^ low) (2 ^ w) (pow_pos w)) (mod_below x (2 ^ w) (pow_pos w))
     (λ i l.
@@ -82,7 +86,9 @@ parts_fixed (WordFrom r i size j w ∷ ps) x v placed h = absurd placed
 no_more : (us : List Update) → us ++ [] ≡ us
 no_more us = append-nil us
 
-pub target_equation : (target : List Place) (e : Rhs) (v : Values) → ArePlaced target v → Apart target → (run (Set target e ∷ []) v ≡ v) ↔ HasParts target (value e v) v
+pub target_equation : (target : List Place) (e : Rhs) (v : Values) → ArePlaced target v → Apart target
+    → (run (Set target e ∷ []) v ≡ v) ↔ HasParts target (value e v) v
 target_equation target e v placed apart =
-    let whole : run (Set target e ∷ []) v ≡ apply (target_updates target (value e v) v) v = ap (λ us. apply us v) (no_more (target_updates target (value e v) v)) in
+    let whole : run (Set target e ∷ []) v ≡ apply (target_updates target (value e v) v) v = ap (λ us. apply us v)
+    (no_more (target_updates target (value e v) v)) in
     ((λ h. parts_from target (value e v) v placed apart (sym whole ∙ h)), (λ h. whole ∙ parts_fixed target (value e v) v placed h))

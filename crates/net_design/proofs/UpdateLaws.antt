@@ -20,7 +20,8 @@ from_here xs k x l e = rw add-one (drop-cons xs k x l ∙ ap (λ y. y ∷ drop (
 -- one more clocked block
 pub blocks_step : (blocks : List Code) (k : ℕ) (c : Code) (us : List Update) (v s t : Values) → k < length blocks → c ≡ get_or blocks k c
     → us ≡ block_updates Nonblocking c.acts v → t ≡ apply us s
-    → apply (flat_map (λ (x : Code). block_updates Nonblocking x.acts v) (drop (k + 1) blocks)) t ≡ apply (flat_map (λ (x : Code). block_updates Nonblocking x.acts v) (drop k blocks)) s
+    → apply (flat_map (λ (x : Code). block_updates Nonblocking x.acts v) (drop (k + 1) blocks)) t ≡ apply
+    (flat_map (λ (x : Code). block_updates Nonblocking x.acts v) (drop k blocks)) s
 blocks_step blocks k c us v s t l e same after =
     let f : Code → List Update = λ x. block_updates Nonblocking x.acts v in
     ap (λ y. apply (flat_map f (drop (k + 1) blocks)) y) after
@@ -37,10 +38,12 @@ seen_both Blocking us ws v = apply_both us ws v
 seen_both Nonblocking us ws v = refl
 
 -- the updates of two lists of statements are those of the first, then of the second, which sees what the first made
-pub two_blocks : (t : Timing) (xs ys : List Act) (v : Values) → block_updates t (xs ++ ys) v ≡ block_updates t xs v ++ block_updates t ys (seen t (block_updates t xs v) v)
+pub two_blocks : (t : Timing) (xs ys : List Act) (v : Values) → block_updates t (xs ++ ys) v ≡ block_updates t xs v ++ block_updates t ys
+    (seen t (block_updates t xs v) v)
 two_blocks t [] ys v = sym (ap (λ u. block_updates t ys u) (seen_nothing t v))
 two_blocks t (a ∷ xs) ys v =
     let us : List Update = updates t a v in
     ap (λ ws. us ++ ws) (two_blocks t xs ys (seen t us v))
-    ∙ sym (append_assoc us (block_updates t xs (seen t us v)) (block_updates t ys (seen t (block_updates t xs (seen t us v)) (seen t us v))))
+    ∙ sym (append_assoc us (block_updates t xs (seen t us v))
+    (block_updates t ys (seen t (block_updates t xs (seen t us v)) (seen t us v))))
     ∙ ap (λ u. us ++ block_updates t xs (seen t us v) ++ block_updates t ys u) (sym (seen_both t us (block_updates t xs (seen t us v)) v))

@@ -49,7 +49,8 @@ guard_reads t (g ∷ rest) known m k =
 pub record Arm (t : Timing) (g : Guard) (all both : List Mask) (before after : Found) : Type 0 where
   pub writes : (m k : ℕ) → in_map after.writes m k ≡ (in_map before.writes m k || block_writes g.body m k)
   pub reads : (m k : ℕ) → in_map after.reads m k
-      ≡ (in_map before.reads m k || ((reads g.condition m k && not (in_map before.known m k)) || block_open_reads t g.body (in_map before.known) m k))
+      ≡ (in_map before.reads m k || ((reads g.condition m k && not (in_map before.known m k)) || block_open_reads t g.body
+      (in_map before.known) m k))
   pub known : (m k : ℕ) → in_map after.known m k ≡ in_map before.known m k
   pub masks : (m k : ℕ) → named both m k ≡ (named all m k && (in_map before.known m k || learned t (block_adds g.body) m k))
 
@@ -65,4 +66,5 @@ pub record AfterArms (t : Timing) (gs : List Guard) (others : List Act) (before 
   pub reads : (m k : ℕ) → in_map now.reads m k
       ≡ (in_map before.reads m k || (guard_reads t gs (in_map before.known) m k || block_open_reads t others (in_map before.known) m k))
   pub known : (m k : ℕ) → in_map now.known m k ≡ in_map before.known m k
-  pub masks : (m k : ℕ) → named all m k ≡ (learned t (λ x y. guard_adds gs x y && block_adds others x y) m k && not (in_map before.known m k))
+  pub masks : (m k : ℕ) → named all m k ≡ (learned t (λ x y. guard_adds gs x y && block_adds others x y) m k && not
+      (in_map before.known m k))

@@ -81,7 +81,14 @@ pub record IsRegister (d : Design) (r : Register) : Type 0 where
   pub initial : (k : ℕ) → has r.held k ≡ false → bit_at r.initial k ≡ 0
 
 abbrev pub counts : Design → Counts
-counts d = record { instances = length d.instances; nets = length d.nets; drivers = length d.drivers; blocks = length d.blocks; words = word_count d }
+counts d = record {
+  instances = length d.instances;
+  nets = length d.nets;
+  drivers = length d.drivers;
+  blocks = length d.blocks;
+  words =
+      word_count d;
+}
 
 pub record AreSmall (c : Counts) : Type 0 where
   pub instances : c.instances < 2 ^ 32
@@ -100,9 +107,11 @@ pub record IsLawful (d : Design) : Type 0 where
   -- nets, memories, ports and state
   pub nets : All (λ (n : Net). IsWidth n.width × (n.instance < length d.instances)) d.nets
   pub memories : All (λ (a : DesignMemory). IsWidth a.width × (1 ≤ a.room.length) × (a.instance < length d.instances)) d.memories
-  pub rooms : (i : ℕ) (a : DesignMemory) → slice_get d.memories i ≡ Some a → a.room.first ≡ sum_by (λ (x : DesignMemory). x.room.length) (take i d.memories)
+  pub rooms : (i : ℕ) (a : DesignMemory) → slice_get d.memories i ≡ Some a
+      → a.room.first ≡ sum_by (λ (x : DesignMemory). x.room.length) (take i d.memories)
   pub ports : length d.ports ≤ length d.nets
-  pub port_nets : (k : ℕ) (p : Port) (n : Net) → slice_get d.ports k ≡ Some p → slice_get d.nets k ≡ Some n → (n.name ≡ p.name) × (n.width ≡ p.width) × (n.instance ≡ 0)
+  pub port_nets : (k : ℕ) (p : Port) (n : Net) → slice_get d.ports k ≡ Some p → slice_get d.nets k ≡ Some n
+      → (n.name ≡ p.name) × (n.width ≡ p.width) × (n.instance ≡ 0)
   pub clock : (k : ℕ) → d.clock ≡ Some k → (is_input d k ≡ true) × (net_width d k ≡ 1)
   pub registers : All (IsRegister d) d.registers
   pub registers_differ : AllPairs (λ (a b : Register). a.net ≢ b.net) d.registers
@@ -110,7 +119,8 @@ pub record IsLawful (d : Design) : Type 0 where
   pub drivers : All (IsDriver d) d.drivers
   pub blocks : All (IsClocked d) d.blocks
   -- each bit of a net is an input's, or held by the state, or written by exactly one driver, and no driver writes another
-  pub driven : (m k : ℕ) → IsBit d m k → is_input d m ≡ false → held d m k ≡ false → count_by (λ (x : Driver). named x.code.writes m k) d.drivers ≡ 1
+  pub driven : (m k : ℕ) → IsBit d m k → is_input d m ≡ false → held d m k ≡ false
+      → count_by (λ (x : Driver). named x.code.writes m k) d.drivers ≡ 1
   pub others : (m k : ℕ) → (is_input d m ≡ true) ⊎ (held d m k ≡ true) → count_by (λ (x : Driver). named x.code.writes m k) d.drivers ≡ 0
 
 -- a state of a design: a number for each net and each word, which fits it. The bits that it doesn't hold are 0, so there is one

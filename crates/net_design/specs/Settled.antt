@@ -43,7 +43,8 @@ same_direction Output Output = true
 abbrev pub pins_of : Direction → List Port → List ℕ → List ℕ
 pins_of direction [] nets = []
 pins_of direction (p ∷ ports) [] = []
-pins_of direction (p ∷ ports) (x ∷ nets) = if same_direction direction p.direction then x ∷ pins_of direction ports nets else pins_of direction ports nets
+pins_of direction (p ∷ ports) (x ∷ nets) =
+    if same_direction direction p.direction then x ∷ pins_of direction ports nets else pins_of direction ports nets
 
 -- one number for each net, which fits it; past the last one a width is 0, and so is a number
 pub record FitNets (d : Design) (numbers : List ℕ) : Type 0 where
@@ -83,7 +84,11 @@ initial_number (r ∷ rest) m = if r.net == m then r.initial else initial_number
 
 -- registers have their initialisers, all else is 0
 abbrev pub initial : Design → Values
-initial d = record { nets = map (λ (n : ℕ × Net). initial_number d.registers n.0) (enumerate_from 0 d.nets); words = replicate (word_count d) 0 }
+initial d = record {
+  nets = map (λ (n : ℕ × Net). initial_number d.registers n.0) (enumerate_from 0 d.nets);
+  words = replicate
+      (word_count d) 0;
+}
 
 -- a design that can be evaluated: its widths are at most 128, its code is sized, and its words have numbers of 64 bits
 pub record IsSized (d : Design) : Type 0 where

@@ -15,7 +15,8 @@ ghost use Rattle.net_design.specs.Value.{value};
 ghost use Rattle.net_design.specs.Updates.{apply, block_updates, run};
 ghost use Rattle.net_design.specs.Bits.{named, reads, Apart, HasBits, block_writes, block_adds, block_reads, block_writes_words};
 ghost use Rattle.net_design.specs.Sized.{IsBlock};
-ghost use Rattle.net_design.specs.Moved.{moved_span, moved_room, moved_rhs, moved_place, moved_act, moved_mask, moved_bits, moved_update, moved, from_first};
+ghost use Rattle.net_design.specs.Moved.{moved_span, moved_room, moved_rhs, moved_place, moved_act, moved_mask, moved_bits, moved_update};
+ghost use Rattle.net_design.specs.Moved.{moved, from_first};
 
 /// The number of a moved expression is that of the expression, where nets and words count from the first places.
 pub fn moved_number()

@@ -194,6 +194,14 @@ pub fn acts_sized(acts: &Items<Act>, limit: u128) -> bool
     true
 }
 
+/// Whether statements can be evaluated: each width in them is 1 to 128, no place takes fewer bits than it writes, and each net
+/// and word has a number of 64 bits.
+pub fn is_sized_block(acts: &Items<Act>) -> bool
+    ensures { IsTrue result ↔ IsSizedBlock acts.now }
+{
+    acts_sized(acts, 1 << 64)
+}
+
 fn nets_narrow(nets: &[Net]) -> bool
     ensures { IsTrue result ↔ All (λ n. n.width ≤ 128) nets.now }
 {
@@ -212,7 +220,8 @@ fn blocks_sized(blocks: &[Code]) -> bool
     blocks.iter().all(|c| acts_sized(&c.acts, 1 << 64))
 }
 
-/// Whether a design can be evaluated: each width in it is at most 128, and each word has a number of 64 bits.
+/// Whether a design can be evaluated: each width in it is at most 128, its statements can be evaluated, and each word has a number
+/// of 64 bits.
 pub fn is_sized(design: &Design) -> bool
     ensures { IsTrue result ↔ IsSized design.now }
 {

@@ -12,5 +12,6 @@ loop-mask-preserved c = λ m k.
     let x : Mask = get_or masks l.mask-index none in
     let here : l.mask-index < length masks = c.loop-mask-test.true in
     let is : x ≡ get_or masks l.mask-index x = get_or_default masks l.mask-index none x here in
-    masks_narrowed c.args.known.now masks l.out c.push_mask.new.out l.mask-index x c.mask.result here is c.mask.ensures c.in_ok-push_mask.ensures m k
+    masks_narrowed c.args.known.now masks l.out c.push_mask.new.out l.mask-index x c.mask.result here is c.mask.ensures
+    c.in_ok-push_mask.ensures m k
     ∙ l.invariant m k

@@ -5,4 +5,5 @@ use Rattle.net_design.proofs.code_bits.narrow.Given as goal
 
 abbrev pub invariant-loop-mask : goal.invariant-loop-mask
 invariant-loop-mask l =
-    (m k : ℕ) → (named l.out m k || (named (drop l.mask-index l.masks) m k && in_map l.known m k)) ≡ (named l.masks m k && in_map l.known m k)
+    (m k : ℕ) → (named l.out m k || (named (drop l.mask-index l.masks) m k && in_map l.known m k)) ≡
+    (named l.masks m k && in_map l.known m k)

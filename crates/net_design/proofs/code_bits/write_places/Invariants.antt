@@ -8,6 +8,7 @@ use Rattle.net_design.proofs.code_bits.write_places.Given as goal
 
 abbrev pub invariant-loop-place : goal.invariant-loop-place
 invariant-loop-place l = record {
-  same : (m k : ℕ) → (in_map l.out m k || target_writes (drop l.place-index l.places) m k) ≡ (in_map l.initial.out m k || target_writes l.places m k);
+  same : (m k : ℕ) → (in_map l.out m k || target_writes (drop l.place-index l.places) m k) ≡
+      (in_map l.initial.out m k || target_writes l.places m k);
   sized : AllByRecursion (λ (p : Place). IsSizedPlace p) (drop l.place-index l.places);
 }

@@ -5,4 +5,8 @@ use Rattle.net_design.specs.Settled.{word_count}
 use Rattle.net_design.proofs.counts.few_words.Given as goal
 
 abbrev pub invariant-loop-memory : goal.invariant-loop-memory
-invariant-loop-memory l = record { same : l.total + sum_by (λ (a : DesignMemory). a.room.length) (drop l.memory-index l.memory-items) ≡ word_count l.design; few : l.total < l.limit }
+invariant-loop-memory l = record {
+  same : l.total + sum_by (λ (a : DesignMemory). a.room.length) (drop l.memory-index l.memory-items)
+      ≡ word_count l.design;
+  few : l.total < l.limit;
+}

@@ -27,6 +27,7 @@ move_guards-loop-guard-preserved t c =
       same = one_more f c.args.guards.now l.guard-items all.result.now l.guard-index c.guard-item.result c.move_guard.new.guard
           c.loop-guard-test.true all.ensures.value l.invariant.same c.guard-item.is c.move_guard.ensures;
       near = others f c.args.guards.now l.guard-items all.result.now l.guard-index c.guard-item.result c.move_guard.new.guard
-          (λ (g : Guard). IsRhs (IsShort (2 ^ 32)) (IsCountable (2 ^ 32)) g.condition × IsBlock (IsShort (2 ^ 32)) (IsCountable (2 ^ 32)) g.body)
+          (λ (g : Guard). IsRhs (IsShort (2 ^ 32)) (IsCountable (2 ^ 32)) g.condition × IsBlock (IsShort (2 ^ 32))
+          (IsCountable (2 ^ 32)) g.body)
           c.loop-guard-test.true l.auto.guard-items l.invariant.near;
     }

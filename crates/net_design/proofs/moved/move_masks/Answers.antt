@@ -17,5 +17,7 @@ loop-mask-preserved c =
     record {
       same = one_more f c.args.masks.now l.mask-items all.result.now l.mask-index x c.move_mask.new.mask
           c.loop-mask-test.true all.ensures.value l.invariant.same is (c.move_mask.ensures ∙ ap f is);
-      near = others_all f c.args.masks.now l.mask-items all.result.now l.mask-index x c.move_mask.new.mask (λ (m : Mask). m.net < 2 ^ 32) l.invariant.near;
+      near =
+          others_all f c.args.masks.now l.mask-items all.result.now l.mask-index x c.move_mask.new.mask
+          (λ (m : Mask). m.net < 2 ^ 32) l.invariant.near;
     }

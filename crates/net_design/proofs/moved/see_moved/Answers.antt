@@ -7,8 +7,10 @@ use Rattle.net_design.proofs.moved.see_moved.Goals as goal
 
 pub returns-clause-near : goal.returns-clause-near
 returns-clause-near c = λ a h. (
-  (λ s. sized_branch (IsShort (2 ^ 32)) (IsCountable (2 ^ 32)) c.args.guards.now c.args.otherwise.now (subst (IsAct (IsShort (2 ^ 32)) (IsCountable (2 ^ 32))) h s)),
-  (λ s. subst (IsAct (IsShort (2 ^ 32)) (IsCountable (2 ^ 32))) (sym h) (branch_sized (IsShort (2 ^ 32)) (IsCountable (2 ^ 32)) c.args.guards.now c.args.otherwise.now s.0 s.1)),
+  (λ s. sized_branch (IsShort (2 ^ 32)) (IsCountable (2 ^ 32)) c.args.guards.now c.args.otherwise.now
+      (subst (IsAct (IsShort (2 ^ 32)) (IsCountable (2 ^ 32))) h s)),
+  (λ s. subst (IsAct (IsShort (2 ^ 32)) (IsCountable (2 ^ 32))) (sym h)
+      (branch_sized (IsShort (2 ^ 32)) (IsCountable (2 ^ 32)) c.args.guards.now c.args.otherwise.now s.0 s.1)),
 )
 
 pub returns-clause-moved : goal.returns-clause-moved

@@ -7,4 +7,6 @@ use Rattle.net_design.specs.Settled.{next}
 use Rattle.net_design.proofs.reference.next_state.Given as goal
 
 abbrev pub invariant-loop-block : goal.invariant-loop-block
-invariant-loop-block l = apply (flat_map (λ (c : Code). block_updates Nonblocking c.acts l.values) (drop l.block-index l.block-items)) l.after ≡ next l.design l.values l.state
+invariant-loop-block l =
+    apply (flat_map (λ (c : Code). block_updates Nonblocking c.acts l.values) (drop l.block-index l.block-items)) l.after
+    ≡ next l.design l.values l.state

@@ -14,6 +14,7 @@ invariant-acts_updates-loop-act l = record {
 
 abbrev pub invariant-first_true-loop-guard : goal.invariant-first_true-loop-guard
 invariant-first_true-loop-guard l = record {
-  same : (us : List Update) → guard_updates l.timing (drop l.guard-index l.guard-items) us l.values ≡ guard_updates l.timing l.guards us l.values;
+  same : (us : List Update) → guard_updates l.timing (drop l.guard-index l.guard-items) us l.values
+      ≡ guard_updates l.timing l.guards us l.values;
   guards : AreSizedGuards (drop l.guard-index l.guard-items);
 }

@@ -4,4 +4,8 @@ use Rattle.net_design.specs.declared.values.Update.{Update}
 use Rattle.net_design.proofs.statement.append.Given as goal
 
 abbrev pub invariant-loop-update : goal.invariant-loop-update
-invariant-loop-update l = record { same : l.out ≡ l.initial.out ++ take l.update-index l.more; sized : All (λ (u : Update). IsWidth u.width) l.out }
+invariant-loop-update l = record {
+  same : l.out ≡ l.initial.out ++ take l.update-index l.more;
+  sized : All
+      (λ (u : Update). IsWidth u.width) l.out;
+}

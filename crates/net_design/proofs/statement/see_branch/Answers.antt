@@ -9,6 +9,8 @@ returns-clause-updates c = λ a t v h. ap (λ x. updates t x v) h ∙ updates_br
 
 pub returns-clause-sized : goal.returns-clause-sized
 returns-clause-sized c = λ a limit h. (
-  (λ s. sized_branch (IsShort limit) (IsCountable limit) c.args.guards.now c.args.otherwise.now (subst (IsAct (IsShort limit) (IsCountable limit)) h s)),
-  (λ s. subst (IsAct (IsShort limit) (IsCountable limit)) (sym h) (branch_sized (IsShort limit) (IsCountable limit) c.args.guards.now c.args.otherwise.now s.0 s.1)),
+  (λ s. sized_branch (IsShort limit) (IsCountable limit) c.args.guards.now c.args.otherwise.now
+      (subst (IsAct (IsShort limit) (IsCountable limit)) h s)),
+  (λ s. subst (IsAct (IsShort limit) (IsCountable limit)) (sym h)
+      (branch_sized (IsShort limit) (IsCountable limit) c.args.guards.now c.args.otherwise.now s.0 s.1)),
 )
