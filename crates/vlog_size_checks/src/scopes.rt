@@ -3,7 +3,9 @@
 use crate::trees::name_of;
 use std::alloc::Global;
 use std::test::Fail;
-use vlog_size::{Const, Param, Params, Scope, ScopeMemories, ScopeMemory, ScopeNet, ScopeNets, Table};
+use vlog_size::{
+    Const, Param, Params, Scope, ScopeMemories, ScopeMemory, ScopeNet, ScopeNets, Table,
+};
 
 fn parameters(alloc: Global) -> Result<Params, Fail> {
     let mut params = Table::new(alloc);

@@ -1,15 +1,21 @@
+//! Each table of `rows` in one test, and each answer once.
+
+ghost use Rattle.std.specs.Prelude.{◌≡◌, true, IfOk};
+ghost use Rattle.vlog_size.specs.Names.{are_lawful_params, is_lawful_scope};
+
 use crate::rows::{
     ASSIGNED, JOINED, LATER, LITERALS, PARAMETERS, PLAIN, READS, SELECTS, SIGNED, SIZED, TARGETS,
 };
 use crate::scopes::scope;
-use crate::trees::{target, tree};
+use crate::trees::{name_of, target, tree};
 use std::alloc::Global;
 use std::process::Abort;
 use std::test::Fail;
 use vlog_size::{
-    Const, Facts, Numbered, Params, SizeError, Table, View, assigned_number, constant, facts_of,
-    fixed, numbered, target_facts, target_width, whole_view, width,
+    Const, Facts, Numbered, Params, Scope, ScopeNet, SizeError, Table, View, assigned_number,
+    constant, facts_of, fixed, numbered, target_facts, target_width, whole_view, width,
 };
+use vlog_tree::Expr;
 
 fn fault_text(alloc: Global, fault: SizeError) -> Result<String, Fail> {
     match fault {
@@ -46,36 +52,44 @@ fn constant_text(alloc: Global, whole: &Numbered) -> Result<String, Fail> {
     }
 }
 
-fn constant_in(alloc: Global, view: &View<'_>, text: &str) -> Result<String, Fail> {
+fn is_constant_right(alloc: Global, view: &View<'_>, text: &str, want: &str) -> Result<bool, Fail> {
     let e = tree(alloc, text)?;
     let whole = numbered(view, &e);
-    constant_text(alloc, &whole)
+    Ok(constant_text(alloc, &whole)?.as_str() == want)
 }
 
-fn width_in(alloc: Global, view: &View<'_>, text: &str) -> Result<String, Fail> {
+fn is_width_right(alloc: Global, view: &View<'_>, text: &str, want: &str) -> Result<bool, Fail> {
     let e = tree(alloc, text)?;
     let facts = facts_of(view, &e);
-    width_text(alloc, &facts)
+    Ok(width_text(alloc, &facts)?.as_str() == want)
 }
 
-fn target_in(alloc: Global, view: &View<'_>, text: &str) -> Result<String, Fail> {
+fn is_target_right(alloc: Global, view: &View<'_>, text: &str, want: &str) -> Result<bool, Fail> {
     let t = target(alloc, text)?;
     let facts = target_facts(view, &t);
-    width_text(alloc, &facts)
+    Ok(width_text(alloc, &facts)?.as_str() == want)
 }
 
-fn number_in(alloc: Global, view: &View<'_>, w: u32, text: &str) -> Result<String, Fail> {
+fn is_number_right(
+    alloc: Global,
+    view: &View<'_>,
+    w: u32,
+    text: &str,
+    want: &str,
+) -> Result<bool, Fail> {
     let e = tree(alloc, text)?;
-    let w = w.clamp(1, 128);
-    number_text(alloc, assigned_number(view, &e, w))
+    let number = assigned_number(view, &e, w.clamp(1, 128));
+    Ok(number_text(alloc, number)?.as_str() == want)
 }
 
 /// The first text whose constant isn't the wanted one.
-fn wrong_constant(alloc: Global, rows: &[(&'static str, &str)]) -> Result<&'static str, Fail> {
-    let scope = scope(alloc)?;
-    let view = fixed(&whole_view(&scope));
+fn wrong_constant(
+    alloc: Global,
+    view: &View<'_>,
+    rows: &[(&'static str, &str)],
+) -> Result<&'static str, Fail> {
     for (text, want) in rows {
-        if constant_in(alloc, &view, text)?.as_str() != *want {
+        if !is_constant_right(alloc, view, text, want)? {
             return Ok(*text);
         }
     }
@@ -83,11 +97,13 @@ fn wrong_constant(alloc: Global, rows: &[(&'static str, &str)]) -> Result<&'stat
 }
 
 /// The first text whose width isn't the wanted one.
-fn wrong_width(alloc: Global, rows: &[(&'static str, &str)]) -> Result<&'static str, Fail> {
-    let scope = scope(alloc)?;
-    let view = whole_view(&scope);
+fn wrong_width(
+    alloc: Global,
+    view: &View<'_>,
+    rows: &[(&'static str, &str)],
+) -> Result<&'static str, Fail> {
     for (text, want) in rows {
-        if width_in(alloc, &view, text)?.as_str() != *want {
+        if !is_width_right(alloc, view, text, want)? {
             return Ok(*text);
         }
     }
@@ -95,11 +111,13 @@ fn wrong_width(alloc: Global, rows: &[(&'static str, &str)]) -> Result<&'static 
 }
 
 /// The first target whose width isn't the wanted one.
-fn wrong_target(alloc: Global, rows: &[(&'static str, &str)]) -> Result<&'static str, Fail> {
-    let scope = scope(alloc)?;
-    let view = whole_view(&scope);
+fn wrong_target(
+    alloc: Global,
+    view: &View<'_>,
+    rows: &[(&'static str, &str)],
+) -> Result<&'static str, Fail> {
     for (text, want) in rows {
-        if target_in(alloc, &view, text)?.as_str() != *want {
+        if !is_target_right(alloc, view, text, want)? {
             return Ok(*text);
         }
     }
@@ -107,19 +125,35 @@ fn wrong_target(alloc: Global, rows: &[(&'static str, &str)]) -> Result<&'static
 }
 
 /// The first text whose number isn't the wanted one.
-fn wrong_number(alloc: Global, rows: &[(u32, &'static str, &str)]) -> Result<&'static str, Fail> {
-    let scope = scope(alloc)?;
-    let view = whole_view(&scope);
+fn wrong_number(
+    alloc: Global,
+    view: &View<'_>,
+    rows: &[(u32, &'static str, &str)],
+) -> Result<&'static str, Fail> {
     for (w, text, want) in rows {
-        if number_in(alloc, &view, *w, text)?.as_str() != *want {
+        if !is_number_right(alloc, view, *w, text, want)? {
             return Ok(*text);
         }
     }
     Ok("")
 }
 
-fn check_constants(rt: &impl Abort, alloc: Global, rows: &[(&'static str, &str)]) -> Result<(), Fail> {
-    let wrong = wrong_constant(alloc, rows)?;
+fn check_constants(
+    rt: &impl Abort,
+    alloc: Global,
+    rows: &[(&'static str, &str)],
+) -> Result<(), Fail> {
+    let scope = scope(alloc)?;
+    let view = fixed(&whole_view(&scope));
+    let wrong = wrong_constant(alloc, &view, rows)?;
+    assert_eq!(rt; wrong, "");
+    Ok(())
+}
+
+fn check_widths(rt: &impl Abort, alloc: Global, rows: &[(&'static str, &str)]) -> Result<(), Fail> {
+    let scope = scope(alloc)?;
+    let view = whole_view(&scope);
+    let wrong = wrong_width(alloc, &view, rows)?;
     assert_eq!(rt; wrong, "");
     Ok(())
 }
@@ -155,37 +189,80 @@ fn parameters_as_constants(rt: HostRuntime) -> Result<(), Fail> {
 }
 
 #[test]
-fn widths(rt: HostRuntime) -> Result<(), Fail> {
-    let reads = wrong_width(rt.alloc(), &READS)?;
-    let selects = wrong_width(rt.alloc(), &SELECTS)?;
-    let later = wrong_width(rt.alloc(), &LATER)?;
-    assert_eq!(rt; (reads, selects, later), ("", "", ""));
-    Ok(())
+fn reads(rt: HostRuntime) -> Result<(), Fail> {
+    check_widths(&rt, rt.alloc(), &READS)
+}
+
+#[test]
+fn selects(rt: HostRuntime) -> Result<(), Fail> {
+    check_widths(&rt, rt.alloc(), &SELECTS)
+}
+
+#[test]
+fn later_parameters(rt: HostRuntime) -> Result<(), Fail> {
+    check_widths(&rt, rt.alloc(), &LATER)
 }
 
 #[test]
 fn targets(rt: HostRuntime) -> Result<(), Fail> {
-    let wrong = wrong_target(rt.alloc(), &TARGETS)?;
+    let scope = scope(rt.alloc())?;
+    let view = whole_view(&scope);
+    let wrong = wrong_target(rt.alloc(), &view, &TARGETS)?;
     assert_eq!(rt; wrong, "");
     Ok(())
 }
 
 #[test]
 fn assigned_numbers(rt: HostRuntime) -> Result<(), Fail> {
-    let wrong = wrong_number(rt.alloc(), &ASSIGNED)?;
+    let scope = scope(rt.alloc())?;
+    let view = whole_view(&scope);
+    let wrong = wrong_number(rt.alloc(), &view, &ASSIGNED)?;
     assert_eq!(rt; wrong, "");
     Ok(())
 }
 
+fn is_six(sum: &Expr, params: &Params) -> bool
+    requires { are_lawful_params params.now ≡ true }
+{
+    matches!(constant(sum, params), Ok(Const::Sized { width: 8, n: 6 }))
+}
+
 #[test]
-fn answers_without_names(rt: HostRuntime) -> Result<(), Fail> {
-    let alloc = rt.alloc();
-    let sum = tree(alloc, "4'd12 8'd250 +")?;
-    let params: Params = Table::new(alloc);
-    let is_six = match constant(&sum, &params) {
-        Ok(Const::Sized { width, n }) => width == 8 && n == 6,
-        _ => false,
-    };
-    assert!(rt; is_six);
+fn a_constant(rt: HostRuntime) -> Result<(), Fail> {
+    let params: Params = Table::new(rt.alloc());
+    let sum = tree(rt.alloc(), "4'd12 8'd250 +")?;
+    let right = is_six(&sum, &params);
+    assert!(rt; right);
+    Ok(())
+}
+
+fn net_s(alloc: Global) -> Result<Scope, Fail>
+    ensures { IfOk result (λ s. is_lawful_scope s ≡ true) }
+{
+    let mut nets = Table::new(alloc);
+    nets.push(name_of(alloc, b"s")?, ScopeNet { width: 1 })?;
+    Ok(Scope {
+        params: Table::new(alloc),
+        declared: 0,
+        nets,
+        memories: Table::new(alloc),
+    })
+}
+
+#[test]
+fn a_width(rt: HostRuntime) -> Result<(), Fail> {
+    let scope = net_s(rt.alloc())?;
+    let both = tree(rt.alloc(), "s 4'd1 {2}")?;
+    let right = matches!(width(&both, &scope), Ok(5));
+    assert!(rt; right);
+    Ok(())
+}
+
+#[test]
+fn the_width_of_a_target(rt: HostRuntime) -> Result<(), Fail> {
+    let scope = net_s(rt.alloc())?;
+    let both = target(rt.alloc(), "s,s")?;
+    let right = matches!(target_width(&both, &scope), Ok(2));
+    assert!(rt; right);
     Ok(())
 }

@@ -80,28 +80,38 @@ fn paren(alloc: Global, operands: &mut Vec<Expr>, line: u32) -> Result<Expr, Fai
     Ok(bare(Operand::Paren { line, inner }))
 }
 
-fn signed(operands: &mut Vec<Expr>, line: u32, word: &[u8]) -> Result<Expr, Fail> {
-    let Expr::Unary(Unary { sign: None, prim }) = pop(operands)? else {
-        return Err(Fail::from("no operand for a sign"));
-    };
+fn sign_of(word: &[u8]) -> Result<UnaryOp, Fail> {
     for (text, op) in SIGNS {
         if text.as_bytes() == word {
-            let sign = Some(Sign { op, line });
-            return Ok(Expr::Unary(Unary { sign, prim }));
+            return Ok(op);
         }
     }
     Err(Fail::from("no sign"))
 }
 
-fn pair(alloc: Global, operands: &mut Vec<Expr>, word: &[u8]) -> Result<Expr, Fail> {
-    let right = pop_box(alloc, operands)?;
-    let left = pop_box(alloc, operands)?;
+fn signed(operands: &mut Vec<Expr>, line: u32, word: &[u8]) -> Result<Expr, Fail> {
+    let op = sign_of(word)?;
+    let Expr::Unary(Unary { sign: None, prim }) = pop(operands)? else {
+        return Err(Fail::from("no operand for a sign"));
+    };
+    let sign = Some(Sign { op, line });
+    Ok(Expr::Unary(Unary { sign, prim }))
+}
+
+fn operator_of(word: &[u8]) -> Result<BinaryOp, Fail> {
     for (text, op) in OPERATORS {
         if text.as_bytes() == word {
-            return Ok(Expr::Binary { left, op, right });
+            return Ok(op);
         }
     }
     Err(Fail::from("no operator"))
+}
+
+fn pair(alloc: Global, operands: &mut Vec<Expr>, word: &[u8]) -> Result<Expr, Fail> {
+    let op = operator_of(word)?;
+    let right = pop_box(alloc, operands)?;
+    let left = pop_box(alloc, operands)?;
+    Ok(Expr::Binary { left, op, right })
 }
 
 fn choice(alloc: Global, operands: &mut Vec<Expr>) -> Result<Expr, Fail> {
@@ -195,10 +205,12 @@ pub fn tree(alloc: Global, text: &str) -> Result<Expr, Fail> {
 
 /// The target of a name with its brackets.
 fn part(alloc: Global, text: &str) -> Result<Target, Fail> {
-    let Expr::Unary(Unary {
-        sign: None,
-        prim: Operand::Ref(name),
-    }) = tree(alloc, text)?
+    let Expr::Unary(
+        Unary {
+            sign: None,
+            prim: Operand::Ref(name),
+        },
+    ) = tree(alloc, text)?
     else {
         return Err(Fail::from("no name"));
     };
