@@ -144,7 +144,7 @@ under mask n ds = flat_map (λ (c : ℕ × Channel). cond (has mask c.0) c.1.wid
 abbrev taken_of : ℕ → List Channel → List ℕ → ℕ → List Channel → List ℕ
 taken_of mask cs numbers n ds = flat_map (λ (c : ℕ × Channel). cond (has mask c.0) (content_at cs numbers c.0) []) (enumerate_from n ds)
 
-content-behind : (front ds cs : List Channel) (d : Channel) (numbers : List ℕ) (n : ℕ) → cs ≡ front ++ d ∷ ds → n ≡ length front → content_at cs numbers n ≡ take (length d.widths) (drop (length (all_widths front)) numbers)
+pub content-behind : (front ds cs : List Channel) (d : Channel) (numbers : List ℕ) (n : ℕ) → cs ≡ front ++ d ∷ ds → n ≡ length front → content_at cs numbers n ≡ take (length d.widths) (drop (length (all_widths front)) numbers)
 content-behind front ds cs d numbers n e l =
     let at : slice_get cs n ≡ Some d =
     ap (λ xs. slice_get xs n) (e ∙ sym (append_assoc front (d ∷ []) ds)) ∙ ap (slice_get ((front ++ d ∷ []) ++ ds)) l ∙ slice_get-append (front ++ d ∷ []) ds (length front) d (slice_get-last front d) in

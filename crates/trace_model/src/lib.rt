@@ -19,6 +19,7 @@ mod table;
 mod trace;
 
 pub use channel::{Channel, Channels, Dir};
+pub use contents::fits;
 pub use event::{Event, Events, Kind};
 pub use flight::in_flight_after;
 pub use lawful::{is_over, is_packet, well_formed};
