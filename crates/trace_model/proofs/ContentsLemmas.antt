@@ -92,7 +92,7 @@ widths-none [] = refl
 widths-none (c ∷ cs) = widths-cons 0 c cs ∙ widths-none cs
 
 -- ---- a table as a front and what follows it
-enumerate-append : {X : Type 0} (n : ℕ) (xs ys : List X) → enumerate_from n (xs ++ ys) ≡ enumerate_from n xs ++ enumerate_from (n + length xs) ys
+pub enumerate-append : {X : Type 0} (n : ℕ) (xs ys : List X) → enumerate_from n (xs ++ ys) ≡ enumerate_from n xs ++ enumerate_from (n + length xs) ys
 enumerate-append n [] ys = ap (λ m. enumerate_from m ys) (sym (add-zero n))
 enumerate-append n (x ∷ xs) ys =
     let place : (n + 1) + length xs ≡ n + suc (length xs) = omega arith in
