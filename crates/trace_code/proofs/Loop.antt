@@ -4,11 +4,7 @@ use Rattle.std.proofs.lemmas.List.{append-nil}
 use Rattle.trace_model.specs.declared.channel.Channel.{Channel}
 use Rattle.trace_code.specs.declared.error.CodeError.{CodeError}
 use Rattle.trace_code.specs.declared.error.CodeError.TheVariants.{BadTrace, Memory}
-use Rattle.trace_code.specs.Reading.{◌>>=◌, Fails, channel_at, channels_at}
-
--- what was read before, and what is still read
-abbrev pub with_front : List Channel → Option (List Channel × List ℕ) → Option (List Channel × List ℕ)
-with_front front read = read >>= λ x. Some (front ++ x.0, x.1)
+use Rattle.trace_code.specs.Reading.{◌>>=◌, Fails, with_front, channel_at, channels_at}
 
 regroup : (front : List Channel) (c : Channel) (read : Option (List Channel × List ℕ)) → with_front front (read >>= λ x. Some (c ∷ x.0, x.1)) ≡ with_front (front ++ c ∷ []) read
 regroup front c (Some x) = ap (λ (cs : List Channel). Some (cs, x.1)) (simp append_assoc)

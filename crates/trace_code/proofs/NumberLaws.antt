@@ -40,17 +40,6 @@ grows-down n i v b some within small byte =
     let next : n - (i - 1) ≡ suc (n - i) = omega arith in
     rw next (grows (n - i) v b small byte)
 
--- ---- a number below 2 to the power of its bits
-
-pub shifted_out : (number bits : ℕ) → eqb (number / 2 ^ bits) 0 ≡ ltb number (2 ^ bits)
-shifted_out number bits =
-    let unit : 0 < 2 ^ bits = pow-le-pow_right {n = 2} (omega arith) {i = 0} {j = bits} (omega arith) in
-    let test = div-lt_iff_lt-mul {k = 2 ^ bits} {x = number} {y = 1} unit in
-    elim (cases_lt number (2 ^ bits)) [
-      | inl lt ↦ let zero-is : number / 2 ^ bits ≡ 0 = (let below = test.1 (omega arith) in omega arith) in eq-eqb _ _ zero-is ∙ sym (lt-ltb _ _ lt)
-      | inr le ↦ ne_eqb _ _ (λ e. absurd (let back = test.0 (omega arith) in omega arith)) ∙ sym (le-ltb _ _ le)
-    ]
-
 -- ---- bytes
 
 abbrev pub IsBytes : List ℕ → Type 0

@@ -1,15 +1,13 @@
 -- Reading the numbers of a packet one after the other, as loops over widths and channels do.
 use Rattle.std.proofs.Common.{◌≡◌, ℕ, ◌+◌, ◌/◌, ◌^◌, ◌<◌, ◌≤◌, Bool, cond, eqb, List, [], ◌∷◌, ◌++◌, length, get_or, drop, Option, Some, None, refl, sym, ap, ◌∙◌, append_assoc}
-use Rattle.std.specs.Prelude.{bit_and}
 use Rattle.std.specs.List.{flat_map, enumerate_from}
 use Rattle.std.proofs.lemmas.List.{append-nil, drop_more, drop_all}
-use Rattle.std.proofs.lemmas.Nat.Bits.{shr_and_one}
 use Rattle.trace_model.specs.declared.channel.Channel.{Channel}
 use Rattle.trace_model.specs.Counting.{has}
 use Rattle.trace_code.specs.declared.error.CodeError.{CodeError}
 use Rattle.trace_code.specs.declared.error.CodeError.TheVariants.{BadTrace, Memory}
-use Rattle.trace_code.specs.Reading.{◌>>=◌, Fails}
-use Rattle.trace_code.specs.PacketReading.{number_at, numbers_at, with_front}
+use Rattle.trace_code.specs.Reading.{◌>>=◌, Fails, with_front}
+use Rattle.trace_code.specs.PacketReading.{number_at, numbers_at}
 
 -- the widths under a mask, of the channels from c on
 abbrev pub widths_from : ℕ → ℕ → List Channel → List ℕ
@@ -69,31 +67,26 @@ nothing_read front bytes = ap (λ (ns : List ℕ). Some (ns, bytes)) (append-nil
 abbrev pub widths_at_start : Bool → Channel → List ℕ
 widths_at_start starts channel = cond starts channel.widths []
 
-tested_bit : (mask c : ℕ) → eqb (bit_and (mask / 2 ^ c) 1) 1 ≡ has mask c
-tested_bit mask c = ap (λ (b : ℕ). eqb b 1) (shr_and_one mask c)
-
 widths-more : (mask : ℕ) (cs : List Channel) (c : ℕ) (channel : Channel) → c < length cs → channel ≡ get_or cs c channel
-    → widths_from c mask (drop c cs) ≡ widths_at_start (eqb (bit_and (mask / 2 ^ c) 1) 1) channel ++ widths_from (c + 1) mask (drop (c + 1) cs)
-widths-more mask cs c channel lt at =
-    ap (widths_from c mask) (drop_more cs c channel lt ∙ ap (λ (x : Channel). x ∷ drop (c + 1) cs) (sym at))
-    ∙ ap (λ (b : Bool). widths_at_start b channel ++ widths_from (c + 1) mask (drop (c + 1) cs)) (sym (tested_bit mask c))
+    → widths_from c mask (drop c cs) ≡ widths_at_start (has mask c) channel ++ widths_from (c + 1) mask (drop (c + 1) cs)
+widths-more mask cs c channel lt at = ap (widths_from c mask) (drop_more cs c channel lt ∙ ap (λ (x : Channel). x ∷ drop (c + 1) cs) (sym at))
 
 pub start_goes_on : (front : List ℕ) (mask : ℕ) (cs : List Channel) (c : ℕ) (channel : Channel) (bytes new after : List ℕ) (total : Read) → c < length cs → channel ≡ get_or cs c channel
-    → with_front front (numbers_at (widths_at_start (eqb (bit_and (mask / 2 ^ c) 1) 1) channel) bytes) ≡ Some (new, after)
+    → with_front front (numbers_at (widths_at_start (has mask c) channel) bytes) ≡ Some (new, after)
     → with_front front (numbers_at (widths_from c mask (drop c cs)) bytes) ≡ total → with_front new (numbers_at (widths_from (c + 1) mask (drop (c + 1) cs)) after) ≡ total
 start_goes_on front mask cs c channel bytes new after total lt at h so_far =
-    let ws = widths_at_start (eqb (bit_and (mask / 2 ^ c) 1) 1) channel in
+    let ws = widths_at_start (has mask c) channel in
     let vs = widths_from (c + 1) mask (drop (c + 1) cs) in
     let one : with_front front (numbers_at (widths_from c mask (drop c cs)) bytes) ≡ with_front new (numbers_at vs after) =
     ap (λ (us : List ℕ). with_front front (numbers_at us bytes)) (widths-more mask cs c channel lt at) ∙ and_then front ws vs bytes ∙ ap (λ (r : Read). r >>= λ x. with_front x.0 (numbers_at vs x.1)) h in
     sym one ∙ so_far
 
 pub start_ends : (e : CodeError) (front : List ℕ) (mask : ℕ) (cs : List Channel) (c : ℕ) (channel : Channel) (bytes : List ℕ) (total : Read) → c < length cs → channel ≡ get_or cs c channel
-    → Fails e (with_front front (numbers_at (widths_at_start (eqb (bit_and (mask / 2 ^ c) 1) 1) channel) bytes))
+    → Fails e (with_front front (numbers_at (widths_at_start (has mask c) channel) bytes))
     → with_front front (numbers_at (widths_from c mask (drop c cs)) bytes) ≡ total → Fails e total
 start_ends Memory front mask cs c channel bytes total lt at h so_far = tt
 start_ends (BadTrace place) front mask cs c channel bytes total lt at h so_far =
-    let ws = widths_at_start (eqb (bit_and (mask / 2 ^ c) 1) 1) channel in
+    let ws = widths_at_start (has mask c) channel in
     let vs = widths_from (c + 1) mask (drop (c + 1) cs) in
     let one : with_front front (numbers_at (widths_from c mask (drop c cs)) bytes) ≡ None =
     ap (λ (us : List ℕ). with_front front (numbers_at us bytes)) (widths-more mask cs c channel lt at) ∙ and_then front ws vs bytes ∙ ap (λ (r : Read). r >>= λ x. with_front x.0 (numbers_at vs x.1)) h.1 in

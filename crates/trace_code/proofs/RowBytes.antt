@@ -19,6 +19,7 @@ use Rattle.trace_model.specs.Recording.{has_event, packet_of, contents_under}
 use Rattle.trace_model.specs.Row.{all_widths, content_at}
 use Rattle.trace_model.proofs.CountingLemmas.{slice_get-last, slice_get-append, take-more_read}
 use Rattle.trace_model.proofs.ContentsLemmas.{fit-length}
+use Rattle.trace_model.proofs.RowLaws.{content-behind}
 use Rattle.trace_code.specs.Encoding.{mask_bytes, number_bytes, packet_bytes, row_bytes}
 use Rattle.trace_code.specs.Writing.{overwritten, picked, events_bytes}
 use Rattle.trace_code.proofs.NumberLaws.{length-low}
@@ -120,13 +121,6 @@ every-widths cs l = every-from 0 cs (omega arith)
 
 abbrev started : ℕ → List Channel → List ℕ → ℕ → List Channel → List ℕ
 started starts cs numbers n ds = flat_map (λ (c : ℕ × Channel). cond (has starts c.0) (content_at cs numbers c.0) []) (enumerate_from n ds)
-
-content-behind : (front ds cs : List Channel) (d : Channel) (numbers : List ℕ) (n : ℕ) → cs ≡ front ++ d ∷ ds → n ≡ length front → content_at cs numbers n ≡ take (length d.widths) (drop (length (all_widths front)) numbers)
-content-behind front ds cs d numbers n e l =
-    let at : slice_get cs n ≡ Some d =
-    ap (λ xs. slice_get xs n) (e ∙ sym (append_assoc front (d ∷ []) ds)) ∙ ap (slice_get ((front ++ d ∷ []) ++ ds)) l ∙ slice_get-append (front ++ d ∷ []) ds (length front) d (slice_get-last front d) in
-    let before : take n cs ≡ front = ap (take n) e ∙ take_at front (d ∷ ds) n (sym l) in
-    ap (λ (o : Option Channel). take (length (widths_of o)) (drop (length (all_widths (take n cs))) numbers)) at ∙ ap (λ xs. take (length d.widths) (drop (length (all_widths xs)) numbers)) before
 
 all-behind : (starts : ℕ) (cs : List Channel) (numbers : List ℕ) (front ds : List Channel) (n : ℕ) → cs ≡ front ++ ds → n ≡ length front → n + length ds ≤ 128
     → picked every starts n ds (drop (length (all_widths front)) numbers) ≡ started starts cs numbers n ds

@@ -40,10 +40,6 @@ numbers_at (width ∷ widths) bytes = do
   others ← numbers_at widths first.1
   Some (first.0 ∷ others.0, others.1)
 
--- the numbers before, and those that reading gives
-abbrev pub with_front : List ℕ → Option (List ℕ × List ℕ) → Option (List ℕ × List ℕ)
-with_front front read = read >>= λ x. Some (front ++ x.0, x.1)
-
 -- the byte of a packet
 unfoldable pub tag_at : List ℕ → Option (List ℕ)
 tag_at [] = None

@@ -1,5 +1,5 @@
 -- Reading the parts of a trace at the front of bytes: the part and the bytes after it, or None where no such part stands there.
-use Rattle.std.specs.Prelude.{◌≡◌, ℕ, zero, suc, ◌≤◌, Bool, false, ◌&&◌, List, [], ◌∷◌, length, take, drop, Option, Some, None, Result, Ok, Err, nat_lt, nat_le, option_and_then, if◌then◌else◌, All}
+use Rattle.std.specs.Prelude.{◌≡◌, ℕ, zero, suc, ◌≤◌, Bool, false, ◌&&◌, List, [], ◌∷◌, ◌++◌, length, take, drop, Option, Some, None, Result, Ok, Err, nat_lt, nat_le, option_and_then, if◌then◌else◌, All}
 use Rattle.std.specs.List.{list_all}
 use Rattle.std.specs.Str.{bytes_eq}
 use Rattle.trace_model.specs.declared.channel.Channel.{Channel}
@@ -22,6 +22,10 @@ Fails (BadTrace at) read = (at ≡ 0) × (read ≡ None)
 abbrev pub Gives : {X Y : Type 0} → (X → Y) → Result X CodeError → Option Y → Type 0
 Gives view (Ok x) read = read ≡ Some (view x)
 Gives view (Err e) read = Fails e read
+
+-- the items before, and those that reading gives
+abbrev pub with_front : {X : Type 0} → List X → Option (List X × List ℕ) → Option (List X × List ℕ)
+with_front front read = read >>= λ x. Some (front ++ x.0, x.1)
 
 unfoldable pub magic_at : List ℕ → Option (List ℕ)
 magic_at bytes = if bytes_eq (take 8 bytes) magic then Some (drop 8 bytes) else None

@@ -13,6 +13,7 @@ use std::alloc::Global;
 use trace_model::{Channel, Channels, Dir, Packet, Trace};
 use vidi_bits::{Bytes, Items, Memory};
 
+/// The byte of a direction.
 fn direction_byte(dir: Dir) -> u8
     ensures { result ≡ direction_byte dir }
 {

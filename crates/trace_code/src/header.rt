@@ -16,12 +16,22 @@ use vidi_bits::{Bytes, Items, Name};
 /// The first bytes of a trace of version 1.
 pub(crate) const MAGIC: [u8; 8] = *b"VIDITRC1";
 
+/// The most channels of a table.
 const MAX_CHANNELS: u8 = 32;
 
+/// The most bytes of a name.
+const MAX_NAME: usize = 64;
+
+/// The most content ports of a channel.
 const MAX_PORTS: usize = 16;
 
+/// The most bits of a port.
+const MAX_WIDTH: u8 = 128;
+
+/// The most bytes of the contents of all channels.
 const MAX_CONTENT: usize = 1024;
 
+/// The bytes after the magic.
 #[tactic(auto, unfolding(crate::specs::Reading::magic_at))]
 fn read_magic(bytes: &[u8]) -> Result<&[u8], CodeError>
     ensures { Gives (λ rest. rest.now) result (magic_at bytes.now) }
@@ -32,6 +42,7 @@ fn read_magic(bytes: &[u8]) -> Result<&[u8], CodeError>
     }
 }
 
+/// A direction, and the bytes after it.
 #[tactic(auto, unfolding(crate::specs::Reading::dir_at))]
 fn read_dir(bytes: &[u8]) -> Result<(Dir, &[u8]), CodeError>
     ensures { Gives (λ x. (x.0, x.1.now)) result (dir_at bytes.now) }
@@ -43,7 +54,7 @@ fn read_dir(bytes: &[u8]) -> Result<(Dir, &[u8]), CodeError>
     }
 }
 
-// The bytes after a byte that counts them.
+/// The bytes after a byte that counts them, and those that follow.
 #[tactic(auto, unfolding(crate::specs::Reading::counted_at))]
 fn read_counted(bytes: &[u8]) -> Result<(&[u8], &[u8]), CodeError>
     ensures { Gives (λ x. (x.0.now, x.1.now)) result (counted_at bytes.now) }
@@ -60,24 +71,28 @@ fn read_counted(bytes: &[u8]) -> Result<(&[u8], &[u8]), CodeError>
     }
 }
 
+/// Whether a byte is a letter or `_`.
 fn is_letter(b: u8) -> bool
     ensures { result ≡ is_letter b }
 {
     matches!(b, b'A'..=b'Z' | b'a'..=b'z' | b'_')
 }
 
+/// Whether a byte may stand in a name behind its first one.
 fn is_letter_or_digit(b: u8) -> bool
     ensures { result ≡ is_letter_or_digit b }
 {
     is_letter(b) || matches!(b, b'0'..=b'9')
 }
 
+/// Whether each byte may stand in a name behind its first one.
 fn are_letters_or_digits(bytes: &[u8]) -> bool
     ensures { result ≡ list_all is_letter_or_digit bytes.now }
 {
     bytes.iter().all(|b| is_letter_or_digit(*b))
 }
 
+/// Whether the bytes are a lawful name.
 #[tactic(auto, unfolding(crate::specs::Reading::is_name))]
 fn is_name(name: &[u8]) -> bool
     ensures { result ≡ is_name name.now }
@@ -85,25 +100,27 @@ fn is_name(name: &[u8]) -> bool
     match name {
         [] => false,
         [first, others @ ..] => {
-            is_letter(*first) && others.len() <= 63 && are_letters_or_digits(others)
+            is_letter(*first) && others.len() < MAX_NAME && are_letters_or_digits(others)
         }
     }
 }
 
-// Each width is one of 1 to 128 bits.
-fn are_lawful(widths: &[u8]) -> bool
+/// Whether each width is one of 1 to 128 bits.
+fn each_is_width(widths: &[u8]) -> bool
     ensures { result ≡ list_all is_width widths.now }
 {
-    widths.iter().all(|width| 1 <= *width && *width <= 128)
+    widths.iter().all(|width| 1 <= *width && *width <= MAX_WIDTH)
 }
 
+/// Whether these are the widths of a lawful channel.
 #[tactic(auto, unfolding(crate::specs::Reading::are_widths))]
 fn are_widths(widths: &[u8]) -> bool
     ensures { result ≡ are_widths widths.now }
 {
-    widths.len() <= MAX_PORTS && are_lawful(widths)
+    widths.len() <= MAX_PORTS && each_is_width(widths)
 }
 
+/// A name, and the bytes after it.
 #[tactic(auto, unfolding(crate::specs::Reading::name_at))]
 fn read_name(alloc: Global, bytes: &[u8]) -> Result<(Name, &[u8]), CodeError>
     ensures { Gives (λ x. (x.0, x.1.now)) result (name_at bytes.now) }
@@ -116,6 +133,7 @@ fn read_name(alloc: Global, bytes: &[u8]) -> Result<(Name, &[u8]), CodeError>
     Ok((Items::from_vec(name), rest))
 }
 
+/// The widths of a channel, and the bytes after them.
 #[tactic(auto, unfolding(crate::specs::Reading::widths_at))]
 fn read_widths(alloc: Global, bytes: &[u8]) -> Result<(Bytes, &[u8]), CodeError>
     ensures { Gives (λ x. (x.0, x.1.now)) result (widths_at bytes.now) }
@@ -128,6 +146,7 @@ fn read_widths(alloc: Global, bytes: &[u8]) -> Result<(Bytes, &[u8]), CodeError>
     Ok((Items::from_vec(widths), rest))
 }
 
+/// A channel, and the bytes after it.
 #[tactic(auto, unfolding(crate::specs::Reading::channel_at))]
 fn read_channel(alloc: Global, bytes: &[u8]) -> Result<(Channel, &[u8]), CodeError>
     ensures { Gives (λ x. (x.0, x.1.now)) result (channel_at bytes.now) }
@@ -138,6 +157,7 @@ fn read_channel(alloc: Global, bytes: &[u8]) -> Result<(Channel, &[u8]), CodeErr
     Ok((Channel { dir, name, widths }, rest))
 }
 
+/// This many channels, and the bytes after them.
 fn read_channels(alloc: Global, count: u8, bytes: &[u8]) -> Result<(Channels, &[u8]), CodeError>
     ensures { Gives (λ x. (x.0, x.1.now)) result (channels_at count bytes.now) }
 {
@@ -151,6 +171,7 @@ fn read_channels(alloc: Global, count: u8, bytes: &[u8]) -> Result<(Channels, &[
     Ok((channels, rest))
 }
 
+/// The number of channels, and the bytes after it.
 #[tactic(auto, unfolding(crate::specs::Reading::count_at))]
 fn read_count(bytes: &[u8]) -> Result<(u8, &[u8]), CodeError>
     ensures { Gives (λ x. (x.0, x.1.now)) result (count_at bytes.now) }
@@ -161,8 +182,9 @@ fn read_count(bytes: &[u8]) -> Result<(u8, &[u8]), CodeError>
     }
 }
 
+/// The header, field by field, and the bytes after it.
 #[tactic(auto, unfolding(crate::specs::Reading::header_at))]
-fn read_fields(alloc: Global, bytes: &[u8]) -> Result<(Channels, &[u8]), CodeError>
+fn read_header_fields(alloc: Global, bytes: &[u8]) -> Result<(Channels, &[u8]), CodeError>
     ensures { Gives (λ x. (x.0, x.1.now)) result (header_at bytes.now) }
 {
     let rest = read_magic(bytes)?;
@@ -170,16 +192,17 @@ fn read_fields(alloc: Global, bytes: &[u8]) -> Result<(Channels, &[u8]), CodeErr
     read_channels(alloc, count, rest)
 }
 
-// The header, whatever its names and the sizes of its contents.
+/// The header, whatever its names and the sizes of its contents, and the bytes after it.
 fn read_table(alloc: Global, bytes: &[u8]) -> Result<(Channels, &[u8]), CodeError>
     ensures found { IfOk result (λ x. AreChannels x.0 × (bytes.now ≡ header_bytes x.0 ++ x.1.now)) }
     ensures only { (channels : List Channel) (rest : List ℕ) → AreChannels channels → bytes.now ≡ header_bytes channels ++ rest
         → MatchResult result (λ x. (x.0 ≡ channels) × (x.1.now ≡ rest)) (λ e. e ≡ CodeError.Memory) }
     ensures fault { IfErr result (λ e. (e ≡ CodeError.Memory) ⊎ (e ≡ CodeError.BadTrace 0)) }
 {
-    read_fields(alloc, bytes)
+    read_header_fields(alloc, bytes)
 }
 
+/// Whether one of the channels has this name.
 fn has_name(channels: &[Channel], name: &[u8]) -> bool
     ensures { IsTrue result ↔ Any (λ c. c.name ≡ name.now) channels.now }
 {
@@ -188,6 +211,7 @@ fn has_name(channels: &[Channel], name: &[u8]) -> bool
         .any(|channel| channel.name.as_slice() == name)
 }
 
+/// Whether no two channels have the same name.
 fn names_differ(channels: &[Channel]) -> bool
     ensures { IsTrue result ↔ AllPairs (λ (a b : Channel). a.name ≢ b.name) channels.now }
 {
@@ -199,6 +223,7 @@ fn names_differ(channels: &[Channel]) -> bool
     true
 }
 
+/// The bytes of a channel's content.
 fn content_len(channel: &Channel) -> usize
     requires { length channel.now.widths ≤ 16 }
     ensures small { result ≤ 512 }
@@ -224,7 +249,8 @@ pub(crate) fn contents_len(channels: &[Channel]) -> usize
     total
 }
 
-/// The header at the front of the bytes, and the bytes after it. `BadTrace { at: 0 }` where no lawful header stands there.
+/// The header at the front of the bytes, and the bytes after it. `BadTrace { at: 0 }` where no lawful
+/// header stands there.
 pub(crate) fn read_header(alloc: Global, bytes: &[u8]) -> Result<(Channels, &[u8]), CodeError>
     ensures found { IfOk result (λ x. IsTable x.0 × (bytes.now ≡ header_bytes x.0 ++ x.1.now)) }
     ensures only { (channels : List Channel) (rest : List ℕ) → IsTable channels → bytes.now ≡ header_bytes channels ++ rest

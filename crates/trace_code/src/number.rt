@@ -1,11 +1,12 @@
 //! Reading the masks and the numbers of a packet.
 
-ghost use Rattle.std.specs.Prelude.{◌≡◌, ◌^◌, ◌≤◌, length, nat_lt};
+ghost use Rattle.std.specs.Prelude.{◌≡◌, ◌^◌, ◌≤◌, length};
 ghost use Rattle.trace_model.specs.Channel.{byte_count};
 ghost use Rattle.trace_code.specs.Reading.{Gives};
 ghost use Rattle.trace_code.specs.PacketReading.{low_value, high_value, mask_at, number_at};
 
 use crate::error::{CodeError, FAULT};
+use trace_model::fits;
 
 /// The bytes that hold a number of this width in bits.
 pub(crate) fn byte_count(width: u8) -> usize
@@ -14,7 +15,7 @@ pub(crate) fn byte_count(width: u8) -> usize
     usize::from(width).div_ceil(8)
 }
 
-// The number in the bytes, the lowest first.
+/// The number in the bytes, the lowest first.
 fn low_first(bytes: &[u8]) -> u128
     requires { length bytes.now ≤ 16 }
     ensures { result ≡ low_value bytes.now }
@@ -26,7 +27,7 @@ fn low_first(bytes: &[u8]) -> u128
     value
 }
 
-// The number in the bytes, the highest first.
+/// The number in the bytes, the highest first.
 #[tactic(auto, unfolding(crate::specs::PacketReading::high_value))]
 fn high_first(bytes: &[u8]) -> u128
     requires { length bytes.now ≤ 16 }
@@ -37,14 +38,6 @@ fn high_first(bytes: &[u8]) -> u128
         value = value * 256 + u128::from(*byte);
     }
     value
-}
-
-// The number has this many bits at most.
-fn fits(number: u128, bits: usize) -> bool
-    requires { bits ≤ 128 }
-    ensures { result ≡ nat_lt number (2 ^ bits) }
-{
-    bits == 128 || number >> bits == 0
 }
 
 /// The mask of this many channels at the front of the bytes, and the bytes after it.

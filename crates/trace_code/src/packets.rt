@@ -5,16 +5,16 @@ ghost use Rattle.trace_model.specs.declared.packet.Packet.{Packet};
 ghost use Rattle.trace_model.specs.Packet.{widths_under, IsPacket};
 ghost use Rattle.trace_model.specs.Channel.{IsChannel};
 ghost use Rattle.trace_code.specs.Encoding.{packet_bytes};
-ghost use Rattle.trace_code.specs.Reading.{Gives};
-ghost use Rattle.trace_code.specs.PacketReading.{numbers_at, with_front, tag_at, masks_at, packet_at};
+ghost use Rattle.trace_code.specs.Reading.{Gives, with_front};
+ghost use Rattle.trace_code.specs.PacketReading.{numbers_at, tag_at, masks_at, packet_at};
 
 use crate::error::{CodeError, FAULT};
 use crate::number::{read_mask, read_number};
 use std::alloc::Global;
-use trace_model::{Channel, Packet};
+use trace_model::{Channel, Packet, names};
 use vidi_bits::{Items, Numbers};
 
-// A number of each width, added to those before.
+/// Reads a number of each width, and adds them to those before.
 fn read_content<'a>(
     numbers: &mut Vec<u128>,
     widths: &[u8],
@@ -32,7 +32,7 @@ fn read_content<'a>(
     Ok(rest)
 }
 
-// The content of a channel, where it starts.
+/// Reads the content of a channel, where it starts.
 fn read_start<'a>(
     numbers: &mut Vec<u128>,
     channel: &Channel,
@@ -49,7 +49,7 @@ fn read_start<'a>(
     }
 }
 
-// The number of the ports of the channels that start.
+/// The number of the ports of the channels that start.
 fn count_ports(channels: &[Channel], starts: u128) -> usize
     requires few { length channels.now ≤ 32 }
     requires each { All IsChannel channels.now }
@@ -57,14 +57,14 @@ fn count_ports(channels: &[Channel], starts: u128) -> usize
 {
     let mut ports = 0;
     for (c, channel) in channels.iter().enumerate() {
-        if (starts >> c) & 1 == 1 {
+        if names(starts, c) {
             ports += channel.widths.len();
         }
     }
     ports
 }
 
-// The contents of the channels that start.
+/// The contents of the channels that start, and the bytes after them.
 fn read_contents<'a>(
     alloc: Global,
     channels: &[Channel],
@@ -78,12 +78,13 @@ fn read_contents<'a>(
     let mut numbers = Vec::with_capacity(alloc, count_ports(channels, starts))?;
     let mut rest = bytes;
     for (c, channel) in channels.iter().enumerate() {
-        rest = read_start(&mut numbers, channel, (starts >> c) & 1 == 1, rest)?;
+        let starting = names(starts, c);
+        rest = read_start(&mut numbers, channel, starting, rest)?;
     }
     Ok((Items::from_vec(numbers), rest))
 }
 
-// The byte with which a packet begins.
+/// The bytes after the one with which a packet begins.
 #[tactic(auto, unfolding(crate::specs::PacketReading::tag_at))]
 fn read_tag(bytes: &[u8]) -> Result<&[u8], CodeError>
     ensures { Gives (λ rest. rest.now) result (tag_at bytes.now) }
@@ -94,7 +95,7 @@ fn read_tag(bytes: &[u8]) -> Result<&[u8], CodeError>
     }
 }
 
-// The starts and the ends, of which there are some.
+/// The starts and the ends, of which there are some, and the bytes after them.
 #[tactic(auto, unfolding(crate::specs::PacketReading::masks_at))]
 fn read_masks(channels: usize, bytes: &[u8]) -> Result<(u128, u128, &[u8]), CodeError>
     requires { channels ≤ 128 }
@@ -108,8 +109,9 @@ fn read_masks(channels: usize, bytes: &[u8]) -> Result<(u128, u128, &[u8]), Code
     Ok((starts, ends, rest))
 }
 
+/// The packet at the front of the bytes, field by field, and the bytes after it.
 #[tactic(auto, unfolding(crate::specs::PacketReading::packet_at))]
-fn read_fields<'a>(
+fn read_packet_fields<'a>(
     alloc: Global,
     channels: &[Channel],
     bytes: &'a [u8],
@@ -129,7 +131,8 @@ fn read_fields<'a>(
     Ok((packet, rest))
 }
 
-/// The packet at the front of the bytes, and the bytes after it. `BadTrace { at: 0 }` where no packet over the channels stands there.
+/// The packet at the front of the bytes, and the bytes after it. `BadTrace { at: 0 }` where no packet over
+/// the channels stands there.
 pub(crate) fn read_packet<'a>(
     alloc: Global,
     channels: &[Channel],
@@ -142,5 +145,5 @@ pub(crate) fn read_packet<'a>(
         → MatchResult result (λ x. (x.0 ≡ p) × (x.1.now ≡ rest)) (λ e. e ≡ CodeError.Memory) }
     ensures fault { IfErr result (λ e. (e ≡ CodeError.Memory) ⊎ (e ≡ CodeError.BadTrace 0)) }
 {
-    read_fields(alloc, channels, bytes)
+    read_packet_fields(alloc, channels, bytes)
 }

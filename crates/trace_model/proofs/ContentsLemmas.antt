@@ -1,9 +1,9 @@
 -- The numbers of contents against the widths of their ports, piece by piece.
-use Rattle.std.proofs.Common.{◌≡◌, ◌↔◌, ℕ, suc, ◌+◌, ◌/◌, ◌<◌, ◌≤◌, ◌^◌, Bool, true, false, Option, subst, cond, ◌==◌, bit_and, List, [], ◌∷◌, ◌++◌, length, take, drop, get_or, refl, ap, sym, ◌∙◌, arith, add-one, IsTrue, add-zero, slice_get, Some}
+use Rattle.std.proofs.Common.{◌≡◌, ◌↔◌, ⊎_elim, eqb, ltb, ℕ, suc, ◌+◌, ◌/◌, ◌<◌, ◌≤◌, ◌^◌, Bool, true, false, Option, subst, cond, ◌==◌, bit_and, List, [], ◌∷◌, ◌++◌, length, take, drop, get_or, refl, ap, sym, ◌∙◌, arith, add-one, IsTrue, add-zero, slice_get, Some}
 use Rattle.std.specs.Int.{bit_at}
 use Rattle.std.specs.List.{flat_map, enumerate_from}
 use Rattle.std.proofs.Math.Nat.{pow-le-pow_right, div-eq_of_lt}
-use Rattle.std.proofs.lemmas.Bool.{eqb-true}
+use Rattle.std.proofs.lemmas.Bool.{cases_lt, eqb-true, eq-eqb, ne_eqb, lt-ltb, le-ltb}
 use Rattle.std.proofs.lemmas.List.{append-nil, append_assoc, take_all, length-take-le, drop_more, take-append-drop, length-append}
 use Rattle.std.proofs.lemmas.List.Elements.{length_all_zip, AllZip-get_or}
 use Rattle.std.proofs.lemmas.Nat.{pow_pos, shr_split, and_mask}
@@ -26,6 +26,13 @@ below-from_shift number bits h = let split = rw h at (shr_split number bits) in 
 
 pub shift-from_below : (number bits : ℕ) → number < 2 ^ bits → number / 2 ^ bits ≡ 0
 shift-from_below number bits l = div-eq_of_lt l
+
+-- the test of a shift is that of the power
+pub shifted_out : (number bits : ℕ) → eqb (number / 2 ^ bits) 0 ≡ ltb number (2 ^ bits)
+shifted_out number bits = ⊎_elim
+    (λ (l : number < 2 ^ bits). eq-eqb (number / 2 ^ bits) 0 (shift-from_below number bits l) ∙ sym (lt-ltb number (2 ^ bits) l))
+    (λ (l : 2 ^ bits ≤ number). ne_eqb (number / 2 ^ bits) 0 (λ e. (let b = below-from_shift number bits e in absurd (omega arith))) ∙ sym (le-ltb number (2 ^ bits) l))
+    (cases_lt number (2 ^ bits))
 
 -- ---- pieces
 pub fit-append : (widths more numbers rest : List ℕ) → Fit widths numbers → Fit more rest → Fit (widths ++ more) (numbers ++ rest)
@@ -85,7 +92,7 @@ widths-none [] = refl
 widths-none (c ∷ cs) = widths-cons 0 c cs ∙ widths-none cs
 
 -- ---- a table as a front and what follows it
-enumerate-append : {X : Type 0} (n : ℕ) (xs ys : List X) → enumerate_from n (xs ++ ys) ≡ enumerate_from n xs ++ enumerate_from (n + length xs) ys
+pub enumerate-append : {X : Type 0} (n : ℕ) (xs ys : List X) → enumerate_from n (xs ++ ys) ≡ enumerate_from n xs ++ enumerate_from (n + length xs) ys
 enumerate-append n [] ys = ap (λ m. enumerate_from m ys) (sym (add-zero n))
 enumerate-append n (x ∷ xs) ys =
     let place : (n + 1) + length xs ≡ n + suc (length xs) = omega arith in

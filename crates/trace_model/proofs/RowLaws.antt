@@ -3,10 +3,10 @@ use Rattle.std.proofs.Common.{◌≡◌, ◌≢◌, ◌⊎◌, ℕ, zero, suc, �
 use Rattle.std.specs.Int.{bit_at}
 use Rattle.std.specs.List.{filter, flat_map, enumerate_from}
 use Rattle.std.proofs.lemmas.Bool.{cases_Bool, cases_lt, false≢true, eq-eqb, eqb-true, eqb-false}
-use Rattle.std.proofs.lemmas.List.{append-nil, map-append, take_all, take_at, length_push, length-append, length-take}
+use Rattle.std.proofs.lemmas.List.{append-nil, map-append, take_all, take_at, drop_at, length_push, length-append, length-take}
 use Rattle.std.proofs.lemmas.List.Concat.{flat_map-append}
 use Rattle.std.proofs.lemmas.List.Elements.{All-push, filter-append}
-use Rattle.std.proofs.lemmas.Nat.Bits.{bit_at-zero, bit_at-lt}
+use Rattle.std.proofs.lemmas.Nat.Bits.{bit_at-zero, bit_at-lt, bit_at_above}
 use Rattle.std.proofs.lemmas.Option.{same_Some, slice_get_cases, slice_get_within}
 use Rattle.trace_model.specs.declared.channel.Channel.{Channel}
 use Rattle.trace_model.specs.declared.event.Kind.{Kind}
@@ -14,15 +14,15 @@ use Rattle.trace_model.specs.declared.event.Kind.TheVariants.{Start, End}
 use Rattle.trace_model.specs.declared.packet.Packet.{Packet}
 use Rattle.trace_model.specs.declared.row.Row.{Row}
 use Rattle.trace_model.specs.Counting.{has, IsNth}
-use Rattle.trace_model.specs.Laws.{RowAddsItsPacket, KeepsInFlight, RowsAreWellFormed, CompletesBetween, StartsWaitForEnds}
-use Rattle.trace_model.specs.Packet.{does, count, widths_of, widths_under, Fit, IsPacket}
-use Rattle.trace_model.specs.Recording.{row_does, shown, has_event, contents_under, packet_of, packets_of}
+use Rattle.trace_model.specs.Laws.{RecordedOnce, RowAddsItsPacket, KeepsInFlight, RowsAreWellFormed, CompletesBetween, StartsWaitForEnds}
+use Rattle.trace_model.specs.Packet.{does, count, content_of, widths_of, widths_under, Fit, IsPacket}
+use Rattle.trace_model.specs.Recording.{row_does, shown, has_event, contents_under, packet_of, packets_of, recorded, transactions}
 use Rattle.trace_model.specs.Row.{all_widths, content_at, sink_valid, completes, is_in_flight, row_before, flies_after, IsOver, IsMarked, AreRows}
 use Rattle.trace_model.specs.Trace.{Alternates}
 use Rattle.trace_model.proofs.CountingLemmas.{count-cons, count-suc, count-mono, nth, nth-count, nth-front, nth-within, slice_get-last, slice_get-append, take-suc_get}
 use Rattle.trace_model.proofs.MaskLemmas.{cond-has}
 use Rattle.trace_model.proofs.FlightLemmas.{alternates-nil, alternates-push_by}
-use Rattle.trace_model.proofs.ContentsLemmas.{fit-append, fit-front, fit-rest}
+use Rattle.trace_model.proofs.ContentsLemmas.{enumerate-append, fit-append, fit-front, fit-length, fit-rest}
 
 -- ---- a row more
 pub row-adds : RowAddsItsPacket
@@ -144,7 +144,7 @@ under mask n ds = flat_map (λ (c : ℕ × Channel). cond (has mask c.0) c.1.wid
 abbrev taken_of : ℕ → List Channel → List ℕ → ℕ → List Channel → List ℕ
 taken_of mask cs numbers n ds = flat_map (λ (c : ℕ × Channel). cond (has mask c.0) (content_at cs numbers c.0) []) (enumerate_from n ds)
 
-content-behind : (front ds cs : List Channel) (d : Channel) (numbers : List ℕ) (n : ℕ) → cs ≡ front ++ d ∷ ds → n ≡ length front → content_at cs numbers n ≡ take (length d.widths) (drop (length (all_widths front)) numbers)
+pub content-behind : (front ds cs : List Channel) (d : Channel) (numbers : List ℕ) (n : ℕ) → cs ≡ front ++ d ∷ ds → n ≡ length front → content_at cs numbers n ≡ take (length d.widths) (drop (length (all_widths front)) numbers)
 content-behind front ds cs d numbers n e l =
     let at : slice_get cs n ≡ Some d =
     ap (λ xs. slice_get xs n) (e ∙ sym (append_assoc front (d ∷ []) ds)) ∙ ap (slice_get ((front ++ d ∷ []) ++ ds)) l ∙ slice_get-append (front ++ d ∷ []) ds (length front) d (slice_get-last front d) in
@@ -162,19 +162,20 @@ fit-one : (starts : Bool) (ws xs vs ys : List ℕ) → Fit ws xs → Fit vs ys �
 fit-one true ws xs vs ys f g = fit-append ws vs xs ys f g
 fit-one false ws xs vs ys f g = g
 
-fit-from : (mask : ℕ) (cs : List Channel) (numbers : List ℕ) (front ds : List Channel) (n : ℕ) → cs ≡ front ++ ds → n ≡ length front → Fit (all_widths cs) numbers → Fit (under mask n ds) (taken_of mask cs numbers n ds)
-fit-from mask cs numbers front [] n e l f = tt
-fit-from mask cs numbers front (d ∷ ds) n e l f =
-    let grouped : cs ≡ (front ++ d ∷ []) ++ ds = e ∙ sym (append_assoc front (d ∷ []) ds) in
+-- the contents of some channels in the middle of a table
+fit-from : (mask : ℕ) (cs : List Channel) (numbers : List ℕ) (front ds back : List Channel) (n : ℕ) → cs ≡ front ++ (ds ++ back) → n ≡ length front → Fit (all_widths cs) numbers → Fit (under mask n ds) (taken_of mask cs numbers n ds)
+fit-from mask cs numbers front [] back n e l f = tt
+fit-from mask cs numbers front (d ∷ ds) back n e l f =
+    let grouped : cs ≡ (front ++ d ∷ []) ++ (ds ++ back) = e ∙ sym (append_assoc front (d ∷ []) (ds ++ back)) in
     let further : n + 1 ≡ length (front ++ d ∷ []) = omega (arith, l, length_push front d) in
-    fit-one (has mask n) d.widths (content_at cs numbers n) (under mask (n + 1) ds) (taken_of mask cs numbers (n + 1) ds) (content-fits-at front ds cs d numbers n e l f) (fit-from mask cs numbers (front ++ d ∷ []) ds (n + 1) grouped further f)
+    fit-one (has mask n) d.widths (content_at cs numbers n) (under mask (n + 1) ds) (taken_of mask cs numbers (n + 1) ds) (content-fits-at front (ds ++ back) cs d numbers n e l f) (fit-from mask cs numbers (front ++ d ∷ []) ds back (n + 1) grouped further f)
 
 is-packet : (channels : List Channel) (row : Row) → IsOver channels row → has_event row ≡ true → IsPacket channels (packet_of channels row)
 is-packet channels row over h = record {
   event = event-of row.starts row.ends h;
   starts = over.starts;
   ends = over.ends;
-  contents = fit-from row.starts channels row.contents [] channels 0 refl refl over.contents;
+  contents = fit-from row.starts channels row.contents [] channels [] 0 (sym (append-nil channels)) refl over.contents;
 }
 
 -- ---- the trace of each front
@@ -240,3 +241,73 @@ starts-wait channels rows are keeps c j t u first second a b =
           (cases_lt found.place t);
       before = omega arith;
     }
+
+-- ---- what is recorded
+-- the content that a packet has of a channel that starts is what the row shows of it
+recorded-content : (cs front ds : List Channel) (d : Channel) (row : Row) (c : ℕ) → cs ≡ front ++ d ∷ ds → c ≡ length front → Fit (all_widths cs) row.contents → has row.starts c ≡ true
+    → content_of cs (packet_of cs row) c ≡ content_at cs row.contents c
+recorded-content cs front ds d row c e l f h =
+    let numbers = row.contents in
+    let mask = row.starts in
+    let one : ℕ × Channel → List ℕ = λ x. cond (has mask x.0) (content_at cs numbers x.0) [] in
+    let mine = content_at cs numbers c in
+    let behind = flat_map one (enumerate_from (0 + length front + 1) ds) in
+    let place : 0 + length front ≡ c = omega arith in
+    let parts : contents_under mask cs numbers ≡ taken_of mask cs numbers 0 front ++ (mine ++ behind) =
+    ap (λ xs. flat_map one (enumerate_from 0 xs)) e
+    ∙ ap (flat_map one) (enumerate-append 0 front (d ∷ ds))
+    ∙ flat_map-append one (enumerate_from 0 front) (enumerate_from (0 + length front) (d ∷ ds))
+    ∙ ap (λ n. taken_of mask cs numbers 0 front ++ (cond (has mask n) (content_at cs numbers n) [] ++ behind)) place
+    ∙ ap (λ b. taken_of mask cs numbers 0 front ++ (cond b mine [] ++ behind)) h in
+    let before : take c cs ≡ front = ap (take c) e ∙ take_at front (d ∷ ds) c (sym l) in
+    let first : length (taken_of mask cs numbers 0 front) ≡ length (widths_under mask (take c cs)) =
+    sym (fit-length (under mask 0 front) (taken_of mask cs numbers 0 front) (fit-from mask cs numbers [] front (d ∷ ds) 0 e refl f)) ∙ ap (λ xs. length (widths_under mask xs)) (sym before) in
+    let at : slice_get cs c ≡ Some d =
+    ap (λ xs. slice_get xs c) (e ∙ sym (append_assoc front (d ∷ []) ds)) ∙ ap (slice_get ((front ++ d ∷ []) ++ ds)) l ∙ slice_get-append (front ++ d ∷ []) ds (length front) d (slice_get-last front d) in
+    let long : length mine ≡ length (widths_of (slice_get cs c)) = sym (fit-length d.widths mine (content-fits-at front ds cs d numbers c e l f)) ∙ ap (λ (o : Option Channel). length (widths_of o)) (sym at) in
+    ap (λ xs. take (length (widths_of (slice_get cs c))) (drop (length (widths_under mask (take c cs))) xs)) parts
+    ∙ ap (take (length (widths_of (slice_get cs c)))) (drop_at (taken_of mask cs numbers 0 front) (mine ++ behind) (length (widths_under mask (take c cs))) first)
+    ∙ take_at mine behind (length (widths_of (slice_get cs c))) long
+
+split-table : (cs : List Channel) (c : ℕ) → c < length cs → (front : List Channel) × (d : Channel) × (ds : List Channel) × (cs ≡ front ++ d ∷ ds) × (c ≡ length front)
+split-table [] c l = absurd (omega arith)
+split-table (x ∷ xs) zero l = ([], x, xs, refl, refl)
+split-table (x ∷ xs) (suc c) l =
+    let s = split-table xs c (omega arith) in
+    (x ∷ s.0, s.1, s.2, ap (λ ys. x ∷ ys) s.3, ap suc s.4)
+
+same-content_of : (cs : List Channel) (row : Row) (c : ℕ) → IsOver cs row → has row.starts c ≡ true → content_of cs (packet_of cs row) c ≡ content_at cs row.contents c
+same-content_of cs row c over h =
+    let l : c < length cs = ⊎_elim
+    (λ (b : c < length cs). b)
+    (λ (b : length cs ≤ c). (let z : bit_at row.starts c ≡ 0 = bit_at_above row.starts (length cs) c over.starts b in let o = eqb-true (bit_at row.starts c) 1 h in absurd (omega arith)))
+    (cases_lt c (length cs)) in
+    let s = split-table cs c l in
+    recorded-content cs s.0 s.2 s.1 row c s.3 s.4 over.contents h
+
+abbrev Contents : Type 0
+Contents = List (List ℕ)
+
+one-more : (starts : Bool) (x y : List ℕ) (xs ys : Contents) → (starts ≡ true → x ≡ y) → xs ≡ ys → cond starts (x ∷ xs) xs ≡ cond starts (y ∷ ys) ys
+one-more true x y xs ys e f = ap (λ z. z ∷ xs) (e refl) ∙ ap (λ zs. y ∷ zs) f
+one-more false x y xs ys e f = f
+
+choice : {X Y : Type 0} (g : X → Y) (b : Bool) (x : X) (xs : List X) → map g (cond b (x ∷ xs) xs) ≡ cond b (g x ∷ map g xs) (map g xs)
+choice g true x xs = refl
+choice g false x xs = refl
+
+recorded-each : (cs : List Channel) (rows : List Row) → ((t : ℕ) (row : Row) → slice_get rows t ≡ Some row → IsOver cs row) → (c : ℕ) → recorded cs (packets_of cs rows) c ≡ transactions cs rows c
+recorded-each cs [] over c = refl
+recorded-each cs (row ∷ rows) over c = one (has_event row) refl (recorded-each cs rows (λ t r at. over (suc t) r at) c)
+  where
+    one : (b : Bool) → has_event row ≡ b → recorded cs (packets_of cs rows) c ≡ transactions cs rows c → recorded cs (map (packet_of cs) (cond b (row ∷ filter has_event rows) (filter has_event rows))) c ≡ transactions cs (row ∷ rows) c
+    one true h same =
+        choice (λ (p : Packet). content_of cs p c) (has row.starts c) (packet_of cs row) (filter (does Start c) (packets_of cs rows))
+        ∙ one-more (has row.starts c) (content_of cs (packet_of cs row) c) (content_at cs row.contents c) (recorded cs (packets_of cs rows) c) (transactions cs rows c) (same-content_of cs row c (over 0 row refl)) same
+        ∙ sym (choice (λ (r : Row). content_at cs r.contents c) (has row.starts c) row (filter (row_does Start c) rows))
+    one false h same =
+        same ∙ ap (λ b. cond b (content_at cs row.contents c ∷ transactions cs rows c) (transactions cs rows c)) (sym (quiet Start c row h))
+        ∙ sym (choice (λ (r : Row). content_at cs r.contents c) (has row.starts c) row (filter (row_does Start c) rows))
+
+pub recorded-once : RecordedOnce
+recorded-once channels rows are c = recorded-each channels rows (λ t row at. (are t row at).0) c

@@ -4,7 +4,7 @@ use Rattle.trace_model.specs.declared.channel.Channel.{Channel}
 use Rattle.trace_model.specs.declared.event.Kind.TheVariants.{Start, End}
 use Rattle.trace_model.specs.declared.row.Row.{Row}
 use Rattle.trace_model.specs.Counting.{IsNth}
-use Rattle.trace_model.specs.Recording.{has_event, packet_of, packets_of, row_does, trace_of}
+use Rattle.trace_model.specs.Recording.{has_event, packet_of, packets_of, recorded, row_does, trace_of, transactions}
 use Rattle.trace_model.specs.Row.{AreRows, is_in_flight, row_before, sink_valid}
 use Rattle.trace_model.specs.Trace.{IsWellFormed}
 
@@ -12,6 +12,10 @@ use Rattle.trace_model.specs.Trace.{IsWellFormed}
 abbrev pub RowAddsItsPacket : Type 0
 RowAddsItsPacket = (channels : List Channel) (rows : List Row) (row : Row)
     → packets_of channels (rows ++ row ∷ []) ≡ packets_of channels rows ++ (if has_event row then packet_of channels row ∷ [] else [])
+
+-- the packets record each transaction of a channel once and in order, with its content
+abbrev pub RecordedOnce : Type 0
+RecordedOnce = (channels : List Channel) (rows : List Row) → AreRows channels rows → (c : ℕ) → recorded channels (packets_of channels rows) c ≡ transactions channels rows c
 
 -- what is in flight after a row is still shown to the sink in the next one: no valid is taken back before its transfer
 abbrev pub KeepsInFlight : List Row → Type 0

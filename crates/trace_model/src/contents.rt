@@ -1,12 +1,13 @@
-ghost use Rattle.std.specs.Prelude.{◌≡◌, ◌<◌, ◌^◌, ◌++◌, ◌↔◌, ℕ, List, [], IsTrue, IfSome, IfNone, if◌then◌else◌};
+ghost use Rattle.std.specs.Prelude.{◌≡◌, ◌<◌, ◌^◌, ◌++◌, ◌↔◌, ℕ, List, [], IsTrue, nat_lt, IfSome, IfNone, if◌then◌else◌};
 ghost use Rattle.trace_model.specs.Packet.{Fit, widths_under};
 ghost use Rattle.trace_model.specs.Row.{all_widths};
 
 use crate::channel::Channel;
 
 /// Whether a number is below 2 to the power of `bits`.
-pub(crate) fn fits(number: u128, bits: usize) -> bool
-    ensures { IsTrue result ↔ (number < 2 ^ bits) }
+pub fn fits(number: u128, bits: usize) -> bool
+    ensures test { result ≡ nat_lt number (2 ^ bits) }
+    ensures holds { IsTrue result ↔ (number < 2 ^ bits) }
 {
     bits >= 128 || number >> bits == 0
 }

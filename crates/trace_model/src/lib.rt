@@ -1,8 +1,10 @@
-//! Traces of channels as plain data: channels, packets, events, and when a trace is well-formed.
+//! Rows and traces of channels as plain data: what the channels show in a cycle, what is recorded of it,
+//! and when a trace is well-formed.
 //!
-//! The definitions stand in `specs/`: `Channel` (channel tables), `Packet` (what one cycle records),
-//! `Trace` (*Well-formed*) and `Clock` (the vector clock of an event). All of them count: "the j-th
-//! packet in which c starts" is `IsNth` of `Counting`.
+//! The definitions stand in `specs/`: `Channel` (channel tables), `Row` (what one cycle shows),
+//! `Recording` (*Transactions*, *Trace of rows*), `Stability` (*Unstable*), `Packet` (what one cycle
+//! records), `Trace` (*Well-formed*) and `Clock` (the vector clock of an event). They count: "the j-th
+//! row in which c starts" is `IsNth` of `Counting`.
 #![tactic(auto)]
 
 mod channel;
@@ -19,10 +21,11 @@ mod table;
 mod trace;
 
 pub use channel::{Channel, Channels, Dir};
+pub use contents::fits;
 pub use event::{Event, Events, Kind};
 pub use flight::in_flight_after;
 pub use lawful::{is_over, is_packet, well_formed};
-pub use laws::{row_adds_its_packet, rows_are_well_formed, starts_wait_for_ends};
+pub use laws::{recorded_once, row_adds_its_packet, rows_are_well_formed, starts_wait_for_ends};
 pub use mask::names;
 pub use packet::{Packet, Packets};
 pub use row::{Offers, Row, Rows};

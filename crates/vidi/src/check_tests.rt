@@ -1,6 +1,5 @@
 use crate::status::{Reason, Status, Word};
-use crate::tests::{expect, shelf_of, sink_of, words_of};
-use crate::top::vidi;
+use crate::tests::{answers, expect};
 use std::alloc::Global;
 use std::process::Abort;
 use std::test::Fail as Failure;
@@ -244,26 +243,17 @@ fn a_design_has_at_most_4194304_bytes(rt: HostRuntime) -> Result<(), Failure> {
 // The name is missing, or the k-th fetch or the l-th push fails.
 #[test]
 fn a_design_that_cannot_be_read_is_a_read_fault(rt: HostRuntime) -> Result<(), Failure> {
-    let alloc = rt.alloc();
     let fault = Status::ReadFault { word: Word::Design };
     let fault_text = "vidi: read fault design\n";
-    for (line, fetch, push, status, text) in [
-        ("check u m", 0, 0, fault, fault_text),
-        ("check t m", 1, 0, fault, fault_text),
-        ("check t m", 2, 0, fault, fault_text),
-        ("check t m", 3, 0, Status::Done, "modules 1 items 6\n"),
-        ("check t m", 0, 1, Status::WriteFault, ""),
+    for (line, failing, status, text) in [
+        ("check u m", (0, 0), fault, fault_text),
+        ("check t m", (1, 0), fault, fault_text),
+        ("check t m", (2, 0), fault, fault_text),
+        ("check t m", (3, 0), Status::Done, "modules 1 items 6\n"),
+        ("check t m", (0, 1), Status::WriteFault, ""),
     ] {
-        let mut shelf = shelf_of(alloc, PASS.as_bytes(), fetch)?;
-        let mut out = sink_of(alloc, push)?;
-        let words = words_of(alloc, line)?;
-        assert_eq!(rt;
-            vidi(alloc, &words, &mut shelf, &mut out),
-            status,
-            "{line} {fetch} {push}"
-        );
-        assert_eq!(rt; out.bytes(), text.as_bytes(), "{line} {fetch} {push}");
-        assert_eq!(rt; shelf.file("t").ok_or("no file")?, PASS.as_bytes());
+        let answered = answers(rt.alloc(), line, PASS.as_bytes(), failing, status, text)?;
+        assert!(rt; answered, "{line}: {text}");
     }
     Ok(())
 }

@@ -12,13 +12,7 @@ const HEADER: [u8; 19] = [
     0x62, 0x01, 0x08,
 ];
 
-const NO_SEND: [u8; 5] = [0, 0, 0, 0, 0];
-
 const ONE_SEND: [u8; 13] = [1, 1, 1, 5, 1, 2, 2, 5, 0, 0, 0, 0, 2];
-
-const TWO_SENDS: [u8; 21] = [
-    1, 1, 1, 5, 1, 3, 2, 6, 5, 1, 0, 1, 1, 2, 2, 6, 0, 0, 0, 0, 4,
-];
 
 // One outward channel b without content, which starts and completes once.
 const NO_CONTENT: [u8; 21] = [
@@ -26,39 +20,21 @@ const NO_CONTENT: [u8; 21] = [
     0, 1,
 ];
 
-// A write of 1000 at address 0, its response, a read at 0, and what it gives.
-const REGISTERS: [u8; 74] = [
-    0x56, 0x49, 0x44, 0x49, 0x54, 0x52, 0x43, 0x31, 0x05, 0x00, 0x02, 0x61, 0x77, 0x01, 0x20, 0x00,
-    0x01, 0x77, 0x02, 0x20, 0x04, 0x01, 0x01, 0x62, 0x01, 0x02, 0x00, 0x02, 0x61, 0x72, 0x01, 0x20,
-    0x01, 0x01, 0x72, 0x02, 0x20, 0x02, 0x01, 0x03, 0x03, 0x00, 0x00, 0x00, 0x00, 0x00, 0x00, 0x03,
-    0xe8, 0x0f, 0x01, 0x04, 0x04, 0x00, 0x01, 0x08, 0x08, 0x00, 0x00, 0x00, 0x00, 0x01, 0x10, 0x10,
-    0x00, 0x00, 0x03, 0xe8, 0x00, 0x00, 0x00, 0x00, 0x00, 0x04,
+// One inward channel w of 32 and 4 bits, on which 1000 and 15 are sent.
+const WRITE: [u8; 28] = [
+    0x56, 0x49, 0x44, 0x49, 0x54, 0x52, 0x43, 0x31, 0x01, 0x00, 0x01, 0x77, 0x02, 0x20, 0x04, 1, 1,
+    1, 0x00, 0x00, 0x03, 0xe8, 0x0f, 0, 0, 0, 0, 1,
 ];
-
-const NO_SEND_TEXT: &str = "channel 0 in a 8\nchannel 1 out b 8\npackets 0\n";
 
 const ONE_SEND_TEXT: &str = "channel 0 in a 8\nchannel 1 out b 8\n\
     0 start a 5 clock 0 0\n0 end a clock 0 0\n\
     1 start b 5 clock 1 0\n1 end b clock 1 0\n\
     packets 2\n";
 
-const TWO_SENDS_TEXT: &str = "channel 0 in a 8\nchannel 1 out b 8\n\
-    0 start a 5 clock 0 0\n0 end a clock 0 0\n\
-    1 start a 6 clock 1 0\n1 start b 5 clock 1 0\n1 end b clock 1 0\n\
-    2 end a clock 1 1\n\
-    3 start b 6 clock 2 1\n3 end b clock 2 1\n\
-    packets 4\n";
-
 const NO_CONTENT_TEXT: &str = "channel 0 out b\n0 start b clock 0\n0 end b clock 0\npackets 1\n";
 
-const REGISTERS_TEXT: &str = "channel 0 in aw 32\nchannel 1 in w 32 4\nchannel 2 out b 2\n\
-    channel 3 in ar 32\nchannel 4 out r 32 2\n\
-    0 start aw 0 clock 0 0 0 0 0\n0 start w 1000 15 clock 0 0 0 0 0\n\
-    0 end aw clock 0 0 0 0 0\n0 end w clock 0 0 0 0 0\n\
-    1 start b 0 clock 1 1 0 0 0\n1 end b clock 1 1 0 0 0\n\
-    2 start ar 0 clock 1 1 1 0 0\n2 end ar clock 1 1 1 0 0\n\
-    3 start r 1000 0 clock 1 1 1 1 0\n3 end r clock 1 1 1 1 0\n\
-    packets 4\n";
+const WRITE_TEXT: &str =
+    "channel 0 in w 32 4\n0 start w 1000 15 clock 0\n0 end w clock 0\npackets 1\n";
 
 fn with_header(alloc: Global, body: &[u8]) -> Result<Vec<u8>, Failure> {
     let mut bytes = Vec::from_slice(alloc, &HEADER)?;
@@ -67,7 +43,7 @@ fn with_header(alloc: Global, body: &[u8]) -> Result<Vec<u8>, Failure> {
 }
 
 /// The words of a line.
-pub fn words_of(alloc: Global, line: &str) -> Result<Words, Failure> {
+fn words_of(alloc: Global, line: &str) -> Result<Words, Failure> {
     let mut words = Words::new(alloc);
     for text in line.split_whitespace() {
         words.push(Text::from_str(alloc, text)?)?;
@@ -76,7 +52,7 @@ pub fn words_of(alloc: Global, line: &str) -> Result<Words, Failure> {
 }
 
 /// A shelf that holds a file `t`, and whose fetch of this number fails.
-pub fn shelf_of(alloc: Global, file: &[u8], failing: u32) -> Result<MemShelf, Failure> {
+fn shelf_of(alloc: Global, file: &[u8], failing: u32) -> Result<MemShelf, Failure> {
     let mut fails = Fails::new(alloc);
     fails.push(Fail {
         call: FailCall::Fetch,
@@ -89,7 +65,7 @@ pub fn shelf_of(alloc: Global, file: &[u8], failing: u32) -> Result<MemShelf, Fa
 }
 
 /// A sink with room for any text here, whose push of this number fails.
-pub fn sink_of(alloc: Global, failing: u128) -> Result<MemSink, Failure> {
+fn sink_of(alloc: Global, failing: u128) -> Result<MemSink, Failure> {
     let mut fails = Numbers::new(alloc);
     fails.push(failing)?;
     let mut sink = MemSink::new(alloc, fails);
@@ -97,7 +73,24 @@ pub fn sink_of(alloc: Global, failing: u128) -> Result<MemSink, Failure> {
     Ok(sink)
 }
 
-/// Gives the words of a line with a file `t`, and compares the answer, the whole text and the file.
+/// Whether the words of a line, with a file `t`, are answered by this status and this whole text and
+/// leave the file, where this fetch and this push fail.
+pub fn answers(
+    alloc: Global,
+    line: &str,
+    file: &[u8],
+    failing: (u32, u128),
+    status: Status,
+    text: &str,
+) -> Result<bool, Failure> {
+    let words = words_of(alloc, line)?;
+    let mut out = sink_of(alloc, failing.1)?;
+    let mut shelf = shelf_of(alloc, file, failing.0)?;
+    let answer = vidi(alloc, &words, &mut shelf, &mut out);
+    Ok(answer == status && out.bytes() == text.as_bytes() && shelf.file("t") == Some(file))
+}
+
+/// Asserts an answer where no call fails.
 pub fn expect(
     rt: &impl Abort,
     alloc: Global,
@@ -106,63 +99,47 @@ pub fn expect(
     status: Status,
     text: &str,
 ) -> Result<(), Failure> {
-    let mut shelf = shelf_of(alloc, file, 0)?;
-    let mut out = sink_of(alloc, 0)?;
-    let words = words_of(alloc, line)?;
-    assert_eq!(rt; vidi(alloc, &words, &mut shelf, &mut out), status, "{text}");
-    assert_eq!(rt; out.bytes(), text.as_bytes());
-    assert_eq!(rt; shelf.file("t").ok_or("no file")?, file);
+    let answered = answers(alloc, line, file, (0, 0), status, text)?;
+    assert!(rt; answered, "{line}: {text}");
     Ok(())
-}
-
-fn expect_dump(
-    rt: &impl Abort,
-    alloc: Global,
-    file: &[u8],
-    status: Status,
-    text: &str,
-) -> Result<(), Failure> {
-    expect(rt, alloc, "dump t", file, status, text)
 }
 
 #[test]
 fn worked_traces_are_dumped(rt: HostRuntime) -> Result<(), Failure> {
     let alloc = rt.alloc();
-    for (body, text) in [
-        (NO_SEND.as_slice(), NO_SEND_TEXT),
-        (ONE_SEND.as_slice(), ONE_SEND_TEXT),
-        (TWO_SENDS.as_slice(), TWO_SENDS_TEXT),
+    let one_send = with_header(alloc, &ONE_SEND)?;
+    for (file, text) in [
+        (one_send.as_slice(), ONE_SEND_TEXT),
+        (NO_CONTENT.as_slice(), NO_CONTENT_TEXT),
+        (WRITE.as_slice(), WRITE_TEXT),
     ] {
-        expect_dump(&rt, alloc, &with_header(alloc, body)?, Status::Done, text)?;
+        expect(&rt, alloc, "dump t", file, Status::Done, text)?;
     }
-    expect_dump(&rt, alloc, &NO_CONTENT, Status::Done, NO_CONTENT_TEXT)?;
-    expect_dump(&rt, alloc, &REGISTERS, Status::Done, REGISTERS_TEXT)
+    Ok(())
 }
 
-// Cut after the first packet, a spare mask bit, one byte more, another count, an empty packet, another magic.
+// Cut after the first packet, a packet count of 3, and another magic.
 #[test]
 fn broken_traces_are_refused(rt: HostRuntime) -> Result<(), Failure> {
     let alloc = rt.alloc();
-    let refused = Status::Refused {
-        word: Word::Trace,
-        reason: Reason::BadTrace { at: 0 },
-    };
-    let text = "vidi: refused trace: bad trace at 0\n";
-    for body in [
-        [1, 1, 1, 5].as_slice(),
-        [1, 5, 1, 5, 1, 2, 2, 5, 0, 0, 0, 0, 2].as_slice(),
-        [1, 1, 1, 5, 1, 2, 2, 5, 0, 0, 0, 0, 2, 0].as_slice(),
-        [1, 1, 1, 5, 1, 2, 2, 5, 0, 0, 0, 0, 3].as_slice(),
-        [1, 0, 0, 5, 1, 2, 2, 5, 0, 0, 0, 0, 2].as_slice(),
+    let cut = with_header(alloc, &[1, 1, 1, 5])?;
+    let count = with_header(alloc, &[1, 1, 1, 5, 1, 2, 2, 5, 0, 0, 0, 0, 3])?;
+    for (file, at, text) in [
+        (cut.as_slice(), 23, "vidi: refused trace: bad trace at 23\n"),
+        (count.as_slice(), 27, "vidi: refused trace: bad trace at 27\n"),
+        (b"WIDITRC1", 0, "vidi: refused trace: bad trace at 0\n"),
     ] {
-        expect_dump(&rt, alloc, &with_header(alloc, body)?, refused, text)?;
+        let refused = Status::Refused {
+            word: Word::Trace,
+            reason: Reason::BadTrace { at },
+        };
+        expect(&rt, alloc, "dump t", file, refused, text)?;
     }
-    expect_dump(&rt, alloc, b"WIDITRC1", refused, text)
+    Ok(())
 }
 
 #[test]
 fn other_words_are_usage(rt: HostRuntime) -> Result<(), Failure> {
-    let alloc = rt.alloc();
     for line in [
         "",
         "dump",
@@ -177,26 +154,23 @@ fn other_words_are_usage(rt: HostRuntime) -> Result<(), Failure> {
         "sample 6001",
         "--help",
     ] {
-        let mut shelf = shelf_of(alloc, &NO_CONTENT, 0)?;
-        let mut out = sink_of(alloc, 0)?;
-        let status = vidi(alloc, &words_of(alloc, line)?, &mut shelf, &mut out);
-        assert_eq!(rt; status, Status::Usage, "{line}");
-        assert_eq!(rt; out.bytes(), b"vidi: usage\n".as_slice());
+        expect(
+            &rt,
+            rt.alloc(),
+            line,
+            &NO_CONTENT,
+            Status::Usage,
+            "vidi: usage\n",
+        )?;
     }
     Ok(())
 }
 
 #[test]
 fn a_missing_name_is_a_read_fault(rt: HostRuntime) -> Result<(), Failure> {
-    let alloc = rt.alloc();
-    let mut shelf = shelf_of(alloc, &NO_CONTENT, 0)?;
-    let mut out = sink_of(alloc, 0)?;
-    let words = words_of(alloc, "dump u")?;
-    let status = vidi(alloc, &words, &mut shelf, &mut out);
-    assert_eq!(rt; status, Status::ReadFault { word: Word::Trace });
-    assert_eq!(rt; out.bytes(), b"vidi: read fault trace\n".as_slice());
-    assert_eq!(rt; shelf.file("u"), None);
-    Ok(())
+    let fault = Status::ReadFault { word: Word::Trace };
+    let text = "vidi: read fault trace\n";
+    expect(&rt, rt.alloc(), "dump u", &NO_CONTENT, fault, text)
 }
 
 // The k-th fetch and the l-th push fail, for every k and l up to the last and one more.
@@ -205,24 +179,16 @@ fn each_failing_call_is_answered(rt: HostRuntime) -> Result<(), Failure> {
     let alloc = rt.alloc();
     let fault = Status::ReadFault { word: Word::Trace };
     let file = with_header(alloc, &ONE_SEND)?;
-    let words = words_of(alloc, "dump t")?;
-    for (fetch, push, status, text) in [
-        (1, 2, fault, "vidi: read fault trace\n"),
-        (2, 2, fault, "vidi: read fault trace\n"),
-        (3, 2, Status::Done, ONE_SEND_TEXT),
-        (1, 1, Status::WriteFault, ""),
-        (2, 1, Status::WriteFault, ""),
-        (3, 1, Status::WriteFault, ""),
+    for (failing, status, text) in [
+        ((1, 2), fault, "vidi: read fault trace\n"),
+        ((2, 2), fault, "vidi: read fault trace\n"),
+        ((3, 2), Status::Done, ONE_SEND_TEXT),
+        ((1, 1), Status::WriteFault, ""),
+        ((2, 1), Status::WriteFault, ""),
+        ((3, 1), Status::WriteFault, ""),
     ] {
-        let mut shelf = shelf_of(alloc, &file, fetch)?;
-        let mut out = sink_of(alloc, push)?;
-        assert_eq!(rt;
-            vidi(alloc, &words, &mut shelf, &mut out),
-            status,
-            "{fetch} {push}"
-        );
-        assert_eq!(rt; out.bytes(), text.as_bytes(), "{fetch} {push}");
-        assert_eq!(rt; shelf.file("t").ok_or("no file")?, file.as_slice());
+        let answered = answers(alloc, "dump t", &file, failing, status, text)?;
+        assert!(rt; answered, "{text}");
     }
     Ok(())
 }

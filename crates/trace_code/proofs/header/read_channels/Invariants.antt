@@ -1,6 +1,5 @@
 use Rattle.std.proofs.Common.{◌≡◌, ◌-◌}
-use Rattle.trace_code.specs.Reading.{channels_at}
-use Rattle.trace_code.proofs.Loop.{with_front}
+use Rattle.trace_code.specs.Reading.{with_front, channels_at}
 use Rattle.trace_code.proofs.header.read_channels.Given as goal
 
 abbrev pub invariant-loop : goal.invariant-loop

@@ -1,5 +1,6 @@
 use Rattle.std.proofs.lemmas.Result.{err_from_is_err_and}
-use Rattle.trace_code.specs.PacketReading.{numbers_at, with_front}
+use Rattle.trace_code.specs.Reading.{with_front}
+use Rattle.trace_code.specs.PacketReading.{numbers_at}
 use Rattle.trace_code.proofs.PacketLoop.{number_goes_on, number_ends, number_is_done}
 use Rattle.trace_code.proofs.packets.read_content.Goals as goal
 

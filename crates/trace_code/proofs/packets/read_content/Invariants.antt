@@ -1,5 +1,6 @@
 use Rattle.std.proofs.Common.{◌≡◌, drop}
-use Rattle.trace_code.specs.PacketReading.{numbers_at, with_front}
+use Rattle.trace_code.specs.Reading.{with_front}
+use Rattle.trace_code.specs.PacketReading.{numbers_at}
 use Rattle.trace_code.proofs.packets.read_content.Given as goal
 
 abbrev pub invariant-loop-width : goal.invariant-loop-width

@@ -1,6 +1,7 @@
 use Rattle.std.proofs.Common.{◌≡◌, drop}
 use Rattle.trace_model.specs.Packet.{widths_under}
-use Rattle.trace_code.specs.PacketReading.{numbers_at, with_front}
+use Rattle.trace_code.specs.Reading.{with_front}
+use Rattle.trace_code.specs.PacketReading.{numbers_at}
 use Rattle.trace_code.proofs.PacketLoop.{widths_from}
 use Rattle.trace_code.proofs.packets.read_contents.Given as goal
 
