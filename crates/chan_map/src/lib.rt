@@ -5,11 +5,15 @@
 #![tactic(auto)]
 
 mod error;
+mod fits;
 mod forms;
 mod map_text;
 mod reading;
 mod seen;
+mod sockets;
 
 pub use error::{MapError, MapLimit};
 pub use reading::read_map;
+pub use fits::check_lines;
+pub use sockets::{Socket, Sockets, Top, top_of};
 pub use map_text::{ChannelLine, Entry, MapLine, MapLines, MapText};
