@@ -10,7 +10,6 @@ use Rattle.chan_map.specs.declared.error.MapError.{MapError}
 use Rattle.chan_map.specs.declared.error.MapError.TheVariants as E
 use Rattle.chan_map.specs.declared.error.MapLimit.TheVariants.{Channels, Ports, Bytes}
 use Rattle.chan_map.specs.declared.map_text.MapLine.{MapLine}
-use Rattle.chan_map.specs.Text.{entries}
 use Rattle.chan_map.specs.Ports.{line_fits, names_of, times}
 
 -- a count stands still at the end of its type

@@ -1,10 +1,11 @@
 //! The forms of a map's lines.
 
-ghost use Rattle.std.specs.Prelude.{◌≡◌, IfOk};
+ghost use Rattle.std.specs.Prelude.{◌≡◌, IfOk, IfSome, true};
 ghost use Rattle.std.specs.List.{list_all};
 ghost use Rattle.std.specs.Str.{bytes_eq};
 ghost use Rattle.vidi_lines.specs.Number.{number_of};
 ghost use Rattle.trace_model.specs.Channel.{is_letter, is_letter_or_digit};
+ghost use Rattle.chan_map.specs.Follow.{is_named};
 ghost use Rattle.chan_map.specs.Forms.{keyword_of, is_channel_name, tie_of, reset_of, form_of, channel_of, entry_of};
 
 use crate::map_text::{ChannelLine, Entry};
@@ -102,7 +103,8 @@ fn copy_all(alloc: Global, names: &[Name]) -> Result<Names, Memory>
 }
 
 fn tie_of(alloc: Global, port: &[u8], word: &[u8]) -> Result<Option<Entry>, Memory>
-    ensures { IfOk result (λ e. e ≡ tie_of port.now (number_of word.now)) }
+    ensures said { IfOk result (λ e. e ≡ tie_of port.now (number_of word.now)) }
+    ensures named { IfOk result (λ e. IfSome e (λ entry. is_named entry ≡ true)) }
 {
     let Some(number) = number(word) else {
         return Ok(None);
@@ -112,7 +114,8 @@ fn tie_of(alloc: Global, port: &[u8], word: &[u8]) -> Result<Option<Entry>, Memo
 }
 
 fn reset_of(alloc: Global, port: &[u8], active: &[u8], cycles: &[u8]) -> Result<Option<Entry>, Memory>
-    ensures { IfOk result (λ e. e ≡ reset_of port.now (number_of active.now) (number_of cycles.now)) }
+    ensures said { IfOk result (λ e. e ≡ reset_of port.now (number_of active.now) (number_of cycles.now)) }
+    ensures named { IfOk result (λ e. IfSome e (λ entry. is_named entry ≡ true)) }
 {
     let (Some(active), Some(cycles)) = (number(active), number(cycles)) else {
         return Ok(None);
@@ -125,7 +128,8 @@ fn reset_of(alloc: Global, port: &[u8], active: &[u8], cycles: &[u8]) -> Result<
 }
 
 fn channel_of(alloc: Global, dir: Dir, words: &[Name]) -> Result<Option<Entry>, Memory>
-    ensures { IfOk result (λ e. e ≡ channel_of dir words.now) }
+    ensures said { IfOk result (λ e. e ≡ channel_of dir words.now) }
+    ensures named { IfOk result (λ e. IfSome e (λ entry. is_named entry ≡ true)) }
 {
     let [name, valid, ready, contents @ ..] = words else {
         return Ok(None);
@@ -145,7 +149,8 @@ fn channel_of(alloc: Global, dir: Dir, words: &[Name]) -> Result<Option<Entry>, 
 /// What the words behind the first one say.
 #[tactic(auto, unfolding(crate::specs::Forms::form_of))]
 fn form_of(alloc: Global, keyword: Keyword, words: &[Name]) -> Result<Option<Entry>, Memory>
-    ensures { IfOk result (λ e. e ≡ form_of keyword words.now) }
+    ensures said { IfOk result (λ e. e ≡ form_of keyword words.now) }
+    ensures named { IfOk result (λ e. IfSome e (λ entry. is_named entry ≡ true)) }
 {
     match (keyword, words) {
         (Keyword::Top, [name]) => Ok(Some(Entry::Top { name: copy(alloc, name.as_slice())? })),
@@ -163,7 +168,8 @@ fn form_of(alloc: Global, keyword: Keyword, words: &[Name]) -> Result<Option<Ent
 
 /// What the words of a line say, `None` where they have no listed form.
 pub fn entry_of(alloc: Global, words: &[Name]) -> Result<Option<Entry>, Memory>
-    ensures { IfOk result (λ e. e ≡ entry_of words.now) }
+    ensures said { IfOk result (λ e. e ≡ entry_of words.now) }
+    ensures named { IfOk result (λ e. IfSome e (λ entry. is_named entry ≡ true)) }
 {
     let Some((first, rest)) = words.split_first() else {
         return Ok(None);

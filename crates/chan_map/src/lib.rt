@@ -7,13 +7,23 @@
 mod error;
 mod fits;
 mod forms;
+mod limits;
 mod map_text;
+mod parts;
+mod pins;
 mod reading;
 mod seen;
 mod sockets;
+mod text;
+mod times;
 
 pub use error::{MapError, MapLimit};
 pub use reading::read_map;
 pub use fits::check_lines;
+pub use limits::check_limits;
+pub use times::check_cover;
+pub use parts::{Parts, parts_of};
+pub use pins::{Map, Pin, Pins, Plug, Plugs, Reset, Tie, Ties};
+pub use text::MapText;
 pub use sockets::{Socket, Sockets, Top, top_of};
-pub use map_text::{ChannelLine, Entry, MapLine, MapLines, MapText};
+pub use map_text::{ChannelLine, Entry, MapLine, MapLines};

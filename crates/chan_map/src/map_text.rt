@@ -1,7 +1,4 @@
-//! A map as its lines say it.
-
-ghost use Rattle.std.specs.Prelude.{◌≡◌};
-ghost use Rattle.std.specs.String.{string_bytes};
+//! What the lines of a map say.
 
 use trace_model::Dir;
 use vidi_bits::{Items, Name};
@@ -41,10 +38,3 @@ pub struct MapLine {
 
 /// A list of lines that have words, in the order of the text.
 pub type MapLines = Items<MapLine>;
-
-/// A map that was read: its lines with words, and the name of the top module.
-#[derive(Drop)]
-pub struct MapText {
-    pub(crate) top: Name,
-    pub(crate) lines: MapLines,
-}
