@@ -1,3 +1,4 @@
 pub mod Keys
 pub mod Table
 pub mod Follows
+pub mod Counts

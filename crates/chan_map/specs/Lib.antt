@@ -7,3 +7,4 @@ pub mod Reasons
 pub mod Sockets
 pub mod Bound
 pub mod Times
+pub mod Parts

@@ -4,6 +4,7 @@
 //! `Ports` (the ports that words name), `Reasons` (M2, M3 and M4) and `Bound` (the map that lines and a design make).
 #![tactic(auto)]
 
+mod binding;
 mod error;
 mod fits;
 mod forms;
@@ -17,13 +18,9 @@ mod sockets;
 mod text;
 mod times;
 
+pub use binding::bind_map;
 pub use error::{MapError, MapLimit};
-pub use reading::read_map;
-pub use fits::check_lines;
-pub use limits::check_limits;
-pub use times::check_cover;
-pub use parts::{Parts, parts_of};
-pub use pins::{Map, Pin, Pins, Plug, Plugs, Reset, Tie, Ties};
-pub use text::MapText;
-pub use sockets::{Socket, Sockets, Top, top_of};
 pub use map_text::{ChannelLine, Entry, MapLine, MapLines};
+pub use pins::{Map, Pin, Pins, Plug, Plugs, Reset, Tie, Ties};
+pub use reading::read_map;
+pub use text::MapText;

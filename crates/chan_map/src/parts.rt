@@ -1,10 +1,9 @@
 //! What the lines of a map add to it.
 
 ghost use Rattle.std.specs.Prelude.{◌≡◌, ◌<◌, ◌≤◌, ◌++◌, ℕ, List, map, IfOk, OnOk};
-ghost use Rattle.std.specs.List.{flat_map};
-ghost use Rattle.chan_map.specs.declared.map_text.MapLine.{MapLine};
 ghost use Rattle.chan_map.specs.Sockets.{IsTop};
 ghost use Rattle.chan_map.specs.Bound.{place_of, width_of, pin_named, width_named, rows_of, plugs_of, ties_of, resets_of, later};
+ghost use Rattle.chan_map.specs.Parts.{ArePartsOf};
 
 use crate::forms::copy;
 use crate::map_text::{ChannelLine, Entry, MapLine};
@@ -145,10 +144,7 @@ impl Parts {
 pub fn parts_of(alloc: Global, top: &Top, lines: &[MapLine]) -> Result<Parts, Memory>
     requires top { IsTop top.now }
     requires narrow { (name : List ℕ) → width_named top.now.design.now.ports name < 256 }
-    ensures channels { IfOk result (λ p. p.channels ≡ flat_map (λ (l : MapLine). rows_of top.now.design.now.ports l.entry) lines.now) }
-    ensures plugs { IfOk result (λ p. p.plugs ≡ flat_map (λ (l : MapLine). plugs_of top.now.design.now.ports l.entry) lines.now) }
-    ensures ties { IfOk result (λ p. p.ties ≡ flat_map (λ (l : MapLine). ties_of top.now.design.now.ports l.entry) lines.now) }
-    ensures reset { IfOk result (λ p. p.reset ≡ later None (flat_map (λ (l : MapLine). resets_of top.now.design.now.ports l.entry) lines.now)) }
+    ensures { IfOk result (ArePartsOf top.now.design.now lines.now) }
 {
     let mut parts = Parts {
         channels: Channels::new(alloc),

@@ -75,7 +75,8 @@ fn count_line(top: &Top, counts: &mut Counts, entry: &Entry)
 
 /// As many zeros.
 fn zeros(alloc: Global, n: usize) -> Result<Counts, Memory>
-    ensures { IfOk result (λ cs. cs ≡ replicate n 0) }
+    ensures long { IfOk result (λ cs. length cs ≡ n) }
+    ensures zero { IfOk result (λ cs. (k : ℕ) → slice_index cs k ≡ 0) }
 {
     let mut counts = Counts::new(alloc);
     for _ in 0..n {
