@@ -23,7 +23,7 @@ follow_grows : (b xs : List Entry) (e : Entry) → follow b xs ≡ true → may_
 follow_grows b [] e f m = both (may_follow b e) true (ap (λ l. may_follow l e) (sym (append-nil b)) ∙ m) refl
 follow_grows b (x ∷ xs) e f m =
     both (may_follow b x) _ (both_left (may_follow b x) _ f)
-      (follow_grows (b ++ x ∷ []) xs e (both_right (may_follow b x) _ f) (ap (λ l. may_follow l e) (append_assoc b (x ∷ []) xs) ∙ m))
+    (follow_grows (b ++ x ∷ []) xs e (both_right (may_follow b x) _ f) (ap (λ l. may_follow l e) (append_assoc b (x ∷ []) xs) ∙ m))
 
 pub follow_push : (before : List Entry) (e : Entry) → follow [] before ≡ true → may_follow before e ≡ true → follow [] (before ++ e ∷ []) ≡ true
 follow_push before e f m = follow_grows [] before e f m

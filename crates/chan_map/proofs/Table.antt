@@ -78,14 +78,14 @@ next_found ports i place p q old new whole within at is so_far grew =
     let here : Socket = record { port = i; direction = p.direction; place = place; width = p.width } in
     let after : suc i ≡ i + 1 = omega arith in
     let split : drop i ports ≡ p ∷ drop (i + 1) ports =
-      drop-cons ports i p within ∙ ap (λ (x : Port). x ∷ drop (suc i) ports) (sym at) ∙ ap (λ k. p ∷ drop k ports) after in
+    drop-cons ports i p within ∙ ap (λ (x : Port). x ∷ drop (suc i) ports) (sym at) ∙ ap (λ k. p ∷ drop k ports) after in
     let front : take i ports ++ p ∷ [] ≡ take (i + 1) ports = ap (λ (x : Port). take i ports ++ x ∷ []) at ∙ sym (take_more ports i p within) in
     let long : length (take i ports) ≡ i = length_front ports i within in
     let same : socket (take i ports) p ≡ here = same_socket (take i ports) p i place long is in
     let step : socket_from (take i ports) (drop i ports) q ≡ (if bytes_eq q p.name then Some here else socket_from (take (i + 1) ports) (drop (i + 1) ports) q) =
-      ap (λ rest. socket_from (take i ports) rest q) split
-      ∙ ap (λ (x : Socket). if bytes_eq q p.name then Some x else socket_from (take i ports ++ p ∷ []) (drop (i + 1) ports) q) same
-      ∙ ap (λ before. if bytes_eq q p.name then Some here else socket_from before (drop (i + 1) ports) q) front in
+    ap (λ rest. socket_from (take i ports) rest q) split
+    ∙ ap (λ (x : Socket). if bytes_eq q p.name then Some x else socket_from (take i ports ++ p ∷ []) (drop (i + 1) ports) q) same
+    ∙ ap (λ before. if bytes_eq q p.name then Some here else socket_from before (drop (i + 1) ports) q) front in
     ap (λ o. or_else o (socket_from (take (i + 1) ports) (drop (i + 1) ports) q)) grew
     ∙ found_at old (socket_from (take (i + 1) ports) (drop (i + 1) ports) q) whole (bytes_eq q p.name) here (ap (or_else old) (sym step) ∙ so_far)
 

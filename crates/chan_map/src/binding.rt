@@ -47,6 +47,18 @@ pub fn bind_map(alloc: Global, text: &MapText, design: &Design) -> Result<Map, M
     let name = copy(alloc, text.top.as_slice())?;
     let clock = pin_named(alloc, &top, text.clock.as_slice())?;
     let parts = checked_parts(alloc, &top, text.lines.as_slice())?;
-    let Parts { channels, plugs, ties, reset } = parts;
-    Ok(Map { top: name, channels, plugs, ties, reset, clock })
+    let Parts {
+        channels,
+        plugs,
+        ties,
+        reset,
+    } = parts;
+    Ok(Map {
+        top: name,
+        channels,
+        plugs,
+        ties,
+        reset,
+        clock,
+    })
 }

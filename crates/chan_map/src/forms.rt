@@ -113,7 +113,12 @@ fn tie_of(alloc: Global, port: &[u8], word: &[u8]) -> Result<Option<Entry>, Memo
     Ok(Some(Entry::Tie { port, number }))
 }
 
-fn reset_of(alloc: Global, port: &[u8], active: &[u8], cycles: &[u8]) -> Result<Option<Entry>, Memory>
+fn reset_of(
+    alloc: Global,
+    port: &[u8],
+    active: &[u8],
+    cycles: &[u8],
+) -> Result<Option<Entry>, Memory>
     ensures said { IfOk result (λ e. e ≡ reset_of port.now (number_of active.now) (number_of cycles.now)) }
     ensures named { IfOk result (λ e. IfSome e (λ entry. is_named entry ≡ true)) }
 {
@@ -124,7 +129,11 @@ fn reset_of(alloc: Global, port: &[u8], active: &[u8], cycles: &[u8]) -> Result<
         return Ok(None);
     }
     let port = copy(alloc, port)?;
-    Ok(Some(Entry::Reset { port, active: active == 1, cycles: cycles as u32 }))
+    Ok(Some(Entry::Reset {
+        port,
+        active: active == 1,
+        cycles: cycles as u32,
+    }))
 }
 
 fn channel_of(alloc: Global, dir: Dir, words: &[Name]) -> Result<Option<Entry>, Memory>
@@ -142,7 +151,13 @@ fn channel_of(alloc: Global, dir: Dir, words: &[Name]) -> Result<Option<Entry>, 
     let ready = copy(alloc, ready.as_slice())?;
     let contents = copy_all(alloc, contents)?;
     Ok(Some(Entry::Channel {
-        channel: ChannelLine { dir, name, valid, ready, contents },
+        channel: ChannelLine {
+            dir,
+            name,
+            valid,
+            ready,
+            contents,
+        },
     }))
 }
 
@@ -153,13 +168,19 @@ fn form_of(alloc: Global, keyword: Keyword, words: &[Name]) -> Result<Option<Ent
     ensures named { IfOk result (λ e. IfSome e (λ entry. is_named entry ≡ true)) }
 {
     match (keyword, words) {
-        (Keyword::Top, [name]) => Ok(Some(Entry::Top { name: copy(alloc, name.as_slice())? })),
-        (Keyword::Clock, [port]) => Ok(Some(Entry::Clock { port: copy(alloc, port.as_slice())? })),
+        (Keyword::Top, [name]) => Ok(Some(Entry::Top {
+            name: copy(alloc, name.as_slice())?,
+        })),
+        (Keyword::Clock, [port]) => Ok(Some(Entry::Clock {
+            port: copy(alloc, port.as_slice())?,
+        })),
         (Keyword::Tie, [port, number]) => tie_of(alloc, port.as_slice(), number.as_slice()),
         (Keyword::Reset, [port, active, cycles]) => {
             reset_of(alloc, port.as_slice(), active.as_slice(), cycles.as_slice())
         }
-        (Keyword::Ignore, [port]) => Ok(Some(Entry::Ignore { port: copy(alloc, port.as_slice())? })),
+        (Keyword::Ignore, [port]) => Ok(Some(Entry::Ignore {
+            port: copy(alloc, port.as_slice())?,
+        })),
         (Keyword::In, _) => channel_of(alloc, Dir::Inward, words),
         (Keyword::Out, _) => channel_of(alloc, Dir::Outward, words),
         _ => Ok(None),

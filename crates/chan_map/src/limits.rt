@@ -41,7 +41,10 @@ fn check_count(channels: &[Channel]) -> Result<(), MapError>
 {
     let n = channels.len();
     if n < 1 || n > 32 {
-        return Err(MapError::Limit { what: MapLimit::Channels, got: capped(n) });
+        return Err(MapError::Limit {
+            what: MapLimit::Channels,
+            got: capped(n),
+        });
     }
     Ok(())
 }
@@ -52,7 +55,10 @@ fn check_widths(channels: &[Channel]) -> Result<(), MapError>
     for c in channels {
         let n = c.widths.len();
         if n > 16 {
-            return Err(MapError::Limit { what: MapLimit::Ports, got: capped(n) });
+            return Err(MapError::Limit {
+                what: MapLimit::Ports,
+                got: capped(n),
+            });
         }
     }
     Ok(())
@@ -63,7 +69,10 @@ fn check_bytes(channels: &[Channel]) -> Result<(), MapError>
 {
     let got = all_bytes(channels);
     if got > 1024 {
-        return Err(MapError::Limit { what: MapLimit::Bytes, got });
+        return Err(MapError::Limit {
+            what: MapLimit::Bytes,
+            got,
+        });
     }
     Ok(())
 }

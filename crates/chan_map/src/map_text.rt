@@ -18,15 +18,30 @@ pub struct ChannelLine {
 #[derive(Drop)]
 pub enum Entry {
     /// The top module.
-    Top { name: Name },
-    Clock { port: Name },
+    Top {
+        name: Name,
+    },
+    Clock {
+        port: Name,
+    },
     /// An input that is held at a number.
-    Tie { port: Name, number: u128 },
+    Tie {
+        port: Name,
+        number: u128,
+    },
     /// The reset port, its active value, and for how many cycles it is active: 1 to 1,000.
-    Reset { port: Name, active: bool, cycles: u32 },
+    Reset {
+        port: Name,
+        active: bool,
+        cycles: u32,
+    },
     /// An output that is passed over.
-    Ignore { port: Name },
-    Channel { channel: ChannelLine },
+    Ignore {
+        port: Name,
+    },
+    Channel {
+        channel: ChannelLine,
+    },
 }
 
 /// What the line with this number, counted from 1, says.

@@ -90,7 +90,11 @@ fn plug_of(alloc: Global, top: &Top, c: &ChannelLine) -> Result<Plug, Memory>
     let valid = pin_named(alloc, top, c.valid.as_slice())?;
     let ready = pin_named(alloc, top, c.ready.as_slice())?;
     let contents = pins_named(alloc, top, c.contents.as_slice())?;
-    Ok(Plug { valid, ready, contents })
+    Ok(Plug {
+        valid,
+        ready,
+        contents,
+    })
 }
 
 fn row_of(alloc: Global, top: &Top, c: &ChannelLine) -> Result<Channel, Memory>
@@ -100,7 +104,11 @@ fn row_of(alloc: Global, top: &Top, c: &ChannelLine) -> Result<Channel, Memory>
 {
     let name = copy(alloc, c.name.as_slice())?;
     let widths = widths_named(alloc, top, c.contents.as_slice())?;
-    Ok(Channel { dir: c.dir, name, widths })
+    Ok(Channel {
+        dir: c.dir,
+        name,
+        widths,
+    })
 }
 
 fn tie_of(alloc: Global, top: &Top, port: &[u8], number: u128) -> Result<Tie, Memory>
@@ -124,11 +132,20 @@ impl Parts {
     {
         match entry {
             Entry::Tie { port, number } => {
-                self.ties.push(tie_of(alloc, top, port.as_slice(), *number)?)?;
+                self.ties
+                    .push(tie_of(alloc, top, port.as_slice(), *number)?)?;
             }
-            Entry::Reset { port, active, cycles } => {
+            Entry::Reset {
+                port,
+                active,
+                cycles,
+            } => {
                 let pin = pin_named(alloc, top, port.as_slice())?;
-                self.reset = Some(Reset { pin, active: *active, cycles: *cycles });
+                self.reset = Some(Reset {
+                    pin,
+                    active: *active,
+                    cycles: *cycles,
+                });
             }
             Entry::Channel { channel } => {
                 self.channels.push(row_of(alloc, top, channel)?)?;

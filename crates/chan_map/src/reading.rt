@@ -37,7 +37,10 @@ fn read_line(
         return Err(MapError::Line { line: number });
     }
     seen.note(alloc, &entry)?;
-    said.push(MapLine { line: number, entry })?;
+    said.push(MapLine {
+        line: number,
+        entry,
+    })?;
     Ok(())
 }
 
@@ -60,7 +63,11 @@ pub fn read_map(alloc: Global, bytes: &[u8]) -> Result<MapText, MapError>
     }
     let Seen { top, clock, .. } = seen;
     match (top, clock) {
-        (Some(top), Some(clock)) => Ok(MapText { top, clock, lines: said }),
+        (Some(top), Some(clock)) => Ok(MapText {
+            top,
+            clock,
+            lines: said,
+        }),
         _ => Err(MapError::Line { line: number }),
     }
 }

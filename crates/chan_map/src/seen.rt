@@ -83,7 +83,11 @@ impl Seen {
             Entry::Top { name } => self.top = Some(copy(alloc, name.as_slice())?),
             Entry::Clock { port } => self.clock = Some(copy(alloc, port.as_slice())?),
             Entry::Reset { .. } => self.reset = true,
-            Entry::Channel { channel } => insert_name(alloc, &mut self.names, channel.name.as_slice())?,
+            Entry::Channel { channel } => insert_name(
+                alloc,
+                &mut self.names,
+                channel.name.as_slice(),
+            )?,
             _ => {}
         }
         Ok(())

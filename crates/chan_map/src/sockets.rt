@@ -52,7 +52,12 @@ pub fn socket_named(top: &Top, name: &[u8]) -> Option<Socket>
 }
 
 /// Adds a port, unless there is one of its name.
-fn add_socket(alloc: Global, sockets: &mut Sockets, name: &[u8], socket: Socket) -> Result<(), Memory>
+fn add_socket(
+    alloc: Global,
+    sockets: &mut Sockets,
+    name: &[u8],
+    socket: Socket,
+) -> Result<(), Memory>
     ensures { OnOk result ((q : List ℕ) → get_by (λ v. pointwise nat_eq q v.items) sockets.new ≡ or_else (get_by (λ v. pointwise nat_eq q v.items) sockets.old) (if bytes_eq q name.now then Some socket else None)) }
 {
     if socket_under(sockets, name).is_some() {
@@ -100,7 +105,17 @@ fn sockets_of(alloc: Global, ports: &[Port]) -> Result<Sockets, Memory>
     for (port, p) in ports.iter().enumerate() {
         let (direction, width) = (p.direction, p.width);
         let place = count_of(direction, inputs, outputs);
-        add_socket(alloc, &mut sockets, p.name.as_slice(), Socket { port, direction, place, width })?;
+        add_socket(
+            alloc,
+            &mut sockets,
+            p.name.as_slice(),
+            Socket {
+                port,
+                direction,
+                place,
+                width,
+            },
+        )?;
         inputs += one_if_same(Direction::Input, direction);
         outputs += one_if_same(Direction::Output, direction);
     }
