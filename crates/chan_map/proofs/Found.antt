@@ -3,7 +3,7 @@ use Rattle.std.proofs.Common.{◌≡◌, ◌≢◌, ℕ, suc, ◌+◌, ◌<◌, 
 use Rattle.std.specs.Prelude.{slice_get, count_by, All}
 use Rattle.std.specs.Str.{bytes_eq}
 use Rattle.std.proofs.lemmas.List.{take-append-le, take_all}
-use Rattle.std.proofs.lemmas.Option.{slice_get_cases, get_or_from_slice_get, slice_get_past}
+use Rattle.std.proofs.lemmas.Option.{slice_get_cases, get_or_from_slice_get, slice_get-get_or}
 use Rattle.std.proofs.lemmas.Slice.Eq.{bytes_eq-Decides}
 use borrow.Author.Tests.{ltb-true}
 use Rattle.std.proofs.lemmas.Bool.{eqb-true}
@@ -17,7 +17,7 @@ use Rattle.net_design.specs.Settled.{same_direction}
 use Rattle.net_design.specs.Lawful.{IsLawful}
 use Rattle.chan_map.proofs.Follows.{both_left, both_right}
 use Rattle.chan_map.specs.declared.sockets.Socket.{Socket}
-use Rattle.chan_map.specs.Ports.{socket, socket_from, socket_named, is_pin, is_bit, is_tied}
+use Rattle.chan_map.specs.Ports.{socket, socket_from, socket_named, is_pin, is_bit, is_tied, HaveWidths}
 use Rattle.chan_map.specs.Bound.{place_of, width_of, pin_named, width_named, IsPin, IsTie}
 
 -- the socket is that of a port with this name
@@ -59,25 +59,30 @@ socket_is ports name s e = socket_is_from [] ports name s e
 there : (ports : List Port) (k : ℕ) (p : Port) → slice_get ports k ≡ Some p → k < length ports
 there ports k p at = elim (slice_get_cases ports k).1 [ inl w ↦ w.1 | inr w ↦ let off : Some p ≡ None = sym at ∙ w.1 in absurd (cc) ]
 
-pub port_width : (d : Design) → IsLawful d → (k : ℕ) (p : Port) → slice_get d.ports k ≡ Some p → IsWidth p.width
-port_width d lawful k p at =
+pub port_width : (ports : List Port) → HaveWidths ports → (k : ℕ) (p : Port) → slice_get ports k ≡ Some p → IsWidth p.width
+port_width ports widths k p at = subst (λ (x : Port). IsWidth x.width) (get_or_from_slice_get ports k p p at) (widths k p (there ports k p at))
+
+net_width : (d : Design) → IsLawful d → (k : ℕ) (p : Port) → slice_get d.ports k ≡ Some p → IsWidth p.width
+net_width d lawful k p at =
     let inside : k < length d.ports = there d.ports k p at in
     elim (slice_get_cases d.nets k).1 [
-      | inl w ↦
-          let width : w.0.width ≡ p.width = (lawful.port_nets k p w.0 at w.2).1 in
-          let n : IsWidth (get_or d.nets k w.0).width = (lawful.nets k w.0 (omega (arith, lawful.ports))).0 in
-          rw (← width, ← w.3) n
-      | inr w ↦ absurd (omega (arith, w.0, lawful.ports))
-    ]
+      inl w ↦
+        let width : w.0.width ≡ p.width = (lawful.port_nets k p w.0 at w.2).1 in
+        let n : IsWidth (get_or d.nets k w.0).width = (lawful.nets k w.0 (omega (arith, lawful.ports))).0 in
+        rw (← width, ← w.3) n
+    | inr w ↦ absurd (omega (arith, w.0, lawful.ports)) ]
 
-pub narrow : (d : Design) → IsLawful d → (name : List ℕ) → width_named d.ports name < 256
-narrow d lawful name = by (socket_named d.ports name) refl
+pub lawful_widths : (d : Design) → IsLawful d → HaveWidths d.ports
+lawful_widths d lawful = λ k p within. net_width d lawful k (get_or d.ports k p) (slice_get-get_or d.ports k p within)
+
+pub narrow : (d : Design) → HaveWidths d.ports → (name : List ℕ) → width_named d.ports name < 256
+narrow d widths name = by (socket_named d.ports name) refl
   where
     by : (o : Option Socket) → socket_named d.ports name ≡ o → width_of o < 256
     by None e = omega arith
     by (Some s) e =
         let is = socket_is d.ports name s e in
-        let w = port_width d lawful s.port is.p is.at in
+        let w = port_width d.ports widths s.port is.p is.at in
         omega (arith, ap (λ (x : Socket). x.width) is.is, w.1)
 
 -- ---- pins

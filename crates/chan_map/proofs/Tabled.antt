@@ -17,7 +17,6 @@ use Rattle.vlog_operators.specs.Number.{IsWidth}
 use Rattle.net_design.specs.declared.design.Port.{Port}
 use Rattle.net_design.specs.declared.design.Direction.{Direction}
 use Rattle.net_design.specs.declared.design.Design.{Design}
-use Rattle.net_design.specs.Lawful.{IsLawful}
 use Rattle.chan_map.specs.declared.error.MapError.{MapError}
 use Rattle.chan_map.specs.declared.error.MapError.TheVariants as F
 use Rattle.chan_map.specs.declared.error.MapLimit.TheVariants as M
@@ -27,7 +26,7 @@ use Rattle.chan_map.specs.declared.map_text.MapLine.{MapLine}
 use Rattle.chan_map.specs.declared.sockets.Socket.{Socket}
 use Rattle.chan_map.specs.Forms.{is_channel_name}
 use Rattle.chan_map.specs.Follow.{entries, is_top, channel_name, channel_names, repeats, may_follow, follow, is_named}
-use Rattle.chan_map.specs.Ports.{socket_named, is_pin, source_side, line_fits}
+use Rattle.chan_map.specs.Ports.{socket_named, is_pin, source_side, line_fits, HaveWidths}
 use Rattle.chan_map.specs.Reasons.{count_faults, width_faults, byte_faults, limit_faults, capped}
 use Rattle.chan_map.specs.Bound.{width_of, width_named, rows_of, table_of}
 use Rattle.chan_map.proofs.Follows.{both_left, both_right}
@@ -63,37 +62,37 @@ table_names d (l ∷ lines) e =
 
 -- ---- widths
 
-pin_width : (d : Design) → IsLawful d → (side : Direction) (name : List ℕ) (o : Option Socket) → socket_named d.ports name ≡ o → is_pin side o ≡ true → IsWidth (width_of o)
-pin_width d lawful side name None at e = let off : false ≡ true = e in absurd (cc)
-pin_width d lawful side name (Some s) at e =
+pin_width : (d : Design) → HaveWidths d.ports → (side : Direction) (name : List ℕ) (o : Option Socket) → socket_named d.ports name ≡ o → is_pin side o ≡ true → IsWidth (width_of o)
+pin_width d widths side name None at e = let off : false ≡ true = e in absurd (cc)
+pin_width d widths side name (Some s) at e =
     let is = socket_is d.ports name s at in
     let width : s.width ≡ is.p.width = ap (λ (x : Socket). x.width) is.is in
-    rw width (port_width d lawful s.port is.p is.at)
+    rw width (port_width d.ports widths s.port is.p is.at)
 
-names_widths : (d : Design) → IsLawful d → (side : Direction) (names : List (List ℕ)) → list_all (λ name. is_pin side (socket_named d.ports name)) names ≡ true
+names_widths : (d : Design) → HaveWidths d.ports → (side : Direction) (names : List (List ℕ)) → list_all (λ name. is_pin side (socket_named d.ports name)) names ≡ true
     → AllByRecursion (λ w. (1 ≤ w) × (w ≤ 128)) (map (width_named d.ports) names)
-names_widths d lawful side [] e = tt
-names_widths d lawful side (name ∷ names) e =
-    (pin_width d lawful side name (socket_named d.ports name) refl (both_left _ _ e), names_widths d lawful side names (both_right _ _ e))
+names_widths d widths side [] e = tt
+names_widths d widths side (name ∷ names) e =
+    (pin_width d widths side name (socket_named d.ports name) refl (both_left _ _ e), names_widths d widths side names (both_right _ _ e))
 
 abbrev HasWidths : Row → Type 0
 HasWidths r = All (λ w. (1 ≤ w) × (w ≤ 128)) r.widths
 
-row_widths : (d : Design) → IsLawful d → (entry : Entry) → line_fits d entry ≡ true → AllByRecursion HasWidths (rows_of d.ports entry)
-row_widths d lawful (Top name) e = tt
-row_widths d lawful (Clock port) e = tt
-row_widths d lawful (Tie port number) e = tt
-row_widths d lawful (Reset port active cycles) e = tt
-row_widths d lawful (Ignore port) e = tt
-row_widths d lawful (Channel c) e = (
-  All-from_recursion (λ w. (1 ≤ w) × (w ≤ 128)) (map (width_named d.ports) c.contents) (names_widths d lawful (source_side c.dir) c.contents (both_right _ _ (both_right _ _ e))),
+row_widths : (d : Design) → HaveWidths d.ports → (entry : Entry) → line_fits d entry ≡ true → AllByRecursion HasWidths (rows_of d.ports entry)
+row_widths d widths (Top name) e = tt
+row_widths d widths (Clock port) e = tt
+row_widths d widths (Tie port number) e = tt
+row_widths d widths (Reset port active cycles) e = tt
+row_widths d widths (Ignore port) e = tt
+row_widths d widths (Channel c) e = (
+  All-from_recursion (λ w. (1 ≤ w) × (w ≤ 128)) (map (width_named d.ports) c.contents) (names_widths d widths (source_side c.dir) c.contents (both_right _ _ (both_right _ _ e))),
   tt,
 )
 
-table_widths : (d : Design) → IsLawful d → (lines : List MapLine) → Fits d lines → AllByRecursion HasWidths (table_of d lines)
-table_widths d lawful [] fits = tt
-table_widths d lawful (l ∷ lines) fits =
-    all_append HasWidths (rows_of d.ports l.entry) (table_of d lines) (row_widths d lawful l.entry fits.0) (table_widths d lawful lines fits.1)
+table_widths : (d : Design) → HaveWidths d.ports → (lines : List MapLine) → Fits d lines → AllByRecursion HasWidths (table_of d lines)
+table_widths d widths [] fits = tt
+table_widths d widths (l ∷ lines) fits =
+    all_append HasWidths (rows_of d.ports l.entry) (table_of d lines) (row_widths d widths l.entry fits.0) (table_widths d widths lines fits.1)
 
 few_ports : (table : List Row) → width_faults table ≡ [] → AllByRecursion (λ (r : Row). length r.widths ≤ 16) table
 few_ports [] e = tt
@@ -177,16 +176,16 @@ differ_back table differ = λ i j d less within same.
     differ i j d.name less (omega (arith, length-map table (λ (r : Row). r.name)))
     (get_or-map (λ (r : Row). r.name) table i d ∙ same ∙ sym (get_or-map (λ (r : Row). r.name) table j d))
 
-pub table_is : (d : Design) → IsLawful d → (lines : List MapLine) → Fits d lines → follow [] (entries lines) ≡ true → list_all is_named (entries lines) ≡ true
+pub table_is : (d : Design) → HaveWidths d.ports → (lines : List MapLine) → Fits d lines → follow [] (entries lines) ≡ true → list_all is_named (entries lines) ≡ true
     → limit_faults (table_of d lines) ≡ [] → IsTable (table_of d lines)
-table_is d lawful lines fits follows named none =
+table_is d widths lines fits follows named none =
     let table = table_of d lines in
     let count : nat_le 1 (length table) && nat_le (length table) 32 ≡ true = told_none _ _ (no_left (count_faults table) _ none) in
     let others : width_faults table ++ byte_faults table ≡ [] = no_right (count_faults table) _ none in
     record {
       some = leb-true _ _ (both_left _ _ count);
       few = leb-true _ _ (both_right (nat_le 1 (length table)) _ count);
-      each = All-from_recursion IsChannel table (rows_lawful table (table_names d lines named) (table_widths d lawful lines fits) (few_ports table (no_left (width_faults table) _ others)));
+      each = All-from_recursion IsChannel table (rows_lawful table (table_names d lines named) (table_widths d widths lines fits) (few_ports table (no_left (width_faults table) _ others)));
       differ = differ_back table (subst Differ (sym (named_table d lines)) (names_differ [] (entries lines) follows (λ i j x less within. absurd (omega arith))));
       content = ltb-false _ _ (told_never _ _ (no_right (width_faults table) _ others));
     }

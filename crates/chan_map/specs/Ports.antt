@@ -1,5 +1,5 @@
 -- The ports of the top that the words of a map name.
-use Rattle.std.specs.Prelude.{◌≡◌, ℕ, ◌^◌, ◌==◌, ◌&&◌, not, nat_lt, Bool, true, false, if◌then◌else◌, List, [], ◌∷◌, ◌++◌, length, count_by, Option, Some, None}
+use Rattle.std.specs.Prelude.{◌≡◌, ℕ, ◌^◌, ◌==◌, ◌&&◌, not, nat_lt, Bool, true, false, if◌then◌else◌, List, [], ◌∷◌, ◌++◌, length, count_by, Option, Some, None, All}
 use Rattle.std.specs.List.{list_any, list_all}
 use Rattle.std.specs.Str.{bytes_eq}
 use Rattle.trace_model.specs.declared.channel.Dir.{Dir}
@@ -9,6 +9,7 @@ use Rattle.net_design.specs.declared.design.Driver.{Driver}
 use Rattle.net_design.specs.declared.design.Direction.{Direction}
 use Rattle.net_design.specs.declared.design.Direction.TheVariants.{Input, Output}
 use Rattle.net_design.specs.declared.design.Design.{Design}
+use Rattle.vlog_operators.specs.Number.{IsWidth}
 use Rattle.net_design.specs.Settled.{same_direction}
 use Rattle.net_design.specs.Bits.{named}
 use Rattle.vidi_lines.specs.Findings.{is_nil}
@@ -105,3 +106,7 @@ is_port k (Some s) = s.port == k
 -- how many of the words name port k
 abbrev pub times : List Port → List (List ℕ) → ℕ → ℕ
 times ports words k = count_by (λ name. is_port k (socket_named ports name)) words
+
+-- each port has 1 to 128 bits, as in a lawful design
+abbrev pub HaveWidths : List Port → Type 0
+HaveWidths ports = All (λ (p : Port). IsWidth p.width) ports

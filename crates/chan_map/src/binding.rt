@@ -1,7 +1,7 @@
 //! Binds a map to a design.
 
 ghost use Rattle.std.specs.Prelude.{◌<◌, ℕ, List, IfOk};
-ghost use Rattle.net_design.specs.Lawful.{IsLawful};
+ghost use Rattle.chan_map.specs.Ports.{HaveWidths};
 ghost use Rattle.chan_map.specs.Sockets.{IsTop};
 ghost use Rattle.chan_map.specs.Reasons.{Tried};
 ghost use Rattle.chan_map.specs.Bound.{width_named, map_faults, BindsMap};
@@ -34,13 +34,13 @@ fn checked_parts(alloc: Global, top: &Top, lines: &[MapLine]) -> Result<Parts, M
     Ok(parts)
 }
 
-/// Binds a map to a lawful design: one plug for each channel, in order, and the pins of the ties, the reset and the clock.
+/// Binds a map to a design, which is lawful or whose ports have 1 to 128 bits at least: one plug for each channel, in order, and the pins of the ties, the reset and the clock.
 ///
 /// `Port` (M2) comes with the first line that doesn't fit the ports that it names; else `Cover` (M3) with the first port
 /// that the lines don't name exactly once; else `Limit` (M4). `Memory` comes where no memory was found. The time is linear
 /// in the lengths of both.
 pub fn bind_map(alloc: Global, text: &MapText, design: &Design) -> Result<Map, MapError>
-    requires { IsLawful design.now }
+    requires { HaveWidths design.now.ports }
     ensures { BindsMap text.now design.now result }
 {
     let top = top_of(alloc, design)?;

@@ -8,6 +8,7 @@ mod binding;
 mod error;
 mod fits;
 mod forms;
+mod laws;
 mod limits;
 mod map_text;
 mod parts;
@@ -20,6 +21,7 @@ mod times;
 
 pub use binding::bind_map;
 pub use error::{MapError, MapLimit};
+pub use laws::{have_widths, lawful_ports_have_widths};
 pub use map_text::{ChannelLine, Entry, MapLine, MapLines};
 pub use pins::{Map, Pin, Pins, Plug, Plugs, Reset, Tie, Ties};
 pub use reading::read_map;
