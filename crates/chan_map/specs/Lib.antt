@@ -1,3 +1,10 @@
 pub mod Forms
+pub mod Follow
 pub mod Text
 pub mod Seen
+pub mod Ports
+pub mod Reasons
+pub mod Sockets
+pub mod Bound
+pub mod Times
+pub mod Parts

@@ -1,8 +1,7 @@
 -- M1: the first line of a map that is bad, of no form, out of place, or missing (this project's profile).
 use Rattle.std.specs.Prelude.{◌≡◌, ℕ, ◌+◌, ◌&&◌, ◌||◌, not, Bool, true, false, if◌then◌else◌, List, [], ◌∷◌, ◌++◌, map, length, Option, Some, None, Result, Ok, Err}
-use Rattle.std.specs.List.{list_any, flat_map}
+use Rattle.std.specs.List.{flat_map}
 use Rattle.std.specs.Option.{option_to_list, option_map}
-use Rattle.std.specs.Str.{bytes_eq}
 use Rattle.vidi_lines.specs.declared.lines.Line.{Line}
 use Rattle.vidi_lines.specs.declared.error.LineError.{LineError}
 use Rattle.vidi_lines.specs.declared.error.LineError.TheVariants as L
@@ -11,48 +10,14 @@ use Rattle.vidi_lines.specs.Lines.{bad_lines, file_lines, words_of}
 use Rattle.chan_map.specs.declared.error.MapError.{MapError}
 use Rattle.chan_map.specs.declared.error.MapError.TheVariants as E
 use Rattle.chan_map.specs.declared.map_text.Entry.{Entry}
-use Rattle.chan_map.specs.declared.map_text.Entry.TheVariants.{Top, Clock, Tie, Reset, Ignore, Channel}
 use Rattle.chan_map.specs.declared.map_text.MapLine.{MapLine}
-use Rattle.chan_map.specs.declared.map_text.MapText.{MapText}
+use Rattle.chan_map.specs.declared.text.MapText.{MapText}
 use Rattle.chan_map.specs.Forms.{entry_of}
+use Rattle.chan_map.specs.Follow.{entries, top_name, clock_name, may_follow}
 
 abbrev pub line_error : LineError → MapError
 line_error (L.BadLine line) = E.Line line
 line_error L.Memory = E.Memory
-
-abbrev pub is_top : Entry → Bool
-is_top (Top name) = true
-is_top entry = false
-
-abbrev pub is_clock : Entry → Bool
-is_clock (Clock port) = true
-is_clock entry = false
-
-abbrev pub is_reset : Entry → Bool
-is_reset (Reset port active cycles) = true
-is_reset entry = false
-
-abbrev pub top_name : Entry → List (List ℕ)
-top_name (Top name) = name ∷ []
-top_name entry = []
-
-abbrev pub channel_name : Entry → List (List ℕ)
-channel_name (Channel c) = c.name ∷ []
-channel_name entry = []
-
-abbrev pub channel_names : List Entry → List (List ℕ)
-channel_names entries = flat_map channel_name entries
-
--- a second `clock` or `reset`, or a channel with a name that was there
-abbrev pub repeats : List Entry → Entry → Bool
-repeats before (Clock port) = list_any is_clock before
-repeats before (Reset port active cycles) = list_any is_reset before
-repeats before (Channel c) = list_any (bytes_eq c.name) (channel_names before)
-repeats before entry = false
-
--- the first line with words is `top`, and no other is
-abbrev pub may_follow : List Entry → Entry → Bool
-may_follow before entry = if is_nil before then is_top entry else not (is_top entry) && not (repeats before entry)
 
 abbrev pub may_stand : List Entry → Option Entry → Bool
 may_stand before None = false
@@ -66,9 +31,6 @@ line_faults before n line = if is_nil line.words then [] else told_if (not (may_
 abbrev pub said : ℕ → Line → List MapLine
 said n line = option_to_list (option_map (λ (e : Entry). record { line = n; entry = e }) (entry_of line.words))
 
-abbrev pub entries : List MapLine → List Entry
-entries lines = map (λ (l : MapLine). l.entry) lines
-
 -- what lines say, the first having number n
 abbrev pub all_said : ℕ → List Line → List MapLine
 all_said n [] = []
@@ -81,7 +43,7 @@ form_faults before n (line ∷ lines) = line_faults before n line ++ form_faults
 
 -- the last line's number plus 1, where `top` or `clock` is missing
 abbrev pub missing_faults : List Entry → ℕ → List ℕ
-missing_faults said last = told_if (is_nil (flat_map top_name said) || not (list_any is_clock said)) (last + 1)
+missing_faults said last = told_if (is_nil (flat_map top_name said) || is_nil (flat_map clock_name said)) (last + 1)
 
 abbrev pub map_lines : List ℕ → List Line
 map_lines bytes = map words_of (file_lines bytes)

@@ -1,10 +1,11 @@
 //! The forms of a map's lines.
 
-ghost use Rattle.std.specs.Prelude.{◌≡◌, IfOk};
+ghost use Rattle.std.specs.Prelude.{◌≡◌, IfOk, IfSome, true};
 ghost use Rattle.std.specs.List.{list_all};
 ghost use Rattle.std.specs.Str.{bytes_eq};
 ghost use Rattle.vidi_lines.specs.Number.{number_of};
 ghost use Rattle.trace_model.specs.Channel.{is_letter, is_letter_or_digit};
+ghost use Rattle.chan_map.specs.Follow.{is_named};
 ghost use Rattle.chan_map.specs.Forms.{keyword_of, is_channel_name, tie_of, reset_of, form_of, channel_of, entry_of};
 
 use crate::map_text::{ChannelLine, Entry};
@@ -102,7 +103,8 @@ fn copy_all(alloc: Global, names: &[Name]) -> Result<Names, Memory>
 }
 
 fn tie_of(alloc: Global, port: &[u8], word: &[u8]) -> Result<Option<Entry>, Memory>
-    ensures { IfOk result (λ e. e ≡ tie_of port.now (number_of word.now)) }
+    ensures said { IfOk result (λ e. e ≡ tie_of port.now (number_of word.now)) }
+    ensures named { IfOk result (λ e. IfSome e (λ entry. is_named entry ≡ true)) }
 {
     let Some(number) = number(word) else {
         return Ok(None);
@@ -111,8 +113,14 @@ fn tie_of(alloc: Global, port: &[u8], word: &[u8]) -> Result<Option<Entry>, Memo
     Ok(Some(Entry::Tie { port, number }))
 }
 
-fn reset_of(alloc: Global, port: &[u8], active: &[u8], cycles: &[u8]) -> Result<Option<Entry>, Memory>
-    ensures { IfOk result (λ e. e ≡ reset_of port.now (number_of active.now) (number_of cycles.now)) }
+fn reset_of(
+    alloc: Global,
+    port: &[u8],
+    active: &[u8],
+    cycles: &[u8],
+) -> Result<Option<Entry>, Memory>
+    ensures said { IfOk result (λ e. e ≡ reset_of port.now (number_of active.now) (number_of cycles.now)) }
+    ensures named { IfOk result (λ e. IfSome e (λ entry. is_named entry ≡ true)) }
 {
     let (Some(active), Some(cycles)) = (number(active), number(cycles)) else {
         return Ok(None);
@@ -121,11 +129,16 @@ fn reset_of(alloc: Global, port: &[u8], active: &[u8], cycles: &[u8]) -> Result<
         return Ok(None);
     }
     let port = copy(alloc, port)?;
-    Ok(Some(Entry::Reset { port, active: active == 1, cycles: cycles as u32 }))
+    Ok(Some(Entry::Reset {
+        port,
+        active: active == 1,
+        cycles: cycles as u32,
+    }))
 }
 
 fn channel_of(alloc: Global, dir: Dir, words: &[Name]) -> Result<Option<Entry>, Memory>
-    ensures { IfOk result (λ e. e ≡ channel_of dir words.now) }
+    ensures said { IfOk result (λ e. e ≡ channel_of dir words.now) }
+    ensures named { IfOk result (λ e. IfSome e (λ entry. is_named entry ≡ true)) }
 {
     let [name, valid, ready, contents @ ..] = words else {
         return Ok(None);
@@ -138,23 +151,36 @@ fn channel_of(alloc: Global, dir: Dir, words: &[Name]) -> Result<Option<Entry>, 
     let ready = copy(alloc, ready.as_slice())?;
     let contents = copy_all(alloc, contents)?;
     Ok(Some(Entry::Channel {
-        channel: ChannelLine { dir, name, valid, ready, contents },
+        channel: ChannelLine {
+            dir,
+            name,
+            valid,
+            ready,
+            contents,
+        },
     }))
 }
 
 /// What the words behind the first one say.
 #[tactic(auto, unfolding(crate::specs::Forms::form_of))]
 fn form_of(alloc: Global, keyword: Keyword, words: &[Name]) -> Result<Option<Entry>, Memory>
-    ensures { IfOk result (λ e. e ≡ form_of keyword words.now) }
+    ensures said { IfOk result (λ e. e ≡ form_of keyword words.now) }
+    ensures named { IfOk result (λ e. IfSome e (λ entry. is_named entry ≡ true)) }
 {
     match (keyword, words) {
-        (Keyword::Top, [name]) => Ok(Some(Entry::Top { name: copy(alloc, name.as_slice())? })),
-        (Keyword::Clock, [port]) => Ok(Some(Entry::Clock { port: copy(alloc, port.as_slice())? })),
+        (Keyword::Top, [name]) => Ok(Some(Entry::Top {
+            name: copy(alloc, name.as_slice())?,
+        })),
+        (Keyword::Clock, [port]) => Ok(Some(Entry::Clock {
+            port: copy(alloc, port.as_slice())?,
+        })),
         (Keyword::Tie, [port, number]) => tie_of(alloc, port.as_slice(), number.as_slice()),
         (Keyword::Reset, [port, active, cycles]) => {
             reset_of(alloc, port.as_slice(), active.as_slice(), cycles.as_slice())
         }
-        (Keyword::Ignore, [port]) => Ok(Some(Entry::Ignore { port: copy(alloc, port.as_slice())? })),
+        (Keyword::Ignore, [port]) => Ok(Some(Entry::Ignore {
+            port: copy(alloc, port.as_slice())?,
+        })),
         (Keyword::In, _) => channel_of(alloc, Dir::Inward, words),
         (Keyword::Out, _) => channel_of(alloc, Dir::Outward, words),
         _ => Ok(None),
@@ -163,7 +189,8 @@ fn form_of(alloc: Global, keyword: Keyword, words: &[Name]) -> Result<Option<Ent
 
 /// What the words of a line say, `None` where they have no listed form.
 pub fn entry_of(alloc: Global, words: &[Name]) -> Result<Option<Entry>, Memory>
-    ensures { IfOk result (λ e. e ≡ entry_of words.now) }
+    ensures said { IfOk result (λ e. e ≡ entry_of words.now) }
+    ensures named { IfOk result (λ e. IfSome e (λ entry. is_named entry ≡ true)) }
 {
     let Some((first, rest)) = words.split_first() else {
         return Ok(None);

@@ -4,12 +4,25 @@
 //! `Ports` (the ports that words name), `Reasons` (M2, M3 and M4) and `Bound` (the map that lines and a design make).
 #![tactic(auto)]
 
+mod binding;
 mod error;
+mod fits;
 mod forms;
+mod laws;
+mod limits;
 mod map_text;
+mod parts;
+mod pins;
 mod reading;
 mod seen;
+mod sockets;
+mod text;
+mod times;
 
+pub use binding::bind_map;
 pub use error::{MapError, MapLimit};
+pub use laws::{have_widths, lawful_ports_have_widths};
+pub use map_text::{ChannelLine, Entry, MapLine, MapLines};
+pub use pins::{Map, Pin, Pins, Plug, Plugs, Reset, Tie, Ties};
 pub use reading::read_map;
-pub use map_text::{ChannelLine, Entry, MapLine, MapLines, MapText};
+pub use text::MapText;

@@ -1,7 +1,4 @@
-//! A map as its lines say it.
-
-ghost use Rattle.std.specs.Prelude.{◌≡◌};
-ghost use Rattle.std.specs.String.{string_bytes};
+//! What the lines of a map say.
 
 use trace_model::Dir;
 use vidi_bits::{Items, Name};
@@ -21,15 +18,30 @@ pub struct ChannelLine {
 #[derive(Drop)]
 pub enum Entry {
     /// The top module.
-    Top { name: Name },
-    Clock { port: Name },
+    Top {
+        name: Name,
+    },
+    Clock {
+        port: Name,
+    },
     /// An input that is held at a number.
-    Tie { port: Name, number: u128 },
+    Tie {
+        port: Name,
+        number: u128,
+    },
     /// The reset port, its active value, and for how many cycles it is active: 1 to 1,000.
-    Reset { port: Name, active: bool, cycles: u32 },
+    Reset {
+        port: Name,
+        active: bool,
+        cycles: u32,
+    },
     /// An output that is passed over.
-    Ignore { port: Name },
-    Channel { channel: ChannelLine },
+    Ignore {
+        port: Name,
+    },
+    Channel {
+        channel: ChannelLine,
+    },
 }
 
 /// What the line with this number, counted from 1, says.
@@ -41,10 +53,3 @@ pub struct MapLine {
 
 /// A list of lines that have words, in the order of the text.
 pub type MapLines = Items<MapLine>;
-
-/// A map that was read: its lines with words, and the name of the top module.
-#[derive(Drop)]
-pub struct MapText {
-    pub(crate) top: Name,
-    pub(crate) lines: MapLines,
-}

@@ -1,13 +1,15 @@
 //! Reads a map's text.
 
 ghost use Rattle.std.specs.Prelude.{◌≡◌, ◌<◌, ◌^◌, OnOk, length};
-ghost use Rattle.chan_map.specs.Seen.{IsSeen};
-ghost use Rattle.chan_map.specs.Text.{entries, TakesLine, ReadsMap};
+ghost use Rattle.chan_map.specs.Seen.{IsSeen, AreLawful};
+ghost use Rattle.chan_map.specs.Follow.{entries};
+ghost use Rattle.chan_map.specs.Text.{TakesLine, ReadsMap};
 
 use crate::error::MapError;
 use crate::forms::entry_of;
-use crate::map_text::{MapLine, MapLines, MapText};
+use crate::map_text::{MapLine, MapLines};
 use crate::seen::Seen;
+use crate::text::MapText;
 use std::alloc::Global;
 use vidi_lines::{Line, lines_of};
 
@@ -19,9 +21,11 @@ fn read_line(
     number: u32,
     line: &Line,
 ) -> Result<(), MapError>
-    requires { IsSeen seen.old (entries said.old) }
+    requires seen { IsSeen seen.old (entries said.old) }
+    requires lawful { AreLawful (entries said.old) }
     ensures taken { TakesLine said.old said.new number line.now result }
     ensures seen { OnOk result (IsSeen seen.new (entries said.new)) }
+    ensures lawful { OnOk result (AreLawful (entries said.new)) }
 {
     if line.words.is_empty() {
         return Ok(());
@@ -33,7 +37,10 @@ fn read_line(
         return Err(MapError::Line { line: number });
     }
     seen.note(alloc, &entry)?;
-    said.push(MapLine { line: number, entry })?;
+    said.push(MapLine {
+        line: number,
+        entry,
+    })?;
     Ok(())
 }
 
@@ -55,8 +62,12 @@ pub fn read_map(alloc: Global, bytes: &[u8]) -> Result<MapText, MapError>
         number += 1;
     }
     let Seen { top, clock, .. } = seen;
-    match top {
-        Some(top) if clock => Ok(MapText { top, lines: said }),
+    match (top, clock) {
+        (Some(top), Some(clock)) => Ok(MapText {
+            top,
+            clock,
+            lines: said,
+        }),
         _ => Err(MapError::Line { line: number }),
     }
 }

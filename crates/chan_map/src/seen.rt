@@ -4,7 +4,7 @@ ghost use Rattle.std.specs.Prelude.{◌≡◌, ◌++◌, [], ◌∷◌, List, ma
 ghost use Rattle.std.specs.List.{list_any};
 ghost use Rattle.std.specs.Str.{bytes_eq};
 ghost use Rattle.chan_map.specs.declared.map_text.Entry.{Entry};
-ghost use Rattle.chan_map.specs.Text.{may_follow};
+ghost use Rattle.chan_map.specs.Follow.{may_follow};
 ghost use Rattle.chan_map.specs.Seen.{IsSeen};
 
 use crate::forms::copy;
@@ -21,7 +21,8 @@ pub struct Seen {
     pub top: Option<Name>,
     /// Whether there was any line.
     pub some: bool,
-    pub clock: bool,
+    /// The name of the clock's port.
+    pub clock: Option<Name>,
     pub reset: bool,
 }
 
@@ -50,7 +51,7 @@ impl Seen {
             names: IndexSet::new(alloc),
             top: None,
             some: false,
-            clock: false,
+            clock: None,
             reset: false,
         }
     }
@@ -66,7 +67,7 @@ impl Seen {
             return false;
         }
         match entry {
-            Entry::Clock { .. } => !self.clock,
+            Entry::Clock { .. } => self.clock.is_none(),
             Entry::Reset { .. } => !self.reset,
             Entry::Channel { channel } => !is_there(&self.names, channel.name.as_slice()),
             _ => true,
@@ -80,9 +81,13 @@ impl Seen {
         self.some = true;
         match entry {
             Entry::Top { name } => self.top = Some(copy(alloc, name.as_slice())?),
-            Entry::Clock { .. } => self.clock = true,
+            Entry::Clock { port } => self.clock = Some(copy(alloc, port.as_slice())?),
             Entry::Reset { .. } => self.reset = true,
-            Entry::Channel { channel } => insert_name(alloc, &mut self.names, channel.name.as_slice())?,
+            Entry::Channel { channel } => insert_name(
+                alloc,
+                &mut self.names,
+                channel.name.as_slice(),
+            )?,
             _ => {}
         }
         Ok(())

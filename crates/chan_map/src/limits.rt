@@ -1,0 +1,87 @@
+//! The limits of a map (M4).
+
+ghost use Rattle.std.specs.Prelude.{◌≡◌, sum_by};
+ghost use Rattle.trace_model.specs.Channel.{byte_count, content_bytes};
+ghost use Rattle.chan_map.specs.Reasons.{capped, count_faults, width_faults, byte_faults, limit_faults, Tried};
+
+use crate::error::{MapError, MapLimit};
+use trace_model::Channel;
+
+/// A count, up to the end of its type.
+fn capped(n: usize) -> u32
+    ensures { result ≡ capped n }
+{
+    u32::try_from(n).unwrap_or(u32::MAX)
+}
+
+/// The bytes of a channel's content.
+fn content_bytes(c: &Channel) -> u32
+    ensures { result ≡ capped (content_bytes c.now) }
+{
+    let mut total: u32 = 0;
+    for width in c.widths.as_slice() {
+        total = total.saturating_add((u32::from(*width) + 7) / 8);
+    }
+    total
+}
+
+/// The bytes of the contents of all channels.
+fn all_bytes(channels: &[Channel]) -> u32
+    ensures { result ≡ capped (sum_by content_bytes channels.now) }
+{
+    let mut total: u32 = 0;
+    for c in channels {
+        total = total.saturating_add(content_bytes(c));
+    }
+    total
+}
+
+fn check_count(channels: &[Channel]) -> Result<(), MapError>
+    ensures { Tried (count_faults channels.now) result }
+{
+    let n = channels.len();
+    if n < 1 || n > 32 {
+        return Err(MapError::Limit {
+            what: MapLimit::Channels,
+            got: capped(n),
+        });
+    }
+    Ok(())
+}
+
+fn check_widths(channels: &[Channel]) -> Result<(), MapError>
+    ensures { Tried (width_faults channels.now) result }
+{
+    for c in channels {
+        let n = c.widths.len();
+        if n > 16 {
+            return Err(MapError::Limit {
+                what: MapLimit::Ports,
+                got: capped(n),
+            });
+        }
+    }
+    Ok(())
+}
+
+fn check_bytes(channels: &[Channel]) -> Result<(), MapError>
+    ensures { Tried (byte_faults channels.now) result }
+{
+    let got = all_bytes(channels);
+    if got > 1024 {
+        return Err(MapError::Limit {
+            what: MapLimit::Bytes,
+            got,
+        });
+    }
+    Ok(())
+}
+
+/// `Limit`, with the first limit that the table passes.
+pub fn check_limits(channels: &[Channel]) -> Result<(), MapError>
+    ensures { Tried (limit_faults channels.now) result }
+{
+    check_count(channels)?;
+    check_widths(channels)?;
+    check_bytes(channels)
+}
