@@ -38,7 +38,7 @@ pub record IsLawful (up flies starts ends : ℕ → Bool) : Type 0 where
   pub complete : (c : ℕ) → ends c ≡ true → (flies c || starts c) ≡ true
   pub within : (c : ℕ) → flies c ≡ true → up c ≡ true
 
-pays-all : (head : ℕ) (up flies starts ends : ℕ → Bool) → IsLawful up flies starts ends → (n : ℕ) (sizes : List ℕ)
+pub pays-all : (head : ℕ) (up flies starts ends : ℕ → Bool) → IsLawful up flies starts ends → (n : ℕ) (sizes : List ℕ)
     → total (after head up flies starts ends) n sizes + (total (contents starts) n sizes + total (heads head starts ends) n sizes) ≤ total (reservation head up flies) n sizes
 pays-all head up flies starts ends is n [] = omega arith
 pays-all head up flies starts ends is n (b ∷ bs) =

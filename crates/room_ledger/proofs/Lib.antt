@@ -6,3 +6,4 @@ pub mod Reserving
 pub mod GateLaws
 pub mod Following
 pub mod Existence
+pub mod Books
