@@ -57,9 +57,9 @@ both-zero starts ends h k = rw (h, k) refl
 some-event : (starts ends : ℕ) → starts < 2 ^ 128 → ends < 2 ^ 128 → (starts == 0 && ends == 0) ≡ false → (c : ℕ) × ((has starts c || has ends c) ≡ true)
 some-event starts ends ls le h = ⊎_elim
     (λ (none : starts ≡ 0). ⊎_elim
-        (λ (also : ends ≡ 0). absurd (false≢true (sym h ∙ both-zero starts ends none also)))
-        (λ (some : ends ≢ 0). let found = some-bit ends le some in (found.0, right-true (has starts found.0) (has ends found.0) (has-from-bit ends found.0 found.1)))
-        (cases_eq ends 0))
+    (λ (also : ends ≡ 0). absurd (false≢true (sym h ∙ both-zero starts ends none also)))
+    (λ (some : ends ≢ 0). let found = some-bit ends le some in (found.0, right-true (has starts found.0) (has ends found.0) (has-from-bit ends found.0 found.1)))
+    (cases_eq ends 0))
     (λ (some : starts ≢ 0). let found = some-bit starts ls some in (found.0, left-true (has starts found.0) (has ends found.0) (has-from-bit starts found.0 found.1)))
     (cases_eq starts 0)
 
@@ -87,9 +87,9 @@ emit-fits l starts ends ls le sound may = event-cases l starts ends sound may (s
 below-from-bits : (x n : ℕ) → ((c : ℕ) → n ≤ c → has x c ≡ false) → x < 2 ^ n
 below-from-bits x n h =
     let same : x ≡ x % 2 ^ n = same_from_bits x (x % 2 ^ n) (λ c. ⊎_elim
-        (λ (l : c < n). sym (bit_at-mod x n c l))
-        (λ (l : n ≤ c). no-bit-from-has x c (h c l) ∙ sym (bit_at-mod_above x n c l))
-        (cases_lt c n)) in
+    (λ (l : c < n). sym (bit_at-mod x n c l))
+    (λ (l : n ≤ c). no-bit-from-has x c (h c l) ∙ sym (bit_at-mod_above x n c l))
+    (cases_lt c n)) in
     let below = mod_below x (2 ^ n) (pow_pos n) in
     omega arith
 
@@ -122,7 +122,7 @@ emit-room l starts ends ls le sound may =
     let up : up-after l ends ≡ has (bit_and l.gates (2 ^ 128 - 1 - ends)) = λ i c. sym (next.gates c) i in
     let flies : flies-after l starts ends ≡ has (bit_and (bit_or l.flying starts) (2 ^ 128 - 1 - ends)) = λ i c. sym (next.flying c) i in
     subst (λ (f : ℕ → Bool). l.used + event_len l.sizes starts ends + reserved l.sizes (has (bit_and l.gates (2 ^ 128 - 1 - ends))) f ≤ l.capacity) flies
-        (subst (λ (g : ℕ → Bool). l.used + event_len l.sizes starts ends + reserved l.sizes g (flies-after l starts ends) ≤ l.capacity) up (emit-fits l starts ends ls le sound may))
+    (subst (λ (g : ℕ → Bool). l.used + event_len l.sizes starts ends + reserved l.sizes g (flies-after l starts ends) ≤ l.capacity) up (emit-fits l starts ends ls le sound may))
 
 and-right : (a b : Bool) → (a && b) ≡ true → b ≡ true
 and-right true b h = h

@@ -44,17 +44,17 @@ gates-front sizes plan rows more (suc t) gates l is =
     let used : used_at sizes plan rows (suc t) ≡ used_at sizes plan (rows ++ more) (suc t) = sym (used-front sizes plan rows more (suc t) l) in
     let here : slice_get rows t ≡ slice_get (rows ++ more) t = sym (slice_get-append_left rows more t (omega arith)) in
     subst (λ (o : Option Row). IsSomeAnd o (λ row. AreRaised sizes plan.capacity (used_at sizes plan (rows ++ more) (suc t)) (keeps row) (is_in_flight row) (has gates))) here
-        (subst (λ (n : ℕ). IsSomeAnd (slice_get rows t) (λ row. AreRaised sizes plan.capacity n (keeps row) (is_in_flight row) (has gates))) used is)
+    (subst (λ (n : ℕ). IsSomeAnd (slice_get rows t) (λ row. AreRaised sizes plan.capacity n (keeps row) (is_in_flight row) (has gates))) used is)
 
 -- ---- one cycle of the ledger
 along : (sizes others : List ℕ) (capacity limit used bytes : ℕ) (kept kept2 flies flies2 up : ℕ → Bool) → sizes ≡ others → capacity ≡ limit → used ≡ bytes → kept ≡ kept2 → flies ≡ flies2
     → AreRaised sizes capacity used kept flies up → AreRaised others limit bytes kept2 flies2 up
 along sizes others capacity limit used bytes kept kept2 flies flies2 up a b c d e is =
     subst (λ (f : ℕ → Bool). AreRaised others limit bytes kept2 f up) e
-        (subst (λ (k : ℕ → Bool). AreRaised others limit bytes k flies up) d
-            (subst (λ (n : ℕ). AreRaised others limit n kept flies up) c
-                (subst (λ (n : ℕ). AreRaised others n used kept flies up) b
-                    (subst (λ (s : List ℕ). AreRaised s capacity used kept flies up) a is))))
+    (subst (λ (k : ℕ → Bool). AreRaised others limit bytes k flies up) d
+    (subst (λ (n : ℕ). AreRaised others limit n kept flies up) c
+    (subst (λ (n : ℕ). AreRaised others n used kept flies up) b
+    (subst (λ (s : List ℕ). AreRaised s capacity used kept flies up) a is))))
 
 -- what is in flight, by the starts and ends, is what *Row* calls in flight, where its valid stays
 flight : (f v e : Bool) → (f ≡ true → v ≡ true) → ((f || (v && not f)) && not e) ≡ (v && not e)
@@ -100,13 +100,13 @@ module _ (sizes : List ℕ) (plan : Plan) (rows : List Row) (row : Row) (l : Led
       → AreRaised sizes plan.capacity (used_at sizes plan (rows ++ row ∷ []) (suc (length rows))) (keeps row) (is_in_flight row) (has new.gates)
   gates-next emitted new stands follows is again =
       along emitted.sizes sizes emitted.capacity plan.capacity (left (plan.allowance (length rows)) emitted.used) (used_at sizes plan (rows ++ row ∷ []) (suc (length rows)))
-          (has emitted.gates) (keeps row) (has emitted.flying) (is_in_flight row) (has new.gates)
-          (is.sizes ∙ stands.channels)
-          (is.capacity ∙ stands.capacity)
-          (ap (left (plan.allowance (length rows))) (used-after emitted stands is) ∙ sym (used-push sizes plan rows row))
-          (λ i c. gate-kept emitted follows is c i)
-          (λ i c. flies emitted stands follows is c i)
-          again.gates
+      (has emitted.gates) (keeps row) (has emitted.flying) (is_in_flight row) (has new.gates)
+      (is.sizes ∙ stands.channels)
+      (is.capacity ∙ stands.capacity)
+      (ap (left (plan.allowance (length rows))) (used-after emitted stands is) ∙ sym (used-push sizes plan rows row))
+      (λ i c. gate-kept emitted follows is c i)
+      (λ i c. flies emitted stands follows is c i)
+      again.gates
 
   stands-next : (emitted new : Ledger) → StandsAfter sizes plan rows l → MayFollow l (row_before rows (length rows)) row → Emitted l row.starts row.ends emitted
       → Regranted (record emitted { used = left (plan.allowance (length rows)) emitted.used }) new → StandsAfter sizes plan (rows ++ row ∷ []) new
@@ -118,7 +118,7 @@ module _ (sizes : List ℕ) (plan : Plan) (rows : List Row) (row : Row) (l : Led
         used = again.used ∙ ap (left (plan.allowance (length rows))) (used-after emitted stands is) ∙ sym (used-push sizes plan rows row) ∙ ap (used_at sizes plan (rows ++ row ∷ [])) (sym longer);
         gates = subst (λ (t : ℕ). AreGates sizes plan (rows ++ row ∷ []) t new.gates) (sym longer)
             (subst (λ (o : Option Row). IsSomeAnd o (λ r. AreRaised sizes plan.capacity (used_at sizes plan (rows ++ row ∷ []) (suc (length rows))) (keeps r) (is_in_flight r) (has new.gates))) (sym (slice_get-last rows row))
-                (gates-next emitted new stands follows is again));
+            (gates-next emitted new stands follows is again));
         flying = λ c.
             ap (λ f. has f c) again.flying
             ∙ flies emitted stands follows is c

@@ -23,12 +23,12 @@ raised-down : (sizes : List ℕ) (capacity used : ℕ) (kept flies up : ℕ → 
 raised-down sizes capacity used kept flies up is fits c size at down = ⊎_elim
     (λ (k : kept c ≡ true). absurd (false≢true (sym down ∙ is.stay c k)))
     (λ (k : kept c ≡ false). ⊎_elim
-        (λ (l : 0 < used). l)
-        (λ (l : used ≤ 0).
-        let sum = all-need (head_len (length sizes)) kept flies up 0 sizes c size at (ap kept (omega arith) ∙ k) in
-        let room : used + reserved sizes kept flies + raised_below sizes kept up c + whole (head_len (length sizes)) size ≤ capacity = omega arith in
-        absurd (false≢true (sym down ∙ is.raised c size at k ∙ le-leb _ _ room)))
-        (cases_lt 0 used))
+    (λ (l : 0 < used). l)
+    (λ (l : used ≤ 0).
+    let sum = all-need (head_len (length sizes)) kept flies up 0 sizes c size at (ap kept (omega arith) ∙ k) in
+    let room : used + reserved sizes kept flies + raised_below sizes kept up c + whole (head_len (length sizes)) size ≤ capacity = omega arith in
+    absurd (false≢true (sym down ∙ is.raised c size at k ∙ le-leb _ _ room)))
+    (cases_lt 0 used))
     (cases_Bool (kept c))
 
 channel-at : (sizes : List ℕ) (c : ℕ) → c < length sizes → (size : ℕ) × (slice_get sizes c ≡ Some size)
@@ -65,12 +65,12 @@ no-more sizes plan rows (suc t) gates is c l =
 pub stay-up : (sizes : List ℕ) (plan : Plan) (rows : List Row) (t gates : ℕ) → need sizes ≤ plan.capacity → EverythingDrains sizes plan rows → AreGates sizes plan rows t gates → gates ≡ all_up sizes
 stay-up sizes plan rows t gates fits drains is = same-masks gates (all_up sizes) (λ c. ⊎_elim
     (λ (l : c < length sizes). ⊎_elim
-        (λ (up : has gates c ≡ true). up ∙ sym (has-all (length sizes) c l))
-        (λ (down : has gates c ≡ false).
-        let some = down-waits sizes plan rows t gates c fits is l down in
-        let none = none-left sizes plan rows drains t in
-        absurd (omega arith))
-        (cases_Bool (has gates c)))
+    (λ (up : has gates c ≡ true). up ∙ sym (has-all (length sizes) c l))
+    (λ (down : has gates c ≡ false).
+    let some = down-waits sizes plan rows t gates c fits is l down in
+    let none = none-left sizes plan rows drains t in
+    absurd (omega arith))
+    (cases_Bool (has gates c)))
     (λ (l : length sizes ≤ c). no-more sizes plan rows t gates is c l ∙ sym (has-all_above (length sizes) c l))
     (cases_lt c (length sizes)))
 
@@ -80,19 +80,19 @@ same-below : (sizes : List ℕ) (kept up other : ℕ → Bool) (c : ℕ) → c �
 same-below sizes kept up other c l h =
     let size = length-take-le c sizes l in
     total-same (newly (head_len (length sizes)) kept up) (newly (head_len (length sizes)) kept other) 0 (take c sizes)
-        (λ d b m n. ap (λ u. cond (u && not (kept d)) (whole (head_len (length sizes)) b) 0) (h d (omega arith)))
+    (λ d b m n. ap (λ u. cond (u && not (kept d)) (whole (head_len (length sizes)) b) 0) (h d (omega arith)))
 
 same-gate : (sizes : List ℕ) (capacity used : ℕ) (kept flies up other : ℕ → Bool) → AreRaised sizes capacity used kept flies up → AreRaised sizes capacity used kept flies other
     → (c : ℕ) → ((d : ℕ) → d < c → up d ≡ other d) → up c ≡ other c
 same-gate sizes capacity used kept flies up other a b c below = ⊎_elim
     (λ (l : c < length sizes). ⊎_elim
-        (λ (k : kept c ≡ true). a.stay c k ∙ sym (b.stay c k))
-        (λ (k : kept c ≡ false).
-        let channel = channel-at sizes c l in
-        a.raised c channel.0 channel.1 k
-        ∙ ap (λ sum. leb (used + reserved sizes kept flies + sum + whole (head_len (length sizes)) channel.0) capacity) (same-below sizes kept up other c (omega arith) below)
-        ∙ sym (b.raised c channel.0 channel.1 k))
-        (cases_Bool (kept c)))
+    (λ (k : kept c ≡ true). a.stay c k ∙ sym (b.stay c k))
+    (λ (k : kept c ≡ false).
+    let channel = channel-at sizes c l in
+    a.raised c channel.0 channel.1 k
+    ∙ ap (λ sum. leb (used + reserved sizes kept flies + sum + whole (head_len (length sizes)) channel.0) capacity) (same-below sizes kept up other c (omega arith) below)
+    ∙ sym (b.raised c channel.0 channel.1 k))
+    (cases_Bool (kept c)))
     (λ (l : length sizes ≤ c). a.channels c l ∙ sym (b.channels c l))
     (cases_lt c (length sizes))
 

@@ -7,3 +7,4 @@ pub mod GateLaws
 pub mod Following
 pub mod Existence
 pub mod Books
+mod Examples

@@ -45,11 +45,11 @@ raised-exact head capacity size sizes c claimed gates up down room mine is (suc 
     let later : has (bit_or gates (2 ^ c)) (c + 1 + i) ≡ false = set-other gates c (c + 1 + i) (λ e. absurd (omega arith)) ∙ ap (has gates) place ∙ h in
     let others : total (newly head (has (bit_or gates (2 ^ c))) (has up)) (c + 1) (take i sizes) ≡ total (newly head (has gates) (has up)) (c + 1) (take i sizes) =
     total-same (newly head (has (bit_or gates (2 ^ c))) (has up)) (newly head (has gates) (has up)) (c + 1) (take i sizes)
-        (λ d b l m. ap (λ g. cond (has up d && not g) (whole head b) 0) (set-other gates c d (λ e. absurd (omega arith)))) in
+    (λ d b l m. ap (λ g. cond (has up d && not g) (whole head b) 0) (set-other gates c d (λ e. absurd (omega arith)))) in
     let first : newly head (has gates) (has up) (c, size) ≡ whole head size = ap (λ g. cond (has up c && not g) (whole head size) 0) down ∙ ap (λ u. cond (u && true) (whole head size) 0) mine in
     let all = total-cons (newly head (has gates) (has up)) c size (take i sizes) in
     let sum : claimed + whole head size + total (newly head (has (bit_or gates (2 ^ c))) (has up)) (c + 1) (take i sizes) + whole head s
-        ≡ claimed + total (newly head (has gates) (has up)) c (size ∷ take i sizes) + whole head s = omega arith in
+    ≡ claimed + total (newly head (has gates) (has up)) c (size ∷ take i sizes) + whole head s = omega arith in
     ap (has up) (sym place) ∙ is.exact i s at later ∙ ap (λ x. leb x capacity) sum
 
 -- the gate of channel c goes up
@@ -88,7 +88,7 @@ passed-exact head capacity size sizes c claimed gates up room is (suc i) s at h 
     let first : newly head (has gates) (has up) (c, size) ≡ 0 = ap (λ u. cond (u && not (has gates c)) (whole head size) 0) here ∙ none (has gates c) (whole head size) in
     let all = total-cons (newly head (has gates) (has up)) c size (take i sizes) in
     let sum : claimed + total (newly head (has gates) (has up)) (c + 1) (take i sizes) + whole head s
-        ≡ claimed + total (newly head (has gates) (has up)) c (size ∷ take i sizes) + whole head s = omega arith in
+    ≡ claimed + total (newly head (has gates) (has up)) c (size ∷ take i sizes) + whole head s = omega arith in
     ap (has up) (sym place) ∙ is.exact i s at later ∙ ap (λ x. leb x capacity) sum
 
 -- the gate of channel c stays as it is, since it is up or has no room
@@ -120,5 +120,5 @@ raised-from head capacity [] c claimed gates = record {
 }
 raised-from head capacity (size ∷ sizes) c claimed gates =
     step head capacity size sizes c claimed gates (has gates c) (leb (claimed + whole head size) capacity) refl refl
-        (raised-from head capacity sizes (c + 1) (claimed + whole head size) (bit_or gates (2 ^ c)))
-        (raised-from head capacity sizes (c + 1) claimed gates)
+    (raised-from head capacity sizes (c + 1) (claimed + whole head size) (bit_or gates (2 ^ c)))
+    (raised-from head capacity sizes (c + 1) claimed gates)

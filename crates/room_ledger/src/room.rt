@@ -1,6 +1,6 @@
 //! The ledger of the store's bytes and of what the channels have reserved.
 
-ghost use Rattle.std.specs.Prelude.{◌≡◌, ◌≤◌, ◌↔◌, IsTrue, IfOk, IfErr, length, map, sum_by};
+ghost use Rattle.std.specs.Prelude.{◌≡◌, ◌<◌, ◌≤◌, ◌^◌, ◌↔◌, IsTrue, IfOk, IfErr, length, map, sum_by};
 ghost use Rattle.trace_model.specs.Channel.{content_bytes};
 ghost use Rattle.trace_model.specs.Counting.{has};
 ghost use Rattle.room_ledger.specs.Reservation.{need, event_len};
@@ -48,6 +48,7 @@ impl Room {
         requires few { length channels.now ≤ 128 }
         requires content { sum_by content_bytes channels.now ≤ 2048 }
         ensures made { IfOk result (λ room. (room ≡ fresh (map content_bytes channels.now) capacity) × (need (map content_bytes channels.now) ≤ capacity)) }
+        ensures room { IfOk result (λ room. claimed room ≤ room.capacity) }
         ensures refused { IfErr result (Refuses (map content_bytes channels.now) capacity) }
     {
         let sizes = sizes_of(alloc, channels.as_slice())?;
@@ -118,7 +119,8 @@ impl Room {
 
     /// The channels whose gate is up: bit c is channel c.
     pub fn gates(&self) -> u128
-        ensures { result ≡ self.now.gates }
+        ensures mask { result ≡ self.now.gates }
+        ensures channels { result < 2 ^ length self.now.sizes }
     {
         self.gates
     }

@@ -28,8 +28,10 @@ returns-clause-made c =
     let count : length c.in_ok-sizes.sizes.items ≡ length c.args.channels.now = ap length sizes ∙ length-map c.args.channels.now content_bytes in
     let fits = need-within c.in_ok-sizes.sizes.items c.as_slice-2.result.now c.len.result c.head_len.result c.need-need.result c.args.capacity c.as_slice-2.ensures.value (c.len.ensures ∙ sym c.as_slice-2.ensures.len ∙ ap length c.as_slice-2.ensures.value) c.head_len.ensures c.need-need.ensures c.if-capacity-need.false in
     let few : length c.in_ok-sizes.sizes.items ≤ 128 = omega (arith, c.requires.few) in
-    let mask : (2 ^ 128 - 1) / 2 ^ (128 - c.len-2.result) ≡ all_up c.in_ok-sizes.sizes.items = mask-is c.in_ok-sizes.sizes.items c.len-2.result (c.len-2.ensures ∙ sym c.as_slice-2.ensures.len ∙ ap length c.as_slice-2.ensures.value) few in
-    (
+    let mask : (2 ^ 128 - 1) / 2 ^ (128 - c.len-2.result) ≡ all_up c.in_ok-sizes.sizes.items = mask-is c.in_ok-sizes.sizes.items c.len-2.result (c.len-2.ensures ∙ sym c.as_slice-2.ensures.len ∙ ap length c.as_slice-2.ensures.value) few in (
       ap (λ gates. ledger c.in_ok-sizes.sizes.items c.args.capacity 0 gates 0) mask ∙ ap (λ (s : List ℕ). fresh s c.args.capacity) sizes,
       rw (← sizes) fits,
     )
+
+pub returns-clause-room : goal.returns-clause-room
+returns-clause-room c = (invariant_of-result c).room
