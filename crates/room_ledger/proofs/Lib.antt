@@ -1,0 +1,10 @@
+pub mod Masks
+pub mod Totals
+pub mod Emission
+pub mod Raising
+pub mod Reserving
+pub mod GateLaws
+pub mod Following
+pub mod Existence
+pub mod Books
+mod Examples

@@ -1,0 +1,8 @@
+use Rattle.std.proofs.Common.{◌≡◌, take}
+use Rattle.trace_model.specs.Counting.{has}
+use Rattle.room_ledger.specs.Reservation.{reservation}
+use Rattle.room_ledger.proofs.Totals.{total}
+use Rattle.room_ledger.proofs.sums.reserved.Given as goal
+
+abbrev pub invariant-loop-c : goal.invariant-loop-c
+invariant-loop-c l = l.total ≡ total (reservation l.head (has l.gates) (has l.flying)) 0 (take l.c l.sizes)

@@ -1,0 +1,9 @@
+//! The store: the recorded bytes that wait to be written, in a ring of fixed capacity.
+#![tactic(auto)]
+
+mod store;
+
+pub use store::Store;
+
+#[cfg(test)]
+mod tests;
