@@ -3,12 +3,13 @@ use Rattle.std.proofs.Common.{◌≡◌, ℕ, ◌<◌, ◌≤◌, ◌⊎◌, Lis
 use Rattle.std.specs.Prelude.{IsSomeAnd}
 use Rattle.std.specs.FinMap.{get}
 use Rattle.vlog_lex.specs.declared.token.Token.{Token}
-use Rattle.vlog_lex.specs.Reading.{OneReading, ReadOrStuck}
+use Rattle.vlog_lex.specs.Reading.{OneReading, OneStuckLine, ReadOrStuck}
 use Rattle.vlog_tree.specs.Tree.{FileOf}
 use Rattle.vlog_expr.specs.Marks.{all_marked}
 use Rattle.vlog_expr.specs.Bare.{without_lines}
 use Rattle.vlog_parse.specs.Depth.{IsDeep, OneDepth}
 use Rattle.vlog_parse.specs.Parsing.{IsFileOf, OneFile}
+use Rattle.vlog_parse.specs.Units.{IsItemLine, OneItemLine}
 use Rattle.vidi_io.specs.Shelf.{Files}
 use Rattle.vidi.specs.declared.status.Word.TheVariants as words
 use Rattle.vidi.specs.declared.status.Reason.{Reason}
@@ -27,6 +28,8 @@ pub record TextLaws : Type 0 where
   pub stuck : ReadOrStuck
   pub file : OneFile
   pub depth : OneDepth ℕ
+  pub word : OneStuckLine
+  pub item : OneItemLine
 
 abbrev IsDone : List ℕ → Files → List ℕ → Type 0
 IsDone design files text = Checks design (Some files) (λ _. ⊥) Done text
@@ -55,32 +58,36 @@ one_file laws text f g (ts, has, shallow, (good, spelled)) (us, has', shallow', 
 
 -- a text for which a file is found has no reason
 no_reason : TextLaws → (text : List ℕ) (f : FileOf (Unit {0})) (r : Reason) → Spells text f → HasReason text r → ⊥
-no_reason laws text f (Word l) (ts, has, shallow, file) (zero, stuck) = laws.stuck text ts has stuck
+no_reason laws text f (Word l) (ts, has, shallow, file) (stuck, _) = laws.stuck text ts has stuck
 no_reason laws text f (Deep l) (ts, has, shallow, file) (us, has', deep) =
     laws.depth.apart (all_marked ts) l (subst (λ (vs : List Token). IsDeep (all_marked vs) l) (laws.reading text us ts has' has) deep) shallow
-no_reason laws text f (Item l) (ts, has, shallow, file) (zero, (us, has', shallow', none)) =
+no_reason laws text f (Item l) (ts, has, shallow, file) (us, has', its, shallow', none) =
     none f (subst (λ (vs : List Token). IsFileOf vs f) (laws.reading text ts us has has') file)
 no_reason laws text f (TooLong n) spells never = never
 no_reason laws text f (BadTrace n) spells never = never
 
 deep_item : TextLaws → (text : List ℕ) (l k : ℕ) → HasReason text (Deep l) → HasReason text (Item k) → ⊥
-deep_item laws text l k (ts, has, deep) (zero, (us, has', shallow, none)) =
+deep_item laws text l k (ts, has, deep) (us, has', its, shallow, none) =
     laws.depth.apart (all_marked us) l (subst (λ (vs : List Token). IsDeep (all_marked vs) l) (laws.reading text ts us has has') deep) shallow
 
 deep_deep : TextLaws → (text : List ℕ) (l k : ℕ) → HasReason text (Deep l) → HasReason text (Deep k) → l ≡ k
 deep_deep laws text l k (ts, has, deep) (us, has', deep') =
     laws.depth.line (all_marked ts) l k deep (subst (λ (vs : List Token). IsDeep (all_marked vs) k) (laws.reading text us ts has' has) deep')
 
+item_item : TextLaws → (text : List ℕ) (l k : ℕ) → HasReason text (Item l) → HasReason text (Item k) → l ≡ k
+item_item laws text l k (ts, has, its, _, _) (us, has', its', _, _) =
+    laws.item (all_marked ts) l k its (subst (λ (vs : List Token). IsItemLine (all_marked vs) k) (laws.reading text us ts has' has) its')
+
 one_cause : TextLaws → (text : List ℕ) (r s : Reason) → HasReason text r → HasReason text s → r ≡ s
-one_cause laws text (Word l) (Word k) (zero, _) (zero', _) = ap Word (zero ∙ sym zero')
-one_cause laws text (Word l) (Deep k) (_, stuck) (ts, has, _) = absurd (laws.stuck text ts has stuck)
-one_cause laws text (Word l) (Item k) (_, stuck) (_, (ts, has, _, _)) = absurd (laws.stuck text ts has stuck)
-one_cause laws text (Deep l) (Word k) (ts, has, _) (_, stuck) = absurd (laws.stuck text ts has stuck)
+one_cause laws text (Word l) (Word k) p q = ap Word (laws.word text l k p q)
+one_cause laws text (Word l) (Deep k) (stuck, _) (ts, has, _) = absurd (laws.stuck text ts has stuck)
+one_cause laws text (Word l) (Item k) (stuck, _) (ts, has, _, _, _) = absurd (laws.stuck text ts has stuck)
+one_cause laws text (Deep l) (Word k) (ts, has, _) (stuck, _) = absurd (laws.stuck text ts has stuck)
 one_cause laws text (Deep l) (Deep k) p q = ap Deep (deep_deep laws text l k p q)
 one_cause laws text (Deep l) (Item k) p q = absurd (deep_item laws text l k p q)
-one_cause laws text (Item l) (Word k) (_, (ts, has, _, _)) (_, stuck) = absurd (laws.stuck text ts has stuck)
+one_cause laws text (Item l) (Word k) (ts, has, _, _, _) (stuck, _) = absurd (laws.stuck text ts has stuck)
 one_cause laws text (Item l) (Deep k) p q = absurd (deep_item laws text k l q p)
-one_cause laws text (Item l) (Item k) (zero, _) (zero', _) = ap Item (zero ∙ sym zero')
+one_cause laws text (Item l) (Item k) p q = ap Item (item_item laws text l k p q)
 one_cause laws text (TooLong m) s p q = absurd p
 one_cause laws text (BadTrace m) s p q = absurd p
 one_cause laws text r (TooLong n) p q = absurd q

@@ -1,11 +1,12 @@
 -- Design texts: the file that one spells, and the reason for which one is refused (this project's profile).
-use Rattle.std.specs.Prelude.{◌≡◌, ℕ, List}
+use Rattle.std.specs.Prelude.{ℕ, List}
 use Rattle.vlog_lex.specs.declared.token.Token.{Token}
-use Rattle.vlog_lex.specs.Reading.{HasTokens, IsStuck}
+use Rattle.vlog_lex.specs.Reading.{HasTokens, IsStuckOn}
 use Rattle.vlog_tree.specs.Tree.{FileOf}
 use Rattle.vlog_expr.specs.Marks.{all_marked}
 use Rattle.vlog_parse.specs.Depth.{IsDeep, IsShallow}
 use Rattle.vlog_parse.specs.Parsing.{IsFileOf}
+use Rattle.vlog_parse.specs.Units.{IsItemLine}
 use Rattle.vidi.specs.declared.status.Reason.{Reason}
 use Rattle.vidi.specs.declared.status.Reason.TheVariants as reasons
 
@@ -17,10 +18,11 @@ text_limit = 4194304
 abbrev pub Spells : List ℕ → FileOf (Unit {0}) → Type 0
 Spells text f = (tokens : List Token) × HasTokens text tokens × IsShallow (all_marked tokens) × IsFileOf tokens f
 
--- the first reason that holds: the text has no tokens, else a limit is passed first at a token with this line, else no file has its tokens
+-- the first reason that holds: at a place of this line nothing begins, else a limit is passed first at a token with this line,
+-- else no file has the tokens, and this is the line behind the longest list of whole units
 abbrev pub HasReason : List ℕ → Reason → Type 0
-HasReason text (reasons.Word line) = (line ≡ 0) × IsStuck text
+HasReason text (reasons.Word line) = IsStuckOn text line
 HasReason text (reasons.Deep line) = (tokens : List Token) × HasTokens text tokens × IsDeep (all_marked tokens) line
 HasReason text (reasons.Item line) =
-    (line ≡ 0) × ((tokens : List Token) × HasTokens text tokens × IsShallow (all_marked tokens) × ((f : FileOf (Unit {0})) → ¬ IsFileOf tokens f))
+    (tokens : List Token) × HasTokens text tokens × IsItemLine (all_marked tokens) line × IsShallow (all_marked tokens) × ((f : FileOf (Unit {0})) → ¬ IsFileOf tokens f)
 HasReason text _ = ⊥

@@ -83,7 +83,7 @@ const LAWFUL: [(&str, &str); 7] = [
     ),
 ];
 
-const NO_FILE: &str = "vidi: refused design: E2 item line 0\n";
+const NO_FILE: &str = "vidi: refused design: E2 item line 1\n";
 
 fn refused(reason: Reason) -> Status {
     Status::Refused {
@@ -150,7 +150,7 @@ fn modules_and_items_are_counted(rt: HostRuntime) -> Result<(), Failure> {
 #[test]
 fn forms_that_are_not_there_yet_are_refused(rt: HostRuntime) -> Result<(), Failure> {
     let alloc = rt.alloc();
-    let status = refused(Reason::Item { line: 0 });
+    let status = refused(Reason::Item { line: 1 });
     for design in NOT_YET {
         expect_check(&rt, alloc, design.as_bytes(), status, NO_FILE)?;
     }
@@ -163,19 +163,31 @@ fn forms_that_are_not_there_yet_are_refused(rt: HostRuntime) -> Result<(), Failu
 #[test]
 fn texts_that_are_no_design_are_refused(rt: HostRuntime) -> Result<(), Failure> {
     let alloc = rt.alloc();
-    let word = refused(Reason::Word { line: 0 });
-    let item = refused(Reason::Item { line: 0 });
+    let item = refused(Reason::Item { line: 1 });
     let deep = refused(Reason::Deep { line: 2 });
-    let word_text = "vidi: refused design: E1 word line 0\n";
     let mut open = Vec::new(alloc);
     add(&mut open, "\n", 1)?;
     add(&mut open, "(", 33)?;
     expect_check(&rt, alloc, b"", item, NO_FILE)?;
-    expect_check(&rt, alloc, b"\"", word, word_text)?;
+    let first_line = "vidi: refused design: E1 word line 1\n";
+    expect_check(
+        &rt,
+        alloc,
+        b"\"",
+        refused(Reason::Word { line: 1 }),
+        first_line,
+    )?;
     let deep_text = "vidi: refused design: E14 deep line 2\n";
     expect_check(&rt, alloc, &open, deep, deep_text)?;
     add(&mut open, "\"", 1)?;
-    expect_check(&rt, alloc, &open, word, word_text)
+    let second_line = "vidi: refused design: E1 word line 2\n";
+    expect_check(
+        &rt,
+        alloc,
+        &open,
+        refused(Reason::Word { line: 2 }),
+        second_line,
+    )
 }
 
 #[test]
@@ -231,7 +243,7 @@ fn a_block_has_at_most_1024_elses(rt: HostRuntime) -> Result<(), Failure> {
 #[test]
 fn a_design_has_at_most_4194304_bytes(rt: HostRuntime) -> Result<(), Failure> {
     let alloc = rt.alloc();
-    let item = refused(Reason::Item { line: 0 });
+    let item = refused(Reason::Item { line: 1 });
     let long = refused(Reason::TooLong { limit: 4_194_304 });
     let long_text = "vidi: refused design: too long, limit 4194304\n";
     let most = spaces(alloc, 4_194_304)?;

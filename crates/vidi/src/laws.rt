@@ -12,6 +12,8 @@ pub fn one_answer()
     one_place();
     vlog_lex::one_reading();
     vlog_lex::read_or_stuck();
+    vlog_lex::one_stuck_line();
     vlog_parse::one_file();
+    vlog_parse::one_item_line();
     vlog_parse::one_depth()
 }

@@ -13,12 +13,12 @@ pub enum Word {
 pub enum Reason {
     /// The file has more than `limit` bytes.
     TooLong { limit: u64 },
-    /// E1: at a place of this line neither a token nor white space nor a comment begins. The line is 0
-    /// for now.
+    /// E1: at a place of this line neither a token nor white space nor a comment begins.
     Word { line: u32 },
     /// E14: a limit of nesting or length is passed, first at a token of this line.
     Deep { line: u32 },
-    /// E2: the text isn't in the grammar. The line is 0 for now.
+    /// E2: the text isn't in the grammar. The line is that of the first token behind the longest list of
+    /// whole units, or where no token follows the last token's, 1 if there is none.
     Item { line: u32 },
     /// The file is no encoding of a trace; `at` is the place of the fault in bytes.
     BadTrace { at: u64 },

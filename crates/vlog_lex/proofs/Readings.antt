@@ -1,14 +1,15 @@
 -- A text has one reading, and a reading grows by a piece.
-use Rattle.std.proofs.Common.{◌≡◌, ◌≢◌, ◌==◌, ℕ, ◌+◌, ◌-◌, ◌<◌, ◌≤◌, true, false, None, length-take-le, length-drop, List, [], ◌∷◌, ◌++◌, length, take, drop, take-append-drop, sym, refl, ap, ◌∙◌, subst, arith, append_assoc, append-nil, length-append}
+use Rattle.std.proofs.Common.{◌≡◌, ◌≢◌, ◌==◌, ℕ, ◌+◌, ◌-◌, ◌<◌, ◌≤◌, true, false, cond, None, length-take-le, length-drop, List, [], ◌∷◌, ◌++◌, length, take, drop, take-append-drop, sym, refl, ap, ◌∙◌, subst, arith, append_assoc, append-nil, length-append}
 use Rattle.std.proofs.lemmas.List.{append_cancel_left, take_rest, nil_from_length}
 use Rattle.std.proofs.lemmas.Bool.{eqb-true, eqb-false}
-use Rattle.std.proofs.lemmas.List.Sums.{count_by-le-length}
+use Rattle.std.proofs.lemmas.List.Sums.{count_by-le-length, sum_by-append}
+use Rattle.std.proofs.Math.Seq.{take-append_seam}
 use Rattle.vlog_lex.specs.declared.token.Token.{Token}
 use Rattle.vlog_lex.specs.declared.token.TokenKind.{TokenKind}
 use Rattle.vlog_lex.specs.Lexeme.{IsToken, IsLongest}
 use Rattle.vlog_lex.specs.Gap.{IsGap}
 use Rattle.vlog_lex.specs.Front.{IsFrontBefore, IsNextToken}
-use Rattle.vlog_lex.specs.Reading.{Piece, Gap, Lexeme, text_of, IsPiece, Leads, newlines, token_of, tokens_of, HasTokens, IsStuck}
+use Rattle.vlog_lex.specs.Reading.{Piece, Gap, Lexeme, text_of, IsPiece, Leads, newlines, token_of, tokens_of, HasTokens, IsStuck, line_before, IsStuckOn, OneStuckLine}
 use Rattle.vlog_lex.proofs.Spans.{same_front}
 use Rattle.vlog_lex.proofs.Longest.{one_kind, token_some, no_newline}
 use Rattle.vlog_lex.proofs.Gaps.{one_gap, gap_some}
@@ -141,7 +142,7 @@ reads_all bytes rest tokens line reads done =
     let P : List ℕ → Type 0 = λ r. Leads reads.pieces bytes r in
     (reads.pieces, subst P (nil_from_length rest (eqb-true (length rest) 0 done)) reads.leads, reads.told)
 
-pub reads_stuck : (bytes rest : List ℕ) (tokens : List Token) (line n : ℕ) → Reads bytes rest tokens line → (length rest == 0) ≡ false
+abbrev pub reads_stuck : (bytes rest : List ℕ) (tokens : List Token) (line n : ℕ) → Reads bytes rest tokens line → (length rest == 0) ≡ false
     → IsFrontBefore IsGap n rest → n ≤ 0 → IsNextToken None rest → IsStuck bytes
 reads_stuck bytes rest tokens line n reads some gap no_gap token = record {
   pieces = reads.pieces;
@@ -151,6 +152,59 @@ reads_stuck bytes rest tokens line n reads some gap no_gap token = record {
   no_gap = gap.none (omega arith);
   no_token = token;
 }
+
+-- the text of all the pieces stands before the rest
+texts : List Piece → List ℕ
+texts [] = []
+texts (p ∷ ps) = text_of p ++ texts ps
+
+texts_lead : (ps : List Piece) (bytes rest : List ℕ) → Leads ps bytes rest → bytes ≡ texts ps ++ rest
+unfolding texts
+texts_lead [] bytes rest leads = leads
+texts_lead (p ∷ ps) bytes rest leads =
+    leads.1 ∙ ap (λ t. text_of p ++ t) (texts_lead ps leads.0 rest leads.3) ∙ sym (append_assoc (text_of p) (texts ps) rest)
+
+line_texts : (line : ℕ) (ps : List Piece) → line_after line ps ≡ line + newlines (texts ps)
+unfolding texts
+line_texts line [] = omega arith
+line_texts line (p ∷ ps) =
+    let both : newlines (text_of p ++ texts ps) ≡ newlines (text_of p) + newlines (texts ps) = sum_by-append (λ b. cond (b == 10) 1 0) (text_of p) (texts ps) in
+    omega (arith, line_texts (line + newlines (text_of p)) ps, both)
+
+line_at : (ps : List Piece) (bytes rest : List ℕ) → Leads ps bytes rest → line_after 1 ps ≡ line_before bytes rest
+line_at ps bytes rest leads =
+    let whole = texts_lead ps bytes rest leads in
+    let size : length bytes - length rest ≡ length (texts ps) = omega (arith, ap length whole ∙ length-append (texts ps) rest) in
+    let front : take (length bytes - length rest) bytes ≡ texts ps =
+    ap (λ n. take n bytes) size ∙ ap (λ t. take (length (texts ps)) t) whole ∙ take-append_seam (texts ps) rest in
+    line_texts 1 ps ∙ ap (λ t. 1 + newlines t) (sym front)
+
+pub reads_stuck_on : (bytes rest : List ℕ) (tokens : List Token) (line n : ℕ) → Reads bytes rest tokens line → (length rest == 0) ≡ false
+    → IsFrontBefore IsGap n rest → n ≤ 0 → IsNextToken None rest → IsStuckOn bytes line
+reads_stuck_on bytes rest tokens line n reads some gap no_gap token =
+    (reads_stuck bytes rest tokens line n reads some gap no_gap token, reads.counted ∙ line_at reads.pieces bytes rest reads.leads)
+
+-- where bytes are stuck no piece begins
+no_piece : (bytes : List ℕ) (stuck : IsStuck bytes) (piece : Piece) (after : List ℕ) → stuck.rest ≡ text_of piece ++ after → ¬ IsPiece piece after
+no_piece bytes stuck (Gap text) after e lawful = stuck.no_gap text after (sym e) lawful
+no_piece bytes stuck (Lexeme kind text) after e lawful = stuck.no_token kind text after (sym e) lawful.token
+
+same_place : (ps qs : List Piece) (bytes r s : List ℕ) → Leads ps bytes r → Leads qs bytes s
+    → ((piece : Piece) (after : List ℕ) → r ≡ text_of piece ++ after → ¬ IsPiece piece after)
+    → ((piece : Piece) (after : List ℕ) → s ≡ text_of piece ++ after → ¬ IsPiece piece after) → r ≡ s
+same_place [] [] bytes r s a b x y = sym a ∙ b
+same_place [] (q ∷ qs) bytes r s a b x y = absurd (x q b.0 (sym a ∙ b.1) b.2)
+same_place (p ∷ ps) [] bytes r s a b x y = absurd (y p a.0 (sym b ∙ a.1) a.2)
+same_place (p ∷ ps) (q ∷ qs) bytes r s a b x y =
+    let e = sym a.1 ∙ b.1 in
+    let heads : p ≡ q = one_piece p q a.0 b.0 a.2 b.2 e in
+    let rests : a.0 ≡ b.0 = one_rest p q a.0 b.0 heads e in
+    let P : List ℕ → Type 0 = λ t. Leads qs t s in
+    same_place ps qs a.0 r s a.3 (subst P (sym rests) b.3) x y
+
+pub one_stuck_line : OneStuckLine
+one_stuck_line bytes a b x y =
+    x.1 ∙ ap (λ rest. line_before bytes rest) (same_place x.0.pieces y.0.pieces bytes x.0.rest y.0.rest x.0.leads y.0.leads (no_piece bytes x.0) (no_piece bytes y.0)) ∙ sym y.1
 
 pub one_answer : (bytes : List ℕ) (ts us : List Token) → HasTokens bytes ts → HasTokens bytes us → ts ≡ us
 one_answer bytes ts us a b = a.2 ∙ ap (tokens_of 1) (one_reading a.0 b.0 bytes a.1 b.1) ∙ sym b.2

@@ -1,5 +1,5 @@
 -- *Tokens*: a byte list cut into gaps and longest tokens.
-use Rattle.std.specs.Prelude.{◌≡◌, ◌≢◌, ℕ, ◌+◌, List, [], ◌∷◌, ◌++◌, ◌==◌, Result, Ok, Err, count_by}
+use Rattle.std.specs.Prelude.{◌≡◌, ◌≢◌, ℕ, ◌+◌, ◌-◌, List, [], ◌∷◌, ◌++◌, ◌==◌, Result, Ok, Err, count_by, length, take}
 use Rattle.vlog_lex.specs.declared.token.Token.{Token}
 use Rattle.vlog_lex.specs.declared.token.TokenKind.{TokenKind}
 use Rattle.vlog_lex.specs.declared.error.LexError.{LexError}
@@ -52,15 +52,27 @@ pub record IsStuck (bytes : List ℕ) : Type 0 where
   pub no_gap : (text after : List ℕ) → text ++ after ≡ rest → ¬ IsGap text after
   pub no_token : (kind : TokenKind) (text after : List ℕ) → text ++ after ≡ rest → ¬ IsToken kind text
 
+-- the line of the place at which the rest begins: 1 plus the newlines before it
+abbrev pub line_before : List ℕ → List ℕ → ℕ
+line_before bytes rest = 1 + newlines (take (length bytes - length rest) bytes)
+
+-- such a place is reached on this line
+abbrev pub IsStuckOn : List ℕ → ℕ → Type 0
+IsStuckOn bytes line = (stuck : IsStuck bytes) × (line ≡ line_before bytes stuck.rest)
+
 -- what `lex` answers for these bytes
 abbrev pub Lexes : List ℕ → Result (List Token) LexError → Type 0
 Lexes bytes (Ok tokens) = HasTokens bytes tokens
-Lexes bytes (Err (Word line)) = (line ≡ 0) × IsStuck bytes
+Lexes bytes (Err (Word line)) = IsStuckOn bytes line
 Lexes bytes (Err Memory) = Unit {0}
 
 -- no bytes have two lists of tokens
 abbrev pub OneReading : Type 0
 OneReading = (bytes : List ℕ) (ts us : List Token) → HasTokens bytes ts → HasTokens bytes us → ts ≡ us
+
+-- bytes are stuck on one line
+abbrev pub OneStuckLine : Type 0
+OneStuckLine = (bytes : List ℕ) (a b : ℕ) → IsStuckOn bytes a → IsStuckOn bytes b → a ≡ b
 
 -- no bytes both have tokens and are stuck
 abbrev pub ReadOrStuck : Type 0

@@ -7,7 +7,7 @@ use vidi_bits::Memory;
 /// Why a text has no tokens.
 #[derive(Clone, Copy, Debug, PartialEq, Eq, Error)]
 pub enum LexError {
-    /// At some place neither a token, white space nor a comment begins; `line` is for now 0.
+    /// At a place of this line neither a token, white space nor a comment begins.
     #[error("line {line}: no token begins here")]
     Word { line: u32 },
     #[error("out of memory")]

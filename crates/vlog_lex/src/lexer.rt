@@ -3,7 +3,7 @@ ghost use Rattle.vlog_lex.specs.declared.token.Token.{Token};
 ghost use Rattle.vlog_lex.specs.declared.token.TokenKind.{TokenKind};
 ghost use Rattle.vlog_lex.specs.declared.error.LexError.{LexError};
 ghost use Rattle.vlog_lex.specs.Lexeme.{IsToken};
-ghost use Rattle.vlog_lex.specs.Reading.{newlines, HasTokens, IsStuck, Lexes, OneReading, ReadOrStuck};
+ghost use Rattle.vlog_lex.specs.Reading.{newlines, HasTokens, IsStuck, Lexes, OneReading, OneStuckLine, ReadOrStuck};
 
 use crate::error::LexError;
 use crate::gap::gap_len;
@@ -37,8 +37,8 @@ fn token_of(alloc: Global, kind: TokenKind, text: &[u8], line: u32) -> Result<To
 
 /// The tokens of a design text, without white space and comments (IEEE 1364-2005, clause 3).
 ///
-/// `Word` comes exactly where at some place neither a token nor white space nor a comment begins,
-/// `Memory` where no memory was found. Each byte is read a bounded number of times.
+/// `Word` comes exactly where at some place neither a token nor white space nor a comment begins, with the
+/// line of that place, 1 plus the newlines before it; `Memory` where no memory was found. Each byte is read a bounded number of times.
 pub fn lex(alloc: Global, bytes: &[u8]) -> Result<Tokens, LexError>
     requires { length bytes.now < 2 ^ 31 }
     ensures answer { Lexes bytes.now result }
@@ -56,7 +56,7 @@ pub fn lex(alloc: Global, bytes: &[u8]) -> Result<Tokens, LexError>
             rest = &rest[gap..];
         } else {
             let Some((kind, len)) = next_token(rest) else {
-                return Err(LexError::Word { line: 0 });
+                return Err(LexError::Word { line });
             };
             let token = token_of(alloc, kind, &rest[..len], line)?;
             tokens.push(token)?;
@@ -88,6 +88,11 @@ pub fn is_token(kind: TokenKind, text: &[u8]) -> bool
 /// No text has two lists of tokens.
 pub fn one_reading()
     ensures { OneReading }
+{}
+
+/// A text is refused for one line.
+pub fn one_stuck_line()
+    ensures { OneStuckLine }
 {}
 
 /// No text both has tokens and is refused.

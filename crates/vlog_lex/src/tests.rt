@@ -95,21 +95,24 @@ const CASES: [(&str, &[(TokenKind, &str, u32)]); 15] = [
     ("`default_nettype none", &[]),
 ];
 
-const REFUSED: [&str; 14] = [
-    "4'hx",
-    "8'd",
-    "8'd_9",
-    "a $b",
-    "/*/",
-    "a /* b *",
-    "a / b",
-    "`timescalex",
-    "`timescale1",
-    "` timescale",
-    "`define",
-    "\"a\"",
-    "% 1",
-    "é",
+// A text that is refused, and the line of the place at which nothing begins.
+const REFUSED: [(&str, u32); 16] = [
+    ("4'hx", 1),
+    ("8'd", 1),
+    ("8'd_9", 1),
+    ("a $b", 1),
+    ("/*/", 1),
+    ("a\n /* b *\n", 2),
+    ("a / b", 1),
+    ("`timescalex", 1),
+    ("`timescale1", 1),
+    ("` timescale", 1),
+    ("`define", 1),
+    ("\"a\"", 1),
+    ("% 1", 1),
+    ("é", 1),
+    ("a /* \n\n */ //\n%\n", 4),
+    ("`timescale 1\n\n\n8'hz", 4),
 ];
 
 fn expect_tokens(
@@ -175,11 +178,11 @@ fn texts_have_the_longest_tokens(rt: HostRuntime) -> Result<(), Fail> {
 
 #[test]
 fn a_text_is_refused_where_no_token_begins(rt: HostRuntime) {
-    for text in REFUSED {
+    for (text, line) in REFUSED {
         assert!(rt; text.len() < 10000);
-        let answer = lex(rt.alloc(), text.as_bytes());
+        let word = LexError::Word { line };
         assert!(rt;
-            matches!(answer, Err(LexError::Word { line: 0 })),
+            lex(rt.alloc(), text.as_bytes()).err() == Some(word),
             "{text:?}"
         );
     }

@@ -70,6 +70,7 @@ const FILES: [(&str, &str); 15] = [
     ),
 ];
 
+// Texts of one line that are no file.
 const REFUSED: [&str; 38] = [
     "",
     ";",
@@ -300,7 +301,38 @@ fn refusal(alloc: Global, text: &str) -> Result<Option<ParseError>, Fail> {
 #[test]
 fn no_files(rt: HostRuntime) -> Result<(), Fail> {
     for text in REFUSED {
-        let item = ParseError::Item { line: 0 };
+        let item = ParseError::Item { line: 1 };
+        assert!(rt; refusal(rt.alloc(), text)? == Some(item), "{text}");
+    }
+    Ok(())
+}
+
+// Texts that are no file, and the line of the first token behind their whole units.
+const LINES: [(&str, u32); 12] = [
+    ("\n\n;", 3),
+    ("module m(\ninput a;\nendmodule", 1),
+    ("module m(a);\nendmodule", 1),
+    ("module m();\nwire a;\n", 2),
+    ("module m();\nwire a;\nassign a =\n\n;\nendmodule", 3),
+    ("module m();\nwire if;\nendmodule", 2),
+    ("module m();\nwire a;\nelse\nendmodule", 3),
+    (
+        "module m();\nalways @(posedge k)\na = b;\nelse a = c;\nendmodule",
+        2,
+    ),
+    (
+        "module m();\nalways @(posedge k)\nif (a) ; else ;\nwire w;\nelse",
+        5,
+    ),
+    ("module m();\nalways @(posedge k) ;", 2),
+    ("module m();\nendmodule\n\nx", 4),
+    ("module m();\nendmodule\nmodule n(\n\n", 3),
+];
+
+#[test]
+fn a_text_is_refused_behind_its_units(rt: HostRuntime) -> Result<(), Fail> {
+    for (text, line) in LINES {
+        let item = ParseError::Item { line };
         assert!(rt; refusal(rt.alloc(), text)? == Some(item), "{text}");
     }
     Ok(())
@@ -339,26 +371,23 @@ fn files_have_their_tokens(rt: HostRuntime) -> Result<(), Fail> {
     Ok(())
 }
 
-// So many times a hundred `if`s within one another, of which each hundred ends with an empty body.
-fn nested(alloc: Global, hundreds: usize) -> Result<Vec<u8>, AllocError> {
+// So many `if`s within one another, of which each hundred ends with an empty body.
+fn nested(alloc: Global, count: usize) -> Result<Vec<u8>, AllocError> {
     let mut text = Vec::new(alloc);
     put(&mut text, b"module m(); always @(posedge k) ")?;
-    for hundred in 0..hundreds {
-        if hundred > 0 {
-            put(&mut text, b"else ")?;
+    for number in 0..count {
+        if number > 0 && number % 100 == 0 {
+            put(&mut text, b"; else ")?;
         }
-        for _ in 0..100 {
-            put(&mut text, b"if (a) ")?;
-        }
-        put(&mut text, b"; ")?;
+        put(&mut text, b"if (a) ")?;
     }
-    put(&mut text, b"endmodule")?;
+    put(&mut text, b"; endmodule")?;
     Ok(text)
 }
 
 // Whether so many `if`s within one another are read, and else want of memory is answered.
-fn fits(alloc: Global, hundreds: usize) -> Result<Option<bool>, Fail> {
-    let text = nested(alloc, hundreds)?;
+fn fits(alloc: Global, count: usize) -> Result<Option<bool>, Fail> {
+    let text = nested(alloc, count)?;
     if text.len() >= 100_000 {
         return Ok(None);
     }
@@ -372,8 +401,8 @@ fn fits(alloc: Global, hundreds: usize) -> Result<Option<bool>, Fail> {
 
 #[test]
 fn statements_within_one_another(rt: HostRuntime) -> Result<(), Fail> {
-    for (hundreds, read) in [(20, true), (21, false), (100, false)] {
-        assert!(rt; fits(rt.alloc(), hundreds)? == Some(read), "{hundreds}");
+    for (count, read) in [(2048, true), (2049, false), (10_000, false)] {
+        assert!(rt; fits(rt.alloc(), count)? == Some(read), "{count}");
     }
     Ok(())
 }

@@ -1,5 +1,5 @@
-use Rattle.std.proofs.Common.{sym, ◌∙◌, refl}
-use Rattle.vlog_lex.proofs.Readings.{reads_gap, reads_token, reads_all, reads_stuck, shorter, one_answer, not_both}
+use Rattle.std.proofs.Common.{sym, ◌∙◌}
+use Rattle.vlog_lex.proofs.Readings.{reads_gap, reads_token, reads_all, reads_stuck, reads_stuck_on, shorter, one_answer, not_both}
 use Rattle.vlog_lex.proofs.lexer.lex.Goals as goal
 
 pub loop-rest-preserved-then-gap-gt0 : goal.loop-rest-preserved-then-gap-gt0
@@ -15,7 +15,7 @@ loop-rest-smaller c = shorter c.loop-rest.rest.now c.in-Some.len c.in-Some.kind 
 
 pub returns-in_default-clause-answer : goal.returns-in_default-clause-answer
 returns-in_default-clause-answer c =
-    (refl, reads_stuck c.args.bytes.now c.loop-rest.rest.now c.loop-rest.tokens c.loop-rest.line c.gap_len-gap.result c.loop-rest.invariant (sym c.is_empty.ensures ∙ c.loop-rest-test.true) c.gap_len-gap.ensures c.if-gap-gt0.false c.in_default.ensures)
+    reads_stuck_on c.args.bytes.now c.loop-rest.rest.now c.loop-rest.tokens c.loop-rest.line c.gap_len-gap.result c.loop-rest.invariant (sym c.is_empty.ensures ∙ c.loop-rest-test.true) c.gap_len-gap.ensures c.if-gap-gt0.false c.in_default.ensures
 
 pub returns-in_default-clause-only : goal.returns-in_default-clause-only
 returns-in_default-clause-only c = λ tokens has.
