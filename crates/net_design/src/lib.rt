@@ -9,6 +9,7 @@
 
 mod act;
 mod bit_map;
+mod block;
 mod code_bits;
 mod counts;
 mod design;
@@ -23,6 +24,7 @@ mod statement;
 mod values;
 
 pub use act::{Act, Code, Guard, Lhs, Mask, Place, Timing};
+pub use block::Block;
 pub use design::{
     Counts, Design, DesignMemory, Direction, Driver, Instance, Net, Port, Register,
 };
