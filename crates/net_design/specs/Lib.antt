@@ -10,3 +10,4 @@ pub mod Names
 pub mod Lawful
 pub mod Moved
 pub mod Example
+pub mod Pins
