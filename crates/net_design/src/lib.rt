@@ -24,14 +24,10 @@ mod statement;
 mod values;
 
 pub use act::{Act, Code, Guard, Lhs, Mask, Place, Timing};
-<<<<<<< HEAD
-pub use design::{Counts, Design, DesignMemory, Direction, Driver, Instance, Net, Port, Register};
-=======
 pub use block::Block;
 pub use design::{
     Counts, Design, DesignMemory, Direction, Driver, Instance, Net, Port, Register,
 };
->>>>>>> tmp-order
 pub use laws::{
     assignment_is_equation, blocks_in_order, choice_by_lists, initial_is_state, last_update_stands,
     lawful_design_shown, lawful_is_sized, next_is_state, target_is_equation, unwritten_bits_stay,
