@@ -1,9 +1,12 @@
 -- The number of each operator (IEEE 1364-2005, clause 5.1), at a width of w bits.
 use Rattle.std.specs.Prelude.{ℕ, ◌+◌, ◌*◌, ◌/◌, ◌%◌, ◌^◌, ◌-◌, ◌==◌, ◌&&◌, ◌||◌, not, nat_lt, nat_le, bit_and, bit_or, bit_xor, count_ones}
 use Rattle.vlog_operators.specs.declared.operators.UnaryOp.{UnaryOp}
-use Rattle.vlog_operators.specs.declared.operators.UnaryOp.TheVariants.{Negate, Complement, LogicalNot, ReduceAnd, ReduceNand, ReduceOr, ReduceNor, ReduceXor, ReduceXnor}
+use Rattle.vlog_operators.specs.declared.operators.UnaryOp.TheVariants.{Negate, Complement, LogicalNot, ReduceAnd, ReduceNand, ReduceOr}
+use Rattle.vlog_operators.specs.declared.operators.UnaryOp.TheVariants.{ReduceNor, ReduceXor, ReduceXnor}
 use Rattle.vlog_operators.specs.declared.operators.BinaryOp.{BinaryOp}
-use Rattle.vlog_operators.specs.declared.operators.BinaryOp.TheVariants.{Add, Subtract, Multiply, And, Or, Xor, Xnor, ShiftLeft, ShiftRight, Less, LessEqual, Greater, GreaterEqual, Equal, NotEqual, LogicalAnd, LogicalOr}
+use Rattle.vlog_operators.specs.declared.operators.BinaryOp.TheVariants.{Add, Subtract, Multiply, And, Or, Xor, Xnor, ShiftLeft}
+use Rattle.vlog_operators.specs.declared.operators.BinaryOp.TheVariants.{ShiftRight, Less, LessEqual, Greater, GreaterEqual, Equal}
+use Rattle.vlog_operators.specs.declared.operators.BinaryOp.TheVariants.{NotEqual, LogicalAnd, LogicalOr}
 use Rattle.vlog_operators.specs.Number.{difference, complement, truth}
 
 -- 5.1.5 arithmetic, 5.1.9 logical, 5.1.10 bit-wise, 5.1.11 reductions of an operand of w bits

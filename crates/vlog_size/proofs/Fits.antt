@@ -1,6 +1,6 @@
 -- Numbers that fit a width.
-use Rattle.std.proofs.Common.{◌≡◌, ℕ, ◌+◌, ◌%◌, ◌^◌, ◌<◌, ◌≤◌, ◌==◌, max, Bool, true, false, ◌&&◌, nat_le, if◌then◌else◌}
-use Rattle.std.proofs.Common.{Option, None, Some, is_none, List, [], ◌∷◌, refl, ap, sym, ◌∙◌, subst, arith, add_assoc, add-zero}
+use Rattle.std.proofs.Common.{◌≡◌, ℕ, ◌+◌, ◌^◌, ◌<◌, ◌≤◌, Bool, true, false, ◌&&◌, if◌then◌else◌}
+use Rattle.std.proofs.Common.{Option, None, Some, List, [], ◌∷◌, refl, sym, subst, arith, add-zero}
 use Rattle.std.proofs.Math.Pow.{pow_mono}
 use Rattle.std.proofs.lemmas.Grind.{common_steps}
 use Rattle.vlog_operators.specs.Number.{IsWidth, side_by_side}
@@ -10,8 +10,7 @@ use Rattle.vlog_tree.specs.declared.expr.UnaryOp.{UnaryOp}
 use Rattle.vlog_tree.specs.declared.expr.UnaryOp.TheVariants as unary
 use Rattle.vlog_tree.specs.declared.expr.BinaryOp.{BinaryOp}
 use Rattle.vlog_tree.specs.declared.expr.BinaryOp.TheVariants as binary
-use Rattle.vlog_size.specs.declared.operators.Kind.{Kind}
-use Rattle.vlog_size.specs.declared.operators.Kind.TheVariants.{Sum, Comparison, Logic, Shift}
+use Rattle.vlog_size.specs.declared.operators.Kind.TheVariants.{Comparison, Logic, Shift}
 use Rattle.vlog_size.specs.Literal.{is_lawful}
 use Rattle.vlog_size.specs.Operators.{kind_of, is_wide, unary_value, binary_value, operator_of}
 use Rattle.vlog_size.specs.Size.{Sizes, of_one, of_two, own_width, join_with, joined, total_width}

@@ -1,10 +1,10 @@
 -- The parts of a concatenation so far have no number.
-use Rattle.std.proofs.Common.{◌≡◌, ℕ, ◌+◌, ◌<◌, Bool, true, false, Option, Some, None, List, [], ◌∷◌, length, drop, suc, get_or}
+use Rattle.std.proofs.Common.{◌≡◌, ℕ, ◌+◌, ◌<◌, Option, Some, None, List, [], ◌∷◌, length, drop, suc, get_or}
 use Rattle.std.proofs.Common.{drop-cons, ap, sym, ◌∙◌, refl}
 use Rattle.vlog_tree.specs.declared.expr.Expr.{Expr}
 use Rattle.vlog_tree.specs.Plain.{plain_expr, plain_exprs}
 use Rattle.vlog_size.specs.Names.{Readable}
-use Rattle.vlog_size.specs.Size.{Sizes, sizes_of, sizes_of_all, own_width, join_with, joined, joined_at, concat_own_width, concat_value}
+use Rattle.vlog_size.specs.Size.{Sizes, sizes_of, sizes_of_all, own_width, join_with, joined, joined_at}
 
 no_join : (before : ℕ) (p : Sizes) (v : Option ℕ) → join_with before None p v ≡ None
 no_join before p None = refl

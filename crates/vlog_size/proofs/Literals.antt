@@ -1,5 +1,5 @@
 -- A literal without a fault has a lawful width, and a number that fits it.
-use Rattle.std.proofs.Common.{◌≡◌, ℕ, ◌%◌, ◌^◌, ◌<◌, ◌≤◌, Bool, true, false, ◌&&◌, ◌||◌, not, if◌then◌else◌, Option, None, Some, is_none}
+use Rattle.std.proofs.Common.{◌≡◌, ℕ, ◌%◌, ◌^◌, ◌≤◌, Bool, true, false, ◌&&◌, ◌||◌, not, if◌then◌else◌, Option, None, Some, is_none}
 use Rattle.std.proofs.Common.{List, refl, arith}
 use Rattle.std.proofs.Math.Pow.{pow_mono}
 use Rattle.vlog_operators.proofs.Below.{rest_below}

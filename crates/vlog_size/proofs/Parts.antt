@@ -1,10 +1,10 @@
 -- Of parts without a fault: what a concatenation and a select make of their widths and numbers.
-use Rattle.std.proofs.Common.{◌≡◌, ◌≤◌, ◌<◌, ◌+◌, ◌^◌, arith, ℕ, Bool, true, false, ◌&&◌, not, if◌then◌else◌, Option, None, Some, is_none}
+use Rattle.std.proofs.Common.{◌≡◌, ◌≤◌, ◌+◌, arith, ℕ, Bool, true, false, ◌&&◌, not, if◌then◌else◌, Option, None, Some, is_none}
 use Rattle.std.proofs.Common.{List, [], ◌∷◌, ◌++◌, refl}
 use Rattle.vlog_size.specs.declared.error.SizeError.TheVariants as error
 use Rattle.vlog_size.specs.Literal.{is_lawful}
 use Rattle.vlog_size.specs.Size.{Sizes, own_width, number, reaches, all_constant, all_lawful, total_width, sum_fault, unsized_part}
-use Rattle.vlog_size.specs.Size.{parts_const_faults, parts_width_faults, joined, join_with, joined_at, concat_own_width, concat_value}
+use Rattle.vlog_size.specs.Size.{parts_const_faults, parts_width_faults, joined, join_with, joined_at}
 use Rattle.vlog_size.specs.Size.{of_concat, Bracket, NoBracket, Bit, Part, Indexed, part_width, part_const_faults, part_fault}
 use Rattle.vlog_size.specs.Size.{part_width_faults, outside, too_large, wrong_order, is_wrong_order, is_wrong_part, bounds_width, or_zero}
 use Rattle.vlog_size.proofs.Lists.{nil_left, nil_right, untold, never, left_of, right_of, both_of, so, bounds_lawful}

@@ -12,7 +12,7 @@ use Rattle.vlog_size.specs.Literal.{is_lawful}
 use Rattle.vlog_size.specs.Operators.{kind_of, is_plain_op, is_wide, whole_value, binary_value, unary_value}
 use Rattle.vlog_size.specs.Size.{Sizes, own, own_width, at_width, number, is_sound, of_one, of_two, binary_width, operated, compared}
 use Rattle.vlog_size.specs.Size.{shared_width}
-use Rattle.vlog_size.specs.Size.{of_binary, is_out, is_bad_operator, is_plain_binary, is_bad_binary, wide_value, narrow_value, of_sign}
+use Rattle.vlog_size.specs.Size.{of_binary, is_out, is_bad_operator, is_bad_binary, wide_value, narrow_value, of_sign}
 use Rattle.vlog_size.specs.Size.{chosen_value, chosen_whole, of_choice, of_paren}
 use Rattle.vlog_size.proofs.Fits.{Below, below_none, wide_fits, narrow_fits, sum_fits, comparison_fits, logic_fits, shift_fits}
 use Rattle.vlog_size.proofs.Lists.{nil_left, nil_right, untold, both_nil, never, left_of, right_of, both_of, larger_lawful}

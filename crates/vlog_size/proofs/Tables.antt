@@ -1,14 +1,14 @@
 -- Tables as lists of names and values.
 use Rattle.std.proofs.Common.{◌≡◌, ℕ, zero, suc, ◌+◌, ◌<◌, ◌≤◌, Bool, true, false, not, nat_eq, nat_lt, cond, if◌then◌else◌, Option, Some}
 use Rattle.std.proofs.Common.{None, is_some}
-use Rattle.std.proofs.Common.{List, [], ◌∷◌, ◌++◌, map, take, length, position, slice_get, refl, ap, sym, ◌∙◌, arith}
+use Rattle.std.proofs.Common.{List, [], ◌∷◌, ◌++◌, take, length, position, slice_get, refl, ap, sym, ◌∙◌, arith}
 use Rattle.std.specs.List.{position_or_len}
 use Rattle.std.specs.Global.{Vec}
 use Rattle.std.specs.Str.{bytes_eq}
 use Rattle.std.specs.Map.{lookup, keys_of}
 use Rattle.std.specs.Cmp.Lexicographic.{pointwise}
 use Rattle.indexmap.specs.IndexMap.{insert_entry}
-use Rattle.vlog_size.specs.Table.{Named, named, value_of, place_of, added}
+use Rattle.vlog_size.specs.Table.{named, value_of, place_of, added}
 
 -- whether a key is this name
 abbrev pub is_name : List ℕ → Vec ℕ → Bool

@@ -1,5 +1,4 @@
-use Rattle.std.proofs.Common.{◌≡◌, ◌∙◌, sym, ap, take}
-use Rattle.vlog_size.specs.Table.{value_of, named}
+use Rattle.std.proofs.Common.{sym}
 use Rattle.vlog_size.proofs.Tables.{at_front, at_back, nowhere}
 use Rattle.vlog_size.proofs.table.Table.get_among.Goals as goal
 

@@ -1,4 +1,4 @@
-use Rattle.std.proofs.Common.{◌≡◌, ◌∙◌, sym, ap, is_some, true, false, None}
+use Rattle.std.proofs.Common.{◌≡◌, ◌∙◌, sym, ap, is_some, true, false}
 use Rattle.std.specs.Map.{lookup}
 use Rattle.vlog_size.proofs.Tables.{is_name, pushed, kept, not_there}
 use Rattle.vlog_size.proofs.table.Table.push.Goals as goal
