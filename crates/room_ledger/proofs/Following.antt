@@ -1,5 +1,5 @@
 -- The ledger follows *Gates* from row to row.
-use Rattle.std.proofs.Common.{◌≡◌, ◌≢◌, ◌⊎◌, ℕ, zero, suc, ◌+◌, ◌-◌, ◌*◌, ◌<◌, ◌≤◌, ◌^◌, ◌&&◌, ◌||◌, ◌==◌, Bool, true, false, not, cond, min, max, List, [], ◌∷◌, ◌++◌, map, Option, Some, None, length, take, get_or, slice_get, sum_by, bit_and, refl, ap, sym, subst, ◌∙◌, ⊎_elim, arith, length-append}
+use Rattle.std.proofs.Common.{◌≡◌, ◌≢◌, ◌⊎◌, ℕ, zero, suc, ◌+◌, ◌-◌, ◌*◌, ◌<◌, ◌≤◌, ◌^◌, ◌&&◌, ◌||◌, ◌==◌, Bool, true, false, not, cond, min, max, List, [], ◌∷◌, ◌++◌, map, Option, Some, None, length, take, get_or, slice_get, sum_by, bit_and, bit_or, refl, ap, sym, subst, ◌∙◌, ⊎_elim, arith, length-append}
 use Rattle.std.proofs.lemmas.List.{length-map}
 use Rattle.std.specs.Prelude.{IsSomeAnd}
 use Rattle.std.specs.Int.{bit_at}
@@ -20,7 +20,8 @@ use Rattle.room_ledger.specs.Reservation.{AreRaised, event_len, sizes_under}
 use Rattle.room_ledger.specs.Gates.{Plan, left, row_len, used_at, all_up, keeps, AreGates}
 use Rattle.room_ledger.specs.Ledger.{Ledger, MayEmit, Emitted, Regranted, fresh}
 use Rattle.room_ledger.specs.Laws.{StandsAfter, MayFollow, KeepsGates}
-use Rattle.room_ledger.proofs.Masks.{has-zero}
+use Rattle.room_ledger.proofs.GateLaws.{some-row}
+use Rattle.room_ledger.proofs.Masks.{has-or, has-zero}
 
 -- ---- the bytes used in a row depend on the rows before it
 pub used-front : (sizes : List ℕ) (plan : Plan) (rows more : List Row) (t : ℕ) → t ≤ length rows → used_at sizes plan (rows ++ more) t ≡ used_at sizes plan rows t
@@ -139,6 +140,64 @@ module _ (sizes : List ℕ) (plan : Plan) (rows : List Row) (row : Row) (l : Led
         ∙ in-flight-or-starts (sink_valid row c) (has row.readies c) (flies_after (row_before rows (length rows)) c) done;
   }
 
+-- ---- a row for each lawful call
+in-flight-kept : (v g f : Bool) → ((v && g) && not f) ≡ true → (g && not f) ≡ true
+in-flight-kept true g f h = h
+in-flight-kept false g f h = absurd (cc)
+
+-- what is in flight after the row before has its gate up
+flies-up : (sizes : List ℕ) (plan : Plan) (rows : List Row) (t gates : ℕ) → AreGates sizes plan rows t gates → (c : ℕ) → flies_after (row_before rows t) c ≡ true → has gates c ≡ true
+flies-up sizes plan rows zero gates is c h = absurd (cc)
+flies-up sizes plan rows (suc t) gates is c h =
+    let before = some-row (λ row. AreRaised sizes plan.capacity (used_at sizes plan rows (suc t)) (keeps row) (is_in_flight row) (has gates)) (slice_get rows t) is in
+    let flies : is_in_flight before.0 c ≡ true = ap (λ (o : Option Row). flies_after o c) (sym before.1) ∙ h in
+    before.2.stay c (in-flight-kept (has before.0.valids c) (has before.0.gates c) (completes before.0 c) flies)
+
+shown-start : (f s g : Bool) → (s ≡ true → (g ≡ true) × (f ≡ false)) → s ≡ (((f || s) && g) && not f)
+shown-start true true g start = absurd (let x = (start refl).1 in cc)
+shown-start true false true start = refl
+shown-start true false false start = refl
+shown-start false true true start = refl
+shown-start false true false start = absurd (let x = (start refl).0 in cc)
+shown-start false false g start = refl
+
+none-and : (a : Bool) → (a && false) ≡ false
+none-and true = refl
+none-and false = refl
+
+shown-end : (f s g e : Bool) → (e ≡ true → (f || s) ≡ true) → (s ≡ true → (g ≡ true) × (f ≡ false)) → (f ≡ true → g ≡ true) → e ≡ (((f || s) && g) && e)
+shown-end f s g false complete start up = sym (none-and ((f || s) && g))
+shown-end true s true true complete start up = refl
+shown-end true s false true complete start up = absurd (let x = up refl in cc)
+shown-end false true true true complete start up = refl
+shown-end false true false true complete start up = absurd (let x = (start refl).0 in cc)
+shown-end false false g true complete start up = absurd (let x = complete refl in cc)
+
+shown-stays : (f s g : Bool) → (f ≡ true → g ≡ true) → f ≡ true → ((f || s) && g) ≡ true
+shown-stays true s g up h = up refl
+shown-stays false s g up h = absurd (cc)
+
+shown : (sizes : List ℕ) (plan : Plan) (rows : List Row) (l : Ledger) (starts ends : ℕ) → StandsAfter sizes plan rows l → MayEmit l starts ends
+    → (row : Row) × (row.starts ≡ starts) × (row.ends ≡ ends) × MayFollow l (row_before rows (length rows)) row
+shown sizes plan rows l starts ends stands may =
+    let before = row_before rows (length rows) in
+    let row : Row = record { gates = l.gates; valids = bit_or l.flying starts; readies = ends; contents = []; starts = starts; ends = ends } in
+    let up : (c : ℕ) → has l.flying c ≡ true → has l.gates c ≡ true = λ c h. flies-up sizes plan rows (length rows) l.gates stands.gates c (sym (stands.flying c) ∙ h) in
+    let valid : (c : ℕ) → sink_valid row c ≡ ((has l.flying c || has starts c) && has l.gates c) = λ c. ap (λ v. v && has l.gates c) (has-or l.flying starts c) in
+    (row, refl, refl, record {
+      gates = refl;
+      marked = record {
+        starts = λ c.
+            shown-start (has l.flying c) (has starts c) (has l.gates c) (may.start c)
+            ∙ ap (λ v. v && not (has l.flying c)) (sym (valid c))
+            ∙ ap (λ f. sink_valid row c && not f) (stands.flying c);
+        ends = λ c.
+            shown-end (has l.flying c) (has starts c) (has l.gates c) (has ends c) (may.complete c) (may.start c) (up c)
+            ∙ ap (λ v. v && has ends c) (sym (valid c));
+      };
+      stays = λ c h. valid c ∙ shown-stays (has l.flying c) (has starts c) (has l.gates c) (up c) (stands.flying c ∙ h);
+    })
+
 pub keeps-gates : (sizes : List ℕ) (plan : Plan) → KeepsGates sizes plan
 keeps-gates sizes plan = record {
   first = record {
@@ -149,6 +208,7 @@ keeps-gates sizes plan = record {
     flying = has-zero;
   };
   lawful = λ rows row l stands follows. may-emit sizes plan rows row l stands follows;
+  shown = λ rows l starts ends stands may. shown sizes plan rows l starts ends stands may;
   next = λ rows row l emitted new stands follows is again. stands-next sizes plan rows row l emitted new stands follows is again;
 }
 

@@ -38,7 +38,7 @@ channel-at sizes c l = ⊎_elim
     (slice_get_cases sizes c).1
 
 -- the row before, where the gates are those of a row
-some-row : (P : Row → Type 0) (o : Option Row) → IsSomeAnd o P → (row : Row) × (o ≡ Some row) × P row
+pub some-row : (P : Row → Type 0) (o : Option Row) → IsSomeAnd o P → (row : Row) × (o ≡ Some row) × P row
 some-row P None h = absurd h
 some-row P (Some row) h = (row, refl, h)
 

@@ -24,10 +24,13 @@ pub record MayFollow (l : Ledger) (before : Option Row) (row : Row) : Type 0 whe
   pub marked : IsMarked before row
   pub stays : (c : ℕ) → flies_after before c ≡ true → sink_valid row c ≡ true
 
--- Over every list of rows, `emit`, `drain` and `regrant` after each of them keep the ledger at *Gates*, and each `emit` is a lawful one.
+-- Over every list of rows, `emit`, `drain` and `regrant` after each of them keep the ledger at *Gates*. Each row's `emit` is lawful,
+-- and each lawful `emit` is that of a row.
 pub record KeepsGates (sizes : List ℕ) (plan : Plan) : Type 0 where
   pub first : StandsAfter sizes plan [] (fresh sizes plan.capacity)
   pub lawful : (rows : List Row) (row : Row) (l : Ledger) → StandsAfter sizes plan rows l → MayFollow l (row_before rows (length rows)) row → MayEmit l row.starts row.ends
+  pub shown : (rows : List Row) (l : Ledger) (starts ends : ℕ) → StandsAfter sizes plan rows l → MayEmit l starts ends
+      → (row : Row) × (row.starts ≡ starts) × (row.ends ≡ ends) × MayFollow l (row_before rows (length rows)) row
   pub next : (rows : List Row) (row : Row) (l emitted new : Ledger) → StandsAfter sizes plan rows l → MayFollow l (row_before rows (length rows)) row
       → Emitted l row.starts row.ends emitted
       → Regranted (record emitted { used = left (plan.allowance (length rows)) emitted.used }) new

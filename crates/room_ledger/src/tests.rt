@@ -1,3 +1,6 @@
+ghost use Rattle.std.specs.Prelude.{◌≡◌, IfOk, length, sum_by};
+ghost use Rattle.trace_model.specs.Channel.{content_bytes};
+
 use crate::error::RoomError;
 use crate::room::Room;
 use std::alloc::Global;
@@ -5,21 +8,22 @@ use std::test::Fail;
 use trace_model::{Channel, Channels, Dir};
 use vidi_bits::Bytes;
 
-fn channel(alloc: Global, dir: Dir, name: u8) -> Result<Channel, Fail> {
-    Ok(Channel {
-        dir,
-        name: Bytes::from_vec(vec![in alloc; name]?),
-        widths: Bytes::from_vec(vec![in alloc; 8u8]?),
-    })
+fn channel(alloc: Global, dir: Dir, name: u8) -> Result<Channel, Fail>
+    ensures { IfOk result (λ c. content_bytes c ≡ 1) }
+{
+    let name = Bytes::from_vec(vec![in alloc; name]?);
+    let widths = Bytes::from_vec(vec![in alloc; 8u8]?);
+    Ok(Channel { dir, name, widths })
 }
 
 // A channel a into the design and a channel b out of it, of one port of 8 bits each: a head is 3 bytes
 // long, and each channel needs 7.
-fn pass(alloc: Global) -> Result<Channels, Fail> {
-    let mut channels = Channels::new(alloc);
-    channels.push(channel(alloc, Dir::Inward, b'a')?)?;
-    channels.push(channel(alloc, Dir::Outward, b'b')?)?;
-    Ok(channels)
+fn pass(alloc: Global) -> Result<Channels, Fail>
+    ensures { IfOk result (λ channels. (length channels ≡ 2) × (sum_by content_bytes channels ≡ 2)) }
+{
+    let a = channel(alloc, Dir::Inward, b'a')?;
+    let b = channel(alloc, Dir::Outward, b'b')?;
+    Ok(Channels::from_vec(vec![in alloc; a, b]?))
 }
 
 // In cycle 0 a starts and completes, in cycle 1 both start and b completes, in cycle 2 a completes, and
