@@ -21,10 +21,7 @@ use Rattle.net_design.specs.Names.{net_names}
 use Rattle.net_design.specs.Lawful.{IsLawful, is_span, is_room, IsCode, IsDriver, IsClocked, IsRegister, IsBit, is_input}
 use Rattle.net_design.specs.Example.{net_of, four_words, pair, copies, stores, assigned, combined, example, driven_twice, not_driven}
 use Rattle.net_design.specs.Example.{held_driven, stray_initial, named_twice}
-
-by_true : (b : Bool) → (b ≡ true → ⊥) → b ≡ false
-by_true true h = absurd (h refl)
-by_true false h = refl
+use Rattle.net_design.proofs.BoolLaws.{by_true}
 
 -- the number 3 has the bits 0 and 1
 two_bits : (k : ℕ) → has 3 k ≡ nat_lt k 2

@@ -16,10 +16,7 @@ use Rattle.net_design.specs.Updates.{written_to, apply}
 use Rattle.net_design.specs.Last.{touches, last_bit, bit_of, IsThere, HasLast, IsNarrow}
 use Rattle.net_design.proofs.FrameLaws.{written_stays}
 use Rattle.net_design.proofs.StateLaws.{written_long, applied_long, set_narrow, nets_narrow}
-
-and_parts : (a b : Bool) → (a && b) ≡ true → (a ≡ true) × (b ≡ true)
-and_parts true b h = (refl, h)
-and_parts false b h = absurd cc
+use Rattle.net_design.proofs.BoolLaws.{and_parts}
 
 -- nets and words in each other's place
 abbrev turned : Values → Values

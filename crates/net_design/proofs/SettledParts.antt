@@ -12,6 +12,7 @@ use Rattle.net_design.specs.declared.values.Values.{Values}
 use Rattle.vlog_operators.specs.Number.{has}
 use Rattle.net_design.specs.Updates.{run}
 use Rattle.net_design.specs.Settled.{IsSettled, FitNets, pins_of, held}
+use Rattle.net_design.proofs.BoolLaws.{and_parts, and_both}
 
 -- the two lists of numbers have the same bits of a register
 abbrev SameBits : List ℕ → List ℕ → Register → Type 0
@@ -19,13 +20,6 @@ SameBits v s r = (k : ℕ) → has r.held k ≡ true → bit_at (slice_index v r
 
 abbrev SameHeld : Design → List ℕ → List ℕ → Type 0
 SameHeld d v s = (m k : ℕ) → held d m k ≡ true → bit_at (slice_index v m) k ≡ bit_at (slice_index s m) k
-
-and_parts : (a b : Bool) → (a && b) ≡ true → (a ≡ true) × (b ≡ true)
-and_parts true b h = (refl, h)
-and_parts false b h = absurd cc
-
-and_both : (a b : Bool) → a ≡ true → b ≡ true → (a && b) ≡ true
-and_both a b h k = rw h k
 
 by_registers : (d : Design) (v s : List ℕ) → All (SameBits v s) d.registers → SameHeld d v s
 by_registers d v s all m k h =

@@ -41,22 +41,7 @@ use Rattle.net_design.specs.Settled.{net_width, held, word_count, FitNets, clock
 use Rattle.net_design.specs.Lawful.{IsLawful, IsClocked, IsRegister, IsInRange, IsState, is_span, is_room}
 use Rattle.net_design.proofs.LawfulCode.{net_width_le, slice_get-at}
 use Rattle.net_design.proofs.FrameLaws.{touched, touches_at, block_touch, applied_stays, set_past, same_or_other}
-
-by_true : (b : Bool) → (b ≡ true → ⊥) → b ≡ false
-by_true true h = absurd (h refl)
-by_true false h = refl
-
-both : (a b : Bool) → (a && b) ≡ true → (a ≡ true) × (b ≡ true)
-both true b h = (refl, h)
-both false b h = absurd cc
-
-neither : (a b : Bool) → (a || b) ≡ false → (a ≡ false) × (b ≡ false)
-neither true b h = absurd cc
-neither false b h = (refl, h)
-
-not_both : (b : Bool) → b ≡ true → b ≡ false → ⊥
-not_both true h k = absurd cc
-not_both false h k = absurd cc
+use Rattle.net_design.proofs.BoolLaws.{by_true, and_parts, or_parts, not_both}
 
 -- a number without a bit from w on is below 2 to the power of w
 pub fits_by_bits : (n w : ℕ) → ((k : ℕ) → w ≤ k → bit_at n k ≡ 0) → n < 2 ^ w
@@ -80,7 +65,7 @@ held_below : (d : Design) → IsLawful d → (m k : ℕ) → held d m k ≡ true
 held_below d law m k h =
     let found = Any-from_list_any _ d.registers h in
     let r : Register = found.1 in
-    let t = both _ _ found.4 in
+    let t = and_parts _ _ found.4 in
     let here : r.net ≡ m = eqb-true _ _ t.0 in
     let one : bit_at r.held k ≡ 1 = eqb-true _ _ t.1 in
     let register : IsRegister d r = subst (IsRegister d) found.3 (law.registers found.0 r found.2) in
@@ -116,7 +101,7 @@ initial_rest : (rs : List Register) → ((i : ℕ) (r : Register) → slice_get 
     → list_any (λ (r : Register). (r.net == m) && has r.held k) rs ≡ false → bit_at (initial_number rs m) k ≡ 0
 initial_rest [] all m k h = bit_at_above 0 0 k (omega arith) (omega arith)
 initial_rest (r ∷ rest) all m k h =
-    let parts = neither ((r.net == m) && has r.held k) _ h in
+    let parts = or_parts ((r.net == m) && has r.held k) _ h in
     either_number (r.net == m) (has r.held k) r.initial (initial_number rest m) k
     (λ u t. all zero r refl k (and_true (r.net == m) (has r.held k) u t))
     parts.0
@@ -264,8 +249,8 @@ room_within d law r n h x m lx lm a i c l e =
     let b : DesignMemory = found.1 in
     let hb = slice_get-at d.memories found.0 b found.2 found.3 in
     let ha = slice_get-at d.memories c.0 a c.1 c.2 in
-    let t = both _ _ found.4 in
-    let u = both _ _ t.1 in
+    let t = and_parts _ _ found.4 in
+    let u = and_parts _ _ t.1 in
     let first : b.room.first ≡ r.first = eqb-true _ _ t.0 in
     let size : b.room.length ≡ r.length = eqb-true _ _ u.0 in
     let wide : n ≤ b.width = leb-true _ _ u.1 in
