@@ -1,5 +1,5 @@
 -- The example is lawful, and its neighbours aren't.
-use Rattle.std.proofs.Common.{◌≡◌, ◌≢◌, IsTrue, List, [], ◌∷◌, ℕ, zero, suc, ◌^◌, ◌<◌, ◌≤◌, ◌==◌, ◌&&◌, ◌||◌, nat_lt, Bool, true, false}
+use Rattle.std.proofs.Common.{◌≡◌, ◌≢◌, IsTrue, List, [], ◌∷◌, ℕ, zero, suc, ◌<◌, ◌≤◌, ◌==◌, ◌&&◌, ◌||◌, nat_lt, Bool, true, false}
 use Rattle.std.proofs.Common.{◌⊎◌, inl, inr, Option, Some, None, All, slice_get, take, refl, ap, sym, subst, ◌∙◌, arith}
 use Rattle.std.specs.Int.{bit_at}
 use Rattle.std.specs.List.{AllPairs, count_by, sum_by}
@@ -7,7 +7,6 @@ use Rattle.std.proofs.lemmas.Bool.{eqb-true, ltb-true, le-leb}
 use Rattle.std.proofs.lemmas.Nat.Bits.{bit_at_above}
 use Rattle.net_design.specs.declared.design.Instance.{Instance}
 use Rattle.net_design.specs.declared.design.Net.{Net}
-use Rattle.net_design.specs.declared.design.Register.{Register}
 use Rattle.net_design.specs.declared.design.DesignMemory.{DesignMemory}
 use Rattle.net_design.specs.declared.design.Driver.{Driver}
 use Rattle.net_design.specs.declared.design.Port.{Port}

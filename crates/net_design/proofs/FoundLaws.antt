@@ -1,5 +1,5 @@
 -- Bits that are read, written and learned, one after the other.
-use Rattle.std.proofs.Common.{◌≡◌, ℕ, ◌+◌, ◌-◌, ◌^◌, ◌<◌, ◌≤◌, ◌==◌, ◌&&◌, ◌||◌, not, nat_le, nat_lt, Bool, true, false}
+use Rattle.std.proofs.Common.{◌≡◌, ℕ, ◌+◌, ◌-◌, ◌^◌, ◌<◌, ◌==◌, ◌&&◌, ◌||◌, not, nat_le, nat_lt, Bool, true, false}
 use Rattle.std.proofs.Common.{List, [], ◌∷◌, ◌++◌, length, get_or, drop, bit_and, refl, ap, sym, subst, ◌∙◌}
 use Rattle.std.proofs.lemmas.List.Folds.{list_any-append}
 use Rattle.std.proofs.lemmas.Bool.{eqb-true}
@@ -8,9 +8,9 @@ use Rattle.net_design.specs.declared.act.Mask.{Mask}
 use Rattle.net_design.specs.declared.bit_map.BitMap.{BitMap}
 use Rattle.vlog_operators.specs.Number.{has}
 use Rattle.net_design.specs.declared.act.Place.{Place}
-use Rattle.net_design.specs.Bits.{BitSet, named, bits_of, place_reads, place_writes, place_adds, target_reads, target_writes, target_adds}
+use Rattle.net_design.specs.Bits.{BitSet, named, bits_of, place_reads, place_writes, target_reads, target_writes}
 use Rattle.net_design.specs.BitMap.{mask_of, in_map}
-use Rattle.net_design.specs.Found.{Reads, Learns, Walks, learned}
+use Rattle.net_design.specs.Found.{Reads, Learns}
 use Rattle.net_design.proofs.MaskLaws.{has_less, has_and}
 use Rattle.net_design.proofs.BoolLaws.{or_assoc}
 use Rattle.net_design.proofs.UpdateLaws.{from_here}

@@ -1,6 +1,6 @@
 -- The code of a lawful design is sized: what its evaluators ask for.
-use Rattle.std.proofs.Common.{◌≡◌, ℕ, zero, suc, ◌+◌, ◌^◌, ◌<◌, ◌≤◌, Bool, true, false, ◌&&◌, IsTrue, List, [], ◌∷◌, Some, All, length}
-use Rattle.std.proofs.Common.{get_or, take, map, slice_index, slice_get, refl, ap, sym, subst, arith}
+use Rattle.std.proofs.Common.{◌≡◌, ℕ, zero, suc, ◌+◌, ◌^◌, ◌<◌, ◌≤◌, IsTrue, List, [], ◌∷◌, Some, All, length}
+use Rattle.std.proofs.Common.{get_or, take, map, slice_index, slice_get, ap, sym, subst, arith}
 use Rattle.std.specs.List.{AllByRecursion, sum_by}
 use Rattle.std.proofs.lemmas.Bool.{leb-true, ltb-true, eqb-true}
 use Rattle.std.proofs.lemmas.List.Folds.{Any-from_list_any}

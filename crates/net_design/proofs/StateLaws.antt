@@ -1,7 +1,7 @@
 -- The initial state is a state, and so is the next state of a state.
-use Rattle.std.proofs.Common.{◌≡◌, ◌≢◌, ℕ, zero, suc, ◌+◌, ◌-◌, ◌*◌, ◌/◌, ◌%◌, ◌^◌, ◌<◌, ◌≤◌, ◌==◌, ◌&&◌, ◌||◌, min, nat_lt, Bool, true}
+use Rattle.std.proofs.Common.{◌≡◌, ◌≢◌, ℕ, zero, suc, ◌+◌, ◌-◌, ◌*◌, ◌/◌, ◌%◌, ◌^◌, ◌<◌, ◌≤◌, ◌==◌, ◌&&◌, min, nat_lt, Bool, true}
 use Rattle.std.proofs.Common.{false, IsTrue}
-use Rattle.std.proofs.Common.{List, [], ◌∷◌, ◌++◌, map, take, replicate, length, get_or, slice_index, slice_set, slice_get, All, Option}
+use Rattle.std.proofs.Common.{List, [], ◌∷◌, ◌++◌, map, take, replicate, length, slice_index, slice_set, slice_get, Option}
 use Rattle.std.proofs.Common.{Some, None}
 use Rattle.std.proofs.Common.{if◌then◌else◌, ⊎_elim, refl, ap, sym, subst, ◌∙◌, arith}
 use Rattle.std.specs.Int.{bit_at}
@@ -9,7 +9,6 @@ use Rattle.std.specs.List.{AllByRecursion, Contains, list_any, flat_map, enumera
 use Rattle.std.proofs.lemmas.Bool.{cases_lt, or_from, leb-true, eqb-true, ltb-true}
 use Rattle.std.proofs.lemmas.List.{get_or-replicate, get_or_past, get_or-set_same, get_or-set_other, length-replicate, length-set}
 use Rattle.std.proofs.lemmas.List.Folds.{Any-from_list_any, list_any-append}
-use Rattle.std.proofs.lemmas.List.FromFn.{length-enumerate_from}
 use Rattle.std.proofs.lemmas.List.Sums.{sum_by-cons}
 use Rattle.std.proofs.lemmas.Option.{get_or_from_slice_get, slice_get_within}
 use Rattle.std.proofs.lemmas.Nat.{pow_pos, mod_below}
@@ -33,10 +32,9 @@ use Rattle.net_design.specs.declared.values.Update.{Update}
 use Rattle.net_design.specs.declared.values.Values.{Values}
 use Rattle.vlog_operators.specs.Number.{has, put_of}
 use Rattle.net_design.specs.Value.{value}
-use Rattle.net_design.specs.Sized.{IsPlace, IsAct, IsGuardRow, IsActRow, IsBlock}
+use Rattle.net_design.specs.Sized.{IsPlace, IsAct, IsGuardRow, IsActRow}
 use Rattle.net_design.specs.Updates.{written_to, apply, place_updates, target_width, target_updates, seen, updates, guard_row, act_row}
 use Rattle.net_design.specs.Updates.{block_updates}
-use Rattle.net_design.specs.Bits.{block_writes}
 use Rattle.net_design.specs.Settled.{net_width, held, word_count, FitNets, clocked, next, initial_number, initial}
 use Rattle.net_design.specs.Lawful.{IsLawful, IsClocked, IsRegister, IsInRange, IsState, is_span, is_room}
 use Rattle.net_design.proofs.LawfulCode.{net_width_le, slice_get-at}

@@ -1,7 +1,6 @@
 -- Statements walked over one after the other, and the arms of a choice.
 use Rattle.std.proofs.Common.{◌≡◌, ℕ, ◌+◌, ◌<◌, ◌&&◌, ◌||◌, not, Bool, true, false, List, [], ◌∷◌, ◌++◌, length, get_or, take, drop, refl}
 use Rattle.std.proofs.Common.{ap, sym, subst, ◌∙◌}
-use Rattle.std.specs.List.{list_any}
 use Rattle.std.proofs.lemmas.List.{take_more, drop_more}
 use Rattle.std.proofs.lemmas.List.Folds.{list_any-append}
 use Rattle.net_design.specs.Sized.{AreSizedGuards}
@@ -12,13 +11,11 @@ use Rattle.net_design.specs.declared.act.Guard.{Guard}
 use Rattle.net_design.specs.declared.act.Mask.{Mask}
 use Rattle.net_design.specs.declared.act.Timing.{Timing}
 use Rattle.net_design.specs.declared.act.Timing.TheVariants.{Blocking, Nonblocking}
-use Rattle.net_design.specs.declared.bit_map.BitMap.{BitMap}
 use Rattle.net_design.specs.declared.code_bits.Found.{Found}
 use Rattle.net_design.specs.Bits.{BitSet, no_bits, named, reads, writes, adds, known_after, open_reads, block_writes, block_adds}
 use Rattle.net_design.specs.Bits.{block_open_reads, HasBits}
 use Rattle.net_design.specs.BitMap.{in_map}
 use Rattle.net_design.specs.Found.{Learns, Walks, WalksChoice, Arm, AfterArms, learned, guard_writes, guard_adds, guard_reads}
-use Rattle.net_design.proofs.UpdateLaws.{from_here}
 use Rattle.net_design.proofs.FoundLaws.{or_fresh, LearnsRest, rest_step, rest_done}
 use Rattle.net_design.proofs.BoolLaws.{or_none, or_assoc, and_true, and_assoc}
 
