@@ -1,5 +1,5 @@
 -- The example is lawful, and its neighbours aren't.
-use Rattle.std.proofs.Common.{◌≡◌, ◌≢◌, IsTrue, List, [], ◌∷◌, ℕ, zero, suc, ◌^◌, ◌<◌, ◌≤◌, ◌==◌, ◌&&◌, ◌||◌, nat_lt, Bool, true, false}
+use Rattle.std.proofs.Common.{◌≡◌, ◌≢◌, IsTrue, List, [], ◌∷◌, ℕ, zero, suc, ◌<◌, ◌≤◌, ◌==◌, ◌&&◌, ◌||◌, nat_lt, Bool, true, false}
 use Rattle.std.proofs.Common.{◌⊎◌, inl, inr, Option, Some, None, All, slice_get, take, refl, ap, sym, subst, ◌∙◌, arith}
 use Rattle.std.specs.Int.{bit_at}
 use Rattle.std.specs.List.{AllPairs, count_by, sum_by}
@@ -7,7 +7,6 @@ use Rattle.std.proofs.lemmas.Bool.{eqb-true, ltb-true, le-leb}
 use Rattle.std.proofs.lemmas.Nat.Bits.{bit_at_above}
 use Rattle.net_design.specs.declared.design.Instance.{Instance}
 use Rattle.net_design.specs.declared.design.Net.{Net}
-use Rattle.net_design.specs.declared.design.Register.{Register}
 use Rattle.net_design.specs.declared.design.DesignMemory.{DesignMemory}
 use Rattle.net_design.specs.declared.design.Driver.{Driver}
 use Rattle.net_design.specs.declared.design.Port.{Port}
@@ -21,10 +20,7 @@ use Rattle.net_design.specs.Names.{net_names}
 use Rattle.net_design.specs.Lawful.{IsLawful, is_span, is_room, IsCode, IsDriver, IsClocked, IsRegister, IsBit, is_input}
 use Rattle.net_design.specs.Example.{net_of, four_words, pair, copies, stores, assigned, combined, example, driven_twice, not_driven}
 use Rattle.net_design.specs.Example.{held_driven, stray_initial, named_twice}
-
-by_true : (b : Bool) → (b ≡ true → ⊥) → b ≡ false
-by_true true h = absurd (h refl)
-by_true false h = refl
+use Rattle.net_design.proofs.BoolLaws.{by_true}
 
 -- the number 3 has the bits 0 and 1
 two_bits : (k : ℕ) → has 3 k ≡ nat_lt k 2

@@ -1,5 +1,5 @@
 -- Bits that are read, written and learned, one after the other.
-use Rattle.std.proofs.Common.{◌≡◌, ℕ, ◌+◌, ◌-◌, ◌^◌, ◌<◌, ◌≤◌, ◌==◌, ◌&&◌, ◌||◌, not, nat_le, nat_lt, Bool, true, false}
+use Rattle.std.proofs.Common.{◌≡◌, ℕ, ◌+◌, ◌-◌, ◌^◌, ◌<◌, ◌==◌, ◌&&◌, ◌||◌, not, nat_le, nat_lt, Bool, true, false}
 use Rattle.std.proofs.Common.{List, [], ◌∷◌, ◌++◌, length, get_or, drop, bit_and, refl, ap, sym, subst, ◌∙◌}
 use Rattle.std.proofs.lemmas.List.Folds.{list_any-append}
 use Rattle.std.proofs.lemmas.Bool.{eqb-true}
@@ -8,16 +8,17 @@ use Rattle.net_design.specs.declared.act.Mask.{Mask}
 use Rattle.net_design.specs.declared.bit_map.BitMap.{BitMap}
 use Rattle.vlog_operators.specs.Number.{has}
 use Rattle.net_design.specs.declared.act.Place.{Place}
-use Rattle.net_design.specs.Bits.{BitSet, named, bits_of, place_reads, place_writes, place_adds, target_reads, target_writes, target_adds}
+use Rattle.net_design.specs.Bits.{BitSet, named, bits_of, place_reads, place_writes, target_reads, target_writes}
 use Rattle.net_design.specs.BitMap.{mask_of, in_map}
-use Rattle.net_design.specs.Found.{Reads, Learns, Walks, learned}
+use Rattle.net_design.specs.Found.{Reads, Learns}
 use Rattle.net_design.proofs.MaskLaws.{has_less, has_and}
+use Rattle.net_design.proofs.BoolLaws.{or_assoc}
 use Rattle.net_design.proofs.UpdateLaws.{from_here}
 
 -- ---- Bool
-pub or_none : (a : Bool) (k : Bool) → a ≡ (a || (false && k))
-or_none true k = refl
-or_none false k = refl
+pub or_nothing : (a : Bool) (k : Bool) → a ≡ (a || (false && k))
+or_nothing true k = refl
+or_nothing false k = refl
 
 both_false : (q : Bool) → (false || (q && false)) ≡ false
 both_false true = refl
@@ -29,10 +30,6 @@ open_then true p q k = refl
 open_then false true q true = both_false q
 open_then false true q false = refl
 open_then false false q k = refl
-
-pub or_assoc : (a b c : Bool) → ((a || b) || c) ≡ (a || (b || c))
-or_assoc true b c = refl
-or_assoc false b c = refl
 
 -- two sets of bits are learned
 fresh_then : (x k a b : Bool) → ((x || (a && not k)) || (b && not (k || a))) ≡ (x || ((a || b) && not k))
@@ -59,7 +56,7 @@ module _ (known : BitMap) where
 
   pub reads_nothing : (p : BitSet) (out : BitMap) → ((m k : ℕ) → p m k ≡ false) → Reads p known out out
   reads_nothing p out h = record {
-    more = λ m k. or_none (in_map out m k) (not (in_map known m k))
+    more = λ m k. or_nothing (in_map out m k) (not (in_map known m k))
         ∙ ap (λ b. in_map out m k || (b && not (in_map known m k))) (sym (h m k));
   }
 
@@ -105,8 +102,8 @@ places_written places i p out mid l e h m k =
 -- ---- learning
 pub learn_nothing : (p : BitSet) (known : BitMap) (fresh : List Mask) → ((m k : ℕ) → p m k ≡ false) → Learns p known known fresh fresh
 learn_nothing p known fresh h = record {
-  bits = λ m k. or_none (in_map known m k) true ∙ ap (λ b. in_map known m k || b) (sym (h m k));
-  masks = λ m k. or_none (named fresh m k) (not (in_map known m k)) ∙ ap (λ b. named fresh m k || (b && not (in_map known m k)))
+  bits = λ m k. or_nothing (in_map known m k) true ∙ ap (λ b. in_map known m k || b) (sym (h m k));
+  masks = λ m k. or_nothing (named fresh m k) (not (in_map known m k)) ∙ ap (λ b. named fresh m k || (b && not (in_map known m k)))
       (sym (h m k));
 }
 
@@ -188,8 +185,8 @@ pub rest_done : (whole rest : BitSet) (known now : BitMap) (fresh new : List Mas
     → LearnsRest whole rest known now fresh new
     → Learns whole known now fresh new
 rest_done whole rest known now fresh new none h = record {
-  bits = λ m k. or_none (in_map now m k) true ∙ ap (λ b. in_map now m k || b) (sym (none m k)) ∙ h.0 m k;
-  masks = λ m k. or_none (named new m k) (not (in_map now m k)) ∙ ap (λ b. named new m k || (b && not (in_map now m k))) (sym (none m k))
+  bits = λ m k. or_nothing (in_map now m k) true ∙ ap (λ b. in_map now m k || b) (sym (none m k)) ∙ h.0 m k;
+  masks = λ m k. or_nothing (named new m k) (not (in_map now m k)) ∙ ap (λ b. named new m k || (b && not (in_map now m k))) (sym (none m k))
       ∙ h.1 m k;
 }
 

@@ -1,5 +1,5 @@
 -- Bits that code doesn't write stay.
-use Rattle.std.proofs.Common.{◌≡◌, ◌≢◌, ℕ, ◌+◌, ◌-◌, ◌/◌, ◌^◌, ◌<◌, ◌≤◌, min, zero, suc, ◌==◌, ◌&&◌, ◌||◌, Bool, true, false, List, [], ◌∷◌}
+use Rattle.std.proofs.Common.{◌≡◌, ◌≢◌, ℕ, ◌+◌, ◌-◌, ◌/◌, ◌^◌, ◌<◌, ◌≤◌, min, zero, suc, ◌==◌, ◌&&◌, Bool, true, false, List, [], ◌∷◌}
 use Rattle.std.proofs.Common.{◌++◌, ◌⊎◌, inl, inr, if◌then◌else◌, nat_le, nat_lt, slice_index, slice_set, length, ⊎_elim, refl, ap, subst}
 use Rattle.std.proofs.Common.{◌∙◌, arith}
 use Rattle.std.specs.Int.{bit_at}
@@ -22,6 +22,7 @@ use Rattle.net_design.specs.Value.{value}
 use Rattle.net_design.specs.Updates.{written_to, apply, place_updates, target_width, target_updates, seen, updates, guard_row, act_row}
 use Rattle.net_design.specs.Updates.{block_updates}
 use Rattle.net_design.specs.Bits.{place_writes, target_writes, writes, writes_guards, writes_row, block_writes}
+use Rattle.net_design.proofs.BoolLaws.{by_true, and_parts, and_both, or_parts}
 
 -- an update changes bit k of net m
 abbrev pub touches_at : Target → Update → ℕ → ℕ → Bool
@@ -30,21 +31,6 @@ touches_at (WordTarget i) u m k = false
 
 abbrev pub touched : List Update → ℕ → ℕ → Bool
 touched us m k = list_any (λ (u : Update). touches_at u.target u m k) us
-
-by_true : (b : Bool) → (b ≡ true → ⊥) → b ≡ false
-by_true true h = absurd (h refl)
-by_true false h = refl
-
-and_parts : (a b : Bool) → (a && b) ≡ true → (a ≡ true) × (b ≡ true)
-and_parts true b h = (refl, h)
-and_parts false b h = absurd cc
-
-pub and_both : (a b : Bool) → a ≡ true → b ≡ true → (a && b) ≡ true
-and_both a b h k = rw h k
-
-or_parts : (a b : Bool) → (a || b) ≡ false → (a ≡ false) × (b ≡ false)
-or_parts true b h = absurd cc
-or_parts false b h = (refl, h)
 
 either_way : (b : Bool) (xs ys : List Update) (m k : ℕ) → touched xs m k ≡ false → touched ys m k ≡ false
     → touched (if b then xs else ys) m k ≡ false

@@ -1,6 +1,6 @@
 -- Updates change nothing exactly where each bit is what the last of them makes it.
-use Rattle.std.proofs.Common.{◌≡◌, ℕ, ◌+◌, ◌-◌, ◌^◌, ◌<◌, ◌≤◌, ◌↔◌, ◌==◌, ◌&&◌, nat_le, nat_lt, Bool, true, false, if◌then◌else◌}
-use Rattle.std.proofs.Common.{List, [], ◌∷◌, length, slice_index, slice_set, Option, Some, None, refl, ap, sym, subst, ◌∙◌, arith}
+use Rattle.std.proofs.Common.{◌≡◌, ℕ, ◌+◌, ◌-◌, ◌^◌, ◌<◌, ◌↔◌, ◌==◌, ◌&&◌, nat_le, nat_lt, Bool, true, false, if◌then◌else◌}
+use Rattle.std.proofs.Common.{List, [], ◌∷◌, length, slice_index, slice_set, Option, Some, None, refl, ap, sym, subst, ◌∙◌}
 use Rattle.std.specs.Int.{bit_at}
 use Rattle.std.specs.Option.{option_or, unwrap_or}
 use Rattle.std.proofs.lemmas.Bool.{eqb-true, leb-true, ltb-true}
@@ -16,10 +16,7 @@ use Rattle.net_design.specs.Updates.{written_to, apply}
 use Rattle.net_design.specs.Last.{touches, last_bit, bit_of, IsThere, HasLast, IsNarrow}
 use Rattle.net_design.proofs.FrameLaws.{written_stays}
 use Rattle.net_design.proofs.StateLaws.{written_long, applied_long, set_narrow, nets_narrow}
-
-and_parts : (a b : Bool) → (a && b) ≡ true → (a ≡ true) × (b ≡ true)
-and_parts true b h = (refl, h)
-and_parts false b h = absurd cc
+use Rattle.net_design.proofs.BoolLaws.{and_parts}
 
 -- nets and words in each other's place
 abbrev turned : Values → Values

@@ -1,6 +1,6 @@
 -- The code of a lawful design is sized: what its evaluators ask for.
-use Rattle.std.proofs.Common.{◌≡◌, ℕ, zero, suc, ◌+◌, ◌^◌, ◌<◌, ◌≤◌, Bool, true, false, ◌&&◌, IsTrue, List, [], ◌∷◌, Some, All, length}
-use Rattle.std.proofs.Common.{get_or, take, map, slice_index, slice_get, refl, ap, sym, subst, arith}
+use Rattle.std.proofs.Common.{◌≡◌, ℕ, zero, suc, ◌+◌, ◌^◌, ◌<◌, ◌≤◌, IsTrue, List, [], ◌∷◌, Some, All, length}
+use Rattle.std.proofs.Common.{get_or, take, map, slice_index, slice_get, ap, sym, subst, arith}
 use Rattle.std.specs.List.{AllByRecursion, sum_by}
 use Rattle.std.proofs.lemmas.Bool.{leb-true, ltb-true, eqb-true}
 use Rattle.std.proofs.lemmas.List.Folds.{Any-from_list_any}
@@ -20,6 +20,7 @@ use Rattle.net_design.specs.declared.design.Design.{Design}
 use Rattle.net_design.specs.Sized.{IsRhs, IsPlace, IsAct, IsGuardRow, IsActRow, IsBlock, IsShort, IsCountable, IsSizedBlock}
 use Rattle.net_design.specs.Settled.{IsSized, net_width, word_count}
 use Rattle.net_design.specs.Lawful.{IsLawful, IsInRange, is_span, is_room}
+use Rattle.net_design.proofs.BoolLaws.{and_parts}
 
 -- ---- what asks for less of spans and rooms holds of more code
 module _ (P Q : Span → Type 0) (R S : Room → ℕ → Type 0) (p : (s : Span) → P s → Q s) (r : (x : Room) (n : ℕ) → R x n → S x n) where
@@ -76,18 +77,14 @@ slice_get-at [] k x l e = absurd (omega arith)
 slice_get-at (y ∷ ys) zero x l e = ap Some e
 slice_get-at (y ∷ ys) (suc k) x l e = slice_get-at ys k x (omega arith) e
 
-both : (a b : Bool) → (a && b) ≡ true → (a ≡ true) × (b ≡ true)
-both true b h = (refl, h)
-both false b h = absurd cc
-
 pub room_within : (d : Design) → IsLawful d → (r : Room) (n : ℕ) → IsTrue (is_room d r n) → (r.first + r.length ≤ word_count d) × (n ≤ 128)
 room_within d law r n h =
     let found = Any-from_list_any _ d.memories h in
     let k = found.0 in
     let a : DesignMemory = found.1 in
     let at : slice_get d.memories k ≡ Some a = slice_get-at d.memories k a found.2 found.3 in
-    let t = both _ _ found.4 in
-    let u = both _ _ t.1 in
+    let t = and_parts _ _ found.4 in
+    let u = and_parts _ _ t.1 in
     let first : a.room.first ≡ r.first = eqb-true _ _ t.0 in
     let size : a.room.length ≡ r.length = eqb-true _ _ u.0 in
     let wide : n ≤ a.width = leb-true _ _ u.1 in
@@ -102,7 +99,7 @@ room_within d law r n h =
 pub span_within : (d : Design) → IsLawful d → (s : Span) → IsTrue (is_span d s)
     → (s.net < length d.nets) × (s.low + s.width ≤ net_width d s.net)
 span_within d law s h =
-    let t = both _ _ h in
+    let t = and_parts _ _ h in
     (ltb-true _ _ t.0, leb-true _ _ t.1)
 
 pub block_sized : (d : Design) → IsLawful d → (acts : List Act) → IsInRange d acts → IsSizedBlock acts

@@ -1,3 +1,4 @@
+pub mod BoolLaws
 pub mod NumberLemmas
 pub mod Lists
 pub mod Rows

@@ -1,7 +1,7 @@
 -- Masks as sets of bits, and maps of masks.
 use Rattle.std.proofs.Common.{◌≡◌, ℕ, zero, suc, ◌+◌, ◌-◌, ◌*◌, ◌/◌, ◌%◌, ◌^◌, ◌<◌, ◌≤◌, min, max, ◌==◌, ◌&&◌, ◌||◌, not, nat_le, nat_lt}
 use Rattle.std.proofs.Common.{Bool, true, false}
-use Rattle.std.proofs.Common.{List, [], ◌∷◌, ◌++◌, Option, Some, None, bit_and, bit_or, if◌then◌else◌, ⊎_elim, refl, ap, sym, subst, ◌∙◌}
+use Rattle.std.proofs.Common.{List, [], ◌∷◌, ◌++◌, Option, Some, bit_and, bit_or, if◌then◌else◌, ⊎_elim, refl, ap, sym, ◌∙◌}
 use Rattle.std.proofs.Common.{arith}
 use Rattle.std.specs.Int.{bit_at, w128}
 use Rattle.std.specs.List.{list_any, AllByRecursion, IsDistinct}
@@ -19,10 +19,7 @@ use Rattle.net_design.specs.declared.bit_map.BitMap.{BitMap}
 use Rattle.vlog_operators.specs.Number.{has, put_of}
 use Rattle.net_design.specs.Bits.{named}
 use Rattle.net_design.specs.BitMap.{mask_of, in_map}
-
-by_true : (b : Bool) → (b ≡ true → ⊥) → b ≡ false
-by_true true h = absurd (h refl)
-by_true false h = refl
+use Rattle.net_design.proofs.BoolLaws.{by_true, or_none, and_true, same_test}
 
 -- ---- one bit
 max_bits : (x y : ℕ) → x < 2 → y < 2 → (max x y == 1) ≡ ((x == 1) || (y == 1))
@@ -81,14 +78,6 @@ has_span low w k l = ⊎_elim
     (cases_lt k low)
 
 -- ---- a map with one mask replaced
-pub or_none : (b : Bool) → b ≡ (b || false)
-or_none true = refl
-or_none false = refl
-
-and_all : (b : Bool) → b ≡ (b && true)
-and_all true = refl
-and_all false = refl
-
 add_case : (b : Bool) (mask bits old k : ℕ) → (b ≡ true → mask ≡ old) → has (if b then bit_or mask bits else old) k ≡
     (has old k || (b && has bits k))
 add_case true mask bits old k h = has_or mask bits k ∙ ap (λ n. has n k || has bits k) (h refl)
@@ -97,7 +86,7 @@ add_case false mask bits old k h = or_none (has old k)
 remove_case : (b : Bool) (mask bits old k : ℕ) → mask < 2 ^ 128 → bits < 2 ^ 128 → (b ≡ true → mask ≡ old)
     → has (if b then bit_and mask (2 ^ 128 - 1 - bits) else old) k ≡ (has old k && not (b && has bits k))
 remove_case true mask bits old k l h e = has_less mask bits k l h ∙ ap (λ n. has n k && not (has bits k)) (e refl)
-remove_case false mask bits old k l h e = and_all (has old k)
+remove_case false mask bits old k l h e = and_true (has old k)
 
 module _ (old new : BitMap) (net mask bits : ℕ) where
   pub added : mask ≡ mask_of old net → ((m : ℕ) → mask_of new m ≡ (if net == m then bit_or mask bits else mask_of old m)) → (m k : ℕ)
@@ -130,11 +119,6 @@ none_in b h m k = ap (λ es. has (unwrap_or (lookup (is_at (nat_cmp m)) es) 0) k
 -- ---- a map as masks
 abbrev pub named_entries : List (ℕ × ℕ) → ℕ → ℕ → Bool
 named_entries es m k = list_any (λ (e : ℕ × ℕ). (e.0 == m) && has e.1 k) es
-
-same_test : (p q : Bool) → (p ≡ true → q ≡ true) → (q ≡ true → p ≡ true) → p ≡ q
-same_test true q h g = sym (h refl)
-same_test false true h g = g refl
-same_test false false h g = refl
 
 eq_sym : (a b : ℕ) → (a == b) ≡ (b == a)
 eq_sym a b = same_test (a == b) (b == a) (λ t. eq-eqb b a (sym (eqb-true a b t))) (λ t. eq-eqb a b (sym (eqb-true b a t)))

@@ -20,17 +20,9 @@ use Rattle.net_design.specs.Bits.{known_after, open_reads, open_reads_guards, op
 use Rattle.net_design.specs.Bits.{HasBits, block_writes, block_adds, block_open_reads, block_reads, place_is_word, writes_words}
 use Rattle.net_design.specs.Bits.{guards_write_words, row_writes_words, block_writes_words}
 use Rattle.net_design.specs.Moved.{moved_span, moved_rhs, moved_place, moved_act, moved_guards, moved_row, moved_mask, moved_bits, moved}
+use Rattle.net_design.proofs.BoolLaws.{same_test, and_parts}
 
 -- ---- Bool
-same_test : (a b : Bool) → (a ≡ true → b ≡ true) → (b ≡ true → a ≡ true) → a ≡ b
-same_test true b h k = sym (h refl)
-same_test false true h k = k refl
-same_test false false h k = refl
-
-parts : (a b : Bool) → (a && b) ≡ true → (a ≡ true) × (b ≡ true)
-parts true b h = (refl, h)
-parts false b h = absurd cc
-
 no : (b : Bool) → false ≡ (b && false)
 no true = refl
 no false = refl
@@ -65,7 +57,7 @@ module _ (net word : ℕ) where
       let l : nat_le net m ≡ true = le-leb net m (omega arith) in
       let s : (a == m - net) ≡ true = eq-eqb a (m - net) (omega arith) in
       rw (l, s) refl)
-      (λ h. let p = parts _ _ h in
+      (λ h. let p = and_parts _ _ h in
       let l : net ≤ m = leb-true _ _ p.0 in
       let e : a ≡ m - net = eqb-true _ _ p.1 in
       eq-eqb (net + a) m (omega arith))

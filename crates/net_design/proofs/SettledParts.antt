@@ -1,17 +1,13 @@
 -- The parts of a settled map, told by tests.
-use Rattle.std.proofs.Common.{◌≡◌, ℕ, ◌==◌, ◌&&◌, ◌↔◌, Bool, true, false, IsTrue, List, Some, All, get_or, slice_index, refl, sym, subst}
-use Rattle.std.proofs.Common.{◌∙◌}
+use Rattle.std.proofs.Common.{◌≡◌, ℕ, ◌==◌, ◌&&◌, ◌↔◌, true, List, All, get_or, slice_index, refl, subst}
 use Rattle.std.specs.Int.{bit_at}
 use Rattle.std.proofs.lemmas.Bool.{eqb-true, eq-eqb}
 use Rattle.std.proofs.lemmas.List.Folds.{Any-from_list_any, list_any_at}
 use Rattle.net_design.specs.declared.design.Register.{Register}
-use Rattle.net_design.specs.declared.design.Driver.{Driver}
-use Rattle.net_design.specs.declared.design.Direction.TheVariants.{Input}
 use Rattle.net_design.specs.declared.design.Design.{Design}
-use Rattle.net_design.specs.declared.values.Values.{Values}
 use Rattle.vlog_operators.specs.Number.{has}
-use Rattle.net_design.specs.Updates.{run}
-use Rattle.net_design.specs.Settled.{IsSettled, FitNets, pins_of, held}
+use Rattle.net_design.specs.Settled.{held}
+use Rattle.net_design.proofs.BoolLaws.{and_parts, and_both}
 
 -- the two lists of numbers have the same bits of a register
 abbrev SameBits : List ℕ → List ℕ → Register → Type 0
@@ -19,13 +15,6 @@ SameBits v s r = (k : ℕ) → has r.held k ≡ true → bit_at (slice_index v r
 
 abbrev SameHeld : Design → List ℕ → List ℕ → Type 0
 SameHeld d v s = (m k : ℕ) → held d m k ≡ true → bit_at (slice_index v m) k ≡ bit_at (slice_index s m) k
-
-and_parts : (a b : Bool) → (a && b) ≡ true → (a ≡ true) × (b ≡ true)
-and_parts true b h = (refl, h)
-and_parts false b h = absurd cc
-
-and_both : (a b : Bool) → a ≡ true → b ≡ true → (a && b) ≡ true
-and_both a b h k = rw h k
 
 by_registers : (d : Design) (v s : List ℕ) → All (SameBits v s) d.registers → SameHeld d v s
 by_registers d v s all m k h =

@@ -1,7 +1,7 @@
 -- The initial state is a state, and so is the next state of a state.
-use Rattle.std.proofs.Common.{◌≡◌, ◌≢◌, ℕ, zero, suc, ◌+◌, ◌-◌, ◌*◌, ◌/◌, ◌%◌, ◌^◌, ◌<◌, ◌≤◌, ◌==◌, ◌&&◌, ◌||◌, min, nat_lt, Bool, true}
+use Rattle.std.proofs.Common.{◌≡◌, ◌≢◌, ℕ, zero, suc, ◌+◌, ◌-◌, ◌*◌, ◌/◌, ◌%◌, ◌^◌, ◌<◌, ◌≤◌, ◌==◌, ◌&&◌, min, nat_lt, Bool, true}
 use Rattle.std.proofs.Common.{false, IsTrue}
-use Rattle.std.proofs.Common.{List, [], ◌∷◌, ◌++◌, map, take, replicate, length, get_or, slice_index, slice_set, slice_get, All, Option}
+use Rattle.std.proofs.Common.{List, [], ◌∷◌, ◌++◌, map, take, replicate, length, slice_index, slice_set, slice_get, Option}
 use Rattle.std.proofs.Common.{Some, None}
 use Rattle.std.proofs.Common.{if◌then◌else◌, ⊎_elim, refl, ap, sym, subst, ◌∙◌, arith}
 use Rattle.std.specs.Int.{bit_at}
@@ -9,7 +9,6 @@ use Rattle.std.specs.List.{AllByRecursion, Contains, list_any, flat_map, enumera
 use Rattle.std.proofs.lemmas.Bool.{cases_lt, or_from, leb-true, eqb-true, ltb-true}
 use Rattle.std.proofs.lemmas.List.{get_or-replicate, get_or_past, get_or-set_same, get_or-set_other, length-replicate, length-set}
 use Rattle.std.proofs.lemmas.List.Folds.{Any-from_list_any, list_any-append}
-use Rattle.std.proofs.lemmas.List.FromFn.{length-enumerate_from}
 use Rattle.std.proofs.lemmas.List.Sums.{sum_by-cons}
 use Rattle.std.proofs.lemmas.Option.{get_or_from_slice_get, slice_get_within}
 use Rattle.std.proofs.lemmas.Nat.{pow_pos, mod_below}
@@ -33,30 +32,14 @@ use Rattle.net_design.specs.declared.values.Update.{Update}
 use Rattle.net_design.specs.declared.values.Values.{Values}
 use Rattle.vlog_operators.specs.Number.{has, put_of}
 use Rattle.net_design.specs.Value.{value}
-use Rattle.net_design.specs.Sized.{IsPlace, IsAct, IsGuardRow, IsActRow, IsBlock}
+use Rattle.net_design.specs.Sized.{IsPlace, IsAct, IsGuardRow, IsActRow}
 use Rattle.net_design.specs.Updates.{written_to, apply, place_updates, target_width, target_updates, seen, updates, guard_row, act_row}
 use Rattle.net_design.specs.Updates.{block_updates}
-use Rattle.net_design.specs.Bits.{block_writes}
 use Rattle.net_design.specs.Settled.{net_width, held, word_count, FitNets, clocked, next, initial_number, initial}
 use Rattle.net_design.specs.Lawful.{IsLawful, IsClocked, IsRegister, IsInRange, IsState, is_span, is_room}
 use Rattle.net_design.proofs.LawfulCode.{net_width_le, slice_get-at}
 use Rattle.net_design.proofs.FrameLaws.{touched, touches_at, block_touch, applied_stays, set_past, same_or_other}
-
-by_true : (b : Bool) → (b ≡ true → ⊥) → b ≡ false
-by_true true h = absurd (h refl)
-by_true false h = refl
-
-both : (a b : Bool) → (a && b) ≡ true → (a ≡ true) × (b ≡ true)
-both true b h = (refl, h)
-both false b h = absurd cc
-
-neither : (a b : Bool) → (a || b) ≡ false → (a ≡ false) × (b ≡ false)
-neither true b h = absurd cc
-neither false b h = (refl, h)
-
-not_both : (b : Bool) → b ≡ true → b ≡ false → ⊥
-not_both true h k = absurd cc
-not_both false h k = absurd cc
+use Rattle.net_design.proofs.BoolLaws.{by_true, and_parts, or_parts, not_both}
 
 -- a number without a bit from w on is below 2 to the power of w
 pub fits_by_bits : (n w : ℕ) → ((k : ℕ) → w ≤ k → bit_at n k ≡ 0) → n < 2 ^ w
@@ -80,7 +63,7 @@ held_below : (d : Design) → IsLawful d → (m k : ℕ) → held d m k ≡ true
 held_below d law m k h =
     let found = Any-from_list_any _ d.registers h in
     let r : Register = found.1 in
-    let t = both _ _ found.4 in
+    let t = and_parts _ _ found.4 in
     let here : r.net ≡ m = eqb-true _ _ t.0 in
     let one : bit_at r.held k ≡ 1 = eqb-true _ _ t.1 in
     let register : IsRegister d r = subst (IsRegister d) found.3 (law.registers found.0 r found.2) in
@@ -116,7 +99,7 @@ initial_rest : (rs : List Register) → ((i : ℕ) (r : Register) → slice_get 
     → list_any (λ (r : Register). (r.net == m) && has r.held k) rs ≡ false → bit_at (initial_number rs m) k ≡ 0
 initial_rest [] all m k h = bit_at_above 0 0 k (omega arith) (omega arith)
 initial_rest (r ∷ rest) all m k h =
-    let parts = neither ((r.net == m) && has r.held k) _ h in
+    let parts = or_parts ((r.net == m) && has r.held k) _ h in
     either_number (r.net == m) (has r.held k) r.initial (initial_number rest m) k
     (λ u t. all zero r refl k (and_true (r.net == m) (has r.held k) u t))
     parts.0
@@ -264,8 +247,8 @@ room_within d law r n h x m lx lm a i c l e =
     let b : DesignMemory = found.1 in
     let hb = slice_get-at d.memories found.0 b found.2 found.3 in
     let ha = slice_get-at d.memories c.0 a c.1 c.2 in
-    let t = both _ _ found.4 in
-    let u = both _ _ t.1 in
+    let t = and_parts _ _ found.4 in
+    let u = and_parts _ _ t.1 in
     let first : b.room.first ≡ r.first = eqb-true _ _ t.0 in
     let size : b.room.length ≡ r.length = eqb-true _ _ u.0 in
     let wide : n ≤ b.width = leb-true _ _ u.1 in

@@ -21,7 +21,8 @@ use Rattle.net_design.specs.Updates.{apply, update, bit_updates, target_width, t
 use Rattle.net_design.specs.Bits.{bits_of, Apart}
 use Rattle.net_design.proofs.EquationLaws.{bit_at-rest, rest_one, bits_same}
 use Rattle.net_design.proofs.UpdateLaws.{apply_both}
-use Rattle.net_design.proofs.FrameLaws.{applied_stays, target_touch, and_both}
+use Rattle.net_design.proofs.FrameLaws.{applied_stays, target_touch}
+use Rattle.net_design.proofs.BoolLaws.{and_both}
 
 in_span : (s : Span) (i : ℕ) → i < s.width → bits_of s s.net (s.low + i) ≡ true
 in_span s i l =

@@ -1,7 +1,6 @@
 -- Statements walked over one after the other, and the arms of a choice.
 use Rattle.std.proofs.Common.{◌≡◌, ℕ, ◌+◌, ◌<◌, ◌&&◌, ◌||◌, not, Bool, true, false, List, [], ◌∷◌, ◌++◌, length, get_or, take, drop, refl}
 use Rattle.std.proofs.Common.{ap, sym, subst, ◌∙◌}
-use Rattle.std.specs.List.{list_any}
 use Rattle.std.proofs.lemmas.List.{take_more, drop_more}
 use Rattle.std.proofs.lemmas.List.Folds.{list_any-append}
 use Rattle.net_design.specs.Sized.{AreSizedGuards}
@@ -12,25 +11,20 @@ use Rattle.net_design.specs.declared.act.Guard.{Guard}
 use Rattle.net_design.specs.declared.act.Mask.{Mask}
 use Rattle.net_design.specs.declared.act.Timing.{Timing}
 use Rattle.net_design.specs.declared.act.Timing.TheVariants.{Blocking, Nonblocking}
-use Rattle.net_design.specs.declared.bit_map.BitMap.{BitMap}
 use Rattle.net_design.specs.declared.code_bits.Found.{Found}
 use Rattle.net_design.specs.Bits.{BitSet, no_bits, named, reads, writes, adds, known_after, open_reads, block_writes, block_adds}
 use Rattle.net_design.specs.Bits.{block_open_reads, HasBits}
 use Rattle.net_design.specs.BitMap.{in_map}
 use Rattle.net_design.specs.Found.{Learns, Walks, WalksChoice, Arm, AfterArms, learned, guard_writes, guard_adds, guard_reads}
-use Rattle.net_design.proofs.UpdateLaws.{from_here}
-use Rattle.net_design.proofs.FoundLaws.{or_none, or_assoc, or_fresh, LearnsRest, rest_step, rest_done}
+use Rattle.net_design.proofs.FoundLaws.{or_fresh, LearnsRest, rest_step, rest_done}
+use Rattle.net_design.proofs.BoolLaws.{or_none, or_assoc, and_true, and_assoc}
 
 same_sets : (p q : BitSet) → ((m k : ℕ) → p m k ≡ q m k) → p ≡ q
 same_sets p q h = fun_ext (λ m. fun_ext (λ k. h m k))
 
-none : (b : Bool) → b ≡ (b || false)
-none true = refl
-none false = refl
-
 known_is : (t : Timing) (s p : BitSet) (m k : ℕ) → known_after t s p m k ≡ (s m k || learned t p m k)
 known_is Blocking s p m k = refl
-known_is Nonblocking s p m k = none (s m k)
+known_is Nonblocking s p m k = or_none (s m k)
 
 -- ---- a list of statements
 learned_both : (t : Timing) (p q : BitSet) (m k : ℕ) → learned t (λ x y. p x y || q x y) m k ≡ (learned t p m k || learned t q m k)
@@ -77,8 +71,8 @@ pub walk_done : (t : Timing) (acts rest : List Act) (before now : Found) (fresh 
     → WalksRest t acts rest before now fresh new
     → Walks t (block_writes acts) (block_adds acts) (block_open_reads t acts) before now fresh new
 walk_done t acts rest before now fresh new e h = record {
-  writes = λ m k. none (in_map now.writes m k) ∙ ap (λ xs. in_map now.writes m k || block_writes xs m k) (sym e) ∙ h.writes m k;
-  reads = λ m k. none (in_map now.reads m k) ∙ ap (λ xs. in_map now.reads m k || block_open_reads t xs (in_map now.known) m k) (sym e)
+  writes = λ m k. or_none (in_map now.writes m k) ∙ ap (λ xs. in_map now.writes m k || block_writes xs m k) (sym e) ∙ h.writes m k;
+  reads = λ m k. or_none (in_map now.reads m k) ∙ ap (λ xs. in_map now.reads m k || block_open_reads t xs (in_map now.known) m k) (sym e)
       ∙ h.reads m k;
   known = rest_done (learned t (block_adds acts)) (learned t (block_adds rest)) before.known now.known fresh new
       (λ m k. ap (λ xs. learned t (block_adds xs) m k) e ∙ learned_none t m k) h.known;
@@ -144,14 +138,6 @@ arms_begin t others before mid now all w ew er ek = record {
       ∙ restored (in_map before.known m k) (learned t (block_adds others) m k);
   masks = λ m k. w.known.masks m k ∙ ap (λ b. b && not (in_map before.known m k)) (sym (learned_true t (block_adds others) m k));
 }
-
-and_true : (b : Bool) → b ≡ (b && true)
-and_true true = refl
-and_true false = refl
-
-and_assoc : (a b c : Bool) → (a && (b && c)) ≡ ((a && b) && c)
-and_assoc true b c = refl
-and_assoc false b c = refl
 
 or_three : (a b c d : Bool) → (a || (b || (c || d))) ≡ ((a || (b || c)) || d)
 or_three true b c d = refl

@@ -1,5 +1,5 @@
 -- What a walk over statements finds of their bits.
-use Rattle.std.specs.Prelude.{◌≡◌, ℕ, ◌&&◌, ◌||◌, not, Bool, true, false, List, [], ◌∷◌}
+use Rattle.std.specs.Prelude.{◌≡◌, ℕ, ◌&&◌, ◌||◌, not, true, false, List, [], ◌∷◌}
 use Rattle.std.specs.List.{list_any}
 use Rattle.net_design.specs.declared.act.Act.{Act}
 use Rattle.net_design.specs.declared.act.Guard.{Guard}

@@ -5,7 +5,7 @@ use Rattle.std.specs.Int.{bit_at}
 use Rattle.std.specs.List.{list_any, AllPairs, Contains, count_by, sum_by}
 use Rattle.net_design.specs.declared.rhs.Span.{Span}
 use Rattle.net_design.specs.declared.rhs.Room.{Room}
-use Rattle.net_design.specs.declared.act.Act.{Act, Set, Read}
+use Rattle.net_design.specs.declared.act.Act.{Act, Set}
 use Rattle.net_design.specs.declared.act.Code.{Code}
 use Rattle.net_design.specs.declared.act.Timing.{Timing}
 use Rattle.net_design.specs.declared.act.Timing.TheVariants.{Blocking, Nonblocking}
@@ -21,7 +21,7 @@ use Rattle.net_design.specs.declared.design.Counts.{Counts}
 use Rattle.net_design.specs.declared.values.Values.{Values}
 use Rattle.vlog_operators.specs.Number.{IsWidth, has}
 use Rattle.net_design.specs.Sized.{IsBlock}
-use Rattle.net_design.specs.Bits.{named, Apart, HasBits, block_writes, block_adds, block_writes_words}
+use Rattle.net_design.specs.Bits.{named, Apart, HasBits, block_adds, block_writes_words}
 use Rattle.net_design.specs.Settled.{net_width, held, word_count, same_direction, FitNets}
 use Rattle.net_design.specs.Names.{net_names}
 

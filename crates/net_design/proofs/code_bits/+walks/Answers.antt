@@ -1,4 +1,4 @@
-use Rattle.std.proofs.Common.{◌≡◌, ℕ, ◌&&◌, not, List, [], refl, ap, sym, subst, ◌∙◌}
+use Rattle.std.proofs.Common.{ℕ, ◌&&◌, not, List, [], refl, ap, sym, subst, ◌∙◌}
 use Rattle.net_design.specs.declared.act.Mask.{Mask}
 use Rattle.net_design.specs.declared.code_bits.Found.{Found}
 use Rattle.net_design.specs.BitMap.{in_map}

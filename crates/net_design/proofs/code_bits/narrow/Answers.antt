@@ -1,4 +1,4 @@
-use Rattle.std.proofs.Common.{◌≡◌, ◌<◌, get_or, length, ◌∙◌, arith}
+use Rattle.std.proofs.Common.{◌≡◌, ◌<◌, get_or, length, ◌∙◌}
 use Rattle.std.proofs.lemmas.List.{get_or_default}
 use Rattle.net_design.specs.declared.act.Mask.{Mask}
 use Rattle.net_design.proofs.FoundLaws.{masks_narrowed}

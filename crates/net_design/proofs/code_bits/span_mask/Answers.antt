@@ -1,4 +1,4 @@
-use Rattle.std.proofs.Common.{◌≡◌, ℕ, ◌^◌, ◌-◌, ap, sym, ◌∙◌}
+use Rattle.std.proofs.Common.{ap, ◌∙◌}
 use Rattle.vlog_operators.specs.Number.{has, put_of}
 use Rattle.net_design.proofs.MaskLaws.{has_span}
 use Rattle.net_design.proofs.code_bits.span_mask.Goals as goal

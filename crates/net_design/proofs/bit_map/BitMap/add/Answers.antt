@@ -1,5 +1,4 @@
-use Rattle.net_design.specs.BitMap.{in_map}
-use Rattle.net_design.proofs.MaskLaws.{added, none_added}
+use Rattle.net_design.proofs.MaskLaws.{added}
 use Rattle.net_design.proofs.bit_map.BitMap.add.Goals as goal
 
 pub returns : goal.returns

@@ -1,11 +1,12 @@
-use Rattle.std.proofs.Common.{◌||◌, Bool, ap, sym, ◌∙◌}
+use Rattle.std.proofs.Common.{◌||◌, ap, sym, ◌∙◌}
 use Rattle.std.specs.Ordering.{nat_cmp}
 use Rattle.std.specs.BTreeMap.{keys}
 use Rattle.std.specs.Map.Iter.{deref_pair}
 use Rattle.std.proofs.lemmas.Map.Iter.{rest_all}
 use Rattle.std.proofs.lemmas.Map.Keys.{IsDistinct-from_sorted}
 use Rattle.net_design.specs.Bits.{named}
-use Rattle.net_design.proofs.MaskLaws.{or_none, named_entries, map_named}
+use Rattle.net_design.proofs.BoolLaws.{or_none}
+use Rattle.net_design.proofs.MaskLaws.{named_entries, map_named}
 use Rattle.net_design.proofs.bit_map.BitMap.to_masks.Goals as goal
 
 pub returns : goal.returns
