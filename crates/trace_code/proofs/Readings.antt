@@ -103,9 +103,9 @@ one_reading bytes t u a b =
     let c = same-table bytes t.channels u.channels t.packets u.packets (end_mark (length t.packets)) (end_mark (length u.packets)) s (encoding-splits u bytes b) in
     let r = subst (λ (cs : List Channel). Splits bytes cs u.packets (end_mark (length u.packets))) (sym c) (encoding-splits u bytes b) in
     same_trace t u c (⊎_elim
-      (λ (g : GoesOn t.channels t.packets u.packets (end_mark (length t.packets)) (end_mark (length u.packets))). sym (ended t.channels t.packets u.packets (length t.packets) (end_mark (length u.packets)) g).0)
-      (λ (g : GoesOn t.channels u.packets t.packets (end_mark (length u.packets)) (end_mark (length t.packets))). (ended t.channels u.packets t.packets (length u.packets) (end_mark (length t.packets)) g).0)
-      (two-splits bytes t.channels t.packets u.packets (end_mark (length t.packets)) (end_mark (length u.packets)) s r))
+    (λ (g : GoesOn t.channels t.packets u.packets (end_mark (length t.packets)) (end_mark (length u.packets))). sym (ended t.channels t.packets u.packets (length t.packets) (end_mark (length u.packets)) g).0)
+    (λ (g : GoesOn t.channels u.packets t.packets (end_mark (length u.packets)) (end_mark (length t.packets))). (ended t.channels u.packets t.packets (length u.packets) (end_mark (length t.packets)) g).0)
+    (two-splits bytes t.channels t.packets u.packets (end_mark (length t.packets)) (end_mark (length u.packets)) s r))
 
 pub reads_back : ReadsBack
 reads_back t (Ok u) has code = inl (ap (λ (v : Trace). Ok v) (one_reading (encode t) u t code (has, refl)))

@@ -1,6 +1,7 @@
 //! Reading a whole trace.
 
-ghost use Rattle.std.specs.Prelude.{◌≡◌, ◌≢◌, ℕ, ◌<◌, ◌≤◌, ◌^◌, ◌↔◌, IsTrue, List, [], ◌∷◌, ◌++◌, length, All, IfOk, IfSome, IfNone, MatchResult};
+ghost use Rattle.std.specs.Prelude.{◌≡◌, ◌≢◌, ℕ, ◌<◌, ◌≤◌, ◌^◌, ◌↔◌, IsTrue, List, [], ◌∷◌, ◌++◌, length, All, IfOk, IfSome, IfNone};
+ghost use Rattle.std.specs.Prelude.{MatchResult};
 ghost use Rattle.trace_model.specs.declared.packet.Packet.{Packet};
 ghost use Rattle.trace_model.specs.declared.trace.Trace.{Trace};
 ghost use Rattle.trace_model.specs.Channel.{IsChannel};

@@ -111,12 +111,7 @@ pub fn encode(alloc: Global, t: &Trace) -> Result<Bytes, Memory>
     let channels = t.channels.as_slice();
     let mut out = header_bytes(alloc, &t.channels)?.into_vec();
     let mut buf = vec![in alloc; 0u8; longest_packet(channels)]?;
-    push_packets(
-        &mut out,
-        channels,
-        t.packets.as_slice(),
-        buf.as_mut_slice(),
-    )?;
+    push_packets(&mut out, channels, t.packets.as_slice(), buf.as_mut_slice())?;
     out.extend_from_slice(&end_mark(t.packets.len() as u32))?;
     Ok(Items::from_vec(out))
 }

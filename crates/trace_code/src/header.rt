@@ -109,7 +109,9 @@ fn is_name(name: &[u8]) -> bool
 fn each_is_width(widths: &[u8]) -> bool
     ensures { result ≡ list_all is_width widths.now }
 {
-    widths.iter().all(|width| 1 <= *width && *width <= MAX_WIDTH)
+    widths
+        .iter()
+        .all(|width| 1 <= *width && *width <= MAX_WIDTH)
 }
 
 /// Whether these are the widths of a lawful channel.

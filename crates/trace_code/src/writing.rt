@@ -63,13 +63,7 @@ fn write_content(buf: &mut [u8], at: usize, widths: &[u8], content: &[u128]) -> 
 }
 
 /// Writes the content of a channel, where it starts.
-fn write_start(
-    buf: &mut [u8],
-    at: usize,
-    widths: &[u8],
-    content: &[u128],
-    starts: bool,
-) -> usize
+fn write_start(buf: &mut [u8], at: usize, widths: &[u8], content: &[u128], starts: bool) -> usize
     requires small { All (λ w. w ≤ 128) widths.now }
     requires one_each { length content.now ≡ length widths.now }
     requires room { at + sum_by byte_count (if starts then widths.now else []) ≤ length buf.old }
@@ -159,5 +153,12 @@ pub fn write_packet(row: &Row, channels: &Channels, buf: &mut [u8]) -> usize
         return 0;
     }
     let contents = row.contents.as_slice();
-    write_events(buf, channels.as_slice(), u128::MAX, row.starts, row.ends, contents)
+    write_events(
+        buf,
+        channels.as_slice(),
+        u128::MAX,
+        row.starts,
+        row.ends,
+        contents,
+    )
 }

@@ -47,9 +47,7 @@ fn joined(alloc: Global, front: &[u8], back: &[u8]) -> Result<Vec<u8>, Fail> {
 }
 
 fn is_packet_of(packet: &Packet, events: &Events) -> bool {
-    packet.starts == events.0
-        && packet.ends == events.1
-        && packet.contents.as_slice() == events.2
+    packet.starts == events.0 && packet.ends == events.1 && packet.contents.as_slice() == events.2
 }
 
 fn are_packets_of(packets: &[Packet], events: &[Events]) -> bool {
@@ -104,7 +102,12 @@ fn worked_traces_are_coded(rt: HostRuntime) -> Result<(), Fail> {
         (
             &REGS,
             &ROUND,
-            &[(3, 3, &[0, 1000, 15]), (4, 4, &[0]), (8, 8, &[0]), (16, 16, &[1000, 0])],
+            &[
+                (3, 3, &[0, 1000, 15]),
+                (4, 4, &[0]),
+                (8, 8, &[0]),
+                (16, 16, &[1000, 0]),
+            ],
         ),
     ];
     for (header, body, events) in cases {

@@ -22,5 +22,9 @@ pub fn same_channels(a: &Channels, b: &Channels) -> Option<usize>
             return Some(i);
         }
     }
-    if a.len() == b.len() { None } else { Some(shorter) }
+    if a.len() == b.len() {
+        None
+    } else {
+        Some(shorter)
+    }
 }

@@ -94,7 +94,13 @@ fn memory_sink_fails_where_listed(rt: HostRuntime) -> Result<(), test::Fail> {
 fn a_fixed_sink_is_filled_to_its_last_byte(rt: HostRuntime) -> Result<(), test::Fail> {
     let buf = vec![in rt.alloc(); 0u8; 4]?;
     let mut sink = FixedSink::new(Bytes::from_vec(buf));
-    for (piece, done) in [("abc", true), ("de", false), ("d", true), ("", true), ("e", false)] {
+    for (piece, done) in [
+        ("abc", true),
+        ("de", false),
+        ("d", true),
+        ("", true),
+        ("e", false),
+    ] {
         assert_eq!(rt; sink.push(piece.as_bytes()).is_ok(), done, "{piece}");
     }
     assert_eq!(rt; sink.bytes(), b"abcd".as_slice());

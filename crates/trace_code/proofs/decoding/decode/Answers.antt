@@ -10,8 +10,7 @@ returns-then-not-is_end-clause-decodes c =
     let cs = c.in_ok-channels.channels in
     let ps = c.in_ok-packets.packets in
     let found = c.in_ok-channels.ensures.found in
-    let all : AreAll cs c.in_ok-channels.rest.now ps c.in_ok-packets.rest.now = rw c.as_slice.ensures at c.in_ok-packets.ensures in
-    (
+    let all : AreAll cs c.in_ok-channels.rest.now ps c.in_ok-packets.rest.now = rw c.as_slice.ensures at c.in_ok-packets.ensures in (
       inr (place-behind cs c.args.bytes.now c.in_ok-channels.rest.now c.in_ok-packets.rest.now ps _ found.0 found.1 all refl),
       no-end cs c.args.bytes.now c.in_ok-channels.rest.now c.in_ok-packets.rest.now ps found.0 found.1 all (λ e. false≢true (sym c.if-not-is_end.true ∙ c.is_end.ensures.1 (rw c.len.ensures e))),
     )

@@ -25,16 +25,16 @@ returns-clause-bytes c =
     let numbers = picked c.args.listed c.args.starts 0 c.args.channels.now c.args.contents.now in
     let size = number_bytes-length (widths_under c.args.starts c.args.channels.now) numbers (picked-length c.args.listed c.args.starts 0 c.args.channels.now c.args.contents.now c.requires.some c.requires.one_each) in
     (parts-written (length c.args.channels.now) c.args.starts c.args.ends (number_bytes (widths_under c.args.starts c.args.channels.now) numbers) c.args.buf.now c.write_at-tagged.new.buf c.write_mask-started.new.buf c.write_mask-ended.new.buf c.write_contents.new.buf c.write_at-tagged.result c.write_mask-started.result c.write_mask-ended.result c.write_contents.result
-      (record {
-        room = omega (arith, size, c.requires.room, length-low 0 (mask_len (length c.args.channels.now)) c.args.starts, length-low 0 (mask_len (length c.args.channels.now)) c.args.ends);
-        tag = c.write_at-tagged.ensures.bytes;
-        tag-place = c.write_at-tagged.ensures.place;
-        starts = c.write_mask-started.ensures.bytes;
-        starts-place = c.write_mask-started.ensures.place;
-        ends = c.write_mask-ended.ensures.bytes;
-        ends-place = c.write_mask-ended.ensures.place;
-        contents = c.write_contents.ensures.bytes;
-        b-long = c.write_at-tagged.auto.buf;
-        b'-long = c.write_mask-started.auto.buf ∙ c.write_at-tagged.auto.buf;
-      })
-      c.write_contents.ensures.place).0
+    (record {
+      room = omega (arith, size, c.requires.room, length-low 0 (mask_len (length c.args.channels.now)) c.args.starts, length-low 0 (mask_len (length c.args.channels.now)) c.args.ends);
+      tag = c.write_at-tagged.ensures.bytes;
+      tag-place = c.write_at-tagged.ensures.place;
+      starts = c.write_mask-started.ensures.bytes;
+      starts-place = c.write_mask-started.ensures.place;
+      ends = c.write_mask-ended.ensures.bytes;
+      ends-place = c.write_mask-ended.ensures.place;
+      contents = c.write_contents.ensures.bytes;
+      b-long = c.write_at-tagged.auto.buf;
+      b'-long = c.write_mask-started.auto.buf ∙ c.write_at-tagged.auto.buf;
+    })
+    c.write_contents.ensures.place).0

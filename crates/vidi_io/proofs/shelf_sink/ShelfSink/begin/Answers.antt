@@ -9,7 +9,7 @@ returns-in_err-start-clause-frame g c f over =
     let old = c.args.self.now in
     subst (λ (b : Bool). IsOver b (S.files c.start.new.self) old.name.now (S.read_faults c.start.new.self) f) (sym c.if-self.false)
     (over-kept (S.files old.shelf.now) (S.files c.start.new.self) old.name.now (S.read_faults old.shelf.now) (S.read_faults c.start.new.self) f c.in_err-start.ensures.err c.in_err-start.ensures.counts.reads
-      (subst (λ (b : Bool). IsOver b (S.files old.shelf.now) old.name.now (S.read_faults old.shelf.now) f) c.if-self.false over))
+    (subst (λ (b : Bool). IsOver b (S.files old.shelf.now) old.name.now (S.read_faults old.shelf.now) f) c.if-self.false over))
 
 pub returns-clause-written : goal.returns-clause-written
 returns-clause-written g c =
