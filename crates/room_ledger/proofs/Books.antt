@@ -1,8 +1,7 @@
 -- What the calls of a `Room` do to its ledger, and that it stays sound.
-use Rattle.std.proofs.Common.{◌≡◌, ◌≢◌, ◌⊎◌, ◌↔◌, ℕ, zero, suc, ◌+◌, ◌-◌, ◌*◌, ◌/◌, ◌%◌, ◌<◌, ◌≤◌, ◌^◌, ◌&&◌, ◌||◌, ◌==◌, Bool, IsTrue, true, false, not, cond, map, List, [], ◌∷◌, length, bit_and, bit_or, sum_by, refl, ap, sym, subst, ◌∙◌, ⊎_elim, inl, inr, arith}
-use Rattle.std.specs.Int.{bit_at}
+use Rattle.std.proofs.Common.{◌≡◌, ◌≢◌, ◌↔◌, ℕ, ◌+◌, ◌-◌, ◌*◌, ◌/◌, ◌%◌, ◌<◌, ◌≤◌, ◌^◌, ◌&&◌, ◌||◌, ◌==◌, Bool, IsTrue, true, false, not, cond, map, List, [], ◌∷◌, length, bit_and, bit_or, sum_by, refl, ap, sym, subst, ◌∙◌, ⊎_elim, arith}
 use Rattle.std.proofs.Math.Nat.{pow-le-pow_right}
-use Rattle.std.proofs.lemmas.Bool.{cases_Bool, cases_eq, cases_lt, false≢true, eqb-true, eq-eqb, ne_eqb}
+use Rattle.std.proofs.lemmas.Bool.{cases_Bool, cases_eq, cases_lt, false≢true, eqb-true, eq-eqb}
 use Rattle.std.proofs.lemmas.List.Sums.{sum_by-cons}
 use Rattle.std.proofs.lemmas.Nat.{and_le_l, or_lt, pow_pos, mod_below}
 use Rattle.std.proofs.lemmas.Nat.Bits.{same_from_bits, ones_shr}
@@ -12,15 +11,15 @@ use Rattle.trace_model.specs.declared.channel.Channel.{Channel}
 use Rattle.trace_model.specs.Channel.{content_bytes}
 use Rattle.trace_model.specs.Counting.{has}
 use Rattle.trace_model.specs.Length.{head_len}
-use Rattle.trace_model.proofs.MaskLemmas.{some-bit, has-from-bit, bit-from-has, no-bit-from-has}
+use Rattle.trace_model.proofs.MaskLemmas.{some-bit, has-from-bit, no-bit-from-has}
 use Rattle.room_ledger.specs.Reservation.{whole, need, reservation, reserved, event_len, sizes_under}
-use Rattle.room_ledger.specs.Gates.{drained, left, all_up}
+use Rattle.room_ledger.specs.Gates.{all_up}
 use Rattle.room_ledger.specs.Raising.{raise}
 use Rattle.room_ledger.specs.Ledger.{Ledger, ledger, fresh, claimed, IsSound, MayEmit, Emitted, Regranted}
-use Rattle.room_ledger.proofs.Masks.{same-masks, has-or, has-without, has-zero, has-above, has-all}
+use Rattle.room_ledger.proofs.Masks.{same-masks, has-or, has-without, has-zero, has-above}
 use Rattle.room_ledger.proofs.Totals.{total}
 use Rattle.room_ledger.proofs.Emission.{IsLawful, packet-fits, pays-all}
-use Rattle.room_ledger.proofs.Raising.{RaisedFrom, raised-from, newly}
+use Rattle.room_ledger.proofs.Raising.{raised-from}
 use Rattle.room_ledger.proofs.Reserving.{reserved-need, raised-reserved, raised-within, are-raised}
 
 -- ---- emit

@@ -1,8 +1,7 @@
 -- What a cycle puts in the store was reserved.
-use Rattle.std.proofs.Common.{◌≡◌, ◌⊎◌, ℕ, ◌+◌, ◌*◌, ◌<◌, ◌≤◌, ◌&&◌, ◌||◌, ◌==◌, Bool, true, false, not, cond, List, [], ◌∷◌, length, refl, ap, sym, ◌∙◌, ⊎_elim, inl, inr, arith}
-use Rattle.std.proofs.lemmas.Bool.{cases_Bool, cases_lt, cases_eq}
-use Rattle.trace_model.specs.Counting.{has}
-use Rattle.room_ledger.specs.Reservation.{whole, reservation}
+use Rattle.std.proofs.Common.{◌≡◌, ℕ, ◌+◌, ◌*◌, ◌<◌, ◌≤◌, ◌&&◌, ◌||◌, Bool, true, false, not, cond, List, [], ◌∷◌, length, refl, ap, ⊎_elim, arith}
+use Rattle.std.proofs.lemmas.Bool.{cases_eq}
+use Rattle.room_ledger.specs.Reservation.{reservation}
 use Rattle.room_ledger.proofs.Totals.{total, total-cons}
 
 -- one channel, which has its gate up, is in flight, starts and ends, or not: what it reserves afterwards, its content where it

@@ -1,6 +1,6 @@
 -- *Gates* on a worked example: a store of 18 bytes that doesn't drain, and a buffer of one place between two channels a and b of one
 -- byte each. Each channel needs 2 * 3 + 1 = 7 bytes.
-use Rattle.std.proofs.Common.{◌≡◌, ℕ, List, [], ◌∷◌, Option, Some, refl, lit<}
+use Rattle.std.proofs.Common.{◌≡◌, ℕ, List, [], ◌∷◌, Some, refl, lit<}
 use Rattle.trace_model.specs.declared.row.Row.{Row}
 use Rattle.room_ledger.specs.Reservation.{need}
 use Rattle.room_ledger.specs.Gates.{Plan, used_at, AreGates}

@@ -1,24 +1,19 @@
 -- The ledger follows *Gates* from row to row.
-use Rattle.std.proofs.Common.{◌≡◌, ◌≢◌, ◌⊎◌, ℕ, zero, suc, ◌+◌, ◌-◌, ◌*◌, ◌<◌, ◌≤◌, ◌^◌, ◌&&◌, ◌||◌, ◌==◌, Bool, true, false, not, cond, min, max, List, [], ◌∷◌, ◌++◌, map, Option, Some, None, length, take, get_or, slice_get, sum_by, bit_and, bit_or, refl, ap, sym, subst, ◌∙◌, ⊎_elim, arith, length-append}
+use Rattle.std.proofs.Common.{◌≡◌, ℕ, zero, suc, ◌+◌, ◌≤◌, ◌&&◌, ◌||◌, ◌==◌, Bool, true, false, not, cond, List, [], ◌∷◌, ◌++◌, map, Option, length, slice_get, sum_by, bit_or, refl, ap, sym, subst, ◌∙◌, arith, length-append}
 use Rattle.std.proofs.lemmas.List.{length-map}
 use Rattle.std.specs.Prelude.{IsSomeAnd}
-use Rattle.std.specs.Int.{bit_at}
-use Rattle.std.specs.Int.RustNames.{bit_xor}
 use Rattle.std.specs.List.{enumerate_from}
-use Rattle.std.proofs.lemmas.Bool.{cases_Bool, cases_lt}
 use Rattle.std.proofs.lemmas.List.Sums.{sum_by-cons}
-use Rattle.std.proofs.lemmas.Nat.{and_le_l}
-use Rattle.std.proofs.lemmas.Option.{slice_get_cases}
 use Rattle.trace_model.specs.declared.channel.Channel.{Channel}
 use Rattle.trace_model.specs.declared.row.Row.{Row}
 use Rattle.trace_model.specs.Channel.{content_bytes}
 use Rattle.trace_model.specs.Counting.{has}
-use Rattle.trace_model.specs.Length.{head_len, contents_len, packet_len}
-use Rattle.trace_model.specs.Row.{IsMarked, completes, flies_after, is_in_flight, row_before, sink_valid}
+use Rattle.trace_model.specs.Length.{head_len, packet_len}
+use Rattle.trace_model.specs.Row.{completes, flies_after, is_in_flight, row_before, sink_valid}
 use Rattle.trace_model.proofs.CountingLemmas.{slice_get-last, slice_get-append_left}
 use Rattle.room_ledger.specs.Reservation.{AreRaised, event_len, sizes_under}
-use Rattle.room_ledger.specs.Gates.{Plan, left, row_len, used_at, all_up, keeps, AreGates}
-use Rattle.room_ledger.specs.Ledger.{Ledger, MayEmit, Emitted, Regranted, fresh}
+use Rattle.room_ledger.specs.Gates.{Plan, left, row_len, used_at, keeps, AreGates}
+use Rattle.room_ledger.specs.Ledger.{Ledger, MayEmit, Emitted, Regranted}
 use Rattle.room_ledger.specs.Laws.{StandsAfter, MayFollow, KeepsGates}
 use Rattle.room_ledger.proofs.GateLaws.{some-row}
 use Rattle.room_ledger.proofs.Masks.{has-or, has-zero}
@@ -183,20 +178,24 @@ shown sizes plan rows l starts ends stands may =
     let before = row_before rows (length rows) in
     let row : Row = record { gates = l.gates; valids = bit_or l.flying starts; readies = ends; contents = []; starts = starts; ends = ends } in
     let up : (c : ℕ) → has l.flying c ≡ true → has l.gates c ≡ true = λ c h. flies-up sizes plan rows (length rows) l.gates stands.gates c (sym (stands.flying c) ∙ h) in
-    let valid : (c : ℕ) → sink_valid row c ≡ ((has l.flying c || has starts c) && has l.gates c) = λ c. ap (λ v. v && has l.gates c) (has-or l.flying starts c) in
-    (row, refl, refl, record {
-      gates = refl;
-      marked = record {
-        starts = λ c.
-            shown-start (has l.flying c) (has starts c) (has l.gates c) (may.start c)
-            ∙ ap (λ v. v && not (has l.flying c)) (sym (valid c))
-            ∙ ap (λ f. sink_valid row c && not f) (stands.flying c);
-        ends = λ c.
-            shown-end (has l.flying c) (has starts c) (has l.gates c) (has ends c) (may.complete c) (may.start c) (up c)
-            ∙ ap (λ v. v && has ends c) (sym (valid c));
-      };
-      stays = λ c h. valid c ∙ shown-stays (has l.flying c) (has starts c) (has l.gates c) (up c) (stands.flying c ∙ h);
-    })
+    let valid : (c : ℕ) → sink_valid row c ≡ ((has l.flying c || has starts c) && has l.gates c) = λ c. ap (λ v. v && has l.gates c) (has-or l.flying starts c) in (
+      row,
+      refl,
+      refl,
+      record {
+        gates = refl;
+        marked = record {
+          starts = λ c.
+              shown-start (has l.flying c) (has starts c) (has l.gates c) (may.start c)
+              ∙ ap (λ v. v && not (has l.flying c)) (sym (valid c))
+              ∙ ap (λ f. sink_valid row c && not f) (stands.flying c);
+          ends = λ c.
+              shown-end (has l.flying c) (has starts c) (has l.gates c) (has ends c) (may.complete c) (may.start c) (up c)
+              ∙ ap (λ v. v && has ends c) (sym (valid c));
+        };
+        stays = λ c h. valid c ∙ shown-stays (has l.flying c) (has starts c) (has l.gates c) (up c) (stands.flying c ∙ h);
+      },
+    )
 
 pub keeps-gates : (sizes : List ℕ) (plan : Plan) → KeepsGates sizes plan
 keeps-gates sizes plan = record {

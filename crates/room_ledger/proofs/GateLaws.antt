@@ -1,18 +1,18 @@
 -- What *Gates* alone says: exactly one set of gates, and gates that are down only while bytes wait.
-use Rattle.std.proofs.Common.{◌≡◌, ◌≢◌, ◌⊎◌, ℕ, zero, suc, ◌+◌, ◌-◌, ◌*◌, ◌<◌, ◌≤◌, ◌^◌, ◌&&◌, Bool, true, false, not, cond, List, [], ◌∷◌, ◌++◌, Option, Some, None, length, take, get_or, slice_get, leb, refl, ap, sym, subst, ◌∙◌, ⊎_elim, inl, inr, arith, le-leb}
+use Rattle.std.proofs.Common.{◌≡◌, ℕ, zero, suc, ◌+◌, ◌<◌, ◌≤◌, ◌&&◌, Bool, true, false, not, cond, List, Option, Some, None, length, take, get_or, slice_get, leb, refl, ap, sym, subst, ◌∙◌, ⊎_elim, arith, le-leb}
 use Rattle.std.specs.Prelude.{IsSomeAnd}
 use Rattle.std.proofs.lemmas.Bool.{cases_Bool, cases_lt, false≢true}
 use Rattle.std.proofs.lemmas.List.{length-take-le}
-use Rattle.std.proofs.lemmas.Option.{slice_get_cases, slice_get_within}
+use Rattle.std.proofs.lemmas.Option.{slice_get_cases}
 use Rattle.trace_model.specs.declared.row.Row.{Row}
 use Rattle.trace_model.specs.Counting.{has}
 use Rattle.trace_model.specs.Length.{head_len}
-use Rattle.trace_model.specs.Row.{completes, is_in_flight}
+use Rattle.trace_model.specs.Row.{is_in_flight}
 use Rattle.room_ledger.specs.Reservation.{whole, need, reserved, raised_below, AreRaised}
-use Rattle.room_ledger.specs.Gates.{Plan, left, row_len, used_at, all_up, keeps, AreGates}
+use Rattle.room_ledger.specs.Gates.{Plan, used_at, all_up, keeps, AreGates}
 use Rattle.room_ledger.specs.Laws.{EverythingDrains}
 use Rattle.room_ledger.proofs.Masks.{has-all, has-all_above, same-masks}
-use Rattle.room_ledger.proofs.Totals.{total, total-same}
+use Rattle.room_ledger.proofs.Totals.{total-same}
 use Rattle.room_ledger.proofs.Raising.{newly}
 use Rattle.room_ledger.proofs.Reserving.{all-need}
 

@@ -1,9 +1,9 @@
 -- The gates that go up one after the other are those of *Gates*, where the sums are added up anew.
-use Rattle.std.proofs.Common.{◌≡◌, ◌≢◌, ◌⊎◌, ℕ, zero, suc, ◌+◌, ◌*◌, ◌<◌, ◌≤◌, ◌^◌, ◌&&◌, ◌||◌, Bool, true, false, not, cond, List, [], ◌∷◌, Some, length, take, slice_get, bit_or, leb, refl, ap, sym, subst, ◌∙◌, ⊎_elim, inl, inr, arith, add-zero}
+use Rattle.std.proofs.Common.{◌≡◌, ◌≢◌, ℕ, zero, suc, ◌+◌, ◌<◌, ◌≤◌, ◌^◌, ◌&&◌, ◌||◌, Bool, true, false, not, cond, List, [], ◌∷◌, Some, length, take, slice_get, bit_or, leb, refl, ap, sym, ◌∙◌, ⊎_elim, arith, add-zero}
 use Rattle.std.proofs.lemmas.Bool.{cases_Bool, cases_eq}
 use Rattle.std.proofs.lemmas.Option.{same_Some}
 use Rattle.trace_model.specs.Counting.{has}
-use Rattle.room_ledger.specs.Reservation.{whole, reserved, raised_below, AreRaised}
+use Rattle.room_ledger.specs.Reservation.{whole}
 use Rattle.room_ledger.specs.Raising.{raise}
 use Rattle.room_ledger.proofs.Masks.{has-or, has-pow_same, has-pow_other}
 use Rattle.room_ledger.proofs.Totals.{total, total-cons, total-same}

@@ -1,13 +1,11 @@
 -- Sums of reservations: what they are at most, and what they are once gates have gone up.
-use Rattle.std.proofs.Common.{◌≡◌, ◌≢◌, ◌⊎◌, ℕ, zero, suc, ◌+◌, ◌*◌, ◌<◌, ◌≤◌, ◌^◌, ◌&&◌, Bool, true, false, not, cond, List, [], ◌∷◌, Some, None, length, take, get_or, slice_get, sum_by, leb, refl, ap, sym, ◌∙◌, ⊎_elim, inl, inr, arith, zero-add, leb-true}
-use Rattle.std.specs.List.{enumerate_from}
-use Rattle.std.proofs.lemmas.Bool.{cases_Bool}
+use Rattle.std.proofs.Common.{◌≡◌, ℕ, zero, suc, ◌+◌, ◌*◌, ◌<◌, ◌≤◌, ◌^◌, ◌&&◌, Bool, true, false, not, cond, List, [], ◌∷◌, Some, None, length, take, get_or, slice_get, sum_by, leb, refl, ap, sym, ◌∙◌, ⊎_elim, arith, zero-add, leb-true}
 use Rattle.std.proofs.lemmas.List.{take_all}
 use Rattle.std.proofs.lemmas.List.Sums.{sum_by-cons}
 use Rattle.std.proofs.lemmas.Option.{same_Some, slice_get_cases}
 use Rattle.trace_model.specs.Counting.{has}
 use Rattle.trace_model.specs.Length.{head_len}
-use Rattle.room_ledger.specs.Reservation.{whole, reservation, reserved, raised_below, AreRaised}
+use Rattle.room_ledger.specs.Reservation.{whole, reservation, reserved, AreRaised}
 use Rattle.room_ledger.proofs.Masks.{has-above}
 use Rattle.room_ledger.proofs.Totals.{total, total-cons, total-more}
 use Rattle.room_ledger.proofs.Raising.{newly, RaisedFrom}

@@ -1,5 +1,6 @@
 -- *Gates*: the bytes used and the gates in each row, added up anew from the rows before it (this project's profile).
-use Rattle.std.specs.Prelude.{◌≡◌, ℕ, zero, suc, ◌+◌, ◌-◌, ◌^◌, ◌<◌, ◌&&◌, Bool, not, List, Option, Some, None, min, length, slice_get, IsSomeAnd}
+use Rattle.std.specs.Prelude.{◌≡◌, ℕ, zero, suc, ◌+◌, ◌-◌, ◌^◌, ◌&&◌, Bool}
+use Rattle.std.specs.Prelude.{not, List, Option, Some, None, min, length, slice_get, IsSomeAnd}
 use Rattle.trace_model.specs.declared.row.Row.{Row}
 use Rattle.trace_model.specs.Counting.{has}
 use Rattle.trace_model.specs.Row.{completes, is_in_flight}
@@ -41,4 +42,5 @@ keeps row c = has row.gates c && not (completes row c)
 abbrev pub AreGates : List ℕ → Plan → List Row → ℕ → ℕ → Type 0
 AreGates sizes plan rows zero gates = gates ≡ all_up sizes
 AreGates sizes plan rows (suc t) gates =
-    IsSomeAnd (slice_get rows t) (λ row. AreRaised sizes plan.capacity (used_at sizes plan rows (suc t)) (keeps row) (is_in_flight row) (has gates))
+    IsSomeAnd (slice_get rows t)
+    (λ row. AreRaised sizes plan.capacity (used_at sizes plan rows (suc t)) (keeps row) (is_in_flight row) (has gates))

@@ -28,10 +28,12 @@ pub record MayFollow (l : Ledger) (before : Option Row) (row : Row) : Type 0 whe
 -- and each lawful `emit` is that of a row.
 pub record KeepsGates (sizes : List ℕ) (plan : Plan) : Type 0 where
   pub first : StandsAfter sizes plan [] (fresh sizes plan.capacity)
-  pub lawful : (rows : List Row) (row : Row) (l : Ledger) → StandsAfter sizes plan rows l → MayFollow l (row_before rows (length rows)) row → MayEmit l row.starts row.ends
+  pub lawful : (rows : List Row) (row : Row) (l : Ledger) → StandsAfter sizes plan rows l
+      → MayFollow l (row_before rows (length rows)) row → MayEmit l row.starts row.ends
   pub shown : (rows : List Row) (l : Ledger) (starts ends : ℕ) → StandsAfter sizes plan rows l → MayEmit l starts ends
       → (row : Row) × (row.starts ≡ starts) × (row.ends ≡ ends) × MayFollow l (row_before rows (length rows)) row
-  pub next : (rows : List Row) (row : Row) (l emitted new : Ledger) → StandsAfter sizes plan rows l → MayFollow l (row_before rows (length rows)) row
+  pub next : (rows : List Row) (row : Row) (l emitted new : Ledger) → StandsAfter sizes plan rows l
+      → MayFollow l (row_before rows (length rows)) row
       → Emitted l row.starts row.ends emitted
       → Regranted (record emitted { used = left (plan.allowance (length rows)) emitted.used }) new
       → StandsAfter sizes plan (rows ++ row ∷ []) new
@@ -41,8 +43,8 @@ RoomKeepsGates = (sizes : List ℕ) (plan : Plan) → KeepsGates sizes plan
 
 -- a gate is down only while bytes wait
 abbrev pub DownOnlyWhileBytesWait : Type 0
-DownOnlyWhileBytesWait = (sizes : List ℕ) (plan : Plan) (rows : List Row) (t gates c : ℕ) → need sizes ≤ plan.capacity → AreGates sizes plan rows t gates
-    → c < length sizes → has gates c ≡ false → 0 < used_at sizes plan rows t
+DownOnlyWhileBytesWait = (sizes : List ℕ) (plan : Plan) (rows : List Row) (t gates c : ℕ) → need sizes ≤ plan.capacity
+    → AreGates sizes plan rows t gates → c < length sizes → has gates c ≡ false → 0 < used_at sizes plan rows t
 
 -- after each row everything drains
 abbrev pub EverythingDrains : List ℕ → Plan → List Row → Type 0
@@ -55,9 +57,11 @@ AllStayUp = (sizes : List ℕ) (plan : Plan) (rows : List Row) (t gates : ℕ) �
 
 -- each row has exactly one set of gates, where the gates of the rows are those of channels
 abbrev pub OneSetOfGates : Type 0
-OneSetOfGates = (sizes : List ℕ) (plan : Plan) (rows : List Row) (t : ℕ) → ((u : ℕ) (row : Row) → slice_get rows u ≡ Some row → row.gates < 2 ^ length sizes) → t ≤ length rows
+OneSetOfGates = (sizes : List ℕ) (plan : Plan) (rows : List Row) (t : ℕ)
+    → ((u : ℕ) (row : Row) → slice_get rows u ≡ Some row → row.gates < 2 ^ length sizes) → t ≤ length rows
     → ((gates : ℕ) × AreGates sizes plan rows t gates) × ((a b : ℕ) → AreGates sizes plan rows t a → AreGates sizes plan rows t b → a ≡ b)
 
 -- the length of a packet by the sizes of the contents is that by the channels
 abbrev pub SameLength : Type 0
-SameLength = (channels : List Channel) (starts ends : ℕ) → packet_len channels starts ends ≡ event_len (map content_bytes channels) starts ends
+SameLength = (channels : List Channel) (starts ends : ℕ)
+    → packet_len channels starts ends ≡ event_len (map content_bytes channels) starts ends

@@ -1,7 +1,5 @@
 -- What a `Room` stands for, and what its calls make of it.
-use Rattle.std.specs.Prelude.{◌≡◌, ℕ, ◌+◌, ◌-◌, ◌^◌, ◌<◌, ◌≤◌, ◌&&◌, ◌||◌, Bool, true, false, not, List, [], Option, length, map}
-use Rattle.trace_model.specs.declared.channel.Channel.{Channel}
-use Rattle.trace_model.specs.Channel.{content_bytes}
+use Rattle.std.specs.Prelude.{◌≡◌, ℕ, ◌+◌, ◌^◌, ◌<◌, ◌≤◌, ◌&&◌, ◌||◌, true, false, not, List, length}
 use Rattle.trace_model.specs.Counting.{has}
 use Rattle.room_ledger.specs.Reservation.{need, reserved, event_len, AreRaised}
 use Rattle.room_ledger.specs.Gates.{all_up}

@@ -1,5 +1,6 @@
 -- What the channels reserve in the store (this project's profile). `sizes` has the content bytes b_c of each channel, in channel order.
-use Rattle.std.specs.Prelude.{◌≡◌, ℕ, ◌+◌, ◌*◌, ◌≤◌, ◌==◌, ◌&&◌, Bool, true, false, not, List, Some, length, take, slice_get, nat_le, sum_by, if◌then◌else◌}
+use Rattle.std.specs.Prelude.{◌≡◌, ℕ, ◌+◌, ◌*◌, ◌≤◌, ◌==◌, ◌&&◌, Bool, true}
+use Rattle.std.specs.Prelude.{false, not, List, Some, length, take, slice_get, nat_le, sum_by, if◌then◌else◌}
 use Rattle.std.specs.List.{enumerate_from}
 use Rattle.trace_model.specs.Counting.{has}
 use Rattle.trace_model.specs.Length.{head_len}
@@ -30,7 +31,8 @@ reserved sizes up flies = sum_by (reservation (head_len (length sizes)) up flies
 
 -- the R_d of the gates that are up now and weren't kept, of the channels below c
 abbrev pub raised_below : List ℕ → (ℕ → Bool) → (ℕ → Bool) → ℕ → ℕ
-raised_below sizes kept up c = sum_by (λ (d : ℕ × ℕ). if up d.0 && not (kept d.0) then whole (head_len (length sizes)) d.1 else 0) (enumerate_from 0 (take c sizes))
+raised_below sizes kept up c =
+    sum_by (λ (d : ℕ × ℕ). if up d.0 && not (kept d.0) then whole (head_len (length sizes)) d.1 else 0) (enumerate_from 0 (take c sizes))
 
 -- which gates are up, where these were kept: a gate that isn't kept goes up exactly where the bytes used, all kept reservations,
 -- the R_d of the gates raised before it in channel order, and its own R_c add up to at most the capacity

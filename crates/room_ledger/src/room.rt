@@ -47,7 +47,8 @@ impl Room {
         requires some { 1 ≤ length channels.now }
         requires few { length channels.now ≤ 128 }
         requires content { sum_by content_bytes channels.now ≤ 2048 }
-        ensures made { IfOk result (λ room. (room ≡ fresh (map content_bytes channels.now) capacity) × (need (map content_bytes channels.now) ≤ capacity)) }
+        ensures made { IfOk result (λ room. (room ≡ fresh (map content_bytes channels.now) capacity)
+            × (need (map content_bytes channels.now) ≤ capacity)) }
         ensures room { IfOk result (λ room. claimed room ≤ room.capacity) }
         ensures refused { IfErr result (Refuses (map content_bytes channels.now) capacity) }
     {

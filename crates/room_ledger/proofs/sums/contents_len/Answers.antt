@@ -1,5 +1,4 @@
-use Rattle.std.proofs.Common.{◌≡◌, ℕ, ◌+◌, cond, get_or, Fits, sym, ap, ◌∙◌, arith}
-use Rattle.std.proofs.Math.Facts.{Fits-lt-pow}
+use Rattle.std.proofs.Common.{◌≡◌, ℕ, cond, get_or, sym, ap, ◌∙◌, arith}
 use Rattle.trace_model.specs.Counting.{has}
 use Rattle.room_ledger.proofs.Totals.{total-read, total-within}
 use Rattle.room_ledger.proofs.sums.contents_len.Goals as goal

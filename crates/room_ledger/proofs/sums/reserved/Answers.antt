@@ -1,7 +1,7 @@
-use Rattle.std.proofs.Common.{◌≡◌, ℕ, cond, get_or, ap, ◌∙◌, sym, arith, rules}
+use Rattle.std.proofs.Common.{◌≡◌, ℕ, get_or, arith, rules}
 use Rattle.trace_model.specs.Counting.{has}
-use Rattle.room_ledger.specs.Reservation.{whole, reservation}
-use Rattle.room_ledger.proofs.Totals.{total, total-read, total-within}
+use Rattle.room_ledger.specs.Reservation.{reservation}
+use Rattle.room_ledger.proofs.Totals.{total-read, total-within}
 use Rattle.room_ledger.proofs.Reserving.{reserved-need}
 use Rattle.room_ledger.proofs.sums.reserved.Goals as goal
 

@@ -1,7 +1,7 @@
-use Rattle.std.proofs.Common.{◌≡◌, ℕ, ◌+◌, List, ap, ◌∙◌, subst, sym, arith}
+use Rattle.std.proofs.Common.{◌≡◌, ℕ, List, ap, ◌∙◌, arith}
 use Rattle.std.proofs.Math.Facts.{Fits-lt-pow}
 use Rattle.room_ledger.specs.Reservation.{event_len}
-use Rattle.room_ledger.specs.Ledger.{Ledger, ledger, MayEmit}
+use Rattle.room_ledger.specs.Ledger.{ledger, MayEmit}
 use Rattle.room_ledger.proofs.Books.{emit-fits, emit-next, emit-room, emit-sound}
 use Rattle.room_ledger.proofs.room.Room.emit.Goals as goal
 

@@ -2,7 +2,6 @@ use Rattle.std.proofs.Common.{◌≡◌, ℕ, ◌≤◌, ◌/◌, ◌-◌, ◌^�
 use Rattle.std.proofs.lemmas.List.{length-map}
 use Rattle.trace_model.specs.Channel.{content_bytes}
 use Rattle.trace_model.specs.declared.channel.Channel.{Channel}
-use Rattle.room_ledger.specs.Reservation.{need}
 use Rattle.room_ledger.specs.Gates.{all_up}
 use Rattle.room_ledger.specs.Ledger.{ledger, fresh}
 use Rattle.room_ledger.proofs.Books.{need-fits, need-within, mask-is, fresh-sound}

@@ -1,4 +1,4 @@
-use Rattle.std.proofs.Common.{◌≡◌, ℕ}
+use Rattle.std.proofs.Common.{◌≡◌}
 use Rattle.room_ledger.specs.Ledger.{ledger}
 use Rattle.room_ledger.proofs.Books.{regranted, raised-is, regrant-next, regrant-room, regrant-sound}
 use Rattle.room_ledger.proofs.room.Room.regrant.Goals as goal
