@@ -3,7 +3,7 @@ use Rattle.std.proofs.Common.{◌≡◌, ℕ, suc, zero, ◌+◌, ◌<◌, ◌==
 use Rattle.std.specs.Prelude.{IfSome}
 use Rattle.std.specs.List.{flat_map, list_all, AllZip, AllByRecursion}
 use Rattle.std.proofs.lemmas.Bool.{eqb-true}
-use Rattle.vidi_lines.specs.Findings.{told_if}
+use Rattle.vidi_bits.specs.Findings.{told_if}
 use Rattle.trace_model.specs.declared.channel.Channel.{Channel as Row}
 use Rattle.net_design.specs.declared.design.Port.{Port}
 use Rattle.net_design.specs.declared.design.Direction.{Direction}

@@ -10,7 +10,7 @@ use Rattle.std.proofs.lemmas.List.Elements.{All-from_recursion}
 use Rattle.std.proofs.lemmas.List.Sums.{AllPass-from_list_all}
 use Rattle.std.proofs.lemmas.List.Quantifiers.{all_pairs_push}
 use Rattle.std.proofs.lemmas.Slice.Eq.{bytes_eq-Decides}
-use Rattle.vidi_lines.specs.Findings.{is_nil, told_if}
+use Rattle.vidi_bits.specs.Findings.{is_nil, told_if}
 use Rattle.trace_model.specs.declared.channel.Channel.{Channel as Row}
 use Rattle.trace_model.specs.Channel.{content_bytes, is_letter, is_letter_or_digit, IsName, IsChannel, IsTable}
 use Rattle.vlog_operators.specs.Number.{IsWidth}

@@ -12,7 +12,7 @@ use Rattle.net_design.specs.declared.design.Design.{Design}
 use Rattle.vlog_operators.specs.Number.{IsWidth}
 use Rattle.net_design.specs.Settled.{same_direction}
 use Rattle.net_design.specs.Bits.{named}
-use Rattle.vidi_lines.specs.Findings.{is_nil}
+use Rattle.vidi_bits.specs.Findings.{is_nil}
 use Rattle.chan_map.specs.declared.sockets.Socket.{Socket}
 use Rattle.chan_map.specs.declared.map_text.ChannelLine.{ChannelLine}
 use Rattle.chan_map.specs.declared.map_text.Entry.{Entry}

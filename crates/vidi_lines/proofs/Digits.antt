@@ -5,8 +5,9 @@ use Rattle.std.proofs.Math.Nat.{mul-le-mul_left}
 use Rattle.std.specs.Char.{digit_value}
 use Rattle.std.specs.List.{list_all}
 use Rattle.std.specs.Str.Parse.{digits_value_after}
-use Rattle.vidi_lines.specs.Findings.{is_nil}
-use Rattle.vidi_lines.specs.Number.{below_top, number_in}
+use Rattle.vidi_bits.specs.Findings.{is_nil}
+use Rattle.vidi_bits.specs.Limits.{below_top}
+use Rattle.vidi_lines.specs.Number.{number_in}
 
 -- what these digits make behind those of n
 abbrev pub number_from : ℕ → ℕ → List ℕ → Option ℕ

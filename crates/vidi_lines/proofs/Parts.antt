@@ -8,7 +8,7 @@ use Rattle.std.specs.List.{slice_split, before_first, after_first, position_or_l
 use Rattle.vidi_lines.specs.declared.lines.Line.{Line}
 use Rattle.vidi_lines.specs.declared.error.LineError.{LineError}
 use Rattle.vidi_lines.specs.declared.error.LineError.TheVariants.{BadLine, Memory}
-use Rattle.vidi_lines.specs.Findings.{is_nil, told_if, first}
+use Rattle.vidi_bits.specs.Findings.{is_nil, told_if, first}
 use Rattle.vidi_lines.specs.Lines.{is_newline, is_blank, unless_last_empty, file_lines, is_bad, words_between, words_of, bad_from, bad_lines, HasLines, HasWords}
 
 abbrev pub is_word : List ℕ → Bool

@@ -5,7 +5,7 @@ use Rattle.std.specs.Int.{is_in_range}
 use Rattle.vidi_lines.specs.declared.lines.Line.{Line}
 use Rattle.vidi_lines.specs.declared.error.LineError.{LineError}
 use Rattle.vidi_lines.specs.declared.error.LineError.TheVariants.{BadLine, Memory}
-use Rattle.vidi_lines.specs.Findings.{is_nil, first, told_if}
+use Rattle.vidi_bits.specs.Findings.{is_nil, first, told_if}
 
 abbrev pub is_newline : ℕ → Bool
 is_newline b = b == 10

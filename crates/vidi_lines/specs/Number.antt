@@ -1,13 +1,10 @@
 -- The number that a word writes: decimal digits, or `0x` and hexadecimal digits (this project's profile).
-use Rattle.std.specs.Prelude.{ℕ, ◌^◌, ◌==◌, ◌&&◌, not, Bool, nat_lt, if◌then◌else◌, List, [], ◌∷◌, Option, Some, None}
+use Rattle.std.specs.Prelude.{ℕ, ◌==◌, ◌&&◌, not, Bool, nat_lt, if◌then◌else◌, List, [], ◌∷◌, Option, None}
 use Rattle.std.specs.Char.{digit_value}
 use Rattle.std.specs.List.{list_all}
 use Rattle.std.specs.Str.Parse.{digits_value}
-use Rattle.vidi_lines.specs.Findings.{is_nil}
-
--- a number below 2^128
-abbrev pub below_top : ℕ → Option ℕ
-below_top n = if nat_lt n (2 ^ 128) then Some n else None
+use Rattle.vidi_bits.specs.Findings.{is_nil}
+use Rattle.vidi_bits.specs.Limits.{below_top}
 
 -- one digit of the base or more
 abbrev pub is_digits : ℕ → List ℕ → Bool

@@ -1,7 +1,7 @@
 //! Input files as lines of words, and the numbers that words write (this project's profile).
 //!
 //! The definitions stand in `specs/`: `Lines` (a file's lines, what a comment is, which lines are bad, and their
-//! words), `Number` (what a word writes) and `Findings` (a reason as the list of all its findings).
+//! words) and `Number` (what a word writes).
 #![tactic(auto)]
 
 mod error;

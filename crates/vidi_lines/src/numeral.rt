@@ -1,6 +1,7 @@
 ghost use Rattle.std.specs.Prelude.{◌≡◌, ◌≤◌, ◌<◌, ◌+◌, ◌*◌, Some, None, if◌then◌else◌, nat_lt};
 ghost use Rattle.std.specs.Char.{digit_value};
-ghost use Rattle.vidi_lines.specs.Number.{below_top, number_in, number_of};
+ghost use Rattle.vidi_bits.specs.Limits.{below_top};
+ghost use Rattle.vidi_lines.specs.Number.{number_in, number_of};
 
 /// The number that a digit of any base up to 36 stands for, 36 where the byte is no digit.
 fn digit_value(b: u8) -> u8
