@@ -1,10 +1,10 @@
 //! The flat design: what a Verilog text means, as plain data, and what its numbers are in a cycle.
 //!
 //! The definitions stand in `specs/`: `Value` (the number of an expression), `Updates` (what a block
-//! writes), `Bits` (the bits that code reads and writes), `Settled` (the settled map, the next state and
-//! the initial state), `Lawful` (the designs that elaboration answers), `Example` (one of them) and
-//! `Moved` (code moved to an instance's first places). `reference` evaluates them as they are written,
-//! slowly.
+//! writes), `Last` (what the last of updates makes a bit), `Bits` (the bits that code reads and writes),
+//! `Settled` (the settled map, the next state and the initial state), `Lawful` (the designs that
+//! elaboration answers), `Example` (one of them) and `Moved` (code moved to an instance's first places).
+//! `reference` evaluates them as they are written, slowly; `code_bits` finds the bits of code.
 #![tactic(auto)]
 
 mod act;
