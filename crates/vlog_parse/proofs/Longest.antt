@@ -1,5 +1,5 @@
 -- The longest list of whole units is the one that is found from the front.
-use Rattle.std.proofs.Common.{◌≡◌, ℕ, zero, suc, ◌+◌, ◌*◌, ◌-◌, ◌<◌, ◌≤◌, Bool, true, false, Option, None, Some, if◌then◌else◌, List, [], ◌∷◌, ◌++◌, length, map, take, drop, codes, refl, sym, ap, subst, ◌∙◌, arith, append_assoc, length-append}
+use Rattle.std.proofs.Common.{◌≡◌, ℕ, zero, suc, ◌+◌, ◌-◌, ◌<◌, ◌≤◌, Bool, true, false, Option, None, Some, if◌then◌else◌, List, [], ◌∷◌, ◌++◌, length, map, take, drop, codes, refl, sym, ap, subst, ◌∙◌, arith, append_assoc, length-append}
 use Rattle.std.specs.List.{AllByRecursion, flat_map}
 use Rattle.std.proofs.lemmas.List.{map-append, take-append-drop, length-drop}
 use Rattle.std.proofs.Math.Seq.{take-length}
@@ -9,9 +9,9 @@ use Rattle.vlog_lex.specs.declared.token.TokenKind.{TokenKind}
 use Rattle.vlog_lex.specs.declared.token.TokenKind.TheVariants.{Identifier, Reserved, Decimal, Based, Other}
 use Rattle.vlog_tree.specs.declared.terminal.Terminal.TheVariants as t
 use Rattle.vlog_tree.specs.Words.{Word, NameWord, NumberWord, Fixed}
-use Rattle.vlog_tree.specs.Tree.{PortOf, ItemOf, WiresItem, DrivenWiresItem, RegsItem, AssignItem, AlwaysItem, ModuleOf, FileOf}
+use Rattle.vlog_tree.specs.Tree.{PortOf, ItemOf, WiresItem, DrivenWiresItem, RegsItem, AssignItem, AlwaysItem, ModuleOf}
 use Rattle.vlog_tree.specs.Spelling.{with_commas, in_row, port_words, item_words}
-use Rattle.vlog_tree.specs.Shape.{IsGoodName, IsFirstDirected, IsGoodPort, IsGoodItem, IsGoodModule, AreSomeGood, IsGood}
+use Rattle.vlog_tree.specs.Shape.{IsGoodName, IsFirstDirected, IsGoodPort, IsGoodItem, IsGoodModule, AreSomeGood}
 use Rattle.vlog_expr.specs.Marks.{TokenOf, Toks, marked, all_marked, spelled, spell, IsLawfulText, AreLawful, is_terminal, after}
 use Rattle.vlog_expr.specs.Lawful.{IsUnlawful}
 use Rattle.vlog_expr.specs.Bare.{forget, forget_all}
@@ -20,7 +20,7 @@ use Rattle.vlog_expr.specs.Laws.{Holds, seen}
 use Rattle.vlog_parse.specs.BareFile.{bare_item}
 use Rattle.vlog_parse.specs.FileReader.{item_at, header_at}
 use Rattle.vlog_parse.specs.UnitReader.{whole_item, unit_at, read_or, behind_units}
-use Rattle.vlog_parse.specs.Units.{UnitOf, Header, ItemUnit, Endmodule, module_units, file_units, unit_words, IsWhole, AreWhole, BeginWith, AreLongest, line_or, last_line, first_line, IsItemLine, OneItemLine}
+use Rattle.vlog_parse.specs.Units.{UnitOf, Header, ItemUnit, Endmodule, module_units, unit_words, IsWhole, AreWhole, BeginWith, AreLongest, line_or, last_line, first_line, IsItemLine, OneItemLine}
 use Rattle.vlog_expr.proofs.Spelled.{U, spell_append}
 use Rattle.vlog_expr.proofs.Found.{From, again}
 use Rattle.vlog_expr.proofs.Maps.{marked_length}

@@ -32,4 +32,3 @@ pub use shape::{good_shape, level_of};
 pub use spelling::tokens_of;
 pub use stmt::{AssignOp, Body, Stmt, Stmts, Target, Targets};
 pub use terminal::Terminal;
-

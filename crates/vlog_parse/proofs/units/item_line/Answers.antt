@@ -1,4 +1,4 @@
-use Rattle.std.proofs.Common.{rules, arith}
+use Rattle.std.proofs.Common.{arith}
 use Rattle.vlog_parse.proofs.Longest.{item_line_of}
 use Rattle.vlog_parse.proofs.units.item_line.Goals as goal
 
