@@ -1,14 +1,14 @@
 -- Pieces written one after the other over the bytes of a buffer.
-use Rattle.std.proofs.Common.{◌≡◌, ℕ, zero, suc, ◌+◌, ◌-◌, ◌*◌, ◌/◌, ◌%◌, ◌<◌, ◌≤◌, min, List, [], ◌∷◌, ◌++◌, length, get_or, take, drop, sum_by, refl, sym, ap, subst, ◌∙◌, append_assoc, arith}
+use Rattle.std.proofs.Common.{◌≡◌, ℕ, zero, suc, ◌+◌, ◌-◌, ◌/◌, ◌%◌, ◌<◌, ◌≤◌, min, List, [], ◌∷◌, ◌++◌, length, get_or, take, drop, sum_by, refl, sym, ap, ◌∙◌, append_assoc, arith}
 use Rattle.std.specs.Int.{byte_at, bytes_high_first, bytes_low_first}
 use Rattle.std.proofs.Math.Seq.{drop-drop}
-use Rattle.std.proofs.lemmas.List.{append-nil, length-append, length-take-le, take_at, take_all, drop_at, take-append-drop, drop_more, length-drop}
+use Rattle.std.proofs.lemmas.List.{length-append, length-take-le, take_at, take_all, drop_at, take-append-drop, drop_more}
 use Rattle.std.proofs.lemmas.List.Sums.{sum_by-cons}
 use Rattle.trace_model.specs.Channel.{byte_count}
 use Rattle.trace_model.specs.Length.{mask_len}
 use Rattle.trace_code.specs.Encoding.{mask_bytes, number_bytes}
 use Rattle.trace_code.specs.Writing.{overwritten}
-use Rattle.trace_code.proofs.NumberLaws.{length-low, length-high}
+use Rattle.trace_code.proofs.NumberLaws.{length-high}
 
 -- ---- parts of a number's 16 bytes
 high-tail : (j k x : ℕ) → drop j (bytes_high_first (j + k) x) ≡ bytes_high_first k x

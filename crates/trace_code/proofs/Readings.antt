@@ -1,5 +1,5 @@
 -- No bytes have two readings, and neither has a front of them.
-use Rattle.std.proofs.Common.{◌≡◌, ℕ, ◌+◌, ◌-◌, ◌^◌, ◌<◌, ◌≤◌, ◌⊎◌, List, [], ◌∷◌, ◌++◌, length, All, Result, Ok, Err, inl, inr, ⊎_elim, refl, sym, ap, subst, ◌∙◌, append_assoc, arith}
+use Rattle.std.proofs.Common.{◌≡◌, ℕ, ◌+◌, ◌-◌, ◌^◌, ◌<◌, ◌≤◌, ◌⊎◌, List, [], ◌∷◌, ◌++◌, length, All, Ok, Err, inl, inr, ⊎_elim, refl, sym, ap, subst, ◌∙◌, append_assoc, arith}
 use Rattle.std.specs.List.{flat_map, AllByRecursion}
 use Rattle.std.proofs.lemmas.List.{append-nil, get_or_at, length-append, flat_map_more}
 use Rattle.std.proofs.lemmas.List.Elements.{recursion_from_All}
@@ -11,12 +11,11 @@ use Rattle.trace_model.specs.Channel.{IsTable}
 use Rattle.trace_model.specs.Packet.{IsPacket}
 use Rattle.trace_model.specs.Trace.{Alternates}
 use Rattle.trace_model.proofs.FlightLemmas.{alternates-front}
-use Rattle.trace_code.specs.declared.error.CodeError.{CodeError}
 use Rattle.trace_code.specs.declared.error.CodeError.TheVariants.{BadTrace, Memory}
 use Rattle.trace_code.specs.Encoding.{header_bytes, packet_bytes, end_mark, encode, Encodes}
 use Rattle.trace_code.specs.Reading.{header_at, AreChannels}
 use Rattle.trace_code.specs.PacketReading.{packet_at, AreAll}
-use Rattle.trace_code.specs.Decoding.{Splits, SplitsLongest, HasNoHeader, IsBehindPackets, IsFaultAt, Decodes, OneReading, OnePlace, ReadsBack}
+use Rattle.trace_code.specs.Decoding.{Splits, SplitsLongest, HasNoHeader, IsBehindPackets, OneReading, OnePlace, ReadsBack}
 use Rattle.trace_code.proofs.Table.{header_again}
 use Rattle.trace_code.proofs.PacketLaws.{packet_again}
 

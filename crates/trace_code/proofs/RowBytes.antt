@@ -1,10 +1,10 @@
 -- The bytes of a row's packet: what is picked of its contents, and how long they are.
-use Rattle.std.proofs.Common.{◌≡◌, ℕ, zero, suc, ◌+◌, ◌*◌, ◌-◌, ◌^◌, ◌<◌, ◌≤◌, Bool, true, false, cond, eqb, not, ◌&&◌, List, [], ◌∷◌, ◌++◌, Option, Some, length, get_or, take, drop, slice_get, sum_by, refl, sym, ap, subst, ⊎_elim, ◌∙◌, append_assoc, arith}
+use Rattle.std.proofs.Common.{◌≡◌, ℕ, ◌+◌, ◌-◌, ◌^◌, ◌<◌, ◌≤◌, Bool, true, false, cond, eqb, not, ◌&&◌, List, [], ◌∷◌, ◌++◌, length, get_or, take, drop, sum_by, refl, sym, ap, ⊎_elim, ◌∙◌, append_assoc, arith}
 use Rattle.std.specs.List.{flat_map, enumerate_from}
 use Rattle.std.specs.Int.{bit_at}
 use Rattle.std.proofs.Math.Seq.{drop-drop}
 use Rattle.std.proofs.lemmas.Bool.{cases_Bool, cases_lt, false≢true, eq-eqb, eqb-true}
-use Rattle.std.proofs.lemmas.List.{append-nil, length-append, length-take-le, take-append-drop, length-drop, length_push, take_at, drop_at}
+use Rattle.std.proofs.lemmas.List.{append-nil, length-append, length-take-le, take-append-drop, length-drop, length_push, take_at}
 use Rattle.std.proofs.lemmas.List.Concat.{flat_map-append}
 use Rattle.std.proofs.lemmas.List.Sums.{sum_by-cons, sum_by-append}
 use Rattle.std.proofs.lemmas.Nat.Bits.{bit_at_ones, bit_at_above}
@@ -14,10 +14,10 @@ use Rattle.trace_model.specs.Counting.{has}
 use Rattle.trace_model.specs.declared.packet.Packet.{Packet}
 use Rattle.trace_model.specs.declared.row.Row.{Row}
 use Rattle.trace_model.specs.Length.{mask_len, head_len, contents_len, packet_len}
-use Rattle.trace_model.specs.Packet.{Fit, widths_of, widths_under}
+use Rattle.trace_model.specs.Packet.{Fit, widths_under}
 use Rattle.trace_model.specs.Recording.{has_event, packet_of, contents_under}
 use Rattle.trace_model.specs.Row.{all_widths, content_at}
-use Rattle.trace_model.proofs.CountingLemmas.{slice_get-last, slice_get-append, take-more_read}
+use Rattle.trace_model.proofs.CountingLemmas.{take-more_read}
 use Rattle.trace_model.proofs.ContentsLemmas.{fit-length}
 use Rattle.trace_model.proofs.RowLaws.{content-behind}
 use Rattle.trace_code.specs.Encoding.{mask_bytes, number_bytes, packet_bytes, row_bytes}

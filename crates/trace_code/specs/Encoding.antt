@@ -3,7 +3,7 @@
 --   VIDITRC1 | channel count | channels | packets | 00, packet count (4 bytes)
 --   a channel: direction (0 inward, 1 outward) | name length | name | port count | a width a port
 --   a packet: 01 | start mask | end mask | contents of the starting channels
-use Rattle.std.specs.Prelude.{◌≡◌, ℕ, ◌+◌, ◌*◌, ◌/◌, ◌<◌, ◌^◌, List, [], ◌∷◌, ◌++◌, length, codes, if◌then◌else◌}
+use Rattle.std.specs.Prelude.{◌≡◌, ℕ, ◌<◌, ◌^◌, List, [], ◌∷◌, ◌++◌, length, codes, if◌then◌else◌}
 use Rattle.std.specs.List.{flat_map, zip}
 use Rattle.std.specs.Int.{bytes_high_first, bytes_low_first}
 use Rattle.trace_model.specs.declared.channel.Channel.{Channel}

@@ -1,20 +1,20 @@
 -- Laws of rows: their trace grows row by row, alternates, and is well-formed.
-use Rattle.std.proofs.Common.{◌≡◌, ◌≢◌, ◌⊎◌, ℕ, zero, suc, ◌+◌, ◌^◌, ◌<◌, ◌≤◌, Bool, true, false, cond, not, eqb, ◌&&◌, List, [], ◌∷◌, ◌++◌, Option, Some, None, All, length, take, drop, get_or, slice_get, map, count_by, inl, inr, ⊎_elim, refl, ap, sym, subst, ◌∙◌, append_assoc, arith}
+use Rattle.std.proofs.Common.{◌≡◌, ◌≢◌, ◌⊎◌, ℕ, zero, suc, ◌+◌, ◌<◌, ◌≤◌, Bool, true, false, cond, not, eqb, ◌&&◌, List, [], ◌∷◌, ◌++◌, Option, Some, None, All, length, take, drop, get_or, slice_get, map, inl, inr, ⊎_elim, refl, ap, sym, subst, ◌∙◌, append_assoc, arith}
 use Rattle.std.specs.Int.{bit_at}
 use Rattle.std.specs.List.{filter, flat_map, enumerate_from}
-use Rattle.std.proofs.lemmas.Bool.{cases_Bool, cases_lt, false≢true, eq-eqb, eqb-true, eqb-false}
-use Rattle.std.proofs.lemmas.List.{append-nil, map-append, take_all, take_at, drop_at, length_push, length-append, length-take}
+use Rattle.std.proofs.lemmas.Bool.{cases_lt, false≢true, eqb-true, eqb-false}
+use Rattle.std.proofs.lemmas.List.{append-nil, map-append, take_all, take_at, drop_at, length_push, length-take}
 use Rattle.std.proofs.lemmas.List.Concat.{flat_map-append}
 use Rattle.std.proofs.lemmas.List.Elements.{All-push, filter-append}
-use Rattle.std.proofs.lemmas.Nat.Bits.{bit_at-zero, bit_at-lt, bit_at_above}
-use Rattle.std.proofs.lemmas.Option.{same_Some, slice_get_cases, slice_get_within}
+use Rattle.std.proofs.lemmas.Nat.Bits.{bit_at-zero, bit_at_above}
+use Rattle.std.proofs.lemmas.Option.{slice_get_cases, slice_get_within}
 use Rattle.trace_model.specs.declared.channel.Channel.{Channel}
 use Rattle.trace_model.specs.declared.event.Kind.{Kind}
 use Rattle.trace_model.specs.declared.event.Kind.TheVariants.{Start, End}
 use Rattle.trace_model.specs.declared.packet.Packet.{Packet}
 use Rattle.trace_model.specs.declared.row.Row.{Row}
-use Rattle.trace_model.specs.Counting.{has, IsNth}
-use Rattle.trace_model.specs.Laws.{RecordedOnce, RowAddsItsPacket, KeepsInFlight, RowsAreWellFormed, CompletesBetween, StartsWaitForEnds}
+use Rattle.trace_model.specs.Counting.{has}
+use Rattle.trace_model.specs.Laws.{RecordedOnce, RowAddsItsPacket, KeepsInFlight, RowsAreWellFormed, StartsWaitForEnds}
 use Rattle.trace_model.specs.Packet.{does, count, content_of, widths_of, widths_under, Fit, IsPacket}
 use Rattle.trace_model.specs.Recording.{row_does, shown, has_event, contents_under, packet_of, packets_of, recorded, transactions}
 use Rattle.trace_model.specs.Row.{all_widths, content_at, sink_valid, completes, is_in_flight, row_before, flies_after, IsOver, IsMarked, AreRows}

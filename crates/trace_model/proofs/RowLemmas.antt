@@ -1,5 +1,5 @@
 -- The contents of all channels, channel by channel, and what makes a row unstable.
-use Rattle.std.proofs.Common.{◌≡◌, ◌≢◌, ◌⊎◌, ◌↔◌, ℕ, suc, ◌+◌, ◌<◌, ◌≤◌, Bool, true, false, IsTrue, List, [], ◌∷◌, ◌++◌, Option, Some, None, length, take, drop, get_or, slice_get, inl, inr, ⊎_elim, refl, ap, sym, subst, ◌∙◌, arith}
+use Rattle.std.proofs.Common.{◌≡◌, ◌≢◌, ◌⊎◌, ◌↔◌, ℕ, ◌+◌, ◌<◌, ◌≤◌, Bool, true, false, IsTrue, List, [], ◌∷◌, ◌++◌, Option, length, take, drop, get_or, inl, inr, ⊎_elim, refl, ap, sym, ◌∙◌, arith}
 use Rattle.std.proofs.lemmas.Bool.{cases_Bool, false≢true}
 use Rattle.std.proofs.Math.Seq.{drop-drop}
 use Rattle.std.proofs.lemmas.List.{append-nil, length-append, length-drop}
@@ -14,7 +14,7 @@ use Rattle.trace_model.specs.declared.channel.Dir.TheVariants.{Outward}
 use Rattle.trace_model.specs.declared.row.Row.{Row}
 use Rattle.trace_model.specs.Counting.{has}
 use Rattle.trace_model.specs.Packet.{Fit, widths_of}
-use Rattle.trace_model.specs.Row.{IsOver, all_widths, content_at}
+use Rattle.trace_model.specs.Row.{all_widths, content_at}
 use Rattle.trace_model.specs.Stability.{IsUnstable, waits}
 use Rattle.trace_model.proofs.CountingLemmas.{take-more_read}
 use Rattle.trace_model.proofs.ContentsLemmas.{fit-length}

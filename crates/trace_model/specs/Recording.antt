@@ -1,5 +1,5 @@
 -- *Transactions* and *Trace of rows*: what happened on the channels, and what is recorded of it.
-use Rattle.std.specs.Prelude.{◌≡◌, ℕ, ◌==◌, ◌&&◌, Bool, not, List, [], map, count_by, if◌then◌else◌}
+use Rattle.std.specs.Prelude.{ℕ, ◌==◌, ◌&&◌, Bool, not, List, [], map, count_by, if◌then◌else◌}
 use Rattle.std.specs.List.{flat_map, filter, enumerate_from}
 use Rattle.trace_model.specs.declared.channel.Channel.{Channel}
 use Rattle.trace_model.specs.declared.event.Kind.{Kind}

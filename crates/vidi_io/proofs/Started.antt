@@ -1,5 +1,5 @@
 -- A file of a shelf that a sink starts and adds to.
-use Rattle.std.proofs.Common.{◌≡◌, ◌⊎◌, ℕ, ◌<◌, ◌≤◌, Bool, true, false, cond, List, [], ◌∷◌, ◌++◌, Option, Some, None, Result, Ok, Err, MatchBool, OnOk, OnErr, option_map, unwrap_or, length, take, drop, inl, inr, ⊎_elim, refl, sym, ap, subst, ◌∙◌, arith}
+use Rattle.std.proofs.Common.{◌≡◌, ◌⊎◌, ℕ, ◌<◌, ◌≤◌, Bool, true, false, cond, List, [], ◌∷◌, ◌++◌, Option, Some, None, Result, Ok, Err, OnOk, OnErr, unwrap_or, length, take, drop, inl, inr, ⊎_elim, refl, sym, ap, subst, ◌∙◌, arith}
 use Rattle.std.proofs.lemmas.List.{append-nil, take-append-drop}
 use Rattle.std.proofs.lemmas.Option.{same_Some}
 use Rattle.std.proofs.lemmas.Map.Text.{is_eq-slice_cmp}
@@ -7,7 +7,7 @@ use Rattle.std.specs.Cmp.Lexicographic.{nat_list_cmp_total}
 use Rattle.std.specs.FinMap.{get, insert, get-insert}
 use Rattle.std.specs.Io.KnownBytes.{append_known}
 use Rattle.std.specs.Str.{bytes_eq}
-use Rattle.vidi_io.specs.Shelf.{Files, bytes_of, holding, emptied, appended, GrewBySome, Later}
+use Rattle.vidi_io.specs.Shelf.{Files, bytes_of, holding, emptied, appended, GrewBySome}
 use Rattle.vidi_io.specs.ShelfSink.{bytes_written, IsOver}
 use Rattle.vidi_io.specs.Sink.{Frame, AppendsSome}
 use Rattle.vidi_io.proofs.Names.{bytes_eq-self, same_files}

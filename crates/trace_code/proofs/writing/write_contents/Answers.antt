@@ -1,4 +1,4 @@
-use Rattle.std.proofs.Common.{◌≡◌, true, false, ◌∙◌, sym, ap, ⊎_elim, arith}
+use Rattle.std.proofs.Common.{◌≡◌, true, false, ◌∙◌, sym, ⊎_elim, arith}
 use Rattle.std.proofs.lemmas.Bool.{cases_Bool, false≢true}
 use Rattle.trace_model.specs.Counting.{has}
 use Rattle.trace_code.proofs.Picking.{skipped, written}

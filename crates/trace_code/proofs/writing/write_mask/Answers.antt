@@ -1,4 +1,4 @@
-use Rattle.std.proofs.Common.{◌≤◌, ◌+◌, length, ap, subst, sym, ◌∙◌}
+use Rattle.std.proofs.Common.{◌+◌, length, ap, ◌∙◌}
 use Rattle.trace_code.specs.Writing.{overwritten}
 use Rattle.trace_code.proofs.Overwriting.{low-piece}
 use Rattle.trace_code.proofs.writing.write_mask.Goals as goal

@@ -1,5 +1,5 @@
 use Rattle.std.proofs.Common.{◌++◌, length, drop, sym, ap, ◌∙◌, arith}
-use Rattle.trace_code.proofs.RowBytes.{among-every, every-there, contents-least, row-packet, row-length, no-row-packet}
+use Rattle.trace_code.proofs.RowBytes.{among-every, every-there, contents-least, row-packet, row-length}
 use Rattle.trace_code.proofs.writing.write_packet.Goals as goal
 
 pub write_events-requires-clause-some : goal.write_events-requires-clause-some

@@ -1,4 +1,4 @@
-use Rattle.std.proofs.Common.{ltb, refl, le-ltb}
+use Rattle.std.proofs.Common.{refl, le-ltb}
 use Rattle.std.proofs.lemmas.Nat.Bits.{bit_at_above}
 use Rattle.trace_model.proofs.mask.names.Goals as goal
 

@@ -1,6 +1,5 @@
-use Rattle.std.proofs.Common.{◌≡◌, ◌↔◌, IsTrue, sym, ◌∙◌, below_more, arith}
+use Rattle.std.proofs.Common.{sym, ◌∙◌, below_more, arith}
 use Rattle.std.proofs.lemmas.Bool.{false≢true}
-use Rattle.trace_model.specs.Row.{content_at}
 use Rattle.trace_model.proofs.RowLemmas.{room-left, rest-more, same-content, broken-if, broken-only, unstable-within}
 use Rattle.trace_model.proofs.stability.lowest_unstable.Goals as goal
 
