@@ -1,0 +1,5 @@
+pub mod Members
+pub mod Exclusive
+pub mod Turns
+pub mod Moves
+pub mod Rows
