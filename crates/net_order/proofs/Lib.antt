@@ -3,3 +3,5 @@ pub mod Exclusive
 pub mod Turns
 pub mod Moves
 pub mod Rows
+pub mod Ends
+pub mod Graphs

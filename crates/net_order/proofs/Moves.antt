@@ -10,7 +10,7 @@ use Rattle.net_design.specs.Names.{list_at}
 use Rattle.net_order.specs.declared.search.Mark.{Mark}
 use Rattle.net_order.specs.declared.search.Mark.TheVariants.{Fresh, Open, Done}
 use Rattle.net_order.specs.Order.{Follows}
-use Rattle.net_order.specs.Graph.{Graph, Points}
+use Rattle.net_order.specs.Graph.{Graph, Points, IsGraph}
 use Rattle.net_order.specs.Search.{IsSound, StayBegun, mark_of, steps_left, weight}
 use Rattle.net_order.proofs.Members.{head, single}
 
@@ -165,3 +165,14 @@ module _ (g : Graph) (marks : List Mark) (left path order : List ℕ) (s : IsSou
 pub top_in : (g : Graph) (marks : List Mark) (left path order : List ℕ) → IsSound g marks left path order → 0 < length path
     → (i : ℕ) → slice_index path (length path - 1) ≡ i → i < length g
 top_in g marks left path order s some i e = subst (λ x. x < length g) e (s.on_path (length path - 1) (omega (arith, some))).0
+
+pub next_read : (g : Graph) (marks : List Mark) (left path order : List ℕ) → IsSound g marks left path order → (i : ℕ) → 0 < slice_index left i
+    → Points g i (slice_index (list_at g i) (slice_index left i - 1))
+next_read g marks left path order s i some =
+    let few : slice_index left i ≤ length (list_at g i) = s.few i in
+    let l : slice_index left i - 1 < length (list_at g i) = omega (arith, some, few) in
+    (slice_index left i - 1, l, get_or_default (list_at g i) (slice_index left i - 1) _ 0 l)
+
+pub next_inside : (g : Graph) (marks : List Mark) (left path order : List ℕ) → IsSound g marks left path order → IsGraph g → (i : ℕ) → 0 < slice_index left i
+    → slice_index (list_at g i) (slice_index left i - 1) < length g
+next_inside g marks left path order s graph i some = graph i _ (next_read g marks left path order s i some)

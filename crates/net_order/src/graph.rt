@@ -22,6 +22,7 @@ pub struct Writer {
 // ---- the writers of each net
 
 /// Adds empty lists until there is one for the net.
+#[tactic(auto, using(crate::proofs::Graphs::wrote_more))]
 fn reach(alloc: Global, table: &mut Vec<Items<Writer>>, net: usize) -> Result<(), Memory>
     ensures same { OnOk result ((m j k : ℕ) → wrote table.new.items m j k ≡ wrote table.old.items m j k) }
     ensures long { OnOk result (net < length table.new.items) }
@@ -42,6 +43,7 @@ fn push_at(table: &mut Vec<Items<Writer>>, net: usize, writer: Writer) -> Result
 }
 
 /// Adds a driver as a writer of bits.
+#[tactic(auto, using(crate::proofs::Graphs::wrote_set))]
 fn add_writer(
     alloc: Global,
     table: &mut Vec<Items<Writer>>,
@@ -110,6 +112,7 @@ fn push_if(out: &mut Items<usize>, number: usize, wanted: bool) -> Result<(), Me
 }
 
 /// Adds those of the writers that write one of these bits.
+#[tactic(auto, using(crate::proofs::Graphs::or_assoc, crate::proofs::Graphs::or_none))]
 fn add_met(out: &mut Items<usize>, bits: u128, writers: &[Writer]) -> Result<(), Memory>
     ensures { OnOk result ((j : ℕ) → is_in j out.new ≡ (is_in j out.old || meets bits writers.now j)) }
 {
@@ -131,6 +134,7 @@ fn add_mask(out: &mut Items<usize>, mask: Mask, table: &[Items<Writer>]) -> Resu
 }
 
 /// The drivers that write a bit of the masks.
+#[tactic(auto, using(crate::proofs::Graphs::or_assoc, crate::proofs::Graphs::or_none))]
 fn read_drivers(
     alloc: Global,
     masks: &[Mask],

@@ -56,6 +56,7 @@ fn lengths(alloc: Global, graph: &[Items<usize>]) -> Result<Vec<usize>, Memory>
 
 impl Search {
     /// A search at its start.
+    #[tactic(auto, using(crate::proofs::Ends::start_sound))]
     fn new(alloc: Global, graph: &[Items<usize>]) -> Result<Search, Memory>
         ensures sound { IfOk result (λ s. IsSearch graph.now s) }
         ensures path { IfOk result (λ s. s.path.items ≡ []) }
@@ -124,6 +125,20 @@ impl Search {
         self.path[self.path.len() - 1]
     }
 
+    /// The next number to look at of those that a driver reads.
+    #[tactic(auto, using(crate::proofs::Moves::next_read))]
+    fn next(&self, graph: &[Items<usize>], top: usize) -> usize
+        requires sound { IsSearch graph.now self.now }
+        requires graph { IsGraph graph.now }
+        requires within { top < length graph.now }
+        requires some { 0 < slice_index self.now.left.items top }
+        ensures value { result ≡ slice_index (list_at graph.now top) (slice_index self.now.left.items top - 1) }
+        ensures read { Points graph.now top result }
+        ensures within { result < length graph.now }
+    {
+        row(graph, top)[self.left[top] - 1]
+    }
+
     /// The loop that the last driver of the path closes by reading a driver of the path.
     fn close(&self, alloc: Global, graph: &[Items<usize>], next: usize) -> Result<OrderError, Memory>
         requires sound { IsSearch graph.now self.now }
@@ -137,6 +152,7 @@ impl Search {
     }
 
     /// One step at the last driver of the path.
+    #[tactic(auto, using(crate::proofs::Moves::top_in))]
     fn step(&mut self, alloc: Global, graph: &[Items<usize>]) -> Result<(), OrderError>
         requires sound { IsSearch graph.now self.old }
         requires within { IsGraph graph.now }
@@ -145,12 +161,11 @@ impl Search {
         ensures no_order { IfErr result (λ e. IsLoopError (Points graph.now) e) }
     {
         let top = self.top();
-        let left = self.left[top];
-        if left == 0 {
+        if self.left[top] == 0 {
             self.place(graph, top)?;
             return Ok(());
         }
-        let next = row(graph, top)[left - 1];
+        let next = self.next(graph, top);
         match self.mark(next) {
             Mark::Done => {
                 self.look(graph, top);
