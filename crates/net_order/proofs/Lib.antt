@@ -4,4 +4,3 @@ pub mod Turns
 pub mod Moves
 pub mod Rows
 pub mod Ends
-pub mod Graphs
