@@ -25,12 +25,11 @@ mod values;
 
 pub use act::{Act, Code, Guard, Lhs, Mask, Place, Timing};
 pub use block::Block;
-pub use design::{
-    Counts, Design, DesignMemory, Direction, Driver, Instance, Net, Port, Register,
-};
+pub use design::{Counts, Design, DesignMemory, Direction, Driver, Instance, Net, Port, Register};
 pub use laws::{
-    assignment_is_equation, blocks_in_order, choice_by_lists, initial_is_state, lawful_design_shown,
-    last_update_stands, lawful_is_sized, next_is_state, target_is_equation, unwritten_bits_stay, updates_in_order,
+    assignment_is_equation, blocks_in_order, choice_by_lists, initial_is_state, last_update_stands,
+    lawful_design_shown, lawful_is_sized, next_is_state, target_is_equation, unwritten_bits_stay,
+    updates_in_order,
 };
 pub use move_laws::{
     moved_changes, moved_code_bits, moved_is_fixed, moved_is_sized, moved_number, moved_shape,

@@ -1,5 +1,5 @@
 -- Lists of lists.
-use Rattle.std.proofs.Common.{◌≡◌, ℕ, zero, suc, ◌+◌, ◌<◌, ◌≤◌, List, [], ◌∷◌, ◌++◌, length, slice_index_or, refl, ap, arith}
+use Rattle.std.proofs.Common.{◌≡◌, ℕ, zero, suc, ◌<◌, ◌≤◌, List, [], ◌∷◌, ◌++◌, length, slice_index_or, refl, arith}
 use Rattle.net_design.specs.Names.{list_at}
 
 pub list_read : {X : Type 0} (xs : List (List X)) (i : ℕ) (d : List X) → i < length xs → slice_index_or xs i d ≡ list_at xs i

@@ -1,5 +1,5 @@
 -- Orders of a design's drivers, and loops of them ("Reasons": E10; this project's profile). A driver is named by its number.
-use Rattle.std.specs.Prelude.{◌≡◌, ℕ, zero, suc, ◌++◌, ◌<◌, ◌≤◌, Bool, true, false, List, [], ◌∷◌, length, slice_index}
+use Rattle.std.specs.Prelude.{◌≡◌, ℕ, zero, suc, ◌++◌, ◌<◌, ◌≤◌, true, false, List, [], ◌∷◌, length, slice_index}
 use Rattle.std.specs.List.{Contains}
 use Rattle.net_design.specs.declared.design.Driver.{Driver}
 use Rattle.net_design.specs.declared.design.Design.{Design}

@@ -140,7 +140,12 @@ impl Search {
     }
 
     /// The loop that the last driver of the path closes by reading a driver of the path.
-    fn close(&self, alloc: Global, graph: &[Items<usize>], next: usize) -> Result<OrderError, Memory>
+    fn close(
+        &self,
+        alloc: Global,
+        graph: &[Items<usize>],
+        next: usize,
+    ) -> Result<OrderError, Memory>
         requires sound { IsSearch graph.now self.now }
         requires some { 0 < length self.now.path.items }
         requires read { Points graph.now (slice_index self.now.path.items (length self.now.path.items - 1)) next }
@@ -183,7 +188,12 @@ impl Search {
     }
 
     /// Places a driver that isn't begun, and all that it needs.
-    fn visit(&mut self, alloc: Global, graph: &[Items<usize>], root: usize) -> Result<(), OrderError>
+    fn visit(
+        &mut self,
+        alloc: Global,
+        graph: &[Items<usize>],
+        root: usize,
+    ) -> Result<(), OrderError>
         requires sound { IsSearch graph.now self.old }
         requires within { IsGraph graph.now }
         requires root { root < length graph.now }
@@ -203,7 +213,12 @@ impl Search {
     }
 
     /// Sees to it that a driver is begun.
-    fn begin(&mut self, alloc: Global, graph: &[Items<usize>], root: usize) -> Result<(), OrderError>
+    fn begin(
+        &mut self,
+        alloc: Global,
+        graph: &[Items<usize>],
+        root: usize,
+    ) -> Result<(), OrderError>
         requires sound { IsSearch graph.now self.old }
         requires within { IsGraph graph.now }
         requires root { root < length graph.now }

@@ -1,4 +1,4 @@
-use Rattle.std.proofs.Common.{◌≡◌, ℕ, ◌+◌, List, map, take, length}
+use Rattle.std.proofs.Common.{◌≡◌, ℕ, List, map, take, length}
 use Rattle.net_order.proofs.search.lengths.Given as goal
 
 abbrev pub invariant-loop-numbers : goal.invariant-loop-numbers

@@ -1,4 +1,4 @@
-use Rattle.std.proofs.Common.{◌≡◌, ◌∙◌}
+use Rattle.std.proofs.Common.{◌∙◌}
 use Rattle.net_order.proofs.Rows.{list_read}
 use Rattle.net_order.proofs.search.row.Goals as goal
 

@@ -1,4 +1,4 @@
-use Rattle.std.proofs.Common.{◌≡◌, ◌++◌, ◌∷◌, [], List, ℕ, slice_set, subst, sym, arith, rules}
+use Rattle.std.proofs.Common.{◌≡◌, ◌++◌, ◌∷◌, [], List, ℕ, slice_set, subst, sym, arith}
 use Rattle.std.proofs.lemmas.Grind.{common_steps}
 use Rattle.net_order.specs.declared.search.Mark.TheVariants.{Open, Done}
 use Rattle.net_order.specs.Search.{IsSound}
@@ -14,8 +14,8 @@ returns c =
     let within = top_in g s.marks.items s.left.items s.path.items s.order sound c.requires.some c.args.top c.requires.top in
     record {
       sound = subst (λ (o : List ℕ). IsSound g (slice_set s.marks.items c.args.top Done) s.left.items c.pop.new.self.items o) (sym c.in_ok-push.ensures.ok)
-        (place_sound g s.marks.items s.left.items s.path.items s.order sound c.args.top within c.pop.new.self.items is_path c.requires.none);
+          (place_sound g s.marks.items s.left.items s.path.items s.order sound c.args.top within c.pop.new.self.items is_path c.requires.none);
       fewer = fewer g s.marks.items s.left.items s.path.items s.order sound c.args.top within Open Done
-        (is_open g s.marks.items s.left.items s.path.items s.order sound c.args.top within c.pop.new.self.items is_path c.requires.none) (omega arith);
+          (is_open g s.marks.items s.left.items s.path.items s.order sound c.args.top within c.pop.new.self.items is_path c.requires.none) (omega arith);
       begun = stay_begun g s.marks.items s.left.items s.path.items s.order sound c.args.top within Done (λ e. absurd cc);
     }

@@ -1,4 +1,4 @@
-use Rattle.std.proofs.Common.{◌≡◌, ◌≢◌}
+use Rattle.std.proofs.Common.{◌≢◌}
 use Rattle.net_order.specs.declared.search.Mark.TheVariants.{Fresh}
 use Rattle.net_order.specs.Search.{mark_of, StayBegun, steps_left}
 use Rattle.net_order.specs.Steps.{IsSearch}
