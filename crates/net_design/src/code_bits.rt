@@ -186,12 +186,7 @@ fn learn_masks(masks: &[Mask], known: &mut BitMap, fresh: &mut Items<Mask>) -> R
 }
 
 /// Learns what the next statement knows of an assignment.
-fn learn_target(
-    timing: Timing,
-    places: &[Place],
-    known: &mut BitMap,
-    fresh: &mut Items<Mask>,
-) -> Result<(), Memory>
+fn learn_target(timing: Timing, places: &[Place], known: &mut BitMap, fresh: &mut Items<Mask>) -> Result<(), Memory>
     requires { AllByRecursion (λ p. IsSizedPlace p) places.now }
     ensures { OnOk result (Learns (learned timing (target_adds places.now)) known.old known.new fresh.old fresh.new) }
 {
@@ -236,13 +231,7 @@ fn push_mask(out: &mut Items<Mask>, net: usize, bits: u128) -> Result<(), Memory
 // ---- statements
 
 /// An assignment.
-fn set_bits(
-    timing: Timing,
-    target: &Lhs,
-    value: &Rhs,
-    found: &mut Found,
-    fresh: &mut Items<Mask>,
-) -> Result<(), Memory>
+fn set_bits(timing: Timing, target: &Lhs, value: &Rhs, found: &mut Found, fresh: &mut Items<Mask>) -> Result<(), Memory>
     requires target { AllByRecursion (λ p. IsSizedPlace p) target.now }
     requires value { IsSizedRhs value.now }
     ensures { OnOk result (Walks timing (target_writes target.now) (target_adds target.now)
@@ -256,12 +245,7 @@ fn set_bits(
 }
 
 /// An expression that is read.
-fn read_bits(
-    timing: Timing,
-    value: &Rhs,
-    found: &mut Found,
-    fresh: &mut Items<Mask>,
-) -> Result<(), Memory>
+fn read_bits(timing: Timing, value: &Rhs, found: &mut Found, fresh: &mut Items<Mask>) -> Result<(), Memory>
     requires { IsSizedRhs value.now }
     ensures { OnOk result (Walks timing no_bits no_bits (λ known m k. reads value.now m k && not (known m k)) found.old found.new fresh.old fresh.new) }
 {
@@ -280,13 +264,7 @@ fn see_bits(guards: &Items<Guard>, otherwise: &Items<Act>)
 
 /// A statement.
 #[cycle(walks)]
-fn act_bits(
-    alloc: Global,
-    timing: Timing,
-    act: &Act,
-    found: &mut Found,
-    fresh: &mut Items<Mask>,
-) -> Result<(), Memory>
+fn act_bits(alloc: Global, timing: Timing, act: &Act, found: &mut Found, fresh: &mut Items<Mask>) -> Result<(), Memory>
     requires { IsSizedAct act.now }
     ensures { OnOk result (Walks timing (writes act.now) (adds act.now) (open_reads timing act.now) found.old found.new fresh.old fresh.new) }
 {
@@ -307,13 +285,7 @@ fn act_bits(
 
 /// A list of statements.
 #[cycle(walks)]
-fn acts_bits(
-    alloc: Global,
-    timing: Timing,
-    acts: &Items<Act>,
-    found: &mut Found,
-    fresh: &mut Items<Mask>,
-) -> Result<(), Memory>
+fn acts_bits(alloc: Global, timing: Timing, acts: &Items<Act>, found: &mut Found, fresh: &mut Items<Mask>) -> Result<(), Memory>
     requires { IsSizedBlock acts.now }
     ensures { OnOk result (Walks timing (block_writes acts.now) (block_adds acts.now) (block_open_reads timing acts.now)
         found.old found.new fresh.old fresh.new) }
@@ -326,13 +298,7 @@ fn acts_bits(
 
 /// A guard, whose arm gives back what it learned: of the bits that each arm before it assigned, those that it assigns too.
 #[cycle(walks)]
-fn guard_bits(
-    alloc: Global,
-    timing: Timing,
-    guard: &Guard,
-    all: &Items<Mask>,
-    found: &mut Found,
-) -> Result<Items<Mask>, Memory>
+fn guard_bits(alloc: Global, timing: Timing, guard: &Guard, all: &Items<Mask>, found: &mut Found) -> Result<Items<Mask>, Memory>
     requires condition { IsSizedRhs guard.now.condition }
     requires body { IsSizedBlock guard.now.body }
     ensures { IfOk result (λ both. Arm timing guard.now all.now both found.old found.new) }

@@ -2,8 +2,8 @@
 //!
 //! The definitions stand in `specs/`: `Value` (the number of an expression), `Updates` (what a block
 //! writes), `Bits` (the bits that code reads and writes), `Settled` (the settled map, the next state and
-//! the initial state), `Lawful` (the designs that elaboration answers), `Example` (one of them) and
-//! `Moved` (code moved to an instance's first places). `reference` evaluates them as they are written,
+//! the initial state), `Lawful` (the designs that elaboration answers), `Example` (one of them),
+//! `Moved` (code moved to an instance's first places) and `Pins` (what is entered at input ports). `reference` evaluates them as they are written,
 //! slowly.
 #![tactic(auto)]
 
