@@ -27,7 +27,7 @@ pub fn cycle<B: Block>(block: &mut B, pins: &[u128], port: usize) -> u128
     ensures { (u v : Values) → IsSettled (B.design block.old) (initial (B.design block.old)) (no_pins (B.design block.old)) u
         → IsSettled (B.design block.old) (next (B.design block.old) u (initial (B.design block.old))) pins.now v
         → (result ≡ slice_index (outputs (B.design block.old) v) port)
-            × (B.state block.new ≡ next (B.design block.old) v (next (B.design block.old) u (initial (B.design block.old)))) }
+        × (B.state block.new ≡ next (B.design block.old) v (next (B.design block.old) u (initial (B.design block.old)))) }
 {
     block.load();
     block.clock();

@@ -3,8 +3,9 @@
 //! The definitions stand in `specs/`: `Value` (the number of an expression), `Updates` (what a block
 //! writes), `Last` (what the last of updates makes a bit), `Bits` (the bits that code reads and writes),
 //! `Settled` (the settled map, the next state and the initial state), `Lawful` (the designs that
-//! elaboration answers), `Example` (one of them) and `Moved` (code moved to an instance's first places).
-//! `reference` evaluates them as they are written, slowly; `code_bits` finds the bits of code.
+//! elaboration answers), `Example` (one of them), `Moved` (code moved to an instance's first places) and
+//! `Pins` (what is entered at input ports). `reference` evaluates them as they are written, slowly;
+//! `code_bits` finds the bits of code. The trait `Block` is a design that runs.
 #![tactic(auto)]
 
 mod act;
@@ -25,9 +26,7 @@ mod values;
 
 pub use act::{Act, Code, Guard, Lhs, Mask, Place, Timing};
 pub use block::Block;
-pub use design::{
-    Counts, Design, DesignMemory, Direction, Driver, Instance, Net, Port, Register,
-};
+pub use design::{Counts, Design, DesignMemory, Direction, Driver, Instance, Net, Port, Register};
 pub use laws::{
     assignment_is_equation, blocks_in_order, choice_by_lists, initial_is_state, last_update_stands,
     lawful_design_shown, lawful_is_sized, next_is_state, target_is_equation, unwritten_bits_stay,

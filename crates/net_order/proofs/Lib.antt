@@ -1,0 +1,6 @@
+pub mod Members
+pub mod Exclusive
+pub mod Turns
+pub mod Moves
+pub mod Rows
+pub mod Ends

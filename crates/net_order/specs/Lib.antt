@@ -1,0 +1,5 @@
+pub mod Order
+pub mod Graph
+pub mod Turn
+pub mod Search
+pub mod Steps
