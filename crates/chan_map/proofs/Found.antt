@@ -66,11 +66,12 @@ net_width : (d : Design) → IsLawful d → (k : ℕ) (p : Port) → slice_get d
 net_width d lawful k p at =
     let inside : k < length d.ports = there d.ports k p at in
     elim (slice_get_cases d.nets k).1 [
-      inl w ↦
-        let width : w.0.width ≡ p.width = (lawful.port_nets k p w.0 at w.2).1 in
-        let n : IsWidth (get_or d.nets k w.0).width = (lawful.nets k w.0 (omega (arith, lawful.ports))).0 in
-        rw (← width, ← w.3) n
-    | inr w ↦ absurd (omega (arith, w.0, lawful.ports)) ]
+      | inl w ↦
+          let width : w.0.width ≡ p.width = (lawful.port_nets k p w.0 at w.2).1 in
+          let n : IsWidth (get_or d.nets k w.0).width = (lawful.nets k w.0 (omega (arith, lawful.ports))).0 in
+          rw (← width, ← w.3) n
+      | inr w ↦ absurd (omega (arith, w.0, lawful.ports))
+    ]
 
 pub lawful_widths : (d : Design) → IsLawful d → HaveWidths d.ports
 lawful_widths d lawful = λ k p within. net_width d lawful k (get_or d.ports k p) (slice_get-get_or d.ports k p within)

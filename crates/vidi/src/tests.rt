@@ -126,7 +126,11 @@ fn broken_traces_are_refused(rt: HostRuntime) -> Result<(), Failure> {
     let count = with_header(alloc, &[1, 1, 1, 5, 1, 2, 2, 5, 0, 0, 0, 0, 3])?;
     for (file, at, text) in [
         (cut.as_slice(), 23, "vidi: refused trace: bad trace at 23\n"),
-        (count.as_slice(), 27, "vidi: refused trace: bad trace at 27\n"),
+        (
+            count.as_slice(),
+            27,
+            "vidi: refused trace: bad trace at 27\n",
+        ),
         (b"WIDITRC1", 0, "vidi: refused trace: bad trace at 0\n"),
     ] {
         let refused = Status::Refused {

@@ -9,7 +9,7 @@ use Rattle.vlog_size.specs.declared.scope.Param.{Param}
 use Rattle.vlog_size.specs.declared.names.Meaning.{Meaning}
 use Rattle.vlog_size.specs.declared.names.Meaning.TheVariants.{Parameter, Place, Undeclared}
 use Rattle.vlog_size.specs.Table.{value_of}
-use Rattle.vlog_size.specs.Findings.{told_if}
+use Rattle.vidi_bits.specs.Findings.{told_if}
 use Rattle.vlog_size.specs.Literal.{is_lawful}
 use Rattle.vlog_size.specs.Operators.{is_wide}
 use Rattle.vlog_size.specs.Names.{Readable, fixed, or_meaning, meaning_of, is_lawful_readable}

@@ -2,7 +2,7 @@
 use Rattle.std.proofs.Common.{◌≡◌, ℕ, ◌+◌, ◌-◌, Bool, true, false, ◌&&◌, not, nat_lt, nat_le, max, is_none, List, [], ◌∷◌, ◌++◌, take}
 use Rattle.std.proofs.Common.{length, refl, arith}
 use Rattle.std.proofs.Math.Seq.{take-length}
-use Rattle.vlog_size.specs.Findings.{first, told_if}
+use Rattle.vidi_bits.specs.Findings.{first, told_if}
 use Rattle.vlog_size.specs.Literal.{is_lawful}
 
 pub take_whole : {A : Type 0} → (xs : List A) → take (length xs) xs ≡ xs

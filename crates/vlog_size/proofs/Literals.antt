@@ -7,7 +7,8 @@ use Rattle.vlog_tree.specs.declared.expr.NumberKind.{NumberKind}
 use Rattle.vlog_tree.specs.declared.expr.NumberKind.TheVariants.{Decimal, Based}
 use Rattle.vlog_tree.specs.Tree.{NumberOf}
 use Rattle.vlog_size.specs.declared.error.SizeError.TheVariants as error
-use Rattle.vlog_size.specs.Literal.{is_lawful, literal_width, literal_number, spelled_number, trimmed, is_bad_literal, below_top}
+use Rattle.vidi_bits.specs.Limits.{below_top}
+use Rattle.vlog_size.specs.Literal.{is_lawful, literal_width, literal_number, spelled_number, trimmed, is_bad_literal}
 use Rattle.vlog_size.specs.Literal.{digits_from}
 use Rattle.vlog_size.specs.Operators.{in_range}
 use Rattle.vlog_size.specs.Size.{of_number, is_bad_number, is_decimal, decimal_value}

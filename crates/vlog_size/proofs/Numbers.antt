@@ -3,7 +3,8 @@ use Rattle.std.proofs.Common.{◌≡◌, ℕ, ◌+◌, ◌*◌, ◌≤◌, ◌<�
 use Rattle.std.proofs.Common.{refl, drop, length, get_or, sym, ap, ◌∙◌, suc, ◌≢◌, drop-cons}
 use Rattle.std.proofs.lemmas.List.{drop_all}
 use Rattle.std.proofs.Math.Nat.{mul-le-mul_left}
-use Rattle.vlog_size.specs.Literal.{digit, digits_from, below_top}
+use Rattle.vidi_bits.specs.Limits.{below_top}
+use Rattle.vlog_size.specs.Literal.{digit, digits_from}
 
 pub shifted_grows : (base n d : ℕ) → 1 ≤ base → n ≤ n * base + d
 shifted_grows base n d h = omega (arith, mul-le-mul_left n h)

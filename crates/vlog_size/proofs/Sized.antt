@@ -7,7 +7,7 @@ use Rattle.vlog_size.specs.declared.operators.Kind.{Kind}
 use Rattle.vlog_size.specs.declared.operators.Kind.TheVariants.{Sum, Comparison, Logic, Shift}
 use Rattle.vlog_tree.specs.declared.expr.BinaryOp.{BinaryOp}
 use Rattle.vlog_tree.specs.declared.expr.UnaryOp.{UnaryOp}
-use Rattle.vlog_size.specs.Findings.{told_if}
+use Rattle.vidi_bits.specs.Findings.{told_if}
 use Rattle.vlog_size.specs.Literal.{is_lawful}
 use Rattle.vlog_size.specs.Operators.{kind_of, is_plain_op, is_wide, whole_value, binary_value, unary_value}
 use Rattle.vlog_size.specs.Size.{Sizes, own, own_width, at_width, number, is_sound, of_one, of_two, binary_width, operated, compared}

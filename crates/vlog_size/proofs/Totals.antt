@@ -5,7 +5,7 @@ use Rattle.vlog_size.specs.declared.error.SizeError.TheVariants as error
 use Rattle.std.proofs.lemmas.Grind.{common_steps}
 use Rattle.vlog_size.specs.Limits.{TOP}
 use Rattle.vlog_size.specs.Literal.{is_lawful}
-use Rattle.vlog_size.specs.Findings.{first, told_if}
+use Rattle.vidi_bits.specs.Findings.{first, told_if}
 use Rattle.vlog_size.specs.Size.{Sizes, all_lawful, total_width, sum_fault}
 
 one_lawful : (w : ℕ) (rest : Bool) → (is_lawful w && rest) ≡ true → w ≤ 128

@@ -5,7 +5,7 @@ use Rattle.vlog_size.specs.declared.facts.Numbered.{Numbered}
 use Rattle.vlog_size.specs.declared.facts.Select.{Select}
 use Rattle.vlog_size.specs.declared.facts.Parts.{Parts}
 use Rattle.vlog_size.specs.declared.value.Joined.{Joined}
-use Rattle.vlog_size.specs.Findings.{first, or_first}
+use Rattle.vidi_bits.specs.Findings.{first, or_first}
 use Rattle.vlog_size.specs.Limits.{TOP}
 use Rattle.vlog_size.specs.Size.{Sizes, number, Bracket, part_width, part_const_faults, part_fault, part_width_faults}
 use Rattle.vlog_size.specs.Size.{own_width, join_with, all_constant, all_lawful, total_width, parts_const_faults, parts_width_faults}

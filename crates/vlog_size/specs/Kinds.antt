@@ -4,7 +4,7 @@ use Rattle.std.specs.Prelude.{ℕ, Bool, true, false, List, [], ◌++◌, Option
 use Rattle.vlog_tree.specs.Tree.{ExprOf, UnaryExpr, BinaryExpr, ChoiceExpr, PrimOf, NumberPrim, RefPrim, ParenPrim, ConcatPrim, RefOf}
 use Rattle.vlog_tree.specs.Tree.{RefWith, IndexOf, NoIndex, Index, LastOf, NoLast, Last, SelOf, IndexSel, PartSel, IndexedSel, ExprsOf}
 use Rattle.vlog_tree.specs.Tree.{NoExprs, MoreExprs}
-use Rattle.vlog_size.specs.Findings.{told_if}
+use Rattle.vidi_bits.specs.Findings.{told_if}
 
 -- what a name is declared as; the words of a memory are scalars or vectors
 pub data Class : Type 0 where

@@ -1,4 +1,3 @@
-pub mod Findings
 pub mod Limits
 pub mod Literal
 pub mod Names

@@ -4,7 +4,8 @@ use Rattle.std.specs.Prelude.{◌∷◌, Option, Some, None, is_none}
 use Rattle.std.specs.List.{before_first, after_first}
 use Rattle.vlog_tree.specs.declared.expr.NumberKind.{NumberKind}
 use Rattle.vlog_tree.specs.declared.expr.NumberKind.TheVariants.{Decimal, Based}
-use Rattle.vlog_size.specs.Findings.{is_nil}
+use Rattle.vidi_bits.specs.Findings.{is_nil}
+use Rattle.vidi_bits.specs.Limits.{below_top}
 
 -- `0` to `9`, `A` to `F`, `a` to `f`
 abbrev pub digit : ℕ → ℕ
@@ -21,10 +22,6 @@ base_of letter =
 abbrev pub digits_from : ℕ → ℕ → List ℕ → ℕ
 digits_from base n [] = n
 digits_from base n (b ∷ text) = digits_from base (if b == 95 then n else n * base + digit b) text
-
--- a number below 2^128
-abbrev pub below_top : ℕ → Option ℕ
-below_top n = if nat_lt n (2 ^ 128) then Some n else None
 
 -- 1 to 128
 abbrev pub is_lawful : ℕ → Bool

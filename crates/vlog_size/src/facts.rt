@@ -3,7 +3,7 @@
 ghost use Rattle.std.specs.Prelude.{◌≡◌, ◌<◌, ◌^◌, [], ◌∷◌, ℕ, List, min, length, ◌&&◌, not};
 ghost use Rattle.vlog_tree.specs.Tree.{NumberOf};
 ghost use Rattle.vlog_tree.specs.Plain.{plain_number};
-ghost use Rattle.vlog_size.specs.Findings.{first, told_if, or_first};
+ghost use Rattle.vidi_bits.specs.Findings.{first, told_if, or_first};
 ghost use Rattle.vlog_size.specs.Literal.{is_lawful, literal_width, is_bad_literal};
 ghost use Rattle.vlog_size.specs.Size.{Sizes, of_number, of_param, of_read, of_sign, of_binary, of_choice, of_paren, of_concat};
 ghost use Rattle.vlog_size.specs.Size.{is_decimal, is_plain_const, decimal_value, is_bad_operator, is_out, of_two, number};

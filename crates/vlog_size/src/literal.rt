@@ -1,7 +1,8 @@
 //! The widths and the numbers of literals (IEEE 1364-2005, 3.5.1).
 
 ghost use Rattle.std.specs.Prelude.{◌≡◌, ◌≤◌, ◌+◌, ◌*◌, ◌<◌, ◌^◌, length};
-ghost use Rattle.vlog_size.specs.Literal.{digit, base_of, below_top, digits_from, before_quote, after_quote, based_number, size_of};
+ghost use Rattle.vidi_bits.specs.Limits.{below_top};
+ghost use Rattle.vlog_size.specs.Literal.{digit, base_of, digits_from, before_quote, after_quote, based_number, size_of};
 ghost use Rattle.vlog_size.specs.Literal.{literal_width, is_unsized_literal, spelled_number, literal_number, is_lawful, is_quote};
 ghost use Rattle.vlog_size.specs.Literal.{is_bad_literal};
 ghost use Rattle.vlog_size.specs.Limits.{TOP};
