@@ -9,6 +9,9 @@ mod laws;
 mod search;
 mod turn;
 
-pub use answer::{Order, OrderError};
+pub use answer::OrderError;
 pub use laws::order_or_loop;
 pub use search::sorted;
+
+#[cfg(test)]
+mod tests;
