@@ -1,14 +1,9 @@
 -- A port that is found is one of the ports.
-use Rattle.std.proofs.Math.ListN.{length-set}
-use Rattle.std.proofs.Common.{zero-add, length-append, ◌≡◌, ◌≢◌, ℕ, suc, ◌+◌, ◌-◌, ◌<◌, ◌≤◌, ◌^◌, ◌==◌, min, Bool, true, false, cond, if◌then◌else◌, List, [], ◌∷◌, ◌++◌, Option, Some, None, length, get_or, replicate, take, drop, refl, sym, ap, ◌∙◌, arith, slice_index, slice_set, ◌⊎◌, inl, inr}
-use Rattle.std.proofs.lemmas.Bool.{cases_eq}
-use Rattle.std.proofs.lemmas.List.Sums.{sum_by-append}
+use Rattle.std.proofs.Common.{length-append, ◌≡◌, ℕ, ◌+◌, ◌<◌, Bool, true, false, if◌then◌else◌, List, [], ◌∷◌, ◌++◌, Some, None, length, ap, arith}
 use Rattle.std.specs.Str.{bytes_eq}
 use Rattle.net_design.specs.declared.design.Port.{Port}
 use Rattle.chan_map.specs.declared.sockets.Socket.{Socket}
-use Rattle.chan_map.specs.Ports.{socket, socket_from, socket_named, is_port, times}
-use Rattle.chan_map.specs.Reasons.{capped}
-use Rattle.chan_map.specs.Times.{Adds, AreTimes}
+use Rattle.chan_map.specs.Ports.{socket, socket_from, socket_named}
 
 found_below : (b : Bool) (before rest : List Port) (p : Port) (q : List ℕ) (s : Socket)
     → (socket_from (before ++ p ∷ []) rest q ≡ Some s → s.port < length (before ++ p ∷ []) + length rest)

@@ -1,25 +1,21 @@
 -- Lines that fit a design make pins that are its ports'.
-use Rattle.std.proofs.Common.{◌≡◌, ℕ, suc, zero, ◌+◌, ◌<◌, ◌==◌, ◌&&◌, not, Bool, true, false, List, [], ◌∷◌, ◌++◌, map, Option, Some, None, length, refl, sym, ap, subst, ◌∙◌, arith}
+use Rattle.std.proofs.Common.{◌≡◌, ℕ, suc, zero, ◌+◌, ◌<◌, ◌==◌, not, Bool, true, false, List, [], ◌∷◌, ◌++◌, map, Option, Some, None, length, refl, ap, subst, ◌∙◌, arith}
 use Rattle.std.specs.Prelude.{IfSome}
 use Rattle.std.specs.List.{flat_map, list_all, AllZip, AllByRecursion}
 use Rattle.std.proofs.lemmas.Bool.{eqb-true}
 use Rattle.vidi_bits.specs.Findings.{told_if}
-use Rattle.trace_model.specs.declared.channel.Channel.{Channel as Row}
 use Rattle.net_design.specs.declared.design.Port.{Port}
 use Rattle.net_design.specs.declared.design.Direction.{Direction}
-use Rattle.net_design.specs.declared.design.Direction.TheVariants.{Input, Output}
+use Rattle.net_design.specs.declared.design.Direction.TheVariants.{Input}
 use Rattle.net_design.specs.declared.design.Design.{Design}
-use Rattle.chan_map.specs.declared.error.MapError.{MapError}
 use Rattle.chan_map.specs.declared.error.MapError.TheVariants as F
 use Rattle.chan_map.specs.declared.map_text.Entry.{Entry}
 use Rattle.chan_map.specs.declared.map_text.Entry.TheVariants.{Top, Clock, Tie, Reset, Ignore, Channel}
 use Rattle.chan_map.specs.declared.map_text.MapLine.{MapLine}
-use Rattle.chan_map.specs.declared.pins.Plug.{Plug}
-use Rattle.chan_map.specs.declared.pins.Tie.{Tie as TieOf}
 use Rattle.chan_map.specs.declared.pins.Reset.{Reset as ResetOf}
 use Rattle.chan_map.specs.Follow.{entries, clock_name}
-use Rattle.chan_map.specs.Ports.{socket_named, is_pin, is_bit, is_clock_of, source_side, sink_side, line_fits, times}
-use Rattle.chan_map.specs.Reasons.{port_faults, cover_from, cover_faults, capped}
+use Rattle.chan_map.specs.Ports.{socket_named, is_pin, source_side, sink_side, line_fits, times}
+use Rattle.chan_map.specs.Reasons.{port_faults, cover_from, capped}
 use Rattle.chan_map.specs.Bound.{pin_named, width_named, rows_of, plugs_of, ties_of, resets_of, later, table_of, IsPin, IsPlug, IsTie}
 use Rattle.chan_map.proofs.Found.{pin_is, bit_is, tie_is}
 use Rattle.chan_map.proofs.Follows.{both_left, both_right}

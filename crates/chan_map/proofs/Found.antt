@@ -1,6 +1,6 @@
 -- The ports that names are those of, and their widths.
-use Rattle.std.proofs.Common.{◌≡◌, ◌≢◌, ℕ, suc, ◌+◌, ◌<◌, ◌≤◌, ◌^◌, ◌==◌, ◌&&◌, Bool, true, false, cond, if◌then◌else◌, List, [], ◌∷◌, ◌++◌, Option, Some, None, length, get_or, take, refl, sym, ap, subst, ◌∙◌, arith, append_assoc, length-append, IsTrue, ◌⊎◌, inl, inr}
-use Rattle.std.specs.Prelude.{slice_get, count_by, All}
+use Rattle.std.proofs.Common.{◌≡◌, ℕ, ◌<◌, ◌^◌, Bool, true, false, if◌then◌else◌, List, [], ◌∷◌, ◌++◌, Option, Some, None, length, get_or, take, refl, sym, ap, subst, ◌∙◌, arith, append_assoc, inl, inr}
+use Rattle.std.specs.Prelude.{slice_get, count_by}
 use Rattle.std.specs.Str.{bytes_eq}
 use Rattle.std.proofs.lemmas.List.{take-append-le, take_all}
 use Rattle.std.proofs.lemmas.Option.{slice_get_cases, get_or_from_slice_get, slice_get-get_or}
@@ -8,7 +8,6 @@ use Rattle.std.proofs.lemmas.Slice.Eq.{bytes_eq-Decides}
 use borrow.Author.Tests.{ltb-true}
 use Rattle.std.proofs.lemmas.Bool.{eqb-true}
 use Rattle.vlog_operators.specs.Number.{IsWidth}
-use Rattle.net_design.specs.declared.design.Net.{Net}
 use Rattle.net_design.specs.declared.design.Port.{Port}
 use Rattle.net_design.specs.declared.design.Direction.{Direction}
 use Rattle.net_design.specs.declared.design.Direction.TheVariants.{Input, Output}
@@ -66,11 +65,12 @@ net_width : (d : Design) → IsLawful d → (k : ℕ) (p : Port) → slice_get d
 net_width d lawful k p at =
     let inside : k < length d.ports = there d.ports k p at in
     elim (slice_get_cases d.nets k).1 [
-      inl w ↦
-        let width : w.0.width ≡ p.width = (lawful.port_nets k p w.0 at w.2).1 in
-        let n : IsWidth (get_or d.nets k w.0).width = (lawful.nets k w.0 (omega (arith, lawful.ports))).0 in
-        rw (← width, ← w.3) n
-    | inr w ↦ absurd (omega (arith, w.0, lawful.ports)) ]
+      | inl w ↦
+          let width : w.0.width ≡ p.width = (lawful.port_nets k p w.0 at w.2).1 in
+          let n : IsWidth (get_or d.nets k w.0).width = (lawful.nets k w.0 (omega (arith, lawful.ports))).0 in
+          rw (← width, ← w.3) n
+      | inr w ↦ absurd (omega (arith, w.0, lawful.ports))
+    ]
 
 pub lawful_widths : (d : Design) → IsLawful d → HaveWidths d.ports
 lawful_widths d lawful = λ k p within. net_width d lawful k (get_or d.ports k p) (slice_get-get_or d.ports k p within)
@@ -87,7 +87,7 @@ narrow d widths name = by (socket_named d.ports name) refl
 
 -- ---- pins
 
-same : (d e : Direction) → same_direction d e ≡ true → e ≡ d
+pub same : (d e : Direction) → same_direction d e ≡ true → e ≡ d
 same Input Input e = refl
 same Input Output e = let off : false ≡ true = e in absurd (cc)
 same Output Input e = let off : false ≡ true = e in absurd (cc)
@@ -111,7 +111,7 @@ pin_is d direction name (Some s) e pin =
           ∙ ap (λ (x : Direction). count_by (λ (q : Port). same_direction x q.direction) (take s.port d.ports)) (sym of_port ∙ way);
     }
 
-bit_pin : (direction : Direction) (o : Option Socket) → is_bit direction o ≡ true → (is_pin direction o ≡ true) × (width_of o ≡ 1)
+pub bit_pin : (direction : Direction) (o : Option Socket) → is_bit direction o ≡ true → (is_pin direction o ≡ true) × (width_of o ≡ 1)
 bit_pin direction None e = let off : false ≡ true = e in absurd (cc)
 bit_pin direction (Some s) e = (both_left _ _ e, eqb-true _ _ (both_right _ _ e))
 
@@ -120,7 +120,7 @@ bit_is d direction name e =
     let both = bit_pin direction (socket_named d.ports name) e in
     subst (λ w. IsPin d direction w (pin_named d.ports name)) both.1 (pin_is d direction name (socket_named d.ports name) refl both.0)
 
-tied_pin : (number : ℕ) (o : Option Socket) → is_tied number o ≡ true → (is_pin Input o ≡ true) × (number < 2 ^ width_of o)
+pub tied_pin : (number : ℕ) (o : Option Socket) → is_tied number o ≡ true → (is_pin Input o ≡ true) × (number < 2 ^ width_of o)
 tied_pin number None e = let off : false ≡ true = e in absurd (cc)
 tied_pin number (Some s) e = (both_left _ _ e, ltb-true _ _ (both_right _ _ e))
 

@@ -1,5 +1,5 @@
 -- A table of ports by name grows port by port.
-use Rattle.std.proofs.Common.{◌≡◌, ℕ, suc, ◌+◌, ◌<◌, ◌≤◌, Bool, true, false, cond, if◌then◌else◌, nat_eq, List, [], ◌∷◌, ◌++◌, Option, Some, None, take, drop, length, get_or, refl, sym, ap, ◌∙◌, Vec, Global, arith, drop-cons, length-take, is_some}
+use Rattle.std.proofs.Common.{◌≡◌, ℕ, suc, ◌+◌, ◌<◌, ◌≤◌, Bool, true, false, cond, if◌then◌else◌, nat_eq, List, [], ◌∷◌, ◌++◌, Option, Some, None, take, drop, length, get_or, refl, sym, ap, ◌∙◌, arith, drop-cons, length-take, is_some}
 use Rattle.std.proofs.lemmas.List.{take_more}
 use Rattle.std.proofs.lemmas.List.Sums.{sum_by_more}
 use Rattle.std.specs.Prelude.{count_by}
@@ -13,7 +13,7 @@ use Rattle.net_design.specs.declared.design.Direction.{Direction}
 use Rattle.net_design.specs.declared.design.Direction.TheVariants.{Input, Output}
 use Rattle.net_design.specs.Settled.{same_direction}
 use Rattle.chan_map.specs.declared.sockets.Socket.{Socket}
-use Rattle.chan_map.specs.Ports.{socket, socket_from, socket_named}
+use Rattle.chan_map.specs.Ports.{socket, socket_from}
 use Rattle.chan_map.specs.Sockets.{or_else}
 use Rattle.chan_map.proofs.Keys.{Key, same_key}
 

@@ -1,7 +1,7 @@
 -- The table of a bound map is that of a lawful header.
-use Rattle.std.proofs.Common.{◌≡◌, ◌≢◌, ℕ, zero, suc, ◌+◌, ◌<◌, ◌≤◌, ◌==◌, ◌&&◌, ◌||◌, not, Bool, true, false, nat_lt, nat_le, IsTrue, List, [], ◌∷◌, ◌++◌, map, Option, Some, None, length, get_or, refl, sym, ap, subst, ◌∙◌, arith, append_assoc, append-nil, if◌then◌else◌, cond}
-use Rattle.std.specs.Prelude.{sum_by, All}
-use Rattle.std.specs.List.{flat_map, list_all, list_any, AllByRecursion, AllPairs}
+use Rattle.std.proofs.Common.{◌≡◌, ◌≢◌, ℕ, zero, suc, ◌<◌, ◌≤◌, ◌&&◌, ◌||◌, not, Bool, true, false, nat_lt, nat_le, List, [], ◌∷◌, ◌++◌, map, Option, Some, None, length, get_or, refl, sym, ap, subst, ◌∙◌, arith, append_assoc, append-nil, if◌then◌else◌}
+use Rattle.std.specs.Prelude.{All}
+use Rattle.std.specs.List.{list_all, list_any, AllByRecursion, AllPairs}
 use Rattle.std.specs.Str.{bytes_eq}
 use borrow.Author.Tests.{leb-true, ltb-false}
 use Rattle.std.proofs.Math.ListN.{get_or-map}
@@ -12,12 +12,10 @@ use Rattle.std.proofs.lemmas.List.Quantifiers.{all_pairs_push}
 use Rattle.std.proofs.lemmas.Slice.Eq.{bytes_eq-Decides}
 use Rattle.vidi_bits.specs.Findings.{is_nil, told_if}
 use Rattle.trace_model.specs.declared.channel.Channel.{Channel as Row}
-use Rattle.trace_model.specs.Channel.{content_bytes, is_letter, is_letter_or_digit, IsName, IsChannel, IsTable}
+use Rattle.trace_model.specs.Channel.{is_letter, is_letter_or_digit, IsName, IsChannel, IsTable}
 use Rattle.vlog_operators.specs.Number.{IsWidth}
-use Rattle.net_design.specs.declared.design.Port.{Port}
 use Rattle.net_design.specs.declared.design.Direction.{Direction}
 use Rattle.net_design.specs.declared.design.Design.{Design}
-use Rattle.chan_map.specs.declared.error.MapError.{MapError}
 use Rattle.chan_map.specs.declared.error.MapError.TheVariants as F
 use Rattle.chan_map.specs.declared.error.MapLimit.TheVariants as M
 use Rattle.chan_map.specs.declared.map_text.Entry.{Entry}
@@ -138,7 +136,7 @@ not_repeated false true r never m = absurd (cc)
 not_repeated false false true never m = let off : false ≡ true = m in absurd (cc)
 not_repeated false false false never m = refl
 
-follows_told : (before : List Entry) (entry : Entry) → is_top entry ≡ false → may_follow before entry ≡ true → repeats before entry ≡ false
+pub follows_told : (before : List Entry) (entry : Entry) → is_top entry ≡ false → may_follow before entry ≡ true → repeats before entry ≡ false
 follows_told before entry no_top m = not_repeated (is_nil before) (is_top entry) (repeats before entry) no_top m
 
 differ_more : (before : List Entry) (entry : Entry) → may_follow before entry ≡ true → Differ (channel_names before) → Differ (channel_names before ++ channel_name entry)

@@ -1,6 +1,7 @@
 -- The map that lines and a design make (this project's profile).
-use Rattle.std.specs.Prelude.{◌≡◌, ℕ, ◌^◌, ◌<◌, List, [], ◌∷◌, ◌++◌, map, take, length, count_by, slice_get, Option, Some, None, IfSome, Result, Ok, Err}
-use Rattle.std.specs.List.{flat_map, AllZip, AllByRecursion}
+use Rattle.std.specs.Prelude.{◌≡◌, ◌≢◌, ℕ, ◌^◌, ◌<◌, List, [], ◌∷◌, ◌++◌, map, take, length, count_by, slice_get, Option, Some, None, IfSome, Result, Ok, Err}
+use Rattle.std.specs.List.{flat_map, AllZip, AllByRecursion, AllPairs}
+use Rattle.std.specs.Option.{option_to_list}
 use Rattle.trace_model.specs.declared.channel.Channel.{Channel as Row}
 use Rattle.trace_model.specs.Channel.{IsTable}
 use Rattle.net_design.specs.declared.design.Port.{Port}
@@ -21,6 +22,7 @@ use Rattle.chan_map.specs.declared.pins.Tie.{Tie}
 use Rattle.chan_map.specs.declared.pins.Reset.{Reset}
 use Rattle.chan_map.specs.Ports.{socket_named, source_side, sink_side, times}
 use Rattle.chan_map.specs.Reasons.{port_faults, cover_faults, limit_faults, all_names, IsFirst}
+use Rattle.chan_map.specs.Places.{is_at, places}
 
 abbrev pub place_of : Option Socket → ℕ
 place_of None = 0
@@ -95,7 +97,7 @@ pub record IsBound (text : MapText) (d : Design) (map : Map) : Type 0 where
   pub channels : map.channels ≡ table_of d text.lines
   pub plugs : map.plugs ≡ flat_map (λ (l : MapLine). plugs_of d.ports l.entry) text.lines
   pub ties : map.ties ≡ flat_map (λ (l : MapLine). ties_of d.ports l.entry) text.lines
-  pub reset : map.reset ≡ later None (flat_map (λ (l : MapLine). resets_of d.ports l.entry) text.lines)
+  pub reset : option_to_list map.reset ≡ flat_map (λ (l : MapLine). resets_of d.ports l.entry) text.lines
   pub clock : map.clock ≡ pin_named d.ports text.clock
   -- one plug for each channel, and every pin is a port's
   pub plugs_fit : AllZip (IsPlug d) map.channels map.plugs
@@ -106,6 +108,9 @@ pub record IsBound (text : MapText) (d : Design) (map : Map) : Type 0 where
   pub table : IsTable map.channels
   -- each port of the top is named exactly once
   pub once : (k : ℕ) → k < length d.ports → times d.ports (all_names text.lines) k ≡ 1
+  -- so each input of the top is exactly one of the pins, and no two pins are one port
+  pub inputs : (k : ℕ) → k < count_by (λ (q : Port). same_direction Input q.direction) d.ports → count_by (is_at Input k) (places map) ≡ 1
+  pub differ : AllPairs (λ (a b : Direction × ℕ). a ≢ b) (places map)
 
 -- a bound map exactly where nothing is found, else the first finding; want of memory is free
 abbrev pub BindsMap : MapText → Design → Result Map MapError → Type 0

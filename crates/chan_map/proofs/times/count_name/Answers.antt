@@ -1,4 +1,4 @@
-use Rattle.std.proofs.Common.{sym, ◌∙◌, arith, ◌+◌}
+use Rattle.std.proofs.Common.{sym, ◌∙◌, arith}
 use Rattle.chan_map.proofs.Counts.{port_below}
 use Rattle.chan_map.proofs.times.count_name.Goals as goal
 
