@@ -23,17 +23,25 @@ use Rattle.chan_map.proofs.Places.{pins_differ}
 use Rattle.chan_map.proofs.Covered.{all_places, resets_in, ties_in, covered, few, one_reset}
 
 -- the pins of the map are those that its lines add
-placed : (d : Design) (lines : List MapLine) (clock : List ℕ) (map : Map) → map.clock ≡ pin_named d.ports clock → map.channels ≡ table_of d lines
-    → map.plugs ≡ flat_map (λ (l : MapLine). plugs_of d.ports l.entry) lines → map.ties ≡ flat_map (λ (l : MapLine). ties_of d.ports l.entry) lines
+placed : (d : Design) (lines : List MapLine) (clock : List ℕ) (map : Map) → map.clock ≡ pin_named d.ports clock
+    → map.channels ≡ table_of d lines
+    → map.plugs ≡ flat_map (λ (l : MapLine). plugs_of d.ports l.entry) lines
+    → map.ties ≡ flat_map (λ (l : MapLine). ties_of d.ports l.entry) lines
     → option_to_list map.reset ≡ flat_map (λ (l : MapLine). resets_of d.ports l.entry) lines → places map ≡ all_places d lines clock
 placed d lines clock map clock_is channels plugs ties reset =
-    ap (λ (p : Pin). (Input, p.place) ∷ (reset_places (option_to_list map.reset) ++ (tie_places map.ties ++ plugs_places map.channels map.plugs))) clock_is
-    ∙ ap (λ rs. (Input, place_of (socket_named d.ports clock)) ∷ (reset_places rs ++ (tie_places map.ties ++ plugs_places map.channels map.plugs))) reset
-    ∙ ap (λ ts. (Input, place_of (socket_named d.ports clock)) ∷ (reset_places (resets_in d lines) ++ (tie_places ts ++ plugs_places map.channels map.plugs))) ties
-    ∙ ap (λ rows. (Input, place_of (socket_named d.ports clock)) ∷ (reset_places (resets_in d lines) ++ (tie_places (ties_in d lines) ++ plugs_places rows map.plugs))) channels
-    ∙ ap (λ ps. (Input, place_of (socket_named d.ports clock)) ∷ (reset_places (resets_in d lines) ++ (tie_places (ties_in d lines) ++ plugs_places (table_of d lines) ps))) plugs
+    ap (λ (p : Pin). (Input, p.place) ∷
+    (reset_places (option_to_list map.reset) ++ (tie_places map.ties ++ plugs_places map.channels map.plugs))) clock_is
+    ∙ ap (λ rs. (Input, place_of (socket_named d.ports clock)) ∷
+    (reset_places rs ++ (tie_places map.ties ++ plugs_places map.channels map.plugs))) reset
+    ∙ ap (λ ts. (Input, place_of (socket_named d.ports clock)) ∷
+    (reset_places (resets_in d lines) ++ (tie_places ts ++ plugs_places map.channels map.plugs))) ties
+    ∙ ap (λ rows. (Input, place_of (socket_named d.ports clock)) ∷
+    (reset_places (resets_in d lines) ++ (tie_places (ties_in d lines) ++ plugs_places rows map.plugs))) channels
+    ∙ ap (λ ps. (Input, place_of (socket_named d.ports clock)) ∷
+    (reset_places (resets_in d lines) ++ (tie_places (ties_in d lines) ++ plugs_places (table_of d lines) ps))) plugs
 
-pub bound : (text : MapText) (d : Design) (parts : Parts) (map : Map) → HaveWidths d.ports → map_faults d text.lines ≡ [] → ArePartsOf d text.lines parts
+pub bound : (text : MapText) (d : Design) (parts : Parts) (map : Map) → HaveWidths d.ports → map_faults d text.lines ≡ []
+    → ArePartsOf d text.lines parts
     → map.top ≡ text.top → map.clock ≡ pin_named d.ports text.clock
     → map.channels ≡ parts.channels → map.plugs ≡ parts.plugs → map.ties ≡ parts.ties → map.reset ≡ parts.reset
     → IsBound text d map
@@ -42,7 +50,8 @@ bound text d parts map widths none of top clock channels plugs ties reset =
     let rest : cover_faults d text.lines ++ limit_faults (table_of d text.lines) ≡ [] = no_right (port_faults d text.lines) _ none in
     let clock_line = clock_fits d text.lines text.clock fits text.one_clock in
     let one_each = once d.ports (all_names text.lines) (no_left (cover_faults d text.lines) _ rest) in
-    let pins : places map ≡ all_places d text.lines text.clock = placed d text.lines text.clock map clock (channels ∙ of.channels) (plugs ∙ of.plugs) (ties ∙ of.ties)
+    let pins : places map ≡ all_places d text.lines text.clock = placed d text.lines text.clock map clock (channels ∙ of.channels)
+    (plugs ∙ of.plugs) (ties ∙ of.ties)
     (ap option_to_list (reset ∙ of.reset) ∙ one_reset d text.lines text.follows) in
     record {
       top = top;
@@ -55,8 +64,11 @@ bound text d parts map widths none of top clock channels plugs ties reset =
       ties_fit = rw (ties ∙ of.ties) (ties_fit d text.lines fits);
       reset_fits = rw (reset ∙ of.reset) (last_reset_fits d text.lines fits);
       clock_fits = rw clock (bit_is d Input text.clock (both_left _ _ clock_line));
-      table = rw (channels ∙ of.channels) (table_is d widths text.lines fits text.follows text.named (no_right (cover_faults d text.lines) _ rest));
+      table = rw (channels ∙ of.channels)
+          (table_is d widths text.lines fits text.follows text.named (no_right (cover_faults d text.lines) _ rest));
       once = one_each;
       inputs = λ k within. ap (count_by (is_at Input k)) pins ∙ covered d text.lines fits text.clock text.one_clock one_each k within;
-      differ = pins_differ (places map) (λ way place. subst (λ ps. count_by (is_at way place) ps ≤ 1) (sym pins) (few d text.lines fits text.clock text.one_clock one_each way place));
+      differ = pins_differ (places map)
+          (λ way place. subst (λ ps. count_by (is_at way place) ps ≤ 1) (sym pins)
+          (few d text.lines fits text.clock text.one_clock one_each way place));
     }

@@ -1,5 +1,6 @@
 -- The pins of lines that fit: each port as often as it is named.
-use Rattle.std.proofs.Common.{◌≡◌, ℕ, ◌+◌, ◌<◌, ◌≤◌, ◌||◌, Bool, true, false, List, [], ◌∷◌, ◌++◌, map, Some, None, length, refl, sym, ap, ◌∙◌, arith, inl, inr}
+use Rattle.std.proofs.Common.{◌≡◌, ℕ, ◌+◌, ◌<◌, ◌≤◌, ◌||◌, Bool, true, false, List, [], ◌∷◌, ◌++◌, map, Some, None, length, refl, sym, ap}
+use Rattle.std.proofs.Common.{◌∙◌, arith, inl, inr}
 use Rattle.std.specs.Prelude.{count_by}
 use Rattle.std.specs.List.{flat_map, list_all, list_any}
 use Rattle.std.specs.Option.{option_to_list}
@@ -40,7 +41,8 @@ ignored entry = []
 
 -- ---- how often a port is one of the pins that lines add
 
-counted : (ports : List Port) (way : Direction) (place k : ℕ) → Hits ports way place k → (side : Direction) (name : List ℕ) → is_pin side (socket_named ports name) ≡ true
+counted : (ports : List Port) (way : Direction) (place k : ℕ) → Hits ports way place k → (side : Direction) (name : List ℕ)
+    → is_pin side (socket_named ports name) ≡ true
     → bit (is_at way place (side, place_of (socket_named ports name))) ≡ bit (is_port k (socket_named ports name))
 counted ports way place k hits side name pin = ap (λ b. bit b) (hits side name pin)
 
@@ -57,17 +59,22 @@ others ports way place clocks resets ties passed =
 contents_counted : (ports : List Port) (way : Direction) (place k : ℕ) → Hits ports way place k → (side : Direction) (names : List (List ℕ))
     → list_all (λ name. is_pin side (socket_named ports name)) names ≡ true → (rest : List (Direction × ℕ)) (words : List (List ℕ)) (n : ℕ)
     → count_by (is_at way place) rest + n ≡ times ports words k
-    → count_by (is_at way place) (map (λ (p : Pin). (side, p.place)) (map (pin_named ports) names) ++ rest) + n ≡ times ports (names ++ words) k
+    → count_by (is_at way place) (map (λ (p : Pin). (side, p.place)) (map (pin_named ports) names) ++ rest) + n ≡ times ports
+    (names ++ words) k
 contents_counted ports way place k hits side [] e rest words n h = h
 contents_counted ports way place k hits side (name ∷ names) e rest words n h =
-    front (is_at way place) (λ x. is_port k (socket_named ports x)) (side, place_of (socket_named ports name)) name (map (λ (p : Pin). (side, p.place)) (map (pin_named ports) names) ++ rest) (names ++ words) n
-    (counted ports way place k hits side name (both_left _ _ e)) (contents_counted ports way place k hits side names (both_right _ _ e) rest words n h)
+    front (is_at way place) (λ x. is_port k (socket_named ports x)) (side, place_of (socket_named ports name)) name
+    (map (λ (p : Pin). (side, p.place)) (map (pin_named ports) names) ++ rest) (names ++ words) n
+    (counted ports way place k hits side name (both_left _ _ e))
+    (contents_counted ports way place k hits side names (both_right _ _ e) rest words n h)
 
 line_counted : (d : Design) (way : Direction) (place k : ℕ) → Hits d.ports way place k → (entry : Entry) → line_fits d entry ≡ true
-    → (clocks : List (List ℕ)) (resets : List ResetOf) (ties : List TieOf) (passed : List (List ℕ)) (rows : List Row) (plugs : List Plug) (words : List (List ℕ))
+    → (clocks : List (List ℕ)) (resets : List ResetOf) (ties : List TieOf) (passed : List (List ℕ)) (rows : List Row)
+    (plugs : List Plug) (words : List (List ℕ))
     → count_by (is_at way place) (plugs_places rows plugs) + others d.ports way place clocks resets ties passed ≡ times d.ports words k
     → count_by (is_at way place) (plugs_places (rows_of d.ports entry ++ rows) (plugs_of d.ports entry ++ plugs))
-    + others d.ports way place (clock_name entry ++ clocks) (resets_of d.ports entry ++ resets) (ties_of d.ports entry ++ ties) (ignored entry ++ passed)
+    + others d.ports way place (clock_name entry ++ clocks) (resets_of d.ports entry ++ resets) (ties_of d.ports entry ++ ties)
+    (ignored entry ++ passed)
     ≡ times d.ports (names_of entry ++ words) k
 line_counted d way place k hits (Top name) e clocks resets ties passed rows plugs words h = h
 line_counted d way place k hits (Clock port) e clocks resets ties passed rows plugs words h =
@@ -112,11 +119,15 @@ line_counted d way place k hits (Channel c) e clocks resets ties passed rows plu
     let contents = map (λ (p : Pin). (source_side c.dir, p.place)) (map (pin_named d.ports) c.contents) ++ plugs_places rows plugs in
     let ready : Direction × ℕ = (sink_side c.dir, place_of (socket_named d.ports c.ready)) in
     let n = others d.ports way place clocks resets ties passed in
-    let inner = contents_counted d.ports way place k hits (source_side c.dir) c.contents (both_right _ _ (both_right _ _ e)) (plugs_places rows plugs) words n h in
-    front test name_test (source_side c.dir, place_of (socket_named d.ports c.valid)) c.valid (ready ∷ contents) (c.ready ∷ (c.contents ++ words)) n
-    (counted d.ports way place k hits (source_side c.dir) c.valid (bit_pin (source_side c.dir) (socket_named d.ports c.valid) (both_left _ _ e)).0)
+    let inner = contents_counted d.ports way place k hits (source_side c.dir) c.contents (both_right _ _ (both_right _ _ e))
+    (plugs_places rows plugs) words n h in
+    front test name_test (source_side c.dir, place_of (socket_named d.ports c.valid)) c.valid (ready ∷ contents)
+    (c.ready ∷ (c.contents ++ words)) n
+    (counted d.ports way place k hits (source_side c.dir) c.valid
+    (bit_pin (source_side c.dir) (socket_named d.ports c.valid) (both_left _ _ e)).0)
     (front test name_test ready c.ready contents (c.contents ++ words) n
-    (counted d.ports way place k hits (sink_side c.dir) c.ready (bit_pin (sink_side c.dir) (socket_named d.ports c.ready) (both_left _ _ (both_right _ _ e))).0) inner)
+    (counted d.ports way place k hits (sink_side c.dir) c.ready
+    (bit_pin (sink_side c.dir) (socket_named d.ports c.ready) (both_left _ _ (both_right _ _ e))).0) inner)
 
 abbrev passed_of : List MapLine → List (List ℕ)
 passed_of lines = flat_map (λ (l : MapLine). ignored l.entry) lines
@@ -136,7 +147,8 @@ lines_counted : (d : Design) (way : Direction) (place k : ℕ) → Hits d.ports 
     ≡ times d.ports (all_names lines) k
 lines_counted d way place k hits [] fits = refl
 lines_counted d way place k hits (l ∷ lines) fits =
-    line_counted d way place k hits l.entry fits.0 (flat_map clock_name (entries lines)) (resets_in d lines) (ties_in d lines) (passed_of lines) (table_of d lines) (plugs_in d lines)
+    line_counted d way place k hits l.entry fits.0 (flat_map clock_name (entries lines)) (resets_in d lines) (ties_in d lines)
+    (passed_of lines) (table_of d lines) (plugs_in d lines)
     (all_names lines) (lines_counted d way place k hits lines fits.1)
 
 -- ---- the pins of the whole map
@@ -144,14 +156,16 @@ lines_counted d way place k hits (l ∷ lines) fits =
 -- in the order of `places`
 abbrev pub all_places : Design → List MapLine → List ℕ → List (Direction × ℕ)
 all_places d lines clock =
-    (Input, place_of (socket_named d.ports clock)) ∷ (reset_places (resets_in d lines) ++ (tie_places (ties_in d lines) ++ plugs_places (table_of d lines) (plugs_in d lines)))
+    (Input, place_of (socket_named d.ports clock)) ∷
+    (reset_places (resets_in d lines) ++ (tie_places (ties_in d lines) ++ plugs_places (table_of d lines) (plugs_in d lines)))
 
 count_append : {A : Type 0} (p : A → Bool) (xs ys : List A) → count_by p (xs ++ ys) ≡ count_by p xs + count_by p ys
 count_append p xs ys = sum_by-append (λ x. bit (p x)) xs ys
 
 all_counted : (d : Design) (way : Direction) (place k : ℕ) → Hits d.ports way place k → (lines : List MapLine) → Fits d lines
     → (clock : List ℕ) → flat_map clock_name (entries lines) ≡ clock ∷ []
-    → count_by (is_at way place) (all_places d lines clock) + count_by (is_at way place) (named_places d.ports Output (passed_of lines)) ≡ times d.ports (all_names lines) k
+    → count_by (is_at way place) (all_places d lines clock) + count_by (is_at way place) (named_places d.ports Output (passed_of lines))
+    ≡ times d.ports (all_names lines) k
 all_counted d way place k hits lines fits clock is =
     let test = is_at way place in
     let rest = plugs_places (table_of d lines) (plugs_in d lines) in
@@ -175,11 +189,18 @@ no_input : (ports : List Port) (place : ℕ) (names : List (List ℕ)) → count
 no_input ports place [] = refl
 no_input ports place (name ∷ names) =
     let off : bit (is_at Input place (Output, place_of (socket_named ports name))) ≡ 0 = refl in
-    omega (arith, count_cons (is_at Input place) (Output, place_of (socket_named ports name)) (named_places ports Output names), off, no_input ports place names)
+    omega (
+      arith,
+      count_cons (is_at Input place) (Output, place_of (socket_named ports name))
+          (named_places ports Output names),
+      off,
+      no_input ports place names,
+    )
 
 pub covered : (d : Design) (lines : List MapLine) → Fits d lines → (clock : List ℕ) → flat_map clock_name (entries lines) ≡ clock ∷ []
     → ((k : ℕ) → k < length d.ports → times d.ports (all_names lines) k ≡ 1)
-    → (place : ℕ) → place < count_by (λ (q : Port). same_direction Input q.direction) d.ports → count_by (is_at Input place) (all_places d lines clock) ≡ 1
+    → (place : ℕ) → place < count_by (λ (q : Port). same_direction Input q.direction) d.ports
+    → count_by (is_at Input place) (all_places d lines clock) ≡ 1
 covered d lines fits clock is once place within =
     let s = standing (λ (q : Port). same_direction Input q.direction) d.ports place within in
     omega (
@@ -196,8 +217,18 @@ few d lines fits clock is once way place =
     elim (cases_lt place (count_by (λ (q : Port). same_direction way q.direction) d.ports)) [
       | inl w ↦
           let s = standing (λ (q : Port). same_direction way q.direction) d.ports place w in
-          omega (arith, all_counted d way place s.port (hits_in d.ports way place s) lines fits clock is, once s.port (inside d.ports s.port s.p s.at))
-      | inr w ↦ omega (arith, all_counted d way place (length d.ports) (hits_out d.ports way place w) lines fits clock is, times_out d.ports (all_names lines))
+          omega (
+            arith,
+            all_counted d way place s.port (hits_in d.ports way place s) lines fits clock is,
+            once s.port
+                (inside d.ports s.port s.p s.at),
+          )
+      | inr w ↦ omega (
+        arith,
+        all_counted d way place (length d.ports)
+            (hits_out d.ports way place w) lines fits clock is,
+        times_out d.ports (all_names lines),
+      )
     ]
 
 -- ---- the one reset
@@ -218,7 +249,8 @@ any_last : (f : Entry → Bool) (xs : List Entry) (x : Entry) → f x ≡ true �
 any_last f [] x e = ap (λ b. b || false) e
 any_last f (y ∷ xs) x e = or_last (f y) (list_any f (xs ++ x ∷ [])) (any_last f xs x e)
 
-none_more : (d : Design) (entry : Entry) (before : List Entry) (rest : List ResetOf) → list_any is_reset before ≡ true → may_follow before entry ≡ true → rest ≡ []
+none_more : (d : Design) (entry : Entry) (before : List Entry) (rest : List ResetOf) → list_any is_reset before ≡ true
+    → may_follow before entry ≡ true → rest ≡ []
     → resets_of d.ports entry ++ rest ≡ []
 none_more d (Top name) before rest there m e = e
 none_more d (Clock port) before rest there m e = e
@@ -229,7 +261,8 @@ none_more d (Reset port active cycles) before rest there m e =
 none_more d (Ignore port) before rest there m e = e
 none_more d (Channel c) before rest there m e = e
 
-no_more : (d : Design) (before : List Entry) (lines : List MapLine) → list_any is_reset before ≡ true → follow before (entries lines) ≡ true → resets_in d lines ≡ []
+no_more : (d : Design) (before : List Entry) (lines : List MapLine) → list_any is_reset before ≡ true
+    → follow before (entries lines) ≡ true → resets_in d lines ≡ []
 no_more d before [] there f = refl
 no_more d before (l ∷ lines) there f =
     none_more d l.entry before (resets_in d lines) there (both_left (may_follow before l.entry) _ f)
@@ -250,12 +283,14 @@ first_one d (Reset port active cycles) before lines f e =
 first_one d (Ignore port) before lines f e = e
 first_one d (Channel c) before lines f e = e
 
-one_reset_behind : (d : Design) (before : List Entry) (lines : List MapLine) → follow before (entries lines) ≡ true → option_to_list (later None (resets_in d lines)) ≡ resets_in d lines
+one_reset_behind : (d : Design) (before : List Entry) (lines : List MapLine) → follow before (entries lines) ≡ true
+    → option_to_list (later None (resets_in d lines)) ≡ resets_in d lines
 one_reset_behind d before [] f = refl
 one_reset_behind d before (l ∷ lines) f =
     let rest = both_right (may_follow before l.entry) _ f in
     first_one d l.entry before lines rest (one_reset_behind d (before ++ l.entry ∷ []) lines rest)
 
 pub one_reset : (d : Design) (lines : List MapLine) → follow [] (entries lines) ≡ true
-    → option_to_list (later None (flat_map (λ (l : MapLine). resets_of d.ports l.entry) lines)) ≡ flat_map (λ (l : MapLine). resets_of d.ports l.entry) lines
+    → option_to_list (later None (flat_map (λ (l : MapLine). resets_of d.ports l.entry) lines)) ≡ flat_map
+    (λ (l : MapLine). resets_of d.ports l.entry) lines
 one_reset d lines f = one_reset_behind d [] lines f

@@ -1,5 +1,6 @@
 -- Of the ports of one direction each has a place of its own.
-use Rattle.std.proofs.Common.{◌≡◌, ◌≢◌, ℕ, zero, suc, ◌+◌, ◌<◌, ◌≤◌, ◌==◌, Bool, true, false, cond, List, [], ◌∷◌, Option, Some, None, length, get_or, take, refl, sym, ap, ◌∙◌, arith, inl, inr}
+use Rattle.std.proofs.Common.{◌≡◌, ◌≢◌, ℕ, zero, suc, ◌+◌, ◌<◌, ◌≤◌, ◌==◌, Bool, true, false, cond, List, [], ◌∷◌, Option, Some, None}
+use Rattle.std.proofs.Common.{length, get_or, take, refl, sym, ap, ◌∙◌, arith, inl, inr}
 use Rattle.std.specs.Prelude.{slice_get, count_by}
 use Rattle.std.specs.List.{AllPairs}
 use Rattle.std.proofs.lemmas.Bool.{eqb-true, eq-eqb, and_from, cases_lt}
@@ -53,7 +54,8 @@ earlier f (x ∷ ports) zero (suc j) p at holds less =
 earlier f (x ∷ ports) (suc i) (suc j) p at holds less =
     omega (arith, count_cons f x (take i ports), count_cons f x (take j ports), earlier f ports i j p at holds (omega arith))
 
-one_place : (f : Port → Bool) (ports : List Port) (i j : ℕ) (p r : Port) → slice_get ports i ≡ Some p → slice_get ports j ≡ Some r → f p ≡ true → f r ≡ true
+one_place : (f : Port → Bool) (ports : List Port) (i j : ℕ) (p r : Port) → slice_get ports i ≡ Some p → slice_get ports j ≡ Some r
+    → f p ≡ true → f r ≡ true
     → count_by f (take i ports) ≡ count_by f (take j ports) → i ≡ j
 one_place f ports i j p r at there holds also e =
     elim (cases_lt i j) [
@@ -72,17 +74,32 @@ pub record Standing (f : Port → Bool) (ports : List Port) (place : ℕ) : Type
   pub holds : f p ≡ true
   pub stands : count_by f (take port ports) ≡ place
 
-standing_with : (f : Port → Bool) (x : Port) (ports : List Port) (b : Bool) (place : ℕ) → f x ≡ b → ((r : ℕ) → r < count_by f ports → Standing f ports r)
+standing_with : (f : Port → Bool) (x : Port) (ports : List Port) (b : Bool) (place : ℕ) → f x ≡ b
+    → ((r : ℕ) → r < count_by f ports → Standing f ports r)
     → place < count_by f (x ∷ ports) → Standing f (x ∷ ports) place
 standing_with f x ports true zero is rest less = record { port = 0; p = x; at = refl; holds = is; stands = refl }
 standing_with f x ports true (suc place) is rest less =
     let first : bit (f x) ≡ 1 = one (f x) is in
     let s = rest place (omega (arith, less, count_cons f x ports, first)) in
-    record { port = suc s.port; p = s.p; at = s.at; holds = s.holds; stands = omega (arith, count_cons f x (take s.port ports), first, s.stands) }
+    record {
+      port = suc s.port;
+      p = s.p;
+      at = s.at;
+      holds = s.holds;
+      stands = omega
+          (arith, count_cons f x (take s.port ports), first, s.stands);
+    }
 standing_with f x ports false place is rest less =
     let first : bit (f x) ≡ 0 = none (f x) is in
     let s = rest place (omega (arith, less, count_cons f x ports, first)) in
-    record { port = suc s.port; p = s.p; at = s.at; holds = s.holds; stands = omega (arith, count_cons f x (take s.port ports), first, s.stands) }
+    record {
+      port = suc s.port;
+      p = s.p;
+      at = s.at;
+      holds = s.holds;
+      stands = omega
+          (arith, count_cons f x (take s.port ports), first, s.stands);
+    }
 
 pub standing : (f : Port → Bool) (ports : List Port) (place : ℕ) → place < count_by f ports → Standing f ports place
 standing f [] place less = absurd (omega arith)
@@ -122,13 +139,15 @@ hits_by ports way place k forth back side name pin = by (socket_named ports name
         same_bools (is_at way place (side, t.place)) (t.port == k)
         (λ h.
         let w : side ≡ way = same way side (both_left _ _ h) in
-        eq-eqb _ _ (forth t.port is.p is.at (goes_same way is.p (to ∙ w)) (sym (counted w) ∙ eqb-true _ _ (both_right (same_direction way side) _ h))))
+        eq-eqb _ _ (forth t.port is.p is.at (goes_same way is.p (to ∙ w))
+        (sym (counted w) ∙ eqb-true _ _ (both_right (same_direction way side) _ h))))
         (λ h.
         let b = back t.port is.p is.at (eqb-true _ _ h) in
         let w : side ≡ way = sym to ∙ same way is.p.direction b.0 in
         and_from (same_direction way side) (t.place == place) (ap (same_direction way) (sym to) ∙ b.0) (eq-eqb _ _ (counted w ∙ b.1)))
 
-pub hits_in : (ports : List Port) (way : Direction) (place : ℕ) (s : Standing (λ (q : Port). same_direction way q.direction) ports place) → Hits ports way place s.port
+pub hits_in : (ports : List Port) (way : Direction) (place : ℕ) (s : Standing (λ (q : Port). same_direction way q.direction) ports place)
+    → Hits ports way place s.port
 hits_in ports way place s = hits_by ports way place s.port
     (λ i p at holds e. one_place (goes way) ports i s.port p s.p at s.at holds s.holds (e ∙ sym s.stands))
     (λ i p at e.
@@ -141,20 +160,35 @@ inside [] i p at = let off : None ≡ Some p = at in absurd (cc)
 inside (x ∷ ports) zero p at = omega arith
 inside (x ∷ ports) (suc i) p at = omega (arith, inside ports i p at)
 
-pub hits_out : (ports : List Port) (way : Direction) (place : ℕ) → count_by (λ (q : Port). same_direction way q.direction) ports ≤ place → Hits ports way place (length ports)
+pub hits_out : (ports : List Port) (way : Direction) (place : ℕ) → count_by (λ (q : Port). same_direction way q.direction) ports ≤ place
+    → Hits ports way place (length ports)
 hits_out ports way place over = hits_by ports way place (length ports)
     (λ i p at holds e.
-    absurd (omega (arith, earlier (goes way) ports i (length ports) p at holds (inside ports i p at), e, over, ap (count_by (goes way)) (take_all (length ports) ports (omega arith)))))
+    absurd (omega (
+      arith,
+      earlier (goes way) ports i (length ports) p at holds (inside ports i p at),
+      e,
+      over,
+      ap (count_by (goes way))
+          (take_all (length ports) ports (omega arith)),
+    )))
     (λ i p at e. absurd (omega (arith, inside ports i p at, e)))
 
 pub times_out : (ports : List Port) (words : List (List ℕ)) → times ports words (length ports) ≡ 0
 times_out ports [] = refl
 times_out ports (name ∷ words) =
-    omega (arith, count_cons (λ n. is_port (length ports) (socket_named ports n)) name words, none (is_port (length ports) (socket_named ports name)) (by (socket_named ports name) refl), times_out ports words)
+    omega (
+      arith,
+      count_cons (λ n. is_port (length ports) (socket_named ports n)) name words,
+      none
+          (is_port (length ports) (socket_named ports name)) (by (socket_named ports name) refl),
+      times_out ports words,
+    )
   where
     by : (o : Option Socket) → socket_named ports name ≡ o → is_port (length ports) o ≡ false
     by None e = refl
-    by (Some t) e = never (t.port == length ports) (λ h. let is : t.port ≡ length ports = eqb-true _ _ h in absurd (omega (arith, port_below ports name t e, is)))
+    by (Some t) e = never (t.port == length ports)
+        (λ h. let is : t.port ≡ length ports = eqb-true _ _ h in absurd (omega (arith, port_below ports name t e, is)))
 
 -- ---- pins that differ
 
@@ -163,11 +197,14 @@ count_one p [] j d within holds = absurd (omega arith)
 count_one p (x ∷ xs) zero d within holds = omega (arith, count_cons p x xs, one (p x) holds)
 count_one p (x ∷ xs) (suc j) d within holds = omega (arith, count_cons p x xs, count_one p xs j d (omega arith) holds)
 
-count_two : {A : Type 0} (p : A → Bool) (xs : List A) (i j : ℕ) (d : A) → i < j → j < length xs → p (get_or xs i d) ≡ true → p (get_or xs j d) ≡ true → 2 ≤ count_by p xs
+count_two : {A : Type 0} (p : A → Bool) (xs : List A) (i j : ℕ) (d : A) → i < j → j < length xs → p (get_or xs i d) ≡ true
+    → p (get_or xs j d) ≡ true → 2 ≤ count_by p xs
 count_two p [] i j d less within holds also = absurd (omega arith)
 count_two p (x ∷ xs) i zero d less within holds also = absurd (omega arith)
-count_two p (x ∷ xs) zero (suc j) d less within holds also = omega (arith, count_cons p x xs, one (p x) holds, count_one p xs j d (omega arith) also)
-count_two p (x ∷ xs) (suc i) (suc j) d less within holds also = omega (arith, count_cons p x xs, count_two p xs i j d (omega arith) (omega arith) holds also)
+count_two p (x ∷ xs) zero (suc j) d less within holds also = omega
+    (arith, count_cons p x xs, one (p x) holds, count_one p xs j d (omega arith) also)
+count_two p (x ∷ xs) (suc i) (suc j) d less within holds also = omega
+    (arith, count_cons p x xs, count_two p xs i j d (omega arith) (omega arith) holds also)
 
 at_self : (pin : Direction × ℕ) → is_at pin.0 pin.1 pin ≡ true
 at_self pin = and_from (same_direction pin.0 pin.0) (pin.1 == pin.1) (self pin.0) (eq-eqb _ _ refl)
@@ -176,8 +213,10 @@ at_self pin = and_from (same_direction pin.0 pin.0) (pin.1 == pin.1) (self pin.0
     self Input = refl
     self Output = refl
 
-pub pins_differ : (pins : List (Direction × ℕ)) → ((way : Direction) (place : ℕ) → count_by (is_at way place) pins ≤ 1) → AllPairs (λ (a b : Direction × ℕ). a ≢ b) pins
+pub pins_differ : (pins : List (Direction × ℕ)) → ((way : Direction) (place : ℕ) → count_by (is_at way place) pins ≤ 1)
+    → AllPairs (λ (a b : Direction × ℕ). a ≢ b) pins
 pins_differ pins few = λ i j d less within e.
     let a : Direction × ℕ = get_or pins i d in
-    let two : 2 ≤ count_by (is_at a.0 a.1) pins = count_two (is_at a.0 a.1) pins i j d less within (at_self a) (ap (is_at a.0 a.1) (sym e) ∙ at_self a) in
+    let two : 2 ≤ count_by (is_at a.0 a.1) pins = count_two (is_at a.0 a.1) pins i j d less within (at_self a)
+    (ap (is_at a.0 a.1) (sym e) ∙ at_self a) in
     absurd (omega (arith, two, few a.0 a.1))

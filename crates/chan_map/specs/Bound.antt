@@ -1,5 +1,6 @@
 -- The map that lines and a design make (this project's profile).
-use Rattle.std.specs.Prelude.{◌≡◌, ◌≢◌, ℕ, ◌^◌, ◌<◌, List, [], ◌∷◌, ◌++◌, map, take, length, count_by, slice_get, Option, Some, None, IfSome, Result, Ok, Err}
+use Rattle.std.specs.Prelude.{◌≡◌, ◌≢◌, ℕ, ◌^◌, ◌<◌, List, [], ◌∷◌, ◌++◌, map, take, length, count_by, slice_get, Option, Some, None}
+use Rattle.std.specs.Prelude.{IfSome, Result, Ok, Err}
 use Rattle.std.specs.List.{flat_map, AllZip, AllByRecursion, AllPairs}
 use Rattle.std.specs.Option.{option_to_list}
 use Rattle.trace_model.specs.declared.channel.Channel.{Channel as Row}
@@ -13,6 +14,7 @@ use Rattle.chan_map.specs.declared.error.MapError.{MapError}
 use Rattle.chan_map.specs.declared.text.MapText.{MapText}
 use Rattle.chan_map.specs.declared.pins.Map.{Map}
 use Rattle.chan_map.specs.declared.sockets.Socket.{Socket}
+use Rattle.chan_map.specs.declared.map_text.ChannelLine.{ChannelLine}
 use Rattle.chan_map.specs.declared.map_text.Entry.{Entry}
 use Rattle.chan_map.specs.declared.map_text.Entry.TheVariants as E
 use Rattle.chan_map.specs.declared.map_text.MapLine.{MapLine}
@@ -39,17 +41,26 @@ pin_named ports name = record { name = name; place = place_of (socket_named port
 abbrev pub width_named : List Port → List ℕ → ℕ
 width_named ports name = width_of (socket_named ports name)
 
+abbrev pub row_of : List Port → ChannelLine → Row
+row_of ports c = record { dir = c.dir; name = c.name; widths = map (width_named ports) c.contents }
+
+abbrev pub plug_of : List Port → ChannelLine → Plug
+plug_of ports c = record { valid = pin_named ports c.valid; ready = pin_named ports c.ready; contents = map (pin_named ports) c.contents }
+
+abbrev pub tie_of : List Port → List ℕ → ℕ → Tie
+tie_of ports port number = record { pin = pin_named ports port; width = width_named ports port; number = number }
+
 -- what a line adds to the channel table, the plugs, the ties and the resets
 abbrev pub rows_of : List Port → Entry → List Row
-rows_of ports (E.Channel c) = record { dir = c.dir; name = c.name; widths = map (width_named ports) c.contents } ∷ []
+rows_of ports (E.Channel c) = row_of ports c ∷ []
 rows_of ports entry = []
 
 abbrev pub plugs_of : List Port → Entry → List Plug
-plugs_of ports (E.Channel c) = record { valid = pin_named ports c.valid; ready = pin_named ports c.ready; contents = map (pin_named ports) c.contents } ∷ []
+plugs_of ports (E.Channel c) = plug_of ports c ∷ []
 plugs_of ports entry = []
 
 abbrev pub ties_of : List Port → Entry → List Tie
-ties_of ports (E.Tie port number) = record { pin = pin_named ports port; width = width_named ports port; number = number } ∷ []
+ties_of ports (E.Tie port number) = tie_of ports port number ∷ []
 ties_of ports entry = []
 
 abbrev pub resets_of : List Port → Entry → List Reset

@@ -24,7 +24,8 @@ tie_places ties = map (λ (t : Tie). (Input, t.pin.place)) ties
 
 abbrev pub plug_places : Row → Plug → List (Direction × ℕ)
 plug_places row plug =
-    (source_side row.dir, plug.valid.place) ∷ (sink_side row.dir, plug.ready.place) ∷ map (λ (p : Pin). (source_side row.dir, p.place)) plug.contents
+    (source_side row.dir, plug.valid.place) ∷ (sink_side row.dir, plug.ready.place)
+    ∷ map (λ (p : Pin). (source_side row.dir, p.place)) plug.contents
 
 -- of each channel with its plug
 abbrev pub plugs_places : List Row → List Plug → List (Direction × ℕ)
