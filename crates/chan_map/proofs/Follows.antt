@@ -25,14 +25,17 @@ follow_grows b (x ∷ xs) e f m =
     both (may_follow b x) _ (both_left (may_follow b x) _ f)
     (follow_grows (b ++ x ∷ []) xs e (both_right (may_follow b x) _ f) (ap (λ l. may_follow l e) (append_assoc b (x ∷ []) xs) ∙ m))
 
-pub follow_push : (before : List Entry) (e : Entry) → follow [] before ≡ true → may_follow before e ≡ true → follow [] (before ++ e ∷ []) ≡ true
+pub follow_push : (before : List Entry) (e : Entry) → follow [] before ≡ true → may_follow before e ≡ true
+    → follow [] (before ++ e ∷ []) ≡ true
 follow_push before e f m = follow_grows [] before e f m
 
-pub named_push : (before : List Entry) (e : Entry) → list_all is_named before ≡ true → is_named e ≡ true → list_all is_named (before ++ e ∷ []) ≡ true
+pub named_push : (before : List Entry) (e : Entry) → list_all is_named before ≡ true → is_named e ≡ true
+    → list_all is_named (before ++ e ∷ []) ≡ true
 named_push [] e f m = both (is_named e) true m refl
 named_push (x ∷ xs) e f m = both (is_named x) _ (both_left (is_named x) _ f) (named_push xs e (both_right (is_named x) _ f) m)
 
-pub lawful_push : (old new : List MapLine) (l : MapLine) → new ≡ old ++ l ∷ [] → AreLawful (entries old) → may_follow (entries old) l.entry ≡ true → is_named l.entry ≡ true → AreLawful (entries new)
+pub lawful_push : (old new : List MapLine) (l : MapLine) → new ≡ old ++ l ∷ [] → AreLawful (entries old)
+    → may_follow (entries old) l.entry ≡ true → is_named l.entry ≡ true → AreLawful (entries new)
 lawful_push old new l grown lawful m named =
     let more : entries new ≡ entries old ++ l.entry ∷ [] = ap entries grown ∙ map-append (λ (x : MapLine). x.entry) old (l ∷ []) in
     record {

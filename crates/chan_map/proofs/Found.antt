@@ -1,6 +1,7 @@
 -- The ports that names are those of, and their widths.
-use Rattle.std.proofs.Common.{◌≡◌, ◌≢◌, ℕ, suc, ◌+◌, ◌<◌, ◌≤◌, ◌^◌, ◌==◌, ◌&&◌, Bool, true, false, cond, if◌then◌else◌, List, [], ◌∷◌, ◌++◌, Option, Some, None, length, get_or, take, refl, sym, ap, subst, ◌∙◌, arith, append_assoc, length-append, IsTrue, ◌⊎◌, inl, inr}
-use Rattle.std.specs.Prelude.{slice_get, count_by, All}
+use Rattle.std.proofs.Common.{◌≡◌, ℕ, ◌<◌, ◌^◌, Bool, true, false, if◌then◌else◌, List, [], ◌∷◌, ◌++◌, Option, Some, None, length, get_or}
+use Rattle.std.proofs.Common.{take, refl, sym, ap, subst, ◌∙◌, arith, append_assoc, inl, inr}
+use Rattle.std.specs.Prelude.{slice_get, count_by}
 use Rattle.std.specs.Str.{bytes_eq}
 use Rattle.std.proofs.lemmas.List.{take-append-le, take_all}
 use Rattle.std.proofs.lemmas.Option.{slice_get_cases, get_or_from_slice_get, slice_get-get_or}
@@ -8,7 +9,6 @@ use Rattle.std.proofs.lemmas.Slice.Eq.{bytes_eq-Decides}
 use borrow.Author.Tests.{ltb-true}
 use Rattle.std.proofs.lemmas.Bool.{eqb-true}
 use Rattle.vlog_operators.specs.Number.{IsWidth}
-use Rattle.net_design.specs.declared.design.Net.{Net}
 use Rattle.net_design.specs.declared.design.Port.{Port}
 use Rattle.net_design.specs.declared.design.Direction.{Direction}
 use Rattle.net_design.specs.declared.design.Direction.TheVariants.{Input, Output}
@@ -47,9 +47,11 @@ socket_at before rest p name s true eq later e =
     }
 socket_at before rest p name s false eq later e = subst (λ ports. IsSocket ports name s) (append_assoc before (p ∷ []) rest) (later e)
 
-socket_is_from : (before ports : List Port) (name : List ℕ) (s : Socket) → socket_from before ports name ≡ Some s → IsSocket (before ++ ports) name s
+socket_is_from : (before ports : List Port) (name : List ℕ) (s : Socket) → socket_from before ports name ≡ Some s
+    → IsSocket (before ++ ports) name s
 socket_is_from before [] name s e = let off : None ≡ Some s = e in absurd (cc)
-socket_is_from before (p ∷ rest) name s e = socket_at before rest p name s (bytes_eq name p.name) refl (socket_is_from (before ++ p ∷ []) rest name s) e
+socket_is_from before (p ∷ rest) name s e = socket_at before rest p name s (bytes_eq name p.name) refl
+    (socket_is_from (before ++ p ∷ []) rest name s) e
 
 pub socket_is : (ports : List Port) (name : List ℕ) (s : Socket) → socket_named ports name ≡ Some s → IsSocket ports name s
 socket_is ports name s e = socket_is_from [] ports name s e
@@ -60,7 +62,8 @@ there : (ports : List Port) (k : ℕ) (p : Port) → slice_get ports k ≡ Some 
 there ports k p at = elim (slice_get_cases ports k).1 [ inl w ↦ w.1 | inr w ↦ let off : Some p ≡ None = sym at ∙ w.1 in absurd (cc) ]
 
 pub port_width : (ports : List Port) → HaveWidths ports → (k : ℕ) (p : Port) → slice_get ports k ≡ Some p → IsWidth p.width
-port_width ports widths k p at = subst (λ (x : Port). IsWidth x.width) (get_or_from_slice_get ports k p p at) (widths k p (there ports k p at))
+port_width ports widths k p at = subst (λ (x : Port). IsWidth x.width) (get_or_from_slice_get ports k p p at)
+    (widths k p (there ports k p at))
 
 net_width : (d : Design) → IsLawful d → (k : ℕ) (p : Port) → slice_get d.ports k ≡ Some p → IsWidth p.width
 net_width d lawful k p at =
@@ -88,13 +91,14 @@ narrow d widths name = by (socket_named d.ports name) refl
 
 -- ---- pins
 
-same : (d e : Direction) → same_direction d e ≡ true → e ≡ d
+pub same : (d e : Direction) → same_direction d e ≡ true → e ≡ d
 same Input Input e = refl
 same Input Output e = let off : false ≡ true = e in absurd (cc)
 same Output Input e = let off : false ≡ true = e in absurd (cc)
 same Output Output e = refl
 
-pub pin_is : (d : Design) (direction : Direction) (name : List ℕ) (o : Option Socket) → socket_named d.ports name ≡ o → is_pin direction o ≡ true
+pub pin_is : (d : Design) (direction : Direction) (name : List ℕ) (o : Option Socket) → socket_named d.ports name ≡ o
+    → is_pin direction o ≡ true
     → IsPin d direction (width_named d.ports name) (pin_named d.ports name)
 pin_is d direction name None e pin = let off : false ≡ true = pin in absurd (cc)
 pin_is d direction name (Some s) e pin =
@@ -112,16 +116,17 @@ pin_is d direction name (Some s) e pin =
           ∙ ap (λ (x : Direction). count_by (λ (q : Port). same_direction x q.direction) (take s.port d.ports)) (sym of_port ∙ way);
     }
 
-bit_pin : (direction : Direction) (o : Option Socket) → is_bit direction o ≡ true → (is_pin direction o ≡ true) × (width_of o ≡ 1)
+pub bit_pin : (direction : Direction) (o : Option Socket) → is_bit direction o ≡ true → (is_pin direction o ≡ true) × (width_of o ≡ 1)
 bit_pin direction None e = let off : false ≡ true = e in absurd (cc)
 bit_pin direction (Some s) e = (both_left _ _ e, eqb-true _ _ (both_right _ _ e))
 
-pub bit_is : (d : Design) (direction : Direction) (name : List ℕ) → is_bit direction (socket_named d.ports name) ≡ true → IsPin d direction 1 (pin_named d.ports name)
+pub bit_is : (d : Design) (direction : Direction) (name : List ℕ) → is_bit direction (socket_named d.ports name) ≡ true
+    → IsPin d direction 1 (pin_named d.ports name)
 bit_is d direction name e =
     let both = bit_pin direction (socket_named d.ports name) e in
     subst (λ w. IsPin d direction w (pin_named d.ports name)) both.1 (pin_is d direction name (socket_named d.ports name) refl both.0)
 
-tied_pin : (number : ℕ) (o : Option Socket) → is_tied number o ≡ true → (is_pin Input o ≡ true) × (number < 2 ^ width_of o)
+pub tied_pin : (number : ℕ) (o : Option Socket) → is_tied number o ≡ true → (is_pin Input o ≡ true) × (number < 2 ^ width_of o)
 tied_pin number None e = let off : false ≡ true = e in absurd (cc)
 tied_pin number (Some s) e = (both_left _ _ e, ltb-true _ _ (both_right _ _ e))
 

@@ -5,4 +5,6 @@ pub mod Counts
 pub mod Found
 pub mod Fitting
 pub mod Tabled
+pub mod Places
+pub mod Covered
 pub mod Bounds

@@ -1,6 +1,8 @@
 -- The map that lines and a design make (this project's profile).
-use Rattle.std.specs.Prelude.{◌≡◌, ℕ, ◌^◌, ◌<◌, List, [], ◌∷◌, ◌++◌, map, take, length, count_by, slice_get, Option, Some, None, IfSome, Result, Ok, Err}
-use Rattle.std.specs.List.{flat_map, AllZip, AllByRecursion}
+use Rattle.std.specs.Prelude.{◌≡◌, ◌≢◌, ℕ, ◌^◌, ◌<◌, List, [], ◌∷◌, ◌++◌, map, take, length, count_by, slice_get, Option, Some, None}
+use Rattle.std.specs.Prelude.{IfSome, Result, Ok, Err}
+use Rattle.std.specs.List.{flat_map, AllZip, AllByRecursion, AllPairs}
+use Rattle.std.specs.Option.{option_to_list}
 use Rattle.trace_model.specs.declared.channel.Channel.{Channel as Row}
 use Rattle.trace_model.specs.Channel.{IsTable}
 use Rattle.net_design.specs.declared.design.Port.{Port}
@@ -12,6 +14,7 @@ use Rattle.chan_map.specs.declared.error.MapError.{MapError}
 use Rattle.chan_map.specs.declared.text.MapText.{MapText}
 use Rattle.chan_map.specs.declared.pins.Map.{Map}
 use Rattle.chan_map.specs.declared.sockets.Socket.{Socket}
+use Rattle.chan_map.specs.declared.map_text.ChannelLine.{ChannelLine}
 use Rattle.chan_map.specs.declared.map_text.Entry.{Entry}
 use Rattle.chan_map.specs.declared.map_text.Entry.TheVariants as E
 use Rattle.chan_map.specs.declared.map_text.MapLine.{MapLine}
@@ -21,6 +24,7 @@ use Rattle.chan_map.specs.declared.pins.Tie.{Tie}
 use Rattle.chan_map.specs.declared.pins.Reset.{Reset}
 use Rattle.chan_map.specs.Ports.{socket_named, source_side, sink_side, times}
 use Rattle.chan_map.specs.Reasons.{port_faults, cover_faults, limit_faults, all_names, IsFirst}
+use Rattle.chan_map.specs.Places.{is_at, places}
 
 abbrev pub place_of : Option Socket → ℕ
 place_of None = 0
@@ -37,17 +41,26 @@ pin_named ports name = record { name = name; place = place_of (socket_named port
 abbrev pub width_named : List Port → List ℕ → ℕ
 width_named ports name = width_of (socket_named ports name)
 
+abbrev pub row_of : List Port → ChannelLine → Row
+row_of ports c = record { dir = c.dir; name = c.name; widths = map (width_named ports) c.contents }
+
+abbrev pub plug_of : List Port → ChannelLine → Plug
+plug_of ports c = record { valid = pin_named ports c.valid; ready = pin_named ports c.ready; contents = map (pin_named ports) c.contents }
+
+abbrev pub tie_of : List Port → List ℕ → ℕ → Tie
+tie_of ports port number = record { pin = pin_named ports port; width = width_named ports port; number = number }
+
 -- what a line adds to the channel table, the plugs, the ties and the resets
 abbrev pub rows_of : List Port → Entry → List Row
-rows_of ports (E.Channel c) = record { dir = c.dir; name = c.name; widths = map (width_named ports) c.contents } ∷ []
+rows_of ports (E.Channel c) = row_of ports c ∷ []
 rows_of ports entry = []
 
 abbrev pub plugs_of : List Port → Entry → List Plug
-plugs_of ports (E.Channel c) = record { valid = pin_named ports c.valid; ready = pin_named ports c.ready; contents = map (pin_named ports) c.contents } ∷ []
+plugs_of ports (E.Channel c) = plug_of ports c ∷ []
 plugs_of ports entry = []
 
 abbrev pub ties_of : List Port → Entry → List Tie
-ties_of ports (E.Tie port number) = record { pin = pin_named ports port; width = width_named ports port; number = number } ∷ []
+ties_of ports (E.Tie port number) = tie_of ports port number ∷ []
 ties_of ports entry = []
 
 abbrev pub resets_of : List Port → Entry → List Reset
@@ -95,7 +108,7 @@ pub record IsBound (text : MapText) (d : Design) (map : Map) : Type 0 where
   pub channels : map.channels ≡ table_of d text.lines
   pub plugs : map.plugs ≡ flat_map (λ (l : MapLine). plugs_of d.ports l.entry) text.lines
   pub ties : map.ties ≡ flat_map (λ (l : MapLine). ties_of d.ports l.entry) text.lines
-  pub reset : map.reset ≡ later None (flat_map (λ (l : MapLine). resets_of d.ports l.entry) text.lines)
+  pub reset : option_to_list map.reset ≡ flat_map (λ (l : MapLine). resets_of d.ports l.entry) text.lines
   pub clock : map.clock ≡ pin_named d.ports text.clock
   -- one plug for each channel, and every pin is a port's
   pub plugs_fit : AllZip (IsPlug d) map.channels map.plugs
@@ -106,6 +119,9 @@ pub record IsBound (text : MapText) (d : Design) (map : Map) : Type 0 where
   pub table : IsTable map.channels
   -- each port of the top is named exactly once
   pub once : (k : ℕ) → k < length d.ports → times d.ports (all_names text.lines) k ≡ 1
+  -- so each input of the top is exactly one of the pins, and no two pins are one port
+  pub inputs : (k : ℕ) → k < count_by (λ (q : Port). same_direction Input q.direction) d.ports → count_by (is_at Input k) (places map) ≡ 1
+  pub differ : AllPairs (λ (a b : Direction × ℕ). a ≢ b) (places map)
 
 -- a bound map exactly where nothing is found, else the first finding; want of memory is free
 abbrev pub BindsMap : MapText → Design → Result Map MapError → Type 0

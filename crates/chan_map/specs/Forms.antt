@@ -34,13 +34,15 @@ tie_of port (Some n) = Some (Tie port n)
 
 -- `reset PORT ACTIVE CYCLES`: active 0 or 1, 1 to 1,000 cycles
 abbrev pub reset_of : List ℕ → Option ℕ → Option ℕ → Option Entry
-reset_of port (Some active) (Some cycles) = if nat_le active 1 && (nat_le 1 cycles && nat_le cycles 1000) then Some (Reset port (active == 1) cycles) else None
+reset_of port (Some active) (Some cycles) =
+    if nat_le active 1 && (nat_le 1 cycles && nat_le cycles 1000) then Some (Reset port (active == 1) cycles) else None
 reset_of port active cycles = None
 
 -- `in NAME VALID READY PORT ..` and `out NAME VALID READY PORT ..`
 abbrev pub channel_of : Dir → List (List ℕ) → Option Entry
 channel_of dir (name ∷ valid ∷ ready ∷ contents) =
-    if is_channel_name name then Some (Channel record { dir = dir; name = name; valid = valid; ready = ready; contents = contents }) else None
+    if is_channel_name name
+    then Some (Channel record { dir = dir; name = name; valid = valid; ready = ready; contents = contents }) else None
 channel_of dir words = None
 
 -- the words behind the first one

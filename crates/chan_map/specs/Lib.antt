@@ -8,3 +8,4 @@ pub mod Sockets
 pub mod Bound
 pub mod Times
 pub mod Parts
+pub mod Places

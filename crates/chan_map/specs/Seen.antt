@@ -1,5 +1,5 @@
 -- What is kept of the lines before.
-use Rattle.std.specs.Prelude.{◌≡◌, ℕ, not, true, List, [], map}
+use Rattle.std.specs.Prelude.{◌≡◌, not, true, List, [], map}
 use Rattle.std.specs.List.{list_any, list_all, flat_map}
 use Rattle.std.specs.Option.{option_to_list}
 use Rattle.vidi_bits.specs.Findings.{is_nil}

@@ -34,7 +34,8 @@ fn checked_parts(alloc: Global, top: &Top, lines: &[MapLine]) -> Result<Parts, M
     Ok(parts)
 }
 
-/// Binds a map to a design, which is lawful or whose ports have 1 to 128 bits at least: one plug for each channel, in order, and the pins of the ties, the reset and the clock.
+/// Binds a map to a design: one plug for each channel, in order, and the pins of the ties, the reset and the clock.
+/// The design is lawful, or its ports at least have 1 to 128 bits.
 ///
 /// `Port` (M2) comes with the first line that doesn't fit the ports that it names; else `Cover` (M3) with the first port
 /// that the lines don't name exactly once; else `Limit` (M4). `Memory` comes where no memory was found. The time is linear

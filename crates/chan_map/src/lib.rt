@@ -1,7 +1,8 @@
 //! The map: which ports of the top are channels, ties, the reset and the clock (this project's profile).
 //!
 //! The definitions stand in `specs/`: `Forms` (what a line of a map says), `Text` (reason M1, over a whole file),
-//! `Ports` (the ports that words name), `Reasons` (M2, M3 and M4) and `Bound` (the map that lines and a design make).
+//! `Ports` (the ports that words name), `Reasons` (M2, M3 and M4), `Bound` (the map that lines and a design make) and `Places`
+//! (its pins).
 #![tactic(auto)]
 
 mod binding;

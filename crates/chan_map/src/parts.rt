@@ -2,7 +2,8 @@
 
 ghost use Rattle.std.specs.Prelude.{◌≡◌, ◌<◌, ◌≤◌, ◌++◌, ℕ, List, map, IfOk, OnOk};
 ghost use Rattle.chan_map.specs.Sockets.{IsTop};
-ghost use Rattle.chan_map.specs.Bound.{place_of, width_of, pin_named, width_named, rows_of, plugs_of, ties_of, resets_of, later};
+ghost use Rattle.chan_map.specs.Bound.{place_of, width_of, pin_named, width_named, row_of, plug_of, tie_of};
+ghost use Rattle.chan_map.specs.Bound.{rows_of, plugs_of, ties_of, resets_of, later};
 ghost use Rattle.chan_map.specs.Parts.{ArePartsOf};
 
 use crate::forms::copy;
@@ -85,7 +86,7 @@ fn widths_named(alloc: Global, top: &Top, names: &[Name]) -> Result<Bytes, Memor
 
 fn plug_of(alloc: Global, top: &Top, c: &ChannelLine) -> Result<Plug, Memory>
     requires { IsTop top.now }
-    ensures { IfOk result (λ p. p ≡ record { valid = pin_named top.now.design.now.ports c.now.valid; ready = pin_named top.now.design.now.ports c.now.ready; contents = map (pin_named top.now.design.now.ports) c.now.contents }) }
+    ensures { IfOk result (λ p. p ≡ plug_of top.now.design.now.ports c.now) }
 {
     let valid = pin_named(alloc, top, c.valid.as_slice())?;
     let ready = pin_named(alloc, top, c.ready.as_slice())?;
@@ -100,7 +101,7 @@ fn plug_of(alloc: Global, top: &Top, c: &ChannelLine) -> Result<Plug, Memory>
 fn row_of(alloc: Global, top: &Top, c: &ChannelLine) -> Result<Channel, Memory>
     requires top { IsTop top.now }
     requires narrow { (name : List ℕ) → width_named top.now.design.now.ports name < 256 }
-    ensures { IfOk result (λ r. r ≡ record { dir = c.now.dir; name = c.now.name; widths = map (width_named top.now.design.now.ports) c.now.contents }) }
+    ensures { IfOk result (λ r. r ≡ row_of top.now.design.now.ports c.now) }
 {
     let name = copy(alloc, c.name.as_slice())?;
     let widths = widths_named(alloc, top, c.contents.as_slice())?;
@@ -113,7 +114,7 @@ fn row_of(alloc: Global, top: &Top, c: &ChannelLine) -> Result<Channel, Memory>
 
 fn tie_of(alloc: Global, top: &Top, port: &[u8], number: u128) -> Result<Tie, Memory>
     requires { IsTop top.now }
-    ensures { IfOk result (λ t. t ≡ record { pin = pin_named top.now.design.now.ports port.now; width = width_named top.now.design.now.ports port.now; number = number }) }
+    ensures { IfOk result (λ t. t ≡ tie_of top.now.design.now.ports port.now number) }
 {
     let width = width_named(top, port);
     let pin = pin_named(alloc, top, port)?;

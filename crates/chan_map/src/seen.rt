@@ -35,7 +35,8 @@ fn is_there(names: &IndexSet<Vec<u8>>, name: &[u8]) -> bool
 
 /// Adds a copy of a name, where it isn't there.
 fn insert_name(alloc: Global, names: &mut IndexSet<Vec<u8>>, name: &[u8]) -> Result<(), Memory>
-    ensures { list_any (bytes_eq name.now) (map (λ v. v.items) names.old.keys) ≡ false → OnOk result (map (λ v. v.items) names.new.keys ≡ map (λ v. v.items) names.old.keys ++ name.now ∷ []) }
+    ensures { list_any (bytes_eq name.now) (map (λ v. v.items) names.old.keys) ≡ false
+        → OnOk result (map (λ v. v.items) names.new.keys ≡ map (λ v. v.items) names.old.keys ++ name.now ∷ []) }
 {
     let copy = Vec::from_slice(alloc, name)?;
     names.insert(copy)?;
@@ -76,7 +77,8 @@ impl Seen {
 
     /// Keeps what a line says that may follow.
     pub fn note(&mut self, alloc: Global, entry: &Entry) -> Result<(), Memory>
-        ensures { OnOk result ((before : List Entry) → IsSeen self.old before → may_follow before entry.now ≡ true → IsSeen self.new (before ++ entry.now ∷ [])) }
+        ensures { OnOk result ((before : List Entry) → IsSeen self.old before → may_follow before entry.now ≡ true
+            → IsSeen self.new (before ++ entry.now ∷ [])) }
     {
         self.some = true;
         match entry {

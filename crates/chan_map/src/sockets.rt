@@ -58,7 +58,8 @@ fn add_socket(
     name: &[u8],
     socket: Socket,
 ) -> Result<(), Memory>
-    ensures { OnOk result ((q : List ℕ) → get_by (λ v. pointwise nat_eq q v.items) sockets.new ≡ or_else (get_by (λ v. pointwise nat_eq q v.items) sockets.old) (if bytes_eq q name.now then Some socket else None)) }
+    ensures { OnOk result ((q : List ℕ) → get_by (λ v. pointwise nat_eq q v.items) sockets.new
+        ≡ or_else (get_by (λ v. pointwise nat_eq q v.items) sockets.old) (if bytes_eq q name.now then Some socket else None)) }
 {
     if socket_under(sockets, name).is_some() {
         return Ok(());

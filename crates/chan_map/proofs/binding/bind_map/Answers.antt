@@ -10,5 +10,8 @@ pub returns : goal.returns
 returns c =
     let none = rw (c.in_ok-top.ensures.design, c.as_slice-3.ensures) at c.in_ok-parts.ensures.tried in
     let parts = rw (c.in_ok-top.ensures.design, c.as_slice-3.ensures) at c.in_ok-parts.ensures.parts in
-    let clock = rw (c.in_ok-top.ensures.design, c.as_slice-2.ensures) at c.in_ok-clock.ensures in
-    (none, bound c.args.text.now c.args.design.now c.in_ok-parts.parts _ c.requires none parts (c.in_ok-name.ensures ∙ c.as_slice.ensures) clock refl refl refl refl)
+    let clock = rw (c.in_ok-top.ensures.design, c.as_slice-2.ensures) at c.in_ok-clock.ensures in (
+      none,
+      bound c.args.text.now c.args.design.now c.in_ok-parts.parts _ c.requires none parts
+          (c.in_ok-name.ensures ∙ c.as_slice.ensures) clock refl refl refl refl,
+    )

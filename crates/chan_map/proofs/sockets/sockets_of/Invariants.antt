@@ -14,5 +14,6 @@ invariant-loop-port l = record {
   inputs : l.inputs ≡ count_by (λ (q : Port). same_direction Input q.direction) (take l.port l.ports);
   outputs : l.outputs ≡ count_by (λ (q : Port). same_direction Output q.direction) (take l.port l.ports);
   few : (l.inputs ≤ l.port) × (l.outputs ≤ l.port);
-  found : (q : List ℕ) → or_else (get_by (λ v. pointwise nat_eq q v.items) l.sockets) (socket_from (take l.port l.ports) (drop l.port l.ports) q) ≡ socket_named l.ports q;
+  found : (q : List ℕ) → or_else (get_by (λ v. pointwise nat_eq q v.items) l.sockets)
+      (socket_from (take l.port l.ports) (drop l.port l.ports) q) ≡ socket_named l.ports q;
 }

@@ -1,4 +1,4 @@
-use Rattle.std.proofs.Common.{◌≡◌, take, length}
+use Rattle.std.proofs.Common.{take}
 use Rattle.chan_map.specs.Times.{Adds}
 use Rattle.chan_map.proofs.times.count_names.Given as goal
 

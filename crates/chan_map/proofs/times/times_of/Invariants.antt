@@ -1,4 +1,4 @@
-use Rattle.std.proofs.Common.{◌≡◌, take, length}
+use Rattle.std.proofs.Common.{take}
 use Rattle.chan_map.specs.Reasons.{all_names}
 use Rattle.chan_map.specs.Times.{AreTimes}
 use Rattle.chan_map.proofs.times.times_of.Given as goal
