@@ -1,6 +1,6 @@
 //! A design made by hand.
 
-use net_design::{Code, Design, Direction, Port};
+use net_design::{Code, Design, Direction, Driver, Mask, Port};
 use std::alloc::Global;
 use vidi_bits::{Items, Memory, Name};
 
@@ -56,5 +56,38 @@ pub fn pass(alloc: Global) -> Result<Design, Memory> {
         blocks,
         ports,
         clock: Some(0),
+    })
+}
+
+/// A driver that reads the first port and does nothing.
+fn reader_of_clock(alloc: Global) -> Result<Items<Driver>, Memory> {
+    let mut reads = Items::new(alloc);
+    reads.push(Mask { net: 0, bits: 1 })?;
+    let mut drivers = Items::new(alloc);
+    drivers.push(Driver {
+        line: 1,
+        always: false,
+        code: Code {
+            acts: Items::new(alloc),
+            writes: Items::new(alloc),
+            reads,
+        },
+    })?;
+    Ok(drivers)
+}
+
+/// The ports of `pass`, no clocked block, and a driver that reads the port `clk`.
+pub fn clock_reader(alloc: Global) -> Result<Design, Memory> {
+    let drivers = reader_of_clock(alloc)?;
+    let ports = pass_ports(alloc)?;
+    Ok(Design {
+        instances: Items::new(alloc),
+        nets: Items::new(alloc),
+        registers: Items::new(alloc),
+        memories: Items::new(alloc),
+        drivers,
+        blocks: Items::new(alloc),
+        ports,
+        clock: None,
     })
 }

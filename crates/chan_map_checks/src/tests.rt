@@ -1,6 +1,6 @@
 //! The map of `pass`, and one refusal of each kind.
 
-use crate::designs::pass;
+use crate::designs::{clock_reader, pass};
 use chan_map::{Map, MapError, MapLimit, Pin, Plug, bind_map, have_widths, read_map};
 use net_design::Design;
 use std::alloc::Global;
@@ -77,7 +77,7 @@ fn gives(alloc: Global, design: &Design, map: &[u8], expected: Expected) -> bool
     }
 }
 
-const MAPS: [(&[u8], Expected); 11] = [
+const MAPS: [(&[u8], Expected); 16] = [
     (
         b"top pass\nclock clk\nin a a_v a_r a_d\nout b b_v b_r b_d\n",
         Expected::Pass(1),
@@ -90,6 +90,14 @@ const MAPS: [(&[u8], Expected); 11] = [
         b"top pass\nclock clk\nin a123456789b123456789c123456789d123456789e123456789f123456789g1234 a_v a_r a_d\nout b b_v b_r b_d\n",
         Expected::Line(3),
     ),
+    (
+        b"top pass # \xff\r\n\tclock clk\r\nin a a_v a_r a_d\nout b b_v b_r b_d",
+        Expected::Pass(1),
+    ),
+    (b"", Expected::Line(1)),
+    (b"top pass\nclock clk\nreset b_r 2 3\n", Expected::Line(3)),
+    (b"top pass\nclock a_v\n", Expected::Port(2)),
+    (b"top pass\nclock clk\ntie a_v 2\n", Expected::Port(3)),
     (b"top pass\nfoo\nclock clk\n\x80", Expected::Line(4)),
     (b"top pass\nfoo\n", Expected::Line(2)),
     (b"top pass\nclock clk\nclock clk\n", Expected::Line(3)),
@@ -120,6 +128,16 @@ fn maps_of_pass(rt: HostRuntime) -> Result<(), Fail> {
     for (map, expected) in MAPS {
         same = same && gives(alloc, &design, map, expected);
     }
+    assert!(rt; same);
+    Ok(())
+}
+
+#[test]
+fn a_clock_is_read_by_no_driver(rt: HostRuntime) -> Result<(), Fail> {
+    let alloc = rt.alloc();
+    let design = clock_reader(alloc)?;
+    let map = b"top pass\nclock clk\nin a a_v a_r a_d\nout b b_v b_r b_d\n".as_slice();
+    let same = gives(alloc, &design, map, Expected::Port(2));
     assert!(rt; same);
     Ok(())
 }
