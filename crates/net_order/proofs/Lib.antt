@@ -1,4 +1,5 @@
 pub mod Members
+pub mod GraphTest
 pub mod Exclusive
 pub mod Turns
 pub mod Moves
