@@ -40,4 +40,5 @@ outputs d v = pins_of Output d.ports v.nets
 -- exactly one settled map for each state and all fitting inputs
 pub record HasOneMap (d : Design) : Type 0 where
   pub some : (s : Values) (pins : List ℕ) → IsState d s → FitPins d pins → ∥ ((v : Values) × IsSettled d s pins v) ∥₁
-  pub only : (s : Values) (pins : List ℕ) (u v : Values) → IsState d s → FitPins d pins → IsSettled d s pins u → IsSettled d s pins v → u ≡ v
+  pub only : (s : Values) (pins : List ℕ) (u v : Values) → IsState d s → FitPins d pins → IsSettled d s pins u → IsSettled d s pins v → u
+      ≡ v

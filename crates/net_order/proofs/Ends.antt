@@ -1,5 +1,6 @@
 -- The search at its start and at its end.
-use Rattle.std.proofs.Common.{◌≡◌, ◌≢◌, ℕ, zero, suc, ◌<◌, ◌≤◌, List, [], ◌∷◌, length, slice_index, map, take, replicate, refl, ap, sym, subst, ◌∙◌, arith}
+use Rattle.std.proofs.Common.{◌≡◌, ◌≢◌, ℕ, zero, suc, ◌<◌, ◌≤◌, List, [], ◌∷◌, length, slice_index, map, take, replicate, refl, ap, sym}
+use Rattle.std.proofs.Common.{subst, ◌∙◌, arith}
 use Rattle.std.specs.List.{Contains}
 use Rattle.net_design.specs.Names.{list_at}
 use Rattle.net_order.specs.declared.search.Mark.{Mark}
@@ -49,7 +50,8 @@ done_of Done a b = refl
 pub ordered : (g : Graph) (marks : List Mark) (left path order : List ℕ) → IsSound g marks left path order → path ≡ []
     → ((i : ℕ) → i < length g → mark_of marks i ≢ Fresh) → IsOrderBy (length g) (Points g) order
 ordered g marks left path order s empty begun = record {
-  all = λ i l. s.done i (done_of (mark_of marks i) (begun i l) (λ h. no_element i (subst (λ (p : List ℕ). Contains p i) empty (s.opened i h))));
+  all = λ i l. s.done i (done_of (mark_of marks i) (begun i l) (λ h. no_element i
+      (subst (λ (p : List ℕ). Contains p i) empty (s.opened i h))));
   follows = s.follows;
 }
 

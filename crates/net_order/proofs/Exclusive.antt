@@ -31,7 +31,8 @@ loop_reads R ds loop i h =
     (cases (last_of 0 ds) ds r.0 r.1)
 
 none_of : (n : ℕ) (R : ℕ → ℕ → Type 0) (ds : List ℕ) → Reading R ds → (before order : List ℕ)
-    → ((i : ℕ) → Contains before i → Contains ds i → ⊥) → Follows n R before order → (i : ℕ) → Contains (before ++ order) i → Contains ds i → ⊥
+    → ((i : ℕ) → Contains before i → Contains ds i → ⊥) → Follows n R before order → (i : ℕ) → Contains (before ++ order) i → Contains ds i
+    → ⊥
 none_of n R ds each before [] none f i c d = none i (subst (λ (z : List ℕ). Contains z i) (append-nil before) c) d
 none_of n R ds each before (o ∷ order) none f i c d =
     none_of n R ds each (before ++ o ∷ []) order

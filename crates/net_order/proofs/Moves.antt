@@ -1,5 +1,6 @@
 -- The steps of the search keep what is said of it.
-use Rattle.std.proofs.Common.{◌≡◌, ◌≢◌, ℕ, suc, ◌+◌, ◌-◌, ◌<◌, ◌≤◌, List, [], ◌∷◌, ◌++◌, ◌⊎◌, inl, inr, ⊎_elim, length, length-append, slice_index, slice_set, get_or, refl, ap, sym, subst, append_assoc, ◌∙◌, arith}
+use Rattle.std.proofs.Common.{◌≡◌, ◌≢◌, ℕ, suc, ◌+◌, ◌-◌, ◌<◌, ◌≤◌, List, [], ◌∷◌, ◌++◌, ◌⊎◌, inl, inr, ⊎_elim, length, length-append}
+use Rattle.std.proofs.Common.{slice_index, slice_set, get_or, refl, ap, sym, subst, append_assoc, ◌∙◌, arith}
 use Rattle.std.specs.List.{Contains, sum_by}
 use Rattle.std.proofs.lemmas.Bool.{cases_lt}
 use Rattle.std.proofs.lemmas.List.{get_or-set_same, get_or-set_other, get_or_append_left, get_or_default, length-set, append-nil}
@@ -57,7 +58,8 @@ module _ (g : Graph) (marks : List Mark) (left path order : List ℕ) (s : IsSou
 
   pub fewer : (u v : Mark) → mark_of marks i ≡ u → weight v < weight u → steps_left (slice_set marks i v) left < steps_left marks left
   fewer u v is d =
-      let e : sum_by weight (slice_set marks i v) + weight (get_or marks i Fresh) ≡ sum_by weight marks + weight v = sum_by-set weight marks i v Fresh inside in
+      let e : sum_by weight (slice_set marks i v) + weight (get_or marks i Fresh) ≡ sum_by weight marks
+      + weight v = sum_by-set weight marks i v Fresh inside in
       let w : weight (get_or marks i Fresh) ≡ weight u = ap weight is in
       omega (arith, e, w, d)
 
@@ -93,8 +95,10 @@ module _ (g : Graph) (marks : List Mark) (left path order : List ℕ) (s : IsSou
           (λ (n : j ≢ i). Contains-append_left path (i ∷ []) j (s.opened j (sym (stays Open j n) ∙ h)))
           (same_or_not j i);
       on_path = λ t h. ⊎_elim
-          (λ (a : t < length path). subst (λ x. (x < length g) × (mark_of (slice_set marks i Open) x ≡ Open)) (sym (old_place t a)) ((s.on_path t a).0, open_place t a))
-          (λ (e : t ≡ length path). subst (λ x. (x < length g) × (mark_of (slice_set marks i Open) x ≡ Open)) (sym (new_place t e)) (l, now Open i refl))
+          (λ (a : t < length path). subst (λ x. (x < length g) × (mark_of (slice_set marks i Open) x ≡ Open)) (sym (old_place t a))
+          ((s.on_path t a).0, open_place t a))
+          (λ (e : t ≡ length path). subst (λ x. (x < length g) × (mark_of (slice_set marks i Open) x ≡ Open)) (sym (new_place t e))
+          (l, now Open i refl))
           (in_longer t h);
       linked = λ t h. ⊎_elim
           (λ (a : suc t < length path). subst (λ x. Points g x (slice_index longer (suc t))) (sym (old_place t (omega (arith, a))))
@@ -163,20 +167,23 @@ module _ (g : Graph) (marks : List Mark) (left path order : List ℕ) (s : IsSou
       looked = λ a j h k. kept Open Done Done _ is_open (λ e. absurd cc) (s.looked a j h k);
       follows = follows_push (length g) (Points g) [] order i s.follows l
           (λ c. let f : Open ≡ Done = sym is_open ∙ s.placed i c in absurd cc)
-          (λ j r. s.done j (subst (λ z. mark_of marks z ≡ Done) (get_or_default (list_at g i) r.0 0 j r.1 ∙ r.2) (s.looked i r.0 (omega (arith, none)) r.1)));
+          (λ j r. s.done j (subst (λ z. mark_of marks z ≡ Done) (get_or_default (list_at g i) r.0 0 j r.1 ∙ r.2)
+          (s.looked i r.0 (omega (arith, none)) r.1)));
     }
 
 pub top_in : (g : Graph) (marks : List Mark) (left path order : List ℕ) → IsSound g marks left path order → 0 < length path
     → (i : ℕ) → slice_index path (length path - 1) ≡ i → i < length g
 top_in g marks left path order s some i e = subst (λ x. x < length g) e (s.on_path (length path - 1) (omega (arith, some))).0
 
-pub next_read : (g : Graph) (marks : List Mark) (left path order : List ℕ) → IsSound g marks left path order → (i : ℕ) → 0 < slice_index left i
+pub next_read : (g : Graph) (marks : List Mark) (left path order : List ℕ) → IsSound g marks left path order → (i : ℕ)
+    → 0 < slice_index left i
     → Points g i (slice_index (list_at g i) (slice_index left i - 1))
 next_read g marks left path order s i some =
     let few : slice_index left i ≤ length (list_at g i) = s.few i in
     let l : slice_index left i - 1 < length (list_at g i) = omega (arith, some, few) in
     (slice_index left i - 1, l, get_or_default (list_at g i) (slice_index left i - 1) _ 0 l)
 
-pub next_inside : (g : Graph) (marks : List Mark) (left path order : List ℕ) → IsSound g marks left path order → IsGraph g → (i : ℕ) → 0 < slice_index left i
+pub next_inside : (g : Graph) (marks : List Mark) (left path order : List ℕ) → IsSound g marks left path order → IsGraph g → (i : ℕ)
+    → 0 < slice_index left i
     → slice_index (list_at g i) (slice_index left i - 1) < length g
 next_inside g marks left path order s graph i some = graph i _ (next_read g marks left path order s i some)

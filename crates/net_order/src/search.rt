@@ -97,7 +97,8 @@ impl Search {
         requires sound { IsSearch graph.now self.old }
         requires within { top < length graph.now }
         requires some { 0 < slice_index self.old.left.items top }
-        requires done { mark_of self.old.marks.items (slice_index (list_at graph.now top) (slice_index self.old.left.items top - 1)) ≡ Done }
+        requires done { mark_of self.old.marks.items (slice_index (list_at graph.now top) (slice_index self.old.left.items top - 1))
+            ≡ Done }
         ensures { IsStep graph.now self.old self.new }
     {
         self.left[top] -= 1;

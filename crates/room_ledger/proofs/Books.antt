@@ -1,5 +1,6 @@
 -- What the calls of a `Room` do to its ledger, and that it stays sound.
-use Rattle.std.proofs.Common.{◌≡◌, ◌≢◌, ◌↔◌, ℕ, ◌+◌, ◌-◌, ◌*◌, ◌/◌, ◌%◌, ◌<◌, ◌≤◌, ◌^◌, ◌&&◌, ◌||◌, ◌==◌, Bool, IsTrue, true, false, not, cond, map, List, [], ◌∷◌, length, bit_and, bit_or, sum_by, refl, ap, sym, subst, ◌∙◌, ⊎_elim, arith}
+use Rattle.std.proofs.Common.{◌≡◌, ◌≢◌, ◌↔◌, ℕ, ◌+◌, ◌-◌, ◌*◌, ◌/◌, ◌%◌, ◌<◌, ◌≤◌, ◌^◌, ◌&&◌, ◌||◌, ◌==◌, Bool, IsTrue, true, false, not}
+use Rattle.std.proofs.Common.{cond, map, List, [], ◌∷◌, length, bit_and, bit_or, sum_by, refl, ap, sym, subst, ◌∙◌, ⊎_elim, arith}
 use Rattle.std.proofs.Math.Nat.{pow-le-pow_right}
 use Rattle.std.proofs.lemmas.Bool.{cases_Bool, cases_eq, cases_lt, false≢true, eqb-true, eq-eqb}
 use Rattle.std.proofs.lemmas.List.Sums.{sum_by-cons}
@@ -33,7 +34,8 @@ lawful : (l : Ledger) (starts ends : ℕ) → IsSound l → MayEmit l starts end
 lawful l starts ends sound may = record { start = may.start; complete = may.complete; within = sound.flying }
 
 -- a channel that starts or ends has its gate up, so it is there
-either-up : (g f s e : Bool) → (s ≡ true → (g ≡ true) × (f ≡ false)) → (e ≡ true → (f || s) ≡ true) → (f ≡ true → g ≡ true) → (s || e) ≡ true → g ≡ true
+either-up : (g f s e : Bool) → (s ≡ true → (g ≡ true) × (f ≡ false)) → (e ≡ true → (f || s) ≡ true) → (f ≡ true → g ≡ true) → (s || e)
+    ≡ true → g ≡ true
 either-up g f true e start complete within h = (start refl).0
 either-up g true false true start complete within h = within refl
 either-up g false false true start complete within h = absurd (let x = complete refl in cc)
@@ -53,34 +55,49 @@ right-true false b h = h
 both-zero : (starts ends : ℕ) → starts ≡ 0 → ends ≡ 0 → (starts == 0 && ends == 0) ≡ true
 both-zero starts ends h k = rw (h, k) refl
 
-some-event : (starts ends : ℕ) → starts < 2 ^ 128 → ends < 2 ^ 128 → (starts == 0 && ends == 0) ≡ false → (c : ℕ) × ((has starts c || has ends c) ≡ true)
+some-event : (starts ends : ℕ) → starts < 2 ^ 128 → ends < 2 ^ 128 → (starts == 0 && ends == 0) ≡ false → (c : ℕ)
+    × ((has starts c || has ends c) ≡ true)
 some-event starts ends ls le h = ⊎_elim
     (λ (none : starts ≡ 0). ⊎_elim
     (λ (also : ends ≡ 0). absurd (false≢true (sym h ∙ both-zero starts ends none also)))
-    (λ (some : ends ≢ 0). let found = some-bit ends le some in (found.0, right-true (has starts found.0) (has ends found.0) (has-from-bit ends found.0 found.1)))
+    (λ (some : ends ≢ 0). let found = some-bit ends le some in (
+      found.0,
+      right-true (has starts found.0) (has ends found.0)
+          (has-from-bit ends found.0 found.1),
+    ))
     (cases_eq ends 0))
-    (λ (some : starts ≢ 0). let found = some-bit starts ls some in (found.0, left-true (has starts found.0) (has ends found.0) (has-from-bit starts found.0 found.1)))
+    (λ (some : starts ≢ 0). let found = some-bit starts ls some in (
+      found.0,
+      left-true (has starts found.0) (has ends found.0)
+          (has-from-bit starts found.0 found.1),
+    ))
     (cases_eq starts 0)
 
-event-cases : (l : Ledger) (starts ends : ℕ) → IsSound l → MayEmit l starts ends → (none : Bool) → (starts == 0 && ends == 0) ≡ none → (none ≡ false → (c : ℕ) × ((has starts c || has ends c) ≡ true))
+event-cases : (l : Ledger) (starts ends : ℕ) → IsSound l → MayEmit l starts ends → (none : Bool) → (starts == 0 && ends == 0) ≡ none
+    → (none ≡ false → (c : ℕ) × ((has starts c || has ends c) ≡ true))
     → l.used + event_len l.sizes starts ends + reserved l.sizes (up-after l ends) (flies-after l starts ends) ≤ l.capacity
 event-cases l starts ends sound may true e some =
     let len : event_len l.sizes starts ends ≡ 0 = ap (λ b. cond b 0 (head_len (length l.sizes) + sizes_under starts l.sizes)) e in
-    let pays = pays-all (head_len (length l.sizes)) (has l.gates) (has l.flying) (has starts) (has ends) (lawful l starts ends sound may) 0 l.sizes in
+    let pays = pays-all (head_len (length l.sizes)) (has l.gates) (has l.flying) (has starts) (has ends) (lawful l starts ends sound may) 0
+    l.sizes in
     let room = sound.room in
     omega arith
 event-cases l starts ends sound may false e some =
-    let len : event_len l.sizes starts ends ≡ head_len (length l.sizes) + sizes_under starts l.sizes = ap (λ b. cond b 0 (head_len (length l.sizes) + sizes_under starts l.sizes)) e in
+    let len : event_len l.sizes starts ends ≡ head_len (length l.sizes)
+    + sizes_under starts l.sizes = ap (λ b. cond b 0 (head_len (length l.sizes) + sizes_under starts l.sizes)) e in
     let found = some refl in
-    let up = either-up (has l.gates found.0) (has l.flying found.0) (has starts found.0) (has ends found.0) (may.start found.0) (may.complete found.0) (sound.flying found.0) found.1 in
-    let pays = packet-fits (head_len (length l.sizes)) (has l.gates) (has l.flying) (has starts) (has ends) l.sizes found.0 (lawful l starts ends sound may) (up-within l.gates (length l.sizes) found.0 sound.gates up) found.1 in
+    let up = either-up (has l.gates found.0) (has l.flying found.0) (has starts found.0) (has ends found.0) (may.start found.0)
+    (may.complete found.0) (sound.flying found.0) found.1 in
+    let pays = packet-fits (head_len (length l.sizes)) (has l.gates) (has l.flying) (has starts) (has ends) l.sizes found.0
+    (lawful l starts ends sound may) (up-within l.gates (length l.sizes) found.0 sound.gates up) found.1 in
     let room = sound.room in
     omega arith
 
 -- the packet and what is reserved afterwards are within what was reserved
 pub emit-fits : (l : Ledger) (starts ends : ℕ) → starts < 2 ^ 128 → ends < 2 ^ 128 → IsSound l → MayEmit l starts ends
     → l.used + event_len l.sizes starts ends + reserved l.sizes (up-after l ends) (flies-after l starts ends) ≤ l.capacity
-emit-fits l starts ends ls le sound may = event-cases l starts ends sound may (starts == 0 && ends == 0) refl (λ h. some-event starts ends ls le h)
+emit-fits l starts ends ls le sound may = event-cases l starts ends sound may (starts == 0 && ends == 0) refl
+    (λ h. some-event starts ends ls le h)
 
 -- masks of at most 128 channels
 below-from-bits : (x n : ℕ) → ((c : ℕ) → n ≤ c → has x c ≡ false) → x < 2 ^ n
@@ -103,15 +120,18 @@ flying-fits l sound = below-from-bits l.flying 128 (λ c m. ⊎_elim
 
 -- the ledger that the code makes
 abbrev pub emitted : Ledger → ℕ → ℕ → Ledger
-emitted l starts ends = ledger l.sizes l.capacity (l.used + event_len l.sizes starts ends) (bit_and l.gates (2 ^ 128 - 1 - ends)) (bit_and (bit_or l.flying starts) (2 ^ 128 - 1 - ends))
+emitted l starts ends = ledger l.sizes l.capacity (l.used + event_len l.sizes starts ends) (bit_and l.gates (2 ^ 128 - 1 - ends))
+    (bit_and (bit_or l.flying starts) (2 ^ 128 - 1 - ends))
 
-pub emit-next : (l : Ledger) (starts ends : ℕ) → starts < 2 ^ 128 → ends < 2 ^ 128 → IsSound l → Emitted l starts ends (emitted l starts ends)
+pub emit-next : (l : Ledger) (starts ends : ℕ) → starts < 2 ^ 128 → ends < 2 ^ 128 → IsSound l
+    → Emitted l starts ends (emitted l starts ends)
 emit-next l starts ends ls le sound = record {
   sizes = refl;
   capacity = refl;
   used = refl;
   gates = has-without l.gates ends (gates-fit l sound) le;
-  flying = λ c. has-without (bit_or l.flying starts) ends (or_lt 128 l.flying starts (flying-fits l sound) ls) le c ∙ ap (λ b. b && not (has ends c)) (has-or l.flying starts c);
+  flying = λ c. has-without (bit_or l.flying starts) ends (or_lt 128 l.flying starts (flying-fits l sound) ls) le c
+      ∙ ap (λ b. b && not (has ends c)) (has-or l.flying starts c);
 }
 
 pub emit-room : (l : Ledger) (starts ends : ℕ) → starts < 2 ^ 128 → ends < 2 ^ 128 → IsSound l → MayEmit l starts ends
@@ -120,21 +140,25 @@ emit-room l starts ends ls le sound may =
     let next = emit-next l starts ends ls le sound in
     let up : up-after l ends ≡ has (bit_and l.gates (2 ^ 128 - 1 - ends)) = λ i c. sym (next.gates c) i in
     let flies : flies-after l starts ends ≡ has (bit_and (bit_or l.flying starts) (2 ^ 128 - 1 - ends)) = λ i c. sym (next.flying c) i in
-    subst (λ (f : ℕ → Bool). l.used + event_len l.sizes starts ends + reserved l.sizes (has (bit_and l.gates (2 ^ 128 - 1 - ends))) f ≤ l.capacity) flies
-    (subst (λ (g : ℕ → Bool). l.used + event_len l.sizes starts ends + reserved l.sizes g (flies-after l starts ends) ≤ l.capacity) up (emit-fits l starts ends ls le sound may))
+    subst (λ (f : ℕ → Bool). l.used + event_len l.sizes starts ends + reserved l.sizes (has (bit_and l.gates (2 ^ 128 - 1 - ends))) f ≤
+    l.capacity) flies
+    (subst (λ (g : ℕ → Bool). l.used + event_len l.sizes starts ends + reserved l.sizes g (flies-after l starts ends) ≤ l.capacity) up
+    (emit-fits l starts ends ls le sound may))
 
 and-right : (a b : Bool) → (a && b) ≡ true → b ≡ true
 and-right true b h = h
 and-right false b h = absurd (cc)
 
 -- what stays in flight has kept its gate
-stays-up : (g f s e : Bool) → (s ≡ true → (g ≡ true) × (f ≡ false)) → (f ≡ true → g ≡ true) → ((f || s) && not e) ≡ true → (g && not e) ≡ true
+stays-up : (g f s e : Bool) → (s ≡ true → (g ≡ true) × (f ≡ false)) → (f ≡ true → g ≡ true) → ((f || s) && not e) ≡ true → (g && not e)
+    ≡ true
 stays-up true f s e start within h = and-right (f || s) (not e) h
 stays-up false true s e start within h = absurd (let x = within refl in cc)
 stays-up false false true e start within h = absurd (let x = (start refl).0 in cc)
 stays-up false false false e start within h = absurd (cc)
 
-pub emit-sound : (l : Ledger) (starts ends : ℕ) → starts < 2 ^ 128 → ends < 2 ^ 128 → IsSound l → MayEmit l starts ends → IsSound (emitted l starts ends)
+pub emit-sound : (l : Ledger) (starts ends : ℕ) → starts < 2 ^ 128 → ends < 2 ^ 128 → IsSound l → MayEmit l starts ends
+    → IsSound (emitted l starts ends)
 emit-sound l starts ends ls le sound may =
     let next = emit-next l starts ends ls le sound in
     record {
@@ -143,7 +167,8 @@ emit-sound l starts ends ls le sound may =
       whole = sound.whole;
       room = emit-room l starts ends ls le sound may;
       gates = omega (arith, and_le_l l.gates (2 ^ 128 - 1 - ends), sound.gates);
-      flying = λ c h. next.gates c ∙ stays-up (has l.gates c) (has l.flying c) (has starts c) (has ends c) (may.start c) (sound.flying c) (sym (next.flying c) ∙ h);
+      flying = λ c h. next.gates c ∙ stays-up (has l.gates c) (has l.flying c) (has starts c) (has ends c) (may.start c) (sound.flying c)
+          (sym (next.flying c) ∙ h);
     }
 
 -- ---- regrant
@@ -157,7 +182,8 @@ regrant-next l sound = record {
   capacity = refl;
   used = refl;
   flying = refl;
-  gates = are-raised l.capacity l.used l.sizes l.gates (regranted l) (has l.flying) sound.gates (raised-from (head_len (length l.sizes)) l.capacity l.sizes 0 (claimed l) l.gates);
+  gates = are-raised l.capacity l.used l.sizes l.gates (regranted l) (has l.flying) sound.gates
+      (raised-from (head_len (length l.sizes)) l.capacity l.sizes 0 (claimed l) l.gates);
 }
 
 pub regrant-room : (l : Ledger) → IsSound l → claimed (ledger l.sizes l.capacity l.used (regranted l) l.flying) ≤ l.capacity
@@ -181,7 +207,8 @@ regrant-sound l sound =
     }
 
 -- ---- new
-pub fresh-sound : (sizes : List ℕ) (capacity : ℕ) → 1 ≤ length sizes → length sizes ≤ 128 → need sizes ≤ capacity → IsSound (fresh sizes capacity)
+pub fresh-sound : (sizes : List ℕ) (capacity : ℕ) → 1 ≤ length sizes → length sizes ≤ 128 → need sizes ≤ capacity
+    → IsSound (fresh sizes capacity)
 fresh-sound sizes capacity some few fits = record {
   some = some;
   few = few;
@@ -191,13 +218,15 @@ fresh-sound sizes capacity some few fits = record {
   flying = λ c h. absurd (false≢true (sym (has-zero c) ∙ h));
 }
 
-need-is : (head : ℕ) (channels : List Channel) → sum_by (whole head) (map content_bytes channels) ≡ length channels * (2 * head) + sum_by content_bytes channels
+need-is : (head : ℕ) (channels : List Channel) → sum_by (whole head) (map content_bytes channels) ≡ length channels * (2 * head)
+    + sum_by content_bytes channels
 need-is head [] = omega arith
 need-is head (c ∷ cs) =
     let rest : sum_by (whole head) (map content_bytes cs) ≡ length cs * (2 * head) + sum_by content_bytes cs = need-is head cs in
     rw (sum_by-cons (whole head) (content_bytes c) (map content_bytes cs), sum_by-cons content_bytes c cs) (omega arith)
 
-pub need-small : (head : ℕ) (channels : List Channel) → head ≤ 64 → length channels ≤ 128 → sum_by content_bytes channels ≤ 2048 → sum_by (whole head) (map content_bytes channels) < 2 ^ 32
+pub need-small : (head : ℕ) (channels : List Channel) → head ≤ 64 → length channels ≤ 128 → sum_by content_bytes channels ≤ 2048
+    → sum_by (whole head) (map content_bytes channels) < 2 ^ 32
 need-small head channels h few content =
     let sum = need-is head channels in
     let product : length channels * (2 * head) ≤ 128 * (2 * 64) = grind arith in
@@ -207,17 +236,20 @@ need-small head channels h few content =
 head-small : (n : ℕ) → n ≤ 128 → head_len n ≤ 64
 head-small n l = omega arith
 
-pub need-fits : (channels : List Channel) (sizes slice : List ℕ) (len head : ℕ) → sizes ≡ map content_bytes channels → slice ≡ sizes → len ≡ length sizes → head ≡ head_len len
+pub need-fits : (channels : List Channel) (sizes slice : List ℕ) (len head : ℕ) → sizes ≡ map content_bytes channels → slice ≡ sizes → len
+    ≡ length sizes → head ≡ head_len len
     → length channels ≤ 128 → sum_by content_bytes channels ≤ 2048 → sum_by (whole head) slice < 2 ^ 32
 need-fits channels sizes slice len head s v n h few content =
     let count : len ≡ length channels = n ∙ ap length s ∙ length-map channels content_bytes in
     let small = head-small len (omega arith) in
     rw (v, s) (need-small head channels (omega arith) few content)
 
-pub need-within : (sizes slice : List ℕ) (len head needed capacity : ℕ) → slice ≡ sizes → len ≡ length sizes → head ≡ head_len len → needed ≡ sum_by (whole head) slice → needed ≤ capacity
+pub need-within : (sizes slice : List ℕ) (len head needed capacity : ℕ) → slice ≡ sizes → len ≡ length sizes → head ≡ head_len len → needed
+    ≡ sum_by (whole head) slice → needed ≤ capacity
     → need sizes ≤ capacity
 need-within sizes slice len head needed capacity v n h e l =
-    let same : sum_by (whole head) slice ≡ need sizes = ap (λ (xs : List ℕ). sum_by (whole head) xs) v ∙ ap (λ k. sum_by (whole k) sizes) (h ∙ ap head_len n) in
+    let same : sum_by (whole head) slice ≡ need sizes = ap (λ (xs : List ℕ). sum_by (whole head) xs) v
+    ∙ ap (λ k. sum_by (whole k) sizes) (h ∙ ap head_len n) in
     omega arith
 
 pub mask-is : (sizes : List ℕ) (len : ℕ) → len ≡ length sizes → length sizes ≤ 128 → (2 ^ 128 - 1) / 2 ^ (128 - len) ≡ all_up sizes
@@ -227,11 +259,13 @@ mask-is sizes len e few =
 
 -- what the code's sums come to
 pub raised-is : (l : Ledger) (up head taken : ℕ) (slice : List ℕ) → slice ≡ l.sizes → head ≡ head_len (length slice)
-    → taken ≡ total (reservation head (has l.gates) (has l.flying)) 0 slice → up ≡ raise head l.capacity slice 0 (l.used + taken) l.gates → up ≡ regranted l
+    → taken ≡ total (reservation head (has l.gates) (has l.flying)) 0 slice → up ≡ raise head l.capacity slice 0 (l.used + taken) l.gates
+    → up ≡ regranted l
 raised-is l up head taken slice s h t u =
     let all : head ≡ head_len (length l.sizes) = h ∙ ap (λ (xs : List ℕ). head_len (length xs)) s in
     let sum : taken ≡ reserved l.sizes (has l.gates) (has l.flying) =
-    t ∙ ap (λ (xs : List ℕ). total (reservation head (has l.gates) (has l.flying)) 0 xs) s ∙ ap (λ k. total (reservation k (has l.gates) (has l.flying)) 0 l.sizes) all in
+    t ∙ ap (λ (xs : List ℕ). total (reservation head (has l.gates) (has l.flying)) 0 xs) s
+    ∙ ap (λ k. total (reservation k (has l.gates) (has l.flying)) 0 l.sizes) all in
     u
     ∙ ap (λ n. raise head l.capacity slice 0 (l.used + n) l.gates) sum
     ∙ ap (λ (xs : List ℕ). raise head l.capacity xs 0 (claimed l) l.gates) s
@@ -250,7 +284,8 @@ not-and true false h k = absurd (cc)
 not-and false b h k = absurd (cc)
 
 none-without : (a b : ℕ) → a < 2 ^ 128 → b < 2 ^ 128 → ((c : ℕ) → has a c ≡ true → has b c ≡ true) → bit_and a (2 ^ 128 - 1 - b) ≡ 0
-none-without a b la lb h = same-masks (bit_and a (2 ^ 128 - 1 - b)) 0 (λ c. has-without a b la lb c ∙ and-not (has a c) (has b c) (h c) ∙ sym (has-zero c))
+none-without a b la lb h = same-masks (bit_and a (2 ^ 128 - 1 - b)) 0 (λ c. has-without a b la lb c ∙ and-not (has a c) (has b c) (h c)
+    ∙ sym (has-zero c))
 
 names-within : (a b : ℕ) → a < 2 ^ 128 → b < 2 ^ 128 → bit_and a (2 ^ 128 - 1 - b) ≡ 0 → (c : ℕ) → has a c ≡ true → has b c ≡ true
 names-within a b la lb e c = not-and (has a c) (has b c) (sym (has-without a b la lb c) ∙ ap (λ x. has x c) e ∙ has-zero c)
@@ -276,15 +311,19 @@ idle-fits l sound = omega (arith, and_le_l l.gates (2 ^ 128 - 1 - l.flying), gat
 may-if : (l : Ledger) (starts ends : ℕ) → starts < 2 ^ 128 → ends < 2 ^ 128 → IsSound l
     → bit_and starts (2 ^ 128 - 1 - idle l) ≡ 0 → bit_and ends (2 ^ 128 - 1 - bit_or l.flying starts) ≡ 0 → MayEmit l starts ends
 may-if l starts ends ls le sound a b = record {
-  start = λ c h. and-parts (has l.gates c) (has l.flying c) (sym (has-idle l sound c) ∙ names-within starts (idle l) ls (idle-fits l sound) a c h);
-  complete = λ c h. sym (has-or l.flying starts c) ∙ names-within ends (bit_or l.flying starts) le (or_lt 128 l.flying starts (flying-fits l sound) ls) b c h;
+  start = λ c h. and-parts (has l.gates c) (has l.flying c) (sym (has-idle l sound c)
+      ∙ names-within starts (idle l) ls (idle-fits l sound) a c h);
+  complete = λ c h. sym (has-or l.flying starts c) ∙ names-within ends (bit_or l.flying starts) le
+      (or_lt 128 l.flying starts (flying-fits l sound) ls) b c h;
 }
 
-starts-only : (l : Ledger) (starts ends : ℕ) → starts < 2 ^ 128 → IsSound l → MayEmit l starts ends → bit_and starts (2 ^ 128 - 1 - idle l) ≡ 0
+starts-only : (l : Ledger) (starts ends : ℕ) → starts < 2 ^ 128 → IsSound l → MayEmit l starts ends → bit_and starts (2 ^ 128 - 1 - idle l)
+    ≡ 0
 starts-only l starts ends ls sound may = none-without starts (idle l) ls (idle-fits l sound)
     (λ c h. has-idle l sound c ∙ and-whole (has l.gates c) (has l.flying c) (may.start c h).0 (may.start c h).1)
 
-ends-only : (l : Ledger) (starts ends : ℕ) → starts < 2 ^ 128 → ends < 2 ^ 128 → IsSound l → MayEmit l starts ends → bit_and ends (2 ^ 128 - 1 - bit_or l.flying starts) ≡ 0
+ends-only : (l : Ledger) (starts ends : ℕ) → starts < 2 ^ 128 → ends < 2 ^ 128 → IsSound l → MayEmit l starts ends
+    → bit_and ends (2 ^ 128 - 1 - bit_or l.flying starts) ≡ 0
 ends-only l starts ends ls le sound may = none-without ends (bit_or l.flying starts) le (or_lt 128 l.flying starts (flying-fits l sound) ls)
     (λ c h. has-or l.flying starts c ∙ may.complete c h)
 
@@ -293,7 +332,8 @@ pub fits-then : (l : Ledger) (starts ends : ℕ) → starts < 2 ^ 128 → ends <
 fits-then l starts ends ls le sound a =
     (λ t. may-if l starts ends ls le sound a (eqb-true _ _ t), λ may. eq-eqb _ _ (ends-only l starts ends ls le sound may))
 
-pub fits-else : (l : Ledger) (starts ends : ℕ) → starts < 2 ^ 128 → ends < 2 ^ 128 → IsSound l → (bit_and starts (2 ^ 128 - 1 - idle l) ≡ 0 → ⊥)
+pub fits-else : (l : Ledger) (starts ends : ℕ) → starts < 2 ^ 128 → ends < 2 ^ 128 → IsSound l
+    → (bit_and starts (2 ^ 128 - 1 - idle l) ≡ 0 → ⊥)
     → IsTrue (bit_and starts (2 ^ 128 - 1 - idle l) == 0) ↔ MayEmit l starts ends
 fits-else l starts ends ls le sound a =
     (λ t. absurd (a (eqb-true _ _ t)), λ may. absurd (a (starts-only l starts ends ls sound may)))

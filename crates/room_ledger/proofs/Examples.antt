@@ -13,7 +13,15 @@ abbrev plan : Plan
 plan = record { capacity = 18; allowance = λ _. Some 0 }
 
 abbrev row : ℕ → ℕ → ℕ → ℕ → ℕ → Row
-row gates valids readies starts ends = record { gates = gates; valids = valids; readies = readies; contents = []; starts = starts; ends = ends }
+row gates valids readies starts ends = record {
+  gates = gates;
+  valids = valids;
+  readies = readies;
+  contents = [];
+  starts = starts;
+  ends
+      = ends;
+}
 
 -- a content goes in; the next goes in while the first comes out; the second is taken
 abbrev rows : List Row

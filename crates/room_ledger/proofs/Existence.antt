@@ -1,5 +1,6 @@
 -- Each row has gates: those that go up one after the other.
-use Rattle.std.proofs.Common.{◌≡◌, ℕ, zero, suc, ◌+◌, ◌-◌, ◌%◌, ◌<◌, ◌≤◌, ◌^◌, ◌&&◌, ◌==◌, Bool, true, false, not, cond, List, Option, Some, None, length, get_or, slice_get, bit_and, refl, ap, sym, subst, ◌∙◌, ⊎_elim, arith}
+use Rattle.std.proofs.Common.{◌≡◌, ℕ, zero, suc, ◌+◌, ◌-◌, ◌%◌, ◌<◌, ◌≤◌, ◌^◌, ◌&&◌, ◌==◌, Bool, true, false, not, cond, List, Option, Some}
+use Rattle.std.proofs.Common.{None, length, get_or, slice_get, bit_and, refl, ap, sym, subst, ◌∙◌, ⊎_elim, arith}
 use Rattle.std.specs.Prelude.{IsSomeAnd}
 use Rattle.std.specs.Int.{bit_at}
 use Rattle.std.specs.Int.RustNames.{bit_xor}
@@ -26,7 +27,8 @@ abbrev kept : ℕ → Row → ℕ
 kept n row = bit_and row.gates (bit_xor (2 ^ n - 1) (completed row))
 
 completed-is : (row : Row) (c : ℕ) → has (completed row) c ≡ completes row c
-completed-is row c = has-and (bit_and row.valids row.gates) row.readies c ∙ ap (λ b. b && has row.readies c) (has-and row.valids row.gates c)
+completed-is row c = has-and (bit_and row.valids row.gates) row.readies c
+    ∙ ap (λ b. b && has row.readies c) (has-and row.valids row.gates c)
 
 other-bits : (b : Bool) → ((1 + cond b 1 0) % 2 == 1) ≡ not b
 other-bits true = refl
@@ -36,7 +38,8 @@ xor-of : (x y : ℕ) (b : Bool) → x ≡ 1 → y ≡ cond b 1 0 → ((x + y) % 
 xor-of x y b e f = rw (e, f) (other-bits b)
 
 has-other : (n mask c : ℕ) → c < n → has (bit_xor (2 ^ n - 1) mask) c ≡ not (has mask c)
-has-other n mask c l = ap (λ x. x == 1) (bit_at_xor (2 ^ n - 1) mask c) ∙ xor-of (bit_at (2 ^ n - 1) c) (bit_at mask c) (has mask c) (bit_at_ones n c l) (bit-is mask c _ refl)
+has-other n mask c l = ap (λ x. x == 1) (bit_at_xor (2 ^ n - 1) mask c)
+    ∙ xor-of (bit_at (2 ^ n - 1) c) (bit_at mask c) (has mask c) (bit_at_ones n c l) (bit-is mask c _ refl)
 
 neither : (g a b : Bool) → g ≡ false → (g && a) ≡ (g && b)
 neither g a b h = rw h refl
@@ -44,7 +47,8 @@ neither g a b h = rw h refl
 kept-is : (n : ℕ) (row : Row) → row.gates < 2 ^ n → (c : ℕ) → has (kept n row) c ≡ keeps row c
 kept-is n row l c = has-and row.gates (bit_xor (2 ^ n - 1) (completed row)) c ∙ ⊎_elim
     (λ (m : c < n). ap (λ b. has row.gates c && b) (has-other n (completed row) c m ∙ ap not (completed-is row c)))
-    (λ (m : n ≤ c). neither (has row.gates c) (has (bit_xor (2 ^ n - 1) (completed row)) c) (not (completes row c)) (has-above row.gates n c l m))
+    (λ (m : n ≤ c). neither (has row.gates c) (has (bit_xor (2 ^ n - 1) (completed row)) c) (not (completes row c))
+    (has-above row.gates n c l m))
     (cases_lt c n)
 
 kept-below : (n : ℕ) (row : Row) → row.gates < 2 ^ n → kept n row < 2 ^ n
@@ -52,7 +56,8 @@ kept-below n row l = omega (arith, and_le_l row.gates (bit_xor (2 ^ n - 1) (comp
 
 -- ---- the gates after a row
 abbrev pub gates-after : List ℕ → ℕ → ℕ → Row → ℕ
-gates-after sizes capacity used row = raise (head_len (length sizes)) capacity sizes 0 (used + reserved sizes (has (kept (length sizes) row)) (is_in_flight row)) (kept (length sizes) row)
+gates-after sizes capacity used row = raise (head_len (length sizes)) capacity sizes 0
+    (used + reserved sizes (has (kept (length sizes) row)) (is_in_flight row)) (kept (length sizes) row)
 
 pub are-gates-after : (sizes : List ℕ) (capacity used : ℕ) (row : Row) → row.gates < 2 ^ length sizes
     → AreRaised sizes capacity used (keeps row) (is_in_flight row) (has (gates-after sizes capacity used row))
@@ -60,15 +65,20 @@ are-gates-after sizes capacity used row l =
     let mask = kept (length sizes) row in
     let is = are-raised capacity used sizes mask (gates-after sizes capacity used row) (is_in_flight row) (kept-below (length sizes) row l)
     (raised-from (head_len (length sizes)) capacity sizes 0 (used + reserved sizes (has mask) (is_in_flight row)) mask) in
-    subst (λ (k : ℕ → Bool). AreRaised sizes capacity used k (is_in_flight row) (has (gates-after sizes capacity used row))) (λ i c. kept-is (length sizes) row l c i) is
+    subst (λ (k : ℕ → Bool). AreRaised sizes capacity used k (is_in_flight row) (has (gates-after sizes capacity used row)))
+    (λ i c. kept-is (length sizes) row l c i) is
 
-pub has-gates : (sizes : List ℕ) (plan : Plan) (rows : List Row) (t : ℕ) → ((u : ℕ) (row : Row) → slice_get rows u ≡ Some row → row.gates < 2 ^ length sizes) → t ≤ length rows
+pub has-gates : (sizes : List ℕ) (plan : Plan) (rows : List Row) (t : ℕ)
+    → ((u : ℕ) (row : Row) → slice_get rows u ≡ Some row → row.gates < 2 ^ length sizes) → t ≤ length rows
     → (gates : ℕ) × AreGates sizes plan rows t gates
 has-gates sizes plan rows zero over l = (all_up sizes, refl)
 has-gates sizes plan rows (suc t) over l = ⊎_elim
     (λ (f : (row : Row) × (t < length rows) × (slice_get rows t ≡ Some row) × (get_or rows t row ≡ row)).
     let gates = gates-after sizes plan.capacity (used_at sizes plan rows (suc t)) f.0 in
-    let is = are-gates-after sizes plan.capacity (used_at sizes plan rows (suc t)) f.0 (over t f.0 f.2) in
-    (gates, subst (λ (o : Option Row). IsSomeAnd o (λ row. AreRaised sizes plan.capacity (used_at sizes plan rows (suc t)) (keeps row) (is_in_flight row) (has gates))) (sym f.2) is))
+    let is = are-gates-after sizes plan.capacity (used_at sizes plan rows (suc t)) f.0 (over t f.0 f.2) in (
+      gates,
+      subst (λ (o : Option Row). IsSomeAnd o (λ row. AreRaised sizes plan.capacity (used_at sizes plan rows (suc t)) (keeps row)
+          (is_in_flight row) (has gates))) (sym f.2) is,
+    ))
     (λ (n : (length rows ≤ t) × (slice_get rows t ≡ None)). absurd (omega (arith, n.0)))
     (slice_get_cases rows t).1

@@ -1,5 +1,6 @@
 -- What *Gates* alone says: exactly one set of gates, and gates that are down only while bytes wait.
-use Rattle.std.proofs.Common.{◌≡◌, ℕ, zero, suc, ◌+◌, ◌<◌, ◌≤◌, ◌&&◌, Bool, true, false, not, cond, List, Option, Some, None, length, take, get_or, slice_get, leb, refl, ap, sym, subst, ◌∙◌, ⊎_elim, arith, le-leb}
+use Rattle.std.proofs.Common.{◌≡◌, ℕ, zero, suc, ◌+◌, ◌<◌, ◌≤◌, ◌&&◌, Bool, true, false, not, cond, List, Option, Some, None, length, take}
+use Rattle.std.proofs.Common.{get_or, slice_get, leb, refl, ap, sym, subst, ◌∙◌, ⊎_elim, arith, le-leb}
 use Rattle.std.specs.Prelude.{IsSomeAnd}
 use Rattle.std.proofs.lemmas.Bool.{cases_Bool, cases_lt, false≢true}
 use Rattle.std.proofs.lemmas.List.{length-take-le}
@@ -18,7 +19,8 @@ use Rattle.room_ledger.proofs.Reserving.{all-need}
 
 -- ---- down only while bytes wait
 -- where all R_c fit, a gate that is down has bytes before it
-raised-down : (sizes : List ℕ) (capacity used : ℕ) (kept flies up : ℕ → Bool) → AreRaised sizes capacity used kept flies up → need sizes ≤ capacity
+raised-down : (sizes : List ℕ) (capacity used : ℕ) (kept flies up : ℕ → Bool) → AreRaised sizes capacity used kept flies up
+    → need sizes ≤ capacity
     → (c size : ℕ) → slice_get sizes c ≡ Some size → up c ≡ false → 0 < used
 raised-down sizes capacity used kept flies up is fits c size at down = ⊎_elim
     (λ (k : kept c ≡ true). absurd (false≢true (sym down ∙ is.stay c k)))
@@ -26,7 +28,8 @@ raised-down sizes capacity used kept flies up is fits c size at down = ⊎_elim
     (λ (l : 0 < used). l)
     (λ (l : used ≤ 0).
     let sum = all-need (head_len (length sizes)) kept flies up 0 sizes c size at (ap kept (omega arith) ∙ k) in
-    let room : used + reserved sizes kept flies + raised_below sizes kept up c + whole (head_len (length sizes)) size ≤ capacity = omega arith in
+    let room : used + reserved sizes kept flies + raised_below sizes kept up c
+    + whole (head_len (length sizes)) size ≤ capacity = omega arith in
     absurd (false≢true (sym down ∙ is.raised c size at k ∙ le-leb _ _ room)))
     (cases_lt 0 used))
     (cases_Bool (kept c))
@@ -42,27 +45,33 @@ pub some-row : (P : Row → Type 0) (o : Option Row) → IsSomeAnd o P → (row 
 some-row P None h = absurd h
 some-row P (Some row) h = (row, refl, h)
 
-pub down-waits : (sizes : List ℕ) (plan : Plan) (rows : List Row) (t gates c : ℕ) → need sizes ≤ plan.capacity → AreGates sizes plan rows t gates → c < length sizes → has gates c ≡ false
+pub down-waits : (sizes : List ℕ) (plan : Plan) (rows : List Row) (t gates c : ℕ) → need sizes ≤ plan.capacity
+    → AreGates sizes plan rows t gates → c < length sizes → has gates c ≡ false
     → 0 < used_at sizes plan rows t
 down-waits sizes plan rows zero gates c fits is l down =
     absurd (false≢true (sym down ∙ ap (λ g. has g c) is ∙ has-all (length sizes) c l))
 down-waits sizes plan rows (suc t) gates c fits is l down =
-    let before = some-row (λ row. AreRaised sizes plan.capacity (used_at sizes plan rows (suc t)) (keeps row) (is_in_flight row) (has gates)) (slice_get rows t) is in
+    let before = some-row (λ row. AreRaised sizes plan.capacity (used_at sizes plan rows (suc t)) (keeps row) (is_in_flight row)
+    (has gates)) (slice_get rows t) is in
     let channel = channel-at sizes c l in
-    raised-down sizes plan.capacity (used_at sizes plan rows (suc t)) (keeps before.0) (is_in_flight before.0) (has gates) before.2 fits c channel.0 channel.1 down
+    raised-down sizes plan.capacity (used_at sizes plan rows (suc t)) (keeps before.0) (is_in_flight before.0) (has gates) before.2 fits c
+    channel.0 channel.1 down
 
 -- ---- all stay up
 none-left : (sizes : List ℕ) (plan : Plan) (rows : List Row) → EverythingDrains sizes plan rows → (t : ℕ) → used_at sizes plan rows t ≡ 0
 none-left sizes plan rows drains zero = refl
 none-left sizes plan rows drains (suc t) = drains t
 
-no-more : (sizes : List ℕ) (plan : Plan) (rows : List Row) (t gates : ℕ) → AreGates sizes plan rows t gates → (c : ℕ) → length sizes ≤ c → has gates c ≡ false
+no-more : (sizes : List ℕ) (plan : Plan) (rows : List Row) (t gates : ℕ) → AreGates sizes plan rows t gates → (c : ℕ) → length sizes ≤ c
+    → has gates c ≡ false
 no-more sizes plan rows zero gates is c l = ap (λ g. has g c) is ∙ has-all_above (length sizes) c l
 no-more sizes plan rows (suc t) gates is c l =
-    let before = some-row (λ row. AreRaised sizes plan.capacity (used_at sizes plan rows (suc t)) (keeps row) (is_in_flight row) (has gates)) (slice_get rows t) is in
+    let before = some-row (λ row. AreRaised sizes plan.capacity (used_at sizes plan rows (suc t)) (keeps row) (is_in_flight row)
+    (has gates)) (slice_get rows t) is in
     before.2.channels c l
 
-pub stay-up : (sizes : List ℕ) (plan : Plan) (rows : List Row) (t gates : ℕ) → need sizes ≤ plan.capacity → EverythingDrains sizes plan rows → AreGates sizes plan rows t gates → gates ≡ all_up sizes
+pub stay-up : (sizes : List ℕ) (plan : Plan) (rows : List Row) (t gates : ℕ) → need sizes ≤ plan.capacity → EverythingDrains sizes plan rows
+    → AreGates sizes plan rows t gates → gates ≡ all_up sizes
 stay-up sizes plan rows t gates fits drains is = same-masks gates (all_up sizes) (λ c. ⊎_elim
     (λ (l : c < length sizes). ⊎_elim
     (λ (up : has gates c ≡ true). up ∙ sym (has-all (length sizes) c l))
@@ -76,13 +85,15 @@ stay-up sizes plan rows t gates fits drains is = same-masks gates (all_up sizes)
 
 -- ---- one set of gates
 -- two sets of gates that agree below channel c have raised the same gates there
-same-below : (sizes : List ℕ) (kept up other : ℕ → Bool) (c : ℕ) → c ≤ length sizes → ((d : ℕ) → d < c → up d ≡ other d) → raised_below sizes kept up c ≡ raised_below sizes kept other c
+same-below : (sizes : List ℕ) (kept up other : ℕ → Bool) (c : ℕ) → c ≤ length sizes → ((d : ℕ) → d < c → up d ≡ other d)
+    → raised_below sizes kept up c ≡ raised_below sizes kept other c
 same-below sizes kept up other c l h =
     let size = length-take-le c sizes l in
     total-same (newly (head_len (length sizes)) kept up) (newly (head_len (length sizes)) kept other) 0 (take c sizes)
     (λ d b m n. ap (λ u. cond (u && not (kept d)) (whole (head_len (length sizes)) b) 0) (h d (omega arith)))
 
-same-gate : (sizes : List ℕ) (capacity used : ℕ) (kept flies up other : ℕ → Bool) → AreRaised sizes capacity used kept flies up → AreRaised sizes capacity used kept flies other
+same-gate : (sizes : List ℕ) (capacity used : ℕ) (kept flies up other : ℕ → Bool) → AreRaised sizes capacity used kept flies up
+    → AreRaised sizes capacity used kept flies other
     → (c : ℕ) → ((d : ℕ) → d < c → up d ≡ other d) → up c ≡ other c
 same-gate sizes capacity used kept flies up other a b c below = ⊎_elim
     (λ (l : c < length sizes). ⊎_elim
@@ -90,26 +101,33 @@ same-gate sizes capacity used kept flies up other a b c below = ⊎_elim
     (λ (k : kept c ≡ false).
     let channel = channel-at sizes c l in
     a.raised c channel.0 channel.1 k
-    ∙ ap (λ sum. leb (used + reserved sizes kept flies + sum + whole (head_len (length sizes)) channel.0) capacity) (same-below sizes kept up other c (omega arith) below)
+    ∙ ap (λ sum. leb (used + reserved sizes kept flies + sum + whole (head_len (length sizes)) channel.0) capacity)
+    (same-below sizes kept up other c (omega arith) below)
     ∙ sym (b.raised c channel.0 channel.1 k))
     (cases_Bool (kept c)))
     (λ (l : length sizes ≤ c). a.channels c l ∙ sym (b.channels c l))
     (cases_lt c (length sizes))
 
-same-front : (sizes : List ℕ) (capacity used : ℕ) (kept flies up other : ℕ → Bool) → AreRaised sizes capacity used kept flies up → AreRaised sizes capacity used kept flies other
+same-front : (sizes : List ℕ) (capacity used : ℕ) (kept flies up other : ℕ → Bool) → AreRaised sizes capacity used kept flies up
+    → AreRaised sizes capacity used kept flies other
     → (c d : ℕ) → d < c → up d ≡ other d
 same-front sizes capacity used kept flies up other a b zero d l = absurd (omega arith)
 same-front sizes capacity used kept flies up other a b (suc c) d l =
-    same-gate sizes capacity used kept flies up other a b d (λ e m. same-front sizes capacity used kept flies up other a b c e (omega arith))
+    same-gate sizes capacity used kept flies up other a b d (λ e m. same-front sizes capacity used kept flies up other a b c e
+    (omega arith))
 
-pub same-raised : (sizes : List ℕ) (capacity used : ℕ) (kept flies : ℕ → Bool) (a b : ℕ) → AreRaised sizes capacity used kept flies (has a) → AreRaised sizes capacity used kept flies (has b) → a ≡ b
-same-raised sizes capacity used kept flies a b is too = same-masks a b (λ c. same-front sizes capacity used kept flies (has a) (has b) is too (suc c) c (omega arith))
+pub same-raised : (sizes : List ℕ) (capacity used : ℕ) (kept flies : ℕ → Bool) (a b : ℕ) → AreRaised sizes capacity used kept flies (has a)
+    → AreRaised sizes capacity used kept flies (has b) → a ≡ b
+same-raised sizes capacity used kept flies a b is too = same-masks a b
+    (λ c. same-front sizes capacity used kept flies (has a) (has b) is too (suc c) c (omega arith))
 
-pub one-set : (sizes : List ℕ) (plan : Plan) (rows : List Row) (t a b : ℕ) → AreGates sizes plan rows t a → AreGates sizes plan rows t b → a ≡ b
+pub one-set : (sizes : List ℕ) (plan : Plan) (rows : List Row) (t a b : ℕ) → AreGates sizes plan rows t a → AreGates sizes plan rows t b → a
+    ≡ b
 one-set sizes plan rows zero a b is too = is ∙ sym too
 one-set sizes plan rows (suc t) a b is too =
     let used = used_at sizes plan rows (suc t) in
     let first = some-row (λ row. AreRaised sizes plan.capacity used (keeps row) (is_in_flight row) (has a)) (slice_get rows t) is in
     let here : IsSomeAnd (Some first.0) (λ row. AreRaised sizes plan.capacity used (keeps row) (is_in_flight row) (has b)) =
-    subst (λ (o : Option Row). IsSomeAnd o (λ row. AreRaised sizes plan.capacity used (keeps row) (is_in_flight row) (has b))) first.1 too in
+    subst (λ (o : Option Row). IsSomeAnd o (λ row. AreRaised sizes plan.capacity used (keeps row) (is_in_flight row) (has b))) first.1 too
+    in
     same-raised sizes plan.capacity used (keeps first.0) (is_in_flight first.0) a b first.2 here

@@ -1,8 +1,10 @@
 -- The channels that a mask names, as tests.
-use Rattle.std.proofs.Common.{◌≡◌, ◌≢◌, ℕ, ◌-◌, ◌<◌, ◌≤◌, ◌^◌, ◌&&◌, ◌||◌, ◌==◌, Bool, true, false, not, cond, min, max, bit_and, bit_or, refl, ap, sym, ◌∙◌, arith}
+use Rattle.std.proofs.Common.{◌≡◌, ◌≢◌, ℕ, ◌-◌, ◌<◌, ◌≤◌, ◌^◌, ◌&&◌, ◌||◌, ◌==◌, Bool, true, false, not, cond, min, max, bit_and, bit_or}
+use Rattle.std.proofs.Common.{refl, ap, sym, ◌∙◌, arith}
 use Rattle.std.specs.Int.{bit_at}
 use Rattle.std.proofs.lemmas.Bool.{eqb-true, eqb-false, ne_eqb}
-use Rattle.std.proofs.lemmas.Nat.Bits.{bit_at_and, bit_at_or, bit_at-zero, bit_at-lt, bit_at_above, bit_at-pow_same, bit_at-pow_other, bit_at_ones, bit_at_ones_above, same_from_bits}
+use Rattle.std.proofs.lemmas.Nat.Bits.{bit_at_and, bit_at_or, bit_at-zero, bit_at-lt, bit_at_above, bit_at-pow_same, bit_at-pow_other}
+use Rattle.std.proofs.lemmas.Nat.Bits.{bit_at_ones, bit_at_ones_above, same_from_bits}
 use Rattle.trace_model.specs.Counting.{has}
 use Rattle.trace_model.proofs.MaskLemmas.{has-from-bit, bit_at-without}
 
@@ -46,13 +48,16 @@ without-of : (x y : ℕ) (p q : Bool) → x ≡ cond p 1 0 → y ≡ cond q 1 0 
 without-of x y p q e f = rw (e, f) (without-bits p q)
 
 pub has-or : (a b c : ℕ) → has (bit_or a b) c ≡ (has a c || has b c)
-has-or a b c = ap (λ x. x == 1) (bit_at_or a b c) ∙ or-of (bit_at a c) (bit_at b c) (has a c) (has b c) (bit-is a c _ refl) (bit-is b c _ refl)
+has-or a b c = ap (λ x. x == 1) (bit_at_or a b c) ∙ or-of (bit_at a c) (bit_at b c) (has a c) (has b c) (bit-is a c _ refl)
+    (bit-is b c _ refl)
 
 pub has-and : (a b c : ℕ) → has (bit_and a b) c ≡ (has a c && has b c)
-has-and a b c = ap (λ x. x == 1) (bit_at_and a b c) ∙ and-of (bit_at a c) (bit_at b c) (has a c) (has b c) (bit-is a c _ refl) (bit-is b c _ refl)
+has-and a b c = ap (λ x. x == 1) (bit_at_and a b c) ∙ and-of (bit_at a c) (bit_at b c) (has a c) (has b c) (bit-is a c _ refl)
+    (bit-is b c _ refl)
 
 pub has-without : (a b : ℕ) → a < 2 ^ 128 → b < 2 ^ 128 → (c : ℕ) → has (bit_and a (2 ^ 128 - 1 - b)) c ≡ (has a c && not (has b c))
-has-without a b la lb c = ap (λ x. x == 1) (bit_at-without a b la lb c) ∙ without-of (bit_at a c) (bit_at b c) (has a c) (has b c) (bit-is a c _ refl) (bit-is b c _ refl)
+has-without a b la lb c = ap (λ x. x == 1) (bit_at-without a b la lb c)
+    ∙ without-of (bit_at a c) (bit_at b c) (has a c) (has b c) (bit-is a c _ refl) (bit-is b c _ refl)
 
 pub has-zero : (c : ℕ) → has 0 c ≡ false
 has-zero c = hasn't-from-bit 0 c (bit_at-zero c)

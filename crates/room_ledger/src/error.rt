@@ -1,3 +1,5 @@
+//! Why room is not made.
+
 ghost use Rattle.std.specs.Prelude.{◌≡◌};
 
 use std::alloc::{AllocError, AllocFailed};

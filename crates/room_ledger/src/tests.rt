@@ -1,3 +1,5 @@
+//! Gates and capacities of small tables.
+
 ghost use Rattle.std.specs.Prelude.{◌≡◌, IfOk, length, sum_by};
 ghost use Rattle.trace_model.specs.Channel.{content_bytes};
 

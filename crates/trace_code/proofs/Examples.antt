@@ -20,7 +20,8 @@ trace packets = record { channels = pass; packets = packets }
 
 -- its header: VIDITRC1, two channels, and for each direction, name and width
 header : List ℕ
-header = 0x56 ∷ 0x49 ∷ 0x44 ∷ 0x49 ∷ 0x54 ∷ 0x52 ∷ 0x43 ∷ 0x31 ∷ 0x02 ∷ 0x00 ∷ 0x01 ∷ 0x61 ∷ 0x01 ∷ 0x08 ∷ 0x01 ∷ 0x01 ∷ 0x62 ∷ 0x01 ∷ 0x08 ∷ []
+header = 0x56 ∷ 0x49 ∷ 0x44 ∷ 0x49 ∷ 0x54 ∷ 0x52 ∷ 0x43 ∷ 0x31 ∷ 0x02 ∷ 0x00 ∷ 0x01 ∷ 0x61 ∷ 0x01 ∷ 0x08 ∷ 0x01 ∷ 0x01 ∷ 0x62 ∷ 0x01 ∷ 0x08
+    ∷ []
 
 -- nothing was sent
 no_send : encode (trace []) ≡ header ++ 0 ∷ 0 ∷ 0 ∷ 0 ∷ 0 ∷ []
@@ -49,7 +50,9 @@ regs = record { dir = Inward; name = codes "aw"; widths = 32 ∷ [] }
     ∷ []
 
 -- a write of 1000 at 0, its response, a read at 0 and what it gives
-regs_rounds : flat_map (packet_bytes regs) (packet 3 3 (0 ∷ 1000 ∷ 15 ∷ []) ∷ packet 4 4 (0 ∷ []) ∷ packet 8 8 (0 ∷ []) ∷ packet 16 16 (1000 ∷ 0 ∷ []) ∷ [])
-    ≡ 1 ∷ 3 ∷ 3 ∷ 0 ∷ 0 ∷ 0 ∷ 0 ∷ 0 ∷ 0 ∷ 3 ∷ 0xe8 ∷ 0x0f ∷ 1 ∷ 4 ∷ 4 ∷ 0 ∷ 1 ∷ 8 ∷ 8 ∷ 0 ∷ 0 ∷ 0 ∷ 0 ∷ 1 ∷ 16 ∷ 16 ∷ 0 ∷ 0 ∷ 3 ∷ 0xe8 ∷ 0 ∷ []
+regs_rounds : flat_map (packet_bytes regs) (packet 3 3 (0 ∷ 1000 ∷ 15 ∷ []) ∷ packet 4 4 (0 ∷ []) ∷ packet 8 8 (0 ∷ [])
+    ∷ packet 16 16 (1000 ∷ 0 ∷ []) ∷ [])
+    ≡ 1 ∷ 3 ∷ 3 ∷ 0 ∷ 0 ∷ 0 ∷ 0 ∷ 0 ∷ 0 ∷ 3 ∷ 0xe8 ∷ 0x0f ∷ 1 ∷ 4 ∷ 4 ∷ 0 ∷ 1 ∷ 8 ∷ 8 ∷ 0 ∷ 0 ∷ 0 ∷ 0 ∷ 1 ∷ 16 ∷ 16 ∷ 0 ∷ 0 ∷ 3 ∷ 0xe8 ∷ 0
+    ∷ []
 unfolding regs packet
 regs_rounds = refl

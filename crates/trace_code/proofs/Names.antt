@@ -18,7 +18,9 @@ clash cs i c lt at w apart =
     let second : get_or cs i w.1 ≡ c = get_or_default cs i w.1 c lt ∙ sym at in
     apart w.0 i w.1 below lt (ap (λ (x : Channel). x.name) first ∙ w.4 ∙ ap (λ (x : Channel). x.name) (sym second))
 
-pub apart_more : (cs : List Channel) (i : ℕ) (c : Channel) → i < length cs → c ≡ get_or cs i c → ¬ HasName (take i cs) c.name → NamesDiffer (take i cs) → NamesDiffer (take (i + 1) cs)
+pub apart_more : (cs : List Channel) (i : ℕ) (c : Channel) → i < length cs → c ≡ get_or cs i c → ¬ HasName (take i cs) c.name
+    → NamesDiffer (take i cs) → NamesDiffer (take (i + 1) cs)
 apart_more cs i c lt at none apart =
     let push : take (i + 1) cs ≡ take i cs ++ c ∷ [] = take_more cs i c lt ∙ ap (λ (x : Channel). take i cs ++ x ∷ []) (sym at) in
-    subst NamesDiffer (sym push) (all_pairs_push (λ (a b : Channel). a.name ≢ b.name) (take i cs) c apart (λ k d below e. none (k, get_or (take i cs) k d, below, get_or_default (take i cs) k (get_or (take i cs) k d) d below, e)))
+    subst NamesDiffer (sym push) (all_pairs_push (λ (a b : Channel). a.name ≢ b.name) (take i cs) c apart
+    (λ k d below e. none (k, get_or (take i cs) k d, below, get_or_default (take i cs) k (get_or (take i cs) k d) d below, e)))

@@ -1,12 +1,16 @@
 -- Numbers in bytes: what a loop over the bytes computes, and that spelling and reading undo each other.
-use Rattle.std.proofs.Common.{◌≡◌, ℕ, zero, suc, ◌+◌, ◌-◌, ◌*◌, ◌/◌, ◌%◌, ◌^◌, ◌<◌, ◌≤◌, Bool, true, false, cond, ltb, List, [], ◌∷◌, ◌++◌, length, get_or, take, drop, Option, Some, None, fold, refl, sym, ap, subst, ◌∙◌, append_assoc, arith, inl, inr, pow-suc, mul_comm}
+use Rattle.std.proofs.Common.{◌≡◌, ℕ, zero, suc, ◌+◌, ◌-◌, ◌*◌, ◌/◌, ◌%◌, ◌^◌, ◌<◌, ◌≤◌, Bool, true, false, cond, ltb, List, [], ◌∷◌, ◌++◌}
+use Rattle.std.proofs.Common.{length, get_or, take, drop, Option, Some, None, fold, refl, sym, ap, subst, ◌∙◌, append_assoc, arith, inl}
+use Rattle.std.proofs.Common.{inr, pow-suc, mul_comm}
 use Rattle.std.specs.Int.{byte_at, bytes_low_first, bytes_high_first}
-use Rattle.std.proofs.Math.Nat.{pow-le-pow_right, mod-eq_of_lt, mul-add-div_right, div-div-eq-div-mul, div-one, mul-add-mod_self_right, div-lt_iff_lt-mul, mul-le-mul_right}
+use Rattle.std.proofs.Math.Nat.{pow-le-pow_right, mod-eq_of_lt, mul-add-div_right, div-div-eq-div-mul, div-one, mul-add-mod_self_right}
+use Rattle.std.proofs.Math.Nat.{div-lt_iff_lt-mul, mul-le-mul_right}
 use Rattle.std.proofs.lemmas.Nat.{pow-add}
 use Rattle.std.proofs.Math.Arith.{mod-mul}
 use Rattle.std.proofs.lemmas.Bool.{cases_lt, ltb-true, ltb-false, lt-ltb, le-ltb}
 use Rattle.std.proofs.lemmas.Option.{cond_some}
-use Rattle.std.proofs.lemmas.List.{take_at, drop_at, take-append-drop, length-append, length-take, drop_more, get_or-drop, get_or-take, get_or_past}
+use Rattle.std.proofs.lemmas.List.{take_at, drop_at, take-append-drop, length-append, length-take, drop_more, get_or-drop, get_or-take}
+use Rattle.std.proofs.lemmas.List.{get_or_past}
 use Rattle.trace_model.specs.Channel.{byte_count}
 use Rattle.trace_model.specs.Length.{mask_len}
 use Rattle.trace_code.specs.Encoding.{mask_bytes}
@@ -26,13 +30,17 @@ value_fits i v b few small byte =
     let grown = grows i v b small byte in
     omega arith
 
-pub low_value-more : (bytes : List ℕ) (i : ℕ) → i < length bytes → low_value (drop i bytes) ≡ get_or bytes i 0 + 256 * low_value (drop (i + 1) bytes)
+pub low_value-more : (bytes : List ℕ) (i : ℕ) → i < length bytes → low_value (drop i bytes) ≡ get_or bytes i 0
+    + 256 * low_value (drop (i + 1) bytes)
 low_value-more bytes i lt = ap low_value (drop_more bytes i 0 lt)
 
-pub low_value-down : (bytes : List ℕ) (i v b : ℕ) → 0 < i → i ≤ length bytes → b ≡ get_or bytes (i - 1) 0 → v ≡ low_value (drop i bytes) → v * 256 + b ≡ low_value (drop (i - 1) bytes)
+pub low_value-down : (bytes : List ℕ) (i v b : ℕ) → 0 < i → i ≤ length bytes → b ≡ get_or bytes (i - 1) 0 → v ≡ low_value (drop i bytes)
+    → v * 256 + b ≡ low_value (drop (i - 1) bytes)
 low_value-down bytes i v b some within byte value =
     let next : i - 1 + 1 ≡ i = omega arith in
-    let more : low_value (drop (i - 1) bytes) ≡ get_or bytes (i - 1) 0 + 256 * low_value (drop i bytes) = low_value-more bytes (i - 1) (omega arith) ∙ ap (λ (j : ℕ). get_or bytes (i - 1) 0 + 256 * low_value (drop j bytes)) next in
+    let more : low_value (drop (i - 1) bytes) ≡ get_or bytes (i - 1) 0
+    + 256 * low_value (drop i bytes) = low_value-more bytes (i - 1) (omega arith)
+    ∙ ap (λ (j : ℕ). get_or bytes (i - 1) 0 + 256 * low_value (drop j bytes)) next in
     omega arith
 
 pub grows-down : (n i v b : ℕ) → 0 < i → i ≤ n → v < 256 ^ (n - i) → b < 256 → v * 256 + b < 256 ^ (n - (i - 1))
@@ -72,7 +80,8 @@ low-shift : (i b v : ℕ) → b < 256 → byte_at (suc i) (b + 256 * v) ≡ byte
 low-shift i b v byte =
     let wider : 256 ^ suc i ≡ 256 * 256 ^ i = pow-suc 256 i ∙ mul_comm (256 ^ i) 256 in
     let high : (b + 256 * v) / 256 ≡ v = omega arith in
-    let moved : (b + 256 * v) / 256 ^ suc i ≡ v / 256 ^ i = ap (λ (u : ℕ). (b + 256 * v) / u) wider ∙ sym (div-div-eq-div-mul (b + 256 * v) 256 (256 ^ i)) ∙ ap (λ (y : ℕ). y / 256 ^ i) high in
+    let moved : (b + 256 * v) / 256 ^ suc i ≡ v / 256 ^ i = ap (λ (u : ℕ). (b + 256 * v) / u) wider
+    ∙ sym (div-div-eq-div-mul (b + 256 * v) 256 (256 ^ i)) ∙ ap (λ (y : ℕ). y / 256 ^ i) high in
     ap (λ (y : ℕ). y % 256) moved ∙ sym (byte_at-pow i v)
 
 low-rest : (i k b v : ℕ) → b < 256 → bytes_low_first (suc i) k (b + 256 * v) ≡ bytes_low_first i k v
@@ -100,7 +109,8 @@ pub length-high : (k x : ℕ) → length (bytes_high_first k x) ≡ k
 length-high zero x = refl
 length-high (suc k) x = ap suc (length-high k x)
 
-high-from : (high : ℕ) (bytes : List ℕ) → fold (λ h b. h * 256 + b) high bytes ≡ high * 256 ^ length bytes + fold (λ h b. h * 256 + b) 0 bytes
+high-from : (high : ℕ) (bytes : List ℕ) → fold (λ h b. h * 256 + b) high bytes ≡ high * 256 ^ length bytes
+    + fold (λ h b. h * 256 + b) 0 bytes
 high-from high [] = omega arith
 high-from high (b ∷ bs) =
     let wider = pow-suc 256 (length bs) in
@@ -131,7 +141,8 @@ high-rest (suc k) high v =
     let unit = 256 ^ k in
     let parted : high * 256 ^ suc k + v ≡ high * 256 * unit + v = rw wider (omega arith) in
     let over : (high * 256 * unit + v) / unit ≡ high * 256 + v / unit = mul-add-div_right (some_unit k) (high * 256) v in
-    let first : byte_at k (high * 256 * unit + v) ≡ byte_at k v = byte_at-pow k (high * 256 * unit + v) ∙ ap (λ (y : ℕ). y % 256) over ∙ mul-add-mod_self_right high 256 (v / unit) ∙ sym (byte_at-pow k v) in
+    let first : byte_at k (high * 256 * unit + v) ≡ byte_at k v = byte_at-pow k (high * 256 * unit + v) ∙ ap (λ (y : ℕ). y % 256) over
+    ∙ mul-add-mod_self_right high 256 (v / unit) ∙ sym (byte_at-pow k v) in
     rw (parted, first, high-rest k (high * 256) v) refl
 
 high-back : (bytes : List ℕ) → IsBytes bytes → bytes_high_first (length bytes) (high_value bytes) ≡ bytes
@@ -142,9 +153,12 @@ high-back (b ∷ bs) fits =
     let byte = fits 0 in
     let small = high-small bs (IsBytes-rest b bs fits) in
     let over : (b * unit + high_value bs) / unit ≡ b + high_value bs / unit = mul-add-div_right (some_unit k) b (high_value bs) in
-    let none : high_value bs / unit ≡ 0 = (let below = (div-lt_iff_lt-mul {k = unit} {x = high_value bs} {y = 1} (some_unit k)).1 (omega arith) in omega arith) in
-    let first : byte_at k (b * unit + high_value bs) ≡ b = byte_at-pow k (b * unit + high_value bs) ∙ ap (λ (y : ℕ). y % 256) (over ∙ ap (λ (y : ℕ). b + y) none) ∙ omega arith in
-    ap (bytes_high_first (suc k)) (high_value-cons b bs) ∙ rw (first, high-rest k b (high_value bs), high-back bs (IsBytes-rest b bs fits)) refl
+    let none : high_value bs / unit ≡ 0 = (let below = (div-lt_iff_lt-mul {k = unit} {x = high_value bs} {y = 1} (some_unit k)).1
+    (omega arith) in omega arith) in
+    let first : byte_at k (b * unit + high_value bs) ≡ b = byte_at-pow k (b * unit + high_value bs)
+    ∙ ap (λ (y : ℕ). y % 256) (over ∙ ap (λ (y : ℕ). b + y) none) ∙ omega arith in
+    ap (bytes_high_first (suc k)) (high_value-cons b bs) ∙ rw (first, high-rest k b (high_value bs), high-back bs (IsBytes-rest b bs fits))
+    refl
 
 -- one more byte in front of the low k bytes
 byte_on : (k n high : ℕ) → (high * 256 + byte_at k n) * 256 ^ k + n % 256 ^ k ≡ high * 256 ^ suc k + n % 256 ^ suc k
@@ -182,42 +196,57 @@ pub record Takes (bytes text rest : List ℕ) : Type 0 where
   pub rest_fits : IsBytes rest
 
 pub Takes-then : (a x b y c : List ℕ) → Takes a x b → Takes b y c → Takes a (x ++ y) c
-Takes-then a x b y c p q = record { parts = p.parts ∙ ap (λ (t : List ℕ). x ++ t) q.parts ∙ sym (append_assoc x y c); rest_fits = q.rest_fits }
+Takes-then a x b y c p q = record {
+  parts = p.parts ∙ ap (λ (t : List ℕ). x ++ t) q.parts
+      ∙ sym (append_assoc x y c);
+  rest_fits = q.rest_fits;
+}
 
 refused : {A : Type 0} (b : Bool) (o : Option A) (y : A) → cond b None o ≡ Some y → (b ≡ false) × (o ≡ Some y)
 refused true o y e = absurd cc
 refused false o y e = (refl, e)
 
-sized_takes : (value : List ℕ → ℕ) (len limit : ℕ) (spell : ℕ → List ℕ) → ((bs : List ℕ) → length bs ≡ len → IsBytes bs → spell (value bs) ≡ bs)
-    → (bytes : List ℕ) (x : ℕ × List ℕ) → IsBytes bytes → sized_at value len limit bytes ≡ Some x → Takes bytes (spell x.0) x.1 × (x.0 < limit)
+sized_takes : (value : List ℕ → ℕ) (len limit : ℕ) (spell : ℕ → List ℕ)
+    → ((bs : List ℕ) → length bs ≡ len → IsBytes bs → spell (value bs) ≡ bs)
+    → (bytes : List ℕ) (x : ℕ × List ℕ) → IsBytes bytes → sized_at value len limit bytes ≡ Some x → Takes bytes (spell x.0) x.1
+    × (x.0 < limit)
 unfolding sized_at
 sized_takes value len limit spell back bytes x fits e =
     let outer = refused (ltb (length bytes) len) _ x e in
     let inner = cond_some (ltb (value (take len bytes)) limit) (value (take len bytes), drop len bytes) x outer.1 in
     let long : len ≤ length bytes = ltb-false _ _ outer.0 in
-    let front : spell (value (take len bytes)) ≡ take len bytes = back (take len bytes) (omega (arith, length-take len bytes)) (IsBytes-take len bytes fits) in
+    let front : spell (value (take len bytes)) ≡ take len bytes = back (take len bytes) (omega (arith, length-take len bytes))
+    (IsBytes-take len bytes fits) in
     let whole : bytes ≡ spell (value (take len bytes)) ++ drop len bytes = rw front (sym (take-append-drop len bytes)) in
-    subst (λ (y : ℕ × List ℕ). Takes bytes (spell y.0) y.1 × (y.0 < limit)) inner.1 (record { parts = whole; rest_fits = IsBytes-drop len bytes fits }, ltb-true _ _ inner.0)
+    subst (λ (y : ℕ × List ℕ). Takes bytes (spell y.0) y.1 × (y.0 < limit)) inner.1
+    (record { parts = whole; rest_fits = IsBytes-drop len bytes fits }, ltb-true _ _ inner.0)
 
-sized_again : (value : List ℕ → ℕ) (len limit : ℕ) (spell : ℕ → List ℕ) (x : ℕ) (rest : List ℕ) → length (spell x) ≡ len → value (spell x) ≡ x → x < limit
+sized_again : (value : List ℕ → ℕ) (len limit : ℕ) (spell : ℕ → List ℕ) (x : ℕ) (rest : List ℕ) → length (spell x) ≡ len → value (spell x)
+    ≡ x → x < limit
     → sized_at value len limit (spell x ++ rest) ≡ Some (x, rest)
 unfolding sized_at
 sized_again value len limit spell x rest size again lt =
     let long : ltb (length (spell x ++ rest)) len ≡ false = le-ltb _ _ (omega (arith, length-append (spell x) rest)) in
     rw (long, take_at (spell x) rest len size, drop_at (spell x) rest len size, again, lt-ltb x limit lt) refl
 
-pub mask_takes : (n : ℕ) (bytes : List ℕ) (x : ℕ × List ℕ) → IsBytes bytes → mask_at n bytes ≡ Some x → Takes bytes (mask_bytes n x.0) x.1 × (x.0 < 2 ^ n)
+pub mask_takes : (n : ℕ) (bytes : List ℕ) (x : ℕ × List ℕ) → IsBytes bytes → mask_at n bytes ≡ Some x → Takes bytes (mask_bytes n x.0) x.1
+    × (x.0 < 2 ^ n)
 mask_takes n bytes x fits e =
-    sized_takes low_value (mask_len n) (2 ^ n) (mask_bytes n) (λ bs size whole. subst (λ (k : ℕ). bytes_low_first 0 k (low_value bs) ≡ bs) size (low-back bs whole)) bytes x fits e
+    sized_takes low_value (mask_len n) (2 ^ n) (mask_bytes n) (λ bs size whole. subst (λ (k : ℕ). bytes_low_first 0 k (low_value bs) ≡ bs)
+    size (low-back bs whole)) bytes x fits e
 
 pub mask_again : (n x : ℕ) (rest : List ℕ) → x < 2 ^ n → mask_at n (mask_bytes n x ++ rest) ≡ Some (x, rest)
 mask_again n x rest lt =
-    sized_again low_value (mask_len n) (2 ^ n) (mask_bytes n) x rest (length-low 0 (mask_len n) x) (low-again 0 (mask_len n) x ∙ ap (λ (y : ℕ). y % 256 ^ mask_len n) (div-one x) ∙ mod-eq_of_lt (held n x lt)) lt
+    sized_again low_value (mask_len n) (2 ^ n) (mask_bytes n) x rest (length-low 0 (mask_len n) x)
+    (low-again 0 (mask_len n) x ∙ ap (λ (y : ℕ). y % 256 ^ mask_len n) (div-one x) ∙ mod-eq_of_lt (held n x lt)) lt
 
-pub number_takes : (w : ℕ) (bytes : List ℕ) (x : ℕ × List ℕ) → IsBytes bytes → number_at w bytes ≡ Some x → Takes bytes (bytes_high_first (byte_count w) x.0) x.1 × (x.0 < 2 ^ w)
+pub number_takes : (w : ℕ) (bytes : List ℕ) (x : ℕ × List ℕ) → IsBytes bytes → number_at w bytes ≡ Some x
+    → Takes bytes (bytes_high_first (byte_count w) x.0) x.1 × (x.0 < 2 ^ w)
 number_takes w bytes x fits e =
-    sized_takes high_value (byte_count w) (2 ^ w) (bytes_high_first (byte_count w)) (λ bs size whole. subst (λ (k : ℕ). bytes_high_first k (high_value bs) ≡ bs) size (high-back bs whole)) bytes x fits e
+    sized_takes high_value (byte_count w) (2 ^ w) (bytes_high_first (byte_count w))
+    (λ bs size whole. subst (λ (k : ℕ). bytes_high_first k (high_value bs) ≡ bs) size (high-back bs whole)) bytes x fits e
 
 pub number_again : (w x : ℕ) (rest : List ℕ) → x < 2 ^ w → number_at w (bytes_high_first (byte_count w) x ++ rest) ≡ Some (x, rest)
 number_again w x rest lt =
-    sized_again high_value (byte_count w) (2 ^ w) (bytes_high_first (byte_count w)) x rest (length-high (byte_count w) x) (high-again (byte_count w) x ∙ mod-eq_of_lt (held w x lt)) lt
+    sized_again high_value (byte_count w) (2 ^ w) (bytes_high_first (byte_count w)) x rest (length-high (byte_count w) x)
+    (high-again (byte_count w) x ∙ mod-eq_of_lt (held w x lt)) lt

@@ -1,5 +1,6 @@
 -- Reading the numbers of a packet one after the other, as loops over widths and channels do.
-use Rattle.std.proofs.Common.{◌≡◌, ℕ, ◌+◌, ◌<◌, ◌≤◌, Bool, cond, List, [], ◌∷◌, ◌++◌, length, get_or, drop, Option, Some, None, refl, sym, ap, ◌∙◌, append_assoc}
+use Rattle.std.proofs.Common.{◌≡◌, ℕ, ◌+◌, ◌<◌, ◌≤◌, Bool, cond, List, [], ◌∷◌, ◌++◌, length, get_or, drop, Option, Some, None, refl, sym}
+use Rattle.std.proofs.Common.{ap, ◌∙◌, append_assoc}
 use Rattle.std.specs.List.{flat_map, enumerate_from}
 use Rattle.std.proofs.lemmas.List.{append-nil, drop_more, drop_all}
 use Rattle.trace_model.specs.declared.channel.Channel.{Channel}
@@ -22,14 +23,17 @@ regroup front n None = refl
 
 -- ---- over widths
 
-pub number_goes_on : (front ws : List ℕ) (i : ℕ) (bytes : List ℕ) (n : ℕ) (after : List ℕ) (total : Read) → i < length ws → number_at (get_or ws i 0) bytes ≡ Some (n, after)
+pub number_goes_on : (front ws : List ℕ) (i : ℕ) (bytes : List ℕ) (n : ℕ) (after : List ℕ) (total : Read) → i < length ws
+    → number_at (get_or ws i 0) bytes ≡ Some (n, after)
     → with_front front (numbers_at (drop i ws) bytes) ≡ total → with_front (front ++ n ∷ []) (numbers_at (drop (i + 1) ws) after) ≡ total
 unfolding numbers_at
 number_goes_on front ws i bytes n after total lt h so_far =
-    let one : with_front front (numbers_at (drop i ws) bytes) ≡ with_front (front ++ n ∷ []) (numbers_at (drop (i + 1) ws) after) = rw (drop_more ws i 0 lt, h) (regroup front n (numbers_at (drop (i + 1) ws) after)) in
+    let one : with_front front (numbers_at (drop i ws) bytes) ≡ with_front (front ++ n ∷ []) (numbers_at (drop (i + 1) ws) after) = rw
+    (drop_more ws i 0 lt, h) (regroup front n (numbers_at (drop (i + 1) ws) after)) in
     sym one ∙ so_far
 
-pub number_ends : (e : CodeError) (front ws : List ℕ) (i : ℕ) (bytes : List ℕ) (total : Read) → i < length ws → Fails e (number_at (get_or ws i 0) bytes)
+pub number_ends : (e : CodeError) (front ws : List ℕ) (i : ℕ) (bytes : List ℕ) (total : Read) → i < length ws
+    → Fails e (number_at (get_or ws i 0) bytes)
     → with_front front (numbers_at (drop i ws) bytes) ≡ total → Fails e total
 unfolding numbers_at
 number_ends Memory front ws i bytes total lt h so_far = tt
@@ -37,24 +41,30 @@ number_ends (BadTrace at) front ws i bytes total lt h so_far =
     let one : with_front front (numbers_at (drop i ws) bytes) ≡ None = rw (drop_more ws i 0 lt, h.1) refl in
     (h.0, sym so_far ∙ one)
 
-pub number_is_done : (front ws : List ℕ) (i : ℕ) (bytes : List ℕ) (total : Read) → length ws ≤ i → with_front front (numbers_at (drop i ws) bytes) ≡ total → total ≡ Some (front, bytes)
+pub number_is_done : (front ws : List ℕ) (i : ℕ) (bytes : List ℕ) (total : Read) → length ws ≤ i
+    → with_front front (numbers_at (drop i ws) bytes) ≡ total → total ≡ Some (front, bytes)
 unfolding numbers_at
 number_is_done front ws i bytes total le so_far =
-    let one : with_front front (numbers_at (drop i ws) bytes) ≡ Some (front, bytes) = rw (drop_all i ws le) (ap (λ (ns : List ℕ). Some (ns, bytes)) (append-nil front)) in
+    let one : with_front front (numbers_at (drop i ws) bytes) ≡ Some (front, bytes) = rw (drop_all i ws le)
+    (ap (λ (ns : List ℕ). Some (ns, bytes)) (append-nil front)) in
     sym so_far ∙ one
 
 -- ---- over channels
 
 -- the numbers of some widths, and then those of the others, behind a first one
 after_first : (front ws vs : List ℕ) (read : Option (ℕ × List ℕ))
-    → ((n : ℕ) (bytes : List ℕ) → with_front (front ++ n ∷ []) (numbers_at (ws ++ vs) bytes) ≡ (with_front (front ++ n ∷ []) (numbers_at ws bytes) >>= λ x. with_front x.0 (numbers_at vs x.1)))
+    → ((n : ℕ) (bytes : List ℕ) → with_front (front ++ n ∷ []) (numbers_at (ws ++ vs) bytes)
+    ≡ (with_front (front ++ n ∷ []) (numbers_at ws bytes) >>= λ x. with_front x.0 (numbers_at vs x.1)))
     → with_front front (read >>= λ first. numbers_at (ws ++ vs) first.1 >>= λ others. Some (first.0 ∷ others.0, others.1))
-    ≡ (with_front front (read >>= λ first. numbers_at ws first.1 >>= λ others. Some (first.0 ∷ others.0, others.1)) >>= λ x. with_front x.0 (numbers_at vs x.1))
+    ≡ (with_front front (read >>= λ first. numbers_at ws first.1 >>= λ others. Some (first.0 ∷ others.0, others.1))
+    >>= λ x. with_front x.0 (numbers_at vs x.1))
 after_first front ws vs None h = refl
 after_first front ws vs (Some first) h =
-    regroup front first.0 (numbers_at (ws ++ vs) first.1) ∙ h first.0 first.1 ∙ ap (λ (r : Read). r >>= λ x. with_front x.0 (numbers_at vs x.1)) (sym (regroup front first.0 (numbers_at ws first.1)))
+    regroup front first.0 (numbers_at (ws ++ vs) first.1) ∙ h first.0 first.1
+    ∙ ap (λ (r : Read). r >>= λ x. with_front x.0 (numbers_at vs x.1)) (sym (regroup front first.0 (numbers_at ws first.1)))
 
-and_then : (front ws vs bytes : List ℕ) → with_front front (numbers_at (ws ++ vs) bytes) ≡ (with_front front (numbers_at ws bytes) >>= λ x. with_front x.0 (numbers_at vs x.1))
+and_then : (front ws vs bytes : List ℕ) → with_front front (numbers_at (ws ++ vs) bytes)
+    ≡ (with_front front (numbers_at ws bytes) >>= λ x. with_front x.0 (numbers_at vs x.1))
 unfolding numbers_at
 and_then front [] vs bytes = ap (λ (f : List ℕ). with_front f (numbers_at vs bytes)) (sym (append-nil front))
 and_then front (w ∷ ws) vs bytes = after_first front ws vs (number_at w bytes) (λ n rest. and_then (front ++ n ∷ []) ws vs rest)
@@ -69,19 +79,24 @@ widths_at_start starts channel = cond starts channel.widths []
 
 widths-more : (mask : ℕ) (cs : List Channel) (c : ℕ) (channel : Channel) → c < length cs → channel ≡ get_or cs c channel
     → widths_from c mask (drop c cs) ≡ widths_at_start (has mask c) channel ++ widths_from (c + 1) mask (drop (c + 1) cs)
-widths-more mask cs c channel lt at = ap (widths_from c mask) (drop_more cs c channel lt ∙ ap (λ (x : Channel). x ∷ drop (c + 1) cs) (sym at))
+widths-more mask cs c channel lt at = ap (widths_from c mask) (drop_more cs c channel lt
+    ∙ ap (λ (x : Channel). x ∷ drop (c + 1) cs) (sym at))
 
-pub start_goes_on : (front : List ℕ) (mask : ℕ) (cs : List Channel) (c : ℕ) (channel : Channel) (bytes new after : List ℕ) (total : Read) → c < length cs → channel ≡ get_or cs c channel
+pub start_goes_on : (front : List ℕ) (mask : ℕ) (cs : List Channel) (c : ℕ) (channel : Channel) (bytes new after : List ℕ) (total : Read)
+    → c < length cs → channel ≡ get_or cs c channel
     → with_front front (numbers_at (widths_at_start (has mask c) channel) bytes) ≡ Some (new, after)
-    → with_front front (numbers_at (widths_from c mask (drop c cs)) bytes) ≡ total → with_front new (numbers_at (widths_from (c + 1) mask (drop (c + 1) cs)) after) ≡ total
+    → with_front front (numbers_at (widths_from c mask (drop c cs)) bytes) ≡ total
+    → with_front new (numbers_at (widths_from (c + 1) mask (drop (c + 1) cs)) after) ≡ total
 start_goes_on front mask cs c channel bytes new after total lt at h so_far =
     let ws = widths_at_start (has mask c) channel in
     let vs = widths_from (c + 1) mask (drop (c + 1) cs) in
     let one : with_front front (numbers_at (widths_from c mask (drop c cs)) bytes) ≡ with_front new (numbers_at vs after) =
-    ap (λ (us : List ℕ). with_front front (numbers_at us bytes)) (widths-more mask cs c channel lt at) ∙ and_then front ws vs bytes ∙ ap (λ (r : Read). r >>= λ x. with_front x.0 (numbers_at vs x.1)) h in
+    ap (λ (us : List ℕ). with_front front (numbers_at us bytes)) (widths-more mask cs c channel lt at) ∙ and_then front ws vs bytes
+    ∙ ap (λ (r : Read). r >>= λ x. with_front x.0 (numbers_at vs x.1)) h in
     sym one ∙ so_far
 
-pub start_ends : (e : CodeError) (front : List ℕ) (mask : ℕ) (cs : List Channel) (c : ℕ) (channel : Channel) (bytes : List ℕ) (total : Read) → c < length cs → channel ≡ get_or cs c channel
+pub start_ends : (e : CodeError) (front : List ℕ) (mask : ℕ) (cs : List Channel) (c : ℕ) (channel : Channel) (bytes : List ℕ) (total : Read)
+    → c < length cs → channel ≡ get_or cs c channel
     → Fails e (with_front front (numbers_at (widths_at_start (has mask c) channel) bytes))
     → with_front front (numbers_at (widths_from c mask (drop c cs)) bytes) ≡ total → Fails e total
 start_ends Memory front mask cs c channel bytes total lt at h so_far = tt
@@ -89,14 +104,16 @@ start_ends (BadTrace place) front mask cs c channel bytes total lt at h so_far =
     let ws = widths_at_start (has mask c) channel in
     let vs = widths_from (c + 1) mask (drop (c + 1) cs) in
     let one : with_front front (numbers_at (widths_from c mask (drop c cs)) bytes) ≡ None =
-    ap (λ (us : List ℕ). with_front front (numbers_at us bytes)) (widths-more mask cs c channel lt at) ∙ and_then front ws vs bytes ∙ ap (λ (r : Read). r >>= λ x. with_front x.0 (numbers_at vs x.1)) h.1 in
+    ap (λ (us : List ℕ). with_front front (numbers_at us bytes)) (widths-more mask cs c channel lt at) ∙ and_then front ws vs bytes
+    ∙ ap (λ (r : Read). r >>= λ x. with_front x.0 (numbers_at vs x.1)) h.1 in
     (h.0, sym so_far ∙ one)
 
 pub start_is_done : (front : List ℕ) (mask : ℕ) (cs : List Channel) (c : ℕ) (bytes : List ℕ) (total : Read) → length cs ≤ c
     → with_front front (numbers_at (widths_from c mask (drop c cs)) bytes) ≡ total → total ≡ Some (front, bytes)
 unfolding numbers_at
 start_is_done front mask cs c bytes total le so_far =
-    let one : with_front front (numbers_at (widths_from c mask (drop c cs)) bytes) ≡ Some (front, bytes) = rw (drop_all c cs le) (ap (λ (ns : List ℕ). Some (ns, bytes)) (append-nil front)) in
+    let one : with_front front (numbers_at (widths_from c mask (drop c cs)) bytes)
+    ≡ Some (front, bytes) = rw (drop_all c cs le) (ap (λ (ns : List ℕ). Some (ns, bytes)) (append-nil front)) in
     sym so_far ∙ one
 
 pub start_begins : (read : Read) → with_front [] read ≡ read

@@ -1,5 +1,6 @@
 -- No bytes have two readings, and neither has a front of them.
-use Rattle.std.proofs.Common.{◌≡◌, ℕ, ◌+◌, ◌-◌, ◌^◌, ◌<◌, ◌≤◌, ◌⊎◌, List, [], ◌∷◌, ◌++◌, length, All, Ok, Err, inl, inr, ⊎_elim, refl, sym, ap, subst, ◌∙◌, append_assoc, arith}
+use Rattle.std.proofs.Common.{◌≡◌, ℕ, ◌+◌, ◌-◌, ◌^◌, ◌<◌, ◌≤◌, ◌⊎◌, List, [], ◌∷◌, ◌++◌, length, All, Ok, Err, inl, inr, ⊎_elim, refl, sym}
+use Rattle.std.proofs.Common.{ap, subst, ◌∙◌, append_assoc, arith}
 use Rattle.std.specs.List.{flat_map, AllByRecursion}
 use Rattle.std.proofs.lemmas.List.{append-nil, get_or_at, length-append, flat_map_more}
 use Rattle.std.proofs.lemmas.List.Elements.{recursion_from_All}
@@ -25,20 +26,24 @@ pub table_channels : (cs : List Channel) → IsTable cs → AreChannels cs
 table_channels cs h = record { some = h.some; few = h.few; each = h.each }
 
 -- two headers, each with what follows it
-pub same_header : (cs ds : List Channel) (xs ys : List ℕ) → IsTable cs → IsTable ds → header_bytes cs ++ xs ≡ header_bytes ds ++ ys → (cs ≡ ds) × (xs ≡ ys)
+pub same_header : (cs ds : List Channel) (xs ys : List ℕ) → IsTable cs → IsTable ds → header_bytes cs ++ xs ≡ header_bytes ds ++ ys
+    → (cs ≡ ds) × (xs ≡ ys)
 same_header cs ds xs ys c d e =
-    let s = same_Some (cs, xs) (ds, ys) (sym (header_again cs xs (table_channels cs c)) ∙ ap header_at e ∙ header_again ds ys (table_channels ds d)) in
+    let s = same_Some (cs, xs) (ds, ys) (sym (header_again cs xs (table_channels cs c)) ∙ ap header_at e
+    ∙ header_again ds ys (table_channels ds d)) in
     (ap (λ (p : List Channel × List ℕ). p.0) s, ap (λ (p : List Channel × List ℕ). p.1) s)
 
 -- ---- packets
 
 -- two packets, each with what follows it
-pub same_packet : (cs : List Channel) (p q : Packet) (xs ys : List ℕ) → IsPacket cs p → IsPacket cs q → packet_bytes cs p ++ xs ≡ packet_bytes cs q ++ ys → (p ≡ q) × (xs ≡ ys)
+pub same_packet : (cs : List Channel) (p q : Packet) (xs ys : List ℕ) → IsPacket cs p → IsPacket cs q → packet_bytes cs p ++ xs
+    ≡ packet_bytes cs q ++ ys → (p ≡ q) × (xs ≡ ys)
 same_packet cs p q xs ys hp hq e =
     let s = same_Some (p, xs) (q, ys) (sym (packet_again cs p xs hp) ∙ ap (packet_at cs) e ∙ packet_again cs q ys hq) in
     (ap (λ (x : Packet × List ℕ). x.0) s, ap (λ (x : Packet × List ℕ). x.1) s)
 
-regroup : (cs : List Channel) (p : Packet) (ps : List Packet) (rest : List ℕ) → flat_map (packet_bytes cs) (p ∷ ps) ++ rest ≡ packet_bytes cs p ++ (flat_map (packet_bytes cs) ps ++ rest)
+regroup : (cs : List Channel) (p : Packet) (ps : List Packet) (rest : List ℕ) → flat_map (packet_bytes cs) (p ∷ ps) ++ rest
+    ≡ packet_bytes cs p ++ (flat_map (packet_bytes cs) ps ++ rest)
 regroup cs p ps rest = append_assoc (packet_bytes cs p) (flat_map (packet_bytes cs) ps) rest
 
 -- a list of packets goes on where another ends, with what follows each
@@ -47,7 +52,8 @@ pub record GoesOn (cs : List Channel) (front all : List Packet) (rest left : Lis
   pub whole : all ≡ front ++ others
   pub parts : rest ≡ flat_map (packet_bytes cs) others ++ left
 
-goes_on-cons : (cs : List Channel) (p q : Packet) (front all : List Packet) (rest left : List ℕ) → p ≡ q → GoesOn cs front all rest left → GoesOn cs (p ∷ front) (q ∷ all) rest left
+goes_on-cons : (cs : List Channel) (p q : Packet) (front all : List Packet) (rest left : List ℕ) → p ≡ q → GoesOn cs front all rest left
+    → GoesOn cs (p ∷ front) (q ∷ all) rest left
 goes_on-cons cs p q front all rest left e g = record {
   others = g.others;
   whole = ap (λ (x : Packet). x ∷ all) (sym e) ∙ ap (λ (xs : List Packet). p ∷ xs) g.whole;
@@ -60,7 +66,8 @@ two-lists : (cs : List Channel) (ps qs : List Packet) (r s : List ℕ) → AllBy
 two-lists cs [] qs r s hp hq e = inl (record { others = qs; whole = refl; parts = e })
 two-lists cs (p ∷ ps) [] r s hp hq e = inr (record { others = p ∷ ps; whole = refl; parts = sym e })
 two-lists cs (p ∷ ps) (q ∷ qs) r s hp hq e =
-    let same = same_packet cs p q (flat_map (packet_bytes cs) ps ++ r) (flat_map (packet_bytes cs) qs ++ s) hp.0 hq.0 (sym (regroup cs p ps r) ∙ e ∙ regroup cs q qs s) in
+    let same = same_packet cs p q (flat_map (packet_bytes cs) ps ++ r) (flat_map (packet_bytes cs) qs ++ s) hp.0 hq.0
+    (sym (regroup cs p ps r) ∙ e ∙ regroup cs q qs s) in
     ⊎_elim
     (λ (g : GoesOn cs ps qs r s). inl (goes_on-cons cs p q ps qs r s same.0 g))
     (λ (g : GoesOn cs qs ps s r). inr (goes_on-cons cs q p qs ps s r (sym same.0) g))
@@ -71,10 +78,12 @@ pub compared : (cs : List Channel) (ps qs : List Packet) (r s : List ℕ) → Al
 compared cs ps qs r s hp hq e = two-lists cs ps qs r s (recursion_from_All (IsPacket cs) ps hp) (recursion_from_All (IsPacket cs) qs hq) e
 
 -- none goes on where the end of a trace stands
-pub ended : (cs : List Channel) (front all : List Packet) (n : ℕ) (left : List ℕ) → GoesOn cs front all (end_mark n) left → (all ≡ front) × (end_mark n ≡ left)
+pub ended : (cs : List Channel) (front all : List Packet) (n : ℕ) (left : List ℕ) → GoesOn cs front all (end_mark n) left → (all ≡ front)
+    × (end_mark n ≡ left)
 ended cs front all n left g = cases g.others g.whole g.parts
   where
-    cases : (others : List Packet) → all ≡ front ++ others → end_mark n ≡ flat_map (packet_bytes cs) others ++ left → (all ≡ front) × (end_mark n ≡ left)
+    cases : (others : List Packet) → all ≡ front ++ others → end_mark n ≡ flat_map (packet_bytes cs) others ++ left → (all ≡ front)
+        × (end_mark n ≡ left)
     cases [] whole parts = (whole ∙ append-nil front, parts)
     cases (q ∷ qs) whole parts = absurd cc
 
@@ -85,25 +94,38 @@ same_trace t u c p = λ i. record { channels = c i; packets = p i }
 
 -- an encoding is a header, packets, and the end
 pub encoding-splits : (t : Trace) (bytes : List ℕ) → Encodes t bytes → Splits bytes t.channels t.packets (end_mark (length t.packets))
-encoding-splits t bytes h = record { table = h.0.table; each = h.0.well_formed.packets; alternate = h.0.well_formed.alternate; parts = sym h.1 }
+encoding-splits t bytes h = record {
+  table = h.0.table;
+  each = h.0.well_formed.packets;
+  alternate = h.0.well_formed.alternate;
+  parts = sym
+      h.1;
+}
 
 -- two splits of the same bytes
-pub same-table : (bytes : List ℕ) (cs ds : List Channel) (ps qs : List Packet) (r s : List ℕ) → Splits bytes cs ps r → Splits bytes ds qs s → cs ≡ ds
-same-table bytes cs ds ps qs r s a b = (same_header cs ds (flat_map (packet_bytes cs) ps ++ r) (flat_map (packet_bytes ds) qs ++ s) a.table b.table (sym a.parts ∙ b.parts)).0
+pub same-table : (bytes : List ℕ) (cs ds : List Channel) (ps qs : List Packet) (r s : List ℕ) → Splits bytes cs ps r → Splits bytes ds qs s
+    → cs ≡ ds
+same-table bytes cs ds ps qs r s a b = (same_header cs ds (flat_map (packet_bytes cs) ps ++ r) (flat_map (packet_bytes ds) qs ++ s) a.table
+    b.table (sym a.parts ∙ b.parts)).0
 
-pub two-splits : (bytes : List ℕ) (cs : List Channel) (ps qs : List Packet) (r s : List ℕ) → Splits bytes cs ps r → Splits bytes cs qs s → GoesOn cs ps qs r s ⊎ GoesOn cs qs ps s r
+pub two-splits : (bytes : List ℕ) (cs : List Channel) (ps qs : List Packet) (r s : List ℕ) → Splits bytes cs ps r → Splits bytes cs qs s
+    → GoesOn cs ps qs r s ⊎ GoesOn cs qs ps s r
 two-splits bytes cs ps qs r s a b =
-    compared cs ps qs r s a.each b.each (same_header cs cs (flat_map (packet_bytes cs) ps ++ r) (flat_map (packet_bytes cs) qs ++ s) a.table b.table (sym a.parts ∙ b.parts)).1
+    compared cs ps qs r s a.each b.each (same_header cs cs (flat_map (packet_bytes cs) ps ++ r) (flat_map (packet_bytes cs) qs ++ s) a.table
+    b.table (sym a.parts ∙ b.parts)).1
 
 -- a split of the bytes of a trace whose rest is another end
 pub one_reading : OneReading
 one_reading bytes t u a b =
     let s = encoding-splits t bytes a in
-    let c = same-table bytes t.channels u.channels t.packets u.packets (end_mark (length t.packets)) (end_mark (length u.packets)) s (encoding-splits u bytes b) in
+    let c = same-table bytes t.channels u.channels t.packets u.packets (end_mark (length t.packets)) (end_mark (length u.packets)) s
+    (encoding-splits u bytes b) in
     let r = subst (λ (cs : List Channel). Splits bytes cs u.packets (end_mark (length u.packets))) (sym c) (encoding-splits u bytes b) in
     same_trace t u c (⊎_elim
-    (λ (g : GoesOn t.channels t.packets u.packets (end_mark (length t.packets)) (end_mark (length u.packets))). sym (ended t.channels t.packets u.packets (length t.packets) (end_mark (length u.packets)) g).0)
-    (λ (g : GoesOn t.channels u.packets t.packets (end_mark (length u.packets)) (end_mark (length t.packets))). (ended t.channels u.packets t.packets (length u.packets) (end_mark (length t.packets)) g).0)
+    (λ (g : GoesOn t.channels t.packets u.packets (end_mark (length t.packets)) (end_mark (length u.packets))). sym
+    (ended t.channels t.packets u.packets (length t.packets) (end_mark (length u.packets)) g).0)
+    (λ (g : GoesOn t.channels u.packets t.packets (end_mark (length u.packets)) (end_mark (length t.packets))).
+    (ended t.channels u.packets t.packets (length u.packets) (end_mark (length t.packets)) g).0)
     (two-splits bytes t.channels t.packets u.packets (end_mark (length t.packets)) (end_mark (length u.packets)) s r))
 
 pub reads_back : ReadsBack
@@ -120,7 +142,8 @@ as-long : {X : Type 0} (front all others : List X) → all ≡ front ++ others �
 as-long front all [] e l = e ∙ append-nil front
 as-long front all (x ∷ xs) e l = absurd (omega (arith, ap length e, length-append front (x ∷ xs)))
 
-one-longest : (bytes : List ℕ) (cs : List Channel) (ps qs : List Packet) (r s : List ℕ) → SplitsLongest bytes cs ps r → SplitsLongest bytes cs qs s → ps ≡ qs
+one-longest : (bytes : List ℕ) (cs : List Channel) (ps qs : List Packet) (r s : List ℕ) → SplitsLongest bytes cs ps r
+    → SplitsLongest bytes cs qs s → ps ≡ qs
 one-longest bytes cs ps qs r s a b = ⊎_elim
     (λ (g : GoesOn cs ps qs r s). sym (as-long ps qs g.others g.whole (a.most qs s b.splits)))
     (λ (g : GoesOn cs qs ps s r). as-long qs ps g.others g.whole (b.most ps r a.splits))
@@ -131,10 +154,12 @@ both-behind bytes a b p q =
     let c = same-table bytes p.channels q.channels p.packets q.packets p.rest q.rest p.longest.splits q.longest.splits in
     let there = subst (λ (cs : List Channel). SplitsLongest bytes cs q.packets q.rest) (sym c) q.longest in
     let ps = one-longest bytes p.channels p.packets q.packets p.rest q.rest p.longest there in
-    p.place ∙ ap (λ (xs : List Packet). length (header_bytes p.channels) + length (flat_map (packet_bytes p.channels) xs)) ps ∙ ap (λ (cs : List Channel). length (header_bytes cs) + length (flat_map (packet_bytes cs) q.packets)) c ∙ sym q.place
+    p.place ∙ ap (λ (xs : List Packet). length (header_bytes p.channels) + length (flat_map (packet_bytes p.channels) xs)) ps
+    ∙ ap (λ (cs : List Channel). length (header_bytes cs) + length (flat_map (packet_bytes cs) q.packets)) c ∙ sym q.place
 
 headed : (bytes : List ℕ) (at : ℕ) → HasNoHeader bytes → IsBehindPackets bytes at → ⊥
-headed bytes at none p = none p.channels (flat_map (packet_bytes p.channels) p.packets ++ p.rest) p.longest.splits.table p.longest.splits.parts
+headed bytes at none p = none p.channels (flat_map (packet_bytes p.channels) p.packets ++ p.rest) p.longest.splits.table
+    p.longest.splits.parts
 
 pub one_place : OnePlace
 one_place bytes a b (inl p) (inl q) = p.1 ∙ sym q.1
@@ -148,64 +173,96 @@ All-middle cs front q qs each =
     subst (IsPacket cs) (get_or_at front q qs q (length front) refl) (each (length front) q (omega (arith, length-append front (q ∷ qs))))
 
 -- behind all packets none goes on
-none-behind : (cs : List Channel) (bytes rest left : List ℕ) (ps qs : List Packet) → AreAll cs bytes ps rest → All (IsPacket cs) qs → Alternates qs → GoesOn cs ps qs rest left → (qs ≡ ps) × (rest ≡ left)
+none-behind : (cs : List Channel) (bytes rest left : List ℕ) (ps qs : List Packet) → AreAll cs bytes ps rest → All (IsPacket cs) qs
+    → Alternates qs → GoesOn cs ps qs rest left → (qs ≡ ps) × (rest ≡ left)
 none-behind cs bytes rest left ps qs all each alternate g = cases g.others g.whole g.parts
   where
     cases : (others : List Packet) → qs ≡ ps ++ others → rest ≡ flat_map (packet_bytes cs) others ++ left → (qs ≡ ps) × (rest ≡ left)
     cases [] whole parts = (whole ∙ append-nil ps, parts)
     cases (q ∷ others) whole parts =
         let grouped : qs ≡ (ps ++ q ∷ []) ++ others = whole ∙ sym (append_assoc ps (q ∷ []) others) in
-        absurd (all.last q (flat_map (packet_bytes cs) others ++ left) (All-middle cs ps q others (subst (All (IsPacket cs)) whole each)) (alternates-front (ps ++ q ∷ []) others (subst Alternates grouped alternate)) (parts ∙ regroup cs q others left))
+        absurd (all.last q (flat_map (packet_bytes cs) others ++ left) (All-middle cs ps q others (subst (All (IsPacket cs)) whole each))
+        (alternates-front (ps ++ q ∷ []) others (subst Alternates grouped alternate)) (parts ∙ regroup cs q others left))
 
 -- the header and all packets behind it
-pub all-split : (cs : List Channel) (bytes body rest : List ℕ) (ps : List Packet) → IsTable cs → bytes ≡ header_bytes cs ++ body → AreAll cs body ps rest → Splits bytes cs ps rest
-all-split cs bytes body rest ps table whole all = record { table = table; each = all.each; alternate = all.alternate; parts = whole ∙ ap (λ bs. header_bytes cs ++ bs) all.parts }
+pub all-split : (cs : List Channel) (bytes body rest : List ℕ) (ps : List Packet) → IsTable cs → bytes ≡ header_bytes cs ++ body
+    → AreAll cs body ps rest → Splits bytes cs ps rest
+all-split cs bytes body rest ps table whole all = record {
+  table = table;
+  each = all.each;
+  alternate = all.alternate;
+  parts = whole
+      ∙ ap (λ bs. header_bytes cs ++ bs) all.parts;
+}
 
-pub all-longest : (cs : List Channel) (bytes body rest : List ℕ) (ps : List Packet) → IsTable cs → bytes ≡ header_bytes cs ++ body → AreAll cs body ps rest → SplitsLongest bytes cs ps rest
+pub all-longest : (cs : List Channel) (bytes body rest : List ℕ) (ps : List Packet) → IsTable cs → bytes ≡ header_bytes cs ++ body
+    → AreAll cs body ps rest → SplitsLongest bytes cs ps rest
 all-longest cs bytes body rest ps table whole all =
     let mine = all-split cs bytes body rest ps table whole all in
     record {
       splits = mine;
       most = λ more left other. ⊎_elim
-          (λ (g : GoesOn cs ps more rest left). let same = ap length (none-behind cs body rest left ps more all other.each other.alternate g).0 in omega arith)
+          (λ (g : GoesOn cs ps more rest left). let same = ap length (none-behind cs body rest left ps more all other.each other.alternate
+          g).0 in omega arith)
           (λ (g : GoesOn cs more ps left rest). longer more ps g.others g.whole)
           (two-splits bytes cs ps more rest left mine other);
     }
 
 -- where the end doesn't stand, no trace is encoded
-pub no-end : (cs : List Channel) (bytes body rest : List ℕ) (ps : List Packet) → IsTable cs → bytes ≡ header_bytes cs ++ body → AreAll cs body ps rest → ((length ps < 2 ^ 32) × (rest ≡ end_mark (length ps)) → ⊥) → (t : Trace) → Encodes t bytes → ⊥
+pub no-end : (cs : List Channel) (bytes body rest : List ℕ) (ps : List Packet) → IsTable cs → bytes ≡ header_bytes cs ++ body
+    → AreAll cs body ps rest → ((length ps < 2 ^ 32) × (rest ≡ end_mark (length ps)) → ⊥) → (t : Trace) → Encodes t bytes → ⊥
 no-end cs bytes body rest ps table whole all never t code =
     let mine = all-split cs bytes body rest ps table whole all in
     let there = encoding-splits t bytes code in
     let c = same-table bytes t.channels cs t.packets ps (end_mark (length t.packets)) rest there mine in
     let moved = subst (λ (ds : List Channel). Splits bytes ds t.packets (end_mark (length t.packets))) c there in
     let same : (t.packets ≡ ps) × (rest ≡ end_mark (length t.packets)) = ⊎_elim
-    (λ (g : GoesOn cs ps t.packets rest (end_mark (length t.packets))). none-behind cs body rest (end_mark (length t.packets)) ps t.packets all moved.each moved.alternate g)
-    (λ (g : GoesOn cs t.packets ps (end_mark (length t.packets)) rest). (let e = ended cs t.packets ps (length t.packets) rest g in (sym e.0, sym e.1)))
+    (λ (g : GoesOn cs ps t.packets rest (end_mark (length t.packets))). none-behind cs body rest (end_mark (length t.packets)) ps t.packets
+    all moved.each moved.alternate g)
+    (λ (g : GoesOn cs t.packets ps (end_mark (length t.packets)) rest).
+    (let e = ended cs t.packets ps (length t.packets) rest g in (sym e.0, sym e.1)))
     (two-splits bytes cs ps t.packets rest (end_mark (length t.packets)) mine moved) in
-    never (subst (λ (qs : List Packet). length qs < 2 ^ 32) same.0 code.0.few, same.1 ∙ ap (λ (qs : List Packet). end_mark (length qs)) same.0)
+    never (
+      subst (λ (qs : List Packet). length qs < 2 ^ 32) same.0 code.0.few,
+      same.1
+          ∙ ap (λ (qs : List Packet). end_mark (length qs)) same.0,
+    )
 
 -- the place that is left behind by the rest
-pub place-behind : (cs : List Channel) (bytes body rest : List ℕ) (ps : List Packet) (at : ℕ) → IsTable cs → bytes ≡ header_bytes cs ++ body → AreAll cs body ps rest → at ≡ length bytes - length rest → IsBehindPackets bytes at
+pub place-behind : (cs : List Channel) (bytes body rest : List ℕ) (ps : List Packet) (at : ℕ) → IsTable cs → bytes ≡ header_bytes cs ++ body
+    → AreAll cs body ps rest → at ≡ length bytes - length rest → IsBehindPackets bytes at
 place-behind cs bytes body rest ps at table whole all e = record {
   channels = cs;
   packets = ps;
   rest = rest;
   longest = all-longest cs bytes body rest ps table whole all;
-  place = omega (arith, e, ap length whole, length-append (header_bytes cs) body, ap length all.parts, length-append (flat_map (packet_bytes cs) ps) rest);
+  place = omega (
+    arith,
+    e,
+    ap length whole,
+    length-append (header_bytes cs) body,
+    ap length all.parts,
+    length-append
+        (flat_map (packet_bytes cs) ps) rest,
+  );
 }
 
 -- where it stands, the trace is read
-pub all-encoded : (cs : List Channel) (bytes body rest : List ℕ) (ps : List Packet) → IsTable cs → bytes ≡ header_bytes cs ++ body → AreAll cs body ps rest → (length ps < 2 ^ 32) × (rest ≡ end_mark (length ps)) → Encodes (record { channels = cs; packets = ps }) bytes
+pub all-encoded : (cs : List Channel) (bytes body rest : List ℕ) (ps : List Packet) → IsTable cs → bytes ≡ header_bytes cs ++ body
+    → AreAll cs body ps rest → (length ps < 2 ^ 32) × (rest ≡ end_mark (length ps)) → Encodes (record { channels = cs; packets = ps }) bytes
 all-encoded cs bytes body rest ps table whole all (few, end) = (
   record { table = table; well_formed = record { packets = all.each; alternate = all.alternate }; few = few },
-  ap (λ bs. header_bytes cs ++ (flat_map (packet_bytes cs) ps ++ bs)) (sym end) ∙ ap (λ bs. header_bytes cs ++ bs) (sym all.parts) ∙ sym whole,
+  ap (λ bs. header_bytes cs ++ (flat_map (packet_bytes cs) ps ++ bs)) (sym end) ∙ ap (λ bs. header_bytes cs ++ bs) (sym all.parts)
+      ∙ sym whole,
 )
 
 -- ---- a loop over packets
 -- one packet more
-pub parts-push : (cs : List Channel) (front new : List Packet) (p : Packet) (bytes rest after : List ℕ) → bytes ≡ flat_map (packet_bytes cs) front ++ rest → rest ≡ packet_bytes cs p ++ after → new ≡ front ++ p ∷ []
+pub parts-push : (cs : List Channel) (front new : List Packet) (p : Packet) (bytes rest after : List ℕ) → bytes
+    ≡ flat_map (packet_bytes cs) front ++ rest → rest ≡ packet_bytes cs p ++ after → new ≡ front ++ p ∷ []
     → bytes ≡ flat_map (packet_bytes cs) new ++ after
 parts-push cs front new p bytes rest after parts here push =
-    let spelled : flat_map (packet_bytes cs) new ≡ flat_map (packet_bytes cs) front ++ packet_bytes cs p = ap (flat_map (packet_bytes cs)) push ∙ sym (flat_map_more (packet_bytes cs) [] front p) in
-    parts ∙ ap (λ (t : List ℕ). flat_map (packet_bytes cs) front ++ t) here ∙ sym (append_assoc (flat_map (packet_bytes cs) front) (packet_bytes cs p) after) ∙ ap (λ (t : List ℕ). t ++ after) (sym spelled)
+    let spelled : flat_map (packet_bytes cs) new ≡ flat_map (packet_bytes cs) front
+    ++ packet_bytes cs p = ap (flat_map (packet_bytes cs)) push ∙ sym (flat_map_more (packet_bytes cs) [] front p) in
+    parts ∙ ap (λ (t : List ℕ). flat_map (packet_bytes cs) front ++ t) here
+    ∙ sym (append_assoc (flat_map (packet_bytes cs) front) (packet_bytes cs p) after) ∙ ap (λ (t : List ℕ). t ++ after) (sym spelled)

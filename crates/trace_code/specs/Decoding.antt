@@ -53,4 +53,5 @@ OnePlace = (bytes : List ℕ) (a b : ℕ) → IsFaultAt bytes a → IsFaultAt by
 
 -- what is encoded decodes to itself, unless memory runs out
 abbrev pub ReadsBack : Type 0
-ReadsBack = (t : Trace) (result : Result Trace CodeError) → HasEncoding t → Decodes (encode t) result → (result ≡ Ok t) ⊎ (result ≡ Err Memory)
+ReadsBack = (t : Trace) (result : Result Trace CodeError) → HasEncoding t → Decodes (encode t) result → (result ≡ Ok t)
+    ⊎ (result ≡ Err Memory)

@@ -13,7 +13,8 @@ overwritten bytes at piece = take at bytes ++ (piece ++ drop (at + length piece)
 unfoldable pub picked : ℕ → ℕ → ℕ → List Channel → List ℕ → List ℕ
 picked listed starts c [] numbers = []
 picked listed starts c (channel ∷ channels) numbers = if has listed c
-    then (if has starts c then take (length channel.widths) numbers else []) ++ picked listed starts (c + 1) channels (drop (length channel.widths) numbers)
+    then (if has starts c then take (length channel.widths) numbers else [])
+    ++ picked listed starts (c + 1) channels (drop (length channel.widths) numbers)
     else picked listed starts (c + 1) channels numbers
 
 -- a packet of these starts and ends

@@ -30,8 +30,10 @@ fn next_packet<'a>(
     requires few { length channels.now ≤ 32 }
     requires each { All IsChannel channels.now }
     ensures found { IfOk result (λ o. IfSome o (λ x. IsPacket channels.now x.0 × (bytes.now ≡ packet_bytes channels.now x.0 ++ x.2.now))) }
-    ensures follows { IfOk result (λ o. IfSome o (λ x. (ps : List Packet) → Alternates ps → InFlight ps flying → Alternates (ps ++ x.0 ∷ []) × InFlight (ps ++ x.0 ∷ []) x.1)) }
-    ensures none { IfOk result (λ o. IfNone o ((ps : List Packet) (p : Packet) (rest : List ℕ) → InFlight ps flying → Alternates (ps ++ p ∷ []) → IsPacket channels.now p → bytes.now ≢ packet_bytes channels.now p ++ rest)) }
+    ensures follows { IfOk result (λ o. IfSome o (λ x. (ps : List Packet) → Alternates ps → InFlight ps flying → Alternates (ps ++ x.0 ∷ [])
+        × InFlight (ps ++ x.0 ∷ []) x.1)) }
+    ensures none { IfOk result (λ o. IfNone o ((ps : List Packet) (p : Packet) (rest : List ℕ) → InFlight ps flying
+        → Alternates (ps ++ p ∷ []) → IsPacket channels.now p → bytes.now ≢ packet_bytes channels.now p ++ rest)) }
 {
     match read_packet(alloc, channels, bytes) {
         Ok((packet, rest)) => match in_flight_after(flying, packet.starts, packet.ends) {

@@ -5,7 +5,8 @@ ghost use Rattle.std.specs.List.{AllPairs, list_all, Any};
 ghost use Rattle.trace_model.specs.declared.channel.Channel.{Channel};
 ghost use Rattle.trace_model.specs.Channel.{is_letter, is_letter_or_digit, IsTable, content_bytes};
 ghost use Rattle.trace_code.specs.Encoding.{header_bytes};
-ghost use Rattle.trace_code.specs.Reading.{Gives, magic_at, dir_at, counted_at, is_width, is_name, are_widths, name_at, widths_at, channel_at, channels_at, count_at, header_at, AreChannels};
+ghost use Rattle.trace_code.specs.Reading.{Gives, magic_at, dir_at, counted_at, is_width, is_name, are_widths, name_at, widths_at};
+ghost use Rattle.trace_code.specs.Reading.{channel_at, channels_at, count_at, header_at, AreChannels};
 
 use crate::error::{CodeError, FAULT};
 use crate::number::byte_count;

@@ -40,7 +40,8 @@ fn read_start<'a>(
     bytes: &'a [u8],
 ) -> Result<&'a [u8], CodeError>
     requires { All (λ w. w ≤ 128) channel.now.widths }
-    ensures { Gives (λ rest. (numbers.new.items, rest.now)) result (with_front numbers.old.items (numbers_at (if starts then channel.now.widths else []) bytes.now)) }
+    ensures { Gives (λ rest. (numbers.new.items, rest.now)) result (with_front numbers.old.items
+        (numbers_at (if starts then channel.now.widths else []) bytes.now)) }
 {
     if starts {
         read_content(numbers, channel.widths.as_slice(), bytes)

@@ -67,7 +67,8 @@ fn write_start(buf: &mut [u8], at: usize, widths: &[u8], content: &[u128], start
     requires small { All (λ w. w ≤ 128) widths.now }
     requires one_each { length content.now ≡ length widths.now }
     requires room { at + sum_by byte_count (if starts then widths.now else []) ≤ length buf.old }
-    ensures bytes { buf.new ≡ overwritten buf.old at (number_bytes (if starts then widths.now else []) (if starts then content.now else [])) }
+    ensures bytes { buf.new ≡ overwritten buf.old at
+        (number_bytes (if starts then widths.now else []) (if starts then content.now else [])) }
     ensures place { result ≡ at + length (number_bytes (if starts then widths.now else []) (if starts then content.now else [])) }
 {
     if starts {
@@ -90,8 +91,10 @@ fn write_contents(
     requires some { (c : ℕ) → has starts c ≡ true → has listed c ≡ true }
     requires one_each { length (widths_under listed channels.now) ≤ length contents.now }
     requires room { at + sum_by byte_count (widths_under starts channels.now) ≤ length buf.old }
-    ensures bytes { buf.new ≡ overwritten buf.old at (number_bytes (widths_under starts channels.now) (picked listed starts 0 channels.now contents.now)) }
-    ensures place { result ≡ at + length (number_bytes (widths_under starts channels.now) (picked listed starts 0 channels.now contents.now)) }
+    ensures bytes { buf.new ≡ overwritten buf.old at (number_bytes (widths_under starts channels.now)
+        (picked listed starts 0 channels.now contents.now)) }
+    ensures place { result ≡ at + length (number_bytes (widths_under starts channels.now)
+        (picked listed starts 0 channels.now contents.now)) }
 {
     let mut place = at;
     let mut rest = contents;
@@ -122,7 +125,8 @@ pub(crate) fn write_events(
     requires some { (c : ℕ) → has starts c ≡ true → has listed c ≡ true }
     requires one_each { length (widths_under listed channels.now) ≤ length contents.now }
     requires room { head_len (length channels.now) + sum_by byte_count (widths_under starts channels.now) ≤ length buf.old }
-    ensures bytes { buf.new ≡ events_bytes channels.now starts ends (picked listed starts 0 channels.now contents.now) ++ drop result buf.old }
+    ensures bytes { buf.new ≡ events_bytes channels.now starts ends (picked listed starts 0 channels.now contents.now)
+        ++ drop result buf.old }
     ensures place { result ≡ length (events_bytes channels.now starts ends (picked listed starts 0 channels.now contents.now)) }
 {
     let tagged = write_at(buf, 0, &[1]);

@@ -1,3 +1,5 @@
+//! Worked traces, byte by byte.
+
 use std::alloc::Global;
 use std::test::Fail;
 use trace_code::{CodeError, decode, encode, end_mark, header_bytes, write_packet};

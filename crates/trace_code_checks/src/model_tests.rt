@@ -1,3 +1,5 @@
+//! Each rule of a well-formed trace, broken once.
+
 use std::alloc::Global;
 use std::test::Fail;
 use trace_model::{Channel, Dir, Packet, Trace, well_formed};

@@ -19,7 +19,8 @@ no-bit-from-has mask c h = let n = eqb-false (bit_at mask c) 1 h in let l = bit_
 pub cond-has : (mask c : ℕ) → cond (has mask c) 1 0 ≡ bit_at mask c
 cond-has mask c = ⊎_elim
     (λ (h : bit_at mask c ≡ 1). rw (eq-eqb (bit_at mask c) 1 h, h))
-    (λ (h : bit_at mask c ≡ 1 → ⊥). let l = bit_at-lt mask c in let z : bit_at mask c ≡ 0 = omega arith in rw (ne_eqb (bit_at mask c) 1 h, z))
+    (λ (h : bit_at mask c ≡ 1 → ⊥). let l = bit_at-lt mask c in let z : bit_at mask c ≡ 0 = omega arith
+    in rw (ne_eqb (bit_at mask c) 1 h, z))
     (cases_eq (bit_at mask c) 1)
 
 -- a mask that isn't 0 has a bit
@@ -55,7 +56,8 @@ bits-within a b la lb h c =
     let none : bit_at a c - bit_at b c ≡ 0 = rw (← bit_at-without a b la lb c, h) (bit_at-zero c) in
     omega arith
 
-pub some-bit-without : (a b : ℕ) → a < 2 ^ 128 → b < 2 ^ 128 → bit_and a (2 ^ 128 - 1 - b) ≢ 0 → (c : ℕ) × (bit_at a c ≡ 1) × (bit_at b c ≡ 0)
+pub some-bit-without : (a b : ℕ) → a < 2 ^ 128 → b < 2 ^ 128 → bit_and a (2 ^ 128 - 1 - b) ≢ 0 → (c : ℕ) × (bit_at a c ≡ 1)
+    × (bit_at b c ≡ 0)
 some-bit-without a b la lb h =
     let found = some-bit (bit_and a (2 ^ 128 - 1 - b)) (omega (arith, and_le_l a (2 ^ 128 - 1 - b))) h in
     let one : bit_at a found.0 - bit_at b found.0 ≡ 1 = rw (← bit_at-without a b la lb found.0) found.1 in

@@ -1,5 +1,7 @@
 -- Laws of rows: their trace grows row by row, alternates, and is well-formed.
-use Rattle.std.proofs.Common.{◌≡◌, ◌≢◌, ◌⊎◌, ℕ, zero, suc, ◌+◌, ◌<◌, ◌≤◌, Bool, true, false, cond, not, eqb, ◌&&◌, List, [], ◌∷◌, ◌++◌, Option, Some, None, All, length, take, drop, get_or, slice_get, map, inl, inr, ⊎_elim, refl, ap, sym, subst, ◌∙◌, append_assoc, arith}
+use Rattle.std.proofs.Common.{◌≡◌, ◌≢◌, ◌⊎◌, ℕ, zero, suc, ◌+◌, ◌<◌, ◌≤◌, Bool, true, false, cond, not, eqb, ◌&&◌, List, [], ◌∷◌, ◌++◌}
+use Rattle.std.proofs.Common.{Option, Some, None, All, length, take, drop, get_or, slice_get, map, inl, inr, ⊎_elim, refl, ap, sym, subst}
+use Rattle.std.proofs.Common.{◌∙◌, append_assoc, arith}
 use Rattle.std.specs.Int.{bit_at}
 use Rattle.std.specs.List.{filter, flat_map, enumerate_from}
 use Rattle.std.proofs.lemmas.Bool.{cases_lt, false≢true, eqb-true, eqb-false}
@@ -17,9 +19,11 @@ use Rattle.trace_model.specs.Counting.{has}
 use Rattle.trace_model.specs.Laws.{RecordedOnce, RowAddsItsPacket, KeepsInFlight, RowsAreWellFormed, StartsWaitForEnds}
 use Rattle.trace_model.specs.Packet.{does, count, content_of, widths_of, widths_under, Fit, IsPacket}
 use Rattle.trace_model.specs.Recording.{row_does, shown, has_event, contents_under, packet_of, packets_of, recorded, transactions}
-use Rattle.trace_model.specs.Row.{all_widths, content_at, sink_valid, completes, is_in_flight, row_before, flies_after, IsOver, IsMarked, AreRows}
+use Rattle.trace_model.specs.Row.{all_widths, content_at, sink_valid, completes, is_in_flight, row_before, flies_after, IsOver, IsMarked}
+use Rattle.trace_model.specs.Row.{AreRows}
 use Rattle.trace_model.specs.Trace.{Alternates}
-use Rattle.trace_model.proofs.CountingLemmas.{count-cons, count-suc, count-mono, nth, nth-count, nth-front, nth-within, slice_get-last, slice_get-append, take-suc_get}
+use Rattle.trace_model.proofs.CountingLemmas.{count-cons, count-suc, count-mono, nth, nth-count, nth-front, nth-within, slice_get-last}
+use Rattle.trace_model.proofs.CountingLemmas.{slice_get-append, take-suc_get}
 use Rattle.trace_model.proofs.MaskLemmas.{cond-has}
 use Rattle.trace_model.proofs.FlightLemmas.{alternates-nil, alternates-push_by}
 use Rattle.trace_model.proofs.ContentsLemmas.{enumerate-append, fit-append, fit-front, fit-length, fit-rest}
@@ -27,7 +31,9 @@ use Rattle.trace_model.proofs.ContentsLemmas.{enumerate-append, fit-append, fit-
 -- ---- a row more
 pub row-adds : RowAddsItsPacket
 row-adds channels rows row =
-    ap (map (packet_of channels)) (filter-append has_event rows (row ∷ [])) ∙ map-append (packet_of channels) (filter has_event rows) (filter has_event (row ∷ [])) ∙ ap (λ ps. packets_of channels rows ++ ps) (one (has_event row))
+    ap (map (packet_of channels)) (filter-append has_event rows (row ∷ []))
+    ∙ map-append (packet_of channels) (filter has_event rows) (filter has_event (row ∷ []))
+    ∙ ap (λ ps. packets_of channels rows ++ ps) (one (has_event row))
   where
     one : (b : Bool) → map (packet_of channels) (cond b (row ∷ []) []) ≡ cond b (packet_of channels row ∷ []) []
     one true = refl
@@ -58,13 +64,18 @@ does-same Start c channels row = refl
 does-same End c channels row = refl
 
 -- packets have as many as their rows
-pub same-counts : (kind : Kind) (c : ℕ) (channels : List Channel) (rows : List Row) → count kind c (packets_of channels rows) ≡ shown kind c rows
+pub same-counts : (kind : Kind) (c : ℕ) (channels : List Channel) (rows : List Row) → count kind c (packets_of channels rows)
+    ≡ shown kind c rows
 same-counts kind c channels [] = refl
 same-counts kind c channels (row ∷ rows) = one (has_event row) refl (same-counts kind c channels rows)
   where
-    one : (b : Bool) → has_event row ≡ b → count kind c (packets_of channels rows) ≡ shown kind c rows → count kind c (map (packet_of channels) (cond b (row ∷ filter has_event rows) (filter has_event rows))) ≡ shown kind c (row ∷ rows)
-    one true h same = count-cons (does kind c) (packet_of channels row) (packets_of channels rows) ∙ ap (λ b. cond b 1 0 + count kind c (packets_of channels rows)) (does-same kind c channels row) ∙ ap (λ n. cond (row_does kind c row) 1 0 + n) same ∙ sym (count-cons (row_does kind c) row rows)
-    one false h same = same ∙ (let n = count-cons (row_does kind c) row rows in let z : flag (row_does kind c row) ≡ 0 = ap flag (quiet kind c row h) in omega arith)
+    one : (b : Bool) → has_event row ≡ b → count kind c (packets_of channels rows) ≡ shown kind c rows
+        → count kind c (map (packet_of channels) (cond b (row ∷ filter has_event rows) (filter has_event rows))) ≡ shown kind c (row ∷ rows)
+    one true h same = count-cons (does kind c) (packet_of channels row) (packets_of channels rows)
+        ∙ ap (λ b. cond b 1 0 + count kind c (packets_of channels rows)) (does-same kind c channels row)
+        ∙ ap (λ n. cond (row_does kind c row) 1 0 + n) same ∙ sym (count-cons (row_does kind c) row rows)
+    one false h same = same ∙ (let n = count-cons (row_does kind c) row rows in let z : flag (row_does kind c row)
+        ≡ 0 = ap flag (quiet kind c row h) in omega arith)
 
 -- ---- what is in flight
 abbrev pub flying : List Row → ℕ → ℕ → ℕ
@@ -83,7 +94,8 @@ bits true false false k = record { on = omega arith; apart = omega arith; within
 bits false ready true k = absurd (false≢true (k refl))
 bits false ready false k = record { on = omega arith; apart = omega arith; within = omega arith }
 
-still : (rows : List Row) (n : ℕ) (row : Row) (c : ℕ) → KeepsInFlight rows → slice_get rows n ≡ Some row → flies_after (row_before rows n) c ≡ true → sink_valid row c ≡ true
+still : (rows : List Row) (n : ℕ) (row : Row) (c : ℕ) → KeepsInFlight rows → slice_get rows n ≡ Some row → flies_after (row_before rows n) c
+    ≡ true → sink_valid row c ≡ true
 still rows n row c keeps at flies = cases (row_before rows n) refl flies
   where
     cases : (before : Option Row) → row_before rows n ≡ before → flies_after before c ≡ true → sink_valid row c ≡ true
@@ -96,10 +108,12 @@ record Turn (rows : List Row) (n : ℕ) (row : Row) (c : ℕ) : Type 0 where
   apart : flying rows n c + bit_at row.starts c ≤ 1
   within : bit_at row.ends c ≤ flying rows n c + bit_at row.starts c
 
-turn : (rows : List Row) (n : ℕ) (row : Row) (c : ℕ) → IsMarked (row_before rows n) row → KeepsInFlight rows → slice_get rows n ≡ Some row → Turn rows n row c
+turn : (rows : List Row) (n : ℕ) (row : Row) (c : ℕ) → IsMarked (row_before rows n) row → KeepsInFlight rows → slice_get rows n ≡ Some row
+    → Turn rows n row c
 turn rows n row c marked keeps at =
     let b = bits (sink_valid row c) (has row.readies c) (flies_after (row_before rows n) c) (still rows n row c keeps at) in
-    let s : bit_at row.starts c ≡ cond (sink_valid row c && not (flies_after (row_before rows n) c)) 1 0 = sym (cond-has row.starts c) ∙ ap (λ t. cond t 1 0) (marked.starts c) in
+    let s : bit_at row.starts c ≡ cond (sink_valid row c && not (flies_after (row_before rows n) c)) 1 0 = sym (cond-has row.starts c)
+    ∙ ap (λ t. cond t 1 0) (marked.starts c) in
     let e : bit_at row.ends c ≡ cond (completes row c) 1 0 = sym (cond-has row.ends c) ∙ ap (λ t. cond t 1 0) (marked.ends c) in
     let next : flying rows (suc n) c ≡ flag (is_in_flight row c) = ap (λ (o : Option Row). flag (flies_after o c)) at in
     record { on = omega (arith, b.on, s, e, next); apart = omega (arith, b.apart, s); within = omega (arith, b.within, s, e) }
@@ -111,10 +125,14 @@ flying-first rows c = refl
 abbrev Counted : List Row → ℕ → Type 0
 Counted rows n = (c : ℕ) → shown Start c (take n rows) ≡ shown End c (take n rows) + flying rows n c
 
-counted-suc : (rows : List Row) (n : ℕ) (row : Row) → Counted rows n → ((c : ℕ) → Turn rows n row c) → slice_get rows n ≡ Some row → Counted rows (suc n)
+counted-suc : (rows : List Row) (n : ℕ) (row : Row) → Counted rows n → ((c : ℕ) → Turn rows n row c) → slice_get rows n ≡ Some row
+    → Counted rows (suc n)
 counted-suc rows n row before turns at c =
-    let s : shown Start c (take (suc n) rows) ≡ shown Start c (take n rows) + bit_at row.starts c = count-suc (row_does Start c) rows n row at ∙ ap (λ k. shown Start c (take n rows) + k) (cond-has row.starts c) in
-    let e : shown End c (take (suc n) rows) ≡ shown End c (take n rows) + bit_at row.ends c = count-suc (row_does End c) rows n row at ∙ ap (λ k. shown End c (take n rows) + k) (cond-has row.ends c) in
+    let s : shown Start c (take (suc n) rows) ≡ shown Start c (take n rows)
+    + bit_at row.starts c = count-suc (row_does Start c) rows n row at
+    ∙ ap (λ k. shown Start c (take n rows) + k) (cond-has row.starts c) in
+    let e : shown End c (take (suc n) rows) ≡ shown End c (take n rows) + bit_at row.ends c = count-suc (row_does End c) rows n row at
+    ∙ ap (λ k. shown End c (take n rows) + k) (cond-has row.ends c) in
     omega (arith, s, e, before c, (turns c).on)
 
 row-at : (rows : List Row) (n : ℕ) → n < length rows → (row : Row) × (slice_get rows n ≡ Some row)
@@ -123,7 +141,8 @@ row-at rows n l = ⊎_elim
     (λ (w : (length rows ≤ n) × (slice_get rows n ≡ None)). absurd (omega (arith, w.0)))
     (slice_get_cases rows n).1
 
-pub counted : (channels : List Channel) (rows : List Row) → AreRows channels rows → KeepsInFlight rows → (n : ℕ) → n ≤ length rows → Counted rows n
+pub counted : (channels : List Channel) (rows : List Row) → AreRows channels rows → KeepsInFlight rows → (n : ℕ) → n ≤ length rows
+    → Counted rows n
 counted channels rows are keeps zero l = λ c. (let z = flying-first rows c in omega arith)
 counted channels rows are keeps (suc n) l =
     let r = row-at rows n (omega arith) in
@@ -144,31 +163,41 @@ under mask n ds = flat_map (λ (c : ℕ × Channel). cond (has mask c.0) c.1.wid
 abbrev taken_of : ℕ → List Channel → List ℕ → ℕ → List Channel → List ℕ
 taken_of mask cs numbers n ds = flat_map (λ (c : ℕ × Channel). cond (has mask c.0) (content_at cs numbers c.0) []) (enumerate_from n ds)
 
-pub content-behind : (front ds cs : List Channel) (d : Channel) (numbers : List ℕ) (n : ℕ) → cs ≡ front ++ d ∷ ds → n ≡ length front → content_at cs numbers n ≡ take (length d.widths) (drop (length (all_widths front)) numbers)
+pub content-behind : (front ds cs : List Channel) (d : Channel) (numbers : List ℕ) (n : ℕ) → cs ≡ front ++ d ∷ ds → n ≡ length front
+    → content_at cs numbers n ≡ take (length d.widths) (drop (length (all_widths front)) numbers)
 content-behind front ds cs d numbers n e l =
     let at : slice_get cs n ≡ Some d =
-    ap (λ xs. slice_get xs n) (e ∙ sym (append_assoc front (d ∷ []) ds)) ∙ ap (slice_get ((front ++ d ∷ []) ++ ds)) l ∙ slice_get-append (front ++ d ∷ []) ds (length front) d (slice_get-last front d) in
+    ap (λ xs. slice_get xs n) (e ∙ sym (append_assoc front (d ∷ []) ds)) ∙ ap (slice_get ((front ++ d ∷ []) ++ ds)) l
+    ∙ slice_get-append (front ++ d ∷ []) ds (length front) d (slice_get-last front d) in
     let before : take n cs ≡ front = ap (take n) e ∙ take_at front (d ∷ ds) n (sym l) in
-    ap (λ (o : Option Channel). take (length (widths_of o)) (drop (length (all_widths (take n cs))) numbers)) at ∙ ap (λ xs. take (length d.widths) (drop (length (all_widths xs)) numbers)) before
+    ap (λ (o : Option Channel). take (length (widths_of o)) (drop (length (all_widths (take n cs))) numbers)) at
+    ∙ ap (λ xs. take (length d.widths) (drop (length (all_widths xs)) numbers)) before
 
 -- the content of a channel fits its ports
-content-fits-at : (front ds cs : List Channel) (d : Channel) (numbers : List ℕ) (n : ℕ) → cs ≡ front ++ d ∷ ds → n ≡ length front → Fit (all_widths cs) numbers → Fit d.widths (content_at cs numbers n)
+content-fits-at : (front ds cs : List Channel) (d : Channel) (numbers : List ℕ) (n : ℕ) → cs ≡ front ++ d ∷ ds → n ≡ length front
+    → Fit (all_widths cs) numbers → Fit d.widths (content_at cs numbers n)
 content-fits-at front ds cs d numbers n e l f =
-    let whole : all_widths cs ≡ all_widths front ++ (d.widths ++ all_widths ds) = ap all_widths e ∙ flat_map-append (λ (c : Channel). c.widths) front (d ∷ ds) in
+    let whole : all_widths cs ≡ all_widths front ++ (d.widths ++ all_widths ds) = ap all_widths e
+    ∙ flat_map-append (λ (c : Channel). c.widths) front (d ∷ ds) in
     let pieces : Fit (all_widths front ++ (d.widths ++ all_widths ds)) numbers = subst (λ (ws : List ℕ). Fit ws numbers) whole f in
-    subst (Fit d.widths) (sym (content-behind front ds cs d numbers n e l)) (fit-front d.widths (all_widths ds) (drop (length (all_widths front)) numbers) (fit-rest (all_widths front) (d.widths ++ all_widths ds) numbers pieces))
+    subst (Fit d.widths) (sym (content-behind front ds cs d numbers n e l))
+    (fit-front d.widths (all_widths ds) (drop (length (all_widths front)) numbers)
+    (fit-rest (all_widths front) (d.widths ++ all_widths ds) numbers pieces))
 
 fit-one : (starts : Bool) (ws xs vs ys : List ℕ) → Fit ws xs → Fit vs ys → Fit (cond starts ws [] ++ vs) (cond starts xs [] ++ ys)
 fit-one true ws xs vs ys f g = fit-append ws vs xs ys f g
 fit-one false ws xs vs ys f g = g
 
 -- the contents of some channels in the middle of a table
-fit-from : (mask : ℕ) (cs : List Channel) (numbers : List ℕ) (front ds back : List Channel) (n : ℕ) → cs ≡ front ++ (ds ++ back) → n ≡ length front → Fit (all_widths cs) numbers → Fit (under mask n ds) (taken_of mask cs numbers n ds)
+fit-from : (mask : ℕ) (cs : List Channel) (numbers : List ℕ) (front ds back : List Channel) (n : ℕ) → cs ≡ front ++ (ds ++ back) → n
+    ≡ length front → Fit (all_widths cs) numbers → Fit (under mask n ds) (taken_of mask cs numbers n ds)
 fit-from mask cs numbers front [] back n e l f = tt
 fit-from mask cs numbers front (d ∷ ds) back n e l f =
     let grouped : cs ≡ (front ++ d ∷ []) ++ (ds ++ back) = e ∙ sym (append_assoc front (d ∷ []) (ds ++ back)) in
     let further : n + 1 ≡ length (front ++ d ∷ []) = omega (arith, l, length_push front d) in
-    fit-one (has mask n) d.widths (content_at cs numbers n) (under mask (n + 1) ds) (taken_of mask cs numbers (n + 1) ds) (content-fits-at front (ds ++ back) cs d numbers n e l f) (fit-from mask cs numbers (front ++ d ∷ []) ds back (n + 1) grouped further f)
+    fit-one (has mask n) d.widths (content_at cs numbers n) (under mask (n + 1) ds) (taken_of mask cs numbers (n + 1) ds)
+    (content-fits-at front (ds ++ back) cs d numbers n e l f) (fit-from mask cs numbers (front ++ d ∷ []) ds back (n + 1) grouped
+    further f)
 
 is-packet : (channels : List Channel) (row : Row) → IsOver channels row → has_event row ≡ true → IsPacket channels (packet_of channels row)
 is-packet channels row over h = record {
@@ -183,26 +212,38 @@ record Good (channels : List Channel) (ps : List Packet) : Type 0 where
   each : All (IsPacket channels) ps
   alternate : Alternates ps
 
-good-push : (channels : List Channel) (rows : List Row) (n : ℕ) (row : Row) → AreRows channels rows → KeepsInFlight rows → n ≤ length rows → slice_get rows n ≡ Some row → Good channels (packets_of channels (take n rows)) → has_event row ≡ true
+good-push : (channels : List Channel) (rows : List Row) (n : ℕ) (row : Row) → AreRows channels rows → KeepsInFlight rows → n ≤ length rows
+    → slice_get rows n ≡ Some row → Good channels (packets_of channels (take n rows)) → has_event row ≡ true
     → Good channels (packets_of channels (take n rows) ++ packet_of channels row ∷ [])
 good-push channels rows n row are keeps l at g h = record {
-  each = All-push (IsPacket channels) (packets_of channels (take n rows)) (packet_of channels row) g.each (is-packet channels row (are n row at).0 h);
+  each = All-push (IsPacket channels) (packets_of channels (take n rows)) (packet_of channels row) g.each
+      (is-packet channels row (are n row at).0 h);
   alternate = alternates-push_by (packets_of channels (take n rows)) (packet_of channels row) (flying rows n) g.alternate
-      (λ c. same-counts Start c channels (take n rows) ∙ counted channels rows are keeps n l c ∙ ap (λ k. k + flying rows n c) (sym (same-counts End c channels (take n rows))))
-      (record { starts = λ c. (turn rows n row c (are n row at).1 keeps at).apart; ends = λ c. (turn rows n row c (are n row at).1 keeps at).within });
+      (λ c. same-counts Start c channels (take n rows) ∙ counted channels rows are keeps n l c
+      ∙ ap (λ k. k + flying rows n c) (sym (same-counts End c channels (take n rows))))
+      (record {
+        starts = λ c. (turn rows n row c (are n row at).1 keeps at).apart;
+        ends = λ c.
+            (turn rows n row c (are n row at).1 keeps at).within;
+      });
 }
 
-good-suc : (channels : List Channel) (rows : List Row) (n : ℕ) (row : Row) → AreRows channels rows → KeepsInFlight rows → n ≤ length rows → slice_get rows n ≡ Some row → Good channels (packets_of channels (take n rows)) → (b : Bool) → has_event row ≡ b
+good-suc : (channels : List Channel) (rows : List Row) (n : ℕ) (row : Row) → AreRows channels rows → KeepsInFlight rows → n ≤ length rows
+    → slice_get rows n ≡ Some row → Good channels (packets_of channels (take n rows)) → (b : Bool) → has_event row ≡ b
     → Good channels (packets_of channels (take n rows) ++ cond b (packet_of channels row ∷ []) [])
 good-suc channels rows n row are keeps l at g true h = good-push channels rows n row are keeps l at g h
 good-suc channels rows n row are keeps l at g false h = subst (Good channels) (sym (append-nil (packets_of channels (take n rows)))) g
 
-good : (channels : List Channel) (rows : List Row) → AreRows channels rows → KeepsInFlight rows → (n : ℕ) → n ≤ length rows → Good channels (packets_of channels (take n rows))
+good : (channels : List Channel) (rows : List Row) → AreRows channels rows → KeepsInFlight rows → (n : ℕ) → n ≤ length rows
+    → Good channels (packets_of channels (take n rows))
 good channels rows are keeps zero l = record { each = λ k d below. absurd (omega arith); alternate = alternates-nil }
 good channels rows are keeps (suc n) l =
     let r = row-at rows n (omega arith) in
-    let more : packets_of channels (take (suc n) rows) ≡ packets_of channels (take n rows) ++ cond (has_event r.0) (packet_of channels r.0 ∷ []) [] = ap (packets_of channels) (take-suc_get rows n r.0 r.1) ∙ row-adds channels (take n rows) r.0 in
-    subst (Good channels) (sym more) (good-suc channels rows n r.0 are keeps (omega arith) r.1 (good channels rows are keeps n (omega arith)) (has_event r.0) refl)
+    let more : packets_of channels (take (suc n) rows) ≡ packets_of channels (take n rows)
+    ++ cond (has_event r.0) (packet_of channels r.0 ∷ []) [] = ap (packets_of channels) (take-suc_get rows n r.0 r.1)
+    ∙ row-adds channels (take n rows) r.0 in
+    subst (Good channels) (sym more) (good-suc channels rows n r.0 are keeps (omega arith) r.1
+    (good channels rows are keeps n (omega arith)) (has_event r.0) refl)
 
 pub well-formed : RowsAreWellFormed
 well-formed channels rows are keeps =
@@ -213,7 +254,8 @@ well-formed channels rows are keeps =
 
 -- ---- starts and ends
 -- where a channel starts, each transaction before has completed
-idle-at-start : (channels : List Channel) (rows : List Row) → AreRows channels rows → KeepsInFlight rows → (c t : ℕ) (row : Row) → slice_get rows t ≡ Some row → has row.starts c ≡ true → shown Start c (take t rows) ≡ shown End c (take t rows)
+idle-at-start : (channels : List Channel) (rows : List Row) → AreRows channels rows → KeepsInFlight rows → (c t : ℕ) (row : Row)
+    → slice_get rows t ≡ Some row → has row.starts c ≡ true → shown Start c (take t rows) ≡ shown End c (take t rows)
 idle-at-start channels rows are keeps c t row at h =
     let l = slice_get_within rows t row at in
     let k = counted channels rows are keeps t (omega arith) c in
@@ -236,7 +278,8 @@ starts-wait channels rows are keeps c j t u first second a b =
       row = found.item;
       ends = there;
       after = ⊎_elim
-          (λ (l : found.place < t). (let n = nth-count (row_does End c) rows j found.place found.item there in let m = count-mono (row_does End c) rows (suc found.place) t (omega arith) in absurd (omega arith)))
+          (λ (l : found.place < t). (let n = nth-count (row_does End c) rows j found.place found.item there
+          in let m = count-mono (row_does End c) rows (suc found.place) t (omega arith) in absurd (omega arith)))
           (λ (l : t ≤ found.place). l)
           (cases_lt found.place t);
       before = omega arith;
@@ -244,7 +287,8 @@ starts-wait channels rows are keeps c j t u first second a b =
 
 -- ---- what is recorded
 -- the content that a packet has of a channel that starts is what the row shows of it
-recorded-content : (cs front ds : List Channel) (d : Channel) (row : Row) (c : ℕ) → cs ≡ front ++ d ∷ ds → c ≡ length front → Fit (all_widths cs) row.contents → has row.starts c ≡ true
+recorded-content : (cs front ds : List Channel) (d : Channel) (row : Row) (c : ℕ) → cs ≡ front ++ d ∷ ds → c ≡ length front
+    → Fit (all_widths cs) row.contents → has row.starts c ≡ true
     → content_of cs (packet_of cs row) c ≡ content_at cs row.contents c
 recorded-content cs front ds d row c e l f h =
     let numbers = row.contents in
@@ -261,26 +305,34 @@ recorded-content cs front ds d row c e l f h =
     ∙ ap (λ b. taken_of mask cs numbers 0 front ++ (cond b mine [] ++ behind)) h in
     let before : take c cs ≡ front = ap (take c) e ∙ take_at front (d ∷ ds) c (sym l) in
     let first : length (taken_of mask cs numbers 0 front) ≡ length (widths_under mask (take c cs)) =
-    sym (fit-length (under mask 0 front) (taken_of mask cs numbers 0 front) (fit-from mask cs numbers [] front (d ∷ ds) 0 e refl f)) ∙ ap (λ xs. length (widths_under mask xs)) (sym before) in
+    sym (fit-length (under mask 0 front) (taken_of mask cs numbers 0 front) (fit-from mask cs numbers [] front (d ∷ ds) 0 e refl f))
+    ∙ ap (λ xs. length (widths_under mask xs)) (sym before) in
     let at : slice_get cs c ≡ Some d =
-    ap (λ xs. slice_get xs c) (e ∙ sym (append_assoc front (d ∷ []) ds)) ∙ ap (slice_get ((front ++ d ∷ []) ++ ds)) l ∙ slice_get-append (front ++ d ∷ []) ds (length front) d (slice_get-last front d) in
-    let long : length mine ≡ length (widths_of (slice_get cs c)) = sym (fit-length d.widths mine (content-fits-at front ds cs d numbers c e l f)) ∙ ap (λ (o : Option Channel). length (widths_of o)) (sym at) in
+    ap (λ xs. slice_get xs c) (e ∙ sym (append_assoc front (d ∷ []) ds)) ∙ ap (slice_get ((front ++ d ∷ []) ++ ds)) l
+    ∙ slice_get-append (front ++ d ∷ []) ds (length front) d (slice_get-last front d) in
+    let long : length mine ≡ length (widths_of (slice_get cs c)) = sym
+    (fit-length d.widths mine (content-fits-at front ds cs d numbers c e l f))
+    ∙ ap (λ (o : Option Channel). length (widths_of o)) (sym at) in
     ap (λ xs. take (length (widths_of (slice_get cs c))) (drop (length (widths_under mask (take c cs))) xs)) parts
-    ∙ ap (take (length (widths_of (slice_get cs c)))) (drop_at (taken_of mask cs numbers 0 front) (mine ++ behind) (length (widths_under mask (take c cs))) first)
+    ∙ ap (take (length (widths_of (slice_get cs c)))) (drop_at (taken_of mask cs numbers 0 front) (mine ++ behind)
+    (length (widths_under mask (take c cs))) first)
     ∙ take_at mine behind (length (widths_of (slice_get cs c))) long
 
-split-table : (cs : List Channel) (c : ℕ) → c < length cs → (front : List Channel) × (d : Channel) × (ds : List Channel) × (cs ≡ front ++ d ∷ ds) × (c ≡ length front)
+split-table : (cs : List Channel) (c : ℕ) → c < length cs → (front : List Channel) × (d : Channel) × (ds : List Channel)
+    × (cs ≡ front ++ d ∷ ds) × (c ≡ length front)
 split-table [] c l = absurd (omega arith)
 split-table (x ∷ xs) zero l = ([], x, xs, refl, refl)
 split-table (x ∷ xs) (suc c) l =
     let s = split-table xs c (omega arith) in
     (x ∷ s.0, s.1, s.2, ap (λ ys. x ∷ ys) s.3, ap suc s.4)
 
-same-content_of : (cs : List Channel) (row : Row) (c : ℕ) → IsOver cs row → has row.starts c ≡ true → content_of cs (packet_of cs row) c ≡ content_at cs row.contents c
+same-content_of : (cs : List Channel) (row : Row) (c : ℕ) → IsOver cs row → has row.starts c ≡ true → content_of cs (packet_of cs row) c
+    ≡ content_at cs row.contents c
 same-content_of cs row c over h =
     let l : c < length cs = ⊎_elim
     (λ (b : c < length cs). b)
-    (λ (b : length cs ≤ c). (let z : bit_at row.starts c ≡ 0 = bit_at_above row.starts (length cs) c over.starts b in let o = eqb-true (bit_at row.starts c) 1 h in absurd (omega arith)))
+    (λ (b : length cs ≤ c). (let z : bit_at row.starts c ≡ 0 = bit_at_above row.starts (length cs) c over.starts b
+    in let o = eqb-true (bit_at row.starts c) 1 h in absurd (omega arith)))
     (cases_lt c (length cs)) in
     let s = split-table cs c l in
     recorded-content cs s.0 s.2 s.1 row c s.3 s.4 over.contents h
@@ -288,7 +340,8 @@ same-content_of cs row c over h =
 abbrev Contents : Type 0
 Contents = List (List ℕ)
 
-one-more : (starts : Bool) (x y : List ℕ) (xs ys : Contents) → (starts ≡ true → x ≡ y) → xs ≡ ys → cond starts (x ∷ xs) xs ≡ cond starts (y ∷ ys) ys
+one-more : (starts : Bool) (x y : List ℕ) (xs ys : Contents) → (starts ≡ true → x ≡ y) → xs ≡ ys → cond starts (x ∷ xs) xs
+    ≡ cond starts (y ∷ ys) ys
 one-more true x y xs ys e f = ap (λ z. z ∷ xs) (e refl) ∙ ap (λ zs. y ∷ zs) f
 one-more false x y xs ys e f = f
 
@@ -296,14 +349,17 @@ choice : {X Y : Type 0} (g : X → Y) (b : Bool) (x : X) (xs : List X) → map g
 choice g true x xs = refl
 choice g false x xs = refl
 
-recorded-each : (cs : List Channel) (rows : List Row) → ((t : ℕ) (row : Row) → slice_get rows t ≡ Some row → IsOver cs row) → (c : ℕ) → recorded cs (packets_of cs rows) c ≡ transactions cs rows c
+recorded-each : (cs : List Channel) (rows : List Row) → ((t : ℕ) (row : Row) → slice_get rows t ≡ Some row → IsOver cs row) → (c : ℕ)
+    → recorded cs (packets_of cs rows) c ≡ transactions cs rows c
 recorded-each cs [] over c = refl
 recorded-each cs (row ∷ rows) over c = one (has_event row) refl (recorded-each cs rows (λ t r at. over (suc t) r at) c)
   where
-    one : (b : Bool) → has_event row ≡ b → recorded cs (packets_of cs rows) c ≡ transactions cs rows c → recorded cs (map (packet_of cs) (cond b (row ∷ filter has_event rows) (filter has_event rows))) c ≡ transactions cs (row ∷ rows) c
+    one : (b : Bool) → has_event row ≡ b → recorded cs (packets_of cs rows) c ≡ transactions cs rows c
+        → recorded cs (map (packet_of cs) (cond b (row ∷ filter has_event rows) (filter has_event rows))) c ≡ transactions cs (row ∷ rows) c
     one true h same =
         choice (λ (p : Packet). content_of cs p c) (has row.starts c) (packet_of cs row) (filter (does Start c) (packets_of cs rows))
-        ∙ one-more (has row.starts c) (content_of cs (packet_of cs row) c) (content_at cs row.contents c) (recorded cs (packets_of cs rows) c) (transactions cs rows c) (same-content_of cs row c (over 0 row refl)) same
+        ∙ one-more (has row.starts c) (content_of cs (packet_of cs row) c) (content_at cs row.contents c)
+        (recorded cs (packets_of cs rows) c) (transactions cs rows c) (same-content_of cs row c (over 0 row refl)) same
         ∙ sym (choice (λ (r : Row). content_at cs r.contents c) (has row.starts c) row (filter (row_does Start c) rows))
     one false h same =
         same ∙ ap (λ b. cond b (content_at cs row.contents c ∷ transactions cs rows c) (transactions cs rows c)) (sym (quiet Start c row h))

@@ -15,15 +15,18 @@ RowAddsItsPacket = (channels : List Channel) (rows : List Row) (row : Row)
 
 -- the packets record each transaction of a channel once and in order, with its content
 abbrev pub RecordedOnce : Type 0
-RecordedOnce = (channels : List Channel) (rows : List Row) → AreRows channels rows → (c : ℕ) → recorded channels (packets_of channels rows) c ≡ transactions channels rows c
+RecordedOnce = (channels : List Channel) (rows : List Row) → AreRows channels rows → (c : ℕ)
+    → recorded channels (packets_of channels rows) c ≡ transactions channels rows c
 
 -- what is in flight after a row is still shown to the sink in the next one: no valid is taken back before its transfer
 abbrev pub KeepsInFlight : List Row → Type 0
-KeepsInFlight rows = (t : ℕ) (before row : Row) → row_before rows t ≡ Some before → slice_get rows t ≡ Some row → (c : ℕ) → is_in_flight before c ≡ true → sink_valid row c ≡ true
+KeepsInFlight rows = (t : ℕ) (before row : Row) → row_before rows t ≡ Some before → slice_get rows t ≡ Some row → (c : ℕ)
+    → is_in_flight before c ≡ true → sink_valid row c ≡ true
 
 -- such rows have a well-formed trace
 abbrev pub RowsAreWellFormed : Type 0
-RowsAreWellFormed = (channels : List Channel) (rows : List Row) → AreRows channels rows → KeepsInFlight rows → IsWellFormed (trace_of channels rows)
+RowsAreWellFormed = (channels : List Channel) (rows : List Row) → AreRows channels rows → KeepsInFlight rows
+    → IsWellFormed (trace_of channels rows)
 
 -- the j-th transaction completes between the j-th start and the one after it
 pub record CompletesBetween (rows : List Row) (c j t u : ℕ) : Type 0 where
@@ -34,5 +37,6 @@ pub record CompletesBetween (rows : List Row) (c j t u : ℕ) : Type 0 where
   pub before : s < u
 
 abbrev pub StartsWaitForEnds : Type 0
-StartsWaitForEnds = (channels : List Channel) (rows : List Row) → AreRows channels rows → KeepsInFlight rows → (c j t u : ℕ) (first second : Row)
+StartsWaitForEnds = (channels : List Channel) (rows : List Row) → AreRows channels rows → KeepsInFlight rows
+    → (c j t u : ℕ) (first second : Row)
     → IsNth (row_does Start c) rows j t first → IsNth (row_does Start c) rows (suc j) u second → CompletesBetween rows c j t u

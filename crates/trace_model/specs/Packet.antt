@@ -1,5 +1,6 @@
 -- What one packet records: the starts and the ends of a cycle, and the contents of the starts.
-use Rattle.std.specs.Prelude.{◌≢◌, ℕ, ◌<◌, ◌^◌, ◌⊎◌, Bool, List, [], Option, Some, None, take, drop, length, slice_get, count_by, if◌then◌else◌}
+use Rattle.std.specs.Prelude.{◌≢◌, ℕ, ◌<◌, ◌^◌, ◌⊎◌, Bool, List, [], Option, Some, None, take, drop, length, slice_get, count_by}
+use Rattle.std.specs.Prelude.{if◌then◌else◌}
 use Rattle.std.specs.List.{AllZip, flat_map, enumerate_from}
 use Rattle.trace_model.specs.declared.channel.Channel.{Channel}
 use Rattle.trace_model.specs.declared.event.Kind.{Kind}
@@ -30,7 +31,8 @@ Fit widths numbers = AllZip (λ w x. x < 2 ^ w) widths numbers
 
 -- the content of channel c in a packet in which it starts: its numbers stand after those of the starting channels below it
 abbrev pub content_of : List Channel → Packet → ℕ → List ℕ
-content_of channels p c = take (length (widths_of (slice_get channels c))) (drop (length (widths_under p.starts (take c channels))) p.contents)
+content_of channels p c = take (length (widths_of (slice_get channels c)))
+    (drop (length (widths_under p.starts (take c channels))) p.contents)
 
 -- a packet over these channels: it has an event, its masks name channels of the table, and each start has one number a port that fits it
 pub record IsPacket (channels : List Channel) (p : Packet) : Type 0 where

@@ -36,7 +36,8 @@ has_event row = not (row.starts == 0 && row.ends == 0)
 
 -- the contents of the channels that a mask names, out of those of all channels
 abbrev pub contents_under : ℕ → List Channel → List ℕ → List ℕ
-contents_under mask channels contents = flat_map (λ (c : ℕ × Channel). if has mask c.0 then content_at channels contents c.0 else []) (enumerate_from 0 channels)
+contents_under mask channels contents = flat_map (λ (c : ℕ × Channel). if has mask c.0 then content_at channels contents c.0 else [])
+    (enumerate_from 0 channels)
 
 -- the packet of a row: its starts with their contents, and its ends
 abbrev pub packet_of : List Channel → Row → Packet

@@ -1,3 +1,5 @@
+//! The numbers that packets carry: how many there are and which fit.
+
 ghost use Rattle.std.specs.Prelude.{◌≡◌, ◌<◌, ◌^◌, ◌++◌, ◌↔◌, ℕ, List, [], IsTrue, nat_lt, IfSome, IfNone, if◌then◌else◌};
 ghost use Rattle.trace_model.specs.Packet.{Fit, widths_under};
 ghost use Rattle.trace_model.specs.Row.{all_widths};
@@ -44,7 +46,8 @@ fn after_content<'a>(widths: &[u8], contents: &'a [u128]) -> Option<&'a [u128]>
 
 /// What follows the numbers of a channel, which are none where it doesn't start.
 fn after_channel<'a>(starts: bool, channel: &Channel, contents: &'a [u128]) -> Option<&'a [u128]>
-    ensures some { IfSome result (λ rest. (more : List ℕ) → Fit ((if starts then channel.now.widths else []) ++ more) contents.now ↔ Fit more rest.now) }
+    ensures some { IfSome result (λ rest. (more : List ℕ) → Fit ((if starts then channel.now.widths else []) ++ more) contents.now
+        ↔ Fit more rest.now) }
     ensures none { IfNone result ((more : List ℕ) → ¬ Fit ((if starts then channel.now.widths else []) ++ more) contents.now) }
 {
     if starts {

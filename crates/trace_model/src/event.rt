@@ -1,3 +1,5 @@
+//! Events: a channel starts or completes a transaction.
+
 use vidi_bits::Items;
 
 /// Whether an event is the start or the completion of a transaction.

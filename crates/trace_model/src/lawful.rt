@@ -1,3 +1,5 @@
+//! Tests of packets, traces and rows against their rules.
+
 ghost use Rattle.std.specs.Prelude.{◌≡◌, ◌<◌, ◌^◌, ◌↔◌, IsTrue, length, All};
 ghost use Rattle.trace_model.specs.Packet.{IsPacket};
 ghost use Rattle.trace_model.specs.Row.{IsOver};

@@ -1,3 +1,5 @@
+//! Masks that name channels, one bit each.
+
 ghost use Rattle.std.specs.Prelude.{◌≡◌};
 ghost use Rattle.trace_model.specs.Counting.{has};
 

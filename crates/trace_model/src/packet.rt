@@ -1,3 +1,5 @@
+//! Packets: what one cycle adds to a trace.
+
 use vidi_bits::{Items, Numbers};
 
 /// The events of one cycle: bit c of a mask is channel c.

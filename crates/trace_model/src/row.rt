@@ -1,3 +1,5 @@
+//! Rows: what all channels show in one cycle.
+
 use vidi_bits::{Items, Numbers};
 
 /// What the environment offers in one cycle: bit c of a mask is channel c.

@@ -1,3 +1,5 @@
+//! An offer stays as it is until its handshake (AMBA AXI4 IHI 0022, A3.2.1).
+
 ghost use Rattle.std.specs.Prelude.{◌≡◌, ◌⊎◌, ◌↔◌, true, false, IsTrue};
 ghost use Rattle.trace_model.specs.Counting.{has};
 ghost use Rattle.trace_model.specs.Row.{IsOver, completes};
@@ -24,7 +26,8 @@ fn waits(row: &Row, channel: usize) -> bool
 /// Whether an outward channel waited in the row before, and now has its valid down or not the same
 /// content.
 fn breaks(before: &Row, now: &Row, c: usize, dir: Dir, same_content: bool) -> bool
-    ensures { IsTrue result ↔ (dir ≡ Dir.Outward) × (waits before.now c ≡ true) × ((has now.now.valids c ≡ false) ⊎ (same_content ≡ false)) }
+    ensures { IsTrue result ↔ (dir ≡ Dir.Outward) × (waits before.now c ≡ true)
+        × ((has now.now.valids c ≡ false) ⊎ (same_content ≡ false)) }
 {
     dir == Dir::Outward && waits(before, c) && !(names(now.valids, c) && same_content)
 }

@@ -1,3 +1,5 @@
+//! Traces: a table of channels and packets.
+
 use crate::channel::Channels;
 use crate::packet::Packets;
 

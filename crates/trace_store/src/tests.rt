@@ -1,3 +1,5 @@
+//! Bytes in and out of a small store.
+
 use crate::store::Store;
 use std::test::Fail;
 

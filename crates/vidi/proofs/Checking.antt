@@ -22,24 +22,38 @@ told : (files : Option Files) (name bytes : List ℕ) (P : List ℕ → Type 0) 
 told None name bytes P has p = tt
 told (Some m) name bytes P has p = subst (λ (o : Option (List ℕ)). IsSomeAnd o P) (sym has) p
 
-pub done : {E : Type 0} (design : List ℕ) (files : Option Files) (F : List ℕ → Type 0) (bytes text : List ℕ) (f : FileOf (Unit {0})) (r : Result Answer E)
+pub done : {E : Type 0} (design : List ℕ) (files : Option Files) (F : List ℕ → Type 0) (bytes text : List ℕ) (f : FileOf (Unit {0}))
+    (r : Result Answer E)
     → Has files design bytes → length bytes ≤ text_limit → text ≡ bytes → Spells text f
     → IfOk r (λ a. (a.status ≡ Done) × (a.text ≡ check_text f)) → IfOk r (λ a. Checks design files F a.status a.text)
 done design files F bytes text f (Ok a) has small same spells (is, says) =
     let here : Told files design (λ file. file ≡ bytes) = told files design bytes (λ file. file ≡ bytes) has refl in
-    subst (λ (s : Status). Checks design files F s a.text) (sym is) (f, bytes, subst (λ (b : List ℕ). Spells b f) same spells, small, here, says)
+    subst (λ (s : Status). Checks design files F s a.text) (sym is) (
+      f,
+      bytes,
+      subst (λ (b : List ℕ). Spells b f) same spells,
+      small,
+      here,
+      says,
+    )
 done design files F bytes text f (Err e) has small same spells says = tt
 
-reason_told : (design : List ℕ) (files : Option Files) (bytes : List ℕ) (r : Reason) → Has files design bytes → length bytes ≤ text_limit → HasReason bytes r → RefusesDesign design files r
+reason_told : (design : List ℕ) (files : Option Files) (bytes : List ℕ) (r : Reason) → Has files design bytes → length bytes ≤ text_limit
+    → HasReason bytes r → RefusesDesign design files r
 reason_told design files bytes (reasons.TooLong n) has small never = absurd never
-reason_told design files bytes (reasons.Word l) has small h = told files design bytes (λ file. (length file ≤ text_limit) × HasReason file (reasons.Word l)) has (small, h)
-reason_told design files bytes (reasons.Deep l) has small h = told files design bytes (λ file. (length file ≤ text_limit) × HasReason file (reasons.Deep l)) has (small, h)
-reason_told design files bytes (reasons.Item l) has small h = told files design bytes (λ file. (length file ≤ text_limit) × HasReason file (reasons.Item l)) has (small, h)
+reason_told design files bytes (reasons.Word l) has small h = told files design bytes
+    (λ file. (length file ≤ text_limit) × HasReason file (reasons.Word l)) has (small, h)
+reason_told design files bytes (reasons.Deep l) has small h = told files design bytes
+    (λ file. (length file ≤ text_limit) × HasReason file (reasons.Deep l)) has (small, h)
+reason_told design files bytes (reasons.Item l) has small h = told files design bytes
+    (λ file. (length file ≤ text_limit) × HasReason file (reasons.Item l)) has (small, h)
 reason_told design files bytes (reasons.BadTrace n) has small never = absurd never
 
-pub refused : {E : Type 0} (design : List ℕ) (files : Option Files) (F : List ℕ → Type 0) (bytes text : List ℕ) (reason : Reason) (r : Result Answer E)
+pub refused : {E : Type 0} (design : List ℕ) (files : Option Files) (F : List ℕ → Type 0) (bytes text : List ℕ) (reason : Reason)
+    (r : Result Answer E)
     → Has files design bytes → length bytes ≤ text_limit → text ≡ bytes → HasReason text reason
-    → IfOk r (λ a. (a.status ≡ Refused words.Design reason) × (a.text ≡ reason_line words.Design reason)) → IfOk r (λ a. Checks design files F a.status a.text)
+    → IfOk r (λ a. (a.status ≡ Refused words.Design reason) × (a.text ≡ reason_line words.Design reason))
+    → IfOk r (λ a. Checks design files F a.status a.text)
 refused design files F bytes text reason (Ok a) has small same h (is, says) =
     let cause = reason_told design files bytes reason has small (subst (λ (b : List ℕ). HasReason b reason) same h) in
     subst (λ (s : Status). Checks design files F s a.text) (sym is) (refl, cause, says)

@@ -1,5 +1,6 @@
 -- Lines that are printed item by item.
-use Rattle.std.proofs.Common.{◌≡◌, ℕ, ◌+◌, ◌<◌, List, [], ◌∷◌, ◌++◌, Option, Some, length, get_or, take, drop, cond, slice_get, codes, decimal, refl, sym, ap, ◌∙◌, append_assoc, arith}
+use Rattle.std.proofs.Common.{◌≡◌, ℕ, ◌+◌, ◌<◌, List, [], ◌∷◌, ◌++◌, Option, Some, length, get_or, take, drop, cond, slice_get, codes}
+use Rattle.std.proofs.Common.{decimal, refl, sym, ap, ◌∙◌, append_assoc, arith}
 use Rattle.std.proofs.lemmas.List.{take_more, drop_more, drop-drop, append-nil, length-append, length-take-le}
 use Rattle.std.proofs.lemmas.Option.{slice_get_read}
 use Rattle.std.proofs.lemmas.List.Concat.{flat_map-append}
@@ -12,12 +13,15 @@ use Rattle.vidi.specs.Said.{spaced, start_line}
 
 -- one more item is printed, of those that are left
 pub lines_on : {X : Type 0} (F : ℕ × X → List ℕ) (text all : List ℕ) (xs : List X) (i : ℕ) (x : X) → i < length xs → x ≡ get_or xs i x
-    → text ++ flat_map F (enumerate_from i (drop i xs)) ≡ all → (text ++ F (i, x)) ++ flat_map F (enumerate_from (i + 1) (drop (i + 1) xs)) ≡ all
+    → text ++ flat_map F (enumerate_from i (drop i xs)) ≡ all → (text ++ F (i, x)) ++ flat_map F (enumerate_from (i + 1) (drop (i + 1) xs))
+    ≡ all
 lines_on F text all xs i x l e so_far =
     let here : drop i xs ≡ x ∷ drop (i + 1) xs = drop_more xs i x l ∙ ap (λ y. y ∷ drop (i + 1) xs) (sym e) in
-    append_assoc text (F (i, x)) (flat_map F (enumerate_from (i + 1) (drop (i + 1) xs))) ∙ ap (λ ys. text ++ flat_map F (enumerate_from i ys)) (sym here) ∙ so_far
+    append_assoc text (F (i, x)) (flat_map F (enumerate_from (i + 1) (drop (i + 1) xs)))
+    ∙ ap (λ ys. text ++ flat_map F (enumerate_from i ys)) (sym here) ∙ so_far
 
-enumerate-push : {X : Type 0} (n i : ℕ) (xs : List X) (x : X) → i ≡ n + length xs → enumerate_from n (xs ++ x ∷ []) ≡ enumerate_from n xs ++ (i, x) ∷ []
+enumerate-push : {X : Type 0} (n i : ℕ) (xs : List X) (x : X) → i ≡ n + length xs → enumerate_from n (xs ++ x ∷ []) ≡ enumerate_from n xs
+    ++ (i, x) ∷ []
 enumerate-push n i [] x e = let same : n ≡ i = omega (arith, e) in ap (λ k. (k, x) ∷ []) same
 enumerate-push n i (y ∷ ys) x e = ap (λ zs. (n, y) ∷ zs) (enumerate-push (n + 1) i ys x (omega (arith, e)))
 
@@ -33,14 +37,18 @@ widths-more mask cs i c l e =
     ∙ ap (λ ws. widths_under mask (take i cs) ++ ws) (append-nil (F (i, c)))
 
 -- a channel's content stands after those of the starting channels below it
-content-there : (channels : List Channel) (packet : Packet) (i : ℕ) (channel : Channel) (rest : List ℕ) → i < length channels → channel ≡ get_or channels i channel
-    → rest ≡ drop (length (widths_under packet.starts (take i channels))) packet.contents → take (length channel.widths) rest ≡ content_of channels packet i
+content-there : (channels : List Channel) (packet : Packet) (i : ℕ) (channel : Channel) (rest : List ℕ) → i < length channels → channel
+    ≡ get_or channels i channel
+    → rest ≡ drop (length (widths_under packet.starts (take i channels))) packet.contents → take (length channel.widths) rest
+    ≡ content_of channels packet i
 content-there channels packet i channel rest l e at =
     let there : slice_get channels i ≡ Some channel = slice_get_read channels (length channels) i channel refl l e in
     ap (take (length channel.widths)) at
-    ∙ ap (λ (o : Option Channel). take (length (widths_of o)) (drop (length (widths_under packet.starts (take i channels))) packet.contents)) (sym there)
+    ∙ ap (λ (o : Option Channel). take (length (widths_of o)) (drop (length (widths_under packet.starts (take i channels)))
+    packet.contents)) (sym there)
 
-pub rest-on : (mask : ℕ) (contents : List ℕ) (channels : List Channel) (i : ℕ) (channel : Channel) (rest after : List ℕ) → i < length channels → channel ≡ get_or channels i channel
+pub rest-on : (mask : ℕ) (contents : List ℕ) (channels : List Channel) (i : ℕ) (channel : Channel) (rest after : List ℕ)
+    → i < length channels → channel ≡ get_or channels i channel
     → rest ≡ drop (length (widths_under mask (take i channels))) contents → after ≡ drop (length (cond (has mask i) channel.widths [])) rest
     → after ≡ drop (length (widths_under mask (take (i + 1) channels))) contents
 rest-on mask contents channels i channel rest after l e at next =
@@ -52,9 +60,12 @@ rest-on mask contents channels i channel rest after l e at next =
     ∙ ap (λ (ws : List ℕ). drop (length ws) contents) (sym more)
 
 -- the line of a channel, if it starts
-pub start-there : (channels : List Channel) (packet : Packet) (number : ℕ) (clock : List ℕ) (i : ℕ) (channel : Channel) (rest : List ℕ) → i < length channels → channel ≡ get_or channels i channel
+pub start-there : (channels : List Channel) (packet : Packet) (number : ℕ) (clock : List ℕ) (i : ℕ) (channel : Channel) (rest : List ℕ)
+    → i < length channels → channel ≡ get_or channels i channel
     → rest ≡ drop (length (widths_under packet.starts (take i channels))) packet.contents
-    → cond (has packet.starts i) (decimal number ++ (codes " start " ++ (channel.name ++ (spaced (take (length channel.widths) rest) ++ clock)))) []
+    → cond (has packet.starts i) (decimal number ++ (codes " start " ++
+    (channel.name ++ (spaced (take (length channel.widths) rest) ++ clock)))) []
     ≡ cond (has packet.starts i) (start_line channels number packet clock (i, channel)) []
 start-there channels packet number clock i channel rest l e at =
-    ap (λ (content : List ℕ). cond (has packet.starts i) (decimal number ++ (codes " start " ++ (channel.name ++ (spaced content ++ clock)))) []) (content-there channels packet i channel rest l e at)
+    ap (λ (content : List ℕ). cond (has packet.starts i) (decimal number
+    ++ (codes " start " ++ (channel.name ++ (spaced content ++ clock)))) []) (content-there channels packet i channel rest l e at)

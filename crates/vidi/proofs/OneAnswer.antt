@@ -36,7 +36,8 @@ NoCommand words = (c : Command) → ¬ IsGiven words c
 
 -- an answer is for want of memory, for no command, or a command's
 abbrev Split : List (List ℕ) → Files → Status → List ℕ → Type 0
-Split words files a x = (a ≡ Memory) ⊎ (((a ≡ Usage) × NoCommand words × (x ≡ usage_line)) ⊎ ((c : Command) × IsGiven words c × Does c (Some files) (λ _. ⊥) a x))
+Split words files a x = (a ≡ Memory) ⊎ (((a ≡ Usage) × NoCommand words × (x ≡ usage_line))
+    ⊎ ((c : Command) × IsGiven words c × Does c (Some files) (λ _. ⊥) a x))
 
 split : (words : List (List ℕ)) (files : Files) (a : Status) (x : List ℕ) → Earns words (Some files) (λ _. ⊥) a x → Split words files a x
 split words files Done x e = inr (inr e)
@@ -46,11 +47,13 @@ split words files WriteFault x e = inr (inr e)
 split words files (Refused word reason) x e = inr (inr e)
 split words files Memory x e = inl refl
 
-joined : OneReading → OnePlace → TextLaws → (words : List (List ℕ)) (files : Files) (a b : Status) (x y : List ℕ) → Split words files a x → Split words files b y
+joined : OneReading → OnePlace → TextLaws → (words : List (List ℕ)) (files : Files) (a b : Status) (x y : List ℕ) → Split words files a x
+    → Split words files b y
     → (a ≡ Memory) ⊎ ((b ≡ Memory) ⊎ Same a b x y)
 joined traces places texts words files a b x y (inl memory) _ = inl memory
 joined traces places texts words files a b x y (inr _) (inl memory) = inr (inl memory)
-joined traces places texts words files a b x y (inr (inl (is, none, text))) (inr (inl (is', none', text'))) = inr (inr (is ∙ sym is', text ∙ sym text'))
+joined traces places texts words files a b x y (inr (inl (is, none, text))) (inr (inl (is', none', text'))) = inr
+    (inr (is ∙ sym is', text ∙ sym text'))
 joined traces places texts words files a b x y (inr (inl (is, none, text))) (inr (inr (c, given, deed))) = absurd (none c given)
 joined traces places texts words files a b x y (inr (inr (c, given, deed))) (inr (inl (is, none, text))) = absurd (none c given)
 joined traces places texts words files a b x y (inr (inr (c, given, deed))) (inr (inr (d, given', deed'))) =
@@ -58,4 +61,5 @@ joined traces places texts words files a b x y (inr (inr (c, given, deed))) (inr
     inr (inr (one_deed traces places texts c files a b x y deed (subst (λ (k : Command). Does k (Some files) (λ _. ⊥) b y) same deed')))
 
 pub one_answer_lem : OneReading → OnePlace → TextLaws → OneAnswer
-one_answer_lem traces places texts words files a b x y e f = joined traces places texts words files a b x y (split words files a x e) (split words files b y f)
+one_answer_lem traces places texts words files a b x y e f = joined traces places texts words files a b x y (split words files a x e)
+    (split words files b y f)

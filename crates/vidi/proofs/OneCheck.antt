@@ -60,7 +60,8 @@ one_file laws text f g (ts, has, shallow, (good, spelled)) (us, has', shallow', 
 no_reason : TextLaws → (text : List ℕ) (f : FileOf (Unit {0})) (r : Reason) → Spells text f → HasReason text r → ⊥
 no_reason laws text f (Word l) (ts, has, shallow, file) (stuck, _) = laws.stuck text ts has stuck
 no_reason laws text f (Deep l) (ts, has, shallow, file) (us, has', deep) =
-    laws.depth.apart (all_marked ts) l (subst (λ (vs : List Token). IsDeep (all_marked vs) l) (laws.reading text us ts has' has) deep) shallow
+    laws.depth.apart (all_marked ts) l (subst (λ (vs : List Token). IsDeep (all_marked vs) l) (laws.reading text us ts has' has) deep)
+    shallow
 no_reason laws text f (Item l) (ts, has, shallow, file) (us, has', its, shallow', none) =
     none f (subst (λ (vs : List Token). IsFileOf vs f) (laws.reading text ts us has has') file)
 no_reason laws text f (TooLong n) spells never = never
@@ -68,11 +69,13 @@ no_reason laws text f (BadTrace n) spells never = never
 
 deep_item : TextLaws → (text : List ℕ) (l k : ℕ) → HasReason text (Deep l) → HasReason text (Item k) → ⊥
 deep_item laws text l k (ts, has, deep) (us, has', its, shallow, none) =
-    laws.depth.apart (all_marked us) l (subst (λ (vs : List Token). IsDeep (all_marked vs) l) (laws.reading text ts us has has') deep) shallow
+    laws.depth.apart (all_marked us) l (subst (λ (vs : List Token). IsDeep (all_marked vs) l) (laws.reading text ts us has has') deep)
+    shallow
 
 deep_deep : TextLaws → (text : List ℕ) (l k : ℕ) → HasReason text (Deep l) → HasReason text (Deep k) → l ≡ k
 deep_deep laws text l k (ts, has, deep) (us, has', deep') =
-    laws.depth.line (all_marked ts) l k deep (subst (λ (vs : List Token). IsDeep (all_marked vs) k) (laws.reading text us ts has' has) deep')
+    laws.depth.line (all_marked ts) l k deep (subst (λ (vs : List Token). IsDeep (all_marked vs) k) (laws.reading text us ts has' has)
+    deep')
 
 item_item : TextLaws → (text : List ℕ) (l k : ℕ) → HasReason text (Item l) → HasReason text (Item k) → l ≡ k
 item_item laws text l k (ts, has, its, _, _) (us, has', its', _, _) =
@@ -94,7 +97,8 @@ one_cause laws text r (TooLong n) p q = absurd q
 one_cause laws text r (BadTrace n) p q = absurd q
 
 -- a reason that isn't the length
-other : (r : Reason) (file : List ℕ) → IsReason r file → ((n : ℕ) × (r ≡ TooLong n) × (n ≡ text_limit) × (n < length file)) ⊎ ((length file ≤ text_limit) × HasReason file r)
+other : (r : Reason) (file : List ℕ) → IsReason r file → ((n : ℕ) × (r ≡ TooLong n) × (n ≡ text_limit) × (n < length file))
+    ⊎ ((length file ≤ text_limit) × HasReason file r)
 other (TooLong n) file (is, long) = inl (n, refl, is, long)
 other (Word l) file p = inr p
 other (Deep l) file p = inr p
@@ -130,7 +134,8 @@ accepted laws file t r spells small p = elim (other r file p) [
   | inr short ↦ no_reason laws file t r spells short.1
 ]
 
-done_is_accepted : TextLaws → (design : List ℕ) (files : Files) (x : List ℕ) (r : Reason) → IsDone design files x → Refuses design files r → ⊥
+done_is_accepted : TextLaws → (design : List ℕ) (files : Files) (x : List ℕ) (r : Reason) → IsDone design files x → Refuses design files r
+    → ⊥
 done_is_accepted laws design files x r (t, file, spells, small, here, text) p =
     let f = both (get files design) (λ f. f ≡ file) (IsReason r) here (told design files r p) in
     accepted laws file t r spells small (subst (IsReason r) f.1 f.2)
@@ -160,4 +165,5 @@ one_check laws design files a b x y d e =
       refused_is_read = refused_is_read design files;
       one_reason = one_reason laws design files;
     } in
-    one_owed words.Design (IsDone design files) (Unread design files) (Refuses design files) apart a b x y (owed design files a x d) (owed design files b y e)
+    one_owed words.Design (IsDone design files) (Unread design files) (Refuses design files) apart a b x y (owed design files a x d)
+    (owed design files b y e)

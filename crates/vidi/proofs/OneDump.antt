@@ -93,4 +93,5 @@ one_dump one place trace files a b x y d e =
       refused_is_read = refused_is_read trace files;
       one_reason = one_reason place trace files;
     } in
-    one_owed words.Trace (IsDone trace files) (Unread trace files) (Refuses trace files) apart a b x y (owed trace files a x d) (owed trace files b y e)
+    one_owed words.Trace (IsDone trace files) (Unread trace files) (Refuses trace files) apart a b x y (owed trace files a x d)
+    (owed trace files b y e)

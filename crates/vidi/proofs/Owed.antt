@@ -30,13 +30,15 @@ fault_fault : (word w v : Word) (D : List ℕ → Type 0) (U : Type 0) (R : Reas
 fault_fault word w v D U R x y (is, cause, text) (is', cause', text') =
     let same : w ≡ v = is ∙ sym is' in (ap ReadFault same, text ∙ ap read_fault_line same ∙ sym text')
 
-refused_refused : (word w v : Word) (D : List ℕ → Type 0) (U : Type 0) (R : Reason → Type 0) → Apart D U R → (r s : Reason) → OneOwed word D U R (Refused w r) (Refused v s)
+refused_refused : (word w v : Word) (D : List ℕ → Type 0) (U : Type 0) (R : Reason → Type 0) → Apart D U R → (r s : Reason)
+    → OneOwed word D U R (Refused w r) (Refused v s)
 refused_refused word w v D U R apart r s x y (is, cause, text) (is', cause', text') =
     let same : w ≡ v = is ∙ sym is' in
     let reason = apart.one_reason r s cause cause' in
     (λ i. Refused (same i) (reason i), text ∙ (λ i. reason_line (same i) (reason i)) ∙ sym text')
 
-pub one_owed : (word : Word) (D : List ℕ → Type 0) (U : Type 0) (R : Reason → Type 0) → Apart D U R → (a b : Status) → OneOwed word D U R a b
+pub one_owed : (word : Word) (D : List ℕ → Type 0) (U : Type 0) (R : Reason → Type 0) → Apart D U R → (a b : Status)
+    → OneOwed word D U R a b
 one_owed word D U R apart Done Done x y d e = (refl, apart.one_text x y d e)
 one_owed word D U R apart Done (ReadFault v) x y d (_, unread, _) = absurd (apart.done_is_read x d unread)
 one_owed word D U R apart Done (Refused v s) x y d (_, cause, _) = absurd (apart.done_is_accepted x s d cause)

@@ -8,12 +8,15 @@ use Rattle.vidi.specs.Said.{spaced, newline, clock_text, start_lines, end_lines,
 use Rattle.vidi.proofs.Lines.{lines_on}
 
 -- the text of a packet's clock, from the counts before it
-pub clock-said : (packets : List Packet) (n p : ℕ) (counts cleared text shown : List ℕ) → counts ≡ map (clock packets p) (range_with_len 0 n) → cleared ≡ []
+pub clock-said : (packets : List Packet) (n p : ℕ) (counts cleared text shown : List ℕ) → counts
+    ≡ map (clock packets p) (range_with_len 0 n) → cleared ≡ []
     → text ≡ cleared ++ (codes " clock" ++ (spaced counts ++ newline)) → shown ≡ text → shown ≡ clock_text n packets p
 clock-said packets n p counts cleared text shown e empty said same =
-    same ∙ said ∙ ap (λ (c : List ℕ). c ++ (codes " clock" ++ (spaced counts ++ newline))) empty ∙ ap (λ (k : List ℕ). codes " clock" ++ (spaced k ++ newline)) e
+    same ∙ said ∙ ap (λ (c : List ℕ). c ++ (codes " clock" ++ (spaced counts ++ newline))) empty
+    ∙ ap (λ (k : List ℕ). codes " clock" ++ (spaced k ++ newline)) e
 
-pub packet-on : (channels : List Channel) (packets : List Packet) (p : ℕ) (packet : Packet) (text started ended all one two : List ℕ) → p < length packets → packet ≡ get_or packets p packet
+pub packet-on : (channels : List Channel) (packets : List Packet) (p : ℕ) (packet : Packet) (text started ended all one two : List ℕ)
+    → p < length packets → packet ≡ get_or packets p packet
     → one ≡ clock_text (length channels) packets p → two ≡ clock_text (length channels) packets p
     → started ≡ text ++ start_lines channels p packet one → ended ≡ started ++ end_lines channels p packet two
     → text ++ flat_map (packet_lines channels packets) (enumerate_from p (drop p packets)) ≡ all
@@ -23,7 +26,8 @@ packet-on channels packets p packet text started ended all one two l e first sec
     let grown : ended ≡ text ++ packet_lines channels packets (p, packet) =
     ends
     ∙ ap (λ (c : List ℕ). started ++ end_lines channels p packet c) second
-    ∙ ap (λ (s : List ℕ). s ++ end_lines channels p packet clock) (starts ∙ ap (λ (c : List ℕ). text ++ start_lines channels p packet c) first)
+    ∙ ap (λ (s : List ℕ). s ++ end_lines channels p packet clock) (starts
+    ∙ ap (λ (c : List ℕ). text ++ start_lines channels p packet c) first)
     ∙ append_assoc text (start_lines channels p packet clock) (end_lines channels p packet clock) in
     ap (λ (t : List ℕ). t ++ flat_map (packet_lines channels packets) (enumerate_from (p + 1) (drop (p + 1) packets))) grown
     ∙ lines_on (packet_lines channels packets) text all packets p packet l e so_far

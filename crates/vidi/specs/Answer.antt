@@ -32,13 +32,15 @@ trace_limit = 67108864
 -- the reasons that are no fault of reading, in the order in which they are tried
 abbrev pub RefusesTrace : List ℕ → Option Files → Reason → Type 0
 RefusesTrace trace files (reasons.TooLong limit) = (limit ≡ trace_limit) × Told files trace (λ file. limit < length file)
-RefusesTrace trace files (reasons.BadTrace at) = Told files trace (λ file. (length file ≤ trace_limit) × IsFaultAt file at × ((t : Trace) → ¬ Encodes t file))
+RefusesTrace trace files (reasons.BadTrace at) = Told files trace (λ file. (length file ≤ trace_limit) × IsFaultAt file at
+    × ((t : Trace) → ¬ Encodes t file))
 RefusesTrace trace files _ = ⊥
 
 -- `dump TRACE`: the answer and its text, where ReadFailed says of which names a read has failed
 abbrev pub Dumps : List ℕ → Option Files → (List ℕ → Type 0) → Status → List ℕ → Type 0
 Dumps trace files ReadFailed Done text =
-    (t : Trace) × (file : List ℕ) × Encodes t file × (length file ≤ trace_limit) × Told files trace (λ told. told ≡ file) × (text ≡ dump_text t)
+    (t : Trace) × (file : List ℕ) × Encodes t file × (length file ≤ trace_limit) × Told files trace (λ told. told ≡ file)
+    × (text ≡ dump_text t)
 Dumps trace files ReadFailed (ReadFault word) text =
     (word ≡ words.Trace) × (Absent files trace ⊎ ReadFailed trace) × (text ≡ read_fault_line word)
 Dumps trace files ReadFailed (Refused word reason) text =
@@ -53,7 +55,8 @@ RefusesDesign design files reason = Told files design (λ file. (length file ≤
 -- `check DESIGN TOP`: the answer and its text, where ReadFailed says of which names a read has failed
 abbrev pub Checks : List ℕ → Option Files → (List ℕ → Type 0) → Status → List ℕ → Type 0
 Checks design files ReadFailed Done text =
-    (f : FileOf (Unit {0})) × (file : List ℕ) × Spells file f × (length file ≤ text_limit) × Told files design (λ told. told ≡ file) × (text ≡ check_text f)
+    (f : FileOf (Unit {0})) × (file : List ℕ) × Spells file f × (length file ≤ text_limit) × Told files design (λ told. told ≡ file)
+    × (text ≡ check_text f)
 Checks design files ReadFailed (ReadFault word) text =
     (word ≡ words.Design) × (Absent files design ⊎ ReadFailed design) × (text ≡ read_fault_line word)
 Checks design files ReadFailed (Refused word reason) text =
@@ -74,12 +77,14 @@ Earns words files ReadFailed status text = (c : Command) × IsGiven words c × D
 -- What a call answers, and what the sink tells before and after. An answer is earned and its whole text was said; after WriteFault,
 -- which only a failed write causes, a front of the text of an answer that was earned.
 abbrev pub Answers : (Status → List ℕ → Type 0) → Type 0 → Option (List ℕ) → Option (List ℕ) → Status → Type 0
-Answers Earned WriteFailed old new WriteFault = WriteFailed × (status : Status) × (text : List ℕ) × Earned status text × AppendsSome old new text
+Answers Earned WriteFailed old new WriteFault = WriteFailed × (status : Status) × (text : List ℕ) × Earned status text
+    × AppendsSome old new text
 Answers Earned WriteFailed old new status = (text : List ℕ) × Earned status text × (new ≡ append_known old text)
 
 -- A status was said with its text, or a write failed in the middle of the text.
 abbrev pub Says : Status → List ℕ → Type 0 → Option (List ℕ) → Option (List ℕ) → Status → Type 0
-Says status text WriteFailed old new result = ((result ≡ status) × (new ≡ append_known old text)) ⊎ ((result ≡ WriteFault) × WriteFailed × AppendsSome old new text)
+Says status text WriteFailed old new result = ((result ≡ status) × (new ≡ append_known old text))
+    ⊎ ((result ≡ WriteFault) × WriteFailed × AppendsSome old new text)
 
 -- Of what a shelf tells, with no failed read, two answers that are earned are one, unless memory was wanting.
 abbrev pub OneAnswer : Type 0

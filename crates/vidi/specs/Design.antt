@@ -24,5 +24,6 @@ abbrev pub HasReason : List ℕ → Reason → Type 0
 HasReason text (reasons.Word line) = IsStuckOn text line
 HasReason text (reasons.Deep line) = (tokens : List Token) × HasTokens text tokens × IsDeep (all_marked tokens) line
 HasReason text (reasons.Item line) =
-    (tokens : List Token) × HasTokens text tokens × IsItemLine (all_marked tokens) line × IsShallow (all_marked tokens) × ((f : FileOf (Unit {0})) → ¬ IsFileOf tokens f)
+    (tokens : List Token) × HasTokens text tokens × IsItemLine (all_marked tokens) line × IsShallow (all_marked tokens)
+    × ((f : FileOf (Unit {0})) → ¬ IsFileOf tokens f)
 HasReason text _ = ⊥

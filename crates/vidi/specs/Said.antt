@@ -47,22 +47,26 @@ abbrev pub start_line : List Channel → ℕ → Packet → List ℕ → ℕ × 
 start_line channels p packet clock x = decimal p ++ (codes " start " ++ (x.1.name ++ (spaced (content_of channels packet x.0) ++ clock)))
 
 abbrev pub start_lines : List Channel → ℕ → Packet → List ℕ → List ℕ
-start_lines channels p packet clock = flat_map (λ (x : ℕ × Channel). if has packet.starts x.0 then start_line channels p packet clock x else []) (enumerate_from 0 channels)
+start_lines channels p packet clock = flat_map (λ (x : ℕ × Channel). if has packet.starts x.0 then start_line channels p packet clock x
+    else []) (enumerate_from 0 channels)
 
 -- `P end CH clock K ..` for each channel that completes in packet P
 abbrev pub end_line : ℕ → List ℕ → ℕ × Channel → List ℕ
 end_line p clock x = decimal p ++ (codes " end " ++ (x.1.name ++ clock))
 
 abbrev pub end_lines : List Channel → ℕ → Packet → List ℕ → List ℕ
-end_lines channels p packet clock = flat_map (λ (x : ℕ × Channel). if has packet.ends x.0 then end_line p clock x else []) (enumerate_from 0 channels)
+end_lines channels p packet clock = flat_map (λ (x : ℕ × Channel). if has packet.ends x.0 then end_line p clock x else [])
+    (enumerate_from 0 channels)
 
 -- a packet's starts in channel order, then its ends, each with the packet's clock
 abbrev pub packet_lines : List Channel → List Packet → ℕ × Packet → List ℕ
-packet_lines channels packets x = start_lines channels x.0 x.1 (clock_text (length channels) packets x.0) ++ end_lines channels x.0 x.1 (clock_text (length channels) packets x.0)
+packet_lines channels packets x = start_lines channels x.0 x.1 (clock_text (length channels) packets x.0)
+    ++ end_lines channels x.0 x.1 (clock_text (length channels) packets x.0)
 
 -- what `dump` prints of a trace
 abbrev pub dump_text : Trace → List ℕ
-dump_text t = channel_lines 0 t.channels ++ (flat_map (packet_lines t.channels t.packets) (enumerate_from 0 t.packets) ++ packets_line (length t.packets))
+dump_text t = channel_lines 0 t.channels ++ (flat_map (packet_lines t.channels t.packets) (enumerate_from 0 t.packets)
+    ++ packets_line (length t.packets))
 
 -- the items of all modules
 abbrev pub items : {A : Type 0} → FileOf A → ℕ

@@ -31,7 +31,8 @@ pub enum Refusal {
 
 /// What `check` is answered.
 pub fn check<S: Shelf>(alloc: Global, design: &str, shelf: &mut S) -> Result<Answer, Memory>
-    ensures earned { IfOk result (λ a. Checks design.now (S.files shelf.old) (λ name. Rose (S.read_faults shelf.old name) (S.read_faults shelf.new name)) a.status a.text) }
+    ensures earned { IfOk result (λ a. Checks design.now (S.files shelf.old)
+        (λ name. Rose (S.read_faults shelf.old name) (S.read_faults shelf.new name)) a.status a.text) }
     ensures files { S.files shelf.new ≡ S.files shelf.old }
     ensures counts { Later (S.read_faults shelf.old) (S.read_faults shelf.new) (S.write_faults shelf.old) (S.write_faults shelf.new) }
 {

@@ -1,3 +1,5 @@
+//! `vidi check` on accepted and refused designs.
+
 use crate::status::{Reason, Status, Word};
 use crate::tests::{answers, expect};
 use std::alloc::Global;

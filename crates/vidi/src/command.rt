@@ -1,3 +1,5 @@
+//! The words of a command line.
+
 ghost use Rattle.std.specs.Prelude.{◌≡◌, MatchOption};
 ghost use Rattle.vidi.specs.Command as spec;
 

@@ -20,7 +20,8 @@ const TRACE_LIMIT: u64 = 67_108_864;
 
 /// What `dump` is answered.
 pub fn dump<S: Shelf>(alloc: Global, trace: &str, shelf: &mut S) -> Result<Answer, Memory>
-    ensures earned { IfOk result (λ a. Dumps trace.now (S.files shelf.old) (λ name. Rose (S.read_faults shelf.old name) (S.read_faults shelf.new name)) a.status a.text) }
+    ensures earned { IfOk result (λ a. Dumps trace.now (S.files shelf.old)
+        (λ name. Rose (S.read_faults shelf.old name) (S.read_faults shelf.new name)) a.status a.text) }
     ensures files { S.files shelf.new ≡ S.files shelf.old }
     ensures counts { Later (S.read_faults shelf.old) (S.read_faults shelf.new) (S.write_faults shelf.old) (S.write_faults shelf.new) }
 {

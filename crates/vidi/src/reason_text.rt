@@ -1,3 +1,5 @@
+//! The lines that tell why an input is refused.
+
 ghost use Rattle.std.specs.Prelude.{◌≡◌, ◌++◌, OnOk, IfOk};
 ghost use Rattle.vidi.specs.Said as said;
 

@@ -1,3 +1,5 @@
+//! How a command ends.
+
 ghost use Rattle.std.specs.Prelude.{◌≡◌};
 ghost use Rattle.vidi.specs.Exit as exit;
 

@@ -1,3 +1,5 @@
+//! `vidi dump` on worked traces, broken traces and failing calls.
+
 use crate::status::{Reason, Status, Word};
 use crate::top::vidi;
 use std::alloc::Global;

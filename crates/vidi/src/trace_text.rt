@@ -1,4 +1,7 @@
-ghost use Rattle.std.specs.Prelude.{◌≡◌, ℕ, ◌+◌, ◌-◌, ◌^◌, ◌<◌, ◌++◌, OnOk, IfOk, if◌then◌else◌, [], length, take, drop, replicate, slice_index, codes, decimal};
+//! The text of a trace: its channels, events and vector clocks.
+
+ghost use Rattle.std.specs.Prelude.{◌≡◌, ℕ, ◌+◌, ◌-◌, ◌^◌, ◌<◌, ◌++◌, OnOk, IfOk, if◌then◌else◌, [], length, take, drop, replicate};
+ghost use Rattle.std.specs.Prelude.{slice_index, codes, decimal};
 ghost use Rattle.std.specs.Int.{bit_at};
 ghost use Rattle.std.specs.List.{flat_map, enumerate_from};
 ghost use Rattle.vidi.specs.Said as said;
@@ -151,7 +154,8 @@ fn put_start<'a>(
     clock: &[u8],
 ) -> Result<&'a [u128], Memory>
     ensures text { OnOk result (text.new.items ≡ text.old.items ++ (if starts
-        then decimal number ++ (codes " start " ++ (channel.now.name ++ (said.spaced (take (length channel.now.widths) contents.now) ++ clock.now)))
+        then decimal number ++ (codes " start " ++ (channel.now.name ++
+        (said.spaced (take (length channel.now.widths) contents.now) ++ clock.now)))
         else [])) }
     ensures rest { IfOk result (λ rest. rest.now ≡ drop (length (if starts then channel.now.widths else [])) contents.now) }
 {

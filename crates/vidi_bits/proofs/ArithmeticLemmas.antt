@@ -32,7 +32,8 @@ pub shifted-out_right : (a n w : ℕ) → a < 2 ^ w → w ≤ n → a / 2 ^ n �
 shifted-out_right a n w l h = let p : 2 ^ w ≤ 2 ^ n = pow-le-pow_right (omega arith) h in div-eq_of_lt (omega arith)
 
 -- with q < n, n pieces less q of them and a rest are a piece less the rest, and pieces
-sub-pieces : (a n piece whole b q rest : ℕ) → n * piece ≡ whole → q * piece + rest ≡ b → rest < piece → q < n → (a + (whole - b)) % piece ≡ (a + (piece - rest)) % piece
+sub-pieces : (a n piece whole b q rest : ℕ) → n * piece ≡ whole → q * piece + rest ≡ b → rest < piece → q < n → (a + (whole - b)) % piece
+    ≡ (a + (piece - rest)) % piece
 sub-pieces a n piece whole b q rest pieces split less high =
     let d = n - q - 1 in
     let e : n ≡ q + d + 1 = omega arith in
@@ -51,6 +52,7 @@ sub-low a b w l lb =
     sub-pieces a (2 ^ (128 - w)) (2 ^ w) (2 ^ 128) b (b / 2 ^ w) (b % 2 ^ w) pieces split rest high
 
 -- two numbers side by side
-pub side_by_side : (high low w : ℕ) → w ≤ 128 → high < 2 ^ (128 - w) → bit_or (high * 2 ^ w % 2 ^ 128) (low % 2 ^ w) ≡ high * 2 ^ w + low % 2 ^ w
+pub side_by_side : (high low w : ℕ) → w ≤ 128 → high < 2 ^ (128 - w) → bit_or (high * 2 ^ w % 2 ^ 128) (low % 2 ^ w) ≡ high * 2 ^ w
+    + low % 2 ^ w
 side_by_side high low w l h =
     rw (shl_whole high (128 - w) w 128 h (omega arith)) (or_shifted high w (low % 2 ^ w) (mod_below low (2 ^ w) (pow_pos w)))

@@ -1,9 +1,11 @@
 -- The bits of shifted numbers, of parts of numbers, and of numbers with a part replaced.
-use Rattle.std.proofs.Common.{◌≡◌, ℕ, ◌+◌, ◌-◌, ◌*◌, ◌/◌, ◌%◌, ◌^◌, ◌<◌, ◌≤◌, min, max, bit_and, bit_or, ⊎_elim, ap, sym, ◌∙◌, add-zero, arith}
+use Rattle.std.proofs.Common.{◌≡◌, ℕ, ◌+◌, ◌-◌, ◌*◌, ◌/◌, ◌%◌, ◌^◌, ◌<◌, ◌≤◌, min, max, bit_and, bit_or, ⊎_elim, ap, sym, ◌∙◌, add-zero}
+use Rattle.std.proofs.Common.{arith}
 use Rattle.std.specs.Int.{bit_at, w128}
 use Rattle.std.proofs.lemmas.Bool.{cases_lt}
 use Rattle.std.proofs.lemmas.Nat.{pow_pos, shr_split, shr-shr, or_lt, mod_below, and_le_l}
-use Rattle.std.proofs.lemmas.Nat.Bits.{bit_at_and, bit_at_or, bit_at_not, bit_at-zero, bit_at-lt, bit_at_above, bit_at_cat_low, bit_at_cat_high, bit_at_ones, bit_at_ones_above, same_from_bits_below}
+use Rattle.std.proofs.lemmas.Nat.Bits.{bit_at_and, bit_at_or, bit_at_not, bit_at-zero, bit_at-lt, bit_at_above, bit_at_cat_low}
+use Rattle.std.proofs.lemmas.Nat.Bits.{bit_at_cat_high, bit_at_ones, bit_at_ones_above, same_from_bits_below}
 
 -- ---- shifts and rests
 pub bit_at-mod : (n k i : ℕ) → i < k → bit_at (n % 2 ^ k) i ≡ bit_at n i
@@ -26,7 +28,8 @@ pub bit_at-part : (x low w i : ℕ) → i < w → bit_at (x / 2 ^ low % 2 ^ w) i
 bit_at-part x low w i l = bit_at-mod (x / 2 ^ low) w i l ∙ bit_at-shr x low i
 
 -- ---- a part replaced
-pub bit_at-put_below : (x low w part i : ℕ) → i < 128 → i < low → bit_at (((x / 2 ^ (low + w) * 2 ^ w + part % 2 ^ w) * 2 ^ low + x % 2 ^ low) % 2 ^ 128) i ≡ bit_at x i
+pub bit_at-put_below : (x low w part i : ℕ) → i < 128 → i < low → bit_at
+    (((x / 2 ^ (low + w) * 2 ^ w + part % 2 ^ w) * 2 ^ low + x % 2 ^ low) % 2 ^ 128) i ≡ bit_at x i
 bit_at-put_below x low w part i l h =
     bit_at-mod ((x / 2 ^ (low + w) * 2 ^ w + part % 2 ^ w) * 2 ^ low + x % 2 ^ low) 128 i l
     ∙ bit_at_cat_low (x / 2 ^ (low + w) * 2 ^ w + part % 2 ^ w) low (x % 2 ^ low) i h
@@ -37,14 +40,16 @@ put-high : (a x low i : ℕ) → i < 128 → low ≤ i → bit_at ((a * 2 ^ low 
 put-high a x low i l h =
     bit_at-mod (a * 2 ^ low + x % 2 ^ low) 128 i l ∙ bit_at_cat_high a low (x % 2 ^ low) i (mod_below x (2 ^ low) (pow_pos low)) h
 
-pub bit_at-put_inside : (x low w part i : ℕ) → i < 128 → low ≤ i → i < low + w → bit_at (((x / 2 ^ (low + w) * 2 ^ w + part % 2 ^ w) * 2 ^ low + x % 2 ^ low) % 2 ^ 128) i ≡ bit_at part (i - low)
+pub bit_at-put_inside : (x low w part i : ℕ) → i < 128 → low ≤ i → i < low + w
+    → bit_at (((x / 2 ^ (low + w) * 2 ^ w + part % 2 ^ w) * 2 ^ low + x % 2 ^ low) % 2 ^ 128) i ≡ bit_at part (i - low)
 bit_at-put_inside x low w part i l h u =
     let inside : i - low < w = omega arith in
     put-high (x / 2 ^ (low + w) * 2 ^ w + part % 2 ^ w) x low i l h
     ∙ bit_at_cat_low (x / 2 ^ (low + w)) w (part % 2 ^ w) (i - low) inside
     ∙ bit_at-mod part w (i - low) inside
 
-pub bit_at-put_above : (x low w part i : ℕ) → i < 128 → low + w ≤ i → bit_at (((x / 2 ^ (low + w) * 2 ^ w + part % 2 ^ w) * 2 ^ low + x % 2 ^ low) % 2 ^ 128) i ≡ bit_at x i
+pub bit_at-put_above : (x low w part i : ℕ) → i < 128 → low + w ≤ i → bit_at
+    (((x / 2 ^ (low + w) * 2 ^ w + part % 2 ^ w) * 2 ^ low + x % 2 ^ low) % 2 ^ 128) i ≡ bit_at x i
 bit_at-put_above x low w part i l h =
     let place : (low + w) + ((i - low) - w) ≡ i = omega arith in
     put-high (x / 2 ^ (low + w) * 2 ^ w + part % 2 ^ w) x low i l (omega arith)
@@ -54,7 +59,8 @@ bit_at-put_above x low w part i l h =
 
 -- ---- a part replaced by masks of 128 bits
 -- from bit 128 on there is nothing to replace
-pub put-past : (x low w part : ℕ) → x < 2 ^ 128 → 128 ≤ low → x ≡ ((x / 2 ^ (low + w) * 2 ^ w + part % 2 ^ w) * 2 ^ low + x % 2 ^ low) % 2 ^ 128
+pub put-past : (x low w part : ℕ) → x < 2 ^ 128 → 128 ≤ low → x ≡ ((x / 2 ^ (low + w) * 2 ^ w + part % 2 ^ w) * 2 ^ low + x % 2 ^ low) % 2 ^
+    128
 put-past x low w part lx h =
     same_from_bits_below 128 x _ lx (mod_below ((x / 2 ^ (low + w) * 2 ^ w + part % 2 ^ w) * 2 ^ low + x % 2 ^ low) (2 ^ 128) (pow_pos 128))
     (λ i l. sym (bit_at-put_below x low w part i l (omega arith)))
@@ -66,20 +72,24 @@ shifted-above : (n k i : ℕ) → i < 128 → k ≤ i → bit_at (n * 2 ^ k % 2 
 shifted-above n k i l h = bit_at-mod (n * 2 ^ k) 128 i l ∙ bit_at-shl_above n k i h
 
 -- the bits outside a mask kept, and others put in
-masked-bit : (x mask part i : ℕ) → mask < 2 ^ 128 → i < 128 → bit_at (bit_or (bit_and x (2 ^ 128 - 1 - mask)) part) i ≡ max (min (bit_at x i) (1 - bit_at mask i)) (bit_at part i)
+masked-bit : (x mask part i : ℕ) → mask < 2 ^ 128 → i < 128 → bit_at (bit_or (bit_and x (2 ^ 128 - 1 - mask)) part) i
+    ≡ max (min (bit_at x i) (1 - bit_at mask i)) (bit_at part i)
 masked-bit x mask part i lm l =
     let either = bit_at_or (bit_and x (2 ^ 128 - 1 - mask)) part i in
     let both = bit_at_and x (2 ^ 128 - 1 - mask) i in
     let outside : bit_at (2 ^ 128 - 1 - mask) i ≡ 1 - bit_at mask i = bit_at_not w128 mask i lm l in
     either ∙ ap (λ b. max b (bit_at part i)) (both ∙ ap (λ b. min (bit_at x i) b) outside)
 
-outside-mask : (x mask part i : ℕ) → mask < 2 ^ 128 → i < 128 → bit_at mask i ≡ 0 → bit_at part i ≡ 0 → bit_at (bit_or (bit_and x (2 ^ 128 - 1 - mask)) part) i ≡ bit_at x i
+outside-mask : (x mask part i : ℕ) → mask < 2 ^ 128 → i < 128 → bit_at mask i ≡ 0 → bit_at part i ≡ 0
+    → bit_at (bit_or (bit_and x (2 ^ 128 - 1 - mask)) part) i ≡ bit_at x i
 outside-mask x mask part i lm l m p = let e = masked-bit x mask part i lm l in let b = bit_at-lt x i in omega arith
 
-inside-mask : (x mask part i : ℕ) → mask < 2 ^ 128 → i < 128 → bit_at mask i ≡ 1 → bit_at (bit_or (bit_and x (2 ^ 128 - 1 - mask)) part) i ≡ bit_at part i
+inside-mask : (x mask part i : ℕ) → mask < 2 ^ 128 → i < 128 → bit_at mask i ≡ 1 → bit_at (bit_or (bit_and x (2 ^ 128 - 1 - mask)) part) i
+    ≡ bit_at part i
 inside-mask x mask part i lm l m = let e = masked-bit x mask part i lm l in omega arith
 
-put-bit : (x low w part i : ℕ) → i < 128 → bit_at (bit_or (bit_and x (2 ^ 128 - 1 - (2 ^ w - 1) * 2 ^ low % 2 ^ 128)) (part % 2 ^ w * 2 ^ low % 2 ^ 128)) i ≡ bit_at (((x / 2 ^ (low + w) * 2 ^ w + part % 2 ^ w) * 2 ^ low + x % 2 ^ low) % 2 ^ 128) i
+put-bit : (x low w part i : ℕ) → i < 128 → bit_at (bit_or (bit_and x (2 ^ 128 - 1 - (2 ^ w - 1) * 2 ^ low % 2 ^ 128))
+    (part % 2 ^ w * 2 ^ low % 2 ^ 128)) i ≡ bit_at (((x / 2 ^ (low + w) * 2 ^ w + part % 2 ^ w) * 2 ^ low + x % 2 ^ low) % 2 ^ 128) i
 put-bit x low w part i l =
     let lm = mod_below ((2 ^ w - 1) * 2 ^ low) (2 ^ 128) (pow_pos 128) in
     ⊎_elim
@@ -102,9 +112,11 @@ put-bit x low w part i l =
     (cases_lt i (low + w)))
     (cases_lt i low)
 
-pub put-by_masks : (x low w part : ℕ) → x < 2 ^ 128 → bit_or (bit_and x (2 ^ 128 - 1 - (2 ^ w - 1) * 2 ^ low % 2 ^ 128)) (part % 2 ^ w * 2 ^ low % 2 ^ 128) ≡ ((x / 2 ^ (low + w) * 2 ^ w + part % 2 ^ w) * 2 ^ low + x % 2 ^ low) % 2 ^ 128
+pub put-by_masks : (x low w part : ℕ) → x < 2 ^ 128 → bit_or (bit_and x (2 ^ 128 - 1 - (2 ^ w - 1) * 2 ^ low % 2 ^ 128))
+    (part % 2 ^ w * 2 ^ low % 2 ^ 128) ≡ ((x / 2 ^ (low + w) * 2 ^ w + part % 2 ^ w) * 2 ^ low + x % 2 ^ low) % 2 ^ 128
 put-by_masks x low w part lx =
     same_from_bits_below 128 _ _
-    (or_lt 128 _ _ (omega (arith, and_le_l x (2 ^ 128 - 1 - (2 ^ w - 1) * 2 ^ low % 2 ^ 128))) (mod_below (part % 2 ^ w * 2 ^ low) (2 ^ 128) (pow_pos 128)))
+    (or_lt 128 _ _ (omega (arith, and_le_l x (2 ^ 128 - 1 - (2 ^ w - 1) * 2 ^ low % 2 ^ 128)))
+    (mod_below (part % 2 ^ w * 2 ^ low) (2 ^ 128) (pow_pos 128)))
     (mod_below ((x / 2 ^ (low + w) * 2 ^ w + part % 2 ^ w) * 2 ^ low + x % 2 ^ low) (2 ^ 128) (pow_pos 128))
     (λ i l. put-bit x low w part i l)

@@ -1,3 +1,5 @@
+//! Sums, products and shifts of numbers of some bits, which wrap at their width.
+
 ghost use Rattle.std.specs.Prelude.{◌≡◌, ◌+◌, ◌-◌, ◌*◌, ◌/◌, ◌%◌, ◌^◌, ◌<◌, ◌≤◌};
 
 use crate::bits::trim;

@@ -1,3 +1,5 @@
+//! Parts of a number by bits: cut out, put in, joined.
+
 ghost use Rattle.std.specs.Prelude.{◌≡◌, ◌+◌, ◌-◌, ◌*◌, ◌/◌, ◌%◌, ◌^◌, ◌<◌, ◌≤◌};
 
 /// The number of `w` ones, 1 to 128 of them.

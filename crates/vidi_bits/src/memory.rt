@@ -1,3 +1,5 @@
+//! Want of memory, the one error that every call may answer.
+
 ghost use Rattle.std.specs.Prelude.{◌≡◌};
 
 use std::alloc::{AllocError, AllocFailed};

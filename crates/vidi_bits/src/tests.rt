@@ -1,3 +1,5 @@
+//! Each public call once.
+
 use crate::arithmetic::{add_w, mul_w, shl_w, shr_w, sub_w};
 use crate::bits::{join, put, slice, trim};
 use crate::items::{Bytes, Items, Name, Numbers};

@@ -1,5 +1,6 @@
 -- A file of a shelf that a sink starts and adds to.
-use Rattle.std.proofs.Common.{◌≡◌, ◌⊎◌, ℕ, ◌<◌, ◌≤◌, Bool, true, false, cond, List, [], ◌∷◌, ◌++◌, Option, Some, None, Result, Ok, Err, OnOk, OnErr, unwrap_or, length, take, drop, inl, inr, ⊎_elim, refl, sym, ap, subst, ◌∙◌, arith}
+use Rattle.std.proofs.Common.{◌≡◌, ◌⊎◌, ℕ, ◌<◌, ◌≤◌, Bool, true, false, cond, List, [], ◌∷◌, ◌++◌, Option, Some, None, Result, Ok, Err}
+use Rattle.std.proofs.Common.{OnOk, OnErr, unwrap_or, length, take, drop, inl, inr, ⊎_elim, refl, sym, ap, subst, ◌∙◌, arith}
 use Rattle.std.proofs.lemmas.List.{append-nil, take-append-drop}
 use Rattle.std.proofs.lemmas.Option.{same_Some}
 use Rattle.std.proofs.lemmas.Map.Text.{is_eq-slice_cmp}
@@ -13,7 +14,8 @@ use Rattle.vidi_io.specs.Sink.{Frame, AppendsSome}
 use Rattle.vidi_io.proofs.Names.{bytes_eq-self, same_files}
 
 get-here : (m : Files) (name bytes : List ℕ) → get (insert m name bytes) name ≡ Some bytes
-get-here m name bytes = get-insert nat_list_cmp_total m name bytes name ∙ ap (λ t. cond t (Some bytes) (get m name)) (is_eq-slice_cmp name name ∙ bytes_eq-self name)
+get-here m name bytes = get-insert nat_list_cmp_total m name bytes name
+    ∙ ap (λ t. cond t (Some bytes) (get m name)) (is_eq-slice_cmp name name ∙ bytes_eq-self name)
 
 bytes_of-insert : (m : Files) (name bytes : List ℕ) → bytes_of (insert m name bytes) name ≡ bytes
 bytes_of-insert m name bytes = ap (λ o. unwrap_or o []) (get-here m name bytes)
@@ -27,30 +29,36 @@ twice false a b o = refl
 
 insert-insert : (m : Files) (name a b : List ℕ) → insert (insert m name a) name b ≡ insert m name b
 insert-insert m name a b = same_files (insert (insert m name a) name b) (insert m name b)
-    (λ q. get-at (insert m name a) name b q ∙ ap (cond (bytes_eq q name) (Some b)) (get-at m name a q) ∙ twice (bytes_eq q name) a b (get m q) ∙ sym (get-at m name b q))
+    (λ q. get-at (insert m name a) name b q ∙ ap (cond (bytes_eq q name) (Some b)) (get-at m name a q)
+    ∙ twice (bytes_eq q name) a b (get m q) ∙ sym (get-at m name b q))
 
 holding-holding : (files : Option Files) (name a b : List ℕ) → holding (holding files name a) name b ≡ holding files name b
 holding-holding None name a b = refl
 holding-holding (Some m) name a b = ap Some (insert-insert m name a b)
 
 -- what was held, and a piece behind it
-appended-holding : (files : Option Files) (name a piece : List ℕ) → appended (holding files name a) name piece ≡ holding files name (a ++ piece)
+appended-holding : (files : Option Files) (name a piece : List ℕ) → appended (holding files name a) name piece
+    ≡ holding files name (a ++ piece)
 appended-holding None name a piece = refl
-appended-holding (Some m) name a piece = ap Some (ap (λ bs. insert (insert m name a) name (bs ++ piece)) (bytes_of-insert m name a) ∙ insert-insert m name a (a ++ piece))
+appended-holding (Some m) name a piece = ap Some (ap (λ bs. insert (insert m name a) name (bs ++ piece)) (bytes_of-insert m name a)
+    ∙ insert-insert m name a (a ++ piece))
 
 -- ---- the bytes written
 pub written-started : (files : Option Files) (name : List ℕ) → bytes_written true (emptied files name) name ≡ bytes_written false files name
 written-started None name = refl
 written-started (Some m) name = ap Some (bytes_of-insert m name [])
 
-pub written-kept : (old new : Option Files) (name : List ℕ) → (new ≡ old) ⊎ (new ≡ emptied old name) → bytes_written false new name ≡ bytes_written false old name
-written-kept old new name cause = ⊎_elim (λ e. ap (λ fs. bytes_written false fs name) e) (λ e. ap (λ fs. bytes_written false fs name) e ∙ nothing old) cause
+pub written-kept : (old new : Option Files) (name : List ℕ) → (new ≡ old) ⊎ (new ≡ emptied old name) → bytes_written false new name
+    ≡ bytes_written false old name
+written-kept old new name cause = ⊎_elim (λ e. ap (λ fs. bytes_written false fs name) e)
+    (λ e. ap (λ fs. bytes_written false fs name) e ∙ nothing old) cause
   where
     nothing : (files : Option Files) → bytes_written false (emptied files name) name ≡ bytes_written false files name
     nothing None = refl
     nothing (Some m) = refl
 
-written-more : (files : Option Files) (name piece : List ℕ) → bytes_written true (appended files name piece) name ≡ append_known (bytes_written true files name) piece
+written-more : (files : Option Files) (name piece : List ℕ) → bytes_written true (appended files name piece) name
+    ≡ append_known (bytes_written true files name) piece
 written-more None name piece = refl
 written-more (Some m) name piece = ap Some (bytes_of-insert m name (bytes_of m name ++ piece))
 
@@ -59,12 +67,15 @@ nothing-more None = refl
 nothing-more (Some bytes) = ap Some (sym (append-nil bytes))
 
 -- after an append that answers Ok
-pushed : (started : Bool) (old new : Option Files) (was : Option (List ℕ)) (name piece : List ℕ) → started ≡ true → bytes_written started old name ≡ was → new ≡ appended old name piece → bytes_written started new name ≡ append_known was piece
+pushed : (started : Bool) (old new : Option Files) (was : Option (List ℕ)) (name piece : List ℕ) → started ≡ true
+    → bytes_written started old name ≡ was → new ≡ appended old name piece → bytes_written started new name ≡ append_known was piece
 pushed started old new was name piece s w a =
-    ap (λ b. bytes_written b new name) s ∙ ap (λ fs. bytes_written true fs name) a ∙ written-more old name piece ∙ ap (λ b. append_known (bytes_written b old name) piece) (sym s) ∙ ap (λ k. append_known k piece) w
+    ap (λ b. bytes_written b new name) s ∙ ap (λ fs. bytes_written true fs name) a ∙ written-more old name piece
+    ∙ ap (λ b. append_known (bytes_written b old name) piece) (sym s) ∙ ap (λ k. append_known k piece) w
 
 -- after one that failed
-pushed_some : (started : Bool) (old new : Option Files) (was : Option (List ℕ)) (name piece : List ℕ) → started ≡ true → bytes_written started old name ≡ was → GrewBySome old new name piece → AppendsSome was (bytes_written started new name) piece
+pushed_some : (started : Bool) (old new : Option Files) (was : Option (List ℕ)) (name piece : List ℕ) → started ≡ true
+    → bytes_written started old name ≡ was → GrewBySome old new name piece → AppendsSome was (bytes_written started new name) piece
 pushed_some started old new was name piece s w (inl e) = record {
   kept = [];
   lost = piece;
@@ -80,52 +91,66 @@ pushed_some started old new was name piece s w (inr (k, e)) = record {
 
 -- ---- the frame
 -- a start
-pub over-started : (old new : Option Files) (name : List ℕ) (reads reads' : List ℕ → ℕ) (f : Frame) → new ≡ emptied old name → ((q : List ℕ) → reads q ≤ reads' q) → IsOver false old name reads f → IsOver true new name reads' f
+pub over-started : (old new : Option Files) (name : List ℕ) (reads reads' : List ℕ → ℕ) (f : Frame) → new ≡ emptied old name
+    → ((q : List ℕ) → reads q ≤ reads' q) → IsOver false old name reads f → IsOver true new name reads' f
 over-started old new name reads reads' f e later o = record {
   same_name = o.same_name;
-  others = ([], e ∙ ⊎_elim (λ s. ap (λ fs. emptied fs name) s) (λ s. ap (λ fs. emptied fs name) s ∙ holding-holding f.files name [] []) o.others);
+  others = (
+    [],
+    e ∙ ⊎_elim (λ s. ap (λ fs. emptied fs name) s) (λ s. ap (λ fs. emptied fs name) s ∙ holding-holding f.files name [] [])
+        o.others,
+  );
   counts = λ q. omega (arith, o.counts q, later q);
 }
 
 -- one that failed
-pub over-kept : (old new : Option Files) (name : List ℕ) (reads reads' : List ℕ → ℕ) (f : Frame) → (new ≡ old) ⊎ (new ≡ emptied old name) → ((q : List ℕ) → reads q ≤ reads' q) → IsOver false old name reads f → IsOver false new name reads' f
+pub over-kept : (old new : Option Files) (name : List ℕ) (reads reads' : List ℕ → ℕ) (f : Frame) → (new ≡ old) ⊎ (new ≡ emptied old name)
+    → ((q : List ℕ) → reads q ≤ reads' q) → IsOver false old name reads f → IsOver false new name reads' f
 over-kept old new name reads reads' f cause later o = record {
   same_name = o.same_name;
   others = ⊎_elim
       (λ (e : new ≡ old). ⊎_elim (λ s. inl (e ∙ s)) (λ s. inr (e ∙ s)) o.others)
-      (λ (e : new ≡ emptied old name). inr (e ∙ ⊎_elim (λ s. ap (λ fs. emptied fs name) s) (λ s. ap (λ fs. emptied fs name) s ∙ holding-holding f.files name [] []) o.others))
+      (λ (e : new ≡ emptied old name). inr (e ∙ ⊎_elim (λ s. ap (λ fs. emptied fs name) s)
+      (λ s. ap (λ fs. emptied fs name) s ∙ holding-holding f.files name [] []) o.others))
       cause;
   counts = λ q. omega (arith, o.counts q, later q);
 }
 
-over-appended : (old new : Option Files) (name piece : List ℕ) (reads reads' : List ℕ → ℕ) (f : Frame) → new ≡ appended old name piece → ((q : List ℕ) → reads q ≤ reads' q) → IsOver true old name reads f → IsOver true new name reads' f
+over-appended : (old new : Option Files) (name piece : List ℕ) (reads reads' : List ℕ → ℕ) (f : Frame) → new ≡ appended old name piece
+    → ((q : List ℕ) → reads q ≤ reads' q) → IsOver true old name reads f → IsOver true new name reads' f
 over-appended old new name piece reads reads' f e later o = record {
   same_name = o.same_name;
   others = (o.others.0 ++ piece, e ∙ ap (λ fs. appended fs name piece) o.others.1 ∙ appended-holding f.files name o.others.0 piece);
   counts = λ q. omega (arith, o.counts q, later q);
 }
 
-over-same : (old new : Option Files) (name : List ℕ) (reads reads' : List ℕ → ℕ) (f : Frame) → new ≡ old → ((q : List ℕ) → reads q ≤ reads' q) → IsOver true old name reads f → IsOver true new name reads' f
+over-same : (old new : Option Files) (name : List ℕ) (reads reads' : List ℕ → ℕ) (f : Frame) → new ≡ old
+    → ((q : List ℕ) → reads q ≤ reads' q) → IsOver true old name reads f → IsOver true new name reads' f
 over-same old new name reads reads' f e later o = record {
   same_name = o.same_name;
   others = (o.others.0, e ∙ o.others.1);
   counts = λ q. omega (arith, o.counts q, later q);
 }
 
-over-grown : (old new : Option Files) (name piece : List ℕ) (reads reads' : List ℕ → ℕ) (f : Frame) → GrewBySome old new name piece → ((q : List ℕ) → reads q ≤ reads' q) → IsOver true old name reads f → IsOver true new name reads' f
+over-grown : (old new : Option Files) (name piece : List ℕ) (reads reads' : List ℕ → ℕ) (f : Frame) → GrewBySome old new name piece
+    → ((q : List ℕ) → reads q ≤ reads' q) → IsOver true old name reads f → IsOver true new name reads' f
 over-grown old new name piece reads reads' f (inl e) later o = over-same old new name reads reads' f e later o
 over-grown old new name piece reads reads' f (inr (k, e)) later o = over-appended old new name (take k piece) reads reads' f e later o
 
-over-answered : {T E : Type 0} (r : Result T E) (old new : Option Files) (name piece : List ℕ) (reads reads' : List ℕ → ℕ) (f : Frame) → OnOk r (new ≡ appended old name piece) → OnErr r (GrewBySome old new name piece)
+over-answered : {T E : Type 0} (r : Result T E) (old new : Option Files) (name piece : List ℕ) (reads reads' : List ℕ → ℕ) (f : Frame)
+    → OnOk r (new ≡ appended old name piece) → OnErr r (GrewBySome old new name piece)
     → ((q : List ℕ) → reads q ≤ reads' q) → IsOver true old name reads f → IsOver true new name reads' f
 over-answered (Ok x) old new name piece reads reads' f ok err later o = over-appended old new name piece reads reads' f ok later o
 over-answered (Err e) old new name piece reads reads' f ok err later o = over-grown old new name piece reads reads' f err later o
 
 -- an append, whatever it answers
-pub over-pushed : {T E : Type 0} (started : Bool) (r : Result T E) (old new : Option Files) (name piece : List ℕ) (reads reads' : List ℕ → ℕ) (f : Frame) → started ≡ true → OnOk r (new ≡ appended old name piece) → OnErr r (GrewBySome old new name piece)
+pub over-pushed : {T E : Type 0} (started : Bool) (r : Result T E) (old new : Option Files) (name piece : List ℕ)
+    (reads reads' : List ℕ → ℕ) (f : Frame) → started ≡ true → OnOk r (new ≡ appended old name piece)
+    → OnErr r (GrewBySome old new name piece)
     → ((q : List ℕ) → reads q ≤ reads' q) → IsOver started old name reads f → IsOver started new name reads' f
 over-pushed started r old new name piece reads reads' f s ok err later o =
-    subst (λ (b : Bool). IsOver b new name reads' f) (sym s) (over-answered r old new name piece reads reads' f ok err later (subst (λ (b : Bool). IsOver b old name reads f) s o))
+    subst (λ (b : Bool). IsOver b new name reads' f) (sym s) (over-answered r old new name piece reads reads' f ok err later
+    (subst (λ (b : Bool). IsOver b old name reads f) s o))
 
 on-ok : {T E : Type 0} (r : Result T E) (P Q : Type 0) → (P → Q) → OnOk r P → OnOk r Q
 on-ok (Ok x) P Q f p = f p
@@ -135,24 +160,32 @@ on-err : {T E : Type 0} (r : Result T E) (P Q : Type 0) → (P → Q) → OnErr 
 on-err (Ok x) P Q f p = tt
 on-err (Err e) P Q f p = f p
 
-pub ok-pushed : {T E : Type 0} (r : Result T E) (started : Bool) (old new : Option Files) (was : Option (List ℕ)) (name piece : List ℕ) → started ≡ true → bytes_written started old name ≡ was → OnOk r (new ≡ appended old name piece) → OnOk r (bytes_written started new name ≡ append_known was piece)
+pub ok-pushed : {T E : Type 0} (r : Result T E) (started : Bool) (old new : Option Files) (was : Option (List ℕ)) (name piece : List ℕ)
+    → started ≡ true → bytes_written started old name ≡ was → OnOk r (new ≡ appended old name piece)
+    → OnOk r (bytes_written started new name ≡ append_known was piece)
 ok-pushed r started old new was name piece s w a = on-ok r _ _ (pushed started old new was name piece s w) a
 
-pub err-pushed : {T E : Type 0} (r : Result T E) (started : Bool) (old new : Option Files) (was : Option (List ℕ)) (name piece : List ℕ) → started ≡ true → bytes_written started old name ≡ was → OnErr r (GrewBySome old new name piece) → OnErr r (AppendsSome was (bytes_written started new name) piece)
+pub err-pushed : {T E : Type 0} (r : Result T E) (started : Bool) (old new : Option Files) (was : Option (List ℕ)) (name piece : List ℕ)
+    → started ≡ true → bytes_written started old name ≡ was → OnErr r (GrewBySome old new name piece)
+    → OnErr r (AppendsSome was (bytes_written started new name) piece)
 err-pushed r started old new was name piece s w a = on-err r _ _ (pushed_some started old new was name piece s w) a
 
 -- ---- a whole file
-held-whole : (files : Option Files) (name bytes all : List ℕ) → bytes_written true (holding files name bytes) name ≡ append_known (bytes_written false files name) all → holding files name bytes ≡ holding files name all
+held-whole : (files : Option Files) (name bytes all : List ℕ) → bytes_written true (holding files name bytes) name
+    ≡ append_known (bytes_written false files name) all → holding files name bytes ≡ holding files name all
 held-whole None name bytes all w = refl
-held-whole (Some m) name bytes all w = ap (λ bs. Some (insert m name bs)) (sym (bytes_of-insert m name bytes) ∙ same_Some (bytes_of (insert m name bytes) name) all w)
+held-whole (Some m) name bytes all w = ap (λ bs. Some (insert m name bs))
+    (sym (bytes_of-insert m name bytes) ∙ same_Some (bytes_of (insert m name bytes) name) all w)
 
-none-whole : (files : Option Files) (name all : List ℕ) → 0 < length all → bytes_written false files name ≡ append_known (bytes_written false files name) all → files ≡ holding files name all
+none-whole : (files : Option Files) (name all : List ℕ) → 0 < length all → bytes_written false files name
+    ≡ append_known (bytes_written false files name) all → files ≡ holding files name all
 none-whole None name all some w = refl
 none-whole (Some m) name [] some w = absurd (omega arith)
 none-whole (Some m) name (b ∷ bs) some w = absurd (let e = same_Some [] (b ∷ bs) w in cc)
 
 -- once something was written, the file is what was written, and the others are those of the frame
-pub whole-written : (started : Bool) (now : Option Files) (name all : List ℕ) (reads : List ℕ → ℕ) (f : Frame) → 0 < length all → IsOver started now name reads f → bytes_written started now name ≡ append_known (bytes_written false f.files name) all
+pub whole-written : (started : Bool) (now : Option Files) (name all : List ℕ) (reads : List ℕ → ℕ) (f : Frame) → 0 < length all
+    → IsOver started now name reads f → bytes_written started now name ≡ append_known (bytes_written false f.files name) all
     → now ≡ holding f.files name all
 whole-written true now name all reads f some o w =
     o.others.1 ∙ held-whole f.files name o.others.0 all (ap (λ fs. bytes_written true fs name) (sym o.others.1) ∙ w)
@@ -161,7 +194,8 @@ whole-written false now name all reads f some o w = ⊎_elim
     (λ (e : now ≡ emptied f.files name). e ∙ emptied-whole f.files name all some (ap (λ fs. bytes_written false fs name) (sym e) ∙ w))
     o.others
   where
-    emptied-whole : (files : Option Files) (name all : List ℕ) → 0 < length all → bytes_written false (emptied files name) name ≡ append_known (bytes_written false files name) all → emptied files name ≡ holding files name all
+    emptied-whole : (files : Option Files) (name all : List ℕ) → 0 < length all → bytes_written false (emptied files name) name
+        ≡ append_known (bytes_written false files name) all → emptied files name ≡ holding files name all
     emptied-whole None name all some w = refl
     emptied-whole (Some m) name [] some w = absurd (omega arith)
     emptied-whole (Some m) name (b ∷ bs) some w = absurd (let e = same_Some [] (b ∷ bs) w in cc)

@@ -1,5 +1,6 @@
 -- What a memory shelf holds: a list of entries, of which the first of a name counts.
-use Rattle.std.specs.Prelude.{◌≡◌, ◌≢◌, ℕ, ◌+◌, ◌<◌, ◌≤◌, if◌then◌else◌, List, [], ◌∷◌, Option, None, Some, IsSome, length, option_map, unwrap_or, IfSome, IsSomeAnd, vec_capacity}
+use Rattle.std.specs.Prelude.{◌≡◌, ◌≢◌, ℕ, ◌+◌, ◌<◌, ◌≤◌, if◌then◌else◌, List, [], ◌∷◌, Option, None, Some, IsSome, length, option_map}
+use Rattle.std.specs.Prelude.{unwrap_or, IfSome, IsSomeAnd, vec_capacity}
 use Rattle.std.specs.List.{find}
 use Rattle.std.specs.Str.{bytes_eq}
 use Rattle.std.specs.FinMap.{get, empty, insert, remove}

@@ -16,4 +16,5 @@ FetchAnswer (Some file) (Some fail) result = result ≡ Err Failed
 
 -- the told files after this front of a piece was added; without room for it they stay
 abbrev pub KeptFront : List Entry → List Entry → List ℕ → List ℕ → Type 0
-KeptFront old new name front = Became old new (insert (files_of old) name (bytes_of (files_of old) name ++ front)) ⊎ (Became old new (files_of old) × LacksRoom old name (length front))
+KeptFront old new name front = Became old new (insert (files_of old) name (bytes_of (files_of old) name ++ front))
+    ⊎ (Became old new (files_of old) × LacksRoom old name (length front))

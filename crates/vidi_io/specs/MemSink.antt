@@ -1,4 +1,5 @@
--- What a memory sink shows: the bytes written and the room for more, the pushes that are listed to fail, how many were made and how many failed.
+-- What a memory sink shows: the bytes written and the room for more, the pushes that are listed to fail, how many were made and how many
+-- failed.
 use Rattle.std.specs.Prelude.{ℕ, List, vec_capacity}
 use Rattle.vidi_io.specs.declared.mem_sink.MemSink.{MemSink}
 

@@ -10,7 +10,8 @@ use Rattle.vidi_io.specs.declared.reading.ReadError.TheVariants.{Missing, Failed
 abbrev pub ReadCause : ReadError → Option Files → List ℕ → ℕ → ℕ → ℕ → Type 0
 ReadCause Missing files name limit before now = IfSome files (λ m. get m name ≡ None)
 ReadCause Failed files name limit before now = Rose before now
-ReadCause (TooLong given) files name limit before now = (given ≡ limit) × IfSome files (λ m. IsSomeAnd (get m name) (λ file. limit < length file))
+ReadCause (TooLong given) files name limit before now = (given ≡ limit)
+    × IfSome files (λ m. IsSomeAnd (get m name) (λ file. limit < length file))
 ReadCause Memory files name limit before now = Unit {0}
 
 -- what is answered of a told file, or of none, where no read of the name failed and memory was found

@@ -11,5 +11,6 @@ bytes_written started files name = option_map (λ m. if started then bytes_of m 
 -- was started; before that it is as in the frame, or empty where a start failed. No count of failed reads fell.
 pub record IsOver (started : Bool) (files : Option Files) (name : List ℕ) (reads : List ℕ → ℕ) (f : Frame) : Type 0 where
   pub same_name : name ≡ f.name
-  pub others : MatchBool started ((bytes : List ℕ) × (files ≡ holding f.files name bytes)) ((files ≡ f.files) ⊎ (files ≡ emptied f.files name))
+  pub others : MatchBool started ((bytes : List ℕ) × (files ≡ holding f.files name bytes))
+      ((files ≡ f.files) ⊎ (files ≡ emptied f.files name))
   pub counts : (q : List ℕ) → f.reads q ≤ reads q

@@ -1,4 +1,7 @@
-ghost use Rattle.std.specs.Prelude.{◌≡◌, ◌+◌, ◌<◌, ◌≤◌, ◌++◌, [], Some, None, IsSome, IsTrue, MatchBool, length, IfOk, OnOk, OnErr, IsSomeAnd, unwrap_or, vec_capacity};
+//! The files of a shelf in memory, by name.
+
+ghost use Rattle.std.specs.Prelude.{◌≡◌, ◌+◌, ◌<◌, ◌≤◌, ◌++◌, [], Some, None, IsSome, IsTrue, MatchBool, length, IfOk, OnOk, OnErr};
+ghost use Rattle.std.specs.Prelude.{IsSomeAnd, unwrap_or, vec_capacity};
 ghost use Rattle.std.specs.Option.{option_copied};
 ghost use Rattle.std.specs.List.{position};
 ghost use Rattle.std.specs.Str.{bytes_eq};
@@ -162,7 +165,8 @@ pub fn start_file(entries: &mut Vec<Entry>, name: &str) -> Result<(), AllocError
 
 /// Adds a piece to the file, which is empty where it isn't there.
 pub fn append_file(entries: &mut Vec<Entry>, name: &str, piece: &[u8]) -> Result<(), AllocError>
-    ensures ok { OnOk result (Became entries.old.items entries.new.items (insert (files_of entries.old.items) name.now (bytes_of (files_of entries.old.items) name.now ++ piece.now))) }
+    ensures ok { OnOk result (Became entries.old.items entries.new.items
+        (insert (files_of entries.old.items) name.now (bytes_of (files_of entries.old.items) name.now ++ piece.now))) }
     ensures err { OnErr result (Became entries.old.items entries.new.items (files_of entries.old.items)) }
     ensures full { OnErr result (LacksRoom entries.old.items name.now (length piece.now)) }
 {
@@ -181,7 +185,8 @@ pub fn hold_file(entries: &mut Vec<Entry>, name: &str, bytes: &[u8]) -> Result<(
 
 /// Counts a failed read of the file of this name, and says whether it is there.
 pub fn count_fault(entries: &mut Vec<Entry>, name: &str) -> bool
-    ensures { MatchBool result (ReadFailed entries.old.items entries.new.items name.now) (Became entries.old.items entries.new.items (files_of entries.old.items) × (get (files_of entries.old.items) name.now ≡ None)) }
+    ensures { MatchBool result (ReadFailed entries.old.items entries.new.items name.now)
+        (Became entries.old.items entries.new.items (files_of entries.old.items) × (get (files_of entries.old.items) name.now ≡ None)) }
 {
     match place(entries.as_slice(), name) {
         Some(i) => entries[i].count_fault(),

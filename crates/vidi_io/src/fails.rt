@@ -1,3 +1,5 @@
+//! The calls of a shelf in memory that fail, as listed.
+
 ghost use Rattle.std.specs.Prelude.{◌≡◌, option_map};
 ghost use Rattle.vidi_io.specs.Fails.{next_listed, counted, first_listing};
 

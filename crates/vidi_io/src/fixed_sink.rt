@@ -1,3 +1,5 @@
+//! A sink over bytes that the caller lends.
+
 ghost use Rattle.std.specs.Prelude.{◌≤◌, length};
 
 use crate::sink::{Failed, Sink};

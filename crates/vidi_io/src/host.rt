@@ -1,3 +1,5 @@
+//! The shelf and the sink of the machine that the program runs on.
+
 ghost use Rattle.std.specs.Prelude.{◌≡◌, ◌≤◌, length, IfOk, OnOk};
 ghost use Rattle.std.specs.Io.KnownBytes.{Appends};
 ghost use Rattle.vidi_io.specs.Cause.{Rose};

@@ -1,3 +1,5 @@
+//! A shelf in memory.
+
 ghost use Rattle.std.specs.Prelude.{◌≡◌, ◌≢◌, ℕ, ◌≤◌, ◌⊎◌, List, None, Some, Err, IsErr, length, take, IfOk, OnOk, OnErr, OnSome, IfNone};
 ghost use Rattle.std.specs.Prelude.{IfSome, IsSomeAnd, IsErrOf, MatchOption};
 ghost use Rattle.std.specs.Option.{option_copied};
@@ -79,7 +81,9 @@ impl MemShelf {
 
     /// Answers a fetch that is listed, and counts it where the file is there.
     fn failed_fetch(&mut self, name: &str) -> Result<usize, FetchError>
-        ensures answer { MatchOption (get (files_of (entries self.old)) name.now) ((result ≡ Err FetchError.Missing) × Became (entries self.old) (entries self.new) (files_of (entries self.old))) (λ _. (result ≡ Err FetchError.Failed) × ReadFailed (entries self.old) (entries self.new) name.now) }
+        ensures answer { MatchOption (get (files_of (entries self.old)) name.now)
+            ((result ≡ Err FetchError.Missing) × Became (entries self.old) (entries self.new) (files_of (entries self.old)))
+            (λ _. (result ≡ Err FetchError.Failed) × ReadFailed (entries self.old) (entries self.new) name.now) }
         ensures plan { planned self.new ≡ planned self.old }
         ensures writes { failed_writes self.new ≡ failed_writes self.old }
     {
@@ -125,12 +129,17 @@ impl Shelf for MemShelf {
         ensures bytes { IfOk result (λ n. IsSomeAnd (get (files_of (entries self.old)) name.now) (λ file. Gives file at n buf.new)) }
         ensures missing { IsErrOf result FetchError.Missing → get (files_of (entries self.old)) name.now ≡ None }
         ensures absent { get (files_of (entries self.old)) name.now ≡ None → result ≡ Err FetchError.Missing }
-        ensures quiet { IsErrOf result FetchError.Missing → SameCounts (faults_of (entries self.old)) (faults_of (entries self.new)) (failed_writes self.old) (failed_writes self.new) }
-        ensures failed { IsErrOf result FetchError.Failed → Rose (faults_of (entries self.old) name.now) (faults_of (entries self.new) name.now) }
+        ensures quiet { IsErrOf result FetchError.Missing → SameCounts (faults_of (entries self.old)) (faults_of (entries self.new))
+            (failed_writes self.old) (failed_writes self.new) }
+        ensures failed { IsErrOf result FetchError.Failed → Rose (faults_of (entries self.old) name.now)
+            (faults_of (entries self.new) name.now) }
         ensures files { Some (files_of (entries self.new)) ≡ Some (files_of (entries self.old)) }
-        ensures counts { Later (faults_of (entries self.old)) (faults_of (entries self.new)) (failed_writes self.old) (failed_writes self.new) }
-        ensures sound { IfOk result (λ _. SameCounts (faults_of (entries self.old)) (faults_of (entries self.new)) (failed_writes self.old) (failed_writes self.new)) }
-        ensures alone { IsErrOf result FetchError.Failed → ((q : List ℕ) → q ≢ name.now → faults_of (entries self.new) q ≡ faults_of (entries self.old) q) × (failed_writes self.new ≡ failed_writes self.old) }
+        ensures counts { Later (faults_of (entries self.old)) (faults_of (entries self.new)) (failed_writes self.old)
+            (failed_writes self.new) }
+        ensures sound { IfOk result (λ _. SameCounts (faults_of (entries self.old)) (faults_of (entries self.new)) (failed_writes self.old)
+            (failed_writes self.new)) }
+        ensures alone { IsErrOf result FetchError.Failed → ((q : List ℕ) → q ≢ name.now → faults_of (entries self.new) q
+            ≡ faults_of (entries self.old) q) × (failed_writes self.new ≡ failed_writes self.old) }
         ensures answer { FetchAnswer (get (files_of (entries self.old)) name.now) (next_listed (planned self.old) FailCall.Fetch) result }
         ensures plan { planned self.new ≡ counted (planned self.old) FailCall.Fetch }
         ensures rooms { RoomsStay (entries self.old) (entries self.new) }
@@ -146,14 +155,18 @@ impl Shelf for MemShelf {
 
     fn start(&mut self, name: &str) -> Result<(), Failed>
         ensures ok { OnOk result (Some (files_of (entries self.new)) ≡ emptied (Some (files_of (entries self.old))) name.now) }
-        ensures err { OnErr result ((Some (files_of (entries self.new)) ≡ Some (files_of (entries self.old))) ⊎ (Some (files_of (entries self.new)) ≡ emptied (Some (files_of (entries self.old))) name.now)) }
+        ensures err { OnErr result ((Some (files_of (entries self.new)) ≡ Some (files_of (entries self.old)))
+            ⊎ (Some (files_of (entries self.new)) ≡ emptied (Some (files_of (entries self.old))) name.now)) }
         ensures failed { OnErr result (Rose (failed_writes self.old) (failed_writes self.new)) }
-        ensures counts { Later (faults_of (entries self.old)) (faults_of (entries self.new)) (failed_writes self.old) (failed_writes self.new) }
-        ensures sound { OnOk result (SameCounts (faults_of (entries self.old)) (faults_of (entries self.new)) (failed_writes self.old) (failed_writes self.new)) }
+        ensures counts { Later (faults_of (entries self.old)) (faults_of (entries self.new)) (failed_writes self.old)
+            (failed_writes self.new) }
+        ensures sound { OnOk result (SameCounts (faults_of (entries self.old)) (faults_of (entries self.new)) (failed_writes self.old)
+            (failed_writes self.new)) }
         ensures reads { OnErr result ((q : List ℕ) → faults_of (entries self.new) q ≡ faults_of (entries self.old) q) }
         ensures left { OnErr result (Became (entries self.old) (entries self.new) (files_of (entries self.old))) }
         ensures listed { OnSome (next_listed (planned self.old) FailCall.Start) (IsErr result) }
-        ensures unlisted { IfNone (next_listed (planned self.old) FailCall.Start) (OnErr result (room_of (entries self.old) name.now ≡ None)) }
+        ensures unlisted { IfNone (next_listed (planned self.old) FailCall.Start)
+            (OnErr result (room_of (entries self.old) name.now ≡ None)) }
         ensures plan { planned self.new ≡ counted (planned self.old) FailCall.Start }
         ensures rooms { RoomsStay (entries self.old) (entries self.new) }
     {
@@ -168,13 +181,19 @@ impl Shelf for MemShelf {
 
     fn append(&mut self, name: &str, piece: &[u8]) -> Result<(), Failed>
         ensures ok { OnOk result (Some (files_of (entries self.new)) ≡ appended (Some (files_of (entries self.old))) name.now piece.now) }
-        ensures err { OnErr result (GrewBySome (Some (files_of (entries self.old))) (Some (files_of (entries self.new))) name.now piece.now) }
+        ensures err { OnErr result
+            (GrewBySome (Some (files_of (entries self.old))) (Some (files_of (entries self.new))) name.now piece.now) }
         ensures failed { OnErr result (Rose (failed_writes self.old) (failed_writes self.new)) }
-        ensures counts { Later (faults_of (entries self.old)) (faults_of (entries self.new)) (failed_writes self.old) (failed_writes self.new) }
-        ensures sound { OnOk result (SameCounts (faults_of (entries self.old)) (faults_of (entries self.new)) (failed_writes self.old) (failed_writes self.new)) }
+        ensures counts { Later (faults_of (entries self.old)) (faults_of (entries self.new)) (failed_writes self.old)
+            (failed_writes self.new) }
+        ensures sound { OnOk result (SameCounts (faults_of (entries self.old)) (faults_of (entries self.new)) (failed_writes self.old)
+            (failed_writes self.new)) }
         ensures reads { OnErr result ((q : List ℕ) → faults_of (entries self.new) q ≡ faults_of (entries self.old) q) }
-        ensures listed { IfSome (next_listed (planned self.old) FailCall.Append) (λ fail. IsErr result × KeptFront (entries self.old) (entries self.new) name.now (take fail.kept piece.now)) }
-        ensures unlisted { IfNone (next_listed (planned self.old) FailCall.Append) (OnErr result (Became (entries self.old) (entries self.new) (files_of (entries self.old)) × LacksRoom (entries self.old) name.now (length piece.now))) }
+        ensures listed { IfSome (next_listed (planned self.old) FailCall.Append)
+            (λ fail. IsErr result × KeptFront (entries self.old) (entries self.new) name.now (take fail.kept piece.now)) }
+        ensures unlisted { IfNone (next_listed (planned self.old) FailCall.Append)
+            (OnErr result (Became (entries self.old) (entries self.new) (files_of (entries self.old))
+            × LacksRoom (entries self.old) name.now (length piece.now))) }
         ensures plan { planned self.new ≡ counted (planned self.old) FailCall.Append }
         ensures rooms { RoomsStay (entries self.old) (entries self.new) }
     {

@@ -1,3 +1,5 @@
+//! A sink in memory, which can fail at a listed call.
+
 ghost use Rattle.std.specs.Prelude.{◌≡◌, ◌+◌, ◌<◌, ◌≤◌, [], Some, IsErr, length, OnOk, OnErr, MatchBool, vec_capacity};
 ghost use Rattle.std.specs.Io.KnownBytes.{append_known};
 ghost use Rattle.vidi_io.specs.Cause.{HasCause};
@@ -89,7 +91,8 @@ impl Sink for MemSink {
         ensures cause { HasCause (failed_pushes self.old) (failed_pushes self.new) result }
         ensures sound { OnOk result (failed_pushes self.new ≡ failed_pushes self.old) }
         ensures left { OnErr result (written self.new ≡ written self.old) }
-        ensures listed { MatchBool (push_listed (listed self.old) (pushes_made self.old)) (IsErr result) (OnErr result (capacity self.old < length (written self.old) + length piece.now)) }
+        ensures listed { MatchBool (push_listed (listed self.old) (pushes_made self.old)) (IsErr result)
+            (OnErr result (capacity self.old < length (written self.old) + length piece.now)) }
         ensures pushes { pushes_made self.new ≡ one_more (pushes_made self.old) }
         ensures fails { listed self.new ≡ listed self.old }
         ensures room { capacity self.old ≤ capacity self.new }

@@ -1,3 +1,5 @@
+//! A file read whole.
+
 ghost use Rattle.std.specs.Prelude.{◌≡◌, ◌<◌, ◌≤◌, ◌⊎◌, Some, Err, length, IfOk, IfErr, IfSome};
 ghost use Rattle.std.specs.FinMap.{get};
 ghost use Rattle.vidi_io.specs.Shelf.{Later};
@@ -50,8 +52,10 @@ pub fn read_whole<S: Shelf>(
 ) -> Result<Bytes, ReadError>
     ensures bytes { IfOk result (λ bytes. IfSome (S.files shelf.old) (λ m. get m name.now ≡ Some bytes)) }
     ensures within { IfOk result (λ bytes. length bytes ≤ limit) }
-    ensures cause { IfErr result (λ e. ReadCause e (S.files shelf.old) name.now limit (S.read_faults shelf.old name.now) (S.read_faults shelf.new name.now)) }
-    ensures whole { IfSome (S.files shelf.old) (λ m. ¬ (Rose (S.read_faults shelf.old name.now) (S.read_faults shelf.new name.now)) → (result ≡ Err ReadError.Memory) ⊎ Whole (get m name.now) limit result) }
+    ensures cause { IfErr result (λ e. ReadCause e (S.files shelf.old) name.now limit (S.read_faults shelf.old name.now)
+        (S.read_faults shelf.new name.now)) }
+    ensures whole { IfSome (S.files shelf.old) (λ m. ¬ (Rose (S.read_faults shelf.old name.now) (S.read_faults shelf.new name.now))
+        → (result ≡ Err ReadError.Memory) ⊎ Whole (get m name.now) limit result) }
     ensures files { S.files shelf.new ≡ S.files shelf.old }
     ensures counts { Later (S.read_faults shelf.old) (S.read_faults shelf.new) (S.write_faults shelf.old) (S.write_faults shelf.new) }
 {
@@ -70,7 +74,8 @@ fn read_by<S: Shelf>(
     requires { 0 < length buf.old }
     ensures bytes { IfOk result (λ bytes. IfSome (S.files shelf.old) (λ m. get m name.now ≡ Some bytes)) }
     ensures within { IfOk result (λ bytes. length bytes ≤ limit) }
-    ensures cause { IfErr result (λ e. ReadCause e (S.files shelf.old) name.now limit (S.read_faults shelf.old name.now) (S.read_faults shelf.new name.now)) }
+    ensures cause { IfErr result (λ e. ReadCause e (S.files shelf.old) name.now limit (S.read_faults shelf.old name.now)
+        (S.read_faults shelf.new name.now)) }
     ensures files { S.files shelf.new ≡ S.files shelf.old }
     ensures counts { Later (S.read_faults shelf.old) (S.read_faults shelf.new) (S.write_faults shelf.old) (S.write_faults shelf.new) }
 {

@@ -1,3 +1,5 @@
+//! What holds files by name.
+
 ghost use Rattle.std.specs.Prelude.{◌≡◌, ℕ, ◌≤◌, ◌⊎◌, List, Option, None, Err, length, IfOk, OnOk, OnErr, IfSome, IsSomeAnd, IsErrOf};
 ghost use Rattle.std.specs.FinMap.{get};
 ghost use Rattle.vidi_io.specs.Cause.{Rose};
@@ -37,7 +39,8 @@ pub trait Shelf {
         // A name that isn't there is missing, which is no fault; no other name is.
         ensures missing { IsErrOf result FetchError.Missing → IfSome (files self.old) (λ m. get m name.now ≡ None) }
         ensures absent { IfSome (files self.old) (λ m. get m name.now ≡ None → result ≡ Err FetchError.Missing) }
-        ensures quiet { IsErrOf result FetchError.Missing → SameCounts (read_faults self.old) (read_faults self.new) (write_faults self.old) (write_faults self.new) }
+        ensures quiet { IsErrOf result FetchError.Missing → SameCounts (read_faults self.old) (read_faults self.new) (write_faults self.old)
+            (write_faults self.new) }
         ensures failed { IsErrOf result FetchError.Failed → Rose (read_faults self.old name.now) (read_faults self.new name.now) }
 
         ensures files { files self.new ≡ files self.old }

@@ -1,3 +1,5 @@
+//! A sink that writes one file of a shelf.
+
 ghost use Rattle.std.specs.Prelude.{◌≡◌, true, false, OnOk, Some};
 ghost use Rattle.vidi_io.specs.Cause.{HasCause};
 ghost use Rattle.vidi_io.specs.ShelfSink.{bytes_written, IsOver};
@@ -34,8 +36,11 @@ impl<'a, S: Shelf> ShelfSink<'a, S> {
     /// Starts the file, unless that was done.
     fn begin(&mut self) -> Result<(), Failed>
         ensures started { OnOk result (self.new.started ≡ true) }
-        ensures written { bytes_written self.new.started (S.files self.new.shelf.now) self.new.name.now ≡ bytes_written self.old.started (S.files self.old.shelf.now) self.old.name.now }
-        ensures frame { (f : Frame) → IsOver self.old.started (S.files self.old.shelf.now) self.old.name.now (S.read_faults self.old.shelf.now) f → IsOver self.new.started (S.files self.new.shelf.now) self.new.name.now (S.read_faults self.new.shelf.now) f }
+        ensures written { bytes_written self.new.started (S.files self.new.shelf.now) self.new.name.now
+            ≡ bytes_written self.old.started (S.files self.old.shelf.now) self.old.name.now }
+        ensures frame { (f : Frame) → IsOver self.old.started (S.files self.old.shelf.now) self.old.name.now
+            (S.read_faults self.old.shelf.now) f → IsOver self.new.started (S.files self.new.shelf.now) self.new.name.now
+            (S.read_faults self.new.shelf.now) f }
         ensures cause { HasCause (S.write_faults self.old.shelf.now) (S.write_faults self.new.shelf.now) result }
         ensures same { self.new.shelf.ghost_name ≡ self.old.shelf.ghost_name }
         ensures name { self.new.name.now ≡ self.old.name.now }

@@ -1,3 +1,5 @@
+//! What takes bytes in order.
+
 ghost use Rattle.std.specs.Prelude.{◌≡◌, ℕ, List, Option, OnOk, OnErr};
 ghost use Rattle.std.specs.Borrow.{GName};
 ghost use Rattle.std.specs.Io.KnownBytes.{append_known};

@@ -1,3 +1,5 @@
+//! Shelves, sinks and readings with ample memory and with failing calls.
+
 use std::alloc::Global;
 use std::{env, fs, process, test};
 use vidi_bits::{Bytes, Memory, Numbers};

@@ -1,5 +1,6 @@
 -- A numeral is read digit by digit.
-use Rattle.std.proofs.Common.{◌≡◌, ℕ, ◌+◌, ◌*◌, ◌≤◌, ◌<◌, ◌^◌, Bool, true, false, ◌&&◌, nat_lt, List, [], ◌∷◌, if◌then◌else◌, arith, Option, None, Some, refl, drop, length, get_or, ap, ◌∙◌, suc, drop-cons}
+use Rattle.std.proofs.Common.{◌≡◌, ℕ, ◌+◌, ◌*◌, ◌≤◌, ◌<◌, ◌^◌, Bool, true, false, ◌&&◌, nat_lt, List, [], ◌∷◌, if◌then◌else◌, arith, Option}
+use Rattle.std.proofs.Common.{None, Some, refl, drop, length, get_or, ap, ◌∙◌, suc, drop-cons}
 use Rattle.std.proofs.lemmas.List.{drop_all}
 use Rattle.std.proofs.Math.Nat.{mul-le-mul_left}
 use Rattle.std.specs.Char.{digit_value}
@@ -52,11 +53,13 @@ digit_step base n b = if nat_lt (digit_value b) base then below_top (n * base + 
 
 pub one_digit : (base n m b : ℕ) (text : List ℕ) → digit_step base n b ≡ Some m → number_from base n (b ∷ text) ≡ number_from base m text
 one_digit base n m b text e =
-    one_at (nat_lt (digit_value b) base) (list_all (λ c. nat_lt (digit_value c) base) text) (n * base + digit_value b) m (λ k. digits_value_after base k text) e
+    one_at (nat_lt (digit_value b) base) (list_all (λ c. nat_lt (digit_value c) base) text) (n * base + digit_value b) m
+    (λ k. digits_value_after base k text) e
 
 pub no_digit : (base n b : ℕ) (text : List ℕ) → 1 ≤ base → digit_step base n b ≡ None → number_from base n (b ∷ text) ≡ None
 no_digit base n b text one e =
-    none_at (nat_lt (digit_value b) base) (list_all (λ c. nat_lt (digit_value c) base) text) (n * base + digit_value b) _ (digits_grow base (n * base + digit_value b) text one) e
+    none_at (nat_lt (digit_value b) base) (list_all (λ c. nat_lt (digit_value c) base) text) (n * base + digit_value b) _
+    (digits_grow base (n * base + digit_value b) text one) e
 
 pub small_after : (base n m b : ℕ) → digit_step base n b ≡ Some m → m < 2 ^ 128
 small_after base n m b e = small_at (nat_lt (digit_value b) base) (n * base + digit_value b) m e
@@ -65,14 +68,17 @@ pub starts : (base : ℕ) (text : List ℕ) → is_nil text ≡ false → number
 starts base [] e = cc
 starts base (b ∷ text) e = refl
 
-pub read_more : (base n m i : ℕ) (text : List ℕ) → i < length text → digit_step base n (get_or text i 0) ≡ Some m → number_from base n (drop i text) ≡ number_from base m (drop (i + 1) text)
+pub read_more : (base n m i : ℕ) (text : List ℕ) → i < length text → digit_step base n (get_or text i 0) ≡ Some m
+    → number_from base n (drop i text) ≡ number_from base m (drop (i + 1) text)
 read_more base n m i text within e =
     let split : drop i text ≡ get_or text i 0 ∷ drop (suc i) text = drop-cons text i 0 within in
     let after : suc i ≡ i + 1 = omega arith in
     let next : drop (suc i) text ≡ drop (i + 1) text = ap (λ k. drop k text) after in
-    ap (λ rest. number_from base n rest) split ∙ one_digit base n m (get_or text i 0) (drop (suc i) text) e ∙ ap (λ rest. number_from base m rest) next
+    ap (λ rest. number_from base n rest) split ∙ one_digit base n m (get_or text i 0) (drop (suc i) text) e
+    ∙ ap (λ rest. number_from base m rest) next
 
-pub read_none : (base n i : ℕ) (text : List ℕ) → 1 ≤ base → i < length text → digit_step base n (get_or text i 0) ≡ None → number_from base n (drop i text) ≡ None
+pub read_none : (base n i : ℕ) (text : List ℕ) → 1 ≤ base → i < length text → digit_step base n (get_or text i 0) ≡ None
+    → number_from base n (drop i text) ≡ None
 read_none base n i text one within e =
     ap (number_from base n) (drop-cons text i 0 within) ∙ no_digit base n (get_or text i 0) (drop (suc i) text) one e
 

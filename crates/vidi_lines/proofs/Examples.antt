@@ -13,7 +13,8 @@ unfolding file_lines
 one_line = refl
 
 -- `tie`, a tab, `p`, a carriage return, a comment with the byte 200
-pub words_before_comment : words_between (before_comment (codes "tie" ++ 9 ∷ codes "p" ++ 13 ∷ codes "#" ++ 200 ∷ [])) ≡ codes "tie" ∷ codes "p" ∷ []
+pub words_before_comment : words_between (before_comment (codes "tie" ++ 9 ∷ codes "p" ++ 13 ∷ codes "#" ++ 200 ∷ [])) ≡ codes "tie"
+    ∷ codes "p" ∷ []
 unfolding words_between
 words_before_comment = refl
 

@@ -1,3 +1,5 @@
+//! Why a text is not read as lines.
+
 ghost use Rattle.std.specs.Prelude.{◌≡◌};
 
 use std::alloc::AllocError;

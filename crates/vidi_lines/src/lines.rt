@@ -1,7 +1,10 @@
+//! The lines of a text and their words.
+
 ghost use Rattle.std.specs.Prelude.{◌≡◌, ◌≤◌, ◌<◌, ◌^◌, ◌+◌, ◌++◌, [], ◌∷◌, not, IfOk, OnOk, length, drop};
 ghost use Rattle.std.specs.List.{filter, position_or_len};
 ghost use Rattle.vidi_bits.specs.Findings.{is_nil};
-ghost use Rattle.vidi_lines.specs.Lines.{is_newline, is_hash, is_blank, may_stand, before_comment, is_bad, words_between, HasLines, HasWords};
+ghost use Rattle.vidi_lines.specs.Lines.{is_newline, is_hash, is_blank, may_stand, before_comment, is_bad, words_between, HasLines};
+ghost use Rattle.vidi_lines.specs.Lines.{HasWords};
 
 use crate::error::LineError;
 use std::alloc::Global;

@@ -1,3 +1,5 @@
+//! Numbers as words: decimal, and hexadecimal after `0x`.
+
 ghost use Rattle.std.specs.Prelude.{◌≡◌, ◌≤◌, ◌<◌, ◌+◌, ◌*◌, Some, None, if◌then◌else◌, nat_lt};
 ghost use Rattle.std.specs.Char.{digit_value};
 ghost use Rattle.vidi_bits.specs.Limits.{below_top};

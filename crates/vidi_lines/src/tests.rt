@@ -1,3 +1,5 @@
+//! Lines and numbers with ample memory.
+
 use crate::lines_of;
 use std::process::Abort;
 use std::test::Fail;

@@ -1,5 +1,7 @@
 -- What is spelled is read: a tree of good shape, before tokens with which it can't go on.
-use Rattle.std.proofs.Common.{◌≡◌, if◌then◌else◌, ℕ, zero, suc, ◌+◌, ◌*◌, ◌<◌, ◌≤◌, ◌==◌, Bool, Option, None, Some, List, [], ◌∷◌, ◌++◌, ◌-◌, length, sym, refl, ap, ◌∙◌, subst, ⊎_elim, arith, append_assoc, append-nil, length-append, ne_eqb, eq-eqb}
+use Rattle.std.proofs.Common.{◌≡◌, if◌then◌else◌, ℕ, zero, suc, ◌+◌, ◌*◌, ◌<◌, ◌≤◌, ◌==◌, Bool, Option, None, Some, List, [], ◌∷◌, ◌++◌}
+use Rattle.std.proofs.Common.{◌-◌, length, sym, refl, ap, ◌∙◌, subst, ⊎_elim, arith, append_assoc, append-nil, length-append, ne_eqb}
+use Rattle.std.proofs.Common.{eq-eqb}
 use Rattle.std.proofs.lemmas.Bool.{cases_lt}
 use Rattle.vlog_tree.specs.declared.expr.NumberKind.{NumberKind}
 use Rattle.vlog_tree.specs.declared.expr.NumberKind.TheVariants as number
@@ -9,11 +11,14 @@ use Rattle.vlog_tree.specs.declared.expr.BinaryOp.{BinaryOp}
 use Rattle.vlog_tree.specs.declared.expr.BinaryOp.TheVariants as binary
 use Rattle.vlog_tree.specs.declared.terminal.Terminal.TheVariants as t
 use Rattle.vlog_tree.specs.Words.{Word, NumberWord, Fixed, terminal_kind, terminal_text}
-use Rattle.vlog_tree.specs.Tree.{IdentOf, SignOf, ExprOf, UnaryExpr, BinaryExpr, ChoiceExpr, PrimOf, NumberPrim, RefPrim, ParenPrim, ConcatPrim, RefOf, RefWith, NoIndex, Index, NoLast, Last, SelOf, IndexSel, PartSel, IndexedSel, ExprsOf, NoExprs, MoreExprs, exprs_of}
+use Rattle.vlog_tree.specs.Tree.{IdentOf, SignOf, ExprOf, UnaryExpr, BinaryExpr, ChoiceExpr, PrimOf, NumberPrim, RefPrim, ParenPrim}
+use Rattle.vlog_tree.specs.Tree.{ConcatPrim, RefOf, RefWith, NoIndex, Index, NoLast, Last, SelOf, IndexSel, PartSel, IndexedSel, ExprsOf}
+use Rattle.vlog_tree.specs.Tree.{NoExprs, MoreExprs, exprs_of}
 use Rattle.vlog_tree.specs.Spelling.{unary_terminal, binary_terminal, expr_words, prim_words, ref_words, sel_words, more_exprs_words}
 use Rattle.vlog_tree.specs.Shape.{level_of, level, IsGoodExpr, IsGoodPrim, IsGoodRef, IsGoodSel, AreGoodExprs, AreAllGoodExprs}
 use Rattle.vlog_expr.specs.Marks.{Toks, spelled, spell, after, unary_of, binary_of}
-use Rattle.vlog_expr.specs.Reader.{◌>>=◌, found_or, Read, sign_front, binary_front, index_of, expr_at, choice_at, binary_at, chain_at, unary_at, prim_at, paren_at, concat_at, parts_at, ref_at, second_at, sel_at, bounds_at, fuel_for}
+use Rattle.vlog_expr.specs.Reader.{◌>>=◌, found_or, Read, sign_front, binary_front, index_of, expr_at, choice_at, binary_at, chain_at}
+use Rattle.vlog_expr.specs.Reader.{unary_at, prim_at, paren_at, concat_at, parts_at, ref_at, second_at, sel_at, bounds_at, fuel_for}
 use Rattle.vlog_expr.specs.Laws.{Stops, Ends, OneExpr}
 
 abbrev pub U : Type 0
@@ -31,16 +36,19 @@ LevelClaim e l = (n : ℕ) (r : Toks U) → Stops l r → size (expr_words e) + 
 
 abbrev pub ChainClaim : ExprOf U → ℕ → Type 0
 ChainClaim e l =
-    (n : ℕ) (r : Toks U) → Stops (l + 1) r → size (expr_words e) + 12 ≤ n + l → (j : ℕ) × (n ≤ j + size (expr_words e)) × (binary_at n l (spell (expr_words e) r) ≡ chain_at j l e r)
+    (n : ℕ) (r : Toks U) → Stops (l + 1) r → size (expr_words e) + 12 ≤ n + l → (j : ℕ) × (n ≤ j + size (expr_words e))
+    × (binary_at n l (spell (expr_words e) r) ≡ chain_at j l e r)
 
 abbrev pub WholeClaim : ExprOf U → Type 0
 WholeClaim e = (n : ℕ) (r : Toks U) → Ends r → size (expr_words e) + 14 ≤ n → expr_at n (spell (expr_words e) r) ≡ Some (e, r)
 
 abbrev pub PrimClaim : PrimOf U → Type 0
-PrimClaim p = (n : ℕ) (r : Toks U) → after t.BracketOpen r ≡ None → size (prim_words p) ≤ n + 16 → prim_at n (spell (prim_words p) r) ≡ Some (p, r)
+PrimClaim p = (n : ℕ) (r : Toks U) → after t.BracketOpen r ≡ None → size (prim_words p) ≤ n + 16 → prim_at n (spell (prim_words p) r)
+    ≡ Some (p, r)
 
 abbrev pub RefClaim : RefOf U → Type 0
-RefClaim x = (n : ℕ) (r : Toks U) → after t.BracketOpen r ≡ None → size (ref_words x) ≤ n + 18 → ref_at n (spell (ref_words x) r) ≡ Some (x, r)
+RefClaim x = (n : ℕ) (r : Toks U) → after t.BracketOpen r ≡ None → size (ref_words x) ≤ n + 18 → ref_at n (spell (ref_words x) r)
+    ≡ Some (x, r)
 
 abbrev pub close : Toks U → Toks U
 close r = spelled (Fixed t.BracketClose) ∷ r
@@ -200,11 +208,13 @@ sign_known unary.Xor = refl
 sign_known unary.TildeXor = refl
 sign_known unary.XorTilde = refl
 
-binary_seen : (m : ℕ) (op : BinaryOp) (r : Toks U) → binary_front m (spelled (Fixed (binary_terminal op)) ∷ r) ≡ (if level_of op == m then Some (op, r) else None)
+binary_seen : (m : ℕ) (op : BinaryOp) (r : Toks U) → binary_front m (spelled (Fixed (binary_terminal op)) ∷ r)
+    ≡ (if level_of op == m then Some (op, r) else None)
 binary_seen m op r = ap (λ (o : Option BinaryOp). o >>= λ (x : BinaryOp). if level_of x == m then Some (x, r) else None) (binary_known op)
 
 binary_again : (op : BinaryOp) (r : Toks U) → binary_front (level_of op) (spelled (Fixed (binary_terminal op)) ∷ r) ≡ Some (op, r)
-binary_again op r = binary_seen (level_of op) op r ∙ ap (λ (b : Bool). if b then Some (op, r) else None) (eq-eqb (level_of op) (level_of op) refl)
+binary_again op r = binary_seen (level_of op) op r ∙ ap (λ (b : Bool). if b then Some (op, r) else None)
+    (eq-eqb (level_of op) (level_of op) refl)
 
 stops_op : (op : BinaryOp) (l : ℕ) (r : Toks U) → level_of op < l → Stops l (spelled (Fixed (binary_terminal op)) ∷ r)
 stops_op op l r low =
@@ -236,17 +246,26 @@ some_words : (e : ExprOf U) → 0 < length (expr_words e)
 some_words (UnaryExpr None p) = some_prim p
 some_words (UnaryExpr (Some s) p) = omega arith
 some_words (BinaryExpr a op b) = omega (arith, length-append (expr_words a) (Fixed (binary_terminal op) ∷ expr_words b))
-some_words (ChoiceExpr c a b) = omega (arith, length-append (expr_words c) (Fixed t.Question ∷ (expr_words a ++ Fixed t.Colon ∷ expr_words b)))
+some_words (ChoiceExpr c a b) = omega (
+  arith,
+  length-append (expr_words c)
+      (Fixed t.Question ∷ (expr_words a ++ Fixed t.Colon ∷ expr_words b)),
+)
 
 -- levels
 binary_step : (n l : ℕ) (ws : Toks U) → l ≤ 10 → binary_at (suc n) l ws ≡ (binary_at n (l + 1) ws >>= λ a. chain_at n l a.0 a.1)
 binary_step n l ws h =
-    ap (λ (b : Bool). if b then unary_at n ws else (binary_at n (l + 1) ws >>= λ a. chain_at n l a.0 a.1)) (ne_eqb l 11 (λ e. absurd (omega arith)))
+    ap (λ (b : Bool). if b then unary_at n ws else (binary_at n (l + 1) ws >>= λ a. chain_at n l a.0 a.1))
+    (ne_eqb l 11 (λ e. absurd (omega arith)))
 
 down : (e : ExprOf U) (l : ℕ) → l ≤ 10 → LevelClaim e (l + 1) → ChainClaim e l
 down e l h c zero r s b = absurd (omega arith)
-down e l h c (suc n) r s b =
-    (n, omega (arith, some_words e), binary_step n l (spell (expr_words e) r) h ∙ ap (λ (o : Read U (ExprOf U)). o >>= λ a. chain_at n l a.0 a.1) (c n r s (omega arith)))
+down e l h c (suc n) r s b = (
+  n,
+  omega (arith, some_words e),
+  binary_step n l (spell (expr_words e) r) h
+      ∙ ap (λ (o : Read U (ExprOf U)). o >>= λ a. chain_at n l a.0 a.1) (c n r s (omega arith)),
+)
 
 chain_over : (j l : ℕ) (e : ExprOf U) (r : Toks U) → binary_front l r ≡ None → 0 < j → chain_at j l e r ≡ Some (e, r)
 chain_over zero l e r h p = absurd (omega arith)
@@ -261,7 +280,8 @@ finish e l h c n r s b =
 levels_down : (k l : ℕ) (e : ExprOf U) → l + k ≤ 11 → LevelClaim e (l + k) → LevelClaim e l
 levels_down zero l e h c = subst (λ (m : ℕ). LevelClaim e m) (omega arith) c
 levels_down (suc k) l e h c =
-    finish e l (omega arith) (down e l (omega arith) (levels_down k (l + 1) e (omega arith) (subst (λ (m : ℕ). LevelClaim e m) (omega arith) c)))
+    finish e l (omega arith) (down e l (omega arith) (levels_down k (l + 1) e (omega arith)
+    (subst (λ (m : ℕ). LevelClaim e m) (omega arith) c)))
 
 pub levels_from : (top l : ℕ) (e : ExprOf U) → l ≤ top → top ≤ 11 → LevelClaim e top → LevelClaim e l
 levels_from top l e h k c = levels_down (top - l) l e (omega arith) (subst (λ (m : ℕ). LevelClaim e m) (omega arith) c)
@@ -271,17 +291,21 @@ whole_from e c zero r s b = absurd (omega arith)
 whole_from e c (suc zero) r s b = absurd (omega arith)
 whole_from e c (suc (suc n)) r s b =
     ap (λ (o : Read U (ExprOf U)). o >>= λ c. choice_at (suc n) c.0 c.1) (c (suc n) r s.stops (omega arith))
-    ∙ ap (λ (o : Option (U × Toks U)). found_or o (Some (e, r)) (λ q. expr_at n q.1 >>= λ a. after t.Colon a.1 >>= λ r. expr_at n r.1 >>= λ b. Some (ChoiceExpr e a.0 b.0, b.1))) s.question
+    ∙ ap (λ (o : Option (U × Toks U)). found_or o (Some (e, r)) (λ q. expr_at n q.1 >>= λ a. after t.Colon a.1 >>= λ r. expr_at n r.1
+    >>= λ b. Some (ChoiceExpr e a.0 b.0, b.1))) s.question
 
 -- an operand with a sign or none
 unary_level : (sign : Option (SignOf U)) (p : PrimOf U) → PrimClaim p → LevelClaim (UnaryExpr sign p) 11
 unary_level sign p g zero r s b = absurd (omega arith)
 unary_level sign p g (suc zero) r s b = absurd (omega (arith, some_words (UnaryExpr sign p)))
 unary_level None p g (suc (suc n)) r s b =
-    ap (λ (o : Read U (SignOf U)). found_or o (prim_at n (spell (prim_words p) r) >>= λ p. Some (UnaryExpr None p.0, p.1)) (λ s. prim_at n s.1 >>= λ p. Some (UnaryExpr (Some s.0) p.0, p.1))) (no_sign p r)
+    ap (λ (o : Read U (SignOf U)). found_or o (prim_at n (spell (prim_words p) r) >>= λ p. Some (UnaryExpr None p.0, p.1))
+    (λ s. prim_at n s.1 >>= λ p. Some (UnaryExpr (Some s.0) p.0, p.1))) (no_sign p r)
     ∙ ap (λ (o : Read U (PrimOf U)). o >>= λ p. Some (UnaryExpr None p.0, p.1)) (g n r s.index (omega arith))
 unary_level (Some x) p g (suc (suc n)) r s b =
-    ap (λ (o : Read U (SignOf U)). found_or o (prim_at n (spelled (Fixed (unary_terminal x.op)) ∷ spell (prim_words p) r) >>= λ p. Some (UnaryExpr None p.0, p.1)) (λ s. prim_at n s.1 >>= λ p. Some (UnaryExpr (Some s.0) p.0, p.1))) (sign_again x (spell (prim_words p) r))
+    ap (λ (o : Read U (SignOf U)). found_or o (prim_at n (spelled (Fixed (unary_terminal x.op)) ∷ spell (prim_words p) r)
+    >>= λ p. Some (UnaryExpr None p.0, p.1)) (λ s. prim_at n s.1 >>= λ p. Some (UnaryExpr (Some s.0) p.0, p.1)))
+    (sign_again x (spell (prim_words p) r))
     ∙ ap (λ (o : Read U (PrimOf U)). o >>= λ p. Some (UnaryExpr (Some x) p.0, p.1)) (g n r s.index (omega arith))
 
 reads_unary : (sign : Option (SignOf U)) (p : PrimOf U) → PrimClaim p → Reads (UnaryExpr sign p)
@@ -296,31 +320,39 @@ reads_unary sign p g =
 -- two operands
 spine_step : (a b : ExprOf U) (op : BinaryOp) (j : ℕ) (r : Toks U) → LevelClaim b (level_of op + 1) → Stops (level_of op + 1) r
     → 0 < j → size (expr_words b) + 12 ≤ j + level_of op
-    → (k : ℕ) × (j ≡ suc k) × (chain_at j (level_of op) a (spelled (Fixed (binary_terminal op)) ∷ spell (expr_words b) r) ≡ chain_at k (level_of op) (BinaryExpr a op b) r)
+    → (k : ℕ) × (j ≡ suc k) × (chain_at j (level_of op) a (spelled (Fixed (binary_terminal op)) ∷ spell (expr_words b) r)
+    ≡ chain_at k (level_of op) (BinaryExpr a op b) r)
 spine_step a b op zero r c s p h = absurd (omega arith)
 spine_step a b op (suc j) r c s p h = (
   j,
   refl,
-  ap (λ (o : Read U BinaryOp). found_or o (Some (a, spelled (Fixed (binary_terminal op)) ∷ spell (expr_words b) r)) (λ o. binary_at j (level_of op + 1) o.1 >>= λ b. chain_at j (level_of op) (BinaryExpr a o.0 b.0) b.1)) (binary_again op (spell (expr_words b) r))
+  ap (λ (o : Read U BinaryOp). found_or o (Some (a, spelled (Fixed (binary_terminal op)) ∷ spell (expr_words b) r))
+      (λ o. binary_at j (level_of op + 1) o.1 >>= λ b. chain_at j (level_of op) (BinaryExpr a o.0 b.0) b.1))
+      (binary_again op (spell (expr_words b) r))
       ∙ ap (λ (o : Read U (ExprOf U)). o >>= λ b. chain_at j (level_of op) (BinaryExpr a op b.0) b.1) (c j r s (omega arith)),
 )
 
-spine : (a b : ExprOf U) (op : BinaryOp) → ChainClaim a (level_of op) → LevelClaim b (level_of op + 1) → ChainClaim (BinaryExpr a op b) (level_of op)
+spine : (a b : ExprOf U) (op : BinaryOp) → ChainClaim a (level_of op) → LevelClaim b (level_of op + 1)
+    → ChainClaim (BinaryExpr a op b) (level_of op)
 spine a b op ca cb n r s h =
     let long = length-append (expr_words a) (Fixed (binary_terminal op) ∷ expr_words b) in
-    let g = ca n (spelled (Fixed (binary_terminal op)) ∷ spell (expr_words b) r) (stops_op op (level_of op + 1) (spell (expr_words b) r) (omega arith)) (omega arith) in
+    let g = ca n (spelled (Fixed (binary_terminal op)) ∷ spell (expr_words b) r)
+    (stops_op op (level_of op + 1) (spell (expr_words b) r) (omega arith)) (omega arith) in
     let k = spine_step a b op g.0 r cb s (omega (arith, g.1, level_small op)) (omega (arith, g.1)) in (
       k.0,
       omega (arith, g.1, k.1),
-      ap (λ (ws : Toks U). binary_at n (level_of op) ws) (spell_append (expr_words a) (Fixed (binary_terminal op) ∷ expr_words b) r) ∙ g.2 ∙ k.2,
+      ap (λ (ws : Toks U). binary_at n (level_of op) ws) (spell_append (expr_words a) (Fixed (binary_terminal op) ∷ expr_words b) r) ∙ g.2
+          ∙ k.2,
     )
 
-reads_binary : (a : ExprOf U) (op : BinaryOp) (b : ExprOf U) → level_of op ≤ level a → level_of op < level b → Reads a → Reads b → level b ≤ 11 → Reads (BinaryExpr a op b)
+reads_binary : (a : ExprOf U) (op : BinaryOp) (b : ExprOf U) → level_of op ≤ level a → level_of op < level b → Reads a → Reads b
+    → level b ≤ 11 → Reads (BinaryExpr a op b)
 reads_binary a op b low high ra rb cap =
     let x = BinaryExpr a op b in
     let small : level_of op ≤ 10 = level_small op in
     let some : 1 ≤ level_of op = level_some op in
-    let chain : ChainClaim x (level_of op) = spine a b op (ra.at_chain (level_of op) some small low) (rb.at_level (level_of op + 1) (omega arith) (omega arith) (omega arith)) in
+    let chain : ChainClaim x (level_of op) = spine a b op (ra.at_chain (level_of op) some small low)
+    (rb.at_level (level_of op + 1) (omega arith) (omega arith) (omega arith)) in
     let base : LevelClaim x (level_of op) = finish x (level_of op) small chain in
     let below : (l : ℕ) → l ≤ level_of op → LevelClaim x l = λ l h. levels_from (level_of op) l x h (omega arith) base in
     record {
@@ -341,9 +373,12 @@ choice_whole c a b cc wa wb (suc (suc n)) r s h =
     let long = length-append (expr_words c) behind in
     let longer = length-append (expr_words a) (Fixed t.Colon ∷ expr_words b) in
     ap (λ (ws : Toks U). expr_at (suc (suc n)) ws) (spell_append (expr_words c) behind r)
-    ∙ ap (λ (o : Read U (ExprOf U)). o >>= λ c. choice_at (suc n) c.0 c.1) (cc (suc n) (spell behind r) (stops_question (spell (expr_words a ++ Fixed t.Colon ∷ expr_words b) r)) (omega arith))
-    ∙ ap (λ (ws : Toks U). expr_at n ws >>= λ a. after t.Colon a.1 >>= λ r. expr_at n r.1 >>= λ b. Some (ChoiceExpr c a.0 b.0, b.1)) (spell_append (expr_words a) (Fixed t.Colon ∷ expr_words b) r)
-    ∙ ap (λ (o : Read U (ExprOf U)). o >>= λ a. after t.Colon a.1 >>= λ r. expr_at n r.1 >>= λ b. Some (ChoiceExpr c a.0 b.0, b.1)) (wa n (spelled (Fixed t.Colon) ∷ spell (expr_words b) r) (ends_colon (spell (expr_words b) r)) (omega arith))
+    ∙ ap (λ (o : Read U (ExprOf U)). o >>= λ c. choice_at (suc n) c.0 c.1)
+    (cc (suc n) (spell behind r) (stops_question (spell (expr_words a ++ Fixed t.Colon ∷ expr_words b) r)) (omega arith))
+    ∙ ap (λ (ws : Toks U). expr_at n ws >>= λ a. after t.Colon a.1 >>= λ r. expr_at n r.1 >>= λ b. Some (ChoiceExpr c a.0 b.0, b.1))
+    (spell_append (expr_words a) (Fixed t.Colon ∷ expr_words b) r)
+    ∙ ap (λ (o : Read U (ExprOf U)). o >>= λ a. after t.Colon a.1 >>= λ r. expr_at n r.1 >>= λ b. Some (ChoiceExpr c a.0 b.0, b.1))
+    (wa n (spelled (Fixed t.Colon) ∷ spell (expr_words b) r) (ends_colon (spell (expr_words b) r)) (omega arith))
     ∙ ap (λ (o : Read U (ExprOf U)). o >>= λ b. Some (ChoiceExpr c a b.0, b.1)) (wb n r s (omega arith))
 
 reads_choice : (c a b : ExprOf U) → 0 < level c → Reads c → Reads a → Reads b → Reads (ChoiceExpr c a b)
@@ -369,7 +404,8 @@ prim_paren line e w (suc zero) r i b = absurd (omega (arith, length-append (expr
 prim_paren line e w (suc (suc n)) r i b =
     let long = length-append (expr_words e) (Fixed t.ParenClose ∷ []) in
     ap (λ (ws : Toks U). paren_at (suc n) line ws) (spell_append (expr_words e) (Fixed t.ParenClose ∷ []) r)
-    ∙ ap (λ (o : Read U (ExprOf U)). o >>= λ e. after t.ParenClose e.1 >>= λ c. Some (ParenPrim line e.0, c.1)) (w n (spelled (Fixed t.ParenClose) ∷ r) (ends_paren r) (omega arith))
+    ∙ ap (λ (o : Read U (ExprOf U)). o >>= λ e. after t.ParenClose e.1 >>= λ c. Some (ParenPrim line e.0, c.1))
+    (w n (spelled (Fixed t.ParenClose) ∷ r) (ends_paren r) (omega arith))
 
 parts_none : PartsClaim NoExprs
 parts_none zero front r e h b = absurd (omega arith)
@@ -382,27 +418,37 @@ parts_more x es w m zero front r e h b = absurd (omega arith)
 parts_more x es w m (suc n) front r e h b =
     let long = length-append (expr_words x) (more_exprs_words es) in
     ap (λ (ws : Toks U). expr_at n ws >>= λ e. parts_at n (front ++ e.0 ∷ []) e.1) (spell_append (expr_words x) (more_exprs_words es) r)
-    ∙ ap (λ (o : Read U (ExprOf U)). o >>= λ e. parts_at n (front ++ e.0 ∷ []) e.1) (w n (spell (more_exprs_words es) r) (ends_more es r e) (omega arith))
+    ∙ ap (λ (o : Read U (ExprOf U)). o >>= λ e. parts_at n (front ++ e.0 ∷ []) e.1)
+    (w n (spell (more_exprs_words es) r) (ends_more es r e) (omega arith))
     ∙ m n (front ++ x ∷ []) r e h (omega arith)
     ∙ ap (λ (xs : List (ExprOf U)). Some (xs, r)) (append_assoc front (x ∷ []) (list_of es))
 
 prim_concat : (line : U) (x : ExprOf U) (es : ExprsOf U) → WholeClaim x → PartsClaim es → PrimClaim (ConcatPrim line (MoreExprs x es))
 prim_concat line x es w m zero r i b = absurd (omega arith)
-prim_concat line x es w m (suc zero) r i b = absurd (omega (arith, length-append (expr_words x ++ more_exprs_words es) (Fixed t.BraceClose ∷ [])))
+prim_concat line x es w m (suc zero) r i b = absurd (omega (
+  arith,
+  length-append (expr_words x ++ more_exprs_words es)
+      (Fixed t.BraceClose ∷ []),
+))
 prim_concat line x es w m (suc (suc n)) r i b =
     let long = length-append (expr_words x ++ more_exprs_words es) (Fixed t.BraceClose ∷ []) in
     let longer = length-append (expr_words x) (more_exprs_words es) in
     let shut = spelled (Fixed t.BraceClose) ∷ r in
-    ap (λ (ws : Toks U). concat_at (suc n) line ws) (spell_append (expr_words x ++ more_exprs_words es) (Fixed t.BraceClose ∷ []) r ∙ spell_append (expr_words x) (more_exprs_words es) shut)
-    ∙ ap (λ (o : Read U (ExprOf U)). o >>= λ e. parts_at n (e.0 ∷ []) e.1 >>= λ es. after t.BraceClose es.1 >>= λ c. Some (ConcatPrim line (exprs_of es.0), c.1)) (w n (spell (more_exprs_words es) shut) (ends_more es shut (ends_brace r)) (omega arith))
-    ∙ ap (λ (o : Read U (List (ExprOf U))). o >>= λ es. after t.BraceClose es.1 >>= λ c. Some (ConcatPrim line (exprs_of es.0), c.1)) (m n (x ∷ []) shut (ends_brace r) refl (omega arith))
+    ap (λ (ws : Toks U). concat_at (suc n) line ws) (spell_append (expr_words x ++ more_exprs_words es) (Fixed t.BraceClose ∷ []) r
+    ∙ spell_append (expr_words x) (more_exprs_words es) shut)
+    ∙ ap (λ (o : Read U (ExprOf U)). o >>= λ e. parts_at n (e.0 ∷ []) e.1 >>= λ es. after t.BraceClose es.1
+    >>= λ c. Some (ConcatPrim line (exprs_of es.0), c.1)) (w n (spell (more_exprs_words es) shut) (ends_more es shut (ends_brace r))
+    (omega arith))
+    ∙ ap (λ (o : Read U (List (ExprOf U))). o >>= λ es. after t.BraceClose es.1 >>= λ c. Some (ConcatPrim line (exprs_of es.0), c.1))
+    (m n (x ∷ []) shut (ends_brace r) refl (omega arith))
     ∙ ap (λ (xs : ExprsOf U). Some (ConcatPrim line (MoreExprs x xs), r)) (listed es)
 
 -- what stands in a bracket
 sel_index : (e : ExprOf U) → WholeClaim e → SelClaim (IndexSel e)
 sel_index e w zero r b = absurd (omega arith)
 sel_index e w (suc zero) r b = absurd (omega arith)
-sel_index e w (suc (suc n)) r b = ap (λ (o : Read U (ExprOf U)). o >>= λ a. bounds_at (suc n) a.0 a.1) (w (suc n) (close r) (ends_bracket r) (omega arith))
+sel_index e w (suc (suc n)) r b = ap (λ (o : Read U (ExprOf U)). o >>= λ a. bounds_at (suc n) a.0 a.1)
+    (w (suc n) (close r) (ends_bracket r) (omega arith))
 
 sel_part : (a b : ExprOf U) → WholeClaim a → WholeClaim b → SelClaim (PartSel a b)
 sel_part a b wa wb zero r h = absurd (omega arith)
@@ -410,7 +456,8 @@ sel_part a b wa wb (suc zero) r h = absurd (omega arith)
 sel_part a b wa wb (suc (suc n)) r h =
     let long = length-append (expr_words a) (Fixed t.Colon ∷ expr_words b) in
     ap (λ (ws : Toks U). sel_at (suc (suc n)) ws) (spell_append (expr_words a) (Fixed t.Colon ∷ expr_words b) (close r))
-    ∙ ap (λ (o : Read U (ExprOf U)). o >>= λ a. bounds_at (suc n) a.0 a.1) (wa (suc n) (spelled (Fixed t.Colon) ∷ spell (expr_words b) (close r)) (ends_colon (spell (expr_words b) (close r))) (omega arith))
+    ∙ ap (λ (o : Read U (ExprOf U)). o >>= λ a. bounds_at (suc n) a.0 a.1)
+    (wa (suc n) (spelled (Fixed t.Colon) ∷ spell (expr_words b) (close r)) (ends_colon (spell (expr_words b) (close r))) (omega arith))
     ∙ ap (λ (o : Read U (ExprOf U)). o >>= λ b. Some (PartSel a b.0, b.1)) (wb n (close r) (ends_bracket r) (omega arith))
 
 sel_indexed : (a b : ExprOf U) → WholeClaim a → WholeClaim b → SelClaim (IndexedSel a b)
@@ -419,38 +466,58 @@ sel_indexed a b wa wb (suc zero) r h = absurd (omega arith)
 sel_indexed a b wa wb (suc (suc n)) r h =
     let long = length-append (expr_words a) (Fixed t.PlusColon ∷ expr_words b) in
     ap (λ (ws : Toks U). sel_at (suc (suc n)) ws) (spell_append (expr_words a) (Fixed t.PlusColon ∷ expr_words b) (close r))
-    ∙ ap (λ (o : Read U (ExprOf U)). o >>= λ a. bounds_at (suc n) a.0 a.1) (wa (suc n) (spelled (Fixed t.PlusColon) ∷ spell (expr_words b) (close r)) (ends_plus_colon (spell (expr_words b) (close r))) (omega arith))
+    ∙ ap (λ (o : Read U (ExprOf U)). o >>= λ a. bounds_at (suc n) a.0 a.1)
+    (wa (suc n) (spelled (Fixed t.PlusColon) ∷ spell (expr_words b) (close r)) (ends_plus_colon (spell (expr_words b) (close r)))
+    (omega arith))
     ∙ ap (λ (o : Read U (ExprOf U)). o >>= λ b. Some (IndexedSel a b.0, b.1)) (wb n (close r) (ends_bracket r) (omega arith))
 
 -- a name with no bracket, one, or two
 ref_plain : (id : IdentOf U) → RefClaim (RefWith id NoIndex NoLast)
 ref_plain id zero r i b = absurd (omega arith)
 ref_plain id (suc n) r i b =
-    ap (λ (o : Option (U × Toks U)). found_or o (Some (RefWith id NoIndex NoLast, r)) (λ o. sel_at n o.1 >>= λ s. after t.BracketClose s.1 >>= λ c. second_at n id s.0 c.1)) i
+    ap (λ (o : Option (U × Toks U)). found_or o (Some (RefWith id NoIndex NoLast, r))
+    (λ o. sel_at n o.1 >>= λ s. after t.BracketClose s.1 >>= λ c. second_at n id s.0 c.1)) i
 
 ref_one : (id : IdentOf U) (s : SelOf U) → SelClaim s → RefClaim (RefWith id NoIndex (Last s))
 ref_one id s g zero r i b = absurd (omega (arith, length-append (sel_words s) (Fixed t.BracketClose ∷ [])))
 ref_one id s g (suc zero) r i b = absurd (omega (arith, length-append (sel_words s) (Fixed t.BracketClose ∷ [])))
 ref_one id s g (suc (suc n)) r i b =
     let long = length-append (sel_words s) (Fixed t.BracketClose ∷ []) in
-    ap (λ (ws : Toks U). sel_at (suc n) ws >>= λ s. after t.BracketClose s.1 >>= λ c. second_at (suc n) id s.0 c.1) (spell_append (sel_words s) (Fixed t.BracketClose ∷ []) r)
+    ap (λ (ws : Toks U). sel_at (suc n) ws >>= λ s. after t.BracketClose s.1 >>= λ c. second_at (suc n) id s.0 c.1)
+    (spell_append (sel_words s) (Fixed t.BracketClose ∷ []) r)
     ∙ ap (λ (o : Read U (SelOf U)). o >>= λ s. after t.BracketClose s.1 >>= λ c. second_at (suc n) id s.0 c.1) (g (suc n) r (omega arith))
-    ∙ ap (λ (o : Option (U × Toks U)). found_or o (Some (RefWith id NoIndex (Last s), r)) (λ o. index_of s >>= λ i. sel_at n o.1 >>= λ s. after t.BracketClose s.1 >>= λ c. Some (RefWith id (Index i) (Last s.0), c.1))) i
+    ∙ ap (λ (o : Option (U × Toks U)). found_or o (Some (RefWith id NoIndex (Last s), r))
+    (λ o. index_of s >>= λ i. sel_at n o.1 >>= λ s. after t.BracketClose s.1 >>= λ c. Some (RefWith id (Index i) (Last s.0), c.1))) i
 
 ref_two : (id : IdentOf U) (e : ExprOf U) (s : SelOf U) → SelClaim (IndexSel e) → SelClaim s → RefClaim (RefWith id (Index e) (Last s))
 ref_two id e s f g zero r i b =
-    absurd (omega (arith, length-append (expr_words e ++ Fixed t.BracketClose ∷ []) (Fixed t.BracketOpen ∷ (sel_words s ++ Fixed t.BracketClose ∷ [])), length-append (sel_words s) (Fixed t.BracketClose ∷ [])))
+    absurd (omega (
+      arith,
+      length-append (expr_words e ++ Fixed t.BracketClose ∷ [])
+          (Fixed t.BracketOpen ∷ (sel_words s ++ Fixed t.BracketClose ∷ [])),
+      length-append (sel_words s) (Fixed t.BracketClose ∷ []),
+    ))
 ref_two id e s f g (suc zero) r i b =
-    absurd (omega (arith, length-append (expr_words e ++ Fixed t.BracketClose ∷ []) (Fixed t.BracketOpen ∷ (sel_words s ++ Fixed t.BracketClose ∷ [])), length-append (sel_words s) (Fixed t.BracketClose ∷ [])))
+    absurd (omega (
+      arith,
+      length-append (expr_words e ++ Fixed t.BracketClose ∷ [])
+          (Fixed t.BracketOpen ∷ (sel_words s ++ Fixed t.BracketClose ∷ [])),
+      length-append (sel_words s) (Fixed t.BracketClose ∷ []),
+    ))
 ref_two id e s f g (suc (suc n)) r i b =
     let last = Fixed t.BracketOpen ∷ (sel_words s ++ Fixed t.BracketClose ∷ []) in
     let long = length-append (sel_words s) (Fixed t.BracketClose ∷ []) in
     let longer = length-append (expr_words e ++ Fixed t.BracketClose ∷ []) last in
     let longest = length-append (expr_words e) (Fixed t.BracketClose ∷ []) in
-    ap (λ (ws : Toks U). sel_at (suc n) ws >>= λ s. after t.BracketClose s.1 >>= λ c. second_at (suc n) id s.0 c.1) (spell_append (expr_words e ++ Fixed t.BracketClose ∷ []) last r ∙ spell_append (expr_words e) (Fixed t.BracketClose ∷ []) (spell last r))
-    ∙ ap (λ (o : Read U (SelOf U)). o >>= λ s. after t.BracketClose s.1 >>= λ c. second_at (suc n) id s.0 c.1) (f (suc n) (spell last r) (omega arith))
-    ∙ ap (λ (ws : Toks U). sel_at n ws >>= λ s. after t.BracketClose s.1 >>= λ c. Some (RefWith id (Index e) (Last s.0), c.1)) (spell_append (sel_words s) (Fixed t.BracketClose ∷ []) r)
-    ∙ ap (λ (o : Read U (SelOf U)). o >>= λ s. after t.BracketClose s.1 >>= λ c. Some (RefWith id (Index e) (Last s.0), c.1)) (g n r (omega arith))
+    ap (λ (ws : Toks U). sel_at (suc n) ws >>= λ s. after t.BracketClose s.1 >>= λ c. second_at (suc n) id s.0 c.1)
+    (spell_append (expr_words e ++ Fixed t.BracketClose ∷ []) last r
+    ∙ spell_append (expr_words e) (Fixed t.BracketClose ∷ []) (spell last r))
+    ∙ ap (λ (o : Read U (SelOf U)). o >>= λ s. after t.BracketClose s.1 >>= λ c. second_at (suc n) id s.0 c.1)
+    (f (suc n) (spell last r) (omega arith))
+    ∙ ap (λ (ws : Toks U). sel_at n ws >>= λ s. after t.BracketClose s.1 >>= λ c. Some (RefWith id (Index e) (Last s.0), c.1))
+    (spell_append (sel_words s) (Fixed t.BracketClose ∷ []) r)
+    ∙ ap (λ (o : Read U (SelOf U)). o >>= λ s. after t.BracketClose s.1 >>= λ c. Some (RefWith id (Index e) (Last s.0), c.1))
+    (g n r (omega arith))
 
 level_cap : (e : ExprOf U) → level e ≤ 11
 level_cap (UnaryExpr sign p) = omega arith
@@ -488,10 +555,12 @@ mutual
   reads_sel (PartSel a b) g = sel_part a b (reads a g.0).at_whole (reads b g.1).at_whole
   reads_sel (IndexedSel a b) g = sel_indexed a b (reads a g.0).at_whole (reads b g.1).at_whole
 
-pub expr_read : (e : ExprOf U) (rest : Toks U) (fuel : ℕ) → IsGoodExpr e → Ends rest → fuel_for (length (expr_words e)) ≤ fuel → expr_at fuel (spell (expr_words e) rest) ≡ Some (e, rest)
+pub expr_read : (e : ExprOf U) (rest : Toks U) (fuel : ℕ) → IsGoodExpr e → Ends rest → fuel_for (length (expr_words e)) ≤ fuel
+    → expr_at fuel (spell (expr_words e) rest) ≡ Some (e, rest)
 expr_read e rest fuel g s h = (reads e g).at_whole fuel rest s h
 
-pub ref_read : (x : RefOf U) (rest : Toks U) (fuel : ℕ) → IsGoodRef x → after t.BracketOpen rest ≡ None → fuel_for (length (ref_words x)) ≤ fuel → ref_at fuel (spell (ref_words x) rest) ≡ Some (x, rest)
+pub ref_read : (x : RefOf U) (rest : Toks U) (fuel : ℕ) → IsGoodRef x → after t.BracketOpen rest ≡ None
+    → fuel_for (length (ref_words x)) ≤ fuel → ref_at fuel (spell (ref_words x) rest) ≡ Some (x, rest)
 ref_read x rest fuel g s h = reads_ref x g fuel rest s (omega arith)
 
 pub one_expr : OneExpr

@@ -1,5 +1,6 @@
 -- What is spelled is read: targets of good shape.
-use Rattle.std.proofs.Common.{◌≡◌, ℕ, zero, suc, ◌+◌, ◌≤◌, Option, None, Some, List, [], ◌∷◌, ◌++◌, length, sym, refl, ap, ◌∙◌, arith, append_assoc, append-nil, length-append}
+use Rattle.std.proofs.Common.{◌≡◌, ℕ, zero, suc, ◌+◌, ◌≤◌, Option, None, Some, List, [], ◌∷◌, ◌++◌, length, sym, refl, ap, ◌∙◌, arith}
+use Rattle.std.proofs.Common.{append_assoc, append-nil, length-append}
 use Rattle.vlog_tree.specs.declared.terminal.Terminal.TheVariants as t
 use Rattle.vlog_tree.specs.Words.{Fixed}
 use Rattle.vlog_tree.specs.Tree.{RefOf, RefWith, TargetOf, RefTarget, ConcatTarget, TargetsOf, NoTargets, MoreTargets, targets_of}
@@ -10,7 +11,8 @@ use Rattle.vlog_expr.specs.Reader.{◌>>=◌, found_or, Read, target_at, targets
 use Rattle.vlog_expr.proofs.Spelled.{U, size, spell_append, RefClaim, reads_ref}
 
 abbrev TargetClaim : TargetOf U → Type 0
-TargetClaim x = (n : ℕ) (r : Toks U) → after t.BracketOpen r ≡ None → size (target_words x) ≤ n + 16 → target_at n (spell (target_words x) r) ≡ Some (x, r)
+TargetClaim x = (n : ℕ) (r : Toks U) → after t.BracketOpen r ≡ None → size (target_words x) ≤ n + 16
+    → target_at n (spell (target_words x) r) ≡ Some (x, r)
 
 abbrev list_of : TargetsOf U → List (TargetOf U)
 list_of NoTargets = []
@@ -22,7 +24,8 @@ listed (MoreTargets x xs) = ap (MoreTargets x) (listed xs)
 
 abbrev TargetsClaim : TargetsOf U → Type 0
 TargetsClaim xs =
-    (n : ℕ) (front : List (TargetOf U)) (r : Toks U) → after t.BracketOpen r ≡ None → after t.Comma r ≡ None → size (more_targets_words xs) + 1 ≤ n
+    (n : ℕ) (front : List (TargetOf U)) (r : Toks U) → after t.BracketOpen r ≡ None → after t.Comma r ≡ None → size (more_targets_words xs)
+    + 1 ≤ n
     → targets_at n front (spell (more_targets_words xs) r) ≡ Some (front ++ list_of xs, r)
 
 no_bracket : (xs : TargetsOf U) (r : Toks U) → after t.BracketOpen r ≡ None → after t.BracketOpen (spell (more_targets_words xs) r) ≡ None
@@ -31,7 +34,8 @@ no_bracket (MoreTargets x xs) r h = refl
 
 target_ref : (x : RefOf U) → RefClaim x → TargetClaim (RefTarget x)
 target_ref (RefWith id index last) g zero r i b = absurd (omega arith)
-target_ref (RefWith id index last) g (suc n) r i b = ap (λ (o : Read U (RefOf U)). o >>= λ r. Some (RefTarget r.0, r.1)) (g n r i (omega arith))
+target_ref (RefWith id index last) g (suc n) r i b = ap (λ (o : Read U (RefOf U)). o >>= λ r. Some (RefTarget r.0, r.1))
+    (g n r i (omega arith))
 
 targets_none : TargetsClaim NoTargets
 targets_none zero front r i h b = absurd (omega arith)
@@ -43,21 +47,33 @@ targets_more : (x : TargetOf U) (xs : TargetsOf U) → TargetClaim x → Targets
 targets_more x xs w m zero front r i h b = absurd (omega arith)
 targets_more x xs w m (suc n) front r i h b =
     let long = length-append (target_words x) (more_targets_words xs) in
-    ap (λ (ws : Toks U). target_at n ws >>= λ x. targets_at n (front ++ x.0 ∷ []) x.1) (spell_append (target_words x) (more_targets_words xs) r)
-    ∙ ap (λ (o : Read U (TargetOf U)). o >>= λ x. targets_at n (front ++ x.0 ∷ []) x.1) (w n (spell (more_targets_words xs) r) (no_bracket xs r i) (omega arith))
+    ap (λ (ws : Toks U). target_at n ws >>= λ x. targets_at n (front ++ x.0 ∷ []) x.1)
+    (spell_append (target_words x) (more_targets_words xs) r)
+    ∙ ap (λ (o : Read U (TargetOf U)). o >>= λ x. targets_at n (front ++ x.0 ∷ []) x.1)
+    (w n (spell (more_targets_words xs) r) (no_bracket xs r i) (omega arith))
     ∙ m n (front ++ x ∷ []) r i h (omega arith)
     ∙ ap (λ (xs : List (TargetOf U)). Some (xs, r)) (append_assoc front (x ∷ []) (list_of xs))
 
-target_concat : (line : U) (x : TargetOf U) (xs : TargetsOf U) → TargetClaim x → TargetsClaim xs → TargetClaim (ConcatTarget line (MoreTargets x xs))
-target_concat line x xs w m zero r i b = absurd (omega (arith, length-append (target_words x ++ more_targets_words xs) (Fixed t.BraceClose ∷ [])))
+target_concat : (line : U) (x : TargetOf U) (xs : TargetsOf U) → TargetClaim x → TargetsClaim xs
+    → TargetClaim (ConcatTarget line (MoreTargets x xs))
+target_concat line x xs w m zero r i b = absurd (omega (
+  arith,
+  length-append (target_words x ++ more_targets_words xs)
+      (Fixed t.BraceClose ∷ []),
+))
 target_concat line x xs w m (suc n) r i b =
     let long = length-append (target_words x ++ more_targets_words xs) (Fixed t.BraceClose ∷ []) in
     let longer = length-append (target_words x) (more_targets_words xs) in
     let shut = spelled (Fixed t.BraceClose) ∷ r in
-    ap (λ (ws : Toks U). target_at n ws >>= λ x. targets_at n (x.0 ∷ []) x.1 >>= λ xs. after t.BraceClose xs.1 >>= λ c. Some (ConcatTarget line (targets_of xs.0), c.1))
-    (spell_append (target_words x ++ more_targets_words xs) (Fixed t.BraceClose ∷ []) r ∙ spell_append (target_words x) (more_targets_words xs) shut)
-    ∙ ap (λ (o : Read U (TargetOf U)). o >>= λ x. targets_at n (x.0 ∷ []) x.1 >>= λ xs. after t.BraceClose xs.1 >>= λ c. Some (ConcatTarget line (targets_of xs.0), c.1)) (w n (spell (more_targets_words xs) shut) (no_bracket xs shut refl) (omega arith))
-    ∙ ap (λ (o : Read U (List (TargetOf U))). o >>= λ xs. after t.BraceClose xs.1 >>= λ c. Some (ConcatTarget line (targets_of xs.0), c.1)) (m n (x ∷ []) shut refl refl (omega arith))
+    ap (λ (ws : Toks U). target_at n ws >>= λ x. targets_at n (x.0 ∷ []) x.1 >>= λ xs. after t.BraceClose xs.1
+    >>= λ c. Some (ConcatTarget line (targets_of xs.0), c.1))
+    (spell_append (target_words x ++ more_targets_words xs) (Fixed t.BraceClose ∷ []) r
+    ∙ spell_append (target_words x) (more_targets_words xs) shut)
+    ∙ ap (λ (o : Read U (TargetOf U)). o >>= λ x. targets_at n (x.0 ∷ []) x.1 >>= λ xs. after t.BraceClose xs.1
+    >>= λ c. Some (ConcatTarget line (targets_of xs.0), c.1)) (w n (spell (more_targets_words xs) shut) (no_bracket xs shut refl)
+    (omega arith))
+    ∙ ap (λ (o : Read U (List (TargetOf U))). o >>= λ xs. after t.BraceClose xs.1 >>= λ c. Some (ConcatTarget line (targets_of xs.0), c.1))
+    (m n (x ∷ []) shut refl refl (omega arith))
     ∙ ap (λ (xs : TargetsOf U). Some (ConcatTarget line (MoreTargets x xs), r)) (listed xs)
 
 mutual
@@ -70,5 +86,6 @@ mutual
   reads_targets NoTargets g = targets_none
   reads_targets (MoreTargets x xs) g = targets_more x xs (reads_target x g.0) (reads_targets xs g.1)
 
-pub target_read : (x : TargetOf U) (rest : Toks U) (fuel : ℕ) → IsGoodTarget x → after t.BracketOpen rest ≡ None → fuel_for (length (target_words x)) ≤ fuel → target_at fuel (spell (target_words x) rest) ≡ Some (x, rest)
+pub target_read : (x : TargetOf U) (rest : Toks U) (fuel : ℕ) → IsGoodTarget x → after t.BracketOpen rest ≡ None
+    → fuel_for (length (target_words x)) ≤ fuel → target_at fuel (spell (target_words x) rest) ≡ Some (x, rest)
 target_read x rest fuel g s h = reads_target x g fuel rest s (omega arith)

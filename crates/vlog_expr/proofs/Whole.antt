@@ -1,5 +1,6 @@
 -- The whole list of tokens as one expression.
-use Rattle.std.proofs.Common.{◌≡◌, ℕ, suc, List, [], ◌∷◌, ◌++◌, Option, None, Some, Result, Ok, Err, IfOk, MatchResult, map, length, refl, ap, sym, ◌∙◌, subst, arith}
+use Rattle.std.proofs.Common.{◌≡◌, ℕ, suc, List, [], ◌∷◌, ◌++◌, Option, None, Some, Result, Ok, Err, IfOk, MatchResult, map, length, refl}
+use Rattle.std.proofs.Common.{ap, sym, ◌∙◌, subst, arith}
 use Rattle.vlog_lex.specs.declared.token.Token.{Token}
 use Rattle.vlog_lex.specs.declared.token.TokenKind.TheVariants.{Identifier}
 use Rattle.vlog_lex.specs.Lexeme.{IsToken}
@@ -9,9 +10,12 @@ use Rattle.vlog_tree.specs.declared.expr.NumberKind.TheVariants as number
 use Rattle.vlog_tree.specs.declared.terminal.Terminal.{Terminal}
 use Rattle.vlog_tree.specs.declared.terminal.Terminal.TheVariants as t
 use Rattle.vlog_tree.specs.Words.{Word, NameWord, NumberWord, Fixed, number_kind, terminal_kind, terminal_text, token_of, tokens_of}
-use Rattle.vlog_tree.specs.Tree.{ExprOf, UnaryExpr, BinaryExpr, ChoiceExpr, PrimOf, NumberPrim, RefPrim, ParenPrim, ConcatPrim, RefOf, RefWith, IndexOf, NoIndex, Index, LastOf, NoLast, Last, SelOf, IndexSel, PartSel, IndexedSel, ExprsOf, NoExprs, MoreExprs}
+use Rattle.vlog_tree.specs.Tree.{ExprOf, UnaryExpr, BinaryExpr, ChoiceExpr, PrimOf, NumberPrim, RefPrim, ParenPrim, ConcatPrim, RefOf}
+use Rattle.vlog_tree.specs.Tree.{RefWith, IndexOf, NoIndex, Index, LastOf, NoLast, Last, SelOf, IndexSel, PartSel, IndexedSel, ExprsOf}
+use Rattle.vlog_tree.specs.Tree.{NoExprs, MoreExprs}
 use Rattle.vlog_tree.specs.Plain.{plain_expr}
-use Rattle.vlog_tree.specs.Spelling.{binary_terminal, expr_words, prim_words, ref_words, index_words, last_words, sel_words, exprs_words, more_exprs_words}
+use Rattle.vlog_tree.specs.Spelling.{binary_terminal, expr_words, prim_words, ref_words, index_words, last_words, sel_words, exprs_words}
+use Rattle.vlog_tree.specs.Spelling.{more_exprs_words}
 use Rattle.vlog_tree.specs.Shape.{IsGoodExpr, IsGoodPrim, IsGoodRef, IsGoodIndex, IsGoodLast, IsGoodSel, AreGoodExprs, AreAllGoodExprs}
 use Rattle.vlog_expr.specs.declared.unread.Unread.{Unread}
 use Rattle.vlog_expr.specs.declared.unread.Unread.TheVariants as errors
@@ -98,7 +102,8 @@ mutual
   pub expr_lawful : (e : ExprOf U) → IsGoodExpr e → AreLawfulWords (expr_words e)
   expr_lawful (UnaryExpr None p) g = prim_lawful p g
   expr_lawful (UnaryExpr (Some s) p) g = (tt, prim_lawful p g)
-  expr_lawful (BinaryExpr a op b) g = lawful_append (expr_words a) (Fixed (binary_terminal op) ∷ expr_words b) (expr_lawful a g.2) (tt, expr_lawful b g.3)
+  expr_lawful (BinaryExpr a op b) g = lawful_append (expr_words a) (Fixed (binary_terminal op) ∷ expr_words b) (expr_lawful a g.2)
+      (tt, expr_lawful b g.3)
   expr_lawful (ChoiceExpr c a b) g =
       lawful_append (expr_words c) (Fixed t.Question ∷ (expr_words a ++ Fixed t.Colon ∷ expr_words b)) (expr_lawful c g.1)
       (tt, lawful_append (expr_words a) (Fixed t.Colon ∷ expr_words b) (expr_lawful a g.2) (tt, expr_lawful b g.3))
@@ -118,7 +123,11 @@ mutual
   more_lawful (MoreExprs e es) g = (tt, lawful_append (expr_words e) (more_exprs_words es) (expr_lawful e g.0) (more_lawful es g.1))
 
   pub ref_lawful : (x : RefOf U) → IsGoodRef x → AreLawfulWords (ref_words x)
-  ref_lawful (RefWith id index last) g = (g.0, lawful_append (index_words index) (last_words last) (index_lawful index g.2) (last_lawful last g.3))
+  ref_lawful (RefWith id index last) g = (
+    g.0,
+    lawful_append (index_words index) (last_words last) (index_lawful index g.2)
+        (last_lawful last g.3),
+  )
 
   index_lawful : (i : IndexOf U) → IsGoodIndex i → AreLawfulWords (index_words i)
   index_lawful NoIndex g = tt
@@ -131,12 +140,14 @@ mutual
   sel_lawful : (s : SelOf U) → IsGoodSel s → AreLawfulWords (sel_words s)
   sel_lawful (IndexSel e) g = expr_lawful e g
   sel_lawful (PartSel a b) g = lawful_append (expr_words a) (Fixed t.Colon ∷ expr_words b) (expr_lawful a g.0) (tt, expr_lawful b g.1)
-  sel_lawful (IndexedSel a b) g = lawful_append (expr_words a) (Fixed t.PlusColon ∷ expr_words b) (expr_lawful a g.0) (tt, expr_lawful b g.1)
+  sel_lawful (IndexedSel a b) g = lawful_append (expr_words a) (Fixed t.PlusColon ∷ expr_words b) (expr_lawful a g.0)
+      (tt, expr_lawful b g.1)
 
 -- tokens that spell a tree of good shape are lawful
 pub lawful_from : (e : ExprOf U) (ts : List Token) → IsGoodExpr e → tokens_of (expr_words e) ≡ without_lines ts → AreLawful (all_marked ts)
 lawful_from e ts g h =
-    forget_lawful (all_marked ts) (subst (λ (ws : Toks U). AreLawful ws) (tokens_spelled (expr_words e) ts h) (spell_lawful (expr_words e) (expr_lawful e g)))
+    forget_lawful (all_marked ts) (subst (λ (ws : Toks U). AreLawful ws) (tokens_spelled (expr_words e) ts h)
+    (spell_lawful (expr_words e) (expr_lawful e g)))
 
 whole_sound : (ws : Toks ℕ) (e : ExprOf ℕ) (rest : Toks ℕ) → IsGoodExpr e × (forget_all ws ≡ spell (expr_words e) (forget_all rest))
     → Holds (whole (e, rest)) (λ (e : ExprOf ℕ). IsGoodExpr e × (forget_all ws ≡ spell (expr_words e) []))
@@ -146,7 +157,8 @@ whole_sound ws e (token ∷ rest) g = tt
 all_sound : (ws : Toks ℕ) → AreLawful ws → Holds (expr_of ws) (λ (e : ExprOf ℕ). IsGoodExpr e × (forget_all ws ≡ spell (expr_words e) []))
 unfolding expr_of
 all_sound ws h =
-    bind (λ (x : ExprOf ℕ × Toks ℕ). IsGoodExpr x.0 × (forget_all ws ≡ spell (expr_words x.0) (forget_all x.1))) (λ (e : ExprOf ℕ). IsGoodExpr e × (forget_all ws ≡ spell (expr_words e) []))
+    bind (λ (x : ExprOf ℕ × Toks ℕ). IsGoodExpr x.0 × (forget_all ws ≡ spell (expr_words x.0) (forget_all x.1)))
+    (λ (e : ExprOf ℕ). IsGoodExpr e × (forget_all ws ≡ spell (expr_words e) []))
     (expr_at (fuel_for (length ws)) ws) whole (expr_spelled ℕ (fuel_for (length ws)) ws h) (λ x g. whole_sound ws x.0 x.1 g)
 
 pub length_spell : (ws : List Word) → length (spell ws []) ≡ length ws
@@ -171,31 +183,37 @@ no_cons token ws h = cc
 pub none_some : {X : Type 0} (x : X) → None ≡ Some x → ⊥
 none_some x h = cc
 
-from_seen : (o : Read ℕ (ExprOf ℕ)) (e : ExprOf U) → seen bare_expr o ≡ Some (e, []) → (x : ExprOf ℕ) × ((o >>= whole) ≡ Some x) × (bare_expr x ≡ e)
+from_seen : (o : Read ℕ (ExprOf ℕ)) (e : ExprOf U) → seen bare_expr o ≡ Some (e, []) → (x : ExprOf ℕ) × ((o >>= whole) ≡ Some x)
+    × (bare_expr x ≡ e)
 from_seen None e h = absurd (none_some (e, []) h)
 from_seen (Some (x, [])) e h = (x, refl, ap (λ (o : Read U (ExprOf U)). tree_of o e) h)
 from_seen (Some (x, (token ∷ rest))) e h = absurd (no_cons (forget token) (forget_all rest) (ap rest_of h))
 
-pub all_again : (ws : Toks ℕ) (e : ExprOf U) → IsGoodExpr e → spell (expr_words e) [] ≡ forget_all ws → (x : ExprOf ℕ) × (expr_of ws ≡ Some x) × (bare_expr x ≡ e)
+pub all_again : (ws : Toks ℕ) (e : ExprOf U) → IsGoodExpr e → spell (expr_words e) [] ≡ forget_all ws → (x : ExprOf ℕ)
+    × (expr_of ws ≡ Some x) × (bare_expr x ≡ e)
 unfolding expr_of
 all_again ws e g h =
     let fuel = fuel_for (length ws) in
-    let same : length (expr_words e) ≡ length ws = sym (length_spell (expr_words e)) ∙ ap (λ (us : Toks U). length us) h ∙ length_forget ws in
-    from_seen (expr_at fuel ws) e (sym (expr_natural ℕ fuel ws) ∙ sym (ap (λ (us : Toks U). expr_at fuel us) h) ∙ expr_read e [] fuel g ends_nil (omega arith))
+    let same : length (expr_words e) ≡ length ws = sym (length_spell (expr_words e)) ∙ ap (λ (us : Toks U). length us) h ∙ length_forget ws
+    in
+    from_seen (expr_at fuel ws) e (sym (expr_natural ℕ fuel ws) ∙ sym (ap (λ (us : Toks U). expr_at fuel us) h)
+    ∙ expr_read e [] fuel g ends_nil (omega arith))
 
 -- the clauses
 pub found_clause : (r : Result Expr Unread) (ts : List Token) → AreLawful (all_marked ts) → Gives plain_expr r (expr_of (all_marked ts))
     → IfOk r (λ e. IsGoodExpr (plain_expr e) × (tokens_of (expr_words (plain_expr e)) ≡ without_lines ts))
 found_clause (Err e) ts l h = tt
 found_clause (Ok e) ts l h =
-    let s = subst (λ (o : Option (ExprOf ℕ)). Holds o (λ (e : ExprOf ℕ). IsGoodExpr e × (forget_all (all_marked ts) ≡ spell (expr_words e) []))) h (all_sound (all_marked ts) l) in
+    let s = subst (λ (o : Option (ExprOf ℕ)). Holds o (λ (e : ExprOf ℕ). IsGoodExpr e
+    × (forget_all (all_marked ts) ≡ spell (expr_words e) []))) h (all_sound (all_marked ts) l) in
     (s.0, spelled_tokens (expr_words (plain_expr e)) ts s.1)
 
 same_some : (x y : ExprOf ℕ) → Some x ≡ Some y → x ≡ y
 same_some x y h = cc
 
 pub only_clause : (r : Result Expr Unread) (ts : List Token) → Gives plain_expr r (expr_of (all_marked ts))
-    → (e : ExprOf U) → IsGoodExpr e → tokens_of (expr_words e) ≡ without_lines ts → MatchResult r (λ x. bare_expr (plain_expr x) ≡ e) (λ x. x ≡ errors.Memory)
+    → (e : ExprOf U) → IsGoodExpr e → tokens_of (expr_words e) ≡ without_lines ts
+    → MatchResult r (λ x. bare_expr (plain_expr x) ≡ e) (λ x. x ≡ errors.Memory)
 only_clause (Ok x) ts h e g w =
     let a = all_again (all_marked ts) e g (tokens_spelled (expr_words e) ts w) in
     ap bare_expr (same_some (plain_expr x) a.0 (sym h ∙ a.1)) ∙ a.2
@@ -204,6 +222,7 @@ only_clause (Err errors.Fault) ts h e g w =
     let a = all_again (all_marked ts) e g (tokens_spelled (expr_words e) ts w) in
     absurd (none_some a.0 (sym h ∙ a.1))
 
-pub lines_clause : (r : Result Expr Unread) (ts : List Token) → Gives plain_expr r (expr_of (all_marked ts)) → IfOk r (λ e. expr_of (all_marked ts) ≡ Some (plain_expr e))
+pub lines_clause : (r : Result Expr Unread) (ts : List Token) → Gives plain_expr r (expr_of (all_marked ts))
+    → IfOk r (λ e. expr_of (all_marked ts) ≡ Some (plain_expr e))
 lines_clause (Ok e) ts h = h
 lines_clause (Err e) ts h = tt

@@ -2,7 +2,8 @@
 use Rattle.std.specs.Prelude.{List, map}
 use Rattle.vlog_lex.specs.declared.token.Token.{Token}
 use Rattle.vlog_tree.specs.Tree.{IdentOf, NumberOf, SignOf, ExprOf, PrimOf, RefOf, IndexOf, LastOf, SelOf, ExprsOf, TargetOf, TargetsOf}
-use Rattle.vlog_tree.specs.Lines.{no_mark, map_ident, map_number, map_sign, map_expr, map_prim, map_ref, map_index, map_last, map_sel, map_exprs, map_target, map_targets}
+use Rattle.vlog_tree.specs.Lines.{no_mark, map_ident, map_number, map_sign, map_expr, map_prim, map_ref, map_index, map_last, map_sel}
+use Rattle.vlog_tree.specs.Lines.{map_exprs, map_target, map_targets}
 use Rattle.vlog_expr.specs.Marks.{TokenOf, Toks}
 
 abbrev pub forget : {A : Type 0} → TokenOf A → TokenOf (Unit {0})

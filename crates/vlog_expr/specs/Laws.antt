@@ -27,13 +27,15 @@ ExprsAreRead =
 -- the same of a name with its brackets
 abbrev pub RefsAreRead : Type 0
 RefsAreRead =
-    (r : RefOf (Unit {0})) (rest : Toks (Unit {0})) (fuel : ℕ) → IsGoodRef r → after t.BracketOpen rest ≡ None → fuel_for (length (ref_words r)) ≤ fuel
+    (r : RefOf (Unit {0})) (rest : Toks (Unit {0})) (fuel : ℕ) → IsGoodRef r → after t.BracketOpen rest ≡ None
+    → fuel_for (length (ref_words r)) ≤ fuel
     → ref_at fuel (spell (ref_words r) rest) ≡ Some (r, rest)
 
 -- the same of a target
 abbrev pub TargetsAreRead : Type 0
 TargetsAreRead =
-    (x : TargetOf (Unit {0})) (rest : Toks (Unit {0})) (fuel : ℕ) → IsGoodTarget x → after t.BracketOpen rest ≡ None → fuel_for (length (target_words x)) ≤ fuel
+    (x : TargetOf (Unit {0})) (rest : Toks (Unit {0})) (fuel : ℕ) → IsGoodTarget x → after t.BracketOpen rest ≡ None
+    → fuel_for (length (target_words x)) ≤ fuel
     → target_at fuel (spell (target_words x) rest) ≡ Some (x, rest)
 
 -- where something is read, this holds of it
@@ -44,15 +46,18 @@ Holds (Some x) P = P x
 -- of lawful names and numbers, what is read has good shape, and its tokens and the rest are what was given
 abbrev pub ReadExprsAreSpelled : Type 0 → Type 0
 ReadExprsAreSpelled A =
-    (fuel : ℕ) (ws : Toks A) → AreLawful ws → Holds (expr_at fuel ws) (λ x. IsGoodExpr x.0 × (forget_all ws ≡ spell (expr_words x.0) (forget_all x.1)))
+    (fuel : ℕ) (ws : Toks A) → AreLawful ws → Holds (expr_at fuel ws) (λ x. IsGoodExpr x.0
+    × (forget_all ws ≡ spell (expr_words x.0) (forget_all x.1)))
 
 abbrev pub ReadRefsAreSpelled : Type 0 → Type 0
 ReadRefsAreSpelled A =
-    (fuel : ℕ) (ws : Toks A) → AreLawful ws → Holds (ref_at fuel ws) (λ x. IsGoodRef x.0 × (forget_all ws ≡ spell (ref_words x.0) (forget_all x.1)))
+    (fuel : ℕ) (ws : Toks A) → AreLawful ws → Holds (ref_at fuel ws) (λ x. IsGoodRef x.0
+    × (forget_all ws ≡ spell (ref_words x.0) (forget_all x.1)))
 
 abbrev pub ReadTargetsAreSpelled : Type 0 → Type 0
 ReadTargetsAreSpelled A =
-    (fuel : ℕ) (ws : Toks A) → AreLawful ws → Holds (target_at fuel ws) (λ x. IsGoodTarget x.0 × (forget_all ws ≡ spell (target_words x.0) (forget_all x.1)))
+    (fuel : ℕ) (ws : Toks A) → AreLawful ws → Holds (target_at fuel ws)
+    (λ x. IsGoodTarget x.0 × (forget_all ws ≡ spell (target_words x.0) (forget_all x.1)))
 
 -- no two expressions of good shape have the same words
 abbrev pub OneExpr : Type 0

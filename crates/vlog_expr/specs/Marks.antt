@@ -94,12 +94,15 @@ number_front (token ∷ rest) = number_with token rest (number_of token.kind)
 
 abbrev pub unary_operators : List UnaryOp
 unary_operators =
-    unary.Plus ∷ unary.Minus ∷ unary.LogicalNot ∷ unary.BitNot ∷ unary.And ∷ unary.Nand ∷ unary.Or ∷ unary.Nor ∷ unary.Xor ∷ unary.TildeXor ∷ unary.XorTilde ∷ []
+    unary.Plus ∷ unary.Minus ∷ unary.LogicalNot ∷ unary.BitNot ∷ unary.And ∷ unary.Nand ∷ unary.Or ∷ unary.Nor ∷ unary.Xor ∷ unary.TildeXor
+    ∷ unary.XorTilde ∷ []
 
 abbrev pub binary_operators : List BinaryOp
 binary_operators =
-    binary.LogicalOr ∷ binary.LogicalAnd ∷ binary.Or ∷ binary.Xor ∷ binary.XorTilde ∷ binary.TildeXor ∷ binary.And ∷ binary.Equal ∷ binary.NotEqual ∷
-    binary.Less ∷ binary.LessOrEqual ∷ binary.Greater ∷ binary.GreaterOrEqual ∷ binary.ShiftLeft ∷ binary.ShiftRight ∷ binary.ArithmeticShiftLeft ∷
+    binary.LogicalOr ∷ binary.LogicalAnd ∷ binary.Or ∷ binary.Xor ∷ binary.XorTilde ∷ binary.TildeXor ∷ binary.And ∷ binary.Equal
+    ∷ binary.NotEqual ∷
+    binary.Less ∷ binary.LessOrEqual ∷ binary.Greater ∷ binary.GreaterOrEqual ∷ binary.ShiftLeft ∷ binary.ShiftRight
+    ∷ binary.ArithmeticShiftLeft ∷
     binary.ArithmeticShiftRight ∷ binary.Plus ∷ binary.Minus ∷ binary.Times ∷ []
 
 -- the operator with this text

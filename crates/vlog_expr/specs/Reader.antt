@@ -2,7 +2,9 @@
 use Rattle.std.specs.Prelude.{if◌then◌else◌, ℕ, zero, suc, pred, ◌+◌, ◌*◌, ◌==◌, List, [], ◌∷◌, ◌++◌, Option, None, Some, length}
 use Rattle.vlog_tree.specs.declared.expr.BinaryOp.{BinaryOp}
 use Rattle.vlog_tree.specs.declared.terminal.Terminal.TheVariants as t
-use Rattle.vlog_tree.specs.Tree.{IdentOf, SignOf, ExprOf, UnaryExpr, BinaryExpr, ChoiceExpr, PrimOf, NumberPrim, RefPrim, ParenPrim, ConcatPrim, RefOf, RefWith, NoIndex, Index, NoLast, Last, SelOf, IndexSel, PartSel, IndexedSel, exprs_of, TargetOf, RefTarget, ConcatTarget, targets_of}
+use Rattle.vlog_tree.specs.Tree.{IdentOf, SignOf, ExprOf, UnaryExpr, BinaryExpr, ChoiceExpr, PrimOf, NumberPrim, RefPrim, ParenPrim}
+use Rattle.vlog_tree.specs.Tree.{ConcatPrim, RefOf, RefWith, NoIndex, Index, NoLast, Last, SelOf, IndexSel, PartSel, IndexedSel, exprs_of}
+use Rattle.vlog_tree.specs.Tree.{TargetOf, RefTarget, ConcatTarget, targets_of}
 use Rattle.vlog_tree.specs.Shape.{level_of}
 use Rattle.vlog_expr.specs.Marks.{TokenOf, Toks, after, name_front, number_front, unary_of, binary_of}
 
@@ -46,7 +48,8 @@ abbrev mutual
   -- [ "?" expr ":" expr ]
   pub choice_at : {A : Type 0} → ℕ → ExprOf A → Toks A → Read A (ExprOf A)
   choice_at zero c ws = None
-  choice_at (suc n) c ws = found_or (after t.Question ws) (Some (c, ws)) (λ q. expr_at n q.1 >>= λ a. after t.Colon a.1 >>= λ r. expr_at n r.1 >>= λ b. Some (ChoiceExpr c a.0 b.0, b.1))
+  choice_at (suc n) c ws = found_or (after t.Question ws) (Some (c, ws))
+      (λ q. expr_at n q.1 >>= λ a. after t.Colon a.1 >>= λ r. expr_at n r.1 >>= λ b. Some (ChoiceExpr c a.0 b.0, b.1))
 
   -- operands of the level above, with operators of this level between them
   pub binary_at : {A : Type 0} → ℕ → ℕ → Toks A → Read A (ExprOf A)
@@ -56,16 +59,20 @@ abbrev mutual
   -- the operators of this level behind a first operand, from the left
   pub chain_at : {A : Type 0} → ℕ → ℕ → ExprOf A → Toks A → Read A (ExprOf A)
   chain_at zero level left ws = None
-  chain_at (suc n) level left ws = found_or (binary_front level ws) (Some (left, ws)) (λ o. binary_at n (level + 1) o.1 >>= λ b. chain_at n level (BinaryExpr left o.0 b.0) b.1)
+  chain_at (suc n) level left ws = found_or (binary_front level ws) (Some (left, ws))
+      (λ o. binary_at n (level + 1) o.1 >>= λ b. chain_at n level (BinaryExpr left o.0 b.0) b.1)
 
   pub unary_at : {A : Type 0} → ℕ → Toks A → Read A (ExprOf A)
   unary_at zero ws = None
-  unary_at (suc n) ws = found_or (sign_front ws) (prim_at n ws >>= λ p. Some (UnaryExpr None p.0, p.1)) (λ s. prim_at n s.1 >>= λ p. Some (UnaryExpr (Some s.0) p.0, p.1))
+  unary_at (suc n) ws = found_or (sign_front ws) (prim_at n ws >>= λ p. Some (UnaryExpr None p.0, p.1))
+      (λ s. prim_at n s.1 >>= λ p. Some (UnaryExpr (Some s.0) p.0, p.1))
 
   pub prim_at : {A : Type 0} → ℕ → Toks A → Read A (PrimOf A)
   prim_at zero ws = None
   prim_at (suc n) ws =
-      found_or (number_front ws) (found_or (after t.ParenOpen ws) (found_or (after t.BraceOpen ws) (ref_at n ws >>= λ r. Some (RefPrim r.0, r.1)) (λ o. concat_at n o.0 o.1)) (λ o. paren_at n o.0 o.1)) (λ x. Some (NumberPrim x.0, x.1))
+      found_or (number_front ws) (found_or (after t.ParenOpen ws) (found_or (after t.BraceOpen ws)
+      (ref_at n ws >>= λ r. Some (RefPrim r.0, r.1)) (λ o. concat_at n o.0 o.1)) (λ o. paren_at n o.0 o.1))
+      (λ x. Some (NumberPrim x.0, x.1))
 
   -- expr ")"
   pub paren_at : {A : Type 0} → ℕ → A → Toks A → Read A (PrimOf A)
@@ -75,23 +82,27 @@ abbrev mutual
   -- expr { "," expr } "}"
   pub concat_at : {A : Type 0} → ℕ → A → Toks A → Read A (PrimOf A)
   concat_at zero line ws = None
-  concat_at (suc n) line ws = expr_at n ws >>= λ e. parts_at n (e.0 ∷ []) e.1 >>= λ es. after t.BraceClose es.1 >>= λ c. Some (ConcatPrim line (exprs_of es.0), c.1)
+  concat_at (suc n) line ws = expr_at n ws >>= λ e. parts_at n (e.0 ∷ []) e.1 >>= λ es. after t.BraceClose es.1
+      >>= λ c. Some (ConcatPrim line (exprs_of es.0), c.1)
 
   -- { "," expr } behind the parts so far
   pub parts_at : {A : Type 0} → ℕ → List (ExprOf A) → Toks A → Read A (List (ExprOf A))
   parts_at zero front ws = None
-  parts_at (suc n) front ws = found_or (after t.Comma ws) (Some (front, ws)) (λ c. expr_at n c.1 >>= λ e. parts_at n (front ++ e.0 ∷ []) e.1)
+  parts_at (suc n) front ws = found_or (after t.Comma ws) (Some (front, ws))
+      (λ c. expr_at n c.1 >>= λ e. parts_at n (front ++ e.0 ∷ []) e.1)
 
   pub ref_at : {A : Type 0} → ℕ → Toks A → Read A (RefOf A)
   ref_at zero ws = None
   ref_at (suc n) ws =
-      name_front ws >>= λ id. found_or (after t.BracketOpen id.1) (Some (RefWith id.0 NoIndex NoLast, id.1)) (λ o. sel_at n o.1 >>= λ s. after t.BracketClose s.1 >>= λ c. second_at n id.0 s.0 c.1)
+      name_front ws >>= λ id. found_or (after t.BracketOpen id.1) (Some (RefWith id.0 NoIndex NoLast, id.1))
+      (λ o. sel_at n o.1 >>= λ s. after t.BracketClose s.1 >>= λ c. second_at n id.0 s.0 c.1)
 
   -- a second bracket, behind the first one
   pub second_at : {A : Type 0} → ℕ → IdentOf A → SelOf A → Toks A → Read A (RefOf A)
   second_at zero id first ws = None
   second_at (suc n) id first ws =
-      found_or (after t.BracketOpen ws) (Some (RefWith id NoIndex (Last first), ws)) (λ o. index_of first >>= λ i. sel_at n o.1 >>= λ s. after t.BracketClose s.1 >>= λ c. Some (RefWith id (Index i) (Last s.0), c.1))
+      found_or (after t.BracketOpen ws) (Some (RefWith id NoIndex (Last first), ws))
+      (λ o. index_of first >>= λ i. sel_at n o.1 >>= λ s. after t.BracketClose s.1 >>= λ c. Some (RefWith id (Index i) (Last s.0), c.1))
 
   pub sel_at : {A : Type 0} → ℕ → Toks A → Read A (SelOf A)
   sel_at zero ws = None
@@ -101,7 +112,8 @@ abbrev mutual
   pub bounds_at : {A : Type 0} → ℕ → ExprOf A → Toks A → Read A (SelOf A)
   bounds_at zero a ws = None
   bounds_at (suc n) a ws =
-      found_or (after t.Colon ws) (found_or (after t.PlusColon ws) (Some (IndexSel a, ws)) (λ o. expr_at n o.1 >>= λ b. Some (IndexedSel a b.0, b.1))) (λ o. expr_at n o.1 >>= λ b. Some (PartSel a b.0, b.1))
+      found_or (after t.Colon ws) (found_or (after t.PlusColon ws) (Some (IndexSel a, ws))
+      (λ o. expr_at n o.1 >>= λ b. Some (IndexedSel a b.0, b.1))) (λ o. expr_at n o.1 >>= λ b. Some (PartSel a b.0, b.1))
 
 -- operators behind an operand, from level `top` down, as many levels as the third number says; each level has one more of fuel
 abbrev pub climb_at : {A : Type 0} → ℕ → ℕ → ℕ → ExprOf A × Toks A → Read A (ExprOf A)
@@ -111,12 +123,15 @@ climb_at fuel top (suc levels) x = chain_at (suc fuel) top x.0 x.1 >>= climb_at 
 abbrev mutual
   pub target_at : {A : Type 0} → ℕ → Toks A → Read A (TargetOf A)
   target_at zero ws = None
-  target_at (suc n) ws = found_or (after t.BraceOpen ws) (ref_at n ws >>= λ r. Some (RefTarget r.0, r.1)) (λ o. target_at n o.1 >>= λ x. targets_at n (x.0 ∷ []) x.1 >>= λ xs. after t.BraceClose xs.1 >>= λ c. Some (ConcatTarget o.0 (targets_of xs.0), c.1))
+  target_at (suc n) ws = found_or (after t.BraceOpen ws) (ref_at n ws >>= λ r. Some (RefTarget r.0, r.1))
+      (λ o. target_at n o.1 >>= λ x. targets_at n (x.0 ∷ []) x.1 >>= λ xs. after t.BraceClose xs.1
+      >>= λ c. Some (ConcatTarget o.0 (targets_of xs.0), c.1))
 
   -- { "," target } behind the parts so far
   pub targets_at : {A : Type 0} → ℕ → List (TargetOf A) → Toks A → Read A (List (TargetOf A))
   targets_at zero front ws = None
-  targets_at (suc n) front ws = found_or (after t.Comma ws) (Some (front, ws)) (λ c. target_at n c.1 >>= λ x. targets_at n (front ++ x.0 ∷ []) x.1)
+  targets_at (suc n) front ws = found_or (after t.Comma ws) (Some (front, ws))
+      (λ c. target_at n c.1 >>= λ x. targets_at n (front ++ x.0 ∷ []) x.1)
 
 -- { "," x } behind the ones so far
 abbrev pub more_at : {A X : Type 0} → (Toks A → Read A X) → ℕ → List X → Toks A → Read A (List X)

@@ -4,7 +4,8 @@ ghost use Rattle.std.specs.Prelude.{◌≡◌, ◌≤◌, ◌<◌, ◌+◌, ◌-
 ghost use Rattle.vlog_tree.specs.Tree.{ExprOf, BinaryExpr};
 ghost use Rattle.vlog_tree.specs.Plain.{plain_ident, plain_expr, plain_prim, plain_ref, plain_sel};
 ghost use Rattle.vlog_expr.specs.Marks.{Toks, all_marked};
-ghost use Rattle.vlog_expr.specs.Reader.{◌>>=◌ as bind, expr_at, choice_at, binary_at, climb_at, chain_at, unary_at, prim_at, paren_at, concat_at, parts_at, ref_at, second_at, sel_at, bounds_at, index_of};
+ghost use Rattle.vlog_expr.specs.Reader.{◌>>=◌ as bind, expr_at, choice_at, binary_at, climb_at, chain_at, unary_at, prim_at, paren_at};
+ghost use Rattle.vlog_expr.specs.Reader.{concat_at, parts_at, ref_at, second_at, sel_at, bounds_at, index_of};
 ghost use Rattle.vlog_expr.specs.Given.{Gives};
 
 use crate::front::{Parsed, after, binary_front, expect, name_of, number_front, sign_front};
@@ -97,7 +98,8 @@ fn climb_of(
 ) -> Parsed<'_, Expr>
     requires level { level ≤ 11 }
     requires base { base + (11 - level) < 2 ^ 64 }
-    ensures { Gives (λ x. (plain_expr x.0, all_marked x.1.now)) result (climb_at base 10 (11 - level) (plain_expr operand, all_marked tokens.now)) }
+    ensures { Gives (λ x. (plain_expr x.0, all_marked x.1.now)) result
+        (climb_at base 10 (11 - level) (plain_expr operand, all_marked tokens.now)) }
 {
     let mut left = operand;
     let mut rest = tokens;
@@ -129,7 +131,8 @@ fn chain_of(
     fuel: usize,
 ) -> Parsed<'_, Expr>
     requires { level ≤ 10 }
-    ensures { Gives {Y = ExprOf ℕ × Toks ℕ} (λ x. (plain_expr x.0, all_marked x.1.now)) result (bind (binary_at fuel (level + 1) (all_marked tokens.now)) (λ b. chain_at fuel level (BinaryExpr (plain_expr left) op b.0) b.1)) }
+    ensures { Gives {Y = ExprOf ℕ × Toks ℕ} (λ x. (plain_expr x.0, all_marked x.1.now)) result
+        (bind (binary_at fuel (level + 1) (all_marked tokens.now)) (λ b. chain_at fuel level (BinaryExpr (plain_expr left) op b.0) b.1)) }
 {
     if fuel == 0 {
         return Err(Unread::Fault);
@@ -282,7 +285,8 @@ fn second_of(
     tokens: &[Token],
     fuel: usize,
 ) -> Parsed<'_, Ref>
-    ensures { Gives (λ x. (plain_ref x.0, all_marked x.1.now)) result (second_at fuel (plain_ident id) (plain_sel first.value) (all_marked tokens.now)) }
+    ensures { Gives (λ x. (plain_ref x.0, all_marked x.1.now)) result (second_at fuel (plain_ident id) (plain_sel first.value)
+        (all_marked tokens.now)) }
 {
     if fuel == 0 {
         return Err(Unread::Fault);

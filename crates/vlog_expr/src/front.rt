@@ -67,7 +67,8 @@ fn number_kind(kind: TokenKind) -> Option<NumberKind>
 
 /// The number at the front, its token and the tokens behind it.
 pub fn number_front(tokens: &[Token]) -> Option<(NumberKind, &Token, &[Token])>
-    ensures { option_map (λ r. (record { kind = r.0; text = r.1.now.text; line = r.1.now.line }, all_marked r.2.now)) result ≡ number_front (all_marked tokens.now) }
+    ensures { option_map (λ r. (record { kind = r.0; text = r.1.now.text; line = r.1.now.line }, all_marked r.2.now)) result
+        ≡ number_front (all_marked tokens.now) }
 {
     let [first, rest @ ..] = tokens else {
         return None;

@@ -47,7 +47,8 @@ pub fn parse_expression(alloc: Global, tokens: &[Token]) -> Result<Expr, Unread>
     // What is read has good shape and these tokens.
     ensures found { IfOk result (λ e. IsGoodExpr (plain_expr e) × (tokens_of (expr_words (plain_expr e)) ≡ without_lines tokens.now)) }
     // The tree of good shape that has these tokens is read, unless memory runs out.
-    ensures only { (t : ExprOf (Unit {0})) → IsGoodExpr t → tokens_of (expr_words t) ≡ without_lines tokens.now → MatchResult result (λ e. bare_expr (plain_expr e) ≡ t) (λ e. e ≡ Unread.Memory) }
+    ensures only { (t : ExprOf (Unit {0})) → IsGoodExpr t → tokens_of (expr_words t) ≡ without_lines tokens.now
+        → MatchResult result (λ e. bare_expr (plain_expr e) ≡ t) (λ e. e ≡ Unread.Memory) }
     // Its lines are those that the reader on lists takes from the tokens.
     ensures lines { IfOk result (λ e. expr_of (all_marked tokens.now) ≡ Some (plain_expr e)) }
 {

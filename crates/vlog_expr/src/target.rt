@@ -37,7 +37,8 @@ pub fn target_of(alloc: Global, tokens: &[Token], fuel: usize) -> Parsed<'_, Tar
 #[cycle(targets)]
 #[tactic(auto, using(crate::proofs::Maps::targets_snoc))]
 fn targets_of(alloc: Global, parts: Targets, tokens: &[Token], fuel: usize) -> Parsed<'_, Targets>
-    ensures { Gives (λ x. (map plain_target x.0, all_marked x.1.now)) result (targets_at fuel (map plain_target parts) (all_marked tokens.now)) }
+    ensures { Gives (λ x. (map plain_target x.0, all_marked x.1.now)) result
+        (targets_at fuel (map plain_target parts) (all_marked tokens.now)) }
 {
     let mut parts = parts;
     let mut rest = tokens;

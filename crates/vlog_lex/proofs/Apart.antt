@@ -51,7 +51,8 @@ token_opens : (kind : TokenKind) (text rest : List ℕ) → IsToken kind text �
 token_opens Identifier text rest token = name_opens text rest token.0
 token_opens Reserved text rest token = name_opens text rest token.0
 token_opens Decimal text rest token = decimal_opens text rest token
-token_opens Based text rest token = ap (λ t. opens (t ++ rest)) token.spelled ∙ based_opens token.size rest (token.base ∷ token.digits) token.sized
+token_opens Based text rest token = ap (λ t. opens (t ++ rest)) token.spelled
+    ∙ based_opens token.size rest (token.base ∷ token.digits) token.sized
 token_opens Other [] rest token = absurd (omega (arith, token_some Other [] token))
 token_opens Other (b ∷ text) rest token = symbol_opens (b ∷ text) rest token
 

@@ -1,16 +1,20 @@
 -- The longest token of any kind is the longest of the kinds that begin with its first byte.
-use Rattle.std.proofs.Common.{◌≡◌, ◌≢◌, ℕ, suc, ◌+◌, ◌<◌, ◌≤◌, Bool, true, false, cond, List, [], ◌∷◌, ◌++◌, ◌==◌, ◌||◌, length, take, drop, sym, refl, ap, ◌∙◌, subst, ⊎_elim, arith, nat_le, append_assoc, append-nil, take-append-drop, length-take-le, length-append, take_at}
+use Rattle.std.proofs.Common.{◌≡◌, ◌≢◌, ℕ, suc, ◌+◌, ◌<◌, ◌≤◌, Bool, true, false, cond, List, [], ◌∷◌, ◌++◌, ◌==◌, ◌||◌, length, take, drop}
+use Rattle.std.proofs.Common.{sym, refl, ap, ◌∙◌, subst, ⊎_elim, arith, nat_le, append_assoc, append-nil, take-append-drop, length-take-le}
+use Rattle.std.proofs.Common.{length-append, take_at}
 use Rattle.std.specs.List.{list_any, list_all}
 use Rattle.std.specs.Str.{bytes_eq}
 use Rattle.std.proofs.lemmas.Slice.Eq.{bytes_eq-Decides}
-use Rattle.std.proofs.lemmas.Bool.{false≢true, or_cases, or_left, and_parts, and_from, both_ways, le-leb, cond-false, false_from_ne_true, eqb-true, leb-true, cases_lt}
+use Rattle.std.proofs.lemmas.Bool.{false≢true, or_cases, or_left, and_parts, and_from, both_ways, le-leb, cond-false, false_from_ne_true}
+use Rattle.std.proofs.lemmas.Bool.{eqb-true, leb-true, cases_lt}
 use Rattle.std.proofs.lemmas.Bool.Decides.{nat_tests}
 use Rattle.std.proofs.lemmas.List.Sums.{sum_by-cons, sum_by-append}
 use Rattle.vlog_lex.specs.Span.{Each}
 use Rattle.vlog_lex.specs.Reading.{newlines}
 use Rattle.vlog_lex.specs.Words.{is_among, symbols, is_symbol}
 use Rattle.vlog_lex.specs.Front.{IsLongestFront, has_symbol}
-use Rattle.vlog_lex.specs.Lexeme.{begins_name, continues_name, is_digit_of, continues_digits, IsName, IsDigits, IsDecimal, IsBased, IsSymbol, IsToken, IsLongest}
+use Rattle.vlog_lex.specs.Lexeme.{begins_name, continues_name, is_digit_of, continues_digits, IsName, IsDigits, IsDecimal, IsBased}
+use Rattle.vlog_lex.specs.Lexeme.{IsSymbol, IsToken, IsLongest}
 use Rattle.vlog_lex.specs.declared.token.TokenKind.{TokenKind}
 use Rattle.vlog_lex.specs.declared.token.TokenKind.TheVariants.{Identifier, Reserved, Decimal, Based, Other}
 use Rattle.vlog_lex.proofs.Spans.{run_each}
@@ -49,10 +53,13 @@ decimal_class (b ∷ text) run =
     ∙ ap (λ t. cond t 2 3) (or_left (is_digit_of 100 b) (b == 39) run.0)
 
 based_class : (text : List ℕ) → IsBased text → class text ≡ 2
-based_class text based = ap class based.spelled ∙ ⊎_elim (λ none. ap (λ t. class (t ++ 39 ∷ based.base ∷ based.digits)) none) (λ run. class_front based.size (39 ∷ based.base ∷ based.digits) (omega (arith, decimal_class based.size run)) ∙ decimal_class based.size run) based.sized
+based_class text based = ap class based.spelled ∙ ⊎_elim (λ none. ap (λ t. class (t ++ 39 ∷ based.base ∷ based.digits)) none)
+    (λ run. class_front based.size (39 ∷ based.base ∷ based.digits) (omega (arith, decimal_class based.size run))
+    ∙ decimal_class based.size run) based.sized
 
 -- what holds of each text of a list holds of a text that is among them
-pub holds_among : (P : List ℕ → Bool) (texts : List (List ℕ)) (text : List ℕ) → is_among texts text ≡ true → list_all P texts ≡ true → P text ≡ true
+pub holds_among : (P : List ℕ → Bool) (texts : List (List ℕ)) (text : List ℕ) → is_among texts text ≡ true → list_all P texts ≡ true
+    → P text ≡ true
 holds_among P [] text h all = absurd (false≢true h)
 holds_among P (t ∷ texts) text h all =
     let parts = and_parts (P t) (list_all P texts) all in
@@ -101,7 +108,8 @@ token_some kind (b ∷ text) token = omega arith
 decimal_no_based : (text : List ℕ) → IsDecimal text → IsBased text → ⊥
 decimal_no_based text decimal based =
     let short = decimal_before_quote text [] based.size (based.base ∷ based.digits) (append-nil text ∙ based.spelled) decimal in
-    let long : length text ≡ length based.size + suc (suc (length based.digits)) = ap length based.spelled ∙ length-append based.size (39 ∷ based.base ∷ based.digits) in
+    let long : length text ≡ length based.size + suc (suc (length based.digits)) = ap length based.spelled
+    ∙ length-append based.size (39 ∷ based.base ∷ based.digits) in
     omega arith
 
 abbrev newline_at : ℕ → ℕ
@@ -122,7 +130,8 @@ other_byte p never b passes =
 -- no byte that passes is a newline
 each_no_newline : (p : ℕ → Bool) → p 10 ≡ false → (text : List ℕ) → Each p text → newlines text ≡ 0
 each_no_newline p never [] each = refl
-each_no_newline p never (b ∷ text) each = newlines-cons b text ∙ both_zero (other_byte p never b each.0) (each_no_newline p never text each.1)
+each_no_newline p never (b ∷ text) each = newlines-cons b text ∙ both_zero (other_byte p never b each.0)
+    (each_no_newline p never text each.1)
 
 no_newline_digit : (base : ℕ) → continues_digits base 10 ≡ false
 no_newline_digit base = grind (arith, nat_tests)
@@ -136,14 +145,18 @@ digits_no_newline base (d ∷ digits) run =
 
 based_no_newline : (text : List ℕ) → IsBased text → newlines text ≡ 0
 based_no_newline text based =
-    let size : newlines based.size ≡ 0 = ⊎_elim (λ none. ap newlines none) (λ run. each_no_newline (continues_digits 100) refl based.size (decimal_each based.size run)) based.sized in
+    let size : newlines based.size ≡ 0 = ⊎_elim (λ none. ap newlines none)
+    (λ run. each_no_newline (continues_digits 100) refl based.size (decimal_each based.size run)) based.sized in
     ap newlines based.spelled ∙ sum_by-append newline_at based.size (39 ∷ based.base ∷ based.digits)
-    ∙ both_zero size (newlines-cons 39 (based.base ∷ based.digits) ∙ both_zero refl (digits_no_newline based.base based.digits based.valued))
+    ∙ both_zero size (newlines-cons 39 (based.base ∷ based.digits) ∙ both_zero refl
+    (digits_no_newline based.base based.digits based.valued))
 
 pub no_newline : (kind : TokenKind) (text : List ℕ) → IsToken kind text → newlines text ≡ 0
 unfolding is_symbol
-no_newline Identifier text token = each_no_newline continues_name refl text (run_each begins_name continues_name text (λ b h. or_left (begins_name b) _ h) token.0)
-no_newline Reserved text token = each_no_newline continues_name refl text (run_each begins_name continues_name text (λ b h. or_left (begins_name b) _ h) token.0)
+no_newline Identifier text token = each_no_newline continues_name refl text
+    (run_each begins_name continues_name text (λ b h. or_left (begins_name b) _ h) token.0)
+no_newline Reserved text token = each_no_newline continues_name refl text
+    (run_each begins_name continues_name text (λ b h. or_left (begins_name b) _ h) token.0)
 no_newline Decimal text token = each_no_newline (continues_digits 100) refl text (decimal_each text token)
 no_newline Based text token = based_no_newline text token
 no_newline Other text token = eqb-true _ _ (holds_among (λ t. newlines t == 0) symbols text token refl)
@@ -166,7 +179,8 @@ one_kind k j text a b = by_class k j text a b (same_class k j text [] text [] a 
 
 -- a front of n bytes that is a token is the longest, if the tokens of its class are no longer
 by_class : (kind : TokenKind) (n : ℕ) (bytes : List ℕ) → n ≤ length bytes → IsToken kind (take n bytes)
-    → ((other : TokenKind) (front tail : List ℕ) → front ++ tail ≡ bytes → IsToken other front → class_of_kind other ≡ class_of_kind kind → length front ≤ n)
+    → ((other : TokenKind) (front tail : List ℕ) → front ++ tail ≡ bytes → IsToken other front → class_of_kind other ≡ class_of_kind kind
+    → length front ≤ n)
     → IsLongest kind (take n bytes) (drop n bytes)
 by_class kind n bytes fits token bound = record {
   token = token;
@@ -175,57 +189,71 @@ by_class kind n bytes fits token bound = record {
       omega (arith, bound other front tail (e ∙ take-append-drop n bytes) found class, length-take-le n bytes fits);
 }
 
-pub longest_name : (kind : TokenKind) (n : ℕ) (bytes : List ℕ) → IsLongestFront IsName n bytes → IsToken kind (take n bytes) → class_of_kind kind ≡ 1 → IsLongest kind (take n bytes) (drop n bytes)
+pub longest_name : (kind : TokenKind) (n : ℕ) (bytes : List ℕ) → IsLongestFront IsName n bytes → IsToken kind (take n bytes)
+    → class_of_kind kind ≡ 1 → IsLongest kind (take n bytes) (drop n bytes)
 longest_name kind n bytes name token one =
     by_class kind n bytes name.fits token (λ other front tail e found class. bound other front tail n bytes name e found (class ∙ one))
   where
-    bound : (other : TokenKind) (front tail : List ℕ) (n : ℕ) (bytes : List ℕ) → IsLongestFront IsName n bytes → front ++ tail ≡ bytes → IsToken other front → class_of_kind other ≡ 1 → length front ≤ n
+    bound : (other : TokenKind) (front tail : List ℕ) (n : ℕ) (bytes : List ℕ) → IsLongestFront IsName n bytes → front ++ tail ≡ bytes
+        → IsToken other front → class_of_kind other ≡ 1 → length front ≤ n
     bound Identifier front tail n bytes name e found class = name.longest front tail e found.0
     bound Reserved front tail n bytes name e found class = name.longest front tail e found.0
     bound _ front tail n bytes name e found class = absurd (omega arith)
 
 pub longest_based : (n : ℕ) (bytes : List ℕ) → IsLongestFront IsBased n bytes → 0 < n → IsLongest Based (take n bytes) (drop n bytes)
 longest_based n bytes based some =
-    by_class Based n bytes based.fits (based.found some) (λ other front tail e found class. bound other front tail n bytes based some e found class)
+    by_class Based n bytes based.fits (based.found some) (λ other front tail e found class. bound other front tail n bytes based some e
+    found class)
   where
-    decimal_bound : (front tail : List ℕ) (n : ℕ) (bytes : List ℕ) → n ≤ length bytes → IsBased (take n bytes) → front ++ tail ≡ bytes → IsDecimal front → length front ≤ n
+    decimal_bound : (front tail : List ℕ) (n : ℕ) (bytes : List ℕ) → n ≤ length bytes → IsBased (take n bytes) → front ++ tail ≡ bytes
+        → IsDecimal front → length front ≤ n
     decimal_bound front tail n bytes fits based e decimal =
         let split : front ++ tail ≡ based.size ++ 39 ∷ (based.base ∷ (based.digits ++ drop n bytes)) =
-        e ∙ sym (take-append-drop n bytes) ∙ ap (λ t. t ++ drop n bytes) based.spelled ∙ append_assoc based.size (39 ∷ based.base ∷ based.digits) (drop n bytes) in
+        e ∙ sym (take-append-drop n bytes) ∙ ap (λ t. t ++ drop n bytes) based.spelled
+        ∙ append_assoc based.size (39 ∷ based.base ∷ based.digits) (drop n bytes) in
         let short = decimal_before_quote front tail based.size (based.base ∷ (based.digits ++ drop n bytes)) split decimal in
-        let long : length (take n bytes) ≡ length based.size + suc (suc (length based.digits)) = ap length based.spelled ∙ length-append based.size (39 ∷ based.base ∷ based.digits) in
+        let long : length (take n bytes) ≡ length based.size + suc (suc (length based.digits)) = ap length based.spelled
+        ∙ length-append based.size (39 ∷ based.base ∷ based.digits) in
         omega (arith, short, long, length-take-le n bytes fits)
 
-    bound : (other : TokenKind) (front tail : List ℕ) (n : ℕ) (bytes : List ℕ) → IsLongestFront IsBased n bytes → 0 < n → front ++ tail ≡ bytes → IsToken other front → class_of_kind other ≡ 2 → length front ≤ n
+    bound : (other : TokenKind) (front tail : List ℕ) (n : ℕ) (bytes : List ℕ) → IsLongestFront IsBased n bytes → 0 < n → front ++ tail
+        ≡ bytes → IsToken other front → class_of_kind other ≡ 2 → length front ≤ n
     bound Based front tail n bytes based some e found class = based.longest front tail e found
     bound Decimal front tail n bytes based some e found class = decimal_bound front tail n bytes based.fits (based.found some) e found
     bound _ front tail n bytes based some e found class = absurd (omega arith)
 
-pub longest_decimal : (n : ℕ) (bytes : List ℕ) → IsLongestFront IsBased 0 bytes → IsLongestFront IsDecimal n bytes → 0 < n → IsLongest Decimal (take n bytes) (drop n bytes)
+pub longest_decimal : (n : ℕ) (bytes : List ℕ) → IsLongestFront IsBased 0 bytes → IsLongestFront IsDecimal n bytes → 0 < n
+    → IsLongest Decimal (take n bytes) (drop n bytes)
 longest_decimal n bytes based decimal some =
-    by_class Decimal n bytes decimal.fits (decimal.found some) (λ other front tail e found class. bound other front tail n bytes based decimal e found class)
+    by_class Decimal n bytes decimal.fits (decimal.found some) (λ other front tail e found class. bound other front tail n bytes based
+    decimal e found class)
   where
-    bound : (other : TokenKind) (front tail : List ℕ) (n : ℕ) (bytes : List ℕ) → IsLongestFront IsBased 0 bytes → IsLongestFront IsDecimal n bytes → front ++ tail ≡ bytes → IsToken other front → class_of_kind other ≡ 2 → length front ≤ n
+    bound : (other : TokenKind) (front tail : List ℕ) (n : ℕ) (bytes : List ℕ) → IsLongestFront IsBased 0 bytes
+        → IsLongestFront IsDecimal n bytes → front ++ tail ≡ bytes → IsToken other front → class_of_kind other ≡ 2 → length front ≤ n
     bound Based front tail n bytes based decimal e found class = omega (arith, based.longest front tail e found)
     bound Decimal front tail n bytes based decimal e found class = decimal.longest front tail e found
     bound _ front tail n bytes based decimal e found class = absurd (omega arith)
 
 pub longest_symbol : (n : ℕ) (bytes : List ℕ) → IsLongestFront IsSymbol n bytes → 0 < n → IsLongest Other (take n bytes) (drop n bytes)
 longest_symbol n bytes symbol some =
-    by_class Other n bytes symbol.fits (symbol.found some) (λ other front tail e found class. bound other front tail n bytes symbol e found class)
+    by_class Other n bytes symbol.fits (symbol.found some) (λ other front tail e found class. bound other front tail n bytes symbol e found
+    class)
   where
-    bound : (other : TokenKind) (front tail : List ℕ) (n : ℕ) (bytes : List ℕ) → IsLongestFront IsSymbol n bytes → front ++ tail ≡ bytes → IsToken other front → class_of_kind other ≡ 3 → length front ≤ n
+    bound : (other : TokenKind) (front tail : List ℕ) (n : ℕ) (bytes : List ℕ) → IsLongestFront IsSymbol n bytes → front ++ tail ≡ bytes
+        → IsToken other front → class_of_kind other ≡ 3 → length front ≤ n
     bound Other front tail n bytes symbol e found class = symbol.longest front tail e found
     bound _ front tail n bytes symbol e found class = absurd (omega arith)
 
 -- no token is a front where none of the four sets has one
-pub no_token : (bytes : List ℕ) → IsLongestFront IsName 0 bytes → IsLongestFront IsBased 0 bytes → IsLongestFront IsDecimal 0 bytes → IsLongestFront IsSymbol 0 bytes
+pub no_token : (bytes : List ℕ) → IsLongestFront IsName 0 bytes → IsLongestFront IsBased 0 bytes → IsLongestFront IsDecimal 0 bytes
+    → IsLongestFront IsSymbol 0 bytes
     → (kind : TokenKind) (front tail : List ℕ) → front ++ tail ≡ bytes → ¬ IsToken kind front
 no_token bytes name based decimal symbol kind front tail e token =
     let few = bound kind front tail bytes name based decimal symbol e token in
     omega (arith, few, token_some kind front token)
   where
-    bound : (kind : TokenKind) (front tail bytes : List ℕ) → IsLongestFront IsName 0 bytes → IsLongestFront IsBased 0 bytes → IsLongestFront IsDecimal 0 bytes → IsLongestFront IsSymbol 0 bytes
+    bound : (kind : TokenKind) (front tail bytes : List ℕ) → IsLongestFront IsName 0 bytes → IsLongestFront IsBased 0 bytes
+        → IsLongestFront IsDecimal 0 bytes → IsLongestFront IsSymbol 0 bytes
         → front ++ tail ≡ bytes → IsToken kind front → length front ≤ 0
     bound Identifier front tail bytes name based decimal symbol e token = name.longest front tail e token.0
     bound Reserved front tail bytes name based decimal symbol e token = name.longest front tail e token.0
@@ -244,18 +272,21 @@ tried n bytes fits found none = record {
       let is : front ≡ take (length front) bytes = sym (take_at front tail (length front) refl) ∙ ap (take (length front)) e in
       let P : List ℕ → Type 0 = λ t. is_symbol t ≡ true in
       ⊎_elim
-      (λ (longer : n < length front). absurd (none (length front) longer (symbol_short front symbol) (and_from _ _ (le-leb _ _ all) (subst P is symbol))))
+      (λ (longer : n < length front). absurd (none (length front) longer (symbol_short front symbol)
+      (and_from _ _ (le-leb _ _ all) (subst P is symbol))))
       (λ short. short)
       (cases_lt n (length front));
 }
 
-pub symbol_found : (n : ℕ) (bytes : List ℕ) → has_symbol bytes n ≡ true → ((m : ℕ) → n < m → m ≤ 3 → has_symbol bytes m ≡ false) → IsLongestFront IsSymbol n bytes
+pub symbol_found : (n : ℕ) (bytes : List ℕ) → has_symbol bytes n ≡ true → ((m : ℕ) → n < m → m ≤ 3 → has_symbol bytes m ≡ false)
+    → IsLongestFront IsSymbol n bytes
 symbol_found n bytes has none =
     let parts = and_parts _ _ has in
     tried n bytes (leb-true n (length bytes) parts.0) (λ some. parts.1) (λ m more few symbol. both_ways _ (none m more few) symbol)
 
 pub symbol_none : (bytes : List ℕ) → ((m : ℕ) → 0 < m → m ≤ 3 → has_symbol bytes m ≡ false) → IsLongestFront IsSymbol 0 bytes
-symbol_none bytes none = tried 0 bytes (omega arith) (λ some. absurd (omega arith)) (λ m more few symbol. both_ways _ (none m more few) symbol)
+symbol_none bytes none = tried 0 bytes (omega arith) (λ some. absurd (omega arith))
+    (λ m more few symbol. both_ways _ (none m more few) symbol)
 
 -- the lengths up to 3
 pub from_3 : (t : ℕ → Bool) → t 3 ≡ false → (m : ℕ) → 2 < m → m ≤ 3 → t m ≡ false
@@ -280,7 +311,8 @@ from_1 t one two three m more few =
     (cases_lt m 2)
 
 -- a text whose longest token is a part of it is no token
-pub part_token : (kind other : TokenKind) (n : ℕ) (text : List ℕ) → n ≤ length text → IsLongest kind (take n text) (drop n text) → n ≢ length text → ¬ IsToken other text
+pub part_token : (kind other : TokenKind) (n : ℕ) (text : List ℕ) → n ≤ length text → IsLongest kind (take n text) (drop n text) → n
+    ≢ length text → ¬ IsToken other text
 part_token kind other n text fits longest part token =
     let no_more = longest.longest other text [] (append-nil text ∙ sym (take-append-drop n text)) token in
     part (omega (arith, no_more, fits, length-take-le n text fits))

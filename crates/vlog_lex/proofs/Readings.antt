@@ -1,5 +1,7 @@
 -- A text has one reading, and a reading grows by a piece.
-use Rattle.std.proofs.Common.{◌≡◌, ◌≢◌, ◌==◌, ℕ, ◌+◌, ◌-◌, ◌<◌, ◌≤◌, true, false, cond, None, length-take-le, length-drop, List, [], ◌∷◌, ◌++◌, length, take, drop, take-append-drop, sym, refl, ap, ◌∙◌, subst, arith, append_assoc, append-nil, length-append}
+use Rattle.std.proofs.Common.{◌≡◌, ◌≢◌, ◌==◌, ℕ, ◌+◌, ◌-◌, ◌<◌, ◌≤◌, true, false, cond, None, length-take-le, length-drop, List, [], ◌∷◌}
+use Rattle.std.proofs.Common.{◌++◌, length, take, drop, take-append-drop, sym, refl, ap, ◌∙◌, subst, arith, append_assoc, append-nil}
+use Rattle.std.proofs.Common.{length-append}
 use Rattle.std.proofs.lemmas.List.{append_cancel_left, take_rest, nil_from_length}
 use Rattle.std.proofs.lemmas.Bool.{eqb-true, eqb-false}
 use Rattle.std.proofs.lemmas.List.Sums.{count_by-le-length, sum_by-append}
@@ -9,7 +11,8 @@ use Rattle.vlog_lex.specs.declared.token.TokenKind.{TokenKind}
 use Rattle.vlog_lex.specs.Lexeme.{IsToken, IsLongest}
 use Rattle.vlog_lex.specs.Gap.{IsGap}
 use Rattle.vlog_lex.specs.Front.{IsFrontBefore, IsNextToken}
-use Rattle.vlog_lex.specs.Reading.{Piece, Gap, Lexeme, text_of, IsPiece, Leads, newlines, token_of, tokens_of, HasTokens, IsStuck, line_before, IsStuckOn, OneStuckLine}
+use Rattle.vlog_lex.specs.Reading.{Piece, Gap, Lexeme, text_of, IsPiece, Leads, newlines, token_of, tokens_of, HasTokens, IsStuck}
+use Rattle.vlog_lex.specs.Reading.{line_before, IsStuckOn, OneStuckLine}
 use Rattle.vlog_lex.proofs.Spans.{same_front}
 use Rattle.vlog_lex.proofs.Longest.{one_kind, token_some, no_newline}
 use Rattle.vlog_lex.proofs.Gaps.{one_gap, gap_some}
@@ -74,7 +77,8 @@ no_stop (p ∷ ps) (q ∷ qs) bytes rest a b some none =
     no_stop ps qs a.0 rest a.3 (subst P (sym rests) b.3) some none
 
 -- a piece more
-leads_more : (ps : List Piece) (p : Piece) (bytes rest after : List ℕ) → Leads ps bytes rest → rest ≡ text_of p ++ after → IsPiece p after → Leads (ps ++ p ∷ []) bytes after
+leads_more : (ps : List Piece) (p : Piece) (bytes rest after : List ℕ) → Leads ps bytes rest → rest ≡ text_of p ++ after → IsPiece p after
+    → Leads (ps ++ p ∷ []) bytes after
 leads_more [] p bytes rest after leads e lawful = (after, leads ∙ e, lawful, refl)
 leads_more (q ∷ qs) p bytes rest after leads e lawful = (leads.0, leads.1, leads.2, leads_more qs p leads.0 rest after leads.3 e lawful)
 
@@ -87,11 +91,13 @@ line_more : (line : ℕ) (ps : List Piece) (p : Piece) → line_after line (ps +
 line_more line [] p = refl
 line_more line (q ∷ qs) p = line_more (line + newlines (text_of q)) qs p
 
-tokens_more : (line : ℕ) (ps : List Piece) (p : Piece) → tokens_of line (ps ++ p ∷ []) ≡ tokens_of line ps ++ token_of (line_after line ps) p
+tokens_more : (line : ℕ) (ps : List Piece) (p : Piece) → tokens_of line (ps ++ p ∷ []) ≡ tokens_of line ps
+    ++ token_of (line_after line ps) p
 tokens_more line [] p = append-nil (token_of line p)
 tokens_more line (q ∷ qs) p =
     let next = line + newlines (text_of q) in
-    ap (λ t. token_of line q ++ t) (tokens_more next qs p) ∙ sym (append_assoc (token_of line q) (tokens_of next qs) (token_of (line_after next qs) p))
+    ap (λ t. token_of line q ++ t) (tokens_more next qs p) ∙ sym (append_assoc (token_of line q) (tokens_of next qs)
+    (token_of (line_after next qs) p))
 
 -- what the loop of `lex` keeps: the tokens up to the rest
 pub record Reads (bytes rest : List ℕ) (tokens : List Token) (line : ℕ) : Type 0 where
@@ -102,47 +108,57 @@ pub record Reads (bytes rest : List ℕ) (tokens : List Token) (line : ℕ) : Ty
   pub positive : 1 ≤ line
   pub bound : line + length rest ≤ 1 + length bytes
 
-pub reads_more : (bytes rest after : List ℕ) (tokens : List Token) (line : ℕ) (p : Piece) → Reads bytes rest tokens line → rest ≡ text_of p ++ after → IsPiece p after
+pub reads_more : (bytes rest after : List ℕ) (tokens : List Token) (line : ℕ) (p : Piece) → Reads bytes rest tokens line → rest ≡ text_of p
+    ++ after → IsPiece p after
     → Reads bytes after (tokens ++ token_of line p) (line + newlines (text_of p))
 reads_more bytes rest after tokens line p reads e lawful = record {
   pieces = reads.pieces ++ p ∷ [];
   leads = leads_more reads.pieces p bytes rest after reads.leads e lawful;
-  told = ap (λ t. t ++ token_of line p) reads.told ∙ ap (λ l. tokens_of 1 reads.pieces ++ token_of l p) reads.counted ∙ sym (tokens_more 1 reads.pieces p);
+  told = ap (λ t. t ++ token_of line p) reads.told ∙ ap (λ l. tokens_of 1 reads.pieces ++ token_of l p) reads.counted
+      ∙ sym (tokens_more 1 reads.pieces p);
   counted = ap (λ l. l + newlines (text_of p)) reads.counted ∙ sym (line_more 1 reads.pieces p);
   positive = omega (arith, reads.positive);
   bound = omega (arith, reads.bound, count_by-le-length (λ b. b == 10) (text_of p), ap length e ∙ length-append (text_of p) after);
 }
 
-pub reads_gap : (bytes rest : List ℕ) (tokens : List Token) (line n k : ℕ) → Reads bytes rest tokens line → IsGap (take n rest) (drop n rest) → k ≡ newlines (take n rest)
+pub reads_gap : (bytes rest : List ℕ) (tokens : List Token) (line n k : ℕ) → Reads bytes rest tokens line
+    → IsGap (take n rest) (drop n rest) → k ≡ newlines (take n rest)
     → Reads bytes (take (length rest - n) (drop n rest)) tokens (line + k)
 reads_gap bytes rest tokens line n k reads gap count =
     let P : List Token → Type 0 = λ ts. Reads bytes (drop n rest) ts (line + newlines (take n rest)) in
     let Q : ℕ → Type 0 = λ m. Reads bytes (drop n rest) tokens (line + m) in
     let R : List ℕ → Type 0 = λ r. Reads bytes r tokens (line + k) in
-    let more = subst P (append-nil tokens) (reads_more bytes rest (drop n rest) tokens line (Gap (take n rest)) reads (sym (take-append-drop n rest)) gap) in
+    let more = subst P (append-nil tokens) (reads_more bytes rest (drop n rest) tokens line (Gap (take n rest)) reads
+    (sym (take-append-drop n rest)) gap) in
     subst R (sym (take_rest rest n)) (subst Q (sym count) more)
 
-pub reads_token : (bytes rest : List ℕ) (tokens grown : List Token) (line n : ℕ) (kind : TokenKind) (t : Token) → Reads bytes rest tokens line → IsLongest kind (take n rest) (drop n rest)
-    → t ≡ record { kind = kind; text = take n rest; line = line } → grown ≡ tokens ++ t ∷ [] → Reads bytes (take (length rest - n) (drop n rest)) grown line
+pub reads_token : (bytes rest : List ℕ) (tokens grown : List Token) (line n : ℕ) (kind : TokenKind) (t : Token)
+    → Reads bytes rest tokens line → IsLongest kind (take n rest) (drop n rest)
+    → t ≡ record { kind = kind; text = take n rest; line = line } → grown ≡ tokens ++ t ∷ []
+    → Reads bytes (take (length rest - n) (drop n rest)) grown line
 reads_token bytes rest tokens grown line n kind t reads longest is grows =
     let same : line + newlines (take n rest) ≡ line = omega (arith, no_newline kind (take n rest) longest.token) in
     let P : ℕ → Type 0 = λ l. Reads bytes (drop n rest) (tokens ++ record { kind = kind; text = take n rest; line = line } ∷ []) l in
     let Q : List Token → Type 0 = λ ts. Reads bytes (drop n rest) ts line in
     let R : List ℕ → Type 0 = λ r. Reads bytes r grown line in
-    let more = subst P same (reads_more bytes rest (drop n rest) tokens line (Lexeme kind (take n rest)) reads (sym (take-append-drop n rest)) longest) in
+    let more = subst P same (reads_more bytes rest (drop n rest) tokens line (Lexeme kind (take n rest)) reads
+    (sym (take-append-drop n rest)) longest) in
     subst R (sym (take_rest rest n)) (subst Q (sym (grows ∙ ap (λ x. tokens ++ x ∷ []) is)) more)
 
 -- a token shortens the rest
-pub shorter : (rest : List ℕ) (n : ℕ) (kind : TokenKind) → n ≤ length rest → IsLongest kind (take n rest) (drop n rest) → length (take (length rest - n) (drop n rest)) < length rest
+pub shorter : (rest : List ℕ) (n : ℕ) (kind : TokenKind) → n ≤ length rest → IsLongest kind (take n rest) (drop n rest)
+    → length (take (length rest - n) (drop n rest)) < length rest
 shorter rest n kind fits longest =
     omega (arith, token_some kind (take n rest) longest.token, length-take-le n rest fits, ap length (take_rest rest n), length-drop n rest)
 
-pub reads_all : (bytes rest : List ℕ) (tokens : List Token) (line : ℕ) → Reads bytes rest tokens line → (length rest == 0) ≡ true → HasTokens bytes tokens
+pub reads_all : (bytes rest : List ℕ) (tokens : List Token) (line : ℕ) → Reads bytes rest tokens line → (length rest == 0) ≡ true
+    → HasTokens bytes tokens
 reads_all bytes rest tokens line reads done =
     let P : List ℕ → Type 0 = λ r. Leads reads.pieces bytes r in
     (reads.pieces, subst P (nil_from_length rest (eqb-true (length rest) 0 done)) reads.leads, reads.told)
 
-abbrev pub reads_stuck : (bytes rest : List ℕ) (tokens : List Token) (line n : ℕ) → Reads bytes rest tokens line → (length rest == 0) ≡ false
+abbrev pub reads_stuck : (bytes rest : List ℕ) (tokens : List Token) (line n : ℕ) → Reads bytes rest tokens line → (length rest == 0)
+    ≡ false
     → IsFrontBefore IsGap n rest → n ≤ 0 → IsNextToken None rest → IsStuck bytes
 reads_stuck bytes rest tokens line n reads some gap no_gap token = record {
   pieces = reads.pieces;
@@ -168,7 +184,8 @@ line_texts : (line : ℕ) (ps : List Piece) → line_after line ps ≡ line + ne
 unfolding texts
 line_texts line [] = omega arith
 line_texts line (p ∷ ps) =
-    let both : newlines (text_of p ++ texts ps) ≡ newlines (text_of p) + newlines (texts ps) = sum_by-append (λ b. cond (b == 10) 1 0) (text_of p) (texts ps) in
+    let both : newlines (text_of p ++ texts ps) ≡ newlines (text_of p)
+    + newlines (texts ps) = sum_by-append (λ b. cond (b == 10) 1 0) (text_of p) (texts ps) in
     omega (arith, line_texts (line + newlines (text_of p)) ps, both)
 
 line_at : (ps : List Piece) (bytes rest : List ℕ) → Leads ps bytes rest → line_after 1 ps ≡ line_before bytes rest
@@ -185,7 +202,8 @@ reads_stuck_on bytes rest tokens line n reads some gap no_gap token =
     (reads_stuck bytes rest tokens line n reads some gap no_gap token, reads.counted ∙ line_at reads.pieces bytes rest reads.leads)
 
 -- where bytes are stuck no piece begins
-no_piece : (bytes : List ℕ) (stuck : IsStuck bytes) (piece : Piece) (after : List ℕ) → stuck.rest ≡ text_of piece ++ after → ¬ IsPiece piece after
+no_piece : (bytes : List ℕ) (stuck : IsStuck bytes) (piece : Piece) (after : List ℕ) → stuck.rest ≡ text_of piece ++ after
+    → ¬ IsPiece piece after
 no_piece bytes stuck (Gap text) after e lawful = stuck.no_gap text after (sym e) lawful
 no_piece bytes stuck (Lexeme kind text) after e lawful = stuck.no_token kind text after (sym e) lawful.token
 
@@ -204,15 +222,18 @@ same_place (p ∷ ps) (q ∷ qs) bytes r s a b x y =
 
 pub one_stuck_line : OneStuckLine
 one_stuck_line bytes a b x y =
-    x.1 ∙ ap (λ rest. line_before bytes rest) (same_place x.0.pieces y.0.pieces bytes x.0.rest y.0.rest x.0.leads y.0.leads (no_piece bytes x.0) (no_piece bytes y.0)) ∙ sym y.1
+    x.1 ∙ ap (λ rest. line_before bytes rest) (same_place x.0.pieces y.0.pieces bytes x.0.rest y.0.rest x.0.leads y.0.leads
+    (no_piece bytes x.0) (no_piece bytes y.0)) ∙ sym y.1
 
 pub one_answer : (bytes : List ℕ) (ts us : List Token) → HasTokens bytes ts → HasTokens bytes us → ts ≡ us
 one_answer bytes ts us a b = a.2 ∙ ap (tokens_of 1) (one_reading a.0 b.0 bytes a.1 b.1) ∙ sym b.2
 
 pub not_both : (bytes : List ℕ) (ts : List Token) → HasTokens bytes ts → ¬ IsStuck bytes
-not_both bytes ts a stuck = no_stop a.0 stuck.pieces bytes stuck.rest a.1 stuck.leads stuck.some (λ piece after e lawful. neither piece after stuck.rest e lawful stuck.no_gap stuck.no_token)
+not_both bytes ts a stuck = no_stop a.0 stuck.pieces bytes stuck.rest a.1 stuck.leads stuck.some
+    (λ piece after e lawful. neither piece after stuck.rest e lawful stuck.no_gap stuck.no_token)
   where
     neither : (piece : Piece) (after rest : List ℕ) → rest ≡ text_of piece ++ after → IsPiece piece after
-        → ((text after : List ℕ) → text ++ after ≡ rest → ¬ IsGap text after) → ((kind : TokenKind) (text after : List ℕ) → text ++ after ≡ rest → ¬ IsToken kind text) → ⊥
+        → ((text after : List ℕ) → text ++ after ≡ rest → ¬ IsGap text after)
+        → ((kind : TokenKind) (text after : List ℕ) → text ++ after ≡ rest → ¬ IsToken kind text) → ⊥
     neither (Gap text) after rest e lawful gap token = gap text after (sym e) lawful
     neither (Lexeme kind text) after rest e lawful gap token = token kind text after (sym e) lawful.token

@@ -1,5 +1,6 @@
 -- The longest front of a run of bytes, by the length of the longest front that passes a test.
-use Rattle.std.proofs.Common.{◌≡◌, ℕ, suc, ◌+◌, ◌<◌, ◌≤◌, Bool, true, false, cond, List, [], ◌∷◌, ◌++◌, length, take, drop, sym, refl, ap, ◌∙◌, subst, ⊎_elim, arith, take-append-drop, length-take-le, take_at, get_or, ◌-◌}
+use Rattle.std.proofs.Common.{◌≡◌, ℕ, suc, ◌+◌, ◌<◌, ◌≤◌, Bool, true, false, cond, List, [], ◌∷◌, ◌++◌, length, take, drop, sym, refl, ap}
+use Rattle.std.proofs.Common.{◌∙◌, subst, ⊎_elim, arith, take-append-drop, length-take-le, take_at, get_or, ◌-◌}
 use Rattle.std.specs.List.{prefix_len}
 use Rattle.std.proofs.lemmas.Bool.{both_ways, cases_Bool, cases_lt, false_from_ne_true}
 use Rattle.std.proofs.lemmas.List.{take_rest}
@@ -48,7 +49,8 @@ within p (b ∷ front) tail each =
     let one = passes p b (front ++ tail) each.0 in
     omega arith
 
-run_within : (p q : ℕ → Bool) (b : ℕ) (bs front tail : List ℕ) → front ++ tail ≡ b ∷ bs → IsRun p q front → length front ≤ suc (prefix_len q bs)
+run_within : (p q : ℕ → Bool) (b : ℕ) (bs front tail : List ℕ) → front ++ tail ≡ b ∷ bs → IsRun p q front
+    → length front ≤ suc (prefix_len q bs)
 run_within p q b bs [] tail e run = absurd run
 run_within p q b bs (c ∷ front) tail e run =
     let same : front ++ tail ≡ bs = cc in
@@ -57,7 +59,8 @@ run_within p q b bs (c ∷ front) tail e run =
     omega arith
 
 -- the first byte passes the first test
-pub longest_run : (p q : ℕ → Bool) (b : ℕ) (bs : List ℕ) (n : ℕ) → p b ≡ true → n ≡ suc (prefix_len q bs) → IsLongestFront (IsRun p q) n (b ∷ bs)
+pub longest_run : (p q : ℕ → Bool) (b : ℕ) (bs : List ℕ) (n : ℕ) → p b ≡ true → n ≡ suc (prefix_len q bs)
+    → IsLongestFront (IsRun p q) n (b ∷ bs)
 longest_run p q b bs n h e =
     let P : ℕ → Type 0 = λ m. IsRun p q (take m (b ∷ bs)) in
     record {
@@ -72,7 +75,8 @@ no_run p q bytes stops =
     let stuck : (front tail : List ℕ) → front ++ tail ≡ bytes → IsRun p q front → length front ≤ 0 = none_of p q bytes stops in
     record { fits = omega arith; found = λ some. absurd (omega arith); longest = stuck }
   where
-    none_of : (p q : ℕ → Bool) (bytes : List ℕ) → Stops p bytes → (front tail : List ℕ) → front ++ tail ≡ bytes → IsRun p q front → length front ≤ 0
+    none_of : (p q : ℕ → Bool) (bytes : List ℕ) → Stops p bytes → (front tail : List ℕ) → front ++ tail ≡ bytes → IsRun p q front
+        → length front ≤ 0
     none_of p q bytes stops [] tail e run = absurd run
     none_of p q bytes stops (c ∷ front) tail e run = absurd (subst (Stops p) (sym e) stops run.0)
 
@@ -86,7 +90,12 @@ one_longest set m n bytes a b =
     below : (set : List ℕ → Type 0) (m n : ℕ) (bytes : List ℕ) → IsLongestFront set m bytes → IsLongestFront set n bytes → m ≤ n
     below set m n bytes a b =
         ⊎_elim
-        (λ some. omega (arith, b.longest (take m bytes) (drop m bytes) (take-append-drop m bytes) (a.found some), length-take-le m bytes a.fits))
+        (λ some. omega (
+          arith,
+          b.longest (take m bytes) (drop m bytes) (take-append-drop m bytes) (a.found some),
+          length-take-le m bytes
+              a.fits,
+        ))
         (λ none. omega arith)
         (cases_lt 0 m)
 
@@ -101,7 +110,8 @@ run_each p q [] h run = tt
 run_each p q (b ∷ text) h run = (h b run.0, run.1)
 
 -- a front whose bytes pass doesn't go past a byte that fails
-pub before_stop : (p : ℕ → Bool) (c : ℕ) → ¬ (p c ≡ true) → (front tail size more : List ℕ) → front ++ tail ≡ size ++ c ∷ more → Each p front → length front ≤ length size
+pub before_stop : (p : ℕ → Bool) (c : ℕ) → ¬ (p c ≡ true) → (front tail size more : List ℕ) → front ++ tail ≡ size ++ c ∷ more
+    → Each p front → length front ≤ length size
 before_stop p c stop [] tail size more e each = omega arith
 before_stop p c stop (b ∷ front) tail [] more e each =
     let same : b ≡ c = cc in
@@ -141,7 +151,8 @@ pub one_read : (xs : List ℕ) → 1 ≤ length xs → xs ≡ get_or xs 0 0 ∷ 
 one_read xs h = one_and_rest xs h ∙ ap (λ t. get_or xs 0 0 ∷ t) (sym (take_rest xs 1))
 
 -- the run of a list whose first byte passes
-pub read_run : (p q : ℕ → Bool) (xs : List ℕ) (n : ℕ) → 1 ≤ length xs → p (get_or xs 0 0) ≡ true → n ≡ prefix_len q (take (length xs - 1) (drop 1 xs)) → IsLongestFront (IsRun p q) (1 + n) xs
+pub read_run : (p q : ℕ → Bool) (xs : List ℕ) (n : ℕ) → 1 ≤ length xs → p (get_or xs 0 0) ≡ true → n
+    ≡ prefix_len q (take (length xs - 1) (drop 1 xs)) → IsLongestFront (IsRun p q) (1 + n) xs
 read_run p q xs n some first rest =
     let P : List ℕ → Type 0 = IsLongestFront (IsRun p q) (1 + n) in
     subst P (sym (one_read xs some)) (longest_run p q (get_or xs 0 0) (take (length xs - 1) (drop 1 xs)) (1 + n) first (omega arith))

@@ -1,3 +1,5 @@
+//! What stands between tokens: white space, comments, directives (IEEE 1364-2005, 3.2, 3.3 and 19).
+
 ghost use Rattle.std.specs.Prelude.{◌≡◌, ◌≢◌, ◌≤◌, ℕ, List, ◌++◌, IfSome, IfNone, length};
 ghost use Rattle.std.specs.List.{prefix_len};
 ghost use Rattle.vlog_lex.specs.Gap.{is_no_newline, IsWhite, IsLineComment, EndsComment, IsBlockComment, IsDirective, IsGap};

@@ -1,3 +1,5 @@
+//! The tokens of a text.
+
 ghost use Rattle.std.specs.Prelude.{◌≡◌, ◌≢◌, ◌<◌, ◌^◌, ◌↔◌, ℕ, List, IsTrue, IfOk, IsErr, MatchOption, MatchResult, length};
 ghost use Rattle.vlog_lex.specs.declared.token.Token.{Token};
 ghost use Rattle.vlog_lex.specs.declared.token.TokenKind.{TokenKind};
@@ -43,7 +45,8 @@ pub fn lex(alloc: Global, bytes: &[u8]) -> Result<Tokens, LexError>
     requires { length bytes.now < 2 ^ 31 }
     ensures answer { Lexes bytes.now result }
     // Without want of memory, these tokens are answered and no others, and a text without tokens is refused.
-    ensures only { (tokens : List Token) → HasTokens bytes.now tokens → MatchResult result (λ got. got ≡ tokens) (λ e. e ≡ LexError.Memory) }
+    ensures only { (tokens : List Token) → HasTokens bytes.now tokens
+        → MatchResult result (λ got. got ≡ tokens) (λ e. e ≡ LexError.Memory) }
     ensures stuck { IsStuck bytes.now → IsErr result }
 {
     let mut tokens = Tokens::new(alloc);

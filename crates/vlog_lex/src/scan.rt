@@ -1,3 +1,5 @@
+//! The next token of a text: a name, a number or a symbol (IEEE 1364-2005, 3.4 to 3.7).
+
 ghost use Rattle.std.specs.Prelude.{◌≡◌, ◌≢◌, ◌≤◌, ℕ, List, ◌∷◌, IfSome, IfNone, length};
 ghost use Rattle.std.specs.List.{prefix_len};
 ghost use Rattle.vlog_lex.specs.Lexeme.{begins_name, continues_name, is_digit_of, continues_digits, IsName, IsDigits, IsBased, IsSymbol};

@@ -1,3 +1,5 @@
+//! Tokens of worked designs and of short texts.
+
 use crate::{LexError, TokenKind, kind_of, lex};
 use TokenKind::{Based, Decimal, Identifier, Other, Reserved};
 use std::alloc::Global;

@@ -1,3 +1,5 @@
+//! Tokens and their kinds.
+
 use vidi_bits::{Items, Name};
 
 /// The kinds of tokens (IEEE 1364-2005, clause 3).

@@ -1,5 +1,6 @@
 -- What counts behind the tokens that were read, against the limits of a design text.
-use Rattle.std.proofs.Common.{◌≡◌, ◌≤◌, ◌<◌, ◌↔◌, ◌+◌, ◌++◌, ℕ, zero, suc, Bool, true, false, cond, get_or, take, drop, List, [], ◌∷◌, All, length, count_by, codes, Option, None, Some, ◌⊎◌, inl, inr, refl, sym, ap, subst, ◌∙◌, arith}
+use Rattle.std.proofs.Common.{◌≡◌, ◌≤◌, ◌<◌, ◌↔◌, ◌+◌, ◌++◌, ℕ, zero, suc, Bool, true, false, cond, get_or, take, drop, List, [], ◌∷◌, All}
+use Rattle.std.proofs.Common.{length, count_by, codes, Option, None, Some, ◌⊎◌, inl, inr, refl, sym, ap, subst, ◌∙◌, arith}
 use Rattle.std.specs.Prelude.{if◌then◌else◌}
 use Rattle.std.proofs.lemmas.Bool.{cases_lt, cases_order, false≢true}
 use Rattle.std.proofs.lemmas.List.{append-nil, append_assoc, length-append, map-append, take_more, drop_more, take-append-drop}
@@ -7,7 +8,8 @@ use Rattle.std.proofs.lemmas.List.Elements.{All-nil, All-push, All-pop}
 use Rattle.std.proofs.lemmas.List.Sums.{sum_by_push}
 use Rattle.vlog_lex.specs.declared.token.Token.{Token}
 use Rattle.vlog_expr.specs.Marks.{TokenOf, Toks, marked, all_marked}
-use Rattle.vlog_parse.specs.Depth.{is_word, open_at, open_behind, is_cut, HaveNoCut, is_else, IsNoAlways, Passes, IsDeep, IsFirstDeep, IsShallow}
+use Rattle.vlog_parse.specs.Depth.{is_word, open_at, open_behind, is_cut, HaveNoCut, is_else, IsNoAlways, Passes, IsDeep, IsFirstDeep}
+use Rattle.vlog_parse.specs.Depth.{IsShallow}
 
 -- k tokens without a cut stand at the end
 abbrev pub EndsRun : {A : Type 0} → ℕ → Toks A → Type 0
@@ -38,7 +40,8 @@ cons_after (y ∷ b) x r e = cc
 IsLastOf : {X : Type 0} → List X → List X → List X → X → Type 0
 IsLastOf {X} front run before x = (run ≡ []) ⊎ ((r : List X) × (run ≡ r ++ x ∷ []) × (before ≡ front ++ r))
 
-cons_last : {X : Type 0} (f b : X) (front run before : List X) (x : X) → b ≡ f → IsLastOf front run before x → IsLastOf (f ∷ front) run (b ∷ before) x
+cons_last : {X : Type 0} (f b : X) (front run before : List X) (x : X) → b ≡ f → IsLastOf front run before x
+    → IsLastOf (f ∷ front) run (b ∷ before) x
 unfolding IsLastOf
 cons_last f b front run before x h (inl n) = inl n
 cons_last f b front run before x h (inr p) = inr (p.0, p.1, cc (h, p.2))
@@ -51,7 +54,8 @@ split_last (f ∷ front) run [] x e = inl (nil_after front run (cc))
 split_last (f ∷ front) run (b ∷ before) x e = cons_last f b front run before x (cc) (split_last front run before x (cc))
 
 -- what stands before an earlier place is a part of what stands before a later one
-earlier : {X : Type 0} (b before : List X) (y x : X) (r rest : List X) → before ++ x ∷ rest ≡ b ++ y ∷ r → length b < length before → (q : List X) × (before ≡ b ++ y ∷ q)
+earlier : {X : Type 0} (b before : List X) (y x : X) (r rest : List X) → before ++ x ∷ rest ≡ b ++ y ∷ r → length b < length before
+    → (q : List X) × (before ≡ b ++ y ∷ q)
 earlier b [] y x r rest e h = absurd (omega arith)
 earlier [] (z ∷ before) y x r rest e h = (before, cc)
 earlier (c ∷ b) (z ∷ before) y x r rest e h =
@@ -59,7 +63,8 @@ earlier (c ∷ b) (z ∷ before) y x r rest e h =
     let same : z ≡ c = cc in
     (more.0, cc (same, more.1))
 
-same_place : {X : Type 0} (b before : List X) (y x : X) (r rest : List X) → before ++ x ∷ rest ≡ b ++ y ∷ r → length b ≡ length before → x ≡ y
+same_place : {X : Type 0} (b before : List X) (y x : X) (r rest : List X) → before ++ x ∷ rest ≡ b ++ y ∷ r → length b ≡ length before → x
+    ≡ y
 same_place [] [] y x r rest e h = cc
 same_place [] (z ∷ before) y x r rest e h = absurd (omega arith)
 same_place (c ∷ b) [] y x r rest e h = absurd (omega arith)
@@ -69,11 +74,13 @@ open_append : {A : Type 0} (n : ℕ) (xs ys : Toks A) → open_behind n (xs ++ y
 open_append n [] ys = refl
 open_append n (x ∷ xs) ys = open_append (open_at n x) xs ys
 
-no_cut_push : {A : Type 0} (n : ℕ) (xs : Toks A) (x : TokenOf A) → HaveNoCut n xs → is_cut (open_at (open_behind n xs) x) x ≡ false → HaveNoCut n (xs ++ x ∷ [])
+no_cut_push : {A : Type 0} (n : ℕ) (xs : Toks A) (x : TokenOf A) → HaveNoCut n xs → is_cut (open_at (open_behind n xs) x) x ≡ false
+    → HaveNoCut n (xs ++ x ∷ [])
 no_cut_push n [] x h c = (c, tt)
 no_cut_push n (y ∷ xs) x h c = (h.0, no_cut_push (open_at n y) xs x h.1 c)
 
-no_cut_parts : {A : Type 0} (n : ℕ) (xs : Toks A) (x : TokenOf A) → HaveNoCut n (xs ++ x ∷ []) → HaveNoCut n xs × (is_cut (open_at (open_behind n xs) x) x ≡ false)
+no_cut_parts : {A : Type 0} (n : ℕ) (xs : Toks A) (x : TokenOf A) → HaveNoCut n (xs ++ x ∷ []) → HaveNoCut n xs
+    × (is_cut (open_at (open_behind n xs) x) x ≡ false)
 no_cut_parts n [] x h = (tt, h.0)
 no_cut_parts n (y ∷ xs) x h =
     let more = no_cut_parts (open_at n y) xs x h.1 in
@@ -82,14 +89,23 @@ no_cut_parts n (y ∷ xs) x h =
 run_none : {A : Type 0} (before : Toks A) → EndsRun 0 before
 run_none before = (before, [], sym (append-nil before), refl, tt)
 
-run_more : {A : Type 0} (k : ℕ) (before : Toks A) (x : TokenOf A) → EndsRun k before → is_cut (open_at (open_behind 0 before) x) x ≡ false → EndsRun (suc k) (before ++ x ∷ [])
+run_more : {A : Type 0} (k : ℕ) (before : Toks A) (x : TokenOf A) → EndsRun k before → is_cut (open_at (open_behind 0 before) x) x ≡ false
+    → EndsRun (suc k) (before ++ x ∷ [])
 run_more {A} k before x h c =
     let opened : open_behind 0 before ≡ open_behind (open_behind 0 h.0) h.1 = ap (open_behind 0) h.2 ∙ open_append 0 h.0 h.1 in
     let whole : before ++ x ∷ [] ≡ h.0 ++ (h.1 ++ x ∷ []) = ap (λ (ts : Toks A). ts ++ x ∷ []) h.2 ∙ append_assoc h.0 h.1 (x ∷ []) in
-    let counted : length (h.1 ++ x ∷ []) ≡ suc k = omega (arith, length-append h.1 (x ∷ []), h.3) in
-    (h.0, h.1 ++ x ∷ [], whole, counted, no_cut_push (open_behind 0 h.0) h.1 x h.4 (subst (λ (n : ℕ). is_cut (open_at n x) x ≡ false) opened c))
+    let counted : length (h.1 ++ x ∷ []) ≡ suc k = omega (arith, length-append h.1 (x ∷ []), h.3) in (
+      h.0,
+      h.1 ++ x ∷ [],
+      whole,
+      counted,
+      no_cut_push (open_behind 0 h.0) h.1 x h.4
+          (subst (λ (n : ℕ). is_cut (open_at n x) x ≡ false) opened c),
+    )
 
-run_less_at : {A : Type 0} (k : ℕ) (before : Toks A) (x : TokenOf A) (front run : Toks A) → length run ≡ suc k → HaveNoCut (open_behind 0 front) run → IsLastOf front run before x → EndsRun k before × (is_cut (open_at (open_behind 0 before) x) x ≡ false)
+run_less_at : {A : Type 0} (k : ℕ) (before : Toks A) (x : TokenOf A) (front run : Toks A) → length run ≡ suc k
+    → HaveNoCut (open_behind 0 front) run → IsLastOf front run before x → EndsRun k before
+    × (is_cut (open_at (open_behind 0 before) x) x ≡ false)
 unfolding IsLastOf
 run_less_at k before x front run l h (inl n) = absurd (omega (arith, ap length n))
 run_less_at {A} k before x front run l h (inr p) =
@@ -98,13 +114,19 @@ run_less_at {A} k before x front run l h (inr p) =
     let opened : open_behind 0 before ≡ open_behind (open_behind 0 front) p.0 = ap (open_behind 0) p.2 ∙ open_append 0 front p.0 in
     ((front, p.0, p.2, counted, parts.0), subst (λ (n : ℕ). is_cut (open_at n x) x ≡ false) (sym opened) parts.1)
 
-run_less : {A : Type 0} (k : ℕ) (before : Toks A) (x : TokenOf A) → EndsRun (suc k) (before ++ x ∷ []) → EndsRun k before × (is_cut (open_at (open_behind 0 before) x) x ≡ false)
+run_less : {A : Type 0} (k : ℕ) (before : Toks A) (x : TokenOf A) → EndsRun (suc k) (before ++ x ∷ []) → EndsRun k before
+    × (is_cut (open_at (open_behind 0 before) x) x ≡ false)
 run_less k before x h = run_less_at k before x h.0 h.1 h.3 h.4 (split_last h.0 h.1 before x h.2)
 
-runs_on : {A : Type 0} (b : Bool) (run : ℕ) (before : Toks A) (x : TokenOf A) → ((k : ℕ) → (k ≤ run) ↔ EndsRun k before) → is_cut (open_at (open_behind 0 before) x) x ≡ b → (k : ℕ) → (k ≤ (if b then 0 else suc run)) ↔ EndsRun k (before ++ x ∷ [])
+runs_on : {A : Type 0} (b : Bool) (run : ℕ) (before : Toks A) (x : TokenOf A) → ((k : ℕ) → (k ≤ run) ↔ EndsRun k before)
+    → is_cut (open_at (open_behind 0 before) x) x ≡ b → (k : ℕ) → (k ≤ (if b then 0 else suc run)) ↔ EndsRun k (before ++ x ∷ [])
 runs_on b run before x runs c zero = (λ _. run_none (before ++ x ∷ []), λ _. omega arith)
 runs_on true run before x runs c (suc k) = (λ l. absurd (omega arith), λ h. absurd (false≢true (sym (run_less k before x h).1 ∙ c)))
-runs_on false run before x runs c (suc k) = (λ l. run_more k before x ((runs k).0 (omega arith)) c, λ h. omega (arith, (runs k).1 (run_less k before x h).0))
+runs_on false run before x runs c (suc k) = (
+  λ l. run_more k before x ((runs k).0 (omega arith)) c,
+  λ h. omega
+      (arith, (runs k).1 (run_less k before x h).0),
+)
 
 -- 1 for an `else`
 one_else : {A : Type 0} → TokenOf A → ℕ
@@ -121,13 +143,15 @@ count_push {A} xs x = sum_by_push (λ (y : TokenOf A). cond (is_else y) 1 0) xs 
 elses_none : {A : Type 0} (before : Toks A) → EndsElses 0 before
 elses_none {A} before = (before, [], sym (append-nil before), All-nil (λ (y : TokenOf A). IsNoAlways y), omega arith)
 
-elses_more : {A : Type 0} (n k : ℕ) (before : Toks A) (x : TokenOf A) → EndsElses k before → IsNoAlways x → n ≤ k + one_else x → EndsElses n (before ++ x ∷ [])
+elses_more : {A : Type 0} (n k : ℕ) (before : Toks A) (x : TokenOf A) → EndsElses k before → IsNoAlways x → n ≤ k + one_else x
+    → EndsElses n (before ++ x ∷ [])
 elses_more {A} n k before x h a l =
     let whole : before ++ x ∷ [] ≡ h.0 ++ (h.1 ++ x ∷ []) = ap (λ (ts : Toks A). ts ++ x ∷ []) h.2 ∙ append_assoc h.0 h.1 (x ∷ []) in
     let counted : n ≤ count_by is_else (h.1 ++ x ∷ []) = omega (arith, count_push h.1 x, h.4) in
     (h.0, h.1 ++ x ∷ [], whole, All-push (λ (y : TokenOf A). IsNoAlways y) h.1 x h.3 a, counted)
 
-elses_less_at : {A : Type 0} (j k : ℕ) (before : Toks A) (x : TokenOf A) (front run : Toks A) → j + one_else x ≤ suc k → All IsNoAlways run → suc k ≤ count_by is_else run → IsLastOf front run before x → IsNoAlways x × EndsElses j before
+elses_less_at : {A : Type 0} (j k : ℕ) (before : Toks A) (x : TokenOf A) (front run : Toks A) → j + one_else x ≤ suc k → All IsNoAlways run
+    → suc k ≤ count_by is_else run → IsLastOf front run before x → IsNoAlways x × EndsElses j before
 unfolding IsLastOf
 elses_less_at {A} j k before x front run l a c (inl n) = absurd (omega (arith, ap (λ (ts : Toks A). count_by is_else ts) n))
 elses_less_at {A} j k before x front run l a c (inr p) =
@@ -135,25 +159,42 @@ elses_less_at {A} j k before x front run l a c (inr p) =
     let counted : j ≤ count_by is_else p.0 = omega (arith, count_push p.0 x, ap (λ (ts : Toks A). count_by is_else ts) p.1) in
     (parts.1, (front, p.0, p.2, parts.0, counted))
 
-elses_less : {A : Type 0} (j k : ℕ) (before : Toks A) (x : TokenOf A) → j + one_else x ≤ suc k → EndsElses (suc k) (before ++ x ∷ []) → IsNoAlways x × EndsElses j before
+elses_less : {A : Type 0} (j k : ℕ) (before : Toks A) (x : TokenOf A) → j + one_else x ≤ suc k → EndsElses (suc k) (before ++ x ∷ [])
+    → IsNoAlways x × EndsElses j before
 elses_less j k before x l h = elses_less_at j k before x h.0 h.1 l h.3 h.4 (split_last h.0 h.1 before x h.2)
 
-elses_on : {A : Type 0} (a b : Bool) (elses : ℕ) (before : Toks A) (x : TokenOf A) → ((k : ℕ) → (k ≤ elses) ↔ EndsElses k before) → is_word (codes "always") x ≡ a → is_else x ≡ b
+elses_on : {A : Type 0} (a b : Bool) (elses : ℕ) (before : Toks A) (x : TokenOf A) → ((k : ℕ) → (k ≤ elses) ↔ EndsElses k before)
+    → is_word (codes "always") x ≡ a → is_else x ≡ b
     → (k : ℕ) → (k ≤ (if a then 0 else if b then suc elses else elses)) ↔ EndsElses k (before ++ x ∷ [])
 elses_on a b elses before x many w e zero = (λ _. elses_none (before ++ x ∷ []), λ _. omega arith)
-elses_on true true elses before x many w e (suc k) = (λ l. absurd (omega arith), λ h. absurd (false≢true (sym (elses_less 0 k before x (omega (arith, one_else_at true x e)) h).0 ∙ w)))
-elses_on true false elses before x many w e (suc k) = (λ l. absurd (omega arith), λ h. absurd (false≢true (sym (elses_less 0 k before x (omega (arith, one_else_at false x e)) h).0 ∙ w)))
+elses_on true true elses before x many w e (suc k) = (
+  λ l. absurd (omega arith),
+  λ h. absurd
+      (false≢true (sym (elses_less 0 k before x (omega (arith, one_else_at true x e)) h).0 ∙ w)),
+)
+elses_on true false elses before x many w e (suc k) = (
+  λ l. absurd (omega arith),
+  λ h. absurd
+      (false≢true (sym (elses_less 0 k before x (omega (arith, one_else_at false x e)) h).0 ∙ w)),
+)
 elses_on false true elses before x many w e (suc k) =
-    let one = one_else_at true x e in
-    (λ l. elses_more (suc k) k before x ((many k).0 (omega arith)) w (omega (arith, one)), λ h. omega (arith, (many k).1 (elses_less k k before x (omega (arith, one)) h).1))
+    let one = one_else_at true x e in (
+      λ l. elses_more (suc k) k before x ((many k).0 (omega arith)) w (omega (arith, one)),
+      λ h. omega
+          (arith, (many k).1 (elses_less k k before x (omega (arith, one)) h).1),
+    )
 elses_on false false elses before x many w e (suc k) =
-    let one = one_else_at false x e in
-    (λ l. elses_more (suc k) (suc k) before x ((many (suc k)).0 l) w (omega (arith, one)), λ h. (many (suc k)).1 (elses_less (suc k) k before x (omega (arith, one)) h).1)
+    let one = one_else_at false x e in (
+      λ l. elses_more (suc k) (suc k) before x ((many (suc k)).0 l) w (omega (arith, one)),
+      λ h. (many (suc k)).1
+          (elses_less (suc k) k before x (omega (arith, one)) h).1,
+    )
 
 shallow_none : {A : Type 0} → IsShallow {A = A} []
 shallow_none b x r e p = absurd (cons_after b x r e)
 
-shallow_at : {A : Type 0} (before : Toks A) (x y : TokenOf A) (b r q : Toks A) → IsShallow before → (Passes before x → ⊥) → y ∷ r ≡ q ++ x ∷ [] → before ≡ b ++ q → Passes b y → ⊥
+shallow_at : {A : Type 0} (before : Toks A) (x y : TokenOf A) (b r q : Toks A) → IsShallow before → (Passes before x → ⊥) → y ∷ r ≡ q ++ x
+    ∷ [] → before ≡ b ++ q → Passes b y → ⊥
 shallow_at {A} before x y b r [] s n u v p =
     let same : b ≡ before = sym (v ∙ append-nil b) in
     let last : y ≡ x = cc in
@@ -162,7 +203,8 @@ shallow_at {A} before x y b r (z ∷ q) s n u v p =
     let here : y ≡ z = cc in
     s b z q v (subst (λ (t : TokenOf A). Passes b t) here p)
 
-shallow_last : {A : Type 0} (before : Toks A) (x y : TokenOf A) (b r : Toks A) → IsShallow before → (Passes before x → ⊥) → Passes b y → IsLastOf b (y ∷ r) before x → ⊥
+shallow_last : {A : Type 0} (before : Toks A) (x y : TokenOf A) (b r : Toks A) → IsShallow before → (Passes before x → ⊥) → Passes b y
+    → IsLastOf b (y ∷ r) before x → ⊥
 unfolding IsLastOf
 shallow_last before x y b r s n p (inl e) = absurd (cc)
 shallow_last before x y b r s n p (inr q) = shallow_at before x y b r q.0 s n q.1 q.2 p
@@ -174,28 +216,35 @@ shallow_more before x s n b y r e p = shallow_last before x y b r s n p (split_l
 abbrev pub IsWithin : {A : Type 0} → ℕ → ℕ → ℕ → TokenOf A → Type 0
 IsWithin depth run elses x = (depth ≤ 32) × (run < 1024) × (is_else x ≡ true → elses < 1024)
 
-passes_not : {A : Type 0} (depth run elses : ℕ) (before : Toks A) (x : TokenOf A) → Counts depth run elses before → IsWithin (open_at depth x) run elses x → Passes before x → ⊥
+passes_not : {A : Type 0} (depth run elses : ℕ) (before : Toks A) (x : TokenOf A) → Counts depth run elses before
+    → IsWithin (open_at depth x) run elses x → Passes before x → ⊥
 passes_not depth run elses before x c w (inl h) = omega (arith, ap (λ (n : ℕ). open_at n x) c.opened, w.0)
 passes_not depth run elses before x c w (inr (inl h)) = omega (arith, (c.runs 1024).1 h, w.1)
 passes_not depth run elses before x c w (inr (inr h)) = omega (arith, (c.elses_run 1024).1 h.1, w.2 h.0)
 
-else_many : {A : Type 0} (depth run elses : ℕ) (before : Toks A) (x : TokenOf A) → Counts depth run elses before → (IsWithin (open_at depth x) run elses x → ⊥) → open_at depth x ≤ 32 → run < 1024 → is_else x ≡ true → (elses < 1024) ⊎ (1024 ≤ elses) → Passes before x
+else_many : {A : Type 0} (depth run elses : ℕ) (before : Toks A) (x : TokenOf A) → Counts depth run elses before
+    → (IsWithin (open_at depth x) run elses x → ⊥) → open_at depth x ≤ 32 → run < 1024 → is_else x ≡ true → (elses < 1024) ⊎ (1024 ≤ elses)
+    → Passes before x
 else_many depth run elses before x c n l r e (inl h) = absurd (n (l, r, λ y. h))
 else_many depth run elses before x c n l r e (inr h) = inr (inr (e, (c.elses_run 1024).0 h))
 
-else_there : {A : Type 0} (depth run elses : ℕ) (before : Toks A) (x : TokenOf A) → Counts depth run elses before → (IsWithin (open_at depth x) run elses x → ⊥) → open_at depth x ≤ 32 → run < 1024 → (b : Bool) → is_else x ≡ b → Passes before x
+else_there : {A : Type 0} (depth run elses : ℕ) (before : Toks A) (x : TokenOf A) → Counts depth run elses before
+    → (IsWithin (open_at depth x) run elses x → ⊥) → open_at depth x ≤ 32 → run < 1024 → (b : Bool) → is_else x ≡ b → Passes before x
 else_there depth run elses before x c n l r false e = absurd (n (l, r, λ y. absurd (false≢true (sym e ∙ y))))
 else_there depth run elses before x c n l r true e = else_many depth run elses before x c n l r e (cases_lt elses 1024)
 
-run_there : {A : Type 0} (depth run elses : ℕ) (before : Toks A) (x : TokenOf A) → Counts depth run elses before → (IsWithin (open_at depth x) run elses x → ⊥) → open_at depth x ≤ 32 → (run < 1024) ⊎ (1024 ≤ run) → Passes before x
+run_there : {A : Type 0} (depth run elses : ℕ) (before : Toks A) (x : TokenOf A) → Counts depth run elses before
+    → (IsWithin (open_at depth x) run elses x → ⊥) → open_at depth x ≤ 32 → (run < 1024) ⊎ (1024 ≤ run) → Passes before x
 run_there depth run elses before x c n l (inl h) = else_there depth run elses before x c n l h (is_else x) refl
 run_there depth run elses before x c n l (inr h) = inr (inl ((c.runs 1024).0 h))
 
-depth_there : {A : Type 0} (depth run elses : ℕ) (before : Toks A) (x : TokenOf A) → Counts depth run elses before → (IsWithin (open_at depth x) run elses x → ⊥) → (32 < open_at depth x) ⊎ (open_at depth x ≤ 32) → Passes before x
+depth_there : {A : Type 0} (depth run elses : ℕ) (before : Toks A) (x : TokenOf A) → Counts depth run elses before
+    → (IsWithin (open_at depth x) run elses x → ⊥) → (32 < open_at depth x) ⊎ (open_at depth x ≤ 32) → Passes before x
 depth_there depth run elses before x c n (inl h) = inl (omega (arith, ap (λ (m : ℕ). open_at m x) c.opened, h))
 depth_there depth run elses before x c n (inr h) = run_there depth run elses before x c n h (cases_lt run 1024)
 
-passes_here : {A : Type 0} (depth run elses : ℕ) (before : Toks A) (x : TokenOf A) → Counts depth run elses before → (IsWithin (open_at depth x) run elses x → ⊥) → Passes before x
+passes_here : {A : Type 0} (depth run elses : ℕ) (before : Toks A) (x : TokenOf A) → Counts depth run elses before
+    → (IsWithin (open_at depth x) run elses x → ⊥) → Passes before x
 passes_here depth run elses before x c n = depth_there depth run elses before x c n (cases_lt 32 (open_at depth x))
 
 pub counts_none : {A : Type 0} → Counts {A = A} 0 0 0 []
@@ -204,8 +253,16 @@ counts_none {A} = record {
   low = omega arith;
   short = omega arith;
   few = omega arith;
-  runs = λ k. (λ l. subst (λ (n : ℕ). EndsRun {A = A} n []) (omega arith) (run_none []), λ h. omega (arith, length-append h.0 h.1, ap length h.2, h.3));
-  elses_run = λ k. (λ l. subst (λ (n : ℕ). EndsElses {A = A} n []) (omega arith) (elses_none []), λ h. omega (arith, h.4, ap (λ (ts : Toks A). count_by is_else ts) (nil_after h.0 h.1 h.2)));
+  runs = λ k. (
+    λ l. subst (λ (n : ℕ). EndsRun {A = A} n []) (omega arith) (run_none []),
+    λ h. omega
+        (arith, length-append h.0 h.1, ap length h.2, h.3),
+  );
+  elses_run = λ k. (
+    λ l. subst (λ (n : ℕ). EndsElses {A = A} n []) (omega arith) (elses_none []),
+    λ h. omega
+        (arith, h.4, ap (λ (ts : Toks A). count_by is_else ts) (nil_after h.0 h.1 h.2)),
+  );
   shallow = shallow_none;
 }
 
@@ -218,8 +275,10 @@ elses_few true b elses l h = omega arith
 elses_few false true elses l h = omega (arith, h refl)
 elses_few false false elses l h = l
 
-counts_more : {A : Type 0} (depth run elses : ℕ) (before : Toks A) (x : TokenOf A) → Counts depth run elses before → IsWithin (open_at depth x) run elses x
-    → Counts (open_at depth x) (if is_cut (open_at depth x) x then 0 else suc run) (if is_word (codes "always") x then 0 else if is_else x then suc elses else elses) (before ++ x ∷ [])
+counts_more : {A : Type 0} (depth run elses : ℕ) (before : Toks A) (x : TokenOf A) → Counts depth run elses before
+    → IsWithin (open_at depth x) run elses x
+    → Counts (open_at depth x) (if is_cut (open_at depth x) x then 0 else suc run)
+    (if is_word (codes "always") x then 0 else if is_else x then suc elses else elses) (before ++ x ∷ [])
 counts_more depth run elses before x c w =
     let opened : open_at depth x ≡ open_at (open_behind 0 before) x = ap (λ (n : ℕ). open_at n x) c.opened in
     record {
@@ -232,7 +291,8 @@ counts_more depth run elses before x c w =
       shallow = shallow_more before x c.shallow (passes_not depth run elses before x c w);
     }
 
-deep_here : {A : Type 0} (depth run elses : ℕ) (before : Toks A) (x : TokenOf A) (rest : Toks A) → Counts depth run elses before → (IsWithin (open_at depth x) run elses x → ⊥) → IsDeep (before ++ x ∷ rest) x.line
+deep_here : {A : Type 0} (depth run elses : ℕ) (before : Toks A) (x : TokenOf A) (rest : Toks A) → Counts depth run elses before
+    → (IsWithin (open_at depth x) run elses x → ⊥) → IsDeep (before ++ x ∷ rest) x.line
 deep_here depth run elses before x rest c n = (
   before,
   record {
@@ -245,8 +305,10 @@ deep_here depth run elses before x rest c n = (
   },
 )
 
-one_line_at : {A : Type 0} (ws : Toks A) (a b : A) (u v : Toks A) → IsFirstDeep ws a u → IsFirstDeep ws b v → ((length u ≡ length v) ⊎ ((length u < length v) ⊎ (length v < length u))) → a ≡ b
-one_line_at {A} ws a b u v p q (inl e) = sym p.its_line ∙ ap (λ (t : TokenOf A). t.line) (same_place v u q.token p.token q.rest p.rest (sym p.parts ∙ q.parts) (sym e)) ∙ q.its_line
+one_line_at : {A : Type 0} (ws : Toks A) (a b : A) (u v : Toks A) → IsFirstDeep ws a u → IsFirstDeep ws b v
+    → ((length u ≡ length v) ⊎ ((length u < length v) ⊎ (length v < length u))) → a ≡ b
+one_line_at {A} ws a b u v p q (inl e) = sym p.its_line ∙ ap (λ (t : TokenOf A). t.line)
+    (same_place v u q.token p.token q.rest p.rest (sym p.parts ∙ q.parts) (sym e)) ∙ q.its_line
 one_line_at ws a b u v p q (inr (inl l)) = absurd (q.first u p.token p.rest p.parts l p.passes)
 one_line_at ws a b u v p q (inr (inr l)) = absurd (p.first v q.token q.rest q.parts l q.passes)
 
@@ -275,34 +337,42 @@ none_answer ws s = record {
   none = (λ _. s, λ _. refl);
 }
 
-marked_more : (ts : List Token) (i : ℕ) (t : Token) → i < length ts → t ≡ get_or ts i t → all_marked (take (i + 1) ts) ≡ all_marked (take i ts) ++ marked t ∷ []
+marked_more : (ts : List Token) (i : ℕ) (t : Token) → i < length ts → t ≡ get_or ts i t → all_marked (take (i + 1) ts)
+    ≡ all_marked (take i ts) ++ marked t ∷ []
 marked_more ts i t l e =
     let front : take (i + 1) ts ≡ take i ts ++ t ∷ [] = take_more ts i t l ∙ ap (λ (x : Token). take i ts ++ x ∷ []) (sym e) in
     ap all_marked front ∙ map-append marked (take i ts) (t ∷ [])
 
-marked_parts : (ts : List Token) (i : ℕ) (t : Token) → i < length ts → t ≡ get_or ts i t → all_marked (take i ts) ++ marked t ∷ all_marked (drop (i + 1) ts) ≡ all_marked ts
+marked_parts : (ts : List Token) (i : ℕ) (t : Token) → i < length ts → t ≡ get_or ts i t → all_marked (take i ts) ++ marked t
+    ∷ all_marked (drop (i + 1) ts) ≡ all_marked ts
 marked_parts ts i t l e =
     let back : drop i ts ≡ t ∷ drop (i + 1) ts = drop_more ts i t l ∙ ap (λ (x : Token). x ∷ drop (i + 1) ts) (sym e) in
     let whole : take i ts ++ t ∷ drop (i + 1) ts ≡ ts = ap (λ (xs : List Token). take i ts ++ xs) (sym back) ∙ take-append-drop i ts in
     sym (map-append marked (take i ts) (t ∷ drop (i + 1) ts)) ∙ ap all_marked whole
 
 -- the counts behind one token more of the code's list
-pub counts_on : (depth run elses d r e : ℕ) (ts : List Token) (i : ℕ) (t : Token) → i < length ts → t ≡ get_or ts i t → Counts depth run elses (all_marked (take i ts))
+pub counts_on : (depth run elses d r e : ℕ) (ts : List Token) (i : ℕ) (t : Token) → i < length ts → t ≡ get_or ts i t
+    → Counts depth run elses (all_marked (take i ts))
     → d ≡ open_at depth (marked t) → r ≡ (if is_cut d (marked t) then 0 else suc run)
     → e ≡ (if is_word (codes "always") (marked t) then 0 else if is_else (marked t) then suc elses else elses)
     → IsWithin d run elses (marked t) → Counts d r e (all_marked (take (i + 1) ts))
 counts_on depth run elses d r e ts i t l at c ds rs es w =
     let x = marked t in
     let within = subst (λ (n : ℕ). IsWithin n run elses x) ds w in
-    let cut : (if is_cut (open_at depth x) x then 0 else suc run) ≡ r = ap (λ (n : ℕ). if is_cut n x then 0 else suc run) (sym ds) ∙ sym rs in
+    let cut : (if is_cut (open_at depth x) x then 0 else suc run) ≡ r = ap (λ (n : ℕ). if is_cut n x then 0 else suc run) (sym ds) ∙ sym rs
+    in
     let more = counts_more depth run elses (all_marked (take i ts)) x c within in
-    let with_depth = subst (λ (n : ℕ). Counts n (if is_cut (open_at depth x) x then 0 else suc run) (if is_word (codes "always") x then 0 else if is_else x then suc elses else elses) (all_marked (take i ts) ++ x ∷ [])) (sym ds) more in
-    let with_run = subst (λ (n : ℕ). Counts d n (if is_word (codes "always") x then 0 else if is_else x then suc elses else elses) (all_marked (take i ts) ++ x ∷ [])) cut with_depth in
+    let with_depth = subst (λ (n : ℕ). Counts n (if is_cut (open_at depth x) x then 0 else suc run)
+    (if is_word (codes "always") x then 0 else if is_else x then suc elses else elses) (all_marked (take i ts) ++ x ∷ [])) (sym ds) more
+    in
+    let with_run = subst (λ (n : ℕ). Counts d n (if is_word (codes "always") x then 0 else if is_else x then suc elses else elses)
+    (all_marked (take i ts) ++ x ∷ [])) cut with_depth in
     let with_elses = subst (λ (n : ℕ). Counts d r n (all_marked (take i ts) ++ x ∷ [])) (sym es) with_run in
     subst (λ (xs : Toks ℕ). Counts d r e xs) (sym (marked_more ts i t l at)) with_elses
 
 -- the answer at the first token at which a limit is passed
-pub deep_answer : (depth run elses d : ℕ) (ts : List Token) (i : ℕ) (t : Token) → i < length ts → t ≡ get_or ts i t → Counts depth run elses (all_marked (take i ts))
+pub deep_answer : (depth run elses d : ℕ) (ts : List Token) (i : ℕ) (t : Token) → i < length ts → t ≡ get_or ts i t
+    → Counts depth run elses (all_marked (take i ts))
     → d ≡ open_at depth (marked t) → (IsWithin d run elses (marked t) → ⊥) → Answers (Some t.line) (all_marked ts)
 deep_answer depth run elses d ts i t l at c ds n =
     let x = marked t in

@@ -41,11 +41,14 @@ good_bare : (ws : Toks ℕ) (f : FileOf ℕ) → AreLawful ws → file_of ws ≡
 unfolding file_of
 good_bare ws f l h =
     let fuel = fuel_for (length ws) in
-    let read : file_at fuel (forget_all ws) ≡ Some (bare f) = file_natural ℕ fuel ws ∙ ap (λ (o : Option (FileOf ℕ)). option_map bare o) h in
-    let s = subst (λ (o : Option (FileOf U)). Holds o (λ (f : FileOf U). IsGood f × (forget_all (forget_all ws) ≡ spell (file_words f) []))) read (file_spelled U fuel (forget_all ws) (forgotten_lawful ws l)) in
+    let read : file_at fuel (forget_all ws) ≡ Some (bare f) = file_natural ℕ fuel ws ∙ ap (λ (o : Option (FileOf ℕ)). option_map bare o) h
+    in
+    let s = subst (λ (o : Option (FileOf U)). Holds o (λ (f : FileOf U). IsGood f × (forget_all (forget_all ws) ≡ spell (file_words f) [])))
+    read (file_spelled U fuel (forget_all ws) (forgotten_lawful ws l)) in
     s.0
 
-pub found_clause : (r : Result File Unread) (ts : List Token) → AreLawful (all_marked ts) → Gives plain r (file_of (all_marked ts)) → IfOk r (λ f. IsFileOf ts (bare (plain f)))
+pub found_clause : (r : Result File Unread) (ts : List Token) → AreLawful (all_marked ts) → Gives plain r (file_of (all_marked ts))
+    → IfOk r (λ f. IsFileOf ts (bare (plain f)))
 found_clause (Err e) ts l h = tt
 found_clause (Ok f) ts l h = (good_bare (all_marked ts) (plain f) l h, toks_bare (plain f) ∙ (file_found ts (plain f) l h).1)
 

@@ -1,5 +1,6 @@
 -- What is read is of good shape and spelled so: items, modules and files.
-use Rattle.std.proofs.Common.{◌≡◌, ◌≢◌, if◌then◌else◌, ℕ, zero, suc, Option, None, Some, List, [], ◌∷◌, ◌++◌, refl, sym, ap, ◌∙◌, append_assoc, append-nil}
+use Rattle.std.proofs.Common.{◌≡◌, ◌≢◌, if◌then◌else◌, ℕ, zero, suc, Option, None, Some, List, [], ◌∷◌, ◌++◌, refl, sym, ap, ◌∙◌}
+use Rattle.std.proofs.Common.{append_assoc, append-nil}
 use Rattle.std.specs.List.{AllByRecursion}
 use Rattle.vlog_lex.specs.declared.token.TokenKind.{TokenKind}
 use Rattle.vlog_lex.specs.declared.token.TokenKind.TheVariants.{Identifier, Reserved, Decimal, Based, Other}
@@ -7,16 +8,23 @@ use Rattle.vlog_tree.specs.declared.module.Direction.{Direction}
 use Rattle.vlog_tree.specs.declared.terminal.Terminal.TheVariants as t
 use Rattle.vlog_tree.specs.Words.{Word, NameWord, Fixed}
 use Rattle.vlog_tree.specs.Tree.{IdentOf, RangeOf, PortHeadOf, PortOf, DrivenWireOf, Reg1Of, AssignOf, ItemOf, ModuleOf, FileOf}
-use Rattle.vlog_tree.specs.Spelling.{ident_words, after_commas, with_commas, in_row, range_words, optional, direction_words, head_words, init_words, port_words, wire_words, reg_words, assign_words, event_words, item_words, module_words, file_words}
-use Rattle.vlog_tree.specs.Shape.{IsGoodName, IsGoodExpr, IsGoodOption, IsGoodRange, IsGoodHead, IsGoodPort, IsFirstDirected, IsGoodIdent, IsGoodWire, IsGoodReg, IsGoodAssign, IsGoodEvent, AreSomeGood, IsGoodItem, IsGoodModule, IsGood}
+use Rattle.vlog_tree.specs.Spelling.{ident_words, after_commas, with_commas, in_row, range_words, optional, direction_words, head_words}
+use Rattle.vlog_tree.specs.Spelling.{init_words, port_words, wire_words, reg_words, assign_words, event_words, item_words, module_words}
+use Rattle.vlog_tree.specs.Spelling.{file_words}
+use Rattle.vlog_tree.specs.Shape.{IsGoodName, IsGoodExpr, IsGoodOption, IsGoodRange, IsGoodHead, IsGoodPort, IsFirstDirected, IsGoodIdent}
+use Rattle.vlog_tree.specs.Shape.{IsGoodWire, IsGoodReg, IsGoodAssign, IsGoodEvent, AreSomeGood, IsGoodItem, IsGoodModule, IsGood}
 use Rattle.vlog_expr.specs.Marks.{Toks, spell, IsLawfulText, AreLawful, is_name, name_front}
 use Rattle.vlog_expr.specs.Bare.{forget_all}
 use Rattle.vlog_expr.specs.Reader.{Read}
-use Rattle.vlog_parse.specs.FileReader.{range_at, range_front, init_front, input_at, output_at, direction_front, head_front, port_at, given_head, first_port_at, ports_at, wire_at, reg_at, assign_at, names_at, driven_at, wires_at, regs_at, assigns_at, event_at, always_at, item_at, items_at, header_at, module_at, modules_at, file_at}
+use Rattle.vlog_parse.specs.FileReader.{range_at, range_front, init_front, input_at, output_at, direction_front, head_front, port_at}
+use Rattle.vlog_parse.specs.FileReader.{given_head, first_port_at, ports_at, wire_at, reg_at, assign_at, names_at, driven_at, wires_at}
+use Rattle.vlog_parse.specs.FileReader.{regs_at, assigns_at, event_at, always_at, item_at, items_at, header_at, module_at, modules_at}
+use Rattle.vlog_parse.specs.FileReader.{file_at}
 use Rattle.vlog_expr.specs.Reader.{more_at, some_at}
 use Rattle.vlog_parse.specs.FileLaws.{ReadFilesAreSpelled}
 use Rattle.vlog_expr.proofs.Found.{From, again}
-use Rattle.vlog_parse.proofs.StmtFound.{Sure, nothing, sure, next, either, ◌▹◌, some_none, start, after_found, expr_found, target_found, body_found}
+use Rattle.vlog_parse.proofs.StmtFound.{Sure, nothing, sure, next, either, ◌▹◌, some_none, start, after_found, expr_found, target_found}
+use Rattle.vlog_parse.proofs.StmtFound.{body_found}
 
 -- at least one, of which the first meets a condition of its own
 abbrev AreLed : {X : Type 0} → (X → Type 0) → (X → Type 0) → List X → Type 0
@@ -39,14 +47,17 @@ some_snoc : {X : Type 0} (Good : X → Type 0) (xs : List X) (x : X) → AreSome
 some_snoc Good [] x g h = absurd g
 some_snoc Good (y ∷ ys) x g h = (g.0, all_snoc Good ys x g.1 h)
 
-commas_snoc : {X : Type 0} (words : X → List Word) (xs : List X) (x : X) → after_commas words xs ++ Fixed t.Comma ∷ words x ≡ after_commas words (xs ++ x ∷ [])
+commas_snoc : {X : Type 0} (words : X → List Word) (xs : List X) (x : X) → after_commas words xs ++ Fixed t.Comma ∷ words x
+    ≡ after_commas words (xs ++ x ∷ [])
 commas_snoc words [] x = ap (λ (ws : List Word). Fixed t.Comma ∷ ws) (sym (append-nil (words x)))
 commas_snoc words (y ∷ ys) x = ap (λ (ws : List Word). Fixed t.Comma ∷ ws)
-    (append_assoc (words y) (after_commas words ys) (Fixed t.Comma ∷ words x) ∙ ap (λ (ws : List Word). words y ++ ws) (commas_snoc words ys x))
+    (append_assoc (words y) (after_commas words ys) (Fixed t.Comma ∷ words x)
+    ∙ ap (λ (ws : List Word). words y ++ ws) (commas_snoc words ys x))
 
 row_snoc : {X : Type 0} (words : X → List Word) (xs : List X) (x : X) → in_row words xs ++ words x ≡ in_row words (xs ++ x ∷ [])
 row_snoc words [] x = sym (append-nil (words x))
-row_snoc words (y ∷ ys) x = append_assoc (words y) (in_row words ys) (words x) ∙ ap (λ (ws : List Word). words y ++ ws) (row_snoc words ys x)
+row_snoc words (y ∷ ys) x = append_assoc (words y) (in_row words ys) (words x)
+    ∙ ap (λ (ws : List Word). words y ++ ws) (row_snoc words ys x)
 
 alone : {A : Type 0} {ws rest : Toks A} {a : List Word} → From A ws a rest → From A ws (a ++ []) rest
 alone {A = A} {ws = ws} {rest = rest} {a = a} f = again A ws rest a (a ++ []) (sym (append-nil a)) f
@@ -56,30 +67,37 @@ abbrev At : {A X : Type 0} → (X → Type 0) → (X → List Word) → Toks A �
 At {A = A} Good words w x = Good x.0 × From A w (words x.0) x.1
 
 -- items with commas between them, behind a first one
-module _ (A X : Type 0) (one : Toks A → Read A X) (First Good : X → Type 0) (words : X → List Word) (read : (ws : Toks A) → AreLawful ws → Sure (one ws) (At Good words ws)) where
-  more_step : (w mid rest : Toks A) (xs : List X) (x : X) → At (AreLed First Good) (with_commas words) w (xs, mid) → Good x → From A mid (Fixed t.Comma ∷ words x) rest
+module _ (A X : Type 0) (one : Toks A → Read A X) (First Good : X → Type 0) (words : X → List Word)
+    (read : (ws : Toks A) → AreLawful ws → Sure (one ws) (At Good words ws)) where
+  more_step : (w mid rest : Toks A) (xs : List X) (x : X) → At (AreLed First Good) (with_commas words) w (xs, mid) → Good x
+      → From A mid (Fixed t.Comma ∷ words x) rest
       → At (AreLed First Good) (with_commas words) w (xs ++ x ∷ [], rest)
   more_step w mid rest [] x g h f = absurd g.0
   more_step w mid rest (y ∷ ys) x g h f = (
     led_snoc First Good (y ∷ ys) x g.0 h,
     again A w rest ((words y ++ after_commas words ys) ++ Fixed t.Comma ∷ words x) (words y ++ after_commas words (ys ++ x ∷ []))
-        (append_assoc (words y) (after_commas words ys) (Fixed t.Comma ∷ words x) ∙ ap (λ (ws : List Word). words y ++ ws) (commas_snoc words ys x)) (g.1 ▹ f),
+        (append_assoc (words y) (after_commas words ys) (Fixed t.Comma ∷ words x)
+        ∙ ap (λ (ws : List Word). words y ++ ws) (commas_snoc words ys x)) (g.1 ▹ f),
   )
 
-  more_found : (n : ℕ) (w ws : Toks A) (xs : List X) → At (AreLed First Good) (with_commas words) w (xs, ws) → Sure (more_at one n xs ws) (At (AreLed First Good) (with_commas words) w)
+  more_found : (n : ℕ) (w ws : Toks A) (xs : List X) → At (AreLed First Good) (with_commas words) w (xs, ws)
+      → Sure (more_at one n xs ws) (At (AreLed First Good) (with_commas words) w)
   more_found zero w ws xs g = nothing
   more_found (suc n) w ws xs g =
       either (after_found A t.Comma ws g.1.lawful) (sure _ g)
       (λ c fc. next (read c.1 fc.lawful) (λ x gx. more_found n w x.1 (xs ++ x.0 ∷ []) (more_step w ws x.1 xs x.0 g gx.0 (fc ▹ gx.1))))
 
 -- items with commas between them
-some_found : (A X : Type 0) (one : Toks A → Read A X) (Good : X → Type 0) (words : X → List Word) → ((ws : Toks A) → AreLawful ws → Sure (one ws) (At Good words ws))
+some_found : (A X : Type 0) (one : Toks A → Read A X) (Good : X → Type 0) (words : X → List Word)
+    → ((ws : Toks A) → AreLawful ws → Sure (one ws) (At Good words ws))
     → (n : ℕ) (ws : Toks A) → AreLawful ws → Sure (some_at one n ws) (At (AreLed Good Good) (with_commas words) ws)
-some_found A X one Good words read n ws h = next (read ws h) (λ x g. more_found A X one Good Good words read n ws x.1 (x.0 ∷ []) ((g.0, tt), alone g.1))
+some_found A X one Good words read n ws h = next (read ws h) (λ x g. more_found A X one Good Good words read n ws x.1 (x.0 ∷ [])
+    ((g.0, tt), alone g.1))
 
 module _ (A : Type 0) where
   name_cases : (kind : TokenKind) (text : List ℕ) (line : A) (rest : Toks A) → IsLawfulText kind text → AreLawful rest
-      → Sure (if is_name kind then Some (record { name = text; line = line }, rest) else None) (At IsGoodIdent ident_words (record { kind = kind; text = text; line = line } ∷ rest))
+      → Sure (if is_name kind then Some (record { name = text; line = line }, rest) else None)
+      (At IsGoodIdent ident_words (record { kind = kind; text = text; line = line } ∷ rest))
   name_cases Identifier text line rest g h = sure _ (g, record { spells = refl; lawful = h })
   name_cases Reserved text line rest g h = nothing
   name_cases Decimal text line rest g h = nothing
@@ -98,10 +116,12 @@ module _ (A : Type 0) where
       next (after_found A t.BracketClose b.1 gb.1.lawful) (λ c fc. sure _ ((ga.0, gb.0), f ▹ ga.1 ▹ fo ▹ gb.1 ▹ fc)))))
 
   ranges_found : (n : ℕ) (ws : Toks A) → AreLawful ws → Sure (range_front n ws) (At (IsGoodOption IsGoodRange) (optional range_words) ws)
-  ranges_found n ws h = either (after_found A t.BracketOpen ws h) (sure _ (tt, start A ws h)) (λ o f. next (range_found n ws o.1 f) (λ r g. sure _ g))
+  ranges_found n ws h = either (after_found A t.BracketOpen ws h) (sure _ (tt, start A ws h))
+      (λ o f. next (range_found n ws o.1 f) (λ r g. sure _ g))
 
   init_found : (n : ℕ) (ws : Toks A) → AreLawful ws → Sure (init_front n ws) (At (IsGoodOption IsGoodExpr) (optional init_words) ws)
-  init_found n ws h = either (after_found A t.Equals ws h) (sure _ (tt, start A ws h)) (λ o f. next (expr_found A n o.1 f.lawful) (λ e g. sure _ (g.0, f ▹ g.1)))
+  init_found n ws h = either (after_found A t.Equals ws h) (sure _ (tt, start A ws h))
+      (λ o f. next (expr_found A n o.1 f.lawful) (λ e g. sure _ (g.0, f ▹ g.1)))
 
   abbrev AtDirection : Toks A → Direction × Toks A → Type 0
   AtDirection w x = From A w (direction_words x.0) x.1
@@ -111,13 +131,16 @@ module _ (A : Type 0) where
 
   output_found : (w ws : Toks A) → From A w (Fixed t.Output ∷ []) ws → Sure (output_at ws) (AtDirection w)
   output_found w ws f =
-      either (after_found A t.Wire ws f.lawful) (either (after_found A t.Reg ws f.lawful) (sure _ f) (λ o fo. sure _ (f ▹ fo))) (λ o fo. sure _ (f ▹ fo))
+      either (after_found A t.Wire ws f.lawful) (either (after_found A t.Reg ws f.lawful) (sure _ f) (λ o fo. sure _ (f ▹ fo)))
+      (λ o fo. sure _ (f ▹ fo))
 
   direction_found : (ws : Toks A) → AreLawful ws → Sure (direction_front ws) (AtDirection ws)
-  direction_found ws h = either (after_found A t.Input ws h) (next (after_found A t.Output ws h) (λ o f. output_found ws o.1 f)) (λ o f. input_found ws o.1 f)
+  direction_found ws h = either (after_found A t.Input ws h) (next (after_found A t.Output ws h) (λ o f. output_found ws o.1 f))
+      (λ o f. input_found ws o.1 f)
 
   head_found : (n : ℕ) (ws : Toks A) → AreLawful ws → Sure (head_front n ws) (At (IsGoodOption IsGoodHead) (optional head_words) ws)
-  head_found n ws h = either (direction_found ws h) (sure _ (tt, start A ws h)) (λ d f. next (ranges_found n d.1 f.lawful) (λ r g. sure _ (g.0, f ▹ g.1)))
+  head_found n ws h = either (direction_found ws h) (sure _ (tt, start A ws h))
+      (λ d f. next (ranges_found n d.1 f.lawful) (λ r g. sure _ (g.0, f ▹ g.1)))
 
   port_found : (n : ℕ) (ws : Toks A) → AreLawful ws → Sure (port_at n ws) (At IsGoodPort port_words ws)
   port_found n ws h =
@@ -128,7 +151,8 @@ module _ (A : Type 0) where
   abbrev IsDirected : PortOf A → Type 0
   IsDirected p = IsGoodPort p × (p.head ≢ None)
 
-  directed_found : (ws : Toks A) (p : PortOf A × Toks A) (o : Option (PortHeadOf A)) → p.0.head ≡ o → At IsGoodPort port_words ws p → Sure (given_head o p) (At IsDirected port_words ws)
+  directed_found : (ws : Toks A) (p : PortOf A × Toks A) (o : Option (PortHeadOf A)) → p.0.head ≡ o → At IsGoodPort port_words ws p
+      → Sure (given_head o p) (At IsDirected port_words ws)
   directed_found ws p None e g = nothing
   directed_found ws p (Some x) e g = sure p ((g.0, (λ none. some_none x (sym e ∙ none))), g.1)
 
@@ -150,7 +174,8 @@ module _ (A : Type 0) where
   ports_found n ws h =
       either (after_found A t.ParenClose ws h)
       (next (first_found n ws h) (λ p g.
-      next (more_found A (PortOf A) (port_at n) IsDirected IsGoodPort port_words (port_found n) n ws p.1 (p.0 ∷ []) ((g.0, tt), alone g.1)) (λ ps gs.
+      next (more_found A (PortOf A) (port_at n) IsDirected IsGoodPort port_words (port_found n) n ws p.1 (p.0 ∷ []) ((g.0, tt), alone g.1))
+      (λ ps gs.
       next (after_found A t.ParenClose ps.1 gs.1.lawful) (λ c fc. sure _ (led_ports ps.0 gs.0, gs.1 ▹ fc)))))
       (λ o f. sure _ ((tt, tt), f))
 
@@ -175,16 +200,20 @@ module _ (A : Type 0) where
   abbrev pub AtItem : Toks A → ItemOf A × Toks A → Type 0
   AtItem w x = IsGoodItem x.0 × From A w (item_words x.0) x.1
 
-  module _ (n : ℕ) (w mid : Toks A) (range : Option (RangeOf A)) (g : IsGoodOption IsGoodRange range) (f : From A w (Fixed t.Wire ∷ optional range_words range) mid) where
+  module _ (n : ℕ) (w mid : Toks A) (range : Option (RangeOf A)) (g : IsGoodOption IsGoodRange range)
+      (f : From A w (Fixed t.Wire ∷ optional range_words range) mid) where
     names_found : (ws : Toks A) (id : IdentOf A) → At IsGoodIdent ident_words mid (id, ws) → Sure (names_at n range id ws) (AtItem w)
     names_found ws id gi =
-        next (more_found A (IdentOf A) name_front IsGoodIdent IsGoodIdent ident_words name_found n mid ws (id ∷ []) ((gi.0, tt), alone gi.1)) (λ ids gs.
+        next (more_found A (IdentOf A) name_front IsGoodIdent IsGoodIdent ident_words name_found n mid ws (id ∷ [])
+        ((gi.0, tt), alone gi.1)) (λ ids gs.
         next (after_found A t.Semicolon ids.1 gs.1.lawful) (λ c fc. sure _ ((g, led_good IsGoodIdent ids.0 gs.0), f ▹ gs.1 ▹ fc)))
 
-    driven_found : (ws : Toks A) (id : IdentOf A) → IsGoodIdent id → From A mid (ident_words id ++ Fixed t.Equals ∷ []) ws → Sure (driven_at n range id ws) (AtItem w)
+    driven_found : (ws : Toks A) (id : IdentOf A) → IsGoodIdent id → From A mid (ident_words id ++ Fixed t.Equals ∷ []) ws
+        → Sure (driven_at n range id ws) (AtItem w)
     driven_found ws id gi fi =
         next (expr_found A n ws fi.lawful) (λ e ge.
-        next (more_found A (DrivenWireOf A) (wire_at n) IsGoodWire IsGoodWire wire_words (wire_found n) n mid e.1 (record { id = id; value = e.0 } ∷ []) (((gi, ge.0), tt), alone (fi ▹ ge.1))) (λ xs gs.
+        next (more_found A (DrivenWireOf A) (wire_at n) IsGoodWire IsGoodWire wire_words (wire_found n) n mid e.1
+        (record { id = id; value = e.0 } ∷ []) (((gi, ge.0), tt), alone (fi ▹ ge.1))) (λ xs gs.
         next (after_found A t.Semicolon xs.1 gs.1.lawful) (λ c fc. sure _ ((g, led_good IsGoodWire xs.0 gs.0), f ▹ gs.1 ▹ fc))))
 
   wires_found : (n : ℕ) (w ws : Toks A) → From A w (Fixed t.Wire ∷ []) ws → Sure (wires_at n ws) (AtItem w)
@@ -223,7 +252,8 @@ module _ (A : Type 0) where
   item_found n ws h =
       either (after_found A t.Wire ws h)
       (either (after_found A t.Reg ws h)
-      (either (after_found A t.Assign ws h) (next (after_found A t.Always ws h) (λ o f. always_found n o.0 ws o.1 f)) (λ o f. assigns_found n ws o.1 f))
+      (either (after_found A t.Assign ws h) (next (after_found A t.Always ws h) (λ o f. always_found n o.0 ws o.1 f))
+      (λ o f. assigns_found n ws o.1 f))
       (λ o f. regs_found n ws o.1 f))
       (λ o f. wires_found n ws o.1 f)
 
@@ -231,20 +261,23 @@ module _ (A : Type 0) where
   abbrev AtItems : Toks A → List (ItemOf A) × Toks A → Type 0
   AtItems w x = AllByRecursion IsGoodItem x.0 × From A w (in_row item_words x.0 ++ Fixed t.Endmodule ∷ []) x.1
 
-  items_found : (n left : ℕ) (w ws : Toks A) (xs : List (ItemOf A)) → At (AllByRecursion IsGoodItem) (in_row item_words) w (xs, ws) → Sure (items_at n left xs ws) (AtItems w)
+  items_found : (n left : ℕ) (w ws : Toks A) (xs : List (ItemOf A)) → At (AllByRecursion IsGoodItem) (in_row item_words) w (xs, ws)
+      → Sure (items_at n left xs ws) (AtItems w)
   items_found n zero w ws xs g = nothing
   items_found n (suc left) w ws xs g =
       either (after_found A t.Endmodule ws g.1.lawful)
       (next (item_found n ws g.1.lawful) (λ x gx. items_found n left w x.1 (xs ++ x.0 ∷ []) (
         all_snoc IsGoodItem xs x.0 g.0 gx.0,
-        again A w x.1 (in_row item_words xs ++ item_words x.0) (in_row item_words (xs ++ x.0 ∷ [])) (row_snoc item_words xs x.0) (g.1 ▹ gx.1),
+        again A w x.1 (in_row item_words xs ++ item_words x.0) (in_row item_words (xs ++ x.0 ∷ [])) (row_snoc item_words xs x.0)
+            (g.1 ▹ gx.1),
       )))
       (λ o f. sure _ (g.0, g.1 ▹ f))
 
   -- a header, whose words end in ")" and ";"
   abbrev pub AtHeader : Toks A → (List ℕ × List (PortOf A)) × Toks A → Type 0
   AtHeader w x = IsGoodName x.0.0 × ArePorts x.0.1
-      × From A w (Fixed t.Module ∷ NameWord x.0.0 ∷ Fixed t.ParenOpen ∷ ((with_commas port_words x.0.1 ++ Fixed t.ParenClose ∷ []) ++ Fixed t.Semicolon ∷ [])) x.1
+      × From A w (Fixed t.Module ∷ NameWord x.0.0 ∷ Fixed t.ParenOpen ∷
+      ((with_commas port_words x.0.1 ++ Fixed t.ParenClose ∷ []) ++ Fixed t.Semicolon ∷ [])) x.1
 
   pub header_found : (n : ℕ) (ws : Toks A) → AreLawful ws → Sure (header_at n ws) (AtHeader ws)
   header_found n ws h =
@@ -258,30 +291,35 @@ module _ (A : Type 0) where
       → (Fixed t.Module ∷ NameWord name ∷ Fixed t.ParenOpen ∷ ((ports ++ Fixed t.ParenClose ∷ []) ++ Fixed t.Semicolon ∷ [])) ++ rest
       ≡ Fixed t.Module ∷ NameWord name ∷ Fixed t.ParenOpen ∷ (ports ++ Fixed t.ParenClose ∷ Fixed t.Semicolon ∷ rest)
   header_words name ports rest = ap (λ (ws : List Word). Fixed t.Module ∷ NameWord name ∷ Fixed t.ParenOpen ∷ ws)
-      (append_assoc (ports ++ Fixed t.ParenClose ∷ []) (Fixed t.Semicolon ∷ []) rest ∙ append_assoc ports (Fixed t.ParenClose ∷ []) (Fixed t.Semicolon ∷ rest))
+      (append_assoc (ports ++ Fixed t.ParenClose ∷ []) (Fixed t.Semicolon ∷ []) rest
+      ∙ append_assoc ports (Fixed t.ParenClose ∷ []) (Fixed t.Semicolon ∷ rest))
 
   module_found : (n : ℕ) (ws : Toks A) → AreLawful ws → Sure (module_at n ws) (At IsGoodModule module_words ws)
   module_found n ws h =
       next (header_found n ws h) (λ x gx.
       next (items_found n n x.1 x.1 [] (tt, start A x.1 gx.2.lawful)) (λ xs gs. sure _ (
         (gx.0, gx.1.0, gx.1.1, gs.0),
-        again A ws xs.1 _ _ (header_words x.0.0 (with_commas port_words x.0.1) (in_row item_words xs.0 ++ Fixed t.Endmodule ∷ [])) (gx.2 ▹ gs.1),
+        again A ws xs.1 _ _ (header_words x.0.0 (with_commas port_words x.0.1) (in_row item_words xs.0 ++ Fixed t.Endmodule ∷ []))
+            (gx.2 ▹ gs.1),
       )))
 
   -- all modules, and no token behind them
   abbrev AreModules : Toks A → List (ModuleOf A) → Type 0
   AreModules w ms = AreSomeGood IsGoodModule ms × (forget_all w ≡ spell (in_row module_words ms) [])
 
-  modules_found : (n left : ℕ) (w ws : Toks A) (ms : List (ModuleOf A)) → At (AreSomeGood IsGoodModule) (in_row module_words) w (ms, ws) → Sure (modules_at n left ms ws) (AreModules w)
+  modules_found : (n left : ℕ) (w ws : Toks A) (ms : List (ModuleOf A)) → At (AreSomeGood IsGoodModule) (in_row module_words) w (ms, ws)
+      → Sure (modules_at n left ms ws) (AreModules w)
   modules_found n zero w ws ms g = nothing
   modules_found n (suc left) w [] ms g = sure ms (g.0, g.1.spells)
   modules_found n (suc left) w (token ∷ rest) ms g =
       next (module_found n (token ∷ rest) g.1.lawful) (λ m gm. modules_found n left w m.1 (ms ++ m.0 ∷ []) (
         some_snoc IsGoodModule ms m.0 g.0 gm.0,
-        again A w m.1 (in_row module_words ms ++ module_words m.0) (in_row module_words (ms ++ m.0 ∷ [])) (row_snoc module_words ms m.0) (g.1 ▹ gm.1),
+        again A w m.1 (in_row module_words ms ++ module_words m.0) (in_row module_words (ms ++ m.0 ∷ [])) (row_snoc module_words ms m.0)
+            (g.1 ▹ gm.1),
       ))
 
-  file_found : (n : ℕ) (ws : Toks A) → AreLawful ws → Sure (file_at n ws) (λ (f : FileOf A). IsGood f × (forget_all ws ≡ spell (file_words f) []))
+  file_found : (n : ℕ) (ws : Toks A) → AreLawful ws → Sure (file_at n ws)
+      (λ (f : FileOf A). IsGood f × (forget_all ws ≡ spell (file_words f) []))
   file_found n ws h =
       next (module_found n ws h) (λ m g.
       next (modules_found n n ws m.1 (m.0 ∷ []) ((g.0, tt), alone g.1)) (λ ms gs. sure _ gs))

@@ -1,5 +1,6 @@
 -- The whole list of tokens as one file.
-use Rattle.std.proofs.Common.{◌≡◌, ℕ, true, false, List, [], ◌∷◌, ◌++◌, Option, None, Some, length, option_map, refl, ap, sym, ◌∙◌, subst, arith}
+use Rattle.std.proofs.Common.{◌≡◌, ℕ, true, false, List, [], ◌∷◌, ◌++◌, Option, None, Some, length, option_map, refl, ap, sym, ◌∙◌, subst}
+use Rattle.std.proofs.Common.{arith}
 use Rattle.std.specs.List.{AllByRecursion}
 use Rattle.vlog_lex.specs.declared.token.Token.{Token}
 use Rattle.vlog_tree.specs.declared.module.Direction.{Direction}
@@ -7,9 +8,17 @@ use Rattle.vlog_tree.specs.declared.module.Direction.TheVariants as direction
 use Rattle.vlog_tree.specs.declared.module.NetKind.TheVariants as kind
 use Rattle.vlog_tree.specs.declared.terminal.Terminal.TheVariants as t
 use Rattle.vlog_tree.specs.Words.{Word, Fixed, tokens_of}
-use Rattle.vlog_tree.specs.Tree.{IdentOf, ExprOf, RangeOf, PortHeadOf, PortOf, DrivenWireOf, RegTailOf, InitTail, Reg1Of, AssignOf, EventOf, PosedgeEvent, ItemOf, WiresItem, DrivenWiresItem, RegsItem, AssignItem, AlwaysItem, ModuleOf, FileOf, TargetOf, RefTarget, ConcatTarget, TargetsOf, NoTargets, MoreTargets, StmtOf, BeginStmt, IfStmt, AssignStmt, BodyOf, StmtBody, EmptyBody, ElseOf, NoElse, Else, StmtsOf, NoStmts, MoreStmts}
-use Rattle.vlog_tree.specs.Spelling.{assign_terminal, ident_words, expr_words, target_words, targets_words, more_targets_words, stmt_words, body_words, else_words, stmts_words, after_commas, with_commas, in_row, range_words, optional, direction_words, head_words, init_words, port_words, wire_words, tail_words, reg_words, assign_words, event_words, item_words, module_words, file_words}
-use Rattle.vlog_tree.specs.Shape.{IsGoodExpr, IsGoodTarget, AreGoodTargets, AreAllGoodTargets, IsGoodStmt, IsGoodBody, IsGoodElse, AreGoodStmts, IsGoodOption, IsGoodRange, IsGoodHead, IsGoodPort, IsGoodIdent, IsGoodWire, IsGoodTail, IsGoodReg, IsGoodAssign, IsGoodEvent, AreSomeGood, IsGoodItem, IsGoodModule, IsGood}
+use Rattle.vlog_tree.specs.Tree.{IdentOf, ExprOf, RangeOf, PortHeadOf, PortOf, DrivenWireOf, RegTailOf, InitTail, Reg1Of, AssignOf, EventOf}
+use Rattle.vlog_tree.specs.Tree.{PosedgeEvent, ItemOf, WiresItem, DrivenWiresItem, RegsItem, AssignItem, AlwaysItem, ModuleOf, FileOf}
+use Rattle.vlog_tree.specs.Tree.{TargetOf, RefTarget, ConcatTarget, TargetsOf, NoTargets, MoreTargets, StmtOf, BeginStmt, IfStmt}
+use Rattle.vlog_tree.specs.Tree.{AssignStmt, BodyOf, StmtBody, EmptyBody, ElseOf, NoElse, Else, StmtsOf, NoStmts, MoreStmts}
+use Rattle.vlog_tree.specs.Spelling.{assign_terminal, ident_words, expr_words, target_words, targets_words, more_targets_words, stmt_words}
+use Rattle.vlog_tree.specs.Spelling.{body_words, else_words, stmts_words, after_commas, with_commas, in_row, range_words, optional}
+use Rattle.vlog_tree.specs.Spelling.{direction_words, head_words, init_words, port_words, wire_words, tail_words, reg_words, assign_words}
+use Rattle.vlog_tree.specs.Spelling.{event_words, item_words, module_words, file_words}
+use Rattle.vlog_tree.specs.Shape.{IsGoodExpr, IsGoodTarget, AreGoodTargets, AreAllGoodTargets, IsGoodStmt, IsGoodBody, IsGoodElse}
+use Rattle.vlog_tree.specs.Shape.{AreGoodStmts, IsGoodOption, IsGoodRange, IsGoodHead, IsGoodPort, IsGoodIdent, IsGoodWire, IsGoodTail}
+use Rattle.vlog_tree.specs.Shape.{IsGoodReg, IsGoodAssign, IsGoodEvent, AreSomeGood, IsGoodItem, IsGoodModule, IsGood}
 use Rattle.vlog_expr.specs.Marks.{Toks, spell, all_marked, AreLawful}
 use Rattle.vlog_expr.specs.Bare.{forget_all, without_lines}
 use Rattle.vlog_parse.specs.BareFile.{bare_file}
@@ -19,7 +28,8 @@ use Rattle.vlog_expr.specs.Laws.{Holds}
 use Rattle.vlog_parse.specs.FileLaws.{FilesAreRead, FileLinesDontCount}
 use Rattle.vlog_expr.proofs.Spelled.{U}
 use Rattle.vlog_parse.proofs.FileFound.{file_spelled}
-use Rattle.vlog_expr.proofs.Whole.{spelled_tokens, tokens_spelled, AreLawfulWords, lawful_append, spell_lawful, forget_lawful, expr_lawful, ref_lawful, length_spell, length_forget, none_some}
+use Rattle.vlog_expr.proofs.Whole.{spelled_tokens, tokens_spelled, AreLawfulWords, lawful_append, spell_lawful, forget_lawful, expr_lawful}
+use Rattle.vlog_expr.proofs.Whole.{ref_lawful, length_spell, length_forget, none_some}
 
 mutual
   target_lawful : (x : TargetOf U) → IsGoodTarget x → AreLawfulWords (target_words x)
@@ -28,11 +38,16 @@ mutual
 
   targets_lawful : (xs : TargetsOf U) → AreGoodTargets xs → AreLawfulWords (targets_words xs)
   targets_lawful NoTargets g = tt
-  targets_lawful (MoreTargets x xs) g = lawful_append (target_words x) (more_targets_words xs) (target_lawful x g.0) (more_targets_lawful xs g.1)
+  targets_lawful (MoreTargets x xs) g = lawful_append (target_words x) (more_targets_words xs) (target_lawful x g.0)
+      (more_targets_lawful xs g.1)
 
   more_targets_lawful : (xs : TargetsOf U) → AreAllGoodTargets xs → AreLawfulWords (more_targets_words xs)
   more_targets_lawful NoTargets g = tt
-  more_targets_lawful (MoreTargets x xs) g = (tt, lawful_append (target_words x) (more_targets_words xs) (target_lawful x g.0) (more_targets_lawful xs g.1))
+  more_targets_lawful (MoreTargets x xs) g = (
+    tt,
+    lawful_append (target_words x) (more_targets_words xs) (target_lawful x g.0)
+        (more_targets_lawful xs g.1),
+  )
 
 mutual
   stmt_lawful : (s : StmtOf U) → IsGoodStmt s → AreLawfulWords (stmt_words s)
@@ -105,7 +120,8 @@ direction_lawful (direction.Output (Some kind.Wire)) = (tt, (tt, tt))
 direction_lawful (direction.Output (Some kind.Reg)) = (tt, (tt, tt))
 
 head_lawful : (h : PortHeadOf U) → IsGoodHead h → AreLawfulWords (head_words h)
-head_lawful h g = lawful_append (direction_words h.direction) (optional range_words h.range) (direction_lawful h.direction) (ranges_lawful h.range g)
+head_lawful h g = lawful_append (direction_words h.direction) (optional range_words h.range) (direction_lawful h.direction)
+    (ranges_lawful h.range g)
 
 init_lawful : (e : ExprOf U) → IsGoodExpr e → AreLawfulWords (init_words e)
 init_lawful e g = (tt, expr_lawful e g)
@@ -137,15 +153,37 @@ event_lawful (PosedgeEvent id) g = (tt, (tt, (tt, (g, (tt, tt)))))
 listed_lawful : (words : List Word) → AreLawfulWords words → AreLawfulWords (words ++ Fixed t.Semicolon ∷ [])
 listed_lawful words h = lawful_append words (Fixed t.Semicolon ∷ []) h (tt, tt)
 
-ranged_lawful : (o : Option (RangeOf U)) (words : List Word) → IsGoodOption IsGoodRange o → AreLawfulWords words → AreLawfulWords (optional range_words o ++ (words ++ Fixed t.Semicolon ∷ []))
-ranged_lawful o words g h = lawful_append (optional range_words o) (words ++ Fixed t.Semicolon ∷ []) (ranges_lawful o g) (listed_lawful words h)
+ranged_lawful : (o : Option (RangeOf U)) (words : List Word) → IsGoodOption IsGoodRange o → AreLawfulWords words
+    → AreLawfulWords (optional range_words o ++ (words ++ Fixed t.Semicolon ∷ []))
+ranged_lawful o words g h = lawful_append (optional range_words o) (words ++ Fixed t.Semicolon ∷ []) (ranges_lawful o g)
+    (listed_lawful words h)
 
 pub item_lawful : (x : ItemOf U) → IsGoodItem x → AreLawfulWords (item_words x)
-item_lawful (WiresItem o ids) g = (tt, ranged_lawful o (with_commas ident_words ids) g.0 (commas_lawful (IdentOf U) IsGoodIdent ident_words ident_lawful ids g.1))
-item_lawful (DrivenWiresItem o xs) g = (tt, ranged_lawful o (with_commas wire_words xs) g.0 (commas_lawful (DrivenWireOf U) IsGoodWire wire_words wire_lawful xs g.1))
-item_lawful (RegsItem o xs) g = (tt, ranged_lawful o (with_commas reg_words xs) g.0 (commas_lawful (Reg1Of U) IsGoodReg reg_words reg_lawful xs g.1))
-item_lawful (AssignItem xs) g = (tt, listed_lawful (with_commas assign_words xs) (commas_lawful (AssignOf U) IsGoodAssign assign_words assign_lawful xs g))
-item_lawful (AlwaysItem a) g = (tt, lawful_append (event_words a.event) (body_words a.body) (event_lawful a.event g.0) (body_lawful a.body g.1))
+item_lawful (WiresItem o ids) g = (
+  tt,
+  ranged_lawful o (with_commas ident_words ids) g.0
+      (commas_lawful (IdentOf U) IsGoodIdent ident_words ident_lawful ids g.1),
+)
+item_lawful (DrivenWiresItem o xs) g = (
+  tt,
+  ranged_lawful o (with_commas wire_words xs) g.0
+      (commas_lawful (DrivenWireOf U) IsGoodWire wire_words wire_lawful xs g.1),
+)
+item_lawful (RegsItem o xs) g = (
+  tt,
+  ranged_lawful o (with_commas reg_words xs) g.0
+      (commas_lawful (Reg1Of U) IsGoodReg reg_words reg_lawful xs g.1),
+)
+item_lawful (AssignItem xs) g = (
+  tt,
+  listed_lawful (with_commas assign_words xs)
+      (commas_lawful (AssignOf U) IsGoodAssign assign_words assign_lawful xs g),
+)
+item_lawful (AlwaysItem a) g = (
+  tt,
+  lawful_append (event_words a.event) (body_words a.body) (event_lawful a.event g.0)
+      (body_lawful a.body g.1),
+)
 
 module_lawful : (m : ModuleOf U) → IsGoodModule m → AreLawfulWords (module_words m)
 module_lawful m g = (
@@ -154,9 +192,16 @@ module_lawful m g = (
     g.0,
     (
       tt,
-      lawful_append (with_commas port_words m.ports) (Fixed t.ParenClose ∷ Fixed t.Semicolon ∷ (in_row item_words m.items ++ Fixed t.Endmodule ∷ []))
-          (all_commas_lawful (PortOf U) IsGoodPort port_words port_lawful m.ports g.2)
-          (tt, (tt, lawful_append (in_row item_words m.items) (Fixed t.Endmodule ∷ []) (row_lawful (ItemOf U) IsGoodItem item_words item_lawful m.items g.3) (tt, tt))),
+      lawful_append (with_commas port_words m.ports) (Fixed t.ParenClose ∷ Fixed t.Semicolon
+          ∷ (in_row item_words m.items ++ Fixed t.Endmodule ∷ []))
+          (all_commas_lawful (PortOf U) IsGoodPort port_words port_lawful m.ports g.2) (
+            tt,
+            (
+              tt,
+              lawful_append (in_row item_words m.items) (Fixed t.Endmodule ∷ [])
+                  (row_lawful (ItemOf U) IsGoodItem item_words item_lawful m.items g.3) (tt, tt),
+            ),
+          ),
     ),
   ),
 )
@@ -165,17 +210,21 @@ file_lawful : (f : FileOf U) → IsGood f → AreLawfulWords (file_words f)
 file_lawful f g = some_row_lawful (ModuleOf U) IsGoodModule module_words module_lawful f.modules g
 
 -- tokens that spell a file of good shape are lawful
-pub file_lawful_from : (f : FileOf (Unit {0})) (ts : List Token) → IsGood f → tokens_of (file_words f) ≡ without_lines ts → AreLawful (all_marked ts)
+pub file_lawful_from : (f : FileOf (Unit {0})) (ts : List Token) → IsGood f → tokens_of (file_words f) ≡ without_lines ts
+    → AreLawful (all_marked ts)
 file_lawful_from f ts g h =
-    forget_lawful (all_marked ts) (subst (λ (ws : Toks U). AreLawful ws) (tokens_spelled (file_words f) ts h) (spell_lawful (file_words f) (file_lawful f g)))
+    forget_lawful (all_marked ts) (subst (λ (ws : Toks U). AreLawful ws) (tokens_spelled (file_words f) ts h)
+    (spell_lawful (file_words f) (file_lawful f g)))
 
 all_sound : (ws : Toks ℕ) → AreLawful ws → Holds (file_of ws) (λ (f : FileOf ℕ). IsGood f × (forget_all ws ≡ spell (file_words f) []))
 unfolding file_of
 all_sound ws h = file_spelled ℕ (fuel_for (length ws)) ws h
 
-pub file_found : (ts : List Token) (f : FileOf ℕ) → AreLawful (all_marked ts) → file_of (all_marked ts) ≡ Some f → IsGood f × (tokens_of (file_words f) ≡ without_lines ts)
+pub file_found : (ts : List Token) (f : FileOf ℕ) → AreLawful (all_marked ts) → file_of (all_marked ts) ≡ Some f → IsGood f
+    × (tokens_of (file_words f) ≡ without_lines ts)
 file_found ts f l h =
-    let s = subst (λ (o : Option (FileOf ℕ)). Holds o (λ (f : FileOf ℕ). IsGood f × (forget_all (all_marked ts) ≡ spell (file_words f) []))) h (all_sound (all_marked ts) l) in
+    let s = subst (λ (o : Option (FileOf ℕ)). Holds o (λ (f : FileOf ℕ). IsGood f × (forget_all (all_marked ts) ≡ spell (file_words f) [])))
+    h (all_sound (all_marked ts) l) in
     (s.0, spelled_tokens (file_words f) ts s.1)
 
 same_some : {X : Type 0} (x y : X) → Some x ≡ Some y → x ≡ y
@@ -185,13 +234,16 @@ from_mapped : (o : Option (FileOf ℕ)) (t : FileOf U) → option_map bare_file 
 from_mapped None t h = absurd (none_some t h)
 from_mapped (Some f) t h = (f, refl, same_some (bare_file f) t h)
 
-read_again : FilesAreRead → FileLinesDontCount ℕ → (ws : Toks ℕ) (t : FileOf U) → IsGood t → spell (file_words t) [] ≡ forget_all ws → (f : FileOf ℕ) × (file_of ws ≡ Some f) × (bare_file f ≡ t)
+read_again : FilesAreRead → FileLinesDontCount ℕ → (ws : Toks ℕ) (t : FileOf U) → IsGood t → spell (file_words t) [] ≡ forget_all ws
+    → (f : FileOf ℕ) × (file_of ws ≡ Some f) × (bare_file f ≡ t)
 unfolding file_of
 read_again read lines ws t g h =
     let fuel = fuel_for (length ws) in
-    let same : length (file_words t) ≡ length ws = sym (length_spell (file_words t)) ∙ ap (λ (us : Toks U). length us) h ∙ length_forget ws in
+    let same : length (file_words t) ≡ length ws = sym (length_spell (file_words t)) ∙ ap (λ (us : Toks U). length us) h ∙ length_forget ws
+    in
     from_mapped (file_at fuel ws) t (sym (lines fuel ws) ∙ sym (ap (λ (us : Toks U). file_at fuel us) h) ∙ read t fuel g (omega arith))
 
-pub file_again : FilesAreRead → FileLinesDontCount ℕ → (ts : List Token) (t : FileOf (Unit {0})) → IsGood t → tokens_of (file_words t) ≡ without_lines ts
+pub file_again : FilesAreRead → FileLinesDontCount ℕ → (ts : List Token) (t : FileOf (Unit {0})) → IsGood t → tokens_of (file_words t)
+    ≡ without_lines ts
     → (f : FileOf ℕ) × (file_of (all_marked ts) ≡ Some f) × (bare_file f ≡ t)
 file_again read lines ts t g w = read_again read lines (all_marked ts) t g (tokens_spelled (file_words t) ts w)

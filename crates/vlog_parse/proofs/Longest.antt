@@ -1,5 +1,6 @@
 -- The longest list of whole units is the one that is found from the front.
-use Rattle.std.proofs.Common.{◌≡◌, ℕ, zero, suc, ◌+◌, ◌-◌, ◌<◌, ◌≤◌, Bool, true, false, Option, None, Some, if◌then◌else◌, List, [], ◌∷◌, ◌++◌, length, map, take, drop, codes, refl, sym, ap, subst, ◌∙◌, arith, append_assoc, length-append}
+use Rattle.std.proofs.Common.{◌≡◌, ℕ, zero, suc, ◌+◌, ◌-◌, ◌<◌, ◌≤◌, Bool, true, false, Option, None, Some, if◌then◌else◌, List, [], ◌∷◌}
+use Rattle.std.proofs.Common.{◌++◌, length, map, take, drop, codes, refl, sym, ap, subst, ◌∙◌, arith, append_assoc, length-append}
 use Rattle.std.specs.List.{AllByRecursion, flat_map}
 use Rattle.std.proofs.lemmas.List.{map-append, take-append-drop, length-drop}
 use Rattle.std.proofs.Math.Seq.{take-length}
@@ -20,7 +21,8 @@ use Rattle.vlog_expr.specs.Laws.{Holds, seen}
 use Rattle.vlog_parse.specs.BareFile.{bare_item}
 use Rattle.vlog_parse.specs.FileReader.{item_at, header_at}
 use Rattle.vlog_parse.specs.UnitReader.{whole_item, unit_at, read_or, behind_units}
-use Rattle.vlog_parse.specs.Units.{UnitOf, Header, ItemUnit, Endmodule, module_units, unit_words, IsWhole, AreWhole, BeginWith, AreLongest, line_or, last_line, first_line, IsItemLine, OneItemLine}
+use Rattle.vlog_parse.specs.Units.{UnitOf, Header, ItemUnit, Endmodule, module_units, unit_words, IsWhole, AreWhole, BeginWith, AreLongest}
+use Rattle.vlog_parse.specs.Units.{line_or, last_line, first_line, IsItemLine, OneItemLine}
 use Rattle.vlog_expr.proofs.Spelled.{U, spell_append}
 use Rattle.vlog_expr.proofs.Found.{From, again}
 use Rattle.vlog_expr.proofs.Maps.{marked_length}
@@ -72,7 +74,8 @@ unit_again n false (ItemUnit i) r g w h = absurd g
 unit_again n false Endmodule r g w h = absurd g
 unit_again n true (Header name ps) r g w h = absurd g
 unit_again n true (ItemUnit i) r g w h =
-    ap (λ (o : Option (U × Toks U)). found_or o (item_at n (spell (item_words i) r) >>= λ i. whole_item i.0 i.1 >>= λ w. Some (true, i.1)) (λ o. Some (false, o.1))) (no_endmodule i r)
+    ap (λ (o : Option (U × Toks U)). found_or o (item_at n (spell (item_words i) r) >>= λ i. whole_item i.0 i.1 >>= λ w. Some (true, i.1))
+    (λ o. Some (false, o.1))) (no_endmodule i r)
     ∙ ap (λ (o : Read U (ItemOf U)). o >>= λ i. whole_item i.0 i.1 >>= λ w. Some (true, i.1)) (item_read i n r g w h)
     ∙ ap (λ (o : Option U). o >>= λ w. Some (true, r)) (whole_again i r w)
 unit_again n true Endmodule r g w h = refl
@@ -100,7 +103,8 @@ unit_found n false ws h =
       refl,
       tt,
       again U ws x.1 _ _
-          (ap (λ (words : List Word). Fixed t.Module ∷ NameWord x.0.0 ∷ Fixed t.ParenOpen ∷ words) (append_assoc (with_commas port_words x.0.1) (Fixed t.ParenClose ∷ []) (Fixed t.Semicolon ∷ [])))
+          (ap (λ (words : List Word). Fixed t.Module ∷ NameWord x.0.0 ∷ Fixed t.ParenOpen ∷ words)
+          (append_assoc (with_commas port_words x.0.1) (Fixed t.ParenClose ∷ []) (Fixed t.Semicolon ∷ [])))
           g.2,
     ))
 unit_found n true ws h =
@@ -124,7 +128,8 @@ some_unit Endmodule = omega arith
 
 -- the first of good units that the tokens spell is read
 front_unit : (n : ℕ) (inside : Bool) (ws : Toks U) (v : UnitU) (vs : List UnitU) (r : Toks U) → fuel_for (length ws) ≤ n → FitsIn inside v
-    → ws ≡ spell (in_row unit_words (v ∷ vs)) r → IsWhole v (spell (in_row unit_words vs) r) → unit_at n inside ws ≡ Some (is_inside v, spell (in_row unit_words vs) r)
+    → ws ≡ spell (in_row unit_words (v ∷ vs)) r → IsWhole v (spell (in_row unit_words vs) r) → unit_at n inside ws
+    ≡ Some (is_inside v, spell (in_row unit_words vs) r)
 front_unit n inside ws v vs r h g e w =
     let parts = e ∙ spell_append (unit_words v) (in_row unit_words vs) r in
     let rest = spell (in_row unit_words vs) r in
@@ -137,7 +142,8 @@ pub record Greedy (inside : Bool) (ws rest : Toks U) : Type 0 where
   pub fit : Fit inside units
   pub spells : ws ≡ spell (in_row unit_words units) rest
   pub whole : AreWhole units rest
-  pub longest : (vs : List UnitU) (r : Toks U) → Fit inside vs → ws ≡ spell (in_row unit_words vs) r → AreWhole vs r → length vs ≤ length units
+  pub longest : (vs : List UnitU) (r : Toks U) → Fit inside vs → ws ≡ spell (in_row unit_words vs) r → AreWhole vs r
+      → length vs ≤ length units
 
 some_none : {X : Type 0} (x : X) → Some x ≡ None → ⊥
 some_none x h = cc
@@ -148,7 +154,8 @@ same_read x y h = cc
 none_longer : (n : ℕ) (inside : Bool) (ws : Toks U) → fuel_for (length ws) ≤ n → unit_at n inside ws ≡ None
     → (vs : List UnitU) (r : Toks U) → Fit inside vs → ws ≡ spell (in_row unit_words vs) r → AreWhole vs r → length vs ≤ 0
 none_longer n inside ws h none [] r f e w = omega arith
-none_longer n inside ws h none (v ∷ vs) r f e w = absurd (some_none (is_inside v, spell (in_row unit_words vs) r) (sym (front_unit n inside ws v vs r h f.0 e w.0) ∙ none))
+none_longer n inside ws h none (v ∷ vs) r f e w = absurd (some_none (is_inside v, spell (in_row unit_words vs) r)
+    (sym (front_unit n inside ws v vs r h f.0 e w.0) ∙ none))
 
 some_longer : (n : ℕ) (inside : Bool) (ws : Toks U) (x : Bool × Toks U) (m : ℕ) → fuel_for (length ws) ≤ n → unit_at n inside ws ≡ Some x
     → ((vs : List UnitU) (r : Toks U) → Fit x.0 vs → x.1 ≡ spell (in_row unit_words vs) r → AreWhole vs r → length vs ≤ m)
@@ -156,15 +163,25 @@ some_longer : (n : ℕ) (inside : Bool) (ws : Toks U) (x : Bool × Toks U) (m : 
 some_longer n inside ws x m h some longest [] r f e w = omega arith
 some_longer n inside ws x m h some longest (v ∷ vs) r f e w =
     let same = same_read x (is_inside v, spell (in_row unit_words vs) r) (sym some ∙ front_unit n inside ws v vs r h f.0 e w.0) in
-    let rest = longest vs r (subst (λ (b : Bool). Fit b vs) (sym (ap (λ (y : Bool × Toks U). y.0) same)) f.1) (ap (λ (y : Bool × Toks U). y.1) same) w.1 in
+    let rest = longest vs r (subst (λ (b : Bool). Fit b vs) (sym (ap (λ (y : Bool × Toks U). y.0) same)) f.1)
+    (ap (λ (y : Bool × Toks U). y.1) same) w.1 in
     omega (arith, rest)
 
 abbrev Rest : ℕ → ℕ → Type 0
-Rest n left = (inside : Bool) (ws : Toks U) → AreLawful ws → fuel_for (length ws) ≤ n → length ws ≤ left → Greedy inside ws (behind_units n left inside ws)
+Rest n left = (inside : Bool) (ws : Toks U) → AreLawful ws → fuel_for (length ws) ≤ n → length ws ≤ left
+    → Greedy inside ws (behind_units n left inside ws)
 
-greedy_step : (n left : ℕ) (inside : Bool) (ws : Toks U) (o : Option (Bool × Toks U)) → Rest n left → fuel_for (length ws) ≤ n → length ws ≤ suc left
+greedy_step : (n left : ℕ) (inside : Bool) (ws : Toks U) (o : Option (Bool × Toks U)) → Rest n left → fuel_for (length ws) ≤ n
+    → length ws ≤ suc left
     → unit_at n inside ws ≡ o → Holds o (AtUnit inside ws) → Greedy inside ws (read_or o ws (λ u. behind_units n left u.0 u.1))
-greedy_step n left inside ws None rec h l e s = record { units = []; fit = tt; spells = refl; whole = tt; longest = none_longer n inside ws h e }
+greedy_step n left inside ws None rec h l e s = record {
+  units = [];
+  fit = tt;
+  spells = refl;
+  whole = tt;
+  longest = none_longer n inside ws
+      h e;
+}
 greedy_step n left inside ws (Some x) rec h l e (u, fits, is, whole, from) =
     let first : ws ≡ spell (unit_words u) x.1 = sym (forget_same ws) ∙ from.spells ∙ ap (spell (unit_words u)) (forget_same x.1) in
     let long = ap (λ (us : Toks U). length us) first ∙ length_spelled (unit_words u) x.1 in
@@ -184,13 +201,16 @@ none_empty inside (v ∷ vs) r e =
     let long = ap (λ (us : Toks U). length us) e ∙ length_spelled (unit_words v ++ in_row unit_words vs) r in
     absurd (omega (arith, long, some_unit v, length-append (unit_words v) (in_row unit_words vs)))
 
-pub greedy : (n left : ℕ) (inside : Bool) (ws : Toks U) → AreLawful ws → fuel_for (length ws) ≤ n → length ws ≤ left → Greedy inside ws (behind_units n left inside ws)
+pub greedy : (n left : ℕ) (inside : Bool) (ws : Toks U) → AreLawful ws → fuel_for (length ws) ≤ n → length ws ≤ left
+    → Greedy inside ws (behind_units n left inside ws)
 greedy n zero inside [] g h l = record { units = []; fit = tt; spells = refl; whole = tt; longest = λ vs r f e w. none_empty inside vs r e }
 greedy n zero inside (token ∷ ws) g h l = absurd (omega arith)
-greedy n (suc left) inside ws g h l = greedy_step n left inside ws (unit_at n inside ws) (greedy n left) h l refl (unit_found n inside ws g).holds
+greedy n (suc left) inside ws g h l = greedy_step n left inside ws (unit_at n inside ws) (greedy n left) h l refl
+    (unit_found n inside ws g).holds
 
 -- two lists of as many units end at one place
-pub same_rest : (us vs : List UnitU) (inside : Bool) (ws r q : Toks U) → Fit inside us → Fit inside vs → ws ≡ spell (in_row unit_words us) r → ws ≡ spell (in_row unit_words vs) q
+pub same_rest : (us vs : List UnitU) (inside : Bool) (ws r q : Toks U) → Fit inside us → Fit inside vs → ws ≡ spell (in_row unit_words us) r
+    → ws ≡ spell (in_row unit_words vs) q
     → AreWhole us r → AreWhole vs q → length us ≡ length vs → r ≡ q
 same_rest [] [] inside ws r q f g d e w x l = sym d ∙ e
 same_rest [] (v ∷ vs) inside ws r q f g d e w x l = absurd (omega (arith, l))
@@ -200,10 +220,12 @@ same_rest (u ∷ us) (v ∷ vs) inside ws r q f g d e w x l =
     let same = same_read (is_inside u, spell (in_row unit_words us) r) (is_inside v, spell (in_row unit_words vs) q)
     (sym (front_unit n inside ws u us r (omega arith) f.0 d w.0) ∙ front_unit n inside ws v vs q (omega arith) g.0 e x.0) in
     same_rest us vs (is_inside u) (spell (in_row unit_words us) r) r q f.1
-    (subst (λ (b : Bool). Fit b vs) (sym (ap (λ (y : Bool × Toks U). y.0) same)) g.1) refl (ap (λ (y : Bool × Toks U). y.1) same) w.1 x.1 (omega (arith, l))
+    (subst (λ (b : Bool). Fit b vs) (sym (ap (λ (y : Bool × Toks U). y.0) same)) g.1) refl (ap (λ (y : Bool × Toks U). y.1) same) w.1 x.1
+    (omega (arith, l))
 
 -- the units of a file fit, and so does each front of them
-fit_items : (is : List (ItemOf U)) (more : List UnitU) → AllByRecursion IsGoodItem is → Fit false more → Fit true ((map ItemUnit is ++ Endmodule ∷ []) ++ more)
+fit_items : (is : List (ItemOf U)) (more : List UnitU) → AllByRecursion IsGoodItem is → Fit false more
+    → Fit true ((map ItemUnit is ++ Endmodule ∷ []) ++ more)
 fit_items [] more g f = (tt, f)
 fit_items (i ∷ is) more g f = (g.0, fit_items is more g.1 f)
 
@@ -220,7 +242,8 @@ fit_front inside [] more f = tt
 fit_front inside (u ∷ us) more f = (f.0, fit_front (is_inside u) us more f.1)
 
 pub begin_fit : (us : List UnitU) (ws r : Toks U) → BeginWith us ws r → Fit false us
-begin_fit us ws r b = fit_front false us b.more (subst (λ (vs : List UnitU). Fit false vs) b.parts (fit_modules b.file.modules (all_good b.file.modules b.good)))
+begin_fit us ws r b = fit_front false us b.more (subst (λ (vs : List UnitU). Fit false vs) b.parts
+    (fit_modules b.file.modules (all_good b.file.modules b.good)))
 
 -- a file that begins with good units
 abbrev least : ModuleOf U
@@ -262,17 +285,34 @@ mutual
   inside_file (Header name ps ∷ us) f = absurd f.0
   inside_file (ItemUnit i ∷ us) f =
       let r = inside_file us f.1 in
-      record { items = i ∷ r.items; fine = (f.0, r.fine); modules = r.modules; good = r.good; more = r.more; parts = ap (λ (vs : List UnitU). ItemUnit i ∷ vs) r.parts }
+      record {
+        items = i ∷ r.items;
+        fine = (f.0, r.fine);
+        modules = r.modules;
+        good = r.good;
+        more = r.more;
+        parts = ap
+            (λ (vs : List UnitU). ItemUnit i ∷ vs) r.parts;
+      }
   inside_file (Endmodule ∷ us) f =
       let r = outside_file us f.1 in
-      record { items = []; fine = tt; modules = r.modules; good = all_good r.modules r.good; more = r.more; parts = ap (λ (vs : List UnitU). Endmodule ∷ vs) r.parts }
+      record {
+        items = [];
+        fine = tt;
+        modules = r.modules;
+        good = all_good r.modules r.good;
+        more = r.more;
+        parts = ap
+            (λ (vs : List UnitU). Endmodule ∷ vs) r.parts;
+      }
 
 pub begin_with : (us : List UnitU) (ws r : Toks U) → Fit false us → ws ≡ spell (in_row unit_words us) r → AreWhole us r → BeginWith us ws r
 begin_with us ws r f e w =
     let o = outside_file us f in
     record { file = record { modules = o.modules }; good = o.good; more = o.more; parts = o.parts; spelled = e; whole = w }
 
-unlawful_kind : (kind : TokenKind) (text : List ℕ) (line : U) (rest : Toks U) → (IsLawfulText kind text → ⊥) → after t.Else (record { kind = kind; text = text; line = line } ∷ rest) ≡ None
+unlawful_kind : (kind : TokenKind) (text : List ℕ) (line : U) (rest : Toks U) → (IsLawfulText kind text → ⊥)
+    → after t.Else (record { kind = kind; text = text; line = line } ∷ rest) ≡ None
 unlawful_kind Identifier text line rest h = refl
 unlawful_kind Reserved text line rest h = absurd (h tt)
 unlawful_kind Decimal text line rest h = refl
@@ -320,18 +360,33 @@ unit_less Endmodule ws bad w = tt
 
 units_more : (us : List UnitU) (r bad : Toks U) → IsUnlawful bad → AreWhole us r → AreWhole us (r ++ bad)
 units_more [] r bad h w = tt
-units_more (u ∷ us) r bad h w =
-    (subst (λ (ws : Toks U). IsWhole u ws) (spell_behind (in_row unit_words us) r bad) (unit_more u (spell (in_row unit_words us) r) bad h w.0), units_more us r bad h w.1)
+units_more (u ∷ us) r bad h w = (
+  subst (λ (ws : Toks U). IsWhole u ws) (spell_behind (in_row unit_words us) r bad)
+      (unit_more u (spell (in_row unit_words us) r) bad h w.0),
+  units_more us r bad h w.1,
+)
 
 units_less : (us : List UnitU) (r bad : Toks U) → AreWhole us (r ++ bad) → AreWhole us r
 units_less [] r bad w = tt
-units_less (u ∷ us) r bad w =
-    (unit_less u (spell (in_row unit_words us) r) bad (subst (λ (ws : Toks U). IsWhole u ws) (sym (spell_behind (in_row unit_words us) r bad)) w.0), units_less us r bad w.1)
+units_less (u ∷ us) r bad w = (
+  unit_less u (spell (in_row unit_words us) r) bad (subst (λ (ws : Toks U). IsWhole u ws)
+      (sym (spell_behind (in_row unit_words us) r bad)) w.0),
+  units_less us r bad w.1,
+)
 
 -- the words of good units are lawful
 unit_lawful : (inside : Bool) (u : UnitU) → FitsIn inside u → AreLawfulWords (unit_words u)
-unit_lawful false (Header name ps) f =
-    (tt, (f.0, (tt, lawful_append (with_commas port_words ps) (Fixed t.ParenClose ∷ Fixed t.Semicolon ∷ []) (all_commas_lawful (PortOf U) IsGoodPort port_words port_lawful ps f.2) (tt, (tt, tt)))))
+unit_lawful false (Header name ps) f = (
+  tt,
+  (
+    f.0,
+    (
+      tt,
+      lawful_append (with_commas port_words ps) (Fixed t.ParenClose ∷ Fixed t.Semicolon ∷ [])
+          (all_commas_lawful (PortOf U) IsGoodPort port_words port_lawful ps f.2) (tt, (tt, tt)),
+    ),
+  ),
+)
 unit_lawful false (ItemUnit i) f = absurd f
 unit_lawful false Endmodule f = absurd f
 unit_lawful true (Header name ps) f = absurd f
@@ -340,7 +395,8 @@ unit_lawful true Endmodule f = (tt, tt)
 
 units_lawful : (inside : Bool) (us : List UnitU) → Fit inside us → AreLawfulWords (in_row unit_words us)
 units_lawful inside [] f = tt
-units_lawful inside (u ∷ us) f = lawful_append (unit_words u) (in_row unit_words us) (unit_lawful inside u f.0) (units_lawful (is_inside u) us f.1)
+units_lawful inside (u ∷ us) f = lawful_append (unit_words u) (in_row unit_words us) (unit_lawful inside u f.0)
+    (units_lawful (is_inside u) us f.1)
 
 lawful_tail : (w : Word) (words : List Word) → AreLawfulWords (w ∷ words) → AreLawfulWords words
 lawful_tail (NameWord text) words h = h.1
@@ -359,7 +415,8 @@ rest_of [] = []
 rest_of (token ∷ ws) = ws
 
 -- lawful words at the front lie before the unlawful token
-cut : (words : List Word) (ws bad r : Toks U) → AreLawfulWords words → IsUnlawful bad → ws ++ bad ≡ spell words r → (q : Toks U) × (r ≡ q ++ bad) × (ws ≡ spell words q)
+cut : (words : List Word) (ws bad r : Toks U) → AreLawfulWords words → IsUnlawful bad → ws ++ bad ≡ spell words r → (q : Toks U)
+    × (r ≡ q ++ bad) × (ws ≡ spell words q)
 cut [] ws bad r h l e = (ws, sym e, refl)
 cut (w ∷ words) [] bad r h l e = absurd (no_front w words bad (spell words r) h l e)
 cut (w ∷ words) (token ∷ ws) bad r h l e =
@@ -406,19 +463,23 @@ whole_bare (AlwaysItem a) r = after_bare (after t.Else (forget_all r)) (after t.
 abbrev same : Bool → Bool
 same b = b
 
-behind_whole : (o : Option U) (p : Option U) (r : Toks ℕ) → p ≡ o → (p >>= λ w. Some (true, forget_all r)) ≡ seen same (o >>= λ w. Some (true, r))
+behind_whole : (o : Option U) (p : Option U) (r : Toks ℕ) → p ≡ o → (p >>= λ w. Some (true, forget_all r))
+    ≡ seen same (o >>= λ w. Some (true, r))
 behind_whole None p r e = ap (λ (o : Option U). o >>= λ w. Some (true, forget_all r)) e
 behind_whole (Some w) p r e = ap (λ (o : Option U). o >>= λ w. Some (true, forget_all r)) e
 
 unit_natural : (n : ℕ) (inside : Bool) (ws : Toks ℕ) → unit_at n inside (forget_all ws) ≡ seen same (unit_at n inside ws)
 unit_natural n false ws =
-    over_bind ℕ bare_header same (header_at n ws) (header_at n (forget_all ws)) (λ h. Some (true, h.1)) (λ h. Some (true, h.1)) (header_natural ℕ n ws) (λ h. refl)
+    over_bind ℕ bare_header same (header_at n ws) (header_at n (forget_all ws)) (λ h. Some (true, h.1)) (λ h. Some (true, h.1))
+    (header_natural ℕ n ws) (λ h. refl)
 unit_natural n true ws =
     over_found ℕ (λ (a : ℕ). tt) same (after t.Endmodule ws) (after t.Endmodule (forget_all ws))
-    (item_at n ws >>= λ i. whole_item i.0 i.1 >>= λ w. Some (true, i.1)) (item_at n (forget_all ws) >>= λ i. whole_item i.0 i.1 >>= λ w. Some (true, i.1))
+    (item_at n ws >>= λ i. whole_item i.0 i.1 >>= λ w. Some (true, i.1))
+    (item_at n (forget_all ws) >>= λ i. whole_item i.0 i.1 >>= λ w. Some (true, i.1))
     (λ o. Some (false, o.1)) (λ o. Some (false, o.1))
     (after_natural ℕ t.Endmodule ws)
-    (over_bind ℕ bare_item same (item_at n ws) (item_at n (forget_all ws)) (λ i. whole_item i.0 i.1 >>= λ w. Some (true, i.1)) (λ i. whole_item i.0 i.1 >>= λ w. Some (true, i.1))
+    (over_bind ℕ bare_item same (item_at n ws) (item_at n (forget_all ws)) (λ i. whole_item i.0 i.1 >>= λ w. Some (true, i.1))
+    (λ i. whole_item i.0 i.1 >>= λ w. Some (true, i.1))
     (item_natural ℕ n ws)
     (λ i. behind_whole (whole_item i.0 i.1) (whole_item (bare_item i.0) (forget_all i.1)) i.1 (whole_bare i.0 i.1)))
     (λ o. refl)
@@ -427,11 +488,14 @@ behind_seen : (n left : ℕ) (ws : Toks ℕ) (o : Read ℕ Bool) (p : Read U Boo
     → ((inside : Bool) (us : Toks ℕ) → behind_units n left inside (forget_all us) ≡ forget_all (behind_units n left inside us))
     → read_or p (forget_all ws) (λ u. behind_units n left u.0 u.1) ≡ forget_all (read_or o ws (λ u. behind_units n left u.0 u.1))
 behind_seen n left ws None p e rec = ap (λ (o : Read U Bool). read_or o (forget_all ws) (λ u. behind_units n left u.0 u.1)) e
-behind_seen n left ws (Some x) p e rec = ap (λ (o : Read U Bool). read_or o (forget_all ws) (λ u. behind_units n left u.0 u.1)) e ∙ rec x.0 x.1
+behind_seen n left ws (Some x) p e rec = ap (λ (o : Read U Bool). read_or o (forget_all ws) (λ u. behind_units n left u.0 u.1)) e
+    ∙ rec x.0 x.1
 
-behind_natural : (n left : ℕ) (inside : Bool) (ws : Toks ℕ) → behind_units n left inside (forget_all ws) ≡ forget_all (behind_units n left inside ws)
+behind_natural : (n left : ℕ) (inside : Bool) (ws : Toks ℕ) → behind_units n left inside (forget_all ws)
+    ≡ forget_all (behind_units n left inside ws)
 behind_natural n zero inside ws = refl
-behind_natural n (suc left) inside ws = behind_seen n left ws (unit_at n inside ws) (unit_at n inside (forget_all ws)) (unit_natural n inside ws) (behind_natural n left)
+behind_natural n (suc left) inside ws = behind_seen n left ws (unit_at n inside ws) (unit_at n inside (forget_all ws))
+    (unit_natural n inside ws) (behind_natural n left)
 
 -- the line behind the units that are found in the lawful front of the tokens
 forget_append : (a b : Toks ℕ) → forget_all (a ++ b) ≡ forget_all a ++ forget_all b
@@ -450,13 +514,15 @@ forget_unlawful : (ws : Toks ℕ) → IsUnlawful ws → IsUnlawful (forget_all w
 forget_unlawful [] h = tt
 forget_unlawful (token ∷ ws) h = h
 
-pub rest_short : (front : Toks ℕ) → AreLawful front → length (behind_units (fuel_for (length front)) (fuel_for (length front)) false front) ≤ length front
+pub rest_short : (front : Toks ℕ) → AreLawful front → length (behind_units (fuel_for (length front)) (fuel_for (length front)) false front)
+    ≤ length front
 rest_short front l =
     let n = fuel_for (length front) in
     let rest = behind_units n n false front in
     let same = forget_length front in
     let g = greedy n n false (forget_all front) (forget_lawful front l) (omega (arith, same)) (omega (arith, same)) in
-    let long = ap (λ (us : Toks U). length us) g.spells ∙ length_spelled (in_row unit_words g.units) (behind_units n n false (forget_all front)) in
+    let long = ap (λ (us : Toks U). length us) g.spells ∙ length_spelled (in_row unit_words g.units)
+    (behind_units n n false (forget_all front)) in
     let short = ap (λ (us : Toks U). length us) (behind_natural n n false front) ∙ forget_length rest in
     omega (arith, same, long, short)
 
@@ -486,7 +552,8 @@ marked_drop (suc n) [] = refl
 marked_drop (suc n) (token ∷ ts) = marked_drop n ts
 
 -- one turn of the loop over units
-pub units_turn : (n m l : ℕ) (inside : Bool) (ws : Toks ℕ) (x : Bool × Toks ℕ) → m ≡ suc l → unit_at n inside ws ≡ Some x → behind_units n m inside ws ≡ behind_units n l x.0 x.1
+pub units_turn : (n m l : ℕ) (inside : Bool) (ws : Toks ℕ) (x : Bool × Toks ℕ) → m ≡ suc l → unit_at n inside ws ≡ Some x
+    → behind_units n m inside ws ≡ behind_units n l x.0 x.1
 units_turn n m l inside ws x e h =
     ap (λ (i : ℕ). behind_units n i inside ws) e ∙ ap (λ (o : Read ℕ Bool). read_or o ws (λ u. behind_units n l u.0 u.1)) h
 
@@ -501,15 +568,20 @@ from_place k ts = take (length ts - k) (drop k ts)
 from_drop : (k : ℕ) (ts : List Token) → from_place k ts ≡ drop k ts
 from_drop k ts = ap (λ (n : ℕ). take n (drop k ts)) (sym (length-drop k ts)) ∙ take-length (drop k ts)
 
-pub last_line_of : (ts : List Token) (k line : ℕ) → k ≡ length ts - 1 → line ≡ line_or 1 (all_marked (from_place k ts)) → line ≡ last_line (all_marked ts)
+pub last_line_of : (ts : List Token) (k line : ℕ) → k ≡ length ts - 1 → line ≡ line_or 1 (all_marked (from_place k ts)) → line
+    ≡ last_line (all_marked ts)
 last_line_of ts k line e h =
     let at : k ≡ length (all_marked ts) - 1 = omega (arith, e, marked_length ts) in
-    h ∙ ap (λ (us : List Token). line_or 1 (all_marked us)) (from_drop k ts) ∙ ap (line_or 1) (marked_drop k ts) ∙ ap (λ (i : ℕ). line_or 1 (drop i (all_marked ts))) at
+    h ∙ ap (λ (us : List Token). line_or 1 (all_marked us)) (from_drop k ts) ∙ ap (line_or 1) (marked_drop k ts)
+    ∙ ap (λ (i : ℕ). line_or 1 (drop i (all_marked ts))) at
 
 -- the same as the code finds it
-pub item_line_of : (ts : List Token) (n fuel place line : ℕ) (rest : List Token) → AreLawful (all_marked (take n ts)) → IsUnlawful (all_marked (drop n ts))
-    → fuel ≡ fuel_for (length (take n ts)) → all_marked rest ≡ behind_units fuel fuel false (all_marked (take n ts)) → place ≡ length (take n ts) - length rest
-    → (last : ℕ) → last ≡ last_line (all_marked ts) → line ≡ line_or last (all_marked (from_place place ts)) → IsItemLine (all_marked ts) line
+pub item_line_of : (ts : List Token) (n fuel place line : ℕ) (rest : List Token) → AreLawful (all_marked (take n ts))
+    → IsUnlawful (all_marked (drop n ts))
+    → fuel ≡ fuel_for (length (take n ts)) → all_marked rest ≡ behind_units fuel fuel false (all_marked (take n ts)) → place
+    ≡ length (take n ts) - length rest
+    → (last : ℕ) → last ≡ last_line (all_marked ts) → line ≡ line_or last (all_marked (from_place place ts))
+    → IsItemLine (all_marked ts) line
 item_line_of ts n fuel place line rest l h f b p last e its =
     let front = all_marked (take n ts) in
     let bad = all_marked (drop n ts) in
@@ -521,8 +593,10 @@ item_line_of ts n fuel place line rest l h f b p last e its =
     omega (arith, p, marked_length (take n ts), marked_length rest, ap (λ (us : Toks ℕ). length us) behind) in
     subst (λ (us : Toks ℕ). IsItemLine us line) parts
     (item_line front bad line place l h at
-    (its ∙ ap (λ (i : ℕ). line_or i (all_marked (from_place place ts))) e ∙ ap (λ (us : List Token). first_line (all_marked ts) (all_marked us)) (from_drop place ts)
-    ∙ ap (λ (us : Toks ℕ). first_line (all_marked ts) us) (marked_drop place ts) ∙ ap (λ (us : Toks ℕ). first_line us (drop place us)) (sym parts)))
+    (its ∙ ap (λ (i : ℕ). line_or i (all_marked (from_place place ts))) e
+    ∙ ap (λ (us : List Token). first_line (all_marked ts) (all_marked us)) (from_drop place ts)
+    ∙ ap (λ (us : Toks ℕ). first_line (all_marked ts) us) (marked_drop place ts)
+    ∙ ap (λ (us : Toks ℕ). first_line us (drop place us)) (sym parts)))
 
 antisym : (a b : ℕ) → a ≤ b → b ≤ a → a ≡ b
 antisym a b h k = omega (arith, h, k)
@@ -533,5 +607,6 @@ one_item_line ws a b x y =
     let vs = y.longest.begins in
     let many = antisym (length x.units) (length y.units) (y.longest.longest x.units x.rest us) (x.longest.longest y.units y.rest vs) in
     let same = same_rest x.units y.units false (forget_all ws) x.rest y.rest
-    (begin_fit x.units (forget_all ws) x.rest us) (begin_fit y.units (forget_all ws) y.rest vs) us.spelled vs.spelled us.whole vs.whole many in
+    (begin_fit x.units (forget_all ws) x.rest us) (begin_fit y.units (forget_all ws) y.rest vs) us.spelled vs.spelled us.whole vs.whole many
+    in
     x.its_line ∙ ap (λ (us : Toks U). first_line ws (drop (length ws - length us) ws)) same ∙ sym y.its_line

@@ -1,12 +1,14 @@
 -- What is read is of good shape and spelled so: statements.
-use Rattle.std.proofs.Common.{◌≡◌, ◌≢◌, ℕ, zero, suc, Bool, true, false, Option, None, Some, List, [], ◌∷◌, ◌++◌, refl, sym, ap, ◌∙◌, subst, append_assoc, append-nil}
+use Rattle.std.proofs.Common.{◌≡◌, ◌≢◌, ℕ, zero, suc, Bool, true, false, Option, None, Some, List, [], ◌∷◌, ◌++◌, refl, sym, ap, ◌∙◌, subst}
+use Rattle.std.proofs.Common.{append_assoc, append-nil}
 use Rattle.vlog_tree.specs.declared.terminal.Terminal.{Terminal}
 use Rattle.vlog_tree.specs.declared.terminal.Terminal.TheVariants as t
 use Rattle.vlog_tree.specs.declared.stmt.AssignOp.{AssignOp}
 use Rattle.vlog_tree.specs.Words.{Word, Fixed}
 use Rattle.vlog_tree.specs.Tree.{TargetOf, StmtOf, BodyOf, ElseOf, NoElse, Else, stmts_of}
 use Rattle.vlog_tree.specs.Spelling.{assign_terminal, target_words, stmt_words, body_words, else_words, stmts_words}
-use Rattle.vlog_tree.specs.Shape.{IsGoodTarget, is_open, is_open_body, is_open_else, IsShut, IsGoodStmt, IsGoodBody, IsGoodElse, AreGoodStmts}
+use Rattle.vlog_tree.specs.Shape.{IsGoodTarget, is_open, is_open_body, is_open_else, IsShut, IsGoodStmt, IsGoodBody, IsGoodElse}
+use Rattle.vlog_tree.specs.Shape.{AreGoodStmts}
 use Rattle.vlog_expr.specs.Marks.{Toks, spell, AreLawful, after}
 use Rattle.vlog_expr.specs.Bare.{forget_all}
 use Rattle.vlog_expr.specs.Reader.{◌>>=◌, found_or, expr_at, target_at}
@@ -28,7 +30,8 @@ pub sure : {X : Type 0} {P : X → Type 0} (x : X) → P x → Sure (Some x) P
 sure x p = record { holds = p }
 
 -- what is read next, behind what was read
-pub next : {X Y : Type 0} {P : X → Type 0} {Q : Y → Type 0} {o : Option X} {f : X → Option Y} → Sure o P → ((x : X) → P x → Sure (f x) Q) → Sure (o >>= f) Q
+pub next : {X Y : Type 0} {P : X → Type 0} {Q : Y → Type 0} {o : Option X} {f : X → Option Y} → Sure o P → ((x : X) → P x → Sure (f x) Q)
+    → Sure (o >>= f) Q
 next {P = P} {Q = Q} {o = o} {f = f} h k = record { holds = bind P Q o f h.holds (λ x p. (k x p).holds) }
 
 -- one thing, or else another
@@ -76,7 +79,8 @@ module _ (A : Type 0) where
   lawful_behind [] rest h = h
   lawful_behind (w ∷ words) rest h = lawful_behind words rest h.1
 
-  from_spelled : (ws rest : Toks A) (words : List Word) → AreLawful ws → forget_all ws ≡ spell words (forget_all rest) → From A ws words rest
+  from_spelled : (ws rest : Toks A) (words : List Word) → AreLawful ws → forget_all ws ≡ spell words (forget_all rest)
+      → From A ws words rest
   from_spelled ws rest words h e = record {
     spells = e;
     lawful = lawful_back rest (lawful_behind words (forget_all rest) (subst (λ (us : Toks U). AreLawful us) e (lawful_forget ws h)));
@@ -126,13 +130,15 @@ module _ (A : Type 0) where
 
   words_snoc : (xs : List (StmtOf A)) (s : StmtOf A) → stmts_words (stmts_of xs) ++ stmt_words s ≡ stmts_words (stmts_of (xs ++ s ∷ []))
   words_snoc [] s = sym (append-nil (stmt_words s))
-  words_snoc (x ∷ xs) s = append_assoc (stmt_words x) (stmts_words (stmts_of xs)) (stmt_words s) ∙ ap (λ (ws : List Word). stmt_words x ++ ws) (words_snoc xs s)
+  words_snoc (x ∷ xs) s = append_assoc (stmt_words x) (stmts_words (stmts_of xs)) (stmt_words s)
+      ∙ ap (λ (ws : List Word). stmt_words x ++ ws) (words_snoc xs s)
 
   good_snoc : (xs : List (StmtOf A)) (s : StmtOf A) → AreGoodStmts (stmts_of xs) → IsGoodStmt s → AreGoodStmts (stmts_of (xs ++ s ∷ []))
   good_snoc [] s g h = (h, tt)
   good_snoc (x ∷ xs) s g h = (g.0, good_snoc xs s g.1 h)
 
-  stmts_snoc : (w mid rest : Toks A) (xs : List (StmtOf A)) (s : StmtOf A) → AtFront w (xs, mid) → AtStmt mid (s, rest) → AtFront w (xs ++ s ∷ [], rest)
+  stmts_snoc : (w mid rest : Toks A) (xs : List (StmtOf A)) (s : StmtOf A) → AtFront w (xs, mid) → AtStmt mid (s, rest)
+      → AtFront w (xs ++ s ∷ [], rest)
   stmts_snoc w mid rest xs s g h = (
     good_snoc xs s g.0 h.0,
     again A w rest (stmts_words (stmts_of xs) ++ stmt_words s) (stmts_words (stmts_of (xs ++ s ∷ []))) (words_snoc xs s) (g.1 ▹ h.2),
@@ -173,7 +179,8 @@ module _ (A : Type 0) where
 
     pub body_found : (n : ℕ) (ws : Toks A) → AreLawful ws → Sure (body_at n ws) (AtBody ws)
     body_found zero ws h = nothing
-    body_found (suc n) ws h = either (after_found t.Semicolon ws h) (next (stmt_found n ws h) (λ s g. sure _ g)) (λ o f. sure _ (tt, false_true, f))
+    body_found (suc n) ws h = either (after_found t.Semicolon ws h) (next (stmt_found n ws h) (λ s g. sure _ g))
+        (λ o f. sure _ (tt, false_true, f))
 
     else_found : (n : ℕ) (ws : Toks A) → AreLawful ws → Sure (else_at n ws) (AtElse ws)
     else_found zero ws h = nothing
@@ -189,7 +196,8 @@ module _ (A : Type 0) where
         (λ o f. sure _ (g.0, g.1 ▹ f))
 
   body_cases : (ws : Toks A) (o : Option (BodyOf A × Toks A)) → Sure o (AtBody ws)
-      → Holds o (λ x. IsGoodBody x.0 × (is_open_body x.0 ≡ true → after t.Else x.1 ≡ None) × (forget_all ws ≡ spell (body_words x.0) (forget_all x.1)))
+      → Holds o (λ x. IsGoodBody x.0 × (is_open_body x.0 ≡ true → after t.Else x.1 ≡ None)
+      × (forget_all ws ≡ spell (body_words x.0) (forget_all x.1)))
   body_cases ws None h = tt
   body_cases ws (Some x) h = (h.holds.0, h.holds.1, h.holds.2.spells)
 

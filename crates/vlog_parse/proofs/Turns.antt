@@ -16,10 +16,12 @@ stmts_turn {A} m n front ws x e h k =
     ∙ ap (λ (o : Read A (StmtOf A)). o >>= λ s. stmts_at n (front ++ s.0 ∷ []) s.1) k
 
 pub items_turn : {A : Type 0} (fuel m n : ℕ) (front : List (ItemOf A)) (ws : Toks A) (x : ItemOf A × Toks A)
-    → m ≡ suc n → after t.Endmodule ws ≡ None → item_at fuel ws ≡ Some x → items_at fuel m front ws ≡ items_at fuel n (front ++ x.0 ∷ []) x.1
+    → m ≡ suc n → after t.Endmodule ws ≡ None → item_at fuel ws ≡ Some x → items_at fuel m front ws
+    ≡ items_at fuel n (front ++ x.0 ∷ []) x.1
 items_turn {A} fuel m n front ws x e h k =
     ap (λ (l : ℕ). items_at fuel l front ws) e
-    ∙ ap (λ (o : Option (A × Toks A)). found_or o (item_at fuel ws >>= λ i. items_at fuel n (front ++ i.0 ∷ []) i.1) (λ o. Some (front, o.1))) h
+    ∙ ap (λ (o : Option (A × Toks A)). found_or o (item_at fuel ws >>= λ i. items_at fuel n (front ++ i.0 ∷ []) i.1)
+    (λ o. Some (front, o.1))) h
     ∙ ap (λ (o : Read A (ItemOf A)). o >>= λ i. items_at fuel n (front ++ i.0 ∷ []) i.1) k
 
 pub modules_turn : {A : Type 0} (fuel m n : ℕ) (front : List (ModuleOf A)) (ws : Toks A) (x : ModuleOf A × Toks A)

@@ -12,19 +12,22 @@ U = Unit {0}
 
 row_append : (us vs : List (UnitOf U)) → in_row unit_words (us ++ vs) ≡ in_row unit_words us ++ in_row unit_words vs
 row_append [] vs = refl
-row_append (u ∷ us) vs = ap (λ (ws : List Word). unit_words u ++ ws) (row_append us vs) ∙ sym (append_assoc (unit_words u) (in_row unit_words us) (in_row unit_words vs))
+row_append (u ∷ us) vs = ap (λ (ws : List Word). unit_words u ++ ws) (row_append us vs)
+    ∙ sym (append_assoc (unit_words u) (in_row unit_words us) (in_row unit_words vs))
 
 row_items : (is : List (ItemOf U)) → in_row unit_words (map ItemUnit is) ≡ in_row item_words is
 row_items [] = refl
 row_items (i ∷ is) = ap (λ (ws : List Word). item_words i ++ ws) (row_items is)
 
-behind_items : (is : List (ItemOf U)) → in_row unit_words (map ItemUnit is ++ Endmodule ∷ []) ≡ in_row item_words is ++ Fixed t.Endmodule ∷ []
+behind_items : (is : List (ItemOf U)) → in_row unit_words (map ItemUnit is ++ Endmodule ∷ []) ≡ in_row item_words is ++ Fixed t.Endmodule
+    ∷ []
 behind_items is = row_append (map ItemUnit is) (Endmodule ∷ []) ∙ ap (λ (ws : List Word). ws ++ Fixed t.Endmodule ∷ []) (row_items is)
 
 module_spelled : (m : ModuleOf U) → in_row unit_words (module_units m) ≡ module_words m
 module_spelled m =
     ap (λ (ws : List Word). Fixed t.Module ∷ NameWord m.name ∷ Fixed t.ParenOpen ∷ ws)
-    (append_assoc (with_commas port_words m.ports) (Fixed t.ParenClose ∷ Fixed t.Semicolon ∷ []) (in_row unit_words (map ItemUnit m.items ++ Endmodule ∷ []))
+    (append_assoc (with_commas port_words m.ports) (Fixed t.ParenClose ∷ Fixed t.Semicolon ∷ [])
+    (in_row unit_words (map ItemUnit m.items ++ Endmodule ∷ []))
     ∙ ap (λ (ws : List Word). with_commas port_words m.ports ++ Fixed t.ParenClose ∷ Fixed t.Semicolon ∷ ws) (behind_items m.items))
 
 modules_spelled : (ms : List (ModuleOf U)) → in_row unit_words (flat_map module_units ms) ≡ in_row module_words ms

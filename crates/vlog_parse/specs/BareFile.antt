@@ -1,6 +1,8 @@
 -- Statements, items and files without their lines.
-use Rattle.vlog_tree.specs.Tree.{StmtOf, BodyOf, ElseOf, StmtsOf, RangeOf, PortHeadOf, PortOf, DrivenWireOf, RegTailOf, Reg1Of, AssignOf, EventOf, ItemOf, ModuleOf, FileOf}
-use Rattle.vlog_tree.specs.Lines.{no_mark, map_stmt, map_body, map_else, map_stmts, map_range, map_head, map_port, map_wire, map_tail, map_reg, map_assign, map_event, map_item, map_module, map_file}
+use Rattle.vlog_tree.specs.Tree.{StmtOf, BodyOf, ElseOf, StmtsOf, RangeOf, PortHeadOf, PortOf, DrivenWireOf, RegTailOf, Reg1Of, AssignOf}
+use Rattle.vlog_tree.specs.Tree.{EventOf, ItemOf, ModuleOf, FileOf}
+use Rattle.vlog_tree.specs.Lines.{no_mark, map_stmt, map_body, map_else, map_stmts, map_range, map_head, map_port, map_wire, map_tail}
+use Rattle.vlog_tree.specs.Lines.{map_reg, map_assign, map_event, map_item, map_module, map_file}
 
 abbrev pub bare_stmt : {A : Type 0} → StmtOf A → StmtOf (Unit {0})
 bare_stmt x = map_stmt no_mark x

@@ -1,5 +1,6 @@
 -- The three limits of a design text (this project's profile): what is open, tokens without a cut, and `else` in one `always`.
-use Rattle.std.specs.Prelude.{◌≡◌, if◌then◌else◌, ℕ, zero, suc, ◌≤◌, ◌<◌, leb, Bool, true, false, ◌&&◌, ◌||◌, ◌⊎◌, List, [], ◌∷◌, ◌++◌, All, codes, count_by, length}
+use Rattle.std.specs.Prelude.{◌≡◌, if◌then◌else◌, ℕ, zero, suc, ◌≤◌, ◌<◌, leb, Bool, true, false, ◌&&◌, ◌||◌, ◌⊎◌, List, [], ◌∷◌, ◌++◌, All}
+use Rattle.std.specs.Prelude.{codes, count_by, length}
 use Rattle.std.specs.Str.{bytes_eq}
 use Rattle.vlog_lex.specs.declared.token.TokenKind.TheVariants.{Reserved, Other}
 use Rattle.vlog_expr.specs.Marks.{TokenOf, Toks, same_kind}
@@ -12,11 +13,13 @@ is_symbol text x = same_kind x.kind Other && bytes_eq x.text text
 
 -- `(`, `[`, `{`, `begin`, `case`
 abbrev pub opens : {A : Type 0} → TokenOf A → Bool
-opens x = is_symbol (codes "(") x || is_symbol (codes "[") x || is_symbol (codes "{") x || is_word (codes "begin") x || is_word (codes "case") x
+opens x = is_symbol (codes "(") x || is_symbol (codes "[") x || is_symbol (codes "{") x || is_word (codes "begin") x
+    || is_word (codes "case") x
 
 -- `)`, `]`, `}`, `end`, `endcase`
 abbrev pub closes : {A : Type 0} → TokenOf A → Bool
-closes x = is_symbol (codes ")") x || is_symbol (codes "]") x || is_symbol (codes "}") x || is_word (codes "end") x || is_word (codes "endcase") x
+closes x = is_symbol (codes ")") x || is_symbol (codes "]") x || is_symbol (codes "}") x || is_word (codes "end") x
+    || is_word (codes "endcase") x
 
 abbrev pub one_less : ℕ → ℕ
 one_less zero = zero
@@ -52,11 +55,13 @@ IsOpenTooDeep before x = 32 < open_at (open_behind 0 before) x
 
 -- 1,024 tokens without a cut stand before the token
 abbrev pub EndsLongRun : {A : Type 0} → Toks A → Type 0
-EndsLongRun {A} before = (front : Toks A) × (run : Toks A) × (before ≡ front ++ run) × (length run ≡ 1024) × HaveNoCut (open_behind 0 front) run
+EndsLongRun {A} before = (front : Toks A) × (run : Toks A) × (before ≡ front ++ run) × (length run ≡ 1024)
+    × HaveNoCut (open_behind 0 front) run
 
 -- the token is an `else`, and 1,024 stand before it without an `always` between them
 abbrev pub IsElseTooMany : {A : Type 0} → Toks A → TokenOf A → Type 0
-IsElseTooMany {A} before x = (is_else x ≡ true) × ((front : Toks A) × (run : Toks A) × (before ≡ front ++ run) × All IsNoAlways run × (1024 ≤ count_by is_else run))
+IsElseTooMany {A} before x = (is_else x ≡ true) × ((front : Toks A) × (run : Toks A) × (before ≡ front ++ run) × All IsNoAlways run
+    × (1024 ≤ count_by is_else run))
 
 -- a limit is passed at the token behind these
 abbrev pub Passes : {A : Type 0} → Toks A → TokenOf A → Type 0

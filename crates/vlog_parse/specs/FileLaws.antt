@@ -12,23 +12,28 @@ use Rattle.vlog_parse.specs.BareFile.{bare_body, bare_file}
 use Rattle.vlog_parse.specs.StmtReader.{body_at}
 use Rattle.vlog_parse.specs.FileReader.{file_at}
 
--- the tokens of a body of good shape, before tokens with which it can't go on, are read as it and these: a body, which no `else` follows that would belong to an `if` in it
+-- the tokens of a body of good shape, before tokens with which it can't go on, are read as it and these: a body, which no `else` follows
+-- that would belong to an `if` in it
 abbrev pub BodiesAreRead : Type 0
 BodiesAreRead =
-    (b : BodyOf (Unit {0})) (rest : Toks (Unit {0})) (fuel : ℕ) → IsGoodBody b → (is_open_body b ≡ true → after t.Else rest ≡ None) → fuel_for (length (body_words b)) ≤ fuel
+    (b : BodyOf (Unit {0})) (rest : Toks (Unit {0})) (fuel : ℕ) → IsGoodBody b → (is_open_body b ≡ true → after t.Else rest ≡ None)
+    → fuel_for (length (body_words b)) ≤ fuel
     → body_at fuel (spell (body_words b) rest) ≡ Some (b, rest)
 
 -- the tokens of a file of good shape are read as it
 abbrev pub FilesAreRead : Type 0
-FilesAreRead = (f : FileOf (Unit {0})) (fuel : ℕ) → IsGood f → fuel_for (length (file_words f)) ≤ fuel → file_at fuel (spell (file_words f) []) ≡ Some f
+FilesAreRead = (f : FileOf (Unit {0})) (fuel : ℕ) → IsGood f → fuel_for (length (file_words f)) ≤ fuel
+    → file_at fuel (spell (file_words f) []) ≡ Some f
 
 abbrev pub ReadBodiesAreSpelled : Type 0 → Type 0
 ReadBodiesAreSpelled A =
     (fuel : ℕ) (ws : Toks A) → AreLawful ws
-    → Holds (body_at fuel ws) (λ x. IsGoodBody x.0 × (is_open_body x.0 ≡ true → after t.Else x.1 ≡ None) × (forget_all ws ≡ spell (body_words x.0) (forget_all x.1)))
+    → Holds (body_at fuel ws) (λ x. IsGoodBody x.0 × (is_open_body x.0 ≡ true → after t.Else x.1 ≡ None)
+    × (forget_all ws ≡ spell (body_words x.0) (forget_all x.1)))
 
 abbrev pub ReadFilesAreSpelled : Type 0 → Type 0
-ReadFilesAreSpelled A = (fuel : ℕ) (ws : Toks A) → AreLawful ws → Holds (file_at fuel ws) (λ f. IsGood f × (forget_all ws ≡ spell (file_words f) []))
+ReadFilesAreSpelled A = (fuel : ℕ) (ws : Toks A) → AreLawful ws → Holds (file_at fuel ws)
+    (λ f. IsGood f × (forget_all ws ≡ spell (file_words f) []))
 
 abbrev pub BodyLinesDontCount : Type 0 → Type 0
 BodyLinesDontCount A = (fuel : ℕ) (ws : Toks A) → body_at fuel (forget_all ws) ≡ seen bare_body (body_at fuel ws)

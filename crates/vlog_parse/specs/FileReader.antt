@@ -4,14 +4,16 @@ use Rattle.vlog_tree.specs.declared.module.Direction.{Direction}
 use Rattle.vlog_tree.specs.declared.module.Direction.TheVariants as direction
 use Rattle.vlog_tree.specs.declared.module.NetKind.TheVariants as kind
 use Rattle.vlog_tree.specs.declared.terminal.Terminal.TheVariants as t
-use Rattle.vlog_tree.specs.Tree.{IdentOf, ExprOf, RangeOf, PortHeadOf, PortOf, DrivenWireOf, InitTail, Reg1Of, AssignOf, EventOf, PosedgeEvent, ItemOf, WiresItem, DrivenWiresItem, RegsItem, AssignItem, AlwaysItem, ModuleOf, FileOf}
+use Rattle.vlog_tree.specs.Tree.{IdentOf, ExprOf, RangeOf, PortHeadOf, PortOf, DrivenWireOf, InitTail, Reg1Of, AssignOf, EventOf}
+use Rattle.vlog_tree.specs.Tree.{PosedgeEvent, ItemOf, WiresItem, DrivenWiresItem, RegsItem, AssignItem, AlwaysItem, ModuleOf, FileOf}
 use Rattle.vlog_expr.specs.Marks.{Toks, after, name_front}
 use Rattle.vlog_expr.specs.Reader.{◌>>=◌, found_or, Read, expr_at, target_at, fuel_for, more_at, some_at}
 use Rattle.vlog_parse.specs.StmtReader.{body_at}
 
 -- expr ":" expr "]"
 abbrev pub range_at : {A : Type 0} → ℕ → Toks A → Read A (RangeOf A)
-range_at n ws = expr_at n ws >>= λ a. after t.Colon a.1 >>= λ o. expr_at n o.1 >>= λ b. after t.BracketClose b.1 >>= λ c. Some (record { first = a.0; second = b.0 }, c.1)
+range_at n ws = expr_at n ws >>= λ a. after t.Colon a.1 >>= λ o. expr_at n o.1 >>= λ b. after t.BracketClose b.1
+    >>= λ c. Some (record { first = a.0; second = b.0 }, c.1)
 
 -- [range]
 abbrev pub range_front : {A : Type 0} → ℕ → Toks A → Read A (Option (RangeOf A))
@@ -28,7 +30,8 @@ input_at ws = found_or (after t.Wire ws) (Some (direction.Input false, ws)) (λ 
 -- ["wire"|"reg"] behind "output"
 abbrev pub output_at : {A : Type 0} → Toks A → Read A Direction
 output_at ws =
-    found_or (after t.Wire ws) (found_or (after t.Reg ws) (Some (direction.Output None, ws)) (λ o. Some (direction.Output (Some kind.Reg), o.1))) (λ o. Some (direction.Output (Some kind.Wire), o.1))
+    found_or (after t.Wire ws) (found_or (after t.Reg ws) (Some (direction.Output None, ws))
+    (λ o. Some (direction.Output (Some kind.Reg), o.1))) (λ o. Some (direction.Output (Some kind.Wire), o.1))
 
 -- "input" ["wire"] | "output" ["wire"|"reg"]
 abbrev pub direction_front : {A : Type 0} → Toks A → Read A Direction
@@ -36,11 +39,13 @@ direction_front ws = found_or (after t.Input ws) (after t.Output ws >>= λ o. ou
 
 -- [ direction [range] ]
 abbrev pub head_front : {A : Type 0} → ℕ → Toks A → Read A (Option (PortHeadOf A))
-head_front n ws = found_or (direction_front ws) (Some (None, ws)) (λ d. range_front n d.1 >>= λ r. Some (Some (record { direction = d.0; range = r.0 }), r.1))
+head_front n ws = found_or (direction_front ws) (Some (None, ws)) (λ d. range_front n d.1
+    >>= λ r. Some (Some (record { direction = d.0; range = r.0 }), r.1))
 
 -- [ direction [range] ] id [ "=" expr ]
 abbrev pub port_at : {A : Type 0} → ℕ → Toks A → Read A (PortOf A)
-port_at n ws = head_front n ws >>= λ h. name_front h.1 >>= λ id. init_front n id.1 >>= λ i. Some (record { head = h.0; id = id.0; init = i.0 }, i.1)
+port_at n ws = head_front n ws >>= λ h. name_front h.1 >>= λ id. init_front n id.1
+    >>= λ i. Some (record { head = h.0; id = id.0; init = i.0 }, i.1)
 
 abbrev pub given_head : {A B : Type 0} → Option (PortHeadOf A) → B → Option B
 given_head None x = None
@@ -53,7 +58,8 @@ first_port_at n ws = port_at n ws >>= λ p. given_head p.0.head p
 -- [ port { "," port } ] ")", where the first port has a direction
 abbrev pub ports_at : {A : Type 0} → ℕ → Toks A → Read A (List (PortOf A))
 ports_at n ws =
-    found_or (after t.ParenClose ws) (first_port_at n ws >>= λ p. more_at (port_at n) n (p.0 ∷ []) p.1 >>= λ ps. after t.ParenClose ps.1 >>= λ c. Some (ps.0, c.1)) (λ o. Some ([], o.1))
+    found_or (after t.ParenClose ws) (first_port_at n ws >>= λ p. more_at (port_at n) n (p.0 ∷ []) p.1 >>= λ ps. after t.ParenClose ps.1
+    >>= λ c. Some (ps.0, c.1)) (λ o. Some ([], o.1))
 
 -- id "=" expr
 abbrev pub wire_at : {A : Type 0} → ℕ → Toks A → Read A (DrivenWireOf A)
@@ -62,7 +68,8 @@ wire_at n ws = name_front ws >>= λ id. after t.Equals id.1 >>= λ o. expr_at n 
 -- id [ "=" expr ]
 abbrev pub reg_at : {A : Type 0} → ℕ → Toks A → Read A (Reg1Of A)
 reg_at n ws =
-    name_front ws >>= λ id. found_or (after t.Equals id.1) (Some (record { id = id.0; tail = None }, id.1)) (λ o. expr_at n o.1 >>= λ e. Some (record { id = id.0; tail = Some (InitTail e.0) }, e.1))
+    name_front ws >>= λ id. found_or (after t.Equals id.1) (Some (record { id = id.0; tail = None }, id.1))
+    (λ o. expr_at n o.1 >>= λ e. Some (record { id = id.0; tail = Some (InitTail e.0) }, e.1))
 
 -- target "=" expr
 abbrev pub assign_at : {A : Type 0} → ℕ → Toks A → Read A (AssignOf A)
@@ -75,11 +82,13 @@ names_at n range id ws = more_at name_front n (id ∷ []) ws >>= λ ids. after t
 -- expr { "," id "=" expr } ";" behind the first name and its "="
 abbrev pub driven_at : {A : Type 0} → ℕ → Option (RangeOf A) → IdentOf A → Toks A → Read A (ItemOf A)
 driven_at n range id ws =
-    expr_at n ws >>= λ e. more_at (wire_at n) n (record { id = id; value = e.0 } ∷ []) e.1 >>= λ xs. after t.Semicolon xs.1 >>= λ c. Some (DrivenWiresItem range xs.0, c.1)
+    expr_at n ws >>= λ e. more_at (wire_at n) n (record { id = id; value = e.0 } ∷ []) e.1 >>= λ xs. after t.Semicolon xs.1
+    >>= λ c. Some (DrivenWiresItem range xs.0, c.1)
 
 -- behind "wire"
 abbrev pub wires_at : {A : Type 0} → ℕ → Toks A → Read A (ItemOf A)
-wires_at n ws = range_front n ws >>= λ r. name_front r.1 >>= λ id. found_or (after t.Equals id.1) (names_at n r.0 id.0 id.1) (λ o. driven_at n r.0 id.0 o.1)
+wires_at n ws = range_front n ws >>= λ r. name_front r.1 >>= λ id. found_or (after t.Equals id.1) (names_at n r.0 id.0 id.1)
+    (λ o. driven_at n r.0 id.0 o.1)
 
 -- behind "reg"
 abbrev pub regs_at : {A : Type 0} → ℕ → Toks A → Read A (ItemOf A)
@@ -91,7 +100,8 @@ assigns_at n ws = some_at (assign_at n) n ws >>= λ xs. after t.Semicolon xs.1 >
 
 -- "@" "(" "posedge" id ")"
 abbrev pub event_at : {A : Type 0} → Toks A → Read A (EventOf A)
-event_at ws = after t.At ws >>= λ a. after t.ParenOpen a.1 >>= λ o. after t.Posedge o.1 >>= λ p. name_front p.1 >>= λ id. after t.ParenClose id.1 >>= λ c. Some (PosedgeEvent id.0, c.1)
+event_at ws = after t.At ws >>= λ a. after t.ParenOpen a.1 >>= λ o. after t.Posedge o.1 >>= λ p. name_front p.1
+    >>= λ id. after t.ParenClose id.1 >>= λ c. Some (PosedgeEvent id.0, c.1)
 
 -- behind "always", whose line this is
 abbrev pub always_at : {A : Type 0} → ℕ → A → Toks A → Read A (ItemOf A)
@@ -99,16 +109,19 @@ always_at n line ws = event_at ws >>= λ v. body_at n v.1 >>= λ b. Some (Always
 
 abbrev pub item_at : {A : Type 0} → ℕ → Toks A → Read A (ItemOf A)
 item_at n ws =
-    found_or (after t.Wire ws) (found_or (after t.Reg ws) (found_or (after t.Assign ws) (after t.Always ws >>= λ o. always_at n o.0 o.1) (λ o. assigns_at n o.1)) (λ o. regs_at n o.1)) (λ o. wires_at n o.1)
+    found_or (after t.Wire ws) (found_or (after t.Reg ws) (found_or (after t.Assign ws) (after t.Always ws >>= λ o. always_at n o.0 o.1)
+    (λ o. assigns_at n o.1)) (λ o. regs_at n o.1)) (λ o. wires_at n o.1)
 
 -- { item } "endmodule" behind the items so far; n is the fuel of each
 abbrev pub items_at : {A : Type 0} → ℕ → ℕ → List (ItemOf A) → Toks A → Read A (List (ItemOf A))
 items_at n zero front ws = None
-items_at n (suc left) front ws = found_or (after t.Endmodule ws) (item_at n ws >>= λ i. items_at n left (front ++ i.0 ∷ []) i.1) (λ o. Some (front, o.1))
+items_at n (suc left) front ws = found_or (after t.Endmodule ws) (item_at n ws >>= λ i. items_at n left (front ++ i.0 ∷ []) i.1)
+    (λ o. Some (front, o.1))
 
 -- "module" id "(" [ port { "," port } ] ")" ";"
 abbrev pub header_at : {A : Type 0} → ℕ → Toks A → Read A (List ℕ × List (PortOf A))
-header_at n ws = after t.Module ws >>= λ m. name_front m.1 >>= λ id. after t.ParenOpen id.1 >>= λ o. ports_at n o.1 >>= λ ps. after t.Semicolon ps.1 >>= λ c. Some ((id.0.name, ps.0), c.1)
+header_at n ws = after t.Module ws >>= λ m. name_front m.1 >>= λ id. after t.ParenOpen id.1 >>= λ o. ports_at n o.1
+    >>= λ ps. after t.Semicolon ps.1 >>= λ c. Some ((id.0.name, ps.0), c.1)
 
 -- a header, items and "endmodule"
 abbrev pub module_at : {A : Type 0} → ℕ → Toks A → Read A (ModuleOf A)

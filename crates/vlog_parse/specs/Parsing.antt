@@ -18,7 +18,8 @@ IsFileOf tokens f = IsGood f × (toks f ≡ without_lines tokens)
 -- a limit is passed, first at a token of this line; else no file of good shape has these tokens; want of memory is free
 abbrev pub Refuses : List Token → ParseError → Type 0
 Refuses tokens (Deep line) = IsDeep (all_marked tokens) line
-Refuses tokens (Item line) = IsItemLine (all_marked tokens) line × IsShallow (all_marked tokens) × ((f : FileOf (Unit {0})) → ¬ IsFileOf tokens f)
+Refuses tokens (Item line) = IsItemLine (all_marked tokens) line × IsShallow (all_marked tokens)
+    × ((f : FileOf (Unit {0})) → ¬ IsFileOf tokens f)
 Refuses tokens Memory = Unit {0}
 
 -- no two files of good shape have the same tokens

@@ -9,22 +9,26 @@ use Rattle.vlog_expr.specs.Reader.{◌>>=◌, found_or, Read, expr_at, target_at
 
 -- "=" | "<="
 abbrev pub assign_op_at : {A : Type 0} → Toks A → Read A AssignOp
-assign_op_at ws = found_or (after t.Equals ws) (after t.LessEquals ws >>= λ o. Some (assign.Nonblocking, o.1)) (λ o. Some (assign.Blocking, o.1))
+assign_op_at ws = found_or (after t.Equals ws) (after t.LessEquals ws >>= λ o. Some (assign.Nonblocking, o.1))
+    (λ o. Some (assign.Blocking, o.1))
 
 -- target ( "=" | "<=" ) expr ";"
 abbrev pub assign_stmt_at : {A : Type 0} → ℕ → Toks A → Read A (StmtOf A)
-assign_stmt_at n ws = target_at n ws >>= λ x. assign_op_at x.1 >>= λ o. expr_at n o.1 >>= λ e. after t.Semicolon e.1 >>= λ c. Some (AssignStmt x.0 o.0 e.0, c.1)
+assign_stmt_at n ws = target_at n ws >>= λ x. assign_op_at x.1 >>= λ o. expr_at n o.1 >>= λ e. after t.Semicolon e.1
+    >>= λ c. Some (AssignStmt x.0 o.0 e.0, c.1)
 
 abbrev mutual
   pub stmt_at : {A : Type 0} → ℕ → Toks A → Read A (StmtOf A)
   stmt_at zero ws = None
   stmt_at (suc n) ws =
-      found_or (after t.Begin ws) (found_or (after t.If ws) (assign_stmt_at n ws) (λ o. if_at n o.1)) (λ o. stmts_at n [] o.1 >>= λ ss. Some (BeginStmt (stmts_of ss.0), ss.1))
+      found_or (after t.Begin ws) (found_or (after t.If ws) (assign_stmt_at n ws) (λ o. if_at n o.1))
+      (λ o. stmts_at n [] o.1 >>= λ ss. Some (BeginStmt (stmts_of ss.0), ss.1))
 
   -- "(" expr ")" body [ "else" body ]
   pub if_at : {A : Type 0} → ℕ → Toks A → Read A (StmtOf A)
   if_at zero ws = None
-  if_at (suc n) ws = after t.ParenOpen ws >>= λ o. expr_at n o.1 >>= λ e. after t.ParenClose e.1 >>= λ c. body_at n c.1 >>= λ b. else_at n b.1 >>= λ x. Some (IfStmt e.0 b.0 x.0, x.1)
+  if_at (suc n) ws = after t.ParenOpen ws >>= λ o. expr_at n o.1 >>= λ e. after t.ParenClose e.1 >>= λ c. body_at n c.1
+      >>= λ b. else_at n b.1 >>= λ x. Some (IfStmt e.0 b.0 x.0, x.1)
 
   -- stmt | ";"
   pub body_at : {A : Type 0} → ℕ → Toks A → Read A (BodyOf A)

@@ -14,7 +14,8 @@ whole_item _ rest = Some tt
 -- a whole unit, in a module or not; what is read is whether a module is open behind it
 abbrev pub unit_at : {A : Type 0} → ℕ → Bool → Toks A → Read A Bool
 unit_at n false ws = header_at n ws >>= λ h. Some (true, h.1)
-unit_at n true ws = found_or (after t.Endmodule ws) (item_at n ws >>= λ i. whole_item i.0 i.1 >>= λ w. Some (true, i.1)) (λ o. Some (false, o.1))
+unit_at n true ws = found_or (after t.Endmodule ws) (item_at n ws >>= λ i. whole_item i.0 i.1 >>= λ w. Some (true, i.1))
+    (λ o. Some (false, o.1))
 
 abbrev pub read_or : {X Y : Type 0} → Option X → Y → (X → Y) → Y
 read_or None other go = other

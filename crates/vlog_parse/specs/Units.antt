@@ -21,7 +21,8 @@ abbrev pub file_units : {A : Type 0} → FileOf A → List (UnitOf A)
 file_units f = flat_map module_units f.modules
 
 abbrev pub unit_words : {A : Type 0} → UnitOf A → List Word
-unit_words (Header name ports) = Fixed t.Module ∷ NameWord name ∷ Fixed t.ParenOpen ∷ (with_commas port_words ports ++ Fixed t.ParenClose ∷ Fixed t.Semicolon ∷ [])
+unit_words (Header name ports) = Fixed t.Module ∷ NameWord name ∷ Fixed t.ParenOpen
+    ∷ (with_commas port_words ports ++ Fixed t.ParenClose ∷ Fixed t.Semicolon ∷ [])
 unit_words (ItemUnit i) = item_words i
 unit_words Endmodule = Fixed t.Endmodule ∷ []
 

@@ -84,8 +84,10 @@ impl Limits {
         requires elses { self.old.elses ≤ 1024 }
         ensures depth { self.new.depth ≡ open_at self.old.depth (marked token.now) }
         ensures run { self.new.run ≡ (if is_cut self.new.depth (marked token.now) then 0 else suc self.old.run) }
-        ensures elses { self.new.elses ≡ (if is_word (codes "always") (marked token.now) then 0 else if is_else (marked token.now) then suc self.old.elses else self.old.elses) }
-        ensures within { IsTrue result ↔ ((self.new.depth ≤ 32) × (self.old.run < 1024) × (is_else (marked token.now) ≡ true → self.old.elses < 1024)) }
+        ensures elses { self.new.elses ≡ (if is_word (codes "always") (marked token.now) then 0 else if is_else (marked token.now)
+            then suc self.old.elses else self.old.elses) }
+        ensures within { IsTrue result ↔ ((self.new.depth ≤ 32) × (self.old.run < 1024)
+            × (is_else (marked token.now) ≡ true → self.old.elses < 1024)) }
     {
         let is_else = is_word(b"else", token);
         self.depth = open_at(self.depth, token);

@@ -4,7 +4,8 @@ ghost use Rattle.std.specs.Prelude.{◌≡◌, ℕ, option_map, Some};
 ghost use Rattle.vlog_tree.specs.Tree.{IdentOf, DrivenWireOf, Reg1Of, AssignOf};
 ghost use Rattle.vlog_tree.specs.Plain.{plain_ident, plain_expr, plain_range, plain_wire, plain_reg, plain_assign, plain_event, plain_item};
 ghost use Rattle.vlog_expr.specs.Marks.{all_marked, name_front};
-ghost use Rattle.vlog_parse.specs.FileReader.{range_at, range_front, init_front, wire_at, reg_at, assign_at, names_at, driven_at, wires_at, regs_at, assigns_at, event_at, always_at, item_at};
+ghost use Rattle.vlog_parse.specs.FileReader.{range_at, range_front, init_front, wire_at, reg_at, assign_at, names_at, driven_at, wires_at};
+ghost use Rattle.vlog_parse.specs.FileReader.{regs_at, assigns_at, event_at, always_at, item_at};
 ghost use Rattle.vlog_expr.specs.Given.{Gives};
 
 use crate::listed::{Listed, more_of, some_of};
@@ -40,7 +41,8 @@ pub fn unboxed(range: Option<Box<Range>>) -> Option<Range>
 
 /// The range, where one stands at the front.
 pub fn range_front(alloc: Global, tokens: &[Token], fuel: usize) -> Parsed<'_, Option<Box<Range>>>
-    ensures { Gives (λ x. (option_map (λ b. plain_range b.value) x.0, all_marked x.1.now)) result (range_front fuel (all_marked tokens.now)) }
+    ensures { Gives (λ x. (option_map (λ b. plain_range b.value) x.0, all_marked x.1.now)) result
+        (range_front fuel (all_marked tokens.now)) }
 {
     let Some((_, rest)) = after(Terminal::BracketOpen, tokens) else {
         return Ok((None, tokens));
@@ -128,7 +130,8 @@ fn names_of(
     tokens: &[Token],
     fuel: usize,
 ) -> Parsed<'_, Item>
-    ensures { Gives (λ x. (plain_item x.0, all_marked x.1.now)) result (names_at fuel (option_map (λ b. plain_range b.value) range) (plain_ident id) (all_marked tokens.now)) }
+    ensures { Gives (λ x. (plain_item x.0, all_marked x.1.now)) result
+        (names_at fuel (option_map (λ b. plain_range b.value) range) (plain_ident id) (all_marked tokens.now)) }
 {
     let mut front = Idents::new(alloc);
     front.push(id)?;
@@ -146,7 +149,8 @@ fn driven_of(
     tokens: &[Token],
     fuel: usize,
 ) -> Parsed<'_, Item>
-    ensures { Gives (λ x. (plain_item x.0, all_marked x.1.now)) result (driven_at fuel (option_map (λ b. plain_range b.value) range) (plain_ident id) (all_marked tokens.now)) }
+    ensures { Gives (λ x. (plain_item x.0, all_marked x.1.now)) result
+        (driven_at fuel (option_map (λ b. plain_range b.value) range) (plain_ident id) (all_marked tokens.now)) }
 {
     let (value, rest) = expr_of(alloc, tokens, fuel)?;
     let mut front = DrivenWires::new(alloc);

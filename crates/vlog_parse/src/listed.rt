@@ -35,7 +35,8 @@ pub fn more_of<T: Listed + Drop>(
     tokens: &[Token],
     fuel: usize,
 ) -> Parsed<'_, Items<T>>
-    ensures { Gives (λ x. (map T.plain x.0, all_marked x.1.now)) result (more_at (T.one_at fuel) fuel (map T.plain front) (all_marked tokens.now)) }
+    ensures { Gives (λ x. (map T.plain x.0, all_marked x.1.now)) result
+        (more_at (T.one_at fuel) fuel (map T.plain front) (all_marked tokens.now)) }
 {
     let mut front = front;
     let mut rest = tokens;

@@ -56,7 +56,8 @@ pub fn parse(alloc: Global, tokens: &Tokens) -> Result<File, ParseError>
     // Where a limit is passed, that is the answer.
     ensures deep { (line : ℕ) → IsDeep (all_marked tokens.now) line → result ≡ Err (variants.Deep line) }
     // The file of good shape that has these tokens is read, unless memory runs out.
-    ensures only { (f : FileOf (Unit {0})) → IsShallow (all_marked tokens.now) → IsFileOf tokens.now f → MatchResult result (λ g. bare (plain g) ≡ f) (λ e. e ≡ variants.Memory) }
+    ensures only { (f : FileOf (Unit {0})) → IsShallow (all_marked tokens.now) → IsFileOf tokens.now f
+        → MatchResult result (λ g. bare (plain g) ≡ f) (λ e. e ≡ variants.Memory) }
     // Its lines are those that the reader on lists takes from the tokens.
     ensures lines { IfOk result (λ f. file_of (all_marked tokens.now) ≡ Some (plain f)) }
 {

@@ -85,7 +85,8 @@ fn rest_of_if(
     fuel: usize,
     nested: u32,
 ) -> Parsed<'_, Stmt>
-    ensures { Gives {Y = StmtOf ℕ × Toks ℕ} (λ x. (plain_stmt x.0, all_marked x.1.now)) result (bind (else_at fuel (all_marked tokens.now)) (λ x. Some (IfStmt (plain_expr condition) (plain_body then_body) x.0, x.1))) }
+    ensures { Gives {Y = StmtOf ℕ × Toks ℕ} (λ x. (plain_stmt x.0, all_marked x.1.now)) result
+        (bind (else_at fuel (all_marked tokens.now)) (λ x. Some (IfStmt (plain_expr condition) (plain_body then_body) x.0, x.1))) }
 {
     if fuel == 0 {
         return Err(Unread::Fault);

@@ -27,7 +27,8 @@ wires_commas xs = with_commas_map wire_words plain_wire xs
 pub regs_commas : (xs : List Reg1) → with_commas reg_words (map plain_reg xs) ≡ with_commas (λ x. reg_words (plain_reg x)) xs
 regs_commas xs = with_commas_map reg_words plain_reg xs
 
-pub assigns_commas : (xs : List Assign) → with_commas assign_words (map plain_assign xs) ≡ with_commas (λ x. assign_words (plain_assign x)) xs
+pub assigns_commas : (xs : List Assign) → with_commas assign_words (map plain_assign xs)
+    ≡ with_commas (λ x. assign_words (plain_assign x)) xs
 assigns_commas xs = with_commas_map assign_words plain_assign xs
 
 pub ports_commas : (xs : List Port) → with_commas port_words (map plain_port xs) ≡ with_commas (λ x. port_words (plain_port x)) xs

@@ -1,9 +1,21 @@
 -- The words of a tree don't depend on its lines.
 use Rattle.std.proofs.Common.{◌≡◌, List, [], ◌∷◌, Option, None, Some, ap, refl, map, option_map}
 use Rattle.vlog_tree.specs.Words.{Word, tokens_of}
-use Rattle.vlog_tree.specs.Tree.{SignOf, ExprOf, UnaryExpr, BinaryExpr, ChoiceExpr, PrimOf, NumberPrim, RefPrim, ParenPrim, ConcatPrim, RefOf, RefWith, IndexOf, NoIndex, Index, LastOf, NoLast, Last, SelOf, IndexSel, PartSel, IndexedSel, ExprsOf, NoExprs, MoreExprs, TargetOf, RefTarget, ConcatTarget, TargetsOf, NoTargets, MoreTargets, StmtOf, BeginStmt, IfStmt, AssignStmt, BodyOf, StmtBody, EmptyBody, ElseOf, NoElse, Else, StmtsOf, NoStmts, MoreStmts, RangeOf, PortHeadOf, PortOf, DrivenWireOf, RegTailOf, InitTail, Reg1Of, AssignOf, EventOf, PosedgeEvent, AlwaysOf, ItemOf, WiresItem, DrivenWiresItem, RegsItem, AssignItem, AlwaysItem, ModuleOf, FileOf}
-use Rattle.vlog_tree.specs.Spelling.{sign_words, expr_words, prim_words, ref_words, index_words, last_words, sel_words, exprs_words, more_exprs_words, target_words, targets_words, more_targets_words, stmt_words, body_words, else_words, stmts_words, after_commas, with_commas, in_row, optional, range_words, head_words, init_words, port_words, wire_words, tail_words, reg_words, assign_words, event_words, always_words, item_words, module_words, file_words, ident_words, toks}
-use Rattle.vlog_tree.specs.Lines.{map_ident, map_sign, map_expr, map_prim, map_ref, map_index, map_last, map_sel, map_exprs, map_target, map_targets, map_stmt, map_body, map_else, map_stmts, map_range, map_head, map_port, map_wire, map_tail, map_reg, map_assign, map_event, map_always, map_item, map_module, map_file, no_mark, bare}
+use Rattle.vlog_tree.specs.Tree.{SignOf, ExprOf, UnaryExpr, BinaryExpr, ChoiceExpr, PrimOf, NumberPrim, RefPrim, ParenPrim, ConcatPrim}
+use Rattle.vlog_tree.specs.Tree.{RefOf, RefWith, IndexOf, NoIndex, Index, LastOf, NoLast, Last, SelOf, IndexSel, PartSel, IndexedSel}
+use Rattle.vlog_tree.specs.Tree.{ExprsOf, NoExprs, MoreExprs, TargetOf, RefTarget, ConcatTarget, TargetsOf, NoTargets, MoreTargets, StmtOf}
+use Rattle.vlog_tree.specs.Tree.{BeginStmt, IfStmt, AssignStmt, BodyOf, StmtBody, EmptyBody, ElseOf, NoElse, Else, StmtsOf, NoStmts}
+use Rattle.vlog_tree.specs.Tree.{MoreStmts, RangeOf, PortHeadOf, PortOf, DrivenWireOf, RegTailOf, InitTail, Reg1Of, AssignOf, EventOf}
+use Rattle.vlog_tree.specs.Tree.{PosedgeEvent, AlwaysOf, ItemOf, WiresItem, DrivenWiresItem, RegsItem, AssignItem, AlwaysItem, ModuleOf}
+use Rattle.vlog_tree.specs.Tree.{FileOf}
+use Rattle.vlog_tree.specs.Spelling.{sign_words, expr_words, prim_words, ref_words, index_words, last_words, sel_words, exprs_words}
+use Rattle.vlog_tree.specs.Spelling.{more_exprs_words, target_words, targets_words, more_targets_words, stmt_words, body_words, else_words}
+use Rattle.vlog_tree.specs.Spelling.{stmts_words, after_commas, with_commas, in_row, optional, range_words, head_words, init_words}
+use Rattle.vlog_tree.specs.Spelling.{port_words, wire_words, tail_words, reg_words, assign_words, event_words, always_words, item_words}
+use Rattle.vlog_tree.specs.Spelling.{module_words, file_words, ident_words, toks}
+use Rattle.vlog_tree.specs.Lines.{map_ident, map_sign, map_expr, map_prim, map_ref, map_index, map_last, map_sel, map_exprs, map_target}
+use Rattle.vlog_tree.specs.Lines.{map_targets, map_stmt, map_body, map_else, map_stmts, map_range, map_head, map_port, map_wire, map_tail}
+use Rattle.vlog_tree.specs.Lines.{map_reg, map_assign, map_event, map_always, map_item, map_module, map_file, no_mark, bare}
 
 pub sign_mapped : {A B : Type 0} (f : A → B) (s : Option (SignOf A)) → sign_words (option_map (map_sign f) s) ≡ sign_words s
 sign_mapped f None = refl
@@ -76,26 +88,31 @@ mutual
   stmts_mapped f NoStmts = refl
   stmts_mapped f (MoreStmts s ss) = rw (stmt_mapped f s, stmts_mapped f ss) refl
 
-optional_same : {X Y : Type 0} (g : Y → List Word) (h : X → List Word) (f : X → Y) → ((x : X) → g (f x) ≡ h x) → (o : Option X) → optional g (option_map f o) ≡ optional h o
+optional_same : {X Y : Type 0} (g : Y → List Word) (h : X → List Word) (f : X → Y) → ((x : X) → g (f x) ≡ h x) → (o : Option X)
+    → optional g (option_map f o) ≡ optional h o
 optional_same g h f same None = refl
 optional_same g h f same (Some x) = same x
 
-after_commas_same : {X Y : Type 0} (g : Y → List Word) (h : X → List Word) (f : X → Y) → ((x : X) → g (f x) ≡ h x) → (xs : List X) → after_commas g (map f xs) ≡ after_commas h xs
+after_commas_same : {X Y : Type 0} (g : Y → List Word) (h : X → List Word) (f : X → Y) → ((x : X) → g (f x) ≡ h x) → (xs : List X)
+    → after_commas g (map f xs) ≡ after_commas h xs
 after_commas_same g h f same [] = refl
 after_commas_same g h f same (x ∷ xs) = rw (same x, after_commas_same g h f same xs) refl
 
-commas_same : {X Y : Type 0} (g : Y → List Word) (h : X → List Word) (f : X → Y) → ((x : X) → g (f x) ≡ h x) → (xs : List X) → with_commas g (map f xs) ≡ with_commas h xs
+commas_same : {X Y : Type 0} (g : Y → List Word) (h : X → List Word) (f : X → Y) → ((x : X) → g (f x) ≡ h x) → (xs : List X)
+    → with_commas g (map f xs) ≡ with_commas h xs
 commas_same g h f same [] = refl
 commas_same g h f same (x ∷ xs) = rw (same x, after_commas_same g h f same xs) refl
 
-row_same : {X Y : Type 0} (g : Y → List Word) (h : X → List Word) (f : X → Y) → ((x : X) → g (f x) ≡ h x) → (xs : List X) → in_row g (map f xs) ≡ in_row h xs
+row_same : {X Y : Type 0} (g : Y → List Word) (h : X → List Word) (f : X → Y) → ((x : X) → g (f x) ≡ h x) → (xs : List X)
+    → in_row g (map f xs) ≡ in_row h xs
 row_same g h f same [] = refl
 row_same g h f same (x ∷ xs) = rw (same x, row_same g h f same xs) refl
 
 pub range_mapped : {A B : Type 0} (f : A → B) (r : RangeOf A) → range_words (map_range f r) ≡ range_words r
 range_mapped f r = rw (expr_mapped f r.first, expr_mapped f r.second) refl
 
-pub ranges_mapped : {A B : Type 0} (f : A → B) (r : Option (RangeOf A)) → optional range_words (option_map (map_range f) r) ≡ optional range_words r
+pub ranges_mapped : {A B : Type 0} (f : A → B) (r : Option (RangeOf A)) → optional range_words (option_map (map_range f) r)
+    ≡ optional range_words r
 ranges_mapped f r = optional_same range_words range_words (map_range f) (range_mapped f) r
 
 pub head_mapped : {A B : Type 0} (f : A → B) (h : PortHeadOf A) → head_words (map_head f h) ≡ head_words h
@@ -106,7 +123,11 @@ init_mapped f e = rw (expr_mapped f e) refl
 
 pub port_mapped : {A B : Type 0} (f : A → B) (p : PortOf A) → port_words (map_port f p) ≡ port_words p
 port_mapped f p =
-    rw (optional_same head_words head_words (map_head f) (head_mapped f) p.head, optional_same init_words init_words (map_expr f) (init_mapped f) p.init) refl
+    rw (
+      optional_same head_words head_words (map_head f) (head_mapped f) p.head,
+      optional_same init_words init_words (map_expr f)
+          (init_mapped f) p.init,
+    ) refl
 
 pub wire_mapped : {A B : Type 0} (f : A → B) (w : DrivenWireOf A) → wire_words (map_wire f w) ≡ wire_words w
 wire_mapped f w = rw (expr_mapped f w.value) refl
@@ -128,14 +149,22 @@ always_mapped f a = rw (event_mapped f a.event, body_mapped f a.body) refl
 
 pub item_mapped : {A B : Type 0} (f : A → B) (i : ItemOf A) → item_words (map_item f i) ≡ item_words i
 item_mapped f (WiresItem range ids) = rw (ranges_mapped f range, commas_same ident_words ident_words (map_ident f) (λ id. refl) ids) refl
-item_mapped f (DrivenWiresItem range wires) = rw (ranges_mapped f range, commas_same wire_words wire_words (map_wire f) (wire_mapped f) wires) refl
+item_mapped f (DrivenWiresItem range wires) = rw (
+  ranges_mapped f range,
+  commas_same wire_words wire_words (map_wire f) (wire_mapped f)
+      wires,
+) refl
 item_mapped f (RegsItem range regs) = rw (ranges_mapped f range, commas_same reg_words reg_words (map_reg f) (reg_mapped f) regs) refl
 item_mapped f (AssignItem assigns) = rw (commas_same assign_words assign_words (map_assign f) (assign_mapped f) assigns) refl
 item_mapped f (AlwaysItem a) = always_mapped f a
 
 pub module_mapped : {A B : Type 0} (f : A → B) (m : ModuleOf A) → module_words (map_module f m) ≡ module_words m
 module_mapped f m =
-    rw (commas_same port_words port_words (map_port f) (port_mapped f) m.ports, row_same item_words item_words (map_item f) (item_mapped f) m.items) refl
+    rw (
+      commas_same port_words port_words (map_port f) (port_mapped f) m.ports,
+      row_same item_words item_words (map_item f) (item_mapped f)
+          m.items,
+    ) refl
 
 pub words_of_mapped : {A B : Type 0} (f : A → B) (t : FileOf A) → file_words (map_file f t) ≡ file_words t
 words_of_mapped f t = row_same module_words module_words (map_module f) (module_mapped f) t.modules

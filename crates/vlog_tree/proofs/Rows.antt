@@ -1,7 +1,8 @@
 -- The variants that hold lists as plain data.
 use Rattle.std.proofs.Common.{◌≡◌, ℕ, List, ap, refl, ◌∙◌}
 use Rattle.vlog_tree.specs.Tree.{MoreExprs, ConcatPrim, MoreTargets, ConcatTarget, MoreStmts, BeginStmt}
-use Rattle.vlog_tree.specs.Plain.{plain_expr, plain_prim, plain_row, plain_exprs, plain_target, plain_target_row, plain_targets, plain_stmt, plain_stmt_row, plain_stmts}
+use Rattle.vlog_tree.specs.Plain.{plain_expr, plain_prim, plain_row, plain_exprs, plain_target, plain_target_row, plain_targets, plain_stmt}
+use Rattle.vlog_tree.specs.Plain.{plain_stmt_row, plain_stmts}
 use Rattle.vlog_tree.specs.declared.expr.Expr.{Expr}
 use Rattle.vlog_tree.specs.declared.expr.Primary as prim
 use Rattle.vlog_tree.specs.declared.expr.Expr.TheBlock.{hidden-the_row-Expr-0}
@@ -17,7 +18,8 @@ expr_items (prim.more_of-Expr e row) = ap (MoreExprs (plain_expr e)) (expr_items
 pub exprs_hidden : (es : List Expr) → plain_row (hidden-the_row-Expr-0 es) ≡ plain_exprs es
 exprs_hidden es = expr_items (hidden-the_row-Expr-0 es) ∙ ap plain_exprs (prim.items_hidden-the_row-Expr-0 es)
 
-pub plain_concat : (p : prim.Primary) (line : ℕ) (es : List Expr) → p ≡ prim.Concat line es → plain_prim p ≡ ConcatPrim line (plain_exprs es)
+pub plain_concat : (p : prim.Primary) (line : ℕ) (es : List Expr) → p ≡ prim.Concat line es → plain_prim p
+    ≡ ConcatPrim line (plain_exprs es)
 plain_concat p line es is = ap plain_prim is ∙ ap (ConcatPrim line) (exprs_hidden es)
 
 target_items : {n : _} → (row : target.Row_of-Target n) → plain_target_row row ≡ plain_targets (target.items-the_row-Target n row)
@@ -27,7 +29,8 @@ target_items (target.more_of-Target t row) = ap (MoreTargets (plain_target t)) (
 pub targets_hidden : (ts : List target.Target) → plain_target_row (hidden-the_row-Target-0 ts) ≡ plain_targets ts
 targets_hidden ts = target_items (hidden-the_row-Target-0 ts) ∙ ap plain_targets (target.items_hidden-the_row-Target-0 ts)
 
-pub plain_concat_target : (t : target.Target) (line : ℕ) (ts : List target.Target) → t ≡ target.Concat line ts → plain_target t ≡ ConcatTarget line (plain_targets ts)
+pub plain_concat_target : (t : target.Target) (line : ℕ) (ts : List target.Target) → t ≡ target.Concat line ts → plain_target t
+    ≡ ConcatTarget line (plain_targets ts)
 plain_concat_target t line ts is = ap plain_target is ∙ ap (ConcatTarget line) (targets_hidden ts)
 
 stmt_items : {n : _} → (row : stmt.Row_of-Stmt n) → plain_stmt_row row ≡ plain_stmts (stmt.items-the_row-Stmt n row)

@@ -1,6 +1,12 @@
 -- A tree of the code as plain data, without pointers, with its lines.
 use Rattle.std.specs.Prelude.{ℕ, List, option_map, map}
-use Rattle.vlog_tree.specs.Tree.{IdentOf, NumberOf, SignOf, ExprOf, UnaryExpr, BinaryExpr, ChoiceExpr, PrimOf, NumberPrim, RefPrim, ParenPrim, ConcatPrim, RefOf, RefWith, IndexOf, NoIndex, Index, LastOf, NoLast, Last, SelOf, IndexSel, PartSel, IndexedSel, ExprsOf, NoExprs, MoreExprs, exprs_of, TargetOf, RefTarget, ConcatTarget, TargetsOf, NoTargets, MoreTargets, targets_of, StmtOf, BeginStmt, IfStmt, AssignStmt, BodyOf, StmtBody, EmptyBody, ElseOf, NoElse, Else, StmtsOf, NoStmts, MoreStmts, stmts_of, RangeOf, PortHeadOf, PortOf, DrivenWireOf, RegTailOf, InitTail, Reg1Of, AssignOf, EventOf, PosedgeEvent, AlwaysOf, ItemOf, WiresItem, DrivenWiresItem, RegsItem, AssignItem, AlwaysItem, ModuleOf, FileOf}
+use Rattle.vlog_tree.specs.Tree.{IdentOf, NumberOf, SignOf, ExprOf, UnaryExpr, BinaryExpr, ChoiceExpr, PrimOf, NumberPrim, RefPrim}
+use Rattle.vlog_tree.specs.Tree.{ParenPrim, ConcatPrim, RefOf, RefWith, IndexOf, NoIndex, Index, LastOf, NoLast, Last, SelOf, IndexSel}
+use Rattle.vlog_tree.specs.Tree.{PartSel, IndexedSel, ExprsOf, NoExprs, MoreExprs, exprs_of, TargetOf, RefTarget, ConcatTarget, TargetsOf}
+use Rattle.vlog_tree.specs.Tree.{NoTargets, MoreTargets, targets_of, StmtOf, BeginStmt, IfStmt, AssignStmt, BodyOf, StmtBody, EmptyBody}
+use Rattle.vlog_tree.specs.Tree.{ElseOf, NoElse, Else, StmtsOf, NoStmts, MoreStmts, stmts_of, RangeOf, PortHeadOf, PortOf, DrivenWireOf}
+use Rattle.vlog_tree.specs.Tree.{RegTailOf, InitTail, Reg1Of, AssignOf, EventOf, PosedgeEvent, AlwaysOf, ItemOf, WiresItem, DrivenWiresItem}
+use Rattle.vlog_tree.specs.Tree.{RegsItem, AssignItem, AlwaysItem, ModuleOf, FileOf}
 use Rattle.vlog_tree.specs.declared.expr.Ident.{Ident}
 use Rattle.vlog_tree.specs.declared.expr.Number.{Number}
 use Rattle.vlog_tree.specs.declared.expr.Sign.{Sign}

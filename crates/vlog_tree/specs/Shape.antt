@@ -4,9 +4,17 @@ use Rattle.std.specs.List.{AllByRecursion}
 use Rattle.vlog_lex.specs.declared.token.TokenKind.TheVariants.{Identifier}
 use Rattle.vlog_lex.specs.Lexeme.{IsToken}
 use Rattle.vlog_tree.specs.declared.expr.BinaryOp.{BinaryOp}
-use Rattle.vlog_tree.specs.declared.expr.BinaryOp.TheVariants.{LogicalOr, LogicalAnd, Or, Xor, XorTilde, TildeXor, And, Equal, NotEqual, Less, LessOrEqual, Greater, GreaterOrEqual, ShiftLeft, ShiftRight, ArithmeticShiftLeft, ArithmeticShiftRight, Plus, Minus, Times}
+use Rattle.vlog_tree.specs.declared.expr.BinaryOp.TheVariants.{LogicalOr, LogicalAnd, Or, Xor, XorTilde, TildeXor, And, Equal, NotEqual}
+use Rattle.vlog_tree.specs.declared.expr.BinaryOp.TheVariants.{Less, LessOrEqual, Greater, GreaterOrEqual, ShiftLeft, ShiftRight}
+use Rattle.vlog_tree.specs.declared.expr.BinaryOp.TheVariants.{ArithmeticShiftLeft, ArithmeticShiftRight, Plus, Minus, Times}
 use Rattle.vlog_tree.specs.Words.{number_kind}
-use Rattle.vlog_tree.specs.Tree.{IdentOf, NumberOf, ExprOf, UnaryExpr, BinaryExpr, ChoiceExpr, PrimOf, NumberPrim, RefPrim, ParenPrim, ConcatPrim, RefOf, RefWith, IndexOf, NoIndex, Index, LastOf, NoLast, Last, SelOf, IndexSel, PartSel, IndexedSel, ExprsOf, NoExprs, MoreExprs, TargetOf, RefTarget, ConcatTarget, TargetsOf, NoTargets, MoreTargets, StmtOf, BeginStmt, IfStmt, AssignStmt, BodyOf, StmtBody, EmptyBody, ElseOf, NoElse, Else, StmtsOf, NoStmts, MoreStmts, RangeOf, PortHeadOf, PortOf, DrivenWireOf, RegTailOf, InitTail, Reg1Of, AssignOf, EventOf, PosedgeEvent, AlwaysOf, ItemOf, WiresItem, DrivenWiresItem, RegsItem, AssignItem, AlwaysItem, ModuleOf, FileOf}
+use Rattle.vlog_tree.specs.Tree.{IdentOf, NumberOf, ExprOf, UnaryExpr, BinaryExpr, ChoiceExpr, PrimOf, NumberPrim, RefPrim, ParenPrim}
+use Rattle.vlog_tree.specs.Tree.{ConcatPrim, RefOf, RefWith, IndexOf, NoIndex, Index, LastOf, NoLast, Last, SelOf, IndexSel, PartSel}
+use Rattle.vlog_tree.specs.Tree.{IndexedSel, ExprsOf, NoExprs, MoreExprs, TargetOf, RefTarget, ConcatTarget, TargetsOf, NoTargets}
+use Rattle.vlog_tree.specs.Tree.{MoreTargets, StmtOf, BeginStmt, IfStmt, AssignStmt, BodyOf, StmtBody, EmptyBody, ElseOf, NoElse, Else}
+use Rattle.vlog_tree.specs.Tree.{StmtsOf, NoStmts, MoreStmts, RangeOf, PortHeadOf, PortOf, DrivenWireOf, RegTailOf, InitTail, Reg1Of}
+use Rattle.vlog_tree.specs.Tree.{AssignOf, EventOf, PosedgeEvent, AlwaysOf, ItemOf, WiresItem, DrivenWiresItem, RegsItem, AssignItem}
+use Rattle.vlog_tree.specs.Tree.{AlwaysItem, ModuleOf, FileOf}
 
 -- a name is an identifier and no reserved word
 abbrev pub IsGoodName : List ℕ → Type 0

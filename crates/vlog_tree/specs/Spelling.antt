@@ -13,7 +13,13 @@ use Rattle.vlog_tree.specs.declared.module.NetKind.TheVariants as kind
 use Rattle.vlog_tree.specs.declared.terminal.Terminal.{Terminal}
 use Rattle.vlog_tree.specs.declared.terminal.Terminal.TheVariants as t
 use Rattle.vlog_tree.specs.Words.{Word, NameWord, NumberWord, Fixed, tokens_of}
-use Rattle.vlog_tree.specs.Tree.{IdentOf, NumberOf, SignOf, ExprOf, UnaryExpr, BinaryExpr, ChoiceExpr, PrimOf, NumberPrim, RefPrim, ParenPrim, ConcatPrim, RefOf, RefWith, IndexOf, NoIndex, Index, LastOf, NoLast, Last, SelOf, IndexSel, PartSel, IndexedSel, ExprsOf, NoExprs, MoreExprs, TargetOf, RefTarget, ConcatTarget, TargetsOf, NoTargets, MoreTargets, StmtOf, BeginStmt, IfStmt, AssignStmt, BodyOf, StmtBody, EmptyBody, ElseOf, NoElse, Else, StmtsOf, NoStmts, MoreStmts, RangeOf, PortHeadOf, PortOf, DrivenWireOf, RegTailOf, InitTail, Reg1Of, AssignOf, EventOf, PosedgeEvent, AlwaysOf, ItemOf, WiresItem, DrivenWiresItem, RegsItem, AssignItem, AlwaysItem, ModuleOf, FileOf}
+use Rattle.vlog_tree.specs.Tree.{IdentOf, NumberOf, SignOf, ExprOf, UnaryExpr, BinaryExpr, ChoiceExpr, PrimOf, NumberPrim, RefPrim}
+use Rattle.vlog_tree.specs.Tree.{ParenPrim, ConcatPrim, RefOf, RefWith, IndexOf, NoIndex, Index, LastOf, NoLast, Last, SelOf, IndexSel}
+use Rattle.vlog_tree.specs.Tree.{PartSel, IndexedSel, ExprsOf, NoExprs, MoreExprs, TargetOf, RefTarget, ConcatTarget, TargetsOf, NoTargets}
+use Rattle.vlog_tree.specs.Tree.{MoreTargets, StmtOf, BeginStmt, IfStmt, AssignStmt, BodyOf, StmtBody, EmptyBody, ElseOf, NoElse, Else}
+use Rattle.vlog_tree.specs.Tree.{StmtsOf, NoStmts, MoreStmts, RangeOf, PortHeadOf, PortOf, DrivenWireOf, RegTailOf, InitTail, Reg1Of}
+use Rattle.vlog_tree.specs.Tree.{AssignOf, EventOf, PosedgeEvent, AlwaysOf, ItemOf, WiresItem, DrivenWiresItem, RegsItem, AssignItem}
+use Rattle.vlog_tree.specs.Tree.{AlwaysItem, ModuleOf, FileOf}
 
 abbrev pub unary_terminal : UnaryOp → Terminal
 unary_terminal unary.Plus = t.Plus
@@ -124,7 +130,8 @@ abbrev mutual
   -- "begin" { stmt } "end" | "if" "(" expr ")" body [ "else" body ] | target ( "=" | "<=" ) expr ";"
   pub stmt_words : {A : Type 0} → StmtOf A → List Word
   stmt_words (BeginStmt ss) = Fixed t.Begin ∷ (stmts_words ss ++ Fixed t.End ∷ [])
-  stmt_words (IfStmt condition b other) = Fixed t.If ∷ Fixed t.ParenOpen ∷ (expr_words condition ++ Fixed t.ParenClose ∷ (body_words b ++ else_words other))
+  stmt_words (IfStmt condition b other) = Fixed t.If ∷ Fixed t.ParenOpen
+      ∷ (expr_words condition ++ Fixed t.ParenClose ∷ (body_words b ++ else_words other))
   stmt_words (AssignStmt target op value) = target_words target ++ Fixed (assign_terminal op) ∷ (expr_words value ++ Fixed t.Semicolon ∷ [])
 
   -- stmt | ";"
@@ -207,7 +214,8 @@ always_words a = Fixed t.Always ∷ (event_words a.event ++ body_words a.body)
 
 abbrev pub item_words : {A : Type 0} → ItemOf A → List Word
 item_words (WiresItem range ids) = Fixed t.Wire ∷ (optional range_words range ++ (with_commas ident_words ids ++ Fixed t.Semicolon ∷ []))
-item_words (DrivenWiresItem range wires) = Fixed t.Wire ∷ (optional range_words range ++ (with_commas wire_words wires ++ Fixed t.Semicolon ∷ []))
+item_words (DrivenWiresItem range wires) = Fixed t.Wire ∷ (optional range_words range
+    ++ (with_commas wire_words wires ++ Fixed t.Semicolon ∷ []))
 item_words (RegsItem range regs) = Fixed t.Reg ∷ (optional range_words range ++ (with_commas reg_words regs ++ Fixed t.Semicolon ∷ []))
 item_words (AssignItem assigns) = Fixed t.Assign ∷ (with_commas assign_words assigns ++ Fixed t.Semicolon ∷ [])
 item_words (AlwaysItem a) = always_words a
@@ -215,7 +223,8 @@ item_words (AlwaysItem a) = always_words a
 -- "module" id "(" [ port { "," port } ] ")" ";" { item } "endmodule"
 abbrev pub module_words : {A : Type 0} → ModuleOf A → List Word
 module_words m =
-    Fixed t.Module ∷ NameWord m.name ∷ Fixed t.ParenOpen ∷ (with_commas port_words m.ports ++ Fixed t.ParenClose ∷ Fixed t.Semicolon ∷ (in_row item_words m.items ++ Fixed t.Endmodule ∷ []))
+    Fixed t.Module ∷ NameWord m.name ∷ Fixed t.ParenOpen ∷ (with_commas port_words m.ports ++ Fixed t.ParenClose ∷ Fixed t.Semicolon
+    ∷ (in_row item_words m.items ++ Fixed t.Endmodule ∷ []))
 
 -- module { module }
 abbrev pub file_words : {A : Type 0} → FileOf A → List Word

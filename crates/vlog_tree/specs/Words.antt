@@ -6,7 +6,13 @@ use Rattle.vlog_lex.specs.declared.token.TokenKind.TheVariants.{Identifier, Rese
 use Rattle.vlog_tree.specs.declared.expr.NumberKind.{NumberKind}
 use Rattle.vlog_tree.specs.declared.expr.NumberKind.TheVariants as number
 use Rattle.vlog_tree.specs.declared.terminal.Terminal.{Terminal}
-use Rattle.vlog_tree.specs.declared.terminal.Terminal.TheVariants.{Always, Assign, Begin, Else, End, Endmodule, If, Input, Module, Output, Posedge, Reg, Wire, ParenOpen, ParenClose, BracketOpen, BracketClose, BraceOpen, BraceClose, Semicolon, Comma, Colon, Question, At, Equals, Plus, Minus, Star, Bang, Tilde, Ampersand, Bar, Caret, Less, Greater, LessEquals, GreaterEquals, EqualsEquals, BangEquals, AmpersandAmpersand, BarBar, LessLess, GreaterGreater, LessLessLess, GreaterGreaterGreater, TildeAmpersand, TildeBar, TildeCaret, CaretTilde, PlusColon}
+use Rattle.vlog_tree.specs.declared.terminal.Terminal.TheVariants.{Always, Assign, Begin, Else, End, Endmodule, If, Input, Module, Output}
+use Rattle.vlog_tree.specs.declared.terminal.Terminal.TheVariants.{Posedge, Reg, Wire, ParenOpen, ParenClose, BracketOpen, BracketClose}
+use Rattle.vlog_tree.specs.declared.terminal.Terminal.TheVariants.{BraceOpen, BraceClose, Semicolon, Comma, Colon, Question, At, Equals}
+use Rattle.vlog_tree.specs.declared.terminal.Terminal.TheVariants.{Plus, Minus, Star, Bang, Tilde, Ampersand, Bar, Caret, Less, Greater}
+use Rattle.vlog_tree.specs.declared.terminal.Terminal.TheVariants.{LessEquals, GreaterEquals, EqualsEquals, BangEquals, AmpersandAmpersand}
+use Rattle.vlog_tree.specs.declared.terminal.Terminal.TheVariants.{BarBar, LessLess, GreaterGreater, LessLessLess, GreaterGreaterGreater}
+use Rattle.vlog_tree.specs.declared.terminal.Terminal.TheVariants.{TildeAmpersand, TildeBar, TildeCaret, CaretTilde, PlusColon}
 
 abbrev pub terminal_kind : Terminal → TokenKind
 terminal_kind Always = Reserved

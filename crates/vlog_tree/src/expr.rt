@@ -1,3 +1,5 @@
+//! Expressions as trees (IEEE 1364-2005, 5 and A.8).
+
 use vidi_bits::{Items, Name};
 
 /// A name where it is used or declared (the grammar's `id`).

@@ -1,3 +1,5 @@
+//! The line at which an expression or a target stands.
+
 ghost use Rattle.std.specs.Prelude.{◌≡◌};
 ghost use Rattle.vlog_tree.specs.Plain.{plain_expr, plain_prim, plain_target};
 ghost use Rattle.vlog_tree.specs.Lines.{expr_line, prim_line, target_line};

@@ -1,3 +1,5 @@
+//! Trees made of lists of trees.
+
 ghost use Rattle.std.specs.Prelude.{◌≡◌};
 ghost use Rattle.vlog_tree.specs.Tree.{ConcatPrim, ConcatTarget, BeginStmt};
 ghost use Rattle.vlog_tree.specs.Plain.{plain_prim, plain_exprs, plain_target, plain_targets, plain_stmt, plain_stmts};
@@ -31,12 +33,14 @@ pub fn begin(stmts: Stmts) -> Stmt
 
 /// What `Primary::Concat` is as plain data, for proofs of an arm that matches it.
 pub fn see_concat(line: u32, parts: &Exprs)
-    ensures { (p : declared_prim.Primary) → p ≡ declared_prim.Concat line parts.now → plain_prim p ≡ ConcatPrim line (plain_exprs parts.now) }
+    ensures { (p : declared_prim.Primary) → p ≡ declared_prim.Concat line parts.now → plain_prim p
+        ≡ ConcatPrim line (plain_exprs parts.now) }
 {}
 
 /// What `Target::Concat` is as plain data, for proofs of an arm that matches it.
 pub fn see_concat_target(line: u32, parts: &Targets)
-    ensures { (t : declared_target.Target) → t ≡ declared_target.Concat line parts.now → plain_target t ≡ ConcatTarget line (plain_targets parts.now) }
+    ensures { (t : declared_target.Target) → t ≡ declared_target.Concat line parts.now → plain_target t
+        ≡ ConcatTarget line (plain_targets parts.now) }
 {}
 
 /// What `Stmt::Begin` is as plain data, for proofs of an arm that matches it.

@@ -1,3 +1,5 @@
+//! Files, modules, ports and items as trees (IEEE 1364-2005, A.1 to A.2).
+
 use crate::expr::{Expr, Ident};
 use crate::stmt::{Body, Target};
 use vidi_bits::{Items, Name};

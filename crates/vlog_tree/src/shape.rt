@@ -1,3 +1,5 @@
+//! Tests of good shape: what the grammar can spell.
+
 mod expr;
 mod module;
 mod stmt;

@@ -1,3 +1,5 @@
+//! Trees spelled as tokens.
+
 mod expr;
 mod module;
 mod stmt;

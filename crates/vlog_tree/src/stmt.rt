@@ -1,3 +1,5 @@
+//! Targets and statements as trees (IEEE 1364-2005, A.6 and A.8.5).
+
 use crate::expr::{Expr, Ref};
 use vidi_bits::Items;
 

@@ -1,3 +1,5 @@
+//! The words and symbols that the grammar spells.
+
 ghost use Rattle.std.specs.Prelude.{◌≡◌};
 ghost use Rattle.vlog_tree.specs.Words.{terminal_kind, terminal_text};
 

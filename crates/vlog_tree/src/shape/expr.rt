@@ -1,3 +1,5 @@
+//! Good shape of expressions.
+
 ghost use Rattle.std.specs.Prelude.{◌≡◌, ◌↔◌, IsTrue};
 ghost use Rattle.vlog_tree.specs.Plain.{plain_expr, plain_prim, plain_unary, plain_ref, plain_sel, plain_exprs};
 ghost use Rattle.vlog_tree.specs.Shape.{level_of, level, IsGoodExpr, IsGoodPrim, IsGoodRef, IsGoodSel, AreGoodExprs};

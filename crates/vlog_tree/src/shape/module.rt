@@ -1,7 +1,12 @@
+//! Good shape of files, modules, ports and items.
+
 ghost use Rattle.std.specs.Prelude.{◌≡◌, ◌↔◌, IsTrue, List, option_map, map};
 ghost use Rattle.std.specs.List.{AllByRecursion};
-ghost use Rattle.vlog_tree.specs.Plain.{plain_ident, plain_range, plain_head, plain_port, plain_wire, plain_tail, plain_reg, plain_assign, plain_event, plain_always, plain_item, plain_module, plain, plain_expr};
-ghost use Rattle.vlog_tree.specs.Shape.{IsGoodOption, AreSomeGood, IsGoodExpr, IsGoodIdent, IsGoodRange, IsGoodHead, IsGoodPort, IsFirstDirected, IsGoodWire, IsGoodTail, IsGoodReg, IsGoodAssign, IsGoodEvent, IsGoodAlways, IsGoodItem, IsGoodModule, IsGood};
+ghost use Rattle.vlog_tree.specs.Plain.{plain_ident, plain_range, plain_head, plain_port, plain_wire, plain_tail, plain_reg, plain_assign};
+ghost use Rattle.vlog_tree.specs.Plain.{plain_event, plain_always, plain_item, plain_module, plain, plain_expr};
+ghost use Rattle.vlog_tree.specs.Shape.{IsGoodOption, AreSomeGood, IsGoodExpr, IsGoodIdent, IsGoodRange, IsGoodHead, IsGoodPort};
+ghost use Rattle.vlog_tree.specs.Shape.{IsFirstDirected, IsGoodWire, IsGoodTail, IsGoodReg, IsGoodAssign, IsGoodEvent, IsGoodAlways};
+ghost use Rattle.vlog_tree.specs.Shape.{IsGoodItem, IsGoodModule, IsGood};
 
 use crate::expr::{Expr, Ident};
 use crate::module::{

@@ -1,3 +1,5 @@
+//! Good shape of targets, statements and blocks.
+
 ghost use Rattle.std.specs.Prelude.{◌≡◌, ◌↔◌, IsTrue};
 ghost use Rattle.vlog_tree.specs.Plain.{plain_target, plain_targets, plain_stmt, plain_stmts, plain_body};
 ghost use Rattle.vlog_tree.specs.Shape.{IsGoodTarget, AreGoodTargets, is_open, is_open_body, IsGoodStmt, AreGoodStmts, IsGoodBody};

@@ -1,3 +1,5 @@
+//! Good shape of names and numbers.
+
 ghost use Rattle.std.specs.Prelude.{◌≡◌, ◌↔◌, IsTrue};
 ghost use Rattle.vlog_lex.specs.Lexeme.{IsToken};
 ghost use Rattle.vlog_tree.specs.Shape.{IsGoodName};

@@ -1,7 +1,12 @@
+//! Files, modules, ports and items spelled as tokens.
+
 ghost use Rattle.std.specs.Prelude.{◌≡◌, List, [], ◌∷◌, ◌++◌, OnOk, IfOk, option_map, map};
 ghost use Rattle.vlog_tree.specs.Words.{Word, tokens_of};
-ghost use Rattle.vlog_tree.specs.Plain.{plain_ident, plain_range, plain_head, plain_port, plain_wire, plain_tail, plain_reg, plain_assign, plain_event, plain_always, plain_item, plain_module, plain, plain_expr};
-ghost use Rattle.vlog_tree.specs.Spelling.{optional, with_commas, in_row, ident_words, range_words, direction_words, head_words, init_words, port_words, wire_words, tail_words, reg_words, assign_words, event_words, always_words, item_words, module_words, toks};
+ghost use Rattle.vlog_tree.specs.Plain.{plain_ident, plain_range, plain_head, plain_port, plain_wire, plain_tail, plain_reg, plain_assign};
+ghost use Rattle.vlog_tree.specs.Plain.{plain_event, plain_always, plain_item, plain_module, plain, plain_expr};
+ghost use Rattle.vlog_tree.specs.Spelling.{optional, with_commas, in_row, ident_words, range_words, direction_words, head_words};
+ghost use Rattle.vlog_tree.specs.Spelling.{init_words, port_words, wire_words, tail_words, reg_words, assign_words, event_words};
+ghost use Rattle.vlog_tree.specs.Spelling.{always_words, item_words, module_words, toks};
 
 use crate::expr::{Expr, Ident};
 use crate::module::{

@@ -1,3 +1,5 @@
+//! Targets, statements and blocks spelled as tokens.
+
 ghost use Rattle.std.specs.Prelude.{◌≡◌, [], ◌∷◌, ◌++◌, OnOk};
 ghost use Rattle.vlog_tree.specs.Words.{tokens_of};
 ghost use Rattle.vlog_tree.specs.Plain.{plain_target, plain_targets, plain_stmt, plain_stmts, plain_body};

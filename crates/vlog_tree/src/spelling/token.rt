@@ -1,3 +1,5 @@
+//! Single tokens written behind others.
+
 ghost use Rattle.std.specs.Prelude.{◌≡◌, [], ◌∷◌, ◌++◌, OnOk};
 ghost use Rattle.vlog_tree.specs.Words.{NameWord, NumberWord, Fixed, number_kind, tokens_of};
 

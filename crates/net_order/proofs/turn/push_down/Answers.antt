@@ -19,5 +19,6 @@ pub loop-place-preserved : goal.loop-place-preserved
 loop-place-preserved c = record {
   low = omega (arith, c.loop-place-test.true);
   high = omega (arith, c.loop-place.invariant.high);
-  same = step c.args.path.now c.loop-place.out c.push.new.self _ c.args.low c.loop-place.place _ (omega (arith, c.loop-place-test.true)) refl c.in_ok-push.ensures.ok c.loop-place.invariant.same;
+  same = step c.args.path.now c.loop-place.out c.push.new.self _ c.args.low c.loop-place.place _ (omega (arith, c.loop-place-test.true))
+      refl c.in_ok-push.ensures.ok c.loop-place.invariant.same;
 }

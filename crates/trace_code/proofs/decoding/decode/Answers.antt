@@ -12,7 +12,8 @@ returns-then-not-is_end-clause-decodes c =
     let found = c.in_ok-channels.ensures.found in
     let all : AreAll cs c.in_ok-channels.rest.now ps c.in_ok-packets.rest.now = rw c.as_slice.ensures at c.in_ok-packets.ensures in (
       inr (place-behind cs c.args.bytes.now c.in_ok-channels.rest.now c.in_ok-packets.rest.now ps _ found.0 found.1 all refl),
-      no-end cs c.args.bytes.now c.in_ok-channels.rest.now c.in_ok-packets.rest.now ps found.0 found.1 all (λ e. false≢true (sym c.if-not-is_end.true ∙ c.is_end.ensures.1 (rw c.len.ensures e))),
+      no-end cs c.args.bytes.now c.in_ok-channels.rest.now c.in_ok-packets.rest.now ps found.0 found.1 all
+          (λ e. false≢true (sym c.if-not-is_end.true ∙ c.is_end.ensures.1 (rw c.len.ensures e))),
     )
 
 pub returns-then-not-is_end-clause-only : goal.returns-then-not-is_end-clause-only
@@ -21,7 +22,8 @@ returns-then-not-is_end-clause-only c t code =
     let ps = c.in_ok-packets.packets in
     let found = c.in_ok-channels.ensures.found in
     let all : AreAll cs c.in_ok-channels.rest.now ps c.in_ok-packets.rest.now = rw c.as_slice.ensures at c.in_ok-packets.ensures in
-    absurd (no-end cs c.args.bytes.now c.in_ok-channels.rest.now c.in_ok-packets.rest.now ps found.0 found.1 all (λ e. false≢true (sym c.if-not-is_end.true ∙ c.is_end.ensures.1 (rw c.len.ensures e))) t code)
+    absurd (no-end cs c.args.bytes.now c.in_ok-channels.rest.now c.in_ok-packets.rest.now ps found.0 found.1 all
+    (λ e. false≢true (sym c.if-not-is_end.true ∙ c.is_end.ensures.1 (rw c.len.ensures e))) t code)
 
 pub returns-clause-only : goal.returns-clause-only
 returns-clause-only c t code =
@@ -29,5 +31,7 @@ returns-clause-only c t code =
     let ps = c.in_ok-packets.packets in
     let found = c.in_ok-channels.ensures.found in
     let all : AreAll cs c.in_ok-channels.rest.now ps c.in_ok-packets.rest.now = rw c.as_slice.ensures at c.in_ok-packets.ensures in
-    let end : (length ps < 2 ^ 32) × (c.in_ok-packets.rest.now ≡ end_mark (length ps)) = rw c.len.ensures at (c.is_end.ensures.0 c.if-not-is_end.false) in
-    one_reading c.args.bytes.now (record { channels = cs; packets = ps }) t (all-encoded cs c.args.bytes.now c.in_ok-channels.rest.now c.in_ok-packets.rest.now ps found.0 found.1 all end) code
+    let end : (length ps < 2 ^ 32) × (c.in_ok-packets.rest.now ≡ end_mark (length ps)) = rw c.len.ensures at
+    (c.is_end.ensures.0 c.if-not-is_end.false) in
+    one_reading c.args.bytes.now (record { channels = cs; packets = ps }) t
+    (all-encoded cs c.args.bytes.now c.in_ok-channels.rest.now c.in_ok-packets.rest.now ps found.0 found.1 all end) code

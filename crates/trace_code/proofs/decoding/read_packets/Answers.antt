@@ -15,8 +15,10 @@ loop-packets-preserved c =
     let follows = rw c.in-Some.is at c.in_ok-packet.ensures.follows in
     let next = follows c.loop-packets.packets inv.alternate inv.flying in
     record {
-      each = subst (All (IsPacket c.args.channels.now)) (sym push) (All-push (IsPacket c.args.channels.now) c.loop-packets.packets packet inv.each found.0);
+      each = subst (All (IsPacket c.args.channels.now)) (sym push) (All-push (IsPacket c.args.channels.now) c.loop-packets.packets packet
+          inv.each found.0);
       alternate = subst Alternates (sym push) next.0;
       flying = subst (λ (ps : List Packet). InFlight ps c.in-Some.after) (sym push) next.1;
-      parts = parts-push c.args.channels.now c.loop-packets.packets c.push.new.self packet c.args.bytes.now c.loop-packets.rest.now c.in-Some.others.now inv.parts found.1 push;
+      parts = parts-push c.args.channels.now c.loop-packets.packets c.push.new.self packet c.args.bytes.now c.loop-packets.rest.now
+          c.in-Some.others.now inv.parts found.1 push;
     }

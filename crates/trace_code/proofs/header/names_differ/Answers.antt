@@ -7,14 +7,19 @@ use Rattle.trace_code.proofs.header.names_differ.Goals as goal
 pub returns-then-has_name : goal.returns-then-has_name
 returns-then-has_name c =
     let cs = c.args.channels.now in
-    let twice : HasName (take c.loop-i.i cs) c.index-channels-i.result.name = subst (λ (n : List ℕ). HasName (take c.loop-i.i cs) n) c.as_slice.ensures (c.has_name.ensures.0 c.if-has_name.true) in
-    (λ e. absurd (false≢true e), λ apart. absurd (clash cs c.loop-i.i c.index-channels-i.result c.loop-i-test.true c.index-channels-i.is twice apart))
+    let twice : HasName (take c.loop-i.i cs) c.index-channels-i.result.name = subst (λ (n : List ℕ). HasName (take c.loop-i.i cs) n)
+    c.as_slice.ensures (c.has_name.ensures.0 c.if-has_name.true) in (
+      λ e. absurd (false≢true e),
+      λ apart. absurd (clash cs c.loop-i.i c.index-channels-i.result c.loop-i-test.true c.index-channels-i.is
+          twice apart),
+    )
 
 pub loop-i-preserved : goal.loop-i-preserved
 loop-i-preserved c =
     let cs = c.args.channels.now in
     apart_more cs c.loop-i.i c.index-channels-i.result c.loop-i-test.true c.index-channels-i.is
-    (λ twice. false≢true (sym c.if-has_name.false ∙ c.has_name.ensures.1 (subst (λ (n : List ℕ). HasName (take c.loop-i.i cs) n) (sym c.as_slice.ensures) twice)))
+    (λ twice. false≢true (sym c.if-has_name.false ∙ c.has_name.ensures.1
+    (subst (λ (n : List ℕ). HasName (take c.loop-i.i cs) n) (sym c.as_slice.ensures) twice)))
     c.loop-i.invariant
 
 pub returns : goal.returns

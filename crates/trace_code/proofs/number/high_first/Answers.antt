@@ -8,4 +8,8 @@ overflow_mul-value c =
 
 pub overflow_add-value : goal.overflow_add-value
 overflow_add-value c =
-    omega (arith, value_fits c.loop-byte.byte-index c.loop-byte.value c.from.result (omega arith) c.loop-byte.invariant.small (omega (arith, c.type_inv.bytes c.loop-byte.byte-index)))
+    omega (
+      arith,
+      value_fits c.loop-byte.byte-index c.loop-byte.value c.from.result (omega arith) c.loop-byte.invariant.small
+          (omega (arith, c.type_inv.bytes c.loop-byte.byte-index)),
+    )

@@ -7,11 +7,17 @@ use Rattle.trace_code.proofs.packets.read_content.Goals as goal
 pub returns-in_err-number : goal.returns-in_err-number
 returns-in_err-number c =
     let p = err_from_is_err_and c.from_residual.result c.from_residual.ensures.1 in
-    rw (p.1, p.2) (number_ends c.in_err-number.field-0.0 c.loop-width.numbers.items c.args.widths.now c.loop-width.width-index c.loop-width.rest.now (with_front c.args.numbers.now.items (numbers_at c.args.widths.now c.args.bytes.now)) c.loop-width-test.true c.in_err-number.ensures c.loop-width.invariant)
+    rw (p.1, p.2) (number_ends c.in_err-number.field-0.0 c.loop-width.numbers.items c.args.widths.now c.loop-width.width-index
+    c.loop-width.rest.now (with_front c.args.numbers.now.items (numbers_at c.args.widths.now c.args.bytes.now)) c.loop-width-test.true
+    c.in_err-number.ensures c.loop-width.invariant)
 
 pub loop-width-preserved : goal.loop-width-preserved
 loop-width-preserved c =
-    rw c.in_ok-push.ensures.items (number_goes_on c.loop-width.numbers.items c.args.widths.now c.loop-width.width-index c.loop-width.rest.now c.in_ok-number.number c.in_ok-number.after.now (with_front c.args.numbers.now.items (numbers_at c.args.widths.now c.args.bytes.now)) c.loop-width-test.true c.in_ok-number.ensures c.loop-width.invariant)
+    rw c.in_ok-push.ensures.items (number_goes_on c.loop-width.numbers.items c.args.widths.now c.loop-width.width-index
+    c.loop-width.rest.now c.in_ok-number.number c.in_ok-number.after.now
+    (with_front c.args.numbers.now.items (numbers_at c.args.widths.now c.args.bytes.now)) c.loop-width-test.true c.in_ok-number.ensures
+    c.loop-width.invariant)
 
 pub returns : goal.returns
-returns c = number_is_done c.loop-width.numbers.items c.args.widths.now c.loop-width.width-index c.loop-width.rest.now (with_front c.args.numbers.now.items (numbers_at c.args.widths.now c.args.bytes.now)) c.loop-width-test.false c.loop-width.invariant
+returns c = number_is_done c.loop-width.numbers.items c.args.widths.now c.loop-width.width-index c.loop-width.rest.now
+    (with_front c.args.numbers.now.items (numbers_at c.args.widths.now c.args.bytes.now)) c.loop-width-test.false c.loop-width.invariant

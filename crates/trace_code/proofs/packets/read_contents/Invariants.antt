@@ -6,4 +6,5 @@ use Rattle.trace_code.proofs.PacketLoop.{widths_from}
 use Rattle.trace_code.proofs.packets.read_contents.Given as goal
 
 abbrev pub invariant-loop-c : goal.invariant-loop-c
-invariant-loop-c l = with_front l.numbers.items (numbers_at (widths_from l.c l.starts (drop l.c l.channels)) l.rest) ≡ numbers_at (widths_under l.starts l.channels) l.bytes
+invariant-loop-c l = with_front l.numbers.items (numbers_at (widths_from l.c l.starts (drop l.c l.channels)) l.rest)
+    ≡ numbers_at (widths_under l.starts l.channels) l.bytes

@@ -10,23 +10,63 @@ use Rattle.trace_code.proofs.writing.write_events.Goals as goal
 
 pub write_mask-started-requires-clause-room : goal.write_mask-started-requires-clause-room
 write_mask-started-requires-clause-room c =
-    omega (arith, c.write_at-tagged.ensures.place, c.requires.room, c.write_at-tagged.auto.buf, length-low 0 (mask_len (length c.args.channels.now)) c.args.starts)
+    omega (
+      arith,
+      c.write_at-tagged.ensures.place,
+      c.requires.room,
+      c.write_at-tagged.auto.buf,
+      length-low 0
+          (mask_len (length c.args.channels.now)) c.args.starts,
+    )
 
 pub write_mask-ended-requires-clause-room : goal.write_mask-ended-requires-clause-room
 write_mask-ended-requires-clause-room c =
-    omega (arith, c.write_at-tagged.ensures.place, c.write_mask-started.ensures.place, c.requires.room, c.write_at-tagged.auto.buf, c.write_mask-started.auto.buf, length-low 0 (mask_len (length c.args.channels.now)) c.args.starts, length-low 0 (mask_len (length c.args.channels.now)) c.args.ends)
+    omega (
+      arith,
+      c.write_at-tagged.ensures.place,
+      c.write_mask-started.ensures.place,
+      c.requires.room,
+      c.write_at-tagged.auto.buf,
+      c.write_mask-started.auto.buf,
+      length-low 0 (mask_len (length c.args.channels.now)) c.args.starts,
+      length-low 0
+          (mask_len (length c.args.channels.now)) c.args.ends,
+    )
 
 pub write_contents-requires-clause-room : goal.write_contents-requires-clause-room
 write_contents-requires-clause-room c =
-    omega (arith, c.write_at-tagged.ensures.place, c.write_mask-started.ensures.place, c.write_mask-ended.ensures.place, c.requires.room, c.write_at-tagged.auto.buf, c.write_mask-started.auto.buf, c.write_mask-ended.auto.buf, length-low 0 (mask_len (length c.args.channels.now)) c.args.starts, length-low 0 (mask_len (length c.args.channels.now)) c.args.ends)
+    omega (
+      arith,
+      c.write_at-tagged.ensures.place,
+      c.write_mask-started.ensures.place,
+      c.write_mask-ended.ensures.place,
+      c.requires.room,
+      c.write_at-tagged.auto.buf,
+      c.write_mask-started.auto.buf,
+      c.write_mask-ended.auto.buf,
+      length-low 0
+          (mask_len (length c.args.channels.now)) c.args.starts,
+      length-low 0 (mask_len (length c.args.channels.now)) c.args.ends,
+    )
 
 pub returns-clause-bytes : goal.returns-clause-bytes
 returns-clause-bytes c =
     let numbers = picked c.args.listed c.args.starts 0 c.args.channels.now c.args.contents.now in
-    let size = number_bytes-length (widths_under c.args.starts c.args.channels.now) numbers (picked-length c.args.listed c.args.starts 0 c.args.channels.now c.args.contents.now c.requires.some c.requires.one_each) in
-    (parts-written (length c.args.channels.now) c.args.starts c.args.ends (number_bytes (widths_under c.args.starts c.args.channels.now) numbers) c.args.buf.now c.write_at-tagged.new.buf c.write_mask-started.new.buf c.write_mask-ended.new.buf c.write_contents.new.buf c.write_at-tagged.result c.write_mask-started.result c.write_mask-ended.result c.write_contents.result
+    let size = number_bytes-length (widths_under c.args.starts c.args.channels.now) numbers
+    (picked-length c.args.listed c.args.starts 0 c.args.channels.now c.args.contents.now c.requires.some c.requires.one_each) in
+    (parts-written (length c.args.channels.now) c.args.starts c.args.ends
+    (number_bytes (widths_under c.args.starts c.args.channels.now) numbers) c.args.buf.now c.write_at-tagged.new.buf
+    c.write_mask-started.new.buf c.write_mask-ended.new.buf c.write_contents.new.buf c.write_at-tagged.result c.write_mask-started.result
+    c.write_mask-ended.result c.write_contents.result
     (record {
-      room = omega (arith, size, c.requires.room, length-low 0 (mask_len (length c.args.channels.now)) c.args.starts, length-low 0 (mask_len (length c.args.channels.now)) c.args.ends);
+      room = omega (
+        arith,
+        size,
+        c.requires.room,
+        length-low 0 (mask_len (length c.args.channels.now)) c.args.starts,
+        length-low 0
+            (mask_len (length c.args.channels.now)) c.args.ends,
+      );
       tag = c.write_at-tagged.ensures.bytes;
       tag-place = c.write_at-tagged.ensures.place;
       starts = c.write_mask-started.ensures.bytes;

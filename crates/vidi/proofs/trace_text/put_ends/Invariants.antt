@@ -8,5 +8,6 @@ use Rattle.vidi.proofs.trace_text.put_ends.Given as goal
 
 abbrev pub invariant-loop-c : goal.invariant-loop-c
 invariant-loop-c l =
-    l.text.items ++ flat_map (λ (x : ℕ × Channel). if has l.packet.ends x.0 then end_line l.number l.clock x else []) (enumerate_from l.c (drop l.c l.channels))
+    l.text.items ++ flat_map (λ (x : ℕ × Channel). if has l.packet.ends x.0 then end_line l.number l.clock x else [])
+    (enumerate_from l.c (drop l.c l.channels))
     ≡ l.initial.text.items ++ end_lines l.channels l.number l.packet l.clock

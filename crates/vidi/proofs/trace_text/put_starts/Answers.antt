@@ -20,10 +20,13 @@ loop-c-preserved c =
     let line = decimal number ++ (codes " start " ++ (channel.name ++ (spaced (take (length channel.widths) rest) ++ clock))) in
     let grown = c.in_ok-rest.ensures.text
     ∙ ap (λ b. text ++ cond b line []) c.names-starts.ensures
-    ∙ ap (λ (l : List ℕ). text ++ l) (start-there channels packet number clock i channel rest c.loop-c-test.true c.index-channels-c.is c.loop-c.invariant.rest) in
+    ∙ ap (λ (l : List ℕ). text ++ l) (start-there channels packet number clock i channel rest c.loop-c-test.true c.index-channels-c.is
+    c.loop-c.invariant.rest) in
     record {
       text = ap (λ (t : List ℕ). t ++ flat_map F (enumerate_from (i + 1) (drop (i + 1) channels))) grown
-          ∙ lines_on F text (c.args.text.now.items ++ start_lines channels number packet clock) channels i channel c.loop-c-test.true c.index-channels-c.is c.loop-c.invariant.text;
-      rest = rest-on packet.starts packet.contents channels i channel rest c.in_ok-rest.rest.now c.loop-c-test.true c.index-channels-c.is c.loop-c.invariant.rest
+          ∙ lines_on F text (c.args.text.now.items ++ start_lines channels number packet clock) channels i channel c.loop-c-test.true
+          c.index-channels-c.is c.loop-c.invariant.text;
+      rest = rest-on packet.starts packet.contents channels i channel rest c.in_ok-rest.rest.now c.loop-c-test.true c.index-channels-c.is
+          c.loop-c.invariant.rest
           (c.in_ok-rest.ensures.rest ∙ ap (λ b. drop (length (cond b channel.widths [])) rest) c.names-starts.ensures);
     }

@@ -37,10 +37,12 @@ fields Z = via (vec.the_former this Z) (λ X. Inside X Z) (λ X a. a.items) (λ 
 
 module _ (Z : RattleType) (L : alloc.Ghosts Z.Denot) (R S : RattleType) (h : R.Denot → S.Denot) where
   pub the_places : Alike R S h → Alike (C.the_row R Z L) (C.the_row S Z L) ((the_former this Z.Denot).map R.Denot S.Denot h)
-  the_places a = view_places (fields Z.Denot) (list this) (λ X. view X Z.Denot L) (λ X Y k u. refl) (λ X u. refl) R.Denot S.Denot h (C.the_row R Z L).coded (C.the_row S Z L).coded
+  the_places a = view_places (fields Z.Denot) (list this) (λ X. view X Z.Denot L) (λ X Y k u. refl) (λ X u. refl) R.Denot S.Denot h
+      (C.the_row R Z L).coded (C.the_row S Z L).coded
       (invariant R.Denot Z.Denot L) (invariant S.Denot Z.Denot L) (λ u p q. refl) (λ u p q. refl) (λ u e. tt) (λ u e. tt)
       (over (I.the_row R Z L)) (over (I.the_row S Z L))
-      (struct_places (I.the_type R Z L) (I.the_type S Z L) (vec.mapped h, tt) _ (λ d. refl) refl (laid _ _ _ (vec.the_places Z L R S h a), tt))
+      (struct_places (I.the_type R Z L) (I.the_type S Z L) (vec.mapped h, tt) _ (λ d. refl) refl
+      (laid _ _ _ (vec.the_places Z L R S h a), tt))
 
   pub the_codes_placed : Recodes R S h → Recodes (C.the_row R Z L) (C.the_row S Z L) ((the_former this Z.Denot).map R.Denot S.Denot h)
   the_codes_placed e d = sym (code_map R.coded.code S.coded.code h (λ x. sym (e x)) d)

@@ -21,9 +21,11 @@ loop-rest-preserved c =
     rw c.behind-rest.ensures record {
       words = read.0;
       bad = read.1 ∙ ap (λ k. bad_from k (file_lines (drop (c.line_len-len.result + 1) c.loop-rest.rest.now))) count;
-      few = fewer c.loop-rest.rest.now c.line_len-len.result c.loop-rest.lines c.push.new.self c.in_ok-line.line (length c.args.bytes.now) some c.in_ok-push.ensures.ok c.loop-rest.invariant.few;
+      few = fewer c.loop-rest.rest.now c.line_len-len.result c.loop-rest.lines c.push.new.self c.in_ok-line.line (length c.args.bytes.now)
+          some c.in_ok-push.ensures.ok c.loop-rest.invariant.few;
     }
 
 pub returns-clause-lines : goal.returns-clause-lines
-returns-clause-lines c = lines_read c.args.bytes.now c.loop-rest.rest.now _ c.loop-rest.lines c.loop-rest.invariant.words c.loop-rest.invariant.bad
+returns-clause-lines c = lines_read c.args.bytes.now c.loop-rest.rest.now _ c.loop-rest.lines c.loop-rest.invariant.words
+    c.loop-rest.invariant.bad
     (is_none c.loop-rest.rest.now (sym c.is_empty.ensures ∙ c.loop-rest-test.false))

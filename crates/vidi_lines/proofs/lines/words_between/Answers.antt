@@ -4,7 +4,9 @@ use Rattle.vidi_lines.proofs.lines.words_between.Goals as goal
 
 pub loop-rest-preserved : goal.loop-rest-preserved
 loop-rest-preserved c = rw c.behind-rest.ensures
-    (word_read c.args.text.now c.loop-rest.rest.now c.loop-rest.words c.push_word.new.words c.word_len-len.result c.loop-rest.invariant c.word_len-len.ensures.value c.in_ok-push_word.ensures)
+    (word_read c.args.text.now c.loop-rest.rest.now c.loop-rest.words c.push_word.new.words c.word_len-len.result c.loop-rest.invariant
+    c.word_len-len.ensures.value c.in_ok-push_word.ensures)
 
 pub returns : goal.returns
-returns c = words_read c.args.text.now c.loop-rest.rest.now c.loop-rest.words c.loop-rest.invariant (is_none c.loop-rest.rest.now (sym c.is_empty.ensures ∙ c.loop-rest-test.false))
+returns c = words_read c.args.text.now c.loop-rest.rest.now c.loop-rest.words c.loop-rest.invariant
+    (is_none c.loop-rest.rest.now (sym c.is_empty.ensures ∙ c.loop-rest-test.false))

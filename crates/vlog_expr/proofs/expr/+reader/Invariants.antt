@@ -22,7 +22,8 @@ decreases-climb_of-loop-at l = l.at
 abbrev pub invariant-climb_of-loop-at : goal.invariant-climb_of-loop-at
 invariant-climb_of-loop-at l =
     (l.level ≤ l.at) × (l.at ≤ 11) × (l.fuel + (l.at - l.level) ≡ l.base + (11 - l.level))
-    × (climb_at l.fuel (l.at - 1) (l.at - l.level) (plain_expr l.left, all_marked l.rest) ≡ climb_at l.base 10 (11 - l.level) (plain_expr l.fn.operand, all_marked l.tokens))
+    × (climb_at l.fuel (l.at - 1) (l.at - l.level) (plain_expr l.left, all_marked l.rest)
+    ≡ climb_at l.base 10 (11 - l.level) (plain_expr l.fn.operand, all_marked l.tokens))
 
 abbrev pub decreases-chain_of : goal.decreases-chain_of
 decreases-chain_of l = 2 * l.fuel + 1
@@ -59,4 +60,5 @@ decreases-parts_of-loop-left l = l.left
 
 abbrev pub invariant-parts_of-loop-left : goal.invariant-parts_of-loop-left
 invariant-parts_of-loop-left l =
-    (l.left ≤ l.fn.fuel) × (parts_at l.left (map plain_expr l.parts) (all_marked l.rest) ≡ parts_at l.fn.fuel (map plain_expr l.fn.parts) (all_marked l.fn.tokens))
+    (l.left ≤ l.fn.fuel) × (parts_at l.left (map plain_expr l.parts) (all_marked l.rest)
+    ≡ parts_at l.fn.fuel (map plain_expr l.fn.parts) (all_marked l.fn.tokens))

@@ -15,4 +15,5 @@ decreases-targets_of-loop-left l = l.left
 
 abbrev pub invariant-targets_of-loop-left : goal.invariant-targets_of-loop-left
 invariant-targets_of-loop-left l =
-    (l.left ≤ l.fn.fuel) × (targets_at l.left (map plain_target l.parts) (all_marked l.rest) ≡ targets_at l.fn.fuel (map plain_target l.fn.parts) (all_marked l.fn.tokens))
+    (l.left ≤ l.fn.fuel) × (targets_at l.left (map plain_target l.parts) (all_marked l.rest)
+    ≡ targets_at l.fn.fuel (map plain_target l.fn.parts) (all_marked l.fn.tokens))

@@ -5,7 +5,9 @@ pub returns-in_default : goal.returns-in_default
 returns-in_default c = block_no c.args.bytes.now c.in_default.ensures.none
 
 pub returns-then-end-gt0 : goal.returns-then-end-gt0
-returns-then-end-gt0 c = block_yes c.args.bytes.now c.in-Some.body.now c.comment_end_len-end.result c.in-Some.ensures.found c.comment_end_len-end.ensures c.if-end-gt0.true
+returns-then-end-gt0 c = block_yes c.args.bytes.now c.in-Some.body.now c.comment_end_len-end.result c.in-Some.ensures.found
+    c.comment_end_len-end.ensures c.if-end-gt0.true
 
 pub returns-else-end-gt0 : goal.returns-else-end-gt0
-returns-else-end-gt0 c = block_open c.args.bytes.now c.in-Some.body.now c.comment_end_len-end.result c.in-Some.ensures.found c.comment_end_len-end.ensures c.if-end-gt0.false
+returns-else-end-gt0 c = block_open c.args.bytes.now c.in-Some.body.now c.comment_end_len-end.result c.in-Some.ensures.found
+    c.comment_end_len-end.ensures c.if-end-gt0.false

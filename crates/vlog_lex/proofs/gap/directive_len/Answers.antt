@@ -17,5 +17,6 @@ returns-then-is_directive c =
 
 pub returns-else-is_directive : goal.returns-else-is_directive
 returns-else-is_directive c =
-    directive_other c.args.bytes.now c.in-Some.rest.now c.name_part_len-word.result c.in-Some.ensures.found c.name_part_len-word.ensures.value
+    directive_other c.args.bytes.now c.in-Some.rest.now c.name_part_len-word.result c.in-Some.ensures.found
+    c.name_part_len-word.ensures.value
     (sym c.is_directive.ensures ∙ c.if-is_directive.false)

@@ -11,4 +11,5 @@ pub returns-then-block-gt0 : goal.returns-then-block-gt0
 returns-then-block-gt0 c = gap_block _ _ c.block_comment_len-block.ensures c.if-block-gt0.true
 
 pub returns : goal.returns
-returns c = gap_directive _ _ _ _ _ c.white_len-white.ensures c.if-white-gt0.false c.line_comment_len-line.ensures c.if-line-gt0.false c.block_comment_len-block.ensures c.if-block-gt0.false c.directive_len.ensures
+returns c = gap_directive _ _ _ _ _ c.white_len-white.ensures c.if-white-gt0.false c.line_comment_len-line.ensures c.if-line-gt0.false
+    c.block_comment_len-block.ensures c.if-block-gt0.false c.directive_len.ensures

@@ -13,10 +13,12 @@ pub returns-then-digits-gt0 : goal.returns-then-digits-gt0
 returns-then-digits-gt0 c =
     let bytes = c.args.bytes.now in
     let size = c.digits_len-size.result in
-    based_yes size c.in-Some.base c.digits_len-digits.result bytes c.in-Some.rest.now c.digits_len-size.ensures (sym (take_rest bytes size) ∙ c.in-Some.ensures.found) c.digits_len-digits.ensures c.if-digits-gt0.true
+    based_yes size c.in-Some.base c.digits_len-digits.result bytes c.in-Some.rest.now c.digits_len-size.ensures
+    (sym (take_rest bytes size) ∙ c.in-Some.ensures.found) c.digits_len-digits.ensures c.if-digits-gt0.true
 
 pub returns-else-digits-gt0 : goal.returns-else-digits-gt0
 returns-else-digits-gt0 c =
     let bytes = c.args.bytes.now in
     let size = c.digits_len-size.result in
-    based_bare size c.in-Some.base c.digits_len-digits.result bytes c.in-Some.rest.now c.digits_len-size.ensures (sym (take_rest bytes size) ∙ c.in-Some.ensures.found) c.digits_len-digits.ensures c.if-digits-gt0.false
+    based_bare size c.in-Some.base c.digits_len-digits.result bytes c.in-Some.rest.now c.digits_len-size.ensures
+    (sym (take_rest bytes size) ∙ c.in-Some.ensures.found) c.digits_len-digits.ensures c.if-digits-gt0.false

@@ -13,8 +13,14 @@ returns-then-is_reserved c =
 
 pub returns-else-is_reserved : goal.returns-else-is_reserved
 returns-else-is_reserved c =
-    let name = c.name_len-name.ensures in
-    (name.fits, longest_name Identifier _ _ name (name.found c.if-name-gt0.true, both_ways _ (sym c.is_reserved.ensures ∙ c.if-is_reserved.false)) refl)
+    let name = c.name_len-name.ensures in (
+      name.fits,
+      longest_name Identifier _ _ name (
+        name.found c.if-name-gt0.true,
+        both_ways _
+            (sym c.is_reserved.ensures ∙ c.if-is_reserved.false),
+      ) refl,
+    )
 
 pub returns-then-based-gt0 : goal.returns-then-based-gt0
 returns-then-based-gt0 c = (c.based_len-based.ensures.fits, longest_based _ _ c.based_len-based.ensures c.if-based-gt0.true)

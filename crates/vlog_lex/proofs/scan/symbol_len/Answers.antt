@@ -15,9 +15,11 @@ returns-then-has_symbol-2 c =
 pub returns-then-has_symbol-3 : goal.returns-then-has_symbol-3
 returns-then-has_symbol-3 c =
     symbol_found 1 _ (sym c.has_symbol-else-has_symbol-2.ensures ∙ c.if-has_symbol-3.true)
-    (from_2 (has_symbol c.args.bytes.now) (sym c.has_symbol-else-has_symbol.ensures ∙ c.if-has_symbol-2.false) (sym c.has_symbol.ensures ∙ c.if-has_symbol.false))
+    (from_2 (has_symbol c.args.bytes.now) (sym c.has_symbol-else-has_symbol.ensures ∙ c.if-has_symbol-2.false)
+    (sym c.has_symbol.ensures ∙ c.if-has_symbol.false))
 
 pub returns-else-has_symbol-3 : goal.returns-else-has_symbol-3
 returns-else-has_symbol-3 c =
     symbol_none _
-    (from_1 (has_symbol c.args.bytes.now) (sym c.has_symbol-else-has_symbol-2.ensures ∙ c.if-has_symbol-3.false) (sym c.has_symbol-else-has_symbol.ensures ∙ c.if-has_symbol-2.false) (sym c.has_symbol.ensures ∙ c.if-has_symbol.false))
+    (from_1 (has_symbol c.args.bytes.now) (sym c.has_symbol-else-has_symbol-2.ensures ∙ c.if-has_symbol-3.false)
+    (sym c.has_symbol-else-has_symbol.ensures ∙ c.if-has_symbol-2.false) (sym c.has_symbol.ensures ∙ c.if-has_symbol.false))

@@ -33,4 +33,5 @@ pub returns-in-0-to-1 : goal.returns-in-0-to-1
 returns-in-0-to-1 c = let short : length c.args.text.now < 2 = omega arith in reserved_below 2 c.args.text.now short
 
 pub returns-in_default : goal.returns-in_default
-returns-in_default c = let long : 10 < length c.args.text.now = omega arith in c.is_one_of-in_default.ensures ∙ reserved_above 10 c.args.text.now long
+returns-in_default c = let long : 10 < length c.args.text.now = omega arith in c.is_one_of-in_default.ensures
+    ∙ reserved_above 10 c.args.text.now long

@@ -8,8 +8,12 @@ use Rattle.vlog_parse.proofs.listed.more_of.Goals as goal
 pub loop-left-preserved : goal.loop-left-preserved
 loop-left-preserved g c =
     let T = g.T.Listed in
-    let step = more_turn (T.one_at c.args.fuel) c.loop-left.left (c.loop-left.left - 1) (map T.plain c.loop-left.front) (all_marked c.loop-left.rest.now)
+    let step = more_turn (T.one_at c.args.fuel) c.loop-left.left (c.loop-left.left - 1) (map T.plain c.loop-left.front)
+    (all_marked c.loop-left.rest.now)
     (c.in-Some.field-0-0, all_marked c.in-Some.behind.now) (T.plain c.in_ok-one.one, all_marked c.in_ok-one.behind.now)
     (omega arith) (search rules) (search rules) in
-    let longer = ap (λ xs. map T.plain xs) c.in_ok-push.ensures.ok ∙ map_snoc T.plain c.loop-left.front c.in_ok-one.one in
-    (omega arith, ap (λ xs. more_at (T.one_at c.args.fuel) (c.loop-left.left - 1) xs (all_marked c.in_ok-one.behind.now)) longer ∙ sym step ∙ c.loop-left.invariant.1)
+    let longer = ap (λ xs. map T.plain xs) c.in_ok-push.ensures.ok ∙ map_snoc T.plain c.loop-left.front c.in_ok-one.one in (
+      omega arith,
+      ap (λ xs. more_at (T.one_at c.args.fuel) (c.loop-left.left - 1) xs (all_marked c.in_ok-one.behind.now)) longer ∙ sym step
+          ∙ c.loop-left.invariant.1,
+    )

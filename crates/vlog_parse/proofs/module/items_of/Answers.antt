@@ -10,8 +10,13 @@ use Rattle.vlog_parse.proofs.module.items_of.Goals as goal
 
 pub loop-left-preserved : goal.loop-left-preserved
 loop-left-preserved c =
-    let turn = items_turn c.args.fuel c.loop-left.left (c.loop-left.left - 1) (map plain_item c.loop-left.items) (all_marked c.loop-left.rest.now)
+    let turn = items_turn c.args.fuel c.loop-left.left (c.loop-left.left - 1) (map plain_item c.loop-left.items)
+    (all_marked c.loop-left.rest.now)
     (plain_item c.in_ok-item-in-None.item, all_marked c.in_ok-item-in-None.behind.now)
     (omega arith) (search rules) (search rules) in
-    let longer = ap (λ (xs : List Item). map plain_item xs) c.in_ok-push-in-None.ensures.ok ∙ items_snoc c.loop-left.items c.in_ok-item-in-None.item in
-    (omega arith, ap (λ (xs : List (ItemOf _)). items_at c.args.fuel (c.loop-left.left - 1) xs (all_marked c.in_ok-item-in-None.behind.now)) longer ∙ sym turn ∙ c.loop-left.invariant.1)
+    let longer = ap (λ (xs : List Item). map plain_item xs) c.in_ok-push-in-None.ensures.ok
+    ∙ items_snoc c.loop-left.items c.in_ok-item-in-None.item in (
+      omega arith,
+      ap (λ (xs : List (ItemOf _)). items_at c.args.fuel (c.loop-left.left - 1) xs (all_marked c.in_ok-item-in-None.behind.now))
+          longer ∙ sym turn ∙ c.loop-left.invariant.1,
+    )

@@ -9,4 +9,5 @@ decreases-loop-left l = l.left
 
 abbrev pub invariant-loop-left : goal.invariant-loop-left
 invariant-loop-left l =
-    (l.left ≤ l.fuel) × (items_at l.fuel l.left (map plain_item l.items) (all_marked l.rest) ≡ items_at l.fuel l.fuel [] (all_marked l.tokens))
+    (l.left ≤ l.fuel) × (items_at l.fuel l.left (map plain_item l.items) (all_marked l.rest)
+    ≡ items_at l.fuel l.fuel [] (all_marked l.tokens))

@@ -10,8 +10,13 @@ use Rattle.vlog_parse.proofs.module.modules_of.Goals as goal
 
 pub loop-left-preserved : goal.loop-left-preserved
 loop-left-preserved c =
-    let turn = modules_turn c.args.fuel c.loop-left.left (c.loop-left.left - 1) (map plain_module c.loop-left.front) (all_marked c.loop-left.rest.now)
+    let turn = modules_turn c.args.fuel c.loop-left.left (c.loop-left.left - 1) (map plain_module c.loop-left.front)
+    (all_marked c.loop-left.rest.now)
     (plain_module c.in_ok-module.module, all_marked c.in_ok-module.behind.now)
     (omega arith) (marked_some c.loop-left.rest.now (search rules)) (search rules) in
-    let longer = ap (λ (xs : List Module). map plain_module xs) c.in_ok-push.ensures.ok ∙ modules_snoc c.loop-left.front c.in_ok-module.module in
-    (omega arith, ap (λ (xs : List (ModuleOf _)). modules_at c.args.fuel (c.loop-left.left - 1) xs (all_marked c.in_ok-module.behind.now)) longer ∙ sym turn ∙ c.loop-left.invariant.1)
+    let longer = ap (λ (xs : List Module). map plain_module xs) c.in_ok-push.ensures.ok
+    ∙ modules_snoc c.loop-left.front c.in_ok-module.module in (
+      omega arith,
+      ap (λ (xs : List (ModuleOf _)). modules_at c.args.fuel (c.loop-left.left - 1) xs (all_marked c.in_ok-module.behind.now))
+          longer ∙ sym turn ∙ c.loop-left.invariant.1,
+    )

@@ -9,4 +9,5 @@ decreases-loop-left l = l.left
 
 abbrev pub invariant-loop-left : goal.invariant-loop-left
 invariant-loop-left l =
-    (l.left ≤ l.fuel) × (modules_at l.fuel l.left (map plain_module l.front) (all_marked l.rest) ≡ modules_at l.fuel l.fuel (map plain_module l.fn.front) (all_marked l.tokens))
+    (l.left ≤ l.fuel) × (modules_at l.fuel l.left (map plain_module l.front) (all_marked l.rest)
+    ≡ modules_at l.fuel l.fuel (map plain_module l.fn.front) (all_marked l.tokens))

@@ -12,7 +12,8 @@ abbrev DeepAt : ℕ → List Token → Type 0
 DeepAt line ts = IsDeep (all_marked ts) line
 
 pub returns-in-Some-clause-refused : goal.returns-in-Some-clause-refused
-returns-in-Some-clause-refused c = subst (DeepAt c.in-Some.line) c.as_slice.ensures ((c.deep_line.ensures.found c.in-Some.line).0 c.in-Some.is)
+returns-in-Some-clause-refused c = subst (DeepAt c.in-Some.line) c.as_slice.ensures
+    ((c.deep_line.ensures.found c.in-Some.line).0 c.in-Some.is)
 
 pub returns-in-Some-clause-deep : goal.returns-in-Some-clause-deep
 returns-in-Some-clause-deep c = λ line deep.

@@ -13,5 +13,9 @@ stmts_of-loop-left-preserved t c =
     let turn = stmts_turn c.loop-left.left (c.loop-left.left - 1) (map plain_stmt c.loop-left.stmts) (all_marked c.loop-left.rest.now)
     (plain_stmt c.in_ok-stmt-in-None.stmt, all_marked c.in_ok-stmt-in-None.behind.now)
     (omega arith) (search rules) (search rules) in
-    let longer = ap (λ (xs : List Stmt). map plain_stmt xs) c.in_ok-push-in-None.ensures.ok ∙ stmts_snoc c.loop-left.stmts c.in_ok-stmt-in-None.stmt in
-    (omega arith, ap (λ (xs : List (StmtOf _)). stmts_at (c.loop-left.left - 1) xs (all_marked c.in_ok-stmt-in-None.behind.now)) longer ∙ sym turn ∙ c.loop-left.invariant.1)
+    let longer = ap (λ (xs : List Stmt). map plain_stmt xs) c.in_ok-push-in-None.ensures.ok
+    ∙ stmts_snoc c.loop-left.stmts c.in_ok-stmt-in-None.stmt in (
+      omega arith,
+      ap (λ (xs : List (StmtOf _)). stmts_at (c.loop-left.left - 1) xs (all_marked c.in_ok-stmt-in-None.behind.now)) longer
+          ∙ sym turn ∙ c.loop-left.invariant.1,
+    )

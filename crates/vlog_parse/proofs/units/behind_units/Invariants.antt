@@ -7,4 +7,5 @@ abbrev pub decreases-loop-left : goal.decreases-loop-left
 decreases-loop-left l = l.left
 
 abbrev pub invariant-loop-left : goal.invariant-loop-left
-invariant-loop-left l = (l.left ≤ l.fuel) × (behind_units l.fuel l.left l.inside (all_marked l.rest) ≡ behind_units l.fuel l.fuel false (all_marked l.tokens))
+invariant-loop-left l = (l.left ≤ l.fuel) × (behind_units l.fuel l.left l.inside (all_marked l.rest)
+    ≡ behind_units l.fuel l.fuel false (all_marked l.tokens))

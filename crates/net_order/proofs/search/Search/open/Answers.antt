@@ -10,8 +10,10 @@ returns-clause-step c =
     let g = c.args.graph.now in
     let sound = c.requires.sound in
     record {
-      sound = subst (λ (p : List ℕ). IsSound g (slice_set s.marks.items c.args.i Open) s.left.items p s.order) (sym c.in_ok-push.ensures.items)
+      sound = subst (λ (p : List ℕ). IsSound g (slice_set s.marks.items c.args.i Open) s.left.items p s.order)
+          (sym c.in_ok-push.ensures.items)
           (open_sound g s.marks.items s.left.items s.path.items s.order sound c.args.i c.requires.within c.requires.fresh c.requires.read);
-      fewer = fewer g s.marks.items s.left.items s.path.items s.order sound c.args.i c.requires.within Fresh Open c.requires.fresh (omega arith);
+      fewer = fewer g s.marks.items s.left.items s.path.items s.order sound c.args.i c.requires.within Fresh Open c.requires.fresh
+          (omega arith);
       begun = stay_begun g s.marks.items s.left.items s.path.items s.order sound c.args.i c.requires.within Open (λ e. absurd cc);
     }

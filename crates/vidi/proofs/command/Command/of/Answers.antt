@@ -5,15 +5,18 @@ use Rattle.vidi.proofs.command.Command.of.Goals as goal
 
 pub returns-in-len2 : goal.returns-in-len2
 returns-in-len2 c =
-    let shape = two c.as_slice.result.now c.name-item.result c.trace-item.result c.in-len2.len_at_least c.in-len2.len_below c.name-item.is c.trace-item.is in
+    let shape = two c.as_slice.result.now c.name-item.result c.trace-item.result c.in-len2.len_at_least c.in-len2.len_below c.name-item.is
+    c.trace-item.is in
     let name = same_text _ _ (sym c.if-eq.true ∙ c.eq.ensures) in
     sym c.as_slice.ensures ∙ shape ∙ ap (λ (x : List ℕ). x ∷ c.trace-item.result ∷ []) (sym c.as_str.ensures ∙ name)
     ∙ ap (λ (x : List ℕ). codes "dump" ∷ x ∷ []) (sym c.as_str-in-len2.ensures)
 
 pub returns-in-len3 : goal.returns-in-len3
 returns-in-len3 c =
-    let shape = three c.as_slice.result.now c.name-item-then-this-lt4.result c.design-item.result c.top-item.result c.in-len3.len_at_least c.in-len3.len_below c.name-item-then-this-lt4.is c.design-item.is c.top-item.is in
+    let shape = three c.as_slice.result.now c.name-item-then-this-lt4.result c.design-item.result c.top-item.result c.in-len3.len_at_least
+    c.in-len3.len_below c.name-item-then-this-lt4.is c.design-item.is c.top-item.is in
     let name = same_text _ _ (sym c.if-eq-2.true ∙ c.eq-then-this-lt4.ensures) in
-    sym c.as_slice.ensures ∙ shape ∙ ap (λ (x : List ℕ). x ∷ c.design-item.result ∷ c.top-item.result ∷ []) (sym c.as_str-then-this-lt4.ensures ∙ name)
+    sym c.as_slice.ensures ∙ shape ∙ ap (λ (x : List ℕ). x ∷ c.design-item.result ∷ c.top-item.result ∷ [])
+    (sym c.as_str-then-this-lt4.ensures ∙ name)
     ∙ ap (λ (x : List ℕ). codes "check" ∷ x ∷ c.top-item.result ∷ []) (sym c.as_str-in-len3.ensures)
     ∙ ap (λ (x : List ℕ). codes "check" ∷ c.as_str-in-len3.result.now ∷ x ∷ []) (sym c.as_str-in-len3-2.ensures)

@@ -6,4 +6,5 @@ use Rattle.vlog_tree.proofs.spelling.expr.+push.Given as goal
 
 abbrev pub invariant-push_exprs-loop-e : goal.invariant-push_exprs-loop-e
 invariant-push_exprs-loop-e l =
-    l.out ++ tokens_of (more_exprs_words (plain_exprs (drop l.e-index l.rest))) ≡ l.initial.out ++ tokens_of (more_exprs_words (plain_exprs l.rest))
+    l.out ++ tokens_of (more_exprs_words (plain_exprs (drop l.e-index l.rest))) ≡ l.initial.out
+    ++ tokens_of (more_exprs_words (plain_exprs l.rest))

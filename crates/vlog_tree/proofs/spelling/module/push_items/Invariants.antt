@@ -6,4 +6,5 @@ use Rattle.vlog_tree.proofs.spelling.module.push_items.Given as goal
 
 abbrev pub invariant-loop-item : goal.invariant-loop-item
 invariant-loop-item l =
-    l.out ++ tokens_of (in_row item_words (map plain_item (drop l.item-index l.items))) ≡ l.initial.out ++ tokens_of (in_row item_words (map plain_item l.items))
+    l.out ++ tokens_of (in_row item_words (map plain_item (drop l.item-index l.items))) ≡ l.initial.out
+    ++ tokens_of (in_row item_words (map plain_item l.items))

@@ -5,4 +5,5 @@ use Rattle.vlog_tree.proofs.spelling.module.push_with_commas.Given as goal
 
 abbrev pub invariant-loop-part : goal.invariant-loop-part
 invariant-loop-part g l =
-    l.out ++ tokens_of (after_commas g.T.Spelled.words (drop l.part-index l.rest)) ≡ l.initial.out ++ tokens_of (after_commas g.T.Spelled.words l.rest)
+    l.out ++ tokens_of (after_commas g.T.Spelled.words (drop l.part-index l.rest)) ≡ l.initial.out
+    ++ tokens_of (after_commas g.T.Spelled.words l.rest)

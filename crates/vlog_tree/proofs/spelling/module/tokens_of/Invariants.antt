@@ -6,4 +6,5 @@ use Rattle.vlog_tree.proofs.spelling.module.tokens_of.Given as goal
 
 abbrev pub invariant-loop-module : goal.invariant-loop-module
 invariant-loop-module l =
-    l.out ++ tokens_of (in_row module_words (map plain_module (drop l.module-index l.file.modules))) ≡ tokens_of (in_row module_words (map plain_module l.file.modules))
+    l.out ++ tokens_of (in_row module_words (map plain_module (drop l.module-index l.file.modules)))
+    ≡ tokens_of (in_row module_words (map plain_module l.file.modules))

@@ -6,4 +6,5 @@ use Rattle.vlog_tree.proofs.spelling.stmt.+push_stmts.Given as goal
 
 abbrev pub invariant-push_stmts-loop-stmt : goal.invariant-push_stmts-loop-stmt
 invariant-push_stmts-loop-stmt l =
-    l.out ++ tokens_of (stmts_words (plain_stmts (drop l.stmt-index l.stmts))) ≡ l.initial.out ++ tokens_of (stmts_words (plain_stmts l.stmts))
+    l.out ++ tokens_of (stmts_words (plain_stmts (drop l.stmt-index l.stmts))) ≡ l.initial.out
+    ++ tokens_of (stmts_words (plain_stmts l.stmts))

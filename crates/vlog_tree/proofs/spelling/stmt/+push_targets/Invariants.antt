@@ -6,4 +6,5 @@ use Rattle.vlog_tree.proofs.spelling.stmt.+push_targets.Given as goal
 
 abbrev pub invariant-push_targets-loop-target : goal.invariant-push_targets-loop-target
 invariant-push_targets-loop-target l =
-    l.out ++ tokens_of (more_targets_words (plain_targets (drop l.target-index l.rest))) ≡ l.initial.out ++ tokens_of (more_targets_words (plain_targets l.rest))
+    l.out ++ tokens_of (more_targets_words (plain_targets (drop l.target-index l.rest))) ≡ l.initial.out
+    ++ tokens_of (more_targets_words (plain_targets l.rest))
