@@ -9,7 +9,6 @@ ghost use Rattle.chan_map.specs.Parts.{ArePartsOf};
 
 use crate::error::MapError;
 use crate::fits::check_lines;
-use crate::forms::copy;
 use crate::limits::check_limits;
 use crate::map_text::MapLine;
 use crate::parts::{Parts, parts_of, pin_named};
@@ -19,6 +18,7 @@ use crate::text::MapText;
 use crate::times::check_cover;
 use net_design::Design;
 use std::alloc::Global;
+use vidi_bits::copied;
 
 /// What the lines add to a map, where they fit the design.
 fn checked_parts(alloc: Global, top: &Top, lines: &[MapLine]) -> Result<Parts, MapError>
@@ -45,7 +45,7 @@ pub fn bind_map(alloc: Global, text: &MapText, design: &Design) -> Result<Map, M
     ensures { BindsMap text.now design.now result }
 {
     let top = top_of(alloc, design)?;
-    let name = copy(alloc, text.top.as_slice())?;
+    let name = copied(alloc, text.top.as_slice())?;
     let clock = pin_named(alloc, &top, text.clock.as_slice())?;
     let parts = checked_parts(alloc, &top, text.lines.as_slice())?;
     let Parts {

@@ -11,7 +11,7 @@ ghost use Rattle.chan_map.specs.Forms.{keyword_of, is_channel_name, tie_of, rese
 use crate::map_text::{ChannelLine, Entry};
 use std::alloc::Global;
 use trace_model::Dir;
-use vidi_bits::{Items, Memory, Name};
+use vidi_bits::{Items, Memory, Name, copied};
 use vidi_lines::{Names, number};
 
 /// The first word of a line.
@@ -84,20 +84,13 @@ fn is_channel_name(name: &[u8]) -> bool
     }
 }
 
-/// A copy of a name.
-pub fn copy(alloc: Global, name: &[u8]) -> Result<Name, Memory>
-    ensures { IfOk result (λ n. n ≡ name.now) }
-{
-    Ok(Name::from_vec(Vec::from_slice(alloc, name)?))
-}
-
 /// Copies of names.
 fn copy_all(alloc: Global, names: &[Name]) -> Result<Names, Memory>
     ensures { IfOk result (λ ns. ns ≡ names.now) }
 {
     let mut copies = Names::new(alloc);
     for name in names {
-        copies.push(copy(alloc, name.as_slice())?)?;
+        copies.push(copied(alloc, name.as_slice())?)?;
     }
     Ok(copies)
 }
@@ -109,7 +102,7 @@ fn tie_of(alloc: Global, port: &[u8], word: &[u8]) -> Result<Option<Entry>, Memo
     let Some(number) = number(word) else {
         return Ok(None);
     };
-    let port = copy(alloc, port)?;
+    let port = copied(alloc, port)?;
     Ok(Some(Entry::Tie { port, number }))
 }
 
@@ -128,7 +121,7 @@ fn reset_of(
     if active > 1 || cycles < 1 || cycles > 1000 {
         return Ok(None);
     }
-    let port = copy(alloc, port)?;
+    let port = copied(alloc, port)?;
     Ok(Some(Entry::Reset {
         port,
         active: active == 1,
@@ -146,9 +139,9 @@ fn channel_of(alloc: Global, dir: Dir, words: &[Name]) -> Result<Option<Entry>, 
     if !is_channel_name(name.as_slice()) {
         return Ok(None);
     }
-    let name = copy(alloc, name.as_slice())?;
-    let valid = copy(alloc, valid.as_slice())?;
-    let ready = copy(alloc, ready.as_slice())?;
+    let name = copied(alloc, name.as_slice())?;
+    let valid = copied(alloc, valid.as_slice())?;
+    let ready = copied(alloc, ready.as_slice())?;
     let contents = copy_all(alloc, contents)?;
     Ok(Some(Entry::Channel {
         channel: ChannelLine {
@@ -169,17 +162,17 @@ fn form_of(alloc: Global, keyword: Keyword, words: &[Name]) -> Result<Option<Ent
 {
     match (keyword, words) {
         (Keyword::Top, [name]) => Ok(Some(Entry::Top {
-            name: copy(alloc, name.as_slice())?,
+            name: copied(alloc, name.as_slice())?,
         })),
         (Keyword::Clock, [port]) => Ok(Some(Entry::Clock {
-            port: copy(alloc, port.as_slice())?,
+            port: copied(alloc, port.as_slice())?,
         })),
         (Keyword::Tie, [port, number]) => tie_of(alloc, port.as_slice(), number.as_slice()),
         (Keyword::Reset, [port, active, cycles]) => {
             reset_of(alloc, port.as_slice(), active.as_slice(), cycles.as_slice())
         }
         (Keyword::Ignore, [port]) => Ok(Some(Entry::Ignore {
-            port: copy(alloc, port.as_slice())?,
+            port: copied(alloc, port.as_slice())?,
         })),
         (Keyword::In, _) => channel_of(alloc, Dir::Inward, words),
         (Keyword::Out, _) => channel_of(alloc, Dir::Outward, words),

@@ -12,7 +12,7 @@ use crate::error::{CodeError, FAULT};
 use crate::number::byte_count;
 use std::alloc::Global;
 use trace_model::{Channel, Channels, Dir};
-use vidi_bits::{Bytes, Items, Name};
+use vidi_bits::{Bytes, Items, Name, copied};
 
 /// The first bytes of a trace of version 1.
 pub(crate) const MAGIC: [u8; 8] = *b"VIDITRC1";
@@ -132,8 +132,8 @@ fn read_name(alloc: Global, bytes: &[u8]) -> Result<(Name, &[u8]), CodeError>
     if !is_name(name) {
         return Err(FAULT);
     }
-    let name = Vec::from_slice(alloc, name)?;
-    Ok((Items::from_vec(name), rest))
+    let name = copied(alloc, name)?;
+    Ok((name, rest))
 }
 
 /// The widths of a channel, and the bytes after them.
@@ -145,8 +145,8 @@ fn read_widths(alloc: Global, bytes: &[u8]) -> Result<(Bytes, &[u8]), CodeError>
     if !are_widths(widths) {
         return Err(FAULT);
     }
-    let widths = Vec::from_slice(alloc, widths)?;
-    Ok((Items::from_vec(widths), rest))
+    let widths = copied(alloc, widths)?;
+    Ok((widths, rest))
 }
 
 /// A channel, and the bytes after it.

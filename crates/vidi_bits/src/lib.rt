@@ -11,7 +11,7 @@ mod memory;
 
 pub use arithmetic::{add_w, mul_w, shl_w, shr_w, sub_w};
 pub use bits::{join, ones, put, slice, trim};
-pub use items::{Bytes, Items, Name, Numbers};
+pub use items::{Bytes, Items, Name, Numbers, copied};
 pub use memory::Memory;
 
 #[cfg(test)]

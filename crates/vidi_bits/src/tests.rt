@@ -2,7 +2,7 @@
 
 use crate::arithmetic::{add_w, mul_w, shl_w, shr_w, sub_w};
 use crate::bits::{join, put, slice, trim};
-use crate::items::{Bytes, Items, Name, Numbers};
+use crate::items::{Bytes, Items, Name, Numbers, copied};
 use crate::memory::Memory;
 use std::alloc::Global;
 use std::test::Fail;
@@ -35,6 +35,7 @@ fn calls_answer_with_ample_memory(rt: HostRuntime) -> Result<(), Fail> {
     }
     assert_eq!(rt; list.as_slice(), [6u128, 6].as_slice());
     assert_eq!(rt; list.into_vec().as_slice(), [6u128, 6].as_slice());
+    assert_eq!(rt; copied(alloc, b"pass")?.as_slice(), b"pass".as_slice());
     Ok(())
 }
 

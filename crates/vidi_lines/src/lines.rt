@@ -8,7 +8,7 @@ ghost use Rattle.vidi_lines.specs.Lines.{HasWords};
 
 use crate::error::LineError;
 use std::alloc::Global;
-use vidi_bits::{Items, Memory, Name};
+use vidi_bits::{Items, Memory, Name, copied};
 
 /// A list of names.
 pub type Names = Items<Name>;
@@ -92,7 +92,7 @@ fn push_word(alloc: Global, words: &mut Names, word: &[u8]) -> Result<(), Memory
     if word.is_empty() {
         return Ok(());
     }
-    let name = Name::from_vec(Vec::from_slice(alloc, word)?);
+    let name = copied(alloc, word)?;
     words.push(name)
 }
 

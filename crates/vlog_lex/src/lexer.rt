@@ -12,7 +12,7 @@ use crate::gap::gap_len;
 use crate::scan::next_token;
 use crate::token::{Token, TokenKind, Tokens};
 use std::alloc::Global;
-use vidi_bits::{Memory, Name};
+use vidi_bits::{Memory, copied};
 
 /// The number of newlines.
 fn newlines(text: &[u8]) -> u32
@@ -20,13 +20,6 @@ fn newlines(text: &[u8]) -> u32
     ensures { result ≡ newlines text.now }
 {
     text.iter().filter(|b| **b == b'\n').count() as u32
-}
-
-/// A copy of the text.
-pub fn copied(alloc: Global, text: &[u8]) -> Result<Name, Memory>
-    ensures { IfOk result (λ name. name ≡ text.now) }
-{
-    Ok(Name::from_vec(Vec::from_slice(alloc, text)?))
 }
 
 /// A token with a copy of this text.

@@ -3,8 +3,7 @@
 use std::alloc::Global;
 use std::process::Abort;
 use std::test::Fail;
-use vidi_bits::{Items, Memory, Name};
-use vlog_lex::copied;
+use vidi_bits::{Items, Memory, Name, copied};
 use vlog_tree::{
     Always, Assign, AssignOp, BinaryOp, Body, Event, Expr, File, Ident, Item, Module, Number,
     NumberKind, Port, Prim as Primary, Ref, Sel, Stmt, Target, Unary, begin, concat, concat_target,
