@@ -12,7 +12,8 @@ use crate::said::Said::{Bits, E5, E6, Plain, Sized, Unknown};
 
 pub type Row = (&'static str, Said);
 
-pub const LITERALS: [Row; 17] = [
+// Expressions in constant positions.
+pub const NUMBERED: [Row; 142] = [
     // literals
     ("0", Plain(0)),
     ("2_147_483_647", Plain(2147483647)),
@@ -25,15 +26,18 @@ pub const LITERALS: [Row; 17] = [
     ("3'd9", Sized(3, 1)),
     ("'b101", Sized(32, 5)),
     ("'h1_0000_0001", Sized(32, 1)),
-    ("128'hffff_ffff_ffff_ffff_ffff_ffff_ffff_ffff", Sized(128, 340282366920938463463374607431768211455)),
-    ("128'd340282366920938463463374607431768211455", Sized(128, 340282366920938463463374607431768211455)),
+    (
+        "128'hffff_ffff_ffff_ffff_ffff_ffff_ffff_ffff",
+        Sized(128, 340282366920938463463374607431768211455),
+    ),
+    (
+        "128'd340282366920938463463374607431768211455",
+        Sized(128, 340282366920938463463374607431768211455),
+    ),
     ("128'd340282366920938463463374607431768211456", E5(1)),
     ("8'h1_0000_0000_0000_0000_0000_0000_0000_0000", E5(1)),
     ("129'd1", E5(1)),
     ("0'd0", E5(1)),
-];
-
-pub const SIZED: [Row; 33] = [
     // sized operands
     ("4'd12 + 8'd250", Sized(8, 6)),
     ("4'd3 - 4'd5", Sized(4, 14)),
@@ -58,20 +62,29 @@ pub const SIZED: [Row; 33] = [
     ("4'd3 << 8'd2", Sized(4, 12)),
     ("4'd3 << 3", Sized(4, 8)),
     ("4'd3 << 8'd4", Sized(4, 0)),
-    ("4'd3 << 128'd340282366920938463463374607431768211455", Sized(4, 0)),
+    (
+        "4'd3 << 128'd340282366920938463463374607431768211455",
+        Sized(4, 0),
+    ),
     ("4'd3 <<< 2", Sized(4, 12)),
     ("4'd12 >> 8'd2", Sized(4, 3)),
     ("4'd12 >> 8'd4", Sized(4, 0)),
-    ("4'd12 >> 128'd340282366920938463463374607431768211455", Sized(4, 0)),
+    (
+        "4'd12 >> 128'd340282366920938463463374607431768211455",
+        Sized(4, 0),
+    ),
     ("4'd12 >>> 1", Sized(4, 6)),
-    ("128'd340282366920938463463374607431768211455 >> 127", Sized(128, 1)),
-    ("128'd1 << 127", Sized(128, 170141183460469231731687303715884105728)),
+    (
+        "128'd340282366920938463463374607431768211455 >> 127",
+        Sized(128, 1),
+    ),
+    (
+        "128'd1 << 127",
+        Sized(128, 170141183460469231731687303715884105728),
+    ),
     ("128'd1 << 128", Sized(128, 0)),
     ("1 << 5'd31", Sized(32, 2147483648)),
     ("1 << 6'd32", Sized(32, 0)),
-];
-
-pub const PLAIN: [Row; 22] = [
     // plain operands
     ("3 + 4", Plain(7)),
     ("2147483647 + 1", E5(1)),
@@ -95,9 +108,6 @@ pub const PLAIN: [Row; 22] = [
     ("1 ~^ 1", E5(1)),
     ("1 <<< 4'd1", E5(1)),
     ("1 >>> 1", E5(1)),
-];
-
-pub const SIGNED: [Row; 32] = [
     // operators before an operand
     ("+ 4'd9", Sized(4, 9)),
     ("- 4'd1", Sized(4, 15)),
@@ -133,9 +143,6 @@ pub const SIGNED: [Row; 32] = [
     ("( 1 << 5'd3 ) + 8'd1", Sized(32, 9)),
     ("~ ( 0 - 1 )", E5(1)),
     ("8'd1 + ( 0 - 1 )", E5(4)),
-];
-
-pub const JOINED: [Row; 23] = [
     // concatenations
     ("{ 4'd1 , 4'd2 }", Sized(8, 18)),
     ("{ 1'b1 , 2'b10 , 3'b011 }", Sized(6, 51)),
@@ -143,6 +150,7 @@ pub const JOINED: [Row; 23] = [
     ("{ 64'd1 , 64'd0 }", Sized(128, 18446744073709551616)),
     ("{ 128'd0 , 1'd1 }", E6(1, 129)),
     ("{ 100'd1 , 100'd0 }", E6(1, 200)),
+    ("{ }", E6(1, 0)),
     ("{ 4'd1 , 2 }", E5(4)),
     ("{ 4'd1 , 'd2 }", E5(4)),
     ("{ 129'd1 , 1'd1 }", E5(2)),
@@ -161,9 +169,6 @@ pub const JOINED: [Row; 23] = [
     ("1 ? 3 : 0 - 1", E5(5)),
     ("1 ? 2147483648 : 0", E5(3)),
     ("( 1 ? 2 : 3 ) - 4", E5(1)),
-];
-
-pub const PARAMETERS: [Row; 14] = [
     // parameters
     ("n", Plain(3)),
     ("z", Sized(8, 3)),
@@ -181,7 +186,9 @@ pub const PARAMETERS: [Row; 14] = [
     ("y - 4", Unknown),
 ];
 
-pub const READS: [Row; 17] = [
+// Expressions elsewhere.
+pub const FACTS: [Row; 62] = [
+    // names
     ("p", Bits(8)),
     ("w", Bits(200)),
     ("n", Bits(32)),
@@ -199,15 +206,15 @@ pub const READS: [Row; 17] = [
     ("~ ( s ? 1 : 2 )", E5(1)),
     ("{ s ? 1 : 2 , s }", E5(2)),
     ("{ p [ 8 ] , 1 }", E5(7)),
-];
-
-pub const SELECTS: [Row; 34] = [
     // a bit
     ("p [ 7 ]", Bits(1)),
     ("p [ s ]", Bits(1)),
     ("p [ 8 ]", E6(3, 8)),
     ("p [ 7'd0 - 7'd1 ]", E6(3, 127)),
-    ("p [ 128'd0 - 128'd1 ]", E6(3, 340282366920938463463374607431768211455)),
+    (
+        "p [ 128'd0 - 128'd1 ]",
+        E6(3, 340282366920938463463374607431768211455),
+    ),
     ("p [ 0 - 1 ]", E5(3)),
     // two bounds
     ("p [ 7 : 0 ]", Bits(8)),
@@ -240,9 +247,6 @@ pub const SELECTS: [Row; 34] = [
     ("m [ 3 ] [ 5 : 2 ]", Bits(4)),
     ("m [ 3 ] [ 9 : 2 ]", E6(6, 9)),
     ("m [ 9 ] [ 0 +: 129 ]", E6(1, 129)),
-];
-
-pub const LATER: [Row; 11] = [
     // a parameter that is declared later, read in constant positions and elsewhere
     ("p [ l : 0 ]", E5(3)),
     ("p [ 3 : l ]", E5(5)),
@@ -272,8 +276,8 @@ pub const ASSIGNED: [(u32, &str, Said); 11] = [
     (8, "p", Unknown),
 ];
 
+// What is assigned to.
 pub const TARGETS: [Row; 12] = [
-    // targets
     ("p", Bits(8)),
     ("p [ 3 : 0 ]", Bits(4)),
     ("p [ n ]", Bits(1)),
@@ -288,8 +292,8 @@ pub const TARGETS: [Row; 12] = [
     ("m [ 4 ] [ 5 ]", E6(3, 4)),
 ];
 
+// The answers of `constant`, for which names are checked.
 pub const CONSTANTS: [Row; 17] = [
-    // names are checked: the answers of `constant`
     ("4'd12 + 8'd250", Sized(8, 6)),
     ("n + 4", Plain(7)),
     ("z + 4'd12", Sized(8, 15)),
@@ -309,8 +313,8 @@ pub const CONSTANTS: [Row; 17] = [
     ("w", E5(1)),
 ];
 
+// The answers of `width`, for which names are checked.
 pub const WIDTHS: [Row; 20] = [
-    // names are checked: the answers of `width`
     ("{ s , 4'd1 }", Bits(5)),
     ("{ p , cut }", Bits(12)),
     ("p [ cut : 0 ]", Bits(4)),
@@ -333,8 +337,8 @@ pub const WIDTHS: [Row; 20] = [
     ("p [ x : 0 ]", E5(3)),
 ];
 
+// The answers of `target_width`, for which names are checked.
 pub const TARGET_WIDTHS: [Row; 6] = [
-    // names are checked: the answers of `target_width`
     ("{ s , s }", Bits(2)),
     ("w", E6(1, 200)),
     ("{ s , w }", E6(4, 200)),

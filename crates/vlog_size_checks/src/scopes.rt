@@ -11,8 +11,7 @@ fn name_of(alloc: Global, text: &str) -> Result<Name, Fail> {
     Ok(Items::from_vec(text.as_bytes().to_vec(alloc)?))
 }
 
-fn parameters(alloc: Global) -> Result<Params, Fail> {
-    let mut params = Table::new(alloc);
+fn add_parameters(alloc: Global, params: &mut Params) -> Result<(), Fail> {
     for (name, value, known) in [
         ("n", Const::Plain { n: 3 }, true),
         ("z", Const::Sized { width: 8, n: 3 }, true),
@@ -25,34 +24,37 @@ fn parameters(alloc: Global) -> Result<Params, Fail> {
     ] {
         params.push(name_of(alloc, name)?, Param { value, known })?;
     }
-    Ok(params)
+    Ok(())
 }
 
-fn nets(alloc: Global) -> Result<ScopeNets, Fail> {
-    let mut nets = Table::new(alloc);
+fn add_nets(alloc: Global, nets: &mut ScopeNets) -> Result<(), Fail> {
     for (name, width) in [("p", 8), ("q", 4), ("s", 1), ("h", 128), ("w", 200)] {
         nets.push(name_of(alloc, name)?, ScopeNet { width })?;
     }
-    Ok(nets)
+    Ok(())
 }
 
-fn memories(alloc: Global) -> Result<ScopeMemories, Fail> {
-    let mut memories = Table::new(alloc);
+fn add_memories(alloc: Global, memories: &mut ScopeMemories) -> Result<(), Fail> {
     for (name, width, length) in [("m", 8, 4), ("v", 0, 2)] {
         memories.push(name_of(alloc, name)?, ScopeMemory { width, length })?;
     }
-    Ok(memories)
+    Ok(())
+}
+
+fn fill(alloc: Global, scope: &mut Scope) -> Result<(), Fail> {
+    add_parameters(alloc, &mut scope.params)?;
+    add_nets(alloc, &mut scope.nets)?;
+    add_memories(alloc, &mut scope.memories)
 }
 
 /// The scope, in which all parameters but the last are declared before the expression.
 pub fn scope(alloc: Global) -> Result<Scope, Fail> {
-    let params = parameters(alloc)?;
-    let nets = nets(alloc)?;
-    let memories = memories(alloc)?;
-    Ok(Scope {
-        params,
+    let mut scope = Scope {
+        params: Table::new(alloc),
         declared: 7,
-        nets,
-        memories,
-    })
+        nets: Table::new(alloc),
+        memories: Table::new(alloc),
+    };
+    fill(alloc, &mut scope)?;
+    Ok(scope)
 }

@@ -1,10 +1,9 @@
 //! Each table of `rows` in one test.
 
-use crate::rows::{ASSIGNED, CONSTANTS, JOINED, LATER, LITERALS, PARAMETERS, PLAIN, READS, Row};
-use crate::rows::{SELECTS, SIGNED, SIZED, TARGET_WIDTHS, TARGETS, WIDTHS};
+use crate::rows::{ASSIGNED, CONSTANTS, FACTS, NUMBERED, Row, TARGET_WIDTHS, TARGETS, WIDTHS};
 use crate::said::{Said, of_constant, of_facts, of_number, of_numbered, of_width};
 use crate::scopes::scope;
-use crate::trees::{empty_concatenation, expression, target};
+use crate::trees::{expression, target};
 use std::alloc::Global;
 use std::process::Abort;
 use std::test::Fail;
@@ -12,7 +11,7 @@ use vlog_size::{
     Scope, assigned_number, constant, facts_of, fixed, numbered, target_facts, target_width,
     whole_view, width,
 };
-use vlog_tree::Expr;
+use vlog_tree::{Expr, Target};
 
 /// What is asked of a row's text.
 #[derive(Clone, Copy)]
@@ -21,6 +20,8 @@ enum Asked {
     Numbered,
     /// The facts of an expression.
     Facts,
+    /// The number that so many bits have.
+    Assigned(u32),
     /// The facts of a target.
     TargetFacts,
     Constant,
@@ -34,25 +35,32 @@ fn said_of_expression(scope: &Scope, e: &Expr, asked: Asked) -> Said {
         Asked::Constant => of_constant(constant(e, &scope.params)),
         Asked::Width => of_width(width(e, scope)),
         Asked::Numbered => of_numbered(&numbered(&fixed(&view), e)),
+        Asked::Assigned(w) => of_number(assigned_number(&view, e, w.clamp(1, 128))),
         _ => of_facts(&facts_of(&view, e)),
     }
 }
 
-fn said_of_target(alloc: Global, scope: &Scope, text: &str, asked: Asked) -> Result<Said, Fail> {
-    let t = target(alloc, text)?;
+fn said_of_target(scope: &Scope, t: &Target, asked: Asked) -> Said {
     match asked {
-        Asked::TargetWidth => Ok(of_width(target_width(&t, scope))),
-        _ => Ok(of_facts(&target_facts(&whole_view(scope), &t))),
+        Asked::TargetWidth => of_width(target_width(t, scope)),
+        _ => of_facts(&target_facts(&whole_view(scope), t)),
     }
+}
+
+fn target_said(alloc: Global, scope: &Scope, text: &str, asked: Asked) -> Result<Said, Fail> {
+    let t = target(alloc, text)?;
+    Ok(said_of_target(scope, &t, asked))
+}
+
+fn expression_said(alloc: Global, scope: &Scope, text: &str, asked: Asked) -> Result<Said, Fail> {
+    let e = expression(alloc, text)?;
+    Ok(said_of_expression(scope, &e, asked))
 }
 
 fn said(alloc: Global, scope: &Scope, text: &str, asked: Asked) -> Result<Said, Fail> {
     match asked {
-        Asked::TargetFacts | Asked::TargetWidth => said_of_target(alloc, scope, text, asked),
-        _ => {
-            let e = expression(alloc, text)?;
-            Ok(said_of_expression(scope, &e, asked))
-        }
+        Asked::TargetFacts | Asked::TargetWidth => target_said(alloc, scope, text, asked),
+        _ => expression_said(alloc, scope, text, asked),
     }
 }
 
@@ -83,48 +91,13 @@ fn check(rt: &impl Abort, alloc: Global, rows: &[Row], asked: Asked) -> Result<(
 }
 
 #[test]
-fn literals(rt: HostRuntime) -> Result<(), Fail> {
-    check(&rt, rt.alloc(), &LITERALS, Asked::Numbered)
+fn constant_positions(rt: HostRuntime) -> Result<(), Fail> {
+    check(&rt, rt.alloc(), &NUMBERED, Asked::Numbered)
 }
 
 #[test]
-fn sized_operands(rt: HostRuntime) -> Result<(), Fail> {
-    check(&rt, rt.alloc(), &SIZED, Asked::Numbered)
-}
-
-#[test]
-fn plain_operands(rt: HostRuntime) -> Result<(), Fail> {
-    check(&rt, rt.alloc(), &PLAIN, Asked::Numbered)
-}
-
-#[test]
-fn signed_operands(rt: HostRuntime) -> Result<(), Fail> {
-    check(&rt, rt.alloc(), &SIGNED, Asked::Numbered)
-}
-
-#[test]
-fn concatenations_and_choices(rt: HostRuntime) -> Result<(), Fail> {
-    check(&rt, rt.alloc(), &JOINED, Asked::Numbered)
-}
-
-#[test]
-fn parameters_as_constants(rt: HostRuntime) -> Result<(), Fail> {
-    check(&rt, rt.alloc(), &PARAMETERS, Asked::Numbered)
-}
-
-#[test]
-fn reads(rt: HostRuntime) -> Result<(), Fail> {
-    check(&rt, rt.alloc(), &READS, Asked::Facts)
-}
-
-#[test]
-fn selects(rt: HostRuntime) -> Result<(), Fail> {
-    check(&rt, rt.alloc(), &SELECTS, Asked::Facts)
-}
-
-#[test]
-fn later_parameters(rt: HostRuntime) -> Result<(), Fail> {
-    check(&rt, rt.alloc(), &LATER, Asked::Facts)
+fn other_positions(rt: HostRuntime) -> Result<(), Fail> {
+    check(&rt, rt.alloc(), &FACTS, Asked::Facts)
 }
 
 #[test]
@@ -147,38 +120,24 @@ fn target_widths(rt: HostRuntime) -> Result<(), Fail> {
     check(&rt, rt.alloc(), &TARGET_WIDTHS, Asked::TargetWidth)
 }
 
-fn number_said(alloc: Global, scope: &Scope, w: u32, text: &str) -> Result<Said, Fail> {
-    let e = expression(alloc, text)?;
-    Ok(of_number(assigned_number(
-        &whole_view(scope),
-        &e,
-        w.clamp(1, 128),
-    )))
-}
-
 /// The first text whose number isn't the wanted one.
-fn wrong_number(alloc: Global) -> Result<&'static str, Fail> {
-    let scope = scope(alloc)?;
+fn wrong_number(alloc: Global, scope: &Scope) -> Result<&'static str, Fail> {
     for (w, text, want) in ASSIGNED {
-        if number_said(alloc, &scope, w, text)? != want {
+        if said(alloc, scope, text, Asked::Assigned(w))? != want {
             return Ok(text);
         }
     }
     Ok("")
 }
 
-#[test]
-fn assigned_numbers(rt: HostRuntime) -> Result<(), Fail> {
-    let wrong = wrong_number(rt.alloc())?;
-    assert_eq!(rt; wrong, "");
-    Ok(())
+fn wrong_assigned(alloc: Global) -> Result<&'static str, Fail> {
+    let scope = scope(alloc)?;
+    wrong_number(alloc, &scope)
 }
 
 #[test]
-fn an_empty_concatenation(rt: HostRuntime) -> Result<(), Fail> {
-    let scope = scope(rt.alloc())?;
-    let e = empty_concatenation(rt.alloc());
-    let right = said_of_expression(&scope, &e, Asked::Numbered) == Said::E6(1, 0);
-    assert!(rt; right);
+fn assigned_numbers(rt: HostRuntime) -> Result<(), Fail> {
+    let wrong = wrong_assigned(rt.alloc())?;
+    assert_eq!(rt; wrong, "");
     Ok(())
 }

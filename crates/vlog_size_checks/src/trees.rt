@@ -21,7 +21,17 @@ fn tokens_of(alloc: Global, text: &str) -> Result<Tokens, Fail> {
     Ok(lex(alloc, bytes.as_slice())?)
 }
 
+/// `{ }`, which no file has, on line 1.
+fn empty_concatenation(alloc: Global) -> Expr {
+    let parts = Items::new(alloc);
+    let prim = Operand::Concat { line: 1, parts };
+    Expr::Unary(Unary { sign: None, prim })
+}
+
 pub fn expression(alloc: Global, text: &str) -> Result<Expr, Fail> {
+    if text == "{ }" {
+        return Ok(empty_concatenation(alloc));
+    }
     let tokens = tokens_of(alloc, text)?;
     match parse_expression(alloc, tokens.as_slice()) {
         Ok(e) => Ok(e),
@@ -35,11 +45,4 @@ pub fn target(alloc: Global, text: &str) -> Result<Target, Fail> {
         Ok((target, _rest)) => Ok(target),
         Err(_) => Err(Fail::from("no target")),
     }
-}
-
-/// `{ }` on line 1, which no text spells.
-pub fn empty_concatenation(alloc: Global) -> Expr {
-    let parts = Items::new(alloc);
-    let prim = Operand::Concat { line: 1, parts };
-    Expr::Unary(Unary { sign: None, prim })
 }
