@@ -1,6 +1,7 @@
--- The constant and the width of an expression without a fault.
+-- The constant and the width of an expression without a fault, where names are checked and where the scope is lawful.
 use Rattle.std.proofs.Common.{◌≡◌, ℕ, ◌+◌, ◌-◌, ◌*◌, ◌/◌, ◌%◌, ◌^◌, ◌<◌, ◌≤◌, Bool, true, false, ◌==◌, ◌&&◌, nat_le, nat_lt, min, max}
 use Rattle.std.proofs.Common.{true≢false, if◌then◌else◌}
+use Rattle.std.specs.Prelude.{IsSome}
 use Rattle.std.proofs.Common.{Option, None, Some, is_none, List, [], refl, ap, sym, ◌∙◌, subst, option_map, arith}
 use Rattle.vlog_tree.specs.declared.expr.NumberKind.{NumberKind}
 use Rattle.vlog_tree.specs.declared.expr.NumberKind.TheVariants.{Decimal, Based}
@@ -12,7 +13,7 @@ use Rattle.vlog_size.specs.declared.names.Meaning.{Meaning}
 use Rattle.vlog_size.specs.declared.names.Meaning.TheVariants.{Parameter, Place, Undeclared}
 use Rattle.vlog_size.specs.Literal.{is_lawful, digits_from}
 use Rattle.vlog_size.specs.Operators.{in_range, whole_value}
-use Rattle.vlog_size.specs.Names.{Readable, fixed, meaning_of, is_lawful_const, are_lawful_params, is_lawful_readable}
+use Rattle.vlog_size.specs.Names.{Readable, fixed, checked, meaning_of, is_lawful_const, are_lawful_params, is_lawful_readable}
 use Rattle.vlog_size.specs.Size.{Sizes, sizes_of, sizes_of_prim, sizes_of_index, sizes_of_last, sizes_of_target, of_ref, number, own}
 use Rattle.vlog_size.specs.Size.{own_width, at_width}
 use Rattle.vlog_size.specs.Size.{is_sound, faults, decimal_value, const_number, of_two, chosen_value, chosen_whole, constant_at}
@@ -28,6 +29,7 @@ use Rattle.vlog_size.proofs.Lists.{nil_left, nil_right, both_nil, left_of}
 use Rattle.vlog_size.proofs.Sized.{IsSized, number_there}
 use Rattle.vlog_size.proofs.Meanings.{constants_lawful}
 use Rattle.vlog_size.proofs.Faultless.{expr_sized, expr_constant, target_sized}
+use Rattle.vlog_size.proofs.Alike.{expr_alike, target_alike}
 
 -- ---- values in whole numbers are in range
 IsSmall : Option ℕ → Type 0
@@ -153,16 +155,16 @@ has_constant : (e : Sizes) (o : Option ℕ) → IsSized e → IsSmall e.whole �
 has_constant e None s small h there = (cc)
 has_constant e (Some n) s small h there = number_lawful e n s small h
 
-pub faultless_constant : (r : Readable) (e : ExprOf ℕ) → are_lawful_params r.constants ≡ true → faults (sizes_of (fixed r) e) ≡ []
-    → HasConstant (sizes_of (fixed r) e) (number (sizes_of (fixed r) e))
+pub faultless_constant : (r : Readable) (e : ExprOf ℕ) → faults (sizes_of (fixed (checked r)) e) ≡ []
+    → HasConstant (sizes_of (fixed (checked r)) e) (number (sizes_of (fixed (checked r)) e))
 unfolding faults
-faultless_constant r e l h =
-    let found = sizes_of (fixed r) e in
+faultless_constant r e h =
+    let found = sizes_of (fixed (checked r)) e in
     let no_const : found.const_faults ≡ [] = nil_left found.const_faults found.width_faults h in
     let no_width : found.width_faults ≡ [] = nil_right found.const_faults found.width_faults h in
-    let sized : IsSized found = expr_sized (fixed r) (constants_lawful r l) e no_const no_width in
-    has_constant found (number found) sized (whole_small (fixed r) e) refl
-    (number_there found sized (expr_constant r e no_const) no_const no_width)
+    let sized : IsSized found = expr_sized (fixed r) e no_const no_width in
+    has_constant found (number found) sized (whole_small (fixed (checked r)) e) refl
+    (number_there found sized (expr_constant (checked r) e no_const) no_const no_width)
 
 constant_there : (e : Sizes) (o : Option ℕ) → HasConstant e o → number e ≡ o
     → (c : Const) × (constant_of e ≡ Some c) × (is_lawful_const c ≡ true)
@@ -172,7 +174,11 @@ constant_there e (Some n) has h = (constant_at e.plain e.width n, ap (option_map
 
 pub lawful_constant : (r : Readable) (e : ExprOf ℕ) → are_lawful_params r.constants ≡ true → faults (sizes_of (fixed r) e) ≡ []
     → (c : Const) × (constant_of (sizes_of (fixed r) e) ≡ Some c) × (is_lawful_const c ≡ true)
-lawful_constant r e l h = constant_there (sizes_of (fixed r) e) (number (sizes_of (fixed r) e)) (faultless_constant r e l h) refl
+lawful_constant r e l =
+    let P : Sizes → Type 0 = λ s. faults s ≡ [] → (c : Const) × (constant_of s ≡ Some c) × (is_lawful_const c ≡ true) in
+    let found = sizes_of (fixed (checked r)) e in
+    subst P (expr_alike (fixed r) (constants_lawful r l) e)
+    (λ (h : faults found ≡ []). constant_there found (number found) (faultless_constant r e h) refl)
 
 -- ---- the number that some bits have
 assigned_there : (value : ℕ → Option ℕ) (c l : Bool) (w : ℕ) → c ≡ true → l ≡ true → is_none (value w) ≡ false
@@ -197,16 +203,22 @@ wide_there w e s c h k =
     pick e.plain (is_sound e) e.whole (at_width e.value (assigned_width w e)) s.whole (both_nil e.const_faults e.width_faults h k)
     (assigned_there e.value e.constant (is_lawful e.width) (max w e.width) c s.lawful (s.known c (max w e.width)))
 
+checked_assigned : (r : Readable) (e : ExprOf ℕ) (w : ℕ) → faults (sizes_of (fixed (checked r)) e) ≡ []
+    → (n : ℕ) × (assigned_number w (sizes_of (fixed (checked r)) e) ≡ Some n) × (n < 2 ^ w)
+unfolding faults assigned_number
+checked_assigned r e w h =
+    let found = sizes_of (fixed (checked r)) e in
+    let no_const : found.const_faults ≡ [] = nil_left found.const_faults found.width_faults h in
+    let no_width : found.width_faults ≡ [] = nil_right found.const_faults found.width_faults h in
+    let sized : IsSized found = expr_sized (fixed r) e no_const no_width in
+    cut w (wide_number w found) (wide_there w found sized (expr_constant (checked r) e no_const) no_const no_width)
+
 pub lawful_assigned : (r : Readable) (e : ExprOf ℕ) (w : ℕ) → IsWidth w → are_lawful_params r.constants ≡ true
     → faults (sizes_of (fixed r) e) ≡ []
     → (n : ℕ) × (assigned_number w (sizes_of (fixed r) e) ≡ Some n) × (n < 2 ^ w)
-unfolding faults assigned_number
-lawful_assigned r e w b l h =
-    let found = sizes_of (fixed r) e in
-    let no_const : found.const_faults ≡ [] = nil_left found.const_faults found.width_faults h in
-    let no_width : found.width_faults ≡ [] = nil_right found.const_faults found.width_faults h in
-    let sized : IsSized found = expr_sized (fixed r) (constants_lawful r l) e no_const no_width in
-    cut w (wide_number w found) (wide_there w found sized (expr_constant r e no_const) no_const no_width)
+lawful_assigned r e w b l =
+    let P : Sizes → Type 0 = λ s. faults s ≡ [] → (n : ℕ) × (assigned_number w s ≡ Some n) × (n < 2 ^ w) in
+    subst P (expr_alike (fixed r) (constants_lawful r l) e) (checked_assigned r e w)
 
 -- what the code answers of an expression with the number n
 pub record IsFound (f : Numbered) (e : Sizes) (n : ℕ) : Type 0 where
@@ -240,24 +252,41 @@ found_constant f e n s has h =
       lawful = lawful;
     }
 
-pub no_constant : (f : Numbered) (e : Sizes) → ShowsNumber f e → HasConstant e (number e) → f.number ≡ None → ⊥
-no_constant f e s has h = let P : Option ℕ → Type 0 = λ o. HasConstant e o in subst P (sym s.number ∙ h) has
+some_number : (e : Sizes) (o : Option ℕ) → HasConstant e o → IsSome o
+some_number e None has = absurd has
+some_number e (Some n) has = refl
+
+pub has_number : (f : Numbered) (e : Sizes) → ShowsNumber f e → HasConstant e (number e) → IsSome f.number
+has_number f e s has =
+    let P : Option ℕ → Type 0 = λ o. HasConstant e o in some_number e f.number (subst P (sym s.number) has)
 
 -- ---- the width
-pub faultless_width : (r : Readable) (e : ExprOf ℕ) → is_lawful_readable r ≡ true → faults (sizes_of r e) ≡ []
-    → is_lawful (sizes_of r e).width ≡ true
+pub faultless_width : (r : Readable) (e : ExprOf ℕ) → faults (sizes_of (checked r) e) ≡ []
+    → is_lawful (sizes_of (checked r) e).width ≡ true
 unfolding faults
-faultless_width r e l h =
-    let found = sizes_of r e in
+faultless_width r e h =
+    let found = sizes_of (checked r) e in
     let sized : IsSized found =
-    expr_sized r l e (nil_left found.const_faults found.width_faults h) (nil_right found.const_faults found.width_faults h) in
+    expr_sized r e (nil_left found.const_faults found.width_faults h) (nil_right found.const_faults found.width_faults h) in
     sized.lawful
 
-pub faultless_target : (r : Readable) (t : TargetOf ℕ) → is_lawful_readable r ≡ true → faults (sizes_of_target r t) ≡ []
-    → is_lawful (sizes_of_target r t).width ≡ true
+pub faultless_target : (r : Readable) (t : TargetOf ℕ) → faults (sizes_of_target (checked r) t) ≡ []
+    → is_lawful (sizes_of_target (checked r) t).width ≡ true
 unfolding faults
-faultless_target r t l h =
-    let found = sizes_of_target r t in
+faultless_target r t h =
+    let found = sizes_of_target (checked r) t in
     let sized : IsSized found =
-    target_sized r l t (nil_left found.const_faults found.width_faults h) (nil_right found.const_faults found.width_faults h) in
+    target_sized r t (nil_left found.const_faults found.width_faults h) (nil_right found.const_faults found.width_faults h) in
     sized.lawful
+
+pub lawful_width_of : (r : Readable) (e : ExprOf ℕ) → is_lawful_readable r ≡ true → faults (sizes_of r e) ≡ []
+    → is_lawful (sizes_of r e).width ≡ true
+lawful_width_of r e l =
+    let P : Sizes → Type 0 = λ s. faults s ≡ [] → is_lawful s.width ≡ true in
+    subst P (expr_alike r l e) (faultless_width r e)
+
+pub lawful_target_of : (r : Readable) (t : TargetOf ℕ) → is_lawful_readable r ≡ true → faults (sizes_of_target r t) ≡ []
+    → is_lawful (sizes_of_target r t).width ≡ true
+lawful_target_of r t l =
+    let P : Sizes → Type 0 = λ s. faults s ≡ [] → is_lawful s.width ≡ true in
+    subst P (target_alike r l t) (faultless_target r t)

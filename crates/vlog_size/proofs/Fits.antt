@@ -1,8 +1,9 @@
 -- Numbers that fit a width.
-use Rattle.std.proofs.Common.{◌≡◌, ℕ, ◌+◌, ◌^◌, ◌<◌, ◌≤◌, Bool, true, false, ◌&&◌, if◌then◌else◌}
+use Rattle.std.proofs.Common.{◌≡◌, ℕ, ◌+◌, ◌*◌, ◌%◌, ◌^◌, ◌<◌, ◌≤◌, ap, ◌∙◌, Bool, true, false, ◌&&◌, if◌then◌else◌}
 use Rattle.std.proofs.Common.{Option, None, Some, List, [], ◌∷◌, refl, sym, subst, arith, add-zero}
 use Rattle.std.proofs.Math.Pow.{pow_mono}
 use Rattle.std.proofs.lemmas.Grind.{common_steps}
+use Rattle.std.proofs.lemmas.Nat.{mod_low}
 use Rattle.vlog_operators.specs.Number.{IsWidth, side_by_side}
 use Rattle.vlog_operators.proofs.Below.{unary_below, binary_below, joined_below, rest_below, quotient_below, truth_bit, parity_bit, odd_bit}
 use Rattle.vlog_operators.specs.declared.operators.UnaryOp.TheVariants as flat
@@ -36,6 +37,17 @@ above_one w h = pow_mono {i = 1} {j = w} h
 
 bit_fits : (w m : ℕ) → 1 ≤ w → m ≤ 1 → m < 2 ^ w
 bit_fits w m h l = omega (arith, above_one w h)
+
+-- ---- the low bits of a number of 128 bits
+pub no_bits : (n w : ℕ) → w ≡ 0 → n % 2 ^ w ≡ 0
+no_bits n w h = rw h (omega arith)
+
+pub all_bits : (n w : ℕ) → n < 2 ^ 128 → 128 < w → n % 2 ^ w ≡ n
+all_bits n w h k =
+    let grows : 2 ^ 128 ≤ 2 ^ w = pow_mono {i = 128} {j = w} (omega arith) in
+    let small : n < 2 ^ w = omega arith in
+    let whole : n ≡ 0 * 2 ^ w + n = omega arith in
+    ap (λ (m : ℕ). m % 2 ^ w) whole ∙ mod_low 0 w n small
 
 -- ---- operators
 applied_below : (op : UnaryOp) (a w : ℕ) → IsWidth w → a < 2 ^ w → unary_value op a w < 2 ^ w

@@ -1,5 +1,5 @@
 -- What an expression may read, and what a name means there.
-use Rattle.std.specs.Prelude.{ℕ, ◌^◌, Bool, ◌&&◌, nat_le, nat_lt, List, [], take, Option, None, Some, option_map}
+use Rattle.std.specs.Prelude.{ℕ, ◌^◌, Bool, true, false, ◌&&◌, nat_le, nat_lt, List, [], take, Option, None, Some, option_map}
 use Rattle.std.specs.List.{list_all}
 use Rattle.std.specs.Borrow.{Bor}
 use Rattle.vlog_size.specs.Table.{Named, value_of}
@@ -15,16 +15,24 @@ use Rattle.vlog_size.specs.declared.names.View.{View}
 use Rattle.vlog_size.specs.declared.names.Meaning.{Meaning}
 use Rattle.vlog_size.specs.declared.names.Meaning.TheVariants.{Parameter, Place, Undeclared}
 
--- what an expression may read, and the parameters that a constant position in it may
+-- what an expression may read, the parameters that a constant position in it may, and whether names are checked: whether
+-- what a name stands for is at fault where it is read, if it isn't lawful
 pub record Readable : Type 0 where
   pub params : List (Named Param)
   pub constants : List (Named Param)
   pub nets : List (Named ScopeNet)
   pub memories : List (Named ScopeMemory)
+  pub is_checked : Bool
 
 -- a constant position may read the parameters whose names stand before it
 abbrev pub readable_of : Scope → Readable
-readable_of s = record { params = s.params; constants = take s.declared s.params; nets = s.nets; memories = s.memories }
+readable_of s = record {
+  params = s.params;
+  constants = take s.declared s.params;
+  nets = s.nets;
+  memories = s.memories;
+  is_checked = false;
+}
 
 -- the nets of a scope that is there
 abbrev pub nets_in : Option (Bor Scope) → List (Named ScopeNet)
@@ -43,15 +51,20 @@ readable_in v = record {
   constants = take v.declared v.params.now;
   nets = nets_in v.places;
   memories = memories_in v.places;
+  is_checked = v.is_checked;
 }
 
 -- parameters alone
 abbrev pub params_alone : List (Named Param) → Readable
-params_alone params = record { params = params; constants = params; nets = []; memories = [] }
+params_alone params = record { params = params; constants = params; nets = []; memories = []; is_checked = false }
+
+-- the same names, which are checked
+abbrev pub checked : Readable → Readable
+checked r = record r { is_checked = true }
 
 -- a constant position
 abbrev pub fixed : Readable → Readable
-fixed r = params_alone r.constants
+fixed r = record { params = r.constants; constants = r.constants; nets = []; memories = []; is_checked = r.is_checked }
 
 -- what a parameter means
 abbrev pub param_meaning : Param → Meaning

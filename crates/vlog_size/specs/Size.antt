@@ -134,10 +134,10 @@ abbrev pub const_width : Const → ℕ
 const_width (const.Plain n) = 32
 const_width (const.Sized w n) = w
 
--- the number that a constant holds
+-- the number that a constant holds, modulo 2 to the power of its width
 abbrev pub const_number : Const → ℕ
 const_number (const.Plain n) = n
-const_number (const.Sized w n) = n
+const_number (const.Sized w n) = n % 2 ^ w
 
 -- what stands in the last bracket
 pub data Bracket : Type 0 where
@@ -207,7 +207,7 @@ part_width_faults whole limit (Part a b) =
     (outside whole a ++ (wrong_order a b ++ a.width_faults)) ++ (outside whole b ++ b.width_faults)
 part_width_faults whole limit (Indexed base width) = base.width_faults ++ width.width_faults
 
--- a parameter; where what makes it is at fault its number isn't known, and its name is no fault where it is read
+-- a parameter; where what makes it is at fault its number isn't known
 abbrev pub of_param : ℕ → Const → Bool → Sizes
 of_param line c known = record {
   line = line;
@@ -251,6 +251,38 @@ abbrev pub of_ref : ℕ → Meaning → Option Sizes → Bracket → Sizes
 of_ref line (Parameter c known) index last = of_param line c known
 of_ref line (Place width picked limit) index last = of_place line width picked limit index last
 of_ref line Undeclared index last = of_read line 0 (error.Const line ∷ []) no_faults
+
+-- a plain constant above 2,147,483,647
+abbrev pub is_past : Const → Bool
+is_past (const.Plain n) = is_none (in_range n)
+is_past (const.Sized w n) = false
+
+-- E5 at a name: a parameter whose number isn't known, or is plain and above 2,147,483,647
+abbrev pub name_const_faults : ℕ → Meaning → List SizeError
+name_const_faults line (Parameter c known) = told_if (not known || is_past c) (error.Const line)
+name_const_faults line _ = no_faults
+
+-- E6 at a name: a width that is unlawful
+abbrev pub wrong_width : ℕ → ℕ → List SizeError
+wrong_width line w = told_if (not (is_lawful w)) (error.Width line w)
+
+-- E6 at a name: a parameter, a net or a memory's word of unlawful width
+abbrev pub name_width_faults : ℕ → Meaning → List SizeError
+name_width_faults line (Parameter c known) = wrong_width line (const_width c)
+name_width_faults line (Place width picked limit) = wrong_width line width
+name_width_faults line Undeclared = no_faults
+
+-- findings that count where names are checked
+abbrev pub if_checked : Bool → List SizeError → List SizeError
+if_checked true found = found
+if_checked false found = no_faults
+
+-- a name that is read: first what is found of what it stands for, then what is found in its brackets
+abbrev pub of_name : Bool → ℕ → Meaning → Sizes → Sizes
+of_name is_checked line m e = record e {
+  const_faults = if_checked is_checked (name_const_faults line m) ++ e.const_faults;
+  width_faults = if_checked is_checked (name_width_faults line m) ++ e.width_faults;
+}
 
 -- `(e)`
 abbrev pub of_paren : ℕ → Sizes → Sizes
@@ -453,8 +485,8 @@ abbrev mutual
   sizes_of_prim r (ConcatPrim line es) = of_concat line (sizes_of_all r es)
 
   pub sizes_of_ref : Readable → RefOf ℕ → Sizes
-  sizes_of_ref r (RefWith id index last) =
-      of_ref id.line (meaning_of r id.name) (sizes_of_index r index) (sizes_of_last r last)
+  sizes_of_ref r (RefWith id index last) = of_name r.is_checked id.line (meaning_of r id.name)
+      (of_ref id.line (meaning_of r id.name) (sizes_of_index r index) (sizes_of_last r last))
 
   pub sizes_of_index : Readable → IndexOf ℕ → Option Sizes
   sizes_of_index r NoIndex = None
@@ -473,6 +505,10 @@ abbrev mutual
   pub sizes_of_all : Readable → ExprsOf ℕ → List Sizes
   sizes_of_all r NoExprs = []
   sizes_of_all r (MoreExprs e es) = sizes_of r e ∷ sizes_of_all r es
+
+-- a name with its brackets, without what is found of what the name stands for
+abbrev pub sizes_of_read : Readable → RefOf ℕ → Sizes
+sizes_of_read r (RefWith id index last) = of_ref id.line (meaning_of r id.name) (sizes_of_index r index) (sizes_of_last r last)
 
 -- a target has the width and the faults of the expression of the same form
 abbrev mutual

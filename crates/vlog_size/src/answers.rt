@@ -4,13 +4,13 @@ ghost use Rattle.std.specs.Prelude.{◌≡◌, ◌<◌, ◌^◌, true, Some, IfO
 ghost use Rattle.vlog_tree.specs.Plain.{plain_expr, plain_target};
 ghost use Rattle.vidi_bits.specs.Findings.{Tried};
 ghost use Rattle.vlog_size.specs.Literal.{is_lawful};
-ghost use Rattle.vlog_size.specs.Names.{readable_of, params_alone, is_lawful_const, are_lawful_params, is_lawful_scope};
+ghost use Rattle.vlog_size.specs.Names.{readable_of, params_alone, checked, is_lawful_const};
 ghost use Rattle.vlog_size.specs.Size.{Sizes, sizes_of, sizes_of_target, faults, constant_at, constant_of};
 ghost use Rattle.vlog_size.specs.Facts.{Shows};
 
 use crate::error::SizeError;
 use crate::facts::Facts;
-use crate::names::{params_view, whole_view};
+use crate::names::{checked, params_view, whole_view};
 use crate::scope::{Const, Params, Scope};
 use crate::size::{facts_of, numbered, target_facts};
 use vlog_tree::{Expr, Target};
@@ -42,43 +42,47 @@ fn constant_from(facts: &Facts, n: u128) -> Const
 }
 
 /// The constant of an expression that may read these parameters alone: plain, or of its
-/// self-determined width (IEEE 1364-2005, 5.4.1). Any other name is a fault.
+/// self-determined width (IEEE 1364-2005, 5.4.1).
 ///
-/// The caller sees to it that no bracket follows a parameter's name.
+/// A parameter's number counts modulo 2 to the power of its width. The caller sees to it that no
+/// bracket follows a parameter's name (E7).
 ///
 /// # Errors
 ///
-/// The first `Const` in text order, else the first `Width`.
+/// The first `Const` in text order, else the first `Width`. `Const` comes also at each other name,
+/// and at a parameter whose number isn't known, or is plain and above 2,147,483,647; `Width` at a
+/// parameter whose width isn't 1 to 128.
 pub fn constant(e: &Expr, params: &Params) -> Result<Const, SizeError>
-    requires { are_lawful_params params.now ≡ true }
-    ensures told { Tried result (faults (sizes_of (params_alone params.now) (plain_expr e.now))) }
-    ensures value { IfOk result (λ c. constant_of (sizes_of (params_alone params.now) (plain_expr e.now)) ≡ Some c) }
+    ensures told { Tried result (faults (sizes_of (checked (params_alone params.now)) (plain_expr e.now))) }
+    ensures value { IfOk result (λ c. constant_of (sizes_of (checked (params_alone params.now)) (plain_expr e.now)) ≡ Some c) }
     ensures lawful { IfOk result (λ c. is_lawful_const c ≡ true) }
 {
-    let view = params_view(params);
+    let names = params_view(params);
+    let view = checked(&names);
     let whole = numbered(&view, e);
     faultless(&whole.facts)?;
-    match whole.number {
-        Some(n) => Ok(constant_from(&whole.facts, n)),
-        None => unreachable!(),
-    }
+    // An expression without a fault has a number.
+    let n = whole.number.unwrap();
+    Ok(constant_from(&whole.facts, n))
 }
 
 /// The self-determined width of an expression in bits, 1 to 128 (IEEE 1364-2005, 5.4.1).
 ///
-/// The caller sees to it that the scope has each name, and that each is used as what it is: a
-/// memory with an index, a vector with at most one bracket, a scalar or a parameter with none.
+/// The caller sees to it that the scope has each name (E4), and that each is used as what it is: a
+/// memory with an index, a vector with at most one bracket, a scalar or a parameter with none (E7).
 ///
 /// # Errors
 ///
-/// The first `Const` in text order, else the first `Width`.
+/// The first `Const` in text order, else the first `Width`. `Const` comes also at a parameter whose
+/// number isn't known, or is plain and above 2,147,483,647; `Width` at a parameter, a net or a
+/// memory whose width isn't 1 to 128.
 pub fn width(e: &Expr, scope: &Scope) -> Result<u32, SizeError>
-    requires { is_lawful_scope scope.now ≡ true }
-    ensures told { Tried result (faults (sizes_of (readable_of scope.now) (plain_expr e.now))) }
-    ensures value { IfOk result (λ w. w ≡ (sizes_of (readable_of scope.now) (plain_expr e.now)).width) }
+    ensures told { Tried result (faults (sizes_of (checked (readable_of scope.now)) (plain_expr e.now))) }
+    ensures value { IfOk result (λ w. w ≡ (sizes_of (checked (readable_of scope.now)) (plain_expr e.now)).width) }
     ensures lawful { IfOk result (λ w. is_lawful w ≡ true) }
 {
-    let view = whole_view(scope);
+    let names = whole_view(scope);
+    let view = checked(&names);
     let facts = facts_of(&view, e);
     faultless(&facts)?;
     Ok(facts.width as u32)
@@ -90,12 +94,12 @@ pub fn width(e: &Expr, scope: &Scope) -> Result<u32, SizeError>
 ///
 /// The first `Const` in text order, else the first `Width`.
 pub fn target_width(target: &Target, scope: &Scope) -> Result<u32, SizeError>
-    requires { is_lawful_scope scope.now ≡ true }
-    ensures told { Tried result (faults (sizes_of_target (readable_of scope.now) (plain_target target.now))) }
-    ensures value { IfOk result (λ w. w ≡ (sizes_of_target (readable_of scope.now) (plain_target target.now)).width) }
+    ensures told { Tried result (faults (sizes_of_target (checked (readable_of scope.now)) (plain_target target.now))) }
+    ensures value { IfOk result (λ w. w ≡ (sizes_of_target (checked (readable_of scope.now)) (plain_target target.now)).width) }
     ensures lawful { IfOk result (λ w. is_lawful w ≡ true) }
 {
-    let view = whole_view(scope);
+    let names = whole_view(scope);
+    let view = checked(&names);
     let facts = target_facts(&view, target);
     faultless(&facts)?;
     Ok(facts.width as u32)

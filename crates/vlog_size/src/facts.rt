@@ -9,6 +9,7 @@ ghost use Rattle.vlog_size.specs.Size.{Sizes, of_number, of_param, of_read, of_s
 ghost use Rattle.vlog_size.specs.Size.{is_decimal, is_plain_const, decimal_value, is_bad_operator, is_out, of_two, number};
 ghost use Rattle.vlog_size.specs.Size.{chosen_whole, outside, too_large, wrong_order, wrong_part, bounds_width, Bit, Part, Indexed};
 ghost use Rattle.vlog_size.specs.Size.{all_lawful, total_width, sum_fault};
+ghost use Rattle.vlog_size.specs.Size.{is_past, wrong_width, name_const_faults, name_width_faults, if_checked, of_name};
 ghost use Rattle.vlog_size.specs.Limits.{TOP};
 ghost use Rattle.vlog_size.specs.Operators.{whole_value};
 ghost use Rattle.vlog_size.specs.Facts.{Shows, ShowsNumber, ShowsSelect, ShowsRest};
@@ -18,6 +19,7 @@ use crate::error::SizeError;
 use crate::literal::{
     is_bad_literal, is_lawful, is_unsized_literal, literal_width, spelled_number,
 };
+use crate::names::Meaning;
 use crate::operators::{
     Kind, in_range, is_plain_op, is_plain_shift, is_wide, kind_of, whole_value,
 };
@@ -259,6 +261,69 @@ pub fn read_facts(
         whole: None,
         const_fault,
         width_fault,
+    }
+}
+
+/// The name's number, where it isn't known, or is plain and above 2,147,483,647.
+fn name_const_fault(line: u32, meaning: Meaning) -> Option<SizeError>
+    ensures { result ≡ first (name_const_faults line meaning) }
+{
+    match meaning {
+        Meaning::Parameter { value, known } => {
+            told_if(!known || is_past(value), SizeError::Const { line })
+        }
+        _ => None,
+    }
+}
+
+/// Whether a constant is plain and above 2,147,483,647.
+fn is_past(value: Const) -> bool
+    ensures { result ≡ is_past value }
+{
+    match value {
+        Const::Plain { n } => in_range(u128::from(n)).is_none(),
+        Const::Sized { .. } => false,
+    }
+}
+
+/// The width, where it isn't 1 to 128.
+fn wrong_width(line: u32, width: u32) -> Option<SizeError>
+    ensures { result ≡ first (wrong_width line width) }
+{
+    let got = u128::from(width);
+    told_if(!is_lawful(got), SizeError::Width { line, got })
+}
+
+/// The width of what the name stands for, where it isn't 1 to 128.
+fn name_width_fault(line: u32, meaning: Meaning) -> Option<SizeError>
+    ensures { result ≡ first (name_width_faults line meaning) }
+{
+    match meaning {
+        Meaning::Parameter { value, .. } => wrong_width(line, const_width(value)),
+        Meaning::Place { width, .. } => wrong_width(line, width),
+        Meaning::Undeclared => None,
+    }
+}
+
+/// The finding, where names are checked.
+fn if_checked(is_checked: bool, found: Option<SizeError>) -> Option<SizeError>
+    ensures { (all : List SizeError) → found ≡ first all → result ≡ first (if_checked is_checked all) }
+{
+    if is_checked { found } else { None }
+}
+
+/// What is said of a name that is read: what is found of what it stands for comes before what is
+/// found in its brackets.
+#[tactic(auto, using(crate::proofs::Firsts::first_append))]
+pub fn name_facts(is_checked: bool, line: u32, meaning: Meaning, read: &Facts) -> Facts
+    ensures { (E : Sizes) → Shows read.now E → Shows result (of_name is_checked line meaning E) }
+{
+    let own_const = if_checked(is_checked, name_const_fault(line, meaning));
+    let own_width = if_checked(is_checked, name_width_fault(line, meaning));
+    Facts {
+        const_fault: either(own_const, read.const_fault),
+        width_fault: either(own_width, read.width_fault),
+        ..*read
     }
 }
 

@@ -1,7 +1,7 @@
 //! What an expression may read, and what a name means there.
 
 ghost use Rattle.std.specs.Prelude.{◌≡◌, take};
-ghost use Rattle.vlog_size.specs.Names.{meaning_of, place_meaning, fixed, readable_of, readable_in, params_alone};
+ghost use Rattle.vlog_size.specs.Names.{meaning_of, place_meaning, fixed, checked, readable_of, readable_in, params_alone};
 
 use crate::scope::{Const, Params, Scope};
 
@@ -15,6 +15,9 @@ pub struct View<'a> {
     pub declared: usize,
     /// The scope whose nets and memories may be read.
     pub places: Option<&'a Scope>,
+    /// Whether what a name stands for is at fault where it is read, if it isn't lawful. Else it is
+    /// at fault only where it is declared.
+    pub is_checked: bool,
 }
 
 /// What a name means.
@@ -74,6 +77,17 @@ pub fn fixed<'a>(view: &View<'a>) -> View<'a>
         readable: view.declared,
         declared: view.declared,
         places: None,
+        is_checked: view.is_checked,
+    }
+}
+
+/// The same names, which are checked.
+pub fn checked<'a>(view: &View<'a>) -> View<'a>
+    ensures { readable_in result ≡ checked (readable_in view.now) }
+{
+    View {
+        is_checked: true,
+        ..*view
     }
 }
 
@@ -87,6 +101,7 @@ pub fn whole_view(scope: &Scope) -> View<'_>
         readable: scope.params.len(),
         declared: scope.declared,
         places: Some(scope),
+        is_checked: false,
     }
 }
 
@@ -100,5 +115,6 @@ pub fn params_view(params: &Params) -> View<'_>
         readable: params.len(),
         declared: params.len(),
         places: None,
+        is_checked: false,
     }
 }

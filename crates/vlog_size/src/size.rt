@@ -5,8 +5,8 @@ ghost use Rattle.vlog_size.specs.declared.error.SizeError.TheVariants as error;
 ghost use Rattle.vlog_operators.specs.Number.{IsWidth};
 ghost use Rattle.vlog_tree.specs.Plain.{plain_expr, plain_prim, plain_unary, plain_ref, plain_sel, plain_exprs};
 ghost use Rattle.vlog_tree.specs.Plain.{plain_target, plain_targets};
-ghost use Rattle.vlog_size.specs.Names.{readable_in};
-ghost use Rattle.vlog_size.specs.Size.{sizes_of, sizes_of_prim, sizes_of_ref, sizes_of_sel, sizes_of_all};
+ghost use Rattle.vlog_size.specs.Names.{readable_in, meaning_of};
+ghost use Rattle.vlog_size.specs.Size.{sizes_of, sizes_of_prim, sizes_of_ref, sizes_of_read, sizes_of_sel, sizes_of_all};
 ghost use Rattle.vlog_size.specs.Size.{sizes_of_target, sizes_of_targets};
 ghost use Rattle.vlog_size.specs.Size.{Sizes, Bracket, NoBracket, number, wide_number, assigned_number, of_concat, of_read, of_place};
 ghost use Rattle.vlog_size.specs.Size.{no_faults};
@@ -15,7 +15,7 @@ ghost use Rattle.vlog_size.specs.Facts.{Shows, ShowsNumber, ShowsSelect, ShowsRe
 use crate::error::SizeError;
 use crate::facts::{
     Facts, Numbered, Select, binary_facts, bit_select, choice_facts, concat_facts, either,
-    indexed_select, no_parts, number_facts, outside, param_facts, paren_facts, part_select,
+    indexed_select, name_facts, no_parts, number_facts, outside, param_facts, paren_facts, part_select,
     read_facts, sign_facts, with_part,
 };
 use crate::names::{Meaning, View, fixed, meaning_of};
@@ -123,8 +123,20 @@ fn parts_facts(view: &View<'_>, line: u32, parts: &[Expr]) -> Facts
 fn ref_facts(view: &View<'_>, name: &Ref) -> Facts
     ensures { Shows result (sizes_of_ref (readable_in view.now) (plain_ref name.now)) }
 {
+    let meaning = meaning_of(view, name.id.name.as_slice());
+    let read = read_of(view, name, meaning);
+    name_facts(view.is_checked, name.id.line, meaning, &read)
+}
+
+/// What is said of a name with this meaning and its brackets, without what is found of what it
+/// stands for.
+#[cycle(facts)]
+fn read_of(view: &View<'_>, name: &Ref, meaning: Meaning) -> Facts
+    requires { meaning ≡ meaning_of (readable_in view.now) name.now.id.name }
+    ensures { Shows result (sizes_of_read (readable_in view.now) (plain_ref name.now)) }
+{
     let line = name.id.line;
-    match meaning_of(view, name.id.name.as_slice()) {
+    match meaning {
         Meaning::Parameter { value, known } => param_facts(line, value, known),
         Meaning::Undeclared => undeclared_facts(line),
         Meaning::Place {

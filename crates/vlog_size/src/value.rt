@@ -1,6 +1,6 @@
 //! The widths and the numbers of constant expressions.
 
-ghost use Rattle.std.specs.Prelude.{◌≡◌, ◌≤◌, ◌+◌, Some, None, if◌then◌else◌, IfSome, ℕ};
+ghost use Rattle.std.specs.Prelude.{◌≡◌, ◌≤◌, ◌+◌, ◌%◌, ◌^◌, Some, None, if◌then◌else◌, IfSome, ℕ};
 ghost use Rattle.vlog_operators.specs.Number.{IsWidth, side_by_side};
 ghost use Rattle.vlog_size.specs.Literal.{is_lawful};
 ghost use Rattle.vlog_tree.specs.Plain.{plain_expr, plain_prim, plain_unary, plain_ref, plain_exprs};
@@ -28,13 +28,27 @@ pub fn const_width(value: Const) -> u32
     }
 }
 
-/// A constant's number.
+/// `n` modulo 2 to the power of `width`.
+#[tactic(auto, using(crate::proofs::Fits::no_bits, crate::proofs::Fits::all_bits))]
+fn low_bits(n: u128, width: u32) -> u128
+    ensures { result ≡ n % 2 ^ width }
+{
+    if width == 0 {
+        return 0;
+    }
+    if width > 128 {
+        return n;
+    }
+    trim(n, width)
+}
+
+/// A constant's number, modulo 2 to the power of its width.
 pub fn const_number(value: Const) -> u128
     ensures { result ≡ const_number value }
 {
     match value {
         Const::Plain { n } => u128::from(n),
-        Const::Sized { n, .. } => n,
+        Const::Sized { width, n } => low_bits(n, width),
     }
 }
 

@@ -4,6 +4,8 @@
 #[cfg(test)]
 mod rows;
 #[cfg(test)]
+mod said;
+#[cfg(test)]
 mod scopes;
 #[cfg(test)]
 mod tests;
