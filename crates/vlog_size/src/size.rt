@@ -15,8 +15,8 @@ ghost use Rattle.vlog_size.specs.Facts.{Shows, ShowsNumber, ShowsSelect, ShowsRe
 use crate::error::SizeError;
 use crate::facts::{
     Facts, Numbered, Select, binary_facts, bit_select, choice_facts, concat_facts, either,
-    indexed_select, name_facts, no_parts, number_facts, outside, param_facts, paren_facts, part_select,
-    read_facts, sign_facts, with_part,
+    indexed_select, name_facts, no_parts, number_facts, outside, param_facts, paren_facts,
+    part_select, read_facts, sign_facts, with_part,
 };
 use crate::names::{Meaning, View, fixed, meaning_of};
 use crate::value::{assigned_value, own};

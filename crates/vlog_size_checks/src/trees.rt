@@ -42,7 +42,13 @@ pub fn expression(alloc: Global, text: &str) -> Result<Expr, Fail> {
 pub fn target(alloc: Global, text: &str) -> Result<Target, Fail> {
     let tokens = tokens_of(alloc, text)?;
     match target_of(alloc, tokens.as_slice(), fuel_for(tokens.as_slice())) {
-        Ok((target, _rest)) => Ok(target),
+        Ok((target, rest)) => {
+            if rest.is_empty() {
+                Ok(target)
+            } else {
+                Err(Fail::from("more than a target"))
+            }
+        }
         Err(_) => Err(Fail::from("no target")),
     }
 }
