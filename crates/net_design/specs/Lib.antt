@@ -4,10 +4,7 @@ pub mod Sized
 pub mod Bits
 pub mod Last
 pub mod Settled
-pub mod BitMap
-pub mod Found
 pub mod Names
 pub mod Lawful
-pub mod Moved
 pub mod Example
 pub mod Pins

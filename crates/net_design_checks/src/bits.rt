@@ -1,11 +1,8 @@
 //! The bits that code writes and reads.
 
-use crate::build::{add, add_choice, add_copy, add_guard, add_number, bits, only, span};
-use net_design::{Act, Code, Mask, Place, Rhs, Room, Timing, is_sized_block};
+use crate::build::{Part, Step, Value, code_with_bits, copy, is_right, room, span};
+use net_design::{Code, Mask, Span, Timing};
 use std::alloc::Global;
-use std::boxed::Box;
-use std::process::Abort;
-use std::test::Fail;
 use vidi_bits::{Items, Memory};
 
 // Whether masks are these, in the order of their nets.
@@ -22,170 +19,125 @@ fn are(masks: &Items<Mask>, want: &[(usize, u128)]) -> bool {
     true
 }
 
-// Whether these bits are written and read.
+fn has_masks(code: &Code, writes: &[(usize, u128)], reads: &[(usize, u128)]) -> bool {
+    are(&code.writes, writes) && are(&code.reads, reads)
+}
+
+// Whether statements can be evaluated, and these bits are written and read.
 fn has(
-    rt: &impl Abort,
     alloc: Global,
     timing: Timing,
-    acts: Items<Act>,
+    steps: &[Step],
     writes: &[(usize, u128)],
     reads: &[(usize, u128)],
 ) -> Result<bool, Memory> {
-    assert!(rt; is_sized_block(&acts), "each block here can be evaluated");
-    let code = Code::of(alloc, timing, acts)?;
-    Ok(are(&code.writes, writes) && are(&code.reads, reads))
+    match code_with_bits(alloc, timing, steps)? {
+        Some(code) => Ok(has_masks(&code, writes, reads)),
+        None => Ok(false),
+    }
 }
 
-// `begin t = a; y = t; end`, where a, t and y are nets 0 to 2 of 2 bits
-fn copied(alloc: Global) -> Result<Items<Act>, Memory> {
-    let mut acts = Items::new(alloc);
-    add_copy(alloc, &mut acts, span(1, 0, 2), span(0, 0, 2))?;
-    add_copy(alloc, &mut acts, span(2, 0, 2), span(1, 0, 2))?;
-    Ok(acts)
+// Whether `begin t = a; y = t; end` reads these bits, where a, t and y are nets 0 to 2 of 2 bits.
+fn copies_read(alloc: Global, timing: Timing, reads: &[(usize, u128)]) -> Result<bool, Memory> {
+    let t = span(1, 0, 2);
+    let steps = [copy(t, span(0, 0, 2)), copy(span(2, 0, 2), t)];
+    has(alloc, timing, &steps, &[(1, 3), (2, 3)], reads)
 }
 
 // In `always @*` t was surely assigned before it is read. A clocked block reads the old t.
 #[test]
-fn bits_assigned_before_they_are_read(rt: HostRuntime) -> Result<(), Fail> {
-    let alloc = rt.alloc();
-    let acts = copied(alloc)?;
-    let driver = has(
-        &rt,
-        alloc,
-        Timing::Blocking,
-        acts,
-        &[(1, 3), (2, 3)],
-        &[(0, 3)],
-    )?;
-    let acts = copied(alloc)?;
-    let block = has(
-        &rt,
-        alloc,
-        Timing::Nonblocking,
-        acts,
-        &[(1, 3), (2, 3)],
-        &[(0, 3), (1, 3)],
-    )?;
+fn bits_assigned_before_they_are_read(rt: HostRuntime) {
+    let driver = is_right(copies_read(rt.alloc(), Timing::Blocking, &[(0, 3)]));
+    let block = is_right(copies_read(rt.alloc(), Timing::Nonblocking, &[(0, 3), (1, 3)]));
     assert!(rt; driver && block);
-    Ok(())
 }
 
-// `begin if (c) y = 1; else y[low ..] = 2; z = y; end`, where c, y and z are nets 0 to 2, y and z of 2 bits
-fn joined(alloc: Global, low: u32) -> Result<Items<Act>, Memory> {
-    let mut acts = Items::new(alloc);
-    add_choice(
-        alloc,
-        &mut acts,
-        span(0, 0, 1),
-        span(1, 0, 2),
-        span(1, low, 2 - low.min(2)),
-    )?;
-    add_copy(alloc, &mut acts, span(2, 0, 2), span(1, 0, 2))?;
-    Ok(acts)
+// Whether `always @* begin if (c) y = 1; else OTHER = 3; z = y; end` reads these bits, where c, y and z are nets 0 to 2, y and z of 2
+// bits.
+fn choice_reads(alloc: Global, other: Span, reads: &[(usize, u128)]) -> Result<bool, Memory> {
+    let y = span(1, 0, 2);
+    let choice = Step::Choice {
+        first: span(0, 0, 1),
+        second: None,
+        to: y,
+        other,
+    };
+    let steps = [choice, copy(span(2, 0, 2), y)];
+    has(alloc, Timing::Blocking, &steps, &[(1, 3), (2, 3)], reads)
 }
 
 // After a choice those bits alone are assigned that both arms assign: y[1] is, and y[0] isn't where the second arm leaves it out.
 #[test]
-fn bits_that_each_arm_assigns(rt: HostRuntime) -> Result<(), Fail> {
-    let alloc = rt.alloc();
-    let acts = joined(alloc, 1)?;
-    let part = has(
-        &rt,
-        alloc,
-        Timing::Blocking,
-        acts,
-        &[(1, 3), (2, 3)],
-        &[(0, 1), (1, 1)],
-    )?;
-    let acts = joined(alloc, 0)?;
-    let whole = has(
-        &rt,
-        alloc,
-        Timing::Blocking,
-        acts,
-        &[(1, 3), (2, 3)],
-        &[(0, 1)],
-    )?;
+fn bits_that_each_arm_assigns(rt: HostRuntime) {
+    let part = is_right(choice_reads(rt.alloc(), span(1, 1, 1), &[(0, 1), (1, 1)]));
+    let whole = is_right(choice_reads(rt.alloc(), span(1, 0, 2), &[(0, 1)]));
     assert!(rt; part && whole);
-    Ok(())
 }
 
-// `y[i] = m[j];`, where i, j and y are nets 0 to 2
-fn indexed(alloc: Global) -> Result<Items<Act>, Memory> {
-    let mut acts = Items::new(alloc);
-    let place = Place::BitsFrom {
-        whole: span(2, 0, 4),
-        at: bits(0, 0, 2),
-        width: 1,
+// Of `y[i] = m[j];`, where i, j and y are nets 0 to 2, all of y is written, and both indexes are read.
+fn try_indexes(alloc: Global) -> Result<bool, Memory> {
+    let indexed = Step::Set {
+        to: Part::BitsFrom {
+            whole: span(2, 0, 4),
+            at: span(0, 0, 2),
+            width: 1,
+        },
+        value: Value::Word {
+            room: room(0, 4),
+            at: span(1, 0, 2),
+        },
     };
-    let to = only(alloc, place)?;
-    let at = Box::new(alloc, bits(1, 0, 2))?;
-    let room = Room {
-        first: 0,
-        length: 4,
-    };
-    add(&mut acts, to, Rhs::Word { room, at })?;
-    Ok(acts)
-}
-
-// `case (s) default: y = 1; endcase`, where the y of `y[9 +: 4]` has no bit there
-fn subject(alloc: Global) -> Result<Items<Act>, Memory> {
-    let mut acts = Items::new(alloc);
-    acts.push(Act::Read(bits(0, 0, 4)))?;
-    let place = Place::Bits {
-        span: span(1, 8, 0),
-        takes: 4,
-    };
-    let to = only(alloc, place)?;
-    add(&mut acts, to, Rhs::Number(1))?;
-    Ok(acts)
-}
-
-// All of y is written, and both indexes are read. A subject is read.
-#[test]
-fn indexes_and_subjects_are_read(rt: HostRuntime) -> Result<(), Fail> {
-    let alloc = rt.alloc();
-    let acts = indexed(alloc)?;
-    let index = has(
-        &rt,
+    has(
         alloc,
         Timing::Blocking,
-        acts,
+        &[indexed],
         &[(2, 15)],
         &[(0, 3), (1, 3)],
-    )?;
-    let acts = subject(alloc)?;
-    let alone = has(&rt, alloc, Timing::Nonblocking, acts, &[], &[(0, 15)])?;
-    assert!(rt; index && alone);
-    Ok(())
+    )
 }
 
-// `begin if (a) y = 1; else if (b) y = 2; else y[7:4] = 3; z = y; end`, where a, b, y and z are nets 1, 2, 4 and 0
-fn many(alloc: Global) -> Result<Items<Act>, Memory> {
-    let mut acts = Items::new(alloc);
-    let mut guards = Items::new(alloc);
-    add_guard(alloc, &mut guards, span(1, 0, 1), span(4, 0, 8), 1)?;
-    add_guard(alloc, &mut guards, span(2, 0, 1), span(4, 0, 8), 2)?;
-    let mut otherwise = Items::new(alloc);
-    add_number(alloc, &mut otherwise, span(4, 4, 4), 3)?;
-    acts.push(Act::Branch { guards, otherwise })?;
-    add_copy(alloc, &mut acts, span(0, 0, 8), span(4, 0, 8))?;
-    Ok(acts)
+// Of `case (s) default: y[9 +: 4] = 1; endcase`, where y has no bit there, the subject is read and nothing is written.
+fn try_subject(alloc: Global) -> Result<bool, Memory> {
+    let nowhere = Step::Set {
+        to: Part::Bits {
+            span: span(1, 8, 0),
+            takes: 4,
+        },
+        value: Value::Number(1),
+    };
+    let steps = [Step::Read(span(0, 0, 4)), nowhere];
+    has(alloc, Timing::Nonblocking, &steps, &[], &[(0, 15)])
 }
 
-// Each condition is read, and of y the bits that the last arm leaves out.
 #[test]
-fn many_arms(rt: HostRuntime) -> Result<(), Fail> {
-    let alloc = rt.alloc();
-    let acts = many(alloc)?;
-    let right = has(
-        &rt,
+fn indexes_and_subjects_are_read(rt: HostRuntime) {
+    let index = is_right(try_indexes(rt.alloc()));
+    let subject = is_right(try_subject(rt.alloc()));
+    assert!(rt; index && subject);
+}
+
+// Of `begin if (a) y = 1; else if (b) y = 2; else y[7:4] = 3; z = y; end`, where a, b, y and z are nets 1, 2, 4 and 0, each condition
+// is read, and of y the bits that the last arm leaves out.
+fn try_arms(alloc: Global) -> Result<bool, Memory> {
+    let y = span(4, 0, 8);
+    let choice = Step::Choice {
+        first: span(1, 0, 1),
+        second: Some(span(2, 0, 1)),
+        to: y,
+        other: span(4, 4, 4),
+    };
+    let steps = [choice, copy(span(0, 0, 8), y)];
+    let reads = [(1, 1), (2, 1), (4, 15)];
+    has(
         alloc,
         Timing::Blocking,
-        acts,
+        &steps,
         &[(0, 255), (4, 255)],
-        &[(1, 1), (2, 1), (4, 15)],
-    )?;
-    assert!(rt; right);
-    Ok(())
+        &reads,
+    )
+}
+
+#[test]
+fn many_arms(rt: HostRuntime) {
+    assert!(rt; is_right(try_arms(rt.alloc())));
 }

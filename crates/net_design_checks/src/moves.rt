@@ -1,33 +1,12 @@
 //! Code of an instance, moved to its first places.
 
-use crate::build::{add, bits, span, target};
-use net_design::{
-    Act, Code, Lhs, Place, Rhs, Room, Timing, is_sized_block, move_target, target_is_near,
+use crate::build::{Value, code_with_bits, is_right, room, set, span, target, whole, word};
+use net_code::{
+    code_is_near, expression_is_near, move_code, move_expression, move_target, target_is_near,
 };
+use net_design::{Act, Code, Lhs, Place, Rhs, Timing};
 use std::alloc::Global;
-use std::boxed::Box;
-use std::process::Abort;
-use std::test::Fail;
 use vidi_bits::{Items, Memory};
-
-// `m[a]`, where a is net 0 of an instance and m is its words 0 and 1
-fn word(alloc: Global) -> Result<Rhs, Memory> {
-    let at = Box::new(alloc, bits(0, 0, 1))?;
-    let room = Room {
-        first: 0,
-        length: 2,
-    };
-    Ok(Rhs::Word { room, at })
-}
-
-// `y = m[a]`, where y is net 1
-fn word_read(alloc: Global) -> Result<Items<Act>, Memory> {
-    let mut acts = Items::new(alloc);
-    let to = target(alloc, span(1, 0, 8))?;
-    let value = word(alloc)?;
-    add(&mut acts, to, value)?;
-    Ok(acts)
-}
 
 // Whether an expression is the word of the memory from word 5 on at the place that net 3 has.
 fn value_moved(e: &Rhs) -> bool {
@@ -72,33 +51,62 @@ fn masks_moved(code: &Code) -> bool {
     }
 }
 
-fn moved(rt: &impl Abort, alloc: Global, acts: Items<Act>) -> Result<bool, Memory> {
-    assert!(rt; is_sized_block(&acts), "it can be evaluated");
-    let mut code = Code::of(alloc, Timing::Blocking, acts)?;
-    assert!(rt; code.is_near(), "it can be moved");
-    code.move_to(3, 5);
-    Ok(act_moved(&code.acts) && masks_moved(&code))
+// Whether code can be moved, and has then the places from net 3 and word 5 on.
+fn moves(code: &mut Code) -> bool {
+    if !code_is_near(code) {
+        return false;
+    }
+    move_code(code, 3, 5);
+    act_moved(&code.acts) && masks_moved(code)
 }
 
-// Moved to net 3 and word 5.
+// `y = m[a];`, where a and y are nets 0 and 1 of an instance and m is its words 0 and 1
+fn try_code(alloc: Global) -> Result<bool, Memory> {
+    let value = Value::Word {
+        room: room(0, 2),
+        at: span(0, 0, 1),
+    };
+    match code_with_bits(alloc, Timing::Blocking, &[set(span(1, 0, 8), value)])? {
+        Some(mut code) => Ok(moves(&mut code)),
+        None => Ok(false),
+    }
+}
+
 #[test]
-fn code_moves(rt: HostRuntime) -> Result<(), Fail> {
-    let alloc = rt.alloc();
-    let acts = word_read(alloc)?;
-    let right = moved(&rt, alloc, acts)?;
-    assert!(rt; right);
-    Ok(())
+fn code_moves(rt: HostRuntime) {
+    assert!(rt; is_right(try_code(rt.alloc())));
+}
+
+fn expression_moves(e: &mut Rhs) -> bool {
+    if !expression_is_near(e) {
+        return false;
+    }
+    move_expression(e, 3, 5);
+    value_moved(e)
+}
+
+fn try_expression(alloc: Global) -> Result<bool, Memory> {
+    let mut value = word(alloc, room(0, 2), span(0, 0, 1))?;
+    Ok(expression_moves(&mut value))
+}
+
+fn target_moves(to: &mut Lhs) -> bool {
+    if !target_is_near(to) {
+        return false;
+    }
+    move_target(to, 3, 5);
+    target_moved(to)
+}
+
+fn try_target(alloc: Global) -> Result<bool, Memory> {
+    let mut to = target(alloc, &[whole(span(1, 0, 8))])?;
+    Ok(target_moves(&mut to))
 }
 
 // A connection's expression and its target stand in two scopes, and move apart.
 #[test]
-fn expressions_and_targets_move(rt: HostRuntime) -> Result<(), Fail> {
-    let alloc = rt.alloc();
-    let mut to = target(alloc, span(1, 0, 8))?;
-    let mut value = word(alloc)?;
-    assert!(rt; value.is_near() && target_is_near(&to));
-    value.move_to(3, 5);
-    move_target(&mut to, 3, 5);
-    assert!(rt; value_moved(&value) && target_moved(&to));
-    Ok(())
+fn expressions_and_targets_move(rt: HostRuntime) {
+    let expression = is_right(try_expression(rt.alloc()));
+    let target = is_right(try_target(rt.alloc()));
+    assert!(rt; expression && target);
 }

@@ -1,10 +1,9 @@
 //! The numbers of operators, by IEEE 1364-2005, clause 5, and by hand.
 
-use std::test::Fail;
 use vlog_operators::{BinaryOp, UnaryOp, binary, joined, selected, times, unary};
 
 #[test]
-fn operators_of_one_operand(rt: HostRuntime) -> Result<(), Fail> {
+fn operators_of_one_operand(rt: HostRuntime) {
     let mut right = true;
     for (op, a, want) in [
         (UnaryOp::Negate, 3u128, 253u128),
@@ -20,11 +19,10 @@ fn operators_of_one_operand(rt: HostRuntime) -> Result<(), Fail> {
         right &= unary(op, a, 8) == want;
     }
     assert!(rt; right);
-    Ok(())
 }
 
 #[test]
-fn operators_of_two_operands(rt: HostRuntime) -> Result<(), Fail> {
+fn operators_of_two_operands(rt: HostRuntime) {
     let mut right = true;
     for (op, a, b, want) in [
         (BinaryOp::Add, 200u128, 100u128, 44u128),
@@ -46,14 +44,12 @@ fn operators_of_two_operands(rt: HostRuntime) -> Result<(), Fail> {
         right &= binary(op, a, b, 8) == want;
     }
     assert!(rt; right);
-    Ok(())
 }
 
 // `{4'h3a, 4'h5}` is 8'ha5 and `{2{3'o6}}` is 6'o66. Two bits of 8'h81 from bit 7 on are 1.
 #[test]
-fn concatenations_and_selects(rt: HostRuntime) -> Result<(), Fail> {
-    assert!(rt; joined(0x3a, 0x5, 4, 4) == 0xa5);
-    assert!(rt; times(2, 0x6, 3) == 0o66);
-    assert!(rt; selected(0x81, 7, 2) == 1);
-    Ok(())
+fn concatenations_and_selects(rt: HostRuntime) {
+    let side_by_side = joined(0x3a, 0x5, 4, 4) == 0xa5;
+    let repeated = times(2, 0x6, 3) == 0o66;
+    assert!(rt; side_by_side && repeated && selected(0x81, 7, 2) == 1);
 }

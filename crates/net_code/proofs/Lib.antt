@@ -1,0 +1,9 @@
+pub mod Lists
+pub mod MovedRows
+pub mod MovedValues
+pub mod MovedBits
+pub mod MovedSizes
+pub mod MaskLaws
+pub mod FoundLaws
+pub mod RowBits
+pub mod WalkLaws

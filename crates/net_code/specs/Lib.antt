@@ -1,0 +1,3 @@
+pub mod BitMap
+pub mod Found
+pub mod Moved

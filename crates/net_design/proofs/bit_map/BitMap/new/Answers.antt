@@ -1,5 +1,0 @@
-use Rattle.net_design.proofs.MaskLaws.{none_in}
-use Rattle.net_design.proofs.bit_map.BitMap.new.Goals as goal
-
-pub returns : goal.returns
-returns c = none_in (record { masks = c.new.result }) c.new.ensures.empty

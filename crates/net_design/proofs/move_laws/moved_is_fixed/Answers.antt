@@ -1,5 +1,0 @@
-use Rattle.net_design.proofs.MovedValues.{fixed_moved}
-use Rattle.net_design.proofs.move_laws.moved_is_fixed.Goals as goal
-
-pub returns : goal.returns
-returns c = fixed_moved

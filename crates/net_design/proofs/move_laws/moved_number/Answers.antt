@@ -1,5 +1,0 @@
-use Rattle.net_design.proofs.MovedValues.{value_moved}
-use Rattle.net_design.proofs.move_laws.moved_number.Goals as goal
-
-pub returns : goal.returns
-returns c = value_moved

@@ -1,5 +1,0 @@
-use Rattle.net_design.proofs.MovedValues.{block_moved}
-use Rattle.net_design.proofs.move_laws.moved_updates.Goals as goal
-
-pub returns : goal.returns
-returns c = block_moved

@@ -1,0 +1,11 @@
+use Rattle.std.proofs.Common.{◌≡◌, ◌++◌, All, take}
+use Rattle.vlog_operators.specs.Number.{IsWidth}
+use Rattle.net_design.specs.declared.values.Update.{Update}
+use Rattle.net_reference.proofs.statement.append.Given as goal
+
+abbrev pub invariant-loop-update : goal.invariant-loop-update
+invariant-loop-update l = record {
+  same : l.out ≡ l.initial.out ++ take l.update-index l.more;
+  sized : All
+      (λ (u : Update). IsWidth u.width) l.out;
+}
