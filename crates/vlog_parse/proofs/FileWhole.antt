@@ -212,8 +212,7 @@ instance_lawful x g =
     let end = Fixed t.ParenClose ∷ Fixed t.Semicolon ∷ [] in (
       g.0,
       lawful_append (hash_words conn_words x.parameters) (NameWord x.id.name ∷ Fixed t.ParenOpen ∷ (with_commas conn_words x.ports ++ end))
-          (hash_lawful (ConnOf U) IsGoodConn conn_words conn_lawful x.parameters g.1)
-          (
+          (hash_lawful (ConnOf U) IsGoodConn conn_words conn_lawful x.parameters g.1) (
             g.2,
             (
               tt,
@@ -273,8 +272,7 @@ module_lawful m g =
       (
         g.0,
         lawful_append (hash_words parameter_words m.parameters) (Fixed t.ParenOpen ∷ tail)
-            (hash_lawful (ParameterOf U) IsGoodParameter parameter_words parameter_lawful m.parameters g.2)
-            (
+            (hash_lawful (ParameterOf U) IsGoodParameter parameter_words parameter_lawful m.parameters g.2) (
               tt,
               lawful_append (with_commas port_words m.ports) (Fixed t.ParenClose ∷ Fixed t.Semicolon ∷ body)
                   (all_commas_lawful (PortOf U) IsGoodPort port_words port_lawful m.ports g.4) (

@@ -371,8 +371,7 @@ unit_lawful false (Header name qs ps) f =
       (
         f.0,
         lawful_append (hash_words parameter_words qs) (Fixed t.ParenOpen ∷ (with_commas port_words ps ++ end))
-            (hash_lawful (ParameterOf U) IsGoodParameter parameter_words parameter_lawful qs f.2)
-            (
+            (hash_lawful (ParameterOf U) IsGoodParameter parameter_words parameter_lawful qs f.2) (
               tt,
               lawful_append (with_commas port_words ps) end
                   (all_commas_lawful (PortOf U) IsGoodPort port_words port_lawful ps f.4) (tt, (tt, tt)),

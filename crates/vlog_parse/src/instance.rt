@@ -68,12 +68,7 @@ fn conns_of(alloc: Global, tokens: &[Token], fuel: usize) -> Parsed<'_, Conns>
 }
 
 /// An instance, behind the name of its module.
-fn instance_of(
-    alloc: Global,
-    module_id: Ident,
-    tokens: &[Token],
-    fuel: usize,
-) -> Parsed<'_, Item>
+fn instance_of(alloc: Global, module_id: Ident, tokens: &[Token], fuel: usize) -> Parsed<'_, Item>
     ensures { Gives (λ x. (plain_item x.0, all_marked x.1.now)) result (instance_at fuel (plain_ident module_id) (all_marked tokens.now)) }
 {
     let (parameters, rest) = parameter_conns_front(alloc, tokens, fuel)?;

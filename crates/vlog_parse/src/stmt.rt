@@ -114,6 +114,8 @@ fn rest_of_if(
 }
 
 /// What stands behind `case`.
+// Never inlined, so that `if`s within one another need little stack.
+#[inline(never)]
 #[cycle(stmts)]
 fn case_of(alloc: Global, tokens: &[Token], fuel: usize, nested: u32) -> Parsed<'_, Stmt>
     ensures { Gives (λ x. (plain_stmt x.0, all_marked x.1.now)) result (case_at fuel (all_marked tokens.now)) }

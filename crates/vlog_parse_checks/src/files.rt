@@ -72,7 +72,10 @@ const FILES: [(&str, &str); 26] = [
         "module m(); always @(posedge k) if (a) if (b) c = 1; else if (d) c <= 1; else c = 2; else c <= 3; endmodule",
         "m()@1k?(?(=)(?(<)(=)))(<)",
     ),
-    ("module m(); always @* a = b; always @(*) ; endmodule", "m()@1*=@1(*);"),
+    (
+        "module m(); always @* a = b; always @(*) ; endmodule",
+        "m()@1*=@1(*);",
+    ),
     (
         "module m(); always @* case (a) 0: b = 1; 1, 2: ; default: b = 2; endcase endmodule",
         "m()@1*:((1=)(2;)(d:1=))",
@@ -116,7 +119,7 @@ const FILES: [(&str, &str); 26] = [
 ];
 
 // Texts of one line that are no file.
-const REFUSED: [&str; 70] = [
+const REFUSED: [&str; 68] = [
     "",
     ";",
     "module m()",
@@ -334,11 +337,7 @@ fn show_event(out: &mut Vec<u8>, event: &Event) -> Result<(), AllocError> {
     }
 }
 
-fn show_instance(
-    alloc: Global,
-    out: &mut Vec<u8>,
-    instance: &Instance,
-) -> Result<(), AllocError> {
+fn show_instance(alloc: Global, out: &mut Vec<u8>, instance: &Instance) -> Result<(), AllocError> {
     put(out, b"I")?;
     put(out, instance.module_id.name.as_slice())?;
     show_conns(alloc, out, instance.parameters.as_slice())?;

@@ -176,11 +176,7 @@ impl Spelled for Conn {
     }
 }
 
-fn push_parameters(
-    alloc: Global,
-    out: &mut Tokens,
-    parameters: &[Parameter],
-) -> Result<(), Memory>
+fn push_parameters(alloc: Global, out: &mut Tokens, parameters: &[Parameter]) -> Result<(), Memory>
     ensures { OnOk result (out.new ≡ out.old ++ tokens_of (hash_words parameter_words (map plain_parameter parameters.now))) }
 {
     push_hash(alloc, out, parameters)
