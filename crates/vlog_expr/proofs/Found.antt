@@ -72,7 +72,7 @@ same_kind_true Other Decimal h = cc
 same_kind_true Other Based h = cc
 same_kind_true Other Other h = refl
 
-unary_kind : (op : UnaryOp) → terminal_kind (unary_terminal op) ≡ Other
+pub unary_kind : (op : UnaryOp) → terminal_kind (unary_terminal op) ≡ Other
 unary_kind unary.Plus = refl
 unary_kind unary.Minus = refl
 unary_kind unary.LogicalNot = refl

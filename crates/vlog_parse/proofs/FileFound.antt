@@ -7,92 +7,31 @@ use Rattle.vlog_lex.specs.declared.token.TokenKind.TheVariants.{Identifier, Rese
 use Rattle.vlog_tree.specs.declared.module.Direction.{Direction}
 use Rattle.vlog_tree.specs.declared.terminal.Terminal.TheVariants as t
 use Rattle.vlog_tree.specs.Words.{Word, NameWord, Fixed}
-use Rattle.vlog_tree.specs.Tree.{IdentOf, RangeOf, PortHeadOf, PortOf, DrivenWireOf, Reg1Of, AssignOf, ItemOf, ModuleOf, FileOf}
+use Rattle.vlog_tree.specs.Tree.{IdentOf, RangeOf, PortHeadOf, PortOf, NamedValueOf, Reg1Of, AssignOf, ItemOf, ModuleOf, FileOf}
 use Rattle.vlog_tree.specs.Spelling.{ident_words, after_commas, with_commas, in_row, range_words, optional, direction_words, head_words}
-use Rattle.vlog_tree.specs.Spelling.{init_words, port_words, wire_words, reg_words, assign_words, event_words, item_words, module_words}
+use Rattle.vlog_tree.specs.Spelling.{init_words, port_words, named_words, reg_words, assign_words, event_words, item_words, module_words}
 use Rattle.vlog_tree.specs.Spelling.{file_words}
 use Rattle.vlog_tree.specs.Shape.{IsGoodName, IsGoodExpr, IsGoodOption, IsGoodRange, IsGoodHead, IsGoodPort, IsFirstDirected, IsGoodIdent}
-use Rattle.vlog_tree.specs.Shape.{IsGoodWire, IsGoodReg, IsGoodAssign, IsGoodEvent, AreSomeGood, IsGoodItem, IsGoodModule, IsGood}
+use Rattle.vlog_tree.specs.Shape.{IsGoodNamed, IsGoodReg, IsGoodAssign, IsGoodEvent, AreSomeGood, IsGoodItem, IsGoodModule, IsGood}
 use Rattle.vlog_expr.specs.Marks.{Toks, spell, IsLawfulText, AreLawful, is_name, name_front}
 use Rattle.vlog_expr.specs.Bare.{forget_all}
 use Rattle.vlog_expr.specs.Reader.{Read}
 use Rattle.vlog_parse.specs.FileReader.{range_at, range_front, init_front, input_at, output_at, direction_front, head_front, port_at}
-use Rattle.vlog_parse.specs.FileReader.{given_head, first_port_at, ports_at, wire_at, reg_at, assign_at, names_at, driven_at, wires_at}
+use Rattle.vlog_parse.specs.FileReader.{first_port_at, ports_at, named_at, reg_at, assign_at, names_at, driven_at, wires_at}
 use Rattle.vlog_parse.specs.FileReader.{regs_at, assigns_at, event_at, always_at, item_at, items_at, header_at, module_at, modules_at}
 use Rattle.vlog_parse.specs.FileReader.{file_at}
 use Rattle.vlog_expr.specs.Reader.{more_at, some_at}
 use Rattle.vlog_parse.specs.FileLaws.{ReadFilesAreSpelled}
 use Rattle.vlog_expr.proofs.Found.{From, again}
-use Rattle.vlog_parse.proofs.StmtFound.{Sure, nothing, sure, next, either, ◌▹◌, some_none, start, after_found, expr_found, target_found}
+use Rattle.vlog_parse.proofs.Sure.{Sure, nothing, sure, next, either, ◌▹◌, some_none, start, after_found, expr_found, target_found}
+use Rattle.vlog_parse.proofs.ListFound.{AreLed, led_good, all_snoc, some_snoc, row_snoc, alone, At, more_found, some_found}
 use Rattle.vlog_parse.proofs.StmtFound.{body_found}
-
--- at least one, of which the first meets a condition of its own
-abbrev AreLed : {X : Type 0} → (X → Type 0) → (X → Type 0) → List X → Type 0
-AreLed First Good [] = ⊥
-AreLed First Good (x ∷ xs) = First x × AllByRecursion Good xs
-
-led_good : {X : Type 0} (Good : X → Type 0) (xs : List X) → AreLed Good Good xs → AreSomeGood Good xs
-led_good Good [] g = g
-led_good Good (x ∷ xs) g = g
-
-all_snoc : {X : Type 0} (Good : X → Type 0) (xs : List X) (x : X) → AllByRecursion Good xs → Good x → AllByRecursion Good (xs ++ x ∷ [])
-all_snoc Good [] x g h = (h, tt)
-all_snoc Good (y ∷ ys) x g h = (g.0, all_snoc Good ys x g.1 h)
-
-led_snoc : {X : Type 0} (First Good : X → Type 0) (xs : List X) (x : X) → AreLed First Good xs → Good x → AreLed First Good (xs ++ x ∷ [])
-led_snoc First Good [] x g h = absurd g
-led_snoc First Good (y ∷ ys) x g h = (g.0, all_snoc Good ys x g.1 h)
-
-some_snoc : {X : Type 0} (Good : X → Type 0) (xs : List X) (x : X) → AreSomeGood Good xs → Good x → AreSomeGood Good (xs ++ x ∷ [])
-some_snoc Good [] x g h = absurd g
-some_snoc Good (y ∷ ys) x g h = (g.0, all_snoc Good ys x g.1 h)
-
-commas_snoc : {X : Type 0} (words : X → List Word) (xs : List X) (x : X) → after_commas words xs ++ Fixed t.Comma ∷ words x
-    ≡ after_commas words (xs ++ x ∷ [])
-commas_snoc words [] x = ap (λ (ws : List Word). Fixed t.Comma ∷ ws) (sym (append-nil (words x)))
-commas_snoc words (y ∷ ys) x = ap (λ (ws : List Word). Fixed t.Comma ∷ ws)
-    (append_assoc (words y) (after_commas words ys) (Fixed t.Comma ∷ words x)
-    ∙ ap (λ (ws : List Word). words y ++ ws) (commas_snoc words ys x))
-
-row_snoc : {X : Type 0} (words : X → List Word) (xs : List X) (x : X) → in_row words xs ++ words x ≡ in_row words (xs ++ x ∷ [])
-row_snoc words [] x = sym (append-nil (words x))
-row_snoc words (y ∷ ys) x = append_assoc (words y) (in_row words ys) (words x)
-    ∙ ap (λ (ws : List Word). words y ++ ws) (row_snoc words ys x)
-
-alone : {A : Type 0} {ws rest : Toks A} {a : List Word} → From A ws a rest → From A ws (a ++ []) rest
-alone {A = A} {ws = ws} {rest = rest} {a = a} f = again A ws rest a (a ++ []) (sym (append-nil a)) f
-
--- something good, with these words
-abbrev At : {A X : Type 0} → (X → Type 0) → (X → List Word) → Toks A → X × Toks A → Type 0
-At {A = A} Good words w x = Good x.0 × From A w (words x.0) x.1
-
--- items with commas between them, behind a first one
-module _ (A X : Type 0) (one : Toks A → Read A X) (First Good : X → Type 0) (words : X → List Word)
-    (read : (ws : Toks A) → AreLawful ws → Sure (one ws) (At Good words ws)) where
-  more_step : (w mid rest : Toks A) (xs : List X) (x : X) → At (AreLed First Good) (with_commas words) w (xs, mid) → Good x
-      → From A mid (Fixed t.Comma ∷ words x) rest
-      → At (AreLed First Good) (with_commas words) w (xs ++ x ∷ [], rest)
-  more_step w mid rest [] x g h f = absurd g.0
-  more_step w mid rest (y ∷ ys) x g h f = (
-    led_snoc First Good (y ∷ ys) x g.0 h,
-    again A w rest ((words y ++ after_commas words ys) ++ Fixed t.Comma ∷ words x) (words y ++ after_commas words (ys ++ x ∷ []))
-        (append_assoc (words y) (after_commas words ys) (Fixed t.Comma ∷ words x)
-        ∙ ap (λ (ws : List Word). words y ++ ws) (commas_snoc words ys x)) (g.1 ▹ f),
-  )
-
-  more_found : (n : ℕ) (w ws : Toks A) (xs : List X) → At (AreLed First Good) (with_commas words) w (xs, ws)
-      → Sure (more_at one n xs ws) (At (AreLed First Good) (with_commas words) w)
-  more_found zero w ws xs g = nothing
-  more_found (suc n) w ws xs g =
-      either (after_found A t.Comma ws g.1.lawful) (sure _ g)
-      (λ c fc. next (read c.1 fc.lawful) (λ x gx. more_found n w x.1 (xs ++ x.0 ∷ []) (more_step w ws x.1 xs x.0 g gx.0 (fc ▹ gx.1))))
-
--- items with commas between them
-some_found : (A X : Type 0) (one : Toks A → Read A X) (Good : X → Type 0) (words : X → List Word)
-    → ((ws : Toks A) → AreLawful ws → Sure (one ws) (At Good words ws))
-    → (n : ℕ) (ws : Toks A) → AreLawful ws → Sure (some_at one n ws) (At (AreLed Good Good) (with_commas words) ws)
-some_found A X one Good words read n ws h = next (read ws h) (λ x g. more_found A X one Good Good words read n ws x.1 (x.0 ∷ [])
-    ((g.0, tt), alone g.1))
+use Rattle.vlog_tree.specs.Tree.{ParameterHeadOf, ParameterOf, ConnOf, ExprOf, EventOf}
+use Rattle.vlog_tree.specs.Spelling.{tail_words, parameter_head_words, parameter_words, hash_words, expr_words, conn_words}
+use Rattle.vlog_tree.specs.Shape.{IsGoodTail, IsGoodParameterHead, IsGoodParameter, IsFirstHeaded, IsGoodConn}
+use Rattle.vlog_parse.specs.FileReader.{tail_front, localparams_at, paren_event_at, value_at, conn_at, parameter_conns_front, conns_at}
+use Rattle.vlog_parse.specs.FileReader.{instance_at, named_item_at, other_item_at, parameter_head_front, parameter_at}
+use Rattle.vlog_parse.specs.FileReader.{first_parameter_at, parameters_front, where_given}
 
 module _ (A : Type 0) where
   name_cases : (kind : TokenKind) (text : List ℕ) (line : A) (rest : Toks A) → IsLawfulText kind text → AreLawful rest
@@ -152,7 +91,7 @@ module _ (A : Type 0) where
   IsDirected p = IsGoodPort p × (p.head ≢ None)
 
   directed_found : (ws : Toks A) (p : PortOf A × Toks A) (o : Option (PortHeadOf A)) → p.0.head ≡ o → At IsGoodPort port_words ws p
-      → Sure (given_head o p) (At IsDirected port_words ws)
+      → Sure (where_given o p) (At IsDirected port_words ws)
   directed_found ws p None e g = nothing
   directed_found ws p (Some x) e g = sure p ((g.0, (λ none. some_none x (sym e ∙ none))), g.1)
 
@@ -179,17 +118,21 @@ module _ (A : Type 0) where
       next (after_found A t.ParenClose ps.1 gs.1.lawful) (λ c fc. sure _ (led_ports ps.0 gs.0, gs.1 ▹ fc)))))
       (λ o f. sure _ ((tt, tt), f))
 
-  wire_found : (n : ℕ) (ws : Toks A) → AreLawful ws → Sure (wire_at n ws) (At IsGoodWire wire_words ws)
-  wire_found n ws h =
+  named_found : (n : ℕ) (ws : Toks A) → AreLawful ws → Sure (named_at n ws) (At IsGoodNamed named_words ws)
+  named_found n ws h =
       next (name_found ws h) (λ id gi.
       next (after_found A t.Equals id.1 gi.1.lawful) (λ o fo.
       next (expr_found A n o.1 fo.lawful) (λ e ge. sure _ ((gi.0, ge.0), gi.1 ▹ fo ▹ ge.1))))
 
+  tail_found : (n : ℕ) (ws : Toks A) → AreLawful ws → Sure (tail_front n ws) (At (IsGoodOption IsGoodTail) (optional tail_words) ws)
+  tail_found n ws h =
+      either (after_found A t.Equals ws h)
+      (either (after_found A t.BracketOpen ws h) (sure _ (tt, start A ws h)) (λ o f. next (range_found n ws o.1 f) (λ r g. sure _ g)))
+      (λ o f. next (expr_found A n o.1 f.lawful) (λ e g. sure _ (g.0, f ▹ g.1)))
+
   reg_found : (n : ℕ) (ws : Toks A) → AreLawful ws → Sure (reg_at n ws) (At IsGoodReg reg_words ws)
   reg_found n ws h =
-      next (name_found ws h) (λ id gi.
-      either (after_found A t.Equals id.1 gi.1.lawful) (sure _ ((gi.0, tt), gi.1))
-      (λ o fo. next (expr_found A n o.1 fo.lawful) (λ e ge. sure _ ((gi.0, ge.0), gi.1 ▹ fo ▹ ge.1))))
+      next (name_found ws h) (λ id gi. next (tail_found n id.1 gi.1.lawful) (λ x gx. sure _ ((gi.0, gx.0), gi.1 ▹ gx.1)))
 
   assign_found : (n : ℕ) (ws : Toks A) → AreLawful ws → Sure (assign_at n ws) (At IsGoodAssign assign_words ws)
   assign_found n ws h =
@@ -212,9 +155,9 @@ module _ (A : Type 0) where
         → Sure (driven_at n range id ws) (AtItem w)
     driven_found ws id gi fi =
         next (expr_found A n ws fi.lawful) (λ e ge.
-        next (more_found A (DrivenWireOf A) (wire_at n) IsGoodWire IsGoodWire wire_words (wire_found n) n mid e.1
+        next (more_found A (NamedValueOf A) (named_at n) IsGoodNamed IsGoodNamed named_words (named_found n) n mid e.1
         (record { id = id; value = e.0 } ∷ []) (((gi, ge.0), tt), alone (fi ▹ ge.1))) (λ xs gs.
-        next (after_found A t.Semicolon xs.1 gs.1.lawful) (λ c fc. sure _ ((g, led_good IsGoodWire xs.0 gs.0), f ▹ gs.1 ▹ fc))))
+        next (after_found A t.Semicolon xs.1 gs.1.lawful) (λ c fc. sure _ ((g, led_good IsGoodNamed xs.0 gs.0), f ▹ gs.1 ▹ fc))))
 
   wires_found : (n : ℕ) (w ws : Toks A) → From A w (Fixed t.Wire ∷ []) ws → Sure (wires_at n ws) (AtItem w)
   wires_found n w ws f =
@@ -230,31 +173,124 @@ module _ (A : Type 0) where
       next (some_found A (Reg1Of A) (reg_at n) IsGoodReg reg_words (reg_found n) n r.1 gr.1.lawful) (λ xs gs.
       next (after_found A t.Semicolon xs.1 gs.1.lawful) (λ c fc. sure _ ((gr.0, led_good IsGoodReg xs.0 gs.0), f ▹ gr.1 ▹ gs.1 ▹ fc))))
 
+  localparams_found : (n : ℕ) (w ws : Toks A) → From A w (Fixed t.Localparam ∷ []) ws → Sure (localparams_at n ws) (AtItem w)
+  localparams_found n w ws f =
+      next (ranges_found n ws f.lawful) (λ r gr.
+      next (some_found A (NamedValueOf A) (named_at n) IsGoodNamed named_words (named_found n) n r.1 gr.1.lawful) (λ xs gs.
+      next (after_found A t.Semicolon xs.1 gs.1.lawful) (λ c fc. sure _ ((gr.0, led_good IsGoodNamed xs.0 gs.0), f ▹ gr.1 ▹ gs.1 ▹ fc))))
+
   assigns_found : (n : ℕ) (w ws : Toks A) → From A w (Fixed t.Assign ∷ []) ws → Sure (assigns_at n ws) (AtItem w)
   assigns_found n w ws f =
       next (some_found A (AssignOf A) (assign_at n) IsGoodAssign assign_words (assign_found n) n ws f.lawful) (λ xs gs.
       next (after_found A t.Semicolon xs.1 gs.1.lawful) (λ c fc. sure _ (led_good IsGoodAssign xs.0 gs.0, f ▹ gs.1 ▹ fc)))
 
-  event_found : (ws : Toks A) → AreLawful ws → Sure (event_at ws) (At IsGoodEvent event_words ws)
+  abbrev AtEvent : Toks A → EventOf A × Toks A → Type 0
+  AtEvent w x = IsGoodEvent x.0 × From A w (event_words x.0) x.1
+
+  paren_event_found : (w ws : Toks A) → From A w (Fixed t.At ∷ Fixed t.ParenOpen ∷ []) ws → Sure (paren_event_at ws) (AtEvent w)
+  paren_event_found w ws f =
+      either (after_found A t.Star ws f.lawful)
+      (next (after_found A t.Posedge ws f.lawful) (λ p fp.
+      next (name_found p.1 fp.lawful) (λ id gi.
+      next (after_found A t.ParenClose id.1 gi.1.lawful) (λ c fc. sure _ (gi.0, f ▹ fp ▹ gi.1 ▹ fc)))))
+      (λ s fs. next (after_found A t.ParenClose s.1 fs.lawful) (λ c fc. sure _ (tt, f ▹ fs ▹ fc)))
+
+  event_found : (ws : Toks A) → AreLawful ws → Sure (event_at ws) (AtEvent ws)
   event_found ws h =
       next (after_found A t.At ws h) (λ a fa.
-      next (after_found A t.ParenOpen a.1 fa.lawful) (λ o fo.
-      next (after_found A t.Posedge o.1 fo.lawful) (λ p fp.
-      next (name_found p.1 fp.lawful) (λ id gi.
-      next (after_found A t.ParenClose id.1 gi.1.lawful) (λ c fc. sure _ (gi.0, fa ▹ fo ▹ fp ▹ gi.1 ▹ fc))))))
+      either (after_found A t.Star a.1 fa.lawful)
+      (next (after_found A t.ParenOpen a.1 fa.lawful) (λ o fo. paren_event_found ws o.1 (fa ▹ fo)))
+      (λ s fs. sure _ (tt, fa ▹ fs)))
 
   always_found : (n : ℕ) (line : A) (w ws : Toks A) → From A w (Fixed t.Always ∷ []) ws → Sure (always_at n line ws) (AtItem w)
   always_found n line w ws f =
       next (event_found ws f.lawful) (λ v gv.
       next (body_found A n v.1 gv.1.lawful) (λ b gb. sure _ ((gv.0, gb.0), f ▹ gv.1 ▹ gb.2)))
 
+  -- behind "(": what may stand before ")", and ")"
+  abbrev AtValue : Toks A → Option (ExprOf A) × Toks A → Type 0
+  AtValue w x = IsGoodOption IsGoodExpr x.0 × From A w (optional expr_words x.0 ++ Fixed t.ParenClose ∷ []) x.1
+
+  value_found : (n : ℕ) (ws : Toks A) → AreLawful ws → Sure (value_at n ws) (AtValue ws)
+  value_found n ws h =
+      either (after_found A t.ParenClose ws h)
+      (next (expr_found A n ws h) (λ e ge. next (after_found A t.ParenClose e.1 ge.1.lawful) (λ c fc. sure _ (ge.0, ge.1 ▹ fc))))
+      (λ o f. sure _ (tt, f))
+
+  conn_found : (n : ℕ) (ws : Toks A) → AreLawful ws → Sure (conn_at n ws) (At IsGoodConn conn_words ws)
+  conn_found n ws h =
+      next (after_found A t.Dot ws h) (λ d fd.
+      next (name_found d.1 fd.lawful) (λ id gi.
+      next (after_found A t.ParenOpen id.1 gi.1.lawful) (λ o fo.
+      next (value_found n o.1 fo.lawful) (λ v gv. sure _ ((gi.0, gv.0), fd ▹ gi.1 ▹ fo ▹ gv.1)))))
+
+  abbrev AreConns : List (ConnOf A) → Type 0
+  AreConns cs = AllByRecursion IsGoodConn cs
+
+  led_conns : (cs : List (ConnOf A)) → AreLed IsGoodConn IsGoodConn cs → AreConns cs
+  led_conns [] g = absurd g
+  led_conns (c ∷ cs) g = g
+
+  some_hash : (cs : List (ConnOf A)) → AreLed IsGoodConn IsGoodConn cs
+      → Fixed t.Hash ∷ Fixed t.ParenOpen ∷ (with_commas conn_words cs ++ Fixed t.ParenClose ∷ []) ≡ hash_words conn_words cs
+  some_hash [] g = absurd g
+  some_hash (c ∷ cs) g = refl
+
+  parameter_conns_found : (n : ℕ) (ws : Toks A) → AreLawful ws → Sure (parameter_conns_front n ws) (At AreConns (hash_words conn_words) ws)
+  parameter_conns_found n ws h =
+      either (after_found A t.Hash ws h) (sure _ (tt, start A ws h))
+      (λ o fo.
+      next (after_found A t.ParenOpen o.1 fo.lawful) (λ p fp.
+      next (some_found A (ConnOf A) (conn_at n) IsGoodConn conn_words (conn_found n) n p.1 fp.lawful) (λ cs gs.
+      next (after_found A t.ParenClose cs.1 gs.1.lawful) (λ c fc.
+      sure _ (led_conns cs.0 gs.0, again A ws c.1 _ _ (some_hash cs.0 gs.0) (fo ▹ fp ▹ gs.1 ▹ fc))))))
+
+  -- behind "(": the connections and ")"
+  abbrev AtConns : Toks A → List (ConnOf A) × Toks A → Type 0
+  AtConns w x = AreConns x.0 × From A w (with_commas conn_words x.0 ++ Fixed t.ParenClose ∷ []) x.1
+
+  conns_found : (n : ℕ) (ws : Toks A) → AreLawful ws → Sure (conns_at n ws) (AtConns ws)
+  conns_found n ws h =
+      either (after_found A t.ParenClose ws h)
+      (next (some_found A (ConnOf A) (conn_at n) IsGoodConn conn_words (conn_found n) n ws h) (λ cs gs.
+      next (after_found A t.ParenClose cs.1 gs.1.lawful) (λ c fc. sure _ (led_conns cs.0 gs.0, gs.1 ▹ fc))))
+      (λ o f. sure _ (tt, f))
+
+  instance_words_are : (m id : List ℕ) (hash conns : List Word)
+      → NameWord m ∷ (hash ++ NameWord id ∷ Fixed t.ParenOpen ∷ ((conns ++ Fixed t.ParenClose ∷ []) ++ Fixed t.Semicolon ∷ []))
+      ≡ NameWord m ∷ (hash ++ NameWord id ∷ Fixed t.ParenOpen ∷ (conns ++ Fixed t.ParenClose ∷ Fixed t.Semicolon ∷ []))
+  instance_words_are m id hash conns = ap (λ (ws : List Word). NameWord m ∷ (hash ++ NameWord id ∷ Fixed t.ParenOpen ∷ ws))
+      (append_assoc conns (Fixed t.ParenClose ∷ []) (Fixed t.Semicolon ∷ []))
+
+  instance_found : (n : ℕ) (m : IdentOf A) (w ws : Toks A) → IsGoodIdent m → From A w (ident_words m) ws
+      → Sure (instance_at n m ws) (AtItem w)
+  instance_found n m w ws gm f =
+      next (parameter_conns_found n ws f.lawful) (λ ps gp.
+      next (name_found ps.1 gp.1.lawful) (λ id gi.
+      next (after_found A t.ParenOpen id.1 gi.1.lawful) (λ o fo.
+      next (conns_found n o.1 fo.lawful) (λ cs gs.
+      next (after_found A t.Semicolon cs.1 gs.1.lawful) (λ c fc.
+      sure _ (
+        (gm, gp.0, gi.0, gs.0),
+        again A w c.1 _ _ (instance_words_are m.name id.0.name (hash_words conn_words ps.0) (with_commas conn_words cs.0))
+            (f ▹ gp.1 ▹ gi.1 ▹ fo ▹ gs.1 ▹ fc),
+      ))))))
+
+  named_item_found : (n : ℕ) (ws : Toks A) → AreLawful ws → Sure (named_item_at n ws) (AtItem ws)
+  named_item_found n ws h = next (name_found ws h) (λ id gi. instance_found n id.0 ws id.1 gi.0 gi.1)
+
+  other_item_found : (n : ℕ) (ws : Toks A) → AreLawful ws → Sure (other_item_at n ws) (AtItem ws)
+  other_item_found n ws h =
+      either (after_found A t.Localparam ws h)
+      (either (after_found A t.Assign ws h)
+      (either (after_found A t.Always ws h) (named_item_found n ws h) (λ o f. always_found n o.0 ws o.1 f))
+      (λ o f. assigns_found n ws o.1 f))
+      (λ o f. localparams_found n ws o.1 f)
+
   pub item_found : (n : ℕ) (ws : Toks A) → AreLawful ws → Sure (item_at n ws) (AtItem ws)
   item_found n ws h =
       either (after_found A t.Wire ws h)
-      (either (after_found A t.Reg ws h)
-      (either (after_found A t.Assign ws h) (next (after_found A t.Always ws h) (λ o f. always_found n o.0 ws o.1 f))
-      (λ o f. assigns_found n ws o.1 f))
-      (λ o f. regs_found n ws o.1 f))
+      (either (after_found A t.Reg ws h) (other_item_found n ws h) (λ o f. regs_found n ws o.1 f))
       (λ o f. wires_found n ws o.1 f)
 
   -- items and "endmodule"
@@ -273,34 +309,85 @@ module _ (A : Type 0) where
       )))
       (λ o f. sure _ (g.0, g.1 ▹ f))
 
+  parameter_head_found : (n : ℕ) (ws : Toks A) → AreLawful ws
+      → Sure (parameter_head_front n ws) (At (IsGoodOption IsGoodParameterHead) (optional parameter_head_words) ws)
+  parameter_head_found n ws h = either (after_found A t.Parameter ws h) (sure _ (tt, start A ws h))
+      (λ o f. next (ranges_found n o.1 f.lawful) (λ r g. sure _ (g.0, f ▹ g.1)))
+
+  parameter_found : (n : ℕ) (ws : Toks A) → AreLawful ws → Sure (parameter_at n ws) (At IsGoodParameter parameter_words ws)
+  parameter_found n ws h =
+      next (parameter_head_found n ws h) (λ x gx.
+      next (name_found x.1 gx.1.lawful) (λ id gi.
+      next (after_found A t.Equals id.1 gi.1.lawful) (λ o fo.
+      next (expr_found A n o.1 fo.lawful) (λ e ge. sure _ ((gx.0, gi.0, ge.0), gx.1 ▹ gi.1 ▹ fo ▹ ge.1)))))
+
+  abbrev IsHeaded : ParameterOf A → Type 0
+  IsHeaded p = IsGoodParameter p × (p.head ≢ None)
+
+  headed_found : (ws : Toks A) (p : ParameterOf A × Toks A) (o : Option (ParameterHeadOf A)) → p.0.head ≡ o
+      → At IsGoodParameter parameter_words ws p
+      → Sure (where_given o p) (At IsHeaded parameter_words ws)
+  headed_found ws p None e g = nothing
+  headed_found ws p (Some x) e g = sure p ((g.0, (λ none. some_none x (sym e ∙ none))), g.1)
+
+  first_parameter_found : (n : ℕ) (ws : Toks A) → AreLawful ws → Sure (first_parameter_at n ws) (At IsHeaded parameter_words ws)
+  first_parameter_found n ws h = next (parameter_found n ws h) (λ p g. headed_found ws p p.0.head refl g)
+
+  abbrev pub AreParameters : List (ParameterOf A) → Type 0
+  AreParameters ps = IsFirstHeaded ps × AllByRecursion IsGoodParameter ps
+
+  led_parameters : (ps : List (ParameterOf A)) → AreLed IsHeaded IsGoodParameter ps → AreParameters ps
+  led_parameters [] g = absurd g
+  led_parameters (p ∷ ps) g = (g.0.1, (g.0.0, g.1))
+
+  some_parameters : (ps : List (ParameterOf A)) → AreLed IsHeaded IsGoodParameter ps
+      → Fixed t.Hash ∷ Fixed t.ParenOpen ∷ (with_commas parameter_words ps ++ Fixed t.ParenClose ∷ []) ≡ hash_words parameter_words ps
+  some_parameters [] g = absurd g
+  some_parameters (p ∷ ps) g = refl
+
+  parameters_found : (n : ℕ) (ws : Toks A) → AreLawful ws → Sure (parameters_front n ws) (At AreParameters (hash_words parameter_words) ws)
+  parameters_found n ws h =
+      either (after_found A t.Hash ws h) (sure _ ((tt, tt), start A ws h))
+      (λ o fo.
+      next (after_found A t.ParenOpen o.1 fo.lawful) (λ q fq.
+      next (first_parameter_found n q.1 fq.lawful) (λ p g.
+      next (more_found A (ParameterOf A) (parameter_at n) IsHeaded IsGoodParameter parameter_words (parameter_found n) n q.1 p.1 (p.0 ∷ [])
+      ((g.0, tt), alone g.1)) (λ ps gs.
+      next (after_found A t.ParenClose ps.1 gs.1.lawful) (λ c fc.
+      sure _ (led_parameters ps.0 gs.0, again A ws c.1 _ _ (some_parameters ps.0 gs.0) (fo ▹ fq ▹ gs.1 ▹ fc)))))))
+
   -- a header, whose words end in ")" and ";"
-  abbrev pub AtHeader : Toks A → (List ℕ × List (PortOf A)) × Toks A → Type 0
-  AtHeader w x = IsGoodName x.0.0 × ArePorts x.0.1
-      × From A w (Fixed t.Module ∷ NameWord x.0.0 ∷ Fixed t.ParenOpen ∷
-      ((with_commas port_words x.0.1 ++ Fixed t.ParenClose ∷ []) ++ Fixed t.Semicolon ∷ [])) x.1
+  abbrev pub AtHeader : Toks A → (List ℕ × List (ParameterOf A) × List (PortOf A)) × Toks A → Type 0
+  AtHeader w x = IsGoodName x.0.0 × AreParameters x.0.1 × ArePorts x.0.2
+      × From A w (Fixed t.Module ∷ NameWord x.0.0 ∷ (hash_words parameter_words x.0.1 ++ Fixed t.ParenOpen ∷
+      ((with_commas port_words x.0.2 ++ Fixed t.ParenClose ∷ []) ++ Fixed t.Semicolon ∷ []))) x.1
 
   pub header_found : (n : ℕ) (ws : Toks A) → AreLawful ws → Sure (header_at n ws) (AtHeader ws)
   header_found n ws h =
       next (after_found A t.Module ws h) (λ m fm.
       next (name_found m.1 fm.lawful) (λ id gi.
-      next (after_found A t.ParenOpen id.1 gi.1.lawful) (λ o fo.
+      next (parameters_found n id.1 gi.1.lawful) (λ qs gq.
+      next (after_found A t.ParenOpen qs.1 gq.1.lawful) (λ o fo.
       next (ports_found n o.1 fo.lawful) (λ ps gs.
-      next (after_found A t.Semicolon ps.1 gs.1.lawful) (λ c fc. sure _ (gi.0, gs.0, fm ▹ gi.1 ▹ fo ▹ gs.1 ▹ fc))))))
+      next (after_found A t.Semicolon ps.1 gs.1.lawful) (λ c fc. sure _ (gi.0, gq.0, gs.0, fm ▹ gi.1 ▹ gq.1 ▹ fo ▹ gs.1 ▹ fc)))))))
 
-  header_words : (name : List ℕ) (ports rest : List Word)
-      → (Fixed t.Module ∷ NameWord name ∷ Fixed t.ParenOpen ∷ ((ports ++ Fixed t.ParenClose ∷ []) ++ Fixed t.Semicolon ∷ [])) ++ rest
-      ≡ Fixed t.Module ∷ NameWord name ∷ Fixed t.ParenOpen ∷ (ports ++ Fixed t.ParenClose ∷ Fixed t.Semicolon ∷ rest)
-  header_words name ports rest = ap (λ (ws : List Word). Fixed t.Module ∷ NameWord name ∷ Fixed t.ParenOpen ∷ ws)
+  pub header_words : (name : List ℕ) (hash ports rest : List Word)
+      → (Fixed t.Module ∷ NameWord name ∷ (hash ++ Fixed t.ParenOpen ∷ ((ports ++ Fixed t.ParenClose ∷ []) ++ Fixed t.Semicolon ∷ []))) ++ rest
+      ≡ Fixed t.Module ∷ NameWord name ∷ (hash ++ Fixed t.ParenOpen ∷ (ports ++ Fixed t.ParenClose ∷ Fixed t.Semicolon ∷ rest))
+  header_words name hash ports rest = ap (λ (ws : List Word). Fixed t.Module ∷ NameWord name ∷ ws)
+      (append_assoc hash (Fixed t.ParenOpen ∷ ((ports ++ Fixed t.ParenClose ∷ []) ++ Fixed t.Semicolon ∷ [])) rest
+      ∙ ap (λ (ws : List Word). hash ++ Fixed t.ParenOpen ∷ ws)
       (append_assoc (ports ++ Fixed t.ParenClose ∷ []) (Fixed t.Semicolon ∷ []) rest
-      ∙ append_assoc ports (Fixed t.ParenClose ∷ []) (Fixed t.Semicolon ∷ rest))
+      ∙ append_assoc ports (Fixed t.ParenClose ∷ []) (Fixed t.Semicolon ∷ rest)))
 
   module_found : (n : ℕ) (ws : Toks A) → AreLawful ws → Sure (module_at n ws) (At IsGoodModule module_words ws)
   module_found n ws h =
       next (header_found n ws h) (λ x gx.
-      next (items_found n n x.1 x.1 [] (tt, start A x.1 gx.2.lawful)) (λ xs gs. sure _ (
-        (gx.0, gx.1.0, gx.1.1, gs.0),
-        again A ws xs.1 _ _ (header_words x.0.0 (with_commas port_words x.0.1) (in_row item_words xs.0 ++ Fixed t.Endmodule ∷ []))
-            (gx.2 ▹ gs.1),
+      next (items_found n n x.1 x.1 [] (tt, start A x.1 gx.3.lawful)) (λ xs gs. sure _ (
+        (gx.0, gx.1.0, gx.1.1, gx.2.0, gx.2.1, gs.0),
+        again A ws xs.1 _ _ (header_words x.0.0 (hash_words parameter_words x.0.1) (with_commas port_words x.0.2)
+            (in_row item_words xs.0 ++ Fixed t.Endmodule ∷ []))
+            (gx.3 ▹ gs.1),
       )))
 
   -- all modules, and no token behind them

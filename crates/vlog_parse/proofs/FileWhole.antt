@@ -1,5 +1,5 @@
 -- The whole list of tokens as one file.
-use Rattle.std.proofs.Common.{◌≡◌, ℕ, true, false, List, [], ◌∷◌, ◌++◌, Option, None, Some, length, option_map, refl, ap, sym, ◌∙◌, subst}
+use Rattle.std.proofs.Common.{◌≡◌, ℕ, Bool, true, false, List, [], ◌∷◌, ◌++◌, Option, None, Some, length, option_map, refl, ap, sym, ◌∙◌, subst}
 use Rattle.std.proofs.Common.{arith}
 use Rattle.std.specs.List.{AllByRecursion}
 use Rattle.vlog_lex.specs.declared.token.Token.{Token}
@@ -7,17 +7,17 @@ use Rattle.vlog_tree.specs.declared.module.Direction.{Direction}
 use Rattle.vlog_tree.specs.declared.module.Direction.TheVariants as direction
 use Rattle.vlog_tree.specs.declared.module.NetKind.TheVariants as kind
 use Rattle.vlog_tree.specs.declared.terminal.Terminal.TheVariants as t
-use Rattle.vlog_tree.specs.Words.{Word, Fixed, tokens_of}
-use Rattle.vlog_tree.specs.Tree.{IdentOf, ExprOf, RangeOf, PortHeadOf, PortOf, DrivenWireOf, RegTailOf, InitTail, Reg1Of, AssignOf, EventOf}
+use Rattle.vlog_tree.specs.Words.{Word, NameWord, Fixed, tokens_of}
+use Rattle.vlog_tree.specs.Tree.{IdentOf, ExprOf, RangeOf, PortHeadOf, PortOf, NamedValueOf, RegTailOf, InitTail, Reg1Of, AssignOf, EventOf}
 use Rattle.vlog_tree.specs.Tree.{PosedgeEvent, ItemOf, WiresItem, DrivenWiresItem, RegsItem, AssignItem, AlwaysItem, ModuleOf, FileOf}
 use Rattle.vlog_tree.specs.Tree.{TargetOf, RefTarget, ConcatTarget, TargetsOf, NoTargets, MoreTargets, StmtOf, BeginStmt, IfStmt}
 use Rattle.vlog_tree.specs.Tree.{AssignStmt, BodyOf, StmtBody, EmptyBody, ElseOf, NoElse, Else, StmtsOf, NoStmts, MoreStmts}
 use Rattle.vlog_tree.specs.Spelling.{assign_terminal, ident_words, expr_words, target_words, targets_words, more_targets_words, stmt_words}
 use Rattle.vlog_tree.specs.Spelling.{body_words, else_words, stmts_words, after_commas, with_commas, in_row, range_words, optional}
-use Rattle.vlog_tree.specs.Spelling.{direction_words, head_words, init_words, port_words, wire_words, tail_words, reg_words, assign_words}
+use Rattle.vlog_tree.specs.Spelling.{direction_words, head_words, init_words, port_words, named_words, tail_words, reg_words, assign_words}
 use Rattle.vlog_tree.specs.Spelling.{event_words, item_words, module_words, file_words}
 use Rattle.vlog_tree.specs.Shape.{IsGoodExpr, IsGoodTarget, AreGoodTargets, AreAllGoodTargets, IsGoodStmt, IsGoodBody, IsGoodElse}
-use Rattle.vlog_tree.specs.Shape.{AreGoodStmts, IsGoodOption, IsGoodRange, IsGoodHead, IsGoodPort, IsGoodIdent, IsGoodWire, IsGoodTail}
+use Rattle.vlog_tree.specs.Shape.{AreGoodStmts, IsGoodOption, IsGoodRange, IsGoodHead, IsGoodPort, IsGoodIdent, IsGoodNamed, IsGoodTail}
 use Rattle.vlog_tree.specs.Shape.{IsGoodReg, IsGoodAssign, IsGoodEvent, AreSomeGood, IsGoodItem, IsGoodModule, IsGood}
 use Rattle.vlog_expr.specs.Marks.{Toks, spell, all_marked, AreLawful}
 use Rattle.vlog_expr.specs.Bare.{forget_all, without_lines}
@@ -30,6 +30,11 @@ use Rattle.vlog_expr.proofs.Spelled.{U}
 use Rattle.vlog_parse.proofs.FileFound.{file_spelled}
 use Rattle.vlog_expr.proofs.Whole.{spelled_tokens, tokens_spelled, AreLawfulWords, lawful_append, spell_lawful, forget_lawful, expr_lawful}
 use Rattle.vlog_expr.proofs.Whole.{ref_lawful, length_spell, length_forget, none_some}
+use Rattle.vlog_tree.specs.Tree.{CaseStmt, ArmOf, LabelsArm, DefaultArm, ArmsOf, NoArms, MoreArms, ParameterHeadOf, ParameterOf, MemoryTail}
+use Rattle.vlog_tree.specs.Tree.{ImplicitEvent, ConnOf, InstanceOf, LocalparamsItem, InstanceItem}
+use Rattle.vlog_tree.specs.Spelling.{colon_words, arm_words, arms_words, parameter_head_words, parameter_words, hash_words, conn_words}
+use Rattle.vlog_tree.specs.Spelling.{instance_words}
+use Rattle.vlog_tree.specs.Shape.{IsGoodArm, AreGoodArms, AreAllGoodArms, IsGoodParameterHead, IsGoodParameter, IsGoodConn, IsGoodInstance}
 
 mutual
   target_lawful : (x : TargetOf U) → IsGoodTarget x → AreLawfulWords (target_words x)
@@ -48,33 +53,6 @@ mutual
     lawful_append (target_words x) (more_targets_words xs) (target_lawful x g.0)
         (more_targets_lawful xs g.1),
   )
-
-mutual
-  stmt_lawful : (s : StmtOf U) → IsGoodStmt s → AreLawfulWords (stmt_words s)
-  stmt_lawful (BeginStmt ss) g = (tt, lawful_append (stmts_words ss) (Fixed t.End ∷ []) (stmts_lawful ss g) (tt, tt))
-  stmt_lawful (IfStmt e b o) g = (
-    tt,
-    (
-      tt,
-      lawful_append (expr_words e) (Fixed t.ParenClose ∷ (body_words b ++ else_words o)) (expr_lawful e g.0)
-          (tt, lawful_append (body_words b) (else_words o) (body_lawful b g.1) (else_lawful o g.3)),
-    ),
-  )
-  stmt_lawful (AssignStmt x op e) g =
-      lawful_append (target_words x) (Fixed (assign_terminal op) ∷ (expr_words e ++ Fixed t.Semicolon ∷ [])) (target_lawful x g.0)
-      (tt, lawful_append (expr_words e) (Fixed t.Semicolon ∷ []) (expr_lawful e g.1) (tt, tt))
-
-  body_lawful : (b : BodyOf U) → IsGoodBody b → AreLawfulWords (body_words b)
-  body_lawful (StmtBody s) g = stmt_lawful s g
-  body_lawful EmptyBody g = (tt, tt)
-
-  else_lawful : (o : ElseOf U) → IsGoodElse o → AreLawfulWords (else_words o)
-  else_lawful NoElse g = tt
-  else_lawful (Else b) g = (tt, body_lawful b g)
-
-  stmts_lawful : (ss : StmtsOf U) → AreGoodStmts ss → AreLawfulWords (stmts_words ss)
-  stmts_lawful NoStmts g = tt
-  stmts_lawful (MoreStmts s ss) g = lawful_append (stmt_words s) (stmts_words ss) (stmt_lawful s g.0) (stmts_lawful ss g.1)
 
 -- lists and what may be there, of parts whose words are lawful
 module _ (X : Type 0) (Good : X → Type 0) (words : X → List Word) (each : (x : X) → Good x → AreLawfulWords (words x)) where
@@ -101,6 +79,62 @@ module _ (X : Type 0) (Good : X → Type 0) (words : X → List Word) (each : (x
   some_row_lawful : (xs : List X) → AreSomeGood Good xs → AreLawfulWords (in_row words xs)
   some_row_lawful [] g = tt
   some_row_lawful (x ∷ xs) g = row_lawful (x ∷ xs) g
+
+  pub hash_lawful : (xs : List X) → AllByRecursion Good xs → AreLawfulWords (hash_words words xs)
+  hash_lawful [] g = tt
+  hash_lawful (x ∷ xs) g = (
+    tt,
+    (tt, lawful_append (with_commas words (x ∷ xs)) (Fixed t.ParenClose ∷ []) (all_commas_lawful (x ∷ xs) g) (tt, tt)),
+  )
+
+mutual
+  stmt_lawful : (s : StmtOf U) → IsGoodStmt s → AreLawfulWords (stmt_words s)
+  stmt_lawful (BeginStmt ss) g = (tt, lawful_append (stmts_words ss) (Fixed t.End ∷ []) (stmts_lawful ss g) (tt, tt))
+  stmt_lawful (IfStmt e b o) g = (
+    tt,
+    (
+      tt,
+      lawful_append (expr_words e) (Fixed t.ParenClose ∷ (body_words b ++ else_words o)) (expr_lawful e g.0)
+          (tt, lawful_append (body_words b) (else_words o) (body_lawful b g.1) (else_lawful o g.3)),
+    ),
+  )
+  stmt_lawful (CaseStmt e xs) g = (
+    tt,
+    (
+      tt,
+      lawful_append (expr_words e) (Fixed t.ParenClose ∷ (arms_words xs ++ Fixed t.Endcase ∷ [])) (expr_lawful e g.0)
+          (tt, lawful_append (arms_words xs) (Fixed t.Endcase ∷ []) (some_arms_lawful xs g.1) (tt, tt)),
+    ),
+  )
+  stmt_lawful (AssignStmt x op e) g =
+      lawful_append (target_words x) (Fixed (assign_terminal op) ∷ (expr_words e ++ Fixed t.Semicolon ∷ [])) (target_lawful x g.0)
+      (tt, lawful_append (expr_words e) (Fixed t.Semicolon ∷ []) (expr_lawful e g.1) (tt, tt))
+
+  body_lawful : (b : BodyOf U) → IsGoodBody b → AreLawfulWords (body_words b)
+  body_lawful (StmtBody s) g = stmt_lawful s g
+  body_lawful EmptyBody g = (tt, tt)
+
+  else_lawful : (o : ElseOf U) → IsGoodElse o → AreLawfulWords (else_words o)
+  else_lawful NoElse g = tt
+  else_lawful (Else b) g = (tt, body_lawful b g)
+
+  arm_lawful : (a : ArmOf U) → IsGoodArm a → AreLawfulWords (arm_words a)
+  arm_lawful (LabelsArm ls b) g = lawful_append (with_commas expr_words ls) (Fixed t.Colon ∷ body_words b)
+      (commas_lawful (ExprOf U) IsGoodExpr expr_words expr_lawful ls g.0) (tt, body_lawful b g.1)
+  arm_lawful (DefaultArm line false b) g = (tt, body_lawful b g)
+  arm_lawful (DefaultArm line true b) g = (tt, (tt, body_lawful b g))
+
+  some_arms_lawful : (xs : ArmsOf U) → AreGoodArms xs → AreLawfulWords (arms_words xs)
+  some_arms_lawful NoArms g = absurd g
+  some_arms_lawful (MoreArms a more) g = lawful_append (arm_words a) (arms_words more) (arm_lawful a g.0) (arms_lawful more g.1)
+
+  arms_lawful : (xs : ArmsOf U) → AreAllGoodArms xs → AreLawfulWords (arms_words xs)
+  arms_lawful NoArms g = tt
+  arms_lawful (MoreArms a more) g = lawful_append (arm_words a) (arms_words more) (arm_lawful a g.0) (arms_lawful more g.1)
+
+  stmts_lawful : (ss : StmtsOf U) → AreGoodStmts ss → AreLawfulWords (stmts_words ss)
+  stmts_lawful NoStmts g = tt
+  stmts_lawful (MoreStmts s ss) g = lawful_append (stmt_words s) (stmts_words ss) (stmt_lawful s g.0) (stmts_lawful ss g.1)
 
 range_lawful : (r : RangeOf U) → IsGoodRange r → AreLawfulWords (range_words r)
 range_lawful r g = (
@@ -134,11 +168,12 @@ port_lawful p g = lawful_append (optional head_words p.head) (ident_words p.id +
 ident_lawful : (id : IdentOf U) → IsGoodIdent id → AreLawfulWords (ident_words id)
 ident_lawful id g = (g, tt)
 
-wire_lawful : (w : DrivenWireOf U) → IsGoodWire w → AreLawfulWords (wire_words w)
-wire_lawful w g = (g.0, init_lawful w.value g.1)
+named_lawful : (w : NamedValueOf U) → IsGoodNamed w → AreLawfulWords (named_words w)
+named_lawful w g = (g.0, init_lawful w.value g.1)
 
 tail_lawful : (x : RegTailOf U) → IsGoodTail x → AreLawfulWords (tail_words x)
 tail_lawful (InitTail e) g = init_lawful e g
+tail_lawful (MemoryTail r) g = range_lawful r g
 
 reg_lawful : (r : Reg1Of U) → IsGoodReg r → AreLawfulWords (reg_words r)
 reg_lawful r g = (g.0, optional_lawful (RegTailOf U) IsGoodTail tail_words tail_lawful r.tail g.1)
@@ -148,6 +183,44 @@ assign_lawful a g = lawful_append (target_words a.target) (init_words a.value) (
 
 event_lawful : (e : EventOf U) → IsGoodEvent e → AreLawfulWords (event_words e)
 event_lawful (PosedgeEvent id) g = (tt, (tt, (tt, (g, (tt, tt)))))
+event_lawful (ImplicitEvent false) g = (tt, (tt, tt))
+event_lawful (ImplicitEvent true) g = (tt, (tt, (tt, (tt, tt))))
+
+parameter_head_lawful : (h : ParameterHeadOf U) → IsGoodParameterHead h → AreLawfulWords (parameter_head_words h)
+parameter_head_lawful h g = (tt, ranges_lawful h.range g)
+
+pub parameter_lawful : (p : ParameterOf U) → IsGoodParameter p → AreLawfulWords (parameter_words p)
+parameter_lawful p g = lawful_append (optional parameter_head_words p.head) (ident_words p.id ++ init_words p.value)
+    (optional_lawful (ParameterHeadOf U) IsGoodParameterHead parameter_head_words parameter_head_lawful p.head g.0)
+    (g.1, init_lawful p.value g.2)
+
+conn_lawful : (c : ConnOf U) → IsGoodConn c → AreLawfulWords (conn_words c)
+conn_lawful c g = (
+  tt,
+  (
+    g.0,
+    (
+      tt,
+      lawful_append (optional expr_words c.value) (Fixed t.ParenClose ∷ [])
+          (optional_lawful (ExprOf U) IsGoodExpr expr_words expr_lawful c.value g.1) (tt, tt),
+    ),
+  ),
+)
+
+instance_lawful : (x : InstanceOf U) → IsGoodInstance x → AreLawfulWords (instance_words x)
+instance_lawful x g =
+    let end = Fixed t.ParenClose ∷ Fixed t.Semicolon ∷ [] in (
+      g.0,
+      lawful_append (hash_words conn_words x.parameters) (NameWord x.id.name ∷ Fixed t.ParenOpen ∷ (with_commas conn_words x.ports ++ end))
+          (hash_lawful (ConnOf U) IsGoodConn conn_words conn_lawful x.parameters g.1) (
+            g.2,
+            (
+              tt,
+              lawful_append (with_commas conn_words x.ports) end
+                  (all_commas_lawful (ConnOf U) IsGoodConn conn_words conn_lawful x.ports g.3) (tt, (tt, tt)),
+            ),
+          ),
+    )
 
 -- parts with commas between them and ";"
 listed_lawful : (words : List Word) → AreLawfulWords words → AreLawfulWords (words ++ Fixed t.Semicolon ∷ [])
@@ -166,13 +239,18 @@ item_lawful (WiresItem o ids) g = (
 )
 item_lawful (DrivenWiresItem o xs) g = (
   tt,
-  ranged_lawful o (with_commas wire_words xs) g.0
-      (commas_lawful (DrivenWireOf U) IsGoodWire wire_words wire_lawful xs g.1),
+  ranged_lawful o (with_commas named_words xs) g.0
+      (commas_lawful (NamedValueOf U) IsGoodNamed named_words named_lawful xs g.1),
 )
 item_lawful (RegsItem o xs) g = (
   tt,
   ranged_lawful o (with_commas reg_words xs) g.0
       (commas_lawful (Reg1Of U) IsGoodReg reg_words reg_lawful xs g.1),
+)
+item_lawful (LocalparamsItem o xs) g = (
+  tt,
+  ranged_lawful o (with_commas named_words xs) g.0
+      (commas_lawful (NamedValueOf U) IsGoodNamed named_words named_lawful xs g.1),
 )
 item_lawful (AssignItem xs) g = (
   tt,
@@ -184,27 +262,30 @@ item_lawful (AlwaysItem a) g = (
   lawful_append (event_words a.event) (body_words a.body) (event_lawful a.event g.0)
       (body_lawful a.body g.1),
 )
+item_lawful (InstanceItem x) g = instance_lawful x g
 
 module_lawful : (m : ModuleOf U) → IsGoodModule m → AreLawfulWords (module_words m)
-module_lawful m g = (
-  tt,
-  (
-    g.0,
-    (
+module_lawful m g =
+    let body = in_row item_words m.items ++ Fixed t.Endmodule ∷ [] in
+    let tail = with_commas port_words m.ports ++ Fixed t.ParenClose ∷ Fixed t.Semicolon ∷ body in (
       tt,
-      lawful_append (with_commas port_words m.ports) (Fixed t.ParenClose ∷ Fixed t.Semicolon
-          ∷ (in_row item_words m.items ++ Fixed t.Endmodule ∷ []))
-          (all_commas_lawful (PortOf U) IsGoodPort port_words port_lawful m.ports g.2) (
-            tt,
-            (
+      (
+        g.0,
+        lawful_append (hash_words parameter_words m.parameters) (Fixed t.ParenOpen ∷ tail)
+            (hash_lawful (ParameterOf U) IsGoodParameter parameter_words parameter_lawful m.parameters g.2) (
               tt,
-              lawful_append (in_row item_words m.items) (Fixed t.Endmodule ∷ [])
-                  (row_lawful (ItemOf U) IsGoodItem item_words item_lawful m.items g.3) (tt, tt),
+              lawful_append (with_commas port_words m.ports) (Fixed t.ParenClose ∷ Fixed t.Semicolon ∷ body)
+                  (all_commas_lawful (PortOf U) IsGoodPort port_words port_lawful m.ports g.4) (
+                    tt,
+                    (
+                      tt,
+                      lawful_append (in_row item_words m.items) (Fixed t.Endmodule ∷ [])
+                          (row_lawful (ItemOf U) IsGoodItem item_words item_lawful m.items g.5) (tt, tt),
+                    ),
+                  ),
             ),
-          ),
-    ),
-  ),
-)
+      ),
+    )
 
 file_lawful : (f : FileOf U) → IsGood f → AreLawfulWords (file_words f)
 file_lawful f g = some_row_lawful (ModuleOf U) IsGoodModule module_words module_lawful f.modules g

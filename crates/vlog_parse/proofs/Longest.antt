@@ -10,9 +10,10 @@ use Rattle.vlog_lex.specs.declared.token.TokenKind.{TokenKind}
 use Rattle.vlog_lex.specs.declared.token.TokenKind.TheVariants.{Identifier, Reserved, Decimal, Based, Other}
 use Rattle.vlog_tree.specs.declared.terminal.Terminal.TheVariants as t
 use Rattle.vlog_tree.specs.Words.{Word, NameWord, NumberWord, Fixed}
-use Rattle.vlog_tree.specs.Tree.{PortOf, ItemOf, WiresItem, DrivenWiresItem, RegsItem, AssignItem, AlwaysItem, ModuleOf}
-use Rattle.vlog_tree.specs.Spelling.{with_commas, in_row, port_words, item_words}
-use Rattle.vlog_tree.specs.Shape.{IsGoodName, IsFirstDirected, IsGoodPort, IsGoodItem, IsGoodModule, AreSomeGood}
+use Rattle.vlog_tree.specs.Tree.{ParameterOf, PortOf, ItemOf, AlwaysItem, ModuleOf}
+use Rattle.vlog_tree.specs.Spelling.{with_commas, in_row, hash_words, parameter_words, port_words, item_words}
+use Rattle.vlog_tree.specs.Shape.{IsGoodName, IsFirstHeaded, IsGoodParameter, IsFirstDirected, IsGoodPort, IsGoodItem, IsGoodModule}
+use Rattle.vlog_tree.specs.Shape.{AreSomeGood}
 use Rattle.vlog_expr.specs.Marks.{TokenOf, Toks, marked, all_marked, spelled, spell, IsLawfulText, AreLawful, is_terminal, after}
 use Rattle.vlog_expr.specs.Lawful.{IsUnlawful}
 use Rattle.vlog_expr.specs.Bare.{forget, forget_all}
@@ -28,27 +29,29 @@ use Rattle.vlog_expr.proofs.Found.{From, again}
 use Rattle.vlog_expr.proofs.Maps.{marked_length}
 use Rattle.vlog_expr.proofs.Natural.{over_bind, over_found, after_natural}
 use Rattle.vlog_expr.proofs.Whole.{AreLawfulWords, lawful_append, spell_lawful}
-use Rattle.vlog_parse.proofs.StmtFound.{Sure, nothing, sure, next, either, after_found}
+use Rattle.vlog_parse.proofs.Sure.{Sure, nothing, sure, next, either, after_found}
+use Rattle.vlog_parse.proofs.Steps.{step, skipped}
 use Rattle.vlog_parse.proofs.FileFound.{item_found, header_found}
 use Rattle.vlog_parse.proofs.FileSpelled.{header_read, item_read, no_endmodule, some_item}
-use Rattle.vlog_parse.proofs.FileNatural.{bare_header, item_natural, header_natural}
-use Rattle.vlog_parse.proofs.FileWhole.{all_commas_lawful, port_lawful, item_lawful}
+use Rattle.vlog_parse.proofs.FileNatural.{bare_header, item_same, header_same}
+use Rattle.vlog_parse.proofs.FileWhole.{all_commas_lawful, hash_lawful, port_lawful, parameter_lawful, item_lawful}
 
 abbrev UnitU : Type 0
 UnitU = UnitOf U
 
 -- whether a module is open behind a unit
 abbrev is_inside : UnitU → Bool
-is_inside (Header name ports) = true
+is_inside (Header name params ports) = true
 is_inside (ItemUnit i) = true
 is_inside Endmodule = false
 
 -- a good unit, in a module or not
 abbrev FitsIn : Bool → UnitU → Type 0
-FitsIn false (Header name ports) = IsGoodName name × IsFirstDirected ports × AllByRecursion IsGoodPort ports
+FitsIn false (Header name params ports) = IsGoodName name × IsFirstHeaded params × AllByRecursion IsGoodParameter params
+    × IsFirstDirected ports × AllByRecursion IsGoodPort ports
 FitsIn false (ItemUnit i) = ⊥
 FitsIn false Endmodule = ⊥
-FitsIn true (Header name ports) = ⊥
+FitsIn true (Header name params ports) = ⊥
 FitsIn true (ItemUnit i) = IsGoodItem i
 FitsIn true Endmodule = Unit {0}
 
@@ -59,25 +62,20 @@ Fit inside (u ∷ us) = FitsIn inside u × Fit (is_inside u) us
 
 -- a good unit, before what makes it whole, is read
 whole_again : (i : ItemOf U) (r : Toks U) → IsWhole (ItemUnit i) r → whole_item i r ≡ Some tt
-whole_again (WiresItem range ids) r w = refl
-whole_again (DrivenWiresItem range ws) r w = refl
-whole_again (RegsItem range xs) r w = refl
-whole_again (AssignItem xs) r w = refl
 whole_again (AlwaysItem a) r w = ap (λ (o : Option (U × Toks U)). found_or o (Some tt) (λ o. None)) w
+whole_again _ r w = refl
 
 unit_again : (n : ℕ) (inside : Bool) (u : UnitU) (r : Toks U) → FitsIn inside u → IsWhole u r → fuel_for (length (unit_words u)) ≤ n
     → unit_at n inside (spell (unit_words u) r) ≡ Some (is_inside u, r)
-unit_again n false (Header name ps) r g w h =
-    let long = length-append (with_commas port_words ps) (Fixed t.ParenClose ∷ Fixed t.Semicolon ∷ []) in
-    ap (λ (o : Read U (List ℕ × List (PortOf U))). o >>= λ x. Some (true, x.1)) (header_read name ps [] n r g.1 g.2 (omega arith))
+unit_again n false (Header name qs ps) r g w h =
+    let end = Fixed t.ParenClose ∷ Fixed t.Semicolon ∷ [] in
+    let long = length-append (hash_words parameter_words qs) (Fixed t.ParenOpen ∷ (with_commas port_words ps ++ end)) in
+    let longer = length-append (with_commas port_words ps) end in
+    step _ (header_read name qs ps [] n r g.1 g.2 g.3 g.4 (omega arith) (omega arith)) refl
 unit_again n false (ItemUnit i) r g w h = absurd g
 unit_again n false Endmodule r g w h = absurd g
-unit_again n true (Header name ps) r g w h = absurd g
-unit_again n true (ItemUnit i) r g w h =
-    ap (λ (o : Option (U × Toks U)). found_or o (item_at n (spell (item_words i) r) >>= λ i. whole_item i.0 i.1 >>= λ w. Some (true, i.1))
-    (λ o. Some (false, o.1))) (no_endmodule i r)
-    ∙ ap (λ (o : Read U (ItemOf U)). o >>= λ i. whole_item i.0 i.1 >>= λ w. Some (true, i.1)) (item_read i n r g w h)
-    ∙ ap (λ (o : Option U). o >>= λ w. Some (true, r)) (whole_again i r w)
+unit_again n true (Header name qs ps) r g w h = absurd g
+unit_again n true (ItemUnit i) r g w h = skipped _ (no_endmodule i r) (step _ (item_read i n r g w h) (step _ (whole_again i r w) refl))
 unit_again n true Endmodule r g w h = refl
 
 -- what is read is a good unit that is whole
@@ -89,23 +87,20 @@ none_found None = sure tt refl
 none_found (Some x) = nothing
 
 whole_found : (i : ItemOf U) (r : Toks U) → Sure (whole_item i r) (λ (w : U). IsWhole (ItemUnit i) r)
-whole_found (WiresItem range ids) r = sure tt tt
-whole_found (DrivenWiresItem range ws) r = sure tt tt
-whole_found (RegsItem range xs) r = sure tt tt
-whole_found (AssignItem xs) r = sure tt tt
 whole_found (AlwaysItem a) r = none_found (after t.Else r)
+whole_found _ r = sure tt tt
 
 unit_found : (n : ℕ) (inside : Bool) (ws : Toks U) → AreLawful ws → Sure (unit_at n inside ws) (AtUnit inside ws)
 unit_found n false ws h =
     next (header_found U n ws h) (λ x g. sure _ (
-      Header x.0.0 x.0.1,
-      (g.0, g.1.0, g.1.1),
+      Header x.0.0 x.0.1 x.0.2,
+      (g.0, g.1.0, g.1.1, g.2.0, g.2.1),
       refl,
       tt,
       again U ws x.1 _ _
-          (ap (λ (words : List Word). Fixed t.Module ∷ NameWord x.0.0 ∷ Fixed t.ParenOpen ∷ words)
-          (append_assoc (with_commas port_words x.0.1) (Fixed t.ParenClose ∷ []) (Fixed t.Semicolon ∷ [])))
-          g.2,
+          (ap (λ (words : List Word). Fixed t.Module ∷ NameWord x.0.0 ∷ (hash_words parameter_words x.0.1 ++ Fixed t.ParenOpen ∷ words))
+          (append_assoc (with_commas port_words x.0.2) (Fixed t.ParenClose ∷ []) (Fixed t.Semicolon ∷ [])))
+          g.3,
     ))
 unit_found n true ws h =
     either (after_found U t.Endmodule ws h)
@@ -122,7 +117,7 @@ length_spelled [] r = omega arith
 length_spelled (w ∷ words) r = omega (arith, length_spelled words r)
 
 some_unit : (u : UnitU) → 0 < length (unit_words u)
-some_unit (Header name ps) = omega arith
+some_unit (Header name qs ps) = omega arith
 some_unit (ItemUnit i) = some_item i
 some_unit Endmodule = omega arith
 
@@ -231,7 +226,7 @@ fit_items (i ∷ is) more g f = (g.0, fit_items is more g.1 f)
 
 fit_modules : (ms : List (ModuleOf U)) → AllByRecursion IsGoodModule ms → Fit false (flat_map module_units ms)
 fit_modules [] g = tt
-fit_modules (m ∷ ms) g = ((g.0.0, g.0.1, g.0.2), fit_items m.items (flat_map module_units ms) g.0.3 (fit_modules ms g.1))
+fit_modules (m ∷ ms) g = ((g.0.0, g.0.1, g.0.2, g.0.3, g.0.4), fit_items m.items (flat_map module_units ms) g.0.5 (fit_modules ms g.1))
 
 all_good : (ms : List (ModuleOf U)) → AreSomeGood IsGoodModule ms → AllByRecursion IsGoodModule ms
 all_good [] g = tt
@@ -247,7 +242,7 @@ begin_fit us ws r b = fit_front false us b.more (subst (λ (vs : List UnitU). Fi
 
 -- a file that begins with good units
 abbrev least : ModuleOf U
-least = record { name = codes "a"; ports = []; items = [] }
+least = record { name = codes "a"; parameters = []; ports = []; items = [] }
 
 record Outside (us : List UnitU) : Type 0 where
   pub modules : List (ModuleOf U)
@@ -264,25 +259,25 @@ record Inside (us : List UnitU) : Type 0 where
   pub parts : (map ItemUnit items ++ Endmodule ∷ []) ++ flat_map module_units modules ≡ us ++ more
 
 least_good : IsGoodModule least
-least_good = (name_a, tt, tt, tt)
+least_good = (name_a, tt, tt, tt, tt, tt)
 
 mutual
   outside_file : (us : List UnitU) → Fit false us → Outside us
   outside_file [] f = record { modules = least ∷ []; good = (least_good, tt); more = flat_map module_units (least ∷ []); parts = refl }
-  outside_file (Header name ps ∷ us) f =
+  outside_file (Header name qs ps ∷ us) f =
       let r = inside_file us f.1 in
       record {
-        modules = record { name = name; ports = ps; items = r.items } ∷ r.modules;
-        good = ((f.0.0, f.0.1, f.0.2, r.fine), r.good);
+        modules = record { name = name; parameters = qs; ports = ps; items = r.items } ∷ r.modules;
+        good = ((f.0.0, f.0.1, f.0.2, f.0.3, f.0.4, r.fine), r.good);
         more = r.more;
-        parts = ap (λ (vs : List UnitU). Header name ps ∷ vs) r.parts;
+        parts = ap (λ (vs : List UnitU). Header name qs ps ∷ vs) r.parts;
       }
   outside_file (ItemUnit i ∷ us) f = absurd f.0
   outside_file (Endmodule ∷ us) f = absurd f.0
 
   inside_file : (us : List UnitU) → Fit true us → Inside us
   inside_file [] f = record { items = []; fine = tt; modules = []; good = tt; more = Endmodule ∷ []; parts = refl }
-  inside_file (Header name ps ∷ us) f = absurd f.0
+  inside_file (Header name qs ps ∷ us) f = absurd f.0
   inside_file (ItemUnit i ∷ us) f =
       let r = inside_file us f.1 in
       record {
@@ -341,21 +336,15 @@ spell_behind (w ∷ words) r bad = ap (λ (us : Toks U). spelled w ∷ us) (spel
 
 -- whole units stay whole where such a token or nothing follows
 unit_more : (u : UnitU) (ws bad : Toks U) → IsUnlawful bad → IsWhole u ws → IsWhole u (ws ++ bad)
-unit_more (Header name ps) ws bad h w = tt
-unit_more (ItemUnit (WiresItem range ids)) ws bad h w = tt
-unit_more (ItemUnit (DrivenWiresItem range xs)) ws bad h w = tt
-unit_more (ItemUnit (RegsItem range xs)) ws bad h w = tt
-unit_more (ItemUnit (AssignItem xs)) ws bad h w = tt
+unit_more (Header name qs ps) ws bad h w = tt
 unit_more (ItemUnit (AlwaysItem a)) ws bad h w = else_more ws bad h w
+unit_more (ItemUnit _) ws bad h w = tt
 unit_more Endmodule ws bad h w = tt
 
 unit_less : (u : UnitU) (ws bad : Toks U) → IsWhole u (ws ++ bad) → IsWhole u ws
-unit_less (Header name ps) ws bad w = tt
-unit_less (ItemUnit (WiresItem range ids)) ws bad w = tt
-unit_less (ItemUnit (DrivenWiresItem range xs)) ws bad w = tt
-unit_less (ItemUnit (RegsItem range xs)) ws bad w = tt
-unit_less (ItemUnit (AssignItem xs)) ws bad w = tt
+unit_less (Header name qs ps) ws bad w = tt
 unit_less (ItemUnit (AlwaysItem a)) ws bad w = else_less ws bad w
+unit_less (ItemUnit _) ws bad w = tt
 unit_less Endmodule ws bad w = tt
 
 units_more : (us : List UnitU) (r bad : Toks U) → IsUnlawful bad → AreWhole us r → AreWhole us (r ++ bad)
@@ -376,20 +365,22 @@ units_less (u ∷ us) r bad w = (
 
 -- the words of good units are lawful
 unit_lawful : (inside : Bool) (u : UnitU) → FitsIn inside u → AreLawfulWords (unit_words u)
-unit_lawful false (Header name ps) f = (
-  tt,
-  (
-    f.0,
-    (
+unit_lawful false (Header name qs ps) f =
+    let end = Fixed t.ParenClose ∷ Fixed t.Semicolon ∷ [] in (
       tt,
-      lawful_append (with_commas port_words ps) (Fixed t.ParenClose ∷ Fixed t.Semicolon ∷ [])
-          (all_commas_lawful (PortOf U) IsGoodPort port_words port_lawful ps f.2) (tt, (tt, tt)),
-    ),
-  ),
-)
+      (
+        f.0,
+        lawful_append (hash_words parameter_words qs) (Fixed t.ParenOpen ∷ (with_commas port_words ps ++ end))
+            (hash_lawful (ParameterOf U) IsGoodParameter parameter_words parameter_lawful qs f.2) (
+              tt,
+              lawful_append (with_commas port_words ps) end
+                  (all_commas_lawful (PortOf U) IsGoodPort port_words port_lawful ps f.4) (tt, (tt, tt)),
+            ),
+      ),
+    )
 unit_lawful false (ItemUnit i) f = absurd f
 unit_lawful false Endmodule f = absurd f
-unit_lawful true (Header name ps) f = absurd f
+unit_lawful true (Header name qs ps) f = absurd f
 unit_lawful true (ItemUnit i) f = item_lawful i f
 unit_lawful true Endmodule f = (tt, tt)
 
@@ -454,11 +445,8 @@ after_bare p None e = ap (λ (o : Option (U × Toks U)). no_else o) e
 after_bare p (Some x) e = ap (λ (o : Option (U × Toks U)). no_else o) e
 
 whole_bare : (i : ItemOf ℕ) (r : Toks ℕ) → whole_item (bare_item i) (forget_all r) ≡ whole_item i r
-whole_bare (WiresItem range ids) r = refl
-whole_bare (DrivenWiresItem range ws) r = refl
-whole_bare (RegsItem range xs) r = refl
-whole_bare (AssignItem xs) r = refl
 whole_bare (AlwaysItem a) r = after_bare (after t.Else (forget_all r)) (after t.Else r) (after_natural ℕ t.Else r)
+whole_bare _ r = refl
 
 abbrev same : Bool → Bool
 same b = b
@@ -471,7 +459,7 @@ behind_whole (Some w) p r e = ap (λ (o : Option U). o >>= λ w. Some (true, for
 unit_natural : (n : ℕ) (inside : Bool) (ws : Toks ℕ) → unit_at n inside (forget_all ws) ≡ seen same (unit_at n inside ws)
 unit_natural n false ws =
     over_bind ℕ bare_header same (header_at n ws) (header_at n (forget_all ws)) (λ h. Some (true, h.1)) (λ h. Some (true, h.1))
-    (header_natural ℕ n ws) (λ h. refl)
+    (header_same ℕ n ws).is (λ h. refl)
 unit_natural n true ws =
     over_found ℕ (λ (a : ℕ). tt) same (after t.Endmodule ws) (after t.Endmodule (forget_all ws))
     (item_at n ws >>= λ i. whole_item i.0 i.1 >>= λ w. Some (true, i.1))
@@ -480,7 +468,7 @@ unit_natural n true ws =
     (after_natural ℕ t.Endmodule ws)
     (over_bind ℕ bare_item same (item_at n ws) (item_at n (forget_all ws)) (λ i. whole_item i.0 i.1 >>= λ w. Some (true, i.1))
     (λ i. whole_item i.0 i.1 >>= λ w. Some (true, i.1))
-    (item_natural ℕ n ws)
+    (item_same ℕ n ws).is
     (λ i. behind_whole (whole_item i.0 i.1) (whole_item (bare_item i.0) (forget_all i.1)) i.1 (whole_bare i.0 i.1)))
     (λ o. refl)
 

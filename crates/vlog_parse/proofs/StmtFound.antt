@@ -11,98 +11,21 @@ use Rattle.vlog_tree.specs.Shape.{IsGoodTarget, is_open, is_open_body, is_open_e
 use Rattle.vlog_tree.specs.Shape.{AreGoodStmts}
 use Rattle.vlog_expr.specs.Marks.{Toks, spell, AreLawful, after}
 use Rattle.vlog_expr.specs.Bare.{forget_all}
-use Rattle.vlog_expr.specs.Reader.{◌>>=◌, found_or, expr_at, target_at}
-use Rattle.vlog_parse.specs.StmtReader.{assign_op_at, assign_stmt_at, stmt_at, if_at, body_at, else_at, stmts_at}
+use Rattle.vlog_expr.specs.Reader.{expr_at}
+use Rattle.vlog_parse.specs.StmtReader.{assign_op_at, assign_stmt_at, stmt_at, if_at, body_at, else_at, stmts_at, colon_front, case_at}
+use Rattle.vlog_parse.specs.StmtReader.{arm_at, arms_at}
+use Rattle.vlog_tree.specs.Tree.{ExprOf, ArmOf, arms_of}
+use Rattle.vlog_tree.specs.Spelling.{expr_words, colon_words, arm_words, arms_words}
+use Rattle.vlog_tree.specs.Shape.{IsGoodExpr, IsGoodArm, AreGoodArms, AreAllGoodArms}
 use Rattle.vlog_expr.specs.Laws.{Holds}
 use Rattle.vlog_parse.specs.FileLaws.{ReadBodiesAreSpelled}
 use Rattle.vlog_expr.proofs.Spelled.{U}
-use Rattle.vlog_expr.proofs.Found.{bind, found, From, join, again, after_sound, Behind, AtExpr, sound}
-use Rattle.vlog_expr.proofs.TargetFound.{target_spelled}
-
--- the same as Holds, in a form from which the checker finds what is read
-pub record Sure {X : Type 0} (o : Option X) (P : X → Type 0) : Type 0 where
-  pub holds : Holds o P
-
-pub nothing : {X : Type 0} {P : X → Type 0} → Sure None P
-nothing = record { holds = tt }
-
-pub sure : {X : Type 0} {P : X → Type 0} (x : X) → P x → Sure (Some x) P
-sure x p = record { holds = p }
-
--- what is read next, behind what was read
-pub next : {X Y : Type 0} {P : X → Type 0} {Q : Y → Type 0} {o : Option X} {f : X → Option Y} → Sure o P → ((x : X) → P x → Sure (f x) Q)
-    → Sure (o >>= f) Q
-next {P = P} {Q = Q} {o = o} {f = f} h k = record { holds = bind P Q o f h.holds (λ x p. (k x p).holds) }
-
--- one thing, or else another
-pub either : {X Y : Type 0} {P : X → Type 0} {Q : Y → Type 0} {o : Option X} {other : Option Y} {f : X → Option Y}
-    → Sure o P → Sure other Q → ((x : X) → P x → Sure (f x) Q) → Sure (found_or o other f) Q
-either {P = P} {Q = Q} {o = o} {other = other} {f = f} h e k = record { holds = found P Q o other f h.holds e.holds (λ x p. (k x p).holds) }
-
--- the same, where what was found counts as well
-pub kept : {X Y : Type 0} {P : X → Type 0} {Q : Y → Type 0} {o : Option X} {other : Option Y} {f : X → Option Y}
-    → Sure o P → (o ≡ None → Sure other Q) → ((x : X) → o ≡ Some x → P x → Sure (f x) Q) → Sure (found_or o other f) Q
-kept {P = P} {o = None} h e k = e refl
-kept {P = P} {o = Some x} h e k = k x refl h.holds
-
-infixr 5 ◌▹◌
--- words, and then others
-pub ◌▹◌ : {A : Type 0} {ws mid rest : Toks A} {a b : List Word} → From A ws a mid → From A mid b rest → From A ws (a ++ b) rest
-◌▹◌ {A = A} {ws = ws} {mid = mid} {rest = rest} {a = a} {b = b} f g = join A ws mid rest a b f g
-
-pub some_none : {X : Type 0} (x : X) → Some x ≡ None → ⊥
-some_none x h = cc
-
-not_true : (b : Bool) → (b ≡ true → ⊥) → b ≡ false
-not_true true h = absurd (h refl)
-not_true false h = refl
-
-false_true : {X : Type 0} → false ≡ true → X
-false_true h = absurd (differ h)
-  where
-    differ : false ≡ true → ⊥
-    differ h = cc
+use Rattle.vlog_expr.proofs.Found.{From, again}
+use Rattle.vlog_parse.proofs.Sure.{Sure, nothing, sure, next, either, kept, ◌▹◌, some_none, not_true, false_true, start, target_found}
+use Rattle.vlog_parse.proofs.Sure.{expr_found, after_found}
+use Rattle.vlog_parse.proofs.ListFound.{alone, led_good, some_found}
 
 module _ (A : Type 0) where
-  pub start : (ws : Toks A) → AreLawful ws → From A ws [] ws
-  start ws h = record { spells = refl; lawful = h }
-
-  lawful_forget : (ws : Toks A) → AreLawful ws → AreLawful (forget_all ws)
-  lawful_forget [] h = tt
-  lawful_forget (token ∷ ws) h = (h.0, lawful_forget ws h.1)
-
-  lawful_back : (ws : Toks A) → AreLawful (forget_all ws) → AreLawful ws
-  lawful_back [] h = tt
-  lawful_back (token ∷ ws) h = (h.0, lawful_back ws h.1)
-
-  lawful_behind : (words : List Word) (rest : Toks U) → AreLawful (spell words rest) → AreLawful rest
-  lawful_behind [] rest h = h
-  lawful_behind (w ∷ words) rest h = lawful_behind words rest h.1
-
-  from_spelled : (ws rest : Toks A) (words : List Word) → AreLawful ws → forget_all ws ≡ spell words (forget_all rest)
-      → From A ws words rest
-  from_spelled ws rest words h e = record {
-    spells = e;
-    lawful = lawful_back rest (lawful_behind words (forget_all rest) (subst (λ (us : Toks U). AreLawful us) e (lawful_forget ws h)));
-  }
-
-  abbrev pub AtTarget : Toks A → TargetOf A × Toks A → Type 0
-  AtTarget w x = IsGoodTarget x.0 × From A w (target_words x.0) x.1
-
-  target_cases : (ws : Toks A) (o : Option (TargetOf A × Toks A)) → AreLawful ws
-      → Holds o (λ x. IsGoodTarget x.0 × (forget_all ws ≡ spell (target_words x.0) (forget_all x.1))) → Sure o (AtTarget ws)
-  target_cases ws None h g = nothing
-  target_cases ws (Some x) h g = sure x (g.0, from_spelled ws x.1 (target_words x.0) h g.1)
-
-  pub target_found : (n : ℕ) (ws : Toks A) → AreLawful ws → Sure (target_at n ws) (AtTarget ws)
-  target_found n ws h = target_cases ws (target_at n ws) h (target_spelled A n ws h)
-
-  pub expr_found : (n : ℕ) (ws : Toks A) → AreLawful ws → Sure (expr_at n ws) (AtExpr A ws)
-  expr_found n ws h = record { holds = (sound A n).expr ws h }
-
-  pub after_found : (x : Terminal) (ws : Toks A) → AreLawful ws → Sure (after x ws) (Behind A x ws)
-  after_found x ws h = record { holds = after_sound A x ws h }
-
   abbrev AtOp : Toks A → AssignOp × Toks A → Type 0
   AtOp w x = From A w (Fixed (assign_terminal x.0) ∷ []) x.1
 
@@ -128,6 +51,37 @@ module _ (A : Type 0) where
   abbrev AtBlock : Toks A → List (StmtOf A) × Toks A → Type 0
   AtBlock w x = AreGoodStmts (stmts_of x.0) × From A w (stmts_words (stmts_of x.0) ++ Fixed t.End ∷ []) x.1
 
+  -- an arm, and the arms so far
+  abbrev AtArm : Toks A → ArmOf A × Toks A → Type 0
+  AtArm w x = IsGoodArm x.0 × From A w (arm_words x.0) x.1
+
+  abbrev AtArms : Toks A → List (ArmOf A) × Toks A → Type 0
+  AtArms w x = AreGoodArms (arms_of x.0) × From A w (arms_words (arms_of x.0)) x.1
+
+  -- all arms, behind their `endcase`
+  abbrev AtCase : Toks A → List (ArmOf A) × Toks A → Type 0
+  AtCase w x = AreGoodArms (arms_of x.0) × From A w (arms_words (arms_of x.0) ++ Fixed t.Endcase ∷ []) x.1
+
+  arm_words_snoc : (xs : List (ArmOf A)) (a : ArmOf A) → arms_words (arms_of xs) ++ arm_words a ≡ arms_words (arms_of (xs ++ a ∷ []))
+  arm_words_snoc [] a = sym (append-nil (arm_words a))
+  arm_words_snoc (x ∷ xs) a = append_assoc (arm_words x) (arms_words (arms_of xs)) (arm_words a)
+      ∙ ap (λ (ws : List Word). arm_words x ++ ws) (arm_words_snoc xs a)
+
+  all_arms_snoc : (xs : List (ArmOf A)) (a : ArmOf A) → AreAllGoodArms (arms_of xs) → IsGoodArm a → AreAllGoodArms (arms_of (xs ++ a ∷ []))
+  all_arms_snoc [] a g h = (h, tt)
+  all_arms_snoc (x ∷ xs) a g h = (g.0, all_arms_snoc xs a g.1 h)
+
+  good_arms_snoc : (xs : List (ArmOf A)) (a : ArmOf A) → AreGoodArms (arms_of xs) → IsGoodArm a → AreGoodArms (arms_of (xs ++ a ∷ []))
+  good_arms_snoc [] a g h = absurd g
+  good_arms_snoc (x ∷ xs) a g h = (g.0, all_arms_snoc xs a g.1 h)
+
+  arms_snoc : (w mid rest : Toks A) (xs : List (ArmOf A)) (a : ArmOf A) → AtArms w (xs, mid) → AtArm mid (a, rest)
+      → AtArms w (xs ++ a ∷ [], rest)
+  arms_snoc w mid rest xs a g h = (
+    good_arms_snoc xs a g.0 h.0,
+    again A w rest (arms_words (arms_of xs) ++ arm_words a) (arms_words (arms_of (xs ++ a ∷ []))) (arm_words_snoc xs a) (g.1 ▹ h.1),
+  )
+
   words_snoc : (xs : List (StmtOf A)) (s : StmtOf A) → stmts_words (stmts_of xs) ++ stmt_words s ≡ stmts_words (stmts_of (xs ++ s ∷ []))
   words_snoc [] s = sym (append-nil (stmt_words s))
   words_snoc (x ∷ xs) s = append_assoc (stmt_words x) (stmts_words (stmts_of xs)) (stmt_words s)
@@ -149,49 +103,85 @@ module _ (A : Type 0) where
   shut b (Else other) ws h f = not_true (is_open_body b) (λ e. f (h e))
 
   op_found : (ws : Toks A) → AreLawful ws → Sure (assign_op_at ws) (AtOp ws)
-  op_found ws h = either (after_found t.Equals ws h) (next (after_found t.LessEquals ws h) (λ o f. sure _ f)) (λ o f. sure _ f)
+  op_found ws h = either (after_found A t.Equals ws h) (next (after_found A t.LessEquals ws h) (λ o f. sure _ f)) (λ o f. sure _ f)
 
   assign_found : (n : ℕ) (ws : Toks A) → AreLawful ws → Sure (assign_stmt_at n ws) (AtStmt ws)
   assign_found n ws h =
-      next (target_found n ws h) (λ x gx.
+      next (target_found A n ws h) (λ x gx.
       next (op_found x.1 gx.1.lawful) (λ o fo.
-      next (expr_found n o.1 fo.lawful) (λ e ge.
-      next (after_found t.Semicolon e.1 ge.1.lawful) (λ c fc.
+      next (expr_found A n o.1 fo.lawful) (λ e ge.
+      next (after_found A t.Semicolon e.1 ge.1.lawful) (λ c fc.
       sure _ ((gx.0, ge.0), false_true, gx.1 ▹ fo ▹ ge.1 ▹ fc)))))
+
+  abbrev AtColon : Toks A → Bool × Toks A → Type 0
+  AtColon w x = From A w (colon_words x.0) x.1
+
+  colon_found : (ws : Toks A) → AreLawful ws → Sure (colon_front ws) (AtColon ws)
+  colon_found ws h = either (after_found A t.Colon ws h) (sure _ (start A ws h)) (λ o f. sure _ f)
 
   mutual
     stmt_found : (n : ℕ) (ws : Toks A) → AreLawful ws → Sure (stmt_at n ws) (AtStmt ws)
     stmt_found zero ws h = nothing
     stmt_found (suc n) ws h =
-        either (after_found t.Begin ws h)
-        (either (after_found t.If ws h) (assign_found n ws h) (λ o f. branch_found n ws o.1 f))
-        (λ o f. next (stmts_found n o.1 o.1 [] (tt, start o.1 f.lawful)) (λ ss g. sure _ (g.0, false_true, f ▹ g.1)))
+        either (after_found A t.Begin ws h)
+        (either (after_found A t.If ws h)
+        (either (after_found A t.Case ws h) (assign_found n ws h) (λ o f. case_found n ws o.1 f))
+        (λ o f. branch_found n ws o.1 f))
+        (λ o f. next (stmts_found n o.1 o.1 [] (tt, start A o.1 f.lawful)) (λ ss g. sure _ (g.0, false_true, f ▹ g.1)))
 
     branch_found : (n : ℕ) (w ws : Toks A) → From A w (Fixed t.If ∷ []) ws → Sure (if_at n ws) (AtStmt w)
     branch_found zero w ws f = nothing
     branch_found (suc n) w ws f =
-        next (after_found t.ParenOpen ws f.lawful) (λ o fo.
-        next (expr_found n o.1 fo.lawful) (λ e ge.
-        next (after_found t.ParenClose e.1 ge.1.lawful) (λ c fc.
+        next (after_found A t.ParenOpen ws f.lawful) (λ o fo.
+        next (expr_found A n o.1 fo.lawful) (λ e ge.
+        next (after_found A t.ParenClose e.1 ge.1.lawful) (λ c fc.
         next (body_found n c.1 fc.lawful) (λ b gb.
         next (else_found n b.1 gb.2.lawful) (λ x gx.
         sure _ ((ge.0, gb.0, shut b.0 x.0 b.1 gb.1 gx.3, gx.0), gx.1, f ▹ fo ▹ ge.1 ▹ fc ▹ gb.2 ▹ gx.2))))))
 
+    case_found : (n : ℕ) (w ws : Toks A) → From A w (Fixed t.Case ∷ []) ws → Sure (case_at n ws) (AtStmt w)
+    case_found zero w ws f = nothing
+    case_found (suc n) w ws f =
+        next (after_found A t.ParenOpen ws f.lawful) (λ o fo.
+        next (expr_found A n o.1 fo.lawful) (λ e ge.
+        next (after_found A t.ParenClose e.1 ge.1.lawful) (λ c fc.
+        next (arm_found n c.1 fc.lawful) (λ a ga.
+        next (arms_found n c.1 a.1 (a.0 ∷ []) ((ga.0, tt), alone ga.1)) (λ xs gx.
+        sure _ ((ge.0, gx.0), false_true, f ▹ fo ▹ ge.1 ▹ fc ▹ gx.1))))))
+
+    arm_found : (n : ℕ) (ws : Toks A) → AreLawful ws → Sure (arm_at n ws) (AtArm ws)
+    arm_found zero ws h = nothing
+    arm_found (suc n) ws h =
+        either (after_found A t.Default ws h)
+        (next (some_found A (ExprOf A) (expr_at n) IsGoodExpr expr_words (expr_found A n) n ws h) (λ ls gs.
+        next (after_found A t.Colon ls.1 gs.1.lawful) (λ c fc.
+        next (body_found n c.1 fc.lawful) (λ b gb. sure _ ((led_good IsGoodExpr ls.0 gs.0, gb.0), gs.1 ▹ fc ▹ gb.2)))))
+        (λ d f.
+        next (colon_found d.1 f.lawful) (λ c fc.
+        next (body_found n c.1 fc.lawful) (λ b gb. sure _ (gb.0, f ▹ fc ▹ gb.2))))
+
+    arms_found : (n : ℕ) (w ws : Toks A) (xs : List (ArmOf A)) → AtArms w (xs, ws) → Sure (arms_at n xs ws) (AtCase w)
+    arms_found zero w ws xs g = nothing
+    arms_found (suc n) w ws xs g =
+        either (after_found A t.Endcase ws g.1.lawful)
+        (next (arm_found n ws g.1.lawful) (λ a ga. arms_found n w a.1 (xs ++ a.0 ∷ []) (arms_snoc w ws a.1 xs a.0 g ga)))
+        (λ o f. sure _ (g.0, g.1 ▹ f))
+
     pub body_found : (n : ℕ) (ws : Toks A) → AreLawful ws → Sure (body_at n ws) (AtBody ws)
     body_found zero ws h = nothing
-    body_found (suc n) ws h = either (after_found t.Semicolon ws h) (next (stmt_found n ws h) (λ s g. sure _ g))
+    body_found (suc n) ws h = either (after_found A t.Semicolon ws h) (next (stmt_found n ws h) (λ s g. sure _ g))
         (λ o f. sure _ (tt, false_true, f))
 
     else_found : (n : ℕ) (ws : Toks A) → AreLawful ws → Sure (else_at n ws) (AtElse ws)
     else_found zero ws h = nothing
     else_found (suc n) ws h =
-        kept (after_found t.Else ws h) (λ e. sure _ (tt, (λ _. e), start ws h, tt))
+        kept (after_found A t.Else ws h) (λ e. sure _ (tt, (λ _. e), start A ws h, tt))
         (λ o e f. next (body_found n o.1 f.lawful) (λ b g. sure _ (g.0, g.1, f ▹ g.2, (λ none. some_none o (sym e ∙ none)))))
 
     stmts_found : (n : ℕ) (w ws : Toks A) (xs : List (StmtOf A)) → AtFront w (xs, ws) → Sure (stmts_at n xs ws) (AtBlock w)
     stmts_found zero w ws xs g = nothing
     stmts_found (suc n) w ws xs g =
-        either (after_found t.End ws g.1.lawful)
+        either (after_found A t.End ws g.1.lawful)
         (next (stmt_found n ws g.1.lawful) (λ s gs. stmts_found n w s.1 (xs ++ s.0 ∷ []) (stmts_snoc w ws s.1 xs s.0 g gs)))
         (λ o f. sure _ (g.0, g.1 ▹ f))
 

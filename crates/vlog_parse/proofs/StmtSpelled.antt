@@ -1,23 +1,29 @@
 -- What is spelled is read: statements and bodies of good shape.
-use Rattle.std.proofs.Common.{◌≡◌, ℕ, zero, suc, ◌+◌, ◌<◌, ◌≤◌, true, Option, None, Some, List, [], ◌∷◌, ◌++◌, length, sym, refl, ap, ◌∙◌}
+use Rattle.std.proofs.Common.{◌≡◌, ℕ, zero, suc, ◌+◌, ◌<◌, ◌≤◌, Bool, true, false, Option, None, Some, List, [], ◌∷◌, ◌++◌, length, sym, refl, ap, ◌∙◌}
 use Rattle.std.proofs.Common.{arith, append_assoc, append-nil, length-append}
 use Rattle.std.proofs.lemmas.Bool.{true≢false}
 use Rattle.vlog_tree.specs.declared.stmt.AssignOp.{AssignOp}
 use Rattle.vlog_tree.specs.declared.stmt.AssignOp.TheVariants as assign
 use Rattle.vlog_tree.specs.declared.terminal.Terminal.TheVariants as t
-use Rattle.vlog_tree.specs.Words.{Fixed}
+use Rattle.vlog_tree.specs.Words.{Word, Fixed}
 use Rattle.vlog_tree.specs.Tree.{ExprOf, RefWith, TargetOf, RefTarget, ConcatTarget, StmtOf, BeginStmt, IfStmt, AssignStmt, BodyOf}
 use Rattle.vlog_tree.specs.Tree.{StmtBody, EmptyBody, ElseOf, NoElse, Else, StmtsOf, NoStmts, MoreStmts, stmts_of}
 use Rattle.vlog_tree.specs.Spelling.{assign_terminal, expr_words, target_words, stmt_words, body_words, else_words, stmts_words}
 use Rattle.vlog_tree.specs.Shape.{IsGoodExpr, IsGoodTarget, is_open, is_open_body, is_open_else, IsShut, IsGoodStmt, IsGoodBody, IsGoodElse}
 use Rattle.vlog_tree.specs.Shape.{AreGoodStmts}
 use Rattle.vlog_expr.specs.Marks.{Toks, spelled, spell, after}
-use Rattle.vlog_expr.specs.Reader.{◌>>=◌, found_or, Read, expr_at}
-use Rattle.vlog_parse.specs.StmtReader.{assign_op_at, assign_stmt_at, stmt_at, if_at, body_at, else_at, stmts_at}
-use Rattle.vlog_expr.specs.Laws.{Ends}
+use Rattle.vlog_tree.specs.declared.terminal.Terminal.{Terminal}
+use Rattle.vlog_tree.specs.Tree.{CaseStmt, ArmOf, LabelsArm, DefaultArm, ArmsOf, NoArms, MoreArms, arms_of}
+use Rattle.vlog_tree.specs.Spelling.{arm_words, arms_words, after_commas, with_commas}
+use Rattle.vlog_tree.specs.Shape.{AreSomeGood, IsGoodArm, AreAllGoodArms}
+use Rattle.vlog_expr.specs.Reader.{expr_at, target_at, some_at}
+use Rattle.vlog_parse.specs.StmtReader.{assign_op_at, assign_stmt_at, stmt_at, body_at, else_at, stmts_at, arm_at, arms_at}
 use Rattle.vlog_parse.specs.FileLaws.{BodiesAreRead}
 use Rattle.vlog_expr.proofs.Spelled.{U, size, spell_append, ends_paren, expr_read}
 use Rattle.vlog_expr.proofs.TargetSpelled.{target_read}
+use Rattle.vlog_parse.proofs.Steps.{step, skipped}
+use Rattle.vlog_parse.proofs.Starts.{NoStart, expr_start, reserved_start}
+use Rattle.vlog_parse.proofs.ListSpelled.{ends_semicolon, parts_colon, some_read, exprs_read}
 
 abbrev StmtClaim : StmtOf U → Type 0
 StmtClaim s = (n : ℕ) (r : Toks U) → (is_open s ≡ true → after t.Else r ≡ None) → size (stmt_words s) ≤ n
@@ -46,28 +52,35 @@ abbrev StmtsClaim : StmtsOf U → Type 0
 StmtsClaim ss = (n : ℕ) (front : List (StmtOf U)) (r : Toks U) → size (stmts_words ss) + 1 ≤ n
     → stmts_at n front (spell (stmts_words ss) (shut r)) ≡ Some (front ++ list_of ss, r)
 
--- what can stand behind an expression
-pub ends_semicolon : (r : Toks U) → Ends (spelled (Fixed t.Semicolon) ∷ r)
-ends_semicolon r = record { stops = record { index = refl; operator = λ m h. refl }; question = refl }
-
 -- no statement begins with `else`, `end` or `;`
 no_else : (s : StmtOf U) (r : Toks U) → after t.Else (spell (stmt_words s) r) ≡ None
 no_else (BeginStmt ss) r = refl
 no_else (IfStmt condition b other) r = refl
+no_else (CaseStmt e xs) r = refl
 no_else (AssignStmt (RefTarget (RefWith id index last)) op value) r = refl
 no_else (AssignStmt (ConcatTarget line xs) op value) r = refl
 
 no_end : (s : StmtOf U) (r : Toks U) → after t.End (spell (stmt_words s) r) ≡ None
 no_end (BeginStmt ss) r = refl
 no_end (IfStmt condition b other) r = refl
+no_end (CaseStmt e xs) r = refl
 no_end (AssignStmt (RefTarget (RefWith id index last)) op value) r = refl
 no_end (AssignStmt (ConcatTarget line xs) op value) r = refl
 
 no_semicolon : (s : StmtOf U) (r : Toks U) → after t.Semicolon (spell (stmt_words s) r) ≡ None
 no_semicolon (BeginStmt ss) r = refl
 no_semicolon (IfStmt condition b other) r = refl
+no_semicolon (CaseStmt e xs) r = refl
 no_semicolon (AssignStmt (RefTarget (RefWith id index last)) op value) r = refl
 no_semicolon (AssignStmt (ConcatTarget line xs) op value) r = refl
+
+no_colon : (b : BodyOf U) (r : Toks U) → after t.Colon (spell (body_words b) r) ≡ None
+no_colon EmptyBody r = refl
+no_colon (StmtBody (BeginStmt ss)) r = refl
+no_colon (StmtBody (IfStmt condition b other)) r = refl
+no_colon (StmtBody (CaseStmt e xs)) r = refl
+no_colon (StmtBody (AssignStmt (RefTarget (RefWith id index last)) op value)) r = refl
+no_colon (StmtBody (AssignStmt (ConcatTarget line xs) op value)) r = refl
 
 no_else_in : (ss : StmtsOf U) (r : Toks U) → after t.Else (spell (stmts_words ss) (shut r)) ≡ None
 no_else_in NoStmts r = refl
@@ -82,6 +95,10 @@ no_if : (x : TargetOf U) (r : Toks U) → after t.If (spell (target_words x) r) 
 no_if (RefTarget (RefWith id index last)) r = refl
 no_if (ConcatTarget line xs) r = refl
 
+no_case : (x : TargetOf U) (r : Toks U) → after t.Case (spell (target_words x) r) ≡ None
+no_case (RefTarget (RefWith id index last)) r = refl
+no_case (ConcatTarget line xs) r = refl
+
 -- a tree has a token
 some_target : (x : TargetOf U) → 0 < length (target_words x)
 some_target (RefTarget (RefWith id index last)) = omega arith
@@ -90,6 +107,7 @@ some_target (ConcatTarget line xs) = omega arith
 some_stmt : (s : StmtOf U) → 0 < length (stmt_words s)
 some_stmt (BeginStmt ss) = omega arith
 some_stmt (IfStmt condition b other) = omega arith
+some_stmt (CaseStmt e xs) = omega arith
 some_stmt (AssignStmt target op value) = omega (
   arith,
   length-append (target_words target)
@@ -112,29 +130,23 @@ assign_read x op e n r gx ge h =
     let tail = expr_words e ++ Fixed t.Semicolon ∷ [] in
     let long = length-append (target_words x) (Fixed (assign_terminal op) ∷ tail) in
     let longer = length-append (expr_words e) (Fixed t.Semicolon ∷ []) in
-    let end = spelled (Fixed t.Semicolon) ∷ r in
-    ap (λ (ws : Toks U). assign_stmt_at n ws) (spell_append (target_words x) (Fixed (assign_terminal op) ∷ tail) r)
-    ∙ ap (λ (o : Read U (TargetOf U)). o >>= λ x. assign_op_at x.1 >>= λ o. expr_at n o.1 >>= λ e. after t.Semicolon e.1
-    >>= λ c. Some (AssignStmt x.0 o.0 e.0, c.1))
-    (target_read x (spelled (Fixed (assign_terminal op)) ∷ spell tail r) n gx (no_bracket op (spell tail r)) (omega arith))
-    ∙ ap (λ (o : Read U AssignOp). o >>= λ o. expr_at n o.1 >>= λ e. after t.Semicolon e.1 >>= λ c. Some (AssignStmt x o.0 e.0, c.1))
-    (op_again op (spell tail r))
-    ∙ ap (λ (ws : Toks U). expr_at n ws >>= λ e. after t.Semicolon e.1 >>= λ c. Some (AssignStmt x op e.0, c.1))
-    (spell_append (expr_words e) (Fixed t.Semicolon ∷ []) r)
-    ∙ ap (λ (o : Read U (ExprOf U)). o >>= λ e. after t.Semicolon e.1 >>= λ c. Some (AssignStmt x op e.0, c.1))
-    (expr_read e end n ge (ends_semicolon r) (omega arith))
+    step _
+    (ap (λ (ws : Toks U). target_at n ws) (spell_append (target_words x) (Fixed (assign_terminal op) ∷ tail) r)
+    ∙ target_read x (spelled (Fixed (assign_terminal op)) ∷ spell tail r) n gx (no_bracket op (spell tail r)) (omega arith))
+    (step _ (op_again op (spell tail r))
+    (step _
+    (ap (λ (ws : Toks U). expr_at n ws) (spell_append (expr_words e) (Fixed t.Semicolon ∷ []) r)
+    ∙ expr_read e (spelled (Fixed t.Semicolon) ∷ r) n ge (ends_semicolon r) (omega arith))
+    refl))
 
 stmt_assign : (x : TargetOf U) (op : AssignOp) (e : ExprOf U) → IsGoodTarget x → IsGoodExpr e → StmtClaim (AssignStmt x op e)
 stmt_assign x op e gx ge zero r o h = absurd (omega (arith, some_stmt (AssignStmt x op e)))
 stmt_assign x op e gx ge (suc n) r o h =
     let tail = Fixed (assign_terminal op) ∷ (expr_words e ++ Fixed t.Semicolon ∷ []) in
-    let ws = spell (stmt_words (AssignStmt x op e)) r in
-    ap (λ (o : Option (U × Toks U)). found_or o (found_or (after t.If ws) (assign_stmt_at n ws) (λ o. if_at n o.1))
-    (λ o. stmts_at n [] o.1 >>= λ ss. Some (BeginStmt (stmts_of ss.0), ss.1)))
-    (ap (after t.Begin) (spell_append (target_words x) tail r) ∙ no_begin x (spell tail r))
-    ∙ ap (λ (o : Option (U × Toks U)). found_or o (assign_stmt_at n ws) (λ o. if_at n o.1))
-    (ap (after t.If) (spell_append (target_words x) tail r) ∙ no_if x (spell tail r))
-    ∙ assign_read x op e n r gx ge (omega arith)
+    skipped _ (ap (λ (ws : Toks U). after t.Begin ws) (spell_append (target_words x) tail r) ∙ no_begin x (spell tail r))
+    (skipped _ (ap (λ (ws : Toks U). after t.If ws) (spell_append (target_words x) tail r) ∙ no_if x (spell tail r))
+    (skipped _ (ap (λ (ws : Toks U). after t.Case ws) (spell_append (target_words x) tail r) ∙ no_case x (spell tail r))
+    (assign_read x op e n r gx ge (omega arith))))
 
 -- a block
 stmts_none : StmtsClaim NoStmts
@@ -148,20 +160,18 @@ stmts_more s ss c m (suc n) front r h =
     let some = some_stmt s in
     let rest = spell (stmts_words ss) (shut r) in
     ap (λ (ws : Toks U). stmts_at (suc n) front ws) (spell_append (stmt_words s) (stmts_words ss) (shut r))
-    ∙ ap (λ (o : Option (U × Toks U)). found_or o (stmt_at n (spell (stmt_words s) rest) >>= λ s. stmts_at n (front ++ s.0 ∷ []) s.1)
-    (λ o. Some (front, o.1))) (no_end s rest)
-    ∙ ap (λ (o : Read U (StmtOf U)). o >>= λ s. stmts_at n (front ++ s.0 ∷ []) s.1) (c n rest (λ e. no_else_in ss r) (omega arith))
-    ∙ m n (front ++ s ∷ []) r (omega arith)
-    ∙ ap (λ (ss : List (StmtOf U)). Some (ss, r)) (append_assoc front (s ∷ []) (list_of ss))
+    ∙ skipped _ (no_end s rest)
+    (step _ (c n rest (λ e. no_else_in ss r) (omega arith))
+    (m n (front ++ s ∷ []) r (omega arith)
+    ∙ ap (λ (ss : List (StmtOf U)). Some (ss, r)) (append_assoc front (s ∷ []) (list_of ss))))
 
 stmt_begin : (ss : StmtsOf U) → StmtsClaim ss → StmtClaim (BeginStmt ss)
 stmt_begin ss m zero r o h = absurd (omega arith)
 stmt_begin ss m (suc n) r o h =
     let long = length-append (stmts_words ss) (Fixed t.End ∷ []) in
-    ap (λ (ws : Toks U). stmts_at n [] ws >>= λ ss. Some (BeginStmt (stmts_of ss.0), ss.1))
-    (spell_append (stmts_words ss) (Fixed t.End ∷ []) r)
-    ∙ ap (λ (o : Read U (List (StmtOf U))). o >>= λ ss. Some (BeginStmt (stmts_of ss.0), ss.1)) (m n [] r (omega arith))
-    ∙ ap (λ (ss : StmtsOf U). Some (BeginStmt ss, r)) (listed ss)
+    step _
+    (ap (λ (ws : Toks U). stmts_at n [] ws) (spell_append (stmts_words ss) (Fixed t.End ∷ []) r) ∙ m n [] r (omega arith))
+    (ap (λ (ss : StmtsOf U). Some (BeginStmt ss, r)) (listed ss))
 
 -- a choice
 body_empty : BodyClaim EmptyBody
@@ -171,19 +181,15 @@ body_empty (suc n) r o h = refl
 body_stmt : (s : StmtOf U) → StmtClaim s → BodyClaim (StmtBody s)
 body_stmt s c zero r o h = absurd (omega arith)
 body_stmt s c (suc n) r o h =
-    let ws = spell (stmt_words s) r in
-    ap (λ (o : Option (U × Toks U)). found_or o (stmt_at n ws >>= λ s. Some (StmtBody s.0, s.1)) (λ o. Some (EmptyBody, o.1)))
-    (no_semicolon s r)
-    ∙ ap (λ (o : Read U (StmtOf U)). o >>= λ s. Some (StmtBody s.0, s.1)) (c n r o (omega arith))
+    skipped _ (no_semicolon s r) (step _ (c n r o (omega arith)) refl)
 
 else_none : ElseClaim NoElse
 else_none zero r o h = absurd (omega arith)
-else_none (suc n) r o h = ap (λ (o : Option (U × Toks U)). found_or o (Some (NoElse, r)) (λ o. body_at n o.1 >>= λ b. Some (Else b.0, b.1)))
-    (o refl)
+else_none (suc n) r o h = skipped _ (o refl) refl
 
 else_some : (b : BodyOf U) → BodyClaim b → ElseClaim (Else b)
 else_some b c zero r o h = absurd (omega arith)
-else_some b c (suc n) r o h = ap (λ (o : Read U (BodyOf U)). o >>= λ b. Some (Else b.0, b.1)) (c n r o (omega arith))
+else_some b c (suc n) r o h = step _ (c n r o (omega arith)) refl
 
 -- an `else` behind a body doesn't belong to an `if` in it
 not_nearer : (b : BodyOf U) (other : ElseOf U) (r : Toks U) → IsShut b other → (is_open_else other ≡ true → after t.Else r ≡ None)
@@ -200,21 +206,118 @@ stmt_if e b other g cb s co (suc (suc n)) r o h =
     let long = length-append (expr_words e) (Fixed t.ParenClose ∷ both) in
     let longer = length-append (body_words b) (else_words other) in
     let rest = spell (else_words other) r in
-    ap (λ (ws : Toks U). expr_at n ws >>= λ e. after t.ParenClose e.1 >>= λ c. body_at n c.1 >>= λ b. else_at n b.1
-    >>= λ x. Some (IfStmt e.0 b.0 x.0, x.1)) (spell_append (expr_words e) (Fixed t.ParenClose ∷ both) r)
-    ∙ ap (λ (o : Read U (ExprOf U)). o >>= λ e. after t.ParenClose e.1 >>= λ c. body_at n c.1 >>= λ b. else_at n b.1
-    >>= λ x. Some (IfStmt e.0 b.0 x.0, x.1)) (expr_read e (spelled (Fixed t.ParenClose) ∷ spell both r) n g (ends_paren (spell both r))
+    step _
+    (ap (λ (ws : Toks U). expr_at n ws) (spell_append (expr_words e) (Fixed t.ParenClose ∷ both) r)
+    ∙ expr_read e (spelled (Fixed t.ParenClose) ∷ spell both r) n g (ends_paren (spell both r)) (omega arith))
+    (step _
+    (ap (λ (ws : Toks U). body_at n ws) (spell_append (body_words b) (else_words other) r)
+    ∙ cb n rest (not_nearer b other r s o) (omega arith))
+    (step _ (co n r o (omega arith)) refl))
+
+-- the arms of a `case`
+abbrev ArmClaim : ArmOf U → Type 0
+ArmClaim a = (n : ℕ) (r : Toks U) → after t.Else r ≡ None → size (arm_words a) ≤ n → arm_at n (spell (arm_words a) r) ≡ Some (a, r)
+
+abbrev closed : Toks U → Toks U
+closed r = spelled (Fixed t.Endcase) ∷ r
+
+abbrev arm_list : ArmsOf U → List (ArmOf U)
+arm_list NoArms = []
+arm_list (MoreArms a more) = a ∷ arm_list more
+
+arms_listed : (xs : ArmsOf U) → arms_of (arm_list xs) ≡ xs
+arms_listed NoArms = refl
+arms_listed (MoreArms a more) = ap (MoreArms a) (arms_listed more)
+
+abbrev ArmsClaim : ArmsOf U → Type 0
+ArmsClaim xs = (n : ℕ) (front : List (ArmOf U)) (r : Toks U) → size (arms_words xs) + 1 ≤ n
+    → arms_at n front (spell (arms_words xs) (closed r)) ≡ Some (front ++ arm_list xs, r)
+
+-- no arm begins with a reserved word but `default`
+labels_start : (x : Terminal) → NoStart x → (e : ExprOf U) (es : List (ExprOf U)) (b : List Word) (r : Toks U)
+    → after x (spell (with_commas expr_words (e ∷ es) ++ b) r) ≡ None
+labels_start x s e es b r =
+    ap (λ (ws : Toks U). after x ws) (spell_append (with_commas expr_words (e ∷ es)) b r
+    ∙ spell_append (expr_words e) (after_commas expr_words es) (spell b r))
+    ∙ expr_start x s e (spell (after_commas expr_words es) (spell b r))
+
+no_endcase : (a : ArmOf U) (r : Toks U) → after t.Endcase (spell (arm_words a) r) ≡ None
+no_endcase (LabelsArm [] b) r = refl
+no_endcase (LabelsArm (e ∷ es) b) r = labels_start t.Endcase (reserved_start t.Endcase refl) e es (Fixed t.Colon ∷ body_words b) r
+no_endcase (DefaultArm line colon b) r = refl
+
+no_else_arm : (a : ArmOf U) (r : Toks U) → after t.Else (spell (arm_words a) r) ≡ None
+no_else_arm (LabelsArm [] b) r = refl
+no_else_arm (LabelsArm (e ∷ es) b) r = labels_start t.Else (reserved_start t.Else refl) e es (Fixed t.Colon ∷ body_words b) r
+no_else_arm (DefaultArm line colon b) r = refl
+
+no_else_arms : (xs : ArmsOf U) (r : Toks U) → after t.Else (spell (arms_words xs) (closed r)) ≡ None
+no_else_arms NoArms r = refl
+no_else_arms (MoreArms a more) r = ap (λ (ws : Toks U). after t.Else ws) (spell_append (arm_words a) (arms_words more) (closed r))
+    ∙ no_else_arm a (spell (arms_words more) (closed r))
+
+some_arm : (a : ArmOf U) → 0 < length (arm_words a)
+some_arm (LabelsArm ls b) = omega (arith, length-append (with_commas expr_words ls) (Fixed t.Colon ∷ body_words b))
+some_arm (DefaultArm line colon b) = omega arith
+
+arm_labels : (e : ExprOf U) (es : List (ExprOf U)) (b : BodyOf U) → AreSomeGood IsGoodExpr (e ∷ es) → BodyClaim b
+    → ArmClaim (LabelsArm (e ∷ es) b)
+arm_labels e es b g cb zero r o h = absurd (omega (arith, some_arm (LabelsArm (e ∷ es) b)))
+arm_labels e es b g cb (suc n) r o h =
+    let tail = Fixed t.Colon ∷ body_words b in
+    let long = length-append (with_commas expr_words (e ∷ es)) tail in
+    skipped _ (labels_start t.Default (reserved_start t.Default refl) e es tail r)
+    (step _
+    (ap (λ (ws : Toks U). some_at (expr_at n) n ws) (spell_append (with_commas expr_words (e ∷ es)) tail r)
+    ∙ some_read expr_words IsGoodExpr (expr_at n) n (exprs_read n) e es (spell tail r) g (parts_colon (spell (body_words b) r)) refl
     (omega arith))
-    ∙ ap (λ (ws : Toks U). body_at n ws >>= λ b. else_at n b.1 >>= λ x. Some (IfStmt e b.0 x.0, x.1))
-    (spell_append (body_words b) (else_words other) r)
-    ∙ ap (λ (o : Read U (BodyOf U)). o >>= λ b. else_at n b.1 >>= λ x. Some (IfStmt e b.0 x.0, x.1))
-    (cb n rest (not_nearer b other r s o) (omega arith))
-    ∙ ap (λ (o : Read U (ElseOf U)). o >>= λ x. Some (IfStmt e b x.0, x.1)) (co n r o (omega arith))
+    (step _ (cb n r (λ _. o) (omega arith)) refl))
+
+arm_default : (line : U) (colon : Bool) (b : BodyOf U) → BodyClaim b → ArmClaim (DefaultArm line colon b)
+arm_default line colon b cb zero r o h = absurd (omega (arith, some_arm (DefaultArm line colon b)))
+arm_default line false b cb (suc n) r o h = step _ (skipped _ (no_colon b r) refl) (step _ (cb n r (λ _. o) (omega arith)) refl)
+arm_default line true b cb (suc n) r o h = step _ (cb n r (λ _. o) (omega arith)) refl
+
+arms_none : ArmsClaim NoArms
+arms_none zero front r h = absurd (omega arith)
+arms_none (suc n) front r h = ap (λ (xs : List (ArmOf U)). Some (xs, r)) (sym (append-nil front))
+
+arms_more : (a : ArmOf U) (more : ArmsOf U) → ArmClaim a → ArmsClaim more → ArmsClaim (MoreArms a more)
+arms_more a more c m zero front r h = absurd (omega arith)
+arms_more a more c m (suc n) front r h =
+    let long = length-append (arm_words a) (arms_words more) in
+    let some = some_arm a in
+    let rest = spell (arms_words more) (closed r) in
+    ap (λ (ws : Toks U). arms_at (suc n) front ws) (spell_append (arm_words a) (arms_words more) (closed r))
+    ∙ skipped _ (no_endcase a rest)
+    (step _ (c n rest (no_else_arms more r) (omega arith))
+    (m n (front ++ a ∷ []) r (omega arith)
+    ∙ ap (λ (xs : List (ArmOf U)). Some (xs, r)) (append_assoc front (a ∷ []) (arm_list more))))
+
+stmt_case : (e : ExprOf U) (a : ArmOf U) (more : ArmsOf U) → IsGoodExpr e → ArmClaim a → ArmsClaim more
+    → StmtClaim (CaseStmt e (MoreArms a more))
+stmt_case e a more g c m zero r o h = absurd (omega arith)
+stmt_case e a more g c m (suc zero) r o h = absurd (omega arith)
+stmt_case e a more g c m (suc (suc n)) r o h =
+    let all = arm_words a ++ arms_words more in
+    let both = all ++ Fixed t.Endcase ∷ [] in
+    let long = length-append (expr_words e) (Fixed t.ParenClose ∷ both) in
+    let longer = length-append all (Fixed t.Endcase ∷ []) in
+    let longest = length-append (arm_words a) (arms_words more) in
+    step _
+    (ap (λ (ws : Toks U). expr_at n ws) (spell_append (expr_words e) (Fixed t.ParenClose ∷ both) r)
+    ∙ expr_read e (spelled (Fixed t.ParenClose) ∷ spell both r) n g (ends_paren (spell both r)) (omega arith))
+    (step _
+    (ap (λ (ws : Toks U). arm_at n ws) (spell_append all (Fixed t.Endcase ∷ []) r ∙ spell_append (arm_words a) (arms_words more) (closed r))
+    ∙ c n (spell (arms_words more) (closed r)) (no_else_arms more r) (omega arith))
+    (step _ (m n (a ∷ []) r (omega arith)) (ap (λ (xs : ArmsOf U). Some (CaseStmt e (MoreArms a xs), r)) (arms_listed more))))
 
 mutual
   reads_stmt : (s : StmtOf U) → IsGoodStmt s → StmtClaim s
   reads_stmt (BeginStmt ss) g = stmt_begin ss (reads_stmts ss g)
   reads_stmt (IfStmt e b other) g = stmt_if e b other g.0 (reads_body b g.1) g.2 (reads_else other g.3)
+  reads_stmt (CaseStmt e NoArms) g = absurd g.1
+  reads_stmt (CaseStmt e (MoreArms a more)) g = stmt_case e a more g.0 (reads_arm a g.1.0) (reads_arms more g.1.1)
   reads_stmt (AssignStmt x op e) g = stmt_assign x op e g.0 g.1
 
   reads_body : (b : BodyOf U) → IsGoodBody b → BodyClaim b
@@ -224,6 +327,15 @@ mutual
   reads_else : (o : ElseOf U) → IsGoodElse o → ElseClaim o
   reads_else NoElse g = else_none
   reads_else (Else b) g = else_some b (reads_body b g)
+
+  reads_arm : (a : ArmOf U) → IsGoodArm a → ArmClaim a
+  reads_arm (LabelsArm [] b) g = absurd g.0
+  reads_arm (LabelsArm (e ∷ es) b) g = arm_labels e es b g.0 (reads_body b g.1)
+  reads_arm (DefaultArm line colon b) g = arm_default line colon b (reads_body b g)
+
+  reads_arms : (xs : ArmsOf U) → AreAllGoodArms xs → ArmsClaim xs
+  reads_arms NoArms g = arms_none
+  reads_arms (MoreArms a more) g = arms_more a more (reads_arm a g.0) (reads_arms more g.1)
 
   reads_stmts : (ss : StmtsOf U) → AreGoodStmts ss → StmtsClaim ss
   reads_stmts NoStmts g = stmts_none

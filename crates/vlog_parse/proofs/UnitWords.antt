@@ -4,7 +4,7 @@ use Rattle.std.specs.List.{flat_map}
 use Rattle.vlog_tree.specs.declared.terminal.Terminal.TheVariants as t
 use Rattle.vlog_tree.specs.Words.{Word, NameWord, Fixed}
 use Rattle.vlog_tree.specs.Tree.{ItemOf, ModuleOf}
-use Rattle.vlog_tree.specs.Spelling.{with_commas, in_row, port_words, item_words, module_words}
+use Rattle.vlog_tree.specs.Spelling.{with_commas, in_row, hash_words, parameter_words, port_words, item_words, module_words}
 use Rattle.vlog_parse.specs.Units.{UnitOf, ItemUnit, Endmodule, module_units, unit_words, UnitsAreSpelled}
 
 abbrev U : Type 0
@@ -25,10 +25,13 @@ behind_items is = row_append (map ItemUnit is) (Endmodule ∷ []) ∙ ap (λ (ws
 
 module_spelled : (m : ModuleOf U) → in_row unit_words (module_units m) ≡ module_words m
 module_spelled m =
-    ap (λ (ws : List Word). Fixed t.Module ∷ NameWord m.name ∷ Fixed t.ParenOpen ∷ ws)
-    (append_assoc (with_commas port_words m.ports) (Fixed t.ParenClose ∷ Fixed t.Semicolon ∷ [])
-    (in_row unit_words (map ItemUnit m.items ++ Endmodule ∷ []))
-    ∙ ap (λ (ws : List Word). with_commas port_words m.ports ++ Fixed t.ParenClose ∷ Fixed t.Semicolon ∷ ws) (behind_items m.items))
+    let end = Fixed t.ParenClose ∷ Fixed t.Semicolon ∷ [] in
+    let items = in_row unit_words (map ItemUnit m.items ++ Endmodule ∷ []) in
+    ap (λ (ws : List Word). Fixed t.Module ∷ NameWord m.name ∷ ws)
+    (append_assoc (hash_words parameter_words m.parameters) (Fixed t.ParenOpen ∷ (with_commas port_words m.ports ++ end)) items
+    ∙ ap (λ (ws : List Word). hash_words parameter_words m.parameters ++ Fixed t.ParenOpen ∷ ws)
+    (append_assoc (with_commas port_words m.ports) end items
+    ∙ ap (λ (ws : List Word). with_commas port_words m.ports ++ Fixed t.ParenClose ∷ Fixed t.Semicolon ∷ ws) (behind_items m.items)))
 
 modules_spelled : (ms : List (ModuleOf U)) → in_row unit_words (flat_map module_units ms) ≡ in_row module_words ms
 modules_spelled [] = refl

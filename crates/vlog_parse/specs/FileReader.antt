@@ -4,8 +4,10 @@ use Rattle.vlog_tree.specs.declared.module.Direction.{Direction}
 use Rattle.vlog_tree.specs.declared.module.Direction.TheVariants as direction
 use Rattle.vlog_tree.specs.declared.module.NetKind.TheVariants as kind
 use Rattle.vlog_tree.specs.declared.terminal.Terminal.TheVariants as t
-use Rattle.vlog_tree.specs.Tree.{IdentOf, ExprOf, RangeOf, PortHeadOf, PortOf, DrivenWireOf, InitTail, Reg1Of, AssignOf, EventOf}
+use Rattle.vlog_tree.specs.Tree.{IdentOf, ExprOf, RangeOf, PortHeadOf, PortOf, NamedValueOf, InitTail, Reg1Of, AssignOf, EventOf}
 use Rattle.vlog_tree.specs.Tree.{PosedgeEvent, ItemOf, WiresItem, DrivenWiresItem, RegsItem, AssignItem, AlwaysItem, ModuleOf, FileOf}
+use Rattle.vlog_tree.specs.Tree.{ParameterHeadOf, ParameterOf, MemoryTail, RegTailOf, ImplicitEvent, ConnOf, InstanceOf, LocalparamsItem}
+use Rattle.vlog_tree.specs.Tree.{InstanceItem}
 use Rattle.vlog_expr.specs.Marks.{Toks, after, name_front}
 use Rattle.vlog_expr.specs.Reader.{◌>>=◌, found_or, Read, expr_at, target_at, fuel_for, more_at, some_at}
 use Rattle.vlog_parse.specs.StmtReader.{body_at}
@@ -47,13 +49,14 @@ abbrev pub port_at : {A : Type 0} → ℕ → Toks A → Read A (PortOf A)
 port_at n ws = head_front n ws >>= λ h. name_front h.1 >>= λ id. init_front n id.1
     >>= λ i. Some (record { head = h.0; id = id.0; init = i.0 }, i.1)
 
-abbrev pub given_head : {A B : Type 0} → Option (PortHeadOf A) → B → Option B
-given_head None x = None
-given_head (Some h) x = Some x
+-- x, where something was given
+abbrev pub where_given : {X B : Type 0} → Option X → B → Option B
+where_given None x = None
+where_given (Some h) x = Some x
 
 -- a port with a direction
 abbrev pub first_port_at : {A : Type 0} → ℕ → Toks A → Read A (PortOf A)
-first_port_at n ws = port_at n ws >>= λ p. given_head p.0.head p
+first_port_at n ws = port_at n ws >>= λ p. where_given p.0.head p
 
 -- [ port { "," port } ] ")", where the first port has a direction
 abbrev pub ports_at : {A : Type 0} → ℕ → Toks A → Read A (List (PortOf A))
@@ -62,14 +65,18 @@ ports_at n ws =
     >>= λ c. Some (ps.0, c.1)) (λ o. Some ([], o.1))
 
 -- id "=" expr
-abbrev pub wire_at : {A : Type 0} → ℕ → Toks A → Read A (DrivenWireOf A)
-wire_at n ws = name_front ws >>= λ id. after t.Equals id.1 >>= λ o. expr_at n o.1 >>= λ e. Some (record { id = id.0; value = e.0 }, e.1)
+abbrev pub named_at : {A : Type 0} → ℕ → Toks A → Read A (NamedValueOf A)
+named_at n ws = name_front ws >>= λ id. after t.Equals id.1 >>= λ o. expr_at n o.1 >>= λ e. Some (record { id = id.0; value = e.0 }, e.1)
 
--- id [ "=" expr ]
+-- [ "=" expr | range ]
+abbrev pub tail_front : {A : Type 0} → ℕ → Toks A → Read A (Option (RegTailOf A))
+tail_front n ws =
+    found_or (after t.Equals ws) (found_or (after t.BracketOpen ws) (Some (None, ws))
+    (λ o. range_at n o.1 >>= λ r. Some (Some (MemoryTail r.0), r.1))) (λ o. expr_at n o.1 >>= λ e. Some (Some (InitTail e.0), e.1))
+
+-- id [ "=" expr | range ]
 abbrev pub reg_at : {A : Type 0} → ℕ → Toks A → Read A (Reg1Of A)
-reg_at n ws =
-    name_front ws >>= λ id. found_or (after t.Equals id.1) (Some (record { id = id.0; tail = None }, id.1))
-    (λ o. expr_at n o.1 >>= λ e. Some (record { id = id.0; tail = Some (InitTail e.0) }, e.1))
+reg_at n ws = name_front ws >>= λ id. tail_front n id.1 >>= λ x. Some (record { id = id.0; tail = x.0 }, x.1)
 
 -- target "=" expr
 abbrev pub assign_at : {A : Type 0} → ℕ → Toks A → Read A (AssignOf A)
@@ -82,7 +89,7 @@ names_at n range id ws = more_at name_front n (id ∷ []) ws >>= λ ids. after t
 -- expr { "," id "=" expr } ";" behind the first name and its "="
 abbrev pub driven_at : {A : Type 0} → ℕ → Option (RangeOf A) → IdentOf A → Toks A → Read A (ItemOf A)
 driven_at n range id ws =
-    expr_at n ws >>= λ e. more_at (wire_at n) n (record { id = id; value = e.0 } ∷ []) e.1 >>= λ xs. after t.Semicolon xs.1
+    expr_at n ws >>= λ e. more_at (named_at n) n (record { id = id; value = e.0 } ∷ []) e.1 >>= λ xs. after t.Semicolon xs.1
     >>= λ c. Some (DrivenWiresItem range xs.0, c.1)
 
 -- behind "wire"
@@ -94,23 +101,69 @@ wires_at n ws = range_front n ws >>= λ r. name_front r.1 >>= λ id. found_or (a
 abbrev pub regs_at : {A : Type 0} → ℕ → Toks A → Read A (ItemOf A)
 regs_at n ws = range_front n ws >>= λ r. some_at (reg_at n) n r.1 >>= λ xs. after t.Semicolon xs.1 >>= λ c. Some (RegsItem r.0 xs.0, c.1)
 
+-- behind "localparam"
+abbrev pub localparams_at : {A : Type 0} → ℕ → Toks A → Read A (ItemOf A)
+localparams_at n ws = range_front n ws >>= λ r. some_at (named_at n) n r.1 >>= λ xs. after t.Semicolon xs.1
+    >>= λ c. Some (LocalparamsItem r.0 xs.0, c.1)
+
 -- behind "assign"
 abbrev pub assigns_at : {A : Type 0} → ℕ → Toks A → Read A (ItemOf A)
 assigns_at n ws = some_at (assign_at n) n ws >>= λ xs. after t.Semicolon xs.1 >>= λ c. Some (AssignItem xs.0, c.1)
 
--- "@" "(" "posedge" id ")"
+-- ( "posedge" id | "*" ) ")"
+abbrev pub paren_event_at : {A : Type 0} → Toks A → Read A (EventOf A)
+paren_event_at ws =
+    found_or (after t.Star ws) (after t.Posedge ws >>= λ p. name_front p.1 >>= λ id. after t.ParenClose id.1
+    >>= λ c. Some (PosedgeEvent id.0, c.1)) (λ s. after t.ParenClose s.1 >>= λ c. Some (ImplicitEvent true, c.1))
+
+-- "@" ( "(" "posedge" id ")" | "*" | "(" "*" ")" )
 abbrev pub event_at : {A : Type 0} → Toks A → Read A (EventOf A)
-event_at ws = after t.At ws >>= λ a. after t.ParenOpen a.1 >>= λ o. after t.Posedge o.1 >>= λ p. name_front p.1
-    >>= λ id. after t.ParenClose id.1 >>= λ c. Some (PosedgeEvent id.0, c.1)
+event_at ws = after t.At ws >>= λ a. found_or (after t.Star a.1) (after t.ParenOpen a.1 >>= λ o. paren_event_at o.1)
+    (λ s. Some (ImplicitEvent false, s.1))
 
 -- behind "always", whose line this is
 abbrev pub always_at : {A : Type 0} → ℕ → A → Toks A → Read A (ItemOf A)
 always_at n line ws = event_at ws >>= λ v. body_at n v.1 >>= λ b. Some (AlwaysItem (record { line = line; event = v.0; body = b.0 }), b.1)
 
+-- [expr] ")"
+abbrev pub value_at : {A : Type 0} → ℕ → Toks A → Read A (Option (ExprOf A))
+value_at n ws = found_or (after t.ParenClose ws) (expr_at n ws >>= λ e. after t.ParenClose e.1 >>= λ c. Some (Some e.0, c.1))
+    (λ o. Some (None, o.1))
+
+-- "." id "(" [expr] ")"
+abbrev pub conn_at : {A : Type 0} → ℕ → Toks A → Read A (ConnOf A)
+conn_at n ws = after t.Dot ws >>= λ d. name_front d.1 >>= λ id. after t.ParenOpen id.1 >>= λ o. value_at n o.1
+    >>= λ v. Some (record { line = d.0; id = id.0; value = v.0 }, v.1)
+
+-- [ "#" "(" conn { "," conn } ")" ]
+abbrev pub parameter_conns_front : {A : Type 0} → ℕ → Toks A → Read A (List (ConnOf A))
+parameter_conns_front n ws = found_or (after t.Hash ws) (Some ([], ws)) (λ h. after t.ParenOpen h.1 >>= λ o. some_at (conn_at n) n o.1
+    >>= λ cs. after t.ParenClose cs.1 >>= λ c. Some (cs.0, c.1))
+
+-- [ conn { "," conn } ] ")"
+abbrev pub conns_at : {A : Type 0} → ℕ → Toks A → Read A (List (ConnOf A))
+conns_at n ws = found_or (after t.ParenClose ws) (some_at (conn_at n) n ws >>= λ cs. after t.ParenClose cs.1 >>= λ c. Some (cs.0, c.1))
+    (λ o. Some ([], o.1))
+
+-- [ "#" "(" conn { "," conn } ")" ] id "(" [ conn { "," conn } ] ")" ";" behind the name of the module
+abbrev pub instance_at : {A : Type 0} → ℕ → IdentOf A → Toks A → Read A (ItemOf A)
+instance_at n module_id ws =
+    parameter_conns_front n ws >>= λ ps. name_front ps.1 >>= λ id. after t.ParenOpen id.1 >>= λ o. conns_at n o.1
+    >>= λ cs. after t.Semicolon cs.1
+    >>= λ c. Some (InstanceItem (record { module_id = module_id; parameters = ps.0; id = id.0; ports = cs.0 }), c.1)
+
+-- an item that begins with no word of the others
+abbrev pub named_item_at : {A : Type 0} → ℕ → Toks A → Read A (ItemOf A)
+named_item_at n ws = name_front ws >>= λ id. instance_at n id.0 id.1
+
+-- an item that declares no nets
+abbrev pub other_item_at : {A : Type 0} → ℕ → Toks A → Read A (ItemOf A)
+other_item_at n ws =
+    found_or (after t.Localparam ws) (found_or (after t.Assign ws) (found_or (after t.Always ws) (named_item_at n ws)
+    (λ o. always_at n o.0 o.1)) (λ o. assigns_at n o.1)) (λ o. localparams_at n o.1)
+
 abbrev pub item_at : {A : Type 0} → ℕ → Toks A → Read A (ItemOf A)
-item_at n ws =
-    found_or (after t.Wire ws) (found_or (after t.Reg ws) (found_or (after t.Assign ws) (after t.Always ws >>= λ o. always_at n o.0 o.1)
-    (λ o. assigns_at n o.1)) (λ o. regs_at n o.1)) (λ o. wires_at n o.1)
+item_at n ws = found_or (after t.Wire ws) (found_or (after t.Reg ws) (other_item_at n ws) (λ o. regs_at n o.1)) (λ o. wires_at n o.1)
 
 -- { item } "endmodule" behind the items so far; n is the fuel of each
 abbrev pub items_at : {A : Type 0} → ℕ → ℕ → List (ItemOf A) → Toks A → Read A (List (ItemOf A))
@@ -118,14 +171,36 @@ items_at n zero front ws = None
 items_at n (suc left) front ws = found_or (after t.Endmodule ws) (item_at n ws >>= λ i. items_at n left (front ++ i.0 ∷ []) i.1)
     (λ o. Some (front, o.1))
 
--- "module" id "(" [ port { "," port } ] ")" ";"
-abbrev pub header_at : {A : Type 0} → ℕ → Toks A → Read A (List ℕ × List (PortOf A))
-header_at n ws = after t.Module ws >>= λ m. name_front m.1 >>= λ id. after t.ParenOpen id.1 >>= λ o. ports_at n o.1
-    >>= λ ps. after t.Semicolon ps.1 >>= λ c. Some ((id.0.name, ps.0), c.1)
+-- [ "parameter" [range] ]
+abbrev pub parameter_head_front : {A : Type 0} → ℕ → Toks A → Read A (Option (ParameterHeadOf A))
+parameter_head_front n ws = found_or (after t.Parameter ws) (Some (None, ws))
+    (λ o. range_front n o.1 >>= λ r. Some (Some (record { range = r.0 }), r.1))
+
+-- [ "parameter" [range] ] id "=" expr
+abbrev pub parameter_at : {A : Type 0} → ℕ → Toks A → Read A (ParameterOf A)
+parameter_at n ws = parameter_head_front n ws >>= λ h. name_front h.1 >>= λ id. after t.Equals id.1 >>= λ o. expr_at n o.1
+    >>= λ e. Some (record { head = h.0; id = id.0; value = e.0 }, e.1)
+
+-- a parameter with the word `parameter`
+abbrev pub first_parameter_at : {A : Type 0} → ℕ → Toks A → Read A (ParameterOf A)
+first_parameter_at n ws = parameter_at n ws >>= λ p. where_given p.0.head p
+
+-- [ "#" "(" params ")" ], where the first parameter has the word `parameter`
+abbrev pub parameters_front : {A : Type 0} → ℕ → Toks A → Read A (List (ParameterOf A))
+parameters_front n ws =
+    found_or (after t.Hash ws) (Some ([], ws)) (λ h. after t.ParenOpen h.1 >>= λ o. first_parameter_at n o.1
+    >>= λ p. more_at (parameter_at n) n (p.0 ∷ []) p.1 >>= λ ps. after t.ParenClose ps.1 >>= λ c. Some (ps.0, c.1))
+
+-- "module" id [ "#" "(" params ")" ] "(" [ port { "," port } ] ")" ";"
+abbrev pub header_at : {A : Type 0} → ℕ → Toks A → Read A (List ℕ × List (ParameterOf A) × List (PortOf A))
+header_at n ws = after t.Module ws >>= λ m. name_front m.1 >>= λ id. parameters_front n id.1 >>= λ ps. after t.ParenOpen ps.1
+    >>= λ o. ports_at n o.1 >>= λ xs. after t.Semicolon xs.1
+    >>= λ c. Some ((id.0.name, ps.0, xs.0), c.1)
 
 -- a header, items and "endmodule"
 abbrev pub module_at : {A : Type 0} → ℕ → Toks A → Read A (ModuleOf A)
-module_at n ws = header_at n ws >>= λ h. items_at n n [] h.1 >>= λ xs. Some (record { name = h.0.0; ports = h.0.1; items = xs.0 }, xs.1)
+module_at n ws = header_at n ws >>= λ h. items_at n n [] h.1
+    >>= λ xs. Some (record { name = h.0.0; parameters = h.0.1; ports = h.0.2; items = xs.0 }, xs.1)
 
 -- { module } behind the modules so far, with no token behind it
 abbrev pub modules_at : {A : Type 0} → ℕ → ℕ → List (ModuleOf A) → Toks A → Option (List (ModuleOf A))

@@ -3,26 +3,26 @@ use Rattle.std.specs.Prelude.{◌≡◌, ◌≤◌, ◌-◌, ℕ, List, [], ◌�
 use Rattle.std.specs.List.{flat_map}
 use Rattle.vlog_tree.specs.declared.terminal.Terminal.TheVariants as t
 use Rattle.vlog_tree.specs.Words.{Word, NameWord, Fixed}
-use Rattle.vlog_tree.specs.Tree.{PortOf, ItemOf, AlwaysItem, ModuleOf, FileOf}
-use Rattle.vlog_tree.specs.Spelling.{with_commas, in_row, port_words, item_words, file_words}
+use Rattle.vlog_tree.specs.Tree.{ParameterOf, PortOf, ItemOf, AlwaysItem, ModuleOf, FileOf}
+use Rattle.vlog_tree.specs.Spelling.{with_commas, in_row, hash_words, parameter_words, port_words, item_words, file_words}
 use Rattle.vlog_tree.specs.Shape.{IsGood}
 use Rattle.vlog_expr.specs.Marks.{Toks, spell, after}
 use Rattle.vlog_expr.specs.Bare.{forget_all}
 
 pub data UnitOf (A : Type 0) : Type 0 where
-  Header : List ℕ → List (PortOf A) → UnitOf A
+  Header : List ℕ → List (ParameterOf A) → List (PortOf A) → UnitOf A
   ItemUnit : ItemOf A → UnitOf A
   Endmodule : UnitOf A
 
 abbrev pub module_units : {A : Type 0} → ModuleOf A → List (UnitOf A)
-module_units m = Header m.name m.ports ∷ (map ItemUnit m.items ++ Endmodule ∷ [])
+module_units m = Header m.name m.parameters m.ports ∷ (map ItemUnit m.items ++ Endmodule ∷ [])
 
 abbrev pub file_units : {A : Type 0} → FileOf A → List (UnitOf A)
 file_units f = flat_map module_units f.modules
 
 abbrev pub unit_words : {A : Type 0} → UnitOf A → List Word
-unit_words (Header name ports) = Fixed t.Module ∷ NameWord name ∷ Fixed t.ParenOpen
-    ∷ (with_commas port_words ports ++ Fixed t.ParenClose ∷ Fixed t.Semicolon ∷ [])
+unit_words (Header name parameters ports) = Fixed t.Module ∷ NameWord name ∷ (hash_words parameter_words parameters ++ Fixed t.ParenOpen
+    ∷ (with_commas port_words ports ++ Fixed t.ParenClose ∷ Fixed t.Semicolon ∷ []))
 unit_words (ItemUnit i) = item_words i
 unit_words Endmodule = Fixed t.Endmodule ∷ []
 

@@ -1,20 +1,23 @@
 //! The reader of items.
 
 ghost use Rattle.std.specs.Prelude.{◌≡◌, ℕ, option_map, Some};
-ghost use Rattle.vlog_tree.specs.Tree.{IdentOf, DrivenWireOf, Reg1Of, AssignOf};
-ghost use Rattle.vlog_tree.specs.Plain.{plain_ident, plain_expr, plain_range, plain_wire, plain_reg, plain_assign, plain_event, plain_item};
+ghost use Rattle.vlog_tree.specs.Tree.{IdentOf, NamedValueOf, Reg1Of, AssignOf};
+ghost use Rattle.vlog_tree.specs.Plain.{plain_ident, plain_expr, plain_range, plain_named, plain_reg, plain_assign, plain_event, plain_item};
 ghost use Rattle.vlog_expr.specs.Marks.{all_marked, name_front};
-ghost use Rattle.vlog_parse.specs.FileReader.{range_at, range_front, init_front, wire_at, reg_at, assign_at, names_at, driven_at, wires_at};
-ghost use Rattle.vlog_parse.specs.FileReader.{regs_at, assigns_at, event_at, always_at, item_at};
+ghost use Rattle.vlog_parse.specs.FileReader.{range_at, range_front, init_front, named_at, reg_at, assign_at, names_at, driven_at, wires_at};
+ghost use Rattle.vlog_parse.specs.FileReader.{regs_at, assigns_at, event_at, always_at, item_at, tail_front, localparams_at, paren_event_at};
+ghost use Rattle.vlog_parse.specs.FileReader.{other_item_at};
+ghost use Rattle.vlog_tree.specs.Plain.{plain_tail};
 ghost use Rattle.vlog_expr.specs.Given.{Gives};
 
+use crate::instance::named_item_of;
 use crate::listed::{Listed, more_of, some_of};
 use crate::stmt::{MOST_NESTED, body_of};
 use std::alloc::Global;
 use vlog_expr::{Parsed, after, expect, expr_of, name_of, target_of};
 use vlog_lex::Token;
 use vlog_tree::{
-    Always, Assign, DrivenWire, DrivenWires, Event, Expr, Ident, Idents, Item, Range, Reg1,
+    Always, Assign, Event, Expr, Ident, Idents, Item, NamedValue, NamedValues, Range, Reg1,
     RegTail, Terminal,
 };
 
@@ -74,19 +77,34 @@ impl Listed for Ident {
     }
 }
 
-impl Listed for DrivenWire {
-    ghost Plain = { DrivenWireOf ℕ };
+impl Listed for NamedValue {
+    ghost Plain = { NamedValueOf ℕ };
 
-    ghost plain = { plain_wire };
+    ghost plain = { plain_named };
 
-    ghost one_at = { wire_at };
+    ghost one_at = { named_at };
 
-    fn read(alloc: Global, tokens: &[Token], fuel: usize) -> Parsed<'_, DrivenWire> {
+    fn read(alloc: Global, tokens: &[Token], fuel: usize) -> Parsed<'_, NamedValue> {
         let (id, rest) = name_of(alloc, tokens)?;
         let (_, rest) = expect(Terminal::Equals, rest)?;
         let (value, rest) = expr_of(alloc, rest, fuel)?;
-        Ok((DrivenWire { id, value }, rest))
+        Ok((NamedValue { id, value }, rest))
     }
+}
+
+/// The value or the memory's range behind the name of a register, where one stands at the front.
+fn tail_front(alloc: Global, tokens: &[Token], fuel: usize) -> Parsed<'_, Option<RegTail>>
+    ensures { Gives (λ x. (option_map plain_tail x.0, all_marked x.1.now)) result (tail_front fuel (all_marked tokens.now)) }
+{
+    if let Some((_, rest)) = after(Terminal::Equals, tokens) {
+        let (value, rest) = expr_of(alloc, rest, fuel)?;
+        return Ok((Some(RegTail::Init(value)), rest));
+    }
+    if let Some((_, rest)) = after(Terminal::BracketOpen, tokens) {
+        let (range, rest) = range_of(alloc, rest, fuel)?;
+        return Ok((Some(RegTail::Memory(Box::into_inner(range))), rest));
+    }
+    Ok((None, tokens))
 }
 
 impl Listed for Reg1 {
@@ -98,12 +116,8 @@ impl Listed for Reg1 {
 
     fn read(alloc: Global, tokens: &[Token], fuel: usize) -> Parsed<'_, Reg1> {
         let (id, rest) = name_of(alloc, tokens)?;
-        let Some((_, behind)) = after(Terminal::Equals, rest) else {
-            return Ok((Reg1 { id, tail: None }, rest));
-        };
-        let (value, behind) = expr_of(alloc, behind, fuel)?;
-        let tail = Some(RegTail::Init(value));
-        Ok((Reg1 { id, tail }, behind))
+        let (tail, rest) = tail_front(alloc, rest, fuel)?;
+        Ok((Reg1 { id, tail }, rest))
     }
 }
 
@@ -153,8 +167,8 @@ fn driven_of(
         (driven_at fuel (option_map (λ b. plain_range b.value) range) (plain_ident id) (all_marked tokens.now)) }
 {
     let (value, rest) = expr_of(alloc, tokens, fuel)?;
-    let mut front = DrivenWires::new(alloc);
-    front.push(DrivenWire { id, value })?;
+    let mut front = NamedValues::new(alloc);
+    front.push(NamedValue { id, value })?;
     let (wires, rest) = more_of(alloc, front, rest, fuel)?;
     let (_, rest) = expect(Terminal::Semicolon, rest)?;
     let range = unboxed(range);
@@ -184,6 +198,17 @@ fn regs_of(alloc: Global, tokens: &[Token], fuel: usize) -> Parsed<'_, Item>
     Ok((Item::Regs { range, regs }, rest))
 }
 
+/// What stands behind `localparam`.
+fn localparams_of(alloc: Global, tokens: &[Token], fuel: usize) -> Parsed<'_, Item>
+    ensures { Gives (λ x. (plain_item x.0, all_marked x.1.now)) result (localparams_at fuel (all_marked tokens.now)) }
+{
+    let (range, rest) = range_front(alloc, tokens, fuel)?;
+    let (parameters, rest) = some_of(alloc, rest, fuel)?;
+    let (_, rest) = expect(Terminal::Semicolon, rest)?;
+    let range = unboxed(range);
+    Ok((Item::Localparams { range, parameters }, rest))
+}
+
 /// What stands behind `assign`.
 fn assigns_of(alloc: Global, tokens: &[Token], fuel: usize) -> Parsed<'_, Item>
     ensures { Gives (λ x. (plain_item x.0, all_marked x.1.now)) result (assigns_at fuel (all_marked tokens.now)) }
@@ -198,8 +223,22 @@ fn event_of(alloc: Global, tokens: &[Token]) -> Parsed<'_, Event>
     ensures { Gives (λ x. (plain_event x.0, all_marked x.1.now)) result (event_at (all_marked tokens.now)) }
 {
     let (_, rest) = expect(Terminal::At, tokens)?;
+    if let Some((_, rest)) = after(Terminal::Star, rest) {
+        return Ok((Event::Implicit { parens: false }, rest));
+    }
     let (_, rest) = expect(Terminal::ParenOpen, rest)?;
-    let (_, rest) = expect(Terminal::Posedge, rest)?;
+    paren_event_of(alloc, rest)
+}
+
+/// What an `always` block waits for, behind `(`, and `)`.
+fn paren_event_of(alloc: Global, tokens: &[Token]) -> Parsed<'_, Event>
+    ensures { Gives (λ x. (plain_event x.0, all_marked x.1.now)) result (paren_event_at (all_marked tokens.now)) }
+{
+    if let Some((_, rest)) = after(Terminal::Star, tokens) {
+        let (_, rest) = expect(Terminal::ParenClose, rest)?;
+        return Ok((Event::Implicit { parens: true }, rest));
+    }
+    let (_, rest) = expect(Terminal::Posedge, tokens)?;
     let (clock, rest) = name_of(alloc, rest)?;
     let (_, rest) = expect(Terminal::ParenClose, rest)?;
     Ok((Event::Posedge(clock), rest))
@@ -224,9 +263,21 @@ pub fn item_of(alloc: Global, tokens: &[Token], fuel: usize) -> Parsed<'_, Item>
     if let Some((_, rest)) = after(Terminal::Reg, tokens) {
         return regs_of(alloc, rest, fuel);
     }
+    other_item_of(alloc, tokens, fuel)
+}
+
+/// An item that declares no nets.
+fn other_item_of(alloc: Global, tokens: &[Token], fuel: usize) -> Parsed<'_, Item>
+    ensures { Gives (λ x. (plain_item x.0, all_marked x.1.now)) result (other_item_at fuel (all_marked tokens.now)) }
+{
+    if let Some((_, rest)) = after(Terminal::Localparam, tokens) {
+        return localparams_of(alloc, rest, fuel);
+    }
     if let Some((_, rest)) = after(Terminal::Assign, tokens) {
         return assigns_of(alloc, rest, fuel);
     }
-    let (line, rest) = expect(Terminal::Always, tokens)?;
-    always_of(alloc, line, rest, fuel)
+    if let Some((line, rest)) = after(Terminal::Always, tokens) {
+        return always_of(alloc, line, rest, fuel);
+    }
+    named_item_of(alloc, tokens, fuel)
 }

@@ -8,10 +8,12 @@
 
 mod depth;
 mod error;
+mod instance;
 mod item;
 mod laws;
 mod listed;
 mod module;
+mod parameter;
 mod parser;
 mod stmt;
 mod units;

@@ -2,15 +2,16 @@
 
 ghost use Rattle.std.specs.Prelude.{◌≡◌, ◌≤◌, ℕ, map};
 ghost use Rattle.vlog_expr.specs.Marks.{Toks, all_marked};
-ghost use Rattle.vlog_expr.specs.Reader.{Read};
-ghost use Rattle.vlog_expr.specs.Reader.{more_at, some_at};
+ghost use Rattle.vlog_tree.specs.Tree.{ExprOf};
+ghost use Rattle.vlog_tree.specs.Plain.{plain_expr};
+ghost use Rattle.vlog_expr.specs.Reader.{Read, expr_at, more_at, some_at};
 ghost use Rattle.vlog_expr.specs.Given.{Gives};
 
 use std::alloc::Global;
 use vidi_bits::Items;
-use vlog_expr::{Parsed, Unread, after};
+use vlog_expr::{Parsed, Unread, after, expr_of};
 use vlog_lex::Token;
-use vlog_tree::Terminal;
+use vlog_tree::{Expr, Terminal};
 
 /// What may stand in a list with commas.
 pub trait Listed {
@@ -65,4 +66,16 @@ pub fn some_of<T: Listed + Drop>(
     let mut front = Items::new(alloc);
     front.push(first)?;
     more_of(alloc, front, rest, fuel)
+}
+
+impl Listed for Expr {
+    ghost Plain = { ExprOf ℕ };
+
+    ghost plain = { plain_expr };
+
+    ghost one_at = { expr_at };
+
+    fn read(alloc: Global, tokens: &[Token], fuel: usize) -> Parsed<'_, Expr> {
+        expr_of(alloc, tokens, fuel)
+    }
 }

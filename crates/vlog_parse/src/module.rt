@@ -2,7 +2,7 @@
 
 ghost use Rattle.std.specs.Prelude.{◌≡◌, ◌≤◌, ℕ, Some, [], map, option_map};
 ghost use Rattle.vlog_tree.specs.Tree.{PortOf};
-ghost use Rattle.vlog_tree.specs.Plain.{plain_expr, plain_head, plain_port, plain_item, plain_module, plain};
+ghost use Rattle.vlog_tree.specs.Plain.{plain_expr, plain_parameter, plain_head, plain_port, plain_item, plain_module, plain};
 ghost use Rattle.vlog_expr.specs.Marks.{all_marked};
 ghost use Rattle.vlog_parse.specs.FileReader.{input_at, output_at, direction_front, head_front, port_at, first_port_at, ports_at, items_at};
 ghost use Rattle.vlog_parse.specs.FileReader.{header_at, module_at, modules_at, file_at};
@@ -10,11 +10,14 @@ ghost use Rattle.vlog_expr.specs.Given.{Gives};
 
 use crate::item::{init_front, item_of, range_front, unboxed};
 use crate::listed::{Listed, more_of};
+use crate::parameter::parameters_front;
 use std::alloc::Global;
 use vidi_bits::{Items, Name};
 use vlog_expr::{Parsed, Unread, after, expect, name_of};
 use vlog_lex::Token;
-use vlog_tree::{Direction, File, Item, Module, Modules, NetKind, Port, PortHead, Ports, Terminal};
+use vlog_tree::{
+    Direction, File, Item, Module, Modules, NetKind, Parameters, Port, PortHead, Ports, Terminal,
+};
 
 /// The word that may stand behind `input`.
 fn input_of(tokens: &[Token]) -> (Direction, &[Token])
@@ -137,25 +140,37 @@ fn items_of(alloc: Global, tokens: &[Token], fuel: usize) -> Parsed<'_, Items<It
     Err(Unread::Fault)
 }
 
-/// The header of a module: its name and its ports.
-pub fn header_of(alloc: Global, tokens: &[Token], fuel: usize) -> Parsed<'_, (Name, Ports)>
-    ensures { Gives (λ x. ((x.0.0, map plain_port x.0.1), all_marked x.1.now)) result (header_at fuel (all_marked tokens.now)) }
+/// The header of a module: its name, its parameters and its ports.
+pub fn header_of(
+    alloc: Global,
+    tokens: &[Token],
+    fuel: usize,
+) -> Parsed<'_, (Name, Parameters, Ports)>
+    ensures { Gives (λ x. ((x.0.0, map plain_parameter x.0.1, map plain_port x.0.2), all_marked x.1.now)) result
+        (header_at fuel (all_marked tokens.now)) }
 {
     let (_, rest) = expect(Terminal::Module, tokens)?;
     let (id, rest) = name_of(alloc, rest)?;
+    let (parameters, rest) = parameters_front(alloc, rest, fuel)?;
     let (_, rest) = expect(Terminal::ParenOpen, rest)?;
     let (ports, rest) = ports_of(alloc, rest, fuel)?;
     let (_, rest) = expect(Terminal::Semicolon, rest)?;
-    Ok(((id.name, ports), rest))
+    Ok(((id.name, parameters, ports), rest))
 }
 
 /// A module.
 fn module_of(alloc: Global, tokens: &[Token], fuel: usize) -> Parsed<'_, Module>
     ensures { Gives (λ x. (plain_module x.0, all_marked x.1.now)) result (module_at fuel (all_marked tokens.now)) }
 {
-    let ((name, ports), rest) = header_of(alloc, tokens, fuel)?;
+    let ((name, parameters, ports), rest) = header_of(alloc, tokens, fuel)?;
     let (items, rest) = items_of(alloc, rest, fuel)?;
-    Ok((Module { name, ports, items }, rest))
+    let module = Module {
+        name,
+        parameters,
+        ports,
+        items,
+    };
+    Ok((module, rest))
 }
 
 /// The modules that follow the first ones, up to the end of the tokens.

@@ -24,7 +24,12 @@ fn is_whole(item: &Item, rest: &[Token]) -> bool
         Item::Wires { range: _, names: _ } => true,
         Item::DrivenWires { range: _, wires: _ } => true,
         Item::Regs { range: _, regs: _ } => true,
+        Item::Localparams {
+            range: _,
+            parameters: _,
+        } => true,
         Item::Assign { assigns: _ } => true,
+        Item::Instance(_) => true,
     }
 }
 

@@ -5,15 +5,19 @@ use std::test::Fail;
 use vlog_lex::{Token, lex};
 use vlog_parse::{ParseError, parse};
 use vlog_tree::{
-    Always, AssignOp, Body, Direction, Event, File, Item, Module, NetKind, Port, Reg1, Stmt,
-    tokens_of,
+    Always, Arm, AssignOp, Body, Conn, Direction, Event, File, Instance, Item, Module, NetKind,
+    Parameter, Port, Reg1, RegTail, Stmt, tokens_of,
 };
 
-// A file as signs. Ports: `i`, `iw`, `o`, `ow`, `or` or nothing, `[]` for a range, the name, `=` for a
-// value. Items: `W`, `D`, `R`, `A` with a range and the number of its parts, of which `=` counts those
-// of `R` with a value; `@` with the line of `always`, the clock and its body. Statements: `{..}`,
-// `?(..)(..)` with its two bodies, `=`, `<`; `;` is an empty body.
-const FILES: [(&str, &str); 15] = [
+// A file as signs. Parameters: `#` and `p` for the word `parameter`, `[]` for a range, the name. Ports: `i`,
+// `iw`, `o`, `ow`, `or` or nothing, `[]` for a range, the name, `=` for a value. Items: `W`, `D`, `R`, `L`,
+// `A` with a range and the number of its parts, of which `=` counts those of `R` with a value and `m` the
+// memories; `@` with the line of `always`, the clock or `*` or `(*)`, and its body; `I` with the module, a
+// name for each connection of a parameter, the instance, and one for each connection of a port, behind the
+// line of its `.` and before `-` where it is empty. Statements: `{..}`, `?(..)(..)` with its two bodies,
+// `:(..)` with an arm in each pair of brackets: the number of its labels, or `d` or `d:` with the line of
+// `default`, and its body; `=`, `<`; `;` is an empty body.
+const FILES: [(&str, &str); 26] = [
     ("module m(); endmodule", "m()"),
     (
         "module m(input a, input wire [1:0] b, output c, output wire d, output reg [3:0] e = 1, f, g = 2); endmodule",
@@ -68,10 +72,54 @@ const FILES: [(&str, &str); 15] = [
         "module m(); always @(posedge k) if (a) if (b) c = 1; else if (d) c <= 1; else c = 2; else c <= 3; endmodule",
         "m()@1k?(?(=)(?(<)(=)))(<)",
     ),
+    (
+        "module m(); always @* a = b; always @(*) ; endmodule",
+        "m()@1*=@1(*);",
+    ),
+    (
+        "module m(); always @* case (a) 0: b = 1; 1, 2: ; default: b = 2; endcase endmodule",
+        "m()@1*:((1=)(2;)(d:1=))",
+    ),
+    (
+        "module m(); always @*\ncase (a)\ndefault ;\ndefault begin end c ? d : e: b = 1; endcase endmodule",
+        "m()@1*:((d3;)(d4{})(1=))",
+    ),
+    (
+        "module m(); always @* case (a) 0: if (b) c = 1; 1: if (b) c = 1; else c = 2; endcase endmodule",
+        "m()@1*:((1?(=)())(1?(=)(=)))",
+    ),
+    (
+        "module m(); always @* if (a) case (b) 0: if (c) ; endcase else d = 1; endmodule",
+        "m()@1*?(:((1?(;)())))(=)",
+    ),
+    (
+        "module m(); always @* case (a) {b, c}: case (d) default: ; endcase endcase endmodule",
+        "m()@1*:((1:((d:1;))))",
+    ),
+    (
+        "module m #(parameter A = 1, B = 2, parameter [3:0] C = 3)(input [A-1:0] d); endmodule",
+        "m#p A, B,p[] C(i[] d)",
+    ),
+    (
+        "module m(); localparam A = 1; localparam [1:0] B = 2'b00, C = A; endmodule",
+        "m()L1L[]2",
+    ),
+    (
+        "module m(); reg [7:0] a [0:3], b, c = 1, d [0:0]; reg e [1:0]; endmodule",
+        "m()R[]4m=mR1m",
+    ),
+    (
+        "module m(); n u(); n v(.a(b), .c());\nn #(.P(1), .Q(2)) w(\n.a({b, c})); endmodule",
+        "m()In()u()In()v(1a,1c-)In(2P,2Q)w(3a)",
+    ),
+    (
+        "module m #(parameter A = 1)(); wire w; n #(.A()) u(.x(w)); always @(*) w = A; endmodule",
+        "m#p A()W1In(1A-)u(1x)@1(*)=",
+    ),
 ];
 
 // Texts of one line that are no file.
-const REFUSED: [&str; 38] = [
+const REFUSED: [&str; 68] = [
     "",
     ";",
     "module m()",
@@ -98,18 +146,48 @@ const REFUSED: [&str; 38] = [
     "module m(); a = b; endmodule",
     "module m(); always a = b; endmodule",
     "module m(); always @(k) a = b; endmodule",
+    "module m(); always @ posedge k a = b; endmodule",
+    "module m(); always * a = b; endmodule",
+    "module m(); always @(* a = b; endmodule",
+    "module m(); always @(*, k) a = b; endmodule",
+    "module m(); always @() a = b; endmodule",
+    "module m(); always @* a = b; else a = c; endmodule",
     "module m(); always @(posedge k) endmodule",
     "module m(); always @(posedge k) a = b; else a = c; endmodule",
     "module m(); always @(posedge k) begin ; end endmodule",
     "module m(); always @(posedge k) begin a = b; endmodule",
-    // The forms that aren't there yet.
-    "module m #(parameter P = 1)(); endmodule",
-    "module m(); localparam P = 1; endmodule",
-    "module m(); n u(); endmodule",
-    "module m(); reg [7:0] r [0:3]; endmodule",
-    "module m(); always @* a = b; endmodule",
-    "module m(); always @(*) a = b; endmodule",
-    "module m(); always @(posedge k) case (a) 1: a = b; endcase endmodule",
+    "module m(); always @* case (a) endcase endmodule",
+    "module m(); always @* case a 0: ; endcase endmodule",
+    "module m(); always @* case (a) 0: ; endmodule",
+    "module m(); always @* case (a) 0, : ; endcase endmodule",
+    "module m(); always @* case (a) 0 ; endcase endmodule",
+    "module m(); always @* case (a) 0: endcase endmodule",
+    "module m(); always @* case (a) default endcase endmodule",
+    "module m(); always @* case (a) default: endcase endmodule",
+    "module m(); always @* case (a) default, 0: ; endcase endmodule",
+    "module m(); always @* case (a) 0: ; else ; endcase endmodule",
+    "module m(); always @* casez (a) 0: ; endcase endmodule",
+    "module m #(); endmodule",
+    "module m #()(); endmodule",
+    "module m #(A = 1)(); endmodule",
+    "module m #([3:0] A = 1)(); endmodule",
+    "module m #(parameter A)(); endmodule",
+    "module m #(parameter A = 1,)(); endmodule",
+    "module m #(parameter A = 1, [3:0] B = 2)(); endmodule",
+    "module m(); parameter A = 1; endmodule",
+    "module m(); localparam A; endmodule",
+    "module m(); localparam; endmodule",
+    "module m(); reg a [3]; endmodule",
+    "module m(); reg a [0:3] = 1; endmodule",
+    "module m(); reg a [0:3][0:3]; endmodule",
+    "module m(); wire a [0:3]; endmodule",
+    "module m(); n u; endmodule",
+    "module m(); n #() u(); endmodule",
+    "module m(); n u(a); endmodule",
+    "module m(); n u(.a(b),); endmodule",
+    "module m(); n u(.a); endmodule",
+    "module m(); n u(), v(); endmodule",
+    // The form that isn't there yet.
     "module m(); assign a = {2{b}}; endmodule",
 ];
 
@@ -126,6 +204,7 @@ fn show_file(alloc: Global, out: &mut Vec<u8>, file: &File) -> Result<(), AllocE
 
 fn show_module(alloc: Global, out: &mut Vec<u8>, module: &Module) -> Result<(), AllocError> {
     put(out, module.name.as_slice())?;
+    show_parameters(out, module.parameters.as_slice())?;
     put(out, b"(")?;
     show_ports(out, module.ports.as_slice())?;
     put(out, b")")?;
@@ -135,11 +214,31 @@ fn show_module(alloc: Global, out: &mut Vec<u8>, module: &Module) -> Result<(), 
     Ok(())
 }
 
+fn show_parameters(out: &mut Vec<u8>, parameters: &[Parameter]) -> Result<(), AllocError> {
+    for (number, parameter) in parameters.iter().enumerate() {
+        put(out, separator(number, b"#"))?;
+        show_parameter(out, parameter)?;
+    }
+    Ok(())
+}
+
+fn show_parameter(out: &mut Vec<u8>, parameter: &Parameter) -> Result<(), AllocError> {
+    if let Some(head) = &parameter.head {
+        put(out, b"p")?;
+        put(out, bounds(head.range.is_some()))?;
+    }
+    put(out, b" ")?;
+    put(out, parameter.id.name.as_slice())
+}
+
+// What stands before the part of this number.
+fn separator(number: usize, first: &'static [u8]) -> &'static [u8] {
+    if number > 0 { b"," } else { first }
+}
+
 fn show_ports(out: &mut Vec<u8>, ports: &[Port]) -> Result<(), AllocError> {
     for (number, port) in ports.iter().enumerate() {
-        if number > 0 {
-            put(out, b",")?;
-        }
+        put(out, separator(number, b""))?;
         show_port(out, port)?;
     }
     Ok(())
@@ -189,9 +288,17 @@ fn show_list(
     put(out, format!(in alloc; "{parts}")?.as_bytes())
 }
 
+fn tail(tail: &Option<RegTail>) -> &'static [u8] {
+    match tail {
+        None => b"",
+        Some(RegTail::Init(_)) => b"=",
+        Some(RegTail::Memory(_)) => b"m",
+    }
+}
+
 fn show_values(out: &mut Vec<u8>, regs: &[Reg1]) -> Result<(), AllocError> {
     for reg in regs {
-        put(out, value(reg.tail.is_some()))?;
+        put(out, tail(&reg.tail))?;
     }
     Ok(())
 }
@@ -206,41 +313,102 @@ fn show_item(alloc: Global, out: &mut Vec<u8>, item: &Item) -> Result<(), AllocE
             show_list(alloc, out, b"R", range.is_some(), regs.len())?;
             show_values(out, regs.as_slice())
         }
+        Item::Localparams { range, parameters } => {
+            show_list(alloc, out, b"L", range.is_some(), parameters.len())
+        }
         Item::Assign { assigns } => show_list(alloc, out, b"A", false, assigns.len()),
         Item::Always(always) => show_always(alloc, out, always),
+        Item::Instance(instance) => show_instance(alloc, out, instance),
     }
 }
 
 fn show_always(alloc: Global, out: &mut Vec<u8>, always: &Always) -> Result<(), AllocError> {
     let line = always.line;
     put(out, format!(in alloc; "@{line}")?.as_bytes())?;
-    let Event::Posedge(clock) = &always.event;
-    put(out, clock.name.as_slice())?;
-    show_body(out, &always.body)
+    show_event(out, &always.event)?;
+    show_body(alloc, out, &always.body)
+}
+
+fn show_event(out: &mut Vec<u8>, event: &Event) -> Result<(), AllocError> {
+    match event {
+        Event::Posedge(clock) => put(out, clock.name.as_slice()),
+        Event::Implicit { parens: false } => put(out, b"*"),
+        Event::Implicit { parens: true } => put(out, b"(*)"),
+    }
+}
+
+fn show_instance(alloc: Global, out: &mut Vec<u8>, instance: &Instance) -> Result<(), AllocError> {
+    put(out, b"I")?;
+    put(out, instance.module_id.name.as_slice())?;
+    show_conns(alloc, out, instance.parameters.as_slice())?;
+    put(out, instance.id.name.as_slice())?;
+    show_conns(alloc, out, instance.ports.as_slice())
+}
+
+fn show_conns(alloc: Global, out: &mut Vec<u8>, conns: &[Conn]) -> Result<(), AllocError> {
+    put(out, b"(")?;
+    for (number, conn) in conns.iter().enumerate() {
+        put(out, separator(number, b""))?;
+        show_conn(alloc, out, conn)?;
+    }
+    put(out, b")")
+}
+
+fn show_conn(alloc: Global, out: &mut Vec<u8>, conn: &Conn) -> Result<(), AllocError> {
+    let line = conn.line;
+    put(out, format!(in alloc; "{line}")?.as_bytes())?;
+    put(out, conn.id.name.as_slice())?;
+    put(out, if conn.value.is_none() { b"-" } else { b"" })
 }
 
 #[cycle(show)]
-fn show_body(out: &mut Vec<u8>, body: &Body) -> Result<(), AllocError> {
+fn show_body(alloc: Global, out: &mut Vec<u8>, body: &Body) -> Result<(), AllocError> {
     match body {
-        Body::Stmt(stmt) => show_stmt(out, stmt),
+        Body::Stmt(stmt) => show_stmt(alloc, out, stmt),
         Body::Empty => put(out, b";"),
     }
 }
 
 #[cycle(show)]
-fn show_stmts(out: &mut Vec<u8>, stmts: &[Stmt]) -> Result<(), AllocError> {
+fn show_stmts(alloc: Global, out: &mut Vec<u8>, stmts: &[Stmt]) -> Result<(), AllocError> {
     for stmt in stmts {
-        show_stmt(out, stmt)?;
+        show_stmt(alloc, out, stmt)?;
     }
     Ok(())
 }
 
 #[cycle(show)]
-fn show_stmt(out: &mut Vec<u8>, stmt: &Stmt) -> Result<(), AllocError> {
+fn show_arms(alloc: Global, out: &mut Vec<u8>, arms: &[Arm]) -> Result<(), AllocError> {
+    for arm in arms {
+        put(out, b"(")?;
+        show_arm(alloc, out, arm)?;
+        put(out, b")")?;
+    }
+    Ok(())
+}
+
+#[cycle(show)]
+fn show_arm(alloc: Global, out: &mut Vec<u8>, arm: &Arm) -> Result<(), AllocError> {
+    match arm {
+        Arm::Labels { labels, body } => {
+            let count = labels.len();
+            put(out, format!(in alloc; "{count}")?.as_bytes())?;
+            show_body(alloc, out, body)
+        }
+        Arm::Default { line, colon, body } => {
+            put(out, if *colon { b"d:" } else { b"d" })?;
+            put(out, format!(in alloc; "{line}")?.as_bytes())?;
+            show_body(alloc, out, body)
+        }
+    }
+}
+
+#[cycle(show)]
+fn show_stmt(alloc: Global, out: &mut Vec<u8>, stmt: &Stmt) -> Result<(), AllocError> {
     match stmt {
         Stmt::Begin(stmts) => {
             put(out, b"{")?;
-            show_stmts(out, stmts.as_slice())?;
+            show_stmts(alloc, out, stmts.as_slice())?;
             put(out, b"}")
         }
         Stmt::If {
@@ -249,11 +417,19 @@ fn show_stmt(out: &mut Vec<u8>, stmt: &Stmt) -> Result<(), AllocError> {
             else_body,
         } => {
             put(out, b"?(")?;
-            show_body(out, then_body)?;
+            show_body(alloc, out, then_body)?;
             put(out, b")(")?;
             if let Some(body) = else_body {
-                show_body(out, body)?;
+                show_body(alloc, out, body)?;
             }
+            put(out, b")")
+        }
+        Stmt::Case {
+            expression: _,
+            arms,
+        } => {
+            put(out, b":(")?;
+            show_arms(alloc, out, arms.as_slice())?;
             put(out, b")")
         }
         Stmt::Assign {
@@ -308,7 +484,7 @@ fn no_files(rt: HostRuntime) -> Result<(), Fail> {
 }
 
 // Texts that are no file, and the line of the first token behind their whole units.
-const LINES: [(&str, u32); 12] = [
+const LINES: [(&str, u32); 16] = [
     ("\n\n;", 3),
     ("module m(\ninput a;\nendmodule", 1),
     ("module m(a);\nendmodule", 1),
@@ -325,6 +501,13 @@ const LINES: [(&str, u32); 12] = [
         5,
     ),
     ("module m();\nalways @(posedge k) ;", 2),
+    (
+        "module m();\nalways @*\ncase (a) 0: ; endcase\nelse ;\nendmodule",
+        2,
+    ),
+    ("module m();\nn u();\nn\n#() v();\nendmodule", 3),
+    ("module m\n#(A = 1)\n();\nendmodule", 1),
+    ("module m #(parameter A = 1)\n();\nendmodule\nmodule", 4),
     ("module m();\nendmodule\n\nx", 4),
     ("module m();\nendmodule\nmodule n(\n\n", 3),
 ];

@@ -5,9 +5,9 @@ use std::process::Abort;
 use std::test::Fail;
 use vidi_bits::{Items, Memory, Name, copied};
 use vlog_tree::{
-    Always, Assign, AssignOp, BinaryOp, Body, Event, Expr, File, Ident, Item, Module, Number,
-    NumberKind, Port, Prim as Primary, Ref, Sel, Stmt, Target, Unary, begin, concat, concat_target,
-    good_shape,
+    Always, Arm, Assign, AssignOp, BinaryOp, Body, Event, Expr, File, Ident, Item, Module, Number,
+    NumberKind, Parameter, Port, Prim as Primary, Ref, Sel, Stmt, Target, Unary, begin, case,
+    concat, concat_target, good_shape,
 };
 
 fn name(alloc: Global, text: &str) -> Result<Name, Memory> {
@@ -105,7 +105,16 @@ fn always(alloc: Global, body: Body) -> Result<Item, Memory> {
 
 fn module(alloc: Global, ports: Items<Port>, items: Items<Item>) -> Result<File, Memory> {
     let name = name(alloc, "m")?;
-    let modules = one(alloc, Module { name, ports, items })?;
+    let parameters = Items::new(alloc);
+    let modules = one(
+        alloc,
+        Module {
+            name,
+            parameters,
+            ports,
+            items,
+        },
+    )?;
     Ok(File { modules })
 }
 
@@ -317,6 +326,16 @@ enum Branch {
     IfElse,
     IfElseIf,
     BlockOfIf,
+    CaseOfIf,
+}
+
+// `case (a) default body endcase`
+fn case_of(alloc: Global, body: Body) -> Result<Box<Stmt>, Memory> {
+    let expression = net_expr(alloc, "a")?;
+    let colon = false;
+    let line = 7;
+    let arms = one(alloc, Arm::Default { line, colon, body })?;
+    Ok(Box::new(alloc, case(Box::into_inner(expression), arms))?)
 }
 
 // `if (a) then_body`, with `else else_body` where there is one
@@ -349,6 +368,10 @@ fn branch_body(alloc: Global, kind: Branch) -> Result<Body, Memory> {
             let stmts = one(alloc, Box::into_inner(stmt))?;
             Ok(Body::Stmt(Box::new(alloc, begin(stmts))?))
         }
+        Branch::CaseOfIf => {
+            let stmt = if_of(alloc, Body::Empty, None)?;
+            Ok(Body::Stmt(case_of(alloc, Body::Stmt(stmt))?))
+        }
     }
 }
 
@@ -370,6 +393,7 @@ fn an_else_belongs_to_its_if(rt: HostRuntime) -> Result<(), Fail> {
         (Branch::IfElse, true),
         (Branch::IfElseIf, false),
         (Branch::BlockOfIf, true),
+        (Branch::CaseOfIf, true),
     ];
     for (kind, good) in cases {
         let with_else = if_is_good(rt.alloc(), kind, true)?;
@@ -397,6 +421,10 @@ fn empty_item(alloc: Global, number: u32) -> Item {
             range,
             regs: Items::new(alloc),
         },
+        3 => Item::Localparams {
+            range,
+            parameters: Items::new(alloc),
+        },
         _ => Item::Assign {
             assigns: Items::new(alloc),
         },
@@ -411,6 +439,20 @@ fn empty_target_is_good(alloc: Global) -> Result<bool, Memory> {
     Ok(good_shape(&file_of(alloc, Item::Assign { assigns })?))
 }
 
+// `case (a) endcase`, or with one arm that has no label
+fn empty_case_is_good(alloc: Global, has_arm: bool) -> Result<bool, Memory> {
+    let mut arms = Items::new(alloc);
+    if has_arm {
+        let labels = Items::new(alloc);
+        let body = Body::Empty;
+        arms.push(Arm::Labels { labels, body })?;
+    }
+    let expression = net_expr(alloc, "a")?;
+    let stmt = Box::new(alloc, case(Box::into_inner(expression), arms))?;
+    let item = always(alloc, Body::Stmt(stmt))?;
+    Ok(good_shape(&file_of(alloc, item)?))
+}
+
 // What the grammar wants at least one of is there.
 #[test]
 fn lists_have_a_first_part(rt: HostRuntime) -> Result<(), Fail> {
@@ -419,13 +461,15 @@ fn lists_have_a_first_part(rt: HostRuntime) -> Result<(), Fail> {
         modules: Items::new(alloc),
     };
     assert!(rt; !good_shape(&none));
-    for number in 0..4 {
+    for number in 0..5 {
         let file = file_of(alloc, empty_item(alloc, number))?;
         assert!(rt; !good_shape(&file), "{number}");
     }
     let value = operand(alloc, concat(7, Items::new(alloc)))?;
     assert!(rt; !is_good(alloc, value)?);
     assert!(rt; !empty_target_is_good(alloc)?);
+    assert!(rt; !empty_case_is_good(alloc, false)?);
+    assert!(rt; !empty_case_is_good(alloc, true)?);
     Ok(())
 }
 
@@ -444,5 +488,32 @@ fn the_first_port_has_a_direction(rt: HostRuntime) -> Result<(), Fail> {
     )?;
     let file = module(alloc, ports, Items::new(alloc))?;
     assert!(rt; !good_shape(&file));
+    Ok(())
+}
+
+// `module m #(A = 1)(); endmodule`
+fn headless_is_good(alloc: Global) -> Result<bool, Memory> {
+    let id = ident(alloc, "A")?;
+    let value = decimal(alloc, "1")?;
+    let head = None;
+    let value = Box::into_inner(value);
+    let parameters = one(alloc, Parameter { head, id, value })?;
+    let name = name(alloc, "m")?;
+    let ports = Items::new(alloc);
+    let items = Items::new(alloc);
+    let declared = Module {
+        name,
+        parameters,
+        ports,
+        items,
+    };
+    let modules = one(alloc, declared)?;
+    Ok(good_shape(&File { modules }))
+}
+
+// The first parameter has the word `parameter`.
+#[test]
+fn the_first_parameter_has_its_word(rt: HostRuntime) -> Result<(), Fail> {
+    assert!(rt; !headless_is_good(rt.alloc())?);
     Ok(())
 }

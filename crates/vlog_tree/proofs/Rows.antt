@@ -1,15 +1,16 @@
 -- The variants that hold lists as plain data.
 use Rattle.std.proofs.Common.{◌≡◌, ℕ, List, ap, refl, ◌∙◌}
-use Rattle.vlog_tree.specs.Tree.{MoreExprs, ConcatPrim, MoreTargets, ConcatTarget, MoreStmts, BeginStmt}
+use Rattle.vlog_tree.specs.Tree.{MoreExprs, ConcatPrim, MoreTargets, ConcatTarget, MoreStmts, BeginStmt, MoreArms, CaseStmt}
 use Rattle.vlog_tree.specs.Plain.{plain_expr, plain_prim, plain_row, plain_exprs, plain_target, plain_target_row, plain_targets, plain_stmt}
-use Rattle.vlog_tree.specs.Plain.{plain_stmt_row, plain_stmts}
+use Rattle.vlog_tree.specs.Plain.{plain_stmt_row, plain_stmts, plain_arm, plain_arm_row, plain_arms}
 use Rattle.vlog_tree.specs.declared.expr.Expr.{Expr}
 use Rattle.vlog_tree.specs.declared.expr.Primary as prim
 use Rattle.vlog_tree.specs.declared.expr.Expr.TheBlock.{hidden-the_row-Expr-0}
 use Rattle.vlog_tree.specs.declared.stmt.Target as target
 use Rattle.vlog_tree.specs.declared.stmt.Target.TheBlock.{hidden-the_row-Target-0}
 use Rattle.vlog_tree.specs.declared.stmt.Stmt as stmt
-use Rattle.vlog_tree.specs.declared.stmt.Body.TheBlock.{hidden-the_row-Stmt-0}
+use Rattle.vlog_tree.specs.declared.stmt.Arm.{Arm}
+use Rattle.vlog_tree.specs.declared.stmt.Arm.TheBlock.{hidden-the_row-Stmt-0, hidden-the_row-Arm-1}
 
 expr_items : {n : _} → (row : prim.Row_of-Expr n) → plain_row row ≡ plain_exprs (prim.items-the_row-Expr n row)
 expr_items prim.end_of-Expr = refl
@@ -42,3 +43,14 @@ stmts_hidden ss = stmt_items (hidden-the_row-Stmt-0 ss) ∙ ap plain_stmts (stmt
 
 pub plain_begin : (s : stmt.Stmt) (ss : List stmt.Stmt) → s ≡ stmt.Begin ss → plain_stmt s ≡ BeginStmt (plain_stmts ss)
 plain_begin s ss is = ap plain_stmt is ∙ ap BeginStmt (stmts_hidden ss)
+
+arm_items : {n : _} → (row : stmt.Row_of-Arm n) → plain_arm_row row ≡ plain_arms (stmt.items-the_row-Arm n row)
+arm_items stmt.end_of-Arm = refl
+arm_items (stmt.more_of-Arm a row) = ap (MoreArms (plain_arm a)) (arm_items row)
+
+pub arms_hidden : (xs : List Arm) → plain_arm_row (hidden-the_row-Arm-1 xs) ≡ plain_arms xs
+arms_hidden xs = arm_items (hidden-the_row-Arm-1 xs) ∙ ap plain_arms (stmt.items_hidden-the_row-Arm-1 xs)
+
+pub plain_case : (s : stmt.Stmt) (e : Expr) (xs : List Arm) → s ≡ stmt.Case e xs → plain_stmt s
+    ≡ CaseStmt (plain_expr e) (plain_arms xs)
+plain_case s e xs is = ap plain_stmt is ∙ ap (CaseStmt (plain_expr e)) (arms_hidden xs)

@@ -4,9 +4,11 @@ use Rattle.vlog_tree.specs.Tree.{IdentOf, NumberOf, SignOf, ExprOf, UnaryExpr, B
 use Rattle.vlog_tree.specs.Tree.{ParenPrim, ConcatPrim, RefOf, RefWith, IndexOf, NoIndex, Index, LastOf, NoLast, Last, SelOf, IndexSel}
 use Rattle.vlog_tree.specs.Tree.{PartSel, IndexedSel, ExprsOf, NoExprs, MoreExprs, exprs_of, TargetOf, RefTarget, ConcatTarget, TargetsOf}
 use Rattle.vlog_tree.specs.Tree.{NoTargets, MoreTargets, targets_of, StmtOf, BeginStmt, IfStmt, AssignStmt, BodyOf, StmtBody, EmptyBody}
-use Rattle.vlog_tree.specs.Tree.{ElseOf, NoElse, Else, StmtsOf, NoStmts, MoreStmts, stmts_of, RangeOf, PortHeadOf, PortOf, DrivenWireOf}
+use Rattle.vlog_tree.specs.Tree.{ElseOf, NoElse, Else, StmtsOf, NoStmts, MoreStmts, stmts_of, RangeOf, PortHeadOf, PortOf, NamedValueOf}
 use Rattle.vlog_tree.specs.Tree.{RegTailOf, InitTail, Reg1Of, AssignOf, EventOf, PosedgeEvent, AlwaysOf, ItemOf, WiresItem, DrivenWiresItem}
 use Rattle.vlog_tree.specs.Tree.{RegsItem, AssignItem, AlwaysItem, ModuleOf, FileOf}
+use Rattle.vlog_tree.specs.Tree.{CaseStmt, ArmOf, LabelsArm, DefaultArm, ArmsOf, NoArms, MoreArms, arms_of, ParameterHeadOf, ParameterOf}
+use Rattle.vlog_tree.specs.Tree.{MemoryTail, ImplicitEvent, ConnOf, InstanceOf, LocalparamsItem, InstanceItem}
 use Rattle.vlog_tree.specs.declared.expr.Ident.{Ident}
 use Rattle.vlog_tree.specs.declared.expr.Number.{Number}
 use Rattle.vlog_tree.specs.declared.expr.Sign.{Sign}
@@ -17,11 +19,16 @@ use Rattle.vlog_tree.specs.declared.expr.Unary as unary
 use Rattle.vlog_tree.specs.declared.expr.Sel as sel
 use Rattle.vlog_tree.specs.declared.stmt.Target as target
 use Rattle.vlog_tree.specs.declared.stmt.Stmt as stmt
+use Rattle.vlog_tree.specs.declared.stmt.Arm as arm
 use Rattle.vlog_tree.specs.declared.stmt.Body as body
 use Rattle.vlog_tree.specs.declared.module.Range as range
 use Rattle.vlog_tree.specs.declared.module.PortHead as head
 use Rattle.vlog_tree.specs.declared.module.Port as port
-use Rattle.vlog_tree.specs.declared.module.DrivenWire as wire
+use Rattle.vlog_tree.specs.declared.module.NamedValue as named
+use Rattle.vlog_tree.specs.declared.module.ParameterHead as parameter_head
+use Rattle.vlog_tree.specs.declared.module.Parameter as parameter
+use Rattle.vlog_tree.specs.declared.module.Conn as conn
+use Rattle.vlog_tree.specs.declared.module.Instance as instance
 use Rattle.vlog_tree.specs.declared.module.RegTail as tail
 use Rattle.vlog_tree.specs.declared.module.RegTail.TheVariants as tails
 use Rattle.vlog_tree.specs.declared.module.Reg1 as reg
@@ -97,6 +104,7 @@ abbrev mutual
   pub plain_stmt : stmt.Stmt → StmtOf ℕ
   plain_stmt (stmt.Begin' shape row) = BeginStmt (plain_stmt_row row)
   plain_stmt (stmt.If' condition b other) = IfStmt (plain_expr condition) (plain_body b) (plain_else other)
+  plain_stmt (stmt.Case' expression shape row) = CaseStmt (plain_expr expression) (plain_arm_row row)
   plain_stmt (stmt.Assign target op value) = AssignStmt (plain_target target) op (plain_expr value)
 
   pub plain_body : body.Body → BodyOf ℕ
@@ -107,6 +115,14 @@ abbrev mutual
   plain_else stmt.None' = NoElse
   plain_else (stmt.Some' b) = Else (plain_body b)
 
+  pub plain_arm : arm.Arm → ArmOf ℕ
+  plain_arm (arm.Labels labels b) = LabelsArm (map plain_expr labels) (plain_body b)
+  plain_arm (arm.Default line colon b) = DefaultArm line colon (plain_body b)
+
+  pub plain_arm_row : {m : _} → stmt.Row_of-Arm m → ArmsOf ℕ
+  plain_arm_row stmt.end_of-Arm = NoArms
+  plain_arm_row (stmt.more_of-Arm a row) = MoreArms (plain_arm a) (plain_arm_row row)
+
   pub plain_stmt_row : {m : _} → stmt.Row_of-Stmt m → StmtsOf ℕ
   plain_stmt_row stmt.end_of-Stmt = NoStmts
   plain_stmt_row (stmt.more_of-Stmt s row) = MoreStmts (plain_stmt s) (plain_stmt_row row)
@@ -114,8 +130,17 @@ abbrev mutual
 abbrev pub plain_stmts : List stmt.Stmt → StmtsOf ℕ
 plain_stmts ss = stmts_of (map plain_stmt ss)
 
+abbrev pub plain_arms : List arm.Arm → ArmsOf ℕ
+plain_arms xs = arms_of (map plain_arm xs)
+
 abbrev pub plain_range : range.Range → RangeOf ℕ
 plain_range r = record { first = plain_expr r.first; second = plain_expr r.second }
+
+abbrev pub plain_parameter_head : parameter_head.ParameterHead → ParameterHeadOf ℕ
+plain_parameter_head h = record { range = option_map plain_range h.range }
+
+abbrev pub plain_parameter : parameter.Parameter → ParameterOf ℕ
+plain_parameter p = record { head = option_map plain_parameter_head p.head; id = plain_ident p.id; value = plain_expr p.value }
 
 abbrev pub plain_head : head.PortHead → PortHeadOf ℕ
 plain_head h = record { direction = h.direction; range = option_map plain_range h.range }
@@ -123,11 +148,12 @@ plain_head h = record { direction = h.direction; range = option_map plain_range 
 abbrev pub plain_port : port.Port → PortOf ℕ
 plain_port p = record { head = option_map plain_head p.head; id = plain_ident p.id; init = option_map plain_expr p.init }
 
-abbrev pub plain_wire : wire.DrivenWire → DrivenWireOf ℕ
-plain_wire w = record { id = plain_ident w.id; value = plain_expr w.value }
+abbrev pub plain_named : named.NamedValue → NamedValueOf ℕ
+plain_named w = record { id = plain_ident w.id; value = plain_expr w.value }
 
 abbrev pub plain_tail : tail.RegTail → RegTailOf ℕ
 plain_tail (tails.Init e) = InitTail (plain_expr e)
+plain_tail (tails.Memory r) = MemoryTail (plain_range r)
 
 abbrev pub plain_reg : reg.Reg1 → Reg1Of ℕ
 plain_reg r = record { id = plain_ident r.id; tail = option_map plain_tail r.tail }
@@ -137,19 +163,38 @@ plain_assign a = record { target = plain_target a.target; value = plain_expr a.v
 
 abbrev pub plain_event : event.Event → EventOf ℕ
 plain_event (events.Posedge id) = PosedgeEvent (plain_ident id)
+plain_event (events.Implicit parens) = ImplicitEvent parens
 
 abbrev pub plain_always : always.Always → AlwaysOf ℕ
 plain_always a = record { line = a.line; event = plain_event a.event; body = plain_body a.body }
 
+abbrev pub plain_conn : conn.Conn → ConnOf ℕ
+plain_conn c = record { line = c.line; id = plain_ident c.id; value = option_map plain_expr c.value }
+
+abbrev pub plain_instance : instance.Instance → InstanceOf ℕ
+plain_instance i = record {
+  module_id = plain_ident i.module_id;
+  parameters = map plain_conn i.parameters;
+  id = plain_ident i.id;
+  ports = map plain_conn i.ports;
+}
+
 abbrev pub plain_item : item.Item → ItemOf ℕ
 plain_item (items.Wires range names) = WiresItem (option_map plain_range range) (map plain_ident names)
-plain_item (items.DrivenWires range wires) = DrivenWiresItem (option_map plain_range range) (map plain_wire wires)
+plain_item (items.DrivenWires range wires) = DrivenWiresItem (option_map plain_range range) (map plain_named wires)
 plain_item (items.Regs range regs) = RegsItem (option_map plain_range range) (map plain_reg regs)
+plain_item (items.Localparams range parameters) = LocalparamsItem (option_map plain_range range) (map plain_named parameters)
 plain_item (items.Assign assigns) = AssignItem (map plain_assign assigns)
 plain_item (items.Always a) = AlwaysItem (plain_always a)
+plain_item (items.Instance i) = InstanceItem (plain_instance i)
 
 abbrev pub plain_module : unit.Module → ModuleOf ℕ
-plain_module m = record { name = m.name; ports = map plain_port m.ports; items = map plain_item m.items }
+plain_module m = record {
+  name = m.name;
+  parameters = map plain_parameter m.parameters;
+  ports = map plain_port m.ports;
+  items = map plain_item m.items;
+}
 
 abbrev pub plain : file.File → FileOf ℕ
 plain f = record { modules = map plain_module f.modules }

@@ -12,9 +12,11 @@ use Rattle.vlog_tree.specs.Tree.{IdentOf, NumberOf, ExprOf, UnaryExpr, BinaryExp
 use Rattle.vlog_tree.specs.Tree.{ConcatPrim, RefOf, RefWith, IndexOf, NoIndex, Index, LastOf, NoLast, Last, SelOf, IndexSel, PartSel}
 use Rattle.vlog_tree.specs.Tree.{IndexedSel, ExprsOf, NoExprs, MoreExprs, TargetOf, RefTarget, ConcatTarget, TargetsOf, NoTargets}
 use Rattle.vlog_tree.specs.Tree.{MoreTargets, StmtOf, BeginStmt, IfStmt, AssignStmt, BodyOf, StmtBody, EmptyBody, ElseOf, NoElse, Else}
-use Rattle.vlog_tree.specs.Tree.{StmtsOf, NoStmts, MoreStmts, RangeOf, PortHeadOf, PortOf, DrivenWireOf, RegTailOf, InitTail, Reg1Of}
+use Rattle.vlog_tree.specs.Tree.{StmtsOf, NoStmts, MoreStmts, RangeOf, PortHeadOf, PortOf, NamedValueOf, RegTailOf, InitTail, Reg1Of}
 use Rattle.vlog_tree.specs.Tree.{AssignOf, EventOf, PosedgeEvent, AlwaysOf, ItemOf, WiresItem, DrivenWiresItem, RegsItem, AssignItem}
 use Rattle.vlog_tree.specs.Tree.{AlwaysItem, ModuleOf, FileOf}
+use Rattle.vlog_tree.specs.Tree.{CaseStmt, ArmOf, LabelsArm, DefaultArm, ArmsOf, NoArms, MoreArms, ParameterHeadOf, ParameterOf}
+use Rattle.vlog_tree.specs.Tree.{MemoryTail, ImplicitEvent, ConnOf, InstanceOf, LocalparamsItem, InstanceItem}
 
 -- a name is an identifier and no reserved word
 abbrev pub IsGoodName : List ℕ → Type 0
@@ -116,6 +118,7 @@ abbrev mutual
   pub is_open : {A : Type 0} → StmtOf A → Bool
   is_open (BeginStmt ss) = false
   is_open (IfStmt condition b other) = is_open_else other
+  is_open (CaseStmt e arms) = false
   is_open (AssignStmt target op value) = false
 
   pub is_open_body : {A : Type 0} → BodyOf A → Bool
@@ -131,10 +134,16 @@ abbrev pub IsShut : {A : Type 0} → BodyOf A → ElseOf A → Type 0
 IsShut b NoElse = Unit {0}
 IsShut b (Else other) = is_open_body b ≡ false
 
+-- at least one, and each is good
+abbrev pub AreSomeGood : {X : Type 0} → (X → Type 0) → List X → Type 0
+AreSomeGood IsGood [] = ⊥
+AreSomeGood IsGood (x ∷ xs) = IsGood x × AllByRecursion IsGood xs
+
 abbrev mutual
   pub IsGoodStmt : {A : Type 0} → StmtOf A → Type 0
   IsGoodStmt (BeginStmt ss) = AreGoodStmts ss
   IsGoodStmt (IfStmt condition b other) = IsGoodExpr condition × IsGoodBody b × IsShut b other × IsGoodElse other
+  IsGoodStmt (CaseStmt e arms) = IsGoodExpr e × AreGoodArms arms
   IsGoodStmt (AssignStmt target op value) = IsGoodTarget target × IsGoodExpr value
 
   pub IsGoodBody : {A : Type 0} → BodyOf A → Type 0
@@ -144,6 +153,19 @@ abbrev mutual
   pub IsGoodElse : {A : Type 0} → ElseOf A → Type 0
   IsGoodElse NoElse = Unit {0}
   IsGoodElse (Else b) = IsGoodBody b
+
+  pub IsGoodArm : {A : Type 0} → ArmOf A → Type 0
+  IsGoodArm (LabelsArm labels b) = AreSomeGood IsGoodExpr labels × IsGoodBody b
+  IsGoodArm (DefaultArm line colon b) = IsGoodBody b
+
+  -- at least one
+  pub AreGoodArms : {A : Type 0} → ArmsOf A → Type 0
+  AreGoodArms NoArms = ⊥
+  AreGoodArms (MoreArms a more) = IsGoodArm a × AreAllGoodArms more
+
+  pub AreAllGoodArms : {A : Type 0} → ArmsOf A → Type 0
+  AreAllGoodArms NoArms = Unit {0}
+  AreAllGoodArms (MoreArms a more) = IsGoodArm a × AreAllGoodArms more
 
   pub AreGoodStmts : {A : Type 0} → StmtsOf A → Type 0
   AreGoodStmts NoStmts = Unit {0}
@@ -155,6 +177,17 @@ IsGoodOption IsGood (Some x) = IsGood x
 
 abbrev pub IsGoodRange : {A : Type 0} → RangeOf A → Type 0
 IsGoodRange r = IsGoodExpr r.first × IsGoodExpr r.second
+
+abbrev pub IsGoodParameterHead : {A : Type 0} → ParameterHeadOf A → Type 0
+IsGoodParameterHead h = IsGoodOption IsGoodRange h.range
+
+abbrev pub IsGoodParameter : {A : Type 0} → ParameterOf A → Type 0
+IsGoodParameter p = IsGoodOption IsGoodParameterHead p.head × IsGoodName p.id.name × IsGoodExpr p.value
+
+-- the first parameter has the word `parameter`
+abbrev pub IsFirstHeaded : {A : Type 0} → List (ParameterOf A) → Type 0
+IsFirstHeaded [] = Unit {0}
+IsFirstHeaded (p ∷ ps) = p.head ≢ None
 
 abbrev pub IsGoodHead : {A : Type 0} → PortHeadOf A → Type 0
 IsGoodHead h = IsGoodOption IsGoodRange h.range
@@ -170,11 +203,12 @@ IsFirstDirected (p ∷ ps) = p.head ≢ None
 abbrev pub IsGoodIdent : {A : Type 0} → IdentOf A → Type 0
 IsGoodIdent id = IsGoodName id.name
 
-abbrev pub IsGoodWire : {A : Type 0} → DrivenWireOf A → Type 0
-IsGoodWire w = IsGoodName w.id.name × IsGoodExpr w.value
+abbrev pub IsGoodNamed : {A : Type 0} → NamedValueOf A → Type 0
+IsGoodNamed w = IsGoodName w.id.name × IsGoodExpr w.value
 
 abbrev pub IsGoodTail : {A : Type 0} → RegTailOf A → Type 0
 IsGoodTail (InitTail e) = IsGoodExpr e
+IsGoodTail (MemoryTail r) = IsGoodRange r
 
 abbrev pub IsGoodReg : {A : Type 0} → Reg1Of A → Type 0
 IsGoodReg r = IsGoodName r.id.name × IsGoodOption IsGoodTail r.tail
@@ -184,24 +218,30 @@ IsGoodAssign a = IsGoodTarget a.target × IsGoodExpr a.value
 
 abbrev pub IsGoodEvent : {A : Type 0} → EventOf A → Type 0
 IsGoodEvent (PosedgeEvent id) = IsGoodName id.name
+IsGoodEvent (ImplicitEvent parens) = Unit {0}
+
+abbrev pub IsGoodConn : {A : Type 0} → ConnOf A → Type 0
+IsGoodConn c = IsGoodName c.id.name × IsGoodOption IsGoodExpr c.value
+
+abbrev pub IsGoodInstance : {A : Type 0} → InstanceOf A → Type 0
+IsGoodInstance i = IsGoodName i.module_id.name × AllByRecursion IsGoodConn i.parameters × IsGoodName i.id.name
+    × AllByRecursion IsGoodConn i.ports
 
 abbrev pub IsGoodAlways : {A : Type 0} → AlwaysOf A → Type 0
 IsGoodAlways a = IsGoodEvent a.event × IsGoodBody a.body
 
--- at least one, and each is good
-abbrev pub AreSomeGood : {X : Type 0} → (X → Type 0) → List X → Type 0
-AreSomeGood IsGood [] = ⊥
-AreSomeGood IsGood (x ∷ xs) = IsGood x × AllByRecursion IsGood xs
-
 abbrev pub IsGoodItem : {A : Type 0} → ItemOf A → Type 0
 IsGoodItem (WiresItem range ids) = IsGoodOption IsGoodRange range × AreSomeGood IsGoodIdent ids
-IsGoodItem (DrivenWiresItem range wires) = IsGoodOption IsGoodRange range × AreSomeGood IsGoodWire wires
+IsGoodItem (DrivenWiresItem range wires) = IsGoodOption IsGoodRange range × AreSomeGood IsGoodNamed wires
 IsGoodItem (RegsItem range regs) = IsGoodOption IsGoodRange range × AreSomeGood IsGoodReg regs
+IsGoodItem (LocalparamsItem range parameters) = IsGoodOption IsGoodRange range × AreSomeGood IsGoodNamed parameters
 IsGoodItem (AssignItem assigns) = AreSomeGood IsGoodAssign assigns
 IsGoodItem (AlwaysItem a) = IsGoodAlways a
+IsGoodItem (InstanceItem i) = IsGoodInstance i
 
 abbrev pub IsGoodModule : {A : Type 0} → ModuleOf A → Type 0
-IsGoodModule m = IsGoodName m.name × IsFirstDirected m.ports × AllByRecursion IsGoodPort m.ports × AllByRecursion IsGoodItem m.items
+IsGoodModule m = IsGoodName m.name × IsFirstHeaded m.parameters × AllByRecursion IsGoodParameter m.parameters
+    × IsFirstDirected m.ports × AllByRecursion IsGoodPort m.ports × AllByRecursion IsGoodItem m.items
 
 -- *Trees*: good shape
 abbrev pub IsGood : {A : Type 0} → FileOf A → Type 0

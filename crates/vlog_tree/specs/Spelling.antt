@@ -1,5 +1,5 @@
 -- `toks`: the tokens of a tree, rule by rule of the grammar. Lines don't count.
-use Rattle.std.specs.Prelude.{true, false, List, [], ◌∷◌, ◌++◌, Option, None, Some}
+use Rattle.std.specs.Prelude.{Bool, true, false, List, [], ◌∷◌, ◌++◌, Option, None, Some}
 use Rattle.vlog_lex.specs.declared.token.Token.{Token}
 use Rattle.vlog_tree.specs.declared.expr.UnaryOp.{UnaryOp}
 use Rattle.vlog_tree.specs.declared.expr.UnaryOp.TheVariants as unary
@@ -17,9 +17,11 @@ use Rattle.vlog_tree.specs.Tree.{IdentOf, NumberOf, SignOf, ExprOf, UnaryExpr, B
 use Rattle.vlog_tree.specs.Tree.{ParenPrim, ConcatPrim, RefOf, RefWith, IndexOf, NoIndex, Index, LastOf, NoLast, Last, SelOf, IndexSel}
 use Rattle.vlog_tree.specs.Tree.{PartSel, IndexedSel, ExprsOf, NoExprs, MoreExprs, TargetOf, RefTarget, ConcatTarget, TargetsOf, NoTargets}
 use Rattle.vlog_tree.specs.Tree.{MoreTargets, StmtOf, BeginStmt, IfStmt, AssignStmt, BodyOf, StmtBody, EmptyBody, ElseOf, NoElse, Else}
-use Rattle.vlog_tree.specs.Tree.{StmtsOf, NoStmts, MoreStmts, RangeOf, PortHeadOf, PortOf, DrivenWireOf, RegTailOf, InitTail, Reg1Of}
+use Rattle.vlog_tree.specs.Tree.{StmtsOf, NoStmts, MoreStmts, RangeOf, PortHeadOf, PortOf, NamedValueOf, RegTailOf, InitTail, Reg1Of}
 use Rattle.vlog_tree.specs.Tree.{AssignOf, EventOf, PosedgeEvent, AlwaysOf, ItemOf, WiresItem, DrivenWiresItem, RegsItem, AssignItem}
 use Rattle.vlog_tree.specs.Tree.{AlwaysItem, ModuleOf, FileOf}
+use Rattle.vlog_tree.specs.Tree.{CaseStmt, ArmOf, LabelsArm, DefaultArm, ArmsOf, NoArms, MoreArms, ParameterHeadOf, ParameterOf}
+use Rattle.vlog_tree.specs.Tree.{MemoryTail, ImplicitEvent, ConnOf, InstanceOf, LocalparamsItem, InstanceItem}
 
 abbrev pub unary_terminal : UnaryOp → Terminal
 unary_terminal unary.Plus = t.Plus
@@ -126,12 +128,30 @@ abbrev mutual
   more_targets_words NoTargets = []
   more_targets_words (MoreTargets x ts) = Fixed t.Comma ∷ (target_words x ++ more_targets_words ts)
 
+-- a comma before each
+abbrev pub after_commas : {X : Type 0} → (X → List Word) → List X → List Word
+after_commas words [] = []
+after_commas words (x ∷ xs) = Fixed t.Comma ∷ (words x ++ after_commas words xs)
+
+-- commas between them
+abbrev pub with_commas : {X : Type 0} → (X → List Word) → List X → List Word
+with_commas words [] = []
+with_commas words (x ∷ xs) = words x ++ after_commas words xs
+
+-- [ ":" ]
+abbrev pub colon_words : Bool → List Word
+colon_words false = []
+colon_words true = Fixed t.Colon ∷ []
+
 abbrev mutual
-  -- "begin" { stmt } "end" | "if" "(" expr ")" body [ "else" body ] | target ( "=" | "<=" ) expr ";"
+  -- "begin" { stmt } "end" | "if" "(" expr ")" body [ "else" body ] | "case" "(" expr ")" arm { arm } "endcase"
+  -- | target ( "=" | "<=" ) expr ";"
   pub stmt_words : {A : Type 0} → StmtOf A → List Word
   stmt_words (BeginStmt ss) = Fixed t.Begin ∷ (stmts_words ss ++ Fixed t.End ∷ [])
   stmt_words (IfStmt condition b other) = Fixed t.If ∷ Fixed t.ParenOpen
       ∷ (expr_words condition ++ Fixed t.ParenClose ∷ (body_words b ++ else_words other))
+  stmt_words (CaseStmt e arms) = Fixed t.Case ∷ Fixed t.ParenOpen
+      ∷ (expr_words e ++ Fixed t.ParenClose ∷ (arms_words arms ++ Fixed t.Endcase ∷ []))
   stmt_words (AssignStmt target op value) = target_words target ++ Fixed (assign_terminal op) ∷ (expr_words value ++ Fixed t.Semicolon ∷ [])
 
   -- stmt | ";"
@@ -143,19 +163,18 @@ abbrev mutual
   else_words NoElse = []
   else_words (Else b) = Fixed t.Else ∷ body_words b
 
+  -- expr { "," expr } ":" body | "default" [":"] body
+  pub arm_words : {A : Type 0} → ArmOf A → List Word
+  arm_words (LabelsArm labels b) = with_commas expr_words labels ++ Fixed t.Colon ∷ body_words b
+  arm_words (DefaultArm line colon b) = Fixed t.Default ∷ (colon_words colon ++ body_words b)
+
+  pub arms_words : {A : Type 0} → ArmsOf A → List Word
+  arms_words NoArms = []
+  arms_words (MoreArms a more) = arm_words a ++ arms_words more
+
   pub stmts_words : {A : Type 0} → StmtsOf A → List Word
   stmts_words NoStmts = []
   stmts_words (MoreStmts s ss) = stmt_words s ++ stmts_words ss
-
--- a comma before each
-abbrev pub after_commas : {X : Type 0} → (X → List Word) → List X → List Word
-after_commas words [] = []
-after_commas words (x ∷ xs) = Fixed t.Comma ∷ (words x ++ after_commas words xs)
-
--- commas between them
-abbrev pub with_commas : {X : Type 0} → (X → List Word) → List X → List Word
-with_commas words [] = []
-with_commas words (x ∷ xs) = words x ++ after_commas words xs
 
 -- one after the other
 abbrev pub in_row : {X : Type 0} → (X → List Word) → List X → List Word
@@ -185,18 +204,32 @@ head_words h = direction_words h.direction ++ optional range_words h.range
 abbrev pub init_words : {A : Type 0} → ExprOf A → List Word
 init_words e = Fixed t.Equals ∷ expr_words e
 
+-- "parameter" [range]
+abbrev pub parameter_head_words : {A : Type 0} → ParameterHeadOf A → List Word
+parameter_head_words h = Fixed t.Parameter ∷ optional range_words h.range
+
+-- [ "parameter" [range] ] id "=" expr
+abbrev pub parameter_words : {A : Type 0} → ParameterOf A → List Word
+parameter_words p = optional parameter_head_words p.head ++ (ident_words p.id ++ init_words p.value)
+
+-- [ "#" "(" x { "," x } ")" ]
+abbrev pub hash_words : {X : Type 0} → (X → List Word) → List X → List Word
+hash_words words [] = []
+hash_words words (x ∷ xs) = Fixed t.Hash ∷ Fixed t.ParenOpen ∷ (with_commas words (x ∷ xs) ++ Fixed t.ParenClose ∷ [])
+
 -- [ ( "input" ["wire"] | "output" ["wire"|"reg"] ) [range] ] id [ "=" expr ]
 abbrev pub port_words : {A : Type 0} → PortOf A → List Word
 port_words p = optional head_words p.head ++ (ident_words p.id ++ optional init_words p.init)
 
 -- id "=" expr
-abbrev pub wire_words : {A : Type 0} → DrivenWireOf A → List Word
-wire_words w = ident_words w.id ++ init_words w.value
+abbrev pub named_words : {A : Type 0} → NamedValueOf A → List Word
+named_words w = ident_words w.id ++ init_words w.value
 
 abbrev pub tail_words : {A : Type 0} → RegTailOf A → List Word
 tail_words (InitTail e) = init_words e
+tail_words (MemoryTail r) = range_words r
 
--- id [ "=" expr ]
+-- id [ "=" expr | range ]
 abbrev pub reg_words : {A : Type 0} → Reg1Of A → List Word
 reg_words r = ident_words r.id ++ optional tail_words r.tail
 
@@ -204,27 +237,42 @@ reg_words r = ident_words r.id ++ optional tail_words r.tail
 abbrev pub assign_words : {A : Type 0} → AssignOf A → List Word
 assign_words a = target_words a.target ++ init_words a.value
 
--- "@" "(" "posedge" id ")"
+-- "@" ( "(" "posedge" id ")" | "*" | "(" "*" ")" )
 abbrev pub event_words : {A : Type 0} → EventOf A → List Word
 event_words (PosedgeEvent id) = Fixed t.At ∷ Fixed t.ParenOpen ∷ Fixed t.Posedge ∷ (ident_words id ++ Fixed t.ParenClose ∷ [])
+event_words (ImplicitEvent false) = Fixed t.At ∷ Fixed t.Star ∷ []
+event_words (ImplicitEvent true) = Fixed t.At ∷ Fixed t.ParenOpen ∷ Fixed t.Star ∷ Fixed t.ParenClose ∷ []
 
 -- "always" .. body
 abbrev pub always_words : {A : Type 0} → AlwaysOf A → List Word
 always_words a = Fixed t.Always ∷ (event_words a.event ++ body_words a.body)
 
+-- "." id "(" [expr] ")"
+abbrev pub conn_words : {A : Type 0} → ConnOf A → List Word
+conn_words c = Fixed t.Dot ∷ (ident_words c.id ++ Fixed t.ParenOpen ∷ (optional expr_words c.value ++ Fixed t.ParenClose ∷ []))
+
+-- id [ "#" "(" conn { "," conn } ")" ] id "(" [ conn { "," conn } ] ")" ";"
+abbrev pub instance_words : {A : Type 0} → InstanceOf A → List Word
+instance_words i =
+    ident_words i.module_id ++ (hash_words conn_words i.parameters ++ (ident_words i.id ++ Fixed t.ParenOpen
+    ∷ (with_commas conn_words i.ports ++ Fixed t.ParenClose ∷ Fixed t.Semicolon ∷ [])))
+
 abbrev pub item_words : {A : Type 0} → ItemOf A → List Word
 item_words (WiresItem range ids) = Fixed t.Wire ∷ (optional range_words range ++ (with_commas ident_words ids ++ Fixed t.Semicolon ∷ []))
 item_words (DrivenWiresItem range wires) = Fixed t.Wire ∷ (optional range_words range
-    ++ (with_commas wire_words wires ++ Fixed t.Semicolon ∷ []))
+    ++ (with_commas named_words wires ++ Fixed t.Semicolon ∷ []))
 item_words (RegsItem range regs) = Fixed t.Reg ∷ (optional range_words range ++ (with_commas reg_words regs ++ Fixed t.Semicolon ∷ []))
+item_words (LocalparamsItem range parameters) = Fixed t.Localparam ∷ (optional range_words range
+    ++ (with_commas named_words parameters ++ Fixed t.Semicolon ∷ []))
 item_words (AssignItem assigns) = Fixed t.Assign ∷ (with_commas assign_words assigns ++ Fixed t.Semicolon ∷ [])
 item_words (AlwaysItem a) = always_words a
+item_words (InstanceItem i) = instance_words i
 
--- "module" id "(" [ port { "," port } ] ")" ";" { item } "endmodule"
+-- "module" id [ "#" "(" params ")" ] "(" [ port { "," port } ] ")" ";" { item } "endmodule"
 abbrev pub module_words : {A : Type 0} → ModuleOf A → List Word
 module_words m =
-    Fixed t.Module ∷ NameWord m.name ∷ Fixed t.ParenOpen ∷ (with_commas port_words m.ports ++ Fixed t.ParenClose ∷ Fixed t.Semicolon
-    ∷ (in_row item_words m.items ++ Fixed t.Endmodule ∷ []))
+    Fixed t.Module ∷ NameWord m.name ∷ (hash_words parameter_words m.parameters ++ Fixed t.ParenOpen
+    ∷ (with_commas port_words m.ports ++ Fixed t.ParenClose ∷ Fixed t.Semicolon ∷ (in_row item_words m.items ++ Fixed t.Endmodule ∷ [])))
 
 -- module { module }
 abbrev pub file_words : {A : Type 0} → FileOf A → List Word

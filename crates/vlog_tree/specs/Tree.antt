@@ -1,5 +1,5 @@
 -- The trees of the grammar as plain data. A is the type of what stands in the place of a line.
-use Rattle.std.specs.Prelude.{ℕ, List, [], ◌∷◌, Option}
+use Rattle.std.specs.Prelude.{ℕ, Bool, List, [], ◌∷◌, Option}
 use Rattle.vlog_tree.specs.declared.expr.NumberKind.{NumberKind}
 use Rattle.vlog_tree.specs.declared.expr.UnaryOp.{UnaryOp}
 use Rattle.vlog_tree.specs.declared.expr.BinaryOp.{BinaryOp}
@@ -83,7 +83,18 @@ mutual
   pub data StmtOf (A : Type 0) : Type 0 where
     BeginStmt : StmtsOf A → StmtOf A
     IfStmt : ExprOf A → BodyOf A → ElseOf A → StmtOf A
+    CaseStmt : ExprOf A → ArmsOf A → StmtOf A
     AssignStmt : TargetOf A → AssignOp → ExprOf A → StmtOf A
+
+  -- an arm of a `case`
+  pub data ArmOf (A : Type 0) : Type 0 where
+    LabelsArm : List (ExprOf A) → BodyOf A → ArmOf A
+    -- the line of `default`, and whether a colon stands behind it
+    DefaultArm : A → Bool → BodyOf A → ArmOf A
+
+  pub data ArmsOf (A : Type 0) : Type 0 where
+    NoArms : ArmsOf A
+    MoreArms : ArmOf A → ArmsOf A → ArmsOf A
 
   pub data BodyOf (A : Type 0) : Type 0 where
     StmtBody : StmtOf A → BodyOf A
@@ -101,9 +112,22 @@ abbrev pub stmts_of : {A : Type 0} → List (StmtOf A) → StmtsOf A
 stmts_of [] = NoStmts
 stmts_of (s ∷ ss) = MoreStmts s (stmts_of ss)
 
+abbrev pub arms_of : {A : Type 0} → List (ArmOf A) → ArmsOf A
+arms_of [] = NoArms
+arms_of (a ∷ more) = MoreArms a (arms_of more)
+
 pub record RangeOf (A : Type 0) : Type 0 where
   pub first : ExprOf A
   pub second : ExprOf A
+
+-- the word `parameter`, and the range behind it
+pub record ParameterHeadOf (A : Type 0) : Type 0 where
+  pub range : Option (RangeOf A)
+
+pub record ParameterOf (A : Type 0) : Type 0 where
+  pub head : Option (ParameterHeadOf A)
+  pub id : IdentOf A
+  pub value : ExprOf A
 
 pub record PortHeadOf (A : Type 0) : Type 0 where
   pub direction : Direction
@@ -114,14 +138,15 @@ pub record PortOf (A : Type 0) : Type 0 where
   pub id : IdentOf A
   pub init : Option (ExprOf A)
 
--- `id = value` of a `wire`
-pub record DrivenWireOf (A : Type 0) : Type 0 where
+-- `id = value` of a `wire` or a `localparam`
+pub record NamedValueOf (A : Type 0) : Type 0 where
   pub id : IdentOf A
   pub value : ExprOf A
 
 -- what stands after the name of a `reg`
 pub data RegTailOf (A : Type 0) : Type 0 where
   InitTail : ExprOf A → RegTailOf A
+  MemoryTail : RangeOf A → RegTailOf A
 
 pub record Reg1Of (A : Type 0) : Type 0 where
   pub id : IdentOf A
@@ -135,6 +160,8 @@ pub record AssignOf (A : Type 0) : Type 0 where
 -- what an `always` waits for
 pub data EventOf (A : Type 0) : Type 0 where
   PosedgeEvent : IdentOf A → EventOf A
+  -- `*`, and whether it stands in parentheses
+  ImplicitEvent : Bool → EventOf A
 
 -- the line of `always`
 pub record AlwaysOf (A : Type 0) : Type 0 where
@@ -142,15 +169,30 @@ pub record AlwaysOf (A : Type 0) : Type 0 where
   pub event : EventOf A
   pub body : BodyOf A
 
+-- `.id(value)`, and the line of `.`
+pub record ConnOf (A : Type 0) : Type 0 where
+  pub line : A
+  pub id : IdentOf A
+  pub value : Option (ExprOf A)
+
+pub record InstanceOf (A : Type 0) : Type 0 where
+  pub module_id : IdentOf A
+  pub parameters : List (ConnOf A)
+  pub id : IdentOf A
+  pub ports : List (ConnOf A)
+
 pub data ItemOf (A : Type 0) : Type 0 where
   WiresItem : Option (RangeOf A) → List (IdentOf A) → ItemOf A
-  DrivenWiresItem : Option (RangeOf A) → List (DrivenWireOf A) → ItemOf A
+  DrivenWiresItem : Option (RangeOf A) → List (NamedValueOf A) → ItemOf A
   RegsItem : Option (RangeOf A) → List (Reg1Of A) → ItemOf A
+  LocalparamsItem : Option (RangeOf A) → List (NamedValueOf A) → ItemOf A
   AssignItem : List (AssignOf A) → ItemOf A
   AlwaysItem : AlwaysOf A → ItemOf A
+  InstanceItem : InstanceOf A → ItemOf A
 
 pub record ModuleOf (A : Type 0) : Type 0 where
   pub name : List ℕ
+  pub parameters : List (ParameterOf A)
   pub ports : List (PortOf A)
   pub items : List (ItemOf A)
 

@@ -6,9 +6,10 @@ use Rattle.vlog_lex.specs.declared.token.TokenKind.TheVariants.{Identifier, Rese
 use Rattle.vlog_tree.specs.declared.expr.NumberKind.{NumberKind}
 use Rattle.vlog_tree.specs.declared.expr.NumberKind.TheVariants as number
 use Rattle.vlog_tree.specs.declared.terminal.Terminal.{Terminal}
-use Rattle.vlog_tree.specs.declared.terminal.Terminal.TheVariants.{Always, Assign, Begin, Else, End, Endmodule, If, Input, Module, Output}
+use Rattle.vlog_tree.specs.declared.terminal.Terminal.TheVariants.{Always, Assign, Begin, Case, Default, Else, End, Endcase, Endmodule}
+use Rattle.vlog_tree.specs.declared.terminal.Terminal.TheVariants.{If, Input, Localparam, Module, Output, Parameter}
 use Rattle.vlog_tree.specs.declared.terminal.Terminal.TheVariants.{Posedge, Reg, Wire, ParenOpen, ParenClose, BracketOpen, BracketClose}
-use Rattle.vlog_tree.specs.declared.terminal.Terminal.TheVariants.{BraceOpen, BraceClose, Semicolon, Comma, Colon, Question, At, Equals}
+use Rattle.vlog_tree.specs.declared.terminal.Terminal.TheVariants.{BraceOpen, BraceClose, Semicolon, Comma, Dot, Colon, Question, Hash, At, Equals}
 use Rattle.vlog_tree.specs.declared.terminal.Terminal.TheVariants.{Plus, Minus, Star, Bang, Tilde, Ampersand, Bar, Caret, Less, Greater}
 use Rattle.vlog_tree.specs.declared.terminal.Terminal.TheVariants.{LessEquals, GreaterEquals, EqualsEquals, BangEquals, AmpersandAmpersand}
 use Rattle.vlog_tree.specs.declared.terminal.Terminal.TheVariants.{BarBar, LessLess, GreaterGreater, LessLessLess, GreaterGreaterGreater}
@@ -18,13 +19,18 @@ abbrev pub terminal_kind : Terminal → TokenKind
 terminal_kind Always = Reserved
 terminal_kind Assign = Reserved
 terminal_kind Begin = Reserved
+terminal_kind Case = Reserved
+terminal_kind Default = Reserved
 terminal_kind Else = Reserved
 terminal_kind End = Reserved
+terminal_kind Endcase = Reserved
 terminal_kind Endmodule = Reserved
 terminal_kind If = Reserved
 terminal_kind Input = Reserved
+terminal_kind Localparam = Reserved
 terminal_kind Module = Reserved
 terminal_kind Output = Reserved
+terminal_kind Parameter = Reserved
 terminal_kind Posedge = Reserved
 terminal_kind Reg = Reserved
 terminal_kind Wire = Reserved
@@ -34,13 +40,18 @@ abbrev pub terminal_text : Terminal → List ℕ
 terminal_text Always = codes "always"
 terminal_text Assign = codes "assign"
 terminal_text Begin = codes "begin"
+terminal_text Case = codes "case"
+terminal_text Default = codes "default"
 terminal_text Else = codes "else"
 terminal_text End = codes "end"
+terminal_text Endcase = codes "endcase"
 terminal_text Endmodule = codes "endmodule"
 terminal_text If = codes "if"
 terminal_text Input = codes "input"
+terminal_text Localparam = codes "localparam"
 terminal_text Module = codes "module"
 terminal_text Output = codes "output"
+terminal_text Parameter = codes "parameter"
 terminal_text Posedge = codes "posedge"
 terminal_text Reg = codes "reg"
 terminal_text Wire = codes "wire"
@@ -52,8 +63,10 @@ terminal_text BraceOpen = codes "{"
 terminal_text BraceClose = codes "}"
 terminal_text Semicolon = codes ";"
 terminal_text Comma = codes ","
+terminal_text Dot = codes "."
 terminal_text Colon = codes ":"
 terminal_text Question = codes "?"
+terminal_text Hash = codes "#"
 terminal_text At = codes "@"
 terminal_text Equals = codes "="
 terminal_text Plus = codes "+"

@@ -2,7 +2,7 @@
 //!
 //! There is one type per rule of the grammar, with its parts in their order; parentheses and optional
 //! words are kept. A line stands beside the token whose line it is: names, numbers, unary operators,
-//! opening parentheses and braces, and `always`.
+//! opening parentheses and braces, `default`, `always`, and a connection's `.`.
 //!
 //! The definitions stand in `specs/`: `Tree` (the trees as plain data, with a type in the place of
 //! lines), `Plain` (a tree of the code as such), `Spelling` (the tokens of a tree), `Shape` (good
@@ -23,12 +23,15 @@ pub use expr::{
     UnaryOp,
 };
 pub use lines::{expr_line, target_line};
-pub use lists::{begin, concat, concat_target, see_begin, see_concat, see_concat_target};
+pub use lists::{
+    begin, case, concat, concat_target, see_begin, see_case, see_concat, see_concat_target,
+};
 pub use module::{
-    Always, Assign, Assigns, Direction, DrivenWire, DrivenWires, Event, File, Idents, Item, Module,
-    Modules, NetKind, Port, PortHead, Ports, Range, Reg1, Reg1s, RegTail,
+    Always, Assign, Assigns, Conn, Conns, Direction, Event, File, Idents, Instance, Item, Module,
+    Modules, NamedValue, NamedValues, NetKind, Parameter, ParameterHead, Parameters, Port,
+    PortHead, Ports, Range, Reg1, Reg1s, RegTail,
 };
 pub use shape::{good_shape, level_of};
 pub use spelling::tokens_of;
-pub use stmt::{AssignOp, Body, Stmt, Stmts, Target, Targets};
+pub use stmt::{Arm, Arms, AssignOp, Body, Stmt, Stmts, Target, Targets};
 pub use terminal::Terminal;

@@ -1,14 +1,14 @@
 //! Trees made of lists of trees.
 
 ghost use Rattle.std.specs.Prelude.{◌≡◌};
-ghost use Rattle.vlog_tree.specs.Tree.{ConcatPrim, ConcatTarget, BeginStmt};
-ghost use Rattle.vlog_tree.specs.Plain.{plain_prim, plain_exprs, plain_target, plain_targets, plain_stmt, plain_stmts};
+ghost use Rattle.vlog_tree.specs.Tree.{ConcatPrim, ConcatTarget, BeginStmt, CaseStmt};
+ghost use Rattle.vlog_tree.specs.Plain.{plain_expr, plain_prim, plain_exprs, plain_target, plain_targets, plain_stmt, plain_stmts, plain_arms};
 ghost use Rattle.vlog_tree.specs.declared.expr.Primary as declared_prim;
 ghost use Rattle.vlog_tree.specs.declared.stmt.Target as declared_target;
 ghost use Rattle.vlog_tree.specs.declared.stmt.Stmt as declared_stmt;
 
-use crate::expr::{Exprs, Primary};
-use crate::stmt::{Stmt, Stmts, Target, Targets};
+use crate::expr::{Expr, Exprs, Primary};
+use crate::stmt::{Arms, Stmt, Stmts, Target, Targets};
 
 /// The operand `{part, ..}`, whose `{` stands on `line`.
 pub fn concat(line: u32, parts: Exprs) -> Primary
@@ -31,6 +31,13 @@ pub fn begin(stmts: Stmts) -> Stmt
     Stmt::Begin(stmts)
 }
 
+/// The statement `case (expression) arm .. endcase`.
+pub fn case(expression: Expr, arms: Arms) -> Stmt
+    ensures { plain_stmt result ≡ CaseStmt (plain_expr expression) (plain_arms arms) }
+{
+    Stmt::Case { expression, arms }
+}
+
 /// What `Primary::Concat` is as plain data, for proofs of an arm that matches it.
 pub fn see_concat(line: u32, parts: &Exprs)
     ensures { (p : declared_prim.Primary) → p ≡ declared_prim.Concat line parts.now → plain_prim p
@@ -46,4 +53,10 @@ pub fn see_concat_target(line: u32, parts: &Targets)
 /// What `Stmt::Begin` is as plain data, for proofs of an arm that matches it.
 pub fn see_begin(stmts: &Stmts)
     ensures { (s : declared_stmt.Stmt) → s ≡ declared_stmt.Begin stmts.now → plain_stmt s ≡ BeginStmt (plain_stmts stmts.now) }
+{}
+
+/// What `Stmt::Case` is as plain data, for proofs of an arm that matches it.
+pub fn see_case(expression: &Expr, arms: &Arms)
+    ensures { (s : declared_stmt.Stmt) → s ≡ declared_stmt.Case expression.now arms.now → plain_stmt s
+        ≡ CaseStmt (plain_expr expression.now) (plain_arms arms.now) }
 {}

@@ -17,8 +17,28 @@ pub type Modules = Items<Module>;
 #[derive(Debug, Drop)]
 pub struct Module {
     pub name: Name,
+    /// What `#(..)` declares; empty where it isn't there.
+    pub parameters: Parameters,
     pub ports: Ports,
     pub items: Items<Item>,
+}
+
+/// A list of parameters.
+pub type Parameters = Items<Parameter>;
+
+/// A parameter of a module's header: `parameter range id = value`.
+#[derive(Debug, Drop)]
+pub struct Parameter {
+    /// The word `parameter` and the range. A parameter without takes the range of the one before.
+    pub head: Option<ParameterHead>,
+    pub id: Ident,
+    pub value: Expr,
+}
+
+/// The word `parameter`, and the range behind it.
+#[derive(Debug, Drop)]
+pub struct ParameterHead {
+    pub range: Option<Range>,
 }
 
 /// A list of ports.
@@ -75,32 +95,38 @@ pub enum Item {
     /// `wire range name = value, ..;`
     DrivenWires {
         range: Option<Range>,
-        wires: DrivenWires,
+        wires: NamedValues,
     },
     /// `reg range reg, ..;`
     Regs {
         range: Option<Range>,
         regs: Reg1s,
     },
+    /// `localparam range name = value, ..;`
+    Localparams {
+        range: Option<Range>,
+        parameters: NamedValues,
+    },
     /// `assign target = value, ..;`
     Assign {
         assigns: Assigns,
     },
     Always(Always),
+    Instance(Instance),
 }
 
 /// A list of declared names.
 pub type Idents = Items<Ident>;
 
-/// A declared wire with its value: `name = value`.
+/// A declared wire or local parameter with its value: `name = value`.
 #[derive(Debug, Drop)]
-pub struct DrivenWire {
+pub struct NamedValue {
     pub id: Ident,
     pub value: Expr,
 }
 
-/// A list of declared wires with their values.
-pub type DrivenWires = Items<DrivenWire>;
+/// A list of declared names with their values.
+pub type NamedValues = Items<NamedValue>;
 
 /// A declared register.
 #[derive(Debug, Drop)]
@@ -114,6 +140,8 @@ pub struct Reg1 {
 pub enum RegTail {
     /// `= value`
     Init(Expr),
+    /// The range of a memory's words.
+    Memory(Range),
 }
 
 /// A list of declared registers.
@@ -143,4 +171,28 @@ pub struct Always {
 pub enum Event {
     /// `@(posedge clock)`
     Posedge(Ident),
+    /// All that the block reads (IEEE 1364-2005, 9.7.5): `@*`, or `@(*)` with parentheses.
+    Implicit { parens: bool },
+}
+
+/// An instance of a module (IEEE 1364-2005, 12.1.2): `module_id #(..) id (..);`
+#[derive(Debug, Drop)]
+pub struct Instance {
+    pub module_id: Ident,
+    /// The connections in `#(..)`; empty where it isn't there.
+    pub parameters: Conns,
+    pub id: Ident,
+    pub ports: Conns,
+}
+
+/// A list of connections.
+pub type Conns = Items<Conn>;
+
+/// A connection of a port or a parameter by its name: `.id(value)`.
+#[derive(Debug, Drop)]
+pub struct Conn {
+    /// The line of `.`.
+    pub line: u32,
+    pub id: Ident,
+    pub value: Option<Expr>,
 }

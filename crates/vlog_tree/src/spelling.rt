@@ -1,6 +1,7 @@
 //! Trees spelled as tokens.
 
 mod expr;
+mod listed;
 mod module;
 mod stmt;
 mod token;

@@ -1,6 +1,6 @@
 //! Targets and statements as trees (IEEE 1364-2005, A.6 and A.8.5).
 
-use crate::expr::{Expr, Ref};
+use crate::expr::{Expr, Exprs, Ref};
 use vidi_bits::Items;
 
 /// What an assignment writes.
@@ -35,6 +35,11 @@ pub enum Stmt {
         then_body: Body,
         else_body: Option<Body>,
     },
+    /// `case (expression) arm .. endcase`
+    Case {
+        expression: Expr,
+        arms: Items<Arm>,
+    },
     /// `target = value;` or `target <= value;`
     Assign {
         target: Target,
@@ -45,6 +50,19 @@ pub enum Stmt {
 
 /// A list of statements.
 pub type Stmts = Items<Stmt>;
+
+/// An arm of a `case` (IEEE 1364-2005, 9.5).
+#[cycle(stmt)]
+#[derive(Debug, Drop)]
+pub enum Arm {
+    /// `label, ..: body`
+    Labels { labels: Exprs, body: Body },
+    /// `default: body`, with the colon or without; `line` is that of `default`.
+    Default { line: u32, colon: bool, body: Body },
+}
+
+/// A list of arms.
+pub type Arms = Items<Arm>;
 
 /// A statement, or `;` alone.
 #[cycle(stmt)]

@@ -14,20 +14,30 @@ pub enum Terminal {
     Assign,
     /// `begin`
     Begin,
+    /// `case`
+    Case,
+    /// `default`
+    Default,
     /// `else`
     Else,
     /// `end`
     End,
+    /// `endcase`
+    Endcase,
     /// `endmodule`
     Endmodule,
     /// `if`
     If,
     /// `input`
     Input,
+    /// `localparam`
+    Localparam,
     /// `module`
     Module,
     /// `output`
     Output,
+    /// `parameter`
+    Parameter,
     /// `posedge`
     Posedge,
     /// `reg`
@@ -50,10 +60,14 @@ pub enum Terminal {
     Semicolon,
     /// `,`
     Comma,
+    /// `.`
+    Dot,
     /// `:`
     Colon,
     /// `?`
     Question,
+    /// `#`
+    Hash,
     /// `@`
     At,
     /// `=`
@@ -119,13 +133,18 @@ impl Terminal {
             Terminal::Always
             | Terminal::Assign
             | Terminal::Begin
+            | Terminal::Case
+            | Terminal::Default
             | Terminal::Else
             | Terminal::End
+            | Terminal::Endcase
             | Terminal::Endmodule
             | Terminal::If
             | Terminal::Input
+            | Terminal::Localparam
             | Terminal::Module
             | Terminal::Output
+            | Terminal::Parameter
             | Terminal::Posedge
             | Terminal::Reg
             | Terminal::Wire => TokenKind::Reserved,
@@ -141,13 +160,18 @@ impl Terminal {
             Terminal::Always => b"always",
             Terminal::Assign => b"assign",
             Terminal::Begin => b"begin",
+            Terminal::Case => b"case",
+            Terminal::Default => b"default",
             Terminal::Else => b"else",
             Terminal::End => b"end",
+            Terminal::Endcase => b"endcase",
             Terminal::Endmodule => b"endmodule",
             Terminal::If => b"if",
             Terminal::Input => b"input",
+            Terminal::Localparam => b"localparam",
             Terminal::Module => b"module",
             Terminal::Output => b"output",
+            Terminal::Parameter => b"parameter",
             Terminal::Posedge => b"posedge",
             Terminal::Reg => b"reg",
             Terminal::Wire => b"wire",
@@ -159,8 +183,10 @@ impl Terminal {
             Terminal::BraceClose => b"}",
             Terminal::Semicolon => b";",
             Terminal::Comma => b",",
+            Terminal::Dot => b".",
             Terminal::Colon => b":",
             Terminal::Question => b"?",
+            Terminal::Hash => b"#",
             Terminal::At => b"@",
             Terminal::Equals => b"=",
             Terminal::Plus => b"+",

@@ -2,51 +2,23 @@
 
 ghost use Rattle.std.specs.Prelude.{◌≡◌, ◌↔◌, IsTrue, List, option_map, map};
 ghost use Rattle.std.specs.List.{AllByRecursion};
-ghost use Rattle.vlog_tree.specs.Plain.{plain_ident, plain_range, plain_head, plain_port, plain_wire, plain_tail, plain_reg, plain_assign};
-ghost use Rattle.vlog_tree.specs.Plain.{plain_event, plain_always, plain_item, plain_module, plain, plain_expr};
+ghost use Rattle.vlog_tree.specs.Plain.{plain_ident, plain_range, plain_head, plain_port, plain_named, plain_tail, plain_reg, plain_assign};
+ghost use Rattle.vlog_tree.specs.Plain.{plain_event, plain_always, plain_item, plain_module, plain, plain_expr, plain_parameter_head};
+ghost use Rattle.vlog_tree.specs.Plain.{plain_parameter, plain_conn, plain_instance};
 ghost use Rattle.vlog_tree.specs.Shape.{IsGoodOption, AreSomeGood, IsGoodExpr, IsGoodIdent, IsGoodRange, IsGoodHead, IsGoodPort};
-ghost use Rattle.vlog_tree.specs.Shape.{IsFirstDirected, IsGoodWire, IsGoodTail, IsGoodReg, IsGoodAssign, IsGoodEvent, IsGoodAlways};
-ghost use Rattle.vlog_tree.specs.Shape.{IsGoodItem, IsGoodModule, IsGood};
+ghost use Rattle.vlog_tree.specs.Shape.{IsFirstDirected, IsGoodNamed, IsGoodTail, IsGoodReg, IsGoodAssign, IsGoodEvent, IsGoodAlways};
+ghost use Rattle.vlog_tree.specs.Shape.{IsGoodItem, IsGoodModule, IsGood, IsGoodParameterHead, IsGoodParameter, IsFirstHeaded};
+ghost use Rattle.vlog_tree.specs.Shape.{IsGoodConn, IsGoodInstance};
 
 use crate::expr::{Expr, Ident};
 use crate::module::{
-    Always, Assign, DrivenWire, Event, File, Item, Module, Port, PortHead, Range, Reg1, RegTail,
+    Always, Assign, Conn, Event, File, Instance, Item, Module, NamedValue, Parameter,
+    ParameterHead, Port, PortHead, Range, Reg1, RegTail,
 };
 use crate::shape::expr::good_expr;
+use crate::shape::listed::{Shaped, each_good, some_good};
 use crate::shape::stmt::{good_body, good_target};
 use crate::shape::token::good_name;
-
-/// A part of a tree that stands in lists.
-trait Shaped {
-    /// That it has good shape.
-    ghost is_good: { Self → Type 0 };
-
-    /// Whether it has good shape.
-    fn good(&self) -> bool
-        ensures { IsTrue result ↔ is_good self.now };
-}
-
-/// Whether each of these parts has good shape.
-fn each_good<T: Shaped>(parts: &[T]) -> bool
-    ensures { IsTrue result ↔ AllByRecursion T.is_good parts.now }
-{
-    for part in parts {
-        if !part.good() {
-            return false;
-        }
-    }
-    true
-}
-
-/// Whether there is a part, and each has good shape.
-fn some_good<T: Shaped>(parts: &[T]) -> bool
-    ensures { IsTrue result ↔ AreSomeGood T.is_good parts.now }
-{
-    match parts {
-        [] => false,
-        _ => each_good(parts),
-    }
-}
 
 impl Shaped for Ident {
     ghost is_good = { λ id. IsGoodIdent (plain_ident id) };
@@ -56,12 +28,18 @@ impl Shaped for Ident {
     }
 }
 
+fn good_bounds(range: &Range) -> bool
+    ensures { IsTrue result ↔ IsGoodRange (plain_range range.now) }
+{
+    good_expr(&range.first) && good_expr(&range.second)
+}
+
 fn good_range(range: &Option<Range>) -> bool
     ensures { IsTrue result ↔ IsGoodOption IsGoodRange (option_map plain_range range.now) }
 {
     match range {
         None => true,
-        Some(range) => good_expr(&range.first) && good_expr(&range.second),
+        Some(range) => good_bounds(range),
     }
 }
 
@@ -83,6 +61,23 @@ fn good_init(init: &Option<Expr>) -> bool
     }
 }
 
+fn good_parameter_head(head: &Option<ParameterHead>) -> bool
+    ensures { IsTrue result ↔ IsGoodOption IsGoodParameterHead (option_map plain_parameter_head head.now) }
+{
+    match head {
+        None => true,
+        Some(head) => good_range(&head.range),
+    }
+}
+
+impl Shaped for Parameter {
+    ghost is_good = { λ p. IsGoodParameter (plain_parameter p) };
+
+    fn good(&self) -> bool {
+        good_parameter_head(&self.head) && good_name(&self.id.name) && good_expr(&self.value)
+    }
+}
+
 impl Shaped for Port {
     ghost is_good = { λ p. IsGoodPort (plain_port p) };
 
@@ -91,8 +86,8 @@ impl Shaped for Port {
     }
 }
 
-impl Shaped for DrivenWire {
-    ghost is_good = { λ w. IsGoodWire (plain_wire w) };
+impl Shaped for NamedValue {
+    ghost is_good = { λ w. IsGoodNamed (plain_named w) };
 
     fn good(&self) -> bool {
         good_name(&self.id.name) && good_expr(&self.value)
@@ -105,6 +100,7 @@ fn good_tail(tail: &Option<RegTail>) -> bool
     match tail {
         None => true,
         Some(RegTail::Init(value)) => good_expr(value),
+        Some(RegTail::Memory(range)) => good_bounds(range),
     }
 }
 
@@ -130,10 +126,10 @@ fn good_names(names: &[Ident]) -> bool
     some_good(names)
 }
 
-fn good_wires(wires: &[DrivenWire]) -> bool
-    ensures { IsTrue result ↔ AreSomeGood IsGoodWire (map plain_wire wires.now) }
+fn good_named(named: &[NamedValue]) -> bool
+    ensures { IsTrue result ↔ AreSomeGood IsGoodNamed (map plain_named named.now) }
 {
-    some_good(wires)
+    some_good(named)
 }
 
 fn good_regs(regs: &[Reg1]) -> bool
@@ -148,11 +144,42 @@ fn good_assigns(assigns: &[Assign]) -> bool
     some_good(assigns)
 }
 
+fn good_event(event: &Event) -> bool
+    ensures { IsTrue result ↔ IsGoodEvent (plain_event event.now) }
+{
+    match event {
+        Event::Posedge(clock) => good_name(&clock.name),
+        Event::Implicit { parens: _ } => true,
+    }
+}
+
 fn good_always(always: &Always) -> bool
     ensures { IsTrue result ↔ IsGoodAlways (plain_always always.now) }
 {
-    let Event::Posedge(clock) = &always.event;
-    good_name(&clock.name) && good_body(&always.body)
+    good_event(&always.event) && good_body(&always.body)
+}
+
+impl Shaped for Conn {
+    ghost is_good = { λ c. IsGoodConn (plain_conn c) };
+
+    fn good(&self) -> bool {
+        good_name(&self.id.name) && good_init(&self.value)
+    }
+}
+
+fn good_conns(conns: &[Conn]) -> bool
+    ensures { IsTrue result ↔ AllByRecursion IsGoodConn (map plain_conn conns.now) }
+{
+    each_good(conns)
+}
+
+fn good_instance(instance: &Instance) -> bool
+    ensures { IsTrue result ↔ IsGoodInstance (plain_instance instance.now) }
+{
+    good_name(&instance.module_id.name)
+        && good_conns(instance.parameters.as_slice())
+        && good_name(&instance.id.name)
+        && good_conns(instance.ports.as_slice())
 }
 
 impl Shaped for Item {
@@ -161,11 +188,31 @@ impl Shaped for Item {
     fn good(&self) -> bool {
         match self {
             Item::Wires { range, names } => good_range(range) && good_names(names.as_slice()),
-            Item::DrivenWires { range, wires } => good_range(range) && good_wires(wires.as_slice()),
+            Item::DrivenWires { range, wires } => good_range(range) && good_named(wires.as_slice()),
             Item::Regs { range, regs } => good_range(range) && good_regs(regs.as_slice()),
+            Item::Localparams { range, parameters } => {
+                good_range(range) && good_named(parameters.as_slice())
+            }
             Item::Assign { assigns } => good_assigns(assigns.as_slice()),
             Item::Always(always) => good_always(always),
+            Item::Instance(instance) => good_instance(instance),
         }
+    }
+}
+
+fn good_parameters(parameters: &[Parameter]) -> bool
+    ensures { IsTrue result ↔ AllByRecursion IsGoodParameter (map plain_parameter parameters.now) }
+{
+    each_good(parameters)
+}
+
+/// Whether the first parameter, where there is one, has the word `parameter`.
+fn first_headed(parameters: &[Parameter]) -> bool
+    ensures { IsTrue result ↔ IsFirstHeaded (map plain_parameter parameters.now) }
+{
+    match parameters {
+        [] => true,
+        [first, ..] => first.head.is_some(),
     }
 }
 
@@ -196,6 +243,8 @@ impl Shaped for Module {
 
     fn good(&self) -> bool {
         good_name(&self.name)
+            && first_headed(self.parameters.as_slice())
+            && good_parameters(self.parameters.as_slice())
             && first_directed(self.ports.as_slice())
             && good_ports(self.ports.as_slice())
             && good_items(self.items.as_slice())

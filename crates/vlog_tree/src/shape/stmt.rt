@@ -1,12 +1,14 @@
 //! Good shape of targets, statements and blocks.
 
 ghost use Rattle.std.specs.Prelude.{◌≡◌, ◌↔◌, IsTrue};
-ghost use Rattle.vlog_tree.specs.Plain.{plain_target, plain_targets, plain_stmt, plain_stmts, plain_body};
+ghost use Rattle.vlog_tree.specs.Plain.{plain_target, plain_targets, plain_stmt, plain_stmts, plain_body, plain_arm, plain_arms};
 ghost use Rattle.vlog_tree.specs.Shape.{IsGoodTarget, AreGoodTargets, is_open, is_open_body, IsGoodStmt, AreGoodStmts, IsGoodBody};
+ghost use Rattle.vlog_tree.specs.Shape.{IsGoodArm, AreGoodArms};
 
-use crate::lists::{see_begin, see_concat_target};
+use crate::lists::{see_begin, see_case, see_concat_target};
 use crate::shape::expr::{good_expr, good_ref};
-use crate::stmt::{Body, Stmt, Target};
+use crate::shape::listed::good_labels;
+use crate::stmt::{Arm, Body, Stmt, Target};
 
 #[cycle(good_targets)]
 pub fn good_target(target: &Target) -> bool
@@ -47,7 +49,7 @@ fn is_open(stmt: &Stmt) -> bool
     ensures { result ≡ is_open (plain_stmt stmt.now) }
 {
     match stmt {
-        Stmt::Begin(_) | Stmt::Assign { .. } => false,
+        Stmt::Begin(_) | Stmt::Case { .. } | Stmt::Assign { .. } => false,
         Stmt::If { else_body, .. } => match else_body {
             None => true,
             Some(body) => is_open_body(body),
@@ -87,6 +89,10 @@ fn good_stmt(stmt: &Stmt) -> bool
                 Some(body) => !is_open_body(then_body) && good_body(body),
             }
         }
+        Stmt::Case { expression, arms } => {
+            see_case(expression, arms);
+            good_expr(expression) && good_arms(arms.as_slice())
+        }
         Stmt::Assign { target, value, .. } => good_target(target) && good_expr(value),
     }
 }
@@ -98,6 +104,36 @@ pub fn good_body(body: &Body) -> bool
     match body {
         Body::Stmt(stmt) => good_stmt(stmt),
         Body::Empty => true,
+    }
+}
+
+#[cycle(good_stmts)]
+fn good_arm(arm: &Arm) -> bool
+    ensures { IsTrue result ↔ IsGoodArm (plain_arm arm.now) }
+{
+    match arm {
+        Arm::Labels { labels, body } => good_labels(labels.as_slice()) && good_body(body),
+        Arm::Default { body, .. } => good_body(body),
+    }
+}
+
+#[cycle(good_stmts)]
+fn good_arms(arms: &[Arm]) -> bool
+    ensures { IsTrue result ↔ AreGoodArms (plain_arms arms.now) }
+{
+    match arms {
+        [] => false,
+        [first, rest @ ..] => {
+            if !good_arm(first) {
+                return false;
+            }
+            for arm in rest {
+                if !good_arm(arm) {
+                    return false;
+                }
+            }
+            true
+        }
     }
 }
 

@@ -1,52 +1,29 @@
 //! Files, modules, ports and items spelled as tokens.
 
-ghost use Rattle.std.specs.Prelude.{◌≡◌, List, [], ◌∷◌, ◌++◌, OnOk, IfOk, option_map, map};
-ghost use Rattle.vlog_tree.specs.Words.{Word, tokens_of};
-ghost use Rattle.vlog_tree.specs.Plain.{plain_ident, plain_range, plain_head, plain_port, plain_wire, plain_tail, plain_reg, plain_assign};
-ghost use Rattle.vlog_tree.specs.Plain.{plain_event, plain_always, plain_item, plain_module, plain, plain_expr};
+ghost use Rattle.std.specs.Prelude.{◌≡◌, [], ◌∷◌, ◌++◌, OnOk, IfOk, option_map, map};
+ghost use Rattle.vlog_tree.specs.Words.{NameWord, Fixed, tokens_of};
+ghost use Rattle.vlog_tree.specs.declared.terminal.Terminal.TheVariants as t;
+ghost use Rattle.vlog_tree.specs.Plain.{plain_ident, plain_range, plain_head, plain_port, plain_named, plain_tail, plain_reg, plain_assign};
+ghost use Rattle.vlog_tree.specs.Plain.{plain_event, plain_always, plain_item, plain_module, plain, plain_expr, plain_parameter_head};
+ghost use Rattle.vlog_tree.specs.Plain.{plain_parameter, plain_conn, plain_instance};
 ghost use Rattle.vlog_tree.specs.Spelling.{optional, with_commas, in_row, ident_words, range_words, direction_words, head_words};
-ghost use Rattle.vlog_tree.specs.Spelling.{init_words, port_words, wire_words, tail_words, reg_words, assign_words, event_words};
-ghost use Rattle.vlog_tree.specs.Spelling.{always_words, item_words, module_words, toks};
+ghost use Rattle.vlog_tree.specs.Spelling.{init_words, port_words, named_words, tail_words, reg_words, assign_words, event_words};
+ghost use Rattle.vlog_tree.specs.Spelling.{always_words, item_words, module_words, toks, parameter_head_words, parameter_words, hash_words};
+ghost use Rattle.vlog_tree.specs.Spelling.{conn_words, instance_words};
 
 use crate::expr::{Expr, Ident};
 use crate::module::{
-    Always, Assign, Direction, DrivenWire, Event, File, Item, Module, NetKind, Port, PortHead,
-    Range, Reg1, RegTail,
+    Always, Assign, Conn, Direction, Event, File, Instance, Item, Module, NamedValue, NetKind,
+    Parameter, ParameterHead, Port, PortHead, Range, Reg1, RegTail,
 };
 use crate::spelling::expr::push_expr;
+use crate::spelling::listed::{Spelled, push_hash, push_with_commas};
 use crate::spelling::stmt::{push_body, push_target};
 use crate::spelling::token::{put_fixed, put_name};
 use crate::terminal::Terminal;
 use std::alloc::Global;
 use vidi_bits::Memory;
 use vlog_lex::Tokens;
-
-/// A part of a tree that stands in lists.
-trait Spelled {
-    /// The words of which it is spelled.
-    ghost words: { Self → List Word };
-
-    /// Adds its tokens.
-    fn push(&self, alloc: Global, out: &mut Tokens) -> Result<(), Memory>
-        ensures { OnOk result (out.new ≡ out.old ++ tokens_of (words self.now)) };
-}
-
-/// Adds the tokens of these parts, with commas between them.
-fn push_with_commas<T: Spelled>(alloc: Global, out: &mut Tokens, parts: &[T]) -> Result<(), Memory>
-    ensures { OnOk result (out.new ≡ out.old ++ tokens_of (with_commas T.words parts.now)) }
-{
-    match parts {
-        [] => Ok(()),
-        [first, rest @ ..] => {
-            first.push(alloc, out)?;
-            for part in rest {
-                put_fixed(alloc, out, Terminal::Comma)?;
-                part.push(alloc, out)?;
-            }
-            Ok(())
-        }
-    }
-}
 
 impl Spelled for Ident {
     ghost words = { λ id. ident_words (plain_ident id) };
@@ -59,9 +36,15 @@ impl Spelled for Ident {
 fn push_range(alloc: Global, out: &mut Tokens, range: &Option<Range>) -> Result<(), Memory>
     ensures { OnOk result (out.new ≡ out.old ++ tokens_of (optional range_words (option_map plain_range range.now))) }
 {
-    let Some(range) = range else {
-        return Ok(());
-    };
+    match range {
+        None => Ok(()),
+        Some(range) => push_bounds(alloc, out, range),
+    }
+}
+
+fn push_bounds(alloc: Global, out: &mut Tokens, range: &Range) -> Result<(), Memory>
+    ensures { OnOk result (out.new ≡ out.old ++ tokens_of (range_words (plain_range range.now))) }
+{
     put_fixed(alloc, out, Terminal::BracketOpen)?;
     push_expr(alloc, out, &range.first)?;
     put_fixed(alloc, out, Terminal::Colon)?;
@@ -111,6 +94,30 @@ fn push_head(alloc: Global, out: &mut Tokens, head: &Option<PortHead>) -> Result
     push_range(alloc, out, &head.range)
 }
 
+fn push_parameter_head(
+    alloc: Global,
+    out: &mut Tokens,
+    head: &Option<ParameterHead>,
+) -> Result<(), Memory>
+    ensures { OnOk result (out.new ≡ out.old ++ tokens_of (optional parameter_head_words (option_map plain_parameter_head head.now))) }
+{
+    let Some(head) = head else {
+        return Ok(());
+    };
+    put_fixed(alloc, out, Terminal::Parameter)?;
+    push_range(alloc, out, &head.range)
+}
+
+impl Spelled for Parameter {
+    ghost words = { λ p. parameter_words (plain_parameter p) };
+
+    fn push(&self, alloc: Global, out: &mut Tokens) -> Result<(), Memory> {
+        push_parameter_head(alloc, out, &self.head)?;
+        put_name(alloc, out, &self.id.name)?;
+        push_init(alloc, out, &self.value)
+    }
+}
+
 impl Spelled for Port {
     ghost words = { λ p. port_words (plain_port p) };
 
@@ -124,8 +131,8 @@ impl Spelled for Port {
     }
 }
 
-impl Spelled for DrivenWire {
-    ghost words = { λ w. wire_words (plain_wire w) };
+impl Spelled for NamedValue {
+    ghost words = { λ w. named_words (plain_named w) };
 
     fn push(&self, alloc: Global, out: &mut Tokens) -> Result<(), Memory> {
         put_name(alloc, out, &self.id.name)?;
@@ -141,6 +148,7 @@ impl Spelled for Reg1 {
         match &self.tail {
             None => Ok(()),
             Some(RegTail::Init(value)) => push_init(alloc, out, value),
+            Some(RegTail::Memory(range)) => push_bounds(alloc, out, range),
         }
     }
 }
@@ -152,6 +160,38 @@ impl Spelled for Assign {
         push_target(alloc, out, &self.target)?;
         push_init(alloc, out, &self.value)
     }
+}
+
+impl Spelled for Conn {
+    ghost words = { λ c. conn_words (plain_conn c) };
+
+    fn push(&self, alloc: Global, out: &mut Tokens) -> Result<(), Memory> {
+        put_fixed(alloc, out, Terminal::Dot)?;
+        put_name(alloc, out, &self.id.name)?;
+        put_fixed(alloc, out, Terminal::ParenOpen)?;
+        if let Some(value) = &self.value {
+            push_expr(alloc, out, value)?;
+        }
+        put_fixed(alloc, out, Terminal::ParenClose)
+    }
+}
+
+fn push_parameters(alloc: Global, out: &mut Tokens, parameters: &[Parameter]) -> Result<(), Memory>
+    ensures { OnOk result (out.new ≡ out.old ++ tokens_of (hash_words parameter_words (map plain_parameter parameters.now))) }
+{
+    push_hash(alloc, out, parameters)
+}
+
+fn push_parameter_conns(alloc: Global, out: &mut Tokens, conns: &[Conn]) -> Result<(), Memory>
+    ensures { OnOk result (out.new ≡ out.old ++ tokens_of (hash_words conn_words (map plain_conn conns.now))) }
+{
+    push_hash(alloc, out, conns)
+}
+
+fn push_conns(alloc: Global, out: &mut Tokens, conns: &[Conn]) -> Result<(), Memory>
+    ensures { OnOk result (out.new ≡ out.old ++ tokens_of (with_commas conn_words (map plain_conn conns.now))) }
+{
+    push_with_commas(alloc, out, conns)
 }
 
 fn push_names(alloc: Global, out: &mut Tokens, names: &[Ident]) -> Result<(), Memory>
@@ -166,10 +206,10 @@ fn push_ports(alloc: Global, out: &mut Tokens, ports: &[Port]) -> Result<(), Mem
     push_with_commas(alloc, out, ports)
 }
 
-fn push_wires(alloc: Global, out: &mut Tokens, wires: &[DrivenWire]) -> Result<(), Memory>
-    ensures { OnOk result (out.new ≡ out.old ++ tokens_of (with_commas wire_words (map plain_wire wires.now))) }
+fn push_named(alloc: Global, out: &mut Tokens, named: &[NamedValue]) -> Result<(), Memory>
+    ensures { OnOk result (out.new ≡ out.old ++ tokens_of (with_commas named_words (map plain_named named.now))) }
 {
-    push_with_commas(alloc, out, wires)
+    push_with_commas(alloc, out, named)
 }
 
 fn push_regs(alloc: Global, out: &mut Tokens, regs: &[Reg1]) -> Result<(), Memory>
@@ -187,12 +227,21 @@ fn push_assigns(alloc: Global, out: &mut Tokens, assigns: &[Assign]) -> Result<(
 fn push_event(alloc: Global, out: &mut Tokens, event: &Event) -> Result<(), Memory>
     ensures { OnOk result (out.new ≡ out.old ++ tokens_of (event_words (plain_event event.now))) }
 {
-    let Event::Posedge(clock) = event;
     put_fixed(alloc, out, Terminal::At)?;
-    put_fixed(alloc, out, Terminal::ParenOpen)?;
-    put_fixed(alloc, out, Terminal::Posedge)?;
-    put_name(alloc, out, &clock.name)?;
-    put_fixed(alloc, out, Terminal::ParenClose)
+    match event {
+        Event::Posedge(clock) => {
+            put_fixed(alloc, out, Terminal::ParenOpen)?;
+            put_fixed(alloc, out, Terminal::Posedge)?;
+            put_name(alloc, out, &clock.name)?;
+            put_fixed(alloc, out, Terminal::ParenClose)
+        }
+        Event::Implicit { parens: false } => put_fixed(alloc, out, Terminal::Star),
+        Event::Implicit { parens: true } => {
+            put_fixed(alloc, out, Terminal::ParenOpen)?;
+            put_fixed(alloc, out, Terminal::Star)?;
+            put_fixed(alloc, out, Terminal::ParenClose)
+        }
+    }
 }
 
 fn push_always(alloc: Global, out: &mut Tokens, always: &Always) -> Result<(), Memory>
@@ -201,6 +250,18 @@ fn push_always(alloc: Global, out: &mut Tokens, always: &Always) -> Result<(), M
     put_fixed(alloc, out, Terminal::Always)?;
     push_event(alloc, out, &always.event)?;
     push_body(alloc, out, &always.body)
+}
+
+fn push_instance(alloc: Global, out: &mut Tokens, instance: &Instance) -> Result<(), Memory>
+    ensures { OnOk result (out.new ≡ out.old ++ tokens_of (instance_words (plain_instance instance.now))) }
+{
+    put_name(alloc, out, &instance.module_id.name)?;
+    push_parameter_conns(alloc, out, instance.parameters.as_slice())?;
+    put_name(alloc, out, &instance.id.name)?;
+    put_fixed(alloc, out, Terminal::ParenOpen)?;
+    push_conns(alloc, out, instance.ports.as_slice())?;
+    put_fixed(alloc, out, Terminal::ParenClose)?;
+    put_fixed(alloc, out, Terminal::Semicolon)
 }
 
 fn push_item(alloc: Global, out: &mut Tokens, item: &Item) -> Result<(), Memory>
@@ -216,7 +277,7 @@ fn push_item(alloc: Global, out: &mut Tokens, item: &Item) -> Result<(), Memory>
         Item::DrivenWires { range, wires } => {
             put_fixed(alloc, out, Terminal::Wire)?;
             push_range(alloc, out, range)?;
-            push_wires(alloc, out, wires.as_slice())?;
+            push_named(alloc, out, wires.as_slice())?;
             put_fixed(alloc, out, Terminal::Semicolon)
         }
         Item::Regs { range, regs } => {
@@ -225,12 +286,19 @@ fn push_item(alloc: Global, out: &mut Tokens, item: &Item) -> Result<(), Memory>
             push_regs(alloc, out, regs.as_slice())?;
             put_fixed(alloc, out, Terminal::Semicolon)
         }
+        Item::Localparams { range, parameters } => {
+            put_fixed(alloc, out, Terminal::Localparam)?;
+            push_range(alloc, out, range)?;
+            push_named(alloc, out, parameters.as_slice())?;
+            put_fixed(alloc, out, Terminal::Semicolon)
+        }
         Item::Assign { assigns } => {
             put_fixed(alloc, out, Terminal::Assign)?;
             push_assigns(alloc, out, assigns.as_slice())?;
             put_fixed(alloc, out, Terminal::Semicolon)
         }
         Item::Always(always) => push_always(alloc, out, always),
+        Item::Instance(instance) => push_instance(alloc, out, instance),
     }
 }
 
@@ -243,17 +311,35 @@ fn push_items(alloc: Global, out: &mut Tokens, items: &[Item]) -> Result<(), Mem
     Ok(())
 }
 
-fn push_module(alloc: Global, out: &mut Tokens, declared: &Module) -> Result<(), Memory>
-    ensures { OnOk result (out.new ≡ out.old ++ tokens_of (module_words (plain_module declared.now))) }
+/// Adds the tokens of a module before its ports.
+fn push_title(alloc: Global, out: &mut Tokens, declared: &Module) -> Result<(), Memory>
+    ensures { OnOk result (out.new ≡ out.old ++ tokens_of (Fixed t.Module ∷ NameWord declared.now.name
+        ∷ hash_words parameter_words (map plain_parameter declared.now.parameters))) }
 {
     put_fixed(alloc, out, Terminal::Module)?;
     put_name(alloc, out, &declared.name)?;
+    push_parameters(alloc, out, declared.parameters.as_slice())
+}
+
+/// Adds the tokens of a module from its ports on.
+fn push_contents(alloc: Global, out: &mut Tokens, declared: &Module) -> Result<(), Memory>
+    ensures { OnOk result (out.new ≡ out.old ++ tokens_of (Fixed t.ParenOpen
+        ∷ (with_commas port_words (map plain_port declared.now.ports) ++ Fixed t.ParenClose ∷ Fixed t.Semicolon
+        ∷ (in_row item_words (map plain_item declared.now.items) ++ Fixed t.Endmodule ∷ [])))) }
+{
     put_fixed(alloc, out, Terminal::ParenOpen)?;
     push_ports(alloc, out, declared.ports.as_slice())?;
     put_fixed(alloc, out, Terminal::ParenClose)?;
     put_fixed(alloc, out, Terminal::Semicolon)?;
     push_items(alloc, out, declared.items.as_slice())?;
     put_fixed(alloc, out, Terminal::Endmodule)
+}
+
+fn push_module(alloc: Global, out: &mut Tokens, declared: &Module) -> Result<(), Memory>
+    ensures { OnOk result (out.new ≡ out.old ++ tokens_of (module_words (plain_module declared.now))) }
+{
+    push_title(alloc, out, declared)?;
+    push_contents(alloc, out, declared)
 }
 
 /// The tokens of which a tree is spelled, each with line 0.

@@ -2,13 +2,15 @@
 
 ghost use Rattle.std.specs.Prelude.{◌≡◌, [], ◌∷◌, ◌++◌, OnOk};
 ghost use Rattle.vlog_tree.specs.Words.{tokens_of};
-ghost use Rattle.vlog_tree.specs.Plain.{plain_target, plain_targets, plain_stmt, plain_stmts, plain_body};
+ghost use Rattle.vlog_tree.specs.Plain.{plain_target, plain_targets, plain_stmt, plain_stmts, plain_body, plain_arm, plain_arms};
 ghost use Rattle.vlog_tree.specs.Spelling.{assign_terminal, target_words, targets_words, stmt_words, stmts_words, body_words};
+ghost use Rattle.vlog_tree.specs.Spelling.{colon_words, arm_words, arms_words};
 
-use crate::lists::{see_begin, see_concat_target};
+use crate::lists::{see_begin, see_case, see_concat_target};
 use crate::spelling::expr::{push_expr, push_ref};
+use crate::spelling::listed::push_labels;
 use crate::spelling::token::put_fixed;
-use crate::stmt::{AssignOp, Body, Stmt, Target};
+use crate::stmt::{Arm, AssignOp, Body, Stmt, Target};
 use crate::terminal::Terminal;
 use std::alloc::Global;
 use vidi_bits::Memory;
@@ -55,6 +57,15 @@ fn push_targets(alloc: Global, out: &mut Tokens, targets: &[Target]) -> Result<(
     }
 }
 
+fn push_colon(alloc: Global, out: &mut Tokens, colon: bool) -> Result<(), Memory>
+    ensures { OnOk result (out.new ≡ out.old ++ tokens_of (colon_words colon)) }
+{
+    match colon {
+        false => Ok(()),
+        true => put_fixed(alloc, out, Terminal::Colon),
+    }
+}
+
 #[cycle(push_stmts)]
 fn push_stmt(alloc: Global, out: &mut Tokens, stmt: &Stmt) -> Result<(), Memory>
     ensures { OnOk result (out.new ≡ out.old ++ tokens_of (stmt_words (plain_stmt stmt.now))) }
@@ -84,6 +95,15 @@ fn push_stmt(alloc: Global, out: &mut Tokens, stmt: &Stmt) -> Result<(), Memory>
                 }
             }
         }
+        Stmt::Case { expression, arms } => {
+            see_case(expression, arms);
+            put_fixed(alloc, out, Terminal::Case)?;
+            put_fixed(alloc, out, Terminal::ParenOpen)?;
+            push_expr(alloc, out, expression)?;
+            put_fixed(alloc, out, Terminal::ParenClose)?;
+            push_arms(alloc, out, arms.as_slice())?;
+            put_fixed(alloc, out, Terminal::Endcase)
+        }
         Stmt::Assign { target, op, value } => {
             push_target(alloc, out, target)?;
             put_fixed(alloc, out, assign_terminal(*op))?;
@@ -101,6 +121,38 @@ pub fn push_body(alloc: Global, out: &mut Tokens, body: &Body) -> Result<(), Mem
         Body::Stmt(stmt) => push_stmt(alloc, out, stmt),
         Body::Empty => put_fixed(alloc, out, Terminal::Semicolon),
     }
+}
+
+#[cycle(push_stmts)]
+fn push_arm(alloc: Global, out: &mut Tokens, arm: &Arm) -> Result<(), Memory>
+    ensures { OnOk result (out.new ≡ out.old ++ tokens_of (arm_words (plain_arm arm.now))) }
+{
+    match arm {
+        Arm::Labels { labels, body } => {
+            push_labels(alloc, out, labels.as_slice())?;
+            put_fixed(alloc, out, Terminal::Colon)?;
+            push_body(alloc, out, body)
+        }
+        Arm::Default {
+            line: _,
+            colon,
+            body,
+        } => {
+            put_fixed(alloc, out, Terminal::Default)?;
+            push_colon(alloc, out, *colon)?;
+            push_body(alloc, out, body)
+        }
+    }
+}
+
+#[cycle(push_stmts)]
+fn push_arms(alloc: Global, out: &mut Tokens, arms: &[Arm]) -> Result<(), Memory>
+    ensures { OnOk result (out.new ≡ out.old ++ tokens_of (arms_words (plain_arms arms.now))) }
+{
+    for arm in arms {
+        push_arm(alloc, out, arm)?;
+    }
+    Ok(())
 }
 
 #[cycle(push_stmts)]
