@@ -1,0 +1,13 @@
+//! The simulator: a lawful design that runs.
+//!
+//! `Sim` settles by running each driver once, in an order of the design's drivers (`net_order`), and makes the next state from what
+//! is settled. It walks the statements where they stand (`number`, `places`, `blocking`, `clocked`), and takes no memory once
+//! it is made.
+#![tactic(auto)]
+
+mod blocking;
+mod clocked;
+mod number;
+mod places;
+mod run;
+
