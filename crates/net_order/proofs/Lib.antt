@@ -15,3 +15,4 @@ pub mod Kept
 pub mod Settling
 pub mod Entered
 pub mod OneMap
+pub mod Known

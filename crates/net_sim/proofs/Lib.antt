@@ -1,2 +1,4 @@
 pub mod Steps
 pub mod EnterLaws
+pub mod PlaceLaws
+pub mod SimLaws

@@ -10,4 +10,8 @@ mod clocked;
 mod number;
 mod places;
 mod run;
+mod settling;
+mod sim;
+mod start;
 
+pub use sim::Sim;
