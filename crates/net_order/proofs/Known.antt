@@ -1,5 +1,5 @@
 -- What is known of a lawful design with an order, where it is known that both are there.
-use Rattle.std.proofs.Common.{◌≡◌, ℕ, ◌+◌, ◌*◌, ◌^◌, ◌<◌, ◌≤◌, List, [], ◌∷◌, ◌++◌, All, length, get_or, slice_index, refl, ap, sym, subst, ◌∙◌, arith}
+use Rattle.std.proofs.Common.{◌≡◌, ℕ, ◌^◌, ◌<◌, ◌≤◌, List, [], ◌∷◌, ◌++◌, All, Some, slice_get, length}
 use Rattle.std.proofs.Math.Logic.{∥∥₁_elim}
 use Rattle.std.proofs.Props.{props}
 use Rattle.std.specs.List.{AllByRecursion}
@@ -7,8 +7,8 @@ use Rattle.std.proofs.lemmas.List.Elements.{All-from_recursion}
 use Rattle.net_design.specs.declared.rhs.Rhs.{Rhs, Number, Bits, Word', Unary', Binary', Choose', Join', Repeat', Select'}
 use Rattle.net_design.specs.declared.act.Place.{Place}
 use Rattle.net_design.specs.declared.act.Place.TheVariants.{Bits as PlaceBits, BitsFrom, Word as PlaceWord, WordFrom}
-use Rattle.net_design.specs.declared.act.Code.{Code}
-use Rattle.net_design.specs.declared.design.Driver.{Driver}
+use Rattle.net_design.specs.declared.design.Instance.{Instance}
+use Rattle.net_design.specs.declared.design.Net.{Net}
 use Rattle.net_design.specs.declared.act.Act.{Act, Set, Read, Branch', Row_of-Act, end_of-Act, more_of-Act, Row_of-Guard, end_of-Guard}
 use Rattle.net_design.specs.declared.act.Act.{more_of-Guard}
 use Rattle.net_design.specs.declared.design.Design.{Design}
@@ -96,6 +96,12 @@ module _ (d : Design) (law : ∥ IsLawful d ∥₁) where
 
   pub known_ports : length d.ports ≤ length d.nets
   known_ports = ∥∥₁_elim law (hlevel props) (λ l. l.ports)
+
+  pub known_parents : (i : ℕ) (x : Instance) → slice_get d.instances i ≡ Some x → 1 ≤ i → x.parent < i
+  known_parents = ∥∥₁_elim law (hlevel props) (λ l. l.parents)
+
+  pub known_instances : All (λ (n : Net). n.instance < length d.instances) d.nets
+  known_instances = ∥∥₁_elim law (hlevel props) (λ l. λ k x h. (l.nets k x h).1)
 
   pub known_initial : IsState d (initial d)
   known_initial = ∥∥₁_elim law (state_prop d (initial d)) (initial_state d)

@@ -1,8 +1,8 @@
 -- The places of ports, and their numbers.
-use Rattle.std.proofs.Common.{◌≡◌, ℕ, zero, suc, ◌+◌, ◌^◌, ◌<◌, ◌≤◌, Bool, true, false, Option, cond, List, [], ◌∷◌, ◌++◌, length, drop, map}
+use Rattle.std.proofs.Common.{◌≡◌, ℕ, zero, suc, ◌+◌, ◌^◌, ◌<◌, ◌≤◌, Bool, true, false, Option, cond, List, [], ◌∷◌, length, drop, map}
 use Rattle.std.proofs.Common.{replicate, slice_index, if◌then◌else◌, refl, ap, sym, subst, ◌∙◌, arith}
 use Rattle.std.specs.List.{count_by, enumerate_from}
-use Rattle.std.proofs.lemmas.List.{get_or-replicate, length-replicate, drop_more}
+use Rattle.std.proofs.lemmas.List.{get_or-replicate, length-replicate}
 use Rattle.std.proofs.lemmas.List.Sums.{sum_by-cons}
 use Rattle.std.proofs.lemmas.Nat.{pow_pos}
 use Rattle.net_design.specs.declared.design.Port.{Port}
@@ -11,7 +11,6 @@ use Rattle.net_design.specs.declared.design.Direction.TheVariants.{Input}
 use Rattle.net_design.specs.declared.design.Design.{Design}
 use Rattle.net_design.specs.Settled.{same_direction, pins_of}
 use Rattle.net_design.specs.Pins.{FitPins, is_clock, port_limits, input_limits}
-use Rattle.net_design.proofs.UpdateLaws.{from_here}
 use Rattle.net_sim.specs.Places.{port_places}
 
 -- ---- how many there are

@@ -1,13 +1,13 @@
 -- What a simulator keeps.
-use Rattle.std.proofs.Common.{◌≡◌, ℕ, ◌<◌, ◌≤◌, List, All, length, ap, sym, subst, ◌∙◌, arith}
+use Rattle.std.proofs.Common.{◌≡◌, ℕ, List, length, ap, sym, subst, ◌∙◌}
 use Rattle.net_design.specs.declared.design.Design.{Design}
 use Rattle.net_design.specs.declared.values.Values.{Values}
-use Rattle.net_design.specs.Settled.{IsSettled, initial, next}
+use Rattle.net_design.specs.Settled.{IsSettled}
 use Rattle.net_design.specs.Lawful.{IsLawful, IsState}
 use Rattle.net_design.specs.Pins.{FitPins}
 use Rattle.net_order.specs.Order.{IsOrder}
 use Rattle.net_order.specs.Run.{settled_by}
-use Rattle.net_order.proofs.Known.{known_settled, known_next, known_initial}
+use Rattle.net_order.proofs.Known.{known_settled}
 
 pub same_values : (v u : Values) → v.nets ≡ u.nets → v.words ≡ u.words → v ≡ u
 same_values v u nets words =

@@ -1,6 +1,6 @@
 //! A design that runs.
 
-ghost use Rattle.std.specs.Prelude.{◌≡◌, ℕ, ◌<◌, ◌≤◌, List, IsTrue, IfOk, All, length, replicate, slice_index};
+ghost use Rattle.std.specs.Prelude.{◌≡◌, ℕ, ◌<◌, ◌≤◌, List, IsTrue, IfOk, MatchOption, length, slice_index};
 ghost use Rattle.net_design.specs.declared.design.Direction.TheVariants.{Output};
 ghost use Rattle.net_design.specs.Settled.{initial};
 ghost use Rattle.net_design.specs.Lawful.{IsLawful, IsState};
@@ -8,11 +8,14 @@ ghost use Rattle.net_design.specs.Pins.{FitPins, no_pins};
 ghost use Rattle.net_order.specs.Order.{IsOrder};
 ghost use Rattle.net_order.specs.Run.{settled_by};
 ghost use Rattle.net_sim.specs.Places.{port_places};
+ghost use Rattle.net_sim.specs.Names.{IsCalled};
 
+use crate::names::net_called;
+use crate::number::number_at;
 use crate::places::MOST_PARTS;
-use crate::run::run_blocks;
-use crate::start::{clear, first_state, no_updates, places_of, zeros};
+use crate::run::{copy_numbers, run_blocks};
 use crate::settling::{copy_values, settle_again, settle_parts};
+use crate::start::{clear, first_state, no_updates, places_of, zeros};
 use net_design::{Block, Design, Direction, Update, Values};
 use net_order::Order;
 use std::alloc::Global;
@@ -77,6 +80,19 @@ impl Sim {
             fresh: false,
         })
     }
+
+    /// The number that a net settled to last, by its full name: the names of the instances down to it and its own, joined by
+    /// dots. None exactly where no net has this name.
+    pub fn net(&self, name: &[u8]) -> Option<u128>
+        ensures { MatchOption result ((m : ℕ) → IsCalled self.now.design.instances self.now.design.nets name.now m → ⊥)
+            (λ x. (m : ℕ) × IsCalled self.now.design.instances self.now.design.nets name.now m × (x ≡ slice_index self.now.shown.nets m)) }
+    {
+        let design = &self.design;
+        match net_called(design.instances.as_slice(), design.nets.as_slice(), name) {
+            Some(m) => Some(number_at(&self.shown.nets, m)),
+            None => None,
+        }
+    }
 }
 
 impl Block for Sim {
@@ -98,7 +114,7 @@ impl Block for Sim {
 
     fn settle(&mut self, pins: &[u128]) {
         self.fresh = false;
-        crate::run::copy_numbers(pins, &mut self.pins);
+        copy_numbers(pins, &mut self.pins);
         let order = self.order.drivers.as_slice();
         settle_parts(
             &self.design,
@@ -113,7 +129,7 @@ impl Block for Sim {
 
     fn pin(&self, port: usize) -> u128 {
         let places = self.outputs.as_slice();
-        crate::number::number_at(&self.shown.nets, places[port])
+        number_at(&self.shown.nets, places[port])
     }
 
     fn clock(&mut self) {

@@ -1,4 +1,4 @@
-use Rattle.std.proofs.Common.{◌≡◌, ◌∙◌, List, ap, sym}
+use Rattle.std.proofs.Common.{◌∙◌, ap, sym}
 use Rattle.net_design.specs.declared.act.Timing.TheVariants.{Blocking}
 use Rattle.net_design.specs.declared.values.Values.{Values}
 use Rattle.net_design.specs.Value.{value}
@@ -32,8 +32,7 @@ run_first-returns-then-number_of-ne0 t c = λ us.
 
 pub run_first-returns : goal.run_first-returns
 run_first-returns t c =
-    let l = c.loop-guard in
-    (
+    let l = c.loop-guard in (
       l.invariant.stay,
       (λ us. sym (l.invariant.same us) ∙ guard_none Blocking c.as_slice-guard-items.result.now l.guard-index us c.args.values.now
           c.loop-guard-test.false),

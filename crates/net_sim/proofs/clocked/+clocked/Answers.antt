@@ -1,4 +1,4 @@
-use Rattle.std.proofs.Common.{◌≡◌, ◌∙◌, List, ap, sym}
+use Rattle.std.proofs.Common.{◌∙◌, ap, sym}
 use Rattle.net_design.specs.declared.act.Timing.TheVariants.{Nonblocking}
 use Rattle.net_design.specs.declared.values.Values.{Values}
 use Rattle.net_design.specs.Updates.{apply, block_updates}
@@ -31,8 +31,7 @@ write_first-returns-then-number_of-ne0 t c = λ us.
 
 pub write_first-returns : goal.write_first-returns
 write_first-returns t c =
-    let l = c.loop-guard in
-    (
+    let l = c.loop-guard in (
       l.invariant.stay,
       (λ us. sym (l.invariant.same us) ∙ guard_none Nonblocking c.as_slice-guard-items.result.now l.guard-index us c.args.values.now
           c.loop-guard-test.false),

@@ -1,4 +1,4 @@
-use Rattle.std.proofs.Common.{◌≡◌, ◌+◌, ◌≤◌, ◌++◌, All, drop, take, length}
+use Rattle.std.proofs.Common.{◌≡◌, ◌+◌, ◌≤◌, ◌++◌, All, drop, take}
 use Rattle.std.specs.List.{AllByRecursion}
 use Rattle.vlog_operators.specs.Number.{IsWidth}
 use Rattle.net_design.specs.Sized.{IsSizedPlace}

@@ -1,4 +1,4 @@
-use Rattle.std.proofs.Common.{◌≡◌, ℕ, List, false, true, length, replicate, ap, sym, subst, ◌∙◌}
+use Rattle.std.proofs.Common.{List, length, replicate, ap, sym, subst, ◌∙◌}
 use Rattle.net_design.specs.declared.design.Port.{Port}
 use Rattle.net_design.specs.declared.design.Direction.TheVariants.{Input, Output}
 use Rattle.net_design.specs.declared.values.Values.{Values}

@@ -1,5 +1,4 @@
-use Rattle.std.proofs.Common.{◌≡◌, ℕ, List, false, true, length, replicate, ap, sym, subst, ◌∙◌}
-use Rattle.net_design.specs.declared.values.Values.{Values}
+use Rattle.std.proofs.Common.{◌≡◌, length, replicate, ap, sym, subst, ◌∙◌}
 use Rattle.net_design.specs.Settled.{initial}
 use Rattle.net_design.specs.Lawful.{IsState}
 use Rattle.net_order.proofs.Known.{known_initial}

@@ -1,4 +1,4 @@
-use Rattle.std.proofs.Common.{◌≡◌, ℕ, ◌<◌, List, length, slice_index, ap, sym, subst, ◌∙◌, refl, arith}
+use Rattle.std.proofs.Common.{ℕ, ◌<◌, List, length, slice_index, ap, sym, ◌∙◌, refl, arith}
 use Rattle.net_design.specs.declared.design.Direction.TheVariants.{Output}
 use Rattle.net_order.proofs.Known.{known_ports}
 use Rattle.net_sim.specs.Places.{port_places}
