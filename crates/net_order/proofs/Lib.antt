@@ -5,3 +5,14 @@ pub mod Turns
 pub mod Moves
 pub mod Rows
 pub mod Ends
+pub mod BitPairs
+pub mod WriterLaws
+pub mod RowLaws
+pub mod WriteRange
+pub mod GraphLaws
+pub mod SameRun
+pub mod Kept
+pub mod Settling
+pub mod Entered
+pub mod OneMap
+pub mod Known

@@ -3,3 +3,6 @@ pub mod Graph
 pub mod Turn
 pub mod Search
 pub mod Steps
+pub mod Index
+pub mod Reading
+pub mod Run

@@ -5,6 +5,12 @@ ghost use Rattle.std.specs.Prelude.{◌≡◌};
 use std::alloc::{AllocError, AllocFailed};
 use vidi_bits::{Memory, Numbers};
 
+/// An order of drivers: the number of each, once, after those whose bits it reads.
+#[derive(Drop)]
+pub struct Order {
+    pub drivers: Numbers,
+}
+
 /// Why drivers have no order.
 #[derive(Drop)]
 pub enum OrderError {

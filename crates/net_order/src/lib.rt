@@ -1,16 +1,20 @@
 //! The order in which the drivers of a design are evaluated once each, or a loop of drivers.
 //!
-//! The definitions stand in `specs/Order`, over any relation of reading and of a design. A graph of who reads whom is searched
-//! depth first with an explicit path (`search`); making the graph from the masks of the drivers' code is not here yet.
+//! The definitions stand in `specs/Order`, over any relation of reading and of a design. The graph of who reads whom is made
+//! from the masks of the drivers' code (`graph`), by way of the writers of each net (`writers`), and searched depth first with
+//! an explicit path (`search`).
 #![tactic(auto)]
 
 mod answer;
+mod graph;
 mod laws;
 mod search;
 mod turn;
+mod writers;
 
-pub use answer::OrderError;
-pub use laws::order_or_loop;
+pub use answer::{Order, OrderError};
+pub use graph::order;
+pub use laws::{one_settled_map, order_or_loop};
 pub use search::sorted;
 
 #[cfg(test)]

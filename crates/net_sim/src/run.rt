@@ -1,0 +1,82 @@
+//! All drivers in an order, all clocked blocks, and input pins.
+
+ghost use Rattle.std.specs.Prelude.{◌≡◌, ◌≤◌, ◌<◌, ◌+◌, ◌^◌, All, length, slice_index, slice_set, if◌then◌else◌};
+ghost use Rattle.std.specs.List.{flat_map};
+ghost use Rattle.net_design.specs.declared.act.Timing.TheVariants.{Nonblocking};
+ghost use Rattle.net_design.specs.Sized.{IsSizedBlock};
+ghost use Rattle.net_design.specs.Updates.{apply, block_updates};
+ghost use Rattle.net_order.specs.Run.{enters, entered, run_all};
+
+use crate::blocking::run_acts;
+use crate::clocked::write_acts;
+use net_design::{Code, Direction, Driver, Port, Update, Values};
+use vidi_bits::Numbers;
+
+/// Drivers, run one after the other in an order.
+pub fn run_drivers(drivers: &[Driver], order: &[u128], values: &mut Values, late: &mut [Update])
+    requires sized { All (λ x. IsSizedBlock x.code.acts) drivers.now }
+    requires order { All (λ i. i < length drivers.now) order.now }
+    requires room { length late.old ≡ 128 }
+    ensures { values.new ≡ run_all drivers.now order.now values.old }
+{
+    for number in order {
+        let driver = &drivers[*number as usize];
+        run_acts(&driver.code.acts, values, late);
+    }
+}
+
+/// The updates of all clocked blocks, made in the state.
+pub fn run_blocks(blocks: &[Code], values: &Values, state: &mut Values)
+    requires { All (λ c. IsSizedBlock c.acts) blocks.now }
+    ensures { state.new ≡ apply (flat_map (λ c. block_updates Nonblocking c.acts values.now) blocks.now) state.old }
+{
+    for block in blocks {
+        write_acts(&block.acts, values, state);
+    }
+}
+
+/// Number `i` of some pins, 0 past the last one.
+fn pin_at(pins: &[u128], i: usize) -> u128
+    ensures { result ≡ slice_index pins.now i }
+{
+    if i < pins.len() { pins[i] } else { 0 }
+}
+
+/// Enters the pin `next` at net `k`, where port `k` is an input; answers which pin is next then.
+fn enter_one(port: &Port, pins: &[u128], next: usize, k: usize, nets: &mut Numbers) -> usize
+    requires few { next + 1 < 2 ^ 64 }
+    requires within { k < length nets.old }
+    ensures next { result ≡ (if enters port.now then next + 1 else next) }
+    ensures nets { nets.new ≡ slice_set nets.old k (if enters port.now then slice_index pins.now next else slice_index nets.old k) }
+{
+    match port.direction {
+        Direction::Input => {
+            nets.set(k, pin_at(pins, next));
+            next + 1
+        }
+        Direction::Output => next,
+    }
+}
+
+/// Enters the input pins at the nets of their ports.
+pub fn enter(ports: &[Port], pins: &[u128], nets: &mut Numbers)
+    ensures { nets.new ≡ entered ports.now pins.now nets.old }
+{
+    let mut next = 0;
+    for (k, port) in ports.iter().enumerate() {
+        if k >= nets.len() {
+            return;
+        }
+        next = enter_one(port, pins, next, k, nets);
+    }
+}
+
+/// Numbers copied over others.
+pub fn copy_numbers(from: &[u128], to: &mut Numbers)
+    requires { length to.old ≡ length from.now }
+    ensures { to.new ≡ from.now }
+{
+    for (i, number) in from.iter().enumerate() {
+        to.set(i, *number);
+    }
+}
