@@ -1,0 +1,6 @@
+pub mod Contents
+pub mod PinLemmas
+pub mod RowParts
+pub mod PlayedLaws
+pub mod Stays
+pub mod RunLaws

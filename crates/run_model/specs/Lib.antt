@@ -1,0 +1,9 @@
+pub mod MapOf
+pub mod Pins
+pub mod Step
+pub mod Offers
+pub mod Played
+pub mod Run
+pub mod Replay
+pub mod Held
+pub mod Laws
