@@ -2,9 +2,9 @@
 use Rattle.std.proofs.Common.{◌≡◌, ℕ, zero, suc, ◌+◌, ◌*◌, ◌-◌, ◌<◌, ◌≤◌, ◌^◌, Bool, true, false, cond, eqb, List, [], ◌∷◌, ◌++◌}
 use Rattle.std.proofs.Common.{Some, length, take, drop, replicate, slice_get, ⊎_elim, refl, ap, sym, subst, ◌∙◌, arith}
 use Rattle.std.specs.Int.{bit_at}
-use Rattle.std.proofs.lemmas.Bool.{cases_lt, eqb-true, eqb-false, ne_eqb}
+use Rattle.std.proofs.lemmas.Bool.{cases_lt, eqb-true, eqb-false, ne_eqb, eq-eqb}
 use Rattle.std.proofs.lemmas.List.{length-append, take-append-drop, take_at, drop_at, drop-drop, nil_from_length}
-use Rattle.std.proofs.lemmas.Nat.Bits.{bit_at_cat_low, bit_at_cat_high, bit_at_above, bit_at-lt, same_from_bits}
+use Rattle.std.proofs.lemmas.Nat.Bits.{bit_at_ones, bit_at_cat_low, bit_at_cat_high, bit_at_above, bit_at-lt, same_from_bits}
 use Rattle.trace_model.specs.declared.channel.Channel.{Channel}
 use Rattle.trace_model.specs.Counting.{has}
 use Rattle.trace_model.specs.Packet.{Fit, widths_of}
@@ -17,6 +17,9 @@ hasn't mask c h = ne_eqb (bit_at mask c) 1 (λ one. absurd (omega (arith, one, h
 
 pub has-above : (mask n c : ℕ) → mask < 2 ^ n → n ≤ c → has mask c ≡ false
 has-above mask n c l h = hasn't mask c (bit_at_above mask n c l h)
+
+pub has-all : (n c : ℕ) → c < n → has (2 ^ n - 1) c ≡ true
+has-all n c l = eq-eqb (bit_at (2 ^ n - 1) c) 1 (bit_at_ones n c l)
 
 tells : (x : ℕ) → x < 2 → (b : Bool) → eqb x 1 ≡ b → x ≡ cond b 1 0
 tells x l true h = eqb-true x 1 h

@@ -4,3 +4,6 @@ pub mod RowParts
 pub mod PlayedLaws
 pub mod Stays
 pub mod RunLaws
+pub mod EventPlaces
+pub mod ReplayLaws
+pub mod Circle

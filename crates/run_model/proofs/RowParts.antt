@@ -199,7 +199,7 @@ fit-cond : (b : Bool) (ws xs ys : List ℕ) → Fit ws xs → Fit ws ys → Fit 
 fit-cond true ws xs ys f g = f
 fit-cond false ws xs ys f g = g
 
-no-content-fits : (channels : List Channel) (c : ℕ) (x : Channel) → slice_get channels c ≡ Some x → Fit x.widths (no_content channels c)
+pub no-content-fits : (channels : List Channel) (c : ℕ) (x : Channel) → slice_get channels c ≡ Some x → Fit x.widths (no_content channels c)
 no-content-fits channels c x at = subst (λ (o : Option Channel). Fit x.widths (replicate (length (widths_of o)) 0)) (sym at)
     (fit-zeros x.widths)
 

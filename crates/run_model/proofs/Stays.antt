@@ -144,6 +144,10 @@ flies-some : (o : Option Row) (c : ℕ) → flies_after o c ≡ true → (before
 flies-some None c h = absurd (false≢true h)
 flies-some (Some before) c h = (before, refl, h)
 
+pub flying-flag : (b : Bool) → not b ≡ true → cond {A = ℕ} b 1 0 ≡ 0
+flying-flag true h = absurd (false≢true h)
+flying-flag false h = refl
+
 module _ (channels : List Channel) (rows : List Row) (are : AreRows channels rows) (keeps : KeepsContents channels rows) (c : ℕ) where
   since-suc : (v : ℕ) (row : Row) → slice_get rows v ≡ Some row → is_in_flight row c ≡ true
       → (flies_after (row_before rows v) c ≡ true → Since channels rows c v) → Since channels rows c (suc v)

@@ -10,5 +10,7 @@ mod laws;
 mod pins;
 
 pub use held::{Await, Awaits, Held, Helds};
-pub use laws::{one_run, run_keeps_contents};
+pub use laws::{
+    no_circle, one_replay, one_run, order_in_the_output, replay_keeps_contents, run_keeps_contents,
+};
 pub use pins::{PinNumber, PinNumbers};
