@@ -9,6 +9,7 @@ use Rattle.trace_model.specs.declared.channel.Channel.{Channel}
 use Rattle.trace_model.specs.Counting.{has}
 use Rattle.trace_model.specs.Packet.{Fit, widths_of}
 use Rattle.trace_model.specs.Row.{all_widths, content_at}
+use Rattle.run_model.specs.Building.{mask_of, joined}
 use Rattle.trace_model.proofs.ContentsLemmas.{fit-append, fit-front, fit-length, fit-rest}
 
 -- ---- masks
@@ -38,11 +39,6 @@ same-masks_below n a b la lb h = same-masks a b (λ c. ⊎_elim
     (λ (l : n ≤ c). has-above a n c la l ∙ sym (has-above b n c lb l))
     (cases_lt c n))
 
--- the mask of n channels with these bits
-abbrev pub mask_of : (ℕ → Bool) → ℕ → ℕ
-mask_of f zero = 0
-mask_of f (suc n) = cond (f n) 1 0 * 2 ^ n + mask_of f n
-
 mask-step : (b : Bool) (n m : ℕ) → m < 2 ^ n → cond b 1 0 * 2 ^ n + m < 2 ^ suc n
 mask-step true n m l = let p : 2 ^ suc n ≡ 2 ^ n + 2 ^ n = omega arith in omega arith
 mask-step false n m l = let p : 2 ^ suc n ≡ 2 ^ n + 2 ^ n = omega arith in omega arith
@@ -71,15 +67,11 @@ has-mask f (suc n) c l = ⊎_elim
     (cases_lt c n)
 
 -- ---- contents channel by channel
-abbrev pub joined : (ℕ → List ℕ) → ℕ → List Channel → List ℕ
-joined f k [] = []
-joined f k (x ∷ xs) = f k ++ joined f (suc k) xs
-
 pub fit-joined_from : (f : ℕ → List ℕ) (k : ℕ) (cs : List Channel)
     → ((i j : ℕ) (x : Channel) → slice_get cs i ≡ Some x → j ≡ k + i → Fit x.widths (f j)) → Fit (all_widths cs) (joined f k cs)
 fit-joined_from f k [] h = tt
-fit-joined_from f k (x ∷ xs) h = fit-append x.widths (all_widths xs) (f k) (joined f (suc k) xs) (h 0 k x refl (omega arith))
-    (fit-joined_from f (suc k) xs (λ i j y at e. h (suc i) j y at (omega (arith, e))))
+fit-joined_from f k (x ∷ xs) h = fit-append x.widths (all_widths xs) (f k) (joined f (k + 1) xs) (h 0 k x refl (omega arith))
+    (fit-joined_from f (k + 1) xs (λ i j y at e. h (suc i) j y at (omega (arith, e))))
 
 content-first : (x : Channel) (xs : List Channel) (numbers : List ℕ) → content_at (x ∷ xs) numbers 0 ≡ take (length x.widths) numbers
 content-first x xs numbers = refl
@@ -96,11 +88,11 @@ pub content-joined_from : (f : ℕ → List ℕ) (k : ℕ) (cs : List Channel)
 content-joined_from f k [] h c j x at e = absurd (cc)
 content-joined_from f k (y ∷ ys) h zero j x at e =
     let k-is : k ≡ j = omega (arith, e) in
-    take_at (f k) (joined f (suc k) ys) (length y.widths) (h 0 k y refl (omega arith)) ∙ ap f k-is
+    take_at (f k) (joined f (k + 1) ys) (length y.widths) (h 0 k y refl (omega arith)) ∙ ap f k-is
 content-joined_from f k (y ∷ ys) h (suc c) j x at e =
-    content-suc y ys (f k ++ joined f (suc k) ys) c
-    ∙ ap (λ xs. content_at ys xs c) (drop_at (f k) (joined f (suc k) ys) (length y.widths) (h 0 k y refl (omega arith)))
-    ∙ content-joined_from f (suc k) ys (λ i l z a p. h (suc i) l z a (omega (arith, p))) c j x at (omega (arith, e))
+    content-suc y ys (f k ++ joined f (k + 1) ys) c
+    ∙ ap (λ xs. content_at ys xs c) (drop_at (f k) (joined f (k + 1) ys) (length y.widths) (h 0 k y refl (omega arith)))
+    ∙ content-joined_from f (k + 1) ys (λ i l z a p. h (suc i) l z a (omega (arith, p))) c j x at (omega (arith, e))
 
 pub fit-joined : (f : ℕ → List ℕ) (cs : List Channel) → ((c : ℕ) (x : Channel) → slice_get cs c ≡ Some x → Fit x.widths (f c))
     → Fit (all_widths cs) (joined f 0 cs)

@@ -1,10 +1,10 @@
 -- The pins of a cycle: exactly one list of numbers.
 use Rattle.std.proofs.Common.{◌≡◌, ℕ, zero, suc, ◌+◌, ◌<◌, ◌≤◌, ◌^◌, ◌&&◌, ◌==◌, Bool, true, false, not, cond, List, [], ◌∷◌}
 use Rattle.std.proofs.Common.{◌++◌, Option, Some, None, All, length, take, map, get_or, slice_get, count_by, refl, ap}
-use Rattle.std.proofs.Common.{sym, subst, ◌∙◌, arith}
+use Rattle.std.proofs.Common.{◌⊎◌, ltb, ⊎_elim, sym, subst, ◌∙◌, arith}
 use Rattle.std.specs.List.{AllZip, enumerate_from, range_with_len}
 use Rattle.std.specs.Option.{option_to_list, IfSome}
-use Rattle.std.proofs.lemmas.Bool.{eqb-true, eqb-false, eq-eqb, false≢true}
+use Rattle.std.proofs.lemmas.Bool.{cases_order, lt-ltb, le-ltb, ne_eqb, eqb-true, eqb-false, eq-eqb, false≢true}
 use Rattle.std.proofs.lemmas.List.{ext_get_or, length-map}
 use Rattle.std.proofs.lemmas.List.Elements.{All-cons, All-append, All-nil, All-map, All-from_recursion, All-weaker}
 use Rattle.std.proofs.lemmas.List.FromFn.{length-map-range_with_len, get_or-map-range_with_len, length-enumerate_from}
@@ -22,7 +22,7 @@ use Rattle.net_design.specs.declared.design.Direction.{Direction}
 use Rattle.net_design.specs.declared.design.Direction.TheVariants.{Input, Output}
 use Rattle.net_design.specs.declared.design.Design.{Design}
 use Rattle.net_design.specs.Settled.{same_direction, pins_of}
-use Rattle.net_design.specs.Pins.{is_clock, port_limits, input_limits}
+use Rattle.net_design.specs.Pins.{output_count, is_clock, port_limits, input_limits}
 use Rattle.chan_map.specs.declared.pins.Map.{Map}
 use Rattle.chan_map.specs.declared.pins.Pin.{Pin}
 use Rattle.chan_map.specs.declared.pins.Plug.{Plug}
@@ -32,6 +32,7 @@ use Rattle.chan_map.specs.Bound.{IsPin, IsPlug, IsTie}
 use Rattle.chan_map.specs.Ports.{source_side, sink_side}
 use Rattle.chan_map.specs.Places.{is_at, reset_places, tie_places, plugs_places, places}
 use Rattle.run_model.specs.declared.pins.PinNumber.{PinNumber}
+use Rattle.run_model.specs.Building.{number_for, AreSmall}
 use Rattle.run_model.specs.MapOf.{IsMapOf}
 use Rattle.run_model.specs.Pins.{flag, pin_number, shown_number, plug_inputs, inputs_from, reset_input, tie_input, entered}
 use Rattle.run_model.specs.Pins.{ArePins}
@@ -218,11 +219,6 @@ one-list d m is resets a b same p q isp isq = ext_get_or 0 p q (isp.fit.long ∙
     ap (λ i. get_or p i 0) (sym s.place) ∙ first ∙ sym second ∙ ap (λ i. get_or q i 0) s.place)
 
 -- ---- one list at least
--- the first number that is entered at place k
-abbrev pub number_for : List PinNumber → ℕ → ℕ
-number_for [] k = 0
-number_for (e ∷ es) k = cond (e.place == k) e.number (number_for es k)
-
 found-in : (b : Bool) (x rest y : ℕ) → (b ≡ true → x ≡ y) → (b ≡ false → rest ≡ y) → cond b x rest ≡ y
 found-in true x rest y h k = h refl
 found-in false x rest y h k = k refl
@@ -261,11 +257,6 @@ fits-port d width place number pin is e l = record {
   place = e ∙ is.place;
   fits = subst (λ w. number < 2 ^ w) (sym is.width_is) l;
 }
-
--- the numbers of the contents fit, as far as they are shown
-abbrev pub AreSmall : List Channel → Row → Type 0
-AreSmall channels row = (c : ℕ) (x : Channel) → slice_get channels c ≡ Some x → (i : ℕ)
-    → shown_number (sink_valid row c) (content_at channels row.contents c) i < 2 ^ get_or x.widths i 0
 
 flag-small : (b : Bool) → flag b < 2 ^ 1
 flag-small true = omega arith
@@ -442,3 +433,68 @@ are-pins d m is resets row small =
       numbers = λ k e l.
           here k (get_or es k e) (slice_get-get_or es k e l);
     }
+
+-- ---- as many entered numbers as inputs
+abbrev total : List PinNumber → ℕ → ℕ
+total es zero = 0
+total es (suc k) = total es k + count_by (at_place k) es
+
+total-ones : (es : List PinNumber) (n : ℕ) → ((k : ℕ) → k < n → count_by (at_place k) es ≡ 1) → total es n ≡ n
+total-ones es zero h = refl
+total-ones es (suc k) h = let a = total-ones es k (λ j l. h j (omega arith)) in let b = h k (omega arith) in omega (arith, a, b)
+
+total-nil : (n : ℕ) → total [] n ≡ 0
+total-nil zero = refl
+total-nil (suc k) = let a = total-nil k in omega (arith, a)
+
+one-place : (place k : ℕ) → cond {A = ℕ} (ltb place k) 1 0 + cond {A = ℕ} (place == k) 1 0 ≡ cond {A = ℕ} (ltb place (suc k)) 1 0
+one-place place k = ⊎_elim
+    (λ (e : place ≡ k).
+    (let a : cond {A = ℕ} (ltb place k) 1 0 ≡ 0 = ap (λ b. cond {A = ℕ} b 1 0) (le-ltb place k (omega arith)) in
+    let b : cond {A = ℕ} (place == k) 1 0 ≡ 1 = ap (λ b. cond {A = ℕ} b 1 0) (eq-eqb place k e) in
+    let c : cond {A = ℕ} (ltb place (suc k)) 1 0 ≡ 1 = ap (λ b. cond {A = ℕ} b 1 0) (lt-ltb place (suc k) (omega arith)) in
+    omega (arith, a, b, c)))
+    (λ (ne : (place < k) ⊎ (k < place)). ⊎_elim
+    (λ (l : place < k).
+    (let a : cond {A = ℕ} (ltb place k) 1 0 ≡ 1 = ap (λ b. cond {A = ℕ} b 1 0) (lt-ltb place k l) in
+    let b : cond {A = ℕ} (place == k) 1 0 ≡ 0 = ap (λ b. cond {A = ℕ} b 1 0) (ne_eqb place k (λ e. absurd (omega arith))) in
+    let c : cond {A = ℕ} (ltb place (suc k)) 1 0 ≡ 1 = ap (λ b. cond {A = ℕ} b 1 0) (lt-ltb place (suc k) (omega arith)) in
+    omega (arith, a, b, c)))
+    (λ (l : k < place).
+    (let a : cond {A = ℕ} (ltb place k) 1 0 ≡ 0 = ap (λ b. cond {A = ℕ} b 1 0) (le-ltb place k (omega arith)) in
+    let b : cond {A = ℕ} (place == k) 1 0 ≡ 0 = ap (λ b. cond {A = ℕ} b 1 0) (ne_eqb place k (λ e. absurd (omega arith))) in
+    let c : cond {A = ℕ} (ltb place (suc k)) 1 0 ≡ 0 = ap (λ b. cond {A = ℕ} b 1 0) (le-ltb place (suc k) (omega arith)) in
+    omega (arith, a, b, c)))
+    ne)
+    (cases_order place k)
+
+total-cons : (e : PinNumber) (es : List PinNumber) (n : ℕ) → total (e ∷ es) n ≡ total es n + cond {A = ℕ} (ltb e.place n) 1 0
+total-cons e es zero =
+    let z : cond {A = ℕ} (ltb e.place 0) 1 0 ≡ 0 = ap (λ b. cond {A = ℕ} b 1 0) (le-ltb e.place 0 (omega arith)) in omega (arith, z)
+total-cons e es (suc k) =
+    let a = total-cons e es k in
+    let b = count-cons (at_place k) e es in
+    let c = one-place e.place k in
+    omega (arith, a, b, c)
+
+total-length : (n : ℕ) (es : List PinNumber) → ((i : ℕ) (e : PinNumber) → slice_get es i ≡ Some e → e.place < n) → total es n ≡ length es
+total-length n [] h = total-nil n
+total-length n (e ∷ es) h =
+    let a = total-cons e es n in
+    let b = total-length n es (λ i x at. h (suc i) x at) in
+    let c : cond {A = ℕ} (ltb e.place n) 1 0 ≡ 1 = ap (λ b. cond {A = ℕ} b 1 0) (lt-ltb e.place n (h 0 e refl)) in
+    omega (arith, a, b, c)
+
+pub length-entered : (d : Design) (m : Map) → IsMapOf d m → (resets : Bool) (row : Row) → AreSmall m.channels row
+    → length (entered m resets row) ≡ length (input_limits d)
+length-entered d m is resets row small =
+    let n = length (input_limits d) in
+    let es = entered m resets row in
+    sym (total-length n es (λ i e at. (enters d m is resets row small i e at).input))
+    ∙ total-ones es n (λ k l. count-entered m resets row k ∙ is.inputs k (let c = input-count d in omega (arith, c, l)))
+
+-- ---- output pins are there
+pub output-below : (d : Design) (width : ℕ) (pin : Pin) → IsPin d Output width pin → pin.place < output_count d
+output-below d width pin is =
+    let l = count-below (λ (q : Port). same_direction Output q.direction) d.ports is.port is.p is.at (ways Output is.p is.direction_is) in
+    let p = is.place in omega (arith, l, p)

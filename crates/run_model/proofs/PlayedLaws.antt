@@ -13,24 +13,24 @@ use Rattle.trace_model.specs.Counting.{has}
 use Rattle.trace_model.specs.Row.{content_at, sink_valid, row_before, IsOver, AreOffers, IsMarked, AreRows}
 use Rattle.trace_model.proofs.CountingLemmas.{slice_get-push, slice_get-append_left, slice_get-take, take-suc_get}
 use Rattle.net_design.specs.declared.design.Net.{Net}
-use Rattle.net_design.specs.declared.design.Port.{Port}
 use Rattle.net_design.specs.declared.design.Direction.TheVariants.{Output}
 use Rattle.net_design.specs.declared.design.Design.{Design}
 use Rattle.net_design.specs.declared.values.Values.{Values}
-use Rattle.net_design.specs.Settled.{IsSettled, net_width, initial, next}
+use Rattle.net_design.specs.Settled.{FitNets, IsSettled, initial, next}
 use Rattle.net_design.specs.Lawful.{IsLawful, IsState}
 use Rattle.net_design.specs.Pins.{FitPins, HasOneMap, input_limits, outputs}
 use Rattle.net_design.proofs.StateLaws.{initial_state, next_state}
 use Rattle.chan_map.specs.declared.pins.Map.{Map}
 use Rattle.chan_map.specs.declared.pins.Reset.{Reset}
+use Rattle.run_model.specs.Building.{row_of, number_for, FitOutputs, AreSmall, PortsAreNets}
 use Rattle.run_model.specs.MapOf.{IsMapOf}
 use Rattle.run_model.specs.Pins.{ArePins, entered, silent}
 use Rattle.run_model.specs.Step.{IsStep, IsNext, IsAfter, IsAfterReset, IsFirst, Shows}
 use Rattle.run_model.specs.Offers.{Carries}
 use Rattle.run_model.specs.Played.{IsDriven, IsPlayed}
 use Rattle.run_model.proofs.Contents.{has-above}
-use Rattle.run_model.proofs.PinLemmas.{one-list, are-pins, pin-at, ways, number_for, AreSmall}
-use Rattle.run_model.proofs.RowParts.{Agree, entered-same, one-row, carried, channel-at, row_of, FitOutputs, row-over, row-marked}
+use Rattle.run_model.proofs.PinLemmas.{one-list, are-pins, pin-at, ways}
+use Rattle.run_model.proofs.RowParts.{Agree, entered-same, one-row, carried, channel-at, row-over, row-marked}
 use Rattle.run_model.proofs.RowParts.{row-shows, row-carries, small-row}
 
 -- ---- states
@@ -213,24 +213,26 @@ played-nil d m rule s first = record {
 }
 
 -- ---- outputs fit
-net-at : (d : Design) → IsLawful d → (k : ℕ) (p : Port) → slice_get d.ports k ≡ Some p → net_width d k ≡ p.width
-net-at d law k p at =
-    let l = slice_get_within d.ports k p at in
-    let n = channel-at d.nets k (let small = law.ports in omega (arith, l, small)) in
-    get_or-map (λ (x : Net). x.width) d.nets k n.0 0 (slice_get_within d.nets k n.0 n.1)
-    ∙ ap (λ (x : Net). x.width) (get_or_from_slice_get d.nets k n.0 n.0 n.1) ∙ (law.port_nets k p n.0 at n.1).1
+pub ports-are_nets : (d : Design) → IsLawful d → PortsAreNets d
+ports-are_nets d law = record {
+  few = law.ports;
+  widths = λ k p at.
+      (let l = slice_get_within d.ports k p at in
+      let n = channel-at d.nets k (let small = law.ports in omega (arith, l, small)) in
+      get_or-map (λ (x : Net). x.width) d.nets k n.0 0 (slice_get_within d.nets k n.0 n.1)
+      ∙ ap (λ (x : Net). x.width) (get_or_from_slice_get d.nets k n.0 n.0 n.1) ∙ (law.port_nets k p n.0 at n.1).1);
+}
 
-pub fit-outputs : (d : Design) → IsLawful d → (s : Values) (pins : List ℕ) (v : Values) → IsSettled d s pins v → FitOutputs d (outputs d v)
-fit-outputs d law s pins v settled width pin is =
-    let fit = settled.keeps.fit in
+pub fit-outputs : (d : Design) → PortsAreNets d → (v : Values) → FitNets d v.nets → FitOutputs d (outputs d v)
+fit-outputs d are v fit width pin is =
     let long = fit.long in
-    let few = law.ports in
+    let few = are.few in
     let number : get_or (outputs d v) pin.place 0 ≡ get_or v.nets is.port 0 =
     ap (λ k. get_or (outputs d v) k 0) is.place ∙ pin-at Output d.ports v.nets is.port is.p is.at (ways Output is.p is.direction_is)
     (omega (arith, long, few)) in
     let below = fit.each is.port in
     subst (λ n. n < 2 ^ width) (sym number)
-    (subst (λ w. get_or v.nets is.port 0 < 2 ^ w) (net-at d law is.port is.p is.at ∙ is.width_is) below)
+    (subst (λ w. get_or v.nets is.port 0 < 2 ^ w) (are.widths is.port is.p is.at ∙ is.width_is) below)
 
 -- ---- at least one list
 -- after these rows the rule allows the rows with some offers and gates
@@ -281,12 +283,12 @@ no-outputs d width pin is = positive width
     positive (suc n) = let p = positive n in omega arith
 
 -- the next row, and the state after it, by its settled map
-pub row-step : (d : Design) (m : Map) → IsLawful d → IsMapOf d m → (before : Option Row) (offers : Offers) → AreOffers m.channels offers
+pub row-step : (d : Design) (m : Map) → PortsAreNets d → IsMapOf d m → (before : Option Row) (offers : Offers) → AreOffers m.channels offers
     → (gates : ℕ) → gates < 2 ^ length m.channels → (s : Values) (pins : List ℕ) (v : Values)
     → ArePins d m false (row_of m before offers gates []) pins → IsSettled d s pins v
     → IsStep d m s (row_of m before offers gates (outputs d v)) (next d v s)
-row-step d m law is before offers are gates l s pins v entered-is settled =
-    let fits = fit-outputs d law s pins v settled in
+row-step d m are-nets is before offers are gates l s pins v entered-is settled =
+    let fits = fit-outputs d are-nets v settled.keeps.fit in
     let first = row_of m before offers gates [] in
     let row = row_of m before offers gates (outputs d v) in
     let agree : Agree m.channels first row = carried m.channels offers first row refl
@@ -320,13 +322,13 @@ module _ (d : Design) (m : Map) (law : IsLawful d) (one : HasOneMap d) (is : IsM
       let pins = map (number_for (entered m false (row_of m before w.offers w.gates []))) (range_with_len 0 (length (input_limits d))) in
       let are = first-pins d m is before w.offers w.are w.gates w.below in
       ∥∥₁_map {B = Lists d m rule (suc n)} (one.some s pins x.lawful are.fit) (λ (v : (v : Values) × IsSettled d s pins v).
-      (let fits = fit-outputs d law s pins v.0 v.1 in
+      (let fits = fit-outputs d (ports-are_nets d law) v.0 v.1.keeps.fit in
       let row = row_of m before w.offers w.gates (outputs d v.0) in
       let over = row-over d m is before w.offers w.are w.gates w.below (outputs d v.0) fits in
-      let step = row-step d m law is before w.offers w.are w.gates w.below s pins v.0 are v.1 in
+      let step = row-step d m (ports-are_nets d law) is before w.offers w.are w.gates w.below s pins v.0 are v.1 in
       let g = played-push d m rule x.rows row (next d v.0 s) x.played
       (w.allows row over (row-carries d m is before w.offers w.are w.gates (outputs d v.0) fits) refl) over
-      (row-marked d m is before w.offers w.gates w.below (outputs d v.0)) step in
+      (row-marked m before w.offers w.gates (outputs d v.0)) step in
       record {
         rows = x.rows ++ row ∷ [];
         long = let l = x.long in omega (arith, length_push x.rows row, l);

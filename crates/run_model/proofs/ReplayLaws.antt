@@ -25,11 +25,12 @@ use Rattle.trace_model.proofs.CountingLemmas.{count-suc_no, count-mono, nth, nth
 use Rattle.trace_model.proofs.RowLaws.{counted, recorded-once, same-counts}
 use Rattle.net_design.specs.declared.design.Design.{Design}
 use Rattle.chan_map.specs.declared.pins.Map.{Map}
+use Rattle.run_model.specs.Building.{mask_of, joined}
 use Rattle.run_model.specs.Laws.{OneReplay, ContentsFit, ReplayKeepsContents, controls, IsInOrder, AreInOrder, OrderInTheOutput}
 use Rattle.run_model.specs.Offers.{no_content, CarriesOn}
 use Rattle.run_model.specs.Played.{AreStable, all_up}
 use Rattle.run_model.specs.Replay.{done, IsCovered, IsOfferedOn, IsReplayRow, IsReplay}
-use Rattle.run_model.proofs.Contents.{mask_of, mask-below, has-mask, has-all, has-above, joined, fit-joined, content-joined}
+use Rattle.run_model.proofs.Contents.{mask-below, has-mask, has-all, has-above, fit-joined, content-joined}
 use Rattle.run_model.proofs.EventPlaces.{covered-or-not, filter-nth}
 use Rattle.run_model.proofs.PinLemmas.{all-at}
 use Rattle.run_model.proofs.PlayedLaws.{Determines, Allows, one-list_of_rows, some-list}

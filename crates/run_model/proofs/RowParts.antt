@@ -1,10 +1,10 @@
 -- A row by its parts: the environment's, the gates', and what the design shows.
-use Rattle.std.proofs.Common.{◌≡◌, ℕ, zero, suc, ◌+◌, ◌<◌, ◌≤◌, ◌^◌, ◌&&◌, ◌==◌, Bool, true, false, not, cond, List, [], ◌∷◌}
+use Rattle.std.proofs.Common.{◌≡◌, ℕ, zero, suc, ◌+◌, ◌<◌, ◌≤◌, ◌^◌, ◌&&◌, Bool, true, false, not, cond, List, [], ◌∷◌}
 use Rattle.std.proofs.Common.{◌++◌, Option, Some, None, length, map, replicate, get_or, slice_get, slice_index, ⊎_elim, refl, ap}
 use Rattle.std.proofs.Common.{sym, subst, ◌∙◌, arith}
 use Rattle.std.specs.List.{AllZip}
 use Rattle.std.specs.Option.{option_to_list}
-use Rattle.std.proofs.lemmas.Bool.{cases_lt}
+use Rattle.std.proofs.lemmas.Bool.{false≢true, cases_lt}
 use Rattle.std.proofs.lemmas.List.{get_or_past}
 use Rattle.std.proofs.lemmas.Option.{slice_get_within, slice_get_cases}
 use Rattle.trace_model.specs.declared.channel.Channel.{Channel}
@@ -27,9 +27,10 @@ use Rattle.run_model.specs.MapOf.{IsMapOf}
 use Rattle.run_model.specs.Pins.{flag, pin_number, inward_inputs, plug_inputs, inputs_from, entered, reset_input, tie_input}
 use Rattle.run_model.specs.Step.{ShowsPlug, Shows}
 use Rattle.run_model.specs.Offers.{no_content, offered_content, CarriesOn, Carries}
-use Rattle.run_model.proofs.Contents.{same-masks_below, same-contents, mask_of, mask-below, has-mask, has-above, joined, fit-joined}
+use Rattle.run_model.proofs.Contents.{same-masks_below, same-contents, mask-below, has-mask, has-above, fit-joined}
 use Rattle.run_model.proofs.Contents.{content-joined, content-fits, fit-zeros}
-use Rattle.run_model.proofs.PinLemmas.{AreSmall}
+use Rattle.run_model.specs.Building.{AreSmall, FitOutputs, at_plug, content_here, content_on, mask_of, ready_at, ready_on, row_of}
+use Rattle.run_model.specs.Building.{valid_at, valid_on}
 
 -- ---- rows that agree on the environment's part and the gates
 abbrev pub AgreeOn : List Channel → Row → Row → ℕ → Dir → Type 0
@@ -145,49 +146,6 @@ pub carried : (channels : List Channel) (offers : Offers) (a b : Row) → a.gate
 carried channels offers a b g x y = record { gates = g; on = λ c z at. carried-on channels offers a b c z.dir (x c z at) (y c z at) }
 
 -- ---- the row of given offers, gates and outputs
-abbrev pub valid_on : Offers → List ℕ → ℕ → Dir → Plug → Bool
-valid_on offers out c Inward plug = has offers.valids c
-valid_on offers out c Outward plug = slice_index out plug.valid.place == 1
-
-abbrev pub ready_on : Offers → List ℕ → ℕ → Dir → Plug → Bool
-ready_on offers out c Inward plug = slice_index out plug.ready.place == 1
-ready_on offers out c Outward plug = has offers.readies c
-
-abbrev pub content_on : List Channel → Offers → List ℕ → ℕ → Dir → Plug → List ℕ
-content_on channels offers out c Inward plug = offered_content channels offers c
-content_on channels offers out c Outward plug = map (λ (p : Pin). slice_index out p.place) plug.contents
-
--- at a channel and its plug, if they are there
-abbrev pub at_plug : {A : Type 0} → A → (Dir → Plug → A) → Option Channel → Option Plug → A
-at_plug none f None plug = none
-at_plug none f (Some x) None = none
-at_plug none f (Some x) (Some p) = f x.dir p
-
-abbrev pub valid_at : Map → Offers → List ℕ → ℕ → Bool
-valid_at m offers out c = at_plug false (valid_on offers out c) (slice_get m.channels c) (slice_get m.plugs c)
-
-abbrev pub ready_at : Map → Offers → List ℕ → ℕ → Bool
-ready_at m offers out c = at_plug false (ready_on offers out c) (slice_get m.channels c) (slice_get m.plugs c)
-
-abbrev pub content_here : Map → Offers → List ℕ → ℕ → List ℕ
-content_here m offers out c = at_plug [] (content_on m.channels offers out c) (slice_get m.channels c) (slice_get m.plugs c)
-
-abbrev pub row_of : Map → Option Row → Offers → ℕ → List ℕ → Row
-row_of m before offers gates out =
-    let n = length m.channels in
-    record {
-      gates = gates;
-      valids = mask_of (valid_at m offers out) n;
-      readies = mask_of (ready_at m offers out) n;
-      contents = joined (content_here m offers out) 0 m.channels;
-      starts = mask_of (λ c. (valid_at m offers out c && has gates c) && not (flies_after before c)) n;
-      ends = mask_of (λ c. (valid_at m offers out c && has gates c) && ready_at m offers out c) n;
-    }
-
--- the outputs fit their ports
-abbrev pub FitOutputs : Design → List ℕ → Type 0
-FitOutputs d out = (width : ℕ) (pin : Pin) → IsPin d Output width pin → slice_index out pin.place < 2 ^ width
-
 map-fits : (d : Design) (out : List ℕ) → FitOutputs d out → (widths : List ℕ) (pins : List Pin)
     → AllZip (λ width pin. IsPin d Output width pin) widths pins → Fit widths (map (λ (p : Pin). slice_index out p.place) pins)
 map-fits d out fits [] [] z = tt
@@ -229,38 +187,36 @@ row-over d m is before offers are gates l out fits = record {
   gates = l;
   valids = mask-below (valid_at m offers out) (length m.channels);
   readies = mask-below (ready_at m offers out) (length m.channels);
-  starts = mask-below (λ c. (valid_at m offers out c && has gates c) && not (flies_after before c)) (length m.channels);
-  ends = mask-below (λ c. (valid_at m offers out c && has gates c) && ready_at m offers out c) (length m.channels);
+  starts = mask-below (λ c. (has (mask_of (valid_at m offers out) (length m.channels)) c && has gates c) && not (flies_after before c))
+      (length m.channels);
+  ends = mask-below (λ c. (has (mask_of (valid_at m offers out) (length m.channels)) c && has gates c)
+      && has (mask_of (ready_at m offers out) (length m.channels)) c) (length m.channels);
   contents = fit-joined (content_here m offers out) m.channels (content-here-fits d m is offers are out fits);
 }
 
--- past the channels nothing is up
-past-and : (a b : Bool) → a ≡ false → (a && b) ≡ false
-past-and a b h = rw h refl
+-- a bit past the channels is 0, whatever is asked beside it
+past-and : (a b c : Bool) → a ≡ false → ((a && b) && c) ≡ false
+past-and true b c h = absurd (false≢true (sym h))
+past-and false b c h = refl
 
-two-and : (a g f a' : Bool) → a ≡ a' → ((a && g) && f) ≡ ((a' && g) && f)
-two-and a g f a' e = ap (λ x. (x && g) && f) e
+mask-is : (n : ℕ) (f : ℕ → Bool) → ((c : ℕ) → n ≤ c → f c ≡ false) → (c : ℕ) → has (mask_of f n) c ≡ f c
+mask-is n f past c = ⊎_elim
+    (λ (l : c < n). has-mask f n c l)
+    (λ (l : n ≤ c). has-above (mask_of f n) n c (mask-below f n) l ∙ sym (past c l))
+    (cases_lt c n)
 
-pub row-marked : (d : Design) (m : Map) → IsMapOf d m → (before : Option Row) (offers : Offers) → (gates : ℕ)
-    → gates < 2 ^ length m.channels → (out : List ℕ) → IsMarked before (row_of m before offers gates out)
-row-marked d m is before offers gates l out =
+pub row-marked : (m : Map) (before : Option Row) (offers : Offers) (gates : ℕ) (out : List ℕ)
+    → IsMarked before (row_of m before offers gates out)
+row-marked m before offers gates out =
     let n = length m.channels in
-    let v = valid_at m offers out in
-    let r = ready_at m offers out in
-    let s : ℕ → Bool = λ c. (v c && has gates c) && not (flies_after before c) in
-    let e : ℕ → Bool = λ c. (v c && has gates c) && r c in
+    let valids = mask_of (valid_at m offers out) n in
+    let readies = mask_of (ready_at m offers out) n in
+    let past : (c : ℕ) → n ≤ c → has valids c ≡ false = λ c l. has-above valids n c (mask-below (valid_at m offers out) n) l in
     record {
-      starts = λ c. ⊎_elim
-          (λ (k : c < n). has-mask s n c k ∙ ap (λ x. (x && has gates c) && not (flies_after before c)) (sym (has-mask v n c k)))
-          (λ (k : n ≤ c). has-above (mask_of s n) n c (mask-below s n) k
-          ∙ sym (ap (λ x. (x && has gates c) && not (flies_after before c)) (has-above (mask_of v n) n c (mask-below v n) k)))
-          (cases_lt c n);
-      ends = λ c. ⊎_elim
-          (λ (k : c < n). has-mask e n c k ∙ ap (λ x. (x && has gates c) && r c) (sym (has-mask v n c k))
-          ∙ ap (λ x. (has (mask_of v n) c && has gates c) && x) (sym (has-mask r n c k)))
-          (λ (k : n ≤ c). has-above (mask_of e n) n c (mask-below e n) k
-          ∙ sym (ap (λ x. (x && has gates c) && has (mask_of r n) c) (has-above (mask_of v n) n c (mask-below v n) k)))
-          (cases_lt c n);
+      starts = mask-is n (λ c. (has valids c && has gates c) && not (flies_after before c))
+          (λ c l. past-and (has valids c) (has gates c) (not (flies_after before c)) (past c l));
+      ends = mask-is n (λ c. (has valids c && has gates c) && has readies c)
+          (λ c l. past-and (has valids c) (has gates c) (has readies c) (past c l));
     }
 
 -- the parts of the row at a channel

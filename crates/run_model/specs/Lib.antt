@@ -7,3 +7,4 @@ pub mod Run
 pub mod Replay
 pub mod Held
 pub mod Laws
+pub mod Building
