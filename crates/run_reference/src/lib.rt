@@ -6,5 +6,9 @@
 #![tactic(auto)]
 
 mod pins;
+mod play;
+mod row;
 
 pub use pins::{entered, input_pins};
+pub use play::{reset, run_rows, step};
+pub use row::shown_row;
