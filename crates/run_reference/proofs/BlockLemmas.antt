@@ -1,15 +1,13 @@
 -- Pins of plugs, masks bit by bit, and contents channel by channel.
-use Rattle.std.proofs.Common.{◌≡◌, ℕ, zero, suc, ◌+◌, ◌*◌, ◌%◌, ◌<◌, ◌≤◌, ◌^◌, Bool, true, false, cond, List, [], ◌∷◌, ◌++◌, Option, Some, length}
-use Rattle.std.proofs.Common.{take, drop, get_or, slice_get, map, refl, ap, sym, subst, ◌∙◌, append_assoc, arith}
+use Rattle.std.proofs.Common.{◌≡◌, ℕ, zero, suc, ◌+◌, ◌*◌, ◌%◌, ◌<◌, ◌≤◌, ◌^◌, List, [], ◌∷◌, ◌++◌, Some, length}
+use Rattle.std.proofs.Common.{drop, get_or, slice_get, ap, sym, subst, ◌∙◌, arith}
 use Rattle.std.specs.List.{AllZip}
 use Rattle.std.proofs.lemmas.List.{drop_more}
 use Rattle.std.proofs.lemmas.Option.{same_Some}
 use Rattle.std.proofs.Math.Pow.{pow_mono}
 use Rattle.std.proofs.Math.Nat.{mod-eq_of_lt}
 use Rattle.trace_model.specs.declared.channel.Channel.{Channel}
-use Rattle.trace_model.specs.declared.channel.Dir.{Dir}
 use Rattle.trace_model.specs.declared.channel.Dir.TheVariants.{Inward, Outward}
-use Rattle.trace_model.specs.Channel.{IsTable}
 use Rattle.net_design.specs.declared.design.Design.{Design}
 use Rattle.net_design.specs.declared.design.Direction.TheVariants.{Output}
 use Rattle.net_design.specs.Pins.{output_count}
@@ -18,7 +16,7 @@ use Rattle.chan_map.specs.declared.pins.Pin.{Pin}
 use Rattle.chan_map.specs.declared.pins.Plug.{Plug}
 use Rattle.chan_map.specs.Bound.{IsPin, IsPlug}
 use Rattle.chan_map.specs.Ports.{source_side, sink_side}
-use Rattle.run_model.specs.Building.{mask_of, joined}
+use Rattle.run_model.specs.Building.{joined}
 use Rattle.run_model.specs.MapOf.{IsMapOf}
 use Rattle.run_model.proofs.PinLemmas.{output-below}
 use Rattle.run_model.proofs.RowParts.{has-plug}

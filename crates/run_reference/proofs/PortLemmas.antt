@@ -1,17 +1,17 @@
 -- Where the numbers of a channel begin, and the entries of pins one after the other.
-use Rattle.std.proofs.Common.{◌≡◌, ℕ, zero, suc, ◌+◌, ◌*◌, ◌<◌, ◌≤◌, List, [], ◌∷◌, ◌++◌, Option, Some, All, length, take, drop, get_or, slice_get}
-use Rattle.std.proofs.Common.{Bool, subst, map, refl, ap, sym, ◌∙◌, append_assoc, arith}
-use Rattle.std.specs.List.{flat_map, range_with_len}
+use Rattle.std.proofs.Common.{◌≡◌, ℕ, zero, suc, ◌+◌, ◌*◌, ◌<◌, ◌≤◌, List, [], ◌∷◌, ◌++◌, Option, All, length, take, drop, get_or, slice_get}
+use Rattle.std.proofs.Common.{Bool, true, false, cond, subst, map, refl, ap, sym, ◌∙◌, arith}
+use Rattle.std.specs.List.{range_with_len}
 use Rattle.std.proofs.lemmas.List.{append-nil, length-append, drop_more, drop_all}
 use Rattle.std.proofs.lemmas.List.Concat.{flat_map-append}
 use Rattle.std.proofs.lemmas.List.Elements.{All-head, All-tail}
 use Rattle.std.proofs.lemmas.List.FromFn.{map-range_with_len_more}
-use Rattle.std.proofs.lemmas.Option.{slice_get-get_or, slice_get_read}
 use Rattle.trace_model.specs.declared.channel.Channel.{Channel}
-use Rattle.trace_model.specs.declared.channel.Dir.{Dir}
 use Rattle.trace_model.specs.declared.row.Row.{Row}
 use Rattle.trace_model.specs.Channel.{IsChannel, IsTable}
-use Rattle.trace_model.specs.Packet.{widths_of}
+use Rattle.trace_model.specs.Counting.{has}
+use Rattle.trace_model.specs.Packet.{widths_of, widths_under}
+use Rattle.trace_model.proofs.ContentsLemmas.{widths-suc}
 use Rattle.trace_model.specs.Row.{all_widths}
 use Rattle.trace_model.proofs.CountingLemmas.{take-suc_get}
 use Rattle.chan_map.specs.declared.pins.Plug.{Plug}
@@ -21,7 +21,7 @@ use Rattle.chan_map.specs.declared.pins.Map.{Map}
 use Rattle.run_model.specs.Building.{number_for, AreSmall}
 use Rattle.run_model.specs.MapOf.{IsMapOf}
 use Rattle.run_model.specs.Pins.{plug_inputs, inputs_from, entered, ArePins}
-use Rattle.run_model.proofs.PinLemmas.{are-pins, length-entered}
+use Rattle.run_model.proofs.PinLemmas.{all-at, are-pins, length-entered}
 use Rattle.run_model.proofs.RowParts.{channel-at}
 
 pub first-suc : (cs : List Channel) (i : ℕ) → i < length cs
@@ -82,3 +82,32 @@ made-pins m resets row small entries pins e p d is =
     subst (ArePins d m resets row) (sym (p ∙ ap (λ es. map (number_for es) (range_with_len 0 (length es))) e
     ∙ ap (λ n. map (number_for (entered m resets row)) (range_with_len 0 n)) (length-entered d m is resets row small)))
     (are-pins d m is resets row small)
+
+-- ---- the numbers of a packet
+cond-length : (b : Bool) (ws : List ℕ) → length (cond b ws []) ≡ cond b (length ws) 0
+cond-length true ws = refl
+cond-length false ws = refl
+
+pub under-suc : (mask : ℕ) (cs : List Channel) (i : ℕ) → i < length cs
+    → length (widths_under mask (take (i + 1) cs))
+    ≡ length (widths_under mask (take i cs)) + cond (has mask i) (length (widths_of (slice_get cs i))) 0
+under-suc mask cs i l =
+    let x = channel-at cs i l in
+    let s : i + 1 ≡ suc i = omega arith in
+    ap (λ n. length (widths_under mask (take n cs))) s
+    ∙ ap length (widths-suc mask cs i x.0 x.1)
+    ∙ length-append (widths_under mask (take i cs)) (cond (has mask i) x.0.widths [])
+    ∙ ap (λ n. length (widths_under mask (take i cs)) + n) (cond-length (has mask i) x.0.widths)
+    ∙ ap (λ (o : Option Channel). length (widths_under mask (take i cs)) + cond (has mask i) (length (widths_of o)) 0) (sym x.1)
+
+cond-small : (b : Bool) (n : ℕ) → n ≤ 16 → cond b n 0 ≤ 16
+cond-small true n l = l
+cond-small false n l = omega arith
+
+pub ports-small : (cs : List Channel) → IsTable cs → (mask i : ℕ) → i < length cs
+    → cond (has mask i) (length (widths_of (slice_get cs i))) 0 ≤ 16
+ports-small cs t mask i l =
+    let x = channel-at cs i l in
+    let few = (all-at IsChannel cs i x.0 t.each x.1).ports in
+    cond-small (has mask i) (length (widths_of (slice_get cs i)))
+    (subst (λ (o : Option Channel). length (widths_of o) ≤ 16) (sym x.1) few)

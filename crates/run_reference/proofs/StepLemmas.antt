@@ -1,11 +1,10 @@
 -- One cycle of a block, and a run one row longer.
-use Rattle.std.proofs.Common.{◌≡◌, ℕ, zero, suc, ◌+◌, ◌<◌, ◌≤◌, ◌^◌, ◌&&◌, Bool, true, false, List, [], ◌∷◌, ◌++◌, Option, Some, None, All, length}
+use Rattle.std.proofs.Common.{◌≡◌, ℕ, suc, ◌+◌, ◌<◌, ◌^◌, ◌&&◌, Bool, true, false, List, [], ◌∷◌, ◌++◌, Option, Some, All, length}
 use Rattle.std.proofs.Common.{map, slice_get, slice_index, ⊎_elim, refl, ap, sym, subst, ◌∙◌, arith}
 use Rattle.std.specs.Prelude.{unwrap_or}
 use Rattle.std.specs.List.{AllZip}
 use Rattle.std.specs.Option.{option_to_list}
 use Rattle.std.proofs.lemmas.Bool.{cases_Bool, cond-true}
-use Rattle.std.proofs.lemmas.Option.{slice_get_read}
 use Rattle.trace_model.specs.declared.channel.Channel.{Channel}
 use Rattle.trace_model.specs.declared.channel.Dir.{Dir}
 use Rattle.trace_model.specs.declared.channel.Dir.TheVariants.{Inward, Outward}
@@ -24,10 +23,10 @@ use Rattle.run_model.specs.declared.pins.PinNumber.{PinNumber}
 use Rattle.run_model.specs.Building.{AreSmall, PortsAreNets, row_of}
 use Rattle.run_model.specs.Laws.{GatesOf}
 use Rattle.run_model.specs.MapOf.{IsMapOf}
-use Rattle.run_model.specs.Offers.{CarriesOn, Carries, offered_content, no_content}
+use Rattle.run_model.specs.Offers.{CarriesOn, Carries, no_content}
 use Rattle.run_model.specs.Pins.{flag, pin_number, inward_inputs, plug_inputs, inputs_from, reset_input, tie_input, entered, ArePins}
 use Rattle.run_model.specs.Run.{IsRunRow}
-use Rattle.run_model.specs.Step.{IsAfter, IsNext, IsStep}
+use Rattle.run_model.specs.Step.{IsAfter, IsStep}
 use Rattle.run_model.proofs.PlayedLaws.{Grown, played-push, fit-outputs}
 use Rattle.run_model.proofs.RowParts.{row-over, row-marked, row-shows, row-carries, small-fit}
 use Rattle.run_reference.specs.Given.{no_offers, offers_by, gates_by}

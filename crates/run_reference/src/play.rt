@@ -36,8 +36,14 @@ fn silent(alloc: Global) -> Row
 
 /// A row of what is offered, with nothing that the block shows.
 fn offered(alloc: Global, offers: &Offers, gates: u128) -> Result<Row, Memory>
-    ensures { IfOk result (λ row. row ≡ record { gates = gates; valids = offers.now.valids; readies = offers.now.readies;
-        contents = offers.now.contents; starts = 0; ends = 0 }) }
+    ensures { IfOk result (λ row. row ≡ record {
+      gates = gates;
+      valids = offers.now.valids;
+      readies = offers.now.readies;
+      contents = offers.now.contents;
+      starts = 0;
+      ends = 0;
+    }) }
 {
     let contents = Vec::from_slice(alloc, offers.contents.as_slice())?;
     Ok(Row {

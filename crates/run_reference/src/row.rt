@@ -54,13 +54,7 @@ pub fn flies(rows: &[Row], c: usize) -> bool
     is_in_flight(&rows[count - 1], c)
 }
 
-fn valid_on<B: Block>(
-    block: &B,
-    offers: &Offers,
-    c: usize,
-    channel: &Channel,
-    plug: &Plug,
-) -> bool
+fn valid_on<B: Block>(block: &B, offers: &Offers, c: usize, channel: &Channel, plug: &Plug) -> bool
     requires { IsPlug (B.design block.now) channel.now plug.now }
     ensures { result ≡ valid_on offers.now (outputs (B.design block.now) (B.shown block.now)) c channel.now.dir plug.now }
 {
@@ -70,13 +64,7 @@ fn valid_on<B: Block>(
     }
 }
 
-fn ready_on<B: Block>(
-    block: &B,
-    offers: &Offers,
-    c: usize,
-    channel: &Channel,
-    plug: &Plug,
-) -> bool
+fn ready_on<B: Block>(block: &B, offers: &Offers, c: usize, channel: &Channel, plug: &Plug) -> bool
     requires { IsPlug (B.design block.now) channel.now plug.now }
     ensures { result ≡ ready_on offers.now (outputs (B.design block.now) (B.shown block.now)) c channel.now.dir plug.now }
 {
@@ -163,7 +151,7 @@ fn ends(count: usize, valids: u128, gates: u128, readies: u128) -> u128
 }
 
 /// At most `len` numbers from place `first` on.
-fn part(numbers: &[u128], first: usize, len: usize) -> &[u128]
+pub fn part(numbers: &[u128], first: usize, len: usize) -> &[u128]
     ensures { result.now ≡ take len (drop first numbers.now) }
 {
     let first = first.min(numbers.len());
@@ -173,7 +161,7 @@ fn part(numbers: &[u128], first: usize, len: usize) -> &[u128]
 }
 
 /// Adds numbers.
-fn push_all(out: &mut Numbers, numbers: &[u128]) -> Result<(), Memory>
+pub fn push_all(out: &mut Numbers, numbers: &[u128]) -> Result<(), Memory>
     ensures { OnOk result (out.new ≡ out.old ++ numbers.now) }
 {
     for number in numbers {
@@ -193,7 +181,12 @@ pub fn push_zeros(out: &mut Numbers, count: usize) -> Result<(), Memory>
 }
 
 /// Adds the content that is offered on channel `c`, 0 for each port while its valid is down.
-fn push_offered(out: &mut Numbers, channels: &[Channel], offers: &Offers, c: usize) -> Result<(), Memory>
+fn push_offered(
+    out: &mut Numbers,
+    channels: &[Channel],
+    offers: &Offers,
+    c: usize,
+) -> Result<(), Memory>
     requires table { IsTable channels.now }
     requires within { c < length channels.now }
     ensures { OnOk result (out.new ≡ out.old ++ offered_content channels.now offers.now c) }
@@ -208,7 +201,12 @@ fn push_offered(out: &mut Numbers, channels: &[Channel], offers: &Offers, c: usi
 }
 
 /// Adds the numbers of output pins.
-fn push_outputs<B: Block>(out: &mut Numbers, block: &B, pins: &[Pin], widths: &[u8]) -> Result<(), Memory>
+fn push_outputs<B: Block>(
+    out: &mut Numbers,
+    block: &B,
+    pins: &[Pin],
+    widths: &[u8],
+) -> Result<(), Memory>
     requires { AllZip (λ width pin. IsPin (B.design block.now) Output width pin) widths.now pins.now }
     ensures { OnOk result (out.new ≡ out.old ++ map (λ (p : Pin). slice_index (outputs (B.design block.now) (B.shown block.now)) p.place) pins.now) }
 {
@@ -219,7 +217,13 @@ fn push_outputs<B: Block>(out: &mut Numbers, block: &B, pins: &[Pin], widths: &[
 }
 
 /// Adds the content of channel `c`.
-fn push_content<B: Block>(out: &mut Numbers, block: &B, map: &Map, offers: &Offers, c: usize) -> Result<(), Memory>
+fn push_content<B: Block>(
+    out: &mut Numbers,
+    block: &B,
+    map: &Map,
+    offers: &Offers,
+    c: usize,
+) -> Result<(), Memory>
     requires mapped { IsMapOf (B.design block.now) map.now }
     requires within { c < length map.now.channels }
     ensures { OnOk result (out.new ≡ out.old ++ content_here map.now offers.now (outputs (B.design block.now) (B.shown block.now)) c) }
@@ -232,12 +236,22 @@ fn push_content<B: Block>(out: &mut Numbers, block: &B, map: &Map, offers: &Offe
     };
     match channel.dir {
         Dir::Inward => push_offered(out, map.channels.as_slice(), offers, c),
-        Dir::Outward => push_outputs(out, block, plug.contents.as_slice(), channel.widths.as_slice()),
+        Dir::Outward => push_outputs(
+            out,
+            block,
+            plug.contents.as_slice(),
+            channel.widths.as_slice(),
+        ),
     }
 }
 
 /// The contents of all channels.
-fn contents<B: Block>(alloc: Global, block: &B, map: &Map, offers: &Offers) -> Result<Numbers, Memory>
+fn contents<B: Block>(
+    alloc: Global,
+    block: &B,
+    map: &Map,
+    offers: &Offers,
+) -> Result<Numbers, Memory>
     requires { IsMapOf (B.design block.now) map.now }
     ensures { IfOk result (λ xs. xs ≡ joined (content_here map.now offers.now (outputs (B.design block.now) (B.shown block.now))) 0
         map.now.channels) }

@@ -1,13 +1,10 @@
-use Rattle.std.proofs.Common.{◌≡◌, ℕ, List, Ok, Err, Result, IfOk, map, length, sym, ap, subst, ◌∙◌}
+use Rattle.std.proofs.Common.{◌≡◌, map, length, ◌∙◌}
 use Rattle.std.specs.List.{range_with_len}
 use Rattle.std.proofs.lemmas.Result.{IfOk-weaker}
-use Rattle.trace_model.specs.declared.row.Row.{Row}
 use Rattle.net_design.specs.declared.design.Design.{Design}
-use Rattle.chan_map.specs.declared.pins.Map.{Map}
-use Rattle.run_model.specs.declared.pins.PinNumber.{PinNumber}
-use Rattle.run_model.specs.Building.{number_for, AreSmall}
+use Rattle.run_model.specs.Building.{number_for}
 use Rattle.run_model.specs.MapOf.{IsMapOf}
-use Rattle.run_model.specs.Pins.{entered, ArePins}
+use Rattle.run_model.specs.Pins.{ArePins}
 use Rattle.run_reference.proofs.PortLemmas.{made-pins}
 use Rattle.run_reference.proofs.pins.input_pins.Goals as goal
 

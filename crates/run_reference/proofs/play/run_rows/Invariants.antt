@@ -8,7 +8,7 @@ use Rattle.run_reference.proofs.play.run_rows.Given as goal
 abbrev pub invariant-loop-t : goal.invariant-loop-t
 invariant-loop-t g l = record {
   grown : Grown (g.B.Block.design l.fn.block) l.map (IsRunRow l.map.channels (offers_by l.offers) (GatesOf (gates_by l.gates))) l.rows
-  (g.B.Block.state l.block);
+      (g.B.Block.state l.block);
   design : g.B.Block.design l.block ≡ g.B.Block.design l.fn.block;
   count : length l.rows ≡ l.t;
 }

@@ -1,10 +1,9 @@
-use Rattle.std.proofs.Common.{◌≡◌, false, List, ℕ, sym, subst, ap, ◌∙◌, length}
+use Rattle.std.proofs.Common.{false, List, ℕ, sym, subst, length}
 use Rattle.trace_model.specs.declared.row.Row.{Row}
 use Rattle.trace_model.specs.Row.{row_before}
-use Rattle.net_design.specs.Pins.{outputs}
-use Rattle.run_model.specs.Building.{AreSmall, row_of}
+use Rattle.run_model.specs.Building.{AreSmall}
 use Rattle.run_model.specs.Pins.{ArePins}
-use Rattle.run_reference.proofs.StepLemmas.{asked, asked-small, plugs-length, settles, stepped, Stepped}
+use Rattle.run_reference.proofs.StepLemmas.{asked, asked-small, plugs-length, settles, stepped}
 use Rattle.run_reference.proofs.play.step.Goals as goal
 
 pub input_pins-requires-clause-plugs : goal.input_pins-requires-clause-plugs

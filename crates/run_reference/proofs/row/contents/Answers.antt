@@ -1,4 +1,4 @@
-use Rattle.std.proofs.Common.{◌≡◌, ◌++◌, List, ap, sym, ◌∙◌, append_assoc, drop, ◌+◌, arith}
+use Rattle.std.proofs.Common.{◌++◌, ap, sym, ◌∙◌, append_assoc, drop, ◌+◌, arith}
 use Rattle.net_design.specs.Pins.{outputs}
 use Rattle.run_model.specs.Building.{content_here, joined}
 use Rattle.run_reference.proofs.BlockLemmas.{joined-more}

@@ -1,4 +1,4 @@
-use Rattle.std.proofs.Common.{◌≡◌, List, sym, subst, ◌∙◌}
+use Rattle.std.proofs.Common.{List, sym, subst}
 use Rattle.std.specs.List.{AllZip}
 use Rattle.net_design.specs.declared.design.Direction.TheVariants.{Output}
 use Rattle.chan_map.specs.declared.pins.Pin.{Pin}

@@ -1,4 +1,4 @@
-use Rattle.std.proofs.Common.{sym, ◌∙◌}
+use Rattle.std.proofs.Common.{sym}
 use Rattle.run_reference.proofs.BlockLemmas.{plug-is}
 use Rattle.run_reference.proofs.row.valid_at.Goals as goal
 

@@ -1,4 +1,3 @@
-use Rattle.std.proofs.Common.{sym}
 use Rattle.run_reference.proofs.BlockLemmas.{valid-pin}
 use Rattle.run_reference.proofs.row.valid_on.Goals as goal
 
