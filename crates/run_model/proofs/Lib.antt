@@ -1,0 +1,9 @@
+pub mod Contents
+pub mod PinLemmas
+pub mod RowParts
+pub mod PlayedLaws
+pub mod Stays
+pub mod RunLaws
+pub mod EventPlaces
+pub mod ReplayLaws
+pub mod Circle

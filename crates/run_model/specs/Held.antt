@@ -1,0 +1,91 @@
+-- *End of replay*: what a replay that hasn't ended holds back, and what it waits for.
+use Rattle.std.specs.Prelude.{ℕ, ◌+◌, ◌==◌, ◌&&◌, nat_lt, Bool, true, false, not, if◌then◌else◌, List, [], ◌∷◌, Option, Some, None}
+use Rattle.std.specs.Prelude.{length, slice_get, is_some}
+use Rattle.std.specs.List.{enumerate_from, filter, flat_map, list_any}
+use Rattle.trace_model.specs.declared.channel.Channel.{Channel}
+use Rattle.trace_model.specs.declared.channel.Dir.{Dir}
+use Rattle.trace_model.specs.declared.channel.Dir.TheVariants.{Inward, Outward}
+use Rattle.trace_model.specs.declared.event.Event.{Event}
+use Rattle.trace_model.specs.declared.event.Kind.{Kind}
+use Rattle.trace_model.specs.declared.event.Kind.TheVariants.{Start, End}
+use Rattle.trace_model.specs.declared.packet.Packet.{Packet}
+use Rattle.trace_model.specs.declared.row.Row.{Row}
+use Rattle.trace_model.specs.Clock.{clock}
+use Rattle.trace_model.specs.Packet.{does}
+use Rattle.trace_model.specs.Recording.{shown}
+use Rattle.trace_model.specs.Row.{flies_after, row_before}
+use Rattle.run_model.specs.declared.held.Await.{Await}
+use Rattle.run_model.specs.declared.held.Held.{Held}
+use Rattle.run_model.specs.Replay.{done}
+
+-- the places, from k on, of those of xs that pass
+abbrev pub places_from : {X : Type 0} → (X → Bool) → ℕ → List X → List ℕ
+places_from test k [] = []
+places_from test k (x ∷ xs) = if test x then k ∷ places_from test (k + 1) xs else places_from test (k + 1) xs
+
+abbrev pub event : ℕ → Kind → ℕ → Event
+event channel kind index = record { channel = channel; kind = kind; index = index }
+
+-- the number of the packet in which an event is recorded
+abbrev pub packet_place : List Packet → Event → Option ℕ
+packet_place packets e = slice_get (places_from (does e.kind e.channel) 0 packets) e.index
+
+-- a channel is in flight after the rows
+abbrev pub flies : List Row → ℕ → Bool
+flies rows c = flies_after (row_before rows (length rows)) c
+
+-- a channel that has fewer completions than needed
+abbrev pub await_on : (ℕ → ℕ) → (ℕ → ℕ) → ℕ → List Await
+await_on have need c = if nat_lt (have c) (need c) then record { channel = c; have = have c; need = need c } ∷ [] else []
+
+-- all of them, in channel order
+abbrev pub awaits : List Channel → (ℕ → ℕ) → (ℕ → ℕ) → List Await
+awaits channels have need = flat_map (λ (c : ℕ × Channel). await_on have need c.0) (enumerate_from 0 channels)
+
+-- the next event of channel c that the replayer controls: a start of an idle inward channel, a completion of an outward one
+abbrev pub controlled : List Row → ℕ → Dir → List Event
+controlled rows c Inward = if flies rows c then [] else event c Start (shown Start c rows) ∷ []
+controlled rows c Outward = event c End (shown End c rows) ∷ []
+
+-- an event with what it awaits, if it awaits anything: its clock isn't covered
+abbrev pub held_if : Event → List Await → List Held
+held_if e [] = []
+held_if e (a ∷ rest) = record { event = e; awaits = a ∷ rest } ∷ []
+
+-- the event recorded at this place, if there is one, where it is held back
+abbrev pub held_at : List Channel → List Packet → List Row → Event → Option ℕ → List Held
+held_at channels packets rows e None = []
+held_at channels packets rows e (Some p) = held_if e (awaits channels (done rows) (clock packets p))
+
+abbrev pub held_event : List Channel → List Packet → List Row → Event → List Held
+held_event channels packets rows e = held_at channels packets rows e (packet_place packets e)
+
+-- what is held back: in channel order, each controlled event that is recorded and whose clock isn't covered
+abbrev pub held : List Channel → List Packet → List Row → List Held
+held channels packets rows = flat_map (λ (c : ℕ × Channel). flat_map (held_event channels packets rows) (controlled rows c.0 c.1.dir))
+    (enumerate_from 0 channels)
+
+-- the next event of channel c: a start while it is idle, else the completion
+abbrev pub next_event : List Row → ℕ → Event
+next_event rows c = if flies rows c then event c End (shown End c rows) else event c Start (shown Start c rows)
+
+-- where it is recorded
+abbrev pub recorded_next : List Packet → List Row → ℕ → List Event
+recorded_next packets rows c = if is_some (packet_place packets (next_event rows c)) then next_event rows c ∷ [] else []
+
+abbrev pub same_kind : Kind → Kind → Bool
+same_kind Start Start = true
+same_kind Start End = false
+same_kind End Start = false
+same_kind End End = true
+
+abbrev pub same_event : Event → Event → Bool
+same_event a b = (a.channel == b.channel) && (same_kind a.kind b.kind && (a.index == b.index))
+
+abbrev pub is_held : List Held → Event → Bool
+is_held helds e = list_any (λ (h : Held). same_event h.event e) helds
+
+-- what is waited for: in channel order, each channel's next recorded event that isn't held back
+abbrev pub waits : List Channel → List Packet → List Row → List Event
+waits channels packets rows = filter (λ (e : Event). not (is_held (held channels packets rows) e))
+    (flat_map (λ (c : ℕ × Channel). recorded_next packets rows c.0) (enumerate_from 0 channels))

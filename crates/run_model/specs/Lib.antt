@@ -1,0 +1,10 @@
+pub mod MapOf
+pub mod Pins
+pub mod Step
+pub mod Offers
+pub mod Played
+pub mod Run
+pub mod Replay
+pub mod Held
+pub mod Laws
+pub mod Building

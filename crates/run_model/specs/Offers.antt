@@ -1,0 +1,27 @@
+-- The environment's part of a row: what it offers.
+use Rattle.std.specs.Prelude.{◌≡◌, ℕ, if◌then◌else◌, List, Some, length, replicate, slice_get}
+use Rattle.trace_model.specs.declared.channel.Channel.{Channel}
+use Rattle.trace_model.specs.declared.channel.Dir.{Dir}
+use Rattle.trace_model.specs.declared.channel.Dir.TheVariants.{Inward, Outward}
+use Rattle.trace_model.specs.declared.row.Offers.{Offers}
+use Rattle.trace_model.specs.declared.row.Row.{Row}
+use Rattle.trace_model.specs.Counting.{has}
+use Rattle.trace_model.specs.Packet.{widths_of}
+use Rattle.trace_model.specs.Row.{content_at}
+
+-- the content of channel c while its source has valid down: 0 for each port
+abbrev pub no_content : List Channel → ℕ → List ℕ
+no_content channels c = replicate (length (widths_of (slice_get channels c))) 0
+
+abbrev pub offered_content : List Channel → Offers → ℕ → List ℕ
+offered_content channels offers c = if has offers.valids c then content_at channels offers.contents c else no_content channels c
+
+-- Inward: the row has the valid that is offered, and its content, 0 while the valid is down. Outward: it has the ready.
+abbrev pub CarriesOn : List Channel → Offers → Row → ℕ → Dir → Type 0
+CarriesOn channels offers row c Inward =
+    (has row.valids c ≡ has offers.valids c) × (content_at channels row.contents c ≡ offered_content channels offers c)
+CarriesOn channels offers row c Outward = has row.readies c ≡ has offers.readies c
+
+-- the row has what is offered
+abbrev pub Carries : List Channel → Offers → Row → Type 0
+Carries channels offers row = (c : ℕ) (channel : Channel) → slice_get channels c ≡ Some channel → CarriesOn channels offers row c channel.dir

@@ -1,0 +1,16 @@
+//! Rows, runs and replays of a design as definitions.
+//!
+//! The definitions stand in `specs/`: `MapOf` (a map of a design), `Pins` (what a cycle enters at the input pins), `Step` (the
+//! row that a state shows, and the state after it), `Offers` (what the environment's part of a row is), `Played` (rows that a
+//! design shows under a rule), `Run`, `Replay`, and `Held` (what a replay that hasn't ended waits for).
+#![tactic(auto)]
+
+mod held;
+mod laws;
+mod pins;
+
+pub use held::{Await, Awaits, Held, Helds};
+pub use laws::{
+    no_circle, one_replay, one_run, order_in_the_output, replay_keeps_contents, run_keeps_contents,
+};
+pub use pins::{PinNumber, PinNumbers};
