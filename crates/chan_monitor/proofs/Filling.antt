@@ -1,11 +1,11 @@
 -- Masks and contents that are made channel by channel.
-use Rattle.std.proofs.Common.{◌≡◌, ℕ, zero, suc, ◌+◌, ◌*◌, ◌-◌, ◌%◌, ◌<◌, ◌≤◌, ◌^◌, ◌&&◌, Bool, true, false, not, cond, List, [], ◌∷◌}
-use Rattle.std.proofs.Common.{◌++◌, Option, Some, length, take, drop, map, replicate, get_or, set, slice_get, append_assoc, add-one}
-use Rattle.std.proofs.Common.{⊎_elim, refl, ap, sym, ◌∙◌, arith}
+use Rattle.std.proofs.Common.{◌≡◌, ℕ, zero, suc, ◌+◌, ◌*◌, ◌%◌, ◌<◌, ◌≤◌, ◌^◌, ◌&&◌, Bool, true, false, not, cond, List, [], ◌∷◌}
+use Rattle.std.proofs.Common.{◌++◌, Some, length, take, drop, replicate, get_or, set, slice_get, append_assoc, add-one}
+use Rattle.std.proofs.Common.{refl, ap, sym, ◌∙◌, arith}
 use mir.Val.{bool_byte}
 use Rattle.std.proofs.Math.Nat.{pow-le-pow_right, mod-le}
 use Rattle.std.proofs.lemmas.List.{append-nil, length-append, length-drop, length-map, length-take-le, map-append, take-append-drop, take_at}
-use Rattle.std.proofs.lemmas.List.{take_all, drop_at, drop-drop, drop_more, drop_all, set_at, replicate_more, replicate-append-replicate}
+use Rattle.std.proofs.lemmas.List.{take_all, drop_at, drop-drop, drop_more, drop_all, set_at, replicate-append-replicate}
 use Rattle.std.proofs.lemmas.Option.{slice_get_read}
 use Rattle.trace_model.specs.declared.channel.Channel.{Channel}
 use Rattle.trace_model.specs.declared.channel.Dir.{Dir}
@@ -140,7 +140,7 @@ joined-more f channels c x l e =
     (let k = length-take-le c channels (omega (arith, l)) in let z : 0 + length (take c channels) ≡ c = omega (arith, k) in z)
 
 -- the offered content of an inward channel, 0 while its valid is down
-offered-is : (channels : List Channel) (offers : Offers) (c : ℕ) (b : Bool) → has offers.valids c ≡ b
+pub offered-is : (channels : List Channel) (offers : Offers) (c : ℕ) (b : Bool) → has offers.valids c ≡ b
     → (has offers.valids c ≡ false → content_at channels offers.contents c ≡ no_content channels c)
     → cond b (content_at channels offers.contents c) (no_content channels c) ≡ content_at channels offers.contents c
 offered-is channels offers c true e zeros = refl
@@ -154,8 +154,7 @@ part : (channels : List Channel) (offers : Offers) (out : List ℕ) (c : ℕ) (d
     × (length (content_on channels offers out c dir plug) ≡ k)
 part channels offers out c Inward plug at k front contents inward many room long is =
     let n = inward refl in
-    let rest = drop at offers.contents in
-    (
+    let rest = drop at offers.contents in (
       is ∙ ap (λ xs. front ++ xs) (sym (take-append-drop k rest)) ∙ sym (append_assoc front (take k rest) (drop k rest))
           ∙ ap (λ xs. front ++ take k rest ++ xs) (drop-drop k at offers.contents)
           ∙ ap (λ xs. front ++ xs ++ drop (at + k) offers.contents) (sym n),
@@ -164,8 +163,7 @@ part channels offers out c Inward plug at k front contents inward many room long
 part channels offers out c Outward plug at k front contents inward many room long is =
     let numbers = read out plug.contents in
     let rest = drop at offers.contents in
-    let count : length numbers ≡ k = length-read out plug.contents ∙ many in
-    (
+    let count : length numbers ≡ k = length-read out plug.contents ∙ many in (
       ap (λ xs. take at xs ++ numbers ++ drop (at + length numbers) xs) is
           ∙ ap (λ xs. xs ++ numbers ++ drop (at + length numbers) (front ++ rest)) (take_at front rest at long)
           ∙ ap (λ xs. front ++ numbers ++ xs) (sym (drop-drop (length numbers) at (front ++ rest)))

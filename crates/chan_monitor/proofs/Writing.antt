@@ -1,9 +1,9 @@
 -- Numbers written at pins: in loops, and what stands there afterwards.
-use Rattle.std.proofs.Common.{◌≡◌, ◌≢◌, ℕ, zero, suc, ◌+◌, ◌<◌, ◌≤◌, ◌&&◌, ◌==◌, Bool, true, false, cond, List, [], ◌∷◌, ◌++◌, Some}
+use Rattle.std.proofs.Common.{◌≡◌, ℕ, zero, suc, ◌+◌, ◌<◌, ◌≤◌, ◌&&◌, ◌==◌, Bool, cond, List, [], ◌∷◌, ◌++◌, Some}
 use Rattle.std.proofs.Common.{length, take, drop, map, get_or, set, slice_get, count_by, ⊎_elim, refl, ap, sym, ◌∙◌, arith}
 use Rattle.std.proofs.Common.{get_or-set_same, get_or-set_other}
 use Rattle.std.specs.List.{enumerate_from}
-use Rattle.std.proofs.lemmas.Bool.{cases_eq, eqb-true, eq-eqb, ne_eqb}
+use Rattle.std.proofs.lemmas.Bool.{cases_eq, eq-eqb, ne_eqb}
 use Rattle.std.proofs.lemmas.List.{at_drop_more, at_drop_all, length-set}
 use Rattle.trace_model.specs.declared.channel.Channel.{Channel}
 use Rattle.trace_model.specs.declared.channel.Dir.{Dir}
@@ -12,7 +12,7 @@ use Rattle.trace_model.specs.declared.row.Offers.{Offers}
 use Rattle.trace_model.specs.declared.row.Row.{Row}
 use Rattle.trace_model.specs.Counting.{has}
 use Rattle.trace_model.specs.Row.{content_at}
-use Rattle.trace_model.proofs.CountingLemmas.{count-cons, nth-below}
+use Rattle.trace_model.proofs.CountingLemmas.{count-cons}
 use Rattle.chan_map.specs.declared.pins.Plug.{Plug}
 use Rattle.run_model.specs.declared.pins.PinNumber.{PinNumber}
 use Rattle.run_model.specs.Pins.{inward_inputs, plug_inputs, inputs_from}

@@ -1,6 +1,5 @@
 -- What monitors round a block stand for.
-use Rattle.std.specs.Prelude.{◌≡◌, ℕ, ◌<◌, ◌∷◌, ◌++◌, Bool, false, List, Option, Some, All, length, map, slice_index, slice_index_or}
-use Rattle.std.specs.Option.{option_to_list}
+use Rattle.std.specs.Prelude.{◌≡◌, ℕ, ◌<◌, ◌∷◌, Bool, false, List, Option, Some, All, length, slice_index, slice_index_or}
 use Rattle.trace_model.specs.declared.row.Row.{Row}
 use Rattle.trace_model.specs.Row.{flies_after}
 use Rattle.net_design.specs.declared.design.Design.{Design}

@@ -1,5 +1,5 @@
 -- Numbers that are entered at the input pins, one after the other.
-use Rattle.std.specs.Prelude.{◌≡◌, ℕ, ◌<◌, Bool, List, [], ◌∷◌, ◌++◌, Some, All, IfSome, length, map, slice_get, slice_set}
+use Rattle.std.specs.Prelude.{◌≡◌, ℕ, ◌+◌, ◌<◌, Bool, List, [], ◌∷◌, ◌++◌, Some, All, length, map, slice_get, slice_set}
 use Rattle.std.specs.List.{enumerate_from}
 use Rattle.std.specs.Option.{option_to_list}
 use Rattle.trace_model.specs.declared.channel.Channel.{Channel}
@@ -10,7 +10,6 @@ use Rattle.trace_model.specs.declared.row.Row.{Row}
 use Rattle.chan_map.specs.declared.pins.Map.{Map}
 use Rattle.chan_map.specs.declared.pins.Pin.{Pin}
 use Rattle.chan_map.specs.declared.pins.Plug.{Plug}
-use Rattle.chan_map.specs.declared.pins.Reset.{Reset}
 use Rattle.chan_map.specs.declared.pins.Tie.{Tie}
 use Rattle.run_model.specs.declared.pins.PinNumber.{PinNumber}
 use Rattle.run_model.specs.Pins.{flag, pin_number, shown_number, inward_inputs, reset_input, tie_input}
@@ -37,7 +36,12 @@ held_inputs m resets = map (reset_input resets) (option_to_list m.reset) ++ map 
 -- offers and gates as a row, before the design shows its part
 abbrev pub offered : ℕ → Offers → Row
 offered gates offers = record {
-  gates = gates; valids = offers.valids; readies = offers.readies; contents = offers.contents; starts = 0; ends = 0;
+  gates = gates;
+  valids = offers.valids;
+  readies = offers.readies;
+  contents = offers.contents;
+  starts = 0;
+  ends = 0;
 }
 
 -- ---- places below n
@@ -52,3 +56,12 @@ pub record ArePlugsWithin (n : ℕ) (channels : List Channel) (plugs : List Plug
   pub many : length plugs ≡ length channels
   pub each : (c : ℕ) (x : Channel) (plug : Plug) → slice_get channels c ≡ Some x → slice_get plugs c ≡ Some plug
       → IsPlugWithin n x.dir plug × (length plug.contents ≡ length x.widths)
+
+-- ---- how many input pins there are
+abbrev pub input_count : Dir → Plug → ℕ
+input_count Inward plug = 1 + length plug.contents
+input_count Outward plug = 1
+
+abbrev pub inputs_count : List Channel → List Plug → ℕ
+inputs_count (x ∷ xs) (plug ∷ plugs) = input_count x.dir plug + inputs_count xs plugs
+inputs_count xs plugs = 0

@@ -4,11 +4,14 @@
 //! promises of a cycle, against *IsRun*).
 #![tactic(auto)]
 
+mod cycles;
+mod machines;
 mod monitor;
 mod pins;
 mod rows;
 mod shell;
 
+pub use machines::Machines;
 pub use monitor::{Monitor, Passed};
 pub use rows::row_over;
 pub use shell::Shell;

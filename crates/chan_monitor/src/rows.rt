@@ -202,8 +202,14 @@ fn zeros_over(alloc: Global, channels: &[Channel]) -> Result<Numbers, Memory>
 
 /// A row with a place for each port's number, in which nothing is up: to be driven.
 pub fn row_over(alloc: Global, channels: &Channels) -> Result<Row, Memory>
-    ensures { IfOk result (λ row. row ≡ record { gates = 0; valids = 0; readies = 0;
-        contents = replicate (length (all_widths channels.now)) 0; starts = 0; ends = 0 }) }
+    ensures { IfOk result (λ row. row ≡ record {
+      gates = 0;
+      valids = 0;
+      readies = 0;
+      contents = replicate (length (all_widths channels.now)) 0;
+      starts = 0;
+      ends = 0;
+    }) }
 {
     let contents = zeros_over(alloc, channels.as_slice())?;
     Ok(Row {

@@ -1,4 +1,4 @@
-use Rattle.std.proofs.Common.{◌≡◌, ◌<◌, length, subst, sym, ◌∙◌, arith}
+use Rattle.std.proofs.Common.{subst, sym, ◌∙◌, arith}
 use Rattle.trace_model.proofs.RowLemmas.{room-left, rest-more}
 use Rattle.chan_monitor.specs.Entering.{IsPlugWithin}
 use Rattle.chan_monitor.proofs.Writing.{enter-more, plug-within, split-is}

@@ -1,4 +1,4 @@
-use Rattle.std.proofs.Common.{◌≡◌, ◌≤◌, ◌+◌, length, arith}
+use Rattle.std.proofs.Common.{arith}
 use Rattle.net_design.specs.Pins.{outputs}
 use Rattle.trace_model.proofs.ContentsLemmas.{fit-length}
 use Rattle.trace_model.specs.Row.{all_widths}

@@ -1,9 +1,6 @@
-use Rattle.std.proofs.Common.{◌≡◌, ◌<◌, ◌^◌, ◌&&◌, Bool, false, not, slice_index_or, subst, sym, ap, ◌∙◌}
-use Rattle.std.proofs.lemmas.List.{get_or_read}
+use Rattle.std.proofs.Common.{◌<◌, ◌^◌, ◌&&◌, false, not, slice_index_or, subst, sym}
 use Rattle.trace_model.specs.Counting.{has}
 use Rattle.run_model.proofs.Contents.{mask-below}
-use Rattle.chan_monitor.specs.Passing.{passed}
-use Rattle.chan_monitor.specs.declared.monitor.Passed.{Passed}
 use Rattle.chan_monitor.proofs.Filling.{mask-more, start-is, end-is}
 use Rattle.chan_monitor.proofs.rows.marks_of.Goals as goal
 

@@ -1,4 +1,4 @@
-use Rattle.std.proofs.Common.{◌≤◌, cond, arith}
+use Rattle.std.proofs.Common.{◌≤◌, arith}
 use Rattle.chan_monitor.proofs.Filling.{bit-fits, flag-small}
 use Rattle.chan_monitor.proofs.rows.with_bit.Goals as goal
 

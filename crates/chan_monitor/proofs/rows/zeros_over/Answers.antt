@@ -1,4 +1,4 @@
-use Rattle.std.proofs.Common.{◌≡◌, ◌+◌, ◌++◌, length, replicate, ap, ◌∙◌, sym}
+use Rattle.std.proofs.Common.{◌++◌, length, replicate, ap, ◌∙◌, sym}
 use Rattle.trace_model.proofs.RowLemmas.{first_of, first-more}
 use Rattle.chan_monitor.proofs.Filling.{zeros-more}
 use Rattle.chan_monitor.proofs.rows.zeros_over.Goals as goal
