@@ -257,7 +257,7 @@ after-some d law one pins fit s st (suc n) = ∥∥₁_elim (after-some d law on
     ∥∥₁_map {B = (a : Values) × IsAfter d pins (suc n) s a} (one.some a.0 pins (state-after d law pins n s a.0 st a.1) fit)
     (λ (v : (v : Values) × IsSettled d a.0 pins v). (next d v.0 a.0, (a.0, a.1, record { v = v.0; settled = v.1; next = refl }))))
 
-silent-small : (channels : List Channel) → AreSmall channels silent
+pub silent-small : (channels : List Channel) → AreSmall channels silent
 silent-small channels c x at i =
     let off : sink_valid silent c ≡ false = ap (λ b. b && has 0 c) (has-above 0 0 c (omega arith) (omega arith)) in
     subst (λ n. n < 2 ^ get_or x.widths i 0)

@@ -14,7 +14,7 @@ use Rattle.trace_model.specs.declared.row.Offers.{Offers}
 use Rattle.trace_model.specs.declared.row.Row.{Row}
 use Rattle.trace_model.specs.Counting.{has}
 use Rattle.trace_model.specs.Packet.{Fit, widths_of}
-use Rattle.trace_model.specs.Row.{content_at, sink_valid, flies_after, IsOver, AreOffers, IsMarked}
+use Rattle.trace_model.specs.Row.{all_widths, content_at, sink_valid, flies_after, IsOver, AreOffers, IsMarked}
 use Rattle.trace_model.proofs.ContentsLemmas.{fit-length, fit-at}
 use Rattle.net_design.specs.declared.design.Direction.TheVariants.{Output}
 use Rattle.net_design.specs.declared.design.Design.{Design}
@@ -271,10 +271,10 @@ positive : (n : ℕ) → 0 < 2 ^ n
 positive zero = omega arith
 positive (suc n) = let p = positive n in omega arith
 
-pub small-row : (channels : List Channel) (row : Row) → IsOver channels row → AreSmall channels row
-small-row channels row over c x at i =
+pub small-fit : (channels : List Channel) (row : Row) → Fit (all_widths channels) row.contents → AreSmall channels row
+small-fit channels row fits c x at i =
     let k = content_at channels row.contents c in
-    let f = content-fits channels row.contents over.contents c x at in
+    let f = content-fits channels row.contents fits c x at in
     small-cond (sink_valid row c) (get_or k i 0) (2 ^ get_or x.widths i 0)
     (⊎_elim
     (λ (l : i < length x.widths). fit-at x.widths k i f l)
@@ -282,3 +282,6 @@ small-row channels row over c x at i =
     (sym (get_or_past k i 0 (let e = fit-length x.widths k f in omega (arith, e, l)))) (positive (get_or x.widths i 0)))
     (cases_lt i (length x.widths)))
     (positive (get_or x.widths i 0))
+
+pub small-row : (channels : List Channel) (row : Row) → IsOver channels row → AreSmall channels row
+small-row channels row over = small-fit channels row over.contents

@@ -155,11 +155,7 @@ fn push_reset(out: &mut PinNumbers, reset: &Option<Reset>, resets: bool) -> Resu
 {
     match reset {
         Some(reset) => {
-            let up = if resets {
-                reset.active
-            } else {
-                !reset.active
-            };
+            let up = if resets { reset.active } else { !reset.active };
             out.push(PinNumber {
                 place: reset.pin.place,
                 number: flag(up),
@@ -196,12 +192,7 @@ pub fn entered(alloc: Global, map: &Map, resets: bool, row: &Row) -> Result<PinN
     })?;
     push_reset(&mut out, &map.reset, resets)?;
     push_ties(&mut out, map.ties.as_slice())?;
-    push_channels(
-        &mut out,
-        map.channels.as_slice(),
-        map.plugs.as_slice(),
-        row,
-    )?;
+    push_channels(&mut out, map.channels.as_slice(), map.plugs.as_slice(), row)?;
     Ok(out)
 }
 

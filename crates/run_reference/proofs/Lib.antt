@@ -1,0 +1,4 @@
+pub mod PortLemmas
+pub mod BlockLemmas
+pub mod StepLemmas
+pub mod FeedLemmas

@@ -1,0 +1,6 @@
+use Rattle.std.proofs.Common.{◌≡◌, length, take}
+use Rattle.trace_model.specs.Row.{all_widths}
+use Rattle.run_reference.proofs.pins.first_place.Given as goal
+
+abbrev pub invariant-loop-i : goal.invariant-loop-i
+invariant-loop-i l = l.first ≡ length (all_widths (take l.i l.channels))

@@ -1,0 +1,7 @@
+use Rattle.std.proofs.Common.{◌≡◌, ◌≤◌, take}
+use Rattle.trace_model.specs.declared.event.Kind.TheVariants.{End}
+use Rattle.trace_model.specs.Packet.{count}
+use Rattle.run_reference.proofs.waiting.clock.Given as goal
+
+abbrev pub invariant-loop-packet : goal.invariant-loop-packet
+invariant-loop-packet l = record { count : l.count ≡ count End l.c (take l.packet-index l.packet-items); few : l.count ≤ l.packet-index }
