@@ -18,16 +18,15 @@ use Rattle.chan_map.specs.declared.pins.Map.{Map}
 use Rattle.chan_map.specs.declared.pins.Reset.{Reset}
 use Rattle.run_model.specs.Building.{content_here, ends_of, joined, mask_of, ready_at, row_of, starts_of, valid_at}
 use Rattle.run_model.specs.declared.pins.PinNumber.{PinNumber}
-use Rattle.run_model.specs.Laws.{IsReady}
 use Rattle.run_model.specs.Offers.{Carries, CarriesOn}
 use Rattle.run_model.specs.Pins.{silent, ArePins}
 use Rattle.run_model.specs.Step.{IsAfter, IsAfterReset, IsFirst}
-use Rattle.run_model.proofs.PlayedLaws.{fit-outputs, ports-are_nets}
+use Rattle.run_model.proofs.PlayedLaws.{fit-outputs}
 use Rattle.run_model.proofs.RowParts.{carried, entered-same, row-carries, row-marked, row-over, row-shows, Agree}
 use Rattle.chan_monitor.specs.declared.rows.Handshakes.{Handshakes}
 use Rattle.chan_monitor.specs.Around.{handshakes, AreHeld, AreMonitors, IsDriven}
 use Rattle.chan_monitor.specs.Entering.{offered}
-use Rattle.chan_monitor.specs.Shell.{AreZeroWhileDown, IsShown}
+use Rattle.chan_monitor.specs.Shell.{AreZeroWhileDown, IsMapped, IsShown}
 use Rattle.chan_monitor.proofs.Filling.{offered-is, same-mask}
 
 -- what a borrow of a whole list leaves
@@ -84,13 +83,12 @@ pub record IsCycle (d : Design) (m : Map) (s : Values) (before : Option Row) (of
   pub driven : IsDriven d s pins v m (Some (handshakes row)) row
 
 pub cycle-is : (d : Design) (m : Map) (s : Values) (before : Option Row) (offers : Offers) (gates : ℕ) (pins : List ℕ) (v : Values) (row : Row)
-    → IsReady d m → AreOffers m.channels offers → AreZeroWhileDown m.channels offers → gates < 2 ^ length m.channels
+    → IsMapped d m → AreOffers m.channels offers → AreZeroWhileDown m.channels offers → gates < 2 ^ length m.channels
     → ArePins d m false (offered gates offers) pins → IsSettled d s pins v → row ≡ row_of m before offers gates (outputs d v)
     → IsCycle d m s before offers gates pins v row
 cycle-is d m s before offers gates pins v row ready are zeros l entered settled is =
-    let ports = ports-are_nets d ready.lawful in
     let out = outputs d v in
-    let fits = fit-outputs d ports v settled.keeps.fit in
+    let fits = fit-outputs d ready.nets v settled.keeps.fit in
     let made = row_of m before offers gates out in
     let carries = row-carries d m ready.mapped before offers are gates out fits in
     let agree : Agree m.channels (offered gates offers) made = carried m.channels offers (offered gates offers) made refl
@@ -125,8 +123,8 @@ cycle-of d e m s t before offers gates pins v row same still is =
     subst (λ u. IsCycle e m u before offers gates pins v row) still
     (subst (λ f. IsCycle f m s before offers gates pins v row) same is)
 
-pub ready-of : (d e : Design) (m : Map) → d ≡ e → IsReady e m → IsReady d m
-ready-of d e m same is = subst (λ f. IsReady f m) (sym same) is
+pub ready-of : (d e : Design) (m : Map) → d ≡ e → IsMapped e m → IsMapped d m
+ready-of d e m same is = subst (λ f. IsMapped f m) (sym same) is
 
 pub held-of : (d e : Design) (m : Map) (pins : List ℕ) → d ≡ e → AreHeld d m pins → AreHeld e m pins
 held-of d e m pins same is = subst (λ f. AreHeld f m pins) same is

@@ -8,10 +8,10 @@ use Rattle.net_design.specs.Pins.{input_limits, outputs}
 use Rattle.net_design.specs.Settled.{IsSettled}
 use Rattle.chan_map.specs.declared.pins.Map.{Map}
 use Rattle.run_model.specs.declared.pins.PinNumber.{PinNumber}
-use Rattle.run_model.specs.Laws.{IsReady}
 use Rattle.run_model.specs.Pins.{pin_number, ArePins}
 use Rattle.run_model.specs.Step.{Shows}
 use Rattle.chan_monitor.specs.declared.rows.Handshakes.{Handshakes}
+use Rattle.chan_monitor.specs.Shell.{IsMapped}
 use Rattle.chan_monitor.specs.Entering.{held_inputs}
 
 -- the clock, the reset and the ties
@@ -33,7 +33,7 @@ pub record IsAround (design : Design) (state : Values) (m : Map) (pins : List �
     (d : Design) (s : Values) (before : Option Row) : Type 0 where
   pub design_is : design ≡ d
   pub state_is : state ≡ s
-  pub ready : IsReady d m
+  pub ready : IsMapped d m
   pub held : AreHeld d m pins
   pub flight : AreMonitors (length m.channels) monitors before
 

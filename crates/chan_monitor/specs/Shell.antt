@@ -9,8 +9,17 @@ use Rattle.trace_model.specs.Row.{all_widths, content_at, IsMarked, IsOver}
 use Rattle.net_design.specs.declared.design.Design.{Design}
 use Rattle.net_design.specs.declared.values.Values.{Values}
 use Rattle.chan_map.specs.declared.pins.Map.{Map}
+use Rattle.net_design.specs.Pins.{HasOneMap}
+use Rattle.run_model.specs.Building.{PortsAreNets}
+use Rattle.run_model.specs.MapOf.{IsMapOf}
 use Rattle.run_model.specs.Offers.{no_content, Carries}
 use Rattle.run_model.specs.Step.{IsStep}
+
+-- the design settles in one way, its port k is net k, and the map is a map of it
+pub record IsMapped (d : Design) (m : Map) : Type 0 where
+  pub one_map : HasOneMap d
+  pub nets : PortsAreNets d
+  pub mapped : IsMapOf d m
 
 -- a shell runs some design, in some state, after some row
 abbrev pub IsRunning : (Design → Values → Option Row → Type 0) → Type 0

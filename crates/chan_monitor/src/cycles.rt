@@ -7,7 +7,7 @@ ghost use Rattle.trace_model.specs.Row.{AreOffers};
 ghost use Rattle.net_design.specs.Pins.{input_limits, output_count, outputs, FitPins};
 ghost use Rattle.net_design.specs.Settled.{initial, IsSettled};
 ghost use Rattle.run_model.specs.Building.{row_of};
-ghost use Rattle.run_model.specs.Laws.{IsReady};
+ghost use Rattle.run_model.specs.MapOf.{IsMapOf};
 ghost use Rattle.run_model.specs.Pins.{entered, silent, ArePins};
 ghost use Rattle.run_model.specs.Step.{IsAfter, IsFirst};
 ghost use Rattle.chan_monitor.specs.Around.{handshakes, AreHeld, AreMonitors};
@@ -102,7 +102,7 @@ fn run_cycles<B: Block>(block: &mut B, pins: &[u128], cycles: u32)
 
 /// Runs the reset cycles of the map, if there are any, from the initial state on.
 fn run_reset<B: Block>(block: &mut B, pins: &mut [u128], map: &Map)
-    requires ready { IsReady (B.design block.old) map.now }
+    requires mapped { IsMapOf (B.design block.old) map.now }
     requires long { length pins.old ≡ length (input_limits (B.design block.old)) }
     requires loaded { B.state block.old ≡ initial (B.design block.old) }
     ensures first { IsFirst (B.design block.old) map.now (B.state block.new) }
@@ -117,7 +117,7 @@ fn run_reset<B: Block>(block: &mut B, pins: &mut [u128], map: &Map)
 
 /// Makes the state s_0, and the numbers at the pins those that stand between cycles.
 pub(crate) fn restart<B: Block>(block: &mut B, pins: &mut [u128], map: &Map)
-    requires ready { IsReady (B.design block.old) map.now }
+    requires mapped { IsMapOf (B.design block.old) map.now }
     requires long { length pins.old ≡ length (input_limits (B.design block.old)) }
     ensures first { IsFirst (B.design block.old) map.now (B.state block.new) }
     ensures held { AreHeld (B.design block.old) map.now pins.new }
@@ -137,7 +137,7 @@ pub(crate) fn settle_offers<B: Block>(
     offers: &Offers,
     gates: u128,
 )
-    requires ready { IsReady (B.design block.old) map.now }
+    requires mapped { IsMapOf (B.design block.old) map.now }
     requires held { AreHeld (B.design block.old) map.now pins.old }
     requires monitors { length monitors.now ≡ length map.now.channels }
     requires offers { AreOffers map.now.channels offers.now }
@@ -170,7 +170,7 @@ pub(crate) fn show<B: Block>(
     gates: u128,
     row: &mut Row,
 ) -> Handshakes
-    requires ready { IsReady (B.design block.now) map.now }
+    requires mapped { IsMapOf (B.design block.now) map.now }
     requires monitors { length monitors.now ≡ length map.now.channels }
     requires offers { AreOffers map.now.channels offers.now }
     requires zeros { AreZeroWhileDown map.now.channels offers.now }

@@ -1,7 +1,8 @@
 //! Monitors round a block.
 
 ghost use Rattle.std.specs.Prelude.{◌≡◌, None, IfOk};
-ghost use Rattle.run_model.specs.Laws.{IsReady};
+ghost use Rattle.run_model.specs.Building.{PortsAreNets};
+ghost use Rattle.run_model.specs.MapOf.{IsMapOf};
 ghost use Rattle.chan_monitor.specs.Around.{IsAround};
 
 use crate::cycles::{forget, monitors_for, pins_for, restart, settle_offers, show};
@@ -29,10 +30,11 @@ pub struct Machines<'a, B: Block> {
 }
 
 impl<'a, B: Block + Drop> Machines<'a, B> {
-    /// Monitors of idle channels round a block. The design is lawful and settles in one way, and the map is a map of it. Nothing
-    /// was driven yet; the state is the block's.
+    /// Monitors of idle channels round a block. Port k of the design is its net k, as in every lawful design, and the map is a map
+    /// of it. Nothing was driven yet; the state is the block's.
     pub fn new(alloc: Global, block: B, map: &'a Map) -> Result<Machines<'a, B>, Memory>
-        requires { IsReady (B.design block) map.now }
+        requires nets { PortsAreNets (B.design block) }
+        requires mapped { IsMapOf (B.design block) map.now }
         ensures runs { IfOk result (λ shell. IsAround (B.design shell.block) (B.state shell.block) shell.map.now shell.pins shell.monitors
             (B.design block) (B.state block) None) }
         ensures undriven { IfOk result (λ shell. shell.shown ≡ None) }

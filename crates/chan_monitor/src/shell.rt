@@ -6,9 +6,8 @@ ghost use Rattle.trace_model.specs.Row.{AreOffers};
 ghost use Rattle.net_design.specs.declared.design.Design.{Design};
 ghost use Rattle.net_design.specs.declared.values.Values.{Values};
 ghost use Rattle.chan_map.specs.declared.pins.Map.{Map};
-ghost use Rattle.run_model.specs.Laws.{IsReady};
 ghost use Rattle.run_model.specs.Step.{IsFirst, IsStep};
-ghost use Rattle.chan_monitor.specs.Shell.{AreZeroWhileDown, HasPlaces, IsRunning, IsShown};
+ghost use Rattle.chan_monitor.specs.Shell.{AreZeroWhileDown, HasPlaces, IsMapped, IsRunning, IsShown};
 
 use trace_model::{Offers, Row};
 
@@ -59,6 +58,6 @@ pub trait Shell {
         ensures undriven { (row : Row) → ¬ driven self.new row }
         ensures map { map self.new ≡ map self.old };
 
-    /// The design is lawful and settles in one way, and the map is a map of it.
-    ghost ready: { (shell : Self) (d : Design) (s : Values) (before : Option Row) → runs shell d s before → IsReady d (map shell) };
+    /// The design settles in one way, and the map is a map of it.
+    ghost ready: { (shell : Self) (d : Design) (s : Values) (before : Option Row) → runs shell d s before → IsMapped d (map shell) };
 }

@@ -6,15 +6,15 @@ use Rattle.chan_monitor.proofs.cycles.show.Goals as goal
 
 pub valids-valids-requires-clause-plugs : goal.valids-valids-requires-clause-plugs
 valids-valids-requires-clause-plugs g c = rw (c.as_slice-channels.ensures, c.as_slice-plugs.ensures)
-    (plugs-shown (g.B.Block.design c.args.block.now) c.args.map.now c.requires.ready.mapped)
+    (plugs-shown (g.B.Block.design c.args.block.now) c.args.map.now c.requires.mapped)
 
 pub readies-readies-requires-clause-plugs : goal.readies-readies-requires-clause-plugs
 readies-readies-requires-clause-plugs g c = rw (c.as_slice-channels.ensures, c.as_slice-plugs.ensures)
-    (plugs-shown (g.B.Block.design c.args.block.now) c.args.map.now c.requires.ready.mapped)
+    (plugs-shown (g.B.Block.design c.args.block.now) c.args.map.now c.requires.mapped)
 
 pub fill-requires-clause-plugs : goal.fill-requires-clause-plugs
 fill-requires-clause-plugs g c = rw (c.as_slice-channels.ensures, c.as_slice-plugs.ensures)
-    (plugs-shown (g.B.Block.design c.args.block.now) c.args.map.now c.requires.ready.mapped)
+    (plugs-shown (g.B.Block.design c.args.block.now) c.args.map.now c.requires.mapped)
 
 pub returns-clause-row : goal.returns-clause-row
 returns-clause-row g c before are =

@@ -30,7 +30,7 @@ returns-clause-runs g c =
     record {
       design_is = refl;
       state_is = refl;
-      ready = c.requires;
+      ready = record { one_map = g.met.B.Block.one_map c.args.block; nets = c.requires.nets; mapped = c.requires.mapped };
       held = subst (AreHeld d m)
           (sym (refill-is c.in_ok-pins.pins c.hold.new.pins (c.hold.auto.pins ∙ ap length c.as_mut_slice.ensures.value)))
           (held-from d m silent c.hold.new.pins
