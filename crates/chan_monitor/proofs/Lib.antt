@@ -1,0 +1,4 @@
+pub mod Writing
+pub mod Filling
+pub mod Held
+pub mod RowOfCycle

@@ -1,0 +1,30 @@
+-- The numbers that a design shows, in the contents of all channels.
+use Rattle.std.specs.Prelude.{◌≡◌, ℕ, ◌+◌, ◌<◌, List, ◌++◌, Some, All, length, map, take, drop, slice_get, slice_index}
+use Rattle.trace_model.specs.declared.channel.Channel.{Channel}
+use Rattle.trace_model.specs.declared.channel.Dir.{Dir}
+use Rattle.trace_model.specs.declared.channel.Dir.TheVariants.{Inward, Outward}
+use Rattle.chan_map.specs.declared.pins.Pin.{Pin}
+use Rattle.chan_map.specs.declared.pins.Plug.{Plug}
+
+-- the numbers of these output pins
+abbrev pub read : List ℕ → List Pin → List ℕ
+read out pins = map (λ (p : Pin). slice_index out p.place) pins
+
+-- numbers from place `at` on, in place of as many others
+abbrev pub replaced : List ℕ → ℕ → List ℕ → List ℕ
+replaced contents at numbers = take at contents ++ numbers ++ drop (at + length numbers) contents
+
+-- an outward channel's content, from place `at` on, is what its pins show
+abbrev pub filled : Dir → Plug → ℕ → List ℕ → List ℕ → List ℕ
+filled Inward plug at contents out = contents
+filled Outward plug at contents out = replaced contents at (read out plug.contents)
+
+-- ---- places below n
+abbrev pub IsPlugShown : ℕ → Dir → Plug → Type 0
+IsPlugShown n Inward plug = plug.ready.place < n
+IsPlugShown n Outward plug = (plug.valid.place < n) × All (λ (p : Pin). p.place < n) plug.contents
+
+pub record ArePlugsShown (n : ℕ) (channels : List Channel) (plugs : List Plug) : Type 0 where
+  pub many : length plugs ≡ length channels
+  pub each : (c : ℕ) (x : Channel) (plug : Plug) → slice_get channels c ≡ Some x → slice_get plugs c ≡ Some plug
+      → IsPlugShown n x.dir plug × (length plug.contents ≡ length x.widths)

@@ -1,0 +1,17 @@
+//! Monitors: the gates between the sources and the sinks of channels, and a design that runs behind them.
+//!
+//! The definitions stand in `specs/`: `Passing` (what a monitor makes of a cycle, against *Row*) and `Shell` (what a shell
+//! promises of a cycle, against *IsRun*).
+#![tactic(auto)]
+
+mod cycles;
+mod machines;
+mod monitor;
+mod pins;
+mod rows;
+mod shell;
+
+pub use machines::Machines;
+pub use monitor::{Monitor, Passed};
+pub use rows::row_over;
+pub use shell::Shell;
