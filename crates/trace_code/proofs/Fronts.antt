@@ -142,3 +142,19 @@ front_is_salvaged t n (Err (BadTrace at)) has l a =
     let tail : List ℕ = flat_map (packet_bytes t.channels) t.packets ++ end_mark (length t.packets) in
     absurd (a.0 t.channels (take (n - length (header_bytes t.channels)) tail) has.table (front-past (header_bytes t.channels) tail n l))
 front_is_salvaged t n (Err Memory) has l a = inl refl
+
+-- ---- no more packets than bytes
+packets-few : (cs : List Channel) (ps : List Packet) → length ps ≤ length (flat_map (packet_bytes cs) ps)
+packets-few cs [] = omega arith
+packets-few cs (p ∷ ps) =
+    omega (arith, packets-few cs ps, length-append (packet_bytes cs p) (flat_map (packet_bytes cs) ps))
+
+pub split-few : (bytes : List ℕ) (cs : List Channel) (ps : List Packet) (rest : List ℕ) → Splits bytes cs ps rest
+    → length ps ≤ length bytes
+split-few bytes cs ps rest s = omega (
+  arith,
+  packets-few cs ps,
+  ap length s.parts,
+  length-append (header_bytes cs) (flat_map (packet_bytes cs) ps ++ rest),
+  length-append (flat_map (packet_bytes cs) ps) rest,
+)

@@ -1,5 +1,6 @@
 //! Reading what is whole of a trace that was cut off.
 
+ghost use Rattle.std.specs.Prelude.{◌≤◌, IfOk, length};
 ghost use Rattle.trace_code.specs.Salvage.{Salvages};
 
 use crate::decoding::read_packets;
@@ -11,7 +12,9 @@ use trace_model::Trace;
 /// The trace of the header and of the longest list of whole lawful packets behind it. `BadTrace { at: 0 }`
 /// exactly where the bytes begin with no whole lawful header.
 pub fn salvage(alloc: Global, bytes: &[u8]) -> Result<Trace, CodeError>
-    ensures { Salvages bytes.now result }
+    ensures salvages { Salvages bytes.now result }
+    // There are no more packets than bytes.
+    ensures few { IfOk result (λ t. length t.packets ≤ length bytes.now) }
 {
     let (channels, rest) = read_header(alloc, bytes)?;
     let (packets, _) = read_packets(alloc, channels.as_slice(), rest)?;
