@@ -4,7 +4,8 @@ use Rattle.std.specs.List.{flat_map}
 use Rattle.trace_model.specs.declared.channel.Channel.{Channel}
 use Rattle.trace_compare.specs.declared.report.Finding.{Finding}
 use Rattle.trace_compare.specs.declared.report.What.{What}
-use Rattle.trace_compare.specs.declared.report.What.TheVariants.{Differs, MissingStart, ExtraStart, MissingEnd, ExtraEnd, EarlyStart, EarlyEnd}
+use Rattle.trace_compare.specs.declared.report.What.TheVariants.{Differs, MissingStart, ExtraStart, MissingEnd, ExtraEnd}
+use Rattle.trace_compare.specs.declared.report.What.TheVariants.{EarlyStart, EarlyEnd}
 
 abbrev pub newline : List ℕ
 newline = 10 ∷ []

@@ -45,5 +45,7 @@ mark-early n a b p q x y clock_a clock_b r ea eb is =
     let at_b : (d : ℕ) → d < n → get_or clock_b d 0 ≡ clock b q d = λ d l. ap (λ (xs : List ℕ). get_or xs d 0) eb ∙ counts-at n b q d l in
     some-short n (clock b q) (clock a p) r (
       (λ covers d l. omega (arith, is.0 covers d (omega (arith, l, long)), at_a d l, at_b d l)),
-      (λ covers. is.1 (λ d l. omega (arith, covers d (omega (arith, l, long)), at_a d (omega (arith, l, long)), at_b d (omega (arith, l, long))))),
+      (λ covers. is.1 (λ d l.
+          let below : d < n = omega (arith, l, long) in
+          omega (arith, covers d below, at_a d below, at_b d below))),
     )

@@ -7,8 +7,8 @@ use Rattle.trace_model.specs.Packet.{does}
 use Rattle.trace_compare.specs.Findings.{events_from}
 use Rattle.trace_compare.specs.Walking.{IsNext}
 
-events-here : (kind : Kind) (c : ℕ) (packets : List Packet) (p : ℕ) (packet : Packet) → p < length packets → packet ≡ get_or packets p packet
-    → events_from kind c p (drop p packets)
+events-here : (kind : Kind) (c : ℕ) (packets : List Packet) (p : ℕ) (packet : Packet) → p < length packets
+    → packet ≡ get_or packets p packet → events_from kind c p (drop p packets)
     ≡ cond (does kind c packet) ((p, packet) ∷ events_from kind c (p + 1) (drop (p + 1) packets))
     (events_from kind c (p + 1) (drop (p + 1) packets))
 events-here kind c packets p packet l e =

@@ -11,7 +11,8 @@ use Rattle.trace_model.specs.Clock.{clock}
 use Rattle.trace_model.specs.Packet.{does, count, content_of}
 use Rattle.trace_compare.specs.declared.report.Finding.{Finding}
 use Rattle.trace_compare.specs.declared.report.What.{What}
-use Rattle.trace_compare.specs.declared.report.What.TheVariants.{Differs, MissingStart, ExtraStart, MissingEnd, ExtraEnd, EarlyStart, EarlyEnd}
+use Rattle.trace_compare.specs.declared.report.What.TheVariants.{Differs, MissingStart, ExtraStart, MissingEnd, ExtraEnd}
+use Rattle.trace_compare.specs.declared.report.What.TheVariants.{EarlyStart, EarlyEnd}
 
 -- the finding, where it is one
 abbrev pub found : Bool → ℕ → What → ℕ → ℕ → List Finding

@@ -14,6 +14,9 @@ use Rattle.vec_clock.specs.Counts.{clock_counts}
 pub counts-length : (n : ℕ) (packets : List Packet) (p : ℕ) → length (clock_counts n packets p) ≡ n
 counts-length n packets p = length-map-range_with_len (clock packets p) 0 n
 
+pub counts-long : (n : ℕ) (packets : List Packet) (p : ℕ) (clock : List ℕ) → clock ≡ clock_counts n packets p → length clock ≡ n
+counts-long n packets p clock is = ap length is ∙ counts-length n packets p
+
 pub counts-at : (n : ℕ) (packets : List Packet) (p c : ℕ) → c < n → get_or (clock_counts n packets p) c 0 ≡ clock packets p c
 counts-at n packets p c l = get_or-map-range_with_len (clock packets p) 0 n c c 0 l (omega arith)
 

@@ -14,7 +14,8 @@ use Rattle.vidi.specs.declared.status.Status.{Status}
 use Rattle.vidi.specs.declared.status.Status.TheVariants.{Done, WriteFault, Refused, Diverged}
 use Rattle.vidi.specs.Said.{reason_line, no_divergence_line, diverged_text}
 use Rattle.vidi.specs.Steps.{IsRefusal}
-use Rattle.vidi.specs.Traces.{HasOtherChannels, IsVerdict, Compared, ComparedWith, ComparedFiles, ComparedTo, Compares, IsUnreadTrace, IsRead, IsNoTrace}
+use Rattle.vidi.specs.Traces.{HasOtherChannels, IsVerdict, Compared, ComparedWith, ComparedFiles, ComparedTo, Compares}
+use Rattle.vidi.specs.Traces.{IsUnreadTrace, IsRead, IsNoTrace}
 use Rattle.vidi.proofs.Endings.{One, one-said, one-step, one-unread, unread-read, one-read, one-no_trace}
 use Rattle.vidi.proofs.Endings.{Mute, mute-step, mute-refusal, mute-unread, mute-no_trace, quiet-unread}
 

@@ -39,7 +39,8 @@ no_header : (file : List ℕ) (t : Trace) → Salvages file (Ok t) → HasNoHead
 no_header file t (rest, longest) none =
     none t.channels (flat_map (packet_bytes t.channels) t.packets ++ rest) longest.splits.table longest.splits.parts
 
-one-whole : OneSalvage → (trace : List ℕ) (files : Files) (t u : Trace) → IsWhole trace (Some files) t → IsWhole trace (Some files) u → t ≡ u
+one-whole : OneSalvage → (trace : List ℕ) (files : Files) (t u : Trace) → IsWhole trace (Some files) t → IsWhole trace (Some files) u
+    → t ≡ u
 one-whole one trace files t u (f, read, whole) (g, read', whole') =
     let same = one-read trace files g f read' read in
     let there = subst (λ (h : List ℕ). Salvages h (found u)) same whole' in
@@ -79,6 +80,7 @@ mute-saves trace out files F x left (inr (t, whole, s, same)) = let e : WriteFau
 
 pub quiet-saves : (trace out : List ℕ) (files : Option Files) (F : List ℕ → Type 0) (a : Status) (x : List ℕ) (left : Option Files)
     → ((name : List ℕ) → ¬ F name) → Saves trace out files F a x left → Saves trace out files (λ _. ⊥) a x left
-quiet-saves trace out files F a x left quiet (inl (inl u, same)) = inl (inl (quiet-unread words.Trace trace files F a x (quiet trace) u), same)
+quiet-saves trace out files F a x left quiet (inl (inl u, same)) =
+    inl (inl (quiet-unread words.Trace trace files F a x (quiet trace) u), same)
 quiet-saves trace out files F a x left quiet (inl (inr unsaved, same)) = inl (inr unsaved, same)
 quiet-saves trace out files F a x left quiet (inr saved) = inr saved

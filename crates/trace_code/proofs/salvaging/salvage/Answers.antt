@@ -9,7 +9,8 @@ returns-clause-salvages c =
     let ps = c.in_ok-packets.packets in
     let found = c.in_ok-channels.ensures.found in
     let all : AreAll cs c.in_ok-channels.rest.now ps c.in_ok-packets.field-0-1.now = rw c.as_slice.ensures at c.in_ok-packets.ensures in
-    (c.in_ok-packets.field-0-1.now, all-longest cs c.args.bytes.now c.in_ok-channels.rest.now c.in_ok-packets.field-0-1.now ps found.0 found.1 all)
+    let rest = c.in_ok-packets.field-0-1.now in
+    (rest, all-longest cs c.args.bytes.now c.in_ok-channels.rest.now rest ps found.0 found.1 all)
 
 pub returns-clause-few : goal.returns-clause-few
 returns-clause-few c =

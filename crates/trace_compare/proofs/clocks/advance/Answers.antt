@@ -13,7 +13,8 @@ add-requires c = record {
       let packets = c.args.packets.now in
       let at : ℕ = c.loop-at.at in
       let long : length c.loop-at.clock ≡ n = ap length c.loop-at.invariant ∙ counts-length n packets at in
-      let here : get_or c.loop-at.clock k 0 ≡ get_or (clock_counts n packets at) k 0 = ap (λ (xs : List ℕ). get_or xs k 0) c.loop-at.invariant in
+      let here : get_or c.loop-at.clock k 0 ≡ get_or (clock_counts n packets at) k 0 =
+      ap (λ (xs : List ℕ). get_or xs k 0) c.loop-at.invariant in
       omega (arith, here, long, counts-small n packets at k (omega arith) (omega (arith, l, long)));
 }
 

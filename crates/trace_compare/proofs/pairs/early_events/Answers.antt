@@ -2,7 +2,7 @@ use Rattle.std.proofs.Common.{◌≡◌, ℕ, length, inr, sym, ap, ◌∙◌, a
 use Rattle.std.specs.Prelude.{not}
 use Rattle.std.proofs.lemmas.List.{length-replicate}
 use Rattle.vec_clock.specs.Counts.{clock_counts}
-use Rattle.vec_clock.proofs.Counting.{counts-first, counts-length}
+use Rattle.vec_clock.proofs.Counting.{counts-first, counts-long}
 use Rattle.trace_compare.specs.Findings.{is_early}
 use Rattle.trace_compare.proofs.Early.{mark-early}
 use Rattle.trace_compare.proofs.Walks.{there, walks-before, walks-on, walks-done}
@@ -31,13 +31,13 @@ pub next_with_clock-p-requires-in-loop-p-clause-old : goal.next_with_clock-p-req
 next_with_clock-p-requires-in-loop-p-clause-old c =
     let n : ℕ = length c.args.clock_a.now in
     let inv = c.loop-p.invariant.clock_a in
-    inv ∙ ap (λ k. clock_counts k c.args.a.now c.loop-p.p) (sym (ap length inv ∙ counts-length n c.args.a.now c.loop-p.p))
+    inv ∙ ap (λ k. clock_counts k c.args.a.now c.loop-p.p) (sym (counts-long n c.args.a.now c.loop-p.p c.loop-p.clock_a inv))
 
 pub next_with_clock-q-requires-in-loop-p-clause-old : goal.next_with_clock-q-requires-in-loop-p-clause-old
 next_with_clock-q-requires-in-loop-p-clause-old c =
     let n : ℕ = length c.args.clock_a.now in
     let inv = c.loop-p.invariant.clock_b in
-    inv ∙ ap (λ k. clock_counts k c.args.b.now c.loop-p.q) (sym (ap length inv ∙ counts-length n c.args.b.now c.loop-p.q))
+    inv ∙ ap (λ k. clock_counts k c.args.b.now c.loop-p.q) (sym (counts-long n c.args.b.now c.loop-p.q c.loop-p.clock_b inv))
 
 pub loop-p-preserved : goal.loop-p-preserved
 loop-p-preserved c =
@@ -46,8 +46,8 @@ loop-p-preserved c =
     let b = c.args.b.now in
     let p : ℕ = c.loop-p.p in
     let q : ℕ = c.loop-p.q in
-    let long_a : length c.loop-p.clock_a ≡ n = ap length c.loop-p.invariant.clock_a ∙ counts-length n a p in
-    let long_b : length c.loop-p.clock_b ≡ n = ap length c.loop-p.invariant.clock_b ∙ counts-length n b q in
+    let long_a : length c.loop-p.clock_a ≡ n = counts-long n a p c.loop-p.clock_a c.loop-p.invariant.clock_a in
+    let long_b : length c.loop-p.clock_b ≡ n = counts-long n b q c.loop-p.clock_b c.loop-p.invariant.clock_b in
     let x = there a p (omega arith) in
     let y = there b q (omega arith) in
     record {
@@ -69,13 +69,17 @@ returns-else-q-b-clause-tally c =
     c.loop-p.p c.loop-p.q c.loop-p.tally c.loop-p.invariant.walks (inr c.if-q-b.false)
 
 pub returns-else-q-b-clause-clock_a : goal.returns-else-q-b-clause-clock_a
-returns-else-q-b-clause-clock_a c = ap length c.loop-p.invariant.clock_a ∙ counts-length (length c.args.clock_a.now) c.args.a.now c.loop-p.p
+returns-else-q-b-clause-clock_a c = counts-long (length c.args.clock_a.now) c.args.a.now c.loop-p.p c.loop-p.clock_a
+    c.loop-p.invariant.clock_a
 
 pub returns-else-q-b-clause-clock_b : goal.returns-else-q-b-clause-clock_b
-returns-else-q-b-clause-clock_b c = ap length c.loop-p.invariant.clock_b ∙ counts-length (length c.args.clock_a.now) c.args.b.now c.loop-p.q
+returns-else-q-b-clause-clock_b c = counts-long (length c.args.clock_a.now) c.args.b.now c.loop-p.q c.loop-p.clock_b
+    c.loop-p.invariant.clock_b
 
 pub returns-after-loop-p-clause-clock_a : goal.returns-after-loop-p-clause-clock_a
-returns-after-loop-p-clause-clock_a c = ap length c.loop-p.invariant.clock_a ∙ counts-length (length c.args.clock_a.now) c.args.a.now c.loop-p.p
+returns-after-loop-p-clause-clock_a c = counts-long (length c.args.clock_a.now) c.args.a.now c.loop-p.p c.loop-p.clock_a
+    c.loop-p.invariant.clock_a
 
 pub returns-after-loop-p-clause-clock_b : goal.returns-after-loop-p-clause-clock_b
-returns-after-loop-p-clause-clock_b c = ap length c.loop-p.invariant.clock_b ∙ counts-length (length c.args.clock_a.now) c.args.b.now c.loop-p.q
+returns-after-loop-p-clause-clock_b c = counts-long (length c.args.clock_a.now) c.args.b.now c.loop-p.q c.loop-p.clock_b
+    c.loop-p.invariant.clock_b

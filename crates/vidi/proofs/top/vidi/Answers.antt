@@ -17,10 +17,12 @@ returns-in-Err-Memory-clause-answers g c =
 
 pub returns-in-Ok-clause-complete : goal.returns-in-Ok-clause-complete
 returns-in-Ok-clause-complete g c = λ reads writes pushes.
-    quietly _ _ _ (Stops c.args.words.now (g.S.Shelf.files c.args.shelf.now)) _ _ _ _ c.say.result reads (λ failed. elim failed [ inl shelf ↦ writes shelf | inr sink ↦ pushes sink ])
+    quietly _ _ _ (Stops c.args.words.now (g.S.Shelf.files c.args.shelf.now)) _ _ _ _ c.say.result reads
+    (λ failed. elim failed [ inl shelf ↦ writes shelf | inr sink ↦ pushes sink ])
     (returns-in-Ok-clause-answers g c)
 
 pub returns-in-Err-Memory-clause-complete : goal.returns-in-Err-Memory-clause-complete
 returns-in-Err-Memory-clause-complete g c = λ reads writes pushes.
-    quietly _ _ _ (Stops c.args.words.now (g.S.Shelf.files c.args.shelf.now)) _ _ _ _ c.say-in-Err-Memory.result reads (λ failed. elim failed [ inl shelf ↦ writes shelf | inr sink ↦ pushes sink ])
+    quietly _ _ _ (Stops c.args.words.now (g.S.Shelf.files c.args.shelf.now)) _ _ _ _ c.say-in-Err-Memory.result reads
+    (λ failed. elim failed [ inl shelf ↦ writes shelf | inr sink ↦ pushes sink ])
     (returns-in-Err-Memory-clause-answers g c)
