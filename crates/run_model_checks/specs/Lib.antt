@@ -1,0 +1,2 @@
+pub mod Flick
+pub mod FlickLaws
