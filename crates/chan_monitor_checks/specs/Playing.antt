@@ -1,8 +1,8 @@
 -- A shell in the middle of a run.
-use Rattle.std.specs.Prelude.{List, Option, ℕ, length}
+use Rattle.std.specs.Prelude.{Option}
 use Rattle.trace_model.specs.declared.row.Offers.{Offers}
 use Rattle.trace_model.specs.declared.row.Row.{Row}
-use Rattle.trace_model.specs.Row.{row_before, IsMarked, IsOver}
+use Rattle.trace_model.specs.Row.{IsMarked, IsOver}
 use Rattle.net_design.specs.declared.design.Design.{Design}
 use Rattle.net_design.specs.declared.values.Values.{Values}
 use Rattle.chan_map.specs.declared.pins.Map.{Map}

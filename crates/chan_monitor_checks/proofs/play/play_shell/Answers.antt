@@ -1,4 +1,4 @@
-use Rattle.std.proofs.Common.{◌≡◌, List, None, ◌+◌, length, slice_index, refl, ap, sym, subst, ◌∙◌}
+use Rattle.std.proofs.Common.{List, None, ◌+◌, length, slice_index, refl, ap, sym, subst, ◌∙◌}
 use Rattle.std.proofs.lemmas.List.{length_push}
 use Rattle.std.proofs.lemmas.Option.{slice_get_read}
 use Rattle.trace_model.specs.declared.row.Row.{Row}
