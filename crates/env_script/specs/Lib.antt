@@ -1,1 +1,6 @@
 pub mod Offer
+pub mod ScriptOffer
+pub mod Places
+pub mod Counting
+pub mod Reach
+pub mod Kept
