@@ -1,3 +1,4 @@
 pub mod Fitting
 pub mod Draining
 pub mod Props
+mod Examples
