@@ -4,3 +4,4 @@ pub mod Places
 pub mod Counting
 pub mod Reach
 pub mod Kept
+pub mod Laws

@@ -51,13 +51,13 @@ reach_front rows row c steps (suc j) q e =
 
 -- ---- the last step that is reached
 
-none_next : (rows : List Row) (c : ℕ) (step : Option Step) (before : Option ℕ) → before ≡ None → reach_next rows c step before ≡ None
+pub none_next : (rows : List Row) (c : ℕ) (step : Option Step) (before : Option ℕ) → before ≡ None → reach_next rows c step before ≡ None
 none_next rows c None before e = refl
 none_next rows c (Some step) None e = refl
 none_next rows c (Some step) (Some q) e = let off : Some q ≡ None = e in absurd (cc)
 
 -- behind a step that isn't reached none is
-none_behind : (rows : List Row) (c : ℕ) (steps : List Step) (j d : ℕ) → reach rows c steps (suc j) ≡ None
+pub none_behind : (rows : List Row) (c : ℕ) (steps : List Step) (j d : ℕ) → reach rows c steps (suc j) ≡ None
     → reach rows c steps (suc (d + j)) ≡ None
 none_behind rows c steps j zero e = let same : suc j ≡ suc (0 + j) = omega arith in ap (reach rows c steps) (sym same) ∙ e
 none_behind rows c steps j (suc d) e =

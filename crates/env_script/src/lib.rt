@@ -6,10 +6,12 @@
 #![tactic(auto)]
 
 mod env;
+mod laws;
 mod place;
 mod script_env;
 
 pub use env::Env;
+pub use laws::{reach_is_as_said, the_greatest_decides};
 pub use script_env::ScriptEnv;
 pub use script_text::{
     Drain, Drains, Script, ScriptError, StallError, Stalls, Step, StepLists, Steps, read_script,
