@@ -60,7 +60,8 @@ completed_in : (rows : List Row) (c q u : ℕ) → q ≤ u → u < length rows �
     → CompletesIn rows c u × (completions rows c q (suc u) ≡ completions rows c q u + 1)
 completed_in rows c q u le within lt =
     let found = row_at rows u within in
-    let up = up_if (completes found.0 c) (completions rows c q u) (completions rows c q (suc u)) (more_from rows c q u found.0 le found.1) lt in
+    let more = more_from rows c q u found.0 le found.1 in
+    let up = up_if (completes found.0 c) (completions rows c q u) (completions rows c q (suc u)) more lt in
     (record { row = found.0; at = found.1; completed = up.0 }, up.1)
 
 counts_up : (rows : List Row) (c q u : ℕ) → q ≤ u → CompletesIn rows c u → completions rows c q (suc u) ≡ completions rows c q u + 1

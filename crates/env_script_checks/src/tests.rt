@@ -23,13 +23,25 @@ fn script_answer(alloc: Global, text: &[u8], map: &Map) -> Result<u32, ScriptErr
 fn scripts_are_read(rt: HostRuntime) -> Result<(), Fail> {
     let map = pass_map(rt.alloc())?;
     let cases: [(&[u8], Result<u32, ScriptError>); 8] = [
-        (b"# two sends\ncycles 6\n\na send 5\na send 0x6\na after b 1\nb take 1\nb take all", Ok(6)),
+        (
+            b"# two sends\ncycles 6\n\na send 5\na send 0x6\na after b 1\nb take 1\nb take all",
+            Ok(6),
+        ),
         (b"cycles 4\nc send 1", Err(ScriptError::Channel { line: 2 })),
-        (b"cycles 4\na send 256", Err(ScriptError::Number { line: 2 })),
+        (
+            b"cycles 4\na send 256",
+            Err(ScriptError::Number { line: 2 }),
+        ),
         (b"cycles 4\na go", Err(ScriptError::Line { line: 2 })),
         (b"cycles 0", Err(ScriptError::Number { line: 1 })),
-        (b"cycles 4\nb send 1\na wait 0", Err(ScriptError::Channel { line: 2 })),
-        (b"cycles 4\na after c 1\na send x", Err(ScriptError::Line { line: 3 })),
+        (
+            b"cycles 4\nb send 1\na wait 0",
+            Err(ScriptError::Channel { line: 2 }),
+        ),
+        (
+            b"cycles 4\na after c 1\na send x",
+            Err(ScriptError::Line { line: 3 }),
+        ),
         (b"\n# nothing\n", Err(ScriptError::Line { line: 3 })),
     ];
     let mut same = true;
@@ -66,10 +78,20 @@ fn plans_are_read(rt: HostRuntime) -> Result<(), Fail> {
     let three = Some(3);
     let anew = [three, three, None, three, three, None, three, three];
     let cases: [(&[u8], u32, &[Option<u32>], Result<bool, StallError>); 4] = [
-        (b"capacity 14\ndrain 3 2\ndrain all 1\n", 14, &anew, Ok(true)),
+        (
+            b"capacity 14\ndrain 3 2\ndrain all 1\n",
+            14,
+            &anew,
+            Ok(true),
+        ),
         (b"capacity 16777216", 16_777_216, &[None, None], Ok(true)),
         (b"drain 1 1", 1, &[], Err(StallError::Line { line: 1 })),
-        (b"capacity 14\n\ndrain 1 50001", 14, &[], Err(StallError::Line { line: 3 })),
+        (
+            b"capacity 14\n\ndrain 1 50001",
+            14,
+            &[],
+            Err(StallError::Line { line: 3 }),
+        ),
     ];
     let mut same = true;
     for (text, capacity, bytes, want) in cases {

@@ -1,6 +1,7 @@
 -- The cycles of a plan, line by line.
 use Rattle.std.proofs.Common.{◌≡◌, ℕ, zero, suc, ◌+◌, ◌-◌, ◌<◌, ◌≤◌, ◌%◌, List, [], ◌∷◌, ◌++◌, length, get_or, Option, Some, None}
-use Rattle.std.proofs.Common.{◌⊎◌, true, false, subst, leb, leb-true, leb-false, refl, sym, ap, ◌∙◌, arith, inl, inr, replicate, length-append}
+use Rattle.std.proofs.Common.{◌⊎◌, true, false, subst, leb, leb-true, leb-false, refl, sym, ap, ◌∙◌, arith, inl, inr, replicate}
+use Rattle.std.proofs.Common.{length-append}
 use Rattle.std.proofs.lemmas.List.{get_or_default, length-replicate, get_or-replicate, get_or_append_left, get_or-append_right}
 use Rattle.std.proofs.lemmas.List.Sorted.{IsPartitionedBy-leb}
 use Rattle.std.proofs.lemmas.Option.{slice_get-get_or, get_or_from_slice_get}

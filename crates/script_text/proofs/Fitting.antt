@@ -1,6 +1,7 @@
 -- What is gathered without a fault is a script that fits the channels.
 use Rattle.std.proofs.Common.{◌≡◌, ◌≢◌, ℕ, zero, suc, ◌+◌, ◌<◌, ◌≤◌, ◌^◌, Bool, true, false, not, ◌&&◌, List, [], ◌∷◌, ◌++◌, map, length}
-use Rattle.std.proofs.Common.{get_or, drop, Option, Some, None, Ok, Err, refl, sym, ap, subst, ◌∙◌, arith, ltb, ltb-true, leb-true, eqb-true}
+use Rattle.std.proofs.Common.{get_or, drop, Option, Some, None, Ok, Err, refl, sym, ap, subst, ◌∙◌, arith, ltb, ltb-true, leb-true}
+use Rattle.std.proofs.Common.{eqb-true}
 use Rattle.std.proofs.Common.{append-nil}
 use Rattle.std.specs.Prelude.{slice_get, is_some, cond}
 use Rattle.std.specs.List.{list_all}
@@ -21,7 +22,8 @@ use Rattle.script_text.specs.declared.said.StepLine.{StepLine}
 use Rattle.script_text.specs.declared.script.Step.{Step}
 use Rattle.script_text.specs.declared.script.Step.TheVariants as S
 use Rattle.script_text.specs.declared.script.Script.{Script}
-use Rattle.script_text.specs.Reasons.{between, channel_at, is_inward, suits, suits_channel, names_channels, is_small, fits_ports, fits_content}
+use Rattle.script_text.specs.Reasons.{between, channel_at, is_inward, suits, suits_channel, names_channels, is_small, fits_ports}
+use Rattle.script_text.specs.Reasons.{fits_content}
 use Rattle.script_text.specs.Reasons.{fits_channel, fits_numbers, channel_faults, number_faults, later_faults}
 use Rattle.script_text.specs.Reads.{is_lawful, IsGathered, Finishes, IsFirstLine}
 use Rattle.script_text.specs.Fits.{steps_of, StepFits}

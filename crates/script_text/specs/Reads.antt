@@ -1,5 +1,6 @@
 -- The script that a text says (this project's profile).
-use Rattle.std.specs.Prelude.{◌≡◌, ℕ, ◌+◌, ◌<◌, ◌++◌, ◌&&◌, Bool, true, slice_index_or, List, [], ◌∷◌, length, drop, codes, Option, Some, None, Result, Ok, Err}
+use Rattle.std.specs.Prelude.{◌≡◌, ℕ, ◌+◌, ◌<◌, ◌++◌, ◌&&◌, Bool, true, slice_index_or, List, [], ◌∷◌, length, drop, codes, Option}
+use Rattle.std.specs.Prelude.{Some, None, Result, Ok, Err}
 use Rattle.std.specs.List.{prefix_len, list_all}
 use Rattle.trace_model.specs.declared.channel.Channel.{Channel}
 use Rattle.vidi_bits.specs.Findings.{first}
