@@ -1,6 +1,6 @@
 //! Scripts and plans that are read, and what is offered in the first cycle.
 
-ghost use Rattle.std.specs.Prelude.{◌<◌, ◌≡◌, length};
+ghost use Rattle.std.specs.Prelude.{◌≡◌, length};
 
 use crate::maps::pass_map;
 use chan_map::Map;
