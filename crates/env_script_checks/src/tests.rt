@@ -1,6 +1,7 @@
 //! Scripts and plans that are read, and what is offered in the first cycle.
 
-ghost use Rattle.std.specs.Prelude.{◌≡◌, length};
+ghost use Rattle.std.specs.Prelude.{◌≡◌, ◌<◌, IsTrue, length, slice_get};
+ghost use Rattle.trace_model.specs.Packet.{widths_of};
 
 use crate::maps::pass_map;
 use chan_map::Map;
@@ -101,18 +102,29 @@ fn plans_are_read(rt: HostRuntime) -> Result<(), Fail> {
     Ok(())
 }
 
+/// Whether the first channel has a content port.
+fn has_port(map: &Map) -> bool
+    ensures { IsTrue result → 0 < length (widths_of (slice_get map.now.channels 0)) }
+{
+    match map.channels().get(0) {
+        Some(channel) => channel.widths.len() > 0,
+        None => false,
+    }
+}
+
 /// Whether it offers 5 on channel 0 and takes on channel 1.
 fn offers_five<E: Env>(env: &E) -> bool
-    requires { length (E.channels env.now) ≡ 2 }
+    requires channels { length (E.channels env.now) ≡ 2 }
+    requires port { 0 < length (widths_of (slice_get (E.channels env.now) 0)) }
 {
-    env.valid(0) && !env.ready(0) && !env.valid(1) && env.ready(1)
+    env.valid(0) && env.content(0, 0) == 5 && !env.ready(0) && !env.valid(1) && env.ready(1)
 }
 
 // What a script offers in the first cycle.
 #[test]
 fn a_script_is_played(rt: HostRuntime) -> Result<(), Fail> {
     let map = pass_map(rt.alloc())?;
-    if map.channels().len() == 2 {
+    if map.channels().len() == 2 && has_port(&map) {
         if let Ok(script) = read_script(rt.alloc(), b"cycles 6\na send 5\nb take all", &map) {
             let env = ScriptEnv::new(rt.alloc(), &script, &map)?;
             assert!(rt; offers_five(&env));
