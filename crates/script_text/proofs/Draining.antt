@@ -1,5 +1,5 @@
 -- The cycles of a plan, line by line.
-use Rattle.std.proofs.Common.{◌≡◌, ℕ, zero, suc, ◌+◌, ◌-◌, ◌<◌, ◌≤◌, ◌%◌, List, [], ◌∷◌, ◌++◌, length, get_or, Option, Some, None}
+use Rattle.std.proofs.Common.{◌≡◌, ℕ, zero, suc, ◌+◌, ◌-◌, ◌<◌, ◌≤◌, ◌%◌, List, [], ◌∷◌, ◌++◌, length, get_or, Some, None}
 use Rattle.std.proofs.Common.{◌⊎◌, true, false, subst, leb, leb-true, leb-false, refl, sym, ap, ◌∙◌, arith, inl, inr, replicate}
 use Rattle.std.proofs.Common.{length-append}
 use Rattle.std.proofs.lemmas.List.{get_or_default, length-replicate, get_or-replicate, get_or_append_left, get_or-append_right}
@@ -8,17 +8,13 @@ use Rattle.std.proofs.lemmas.Option.{slice_get-get_or, get_or_from_slice_get}
 use Rattle.std.specs.List.Sorted.{IsPartitionedBy, IsPartitionPoint}
 use Rattle.std.specs.Prelude.{slice_get}
 use Rattle.script_text.specs.declared.stalls.Drain.{Drain}
-use Rattle.script_text.specs.Plan.{allowances, allowance_at, AreSome, ends_from}
-
-abbrev pub allowance_of : Option Drain → Option ℕ
-allowance_of None = None
-allowance_of (Some d) = d.allowance
+use Rattle.script_text.specs.Plan.{allowance_in, allowances, allowance_at, AreSome, ends_from}
 
 -- the line in which a cycle of the plan lies gives its allowance
 in_line : (drains : List Drain) (start at i : ℕ) → start ≤ at
     → ((k : ℕ) → k < i → get_or (ends_from start drains) k 0 ≤ at)
     → (i < length drains → at < get_or (ends_from start drains) i 0)
-    → get_or (allowances drains) (at - start) None ≡ allowance_of (slice_get drains i)
+    → get_or (allowances drains) (at - start) None ≡ allowance_in (slice_get drains i)
 in_line [] start at i from before within = refl
 in_line (d ∷ drains) start at zero from before within =
     let short : at < start + d.cycles = within (omega arith) in
@@ -67,7 +63,7 @@ rises (d ∷ drains) start (suc i) (suc j) le within = rises drains (start + d.c
 pub drains_at : (drains : List Drain) (at i : ℕ)
     → ((k : ℕ) → k < i → get_or (ends_from 0 drains) k 0 ≤ at)
     → (i < length drains → at < get_or (ends_from 0 drains) i 0)
-    → get_or (allowances drains) at None ≡ allowance_of (slice_get drains i)
+    → get_or (allowances drains) at None ≡ allowance_in (slice_get drains i)
 drains_at drains at i before within =
     let same : at ≡ at - 0 = omega arith in ap (λ k. get_or (allowances drains) k None) same
     ∙ in_line drains 0 at i (omega arith) before within
@@ -125,7 +121,7 @@ parted drains ends at are = IsPartitionedBy-leb (λ (y : ℕ). y) ends at
 pub allowed : (drains : List Drain) (ends : List ℕ) (cycle total at i : ℕ) → ends ≡ ends_from 0 drains
     → slice_get ends (length ends - 1) ≡ Some total → at ≡ cycle % total
     → IsPartitionPoint (λ y. leb y at ≡ true) (λ y. leb y at ≡ false) ends i
-    → allowance_of (slice_get drains i) ≡ allowance_at drains cycle
+    → allowance_in (slice_get drains i) ≡ allowance_at drains cycle
 allowed drains ends cycle total at i are last at_is point =
     let n : length ends ≡ length drains = ap length are ∙ length-ends drains 0 in
     let whole_is = (total_is drains ends total are last).1 in

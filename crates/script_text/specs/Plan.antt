@@ -7,6 +7,11 @@ use Rattle.script_text.specs.declared.stalls.Drain.{Drain}
 abbrev pub allowances : List Drain → List (Option ℕ)
 allowances drains = flat_map (λ (d : Drain). replicate d.cycles d.allowance) drains
 
+-- what a line allows, and all where there is none
+abbrev pub allowance_in : Option Drain → Option ℕ
+allowance_in None = None
+allowance_in (Some d) = d.allowance
+
 -- after its last line the plan begins anew; without a line everything drains
 abbrev pub allowance_at : List Drain → ℕ → Option ℕ
 allowance_at drains cycle = slice_index_or (allowances drains) (cycle % length (allowances drains)) None

@@ -1,7 +1,8 @@
 //! A plan of store stalls.
 
 ghost use Rattle.std.specs.Prelude.{◌≡◌};
-ghost use Rattle.script_text.specs.Plan.{allowance_at, AreSome, ends_from};
+ghost use Rattle.std.specs.Option.{option_copied};
+ghost use Rattle.script_text.specs.Plan.{allowance_in, allowance_at, AreSome, ends_from};
 
 use vidi_bits::Items;
 
@@ -26,6 +27,16 @@ pub struct Stalls {
     ghost some: { AreSome drains },
 }
 
+/// How many bytes a line allows, `None` for all, also where there is no line.
+fn allowance_in(drain: Option<&Drain>) -> Option<u32>
+    ensures { result ≡ allowance_in (option_copied drain.entry) }
+{
+    match drain {
+        Some(drain) => drain.allowance,
+        None => None,
+    }
+}
+
 impl Stalls {
     /// The capacity of the store in bytes, 1 to 16,777,216.
     pub fn capacity(&self) -> u32
@@ -45,9 +56,6 @@ impl Stalls {
         };
         let at = u64::from(cycle) % *total;
         let line = ends.partition_point(|end| *end <= at);
-        match self.drains.get(line) {
-            Some(drain) => drain.allowance,
-            None => None,
-        }
+        allowance_in(self.drains.get(line))
     }
 }

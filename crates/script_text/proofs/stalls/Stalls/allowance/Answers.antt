@@ -1,6 +1,7 @@
 use Rattle.std.proofs.Common.{◌%◌, leb, sym, ap, ◌∙◌, rules, arith}
 use Rattle.std.proofs.lemmas.List.Sorted.{IsPartitionPoint-from_clause}
-use Rattle.script_text.proofs.Draining.{total_is, some_cycles, no_line, parted, allowance_of, allowed}
+use Rattle.script_text.proofs.Draining.{total_is, some_cycles, no_line, parted, allowed}
+use Rattle.script_text.specs.Plan.{allowance_in}
 use Rattle.script_text.proofs.stalls.Stalls.allowance.Goals as goal
 
 pub returns-in_default : goal.returns-in_default
@@ -14,24 +15,13 @@ nonzero_rem-at c =
     (c.as_slice-ends.ensures.value ∙ c.args.self.now.counted) (sym c.in-Some.ensures.value) in
     omega (arith, is.1, some_cycles c.args.self.now.drains c.args.self.now.some is.0)
 
-pub returns-in-Some-get : goal.returns-in-Some-get
-returns-in-Some-get c =
+pub returns : goal.returns
+returns c =
     let drains = c.args.self.now.drains in let ends = c.as_slice-ends.result.now in
     let are = c.as_slice-ends.ensures.value ∙ c.args.self.now.counted in
     let at = c.from.result % c.in-Some.total.now in
     let point = IsPartitionPoint-from_clause (λ y. leb y at) ends c.partition_point-line.result
     c.partition_point-line.ensures.partitioned (parted drains ends at are) (λ a r q k. search rules) in
-    ap allowance_of c.in-Some-get.ensures
-    ∙ allowed drains ends c.args.cycle c.in-Some.total.now at c.partition_point-line.result are (sym c.in-Some.ensures.value)
-    (ap (λ n. n % c.in-Some.total.now) c.from.ensures) point
-
-pub returns-in-None : goal.returns-in-None
-returns-in-None c =
-    let drains = c.args.self.now.drains in let ends = c.as_slice-ends.result.now in
-    let are = c.as_slice-ends.ensures.value ∙ c.args.self.now.counted in
-    let at = c.from.result % c.in-Some.total.now in
-    let point = IsPartitionPoint-from_clause (λ y. leb y at) ends c.partition_point-line.result
-    c.partition_point-line.ensures.partitioned (parted drains ends at are) (λ a r q k. search rules) in
-    ap allowance_of c.in-None.ensures
+    c.allowance_in.ensures ∙ ap allowance_in c.get.ensures
     ∙ allowed drains ends c.args.cycle c.in-Some.total.now at c.partition_point-line.result are (sym c.in-Some.ensures.value)
     (ap (λ n. n % c.in-Some.total.now) c.from.ensures) point
