@@ -5,7 +5,7 @@ ghost use Rattle.trace_model.specs.declared.channel.Channel.{Channel};
 ghost use Rattle.trace_model.specs.declared.row.Row.{Row};
 ghost use Rattle.trace_model.specs.Packet.{widths_of};
 ghost use Rattle.trace_model.specs.Row.{IsOver, completes};
-ghost use Rattle.env_script.specs.Offer.{Offer, FitsOffer, Carries, EndsAreCompletions};
+ghost use Rattle.script_offer.specs.Offer.{Offer, FitsOffer, Carries, EndsAreCompletions};
 
 use trace_model::Row;
 

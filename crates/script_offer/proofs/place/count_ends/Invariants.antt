@@ -1,6 +1,6 @@
 use Rattle.std.proofs.Common.{◌≡◌, ◌+◌, ◌<◌, ◌≤◌, ℕ, get_or, cond}
 use Rattle.trace_model.specs.Counting.{has}
-use Rattle.env_script.proofs.place.count_ends.Given as goal
+use Rattle.script_offer.proofs.place.count_ends.Given as goal
 
 abbrev pub invariant-loop-c : goal.invariant-loop-c
 invariant-loop-c l = record {

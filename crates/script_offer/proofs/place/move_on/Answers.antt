@@ -1,12 +1,12 @@
 use Rattle.std.proofs.Common.{◌≡◌, sym, ap, ◌∙◌, subst, arith, length, get_or, Some, List}
 use Rattle.std.proofs.lemmas.Option.{slice_get-get_or}
-use Rattle.env_script.specs.declared.place.Place.{Place}
+use Rattle.script_offer.specs.declared.place.Place.{Place}
 use Rattle.std.specs.Prelude.{slice_get}
 use Rattle.script_text.specs.declared.script.Step.{Step}
 use Rattle.script_text.specs.Fits.{steps_of}
-use Rattle.env_script.specs.Places.{IsAt, Waited, IsMoved}
-use Rattle.env_script.proofs.Moves.{steps_are, moved_more, all_moved}
-use Rattle.env_script.proofs.place.move_on.Goals as goal
+use Rattle.script_offer.specs.Places.{IsAt, Waited, IsMoved}
+use Rattle.script_offer.proofs.Moves.{steps_are, moved_more, all_moved}
+use Rattle.script_offer.proofs.place.move_on.Goals as goal
 
 pub moved-requires-clause-reads : goal.moved-requires-clause-reads
 moved-requires-clause-reads c = λ j step at.

@@ -4,7 +4,7 @@ ghost use Rattle.std.specs.Prelude.{◌≡◌, ◌<◌, ◌+◌, ◌^◌, ◌≤
 ghost use Rattle.trace_model.specs.declared.row.Row.{Row};
 ghost use Rattle.trace_model.specs.Counting.{has};
 ghost use Rattle.script_text.specs.Fits.{steps_of};
-ghost use Rattle.env_script.specs.Places.{over_now, ReadsWithin, AllReadWithin, AreCounts, IsAt, Waited, ArePlaces, IsMoved};
+ghost use Rattle.script_offer.specs.Places.{over_now, ReadsWithin, AllReadWithin, AreCounts, IsAt, Waited, ArePlaces, IsMoved};
 
 use script_text::{Script, Step};
 use trace_model::names;

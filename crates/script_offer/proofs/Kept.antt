@@ -11,13 +11,13 @@ use Rattle.script_text.specs.declared.script.Step.{Step}
 use Rattle.script_text.specs.declared.script.Step.TheVariants.{Send, Take, TakeAll, Wait, After}
 use Rattle.script_text.specs.declared.script.Script.{Script}
 use Rattle.script_text.specs.Fits.{steps_of, StepFits, FitsChannels}
-use Rattle.env_script.specs.declared.place.Place.{Place}
-use Rattle.env_script.specs.Offer.{FitsOffer}
-use Rattle.env_script.specs.ScriptOffer.{completions, is_over, first_cycle, reach_next, reach, last_reached, deciding, offer_of}
-use Rattle.env_script.specs.ScriptOffer.{script_offer}
-use Rattle.env_script.specs.Places.{IsAt, Waited, StandsFor, step_at, offer_at}
-use Rattle.env_script.specs.Counting.{bit, missed, none_passes, not_over_before, push_from}
-use Rattle.env_script.specs.Reach.{reach_by, reach_front, last_is, last_law}
+use Rattle.script_offer.specs.declared.place.Place.{Place}
+use Rattle.script_offer.specs.Offer.{FitsOffer}
+use Rattle.script_offer.specs.ScriptOffer.{completions, is_over, first_cycle, reach_next, reach, last_reached, deciding, offer_of}
+use Rattle.script_offer.specs.ScriptOffer.{script_offer}
+use Rattle.script_offer.specs.Places.{IsAt, Waited, StandsFor, step_at, offer_at}
+use Rattle.script_offer.proofs.Counting.{bit, missed, none_passes, not_over_before, push_from}
+use Rattle.script_offer.proofs.Reach.{reach_by, reach_front, last_is, last_law}
 
 -- ---- what is offered at the places
 

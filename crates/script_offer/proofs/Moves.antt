@@ -13,12 +13,12 @@ use Rattle.script_text.specs.declared.script.Step.{Step}
 use Rattle.script_text.specs.declared.script.Step.TheVariants.{Send, Take, TakeAll, Wait, After}
 use Rattle.script_text.specs.declared.script.Script.{Script}
 use Rattle.script_text.specs.Fits.{steps_of, StepFits, FitsChannels}
-use Rattle.env_script.specs.declared.place.Place.{Place}
-use Rattle.env_script.specs.Offer.{EndsAreCompletions}
-use Rattle.env_script.specs.ScriptOffer.{completions, is_over, first_cycle, reach_next, reach}
-use Rattle.env_script.specs.Places.{AreCounts, IsAt, Waited, IsMoved, ArePlaces, StandsFor, over_now, ReadsWithin, AllReadWithin}
-use Rattle.env_script.specs.Counting.{first_hit, split, front, push, over_front, bit}
-use Rattle.env_script.specs.Reach.{reach_by, reach_front}
+use Rattle.script_offer.specs.declared.place.Place.{Place}
+use Rattle.script_offer.specs.Offer.{EndsAreCompletions}
+use Rattle.script_offer.specs.ScriptOffer.{completions, is_over, first_cycle, reach_next, reach}
+use Rattle.script_offer.specs.Places.{AreCounts, IsAt, Waited, IsMoved, ArePlaces, StandsFor, over_now, ReadsWithin, AllReadWithin}
+use Rattle.script_offer.proofs.Counting.{first_hit, split, front, push, over_front, bit}
+use Rattle.script_offer.proofs.Reach.{reach_by, reach_front}
 
 -- ---- a step is over by the counts where it is over by the rows
 

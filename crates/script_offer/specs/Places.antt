@@ -6,9 +6,9 @@ use Rattle.script_text.specs.declared.script.Step.{Step}
 use Rattle.script_text.specs.declared.script.Step.TheVariants.{Send, Take, TakeAll, Wait, After}
 use Rattle.script_text.specs.declared.script.Script.{Script}
 use Rattle.script_text.specs.Fits.{steps_of}
-use Rattle.env_script.specs.declared.place.Place.{Place}
-use Rattle.env_script.specs.Offer.{Offer}
-use Rattle.env_script.specs.ScriptOffer.{completions, is_over, reach, offer_of}
+use Rattle.script_offer.specs.declared.place.Place.{Place}
+use Rattle.script_offer.specs.Offer.{Offer}
+use Rattle.script_offer.specs.ScriptOffer.{completions, is_over, reach, offer_of}
 
 -- the numbers are the completions of each channel in these rows, of which there are this many
 pub record AreCounts (rows : List Row) (done : List ℕ) (cycle : ℕ) : Type 0 where

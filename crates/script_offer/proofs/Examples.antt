@@ -4,8 +4,8 @@ use Rattle.trace_model.specs.declared.row.Row.{Row}
 use Rattle.script_text.specs.declared.script.Step.{Step}
 use Rattle.script_text.specs.declared.script.Step.TheVariants.{Send, Take, TakeAll, Wait, After}
 use Rattle.script_text.specs.declared.script.Script.{Script}
-use Rattle.env_script.specs.Offer.{Offer, nothing}
-use Rattle.env_script.specs.ScriptOffer.{script_offer}
+use Rattle.script_offer.specs.Offer.{Offer, nothing}
+use Rattle.script_offer.specs.ScriptOffer.{script_offer}
 
 -- a row with all gates up, in which the channels of `valids` show valid and those of `readies` ready
 abbrev row : ℕ → ℕ → Row

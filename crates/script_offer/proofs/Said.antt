@@ -10,11 +10,11 @@ use Rattle.trace_model.specs.declared.row.Row.{Row}
 use Rattle.trace_model.specs.Row.{completes}
 use Rattle.script_text.specs.declared.script.Step.{Step}
 use Rattle.script_text.specs.declared.script.Step.TheVariants.{Send, Take, TakeAll, Wait, After}
-use Rattle.env_script.specs.ScriptOffer.{completions, is_over, first_cycle, reach_next, reach, last_reached}
-use Rattle.env_script.specs.Laws.{CompletesIn, IsAfterFirst, IsAfterNth, FollowsIn, TakesSome, ReachIsAsSaid}
-use Rattle.env_script.specs.Laws.{TheGreatestDecides}
-use Rattle.env_script.specs.Counting.{bit, split, IsFirstCycle, first_is, first_hit}
-use Rattle.env_script.specs.Reach.{reach_by, none_next, none_behind, last_law}
+use Rattle.script_offer.specs.ScriptOffer.{completions, is_over, first_cycle, reach_next, reach, last_reached}
+use Rattle.script_offer.specs.Laws.{CompletesIn, IsAfterFirst, IsAfterNth, FollowsIn, TakesSome, ReachIsAsSaid}
+use Rattle.script_offer.specs.Laws.{TheGreatestDecides}
+use Rattle.script_offer.proofs.Counting.{bit, split, IsFirstCycle, first_is, first_hit}
+use Rattle.script_offer.proofs.Reach.{reach_by, none_next, none_behind, last_law}
 
 -- ---- completions, row by row
 

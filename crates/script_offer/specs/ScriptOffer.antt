@@ -8,7 +8,7 @@ use Rattle.script_text.specs.declared.script.Step.{Step}
 use Rattle.script_text.specs.declared.script.Step.TheVariants.{Send, Take, TakeAll, Wait, After}
 use Rattle.script_text.specs.declared.script.Script.{Script}
 use Rattle.script_text.specs.Fits.{steps_of}
-use Rattle.env_script.specs.Offer.{Offer, nothing}
+use Rattle.script_offer.specs.Offer.{Offer, nothing}
 
 -- how often channel c completes in the rows from row q on and before row r
 abbrev pub completions : List Row → ℕ → ℕ → ℕ → ℕ

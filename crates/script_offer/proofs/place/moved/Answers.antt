@@ -1,8 +1,8 @@
 use Rattle.std.proofs.Common.{◌≡◌, ◌+◌, sym, ap, ◌∙◌, refl, arith, length, get_or, Some}
 use Rattle.std.specs.Prelude.{slice_get}
 use Rattle.std.proofs.lemmas.Option.{slice_get_read}
-use Rattle.env_script.proofs.Moves.{stays_at, goes_on, ends_at}
-use Rattle.env_script.proofs.place.moved.Goals as goal
+use Rattle.script_offer.proofs.Moves.{stays_at, goes_on, ends_at}
+use Rattle.script_offer.proofs.place.moved.Goals as goal
 
 pub returns-then-not-is_over : goal.returns-then-not-is_over
 returns-then-not-is_over c = λ rows counts at waited.

@@ -1,7 +1,7 @@
 use Rattle.std.proofs.Common.{◌≡◌, List}
 use Rattle.trace_model.specs.declared.row.Row.{Row}
-use Rattle.env_script.specs.Places.{AreCounts, IsAt, Waited}
-use Rattle.env_script.proofs.place.moved.Given as goal
+use Rattle.script_offer.specs.Places.{AreCounts, IsAt, Waited}
+use Rattle.script_offer.proofs.place.moved.Given as goal
 
 abbrev pub invariant-loop-at : goal.invariant-loop-at
 invariant-loop-at l = record {

@@ -1,6 +1,6 @@
 //! Laws of the definitions.
 
-ghost use Rattle.env_script.specs.Laws.{ReachIsAsSaid, TheGreatestDecides};
+ghost use Rattle.script_offer.specs.Laws.{ReachIsAsSaid, TheGreatestDecides};
 
 /// Each step of a script is reached as its kind says: behind a `send` 1 plus the first cycle in which the channel
 /// completes, behind `take n` 1 plus that of the n-th completion, behind `wait n` n cycles later, behind `after x n` in the

@@ -9,7 +9,7 @@ use Rattle.trace_model.specs.declared.row.Row.{Row}
 use Rattle.trace_model.specs.Row.{completes}
 use Rattle.script_text.specs.declared.script.Step.{Step}
 use Rattle.script_text.specs.declared.script.Step.TheVariants.{Send, Take, TakeAll, Wait, After}
-use Rattle.env_script.specs.ScriptOffer.{completions, is_over, first_cycle}
+use Rattle.script_offer.specs.ScriptOffer.{completions, is_over, first_cycle}
 
 abbrev pub bit : Bool → ℕ
 bit b = cond b 1 0

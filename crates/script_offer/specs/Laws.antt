@@ -4,7 +4,7 @@ use Rattle.trace_model.specs.declared.row.Row.{Row}
 use Rattle.trace_model.specs.Row.{completes}
 use Rattle.script_text.specs.declared.script.Step.{Step}
 use Rattle.script_text.specs.declared.script.Step.TheVariants.{Send, Take, TakeAll, Wait, After}
-use Rattle.env_script.specs.ScriptOffer.{completions, reach, last_reached}
+use Rattle.script_offer.specs.ScriptOffer.{completions, reach, last_reached}
 
 -- channel c completes in row u
 pub record CompletesIn (rows : List Row) (c u : ℕ) : Type 0 where

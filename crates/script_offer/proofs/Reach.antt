@@ -5,8 +5,8 @@ use Rattle.std.specs.Prelude.{slice_get, is_some}
 use Rattle.std.proofs.lemmas.Bool.{cases_lt}
 use Rattle.trace_model.specs.declared.row.Row.{Row}
 use Rattle.script_text.specs.declared.script.Step.{Step}
-use Rattle.env_script.specs.ScriptOffer.{is_over, reach_next, reach, last_reached}
-use Rattle.env_script.specs.Counting.{first_is, first_hit, over_front}
+use Rattle.script_offer.specs.ScriptOffer.{is_over, reach_next, reach, last_reached}
+use Rattle.script_offer.proofs.Counting.{first_is, first_hit, over_front}
 
 -- ---- a step that is reached stays so
 

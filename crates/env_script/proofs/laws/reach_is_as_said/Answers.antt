@@ -1,5 +1,0 @@
-use Rattle.env_script.proofs.Said.{reach_said}
-use Rattle.env_script.proofs.laws.reach_is_as_said.Goals as goal
-
-pub returns : goal.returns
-returns c = reach_said
