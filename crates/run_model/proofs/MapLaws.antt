@@ -24,7 +24,6 @@ own (Some c) port k h e = let same-clock : c ≡ k = cc in sym same-clock ∙ eq
 
 module _ (d : Design) (name : List ℕ) (pin : Pin) (pin-is : pin ≡ pin_named d.ports name) (is : IsPin d Input 1 pin) (k : ℕ)
     (clock : d.clock ≡ Some k) where
-
   -- the socket that the clock's word names is that of the pin's port
   at-socket : (o : Option Socket) → socket_named d.ports name ≡ o → is_bit Input o ≡ true → is_clock_of d o ≡ true → k ≡ is.port
   at-socket None found bit own-it = absurd (false≢true bit)
