@@ -55,7 +55,8 @@ bound-is_map_of text d m h =
       ties = bound.ties_fit;
       reset = bound.reset_fits;
       clock = bound.clock_fits;
-      own_clock = λ k e. at-socket d text.clock m.clock bound.clock bound.clock_fits k e (socket_named d.ports text.clock) refl both.0 both.1;
+      own_clock = λ k e. at-socket d text.clock m.clock bound.clock bound.clock_fits k e
+          (socket_named d.ports text.clock) refl both.0 both.1;
       inputs = bound.inputs;
       differ = bound.differ;
     }

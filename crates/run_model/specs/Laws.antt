@@ -148,7 +148,8 @@ pub record IsFree (channels : List Channel) (packets : List Packet) (rows : List
   pub waiting : Contains (waits channels packets rows) event
 
 abbrev pub NoCircle : Type 0
-NoCircle = (d : Design) (m : Map) (packets : List Packet) (rows : List Row) → IsWellFormed (record { channels = m.channels; packets = packets })
+NoCircle = (d : Design) (m : Map) (packets : List Packet) (rows : List Row)
+    → IsWellFormed (record { channels = m.channels; packets = packets })
     → IsReplay d m packets rows → AreStable m.channels rows → ¬ HasEnded (length m.channels) packets rows
     → ((p : ℕ) × IsFirstOpen (length m.channels) packets rows p)
     × ((p : ℕ) → IsFirstOpen (length m.channels) packets rows p → IsFree m.channels packets rows p)

@@ -59,7 +59,8 @@ settled-at t u r = record {
     zero-clock : (k : ℕ) → Some 0 ≡ Some k → slice_index (flick_shown t u r).nets k ≡ 0
     zero-clock k e = let here : 0 ≡ k = cc in ap (slice_index (flick_shown t u r).nets) (sym here)
 
-    same : (m k : ℕ) → held flick m k ≡ true → bit_at (slice_index (flick_shown t u r).nets m) k ≡ bit_at (slice_index (flick_state t u).nets m) k
+    same : (m k : ℕ) → held flick m k ≡ true → bit_at (slice_index (flick_shown t u r).nets m) k
+        ≡ bit_at (slice_index (flick_state t u).nets m) k
     same zero k h = absurd (false≢true h)
     same (suc zero) k h = absurd (false≢true h)
     same (suc (suc zero)) k h = absurd (false≢true h)
@@ -186,7 +187,8 @@ one-map = record {
       ∣ (
         flick_shown x.0 x.1 p.0,
         subst (λ (z : Values). IsSettled flick z pins (flick_shown x.0 x.1 p.0)) (sym x.2)
-            (subst (λ (ps : List ℕ). IsSettled flick (flick_state x.0 x.1) ps (flick_shown x.0 x.1 p.0)) (sym p.1) (settled-at x.0 x.1 p.0)),
+            (subst (λ (ps : List ℕ). IsSettled flick (flick_state x.0 x.1) ps (flick_shown x.0 x.1 p.0)) (sym p.1)
+            (settled-at x.0 x.1 p.0)),
       ) ∣₁);
   only = λ s pins a b is fit ha hb.
       (let x = state-is s is in
