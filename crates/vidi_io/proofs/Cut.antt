@@ -1,5 +1,5 @@
 -- A file that is started, and whose one piece is cut off.
-use Rattle.std.proofs.Common.{◌≡◌, ◌⊎◌, ℕ, List, [], Option, Result, Ok, Err, OnOk, OnErr, take, inl, inr, ap, ◌∙◌}
+use Rattle.std.proofs.Common.{◌≡◌, ℕ, List, [], Option, Result, Ok, Err, OnOk, OnErr, take, inl, inr, ap, ◌∙◌}
 use Rattle.vidi_io.specs.Shelf.{Files, holding, emptied, appended, GrewBySome}
 use Rattle.vidi_io.specs.Writing.{IsCutOff}
 use Rattle.vidi_io.proofs.Started.{appended-holding}
