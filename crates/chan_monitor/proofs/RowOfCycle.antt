@@ -67,7 +67,8 @@ row-is m before offers gates out monitors row are g v r k s e =
     λ i. record { gates = g i; valids = v i; readies = r i; contents = k i; starts = starts i; ends = ends i }
 
 -- ---- a cycle
-carries-on : (channels : List Channel) (offers : Offers) (gates c : ℕ) (x : Channel) (dir : Dir) → slice_get channels c ≡ Some x → x.dir ≡ dir
+carries-on : (channels : List Channel) (offers : Offers) (gates c : ℕ) (x : Channel) (dir : Dir) → slice_get channels c ≡ Some x
+    → x.dir ≡ dir
     → AreZeroWhileDown channels offers → CarriesOn channels offers (offered gates offers) c dir
 carries-on channels offers gates c x Inward at way zeros =
     (refl, sym (offered-is channels offers c (has offers.valids c) refl (zeros c x at way)))

@@ -10,7 +10,8 @@ use Rattle.run_model.specs.Offers.{Carries}
 use Rattle.run_model.specs.Step.{IsStep}
 
 -- a cycle with this row leads from state s to the state `after`, in which the shell runs on
-pub record IsTurn (runs : Design → Values → Option Row → Type 0) (d : Design) (m : Map) (s : Values) (before now : Option Row) (offers : Offers)
+pub record IsTurn (runs : Design → Values → Option Row
+    → Type 0) (d : Design) (m : Map) (s : Values) (before now : Option Row) (offers : Offers)
     (row : Row) : Type 0 where
   pub over : IsOver m.channels row
   pub marked : IsMarked before row

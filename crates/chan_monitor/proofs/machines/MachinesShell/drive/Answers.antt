@@ -10,8 +10,10 @@ returns-clause-row g c d s before is =
     let flight = subst (λ k. AreMonitors (length m.channels) k before) (sym c.as_slice-monitors.ensures) is.flight in
     (cycle-of (g.B.Block.design c.args.self.now.block) d m (g.B.Block.state c.args.self.now.block) s before c.args.offers.now c.args.gates
     c.settle_offers.new.pins v c.show.new.row is.design_is is.state_is
-    (cycle-in (g.B.Block.design c.args.self.now.block) (g.B.Block.design c.settle_offers.new.block) m (g.B.Block.state c.args.self.now.block) before c.args.offers.now c.args.gates
-    c.settle_offers.new.pins v c.show.new.row c.settle_offers.ensures.design (ready-of (g.B.Block.design c.args.self.now.block) d m is.design_is is.ready)
+    (cycle-in (g.B.Block.design c.args.self.now.block) (g.B.Block.design c.settle_offers.new.block) m
+    (g.B.Block.state c.args.self.now.block) before c.args.offers.now c.args.gates
+    c.settle_offers.new.pins v c.show.new.row c.settle_offers.ensures.design (ready-of
+    (g.B.Block.design c.args.self.now.block) d m is.design_is is.ready)
     c.requires.offers c.requires.zeros c.requires.gates c.settle_offers.ensures.entered c.settle_offers.ensures.settled
     (c.show.ensures.row before flight))).shown
 
@@ -39,7 +41,8 @@ returns-clause-driven g c =
     (g.B.Block.state c.args.self.now.block) (g.B.Block.state c.settle_offers.new.block)
     c.settle_offers.new.pins (g.B.Block.inputs c.settle_offers.new.block) v m _ (Some c.show.result) c.show.new.row
     c.settle_offers.ensures.design c.settle_offers.ensures.state c.settle_offers.ensures.inputs (ap Some c.show.ensures.masks)
-    (cycle-in (g.B.Block.design c.args.self.now.block) (g.B.Block.design c.settle_offers.new.block) m (g.B.Block.state c.args.self.now.block) before c.args.offers.now c.args.gates
+    (cycle-in (g.B.Block.design c.args.self.now.block) (g.B.Block.design c.settle_offers.new.block) m
+    (g.B.Block.state c.args.self.now.block) before c.args.offers.now c.args.gates
     c.settle_offers.new.pins v c.show.new.row c.settle_offers.ensures.design
     (ready-of (g.B.Block.design c.args.self.now.block) c.requires.running.0 m is.design_is is.ready)
     c.requires.offers c.requires.zeros c.requires.gates c.settle_offers.ensures.entered c.settle_offers.ensures.settled
