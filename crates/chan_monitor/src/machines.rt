@@ -4,6 +4,7 @@ ghost use Rattle.std.specs.Prelude.{◌≡◌, None, IfOk};
 ghost use Rattle.run_model.specs.Building.{PortsAreNets};
 ghost use Rattle.run_model.specs.MapOf.{IsMapOf};
 ghost use Rattle.chan_monitor.specs.Around.{IsAround};
+ghost use Rattle.chan_monitor.specs.Shell.{IsRunning};
 
 use crate::cycles::{forget, monitors_for, pins_for, restart, settle_offers, show};
 use crate::monitor::Monitor;
@@ -27,6 +28,7 @@ pub struct Machines<'a, B: Block> {
     monitors: Items<Monitor>,
     /// The masks of the row of the last `drive`, since which there was no `clock` and no `reset`.
     shown: Option<Handshakes>,
+    ghost running: { ∥ IsRunning (IsAround (B.design block) (B.state block) map.now pins monitors) ∥₁ },
 }
 
 impl<'a, B: Block + Drop> Machines<'a, B> {
@@ -89,6 +91,8 @@ impl<'a, B: Block> Shell for Machines<'a, B> {
         commit(self.monitors.as_mut_slice(), shown);
         self.shown = None;
     }
+
+    ghost running = { λ s. s.running };
 
     ghost ready = { λ s d state before runs. runs.ready };
 }

@@ -27,7 +27,6 @@ pub trait Shell {
     /// Loads the design and runs the map's reset cycles. The next cycle begins in s_0 with no channel in flight, whatever was
     /// before.
     fn reset(&mut self)
-        requires { IsRunning (runs self.old) }
         ensures first { (d : Design) (s : Values) (before : Option Row) → runs self.old d s before
             → (first : Values) × IsFirst d (map self.old) first × runs self.new d first None }
         ensures undriven { (row : Row) → ¬ driven self.new row }
@@ -37,7 +36,6 @@ pub trait Shell {
     /// c. An inward channel's content is 0 while its valid is down; an outward channel's numbers in the offers are passed over.
     /// The row has a place for each port's number, as `row_over` makes it.
     fn drive(&mut self, offers: &Offers, gates: u128, row: &mut Row)
-        requires running { IsRunning (runs self.old) }
         requires offers { AreOffers (map self.old).channels offers.now }
         requires zeros { AreZeroWhileDown (map self.old).channels offers.now }
         requires gates { gates < 2 ^ length (map self.old).channels }
@@ -51,12 +49,14 @@ pub trait Shell {
     /// Commits the cycle of the last `drive`, since which there was no `clock` and no `reset`: the state becomes the next one,
     /// and in flight is what is in flight after the row.
     fn clock(&mut self)
-        requires running { IsRunning (runs self.old) }
         requires driven { (row : Row) × driven self.old row }
         ensures next { (d : Design) (s : Values) (before : Option Row) (row : Row) → runs self.old d s before
             → driven self.old row → (after : Values) × IsStep d (map self.old) s row after × runs self.new d after (Some row) }
         ensures undriven { (row : Row) → ¬ driven self.new row }
         ensures map { map self.new ≡ map self.old };
+
+    /// It runs some design.
+    ghost running: { (shell : Self) → ∥ IsRunning (runs shell) ∥₁ };
 
     /// The design settles in one way, and the map is a map of it.
     ghost ready: { (shell : Self) (d : Design) (s : Values) (before : Option Row) → runs shell d s before → IsMapped d (map shell) };

@@ -8,7 +8,7 @@ ghost use Rattle.net_design.specs.declared.values.Values.{Values};
 ghost use Rattle.run_model.specs.Laws.{GatesOf};
 ghost use Rattle.run_model.specs.Run.{IsRun};
 ghost use Rattle.run_reference.specs.Given.{offers_by, gates_by};
-ghost use Rattle.chan_monitor.specs.Shell.{AreZeroWhileDown, IsRunning};
+ghost use Rattle.chan_monitor.specs.Shell.{AreZeroWhileDown};
 ghost use Rattle.chan_monitor_checks.specs.Playing.{IsTurn};
 
 use chan_monitor::{Shell, row_over};
@@ -24,7 +24,6 @@ pub(crate) fn cycle<S: Shell>(
     offers: &Offers,
     gates: u128,
 ) -> Result<Row, Memory>
-    requires running { IsRunning (S.runs shell.old) }
     requires channels { channels.now ≡ (S.map shell.old).channels }
     requires offers { AreOffers channels.now offers.now }
     requires zeros { AreZeroWhileDown channels.now offers.now }
@@ -32,7 +31,6 @@ pub(crate) fn cycle<S: Shell>(
     ensures turn { IfOk result (λ row. (d : Design) (s : Values) (before : Option OneRow) → S.runs shell.old d s before
         → IsTurn (S.runs shell.new) d (S.map shell.old) s before (Some row) offers.now row) }
     ensures gates { IfOk result (λ row. row.gates ≡ gates) }
-    ensures running { IsRunning (S.runs shell.new) }
     ensures map { S.map shell.new ≡ S.map shell.old }
 {
     let mut row = row_over(alloc, channels)?;
@@ -50,7 +48,6 @@ pub fn play_shell<S: Shell>(
     offers: &[Offers],
     gates: &[u128],
 ) -> Result<Rows, Memory>
-    requires running { IsRunning (S.runs shell.old) }
     requires channels { channels.now ≡ (S.map shell.old).channels }
     requires offers { All (AreOffers channels.now) offers.now }
     requires zeros { All (AreZeroWhileDown channels.now) offers.now }
@@ -59,7 +56,6 @@ pub fn play_shell<S: Shell>(
     ensures run { IfOk result (λ rows. (d : Design) (s : Values) (before : Option OneRow) → S.runs shell.old d s before
         → IsRun d (S.map shell.old) (offers_by offers.now) (GatesOf (gates_by gates.now)) rows) }
     ensures count { IfOk result (λ rows. length rows ≡ length offers.now) }
-    ensures running { IsRunning (S.runs shell.new) }
     ensures map { S.map shell.new ≡ S.map shell.old }
 {
     shell.reset();

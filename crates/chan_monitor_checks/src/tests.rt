@@ -4,7 +4,7 @@ ghost use Rattle.std.specs.Prelude.{◌≡◌, ◌≤◌, IfOk, length, sum_by};
 ghost use Rattle.trace_model.specs.Channel.{content_bytes};
 ghost use Rattle.trace_model.specs.Row.{AreOffers};
 ghost use Rattle.run_model_checks.specs.Flick.{flick_map};
-ghost use Rattle.chan_monitor.specs.Shell.{AreZeroWhileDown, IsRunning};
+ghost use Rattle.chan_monitor.specs.Shell.{AreZeroWhileDown};
 
 use crate::play::cycle;
 use chan_map::Map;
@@ -41,12 +41,10 @@ fn shows<S: Shell>(
     offers: &Offers,
     rows: &[Expected],
 ) -> Result<bool, Memory>
-    requires running { IsRunning (S.runs shell.old) }
     requires channels { channels.now ≡ (S.map shell.old).channels }
     requires some { 1 ≤ length channels.now }
     requires offers { AreOffers channels.now offers.now }
     requires zeros { AreZeroWhileDown channels.now offers.now }
-    ensures running { IsRunning (S.runs shell.new) }
     ensures map { S.map shell.new ≡ S.map shell.old }
 {
     shell.reset();
@@ -81,8 +79,7 @@ fn are_gates(alloc: Global, channels: &Channels, rows: &[Expected]) -> Result<bo
 /// Monitors round `flick`.
 fn shell_of(alloc: Global, map: &Map) -> Result<Machines<'_, Flick>, Memory>
     requires { map.now ≡ flick_map }
-    ensures running { IfOk result (λ shell. IsRunning (⟦<Machines<'static, Flick> as Shell>⟧.runs shell)) }
-    ensures map { IfOk result (λ shell. ⟦<Machines<'static, Flick> as Shell>⟧.map shell ≡ flick_map) }
+    ensures { IfOk result (λ shell. ⟦<Machines<'static, Flick> as Shell>⟧.map shell ≡ flick_map) }
 {
     Machines::new(alloc, Flick::new(), map)
 }

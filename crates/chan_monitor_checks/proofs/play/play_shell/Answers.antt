@@ -1,4 +1,4 @@
-use Rattle.std.proofs.Common.{List, None, ◌+◌, length, slice_index, refl, ap, sym, subst, ◌∙◌}
+use Rattle.std.proofs.Common.{List, ◌+◌, length, slice_index, refl, ap, sym, subst, ◌∙◌}
 use Rattle.std.proofs.lemmas.List.{length_push}
 use Rattle.std.proofs.lemmas.Option.{slice_get_read}
 use Rattle.trace_model.specs.declared.row.Row.{Row}
@@ -15,7 +15,6 @@ pub loop-t-init : goal.loop-t-init
 loop-t-init g c =
     let m = g.S.Shell.map c.args.shell.now in
     let runs = g.S.Shell.runs c.reset.new.self in
-    let r = c.requires.running in
     record {
       run = λ d s before is.
           (let first = c.reset.ensures.first d s before is in (
@@ -26,7 +25,6 @@ loop-t-init g c =
                 (played-nil d m (IsRunRow m.channels (offers_by c.args.offers.now) (GatesOf (gates_by c.args.gates.now))) first.0 first.1),
             subst (λ (rs : List Row). runs d first.0 (row_before rs (length rs))) (sym c.new-rows.ensures) first.2,
           ));
-      running = (r.0, (c.reset.ensures.first r.0 r.1 r.2 r.3).0, None, (c.reset.ensures.first r.0 r.1 r.2 r.3).2);
       map = c.reset.ensures.map;
       count = ap length c.new-rows.ensures;
     }
@@ -48,7 +46,6 @@ loop-t-preserved g c =
           (c.in_ok-row.ensures.turn d w.0 (row_before rows (length rows)) w.2)
           (offer-here c.args.offers.now rows c.loop-t.t offer inv.count there) (ap (slice_index c.args.gates.now) (sym inv.count))
           c.in_ok-row.ensures.gates c.in_ok-push.ensures.ok);
-      running = c.cycle.ensures.running;
-      map = c.cycle.ensures.map ∙ inv.map;
+      map = c.cycle.ensures ∙ inv.map;
       count = ap length c.in_ok-push.ensures.ok ∙ length_push rows row ∙ ap (λ n. n + 1) inv.count;
     }

@@ -7,7 +7,6 @@ use Rattle.run_model.specs.Laws.{GatesOf}
 use Rattle.run_model.specs.Run.{IsRunRow}
 use Rattle.run_model.proofs.PlayedLaws.{Grown}
 use Rattle.run_reference.specs.Given.{offers_by, gates_by}
-use Rattle.chan_monitor.specs.Shell.{IsRunning}
 use Rattle.chan_monitor_checks.proofs.play.play_shell.Given as goal
 
 abbrev pub invariant-loop-t : goal.invariant-loop-t
@@ -16,7 +15,6 @@ invariant-loop-t g l = record {
       → (now : Values) × Grown d (g.S.Shell.map l.fn.shell)
       (IsRunRow (g.S.Shell.map l.fn.shell).channels (offers_by l.offers) (GatesOf (gates_by l.gates))) l.rows now
       × g.S.Shell.runs l.shell d now (row_before l.rows (length l.rows));
-  running : IsRunning (g.S.Shell.runs l.shell);
   map : g.S.Shell.map l.shell ≡ g.S.Shell.map l.fn.shell;
   count : length l.rows ≡ l.t;
 }

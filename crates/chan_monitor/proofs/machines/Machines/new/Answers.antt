@@ -1,9 +1,6 @@
-use Rattle.std.proofs.Common.{◌≡◌, None, false, length, replicate, refl, sym, subst, ap, ◌∙◌}
-use Rattle.net_design.specs.Pins.{input_limits}
-use Rattle.run_model.specs.Pins.{silent}
-use Rattle.chan_monitor.specs.Around.{AreHeld, AreMonitors}
-use Rattle.chan_monitor.proofs.Held.{held-from, held-pins, many-plugs, pins-many, reset-within, ties-within}
-use Rattle.chan_monitor.proofs.RowOfCycle.{all-idle, refill-is}
+use Rattle.std.proofs.Common.{None, false, length, replicate, ap, ◌∙◌}
+use Rattle.chan_monitor.proofs.Held.{many-plugs, pins-many, reset-within, ties-within}
+use Rattle.chan_monitor.proofs.Known.{around-new}
 use Rattle.chan_monitor.proofs.machines.Machines.new.Goals as goal
 
 pub pins_for-requires : goal.pins_for-requires
@@ -21,21 +18,22 @@ hold-requires-clause-reset g c =
     (ap length c.as_mut_slice.ensures.value ∙ c.in_ok-pins.ensures
     ∙ pins-many (g.B.Block.design c.args.block) c.args.map.now c.requires.mapped)
 
+pub invariant_of-result : goal.invariant_of-result
+invariant_of-result g c = record {
+  running = ∣ (
+    g.B.Block.design c.args.block,
+    g.B.Block.state c.args.block,
+    None,
+    around-new (g.B.Block.design c.args.block) (g.B.Block.state c.args.block) c.args.map.now c.in_ok-pins.pins
+        c.as_mut_slice.result.now c.hold.new.pins c.in_ok-monitors.monitors (g.met.B.Block.one_map c.args.block) c.requires.nets
+        c.requires.mapped c.in_ok-pins.ensures c.as_mut_slice.ensures.value c.hold.auto.pins c.hold.ensures
+        (c.in_ok-monitors.ensures ∙ ap (λ n. replicate n false) c.len.ensures),
+  ) ∣₁;
+}
+
 pub returns-clause-runs : goal.returns-clause-runs
 returns-clause-runs g c =
-    let d = g.B.Block.design c.args.block in
-    let m = c.args.map.now in
-    let long : length c.as_mut_slice.result.now ≡ length (input_limits d) =
-    ap length c.as_mut_slice.ensures.value ∙ c.in_ok-pins.ensures ∙ pins-many d m c.requires.mapped in
-    record {
-      design_is = refl;
-      state_is = refl;
-      ready = record { one_map = g.met.B.Block.one_map c.args.block; nets = c.requires.nets; mapped = c.requires.mapped };
-      held = subst (AreHeld d m)
-          (sym (refill-is c.in_ok-pins.pins c.hold.new.pins (c.hold.auto.pins ∙ ap length c.as_mut_slice.ensures.value)))
-          (held-from d m silent c.hold.new.pins
-          (held-pins d m c.requires.mapped false (length c.as_mut_slice.result.now) c.hold.new.pins long c.hold.ensures));
-      flight = subst (λ k. AreMonitors (length m.channels) k None) (sym (c.in_ok-monitors.ensures
-          ∙ ap (λ n. replicate n false) c.len.ensures))
-          (all-idle (length m.channels));
-    }
+    around-new (g.B.Block.design c.args.block) (g.B.Block.state c.args.block) c.args.map.now c.in_ok-pins.pins
+    c.as_mut_slice.result.now c.hold.new.pins c.in_ok-monitors.monitors (g.met.B.Block.one_map c.args.block) c.requires.nets
+    c.requires.mapped c.in_ok-pins.ensures c.as_mut_slice.ensures.value c.hold.auto.pins c.hold.ensures
+    (c.in_ok-monitors.ensures ∙ ap (λ n. replicate n false) c.len.ensures)
