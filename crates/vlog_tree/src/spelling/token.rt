@@ -6,8 +6,8 @@ ghost use Rattle.vlog_tree.specs.Words.{NameWord, NumberWord, Fixed, number_kind
 use crate::expr::{Ident, Number, NumberKind};
 use crate::terminal::Terminal;
 use std::alloc::Global;
-use vidi_bits::{Memory, Name};
-use vlog_lex::{Token, TokenKind, Tokens, copied};
+use vidi_bits::{Memory, Name, copied};
+use vlog_lex::{Token, TokenKind, Tokens};
 
 /// Adds a token with a copy of this text and with line 0.
 fn put(alloc: Global, out: &mut Tokens, kind: TokenKind, text: &[u8]) -> Result<(), Memory>
