@@ -1,5 +1,5 @@
 -- The words of the memories before a place.
-use Rattle.std.proofs.Common.{◌≡◌, ℕ, zero, suc, ◌+◌, List, [], ◌∷◌, Option, Some, None, map, slice_get, refl, ap, ◌∙◌, arith}
+use Rattle.std.proofs.Common.{◌≡◌, ℕ, zero, suc, ◌+◌, List, [], ◌∷◌, Some, map, slice_get, refl, ap, ◌∙◌, arith}
 use Rattle.vlog_size.specs.Table.{Named}
 use Rattle.vlog_size.specs.declared.scope.ScopeMemory.{ScopeMemory}
 use Rattle.vlog_block.specs.Sources.{words_before}

@@ -1,16 +1,16 @@
 -- The bits of nets that an expression reads, and those that a target writes (this project's profile): a select whose index, bounds or
 -- base are constants names its bits that are in range, any other select the whole vector. Words of memories are no bits of nets.
-use Rattle.std.specs.Prelude.{ℕ, ◌+◌, ◌==◌, ◌&&◌, ◌||◌, Bool, true, false, nat_le, nat_lt, if◌then◌else◌, Option, None, Some}
+use Rattle.std.specs.Prelude.{ℕ, ◌+◌, ◌&&◌, ◌||◌, false, nat_le, nat_lt, if◌then◌else◌, Option, None, Some}
 use Rattle.vlog_tree.specs.Tree.{ExprOf, UnaryExpr, BinaryExpr, ChoiceExpr, ExprsOf, NoExprs, MoreExprs}
-use Rattle.vlog_tree.specs.Tree.{PrimOf, NumberPrim, RefPrim, ParenPrim, ConcatPrim, RefOf, RefWith, IndexOf, NoIndex, Index}
+use Rattle.vlog_tree.specs.Tree.{PrimOf, NumberPrim, RefPrim, ParenPrim, ConcatPrim, RefWith, IndexOf, NoIndex, Index}
 use Rattle.vlog_tree.specs.Tree.{LastOf, NoLast, Last, SelOf, IndexSel, PartSel, IndexedSel}
 use Rattle.vlog_tree.specs.Tree.{TargetOf, RefTarget, ConcatTarget, TargetsOf, NoTargets, MoreTargets}
 use Rattle.vlog_size.specs.Names.{Readable}
 use Rattle.vlog_size.specs.Size.{sizes_of, number, or_zero}
 use Rattle.net_design.specs.declared.rhs.Span.{Span}
-use Rattle.net_design.specs.Bits.{BitSet, no_bits, bits_of}
+use Rattle.net_design.specs.Bits.{BitSet, bits_of}
 use Rattle.vlog_block.specs.declared.source.Source.{Source}
-use Rattle.vlog_block.specs.declared.source.Source.TheVariants.{Constant, Net, Memory, Nothing}
+use Rattle.vlog_block.specs.declared.source.Source.TheVariants.{Net}
 use Rattle.vlog_block.specs.Sources.{source_of}
 use Rattle.vlog_block.specs.Value.{picked, bound}
 

@@ -1,14 +1,13 @@
 -- Expressions whose parts have lawful widths, 1 to 128 bits.
-use Rattle.std.specs.Prelude.{ℕ, ◌+◌, ◌<◌, ◌≤◌, ◌^◌, ◌≡◌, Option, None, Some}
+use Rattle.std.specs.Prelude.{ℕ, ◌≤◌, None, Some}
 use Rattle.vlog_tree.specs.Tree.{ExprOf, UnaryExpr, BinaryExpr, ChoiceExpr, ExprsOf, NoExprs, MoreExprs}
 use Rattle.vlog_tree.specs.Tree.{PrimOf, NumberPrim, RefPrim, ParenPrim, ConcatPrim, RefOf, RefWith, IndexOf, NoIndex, Index}
 use Rattle.vlog_tree.specs.Tree.{LastOf, NoLast, Last, SelOf, IndexSel, PartSel, IndexedSel}
 use Rattle.vlog_size.specs.Names.{Readable}
 use Rattle.vlog_size.specs.Size.{sizes_of_all, total_width}
 use Rattle.vlog_operators.specs.Number.{IsWidth}
-use Rattle.net_design.specs.Sized.{IsCountable}
 use Rattle.vlog_block.specs.declared.source.Source.{Source}
-use Rattle.vlog_block.specs.declared.source.Source.TheVariants.{Constant, Net, Memory, Nothing}
+use Rattle.vlog_block.specs.declared.source.Source.TheVariants.{Net, Memory}
 use Rattle.vlog_block.specs.Sources.{source_of}
 use Rattle.vlog_block.specs.Value.{width_of, prim_width, picked}
 

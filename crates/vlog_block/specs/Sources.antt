@@ -7,8 +7,6 @@ use Rattle.vlog_size.specs.declared.scope.ScopeMemory.{ScopeMemory}
 use Rattle.vlog_size.specs.declared.scope.Scope.{Scope}
 use Rattle.vlog_size.specs.Table.{Named, value_of, place_of}
 use Rattle.vlog_size.specs.Names.{Readable, readable_of, checked}
-use Rattle.net_design.specs.declared.rhs.Span.{Span}
-use Rattle.net_design.specs.declared.rhs.Room.{Room}
 use Rattle.net_design.specs.Sized.{IsCountable}
 use Rattle.vlog_block.specs.declared.source.Source.{Source}
 use Rattle.vlog_block.specs.declared.source.Source.TheVariants.{Constant, Net, Memory, Nothing}

@@ -1,8 +1,8 @@
 -- The places that a target writes, and the updates that give them a number (IEEE 1364-2005, 9.2 and 5.2; this project's profile: what
 -- lies out of range is written nowhere).
 use Rattle.std.specs.Prelude.{ℕ, ◌+◌, ◌-◌, ◌/◌, ◌^◌, min, nat_lt, if◌then◌else◌, List, [], ◌∷◌, ◌++◌}
-use Rattle.vlog_tree.specs.Tree.{TargetOf, RefTarget, ConcatTarget, TargetsOf, NoTargets, MoreTargets, RefOf, RefWith}
-use Rattle.vlog_tree.specs.Tree.{IndexOf, NoIndex, Index, LastOf, NoLast, Last, SelOf, IndexSel}
+use Rattle.vlog_tree.specs.Tree.{TargetOf, RefTarget, ConcatTarget, TargetsOf, NoTargets, MoreTargets, RefWith}
+use Rattle.vlog_tree.specs.Tree.{IndexOf, NoIndex, Index, LastOf, NoLast, Last, IndexSel}
 use Rattle.vlog_size.specs.Names.{Readable}
 use Rattle.vlog_size.specs.Size.{sizes_of_targets, total_width}
 use Rattle.net_design.specs.declared.rhs.Room.{Room}
@@ -12,7 +12,7 @@ use Rattle.net_design.specs.declared.values.Target.TheVariants.{Net as NetTarget
 use Rattle.net_design.specs.declared.values.Update.{Update}
 use Rattle.net_design.specs.Updates.{update}
 use Rattle.vlog_block.specs.declared.source.Source.{Source}
-use Rattle.vlog_block.specs.declared.source.Source.TheVariants.{Constant, Net, Memory, Nothing}
+use Rattle.vlog_block.specs.declared.source.Source.TheVariants.{Net, Memory}
 use Rattle.vlog_block.specs.Sources.{source_of}
 use Rattle.vlog_block.specs.Value.{picked, low_of, index_value}
 

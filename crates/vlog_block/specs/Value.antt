@@ -2,7 +2,7 @@
 -- everything is unsigned, there is neither x nor z, and a select out of range reads 0). v has the numbers of the scope's nets and of
 -- the words of its memories, by their places.
 use Rattle.std.specs.Prelude.{ℕ, ◌+◌, ◌-◌, max, ◌==◌, if◌then◌else◌, Option, None, Some}
-use Rattle.vlog_tree.specs.Tree.{NumberOf, ExprOf, UnaryExpr, BinaryExpr, ChoiceExpr, ExprsOf, NoExprs, MoreExprs}
+use Rattle.vlog_tree.specs.Tree.{ExprOf, UnaryExpr, BinaryExpr, ChoiceExpr, ExprsOf, NoExprs, MoreExprs}
 use Rattle.vlog_tree.specs.Tree.{PrimOf, NumberPrim, RefPrim, ParenPrim, ConcatPrim, RefOf, RefWith, IndexOf, NoIndex, Index}
 use Rattle.vlog_tree.specs.Tree.{LastOf, NoLast, Last, SelOf, IndexSel, PartSel, IndexedSel}
 use Rattle.vlog_tree.specs.declared.expr.UnaryOp.{UnaryOp}
@@ -12,7 +12,7 @@ use Rattle.vlog_size.specs.declared.operators.Kind.TheVariants.{Sum, Comparison,
 use Rattle.vlog_size.specs.Names.{Readable, fixed}
 use Rattle.vlog_size.specs.Literal.{literal_number}
 use Rattle.vlog_size.specs.Operators.{kind_of, is_wide, unary_value, binary_value}
-use Rattle.vlog_size.specs.Size.{sizes_of, sizes_of_prim, number, or_zero, bounds_width, const_number}
+use Rattle.vlog_size.specs.Size.{sizes_of, sizes_of_prim, number, or_zero, const_number}
 use Rattle.vlog_operators.specs.Number.{part_of, side_by_side}
 use Rattle.net_design.specs.declared.rhs.Room.{Room}
 use Rattle.net_design.specs.declared.values.Values.{Values}
