@@ -6,13 +6,12 @@ ghost use Rattle.chan_map.specs.Bound.{place_of, width_of, pin_named, width_name
 ghost use Rattle.chan_map.specs.Bound.{rows_of, plugs_of, ties_of, resets_of, later};
 ghost use Rattle.chan_map.specs.Parts.{ArePartsOf};
 
-use crate::forms::copy;
 use crate::map_text::{ChannelLine, Entry, MapLine};
 use crate::pins::{Pin, Pins, Plug, Plugs, Reset, Tie, Ties};
 use crate::sockets::{Socket, Top, socket_named};
 use std::alloc::Global;
 use trace_model::{Channel, Channels};
-use vidi_bits::{Bytes, Memory, Name};
+use vidi_bits::{Bytes, Memory, Name, copied};
 
 /// What the lines of a map add to it.
 #[derive(Drop)]
@@ -47,7 +46,7 @@ pub fn pin_named(alloc: Global, top: &Top, name: &[u8]) -> Result<Pin, Memory>
     ensures { IfOk result (λ p. p ≡ pin_named top.now.design.now.ports name.now) }
 {
     let place = place_of(socket_named(top, name));
-    let name = copy(alloc, name)?;
+    let name = copied(alloc, name)?;
     Ok(Pin { name, place })
 }
 
@@ -103,7 +102,7 @@ fn row_of(alloc: Global, top: &Top, c: &ChannelLine) -> Result<Channel, Memory>
     requires narrow { (name : List ℕ) → width_named top.now.design.now.ports name < 256 }
     ensures { IfOk result (λ r. r ≡ row_of top.now.design.now.ports c.now) }
 {
-    let name = copy(alloc, c.name.as_slice())?;
+    let name = copied(alloc, c.name.as_slice())?;
     let widths = widths_named(alloc, top, c.contents.as_slice())?;
     Ok(Channel {
         dir: c.dir,

@@ -7,11 +7,10 @@ ghost use Rattle.chan_map.specs.declared.map_text.Entry.{Entry};
 ghost use Rattle.chan_map.specs.Follow.{may_follow};
 ghost use Rattle.chan_map.specs.Seen.{IsSeen};
 
-use crate::forms::copy;
 use crate::map_text::Entry;
 use indexmap::IndexSet;
 use std::alloc::Global;
-use vidi_bits::{Memory, Name};
+use vidi_bits::{Memory, Name, copied};
 
 /// What is kept of the lines before.
 #[derive(Drop)]
@@ -82,8 +81,8 @@ impl Seen {
     {
         self.some = true;
         match entry {
-            Entry::Top { name } => self.top = Some(copy(alloc, name.as_slice())?),
-            Entry::Clock { port } => self.clock = Some(copy(alloc, port.as_slice())?),
+            Entry::Top { name } => self.top = Some(copied(alloc, name.as_slice())?),
+            Entry::Clock { port } => self.clock = Some(copied(alloc, port.as_slice())?),
             Entry::Reset { .. } => self.reset = true,
             Entry::Channel { channel } => insert_name(
                 alloc,

@@ -7,11 +7,10 @@ ghost use Rattle.chan_map.specs.Reasons.{capped, all_names, cover_faults, Tried}
 ghost use Rattle.chan_map.specs.Times.{Adds, AreTimes};
 
 use crate::error::MapError;
-use crate::forms::copy;
 use crate::map_text::{ChannelLine, Entry, MapLine};
 use crate::sockets::{Top, socket_named};
 use std::alloc::Global;
-use vidi_bits::{Items, Memory, Name};
+use vidi_bits::{Items, Memory, Name, copied};
 
 /// A count for each port.
 type Counts = Items<u32>;
@@ -106,7 +105,7 @@ pub fn check_cover(alloc: Global, top: &Top, lines: &[MapLine]) -> Result<(), Ma
     for (k, p) in top.design.ports.as_slice().iter().enumerate() {
         let times = counts.as_slice()[k];
         if times != 1 {
-            let port = copy(alloc, p.name.as_slice())?;
+            let port = copied(alloc, p.name.as_slice())?;
             return Err(MapError::Cover { port, times });
         }
     }

@@ -4,7 +4,8 @@ use Rattle.std.proofs.Common.{◌++◌, Some, length, take, drop, replicate, get
 use Rattle.std.proofs.Common.{refl, ap, sym, ◌∙◌, arith}
 use mir.Val.{bool_byte}
 use Rattle.std.proofs.Math.Nat.{pow-le-pow_right, mod-le}
-use Rattle.std.proofs.lemmas.List.{append-nil, length-append, length-drop, length-map, length-take-le, map-append, take-append-drop, take_at}
+use Rattle.std.proofs.lemmas.List.{append-nil, length-append, length-drop, length-map, length-take-le, map-append, take-append-drop}
+use Rattle.std.proofs.lemmas.List.{take_at}
 use Rattle.std.proofs.lemmas.List.{take_all, drop_at, drop-drop, drop_more, drop_all, set_at, replicate-append-replicate}
 use Rattle.std.proofs.lemmas.Option.{slice_get_read}
 use Rattle.trace_model.specs.declared.channel.Channel.{Channel}
@@ -76,7 +77,8 @@ mask-next f channels plugs c x plug up mask new l m ex ep u n h =
     mask-more (λ k. at_plug false (f k) (slice_get channels k) (slice_get plugs k)) c up mask new
     (u ∙ sym (plug-at false (f c) channels plugs c x plug l m ex ep)) n h
 
-pub plug-shown : (n : ℕ) (channels : List Channel) (plugs : List Plug) → ArePlugsShown n channels plugs → (c : ℕ) (x : Channel) (plug : Plug)
+pub plug-shown : (n : ℕ) (channels : List Channel) (plugs : List Plug) → ArePlugsShown n channels plugs
+    → (c : ℕ) (x : Channel) (plug : Plug)
     → c < length channels → x ≡ get_or channels c x → plug ≡ get_or plugs c plug
     → IsPlugShown n x.dir plug × (length plug.contents ≡ length x.widths)
 plug-shown n channels plugs are c x plug l ex ep =
@@ -191,7 +193,8 @@ fill-more channels plugs offers out contents new c at next x plug fit zeros l m 
     let f = content_in channels plugs offers out in
     let k = length x.widths in
     let front = joined f 0 (take c channels) in
-    let here : f c ≡ content_on channels offers out c x.dir plug = plug-at [] (content_on channels offers out c) channels plugs c x plug l m ex ep in
+    let here : f c ≡ content_on channels offers out c x.dir plug = plug-at []
+    (content_on channels offers out c) channels plugs c x plug l m ex ep in
     let more : joined f 0 (take (c + 1) channels) ≡ front ++ content_on channels offers out c x.dir plug =
     joined-more f channels c x l ex ∙ ap (λ xs. front ++ xs) here in
     let place = are.place in
@@ -235,7 +238,8 @@ pub passed-is : (c : ℕ) (flight : Bool) (p : Passed) (gates valids readies : �
     → valid ≡ has valids c → ready ≡ has readies c → p ≡ passed flight gate valid ready
     → p ≡ passed flight (has gates c) (has valids c) (has readies c)
 passed-is c flight p gates valids readies gate valid ready g v r e =
-    e ∙ ap (λ x. passed flight x valid ready) g ∙ ap (λ x. passed flight (has gates c) x ready) v ∙ ap (passed flight (has gates c) (has valids c)) r
+    e ∙ ap (λ x. passed flight x valid ready) g ∙ ap (λ x. passed flight (has gates c) x ready) v
+    ∙ ap (passed flight (has gates c) (has valids c)) r
 
 pub start-is : (monitors : List Bool) (c : ℕ) (flight : Bool) (p : Passed) (gates valids readies : ℕ) (gate valid ready : Bool)
     → c < length monitors → flight ≡ get_or monitors c flight → gate ≡ has gates c → valid ≡ has valids c → ready ≡ has readies c

@@ -6,7 +6,8 @@ use Rattle.std.specs.List.{AllZip, enumerate_from}
 use Rattle.std.specs.Option.{option_to_list, IfSome}
 use Rattle.std.proofs.lemmas.Bool.{eq-eqb, cond-false}
 use Rattle.std.proofs.lemmas.List.{take_at, drop_at, length-map, length-append, length-replicate}
-use Rattle.std.proofs.lemmas.List.Elements.{All-cons, All-append, All-nil, All-head, All-tail, All-take, All-drop, All-from_recursion, All-weaker}
+use Rattle.std.proofs.lemmas.List.Elements.{All-cons, All-append, All-nil, All-head, All-tail, All-take, All-drop, All-from_recursion}
+use Rattle.std.proofs.lemmas.List.Elements.{All-weaker}
 use Rattle.std.proofs.lemmas.List.FromFn.{length-enumerate_from}
 use Rattle.std.proofs.lemmas.Option.{slice_get-get_or, same_Some, IfSome_then}
 use Rattle.trace_model.specs.declared.channel.Channel.{Channel}
@@ -73,7 +74,8 @@ put : (written : List PinNumber) (pins : List ℕ) (n : ℕ) → length pins ≡
     → All (Within n) written → All (Holds (write pins written)) written
 put written pins n long few within k x l =
     let w = within k x l in
-    write-at written pins k (get_or written k x) (slice_get-get_or written k x l) (omega (arith, w, long)) (few (get_or written k x).place w)
+    write-at written pins k (get_or written k x) (slice_get-get_or written k x l) (omega (arith, w, long)) (few
+    (get_or written k x).place w)
 
 -- the numbers are those of a cycle's pins, so they fit
 are-pins_from : (d : Design) (m : Map) → IsMapOf d m → (resets : Bool) (row : Row) → AreSmall m.channels row → (pins : List ℕ)
@@ -84,7 +86,8 @@ are-pins_from d m is resets row small pins long numbers = record {
     each = λ j l.
         let s = stands d m is resets row j (omega (arith, l, long)) in
         let x = enters d m is resets row small s.index s.entry s.at in
-        let value : get_or pins s.entry.place 0 ≡ s.entry.number = all-at (Holds pins) (entered m resets row) s.index s.entry numbers s.at in
+        let value : get_or pins s.entry.place 0 ≡ s.entry.number = all-at (Holds pins)
+        (entered m resets row) s.index s.entry numbers s.at in
         let here : get_or pins j 0 ≡ s.entry.number = ap (λ k. get_or pins k 0) (sym s.place) ∙ value in
         let limit : get_or (input_limits d) s.entry.place 0 ≡ get_or (input_limits d) j 0 = ap (λ k. get_or (input_limits d) k 0) s.place in
         let below = x.below in
@@ -215,7 +218,8 @@ plug-zero channels c Inward plug =
 plug-zero channels c Outward plug = All-cons IsZero (pin_number plug.ready.place (flag (has 0 c && has 0 c))) []
     (flag-off (has 0 c && has 0 c) (off-and (has 0 c) c)) (All-nil IsZero)
 
-channels-zero : (channels : List Channel) (c : ℕ) (xs : List Channel) (plugs : List Plug) → All IsZero (inputs_from channels silent c xs plugs)
+channels-zero : (channels : List Channel) (c : ℕ) (xs : List Channel) (plugs : List Plug)
+    → All IsZero (inputs_from channels silent c xs plugs)
 channels-zero channels c [] plugs = All-nil IsZero
 channels-zero channels c (x ∷ xs) [] = All-nil IsZero
 channels-zero channels c (x ∷ xs) (p ∷ ps) = All-append IsZero (plug_inputs channels silent c x.dir p)
@@ -280,8 +284,11 @@ pins-below d way n below [] [] z = (All-nil (λ (p : Pin). p.place < n), refl)
 pins-below d way n below [] (p ∷ ps) z = absurd z
 pins-below d way n below (w ∷ ws) [] z = absurd z
 pins-below d way n below (w ∷ ws) (p ∷ ps) z =
-    let more = pins-below d way n below ws ps z.1 in
-    (All-cons (λ (q : Pin). q.place < n) p ps (below w p z.0) more.0, let e = more.1 in let s : suc (length ps) ≡ suc (length ws) = omega (arith, e) in s)
+    let more = pins-below d way n below ws ps z.1 in (
+      All-cons (λ (q : Pin). q.place < n) p ps (below w p z.0) more.0,
+      let e = more.1 in let s : suc (length ps)
+          ≡ suc (length ws) = omega (arith, e) in s,
+    )
 
 abbrev IsSide : Design → Dir → List ℕ → Plug → Type 0
 IsSide d dir widths plug = IsPin d (source_side dir) 1 plug.valid × IsPin d (sink_side dir) 1 plug.ready
@@ -298,7 +305,8 @@ side-within d Outward widths plug is =
 side-shown : (d : Design) (dir : Dir) (widths : List ℕ) (plug : Plug) → IsSide d dir widths plug
     → IsPlugShown (output_count d) dir plug × (length plug.contents ≡ length widths)
 side-shown d Inward widths plug is =
-    let c = pins-below d Input (length (input_limits d)) (input-below d) widths plug.contents is.2 in (output-below d 1 plug.ready is.1, c.1)
+    let c = pins-below d Input (length (input_limits d)) (input-below d) widths plug.contents is.2 in
+    (output-below d 1 plug.ready is.1, c.1)
 side-shown d Outward widths plug is =
     let c = pins-below d Output (output_count d) (output-below d) widths plug.contents is.2 in
     ((output-below d 1 plug.valid is.0, c.0), c.1)
@@ -334,7 +342,8 @@ plugs-shown d m is = record {
 
 pub ties-within : (d : Design) (m : Map) → IsMapOf d m → (n : ℕ) → n ≡ length (input_limits d) → AreTiesWithin n m.ties
 ties-within d m is n e = subst (λ k. AreTiesWithin k m.ties) (sym e)
-    (All-weaker (IsTie d) (λ (t : Tie). t.pin.place < length (input_limits d)) (λ (t : Tie) (h : IsTie d t). input-below d t.width t.pin h.pin)
+    (All-weaker (IsTie d) (λ (t : Tie). t.pin.place < length (input_limits d)) (λ (t : Tie)
+    (h : IsTie d t). input-below d t.width t.pin h.pin)
     m.ties (All-from_recursion (IsTie d) m.ties is.ties))
 
 pub reset-within : (d : Design) (m : Map) → IsMapOf d m → (n : ℕ) → n ≡ length (input_limits d)

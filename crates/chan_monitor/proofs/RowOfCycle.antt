@@ -67,7 +67,8 @@ row-is m before offers gates out monitors row are g v r k s e =
     λ i. record { gates = g i; valids = v i; readies = r i; contents = k i; starts = starts i; ends = ends i }
 
 -- ---- a cycle
-carries-on : (channels : List Channel) (offers : Offers) (gates c : ℕ) (x : Channel) (dir : Dir) → slice_get channels c ≡ Some x → x.dir ≡ dir
+carries-on : (channels : List Channel) (offers : Offers) (gates c : ℕ) (x : Channel) (dir : Dir) → slice_get channels c ≡ Some x
+    → x.dir ≡ dir
     → AreZeroWhileDown channels offers → CarriesOn channels offers (offered gates offers) c dir
 carries-on channels offers gates c x Inward at way zeros =
     (refl, sym (offered-is channels offers c (has offers.valids c) refl (zeros c x at way)))
@@ -82,7 +83,7 @@ pub record IsCycle (d : Design) (m : Map) (s : Values) (before : Option Row) (of
   pub shown : IsShown d m s before offers gates row
   pub driven : IsDriven d s pins v m (Some (handshakes row)) row
 
-pub cycle-is : (d : Design) (m : Map) (s : Values) (before : Option Row) (offers : Offers) (gates : ℕ) (pins : List ℕ) (v : Values) (row : Row)
+cycle-is : (d : Design) (m : Map) (s : Values) (before : Option Row) (offers : Offers) (gates : ℕ) (pins : List ℕ) (v : Values) (row : Row)
     → IsMapped d m → AreOffers m.channels offers → AreZeroWhileDown m.channels offers → gates < 2 ^ length m.channels
     → ArePins d m false (offered gates offers) pins → IsSettled d s pins v → row ≡ row_of m before offers gates (outputs d v)
     → IsCycle d m s before offers gates pins v row
@@ -115,6 +116,15 @@ cycle-is d m s before offers gates pins v row ready are zeros l entered settled 
         last_is = refl;
       };
     })
+
+-- the same where the row is that of the outputs of an equal design
+pub cycle-in : (d e : Design) (m : Map) (s : Values) (before : Option Row) (offers : Offers) (gates : ℕ) (pins : List ℕ) (v : Values)
+    (row : Row) → e ≡ d → IsMapped d m → AreOffers m.channels offers → AreZeroWhileDown m.channels offers → gates < 2 ^ length m.channels
+    → ArePins d m false (offered gates offers) pins → IsSettled d s pins v → row ≡ row_of m before offers gates (outputs e v)
+    → IsCycle d m s before offers gates pins v row
+cycle-in d e m s before offers gates pins v row same ready are zeros l entered settled is =
+    cycle-is d m s before offers gates pins v row ready are zeros l entered settled
+    (is ∙ ap (λ f. row_of m before offers gates (outputs f v)) same)
 
 -- the same for a design and a state that are equal
 pub cycle-of : (d e : Design) (m : Map) (s t : Values) (before : Option Row) (offers : Offers) (gates : ℕ) (pins : List ℕ) (v : Values)

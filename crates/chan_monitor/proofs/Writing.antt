@@ -76,7 +76,8 @@ enter-more channels plugs gates offers pins new all c x plug p flight gate valid
     (at_drop_more (λ qs. qs) plugs c plug k))
     ∙ sym (at_drop_more (λ ys. write pins (inputs_from channels row c ys (drop c plugs))) channels c x l) ∙ h
 
-pub plug-within : (n : ℕ) (channels : List Channel) (plugs : List Plug) → ArePlugsWithin n channels plugs → (c : ℕ) (x : Channel) (plug : Plug)
+pub plug-within : (n : ℕ) (channels : List Channel) (plugs : List Plug) → ArePlugsWithin n channels plugs
+    → (c : ℕ) (x : Channel) (plug : Plug)
     → c < length channels → x ≡ get_or channels c x → plug ≡ get_or plugs c plug
     → IsPlugWithin n x.dir plug × (length plug.contents ≡ length x.widths)
 plug-within n channels plugs are c x plug l ex ep =
@@ -99,7 +100,8 @@ pub write-past : (es : List PinNumber) (pins : List ℕ) (k : ℕ) → count_by 
 write-past [] pins k none = refl
 write-past (e ∷ es) pins k none = ⊎_elim
     (λ (h : e.place ≡ k). let c = count-cons (at_place k) e es in
-    let one : cond {A = ℕ} (e.place == k) 1 0 ≡ 1 = ap (λ b. cond {A = ℕ} b 1 0) (eq-eqb e.place k h) in absurd (omega (arith, c, one, none)))
+    let one : cond {A = ℕ} (e.place == k) 1 0
+    ≡ 1 = ap (λ b. cond {A = ℕ} b 1 0) (eq-eqb e.place k h) in absurd (omega (arith, c, one, none)))
     (λ (h : e.place ≡ k → ⊥).
     let c = count-cons (at_place k) e es in
     let zero-here : cond {A = ℕ} (e.place == k) 1 0 ≡ 0 = ap (λ b. cond {A = ℕ} b 1 0) (ne_eqb e.place k h) in

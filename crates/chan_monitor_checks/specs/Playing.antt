@@ -1,8 +1,8 @@
 -- A shell in the middle of a run.
-use Rattle.std.specs.Prelude.{List, Option, ℕ, length}
+use Rattle.std.specs.Prelude.{Option}
 use Rattle.trace_model.specs.declared.row.Offers.{Offers}
 use Rattle.trace_model.specs.declared.row.Row.{Row}
-use Rattle.trace_model.specs.Row.{row_before, IsMarked, IsOver}
+use Rattle.trace_model.specs.Row.{IsMarked, IsOver}
 use Rattle.net_design.specs.declared.design.Design.{Design}
 use Rattle.net_design.specs.declared.values.Values.{Values}
 use Rattle.chan_map.specs.declared.pins.Map.{Map}
@@ -10,7 +10,8 @@ use Rattle.run_model.specs.Offers.{Carries}
 use Rattle.run_model.specs.Step.{IsStep}
 
 -- a cycle with this row leads from state s to the state `after`, in which the shell runs on
-pub record IsTurn (runs : Design → Values → Option Row → Type 0) (d : Design) (m : Map) (s : Values) (before now : Option Row) (offers : Offers)
+pub record IsTurn (runs : Design → Values → Option Row
+    → Type 0) (d : Design) (m : Map) (s : Values) (before now : Option Row) (offers : Offers)
     (row : Row) : Type 0 where
   pub over : IsOver m.channels row
   pub marked : IsMarked before row

@@ -4,3 +4,6 @@
 mod play;
 
 pub use play::play_shell;
+
+#[cfg(test)]
+mod tests;

@@ -17,7 +17,7 @@ use trace_model::{Channels, Offers, Row, Rows};
 use vidi_bits::Memory;
 
 /// One cycle of a shell, and its row.
-fn cycle<S: Shell>(
+pub(crate) fn cycle<S: Shell>(
     alloc: Global,
     shell: &mut S,
     channels: &Channels,

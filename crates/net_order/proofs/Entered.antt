@@ -34,7 +34,8 @@ entered_other (p ∷ ports) pins (x ∷ nets) (suc m) h = entered_other ports (i
 pins_step : (b : Bool) (x l : ℕ) (pins rest : List ℕ) (E : List ℕ → List ℕ)
     → length pins ≡ length (if b then l ∷ rest else rest)
     → ((ps : List ℕ) → length ps ≡ length rest → E ps ≡ ps)
-    → (if b then (if b then slice_index pins 0 else x) ∷ E (if b then drop 1 pins else pins) else E (if b then drop 1 pins else pins)) ≡ pins
+    → (if b then (if b then slice_index pins 0 else x) ∷ E (if b then drop 1 pins else pins) else E
+    (if b then drop 1 pins else pins)) ≡ pins
 pins_step true x l [] rest E h f = absurd (omega arith)
 pins_step true x l (y ∷ ys) rest E h f = ap (λ zs. y ∷ zs) (f ys (omega arith))
 pins_step false x l pins rest E h f = f pins h

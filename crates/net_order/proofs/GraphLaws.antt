@@ -76,7 +76,8 @@ module _ (d : Design) (law : IsLawful d) (writers : List (List Writer)) (w : Are
         x.net,
         bit.0,
         list_any_at (λ (y : Mask). (y.net == x.net) && has y.bits bit.0) reads any.0 x any.2
-            (subst (λ (y : Mask). ((y.net == x.net) && has y.bits bit.0) ≡ true) (sym any.3) (and_both _ _ (eq-eqb x.net x.net refl) bit.1)),
+            (subst (λ (y : Mask). ((y.net == x.net) && has y.bits bit.0)
+            ≡ true) (sym any.3) (and_both _ _ (eq-eqb x.net x.net refl) bit.1)),
         bit.2,
       )
 

@@ -23,8 +23,10 @@ use Rattle.net_order.specs.Order.{IsOrder, writes_of}
 use Rattle.net_order.specs.Run.{acts_of, start, settled_by}
 use Rattle.net_order.proofs.SameRun.{Agree, or_cases, or_left, or_right}
 use Rattle.net_order.proofs.Kept.{same_values}
-use Rattle.net_order.proofs.Settling.{driver_fits, driver_words, InOrder, all_fit, all_words, known_stay, settles, one_map, given, some_writer, in_order, bool_cases}
-use Rattle.net_order.proofs.Entered.{entered_long, entered_other, pins_entered, entered_below, limits_long, limit_at, same_pins, pins_decide}
+use Rattle.net_order.proofs.Settling.{driver_fits, driver_words, InOrder, all_fit, all_words, known_stay, settles, one_map, given}
+use Rattle.net_order.proofs.Settling.{some_writer, in_order, bool_cases}
+use Rattle.net_order.proofs.Entered.{entered_long, entered_other, pins_entered, entered_below, limits_long, limit_at, same_pins}
+use Rattle.net_order.proofs.Entered.{pins_decide}
 
 or_none_right : (b : Bool) → b ≡ (b || false)
 or_none_right true = refl
@@ -45,7 +47,8 @@ get_within [] m x h = absurd cc
 get_within (y ∷ xs) zero x h = omega arith
 get_within (y ∷ xs) (suc m) x h = let l = get_within xs m x h in omega arith
 
-net_at : (ns : List Net) (m : ℕ) → m < length ns → (n : Net) × (slice_get ns m ≡ Some n) × (slice_index (map (λ (n : Net). n.width) ns) m ≡ n.width)
+net_at : (ns : List Net) (m : ℕ) → m < length ns → (n : Net) × (slice_get ns m
+    ≡ Some n) × (slice_index (map (λ (n : Net). n.width) ns) m ≡ n.width)
 net_at [] m l = absurd (omega arith)
 net_at (n ∷ ns) zero l = (n, refl, refl)
 net_at (n ∷ ns) (suc m) l = net_at ns m (omega arith)
@@ -129,7 +132,8 @@ module _ (d : Design) (law : IsLawful d) where
       long = entered_long d.ports pins s.nets ∙ state.nets.long;
       each = λ m. ⊎_elim
           (λ (t : is_input d m ≡ true). input_fits m t)
-          (λ (f : is_input d m ≡ false). subst (λ n. n < 2 ^ net_width d m) (sym (entered_other d.ports pins s.nets m f)) (state.nets.each m))
+          (λ (f : is_input d m ≡ false). subst (λ n. n < 2 ^ net_width d m) (sym (entered_other d.ports pins s.nets m f))
+          (state.nets.each m))
           (bool_cases (is_input d m));
     }
 
@@ -153,7 +157,8 @@ module _ (d : Design) (law : IsLawful d) where
 
       fixed : (i : ℕ) → i < length d.drivers → run (acts_of d.drivers i) settled ≡ settled
       fixed i l =
-          same_values d law (run (acts_of d.drivers i) settled) settled (driver_fits d law i l settled fits) fits (driver_words d law i l settled)
+          same_values d law (run (acts_of d.drivers i) settled) settled (driver_fits d law i l settled fits) fits
+          (driver_words d law i l settled)
           (settles d law (given d law) order ordered from start_fits i (o.all i l))
 
       pub is_settled : IsSettled d s pins settled

@@ -1,6 +1,7 @@
 -- Blocking code gives the same bits where it reads the same bits.
 use Rattle.std.proofs.Common.{◌≡◌, ℕ, ◌+◌, ◌-◌, ◌*◌, ◌/◌, ◌%◌, ◌^◌, ◌<◌, ◌≤◌, ◌==◌, ◌&&◌, ◌||◌, not, Bool, true, false, nat_lt}
-use Rattle.std.proofs.Common.{List, [], ◌∷◌, ◌++◌, ◌⊎◌, inl, inr, length, slice_index, slice_set, if◌then◌else◌, ⊎_elim, refl, ap, sym, subst}
+use Rattle.std.proofs.Common.{List, [], ◌∷◌, ◌++◌, ◌⊎◌, inl, inr, length, slice_index, slice_set, if◌then◌else◌, ⊎_elim, refl, ap, sym}
+use Rattle.std.proofs.Common.{subst}
 use Rattle.std.proofs.Common.{◌∙◌, arith}
 use Rattle.std.specs.Int.{bit_at}
 use Rattle.std.proofs.lemmas.Bool.{cases_lt, eqb-true, eq-eqb, leb-true, le-leb, ltb-true, lt-ltb}
@@ -212,7 +213,8 @@ written_made (Net n) x v m k there l h =
 written_made (WordTarget i) x v m k there l h = absurd cc
 
 -- one update makes bits the same, where it touches them or they were the same
-one_after : (b : Bool) (x : Update) (v u : Values) (m k : ℕ) → touches_at x.target x m k ≡ b → m < length v.nets → m < length u.nets → k < 128
+one_after : (b : Bool) (x : Update) (v u : Values) (m k : ℕ) → touches_at x.target x m k ≡ b → m < length v.nets → m < length u.nets
+    → k < 128
     → (rest : Bool) → ((b || rest) ≡ true) ⊎ (bit v m k ≡ bit u m k)
     → (rest ≡ true) ⊎ (bit (written_to x.target x v) m k ≡ bit (written_to x.target x u) m k)
 one_after true x v u m k t lv lu l rest h = inr (written_made x.target x v m k lv l t ∙ sym (written_made x.target x u m k lu l t))
@@ -227,7 +229,8 @@ bit_after [] v u m k lv lu l h = ⊎_elim (λ (t : false ≡ true). absurd cc) (
 bit_after (x ∷ us) v u m k lv lu l h =
     let a = written_long x.target x v in
     let b = written_long x.target x u in
-    bit_after us (written_to x.target x v) (written_to x.target x u) m k (subst (λ n. m < n) (sym a.0) lv) (subst (λ n. m < n) (sym b.0) lu) l
+    bit_after us (written_to x.target x v) (written_to x.target x u) m k (subst (λ n. m < n) (sym a.0) lv) (subst (λ n. m < n)
+    (sym b.0) lu) l
     (one_after (touches_at x.target x m k) x v u m k refl lv lu l (touched us m k) h)
 
 written_words : (target : Target) (x : Update) (v u : Values) → v.words ≡ u.words → (written_to target x v).words ≡
@@ -277,7 +280,8 @@ mutual
   act_same : (a : Act) (known p : BitSet) (v u : Values) → Within (open_reads Blocking a known) p → Within known p → Same p v u
       → updates Blocking a v ≡ updates Blocking a u
   act_same (Set target e) known p v u w kp h =
-      let all : Within (joint (reads e) (target_reads target)) p = λ m k t. opened (reads e m k || target_reads target m k) (known m k) (p m k)
+      let all : Within (joint (reads e) (target_reads target)) p = λ m k t. opened (reads e m k || target_reads target m k)
+      (known m k) (p m k)
       (w m k) (kp m k) t in
       ap (λ x. target_updates target x v) (value_same p v u h e (left_of (reads e) (target_reads target) p all))
       ∙ target_same p v u h target (value e u) (right_of (reads e) (target_reads target) p all)
@@ -285,7 +289,8 @@ mutual
   act_same (Branch' n guards l otherwise) known p v u w kp h =
       guards_same guards known p (act_row Blocking otherwise v) (act_row Blocking otherwise u) v u
       (left_of (open_reads_guards Blocking guards known) (open_reads_row Blocking otherwise known) p w) kp h
-      (row_same otherwise known p v u (right_of (open_reads_guards Blocking guards known) (open_reads_row Blocking otherwise known) p w) kp h)
+      (row_same otherwise known p v u (right_of (open_reads_guards Blocking guards known)
+      (open_reads_row Blocking otherwise known) p w) kp h)
 
   guards_same : {n : _} → (row : Row_of-Guard n) (known p : BitSet) (us ws : List Update) (v u : Values)
       → Within (open_reads_guards Blocking row known) p → Within known p → Same p v u → us ≡ ws
@@ -304,7 +309,8 @@ mutual
       ∙ ap (λ xs. if value c u == 0 then xs else act_row Blocking body v) last
       ∙ ap (λ xs. if value c u == 0 then guard_row Blocking rest ws u else xs) first
 
-  row_same : {n : _} → (row : Row_of-Act n) (known p : BitSet) (v u : Values) → Within (open_reads_row Blocking row known) p → Within known p
+  row_same : {n : _} → (row : Row_of-Act n) (known p : BitSet) (v u : Values) → Within (open_reads_row Blocking row known) p
+      → Within known p
       → Same p v u → act_row Blocking row v ≡ act_row Blocking row u
   row_same end_of-Act known p v u w kp h = refl
   row_same (more_of-Act a rest) known p v u w kp h =

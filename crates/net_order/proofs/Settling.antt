@@ -51,7 +51,8 @@ count_none (x ∷ xs) m k (suc j) z h = ⊎_elim
     (λ (f : named x.code.writes m k ≡ false). let c = count_cons m k x xs false f in count_none xs m k j (omega arith) h)
     (bool_cases (named x.code.writes m k))
 
-count_one : (xs : List Driver) (m k i j : ℕ) → count_by (names_bit m k) xs ≡ 1 → writes_of xs i m k ≡ true → writes_of xs j m k ≡ true → i ≡ j
+count_one : (xs : List Driver) (m k i j : ℕ) → count_by (names_bit m k) xs ≡ 1 → writes_of xs i m k ≡ true
+    → writes_of xs j m k ≡ true → i ≡ j
 count_one [] m k i j z h g = absurd cc
 count_one (x ∷ xs) m k zero zero z h g = refl
 count_one (x ∷ xs) m k zero (suc j) z h g =
@@ -72,7 +73,8 @@ pub record At (d : Design) (xs : List Driver) (i : ℕ) : Type 0 where
   pub reads : (m k : ℕ) → reads_of xs i m k ≡ named driver.code.reads m k
   pub writes : (m k : ℕ) → writes_of xs i m k ≡ named driver.code.writes m k
 
-at : (d : Design) (xs : List Driver) → ((i : ℕ) (x : Driver) → i < length xs → IsDriver d (get_or xs i x)) → (i : ℕ) → i < length xs → At d xs i
+at : (d : Design) (xs : List Driver) → ((i : ℕ) (x : Driver) → i < length xs → IsDriver d (get_or xs i x)) → (i : ℕ) → i < length xs
+    → At d xs i
 at d [] all i l = absurd (omega arith)
 at d (x ∷ xs) all zero l = record {
   driver = x;
@@ -147,7 +149,8 @@ module _ (d : Design) (law : IsLawful d) where
   -- ---- drivers in an order: each reads what is known, and writes what isn't
   abbrev pub InOrder : BitSet → List ℕ → Type 0
   InOrder known [] = Unit {0}
-  InOrder known (i ∷ rest) = (i < length d.drivers) × Within (reads_at i) known × ((m k : ℕ) → known m k ≡ true → writes_at i m k ≡ false) × InOrder
+  InOrder known (i ∷ rest) = (i < length d.drivers) × Within (reads_at i) known × ((m k : ℕ) → known m k ≡ true
+      → writes_at i m k ≡ false) × InOrder
       (joint known (writes_at i)) rest
 
   pub all_fit : (known : BitSet) (order : List ℕ) → InOrder known order → (v : Values) → FitNets d v.nets

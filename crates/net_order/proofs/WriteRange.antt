@@ -56,7 +56,8 @@ module _ (d : Design) where
 
   target_bit : (ps : List Place) → AllByRecursion InRange ps → (m k : ℕ) → target_writes ps m k ≡ true → k < net_width d m
   target_bit [] h m k b = absurd cc
-  target_bit (p ∷ ps) h m k b = ⊎_elim (place_bit p h.0 m k) (target_bit ps h.1 m k) (or_cases (place_writes p m k) (target_writes ps m k) b)
+  target_bit (p ∷ ps) h m k b = ⊎_elim (place_bit p h.0 m k) (target_bit ps h.1 m k) (or_cases (place_writes p m k)
+      (target_writes ps m k) b)
 
   mutual
     act_bit : (a : Act) → IsAct (λ s. IsTrue (is_span d s)) (λ r n. IsTrue (is_room d r n)) a → (m k : ℕ) → writes a m k ≡ true

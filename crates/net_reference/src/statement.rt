@@ -1,16 +1,17 @@
 //! What statements write.
 
-ghost use Rattle.std.specs.Prelude.{◌≡◌, ◌++◌, ◌+◌, ◌≤◌, List, OnOk, IfOk, IfSome, All};
+ghost use Rattle.std.specs.Prelude.{◌≡◌, ◌++◌, ◌+◌, ◌≤◌, ◌==◌, not, List, OnOk, IfOk, IfSome, All};
 ghost use Rattle.std.specs.List.{AllByRecursion};
 ghost use Rattle.std.specs.Option.{option_to_list, unwrap_or};
 ghost use Rattle.vlog_operators.specs.Number.{IsWidth};
-ghost use Rattle.net_design.specs.Sized.{IsSizedPlace, IsSizedAct, IsSizedBlock, AreSizedGuards};
+ghost use Rattle.net_design.specs.Value.{value};
+ghost use Rattle.net_design.specs.Sized.{IsSizedRhs, IsSizedPlace, IsSizedAct, IsSizedBlock, AreSizedGuards};
 ghost use Rattle.net_design.specs.declared.values.Update.{Update};
 ghost use Rattle.net_design.specs.Updates.{written, written_to, apply, bit_updates, part_updates, place_updates};
 ghost use Rattle.net_design.specs.Updates.{target_width, target_updates, seen, updates, block_updates, guard_updates};
 
 use crate::expression::{number_at, value_of, word_in};
-use net_design::{Act, Guard, Place, Target, Timing, Update, Values, place_width, see_branch};
+use net_design::{Act, Guard, Place, Rhs, Target, Timing, Update, Values, place_width, see_branch};
 use std::alloc::Global;
 use vidi_bits::{Items, Memory, Numbers, put, shr_w};
 
@@ -240,6 +241,14 @@ fn act_updates(alloc: Global, timing: Timing, act: &Act, values: &Values) -> Res
     }
 }
 
+/// Whether a condition is true: its number isn't 0.
+fn is_true(condition: &Rhs, values: &Values) -> bool
+    requires { IsSizedRhs condition.now }
+    ensures { result ≡ not (value condition.now values.now == 0) }
+{
+    value_of(condition, values) != 0
+}
+
 /// The updates of the first guard that is true, where one is.
 #[cycle(statements)]
 fn first_true(
@@ -253,7 +262,7 @@ fn first_true(
     ensures sized { IfOk result (λ made. IfSome made (λ us. All (λ u. IsWidth u.width) us)) }
 {
     for guard in guards.as_slice() {
-        if value_of(&guard.condition, values) != 0 {
+        if is_true(&guard.condition, values) {
             let made = acts_updates(alloc, timing, &guard.body, values)?;
             return Ok(Some(made));
         }

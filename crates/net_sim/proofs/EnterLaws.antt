@@ -36,7 +36,8 @@ enter_step ports pins now new k j next p l e h is made =
     let one : entered (drop k ports) (drop j pins) (drop k now) ≡ y ∷ entered later (drop next pins) rest =
     ap (λ ps. entered ps (drop j pins) (drop k now)) (from_here ports k p l e)
     ∙ ap (λ ns. entered (p ∷ later) (drop j pins) ns) (from_here now k x h (at_index now k h))
-    ∙ ap (λ n. (if enters p then n else x) ∷ entered later (if enters p then drop 1 (drop j pins) else drop j pins) rest) (index_drop pins j)
+    ∙ ap (λ n. (if enters p then n else x) ∷ entered later (if enters p then drop 1 (drop j pins) else drop j pins) rest)
+    (index_drop pins j)
     ∙ ap (λ ps. y ∷ entered later ps rest) (next_drop (enters p) pins j ∙ ap (λ n. drop n pins) (sym is)) in
     ap (λ ts. ts ++ entered later (drop next pins) (drop (k + 1) new)) first
     ∙ ap (λ ns. (take k now ++ y ∷ []) ++ entered later (drop next pins) ns) last

@@ -1,5 +1,6 @@
 -- Texts taken apart from their end, and paths.
-use Rattle.std.proofs.Common.{◌≡◌, ℕ, zero, suc, ◌+◌, ◌-◌, ◌<◌, ◌≤◌, ◌==◌, Bool, true, false, nat_eq, List, [], ◌∷◌, ◌++◌, Option, Some, None, MatchOption}
+use Rattle.std.proofs.Common.{◌≡◌, ℕ, zero, suc, ◌+◌, ◌-◌, ◌<◌, ◌≤◌, ◌==◌, Bool, true, false, nat_eq, List, [], ◌∷◌, ◌++◌, Option}
+use Rattle.std.proofs.Common.{Some, None, MatchOption}
 use Rattle.std.proofs.Common.{length, length-append, get_or, take, drop, slice_get, ⊎_elim, refl, ap, sym, ◌∙◌, append_assoc, arith}
 use Rattle.std.specs.Cmp.Lexicographic.{pointwise}
 use Rattle.std.proofs.Math.Seq.{drop-append_seam}
@@ -83,10 +84,12 @@ more known x = known ++ (list_at known x.parent ++ x.name ∷ []) ∷ []
 more_long : (known : List (List (List ℕ))) (x : Instance) → length (more known x) ≡ length known + 1
 more_long known x = length-append known ((list_at known x.parent ++ x.name ∷ []) ∷ [])
 
-kept : (known : List (List (List ℕ))) (rest : List Instance) (k : ℕ) → k < length known → list_at (paths_after known rest) k ≡ list_at known k
+kept : (known : List (List (List ℕ))) (rest : List Instance) (k : ℕ) → k < length known
+    → list_at (paths_after known rest) k ≡ list_at known k
 kept known [] k l = refl
 kept known (x ∷ rest) k l =
-    kept (more known x) rest k (let e = more_long known x in omega arith) ∙ at_front known ((list_at known x.parent ++ x.name ∷ []) ∷ []) k l
+    kept (more known x) rest k (let e = more_long known x in omega arith)
+    ∙ at_front known ((list_at known x.parent ++ x.name ∷ []) ∷ []) k l
 
 from_parent : (known : List (List (List ℕ))) (rest : List Instance) (k : ℕ) (x : Instance) → slice_get rest k ≡ Some x
     → ((i : ℕ) (y : Instance) → slice_get rest i ≡ Some y → y.parent < length known + i)

@@ -23,7 +23,8 @@ use Rattle.trace_model.proofs.FlightLemmas.{balanced}
 use Rattle.trace_model.proofs.RowLaws.{counted}
 use Rattle.run_model.specs.declared.held.Await.{Await}
 use Rattle.run_model.specs.declared.held.Held.{Held}
-use Rattle.run_model.specs.Held.{packet_place, places_from, flies, awaits, controlled, event, held, held_if, held_at, held_event, next_event}
+use Rattle.run_model.specs.Held.{packet_place, places_from, flies, awaits, controlled}
+use Rattle.run_model.specs.Held.{event, held, held_if, held_at, held_event, next_event}
 use Rattle.run_model.specs.Held.{recorded_next, same_kind, same_event, is_held, waits}
 use Rattle.run_model.specs.Laws.{IsShown, IsFirstOpen, IsIn, IsFree, NoCircle}
 use Rattle.run_model.specs.Replay.{done, HasEnded}
@@ -191,12 +192,14 @@ some-open n packets rows open-end = ⊎_elim
     (first-open n packets rows (length packets) (omega arith))
 
 -- ---- nothing of it is held back
-held-if-free : (P : Held → Type 0) (e : Event) (waited : List Await) → ((a : Await) (rest : List Await) → waited ≡ a ∷ rest → P (record { event = e; awaits = a ∷ rest }))
+held-if-free : (P : Held → Type 0) (e : Event) (waited : List Await) → ((a : Await) (rest : List Await) → waited ≡ a ∷ rest
+    → P (record { event = e; awaits = a ∷ rest }))
     → All P (held_if e waited)
 held-if-free P e [] h = All-nil P
 held-if-free P e (a ∷ rest) h = All-cons P (record { event = e; awaits = a ∷ rest }) [] (h a rest refl) (All-nil P)
 
-module _ (channels : List Channel) (packets : List Packet) (rows : List Row) (p : ℕ) (first : IsFirstOpen (length channels) packets rows p) where
+module _ (channels : List Channel) (packets : List Packet) (rows : List Row) (p : ℕ) (first : IsFirstOpen
+    (length channels) packets rows p) where
   abbrev Free : Held → Type 0
   Free h = IsIn packets p h.event → ⊥
 
@@ -209,7 +212,8 @@ module _ (channels : List Channel) (packets : List Packet) (rows : List Row) (p 
   at-free e None is = All-nil Free
   at-free e (Some q) is = held-if-free Free e (awaits channels (done rows) (clock packets q)) (λ a rest is-cons in-p.
       (let same : q ≡ p = same_Some q p (sym is ∙ in-p) in
-      let none : awaits channels (done rows) (clock packets q) ≡ [] = ap (λ k. awaits channels (done rows) (clock packets k)) same ∙ nothing-awaited
+      let none : awaits channels (done rows) (clock packets q) ≡ [] = ap (λ k. awaits channels (done rows) (clock packets k)) same
+      ∙ nothing-awaited
       in clash a rest (sym is-cons ∙ none)))
     where
       clash : (a : Await) (rest : List Await) → a ∷ rest ≡ [] → ⊥
@@ -327,6 +331,7 @@ no-circle d m packets rows well replay stable open-end = (
       subst (λ rs. shown Start c rs ≡ shown End c rs + cond (flies rows c) 1 0) (take_all (length rows) rows (omega arith))
       (counted m.channels rows replay.marked keeps (length rows) (omega arith) c) in
       waiting m.channels packets rows p first late.is.c late.is.within
-      (late-in m.channels packets rows well.alternate p first balance late.is.kind late.is.c late.packet late.is.within late.at late.is.has-it
+      (late-in m.channels packets rows well.alternate p first balance late.is.kind late.is.c late.packet late.is.within late.at
+      late.is.has-it
       late.is.late)),
 )

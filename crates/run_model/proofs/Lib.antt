@@ -7,3 +7,4 @@ pub mod RunLaws
 pub mod EventPlaces
 pub mod ReplayLaws
 pub mod Circle
+pub mod MapLaws

@@ -151,7 +151,8 @@ count-side channels row k c Inward plug =
     let a = count-cons (at_place k) (pin_number plug.valid.place (flag (sink_valid row c)))
     (map (λ (p : ℕ × Pin). pin_number p.1.place (shown_number (sink_valid row c) (content_at channels row.contents c) p.0))
     (enumerate_from 0 plug.contents)) in
-    let b = count-two (is_at Input k) (Input, plug.valid.place) (Output, plug.ready.place) (map (λ (p : Pin). (Input, p.place)) plug.contents)
+    let b = count-two (is_at Input k) (Input, plug.valid.place) (Output, plug.ready.place) (map (λ (p : Pin).
+    (Input, p.place)) plug.contents)
     in
     let e = count-enumerated (at_place k) (is_at Input k)
     (λ (p : ℕ × Pin). pin_number p.1.place (shown_number (sink_valid row c) (content_at channels row.contents c) p.0))
@@ -159,7 +160,8 @@ count-side channels row k c Inward plug =
     omega (arith, a, b, e)
 count-side channels row k c Outward plug =
     let a = count-cons (at_place k) (pin_number plug.ready.place (flag (has row.readies c && has row.gates c))) [] in
-    let b = count-two (is_at Input k) (Output, plug.valid.place) (Input, plug.ready.place) (map (λ (p : Pin). (Output, p.place)) plug.contents)
+    let b = count-two (is_at Input k) (Output, plug.valid.place) (Input, plug.ready.place) (map (λ (p : Pin).
+    (Output, p.place)) plug.contents)
     in
     let e = count-none (is_at Input k) (λ (p : Pin). (Output, p.place)) (λ p. refl) plug.contents in
     omega (arith, a, b, e)
@@ -278,7 +280,8 @@ abbrev IsSide : Design → Dir → List ℕ → Plug → Type 0
 IsSide d dir widths plug = IsPin d (source_side dir) 1 plug.valid × IsPin d (sink_side dir) 1 plug.ready
     × AllZip (λ width pin. IsPin d (source_side dir) width pin) widths plug.contents
 
-side-fits : (d : Design) (channels : List Channel) (row : Row) (c : ℕ) (dir : Dir) (widths : List ℕ) (plug : Plug) → IsSide d dir widths plug
+side-fits : (d : Design) (channels : List Channel) (row : Row) (c : ℕ) (dir : Dir) (widths : List ℕ) (plug : Plug)
+    → IsSide d dir widths plug
     → ((i : ℕ) → shown_number (sink_valid row c) (content_at channels row.contents c) i < 2 ^ get_or widths i 0)
     → All (FitsPort d) (plug_inputs channels row c dir plug)
 side-fits d channels row c Inward widths plug is small = All-cons (FitsPort d) (pin_number plug.valid.place (flag (sink_valid row c)))
@@ -309,7 +312,8 @@ resets-fit : (d : Design) (resets : Bool) (o : Option Reset) → IfSome o (λ (r
     → All (FitsPort d) (map (reset_input resets) (option_to_list o))
 resets-fit d resets None is = All-nil (FitsPort d)
 resets-fit d resets (Some r) is = All-cons (FitsPort d) (reset_input resets r) []
-    (fits-port d 1 r.pin.place (flag (cond resets r.active (not r.active))) r.pin is refl (flag-small (cond resets r.active (not r.active))))
+    (fits-port d 1 r.pin.place (flag (cond resets r.active (not r.active))) r.pin is refl (flag-small (cond resets r.active
+    (not r.active))))
     (All-nil (FitsPort d))
 
 -- all but the clock
@@ -336,7 +340,8 @@ limit-at : (d : Design) (k : ℕ) (p : Port) → slice_get d.ports k ≡ Some p 
     ≡ cond (is_clock d.clock k) 1 (2 ^ p.width)
 limit-at d k p at way =
     let e : length (port_limits d) ≡ length d.ports =
-    length-map (enumerate_from 0 d.ports) (λ (q : ℕ × Port). cond (is_clock d.clock q.0) 1 (2 ^ q.1.width)) ∙ length-enumerate_from 0 d.ports in
+    length-map (enumerate_from 0 d.ports) (λ (q : ℕ × Port). cond (is_clock d.clock q.0) 1 (2 ^ q.1.width))
+    ∙ length-enumerate_from 0 d.ports in
     pin-at Input d.ports (port_limits d) k p at (ways Input p way) (omega (arith, e))
     ∙ enumerated (λ (q : ℕ × Port). cond (is_clock d.clock q.0) 1 (2 ^ q.1.width)) 0 k k d.ports p at (omega arith)
 
@@ -367,7 +372,8 @@ apart : (d : Design) (m : Map) → IsMapOf d m → (resets : Bool) (row : Row) (
 apart d m is resets row i e at l same =
     let one = count-entered m resets row e.place ∙ is.inputs e.place (let n = input-count d in omega (arith, n, l)) in
     let c = count-cons (at_place e.place) (pin_number m.clock.place 0) (entered_behind m resets row) in
-    let b = nth-below (at_place e.place) (entered_behind m resets row) (count_by (at_place e.place) (take i (entered_behind m resets row))) i e
+    let b = nth-below (at_place e.place) (entered_behind m resets row) (count_by (at_place e.place) (take i
+    (entered_behind m resets row))) i e
     (record { at = at; passes = eq-eqb e.place e.place refl; before = refl }) in
     let t : cond {A = ℕ} (m.clock.place == e.place) 1 0 ≡ 1 = ap (λ b. cond {A = ℕ} b 1 0) (eq-eqb m.clock.place e.place (sym same)) in
     absurd (omega (arith, one, c, b, t))
@@ -386,7 +392,8 @@ enters-behind d m is resets row small i e at =
       input = l;
       below = subst (λ n. e.number < n) (sym (ap (λ k. get_or (input_limits d) k 0) f.place ∙ limit-at d f.port f.p f.at f.input))
           (below-limit (is_clock d.clock f.port) e.number (2 ^ f.p.width)
-          (λ h. apart d m is resets row i e at l (f.place ∙ ap (λ k. count_by (λ (q : Port). same_direction Input q.direction) (take k d.ports))
+          (λ h. apart d m is resets row i e at l (f.place ∙ ap (λ k. count_by (λ (q : Port). same_direction Input q.direction)
+          (take k d.ports))
           (is.own_clock f.port (clocked d.clock f.port h)) ∙ sym is.clock.place)) f.fits);
     }
 
@@ -426,7 +433,8 @@ are-pins d m is resets row small =
             let s = stands d m is resets row j (omega (arith, l, long)) in
             let x = enters d m is resets row small s.index s.entry s.at in
             let is-number : get_or ps j 0 ≡ s.entry.number = ap (λ k. get_or ps k 0) (sym s.place) ∙ here s.index s.entry s.at in
-            let limit : get_or (input_limits d) s.entry.place 0 ≡ get_or (input_limits d) j 0 = ap (λ k. get_or (input_limits d) k 0) s.place in
+            let limit : get_or (input_limits d) s.entry.place 0
+            ≡ get_or (input_limits d) j 0 = ap (λ k. get_or (input_limits d) k 0) s.place in
             let below = x.below in
             omega (arith, is-number, limit, below);
       };

@@ -64,7 +64,8 @@ one-first d m law one is (Some r) a b x y =
     one-after d law one x.0 x.1.fit r.cycles (initial d) a b (initial_state d law) x.2
     (subst (λ p. IsAfter d p r.cycles (initial d) b) (sym same) y.2)
 
-pub state-step : (d : Design) (m : Map) → IsLawful d → (s : Values) (row : Row) (a : Values) → IsState d s → IsStep d m s row a → IsState d a
+pub state-step : (d : Design) (m : Map) → IsLawful d → (s : Values) (row : Row) (a : Values) → IsState d s → IsStep d m s row a
+    → IsState d a
 state-step d m law s row a st x = subst (IsState d) (sym x.next) (next_state d law x.v s st)
 
 -- rows of one state that agree are one, and so are the states after them
@@ -73,7 +74,8 @@ one-step : (d : Design) (m : Map) → HasOneMap d → IsMapOf d m → (s : Value
     → IsStep d m s a na → IsStep d m s b nb → (a ≡ b) × (na ≡ nb)
 one-step d m one is s st before a b na nb oa ob ma mb agree x y =
     let pins : x.pins ≡ y.pins = one-list d m is false a b (entered-same m false a b agree) x.pins y.pins x.entered y.entered in
-    let map-is : x.v ≡ y.v = one.only s x.pins x.v y.v st x.entered.fit x.settled (subst (λ p. IsSettled d s p y.v) (sym pins) y.settled) in (
+    let map-is : x.v ≡ y.v = one.only s x.pins x.v y.v st x.entered.fit x.settled (subst (λ p. IsSettled d s p y.v)
+    (sym pins) y.settled) in (
       one-row d m is (outputs d x.v) before a b oa ob ma mb agree x.shown (subst (λ v. Shows (outputs d v) m b) (sym map-is) y.shown),
       x.next ∙ ap (λ v. next d v s) map-is ∙ sym y.next,
     )
@@ -117,7 +119,8 @@ module _ (d : Design) (m : Map) (law : IsLawful d) (one : HasOneMap d) (is : IsM
   same-suc : (k : ℕ) (x y : Row) → slice_get a k ≡ Some x → slice_get b k ≡ Some y → Same d m a b pa.driven pb.driven k
       → Same d m a b pa.driven pb.driven (suc k)
   same-suc k x y ax by s =
-      let agree : Agree m.channels x y = determines (take k a) x y (rows-front m.channels a k pa.marked) (pa.marked k x ax).0 (pb.marked k y by).0
+      let agree : Agree m.channels x y = determines (take k a) x y (rows-front m.channels a k pa.marked) (pa.marked k x ax).0
+      (pb.marked k y by).0
       (pa.ruled k x ax) (subst (λ rs. rule rs y) (sym s.rows) (pb.ruled k y by)) in
       let mark : IsMarked (row_before a k) y = subst (λ o. IsMarked o y) (sym (before-same a b k s.rows)) (pb.marked k y by).1 in
       let r = one-step d m one is (pa.driven.state k) s.lawful (row_before a k) x y (pa.driven.state (suc k)) (pb.driven.state (suc k))
@@ -267,7 +270,8 @@ silent-small channels c x at i =
     positive zero = omega arith
     positive (suc n) = let p = positive n in omega arith
 
-first-some : (d : Design) (m : Map) → IsLawful d → HasOneMap d → IsMapOf d m → (o : Option Reset) → ∥ ((s : Values) × IsAfterReset d m o s) ∥₁
+first-some : (d : Design) (m : Map) → IsLawful d → HasOneMap d → IsMapOf d m → (o : Option Reset)
+    → ∥ ((s : Values) × IsAfterReset d m o s) ∥₁
 first-some d m law one is None = ∣ (initial d, refl) ∣₁
 first-some d m law one is (Some r) =
     let pins = map (number_for (entered m true silent)) (range_with_len 0 (length (input_limits d))) in

@@ -97,7 +97,8 @@ packet-at : (channels : List Channel) (packets : List Packet) → ContentsFit ch
     → slice_get packets p ≡ Some packet → IsPacket channels packet
 packet-at channels packets fit p packet at = all-at (IsPacket channels) packets p packet fit at
 
-content-or-fits : (channels : List Channel) (n : ℕ) (packets : List Packet) (have : ℕ → ℕ) (c : ℕ) (x : Channel) → ContentsFit channels packets
+content-or-fits : (channels : List Channel) (n : ℕ) (packets : List Packet) (have : ℕ → ℕ) (c : ℕ) (x : Channel)
+    → ContentsFit channels packets
     → slice_get channels c ≡ Some x → (d : IsCovered n packets have Start c (have c) ⊎ (IsCovered n packets have Start c (have c) → ⊥))
     → Fit x.widths (content_or channels n packets have c d)
 content-or-fits channels n packets have c x fit at (inl w) =
@@ -126,7 +127,8 @@ content-when channels n packets have c (inl w) place packet is h =
     ap (λ (p : Packet). content_of channels p c) (nth-unique (does Start c) packets (have c) w.place place w.packet packet w.is is).1
 content-when channels n packets have c (inr none) place packet is h = absurd (false≢true h)
 
-offered-on : (channels : List Channel) (packets : List Packet) (have : ℕ → ℕ) → ContentsFit channels packets → (row : Row) (c : ℕ) (dir : Dir)
+offered-on : (channels : List Channel) (packets : List Packet) (have : ℕ → ℕ) → ContentsFit channels packets
+    → (row : Row) (c : ℕ) (dir : Dir)
     (x : Channel) → slice_get channels c ≡ Some x → CarriesOn channels (offers_of channels packets have) row c dir
     → IsOfferedOn channels packets have row c dir
 offered-on channels packets have fit row c Inward x at h =
@@ -241,7 +243,8 @@ pub record FromRow (channels : List Channel) (rows : List Row) (p : ℕ) (packet
 
 from-cons : (channels : List Channel) (row : Row) (rows : List Row) (b : Bool) → has_event row ≡ b → (p : ℕ) (packet : Packet)
     → slice_get (map (packet_of channels) (cond b (row ∷ filter has_event rows) (filter has_event rows))) p ≡ Some packet
-    → ((q : ℕ) → slice_get (packets_of channels rows) q ≡ Some packet → FromRow channels rows q packet) → FromRow channels (row ∷ rows) p packet
+    → ((q : ℕ) → slice_get (packets_of channels rows) q ≡ Some packet → FromRow channels rows q packet)
+    → FromRow channels (row ∷ rows) p packet
 from-cons channels row rows true e zero packet at later = record {
   t = 0;
   row = row;
@@ -282,7 +285,8 @@ does-row : (kind : Kind) (c : ℕ) (channels : List Channel) (row : Row) → doe
 does-row Start c channels row = refl
 does-row End c channels row = refl
 
-pub front-count : (channels : List Channel) (rows : List Row) (p : ℕ) (packet : Packet) (f : FromRow channels rows p packet) (kind : Kind) (c : ℕ)
+pub front-count : (channels : List Channel) (rows : List Row) (p : ℕ) (packet : Packet) (f : FromRow channels rows p packet)
+    (kind : Kind) (c : ℕ)
     → count kind c (take p (packets_of channels rows)) ≡ shown kind c (take f.t rows)
 front-count channels rows p packet f kind c = ap (count kind c) f.front ∙ same-counts kind c channels (take f.t rows)
 
@@ -320,13 +324,15 @@ module _ (d : Design) (m : Map) (packets : List Packet) (rows : List Row) (repla
       let l = slice_get_within rows t row at in
       let all = counted m.channels rows replay.marked (keeps-in-flight m.channels rows (replay-keeps d m packets rows replay stable)) t
       (omega arith) c in
-      let parts = and_parts (sink_valid row c) (not (flies_after (row_before rows t) c)) (sym ((replay.marked t row at).1.starts c) ∙ starts) in
+      let parts = and_parts (sink_valid row c) (not (flies_after (row_before rows t) c)) (sym ((replay.marked t row at).1.starts c)
+      ∙ starts) in
       let off = flying-flag (flies_after (row_before rows t) c) parts.1 in
       omega (arith, all, off)
 
   valid-in : (c t : ℕ) (row : Row) → slice_get rows t ≡ Some row → has row.starts c ≡ true → has row.valids c ≡ true
   valid-in c t row at starts =
-      let parts = and_parts (sink_valid row c) (not (flies_after (row_before rows t) c)) (sym ((replay.marked t row at).1.starts c) ∙ starts) in
+      let parts = and_parts (sink_valid row c) (not (flies_after (row_before rows t) c)) (sym ((replay.marked t row at).1.starts c)
+      ∙ starts) in
       (and_parts (has row.valids c) (has row.gates c) parts.0).0
 
   ready-in : (c t : ℕ) (row : Row) → slice_get rows t ≡ Some row → has row.ends c ≡ true → has row.readies c ≡ true
@@ -343,7 +349,8 @@ module _ (d : Design) (m : Map) (packets : List Packet) (rows : List Row) (repla
   in-order Start Inward c j p x packet there dir h is =
       let f = from-row m.channels rows p packet is.at in
       let r = nth-row m.channels rows Start c j p packet f is in
-      let offered = offered-inward m.channels packets (done (take f.t rows)) f.row c x.dir dir ((replay.ruled f.t f.row f.at).0 c x there) in
+      let offered = offered-inward m.channels packets (done (take f.t rows)) f.row c x.dir dir
+      ((replay.ruled f.t f.row f.at).0 c x there) in
       let valid = valid-in c f.t f.row f.at r.passes in
       let w = offered.0.0 valid in
       let index : done (take f.t rows) c ≡ j = sym (idle c f.t f.row f.at r.passes) ∙ r.before in
@@ -359,7 +366,8 @@ module _ (d : Design) (m : Map) (packets : List Packet) (rows : List Row) (repla
   in-order End Outward c j p x packet there dir h is =
       let f = from-row m.channels rows p packet is.at in
       let r = nth-row m.channels rows End c j p packet f is in
-      let offered = offered-outward m.channels packets (done (take f.t rows)) f.row c x.dir dir ((replay.ruled f.t f.row f.at).0 c x there) in
+      let offered = offered-outward m.channels packets (done (take f.t rows)) f.row c x.dir dir
+      ((replay.ruled f.t f.row f.at).0 c x there) in
       let w = offered.0 (ready-in c f.t f.row f.at r.passes) in
       record {
         place = w.place;

@@ -125,7 +125,8 @@ pub one-row : (d : Design) (m : Map) → IsMapOf d m → (out : List ℕ) (befor
     → IsOver m.channels b → IsMarked before a → IsMarked before b → Agree m.channels a b → Shows out m a → Shows out m b → a ≡ b
 one-row d m is out before a b oa ob ma mb agree sa sb =
     let n = length m.channels in
-    let each : (c : ℕ) → c < n → Parts m.channels a b c = λ c l. (let x = channel-at m.channels c l in parts d m is out a b agree sa sb c x.0 x.1)
+    let each : (c : ℕ) → c < n → Parts m.channels a b c = λ c l.
+    (let x = channel-at m.channels c l in parts d m is out a b agree sa sb c x.0 x.1)
     in
     let v : a.valids ≡ b.valids = same-masks_below n a.valids b.valids oa.valids ob.valids (λ c l. (each c l).valid) in
     let r : a.readies ≡ b.readies = same-masks_below n a.readies b.readies oa.readies ob.readies (λ c l. (each c l).ready) in
@@ -163,7 +164,8 @@ no-content-fits channels c x at = subst (λ (o : Option Channel). Fit x.widths (
 
 content-on-fits : (d : Design) (channels : List Channel) (offers : Offers) (out : List ℕ) (c : ℕ) (dir : Dir) (widths : List ℕ)
     (plug : Plug) → FitOutputs d out → Fit widths (offered_content channels offers c)
-    → AllZip (λ width pin. IsPin d (source_side dir) width pin) widths plug.contents → Fit widths (content_on channels offers out c dir plug)
+    → AllZip (λ width pin. IsPin d (source_side dir) width pin) widths plug.contents
+    → Fit widths (content_on channels offers out c dir plug)
 content-on-fits d channels offers out c Inward widths plug fits f z = f
 content-on-fits d channels offers out c Outward widths plug fits f z = map-fits d out fits widths plug.contents z
 
@@ -175,7 +177,8 @@ content-here-fits : (d : Design) (m : Map) → IsMapOf d m → (offers : Offers)
     → FitOutputs d out → (c : ℕ) (x : Channel) → slice_get m.channels c ≡ Some x → Fit x.widths (content_here m offers out c)
 content-here-fits d m is offers are out fits c x at =
     let p = has-plug d m is c x at in
-    subst (Fit x.widths) (sym (at-plug [] (content_on m.channels offers out c) (slice_get m.channels c) (slice_get m.plugs c) x p.plug at p.at))
+    subst (Fit x.widths) (sym (at-plug [] (content_on m.channels offers out c) (slice_get m.channels c)
+    (slice_get m.plugs c) x p.plug at p.at))
     (content-on-fits d m.channels offers out c x.dir x.widths p.plug fits
     (fit-cond (has offers.valids c) x.widths (content_at m.channels offers.contents c) (no_content m.channels c)
     (content-fits m.channels offers.contents are.contents c x at) (no-content-fits m.channels c x at)) p.is.contents)
@@ -226,7 +229,8 @@ record AtChannel (m : Map) (offers : Offers) (out : List ℕ) (row : Row) (c : �
   content : content_at m.channels row.contents c ≡ content_on m.channels offers out c dir plug
 
 at-channel : (d : Design) (m : Map) → IsMapOf d m → (before : Option Row) (offers : Offers) → AreOffers m.channels offers → (gates : ℕ)
-    → (out : List ℕ) → FitOutputs d out → (c : ℕ) (x : Channel) (plug : Plug) → slice_get m.channels c ≡ Some x → slice_get m.plugs c ≡ Some plug
+    → (out : List ℕ) → FitOutputs d out → (c : ℕ) (x : Channel) (plug : Plug) → slice_get m.channels c ≡ Some x
+    → slice_get m.plugs c ≡ Some plug
     → AtChannel m offers out (row_of m before offers gates out) c x.dir plug
 at-channel d m is before offers are gates out fits c x plug at there =
     let n = length m.channels in
@@ -245,7 +249,8 @@ shows-on : (m : Map) (offers : Offers) (out : List ℕ) (row : Row) (c : ℕ) (d
 shows-on m offers out row c Inward plug a = a.ready
 shows-on m offers out row c Outward plug a = (a.valid, a.content)
 
-carries-on : (m : Map) (offers : Offers) (out : List ℕ) (row : Row) (c : ℕ) (dir : Dir) (plug : Plug) → AtChannel m offers out row c dir plug
+carries-on : (m : Map) (offers : Offers) (out : List ℕ) (row : Row) (c : ℕ) (dir : Dir) (plug : Plug)
+    → AtChannel m offers out row c dir plug
     → CarriesOn m.channels offers row c dir
 carries-on m offers out row c Inward plug a = (a.valid, a.content)
 carries-on m offers out row c Outward plug a = a.ready

@@ -71,7 +71,8 @@ pub record StayUp (channels : List Channel) (gates : List Row → ℕ → Type 0
   pub stay : (before : List Row) (row : Row) (next : ℕ) → AreRows channels (before ++ row ∷ []) → gates before row.gates
       → gates (before ++ row ∷ []) next → (c : ℕ) → has row.gates c ≡ true → completes row c ≡ false → has next c ≡ true
 
-carried-valid : (channels : List Channel) (offers : Offers) (row : Row) (c : ℕ) (dir : Dir) → dir ≡ Inward → CarriesOn channels offers row c dir
+carried-valid : (channels : List Channel) (offers : Offers) (row : Row) (c : ℕ) (dir : Dir) → dir ≡ Inward
+    → CarriesOn channels offers row c dir
     → (has row.valids c ≡ has offers.valids c) × (content_at channels row.contents c ≡ offered_content channels offers c)
 carried-valid channels offers row c Inward d h = h
 carried-valid channels offers row c Outward d h = absurd (cc)

@@ -115,7 +115,8 @@ no-start : (v f : Bool) → f ≡ true → (v && not f) ≡ false
 no-start true f h = ap not h
 no-start false f h = refl
 
-since-started : (channels : List Channel) (rows : List Row) (c v : ℕ) (row : Row) → slice_get rows v ≡ Some row → row_does Start c row ≡ true
+since-started : (channels : List Channel) (rows : List Row) (c v : ℕ) (row : Row) → slice_get rows v ≡ Some row
+    → row_does Start c row ≡ true
     → Since channels rows c (suc v)
 since-started channels rows c v row at starts = record {
   j = count_by (row_does Start c) (take v rows);

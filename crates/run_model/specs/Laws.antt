@@ -1,5 +1,5 @@
 -- What follows from the definitions of runs and replays.
-use Rattle.std.specs.Prelude.{◌≡◌, ℕ, ◌<◌, ◌^◌, Bool, true, false, List, [], ◌∷◌, ◌++◌, Some, All, Contains}
+use Rattle.std.specs.Prelude.{◌≡◌, ℕ, ◌<◌, ◌^◌, Bool, true, false, List, [], ◌∷◌, ◌++◌, Some, All, Contains, Ok}
 use Rattle.std.specs.Prelude.{length, take, slice_get}
 use Rattle.trace_model.specs.declared.channel.Channel.{Channel}
 use Rattle.trace_model.specs.declared.channel.Dir.{Dir}
@@ -20,6 +20,8 @@ use Rattle.net_design.specs.declared.design.Design.{Design}
 use Rattle.net_design.specs.Lawful.{IsLawful}
 use Rattle.net_design.specs.Pins.{HasOneMap}
 use Rattle.chan_map.specs.declared.pins.Map.{Map}
+use Rattle.chan_map.specs.declared.text.MapText.{MapText}
+use Rattle.chan_map.specs.Bound.{BindsMap}
 use Rattle.run_model.specs.declared.held.Held.{Held}
 use Rattle.run_model.specs.MapOf.{IsMapOf}
 use Rattle.run_model.specs.Offers.{Carries}
@@ -27,6 +29,10 @@ use Rattle.run_model.specs.Played.{AreStable}
 use Rattle.run_model.specs.Run.{IsRun}
 use Rattle.run_model.specs.Replay.{IsReplay, HasEnded}
 use Rattle.run_model.specs.Held.{packet_place, held, waits}
+
+-- ---- a map that is bound to a design is one of it
+abbrev pub BoundIsMapOf : Type 0
+BoundIsMapOf = (text : MapText) (d : Design) (m : Map) → BindsMap text d (Ok m) → IsMapOf d m
 
 -- ---- exactly one list of n rows
 -- a design that settles in one way, with a map of it
@@ -142,7 +148,8 @@ pub record IsFree (channels : List Channel) (packets : List Packet) (rows : List
   pub waiting : Contains (waits channels packets rows) event
 
 abbrev pub NoCircle : Type 0
-NoCircle = (d : Design) (m : Map) (packets : List Packet) (rows : List Row) → IsWellFormed (record { channels = m.channels; packets = packets })
+NoCircle = (d : Design) (m : Map) (packets : List Packet) (rows : List Row)
+    → IsWellFormed (record { channels = m.channels; packets = packets })
     → IsReplay d m packets rows → AreStable m.channels rows → ¬ HasEnded (length m.channels) packets rows
     → ((p : ℕ) × IsFirstOpen (length m.channels) packets rows p)
     × ((p : ℕ) → IsFirstOpen (length m.channels) packets rows p → IsFree m.channels packets rows p)

@@ -24,4 +24,5 @@ CarriesOn channels offers row c Outward = has row.readies c ≡ has offers.readi
 
 -- the row has what is offered
 abbrev pub Carries : List Channel → Offers → Row → Type 0
-Carries channels offers row = (c : ℕ) (channel : Channel) → slice_get channels c ≡ Some channel → CarriesOn channels offers row c channel.dir
+Carries channels offers row = (c : ℕ) (channel : Channel) → slice_get channels c ≡ Some channel
+    → CarriesOn channels offers row c channel.dir

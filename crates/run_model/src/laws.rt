@@ -1,6 +1,11 @@
 //! Laws of the definitions.
 
-ghost use Rattle.run_model.specs.Laws.{NoCircle, OneReplay, OneRun, OrderInTheOutput, ReplayKeepsContents, RunKeepsContents};
+ghost use Rattle.run_model.specs.Laws.{BoundIsMapOf, NoCircle, OneReplay, OneRun, OrderInTheOutput, ReplayKeepsContents, RunKeepsContents};
+
+/// A map that was bound to a design is a map of it.
+pub fn bound_is_map_of()
+    ensures { BoundIsMapOf }
+{}
 
 /// For a design, its map, an environment and a plan of gates there is exactly one run of each number of rows.
 pub fn one_run()

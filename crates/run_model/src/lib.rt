@@ -11,6 +11,7 @@ mod pins;
 
 pub use held::{Await, Awaits, Held, Helds};
 pub use laws::{
-    no_circle, one_replay, one_run, order_in_the_output, replay_keeps_contents, run_keeps_contents,
+    bound_is_map_of, no_circle, one_replay, one_run, order_in_the_output, replay_keeps_contents,
+    run_keeps_contents,
 };
 pub use pins::{PinNumber, PinNumbers};

@@ -1,16 +1,15 @@
 -- The design made by hand settles in one way, and its map fits it.
-use Rattle.std.proofs.Common.{◌≡◌, ◌≢◌, ◌⊎◌, ℕ, zero, suc, ◌+◌, ◌*◌, ◌%◌, ◌<◌, ◌≤◌, ◌^◌, ◌==◌, Bool, true, false, List, [], ◌∷◌, Option, Some}
-use Rattle.std.proofs.Common.{None, All, length, get_or, take, slice_get, slice_index, map, inl, inr, ⊎_elim, refl, ap, sym, subst, ◌∙◌, arith}
+use Rattle.std.proofs.Common.{◌≡◌, ℕ, zero, suc, ◌<◌, ◌^◌, ◌==◌, Bool, true, false, List, [], ◌∷◌, Some}
+use Rattle.std.proofs.Common.{length, take, slice_get, slice_index, refl, ap, sym, subst, ◌∙◌, arith}
 use Rattle.std.specs.Prelude.{count_by}
 use Rattle.std.specs.Int.{bit_at}
-use Rattle.std.specs.List.{AllPairs, AllByRecursion, AllZip}
-use Rattle.std.proofs.lemmas.Bool.{false≢true, cases_Bool}
+use Rattle.std.specs.List.{AllPairs}
+use Rattle.std.proofs.lemmas.Bool.{false≢true}
 use Rattle.std.proofs.lemmas.List.{nil_from_length}
 use Rattle.std.proofs.lemmas.List.Elements.{All-nil, All-cons, All-head}
 use Rattle.std.proofs.lemmas.Nat.Bits.{bit_at_lowest, bit_at_above}
-use Rattle.trace_model.specs.declared.channel.Channel.{Channel}
 use Rattle.trace_model.specs.declared.channel.Dir.TheVariants.{Outward}
-use Rattle.trace_model.specs.Channel.{IsChannel, IsTable, is_letter_or_digit}
+use Rattle.trace_model.specs.Channel.{IsChannel, IsTable}
 use Rattle.net_design.specs.declared.design.Driver.{Driver}
 use Rattle.net_design.specs.declared.design.Port.{Port}
 use Rattle.net_design.specs.declared.design.Direction.{Direction}
@@ -19,13 +18,13 @@ use Rattle.net_design.specs.declared.values.Values.{Values}
 use Rattle.vlog_operators.specs.Number.{put_of}
 use Rattle.net_design.specs.Lawful.{IsState}
 use Rattle.net_design.specs.Pins.{FitPins, HasOneMap}
-use Rattle.net_design.specs.Settled.{same_direction, FitNets, IsSettled, Keeps, held, net_width, next, initial}
+use Rattle.net_design.specs.Settled.{same_direction, FitNets, IsSettled, held, net_width, next}
 use Rattle.net_design.specs.Updates.{run}
-use Rattle.chan_map.specs.Bound.{IsPin, IsPlug}
+use Rattle.chan_map.specs.Bound.{IsPin}
 use Rattle.chan_map.specs.Places.{is_at, places}
 use Rattle.run_model.specs.Building.{PortsAreNets}
 use Rattle.run_model.specs.MapOf.{IsMapOf}
-use Rattle.run_model_checks.specs.Flick.{flick, flick_map, bit, values, flick_driver, flick_state, flick_shown, flick_inputs, port_of, pin_at}
+use Rattle.run_model_checks.specs.Flick.{flick, flick_map, bit, flick_driver, flick_state, flick_shown, flick_inputs, port_of, pin_at}
 
 bit-small : (b : Bool) → bit b < 2
 bit-small true = omega arith
@@ -59,13 +58,16 @@ settled-at t u r = record {
   where
     zero-clock : (k : ℕ) → Some 0 ≡ Some k → slice_index (flick_shown t u r).nets k ≡ 0
     zero-clock k e = let here : 0 ≡ k = cc in ap (slice_index (flick_shown t u r).nets) (sym here)
-    same : (m k : ℕ) → held flick m k ≡ true → bit_at (slice_index (flick_shown t u r).nets m) k ≡ bit_at (slice_index (flick_state t u).nets m) k
+
+    same : (m k : ℕ) → held flick m k ≡ true → bit_at (slice_index (flick_shown t u r).nets m) k
+        ≡ bit_at (slice_index (flick_state t u).nets m) k
     same zero k h = absurd (false≢true h)
     same (suc zero) k h = absurd (false≢true h)
     same (suc (suc zero)) k h = absurd (false≢true h)
     same (suc (suc (suc zero))) k h = refl
     same (suc (suc (suc (suc zero)))) k h = refl
     same (suc (suc (suc (suc (suc m))))) k h = refl
+
     driven : (t u r : Bool) → run flick_driver.code.acts (flick_shown t u r) ≡ flick_shown t u r
     driven true u r = refl
     driven false u r = refl
@@ -182,8 +184,12 @@ one-map = record {
   some = λ s pins is fit.
       (let x = state-is s is in
       let p = inputs-are pins fit in
-      ∣ (flick_shown x.0 x.1 p.0, subst (λ (z : Values). IsSettled flick z pins (flick_shown x.0 x.1 p.0)) (sym x.2)
-      (subst (λ (ps : List ℕ). IsSettled flick (flick_state x.0 x.1) ps (flick_shown x.0 x.1 p.0)) (sym p.1) (settled-at x.0 x.1 p.0))) ∣₁);
+      ∣ (
+        flick_shown x.0 x.1 p.0,
+        subst (λ (z : Values). IsSettled flick z pins (flick_shown x.0 x.1 p.0)) (sym x.2)
+            (subst (λ (ps : List ℕ). IsSettled flick (flick_state x.0 x.1) ps (flick_shown x.0 x.1 p.0)) (sym p.1)
+            (settled-at x.0 x.1 p.0)),
+      ) ∣₁);
   only = λ s pins a b is fit ha hb.
       (let x = state-is s is in
       let p = inputs-are pins fit in
@@ -203,6 +209,7 @@ is-state t u = record {
   where
     high : (b : Bool) (k : ℕ) → bit_at (bit b) (suc k) ≡ 0
     high b k = bit_at_above (bit b) 1 (suc k) (bit-small b) (omega arith)
+
     rest : (m k : ℕ) → held flick m k ≡ false → bit_at (slice_index (flick_state t u).nets m) k ≡ 0
     rest zero k h = bit_at_above 0 0 k (omega arith) (omega arith)
     rest (suc zero) k h = bit_at_above 0 0 k (omega arith) (omega arith)

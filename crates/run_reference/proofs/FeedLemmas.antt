@@ -164,7 +164,8 @@ feed-over channels packets rows fit = record {
       (feed-fits channels packets rows fit);
 }
 
-feed-on : (channels : List Channel) (packets : List Packet) (rows : List Row) → ContentsFit channels packets → (row : Row) (c : ℕ) (dir : Dir)
+feed-on : (channels : List Channel) (packets : List Packet) (rows : List Row) → ContentsFit channels packets
+    → (row : Row) (c : ℕ) (dir : Dir)
     (x : Channel) → slice_get channels c ≡ Some x → CarriesOn channels (feed channels packets rows) row c dir
     → IsOfferedOn channels packets (done rows) row c dir
 feed-on channels packets rows fit row c Inward x at h =

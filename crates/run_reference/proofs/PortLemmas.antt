@@ -1,5 +1,6 @@
 -- Where the numbers of a channel begin, and the entries of pins one after the other.
-use Rattle.std.proofs.Common.{◌≡◌, ℕ, zero, suc, ◌+◌, ◌*◌, ◌<◌, ◌≤◌, List, [], ◌∷◌, ◌++◌, Option, All, length, take, drop, get_or, slice_get}
+use Rattle.std.proofs.Common.{◌≡◌, ℕ, zero, suc, ◌+◌, ◌*◌, ◌<◌, ◌≤◌, List}
+use Rattle.std.proofs.Common.{[], ◌∷◌, ◌++◌, Option, All, length, take, drop, get_or, slice_get}
 use Rattle.std.proofs.Common.{Bool, true, false, cond, subst, map, refl, ap, sym, ◌∙◌, arith}
 use Rattle.std.specs.List.{range_with_len}
 use Rattle.std.proofs.lemmas.List.{append-nil, length-append, drop_more, drop_all}
@@ -53,7 +54,8 @@ few-ports cs t i l =
 
 -- one plug more
 inputs-cons : (channels : List Channel) (row : Row) (c : ℕ) (x : Channel) (xs : List Channel) (plug : Plug) (plugs : List Plug)
-    → inputs_from channels row c (x ∷ xs) (plug ∷ plugs) ≡ plug_inputs channels row c x.dir plug ++ inputs_from channels row (c + 1) xs plugs
+    → inputs_from channels row c (x ∷ xs) (plug ∷ plugs) ≡ plug_inputs channels row c x.dir plug ++ inputs_from channels row
+    (c + 1) xs plugs
 inputs-cons channels row c x xs plug plugs = refl
 
 pub inputs-step : (channels : List Channel) (row : Row) (c : ℕ) (xs : List Channel) (plugs : List Plug) (x : Channel) (plug : Plug)

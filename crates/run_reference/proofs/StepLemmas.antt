@@ -42,9 +42,18 @@ plugs-length d m is = zip-length (IsPlug d) m.channels m.plugs is.plugs
 
 -- ---- the offers alone enter what the row enters
 abbrev pub asked : Offers → ℕ → Row
-asked offers gates = record { gates = gates; valids = offers.valids; readies = offers.readies; contents = offers.contents; starts = 0; ends = 0 }
+asked offers gates = record {
+  gates = gates;
+  valids = offers.valids;
+  readies = offers.readies;
+  contents = offers.contents;
+  starts =
+      0;
+  ends = 0;
+}
 
-pub asked-small : (channels : List Channel) (offers : Offers) (gates : ℕ) → AreOffers channels offers → AreSmall channels (asked offers gates)
+pub asked-small : (channels : List Channel) (offers : Offers) (gates : ℕ) → AreOffers channels offers
+    → AreSmall channels (asked offers gates)
 asked-small channels offers gates are = small-fit channels (asked offers gates) are.contents
 
 down : (plug : Plug) (xs ys : List ℕ) (v : Bool) → v ≡ false → inward_inputs plug v xs ≡ inward_inputs plug v ys
@@ -89,7 +98,8 @@ entered-asked m offers gates row g carries =
     (λ i j x at e. let same : i ≡ j = omega (arith, e) in subst (λ n. CarriesOn m.channels offers row n x.dir) same (carries i x at)))
 
 -- ---- one cycle
-pub record Stepped (d : Design) (m : Map) (before : Option Row) (offers : Offers) (gates : ℕ) (s : Values) (row : Row) (after : Values) : Type 0 where
+pub record Stepped (d : Design) (m : Map) (before : Option Row) (offers : Offers) (gates : ℕ) (s : Values) (row : Row)
+    (after : Values) : Type 0 where
   pub over : IsOver m.channels row
   pub marked : IsMarked before row
   pub carried : Carries m.channels offers row
@@ -136,7 +146,8 @@ settles d e de s t ts pins i ip v after settled clocks =
     }
 
 pub stepped : (d : Design) (m : Map) → PortsAreNets d → IsMapOf d m → (before : Option Row) (offers : Offers) → AreOffers m.channels offers
-    → (gates : ℕ) → gates < 2 ^ length m.channels → (s : Values) (pins : List ℕ) (v after : Values) → ArePins d m false (asked offers gates) pins
+    → (gates : ℕ) → gates < 2 ^ length m.channels → (s : Values) (pins : List ℕ) (v after : Values)
+    → ArePins d m false (asked offers gates) pins
     → Settles d s pins v after → (e : Design) → e ≡ d → (row : Row) → row ≡ row_of m before offers gates (outputs e v)
     → Stepped d m before offers gates s row after
 stepped d m nets is before offers are gates l s pins v after pins-are settles e de row row-is =
@@ -145,7 +156,8 @@ stepped d m nets is before offers are gates l s pins v after pins-are settles e 
     (stepped-row d m nets is before offers are gates l s pins v pins-are settles.settled after settles.next)
 
 -- ---- cycles with the same inputs
-pub after-more : (d : Design) (pins : List ℕ) (n : ℕ) (s between after v : Values) → IsAfter d pins n s between → Settles d between pins v after
+pub after-more : (d : Design) (pins : List ℕ) (n : ℕ) (s between after v : Values) → IsAfter d pins n s between
+    → Settles d between pins v after
     → IsAfter d pins (n + 1) s after
 after-more d pins n s between after v h x =
     let e : suc n ≡ n + 1 = omega arith in
@@ -157,8 +169,10 @@ fit-same d e pins de fit = subst (λ f. FitPins f pins) (sym de) fit
 
 -- ---- a run one row longer
 pub run-grow : (d : Design) (m : Map) (offers : List Offers) (gates : List ℕ) (rows : List Row) (s : Values)
-    → Grown d m (IsRunRow m.channels (offers_by offers) (GatesOf (gates_by gates))) rows s → (offer : Offers) (g : ℕ) (row : Row) (after : Values)
-    → offer ≡ offers_by offers rows → g ≡ gates_by gates rows → Stepped d m (row_before rows (length rows)) offer g s row after → row.gates ≡ g
+    → Grown d m (IsRunRow m.channels (offers_by offers) (GatesOf (gates_by gates))) rows s
+    → (offer : Offers) (g : ℕ) (row : Row) (after : Values)
+    → offer ≡ offers_by offers rows → g ≡ gates_by gates rows → Stepped d m (row_before rows (length rows)) offer g s row after
+    → row.gates ≡ g
     → Grown d m (IsRunRow m.channels (offers_by offers) (GatesOf (gates_by gates))) (rows ++ row ∷ []) after
 run-grow d m offers gates rows s grown offer g row after o k st gates-are =
     played-push d m (IsRunRow m.channels (offers_by offers) (GatesOf (gates_by gates))) rows row after grown.played

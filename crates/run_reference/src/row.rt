@@ -9,7 +9,8 @@ ghost use Rattle.net_design.specs.Pins.{outputs};
 ghost use Rattle.chan_map.specs.declared.pins.Pin.{Pin};
 ghost use Rattle.chan_map.specs.Bound.{IsPin, IsPlug};
 ghost use Rattle.net_design.specs.declared.design.Direction.TheVariants.{Output};
-ghost use Rattle.run_model.specs.Building.{mask_of, valid_on, ready_on, valid_at, ready_at, content_here, joined, starts_of, ends_of, row_of};
+ghost use Rattle.run_model.specs.Building.{mask_of, valid_on, ready_on, valid_at, ready_at};
+ghost use Rattle.run_model.specs.Building.{content_here, joined, starts_of, ends_of, row_of};
 ghost use Rattle.run_model.specs.Held.{flies};
 ghost use Rattle.run_model.specs.MapOf.{IsMapOf};
 ghost use Rattle.run_model.specs.Offers.{no_content, offered_content};
@@ -208,7 +209,8 @@ fn push_outputs<B: Block>(
     widths: &[u8],
 ) -> Result<(), Memory>
     requires { AllZip (λ width pin. IsPin (B.design block.now) Output width pin) widths.now pins.now }
-    ensures { OnOk result (out.new ≡ out.old ++ map (λ (p : Pin). slice_index (outputs (B.design block.now) (B.shown block.now)) p.place) pins.now) }
+    ensures { OnOk result (out.new ≡ out.old
+        ++ map (λ (p : Pin). slice_index (outputs (B.design block.now) (B.shown block.now)) p.place) pins.now) }
 {
     for pin in pins {
         out.push(block.pin(pin.place))?;

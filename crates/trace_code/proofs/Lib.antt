@@ -3,6 +3,7 @@ pub mod Loop
 pub mod Table
 pub mod Names
 pub mod Readings
+pub mod Fronts
 pub mod NumberLaws
 pub mod PacketLoop
 pub mod PacketLaws

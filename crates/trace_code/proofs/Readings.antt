@@ -89,7 +89,7 @@ ended cs front all n left g = cases g.others g.whole g.parts
 
 -- ---- the whole
 
-same_trace : (t u : Trace) → t.channels ≡ u.channels → t.packets ≡ u.packets → t ≡ u
+pub same_trace : (t u : Trace) → t.channels ≡ u.channels → t.packets ≡ u.packets → t ≡ u
 same_trace t u c p = λ i. record { channels = c i; packets = p i }
 
 -- an encoding is a header, packets, and the end
@@ -142,7 +142,7 @@ as-long : {X : Type 0} (front all others : List X) → all ≡ front ++ others �
 as-long front all [] e l = e ∙ append-nil front
 as-long front all (x ∷ xs) e l = absurd (omega (arith, ap length e, length-append front (x ∷ xs)))
 
-one-longest : (bytes : List ℕ) (cs : List Channel) (ps qs : List Packet) (r s : List ℕ) → SplitsLongest bytes cs ps r
+pub one-longest : (bytes : List ℕ) (cs : List Channel) (ps qs : List Packet) (r s : List ℕ) → SplitsLongest bytes cs ps r
     → SplitsLongest bytes cs qs s → ps ≡ qs
 one-longest bytes cs ps qs r s a b = ⊎_elim
     (λ (g : GoesOn cs ps qs r s). sym (as-long ps qs g.others g.whole (a.most qs s b.splits)))

@@ -1,5 +1,6 @@
 pub mod Encoding
 pub mod Decoding
+pub mod Salvage
 pub mod Reading
 pub mod PacketReading
 pub mod Writing

@@ -46,7 +46,7 @@ fn next_packet<'a>(
 }
 
 /// The longest list of whole lawful packets at the front of the bytes, and the bytes after them.
-fn read_packets<'a>(
+pub(crate) fn read_packets<'a>(
     alloc: Global,
     channels: &[Channel],
     bytes: &'a [u8],

@@ -1,5 +1,5 @@
 //! The bytes of a trace, version 1: `Encoding` in `specs/` spells a trace, `encode` writes it, whole or by
-//! its parts, and `decode` reads it back.
+//! its parts, `decode` reads it back, and `salvage` reads what is whole of a trace that was cut off.
 #![tactic(auto)]
 
 mod decoding;
@@ -9,10 +9,12 @@ mod header;
 mod laws;
 mod number;
 mod packets;
+mod salvaging;
 mod writing;
 
 pub use decoding::decode;
 pub use encoding::{encode, end_mark, header_bytes};
 pub use error::CodeError;
-pub use laws::{one_place, one_reading, reads_back};
+pub use laws::{front_is_salvaged, one_place, one_reading, one_salvage, reads_back};
+pub use salvaging::salvage;
 pub use writing::write_packet;

@@ -7,7 +7,7 @@ use trace_model::{Packet, Row, Trace, is_over};
 use vidi_bits::Numbers;
 
 // VIDITRC1, two channels: a inward and b outward, each with one port of 8 bits.
-const PASS: [u8; 19] = [
+pub(crate) const PASS: [u8; 19] = [
     0x56, 0x49, 0x44, 0x49, 0x54, 0x52, 0x43, 0x31, 0x02, 0x00, 0x01, 0x61, 0x01, 0x08, 0x01, 0x01,
     0x62, 0x01, 0x08,
 ];
@@ -18,31 +18,31 @@ const FLICK: [u8; 13] = [
 ];
 
 // Address, data and strobe of a write, its response, the address of a read, and what it gives.
-const REGS: [u8; 38] = [
+pub(crate) const REGS: [u8; 38] = [
     0x56, 0x49, 0x44, 0x49, 0x54, 0x52, 0x43, 0x31, 0x05, 0x00, 0x02, 0x61, 0x77, 0x01, 0x20, 0x00,
     0x01, 0x77, 0x02, 0x20, 0x04, 0x01, 0x01, 0x62, 0x01, 0x02, 0x00, 0x02, 0x61, 0x72, 0x01, 0x20,
     0x01, 0x01, 0x72, 0x02, 0x20, 0x02,
 ];
 
 // 5 goes in at a, and comes out at b one cycle later.
-const ONE_SEND: [u8; 13] = [1, 1, 1, 5, 1, 2, 2, 5, 0, 0, 0, 0, 2];
+pub(crate) const ONE_SEND: [u8; 13] = [1, 1, 1, 5, 1, 2, 2, 5, 0, 0, 0, 0, 2];
 
-const NO_SEND: [u8; 5] = [0, 0, 0, 0, 0];
+pub(crate) const NO_SEND: [u8; 5] = [0, 0, 0, 0, 0];
 
-const TWO_SENDS: [u8; 21] = [
+pub(crate) const TWO_SENDS: [u8; 21] = [
     1, 1, 1, 5, 1, 3, 2, 6, 5, 1, 0, 1, 1, 2, 2, 6, 0, 0, 0, 0, 4,
 ];
 
 // A write of 1000 at address 0, its response, a read at 0, and what it gives.
-const ROUND: [u8; 36] = [
+pub(crate) const ROUND: [u8; 36] = [
     0x01, 0x03, 0x03, 0x00, 0x00, 0x00, 0x00, 0x00, 0x00, 0x03, 0xe8, 0x0f, 0x01, 0x04, 0x04, 0x00,
     0x01, 0x08, 0x08, 0x00, 0x00, 0x00, 0x00, 0x01, 0x10, 0x10, 0x00, 0x00, 0x03, 0xe8, 0x00, 0x00,
     0x00, 0x00, 0x00, 0x04,
 ];
 
-type Events<'a> = (u128, u128, &'a [u128]);
+pub(crate) type Events<'a> = (u128, u128, &'a [u128]);
 
-fn joined(alloc: Global, front: &[u8], back: &[u8]) -> Result<Vec<u8>, Fail> {
+pub(crate) fn joined(alloc: Global, front: &[u8], back: &[u8]) -> Result<Vec<u8>, Fail> {
     let mut bytes = Vec::from_slice(alloc, front)?;
     bytes.extend_from_slice(back)?;
     Ok(bytes)
@@ -52,7 +52,7 @@ fn is_packet_of(packet: &Packet, events: &Events) -> bool {
     packet.starts == events.0 && packet.ends == events.1 && packet.contents.as_slice() == events.2
 }
 
-fn are_packets_of(packets: &[Packet], events: &[Events]) -> bool {
+pub(crate) fn are_packets_of(packets: &[Packet], events: &[Events]) -> bool {
     if packets.len() != events.len() {
         return false;
     }

@@ -6,3 +6,5 @@
 mod bytes_tests;
 #[cfg(test)]
 mod model_tests;
+#[cfg(test)]
+mod salvage_tests;

@@ -12,13 +12,14 @@ use Rattle.vidi.specs.declared.status.Status.{Status}
 use Rattle.vidi.specs.declared.status.Status.TheVariants.{Done, Refused}
 use Rattle.vidi.specs.Design.{text_limit, Spells, HasReason}
 use Rattle.vidi.specs.Said.{check_text, reason_line}
-use Rattle.vidi.specs.Answer.{Told, RefusesDesign, Checks}
+use Rattle.vidi.specs.Answer.{RefusesDesign, Checks}
+use Rattle.vidi.specs.Traces.{Told}
 
 -- the file of this name has these bytes, where the shelf tells its files
-abbrev Has : Option Files → List ℕ → List ℕ → Type 0
+abbrev pub Has : Option Files → List ℕ → List ℕ → Type 0
 Has files name bytes = IfSome files (λ m. get m name ≡ Some bytes)
 
-told : (files : Option Files) (name bytes : List ℕ) (P : List ℕ → Type 0) → Has files name bytes → P bytes → Told files name P
+pub told : (files : Option Files) (name bytes : List ℕ) (P : List ℕ → Type 0) → Has files name bytes → P bytes → Told files name P
 told None name bytes P has p = tt
 told (Some m) name bytes P has p = subst (λ (o : Option (List ℕ)). IsSomeAnd o P) (sym has) p
 
@@ -48,6 +49,7 @@ reason_told design files bytes (reasons.Deep l) has small h = told files design 
 reason_told design files bytes (reasons.Item l) has small h = told files design bytes
     (λ file. (length file ≤ text_limit) × HasReason file (reasons.Item l)) has (small, h)
 reason_told design files bytes (reasons.BadTrace n) has small never = absurd never
+reason_told design files bytes (reasons.OtherChannels n) has small never = absurd never
 
 pub refused : {E : Type 0} (design : List ℕ) (files : Option Files) (F : List ℕ → Type 0) (bytes text : List ℕ) (reason : Reason)
     (r : Result Answer E)

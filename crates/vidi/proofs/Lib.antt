@@ -1,11 +1,15 @@
 pub mod WordLists
-pub mod Saying
 pub mod Told
 pub mod Owed
 pub mod OneDump
 pub mod OneCheck
+pub mod Endings
+pub mod OneCompare
+pub mod OneSalvaged
 pub mod OneAnswer
+pub mod Saying
 pub mod Checking
+pub mod Comparing
 pub mod Lines
 pub mod Clocks
 pub mod Packets

@@ -1,65 +1,99 @@
 -- Of a shelf that tells its files, with no failed read, two answers that are earned are one.
-use Rattle.std.proofs.Common.{◌≡◌, ℕ, ◌⊎◌, List, [], ◌∷◌, Some, length, inl, inr, refl, sym, ap, subst, ◌∙◌, arith, codes}
+use Rattle.std.proofs.Common.{◌≡◌, ℕ, List, [], ◌∷◌, Option, Some, length, get_or, inl, inr, sym, ap, subst, ◌∙◌, arith, codes}
 use Rattle.trace_code.specs.Decoding.{OnePlace, OneReading}
+use Rattle.trace_code.specs.Salvage.{OneSalvage}
 use Rattle.vidi_io.specs.Shelf.{Files}
 use Rattle.vidi.specs.declared.status.Status.{Status}
-use Rattle.vidi.specs.declared.status.Status.TheVariants.{Done, Usage, ReadFault, WriteFault, Refused, Memory}
-use Rattle.vidi.specs.Command.{Command, Dump, Check, IsGiven}
-use Rattle.vidi.specs.Said.{usage_line}
-use Rattle.vidi.specs.Answer.{Does, Earns, OneAnswer}
+use Rattle.vidi.specs.Command.{Command, Dump, Check, Compare, Salvage, IsGiven}
+use Rattle.vidi.specs.Answer.{Does, OneAnswer}
 use Rattle.vidi.proofs.Owed.{Same}
 use Rattle.vidi.proofs.OneDump.{one_dump}
 use Rattle.vidi.proofs.OneCheck.{TextLaws, one_check}
+use Rattle.vidi.proofs.OneCompare.{one_compare}
+use Rattle.vidi.proofs.OneSalvaged.{one_salvaged}
 
 second : (a b c : List ℕ) → a ∷ b ∷ [] ≡ a ∷ c ∷ [] → b ≡ c
 second a b c e = cc
 
-check_parts : (a d p e q : List ℕ) → a ∷ d ∷ p ∷ [] ≡ a ∷ e ∷ q ∷ [] → Check d p ≡ Check e q
-check_parts a d p e q same = cc
+same_pair : (a d p e q : List ℕ) → a ∷ d ∷ p ∷ [] ≡ a ∷ e ∷ q ∷ [] → (d ≡ e) × (p ≡ q)
+same_pair a d p e q same = (cc, cc)
+
+first_of_three : (a b c d e f : List ℕ) → a ∷ b ∷ c ∷ [] ≡ d ∷ e ∷ f ∷ [] → a ≡ d
+first_of_three a b c d e f same = cc
 
 two_three : (a b c d e : List ℕ) → a ∷ b ∷ [] ≡ c ∷ d ∷ e ∷ [] → ⊥
 two_three a b c d e same = let lengths : 2 ≡ 3 = ap (λ (xs : List (List ℕ)). length xs) same in omega (arith, lengths)
 
+check-compare : codes "check" ≡ codes "compare" → ⊥
+check-compare e = cc
+
+check-salvage : codes "check" ≡ codes "salvage" → ⊥
+check-salvage e = cc
+
+compare-salvage : codes "compare" ≡ codes "salvage" → ⊥
+compare-salvage e =
+    let first : 99 ≡ 115 = ap (λ (text : List ℕ). get_or text 0 0) e in
+    omega (arith, first)
+
 one_command : (words : List (List ℕ)) (c d : Command) → IsGiven words c → IsGiven words d → c ≡ d
 one_command words (Dump t) (Dump u) g h = ap Dump (second (codes "dump") t u (sym g ∙ h))
 one_command words (Dump t) (Check e q) g h = absurd (two_three (codes "dump") t (codes "check") e q (sym g ∙ h))
+one_command words (Dump t) (Compare e q) g h = absurd (two_three (codes "dump") t (codes "compare") e q (sym g ∙ h))
+one_command words (Dump t) (Salvage e q) g (h, _) = absurd (two_three (codes "dump") t (codes "salvage") e q (sym g ∙ h))
 one_command words (Check d p) (Dump u) g h = absurd (two_three (codes "dump") u (codes "check") d p (sym h ∙ g))
-one_command words (Check d p) (Check e q) g h = check_parts (codes "check") d p e q (sym g ∙ h)
+one_command words (Check d p) (Check e q) g h =
+    let s = same_pair (codes "check") d p e q (sym g ∙ h) in λ i. Check (s.0 i) (s.1 i)
+one_command words (Check d p) (Compare e q) g h =
+    absurd (check-compare (first_of_three (codes "check") d p (codes "compare") e q (sym g ∙ h)))
+one_command words (Check d p) (Salvage e q) g (h, _) =
+    absurd (check-salvage (first_of_three (codes "check") d p (codes "salvage") e q (sym g ∙ h)))
+one_command words (Compare d p) (Dump u) g h = absurd (two_three (codes "dump") u (codes "compare") d p (sym h ∙ g))
+one_command words (Compare d p) (Check e q) g h =
+    absurd (check-compare (first_of_three (codes "check") e q (codes "compare") d p (sym h ∙ g)))
+one_command words (Compare d p) (Compare e q) g h =
+    let s = same_pair (codes "compare") d p e q (sym g ∙ h) in λ i. Compare (s.0 i) (s.1 i)
+one_command words (Compare d p) (Salvage e q) g (h, _) =
+    absurd (compare-salvage (first_of_three (codes "compare") d p (codes "salvage") e q (sym g ∙ h)))
+one_command words (Salvage d p) (Dump u) (g, _) h = absurd (two_three (codes "dump") u (codes "salvage") d p (sym h ∙ g))
+one_command words (Salvage d p) (Check e q) (g, _) h =
+    absurd (check-salvage (first_of_three (codes "check") e q (codes "salvage") d p (sym h ∙ g)))
+one_command words (Salvage d p) (Compare e q) (g, _) h =
+    absurd (compare-salvage (first_of_three (codes "compare") e q (codes "salvage") d p (sym h ∙ g)))
+one_command words (Salvage d p) (Salvage e q) (g, _) (h, _) =
+    let s = same_pair (codes "salvage") d p e q (sym g ∙ h) in λ i. Salvage (s.0 i) (s.1 i)
 
-one_deed : OneReading → OnePlace → TextLaws → (c : Command) (files : Files) (a b : Status) (x y : List ℕ)
-    → Does c (Some files) (λ _. ⊥) a x → Does c (Some files) (λ _. ⊥) b y → Same a b x y
-one_deed traces places texts (Dump trace) = one_dump traces places trace
-one_deed traces places texts (Check design top) = one_check texts design
+abbrev SameLeft : Status → Status → List ℕ → List ℕ → Option Files → Option Files → Type 0
+SameLeft a b x y left right = (a ≡ b) × (x ≡ y) × (left ≡ right)
 
-abbrev NoCommand : List (List ℕ) → Type 0
-NoCommand words = (c : Command) → ¬ IsGiven words c
+kept : (files : Files) (a b : Status) (x y : List ℕ) (left right : Option Files) → Same a b x y → left ≡ Some files → right ≡ Some files
+    → SameLeft a b x y left right
+kept files a b x y left right same l r = (same.0, same.1, l ∙ sym r)
 
--- an answer is for want of memory, for no command, or a command's
-abbrev Split : List (List ℕ) → Files → Status → List ℕ → Type 0
-Split words files a x = (a ≡ Memory) ⊎ (((a ≡ Usage) × NoCommand words × (x ≡ usage_line))
-    ⊎ ((c : Command) × IsGiven words c × Does c (Some files) (λ _. ⊥) a x))
+-- the laws on which this rests
+pub record Laws : Type 0 where
+  pub reading : OneReading
+  pub place : OnePlace
+  pub salvage : OneSalvage
+  pub texts : TextLaws
 
-split : (words : List (List ℕ)) (files : Files) (a : Status) (x : List ℕ) → Earns words (Some files) (λ _. ⊥) a x → Split words files a x
-split words files Done x e = inr (inr e)
-split words files Usage x (none, text) = inr (inl (refl, none, text))
-split words files (ReadFault word) x e = inr (inr e)
-split words files WriteFault x e = inr (inr e)
-split words files (Refused word reason) x e = inr (inr e)
-split words files Memory x e = inl refl
+one_deed : Laws → (c : Command) (files : Files) (a b : Status) (x y : List ℕ) (left right : Option Files)
+    → Does c (Some files) (λ _. ⊥) a x left → Does c (Some files) (λ _. ⊥) b y right → SameLeft a b x y left right
+one_deed laws (Dump trace) files a b x y left right (d, l) (e, r) =
+    kept files a b x y left right (one_dump laws.reading laws.place trace files a b x y d e) l r
+one_deed laws (Check design top) files a b x y left right (d, l) (e, r) =
+    kept files a b x y left right (one_check laws.texts design files a b x y d e) l r
+one_deed laws (Compare trace other) files a b x y left right (d, l) (e, r) =
+    kept files a b x y left right (one_compare laws.reading laws.place trace other files a b x y d e) l r
+one_deed laws (Salvage trace out) files a b x y left right d e = one_salvaged laws.salvage trace out files a b x y left right d e
 
-joined : OneReading → OnePlace → TextLaws → (words : List (List ℕ)) (files : Files) (a b : Status) (x y : List ℕ) → Split words files a x
-    → Split words files b y
-    → (a ≡ Memory) ⊎ ((b ≡ Memory) ⊎ Same a b x y)
-joined traces places texts words files a b x y (inl memory) _ = inl memory
-joined traces places texts words files a b x y (inr _) (inl memory) = inr (inl memory)
-joined traces places texts words files a b x y (inr (inl (is, none, text))) (inr (inl (is', none', text'))) = inr
-    (inr (is ∙ sym is', text ∙ sym text'))
-joined traces places texts words files a b x y (inr (inl (is, none, text))) (inr (inr (c, given, deed))) = absurd (none c given)
-joined traces places texts words files a b x y (inr (inr (c, given, deed))) (inr (inl (is, none, text))) = absurd (none c given)
-joined traces places texts words files a b x y (inr (inr (c, given, deed))) (inr (inr (d, given', deed'))) =
-    let same = one_command words d c given' given in
-    inr (inr (one_deed traces places texts c files a b x y deed (subst (λ (k : Command). Does k (Some files) (λ _. ⊥) b y) same deed')))
-
-pub one_answer_lem : OneReading → OnePlace → TextLaws → OneAnswer
-one_answer_lem traces places texts words files a b x y e f = joined traces places texts words files a b x y (split words files a x e)
-    (split words files b y f)
+pub one_answer_lem : Laws → OneAnswer
+one_answer_lem laws words files a b x y left right (inr (inl (said, _))) _ = inl said.0
+one_answer_lem laws words files a b x y left right _ (inr (inl (said, _))) = inr (inl said.0)
+one_answer_lem laws words files a b x y left right (inl (none, s, l)) (inl (none', s', r)) =
+    inr (inr (s.0 ∙ sym s'.0, s.1 ∙ sym s'.1, l ∙ sym r))
+one_answer_lem laws words files a b x y left right (inl (none, s, l)) (inr (inr (c, given, d))) = absurd (none c given)
+one_answer_lem laws words files a b x y left right (inr (inr (c, given, d))) (inl (none, s, r)) = absurd (none c given)
+one_answer_lem laws words files a b x y left right (inr (inr (c, given, d))) (inr (inr (k, given', e))) =
+    let same = one_command words k c given' given in
+    inr (inr (one_deed laws c files a b x y left right d
+    (subst (λ (m : Command). Does m (Some files) (λ _. ⊥) b y right) same e)))

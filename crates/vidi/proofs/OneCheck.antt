@@ -13,12 +13,13 @@ use Rattle.vlog_parse.specs.Units.{IsItemLine, OneItemLine}
 use Rattle.vidi_io.specs.Shelf.{Files}
 use Rattle.vidi.specs.declared.status.Word.TheVariants as words
 use Rattle.vidi.specs.declared.status.Reason.{Reason}
-use Rattle.vidi.specs.declared.status.Reason.TheVariants.{TooLong, Word, Deep, Item, BadTrace}
+use Rattle.vidi.specs.declared.status.Reason.TheVariants.{TooLong, Word, Deep, Item, BadTrace, OtherChannels}
 use Rattle.vidi.specs.declared.status.Status.{Status}
-use Rattle.vidi.specs.declared.status.Status.TheVariants.{Done, Usage, ReadFault, WriteFault, Refused, Memory}
+use Rattle.vidi.specs.declared.status.Status.TheVariants.{Done, Usage, ReadFault, WriteFault, Refused, Diverged, Memory}
 use Rattle.vidi.specs.Design.{text_limit, Spells, HasReason}
 use Rattle.vidi.specs.Said.{check_text}
-use Rattle.vidi.specs.Answer.{Absent, RefusesDesign, Checks}
+use Rattle.vidi.specs.Answer.{RefusesDesign, Checks}
+use Rattle.vidi.specs.Traces.{Absent}
 use Rattle.vidi.proofs.Owed.{Owed, Apart, Same, one_owed}
 use Rattle.vidi.proofs.Told.{both, also, there}
 
@@ -51,6 +52,7 @@ told design files (Word l) p = p
 told design files (Deep l) p = p
 told design files (Item l) p = p
 told design files (BadTrace n) p = p
+told design files (OtherChannels n) p = p
 
 one_file : TextLaws → (text : List ℕ) (f g : FileOf (Unit {0})) → Spells text f → Spells text g → f ≡ g
 one_file laws text f g (ts, has, shallow, (good, spelled)) (us, has', shallow', (good', spelled')) =
@@ -66,6 +68,7 @@ no_reason laws text f (Item l) (ts, has, shallow, file) (us, has', its, shallow'
     none f (subst (λ (vs : List Token). IsFileOf vs f) (laws.reading text ts us has has') file)
 no_reason laws text f (TooLong n) spells never = never
 no_reason laws text f (BadTrace n) spells never = never
+no_reason laws text f (OtherChannels n) spells never = never
 
 deep_item : TextLaws → (text : List ℕ) (l k : ℕ) → HasReason text (Deep l) → HasReason text (Item k) → ⊥
 deep_item laws text l k (ts, has, deep) (us, has', its, shallow, none) =
@@ -93,8 +96,10 @@ one_cause laws text (Item l) (Deep k) p q = absurd (deep_item laws text k l q p)
 one_cause laws text (Item l) (Item k) p q = ap Item (item_item laws text l k p q)
 one_cause laws text (TooLong m) s p q = absurd p
 one_cause laws text (BadTrace m) s p q = absurd p
+one_cause laws text (OtherChannels m) s p q = absurd p
 one_cause laws text r (TooLong n) p q = absurd q
 one_cause laws text r (BadTrace n) p q = absurd q
+one_cause laws text r (OtherChannels n) p q = absurd q
 
 -- a reason that isn't the length
 other : (r : Reason) (file : List ℕ) → IsReason r file → ((n : ℕ) × (r ≡ TooLong n) × (n ≡ text_limit) × (n < length file))
@@ -104,6 +109,7 @@ other (Word l) file p = inr p
 other (Deep l) file p = inr p
 other (Item l) file p = inr p
 other (BadTrace n) file p = inr p
+other (OtherChannels n) file p = inr p
 
 one_of : TextLaws → (file : List ℕ) (r s : Reason) → IsReason r file → IsReason s file → r ≡ s
 one_of laws file r s p q = elim (other r file p) [
@@ -153,6 +159,7 @@ owed design files Usage x d = d
 owed design files (ReadFault w) x d = d
 owed design files WriteFault x d = d
 owed design files (Refused w r) x d = d
+owed design files Diverged x d = d
 owed design files Memory x d = d
 
 pub one_check : TextLaws → (design : List ℕ) (files : Files) (a b : Status) (x y : List ℕ)

@@ -7,11 +7,12 @@ use Rattle.trace_code.specs.Decoding.{IsFaultAt, OnePlace, OneReading}
 use Rattle.vidi_io.specs.Shelf.{Files}
 use Rattle.vidi.specs.declared.status.Word.TheVariants as words
 use Rattle.vidi.specs.declared.status.Reason.{Reason}
-use Rattle.vidi.specs.declared.status.Reason.TheVariants.{TooLong, Word, Deep, Item, BadTrace}
+use Rattle.vidi.specs.declared.status.Reason.TheVariants.{TooLong, Word, Deep, Item, BadTrace, OtherChannels}
 use Rattle.vidi.specs.declared.status.Status.{Status}
-use Rattle.vidi.specs.declared.status.Status.TheVariants.{Done, Usage, ReadFault, WriteFault, Refused, Memory}
+use Rattle.vidi.specs.declared.status.Status.TheVariants.{Done, Usage, ReadFault, WriteFault, Refused, Diverged, Memory}
 use Rattle.vidi.specs.Said.{dump_text}
-use Rattle.vidi.specs.Answer.{Absent, RefusesTrace, Dumps, trace_limit}
+use Rattle.vidi.specs.Answer.{RefusesTrace, Dumps}
+use Rattle.vidi.specs.Traces.{Absent, trace_limit}
 use Rattle.vidi.proofs.Owed.{Owed, Apart, Same, one_owed}
 use Rattle.vidi.proofs.Told.{both, there}
 
@@ -47,9 +48,11 @@ one_reason place trace files (BadTrace m) (BadTrace n) told told' =
 one_reason place trace files (Word l) s p q = absurd p
 one_reason place trace files (Deep l) s p q = absurd p
 one_reason place trace files (Item l) s p q = absurd p
+one_reason place trace files (OtherChannels n) s p q = absurd p
 one_reason place trace files r (Word l) p q = absurd q
 one_reason place trace files r (Deep l) p q = absurd q
 one_reason place trace files r (Item l) p q = absurd q
+one_reason place trace files r (OtherChannels n) p q = absurd q
 
 done_is_accepted : (trace : List ℕ) (files : Files) (x : List ℕ) (r : Reason) → IsDone trace files x → Refuses trace files r → ⊥
 done_is_accepted trace files x (TooLong n) (t, file, coded, small, told, text) (is, long) =
@@ -63,6 +66,7 @@ done_is_accepted trace files x (BadTrace n) (t, file, coded, small, told, text) 
 done_is_accepted trace files x (Word l) d p = p
 done_is_accepted trace files x (Deep l) d p = p
 done_is_accepted trace files x (Item l) d p = p
+done_is_accepted trace files x (OtherChannels n) d p = p
 
 done_is_read : (trace : List ℕ) (files : Files) (x : List ℕ) → IsDone trace files x → Unread trace files → ⊥
 done_is_read trace files x (t, file, coded, small, told, text) unread = there (get files trace) (λ f. f ≡ file) told unread
@@ -73,6 +77,7 @@ refused_is_read trace files (BadTrace n) told unread = there (get files trace) (
 refused_is_read trace files (Word l) p unread = p
 refused_is_read trace files (Deep l) p unread = p
 refused_is_read trace files (Item l) p unread = p
+refused_is_read trace files (OtherChannels n) p unread = p
 
 owed : (trace : List ℕ) (files : Files) (a : Status) (x : List ℕ) → Dumps trace (Some files) (λ _. ⊥) a x
     → Owed words.Trace (IsDone trace files) (Unread trace files) (Refuses trace files) a x
@@ -81,6 +86,7 @@ owed trace files Usage x d = d
 owed trace files (ReadFault w) x d = d
 owed trace files WriteFault x d = d
 owed trace files (Refused w r) x d = d
+owed trace files Diverged x d = d
 owed trace files Memory x d = d
 
 pub one_dump : OneReading → OnePlace → (trace : List ℕ) (files : Files) (a b : Status) (x y : List ℕ)

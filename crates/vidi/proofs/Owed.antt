@@ -3,7 +3,7 @@ use Rattle.std.proofs.Common.{◌≡◌, ℕ, List, refl, sym, ap, ◌∙◌}
 use Rattle.vidi.specs.declared.status.Word.{Word}
 use Rattle.vidi.specs.declared.status.Reason.{Reason}
 use Rattle.vidi.specs.declared.status.Status.{Status}
-use Rattle.vidi.specs.declared.status.Status.TheVariants.{Done, Usage, ReadFault, WriteFault, Refused, Memory}
+use Rattle.vidi.specs.declared.status.Status.TheVariants.{Done, Usage, ReadFault, WriteFault, Refused, Diverged, Memory}
 use Rattle.vidi.specs.Said.{read_fault_line, reason_line}
 
 abbrev pub Owed : Word → (List ℕ → Type 0) → Type 0 → (Reason → Type 0) → Status → List ℕ → Type 0
@@ -50,7 +50,9 @@ one_owed word D U R apart (Refused w r) (ReadFault v) x y (_, cause, _) (_, unre
 one_owed word D U R apart (Refused w r) (Refused v s) x y d e = refused_refused word w v D U R apart r s x y d e
 one_owed word D U R apart Usage b x y d e = absurd d
 one_owed word D U R apart WriteFault b x y d e = absurd d
+one_owed word D U R apart Diverged b x y d e = absurd d
 one_owed word D U R apart Memory b x y d e = absurd d
 one_owed word D U R apart a Usage x y d e = absurd e
 one_owed word D U R apart a WriteFault x y d e = absurd e
+one_owed word D U R apart a Diverged x y d e = absurd e
 one_owed word D U R apart a Memory x y d e = absurd e

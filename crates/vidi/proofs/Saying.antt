@@ -3,32 +3,47 @@ use Rattle.std.proofs.Common.{◌≡◌, ◌≢◌, ℕ, List, Option, inl, inr,
 use Rattle.std.specs.Io.KnownBytes.{append_known}
 use Rattle.vidi_io.specs.Shelf.{Files}
 use Rattle.vidi.specs.declared.status.Status.{Status}
-use Rattle.vidi.specs.declared.status.Status.TheVariants.{Done, Usage, ReadFault, WriteFault, Refused, Memory}
-use Rattle.vidi.specs.Command.{Command, Dump, Check}
+use Rattle.vidi.specs.declared.status.Status.TheVariants.{Done, Usage, ReadFault, WriteFault, Refused, Diverged, Memory}
+use Rattle.vidi.specs.Command.{Command, Dump, Check, Compare, Salvage}
 use Rattle.vidi.specs.Answer.{Dumps, Checks, Does, Earns, Answers, Says}
+use Rattle.vidi.proofs.OneCompare.{mute-compares, quiet-compares}
+use Rattle.vidi.proofs.OneSalvaged.{mute-saves, quiet-saves}
 
-not_writing : (words : List (List ℕ)) (files : Option Files) (F : List ℕ → Type 0) (text : List ℕ) → Earns words files F WriteFault text → ⊥
-not_writing words files F text (Dump trace, given, none) = none
-not_writing words files F text (Check design top, given, none) = none
+does-writing : (c : Command) (files : Option Files) (F : List ℕ → Type 0) (text : List ℕ) (left : Option Files)
+    → Does c files F WriteFault text left → ⊥
+does-writing (Dump trace) files F text left (none, same) = none
+does-writing (Check design top) files F text left (none, same) = none
+does-writing (Compare trace other) files F text left (d, same) = mute-compares trace other files F text d
+does-writing (Salvage trace out) files F text left d = mute-saves trace out files F text left d
 
-answered : (E : Status → List ℕ → Type 0) (W : Type 0) (old new : Option (List ℕ)) (status : Status) (text : List ℕ)
-    → E status text → status ≢ WriteFault → new ≡ append_known old text → Answers E W old new status
-answered E W old new Done text earned other told = (text, earned, told)
-answered E W old new Usage text earned other told = (text, earned, told)
-answered E W old new (ReadFault word) text earned other told = (text, earned, told)
-answered E W old new WriteFault text earned other told = absurd (other refl)
-answered E W old new (Refused word reason) text earned other told = (text, earned, told)
-answered E W old new Memory text earned other told = (text, earned, told)
+not_writing : (words : List (List ℕ)) (files : Option Files) (F : List ℕ → Type 0) (text : List ℕ) (left : Option Files)
+    → Earns words files F WriteFault text left → ⊥
+not_writing words files F text left (inl (none, said, same)) = let e : WriteFault ≡ Usage = said.0 in cc
+not_writing words files F text left (inr (inl (said, same))) = let e : WriteFault ≡ Memory = said.0 in cc
+not_writing words files F text left (inr (inr (c, given, d))) = does-writing c files F text left d
 
-pub said : (words : List (List ℕ)) (files : Option Files) (F : List ℕ → Type 0) (W V : Type 0) (old new : Option (List ℕ)) (status : Status)
-    (text : List ℕ) (result : Status)
-    → Earns words files F status text → (V → W) → Says status text V old new result → Answers (Earns words files F) W old new result
-said words files F W V old new status text result earned why (inl (same, told)) =
-    let other : status ≢ WriteFault = λ e. not_writing words files F text (subst (λ (s : Status). Earns words files F s text) e earned) in
-    subst (λ (s : Status). Answers (Earns words files F) W old new s) (sym same)
-    (answered (Earns words files F) W old new status text earned other told)
-said words files F W V old new status text result earned why (inr (fault, failed, some)) =
-    subst (λ (s : Status). Answers (Earns words files F) W old new s) (sym fault) (why failed, status, text, earned, some)
+answered : (E : Status → List ℕ → Option Files → Type 0) (S : Option Files → Type 0) (W : Type 0) (old new : Option (List ℕ))
+    (left : Option Files) (status : Status) (text : List ℕ)
+    → E status text left → status ≢ WriteFault → new ≡ append_known old text → Answers E S W old new left status
+answered E S W old new left Done text earned other told = (text, earned, told)
+answered E S W old new left Usage text earned other told = (text, earned, told)
+answered E S W old new left (ReadFault word) text earned other told = (text, earned, told)
+answered E S W old new left WriteFault text earned other told = absurd (other refl)
+answered E S W old new left (Refused word reason) text earned other told = (text, earned, told)
+answered E S W old new left Diverged text earned other told = (text, earned, told)
+answered E S W old new left Memory text earned other told = (text, earned, told)
+
+pub said : (words : List (List ℕ)) (files : Option Files) (F : List ℕ → Type 0) (S : Option Files → Type 0) (W V : Type 0)
+    (old new : Option (List ℕ)) (left : Option Files) (status : Status) (text : List ℕ) (result : Status)
+    → Earns words files F status text left → (V → W) → Says status text V old new result
+    → Answers (Earns words files F) S W old new left result
+said words files F S W V old new left status text result earned why (inl (same, told)) =
+    let other : status ≢ WriteFault = λ e. not_writing words files F text left
+    (subst (λ (s : Status). Earns words files F s text left) e earned) in
+    subst (λ (s : Status). Answers (Earns words files F) S W old new left s) (sym same)
+    (answered (Earns words files F) S W old new left status text earned other told)
+said words files F S W V old new left status text result earned why (inr (fault, failed, some)) =
+    subst (λ (s : Status). Answers (Earns words files F) S W old new left s) (sym fault) (why failed, inl (status, text, earned, some))
 
 quiet_dump : (trace : List ℕ) (files : Option Files) (F : List ℕ → Type 0) (status : Status) (text : List ℕ) → ((name : List ℕ) → ¬ F name)
     → Dumps trace files F status text → Dumps trace files (λ _. ⊥) status text
@@ -38,6 +53,7 @@ quiet_dump trace files F (ReadFault word) text quiet (same, inl absent, said) = 
 quiet_dump trace files F (ReadFault word) text quiet (same, inr failed, said) = absurd (quiet trace failed)
 quiet_dump trace files F WriteFault text quiet d = d
 quiet_dump trace files F (Refused word reason) text quiet d = d
+quiet_dump trace files F Diverged text quiet d = d
 quiet_dump trace files F Memory text quiet d = d
 
 quiet_check : (design : List ℕ) (files : Option Files) (F : List ℕ → Type 0) (status : Status) (text : List ℕ)
@@ -49,33 +65,34 @@ quiet_check design files F (ReadFault word) text quiet (same, inl absent, said) 
 quiet_check design files F (ReadFault word) text quiet (same, inr failed, said) = absurd (quiet design failed)
 quiet_check design files F WriteFault text quiet d = d
 quiet_check design files F (Refused word reason) text quiet d = d
+quiet_check design files F Diverged text quiet d = d
 quiet_check design files F Memory text quiet d = d
 
-quiet_does : (c : Command) (files : Option Files) (F : List ℕ → Type 0) (status : Status) (text : List ℕ) → ((name : List ℕ) → ¬ F name)
-    → Does c files F status text → Does c files (λ _. ⊥) status text
-quiet_does (Dump trace) = quiet_dump trace
-quiet_does (Check design top) = quiet_check design
+quiet_does : (c : Command) (files : Option Files) (F : List ℕ → Type 0) (status : Status) (text : List ℕ) (left : Option Files)
+    → ((name : List ℕ) → ¬ F name) → Does c files F status text left → Does c files (λ _. ⊥) status text left
+quiet_does (Dump trace) files F status text left quiet (d, same) = (quiet_dump trace files F status text quiet d, same)
+quiet_does (Check design top) files F status text left quiet (d, same) = (quiet_check design files F status text quiet d, same)
+quiet_does (Compare trace other) files F status text left quiet (d, same) = (quiet-compares trace other files F status text quiet d, same)
+quiet_does (Salvage trace out) files F status text left quiet d = quiet-saves trace out files F status text left quiet d
 
-quiet_earns : (words : List (List ℕ)) (files : Option Files) (F : List ℕ → Type 0) (status : Status) (text : List ℕ)
-    → ((name : List ℕ) → ¬ F name)
-    → Earns words files F status text → Earns words files (λ _. ⊥) status text
-quiet_earns words files F Done text quiet (c, given, d) = (c, given, quiet_does c files F Done text quiet d)
-quiet_earns words files F Usage text quiet e = e
-quiet_earns words files F (ReadFault word) text quiet (c, given, d) = (c, given, quiet_does c files F (ReadFault word) text quiet d)
-quiet_earns words files F WriteFault text quiet (c, given, d) = (c, given, quiet_does c files F WriteFault text quiet d)
-quiet_earns words files F (Refused word reason) text quiet (c, given, d)
-    = (c, given, quiet_does c files F (Refused word reason) text quiet d)
-quiet_earns words files F Memory text quiet e = e
+quiet_earns : (words : List (List ℕ)) (files : Option Files) (F : List ℕ → Type 0) (status : Status) (text : List ℕ) (left : Option Files)
+    → ((name : List ℕ) → ¬ F name) → Earns words files F status text left → Earns words files (λ _. ⊥) status text left
+quiet_earns words files F status text left quiet (inl usage) = inl usage
+quiet_earns words files F status text left quiet (inr (inl memory)) = inr (inl memory)
+quiet_earns words files F status text left quiet (inr (inr (c, given, d))) =
+    inr (inr (c, given, quiet_does c files F status text left quiet d))
 
 -- where nothing failed, the answer is that of a call in which nothing fails
-pub quietly : (words : List (List ℕ)) (files : Option Files) (F : List ℕ → Type 0) (W : Type 0) (old new : Option (List ℕ))
-    (status : Status) → ((name : List ℕ) → ¬ F name) → ¬ W
-    → Answers (Earns words files F) W old new status → Answers (Earns words files (λ _. ⊥)) ⊥ old new status
-quietly words files F W old new Done quiet kept (text, e, told) = (text, quiet_earns words files F Done text quiet e, told)
-quietly words files F W old new Usage quiet kept (text, e, told) = (text, quiet_earns words files F Usage text quiet e, told)
-quietly words files F W old new (ReadFault word) quiet kept (text, e, told)
-    = (text, quiet_earns words files F (ReadFault word) text quiet e, told)
-quietly words files F W old new WriteFault quiet kept (failed, _, _, _, _) = absurd (kept failed)
-quietly words files F W old new (Refused word reason) quiet kept (text, e, told)
-    = (text, quiet_earns words files F (Refused word reason) text quiet e, told)
-quietly words files F W old new Memory quiet kept (text, e, told) = (text, quiet_earns words files F Memory text quiet e, told)
+pub quietly : (words : List (List ℕ)) (files : Option Files) (F : List ℕ → Type 0) (S : Option Files → Type 0) (W : Type 0)
+    (old new : Option (List ℕ)) (left : Option Files) (status : Status) → ((name : List ℕ) → ¬ F name) → ¬ W
+    → Answers (Earns words files F) S W old new left status → Answers (Earns words files (λ _. ⊥)) (λ _. ⊥) ⊥ old new left status
+quietly words files F S W old new left Done quiet kept (text, e, told) = (text, quiet_earns words files F Done text left quiet e, told)
+quietly words files F S W old new left Usage quiet kept (text, e, told) = (text, quiet_earns words files F Usage text left quiet e, told)
+quietly words files F S W old new left (ReadFault word) quiet kept (text, e, told)
+    = (text, quiet_earns words files F (ReadFault word) text left quiet e, told)
+quietly words files F S W old new left WriteFault quiet kept (failed, _) = absurd (kept failed)
+quietly words files F S W old new left (Refused word reason) quiet kept (text, e, told)
+    = (text, quiet_earns words files F (Refused word reason) text left quiet e, told)
+quietly words files F S W old new left Diverged quiet kept (text, e, told)
+    = (text, quiet_earns words files F Diverged text left quiet e, told)
+quietly words files F S W old new left Memory quiet kept (text, e, told) = (text, quiet_earns words files F Memory text left quiet e, told)

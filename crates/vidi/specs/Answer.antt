@@ -1,6 +1,5 @@
 -- What a call of `vidi` owes: each answer with its cause and its text.
-use Rattle.std.specs.Prelude.{◌≡◌, ℕ, ◌<◌, ◌≤◌, ◌⊎◌, List, Option, None, Some, IfSome, IsSomeAnd, length}
-use Rattle.std.specs.FinMap.{get}
+use Rattle.std.specs.Prelude.{◌≡◌, ℕ, ◌<◌, ◌≤◌, ◌⊎◌, List, Option, Some, length}
 use Rattle.std.specs.Io.KnownBytes.{append_known}
 use Rattle.trace_model.specs.declared.trace.Trace.{Trace}
 use Rattle.trace_code.specs.Decoding.{IsFaultAt}
@@ -13,21 +12,11 @@ use Rattle.vidi.specs.declared.status.Reason.{Reason}
 use Rattle.vidi.specs.declared.status.Reason.TheVariants as reasons
 use Rattle.vidi.specs.declared.status.Status.{Status}
 use Rattle.vidi.specs.declared.status.Status.TheVariants.{Done, Usage, ReadFault, WriteFault, Refused, Memory}
-use Rattle.vidi.specs.Command.{Command, Dump, Check, IsGiven}
+use Rattle.vidi.specs.Command.{Command, Dump, Check, Compare, Salvage, IsGiven}
+use Rattle.vidi.specs.Steps.{IsSaid}
+use Rattle.vidi.specs.Traces.{Absent, Compares, Saves, StopsSaving, Told, trace_limit}
 use Rattle.vidi.specs.Design.{text_limit, Spells, HasReason}
 use Rattle.vidi.specs.Said.{dump_text, check_text, usage_line, memory_line, read_fault_line, reason_line}
-
--- where the shelf tells its files: the file of this name is there, and P holds of its bytes
-abbrev pub Told : Option Files → List ℕ → (List ℕ → Type 0) → Type 0
-Told files name P = IfSome files (λ m. IsSomeAnd (get m name) P)
-
--- where the shelf tells its files: there is no file of this name
-abbrev pub Absent : Option Files → List ℕ → Type 0
-Absent files name = IfSome files (λ m. get m name ≡ None)
-
--- the longest trace file, in bytes
-abbrev pub trace_limit : ℕ
-trace_limit = 67108864
 
 -- the reasons that are no fault of reading, in the order in which they are tried
 abbrev pub RefusesTrace : List ℕ → Option Files → Reason → Type 0
@@ -63,30 +52,46 @@ Checks design files ReadFailed (Refused word reason) text =
     (word ≡ words.Design) × RefusesDesign design files reason × (text ≡ reason_line word reason)
 Checks design files ReadFailed status text = ⊥
 
--- what a command owes
-abbrev pub Does : Command → Option Files → (List ℕ → Type 0) → Status → List ℕ → Type 0
-Does (Dump trace) = Dumps trace
-Does (Check design top) = Checks design
+-- what a command owes: its answer, its text, and the files that are left
+abbrev pub Does : Command → Option Files → (List ℕ → Type 0) → Status → List ℕ → Option Files → Type 0
+Does (Dump trace) files ReadFailed status text left = Dumps trace files ReadFailed status text × (left ≡ files)
+Does (Check design top) files ReadFailed status text left = Checks design files ReadFailed status text × (left ≡ files)
+Does (Compare trace other) files ReadFailed status text left = Compares trace other files ReadFailed status text × (left ≡ files)
+Does (Salvage trace out) files ReadFailed status text left = Saves trace out files ReadFailed status text left
 
--- An answer is earned by these words, with this text: Usage where they give no command, else what the command owes. Want of memory is free.
-abbrev pub Earns : List (List ℕ) → Option Files → (List ℕ → Type 0) → Status → List ℕ → Type 0
-Earns words files ReadFailed Usage text = ((c : Command) → ¬ IsGiven words c) × (text ≡ usage_line)
-Earns words files ReadFailed Memory text = text ≡ memory_line
-Earns words files ReadFailed status text = (c : Command) × IsGiven words c × Does c files ReadFailed status text
+-- An answer is earned by these words, with this text and these files left: `Usage` where they give no command, else what the command
+-- owes. Want of memory is free.
+abbrev pub Earns : List (List ℕ) → Option Files → (List ℕ → Type 0) → Status → List ℕ → Option Files → Type 0
+Earns words files ReadFailed status text left = (((c : Command) → ¬ IsGiven words c) × IsSaid Usage usage_line status text × (left ≡ files))
+    ⊎ (IsSaid Memory memory_line status text × (left ≡ files))
+    ⊎ ((c : Command) × IsGiven words c × Does c files ReadFailed status text left)
 
--- What a call answers, and what the sink tells before and after. An answer is earned and its whole text was said; after WriteFault,
--- which only a failed write causes, a front of the text of an answer that was earned.
-abbrev pub Answers : (Status → List ℕ → Type 0) → Type 0 → Option (List ℕ) → Option (List ℕ) → Status → Type 0
-Answers Earned WriteFailed old new WriteFault = WriteFailed × (status : Status) × (text : List ℕ) × Earned status text
-    × AppendsSome old new text
-Answers Earned WriteFailed old new status = (text : List ℕ) × Earned status text × (new ≡ append_known old text)
+-- a write of a command's file failed, which leaves these files
+abbrev pub StopsIn : Command → Option Files → Option Files → Type 0
+StopsIn (Salvage trace out) files left = StopsSaving trace out files left
+StopsIn _ files left = ⊥
+
+abbrev pub Stops : List (List ℕ) → Option Files → Option Files → Type 0
+Stops words files left = (c : Command) × IsGiven words c × StopsIn c files left
+
+-- a front of the text of an answer that was earned was said
+abbrev pub IsBroken : (Status → List ℕ → Option Files → Type 0) → Option (List ℕ) → Option (List ℕ) → Option Files → Type 0
+IsBroken Earned old new left = (status : Status) × (text : List ℕ) × Earned status text left × AppendsSome old new text
+
+-- What a call answers, what the sink tells before and after, and the files that are left. An answer is earned and its whole text was
+-- said. After `WriteFault`, which only a failed write causes, the text broke off, or a file's writing did and nothing was said.
+abbrev pub Answers : (Status → List ℕ → Option Files → Type 0) → (Option Files → Type 0) → Type 0 → Option (List ℕ) → Option (List ℕ)
+    → Option Files → Status → Type 0
+Answers Earned Stopped WriteFailed old new left WriteFault = WriteFailed × (IsBroken Earned old new left ⊎ (Stopped left × (new ≡ old)))
+Answers Earned Stopped WriteFailed old new left status = (text : List ℕ) × Earned status text left × (new ≡ append_known old text)
 
 -- A status was said with its text, or a write failed in the middle of the text.
 abbrev pub Says : Status → List ℕ → Type 0 → Option (List ℕ) → Option (List ℕ) → Status → Type 0
 Says status text WriteFailed old new result = ((result ≡ status) × (new ≡ append_known old text))
     ⊎ ((result ≡ WriteFault) × WriteFailed × AppendsSome old new text)
 
--- Of what a shelf tells, with no failed read, two answers that are earned are one, unless memory was wanting.
+-- Of what a shelf tells, with no failed read, two answers that are earned are one, and leave the same, unless memory was wanting.
 abbrev pub OneAnswer : Type 0
-OneAnswer = (words : List (List ℕ)) (files : Files) (a b : Status) (x y : List ℕ)
-    → Earns words (Some files) (λ _. ⊥) a x → Earns words (Some files) (λ _. ⊥) b y → (a ≡ Memory) ⊎ (b ≡ Memory) ⊎ ((a ≡ b) × (x ≡ y))
+OneAnswer = (words : List (List ℕ)) (files : Files) (a b : Status) (x y : List ℕ) (left right : Option Files)
+    → Earns words (Some files) (λ _. ⊥) a x left → Earns words (Some files) (λ _. ⊥) b y right
+    → (a ≡ Memory) ⊎ (b ≡ Memory) ⊎ ((a ≡ b) × (x ≡ y) × (left ≡ right))

@@ -4,4 +4,7 @@ pub mod Design
 pub mod Exit
 pub mod Refusal
 pub mod Said
+pub mod Steps
+pub mod Stopping
+pub mod Traces
 pub mod Unread

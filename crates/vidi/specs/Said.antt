@@ -9,14 +9,14 @@ use Rattle.trace_model.specs.declared.trace.Trace.{Trace}
 use Rattle.trace_model.specs.Counting.{has}
 use Rattle.trace_model.specs.Packet.{content_of}
 use Rattle.trace_model.specs.Clock.{clock}
+use Rattle.trace_compare.specs.declared.report.Finding.{Finding}
+use Rattle.report_text.specs.Report.{report_lines}
 use Rattle.vlog_tree.specs.Tree.{ModuleOf, FileOf}
 use Rattle.vidi.specs.declared.status.Word.{Word}
 use Rattle.vidi.specs.declared.status.Word.TheVariants as words
 use Rattle.vidi.specs.declared.status.Reason.{Reason}
 use Rattle.vidi.specs.declared.status.Reason.TheVariants as reasons
-
-abbrev pub newline : List ℕ
-newline = 10 ∷ []
+pub use Rattle.report_text.specs.Report.{newline}
 
 -- each number after a space, in decimal
 abbrev pub spaced : List ℕ → List ℕ
@@ -76,9 +76,21 @@ items {A} f = sum_by (λ (m : ModuleOf A). length m.items) f.modules
 abbrev pub check_text : {A : Type 0} → FileOf A → List ℕ
 check_text f = codes "modules " ++ (decimal (length f.modules) ++ (codes " items " ++ (decimal (items f) ++ newline)))
 
+-- what `compare` prints of two traces: no divergence, or the findings and that they diverged
+abbrev pub no_divergence_line : List ℕ
+no_divergence_line = codes "no divergence" ++ newline
+
+abbrev pub diverged_text : List Finding → List Channel → List ℕ
+diverged_text report channels = report_lines report channels ++ (codes "diverged" ++ newline)
+
+-- `salvaged N packets`
+abbrev pub salvaged_line : ℕ → List ℕ
+salvaged_line n = codes "salvaged " ++ (decimal n ++ (codes " packets" ++ newline))
+
 abbrev pub word_text : Word → List ℕ
 word_text words.Design = codes "design"
 word_text words.Trace = codes "trace"
+word_text words.Other = codes "other"
 
 abbrev pub usage_line : List ℕ
 usage_line = codes "vidi: usage" ++ newline
@@ -96,6 +108,7 @@ reason_text (reasons.Word line) = codes "E1 word line " ++ decimal line
 reason_text (reasons.Deep line) = codes "E14 deep line " ++ decimal line
 reason_text (reasons.Item line) = codes "E2 item line " ++ decimal line
 reason_text (reasons.BadTrace at) = codes "bad trace at " ++ decimal at
+reason_text (reasons.OtherChannels at) = codes "other channels at " ++ decimal at
 
 -- `vidi: refused W: ` and the reason
 abbrev pub reason_line : Word → Reason → List ℕ

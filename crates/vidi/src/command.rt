@@ -1,6 +1,6 @@
 //! The words of a command line.
 
-ghost use Rattle.std.specs.Prelude.{◌≡◌, MatchOption};
+ghost use Rattle.std.specs.Prelude.{◌≡◌, [], ◌∷◌, MatchOption};
 ghost use Rattle.vidi.specs.Command as spec;
 
 use vidi_io::Words;
@@ -11,6 +11,10 @@ pub enum Command<'a> {
     Dump { trace: &'a str },
     /// `top` is the name of a module.
     Check { design: &'a str, top: &'a str },
+    /// `other` is compared with `trace`.
+    Compare { trace: &'a str, other: &'a str },
+    /// `out` gets what is whole of `trace`.
+    Salvage { trace: &'a str, out: &'a str },
 }
 
 impl<'a> Command<'a> {
@@ -22,11 +26,34 @@ impl<'a> Command<'a> {
             [name, trace] if name.as_str() == "dump" => Some(Command::Dump {
                 trace: trace.as_str(),
             }),
-            [name, design, top] if name.as_str() == "check" => Some(Command::Check {
-                design: design.as_str(),
-                top: top.as_str(),
-            }),
+            [name, first, second] => of_two(name.as_str(), first.as_str(), second.as_str()),
             _ => None,
         }
     }
+}
+
+/// The command of this name with two parts. A file that is written isn't one that is read.
+fn of_two<'a>(name: &str, first: &'a str, second: &'a str) -> Option<Command<'a>>
+    ensures { MatchOption result ((c : spec.Command) → ¬ spec.IsGiven (name.now ∷ first.now ∷ second.now ∷ []) c)
+        (λ c. spec.IsGiven (name.now ∷ first.now ∷ second.now ∷ []) (spec.plain c)) }
+{
+    if name == "check" {
+        return Some(Command::Check {
+            design: first,
+            top: second,
+        });
+    }
+    if name == "compare" {
+        return Some(Command::Compare {
+            trace: first,
+            other: second,
+        });
+    }
+    if name == "salvage" && first != second {
+        return Some(Command::Salvage {
+            trace: first,
+            out: second,
+        });
+    }
+    None
 }

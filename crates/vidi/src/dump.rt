@@ -16,7 +16,7 @@ use vidi_bits::Memory;
 use vidi_io::{Shelf, read_whole};
 
 /// The longest trace file, in bytes.
-const TRACE_LIMIT: u64 = 67_108_864;
+pub const TRACE_LIMIT: u64 = 67_108_864;
 
 /// What `dump` is answered.
 pub fn dump<S: Shelf>(alloc: Global, trace: &str, shelf: &mut S) -> Result<Answer, Memory>

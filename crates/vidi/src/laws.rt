@@ -2,14 +2,16 @@
 
 ghost use Rattle.vidi.specs.Answer.{OneAnswer};
 
-use trace_code::{one_place, one_reading};
+use trace_code::{one_place, one_reading, one_salvage};
 
-/// Of what a shelf tells, with no failed read, words earn one answer and one text, or want of memory.
+/// Of what a shelf tells, with no failed read, words earn one answer with one text, which leaves the same files,
+/// or want of memory.
 pub fn one_answer()
     ensures { OneAnswer }
 {
     one_reading();
     one_place();
+    one_salvage();
     vlog_lex::one_reading();
     vlog_lex::read_or_stuck();
     vlog_lex::one_stuck_line();

@@ -5,9 +5,11 @@
 mod answer;
 mod check;
 mod command;
+mod compare;
 mod dump;
 mod laws;
 mod reason_text;
+mod salvage;
 mod status;
 mod text;
 mod top;
@@ -24,6 +26,8 @@ use vidi_io::{HostShelf, HostSink, Text, Words};
 
 #[cfg(test)]
 mod check_tests;
+#[cfg(test)]
+mod file_tests;
 #[cfg(test)]
 mod tests;
 

@@ -31,6 +31,7 @@ fn put_reason(text: &mut Vec<u8>, reason: &Reason) -> Result<(), Memory>
         Reason::Deep { line } => put_with(text, b"E14 deep line ", *line),
         Reason::Item { line } => put_with(text, b"E2 item line ", *line),
         Reason::BadTrace { at } => put_with(text, b"bad trace at ", *at),
+        Reason::OtherChannels { at } => put_with(text, b"other channels at ", *at),
     }
 }
 
@@ -59,5 +60,6 @@ fn word_text(word: Word) -> &'static [u8]
     match word {
         Word::Design => b"design",
         Word::Trace => b"trace",
+        Word::Other => b"other",
     }
 }

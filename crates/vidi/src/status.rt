@@ -3,11 +3,15 @@
 ghost use Rattle.std.specs.Prelude.{◌≡◌};
 ghost use Rattle.vidi.specs.Exit as exit;
 
+use vidi_bits::Memory;
+
 /// A file among a command's words.
 #[derive(Clone, Copy, Debug, PartialEq, Eq)]
 pub enum Word {
     Design,
     Trace,
+    /// The second trace of a comparison.
+    Other,
 }
 
 /// Why a file is refused.
@@ -24,6 +28,8 @@ pub enum Reason {
     Item { line: u32 },
     /// The file is no encoding of a trace; `at` is the place of the fault in bytes.
     BadTrace { at: u64 },
+    /// The channels of the second trace are others than those of the first, first at place `at`.
+    OtherChannels { at: usize },
 }
 
 /// What a call of `vidi` answers.
@@ -39,8 +45,29 @@ pub enum Status {
     WriteFault,
     /// The file isn't accepted.
     Refused { word: Word, reason: Reason },
+    /// The second trace has findings against the first.
+    Diverged,
     /// No memory was found.
     Memory,
+}
+
+/// Why a command says nothing of its own.
+#[derive(Drop)]
+pub enum Stop {
+    /// A write of its file failed.
+    WriteFault,
+    /// No memory was found.
+    Memory,
+}
+
+impl From<Memory> for Stop {
+    ghost use Rattle.vidi.specs.declared.status.Stop.TheVariants as stops;
+
+    ghost from_gives = { λ _ s. s ≡ stops.Memory };
+
+    fn from(_error: Memory) -> Stop {
+        Stop::Memory
+    }
 }
 
 impl Status {
@@ -54,6 +81,7 @@ impl Status {
             Status::ReadFault { word: _ } => 2,
             Status::WriteFault => 3,
             Status::Refused { word: _, reason: _ } => 4,
+            Status::Diverged => 7,
             Status::Memory => 8,
         }
     }

@@ -14,10 +14,10 @@ const HEADER: [u8; 19] = [
     0x62, 0x01, 0x08,
 ];
 
-const ONE_SEND: [u8; 13] = [1, 1, 1, 5, 1, 2, 2, 5, 0, 0, 0, 0, 2];
+pub const ONE_SEND: [u8; 13] = [1, 1, 1, 5, 1, 2, 2, 5, 0, 0, 0, 0, 2];
 
 // One outward channel b without content, which starts and completes once.
-const NO_CONTENT: [u8; 21] = [
+pub const NO_CONTENT: [u8; 21] = [
     0x56, 0x49, 0x44, 0x49, 0x54, 0x52, 0x43, 0x31, 0x01, 0x01, 0x01, 0x62, 0x00, 1, 1, 1, 0, 0, 0,
     0, 1,
 ];
@@ -38,14 +38,14 @@ const NO_CONTENT_TEXT: &str = "channel 0 out b\n0 start b clock 0\n0 end b clock
 const WRITE_TEXT: &str =
     "channel 0 in w 32 4\n0 start w 1000 15 clock 0\n0 end w clock 0\npackets 1\n";
 
-fn with_header(alloc: Global, body: &[u8]) -> Result<Vec<u8>, Failure> {
+pub fn with_header(alloc: Global, body: &[u8]) -> Result<Vec<u8>, Failure> {
     let mut bytes = Vec::from_slice(alloc, &HEADER)?;
     bytes.extend_from_slice(body)?;
     Ok(bytes)
 }
 
 /// The words of a line.
-fn words_of(alloc: Global, line: &str) -> Result<Words, Failure> {
+pub fn words_of(alloc: Global, line: &str) -> Result<Words, Failure> {
     let mut words = Words::new(alloc);
     for text in line.split_whitespace() {
         words.push(Text::from_str(alloc, text)?)?;
@@ -67,7 +67,7 @@ fn shelf_of(alloc: Global, file: &[u8], failing: u32) -> Result<MemShelf, Failur
 }
 
 /// A sink with room for any text here, whose push of this number fails.
-fn sink_of(alloc: Global, failing: u128) -> Result<MemSink, Failure> {
+pub fn sink_of(alloc: Global, failing: u128) -> Result<MemSink, Failure> {
     let mut fails = Numbers::new(alloc);
     fails.push(failing)?;
     let mut sink = MemSink::new(alloc, fails);
@@ -153,6 +153,11 @@ fn other_words_are_usage(rt: HostRuntime) -> Result<(), Failure> {
         "check",
         "check t",
         "check t m t",
+        "compare t",
+        "compare t t t",
+        "salvage t",
+        "salvage t t",
+        "salvage t o o",
         "run",
         "record d m s t",
         "replay d m t 0 o",

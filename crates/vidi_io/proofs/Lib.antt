@@ -3,3 +3,4 @@ pub mod Names
 pub mod Started
 pub mod Sent
 pub mod Whole
+pub mod Cut

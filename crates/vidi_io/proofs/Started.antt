@@ -37,7 +37,7 @@ holding-holding None name a b = refl
 holding-holding (Some m) name a b = ap Some (insert-insert m name a b)
 
 -- what was held, and a piece behind it
-appended-holding : (files : Option Files) (name a piece : List ℕ) → appended (holding files name a) name piece
+pub appended-holding : (files : Option Files) (name a piece : List ℕ) → appended (holding files name a) name piece
     ≡ holding files name (a ++ piece)
 appended-holding None name a piece = refl
 appended-holding (Some m) name a piece = ap Some (ap (λ bs. insert (insert m name a) name (bs ++ piece)) (bytes_of-insert m name a)

@@ -9,3 +9,4 @@ pub mod MemShelf
 pub mod MemSink
 pub mod FixedSink
 pub mod ShelfSink
+pub mod Writing

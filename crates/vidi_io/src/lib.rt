@@ -16,6 +16,7 @@ mod shelf;
 mod shelf_sink;
 mod sink;
 mod words;
+mod writing;
 
 pub use fails::{Fail, FailCall, Fails};
 pub use fixed_sink::FixedSink;
@@ -27,3 +28,4 @@ pub use shelf::{FetchError, Shelf};
 pub use shelf_sink::ShelfSink;
 pub use sink::{Failed, Sink};
 pub use words::{Text, Words};
+pub use writing::write_whole;

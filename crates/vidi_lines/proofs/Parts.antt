@@ -1,5 +1,6 @@
 -- The parts of a list, taken off one by one.
-use Rattle.std.proofs.Common.{length-drop, length-append, ◌==◌, Err, Ok, Some, ◌≡◌, ◌≢◌, ℕ, ◌+◌, ◌<◌, ◌≤◌, Bool, true, false, not, List, []}
+use Rattle.std.proofs.Common.{length-drop, length-append, ◌==◌, Err, Ok, Option, Some, ◌≡◌, ◌≢◌, ℕ, ◌+◌, ◌<◌, ◌≤◌, Bool, true}
+use Rattle.std.proofs.Common.{false, not, List, []}
 use Rattle.std.proofs.Common.{◌∷◌, ◌++◌, length, take, drop, map, refl, sym, ap, ◌∙◌, arith, append_assoc, append-nil, inl, inr}
 use Rattle.std.proofs.lemmas.Bool.{cases_lt}
 use Rattle.std.proofs.lemmas.List.{drop_all, take_all}
@@ -11,7 +12,7 @@ use Rattle.vidi_lines.specs.declared.error.LineError.{LineError}
 use Rattle.vidi_lines.specs.declared.error.LineError.TheVariants.{BadLine, Memory}
 use Rattle.vidi_bits.specs.Findings.{is_nil, told_if, first}
 use Rattle.vidi_lines.specs.Lines.{is_newline, is_blank, unless_last_empty, file_lines, is_bad, words_between, words_of, bad_from}
-use Rattle.vidi_lines.specs.Lines.{bad_lines, HasLines, HasWords}
+use Rattle.vidi_lines.specs.Lines.{bad_lines, HasLines, HasWords, line_unless_bad}
 
 abbrev pub is_word : List ℕ → Bool
 is_word part = not (is_nil part)
@@ -133,6 +134,26 @@ lines_read bytes rest n lines words bad over =
     let none : file_lines rest ≡ [] = ap file_lines over ∙ no_line in
     (bad ∙ ap (bad_from n) none, sym (words ∙ ap (λ ls. lines ++ map words_of ls) none ∙ append-nil lines))
 
+pub each_read : (bytes rest : List ℕ) (len : ℕ) (line : Option Line) (lines more : List (Option Line))
+    → map line_unless_bad (file_lines bytes) ≡ lines ++ map line_unless_bad (file_lines rest)
+    → rest ≢ [] → len ≡ position_or_len is_newline rest → line ≡ line_unless_bad (take len rest) → more ≡ lines ++ line ∷ []
+    → map line_unless_bad (file_lines bytes) ≡ more ++ map line_unless_bad (file_lines (drop (len + 1) rest))
+each_read bytes rest len line lines more so_far some at is grown =
+    let behind : file_lines (after_first is_newline rest) ≡ file_lines (drop (len + 1) rest) = ap (λ k. file_lines (drop (k + 1) rest))
+    (sym at) in
+    let front : line_unless_bad (front_line rest) ≡ line = ap line_unless_bad (sym (front_at len rest at)) ∙ sym is in
+    so_far ∙ ap (λ ls. lines ++ map line_unless_bad ls) (next_line rest some)
+    ∙ ap (λ l. lines ++ (l ∷ map line_unless_bad (file_lines (after_first is_newline rest)))) front
+    ∙ ap (λ ls. lines ++ (line ∷ map line_unless_bad ls)) behind ∙ sym (append_assoc lines (line ∷ [])
+    (map line_unless_bad (file_lines (drop (len + 1) rest))))
+    ∙ ap (λ ls. ls ++ map line_unless_bad (file_lines (drop (len + 1) rest))) (sym grown)
+
+pub all_read : (bytes rest : List ℕ) (lines : List (Option Line)) → map line_unless_bad (file_lines bytes) ≡ lines
+    ++ map line_unless_bad (file_lines rest)
+    → rest ≡ [] → lines ≡ map line_unless_bad (file_lines bytes)
+all_read bytes rest lines so_far over =
+    sym (so_far ∙ ap (λ ls. lines ++ map line_unless_bad ls) (ap file_lines over ∙ no_line) ∙ append-nil lines)
+
 -- what a test of emptiness tells
 pub is_some : (rest : List ℕ) → (length rest == 0) ≡ false → rest ≢ []
 is_some [] e none = let off : true ≡ false = e in absurd (cc)
@@ -146,7 +167,7 @@ some_length : (rest : List ℕ) → rest ≢ [] → 0 < length rest
 some_length [] some = absurd (some refl)
 some_length (b ∷ rest) some = omega arith
 
-pub fewer : (rest : List ℕ) (len : ℕ) (lines more : List Line) (line : Line) (most : ℕ) → rest ≢ [] → more ≡ lines ++ line ∷ []
+pub fewer : {A : Type 0} (rest : List ℕ) (len : ℕ) (lines more : List A) (line : A) (most : ℕ) → rest ≢ [] → more ≡ lines ++ line ∷ []
     → length lines + length rest ≤ most
     → length more + length (drop (len + 1) rest) ≤ most
 fewer rest len lines more line most some grown few =

@@ -1,5 +1,6 @@
 -- A file's lines, what may stand in them, and their words (this project's profile).
-use Rattle.std.specs.Prelude.{◌≡◌, ℕ, ◌+◌, ◌==◌, ◌||◌, not, Bool, true, false, List, [], ◌∷◌, ◌++◌, map, Result, Ok, Err, Some}
+use Rattle.std.specs.Prelude.{◌≡◌, ℕ, ◌+◌, ◌==◌, ◌||◌, not, Bool, true, false, List, [], ◌∷◌, ◌++◌, map, Result, Ok, Err, Option}
+use Rattle.std.specs.Prelude.{Some, None}
 use Rattle.std.specs.Prelude.{if◌then◌else◌}
 use Rattle.std.specs.List.{slice_split, before_first, filter, list_any}
 use Rattle.std.specs.Int.{is_in_range}
@@ -48,6 +49,10 @@ words_between text = filter (λ part. not (is_nil part)) (slice_split is_blank t
 -- the words of a line
 abbrev pub words_of : List ℕ → Line
 words_of line = record { words = words_between (before_comment line) }
+
+-- the words of a line, None where it is bad
+abbrev pub line_unless_bad : List ℕ → Option Line
+line_unless_bad line = if is_bad line then None else Some (words_of line)
 
 -- the numbers of the bad lines, the first line having number n
 abbrev pub bad_from : ℕ → List (List ℕ) → List ℕ

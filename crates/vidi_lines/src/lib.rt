@@ -9,7 +9,7 @@ mod lines;
 mod numeral;
 
 pub use error::LineError;
-pub use lines::{Line, Lines, Names, lines_of};
+pub use lines::{Line, Lines, Names, ReadLines, each_line, lines_of};
 pub use numeral::number;
 
 #[cfg(test)]

@@ -1,10 +1,10 @@
 //! The lines of a text and their words.
 
-ghost use Rattle.std.specs.Prelude.{◌≡◌, ◌≤◌, ◌<◌, ◌^◌, ◌+◌, ◌++◌, [], ◌∷◌, not, IfOk, OnOk, length, drop};
+ghost use Rattle.std.specs.Prelude.{◌≡◌, ◌≤◌, ◌<◌, ◌^◌, ◌+◌, ◌++◌, [], ◌∷◌, not, IfOk, OnOk, length, drop, map};
 ghost use Rattle.std.specs.List.{filter, position_or_len};
 ghost use Rattle.vidi_bits.specs.Findings.{is_nil};
 ghost use Rattle.vidi_lines.specs.Lines.{is_newline, is_hash, is_blank, may_stand, before_comment, is_bad, words_between, HasLines};
-ghost use Rattle.vidi_lines.specs.Lines.{HasWords};
+ghost use Rattle.vidi_lines.specs.Lines.{HasWords, file_lines, line_unless_bad};
 
 use crate::error::LineError;
 use std::alloc::Global;
@@ -21,6 +21,9 @@ pub struct Line {
 
 /// A list of lines: line i is at place i - 1.
 pub type Lines = Items<Line>;
+
+/// A list of lines of which some may be bad: line i is at place i - 1, and it is `None` where it is bad.
+pub type ReadLines = Items<Option<Line>>;
 
 fn is_blank(b: u8) -> bool
     ensures { result ≡ is_blank b }
@@ -139,6 +142,36 @@ pub fn lines_of(alloc: Global, bytes: &[u8]) -> Result<Lines, LineError>
         let line = line_of(alloc, number, &rest[..len])?;
         lines.push(line)?;
         rest = behind(rest, len);
+    }
+    Ok(lines)
+}
+
+/// The words of a line, `None` where it is bad.
+fn read_line(alloc: Global, line: &[u8]) -> Result<Option<Line>, Memory>
+    ensures { IfOk result (λ read. read ≡ line_unless_bad line.now) }
+{
+    if is_bad(line) {
+        return Ok(None);
+    }
+    let words = words_between(alloc, before_comment(line))?;
+    Ok(Some(Line { words }))
+}
+
+/// The words of each line of a file, as `lines_of` says, with `None` for each line in which outside comments a byte
+/// stands that may not: for a reader that looks at the lines before a bad one too.
+///
+/// `Memory` comes where no memory was found. Each byte is read a bounded number of times.
+pub fn each_line(alloc: Global, bytes: &[u8]) -> Result<ReadLines, Memory>
+    ensures lines { IfOk result (λ lines. lines ≡ map line_unless_bad (file_lines bytes.now)) }
+    ensures few { IfOk result (λ lines. length lines ≤ length bytes.now) }
+{
+    let mut lines = ReadLines::new(alloc);
+    let mut rest = bytes;
+    while !rest.is_empty() {
+        let end = line_len(rest);
+        let line = read_line(alloc, &rest[..end])?;
+        lines.push(line)?;
+        rest = behind(rest, end);
     }
     Ok(lines)
 }

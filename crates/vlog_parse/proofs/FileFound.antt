@@ -372,7 +372,8 @@ module _ (A : Type 0) where
       next (after_found A t.Semicolon ps.1 gs.1.lawful) (λ c fc. sure _ (gi.0, gq.0, gs.0, fm ▹ gi.1 ▹ gq.1 ▹ fo ▹ gs.1 ▹ fc)))))))
 
   pub header_words : (name : List ℕ) (hash ports rest : List Word)
-      → (Fixed t.Module ∷ NameWord name ∷ (hash ++ Fixed t.ParenOpen ∷ ((ports ++ Fixed t.ParenClose ∷ []) ++ Fixed t.Semicolon ∷ []))) ++ rest
+      → (Fixed t.Module ∷ NameWord name ∷ (hash ++ Fixed t.ParenOpen
+      ∷ ((ports ++ Fixed t.ParenClose ∷ []) ++ Fixed t.Semicolon ∷ []))) ++ rest
       ≡ Fixed t.Module ∷ NameWord name ∷ (hash ++ Fixed t.ParenOpen ∷ (ports ++ Fixed t.ParenClose ∷ Fixed t.Semicolon ∷ rest))
   header_words name hash ports rest = ap (λ (ws : List Word). Fixed t.Module ∷ NameWord name ∷ ws)
       (append_assoc hash (Fixed t.ParenOpen ∷ ((ports ++ Fixed t.ParenClose ∷ []) ++ Fixed t.Semicolon ∷ [])) rest

@@ -60,7 +60,8 @@ module _ (A : Type 0) where
   output_same ws = both_or _ (same_after A t.Wire ws) (both_or _ (same_after A t.Reg ws) (same refl) (λ o. same refl)) (λ o. same refl)
 
   direction_same : (ws : Toks A) → Same same_direction (direction_front (forget_all ws)) (direction_front ws)
-  direction_same ws = both_or _ (same_after A t.Input ws) (both_step _ (same_after A t.Output ws) (λ o. output_same o.1)) (λ o. input_same o.1)
+  direction_same ws =
+      both_or _ (same_after A t.Input ws) (both_step _ (same_after A t.Output ws) (λ o. output_same o.1)) (λ o. input_same o.1)
 
   head_same : (n : ℕ) (ws : Toks A) → Same (option_map bare_head) (head_front n (forget_all ws)) (head_front n ws)
   head_same n ws = both_or _ (direction_same ws) (same refl) (λ d. both_step _ (ranges_same n d.1) (λ r. same refl))
@@ -86,7 +87,10 @@ module _ (A : Type 0) where
 
   -- the elements of items
   named_same : (n : ℕ) (ws : Toks A) → Same bare_named (named_at n (forget_all ws)) (named_at n ws)
-  named_same n ws = both_step _ (name_same ws) (λ id. both_step _ (same_after A t.Equals id.1) (λ o. both_step _ (same_expr A n o.1) (λ e. same refl)))
+  named_same n ws =
+      both_step _ (name_same ws) (λ id.
+      both_step _ (same_after A t.Equals id.1) (λ o.
+      both_step _ (same_expr A n o.1) (λ e. same refl)))
 
   tail_same : (n : ℕ) (ws : Toks A) → Same (option_map bare_tail) (tail_front n (forget_all ws)) (tail_front n ws)
   tail_same n ws =
@@ -99,7 +103,9 @@ module _ (A : Type 0) where
 
   assign_same : (n : ℕ) (ws : Toks A) → Same bare_assign (assign_at n (forget_all ws)) (assign_at n ws)
   assign_same n ws =
-      both_step _ (same_target A n ws) (λ x. both_step _ (same_after A t.Equals x.1) (λ o. both_step _ (same_expr A n o.1) (λ e. same refl)))
+      both_step _ (same_target A n ws) (λ x.
+      both_step _ (same_after A t.Equals x.1) (λ o.
+      both_step _ (same_expr A n o.1) (λ e. same refl)))
 
   -- items
   names_same : (n : ℕ) (range : Option (RangeOf A)) (id : IdentOf A) (ws : Toks A)
@@ -141,7 +147,9 @@ module _ (A : Type 0) where
   paren_event_same : (ws : Toks A) → Same bare_event (paren_event_at (forget_all ws)) (paren_event_at ws)
   paren_event_same ws =
       both_or _ (same_after A t.Star ws)
-      (both_step _ (same_after A t.Posedge ws) (λ p. both_step _ (name_same p.1) (λ id. both_step _ (same_after A t.ParenClose id.1) (λ c. same refl))))
+      (both_step _ (same_after A t.Posedge ws) (λ p.
+      both_step _ (name_same p.1) (λ id.
+      both_step _ (same_after A t.ParenClose id.1) (λ c. same refl))))
       (λ s. both_step _ (same_after A t.ParenClose s.1) (λ c. same refl))
 
   event_same : (ws : Toks A) → Same bare_event (event_at (forget_all ws)) (event_at ws)

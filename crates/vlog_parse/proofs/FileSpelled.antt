@@ -21,7 +21,8 @@ use Rattle.vlog_tree.specs.Spelling.{tail_words, parameter_head_words, parameter
 use Rattle.vlog_tree.specs.Shape.{IsGoodParameterHead, IsGoodParameter, IsFirstHeaded, IsGoodConn, IsGoodInstance}
 use Rattle.vlog_expr.specs.Reader.{◌>>=◌, Read, expr_at, target_at, fuel_for}
 use Rattle.vlog_parse.specs.FileReader.{range_at, range_front, init_front, direction_front, head_front, port_at, where_given}
-use Rattle.vlog_parse.specs.FileReader.{ports_at, named_at, tail_front, reg_at, assign_at, item_at, value_at, conn_at, parameter_conns_front}
+use Rattle.vlog_parse.specs.FileReader.{ports_at, named_at, tail_front, reg_at, assign_at, item_at, value_at, conn_at}
+use Rattle.vlog_parse.specs.FileReader.{parameter_conns_front}
 use Rattle.vlog_parse.specs.FileReader.{conns_at, parameter_head_front, parameter_at, first_parameter_at, parameters_front}
 use Rattle.vlog_parse.specs.FileReader.{items_at, header_at, module_at, modules_at, file_at}
 use Rattle.vlog_expr.specs.Reader.{some_at}
@@ -276,8 +277,8 @@ item_driven range w ws n r g h =
     ∙ spell_append (expr_words w.value) (after_commas named_words ws) (semicolon r))
     ∙ expr_read w.value rest n g.1.0.1 (parts_more named_words ws (semicolon r) (parts_semicolon r)).ends (omega arith))
     (step _
-    (more_read named_words IsGoodNamed (named_at n) n (named_read n) ws n (w ∷ []) (semicolon r) g.1.1 (parts_semicolon r) refl (omega arith)
-    (omega arith))
+    (more_read named_words IsGoodNamed (named_at n) n (named_read n) ws n (w ∷ []) (semicolon r) g.1.1 (parts_semicolon r) refl
+    (omega arith) (omega arith))
     refl))
 
 item_regs : (range : Option (RangeOf U)) (x : Reg1Of U) (xs : List (Reg1Of U)) (n : ℕ) (r : Toks U) → IsGoodItem (RegsItem range (x ∷ xs))

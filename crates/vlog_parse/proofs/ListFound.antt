@@ -23,7 +23,8 @@ pub all_snoc : {X : Type 0} (Good : X → Type 0) (xs : List X) (x : X) → AllB
 all_snoc Good [] x g h = (h, tt)
 all_snoc Good (y ∷ ys) x g h = (g.0, all_snoc Good ys x g.1 h)
 
-pub led_snoc : {X : Type 0} (First Good : X → Type 0) (xs : List X) (x : X) → AreLed First Good xs → Good x → AreLed First Good (xs ++ x ∷ [])
+pub led_snoc : {X : Type 0} (First Good : X → Type 0) (xs : List X) (x : X) → AreLed First Good xs → Good x
+    → AreLed First Good (xs ++ x ∷ [])
 led_snoc First Good [] x g h = absurd g
 led_snoc First Good (y ∷ ys) x g h = (g.0, all_snoc Good ys x g.1 h)
 

@@ -22,7 +22,8 @@ module _ (A X Y : Type 0) (f : X → Y) (one : Toks A → Read A X) (other : Tok
   more_same zero xs ws = same refl
   more_same (suc n) xs ws =
       both_or _ (same_after A t.Comma ws) (same refl)
-      (λ c. both_step _ (each c.1) (λ x. longer (map f) f xs x.0 (λ ys. more_at other n ys (forget_all x.1)) (more_at one n (xs ++ x.0 ∷ []) x.1)
+      (λ c. both_step _ (each c.1) (λ x.
+      longer (map f) f xs x.0 (λ ys. more_at other n ys (forget_all x.1)) (more_at one n (xs ++ x.0 ∷ []) x.1)
       (more_same n (xs ++ x.0 ∷ []) x.1)))
 
   pub some_same : (n : ℕ) (ws : Toks A) → Same (map f) (some_at other n (forget_all ws)) (some_at one n ws)

@@ -48,13 +48,14 @@ abbrev pub ReadsOne : {X : Type 0} → (X → List Word) → (X → Type 0) → 
 ReadsOne {X} words IsFit one fuel = (x : X) (r : Toks U) → IsFit x → Parts r → fuel_for (length (words x)) ≤ fuel → one (spell (words x) r)
     ≡ Some (x, r)
 
-pub more_read : {X : Type 0} (words : X → List Word) (IsFit : X → Type 0) (one : Toks U → Read U X) (fuel : ℕ) → ReadsOne words IsFit one fuel
-    → (xs : List X) (n : ℕ) (front : List X) (r : Toks U) → AllByRecursion IsFit xs → Parts r → after t.Comma r ≡ None
+pub more_read : {X : Type 0} (words : X → List Word) (IsFit : X → Type 0) (one : Toks U → Read U X) (fuel : ℕ)
+    → ReadsOne words IsFit one fuel → (xs : List X) (n : ℕ) (front : List X) (r : Toks U) → AllByRecursion IsFit xs → Parts r → after t.Comma r ≡ None
     → fuel_for (length (after_commas words xs)) ≤ fuel → length (after_commas words xs) < n
     → more_at one n front (spell (after_commas words xs) r) ≡ Some (front ++ xs, r)
 more_read words IsFit one fuel c [] zero front r g p h b k = absurd (omega arith)
 more_read words IsFit one fuel c (x ∷ xs) zero front r g p h b k = absurd (omega arith)
-more_read {X = X} words IsFit one fuel c [] (suc n) front r g p h b k = skipped _ h (ap (λ (ys : List X). Some (ys, r)) (sym (append-nil front)))
+more_read {X = X} words IsFit one fuel c [] (suc n) front r g p h b k =
+    skipped _ h (ap (λ (ys : List X). Some (ys, r)) (sym (append-nil front)))
 more_read {X = X} words IsFit one fuel c (x ∷ xs) (suc n) front r g p h b k =
     let long = length-append (words x) (after_commas words xs) in
     step _
@@ -63,8 +64,8 @@ more_read {X = X} words IsFit one fuel c (x ∷ xs) (suc n) front r g p h b k =
     (more_read words IsFit one fuel c xs n (front ++ x ∷ []) r g.1 p h (omega arith) (omega arith)
     ∙ ap (λ (ys : List X). Some (ys, r)) (append_assoc front (x ∷ []) xs))
 
-pub some_read : {X : Type 0} (words : X → List Word) (IsFit : X → Type 0) (one : Toks U → Read U X) (fuel : ℕ) → ReadsOne words IsFit one fuel
-    → (x : X) (xs : List X) (r : Toks U) → AreSomeGood IsFit (x ∷ xs) → Parts r → after t.Comma r ≡ None
+pub some_read : {X : Type 0} (words : X → List Word) (IsFit : X → Type 0) (one : Toks U → Read U X) (fuel : ℕ)
+    → ReadsOne words IsFit one fuel → (x : X) (xs : List X) (r : Toks U) → AreSomeGood IsFit (x ∷ xs) → Parts r → after t.Comma r ≡ None
     → fuel_for (length (with_commas words (x ∷ xs))) ≤ fuel
     → some_at one fuel (spell (with_commas words (x ∷ xs)) r) ≡ Some (x ∷ xs, r)
 some_read words IsFit one fuel c x xs r g p h b =

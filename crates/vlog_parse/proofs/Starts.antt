@@ -58,7 +58,8 @@ pub reserved_start : (x : Terminal) → terminal_kind x ≡ Reserved → NoStart
 reserved_start x k = record {
   name = λ text r. other_kind x (spelled (NameWord text)) r k refl;
   number = λ kind text r. other_kind x (spelled (NumberWord kind text)) r k (number_other kind);
-  sign = λ op r. other_kind x (spelled (Fixed (unary_terminal op))) r k (ap (λ (kind : TokenKind). same_kind kind Reserved) (unary_kind op));
+  sign = λ op r.
+      other_kind x (spelled (Fixed (unary_terminal op))) r k (ap (λ (kind : TokenKind). same_kind kind Reserved) (unary_kind op));
   paren = λ r. other_kind x (spelled (Fixed t.ParenOpen)) r k refl;
   brace = λ r. other_kind x (spelled (Fixed t.BraceOpen)) r k refl;
 }

@@ -54,7 +54,9 @@ module _ (A : Type 0) where
         (both_or _ (same_after A t.If ws)
         (both_or _ (same_after A t.Case ws) (assign_same n ws) (λ o. case_same n o.1))
         (λ o. if_same n o.1))
-        (λ o. both_step _ (stmts_same n [] o.1) (λ ss. same (ap (λ (xs : StmtsOf U). Some (BeginStmt xs, forget_all ss.1)) (bare_listed ss.0))))
+        (λ o.
+        both_step _ (stmts_same n [] o.1) (λ ss.
+        same (ap (λ (xs : StmtsOf U). Some (BeginStmt xs, forget_all ss.1)) (bare_listed ss.0))))
 
     if_same : (n : ℕ) (ws : Toks A) → Same bare_stmt (if_at n (forget_all ws)) (if_at n ws)
     if_same zero ws = same refl

@@ -9,7 +9,8 @@ use Rattle.vlog_tree.specs.declared.terminal.Terminal.{Terminal}
 use Rattle.vlog_tree.specs.declared.terminal.Terminal.TheVariants.{Always, Assign, Begin, Case, Default, Else, End, Endcase, Endmodule}
 use Rattle.vlog_tree.specs.declared.terminal.Terminal.TheVariants.{If, Input, Localparam, Module, Output, Parameter}
 use Rattle.vlog_tree.specs.declared.terminal.Terminal.TheVariants.{Posedge, Reg, Wire, ParenOpen, ParenClose, BracketOpen, BracketClose}
-use Rattle.vlog_tree.specs.declared.terminal.Terminal.TheVariants.{BraceOpen, BraceClose, Semicolon, Comma, Dot, Colon, Question, Hash, At, Equals}
+use Rattle.vlog_tree.specs.declared.terminal.Terminal.TheVariants.{BraceOpen, BraceClose, Semicolon, Comma, Dot, Colon, Question, Hash}
+use Rattle.vlog_tree.specs.declared.terminal.Terminal.TheVariants.{At, Equals}
 use Rattle.vlog_tree.specs.declared.terminal.Terminal.TheVariants.{Plus, Minus, Star, Bang, Tilde, Ampersand, Bar, Caret, Less, Greater}
 use Rattle.vlog_tree.specs.declared.terminal.Terminal.TheVariants.{LessEquals, GreaterEquals, EqualsEquals, BangEquals, AmpersandAmpersand}
 use Rattle.vlog_tree.specs.declared.terminal.Terminal.TheVariants.{BarBar, LessLess, GreaterGreater, LessLessLess, GreaterGreaterGreater}

@@ -2,7 +2,8 @@
 
 ghost use Rattle.std.specs.Prelude.{◌≡◌};
 ghost use Rattle.vlog_tree.specs.Tree.{ConcatPrim, ConcatTarget, BeginStmt, CaseStmt};
-ghost use Rattle.vlog_tree.specs.Plain.{plain_expr, plain_prim, plain_exprs, plain_target, plain_targets, plain_stmt, plain_stmts, plain_arms};
+ghost use Rattle.vlog_tree.specs.Plain.{plain_expr, plain_prim, plain_exprs, plain_target, plain_targets, plain_stmt, plain_stmts};
+ghost use Rattle.vlog_tree.specs.Plain.{plain_arms};
 ghost use Rattle.vlog_tree.specs.declared.expr.Primary as declared_prim;
 ghost use Rattle.vlog_tree.specs.declared.stmt.Target as declared_target;
 ghost use Rattle.vlog_tree.specs.declared.stmt.Stmt as declared_stmt;

@@ -32,7 +32,8 @@ overflow_add-at g c =
 pub loop-c-preserved : goal.loop-c-preserved
 loop-c-preserved g c =
     fill-more c.args.channels.now c.args.plugs.now c.args.offers.now
-    (outputs (g.B.Block.design c.args.block.now) (g.B.Block.shown c.args.block.now)) c.loop-c.contents c.fill_content.new.contents c.loop-c.c
+    (outputs (g.B.Block.design c.args.block.now)
+    (g.B.Block.shown c.args.block.now)) c.loop-c.contents c.fill_content.new.contents c.loop-c.c
     c.loop-c.at _ c.index-channels-c.result c.index-plugs-c.result c.requires.offers.contents c.requires.zeros c.loop-c-test.true
     c.requires.plugs.many c.index-channels-c.is c.index-plugs-c.is
     (plug-shown _ c.args.channels.now c.args.plugs.now c.requires.plugs c.loop-c.c c.index-channels-c.result

@@ -1,4 +1,4 @@
-use Rattle.std.proofs.Common.{◌≡◌, List, None, ◌+◌, length, slice_index, refl, ap, sym, subst, ◌∙◌}
+use Rattle.std.proofs.Common.{List, None, ◌+◌, length, slice_index, refl, ap, sym, subst, ◌∙◌}
 use Rattle.std.proofs.lemmas.List.{length_push}
 use Rattle.std.proofs.lemmas.Option.{slice_get_read}
 use Rattle.trace_model.specs.declared.row.Row.{Row}
@@ -20,7 +20,8 @@ loop-t-init g c =
       run = λ d s before is.
           (let first = c.reset.ensures.first d s before is in (
             first.0,
-            subst (λ (rs : List Row). Grown d m (IsRunRow m.channels (offers_by c.args.offers.now) (GatesOf (gates_by c.args.gates.now))) rs first.0)
+            subst (λ (rs : List Row). Grown d m (IsRunRow m.channels (offers_by c.args.offers.now) (GatesOf
+                (gates_by c.args.gates.now))) rs first.0)
                 (sym c.new-rows.ensures)
                 (played-nil d m (IsRunRow m.channels (offers_by c.args.offers.now) (GatesOf (gates_by c.args.gates.now))) first.0 first.1),
             subst (λ (rs : List Row). runs d first.0 (row_before rs (length rs))) (sym c.new-rows.ensures) first.2,
@@ -41,7 +42,8 @@ loop-t-preserved g c =
     record {
       run = λ d s before is.
           (let w = inv.run d s before is in
-          turned (g.S.Shell.runs c.cycle.new.shell) d m (g.S.Shell.map c.loop-t.shell) c.args.offers.now c.args.gates.now rows c.push.new.self
+          turned (g.S.Shell.runs c.cycle.new.shell) d m
+          (g.S.Shell.map c.loop-t.shell) c.args.offers.now c.args.gates.now rows c.push.new.self
           w.0 offer (slice_index c.args.gates.now c.loop-t.t) row inv.map w.1
           (c.in_ok-row.ensures.turn d w.0 (row_before rows (length rows)) w.2)
           (offer-here c.args.offers.now rows c.loop-t.t offer inv.count there) (ap (slice_index c.args.gates.now) (sym inv.count))

@@ -19,4 +19,5 @@ pub returns-clause-no_order : goal.returns-clause-no_order
 returns-clause-no_order c =
     let d = c.args.design.now in
     let g = c.args.graph.now in
-    if_err (λ e. IsLoopError (Points g) e) (λ e. IsLoopError (Reads d) e) c.sorted.result (error_of d g c.requires) c.sorted.ensures.no_order
+    if_err (λ e. IsLoopError (Points g) e) (λ e. IsLoopError (Reads d) e) c.sorted.result
+    (error_of d g c.requires) c.sorted.ensures.no_order

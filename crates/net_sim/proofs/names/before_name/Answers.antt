@@ -9,7 +9,8 @@ returns-in-Some c =
     let rest = c.in-Some.rest.now in
     match_map ((front : List ℕ) → rest ≡ front ++ name → ⊥) ((front : List ℕ) → text ≡ front ++ (name ++ 46 ∷ []) → ⊥)
     (λ front. rest ≡ front.now ++ name) (λ front. text ≡ front.now ++ (name ++ 46 ∷ [])) c.before-in-Some.result
-    (no_name text rest name c.in-Some.ensures) (λ front h. name_and_dot text rest front.now name c.in-Some.ensures h) c.before-in-Some.ensures
+    (no_name text rest name c.in-Some.ensures) (λ front h. name_and_dot text rest front.now name c.in-Some.ensures h)
+    c.before-in-Some.ensures
 
 pub returns-in-None : goal.returns-in-None
 returns-in-None c = no_dot c.args.text.now c.args.name.now c.in-None.ensures

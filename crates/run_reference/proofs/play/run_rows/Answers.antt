@@ -17,9 +17,11 @@ loop-t-init g c =
     let m = c.args.map.now in
     let s = g.B.Block.state c.reset.new.block in
     record {
-      grown = subst (λ (rs : List Row). Grown d m (IsRunRow m.channels (offers_by c.args.offers.now) (GatesOf (gates_by c.args.gates.now))) rs s)
+      grown = subst (λ (rs : List Row). Grown d m (IsRunRow m.channels (offers_by c.args.offers.now) (GatesOf
+          (gates_by c.args.gates.now))) rs s)
           (sym c.new-rows.ensures)
-          (played-nil d m (IsRunRow m.channels (offers_by c.args.offers.now) (GatesOf (gates_by c.args.gates.now))) s c.in_ok-reset.ensures.state);
+          (played-nil d m (IsRunRow m.channels (offers_by c.args.offers.now) (GatesOf
+          (gates_by c.args.gates.now))) s c.in_ok-reset.ensures.state);
       design = c.reset.ensures.design;
       count = ap length c.new-rows.ensures;
     }
@@ -49,7 +51,8 @@ loop-t-preserved g c =
     (offer-here c.args.offers.now rows c.loop-t.t offer inv.count there) (ap (slice_index c.args.gates.now) (sym inv.count)) st
     c.in_ok-row.ensures.gates in
     record {
-      grown = subst (λ (rs : List Row). Grown d m (IsRunRow m.channels (offers_by c.args.offers.now) (GatesOf (gates_by c.args.gates.now))) rs after)
+      grown = subst (λ (rs : List Row). Grown d m (IsRunRow m.channels (offers_by c.args.offers.now) (GatesOf
+          (gates_by c.args.gates.now))) rs after)
           (sym c.in_ok-push.ensures.ok) grown;
       design = c.step.ensures.design ∙ inv.design;
       count = ap length c.in_ok-push.ensures.ok ∙ length_push rows row ∙ ap (λ n. n + 1) inv.count;

@@ -20,12 +20,14 @@ returns-clause-step g c =
     let m = c.args.map.now in
     let pins = c.as_slice.result.now in
     let v = g.B.Block.shown c.settle.new.self in
-    let x = settles d (g.B.Block.design c.settle.new.self) c.settle.ensures.design s (g.B.Block.state c.settle.new.self) c.settle.ensures.state
+    let x = settles d (g.B.Block.design c.settle.new.self) c.settle.ensures.design s
+    (g.B.Block.state c.settle.new.self) c.settle.ensures.state
     pins (g.B.Block.inputs c.settle.new.self) c.settle.ensures.inputs v (g.B.Block.state c.clock.new.self) c.settle.ensures.settled
     c.clock.ensures.state in
     let are : ArePins d m false (asked c.args.offers.now c.args.gates) pins =
     subst (λ (r : Row). ArePins d m false r pins) c.in_ok-asked.ensures
-    (subst (λ (ps : List ℕ). ArePins d m false c.in_ok-asked.asked ps) (sym c.as_slice.ensures) (c.in_ok-pins.ensures d c.requires.mapped)) in
+    (subst (λ (ps : List ℕ). ArePins d m false c.in_ok-asked.asked ps) (sym c.as_slice.ensures)
+    (c.in_ok-pins.ensures d c.requires.mapped)) in
     (stepped d m c.requires.nets c.requires.mapped (row_before c.args.before.now (length c.args.before.now)) c.args.offers.now
     c.requires.offers c.args.gates c.requires.gates s pins v (g.B.Block.state c.clock.new.self) are x
     (g.B.Block.design c.settle.new.self) c.settle.ensures.design c.in_ok-row.row c.in_ok-row.ensures).step
@@ -37,12 +39,14 @@ returns-clause-over g c =
     let m = c.args.map.now in
     let pins = c.as_slice.result.now in
     let v = g.B.Block.shown c.settle.new.self in
-    let x = settles d (g.B.Block.design c.settle.new.self) c.settle.ensures.design s (g.B.Block.state c.settle.new.self) c.settle.ensures.state
+    let x = settles d (g.B.Block.design c.settle.new.self) c.settle.ensures.design s
+    (g.B.Block.state c.settle.new.self) c.settle.ensures.state
     pins (g.B.Block.inputs c.settle.new.self) c.settle.ensures.inputs v (g.B.Block.state c.clock.new.self) c.settle.ensures.settled
     c.clock.ensures.state in
     let are : ArePins d m false (asked c.args.offers.now c.args.gates) pins =
     subst (λ (r : Row). ArePins d m false r pins) c.in_ok-asked.ensures
-    (subst (λ (ps : List ℕ). ArePins d m false c.in_ok-asked.asked ps) (sym c.as_slice.ensures) (c.in_ok-pins.ensures d c.requires.mapped)) in
+    (subst (λ (ps : List ℕ). ArePins d m false c.in_ok-asked.asked ps) (sym c.as_slice.ensures)
+    (c.in_ok-pins.ensures d c.requires.mapped)) in
     (stepped d m c.requires.nets c.requires.mapped (row_before c.args.before.now (length c.args.before.now)) c.args.offers.now
     c.requires.offers c.args.gates c.requires.gates s pins v (g.B.Block.state c.clock.new.self) are x
     (g.B.Block.design c.settle.new.self) c.settle.ensures.design c.in_ok-row.row c.in_ok-row.ensures).over
@@ -54,12 +58,14 @@ returns-clause-marked g c =
     let m = c.args.map.now in
     let pins = c.as_slice.result.now in
     let v = g.B.Block.shown c.settle.new.self in
-    let x = settles d (g.B.Block.design c.settle.new.self) c.settle.ensures.design s (g.B.Block.state c.settle.new.self) c.settle.ensures.state
+    let x = settles d (g.B.Block.design c.settle.new.self) c.settle.ensures.design s
+    (g.B.Block.state c.settle.new.self) c.settle.ensures.state
     pins (g.B.Block.inputs c.settle.new.self) c.settle.ensures.inputs v (g.B.Block.state c.clock.new.self) c.settle.ensures.settled
     c.clock.ensures.state in
     let are : ArePins d m false (asked c.args.offers.now c.args.gates) pins =
     subst (λ (r : Row). ArePins d m false r pins) c.in_ok-asked.ensures
-    (subst (λ (ps : List ℕ). ArePins d m false c.in_ok-asked.asked ps) (sym c.as_slice.ensures) (c.in_ok-pins.ensures d c.requires.mapped)) in
+    (subst (λ (ps : List ℕ). ArePins d m false c.in_ok-asked.asked ps) (sym c.as_slice.ensures)
+    (c.in_ok-pins.ensures d c.requires.mapped)) in
     (stepped d m c.requires.nets c.requires.mapped (row_before c.args.before.now (length c.args.before.now)) c.args.offers.now
     c.requires.offers c.args.gates c.requires.gates s pins v (g.B.Block.state c.clock.new.self) are x
     (g.B.Block.design c.settle.new.self) c.settle.ensures.design c.in_ok-row.row c.in_ok-row.ensures).marked
@@ -71,12 +77,14 @@ returns-clause-carried g c =
     let m = c.args.map.now in
     let pins = c.as_slice.result.now in
     let v = g.B.Block.shown c.settle.new.self in
-    let x = settles d (g.B.Block.design c.settle.new.self) c.settle.ensures.design s (g.B.Block.state c.settle.new.self) c.settle.ensures.state
+    let x = settles d (g.B.Block.design c.settle.new.self) c.settle.ensures.design s
+    (g.B.Block.state c.settle.new.self) c.settle.ensures.state
     pins (g.B.Block.inputs c.settle.new.self) c.settle.ensures.inputs v (g.B.Block.state c.clock.new.self) c.settle.ensures.settled
     c.clock.ensures.state in
     let are : ArePins d m false (asked c.args.offers.now c.args.gates) pins =
     subst (λ (r : Row). ArePins d m false r pins) c.in_ok-asked.ensures
-    (subst (λ (ps : List ℕ). ArePins d m false c.in_ok-asked.asked ps) (sym c.as_slice.ensures) (c.in_ok-pins.ensures d c.requires.mapped)) in
+    (subst (λ (ps : List ℕ). ArePins d m false c.in_ok-asked.asked ps) (sym c.as_slice.ensures)
+    (c.in_ok-pins.ensures d c.requires.mapped)) in
     (stepped d m c.requires.nets c.requires.mapped (row_before c.args.before.now (length c.args.before.now)) c.args.offers.now
     c.requires.offers c.args.gates c.requires.gates s pins v (g.B.Block.state c.clock.new.self) are x
     (g.B.Block.design c.settle.new.self) c.settle.ensures.design c.in_ok-row.row c.in_ok-row.ensures).carried

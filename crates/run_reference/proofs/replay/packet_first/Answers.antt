@@ -13,7 +13,13 @@ overflow_add-first c =
 
 pub loop-i-preserved : goal.loop-i-preserved
 loop-i-preserved c = record {
-  sum = omega (arith, c.loop-i.invariant.sum, c.ports_if-first.ensures, under-suc c.args.starts c.args.channels.now c.loop-i.i (omega arith));
+  sum = omega (
+    arith,
+    c.loop-i.invariant.sum,
+    c.ports_if-first.ensures,
+    under-suc c.args.starts c.args.channels.now c.loop-i.i
+        (omega arith),
+  );
   few = omega (
     arith,
     c.loop-i.invariant.few,

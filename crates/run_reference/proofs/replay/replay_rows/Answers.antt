@@ -30,7 +30,8 @@ step-requires-clause-offers g c =
     let cs = c.as_slice-channels.result.now in
     let ps = c.args.packets.now in
     let is : c.in_ok-offers.offers ≡ feed m.channels ps c.loop-t.rows = c.in_ok-offers.ensures
-    ∙ ap (λ (xs : List Channel). feed xs ps c.as_slice.result.now) c.as_slice-channels.ensures ∙ ap (feed m.channels ps) c.as_slice.ensures in
+    ∙ ap (λ (xs : List Channel). feed xs ps c.as_slice.result.now) c.as_slice-channels.ensures
+    ∙ ap (feed m.channels ps) c.as_slice.ensures in
     subst (AreOffers m.channels) (sym is) (feed-over m.channels ps c.loop-t.rows c.requires.packets)
 
 pub loop-t-preserved : goal.loop-t-preserved
@@ -46,7 +47,8 @@ loop-t-preserved g c =
     let offers = c.in_ok-offers.offers in
     let gates = c.all_up-gates.result in
     let is : offers ≡ feed m.channels ps rows = c.in_ok-offers.ensures
-    ∙ ap (λ (xs : List Channel). feed xs ps c.as_slice.result.now) c.as_slice-channels.ensures ∙ ap (feed m.channels ps) c.as_slice.ensures in
+    ∙ ap (λ (xs : List Channel). feed xs ps c.as_slice.result.now) c.as_slice-channels.ensures
+    ∙ ap (feed m.channels ps) c.as_slice.ensures in
     let marked : IsMarked (row_before rows (length rows)) row =
     subst (λ (rs : List Row). IsMarked (row_before rs (length rs)) row) c.as_slice-in-loop-t.ensures c.in_ok-row.ensures.marked in
     let made : IsStep d m s row after = subst (λ e. IsStep e m s row after) inv.design c.in_ok-row.ensures.step in

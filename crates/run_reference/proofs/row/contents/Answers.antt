@@ -6,7 +6,8 @@ use Rattle.run_reference.proofs.row.contents.Goals as goal
 
 pub loop-c-preserved : goal.loop-c-preserved
 loop-c-preserved g c =
-    let f = content_here c.args.map.now c.args.offers.now (outputs (g.B.Block.design c.args.block.now) (g.B.Block.shown c.args.block.now)) in
+    let f = content_here c.args.map.now c.args.offers.now (outputs (g.B.Block.design c.args.block.now)
+    (g.B.Block.shown c.args.block.now)) in
     let cs = c.args.map.now.channels in
     ap (λ xs. xs ++ joined f (c.loop-c.c + 1) (drop (c.loop-c.c + 1) cs)) c.in_ok-push_content.ensures
     ∙ append_assoc c.loop-c.out (f c.loop-c.c) (joined f (c.loop-c.c + 1) (drop (c.loop-c.c + 1) cs))

@@ -13,4 +13,5 @@ push_outputs-requires g c =
     (sym c.in-Some-get.ensures) in
     let all = content-pins d c.in-Some.channel.now c.in-Some-get.plug.now is c.in-Outward.is in
     subst (λ ws. AllZip (λ width pin. IsPin d Output width pin) ws c.as_slice-in-Outward.result.now) (sym c.as_slice-in-Outward-2.ensures)
-    (subst (λ (ps : List Pin). AllZip (λ width pin. IsPin d Output width pin) c.in-Some.channel.now.widths ps) (sym c.as_slice-in-Outward.ensures) all)
+    (subst (λ (ps : List Pin). AllZip (λ width pin. IsPin d Output width pin) c.in-Some.channel.now.widths ps)
+    (sym c.as_slice-in-Outward.ensures) all)

@@ -6,4 +6,5 @@ use Rattle.run_reference.proofs.row.valids.Goals as goal
 
 pub with_bit-mask-requires-clause-below : goal.with_bit-mask-requires-clause-below
 with_bit-mask-requires-clause-below g c = subst (λ (n : ℕ). n < 2 ^ c.loop-c.c) (sym c.loop-c.invariant)
-    (mask-below (valid_at c.args.map.now c.args.offers.now (outputs (g.B.Block.design c.args.block.now) (g.B.Block.shown c.args.block.now))) c.loop-c.c)
+    (mask-below (valid_at c.args.map.now c.args.offers.now (outputs (g.B.Block.design c.args.block.now)
+    (g.B.Block.shown c.args.block.now))) c.loop-c.c)

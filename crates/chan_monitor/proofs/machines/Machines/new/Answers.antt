@@ -35,6 +35,7 @@ returns-clause-runs g c =
           (sym (refill-is c.in_ok-pins.pins c.hold.new.pins (c.hold.auto.pins ∙ ap length c.as_mut_slice.ensures.value)))
           (held-from d m silent c.hold.new.pins
           (held-pins d m c.requires.mapped false (length c.as_mut_slice.result.now) c.hold.new.pins long c.hold.ensures));
-      flight = subst (λ k. AreMonitors (length m.channels) k None) (sym (c.in_ok-monitors.ensures ∙ ap (λ n. replicate n false) c.len.ensures))
+      flight = subst (λ k. AreMonitors (length m.channels) k None) (sym (c.in_ok-monitors.ensures
+          ∙ ap (λ n. replicate n false) c.len.ensures))
           (all-idle (length m.channels));
     }

@@ -1,8 +1,6 @@
 use Rattle.std.proofs.Common.{Some, length, ap, sym, subst, ◌∙◌}
-use Rattle.net_design.specs.Pins.{outputs}
-use Rattle.run_model.specs.Building.{row_of}
 use Rattle.chan_monitor.specs.Around.{AreHeld, AreMonitors}
-use Rattle.chan_monitor.proofs.RowOfCycle.{cycle-is, cycle-of, driven-of, held-of, ready-of, refill-is}
+use Rattle.chan_monitor.proofs.RowOfCycle.{cycle-in, cycle-of, driven-of, held-of, ready-of, refill-is}
 use Rattle.chan_monitor.proofs.machines.MachinesShell.drive.Goals as goal
 
 pub returns-clause-row : goal.returns-clause-row
@@ -12,11 +10,12 @@ returns-clause-row g c d s before is =
     let flight = subst (λ k. AreMonitors (length m.channels) k before) (sym c.as_slice-monitors.ensures) is.flight in
     (cycle-of (g.B.Block.design c.args.self.now.block) d m (g.B.Block.state c.args.self.now.block) s before c.args.offers.now c.args.gates
     c.settle_offers.new.pins v c.show.new.row is.design_is is.state_is
-    (cycle-is (g.B.Block.design c.args.self.now.block) m (g.B.Block.state c.args.self.now.block) before c.args.offers.now c.args.gates
-    c.settle_offers.new.pins v c.show.new.row (ready-of (g.B.Block.design c.args.self.now.block) d m is.design_is is.ready)
+    (cycle-in (g.B.Block.design c.args.self.now.block) (g.B.Block.design c.settle_offers.new.block) m
+    (g.B.Block.state c.args.self.now.block) before c.args.offers.now c.args.gates
+    c.settle_offers.new.pins v c.show.new.row c.settle_offers.ensures.design (ready-of
+    (g.B.Block.design c.args.self.now.block) d m is.design_is is.ready)
     c.requires.offers c.requires.zeros c.requires.gates c.settle_offers.ensures.entered c.settle_offers.ensures.settled
-    (c.show.ensures.row before flight
-    ∙ ap (λ e. row_of m before c.args.offers.now c.args.gates (outputs e v)) c.settle_offers.ensures.design))).shown
+    (c.show.ensures.row before flight))).shown
 
 pub returns-clause-runs : goal.returns-clause-runs
 returns-clause-runs g c d s before is =
@@ -42,9 +41,9 @@ returns-clause-driven g c =
     (g.B.Block.state c.args.self.now.block) (g.B.Block.state c.settle_offers.new.block)
     c.settle_offers.new.pins (g.B.Block.inputs c.settle_offers.new.block) v m _ (Some c.show.result) c.show.new.row
     c.settle_offers.ensures.design c.settle_offers.ensures.state c.settle_offers.ensures.inputs (ap Some c.show.ensures.masks)
-    (cycle-is (g.B.Block.design c.args.self.now.block) m (g.B.Block.state c.args.self.now.block) before c.args.offers.now c.args.gates
-    c.settle_offers.new.pins v c.show.new.row
+    (cycle-in (g.B.Block.design c.args.self.now.block) (g.B.Block.design c.settle_offers.new.block) m
+    (g.B.Block.state c.args.self.now.block) before c.args.offers.now c.args.gates
+    c.settle_offers.new.pins v c.show.new.row c.settle_offers.ensures.design
     (ready-of (g.B.Block.design c.args.self.now.block) c.requires.running.0 m is.design_is is.ready)
     c.requires.offers c.requires.zeros c.requires.gates c.settle_offers.ensures.entered c.settle_offers.ensures.settled
-    (c.show.ensures.row before flight
-    ∙ ap (λ e. row_of m before c.args.offers.now c.args.gates (outputs e v)) c.settle_offers.ensures.design)).driven
+    (c.show.ensures.row before flight)).driven

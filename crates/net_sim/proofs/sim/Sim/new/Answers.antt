@@ -22,7 +22,8 @@ invariant_of-result c =
       is_state = subst (IsState d) (sym c.in_ok-state.ensures) (initial_state d law);
       are_pins = zeros_fit d c.in_ok-pins.pins (c.in_ok-pins.ensures
           ∙ ap (λ n. replicate n 0)
-          (c.len.ensures ∙ ap length c.in_ok-inputs.ensures ∙ ap (λ (ports : List Port). length (port_places Input 0 ports)) c.as_slice.ensures
+          (c.len.ensures ∙ ap length c.in_ok-inputs.ensures ∙ ap (λ (ports : List Port). length
+          (port_places Input 0 ports)) c.as_slice.ensures
           ∙ inputs_counted d));
       are_outputs = c.in_ok-outputs.ensures ∙ ap (λ (ports : List Port). port_places Output 0 ports) c.as_slice-2.ensures;
       shown_nets = ap (λ (v : Values). length v.nets) same;

@@ -47,8 +47,10 @@ invariant_of-self c =
       is_state = state;
       are_pins = s.are_pins;
       are_outputs = s.are_outputs;
-      shown_nets = shown_nets d s.lawful s.order.drivers s.ordered s.state s.pins s.is_state s.are_pins shown e c.run_blocks.new.state state;
-      shown_words = shown_words d s.lawful s.order.drivers s.ordered s.state s.pins s.is_state s.are_pins shown e c.run_blocks.new.state state;
+      shown_nets = shown_nets d s.lawful s.order.drivers s.ordered s.state s.pins s.is_state s.are_pins shown e c.run_blocks.new.state
+          state;
+      shown_words = shown_words d s.lawful s.order.drivers s.ordered s.state s.pins s.is_state s.are_pins shown e
+          c.run_blocks.new.state state;
       room = ap length (with_items_is s.late c.settle_again.new.late (omega (arith, long, s.room, s.late.ok.0))) ∙ long;
       settled = λ t. absurd cc;
     }

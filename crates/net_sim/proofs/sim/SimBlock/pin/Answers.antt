@@ -22,4 +22,5 @@ returns c =
     let inside : c.args.port < length (port_places Output 0 ports) = omega (arith, n, c.requires) in
     c.number_at.ensures
     ∙ ap (λ (ps : List ℕ). slice_index s.shown.nets (slice_index ps c.args.port)) e
-    ∙ sym (pins_at Output ports 0 s.shown.nets s.shown.nets refl (omega (arith, few, s.shown_nets, s.is_state.nets.long)) c.args.port inside)
+    ∙ sym (pins_at Output ports 0 s.shown.nets s.shown.nets refl (omega
+    (arith, few, s.shown_nets, s.is_state.nets.long)) c.args.port inside)

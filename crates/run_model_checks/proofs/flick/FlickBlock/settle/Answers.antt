@@ -6,4 +6,5 @@ use Rattle.run_model_checks.proofs.flick.FlickBlock.settle.Goals as goal
 
 pub returns-clause-only : goal.returns-clause-only
 returns-clause-only c = λ v h. one-map_at c.args.self.now.t c.args.self.now.u (slice_index c.args.pins.now 1 == 1) v
-    (subst (λ (ps : List ℕ). IsSettled flick (flick_state c.args.self.now.t c.args.self.now.u) ps v) (ready-is c.args.pins.now c.requires) h)
+    (subst (λ (ps : List ℕ). IsSettled flick (flick_state c.args.self.now.t c.args.self.now.u) ps v)
+    (ready-is c.args.pins.now c.requires) h)

@@ -1,5 +1,7 @@
-use Rattle.std.proofs.Common.{List, [], ◌∷◌, ℕ, sym, ◌∙◌, ap, codes}
+use Rattle.std.proofs.Common.{◌≡◌, List, [], ◌∷◌, ℕ, sym, ◌∙◌, ap, codes, subst}
+use Rattle.std.specs.Prelude.{MatchOption}
 use Rattle.std.specs.Cmp.Lexicographic.{same_text}
+use Rattle.vidi.specs.Command.{Command, IsGiven, plain}
 use Rattle.vidi.proofs.WordLists.{two, three}
 use Rattle.vidi.proofs.command.Command.of.Goals as goal
 
@@ -13,10 +15,12 @@ returns-in-len2 c =
 
 pub returns-in-len3 : goal.returns-in-len3
 returns-in-len3 c =
-    let shape = three c.as_slice.result.now c.name-item-then-this-lt4.result c.design-item.result c.top-item.result c.in-len3.len_at_least
-    c.in-len3.len_below c.name-item-then-this-lt4.is c.design-item.is c.top-item.is in
-    let name = same_text _ _ (sym c.if-eq-2.true ∙ c.eq-then-this-lt4.ensures) in
-    sym c.as_slice.ensures ∙ shape ∙ ap (λ (x : List ℕ). x ∷ c.design-item.result ∷ c.top-item.result ∷ [])
-    (sym c.as_str-then-this-lt4.ensures ∙ name)
-    ∙ ap (λ (x : List ℕ). codes "check" ∷ x ∷ c.top-item.result ∷ []) (sym c.as_str-in-len3.ensures)
-    ∙ ap (λ (x : List ℕ). codes "check" ∷ c.as_str-in-len3.result.now ∷ x ∷ []) (sym c.as_str-in-len3-2.ensures)
+    let shape = three c.as_slice.result.now c.name-item-then-this-lt4.result c.first-item.result c.second-item.result
+    c.in-len3.len_at_least c.in-len3.len_below c.name-item-then-this-lt4.is c.first-item.is c.second-item.is in
+    let parts : c.as_str-in-len3.result.now ∷ c.as_str-in-len3-2.result.now ∷ c.as_str-in-len3-3.result.now ∷ []
+    ≡ c.name-item-then-this-lt4.result ∷ c.first-item.result ∷ c.second-item.result ∷ [] =
+    λ i. c.as_str-in-len3.ensures i ∷ c.as_str-in-len3-2.ensures i ∷ c.as_str-in-len3-3.ensures i ∷ [] in
+    let whole : c.as_str-in-len3.result.now ∷ c.as_str-in-len3-2.result.now ∷ c.as_str-in-len3-3.result.now ∷ [] ≡ c.args.words.now =
+    parts ∙ sym shape ∙ c.as_slice.ensures in
+    subst (λ (ws : List (List ℕ)). MatchOption c.of_two.result ((k : Command) → ¬ IsGiven ws k) (λ k. IsGiven ws (plain k))) whole
+    c.of_two.ensures

@@ -1,0 +1,7 @@
+//! Tests of the order of drivers and of the simulator, on a lawful design made by hand.
+#![tactic(auto)]
+
+#[cfg(test)]
+mod example;
+#[cfg(test)]
+mod tests;

@@ -1,0 +1,93 @@
+//! The order of the example's drivers, and some cycles of it.
+//!
+//! `assign y = t` stands before the `always @*` that gives t the number of q; q becomes d at each clock, and is 2 at first.
+
+ghost use Rattle.std.specs.Prelude.{◌≡◌, ◌<◌, IfOk};
+ghost use Rattle.net_design.specs.Example.{example};
+
+use crate::example::example;
+use net_design::{Block, lawful_design_shown};
+use net_order::{OrderError, order};
+use net_sim::Sim;
+use std::alloc::Global;
+
+/// The example, in its initial state.
+fn start(alloc: Global) -> Result<Sim, OrderError>
+    ensures { IfOk result (λ sim. sim.design ≡ example) }
+{
+    lawful_design_shown();
+    let design = example(alloc)?;
+    let order = order(alloc, &design)?;
+    let sim = Sim::new(alloc, design, order)?;
+    Ok(sim)
+}
+
+/// The number of y where d has this number.
+fn y_at(sim: &mut Sim, d: u128) -> u128
+    requires design { sim.old.design ≡ example }
+    requires fits { d < 4 }
+    ensures { sim.new.design ≡ example }
+{
+    sim.settle(&[0, d]);
+    sim.pin(0)
+}
+
+/// Whether the order is that of the reads and not of the text.
+fn is_ordered(alloc: Global) -> Result<bool, OrderError> {
+    lawful_design_shown();
+    let design = example(alloc)?;
+    let order = order(alloc, &design)?;
+    Ok(order.drivers.as_slice() == [1, 0].as_slice())
+}
+
+#[test]
+fn drivers_follow_what_they_read(rt: HostRuntime) {
+    let ordered = is_ordered(rt.alloc()).unwrap_or(false);
+    assert!(rt; ordered);
+}
+
+/// The numbers of y in some cycles: with q at first, after a clock, after a clock that follows a clock, and after `load`.
+fn cycles(sim: &mut Sim) -> [u128; 5]
+    requires { sim.old.design ≡ example }
+{
+    let first = y_at(sim, 3);
+    sim.clock();
+    let second = y_at(sim, 1);
+    sim.clock();
+    sim.clock();
+    let third = y_at(sim, 2);
+    sim.load();
+    let loaded = y_at(sim, 3);
+    sim.load();
+    sim.clock();
+    let last = y_at(sim, 3);
+    [first, second, third, loaded, last]
+}
+
+/// Whether nets have the numbers that they settle to, by name.
+fn nets_are_found(sim: &mut Sim) -> bool
+    requires { sim.old.design ≡ example }
+    ensures { sim.new.design ≡ example }
+{
+    let y = y_at(sim, 3);
+    y == 2
+        && sim.net(b"t") == Some(2)
+        && sim.net(b"d") == Some(3)
+        && sim.net(b"c") == Some(0)
+        && sim.net(b"u.t").is_none()
+        && sim.net(b"u").is_none()
+        && sim.net(b"").is_none()
+}
+
+fn all_is_well(alloc: Global) -> Result<bool, OrderError> {
+    let mut sim = start(alloc)?;
+    let found = nets_are_found(&mut sim);
+    let numbers = cycles(&mut sim);
+    Ok(found && numbers == [2, 3, 1, 2, 0])
+}
+
+#[test]
+fn a_design_runs(rt: HostRuntime) {
+    let well = all_is_well(rt.alloc()).unwrap_or(false);
+    assert!(rt; well);
+}

@@ -1,0 +1,77 @@
+//! The lines of findings.
+
+ghost use Rattle.std.specs.Prelude.{◌≡◌, ◌++◌, OnOk, IfOk, codes};
+ghost use Rattle.report_text.specs.Report as said;
+
+use crate::text::{put, put_number};
+use std::alloc::Global;
+use trace_compare::{Finding, Report, What};
+use trace_model::{Channel, Channels};
+use vidi_bits::{Bytes, Memory};
+
+/// The lines of findings on these channels, one each.
+pub fn report_lines(alloc: Global, report: &Report, channels: &Channels) -> Result<Bytes, Memory>
+    ensures { IfOk result (λ text. text ≡ said.report_lines report.now channels.now) }
+{
+    let mut text = Vec::new(alloc);
+    for finding in report.as_slice() {
+        put_finding(&mut text, finding, channels.as_slice())?;
+    }
+    Ok(Bytes::from_vec(text))
+}
+
+/// Adds the line of a finding.
+fn put_finding(text: &mut Vec<u8>, finding: &Finding, channels: &[Channel]) -> Result<(), Memory>
+    ensures { OnOk result (text.new.items ≡ text.old.items ++ said.finding_line channels.now finding.now) }
+{
+    put(text, verb(finding.what))?;
+    put(text, name_of(channels, finding.channel))?;
+    put(text, event(finding.what))?;
+    put_number(text, finding.index)?;
+    put_count(text, finding.what, finding.count)?;
+    put(text, b"\n")
+}
+
+fn verb(what: What) -> &'static [u8]
+    ensures { result.now ≡ said.verb what }
+{
+    match what {
+        What::Differs => b"differs ",
+        What::MissingStart | What::MissingEnd => b"missing ",
+        What::ExtraStart | What::ExtraEnd => b"extra ",
+        What::EarlyStart | What::EarlyEnd => b"early ",
+    }
+}
+
+fn event(what: What) -> &'static [u8]
+    ensures { result.now ≡ said.event what }
+{
+    match what {
+        What::MissingEnd | What::ExtraEnd | What::EarlyEnd => b" end ",
+        What::Differs | What::MissingStart | What::ExtraStart | What::EarlyStart => b" start ",
+    }
+}
+
+/// The name of a channel; none where there is no such channel.
+fn name_of(channels: &[Channel], channel: usize) -> &[u8]
+    ensures { result.now ≡ said.name_of channels.now channel }
+{
+    if channel < channels.len() {
+        channels[channel].name.as_slice()
+    } else {
+        &[]
+    }
+}
+
+/// Adds how many events are early.
+fn put_count(text: &mut Vec<u8>, what: What, count: u32) -> Result<(), Memory>
+    ensures { OnOk result (text.new.items ≡ text.old.items ++ said.count_text what count) }
+{
+    match what {
+        What::EarlyStart | What::EarlyEnd => {
+            put(text, b" count ")?;
+            put_number(text, count)
+        }
+        _ => Ok(()),
+    }
+}

@@ -1,0 +1,6 @@
+pub mod Counting
+pub mod Reach
+pub mod Kept
+pub mod Moves
+mod Examples
+pub mod Said

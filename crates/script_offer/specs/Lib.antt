@@ -1,0 +1,4 @@
+pub mod Offer
+pub mod ScriptOffer
+pub mod Places
+pub mod Laws

@@ -1,0 +1,4 @@
+pub mod Fitting
+pub mod Draining
+pub mod Props
+mod Examples

@@ -1,0 +1,28 @@
+-- A file that is started, and whose one piece is cut off.
+use Rattle.std.proofs.Common.{◌≡◌, ℕ, List, [], Option, Result, Ok, Err, OnOk, OnErr, take, inl, inr, ap, ◌∙◌}
+use Rattle.vidi_io.specs.Shelf.{Files, holding, emptied, appended, GrewBySome}
+use Rattle.vidi_io.specs.Writing.{IsCutOff}
+use Rattle.vidi_io.proofs.Started.{appended-holding}
+
+-- the append failed
+pub cut-at_piece : (old mid new : Option Files) (name bytes : List ℕ) → mid ≡ emptied old name → GrewBySome mid new name bytes
+    → IsCutOff old name bytes new
+cut-at_piece old mid new name bytes started (inl same) = inr (0, same ∙ started)
+cut-at_piece old mid new name bytes started (inr (k, grew)) = inr (
+  k,
+  grew ∙ ap (λ (fs : Option Files). appended fs name (take k bytes)) started ∙ appended-holding old name [] (take k bytes),
+)
+
+-- it was written whole
+pub written-whole : (old mid new : Option Files) (name bytes : List ℕ) → mid ≡ emptied old name → new ≡ appended mid name bytes
+    → new ≡ holding old name bytes
+written-whole old mid new name bytes started grew =
+    grew ∙ ap (λ (fs : Option Files). appended fs name bytes) started ∙ appended-holding old name [] bytes
+
+pub on_ok : {X E P Q : Type 0} (r : Result X E) → (P → Q) → OnOk r P → OnOk r Q
+on_ok (Ok x) f p = f p
+on_ok (Err e) f p = p
+
+pub on_err : {X E P Q : Type 0} (r : Result X E) → (P → Q) → OnErr r P → OnErr r Q
+on_err (Ok x) f p = p
+on_err (Err e) f p = f p
