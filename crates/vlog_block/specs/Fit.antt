@@ -11,11 +11,11 @@ use Rattle.vlog_block.specs.declared.source.Source.TheVariants.{Net, Memory}
 use Rattle.vlog_block.specs.Sources.{source_of}
 use Rattle.vlog_block.specs.Value.{width_of, prim_width, picked}
 
--- a net or a memory of lawful width
-abbrev pub IsFitSource : Source → Type 0
-IsFitSource (Net span) = IsWidth span.width
-IsFitSource (Memory room n) = IsWidth n
-IsFitSource _ = Unit {0}
+-- a net or a memory of lawful width, whose brackets are fit; the brackets of anything else are passed over
+abbrev pub IsFitWith : Source → Type 0 → Type 0
+IsFitWith (Net span) Brackets = IsWidth span.width × Brackets
+IsFitWith (Memory room n) Brackets = IsWidth n × Brackets
+IsFitWith _ Brackets = Unit {0}
 
 abbrev mutual
   pub IsFit : Readable → ExprOf ℕ → Type 0
@@ -35,7 +35,7 @@ abbrev mutual
   AreFit r (MoreExprs e es) = (IsWidth (width_of r e) × IsFit r e) × AreFit r es
 
   pub IsFitRef : Readable → RefOf ℕ → Type 0
-  IsFitRef r (RefWith id index last) = IsFitSource (source_of r id.name) × (IsFitIndex r index × IsFitLast r last)
+  IsFitRef r (RefWith id index last) = IsFitWith (source_of r id.name) (IsFitIndex r index × IsFitLast r last)
 
   pub IsFitIndex : Readable → IndexOf ℕ → Type 0
   IsFitIndex r NoIndex = Unit {0}

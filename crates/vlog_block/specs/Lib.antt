@@ -1,5 +1,4 @@
 pub mod Sources
 pub mod Value
-pub mod Targets
-pub mod Bits
+pub mod Places
 pub mod Fit

@@ -7,6 +7,7 @@ use Rattle.vlog_size.specs.declared.scope.ScopeMemory.{ScopeMemory}
 use Rattle.vlog_size.specs.declared.scope.Scope.{Scope}
 use Rattle.vlog_size.specs.Table.{Named, value_of, place_of}
 use Rattle.vlog_size.specs.Names.{Readable, readable_of, checked}
+use Rattle.vlog_size.specs.Size.{or_zero}
 use Rattle.net_design.specs.Sized.{IsCountable}
 use Rattle.vlog_block.specs.declared.source.Source.{Source}
 use Rattle.vlog_block.specs.declared.source.Source.TheVariants.{Constant, Net, Memory, Nothing}
@@ -29,10 +30,10 @@ net_source k n = Net (record { net = k; low = 0; width = n.width })
 abbrev pub memory_source : List (Named ScopeMemory) → ℕ → ScopeMemory → Source
 memory_source memories k m = Memory (record { first = words_before memories k; length = m.length }) m.width
 
--- what stands at a place, where there is one; else the other
+-- what a name has, with its place, where it has something; else the other
 abbrev pub or_source : {V : Type 0} → (ℕ → V → Source) → Option ℕ → Option V → Source → Source
-or_source f (Some k) (Some x) other = f k x
-or_source f _ _ other = other
+or_source f k (Some x) other = f (or_zero k) x
+or_source f k None other = other
 
 -- a parameter's constant, else the other
 abbrev pub or_constant : Option Param → Source → Source

@@ -1,19 +1,19 @@
 //! The code of an expression.
 
-ghost use Rattle.std.specs.Prelude.{◌≡◌, ℕ, ◌≤◌, ◌+◌, ◌-◌, ◌<◌, ◌^◌, IfOk, IfSome, Some};
+ghost use Rattle.std.specs.Prelude.{◌≡◌, ℕ, ◌≤◌, ◌+◌, ◌-◌, ◌<◌, ◌^◌, [], IfOk, IfSome, Some};
 ghost use Rattle.vlog_operators.specs.Number.{IsWidth, part_of, side_by_side};
 ghost use Rattle.vlog_tree.specs.Tree.{Last};
 ghost use Rattle.vlog_tree.specs.Plain.{plain_expr, plain_prim, plain_unary, plain_ref, plain_sel, plain_index, plain_last, plain_exprs};
 ghost use Rattle.vlog_tree.specs.declared.expr.Ref.{back-Ref-index, back-Ref-sel};
 ghost use Rattle.vlog_size.specs.Operators.{kind_of, binary_value};
-ghost use Rattle.vlog_size.specs.Size.{sizes_of_all, total_width};
+ghost use Rattle.vlog_size.specs.Size.{sizes_of, faults, sizes_of_all, total_width};
 ghost use Rattle.net_design.specs.declared.values.Values.{Values};
 ghost use Rattle.net_design.specs.Value as code;
 ghost use Rattle.net_design.specs.Sized.{IsSizedRhs, IsCountable};
 ghost use Rattle.vlog_block.specs.declared.source.Source.TheVariants.{Memory as MemorySource};
 ghost use Rattle.vlog_block.specs.Sources.{names_of};
-ghost use Rattle.vlog_block.specs.Bits.{constant_index, constant_low};
-ghost use Rattle.vlog_block.specs.Fit.{IsFit, IsFitPrim, AreFit, IsFitRef, IsFitSel};
+ghost use Rattle.vlog_block.specs.Places.{constant_index, constant_low};
+ghost use Rattle.vlog_block.specs.Fit.{IsFit, IsFitPrim, AreFit, IsFitRef, IsFitIndex, IsFitLast, IsFitSel};
 ghost use Rattle.vlog_block.specs.Value.{value, prim_value, parts_value, ref_value, source_number, first_index, lowest, low_of};
 ghost use Rattle.vlog_block.specs.Value.{index_value, lone_word, picked, width_of};
 ghost use Rattle.vlog_block.specs.Value.{prim_width, operand_width, binary_at, bound};
@@ -148,7 +148,7 @@ fn constant_number(scope: &Scope, e: &Expr) -> Option<u128>
 
 /// The code of an expression's number at a width of `w` bits.
 #[cycle(bind)]
-pub fn bound_expr(alloc: Global, scope: &Scope, e: &Expr, w: u32) -> Result<Box<Rhs>, Memory>
+fn bound_expr(alloc: Global, scope: &Scope, e: &Expr, w: u32) -> Result<Box<Rhs>, Memory>
     requires width { IsWidth w }
     requires fit { IsFit (names_of scope.now) (plain_expr e.now) }
     ensures value { IfOk result (λ c. (v : Values) → code.value c.value v ≡ value (names_of scope.now) v (plain_expr e.now) w) }
@@ -373,7 +373,8 @@ fn net_part(alloc: Global, span: Span, part: Part) -> Result<Box<Rhs>, Memory>
 #[cycle(bind)]
 fn bound_word(alloc: Global, scope: &Scope, room: Room, name: &Ref) -> Result<Box<Rhs>, Memory>
     requires room { IsCountable (2 ^ 64) room 0 }
-    requires fit { IsFitRef (names_of scope.now) (plain_ref name.now) }
+    requires index { IsFitIndex (names_of scope.now) (plain_index (back-Ref-index name.now.index)) }
+    requires last { IsFitLast (names_of scope.now) (plain_last (back-Ref-sel name.now.sel)) }
     ensures value { IfOk result (λ c. (v : Values) (n : ℕ) → code.value c.value v
         ≡ source_number (names_of scope.now) v (MemorySource room n)
         (first_index (names_of scope.now) v (plain_index (back-Ref-index name.now.index)))
@@ -437,4 +438,24 @@ fn bound_ref(alloc: Global, scope: &Scope, name: &Ref) -> Result<Box<Rhs>, Memor
         },
         Source::Memory { room, width: _ } => bound_word(alloc, scope, room, name),
     }
+}
+
+/// The code of an expression's number at `w` bits, for all numbers of the scope's nets and words (IEEE 1364-2005, 5.1, 5.2 and 5.4).
+/// Nets and memories are named by their places in the scope's lists.
+///
+/// By condition nothing is wrong with the expression's names, constants and widths, and `w` is at least its width and at most 128.
+///
+/// # Errors
+///
+/// `Memory`: there isn't enough memory, or the words of the scope's memories can't be counted in 64 bits.
+#[tactic(auto, using(crate::proofs::Fitting::faultless_fit))]
+pub fn bind_expr(alloc: Global, e: &Expr, scope: &Scope, w: u32) -> Result<Rhs, Memory>
+    requires faultless { faults (sizes_of (names_of scope.now) (plain_expr e.now)) ≡ [] }
+    requires least { width_of (names_of scope.now) (plain_expr e.now) ≤ w }
+    requires most { w ≤ 128 }
+    ensures value { IfOk result (λ c. (v : Values) → code.value c v ≡ value (names_of scope.now) v (plain_expr e.now) w) }
+    ensures sized { IfOk result IsSizedRhs }
+{
+    let code = bound_expr(alloc, scope, e, w)?;
+    Ok(Box::into_inner(code))
 }

@@ -1,10 +1,10 @@
-//! Expressions and targets as code: the number of an expression at a width, and the places that a target writes
-//! (IEEE 1364-2005, clauses 5 and 9; this project's profile).
+//! Expressions as code: the number of an expression at a width (IEEE 1364-2005, clause 5; this project's profile).
 //!
-//! `specs/Value` has the number of an expression of the trees, `specs/Targets` the updates that a target makes, and `specs/Bits` the
-//! bits of nets that both name. `specs/Sources` says what names are in code.
+//! `specs/Value` has the number of an expression of the trees, and `specs/Sources` says what names are in code.
 #![tactic(auto)]
 
 mod bind;
 mod makers;
 mod source;
+
+pub use bind::bind_expr;

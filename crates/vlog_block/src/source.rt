@@ -48,15 +48,16 @@ fn memory_named(memories: &ScopeMemories, name: &[u8]) -> Result<Source, Memory>
     ensures value { IfOk result (λ s. s ≡ memory_named memories.now name.now) }
     ensures sized { IfOk result IsSource }
 {
-    match (memories.place(name), memories.get(name)) {
-        (Some(place), Some(memory)) => {
+    match memories.get(name) {
+        Some(memory) => {
+            let place = memories.place(name).unwrap_or(0);
             let room = room_of(memories, place, memory.length)?;
             Ok(Source::Memory {
                 room,
                 width: memory.width,
             })
         }
-        _ => Ok(Source::Nothing),
+        None => Ok(Source::Nothing),
     }
 }
 
@@ -68,12 +69,12 @@ pub fn source_of(scope: &Scope, name: &[u8]) -> Result<Source, Memory>
     if let Some(param) = scope.params.get(name) {
         return Ok(Source::Constant(param.value));
     }
-    match (scope.nets.place(name), scope.nets.get(name)) {
-        (Some(place), Some(net)) => Ok(Source::Net(Span {
-            net: place,
+    match scope.nets.get(name) {
+        Some(net) => Ok(Source::Net(Span {
+            net: scope.nets.place(name).unwrap_or(0),
             low: 0,
             width: net.width,
         })),
-        _ => memory_named(&scope.memories, name),
+        None => memory_named(&scope.memories, name),
     }
 }
