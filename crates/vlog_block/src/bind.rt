@@ -1,21 +1,24 @@
 //! The code of an expression.
 
-ghost use Rattle.std.specs.Prelude.{◌≡◌, ℕ, ◌≤◌, ◌+◌, ◌-◌, ◌<◌, ◌^◌, [], IfOk, IfSome, Some};
+ghost use Rattle.std.specs.Prelude.{◌≡◌, ℕ, ◌≤◌, ◌+◌, ◌-◌, ◌<◌, ◌^◌, ◌||◌, false, [], IfOk, IfSome, Some};
 ghost use Rattle.vlog_operators.specs.Number.{IsWidth, part_of, side_by_side};
-ghost use Rattle.vlog_tree.specs.Tree.{Last};
+ghost use Rattle.vlog_tree.specs.Tree.{Last, Index};
 ghost use Rattle.vlog_tree.specs.Plain.{plain_expr, plain_prim, plain_unary, plain_ref, plain_sel, plain_index, plain_last, plain_exprs};
 ghost use Rattle.vlog_tree.specs.declared.expr.Ref.{back-Ref-index, back-Ref-sel};
 ghost use Rattle.vlog_size.specs.Operators.{kind_of, binary_value};
 ghost use Rattle.vlog_size.specs.Size.{sizes_of, faults, sizes_of_all, total_width};
 ghost use Rattle.net_design.specs.declared.values.Values.{Values};
 ghost use Rattle.net_design.specs.Value as code;
+ghost use Rattle.net_design.specs.Bits as bits;
 ghost use Rattle.net_design.specs.Sized.{IsSizedRhs, IsCountable};
 ghost use Rattle.vlog_block.specs.declared.source.Source.TheVariants.{Memory as MemorySource};
-ghost use Rattle.vlog_block.specs.Sources.{names_of};
+ghost use Rattle.vlog_block.specs.Sources.{names_of, IsSource};
+ghost use Rattle.vlog_block.specs.Bits.{reads, prim_reads, parts_read, index_reads, last_reads, part_reads, source_reads};
+ghost use Rattle.vlog_block.specs.Bits.{lone_reads, net_reads, ref_reads};
 ghost use Rattle.vlog_block.specs.Places.{constant_index, constant_low};
-ghost use Rattle.vlog_block.specs.Fit.{IsFit, IsFitPrim, AreFit, IsFitRef, IsFitIndex, IsFitLast, IsFitSel};
+ghost use Rattle.vlog_block.specs.Fit.{IsFitWith, IsFit, IsFitPrim, AreFit, IsFitRef, IsFitIndex, IsFitLast, IsFitSel};
 ghost use Rattle.vlog_block.specs.Value.{value, prim_value, parts_value, ref_value, source_number, first_index, lowest, low_of};
-ghost use Rattle.vlog_block.specs.Value.{index_value, lone_word, picked, width_of};
+ghost use Rattle.vlog_block.specs.Value.{index_value, part_or_whole, lone_word, picked, width_of};
 ghost use Rattle.vlog_block.specs.Value.{prim_width, operand_width, binary_at, bound};
 
 use crate::makers::{
@@ -152,6 +155,8 @@ fn bound_expr(alloc: Global, scope: &Scope, e: &Expr, w: u32) -> Result<Box<Rhs>
     requires width { IsWidth w }
     requires fit { IsFit (names_of scope.now) (plain_expr e.now) }
     ensures value { IfOk result (λ c. (v : Values) → code.value c.value v ≡ value (names_of scope.now) v (plain_expr e.now) w) }
+    ensures reads { IfOk result (λ c. (m k : ℕ) → bits.reads c.value m k
+        ≡ reads (names_of scope.now) (plain_expr e.now) m k) }
     ensures sized { IfOk result (λ c. IsSizedRhs c.value) }
 {
     match e {
@@ -181,6 +186,8 @@ fn bound_unary(alloc: Global, scope: &Scope, unary: &Unary, w: u32) -> Result<Bo
     requires width { IsWidth w }
     requires fit { IsFit (names_of scope.now) (plain_unary unary.now) }
     ensures value { IfOk result (λ c. (v : Values) → code.value c.value v ≡ value (names_of scope.now) v (plain_unary unary.now) w) }
+    ensures reads { IfOk result (λ c. (m k : ℕ) → bits.reads c.value m k
+        ≡ reads (names_of scope.now) (plain_unary unary.now) m k) }
     ensures sized { IfOk result (λ c. IsSizedRhs c.value) }
 {
     match unary.sign {
@@ -198,6 +205,8 @@ fn bound_prim(alloc: Global, scope: &Scope, prim: &Operand, w: u32) -> Result<Bo
     requires width { IsWidth w }
     requires fit { IsFitPrim (names_of scope.now) (plain_prim prim.now) }
     ensures value { IfOk result (λ c. (v : Values) → code.value c.value v ≡ prim_value (names_of scope.now) v (plain_prim prim.now) w) }
+    ensures reads { IfOk result (λ c. (m k : ℕ) → bits.reads c.value m k
+        ≡ prim_reads (names_of scope.now) (plain_prim prim.now) m k) }
     ensures sized { IfOk result (λ c. IsSizedRhs c.value) }
 {
     match prim {
@@ -229,6 +238,8 @@ fn with_part(alloc: Global, high: Joined, low: Joined) -> Result<Joined, Memory>
     requires low { IsSizedRhs low.code.value }
     ensures value { IfOk result (λ j. (v : Values) → code.value j.code.value v
         ≡ side_by_side (code.value high.code.value v) (code.value low.code.value v) high.width low.width) }
+    ensures reads { IfOk result (λ j. (m k : ℕ) → bits.reads j.code.value m k
+        ≡ (bits.reads high.code.value m k || bits.reads low.code.value m k)) }
     ensures sized { IfOk result (λ j. IsSizedRhs j.code.value) }
     ensures width { IfOk result (λ j. j.width ≡ high.width + low.width) }
 {
@@ -244,6 +255,8 @@ fn bound_own(alloc: Global, scope: &Scope, e: &Expr) -> Result<Joined, Memory>
     requires fit { IsFit (names_of scope.now) (plain_expr e.now) }
     ensures value { IfOk result (λ j. (v : Values) → code.value j.code.value v
         ≡ value (names_of scope.now) v (plain_expr e.now) (width_of (names_of scope.now) (plain_expr e.now))) }
+    ensures reads { IfOk result (λ j. (m k : ℕ) → bits.reads j.code.value m k
+        ≡ reads (names_of scope.now) (plain_expr e.now) m k) }
     ensures sized { IfOk result (λ j. IsSizedRhs j.code.value) }
     ensures width { IfOk result (λ j. j.width ≡ width_of (names_of scope.now) (plain_expr e.now)) }
 {
@@ -258,6 +271,8 @@ fn bound_parts(alloc: Global, scope: &Scope, parts: &[Expr]) -> Result<Box<Rhs>,
     requires all { total_width (sizes_of_all (names_of scope.now) (plain_exprs parts.now)) ≤ 128 }
     requires fit { AreFit (names_of scope.now) (plain_exprs parts.now) }
     ensures value { IfOk result (λ c. (v : Values) → code.value c.value v ≡ parts_value (names_of scope.now) v (plain_exprs parts.now)) }
+    ensures reads { IfOk result (λ c. (m k : ℕ) → bits.reads c.value m k
+        ≡ parts_read (names_of scope.now) (plain_exprs parts.now) m k) }
     ensures sized { IfOk result (λ c. IsSizedRhs c.value) }
 {
     let [first, rest @ ..] = parts else {
@@ -277,6 +292,8 @@ fn bound_index(alloc: Global, scope: &Scope, e: &Expr) -> Result<Place, Memory>
     requires width { IsWidth (width_of (names_of scope.now) (plain_expr e.now)) }
     requires fit { IsFit (names_of scope.now) (plain_expr e.now) }
     ensures value { IfOk result (λ p. (v : Values) → code.value p.code.value v ≡ index_value (names_of scope.now) v (plain_expr e.now)) }
+    ensures reads { IfOk result (λ p. (m k : ℕ) → bits.reads p.code.value m k
+        ≡ index_reads (names_of scope.now) (Index (plain_expr e.now)) m k) }
     ensures sized { IfOk result (λ p. IsSizedRhs p.code.value) }
     ensures constant { IfOk result (λ p. p.constant ≡ constant_index (names_of scope.now) (plain_expr e.now)) }
 {
@@ -302,6 +319,8 @@ fn bound_index(alloc: Global, scope: &Scope, e: &Expr) -> Result<Place, Memory>
 /// A place that is a constant.
 fn fixed_place(alloc: Global, n: u128) -> Result<Place, Memory>
     ensures value { IfOk result (λ p. (v : Values) → code.value p.code.value v ≡ n) }
+    ensures reads { IfOk result (λ p. (m k : ℕ) → bits.reads p.code.value m k
+        ≡ false) }
     ensures sized { IfOk result (λ p. IsSizedRhs p.code.value) }
     ensures constant { IfOk result (λ p. p.constant ≡ Some n) }
 {
@@ -325,6 +344,8 @@ fn bits_between(first: u128, second: u128) -> u32
 fn bound_sel(alloc: Global, scope: &Scope, sel: &Sel) -> Result<Part, Memory>
     requires fit { IsFitSel (names_of scope.now) (plain_sel sel.now) }
     ensures low { IfOk result (λ p. (v : Values) → code.value p.low.code.value v ≡ low_of (names_of scope.now) v (plain_sel sel.now)) }
+    ensures reads { IfOk result (λ p. (m k : ℕ) → bits.reads p.low.code.value m k
+        ≡ last_reads (names_of scope.now) (Last (plain_sel sel.now)) m k) }
     ensures sized { IfOk result (λ p. IsSizedRhs p.low.code.value) }
     ensures constant { IfOk result (λ p. p.low.constant ≡ constant_low (names_of scope.now) (plain_sel sel.now)) }
     ensures width { IfOk result (λ p. (n : ℕ) → p.width ≡ picked (names_of scope.now) (Last (plain_sel sel.now)) n) }
@@ -358,6 +379,8 @@ fn net_part(alloc: Global, span: Span, part: Part) -> Result<Box<Rhs>, Memory>
     requires constant { IfSome part.low.constant (λ n. (v : Values) → code.value part.low.code.value v ≡ n) }
     ensures value { IfOk result (λ c. (v : Values) → code.value c.value v
         ≡ part_of (code.read span v) (code.value part.low.code.value v) part.width) }
+    ensures reads { IfOk result (λ c. (m k : ℕ) → bits.reads c.value m k
+        ≡ part_reads span part.low.constant part.width (bits.reads part.low.code.value m k) m k) }
     ensures sized { IfOk result (λ c. IsSizedRhs c.value) }
 {
     match part.low.constant {
@@ -379,6 +402,11 @@ fn bound_word(alloc: Global, scope: &Scope, room: Room, name: &Ref) -> Result<Bo
         ≡ source_number (names_of scope.now) v (MemorySource room n)
         (first_index (names_of scope.now) v (plain_index (back-Ref-index name.now.index)))
         (plain_last (back-Ref-sel name.now.sel)) (lowest (names_of scope.now) v (plain_last (back-Ref-sel name.now.sel)))) }
+    ensures reads { IfOk result (λ c. (m k : ℕ) → bits.reads c.value m k
+        ≡ source_reads (names_of scope.now) (MemorySource room 0)
+        (plain_index (back-Ref-index name.now.index)) (plain_last (back-Ref-sel name.now.sel))
+        (index_reads (names_of scope.now) (plain_index (back-Ref-index name.now.index)) m k)
+        (last_reads (names_of scope.now) (plain_last (back-Ref-sel name.now.sel)) m k) m k) }
     ensures sized { IfOk result (λ c. IsSizedRhs c.value) }
 {
     match (&name.index, &name.sel) {
@@ -407,6 +435,8 @@ fn lone_word(alloc: Global, scope: &Scope, room: Room, sel: &Sel) -> Result<Box<
     requires fit { IsFitSel (names_of scope.now) (plain_sel sel.now) }
     ensures value { IfOk result (λ c. (v : Values) → code.value c.value v
         ≡ lone_word v room (Last (plain_sel sel.now)) (Some (low_of (names_of scope.now) v (plain_sel sel.now)))) }
+    ensures reads { IfOk result (λ c. (m k : ℕ) → bits.reads c.value m k
+        ≡ lone_reads (Last (plain_sel sel.now)) (last_reads (names_of scope.now) (Last (plain_sel sel.now)) m k)) }
     ensures sized { IfOk result (λ c. IsSizedRhs c.value) }
 {
     match sel {
@@ -418,26 +448,69 @@ fn lone_word(alloc: Global, scope: &Scope, room: Room, sel: &Sel) -> Result<Box<
     }
 }
 
+/// A net, or a select of it.
+#[cycle(bind)]
+fn bound_net(alloc: Global, scope: &Scope, span: Span, name: &Ref) -> Result<Box<Rhs>, Memory>
+    requires net { IsWidth span.width × (span.low ≡ 0) }
+    requires last { IsFitLast (names_of scope.now) (plain_last (back-Ref-sel name.now.sel)) }
+    ensures value { IfOk result (λ c. (v : Values) → code.value c.value v
+        ≡ part_or_whole (code.read span v) (lowest (names_of scope.now) v (plain_last (back-Ref-sel name.now.sel)))
+        (picked (names_of scope.now) (plain_last (back-Ref-sel name.now.sel)) span.width)) }
+    ensures reads { IfOk result (λ c. (m k : ℕ) → bits.reads c.value m k
+        ≡ net_reads (names_of scope.now) span (plain_last (back-Ref-sel name.now.sel))
+        (last_reads (names_of scope.now) (plain_last (back-Ref-sel name.now.sel)) m k) m k) }
+    ensures sized { IfOk result (λ c. IsSizedRhs c.value) }
+{
+    match &name.sel {
+        None => bits_code(alloc, span),
+        Some(sel) => {
+            let part = bound_sel(alloc, scope, sel)?;
+            net_part(alloc, span, part)
+        }
+    }
+}
+
+/// What a name stands for, with the name's brackets.
+#[cycle(bind)]
+fn bound_source(
+    alloc: Global,
+    scope: &Scope,
+    source: Source,
+    name: &Ref,
+) -> Result<Box<Rhs>, Memory>
+    requires countable { IsSource source }
+    requires fit { IsFitWith source (IsFitIndex (names_of scope.now) (plain_index (back-Ref-index name.now.index))
+        × IsFitLast (names_of scope.now) (plain_last (back-Ref-sel name.now.sel))) }
+    ensures value { IfOk result (λ c. (v : Values) → code.value c.value v
+        ≡ source_number (names_of scope.now) v source
+        (first_index (names_of scope.now) v (plain_index (back-Ref-index name.now.index)))
+        (plain_last (back-Ref-sel name.now.sel)) (lowest (names_of scope.now) v (plain_last (back-Ref-sel name.now.sel)))) }
+    ensures reads { IfOk result (λ c. (m k : ℕ) → bits.reads c.value m k
+        ≡ source_reads (names_of scope.now) source
+        (plain_index (back-Ref-index name.now.index)) (plain_last (back-Ref-sel name.now.sel))
+        (index_reads (names_of scope.now) (plain_index (back-Ref-index name.now.index)) m k)
+        (last_reads (names_of scope.now) (plain_last (back-Ref-sel name.now.sel)) m k) m k) }
+    ensures sized { IfOk result (λ c. IsSizedRhs c.value) }
+{
+    match source {
+        Source::Constant(c) => number(alloc, const_number(c)),
+        Source::Nothing => number(alloc, 0),
+        Source::Net(span) => bound_net(alloc, scope, span, name),
+        Source::Memory { room, width: _ } => bound_word(alloc, scope, room, name),
+    }
+}
+
 /// A name with its brackets.
 #[cycle(bind)]
 fn bound_ref(alloc: Global, scope: &Scope, name: &Ref) -> Result<Box<Rhs>, Memory>
     requires fit { IsFitRef (names_of scope.now) (plain_ref name.now) }
     ensures value { IfOk result (λ c. (v : Values) → code.value c.value v ≡ ref_value (names_of scope.now) v (plain_ref name.now)) }
+    ensures reads { IfOk result (λ c. (m k : ℕ) → bits.reads c.value m k
+        ≡ ref_reads (names_of scope.now) (plain_ref name.now) m k) }
     ensures sized { IfOk result (λ c. IsSizedRhs c.value) }
 {
     let source = source_of(scope, name.id.name.as_slice())?;
-    match source {
-        Source::Constant(c) => number(alloc, const_number(c)),
-        Source::Nothing => number(alloc, 0),
-        Source::Net(span) => match &name.sel {
-            None => bits_code(alloc, span),
-            Some(sel) => {
-                let part = bound_sel(alloc, scope, sel)?;
-                net_part(alloc, span, part)
-            }
-        },
-        Source::Memory { room, width: _ } => bound_word(alloc, scope, room, name),
-    }
+    bound_source(alloc, scope, source, name)
 }
 
 /// The code of an expression's number at `w` bits, for all numbers of the scope's nets and words (IEEE 1364-2005, 5.1, 5.2 and 5.4).
@@ -454,6 +527,8 @@ pub fn bind_expr(alloc: Global, e: &Expr, scope: &Scope, w: u32) -> Result<Rhs, 
     requires least { width_of (names_of scope.now) (plain_expr e.now) ≤ w }
     requires most { w ≤ 128 }
     ensures value { IfOk result (λ c. (v : Values) → code.value c v ≡ value (names_of scope.now) v (plain_expr e.now) w) }
+    ensures reads { IfOk result (λ c. (m k : ℕ) → bits.reads c m k
+        ≡ reads (names_of scope.now) (plain_expr e.now) m k) }
     ensures sized { IfOk result IsSizedRhs }
 {
     let code = bound_expr(alloc, scope, e, w)?;
