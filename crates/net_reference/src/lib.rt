@@ -8,4 +8,5 @@ mod expression;
 mod reference;
 mod statement;
 
+pub use expression::value_of;
 pub use reference::{initial_state, is_settled, next_state, output_pins};

@@ -1,14 +1,15 @@
 -- Tables as lists of names and values.
 use Rattle.std.proofs.Common.{◌≡◌, ℕ, zero, suc, ◌+◌, ◌<◌, ◌≤◌, Bool, true, false, not, nat_eq, nat_lt, cond, if◌then◌else◌, Option, Some}
-use Rattle.std.proofs.Common.{None, is_some}
-use Rattle.std.proofs.Common.{List, [], ◌∷◌, ◌++◌, take, length, position, slice_get, refl, ap, sym, ◌∙◌, arith}
+use Rattle.std.proofs.Common.{None, is_some, option_map}
+use Rattle.std.proofs.lemmas.Option.{slice_get-map}
+use Rattle.std.proofs.Common.{List, [], ◌∷◌, ◌++◌, take, length, map, position, slice_get, refl, ap, sym, ◌∙◌, arith}
 use Rattle.std.specs.List.{position_or_len}
 use Rattle.std.specs.Global.{Vec}
 use Rattle.std.specs.Str.{bytes_eq}
 use Rattle.std.specs.Map.{lookup, keys_of}
 use Rattle.std.specs.Cmp.Lexicographic.{pointwise}
 use Rattle.indexmap.specs.IndexMap.{insert_entry}
-use Rattle.vlog_size.specs.Table.{named, value_of, place_of, added}
+use Rattle.vlog_size.specs.Table.{Named, named, value_of, place_of, added}
 
 -- whether a key is this name
 abbrev pub is_name : List ℕ → Vec ℕ → Bool
@@ -167,3 +168,23 @@ placed es name =
     ap (λ i. cond (nat_lt i (length (keys_of es))) (Some i) None) (places_same es name)
     ∙ ap (λ l. cond (nat_lt (position_or_len (λ x. bytes_eq name x.name) (named es)) l)
     (Some (position_or_len (λ x. bytes_eq name x.name) (named es))) None) (lengths_same es)
+
+-- ---- the value at a place
+abbrev entry_of : {V : Type 0} → Vec ℕ × V → Named V
+entry_of e = record { name = e.0.items; value = e.1 }
+
+abbrev value_in : {V : Type 0} → Named V → V
+value_in x = x.value
+
+values_get : {V : Type 0} → (es : List (Vec ℕ × V)) (k : ℕ)
+    → slice_get (map (λ (x : Named V). x.value) (named es)) k ≡ option_map (value_in {V = V}) (option_map (entry_of {V = V}) (slice_get es k))
+values_get {V} es k =
+    slice_get-map (value_in {V = V}) (named es) k ∙ ap (option_map (value_in {V = V})) (slice_get-map (entry_of {V = V}) es k)
+
+pub value_there : {V : Type 0} → (es : List (Vec ℕ × V)) (k : ℕ) (n : Vec ℕ) (v : V) → slice_get es k ≡ Some (n, v)
+    → slice_get (map (λ (x : Named V). x.value) (named es)) k ≡ Some v
+value_there {V} es k n v h = values_get es k ∙ ap (λ o. option_map (value_in {V = V}) (option_map (entry_of {V = V}) o)) h
+
+pub value_past : {V : Type 0} → (es : List (Vec ℕ × V)) (k : ℕ) → slice_get es k ≡ None
+    → slice_get (map (λ (x : Named V). x.value) (named es)) k ≡ None
+value_past {V} es k h = values_get es k ∙ ap (λ o. option_map (value_in {V = V}) (option_map (entry_of {V = V}) o)) h

@@ -89,8 +89,9 @@ fn unary_facts(view: &View<'_>, unary: &Unary) -> Facts
     }
 }
 
+/// What is said of an operand.
 #[cycle(facts)]
-fn prim_facts(view: &View<'_>, prim: &Operand) -> Facts
+pub fn prim_facts(view: &View<'_>, prim: &Operand) -> Facts
     ensures { Shows result (sizes_of_prim (readable_in view.now) (plain_prim prim.now)) }
 {
     match prim {

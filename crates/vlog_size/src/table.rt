@@ -1,6 +1,6 @@
 //! Tables of values by name.
 
-ghost use Rattle.std.specs.Prelude.{◌≡◌, [], take, length, OnOk, OnErr};
+ghost use Rattle.std.specs.Prelude.{◌≡◌, [], map, take, length, slice_get, OnOk, OnErr};
 ghost use Rattle.std.specs.Option.{option_copied};
 ghost use Rattle.vlog_size.specs.Table.{Named, value_of, place_of, added};
 
@@ -55,6 +55,14 @@ impl<V> Table<V> {
         ensures { result ≡ place_of self.now name.now }
     {
         self.entries.get_index_of(name)
+    }
+
+    /// The value at this place, counted from 0 in the order in which names were added.
+    pub fn value_at(&self, place: usize) -> Option<&V>
+        ensures { option_copied result ≡ slice_get (map (λ x. x.value) self.now) place }
+    {
+        let (_name, value) = self.entries.get_index(place)?;
+        Some(value)
     }
 
     /// The value of this name.

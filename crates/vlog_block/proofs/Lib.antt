@@ -1,0 +1,4 @@
+pub mod Words
+pub mod Clips
+pub mod Fitting
+pub mod Ranges
