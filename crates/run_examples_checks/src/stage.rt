@@ -101,12 +101,7 @@ fn pin(alloc: Global, name: &[u8], place: usize) -> Result<Pin, Memory>
     Ok(Pin { name, place })
 }
 
-fn push_channel(
-    channels: &mut Channels,
-    alloc: Global,
-    dir: Dir,
-    letter: u8,
-) -> Result<(), Memory>
+fn push_channel(channels: &mut Channels, alloc: Global, dir: Dir, letter: u8) -> Result<(), Memory>
     ensures { OnOk result (channels.new ≡ channels.old ++ record { dir = dir; name = letter ∷ []; widths = 8 ∷ [] } ∷ []) }
 {
     let mut name = Bytes::new(alloc);

@@ -73,9 +73,11 @@ fn holds_on_dead(alloc: Global) -> Result<bool, OrderError> {
         packets.as_slice(),
         rows.as_slice(),
     )?;
-    Ok(is_dead_replay(rows.as_slice())
-        && holds_second(helds.as_slice())
-        && is_first_of_b(events.as_slice()))
+    Ok(
+        is_dead_replay(rows.as_slice())
+            && holds_second(helds.as_slice())
+            && is_first_of_b(events.as_slice()),
+    )
 }
 
 #[test]
@@ -194,10 +196,12 @@ fn replay_of_two(alloc: Global) -> Result<bool, OrderError> {
     let count = held_count(alloc, packets.as_slice(), rows.as_slice())?;
     let events = waited(alloc, packets.as_slice(), rows.as_slice())?;
     let rows = rows.as_slice();
-    Ok(count == 0
-        && events.len() == 0
-        && is_row(&rows[0], [3, 1, 1, 1, 1], [5, 0])
-        && is_row(&rows[1], [3, 2, 2, 2, 2], [0, 5]))
+    Ok(
+        count == 0
+            && events.len() == 0
+            && is_row(&rows[0], [3, 1, 1, 1, 1], [5, 0])
+            && is_row(&rows[1], [3, 2, 2, 2, 2], [0, 5]),
+    )
 }
 
 #[test]
@@ -229,10 +233,12 @@ fn replay_without_end(alloc: Global) -> Result<bool, OrderError> {
     let count = held_count(alloc, packets.as_slice(), rows.as_slice())?;
     let events = waited(alloc, packets.as_slice(), rows.as_slice())?;
     let rows = rows.as_slice();
-    Ok(count == 0
-        && events.len() == 0
-        && is_row(&rows[0], [3, 1, 1, 1, 1], [5, 0])
-        && is_row(&rows[1], [3, 2, 0, 2, 0], [0, 5]))
+    Ok(
+        count == 0
+            && events.len() == 0
+            && is_row(&rows[0], [3, 1, 1, 1, 1], [5, 0])
+            && is_row(&rows[1], [3, 2, 0, 2, 0], [0, 5]),
+    )
 }
 
 #[test]
