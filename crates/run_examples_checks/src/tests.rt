@@ -143,8 +143,8 @@ fn is_one_gate(rows: &[Row]) -> bool {
         && is_row(&rows[5], [0, 2, 2, 0, 0], [0, 6])
 }
 
-/// The gates of a store of 18 bytes that never drains: packets have at least 2 bytes, and 7 are kept for each idle channel whose
-/// gate is up, 2 for one in flight. After row 0, 4 are used and `a` has its gate again; after row 1, 9 are, and after row 2, 12.
+/// The gates of a store of 18 bytes that never drains: a packet has 3 bytes without contents, and 7 are kept for each idle channel
+/// whose gate is up, 3 for one in flight. After row 0, 4 are used and `a` has its gate again; after row 1, 9 are, and after row 2, 12.
 fn one_gate_run(alloc: Global) -> Result<bool, OrderError> {
     let rows = pass_run(alloc, [3, 3, 1, 0, 0, 0])?;
     Ok(is_one_gate(rows.as_slice()))
