@@ -1,0 +1,5 @@
+mod StageLaws
+mod DeadLaws
+mod BranchBits
+mod PassLaws
+pub mod GivenLaws

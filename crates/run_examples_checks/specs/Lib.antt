@@ -1,0 +1,4 @@
+pub mod Stage
+pub mod Dead
+pub mod Pass
+pub mod Given

@@ -1,0 +1,16 @@
+//! Worked examples of runs and replays, computed with the definitions on stages between two channels.
+#![tactic(auto)]
+
+#[cfg(test)]
+mod dead;
+#[cfg(test)]
+mod given;
+mod laws;
+#[cfg(test)]
+mod pass;
+#[cfg(test)]
+mod stage;
+#[cfg(test)]
+mod tests;
+
+pub use laws::{dead_is_shown, pass_is_shown};
