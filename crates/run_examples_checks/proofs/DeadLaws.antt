@@ -156,7 +156,8 @@ each_driven (suc (suc (suc (suc (suc (suc zero)))))) (suc (suc (suc (suc zero)))
 each_driven (suc (suc (suc (suc (suc (suc zero)))))) (suc (suc (suc (suc (suc zero))))) b i h = refl
 each_driven (suc (suc (suc (suc (suc (suc zero)))))) (suc (suc (suc (suc (suc (suc zero)))))) b i h = refl
 each_driven (suc (suc (suc (suc (suc (suc zero)))))) (suc (suc (suc (suc (suc (suc (suc zero))))))) b i h = refl
-each_driven (suc (suc (suc (suc (suc (suc zero)))))) (suc (suc (suc (suc (suc (suc (suc (suc k)))))))) b i h = let l : (suc (suc (suc (suc (suc (suc (suc (suc k)))))))) < 8 = b in absurd (omega arith)
+each_driven (suc (suc (suc (suc (suc (suc zero)))))) (suc (suc (suc (suc (suc (suc (suc (suc k)))))))) b i h =
+    let l : (suc (suc (suc (suc (suc (suc (suc (suc k)))))))) < 8 = b in absurd (omega arith)
 each_driven (suc (suc (suc (suc (suc (suc (suc m))))))) k b i h = absurd (omega arith)
 
 none_else : (m k : ℕ) → (is_input dead m ≡ true) ⊎ (held dead m k ≡ true)

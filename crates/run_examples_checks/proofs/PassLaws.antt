@@ -74,7 +74,14 @@ module _ (p q r : Stand) where
   ready_driver : IsDriver D (assigns 4 (equation 2 1 (not_full p) (one_bit 2) (one_bit 7)))
   ready_driver = record {
     code = record {
-      acts = ((omega arith, (((omega arith, omega arith), omega arith, refl), tt), ((omega arith, omega arith), ((omega arith, omega arith), refl))), tt);
+      acts = (
+        (
+          omega arith,
+          (((omega arith, omega arith), omega arith, refl), tt),
+          ((omega arith, omega arith), ((omega arith, omega arith), refl)),
+        ),
+        tt,
+      );
       bits = record { writes = writes; reads = λ m k. ap (λ b. b || false) (one_whole 7 m k) ∙ open_one (bits_of (whole 7 1) m k) };
     };
     whole = λ m k h. sym (writes m k) ∙ h;
@@ -179,7 +186,8 @@ module _ (p q r : Stand) where
   all_blocks (suc k) d l = absurd (omega arith)
 
   all_registers : All (IsRegister D) kept
-  all_registers zero d l = record { net = omega arith; driven = refl; held = omega arith; initial = λ k h. bit_at_above 0 0 k (omega arith) (omega arith) }
+  all_registers zero d l =
+      record { net = omega arith; driven = refl; held = omega arith; initial = λ k h. bit_at_above 0 0 k (omega arith) (omega arith) }
   all_registers (suc zero) d l =
       record { net = omega arith; driven = refl; held = omega arith; initial = λ k h. bit_at_above 0 0 k (omega arith) (omega arith) }
   all_registers (suc (suc k)) d l = absurd (omega arith)
@@ -276,7 +284,8 @@ module _ (p q r : Stand) where
   names_differ (suc (suc (suc (suc (suc (suc zero)))))) (suc (suc (suc (suc (suc zero))))) d l h = absurd (omega arith)
   names_differ (suc (suc (suc (suc (suc (suc zero)))))) (suc (suc (suc (suc (suc (suc zero)))))) d l h = absurd (omega arith)
   names_differ (suc (suc (suc (suc (suc (suc zero)))))) (suc (suc (suc (suc (suc (suc (suc zero))))))) d l h = other _ _ (λ e. omega arith)
-  names_differ (suc (suc (suc (suc (suc (suc zero)))))) (suc (suc (suc (suc (suc (suc (suc (suc zero)))))))) d l h = other _ _ (λ e. omega arith)
+  names_differ (suc (suc (suc (suc (suc (suc zero)))))) (suc (suc (suc (suc (suc (suc (suc (suc zero)))))))) d l h =
+      other _ _ (λ e. omega arith)
   names_differ (suc (suc (suc (suc (suc (suc zero)))))) (suc (suc (suc (suc (suc (suc (suc (suc (suc j))))))))) d l h = absurd (omega arith)
   names_differ (suc (suc (suc (suc (suc (suc (suc zero))))))) zero d l h = absurd (omega arith)
   names_differ (suc (suc (suc (suc (suc (suc (suc zero))))))) (suc zero) d l h = absurd (omega arith)
@@ -286,8 +295,10 @@ module _ (p q r : Stand) where
   names_differ (suc (suc (suc (suc (suc (suc (suc zero))))))) (suc (suc (suc (suc (suc zero))))) d l h = absurd (omega arith)
   names_differ (suc (suc (suc (suc (suc (suc (suc zero))))))) (suc (suc (suc (suc (suc (suc zero)))))) d l h = absurd (omega arith)
   names_differ (suc (suc (suc (suc (suc (suc (suc zero))))))) (suc (suc (suc (suc (suc (suc (suc zero))))))) d l h = absurd (omega arith)
-  names_differ (suc (suc (suc (suc (suc (suc (suc zero))))))) (suc (suc (suc (suc (suc (suc (suc (suc zero)))))))) d l h = other _ _ (λ e. omega arith)
-  names_differ (suc (suc (suc (suc (suc (suc (suc zero))))))) (suc (suc (suc (suc (suc (suc (suc (suc (suc j))))))))) d l h = absurd (omega arith)
+  names_differ (suc (suc (suc (suc (suc (suc (suc zero))))))) (suc (suc (suc (suc (suc (suc (suc (suc zero)))))))) d l h =
+      other _ _ (λ e. omega arith)
+  names_differ (suc (suc (suc (suc (suc (suc (suc zero))))))) (suc (suc (suc (suc (suc (suc (suc (suc (suc j))))))))) d l h =
+      absurd (omega arith)
   names_differ (suc (suc (suc (suc (suc (suc (suc (suc zero)))))))) zero d l h = absurd (omega arith)
   names_differ (suc (suc (suc (suc (suc (suc (suc (suc zero)))))))) (suc zero) d l h = absurd (omega arith)
   names_differ (suc (suc (suc (suc (suc (suc (suc (suc zero)))))))) (suc (suc zero)) d l h = absurd (omega arith)
@@ -295,9 +306,12 @@ module _ (p q r : Stand) where
   names_differ (suc (suc (suc (suc (suc (suc (suc (suc zero)))))))) (suc (suc (suc (suc zero)))) d l h = absurd (omega arith)
   names_differ (suc (suc (suc (suc (suc (suc (suc (suc zero)))))))) (suc (suc (suc (suc (suc zero))))) d l h = absurd (omega arith)
   names_differ (suc (suc (suc (suc (suc (suc (suc (suc zero)))))))) (suc (suc (suc (suc (suc (suc zero)))))) d l h = absurd (omega arith)
-  names_differ (suc (suc (suc (suc (suc (suc (suc (suc zero)))))))) (suc (suc (suc (suc (suc (suc (suc zero))))))) d l h = absurd (omega arith)
-  names_differ (suc (suc (suc (suc (suc (suc (suc (suc zero)))))))) (suc (suc (suc (suc (suc (suc (suc (suc zero)))))))) d l h = absurd (omega arith)
-  names_differ (suc (suc (suc (suc (suc (suc (suc (suc zero)))))))) (suc (suc (suc (suc (suc (suc (suc (suc (suc j))))))))) d l h = absurd (omega arith)
+  names_differ (suc (suc (suc (suc (suc (suc (suc (suc zero)))))))) (suc (suc (suc (suc (suc (suc (suc zero))))))) d l h =
+      absurd (omega arith)
+  names_differ (suc (suc (suc (suc (suc (suc (suc (suc zero)))))))) (suc (suc (suc (suc (suc (suc (suc (suc zero)))))))) d l h =
+      absurd (omega arith)
+  names_differ (suc (suc (suc (suc (suc (suc (suc (suc zero)))))))) (suc (suc (suc (suc (suc (suc (suc (suc (suc j))))))))) d l h =
+      absurd (omega arith)
   names_differ (suc (suc (suc (suc (suc (suc (suc (suc (suc i))))))))) j d l h = absurd (omega arith)
 
   each_driven : (m k : ℕ) → IsBit D m k → is_input D m ≡ false → held D m k ≡ false
@@ -318,7 +332,8 @@ module _ (p q r : Stand) where
   each_driven (suc (suc (suc (suc (suc (suc zero)))))) (suc (suc (suc (suc (suc zero))))) b i h = refl
   each_driven (suc (suc (suc (suc (suc (suc zero)))))) (suc (suc (suc (suc (suc (suc zero)))))) b i h = refl
   each_driven (suc (suc (suc (suc (suc (suc zero)))))) (suc (suc (suc (suc (suc (suc (suc zero))))))) b i h = refl
-  each_driven (suc (suc (suc (suc (suc (suc zero)))))) (suc (suc (suc (suc (suc (suc (suc (suc k)))))))) b i h = let l : (suc (suc (suc (suc (suc (suc (suc (suc k)))))))) < 8 = b in absurd (omega arith)
+  each_driven (suc (suc (suc (suc (suc (suc zero)))))) (suc (suc (suc (suc (suc (suc (suc (suc k)))))))) b i h =
+      let l : (suc (suc (suc (suc (suc (suc (suc (suc k)))))))) < 8 = b in absurd (omega arith)
   each_driven (suc (suc (suc (suc (suc (suc (suc zero))))))) zero b i h = absurd cc
   each_driven (suc (suc (suc (suc (suc (suc (suc zero))))))) (suc k) b i h = let l : (suc k) < 1 = b in absurd (omega arith)
   each_driven (suc (suc (suc (suc (suc (suc (suc (suc zero)))))))) zero b i h = absurd cc
@@ -329,7 +344,8 @@ module _ (p q r : Stand) where
   each_driven (suc (suc (suc (suc (suc (suc (suc (suc zero)))))))) (suc (suc (suc (suc (suc zero))))) b i h = absurd cc
   each_driven (suc (suc (suc (suc (suc (suc (suc (suc zero)))))))) (suc (suc (suc (suc (suc (suc zero)))))) b i h = absurd cc
   each_driven (suc (suc (suc (suc (suc (suc (suc (suc zero)))))))) (suc (suc (suc (suc (suc (suc (suc zero))))))) b i h = absurd cc
-  each_driven (suc (suc (suc (suc (suc (suc (suc (suc zero)))))))) (suc (suc (suc (suc (suc (suc (suc (suc k)))))))) b i h = let l : (suc (suc (suc (suc (suc (suc (suc (suc k)))))))) < 8 = b in absurd (omega arith)
+  each_driven (suc (suc (suc (suc (suc (suc (suc (suc zero)))))))) (suc (suc (suc (suc (suc (suc (suc (suc k)))))))) b i h =
+      let l : (suc (suc (suc (suc (suc (suc (suc (suc k)))))))) < 8 = b in absurd (omega arith)
   each_driven (suc (suc (suc (suc (suc (suc (suc (suc (suc m))))))))) k b i h = absurd (omega arith)
 
   no_late : (m : ℕ) → 9 ≤ m → (((7 == m) ≡ true) ⊎ ((8 == m) ≡ true)) → ⊥
@@ -351,7 +367,8 @@ module _ (p q r : Stand) where
   none_else (suc (suc (suc (suc (suc (suc (suc zero))))))) k h = refl
   none_else (suc (suc (suc (suc (suc (suc (suc (suc zero)))))))) k h = refl
   none_else (suc (suc (suc (suc (suc (suc (suc (suc (suc m))))))))) k (inl h) = absurd cc
-  none_else (suc (suc (suc (suc (suc (suc (suc (suc (suc m))))))))) k (inr h) = absurd (no_late (suc (suc (suc (suc (suc (suc (suc (suc (suc m))))))))) (omega arith) (one_of _ _ _ _ h))
+  none_else (suc (suc (suc (suc (suc (suc (suc (suc (suc m))))))))) k (inr h) =
+      absurd (no_late (suc (suc (suc (suc (suc (suc (suc (suc (suc m))))))))) (omega arith) (one_of _ _ _ _ h))
 
   pub lawful : IsLawful D
   lawful = record {

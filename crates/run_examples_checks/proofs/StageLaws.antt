@@ -51,8 +51,10 @@ eight (suc (suc (suc (suc (suc zero))))) = refl
 eight (suc (suc (suc (suc (suc (suc zero)))))) = refl
 eight (suc (suc (suc (suc (suc (suc (suc zero))))))) = refl
 eight (suc (suc (suc (suc (suc (suc (suc (suc k)))))))) =
-    let z : bit_at 255 (suc (suc (suc (suc (suc (suc (suc (suc k)))))))) ≡ 0 = bit_at_above 255 8 (suc (suc (suc (suc (suc (suc (suc (suc k)))))))) (omega arith) (omega arith) in
-    let f : nat_lt (suc (suc (suc (suc (suc (suc (suc (suc k)))))))) 8 ≡ false = by_true _ (λ t. let l : (suc (suc (suc (suc (suc (suc (suc (suc k)))))))) < 8 = ltb-true _ _ t in absurd (omega arith)) in
+    let z : bit_at 255 (suc (suc (suc (suc (suc (suc (suc (suc k)))))))) ≡ 0 =
+    bit_at_above 255 8 (suc (suc (suc (suc (suc (suc (suc (suc k)))))))) (omega arith) (omega arith) in
+    let f : nat_lt (suc (suc (suc (suc (suc (suc (suc (suc k)))))))) 8 ≡ false =
+    by_true _ (λ t. let l : (suc (suc (suc (suc (suc (suc (suc (suc k)))))))) < 8 = ltb-true _ _ t in absurd (omega arith)) in
     ap (λ b. b == 1) z ∙ sym f
 
 pub one_whole : (n m k : ℕ) → ((n == m) && has 1 k) ≡ bits_of (whole n 1) m k

@@ -165,7 +165,8 @@ fn guard(alloc: Global) -> Result<Guard, Memory>
 }
 
 fn branch(alloc: Global) -> Result<Act, Memory>
-    ensures { IfOk result (λ a. (p : Stand) × (q : Stand) × (a ≡ Branch (record { condition = takes p q; body = fills } ∷ []) (empties ∷ []))) }
+    ensures { IfOk result (λ a. (p : Stand) × (q : Stand)
+        × (a ≡ Branch (record { condition = takes p q; body = fills } ∷ []) (empties ∷ []))) }
 {
     let empties = empties(alloc)?;
     let otherwise = one_act(alloc, empties)?;

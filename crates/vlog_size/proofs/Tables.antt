@@ -177,7 +177,8 @@ abbrev value_in : {V : Type 0} → Named V → V
 value_in x = x.value
 
 values_get : {V : Type 0} → (es : List (Vec ℕ × V)) (k : ℕ)
-    → slice_get (map (λ (x : Named V). x.value) (named es)) k ≡ option_map (value_in {V = V}) (option_map (entry_of {V = V}) (slice_get es k))
+    → slice_get (map (λ (x : Named V). x.value) (named es)) k
+    ≡ option_map (value_in {V = V}) (option_map (entry_of {V = V}) (slice_get es k))
 values_get {V} es k =
     slice_get-map (value_in {V = V}) (named es) k ∙ ap (option_map (value_in {V = V})) (slice_get-map (entry_of {V = V}) es k)
 
