@@ -39,9 +39,7 @@ pub send_down : IsSend (record { valids = 0; readies = 2; contents = 0 ∷ 0 ∷
 send_down = record { fit = offers_fit 0 2 0 (omega arith) (omega arith) (omega arith); zeros = zero_down }
 
 pub offers_of : (os : List Offers) → All IsSend os → All (AreOffers stage_channels) os
-offers_of [] sends = tt
-offers_of (o ∷ os) (s, rest) = (s.fit, offers_of os rest)
+offers_of os sends = λ k d l. (sends k d l).fit
 
 pub zeros_of : (os : List Offers) → All IsSend os → All (AreZeroWhileDown stage_channels) os
-zeros_of [] sends = tt
-zeros_of (o ∷ os) (s, rest) = (s.zeros, zeros_of os rest)
+zeros_of os sends = λ k d l. (sends k d l).zeros

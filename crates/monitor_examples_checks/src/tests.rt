@@ -52,7 +52,8 @@ fn taking(alloc: Global) -> Result<Offers, Memory>
     })
 }
 
-/// Six cycles of `a send 5`, `a send 6` and `b take all`: the second content is offered in cycles 1 and 2, since it isn't taken in cycle 1.
+/// Six cycles of `a send 5`, `a send 6` and `b take all`: the second content is offered in cycles 1 and 2, since it isn't taken
+/// in cycle 1.
 fn six_cycles(alloc: Global) -> Result<Items<Offers>, Memory>
     ensures count { IfOk result (λ os. length os ≡ 6) }
     ensures sends { IfOk result (All IsSend) }
