@@ -1,15 +1,12 @@
 //! Worked examples of runs and replays, computed with the definitions on stages between two channels.
 #![tactic(auto)]
 
-#[cfg(test)]
-mod dead;
+pub mod dead;
 #[cfg(test)]
 mod given;
 mod laws;
-#[cfg(test)]
-mod pass;
-#[cfg(test)]
-mod stage;
+pub mod pass;
+pub mod stage;
 #[cfg(test)]
 mod tests;
 
