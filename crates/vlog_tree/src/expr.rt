@@ -151,6 +151,12 @@ pub enum Primary {
     Paren { line: u32, inner: Box<Expr> },
     /// `{part, ..}`; `line` is that of `{`.
     Concat { line: u32, parts: Items<Expr> },
+    /// `{count{part, ..}}`; `line` is that of the first `{`.
+    Repeat {
+        line: u32,
+        count: Box<Expr>,
+        parts: Items<Expr>,
+    },
 }
 
 /// A name with at most two brackets.
