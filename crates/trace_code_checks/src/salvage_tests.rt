@@ -33,10 +33,10 @@ fn is_salvaged(
 
 // Whether this many bytes, with so many packets, are the whole front of the first `len` bytes of such a trace.
 fn is_front(alloc: Global, bytes: &[u8], header: usize, ends: &[usize]) -> bool {
-    let packets = whole(ends, bytes.len());
-    let len = match packets {
-        0 => header,
-        _ => ends[packets - 1],
+    let packets = whole(ends, bytes.len()).min(ends.len());
+    let len = match ends[..packets].last() {
+        Some(end) => *end,
+        None => header,
     };
     match salvage_front(alloc, bytes) {
         Ok(front) => header <= bytes.len() && front == Whole { len, packets },
