@@ -314,3 +314,20 @@ pub number_again : (w x : ℕ) (rest : List ℕ) → x < 2 ^ w → number_at w (
 number_again w x rest lt =
     sized_again high_value (byte_count w) (2 ^ w) (bytes_high_first (byte_count w)) x rest (length-high (byte_count w) x)
     (high-again (byte_count w) x ∙ mod-eq_of_lt (held w x lt)) lt
+
+-- a number that may be any number of its bytes
+pub number-there : (w k : ℕ) (bytes : List ℕ) → IsBytes bytes → w ≡ 8 * k → k ≤ length bytes
+    → number_at w bytes ≡ Some (high_value (take k bytes), drop k bytes)
+unfolding sized_at
+number-there w k bytes fits e l =
+    let size : byte_count w ≡ k = omega arith in
+    let long : ltb (length bytes) k ≡ false = le-ltb (length bytes) k l in
+    let small = high-small (take k bytes) (IsBytes-take k bytes fits) in
+    let front : length (take k bytes) ≡ k = omega (arith, length-take k bytes) in
+    let all : 2 ^ w ≡ 256 ^ k = ap (λ n. 2 ^ n) e ∙ eights k in
+    let below : high_value (take k bytes) < 2 ^ w = subst (λ n. high_value (take k bytes) < n) (ap (λ n. 256 ^ n) front ∙ sym all) small in
+    rw (size, long, lt-ltb (high_value (take k bytes)) (2 ^ w) below) refl
+
+pub number-short : (w : ℕ) (bytes : List ℕ) → length bytes < byte_count w → number_at w bytes ≡ None
+unfolding sized_at
+number-short w bytes l = rw (lt-ltb (length bytes) (byte_count w) l) refl

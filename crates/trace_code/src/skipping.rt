@@ -6,14 +6,31 @@ ghost use Rattle.trace_model.specs.Channel.{IsChannel};
 ghost use Rattle.trace_model.specs.Packet.{widths_under, IsPacket};
 ghost use Rattle.trace_model.specs.Trace.{Alternates, InFlight};
 ghost use Rattle.trace_code.specs.Encoding.{packet_bytes};
-ghost use Rattle.trace_code.specs.PacketReading.{numbers_at, packet_at, AreAll};
+ghost use Rattle.trace_code.specs.PacketReading.{number_at, numbers_at, packet_at, AreAll};
 ghost use Rattle.trace_code.specs.Skipping.{Passes, packet_with, Follows};
 
-use crate::error::CodeError;
-use crate::number::read_number;
+use crate::error::{CodeError, FAULT};
+use crate::number::{byte_count, read_number};
 use crate::packets::{read_masks, read_tag};
 use trace_model::{Channel, in_flight_after, names};
 use vidi_bits::Memory;
+
+/// The bytes after a number of this width, which isn't looked at where it may be any number of its bytes.
+#[tactic(auto, unfolding(crate::specs::PacketReading::sized_at))]
+fn skip_number(width: u8, bytes: &[u8]) -> Result<&[u8], CodeError>
+    requires { width ≤ 128 }
+    ensures { Passes (λ n rest. (n, rest.now)) result (number_at width bytes.now) }
+{
+    if width % 8 != 0 {
+        let (_number, rest) = read_number(width, bytes)?;
+        return Ok(rest);
+    }
+    let len = byte_count(width);
+    if bytes.len() < len {
+        return Err(FAULT);
+    }
+    Ok(&bytes[len..])
+}
 
 /// The bytes after a number of each width.
 fn skip_content<'a>(widths: &[u8], bytes: &'a [u8]) -> Result<&'a [u8], CodeError>
@@ -22,8 +39,7 @@ fn skip_content<'a>(widths: &[u8], bytes: &'a [u8]) -> Result<&'a [u8], CodeErro
 {
     let mut rest = bytes;
     for width in widths {
-        let (_number, after) = read_number(*width, rest)?;
-        rest = after;
+        rest = skip_number(*width, rest)?;
     }
     Ok(rest)
 }

@@ -4,19 +4,20 @@ use Rattle.trace_code.specs.PacketReading.{numbers_at}
 use Rattle.trace_code.proofs.PacketLoop.{number_goes_on, number_ends, number_is_done}
 use Rattle.trace_code.proofs.skipping.skip_content.Goals as goal
 
-pub returns-in_err-_number : goal.returns-in_err-_number
-returns-in_err-_number c =
+pub returns-in_err-rest : goal.returns-in_err-rest
+returns-in_err-rest c =
     let p = err_from_is_err_and c.from_residual.result c.from_residual.ensures.1 in
     let inv = c.loop-width.invariant in
-    rw (p.1, p.2) (number_ends c.in_err-_number.field-0.0 inv.0 c.args.widths.now c.loop-width.width-index c.loop-width.rest.now
-    (numbers_at c.args.widths.now c.args.bytes.now) c.loop-width-test.true c.in_err-_number.ensures inv.1)
+    rw (p.1, p.2) (number_ends c.in_err-rest.field-0.0 inv.0 c.args.widths.now c.loop-width.width-index c.loop-width.rest.now
+    (numbers_at c.args.widths.now c.args.bytes.now) c.loop-width-test.true c.in_err-rest.ensures inv.1)
 
 pub loop-width-preserved : goal.loop-width-preserved
 loop-width-preserved c =
-    let inv = c.loop-width.invariant in (
-      inv.0 ++ c.in_ok-_number._number ∷ [],
-      number_goes_on inv.0 c.args.widths.now c.loop-width.width-index c.loop-width.rest.now c.in_ok-_number._number
-          c.in_ok-_number.after.now (numbers_at c.args.widths.now c.args.bytes.now) c.loop-width-test.true c.in_ok-_number.ensures inv.1,
+    let inv = c.loop-width.invariant in
+    let there = c.in_ok-rest.ensures in (
+      inv.0 ++ there.0 ∷ [],
+      number_goes_on inv.0 c.args.widths.now c.loop-width.width-index c.loop-width.rest.now there.0 c.in_ok-rest.rest.now
+          (numbers_at c.args.widths.now c.args.bytes.now) c.loop-width-test.true there.1 inv.1,
     )
 
 pub returns : goal.returns
