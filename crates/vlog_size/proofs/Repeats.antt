@@ -81,6 +81,10 @@ pub product_capped : (n : Option ℕ) (v w p : ℕ) → v ≡ min w TOP → p �
 product_capped None v w p e h = h
 product_capped (Some n) v w p e h = h ∙ product_at n v w (nat_le w TOP) refl e
 
+pub many_capped : (many count : Option ℕ) (v w p : ℕ) → many ≡ count → v ≡ min w TOP → p ≡ min (repeat_width many v) TOP
+    → p ≡ min (repeat_width count w) TOP
+many_capped many count v w p same e h = product_capped many v w p e h ∙ ap (λ (n : Option ℕ). min (repeat_width n w) TOP) same
+
 gone : (l : Bool) (x : Option ℕ) → l ≡ false → (if l then x else None) ≡ None
 gone true x h = (cc)
 gone false x h = refl

@@ -1,5 +1,6 @@
 -- What the code keeps of an expression.
-use Rattle.std.specs.Prelude.{◌≡◌, ℕ, ◌+◌, ◌≤◌, ◌<◌, ◌^◌, ◌&&◌, min, max, List, [], length, Option, Some, None, if◌then◌else◌}
+use Rattle.std.specs.Prelude.{◌≡◌, ℕ, ◌+◌, ◌≤◌, ◌<◌, ◌^◌, Bool, true, ◌&&◌, ◌||◌, not, nat_le, min, max, List, [], length, Option}
+use Rattle.std.specs.Prelude.{Some, None, if◌then◌else◌}
 use Rattle.vlog_size.specs.declared.facts.Facts.{Facts}
 use Rattle.vlog_size.specs.declared.facts.Numbered.{Numbered}
 use Rattle.vlog_size.specs.declared.facts.Select.{Select}
@@ -62,6 +63,27 @@ operated_width Sum h a b = max h (max a b)
 operated_width Comparison h a b = max a b
 operated_width Logic h a b = max h 1
 operated_width Shift h a b = max h a
+
+-- the least width at which the left operand is taken
+abbrev pub left_reach : Kind → ℕ → ℕ
+left_reach Sum h = h
+left_reach Comparison h = 0
+left_reach Logic h = 0
+left_reach Shift h = h
+
+-- the least width at which the right operand is taken, where the left one has v bits
+abbrev pub right_reach : Kind → ℕ → ℕ → ℕ
+right_reach Sum h v = max h v
+right_reach Comparison h v = max 0 v
+right_reach Logic h v = 0
+right_reach Shift h v = 0
+
+-- whether the left operand, of u bits and constant or not, is taken wide enough for a right one of v bits
+abbrev pub is_enough : Kind → ℕ → Bool → ℕ → ℕ → Bool
+is_enough Sum h constant u v = not constant || nat_le v (max h u)
+is_enough Comparison h constant u v = not constant || nat_le v (max 0 u)
+is_enough Logic h constant u v = true
+is_enough Shift h constant u v = true
 
 -- two operands, each at the larger of h bits and both widths
 abbrev pub ShowsBoth : ℕ → Operands → Sizes → Sizes → Type 0

@@ -547,18 +547,22 @@ pub fn repeat_facts(line: u32, count: &Numbered, many: Option<u32>, whole: &Fact
         → Shows whole.now (of_concat line all) → ShowsRest parts.now [] all → Shows result (of_repeat line C all) }
 {
     let own = count_fault(line, many, parts.lawful, whole.width);
-    let count_const = either(too_large(count), count.facts.const_fault);
-    let widths = either(count.facts.width_fault, parts.width_fault);
+    let large = too_large(count);
+    let count_const = either(large, count.facts.const_fault);
+    let count_width = either(count.facts.width_fault, parts.width_fault);
+    let width = repeat_width(many, whole.width);
+    let consts = either(count_const, parts.const_fault);
+    let widths = either(own, count_width);
     Facts {
         line,
         plain: false,
         is_unsized: false,
         unsized_literal: false,
         constant: count.facts.constant && parts.constant,
-        width: repeat_width(many, whole.width),
+        width,
         whole: None,
-        const_fault: either(count_const, parts.const_fault),
-        width_fault: either(own, widths),
+        const_fault: consts,
+        width_fault: widths,
     }
 }
 

@@ -1,6 +1,6 @@
 //! What is said of an expression and of a target, and the number of an expression.
 
-ghost use Rattle.std.specs.Prelude.{◌≡◌, ℕ, [], ◌∷◌, Some, None};
+ghost use Rattle.std.specs.Prelude.{◌≡◌, ℕ, List, [], ◌∷◌, Some, None};
 ghost use Rattle.vlog_size.specs.declared.error.SizeError.TheVariants as error;
 ghost use Rattle.vlog_operators.specs.Number.{IsWidth};
 ghost use Rattle.vlog_tree.specs.Plain.{plain_expr, plain_prim, plain_unary, plain_ref, plain_sel, plain_exprs};
@@ -10,13 +10,14 @@ ghost use Rattle.vlog_size.specs.Size.{sizes_of, sizes_of_prim, sizes_of_ref, si
 ghost use Rattle.vlog_size.specs.Size.{sizes_of_target, sizes_of_targets};
 ghost use Rattle.vlog_size.specs.Size.{Sizes, Bracket, NoBracket, assigned_number, of_concat, of_repeat, of_read, of_place};
 ghost use Rattle.vlog_size.specs.Size.{no_faults};
-ghost use Rattle.vlog_size.specs.Facts.{Shows, ShowsNumber, ShowsSelect, ShowsRest, ShowsAt, ShowsBoth, ShowsOperands, ShowsAll};
+ghost use Rattle.vlog_size.specs.Facts.{Shows, ShowsNumber, ShowsSelect, ShowsRest, ShowsAt, ShowsOperands, ShowsAll};
+ghost use Rattle.vlog_size.specs.Facts.{left_reach, right_reach};
 
 use crate::error::SizeError;
 use crate::evaluated::{
-    Evaluated, Gathered, Operands, binary_at, choice_at, concat_at, is_enough, name_at,
-    none_gathered, number_at, numbered_from, operand_reach, paren_at, repeat_at, sign_at,
-    wide_number, wider, with_next,
+    Evaluated, Gathered, Operands, binary_at, choice_at, concat_at, is_enough, left_reach, name_at,
+    none_gathered, number_at, numbered_from, operand_reach, paren_at, repeat_at, right_reach,
+    sign_at, wide_number, with_next,
 };
 use crate::facts::{
     Facts, Numbered, Select, bit_select, concat_facts, either, indexed_select, name_facts,
@@ -67,7 +68,12 @@ fn evaluate(view: &View<'_>, e: &Expr, wide: u128) -> Evaluated
     match e {
         Expr::Unary(unary) => evaluate_unary(view, unary, wide),
         Expr::Binary { left, op, right } => {
-            let both = operands(view, kind_of(*op), left, right, wide);
+            let kind = kind_of(*op);
+            let start = left_reach(kind, wide);
+            let first = evaluate(view, left, start);
+            let reach = right_reach(kind, wide, &first);
+            let second = evaluate(view, right, reach);
+            let both = widened(view, left, kind, wide, first, second);
             binary_at(*op, &both, wide)
         }
         Expr::Choice {
@@ -76,45 +82,31 @@ fn evaluate(view: &View<'_>, e: &Expr, wide: u128) -> Evaluated
             else_value,
         } => {
             let chosen = evaluate(view, condition, 0);
-            let both = evaluate_both(view, then_value, else_value, wide);
+            let first = evaluate(view, then_value, wide);
+            let reach = right_reach(Kind::Sum, wide, &first);
+            let second = evaluate(view, else_value, reach);
+            let both = widened(view, then_value, Kind::Sum, wide, first, second);
             choice_at(&chosen, &both, wide)
         }
     }
 }
 
-/// The operands of an operator of this kind, each at the width at which it takes it.
+/// Two operands, each at the width at which an operator of this kind takes it. Where the right one
+/// is wider than what the left one was taken at, the left one is evaluated once more.
 #[cycle(evaluate)]
-fn operands(view: &View<'_>, kind: Kind, left: &Expr, right: &Expr, wide: u128) -> Operands
-    ensures { ShowsOperands kind wide result (sizes_of (readable_in view.now) (plain_expr left.now))
-        (sizes_of (readable_in view.now) (plain_expr right.now)) }
+fn widened(
+    view: &View<'_>,
+    left: &Expr,
+    kind: Kind,
+    wide: u128,
+    first: Evaluated,
+    second: Evaluated,
+) -> Operands
+    ensures { (B : Sizes) → ShowsAt (left_reach kind wide) first (sizes_of (readable_in view.now) (plain_expr left.now))
+        → ShowsAt (right_reach kind wide first.facts.width) second B
+        → ShowsOperands kind wide result (sizes_of (readable_in view.now) (plain_expr left.now)) B }
 {
-    match kind {
-        Kind::Sum => evaluate_both(view, left, right, wide),
-        Kind::Comparison => evaluate_both(view, left, right, 0),
-        Kind::Logic => {
-            let left = evaluate(view, left, 0);
-            let right = evaluate(view, right, 0);
-            Operands { left, right }
-        }
-        Kind::Shift => {
-            let left = evaluate(view, left, wide);
-            let right = evaluate(view, right, 0);
-            Operands { left, right }
-        }
-    }
-}
-
-/// Two operands, each at the larger of `wide` and both widths. Only where the right one is wider is
-/// the left one evaluated twice.
-#[cycle(evaluate)]
-fn evaluate_both(view: &View<'_>, left: &Expr, right: &Expr, wide: u128) -> Operands
-    ensures { ShowsBoth wide result (sizes_of (readable_in view.now) (plain_expr left.now))
-        (sizes_of (readable_in view.now) (plain_expr right.now)) }
-{
-    let first = evaluate(view, left, wide);
-    let reach = wider(wide, &first);
-    let second = evaluate(view, right, reach);
-    if is_enough(&first, &second, wide) {
+    if is_enough(kind, wide, &first, &second) {
         return Operands {
             left: first,
             right: second,
@@ -146,10 +138,7 @@ fn evaluate_prim(view: &View<'_>, prim: &Operand, wide: u128) -> Evaluated
 {
     match prim {
         Operand::Number(number) => number_at(number, wide),
-        Operand::Ref(name) => {
-            let facts = ref_facts(view, name);
-            name_at(view, name, facts, wide)
-        }
+        Operand::Ref(name) => evaluate_ref(view, name, wide),
         Operand::Paren { line, inner } => {
             let inner = evaluate(view, inner, wide);
             paren_at(*line, &inner)
@@ -161,7 +150,8 @@ fn evaluate_prim(view: &View<'_>, prim: &Operand, wide: u128) -> Evaluated
         }
         Operand::Repeat { line, count, parts } => {
             see_repeat(*line, parts);
-            repeat(view, *line, count, parts.as_slice(), wide)
+            let all = gather(view, parts.as_slice());
+            repeat(view, *line, count, &all, wide)
         }
     }
 }
@@ -181,14 +171,21 @@ fn gather(view: &View<'_>, parts: &[Expr]) -> Gathered
 
 /// What is said of these parts, so many times. The count is a constant position.
 #[cycle(evaluate)]
-fn repeat(view: &View<'_>, line: u32, count: &Expr, parts: &[Expr], wide: u128) -> Evaluated
-    ensures { ShowsAt wide result (of_repeat line (sizes_of (fixed (readable_in view.now)) (plain_expr count.now))
-        (sizes_of_all (readable_in view.now) (plain_exprs parts.now))) }
+fn repeat(view: &View<'_>, line: u32, count: &Expr, all: &Gathered, wide: u128) -> Evaluated
+    ensures { (parts : List Sizes) → ShowsAll all.now parts
+        → ShowsAt wide result (of_repeat line (sizes_of (fixed (readable_in view.now)) (plain_expr count.now)) parts) }
 {
     let constants = fixed(view);
     let count = numbered(&constants, count);
-    let all = gather(view, parts);
-    repeat_at(line, &count, &all, wide)
+    repeat_at(line, &count, all, wide)
+}
+
+#[cycle(evaluate)]
+fn evaluate_ref(view: &View<'_>, name: &Ref, wide: u128) -> Evaluated
+    ensures { ShowsAt wide result (sizes_of_ref (readable_in view.now) (plain_ref name.now)) }
+{
+    let facts = ref_facts(view, name);
+    name_at(view, name, facts, wide)
 }
 
 #[cycle(evaluate)]

@@ -1,10 +1,10 @@
-use Rattle.std.proofs.Common.{ℕ, ◌<◌, ◌^◌, length, arith, ap, sym, ◌∙◌, subst}
+use Rattle.std.proofs.Common.{◌<◌, ◌^◌, length, arith, ap, sym, ◌∙◌, subst}
 use Rattle.vlog_tree.specs.Plain.{plain_expr, plain_exprs, plain_sel}
 use Rattle.vlog_size.specs.Names.{Readable, readable_in}
 use Rattle.vlog_size.specs.Size.{Bracket, Part, Indexed, sizes_of, sizes_of_all, sizes_of_sel}
-use Rattle.vlog_size.specs.Facts.{ShowsSelect, ShowsAt}
+use Rattle.vlog_size.specs.Facts.{ShowsSelect}
 use Rattle.vlog_size.proofs.Rests.{parts_few, next_gathered, none_gathered}
-use Rattle.vlog_size.proofs.Reaches.{enough, not_enough}
+use Rattle.vlog_size.proofs.Reaches.{done_operands, more_operands}
 use Rattle.vlog_tree.specs.declared.expr.Sel.{Sel}
 use Rattle.vlog_size.proofs.size.+evaluate.Goals as goal
 
@@ -25,23 +25,19 @@ gather-returns t c =
       few = parts_few (readable_in c.args.view.now) c.args.parts.now few;
     }
 
-pub evaluate_both-returns-then-is_enough : goal.evaluate_both-returns-then-is_enough
-evaluate_both-returns-then-is_enough t c =
-    let right = sizes_of (readable_in c.args.view.now) (plain_expr c.args.right.now) in
-    let P : ℕ → Type 0 = λ w. ShowsAt w c.evaluate-second.result right in
-    enough c.args.wide c.evaluate-first.result c.evaluate-second.result
-    (sizes_of (readable_in c.args.view.now) (plain_expr c.args.left.now)) right
-    (sym c.is_enough.ensures ∙ c.if-is_enough.true) c.evaluate-first.ensures
-    (subst P c.wider-reach.ensures c.evaluate-second.ensures)
+pub widened-returns-then-is_enough : goal.widened-returns-then-is_enough
+widened-returns-then-is_enough t c = λ B first second.
+    done_operands c.args.kind c.args.wide c.args.first c.args.second (sizes_of (readable_in c.args.view.now) (plain_expr c.args.left.now)) B
+    (sym c.is_enough.ensures ∙ c.if-is_enough.true) first second
 
-pub evaluate_both-returns : goal.evaluate_both-returns
-evaluate_both-returns t c =
-    let right = sizes_of (readable_in c.args.view.now) (plain_expr c.args.right.now) in
-    let P : ℕ → Type 0 = λ w. ShowsAt w c.evaluate-second.result right in
-    not_enough c.args.wide c.evaluate-first.result c.evaluate-second.result c.evaluate-again.result
-    (sizes_of (readable_in c.args.view.now) (plain_expr c.args.left.now)) right
-    (sym c.is_enough.ensures ∙ c.if-is_enough.false) c.evaluate-first.ensures
-    (subst P c.wider-reach.ensures c.evaluate-second.ensures) c.evaluate-again.ensures
+pub widened-returns : goal.widened-returns
+widened-returns t c = λ B first second.
+    more_operands c.args.kind c.args.wide c.args.first c.args.second c.evaluate-again.result
+    (sizes_of (readable_in c.args.view.now) (plain_expr c.args.left.now)) B
+    (sym c.is_enough.ensures ∙ c.if-is_enough.false) first second c.evaluate-again.ensures
+
+pub evaluate_ref-returns : goal.evaluate_ref-returns
+evaluate_ref-returns t c = c.name_at.ensures c.ref_facts-facts.ensures
 
 pub select-returns-in-Index : goal.select-returns-in-Index
 select-returns-in-Index t c =
