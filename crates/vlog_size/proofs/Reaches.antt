@@ -1,6 +1,6 @@
 -- Numbers of expressions at widths that are large enough.
 use Rattle.std.proofs.Common.{◌≡◌, ℕ, ◌+◌, ◌≤◌, ◌<◌, Bool, true, false, ◌==◌, ◌&&◌, ◌||◌, not, nat_le, min, max, if◌then◌else◌}
-use Rattle.std.proofs.Common.{Option, None, Some, List, [], ◌∷◌, length, refl, ap, sym, ◌∙◌, arith}
+use Rattle.std.proofs.Common.{Option, None, Some, List, [], ◌∷◌, length, refl, ap, sym, ◌∙◌, subst, arith}
 use Rattle.std.proofs.lemmas.Grind.{common_steps}
 use Rattle.vlog_operators.specs.Number.{side_by_side}
 use Rattle.vlog_tree.specs.declared.expr.BinaryOp.{BinaryOp}
@@ -249,6 +249,16 @@ more_operands Sum h f g again a b test s t u = not_enough h f g again a b test s
 more_operands Comparison h f g again a b test s t u = not_enough 0 f g again a b test s t u
 more_operands Logic h f g again a b test s t u = (cc)
 more_operands Shift h f g again a b test s t u = (cc)
+
+pub paired : (kind k : Kind) (h start next : ℕ) (f g : Evaluated) (o : Operands) (a b : Sizes) → kind ≡ k → start ≡ left_reach kind h
+    → next ≡ right_reach kind h f.facts.width → ShowsAt start f a → ShowsAt next g b
+    → ((c : Sizes) → ShowsAt (left_reach kind h) f a → ShowsAt (right_reach kind h f.facts.width) g c → ShowsOperands kind h o a c)
+    → ShowsOperands k h o a b
+paired kind k h start next f g o a b same left right s t made =
+    let P : ℕ → Type 0 = λ w. ShowsAt w f a in
+    let Q : ℕ → Type 0 = λ w. ShowsAt w g b in
+    let R : Kind → Type 0 = λ x. ShowsOperands x h o a b in
+    subst R same (made b (subst P left s) (subst Q right t))
 
 -- ---- an operator before an operand
 abbrev pub unary_made : UnaryOp → Option ℕ → ℕ → Option ℕ

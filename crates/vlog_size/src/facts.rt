@@ -540,6 +540,12 @@ fn count_fault(line: u32, count: Option<u32>, lawful: bool, width: u128) -> Opti
     }
 }
 
+fn both(a: bool, b: bool) -> bool
+    ensures { result ≡ (a && b) }
+{
+    a && b
+}
+
 /// What is said of these parts, so many times: `whole` is what is said of their concatenation.
 #[tactic(auto, using(crate::proofs::Firsts::first_append))]
 pub fn repeat_facts(line: u32, count: &Numbered, many: Option<u32>, whole: &Facts, parts: &Parts) -> Facts
@@ -547,6 +553,7 @@ pub fn repeat_facts(line: u32, count: &Numbered, many: Option<u32>, whole: &Fact
         → Shows whole.now (of_concat line all) → ShowsRest parts.now [] all → Shows result (of_repeat line C all) }
 {
     let own = count_fault(line, many, parts.lawful, whole.width);
+    let constant = both(count.facts.constant, parts.constant);
     let large = too_large(count);
     let count_const = either(large, count.facts.const_fault);
     let count_width = either(count.facts.width_fault, parts.width_fault);
@@ -558,7 +565,7 @@ pub fn repeat_facts(line: u32, count: &Numbered, many: Option<u32>, whole: &Fact
         plain: false,
         is_unsized: false,
         unsized_literal: false,
-        constant: count.facts.constant && parts.constant,
+        constant,
         width,
         whole: None,
         const_fault: consts,

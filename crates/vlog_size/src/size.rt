@@ -82,11 +82,11 @@ fn evaluate(view: &View<'_>, e: &Expr, wide: u128) -> Evaluated
             else_value,
         } => {
             let chosen = evaluate(view, condition, 0);
-            let first = evaluate(view, then_value, wide);
-            let reach = right_reach(Kind::Sum, wide, &first);
-            let second = evaluate(view, else_value, reach);
-            let both = widened(view, then_value, Kind::Sum, wide, first, second);
-            choice_at(&chosen, &both, wide)
+            let taken = evaluate(view, then_value, wide);
+            let other_reach = right_reach(Kind::Sum, wide, &taken);
+            let other = evaluate(view, else_value, other_reach);
+            let branches = widened(view, then_value, Kind::Sum, wide, taken, other);
+            choice_at(&chosen, &branches, wide)
         }
     }
 }

@@ -15,7 +15,7 @@ returns c = λ C all few count many whole parts.
       plain = refl;
       is_unsized = refl;
       unsized_literal = refl;
-      constant = ap (λ (b : Bool). b && c.args.parts.now.constant) count.facts.constant
+      constant = c.both-constant.ensures ∙ ap (λ (b : Bool). b && c.args.parts.now.constant) count.facts.constant
           ∙ ap (λ (b : Bool). C.constant && b) (sym (and_true c.args.parts.now.constant) ∙ parts.constant);
       width = many_capped c.args.many (times C) c.args.whole.now.width (total_width all) _ many whole.width c.repeat_width-width.ensures;
       whole = refl;

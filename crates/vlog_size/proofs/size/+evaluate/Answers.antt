@@ -1,11 +1,14 @@
-use Rattle.std.proofs.Common.{◌<◌, ◌^◌, length, arith, ap, sym, ◌∙◌, subst}
-use Rattle.vlog_tree.specs.Plain.{plain_expr, plain_exprs, plain_sel}
+use Rattle.std.proofs.Common.{refl, ◌<◌, ◌^◌, length, arith, ap, sym, ◌∙◌, subst}
+use Rattle.vlog_tree.specs.Plain.{plain_expr, plain_prim, plain_exprs, plain_sel}
 use Rattle.vlog_size.specs.Names.{Readable, readable_in}
-use Rattle.vlog_size.specs.Size.{Bracket, Part, Indexed, sizes_of, sizes_of_all, sizes_of_sel}
-use Rattle.vlog_size.specs.Facts.{ShowsSelect}
+use Rattle.vlog_size.specs.Size.{Sizes, Bracket, Part, Indexed, sizes_of, sizes_of_prim, sizes_of_all, sizes_of_sel}
+use Rattle.vlog_size.specs.Facts.{ShowsSelect, ShowsAt}
 use Rattle.vlog_size.proofs.Rests.{parts_few, next_gathered, none_gathered}
-use Rattle.vlog_size.proofs.Reaches.{done_operands, more_operands}
+use Rattle.vlog_size.proofs.Reaches.{done_operands, more_operands, paired}
 use Rattle.vlog_tree.specs.declared.expr.Sel.{Sel}
+use Rattle.vlog_tree.specs.declared.expr.Expr.{Expr}
+use Rattle.vlog_tree.specs.declared.expr.Primary.{Primary}
+use Rattle.vlog_size.specs.declared.operators.Kind.TheVariants.{Sum}
 use Rattle.vlog_size.proofs.size.+evaluate.Goals as goal
 
 pub gather-loop-part-preserved : goal.gather-loop-part-preserved
@@ -35,6 +38,27 @@ widened-returns t c = λ B first second.
     more_operands c.args.kind c.args.wide c.args.first c.args.second c.evaluate-again.result
     (sizes_of (readable_in c.args.view.now) (plain_expr c.args.left.now)) B
     (sym c.is_enough.ensures ∙ c.if-is_enough.false) first second c.evaluate-again.ensures
+
+pub evaluate-returns-in-Binary : goal.evaluate-returns-in-Binary
+evaluate-returns-in-Binary t c =
+    let P : Sizes → Type 0 = λ s. ShowsAt c.args.wide c.binary_at.result s in
+    subst P (sym (ap (λ (e : Expr). sizes_of (readable_in c.args.view.now) (plain_expr e)) c.in-Binary.is))
+    (c.binary_at.ensures _ _
+    (paired c.kind_of-kind.result _ c.args.wide _ _ _ _ c.widened-both.result _ _ c.kind_of-kind.ensures c.left_reach-start.ensures
+    c.right_reach-reach.ensures c.evaluate-first.ensures c.evaluate-second.ensures c.widened-both.ensures))
+
+pub evaluate-returns-in-Choice : goal.evaluate-returns-in-Choice
+evaluate-returns-in-Choice t c =
+    let P : Sizes → Type 0 = λ s. ShowsAt c.args.wide c.choice_at.result s in
+    subst P (sym (ap (λ (e : Expr). sizes_of (readable_in c.args.view.now) (plain_expr e)) c.in-Choice.is))
+    (c.choice_at.ensures _ _ _ c.evaluate-chosen.ensures
+    (paired Sum Sum c.args.wide _ _ _ _ c.widened-branches.result _ _ refl refl c.right_reach-other_reach.ensures
+    c.evaluate-taken.ensures c.evaluate-other.ensures c.widened-branches.ensures))
+
+pub evaluate_prim-returns-in-Ref : goal.evaluate_prim-returns-in-Ref
+evaluate_prim-returns-in-Ref t c =
+    let P : Sizes → Type 0 = λ s. ShowsAt c.args.wide c.evaluate_ref.result s in
+    subst P (sym (ap (λ (p : Primary). sizes_of_prim (readable_in c.args.view.now) (plain_prim p)) c.in-Ref.is)) c.evaluate_ref.ensures
 
 pub evaluate_ref-returns : goal.evaluate_ref-returns
 evaluate_ref-returns t c = c.name_at.ensures c.ref_facts-facts.ensures
