@@ -2,7 +2,7 @@ use Rattle.std.proofs.Common.{refl, ◌<◌, ◌^◌, length, arith, ap, sym, �
 use Rattle.vlog_tree.specs.Plain.{plain_expr, plain_prim, plain_exprs, plain_sel}
 use Rattle.vlog_size.specs.Names.{Readable, readable_in}
 use Rattle.vlog_size.specs.Size.{Sizes, Bracket, Part, Indexed, sizes_of, sizes_of_prim, sizes_of_all, sizes_of_sel}
-use Rattle.vlog_size.specs.Facts.{ShowsSelect, ShowsAt}
+use Rattle.vlog_size.specs.Facts.{ShowsSelect, ShowsAt, ShowsOperands, left_reach, right_reach}
 use Rattle.vlog_size.proofs.Rests.{parts_few, next_gathered, none_gathered}
 use Rattle.vlog_size.proofs.Reaches.{done_operands, more_operands, paired}
 use Rattle.vlog_tree.specs.declared.expr.Sel.{Sel}
@@ -41,19 +41,41 @@ widened-returns t c = λ B first second.
 
 pub evaluate-returns-in-Binary : goal.evaluate-returns-in-Binary
 evaluate-returns-in-Binary t c =
+    let r = readable_in c.args.view.now in
+    let kind = c.kind_of-kind.result in
+    let first = c.evaluate-first.result in
+    let second = c.evaluate-second.result in
+    let L : Expr → Type 0 = λ e. ShowsAt c.left_reach-start.result first (sizes_of r (plain_expr e)) in
+    let R : Expr → Type 0 = λ e. ShowsAt c.right_reach-reach.result second (sizes_of r (plain_expr e)) in
+    let W : Expr → Type 0 = λ e. (B : Sizes) → ShowsAt (left_reach kind c.args.wide) first (sizes_of r (plain_expr e))
+    → ShowsAt (right_reach kind c.args.wide first.facts.width) second B
+    → ShowsOperands kind c.args.wide c.widened-both.result (sizes_of r (plain_expr e)) B in
     let P : Sizes → Type 0 = λ s. ShowsAt c.args.wide c.binary_at.result s in
-    subst P (sym (ap (λ (e : Expr). sizes_of (readable_in c.args.view.now) (plain_expr e)) c.in-Binary.is))
+    subst P (sym (ap (λ (e : Expr). sizes_of r (plain_expr e)) c.in-Binary.is))
     (c.binary_at.ensures _ _
-    (paired c.kind_of-kind.result _ c.args.wide _ _ _ _ c.widened-both.result _ _ c.kind_of-kind.ensures c.left_reach-start.ensures
-    c.right_reach-reach.ensures c.evaluate-first.ensures c.evaluate-second.ensures c.widened-both.ensures))
+    (paired kind _ c.args.wide _ _ first second c.widened-both.result _ _ c.kind_of-kind.ensures c.left_reach-start.ensures
+    c.right_reach-reach.ensures (subst L c.deref.ensures c.evaluate-first.ensures)
+    (subst R c.deref-in-Binary.ensures c.evaluate-second.ensures)
+    (subst W c.deref-in-Binary-2.ensures c.widened-both.ensures)))
 
 pub evaluate-returns-in-Choice : goal.evaluate-returns-in-Choice
 evaluate-returns-in-Choice t c =
+    let r = readable_in c.args.view.now in
+    let first = c.evaluate-taken.result in
+    let second = c.evaluate-other.result in
+    let C : Expr → Type 0 = λ e. ShowsAt 0 c.evaluate-chosen.result (sizes_of r (plain_expr e)) in
+    let L : Expr → Type 0 = λ e. ShowsAt c.args.wide first (sizes_of r (plain_expr e)) in
+    let R : Expr → Type 0 = λ e. ShowsAt c.right_reach-other_reach.result second (sizes_of r (plain_expr e)) in
+    let W : Expr → Type 0 = λ e. (B : Sizes) → ShowsAt c.args.wide first (sizes_of r (plain_expr e))
+    → ShowsAt (right_reach Sum c.args.wide first.facts.width) second B
+    → ShowsOperands Sum c.args.wide c.widened-branches.result (sizes_of r (plain_expr e)) B in
     let P : Sizes → Type 0 = λ s. ShowsAt c.args.wide c.choice_at.result s in
-    subst P (sym (ap (λ (e : Expr). sizes_of (readable_in c.args.view.now) (plain_expr e)) c.in-Choice.is))
-    (c.choice_at.ensures _ _ _ c.evaluate-chosen.ensures
-    (paired Sum Sum c.args.wide _ _ _ _ c.widened-branches.result _ _ refl refl c.right_reach-other_reach.ensures
-    c.evaluate-taken.ensures c.evaluate-other.ensures c.widened-branches.ensures))
+    subst P (sym (ap (λ (e : Expr). sizes_of r (plain_expr e)) c.in-Choice.is))
+    (c.choice_at.ensures _ _ _ (subst C c.deref-in-Choice.ensures c.evaluate-chosen.ensures)
+    (paired Sum Sum c.args.wide _ _ first second c.widened-branches.result _ _ refl refl c.right_reach-other_reach.ensures
+    (subst L c.deref-in-Choice-2.ensures c.evaluate-taken.ensures)
+    (subst R c.deref-in-Choice-3.ensures c.evaluate-other.ensures)
+    (subst W c.deref-in-Choice-4.ensures c.widened-branches.ensures)))
 
 pub evaluate_prim-returns-in-Ref : goal.evaluate_prim-returns-in-Ref
 evaluate_prim-returns-in-Ref t c =
