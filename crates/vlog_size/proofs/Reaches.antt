@@ -1,6 +1,6 @@
 -- Numbers of expressions at widths that are large enough.
-use Rattle.std.proofs.Common.{◌≡◌, ℕ, ◌+◌, ◌≤◌, ◌<◌, Bool, true, false, ◌==◌, ◌&&◌, ◌||◌, not, nat_le, min, max, if◌then◌else◌}
-use Rattle.std.proofs.Common.{Option, None, Some, List, [], ◌∷◌, length, refl, ap, sym, ◌∙◌, subst, arith}
+use Rattle.std.proofs.Common.{◌≡◌, ℕ, ◌+◌, ◌≤◌, ◌<◌, Bool, true, false, ◌&&◌, ◌||◌, not, nat_le, min, max, if◌then◌else◌}
+use Rattle.std.proofs.Common.{Option, None, Some, List, ◌∷◌, refl, ap, sym, ◌∙◌, subst, arith}
 use Rattle.std.proofs.lemmas.Grind.{common_steps}
 use Rattle.vlog_operators.specs.Number.{side_by_side}
 use Rattle.vlog_tree.specs.declared.expr.BinaryOp.{BinaryOp}
@@ -16,8 +16,8 @@ use Rattle.vlog_size.specs.Literal.{is_lawful}
 use Rattle.vlog_size.specs.Operators.{unary_value, binary_value}
 use Rattle.vlog_size.specs.Size.{Sizes, own, own_width, shared_width, at_width, assigned_width, of_one, of_two, wide_value, narrow_value}
 use Rattle.vlog_size.specs.Size.{binary_width, compared, operated, chosen_value, join_with, joined, joined_at, concat_value, all_constant}
-use Rattle.vlog_size.specs.Size.{total_width, of_concat, repeat_value, concat_own_width}
-use Rattle.vlog_size.specs.Facts.{Shows, ShowsAt, ShowsBoth, ShowsOperands, ShowsRest, ShowsGathered, ShowsAll, reach, operated_width}
+use Rattle.vlog_size.specs.Size.{total_width, of_concat, repeat_value}
+use Rattle.vlog_size.specs.Facts.{Shows, ShowsAt, ShowsBoth, ShowsOperands, ShowsRest, ShowsGathered, ShowsAll, operated_width}
 use Rattle.vlog_size.specs.Facts.{left_reach, right_reach, is_enough}
 use Rattle.vlog_size.proofs.Lists.{never}
 use Rattle.vlog_size.proofs.Repeats.{value_capped}
@@ -229,9 +229,10 @@ pub not_enough : (wide : ℕ) (f g again : Evaluated) (a b : Sizes) → (not f.f
 not_enough wide f g again a b test s t u =
     let not_within : nat_le g.facts.width (max wide f.facts.width) ≡ false =
     wider_at f.facts.constant (nat_le g.facts.width (max wide f.facts.width)) test in
-    let over : max wide f.facts.width < g.facts.width = grind arith in
-    (left_again wide f.facts.width g.facts.width again a b s.facts.width t.facts.width over u,
-    right_asked wide f.facts.width g a b s.facts.width t)
+    let over : max wide f.facts.width < g.facts.width = grind arith in (
+      left_again wide f.facts.width g.facts.width again a b s.facts.width t.facts.width over u,
+      right_asked wide f.facts.width g a b s.facts.width t,
+    )
 
 pub done_operands : (kind : Kind) (h : ℕ) (f g : Evaluated) (a b : Sizes)
     → is_enough kind h f.facts.constant f.facts.width g.facts.width ≡ true → ShowsAt (left_reach kind h) f a

@@ -548,7 +548,13 @@ fn both(a: bool, b: bool) -> bool
 
 /// What is said of these parts, so many times: `whole` is what is said of their concatenation.
 #[tactic(auto, using(crate::proofs::Firsts::first_append))]
-pub fn repeat_facts(line: u32, count: &Numbered, many: Option<u32>, whole: &Facts, parts: &Parts) -> Facts
+pub fn repeat_facts(
+    line: u32,
+    count: &Numbered,
+    many: Option<u32>,
+    whole: &Facts,
+    parts: &Parts,
+) -> Facts
     ensures { (C : Sizes) (all : List Sizes) → length all < 2 ^ 64 → ShowsNumber count.now C → many ≡ times C
         → Shows whole.now (of_concat line all) → ShowsRest parts.now [] all → Shows result (of_repeat line C all) }
 {

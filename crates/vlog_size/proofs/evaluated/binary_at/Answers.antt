@@ -1,4 +1,4 @@
-use Rattle.std.proofs.Common.{◌∙◌, ap, ℕ}
+use Rattle.std.proofs.Common.{◌∙◌, ap}
 use Rattle.vlog_size.specs.Operators.{kind_of}
 use Rattle.vlog_size.specs.Size.{of_binary}
 use Rattle.vlog_size.specs.Facts.{operated_width}

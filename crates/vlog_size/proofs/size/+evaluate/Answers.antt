@@ -1,7 +1,7 @@
 use Rattle.std.proofs.Common.{refl, ◌<◌, ◌^◌, length, arith, ap, sym, ◌∙◌, subst}
-use Rattle.vlog_tree.specs.Plain.{plain_expr, plain_prim, plain_exprs, plain_sel}
+use Rattle.vlog_tree.specs.Plain.{plain_expr, plain_prim, plain_sel}
 use Rattle.vlog_size.specs.Names.{Readable, readable_in}
-use Rattle.vlog_size.specs.Size.{Sizes, Bracket, Part, Indexed, sizes_of, sizes_of_prim, sizes_of_all, sizes_of_sel}
+use Rattle.vlog_size.specs.Size.{Sizes, Bracket, Part, Indexed, sizes_of, sizes_of_prim, sizes_of_sel}
 use Rattle.vlog_size.specs.Facts.{ShowsSelect, ShowsAt, ShowsOperands, left_reach, right_reach}
 use Rattle.vlog_size.proofs.Rests.{parts_few, next_gathered, none_gathered}
 use Rattle.vlog_size.proofs.Reaches.{done_operands, more_operands, paired}
