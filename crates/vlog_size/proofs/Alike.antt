@@ -12,7 +12,8 @@ use Rattle.vidi_bits.specs.Findings.{told_if}
 use Rattle.vlog_size.specs.Names.{Readable, fixed, checked, meaning_of, is_lawful_readable}
 use Rattle.vlog_size.specs.Size.{Sizes, sizes_of, sizes_of_prim, sizes_of_ref, sizes_of_index, sizes_of_last, sizes_of_sel, sizes_of_all}
 use Rattle.vlog_size.specs.Size.{sizes_of_target, sizes_of_targets, of_sign, of_binary, of_choice, of_paren, of_concat, of_repeat, of_ref}
-use Rattle.vlog_size.specs.Size.{of_name, Bracket, Bit, Part, Indexed, if_checked, name_const_faults, name_width_faults, const_width, is_past}
+use Rattle.vlog_size.specs.Size.{of_name}
+use Rattle.vlog_size.specs.Size.{Bracket, Bit, Part, Indexed, if_checked, name_const_faults, name_width_faults, const_width, is_past}
 use Rattle.vlog_size.proofs.Meanings.{IsLawfulMeaning, meaning_lawful, fixed_lawful, const_lawful, not_past}
 
 both : {A B C : Type 0} → (f : A → B → C) (a c : A) (b d : B) → a ≡ c → b ≡ d → f a b ≡ f c d

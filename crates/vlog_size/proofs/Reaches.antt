@@ -64,7 +64,8 @@ turned h a b = omega arith
 swapped : (h a b : ℕ) → max (max h a) b ≡ max (max h b) a
 swapped h a b = omega arith
 
-alike_both : (F : ℕ → Option ℕ) (h u v a b : ℕ) → u ≡ min a TOP → v ≡ min b TOP → lawfully F (max h (max u v)) ≡ lawfully F (max h (max a b))
+alike_both : (F : ℕ → Option ℕ) (h u v a b : ℕ) → u ≡ min a TOP → v ≡ min b TOP
+    → lawfully F (max h (max u v)) ≡ lawfully F (max h (max a b))
 alike_both F h u v a b d e =
     ap (lawfully F) (turned h u v)
     ∙ (alike F (max h u) v b e
@@ -172,20 +173,25 @@ kept_down : (wide u v a b : ℕ) → u ≡ min a TOP → v ≡ min b TOP → v �
 kept_down wide u v a b d e within h = omega arith
 
 -- the right operand, taken at the left one's width no more than the largest number
-pub right_asked : (wide v : ℕ) (f : Evaluated) (a b : Sizes) → v ≡ min a.width TOP → ShowsAt (max wide v) f b → ShowsAt (max wide a.width) f b
-right_asked wide v f a b e s = asked (max wide v) (max wide a.width) f b (λ h. right_up wide v a.width b.width e h) (λ h. right_down wide v a.width b.width e h) s
+pub right_asked : (wide v : ℕ) (f : Evaluated) (a b : Sizes) → v ≡ min a.width TOP → ShowsAt (max wide v) f b
+    → ShowsAt (max wide a.width) f b
+right_asked wide v f a b e s =
+    asked (max wide v) (max wide a.width) f b (λ h. right_up wide v a.width b.width e h)
+    (λ h. right_down wide v a.width b.width e h) s
 
 -- the left operand once more, taken at the right one's width
 pub left_again : (wide u v : ℕ) (f : Evaluated) (a b : Sizes) → u ≡ min a.width TOP → v ≡ min b.width TOP → max wide u < v
     → ShowsAt v f a → ShowsAt (max wide b.width) f a
 left_again wide u v f a b d e over s =
-    asked v (max wide b.width) f a (λ h. again_up wide u v a.width b.width d e over h) (λ h. again_down wide u v a.width b.width d e over h) s
+    asked v (max wide b.width) f a (λ h. again_up wide u v a.width b.width d e over h)
+    (λ h. again_down wide u v a.width b.width d e over h) s
 
 -- the left operand as it was taken, where the right one isn't wider
 pub left_kept : (wide u v : ℕ) (f : Evaluated) (a b : Sizes) → u ≡ min a.width TOP → v ≡ min b.width TOP → v ≤ max wide u
     → ShowsAt wide f a → ShowsAt (max wide b.width) f a
 left_kept wide u v f a b d e within s =
-    asked wide (max wide b.width) f a (λ h. kept_up wide u v a.width b.width d e within h) (λ h. kept_down wide u v a.width b.width d e within h) s
+    asked wide (max wide b.width) f a (λ h. kept_up wide u v a.width b.width d e within h)
+    (λ h. kept_down wide u v a.width b.width d e within h) s
 
 no_reach : (c : Bool) (x y : ℕ) (value : ℕ → Option ℕ) → c ≡ false
     → at_width value (if c && is_lawful x then Some x else None) ≡ at_width value (if c && is_lawful y then Some y else None)
@@ -203,7 +209,8 @@ not_both : (c w : Bool) → (not c || w) ≡ true → c ≡ true → w ≡ true
 not_both true w h k = h
 not_both false w h k = (cc)
 
-enough_at : (wide : ℕ) (f g : Evaluated) (a b : Sizes) (c : Bool) → a.constant ≡ c → (not f.facts.constant || nat_le g.facts.width (max wide f.facts.width)) ≡ true
+enough_at : (wide : ℕ) (f g : Evaluated) (a b : Sizes) (c : Bool) → a.constant ≡ c
+    → (not f.facts.constant || nat_le g.facts.width (max wide f.facts.width)) ≡ true
     → Shows g.facts b → ShowsAt wide f a → ShowsAt (max wide b.width) f a
 enough_at wide f g a b false h enough t s = left_free wide (max wide b.width) f a h s
 enough_at wide f g a b true h enough t s =
@@ -223,7 +230,8 @@ wider_at : (c w : Bool) → (not c || w) ≡ false → w ≡ false
 wider_at true w h = h
 wider_at false w h = (cc)
 
-pub not_enough : (wide : ℕ) (f g again : Evaluated) (a b : Sizes) → (not f.facts.constant || nat_le g.facts.width (max wide f.facts.width)) ≡ false
+pub not_enough : (wide : ℕ) (f g again : Evaluated) (a b : Sizes)
+    → (not f.facts.constant || nat_le g.facts.width (max wide f.facts.width)) ≡ false
     → ShowsAt wide f a → ShowsAt (max wide f.facts.width) g b → ShowsAt g.facts.width again a
     → ShowsBoth wide (record { left = again; right = g }) a b
 not_enough wide f g again a b test s t u =
@@ -322,7 +330,8 @@ comparison_made op o a b s c d =
     (λ l. value_of (max 0 b.width) w o.left a s.0 c (left_width 0 a.width b.width ∙ zero_max w) l)
     (λ l. value_of (max 0 a.width) w o.right b s.1 d (right_width 0 a.width b.width ∙ zero_max w) l)
 
-pub binary_same : (kind : Kind) (op : BinaryOp) (h : ℕ) (o : Operands) (a b : Sizes) (n : Option ℕ) → Shows o.left.facts a → Shows o.right.facts b
+pub binary_same : (kind : Kind) (op : BinaryOp) (h : ℕ) (o : Operands) (a b : Sizes) (n : Option ℕ) → Shows o.left.facts a
+    → Shows o.right.facts b
     → ShowsOperands kind h o a b
     → n ≡ lawfully (binary_made op o.left.value o.right.value) (operated_width kind h o.left.facts.width o.right.facts.width)
     → a.constant ≡ true → b.constant ≡ true → is_lawful (max h (binary_width kind a.width b.width)) ≡ true
@@ -368,8 +377,10 @@ pub choice_same : (h : ℕ) (f : Evaluated) (o : Operands) (c a b : Sizes) (n : 
 choice_same h f o c a b n r s is d e l =
     let w = max h (max a.width b.width) in
     is ∙ (ap (λ (x : Option ℕ). chosen_value x o.left.value o.right.value) (own_at f c r)
-    ∙ (ap (λ (x : Option ℕ). chosen_value (own c) x o.right.value) (value_of (max h b.width) w o.left a s.0 d (left_width h a.width b.width) l)
-    ∙ ap (λ (x : Option ℕ). chosen_value (own c) (a.value w) x) (value_of (max h a.width) w o.right b s.1 e (right_width h a.width b.width) l)))
+    ∙ (ap (λ (x : Option ℕ). chosen_value (own c) x o.right.value)
+    (value_of (max h b.width) w o.left a s.0 d (left_width h a.width b.width) l)
+    ∙ ap (λ (x : Option ℕ). chosen_value (own c) (a.value w) x)
+    (value_of (max h a.width) w o.right b s.1 e (right_width h a.width b.width) l)))
 
 -- ---- concatenations
 abbrev pub part_made : ℕ → Option ℕ → Option ℕ → ℕ → Option ℕ
@@ -426,7 +437,8 @@ next_gathered g r f p rest all h s parts made = record {
       ap (λ (w : ℕ). g.parts.sum + w) (sym (more_width p rest)) ∙ now in
       let next : r.parts.sum + total_width rest ≡ total_width all =
       sum_there r.parts.sum (total_width rest) (total_width all) t parts.sum in
-      let both = next_made g.parts.sum r.parts.sum 0 p.width (total_width rest) (total_width all) g.number None r.number p f refl s t split next made in
+      let both = next_made g.parts.sum r.parts.sum 0 p.width (total_width rest) (total_width all) g.number None r.number
+      p f refl s t split next made in
       joined_next r.parts.sum g.parts.sum r.number g.number p rest (joined 0 (Some 0) all) both.0 both.1 (h.number t);
 }
 
@@ -443,7 +455,8 @@ concat_same g v all n s e is c =
     ∙ concat_made all (all_constant all) (is_lawful (total_width all)) (total_width all) g.number c
     (λ l. s.none_left.number (few (total_width all) l)))
 
-unit_made : (all : List Sizes) (c l : Bool) (w : ℕ) → at_width (λ (v : ℕ). joined_at all (if c && l then Some w else None)) (if c && l then Some w else None)
+unit_made : (all : List Sizes) (c l : Bool) (w : ℕ)
+    → at_width (λ (v : ℕ). joined_at all (if c && l then Some w else None)) (if c && l then Some w else None)
     ≡ joined_at all (if c && l then Some w else None)
 unit_made all true true w = refl
 unit_made all true false w = refl

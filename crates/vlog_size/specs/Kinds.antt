@@ -2,7 +2,8 @@
 -- and E7, a name of a wrong kind.
 use Rattle.std.specs.Prelude.{ℕ, Bool, true, false, List, [], ◌++◌, Option, Some, None, is_none}
 use Rattle.vlog_tree.specs.Tree.{ExprOf, UnaryExpr, BinaryExpr, ChoiceExpr, PrimOf, NumberPrim, RefPrim, ParenPrim, ConcatPrim}
-use Rattle.vlog_tree.specs.Tree.{RepeatPrim, RefOf, RefWith, IndexOf, NoIndex, Index, LastOf, NoLast, Last, SelOf, IndexSel, PartSel, IndexedSel, ExprsOf}
+use Rattle.vlog_tree.specs.Tree.{RepeatPrim, RefOf}
+use Rattle.vlog_tree.specs.Tree.{RefWith, IndexOf, NoIndex, Index, LastOf, NoLast, Last, SelOf, IndexSel, PartSel, IndexedSel, ExprsOf}
 use Rattle.vlog_tree.specs.Tree.{NoExprs, MoreExprs}
 use Rattle.vidi_bits.specs.Findings.{told_if}
 

@@ -8,8 +8,10 @@ use Rattle.vlog_size.proofs.facts.repeat_facts.Goals as goal
 pub returns : goal.returns
 returns c = λ C all few count many whole parts.
     let lawful : c.args.parts.now.lawful ≡ all_lawful all = sym (and_true c.args.parts.now.lawful) ∙ parts.lawful in
-    let const : c.args.parts.now.const_fault ≡ first (parts_const_faults all) = sym (or_none c.args.parts.now.const_fault) ∙ parts.const_fault in
-    let width : c.args.parts.now.width_fault ≡ first (parts_width_faults all) = sym (or_none c.args.parts.now.width_fault) ∙ parts.width_fault in
+    let const : c.args.parts.now.const_fault ≡ first (parts_const_faults all) =
+    sym (or_none c.args.parts.now.const_fault) ∙ parts.const_fault in
+    let width : c.args.parts.now.width_fault ≡ first (parts_width_faults all) =
+    sym (or_none c.args.parts.now.width_fault) ∙ parts.width_fault in
     record {
       line = refl;
       plain = refl;
@@ -21,7 +23,8 @@ returns c = λ C all few count many whole parts.
       whole = refl;
       const_fault = c.either-consts.ensures
           ∙ first_both _ _ (too_large C ++ C.const_faults) (parts_const_faults all)
-          (c.either-count_const.ensures ∙ first_both _ _ (too_large C) C.const_faults (c.too_large-large.ensures C count) count.facts.const_fault)
+          (c.either-count_const.ensures ∙ first_both _ _ (too_large C) C.const_faults
+          (c.too_large-large.ensures C count) count.facts.const_fault)
           const;
       width_fault = c.either-widths.ensures
           ∙ first_both _ _ (count_fault c.args.line (times C) all) (C.width_faults ++ parts_width_faults all)
