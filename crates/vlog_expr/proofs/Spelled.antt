@@ -25,38 +25,38 @@ use Rattle.vlog_expr.specs.Laws.{Stops, Ends, OneExpr}
 abbrev pub U : Type 0
 U = Unit {0}
 
-module _ (A : Type 0) (d : A) where
+module _ (A : Type 0) (blank : A) where
   abbrev pub size : List (WordOf A) → ℕ
   size ws = 32 * length ws
 
-  pub spell_append : (a b : List (WordOf A)) (r : Toks A) → spell d (a ++ b) r ≡ spell d a (spell d b r)
+  pub spell_append : (a b : List (WordOf A)) (r : Toks A) → spell blank (a ++ b) r ≡ spell blank a (spell blank b r)
   spell_append [] b r = refl
-  spell_append (w ∷ a) b r = ap (λ (ts : Toks A). spelled d w ∷ ts) (spell_append a b r)
+  spell_append (w ∷ a) b r = ap (λ (ts : Toks A). spelled blank w ∷ ts) (spell_append a b r)
 
   abbrev pub LevelClaim : ExprOf A → ℕ → Type 0
-  LevelClaim e l = (n : ℕ) (r : Toks A) → Stops l r → size (expr_words e) + 12 ≤ n + l → binary_at n l (spell d (expr_words e) r) ≡ Some (e, r)
+  LevelClaim e l = (n : ℕ) (r : Toks A) → Stops l r → size (expr_words e) + 12 ≤ n + l → binary_at n l (spell blank (expr_words e) r) ≡ Some (e, r)
 
   abbrev pub ChainClaim : ExprOf A → ℕ → Type 0
   ChainClaim e l =
       (n : ℕ) (r : Toks A) → Stops (l + 1) r → size (expr_words e) + 12 ≤ n + l → (j : ℕ) × (n ≤ j + size (expr_words e))
-      × (binary_at n l (spell d (expr_words e) r) ≡ chain_at j l e r)
+      × (binary_at n l (spell blank (expr_words e) r) ≡ chain_at j l e r)
 
   abbrev pub WholeClaim : ExprOf A → Type 0
-  WholeClaim e = (n : ℕ) (r : Toks A) → Ends r → size (expr_words e) + 14 ≤ n → expr_at n (spell d (expr_words e) r) ≡ Some (e, r)
+  WholeClaim e = (n : ℕ) (r : Toks A) → Ends r → size (expr_words e) + 14 ≤ n → expr_at n (spell blank (expr_words e) r) ≡ Some (e, r)
 
   abbrev pub PrimClaim : PrimOf A → Type 0
-  PrimClaim p = (n : ℕ) (r : Toks A) → after t.BracketOpen r ≡ None → size (prim_words p) ≤ n + 16 → prim_at n (spell d (prim_words p) r)
+  PrimClaim p = (n : ℕ) (r : Toks A) → after t.BracketOpen r ≡ None → size (prim_words p) ≤ n + 16 → prim_at n (spell blank (prim_words p) r)
       ≡ Some (p, r)
 
   abbrev pub RefClaim : RefOf A → Type 0
-  RefClaim x = (n : ℕ) (r : Toks A) → after t.BracketOpen r ≡ None → size (ref_words x) ≤ n + 18 → ref_at n (spell d (ref_words x) r)
+  RefClaim x = (n : ℕ) (r : Toks A) → after t.BracketOpen r ≡ None → size (ref_words x) ≤ n + 18 → ref_at n (spell blank (ref_words x) r)
       ≡ Some (x, r)
 
   abbrev pub close : Toks A → Toks A
-  close r = spelled d (Fixed t.BracketClose) ∷ r
+  close r = spelled blank (Fixed t.BracketClose) ∷ r
 
   abbrev pub SelClaim : SelOf A → Type 0
-  SelClaim s = (n : ℕ) (r : Toks A) → size (sel_words s) + 16 ≤ n → sel_at n (spell d (sel_words s) (close r)) ≡ Some (s, close r)
+  SelClaim s = (n : ℕ) (r : Toks A) → size (sel_words s) + 16 ≤ n → sel_at n (spell blank (sel_words s) (close r)) ≡ Some (s, close r)
 
   abbrev pub list_of : ExprsOf A → List (ExprOf A)
   list_of NoExprs = []
@@ -69,7 +69,7 @@ module _ (A : Type 0) (d : A) where
   abbrev pub PartsClaim : ExprsOf A → Type 0
   PartsClaim es =
       (n : ℕ) (front : List (ExprOf A)) (r : Toks A) → Ends r → after t.Comma r ≡ None → size (more_exprs_words es) + 1 ≤ n
-      → parts_at n front (spell d (more_exprs_words es) r) ≡ Some (front ++ list_of es, r)
+      → parts_at n front (spell blank (more_exprs_words es) r) ≡ Some (front ++ list_of es, r)
 
   pub record Reads (e : ExprOf A) : Type 0 where
     pub at_level : (l : ℕ) → 1 ≤ l → l ≤ 11 → l ≤ level e → LevelClaim e l
@@ -80,35 +80,35 @@ module _ (A : Type 0) (d : A) where
   pub ends_nil : Ends []
   ends_nil = record { stops = record { index = refl; operator = λ m h. refl }; question = refl }
 
-  pub ends_paren : (r : Toks A) → Ends (spelled d (Fixed t.ParenClose) ∷ r)
+  pub ends_paren : (r : Toks A) → Ends (spelled blank (Fixed t.ParenClose) ∷ r)
   ends_paren r = record { stops = record { index = refl; operator = λ m h. refl }; question = refl }
 
-  pub ends_brace : (r : Toks A) → Ends (spelled d (Fixed t.BraceClose) ∷ r)
+  pub ends_brace : (r : Toks A) → Ends (spelled blank (Fixed t.BraceClose) ∷ r)
   ends_brace r = record { stops = record { index = refl; operator = λ m h. refl }; question = refl }
 
-  ends_brace_open : (r : Toks A) → Ends (spelled d (Fixed t.BraceOpen) ∷ r)
+  ends_brace_open : (r : Toks A) → Ends (spelled blank (Fixed t.BraceOpen) ∷ r)
   ends_brace_open r = record { stops = record { index = refl; operator = λ m h. refl }; question = refl }
 
-  pub ends_bracket : (r : Toks A) → Ends (spelled d (Fixed t.BracketClose) ∷ r)
+  pub ends_bracket : (r : Toks A) → Ends (spelled blank (Fixed t.BracketClose) ∷ r)
   ends_bracket r = record { stops = record { index = refl; operator = λ m h. refl }; question = refl }
 
-  pub ends_comma : (r : Toks A) → Ends (spelled d (Fixed t.Comma) ∷ r)
+  pub ends_comma : (r : Toks A) → Ends (spelled blank (Fixed t.Comma) ∷ r)
   ends_comma r = record { stops = record { index = refl; operator = λ m h. refl }; question = refl }
 
-  pub ends_colon : (r : Toks A) → Ends (spelled d (Fixed t.Colon) ∷ r)
+  pub ends_colon : (r : Toks A) → Ends (spelled blank (Fixed t.Colon) ∷ r)
   ends_colon r = record { stops = record { index = refl; operator = λ m h. refl }; question = refl }
 
-  pub ends_plus_colon : (r : Toks A) → Ends (spelled d (Fixed t.PlusColon) ∷ r)
+  pub ends_plus_colon : (r : Toks A) → Ends (spelled blank (Fixed t.PlusColon) ∷ r)
   ends_plus_colon r = record { stops = record { index = refl; operator = λ m h. refl }; question = refl }
 
-  pub stops_question : (r : Toks A) → Stops 1 (spelled d (Fixed t.Question) ∷ r)
+  pub stops_question : (r : Toks A) → Stops 1 (spelled blank (Fixed t.Question) ∷ r)
   stops_question r = record { index = refl; operator = λ m h. refl }
 
-  pub ends_more : (es : ExprsOf A) (r : Toks A) → Ends r → Ends (spell d (more_exprs_words es) r)
+  pub ends_more : (es : ExprsOf A) (r : Toks A) → Ends r → Ends (spell blank (more_exprs_words es) r)
   ends_more NoExprs r e = e
-  ends_more (MoreExprs x es) r e = ends_comma (spell d (expr_words x ++ more_exprs_words es) r)
+  ends_more (MoreExprs x es) r e = ends_comma (spell blank (expr_words x ++ more_exprs_words es) r)
 
-  no_count : (es : ExprsOf A) (r : Toks A) → after t.BraceOpen r ≡ None → after t.BraceOpen (spell d (more_exprs_words es) r) ≡ None
+  no_count : (es : ExprsOf A) (r : Toks A) → after t.BraceOpen r ≡ None → after t.BraceOpen (spell blank (more_exprs_words es) r) ≡ None
   no_count NoExprs r h = h
   no_count (MoreExprs x es) r h = refl
 
@@ -182,7 +182,7 @@ module _ (A : Type 0) (d : A) where
   binary_known binary.Minus = refl
   binary_known binary.Times = refl
 
-  no_bracket : (op : BinaryOp) (r : Toks A) → after t.BracketOpen (spelled d (Fixed (binary_terminal op)) ∷ r) ≡ None
+  no_bracket : (op : BinaryOp) (r : Toks A) → after t.BracketOpen (spelled blank (Fixed (binary_terminal op)) ∷ r) ≡ None
   no_bracket binary.LogicalOr r = refl
   no_bracket binary.LogicalAnd r = refl
   no_bracket binary.Or r = refl
@@ -217,28 +217,28 @@ module _ (A : Type 0) (d : A) where
   sign_known unary.TildeXor = refl
   sign_known unary.XorTilde = refl
 
-  binary_seen : (m : ℕ) (op : BinaryOp) (r : Toks A) → binary_front m (spelled d (Fixed (binary_terminal op)) ∷ r)
+  binary_seen : (m : ℕ) (op : BinaryOp) (r : Toks A) → binary_front m (spelled blank (Fixed (binary_terminal op)) ∷ r)
       ≡ (if level_of op == m then Some (op, r) else None)
   binary_seen m op r = ap (λ (o : Option BinaryOp). o >>= λ (x : BinaryOp). if level_of x == m then Some (x, r) else None) (binary_known op)
 
-  binary_again : (op : BinaryOp) (r : Toks A) → binary_front (level_of op) (spelled d (Fixed (binary_terminal op)) ∷ r) ≡ Some (op, r)
+  binary_again : (op : BinaryOp) (r : Toks A) → binary_front (level_of op) (spelled blank (Fixed (binary_terminal op)) ∷ r) ≡ Some (op, r)
   binary_again op r = binary_seen (level_of op) op r ∙ ap (λ (b : Bool). if b then Some (op, r) else None)
       (eq-eqb (level_of op) (level_of op) refl)
 
-  stops_op : (op : BinaryOp) (l : ℕ) (r : Toks A) → level_of op < l → Stops l (spelled d (Fixed (binary_terminal op)) ∷ r)
+  stops_op : (op : BinaryOp) (l : ℕ) (r : Toks A) → level_of op < l → Stops l (spelled blank (Fixed (binary_terminal op)) ∷ r)
   stops_op op l r low =
-      let other : (m : ℕ) → l ≤ m → binary_front m (spelled d (Fixed (binary_terminal op)) ∷ r) ≡ None =
+      let other : (m : ℕ) → l ≤ m → binary_front m (spelled blank (Fixed (binary_terminal op)) ∷ r) ≡ None =
       λ m h. binary_seen m op r ∙ ap (λ (b : Bool). if b then Some (op, r) else None) (ne_eqb (level_of op) m (λ e. absurd (omega arith))) in
       record { index = no_bracket op r; operator = other }
 
-  sign_again : (s : SignOf A) (r : Toks A) → sign_front (spelled d (FixedAt (unary_terminal s.op) s.line) ∷ r) ≡ Some (s, r)
+  sign_again : (s : SignOf A) (r : Toks A) → sign_front (spelled blank (FixedAt (unary_terminal s.op) s.line) ∷ r) ≡ Some (s, r)
   sign_again s r = ap (λ (o : Option UnaryOp). o >>= λ (x : UnaryOp). Some (record { op = x; line = s.line }, r)) (sign_known s.op)
 
-  no_sign_number : (k : NumberKind) (text : List ℕ) (l : A) (r : Toks A) → sign_front (spelled d (NumberAt k text l) ∷ r) ≡ None
+  no_sign_number : (k : NumberKind) (text : List ℕ) (l : A) (r : Toks A) → sign_front (spelled blank (NumberAt k text l) ∷ r) ≡ None
   no_sign_number number.Decimal text l r = refl
   no_sign_number number.Based text l r = refl
 
-  no_sign : (p : PrimOf A) (r : Toks A) → sign_front (spell d (prim_words p) r) ≡ None
+  no_sign : (p : PrimOf A) (r : Toks A) → sign_front (spell blank (prim_words p) r) ≡ None
   no_sign (NumberPrim x) r = no_sign_number x.kind x.text x.line r
   no_sign (RefPrim (RefWith id index last)) r = refl
   no_sign (ParenPrim line e) r = refl
@@ -274,7 +274,7 @@ module _ (A : Type 0) (d : A) where
   down e l h c (suc n) r s b = (
     n,
     omega (arith, some_words e),
-    binary_step n l (spell d (expr_words e) r) h
+    binary_step n l (spell blank (expr_words e) r) h
         ∙ ap (λ (o : Read A (ExprOf A)). o >>= λ a. chain_at n l a.0 a.1) (c n r s (omega arith)),
   )
 
@@ -310,13 +310,13 @@ module _ (A : Type 0) (d : A) where
   unary_level sign p g zero r s b = absurd (omega arith)
   unary_level sign p g (suc zero) r s b = absurd (omega (arith, some_words (UnaryExpr sign p)))
   unary_level None p g (suc (suc n)) r s b =
-      ap (λ (o : Read A (SignOf A)). found_or o (prim_at n (spell d (prim_words p) r) >>= λ p. Some (UnaryExpr None p.0, p.1))
+      ap (λ (o : Read A (SignOf A)). found_or o (prim_at n (spell blank (prim_words p) r) >>= λ p. Some (UnaryExpr None p.0, p.1))
       (λ s. prim_at n s.1 >>= λ p. Some (UnaryExpr (Some s.0) p.0, p.1))) (no_sign p r)
       ∙ ap (λ (o : Read A (PrimOf A)). o >>= λ p. Some (UnaryExpr None p.0, p.1)) (g n r s.index (omega arith))
   unary_level (Some x) p g (suc (suc n)) r s b =
-      ap (λ (o : Read A (SignOf A)). found_or o (prim_at n (spelled d (FixedAt (unary_terminal x.op) x.line) ∷ spell d (prim_words p) r)
+      ap (λ (o : Read A (SignOf A)). found_or o (prim_at n (spelled blank (FixedAt (unary_terminal x.op) x.line) ∷ spell blank (prim_words p) r)
       >>= λ p. Some (UnaryExpr None p.0, p.1)) (λ s. prim_at n s.1 >>= λ p. Some (UnaryExpr (Some s.0) p.0, p.1)))
-      (sign_again x (spell d (prim_words p) r))
+      (sign_again x (spell blank (prim_words p) r))
       ∙ ap (λ (o : Read A (PrimOf A)). o >>= λ p. Some (UnaryExpr (Some x) p.0, p.1)) (g n r s.index (omega arith))
 
   reads_unary : (sign : Option (SignOf A)) (p : PrimOf A) → PrimClaim p → Reads (UnaryExpr sign p)
@@ -331,15 +331,15 @@ module _ (A : Type 0) (d : A) where
   -- two operands
   spine_step : (a b : ExprOf A) (op : BinaryOp) (j : ℕ) (r : Toks A) → LevelClaim b (level_of op + 1) → Stops (level_of op + 1) r
       → 0 < j → size (expr_words b) + 12 ≤ j + level_of op
-      → (k : ℕ) × (j ≡ suc k) × (chain_at j (level_of op) a (spelled d (Fixed (binary_terminal op)) ∷ spell d (expr_words b) r)
+      → (k : ℕ) × (j ≡ suc k) × (chain_at j (level_of op) a (spelled blank (Fixed (binary_terminal op)) ∷ spell blank (expr_words b) r)
       ≡ chain_at k (level_of op) (BinaryExpr a op b) r)
   spine_step a b op zero r c s p h = absurd (omega arith)
   spine_step a b op (suc j) r c s p h = (
     j,
     refl,
-    ap (λ (o : Read A BinaryOp). found_or o (Some (a, spelled d (Fixed (binary_terminal op)) ∷ spell d (expr_words b) r))
+    ap (λ (o : Read A BinaryOp). found_or o (Some (a, spelled blank (Fixed (binary_terminal op)) ∷ spell blank (expr_words b) r))
         (λ o. binary_at j (level_of op + 1) o.1 >>= λ b. chain_at j (level_of op) (BinaryExpr a o.0 b.0) b.1))
-        (binary_again op (spell d (expr_words b) r))
+        (binary_again op (spell blank (expr_words b) r))
         ∙ ap (λ (o : Read A (ExprOf A)). o >>= λ b. chain_at j (level_of op) (BinaryExpr a op b.0) b.1) (c j r s (omega arith)),
   )
 
@@ -347,8 +347,8 @@ module _ (A : Type 0) (d : A) where
       → ChainClaim (BinaryExpr a op b) (level_of op)
   spine a b op ca cb n r s h =
       let long = length-append (expr_words a) (Fixed (binary_terminal op) ∷ expr_words b) in
-      let g = ca n (spelled d (Fixed (binary_terminal op)) ∷ spell d (expr_words b) r)
-      (stops_op op (level_of op + 1) (spell d (expr_words b) r) (omega arith)) (omega arith) in
+      let g = ca n (spelled blank (Fixed (binary_terminal op)) ∷ spell blank (expr_words b) r)
+      (stops_op op (level_of op + 1) (spell blank (expr_words b) r) (omega arith)) (omega arith) in
       let k = spine_step a b op g.0 r cb s (omega (arith, g.1, level_small op)) (omega (arith, g.1)) in (
         k.0,
         omega (arith, g.1, k.1),
@@ -385,11 +385,11 @@ module _ (A : Type 0) (d : A) where
       let longer = length-append (expr_words a) (Fixed t.Colon ∷ expr_words b) in
       ap (λ (ws : Toks A). expr_at (suc (suc n)) ws) (spell_append (expr_words c) behind r)
       ∙ ap (λ (o : Read A (ExprOf A)). o >>= λ c. choice_at (suc n) c.0 c.1)
-      (cc (suc n) (spell d behind r) (stops_question (spell d (expr_words a ++ Fixed t.Colon ∷ expr_words b) r)) (omega arith))
+      (cc (suc n) (spell blank behind r) (stops_question (spell blank (expr_words a ++ Fixed t.Colon ∷ expr_words b) r)) (omega arith))
       ∙ ap (λ (ws : Toks A). expr_at n ws >>= λ a. after t.Colon a.1 >>= λ r. expr_at n r.1 >>= λ b. Some (ChoiceExpr c a.0 b.0, b.1))
       (spell_append (expr_words a) (Fixed t.Colon ∷ expr_words b) r)
       ∙ ap (λ (o : Read A (ExprOf A)). o >>= λ a. after t.Colon a.1 >>= λ r. expr_at n r.1 >>= λ b. Some (ChoiceExpr c a.0 b.0, b.1))
-      (wa n (spelled d (Fixed t.Colon) ∷ spell d (expr_words b) r) (ends_colon (spell d (expr_words b) r)) (omega arith))
+      (wa n (spelled blank (Fixed t.Colon) ∷ spell blank (expr_words b) r) (ends_colon (spell blank (expr_words b) r)) (omega arith))
       ∙ ap (λ (o : Read A (ExprOf A)). o >>= λ b. Some (ChoiceExpr c a b.0, b.1)) (wb n r s (omega arith))
 
   reads_choice : (c a b : ExprOf A) → 0 < level c → Reads c → Reads a → Reads b → Reads (ChoiceExpr c a b)
@@ -416,7 +416,7 @@ module _ (A : Type 0) (d : A) where
       let long = length-append (expr_words e) (Fixed t.ParenClose ∷ []) in
       ap (λ (ws : Toks A). paren_at (suc n) line ws) (spell_append (expr_words e) (Fixed t.ParenClose ∷ []) r)
       ∙ ap (λ (o : Read A (ExprOf A)). o >>= λ e. after t.ParenClose e.1 >>= λ c. Some (ParenPrim line e.0, c.1))
-      (w n (spelled d (Fixed t.ParenClose) ∷ r) (ends_paren r) (omega arith))
+      (w n (spelled blank (Fixed t.ParenClose) ∷ r) (ends_paren r) (omega arith))
 
   parts_none : PartsClaim NoExprs
   parts_none zero front r e h b = absurd (omega arith)
@@ -430,7 +430,7 @@ module _ (A : Type 0) (d : A) where
       let long = length-append (expr_words x) (more_exprs_words es) in
       ap (λ (ws : Toks A). expr_at n ws >>= λ e. parts_at n (front ++ e.0 ∷ []) e.1) (spell_append (expr_words x) (more_exprs_words es) r)
       ∙ ap (λ (o : Read A (ExprOf A)). o >>= λ e. parts_at n (front ++ e.0 ∷ []) e.1)
-      (w n (spell d (more_exprs_words es) r) (ends_more es r e) (omega arith))
+      (w n (spell blank (more_exprs_words es) r) (ends_more es r e) (omega arith))
       ∙ m n (front ++ x ∷ []) r e h (omega arith)
       ∙ ap (λ (xs : List (ExprOf A)). Some (xs, r)) (append_assoc front (x ∷ []) (list_of es))
 
@@ -444,13 +444,13 @@ module _ (A : Type 0) (d : A) where
   prim_concat line x es w m (suc (suc n)) r i b =
       let long = length-append (expr_words x ++ more_exprs_words es) (Fixed t.BraceClose ∷ []) in
       let longer = length-append (expr_words x) (more_exprs_words es) in
-      let shut = spelled d (Fixed t.BraceClose) ∷ r in
+      let shut = spelled blank (Fixed t.BraceClose) ∷ r in
       ap (λ (ws : Toks A). concat_at (suc n) line ws) (spell_append (expr_words x ++ more_exprs_words es) (Fixed t.BraceClose ∷ []) r
       ∙ spell_append (expr_words x) (more_exprs_words es) shut)
       ∙ ap (λ (o : Read A (ExprOf A)). o >>= λ e. found_or (after t.BraceOpen e.1) (parts_at n (e.0 ∷ []) e.1
       >>= λ es. after t.BraceClose es.1 >>= λ c. Some (ConcatPrim line (exprs_of es.0), c.1)) (λ o. repeat_at n line e.0 o.1))
-      (w n (spell d (more_exprs_words es) shut) (ends_more es shut (ends_brace r)) (omega arith))
-      ∙ ap (λ (o : Option (A × Toks A)). found_or o (parts_at n (x ∷ []) (spell d (more_exprs_words es) shut)
+      (w n (spell blank (more_exprs_words es) shut) (ends_more es shut (ends_brace r)) (omega arith))
+      ∙ ap (λ (o : Option (A × Toks A)). found_or o (parts_at n (x ∷ []) (spell blank (more_exprs_words es) shut)
       >>= λ es. after t.BraceClose es.1 >>= λ c. Some (ConcatPrim line (exprs_of es.0), c.1)) (λ o. repeat_at n line x o.1))
       (no_count es shut refl)
       ∙ ap (λ (o : Read A (List (ExprOf A))). o >>= λ es. after t.BraceClose es.1 >>= λ c. Some (ConcatPrim line (exprs_of es.0), c.1))
@@ -468,17 +468,17 @@ module _ (A : Type 0) (d : A) where
       let long = length-append (expr_words count) tail in
       let longer = length-append (expr_words x ++ more_exprs_words es) closing in
       let longest = length-append (expr_words x) (more_exprs_words es) in
-      let shut = spell d closing r in
-      let ends = ends_brace (spelled d (Fixed t.BraceClose) ∷ r) in
+      let shut = spell blank closing r in
+      let ends = ends_brace (spelled blank (Fixed t.BraceClose) ∷ r) in
       ap (λ (ws : Toks A). concat_at (suc (suc n)) line ws) (spell_append (expr_words count) tail r)
       ∙ ap (λ (o : Read A (ExprOf A)). o >>= λ e. found_or (after t.BraceOpen e.1) (parts_at (suc n) (e.0 ∷ []) e.1
       >>= λ es. after t.BraceClose es.1 >>= λ c. Some (ConcatPrim line (exprs_of es.0), c.1)) (λ o. repeat_at (suc n) line e.0 o.1))
-      (wc (suc n) (spell d tail r) (ends_brace_open (spell d ((expr_words x ++ more_exprs_words es) ++ closing) r)) (omega arith))
+      (wc (suc n) (spell blank tail r) (ends_brace_open (spell blank ((expr_words x ++ more_exprs_words es) ++ closing) r)) (omega arith))
       ∙ ap (λ (ws : Toks A). repeat_at (suc n) line count ws) (spell_append (expr_words x ++ more_exprs_words es) closing r
       ∙ spell_append (expr_words x) (more_exprs_words es) shut)
       ∙ ap (λ (o : Read A (ExprOf A)). o >>= λ e. parts_at n (e.0 ∷ []) e.1 >>= λ es. after t.BraceClose es.1
       >>= λ i. after t.BraceClose i.1 >>= λ c. Some (RepeatPrim line count (exprs_of es.0), c.1))
-      (w n (spell d (more_exprs_words es) shut) (ends_more es shut ends) (omega arith))
+      (w n (spell blank (more_exprs_words es) shut) (ends_more es shut ends) (omega arith))
       ∙ ap (λ (o : Read A (List (ExprOf A))). o >>= λ es. after t.BraceClose es.1
       >>= λ i. after t.BraceClose i.1 >>= λ c. Some (RepeatPrim line count (exprs_of es.0), c.1)) (m n (x ∷ []) shut ends refl (omega arith))
       ∙ ap (λ (xs : ExprsOf A). Some (RepeatPrim line count (MoreExprs x xs), r)) (listed es)
@@ -497,7 +497,7 @@ module _ (A : Type 0) (d : A) where
       let long = length-append (expr_words a) (Fixed t.Colon ∷ expr_words b) in
       ap (λ (ws : Toks A). sel_at (suc (suc n)) ws) (spell_append (expr_words a) (Fixed t.Colon ∷ expr_words b) (close r))
       ∙ ap (λ (o : Read A (ExprOf A)). o >>= λ a. bounds_at (suc n) a.0 a.1)
-      (wa (suc n) (spelled d (Fixed t.Colon) ∷ spell d (expr_words b) (close r)) (ends_colon (spell d (expr_words b) (close r))) (omega arith))
+      (wa (suc n) (spelled blank (Fixed t.Colon) ∷ spell blank (expr_words b) (close r)) (ends_colon (spell blank (expr_words b) (close r))) (omega arith))
       ∙ ap (λ (o : Read A (ExprOf A)). o >>= λ b. Some (PartSel a b.0, b.1)) (wb n (close r) (ends_bracket r) (omega arith))
 
   sel_indexed : (a b : ExprOf A) → WholeClaim a → WholeClaim b → SelClaim (IndexedSel a b)
@@ -507,7 +507,7 @@ module _ (A : Type 0) (d : A) where
       let long = length-append (expr_words a) (Fixed t.PlusColon ∷ expr_words b) in
       ap (λ (ws : Toks A). sel_at (suc (suc n)) ws) (spell_append (expr_words a) (Fixed t.PlusColon ∷ expr_words b) (close r))
       ∙ ap (λ (o : Read A (ExprOf A)). o >>= λ a. bounds_at (suc n) a.0 a.1)
-      (wa (suc n) (spelled d (Fixed t.PlusColon) ∷ spell d (expr_words b) (close r)) (ends_plus_colon (spell d (expr_words b) (close r)))
+      (wa (suc n) (spelled blank (Fixed t.PlusColon) ∷ spell blank (expr_words b) (close r)) (ends_plus_colon (spell blank (expr_words b) (close r)))
       (omega arith))
       ∙ ap (λ (o : Read A (ExprOf A)). o >>= λ b. Some (IndexedSel a b.0, b.1)) (wb n (close r) (ends_bracket r) (omega arith))
 
@@ -551,9 +551,9 @@ module _ (A : Type 0) (d : A) where
       let longest = length-append (expr_words e) (Fixed t.BracketClose ∷ []) in
       ap (λ (ws : Toks A). sel_at (suc n) ws >>= λ s. after t.BracketClose s.1 >>= λ c. second_at (suc n) id s.0 c.1)
       (spell_append (expr_words e ++ Fixed t.BracketClose ∷ []) last r
-      ∙ spell_append (expr_words e) (Fixed t.BracketClose ∷ []) (spell d last r))
+      ∙ spell_append (expr_words e) (Fixed t.BracketClose ∷ []) (spell blank last r))
       ∙ ap (λ (o : Read A (SelOf A)). o >>= λ s. after t.BracketClose s.1 >>= λ c. second_at (suc n) id s.0 c.1)
-      (f (suc n) (spell d last r) (omega arith))
+      (f (suc n) (spell blank last r) (omega arith))
       ∙ ap (λ (ws : Toks A). sel_at n ws >>= λ s. after t.BracketClose s.1 >>= λ c. Some (RefWith id (Index e) (Last s.0), c.1))
       (spell_append (sel_words s) (Fixed t.BracketClose ∷ []) r)
       ∙ ap (λ (o : Read A (SelOf A)). o >>= λ s. after t.BracketClose s.1 >>= λ c. Some (RefWith id (Index e) (Last s.0), c.1))
@@ -602,11 +602,11 @@ module _ (A : Type 0) (d : A) where
     reads_sel (IndexedSel a b) g = sel_indexed a b (reads a g.0).at_whole (reads b g.1).at_whole
 
   pub expr_read : (e : ExprOf A) (rest : Toks A) (fuel : ℕ) → IsGoodExpr e → Ends rest → fuel_for (length (expr_words e)) ≤ fuel
-      → expr_at fuel (spell d (expr_words e) rest) ≡ Some (e, rest)
+      → expr_at fuel (spell blank (expr_words e) rest) ≡ Some (e, rest)
   expr_read e rest fuel g s h = (reads e g).at_whole fuel rest s h
 
   pub ref_read : (x : RefOf A) (rest : Toks A) (fuel : ℕ) → IsGoodRef x → after t.BracketOpen rest ≡ None
-      → fuel_for (length (ref_words x)) ≤ fuel → ref_at fuel (spell d (ref_words x) rest) ≡ Some (x, rest)
+      → fuel_for (length (ref_words x)) ≤ fuel → ref_at fuel (spell blank (ref_words x) rest) ≡ Some (x, rest)
   ref_read x rest fuel g s h = reads_ref x g fuel rest s (omega arith)
 
 pub one_expr : OneExpr

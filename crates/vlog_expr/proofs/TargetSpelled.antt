@@ -10,10 +10,10 @@ use Rattle.vlog_expr.specs.Marks.{Toks, spelled, spell, after}
 use Rattle.vlog_expr.specs.Reader.{◌>>=◌, found_or, Read, target_at, targets_at, fuel_for}
 use Rattle.vlog_expr.proofs.Spelled.{size, spell_append, RefClaim, reads_ref}
 
-module _ (A : Type 0) (d : A) where
+module _ (A : Type 0) (blank : A) where
   abbrev TargetClaim : TargetOf A → Type 0
-  TargetClaim x = (n : ℕ) (r : Toks A) → after t.BracketOpen r ≡ None → size A d (target_words x) ≤ n + 16
-      → target_at n (spell d (target_words x) r) ≡ Some (x, r)
+  TargetClaim x = (n : ℕ) (r : Toks A) → after t.BracketOpen r ≡ None → size A blank (target_words x) ≤ n + 16
+      → target_at n (spell blank (target_words x) r) ≡ Some (x, r)
 
   abbrev list_of : TargetsOf A → List (TargetOf A)
   list_of NoTargets = []
@@ -25,15 +25,15 @@ module _ (A : Type 0) (d : A) where
 
   abbrev TargetsClaim : TargetsOf A → Type 0
   TargetsClaim xs =
-      (n : ℕ) (front : List (TargetOf A)) (r : Toks A) → after t.BracketOpen r ≡ None → after t.Comma r ≡ None → size A d (more_targets_words xs)
+      (n : ℕ) (front : List (TargetOf A)) (r : Toks A) → after t.BracketOpen r ≡ None → after t.Comma r ≡ None → size A blank (more_targets_words xs)
       + 1 ≤ n
-      → targets_at n front (spell d (more_targets_words xs) r) ≡ Some (front ++ list_of xs, r)
+      → targets_at n front (spell blank (more_targets_words xs) r) ≡ Some (front ++ list_of xs, r)
 
-  no_bracket : (xs : TargetsOf A) (r : Toks A) → after t.BracketOpen r ≡ None → after t.BracketOpen (spell d (more_targets_words xs) r) ≡ None
+  no_bracket : (xs : TargetsOf A) (r : Toks A) → after t.BracketOpen r ≡ None → after t.BracketOpen (spell blank (more_targets_words xs) r) ≡ None
   no_bracket NoTargets r h = h
   no_bracket (MoreTargets x xs) r h = refl
 
-  target_ref : (x : RefOf A) → RefClaim A d x → TargetClaim (RefTarget x)
+  target_ref : (x : RefOf A) → RefClaim A blank x → TargetClaim (RefTarget x)
   target_ref (RefWith id index last) g zero r i b = absurd (omega arith)
   target_ref (RefWith id index last) g (suc n) r i b = ap (λ (o : Read A (RefOf A)). o >>= λ r. Some (RefTarget r.0, r.1))
       (g n r i (omega arith))
@@ -49,9 +49,9 @@ module _ (A : Type 0) (d : A) where
   targets_more x xs w m (suc n) front r i h b =
       let long = length-append (target_words x) (more_targets_words xs) in
       ap (λ (ws : Toks A). target_at n ws >>= λ x. targets_at n (front ++ x.0 ∷ []) x.1)
-      (spell_append A d (target_words x) (more_targets_words xs) r)
+      (spell_append A blank (target_words x) (more_targets_words xs) r)
       ∙ ap (λ (o : Read A (TargetOf A)). o >>= λ x. targets_at n (front ++ x.0 ∷ []) x.1)
-      (w n (spell d (more_targets_words xs) r) (no_bracket xs r i) (omega arith))
+      (w n (spell blank (more_targets_words xs) r) (no_bracket xs r i) (omega arith))
       ∙ m n (front ++ x ∷ []) r i h (omega arith)
       ∙ ap (λ (xs : List (TargetOf A)). Some (xs, r)) (append_assoc front (x ∷ []) (list_of xs))
 
@@ -65,13 +65,13 @@ module _ (A : Type 0) (d : A) where
   target_concat line x xs w m (suc n) r i b =
       let long = length-append (target_words x ++ more_targets_words xs) (Fixed t.BraceClose ∷ []) in
       let longer = length-append (target_words x) (more_targets_words xs) in
-      let shut = spelled d (Fixed t.BraceClose) ∷ r in
+      let shut = spelled blank (Fixed t.BraceClose) ∷ r in
       ap (λ (ws : Toks A). target_at n ws >>= λ x. targets_at n (x.0 ∷ []) x.1 >>= λ xs. after t.BraceClose xs.1
       >>= λ c. Some (ConcatTarget line (targets_of xs.0), c.1))
-      (spell_append A d (target_words x ++ more_targets_words xs) (Fixed t.BraceClose ∷ []) r
-      ∙ spell_append A d (target_words x) (more_targets_words xs) shut)
+      (spell_append A blank (target_words x ++ more_targets_words xs) (Fixed t.BraceClose ∷ []) r
+      ∙ spell_append A blank (target_words x) (more_targets_words xs) shut)
       ∙ ap (λ (o : Read A (TargetOf A)). o >>= λ x. targets_at n (x.0 ∷ []) x.1 >>= λ xs. after t.BraceClose xs.1
-      >>= λ c. Some (ConcatTarget line (targets_of xs.0), c.1)) (w n (spell d (more_targets_words xs) shut) (no_bracket xs shut refl)
+      >>= λ c. Some (ConcatTarget line (targets_of xs.0), c.1)) (w n (spell blank (more_targets_words xs) shut) (no_bracket xs shut refl)
       (omega arith))
       ∙ ap (λ (o : Read A (List (TargetOf A))). o >>= λ xs. after t.BraceClose xs.1 >>= λ c. Some (ConcatTarget line (targets_of xs.0), c.1))
       (m n (x ∷ []) shut refl refl (omega arith))
@@ -79,7 +79,7 @@ module _ (A : Type 0) (d : A) where
 
   mutual
     reads_target : (x : TargetOf A) → IsGoodTarget x → TargetClaim x
-    reads_target (RefTarget x) g = target_ref x (reads_ref A d x g)
+    reads_target (RefTarget x) g = target_ref x (reads_ref A blank x g)
     reads_target (ConcatTarget line NoTargets) g = absurd g
     reads_target (ConcatTarget line (MoreTargets x xs)) g = target_concat line x xs (reads_target x g.0) (reads_targets xs g.1)
 
@@ -88,5 +88,5 @@ module _ (A : Type 0) (d : A) where
     reads_targets (MoreTargets x xs) g = targets_more x xs (reads_target x g.0) (reads_targets xs g.1)
 
   pub target_read : (x : TargetOf A) (rest : Toks A) (fuel : ℕ) → IsGoodTarget x → after t.BracketOpen rest ≡ None
-      → fuel_for (length (target_words x)) ≤ fuel → target_at fuel (spell d (target_words x) rest) ≡ Some (x, rest)
+      → fuel_for (length (target_words x)) ≤ fuel → target_at fuel (spell blank (target_words x) rest) ≡ Some (x, rest)
   target_read x rest fuel g s h = reads_target x g fuel rest s (omega arith)
