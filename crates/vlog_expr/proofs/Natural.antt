@@ -7,7 +7,8 @@ use Rattle.vlog_tree.specs.declared.expr.BinaryOp.{BinaryOp}
 use Rattle.vlog_tree.specs.declared.terminal.Terminal.{Terminal}
 use Rattle.vlog_tree.specs.declared.terminal.Terminal.TheVariants as t
 use Rattle.vlog_tree.specs.Tree.{IdentOf, ExprOf, UnaryExpr, BinaryExpr, ChoiceExpr, NumberPrim, RefPrim, ParenPrim, ConcatPrim}
-use Rattle.vlog_tree.specs.Tree.{RepeatPrim, RefWith, NoIndex, Index, NoLast, Last, SelOf, IndexSel, PartSel, IndexedSel, ExprsOf, MoreExprs, exprs_of}
+use Rattle.vlog_tree.specs.Tree.{RepeatPrim, RefWith, NoIndex, Index, NoLast, Last, SelOf, IndexSel, PartSel, IndexedSel, ExprsOf}
+use Rattle.vlog_tree.specs.Tree.{MoreExprs, exprs_of}
 use Rattle.vlog_tree.specs.Shape.{level_of}
 use Rattle.vlog_expr.specs.Marks.{TokenOf, Toks, is_terminal, after, is_name, name_front, number_of, number_with, number_front, unary_of}
 use Rattle.vlog_expr.specs.Marks.{binary_of}

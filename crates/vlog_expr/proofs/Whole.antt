@@ -12,8 +12,8 @@ use Rattle.vlog_tree.specs.declared.terminal.Terminal.TheVariants as t
 use Rattle.vlog_tree.specs.Words.{WordOf, NameWord, Fixed, NameAt, NumberAt, FixedAt, number_kind, terminal_kind, terminal_text}
 use Rattle.vlog_tree.specs.Words.{token_of, tokens_of}
 use Rattle.vlog_tree.specs.Tree.{ExprOf, UnaryExpr, BinaryExpr, ChoiceExpr, PrimOf, NumberPrim, RefPrim, ParenPrim, ConcatPrim}
-use Rattle.vlog_tree.specs.Tree.{RepeatPrim, RefOf, RefWith, IndexOf, NoIndex, Index, LastOf, NoLast, Last, SelOf, IndexSel, PartSel, IndexedSel, ExprsOf}
-use Rattle.vlog_tree.specs.Tree.{NoExprs, MoreExprs}
+use Rattle.vlog_tree.specs.Tree.{RepeatPrim, RefOf, RefWith, IndexOf, NoIndex, Index, LastOf, NoLast, Last, SelOf, IndexSel, PartSel}
+use Rattle.vlog_tree.specs.Tree.{IndexedSel, ExprsOf, NoExprs, MoreExprs}
 use Rattle.vlog_tree.specs.Plain.{plain_expr}
 use Rattle.vlog_tree.specs.Spelling.{binary_terminal, expr_words, prim_words, ref_words, index_words, last_words, sel_words, exprs_words}
 use Rattle.vlog_tree.specs.Spelling.{more_exprs_words}

@@ -29,27 +29,27 @@ use Rattle.vlog_tree.specs.Tree.{CaseStmt, ArmOf, LabelsArm, DefaultArm, ArmsOf,
 use Rattle.vlog_tree.specs.Tree.{MemoryTail, ImplicitEvent, ConnOf, InstanceOf, LocalparamsItem, InstanceItem}
 
 -- these words are those of another tree, with something else in the place of lines
-abbrev pub Alike : {A B : Type 0} → (A → B) → List (WordOf B) → List (WordOf A) → Type 0
-Alike f vs us = vs ≡ map (map_word f) us
+pub record Alike {A B : Type 0} (f : A → B) (vs : List (WordOf B)) (us : List (WordOf A)) : Type 0 where
+  pub is : vs ≡ map (map_word f) us
 
 -- one word, and then others
-led : {A B : Type 0} {f : A → B} (w : WordOf A) {vs : List (WordOf B)} {us : List (WordOf A)} → Alike f vs us
+led : {A B : Type 0} {f : A → B} {vs : List (WordOf B)} {us : List (WordOf A)} (w : WordOf A) → Alike f vs us
     → Alike f (map_word f w ∷ vs) (w ∷ us)
-led {A} {B} {f} w e = ap (λ (ws : List (WordOf B)). map_word f w ∷ ws) e
+led {A} {B} {f} w e = record { is = ap (λ (ws : List (WordOf B)). map_word f w ∷ ws) e.is }
 
 infixr 5 ◌▹◌
 -- words, and then others
 ◌▹◌ : {A B : Type 0} {f : A → B} {us ws : List (WordOf A)} {vs xs : List (WordOf B)} → Alike f vs us → Alike f xs ws
     → Alike f (vs ++ xs) (us ++ ws)
-◌▹◌ {f = f} {us = us} {ws = ws} e h = (λ i. e i ++ h i) ∙ sym (map-append (map_word f) us ws)
+◌▹◌ {f = f} {us = us} {ws = ws} e h = record { is = (λ i. e.is i ++ h.is i) ∙ sym (map-append (map_word f) us ws) }
 
 -- a last word
 shut : {A B : Type 0} (f : A → B) (x : Terminal) → Alike f (Fixed x ∷ []) (Fixed x ∷ [])
-shut f x = refl
+shut f x = record { is = refl }
 
 pub sign_mapped : {A B : Type 0} (f : A → B) (s : Option (SignOf A)) → Alike f (sign_words (option_map (map_sign f) s)) (sign_words s)
-sign_mapped f None = refl
-sign_mapped f (Some s) = refl
+sign_mapped f None = record { is = refl }
+sign_mapped f (Some s) = record { is = refl }
 
 mutual
   pub expr_mapped : {A B : Type 0} (f : A → B) (e : ExprOf A) → Alike f (expr_words (map_expr f e)) (expr_words e)
@@ -59,7 +59,7 @@ mutual
       expr_mapped f condition ▹ led (Fixed t.Question) (expr_mapped f a ▹ led (Fixed t.Colon) (expr_mapped f b))
 
   pub prim_mapped : {A B : Type 0} (f : A → B) (p : PrimOf A) → Alike f (prim_words (map_prim f p)) (prim_words p)
-  prim_mapped f (NumberPrim n) = refl
+  prim_mapped f (NumberPrim n) = record { is = refl }
   prim_mapped f (RefPrim r) = ref_mapped f r
   prim_mapped f (ParenPrim line e) = led (FixedAt t.ParenOpen line) (expr_mapped f e ▹ shut f t.ParenClose)
   prim_mapped f (ConcatPrim line es) = led (FixedAt t.BraceOpen line) (exprs_mapped f es ▹ shut f t.BraceClose)
@@ -71,11 +71,11 @@ mutual
   ref_mapped f (RefWith id index last) = led (NameAt id.name id.line) (index_mapped f index ▹ last_mapped f last)
 
   pub index_mapped : {A B : Type 0} (f : A → B) (i : IndexOf A) → Alike f (index_words (map_index f i)) (index_words i)
-  index_mapped f NoIndex = refl
+  index_mapped f NoIndex = record { is = refl }
   index_mapped f (Index e) = led (Fixed t.BracketOpen) (expr_mapped f e ▹ shut f t.BracketClose)
 
   pub last_mapped : {A B : Type 0} (f : A → B) (l : LastOf A) → Alike f (last_words (map_last f l)) (last_words l)
-  last_mapped f NoLast = refl
+  last_mapped f NoLast = record { is = refl }
   last_mapped f (Last s) = led (Fixed t.BracketOpen) (sel_mapped f s ▹ shut f t.BracketClose)
 
   pub sel_mapped : {A B : Type 0} (f : A → B) (s : SelOf A) → Alike f (sel_words (map_sel f s)) (sel_words s)
@@ -84,11 +84,11 @@ mutual
   sel_mapped f (IndexedSel base width) = expr_mapped f base ▹ led (Fixed t.PlusColon) (expr_mapped f width)
 
   pub exprs_mapped : {A B : Type 0} (f : A → B) (es : ExprsOf A) → Alike f (exprs_words (map_exprs f es)) (exprs_words es)
-  exprs_mapped f NoExprs = refl
+  exprs_mapped f NoExprs = record { is = refl }
   exprs_mapped f (MoreExprs e es) = expr_mapped f e ▹ more_exprs_mapped f es
 
   pub more_exprs_mapped : {A B : Type 0} (f : A → B) (es : ExprsOf A) → Alike f (more_exprs_words (map_exprs f es)) (more_exprs_words es)
-  more_exprs_mapped f NoExprs = refl
+  more_exprs_mapped f NoExprs = record { is = refl }
   more_exprs_mapped f (MoreExprs e es) = led (Fixed t.Comma) (expr_mapped f e ▹ more_exprs_mapped f es)
 
 mutual
@@ -97,40 +97,40 @@ mutual
   target_mapped f (ConcatTarget line xs) = led (FixedAt t.BraceOpen line) (targets_mapped f xs ▹ shut f t.BraceClose)
 
   pub targets_mapped : {A B : Type 0} (f : A → B) (xs : TargetsOf A) → Alike f (targets_words (map_targets f xs)) (targets_words xs)
-  targets_mapped f NoTargets = refl
+  targets_mapped f NoTargets = record { is = refl }
   targets_mapped f (MoreTargets x xs) = target_mapped f x ▹ more_targets_mapped f xs
 
   pub more_targets_mapped : {A B : Type 0} (f : A → B) (xs : TargetsOf A)
       → Alike f (more_targets_words (map_targets f xs)) (more_targets_words xs)
-  more_targets_mapped f NoTargets = refl
+  more_targets_mapped f NoTargets = record { is = refl }
   more_targets_mapped f (MoreTargets x xs) = led (Fixed t.Comma) (target_mapped f x ▹ more_targets_mapped f xs)
 
 -- lists and what may be there, of parts whose words are alike
 module _ {A B X Y : Type 0} (f : A → B) (g : Y → List (WordOf B)) (h : X → List (WordOf A)) (k : X → Y)
     (same : (x : X) → Alike f (g (k x)) (h x)) where
   after_commas_same : (xs : List X) → Alike f (after_commas g (map k xs)) (after_commas h xs)
-  after_commas_same [] = refl
+  after_commas_same [] = record { is = refl }
   after_commas_same (x ∷ xs) = led (Fixed t.Comma) (same x ▹ after_commas_same xs)
 
   commas_same : (xs : List X) → Alike f (with_commas g (map k xs)) (with_commas h xs)
-  commas_same [] = refl
+  commas_same [] = record { is = refl }
   commas_same (x ∷ xs) = same x ▹ after_commas_same xs
 
   optional_same : (o : Option X) → Alike f (optional g (option_map k o)) (optional h o)
-  optional_same None = refl
+  optional_same None = record { is = refl }
   optional_same (Some x) = same x
 
   hash_same : (xs : List X) → Alike f (hash_words g (map k xs)) (hash_words h xs)
-  hash_same [] = refl
+  hash_same [] = record { is = refl }
   hash_same (x ∷ xs) = led (Fixed t.Hash) (led (Fixed t.ParenOpen) ((same x ▹ after_commas_same xs) ▹ shut f t.ParenClose))
 
   row_same : (xs : List X) → Alike f (in_row g (map k xs)) (in_row h xs)
-  row_same [] = refl
+  row_same [] = record { is = refl }
   row_same (x ∷ xs) = same x ▹ row_same xs
 
 colon_same : {A B : Type 0} (f : A → B) (colon : Bool) → Alike f (colon_words colon) (colon_words colon)
-colon_same f false = refl
-colon_same f true = refl
+colon_same f false = record { is = refl }
+colon_same f true = record { is = refl }
 
 mutual
   pub stmt_mapped : {A B : Type 0} (f : A → B) (s : StmtOf A) → Alike f (stmt_words (map_stmt f s)) (stmt_words s)
@@ -146,10 +146,10 @@ mutual
 
   pub body_mapped : {A B : Type 0} (f : A → B) (b : BodyOf A) → Alike f (body_words (map_body f b)) (body_words b)
   body_mapped f (StmtBody s) = stmt_mapped f s
-  body_mapped f EmptyBody = refl
+  body_mapped f EmptyBody = record { is = refl }
 
   pub else_mapped : {A B : Type 0} (f : A → B) (o : ElseOf A) → Alike f (else_words (map_else f o)) (else_words o)
-  else_mapped f NoElse = refl
+  else_mapped f NoElse = record { is = refl }
   else_mapped f (Else b) = led (Fixed t.Else) (body_mapped f b)
 
   pub arm_mapped : {A B : Type 0} (f : A → B) (a : ArmOf A) → Alike f (arm_words (map_arm f a)) (arm_words a)
@@ -158,11 +158,11 @@ mutual
   arm_mapped f (DefaultArm line colon b) = led (FixedAt t.Default line) (colon_same f colon ▹ body_mapped f b)
 
   pub arms_mapped : {A B : Type 0} (f : A → B) (more : ArmsOf A) → Alike f (arms_words (map_arms f more)) (arms_words more)
-  arms_mapped f NoArms = refl
+  arms_mapped f NoArms = record { is = refl }
   arms_mapped f (MoreArms a more) = arm_mapped f a ▹ arms_mapped f more
 
   pub stmts_mapped : {A B : Type 0} (f : A → B) (ss : StmtsOf A) → Alike f (stmts_words (map_stmts f ss)) (stmts_words ss)
-  stmts_mapped f NoStmts = refl
+  stmts_mapped f NoStmts = record { is = refl }
   stmts_mapped f (MoreStmts s ss) = stmt_mapped f s ▹ stmts_mapped f ss
 
 pub range_mapped : {A B : Type 0} (f : A → B) (r : RangeOf A) → Alike f (range_words (map_range f r)) (range_words r)
@@ -174,11 +174,11 @@ pub ranges_mapped : {A B : Type 0} (f : A → B) (r : Option (RangeOf A))
 ranges_mapped f r = optional_same f range_words range_words (map_range f) (range_mapped f) r
 
 direction_same : {A B : Type 0} (f : A → B) (d : Direction) → Alike f (direction_words d) (direction_words d)
-direction_same f (direction.Input false) = refl
-direction_same f (direction.Input true) = refl
-direction_same f (direction.Output None) = refl
-direction_same f (direction.Output (Some kind.Wire)) = refl
-direction_same f (direction.Output (Some kind.Reg)) = refl
+direction_same f (direction.Input false) = record { is = refl }
+direction_same f (direction.Input true) = record { is = refl }
+direction_same f (direction.Output None) = record { is = refl }
+direction_same f (direction.Output (Some kind.Wire)) = record { is = refl }
+direction_same f (direction.Output (Some kind.Reg)) = record { is = refl }
 
 pub head_mapped : {A B : Type 0} (f : A → B) (h : PortHeadOf A) → Alike f (head_words (map_head f h)) (head_words h)
 head_mapped f h = direction_same f h.direction ▹ ranges_mapped f h.range
@@ -214,9 +214,9 @@ pub assign_mapped : {A B : Type 0} (f : A → B) (a : AssignOf A) → Alike f (a
 assign_mapped f a = target_mapped f a.target ▹ init_mapped f a.value
 
 pub event_mapped : {A B : Type 0} (f : A → B) (e : EventOf A) → Alike f (event_words (map_event f e)) (event_words e)
-event_mapped f (PosedgeEvent id) = refl
-event_mapped f (ImplicitEvent false) = refl
-event_mapped f (ImplicitEvent true) = refl
+event_mapped f (PosedgeEvent id) = record { is = refl }
+event_mapped f (ImplicitEvent false) = record { is = refl }
+event_mapped f (ImplicitEvent true) = record { is = refl }
 
 pub always_mapped : {A B : Type 0} (f : A → B) (a : AlwaysOf A) → Alike f (always_words (map_always f a)) (always_words a)
 always_mapped f a = led (FixedAt t.Always a.line) (event_mapped f a.event ▹ body_mapped f a.body)
@@ -235,7 +235,7 @@ instance_mapped f i =
 pub item_mapped : {A B : Type 0} (f : A → B) (i : ItemOf A) → Alike f (item_words (map_item f i)) (item_words i)
 item_mapped f (WiresItem range ids) =
     led (Fixed t.Wire) (ranges_mapped f range
-    ▹ (commas_same f ident_words ident_words (map_ident f) (λ id. refl) ids ▹ shut f t.Semicolon))
+    ▹ (commas_same f ident_words ident_words (map_ident f) (λ id. record { is = refl }) ids ▹ shut f t.Semicolon))
 item_mapped f (DrivenWiresItem range wires) =
     led (Fixed t.Wire) (ranges_mapped f range
     ▹ (commas_same f named_words named_words (map_named f) (named_mapped f) wires ▹ shut f t.Semicolon))
@@ -259,7 +259,7 @@ module_mapped f m =
     (row_same f item_words item_words (map_item f) (item_mapped f) m.items ▹ shut f t.Endmodule)))))
 
 pub file_mapped : {A B : Type 0} (f : A → B) (x : FileOf A) → file_words (map_file f x) ≡ map (map_word f) (file_words x)
-file_mapped f x = row_same f module_words module_words (map_module f) (module_mapped f) x.modules
+file_mapped f x = (row_same f module_words module_words (map_module f) (module_mapped f) x.modules).is
 
 -- lines don't count in tokens
 token_mapped : {A B : Type 0} (f : A → B) (w : WordOf A) → token_of (map_word f w) ≡ token_of w
