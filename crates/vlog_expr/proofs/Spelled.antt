@@ -77,7 +77,7 @@ module _ (A : Type 0) (blank : A) where
     pub at_whole : WholeClaim e
 
   -- what can stand behind an expression
-  pub ends_nil : Ends []
+  pub ends_nil : Ends {A = A} []
   ends_nil = record { stops = record { index = refl; operator = λ m h. refl }; question = refl }
 
   pub ends_paren : (r : Toks A) → Ends (spelled blank (Fixed t.ParenClose) ∷ r)

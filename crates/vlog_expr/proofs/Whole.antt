@@ -132,7 +132,7 @@ mutual
       let closing = Fixed t.BraceClose ∷ Fixed t.BraceClose ∷ [] in (
         tt,
         lawful_append (expr_words count) (Fixed t.BraceOpen ∷ (exprs_words es ++ closing)) (expr_lawful count g.0)
-            (tt, lawful_append (exprs_words es) closing (exprs_lawful es g.1) (tt, tt, tt)),
+            (tt, lawful_append (exprs_words es) closing (exprs_lawful es g.1) (tt, (tt, tt))),
       )
 
   exprs_lawful : {A : Type 0} (es : ExprsOf A) → AreGoodExprs es → AreLawfulWords (exprs_words es)
