@@ -50,7 +50,7 @@ good_bare : (f : FileOf ℕ) → IsGood f → IsGood (bare f)
 good_bare f g =
     let n = fuel_for (length (file_words f)) in
     let lawful = forgotten_lawful (alone f) (spell_lawful 0 (file_words f) (file_lawful ℕ f g)) in
-    let s = subst (λ (o : Option (FileOf U)). Holds o (λ (f : FileOf U). IsGood f × AreWords (file_words f) (forget_all (alone f)) []))
+    let s = subst (λ (o : Option (FileOf U)). Holds o (λ (x : FileOf U). IsGood x × AreWords (file_words x) (forget_all (alone f)) []))
     (bare_read f n g (omega arith)) (file_spelled U n (forget_all (alone f)) lawful) in
     s.0
 

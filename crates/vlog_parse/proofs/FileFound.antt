@@ -364,7 +364,7 @@ module _ (A : Type 0) where
       ((with_commas port_words x.0.2 ++ Fixed t.ParenClose ∷ []) ++ Fixed t.Semicolon ∷ []))) x.1
 
   unlined : (kind : TokenKind) (text : List ℕ) (line : A) (rest : Toks A) → IsLawfulText kind text → AreLawful rest
-      → Sure (if is_name kind then Some (record { name = text; line = line }, rest) else None)
+      → Sure {X = IdentOf A × Toks A} (if is_name kind then Some (record { name = text; line = line }, rest) else None)
       (λ id. IsGoodName id.0.name × From A (record { kind = kind; text = text; line = line } ∷ rest) (NameWord id.0.name ∷ []) id.1)
   unlined Identifier text line rest g h = sure _ (g, record { spells = (refl, refl); lawful = h })
   unlined Reserved text line rest g h = nothing

@@ -210,7 +210,7 @@ module _ (A : Type 0) (blank : A) where
   value_read (Some e) n r g h =
       let long = length-append (expr_words e) (Fixed t.ParenClose ∷ []) in
       ap (λ (ws : Toks A). value_at n ws) (spell_append A blank (expr_words e) (Fixed t.ParenClose ∷ []) r)
-      ∙ skipped _ (expr_start A blank t.ParenClose close_start A blank e (paren A blank r)) (step _ (expr_read A blank e (paren A blank r) n g (ends_paren A blank r) (omega arith)) refl)
+      ∙ skipped _ (expr_start A blank t.ParenClose (close_start A blank) e (paren A blank r)) (step _ (expr_read A blank e (paren A blank r) n g (ends_paren A blank r) (omega arith)) refl)
 
   conn_read : (n : ℕ) → ReadsOne A blank conn_words IsGoodConn (conn_at n) n
   conn_read n x r g p h = step _ (value_read x.value n r g.1 (omega arith)) refl

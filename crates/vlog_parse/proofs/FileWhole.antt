@@ -149,7 +149,7 @@ module _ (A : Type 0) where
   ranges_lawful : (o : Option (RangeOf A)) → IsGoodOption IsGoodRange o → AreLawfulWords (optional range_words o)
   ranges_lawful o g = optional_lawful (RangeOf A) IsGoodRange range_words range_lawful o g
 
-  direction_lawful : (d : Direction) → AreLawfulWords (direction_words d)
+  direction_lawful : (d : Direction) → AreLawfulWords {A = A} (direction_words d)
   direction_lawful (direction.Input false) = (tt, tt)
   direction_lawful (direction.Input true) = (tt, (tt, tt))
   direction_lawful (direction.Output None) = (tt, tt)

@@ -426,7 +426,7 @@ greedy_more ws rest bad h g = record {
 pub are_longest : (ws rest : Toks U) (g : Greedy false ws rest) → AreLongest g.units ws rest
 are_longest ws rest g = record {
   begins = begin_with g.units ws rest g.fit g.spells g.whole;
-  longest = λ us r b. g.longest us r (begin_fit us ws r b) b.spelled tt b.whole;
+  longest = λ us r b. g.longest us r (begin_fit us ws r b) b.spelled b.whole;
 }
 
 -- without lines the same stands behind the units
@@ -591,6 +591,6 @@ one_item_line ws a b x y =
     let vs = y.longest.begins in
     let many = antisym (length x.units) (length y.units) (y.longest.longest x.units x.rest us) (x.longest.longest y.units y.rest vs) in
     let same = same_rest x.units y.units false (forget_all ws) x.rest y.rest
-    (begin_fit x.units (forget_all ws) x.rest us) (begin_fit y.units (forget_all ws) y.rest vs) us.spelled tt vs.spelled tt us.whole vs.whole many
+    (begin_fit x.units (forget_all ws) x.rest us) (begin_fit y.units (forget_all ws) y.rest vs) us.spelled vs.spelled us.whole vs.whole many
     in
     x.its_line ∙ ap (λ (us : Toks U). first_line ws (drop (length ws - length us) ws)) same ∙ sym y.its_line
