@@ -13,7 +13,7 @@ use Rattle.vlog_tree.specs.declared.expr.BinaryOp.{BinaryOp}
 use Rattle.vlog_tree.specs.declared.expr.BinaryOp.TheVariants as binary
 use Rattle.vlog_tree.specs.declared.terminal.Terminal.{Terminal}
 use Rattle.vlog_tree.specs.declared.terminal.Terminal.TheVariants as t
-use Rattle.vlog_tree.specs.Words.{WordOf, Fixed, NameAt, NumberAt, FixedAt, terminal_kind, terminal_text}
+use Rattle.vlog_tree.specs.Words.{WordOf, Fixed, NameAt, FixedAt, terminal_kind, terminal_text}
 use Rattle.vlog_tree.specs.Tree.{IdentOf, NumberOf, SignOf, ExprOf, UnaryExpr, BinaryExpr, ChoiceExpr, PrimOf, NumberPrim, RefPrim}
 use Rattle.vlog_tree.specs.Tree.{ParenPrim, ConcatPrim, RepeatPrim, RefOf, RefWith, NoIndex, Index, NoLast, Last, SelOf, IndexSel}
 use Rattle.vlog_tree.specs.Tree.{PartSel, IndexedSel, ExprsOf, exprs_of}
@@ -228,8 +228,11 @@ module _ (A : Type 0) where
       (λ op g. chosen (BinaryAt l (token ∷ rest)) (level_of op == l) (Some (op, rest)) None
       (λ same.
       let k = g.0 ∙ sym (binary_kind op) in
-      let e = g.1 in
-      (eqb-true (level_of op) l same, one token rest (Fixed (binary_terminal op)) (λ i. record { kind = k i; text = e i; line = token.line }) h.1))
+      let e = g.1 in (
+        eqb-true (level_of op) l same,
+        one token rest (Fixed (binary_terminal op))
+            (λ i. record { kind = k i; text = e i; line = token.line }) h.1,
+      ))
       (λ other. tt))
 
   abbrev pub AtExpr : Toks A → ExprOf A × Toks A → Type 0
@@ -431,7 +434,8 @@ module _ (A : Type 0) where
               (join ws e.1 o.1 (expr_words e.0) (Fixed t.BraceOpen ∷ []) g.1 fo),
         )))
 
-    repeat_sound : (w ws : Toks A) (line : A) (count : ExprOf A) → CountAt line w count ws → Holds (repeat_at (suc n) line count ws) (AtPrim w)
+    repeat_sound : (w ws : Toks A) (line : A) (count : ExprOf A) → CountAt line w count ws
+        → Holds (repeat_at (suc n) line count ws) (AtPrim w)
     repeat_sound w ws line count f =
         bind (AtExpr ws) (AtPrim w) (expr_at n ws) (λ e. parts_at n (e.0 ∷ []) e.1 >>= λ es. after t.BraceClose es.1
         >>= λ i. after t.BraceClose i.1 >>= λ c. Some (RepeatPrim line count (exprs_of es.0), c.1)) (s.expr ws f.1.lawful)

@@ -34,7 +34,8 @@ module _ (A : Type 0) (blank : A) where
   spell_append (w ∷ a) b r = ap (λ (ts : Toks A). spelled blank w ∷ ts) (spell_append a b r)
 
   abbrev pub LevelClaim : ExprOf A → ℕ → Type 0
-  LevelClaim e l = (n : ℕ) (r : Toks A) → Stops l r → size (expr_words e) + 12 ≤ n + l → binary_at n l (spell blank (expr_words e) r) ≡ Some (e, r)
+  LevelClaim e l =
+      (n : ℕ) (r : Toks A) → Stops l r → size (expr_words e) + 12 ≤ n + l → binary_at n l (spell blank (expr_words e) r) ≡ Some (e, r)
 
   abbrev pub ChainClaim : ExprOf A → ℕ → Type 0
   ChainClaim e l =
@@ -45,7 +46,8 @@ module _ (A : Type 0) (blank : A) where
   WholeClaim e = (n : ℕ) (r : Toks A) → Ends r → size (expr_words e) + 14 ≤ n → expr_at n (spell blank (expr_words e) r) ≡ Some (e, r)
 
   abbrev pub PrimClaim : PrimOf A → Type 0
-  PrimClaim p = (n : ℕ) (r : Toks A) → after t.BracketOpen r ≡ None → size (prim_words p) ≤ n + 16 → prim_at n (spell blank (prim_words p) r)
+  PrimClaim p =
+      (n : ℕ) (r : Toks A) → after t.BracketOpen r ≡ None → size (prim_words p) ≤ n + 16 → prim_at n (spell blank (prim_words p) r)
       ≡ Some (p, r)
 
   abbrev pub RefClaim : RefOf A → Type 0
@@ -228,7 +230,8 @@ module _ (A : Type 0) (blank : A) where
   stops_op : (op : BinaryOp) (l : ℕ) (r : Toks A) → level_of op < l → Stops l (spelled blank (Fixed (binary_terminal op)) ∷ r)
   stops_op op l r low =
       let other : (m : ℕ) → l ≤ m → binary_front m (spelled blank (Fixed (binary_terminal op)) ∷ r) ≡ None =
-      λ m h. binary_seen m op r ∙ ap (λ (b : Bool). if b then Some (op, r) else None) (ne_eqb (level_of op) m (λ e. absurd (omega arith))) in
+      λ m h. binary_seen m op r ∙ ap (λ (b : Bool). if b then Some (op, r) else None) (ne_eqb (level_of op) m (λ e. absurd
+      (omega arith))) in
       record { index = no_bracket op r; operator = other }
 
   sign_again : (s : SignOf A) (r : Toks A) → sign_front (spelled blank (FixedAt (unary_terminal s.op) s.line) ∷ r) ≡ Some (s, r)
@@ -281,7 +284,8 @@ module _ (A : Type 0) (blank : A) where
   chain_over : (j l : ℕ) (e : ExprOf A) (r : Toks A) → binary_front l r ≡ None → 0 < j → chain_at j l e r ≡ Some (e, r)
   chain_over zero l e r h p = absurd (omega arith)
   chain_over (suc j) l e r h p =
-      ap (λ (o : Read A BinaryOp). found_or o (Some (e, r)) (λ o. binary_at j (l + 1) o.1 >>= λ b. chain_at j l (BinaryExpr e o.0 b.0) b.1)) h
+      ap (λ (o : Read A BinaryOp). found_or o (Some (e, r)) (λ o. binary_at j (l + 1) o.1 >>= λ b. chain_at j l
+      (BinaryExpr e o.0 b.0) b.1)) h
 
   finish : (e : ExprOf A) (l : ℕ) → l ≤ 10 → ChainClaim e l → LevelClaim e l
   finish e l h c n r s b =
@@ -314,7 +318,8 @@ module _ (A : Type 0) (blank : A) where
       (λ s. prim_at n s.1 >>= λ p. Some (UnaryExpr (Some s.0) p.0, p.1))) (no_sign p r)
       ∙ ap (λ (o : Read A (PrimOf A)). o >>= λ p. Some (UnaryExpr None p.0, p.1)) (g n r s.index (omega arith))
   unary_level (Some x) p g (suc (suc n)) r s b =
-      ap (λ (o : Read A (SignOf A)). found_or o (prim_at n (spelled blank (FixedAt (unary_terminal x.op) x.line) ∷ spell blank (prim_words p) r)
+      ap (λ (o : Read A (SignOf A)). found_or o (prim_at n (spelled blank (FixedAt (unary_terminal x.op) x.line) ∷ spell blank
+      (prim_words p) r)
       >>= λ p. Some (UnaryExpr None p.0, p.1)) (λ s. prim_at n s.1 >>= λ p. Some (UnaryExpr (Some s.0) p.0, p.1)))
       (sign_again x (spell blank (prim_words p) r))
       ∙ ap (λ (o : Read A (PrimOf A)). o >>= λ p. Some (UnaryExpr (Some x) p.0, p.1)) (g n r s.index (omega arith))
@@ -407,7 +412,8 @@ module _ (A : Type 0) (blank : A) where
 
   prim_ref : (x : RefOf A) → RefClaim x → PrimClaim (RefPrim x)
   prim_ref (RefWith id index last) g zero r i b = absurd (omega arith)
-  prim_ref (RefWith id index last) g (suc n) r i b = ap (λ (o : Read A (RefOf A)). o >>= λ r. Some (RefPrim r.0, r.1)) (g n r i (omega arith))
+  prim_ref (RefWith id index last) g (suc n) r i b =
+      ap (λ (o : Read A (RefOf A)). o >>= λ r. Some (RefPrim r.0, r.1)) (g n r i (omega arith))
 
   prim_paren : (line : A) (e : ExprOf A) → WholeClaim e → PrimClaim (ParenPrim line e)
   prim_paren line e w zero r i b = absurd (omega arith)
@@ -480,7 +486,8 @@ module _ (A : Type 0) (blank : A) where
       >>= λ i. after t.BraceClose i.1 >>= λ c. Some (RepeatPrim line count (exprs_of es.0), c.1))
       (w n (spell blank (more_exprs_words es) shut) (ends_more es shut ends) (omega arith))
       ∙ ap (λ (o : Read A (List (ExprOf A))). o >>= λ es. after t.BraceClose es.1
-      >>= λ i. after t.BraceClose i.1 >>= λ c. Some (RepeatPrim line count (exprs_of es.0), c.1)) (m n (x ∷ []) shut ends refl (omega arith))
+      >>= λ i. after t.BraceClose i.1 >>= λ c. Some (RepeatPrim line count (exprs_of es.0), c.1)) (m n (x ∷ []) shut ends refl
+      (omega arith))
       ∙ ap (λ (xs : ExprsOf A). Some (RepeatPrim line count (MoreExprs x xs), r)) (listed es)
 
   -- what stands in a bracket
@@ -497,7 +504,8 @@ module _ (A : Type 0) (blank : A) where
       let long = length-append (expr_words a) (Fixed t.Colon ∷ expr_words b) in
       ap (λ (ws : Toks A). sel_at (suc (suc n)) ws) (spell_append (expr_words a) (Fixed t.Colon ∷ expr_words b) (close r))
       ∙ ap (λ (o : Read A (ExprOf A)). o >>= λ a. bounds_at (suc n) a.0 a.1)
-      (wa (suc n) (spelled blank (Fixed t.Colon) ∷ spell blank (expr_words b) (close r)) (ends_colon (spell blank (expr_words b) (close r))) (omega arith))
+      (wa (suc n) (spelled blank (Fixed t.Colon) ∷ spell blank (expr_words b) (close r)) (ends_colon (spell blank (expr_words b)
+      (close r))) (omega arith))
       ∙ ap (λ (o : Read A (ExprOf A)). o >>= λ b. Some (PartSel a b.0, b.1)) (wb n (close r) (ends_bracket r) (omega arith))
 
   sel_indexed : (a b : ExprOf A) → WholeClaim a → WholeClaim b → SelClaim (IndexedSel a b)
@@ -507,7 +515,8 @@ module _ (A : Type 0) (blank : A) where
       let long = length-append (expr_words a) (Fixed t.PlusColon ∷ expr_words b) in
       ap (λ (ws : Toks A). sel_at (suc (suc n)) ws) (spell_append (expr_words a) (Fixed t.PlusColon ∷ expr_words b) (close r))
       ∙ ap (λ (o : Read A (ExprOf A)). o >>= λ a. bounds_at (suc n) a.0 a.1)
-      (wa (suc n) (spelled blank (Fixed t.PlusColon) ∷ spell blank (expr_words b) (close r)) (ends_plus_colon (spell blank (expr_words b) (close r)))
+      (wa (suc n) (spelled blank (Fixed t.PlusColon) ∷ spell blank (expr_words b) (close r)) (ends_plus_colon (spell blank (expr_words b)
+      (close r)))
       (omega arith))
       ∙ ap (λ (o : Read A (ExprOf A)). o >>= λ b. Some (IndexedSel a b.0, b.1)) (wb n (close r) (ends_bracket r) (omega arith))
 
@@ -581,7 +590,8 @@ module _ (A : Type 0) (blank : A) where
     reads_concat line NoExprs g = absurd g
     reads_concat line (MoreExprs e es) g = prim_concat line e es (reads e g.0).at_whole (reads_parts es g.1)
 
-    reads_repeat : (line : A) (count : ExprOf A) (es : ExprsOf A) → WholeClaim count → AreGoodExprs es → PrimClaim (RepeatPrim line count es)
+    reads_repeat : (line : A) (count : ExprOf A) (es : ExprsOf A) → WholeClaim count → AreGoodExprs es
+        → PrimClaim (RepeatPrim line count es)
     reads_repeat line count NoExprs c g = absurd g
     reads_repeat line count (MoreExprs e es) c g = prim_repeat line count e es c (reads e g.0).at_whole (reads_parts es g.1)
 

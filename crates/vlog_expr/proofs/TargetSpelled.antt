@@ -25,11 +25,13 @@ module _ (A : Type 0) (blank : A) where
 
   abbrev TargetsClaim : TargetsOf A → Type 0
   TargetsClaim xs =
-      (n : ℕ) (front : List (TargetOf A)) (r : Toks A) → after t.BracketOpen r ≡ None → after t.Comma r ≡ None → size A blank (more_targets_words xs)
+      (n : ℕ) (front : List (TargetOf A)) (r : Toks A) → after t.BracketOpen r ≡ None → after t.Comma r ≡ None
+      → size A blank (more_targets_words xs)
       + 1 ≤ n
       → targets_at n front (spell blank (more_targets_words xs) r) ≡ Some (front ++ list_of xs, r)
 
-  no_bracket : (xs : TargetsOf A) (r : Toks A) → after t.BracketOpen r ≡ None → after t.BracketOpen (spell blank (more_targets_words xs) r) ≡ None
+  no_bracket : (xs : TargetsOf A) (r : Toks A) → after t.BracketOpen r ≡ None → after t.BracketOpen (spell blank
+      (more_targets_words xs) r) ≡ None
   no_bracket NoTargets r h = h
   no_bracket (MoreTargets x xs) r h = refl
 
@@ -73,7 +75,11 @@ module _ (A : Type 0) (blank : A) where
       ∙ ap (λ (o : Read A (TargetOf A)). o >>= λ x. targets_at n (x.0 ∷ []) x.1 >>= λ xs. after t.BraceClose xs.1
       >>= λ c. Some (ConcatTarget line (targets_of xs.0), c.1)) (w n (spell blank (more_targets_words xs) shut) (no_bracket xs shut refl)
       (omega arith))
-      ∙ ap (λ (o : Read A (List (TargetOf A))). o >>= λ xs. after t.BraceClose xs.1 >>= λ c. Some (ConcatTarget line (targets_of xs.0), c.1))
+      ∙ ap (λ (o : Read A (List (TargetOf A))). o >>= λ xs. after t.BraceClose xs.1 >>= λ c. Some (
+        ConcatTarget line
+            (targets_of xs.0),
+        c.1,
+      ))
       (m n (x ∷ []) shut refl refl (omega arith))
       ∙ ap (λ (xs : TargetsOf A). Some (ConcatTarget line (MoreTargets x xs), r)) (listed xs)
 

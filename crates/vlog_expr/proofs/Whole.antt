@@ -20,7 +20,7 @@ use Rattle.vlog_tree.specs.Spelling.{more_exprs_words}
 use Rattle.vlog_tree.specs.Shape.{IsGoodExpr, IsGoodPrim, IsGoodRef, IsGoodIndex, IsGoodLast, IsGoodSel, AreGoodExprs, AreAllGoodExprs}
 use Rattle.vlog_expr.specs.declared.unread.Unread.{Unread}
 use Rattle.vlog_expr.specs.declared.unread.Unread.TheVariants as errors
-use Rattle.vlog_expr.specs.Marks.{TokenOf, Toks, spelled, spell, IsWord, AreWords, marked, all_marked, IsLawfulText, AreLawful}
+use Rattle.vlog_expr.specs.Marks.{TokenOf, Toks, spelled, spell, AreWords, marked, all_marked, IsLawfulText, AreLawful}
 use Rattle.vlog_expr.specs.Bare.{forget, forget_all, bare_expr, without_lines}
 use Rattle.vlog_expr.specs.Reader.{◌>>=◌, Read, expr_at, whole, fuel_for, expr_of}
 use Rattle.vlog_expr.specs.Laws.{Holds, seen}
@@ -212,7 +212,8 @@ pub all_again : (ws : Toks ℕ) (e : ExprOf U) → IsGoodExpr e → spell tt (ex
 unfolding expr_of
 all_again ws e g h =
     let fuel = fuel_for (length ws) in
-    let same : length (expr_words e) ≡ length ws = sym (length_spell tt (expr_words e)) ∙ ap (λ (us : Toks U). length us) h ∙ length_forget ws
+    let same : length (expr_words e) ≡ length ws = sym (length_spell tt (expr_words e)) ∙ ap (λ (us : Toks U). length us) h
+    ∙ length_forget ws
     in
     from_seen (expr_at fuel ws) e (sym (expr_natural ℕ fuel ws) ∙ sym (ap (λ (us : Toks U). expr_at fuel us) h)
     ∙ expr_read U tt e [] fuel g (ends_nil U tt) (omega arith))

@@ -1,5 +1,6 @@
 -- The clauses of the reader of whole files.
-use Rattle.std.proofs.Common.{◌≡◌, ℕ, ◌+◌, ◌≤◌, Option, None, Some, Result, Ok, Err, List, [], ◌∷◌, refl, sym, ap, subst, ◌∙◌, length, map}
+use Rattle.std.proofs.Common.{◌≡◌, ℕ, ◌+◌, ◌≤◌, Option, None, Some, Result, Ok, Err, List, [], ◌∷◌, refl, sym, ap, subst, ◌∙◌, length}
+use Rattle.std.proofs.Common.{map}
 use Rattle.std.proofs.Common.{arith}
 use Rattle.std.specs.Prelude.{IfOk, MatchResult, option_map}
 use Rattle.vlog_lex.specs.declared.token.Token.{Token}

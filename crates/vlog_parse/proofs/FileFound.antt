@@ -1,25 +1,23 @@
 -- What is read is of good shape and spelled so: items, modules and files.
 use Rattle.std.proofs.Common.{◌≡◌, ◌≢◌, if◌then◌else◌, ℕ, zero, suc, Option, None, Some, List, [], ◌∷◌, ◌++◌, refl, sym, ap, ◌∙◌}
-use Rattle.std.proofs.Common.{append_assoc, append-nil}
+use Rattle.std.proofs.Common.{append_assoc}
 use Rattle.std.specs.List.{AllByRecursion}
 use Rattle.vlog_lex.specs.declared.token.TokenKind.{TokenKind}
 use Rattle.vlog_lex.specs.declared.token.TokenKind.TheVariants.{Identifier, Reserved, Decimal, Based, Other}
 use Rattle.vlog_tree.specs.declared.module.Direction.{Direction}
 use Rattle.vlog_tree.specs.declared.terminal.Terminal.TheVariants as t
-use Rattle.vlog_tree.specs.Words.{WordOf, NameWord, Fixed, NameAt, FixedAt}
+use Rattle.vlog_tree.specs.Words.{WordOf, NameWord, Fixed, FixedAt}
 use Rattle.vlog_tree.specs.Tree.{IdentOf, RangeOf, PortHeadOf, PortOf, NamedValueOf, Reg1Of, AssignOf, ItemOf, ModuleOf, FileOf}
-use Rattle.vlog_tree.specs.Spelling.{ident_words, after_commas, with_commas, in_row, range_words, optional, direction_words, head_words}
+use Rattle.vlog_tree.specs.Spelling.{ident_words, with_commas, in_row, range_words, optional, direction_words, head_words}
 use Rattle.vlog_tree.specs.Spelling.{init_words, port_words, named_words, reg_words, assign_words, event_words, item_words, module_words}
 use Rattle.vlog_tree.specs.Spelling.{file_words}
 use Rattle.vlog_tree.specs.Shape.{IsGoodName, IsGoodExpr, IsGoodOption, IsGoodRange, IsGoodHead, IsGoodPort, IsFirstDirected, IsGoodIdent}
 use Rattle.vlog_tree.specs.Shape.{IsGoodNamed, IsGoodReg, IsGoodAssign, IsGoodEvent, AreSomeGood, IsGoodItem, IsGoodModule, IsGood}
 use Rattle.vlog_expr.specs.Marks.{Toks, AreWords, IsLawfulText, AreLawful, is_name, name_front}
-use Rattle.vlog_expr.specs.Reader.{Read}
 use Rattle.vlog_parse.specs.FileReader.{range_at, range_front, init_front, input_at, output_at, direction_front, head_front, port_at}
 use Rattle.vlog_parse.specs.FileReader.{first_port_at, ports_at, named_at, reg_at, assign_at, names_at, driven_at, wires_at}
 use Rattle.vlog_parse.specs.FileReader.{regs_at, assigns_at, event_at, always_at, item_at, items_at, header_at, module_at, modules_at}
 use Rattle.vlog_parse.specs.FileReader.{file_at}
-use Rattle.vlog_expr.specs.Reader.{more_at, some_at}
 use Rattle.vlog_parse.specs.FileLaws.{ReadFilesAreSpelled}
 use Rattle.vlog_expr.proofs.Found.{From, again}
 use Rattle.vlog_parse.proofs.Sure.{Sure, nothing, sure, next, either, ◌▹◌, some_none, start, after_found, after_at_found}

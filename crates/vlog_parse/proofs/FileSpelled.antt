@@ -1,22 +1,25 @@
 -- What is spelled is read: files of good shape, and all that stands in them.
-use Rattle.std.proofs.Common.{◌≡◌, ◌≢◌, ℕ, zero, suc, ◌<◌, ◌≤◌, true, false, Option, None, Some, List, [], ◌∷◌, ◌++◌, length, sym, refl, ap}
+use Rattle.std.proofs.Common.{◌≡◌, ◌≢◌, ℕ, zero, suc, ◌<◌, ◌≤◌, true, false, Option, None, Some, List, [], ◌∷◌, ◌++◌, length, sym, refl}
+use Rattle.std.proofs.Common.{ap}
 use Rattle.std.proofs.Common.{◌∙◌, arith, append_assoc, append-nil, length-append}
 use Rattle.std.specs.List.{AllByRecursion}
 use Rattle.vlog_tree.specs.declared.module.Direction.{Direction}
 use Rattle.vlog_tree.specs.declared.module.Direction.TheVariants as direction
 use Rattle.vlog_tree.specs.declared.module.NetKind.TheVariants as kind
 use Rattle.vlog_tree.specs.declared.terminal.Terminal.TheVariants as t
-use Rattle.vlog_tree.specs.Words.{WordOf, NameWord, Fixed, NameAt, FixedAt}
-use Rattle.vlog_tree.specs.Tree.{IdentOf, ExprOf, TargetOf, BodyOf, RangeOf, PortHeadOf, PortOf, NamedValueOf, RegTailOf, InitTail, Reg1Of}
+use Rattle.vlog_tree.specs.Words.{WordOf, NameWord, Fixed, NameAt}
+use Rattle.vlog_tree.specs.Tree.{IdentOf, ExprOf, BodyOf, RangeOf, PortHeadOf, PortOf, NamedValueOf, RegTailOf, InitTail, Reg1Of}
 use Rattle.vlog_tree.specs.Tree.{AssignOf, EventOf, PosedgeEvent, ItemOf, WiresItem, DrivenWiresItem, RegsItem, AssignItem, AlwaysItem}
 use Rattle.vlog_tree.specs.Tree.{ModuleOf, FileOf}
 use Rattle.vlog_tree.specs.Spelling.{ident_words, expr_words, target_words, after_commas, with_commas, in_row, range_words, optional}
-use Rattle.vlog_tree.specs.Spelling.{direction_words, head_words, init_words, port_words, named_words, reg_words, assign_words, item_words}
+use Rattle.vlog_tree.specs.Spelling.{direction_words, head_words, init_words, port_words, named_words, reg_words, assign_words}
+use Rattle.vlog_tree.specs.Spelling.{item_words}
 use Rattle.vlog_tree.specs.Spelling.{module_words, file_words}
 use Rattle.vlog_tree.specs.Shape.{IsGoodExpr, IsGoodBody, IsGoodOption, IsGoodRange, IsGoodHead, IsGoodPort, IsFirstDirected, IsGoodIdent}
 use Rattle.vlog_tree.specs.Shape.{IsGoodNamed, IsGoodTail, IsGoodReg, IsGoodAssign, AreSomeGood, IsGoodItem, IsGoodModule, IsGood}
 use Rattle.vlog_expr.specs.Marks.{Toks, spelled, spell, after, name_front}
-use Rattle.vlog_tree.specs.Tree.{ParameterHeadOf, ParameterOf, MemoryTail, ImplicitEvent, ConnOf, InstanceOf, LocalparamsItem, InstanceItem}
+use Rattle.vlog_tree.specs.Tree.{ParameterHeadOf, ParameterOf, MemoryTail, ImplicitEvent, ConnOf, InstanceOf, LocalparamsItem}
+use Rattle.vlog_tree.specs.Tree.{InstanceItem}
 use Rattle.vlog_tree.specs.Spelling.{tail_words, parameter_head_words, parameter_words, hash_words, conn_words}
 use Rattle.vlog_tree.specs.Shape.{IsGoodParameterHead, IsGoodParameter, IsFirstHeaded, IsGoodConn, IsGoodInstance}
 use Rattle.vlog_expr.specs.Reader.{◌>>=◌, Read, expr_at, target_at, fuel_for}
@@ -31,7 +34,8 @@ use Rattle.vlog_expr.proofs.Spelled.{spell_append, ends_bracket, ends_colon, end
 use Rattle.vlog_expr.proofs.TargetSpelled.{target_read}
 use Rattle.vlog_parse.proofs.Steps.{step, taken, skipped}
 use Rattle.vlog_parse.proofs.Starts.{expr_start, close_start}
-use Rattle.vlog_parse.proofs.ListSpelled.{semicolon, paren, Parts, parts_semicolon, parts_paren, parts_more, ReadsOne, more_read, some_read}
+use Rattle.vlog_parse.proofs.ListSpelled.{semicolon, paren, Parts, parts_semicolon, parts_paren, parts_more, ReadsOne, more_read}
+use Rattle.vlog_parse.proofs.ListSpelled.{some_read}
 use Rattle.vlog_parse.proofs.StmtSpelled.{body_read}
 
 module _ (A : Type 0) (blank : A) where
@@ -44,7 +48,8 @@ module _ (A : Type 0) (blank : A) where
       let longer = length-append (expr_words x.second) (Fixed t.BracketClose ∷ []) in
       step _
       (ap (λ (ws : Toks A). expr_at n ws) (spell_append A blank (expr_words x.first) (Fixed t.Colon ∷ tail) r)
-      ∙ expr_read A blank x.first (spelled blank (Fixed t.Colon) ∷ spell blank tail r) n g.0 (ends_colon A blank (spell blank tail r)) (omega arith))
+      ∙ expr_read A blank x.first (spelled blank (Fixed t.Colon) ∷ spell blank tail r) n g.0 (ends_colon A blank (spell blank tail r))
+      (omega arith))
       (step _
       (ap (λ (ws : Toks A). expr_at n ws) (spell_append A blank (expr_words x.second) (Fixed t.BracketClose ∷ []) r)
       ∙ expr_read A blank x.second (spelled blank (Fixed t.BracketClose) ∷ r) n g.1 (ends_bracket A blank r) (omega arith))
@@ -64,7 +69,8 @@ module _ (A : Type 0) (blank : A) where
   init_read (Some x) n r g p h = step _ (expr_read A blank x r n g p.ends (omega arith)) refl
 
   -- ports
-  direction_read : (d : Direction) (r : Toks A) → after t.Wire r ≡ None → after t.Reg r ≡ None → direction_front (spell blank (direction_words d) r)
+  direction_read : (d : Direction) (r : Toks A) → after t.Wire r ≡ None → after t.Reg r ≡ None
+      → direction_front (spell blank (direction_words d) r)
       ≡ Some (d, r)
   direction_read (direction.Input false) r w v = skipped _ w refl
   direction_read (direction.Input true) r w v = refl
@@ -77,7 +83,8 @@ module _ (A : Type 0) (blank : A) where
   no_wire None name l r = refl
   no_wire (Some x) name l r = refl
 
-  no_reg : (x : Option (RangeOf A)) (name : List ℕ) (l : A) (r : Toks A) → after t.Reg (spell blank (optional range_words x) (spelled blank (NameAt name l) ∷ r))
+  no_reg : (x : Option (RangeOf A)) (name : List ℕ) (l : A) (r : Toks A) → after t.Reg (spell blank (optional range_words x)
+      (spelled blank (NameAt name l) ∷ r))
       ≡ None
   no_reg None name l r = refl
   no_reg (Some x) name l r = refl
@@ -108,7 +115,8 @@ module _ (A : Type 0) (blank : A) where
   given_some None y g = absurd (g refl)
   given_some (Some h) y g = refl
 
-  no_paren_direction : (d : Direction) (a b : List (WordOf A)) (r : Toks A) → after t.ParenClose (spell blank ((direction_words d ++ a) ++ b) r) ≡ None
+  no_paren_direction : (d : Direction) (a b : List (WordOf A)) (r : Toks A) → after t.ParenClose (spell blank
+      ((direction_words d ++ a) ++ b) r) ≡ None
   no_paren_direction (direction.Input false) a b r = refl
   no_paren_direction (direction.Input true) a b r = refl
   no_paren_direction (direction.Output None) a b r = refl
@@ -133,16 +141,19 @@ module _ (A : Type 0) (blank : A) where
       ap (λ (ws : Toks A). ports_at n ws) (spell_append A blank (port_words p) (after_commas port_words ps) (paren A blank r))
       ∙ skipped _ (no_paren p rest)
       (step _
-      (step _ (port_read n p rest g.0 (parts_more A blank port_words ps (paren A blank r) (parts_paren A blank r)) (omega arith)) (given_some p.head (p, rest) d))
+      (step _ (port_read n p rest g.0 (parts_more A blank port_words ps (paren A blank r) (parts_paren A blank r)) (omega arith))
+      (given_some p.head (p, rest) d))
       (step _
-      (more_read A blank port_words IsGoodPort (port_at n) n (port_read n) ps n (p ∷ []) (paren A blank r) g.1 (parts_paren A blank r) refl (omega arith)
+      (more_read A blank port_words IsGoodPort (port_at n) n (port_read n) ps n (p ∷ []) (paren A blank r) g.1
+      (parts_paren A blank r) refl (omega arith)
       (omega arith))
       refl))
 
   -- parameters
   parameter_head_read : (x : Option (ParameterHeadOf A)) (n : ℕ) (name : List ℕ) (l : A) (r : Toks A) → IsGoodOption IsGoodParameterHead x
       → fuel_for (length (optional parameter_head_words x)) ≤ n
-      → parameter_head_front n (spell blank (optional parameter_head_words x) (spelled blank (NameAt name l) ∷ r)) ≡ Some (x, spelled blank (NameAt name l) ∷ r)
+      → parameter_head_front n (spell blank (optional parameter_head_words x) (spelled blank (NameAt name l) ∷ r))
+      ≡ Some (x, spelled blank (NameAt name l) ∷ r)
   parameter_head_read None n name l r g h = refl
   parameter_head_read (Some x) n name l r g h = step _ (ranges_read x.range n (spelled blank (NameAt name l) ∷ r) g refl (omega arith)) refl
 
@@ -152,7 +163,8 @@ module _ (A : Type 0) (blank : A) where
       let long = length-append (optional parameter_head_words x.head) tail in
       step _
       (ap (λ (ws : Toks A). parameter_head_front n ws) (spell_append A blank (optional parameter_head_words x.head) tail r)
-      ∙ parameter_head_read x.head n x.id.name x.id.line (spelled blank (Fixed t.Equals) ∷ spell blank (expr_words x.value) r) g.0 (omega arith))
+      ∙ parameter_head_read x.head n x.id.name x.id.line (spelled blank (Fixed t.Equals) ∷ spell blank (expr_words x.value) r) g.0
+      (omega arith))
       (step _ (expr_read A blank x.value r n g.2 p.ends (omega arith)) refl)
 
   abbrev open_paren : Toks A → Toks A
@@ -168,12 +180,15 @@ module _ (A : Type 0) (blank : A) where
       let long = length-append (with_commas parameter_words (p ∷ ps)) (Fixed t.ParenClose ∷ []) in
       let longer = length-append (parameter_words p) (after_commas parameter_words ps) in
       step _
-      (ap (λ (ws : Toks A). first_parameter_at n ws) (spell_append A blank (with_commas parameter_words (p ∷ ps)) (Fixed t.ParenClose ∷ []) rest
+      (ap (λ (ws : Toks A). first_parameter_at n ws) (spell_append A blank (with_commas parameter_words (p ∷ ps))
+      (Fixed t.ParenClose ∷ []) rest
       ∙ spell_append A blank (parameter_words p) (after_commas parameter_words ps) (paren A blank rest))
-      ∙ step _ (parameter_read n p behind g.0 (parts_more A blank parameter_words ps (paren A blank rest) (parts_paren A blank rest)) (omega arith))
+      ∙ step _ (parameter_read n p behind g.0 (parts_more A blank parameter_words ps (paren A blank rest) (parts_paren A blank rest))
+      (omega arith))
       (given_some p.head (p, behind) d))
       (step _
-      (more_read A blank parameter_words IsGoodParameter (parameter_at n) n (parameter_read n) ps n (p ∷ []) (paren A blank rest) g.1 (parts_paren A blank rest) refl
+      (more_read A blank parameter_words IsGoodParameter (parameter_at n) n (parameter_read n) ps n (p ∷ []) (paren A blank rest) g.1
+      (parts_paren A blank rest) refl
       (omega arith) (omega arith))
       refl)
 
@@ -210,21 +225,25 @@ module _ (A : Type 0) (blank : A) where
   value_read (Some e) n r g h =
       let long = length-append (expr_words e) (Fixed t.ParenClose ∷ []) in
       ap (λ (ws : Toks A). value_at n ws) (spell_append A blank (expr_words e) (Fixed t.ParenClose ∷ []) r)
-      ∙ skipped _ (expr_start A blank t.ParenClose (close_start A blank) e (paren A blank r)) (step _ (expr_read A blank e (paren A blank r) n g (ends_paren A blank r) (omega arith)) refl)
+      ∙ skipped _ (expr_start A blank t.ParenClose (close_start A blank) e (paren A blank r)) (step _ (expr_read A blank e
+      (paren A blank r) n g (ends_paren A blank r) (omega arith)) refl)
 
   conn_read : (n : ℕ) → ReadsOne A blank conn_words IsGoodConn (conn_at n) n
   conn_read n x r g p h = step _ (value_read x.value n r g.1 (omega arith)) refl
 
   parameter_conns_read : (cs : List (ConnOf A)) (n : ℕ) (name : List ℕ) (l : A) (r : Toks A) → AllByRecursion IsGoodConn cs
       → fuel_for (length (hash_words conn_words cs)) ≤ n
-      → parameter_conns_front n (spell blank (hash_words conn_words cs) (spelled blank (NameAt name l) ∷ r)) ≡ Some (cs, spelled blank (NameAt name l) ∷ r)
+      → parameter_conns_front n (spell blank (hash_words conn_words cs) (spelled blank (NameAt name l) ∷ r))
+      ≡ Some (cs, spelled blank (NameAt name l) ∷ r)
   parameter_conns_read [] n name l r g h = refl
   parameter_conns_read (c ∷ cs) n name l r g h =
       let rest = spelled blank (NameAt name l) ∷ r in
       let long = length-append (with_commas conn_words (c ∷ cs)) (Fixed t.ParenClose ∷ []) in
       step _
-      (ap (λ (ws : Toks A). some_at (conn_at n) n ws) (spell_append A blank (with_commas conn_words (c ∷ cs)) (Fixed t.ParenClose ∷ []) rest)
-      ∙ some_read A blank conn_words IsGoodConn (conn_at n) n (conn_read n) c cs (paren A blank rest) g (parts_paren A blank rest) refl (omega arith))
+      (ap (λ (ws : Toks A). some_at (conn_at n) n ws) (spell_append A blank (with_commas conn_words (c ∷ cs))
+      (Fixed t.ParenClose ∷ []) rest)
+      ∙ some_read A blank conn_words IsGoodConn (conn_at n) n (conn_read n) c cs (paren A blank rest) g (parts_paren A blank rest) refl
+      (omega arith))
       refl
 
   conns_read : (cs : List (ConnOf A)) (n : ℕ) (r : Toks A) → AllByRecursion IsGoodConn cs
@@ -232,7 +251,8 @@ module _ (A : Type 0) (blank : A) where
       → conns_at n (spell blank (with_commas conn_words cs) (paren A blank r)) ≡ Some (cs, r)
   conns_read [] n r g h = refl
   conns_read (c ∷ cs) n r g h =
-      step _ (some_read A blank conn_words IsGoodConn (conn_at n) n (conn_read n) c cs (paren A blank r) g (parts_paren A blank r) refl h) refl
+      step _ (some_read A blank conn_words IsGoodConn (conn_at n) n (conn_read n) c cs (paren A blank r) g
+      (parts_paren A blank r) refl h) refl
 
   -- items
   equals_behind : {X : Type 0} (words : X → List (WordOf A)) (xs : List X) (r : Toks A)
@@ -241,7 +261,8 @@ module _ (A : Type 0) (blank : A) where
 
   item_wires : (range : Option (RangeOf A)) (id : IdentOf A) (ids : List (IdentOf A)) (n : ℕ) (r : Toks A)
       → IsGoodItem (WiresItem range (id ∷ ids))
-      → fuel_for (length (item_words (WiresItem range (id ∷ ids)))) ≤ n → item_at n (spell blank (item_words (WiresItem range (id ∷ ids))) r)
+      → fuel_for (length (item_words (WiresItem range (id ∷ ids)))) ≤ n → item_at n (spell blank (item_words (WiresItem range
+      (id ∷ ids))) r)
       ≡ Some (WiresItem range (id ∷ ids), r)
   item_wires range id ids n r g h =
       let list = NameAt id.name id.line ∷ after_commas ident_words ids in
@@ -254,7 +275,8 @@ module _ (A : Type 0) (blank : A) where
       ∙ ranges_read range n (spelled blank (NameAt id.name id.line) ∷ rest) g.0 refl (omega arith))
       (skipped _ (equals_behind ident_words ids r)
       (step _
-      (more_read A blank ident_words IsGoodIdent name_front n (ident_read n) ids n (id ∷ []) (semicolon A blank r) g.1.1 (parts_semicolon A blank r) refl
+      (more_read A blank ident_words IsGoodIdent name_front n (ident_read n) ids n (id ∷ []) (semicolon A blank r) g.1.1
+      (parts_semicolon A blank r) refl
       (omega arith) (omega arith))
       refl))
 
@@ -275,9 +297,11 @@ module _ (A : Type 0) (blank : A) where
       (step _
       (ap (λ (ws : Toks A). expr_at n ws) (spell_append A blank list (Fixed t.Semicolon ∷ []) r
       ∙ spell_append A blank (expr_words w.value) (after_commas named_words ws) (semicolon A blank r))
-      ∙ expr_read A blank w.value rest n g.1.0.1 (parts_more A blank named_words ws (semicolon A blank r) (parts_semicolon A blank r)).ends (omega arith))
+      ∙ expr_read A blank w.value rest n g.1.0.1 (parts_more A blank named_words ws (semicolon A blank r)
+      (parts_semicolon A blank r)).ends (omega arith))
       (step _
-      (more_read A blank named_words IsGoodNamed (named_at n) n (named_read n) ws n (w ∷ []) (semicolon A blank r) g.1.1 (parts_semicolon A blank r) refl
+      (more_read A blank named_words IsGoodNamed (named_at n) n (named_read n) ws n (w ∷ []) (semicolon A blank r) g.1.1
+      (parts_semicolon A blank r) refl
       (omega arith) (omega arith))
       refl))
 
@@ -293,7 +317,8 @@ module _ (A : Type 0) (blank : A) where
       ∙ ranges_read range n (spell blank (list ++ Fixed t.Semicolon ∷ []) r) g.0 refl (omega arith))
       (step _
       (ap (λ (ws : Toks A). some_at (reg_at n) n ws) (spell_append A blank list (Fixed t.Semicolon ∷ []) r)
-      ∙ some_read A blank reg_words IsGoodReg (reg_at n) n (reg_read n) x xs (semicolon A blank r) g.1 (parts_semicolon A blank r) refl (omega arith))
+      ∙ some_read A blank reg_words IsGoodReg (reg_at n) n (reg_read n) x xs (semicolon A blank r) g.1 (parts_semicolon A blank r) refl
+      (omega arith))
       refl)
 
   item_localparams : (range : Option (RangeOf A)) (x : NamedValueOf A) (xs : List (NamedValueOf A)) (n : ℕ) (r : Toks A)
@@ -309,7 +334,8 @@ module _ (A : Type 0) (blank : A) where
       ∙ ranges_read range n (spell blank (list ++ Fixed t.Semicolon ∷ []) r) g.0 refl (omega arith))
       (step _
       (ap (λ (ws : Toks A). some_at (named_at n) n ws) (spell_append A blank list (Fixed t.Semicolon ∷ []) r)
-      ∙ some_read A blank named_words IsGoodNamed (named_at n) n (named_read n) x xs (semicolon A blank r) g.1 (parts_semicolon A blank r) refl (omega arith))
+      ∙ some_read A blank named_words IsGoodNamed (named_at n) n (named_read n) x xs (semicolon A blank r) g.1
+      (parts_semicolon A blank r) refl (omega arith))
       refl)
 
   item_assigns : (x : AssignOf A) (xs : List (AssignOf A)) (n : ℕ) (r : Toks A) → IsGoodItem (AssignItem (x ∷ xs))
@@ -320,7 +346,8 @@ module _ (A : Type 0) (blank : A) where
       let long = length-append list (Fixed t.Semicolon ∷ []) in
       step _
       (ap (λ (ws : Toks A). some_at (assign_at n) n ws) (spell_append A blank list (Fixed t.Semicolon ∷ []) r)
-      ∙ some_read A blank assign_words IsGoodAssign (assign_at n) n (assign_read n) x xs (semicolon A blank r) g (parts_semicolon A blank r) refl (omega arith))
+      ∙ some_read A blank assign_words IsGoodAssign (assign_at n) n (assign_read n) x xs (semicolon A blank r) g
+      (parts_semicolon A blank r) refl (omega arith))
       refl
 
   abbrev always_with : A → EventOf A → BodyOf A → ItemOf A
@@ -341,7 +368,8 @@ module _ (A : Type 0) (blank : A) where
       let long = length-append (hash_words conn_words x.parameters) (NameAt x.id.name x.id.line ∷ tail) in
       let longer = length-append (with_commas conn_words x.ports) end in
       step _
-      (ap (λ (ws : Toks A). parameter_conns_front n ws) (spell_append A blank (hash_words conn_words x.parameters) (NameAt x.id.name x.id.line ∷ tail) r)
+      (ap (λ (ws : Toks A). parameter_conns_front n ws) (spell_append A blank (hash_words conn_words x.parameters)
+      (NameAt x.id.name x.id.line ∷ tail) r)
       ∙ parameter_conns_read x.parameters n x.id.name x.id.line (spell blank tail r) g.1 (omega arith))
       (step _
       (ap (λ (ws : Toks A). conns_at n ws) (spell_append A blank (with_commas conn_words x.ports) end r)

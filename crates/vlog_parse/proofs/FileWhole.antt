@@ -1,5 +1,5 @@
 -- The whole list of tokens as one file.
-use Rattle.std.proofs.Common.{◌≡◌, ℕ, Bool, true, false, List, [], ◌∷◌, ◌++◌, Option, None, Some, length, option_map, refl, ap, sym}
+use Rattle.std.proofs.Common.{◌≡◌, ℕ, true, false, List, [], ◌∷◌, ◌++◌, Option, None, Some, length, option_map, refl, ap, sym}
 use Rattle.std.proofs.Common.{◌∙◌, subst}
 use Rattle.std.proofs.Common.{arith}
 use Rattle.std.specs.List.{AllByRecursion}
@@ -9,13 +9,16 @@ use Rattle.vlog_tree.specs.declared.module.Direction.TheVariants as direction
 use Rattle.vlog_tree.specs.declared.module.NetKind.TheVariants as kind
 use Rattle.vlog_tree.specs.declared.terminal.Terminal.TheVariants as t
 use Rattle.vlog_tree.specs.Words.{WordOf, Fixed, NameAt, tokens_of}
-use Rattle.vlog_tree.specs.Tree.{IdentOf, ExprOf, RangeOf, PortHeadOf, PortOf, NamedValueOf, RegTailOf, InitTail, Reg1Of, AssignOf, EventOf}
+use Rattle.vlog_tree.specs.Tree.{IdentOf, ExprOf, RangeOf, PortHeadOf, PortOf, NamedValueOf, RegTailOf, InitTail, Reg1Of, AssignOf}
+use Rattle.vlog_tree.specs.Tree.{EventOf}
 use Rattle.vlog_tree.specs.Tree.{PosedgeEvent, ItemOf, WiresItem, DrivenWiresItem, RegsItem, AssignItem, AlwaysItem, ModuleOf, FileOf}
 use Rattle.vlog_tree.specs.Tree.{TargetOf, RefTarget, ConcatTarget, TargetsOf, NoTargets, MoreTargets, StmtOf, BeginStmt, IfStmt}
 use Rattle.vlog_tree.specs.Tree.{AssignStmt, BodyOf, StmtBody, EmptyBody, ElseOf, NoElse, Else, StmtsOf, NoStmts, MoreStmts}
-use Rattle.vlog_tree.specs.Spelling.{assign_terminal, ident_words, expr_words, target_words, targets_words, more_targets_words, stmt_words}
+use Rattle.vlog_tree.specs.Spelling.{assign_terminal, ident_words, expr_words, target_words, targets_words, more_targets_words}
+use Rattle.vlog_tree.specs.Spelling.{stmt_words}
 use Rattle.vlog_tree.specs.Spelling.{body_words, else_words, stmts_words, after_commas, with_commas, in_row, range_words, optional}
-use Rattle.vlog_tree.specs.Spelling.{direction_words, head_words, init_words, port_words, named_words, tail_words, reg_words, assign_words}
+use Rattle.vlog_tree.specs.Spelling.{direction_words, head_words, init_words, port_words, named_words, tail_words, reg_words}
+use Rattle.vlog_tree.specs.Spelling.{assign_words}
 use Rattle.vlog_tree.specs.Spelling.{event_words, item_words, module_words, file_words}
 use Rattle.vlog_tree.specs.Shape.{IsGoodExpr, IsGoodTarget, AreGoodTargets, AreAllGoodTargets, IsGoodStmt, IsGoodBody, IsGoodElse}
 use Rattle.vlog_tree.specs.Shape.{AreGoodStmts, IsGoodOption, IsGoodRange, IsGoodHead, IsGoodPort, IsGoodIdent, IsGoodNamed, IsGoodTail}
@@ -32,11 +35,13 @@ use Rattle.vlog_expr.proofs.Spelled.{U}
 use Rattle.vlog_parse.proofs.FileFound.{file_spelled}
 use Rattle.vlog_expr.proofs.Whole.{tokens_spelled, AreLawfulWords, lawful_append, spell_lawful, forget_lawful, expr_lawful}
 use Rattle.vlog_expr.proofs.Whole.{ref_lawful, length_spell, length_forget, none_some}
-use Rattle.vlog_tree.specs.Tree.{CaseStmt, ArmOf, LabelsArm, DefaultArm, ArmsOf, NoArms, MoreArms, ParameterHeadOf, ParameterOf, MemoryTail}
+use Rattle.vlog_tree.specs.Tree.{CaseStmt, ArmOf, LabelsArm, DefaultArm, ArmsOf, NoArms, MoreArms, ParameterHeadOf, ParameterOf}
+use Rattle.vlog_tree.specs.Tree.{MemoryTail}
 use Rattle.vlog_tree.specs.Tree.{ImplicitEvent, ConnOf, InstanceOf, LocalparamsItem, InstanceItem}
-use Rattle.vlog_tree.specs.Spelling.{colon_words, arm_words, arms_words, parameter_head_words, parameter_words, hash_words, conn_words}
+use Rattle.vlog_tree.specs.Spelling.{arm_words, arms_words, parameter_head_words, parameter_words, hash_words, conn_words}
 use Rattle.vlog_tree.specs.Spelling.{instance_words}
-use Rattle.vlog_tree.specs.Shape.{IsGoodArm, AreGoodArms, AreAllGoodArms, IsGoodParameterHead, IsGoodParameter, IsGoodConn, IsGoodInstance}
+use Rattle.vlog_tree.specs.Shape.{IsGoodArm, AreGoodArms, AreAllGoodArms, IsGoodParameterHead, IsGoodParameter, IsGoodConn}
+use Rattle.vlog_tree.specs.Shape.{IsGoodInstance}
 
 module _ (A : Type 0) where
   mutual
@@ -214,7 +219,8 @@ module _ (A : Type 0) where
   instance_lawful x g =
       let end = Fixed t.ParenClose ∷ Fixed t.Semicolon ∷ [] in (
         g.0,
-        lawful_append (hash_words conn_words x.parameters) (NameAt x.id.name x.id.line ∷ Fixed t.ParenOpen ∷ (with_commas conn_words x.ports ++ end))
+        lawful_append (hash_words conn_words x.parameters) (NameAt x.id.name x.id.line ∷ Fixed t.ParenOpen ∷
+            (with_commas conn_words x.ports ++ end))
             (hash_lawful (ConnOf A) IsGoodConn conn_words conn_lawful x.parameters g.1) (
               g.2,
               (
@@ -320,7 +326,8 @@ read_again : FilesAreRead → FileLinesDontCount ℕ → (ws : Toks ℕ) (t : Fi
 unfolding file_of
 read_again read lines ws t g h =
     let fuel = fuel_for (length ws) in
-    let same : length (file_words t) ≡ length ws = sym (length_spell tt (file_words t)) ∙ ap (λ (us : Toks U). length us) h ∙ length_forget ws
+    let same : length (file_words t) ≡ length ws = sym (length_spell tt (file_words t)) ∙ ap (λ (us : Toks U). length us) h
+    ∙ length_forget ws
     in
     from_mapped (file_at fuel ws) t (sym (lines fuel ws) ∙ sym (ap (λ (us : Toks U). file_at fuel us) h) ∙ read t fuel g (omega arith))
 

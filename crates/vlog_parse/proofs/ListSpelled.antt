@@ -40,17 +40,20 @@ module _ (A : Type 0) (blank : A) where
   pub parts_paren : (r : Toks A) → Parts (paren r)
   parts_paren r = record { ends = ends_paren A blank r; equals = refl }
 
-  pub parts_more : {X : Type 0} (words : X → List (WordOf A)) (xs : List X) (r : Toks A) → Parts r → Parts (spell blank (after_commas words xs) r)
+  pub parts_more : {X : Type 0} (words : X → List (WordOf A)) (xs : List X) (r : Toks A) → Parts r
+      → Parts (spell blank (after_commas words xs) r)
   parts_more words [] r p = p
   parts_more words (x ∷ xs) r p = parts_comma (spell blank (words x ++ after_commas words xs) r)
 
   -- an element is read before what can stand behind it
   abbrev pub ReadsOne : {X : Type 0} → (X → List (WordOf A)) → (X → Type 0) → (Toks A → Read A X) → ℕ → Type 0
-  ReadsOne {X} words IsFit one fuel = (x : X) (r : Toks A) → IsFit x → Parts r → fuel_for (length (words x)) ≤ fuel → one (spell blank (words x) r)
+  ReadsOne {X} words IsFit one fuel =
+      (x : X) (r : Toks A) → IsFit x → Parts r → fuel_for (length (words x)) ≤ fuel → one (spell blank (words x) r)
       ≡ Some (x, r)
 
   pub more_read : {X : Type 0} (words : X → List (WordOf A)) (IsFit : X → Type 0) (one : Toks A → Read A X) (fuel : ℕ)
-      → ReadsOne words IsFit one fuel → (xs : List X) (n : ℕ) (front : List X) (r : Toks A) → AllByRecursion IsFit xs → Parts r → after t.Comma r ≡ None
+      → ReadsOne words IsFit one fuel → (xs : List X) (n : ℕ) (front : List X) (r : Toks A) → AllByRecursion IsFit xs → Parts r
+      → after t.Comma r ≡ None
       → fuel_for (length (after_commas words xs)) ≤ fuel → length (after_commas words xs) < n
       → more_at one n front (spell blank (after_commas words xs) r) ≡ Some (front ++ xs, r)
   more_read words IsFit one fuel c [] zero front r g p h b k = absurd (omega arith)

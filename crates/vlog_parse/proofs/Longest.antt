@@ -11,10 +11,11 @@ use Rattle.vlog_lex.specs.declared.token.TokenKind.TheVariants.{Identifier, Rese
 use Rattle.vlog_tree.specs.declared.terminal.Terminal.TheVariants as t
 use Rattle.vlog_tree.specs.Words.{WordOf, NameWord, Fixed}
 use Rattle.vlog_tree.specs.Tree.{ParameterOf, PortOf, ItemOf, AlwaysItem, ModuleOf}
-use Rattle.vlog_tree.specs.Spelling.{with_commas, in_row, hash_words, parameter_words, port_words, item_words}
+use Rattle.vlog_tree.specs.Spelling.{with_commas, in_row, hash_words, parameter_words, port_words}
 use Rattle.vlog_tree.specs.Shape.{IsGoodName, IsFirstHeaded, IsGoodParameter, IsFirstDirected, IsGoodPort, IsGoodItem, IsGoodModule}
 use Rattle.vlog_tree.specs.Shape.{AreSomeGood}
-use Rattle.vlog_expr.specs.Marks.{TokenOf, Toks, marked, all_marked, spelled, spell, AreWords, IsLawfulText, AreLawful, is_terminal, after}
+use Rattle.vlog_expr.specs.Marks.{TokenOf, Toks, marked, all_marked, spelled, spell, AreWords, IsLawfulText, AreLawful, is_terminal}
+use Rattle.vlog_expr.specs.Marks.{after}
 use Rattle.vlog_expr.specs.Lawful.{IsUnlawful}
 use Rattle.vlog_expr.specs.Bare.{forget, forget_all}
 use Rattle.vlog_expr.specs.Reader.{◌>>=◌, found_or, Read, fuel_for}
@@ -22,7 +23,8 @@ use Rattle.vlog_expr.specs.Laws.{Holds, seen}
 use Rattle.vlog_parse.specs.BareFile.{bare_item}
 use Rattle.vlog_parse.specs.FileReader.{item_at, header_at}
 use Rattle.vlog_parse.specs.UnitReader.{whole_item, unit_at, read_or, behind_units}
-use Rattle.vlog_parse.specs.Units.{UnitOf, Header, ItemUnit, Endmodule, module_units, unit_words, IsWhole, AreWhole, BeginWith, AreLongest}
+use Rattle.vlog_parse.specs.Units.{UnitOf, Header, ItemUnit, Endmodule, module_units, unit_words, IsWhole, AreWhole, BeginWith}
+use Rattle.vlog_parse.specs.Units.{AreLongest}
 use Rattle.vlog_parse.specs.Units.{line_or, last_line, first_line, IsItemLine, OneItemLine}
 use Rattle.vlog_expr.proofs.Spelled.{U, spell_append}
 use Rattle.vlog_expr.proofs.Found.{From, again}
@@ -75,7 +77,8 @@ unit_again n false (Header name qs ps) r g w h =
 unit_again n false (ItemUnit i) r g w h = absurd g
 unit_again n false Endmodule r g w h = absurd g
 unit_again n true (Header name qs ps) r g w h = absurd g
-unit_again n true (ItemUnit i) r g w h = skipped _ (no_endmodule U tt i r) (step _ (item_read U tt i n r g w h) (step _ (whole_again i r w) refl))
+unit_again n true (ItemUnit i) r g w h =
+    skipped _ (no_endmodule U tt i r) (step _ (item_read U tt i n r g w h) (step _ (whole_again i r w) refl))
 unit_again n true Endmodule r g w h = refl
 
 -- what is read is a good unit that is whole
@@ -98,7 +101,8 @@ unit_found n false ws h =
       refl,
       tt,
       again U ws x.1 _ _
-          (ap (λ (words : List (WordOf U)). Fixed t.Module ∷ NameWord x.0.0 ∷ (hash_words parameter_words x.0.1 ++ Fixed t.ParenOpen ∷ words))
+          (ap (λ (words : List (WordOf U)). Fixed t.Module ∷ NameWord x.0.0 ∷
+          (hash_words parameter_words x.0.1 ++ Fixed t.ParenOpen ∷ words))
           (append_assoc (with_commas port_words x.0.2) (Fixed t.ParenClose ∷ []) (Fixed t.Semicolon ∷ [])))
           g.3,
     ))
@@ -186,7 +190,8 @@ greedy_step n left inside ws (Some x) rec h l e (u, fits, is, whole, from) =
     record {
       units = u ∷ more.units;
       fit = (fits, subst (λ (b : Bool). Fit b more.units) (sym is) more.fit);
-      spells = first ∙ ap (spell tt (unit_words u)) more.spells ∙ sym (spell_append U tt (unit_words u) (in_row unit_words more.units) rest);
+      spells =
+          first ∙ ap (spell tt (unit_words u)) more.spells ∙ sym (spell_append U tt (unit_words u) (in_row unit_words more.units) rest);
       whole = (subst (λ (us : Toks U). IsWhole u us) more.spells whole, more.whole);
       longest = some_longer n inside ws x (length more.units) h e more.longest;
     }
@@ -205,7 +210,8 @@ greedy n (suc left) inside ws g h l = greedy_step n left inside ws (unit_at n in
     (unit_found n inside ws g).holds
 
 -- two lists of as many units end at one place
-pub same_rest : (us vs : List UnitU) (inside : Bool) (ws r q : Toks U) → Fit inside us → Fit inside vs → ws ≡ spell tt (in_row unit_words us) r
+pub same_rest : (us vs : List UnitU) (inside : Bool) (ws r q : Toks U) → Fit inside us → Fit inside vs → ws
+    ≡ spell tt (in_row unit_words us) r
     → ws ≡ spell tt (in_row unit_words vs) q
     → AreWhole us r → AreWhole vs q → length us ≡ length vs → r ≡ q
 same_rest [] [] inside ws r q f g d e w x l = sym d ∙ e
@@ -302,7 +308,8 @@ mutual
             (λ (vs : List UnitU). Endmodule ∷ vs) r.parts;
       }
 
-pub begin_with : (us : List UnitU) (ws r : Toks U) → Fit false us → ws ≡ spell tt (in_row unit_words us) r → AreWhole us r → BeginWith us ws r
+pub begin_with : (us : List UnitU) (ws r : Toks U) → Fit false us → ws ≡ spell tt (in_row unit_words us) r → AreWhole us r
+    → BeginWith us ws r
 begin_with us ws r f e w =
     let o = outside_file us f in
     record { file = record { modules = o.modules }; good = o.good; more = o.more; parts = o.parts; spelled = e; whole = w }
@@ -390,7 +397,8 @@ units_lawful inside [] f = tt
 units_lawful inside (u ∷ us) f = lawful_append (unit_words u) (in_row unit_words us) (unit_lawful inside u f.0)
     (units_lawful (is_inside u) us f.1)
 
-no_front : (w : WordOf U) (words : List (WordOf U)) (bad r : Toks U) → AreLawfulWords (w ∷ words) → IsUnlawful bad → bad ≡ spelled tt w ∷ r → ⊥
+no_front : (w : WordOf U) (words : List (WordOf U)) (bad r : Toks U) → AreLawfulWords (w ∷ words) → IsUnlawful bad → bad
+    ≡ spelled tt w ∷ r → ⊥
 no_front w words bad r h l e = subst (λ (ws : Toks U). IsUnlawful ws) e l (spell_lawful tt (w ∷ words) h).0
 
 abbrev first_of : TokenOf U → Toks U → TokenOf U

@@ -1,5 +1,5 @@
 -- How an expression begins.
-use Rattle.std.proofs.Common.{◌≡◌, if◌then◌else◌, ℕ, Bool, true, false, ◌&&◌, Option, None, Some, List, [], ◌∷◌, ◌++◌, refl, ap, ◌∙◌}
+use Rattle.std.proofs.Common.{◌≡◌, if◌then◌else◌, ℕ, Bool, false, ◌&&◌, Option, None, Some, List, [], ◌∷◌, ◌++◌, refl, ap, ◌∙◌}
 use Rattle.std.specs.Str.{bytes_eq}
 use Rattle.vlog_lex.specs.declared.token.TokenKind.{TokenKind}
 use Rattle.vlog_lex.specs.declared.token.TokenKind.TheVariants.{Reserved}
@@ -63,12 +63,14 @@ module _ (A : Type 0) (blank : A) where
     name = λ text l r. other_kind x (spelled blank (NameAt text l)) r k refl;
     number = λ kind text l r. other_kind x (spelled blank (NumberAt kind text l)) r k (number_other kind);
     sign = λ op l r.
-        other_kind x (spelled blank (FixedAt (unary_terminal op) l)) r k (ap (λ (kind : TokenKind). same_kind kind Reserved) (unary_kind op));
+        other_kind x (spelled blank (FixedAt (unary_terminal op) l)) r k (ap (λ (kind : TokenKind). same_kind kind Reserved)
+        (unary_kind op));
     paren = λ l r. other_kind x (spelled blank (FixedAt t.ParenOpen l)) r k refl;
     brace = λ l r. other_kind x (spelled blank (FixedAt t.BraceOpen l)) r k refl;
   }
 
-  number_close : (kind : NumberKind) (text : List ℕ) (l : A) (r : Toks A) → after t.ParenClose (spelled blank (NumberAt kind text l) ∷ r) ≡ None
+  number_close : (kind : NumberKind) (text : List ℕ) (l : A) (r : Toks A) → after t.ParenClose (spelled blank
+      (NumberAt kind text l) ∷ r) ≡ None
   number_close number.Decimal text l r = refl
   number_close number.Based text l r = refl
 

@@ -1,13 +1,12 @@
 -- What is read is of good shape and spelled so: statements.
-use Rattle.std.proofs.Common.{◌≡◌, ◌≢◌, ℕ, zero, suc, Bool, true, false, Option, None, Some, List, [], ◌∷◌, ◌++◌, refl, sym, ap, ◌∙◌, subst}
+use Rattle.std.proofs.Common.{◌≡◌, ◌≢◌, ℕ, zero, suc, Bool, true, Option, None, Some, List, [], ◌∷◌, ◌++◌, sym, ap, ◌∙◌}
 use Rattle.std.proofs.Common.{append_assoc, append-nil}
-use Rattle.vlog_tree.specs.declared.terminal.Terminal.{Terminal}
 use Rattle.vlog_tree.specs.declared.terminal.Terminal.TheVariants as t
 use Rattle.vlog_tree.specs.declared.stmt.AssignOp.{AssignOp}
 use Rattle.vlog_tree.specs.Words.{WordOf, Fixed}
-use Rattle.vlog_tree.specs.Tree.{TargetOf, StmtOf, BodyOf, ElseOf, NoElse, Else, stmts_of}
-use Rattle.vlog_tree.specs.Spelling.{assign_terminal, target_words, stmt_words, body_words, else_words, stmts_words}
-use Rattle.vlog_tree.specs.Shape.{IsGoodTarget, is_open, is_open_body, is_open_else, IsShut, IsGoodStmt, IsGoodBody, IsGoodElse}
+use Rattle.vlog_tree.specs.Tree.{StmtOf, BodyOf, ElseOf, NoElse, Else, stmts_of}
+use Rattle.vlog_tree.specs.Spelling.{assign_terminal, stmt_words, body_words, else_words, stmts_words}
+use Rattle.vlog_tree.specs.Shape.{is_open, is_open_body, is_open_else, IsShut, IsGoodStmt, IsGoodBody, IsGoodElse}
 use Rattle.vlog_tree.specs.Shape.{AreGoodStmts}
 use Rattle.vlog_expr.specs.Marks.{Toks, AreWords, AreLawful, after}
 use Rattle.vlog_expr.specs.Reader.{expr_at}

@@ -1,5 +1,5 @@
 -- What is spelled is read: statements and bodies of good shape.
-use Rattle.std.proofs.Common.{◌≡◌, ℕ, zero, suc, ◌+◌, ◌<◌, ◌≤◌, Bool, true, false, Option, None, Some, List, [], ◌∷◌, ◌++◌, length, sym}
+use Rattle.std.proofs.Common.{◌≡◌, ℕ, zero, suc, ◌+◌, ◌<◌, ◌≤◌, Bool, true, false, None, Some, List, [], ◌∷◌, ◌++◌, length, sym}
 use Rattle.std.proofs.Common.{refl, ap, ◌∙◌}
 use Rattle.std.proofs.Common.{arith, append_assoc, append-nil, length-append}
 use Rattle.std.proofs.lemmas.Bool.{true≢false}
@@ -10,7 +10,8 @@ use Rattle.vlog_tree.specs.Words.{WordOf, Fixed}
 use Rattle.vlog_tree.specs.Tree.{ExprOf, RefWith, TargetOf, RefTarget, ConcatTarget, StmtOf, BeginStmt, IfStmt, AssignStmt, BodyOf}
 use Rattle.vlog_tree.specs.Tree.{StmtBody, EmptyBody, ElseOf, NoElse, Else, StmtsOf, NoStmts, MoreStmts, stmts_of}
 use Rattle.vlog_tree.specs.Spelling.{assign_terminal, expr_words, target_words, stmt_words, body_words, else_words, stmts_words}
-use Rattle.vlog_tree.specs.Shape.{IsGoodExpr, IsGoodTarget, is_open, is_open_body, is_open_else, IsShut, IsGoodStmt, IsGoodBody, IsGoodElse}
+use Rattle.vlog_tree.specs.Shape.{IsGoodExpr, IsGoodTarget, is_open, is_open_body, is_open_else, IsShut, IsGoodStmt, IsGoodBody}
+use Rattle.vlog_tree.specs.Shape.{IsGoodElse}
 use Rattle.vlog_tree.specs.Shape.{AreGoodStmts}
 use Rattle.vlog_expr.specs.Marks.{Toks, spelled, spell, after}
 use Rattle.vlog_tree.specs.declared.terminal.Terminal.{Terminal}
@@ -133,7 +134,8 @@ module _ (A : Type 0) (blank : A) where
       let longer = length-append (expr_words e) (Fixed t.Semicolon ∷ []) in
       step _
       (ap (λ (ws : Toks A). target_at n ws) (spell_append A blank (target_words x) (Fixed (assign_terminal op) ∷ tail) r)
-      ∙ target_read A blank x (spelled blank (Fixed (assign_terminal op)) ∷ spell blank tail r) n gx (no_bracket op (spell blank tail r)) (omega arith))
+      ∙ target_read A blank x (spelled blank (Fixed (assign_terminal op)) ∷ spell blank tail r) n gx (no_bracket op (spell blank tail r))
+      (omega arith))
       (step _ (op_again op (spell blank tail r))
       (step _
       (ap (λ (ws : Toks A). expr_at n ws) (spell_append A blank (expr_words e) (Fixed t.Semicolon ∷ []) r)
@@ -209,7 +211,8 @@ module _ (A : Type 0) (blank : A) where
       let rest = spell blank (else_words other) r in
       step _
       (ap (λ (ws : Toks A). expr_at n ws) (spell_append A blank (expr_words e) (Fixed t.ParenClose ∷ both) r)
-      ∙ expr_read A blank e (spelled blank (Fixed t.ParenClose) ∷ spell blank both r) n g (ends_paren A blank (spell blank both r)) (omega arith))
+      ∙ expr_read A blank e (spelled blank (Fixed t.ParenClose) ∷ spell blank both r) n g (ends_paren A blank (spell blank both r))
+      (omega arith))
       (step _
       (ap (λ (ws : Toks A). body_at n ws) (spell_append A blank (body_words b) (else_words other) r)
       ∙ cb n rest (not_nearer b other r s o) (omega arith))
@@ -217,7 +220,8 @@ module _ (A : Type 0) (blank : A) where
 
   -- the arms of a `case`
   abbrev ArmClaim : ArmOf A → Type 0
-  ArmClaim a = (n : ℕ) (r : Toks A) → after t.Else r ≡ None → size A blank (arm_words a) ≤ n → arm_at n (spell blank (arm_words a) r) ≡ Some (a, r)
+  ArmClaim a =
+      (n : ℕ) (r : Toks A) → after t.Else r ≡ None → size A blank (arm_words a) ≤ n → arm_at n (spell blank (arm_words a) r) ≡ Some (a, r)
 
   abbrev closed : Toks A → Toks A
   closed r = spelled blank (Fixed t.Endcase) ∷ r
@@ -270,7 +274,8 @@ module _ (A : Type 0) (blank : A) where
       skipped _ (labels_start t.Default (reserved_start A blank t.Default refl) e es tail r)
       (step _
       (ap (λ (ws : Toks A). some_at (expr_at n) n ws) (spell_append A blank (with_commas expr_words (e ∷ es)) tail r)
-      ∙ some_read A blank expr_words IsGoodExpr (expr_at n) n (exprs_read A blank n) e es (spell blank tail r) g (parts_colon A blank (spell blank (body_words b) r)) refl
+      ∙ some_read A blank expr_words IsGoodExpr (expr_at n) n (exprs_read A blank n) e es (spell blank tail r) g (parts_colon A blank
+      (spell blank (body_words b) r)) refl
       (omega arith))
       (step _ (cb n r (λ _. o) (omega arith)) refl))
 
@@ -307,9 +312,11 @@ module _ (A : Type 0) (blank : A) where
       let longest = length-append (arm_words a) (arms_words more) in
       step _
       (ap (λ (ws : Toks A). expr_at n ws) (spell_append A blank (expr_words e) (Fixed t.ParenClose ∷ both) r)
-      ∙ expr_read A blank e (spelled blank (Fixed t.ParenClose) ∷ spell blank both r) n g (ends_paren A blank (spell blank both r)) (omega arith))
+      ∙ expr_read A blank e (spelled blank (Fixed t.ParenClose) ∷ spell blank both r) n g (ends_paren A blank (spell blank both r))
+      (omega arith))
       (step _
-      (ap (λ (ws : Toks A). arm_at n ws) (spell_append A blank all (Fixed t.Endcase ∷ []) r ∙ spell_append A blank (arm_words a) (arms_words more) (closed r))
+      (ap (λ (ws : Toks A). arm_at n ws) (spell_append A blank all (Fixed t.Endcase ∷ []) r
+      ∙ spell_append A blank (arm_words a) (arms_words more) (closed r))
       ∙ c n (spell blank (arms_words more) (closed r)) (no_else_arms more r) (omega arith))
       (step _ (m n (a ∷ []) r (omega arith)) (ap (λ (xs : ArmsOf A). Some (CaseStmt e (MoreArms a xs), r)) (arms_listed more))))
 

@@ -1,5 +1,5 @@
 -- What is surely so of what is read, step by step.
-use Rattle.std.proofs.Common.{◌≡◌, ◌≢◌, ℕ, Bool, true, false, Option, None, Some, List, [], ◌∷◌, ◌++◌, refl, subst, sym, append-nil}
+use Rattle.std.proofs.Common.{◌≡◌, ℕ, Bool, true, false, Option, None, Some, List, [], ◌++◌, refl}
 use Rattle.vlog_tree.specs.declared.terminal.Terminal.{Terminal}
 use Rattle.vlog_tree.specs.Words.{WordOf}
 use Rattle.vlog_expr.specs.Marks.{Toks, AreLawful, after}

@@ -14,11 +14,13 @@ use Rattle.vlog_tree.specs.declared.module.Conn.{Conn}
 use Rattle.vlog_tree.specs.declared.expr.Expr.{Expr}
 use Rattle.vlog_tree.specs.declared.terminal.Terminal.TheVariants.{Comma, Hash, ParenOpen, ParenClose}
 
-after_commas_map : {A X Y : Type 0} (f : Y → List (WordOf A)) (g : X → Y) (xs : List X) → after_commas f (map g xs) ≡ after_commas (λ x. f (g x)) xs
+after_commas_map : {A X Y : Type 0} (f : Y → List (WordOf A)) (g : X → Y) (xs : List X) → after_commas f (map g xs)
+    ≡ after_commas (λ x. f (g x)) xs
 after_commas_map f g [] = refl
 after_commas_map {A = A} f g (x ∷ xs) = ap (λ (ws : List (WordOf A)). Fixed Comma ∷ (f (g x) ++ ws)) (after_commas_map f g xs)
 
-with_commas_map : {A X Y : Type 0} (f : Y → List (WordOf A)) (g : X → Y) (xs : List X) → with_commas f (map g xs) ≡ with_commas (λ x. f (g x)) xs
+with_commas_map : {A X Y : Type 0} (f : Y → List (WordOf A)) (g : X → Y) (xs : List X) → with_commas f (map g xs)
+    ≡ with_commas (λ x. f (g x)) xs
 with_commas_map f g [] = refl
 with_commas_map {A = A} f g (x ∷ xs) = ap (λ (ws : List (WordOf A)). f (g x) ++ ws) (after_commas_map f g xs)
 

@@ -1,27 +1,31 @@
 -- With something else in the place of its lines, a tree has the same words, with that in the place of theirs.
 use Rattle.std.proofs.Common.{◌≡◌, true, false, Bool, List, [], ◌∷◌, ◌++◌, Option, None, Some, ap, refl, sym, ◌∙◌, map, option_map}
 use Rattle.std.proofs.lemmas.List.{map-append}
-use Rattle.vlog_lex.specs.declared.token.Token.{Token}
 use Rattle.vlog_tree.specs.declared.terminal.Terminal.{Terminal}
 use Rattle.vlog_tree.specs.declared.terminal.Terminal.TheVariants as t
 use Rattle.vlog_tree.specs.declared.module.Direction.{Direction}
 use Rattle.vlog_tree.specs.declared.module.Direction.TheVariants as direction
 use Rattle.vlog_tree.specs.declared.module.NetKind.TheVariants as kind
 use Rattle.vlog_tree.specs.Words.{WordOf, NameWord, Fixed, NameAt, NumberAt, FixedAt, token_of, tokens_of, map_word}
-use Rattle.vlog_tree.specs.Tree.{SignOf, ExprOf, UnaryExpr, BinaryExpr, ChoiceExpr, PrimOf, NumberPrim, RefPrim, ParenPrim, ConcatPrim, RepeatPrim}
+use Rattle.vlog_tree.specs.Tree.{SignOf, ExprOf, UnaryExpr, BinaryExpr, ChoiceExpr, PrimOf, NumberPrim, RefPrim, ParenPrim, ConcatPrim}
+use Rattle.vlog_tree.specs.Tree.{RepeatPrim}
 use Rattle.vlog_tree.specs.Tree.{RefOf, RefWith, IndexOf, NoIndex, Index, LastOf, NoLast, Last, SelOf, IndexSel, PartSel, IndexedSel}
-use Rattle.vlog_tree.specs.Tree.{ExprsOf, NoExprs, MoreExprs, TargetOf, RefTarget, ConcatTarget, TargetsOf, NoTargets, MoreTargets, StmtOf}
+use Rattle.vlog_tree.specs.Tree.{ExprsOf, NoExprs, MoreExprs, TargetOf, RefTarget, ConcatTarget, TargetsOf, NoTargets, MoreTargets}
+use Rattle.vlog_tree.specs.Tree.{StmtOf}
 use Rattle.vlog_tree.specs.Tree.{BeginStmt, IfStmt, AssignStmt, BodyOf, StmtBody, EmptyBody, ElseOf, NoElse, Else, StmtsOf, NoStmts}
 use Rattle.vlog_tree.specs.Tree.{MoreStmts, RangeOf, PortHeadOf, PortOf, NamedValueOf, RegTailOf, InitTail, Reg1Of, AssignOf, EventOf}
 use Rattle.vlog_tree.specs.Tree.{PosedgeEvent, AlwaysOf, ItemOf, WiresItem, DrivenWiresItem, RegsItem, AssignItem, AlwaysItem, ModuleOf}
 use Rattle.vlog_tree.specs.Tree.{FileOf}
-use Rattle.vlog_tree.specs.Spelling.{binary_terminal, assign_terminal, sign_words, expr_words, prim_words, ref_words, index_words, last_words, sel_words, exprs_words}
-use Rattle.vlog_tree.specs.Spelling.{more_exprs_words, target_words, targets_words, more_targets_words, stmt_words, body_words, else_words}
+use Rattle.vlog_tree.specs.Spelling.{binary_terminal, assign_terminal, sign_words, expr_words, prim_words, ref_words, index_words}
+use Rattle.vlog_tree.specs.Spelling.{last_words, sel_words, exprs_words}
+use Rattle.vlog_tree.specs.Spelling.{more_exprs_words, target_words, targets_words, more_targets_words, stmt_words, body_words}
+use Rattle.vlog_tree.specs.Spelling.{else_words}
 use Rattle.vlog_tree.specs.Spelling.{stmts_words, after_commas, with_commas, in_row, optional, range_words, head_words, init_words}
 use Rattle.vlog_tree.specs.Spelling.{port_words, named_words, tail_words, reg_words, assign_words, event_words, always_words, item_words}
 use Rattle.vlog_tree.specs.Spelling.{module_words, file_words, ident_words, colon_words, direction_words, toks}
 use Rattle.vlog_tree.specs.Lines.{map_ident, map_sign, map_expr, map_prim, map_ref, map_index, map_last, map_sel, map_exprs, map_target}
-use Rattle.vlog_tree.specs.Lines.{map_targets, map_stmt, map_body, map_else, map_stmts, map_range, map_head, map_port, map_named, map_tail}
+use Rattle.vlog_tree.specs.Lines.{map_targets, map_stmt, map_body, map_else, map_stmts, map_range, map_head, map_port, map_named}
+use Rattle.vlog_tree.specs.Lines.{map_tail}
 use Rattle.vlog_tree.specs.Lines.{map_reg, map_assign, map_event, map_always, map_item, map_module, map_file, no_mark, bare}
 use Rattle.vlog_tree.specs.Spelling.{arm_words, arms_words, parameter_head_words, parameter_words, hash_words, conn_words, instance_words}
 use Rattle.vlog_tree.specs.Lines.{map_arm, map_arms, map_parameter_head, map_parameter, map_conn, map_instance}

@@ -12,7 +12,8 @@ use Rattle.vlog_tree.specs.declared.terminal.Terminal.TheVariants.{Posedge, Reg,
 use Rattle.vlog_tree.specs.declared.terminal.Terminal.TheVariants.{BraceOpen, BraceClose, Semicolon, Comma, Dot, Colon, Question, Hash}
 use Rattle.vlog_tree.specs.declared.terminal.Terminal.TheVariants.{At, Equals}
 use Rattle.vlog_tree.specs.declared.terminal.Terminal.TheVariants.{Plus, Minus, Star, Bang, Tilde, Ampersand, Bar, Caret, Less, Greater}
-use Rattle.vlog_tree.specs.declared.terminal.Terminal.TheVariants.{LessEquals, GreaterEquals, EqualsEquals, BangEquals, AmpersandAmpersand}
+use Rattle.vlog_tree.specs.declared.terminal.Terminal.TheVariants.{LessEquals, GreaterEquals, EqualsEquals, BangEquals}
+use Rattle.vlog_tree.specs.declared.terminal.Terminal.TheVariants.{AmpersandAmpersand}
 use Rattle.vlog_tree.specs.declared.terminal.Terminal.TheVariants.{BarBar, LessLess, GreaterGreater, LessLessLess, GreaterGreaterGreater}
 use Rattle.vlog_tree.specs.declared.terminal.Terminal.TheVariants.{TildeAmpersand, TildeBar, TildeCaret, CaretTilde, PlusColon}
 
