@@ -16,7 +16,7 @@ use Rattle.vlog_tree.specs.declared.terminal.Terminal.TheVariants as t
 use Rattle.vlog_tree.specs.Words.{Word, NameWord, Fixed, terminal_kind, terminal_text}
 use Rattle.vlog_tree.specs.Tree.{IdentOf, NumberOf, SignOf, ExprOf, UnaryExpr, BinaryExpr, ChoiceExpr, PrimOf, NumberPrim, RefPrim}
 use Rattle.vlog_tree.specs.Tree.{ParenPrim, ConcatPrim, RepeatPrim, RefOf, RefWith, NoIndex, Index, NoLast, Last, SelOf, IndexSel}
-use Rattle.vlog_tree.specs.Tree.{PartSel, IndexedSel, exprs_of}
+use Rattle.vlog_tree.specs.Tree.{PartSel, IndexedSel, ExprsOf, exprs_of}
 use Rattle.vlog_tree.specs.Spelling.{unary_terminal, binary_terminal, ident_words, number_words, sign_words, expr_words, prim_words}
 use Rattle.vlog_tree.specs.Spelling.{ref_words, sel_words, exprs_words, more_exprs_words}
 use Rattle.vlog_tree.specs.Shape.{level_of, level, IsGoodName, IsGoodNumber, IsGoodExpr, IsGoodPrim, IsGoodRef, IsGoodSel, AreGoodExprs}

@@ -574,16 +574,15 @@ mutual
   reads_prim (RefPrim x) g = prim_ref x (reads_ref x g)
   reads_prim (ParenPrim line e) g = prim_paren line e (reads e g).at_whole
   reads_prim (ConcatPrim line es) g = reads_concat line es g
-  reads_prim (RepeatPrim line count es) g = reads_repeat line count es g.0 g.1
+  reads_prim (RepeatPrim line count es) g = reads_repeat line count es (reads count g.0).at_whole g.1
 
   reads_concat : (line : U) (es : ExprsOf U) → AreGoodExprs es → PrimClaim (ConcatPrim line es)
   reads_concat line NoExprs g = absurd g
   reads_concat line (MoreExprs e es) g = prim_concat line e es (reads e g.0).at_whole (reads_parts es g.1)
 
-  reads_repeat : (line : U) (count : ExprOf U) (es : ExprsOf U) → IsGoodExpr count → AreGoodExprs es → PrimClaim (RepeatPrim line count es)
-  reads_repeat line count NoExprs h g = absurd g
-  reads_repeat line count (MoreExprs e es) h g = prim_repeat line count e es (reads count h).at_whole (reads e g.0).at_whole
-      (reads_parts es g.1)
+  reads_repeat : (line : U) (count : ExprOf U) (es : ExprsOf U) → WholeClaim count → AreGoodExprs es → PrimClaim (RepeatPrim line count es)
+  reads_repeat line count NoExprs c g = absurd g
+  reads_repeat line count (MoreExprs e es) c g = prim_repeat line count e es c (reads e g.0).at_whole (reads_parts es g.1)
 
   reads_parts : (es : ExprsOf U) → AreAllGoodExprs es → PartsClaim es
   reads_parts NoExprs g = parts_none
