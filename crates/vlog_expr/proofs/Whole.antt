@@ -117,7 +117,7 @@ mutual
       let closing = Fixed t.BraceClose ∷ Fixed t.BraceClose ∷ [] in (
         tt,
         lawful_append (expr_words count) (Fixed t.BraceOpen ∷ (exprs_words es ++ closing)) (expr_lawful count g.0)
-            (tt, lawful_append (exprs_words es) closing (exprs_lawful es g.1) (tt, tt, tt)),
+            (tt, lawful_append (exprs_words es) closing (exprs_lawful es g.1) (tt, (tt, tt))),
       )
 
   exprs_lawful : (es : ExprsOf U) → AreGoodExprs es → AreLawfulWords (exprs_words es)
