@@ -489,13 +489,17 @@ fn no_files(rt: HostRuntime) -> Result<(), Fail> {
 }
 
 // Texts that are no file, and the line of the first token behind their whole units.
-const LINES: [(&str, u32); 16] = [
+const LINES: [(&str, u32); 20] = [
+    ("\n\n// no token\n", 1),
     ("\n\n;", 3),
     ("module m(\ninput a;\nendmodule", 1),
     ("module m(a);\nendmodule", 1),
     ("module m();\nwire a;\n", 2),
     ("module m();\nwire a;\nassign a =\n\n;\nendmodule", 3),
     ("module m();\nwire if;\nendmodule", 2),
+    ("module m();\nassign a = {2\n{b};\nendmodule", 2),
+    ("module m();\nwire a;\nassign\n{2{a}} = b;\nendmodule", 3),
+    ("module m();\nassign a = {2{b}};\n{2{a}} = b;\nendmodule", 3),
     ("module m();\nwire a;\nelse\nendmodule", 3),
     (
         "module m();\nalways @(posedge k)\na = b;\nelse a = c;\nendmodule",
