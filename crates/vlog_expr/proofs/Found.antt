@@ -13,7 +13,7 @@ use Rattle.vlog_tree.specs.declared.expr.BinaryOp.{BinaryOp}
 use Rattle.vlog_tree.specs.declared.expr.BinaryOp.TheVariants as binary
 use Rattle.vlog_tree.specs.declared.terminal.Terminal.{Terminal}
 use Rattle.vlog_tree.specs.declared.terminal.Terminal.TheVariants as t
-use Rattle.vlog_tree.specs.Words.{Word, NameWord, Fixed, terminal_kind, terminal_text}
+use Rattle.vlog_tree.specs.Words.{WordOf, Fixed, NameAt, FixedAt, terminal_kind, terminal_text}
 use Rattle.vlog_tree.specs.Tree.{IdentOf, NumberOf, SignOf, ExprOf, UnaryExpr, BinaryExpr, ChoiceExpr, PrimOf, NumberPrim, RefPrim}
 use Rattle.vlog_tree.specs.Tree.{ParenPrim, ConcatPrim, RepeatPrim, RefOf, RefWith, NoIndex, Index, NoLast, Last, SelOf, IndexSel}
 use Rattle.vlog_tree.specs.Tree.{PartSel, IndexedSel, ExprsOf, exprs_of}
@@ -21,14 +21,12 @@ use Rattle.vlog_tree.specs.Spelling.{unary_terminal, binary_terminal, ident_word
 use Rattle.vlog_tree.specs.Spelling.{ref_words, sel_words, exprs_words, more_exprs_words}
 use Rattle.vlog_tree.specs.Shape.{level_of, level, IsGoodName, IsGoodNumber, IsGoodExpr, IsGoodPrim, IsGoodRef, IsGoodSel, AreGoodExprs}
 use Rattle.vlog_tree.specs.Shape.{AreAllGoodExprs}
-use Rattle.vlog_expr.specs.Marks.{TokenOf, Toks, spelled, spell, IsLawfulText, AreLawful, same_kind, is_terminal, after, is_name}
+use Rattle.vlog_expr.specs.Marks.{TokenOf, Toks, IsWord, AreWords, IsLawfulText, AreLawful, same_kind, is_terminal, after, is_name}
 use Rattle.vlog_expr.specs.Marks.{name_front, number_of, number_with, number_front, operator_among, operator_of, unary_of, binary_of}
 use Rattle.vlog_expr.specs.Marks.{unary_operators, binary_operators}
 use Rattle.vlog_expr.specs.Reader.{◌>>=◌, found_or, sign_front, binary_front, index_of, expr_at, choice_at, binary_at, chain_at, unary_at}
 use Rattle.vlog_expr.specs.Reader.{prim_at, paren_at, concat_at, repeat_at, parts_at, ref_at, second_at, sel_at, bounds_at}
-use Rattle.vlog_expr.specs.Bare.{forget, forget_all}
 use Rattle.vlog_expr.specs.Laws.{Holds}
-use Rattle.vlog_expr.proofs.Spelled.{U, spell_append}
 
 pub bind : {X Y : Type 0} (P : X → Type 0) (Q : Y → Type 0) (o : Option X) (f : X → Option Y) → Holds o P → ((x : X) → P x → Holds (f x) Q)
     → Holds (o >>= f) Q
@@ -127,68 +125,80 @@ operator_sound terminal ops kind text =
     (λ h. both terminal kind text (operator_among terminal ops text) (same_kind_true kind Other h) (among_sound terminal ops text))
     (λ h. tt)
 
+-- words, and then others
+pub words_join : {A : Type 0} (a b : List (WordOf A)) (ws mid rest : Toks A) → AreWords a ws mid → AreWords b mid rest
+    → AreWords (a ++ b) ws rest
+words_join {A} [] b ws mid rest f g = subst (λ (us : Toks A). AreWords b us rest) (sym f) g
+words_join (w ∷ a) b [] mid rest f g = absurd f
+words_join (w ∷ a) b (token ∷ ws) mid rest f g = (f.0, words_join a b ws mid rest f.1 g)
+
 module _ (A : Type 0) where
   -- the tokens are these words and then the rest, whose names and numbers are lawful
-  pub record From (ws : Toks A) (words : List Word) (rest : Toks A) : Type 0 where
-    pub spells : forget_all ws ≡ spell words (forget_all rest)
+  pub record From (ws : Toks A) (words : List (WordOf A)) (rest : Toks A) : Type 0 where
+    pub spells : AreWords words ws rest
     pub lawful : AreLawful rest
 
-  pub join : (ws mid rest : Toks A) (a b : List Word) → From ws a mid → From mid b rest → From ws (a ++ b) rest
-  join ws mid rest a b f g = record {
-    spells = f.spells ∙ ap (spell a) g.spells
-        ∙ sym (spell_append a b (forget_all rest));
-    lawful = g.lawful;
-  }
+  pub join : (ws mid rest : Toks A) (a b : List (WordOf A)) → From ws a mid → From mid b rest → From ws (a ++ b) rest
+  join ws mid rest a b f g = record { spells = words_join a b ws mid rest f.spells g.spells; lawful = g.lawful }
 
-  pub again : (ws rest : Toks A) (a b : List Word) → a ≡ b → From ws a rest → From ws b rest
-  again ws rest a b e f = subst (λ (x : List Word). From ws x rest) e f
+  pub again : (ws rest : Toks A) (a b : List (WordOf A)) → a ≡ b → From ws a rest → From ws b rest
+  again ws rest a b e f = subst (λ (x : List (WordOf A)). From ws x rest) e f
 
   start : (ws : Toks A) → AreLawful ws → From ws [] ws
   start ws h = record { spells = refl; lawful = h }
 
   -- one token of this word
-  one : (token : TokenOf A) (rest : Toks A) (w : Word) → forget token ≡ spelled w → AreLawful rest → From (token ∷ rest) (w ∷ []) rest
-  one token rest w e h = record { spells = ap (λ (x : TokenOf U). x ∷ forget_all rest) e; lawful = h }
+  one : (token : TokenOf A) (rest : Toks A) (w : WordOf A) → IsWord w token → AreLawful rest → From (token ∷ rest) (w ∷ []) rest
+  one token rest w e h = record { spells = (e, refl); lawful = h }
 
-  pub after_sound : (x : Terminal) (ws : Toks A) → AreLawful ws → Holds (after x ws) (λ r. From ws (Fixed x ∷ []) r.1)
-  after_sound x [] h = tt
-  after_sound x (token ∷ rest) h =
-      chosen (λ (r : A × Toks A). From (token ∷ rest) (Fixed x ∷ []) r.1) (is_terminal x token) (Some (token.line, rest)) None
+  -- the same with and without its line
+  after_as : (word : A → WordOf A) (x : Terminal) (ws : Toks A)
+      → ((token : TokenOf A) → token.kind ≡ terminal_kind x → token.text ≡ terminal_text x → IsWord (word token.line) token)
+      → AreLawful ws → Holds (after x ws) (λ r. From ws (word r.0 ∷ []) r.1)
+  after_as word x [] is h = tt
+  after_as word x (token ∷ rest) is h =
+      chosen (λ (r : A × Toks A). From (token ∷ rest) (word r.0 ∷ []) r.1) (is_terminal x token) (Some (token.line, rest)) None
       (λ same.
       let parts = and_parts (same_kind token.kind (terminal_kind x)) (bytes_eq token.text (terminal_text x)) same in
       let k = same_kind_true token.kind (terminal_kind x) parts.0 in
       let e = (bytes_eq-Decides token.text (terminal_text x)).0 parts.1 in
-      one token rest (Fixed x) (λ i. record { kind = k i; text = e i; line = tt }) h.1)
+      one token rest (word token.line) (is token k e) h.1)
       (λ other. tt)
 
-  abbrev NameAt : Toks A → IdentOf A × Toks A → Type 0
-  NameAt ws x = IsGoodName x.0.name × From ws (ident_words x.0) x.1
+  pub after_sound : (x : Terminal) (ws : Toks A) → AreLawful ws → Holds (after x ws) (λ r. From ws (Fixed x ∷ []) r.1)
+  after_sound x ws h = after_as (λ line. Fixed x) x ws (λ token k e i. record { kind = k i; text = e i; line = token.line }) h
 
-  name_sound : (ws : Toks A) → AreLawful ws → Holds (name_front ws) (NameAt ws)
+  pub after_at_sound : (x : Terminal) (ws : Toks A) → AreLawful ws → Holds (after x ws) (λ r. From ws (FixedAt x r.0 ∷ []) r.1)
+  after_at_sound x ws h = after_as (λ line. FixedAt x line) x ws (λ token k e i. record { kind = k i; text = e i; line = token.line }) h
+
+  abbrev AtName : Toks A → IdentOf A × Toks A → Type 0
+  AtName ws x = IsGoodName x.0.name × From ws (ident_words x.0) x.1
+
+  name_sound : (ws : Toks A) → AreLawful ws → Holds (name_front ws) (AtName ws)
   name_sound [] h = tt
   name_sound (token ∷ rest) h =
-      chosen (NameAt (token ∷ rest)) (is_name token.kind) (Some (record { name = token.text; line = token.line }, rest)) None
+      chosen (AtName (token ∷ rest)) (is_name token.kind) (Some (record { name = token.text; line = token.line }, rest)) None
       (λ same.
       let k = same_kind_true token.kind Identifier same in (
         subst (λ (kind : TokenKind). IsLawfulText kind token.text) k h.0,
-        one token rest (NameWord token.text)
-            (λ i. record { kind = k i; text = token.text; line = tt }) h.1,
+        one token rest (NameAt token.text token.line)
+            (λ i. record { kind = k i; text = token.text; line = token.line }) h.1,
       ))
       (λ other. tt)
 
-  abbrev NumberAt : Toks A → NumberOf A × Toks A → Type 0
-  NumberAt ws x = IsGoodNumber x.0 × From ws (number_words x.0) x.1
+  abbrev AtNumber : Toks A → NumberOf A × Toks A → Type 0
+  AtNumber ws x = IsGoodNumber x.0 × From ws (number_words x.0) x.1
 
   number_cases : (kind : TokenKind) (text : List ℕ) (line : A) (rest : Toks A) → IsLawfulText kind text → AreLawful rest
       → Holds (number_with (record { kind = kind; text = text; line = line }) rest (number_of kind))
-      (NumberAt (record { kind = kind; text = text; line = line } ∷ rest))
+      (AtNumber (record { kind = kind; text = text; line = line } ∷ rest))
   number_cases Identifier text line rest g h = tt
   number_cases Reserved text line rest g h = tt
-  number_cases Decimal text line rest g h = (g, record { spells = refl; lawful = h })
-  number_cases Based text line rest g h = (g, record { spells = refl; lawful = h })
+  number_cases Decimal text line rest g h = (g, record { spells = (refl, refl); lawful = h })
+  number_cases Based text line rest g h = (g, record { spells = (refl, refl); lawful = h })
   number_cases Other text line rest g h = tt
 
-  number_sound : (ws : Toks A) → AreLawful ws → Holds (number_front ws) (NumberAt ws)
+  number_sound : (ws : Toks A) → AreLawful ws → Holds (number_front ws) (AtNumber ws)
   number_sound [] h = tt
   number_sound (token ∷ rest) h = number_cases token.kind token.text token.line rest h.0 h.1
 
@@ -204,7 +214,7 @@ module _ (A : Type 0) where
       (λ op g.
       let k = g.0 ∙ sym (unary_kind op) in
       let e = g.1 in
-      one token rest (Fixed (unary_terminal op)) (λ i. record { kind = k i; text = e i; line = tt }) h.1)
+      one token rest (FixedAt (unary_terminal op) token.line) (λ i. record { kind = k i; text = e i; line = token.line }) h.1)
 
   abbrev BinaryAt : ℕ → Toks A → BinaryOp × Toks A → Type 0
   BinaryAt l ws x = (level_of x.0 ≡ l) × From ws (Fixed (binary_terminal x.0) ∷ []) x.1
@@ -218,8 +228,11 @@ module _ (A : Type 0) where
       (λ op g. chosen (BinaryAt l (token ∷ rest)) (level_of op == l) (Some (op, rest)) None
       (λ same.
       let k = g.0 ∙ sym (binary_kind op) in
-      let e = g.1 in
-      (eqb-true (level_of op) l same, one token rest (Fixed (binary_terminal op)) (λ i. record { kind = k i; text = e i; line = tt }) h.1))
+      let e = g.1 in (
+        eqb-true (level_of op) l same,
+        one token rest (Fixed (binary_terminal op))
+            (λ i. record { kind = k i; text = e i; line = token.line }) h.1,
+      ))
       (λ other. tt))
 
   abbrev pub AtExpr : Toks A → ExprOf A × Toks A → Type 0
@@ -241,15 +254,15 @@ module _ (A : Type 0) where
   AtSel w x = IsGoodSel x.0 × From w (sel_words x.0) x.1
 
   -- a replication's front: its `{`, its count and the second `{`
-  abbrev pub CountAt : Toks A → ExprOf A → Toks A → Type 0
-  CountAt w count ws = IsGoodExpr count × From w (Fixed t.BraceOpen ∷ (expr_words count ++ Fixed t.BraceOpen ∷ [])) ws
+  abbrev pub CountAt : A → Toks A → ExprOf A → Toks A → Type 0
+  CountAt line w count ws = IsGoodExpr count × From w (FixedAt t.BraceOpen line ∷ (expr_words count ++ Fixed t.BraceOpen ∷ [])) ws
 
   more_snoc : (xs : List (ExprOf A)) (e : ExprOf A) → more_exprs_words (exprs_of (xs ++ e ∷ [])) ≡ more_exprs_words (exprs_of xs)
       ++ Fixed t.Comma ∷ expr_words e
-  more_snoc [] e = ap (λ (ws : List Word). Fixed t.Comma ∷ ws) (append-nil (expr_words e))
+  more_snoc [] e = ap (λ (ws : List (WordOf A)). Fixed t.Comma ∷ ws) (append-nil (expr_words e))
   more_snoc (x ∷ xs) e =
-      ap (λ (ws : List Word). Fixed t.Comma ∷ (expr_words x ++ ws)) (more_snoc xs e)
-      ∙ ap (λ (ws : List Word). Fixed t.Comma ∷ ws) (sym (append_assoc (expr_words x) (more_exprs_words (exprs_of xs))
+      ap (λ (ws : List (WordOf A)). Fixed t.Comma ∷ (expr_words x ++ ws)) (more_snoc xs e)
+      ∙ ap (λ (ws : List (WordOf A)). Fixed t.Comma ∷ ws) (sym (append_assoc (expr_words x) (more_exprs_words (exprs_of xs))
       (Fixed t.Comma ∷ expr_words e)))
 
   good_more_snoc : (xs : List (ExprOf A)) (e : ExprOf A) → AreAllGoodExprs (exprs_of xs) → IsGoodExpr e
@@ -265,7 +278,7 @@ module _ (A : Type 0) where
     again w rest ((expr_words x ++ more_exprs_words (exprs_of xs)) ++ Fixed t.Comma ∷ expr_words e)
         (expr_words x ++ more_exprs_words (exprs_of (xs ++ e ∷ [])))
         (append_assoc (expr_words x) (more_exprs_words (exprs_of xs)) (Fixed t.Comma ∷ expr_words e)
-        ∙ ap (λ (ws : List Word). expr_words x ++ ws) (sym (more_snoc xs e)))
+        ∙ ap (λ (ws : List (WordOf A)). expr_words x ++ ws) (sym (more_snoc xs e)))
         (join w mid rest (expr_words x ++ more_exprs_words (exprs_of xs)) (Fixed t.Comma ∷ expr_words e) g.1 f),
   )
 
@@ -279,9 +292,9 @@ module _ (A : Type 0) where
     pub chain : (l : ℕ) (w ws : Toks A) (e : ExprOf A) → l ≤ 10 → AtLevel l w (e, ws) → Holds (chain_at n l e ws) (AtLevel l w)
     pub unary : (ws : Toks A) → AreLawful ws → Holds (unary_at n ws) (AtLevel 11 ws)
     pub prim : (ws : Toks A) → AreLawful ws → Holds (prim_at n ws) (AtPrim ws)
-    pub paren : (w ws : Toks A) (line : A) → From w (Fixed t.ParenOpen ∷ []) ws → Holds (paren_at n line ws) (AtPrim w)
-    pub concat : (w ws : Toks A) (line : A) → From w (Fixed t.BraceOpen ∷ []) ws → Holds (concat_at n line ws) (AtPrim w)
-    pub repeat : (w ws : Toks A) (line : A) (count : ExprOf A) → CountAt w count ws → Holds (repeat_at n line count ws) (AtPrim w)
+    pub paren : (w ws : Toks A) (line : A) → From w (FixedAt t.ParenOpen line ∷ []) ws → Holds (paren_at n line ws) (AtPrim w)
+    pub concat : (w ws : Toks A) (line : A) → From w (FixedAt t.BraceOpen line ∷ []) ws → Holds (concat_at n line ws) (AtPrim w)
+    pub repeat : (w ws : Toks A) (line : A) (count : ExprOf A) → CountAt line w count ws → Holds (repeat_at n line count ws) (AtPrim w)
     pub parts : (w ws : Toks A) (xs : List (ExprOf A)) → AtParts w (xs, ws) → Holds (parts_at n xs ws) (AtParts w)
     pub ref : (ws : Toks A) → AreLawful ws → Holds (ref_at n ws) (AtRef ws)
     pub second : (w ws : Toks A) (id : IdentOf A) (s : SelOf A) → AtRef w (RefWith id NoIndex (Last s), ws)
@@ -291,6 +304,10 @@ module _ (A : Type 0) where
 
   abbrev pub Behind : Terminal → Toks A → A × Toks A → Type 0
   Behind x ws r = From ws (Fixed x ∷ []) r.1
+
+  -- the same, where the tree keeps its line
+  abbrev pub BehindAt : Terminal → Toks A → A × Toks A → Type 0
+  BehindAt x ws r = From ws (FixedAt x r.0 ∷ []) r.1
 
   module _ (n : ℕ) (s : Sound n) where
     expr_sound : (ws : Toks A) → AreLawful ws → Holds (expr_at (suc n) ws) (AtExpr ws)
@@ -366,23 +383,23 @@ module _ (A : Type 0) where
 
     prim_sound : (ws : Toks A) → AreLawful ws → Holds (prim_at (suc n) ws) (AtPrim ws)
     prim_sound ws h =
-        found (NumberAt ws) (AtPrim ws) (number_front ws) (found_or (after t.ParenOpen ws)
+        found (AtNumber ws) (AtPrim ws) (number_front ws) (found_or (after t.ParenOpen ws)
         (found_or (after t.BraceOpen ws) (ref_at n ws >>= λ r. Some (RefPrim r.0, r.1)) (λ o. concat_at n o.0 o.1))
         (λ o. paren_at n o.0 o.1)) (λ x. Some (NumberPrim x.0, x.1))
         (number_sound ws h)
-        (found (Behind t.ParenOpen ws) (AtPrim ws) (after t.ParenOpen ws)
+        (found (BehindAt t.ParenOpen ws) (AtPrim ws) (after t.ParenOpen ws)
         (found_or (after t.BraceOpen ws) (ref_at n ws >>= λ r. Some (RefPrim r.0, r.1)) (λ o. concat_at n o.0 o.1))
         (λ o. paren_at n o.0 o.1)
-        (after_sound t.ParenOpen ws h)
-        (found (Behind t.BraceOpen ws) (AtPrim ws) (after t.BraceOpen ws) (ref_at n ws >>= λ r. Some (RefPrim r.0, r.1))
+        (after_at_sound t.ParenOpen ws h)
+        (found (BehindAt t.BraceOpen ws) (AtPrim ws) (after t.BraceOpen ws) (ref_at n ws >>= λ r. Some (RefPrim r.0, r.1))
         (λ o. concat_at n o.0 o.1)
-        (after_sound t.BraceOpen ws h)
+        (after_at_sound t.BraceOpen ws h)
         (bind (AtRef ws) (AtPrim ws) (ref_at n ws) (λ r. Some (RefPrim r.0, r.1)) (s.ref ws h) (λ r g. (g.0, g.1)))
         (λ o f. s.concat ws o.1 o.0 f))
         (λ o f. s.paren ws o.1 o.0 f))
         (λ x g. (g.0, g.1))
 
-    paren_sound : (w ws : Toks A) (line : A) → From w (Fixed t.ParenOpen ∷ []) ws → Holds (paren_at (suc n) line ws) (AtPrim w)
+    paren_sound : (w ws : Toks A) (line : A) → From w (FixedAt t.ParenOpen line ∷ []) ws → Holds (paren_at (suc n) line ws) (AtPrim w)
     paren_sound w ws line f =
         bind (AtExpr ws) (AtPrim w) (expr_at n ws) (λ e. after t.ParenClose e.1 >>= λ c. Some (ParenPrim line e.0, c.1))
         (s.expr ws f.lawful)
@@ -390,11 +407,11 @@ module _ (A : Type 0) where
         (after_sound t.ParenClose e.1 g.1.lawful)
         (λ c fc. (
           g.0,
-          join w ws c.1 (Fixed t.ParenOpen ∷ []) (expr_words e.0 ++ Fixed t.ParenClose ∷ []) f
+          join w ws c.1 (FixedAt t.ParenOpen line ∷ []) (expr_words e.0 ++ Fixed t.ParenClose ∷ []) f
               (join ws e.1 c.1 (expr_words e.0) (Fixed t.ParenClose ∷ []) g.1 fc),
         )))
 
-    concat_sound : (w ws : Toks A) (line : A) → From w (Fixed t.BraceOpen ∷ []) ws → Holds (concat_at (suc n) line ws) (AtPrim w)
+    concat_sound : (w ws : Toks A) (line : A) → From w (FixedAt t.BraceOpen line ∷ []) ws → Holds (concat_at (suc n) line ws) (AtPrim w)
     concat_sound w ws line f =
         bind (AtExpr ws) (AtPrim w) (expr_at n ws) (λ e. found_or (after t.BraceOpen e.1) (parts_at n (e.0 ∷ []) e.1
         >>= λ es. after t.BraceClose es.1 >>= λ c. Some (ConcatPrim line (exprs_of es.0), c.1)) (λ o. repeat_at n line e.0 o.1))
@@ -408,16 +425,17 @@ module _ (A : Type 0) where
         (after_sound t.BraceClose es.1 ge.1.lawful)
         (λ c fc. (
           ge.0,
-          join w ws c.1 (Fixed t.BraceOpen ∷ []) (exprs_words (exprs_of es.0) ++ Fixed t.BraceClose ∷ []) f
+          join w ws c.1 (FixedAt t.BraceOpen line ∷ []) (exprs_words (exprs_of es.0) ++ Fixed t.BraceClose ∷ []) f
               (join ws es.1 c.1 (exprs_words (exprs_of es.0)) (Fixed t.BraceClose ∷ []) ge.1 fc),
         ))))
         (λ o fo. s.repeat w o.1 line e.0 (
           g.0,
-          join w ws o.1 (Fixed t.BraceOpen ∷ []) (expr_words e.0 ++ Fixed t.BraceOpen ∷ []) f
+          join w ws o.1 (FixedAt t.BraceOpen line ∷ []) (expr_words e.0 ++ Fixed t.BraceOpen ∷ []) f
               (join ws e.1 o.1 (expr_words e.0) (Fixed t.BraceOpen ∷ []) g.1 fo),
         )))
 
-    repeat_sound : (w ws : Toks A) (line : A) (count : ExprOf A) → CountAt w count ws → Holds (repeat_at (suc n) line count ws) (AtPrim w)
+    repeat_sound : (w ws : Toks A) (line : A) (count : ExprOf A) → CountAt line w count ws
+        → Holds (repeat_at (suc n) line count ws) (AtPrim w)
     repeat_sound w ws line count f =
         bind (AtExpr ws) (AtPrim w) (expr_at n ws) (λ e. parts_at n (e.0 ∷ []) e.1 >>= λ es. after t.BraceClose es.1
         >>= λ i. after t.BraceClose i.1 >>= λ c. Some (RepeatPrim line count (exprs_of es.0), c.1)) (s.expr ws f.1.lawful)
@@ -433,17 +451,17 @@ module _ (A : Type 0) where
           (f.0, ge.0),
           again w c.1 (front ++ back (exprs_of es.0))
               (prim_words (RepeatPrim line count (exprs_of es.0)))
-              (ap (λ (ws : List Word). Fixed t.BraceOpen ∷ ws) (append_assoc (expr_words count) (Fixed t.BraceOpen ∷ [])
+              (ap (λ (ws : List (WordOf A)). FixedAt t.BraceOpen line ∷ ws) (append_assoc (expr_words count) (Fixed t.BraceOpen ∷ [])
               (back (exprs_of es.0))))
               (join w ws c.1 front (back (exprs_of es.0)) f.1
               (join ws es.1 c.1 (exprs_words (exprs_of es.0)) (Fixed t.BraceClose ∷ Fixed t.BraceClose ∷ []) ge.1
               (join es.1 i.1 c.1 (Fixed t.BraceClose ∷ []) (Fixed t.BraceClose ∷ []) fi fc))),
         )))))
       where
-        front : List Word
-        front = Fixed t.BraceOpen ∷ (expr_words count ++ Fixed t.BraceOpen ∷ [])
+        front : List (WordOf A)
+        front = FixedAt t.BraceOpen line ∷ (expr_words count ++ Fixed t.BraceOpen ∷ [])
 
-        back : ExprsOf A → List Word
+        back : ExprsOf A → List (WordOf A)
         back es = exprs_words es ++ Fixed t.BraceClose ∷ Fixed t.BraceClose ∷ []
 
     parts_sound : (w ws : Toks A) (xs : List (ExprOf A)) → AtParts w (xs, ws) → Holds (parts_at (suc n) xs ws) (AtParts w)
@@ -456,7 +474,7 @@ module _ (A : Type 0) where
 
     ref_sound : (ws : Toks A) → AreLawful ws → Holds (ref_at (suc n) ws) (AtRef ws)
     ref_sound ws h =
-        bind (NameAt ws) (AtRef ws) (name_front ws) (λ id. found_or (after t.BracketOpen id.1) (Some (RefWith id.0 NoIndex NoLast, id.1))
+        bind (AtName ws) (AtRef ws) (name_front ws) (λ id. found_or (after t.BracketOpen id.1) (Some (RefWith id.0 NoIndex NoLast, id.1))
         (λ o. sel_at n o.1 >>= λ x. after t.BracketClose x.1 >>= λ c. second_at n id.0 x.0 c.1)) (name_sound ws h)
         (λ id g. found (Behind t.BracketOpen id.1) (AtRef ws) (after t.BracketOpen id.1) (Some (RefWith id.0 NoIndex NoLast, id.1))
         (λ o. sel_at n o.1 >>= λ x. after t.BracketClose x.1 >>= λ c. second_at n id.0 x.0 c.1)
@@ -485,7 +503,7 @@ module _ (A : Type 0) where
         (after_sound t.BracketClose y.1 gy.1.lawful)
         (λ c fc. (
           (g.0.0, tt, g.0.3, gy.0),
-          join w ws c.1 (NameWord id.name ∷ Fixed t.BracketOpen ∷ (expr_words e ++ Fixed t.BracketClose ∷ []))
+          join w ws c.1 (NameAt id.name id.line ∷ Fixed t.BracketOpen ∷ (expr_words e ++ Fixed t.BracketClose ∷ []))
               (Fixed t.BracketOpen ∷ (sel_words y.0 ++ Fixed t.BracketClose ∷ [])) g.1
               (join ws o.1 c.1 (Fixed t.BracketOpen ∷ []) (sel_words y.0 ++ Fixed t.BracketClose ∷ []) fo
               (join o.1 y.1 c.1 (sel_words y.0) (Fixed t.BracketClose ∷ []) gy.1 fc)),
@@ -556,16 +574,13 @@ module _ (A : Type 0) where
     bounds = bounds_sound n (sound n);
   }
 
-  pub keep : {X : Type 0} (words : X → List Word) (Good : X → Type 0) (ws : Toks A) (o : Option (X × Toks A))
-      → Holds o (λ x. Good x.0 × From ws (words x.0) x.1)
-      → Holds o (λ x. Good x.0 × (forget_all ws ≡ spell (words x.0) (forget_all x.1)))
+  pub keep : {X : Type 0} (words : X → List (WordOf A)) (Good : X → Type 0) (ws : Toks A) (o : Option (X × Toks A))
+      → Holds o (λ x. Good x.0 × From ws (words x.0) x.1) → Holds o (λ x. Good x.0 × AreWords (words x.0) ws x.1)
   keep words Good ws None h = tt
   keep words Good ws (Some x) h = (h.0, h.1.spells)
 
-  pub expr_spelled : (n : ℕ) (ws : Toks A) → AreLawful ws → Holds (expr_at n ws)
-      (λ x. IsGoodExpr x.0 × (forget_all ws ≡ spell (expr_words x.0) (forget_all x.1)))
+  pub expr_spelled : (n : ℕ) (ws : Toks A) → AreLawful ws → Holds (expr_at n ws) (λ x. IsGoodExpr x.0 × AreWords (expr_words x.0) ws x.1)
   expr_spelled n ws h = keep (λ (e : ExprOf A). expr_words e) (λ (e : ExprOf A). IsGoodExpr e) ws (expr_at n ws) ((sound n).expr ws h)
 
-  pub ref_spelled : (n : ℕ) (ws : Toks A) → AreLawful ws → Holds (ref_at n ws)
-      (λ x. IsGoodRef x.0 × (forget_all ws ≡ spell (ref_words x.0) (forget_all x.1)))
+  pub ref_spelled : (n : ℕ) (ws : Toks A) → AreLawful ws → Holds (ref_at n ws) (λ x. IsGoodRef x.0 × AreWords (ref_words x.0) ws x.1)
   ref_spelled n ws h = keep (λ (r : RefOf A). ref_words r) (λ (r : RefOf A). IsGoodRef r) ws (ref_at n ws) ((sound n).ref ws h)

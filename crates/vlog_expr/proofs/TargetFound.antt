@@ -1,18 +1,17 @@
 -- What is read is of good shape and spelled so: targets.
 use Rattle.std.proofs.Common.{◌≡◌, ℕ, zero, suc, Some, List, [], ◌∷◌, ◌++◌, sym, ap, ◌∙◌, append_assoc, append-nil}
 use Rattle.vlog_tree.specs.declared.terminal.Terminal.TheVariants as t
-use Rattle.vlog_tree.specs.Words.{Word, Fixed}
+use Rattle.vlog_tree.specs.Words.{WordOf, Fixed, FixedAt}
 use Rattle.vlog_tree.specs.Tree.{TargetOf, RefTarget, ConcatTarget, targets_of}
 use Rattle.vlog_tree.specs.Spelling.{target_words, targets_words, more_targets_words}
 use Rattle.vlog_tree.specs.Shape.{IsGoodTarget, AreGoodTargets, AreAllGoodTargets}
-use Rattle.vlog_expr.specs.Marks.{Toks, spell, AreLawful, after}
+use Rattle.vlog_expr.specs.Marks.{Toks, AreWords, AreLawful, after}
 use Rattle.vlog_expr.specs.Reader.{◌>>=◌, ref_at, target_at, targets_at}
-use Rattle.vlog_expr.specs.Bare.{forget_all}
 use Rattle.vlog_expr.specs.Laws.{Holds}
-use Rattle.vlog_expr.proofs.Found.{bind, found, From, join, again, after_sound, Behind, AtRef, sound, keep}
+use Rattle.vlog_expr.proofs.Found.{bind, found, From, join, again, after_sound, after_at_sound, Behind, BehindAt, AtRef, sound, keep}
 
 module _ (A : Type 0) where
-  abbrev AtTarget : Toks A → TargetOf A × Toks A → Type 0
+  abbrev pub AtTarget : Toks A → TargetOf A × Toks A → Type 0
   AtTarget w x = IsGoodTarget x.0 × From A w (target_words x.0) x.1
 
   abbrev AtTargets : Toks A → List (TargetOf A) × Toks A → Type 0
@@ -20,10 +19,10 @@ module _ (A : Type 0) where
 
   more_snoc : (xs : List (TargetOf A)) (e : TargetOf A) → more_targets_words (targets_of (xs ++ e ∷ []))
       ≡ more_targets_words (targets_of xs) ++ Fixed t.Comma ∷ target_words e
-  more_snoc [] e = ap (λ (ws : List Word). Fixed t.Comma ∷ ws) (append-nil (target_words e))
+  more_snoc [] e = ap (λ (ws : List (WordOf A)). Fixed t.Comma ∷ ws) (append-nil (target_words e))
   more_snoc (x ∷ xs) e =
-      ap (λ (ws : List Word). Fixed t.Comma ∷ (target_words x ++ ws)) (more_snoc xs e)
-      ∙ ap (λ (ws : List Word). Fixed t.Comma ∷ ws) (sym (append_assoc (target_words x) (more_targets_words (targets_of xs))
+      ap (λ (ws : List (WordOf A)). Fixed t.Comma ∷ (target_words x ++ ws)) (more_snoc xs e)
+      ∙ ap (λ (ws : List (WordOf A)). Fixed t.Comma ∷ ws) (sym (append_assoc (target_words x) (more_targets_words (targets_of xs))
       (Fixed t.Comma ∷ target_words e)))
 
   good_more_snoc : (xs : List (TargetOf A)) (e : TargetOf A) → AreAllGoodTargets (targets_of xs) → IsGoodTarget e
@@ -39,18 +38,18 @@ module _ (A : Type 0) where
     again A w rest ((target_words x ++ more_targets_words (targets_of xs)) ++ Fixed t.Comma ∷ target_words e)
         (target_words x ++ more_targets_words (targets_of (xs ++ e ∷ [])))
         (append_assoc (target_words x) (more_targets_words (targets_of xs)) (Fixed t.Comma ∷ target_words e)
-        ∙ ap (λ (ws : List Word). target_words x ++ ws) (sym (more_snoc xs e)))
+        ∙ ap (λ (ws : List (WordOf A)). target_words x ++ ws) (sym (more_snoc xs e)))
         (join A w mid rest (target_words x ++ more_targets_words (targets_of xs)) (Fixed t.Comma ∷ target_words e) g.1 f),
   )
 
   mutual
-    target_sound : (n : ℕ) (ws : Toks A) → AreLawful ws → Holds (target_at n ws) (AtTarget ws)
+    pub target_sound : (n : ℕ) (ws : Toks A) → AreLawful ws → Holds (target_at n ws) (AtTarget ws)
     target_sound zero ws h = tt
     target_sound (suc n) ws h =
-        found (Behind A t.BraceOpen ws) (AtTarget ws) (after t.BraceOpen ws) (ref_at n ws >>= λ r. Some (RefTarget r.0, r.1))
+        found (BehindAt A t.BraceOpen ws) (AtTarget ws) (after t.BraceOpen ws) (ref_at n ws >>= λ r. Some (RefTarget r.0, r.1))
         (λ o. target_at n o.1 >>= λ x. targets_at n (x.0 ∷ []) x.1 >>= λ xs. after t.BraceClose xs.1
         >>= λ c. Some (ConcatTarget o.0 (targets_of xs.0), c.1))
-        (after_sound A t.BraceOpen ws h)
+        (after_at_sound A t.BraceOpen ws h)
         (bind (AtRef A ws) (AtTarget ws) (ref_at n ws) (λ r. Some (RefTarget r.0, r.1)) ((sound A n).ref ws h) (λ r g. (g.0, g.1)))
         (λ o f. bind (AtTarget o.1) (AtTarget ws) (target_at n o.1) (λ x. targets_at n (x.0 ∷ []) x.1 >>= λ xs. after t.BraceClose xs.1
         >>= λ c. Some (ConcatTarget o.0 (targets_of xs.0), c.1)) (target_sound n o.1 f.lawful)
@@ -65,7 +64,7 @@ module _ (A : Type 0) where
         (λ c. Some (ConcatTarget o.0 (targets_of xs.0), c.1)) (after_sound A t.BraceClose xs.1 gx.1.lawful)
         (λ c fc. (
           gx.0,
-          join A ws o.1 c.1 (Fixed t.BraceOpen ∷ []) (targets_words (targets_of xs.0) ++ Fixed t.BraceClose ∷ []) f
+          join A ws o.1 c.1 (FixedAt t.BraceOpen o.0 ∷ []) (targets_words (targets_of xs.0) ++ Fixed t.BraceClose ∷ []) f
               (join A o.1 xs.1 c.1 (targets_words (targets_of xs.0)) (Fixed t.BraceClose ∷ []) gx.1 fc),
         )))))
 
@@ -79,6 +78,6 @@ module _ (A : Type 0) where
         (join A ws c.1 x.1 (Fixed t.Comma ∷ []) (target_words x.0) fc gx.1))))
 
   pub target_spelled : (n : ℕ) (ws : Toks A) → AreLawful ws → Holds (target_at n ws)
-      (λ x. IsGoodTarget x.0 × (forget_all ws ≡ spell (target_words x.0) (forget_all x.1)))
+      (λ x. IsGoodTarget x.0 × AreWords (target_words x.0) ws x.1)
   target_spelled n ws h = keep A (λ (x : TargetOf A). target_words x) (λ (x : TargetOf A). IsGoodTarget x) ws (target_at n ws)
       (target_sound n ws h)

@@ -1,5 +1,5 @@
 -- Tokens with a mark in the place of their lines, and the words that stand at their front.
-use Rattle.std.specs.Prelude.{if◌then◌else◌, ℕ, Bool, true, false, List, [], ◌∷◌, ◌&&◌, Option, None, Some, map}
+use Rattle.std.specs.Prelude.{◌≡◌, if◌then◌else◌, ℕ, Bool, true, false, List, [], ◌∷◌, ◌&&◌, Option, None, Some, map}
 use Rattle.std.specs.Str.{bytes_eq}
 use Rattle.vlog_lex.specs.declared.token.Token.{Token}
 use Rattle.vlog_lex.specs.declared.token.TokenKind.{TokenKind}
@@ -13,7 +13,7 @@ use Rattle.vlog_tree.specs.declared.expr.BinaryOp.{BinaryOp}
 use Rattle.vlog_tree.specs.declared.expr.BinaryOp.TheVariants as binary
 use Rattle.vlog_tree.specs.declared.terminal.Terminal.{Terminal}
 use Rattle.vlog_tree.specs.Tree.{IdentOf, NumberOf}
-use Rattle.vlog_tree.specs.Words.{Word, NameWord, NumberWord, Fixed, number_kind, terminal_kind, terminal_text}
+use Rattle.vlog_tree.specs.Words.{WordOf, NameWord, Fixed, NameAt, NumberAt, FixedAt, number_kind, terminal_kind, terminal_text}
 use Rattle.vlog_tree.specs.Spelling.{unary_terminal, binary_terminal}
 
 -- a token; A is the type of what stands in the place of its line
@@ -31,16 +31,28 @@ marked t = record { kind = t.kind; text = t.text; line = t.line }
 abbrev pub all_marked : List Token → Toks ℕ
 all_marked ts = map marked ts
 
--- a word's token, without line
-abbrev pub spelled : Word → TokenOf (Unit {0})
-spelled (NameWord text) = record { kind = Identifier; text = text; line = tt }
-spelled (NumberWord kind text) = record { kind = number_kind kind; text = text; line = tt }
-spelled (Fixed t) = record { kind = terminal_kind t; text = terminal_text t; line = tt }
+-- a word's token, with this line where the tree keeps none
+abbrev pub spelled : {A : Type 0} → A → WordOf A → TokenOf A
+spelled other (NameWord text) = record { kind = Identifier; text = text; line = other }
+spelled other (Fixed t) = record { kind = terminal_kind t; text = terminal_text t; line = other }
+spelled other (NameAt text line) = record { kind = Identifier; text = text; line = line }
+spelled other (NumberAt kind text line) = record { kind = number_kind kind; text = text; line = line }
+spelled other (FixedAt t line) = record { kind = terminal_kind t; text = terminal_text t; line = line }
 
 -- the words' tokens before others
-abbrev pub spell : List Word → Toks (Unit {0}) → Toks (Unit {0})
-spell [] rest = rest
-spell (w ∷ ws) rest = spelled w ∷ spell ws rest
+abbrev pub spell : {A : Type 0} → A → List (WordOf A) → Toks A → Toks A
+spell other [] rest = rest
+spell other (w ∷ ws) rest = spelled other w ∷ spell other ws rest
+
+-- the token is this word: kinds and texts agree, and a line that the tree keeps is the token's
+abbrev pub IsWord : {A : Type 0} → WordOf A → TokenOf A → Type 0
+IsWord w token = token ≡ spelled token.line w
+
+-- the tokens are these words, and then the rest
+abbrev pub AreWords : {A : Type 0} → List (WordOf A) → Toks A → Toks A → Type 0
+AreWords [] tokens rest = tokens ≡ rest
+AreWords (w ∷ ws) [] rest = ⊥
+AreWords (w ∷ ws) (token ∷ tokens) rest = IsWord w token × AreWords ws tokens rest
 
 -- a name or a number is a lawful token of its kind
 abbrev pub IsLawfulText : TokenKind → List ℕ → Type 0

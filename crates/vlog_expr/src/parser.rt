@@ -1,6 +1,6 @@
 //! Whole lists of tokens as one expression.
 
-ghost use Rattle.std.specs.Prelude.{◌≡◌, Some, IfOk, MatchResult, length};
+ghost use Rattle.std.specs.Prelude.{◌≡◌, [], IfOk, MatchResult, length};
 ghost use Rattle.vlog_tree.specs.Words.{tokens_of};
 ghost use Rattle.vlog_tree.specs.Tree.{ExprOf};
 ghost use Rattle.vlog_tree.specs.Plain.{plain_expr};
@@ -8,7 +8,7 @@ ghost use Rattle.vlog_tree.specs.Spelling.{expr_words};
 ghost use Rattle.vlog_tree.specs.Shape.{IsGoodExpr};
 ghost use Rattle.vlog_expr.specs.declared.unread.Unread.{Unread};
 ghost use Rattle.vlog_expr.specs.Bare.{without_lines, bare_expr};
-ghost use Rattle.vlog_expr.specs.Marks.{all_marked};
+ghost use Rattle.vlog_expr.specs.Marks.{all_marked, AreWords};
 ghost use Rattle.vlog_expr.specs.Reader.{expr_of, fuel_for};
 ghost use Rattle.vlog_expr.specs.Given.{Gives};
 
@@ -39,18 +39,16 @@ fn whole_expr(alloc: Global, tokens: &[Token]) -> Result<Expr, Unread>
     }
 }
 
-/// The expression of good shape that all the tokens spell, with their lines.
+/// The expression of good shape that all the tokens spell, with the lines that a tree keeps.
 ///
 /// `Fault` comes exactly where no expression of good shape has these tokens, `Memory` where no memory
 /// was found. Lines don't count where tokens are compared.
 pub fn parse_expression(alloc: Global, tokens: &[Token]) -> Result<Expr, Unread>
-    // What is read has good shape and these tokens.
-    ensures found { IfOk result (λ e. IsGoodExpr (plain_expr e) × (tokens_of (expr_words (plain_expr e)) ≡ without_lines tokens.now)) }
+    // What is read has good shape, and the tokens are its words, lines included.
+    ensures found { IfOk result (λ e. IsGoodExpr (plain_expr e) × AreWords (expr_words (plain_expr e)) (all_marked tokens.now) []) }
     // The tree of good shape that has these tokens is read, unless memory runs out.
     ensures only { (t : ExprOf (Unit {0})) → IsGoodExpr t → tokens_of (expr_words t) ≡ without_lines tokens.now
         → MatchResult result (λ e. bare_expr (plain_expr e) ≡ t) (λ e. e ≡ Unread.Memory) }
-    // Its lines are those that the reader on lists takes from the tokens.
-    ensures lines { IfOk result (λ e. expr_of (all_marked tokens.now) ≡ Some (plain_expr e)) }
 {
     if !are_lawful(tokens) {
         return Err(Unread::Fault);

@@ -1,29 +1,27 @@
 -- What is read is of good shape and spelled so: items, modules and files.
 use Rattle.std.proofs.Common.{◌≡◌, ◌≢◌, if◌then◌else◌, ℕ, zero, suc, Option, None, Some, List, [], ◌∷◌, ◌++◌, refl, sym, ap, ◌∙◌}
-use Rattle.std.proofs.Common.{append_assoc, append-nil}
+use Rattle.std.proofs.Common.{append_assoc}
 use Rattle.std.specs.List.{AllByRecursion}
 use Rattle.vlog_lex.specs.declared.token.TokenKind.{TokenKind}
 use Rattle.vlog_lex.specs.declared.token.TokenKind.TheVariants.{Identifier, Reserved, Decimal, Based, Other}
 use Rattle.vlog_tree.specs.declared.module.Direction.{Direction}
 use Rattle.vlog_tree.specs.declared.terminal.Terminal.TheVariants as t
-use Rattle.vlog_tree.specs.Words.{Word, NameWord, Fixed}
+use Rattle.vlog_tree.specs.Words.{WordOf, NameWord, Fixed, FixedAt}
 use Rattle.vlog_tree.specs.Tree.{IdentOf, RangeOf, PortHeadOf, PortOf, NamedValueOf, Reg1Of, AssignOf, ItemOf, ModuleOf, FileOf}
-use Rattle.vlog_tree.specs.Spelling.{ident_words, after_commas, with_commas, in_row, range_words, optional, direction_words, head_words}
+use Rattle.vlog_tree.specs.Spelling.{ident_words, with_commas, in_row, range_words, optional, direction_words, head_words}
 use Rattle.vlog_tree.specs.Spelling.{init_words, port_words, named_words, reg_words, assign_words, event_words, item_words, module_words}
 use Rattle.vlog_tree.specs.Spelling.{file_words}
 use Rattle.vlog_tree.specs.Shape.{IsGoodName, IsGoodExpr, IsGoodOption, IsGoodRange, IsGoodHead, IsGoodPort, IsFirstDirected, IsGoodIdent}
 use Rattle.vlog_tree.specs.Shape.{IsGoodNamed, IsGoodReg, IsGoodAssign, IsGoodEvent, AreSomeGood, IsGoodItem, IsGoodModule, IsGood}
-use Rattle.vlog_expr.specs.Marks.{Toks, spell, IsLawfulText, AreLawful, is_name, name_front}
-use Rattle.vlog_expr.specs.Bare.{forget_all}
-use Rattle.vlog_expr.specs.Reader.{Read}
+use Rattle.vlog_expr.specs.Marks.{Toks, AreWords, IsLawfulText, AreLawful, is_name, name_front}
 use Rattle.vlog_parse.specs.FileReader.{range_at, range_front, init_front, input_at, output_at, direction_front, head_front, port_at}
 use Rattle.vlog_parse.specs.FileReader.{first_port_at, ports_at, named_at, reg_at, assign_at, names_at, driven_at, wires_at}
 use Rattle.vlog_parse.specs.FileReader.{regs_at, assigns_at, event_at, always_at, item_at, items_at, header_at, module_at, modules_at}
 use Rattle.vlog_parse.specs.FileReader.{file_at}
-use Rattle.vlog_expr.specs.Reader.{more_at, some_at}
 use Rattle.vlog_parse.specs.FileLaws.{ReadFilesAreSpelled}
 use Rattle.vlog_expr.proofs.Found.{From, again}
-use Rattle.vlog_parse.proofs.Sure.{Sure, nothing, sure, next, either, ◌▹◌, some_none, start, after_found, expr_found, target_found}
+use Rattle.vlog_parse.proofs.Sure.{Sure, nothing, sure, next, either, ◌▹◌, some_none, start, after_found, after_at_found}
+use Rattle.vlog_parse.proofs.Sure.{expr_found, target_found}
 use Rattle.vlog_parse.proofs.ListFound.{AreLed, led_good, all_snoc, some_snoc, row_snoc, alone, At, more_found, some_found}
 use Rattle.vlog_parse.proofs.StmtFound.{body_found}
 use Rattle.vlog_tree.specs.Tree.{ParameterHeadOf, ParameterOf, ConnOf, ExprOf, EventOf}
@@ -37,7 +35,7 @@ module _ (A : Type 0) where
   name_cases : (kind : TokenKind) (text : List ℕ) (line : A) (rest : Toks A) → IsLawfulText kind text → AreLawful rest
       → Sure (if is_name kind then Some (record { name = text; line = line }, rest) else None)
       (At IsGoodIdent ident_words (record { kind = kind; text = text; line = line } ∷ rest))
-  name_cases Identifier text line rest g h = sure _ (g, record { spells = refl; lawful = h })
+  name_cases Identifier text line rest g h = sure _ (g, record { spells = (refl, refl); lawful = h })
   name_cases Reserved text line rest g h = nothing
   name_cases Decimal text line rest g h = nothing
   name_cases Based text line rest g h = nothing
@@ -202,7 +200,7 @@ module _ (A : Type 0) where
       (next (after_found A t.ParenOpen a.1 fa.lawful) (λ o fo. paren_event_found ws o.1 (fa ▹ fo)))
       (λ s fs. sure _ (tt, fa ▹ fs)))
 
-  always_found : (n : ℕ) (line : A) (w ws : Toks A) → From A w (Fixed t.Always ∷ []) ws → Sure (always_at n line ws) (AtItem w)
+  always_found : (n : ℕ) (line : A) (w ws : Toks A) → From A w (FixedAt t.Always line ∷ []) ws → Sure (always_at n line ws) (AtItem w)
   always_found n line w ws f =
       next (event_found ws f.lawful) (λ v gv.
       next (body_found A n v.1 gv.1.lawful) (λ b gb. sure _ ((gv.0, gb.0), f ▹ gv.1 ▹ gb.2)))
@@ -219,7 +217,7 @@ module _ (A : Type 0) where
 
   conn_found : (n : ℕ) (ws : Toks A) → AreLawful ws → Sure (conn_at n ws) (At IsGoodConn conn_words ws)
   conn_found n ws h =
-      next (after_found A t.Dot ws h) (λ d fd.
+      next (after_at_found A t.Dot ws h) (λ d fd.
       next (name_found d.1 fd.lawful) (λ id gi.
       next (after_found A t.ParenOpen id.1 gi.1.lawful) (λ o fo.
       next (value_found n o.1 fo.lawful) (λ v gv. sure _ ((gi.0, gv.0), fd ▹ gi.1 ▹ fo ▹ gv.1)))))
@@ -256,10 +254,11 @@ module _ (A : Type 0) where
       next (after_found A t.ParenClose cs.1 gs.1.lawful) (λ c fc. sure _ (led_conns cs.0 gs.0, gs.1 ▹ fc))))
       (λ o f. sure _ (tt, f))
 
-  instance_words_are : (m id : List ℕ) (hash conns : List Word)
-      → NameWord m ∷ (hash ++ NameWord id ∷ Fixed t.ParenOpen ∷ ((conns ++ Fixed t.ParenClose ∷ []) ++ Fixed t.Semicolon ∷ []))
-      ≡ NameWord m ∷ (hash ++ NameWord id ∷ Fixed t.ParenOpen ∷ (conns ++ Fixed t.ParenClose ∷ Fixed t.Semicolon ∷ []))
-  instance_words_are m id hash conns = ap (λ (ws : List Word). NameWord m ∷ (hash ++ NameWord id ∷ Fixed t.ParenOpen ∷ ws))
+  instance_words_are : (m id : IdentOf A) (hash conns : List (WordOf A))
+      → ident_words m ++ (hash ++ (ident_words id ++ Fixed t.ParenOpen ∷ ((conns ++ Fixed t.ParenClose ∷ []) ++ Fixed t.Semicolon ∷ [])))
+      ≡ ident_words m ++ (hash ++ (ident_words id ++ Fixed t.ParenOpen ∷ (conns ++ Fixed t.ParenClose ∷ Fixed t.Semicolon ∷ [])))
+  instance_words_are m id hash conns =
+      ap (λ (ws : List (WordOf A)). ident_words m ++ (hash ++ (ident_words id ++ Fixed t.ParenOpen ∷ ws)))
       (append_assoc conns (Fixed t.ParenClose ∷ []) (Fixed t.Semicolon ∷ []))
 
   instance_found : (n : ℕ) (m : IdentOf A) (w ws : Toks A) → IsGoodIdent m → From A w (ident_words m) ws
@@ -272,7 +271,7 @@ module _ (A : Type 0) where
       next (after_found A t.Semicolon cs.1 gs.1.lawful) (λ c fc.
       sure _ (
         (gm, gp.0, gi.0, gs.0),
-        again A w c.1 _ _ (instance_words_are m.name id.0.name (hash_words conn_words ps.0) (with_commas conn_words cs.0))
+        again A w c.1 _ _ (instance_words_are m id.0 (hash_words conn_words ps.0) (with_commas conn_words cs.0))
             (f ▹ gp.1 ▹ gi.1 ▹ fo ▹ gs.1 ▹ fc),
       ))))))
 
@@ -283,7 +282,7 @@ module _ (A : Type 0) where
   other_item_found n ws h =
       either (after_found A t.Localparam ws h)
       (either (after_found A t.Assign ws h)
-      (either (after_found A t.Always ws h) (named_item_found n ws h) (λ o f. always_found n o.0 ws o.1 f))
+      (either (after_at_found A t.Always ws h) (named_item_found n ws h) (λ o f. always_found n o.0 ws o.1 f))
       (λ o f. assigns_found n ws o.1 f))
       (λ o f. localparams_found n ws o.1 f)
 
@@ -362,22 +361,37 @@ module _ (A : Type 0) where
       × From A w (Fixed t.Module ∷ NameWord x.0.0 ∷ (hash_words parameter_words x.0.1 ++ Fixed t.ParenOpen ∷
       ((with_commas port_words x.0.2 ++ Fixed t.ParenClose ∷ []) ++ Fixed t.Semicolon ∷ []))) x.1
 
+  unlined : (kind : TokenKind) (text : List ℕ) (line : A) (rest : Toks A) → IsLawfulText kind text → AreLawful rest
+      → Sure {X = IdentOf A × Toks A} (if is_name kind then Some (record { name = text; line = line }, rest) else None)
+      (λ id. IsGoodName id.0.name × From A (record { kind = kind; text = text; line = line } ∷ rest) (NameWord id.0.name ∷ []) id.1)
+  unlined Identifier text line rest g h = sure _ (g, record { spells = (refl, refl); lawful = h })
+  unlined Reserved text line rest g h = nothing
+  unlined Decimal text line rest g h = nothing
+  unlined Based text line rest g h = nothing
+  unlined Other text line rest g h = nothing
+
+  -- a name, whose line isn't kept
+  module_name_found : (ws : Toks A) → AreLawful ws
+      → Sure (name_front ws) (λ id. IsGoodName id.0.name × From A ws (NameWord id.0.name ∷ []) id.1)
+  module_name_found [] h = nothing
+  module_name_found (token ∷ rest) h = unlined token.kind token.text token.line rest h.0 h.1
+
   pub header_found : (n : ℕ) (ws : Toks A) → AreLawful ws → Sure (header_at n ws) (AtHeader ws)
   header_found n ws h =
       next (after_found A t.Module ws h) (λ m fm.
-      next (name_found m.1 fm.lawful) (λ id gi.
+      next (module_name_found m.1 fm.lawful) (λ id gi.
       next (parameters_found n id.1 gi.1.lawful) (λ qs gq.
       next (after_found A t.ParenOpen qs.1 gq.1.lawful) (λ o fo.
       next (ports_found n o.1 fo.lawful) (λ ps gs.
       next (after_found A t.Semicolon ps.1 gs.1.lawful) (λ c fc. sure _ (gi.0, gq.0, gs.0, fm ▹ gi.1 ▹ gq.1 ▹ fo ▹ gs.1 ▹ fc)))))))
 
-  pub header_words : (name : List ℕ) (hash ports rest : List Word)
+  pub header_words : (name : List ℕ) (hash ports rest : List (WordOf A))
       → (Fixed t.Module ∷ NameWord name ∷ (hash ++ Fixed t.ParenOpen
       ∷ ((ports ++ Fixed t.ParenClose ∷ []) ++ Fixed t.Semicolon ∷ []))) ++ rest
       ≡ Fixed t.Module ∷ NameWord name ∷ (hash ++ Fixed t.ParenOpen ∷ (ports ++ Fixed t.ParenClose ∷ Fixed t.Semicolon ∷ rest))
-  header_words name hash ports rest = ap (λ (ws : List Word). Fixed t.Module ∷ NameWord name ∷ ws)
+  header_words name hash ports rest = ap (λ (ws : List (WordOf A)). Fixed t.Module ∷ NameWord name ∷ ws)
       (append_assoc hash (Fixed t.ParenOpen ∷ ((ports ++ Fixed t.ParenClose ∷ []) ++ Fixed t.Semicolon ∷ [])) rest
-      ∙ ap (λ (ws : List Word). hash ++ Fixed t.ParenOpen ∷ ws)
+      ∙ ap (λ (ws : List (WordOf A)). hash ++ Fixed t.ParenOpen ∷ ws)
       (append_assoc (ports ++ Fixed t.ParenClose ∷ []) (Fixed t.Semicolon ∷ []) rest
       ∙ append_assoc ports (Fixed t.ParenClose ∷ []) (Fixed t.Semicolon ∷ rest)))
 
@@ -393,7 +407,7 @@ module _ (A : Type 0) where
 
   -- all modules, and no token behind them
   abbrev AreModules : Toks A → List (ModuleOf A) → Type 0
-  AreModules w ms = AreSomeGood IsGoodModule ms × (forget_all w ≡ spell (in_row module_words ms) [])
+  AreModules w ms = AreSomeGood IsGoodModule ms × AreWords (in_row module_words ms) w []
 
   modules_found : (n left : ℕ) (w ws : Toks A) (ms : List (ModuleOf A)) → At (AreSomeGood IsGoodModule) (in_row module_words) w (ms, ws)
       → Sure (modules_at n left ms ws) (AreModules w)
@@ -407,7 +421,7 @@ module _ (A : Type 0) where
       ))
 
   file_found : (n : ℕ) (ws : Toks A) → AreLawful ws → Sure (file_at n ws)
-      (λ (f : FileOf A). IsGood f × (forget_all ws ≡ spell (file_words f) []))
+      (λ (f : FileOf A). IsGood f × AreWords (file_words f) ws [])
   file_found n ws h =
       next (module_found n ws h) (λ m g.
       next (modules_found n n ws m.1 (m.0 ∷ []) ((g.0, tt), alone g.1)) (λ ms gs. sure _ gs))

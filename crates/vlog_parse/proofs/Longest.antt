@@ -9,12 +9,13 @@ use Rattle.vlog_lex.specs.declared.token.Token.{Token}
 use Rattle.vlog_lex.specs.declared.token.TokenKind.{TokenKind}
 use Rattle.vlog_lex.specs.declared.token.TokenKind.TheVariants.{Identifier, Reserved, Decimal, Based, Other}
 use Rattle.vlog_tree.specs.declared.terminal.Terminal.TheVariants as t
-use Rattle.vlog_tree.specs.Words.{Word, NameWord, NumberWord, Fixed}
+use Rattle.vlog_tree.specs.Words.{WordOf, NameWord, Fixed}
 use Rattle.vlog_tree.specs.Tree.{ParameterOf, PortOf, ItemOf, AlwaysItem, ModuleOf}
-use Rattle.vlog_tree.specs.Spelling.{with_commas, in_row, hash_words, parameter_words, port_words, item_words}
+use Rattle.vlog_tree.specs.Spelling.{with_commas, in_row, hash_words, parameter_words, port_words}
 use Rattle.vlog_tree.specs.Shape.{IsGoodName, IsFirstHeaded, IsGoodParameter, IsFirstDirected, IsGoodPort, IsGoodItem, IsGoodModule}
 use Rattle.vlog_tree.specs.Shape.{AreSomeGood}
-use Rattle.vlog_expr.specs.Marks.{TokenOf, Toks, marked, all_marked, spelled, spell, IsLawfulText, AreLawful, is_terminal, after}
+use Rattle.vlog_expr.specs.Marks.{TokenOf, Toks, marked, all_marked, spelled, spell, AreWords, IsLawfulText, AreLawful, is_terminal}
+use Rattle.vlog_expr.specs.Marks.{after}
 use Rattle.vlog_expr.specs.Lawful.{IsUnlawful}
 use Rattle.vlog_expr.specs.Bare.{forget, forget_all}
 use Rattle.vlog_expr.specs.Reader.{◌>>=◌, found_or, Read, fuel_for}
@@ -22,7 +23,8 @@ use Rattle.vlog_expr.specs.Laws.{Holds, seen}
 use Rattle.vlog_parse.specs.BareFile.{bare_item}
 use Rattle.vlog_parse.specs.FileReader.{item_at, header_at}
 use Rattle.vlog_parse.specs.UnitReader.{whole_item, unit_at, read_or, behind_units}
-use Rattle.vlog_parse.specs.Units.{UnitOf, Header, ItemUnit, Endmodule, module_units, unit_words, IsWhole, AreWhole, BeginWith, AreLongest}
+use Rattle.vlog_parse.specs.Units.{UnitOf, Header, ItemUnit, Endmodule, module_units, unit_words, IsWhole, AreWhole, BeginWith}
+use Rattle.vlog_parse.specs.Units.{AreLongest}
 use Rattle.vlog_parse.specs.Units.{line_or, last_line, first_line, IsItemLine, OneItemLine}
 use Rattle.vlog_expr.proofs.Spelled.{U, spell_append}
 use Rattle.vlog_expr.proofs.Found.{From, again}
@@ -66,16 +68,17 @@ whole_again (AlwaysItem a) r w = ap (λ (o : Option (U × Toks U)). found_or o (
 whole_again _ r w = refl
 
 unit_again : (n : ℕ) (inside : Bool) (u : UnitU) (r : Toks U) → FitsIn inside u → IsWhole u r → fuel_for (length (unit_words u)) ≤ n
-    → unit_at n inside (spell (unit_words u) r) ≡ Some (is_inside u, r)
+    → unit_at n inside (spell tt (unit_words u) r) ≡ Some (is_inside u, r)
 unit_again n false (Header name qs ps) r g w h =
     let end = Fixed t.ParenClose ∷ Fixed t.Semicolon ∷ [] in
     let long = length-append (hash_words parameter_words qs) (Fixed t.ParenOpen ∷ (with_commas port_words ps ++ end)) in
     let longer = length-append (with_commas port_words ps) end in
-    step _ (header_read name qs ps [] n r g.1 g.2 g.3 g.4 (omega arith) (omega arith)) refl
+    step _ (header_read U tt name qs ps [] n r g.1 g.2 g.3 g.4 (omega arith) (omega arith)) refl
 unit_again n false (ItemUnit i) r g w h = absurd g
 unit_again n false Endmodule r g w h = absurd g
 unit_again n true (Header name qs ps) r g w h = absurd g
-unit_again n true (ItemUnit i) r g w h = skipped _ (no_endmodule i r) (step _ (item_read i n r g w h) (step _ (whole_again i r w) refl))
+unit_again n true (ItemUnit i) r g w h =
+    skipped _ (no_endmodule U tt i r) (step _ (item_read U tt i n r g w h) (step _ (whole_again i r w) refl))
 unit_again n true Endmodule r g w h = refl
 
 -- what is read is a good unit that is whole
@@ -98,7 +101,8 @@ unit_found n false ws h =
       refl,
       tt,
       again U ws x.1 _ _
-          (ap (λ (words : List Word). Fixed t.Module ∷ NameWord x.0.0 ∷ (hash_words parameter_words x.0.1 ++ Fixed t.ParenOpen ∷ words))
+          (ap (λ (words : List (WordOf U)). Fixed t.Module ∷ NameWord x.0.0 ∷
+          (hash_words parameter_words x.0.1 ++ Fixed t.ParenOpen ∷ words))
           (append_assoc (with_commas port_words x.0.2) (Fixed t.ParenClose ∷ []) (Fixed t.Semicolon ∷ [])))
           g.3,
     ))
@@ -107,27 +111,28 @@ unit_found n true ws h =
     (next (item_found U n ws h) (λ x g. next (whole_found x.0 x.1) (λ w gw. sure _ (ItemUnit x.0, g.0, refl, gw, g.1))))
     (λ o f. sure _ (Endmodule, tt, refl, tt, f))
 
--- tokens without lines stay as they are
-forget_same : (ws : Toks U) → forget_all ws ≡ ws
-forget_same [] = refl
-forget_same (token ∷ ws) = ap (λ (us : Toks U). token ∷ us) (forget_same ws)
+-- tokens without lines that are these words are spelled so
+words_spell : (words : List (WordOf U)) (ws rest : Toks U) → AreWords words ws rest → ws ≡ spell tt words rest
+words_spell [] ws rest h = h
+words_spell (w ∷ words) [] rest h = absurd h
+words_spell (w ∷ words) (token ∷ ws) rest h = λ i. h.0 i ∷ words_spell words ws rest h.1 i
 
-length_spelled : (words : List Word) (r : Toks U) → length (spell words r) ≡ length words + length r
+length_spelled : (words : List (WordOf U)) (r : Toks U) → length (spell tt words r) ≡ length words + length r
 length_spelled [] r = omega arith
 length_spelled (w ∷ words) r = omega (arith, length_spelled words r)
 
 some_unit : (u : UnitU) → 0 < length (unit_words u)
 some_unit (Header name qs ps) = omega arith
-some_unit (ItemUnit i) = some_item i
+some_unit (ItemUnit i) = some_item U tt i
 some_unit Endmodule = omega arith
 
 -- the first of good units that the tokens spell is read
 front_unit : (n : ℕ) (inside : Bool) (ws : Toks U) (v : UnitU) (vs : List UnitU) (r : Toks U) → fuel_for (length ws) ≤ n → FitsIn inside v
-    → ws ≡ spell (in_row unit_words (v ∷ vs)) r → IsWhole v (spell (in_row unit_words vs) r) → unit_at n inside ws
-    ≡ Some (is_inside v, spell (in_row unit_words vs) r)
+    → ws ≡ spell tt (in_row unit_words (v ∷ vs)) r → IsWhole v (spell tt (in_row unit_words vs) r) → unit_at n inside ws
+    ≡ Some (is_inside v, spell tt (in_row unit_words vs) r)
 front_unit n inside ws v vs r h g e w =
-    let parts = e ∙ spell_append (unit_words v) (in_row unit_words vs) r in
-    let rest = spell (in_row unit_words vs) r in
+    let parts = e ∙ spell_append U tt (unit_words v) (in_row unit_words vs) r in
+    let rest = spell tt (in_row unit_words vs) r in
     let long = ap (λ (us : Toks U). length us) parts ∙ length_spelled (unit_words v) rest in
     ap (λ (us : Toks U). unit_at n inside us) parts ∙ unit_again n inside v rest g w (omega (arith, long))
 
@@ -135,9 +140,9 @@ front_unit n inside ws v vs r h g e w =
 pub record Greedy (inside : Bool) (ws rest : Toks U) : Type 0 where
   pub units : List UnitU
   pub fit : Fit inside units
-  pub spells : ws ≡ spell (in_row unit_words units) rest
+  pub spells : ws ≡ spell tt (in_row unit_words units) rest
   pub whole : AreWhole units rest
-  pub longest : (vs : List UnitU) (r : Toks U) → Fit inside vs → ws ≡ spell (in_row unit_words vs) r → AreWhole vs r
+  pub longest : (vs : List UnitU) (r : Toks U) → Fit inside vs → ws ≡ spell tt (in_row unit_words vs) r → AreWhole vs r
       → length vs ≤ length units
 
 some_none : {X : Type 0} (x : X) → Some x ≡ None → ⊥
@@ -147,17 +152,17 @@ same_read : (x y : Bool × Toks U) → Some x ≡ Some y → x ≡ y
 same_read x y h = cc
 
 none_longer : (n : ℕ) (inside : Bool) (ws : Toks U) → fuel_for (length ws) ≤ n → unit_at n inside ws ≡ None
-    → (vs : List UnitU) (r : Toks U) → Fit inside vs → ws ≡ spell (in_row unit_words vs) r → AreWhole vs r → length vs ≤ 0
+    → (vs : List UnitU) (r : Toks U) → Fit inside vs → ws ≡ spell tt (in_row unit_words vs) r → AreWhole vs r → length vs ≤ 0
 none_longer n inside ws h none [] r f e w = omega arith
-none_longer n inside ws h none (v ∷ vs) r f e w = absurd (some_none (is_inside v, spell (in_row unit_words vs) r)
+none_longer n inside ws h none (v ∷ vs) r f e w = absurd (some_none (is_inside v, spell tt (in_row unit_words vs) r)
     (sym (front_unit n inside ws v vs r h f.0 e w.0) ∙ none))
 
 some_longer : (n : ℕ) (inside : Bool) (ws : Toks U) (x : Bool × Toks U) (m : ℕ) → fuel_for (length ws) ≤ n → unit_at n inside ws ≡ Some x
-    → ((vs : List UnitU) (r : Toks U) → Fit x.0 vs → x.1 ≡ spell (in_row unit_words vs) r → AreWhole vs r → length vs ≤ m)
-    → (vs : List UnitU) (r : Toks U) → Fit inside vs → ws ≡ spell (in_row unit_words vs) r → AreWhole vs r → length vs ≤ suc m
+    → ((vs : List UnitU) (r : Toks U) → Fit x.0 vs → x.1 ≡ spell tt (in_row unit_words vs) r → AreWhole vs r → length vs ≤ m)
+    → (vs : List UnitU) (r : Toks U) → Fit inside vs → ws ≡ spell tt (in_row unit_words vs) r → AreWhole vs r → length vs ≤ suc m
 some_longer n inside ws x m h some longest [] r f e w = omega arith
 some_longer n inside ws x m h some longest (v ∷ vs) r f e w =
-    let same = same_read x (is_inside v, spell (in_row unit_words vs) r) (sym some ∙ front_unit n inside ws v vs r h f.0 e w.0) in
+    let same = same_read x (is_inside v, spell tt (in_row unit_words vs) r) (sym some ∙ front_unit n inside ws v vs r h f.0 e w.0) in
     let rest = longest vs r (subst (λ (b : Bool). Fit b vs) (sym (ap (λ (y : Bool × Toks U). y.0) same)) f.1)
     (ap (λ (y : Bool × Toks U). y.1) same) w.1 in
     omega (arith, rest)
@@ -178,19 +183,20 @@ greedy_step n left inside ws None rec h l e s = record {
       h e;
 }
 greedy_step n left inside ws (Some x) rec h l e (u, fits, is, whole, from) =
-    let first : ws ≡ spell (unit_words u) x.1 = sym (forget_same ws) ∙ from.spells ∙ ap (spell (unit_words u)) (forget_same x.1) in
+    let first : ws ≡ spell tt (unit_words u) x.1 = words_spell (unit_words u) ws x.1 from.spells in
     let long = ap (λ (us : Toks U). length us) first ∙ length_spelled (unit_words u) x.1 in
     let more = rec x.0 x.1 from.lawful (omega (arith, long)) (omega (arith, long, some_unit u)) in
     let rest = behind_units n left x.0 x.1 in
     record {
       units = u ∷ more.units;
       fit = (fits, subst (λ (b : Bool). Fit b more.units) (sym is) more.fit);
-      spells = first ∙ ap (spell (unit_words u)) more.spells ∙ sym (spell_append (unit_words u) (in_row unit_words more.units) rest);
+      spells =
+          first ∙ ap (spell tt (unit_words u)) more.spells ∙ sym (spell_append U tt (unit_words u) (in_row unit_words more.units) rest);
       whole = (subst (λ (us : Toks U). IsWhole u us) more.spells whole, more.whole);
       longest = some_longer n inside ws x (length more.units) h e more.longest;
     }
 
-none_empty : (inside : Bool) (vs : List UnitU) (r : Toks U) → [] ≡ spell (in_row unit_words vs) r → length vs ≤ 0
+none_empty : (inside : Bool) (vs : List UnitU) (r : Toks U) → [] ≡ spell tt (in_row unit_words vs) r → length vs ≤ 0
 none_empty inside [] r e = omega arith
 none_empty inside (v ∷ vs) r e =
     let long = ap (λ (us : Toks U). length us) e ∙ length_spelled (unit_words v ++ in_row unit_words vs) r in
@@ -204,17 +210,18 @@ greedy n (suc left) inside ws g h l = greedy_step n left inside ws (unit_at n in
     (unit_found n inside ws g).holds
 
 -- two lists of as many units end at one place
-pub same_rest : (us vs : List UnitU) (inside : Bool) (ws r q : Toks U) → Fit inside us → Fit inside vs → ws ≡ spell (in_row unit_words us) r
-    → ws ≡ spell (in_row unit_words vs) q
+pub same_rest : (us vs : List UnitU) (inside : Bool) (ws r q : Toks U) → Fit inside us → Fit inside vs → ws
+    ≡ spell tt (in_row unit_words us) r
+    → ws ≡ spell tt (in_row unit_words vs) q
     → AreWhole us r → AreWhole vs q → length us ≡ length vs → r ≡ q
 same_rest [] [] inside ws r q f g d e w x l = sym d ∙ e
 same_rest [] (v ∷ vs) inside ws r q f g d e w x l = absurd (omega (arith, l))
 same_rest (u ∷ us) [] inside ws r q f g d e w x l = absurd (omega (arith, l))
 same_rest (u ∷ us) (v ∷ vs) inside ws r q f g d e w x l =
     let n = fuel_for (length ws) in
-    let same = same_read (is_inside u, spell (in_row unit_words us) r) (is_inside v, spell (in_row unit_words vs) q)
+    let same = same_read (is_inside u, spell tt (in_row unit_words us) r) (is_inside v, spell tt (in_row unit_words vs) q)
     (sym (front_unit n inside ws u us r (omega arith) f.0 d w.0) ∙ front_unit n inside ws v vs q (omega arith) g.0 e x.0) in
-    same_rest us vs (is_inside u) (spell (in_row unit_words us) r) r q f.1
+    same_rest us vs (is_inside u) (spell tt (in_row unit_words us) r) r q f.1
     (subst (λ (b : Bool). Fit b vs) (sym (ap (λ (y : Bool × Toks U). y.0) same)) g.1) refl (ap (λ (y : Bool × Toks U). y.1) same) w.1 x.1
     (omega (arith, l))
 
@@ -301,7 +308,8 @@ mutual
             (λ (vs : List UnitU). Endmodule ∷ vs) r.parts;
       }
 
-pub begin_with : (us : List UnitU) (ws r : Toks U) → Fit false us → ws ≡ spell (in_row unit_words us) r → AreWhole us r → BeginWith us ws r
+pub begin_with : (us : List UnitU) (ws r : Toks U) → Fit false us → ws ≡ spell tt (in_row unit_words us) r → AreWhole us r
+    → BeginWith us ws r
 begin_with us ws r f e w =
     let o = outside_file us f in
     record { file = record { modules = o.modules }; good = o.good; more = o.more; parts = o.parts; spelled = e; whole = w }
@@ -330,9 +338,9 @@ else_less : (ws bad : Toks U) → after t.Else (ws ++ bad) ≡ None → after t.
 else_less [] bad e = refl
 else_less (token ∷ ws) bad e = if_other (is_terminal t.Else token) (token.line, ws ++ bad) (token.line, ws) e
 
-spell_behind : (words : List Word) (r bad : Toks U) → spell words r ++ bad ≡ spell words (r ++ bad)
+spell_behind : (words : List (WordOf U)) (r bad : Toks U) → spell tt words r ++ bad ≡ spell tt words (r ++ bad)
 spell_behind [] r bad = refl
-spell_behind (w ∷ words) r bad = ap (λ (us : Toks U). spelled w ∷ us) (spell_behind words r bad)
+spell_behind (w ∷ words) r bad = ap (λ (us : Toks U). spelled tt w ∷ us) (spell_behind words r bad)
 
 -- whole units stay whole where such a token or nothing follows
 unit_more : (u : UnitU) (ws bad : Toks U) → IsUnlawful bad → IsWhole u ws → IsWhole u (ws ++ bad)
@@ -351,14 +359,14 @@ units_more : (us : List UnitU) (r bad : Toks U) → IsUnlawful bad → AreWhole 
 units_more [] r bad h w = tt
 units_more (u ∷ us) r bad h w = (
   subst (λ (ws : Toks U). IsWhole u ws) (spell_behind (in_row unit_words us) r bad)
-      (unit_more u (spell (in_row unit_words us) r) bad h w.0),
+      (unit_more u (spell tt (in_row unit_words us) r) bad h w.0),
   units_more us r bad h w.1,
 )
 
 units_less : (us : List UnitU) (r bad : Toks U) → AreWhole us (r ++ bad) → AreWhole us r
 units_less [] r bad w = tt
 units_less (u ∷ us) r bad w = (
-  unit_less u (spell (in_row unit_words us) r) bad (subst (λ (ws : Toks U). IsWhole u ws)
+  unit_less u (spell tt (in_row unit_words us) r) bad (subst (λ (ws : Toks U). IsWhole u ws)
       (sym (spell_behind (in_row unit_words us) r bad)) w.0),
   units_less us r bad w.1,
 )
@@ -371,17 +379,17 @@ unit_lawful false (Header name qs ps) f =
       (
         f.0,
         lawful_append (hash_words parameter_words qs) (Fixed t.ParenOpen ∷ (with_commas port_words ps ++ end))
-            (hash_lawful (ParameterOf U) IsGoodParameter parameter_words parameter_lawful qs f.2) (
+            (hash_lawful U (ParameterOf U) IsGoodParameter parameter_words (parameter_lawful U) qs f.2) (
               tt,
               lawful_append (with_commas port_words ps) end
-                  (all_commas_lawful (PortOf U) IsGoodPort port_words port_lawful ps f.4) (tt, (tt, tt)),
+                  (all_commas_lawful U (PortOf U) IsGoodPort port_words (port_lawful U) ps f.4) (tt, (tt, tt)),
             ),
       ),
     )
 unit_lawful false (ItemUnit i) f = absurd f
 unit_lawful false Endmodule f = absurd f
 unit_lawful true (Header name qs ps) f = absurd f
-unit_lawful true (ItemUnit i) f = item_lawful i f
+unit_lawful true (ItemUnit i) f = item_lawful U i f
 unit_lawful true Endmodule f = (tt, tt)
 
 units_lawful : (inside : Bool) (us : List UnitU) → Fit inside us → AreLawfulWords (in_row unit_words us)
@@ -389,13 +397,9 @@ units_lawful inside [] f = tt
 units_lawful inside (u ∷ us) f = lawful_append (unit_words u) (in_row unit_words us) (unit_lawful inside u f.0)
     (units_lawful (is_inside u) us f.1)
 
-lawful_tail : (w : Word) (words : List Word) → AreLawfulWords (w ∷ words) → AreLawfulWords words
-lawful_tail (NameWord text) words h = h.1
-lawful_tail (NumberWord kind text) words h = h.1
-lawful_tail (Fixed x) words h = h.1
-
-no_front : (w : Word) (words : List Word) (bad r : Toks U) → AreLawfulWords (w ∷ words) → IsUnlawful bad → bad ≡ spelled w ∷ r → ⊥
-no_front w words bad r h l e = subst (λ (ws : Toks U). IsUnlawful ws) e l (spell_lawful (w ∷ words) h).0
+no_front : (w : WordOf U) (words : List (WordOf U)) (bad r : Toks U) → AreLawfulWords (w ∷ words) → IsUnlawful bad → bad
+    ≡ spelled tt w ∷ r → ⊥
+no_front w words bad r h l e = subst (λ (ws : Toks U). IsUnlawful ws) e l (spell_lawful tt (w ∷ words) h).0
 
 abbrev first_of : TokenOf U → Toks U → TokenOf U
 first_of x [] = x
@@ -406,13 +410,13 @@ rest_of [] = []
 rest_of (token ∷ ws) = ws
 
 -- lawful words at the front lie before the unlawful token
-cut : (words : List Word) (ws bad r : Toks U) → AreLawfulWords words → IsUnlawful bad → ws ++ bad ≡ spell words r → (q : Toks U)
-    × (r ≡ q ++ bad) × (ws ≡ spell words q)
+cut : (words : List (WordOf U)) (ws bad r : Toks U) → AreLawfulWords words → IsUnlawful bad → ws ++ bad ≡ spell tt words r → (q : Toks U)
+    × (r ≡ q ++ bad) × (ws ≡ spell tt words q)
 cut [] ws bad r h l e = (ws, sym e, refl)
-cut (w ∷ words) [] bad r h l e = absurd (no_front w words bad (spell words r) h l e)
+cut (w ∷ words) [] bad r h l e = absurd (no_front w words bad (spell tt words r) h l e)
 cut (w ∷ words) (token ∷ ws) bad r h l e =
-    let q = cut words ws bad r (lawful_tail w words h) l (ap rest_of e) in
-    let head : token ≡ spelled w = ap (first_of token) e in
+    let q = cut words ws bad r h.1 l (ap rest_of e) in
+    let head : token ≡ spelled tt w = ap (first_of token) e in
     (q.0, q.1, λ i. head i ∷ q.2 i)
 
 -- the list stays the longest

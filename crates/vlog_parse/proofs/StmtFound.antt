@@ -1,16 +1,14 @@
 -- What is read is of good shape and spelled so: statements.
-use Rattle.std.proofs.Common.{◌≡◌, ◌≢◌, ℕ, zero, suc, Bool, true, false, Option, None, Some, List, [], ◌∷◌, ◌++◌, refl, sym, ap, ◌∙◌, subst}
+use Rattle.std.proofs.Common.{◌≡◌, ◌≢◌, ℕ, zero, suc, Bool, true, Option, None, Some, List, [], ◌∷◌, ◌++◌, sym, ap, ◌∙◌}
 use Rattle.std.proofs.Common.{append_assoc, append-nil}
-use Rattle.vlog_tree.specs.declared.terminal.Terminal.{Terminal}
 use Rattle.vlog_tree.specs.declared.terminal.Terminal.TheVariants as t
 use Rattle.vlog_tree.specs.declared.stmt.AssignOp.{AssignOp}
-use Rattle.vlog_tree.specs.Words.{Word, Fixed}
-use Rattle.vlog_tree.specs.Tree.{TargetOf, StmtOf, BodyOf, ElseOf, NoElse, Else, stmts_of}
-use Rattle.vlog_tree.specs.Spelling.{assign_terminal, target_words, stmt_words, body_words, else_words, stmts_words}
-use Rattle.vlog_tree.specs.Shape.{IsGoodTarget, is_open, is_open_body, is_open_else, IsShut, IsGoodStmt, IsGoodBody, IsGoodElse}
+use Rattle.vlog_tree.specs.Words.{WordOf, Fixed}
+use Rattle.vlog_tree.specs.Tree.{StmtOf, BodyOf, ElseOf, NoElse, Else, stmts_of}
+use Rattle.vlog_tree.specs.Spelling.{assign_terminal, stmt_words, body_words, else_words, stmts_words}
+use Rattle.vlog_tree.specs.Shape.{is_open, is_open_body, is_open_else, IsShut, IsGoodStmt, IsGoodBody, IsGoodElse}
 use Rattle.vlog_tree.specs.Shape.{AreGoodStmts}
-use Rattle.vlog_expr.specs.Marks.{Toks, spell, AreLawful, after}
-use Rattle.vlog_expr.specs.Bare.{forget_all}
+use Rattle.vlog_expr.specs.Marks.{Toks, AreWords, AreLawful, after}
 use Rattle.vlog_expr.specs.Reader.{expr_at}
 use Rattle.vlog_parse.specs.StmtReader.{assign_op_at, assign_stmt_at, stmt_at, if_at, body_at, else_at, stmts_at, colon_front, case_at}
 use Rattle.vlog_parse.specs.StmtReader.{arm_at, arms_at}
@@ -19,10 +17,9 @@ use Rattle.vlog_tree.specs.Spelling.{expr_words, colon_words, arm_words, arms_wo
 use Rattle.vlog_tree.specs.Shape.{IsGoodExpr, IsGoodArm, AreGoodArms, AreAllGoodArms}
 use Rattle.vlog_expr.specs.Laws.{Holds}
 use Rattle.vlog_parse.specs.FileLaws.{ReadBodiesAreSpelled}
-use Rattle.vlog_expr.proofs.Spelled.{U}
 use Rattle.vlog_expr.proofs.Found.{From, again}
 use Rattle.vlog_parse.proofs.Sure.{Sure, nothing, sure, next, either, kept, ◌▹◌, some_none, not_true, false_true, start, target_found}
-use Rattle.vlog_parse.proofs.Sure.{expr_found, after_found}
+use Rattle.vlog_parse.proofs.Sure.{expr_found, after_found, after_at_found}
 use Rattle.vlog_parse.proofs.ListFound.{alone, led_good, some_found}
 
 module _ (A : Type 0) where
@@ -65,7 +62,7 @@ module _ (A : Type 0) where
   arm_words_snoc : (xs : List (ArmOf A)) (a : ArmOf A) → arms_words (arms_of xs) ++ arm_words a ≡ arms_words (arms_of (xs ++ a ∷ []))
   arm_words_snoc [] a = sym (append-nil (arm_words a))
   arm_words_snoc (x ∷ xs) a = append_assoc (arm_words x) (arms_words (arms_of xs)) (arm_words a)
-      ∙ ap (λ (ws : List Word). arm_words x ++ ws) (arm_words_snoc xs a)
+      ∙ ap (λ (ws : List (WordOf A)). arm_words x ++ ws) (arm_words_snoc xs a)
 
   all_arms_snoc : (xs : List (ArmOf A)) (a : ArmOf A) → AreAllGoodArms (arms_of xs) → IsGoodArm a → AreAllGoodArms (arms_of (xs ++ a ∷ []))
   all_arms_snoc [] a g h = (h, tt)
@@ -85,7 +82,7 @@ module _ (A : Type 0) where
   words_snoc : (xs : List (StmtOf A)) (s : StmtOf A) → stmts_words (stmts_of xs) ++ stmt_words s ≡ stmts_words (stmts_of (xs ++ s ∷ []))
   words_snoc [] s = sym (append-nil (stmt_words s))
   words_snoc (x ∷ xs) s = append_assoc (stmt_words x) (stmts_words (stmts_of xs)) (stmt_words s)
-      ∙ ap (λ (ws : List Word). stmt_words x ++ ws) (words_snoc xs s)
+      ∙ ap (λ (ws : List (WordOf A)). stmt_words x ++ ws) (words_snoc xs s)
 
   good_snoc : (xs : List (StmtOf A)) (s : StmtOf A) → AreGoodStmts (stmts_of xs) → IsGoodStmt s → AreGoodStmts (stmts_of (xs ++ s ∷ []))
   good_snoc [] s g h = (h, tt)
@@ -152,7 +149,7 @@ module _ (A : Type 0) where
     arm_found : (n : ℕ) (ws : Toks A) → AreLawful ws → Sure (arm_at n ws) (AtArm ws)
     arm_found zero ws h = nothing
     arm_found (suc n) ws h =
-        either (after_found A t.Default ws h)
+        either (after_at_found A t.Default ws h)
         (next (some_found A (ExprOf A) (expr_at n) IsGoodExpr expr_words (expr_found A n) n ws h) (λ ls gs.
         next (after_found A t.Colon ls.1 gs.1.lawful) (λ c fc.
         next (body_found n c.1 fc.lawful) (λ b gb. sure _ ((led_good IsGoodExpr ls.0 gs.0, gb.0), gs.1 ▹ fc ▹ gb.2)))))
@@ -187,7 +184,7 @@ module _ (A : Type 0) where
 
   body_cases : (ws : Toks A) (o : Option (BodyOf A × Toks A)) → Sure o (AtBody ws)
       → Holds o (λ x. IsGoodBody x.0 × (is_open_body x.0 ≡ true → after t.Else x.1 ≡ None)
-      × (forget_all ws ≡ spell (body_words x.0) (forget_all x.1)))
+      × AreWords (body_words x.0) ws x.1)
   body_cases ws None h = tt
   body_cases ws (Some x) h = (h.holds.0, h.holds.1, h.holds.2.spells)
 

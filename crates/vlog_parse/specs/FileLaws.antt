@@ -4,7 +4,7 @@ use Rattle.vlog_tree.specs.declared.terminal.Terminal.TheVariants as t
 use Rattle.vlog_tree.specs.Tree.{BodyOf, FileOf}
 use Rattle.vlog_tree.specs.Spelling.{body_words, file_words}
 use Rattle.vlog_tree.specs.Shape.{IsGoodBody, is_open_body, IsGood}
-use Rattle.vlog_expr.specs.Marks.{Toks, spell, AreLawful, after}
+use Rattle.vlog_expr.specs.Marks.{Toks, spell, AreWords, AreLawful, after}
 use Rattle.vlog_expr.specs.Bare.{forget_all}
 use Rattle.vlog_expr.specs.Reader.{fuel_for}
 use Rattle.vlog_expr.specs.Laws.{Holds, seen}
@@ -18,22 +18,22 @@ abbrev pub BodiesAreRead : Type 0
 BodiesAreRead =
     (b : BodyOf (Unit {0})) (rest : Toks (Unit {0})) (fuel : ℕ) → IsGoodBody b → (is_open_body b ≡ true → after t.Else rest ≡ None)
     → fuel_for (length (body_words b)) ≤ fuel
-    → body_at fuel (spell (body_words b) rest) ≡ Some (b, rest)
+    → body_at fuel (spell tt (body_words b) rest) ≡ Some (b, rest)
 
 -- the tokens of a file of good shape are read as it
 abbrev pub FilesAreRead : Type 0
 FilesAreRead = (f : FileOf (Unit {0})) (fuel : ℕ) → IsGood f → fuel_for (length (file_words f)) ≤ fuel
-    → file_at fuel (spell (file_words f) []) ≡ Some f
+    → file_at fuel (spell tt (file_words f) []) ≡ Some f
 
 abbrev pub ReadBodiesAreSpelled : Type 0 → Type 0
 ReadBodiesAreSpelled A =
     (fuel : ℕ) (ws : Toks A) → AreLawful ws
     → Holds (body_at fuel ws) (λ x. IsGoodBody x.0 × (is_open_body x.0 ≡ true → after t.Else x.1 ≡ None)
-    × (forget_all ws ≡ spell (body_words x.0) (forget_all x.1)))
+    × AreWords (body_words x.0) ws x.1)
 
 abbrev pub ReadFilesAreSpelled : Type 0 → Type 0
 ReadFilesAreSpelled A = (fuel : ℕ) (ws : Toks A) → AreLawful ws → Holds (file_at fuel ws)
-    (λ f. IsGood f × (forget_all ws ≡ spell (file_words f) []))
+    (λ f. IsGood f × AreWords (file_words f) ws [])
 
 abbrev pub BodyLinesDontCount : Type 0 → Type 0
 BodyLinesDontCount A = (fuel : ℕ) (ws : Toks A) → body_at fuel (forget_all ws) ≡ seen bare_body (body_at fuel ws)

@@ -2,7 +2,7 @@
 use Rattle.std.specs.Prelude.{◌≡◌, ◌≤◌, ◌-◌, ℕ, List, [], ◌∷◌, ◌++◌, None, length, drop, map}
 use Rattle.std.specs.List.{flat_map}
 use Rattle.vlog_tree.specs.declared.terminal.Terminal.TheVariants as t
-use Rattle.vlog_tree.specs.Words.{Word, NameWord, Fixed}
+use Rattle.vlog_tree.specs.Words.{WordOf, NameWord, Fixed}
 use Rattle.vlog_tree.specs.Tree.{ParameterOf, PortOf, ItemOf, AlwaysItem, ModuleOf, FileOf}
 use Rattle.vlog_tree.specs.Spelling.{with_commas, in_row, hash_words, parameter_words, port_words, item_words, file_words}
 use Rattle.vlog_tree.specs.Shape.{IsGood}
@@ -20,20 +20,20 @@ module_units m = Header m.name m.parameters m.ports ∷ (map ItemUnit m.items ++
 abbrev pub file_units : {A : Type 0} → FileOf A → List (UnitOf A)
 file_units f = flat_map module_units f.modules
 
-abbrev pub unit_words : {A : Type 0} → UnitOf A → List Word
+abbrev pub unit_words : {A : Type 0} → UnitOf A → List (WordOf A)
 unit_words (Header name parameters ports) = Fixed t.Module ∷ NameWord name ∷ (hash_words parameter_words parameters ++ Fixed t.ParenOpen
     ∷ (with_commas port_words ports ++ Fixed t.ParenClose ∷ Fixed t.Semicolon ∷ []))
 unit_words (ItemUnit i) = item_words i
 unit_words Endmodule = Fixed t.Endmodule ∷ []
 
 -- an `always` that `else` follows isn't a whole unit
-abbrev pub IsWhole : {A : Type 0} → UnitOf A → Toks (Unit {0}) → Type 0
+abbrev pub IsWhole : {A B : Type 0} → UnitOf A → Toks B → Type 0
 IsWhole (ItemUnit (AlwaysItem a)) rest = after t.Else rest ≡ None
 IsWhole _ rest = Unit {0}
 
-abbrev pub AreWhole : {A : Type 0} → List (UnitOf A) → Toks (Unit {0}) → Type 0
+abbrev pub AreWhole : List (UnitOf (Unit {0})) → Toks (Unit {0}) → Type 0
 AreWhole [] rest = Unit {0}
-AreWhole (u ∷ us) rest = IsWhole u (spell (in_row unit_words us) rest) × AreWhole us rest
+AreWhole (u ∷ us) rest = IsWhole u (spell tt (in_row unit_words us) rest) × AreWhole us rest
 
 -- the tokens are these whole units, with which some file of good shape begins, and then the rest
 pub record BeginWith (units : List (UnitOf (Unit {0}))) (ws rest : Toks (Unit {0})) : Type 0 where
@@ -41,7 +41,7 @@ pub record BeginWith (units : List (UnitOf (Unit {0}))) (ws rest : Toks (Unit {0
   pub good : IsGood file
   pub more : List (UnitOf (Unit {0}))
   pub parts : file_units file ≡ units ++ more
-  pub spelled : ws ≡ spell (in_row unit_words units) rest
+  pub spelled : ws ≡ spell tt (in_row unit_words units) rest
   pub whole : AreWhole units rest
 
 -- the longest list of whole units with which the tokens begin, and the tokens behind it

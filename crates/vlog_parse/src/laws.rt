@@ -3,7 +3,7 @@
 ghost use Rattle.std.specs.Prelude.{ℕ};
 ghost use Rattle.vlog_parse.specs.FileLaws.{BodiesAreRead, FilesAreRead, ReadBodiesAreSpelled, ReadFilesAreSpelled};
 ghost use Rattle.vlog_parse.specs.FileLaws.{BodyLinesDontCount, FileLinesDontCount};
-ghost use Rattle.vlog_parse.specs.Parsing.{OneFile};
+ghost use Rattle.vlog_parse.specs.Parsing.{OneFile, OneLinedFile, LinedFilesAreFiles};
 ghost use Rattle.vlog_parse.specs.Depth.{OneDepth};
 ghost use Rattle.vlog_parse.specs.Units.{UnitsAreSpelled, OneItemLine};
 
@@ -28,6 +28,16 @@ pub fn lines_dont_count()
 /// No two files of good shape have the same tokens.
 pub fn one_file()
     ensures { OneFile }
+{}
+
+/// The tokens determine a tree's lines: no two files of good shape with lines are the words of one list of tokens.
+pub fn one_lined_file()
+    ensures { OneLinedFile }
+{}
+
+/// A file whose words, lines included, are these tokens has these tokens where lines don't count.
+pub fn lined_files_are_files()
+    ensures { LinedFilesAreFiles }
 {}
 
 /// A limit is first passed on one line, or nowhere.

@@ -20,7 +20,7 @@ mod units;
 
 pub use error::ParseError;
 pub use laws::{
-    lines_dont_count, one_depth, one_file, one_item_line, read_is_spelled, spelled_is_read,
-    units_are_spelled,
+    lined_files_are_files, lines_dont_count, one_depth, one_file, one_item_line, one_lined_file,
+    read_is_spelled, spelled_is_read, units_are_spelled,
 };
 pub use parser::parse;

@@ -1,6 +1,6 @@
 //! Whole lists of tokens as one file.
 
-ghost use Rattle.std.specs.Prelude.{◌≡◌, ℕ, Some, Err, IfOk, IfErr, MatchResult};
+ghost use Rattle.std.specs.Prelude.{◌≡◌, ℕ, Err, IfOk, IfErr, MatchResult};
 ghost use Rattle.vlog_tree.specs.Tree.{FileOf};
 ghost use Rattle.vlog_tree.specs.Plain.{plain};
 ghost use Rattle.vlog_tree.specs.Lines.{bare};
@@ -9,7 +9,7 @@ ghost use Rattle.vlog_expr.specs.declared.unread.Unread.{Unread};
 ghost use Rattle.vlog_expr.specs.Marks.{all_marked};
 ghost use Rattle.vlog_parse.specs.FileReader.{file_of};
 ghost use Rattle.vlog_parse.specs.Depth.{IsDeep, IsShallow};
-ghost use Rattle.vlog_parse.specs.Parsing.{IsFileOf, Refuses};
+ghost use Rattle.vlog_parse.specs.Parsing.{IsFileOf, IsLinedFileOf, Refuses};
 ghost use Rattle.vlog_expr.specs.Given.{Gives};
 
 use crate::depth::deep_line;
@@ -32,9 +32,8 @@ fn whole_file(alloc: Global, tokens: &[Token]) -> Result<File, Unread>
 
 /// The file that all the tokens spell, where their names and numbers are lawful.
 fn lawful_file(alloc: Global, tokens: &[Token]) -> Result<File, Unread>
-    ensures found { IfOk result (λ f. IsFileOf tokens.now (bare (plain f))) }
+    ensures found { IfOk result (λ f. IsLinedFileOf tokens.now (plain f)) }
     ensures only { (f : FileOf (Unit {0})) → IsFileOf tokens.now f → MatchResult result (λ g. bare (plain g) ≡ f) (λ e. e ≡ Unread.Memory) }
-    ensures lines { IfOk result (λ f. file_of (all_marked tokens.now) ≡ Some (plain f)) }
 {
     if !are_lawful(tokens) {
         return Err(Unread::Fault);
@@ -49,8 +48,8 @@ fn lawful_file(alloc: Global, tokens: &[Token]) -> Result<File, Unread>
 /// of good shape has these tokens, with the line of the first token behind the longest list of whole units.
 /// `Memory` comes where no memory was found.
 pub fn parse(alloc: Global, tokens: &Tokens) -> Result<File, ParseError>
-    // The file has good shape and these tokens, and no limit is passed.
-    ensures found { IfOk result (λ f. IsShallow (all_marked tokens.now) × IsFileOf tokens.now (bare (plain f))) }
+    // No limit is passed, the file has good shape, and the tokens are its words, lines included.
+    ensures found { IfOk result (λ f. IsShallow (all_marked tokens.now) × IsLinedFileOf tokens.now (plain f)) }
     // Each refusal has its cause.
     ensures refused { IfErr result (λ e. Refuses tokens.now e) }
     // Where a limit is passed, that is the answer.
@@ -58,8 +57,6 @@ pub fn parse(alloc: Global, tokens: &Tokens) -> Result<File, ParseError>
     // The file of good shape that has these tokens is read, unless memory runs out.
     ensures only { (f : FileOf (Unit {0})) → IsShallow (all_marked tokens.now) → IsFileOf tokens.now f
         → MatchResult result (λ g. bare (plain g) ≡ f) (λ e. e ≡ variants.Memory) }
-    // Its lines are those that the reader on lists takes from the tokens.
-    ensures lines { IfOk result (λ f. file_of (all_marked tokens.now) ≡ Some (plain f)) }
 {
     if let Some(line) = deep_line(tokens.as_slice()) {
         return Err(ParseError::Deep { line });

@@ -8,4 +8,6 @@ mod files;
 #[cfg(test)]
 mod limits;
 #[cfg(test)]
+mod lines;
+#[cfg(test)]
 mod shapes;

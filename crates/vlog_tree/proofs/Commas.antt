@@ -1,6 +1,6 @@
 -- Lists of words through a map.
 use Rattle.std.proofs.Common.{◌≡◌, List, [], ◌∷◌, ◌++◌, ap, refl, map}
-use Rattle.vlog_tree.specs.Words.{Word, Fixed}
+use Rattle.vlog_tree.specs.Words.{WordOf, Fixed}
 use Rattle.vlog_tree.specs.Plain.{plain_expr, plain_ident, plain_named, plain_reg, plain_assign, plain_port, plain_parameter, plain_conn}
 use Rattle.vlog_tree.specs.Spelling.{after_commas, with_commas, hash_words, expr_words, ident_words, named_words, reg_words, assign_words}
 use Rattle.vlog_tree.specs.Spelling.{port_words, parameter_words, conn_words}
@@ -14,17 +14,19 @@ use Rattle.vlog_tree.specs.declared.module.Conn.{Conn}
 use Rattle.vlog_tree.specs.declared.expr.Expr.{Expr}
 use Rattle.vlog_tree.specs.declared.terminal.Terminal.TheVariants.{Comma, Hash, ParenOpen, ParenClose}
 
-after_commas_map : {X Y : Type 0} (f : Y → List Word) (g : X → Y) (xs : List X) → after_commas f (map g xs) ≡ after_commas (λ x. f (g x)) xs
+after_commas_map : {A X Y : Type 0} (f : Y → List (WordOf A)) (g : X → Y) (xs : List X) → after_commas f (map g xs)
+    ≡ after_commas (λ x. f (g x)) xs
 after_commas_map f g [] = refl
-after_commas_map f g (x ∷ xs) = ap (λ (ws : List Word). Fixed Comma ∷ (f (g x) ++ ws)) (after_commas_map f g xs)
+after_commas_map {A = A} f g (x ∷ xs) = ap (λ (ws : List (WordOf A)). Fixed Comma ∷ (f (g x) ++ ws)) (after_commas_map f g xs)
 
-with_commas_map : {X Y : Type 0} (f : Y → List Word) (g : X → Y) (xs : List X) → with_commas f (map g xs) ≡ with_commas (λ x. f (g x)) xs
+with_commas_map : {A X Y : Type 0} (f : Y → List (WordOf A)) (g : X → Y) (xs : List X) → with_commas f (map g xs)
+    ≡ with_commas (λ x. f (g x)) xs
 with_commas_map f g [] = refl
-with_commas_map f g (x ∷ xs) = ap (λ (ws : List Word). f (g x) ++ ws) (after_commas_map f g xs)
+with_commas_map {A = A} f g (x ∷ xs) = ap (λ (ws : List (WordOf A)). f (g x) ++ ws) (after_commas_map f g xs)
 
-hash_map : {X Y : Type 0} (f : Y → List Word) (g : X → Y) (xs : List X) → hash_words f (map g xs) ≡ hash_words (λ x. f (g x)) xs
+hash_map : {A X Y : Type 0} (f : Y → List (WordOf A)) (g : X → Y) (xs : List X) → hash_words f (map g xs) ≡ hash_words (λ x. f (g x)) xs
 hash_map f g [] = refl
-hash_map f g (x ∷ xs) = ap (λ (ws : List Word). Fixed Hash ∷ Fixed ParenOpen ∷ ((f (g x) ++ ws) ++ Fixed ParenClose ∷ []))
+hash_map {A = A} f g (x ∷ xs) = ap (λ (ws : List (WordOf A)). Fixed Hash ∷ Fixed ParenOpen ∷ ((f (g x) ++ ws) ++ Fixed ParenClose ∷ []))
     (after_commas_map f g xs)
 
 pub exprs_commas : (xs : List Expr) → with_commas expr_words (map plain_expr xs) ≡ with_commas (λ x. expr_words (plain_expr x)) xs

@@ -3,7 +3,8 @@ use Rattle.std.proofs.Common.{◌≡◌, ℕ, List, ap, refl, ◌∙◌}
 use Rattle.std.specs.Prelude.{Box}
 use Rattle.std.specs.Global.{Global}
 use Rattle.vlog_tree.specs.Tree.{MoreExprs, ConcatPrim, RepeatPrim, MoreTargets, ConcatTarget, MoreStmts, BeginStmt, MoreArms, CaseStmt}
-use Rattle.vlog_tree.specs.Plain.{plain_expr, plain_prim, plain_row, plain_exprs, plain_target, plain_target_row, plain_targets, plain_stmt}
+use Rattle.vlog_tree.specs.Plain.{plain_expr, plain_prim, plain_row, plain_exprs, plain_target, plain_target_row, plain_targets}
+use Rattle.vlog_tree.specs.Plain.{plain_stmt}
 use Rattle.vlog_tree.specs.Plain.{plain_stmt_row, plain_stmts, plain_arm, plain_arm_row, plain_arms}
 use Rattle.vlog_tree.specs.declared.expr.Expr.{Expr}
 use Rattle.vlog_tree.specs.declared.expr.Primary as prim

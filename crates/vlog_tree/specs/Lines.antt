@@ -1,8 +1,10 @@
 -- The lines of first tokens, and trees with something else in the place of lines.
 use Rattle.std.specs.Prelude.{None, Some, option_map, map}
 use Rattle.vlog_tree.specs.Tree.{IdentOf, NumberOf, SignOf, ExprOf, UnaryExpr, BinaryExpr, ChoiceExpr, PrimOf, NumberPrim, RefPrim}
-use Rattle.vlog_tree.specs.Tree.{ParenPrim, ConcatPrim, RepeatPrim, RefOf, RefWith, IndexOf, NoIndex, Index, LastOf, NoLast, Last, SelOf, IndexSel}
-use Rattle.vlog_tree.specs.Tree.{PartSel, IndexedSel, ExprsOf, NoExprs, MoreExprs, TargetOf, RefTarget, ConcatTarget, TargetsOf, NoTargets}
+use Rattle.vlog_tree.specs.Tree.{ParenPrim, ConcatPrim, RepeatPrim, RefOf, RefWith, IndexOf, NoIndex, Index, LastOf, NoLast, Last, SelOf}
+use Rattle.vlog_tree.specs.Tree.{IndexSel}
+use Rattle.vlog_tree.specs.Tree.{PartSel, IndexedSel, ExprsOf, NoExprs, MoreExprs, TargetOf, RefTarget, ConcatTarget, TargetsOf}
+use Rattle.vlog_tree.specs.Tree.{NoTargets}
 use Rattle.vlog_tree.specs.Tree.{MoreTargets, StmtOf, BeginStmt, IfStmt, AssignStmt, BodyOf, StmtBody, EmptyBody, ElseOf, NoElse, Else}
 use Rattle.vlog_tree.specs.Tree.{StmtsOf, NoStmts, MoreStmts, RangeOf, PortHeadOf, PortOf, NamedValueOf, RegTailOf, InitTail, Reg1Of}
 use Rattle.vlog_tree.specs.Tree.{AssignOf, EventOf, PosedgeEvent, AlwaysOf, ItemOf, WiresItem, DrivenWiresItem, RegsItem, AssignItem}

@@ -1,11 +1,13 @@
 -- A tree of the code as plain data, without pointers, with its lines.
 use Rattle.std.specs.Prelude.{ℕ, List, option_map, map}
 use Rattle.vlog_tree.specs.Tree.{IdentOf, NumberOf, SignOf, ExprOf, UnaryExpr, BinaryExpr, ChoiceExpr, PrimOf, NumberPrim, RefPrim}
-use Rattle.vlog_tree.specs.Tree.{ParenPrim, ConcatPrim, RepeatPrim, RefOf, RefWith, IndexOf, NoIndex, Index, LastOf, NoLast, Last, SelOf, IndexSel}
+use Rattle.vlog_tree.specs.Tree.{ParenPrim, ConcatPrim, RepeatPrim, RefOf, RefWith, IndexOf, NoIndex, Index, LastOf, NoLast, Last, SelOf}
+use Rattle.vlog_tree.specs.Tree.{IndexSel}
 use Rattle.vlog_tree.specs.Tree.{PartSel, IndexedSel, ExprsOf, NoExprs, MoreExprs, exprs_of, TargetOf, RefTarget, ConcatTarget, TargetsOf}
 use Rattle.vlog_tree.specs.Tree.{NoTargets, MoreTargets, targets_of, StmtOf, BeginStmt, IfStmt, AssignStmt, BodyOf, StmtBody, EmptyBody}
 use Rattle.vlog_tree.specs.Tree.{ElseOf, NoElse, Else, StmtsOf, NoStmts, MoreStmts, stmts_of, RangeOf, PortHeadOf, PortOf, NamedValueOf}
-use Rattle.vlog_tree.specs.Tree.{RegTailOf, InitTail, Reg1Of, AssignOf, EventOf, PosedgeEvent, AlwaysOf, ItemOf, WiresItem, DrivenWiresItem}
+use Rattle.vlog_tree.specs.Tree.{RegTailOf, InitTail, Reg1Of, AssignOf, EventOf, PosedgeEvent, AlwaysOf, ItemOf, WiresItem}
+use Rattle.vlog_tree.specs.Tree.{DrivenWiresItem}
 use Rattle.vlog_tree.specs.Tree.{RegsItem, AssignItem, AlwaysItem, ModuleOf, FileOf}
 use Rattle.vlog_tree.specs.Tree.{CaseStmt, ArmOf, LabelsArm, DefaultArm, ArmsOf, NoArms, MoreArms, arms_of, ParameterHeadOf, ParameterOf}
 use Rattle.vlog_tree.specs.Tree.{MemoryTail, ImplicitEvent, ConnOf, InstanceOf, LocalparamsItem, InstanceItem}

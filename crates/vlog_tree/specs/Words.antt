@@ -1,4 +1,4 @@
--- The words of which a tree is spelled, and their tokens.
+-- The words of which a tree is spelled, with the lines that it keeps, and their tokens.
 use Rattle.std.specs.Prelude.{ℕ, List, codes, map}
 use Rattle.vlog_lex.specs.declared.token.Token.{Token}
 use Rattle.vlog_lex.specs.declared.token.TokenKind.{TokenKind}
@@ -12,7 +12,8 @@ use Rattle.vlog_tree.specs.declared.terminal.Terminal.TheVariants.{Posedge, Reg,
 use Rattle.vlog_tree.specs.declared.terminal.Terminal.TheVariants.{BraceOpen, BraceClose, Semicolon, Comma, Dot, Colon, Question, Hash}
 use Rattle.vlog_tree.specs.declared.terminal.Terminal.TheVariants.{At, Equals}
 use Rattle.vlog_tree.specs.declared.terminal.Terminal.TheVariants.{Plus, Minus, Star, Bang, Tilde, Ampersand, Bar, Caret, Less, Greater}
-use Rattle.vlog_tree.specs.declared.terminal.Terminal.TheVariants.{LessEquals, GreaterEquals, EqualsEquals, BangEquals, AmpersandAmpersand}
+use Rattle.vlog_tree.specs.declared.terminal.Terminal.TheVariants.{LessEquals, GreaterEquals, EqualsEquals, BangEquals}
+use Rattle.vlog_tree.specs.declared.terminal.Terminal.TheVariants.{AmpersandAmpersand}
 use Rattle.vlog_tree.specs.declared.terminal.Terminal.TheVariants.{BarBar, LessLess, GreaterGreater, LessLessLess, GreaterGreaterGreater}
 use Rattle.vlog_tree.specs.declared.terminal.Terminal.TheVariants.{TildeAmpersand, TildeBar, TildeCaret, CaretTilde, PlusColon}
 
@@ -100,17 +101,30 @@ abbrev pub number_kind : NumberKind → TokenKind
 number_kind number.Decimal = Decimal
 number_kind number.Based = Based
 
--- a token without its line
-pub data Word : Type 0 where
-  NameWord : List ℕ → Word
-  NumberWord : NumberKind → List ℕ → Word
-  Fixed : Terminal → Word
+-- a word of a tree; A is the type of what stands in the place of a line
+pub data WordOf (A : Type 0) : Type 0 where
+  -- words whose line no tree keeps
+  NameWord : List ℕ → WordOf A
+  Fixed : Terminal → WordOf A
+  -- words with their line
+  NameAt : List ℕ → A → WordOf A
+  NumberAt : NumberKind → List ℕ → A → WordOf A
+  FixedAt : Terminal → A → WordOf A
 
 -- its token; lines don't count, so it has line 0
-abbrev pub token_of : Word → Token
+abbrev pub token_of : {A : Type 0} → WordOf A → Token
 token_of (NameWord text) = record { kind = Identifier; text = text; line = 0 }
-token_of (NumberWord kind text) = record { kind = number_kind kind; text = text; line = 0 }
 token_of (Fixed t) = record { kind = terminal_kind t; text = terminal_text t; line = 0 }
+token_of (NameAt text line) = record { kind = Identifier; text = text; line = 0 }
+token_of (NumberAt kind text line) = record { kind = number_kind kind; text = text; line = 0 }
+token_of (FixedAt t line) = record { kind = terminal_kind t; text = terminal_text t; line = 0 }
 
-abbrev pub tokens_of : List Word → List Token
+abbrev pub tokens_of : {A : Type 0} → List (WordOf A) → List Token
 tokens_of words = map token_of words
+
+abbrev pub map_word : {A B : Type 0} → (A → B) → WordOf A → WordOf B
+map_word f (NameWord text) = NameWord text
+map_word f (Fixed t) = Fixed t
+map_word f (NameAt text line) = NameAt text (f line)
+map_word f (NumberAt kind text line) = NumberAt kind text (f line)
+map_word f (FixedAt t line) = FixedAt t (f line)

@@ -1,7 +1,7 @@
 //! The parts of lists spelled as tokens.
 
-ghost use Rattle.std.specs.Prelude.{◌≡◌, List, ◌++◌, OnOk, map};
-ghost use Rattle.vlog_tree.specs.Words.{Word, tokens_of};
+ghost use Rattle.std.specs.Prelude.{◌≡◌, ℕ, List, ◌++◌, OnOk, map};
+ghost use Rattle.vlog_tree.specs.Words.{WordOf, tokens_of};
 ghost use Rattle.vlog_tree.specs.Plain.{plain_expr};
 ghost use Rattle.vlog_tree.specs.Spelling.{with_commas, hash_words, expr_words};
 
@@ -16,7 +16,7 @@ use vlog_lex::Tokens;
 /// A part of a tree that stands in lists.
 pub trait Spelled {
     /// The words of which it is spelled.
-    ghost words: { Self → List Word };
+    ghost words: { Self → List (WordOf ℕ) };
 
     /// Adds its tokens.
     fn push(&self, alloc: Global, out: &mut Tokens) -> Result<(), Memory>

@@ -1,6 +1,6 @@
 //! Files, modules, ports and items spelled as tokens.
 
-ghost use Rattle.std.specs.Prelude.{◌≡◌, [], ◌∷◌, ◌++◌, OnOk, IfOk, option_map, map};
+ghost use Rattle.std.specs.Prelude.{◌≡◌, ℕ, [], ◌∷◌, ◌++◌, OnOk, IfOk, option_map, map};
 ghost use Rattle.vlog_tree.specs.Words.{NameWord, Fixed, tokens_of};
 ghost use Rattle.vlog_tree.specs.declared.terminal.Terminal.TheVariants as t;
 ghost use Rattle.vlog_tree.specs.Plain.{plain_ident, plain_range, plain_head, plain_port, plain_named, plain_tail, plain_reg, plain_assign};
@@ -60,7 +60,7 @@ fn push_init(alloc: Global, out: &mut Tokens, value: &Expr) -> Result<(), Memory
 }
 
 fn push_direction(alloc: Global, out: &mut Tokens, direction: Direction) -> Result<(), Memory>
-    ensures { OnOk result (out.new ≡ out.old ++ tokens_of (direction_words direction)) }
+    ensures { OnOk result (out.new ≡ out.old ++ tokens_of {A = ℕ} (direction_words direction)) }
 {
     match direction {
         Direction::Input { wire: false } => put_fixed(alloc, out, Terminal::Input),

@@ -1,6 +1,6 @@
 //! Targets, statements and blocks spelled as tokens.
 
-ghost use Rattle.std.specs.Prelude.{◌≡◌, [], ◌∷◌, ◌++◌, OnOk};
+ghost use Rattle.std.specs.Prelude.{◌≡◌, ℕ, [], ◌∷◌, ◌++◌, OnOk};
 ghost use Rattle.vlog_tree.specs.Words.{tokens_of};
 ghost use Rattle.vlog_tree.specs.Plain.{plain_target, plain_targets, plain_stmt, plain_stmts, plain_body, plain_arm, plain_arms};
 ghost use Rattle.vlog_tree.specs.Spelling.{assign_terminal, target_words, targets_words, stmt_words, stmts_words, body_words};
@@ -58,7 +58,7 @@ fn push_targets(alloc: Global, out: &mut Tokens, targets: &[Target]) -> Result<(
 }
 
 fn push_colon(alloc: Global, out: &mut Tokens, colon: bool) -> Result<(), Memory>
-    ensures { OnOk result (out.new ≡ out.old ++ tokens_of (colon_words colon)) }
+    ensures { OnOk result (out.new ≡ out.old ++ tokens_of {A = ℕ} (colon_words colon)) }
 {
     match colon {
         false => Ok(()),

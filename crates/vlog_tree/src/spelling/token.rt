@@ -1,7 +1,7 @@
 //! Single tokens written behind others.
 
-ghost use Rattle.std.specs.Prelude.{◌≡◌, [], ◌∷◌, ◌++◌, OnOk};
-ghost use Rattle.vlog_tree.specs.Words.{NameWord, NumberWord, Fixed, number_kind, tokens_of};
+ghost use Rattle.std.specs.Prelude.{◌≡◌, ℕ, [], ◌∷◌, ◌++◌, OnOk};
+ghost use Rattle.vlog_tree.specs.Words.{NameWord, Fixed, NumberAt, number_kind, tokens_of};
 
 use crate::expr::{Ident, Number, NumberKind};
 use crate::terminal::Terminal;
@@ -22,13 +22,13 @@ fn put(alloc: Global, out: &mut Tokens, kind: TokenKind, text: &[u8]) -> Result<
 }
 
 pub fn put_fixed(alloc: Global, out: &mut Tokens, terminal: Terminal) -> Result<(), Memory>
-    ensures { OnOk result (out.new ≡ out.old ++ tokens_of (Fixed terminal ∷ [])) }
+    ensures { OnOk result (out.new ≡ out.old ++ tokens_of {A = ℕ} (Fixed terminal ∷ [])) }
 {
     put(alloc, out, terminal.kind(), terminal.text())
 }
 
 pub fn put_name(alloc: Global, out: &mut Tokens, name: &Name) -> Result<(), Memory>
-    ensures { OnOk result (out.new ≡ out.old ++ tokens_of (NameWord name.now ∷ [])) }
+    ensures { OnOk result (out.new ≡ out.old ++ tokens_of {A = ℕ} (NameWord name.now ∷ [])) }
 {
     put(alloc, out, TokenKind::Identifier, name.as_slice())
 }
@@ -43,7 +43,7 @@ fn kind_of(kind: NumberKind) -> TokenKind
 }
 
 pub fn put_number(alloc: Global, out: &mut Tokens, number: &Number) -> Result<(), Memory>
-    ensures { OnOk result (out.new ≡ out.old ++ tokens_of (NumberWord number.now.kind number.now.text ∷ [])) }
+    ensures { OnOk result (out.new ≡ out.old ++ tokens_of (NumberAt number.now.kind number.now.text number.now.line ∷ [])) }
 {
     put(alloc, out, kind_of(number.kind), number.text.as_slice())
 }
