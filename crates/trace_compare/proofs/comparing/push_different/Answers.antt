@@ -23,7 +23,7 @@ returns c =
     let same = ap (λ (xs : List ℕ). differing_at channels k a b xs c.args.in_b.now) c.requires.in_a
     ∙ ap (λ (ys : List ℕ). differing_at channels k a b (places Start k a) ys) c.requires.in_b ∙ differing-same channels k a b in
     let is : IsTally marks c.different_starts-tally.result =
-        subst (λ (ms : List Bool). IsTally ms c.different_starts-tally.result) same at in
+    subst (λ (ms : List Bool). IsTally ms c.different_starts-tally.result) same at in
     subst (λ (fs : List Finding). OnOk c.push_if.result (c.push_if.new.report ≡ c.args.report.now ++ fs))
     (found-first marks c.different_starts-tally.result k Differs is) c.push_if.ensures
 
