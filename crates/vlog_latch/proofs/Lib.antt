@@ -1,0 +1,4 @@
+pub mod SomeBit
+pub mod OneMask
+pub mod Least
+pub mod Found

@@ -1,0 +1,74 @@
+//! Whether a block's code leaves bits as they are on some path.
+
+ghost use Rattle.std.specs.Prelude.{◌≡◌, ℕ, length};
+ghost use Rattle.net_design.specs.declared.act.Timing.TheVariants.{Blocking};
+ghost use Rattle.net_design.specs.Sized.{IsSizedBlock};
+ghost use Rattle.net_design.specs.Bits.{BitSet, block_writes, block_adds, block_reads, HasBits};
+ghost use Rattle.net_code.specs.BitMap.{in_map};
+ghost use Rattle.vlog_latch.specs.Latch.{latches, Answers};
+ghost use Rattle.vlog_latch.specs.Masks.{is_mask_latched, lesser, least_net};
+
+use crate::error::BlockError;
+use net_code::{BitMap, surely_assigned};
+use net_design::{Code, Mask};
+use std::alloc::Global;
+use vidi_bits::copied;
+use vlog_size::Scope;
+
+/// Whether bits of a mask that are written aren't surely assigned, or some are written and bits of their net are read.
+fn is_latched(mask: Mask, sure: &BitMap, reads: &BitMap) -> bool
+    ensures { result ≡ is_mask_latched (in_map sure.now) (in_map reads.now) mask }
+{
+    let missed = mask.bits & !sure.mask(mask.net);
+    missed != 0 || (mask.bits != 0 && reads.mask(mask.net) != 0)
+}
+
+/// The lesser of a net and that of a mask by whose bits E9 holds.
+#[tactic(auto, unfolding(crate::specs::Masks::lesser))]
+fn lesser(mask: Mask, least: usize, sure: &BitMap, reads: &BitMap) -> usize
+    ensures { result ≡ lesser (in_map sure.now) (in_map reads.now) mask least }
+{
+    if mask.net < least && is_latched(mask, sure, reads) {
+        mask.net
+    } else {
+        least
+    }
+}
+
+/// The first of the first `count` nets at which E9 holds, and `count` where there is none.
+fn first_net(masks: &[Mask], count: usize, sure: &BitMap, reads: &BitMap) -> usize
+    ensures { result ≡ least_net (in_map sure.now) (in_map reads.now) masks.now count }
+{
+    let mut least = count;
+    for mask in masks {
+        least = lesser(*mask, least, sure, reads);
+    }
+    least
+}
+
+/// Tries E9 of the code of an `always @*` whose `always` stands on this line: the code writes these bits, surely assigns those, and
+/// reads those before it has surely assigned them. Each mask of the code is looked at once.
+///
+/// By condition the masks of the code name its bits, and its widths and places can be evaluated.
+///
+/// # Errors
+///
+/// `Latch`, with the net declared first of those at which E9 holds, exactly where it holds at one; `Memory`.
+pub fn latch(alloc: Global, line: u32, code: &Code, scope: &Scope) -> Result<(), BlockError>
+    requires bits { HasBits Blocking code.now }
+    requires sized { IsSizedBlock code.now.acts }
+    ensures { (writes adds reads : BitSet) → ((m k : ℕ) → block_writes code.now.acts m k ≡ writes m k)
+        → ((m k : ℕ) → block_adds code.now.acts m k ≡ adds m k) → ((m k : ℕ) → block_reads Blocking code.now.acts m k ≡ reads m k)
+        → Answers result (latches writes adds reads line scope.now.nets) }
+{
+    let sure = surely_assigned(alloc, &code.acts)?;
+    let reads = BitMap::of_masks(alloc, code.reads.as_slice())?;
+    let least = first_net(code.writes.as_slice(), scope.nets.len(), &sure, &reads);
+    match scope.nets.name_at(least) {
+        None => Ok(()),
+        Some(name) => {
+            let name = copied(alloc, name)?;
+            Err(BlockError::Latch { name, line })
+        }
+    }
+}
