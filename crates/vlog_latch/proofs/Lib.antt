@@ -2,3 +2,4 @@ pub mod SomeBit
 pub mod OneMask
 pub mod Least
 pub mod Found
+pub mod Answered

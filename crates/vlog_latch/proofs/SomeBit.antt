@@ -76,7 +76,8 @@ no_bits_left x k l h = ⊎_elim
 some_cases : (x : ℕ) (b c : Bool) → x < 2 ^ 128 → some_bit (has x) ≡ b → (x == 0) ≡ c → b ≡ not c
 some_cases x true true l h e =
     let z : x ≡ 0 = eqb-true x 0 e in
-    let none : some_bit (has x) ≡ false = some_same (has x) (λ k. false) (λ k. ap (λ n. has n k) z ∙ ap (λ n. n == 1) (bit_at-zero k)) ∙ some_none in
+    let none : some_bit (has x) ≡ false =
+    some_same (has x) (λ k. false) (λ k. ap (λ n. has n k) z ∙ ap (λ n. n == 1) (bit_at-zero k)) ∙ some_none in
     absurd (cc)
 some_cases x true false l h e = refl
 some_cases x false true l h e = refl

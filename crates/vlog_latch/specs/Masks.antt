@@ -5,14 +5,14 @@ use Rattle.net_design.specs.declared.act.Mask.{Mask}
 use Rattle.net_design.specs.Bits.{BitSet}
 use Rattle.vlog_latch.specs.Latch.{some_bit}
 
--- whether E9 holds by the bits of one mask
-unfoldable pub is_mask_latched : BitSet → BitSet → Mask → Bool
-is_mask_latched adds reads x =
-    some_bit (λ k. has x.bits k && not (adds x.net k)) || (some_bit (λ k. has x.bits k) && some_bit (λ k. reads x.net k))
+-- whether E9 holds by bits of a net that are written
+unfoldable pub is_mask_latched : BitSet → BitSet → ℕ → ℕ → Bool
+is_mask_latched adds reads net bits =
+    some_bit (λ k. has bits k && not (adds net k)) || (some_bit (λ k. has bits k) && some_bit (λ k. reads net k))
 
 -- the lesser of a net and that of a mask by whose bits E9 holds
 unfoldable pub lesser : BitSet → BitSet → Mask → ℕ → ℕ
-lesser adds reads x least = if nat_lt x.net least && is_mask_latched adds reads x then x.net else least
+lesser adds reads x least = if nat_lt x.net least && is_mask_latched adds reads x.net x.bits then x.net else least
 
 abbrev pub least_net : BitSet → BitSet → List Mask → ℕ → ℕ
 least_net adds reads [] least = least

@@ -4,8 +4,8 @@
 //! `specs/Latch` has the findings of a block, in the order in which the nets are declared.
 #![tactic(auto)]
 
+mod code;
 mod error;
-mod latch;
 
+pub use code::latch;
 pub use error::BlockError;
-pub use latch::latch;

@@ -15,12 +15,13 @@ use std::alloc::Global;
 use vidi_bits::copied;
 use vlog_size::Scope;
 
-/// Whether bits of a mask that are written aren't surely assigned, or some are written and bits of their net are read.
-fn is_latched(mask: Mask, sure: &BitMap, reads: &BitMap) -> bool
-    ensures { result ≡ is_mask_latched (in_map sure.now) (in_map reads.now) mask }
+/// Whether some of these bits of a net, which are written, aren't surely assigned, or there are some and bits of the net are read.
+fn is_latched(net: usize, bits: u128, sure: &BitMap, reads: &BitMap) -> bool
+    ensures { result ≡ is_mask_latched (in_map sure.now) (in_map reads.now) net bits }
 {
-    let missed = mask.bits & !sure.mask(mask.net);
-    missed != 0 || (mask.bits != 0 && reads.mask(mask.net) != 0)
+    let missed = bits & !sure.mask(net);
+    let read = reads.mask(net);
+    missed != 0 || (bits != 0 && read != 0)
 }
 
 /// The lesser of a net and that of a mask by whose bits E9 holds.
@@ -28,7 +29,7 @@ fn is_latched(mask: Mask, sure: &BitMap, reads: &BitMap) -> bool
 fn lesser(mask: Mask, least: usize, sure: &BitMap, reads: &BitMap) -> usize
     ensures { result ≡ lesser (in_map sure.now) (in_map reads.now) mask least }
 {
-    if mask.net < least && is_latched(mask, sure, reads) {
+    if mask.net < least && is_latched(mask.net, mask.bits, sure, reads) {
         mask.net
     } else {
         least

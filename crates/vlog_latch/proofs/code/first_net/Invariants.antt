@@ -1,7 +1,7 @@
 use Rattle.std.proofs.Common.{◌≡◌, drop}
 use Rattle.net_code.specs.BitMap.{in_map}
 use Rattle.vlog_latch.specs.Masks.{least_net}
-use Rattle.vlog_latch.proofs.latch.first_net.Given as goal
+use Rattle.vlog_latch.proofs.code.first_net.Given as goal
 
 abbrev pub invariant-loop-mask : goal.invariant-loop-mask
 invariant-loop-mask l =
