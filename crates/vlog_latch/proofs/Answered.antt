@@ -1,5 +1,5 @@
 -- The first net at which E9 holds, by a code's masks.
-use Rattle.std.proofs.Common.{◌≡◌, ℕ, Bool, false, List, length, refl, ap, sym, subst, ◌∙◌}
+use Rattle.std.proofs.Common.{◌≡◌, ℕ, false, List, length, ap, sym, subst, ◌∙◌}
 use mathlib.Core.Path.{fun_ext}
 use Rattle.vlog_size.specs.declared.scope.ScopeNet.{ScopeNet}
 use Rattle.vlog_size.specs.Table.{Named}

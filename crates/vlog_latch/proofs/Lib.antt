@@ -3,3 +3,5 @@ pub mod OneMask
 pub mod Least
 pub mod Found
 pub mod Answered
+pub mod Means
+pub mod Shown

@@ -1,12 +1,12 @@
 -- Sets of bits of one net that have a bit.
-use Rattle.std.proofs.Common.{◌≡◌, ℕ, zero, suc, ◌^◌, ◌<◌, ◌≤◌, ◌==◌, ◌&&◌, ◌||◌, not, Bool, true, false, refl, ap, sym, ◌∙◌, ⊎_elim}
+use Rattle.std.proofs.Common.{◌≡◌, ℕ, zero, suc, ◌^◌, ◌<◌, ◌≤◌, ◌==◌, ◌||◌, not, Bool, true, false, refl, ap, sym, ◌∙◌, ⊎_elim}
 use Rattle.std.proofs.Common.{arith}
 use Rattle.std.specs.Int.{bit_at}
 use Rattle.std.proofs.lemmas.Bool.{cases_lt, eqb-true, eq-eqb}
 use Rattle.std.proofs.lemmas.Nat.Bits.{bit_at-zero, bit_at-lt, bit_at_above, same_from_bits}
 use mathlib.Core.Path.{fun_ext}
 use Rattle.vlog_operators.specs.Number.{has}
-use Rattle.net_design.proofs.BoolLaws.{by_true, or_parts}
+use Rattle.net_design.proofs.BoolLaws.{by_true}
 use Rattle.vlog_latch.specs.Latch.{any_below, some_bit}
 
 -- ---- the first n bits
@@ -39,6 +39,12 @@ any_has (suc n) p k l h = ⊎_elim
 any_lacks : (n : ℕ) (p : ℕ → Bool) → any_below n p ≡ false → (k : ℕ) → k < n → p k ≡ false
 any_lacks n p h k l = by_true (p k) (λ t. let y : any_below n p ≡ true = any_has n p k l t in absurd (cc))
 
+any_no : (n : ℕ) (p : ℕ → Bool) → ((k : ℕ) → k < n → p k ≡ false) → any_below n p ≡ false
+any_no zero p h = refl
+any_no (suc n) p h =
+    let last : n < suc n = omega arith in
+    ap (λ b. b || p n) (any_no n p (λ k l. h k (omega (arith, l)))) ∙ h n last
+
 -- ---- all bits of a net
 
 pub some_or : (p q : ℕ → Bool) → some_bit (λ k. p k || q k) ≡ (some_bit p || some_bit q)
@@ -59,6 +65,10 @@ some_has p k l h = any_has 128 p k l h
 pub some_lacks : (p : ℕ → Bool) → some_bit p ≡ false → (k : ℕ) → k < 128 → p k ≡ false
 unfolding some_bit
 some_lacks p h k l = any_lacks 128 p h k l
+
+pub some_no : (p : ℕ → Bool) → ((k : ℕ) → k < 128 → p k ≡ false) → some_bit p ≡ false
+unfolding some_bit
+some_no p h = any_no 128 p h
 
 -- ---- the bits of a mask
 

@@ -1,11 +1,14 @@
 //! Whether a block's code leaves bits as they are on some path.
 
 ghost use Rattle.std.specs.Prelude.{◌≡◌, ℕ, length};
+ghost use Rattle.vlog_tree.specs.Plain.{plain_always};
 ghost use Rattle.net_design.specs.declared.act.Timing.TheVariants.{Blocking};
 ghost use Rattle.net_design.specs.Sized.{IsSizedBlock};
 ghost use Rattle.net_design.specs.Bits.{BitSet, block_writes, block_adds, block_reads, HasBits};
 ghost use Rattle.net_code.specs.BitMap.{in_map};
+ghost use Rattle.vlog_block.specs.Sources.{names_of};
 ghost use Rattle.vlog_latch.specs.Latch.{latches, Answers};
+ghost use Rattle.vlog_latch.specs.Blocks.{block_latches, IsCodeOf};
 ghost use Rattle.vlog_latch.specs.Masks.{is_mask_latched, lesser, least_net};
 
 use crate::error::BlockError;
@@ -14,6 +17,7 @@ use net_design::{Code, Mask};
 use std::alloc::Global;
 use vidi_bits::copied;
 use vlog_size::Scope;
+use vlog_tree::{Always, Event};
 
 /// Whether some of these bits of a net, which are written, aren't surely assigned, or there are some and bits of the net are read.
 fn is_latched(net: usize, bits: u128, sure: &BitMap, reads: &BitMap) -> bool
@@ -55,7 +59,7 @@ fn first_net(masks: &[Mask], count: usize, sure: &BitMap, reads: &BitMap) -> usi
 /// # Errors
 ///
 /// `Latch`, with the net declared first of those at which E9 holds, exactly where it holds at one; `Memory`.
-pub fn latch(alloc: Global, line: u32, code: &Code, scope: &Scope) -> Result<(), BlockError>
+pub fn code_latch(alloc: Global, line: u32, code: &Code, scope: &Scope) -> Result<(), BlockError>
     requires bits { HasBits Blocking code.now }
     requires sized { IsSizedBlock code.now.acts }
     ensures { (writes adds reads : BitSet) → ((m k : ℕ) → block_writes code.now.acts m k ≡ writes m k)
@@ -71,5 +75,24 @@ pub fn latch(alloc: Global, line: u32, code: &Code, scope: &Scope) -> Result<(),
             let name = copied(alloc, name)?;
             Err(BlockError::Latch { name, line })
         }
+    }
+}
+
+/// Tries E9 of an always block, whose code this is (IEEE 1364-2005, 9.7.5 and 9.9.2; this project's profile). It doesn't hold of a
+/// clocked block.
+///
+/// By condition the code can be evaluated, and its bits are the block's.
+///
+/// # Errors
+///
+/// `Latch`, with the line of `always` and the net declared first of those at which E9 holds, exactly where it holds at one; `Memory`.
+pub fn latch(alloc: Global, b: &Always, code: &Code, scope: &Scope) -> Result<(), BlockError>
+    requires bits { IsCodeOf (names_of scope.now) (plain_always b.now) code.now }
+    requires sized { IsSizedBlock code.now.acts }
+    ensures { Answers result (block_latches (names_of scope.now) (plain_always b.now)) }
+{
+    match &b.event {
+        Event::Posedge(_) => Ok(()),
+        Event::Implicit { .. } => code_latch(alloc, b.line, code, scope),
     }
 }

@@ -6,6 +6,8 @@
 
 mod code;
 mod error;
+mod laws;
 
-pub use code::latch;
+pub use code::{code_latch, latch};
 pub use error::BlockError;
+pub use laws::{latches_shown, no_latch_is_whole, no_latch_means};

@@ -2,7 +2,7 @@ use Rattle.std.proofs.Common.{ap, sym, ◌∙◌, Some}
 use Rattle.vlog_latch.specs.Latch.{is_latched}
 use Rattle.vlog_latch.proofs.Found.{none_found, one_found}
 use Rattle.vlog_latch.proofs.Answered.{is_least}
-use Rattle.vlog_latch.proofs.code.latch.Goals as goal
+use Rattle.vlog_latch.proofs.code.code_latch.Goals as goal
 
 pub returns-in-None : goal.returns-in-None
 returns-in-None c = λ writes adds reads w s r.

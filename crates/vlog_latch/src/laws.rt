@@ -1,0 +1,51 @@
+//! Laws of the definitions, as contracts of functions that do nothing.
+
+ghost use Rattle.std.specs.Prelude.{◌≡◌, ℕ, ◌<◌, true, false, List, [], ◌∷◌, length};
+ghost use Rattle.vlog_size.specs.declared.scope.ScopeNet.{ScopeNet};
+ghost use Rattle.vlog_size.specs.Table.{Named};
+ghost use Rattle.net_design.specs.declared.act.Code.{Code};
+ghost use Rattle.net_design.specs.declared.act.Timing.TheVariants.{Blocking};
+ghost use Rattle.net_design.specs.Bits.{BitSet, named, block_writes, block_adds, block_reads, HasBits};
+ghost use Rattle.vlog_latch.specs.declared.error.BlockError.TheVariants.{Latch};
+ghost use Rattle.vlog_latch.specs.Latch.{latches};
+ghost use Rattle.vlog_latch.specs.Blocks.{block_latches};
+ghost use Rattle.vlog_latch.specs.Examples.{scope, always, no_else, mended, with_else, other_bit_read, read_after, two_nets};
+ghost use Rattle.vlog_latch.specs.Examples.{at_run_time, whole_before, index_read, no_default, with_default, label_read};
+
+/// Where nothing is found of an `always @*` that writes bits of the nets alone, each bit that its code's masks say is written is
+/// surely assigned, and is none that they say is read: this is what a lawful design asks of a driver's `whole` and `own` bits.
+pub fn no_latch_is_whole()
+    ensures whole { (code : Code) (line : ℕ) (nets : List (Named ScopeNet)) → HasBits Blocking code
+        → ((m k : ℕ) → named code.writes m k ≡ true → (m < length nets) × (k < 128))
+        → latches (block_writes code.acts) (block_adds code.acts) (block_reads Blocking code.acts) line nets ≡ []
+        → (m k : ℕ) → named code.writes m k ≡ true → block_adds code.acts m k ≡ true }
+    ensures own { (code : Code) (line : ℕ) (nets : List (Named ScopeNet)) → HasBits Blocking code
+        → ((m k : ℕ) → named code.writes m k ≡ true → (m < length nets) × (k < 128))
+        → latches (block_writes code.acts) (block_adds code.acts) (block_reads Blocking code.acts) line nets ≡ []
+        → (m k : ℕ) → named code.writes m k ≡ true → named code.reads m k ≡ false }
+{}
+
+/// Where nothing is found, a bit that is written is surely assigned, and no bit of its net is read before; and the other way round.
+pub fn no_latch_means()
+    ensures found { (writes adds reads : BitSet) (line : ℕ) (nets : List (Named ScopeNet)) → latches writes adds reads line nets ≡ []
+        → (m k j : ℕ) → m < length nets → k < 128 → j < 128 → writes m k ≡ true → (adds m k ≡ true) × (reads m j ≡ false) }
+    ensures none { (writes adds reads : BitSet) (line : ℕ) (nets : List (Named ScopeNet))
+        → ((m k j : ℕ) → m < length nets → k < 128 → j < 128 → writes m k ≡ true → (adds m k ≡ true) × (reads m j ≡ false))
+        → latches writes adds reads line nets ≡ [] }
+{}
+
+/// The findings of small blocks.
+pub fn latches_shown()
+    ensures no_else { block_latches scope (always no_else) ≡ Latch (122 ∷ []) 2 ∷ [] }
+    ensures mended { block_latches scope (always mended) ≡ [] }
+    ensures with_else { block_latches scope (always with_else) ≡ [] }
+    ensures other_bit_read { block_latches scope (always other_bit_read) ≡ Latch (121 ∷ []) 2 ∷ [] }
+    ensures read_after { block_latches scope (always read_after) ≡ [] }
+    ensures two_nets { block_latches scope (always two_nets) ≡ Latch (121 ∷ []) 2 ∷ Latch (122 ∷ []) 2 ∷ [] }
+    ensures at_run_time { block_latches scope (always at_run_time) ≡ Latch (121 ∷ []) 2 ∷ [] }
+    ensures whole_before { block_latches scope (always whole_before) ≡ [] }
+    ensures index_read { block_latches scope (always index_read) ≡ Latch (122 ∷ []) 2 ∷ [] }
+    ensures no_default { block_latches scope (always no_default) ≡ Latch (122 ∷ []) 2 ∷ [] }
+    ensures with_default { block_latches scope (always with_default) ≡ [] }
+    ensures label_read { block_latches scope (always label_read) ≡ Latch (122 ∷ []) 2 ∷ [] }
+{}
