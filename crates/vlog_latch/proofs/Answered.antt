@@ -5,8 +5,7 @@ use Rattle.vlog_size.specs.declared.scope.ScopeNet.{ScopeNet}
 use Rattle.vlog_size.specs.Table.{Named}
 use Rattle.net_design.specs.declared.act.Code.{Code}
 use Rattle.net_design.specs.declared.act.Mask.{Mask}
-use Rattle.net_design.specs.declared.act.Timing.TheVariants.{Blocking}
-use Rattle.net_design.specs.Bits.{BitSet, named, block_writes, block_adds, block_reads, HasBits}
+use Rattle.net_design.specs.Bits.{BitSet, named, block_adds}
 use Rattle.net_code.specs.declared.bit_map.BitMap.{BitMap}
 use Rattle.net_code.specs.BitMap.{in_map}
 use Rattle.vlog_latch.specs.Latch.{is_latched}
@@ -31,16 +30,16 @@ least_latched writes adds reads masks sure early count w s r =
 
 -- what the code answers of a block, in the words of its bits
 pub is_least : (code : Code) (sure early : BitMap) (masks given : List Mask) (count n : ℕ) (nets : List (Named ScopeNet))
-    → HasBits Blocking code → masks ≡ code.writes → given ≡ code.reads → count ≡ length nets
+    → masks ≡ code.writes → given ≡ code.reads → count ≡ length nets
     → ((m k : ℕ) → in_map sure m k ≡ block_adds code.acts m k) → ((m k : ℕ) → in_map early m k ≡ named given m k)
     → n ≡ least_net (in_map sure) (in_map early) masks count
-    → (writes adds reads : BitSet) → ((m k : ℕ) → block_writes code.acts m k ≡ writes m k)
-    → ((m k : ℕ) → block_adds code.acts m k ≡ adds m k) → ((m k : ℕ) → block_reads Blocking code.acts m k ≡ reads m k)
+    → (writes adds reads : BitSet) → ((m k : ℕ) → named code.writes m k ≡ writes m k)
+    → ((m k : ℕ) → block_adds code.acts m k ≡ adds m k) → ((m k : ℕ) → named code.reads m k ≡ reads m k)
     → IsLeast (is_latched writes adds reads) (length nets) n
-is_least code sure early masks given count n nets bits ew er ec hs he hn writes adds reads w s r =
+is_least code sure early masks given count n nets ew er ec hs he hn writes adds reads w s r =
     subst (λ c. IsLeast (is_latched writes adds reads) c n) ec
     (subst (λ k. IsLeast (is_latched writes adds reads) count k) (sym hn)
     (least_latched writes adds reads masks sure early count
-    (λ m k. ap (λ xs. named xs m k) ew ∙ bits.writes m k ∙ w m k)
+    (λ m k. ap (λ xs. named xs m k) ew ∙ w m k)
     (λ m k. hs m k ∙ s m k)
-    (λ m k. he m k ∙ ap (λ xs. named xs m k) er ∙ bits.reads m k ∙ r m k)))
+    (λ m k. he m k ∙ ap (λ xs. named xs m k) er ∙ r m k)))

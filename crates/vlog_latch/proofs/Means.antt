@@ -6,7 +6,12 @@ use Rattle.vlog_size.specs.declared.scope.ScopeNet.{ScopeNet}
 use Rattle.vlog_size.specs.Table.{Named}
 use Rattle.net_design.specs.declared.act.Code.{Code}
 use Rattle.net_design.specs.declared.act.Timing.TheVariants.{Blocking}
-use Rattle.net_design.specs.Bits.{BitSet, named, block_writes, block_adds, block_reads, HasBits}
+use Rattle.net_design.specs.Bits.{BitSet, named, block_adds}
+use Rattle.vlog_tree.specs.Tree.{EventOf, PosedgeEvent, ImplicitEvent, AlwaysOf}
+use Rattle.vlog_size.specs.Names.{Readable}
+use Rattle.vlog_block.specs.Updates.{timing_of}
+use Rattle.vlog_block.specs.Written.{always_writes, always_adds, always_reads}
+use Rattle.vlog_latch.specs.Blocks.{of_implicit, block_latches, IsCodeOf}
 use Rattle.net_design.proofs.BoolLaws.{by_true, or_parts}
 use Rattle.vlog_latch.specs.declared.error.BlockError.{BlockError}
 use Rattle.vlog_latch.specs.declared.error.BlockError.TheVariants as error
@@ -88,20 +93,23 @@ module _ (writes adds reads : BitSet) (line : ℕ) (nets : List (Named ScopeNet)
   none h = none_from (is_latched writes adds reads) line nets 0 (λ m l.
       let b : m < length nets = omega (arith, l) in no_net m (λ k j lk lj t. h m k j b lk lj t))
 
--- ---- a code's masks
+-- ---- a block's code
 
-module _ (code : Code) (line : ℕ) (nets : List (Named ScopeNet)) (bits : HasBits Blocking code)
-    (within : (m k : ℕ) → named code.writes m k ≡ true → (m < length nets) × (k < 128))
-    (empty : latches (block_writes code.acts) (block_adds code.acts) (block_reads Blocking code.acts) line nets ≡ []) where
-  pub whole : (m k : ℕ) → named code.writes m k ≡ true → block_adds code.acts m k ≡ true
-  whole m k t =
+module _ (r : Readable) (a : AlwaysOf ℕ) (code : Code) (bits : IsCodeOf r a code) (implicit : timing_of a.event ≡ Blocking)
+    (empty : block_latches r a ≡ []) (within : (m k : ℕ) → named code.writes m k ≡ true → (m < length r.nets) × (k < 128)) where
+  none_there : (e : EventOf ℕ) (found : List BlockError) → timing_of e ≡ Blocking → of_implicit e found ≡ [] → found ≡ []
+  none_there (PosedgeEvent clock) found t h = absurd (cc)
+  none_there (ImplicitEvent parens) found t h = h
+
+  of_bit : (m k : ℕ) → named code.writes m k ≡ true → (always_adds r a m k ≡ true) × (always_reads r a m k ≡ false)
+  of_bit m k t =
       let b = within m k t in
-      (found (block_writes code.acts) (block_adds code.acts) (block_reads Blocking code.acts) line nets empty m k k b.0 b.1 b.1
-      (sym (bits.writes m k) ∙ t)).0
+      found (always_writes r a) (always_adds r a) (always_reads r a) a.line r.nets
+      (none_there a.event (latches (always_writes r a) (always_adds r a) (always_reads r a) a.line r.nets) implicit empty) m k k b.0 b.1 b.1
+      (sym (bits.writes m k) ∙ t)
+
+  pub whole : (m k : ℕ) → named code.writes m k ≡ true → block_adds code.acts m k ≡ true
+  whole m k t = bits.adds m k ∙ (of_bit m k t).0
 
   pub own : (m k : ℕ) → named code.writes m k ≡ true → named code.reads m k ≡ false
-  own m k t =
-      let b = within m k t in
-      bits.reads m k
-      ∙ (found (block_writes code.acts) (block_adds code.acts) (block_reads Blocking code.acts) line nets empty m k k b.0 b.1 b.1
-      (sym (bits.writes m k) ∙ t)).1
+  own m k t = bits.reads m k ∙ (of_bit m k t).1

@@ -3,8 +3,7 @@ use Rattle.std.specs.Prelude.{◌≡◌, ℕ, List, []}
 use Rattle.vlog_tree.specs.Tree.{EventOf, PosedgeEvent, ImplicitEvent, AlwaysOf}
 use Rattle.vlog_size.specs.Names.{Readable}
 use Rattle.net_design.specs.declared.act.Code.{Code}
-use Rattle.net_design.specs.Bits.{HasBits, block_writes, block_adds, block_reads}
-use Rattle.vlog_block.specs.Updates.{timing_of}
+use Rattle.net_design.specs.Bits.{named, block_adds}
 use Rattle.vlog_block.specs.Written.{always_writes, always_adds, always_reads}
 use Rattle.vlog_latch.specs.declared.error.BlockError.{BlockError}
 use Rattle.vlog_latch.specs.Latch.{latches}
@@ -18,9 +17,8 @@ of_implicit (ImplicitEvent parens) found = found
 abbrev pub block_latches : Readable → AlwaysOf ℕ → List BlockError
 block_latches r a = of_implicit a.event (latches (always_writes r a) (always_adds r a) (always_reads r a) a.line r.nets)
 
--- the code's statements write, surely assign and read the block's bits, and its masks name them
+-- the code's masks name the bits that the block may write and those that it reads, and its statements surely assign the block's
 pub record IsCodeOf (r : Readable) (a : AlwaysOf ℕ) (c : Code) : Type 0 where
-  pub masks : HasBits (timing_of a.event) c
-  pub writes : (m k : ℕ) → block_writes c.acts m k ≡ always_writes r a m k
+  pub writes : (m k : ℕ) → named c.writes m k ≡ always_writes r a m k
   pub adds : (m k : ℕ) → block_adds c.acts m k ≡ always_adds r a m k
-  pub reads : (m k : ℕ) → block_reads (timing_of a.event) c.acts m k ≡ always_reads r a m k
+  pub reads : (m k : ℕ) → named c.reads m k ≡ always_reads r a m k

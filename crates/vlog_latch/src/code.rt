@@ -2,9 +2,8 @@
 
 ghost use Rattle.std.specs.Prelude.{◌≡◌, ℕ, length};
 ghost use Rattle.vlog_tree.specs.Plain.{plain_always};
-ghost use Rattle.net_design.specs.declared.act.Timing.TheVariants.{Blocking};
 ghost use Rattle.net_design.specs.Sized.{IsSizedBlock};
-ghost use Rattle.net_design.specs.Bits.{BitSet, block_writes, block_adds, block_reads, HasBits};
+ghost use Rattle.net_design.specs.Bits.{BitSet, named, block_adds};
 ghost use Rattle.net_code.specs.BitMap.{in_map};
 ghost use Rattle.vlog_block.specs.Sources.{names_of};
 ghost use Rattle.vlog_latch.specs.Latch.{latches, Answers};
@@ -51,19 +50,18 @@ fn first_net(masks: &[Mask], count: usize, sure: &BitMap, reads: &BitMap) -> usi
     least
 }
 
-/// Tries E9 of the code of an `always @*` whose `always` stands on this line: the code writes these bits, surely assigns those, and
-/// reads those before it has surely assigned them. Each mask of the code is looked at once.
+/// Tries E9 of the code of an `always @*` whose `always` stands on this line: its masks name the bits that it writes and those that
+/// it reads before it has surely assigned them. Each mask is looked at once.
 ///
-/// By condition the masks of the code name its bits, and its widths and places can be evaluated.
+/// By condition its widths and places can be evaluated.
 ///
 /// # Errors
 ///
 /// `Latch`, with the net declared first of those at which E9 holds, exactly where it holds at one; `Memory`.
 pub fn code_latch(alloc: Global, line: u32, code: &Code, scope: &Scope) -> Result<(), BlockError>
-    requires bits { HasBits Blocking code.now }
-    requires sized { IsSizedBlock code.now.acts }
-    ensures { (writes adds reads : BitSet) → ((m k : ℕ) → block_writes code.now.acts m k ≡ writes m k)
-        → ((m k : ℕ) → block_adds code.now.acts m k ≡ adds m k) → ((m k : ℕ) → block_reads Blocking code.now.acts m k ≡ reads m k)
+    requires { IsSizedBlock code.now.acts }
+    ensures { (writes adds reads : BitSet) → ((m k : ℕ) → named code.now.writes m k ≡ writes m k)
+        → ((m k : ℕ) → block_adds code.now.acts m k ≡ adds m k) → ((m k : ℕ) → named code.now.reads m k ≡ reads m k)
         → Answers result (latches writes adds reads line scope.now.nets) }
 {
     let sure = surely_assigned(alloc, &code.acts)?;
@@ -81,7 +79,7 @@ pub fn code_latch(alloc: Global, line: u32, code: &Code, scope: &Scope) -> Resul
 /// Tries E9 of an always block, whose code this is (IEEE 1364-2005, 9.7.5 and 9.9.2; this project's profile). It doesn't hold of a
 /// clocked block.
 ///
-/// By condition the code can be evaluated, and its bits are the block's.
+/// By condition its widths and places can be evaluated, and its bits are the block's.
 ///
 /// # Errors
 ///

@@ -1,27 +1,28 @@
 //! Laws of the definitions, as contracts of functions that do nothing.
 
 ghost use Rattle.std.specs.Prelude.{◌≡◌, ℕ, ◌<◌, true, false, List, [], ◌∷◌, length};
+ghost use Rattle.vlog_tree.specs.Tree.{AlwaysOf};
+ghost use Rattle.vlog_size.specs.Names.{Readable};
 ghost use Rattle.vlog_size.specs.declared.scope.ScopeNet.{ScopeNet};
 ghost use Rattle.vlog_size.specs.Table.{Named};
 ghost use Rattle.net_design.specs.declared.act.Code.{Code};
 ghost use Rattle.net_design.specs.declared.act.Timing.TheVariants.{Blocking};
-ghost use Rattle.net_design.specs.Bits.{BitSet, named, block_writes, block_adds, block_reads, HasBits};
+ghost use Rattle.net_design.specs.Bits.{BitSet, named, block_adds};
+ghost use Rattle.vlog_block.specs.Updates.{timing_of};
 ghost use Rattle.vlog_latch.specs.declared.error.BlockError.TheVariants.{Latch};
 ghost use Rattle.vlog_latch.specs.Latch.{latches};
-ghost use Rattle.vlog_latch.specs.Blocks.{block_latches};
+ghost use Rattle.vlog_latch.specs.Blocks.{block_latches, IsCodeOf};
 ghost use Rattle.vlog_latch.specs.Examples.{scope, always, no_else, mended, with_else, other_bit_read, read_after, two_nets};
 ghost use Rattle.vlog_latch.specs.Examples.{at_run_time, whole_before, index_read, no_default, with_default, label_read};
 
-/// Where nothing is found of an `always @*` that writes bits of the nets alone, each bit that its code's masks say is written is
-/// surely assigned, and is none that they say is read: this is what a lawful design asks of a driver's `whole` and `own` bits.
+/// Where nothing is found of an `always @*`, which writes bits of the scope's nets alone, its code surely assigns each bit that its
+/// masks say is written, and reads none of these before: this is what a lawful design asks of an `always @*`.
 pub fn no_latch_is_whole()
-    ensures whole { (code : Code) (line : ℕ) (nets : List (Named ScopeNet)) → HasBits Blocking code
-        → ((m k : ℕ) → named code.writes m k ≡ true → (m < length nets) × (k < 128))
-        → latches (block_writes code.acts) (block_adds code.acts) (block_reads Blocking code.acts) line nets ≡ []
+    ensures whole { (r : Readable) (a : AlwaysOf ℕ) (code : Code) → IsCodeOf r a code → timing_of a.event ≡ Blocking
+        → ((m k : ℕ) → named code.writes m k ≡ true → (m < length r.nets) × (k < 128)) → block_latches r a ≡ []
         → (m k : ℕ) → named code.writes m k ≡ true → block_adds code.acts m k ≡ true }
-    ensures own { (code : Code) (line : ℕ) (nets : List (Named ScopeNet)) → HasBits Blocking code
-        → ((m k : ℕ) → named code.writes m k ≡ true → (m < length nets) × (k < 128))
-        → latches (block_writes code.acts) (block_adds code.acts) (block_reads Blocking code.acts) line nets ≡ []
+    ensures own { (r : Readable) (a : AlwaysOf ℕ) (code : Code) → IsCodeOf r a code → timing_of a.event ≡ Blocking
+        → ((m k : ℕ) → named code.writes m k ≡ true → (m < length r.nets) × (k < 128)) → block_latches r a ≡ []
         → (m k : ℕ) → named code.writes m k ≡ true → named code.reads m k ≡ false }
 {}
 
