@@ -68,7 +68,8 @@ module _ (adds reads : BitSet) (count : ℕ) where
   least_of [] p n h = subst (λ q. IsLeast q count n) (fun_ext (λ m. or_none (p m))) h
   least_of (x ∷ xs) p n h =
       let bad = is_mask_latched adds reads x.net x.bits in
-      let one : IsLeast (λ m. p m || ((x.net == m) && bad)) count (lesser adds reads x n) = tried p count n x.net bad (nat_lt x.net n) refl h in
+      let one : IsLeast (λ m. p m || ((x.net == m) && bad)) count (lesser adds reads x n) =
+      tried p count n x.net bad (nat_lt x.net n) refl h in
       let all = least_of xs (λ m. p m || ((x.net == m) && bad)) (lesser adds reads x n) one in
       subst (λ q. IsLeast q count (least_net adds reads xs (lesser adds reads x n)))
       (fun_ext (λ m. or_assoc (p m) ((x.net == m) && bad) (any_latched adds reads xs m))) all

@@ -60,7 +60,8 @@ pub by_nothing : (missed bits read : ℕ) → missed ≡ 0 → bits ≡ 0
     → not (bits == 0) ≡ (not (missed == 0) || (not (bits == 0) && not (read == 0)))
 by_nothing missed bits read z h =
     ap not (eq-eqb bits 0 h)
-    ∙ sym (ap (λ b. not b || (not (bits == 0) && not (read == 0))) (eq-eqb missed 0 z) ∙ ap (λ b. not b && not (read == 0)) (eq-eqb bits 0 h))
+    ∙ sym (ap (λ b. not b || (not (bits == 0) && not (read == 0))) (eq-eqb missed 0 z)
+    ∙ ap (λ b. not b && not (read == 0)) (eq-eqb bits 0 h))
 
 -- ---- masks, one after the other
 

@@ -1,5 +1,6 @@
 -- The bits that a block writes are bits of its scope's nets.
-use Rattle.std.proofs.Common.{◌≡◌, ℕ, zero, suc, ◌+◌, ◌<◌, ◌≤◌, ◌==◌, nat_lt, nat_le, ◌&&◌, ◌||◌, not, Bool, true, false, cond, if◌then◌else◌}
+use Rattle.std.proofs.Common.{◌≡◌, ℕ, zero, suc, ◌+◌, ◌<◌, ◌≤◌, ◌==◌, nat_lt, nat_le, ◌&&◌, ◌||◌, not, Bool, true, false}
+use Rattle.std.proofs.Common.{cond, if◌then◌else◌}
 use Rattle.std.proofs.Common.{List, [], ◌∷◌, length, Option, Some, None, refl, ap, sym, ◌∙◌, arith}
 use Rattle.std.specs.List.{position_or_len, list_all}
 use Rattle.std.specs.Str.{bytes_eq}
@@ -124,7 +125,8 @@ module _ (r : Readable) (m k : ℕ) where
     stmt_there (IfStmt c b other) h =
         both (body_writes r b m k) (else_writes r other m k) (is_there r.nets m k) (λ x. body_there b x) (λ x. else_there other x) h
     stmt_there (CaseStmt subject arms) h =
-        both (arms_write r arms m k) (default_writes r arms m k) (is_there r.nets m k) (λ x. arms_there arms x) (λ x. default_there arms x) h
+        both (arms_write r arms m k) (default_writes r arms m k) (is_there r.nets m k) (λ x. arms_there arms x)
+        (λ x. default_there arms x) h
     stmt_there (AssignStmt target op e) h = target_there target h
 
     stmts_there : (ss : StmtsOf ℕ) → stmts_write r ss m k ≡ true → is_there r.nets m k ≡ true
