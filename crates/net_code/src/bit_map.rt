@@ -26,6 +26,17 @@ impl BitMap {
         }
     }
 
+    /// The bits that masks name.
+    pub fn of_masks(alloc: Global, masks: &[Mask]) -> Result<BitMap, Memory>
+        ensures { IfOk result (λ map. (m k : ℕ) → in_map map m k ≡ named masks.now m k) }
+    {
+        let mut map = BitMap::new(alloc);
+        for mask in masks {
+            map.add(mask.net, mask.bits)?;
+        }
+        Ok(map)
+    }
+
     /// The bits of a net that are in the set.
     pub fn mask(&self, net: usize) -> u128
         ensures { result ≡ mask_of self.now net }

@@ -387,3 +387,18 @@ pub fn code_of(alloc: Global, timing: Timing, acts: Items<Act>) -> Result<Code, 
         reads,
     })
 }
+
+/// The bits that statements surely assign, where assignments take effect at once.
+pub fn surely_assigned(alloc: Global, acts: &Items<Act>) -> Result<BitMap, Memory>
+    requires { IsSizedBlock acts.now }
+    ensures { IfOk result (λ sure. (m k : ℕ) → in_map sure m k ≡ block_adds acts.now m k) }
+{
+    let mut found = Found {
+        writes: BitMap::new(alloc),
+        reads: BitMap::new(alloc),
+        known: BitMap::new(alloc),
+    };
+    let mut fresh = Items::new(alloc);
+    acts_bits(alloc, Timing::Blocking, acts, &mut found, &mut fresh)?;
+    Ok(found.known)
+}

@@ -11,7 +11,8 @@ mod move_laws;
 mod moved;
 mod sized;
 
-pub use code_bits::code_of;
+pub use bit_map::BitMap;
+pub use code_bits::{code_of, surely_assigned};
 pub use move_laws::{
     moved_changes, moved_code_bits, moved_is_fixed, moved_is_sized, moved_number, moved_shape,
     moved_updates,

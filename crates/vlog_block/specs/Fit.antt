@@ -1,8 +1,9 @@
--- Expressions whose parts have lawful widths, 1 to 128 bits.
+-- Expressions and targets whose parts have lawful widths, 1 to 128 bits.
 use Rattle.std.specs.Prelude.{ℕ, ◌≤◌, None, Some}
 use Rattle.vlog_tree.specs.Tree.{ExprOf, UnaryExpr, BinaryExpr, ChoiceExpr, ExprsOf, NoExprs, MoreExprs}
 use Rattle.vlog_tree.specs.Tree.{PrimOf, NumberPrim, RefPrim, ParenPrim, ConcatPrim, RefOf, RefWith, IndexOf, NoIndex, Index}
 use Rattle.vlog_tree.specs.Tree.{LastOf, NoLast, Last, SelOf, IndexSel, PartSel, IndexedSel}
+use Rattle.vlog_tree.specs.Tree.{TargetOf, RefTarget, ConcatTarget, TargetsOf, NoTargets, MoreTargets}
 use Rattle.vlog_size.specs.Names.{Readable}
 use Rattle.vlog_size.specs.Size.{sizes_of_all, total_width}
 use Rattle.vlog_operators.specs.Number.{IsWidth}
@@ -10,6 +11,7 @@ use Rattle.vlog_block.specs.declared.source.Source.{Source}
 use Rattle.vlog_block.specs.declared.source.Source.TheVariants.{Net, Memory}
 use Rattle.vlog_block.specs.Sources.{source_of}
 use Rattle.vlog_block.specs.Value.{width_of, prim_width, picked}
+use Rattle.vlog_block.specs.Targets.{target_width}
 
 -- a net or a memory of lawful width, whose brackets are fit; the brackets of anything else are passed over
 abbrev pub IsFitWith : Source → Type 0 → Type 0
@@ -49,3 +51,12 @@ abbrev mutual
   IsFitSel r (IndexSel i) = IsWidth (width_of r i) × IsFit r i
   IsFitSel r (PartSel first second) = IsWidth (picked r (Last (PartSel first second)) 0)
   IsFitSel r (IndexedSel base width) = IsWidth (picked r (Last (IndexedSel base width)) 0) × (IsWidth (width_of r base) × IsFit r base)
+
+abbrev mutual
+  pub IsFitTarget : Readable → TargetOf ℕ → Type 0
+  IsFitTarget r (RefTarget ref) = IsWidth (target_width r (RefTarget ref)) × IsFitRef r ref
+  IsFitTarget r (ConcatTarget line ts) = AreFitTargets r ts
+
+  pub AreFitTargets : Readable → TargetsOf ℕ → Type 0
+  AreFitTargets r NoTargets = Unit {0}
+  AreFitTargets r (MoreTargets t ts) = IsFitTarget r t × AreFitTargets r ts

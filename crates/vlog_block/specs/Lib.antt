@@ -3,3 +3,7 @@ pub mod Value
 pub mod Places
 pub mod Bits
 pub mod Fit
+pub mod Targets
+pub mod Updates
+pub mod Written
+pub mod Faultless

@@ -189,3 +189,21 @@ value_there {V} es k n v h = values_get es k ∙ ap (λ o. option_map (value_in 
 pub value_past : {V : Type 0} → (es : List (Vec ℕ × V)) (k : ℕ) → slice_get es k ≡ None
     → slice_get (map (λ (x : Named V). x.value) (named es)) k ≡ None
 value_past {V} es k h = values_get es k ∙ ap (λ o. option_map (value_in {V = V}) (option_map (entry_of {V = V}) o)) h
+
+-- ---- the name at a place
+abbrev name_in : {V : Type 0} → Named V → List ℕ
+name_in x = x.name
+
+names_get : {V : Type 0} → (es : List (Vec ℕ × V)) (k : ℕ)
+    → slice_get (map (λ (x : Named V). x.name) (named es)) k
+    ≡ option_map (name_in {V = V}) (option_map (entry_of {V = V}) (slice_get es k))
+names_get {V} es k =
+    slice_get-map (name_in {V = V}) (named es) k ∙ ap (option_map (name_in {V = V})) (slice_get-map (entry_of {V = V}) es k)
+
+pub name_there : {V : Type 0} → (es : List (Vec ℕ × V)) (k : ℕ) (n : Vec ℕ) (v : V) → slice_get es k ≡ Some (n, v)
+    → slice_get (map (λ (x : Named V). x.name) (named es)) k ≡ Some n.items
+name_there {V} es k n v h = names_get es k ∙ ap (λ o. option_map (name_in {V = V}) (option_map (entry_of {V = V}) o)) h
+
+pub name_past : {V : Type 0} → (es : List (Vec ℕ × V)) (k : ℕ) → slice_get es k ≡ None
+    → slice_get (map (λ (x : Named V). x.name) (named es)) k ≡ None
+name_past {V} es k h = names_get es k ∙ ap (λ o. option_map (name_in {V = V}) (option_map (entry_of {V = V}) o)) h

@@ -65,6 +65,14 @@ impl<V> Table<V> {
         Some(value)
     }
 
+    /// The name at this place, counted from 0 in the order in which names were added.
+    pub fn name_at(&self, place: usize) -> Option<&[u8]>
+        ensures { option_copied result ≡ slice_get (map (λ x. x.name) self.now) place }
+    {
+        let (name, _value) = self.entries.get_index(place)?;
+        Some(name.as_slice())
+    }
+
     /// The value of this name.
     pub fn get(&self, name: &[u8]) -> Option<&V>
         ensures { option_copied result ≡ value_of self.now name.now }

@@ -1,0 +1,83 @@
+-- The first net at which E9 holds by some masks.
+use Rattle.std.proofs.Common.{◌≡◌, ℕ, ◌<◌, ◌≤◌, ◌==◌, nat_lt, ◌&&◌, ◌||◌, Bool, true, false, List, [], ◌∷◌, if◌then◌else◌}
+use Rattle.std.proofs.Common.{refl, ap, sym, subst, ◌∙◌, arith}
+use Rattle.std.proofs.lemmas.Bool.{eqb-true, eq-eqb, ltb-true, lt-ltb}
+use mathlib.Core.Path.{fun_ext}
+use Rattle.net_design.specs.declared.act.Mask.{Mask}
+use Rattle.net_design.specs.Bits.{BitSet}
+use Rattle.net_design.proofs.BoolLaws.{by_true, or_none, or_assoc}
+use Rattle.vlog_latch.specs.Masks.{is_mask_latched, lesser, least_net, IsLeast}
+use Rattle.vlog_latch.proofs.OneMask.{any_latched}
+
+or_true : (a : Bool) → (a || true) ≡ true
+or_true true = refl
+or_true false = refl
+
+or_false : (a b : Bool) → a ≡ false → b ≡ false → (a || b) ≡ false
+or_false true b h k = absurd (cc)
+or_false false b h k = k
+
+and_is : (b : Bool) → (b && true) ≡ true → b ≡ true
+and_is true t = refl
+and_is false t = t
+
+-- a net that isn't below n is no net below n
+past : (net n m : ℕ) → nat_lt net n ≡ false → m < n → (b : Bool) → (net == m) ≡ b → (b && true) ≡ true → ⊥
+past net n m s l true e t =
+    let same : net ≡ m = eqb-true net m e in
+    let small : net < n = omega (arith, l, same) in
+    let yes : nat_lt net n ≡ true = lt-ltb net n small in
+    absurd (cc)
+past net n m s l false e t = absurd (cc)
+
+and_none : (b : Bool) → false ≡ (b && false)
+and_none true = refl
+and_none false = refl
+
+kept : (b : Bool) (net n : ℕ) → (if b && false then net else n) ≡ n
+kept true net n = refl
+kept false net n = refl
+
+-- one more net is tried
+tried : (p : ℕ → Bool) (count n net : ℕ) (bad small : Bool) → nat_lt net n ≡ small → IsLeast p count n
+    → IsLeast (λ m. p m || ((net == m) && bad)) count (if small && bad then net else n)
+tried p count n net true true s h =
+    let l : net < n = ltb-true net n s in
+    let w : n ≤ count = h.within in
+    record {
+      within = omega (arith, l, w);
+      before = λ m b. or_false (p m) ((net == m) && true) (h.before m (omega (arith, l, b)))
+          (by_true ((net == m) && true) (λ t. let e : net ≡ m = eqb-true net m (and_is (net == m) t) in omega (arith, b, e)));
+      here = λ c. ap (λ b. p net || (b && true)) (eq-eqb net net refl) ∙ or_true (p net);
+    }
+tried p count n net true false s h = record {
+  within = h.within;
+  before = λ m b. or_false (p m) ((net == m) && true) (h.before m b)
+      (by_true ((net == m) && true) (λ t. past net n m s b (net == m) refl t));
+  here = λ c. ap (λ b. b || ((net == n) && true)) (h.here c);
+}
+tried p count n net false small s h =
+    subst (λ q. IsLeast q count (if small && false then net else n))
+    (fun_ext (λ m. or_none (p m) ∙ ap (λ b. p m || b) (and_none (net == m))))
+    (subst (λ k. IsLeast p count k) (sym (kept small net n)) h)
+
+module _ (adds reads : BitSet) (count : ℕ) where
+  pub least_of : (masks : List Mask) (p : ℕ → Bool) (n : ℕ) → IsLeast p count n
+      → IsLeast (λ m. p m || any_latched adds reads masks m) count (least_net adds reads masks n)
+  unfolding lesser
+  least_of [] p n h = subst (λ q. IsLeast q count n) (fun_ext (λ m. or_none (p m))) h
+  least_of (x ∷ xs) p n h =
+      let bad = is_mask_latched adds reads x.net x.bits in
+      let one : IsLeast (λ m. p m || ((x.net == m) && bad)) count (lesser adds reads x n) =
+      tried p count n x.net bad (nat_lt x.net n) refl h in
+      let all = least_of xs (λ m. p m || ((x.net == m) && bad)) (lesser adds reads x n) one in
+      subst (λ q. IsLeast q count (least_net adds reads xs (lesser adds reads x n)))
+      (fun_ext (λ m. or_assoc (p m) ((x.net == m) && bad) (any_latched adds reads xs m))) all
+
+-- of no masks
+pub least_start : (count : ℕ) → IsLeast (λ m. false) count count
+least_start count = record {
+  within = omega arith;
+  before = λ m l. refl;
+  here = λ l. absurd (omega (arith, l));
+}

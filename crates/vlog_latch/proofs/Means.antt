@@ -1,0 +1,117 @@
+-- What it means that nothing is found of a block.
+use Rattle.std.proofs.Common.{◌≡◌, ℕ, zero, suc, ◌+◌, ◌<◌, ◌&&◌, ◌||◌, not, Bool, true, false, List, [], ◌∷◌, ◌++◌, length}
+use Rattle.std.proofs.Common.{refl, ap, sym, ◌∙◌}
+use Rattle.std.proofs.Common.{arith}
+use Rattle.vidi_bits.specs.Findings.{told_if}
+use Rattle.vlog_size.specs.declared.scope.ScopeNet.{ScopeNet}
+use Rattle.vlog_size.specs.Table.{Named}
+use Rattle.net_design.specs.declared.act.Code.{Code}
+use Rattle.net_design.specs.declared.act.Timing.TheVariants.{Blocking}
+use Rattle.net_design.specs.Bits.{BitSet, named, block_adds}
+use Rattle.vlog_tree.specs.Tree.{EventOf, PosedgeEvent, ImplicitEvent, AlwaysOf}
+use Rattle.vlog_size.specs.Names.{Readable, is_lawful_readable}
+use Rattle.vlog_block.specs.Updates.{timing_of}
+use Rattle.vlog_block.specs.Written.{always_writes, always_adds, always_reads}
+use Rattle.vlog_latch.specs.Blocks.{of_implicit, block_latches, IsCodeOf}
+use Rattle.net_design.proofs.BoolLaws.{by_true, or_parts}
+use Rattle.vlog_latch.specs.declared.error.BlockError.{BlockError}
+use Rattle.vlog_latch.specs.declared.error.BlockError.TheVariants as error
+use Rattle.vlog_latch.specs.Latch.{some_bit, is_latched, latches_from, latches}
+use Rattle.vlog_latch.proofs.SomeBit.{some_has, some_lacks, some_no}
+use Rattle.vlog_latch.proofs.Found.{none_from}
+use Rattle.vlog_latch.proofs.There.{body_there, within}
+
+told_none : (b : Bool) (x : BlockError) (rest : List BlockError) → told_if b x ++ rest ≡ [] → (b ≡ false) × (rest ≡ [])
+told_none true x rest h = absurd (cc)
+told_none false x rest h = (refl, h)
+
+none_at : (p : ℕ → Bool) (line : ℕ) (nets : List (Named ScopeNet)) (f i : ℕ) → latches_from p line f nets ≡ [] → i < length nets
+    → p (f + i) ≡ false
+none_at p line [] f i h l = absurd (omega (arith, l))
+none_at p line (n ∷ nets) f zero h l =
+    let e : f + zero ≡ f = omega arith in
+    ap p e ∙ (told_none (p f) (error.Latch n.name line) (latches_from p line (suc f) nets) h).0
+none_at p line (n ∷ nets) f (suc i) h l =
+    let e : f + suc i ≡ suc f + i = omega arith in
+    let s : i < length nets = omega (arith, l) in
+    ap p e ∙ none_at p line nets (suc f) i (told_none (p f) (error.Latch n.name line) (latches_from p line (suc f) nets) h).1 s
+
+added : (w a : Bool) → (w && not a) ≡ false → w ≡ true → a ≡ true
+added true true h t = refl
+added true false h t = absurd (cc)
+added false a h t = absurd (cc)
+
+not_added : (w a : Bool) → (w ≡ true → a ≡ true) → (w && not a) ≡ false
+not_added true a h = ap not (h refl)
+not_added false a h = refl
+
+second : (w r : Bool) → (w && r) ≡ false → w ≡ true → r ≡ false
+second true r h t = h
+second false r h t = absurd (cc)
+
+and_false : (w r : Bool) → r ≡ false → (w && r) ≡ false
+and_false true r h = h
+and_false false r h = refl
+
+or_none : (a b : Bool) → a ≡ false → b ≡ false → (a || b) ≡ false
+or_none true b h k = absurd (cc)
+or_none false b h k = k
+
+module _ (writes adds reads : BitSet) (line : ℕ) (nets : List (Named ScopeNet)) where
+  one_net : (m : ℕ) → is_latched writes adds reads m ≡ false → (k j : ℕ) → k < 128 → j < 128 → writes m k ≡ true
+      → (adds m k ≡ true) × (reads m j ≡ false)
+  unfolding is_latched
+  one_net m h k j lk lj t =
+      let parts = or_parts (some_bit (λ x. writes m x && not (adds m x))) (some_bit (λ x. writes m x) && some_bit (λ x. reads m x)) h in (
+        added (writes m k) (adds m k) (some_lacks (λ x. writes m x && not (adds m x)) parts.0 k lk) t,
+        some_lacks (λ x. reads m x)
+            (second (some_bit (λ x. writes m x)) (some_bit (λ x. reads m x)) parts.1 (some_has (λ x. writes m x) k lk t)) j lj,
+      )
+
+  pub found : latches writes adds reads line nets ≡ [] → (m k j : ℕ) → m < length nets → k < 128 → j < 128 → writes m k ≡ true
+      → (adds m k ≡ true) × (reads m j ≡ false)
+  found h m k j lm lk lj t =
+      let e : 0 + m ≡ m = omega arith in
+      one_net m (ap (is_latched writes adds reads) (sym e) ∙ none_at (is_latched writes adds reads) line nets 0 m h lm) k j lk lj t
+
+  no_reads : (m : ℕ) → ((k j : ℕ) → k < 128 → j < 128 → writes m k ≡ true → (adds m k ≡ true) × (reads m j ≡ false)) → (r : Bool)
+      → some_bit (λ x. reads m x) ≡ r → (some_bit (λ x. writes m x) && some_bit (λ x. reads m x)) ≡ false
+  no_reads m h false e = and_false (some_bit (λ x. writes m x)) (some_bit (λ x. reads m x)) e
+  no_reads m h true e =
+      let none : some_bit (λ x. writes m x) ≡ false = some_no (λ x. writes m x) (λ k l. by_true (writes m k) (λ t.
+      let empty : some_bit (λ x. reads m x) ≡ false = some_no (λ x. reads m x) (λ j lj. (h k j l lj t).1) in absurd (cc))) in
+      ap (λ b. b && some_bit (λ x. reads m x)) none
+
+  no_net : (m : ℕ) → ((k j : ℕ) → k < 128 → j < 128 → writes m k ≡ true → (adds m k ≡ true) × (reads m j ≡ false))
+      → is_latched writes adds reads m ≡ false
+  unfolding is_latched
+  no_net m h =
+      or_none (some_bit (λ x. writes m x && not (adds m x))) (some_bit (λ x. writes m x) && some_bit (λ x. reads m x))
+      (some_no (λ x. writes m x && not (adds m x)) (λ k l. not_added (writes m k) (adds m k) (λ t. (h k k l l t).0)))
+      (no_reads m h (some_bit (λ x. reads m x)) refl)
+
+  pub none : ((m k j : ℕ) → m < length nets → k < 128 → j < 128 → writes m k ≡ true → (adds m k ≡ true) × (reads m j ≡ false))
+      → latches writes adds reads line nets ≡ []
+  none h = none_from (is_latched writes adds reads) line nets 0 (λ m l.
+      let b : m < length nets = omega (arith, l) in no_net m (λ k j lk lj t. h m k j b lk lj t))
+
+-- ---- a block's code
+
+module _ (r : Readable) (a : AlwaysOf ℕ) (code : Code) (bits : IsCodeOf r a code) (implicit : timing_of a.event ≡ Blocking)
+    (empty : block_latches r a ≡ []) (lawful : is_lawful_readable r ≡ true) where
+  none_there : (e : EventOf ℕ) (found : List BlockError) → timing_of e ≡ Blocking → of_implicit e found ≡ [] → found ≡ []
+  none_there (PosedgeEvent clock) found t h = absurd (cc)
+  none_there (ImplicitEvent parens) found t h = h
+
+  of_bit : (m k : ℕ) → named code.writes m k ≡ true → (always_adds r a m k ≡ true) × (always_reads r a m k ≡ false)
+  of_bit m k t =
+      let b = within r m k lawful (body_there r m k a.body (sym (bits.writes m k) ∙ t)) in
+      found (always_writes r a) (always_adds r a) (always_reads r a) a.line r.nets
+      (none_there a.event (latches (always_writes r a) (always_adds r a) (always_reads r a) a.line r.nets) implicit empty) m k k b.0 b.1 b.1
+      (sym (bits.writes m k) ∙ t)
+
+  pub whole : (m k : ℕ) → named code.writes m k ≡ true → block_adds code.acts m k ≡ true
+  whole m k t = bits.adds m k ∙ (of_bit m k t).0
+
+  pub own : (m k : ℕ) → named code.writes m k ≡ true → named code.reads m k ≡ false
+  own m k t = bits.reads m k ∙ (of_bit m k t).1

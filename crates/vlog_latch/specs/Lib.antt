@@ -1,0 +1,4 @@
+pub mod Latch
+pub mod Masks
+pub mod Blocks
+pub mod Examples

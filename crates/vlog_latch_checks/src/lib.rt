@@ -1,0 +1,7 @@
+//! Blocks by hand, of which E9 is tried.
+#![tactic(auto)]
+
+#[cfg(test)]
+mod build;
+#[cfg(test)]
+mod tests;
