@@ -48,7 +48,6 @@ pub fn check<S: Shelf>(alloc: Global, design: &str, shelf: &mut S) -> Result<Ans
 }
 
 /// The tree of a design text.
-#[tactic(auto, using(vlog_parse::proofs::FileClauses::lined_files))]
 fn file_of(alloc: Global, text: &[u8]) -> Result<File, Refusal>
     requires { length text.now ≤ text_limit }
     ensures { MatchResult result (λ f. Spells text.now (bare (plain f))) (λ r. IsRefused text.now r) }
