@@ -1,0 +1,21 @@
+//! The names of a design text: those that stand twice, and those that aren't declared (IEEE 1364-2005, 4 and 12;
+//! this project's profile).
+//!
+//! The definitions stand in `specs/`: `Entries` (what a module declares), `Twice` (E3) and `Unknown` (E4), each as the
+//! list of all findings in text order, and `Judged` (an answer beside such a list).
+#![tactic(auto)]
+
+mod check;
+mod connections;
+mod declaration;
+mod declaring;
+mod error;
+mod expressions;
+mod items;
+mod statements;
+mod table;
+
+pub use check::check_names;
+pub use declaration::{Declaration, Declarations, ModuleTable, Shape};
+pub use error::NameError;
+pub use table::names_at;
