@@ -1,3 +1,4 @@
+pub mod Different
 pub mod Entries
 pub mod Judged
 pub mod Twice
