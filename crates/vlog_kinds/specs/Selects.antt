@@ -4,7 +4,7 @@ use Rattle.std.specs.Prelude.{ℕ, Bool, true, false, ◌&&◌, List, None, Some
 use Rattle.vidi_bits.specs.Findings.{is_nil, told_if}
 use Rattle.vlog_tree.specs.Tree.{ExprOf, UnaryExpr, BinaryExpr, ChoiceExpr, PrimOf, NumberPrim, RefPrim, ParenPrim, ConcatPrim}
 use Rattle.vlog_tree.specs.Tree.{RefOf, RefWith, IndexOf, NoIndex, Index, LastOf, NoLast, Last, SelOf, IndexSel, PartSel, IndexedSel}
-use Rattle.vlog_tree.specs.Tree.{ExprsOf, NoExprs, MoreExprs}
+use Rattle.vlog_tree.specs.Tree.{RepeatPrim, ExprsOf, NoExprs, MoreExprs}
 use Rattle.vlog_size.specs.Table.{value_of}
 use Rattle.vlog_size.specs.Kinds.{at_names, wrong_kind, is_wrong_use}
 use Rattle.vlog_names.specs.declared.declaration.Shape.{Shape}
@@ -72,6 +72,7 @@ abbrev mutual
   is_wire_prim names (RefPrim r) = drives_wire names r
   is_wire_prim names (ParenPrim line e) = false
   is_wire_prim names (ConcatPrim line es) = are_wire_targets names es
+  is_wire_prim names (RepeatPrim line count es) = false
 
   pub are_wire_targets : Names → ExprsOf ℕ → Bool
   are_wire_targets names NoExprs = true

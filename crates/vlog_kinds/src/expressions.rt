@@ -15,7 +15,7 @@ use crate::error::KindError;
 use crate::roles::is_place;
 use crate::sought::Sought;
 use vlog_names::{Declaration, Declarations, Shape};
-use vlog_tree::{Expr, Prim as Operand, Range, Ref, Sel, Unary, see_concat};
+use vlog_tree::{Expr, Prim as Operand, Range, Ref, Sel, Unary, see_concat, see_repeat};
 
 /// Refuses the line where the test holds.
 pub fn refuse_if(test: bool, line: u32) -> Result<(), KindError>
@@ -145,6 +145,11 @@ fn look_in_prim(sought: Sought, names: &Declarations, prim: &Operand) -> Result<
         Operand::Paren { line: _, inner } => look_in(sought, names, inner),
         Operand::Concat { line, parts } => {
             see_concat(*line, parts);
+            look_in_exprs(sought, names, parts.as_slice())
+        }
+        Operand::Repeat { line, count, parts } => {
+            see_repeat(*line, parts);
+            look_in(sought, names, count)?;
             look_in_exprs(sought, names, parts.as_slice())
         }
     }

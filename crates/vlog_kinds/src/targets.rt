@@ -11,7 +11,9 @@ use crate::error::KindError;
 use crate::expressions::{check_ref, is_constant, refuse_if};
 use crate::roles::{is_stored, is_wire};
 use vlog_names::Declarations;
-use vlog_tree::{Expr, Prim as Operand, Ref, Sel, Target, Unary, see_concat, see_concat_target};
+use vlog_tree::{
+    Expr, Prim as Operand, Ref, Sel, Target, Unary, see_concat, see_concat_target, see_repeat,
+};
 
 fn is_constant_sel(names: &Declarations, sel: &Sel) -> bool
     ensures { result ≡ is_constant_sel names.now (plain_sel sel.now) }
@@ -71,6 +73,14 @@ fn is_wire_prim(names: &Declarations, prim: &Operand) -> bool
         Operand::Concat { line, parts } => {
             see_concat(*line, parts);
             are_wire_targets(names, parts.as_slice())
+        }
+        Operand::Repeat {
+            line,
+            count: _,
+            parts,
+        } => {
+            see_repeat(*line, parts);
+            false
         }
     }
 }

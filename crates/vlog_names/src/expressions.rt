@@ -11,7 +11,7 @@ use crate::declaration::Declarations;
 use crate::error::NameError;
 use std::alloc::Global;
 use vidi_bits::copied;
-use vlog_tree::{Expr, Ident, Prim as Operand, Range, Ref, Sel, Unary, see_concat};
+use vlog_tree::{Expr, Ident, Prim as Operand, Range, Ref, Sel, Unary, see_concat, see_repeat};
 
 /// Refuses a used name that isn't declared.
 pub fn known(alloc: Global, names: &Declarations, ident: &Ident) -> Result<(), NameError>
@@ -73,6 +73,11 @@ fn known_prim(alloc: Global, names: &Declarations, prim: &Operand) -> Result<(),
         Operand::Paren { line: _, inner } => known_expr(alloc, names, inner),
         Operand::Concat { line, parts } => {
             see_concat(*line, parts);
+            known_exprs(alloc, names, parts.as_slice())
+        }
+        Operand::Repeat { line, count, parts } => {
+            see_repeat(*line, parts);
+            known_expr(alloc, names, count)?;
             known_exprs(alloc, names, parts.as_slice())
         }
     }
