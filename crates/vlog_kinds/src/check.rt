@@ -1,0 +1,59 @@
+//! The kinds of a whole design text.
+
+ghost use Rattle.std.specs.Prelude.{◌≡◌, map};
+ghost use Rattle.std.specs.List.{flat_map};
+ghost use Rattle.vlog_tree.specs.Plain.{plain, plain_module};
+ghost use Rattle.vlog_names.specs.Entries.{declared, modules_of, module_entry};
+ghost use Rattle.vlog_kinds.specs.Roles.{Tells};
+ghost use Rattle.vlog_kinds.specs.Uses.{in_module_with, in_module, wrong_uses};
+
+use crate::error::KindError;
+use crate::items::{check_items, check_parameters, check_ports};
+use vlog_names::{Declarations, ModuleTable, names_at};
+use vlog_tree::{File, Module};
+
+/// A module that declares `names`.
+#[tactic(auto, unfolding(crate::specs::Uses::in_module_with))]
+fn check_in(modules: &ModuleTable, names: &Declarations, module: &Module) -> Result<(), KindError>
+    ensures { Tells result (in_module_with modules.now names.now (plain_module «module».now)) }
+{
+    check_parameters(names, module.parameters.as_slice())?;
+    check_ports(names, module.ports.as_slice())?;
+    check_items(modules, names, module.items.as_slice())
+}
+
+/// A module that is in the file.
+#[tactic(auto, unfolding(crate::specs::Uses::in_module))]
+fn check_module(
+    modules: &ModuleTable,
+    names: &Declarations,
+    module: &Module,
+) -> Result<(), KindError>
+    requires { names.now ≡ declared (plain_module «module».now) }
+    ensures { Tells result (in_module modules.now (plain_module «module».now)) }
+{
+    check_in(modules, names, module)
+}
+
+fn check_modules(modules: &ModuleTable, all: &[Module]) -> Result<(), KindError>
+    requires { modules.now ≡ map module_entry (map plain_module all.now) }
+    ensures { Tells result (flat_map (in_module modules.now) (map plain_module all.now)) }
+{
+    for (place, module) in all.iter().enumerate() {
+        let Some(names) = names_at(modules, place) else {
+            return Ok(());
+        };
+        check_module(modules, names, module)?;
+    }
+    Ok(())
+}
+
+/// Refuses the first name or assignment of the file that is of a wrong kind (E7), where `modules` are what its modules
+/// declare; each module counts, whether or not it is the top or below it.
+#[tactic(auto, unfolding(crate::specs::Uses::wrong_uses, vlog_names::specs::Entries::modules_of))]
+pub fn check_kinds(modules: &ModuleTable, file: &File) -> Result<(), KindError>
+    requires { modules.now ≡ modules_of (plain file.now) }
+    ensures { Tells result (wrong_uses (plain file.now)) }
+{
+    check_modules(modules, file.modules.as_slice())
+}

@@ -1,0 +1,4 @@
+pub mod Different
+pub mod Examples
+pub mod Places
+pub mod Twice
