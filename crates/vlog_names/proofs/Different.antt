@@ -7,7 +7,8 @@ use Rattle.std.proofs.lemmas.Slice.Eq.{bytes_eq-Decides}
 use Rattle.std.specs.List.{flat_map, AllByRecursion}
 use Rattle.std.specs.Str.{bytes_eq}
 use Rattle.vidi_bits.specs.Findings.{told_if}
-use Rattle.vlog_tree.specs.Tree.{ItemOf, WiresItem, DrivenWiresItem, RegsItem, LocalparamsItem, AssignItem, AlwaysItem, InstanceItem, ModuleOf}
+use Rattle.vlog_tree.specs.Tree.{ItemOf, WiresItem, DrivenWiresItem, RegsItem, LocalparamsItem, AssignItem, AlwaysItem, InstanceItem}
+use Rattle.vlog_tree.specs.Tree.{ModuleOf}
 use Rattle.vlog_tree.specs.Tree.{FileOf}
 use Rattle.vlog_size.specs.Table.{Named, value_of}
 use Rattle.vlog_names.specs.Entries.{Names, item_entries, header_entries, declared, module_entry, modules_of}
@@ -34,7 +35,8 @@ not_later : {V : Type 0} → (b : Bool) (v : V) (o : Option V) → is_some (if b
 not_later true v o h = (cc)
 not_later false v o h = h
 
-absent_at : {V : Type 0} → (name : List ℕ) (xs : List (Named V)) → is_some (value_of xs name) ≡ false → (k : ℕ) (d : Named V) → k < length xs
+absent_at : {V : Type 0} → (name : List ℕ) (xs : List (Named V)) → is_some (value_of xs name)
+    ≡ false → (k : ℕ) (d : Named V) → k < length xs
     → (get_or xs k d).name ≢ name
 absent_at name [] e k d within same = absurd (omega arith)
 absent_at name (x ∷ xs) e zero d within same =
@@ -44,7 +46,8 @@ absent_at name (x ∷ xs) e zero d within same =
 absent_at name (x ∷ xs) e (suc k) d within same =
     absent_at name xs (not_later (bytes_eq name x.name) x.value (value_of xs name) e) k d (omega arith) same
 
-differ_more : {V : Type 0} → (before : List (Named V)) (x : Named V) → twice_name before x.name ≡ [] → Differ before → Differ (before ++ x ∷ [])
+differ_more : {V : Type 0} → (before : List (Named V)) (x : Named V) → twice_name before x.name
+    ≡ [] → Differ before → Differ (before ++ x ∷ [])
 differ_more {V} before x none differ =
     all_pairs_push (λ (a b : Named V). a.name ≢ b.name) before x differ (absent_at x.name before (told_none _ _ none))
 
@@ -59,11 +62,13 @@ differ_item : (before : Names) (item : ItemOf ℕ) → twice_item before item �
 differ_item before (WiresItem range ids) none differ = differ_among before (item_entries (WiresItem range ids)) none differ
 differ_item before (DrivenWiresItem range wires) none differ = differ_among before (item_entries (DrivenWiresItem range wires)) none differ
 differ_item before (RegsItem range regs) none differ = differ_among before (item_entries (RegsItem range regs)) none differ
-differ_item before (LocalparamsItem range params) none differ = differ_among before (item_entries (LocalparamsItem range params)) none differ
+differ_item before (LocalparamsItem range params) none differ =
+    differ_among before (item_entries (LocalparamsItem range params)) none differ
 differ_item before (AssignItem assigns) none differ = differ_among before [] none differ
 differ_item before (AlwaysItem a) none differ = differ_among before [] none differ
 differ_item before (InstanceItem i) none differ =
-    differ_more before _ (no_left (twice_name before i.id.name) (twice_connected i.ports) (no_right (twice_connected i.parameters) _ none)) differ
+    differ_more before _
+    (no_left (twice_name before i.id.name) (twice_connected i.ports) (no_right (twice_connected i.parameters) _ none)) differ
 
 differ_items : (before : Names) (items : List (ItemOf ℕ)) → twice_items before items ≡ [] → Differ before
     → Differ (before ++ flat_map item_entries items)

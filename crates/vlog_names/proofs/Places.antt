@@ -19,7 +19,8 @@ pub declared_at : (ms : List (ModuleOf ℕ)) (modules : List (Named Names)) (k :
     → slice_get (map (λ (x : Named Names). x.value) modules) k ≡ option_map declared (slice_get ms k)
 declared_at ms modules k is =
     ap (λ l. slice_get (map value_in l) k) is
-    ∙ (slice_get-map value_in (map module_entry ms) k ∙ (ap (option_map value_in) (slice_get-map module_entry ms k) ∙ both (slice_get ms k)))
+    ∙ (slice_get-map value_in (map module_entry ms) k
+    ∙ (ap (option_map value_in) (slice_get-map module_entry ms k) ∙ both (slice_get ms k)))
 
 same : (a b : Names) → Some a ≡ Some b → a ≡ b
 same a b h = (cc)

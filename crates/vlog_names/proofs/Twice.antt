@@ -9,5 +9,6 @@ pub twice_append : {V : Type 0} → (before xs ys : List (Named V))
 twice_append before [] ys = ap (λ b. twice_among b ys) (sym (append-nil before))
 twice_append before (x ∷ xs) ys =
     ap (λ l. twice_name before x.name ++ l)
-    (twice_append (before ++ x ∷ []) xs ys ∙ ap (λ b. twice_among (before ++ x ∷ []) xs ++ twice_among b ys) (append_assoc before (x ∷ []) xs))
+    (twice_append (before ++ x ∷ []) xs ys
+    ∙ ap (λ b. twice_among (before ++ x ∷ []) xs ++ twice_among b ys) (append_assoc before (x ∷ []) xs))
     ∙ sym (append_assoc (twice_name before x.name) _ _)

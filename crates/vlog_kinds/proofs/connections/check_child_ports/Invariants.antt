@@ -6,4 +6,5 @@ use Rattle.vlog_kinds.proofs.connections.check_child_ports.Given as goal
 
 abbrev pub invariant-loop-conn : goal.invariant-loop-conn
 invariant-loop-conn l =
-    flat_map (in_port_conn l.child l.names) (map plain_conn (drop l.conn-index l.conns)) ≡ flat_map (in_port_conn l.child l.names) (map plain_conn l.conns)
+    flat_map (in_port_conn l.child l.names) (map plain_conn (drop l.conn-index l.conns))
+    ≡ flat_map (in_port_conn l.child l.names) (map plain_conn l.conns)

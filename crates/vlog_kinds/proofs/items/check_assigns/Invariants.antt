@@ -6,4 +6,5 @@ use Rattle.vlog_kinds.proofs.items.check_assigns.Given as goal
 
 abbrev pub invariant-loop-assign : goal.invariant-loop-assign
 invariant-loop-assign l =
-    flat_map (in_assign l.names) (map plain_assign (drop l.assign-index l.assigns)) ≡ flat_map (in_assign l.names) (map plain_assign l.assigns)
+    flat_map (in_assign l.names) (map plain_assign (drop l.assign-index l.assigns))
+    ≡ flat_map (in_assign l.names) (map plain_assign l.assigns)

@@ -6,4 +6,5 @@ use Rattle.vlog_kinds.proofs.items.check_items.Given as goal
 
 abbrev pub invariant-loop-item : goal.invariant-loop-item
 invariant-loop-item l =
-    flat_map (in_item l.modules l.names) (map plain_item (drop l.item-index l.items)) ≡ flat_map (in_item l.modules l.names) (map plain_item l.items)
+    flat_map (in_item l.modules l.names) (map plain_item (drop l.item-index l.items))
+    ≡ flat_map (in_item l.modules l.names) (map plain_item l.items)

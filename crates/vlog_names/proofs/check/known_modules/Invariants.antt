@@ -6,4 +6,5 @@ use Rattle.vlog_names.proofs.check.known_modules.Given as goal
 
 abbrev pub invariant-loop-place : goal.invariant-loop-place
 invariant-loop-place l =
-    flat_map (unknown_module l.modules) (map plain_module (drop l.place l.all)) ≡ flat_map (unknown_module l.modules) (map plain_module l.all)
+    flat_map (unknown_module l.modules) (map plain_module (drop l.place l.all))
+    ≡ flat_map (unknown_module l.modules) (map plain_module l.all)

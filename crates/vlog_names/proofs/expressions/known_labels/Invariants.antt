@@ -6,4 +6,5 @@ use Rattle.vlog_names.proofs.expressions.known_labels.Given as goal
 
 abbrev pub invariant-loop-label : goal.invariant-loop-label
 invariant-loop-label l =
-    flat_map (unknown_expr l.names) (map plain_expr (drop l.label-index l.labels)) ≡ flat_map (unknown_expr l.names) (map plain_expr l.labels)
+    flat_map (unknown_expr l.names) (map plain_expr (drop l.label-index l.labels))
+    ≡ flat_map (unknown_expr l.names) (map plain_expr l.labels)

@@ -6,4 +6,5 @@ use Rattle.vlog_names.proofs.items.known_named.Given as goal
 
 abbrev pub invariant-loop-value : goal.invariant-loop-value
 invariant-loop-value l =
-    flat_map (unknown_named l.names) (map plain_named (drop l.value-index l.values)) ≡ flat_map (unknown_named l.names) (map plain_named l.values)
+    flat_map (unknown_named l.names) (map plain_named (drop l.value-index l.values))
+    ≡ flat_map (unknown_named l.names) (map plain_named l.values)

@@ -7,4 +7,5 @@ abbrev pub invariant-known_arms-loop-arm : goal.invariant-known_arms-loop-arm
 invariant-known_arms-loop-arm l = unknown_arms l.names (plain_arms (drop l.arm-index l.arms)) ≡ unknown_arms l.names (plain_arms l.arms)
 
 abbrev pub invariant-known_stmts-loop-stmt : goal.invariant-known_stmts-loop-stmt
-invariant-known_stmts-loop-stmt l = unknown_stmts l.names (plain_stmts (drop l.stmt-index l.stmts)) ≡ unknown_stmts l.names (plain_stmts l.stmts)
+invariant-known_stmts-loop-stmt l = unknown_stmts l.names (plain_stmts (drop l.stmt-index l.stmts))
+    ≡ unknown_stmts l.names (plain_stmts l.stmts)
