@@ -4,7 +4,7 @@
 pub type Row = (&'static str, Option<u32>);
 
 // Names in expressions.
-pub const NAMES: [Row; 33] = [
+pub const NAMES: [Row; 37] = [
     // a scalar or parameter with an index
     (
         "module m(input [1:0] a, output q); assign q =\na[0]; endmodule",
@@ -131,10 +131,26 @@ pub const NAMES: [Row; 33] = [
         "module m(input s, output q); assign q =\ns[0] +\ns[0]; endmodule",
         Some(2),
     ),
+    (
+        "module m(input s, output [1:0] q); assign q = {2{\ns}}; endmodule",
+        None,
+    ),
+    (
+        "module m(input s, output [1:0] q); assign q = {2{\ns[0]}}; endmodule",
+        Some(2),
+    ),
+    (
+        "module m(input s, output q); assign q = {\ns[0]{1'b0}}; endmodule",
+        Some(2),
+    ),
+    (
+        "module m(input s, output q); assign q = {\ns{1'b0}}; endmodule",
+        None,
+    ),
 ];
 
 // What `assign` and wires drive.
-pub const ASSIGNS: [Row; 20] = [
+pub const ASSIGNS: [Row; 23] = [
     ("module m(); wire w;\nassign w = 1'b0; endmodule", None),
     ("module m(output w);\nassign w = 1'b0; endmodule", None),
     ("module m(output wire w);\nassign w = 1'b0; endmodule", None),
@@ -200,6 +216,18 @@ pub const ASSIGNS: [Row; 20] = [
     (
         "module m(); wire [1:0] w =\n2'd0; wire v = w[0]; endmodule",
         None,
+    ),
+    (
+        "module m(output [3:0] w);\nassign w[{2{1'b1}}] = 1'b0; endmodule",
+        None,
+    ),
+    (
+        "module m(output [3:0] w, input i);\nassign w[{i{1'b1}}] = 1'b0; endmodule",
+        Some(2),
+    ),
+    (
+        "module m(output [3:0] w, input i);\nassign w[{2{i}}] = 1'b0; endmodule",
+        Some(2),
     ),
 ];
 
@@ -344,7 +372,7 @@ pub const BLOCKS: [Row; 33] = [
 ];
 
 // Ports and connections.
-pub const CONNECTIONS: [Row; 26] = [
+pub const CONNECTIONS: [Row; 28] = [
     ("module m(output reg\nq = 1'b0); endmodule", None),
     ("module m(output\nq = 1'b0); endmodule", Some(2)),
     ("module m(output wire\nq = 1'b0); endmodule", Some(2)),
@@ -434,5 +462,13 @@ pub const CONNECTIONS: [Row; 26] = [
     (
         "module m(); reg r; n #(\n.P()) u(\n.q(r)); endmodule module n #(parameter P = 2) (output q); endmodule",
         Some(2),
+    ),
+    (
+        "module m(); wire w; n u(\n.q({1{w}})); endmodule module n(output q); endmodule",
+        Some(2),
+    ),
+    (
+        "module m(); wire w; n u(\n.a({1{w}})); endmodule module n(input a); endmodule",
+        None,
     ),
 ];

@@ -207,7 +207,7 @@ pub const MODULES: [Row; 21] = [
 ];
 
 // E4 of used names, where the name is declared and where it isn't.
-pub const USES: [Row; 50] = [
+pub const USES: [Row; 54] = [
     ("m", "module m(); assign a = b; wire a, b; endmodule", Fine),
     (
         "m",
@@ -420,6 +420,26 @@ pub const USES: [Row; 50] = [
     (
         "m",
         "module m(input c); reg a; always @* case (c) 0, 1: a = c; default: ; endcase endmodule",
+        Fine,
+    ),
+    (
+        "m",
+        "module m(); wire a; assign a = {x{a}}; endmodule",
+        Unknown("x"),
+    ),
+    (
+        "m",
+        "module m(); wire a; assign a = {y{a, x}}; endmodule",
+        Unknown("y"),
+    ),
+    (
+        "m",
+        "module m(); wire a; assign a = {2{a, x}}; endmodule",
+        Unknown("x"),
+    ),
+    (
+        "m",
+        "module m(); wire [3:0] a; assign a = {2{a[1:0]}}; endmodule",
         Fine,
     ),
 ];
