@@ -1,0 +1,4 @@
+pub mod Named
+pub mod Overridden
+pub mod Fronts
+pub mod Refused
