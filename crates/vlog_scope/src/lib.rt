@@ -11,9 +11,11 @@ mod extent;
 mod fault;
 mod faults;
 mod items;
+mod laws;
 mod parameters;
 mod scope;
 mod statements;
 
 pub use faults::{const_fault, width_fault};
+pub use laws::faultless_scopes_are_lawful;
 pub use scope::{declared_after, scope_of, top_scope, view_at, words_of};
