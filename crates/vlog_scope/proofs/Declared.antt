@@ -1,6 +1,7 @@
 -- The parameters so far are a front of all parameters, and are as many as are declared.
-use Rattle.std.proofs.Common.{◌≡◌, ◌<◌, ℕ, suc, ◌+◌, Bool, true, false, if◌then◌else◌, not, cond, nat_lt, max, List, [], ◌∷◌, ◌++◌, take, length}
-use Rattle.std.proofs.Common.{Option, None, Some, is_some, position, refl, ap, sym, ◌∙◌, append_assoc, length-append, arith}
+use Rattle.std.proofs.Common.{◌≡◌, ◌<◌, ℕ, suc, ◌+◌, Bool, true, false, if◌then◌else◌, not, cond, nat_lt, max, List, []}
+use Rattle.std.proofs.Common.{◌∷◌, ◌++◌, take, length}
+use Rattle.std.proofs.Common.{Option, None, Some, is_some, refl, ap, sym, ◌∙◌, append_assoc, length-append, arith}
 use Rattle.std.proofs.lemmas.List.{append-nil}
 use Rattle.std.proofs.lemmas.Slice.Eq.{bytes_eq-Decides}
 use Rattle.std.proofs.Math.Seq.{take-append_seam}
@@ -38,13 +39,15 @@ grown_added xs n v = grown_or (is_some (value_of xs n)) xs (record { name = n; v
 pub grown_header : (given : List (Named Sizes)) (x : Extent) (xs : List (Named Param)) (ps : List (ParameterOf ℕ))
     → Grown xs (header_params given x xs ps)
 grown_header given x xs [] = grown_same xs
-grown_header given x xs (p ∷ ps) = grown_twice xs _ _ (grown_added xs p.id.name _) (grown_header given (parameter_extent (params_alone xs) x p.head)
+grown_header given x xs (p ∷ ps) = grown_twice xs _ _ (grown_added xs p.id.name _)
+    (grown_header given (parameter_extent (params_alone xs) x p.head)
     (with_param (parameter_extent (params_alone xs) x p.head) xs p.id.name
     (given_or (value_of given p.id.name) (constant_sizes (params_alone xs) p.value))) ps)
 
 pub grown_locals : (x : Extent) (xs : List (Named Param)) (vs : List (NamedValueOf ℕ)) → Grown xs (local_params x xs vs)
 grown_locals x xs [] = grown_same xs
-grown_locals x xs (v ∷ vs) = grown_twice xs _ _ (grown_added xs v.id.name _) (grown_locals x (with_param x xs v.id.name (constant_sizes (params_alone xs) v.value)) vs)
+grown_locals x xs (v ∷ vs) = grown_twice xs _ _ (grown_added xs v.id.name _)
+    (grown_locals x (with_param x xs v.id.name (constant_sizes (params_alone xs) v.value)) vs)
 
 pub grown_item : (xs : List (Named Param)) (i : ItemOf ℕ) → Grown xs (item_params xs i)
 grown_item xs (WiresItem range ids) = grown_same xs

@@ -1,5 +1,6 @@
 -- Where nothing is found, each parameter is known and has a lawful constant.
-use Rattle.std.proofs.Common.{◌≡◌, ℕ, Bool, true, false, ◌&&◌, if◌then◌else◌, List, [], ◌∷◌, ◌++◌, take, length, Option, None, Some, is_some}
+use Rattle.std.proofs.Common.{◌≡◌, ℕ, Bool, true, false, if◌then◌else◌, List, [], ◌∷◌, ◌++◌, take, length, Option}
+use Rattle.std.proofs.Common.{None, Some, is_some}
 use Rattle.std.proofs.Common.{zero, suc, refl, ap, sym, ◌∙◌, subst}
 use Rattle.std.specs.List.{list_all, flat_map}
 use Rattle.std.specs.Str.{bytes_eq}
@@ -11,18 +12,17 @@ use Rattle.vlog_size.specs.Table.{Named, value_of, added}
 use Rattle.vlog_size.specs.Names.{Readable, params_alone, are_lawful_params}
 use Rattle.vlog_size.specs.Size.{Sizes}
 use Rattle.vlog_size.proofs.Lists.{nil_left, nil_right, both_of, left_of, right_of}
-use Rattle.vlog_scope.specs.declared.fault.FaultKind.{FaultKind}
 use Rattle.vlog_scope.specs.declared.fault.FaultKind.TheVariants.{Constant, Width}
 use Rattle.vlog_scope.specs.declared.extent.Extent.{Extent}
 use Rattle.vlog_scope.specs.Extents.{constant_sizes, extent_of, parameter_extent}
-use Rattle.vlog_scope.specs.Params.{with_override, overrides_after, given_or, param_of, with_param, header_params, local_params}
+use Rattle.vlog_scope.specs.Params.{with_override, overrides_after, given_or, param_of, header_params, local_params}
 use Rattle.vlog_scope.specs.Params.{item_params, items_params}
 use Rattle.vlog_scope.specs.Scope.{readable_at, after_name, after_names, after_item}
 use Rattle.vlog_scope.specs.Faults.{range_faults, name_faults, constant_faults, fixed_faults, override_faults, local_faults, item_faults}
 use Rattle.vlog_scope.specs.Faults.{items_faults, parameter_head_faults, parameter_faults, parameters_faults}
-use Rattle.vlog_scope.proofs.Declared.{Grown, grown_twice, grown_added, grown_header, grown_locals, grown_item, grown_items, front}
+use Rattle.vlog_scope.proofs.Declared.{Grown, grown_twice, grown_added, grown_header, grown_locals, grown_items, front}
 use Rattle.vlog_scope.proofs.Declared.{declared_added}
-use Rattle.vlog_scope.proofs.Sound.{is_good, Makes, makes, is_known, is_named, good_param, extent_known, named}
+use Rattle.vlog_scope.proofs.Sound.{is_good, Makes, makes, is_known, good_param, extent_known, named}
 
 -- ---- tables
 all_or : {V : Type 0} (p : Named V → Bool) (b : Bool) (xs ys : List (Named V)) → list_all p xs ≡ true → list_all p ys ≡ true
@@ -39,7 +39,8 @@ all_end p (x ∷ xs) r h k =
 pub all_added : {V : Type 0} (p : Named V → Bool) (xs : List (Named V)) (n : List ℕ) (v : V) → list_all p xs ≡ true
     → p (record { name = n; value = v }) ≡ true → list_all p (added xs n v) ≡ true
 all_added p xs n v h k =
-    all_or p (is_some (value_of xs n)) xs (xs ++ record { name = n; value = v } ∷ []) h (all_end p xs (record { name = n; value = v }) h k)
+    all_or p (is_some (value_of xs n)) xs (xs ++ record { name = n; value = v } ∷ []) h
+    (all_end p xs (record { name = n; value = v }) h k)
 
 pub all_front : {V : Type 0} (p : Named V → Bool) (n : ℕ) (xs : List (Named V)) → list_all p xs ≡ true → list_all p (take n xs) ≡ true
 all_front p zero xs h = refl
@@ -90,11 +91,13 @@ made_after r given (c ∷ cs) l h k m =
 some_same : (a b : Sizes) → Some a ≡ Some b → a ≡ b
 some_same a b h = (cc)
 
-made_if : (b : Bool) (x own : Sizes) (o : Option Sizes) → Makes x → Makes (given_or o own) → Makes (given_or (if b then Some x else o) own)
+made_if : (b : Bool) (x own : Sizes) (o : Option Sizes) → Makes x → Makes (given_or o own)
+    → Makes (given_or (if b then Some x else o) own)
 made_if true x own o h k = h
 made_if false x own o h k = k
 
-made_or_own : (given : List (Named Sizes)) (n : List ℕ) (own : Sizes) → MakesAll given → Makes own → Makes (given_or (value_of given n) own)
+made_or_own : (given : List (Named Sizes)) (n : List ℕ) (own : Sizes) → MakesAll given → Makes own
+    → Makes (given_or (value_of given n) own)
 made_or_own [] n own m h = h
 made_or_own (x ∷ xs) n own m h = made_if (bytes_eq n x.name) x.value own (value_of xs n) m.0 (made_or_own xs n own m.1 h)
 
@@ -116,7 +119,8 @@ known_head r before None l b h k = b
 known_head r before (Some head) l b h k = extent_known r head.range l h k
 
 -- what is known of one more parameter of the header
-pub record OneMore (given : List (Named Sizes)) (s : Scope) (k : ℕ) (before : Extent) (p : ParameterOf ℕ) (xs : List (Named Param)) : Type 0 where
+pub record OneMore (given : List (Named Sizes)) (s : Scope) (k : ℕ) (before : Extent) (p : ParameterOf ℕ)
+    (xs : List (Named Param)) : Type 0 where
   pub same : parameter_extent (readable_at s k) before p.head ≡ parameter_extent (params_alone xs) before p.head
   pub known : is_known (parameter_extent (params_alone xs) before p.head) ≡ true
   pub good : is_good (param_of (parameter_extent (params_alone xs) before p.head)
@@ -150,7 +154,8 @@ one_here given s k before p m b l h w =
           (made_or_own given p.id.name (constant_sizes r p.value) m own);
     }
 
-pub lawful_header : (given : List (Named Sizes)) (s : Scope) (k : ℕ) (before : Extent) (xs : List (Named Param)) (ps : List (ParameterOf ℕ))
+pub lawful_header : (given : List (Named Sizes)) (s : Scope) (k : ℕ) (before : Extent) (xs : List (Named Param))
+    (ps : List (ParameterOf ℕ))
     → MakesAll given → is_known before ≡ true → k ≡ length xs → Grown (header_params given before xs ps) s.params
     → are_lawful_params xs ≡ true → parameters_faults Constant s k before ps ≡ [] → parameters_faults Width s k before ps ≡ []
     → are_lawful_params (header_params given before xs ps) ≡ true
@@ -161,7 +166,8 @@ lawful_header given s k before xs (p ∷ ps) m b e g l h w =
     let v = param_of y (given_or (value_of given p.id.name) (constant_sizes (params_alone xs) p.value)) in
     let more = added xs p.id.name v in
     let gm : Grown more s.params = grown_twice more _ s.params (grown_header given y more ps) g in
-    let q : take k s.params ≡ xs = ap (λ n. take n s.params) e ∙ front xs s.params (grown_twice xs more s.params (grown_added xs p.id.name v) gm) in
+    let q : take k s.params ≡ xs = ap (λ n. take n s.params) e
+    ∙ front xs s.params (grown_twice xs more s.params (grown_added xs p.id.name v) gm) in
     let one : OneMore given s k before p xs =
     subst (OneMore given s k before p) q
     (one_here given s k before p m b (ap are_lawful_params q ∙ l)
@@ -193,7 +199,8 @@ lawful_locals s k x xs (v ∷ vs) b e g l h w =
     let value = param_of x (constant_sizes (params_alone xs) v.value) in
     let more = added xs v.id.name value in
     let gm : Grown more s.params = grown_twice more _ s.params (grown_locals x more vs) g in
-    let q : take k s.params ≡ xs = ap (λ n. take n s.params) e ∙ front xs s.params (grown_twice xs more s.params (grown_added xs v.id.name value) gm) in
+    let q : take k s.params ≡ xs = ap (λ n. take n s.params) e
+    ∙ front xs s.params (grown_twice xs more s.params (grown_added xs v.id.name value) gm) in
     let next = after_name s.params k v.id.name in
     let count : next ≡ length more = ap (λ n. after_name s.params n v.id.name) e ∙ declared_added xs s.params v.id.name value gm in
     let hr : constant_faults Constant (readable_at s k) v.value ++ local_faults Constant s next x vs ≡ [] =
@@ -234,7 +241,8 @@ lawful_item s k xs (AlwaysItem a) e g l h w = (l, e)
 lawful_item s k xs (InstanceItem i) e g l h w = (l, e)
 
 pub lawful_items : (s : Scope) (k : ℕ) (xs : List (Named Param)) (is : List (ItemOf ℕ)) → k ≡ length xs
-    → Grown (items_params xs is) s.params → are_lawful_params xs ≡ true → items_faults Constant s k is ≡ [] → items_faults Width s k is ≡ []
+    → Grown (items_params xs is) s.params → are_lawful_params xs ≡ true → items_faults Constant s k is ≡ []
+    → items_faults Width s k is ≡ []
     → are_lawful_params (items_params xs is) ≡ true
 lawful_items s k xs [] e g l h w = l
 lawful_items s k xs (i ∷ is) e g l h w =

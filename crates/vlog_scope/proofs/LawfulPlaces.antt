@@ -2,7 +2,8 @@
 use Rattle.std.proofs.Common.{◌≡◌, ℕ, Bool, true, ◌&&◌, List, [], ◌∷◌, ◌++◌, take, length, Option, None, Some, refl, ap, sym, ◌∙◌}
 use Rattle.std.specs.List.{list_all, flat_map}
 use Rattle.vlog_tree.specs.Tree.{ConnOf, IdentOf, RangeOf, PortHeadOf, PortOf, NamedValueOf, RegTailOf, InitTail, MemoryTail, Reg1Of}
-use Rattle.vlog_tree.specs.Tree.{ItemOf, WiresItem, DrivenWiresItem, RegsItem, LocalparamsItem, AssignItem, AlwaysItem, InstanceItem, ModuleOf}
+use Rattle.vlog_tree.specs.Tree.{ItemOf, WiresItem, DrivenWiresItem, RegsItem, LocalparamsItem, AssignItem, AlwaysItem}
+use Rattle.vlog_tree.specs.Tree.{InstanceItem, ModuleOf}
 use Rattle.vlog_size.specs.declared.scope.Param.{Param}
 use Rattle.vlog_size.specs.declared.scope.ScopeNet.{ScopeNet}
 use Rattle.vlog_size.specs.declared.scope.ScopeMemory.{ScopeMemory}
@@ -18,7 +19,8 @@ use Rattle.vlog_scope.specs.Extents.{extent_of, port_extent, net_width, memory_l
 use Rattle.vlog_scope.specs.Params.{header_params, items_params, overrides_of}
 use Rattle.vlog_scope.specs.Scope.{readable_at, after_item, with_net, with_port, with_ports, wire_nets, driven_nets, with_reg, with_regs}
 use Rattle.vlog_scope.specs.Scope.{with_item, with_items, params_scope, scope_of}
-use Rattle.vlog_scope.specs.Faults.{range_faults, name_faults, driven_faults, expr_faults, fixed_faults, reg_faults, tail_faults, item_faults}
+use Rattle.vlog_scope.specs.Faults.{range_faults, name_faults, driven_faults, expr_faults, fixed_faults, reg_faults}
+use Rattle.vlog_scope.specs.Faults.{tail_faults, item_faults}
 use Rattle.vlog_scope.specs.Faults.{items_faults, port_head_faults, port_faults, ports_faults, parameters_faults, override_faults}
 use Rattle.vlog_scope.specs.Faults.{scope_faults, const_faults, width_faults}
 use Rattle.vlog_scope.proofs.Declared.{grown_same, grown_items}
@@ -40,8 +42,10 @@ abbrev pub IsPlaced : List (Named Param) → ℕ → Scope → Type 0
 IsPlaced params k s = (ns : List (Named ScopeNet)) × (ms : List (Named ScopeMemory)) × (s ≡ state params k ns ms)
     × (are_nets ns ≡ true) × (are_memories ms ≡ true)
 
-net_added : (x : Extent) (ns : List (Named ScopeNet)) (n : List ℕ) → is_named x ≡ true → are_nets ns ≡ true → are_nets (with_net x ns n) ≡ true
-net_added x ns n h k = all_added (λ (m : Named ScopeNet). is_lawful m.value.width) ns n (record { width = net_width x }) k (lawful_net x h)
+net_added : (x : Extent) (ns : List (Named ScopeNet)) (n : List ℕ) → is_named x ≡ true → are_nets ns ≡ true
+    → are_nets (with_net x ns n) ≡ true
+net_added x ns n h k = all_added (λ (m : Named ScopeNet). is_lawful m.value.width) ns n (record { width = net_width x }) k
+    (lawful_net x h)
 
 -- ---- ports
 same_port : (s : Scope) (k : ℕ) (before : Extent) (head : Option (PortHeadOf ℕ))
@@ -70,7 +74,8 @@ ports_placed s k x ns ms (p ∷ ps) l b hn hm h w =
     let rest : name_faults Width y p.id ++ fixed_faults Width r p.init ≡ [] =
     nil_right (port_head_faults Width r p.head) (name_faults Width y p.id ++ fixed_faults Width r p.init) hw in
     let known : is_known y ≡ true =
-    known_port r x p.head l b (nil_left (port_head_faults Constant r p.head) (name_faults Constant y p.id ++ fixed_faults Constant r p.init) hc)
+    known_port r x p.head l b
+    (nil_left (port_head_faults Constant r p.head) (name_faults Constant y p.id ++ fixed_faults Constant r p.init) hc)
     (nil_left (port_head_faults Width r p.head) (name_faults Width y p.id ++ fixed_faults Width r p.init) hw) in
     let own : is_named y ≡ true = named y p.id known (nil_left (name_faults Width y p.id) (fixed_faults Width r p.init) rest) in
     ports_placed s k z (with_net z ns p.id.name) ms ps l (sym (ap is_known same) ∙ known)
@@ -87,7 +92,8 @@ wires_placed x ns (id ∷ ids) b hn w =
     (net_added x ns id.name (named x id b (nil_left (name_faults Width x id) (flat_map (name_faults Width x) ids) w)) hn)
     (nil_right (name_faults Width x id) (flat_map (name_faults Width x) ids) w)
 
-driven_placed : (r : Readable) (x : Extent) (ns : List (Named ScopeNet)) (ws : List (NamedValueOf ℕ)) → is_known x ≡ true → are_nets ns ≡ true
+driven_placed : (r : Readable) (x : Extent) (ns : List (Named ScopeNet)) (ws : List (NamedValueOf ℕ)) → is_known x ≡ true
+    → are_nets ns ≡ true
     → flat_map (driven_faults Width r x) ws ≡ [] → are_nets (driven_nets x ns ws) ≡ true
 driven_placed r x ns [] b hn w = hn
 driven_placed r x ns (v ∷ vs) b hn w =
@@ -106,7 +112,8 @@ reg_placed params k x ns ms n (Some (MemoryTail range)) b hn hm =
     record { width = net_width x; length = or_most (memory_length (params_alone (take k params)) range) } in
     (ns, added ms n v, refl, hn, all_added (λ (m : Named ScopeMemory). is_lawful m.value.width) ms n v hm (lawful_net x b))
 
-regs_placed : (params : List (Named Param)) (k : ℕ) (r : Readable) (x : Extent) (ns : List (Named ScopeNet)) (ms : List (Named ScopeMemory))
+regs_placed : (params : List (Named Param)) (k : ℕ) (r : Readable) (x : Extent) (ns : List (Named ScopeNet))
+    (ms : List (Named ScopeMemory))
     (gs : List (Reg1Of ℕ)) → is_known x ≡ true → are_nets ns ≡ true → are_memories ms ≡ true
     → flat_map (reg_faults Width r x) gs ≡ [] → IsPlaced params k (with_regs x (state params k ns ms) gs)
 regs_placed params k r x ns ms [] b hn hm w = (ns, ms, refl, hn, hm)
@@ -115,7 +122,8 @@ regs_placed params k r x ns ms (g ∷ gs) b hn hm w =
     named x g.id b (nil_left (name_faults Width x g.id) (tail_faults Width r g.tail)
     (nil_left (reg_faults Width r x g) (flat_map (reg_faults Width r x) gs) w)) in
     let one = reg_placed params k x ns ms g.id.name g.tail own hn hm in
-    let rest = regs_placed params k r x one.0 one.1 gs b one.3 one.4 (nil_right (reg_faults Width r x g) (flat_map (reg_faults Width r x) gs) w) in
+    let rest = regs_placed params k r x one.0 one.1 gs b one.3 one.4
+    (nil_right (reg_faults Width r x g) (flat_map (reg_faults Width r x) gs) w) in
     (rest.0, rest.1, ap (λ s. with_regs x s gs) one.2 ∙ rest.2, rest.3, rest.4)
 
 known_range : (s : Scope) (k : ℕ) (range : Option (RangeOf ℕ)) → are_lawful_params (take k s.params) ≡ true
@@ -133,7 +141,8 @@ item_placed s k ns ms (WiresItem range ids) l hn hm h w =
     let x = extent_of r range in
     let y = extent_of (params_alone (take k s.params)) range in
     let same : x ≡ y = same_extent s k range in
-    let known : is_known x ≡ true = known_range s k range l (nil_left (range_faults Constant r range) _ h) (nil_left (range_faults Width r range) _ w) in (
+    let known : is_known x ≡ true =
+    known_range s k range l (nil_left (range_faults Constant r range) _ h) (nil_left (range_faults Width r range) _ w) in (
       wire_nets y ns ids,
       ms,
       refl,
@@ -146,7 +155,8 @@ item_placed s k ns ms (DrivenWiresItem range ws) l hn hm h w =
     let x = extent_of r range in
     let y = extent_of (params_alone (take k s.params)) range in
     let same : x ≡ y = same_extent s k range in
-    let known : is_known x ≡ true = known_range s k range l (nil_left (range_faults Constant r range) _ h) (nil_left (range_faults Width r range) _ w) in (
+    let known : is_known x ≡ true =
+    known_range s k range l (nil_left (range_faults Constant r range) _ h) (nil_left (range_faults Width r range) _ w) in (
       driven_nets y ns ws,
       ms,
       refl,
@@ -159,9 +169,11 @@ item_placed s k ns ms (RegsItem range gs) l hn hm h w =
     let x = extent_of r range in
     let y = extent_of (params_alone (take k s.params)) range in
     let same : x ≡ y = same_extent s k range in
-    let known : is_known x ≡ true = known_range s k range l (nil_left (range_faults Constant r range) _ h) (nil_left (range_faults Width r range) _ w) in
+    let known : is_known x ≡ true =
+    known_range s k range l (nil_left (range_faults Constant r range) _ h) (nil_left (range_faults Width r range) _ w) in
     regs_placed s.params k r y ns ms gs (sym (ap is_known same) ∙ known) hn hm
-    (sym (ap (λ e. flat_map (reg_faults Width r e) gs) same) ∙ nil_right (range_faults Width r range) (flat_map (reg_faults Width r x) gs) w)
+    (sym (ap (λ e. flat_map (reg_faults Width r e) gs) same)
+    ∙ nil_right (range_faults Width r range) (flat_map (reg_faults Width r x) gs) w)
 item_placed s k ns ms (LocalparamsItem range vs) l hn hm h w = (ns, ms, refl, hn, hm)
 item_placed s k ns ms (AssignItem assigns) l hn hm h w = (ns, ms, refl, hn, hm)
 item_placed s k ns ms (AlwaysItem a) l hn hm h w = (ns, ms, refl, hn, hm)
@@ -246,7 +258,8 @@ lawful_scope r conns m l oc ow h w =
     let ls : are_lawful_params s.params ≡ true = ap are_lawful_params kept ∙ lp in
     let ports = ports_placed s k NoRange [] [] m.ports (lawful_front k s.params ls) refl refl refl hc.1 hw.1 in
     let placed = items_placed s k (with_ports NoRange (state s.params k [] []) m.ports) m.items ls ports hc.2 hw.2 in
-    let same : with_items (with_ports NoRange (state s.params k [] []) m.ports) m.items ≡ with_items (with_ports NoRange bare m.ports) m.items =
+    let same : with_items (with_ports NoRange (state s.params k [] []) m.ports) m.items
+    ≡ with_items (with_ports NoRange bare m.ports) m.items =
     ap (λ (ps : List (Named Param)). with_items (with_ports NoRange (params_scope k ps) m.ports) m.items) kept in
     both_of (are_lawful_params s.params) (are_nets s.nets && are_memories s.memories) ls
     (both_of (are_nets s.nets) (are_memories s.memories) (sym (ap (λ (t : Scope). are_nets t.nets) same) ∙ placed.1)

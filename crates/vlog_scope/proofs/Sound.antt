@@ -1,10 +1,9 @@
 -- Of constant positions in which nothing is found: the parameters that they make, and what ranges make of names.
-use Rattle.std.proofs.Common.{◌≡◌, ◌<◌, ◌^◌, ◌+◌, ℕ, Bool, true, false, ◌&&◌, not, nat_lt, nat_le, min, if◌then◌else◌, List, [], ◌++◌}
-use Rattle.std.proofs.Common.{Option, None, Some, is_some, option_map, refl, ap, sym, ◌∙◌, subst, arith}
+use Rattle.std.proofs.Common.{◌≡◌, ◌<◌, ◌^◌, ◌+◌, ℕ, Bool, true, false, ◌&&◌, not, nat_lt, nat_le, min, if◌then◌else◌, []}
+use Rattle.std.proofs.Common.{Option, None, Some, is_some, option_map, refl, ap, sym, ◌∙◌, arith}
 use Rattle.vidi_bits.specs.Findings.{told_if}
 use Rattle.vlog_operators.specs.Number.{IsWidth}
 use Rattle.vlog_tree.specs.Tree.{ExprOf, IdentOf, RangeOf}
-use Rattle.vlog_size.specs.declared.error.SizeError.{SizeError}
 use Rattle.vlog_size.specs.declared.error.SizeError.TheVariants as error
 use Rattle.vlog_size.specs.declared.scope.Const.{Const}
 use Rattle.vlog_size.specs.declared.scope.Const.TheVariants as const
@@ -101,7 +100,8 @@ unfolding constant_of
 number_in e m =
     let s = some_number (constant_at e.plain e.width) (number e) m.own.0 m.own.1 in (s.0, s.1, ap is_lawful_const s.2 ∙ m.own.2)
 
-small_last : (p : Bool) (w n : ℕ) → is_lawful_const (constant_at p w n) ≡ true → (not p && nat_le 2147483648 n) ≡ false → nat_lt n MOST ≡ true
+small_last : (p : Bool) (w n : ℕ) → is_lawful_const (constant_at p w n) ≡ true → (not p && nat_le 2147483648 n) ≡ false
+    → nat_lt n MOST ≡ true
 small_last true w n l h = grind arith
 small_last false w n l h = grind arith
 

@@ -2,7 +2,8 @@
 use Rattle.std.specs.Prelude.{ℕ, not, List, [], ◌∷◌, ◌++◌, Option, Some, None}
 use Rattle.std.specs.List.{flat_map}
 use Rattle.vidi_bits.specs.Findings.{told_if}
-use Rattle.vlog_tree.specs.Tree.{ExprOf, TargetOf, IdentOf, RangeOf, NamedValueOf, RegTailOf, InitTail, MemoryTail, Reg1Of, AssignOf, ConnOf, InstanceOf}
+use Rattle.vlog_tree.specs.Tree.{ExprOf, TargetOf, IdentOf, RangeOf, NamedValueOf, RegTailOf, InitTail, MemoryTail, Reg1Of}
+use Rattle.vlog_tree.specs.Tree.{AssignOf, ConnOf, InstanceOf}
 use Rattle.vlog_tree.specs.Tree.{StmtOf, BeginStmt, IfStmt, CaseStmt, AssignStmt, ArmOf, LabelsArm, DefaultArm, ArmsOf, NoArms, MoreArms}
 use Rattle.vlog_tree.specs.Tree.{BodyOf, StmtBody, EmptyBody, ElseOf, NoElse, Else, StmtsOf, NoStmts, MoreStmts}
 use Rattle.vlog_tree.specs.Tree.{ItemOf, WiresItem, DrivenWiresItem, RegsItem, LocalparamsItem, AssignItem, AlwaysItem, InstanceItem}
@@ -135,7 +136,8 @@ instance_faults kind r i = flat_map (override_faults kind r) i.parameters ++ fla
 abbrev pub local_faults : FaultKind → Scope → ℕ → Extent → List (NamedValueOf ℕ) → List SizeError
 local_faults kind s k x [] = []
 local_faults kind s k x (v ∷ vs) =
-    name_faults kind x v.id ++ (constant_faults kind (readable_at s k) v.value ++ local_faults kind s (after_name s.params k v.id.name) x vs)
+    name_faults kind x v.id ++ (constant_faults kind (readable_at s k) v.value
+    ++ local_faults kind s (after_name s.params k v.id.name) x vs)
 
 -- an item, before which the names of the first k parameters stand
 unfoldable pub item_faults : FaultKind → Scope → ℕ → ItemOf ℕ → List SizeError

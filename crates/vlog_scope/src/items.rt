@@ -3,7 +3,8 @@
 ghost use Rattle.std.specs.Prelude.{◌≡◌, map, option_map};
 ghost use Rattle.std.specs.List.{flat_map};
 ghost use Rattle.vidi_bits.specs.Findings.{Tried};
-ghost use Rattle.vlog_tree.specs.Plain.{plain_expr, plain_range, plain_tail, plain_named, plain_reg, plain_assign, plain_conn, plain_instance};
+ghost use Rattle.vlog_tree.specs.Plain.{plain_expr, plain_range, plain_tail, plain_named, plain_reg, plain_assign};
+ghost use Rattle.vlog_tree.specs.Plain.{plain_conn, plain_instance};
 ghost use Rattle.vlog_tree.specs.Plain.{plain_item};
 ghost use Rattle.vlog_size.specs.Names.{readable_in};
 ghost use Rattle.vlog_scope.specs.Faults as faults;
