@@ -6,6 +6,7 @@ use Rattle.vlog_tree.specs.Tree.{PrimOf, NumberPrim, RefPrim, ParenPrim, ConcatP
 use Rattle.vlog_tree.specs.Tree.{LastOf, NoLast, Last, SelOf, IndexSel, PartSel, IndexedSel}
 use Rattle.vidi_bits.specs.Findings.{told_if, or_first}
 use Rattle.vlog_operators.specs.Number.{IsWidth}
+use Rattle.vlog_tree.specs.Tree.{TargetOf, RefTarget, ConcatTarget, TargetsOf, NoTargets, MoreTargets}
 use Rattle.vlog_size.specs.declared.error.SizeError.{SizeError}
 use Rattle.vlog_size.specs.declared.error.SizeError.TheVariants as error
 use Rattle.vlog_size.specs.declared.scope.Param.{Param}
@@ -18,7 +19,7 @@ use Rattle.vlog_size.specs.Literal.{is_lawful}
 use Rattle.vlog_size.specs.Operators.{is_wide}
 use Rattle.vlog_size.specs.Names.{Readable, readable_of, fixed, checked, or_meaning, or_undeclared, net_meaning, memory_meaning}
 use Rattle.vlog_size.specs.Size.{Sizes, sizes_of, sizes_of_prim, sizes_of_ref, sizes_of_index, sizes_of_last, sizes_of_sel}
-use Rattle.vlog_size.specs.Size.{sizes_of_all, faults}
+use Rattle.vlog_size.specs.Size.{sizes_of_all, sizes_of_target, sizes_of_targets, faults}
 use Rattle.vlog_size.specs.Size.{of_name, of_ref, of_place, of_concat, Bracket, Part, Indexed, part_const_faults, part_fault}
 use Rattle.vlog_size.specs.Size.{part_width_faults, outside, too_large, number, or_zero, bounds_width, wrong_width, unsized_part}
 use Rattle.vlog_size.specs.Size.{is_bad_binary, parts_const_faults, parts_width_faults, sum_fault, total_width}
@@ -26,10 +27,13 @@ use Rattle.vlog_size.proofs.Lists.{nil_left, nil_right, untold}
 use Rattle.vlog_size.proofs.Sized.{IsSized, Sized}
 use Rattle.vlog_size.proofs.Parts.{BracketSized, known_sized, part_lawful}
 use Rattle.vlog_size.proofs.Faultless.{expr_sized, expr_constant}
+use Rattle.vlog_size.proofs.Answered.{faultless_target}
 use Rattle.vlog_block.specs.declared.source.Source.TheVariants.{Nothing}
 use Rattle.vlog_block.specs.Sources.{names_of, net_source, memory_source, or_source, or_constant}
 use Rattle.vlog_block.specs.Value.{width_of}
 use Rattle.vlog_block.specs.Fit.{IsFitWith, IsFit, IsFitPrim, AreFit, IsFitRef, IsFitIndex, IsFitLast, IsFitSel}
+use Rattle.vlog_block.specs.Fit.{IsFitTarget, AreFitTargets}
+use Rattle.vlog_block.specs.Targets.{target_width}
 
 lawful_width : (w : ℕ) → is_lawful w ≡ true → IsWidth w
 lawful_width w h = (grind arith, grind arith)
@@ -164,7 +168,7 @@ mutual
       let whole : IsWidth (total_width parts) = own_fit (of_concat line parts) (expr_sized s (UnaryExpr None (ConcatPrim line es))) h k in
       (whole.1, all_fit s es h (nil_right (sum_fault line parts) (parts_width_faults parts) k))
 
-  ref_fit : (s : Readable) (ref : RefOf ℕ) → (sizes_of_ref (checked s) ref).const_faults ≡ []
+  pub ref_fit : (s : Readable) (ref : RefOf ℕ) → (sizes_of_ref (checked s) ref).const_faults ≡ []
       → (sizes_of_ref (checked s) ref).width_faults ≡ [] → IsFitRef (checked s) ref
   ref_fit s (RefWith id index last) h k =
       let inner : AreFitAfter id.line (sizes_of_index (checked s) index) (sizes_of_last (checked s) last)
@@ -236,3 +240,48 @@ wide_enough s e w h low high =
     (nil_left whole.const_faults whole.width_faults h) (nil_right whole.const_faults whole.width_faults h) in
     let least : 1 ≤ width_of (names_of s) e = own.0 in
     (omega (arith, least, low), high)
+
+-- the width of an expression without a fault
+pub faultless_width : (s : Scope) (e : ExprOf ℕ) → faults (sizes_of (names_of s) e) ≡ [] → IsWidth (width_of (names_of s) e)
+unfolding faults
+faultless_width s e h =
+    let whole = sizes_of (names_of s) e in
+    own_fit whole (expr_sized (readable_of s) e) (nil_left whole.const_faults whole.width_faults h)
+    (nil_right whole.const_faults whole.width_faults h)
+
+-- ---- targets
+
+mutual
+  target_fit : (s : Readable) (t : TargetOf ℕ) → (sizes_of_target (checked s) t).const_faults ≡ []
+      → (sizes_of_target (checked s) t).width_faults ≡ [] → IsFitTarget (checked s) t
+  target_fit s (RefTarget ref) h k =
+      let whole = sizes_of_ref (checked s) ref in
+      (own_fit whole (expr_sized s (UnaryExpr None (RefPrim ref))) h k, ref_fit s ref h k)
+  target_fit s (ConcatTarget line ts) h k =
+      let parts = sizes_of_targets (checked s) ts in
+      targets_fit s ts h (nil_right (sum_fault line parts) (parts_width_faults parts) k)
+
+  targets_fit : (s : Readable) (ts : TargetsOf ℕ) → parts_const_faults (sizes_of_targets (checked s) ts) ≡ []
+      → parts_width_faults (sizes_of_targets (checked s) ts) ≡ [] → AreFitTargets (checked s) ts
+  targets_fit s NoTargets h k = tt
+  targets_fit s (MoreTargets t ts) h k =
+      let p = sizes_of_target (checked s) t in
+      let rest = sizes_of_targets (checked s) ts in
+      let consts : p.const_faults ≡ [] =
+      nil_right (unsized_part p) p.const_faults (nil_left (unsized_part p ++ p.const_faults) (parts_const_faults rest) h) in
+      let widths : p.width_faults ≡ [] = nil_left p.width_faults (parts_width_faults rest) k in (
+        target_fit s t consts widths,
+        targets_fit s ts (nil_right (unsized_part p ++ p.const_faults) (parts_const_faults rest) h)
+            (nil_right p.width_faults (parts_width_faults rest) k),
+      )
+
+pub faultless_target_fit : (s : Scope) (t : TargetOf ℕ) → faults (sizes_of_target (names_of s) t) ≡ [] → IsFitTarget (names_of s) t
+unfolding faults
+faultless_target_fit s t h =
+    let whole = sizes_of_target (names_of s) t in
+    target_fit (readable_of s) t (nil_left whole.const_faults whole.width_faults h) (nil_right whole.const_faults whole.width_faults h)
+
+-- the width of a target without a fault
+pub faultless_target_width : (s : Scope) (t : TargetOf ℕ) → faults (sizes_of_target (names_of s) t) ≡ []
+    → IsWidth (target_width (names_of s) t)
+faultless_target_width s t h = lawful_width (target_width (names_of s) t) (faultless_target (readable_of s) t h)

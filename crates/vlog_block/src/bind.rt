@@ -37,7 +37,7 @@ use vlog_size::{
 use vlog_tree::{BinaryOp, Expr, Prim as Operand, Ref, Sel, Unary, UnaryOp, see_concat};
 
 /// The self-determined width of an expression.
-fn own_width(scope: &Scope, e: &Expr) -> u32
+pub fn own_width(scope: &Scope, e: &Expr) -> u32
     requires { IsWidth (width_of (names_of scope.now) (plain_expr e.now)) }
     ensures { result ≡ width_of (names_of scope.now) (plain_expr e.now) }
 {
@@ -124,16 +124,16 @@ fn widths_of(scope: &Scope, op: BinaryOp, left: &Expr, right: &Expr, w: u32) -> 
 
 /// An index, and its number where it is a constant.
 #[derive(Drop)]
-struct Place {
-    code: Box<Rhs>,
-    constant: Option<u128>,
+pub struct Place {
+    pub code: Box<Rhs>,
+    pub constant: Option<u128>,
 }
 
 /// A select: its lowest bit, and its number of bits.
 #[derive(Drop)]
-struct Part {
-    low: Place,
-    width: u32,
+pub struct Part {
+    pub low: Place,
+    pub width: u32,
 }
 
 /// The number of an index that is a constant.
@@ -288,7 +288,7 @@ fn bound_parts(alloc: Global, scope: &Scope, parts: &[Expr]) -> Result<Box<Rhs>,
 
 /// An index at its own width.
 #[cycle(bind)]
-fn bound_index(alloc: Global, scope: &Scope, e: &Expr) -> Result<Place, Memory>
+pub fn bound_index(alloc: Global, scope: &Scope, e: &Expr) -> Result<Place, Memory>
     requires width { IsWidth (width_of (names_of scope.now) (plain_expr e.now)) }
     requires fit { IsFit (names_of scope.now) (plain_expr e.now) }
     ensures value { IfOk result (λ p. (v : Values) → code.value p.code.value v ≡ index_value (names_of scope.now) v (plain_expr e.now)) }
@@ -341,7 +341,7 @@ fn bits_between(first: u128, second: u128) -> u32
 
 /// What stands in the last bracket.
 #[cycle(bind)]
-fn bound_sel(alloc: Global, scope: &Scope, sel: &Sel) -> Result<Part, Memory>
+pub fn bound_sel(alloc: Global, scope: &Scope, sel: &Sel) -> Result<Part, Memory>
     requires fit { IsFitSel (names_of scope.now) (plain_sel sel.now) }
     ensures low { IfOk result (λ p. (v : Values) → code.value p.low.code.value v ≡ low_of (names_of scope.now) v (plain_sel sel.now)) }
     ensures reads { IfOk result (λ p. (m k : ℕ) → bits.reads p.low.code.value m k
@@ -513,6 +513,20 @@ fn bound_ref(alloc: Global, scope: &Scope, name: &Ref) -> Result<Box<Rhs>, Memor
     bound_source(alloc, scope, source, name)
 }
 
+/// The code of an expression, with the condition and the clauses of `bind_expr`.
+#[tactic(auto, using(crate::proofs::Fitting::faultless_fit))]
+pub fn boxed_expr(alloc: Global, e: &Expr, scope: &Scope, w: u32) -> Result<Box<Rhs>, Memory>
+    requires faultless { faults (sizes_of (names_of scope.now) (plain_expr e.now)) ≡ [] }
+    requires least { width_of (names_of scope.now) (plain_expr e.now) ≤ w }
+    requires most { w ≤ 128 }
+    ensures value { IfOk result (λ c. (v : Values) → code.value c.value v ≡ value (names_of scope.now) v (plain_expr e.now) w) }
+    ensures reads { IfOk result (λ c. (m k : ℕ) → bits.reads c.value m k
+        ≡ reads (names_of scope.now) (plain_expr e.now) m k) }
+    ensures sized { IfOk result (λ c. IsSizedRhs c.value) }
+{
+    bound_expr(alloc, scope, e, w)
+}
+
 /// The code of an expression's number at `w` bits, for all numbers of the scope's nets and words (IEEE 1364-2005, 5.1, 5.2 and 5.4).
 /// Nets and memories are named by their places in the scope's lists.
 ///
@@ -521,7 +535,6 @@ fn bound_ref(alloc: Global, scope: &Scope, name: &Ref) -> Result<Box<Rhs>, Memor
 /// # Errors
 ///
 /// `Memory`: there isn't enough memory, or the words of the scope's memories can't be counted in 64 bits.
-#[tactic(auto, using(crate::proofs::Fitting::faultless_fit))]
 pub fn bind_expr(alloc: Global, e: &Expr, scope: &Scope, w: u32) -> Result<Rhs, Memory>
     requires faultless { faults (sizes_of (names_of scope.now) (plain_expr e.now)) ≡ [] }
     requires least { width_of (names_of scope.now) (plain_expr e.now) ≤ w }
@@ -531,6 +544,6 @@ pub fn bind_expr(alloc: Global, e: &Expr, scope: &Scope, w: u32) -> Result<Rhs, 
         ≡ reads (names_of scope.now) (plain_expr e.now) m k) }
     ensures sized { IfOk result IsSizedRhs }
 {
-    let code = bound_expr(alloc, scope, e, w)?;
+    let code = boxed_expr(alloc, e, scope, w)?;
     Ok(Box::into_inner(code))
 }
