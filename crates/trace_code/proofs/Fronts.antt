@@ -144,7 +144,7 @@ front_is_salvaged t n (Err (BadTrace at)) has l a =
 front_is_salvaged t n (Err Memory) has l a = inl refl
 
 -- ---- no more packets than bytes
-packets-few : (cs : List Channel) (ps : List Packet) → length ps ≤ length (flat_map (packet_bytes cs) ps)
+pub packets-few : (cs : List Channel) (ps : List Packet) → length ps ≤ length (flat_map (packet_bytes cs) ps)
 packets-few cs [] = omega arith
 packets-few cs (p ∷ ps) =
     omega (arith, packets-few cs ps, length-append (packet_bytes cs p) (flat_map (packet_bytes cs) ps))

@@ -4,6 +4,7 @@ pub mod Table
 pub mod Names
 pub mod Readings
 pub mod Fronts
+pub mod Skips
 pub mod NumberLaws
 pub mod PacketLoop
 pub mod PacketLaws

@@ -2,7 +2,8 @@
 use Rattle.std.proofs.Common.{◌≡◌, ℕ, zero, suc, ◌+◌, ◌-◌, ◌*◌, ◌/◌, ◌%◌, ◌^◌, ◌<◌, ◌≤◌, Bool, true, false, cond, ltb, List, [], ◌∷◌, ◌++◌}
 use Rattle.std.proofs.Common.{length, get_or, take, drop, Option, Some, None, fold, refl, sym, ap, subst, ◌∙◌, append_assoc, arith, inl}
 use Rattle.std.proofs.Common.{inr, pow-suc, mul_comm}
-use Rattle.std.specs.Int.{byte_at, bytes_low_first, bytes_high_first}
+use Rattle.std.specs.Prelude.{replicate}
+use Rattle.std.specs.Int.{byte_at, byte_worth, bytes_low_first, bytes_high_first, from_be_bytes, sum_through, w128}
 use Rattle.std.proofs.Math.Nat.{pow-le-pow_right, mod-eq_of_lt, mul-add-div_right, div-div-eq-div-mul, div-one, mul-add-mod_self_right}
 use Rattle.std.proofs.Math.Nat.{div-lt_iff_lt-mul, mul-le-mul_right}
 use Rattle.std.proofs.lemmas.Nat.{pow-add}
@@ -10,10 +11,12 @@ use Rattle.std.proofs.Math.Arith.{mod-mul}
 use Rattle.std.proofs.lemmas.Bool.{cases_lt, ltb-true, ltb-false, lt-ltb, le-ltb}
 use Rattle.std.proofs.lemmas.Option.{cond_some}
 use Rattle.std.proofs.lemmas.List.{take_at, drop_at, take-append-drop, length-append, length-take, drop_more, get_or-drop, get_or-take}
-use Rattle.std.proofs.lemmas.List.{get_or_past}
+use Rattle.std.proofs.lemmas.List.{get_or_past, get_or_default, take_all, drop_all, append-nil}
 use Rattle.trace_model.specs.Channel.{byte_count}
 use Rattle.trace_model.specs.Length.{mask_len}
+use Rattle.trace_model.proofs.CountingLemmas.{take-more_read}
 use Rattle.trace_code.specs.Encoding.{mask_bytes}
+use Rattle.trace_code.specs.Writing.{overwritten}
 use Rattle.trace_code.specs.PacketReading.{low_value, high_value, sized_at, mask_at, number_at}
 
 -- ---- one byte more in a loop
@@ -175,6 +178,67 @@ high-again : (k n : ℕ) → high_value (bytes_high_first k n) ≡ n % 256 ^ k
 unfolding high_value
 high-again k n = high-read k n 0 ∙ omega arith
 
+-- ---- in a buffer of 16 bytes
+byte-worth : (i b : ℕ) → byte_worth i b ≡ b * 256 ^ i
+byte-worth zero b = omega arith
+byte-worth (suc i) b = refl
+
+high-push : (high : ℕ) (bytes : List ℕ) (b : ℕ) → fold (λ h x. h * 256 + x) high (bytes ++ b ∷ [])
+    ≡ fold (λ h x. h * 256 + x) high bytes * 256 + b
+high-push high [] b = refl
+high-push high (x ∷ bytes) b = high-push (high * 256 + x) bytes b
+
+-- of the bytes of a number, the first k + 1
+through : (bytes : List ℕ) (m k : ℕ) → k ≤ m → k < length bytes
+    → sum_through (λ i. byte_worth (m - i) (get_or bytes i 0)) k ≡ high_value (take (k + 1) bytes) * 256 ^ (m - k)
+unfolding high_value
+through [] m zero l within = absurd (omega (arith, within))
+through (b ∷ bytes) m zero l within = byte-worth (m - 0) b
+    ∙ ap (λ n. n * 256 ^ (m - 0)) (let e : b ≡ 0 * 256 + b = omega arith in e)
+through bytes m (suc k) l within =
+    let b = get_or bytes (suc k) 0 in
+    let unit = 256 ^ (m - suc k) in
+    let wider : 256 ^ (m - k) ≡ unit * 256 = ap (λ n. 256 ^ n) (let e : m - k ≡ suc (m - suc k) = omega arith in e)
+    ∙ pow-suc 256 (m - suc k) in
+    let more : take (suc k + 1) bytes ≡ take (suc k) bytes ++ b ∷ [] = take-more_read bytes (suc k) b within
+    (get_or_default bytes (suc k) 0 b within) in
+    let whole : high_value (take (suc k + 1) bytes) ≡ high_value (take (suc k) bytes) * 256 + b = ap high_value more
+    ∙ high-push 0 (take (suc k) bytes) b in
+    let next : take (k + 1) bytes ≡ take (suc k) bytes = ap (λ n. take n bytes) (let e : k + 1 ≡ suc k = omega arith in e) in
+    let before : sum_through (λ i. byte_worth (m - i) (get_or bytes i 0)) k ≡ high_value (take (suc k) bytes) * (unit * 256) =
+    through bytes m k (omega arith) (omega arith) ∙ ap (λ (bs : List ℕ). high_value bs * 256 ^ (m - k)) next
+    ∙ ap (λ n. high_value (take (suc k) bytes) * n) wider in
+    let last : byte_worth (m - suc k) b ≡ b * unit = byte-worth (m - suc k) b in
+    rw (before, last, whole) (omega arith)
+
+be-value : (bytes : List ℕ) → length bytes ≡ 16 → from_be_bytes w128 bytes ≡ high_value bytes
+be-value bytes l =
+    let all : take 16 bytes ≡ bytes = take_all 16 bytes (omega arith) in
+    through bytes 15 15 (omega arith) (omega arith)
+    ∙ (let e : high_value (take 16 bytes) * 1 ≡ high_value (take 16 bytes) = omega arith in e) ∙ ap high_value all
+
+-- zeros in front
+zeros : (k n : ℕ) (bytes : List ℕ) → high_value (take k (replicate n 0) ++ bytes) ≡ high_value bytes
+zeros zero n bytes = refl
+zeros (suc k) zero bytes = refl
+zeros (suc k) (suc n) bytes =
+    let rest = take k (replicate n 0) ++ bytes in
+    high_value-cons 0 rest ∙ (let e : 0 * 256 ^ length rest + high_value rest ≡ high_value rest = omega arith in e) ∙ zeros k n bytes
+
+pub whole-value : (bytes : List ℕ) → length bytes ≤ 16
+    → from_be_bytes w128 (overwritten (replicate 16 0) (16 - length bytes) bytes) ≡ high_value bytes
+whole-value bytes l =
+    let k = 16 - length bytes in
+    let front : List ℕ = take k (replicate 16 0) in
+    let blank : List ℕ = replicate 16 0 in
+    let sixteen : length blank ≡ 16 = refl in
+    let none : drop (k + length bytes) (replicate 16 0) ≡ [] = drop_all (k + length bytes) (replicate 16 0) (omega (arith, sixteen)) in
+    let parts : overwritten (replicate 16 0) k bytes ≡ front ++ bytes = ap (λ (bs : List ℕ). front ++ (bytes ++ bs)) none
+    ∙ ap (λ (bs : List ℕ). front ++ bs) (append-nil bytes) in
+    let long : length (front ++ bytes) ≡ 16 = omega (arith, length-append front bytes, length-take k blank, sixteen)
+    in
+    ap (from_be_bytes w128) parts ∙ be-value (front ++ bytes) long ∙ zeros k 16 bytes
+
 -- ---- numbers of a size
 
 -- the bytes that hold this many bits hold each number below 2 to the power of them
@@ -250,3 +314,20 @@ pub number_again : (w x : ℕ) (rest : List ℕ) → x < 2 ^ w → number_at w (
 number_again w x rest lt =
     sized_again high_value (byte_count w) (2 ^ w) (bytes_high_first (byte_count w)) x rest (length-high (byte_count w) x)
     (high-again (byte_count w) x ∙ mod-eq_of_lt (held w x lt)) lt
+
+-- a number that may be any number of its bytes
+pub number-there : (w k : ℕ) (bytes : List ℕ) → IsBytes bytes → w ≡ 8 * k → k ≤ length bytes
+    → number_at w bytes ≡ Some (high_value (take k bytes), drop k bytes)
+unfolding sized_at
+number-there w k bytes fits e l =
+    let size : byte_count w ≡ k = omega arith in
+    let long : ltb (length bytes) k ≡ false = le-ltb (length bytes) k l in
+    let small = high-small (take k bytes) (IsBytes-take k bytes fits) in
+    let front : length (take k bytes) ≡ k = omega (arith, length-take k bytes) in
+    let all : 2 ^ w ≡ 256 ^ k = ap (λ n. 2 ^ n) e ∙ eights k in
+    let below : high_value (take k bytes) < 2 ^ w = subst (λ n. high_value (take k bytes) < n) (ap (λ n. 256 ^ n) front ∙ sym all) small in
+    rw (size, long, lt-ltb (high_value (take k bytes)) (2 ^ w) below) refl
+
+pub number-short : (w : ℕ) (bytes : List ℕ) → length bytes < byte_count w → number_at w bytes ≡ None
+unfolding sized_at
+number-short w bytes l = rw (lt-ltb (length bytes) (byte_count w) l) refl

@@ -107,7 +107,7 @@ regroup cs p rest =
     ∙ ap (λ (t : List ℕ). mask_bytes (length cs) p.starts ++ t) (append_assoc (mask_bytes (length cs) p.ends)
     (number_bytes (widths_under p.starts cs) p.contents) rest))
 
-packet_takes : (cs : List Channel) (bytes : List ℕ) (x : Packet × List ℕ) → IsBytes bytes → packet_at cs bytes ≡ Some x → IsPacket cs x.0
+pub packet_takes : (cs : List Channel) (bytes : List ℕ) (x : Packet × List ℕ) → IsBytes bytes → packet_at cs bytes ≡ Some x → IsPacket cs x.0
     × (bytes ≡ packet_bytes cs x.0 ++ x.1)
 unfolding packet_at
 packet_takes cs bytes x fits e =

@@ -1,10 +1,11 @@
 -- What `salvage` answers for these bytes: what is whole of a trace that was cut off.
-use Rattle.std.specs.Prelude.{◌≡◌, ℕ, ◌+◌, ◌≤◌, ◌⊎◌, List, length, take, Result, Ok, Err}
+use Rattle.std.specs.Prelude.{◌≡◌, ℕ, ◌+◌, ◌≤◌, ◌⊎◌, List, ◌++◌, length, take, Result, Ok, Err}
 use Rattle.std.specs.List.{flat_map}
 use Rattle.trace_model.specs.declared.trace.Trace.{Trace}
 use Rattle.trace_code.specs.declared.error.CodeError.{CodeError}
 use Rattle.trace_code.specs.declared.error.CodeError.TheVariants.{BadTrace, Memory}
-use Rattle.trace_code.specs.Encoding.{header_bytes, packet_bytes, HasEncoding, encode}
+use Rattle.trace_code.specs.declared.salvaging.Whole.{Whole}
+use Rattle.trace_code.specs.Encoding.{header_bytes, packet_bytes, end_mark, HasEncoding, encode}
 use Rattle.trace_code.specs.Decoding.{SplitsLongest, HasNoHeader}
 
 -- the header that begins the bytes, and the longest list of whole lawful packets behind it
@@ -12,6 +13,19 @@ abbrev pub Salvages : List ℕ → Result Trace CodeError → Type 0
 Salvages bytes (Ok t) = (rest : List ℕ) × SplitsLongest bytes t.channels t.packets rest
 Salvages bytes (Err (BadTrace at)) = HasNoHeader bytes × (at ≡ 0)
 Salvages bytes (Err Memory) = Unit {0}
+
+-- the front of the bytes is the encoding of t without its end mark, and t is what is salvaged from them
+pub record IsFront (bytes : List ℕ) (whole : Whole) (t : Trace) : Type 0 where
+  pub salvaged : Salvages bytes (Ok t)
+  pub packets : whole.packets ≡ length t.packets
+  pub few : whole.packets ≤ whole.len
+  pub within : whole.len ≤ length bytes
+  pub encoded : take whole.len bytes ++ end_mark whole.packets ≡ encode t
+
+abbrev pub SalvagesFront : List ℕ → Result Whole CodeError → Type 0
+SalvagesFront bytes (Ok whole) = (t : Trace) × IsFront bytes whole t
+SalvagesFront bytes (Err (BadTrace at)) = HasNoHeader bytes × (at ≡ 0)
+SalvagesFront bytes (Err Memory) = Unit {0}
 
 -- no bytes are salvaged in two ways, unless memory runs out
 abbrev pub OneSalvage : Type 0

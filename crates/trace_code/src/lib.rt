@@ -10,11 +10,12 @@ mod laws;
 mod number;
 mod packets;
 mod salvaging;
+mod skipping;
 mod writing;
 
 pub use decoding::decode;
 pub use encoding::{encode, end_mark, header_bytes};
 pub use error::CodeError;
 pub use laws::{front_is_salvaged, one_place, one_reading, one_salvage, reads_back};
-pub use salvaging::salvage;
+pub use salvaging::{Whole, salvage, salvage_front};
 pub use writing::write_packet;

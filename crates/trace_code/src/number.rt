@@ -6,6 +6,7 @@ ghost use Rattle.trace_code.specs.Reading.{Gives};
 ghost use Rattle.trace_code.specs.PacketReading.{low_value, high_value, mask_at, number_at};
 
 use crate::error::{CodeError, FAULT};
+use crate::writing::write_at;
 use trace_model::fits;
 
 /// The bytes that hold a number of this width in bits.
@@ -28,16 +29,13 @@ fn low_first(bytes: &[u8]) -> u128
 }
 
 /// The number in the bytes, the highest first.
-#[tactic(auto, unfolding(crate::specs::PacketReading::high_value))]
 fn high_first(bytes: &[u8]) -> u128
     requires { length bytes.now ≤ 16 }
     ensures { result ≡ high_value bytes.now }
 {
-    let mut value = 0;
-    for byte in bytes {
-        value = value * 256 + u128::from(*byte);
-    }
-    value
+    let mut whole = [0; 16];
+    let _end = write_at(&mut whole, 16 - bytes.len(), bytes);
+    u128::from_be_bytes(whole)
 }
 
 /// The mask of this many channels at the front of the bytes, and the bytes after it.

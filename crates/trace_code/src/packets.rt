@@ -87,7 +87,7 @@ fn read_contents<'a>(
 
 /// The bytes after the one with which a packet begins.
 #[tactic(auto, unfolding(crate::specs::PacketReading::tag_at))]
-fn read_tag(bytes: &[u8]) -> Result<&[u8], CodeError>
+pub(crate) fn read_tag(bytes: &[u8]) -> Result<&[u8], CodeError>
     ensures { Gives (λ rest. rest.now) result (tag_at bytes.now) }
 {
     match bytes {
@@ -98,7 +98,7 @@ fn read_tag(bytes: &[u8]) -> Result<&[u8], CodeError>
 
 /// The starts and the ends, of which there are some, and the bytes after them.
 #[tactic(auto, unfolding(crate::specs::PacketReading::masks_at))]
-fn read_masks(channels: usize, bytes: &[u8]) -> Result<(u128, u128, &[u8]), CodeError>
+pub(crate) fn read_masks(channels: usize, bytes: &[u8]) -> Result<(u128, u128, &[u8]), CodeError>
     requires { channels ≤ 128 }
     ensures { Gives (λ x. (x.0, x.1, x.2.now)) result (masks_at channels bytes.now) }
 {

@@ -15,7 +15,7 @@ use crate::number::byte_count;
 use trace_model::{Channel, Channels, Row, names};
 
 /// Writes a piece at a place of the buffer, and gives the place after it.
-fn write_at(buf: &mut [u8], at: usize, piece: &[u8]) -> usize
+pub(crate) fn write_at(buf: &mut [u8], at: usize, piece: &[u8]) -> usize
     requires { at + length piece.now ≤ length buf.old }
     ensures bytes { buf.new ≡ overwritten buf.old at piece.now }
     ensures place { result ≡ at + length piece.now }

@@ -5,7 +5,7 @@ use crate::bytes_tests::{
 };
 use std::alloc::Global;
 use std::test::Fail;
-use trace_code::{CodeError, encode, salvage};
+use trace_code::{CodeError, Whole, encode, salvage, salvage_front};
 
 // How many of the packets that end at these places lie whole in the first `len` bytes.
 fn whole(ends: &[usize], len: usize) -> usize {
@@ -26,6 +26,20 @@ fn is_salvaged(
         Ok(t) => {
             header <= bytes.len() && are_packets_of(t.packets.as_slice(), &events[..packets])
         }
+        Err(CodeError::BadTrace { at }) => at == 0 && bytes.len() < header,
+        Err(CodeError::Memory) => false,
+    }
+}
+
+// Whether this many bytes, with so many packets, are the whole front of the first `len` bytes of such a trace.
+fn is_front(alloc: Global, bytes: &[u8], header: usize, ends: &[usize]) -> bool {
+    let packets = whole(ends, bytes.len()).min(ends.len());
+    let len = match ends[..packets].last() {
+        Some(end) => *end,
+        None => header,
+    };
+    match salvage_front(alloc, bytes) {
+        Ok(front) => header <= bytes.len() && front == Whole { len, packets },
         Err(CodeError::BadTrace { at }) => at == 0 && bytes.len() < header,
         Err(CodeError::Memory) => false,
     }
@@ -59,7 +73,8 @@ fn each_front_is_salvaged(rt: HostRuntime) -> Result<(), Fail> {
         let bytes = joined(alloc, header, body)?;
         for len in 0..bytes.len() + 1 {
             let salvaged = is_salvaged(alloc, &bytes[..len], header.len(), events, ends);
-            assert!(rt; salvaged, "{body:?} {len}");
+            let front = is_front(alloc, &bytes[..len], header.len(), ends);
+            assert!(rt; salvaged && front, "{body:?} {len}");
         }
     }
     Ok(())

@@ -17,3 +17,12 @@ pub channels-done : {X : Type 0} (F : ℕ → List X) (n c : ℕ) (front all : L
 channels-done F n c front all l so_far =
     let none : n - c ≡ 0 = omega arith in
     sym (append-nil front) ∙ ap (λ k. front ++ flat_map F (range_with_len c k)) (sym none) ∙ so_far
+
+-- five pieces, one behind the other
+pub five-pushed : {X : Type 0} (r0 r1 r2 r3 r4 a b c d e : List X) → r1 ≡ r0 ++ a → r2 ≡ r1 ++ b → r3 ≡ r2 ++ c → r4 ≡ r3 ++ d
+    → r4 ++ e ≡ r0 ++ (a ++ (b ++ (c ++ (d ++ e))))
+five-pushed r0 r1 r2 r3 r4 a b c d e e1 e2 e3 e4 =
+    ap (λ xs. xs ++ e) e4 ∙ append_assoc r3 d e
+    ∙ ap (λ xs. xs ++ (d ++ e)) e3 ∙ append_assoc r2 c (d ++ e)
+    ∙ ap (λ xs. xs ++ (c ++ (d ++ e))) e2 ∙ append_assoc r1 b (c ++ (d ++ e))
+    ∙ ap (λ xs. xs ++ (b ++ (c ++ (d ++ e)))) e1 ∙ append_assoc r0 a (b ++ (c ++ (d ++ e)))

@@ -1,6 +1,8 @@
 pub mod Tallies
-pub mod Places
+pub mod EventPlaces
 pub mod Contents
-pub mod Walks
 pub mod Early
+pub mod PairMarks
+pub mod FirstCovers
 pub mod Channels
+pub mod OnChannel

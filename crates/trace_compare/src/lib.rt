@@ -1,14 +1,14 @@
 //! What a trace lacks, has beyond, or does earlier than another one over the same channels.
 //!
 //! `Findings` in `specs/` says which findings two traces have, as one list; `compare` gives it. Each channel
-//! is walked side by side in both traces, with clocks that are carried along.
+//! is walked once in both traces; which clocks cover which is found before, in one walk over all packets.
 #![tactic(auto)]
 
-mod clocks;
 mod comparing;
 mod content;
-mod events;
+mod covering;
 mod pairs;
+mod places;
 mod report;
 mod tally;
 

@@ -1,7 +1,7 @@
 //! The command `salvage`.
 
-ghost use Rattle.std.specs.Prelude.{◌≡◌, ◌<◌, ◌^◌, IfOk, IfErr, length};
-ghost use Rattle.trace_code.specs.Encoding.{HasEncoding, encode};
+ghost use Rattle.std.specs.Prelude.{◌≡◌, ◌<◌, ◌^◌, ◌++◌, IfOk, IfErr, take};
+ghost use Rattle.trace_code.specs.Encoding.{end_mark};
 ghost use Rattle.vidi_io.specs.Cause.{Rose};
 ghost use Rattle.vidi_io.specs.Shelf.{Later, holding};
 ghost use Rattle.vidi_io.specs.Writing.{IsCutOff};
@@ -15,8 +15,7 @@ use crate::dump::TRACE_LIMIT;
 use crate::status::{Reason, Status, Stop, Word};
 use crate::text::{put, put_number};
 use std::alloc::Global;
-use trace_code::{CodeError, encode};
-use trace_model::Trace;
+use trace_code::{CodeError, Whole, end_mark, salvage_front};
 use vidi_bits::{Bytes, Memory};
 use vidi_io::{Failed, Shelf, read_whole, write_whole};
 
@@ -37,8 +36,8 @@ pub fn salvage<S: Shelf>(
         Ok(bytes) => bytes,
         Err(error) => return Ok(unread(alloc, Word::Trace, error)?),
     };
-    match trace_code::salvage(alloc, bytes.as_slice()) {
-        Ok(t) => saved(alloc, &t, out, shelf),
+    match salvage_front(alloc, bytes.as_slice()) {
+        Ok(whole) => saved(alloc, bytes, whole, out, shelf),
         Err(CodeError::BadTrace { at }) => {
             Ok(refused(alloc, Word::Trace, Reason::BadTrace { at })?)
         }
@@ -46,21 +45,39 @@ pub fn salvage<S: Shelf>(
     }
 }
 
-/// Writes the bytes of a trace, and tells how many packets it has.
-fn saved<S: Shelf>(alloc: Global, trace: &Trace, out: &str, shelf: &mut S) -> Result<Answer, Stop>
-    requires { HasEncoding trace.now }
-    ensures done { IfOk result (λ a. IsSaid Status.Done (said.salvaged_line (length trace.now.packets)) a.status a.text) }
-    ensures files { IfOk result (λ a. S.files shelf.new ≡ holding (S.files shelf.old) out.now (encode trace.now)) }
-    ensures stopped { IfErr result (IsStopped (IsCutOff (S.files shelf.old) out.now (encode trace.now))
+/// Writes the front of the bytes that is whole, with an end mark, and tells how many packets it has.
+fn saved<S: Shelf>(
+    alloc: Global,
+    bytes: Bytes,
+    whole: Whole,
+    out: &str,
+    shelf: &mut S,
+) -> Result<Answer, Stop>
+    requires few { whole.packets < 2 ^ 32 }
+    ensures done { IfOk result (λ a. IsSaid Status.Done (said.salvaged_line whole.packets) a.status a.text) }
+    ensures files { IfOk result (λ a. S.files shelf.new
+        ≡ holding (S.files shelf.old) out.now (take whole.len bytes ++ end_mark whole.packets)) }
+    ensures stopped { IfErr result (IsStopped (IsCutOff (S.files shelf.old) out.now (take whole.len bytes ++ end_mark whole.packets))
         (Rose (S.write_faults shelf.old) (S.write_faults shelf.new)) (S.files shelf.old) (S.files shelf.new)) }
     ensures counts { Later (S.read_faults shelf.old) (S.read_faults shelf.new) (S.write_faults shelf.old) (S.write_faults shelf.new) }
 {
-    let bytes = encode(alloc, trace)?;
-    let answer = salvaged(alloc, trace.packets.len())?;
-    match write_whole(shelf, out, bytes.as_slice()) {
+    let front = ended_front(bytes, whole)?;
+    let answer = salvaged(alloc, whole.packets)?;
+    match write_whole(shelf, out, front.as_slice()) {
         Ok(()) => Ok(answer),
         Err(Failed) => Err(Stop::WriteFault),
     }
+}
+
+/// The front of the bytes that is whole, with an end mark.
+fn ended_front(bytes: Bytes, whole: Whole) -> Result<Bytes, Memory>
+    requires { whole.packets < 2 ^ 32 }
+    ensures { IfOk result (λ front. front ≡ take whole.len bytes ++ end_mark whole.packets) }
+{
+    let mut front = bytes.into_vec();
+    front.truncate(whole.len);
+    front.extend_from_slice(&end_mark(whole.packets as u32))?;
+    Ok(Bytes::from_vec(front))
 }
 
 fn salvaged(alloc: Global, packets: usize) -> Result<Answer, Memory>

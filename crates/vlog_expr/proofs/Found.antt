@@ -15,8 +15,8 @@ use Rattle.vlog_tree.specs.declared.terminal.Terminal.{Terminal}
 use Rattle.vlog_tree.specs.declared.terminal.Terminal.TheVariants as t
 use Rattle.vlog_tree.specs.Words.{Word, NameWord, Fixed, terminal_kind, terminal_text}
 use Rattle.vlog_tree.specs.Tree.{IdentOf, NumberOf, SignOf, ExprOf, UnaryExpr, BinaryExpr, ChoiceExpr, PrimOf, NumberPrim, RefPrim}
-use Rattle.vlog_tree.specs.Tree.{ParenPrim, ConcatPrim, RefOf, RefWith, NoIndex, Index, NoLast, Last, SelOf, IndexSel, PartSel, IndexedSel}
-use Rattle.vlog_tree.specs.Tree.{exprs_of}
+use Rattle.vlog_tree.specs.Tree.{ParenPrim, ConcatPrim, RepeatPrim, RefOf, RefWith, NoIndex, Index, NoLast, Last, SelOf, IndexSel}
+use Rattle.vlog_tree.specs.Tree.{PartSel, IndexedSel, ExprsOf, exprs_of}
 use Rattle.vlog_tree.specs.Spelling.{unary_terminal, binary_terminal, ident_words, number_words, sign_words, expr_words, prim_words}
 use Rattle.vlog_tree.specs.Spelling.{ref_words, sel_words, exprs_words, more_exprs_words}
 use Rattle.vlog_tree.specs.Shape.{level_of, level, IsGoodName, IsGoodNumber, IsGoodExpr, IsGoodPrim, IsGoodRef, IsGoodSel, AreGoodExprs}
@@ -25,7 +25,7 @@ use Rattle.vlog_expr.specs.Marks.{TokenOf, Toks, spelled, spell, IsLawfulText, A
 use Rattle.vlog_expr.specs.Marks.{name_front, number_of, number_with, number_front, operator_among, operator_of, unary_of, binary_of}
 use Rattle.vlog_expr.specs.Marks.{unary_operators, binary_operators}
 use Rattle.vlog_expr.specs.Reader.{◌>>=◌, found_or, sign_front, binary_front, index_of, expr_at, choice_at, binary_at, chain_at, unary_at}
-use Rattle.vlog_expr.specs.Reader.{prim_at, paren_at, concat_at, parts_at, ref_at, second_at, sel_at, bounds_at}
+use Rattle.vlog_expr.specs.Reader.{prim_at, paren_at, concat_at, repeat_at, parts_at, ref_at, second_at, sel_at, bounds_at}
 use Rattle.vlog_expr.specs.Bare.{forget, forget_all}
 use Rattle.vlog_expr.specs.Laws.{Holds}
 use Rattle.vlog_expr.proofs.Spelled.{U, spell_append}
@@ -240,6 +240,10 @@ module _ (A : Type 0) where
   abbrev pub AtSel : Toks A → SelOf A × Toks A → Type 0
   AtSel w x = IsGoodSel x.0 × From w (sel_words x.0) x.1
 
+  -- a replication's front: its `{`, its count and the second `{`
+  abbrev pub CountAt : Toks A → ExprOf A → Toks A → Type 0
+  CountAt w count ws = IsGoodExpr count × From w (Fixed t.BraceOpen ∷ (expr_words count ++ Fixed t.BraceOpen ∷ [])) ws
+
   more_snoc : (xs : List (ExprOf A)) (e : ExprOf A) → more_exprs_words (exprs_of (xs ++ e ∷ [])) ≡ more_exprs_words (exprs_of xs)
       ++ Fixed t.Comma ∷ expr_words e
   more_snoc [] e = ap (λ (ws : List Word). Fixed t.Comma ∷ ws) (append-nil (expr_words e))
@@ -265,6 +269,9 @@ module _ (A : Type 0) where
         (join w mid rest (expr_words x ++ more_exprs_words (exprs_of xs)) (Fixed t.Comma ∷ expr_words e) g.1 f),
   )
 
+  first_part : (w : Toks A) (e : ExprOf A × Toks A) → AtExpr w e → AtParts w (e.0 ∷ [], e.1)
+  first_part w e g = ((g.0, tt), again w e.1 (expr_words e.0) (expr_words e.0 ++ []) (sym (append-nil (expr_words e.0))) g.1)
+
   pub record Sound (n : ℕ) : Type 0 where
     pub expr : (ws : Toks A) → AreLawful ws → Holds (expr_at n ws) (AtExpr ws)
     pub choice : (w ws : Toks A) (c : ExprOf A) → AtLevel 1 w (c, ws) → Holds (choice_at n c ws) (AtExpr w)
@@ -274,6 +281,7 @@ module _ (A : Type 0) where
     pub prim : (ws : Toks A) → AreLawful ws → Holds (prim_at n ws) (AtPrim ws)
     pub paren : (w ws : Toks A) (line : A) → From w (Fixed t.ParenOpen ∷ []) ws → Holds (paren_at n line ws) (AtPrim w)
     pub concat : (w ws : Toks A) (line : A) → From w (Fixed t.BraceOpen ∷ []) ws → Holds (concat_at n line ws) (AtPrim w)
+    pub repeat : (w ws : Toks A) (line : A) (count : ExprOf A) → CountAt w count ws → Holds (repeat_at n line count ws) (AtPrim w)
     pub parts : (w ws : Toks A) (xs : List (ExprOf A)) → AtParts w (xs, ws) → Holds (parts_at n xs ws) (AtParts w)
     pub ref : (ws : Toks A) → AreLawful ws → Holds (ref_at n ws) (AtRef ws)
     pub second : (w ws : Toks A) (id : IdentOf A) (s : SelOf A) → AtRef w (RefWith id NoIndex (Last s), ws)
@@ -388,15 +396,14 @@ module _ (A : Type 0) where
 
     concat_sound : (w ws : Toks A) (line : A) → From w (Fixed t.BraceOpen ∷ []) ws → Holds (concat_at (suc n) line ws) (AtPrim w)
     concat_sound w ws line f =
-        bind (AtExpr ws) (AtPrim w) (expr_at n ws) (λ e. parts_at n (e.0 ∷ []) e.1 >>= λ es. after t.BraceClose es.1
-        >>= λ c. Some (ConcatPrim line (exprs_of es.0), c.1)) (s.expr ws f.lawful)
-        (λ e g. bind (AtParts ws) (AtPrim w) (parts_at n (e.0 ∷ []) e.1)
-        (λ es. after t.BraceClose es.1 >>= λ c. Some (ConcatPrim line (exprs_of es.0), c.1))
-        (s.parts ws e.1 (e.0 ∷ []) (
-          (g.0, tt),
-          again ws e.1 (expr_words e.0) (expr_words e.0 ++ []) (sym (append-nil (expr_words e.0)))
-              g.1,
-        ))
+        bind (AtExpr ws) (AtPrim w) (expr_at n ws) (λ e. found_or (after t.BraceOpen e.1) (parts_at n (e.0 ∷ []) e.1
+        >>= λ es. after t.BraceClose es.1 >>= λ c. Some (ConcatPrim line (exprs_of es.0), c.1)) (λ o. repeat_at n line e.0 o.1))
+        (s.expr ws f.lawful)
+        (λ e g. found (Behind t.BraceOpen e.1) (AtPrim w) (after t.BraceOpen e.1) (parts_at n (e.0 ∷ []) e.1
+        >>= λ es. after t.BraceClose es.1 >>= λ c. Some (ConcatPrim line (exprs_of es.0), c.1)) (λ o. repeat_at n line e.0 o.1)
+        (after_sound t.BraceOpen e.1 g.1.lawful)
+        (bind (AtParts ws) (AtPrim w) (parts_at n (e.0 ∷ []) e.1)
+        (λ es. after t.BraceClose es.1 >>= λ c. Some (ConcatPrim line (exprs_of es.0), c.1)) (s.parts ws e.1 (e.0 ∷ []) (first_part ws e g))
         (λ es ge. bind (Behind t.BraceClose es.1) (AtPrim w) (after t.BraceClose es.1) (λ c. Some (ConcatPrim line (exprs_of es.0), c.1))
         (after_sound t.BraceClose es.1 ge.1.lawful)
         (λ c fc. (
@@ -404,6 +411,40 @@ module _ (A : Type 0) where
           join w ws c.1 (Fixed t.BraceOpen ∷ []) (exprs_words (exprs_of es.0) ++ Fixed t.BraceClose ∷ []) f
               (join ws es.1 c.1 (exprs_words (exprs_of es.0)) (Fixed t.BraceClose ∷ []) ge.1 fc),
         ))))
+        (λ o fo. s.repeat w o.1 line e.0 (
+          g.0,
+          join w ws o.1 (Fixed t.BraceOpen ∷ []) (expr_words e.0 ++ Fixed t.BraceOpen ∷ []) f
+              (join ws e.1 o.1 (expr_words e.0) (Fixed t.BraceOpen ∷ []) g.1 fo),
+        )))
+
+    repeat_sound : (w ws : Toks A) (line : A) (count : ExprOf A) → CountAt w count ws → Holds (repeat_at (suc n) line count ws) (AtPrim w)
+    repeat_sound w ws line count f =
+        bind (AtExpr ws) (AtPrim w) (expr_at n ws) (λ e. parts_at n (e.0 ∷ []) e.1 >>= λ es. after t.BraceClose es.1
+        >>= λ i. after t.BraceClose i.1 >>= λ c. Some (RepeatPrim line count (exprs_of es.0), c.1)) (s.expr ws f.1.lawful)
+        (λ e g. bind (AtParts ws) (AtPrim w) (parts_at n (e.0 ∷ []) e.1) (λ es. after t.BraceClose es.1
+        >>= λ i. after t.BraceClose i.1 >>= λ c. Some (RepeatPrim line count (exprs_of es.0), c.1))
+        (s.parts ws e.1 (e.0 ∷ []) (first_part ws e g))
+        (λ es ge. bind (Behind t.BraceClose es.1) (AtPrim w) (after t.BraceClose es.1)
+        (λ i. after t.BraceClose i.1 >>= λ c. Some (RepeatPrim line count (exprs_of es.0), c.1))
+        (after_sound t.BraceClose es.1 ge.1.lawful)
+        (λ i fi. bind (Behind t.BraceClose i.1) (AtPrim w) (after t.BraceClose i.1) (λ c. Some (RepeatPrim line count (exprs_of es.0), c.1))
+        (after_sound t.BraceClose i.1 fi.lawful)
+        (λ c fc. (
+          (f.0, ge.0),
+          again w c.1 (front ++ back (exprs_of es.0))
+              (prim_words (RepeatPrim line count (exprs_of es.0)))
+              (ap (λ (ws : List Word). Fixed t.BraceOpen ∷ ws) (append_assoc (expr_words count) (Fixed t.BraceOpen ∷ [])
+              (back (exprs_of es.0))))
+              (join w ws c.1 front (back (exprs_of es.0)) f.1
+              (join ws es.1 c.1 (exprs_words (exprs_of es.0)) (Fixed t.BraceClose ∷ Fixed t.BraceClose ∷ []) ge.1
+              (join es.1 i.1 c.1 (Fixed t.BraceClose ∷ []) (Fixed t.BraceClose ∷ []) fi fc))),
+        )))))
+      where
+        front : List Word
+        front = Fixed t.BraceOpen ∷ (expr_words count ++ Fixed t.BraceOpen ∷ [])
+
+        back : ExprsOf A → List Word
+        back es = exprs_words es ++ Fixed t.BraceClose ∷ Fixed t.BraceClose ∷ []
 
     parts_sound : (w ws : Toks A) (xs : List (ExprOf A)) → AtParts w (xs, ws) → Holds (parts_at (suc n) xs ws) (AtParts w)
     parts_sound w ws xs g =
@@ -491,6 +532,7 @@ module _ (A : Type 0) where
     prim = λ ws h. tt;
     paren = λ w ws line f. tt;
     concat = λ w ws line f. tt;
+    repeat = λ w ws line count f. tt;
     parts = λ w ws xs g. tt;
     ref = λ ws h. tt;
     second = λ w ws id x g. tt;
@@ -506,6 +548,7 @@ module _ (A : Type 0) where
     prim = prim_sound n (sound n);
     paren = paren_sound n (sound n);
     concat = concat_sound n (sound n);
+    repeat = repeat_sound n (sound n);
     parts = parts_sound n (sound n);
     ref = ref_sound n (sound n);
     second = second_sound n (sound n);

@@ -6,15 +6,16 @@ use Rattle.vlog_tree.specs.declared.expr.UnaryOp.{UnaryOp}
 use Rattle.vlog_tree.specs.declared.expr.BinaryOp.{BinaryOp}
 use Rattle.vlog_tree.specs.declared.terminal.Terminal.{Terminal}
 use Rattle.vlog_tree.specs.declared.terminal.Terminal.TheVariants as t
-use Rattle.vlog_tree.specs.Tree.{IdentOf, ExprOf, UnaryExpr, BinaryExpr, ChoiceExpr, NumberPrim, RefPrim, ParenPrim, ConcatPrim, RefWith}
-use Rattle.vlog_tree.specs.Tree.{NoIndex, Index, NoLast, Last, SelOf, IndexSel, PartSel, IndexedSel, ExprsOf, MoreExprs, exprs_of}
+use Rattle.vlog_tree.specs.Tree.{IdentOf, ExprOf, UnaryExpr, BinaryExpr, ChoiceExpr, NumberPrim, RefPrim, ParenPrim, ConcatPrim}
+use Rattle.vlog_tree.specs.Tree.{RepeatPrim, RefWith, NoIndex, Index, NoLast, Last, SelOf, IndexSel, PartSel, IndexedSel, ExprsOf}
+use Rattle.vlog_tree.specs.Tree.{MoreExprs, exprs_of}
 use Rattle.vlog_tree.specs.Shape.{level_of}
 use Rattle.vlog_expr.specs.Marks.{TokenOf, Toks, is_terminal, after, is_name, name_front, number_of, number_with, number_front, unary_of}
 use Rattle.vlog_expr.specs.Marks.{binary_of}
 use Rattle.vlog_expr.specs.Bare.{forget, forget_all, bare_ident, bare_number, bare_sign, bare_expr, bare_prim, bare_ref, bare_sel}
 use Rattle.vlog_expr.specs.Bare.{bare_exprs}
 use Rattle.vlog_expr.specs.Reader.{◌>>=◌, found_or, Read, sign_front, binary_front, index_of, expr_at, choice_at, binary_at, chain_at}
-use Rattle.vlog_expr.specs.Reader.{unary_at, prim_at, paren_at, concat_at, parts_at, ref_at, second_at, sel_at, bounds_at}
+use Rattle.vlog_expr.specs.Reader.{unary_at, prim_at, paren_at, concat_at, repeat_at, parts_at, ref_at, second_at, sel_at, bounds_at}
 use Rattle.vlog_expr.specs.Laws.{seen}
 
 abbrev pub U : Type 0
@@ -215,16 +216,50 @@ module _ (A : Type 0) where
     concat_natural zero line ws = refl
     concat_natural (suc n) line ws =
         over_bind bare_expr bare_prim (expr_at n ws) (expr_at n (forget_all ws))
-        (λ e. parts_at n (e.0 ∷ []) e.1 >>= λ es. after t.BraceClose es.1 >>= λ c. Some (ConcatPrim line (exprs_of es.0), c.1))
-        (λ e. parts_at n (e.0 ∷ []) e.1 >>= λ es. after t.BraceClose es.1 >>= λ c. Some (ConcatPrim tt (exprs_of es.0), c.1))
+        (λ e. found_or (after t.BraceOpen e.1) (parts_at n (e.0 ∷ []) e.1 >>= λ es. after t.BraceClose es.1
+        >>= λ c. Some (ConcatPrim line (exprs_of es.0), c.1)) (λ o. repeat_at n line e.0 o.1))
+        (λ e. found_or (after t.BraceOpen e.1) (parts_at n (e.0 ∷ []) e.1 >>= λ es. after t.BraceClose es.1
+        >>= λ c. Some (ConcatPrim tt (exprs_of es.0), c.1)) (λ o. repeat_at n tt e.0 o.1))
         (expr_natural n ws)
-        (λ e. over_bind (map bare_expr) bare_prim (parts_at n (e.0 ∷ []) e.1) (parts_at n (bare_expr e.0 ∷ []) (forget_all e.1))
+        (λ e. over_found (λ (a : A). tt) bare_prim (after t.BraceOpen e.1) (after t.BraceOpen (forget_all e.1))
+        (parts_at n (e.0 ∷ []) e.1 >>= λ es. after t.BraceClose es.1 >>= λ c. Some (ConcatPrim line (exprs_of es.0), c.1))
+        (parts_at n (bare_expr e.0 ∷ []) (forget_all e.1) >>= λ es. after t.BraceClose es.1
+        >>= λ c. Some (ConcatPrim tt (exprs_of es.0), c.1))
+        (λ o. repeat_at n line e.0 o.1) (λ o. repeat_at n tt (bare_expr e.0) o.1)
+        (after_natural t.BraceOpen e.1)
+        (over_bind (map bare_expr) bare_prim (parts_at n (e.0 ∷ []) e.1) (parts_at n (bare_expr e.0 ∷ []) (forget_all e.1))
         (λ es. after t.BraceClose es.1 >>= λ c. Some (ConcatPrim line (exprs_of es.0), c.1))
         (λ es. after t.BraceClose es.1 >>= λ c. Some (ConcatPrim tt (exprs_of es.0), c.1))
         (parts_natural n (e.0 ∷ []) e.1)
         (λ es. over_bind (λ (a : A). tt) bare_prim (after t.BraceClose es.1) (after t.BraceClose (forget_all es.1))
         (λ c. Some (ConcatPrim line (exprs_of es.0), c.1)) (λ c. Some (ConcatPrim tt (exprs_of (map bare_expr es.0)), c.1))
         (after_natural t.BraceClose es.1) (λ c. ap (λ (xs : ExprsOf U). Some (ConcatPrim tt xs, forget_all c.1)) (bare_listed es.0))))
+        (λ o. repeat_natural n line e.0 o.1))
+
+    repeat_natural : (n : ℕ) (line : A) (count : ExprOf A) (ws : Toks A) → repeat_at n tt (bare_expr count) (forget_all ws)
+        ≡ seen bare_prim (repeat_at n line count ws)
+    repeat_natural zero line count ws = refl
+    repeat_natural (suc n) line count ws =
+        over_bind bare_expr bare_prim (expr_at n ws) (expr_at n (forget_all ws))
+        (λ e. parts_at n (e.0 ∷ []) e.1 >>= λ es. after t.BraceClose es.1 >>= λ i. after t.BraceClose i.1
+        >>= λ c. Some (RepeatPrim line count (exprs_of es.0), c.1))
+        (λ e. parts_at n (e.0 ∷ []) e.1 >>= λ es. after t.BraceClose es.1 >>= λ i. after t.BraceClose i.1
+        >>= λ c. Some (RepeatPrim tt (bare_expr count) (exprs_of es.0), c.1))
+        (expr_natural n ws)
+        (λ e. over_bind (map bare_expr) bare_prim (parts_at n (e.0 ∷ []) e.1) (parts_at n (bare_expr e.0 ∷ []) (forget_all e.1))
+        (λ es. after t.BraceClose es.1 >>= λ i. after t.BraceClose i.1 >>= λ c. Some (RepeatPrim line count (exprs_of es.0), c.1))
+        (λ es. after t.BraceClose es.1 >>= λ i. after t.BraceClose i.1
+        >>= λ c. Some (RepeatPrim tt (bare_expr count) (exprs_of es.0), c.1))
+        (parts_natural n (e.0 ∷ []) e.1)
+        (λ es. over_bind (λ (a : A). tt) bare_prim (after t.BraceClose es.1) (after t.BraceClose (forget_all es.1))
+        (λ i. after t.BraceClose i.1 >>= λ c. Some (RepeatPrim line count (exprs_of es.0), c.1))
+        (λ i. after t.BraceClose i.1 >>= λ c. Some (RepeatPrim tt (bare_expr count) (exprs_of (map bare_expr es.0)), c.1))
+        (after_natural t.BraceClose es.1)
+        (λ i. over_bind (λ (a : A). tt) bare_prim (after t.BraceClose i.1) (after t.BraceClose (forget_all i.1))
+        (λ c. Some (RepeatPrim line count (exprs_of es.0), c.1))
+        (λ c. Some (RepeatPrim tt (bare_expr count) (exprs_of (map bare_expr es.0)), c.1))
+        (after_natural t.BraceClose i.1)
+        (λ c. ap (λ (xs : ExprsOf U). Some (RepeatPrim tt (bare_expr count) xs, forget_all c.1)) (bare_listed es.0)))))
 
     parts_natural : (n : ℕ) (xs : List (ExprOf A)) (ws : Toks A) → parts_at n (map bare_expr xs) (forget_all ws)
         ≡ seen (map bare_expr) (parts_at n xs ws)

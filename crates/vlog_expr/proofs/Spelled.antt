@@ -12,13 +12,14 @@ use Rattle.vlog_tree.specs.declared.expr.BinaryOp.TheVariants as binary
 use Rattle.vlog_tree.specs.declared.terminal.Terminal.TheVariants as t
 use Rattle.vlog_tree.specs.Words.{Word, NumberWord, Fixed, terminal_kind, terminal_text}
 use Rattle.vlog_tree.specs.Tree.{IdentOf, SignOf, ExprOf, UnaryExpr, BinaryExpr, ChoiceExpr, PrimOf, NumberPrim, RefPrim, ParenPrim}
-use Rattle.vlog_tree.specs.Tree.{ConcatPrim, RefOf, RefWith, NoIndex, Index, NoLast, Last, SelOf, IndexSel, PartSel, IndexedSel, ExprsOf}
-use Rattle.vlog_tree.specs.Tree.{NoExprs, MoreExprs, exprs_of}
+use Rattle.vlog_tree.specs.Tree.{ConcatPrim, RepeatPrim, RefOf, RefWith, NoIndex, Index, NoLast, Last, SelOf, IndexSel, PartSel}
+use Rattle.vlog_tree.specs.Tree.{IndexedSel, ExprsOf, NoExprs, MoreExprs, exprs_of}
 use Rattle.vlog_tree.specs.Spelling.{unary_terminal, binary_terminal, expr_words, prim_words, ref_words, sel_words, more_exprs_words}
 use Rattle.vlog_tree.specs.Shape.{level_of, level, IsGoodExpr, IsGoodPrim, IsGoodRef, IsGoodSel, AreGoodExprs, AreAllGoodExprs}
 use Rattle.vlog_expr.specs.Marks.{Toks, spelled, spell, after, unary_of, binary_of}
 use Rattle.vlog_expr.specs.Reader.{◌>>=◌, found_or, Read, sign_front, binary_front, index_of, expr_at, choice_at, binary_at, chain_at}
-use Rattle.vlog_expr.specs.Reader.{unary_at, prim_at, paren_at, concat_at, parts_at, ref_at, second_at, sel_at, bounds_at, fuel_for}
+use Rattle.vlog_expr.specs.Reader.{unary_at, prim_at, paren_at, concat_at, repeat_at, parts_at, ref_at, second_at, sel_at, bounds_at}
+use Rattle.vlog_expr.specs.Reader.{fuel_for}
 use Rattle.vlog_expr.specs.Laws.{Stops, Ends, OneExpr}
 
 abbrev pub U : Type 0
@@ -84,6 +85,9 @@ ends_paren r = record { stops = record { index = refl; operator = λ m h. refl }
 pub ends_brace : (r : Toks U) → Ends (spelled (Fixed t.BraceClose) ∷ r)
 ends_brace r = record { stops = record { index = refl; operator = λ m h. refl }; question = refl }
 
+ends_brace_open : (r : Toks U) → Ends (spelled (Fixed t.BraceOpen) ∷ r)
+ends_brace_open r = record { stops = record { index = refl; operator = λ m h. refl }; question = refl }
+
 pub ends_bracket : (r : Toks U) → Ends (spelled (Fixed t.BracketClose) ∷ r)
 ends_bracket r = record { stops = record { index = refl; operator = λ m h. refl }; question = refl }
 
@@ -102,6 +106,10 @@ stops_question r = record { index = refl; operator = λ m h. refl }
 pub ends_more : (es : ExprsOf U) (r : Toks U) → Ends r → Ends (spell (more_exprs_words es) r)
 ends_more NoExprs r e = e
 ends_more (MoreExprs x es) r e = ends_comma (spell (expr_words x ++ more_exprs_words es) r)
+
+no_count : (es : ExprsOf U) (r : Toks U) → after t.BraceOpen r ≡ None → after t.BraceOpen (spell (more_exprs_words es) r) ≡ None
+no_count NoExprs r h = h
+no_count (MoreExprs x es) r h = refl
 
 weaker : (l : ℕ) (r : Toks U) → Stops l r → Stops (l + 1) r
 weaker l r s = record { index = s.index; operator = λ m h. s.operator m (omega arith) }
@@ -234,6 +242,7 @@ no_sign (NumberPrim x) r = no_sign_number x.kind x.text r
 no_sign (RefPrim (RefWith id index last)) r = refl
 no_sign (ParenPrim line e) r = refl
 no_sign (ConcatPrim line es) r = refl
+no_sign (RepeatPrim line count es) r = refl
 
 -- a tree has a token
 some_prim : (p : PrimOf U) → 0 < length (prim_words p)
@@ -241,6 +250,7 @@ some_prim (NumberPrim x) = omega arith
 some_prim (RefPrim (RefWith id index last)) = omega arith
 some_prim (ParenPrim line e) = omega arith
 some_prim (ConcatPrim line es) = omega arith
+some_prim (RepeatPrim line count es) = omega arith
 
 some_words : (e : ExprOf U) → 0 < length (expr_words e)
 some_words (UnaryExpr None p) = some_prim p
@@ -436,12 +446,41 @@ prim_concat line x es w m (suc (suc n)) r i b =
     let shut = spelled (Fixed t.BraceClose) ∷ r in
     ap (λ (ws : Toks U). concat_at (suc n) line ws) (spell_append (expr_words x ++ more_exprs_words es) (Fixed t.BraceClose ∷ []) r
     ∙ spell_append (expr_words x) (more_exprs_words es) shut)
-    ∙ ap (λ (o : Read U (ExprOf U)). o >>= λ e. parts_at n (e.0 ∷ []) e.1 >>= λ es. after t.BraceClose es.1
-    >>= λ c. Some (ConcatPrim line (exprs_of es.0), c.1)) (w n (spell (more_exprs_words es) shut) (ends_more es shut (ends_brace r))
-    (omega arith))
+    ∙ ap (λ (o : Read U (ExprOf U)). o >>= λ e. found_or (after t.BraceOpen e.1) (parts_at n (e.0 ∷ []) e.1
+    >>= λ es. after t.BraceClose es.1 >>= λ c. Some (ConcatPrim line (exprs_of es.0), c.1)) (λ o. repeat_at n line e.0 o.1))
+    (w n (spell (more_exprs_words es) shut) (ends_more es shut (ends_brace r)) (omega arith))
+    ∙ ap (λ (o : Option (U × Toks U)). found_or o (parts_at n (x ∷ []) (spell (more_exprs_words es) shut)
+    >>= λ es. after t.BraceClose es.1 >>= λ c. Some (ConcatPrim line (exprs_of es.0), c.1)) (λ o. repeat_at n line x o.1))
+    (no_count es shut refl)
     ∙ ap (λ (o : Read U (List (ExprOf U))). o >>= λ es. after t.BraceClose es.1 >>= λ c. Some (ConcatPrim line (exprs_of es.0), c.1))
     (m n (x ∷ []) shut (ends_brace r) refl (omega arith))
     ∙ ap (λ (xs : ExprsOf U). Some (ConcatPrim line (MoreExprs x xs), r)) (listed es)
+
+prim_repeat : (line : U) (count x : ExprOf U) (es : ExprsOf U) → WholeClaim count → WholeClaim x → PartsClaim es
+    → PrimClaim (RepeatPrim line count (MoreExprs x es))
+prim_repeat line count x es wc w m zero r i b = absurd (omega arith)
+prim_repeat line count x es wc w m (suc zero) r i b = absurd (omega arith)
+prim_repeat line count x es wc w m (suc (suc zero)) r i b = absurd (omega arith)
+prim_repeat line count x es wc w m (suc (suc (suc n))) r i b =
+    let closing = Fixed t.BraceClose ∷ Fixed t.BraceClose ∷ [] in
+    let tail = Fixed t.BraceOpen ∷ ((expr_words x ++ more_exprs_words es) ++ closing) in
+    let long = length-append (expr_words count) tail in
+    let longer = length-append (expr_words x ++ more_exprs_words es) closing in
+    let longest = length-append (expr_words x) (more_exprs_words es) in
+    let shut = spell closing r in
+    let ends = ends_brace (spelled (Fixed t.BraceClose) ∷ r) in
+    ap (λ (ws : Toks U). concat_at (suc (suc n)) line ws) (spell_append (expr_words count) tail r)
+    ∙ ap (λ (o : Read U (ExprOf U)). o >>= λ e. found_or (after t.BraceOpen e.1) (parts_at (suc n) (e.0 ∷ []) e.1
+    >>= λ es. after t.BraceClose es.1 >>= λ c. Some (ConcatPrim line (exprs_of es.0), c.1)) (λ o. repeat_at (suc n) line e.0 o.1))
+    (wc (suc n) (spell tail r) (ends_brace_open (spell ((expr_words x ++ more_exprs_words es) ++ closing) r)) (omega arith))
+    ∙ ap (λ (ws : Toks U). repeat_at (suc n) line count ws) (spell_append (expr_words x ++ more_exprs_words es) closing r
+    ∙ spell_append (expr_words x) (more_exprs_words es) shut)
+    ∙ ap (λ (o : Read U (ExprOf U)). o >>= λ e. parts_at n (e.0 ∷ []) e.1 >>= λ es. after t.BraceClose es.1
+    >>= λ i. after t.BraceClose i.1 >>= λ c. Some (RepeatPrim line count (exprs_of es.0), c.1))
+    (w n (spell (more_exprs_words es) shut) (ends_more es shut ends) (omega arith))
+    ∙ ap (λ (o : Read U (List (ExprOf U))). o >>= λ es. after t.BraceClose es.1
+    >>= λ i. after t.BraceClose i.1 >>= λ c. Some (RepeatPrim line count (exprs_of es.0), c.1)) (m n (x ∷ []) shut ends refl (omega arith))
+    ∙ ap (λ (xs : ExprsOf U). Some (RepeatPrim line count (MoreExprs x xs), r)) (listed es)
 
 -- what stands in a bracket
 sel_index : (e : ExprOf U) → WholeClaim e → SelClaim (IndexSel e)
@@ -535,10 +574,15 @@ mutual
   reads_prim (RefPrim x) g = prim_ref x (reads_ref x g)
   reads_prim (ParenPrim line e) g = prim_paren line e (reads e g).at_whole
   reads_prim (ConcatPrim line es) g = reads_concat line es g
+  reads_prim (RepeatPrim line count es) g = reads_repeat line count es (reads count g.0).at_whole g.1
 
   reads_concat : (line : U) (es : ExprsOf U) → AreGoodExprs es → PrimClaim (ConcatPrim line es)
   reads_concat line NoExprs g = absurd g
   reads_concat line (MoreExprs e es) g = prim_concat line e es (reads e g.0).at_whole (reads_parts es g.1)
+
+  reads_repeat : (line : U) (count : ExprOf U) (es : ExprsOf U) → WholeClaim count → AreGoodExprs es → PrimClaim (RepeatPrim line count es)
+  reads_repeat line count NoExprs c g = absurd g
+  reads_repeat line count (MoreExprs e es) c g = prim_repeat line count e es c (reads e g.0).at_whole (reads_parts es g.1)
 
   reads_parts : (es : ExprsOf U) → AreAllGoodExprs es → PartsClaim es
   reads_parts NoExprs g = parts_none

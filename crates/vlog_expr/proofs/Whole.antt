@@ -10,9 +10,9 @@ use Rattle.vlog_tree.specs.declared.expr.NumberKind.TheVariants as number
 use Rattle.vlog_tree.specs.declared.terminal.Terminal.{Terminal}
 use Rattle.vlog_tree.specs.declared.terminal.Terminal.TheVariants as t
 use Rattle.vlog_tree.specs.Words.{Word, NameWord, NumberWord, Fixed, number_kind, terminal_kind, terminal_text, token_of, tokens_of}
-use Rattle.vlog_tree.specs.Tree.{ExprOf, UnaryExpr, BinaryExpr, ChoiceExpr, PrimOf, NumberPrim, RefPrim, ParenPrim, ConcatPrim, RefOf}
-use Rattle.vlog_tree.specs.Tree.{RefWith, IndexOf, NoIndex, Index, LastOf, NoLast, Last, SelOf, IndexSel, PartSel, IndexedSel, ExprsOf}
-use Rattle.vlog_tree.specs.Tree.{NoExprs, MoreExprs}
+use Rattle.vlog_tree.specs.Tree.{ExprOf, UnaryExpr, BinaryExpr, ChoiceExpr, PrimOf, NumberPrim, RefPrim, ParenPrim, ConcatPrim}
+use Rattle.vlog_tree.specs.Tree.{RepeatPrim, RefOf, RefWith, IndexOf, NoIndex, Index, LastOf, NoLast, Last, SelOf, IndexSel, PartSel}
+use Rattle.vlog_tree.specs.Tree.{IndexedSel, ExprsOf, NoExprs, MoreExprs}
 use Rattle.vlog_tree.specs.Plain.{plain_expr}
 use Rattle.vlog_tree.specs.Spelling.{binary_terminal, expr_words, prim_words, ref_words, index_words, last_words, sel_words, exprs_words}
 use Rattle.vlog_tree.specs.Spelling.{more_exprs_words}
@@ -113,6 +113,12 @@ mutual
   prim_lawful (RefPrim x) g = ref_lawful x g
   prim_lawful (ParenPrim line e) g = (tt, lawful_append (expr_words e) (Fixed t.ParenClose ∷ []) (expr_lawful e g) (tt, tt))
   prim_lawful (ConcatPrim line es) g = (tt, lawful_append (exprs_words es) (Fixed t.BraceClose ∷ []) (exprs_lawful es g) (tt, tt))
+  prim_lawful (RepeatPrim line count es) g =
+      let closing = Fixed t.BraceClose ∷ Fixed t.BraceClose ∷ [] in (
+        tt,
+        lawful_append (expr_words count) (Fixed t.BraceOpen ∷ (exprs_words es ++ closing)) (expr_lawful count g.0)
+            (tt, lawful_append (exprs_words es) closing (exprs_lawful es g.1) (tt, (tt, tt))),
+      )
 
   exprs_lawful : (es : ExprsOf U) → AreGoodExprs es → AreLawfulWords (exprs_words es)
   exprs_lawful NoExprs g = tt

@@ -3,7 +3,8 @@ use Rattle.std.specs.Prelude.{if◌then◌else◌, ℕ, zero, suc, pred, ◌+◌
 use Rattle.vlog_tree.specs.declared.expr.BinaryOp.{BinaryOp}
 use Rattle.vlog_tree.specs.declared.terminal.Terminal.TheVariants as t
 use Rattle.vlog_tree.specs.Tree.{IdentOf, SignOf, ExprOf, UnaryExpr, BinaryExpr, ChoiceExpr, PrimOf, NumberPrim, RefPrim, ParenPrim}
-use Rattle.vlog_tree.specs.Tree.{ConcatPrim, RefOf, RefWith, NoIndex, Index, NoLast, Last, SelOf, IndexSel, PartSel, IndexedSel, exprs_of}
+use Rattle.vlog_tree.specs.Tree.{ConcatPrim, RepeatPrim, RefOf, RefWith, NoIndex, Index, NoLast, Last, SelOf, IndexSel, PartSel}
+use Rattle.vlog_tree.specs.Tree.{IndexedSel, exprs_of}
 use Rattle.vlog_tree.specs.Tree.{TargetOf, RefTarget, ConcatTarget, targets_of}
 use Rattle.vlog_tree.specs.Shape.{level_of}
 use Rattle.vlog_expr.specs.Marks.{TokenOf, Toks, after, name_front, number_front, unary_of, binary_of}
@@ -79,11 +80,17 @@ abbrev mutual
   paren_at zero line ws = None
   paren_at (suc n) line ws = expr_at n ws >>= λ e. after t.ParenClose e.1 >>= λ c. Some (ParenPrim line e.0, c.1)
 
-  -- expr { "," expr } "}"
+  -- expr { "," expr } "}" | expr "{" expr { "," expr } "}" "}"
   pub concat_at : {A : Type 0} → ℕ → A → Toks A → Read A (PrimOf A)
   concat_at zero line ws = None
-  concat_at (suc n) line ws = expr_at n ws >>= λ e. parts_at n (e.0 ∷ []) e.1 >>= λ es. after t.BraceClose es.1
-      >>= λ c. Some (ConcatPrim line (exprs_of es.0), c.1)
+  concat_at (suc n) line ws = expr_at n ws >>= λ e. found_or (after t.BraceOpen e.1) (parts_at n (e.0 ∷ []) e.1
+      >>= λ es. after t.BraceClose es.1 >>= λ c. Some (ConcatPrim line (exprs_of es.0), c.1)) (λ o. repeat_at n line e.0 o.1)
+
+  -- expr { "," expr } "}" "}" behind a count and its `{`
+  pub repeat_at : {A : Type 0} → ℕ → A → ExprOf A → Toks A → Read A (PrimOf A)
+  repeat_at zero line count ws = None
+  repeat_at (suc n) line count ws = expr_at n ws >>= λ e. parts_at n (e.0 ∷ []) e.1 >>= λ es. after t.BraceClose es.1
+      >>= λ i. after t.BraceClose i.1 >>= λ c. Some (RepeatPrim line count (exprs_of es.0), c.1)
 
   -- { "," expr } behind the parts so far
   pub parts_at : {A : Type 0} → ℕ → List (ExprOf A) → Toks A → Read A (List (ExprOf A))

@@ -1,11 +1,11 @@
 //! The reader of expressions.
 
-ghost use Rattle.std.specs.Prelude.{◌≡◌, ◌≤◌, ◌<◌, ◌+◌, ◌-◌, ◌^◌, ℕ, Some, map};
+ghost use Rattle.std.specs.Prelude.{◌≡◌, ◌≤◌, ◌<◌, ◌+◌, ◌-◌, ◌^◌, ℕ, Some, [], ◌∷◌, map};
 ghost use Rattle.vlog_tree.specs.Tree.{ExprOf, BinaryExpr};
 ghost use Rattle.vlog_tree.specs.Plain.{plain_ident, plain_expr, plain_prim, plain_ref, plain_sel};
 ghost use Rattle.vlog_expr.specs.Marks.{Toks, all_marked};
 ghost use Rattle.vlog_expr.specs.Reader.{◌>>=◌ as bind, expr_at, choice_at, binary_at, climb_at, chain_at, unary_at, prim_at, paren_at};
-ghost use Rattle.vlog_expr.specs.Reader.{concat_at, parts_at, ref_at, second_at, sel_at, bounds_at, index_of};
+ghost use Rattle.vlog_expr.specs.Reader.{concat_at, repeat_at, parts_at, ref_at, second_at, sel_at, bounds_at, index_of};
 ghost use Rattle.vlog_expr.specs.Given.{Gives};
 
 use crate::front::{Parsed, after, binary_front, expect, name_of, number_front, sign_front};
@@ -15,6 +15,7 @@ use vidi_bits::copied;
 use vlog_lex::Token;
 use vlog_tree::{
     BinaryOp, Expr, Exprs, Ident, Number, Prim as Primary, Ref, Sel, Terminal, Unary, concat,
+    repeat,
 };
 
 /// The level of an operand with its operator, above all binary operators.
@@ -202,7 +203,7 @@ fn paren_of(alloc: Global, line: u32, tokens: &[Token], fuel: usize) -> Parsed<'
     Ok((Primary::Paren { line, inner }, rest))
 }
 
-/// What stands behind `{`.
+/// What stands behind `{`: the parts of a concatenation, or the count of a replication and what it repeats.
 #[cycle(reader)]
 fn concat_of(alloc: Global, line: u32, tokens: &[Token], fuel: usize) -> Parsed<'_, Primary>
     ensures { Gives (λ x. (plain_prim x.0, all_marked x.1.now)) result (concat_at fuel line (all_marked tokens.now)) }
@@ -210,21 +211,47 @@ fn concat_of(alloc: Global, line: u32, tokens: &[Token], fuel: usize) -> Parsed<
     if fuel == 0 {
         return Err(Unread::Fault);
     }
-    let (part, rest) = expr_of(alloc, tokens, fuel - 1)?;
-    let mut parts = Exprs::new(alloc);
-    parts.push(part)?;
-    let (parts, rest) = parts_of(alloc, parts, rest, fuel - 1)?;
+    let (first, rest) = expr_of(alloc, tokens, fuel - 1)?;
+    if let Some((_, rest)) = after(Terminal::BraceOpen, rest) {
+        let count = boxed(alloc, first)?;
+        return repeat_of(alloc, line, count, rest, fuel - 1);
+    }
+    let (parts, rest) = parts_of(alloc, first, rest, fuel - 1)?;
     let (_, rest) = expect(Terminal::BraceClose, rest)?;
     Ok((concat(line, parts), rest))
 }
 
-/// The parts that follow the first ones, each behind a comma.
+/// What a replication repeats, behind its count and `{`.
+#[cycle(reader)]
+fn repeat_of(
+    alloc: Global,
+    line: u32,
+    count: Box<Expr>,
+    tokens: &[Token],
+    fuel: usize,
+) -> Parsed<'_, Primary>
+    ensures { Gives (λ x. (plain_prim x.0, all_marked x.1.now)) result
+        (repeat_at fuel line (plain_expr count.value) (all_marked tokens.now)) }
+{
+    if fuel == 0 {
+        return Err(Unread::Fault);
+    }
+    let (first, rest) = expr_of(alloc, tokens, fuel - 1)?;
+    let (parts, rest) = parts_of(alloc, first, rest, fuel - 1)?;
+    let (_, inner) = expect(Terminal::BraceClose, rest)?;
+    let (_, rest) = expect(Terminal::BraceClose, inner)?;
+    Ok((repeat(line, count, parts), rest))
+}
+
+/// This part and those that follow it, each behind a comma.
 #[cycle(reader)]
 #[tactic(auto, using(crate::proofs::Maps::exprs_snoc))]
-fn parts_of(alloc: Global, parts: Exprs, tokens: &[Token], fuel: usize) -> Parsed<'_, Exprs>
-    ensures { Gives (λ x. (map plain_expr x.0, all_marked x.1.now)) result (parts_at fuel (map plain_expr parts) (all_marked tokens.now)) }
+fn parts_of(alloc: Global, first: Expr, tokens: &[Token], fuel: usize) -> Parsed<'_, Exprs>
+    ensures { Gives (λ x. (map plain_expr x.0, all_marked x.1.now)) result
+        (parts_at fuel (plain_expr first ∷ []) (all_marked tokens.now)) }
 {
-    let mut parts = parts;
+    let mut parts = Exprs::new(alloc);
+    parts.push(first)?;
     let mut rest = tokens;
     let mut left = fuel;
     while left > 0 {

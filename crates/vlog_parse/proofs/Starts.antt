@@ -10,7 +10,8 @@ use Rattle.vlog_tree.specs.declared.expr.UnaryOp.TheVariants as unary
 use Rattle.vlog_tree.specs.declared.terminal.Terminal.{Terminal}
 use Rattle.vlog_tree.specs.declared.terminal.Terminal.TheVariants as t
 use Rattle.vlog_tree.specs.Words.{NameWord, NumberWord, Fixed, number_kind, terminal_kind, terminal_text}
-use Rattle.vlog_tree.specs.Tree.{ExprOf, UnaryExpr, BinaryExpr, ChoiceExpr, PrimOf, NumberPrim, RefPrim, ParenPrim, ConcatPrim, RefWith}
+use Rattle.vlog_tree.specs.Tree.{ExprOf, UnaryExpr, BinaryExpr, ChoiceExpr, PrimOf, NumberPrim, RefPrim, ParenPrim, ConcatPrim}
+use Rattle.vlog_tree.specs.Tree.{RepeatPrim, RefWith}
 use Rattle.vlog_tree.specs.Spelling.{unary_terminal, binary_terminal, expr_words, prim_words, index_words, last_words, exprs_words}
 use Rattle.vlog_expr.specs.Marks.{TokenOf, Toks, spelled, spell, same_kind, after}
 use Rattle.vlog_expr.proofs.Spelled.{U, spell_append}
@@ -29,6 +30,8 @@ prim_start x s (NumberPrim n) r = s.number n.kind n.text r
 prim_start x s (RefPrim (RefWith id index last)) r = s.name id.name (spell (index_words index ++ last_words last) r)
 prim_start x s (ParenPrim line e) r = s.paren (spell (expr_words e ++ Fixed t.ParenClose ∷ []) r)
 prim_start x s (ConcatPrim line es) r = s.brace (spell (exprs_words es ++ Fixed t.BraceClose ∷ []) r)
+prim_start x s (RepeatPrim line count es) r = s.brace (spell (expr_words count ++ Fixed t.BraceOpen
+    ∷ (exprs_words es ++ Fixed t.BraceClose ∷ Fixed t.BraceClose ∷ [])) r)
 
 pub expr_start : (x : Terminal) → NoStart x → (e : ExprOf U) (r : Toks U) → after x (spell (expr_words e) r) ≡ None
 expr_start x s (UnaryExpr None p) r = prim_start x s p r

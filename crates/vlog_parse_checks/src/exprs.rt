@@ -5,11 +5,11 @@ use std::process::Abort;
 use std::test::Fail;
 use vlog_expr::{Unread, parse_expression};
 use vlog_lex::lex;
-use vlog_tree::{Expr, Prim as Primary, Ref, Sel};
+use vlog_tree::{Expr, Prim as Primary, Ref, Sel, expr_line};
 
-// The trees as words: an operator before its operands, `(` and `{` as they stand, the first of two
-// brackets as `<..>` and the last one as `[..]`.
-const CASES: [(&str, &str); 46] = [
+// The trees as words: an operator before its operands, `(` and `{` as they stand, a count before the `{` of
+// what it repeats, the first of two brackets as `<..>` and the last one as `[..]`.
+const CASES: [(&str, &str); 56] = [
     ("a", "a"),
     ("a || b || c", "LogicalOr(LogicalOr(a,b),c)"),
     ("a && b && c", "LogicalAnd(LogicalAnd(a,b),c)"),
@@ -62,9 +62,19 @@ const CASES: [(&str, &str); 46] = [
     ("a[i][7:4] + a[j][k +: 2]", "Plus(a<i>[7:4],a<j>[k+:2])"),
     ("{a}", "{a}"),
     ("{a, {b, 4'hf}, {c}}", "{a,{b,4'hf},{c}}"),
+    ("{2{a}}", "{2{a}}"),
+    ("{W{a, b[1]}}", "{W{a,b[1]}}"),
+    ("{2{{a}}}", "{2{{a}}}"),
+    ("{{2{a}}, b}", "{{2{a}},b}"),
+    ("{{a}{b}}", "{{a}{b}}"),
+    ("{2{{3{a}}}}", "{2{{3{a}}}}"),
+    ("{{2{a}}{b}}", "{{2{a}}{b}}"),
+    ("{W + 1{a, b}}", "{Plus(W,1){a,b}}"),
+    ("{a ? 1 : 2{~b}}", "{Choice(a,1,2){BitNot(b)}}"),
+    ("~{4'd2{a}} + b", "Plus(BitNot({4'd2{a}}),b)"),
 ];
 
-const REFUSED: [&str; 20] = [
+const REFUSED: [&str; 33] = [
     "",
     "a +",
     "* a",
@@ -80,7 +90,20 @@ const REFUSED: [&str; 20] = [
     "()",
     "{}",
     "{a,}",
-    "{2{a}}",
+    "{2{}}",
+    "{2{a}",
+    "{2{a}}}",
+    "{{a}}{b}",
+    "{a{b}, c}",
+    "{a, 2{b}}",
+    "{2{a} b}",
+    "{2{a,}}",
+    "{2{a}{b}}",
+    "{2{3{a}}}",
+    "{2 3{a}}",
+    "{{b}{}}",
+    "2{a}",
+    "a{b}",
     "a[]",
     "a[1:0][2]",
     "a[1][2][3]",
@@ -139,6 +162,17 @@ fn show_prim(alloc: Global, out: &mut Vec<u8>, prim: &Primary) -> Result<(), All
             put(out, b"{")?;
             show_parts(alloc, out, parts.as_slice())?;
             put(out, b"}")
+        }
+        Primary::Repeat {
+            line: _,
+            count,
+            parts,
+        } => {
+            put(out, b"{")?;
+            show(alloc, out, count)?;
+            put(out, b"{")?;
+            show_parts(alloc, out, parts.as_slice())?;
+            put(out, b"}}")
         }
     }
 }
@@ -228,6 +262,25 @@ fn no_trees(rt: HostRuntime) -> Result<(), Fail> {
     for text in REFUSED {
         assert!(rt; is_refused(rt.alloc(), text)?, "{text}");
     }
+    Ok(())
+}
+
+// The lines of a replication, its count and its first part.
+fn repeat_lines_of(alloc: Global) -> Result<(u32, u32, u32), Fail> {
+    let tokens = lex(alloc, b"\n{\n2\n{\n{b}\n}\n}")?;
+    let Ok(Expr::Unary(unary)) = parse_expression(alloc, tokens.as_slice()) else {
+        return Ok((0, 0, 0));
+    };
+    let Primary::Repeat { line, count, parts } = &unary.prim else {
+        return Ok((0, 0, 0));
+    };
+    let part = parts.as_slice().first().map_or(0, |part| expr_line(part));
+    Ok((*line, expr_line(count), part))
+}
+
+#[test]
+fn lines_of_a_replication(rt: HostRuntime) -> Result<(), Fail> {
+    assert!(rt; repeat_lines_of(rt.alloc())? == (2, 3, 5));
     Ok(())
 }
 

@@ -17,7 +17,7 @@ use vlog_tree::{
 // line of its `.` and before `-` where it is empty. Statements: `{..}`, `?(..)(..)` with its two bodies,
 // `:(..)` with an arm in each pair of brackets: the number of its labels, or `d` or `d:` with the line of
 // `default`, and its body; `=`, `<`; `;` is an empty body.
-const FILES: [(&str, &str); 26] = [
+const FILES: [(&str, &str); 27] = [
     ("module m(); endmodule", "m()"),
     (
         "module m(input a, input wire [1:0] b, output c, output wire d, output reg [3:0] e = 1, f, g = 2); endmodule",
@@ -35,6 +35,10 @@ const FILES: [(&str, &str); 26] = [
     (
         "module m(); assign a = 1, {b, c[0]} = d; assign e[3:0] = f; endmodule",
         "m()A2A1",
+    ),
+    (
+        "module m(); localparam A = {2{1'b0}}; assign a = {A{b, c}}, d[{2{e}}] = f; endmodule",
+        "m()L1A2",
     ),
     (
         "module m();\nalways @(posedge k) a <= b;\n\nalways @(posedge l) ; endmodule",
@@ -119,7 +123,7 @@ const FILES: [(&str, &str); 26] = [
 ];
 
 // Texts of one line that are no file.
-const REFUSED: [&str; 68] = [
+const REFUSED: [&str; 70] = [
     "",
     ";",
     "module m()",
@@ -187,8 +191,9 @@ const REFUSED: [&str; 68] = [
     "module m(); n u(.a(b),); endmodule",
     "module m(); n u(.a); endmodule",
     "module m(); n u(), v(); endmodule",
-    // The form that isn't there yet.
-    "module m(); assign a = {2{b}}; endmodule",
+    "module m(); assign {2{a}} = b; endmodule",
+    "module m(); assign {a{b}} = c; endmodule",
+    "module m(); always @* {2{a}} = b; endmodule",
 ];
 
 fn put(out: &mut Vec<u8>, text: &[u8]) -> Result<(), AllocError> {
@@ -484,13 +489,17 @@ fn no_files(rt: HostRuntime) -> Result<(), Fail> {
 }
 
 // Texts that are no file, and the line of the first token behind their whole units.
-const LINES: [(&str, u32); 16] = [
+const LINES: [(&str, u32); 20] = [
+    ("\n\n// no token\n", 1),
     ("\n\n;", 3),
     ("module m(\ninput a;\nendmodule", 1),
     ("module m(a);\nendmodule", 1),
     ("module m();\nwire a;\n", 2),
     ("module m();\nwire a;\nassign a =\n\n;\nendmodule", 3),
     ("module m();\nwire if;\nendmodule", 2),
+    ("module m();\nassign a = {2\n{b};\nendmodule", 2),
+    ("module m();\nwire a;\nassign\n{2{a}} = b;\nendmodule", 3),
+    ("module m();\nassign a = {2{b}};\n{2{a}} = b;\nendmodule", 3),
     ("module m();\nwire a;\nelse\nendmodule", 3),
     (
         "module m();\nalways @(posedge k)\na = b;\nelse a = c;\nendmodule",

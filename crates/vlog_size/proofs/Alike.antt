@@ -1,8 +1,8 @@
 -- In a lawful scope nothing is found of what a name stands for, so checked names say what the others do.
 use Rattle.std.proofs.Common.{◌≡◌, ℕ, Bool, true, false, ◌||◌, not, Option, Some, None, List, [], ◌∷◌, ◌++◌, refl, ap, sym, ◌∙◌}
 use Rattle.vlog_tree.specs.Tree.{ExprOf, UnaryExpr, BinaryExpr, ChoiceExpr, ExprsOf, NoExprs, MoreExprs}
-use Rattle.vlog_tree.specs.Tree.{PrimOf, NumberPrim, RefPrim, ParenPrim, ConcatPrim, RefOf, RefWith, IndexOf, NoIndex, Index}
-use Rattle.vlog_tree.specs.Tree.{LastOf, NoLast, Last, SelOf, IndexSel, PartSel, IndexedSel}
+use Rattle.vlog_tree.specs.Tree.{PrimOf, NumberPrim, RefPrim, ParenPrim, ConcatPrim, RepeatPrim, RefOf, RefWith, IndexOf, NoIndex}
+use Rattle.vlog_tree.specs.Tree.{Index, LastOf, NoLast, Last, SelOf, IndexSel, PartSel, IndexedSel}
 use Rattle.vlog_tree.specs.Tree.{TargetOf, RefTarget, ConcatTarget, TargetsOf, NoTargets, MoreTargets}
 use Rattle.vlog_size.specs.declared.error.SizeError.{SizeError}
 use Rattle.vlog_size.specs.declared.error.SizeError.TheVariants as error
@@ -11,8 +11,8 @@ use Rattle.vlog_size.specs.declared.names.Meaning.TheVariants.{Parameter, Place,
 use Rattle.vidi_bits.specs.Findings.{told_if}
 use Rattle.vlog_size.specs.Names.{Readable, fixed, checked, meaning_of, is_lawful_readable}
 use Rattle.vlog_size.specs.Size.{Sizes, sizes_of, sizes_of_prim, sizes_of_ref, sizes_of_index, sizes_of_last, sizes_of_sel, sizes_of_all}
-use Rattle.vlog_size.specs.Size.{sizes_of_target, sizes_of_targets, of_sign, of_binary, of_choice, of_paren, of_concat, of_ref, of_name}
-use Rattle.vlog_size.specs.Size.{Bracket, Bit, Part, Indexed, if_checked, name_const_faults, name_width_faults, const_width, is_past}
+use Rattle.vlog_size.specs.Size.{sizes_of_target, sizes_of_targets, of_sign, of_binary, of_choice, of_paren, of_concat, of_repeat, of_ref}
+use Rattle.vlog_size.specs.Size.{of_name, Bracket, Bit, Part, Indexed, if_checked, name_const_faults, name_width_faults, const_width, is_past}
 use Rattle.vlog_size.proofs.Meanings.{IsLawfulMeaning, meaning_lawful, fixed_lawful, const_lawful, not_past}
 
 both : {A B C : Type 0} → (f : A → B → C) (a c : A) (b d : B) → a ≡ c → b ≡ d → f a b ≡ f c d
@@ -65,6 +65,10 @@ mutual
   prim_alike s l (RefPrim r) = ref_alike s l r
   prim_alike s l (ParenPrim line e) = ap (of_paren line) (expr_alike s l e)
   prim_alike s l (ConcatPrim line es) = ap (of_concat line) (all_alike s l es)
+  prim_alike s l (RepeatPrim line count es) =
+      both (of_repeat line) (sizes_of (fixed (checked s)) count) (sizes_of (fixed s) count)
+      (sizes_of_all (checked s) es) (sizes_of_all s es)
+      (expr_alike (fixed s) (fixed_lawful s l) count) (all_alike s l es)
 
   ref_alike : (s : Readable) → is_lawful_readable s ≡ true → (r : RefOf ℕ) → sizes_of_ref (checked s) r ≡ sizes_of_ref s r
   ref_alike s l (RefWith id index last) =

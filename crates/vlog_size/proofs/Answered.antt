@@ -7,8 +7,8 @@ use Rattle.vlog_tree.specs.declared.expr.NumberKind.{NumberKind}
 use Rattle.vlog_tree.specs.declared.expr.NumberKind.TheVariants.{Decimal, Based}
 use Rattle.vlog_tree.specs.declared.expr.BinaryOp.{BinaryOp}
 use Rattle.vlog_tree.specs.declared.expr.BinaryOp.TheVariants.{ShiftLeft, ShiftRight, Plus, Minus, Times}
-use Rattle.vlog_tree.specs.Tree.{ExprOf, UnaryExpr, BinaryExpr, ChoiceExpr, PrimOf, NumberPrim, RefPrim, ParenPrim, ConcatPrim, RefWith}
-use Rattle.vlog_tree.specs.Tree.{TargetOf}
+use Rattle.vlog_tree.specs.Tree.{ExprOf, UnaryExpr, BinaryExpr, ChoiceExpr, PrimOf, NumberPrim, RefPrim, ParenPrim, ConcatPrim, RepeatPrim}
+use Rattle.vlog_tree.specs.Tree.{RefWith, TargetOf}
 use Rattle.vlog_size.specs.declared.names.Meaning.{Meaning}
 use Rattle.vlog_size.specs.declared.names.Meaning.TheVariants.{Parameter, Place, Undeclared}
 use Rattle.vlog_size.specs.Literal.{is_lawful, digits_from}
@@ -93,6 +93,7 @@ mutual
   prim_small s (RefPrim (RefWith id index last)) = ref_small id.line (meaning_of s id.name) (sizes_of_index s index) (sizes_of_last s last)
   prim_small s (ParenPrim line e) = whole_small s e
   prim_small s (ConcatPrim line es) = none_small
+  prim_small s (RepeatPrim line count es) = none_small
 
 -- ---- the constant
 -- the number of an expression that isn't plain is its value at its own width

@@ -1,7 +1,7 @@
 -- Where names are checked, an expression without a fault has a lawful width, and a number where it stands in a constant position.
 use Rattle.std.proofs.Common.{◌≡◌, ℕ, Bool, true, false, ◌&&◌, ◌||◌, not, Option, None, Some, List, [], ◌∷◌, ◌++◌, refl}
 use Rattle.vlog_tree.specs.Tree.{ExprOf, UnaryExpr, BinaryExpr, ChoiceExpr, ExprsOf, NoExprs, MoreExprs}
-use Rattle.vlog_tree.specs.Tree.{PrimOf, NumberPrim, RefPrim, ParenPrim, ConcatPrim, RefOf, RefWith}
+use Rattle.vlog_tree.specs.Tree.{PrimOf, NumberPrim, RefPrim, ParenPrim, ConcatPrim, RepeatPrim, RefOf, RefWith}
 use Rattle.vlog_tree.specs.Tree.{LastOf, NoLast, Last, SelOf, IndexSel, PartSel, IndexedSel}
 use Rattle.vlog_tree.specs.Tree.{TargetOf, RefTarget, ConcatTarget, TargetsOf, NoTargets, MoreTargets}
 use Rattle.vlog_size.specs.declared.error.SizeError.{SizeError}
@@ -17,14 +17,14 @@ use Rattle.vlog_size.specs.Names.{Readable, fixed, checked, or_meaning, meaning_
 use Rattle.vlog_size.specs.Size.{Sizes, sizes_of, sizes_of_prim, sizes_of_ref, sizes_of_index, sizes_of_last, sizes_of_sel, sizes_of_all}
 use Rattle.vlog_size.specs.Size.{sizes_of_target, sizes_of_targets, of_place, of_ref, Bracket, part_const_faults, part_fault}
 use Rattle.vlog_size.specs.Size.{part_width_faults}
-use Rattle.vlog_size.specs.Size.{outside, all_constant, parts_const_faults, unsized_part, is_bad_binary}
+use Rattle.vlog_size.specs.Size.{outside, too_large, all_constant, parts_const_faults, unsized_part, is_bad_binary}
 use Rattle.vlog_size.specs.Size.{of_param, of_name, if_checked, name_const_faults, no_faults, wrong_width, const_width, is_past}
 use Rattle.vlog_size.proofs.Lists.{nil_left, nil_right, untold, never, both_of}
 use Rattle.vlog_size.proofs.Fits.{below_none}
 use Rattle.vlog_size.proofs.Literals.{number_sized}
 use Rattle.vlog_size.proofs.Meanings.{IsPicked, meaning_picked, param_sized}
 use Rattle.vlog_size.proofs.Sized.{IsSized, Sized, sign_sized, binary_sized, choice_sized, paren_sized}
-use Rattle.vlog_size.proofs.Parts.{AllSized, none_sized, more_sized, concat_sized, known_sized, BracketSized, part_lawful}
+use Rattle.vlog_size.proofs.Parts.{AllSized, none_sized, more_sized, concat_sized, repeat_sized, known_sized, BracketSized, part_lawful}
 
 place_sized : (line width picked limit : ℕ) (index : Option Sizes) (last : Bracket) → is_lawful width ≡ true → is_lawful picked ≡ true
     → BracketSized last → Sized (of_place line width picked limit index last)
@@ -127,6 +127,12 @@ mutual
       param_read s.is_checked id.line (value_of s.constants id.name) (sizes_of_index (fixed s) index) (sizes_of_last (fixed s) last) h
   prim_constant s (ParenPrim line e) h = expr_constant s e h
   prim_constant s (ConcatPrim line es) h = all_parts_constant s es h
+  prim_constant s (RepeatPrim line count es) h =
+      let c = sizes_of (fixed s) count in
+      let parts = sizes_of_all (fixed s) es in
+      let own : too_large c ++ c.const_faults ≡ [] = nil_left (too_large c ++ c.const_faults) (parts_const_faults parts) h in
+      both_of c.constant (all_constant parts) (expr_constant s count (nil_right (too_large c) c.const_faults own))
+      (all_parts_constant s es (nil_right (too_large c ++ c.const_faults) (parts_const_faults parts) h))
 
   all_parts_constant : (s : Readable) (es : ExprsOf ℕ) → parts_const_faults (sizes_of_all (fixed s) es) ≡ []
       → all_constant (sizes_of_all (fixed s) es) ≡ true
@@ -154,6 +160,10 @@ mutual
   prim_sized s (RefPrim r) = whole_ref_sized s r
   prim_sized s (ParenPrim line e) = paren_sized line (sizes_of (checked s) e) (expr_sized s e)
   prim_sized s (ConcatPrim line es) = concat_sized line (sizes_of_all (checked s) es) (all_sized s es)
+  prim_sized s (RepeatPrim line count es) =
+      let c = sizes_of (fixed (checked s)) count in
+      repeat_sized line c (sizes_of_all (checked s) es) (known_sized c (expr_sized (fixed s) count) (expr_constant (checked s) count))
+      (all_sized s es)
 
   whole_ref_sized : (s : Readable) (r : RefOf ℕ) → Sized (sizes_of_ref (checked s) r)
   whole_ref_sized s (RefWith id index last) = ref_sized id.line (meaning_of (checked s) id.name) (sizes_of_index (checked s) index)

@@ -16,3 +16,11 @@ and_assoc false b c = refl
 
 pub first_both : {A : Type 0} → (a b : Option A) (xs ys : List A) → a ≡ first xs → b ≡ first ys → or_first a b ≡ first (xs ++ ys)
 first_both a b xs ys h k = ap (λ o. or_first o b) h ∙ (ap (λ o. or_first (first xs) o) k ∙ sym (first_append xs ys))
+
+pub and_true : (b : Bool) → (b && true) ≡ b
+and_true true = refl
+and_true false = refl
+
+pub or_none : {A : Type 0} → (o : Option A) → or_first o None ≡ o
+or_none None = refl
+or_none (Some x) = refl

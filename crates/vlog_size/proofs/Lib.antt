@@ -4,12 +4,13 @@ pub mod Faultless
 pub mod Firsts
 pub mod Fits
 pub mod KindExamples
-pub mod Joins
 pub mod Lists
 pub mod Literals
 pub mod Meanings
 pub mod Numbers
 pub mod Parts
+pub mod Reaches
+pub mod Repeats
 pub mod Rests
 pub mod Shifts
 pub mod Sized

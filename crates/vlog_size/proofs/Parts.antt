@@ -1,14 +1,18 @@
 -- Of parts without a fault: what a concatenation and a select make of their widths and numbers.
+use Rattle.std.proofs.Common.{◌*◌, ◌%◌, ◌^◌, ◌<◌, zero, suc, add-one, subst}
 use Rattle.std.proofs.Common.{◌≡◌, ◌≤◌, ◌+◌, arith, ℕ, Bool, true, false, ◌&&◌, not, if◌then◌else◌, Option, None, Some, is_none}
 use Rattle.std.proofs.Common.{List, [], ◌∷◌, ◌++◌, refl}
 use Rattle.vlog_size.specs.declared.error.SizeError.TheVariants as error
 use Rattle.vlog_size.specs.Literal.{is_lawful}
 use Rattle.vlog_size.specs.Size.{Sizes, own_width, number, reaches, all_constant, all_lawful, total_width, sum_fault, unsized_part}
 use Rattle.vlog_size.specs.Size.{parts_const_faults, parts_width_faults, joined, join_with, joined_at}
+use Rattle.vlog_size.specs.Size.{is_too_large, times, repeat_width, repeat_value, count_fault, concat_value, of_repeat}
 use Rattle.vlog_size.specs.Size.{of_concat, Bracket, NoBracket, Bit, Part, Indexed, part_width, part_const_faults, part_fault}
 use Rattle.vlog_size.specs.Size.{part_width_faults, outside, too_large, wrong_order, is_wrong_order, is_wrong_part, bounds_width, or_zero}
 use Rattle.vlog_size.proofs.Lists.{nil_left, nil_right, untold, never, left_of, right_of, both_of, so, bounds_lawful}
-use Rattle.vlog_operators.specs.Number.{side_by_side}
+use Rattle.vlog_operators.specs.Number.{side_by_side, repeated}
+use Rattle.vlog_operators.proofs.NumberLemmas.{repeated_fits}
+use Rattle.vlog_size.proofs.Repeats.{lawful_unit}
 use Rattle.vlog_size.proofs.Fits.{Below, below_none, below_some, wider, joined_fits}
 use Rattle.vlog_size.proofs.Sized.{IsSized, Sized, two_there, number_there}
 
@@ -76,11 +80,74 @@ concat_sized line ps inner h k =
       whole = λ p. never (true ≡ false) p;
     }
 
--- ---- the last bracket
+-- ---- `{count{part, ..}}`
 -- without a fault a constant position has a number
 abbrev pub Known : Sizes → Type 0
 Known e = e.const_faults ≡ [] → e.width_faults ≡ [] → is_none (number e) ≡ false
 
+repeated_below : (n v w : ℕ) → repeated n v w < 2 ^ (n * w)
+repeated_below zero v w = let none : zero * w ≡ 0 = omega arith in rw none (omega arith)
+repeated_below (suc n) v w =
+    let next : repeated n v w * 2 ^ w + v % 2 ^ w < 2 ^ ((n + 1) * w) = repeated_fits (repeated n v w) n v w (repeated_below n v w) in
+    let P : ℕ → Type 0 = λ m. repeated n v w * 2 ^ w + v % 2 ^ w < 2 ^ (m * w) in
+    subst P (add-one n) next
+
+repeat_fit : (n : ℕ) (w v : ℕ) (b : Bool) (x : ℕ) → n * w ≤ v → Below v (if b then Some (repeated n x w) else None)
+repeat_fit n w v true x h = wider (n * w) v (Some (repeated n x w)) h (below_some (n * w) (repeated n x w) (repeated_below n x w))
+repeat_fit n w v false x h = below_none v
+
+repeat_fits : (n : Option ℕ) (w v : ℕ) (o : Option ℕ) → repeat_width n w ≤ v → Below v (repeat_value n w o)
+repeat_fits None w v o h = below_none v
+repeat_fits (Some n) w v None h = below_none v
+repeat_fits (Some n) w v (Some x) h = repeat_fit n w v (is_lawful (n * w)) x h
+
+repeat_there : (n : Option ℕ) (w : ℕ) (o : Option ℕ) → is_none n ≡ false → is_lawful (repeat_width n w) ≡ true → is_none o ≡ false
+    → is_none (repeat_value n w o) ≡ false
+repeat_there None w o h l k = h
+repeat_there (Some n) w None h l k = k
+repeat_there (Some n) w (Some x) h l k = rw l refl
+
+times_lawful : (line : ℕ) (n : Option ℕ) (ps : List Sizes) → is_none n ≡ false → all_lawful ps ≡ true → count_fault line n ps ≡ []
+    → is_lawful (repeat_width n (total_width ps)) ≡ true
+times_lawful line None ps h l k = (cc)
+times_lawful line (Some n) ps h l k =
+    so (all_lawful ps) (is_lawful (n * total_width ps))
+    (untold (all_lawful ps && not (is_lawful (n * total_width ps))) (error.Width line (n * total_width ps)) k) l
+
+unit_lawful : (n : Option ℕ) (w : ℕ) → is_lawful (repeat_width n w) ≡ true → is_lawful w ≡ true
+unit_lawful None w l = (cc)
+unit_lawful (Some n) w l = lawful_unit n w l
+
+not_large : (b : Bool) (o : Option ℕ) → b ≡ false → is_none o ≡ false → is_none (if b then None else o) ≡ false
+not_large true o h k = (cc)
+not_large false o h k = k
+
+times_there : (c : Sizes) → too_large c ≡ [] → is_none (number c) ≡ false → is_none (times c) ≡ false
+unfolding times
+times_there c h k = not_large (is_too_large c) (number c) (untold (is_too_large c) (error.Const c.line) h) k
+
+pub repeat_sized : (line : ℕ) (c : Sizes) (ps : List Sizes) → Known c → AllSized ps → Sized (of_repeat line c ps)
+repeat_sized line c ps count inner h k =
+    let before = too_large c ++ c.const_faults in
+    let own : before ≡ [] = nil_left before (parts_const_faults ps) h in
+    let rest : c.width_faults ++ parts_width_faults ps ≡ [] =
+    nil_right (count_fault line (times c) ps) (c.width_faults ++ parts_width_faults ps) k in
+    let s : AreSized ps = inner (nil_right before (parts_const_faults ps) h) (nil_right c.width_faults (parts_width_faults ps) rest) in
+    let there : is_none (times c) ≡ false =
+    times_there c (nil_left (too_large c) c.const_faults own)
+    (count (nil_right (too_large c) c.const_faults own) (nil_left c.width_faults (parts_width_faults ps) rest)) in
+    let fits : is_lawful (repeat_width (times c) (total_width ps)) ≡ true =
+    times_lawful line (times c) ps there s.lawful (nil_left (count_fault line (times c) ps) (c.width_faults ++ parts_width_faults ps) k) in
+    record {
+      lawful = fits;
+      fits = λ w h k. repeat_fits (times c) (total_width ps) w (concat_value ps) h;
+      known = λ o w. repeat_there (times c) (total_width ps) (concat_value ps) there fits
+          (concat_at ps (all_constant ps) (is_lawful (total_width ps)) (total_width ps) (right_of c.constant (all_constant ps) o)
+          (unit_lawful (times c) (total_width ps) fits) (s.known (right_of c.constant (all_constant ps) o)));
+      whole = λ p. never (true ≡ false) p;
+    }
+
+-- ---- the last bracket
 pub known_sized : (e : Sizes) → Sized e → (e.const_faults ≡ [] → e.constant ≡ true) → Known e
 known_sized e s c h k = number_there e (s h k) (c h) h k
 

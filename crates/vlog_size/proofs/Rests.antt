@@ -7,8 +7,9 @@ use Rattle.vlog_tree.specs.declared.stmt.Target.{Target}
 use Rattle.vlog_tree.specs.Plain.{plain_expr, plain_exprs, plain_target, plain_targets}
 use Rattle.vlog_size.specs.Names.{Readable}
 use Rattle.vlog_size.specs.declared.facts.Parts.{Parts}
+use Rattle.vlog_size.specs.declared.evaluated.Gathered.{Gathered}
 use Rattle.vlog_size.specs.Size.{Sizes, sizes_of, sizes_of_all, sizes_of_target, sizes_of_targets}
-use Rattle.vlog_size.specs.Facts.{ShowsRest}
+use Rattle.vlog_size.specs.Facts.{ShowsRest, ShowsGathered}
 
 count_same : (s : Readable) (es : List Expr) → length es ≡ length (sizes_of_all s (plain_exprs es))
 count_same s [] = refl
@@ -17,19 +18,20 @@ count_same s (e ∷ es) = ap suc (count_same s es)
 pub parts_few : (s : Readable) (es : List Expr) → length es < 2 ^ 64 → length (sizes_of_all s (plain_exprs es)) < 2 ^ 64
 parts_few s es h = omega (arith, count_same s es)
 
-pub next_rest : (so_far : Parts) (s : Readable) (es : List Expr) (i : ℕ) (x : Expr) (all : List Sizes) → i < length es → x ≡ get_or es i x
-    → ShowsRest so_far (sizes_of_all s (plain_exprs (drop i es))) all
-    → ShowsRest so_far (sizes_of s (plain_expr x) ∷ sizes_of_all s (plain_exprs (drop (i + 1) es))) all
-next_rest so_far s es i x all within is h =
+pub next_gathered : (so_far : Gathered) (s : Readable) (es : List Expr) (i : ℕ) (x : Expr) (all : List Sizes) → i < length es
+    → x ≡ get_or es i x
+    → ShowsGathered so_far (sizes_of_all s (plain_exprs (drop i es))) all
+    → ShowsGathered so_far (sizes_of s (plain_expr x) ∷ sizes_of_all s (plain_exprs (drop (i + 1) es))) all
+next_gathered so_far s es i x all within is h =
     let split : drop i es ≡ get_or es i x ∷ drop (suc i) es = drop-cons es i x within in
     let found : drop i es ≡ x ∷ drop (i + 1) es = split ∙ (ap (λ (e : Expr). e ∷ drop (suc i) es) (sym is) ∙ rw add-one refl) in
-    let P : List Expr → Type 0 = λ l. ShowsRest so_far (sizes_of_all s (plain_exprs l)) all in
+    let P : List Expr → Type 0 = λ l. ShowsGathered so_far (sizes_of_all s (plain_exprs l)) all in
     subst P found h
 
-pub no_rest : (so_far : Parts) (s : Readable) (es : List Expr) (i : ℕ) (all : List Sizes) → length es ≤ i
-    → ShowsRest so_far (sizes_of_all s (plain_exprs (drop i es))) all → ShowsRest so_far [] all
-no_rest so_far s es i all over h =
-    let P : List Expr → Type 0 = λ l. ShowsRest so_far (sizes_of_all s (plain_exprs l)) all in
+pub none_gathered : (so_far : Gathered) (s : Readable) (es : List Expr) (i : ℕ) (all : List Sizes) → length es ≤ i
+    → ShowsGathered so_far (sizes_of_all s (plain_exprs (drop i es))) all → ShowsGathered so_far [] all
+none_gathered so_far s es i all over h =
+    let P : List Expr → Type 0 = λ l. ShowsGathered so_far (sizes_of_all s (plain_exprs l)) all in
     subst P (drop_all i es over) h
 
 -- ---- targets

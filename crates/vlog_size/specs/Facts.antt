@@ -1,14 +1,20 @@
 -- What the code keeps of an expression.
-use Rattle.std.specs.Prelude.{◌≡◌, ℕ, ◌+◌, ◌&&◌, min, List, Option, Some, None}
+use Rattle.std.specs.Prelude.{◌≡◌, ℕ, ◌+◌, ◌≤◌, ◌<◌, ◌^◌, Bool, true, ◌&&◌, ◌||◌, not, nat_le, min, max, List, [], length, Option}
+use Rattle.std.specs.Prelude.{Some, None, if◌then◌else◌}
 use Rattle.vlog_size.specs.declared.facts.Facts.{Facts}
 use Rattle.vlog_size.specs.declared.facts.Numbered.{Numbered}
 use Rattle.vlog_size.specs.declared.facts.Select.{Select}
 use Rattle.vlog_size.specs.declared.facts.Parts.{Parts}
-use Rattle.vlog_size.specs.declared.value.Joined.{Joined}
+use Rattle.vlog_size.specs.declared.evaluated.Evaluated.{Evaluated}
+use Rattle.vlog_size.specs.declared.evaluated.Operands.{Operands}
+use Rattle.vlog_size.specs.declared.evaluated.Gathered.{Gathered}
+use Rattle.vlog_size.specs.declared.operators.Kind.{Kind}
+use Rattle.vlog_size.specs.declared.operators.Kind.TheVariants.{Sum, Comparison, Logic, Shift}
+use Rattle.vlog_size.specs.Literal.{is_lawful}
 use Rattle.vidi_bits.specs.Findings.{first, or_first}
 use Rattle.vlog_size.specs.Limits.{TOP}
 use Rattle.vlog_size.specs.Size.{Sizes, number, Bracket, part_width, part_const_faults, part_fault, part_width_faults}
-use Rattle.vlog_size.specs.Size.{own_width, join_with, all_constant, all_lawful, total_width, parts_const_faults, parts_width_faults}
+use Rattle.vlog_size.specs.Size.{at_width, joined, all_constant, all_lawful, total_width, parts_const_faults, parts_width_faults}
 
 -- the code's facts of an expression: of its faults the first of each kind, of its width no more than the largest number
 pub record Shows (f : Facts) (e : Sizes) : Type 0 where
@@ -42,8 +48,60 @@ pub record ShowsRest (so_far : Parts) (rest all : List Sizes) : Type 0 where
   pub const_fault : or_first so_far.const_fault (first (parts_const_faults rest)) ≡ first (parts_const_faults all)
   pub width_fault : or_first so_far.width_fault (first (parts_width_faults rest)) ≡ first (parts_width_faults all)
 
--- the parts so far with one more, where that has a number
-abbrev pub IsJoined : Joined → Sizes → Option Joined → Type 0
-IsJoined so_far p None = join_with so_far.width (Some so_far.number) p (own_width p) ≡ None
-IsJoined so_far p (Some all) =
-    (all.width ≡ so_far.width + p.width) × (join_with so_far.width (Some so_far.number) p (own_width p) ≡ Some all.number)
+-- the width of a constant expression, or h bits where that is more, if it is lawful
+abbrev pub reach : ℕ → Sizes → Option ℕ
+reach h e = if e.constant && is_lawful (max h e.width) then Some (max h e.width) else None
+
+-- the facts of an expression, and its number at the larger of h bits and its own width
+pub record ShowsAt (h : ℕ) (f : Evaluated) (e : Sizes) : Type 0 where
+  pub facts : Shows f.facts e
+  pub value : f.value ≡ at_width e.value (reach h e)
+
+-- the width at which an operator of this kind works between two operands, where the whole is taken at h bits or more
+abbrev pub operated_width : Kind → ℕ → ℕ → ℕ → ℕ
+operated_width Sum h a b = max h (max a b)
+operated_width Comparison h a b = max a b
+operated_width Logic h a b = max h 1
+operated_width Shift h a b = max h a
+
+-- the least width at which the left operand is taken
+abbrev pub left_reach : Kind → ℕ → ℕ
+left_reach Sum h = h
+left_reach Comparison h = 0
+left_reach Logic h = 0
+left_reach Shift h = h
+
+-- the least width at which the right operand is taken, where the left one has v bits
+abbrev pub right_reach : Kind → ℕ → ℕ → ℕ
+right_reach Sum h v = max h v
+right_reach Comparison h v = max 0 v
+right_reach Logic h v = 0
+right_reach Shift h v = 0
+
+-- whether the left operand, of u bits and constant or not, is taken wide enough for a right one of v bits
+abbrev pub is_enough : Kind → ℕ → Bool → ℕ → ℕ → Bool
+is_enough Sum h constant u v = not constant || nat_le v (max h u)
+is_enough Comparison h constant u v = not constant || nat_le v (max 0 u)
+is_enough Logic h constant u v = true
+is_enough Shift h constant u v = true
+
+-- two operands, each at the larger of h bits and both widths
+abbrev pub ShowsBoth : ℕ → Operands → Sizes → Sizes → Type 0
+ShowsBoth h o a b = ShowsAt (max h b.width) o.left a × ShowsAt (max h a.width) o.right b
+
+-- two operands, each at the width at which an operator of this kind takes it, where the whole has h bits or more
+abbrev pub ShowsOperands : Kind → ℕ → Operands → Sizes → Sizes → Type 0
+ShowsOperands Sum h o a b = ShowsBoth h o a b
+ShowsOperands Comparison h o a b = ShowsBoth 0 o a b
+ShowsOperands Logic h o a b = ShowsAt 0 o.left a × ShowsAt 0 o.right b
+ShowsOperands Shift h o a b = ShowsAt h o.left a × ShowsAt 0 o.right b
+
+-- the parts so far and the rest of the parts make all of them, also their numbers side by side
+pub record ShowsGathered (so_far : Gathered) (rest all : List Sizes) : Type 0 where
+  pub parts : ShowsRest so_far.parts rest all
+  pub number : total_width all ≤ 128 → joined so_far.parts.sum so_far.number rest ≡ joined 0 (Some 0) all
+
+-- all parts of a list in memory
+pub record ShowsAll (g : Gathered) (all : List Sizes) : Type 0 where
+  pub none_left : ShowsGathered g [] all
+  pub few : length all < 2 ^ 64

@@ -1,8 +1,8 @@
 -- What is wrong with the names in one expression, as lists of findings in text order: E4, a name that isn't declared,
 -- and E7, a name of a wrong kind.
 use Rattle.std.specs.Prelude.{ℕ, Bool, true, false, List, [], ◌++◌, Option, Some, None, is_none}
-use Rattle.vlog_tree.specs.Tree.{ExprOf, UnaryExpr, BinaryExpr, ChoiceExpr, PrimOf, NumberPrim, RefPrim, ParenPrim, ConcatPrim, RefOf}
-use Rattle.vlog_tree.specs.Tree.{RefWith, IndexOf, NoIndex, Index, LastOf, NoLast, Last, SelOf, IndexSel, PartSel, IndexedSel, ExprsOf}
+use Rattle.vlog_tree.specs.Tree.{ExprOf, UnaryExpr, BinaryExpr, ChoiceExpr, PrimOf, NumberPrim, RefPrim, ParenPrim, ConcatPrim}
+use Rattle.vlog_tree.specs.Tree.{RepeatPrim, RefOf, RefWith, IndexOf, NoIndex, Index, LastOf, NoLast, Last, SelOf, IndexSel, PartSel, IndexedSel, ExprsOf}
 use Rattle.vlog_tree.specs.Tree.{NoExprs, MoreExprs}
 use Rattle.vidi_bits.specs.Findings.{told_if}
 
@@ -43,6 +43,7 @@ abbrev mutual
   at_names_of_prim found (RefPrim r) = at_names_of_ref found r
   at_names_of_prim found (ParenPrim line e) = at_names found e
   at_names_of_prim found (ConcatPrim line es) = at_names_of_all found es
+  at_names_of_prim found (RepeatPrim line count es) = at_names found count ++ at_names_of_all found es
 
   pub at_names_of_ref : {A : Type 0} → (RefOf ℕ → List A) → RefOf ℕ → List A
   at_names_of_ref found (RefWith id index last) =

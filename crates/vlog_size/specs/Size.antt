@@ -1,7 +1,7 @@
 -- Constants and widths (IEEE 1364-2005, 3.5, 5.1 and 5.4; this project's profile): whether an expression is plain,
 -- unsized and constant, its width and its number, and its faults, each from those of its parts. A list of faults is in
 -- text order, the whole before its parts. E5 is a fault of a constant, E6 one of a width, an index or a bound.
-use Rattle.std.specs.Prelude.{ℕ, ◌+◌, ◌-◌, ◌%◌, ◌^◌, min, max, Bool, true, false, ◌==◌, ◌&&◌, ◌||◌, not, nat_lt, nat_le}
+use Rattle.std.specs.Prelude.{ℕ, ◌+◌, ◌-◌, ◌*◌, ◌%◌, ◌^◌, max, Bool, true, false, ◌==◌, ◌&&◌, ◌||◌, not, nat_lt, nat_le}
 use Rattle.std.specs.Prelude.{if◌then◌else◌, List, [], ◌∷◌, ◌++◌, Option, Some, None, option_map, flat_map, sum_by, is_none}
 use Rattle.std.specs.List.{list_all}
 use Rattle.vlog_tree.specs.declared.expr.NumberKind.{NumberKind}
@@ -9,14 +9,13 @@ use Rattle.vlog_tree.specs.declared.expr.NumberKind.TheVariants.{Decimal, Based}
 use Rattle.vlog_tree.specs.declared.expr.BinaryOp.{BinaryOp}
 use Rattle.vlog_tree.specs.declared.expr.UnaryOp.{UnaryOp}
 use Rattle.vlog_tree.specs.Tree.{NumberOf, ExprOf, UnaryExpr, BinaryExpr, ChoiceExpr, ExprsOf, NoExprs, MoreExprs}
-use Rattle.vlog_tree.specs.Tree.{PrimOf, NumberPrim, RefPrim, ParenPrim, ConcatPrim, RefOf, RefWith, IndexOf, NoIndex, Index}
-use Rattle.vlog_tree.specs.Tree.{LastOf, NoLast, Last, SelOf, IndexSel, PartSel, IndexedSel}
+use Rattle.vlog_tree.specs.Tree.{PrimOf, NumberPrim, RefPrim, ParenPrim, ConcatPrim, RepeatPrim, RefOf, RefWith, IndexOf, NoIndex}
+use Rattle.vlog_tree.specs.Tree.{Index, LastOf, NoLast, Last, SelOf, IndexSel, PartSel, IndexedSel}
 use Rattle.vlog_tree.specs.Tree.{TargetOf, RefTarget, ConcatTarget, TargetsOf, NoTargets, MoreTargets}
 use Rattle.vlog_size.specs.declared.error.SizeError.{SizeError}
 use Rattle.vlog_size.specs.declared.error.SizeError.TheVariants as error
 use Rattle.vlog_size.specs.declared.scope.Const.{Const}
 use Rattle.vlog_size.specs.declared.scope.Const.TheVariants as const
-use Rattle.vlog_size.specs.Limits.{TOP}
 use Rattle.vidi_bits.specs.Findings.{first, told_if}
 use Rattle.vlog_size.specs.Literal.{is_lawful, literal_width, literal_number, is_bad_literal, is_unsized_literal, digits_from}
 use Rattle.vlog_size.specs.declared.names.Meaning.{Meaning}
@@ -25,7 +24,7 @@ use Rattle.vlog_size.specs.declared.operators.Kind.{Kind}
 use Rattle.vlog_size.specs.declared.operators.Kind.TheVariants.{Sum, Comparison, Logic, Shift}
 use Rattle.vlog_size.specs.Names.{Readable, meaning_of, fixed}
 use Rattle.vlog_size.specs.Operators.{kind_of, in_range, whole_value, is_plain_op, is_plain_shift, binary_value, is_wide, unary_value}
-use Rattle.vlog_operators.specs.Number.{side_by_side}
+use Rattle.vlog_operators.specs.Number.{side_by_side, repeated}
 
 -- what is said of an expression
 pub record Sizes : Type 0 where
@@ -164,9 +163,13 @@ part_width whole picked (Indexed base width) = or_zero (number width)
 abbrev pub outside : ℕ → Sizes → List SizeError
 outside limit i = told_if (reaches limit (number i)) (error.Width i.line (or_zero (number i)))
 
--- a bound or width that is sized and above 2,147,483,647
+-- whether a bound, width or count is sized and above 2,147,483,647
+abbrev pub is_too_large : Sizes → Bool
+is_too_large e = not e.plain && reaches 2147483648 (number e)
+
+-- a bound, width or count that is sized and above 2,147,483,647
 abbrev pub too_large : Sizes → List SizeError
-too_large e = told_if (not e.plain && reaches 2147483648 (number e)) (error.Const e.line)
+too_large e = told_if (is_too_large e) (error.Const e.line)
 
 -- what is found in the last bracket: of each bound its own fault, then those within it
 abbrev pub part_const_faults : Bracket → List SizeError
@@ -357,6 +360,43 @@ of_concat line parts = record {
   width_faults = sum_fault line parts ++ parts_width_faults parts;
 }
 
+-- the number of a replication's count, where it isn't too large
+unfoldable pub times : Sizes → Option ℕ
+times c = if is_too_large c then None else number c
+
+-- a width so many times; a count without a number makes no width
+abbrev pub repeat_width : Option ℕ → ℕ → ℕ
+repeat_width None w = 0
+repeat_width (Some n) w = n * w
+
+-- E6: parts of lawful widths, so many times, make an unlawful one
+abbrev pub count_fault : ℕ → Option ℕ → List Sizes → List SizeError
+count_fault line None parts = no_faults
+count_fault line (Some n) parts =
+    told_if (all_lawful parts && not (is_lawful (n * total_width parts)))
+    (error.Width line (n * total_width parts))
+
+-- a number of w bits so many times side by side, where that width is lawful
+abbrev pub repeat_value : Option ℕ → ℕ → Option ℕ → Option ℕ
+repeat_value None w v = None
+repeat_value (Some n) w None = None
+repeat_value (Some n) w (Some v) = if is_lawful (n * w) then Some (repeated n v w) else None
+
+-- `{count{part, ..}}`: the concatenation of the parts, so many times (IEEE 1364-2005, 5.1.14)
+abbrev pub of_repeat : ℕ → Sizes → List Sizes → Sizes
+of_repeat line c parts = record {
+  line = line;
+  plain = false;
+  is_unsized = false;
+  unsized_literal = false;
+  constant = c.constant && all_constant parts;
+  width = repeat_width (times c) (total_width parts);
+  whole = None;
+  value = λ w. repeat_value (times c) (total_width parts) (concat_value parts);
+  const_faults = (too_large c ++ c.const_faults) ++ parts_const_faults parts;
+  width_faults = count_fault line (times c) parts ++ (c.width_faults ++ parts_width_faults parts);
+}
+
 -- the number of an operator that works at the width of the whole
 abbrev pub wide_value : UnaryOp → (ℕ → Option ℕ) → ℕ → Option ℕ
 wide_value op value w = of_one (λ (n : ℕ). unary_value op n w) (value w)
@@ -483,6 +523,8 @@ abbrev mutual
   sizes_of_prim r (RefPrim ref) = sizes_of_ref r ref
   sizes_of_prim r (ParenPrim line e) = of_paren line (sizes_of r e)
   sizes_of_prim r (ConcatPrim line es) = of_concat line (sizes_of_all r es)
+  -- a count is a constant position
+  sizes_of_prim r (RepeatPrim line count es) = of_repeat line (sizes_of (fixed r) count) (sizes_of_all r es)
 
   pub sizes_of_ref : Readable → RefOf ℕ → Sizes
   sizes_of_ref r (RefWith id index last) = of_name r.is_checked id.line (meaning_of r id.name)
@@ -543,11 +585,3 @@ wide_number w e = if e.plain then e.whole else (if is_sound e then at_width e.va
 -- the number that w bits have where a constant expression without a fault is assigned to them: evaluated, then cut
 unfoldable pub assigned_number : ℕ → Sizes → Option ℕ
 assigned_number w e = of_one (λ (n : ℕ). n % 2 ^ w) (wide_number w e)
-
--- the width of a constant expression, no more than the largest number
-unfoldable pub constant_width : Sizes → Option ℕ
-constant_width e = if e.constant then Some (min e.width TOP) else None
-
--- the width of constant parts after n, no more than the largest number
-unfoldable pub constant_widths : ℕ → List Sizes → Option ℕ
-constant_widths n parts = if all_constant parts then Some (min (n + total_width parts) TOP) else None

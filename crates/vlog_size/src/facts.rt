@@ -1,6 +1,6 @@
 //! What is said of each form of expression, from what is said of its parts.
 
-ghost use Rattle.std.specs.Prelude.{◌≡◌, ◌<◌, ◌^◌, [], ◌∷◌, ℕ, List, min, length, ◌&&◌, not};
+ghost use Rattle.std.specs.Prelude.{◌≡◌, ◌<◌, ◌^◌, [], ◌∷◌, ℕ, List, min, length, ◌&&◌, not, Some};
 ghost use Rattle.vlog_tree.specs.Tree.{NumberOf};
 ghost use Rattle.vlog_tree.specs.Plain.{plain_number};
 ghost use Rattle.vidi_bits.specs.Findings.{first, told_if, or_first};
@@ -8,7 +8,7 @@ ghost use Rattle.vlog_size.specs.Literal.{is_lawful, literal_width, is_bad_liter
 ghost use Rattle.vlog_size.specs.Size.{Sizes, of_number, of_param, of_read, of_sign, of_binary, of_choice, of_paren, of_concat};
 ghost use Rattle.vlog_size.specs.Size.{is_decimal, is_plain_const, decimal_value, is_bad_operator, is_out, of_two, number};
 ghost use Rattle.vlog_size.specs.Size.{chosen_whole, outside, too_large, wrong_order, wrong_part, bounds_width, Bit, Part, Indexed};
-ghost use Rattle.vlog_size.specs.Size.{all_lawful, total_width, sum_fault};
+ghost use Rattle.vlog_size.specs.Size.{all_lawful, total_width, sum_fault, times, count_fault, repeat_width, of_repeat};
 ghost use Rattle.vlog_size.specs.Size.{is_past, wrong_width, name_const_faults, name_width_faults, if_checked, of_name};
 ghost use Rattle.vlog_size.specs.Limits.{TOP};
 ghost use Rattle.vlog_size.specs.Operators.{whole_value};
@@ -465,7 +465,8 @@ pub struct Parts {
 
 /// No part so far.
 pub fn no_parts() -> Parts
-    ensures { (all : List Sizes) → ShowsRest result all all }
+    ensures rest { (all : List Sizes) → ShowsRest result all all }
+    ensures sum { result.sum ≡ 0 }
 {
     Parts {
         constant: true,
@@ -490,6 +491,91 @@ pub fn with_part(parts: &Parts, part: &Facts) -> Parts
         sum: parts.sum.saturating_add(part.width),
         const_fault: either(parts.const_fault, consts),
         width_fault: either(parts.width_fault, part.width_fault),
+    }
+}
+
+/// The number of a replication's count, where it isn't too large.
+#[tactic(auto, unfolding(crate::specs::Size::number, crate::specs::Size::times))]
+pub fn times(count: &Numbered) -> Option<u32>
+    ensures { (C : Sizes) → ShowsNumber count.now C → result ≡ times C }
+{
+    if count.facts.plain {
+        return count.facts.whole;
+    }
+    match count.number {
+        Some(n) if n <= 2_147_483_647 => Some(n as u32),
+        _ => None,
+    }
+}
+
+/// A width so many times, or the largest number where that is larger.
+fn repeat_width(count: Option<u32>, width: u128) -> u128
+    ensures { result ≡ min (repeat_width count width) TOP }
+{
+    match count {
+        Some(n) => u128::from(n).checked_mul(width).unwrap_or(u128::MAX),
+        None => 0,
+    }
+}
+
+/// The width of parts of lawful widths, `count` times, where it is unlawful.
+fn wrong_count(line: u32, count: u32, lawful: bool, width: u128) -> Option<SizeError>
+    ensures { (all : List Sizes) → length all < 2 ^ 64 → lawful ≡ all_lawful all → width ≡ min (total_width all) TOP
+        → result ≡ first (count_fault line (Some count) all) }
+{
+    let got = repeat_width(Some(count), width);
+    let wrong = is_wrong_sum(lawful, got);
+    told_if(wrong, SizeError::Width { line, got })
+}
+
+/// The width of parts of lawful widths, so many times, where the count has a number and the width is
+/// unlawful.
+fn count_fault(line: u32, count: Option<u32>, lawful: bool, width: u128) -> Option<SizeError>
+    ensures { (all : List Sizes) → length all < 2 ^ 64 → lawful ≡ all_lawful all → width ≡ min (total_width all) TOP
+        → result ≡ first (count_fault line count all) }
+{
+    match count {
+        Some(count) => wrong_count(line, count, lawful, width),
+        None => None,
+    }
+}
+
+fn both(a: bool, b: bool) -> bool
+    ensures { result ≡ (a && b) }
+{
+    a && b
+}
+
+/// What is said of these parts, so many times: `whole` is what is said of their concatenation.
+#[tactic(auto, using(crate::proofs::Firsts::first_append))]
+pub fn repeat_facts(
+    line: u32,
+    count: &Numbered,
+    many: Option<u32>,
+    whole: &Facts,
+    parts: &Parts,
+) -> Facts
+    ensures { (C : Sizes) (all : List Sizes) → length all < 2 ^ 64 → ShowsNumber count.now C → many ≡ times C
+        → Shows whole.now (of_concat line all) → ShowsRest parts.now [] all → Shows result (of_repeat line C all) }
+{
+    let own = count_fault(line, many, parts.lawful, whole.width);
+    let constant = both(count.facts.constant, parts.constant);
+    let large = too_large(count);
+    let count_const = either(large, count.facts.const_fault);
+    let count_width = either(count.facts.width_fault, parts.width_fault);
+    let width = repeat_width(many, whole.width);
+    let consts = either(count_const, parts.const_fault);
+    let widths = either(own, count_width);
+    Facts {
+        line,
+        plain: false,
+        is_unsized: false,
+        unsized_literal: false,
+        constant,
+        width,
+        whole: None,
+        const_fault: consts,
+        width_fault: widths,
     }
 }
 

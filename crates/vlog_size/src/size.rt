@@ -1,126 +1,194 @@
 //! What is said of an expression and of a target, and the number of an expression.
 
-ghost use Rattle.std.specs.Prelude.{◌≡◌, ℕ, [], ◌∷◌, Some, None};
+ghost use Rattle.std.specs.Prelude.{◌≡◌, ℕ, List, [], ◌∷◌, Some, None};
 ghost use Rattle.vlog_size.specs.declared.error.SizeError.TheVariants as error;
 ghost use Rattle.vlog_operators.specs.Number.{IsWidth};
 ghost use Rattle.vlog_tree.specs.Plain.{plain_expr, plain_prim, plain_unary, plain_ref, plain_sel, plain_exprs};
 ghost use Rattle.vlog_tree.specs.Plain.{plain_target, plain_targets};
-ghost use Rattle.vlog_size.specs.Names.{readable_in, meaning_of};
+ghost use Rattle.vlog_size.specs.Names.{readable_in, meaning_of, fixed};
 ghost use Rattle.vlog_size.specs.Size.{sizes_of, sizes_of_prim, sizes_of_ref, sizes_of_read, sizes_of_sel, sizes_of_all};
 ghost use Rattle.vlog_size.specs.Size.{sizes_of_target, sizes_of_targets};
-ghost use Rattle.vlog_size.specs.Size.{Sizes, Bracket, NoBracket, number, wide_number, assigned_number, of_concat, of_read, of_place};
+ghost use Rattle.vlog_size.specs.Size.{Sizes, Bracket, NoBracket, assigned_number, of_concat, of_repeat, of_read, of_place};
 ghost use Rattle.vlog_size.specs.Size.{no_faults};
-ghost use Rattle.vlog_size.specs.Facts.{Shows, ShowsNumber, ShowsSelect, ShowsRest};
+ghost use Rattle.vlog_size.specs.Facts.{Shows, ShowsNumber, ShowsSelect, ShowsRest, ShowsAt, ShowsOperands, ShowsAll};
+ghost use Rattle.vlog_size.specs.Facts.{left_reach, right_reach};
 
 use crate::error::SizeError;
+use crate::evaluated::{
+    Evaluated, Gathered, Operands, binary_at, choice_at, concat_at, is_enough, left_reach, name_at,
+    none_gathered, number_at, numbered_from, operand_reach, paren_at, repeat_at, right_reach,
+    sign_at, wide_number, with_next,
+};
 use crate::facts::{
-    Facts, Numbered, Select, binary_facts, bit_select, choice_facts, concat_facts, either,
-    indexed_select, name_facts, no_parts, number_facts, outside, param_facts, paren_facts,
-    part_select, read_facts, sign_facts, with_part,
+    Facts, Numbered, Select, bit_select, concat_facts, either, indexed_select, name_facts,
+    no_parts, outside, param_facts, part_select, read_facts, with_part,
 };
 use crate::names::{Meaning, View, fixed, meaning_of};
-use crate::value::{assigned_value, own};
+use crate::operators::{Kind, kind_of};
 use vidi_bits::trim;
-use vlog_tree::{Expr, Prim as Operand, Ref, Sel, Target, Unary, see_concat, see_concat_target};
-
-/// The number of an expression without a fault that is constant.
-#[tactic(auto, unfolding(crate::specs::Size::number))]
-fn number_of(view: &View<'_>, e: &Expr, facts: &Facts) -> Option<u128>
-    ensures { Shows facts.now (sizes_of (readable_in view.now) (plain_expr e.now))
-        → result ≡ number (sizes_of (readable_in view.now) (plain_expr e.now)) }
-{
-    if facts.plain {
-        return match facts.whole {
-            Some(n) => Some(u128::from(n)),
-            None => None,
-        };
-    }
-    if facts.const_fault.is_none() && facts.width_fault.is_none() {
-        return own(view, e);
-    }
-    None
-}
+use vlog_tree::{
+    Expr, Prim as Operand, Ref, Sel, Target, Unary, see_concat, see_concat_target, see_repeat,
+};
 
 /// What is said of an expression.
-#[cycle(facts)]
 pub fn facts_of(view: &View<'_>, e: &Expr) -> Facts
     ensures { Shows result (sizes_of (readable_in view.now) (plain_expr e.now)) }
 {
+    evaluate(view, e, 0).facts
+}
+
+/// What is said of an operand.
+pub fn prim_facts(view: &View<'_>, prim: &Operand) -> Facts
+    ensures { Shows result (sizes_of_prim (readable_in view.now) (plain_prim prim.now)) }
+{
+    evaluate_prim(view, prim, 0).facts
+}
+
+/// Whether an expression reads parameters alone.
+pub fn is_constant(view: &View<'_>, e: &Expr) -> bool
+    ensures { result ≡ (sizes_of (readable_in view.now) (plain_expr e.now)).constant }
+{
+    facts_of(view, e).constant
+}
+
+/// What is said of an expression, and its number.
+#[cycle(evaluate)]
+pub fn numbered(view: &View<'_>, e: &Expr) -> Numbered
+    ensures { ShowsNumber result (sizes_of (readable_in view.now) (plain_expr e.now)) }
+{
+    let found = evaluate(view, e, 0);
+    numbered_from(&found)
+}
+
+/// What is said of an expression, and its number at the larger of its own width and `wide`.
+#[cycle(evaluate)]
+fn evaluate(view: &View<'_>, e: &Expr, wide: u128) -> Evaluated
+    ensures { ShowsAt wide result (sizes_of (readable_in view.now) (plain_expr e.now)) }
+{
     match e {
-        Expr::Unary(unary) => unary_facts(view, unary),
+        Expr::Unary(unary) => evaluate_unary(view, unary, wide),
         Expr::Binary { left, op, right } => {
-            let a = facts_of(view, left);
-            let b = facts_of(view, right);
-            binary_facts(*op, &a, &b)
+            let kind = kind_of(*op);
+            let start = left_reach(kind, wide);
+            let first = evaluate(view, left, start);
+            let reach = right_reach(kind, wide, &first);
+            let second = evaluate(view, right, reach);
+            let both = widened(view, left, kind, wide, first, second);
+            binary_at(*op, &both, wide)
         }
         Expr::Choice {
             condition,
             then_value,
             else_value,
         } => {
-            let chosen = numbered(view, condition);
-            let a = facts_of(view, then_value);
-            let b = facts_of(view, else_value);
-            choice_facts(&chosen, &a, &b)
+            let chosen = evaluate(view, condition, 0);
+            let taken = evaluate(view, then_value, wide);
+            let other_reach = right_reach(Kind::Sum, wide, &taken);
+            let other = evaluate(view, else_value, other_reach);
+            let branches = widened(view, then_value, Kind::Sum, wide, taken, other);
+            choice_at(&chosen, &branches, wide)
         }
     }
 }
 
-/// What is said of an expression, and its number.
-#[cycle(facts)]
-pub fn numbered(view: &View<'_>, e: &Expr) -> Numbered
-    ensures { ShowsNumber result (sizes_of (readable_in view.now) (plain_expr e.now)) }
+/// Two operands, each at the width at which an operator of this kind takes it. Where the right one
+/// is wider than what the left one was taken at, the left one is evaluated once more.
+#[cycle(evaluate)]
+fn widened(
+    view: &View<'_>,
+    left: &Expr,
+    kind: Kind,
+    wide: u128,
+    first: Evaluated,
+    second: Evaluated,
+) -> Operands
+    ensures { (B : Sizes) → ShowsAt (left_reach kind wide) first (sizes_of (readable_in view.now) (plain_expr left.now))
+        → ShowsAt (right_reach kind wide first.facts.width) second B
+        → ShowsOperands kind wide result (sizes_of (readable_in view.now) (plain_expr left.now)) B }
 {
-    let facts = facts_of(view, e);
-    let number = number_of(view, e, &facts);
-    Numbered { facts, number }
+    if is_enough(kind, wide, &first, &second) {
+        return Operands {
+            left: first,
+            right: second,
+        };
+    }
+    let again = evaluate(view, left, second.facts.width);
+    Operands {
+        left: again,
+        right: second,
+    }
 }
 
-#[cycle(facts)]
-fn unary_facts(view: &View<'_>, unary: &Unary) -> Facts
-    ensures { Shows result (sizes_of (readable_in view.now) (plain_unary unary.now)) }
+#[cycle(evaluate)]
+fn evaluate_unary(view: &View<'_>, unary: &Unary, wide: u128) -> Evaluated
+    ensures { ShowsAt wide result (sizes_of (readable_in view.now) (plain_unary unary.now)) }
 {
     match unary.sign {
-        None => prim_facts(view, &unary.prim),
+        None => evaluate_prim(view, &unary.prim, wide),
         Some(sign) => {
-            let a = prim_facts(view, &unary.prim);
-            sign_facts(sign.line, sign.op, &a)
+            let a = evaluate_prim(view, &unary.prim, operand_reach(sign.op, wide));
+            sign_at(sign.line, sign.op, &a, wide)
         }
     }
 }
 
-/// What is said of an operand.
-#[cycle(facts)]
-pub fn prim_facts(view: &View<'_>, prim: &Operand) -> Facts
-    ensures { Shows result (sizes_of_prim (readable_in view.now) (plain_prim prim.now)) }
+#[cycle(evaluate)]
+fn evaluate_prim(view: &View<'_>, prim: &Operand, wide: u128) -> Evaluated
+    ensures { ShowsAt wide result (sizes_of_prim (readable_in view.now) (plain_prim prim.now)) }
 {
     match prim {
-        Operand::Number(number) => number_facts(number),
-        Operand::Ref(name) => ref_facts(view, name),
+        Operand::Number(number) => number_at(number, wide),
+        Operand::Ref(name) => evaluate_ref(view, name, wide),
         Operand::Paren { line, inner } => {
-            let inner = facts_of(view, inner);
-            paren_facts(*line, &inner)
+            let inner = evaluate(view, inner, wide);
+            paren_at(*line, &inner)
         }
         Operand::Concat { line, parts } => {
             see_concat(*line, parts);
-            parts_facts(view, *line, parts.as_slice())
+            let all = gather(view, parts.as_slice());
+            concat_at(*line, &all, wide)
+        }
+        Operand::Repeat { line, count, parts } => {
+            see_repeat(*line, parts);
+            let all = gather(view, parts.as_slice());
+            repeat(view, *line, count, &all, wide)
         }
     }
 }
 
-#[cycle(facts)]
-fn parts_facts(view: &View<'_>, line: u32, parts: &[Expr]) -> Facts
-    ensures { Shows result (of_concat line (sizes_of_all (readable_in view.now) (plain_exprs parts.now))) }
+/// The parts of a concatenation.
+#[cycle(evaluate)]
+fn gather(view: &View<'_>, parts: &[Expr]) -> Gathered
+    ensures { ShowsAll result (sizes_of_all (readable_in view.now) (plain_exprs parts.now)) }
 {
-    let mut so_far = no_parts();
+    let mut so_far = none_gathered();
     for part in parts {
-        let facts = facts_of(view, part);
-        so_far = with_part(&so_far, &facts);
+        let found = evaluate(view, part, 0);
+        so_far = with_next(&so_far, &found);
     }
-    concat_facts(line, &so_far)
+    so_far
 }
 
-#[cycle(facts)]
+/// What is said of these parts, so many times. The count is a constant position.
+#[cycle(evaluate)]
+fn repeat(view: &View<'_>, line: u32, count: &Expr, all: &Gathered, wide: u128) -> Evaluated
+    ensures { (parts : List Sizes) → ShowsAll all.now parts
+        → ShowsAt wide result (of_repeat line (sizes_of (fixed (readable_in view.now)) (plain_expr count.now)) parts) }
+{
+    let constants = fixed(view);
+    let count = numbered(&constants, count);
+    repeat_at(line, &count, all, wide)
+}
+
+#[cycle(evaluate)]
+fn evaluate_ref(view: &View<'_>, name: &Ref, wide: u128) -> Evaluated
+    ensures { ShowsAt wide result (sizes_of_ref (readable_in view.now) (plain_ref name.now)) }
+{
+    let facts = ref_facts(view, name);
+    name_at(view, name, facts, wide)
+}
+
+#[cycle(evaluate)]
 fn ref_facts(view: &View<'_>, name: &Ref) -> Facts
     ensures { Shows result (sizes_of_ref (readable_in view.now) (plain_ref name.now)) }
 {
@@ -131,7 +199,7 @@ fn ref_facts(view: &View<'_>, name: &Ref) -> Facts
 
 /// What is said of a name with this meaning and its brackets, without what is found of what it
 /// stands for.
-#[cycle(facts)]
+#[cycle(evaluate)]
 fn read_of(view: &View<'_>, name: &Ref, meaning: Meaning) -> Facts
     requires { meaning ≡ meaning_of (readable_in view.now) name.now.id.name }
     ensures { Shows result (sizes_of_read (readable_in view.now) (plain_ref name.now)) }
@@ -220,7 +288,7 @@ fn lone_word_facts(line: u32, width: u32, limit: u32, word: &Numbered) -> Facts
 }
 
 /// What a select adds. An index picks some bits below the limit.
-#[cycle(facts)]
+#[cycle(evaluate)]
 fn select(view: &View<'_>, line: u32, whole: u32, picked: u32, limit: u32, sel: &Sel) -> Select
     ensures { ShowsSelect line whole picked limit result (sizes_of_sel (readable_in view.now) (plain_sel sel.now)) }
 {
@@ -237,9 +305,9 @@ fn select(view: &View<'_>, line: u32, whole: u32, picked: u32, limit: u32, sel: 
         }
         Sel::Indexed { base, width } => {
             let constants = fixed(view);
-            let base = facts_of(view, base);
+            let base = evaluate(view, base, 0);
             let width = numbered(&constants, width);
-            indexed_select(line, whole, &base, &width)
+            indexed_select(line, whole, &base.facts, &width)
         }
     }
 }
@@ -279,25 +347,7 @@ pub fn assigned_number(view: &View<'_>, e: &Expr, w: u32) -> Option<u128>
     requires { IsWidth w }
     ensures { result ≡ assigned_number w (sizes_of (readable_in view.now) (plain_expr e.now)) }
 {
-    let facts = facts_of(view, e);
-    let n = wide_number(view, e, &facts, w)?;
+    let found = evaluate(view, e, u128::from(w));
+    let n = wide_number(w, &found)?;
     Some(trim(n, w))
-}
-
-/// The number of a constant expression without a fault at the larger of `w` and its own width.
-fn wide_number(view: &View<'_>, e: &Expr, facts: &Facts, w: u32) -> Option<u128>
-    requires { IsWidth w }
-    ensures { Shows facts.now (sizes_of (readable_in view.now) (plain_expr e.now))
-        → result ≡ wide_number w (sizes_of (readable_in view.now) (plain_expr e.now)) }
-{
-    if facts.plain {
-        return match facts.whole {
-            Some(n) => Some(u128::from(n)),
-            None => None,
-        };
-    }
-    if facts.const_fault.is_none() && facts.width_fault.is_none() {
-        return assigned_value(view, e, w);
-    }
-    None
 }

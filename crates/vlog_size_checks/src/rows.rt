@@ -13,7 +13,7 @@ use crate::said::Said::{Bits, E5, E6, Plain, Sized, Unknown};
 pub type Row = (&'static str, Said);
 
 // Expressions in constant positions.
-pub const NUMBERED: [Row; 142] = [
+pub const NUMBERED: [Row; 181] = [
     // literals
     ("0", Plain(0)),
     ("2_147_483_647", Plain(2147483647)),
@@ -160,6 +160,49 @@ pub const NUMBERED: [Row; 142] = [
     ("{ { 100'd1 , 100'd0 } , 1'd0 }", E6(2, 200)),
     ("{ { 100'd1 , 100'd0 } == 1'd1 , 128'd0 }", E6(1, 129)),
     ("{ 100'd1 , 100'd0 } == { 4'd1 , 2 }", E5(10)),
+    // replications
+    ("{ 4 { 1'b1 } }", Sized(4, 15)),
+    ("{ 2 { 4'd5 } }", Sized(8, 85)),
+    ("{ 3 { 1'b1 , 2'b00 } }", Sized(9, 292)),
+    ("{ 2 { 4'd1 , 4'd2 } }", Sized(16, 4626)),
+    ("{ 3'd2 { 4'd5 } }", Sized(8, 85)),
+    ("{ n { 2'b10 } }", Sized(6, 42)),
+    ("{ z { 1'b1 } }", Sized(3, 7)),
+    ("{ l { 1'b1 } }", E5(2)),
+    ("{ p { 1'b1 } }", E5(2)),
+    ("{ x { 1'b1 } }", Unknown),
+    ("{ 0 { 1'b1 } }", E6(1, 0)),
+    ("{ 3'd0 { 1'b1 } }", E6(1, 0)),
+    ("{ 2 { 1 } }", E5(4)),
+    ("{ 2 { 'd1 } }", E5(4)),
+    ("{ 2 { 1'b1 , 1 } }", E5(6)),
+    ("{ 2 { 65'd0 } }", E6(1, 130)),
+    ("{ 2 { { 65'd0 } } }", E6(1, 130)),
+    (
+        "{ 128 { 1'b1 } }",
+        Sized(128, 340282366920938463463374607431768211455),
+    ),
+    ("{ 129 { 1'b1 } }", E6(1, 129)),
+    ("{ 1 { 128'd7 } }", Sized(128, 7)),
+    ("{ 33'd2147483648 { 1'b1 } }", E5(2)),
+    ("{ 32'd2147483647 { 128'd1 } }", E6(1, 274877906816)),
+    ("{ 2147483648 { 1'b1 } }", E5(2)),
+    ("{ 33'd2147483648 { 1 } }", E5(2)),
+    ("{ 0 { 1 } }", E5(4)),
+    ("{ 0 - 1 { 1'b1 } }", E5(2)),
+    ("{ 2 { { 100'd1 , 100'd0 } } }", E6(4, 200)),
+    ("{ { 100'd1 , 100'd0 } { 1'b1 } }", E6(2, 200)),
+    ("{ { 2 { 1'b1 } } { 1'b1 } }", Sized(3, 7)),
+    ("{ 2 { { 2 { 1'b1 } } } }", Sized(4, 15)),
+    ("{ 2 { 1'b0 , { 2 { 1'b1 } } } }", Sized(6, 27)),
+    ("{ 2 { 1'b1 } } + 4'd1", Sized(4, 4)),
+    ("4'd1 + { 2 { 1'b1 } }", Sized(4, 4)),
+    ("~ { 2 { 1'b1 } }", Sized(2, 0)),
+    ("~ { 2 { 1'b1 } } + 4'd0", Sized(4, 12)),
+    ("{ 2 { 1'b1 } } == 3", Sized(1, 1)),
+    ("{ { 2 { 1'b1 } } , 1 }", E5(9)),
+    ("{ 2 { 1'b1 } } ? 3 : 4", Plain(3)),
+    ("{ 1 << 5'd3 { 1'b1 } }", Sized(8, 255)),
     // choices
     ("2 ? 3 : 4", Plain(3)),
     ("0 ? 3 : 4", Plain(4)),
@@ -187,7 +230,7 @@ pub const NUMBERED: [Row; 142] = [
 ];
 
 // Expressions elsewhere.
-pub const FACTS: [Row; 62] = [
+pub const FACTS: [Row; 75] = [
     // names
     ("p", Bits(8)),
     ("w", Bits(200)),
@@ -206,6 +249,20 @@ pub const FACTS: [Row; 62] = [
     ("~ ( s ? 1 : 2 )", E5(1)),
     ("{ s ? 1 : 2 , s }", E5(2)),
     ("{ p [ 8 ] , 1 }", E5(7)),
+    // replications
+    ("{ 2 { p } }", Bits(16)),
+    ("{ 3 { 1'b1 , s } }", Bits(6)),
+    ("{ 0 { p } }", E6(1, 0)),
+    ("{ n { s } }", Bits(3)),
+    ("{ s { p } }", E5(2)),
+    ("{ 17 { p } }", E6(1, 136)),
+    ("{ 2 { w } }", Bits(400)),
+    ("{ l { s } }", E5(2)),
+    ("{ 2 { p [ l : 0 ] } }", E5(6)),
+    ("p [ { 2 { 1'b1 } } ]", Bits(1)),
+    ("p [ { 4 { 1'b1 } } ]", E6(3, 15)),
+    ("p [ { 3 { 1'b1 } } : 0 ]", Bits(8)),
+    ("{ { 2 { h } } , s }", E6(2, 256)),
     // a bit
     ("p [ 7 ]", Bits(1)),
     ("p [ s ]", Bits(1)),
@@ -262,7 +319,7 @@ pub const FACTS: [Row; 62] = [
 ];
 
 // The width of what is assigned to, an expression, and the number.
-pub const ASSIGNED: [(u32, &str, Said); 11] = [
+pub const ASSIGNED: [(u32, &str, Said); 14] = [
     (8, "4'hf + 4'h1", Plain(16)),
     (4, "4'hf + 4'h1", Plain(0)),
     (2, "4'hf + 4'h1", Plain(0)),
@@ -274,6 +331,9 @@ pub const ASSIGNED: [(u32, &str, Said); 11] = [
     (8, "0 - 1", Unknown),
     (8, "x", Unknown),
     (8, "p", Unknown),
+    (8, "{ 2 { 2'b10 } }", Plain(10)),
+    (3, "{ 2 { 2'b10 } }", Plain(2)),
+    (8, "- { 2 { 1'b1 } }", Plain(253)),
 ];
 
 // What is assigned to.
@@ -293,7 +353,7 @@ pub const TARGETS: [Row; 12] = [
 ];
 
 // The answers of `constant`, for which names are checked.
-pub const CONSTANTS: [Row; 17] = [
+pub const CONSTANTS: [Row; 22] = [
     ("4'd12 + 8'd250", Sized(8, 6)),
     ("n + 4", Plain(7)),
     ("z + 4'd12", Sized(8, 15)),
@@ -311,10 +371,15 @@ pub const CONSTANTS: [Row; 17] = [
     ("long + far", E5(3)),
     ("p", E5(1)),
     ("w", E5(1)),
+    ("{ 4 { 1'b1 } }", Sized(4, 15)),
+    ("{ n { z } }", Sized(24, 197379)),
+    ("{ x { 1'b1 } }", E5(2)),
+    ("{ 2 { long } }", E6(4, 200)),
+    ("{ far { 1'b1 } }", E5(2)),
 ];
 
 // The answers of `width`, for which names are checked.
-pub const WIDTHS: [Row; 20] = [
+pub const WIDTHS: [Row; 23] = [
     ("{ s , 4'd1 }", Bits(5)),
     ("{ p , cut }", Bits(12)),
     ("p [ cut : 0 ]", Bits(4)),
@@ -335,6 +400,9 @@ pub const WIDTHS: [Row; 20] = [
     ("w + far", E5(3)),
     ("p + x", E5(3)),
     ("p [ x : 0 ]", E5(3)),
+    ("{ 2 { p } }", Bits(16)),
+    ("{ s { p } }", E5(2)),
+    ("{ 2 { w } }", E6(4, 200)),
 ];
 
 // The answers of `target_width`, for which names are checked.

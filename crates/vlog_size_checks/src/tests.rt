@@ -3,7 +3,7 @@
 use crate::rows::{ASSIGNED, CONSTANTS, FACTS, NUMBERED, Row, TARGET_WIDTHS, TARGETS, WIDTHS};
 use crate::said::{Said, of_constant, of_facts, of_number, of_numbered, of_width};
 use crate::scopes::scope;
-use crate::trees::{expression, target};
+use crate::trees::{expression, nested, target};
 use std::alloc::Global;
 use std::process::Abort;
 use std::test::Fail;
@@ -139,5 +139,19 @@ fn wrong_assigned(alloc: Global) -> Result<&'static str, Fail> {
 fn assigned_numbers(rt: HostRuntime) -> Result<(), Fail> {
     let wrong = wrong_assigned(rt.alloc())?;
     assert_eq!(rt; wrong, "");
+    Ok(())
+}
+
+fn deep_said(alloc: Global) -> Result<Said, Fail> {
+    let scope = scope(alloc)?;
+    let e = nested(alloc, 30)?;
+    Ok(said_of_expression(&scope, &e, Asked::Numbered))
+}
+
+/// What is within a count is evaluated once: 30 counts within one another take no time.
+#[test]
+fn deep_counts(rt: HostRuntime) -> Result<(), Fail> {
+    let said = deep_said(rt.alloc())?;
+    assert!(rt; said == Said::Sized(1, 1));
     Ok(())
 }

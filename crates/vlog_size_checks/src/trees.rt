@@ -1,11 +1,12 @@
 //! Expressions and targets from texts.
 
 use std::alloc::Global;
+use std::boxed::Box;
 use std::test::Fail;
 use vidi_bits::Items;
 use vlog_expr::{fuel_for, parse_expression, target_of};
 use vlog_lex::{Tokens, lex};
-use vlog_tree::{Expr, Prim as Operand, Target, Unary};
+use vlog_tree::{Expr, Exprs, Prim as Operand, Target, Unary, repeat};
 
 /// The tokens of a text, with a new line for each space.
 fn tokens_of(alloc: Global, text: &str) -> Result<Tokens, Fail> {
@@ -51,4 +52,27 @@ pub fn target(alloc: Global, text: &str) -> Result<Target, Fail> {
         }
         Err(_) => Err(Fail::from("no target")),
     }
+}
+
+fn one_bit(alloc: Global) -> Result<Exprs, Fail> {
+    let mut parts = Items::new(alloc);
+    parts.push(expression(alloc, "1'b1")?)?;
+    Ok(parts)
+}
+
+/// `{count{1'b1}}`
+fn repeated(alloc: Global, count: Expr) -> Result<Expr, Fail> {
+    let count = Box::new(alloc, count)?;
+    let parts = one_bit(alloc)?;
+    let prim = repeat(1, count, parts);
+    Ok(Expr::Unary(Unary { sign: None, prim }))
+}
+
+/// `{{..{1'b1{1'b1}}..{1'b1}}{1'b1}}`: counts within counts, each of which is 1.
+pub fn nested(alloc: Global, depth: u32) -> Result<Expr, Fail> {
+    let mut e = expression(alloc, "1'b1")?;
+    for _ in 0..depth {
+        e = repeated(alloc, e)?;
+    }
+    Ok(e)
 }

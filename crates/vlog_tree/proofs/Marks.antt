@@ -1,7 +1,7 @@
 -- The words of a tree don't depend on its lines.
 use Rattle.std.proofs.Common.{◌≡◌, true, false, List, [], ◌∷◌, Option, None, Some, ap, refl, map, option_map}
 use Rattle.vlog_tree.specs.Words.{Word, tokens_of}
-use Rattle.vlog_tree.specs.Tree.{SignOf, ExprOf, UnaryExpr, BinaryExpr, ChoiceExpr, PrimOf, NumberPrim, RefPrim, ParenPrim, ConcatPrim}
+use Rattle.vlog_tree.specs.Tree.{SignOf, ExprOf, UnaryExpr, BinaryExpr, ChoiceExpr, PrimOf, NumberPrim, RefPrim, ParenPrim, ConcatPrim, RepeatPrim}
 use Rattle.vlog_tree.specs.Tree.{RefOf, RefWith, IndexOf, NoIndex, Index, LastOf, NoLast, Last, SelOf, IndexSel, PartSel, IndexedSel}
 use Rattle.vlog_tree.specs.Tree.{ExprsOf, NoExprs, MoreExprs, TargetOf, RefTarget, ConcatTarget, TargetsOf, NoTargets, MoreTargets, StmtOf}
 use Rattle.vlog_tree.specs.Tree.{BeginStmt, IfStmt, AssignStmt, BodyOf, StmtBody, EmptyBody, ElseOf, NoElse, Else, StmtsOf, NoStmts}
@@ -36,6 +36,7 @@ mutual
   prim_mapped f (RefPrim r) = ref_mapped f r
   prim_mapped f (ParenPrim line e) = rw (expr_mapped f e) refl
   prim_mapped f (ConcatPrim line es) = rw (exprs_mapped f es) refl
+  prim_mapped f (RepeatPrim line count es) = rw (expr_mapped f count, exprs_mapped f es) refl
 
   pub ref_mapped : {A B : Type 0} (f : A → B) (r : RefOf A) → ref_words (map_ref f r) ≡ ref_words r
   ref_mapped f (RefWith id index last) = rw (index_mapped f index, last_mapped f last) refl

@@ -1,6 +1,8 @@
 -- The variants that hold lists as plain data.
 use Rattle.std.proofs.Common.{◌≡◌, ℕ, List, ap, refl, ◌∙◌}
-use Rattle.vlog_tree.specs.Tree.{MoreExprs, ConcatPrim, MoreTargets, ConcatTarget, MoreStmts, BeginStmt, MoreArms, CaseStmt}
+use Rattle.std.specs.Prelude.{Box}
+use Rattle.std.specs.Global.{Global}
+use Rattle.vlog_tree.specs.Tree.{MoreExprs, ConcatPrim, RepeatPrim, MoreTargets, ConcatTarget, MoreStmts, BeginStmt, MoreArms, CaseStmt}
 use Rattle.vlog_tree.specs.Plain.{plain_expr, plain_prim, plain_row, plain_exprs, plain_target, plain_target_row, plain_targets, plain_stmt}
 use Rattle.vlog_tree.specs.Plain.{plain_stmt_row, plain_stmts, plain_arm, plain_arm_row, plain_arms}
 use Rattle.vlog_tree.specs.declared.expr.Expr.{Expr}
@@ -22,6 +24,10 @@ exprs_hidden es = expr_items (hidden-the_row-Expr-0 es) ∙ ap plain_exprs (prim
 pub plain_concat : (p : prim.Primary) (line : ℕ) (es : List Expr) → p ≡ prim.Concat line es → plain_prim p
     ≡ ConcatPrim line (plain_exprs es)
 plain_concat p line es is = ap plain_prim is ∙ ap (ConcatPrim line) (exprs_hidden es)
+
+pub plain_repeat : (p : prim.Primary) (line : ℕ) (count : Box Expr Global) (es : List Expr) → p ≡ prim.Repeat line count es
+    → plain_prim p ≡ RepeatPrim line (plain_expr count.value) (plain_exprs es)
+plain_repeat p line count es is = ap plain_prim is ∙ ap (RepeatPrim line (plain_expr count.value)) (exprs_hidden es)
 
 target_items : {n : _} → (row : target.Row_of-Target n) → plain_target_row row ≡ plain_targets (target.items-the_row-Target n row)
 target_items target.end_of-Target = refl

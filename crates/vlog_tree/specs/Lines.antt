@@ -1,7 +1,7 @@
 -- The lines of first tokens, and trees with something else in the place of lines.
 use Rattle.std.specs.Prelude.{None, Some, option_map, map}
 use Rattle.vlog_tree.specs.Tree.{IdentOf, NumberOf, SignOf, ExprOf, UnaryExpr, BinaryExpr, ChoiceExpr, PrimOf, NumberPrim, RefPrim}
-use Rattle.vlog_tree.specs.Tree.{ParenPrim, ConcatPrim, RefOf, RefWith, IndexOf, NoIndex, Index, LastOf, NoLast, Last, SelOf, IndexSel}
+use Rattle.vlog_tree.specs.Tree.{ParenPrim, ConcatPrim, RepeatPrim, RefOf, RefWith, IndexOf, NoIndex, Index, LastOf, NoLast, Last, SelOf, IndexSel}
 use Rattle.vlog_tree.specs.Tree.{PartSel, IndexedSel, ExprsOf, NoExprs, MoreExprs, TargetOf, RefTarget, ConcatTarget, TargetsOf, NoTargets}
 use Rattle.vlog_tree.specs.Tree.{MoreTargets, StmtOf, BeginStmt, IfStmt, AssignStmt, BodyOf, StmtBody, EmptyBody, ElseOf, NoElse, Else}
 use Rattle.vlog_tree.specs.Tree.{StmtsOf, NoStmts, MoreStmts, RangeOf, PortHeadOf, PortOf, NamedValueOf, RegTailOf, InitTail, Reg1Of}
@@ -18,6 +18,7 @@ prim_line (NumberPrim n) = n.line
 prim_line (RefPrim r) = ref_line r
 prim_line (ParenPrim line e) = line
 prim_line (ConcatPrim line es) = line
+prim_line (RepeatPrim line count es) = line
 
 -- the line of an expression's first token
 abbrev pub expr_line : {A : Type 0} → ExprOf A → A
@@ -51,6 +52,7 @@ abbrev mutual
   map_prim f (RefPrim r) = RefPrim (map_ref f r)
   map_prim f (ParenPrim line e) = ParenPrim (f line) (map_expr f e)
   map_prim f (ConcatPrim line es) = ConcatPrim (f line) (map_exprs f es)
+  map_prim f (RepeatPrim line count es) = RepeatPrim (f line) (map_expr f count) (map_exprs f es)
 
   pub map_ref : {A B : Type 0} → (A → B) → RefOf A → RefOf B
   map_ref f (RefWith id index last) = RefWith (map_ident f id) (map_index f index) (map_last f last)

@@ -1,7 +1,7 @@
 -- A tree of the code as plain data, without pointers, with its lines.
 use Rattle.std.specs.Prelude.{ℕ, List, option_map, map}
 use Rattle.vlog_tree.specs.Tree.{IdentOf, NumberOf, SignOf, ExprOf, UnaryExpr, BinaryExpr, ChoiceExpr, PrimOf, NumberPrim, RefPrim}
-use Rattle.vlog_tree.specs.Tree.{ParenPrim, ConcatPrim, RefOf, RefWith, IndexOf, NoIndex, Index, LastOf, NoLast, Last, SelOf, IndexSel}
+use Rattle.vlog_tree.specs.Tree.{ParenPrim, ConcatPrim, RepeatPrim, RefOf, RefWith, IndexOf, NoIndex, Index, LastOf, NoLast, Last, SelOf, IndexSel}
 use Rattle.vlog_tree.specs.Tree.{PartSel, IndexedSel, ExprsOf, NoExprs, MoreExprs, exprs_of, TargetOf, RefTarget, ConcatTarget, TargetsOf}
 use Rattle.vlog_tree.specs.Tree.{NoTargets, MoreTargets, targets_of, StmtOf, BeginStmt, IfStmt, AssignStmt, BodyOf, StmtBody, EmptyBody}
 use Rattle.vlog_tree.specs.Tree.{ElseOf, NoElse, Else, StmtsOf, NoStmts, MoreStmts, stmts_of, RangeOf, PortHeadOf, PortOf, NamedValueOf}
@@ -61,6 +61,7 @@ abbrev mutual
   plain_prim (prim.Ref' id index last) = RefPrim (RefWith (plain_ident id) (plain_index index) (plain_last last))
   plain_prim (prim.Paren' line p e) = ParenPrim line (plain_expr e)
   plain_prim (prim.Concat' line shape row) = ConcatPrim line (plain_row row)
+  plain_prim (prim.Repeat' line p count shape row) = RepeatPrim line (plain_expr count) (plain_row row)
 
   pub plain_index : prim.Held-Ref-index → IndexOf ℕ
   plain_index prim.Ref-index-None' = NoIndex

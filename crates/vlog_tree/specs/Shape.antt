@@ -9,7 +9,7 @@ use Rattle.vlog_tree.specs.declared.expr.BinaryOp.TheVariants.{Less, LessOrEqual
 use Rattle.vlog_tree.specs.declared.expr.BinaryOp.TheVariants.{ArithmeticShiftLeft, ArithmeticShiftRight, Plus, Minus, Times}
 use Rattle.vlog_tree.specs.Words.{number_kind}
 use Rattle.vlog_tree.specs.Tree.{IdentOf, NumberOf, ExprOf, UnaryExpr, BinaryExpr, ChoiceExpr, PrimOf, NumberPrim, RefPrim, ParenPrim}
-use Rattle.vlog_tree.specs.Tree.{ConcatPrim, RefOf, RefWith, IndexOf, NoIndex, Index, LastOf, NoLast, Last, SelOf, IndexSel, PartSel}
+use Rattle.vlog_tree.specs.Tree.{ConcatPrim, RepeatPrim, RefOf, RefWith, IndexOf, NoIndex, Index, LastOf, NoLast, Last, SelOf, IndexSel, PartSel}
 use Rattle.vlog_tree.specs.Tree.{IndexedSel, ExprsOf, NoExprs, MoreExprs, TargetOf, RefTarget, ConcatTarget, TargetsOf, NoTargets}
 use Rattle.vlog_tree.specs.Tree.{MoreTargets, StmtOf, BeginStmt, IfStmt, AssignStmt, BodyOf, StmtBody, EmptyBody, ElseOf, NoElse, Else}
 use Rattle.vlog_tree.specs.Tree.{StmtsOf, NoStmts, MoreStmts, RangeOf, PortHeadOf, PortOf, NamedValueOf, RegTailOf, InitTail, Reg1Of}
@@ -73,6 +73,7 @@ abbrev mutual
   IsGoodPrim (RefPrim r) = IsGoodRef r
   IsGoodPrim (ParenPrim line e) = IsGoodExpr e
   IsGoodPrim (ConcatPrim line es) = AreGoodExprs es
+  IsGoodPrim (RepeatPrim line count es) = IsGoodExpr count × AreGoodExprs es
 
   pub IsGoodRef : {A : Type 0} → RefOf A → Type 0
   IsGoodRef (RefWith id index last) = IsGoodName id.name × HasLast index last × IsGoodIndex index × IsGoodLast last

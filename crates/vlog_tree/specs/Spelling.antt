@@ -14,7 +14,7 @@ use Rattle.vlog_tree.specs.declared.terminal.Terminal.{Terminal}
 use Rattle.vlog_tree.specs.declared.terminal.Terminal.TheVariants as t
 use Rattle.vlog_tree.specs.Words.{Word, NameWord, NumberWord, Fixed, tokens_of}
 use Rattle.vlog_tree.specs.Tree.{IdentOf, NumberOf, SignOf, ExprOf, UnaryExpr, BinaryExpr, ChoiceExpr, PrimOf, NumberPrim, RefPrim}
-use Rattle.vlog_tree.specs.Tree.{ParenPrim, ConcatPrim, RefOf, RefWith, IndexOf, NoIndex, Index, LastOf, NoLast, Last, SelOf, IndexSel}
+use Rattle.vlog_tree.specs.Tree.{ParenPrim, ConcatPrim, RepeatPrim, RefOf, RefWith, IndexOf, NoIndex, Index, LastOf, NoLast, Last, SelOf, IndexSel}
 use Rattle.vlog_tree.specs.Tree.{PartSel, IndexedSel, ExprsOf, NoExprs, MoreExprs, TargetOf, RefTarget, ConcatTarget, TargetsOf, NoTargets}
 use Rattle.vlog_tree.specs.Tree.{MoreTargets, StmtOf, BeginStmt, IfStmt, AssignStmt, BodyOf, StmtBody, EmptyBody, ElseOf, NoElse, Else}
 use Rattle.vlog_tree.specs.Tree.{StmtsOf, NoStmts, MoreStmts, RangeOf, PortHeadOf, PortOf, NamedValueOf, RegTailOf, InitTail, Reg1Of}
@@ -79,12 +79,14 @@ abbrev mutual
   expr_words (BinaryExpr left op right) = expr_words left ++ Fixed (binary_terminal op) ∷ expr_words right
   expr_words (ChoiceExpr condition a b) = expr_words condition ++ Fixed t.Question ∷ (expr_words a ++ Fixed t.Colon ∷ expr_words b)
 
-  -- number | ref | "(" expr ")" | "{" expr { "," expr } "}"
+  -- number | ref | "(" expr ")" | "{" expr { "," expr } "}" | "{" expr "{" expr { "," expr } "}" "}"
   pub prim_words : {A : Type 0} → PrimOf A → List Word
   prim_words (NumberPrim n) = number_words n
   prim_words (RefPrim r) = ref_words r
   prim_words (ParenPrim line e) = Fixed t.ParenOpen ∷ (expr_words e ++ Fixed t.ParenClose ∷ [])
   prim_words (ConcatPrim line es) = Fixed t.BraceOpen ∷ (exprs_words es ++ Fixed t.BraceClose ∷ [])
+  prim_words (RepeatPrim line count es) = Fixed t.BraceOpen
+      ∷ (expr_words count ++ Fixed t.BraceOpen ∷ (exprs_words es ++ Fixed t.BraceClose ∷ Fixed t.BraceClose ∷ []))
 
   -- id [ "[" expr "]" ] [ "[" sel "]" ]
   pub ref_words : {A : Type 0} → RefOf A → List Word

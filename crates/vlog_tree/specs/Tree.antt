@@ -37,6 +37,8 @@ mutual
     ParenPrim : A → ExprOf A → PrimOf A
     -- the line of `{`
     ConcatPrim : A → ExprsOf A → PrimOf A
+    -- the line of the first `{`, the count, and the parts that are repeated
+    RepeatPrim : A → ExprOf A → ExprsOf A → PrimOf A
 
   -- a name, the first of two brackets, and the last bracket
   pub data RefOf (A : Type 0) : Type 0 where

@@ -148,9 +148,21 @@ pub enum Primary {
     Number(Number),
     Ref(Ref),
     /// `(inner)`; `line` is that of `(`.
-    Paren { line: u32, inner: Box<Expr> },
+    Paren {
+        line: u32,
+        inner: Box<Expr>,
+    },
     /// `{part, ..}`; `line` is that of `{`.
-    Concat { line: u32, parts: Items<Expr> },
+    Concat {
+        line: u32,
+        parts: Items<Expr>,
+    },
+    /// `{count{part, ..}}`; `line` is that of the first `{`.
+    Repeat {
+        line: u32,
+        count: Box<Expr>,
+        parts: Items<Expr>,
+    },
 }
 
 /// A name with at most two brackets.

@@ -24,7 +24,8 @@ pub use expr::{
 };
 pub use lines::{expr_line, target_line};
 pub use lists::{
-    begin, case, concat, concat_target, see_begin, see_case, see_concat, see_concat_target,
+    begin, case, concat, concat_target, repeat, see_begin, see_case, see_concat, see_concat_target,
+    see_repeat,
 };
 pub use module::{
     Always, Assign, Assigns, Conn, Conns, Direction, Event, File, Idents, Instance, Item, Module,

@@ -5,7 +5,7 @@ ghost use Rattle.vlog_tree.specs.Plain.{plain_expr, plain_prim, plain_target};
 ghost use Rattle.vlog_tree.specs.Lines.{expr_line, prim_line, target_line};
 
 use crate::expr::{Expr, Primary};
-use crate::lists::{see_concat, see_concat_target};
+use crate::lists::{see_concat, see_concat_target, see_repeat};
 use crate::stmt::Target;
 
 /// The line of an operand's first token.
@@ -18,6 +18,14 @@ fn prim_line(prim: &Primary) -> u32
         Primary::Paren { line, inner: _ } => *line,
         Primary::Concat { line, parts } => {
             see_concat(*line, parts);
+            *line
+        }
+        Primary::Repeat {
+            line,
+            count: _,
+            parts,
+        } => {
+            see_repeat(*line, parts);
             *line
         }
     }

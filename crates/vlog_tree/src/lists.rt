@@ -1,9 +1,11 @@
 //! Trees made of lists of trees.
 
-ghost use Rattle.std.specs.Prelude.{◌≡◌};
-ghost use Rattle.vlog_tree.specs.Tree.{ConcatPrim, ConcatTarget, BeginStmt, CaseStmt};
+ghost use Rattle.std.specs.Prelude.{◌≡◌, Box};
+ghost use Rattle.std.specs.Global.{Global};
+ghost use Rattle.vlog_tree.specs.Tree.{ConcatPrim, RepeatPrim, ConcatTarget, BeginStmt, CaseStmt};
 ghost use Rattle.vlog_tree.specs.Plain.{plain_expr, plain_prim, plain_exprs, plain_target, plain_targets, plain_stmt, plain_stmts};
 ghost use Rattle.vlog_tree.specs.Plain.{plain_arms};
+ghost use Rattle.vlog_tree.specs.declared.expr.Expr as declared_expr;
 ghost use Rattle.vlog_tree.specs.declared.expr.Primary as declared_prim;
 ghost use Rattle.vlog_tree.specs.declared.stmt.Target as declared_target;
 ghost use Rattle.vlog_tree.specs.declared.stmt.Stmt as declared_stmt;
@@ -16,6 +18,13 @@ pub fn concat(line: u32, parts: Exprs) -> Primary
     ensures { plain_prim result ≡ ConcatPrim line (plain_exprs parts) }
 {
     Primary::Concat { line, parts }
+}
+
+/// The operand `{count{part, ..}}`, whose first `{` stands on `line`.
+pub fn repeat(line: u32, count: Box<Expr>, parts: Exprs) -> Primary
+    ensures { plain_prim result ≡ RepeatPrim line (plain_expr count.value) (plain_exprs parts) }
+{
+    Primary::Repeat { line, count, parts }
 }
 
 /// The target `{part, ..}`, whose `{` stands on `line`.
@@ -43,6 +52,12 @@ pub fn case(expression: Expr, arms: Arms) -> Stmt
 pub fn see_concat(line: u32, parts: &Exprs)
     ensures { (p : declared_prim.Primary) → p ≡ declared_prim.Concat line parts.now → plain_prim p
         ≡ ConcatPrim line (plain_exprs parts.now) }
+{}
+
+/// What `Primary::Repeat` is as plain data, for proofs of an arm that matches it.
+pub fn see_repeat(line: u32, parts: &Exprs)
+    ensures { (p : declared_prim.Primary) (count : Box declared_expr.Expr Global) → p ≡ declared_prim.Repeat line count parts.now
+        → plain_prim p ≡ RepeatPrim line (plain_expr count.value) (plain_exprs parts.now) }
 {}
 
 /// What `Target::Concat` is as plain data, for proofs of an arm that matches it.

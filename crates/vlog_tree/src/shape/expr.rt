@@ -5,7 +5,7 @@ ghost use Rattle.vlog_tree.specs.Plain.{plain_expr, plain_prim, plain_unary, pla
 ghost use Rattle.vlog_tree.specs.Shape.{level_of, level, IsGoodExpr, IsGoodPrim, IsGoodRef, IsGoodSel, AreGoodExprs};
 
 use crate::expr::{BinaryOp, Expr, Primary, Ref, Sel, Unary};
-use crate::lists::see_concat;
+use crate::lists::{see_concat, see_repeat};
 use crate::shape::token::{good_name, good_number};
 
 /// The level of a binary operator (IEEE 1364-2005, 5.1.2): 1 is the lowest, that of `||`, and 10 the
@@ -84,6 +84,10 @@ fn good_prim(prim: &Primary) -> bool
         Primary::Concat { line, parts } => {
             see_concat(*line, parts);
             good_exprs(parts.as_slice())
+        }
+        Primary::Repeat { line, count, parts } => {
+            see_repeat(*line, parts);
+            good_expr(count) && good_exprs(parts.as_slice())
         }
     }
 }

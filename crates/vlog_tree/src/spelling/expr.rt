@@ -7,7 +7,7 @@ ghost use Rattle.vlog_tree.specs.Spelling.{unary_terminal, binary_terminal, sign
 ghost use Rattle.vlog_tree.specs.Spelling.{exprs_words};
 
 use crate::expr::{BinaryOp, Expr, Primary, Ref, Sel, Sign, Unary, UnaryOp};
-use crate::lists::see_concat;
+use crate::lists::{see_concat, see_repeat};
 use crate::spelling::token::{put_fixed, put_name, put_number};
 use crate::terminal::Terminal;
 use std::alloc::Global;
@@ -117,6 +117,15 @@ fn push_prim(alloc: Global, out: &mut Tokens, prim: &Primary) -> Result<(), Memo
             see_concat(*line, parts);
             put_fixed(alloc, out, Terminal::BraceOpen)?;
             push_exprs(alloc, out, parts.as_slice())?;
+            put_fixed(alloc, out, Terminal::BraceClose)
+        }
+        Primary::Repeat { line, count, parts } => {
+            see_repeat(*line, parts);
+            put_fixed(alloc, out, Terminal::BraceOpen)?;
+            push_expr(alloc, out, count)?;
+            put_fixed(alloc, out, Terminal::BraceOpen)?;
+            push_exprs(alloc, out, parts.as_slice())?;
+            put_fixed(alloc, out, Terminal::BraceClose)?;
             put_fixed(alloc, out, Terminal::BraceClose)
         }
     }

@@ -6,10 +6,6 @@ use Rattle.trace_compare.proofs.comparing.compare.Goals as goal
 pub loop-channel-preserved : goal.loop-channel-preserved
 loop-channel-preserved c =
     let F = findings_on c.args.a.now.channels c.args.a.now.packets c.args.b.now.packets in
-    record {
-      clock_a = c.in_ok-push_findings.ensures.clock_a;
-      clock_b = c.in_ok-push_findings.ensures.clock_b;
-      report = channel-on F (length c.args.a.now.channels) c.loop-channel.channel c.loop-channel.report c.push_findings.new.report
-          (findings c.args.a.now c.args.b.now) (omega (arith, c.len-channels.ensures)) c.loop-channel.invariant.report
-          c.in_ok-push_findings.ensures.report;
-    }
+    channel-on F (length c.args.a.now.channels) c.loop-channel.channel c.loop-channel.report c.push_findings.new.report
+    (findings c.args.a.now c.args.b.now) (omega (arith, c.len-channels.ensures)) c.loop-channel.invariant
+    c.in_ok-push_findings.ensures

@@ -4,9 +4,5 @@ use Rattle.trace_compare.specs.Findings.{findings, findings_on}
 use Rattle.trace_compare.proofs.comparing.compare.Given as goal
 
 abbrev pub invariant-loop-channel : goal.invariant-loop-channel
-invariant-loop-channel l = record {
-  clock_a : length l.clock_a ≡ length l.a.channels;
-  clock_b : length l.clock_b ≡ length l.a.channels;
-  report : l.report ++ flat_map (findings_on l.a.channels l.a.packets l.b.packets)
-      (range_with_len l.channel (length l.a.channels - l.channel)) ≡ findings l.a l.b;
-}
+invariant-loop-channel l = l.report ++ flat_map (findings_on l.a.channels l.a.packets l.b.packets)
+    (range_with_len l.channel (length l.a.channels - l.channel)) ≡ findings l.a l.b

@@ -1,16 +1,39 @@
-use Rattle.std.proofs.Common.{◌≡◌, ◌++◌, List, subst}
+use Rattle.std.proofs.Common.{◌≡◌, ◌++◌, ◌∙◌, List, ℕ, Bool, length, ap, subst, arith}
 use Rattle.std.specs.Prelude.{OnOk}
+use Rattle.trace_model.specs.declared.event.Kind.TheVariants.{Start}
 use Rattle.trace_compare.specs.declared.report.Finding.{Finding}
 use Rattle.trace_compare.specs.declared.report.What.TheVariants.{Differs}
 use Rattle.trace_compare.specs.Findings.{differing}
 use Rattle.trace_compare.specs.Tally.{IsTally}
+use Rattle.trace_compare.specs.Walking.{places, differing_at}
+use Rattle.trace_compare.proofs.EventPlaces.{places-few, within-of}
+use Rattle.trace_compare.proofs.PairMarks.{differing-same}
 use Rattle.trace_compare.proofs.Tallies.{found-first}
 use Rattle.trace_compare.proofs.comparing.push_different.Goals as goal
 
 pub returns : goal.returns
 returns c =
-    let marks = differing c.args.a.now.channels c.args.channel c.args.a.now.packets c.args.b.now.packets in
-    let is : IsTally marks c.different_starts-tally.result =
+    let channels = c.args.a.now.channels in
+    let a = c.args.a.now.packets in
+    let b = c.args.b.now.packets in
+    let k : ℕ = c.args.channel in
+    let marks = differing channels k a b in
+    let at : IsTally (differing_at channels k a b c.args.in_a.now c.args.in_b.now) c.different_starts-tally.result =
     rw (c.as_slice.ensures, c.as_slice-2.ensures, c.as_slice-3.ensures) at c.different_starts-tally.ensures in
+    let same = ap (λ (xs : List ℕ). differing_at channels k a b xs c.args.in_b.now) c.requires.in_a
+    ∙ ap (λ (ys : List ℕ). differing_at channels k a b (places Start k a) ys) c.requires.in_b ∙ differing-same channels k a b in
+    let is : IsTally marks c.different_starts-tally.result = subst (λ (ms : List Bool). IsTally ms c.different_starts-tally.result) same at in
     subst (λ (fs : List Finding). OnOk c.push_if.result (c.push_if.new.report ≡ c.args.report.now ++ fs))
-    (found-first marks c.different_starts-tally.result c.args.channel Differs is) c.push_if.ensures
+    (found-first marks c.different_starts-tally.result k Differs is) c.push_if.ensures
+
+pub different_starts-tally-requires-clause-few : goal.different_starts-tally-requires-clause-few
+different_starts-tally-requires-clause-few c =
+    omega (arith, ap length c.requires.in_a, places-few Start c.args.channel c.args.a.now.packets, c.requires.few)
+
+pub different_starts-tally-requires-clause-in_a : goal.different_starts-tally-requires-clause-in_a
+different_starts-tally-requires-clause-in_a c k d l =
+    omega (arith, within-of Start c.args.channel c.args.a.now.packets c.args.in_a.now c.requires.in_a k d l, ap length c.as_slice-2.ensures)
+
+pub different_starts-tally-requires-clause-in_b : goal.different_starts-tally-requires-clause-in_b
+different_starts-tally-requires-clause-in_b c k d l =
+    omega (arith, within-of Start c.args.channel c.args.b.now.packets c.args.in_b.now c.requires.in_b k d l, ap length c.as_slice-3.ensures)

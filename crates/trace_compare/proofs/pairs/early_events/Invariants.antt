@@ -1,15 +1,7 @@
-use Rattle.std.proofs.Common.{◌≡◌, ◌-◌, length}
-use Rattle.vec_clock.specs.Counts.{clock_counts}
-use Rattle.trace_compare.specs.Findings.{is_early}
-use Rattle.trace_compare.proofs.Walks.{Walks}
+use Rattle.std.specs.Prelude.{take}
+use Rattle.trace_compare.specs.Tally.{IsTally}
+use Rattle.trace_compare.specs.Walking.{early_at}
 use Rattle.trace_compare.proofs.pairs.early_events.Given as goal
 
-abbrev pub invariant-loop-p : goal.invariant-loop-p
-invariant-loop-p l = record {
-  walks : Walks (is_early (length l.fn.clock_a) l.a l.b) l.kind l.channel l.a l.b l.p l.q l.tally;
-  clock_a : l.clock_a ≡ clock_counts (length l.fn.clock_a) l.a l.p;
-  clock_b : l.clock_b ≡ clock_counts (length l.fn.clock_a) l.b l.q;
-}
-
-abbrev pub decreases-loop-p : goal.decreases-loop-p
-decreases-loop-p l = length l.a - l.p
+abbrev pub invariant-loop-i : goal.invariant-loop-i
+invariant-loop-i l = IsTally (take l.i (early_at l.covering l.in_a l.in_b)) l.tally

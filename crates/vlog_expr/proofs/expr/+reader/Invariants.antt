@@ -1,4 +1,4 @@
-use Rattle.std.proofs.Common.{◌≡◌, ◌≤◌, ◌+◌, ◌-◌, ◌*◌, map}
+use Rattle.std.proofs.Common.{◌≡◌, ◌≤◌, ◌+◌, ◌-◌, ◌*◌, [], ◌∷◌, map}
 use Rattle.vlog_tree.specs.Plain.{plain_expr}
 use Rattle.vlog_expr.specs.Marks.{all_marked}
 use Rattle.vlog_expr.specs.Reader.{climb_at, parts_at}
@@ -40,6 +40,9 @@ decreases-paren_of l = 2 * l.fuel
 abbrev pub decreases-concat_of : goal.decreases-concat_of
 decreases-concat_of l = 2 * l.fuel
 
+abbrev pub decreases-repeat_of : goal.decreases-repeat_of
+decreases-repeat_of l = 2 * l.fuel
+
 abbrev pub decreases-parts_of : goal.decreases-parts_of
 decreases-parts_of l = 2 * l.fuel + 1
 
@@ -61,4 +64,4 @@ decreases-parts_of-loop-left l = l.left
 abbrev pub invariant-parts_of-loop-left : goal.invariant-parts_of-loop-left
 invariant-parts_of-loop-left l =
     (l.left ≤ l.fn.fuel) × (parts_at l.left (map plain_expr l.parts) (all_marked l.rest)
-    ≡ parts_at l.fn.fuel (map plain_expr l.fn.parts) (all_marked l.fn.tokens))
+    ≡ parts_at l.fn.fuel (plain_expr l.fn.first ∷ []) (all_marked l.fn.tokens))

@@ -1,0 +1,122 @@
+-- Passing over packets: what was read of them, without their contents.
+use Rattle.std.proofs.Common.{◌≡◌, ◌≢◌, ℕ, ◌+◌, ◌-◌, ◌≤◌, List, [], ◌∷◌, ◌++◌, length, take, All, Option, Some, None, Result, Ok, Err}
+use Rattle.std.proofs.Common.{refl, sym, ap, subst, ◌∙◌, append_assoc, arith}
+use Rattle.std.specs.List.{flat_map}
+use Rattle.std.proofs.lemmas.List.{length-append, take_at}
+use Rattle.std.proofs.lemmas.List.Elements.{All-push}
+use Rattle.std.proofs.lemmas.Option.{same_Some, none-some}
+use Rattle.trace_model.specs.declared.channel.Channel.{Channel}
+use Rattle.trace_model.specs.declared.packet.Packet.{Packet}
+use Rattle.trace_model.specs.declared.trace.Trace.{Trace}
+use Rattle.trace_model.specs.Channel.{IsTable}
+use Rattle.trace_model.specs.Packet.{IsPacket}
+use Rattle.trace_model.specs.Trace.{Alternates, InFlight}
+use Rattle.trace_code.specs.declared.error.CodeError.{CodeError}
+use Rattle.trace_code.specs.declared.error.CodeError.TheVariants.{BadTrace, Memory}
+use Rattle.trace_code.specs.declared.salvaging.Whole.{Whole}
+use Rattle.trace_code.specs.Encoding.{header_bytes, packet_bytes, end_mark, encode}
+use Rattle.trace_code.specs.Reading.{Fails, with_front}
+use Rattle.trace_code.specs.PacketReading.{numbers_at, packet_at, AreAll}
+use Rattle.trace_code.specs.Salvage.{IsFront}
+use Rattle.trace_code.specs.Skipping.{Follows}
+use Rattle.trace_code.proofs.Readings.{parts-push, all-longest}
+use Rattle.trace_code.proofs.Fronts.{packets-few}
+use Rattle.trace_code.proofs.PacketLaws.{packet_again}
+
+-- ---- one packet
+
+pub none-read : (bytes : List ℕ) → numbers_at [] bytes ≡ Some ([], bytes)
+unfolding numbers_at
+none-read bytes = refl
+
+pub fails-front : (e : CodeError) (front : List ℕ) (read : Option (List ℕ × List ℕ)) → Fails e read → Fails e (with_front front read)
+fails-front Memory front read h = tt
+fails-front (BadTrace at) front read h = (h.0, ap (with_front front) h.1)
+
+-- where no packet is read, none stands
+pub none-stands : (cs : List Channel) (bytes : List ℕ) → packet_at cs bytes ≡ None → (p : Packet) (rest : List ℕ) → IsPacket cs p
+    → bytes ≡ packet_bytes cs p ++ rest → ⊥
+none-stands cs bytes none p rest h e = none-some (p, rest) (sym none ∙ ap (packet_at cs) e ∙ packet_again cs p rest h)
+
+-- and where one is read, no other
+pub none-other : (cs : List Channel) (bytes : List ℕ) (q : Packet) (r : List ℕ) → packet_at cs bytes ≡ Some (q, r) → (p : Packet)
+    (rest : List ℕ) → IsPacket cs p → bytes ≡ packet_bytes cs p ++ rest → p ≡ q
+none-other cs bytes q r given p rest h e =
+    ap (λ (x : Packet × List ℕ). x.0) (sym (same_Some (q, r) (p, rest) (sym given ∙ ap (packet_at cs) e ∙ packet_again cs p rest h)))
+
+-- ---- all of them
+
+-- the packets that were passed over, each lawful after those before it
+pub record Skipped (cs : List Channel) (bytes : List ℕ) (count mask : ℕ) (rest : List ℕ) : Type 0 where
+  pub packets : List Packet
+  pub counted : length packets ≡ count
+  pub each : All (IsPacket cs) packets
+  pub alternate : Alternates packets
+  pub flying : InFlight packets mask
+  pub parts : bytes ≡ flat_map (packet_bytes cs) packets ++ rest
+
+pub skipped-few : (cs : List Channel) (bytes : List ℕ) (count flying : ℕ) (rest : List ℕ) → Skipped cs bytes count flying rest
+    → count ≤ length bytes
+skipped-few cs bytes count flying rest s = omega (
+  arith,
+  s.counted,
+  packets-few cs s.packets,
+  ap length s.parts,
+  length-append (flat_map (packet_bytes cs) s.packets) rest,
+)
+
+-- one packet more
+pub skipped-on : (cs : List Channel) (bytes : List ℕ) (count flying after : ℕ) (rest others : List ℕ)
+    → Skipped cs bytes count flying rest → Follows cs rest flying after others → Skipped cs bytes (count + 1) after others
+skipped-on cs bytes count flying after rest others s f =
+    let next = f.goes_on s.packets s.alternate s.flying in
+    record {
+      packets = s.packets ++ f.packet ∷ [];
+      counted = omega (arith, s.counted, length-append s.packets (f.packet ∷ []));
+      each = All-push (IsPacket cs) s.packets f.packet s.each f.lawful;
+      alternate = next.0;
+      flying = next.1;
+      parts = parts-push cs s.packets (s.packets ++ f.packet ∷ []) f.packet bytes rest others s.parts f.parts refl;
+    }
+
+-- with a packet there are fewer bytes
+pub skipped-shorter : (cs : List Channel) (bytes : List ℕ) (flying after : ℕ) (rest : List ℕ) → Follows cs bytes flying after rest
+    → length rest + 1 ≤ length bytes
+skipped-shorter cs bytes flying after rest f = omega (arith, ap length f.parts, length-append (packet_bytes cs f.packet) rest)
+
+-- where none follows, these are all
+pub skipped-all : (cs : List Channel) (bytes : List ℕ) (count flying : ℕ) (rest : List ℕ) → Skipped cs bytes count flying rest
+    → ((ps : List Packet) (p : Packet) (after : List ℕ) → InFlight ps flying → Alternates (ps ++ p ∷ []) → IsPacket cs p
+    → rest ≢ packet_bytes cs p ++ after)
+    → (packets : List Packet) × (length packets ≡ count) × AreAll cs bytes packets rest
+skipped-all cs bytes count flying rest s none = (
+  s.packets,
+  s.counted,
+  record {
+    each = s.each;
+    alternate = s.alternate;
+    parts = s.parts;
+    last = λ p after lawful alternate. none s.packets p after s.flying alternate lawful;
+  },
+)
+
+-- the front that is left before the rest
+pub front-whole : (cs : List Channel) (bytes body rest : List ℕ) (ps : List Packet) (whole : Whole) → IsTable cs
+    → bytes ≡ header_bytes cs ++ body → AreAll cs body ps rest → whole.len ≡ length bytes - length rest → length ps ≡ whole.packets
+    → IsFront bytes whole (record { channels = cs; packets = ps })
+front-whole cs bytes body rest ps whole table is all len count =
+    let header : List ℕ = header_bytes cs in
+    let packets : List ℕ = flat_map (packet_bytes cs) ps in
+    let parts : bytes ≡ (header ++ packets) ++ rest = is ∙ ap (λ (bs : List ℕ). header ++ bs) all.parts
+    ∙ sym (append_assoc header packets rest) in
+    let long : length (header ++ packets) ≡ whole.len = omega (arith, len, ap length parts, length-append (header ++ packets) rest) in
+    record {
+      salvaged = (rest, all-longest cs bytes body rest ps table is all);
+      packets = sym count;
+      few = omega (arith, count, packets-few cs ps, long, length-append header packets);
+      within = omega (arith, len);
+      encoded = ap (λ (bs : List ℕ). take whole.len bs ++ end_mark whole.packets) parts
+          ∙ ap (λ (bs : List ℕ). bs ++ end_mark whole.packets) (take_at (header ++ packets) rest whole.len long)
+          ∙ append_assoc header packets (end_mark whole.packets)
+          ∙ ap (λ n. header ++ (packets ++ end_mark n)) (sym count);
+    }

@@ -1,0 +1,29 @@
+use Rattle.std.proofs.Common.{[], ◌∷◌, ◌++◌}
+use Rattle.std.proofs.lemmas.Result.{err_from_is_err_and}
+use Rattle.trace_code.specs.PacketReading.{numbers_at}
+use Rattle.trace_code.proofs.PacketLoop.{number_goes_on, number_ends, number_is_done}
+use Rattle.trace_code.proofs.skipping.skip_content.Goals as goal
+
+pub returns-in_err-rest : goal.returns-in_err-rest
+returns-in_err-rest c =
+    let p = err_from_is_err_and c.from_residual.result c.from_residual.ensures.1 in
+    let inv = c.loop-width.invariant in
+    rw (p.1, p.2) (number_ends c.in_err-rest.field-0.0 inv.0 c.args.widths.now c.loop-width.width-index c.loop-width.rest.now
+    (numbers_at c.args.widths.now c.args.bytes.now) c.loop-width-test.true c.in_err-rest.ensures inv.1)
+
+pub loop-width-preserved : goal.loop-width-preserved
+loop-width-preserved c =
+    let inv = c.loop-width.invariant in
+    let there = c.in_ok-rest.ensures in (
+      inv.0 ++ there.0 ∷ [],
+      number_goes_on inv.0 c.args.widths.now c.loop-width.width-index c.loop-width.rest.now there.0 c.in_ok-rest.rest.now
+          (numbers_at c.args.widths.now c.args.bytes.now) c.loop-width-test.true there.1 inv.1,
+    )
+
+pub returns : goal.returns
+returns c =
+    let inv = c.loop-width.invariant in (
+      inv.0,
+      number_is_done inv.0 c.args.widths.now c.loop-width.width-index c.loop-width.rest.now (numbers_at c.args.widths.now c.args.bytes.now)
+          c.loop-width-test.false inv.1,
+    )

@@ -1,0 +1,26 @@
+-- Passing over the packets of a trace, in the manner of `PacketReading`.
+use Rattle.std.specs.Prelude.{◌≡◌, ◌≢◌, ℕ, List, [], ◌∷◌, ◌++◌, Option, Some, Result, Ok, Err}
+use Rattle.trace_model.specs.declared.channel.Channel.{Channel}
+use Rattle.trace_model.specs.declared.packet.Packet.{Packet}
+use Rattle.trace_model.specs.Packet.{IsPacket}
+use Rattle.trace_model.specs.Trace.{Alternates, InFlight}
+use Rattle.trace_code.specs.declared.error.CodeError.{CodeError}
+use Rattle.trace_code.specs.Encoding.{packet_bytes}
+use Rattle.trace_code.specs.Reading.{Fails}
+
+-- What a function returned, completed by what it didn't keep, is what reading gives, unless memory ran out.
+abbrev pub Passes : {X Y A : Type 0} → (X → Y → A) → Result Y CodeError → Option A → Type 0
+Passes {X} made (Ok y) read = (x : X) × (read ≡ Some (made x y))
+Passes made (Err e) read = Fails e read
+
+-- a packet, with the bytes after it, of which the contents weren't kept
+abbrev pub packet_with : List ℕ → ℕ → ℕ → Packet
+packet_with contents starts ends = record { starts = starts; ends = ends; contents = contents }
+
+-- a packet at the front of the bytes that is lawful after packets that leave `flying` in flight, and leaves `after`
+pub record Follows (channels : List Channel) (bytes : List ℕ) (flying after : ℕ) (rest : List ℕ) : Type 0 where
+  pub packet : Packet
+  pub lawful : IsPacket channels packet
+  pub parts : bytes ≡ packet_bytes channels packet ++ rest
+  pub goes_on : (ps : List Packet) → Alternates ps → InFlight ps flying → Alternates (ps ++ packet ∷ [])
+      × InFlight (ps ++ packet ∷ []) after
