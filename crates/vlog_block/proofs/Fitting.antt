@@ -1,8 +1,10 @@
 -- Where names are checked, an expression without a fault has parts of lawful widths.
-use Rattle.std.proofs.Common.{◌≡◌, ℕ, ◌+◌, ◌-◌, ◌≤◌, Bool, true, false, not, ◌&&◌, Option, None, Some, option_map}
-use Rattle.std.proofs.Common.{List, [], ◌++◌, refl, arith}
+use Rattle.std.proofs.Common.{◌≡◌, ℕ, zero, suc, ◌+◌, ◌-◌, ◌*◌, ◌≤◌, Bool, if◌then◌else◌, true, false, not, ◌&&◌, Option, None, Some, option_map}
+use Rattle.std.proofs.Common.{List, [], ◌++◌, refl, subst, arith}
+use Rattle.std.proofs.Math.Nat.{mul-zero, zero-mul, one-mul, mul-le-mul_right, le-mul_of_pos_right}
 use Rattle.vlog_tree.specs.Tree.{ExprOf, UnaryExpr, BinaryExpr, ChoiceExpr, ExprsOf, NoExprs, MoreExprs}
-use Rattle.vlog_tree.specs.Tree.{PrimOf, NumberPrim, RefPrim, ParenPrim, ConcatPrim, RefOf, RefWith, IndexOf, NoIndex, Index}
+use Rattle.vlog_tree.specs.Tree.{PrimOf, NumberPrim, RefPrim, ParenPrim, ConcatPrim, RepeatPrim, RefOf, RefWith, IndexOf}
+use Rattle.vlog_tree.specs.Tree.{NoIndex, Index}
 use Rattle.vlog_tree.specs.Tree.{LastOf, NoLast, Last, SelOf, IndexSel, PartSel, IndexedSel}
 use Rattle.vidi_bits.specs.Findings.{told_if, or_first}
 use Rattle.vlog_operators.specs.Number.{IsWidth}
@@ -23,6 +25,7 @@ use Rattle.vlog_size.specs.Size.{sizes_of_all, sizes_of_target, sizes_of_targets
 use Rattle.vlog_size.specs.Size.{of_name, of_ref, of_place, of_concat, Bracket, Part, Indexed, part_const_faults, part_fault}
 use Rattle.vlog_size.specs.Size.{part_width_faults, outside, too_large, number, or_zero, bounds_width, wrong_width, unsized_part}
 use Rattle.vlog_size.specs.Size.{is_bad_binary, parts_const_faults, parts_width_faults, sum_fault, total_width}
+use Rattle.vlog_size.specs.Size.{times, repeat_width, of_repeat, count_fault, is_too_large}
 use Rattle.vlog_size.proofs.Lists.{nil_left, nil_right, untold}
 use Rattle.vlog_size.proofs.Sized.{IsSized, Sized}
 use Rattle.vlog_size.proofs.Parts.{BracketSized, known_sized, part_lawful}
@@ -31,7 +34,7 @@ use Rattle.vlog_size.proofs.Answered.{faultless_target}
 use Rattle.vlog_block.specs.declared.source.Source.TheVariants.{Nothing}
 use Rattle.vlog_block.specs.Sources.{names_of, net_source, memory_source, or_source, or_constant}
 use Rattle.vlog_block.specs.Value.{width_of}
-use Rattle.vlog_block.specs.Fit.{IsFitWith, IsFit, IsFitPrim, AreFit, IsFitRef, IsFitIndex, IsFitLast, IsFitSel}
+use Rattle.vlog_block.specs.Fit.{IsFitWith, IsFit, IsFitPrim, AreFit, IsFitRef, IsFitIndex, IsFitLast, IsFitSel, IsRepeated}
 use Rattle.vlog_block.specs.Fit.{IsFitTarget, AreFitTargets}
 use Rattle.vlog_block.specs.Targets.{target_width}
 
@@ -121,6 +124,45 @@ sel_sized s (PartSel a b) = (
 sel_sized s (IndexedSel base width) =
     (expr_sized s base, known_sized (sizes_of (fixed (checked s)) width) (expr_sized (fixed s) width) (expr_constant (checked s) width))
 
+factor_left : (n w : ℕ) → 1 ≤ n * w → 1 ≤ n
+factor_left zero w h = let none : zero * w ≡ 0 = zero-mul w in omega (arith, h, none)
+factor_left (suc n) w h = omega arith
+
+factor_right : (n w : ℕ) → 1 ≤ n * w → 1 ≤ w
+factor_right n zero h = let none : n * zero ≡ 0 = mul-zero n in omega (arith, h, none)
+factor_right n (suc w) h = omega arith
+
+fewer : (n w : ℕ) → 1 ≤ n * w → n * w ≤ 128 → w ≤ 128
+fewer n w h k =
+    let some : 1 ≤ n = factor_left n w h in
+    let more : 1 * w ≤ n * w = mul-le-mul_right w some in
+    let one : 1 * w ≡ w = one-mul w in
+    omega (arith, more, one, k)
+
+few_times : (n w : ℕ) → 1 ≤ n * w → n * w ≤ 128 → n ≤ 128
+few_times n w h k =
+    let some : 1 ≤ w = factor_right n w h in
+    let more : n ≤ n * w = le-mul_of_pos_right n some in
+    omega (arith, more, k)
+
+repeated_fit : (n : Option ℕ) (w : ℕ) → IsWidth (repeat_width n w) → IsRepeated (or_zero n) w
+repeated_fit None w h = let none : 1 ≤ 0 = h.0 in absurd (omega (arith, none))
+repeated_fit (Some n) w h = record {
+  some = factor_left n w h.0;
+  few = few_times n w h.0 h.1;
+  width = (factor_right n w h.0, fewer n w h.0 h.1);
+  all = h.1;
+}
+
+count_is : (b : Bool) (n : Option ℕ) (w : ℕ) → IsWidth (repeat_width (if b then None else n) w)
+    → or_zero (if b then None else n) ≡ or_zero n
+count_is true n w h = let none : 1 ≤ 0 = h.0 in absurd (omega (arith, none))
+count_is false n w h = refl
+
+count_fit : (e : Sizes) (w : ℕ) → IsWidth (repeat_width (times e) w) → IsRepeated (or_zero (number e)) w
+unfolding times
+count_fit e w h = subst (λ (n : ℕ). IsRepeated n w) (count_is (is_too_large e) (number e) w h) (repeated_fit (times e) w h)
+
 mutual
   expr_fit : (s : Readable) (e : ExprOf ℕ) → (sizes_of (checked s) e).const_faults ≡ [] → (sizes_of (checked s) e).width_faults ≡ []
       → IsFit (checked s) e
@@ -163,6 +205,16 @@ mutual
   prim_fit s (NumberPrim n) h k = tt
   prim_fit s (RefPrim ref) h k = ref_fit s ref h k
   prim_fit s (ParenPrim line e) h k = expr_fit s e h k
+  prim_fit s (RepeatPrim line count es) h k =
+      let parts = sizes_of_all (checked s) es in
+      let c = sizes_of (fixed (checked s)) count in
+      let whole : IsWidth (repeat_width (times c) (total_width parts)) =
+      own_fit (of_repeat line c parts) (expr_sized s (UnaryExpr None (RepeatPrim line count es))) h k in (
+        count_fit c (total_width parts) whole,
+        all_fit s es (nil_right (too_large c ++ c.const_faults) (parts_const_faults parts) h)
+            (nil_right c.width_faults (parts_width_faults parts)
+            (nil_right (count_fault line (times c) parts) (c.width_faults ++ parts_width_faults parts) k)),
+      )
   prim_fit s (ConcatPrim line es) h k =
       let parts = sizes_of_all (checked s) es in
       let whole : IsWidth (total_width parts) = own_fit (of_concat line parts) (expr_sized s (UnaryExpr None (ConcatPrim line es))) h k in

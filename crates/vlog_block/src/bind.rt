@@ -22,8 +22,8 @@ ghost use Rattle.vlog_block.specs.Value.{index_value, part_or_whole, lone_word, 
 ghost use Rattle.vlog_block.specs.Value.{prim_width, operand_width, binary_at, bound};
 
 use crate::makers::{
-    binary_code, bits_code, choice_code, fixed_bits, join_code, number, select_code, unary_code,
-    word_code,
+    binary_code, bits_code, choice_code, fixed_bits, join_code, number, repeat_code, select_code,
+    unary_code, word_code,
 };
 use crate::source::{Source, source_of};
 use net_design::{Rhs, Room, Span};
@@ -34,7 +34,9 @@ use vlog_size::{
     Kind, Scope, checked, const_number, facts_of, fixed, is_wide, kind_of, literal_number,
     numbered, prim_facts, whole_view,
 };
-use vlog_tree::{BinaryOp, Expr, Prim as Operand, Ref, Sel, Unary, UnaryOp, see_concat};
+use vlog_tree::{
+    BinaryOp, Expr, Prim as Operand, Ref, Sel, Unary, UnaryOp, see_concat, see_repeat,
+};
 
 /// The self-determined width of an expression.
 pub fn own_width(scope: &Scope, e: &Expr) -> u32
@@ -218,7 +220,14 @@ fn bound_prim(alloc: Global, scope: &Scope, prim: &Operand, w: u32) -> Result<Bo
         Operand::Paren { line: _, inner } => bound_expr(alloc, scope, inner, w),
         Operand::Concat { line, parts } => {
             see_concat(*line, parts);
-            bound_parts(alloc, scope, parts.as_slice())
+            let all = bound_parts(alloc, scope, parts.as_slice())?;
+            Ok(all.code)
+        }
+        Operand::Repeat { line, count, parts } => {
+            see_repeat(*line, parts);
+            let times = bound_number(scope, count) as u32;
+            let all = bound_parts(alloc, scope, parts.as_slice())?;
+            repeat_code(alloc, times, all.code, all.width)
         }
     }
 }
@@ -248,6 +257,17 @@ fn with_part(alloc: Global, high: Joined, low: Joined) -> Result<Joined, Memory>
     Ok(Joined { code, width })
 }
 
+/// No bits.
+fn nothing(alloc: Global) -> Result<Joined, Memory>
+    ensures value { IfOk result (λ j. (v : Values) → code.value j.code.value v ≡ 0) }
+    ensures reads { IfOk result (λ j. (m k : ℕ) → bits.reads j.code.value m k ≡ false) }
+    ensures sized { IfOk result (λ j. IsSizedRhs j.code.value) }
+    ensures width { IfOk result (λ j. j.width ≡ 0) }
+{
+    let code = number(alloc, 0)?;
+    Ok(Joined { code, width: 0 })
+}
+
 /// An expression at its own width.
 #[cycle(bind)]
 fn bound_own(alloc: Global, scope: &Scope, e: &Expr) -> Result<Joined, Memory>
@@ -267,23 +287,24 @@ fn bound_own(alloc: Global, scope: &Scope, e: &Expr) -> Result<Joined, Memory>
 
 /// The parts of a concatenation, side by side.
 #[cycle(bind)]
-fn bound_parts(alloc: Global, scope: &Scope, parts: &[Expr]) -> Result<Box<Rhs>, Memory>
+fn bound_parts(alloc: Global, scope: &Scope, parts: &[Expr]) -> Result<Joined, Memory>
     requires all { total_width (sizes_of_all (names_of scope.now) (plain_exprs parts.now)) ≤ 128 }
     requires fit { AreFit (names_of scope.now) (plain_exprs parts.now) }
-    ensures value { IfOk result (λ c. (v : Values) → code.value c.value v ≡ parts_value (names_of scope.now) v (plain_exprs parts.now)) }
-    ensures reads { IfOk result (λ c. (m k : ℕ) → bits.reads c.value m k
+    ensures value { IfOk result (λ j. (v : Values) → code.value j.code.value v ≡ parts_value (names_of scope.now) v (plain_exprs parts.now)) }
+    ensures reads { IfOk result (λ j. (m k : ℕ) → bits.reads j.code.value m k
         ≡ parts_read (names_of scope.now) (plain_exprs parts.now) m k) }
-    ensures sized { IfOk result (λ c. IsSizedRhs c.value) }
+    ensures sized { IfOk result (λ j. IsSizedRhs j.code.value) }
+    ensures width { IfOk result (λ j. j.width ≡ total_width (sizes_of_all (names_of scope.now) (plain_exprs parts.now))) }
 {
     let [first, rest @ ..] = parts else {
-        return number(alloc, 0);
+        return nothing(alloc);
     };
     let mut so_far = bound_own(alloc, scope, first)?;
     for part in rest {
         let low = bound_own(alloc, scope, part)?;
         so_far = with_part(alloc, so_far, low)?;
     }
-    Ok(so_far.code)
+    Ok(so_far)
 }
 
 /// An index at its own width.
