@@ -260,7 +260,13 @@ fn net_place(alloc: Global, scope: &Scope, span: Span, name: &Ref) -> Result<Pla
 }
 
 /// A word at an index.
-fn word_at(alloc: Global, scope: &Scope, room: Room, size: u32, index: &Expr) -> Result<Word, Memory>
+fn word_at(
+    alloc: Global,
+    scope: &Scope,
+    room: Room,
+    size: u32,
+    index: &Expr,
+) -> Result<Word, Memory>
     requires width { IsWidth (width_of (names_of scope.now) (plain_expr index.now)) }
     requires fit { IsFit (names_of scope.now) (plain_expr index.now) }
     ensures value { IfOk result (λ w. (v : Values) → code.value w.index.value v
@@ -293,7 +299,13 @@ fn no_word(alloc: Global, scope: &Scope, sel: &Sel) -> Result<Place, Memory>
 }
 
 /// A memory's word whose index stands in a lone bracket.
-fn lone_place(alloc: Global, scope: &Scope, room: Room, size: u32, sel: &Sel) -> Result<Place, Memory>
+fn lone_place(
+    alloc: Global,
+    scope: &Scope,
+    room: Room,
+    size: u32,
+    sel: &Sel,
+) -> Result<Place, Memory>
     requires size { IsWidth size }
     requires room { IsCountable (2 ^ 64) room 0 }
     requires fit { IsFitSel (names_of scope.now) (plain_sel sel.now) }
@@ -317,7 +329,13 @@ fn lone_place(alloc: Global, scope: &Scope, room: Room, size: u32, sel: &Sel) ->
 }
 
 /// A memory's word, or a select of it.
-fn word_place(alloc: Global, scope: &Scope, room: Room, size: u32, name: &Ref) -> Result<Place, Memory>
+fn word_place(
+    alloc: Global,
+    scope: &Scope,
+    room: Room,
+    size: u32,
+    name: &Ref,
+) -> Result<Place, Memory>
     requires size { IsWidth size }
     requires room { IsCountable (2 ^ 64) room 0 }
     requires index { IsFitIndex (names_of scope.now) (plain_index (back-Ref-index name.now.index)) }
@@ -355,7 +373,13 @@ fn word_place(alloc: Global, scope: &Scope, room: Room, size: u32, name: &Ref) -
 }
 
 /// What a name stands for, with the name's brackets. It takes `takes` bits.
-fn source_place(alloc: Global, scope: &Scope, source: Source, name: &Ref, takes: u32) -> Result<Place, Memory>
+fn source_place(
+    alloc: Global,
+    scope: &Scope,
+    source: Source,
+    name: &Ref,
+    takes: u32,
+) -> Result<Place, Memory>
     requires countable { IsSource source }
     requires takes { IsWidth takes }
     requires width { takes ≡ taken (names_of scope.now) source (plain_index (back-Ref-index name.now.index))
