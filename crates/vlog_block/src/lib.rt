@@ -6,9 +6,13 @@
 #![tactic(auto)]
 
 mod bind;
+mod block;
+mod faultless;
 mod makers;
 mod source;
 mod target;
 
 pub use bind::bind_expr;
+pub use block::block_code;
+pub use faultless::is_faultless;
 pub use target::bind_target;

@@ -13,7 +13,7 @@ use vlog_lex::lex;
 use vlog_size::{Scope, width};
 use vlog_tree::Expr;
 
-fn expression(alloc: Global, text: &str) -> Result<Box<Expr>, Fail> {
+pub fn expression(alloc: Global, text: &str) -> Result<Box<Expr>, Fail> {
     let bytes = text.as_bytes();
     if bytes.len() >= 200 {
         return Err(Fail::from("a long text"));
