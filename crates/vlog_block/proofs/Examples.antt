@@ -5,6 +5,7 @@ use Rattle.vlog_tree.specs.declared.stmt.AssignOp.TheVariants as sign
 use Rattle.vlog_tree.specs.Tree.{ExprOf, UnaryExpr, NumberPrim, RefPrim, RefOf, RefWith, NoIndex, LastOf, NoLast, Last, IndexSel, PartSel}
 use Rattle.vlog_tree.specs.Tree.{TargetOf, RefTarget, ConcatTarget, targets_of, StmtOf, AssignStmt, stmts_of}
 use Rattle.vlog_size.specs.Names.{Readable}
+use Rattle.vlog_size.specs.Size.{number}
 use Rattle.net_design.specs.declared.act.Timing.TheVariants.{Blocking, Nonblocking}
 use Rattle.net_design.specs.declared.values.Values.{Values}
 use Rattle.net_design.specs.declared.values.Target.TheVariants.{Net}
@@ -56,10 +57,12 @@ twice =
     ∷ set (RefTarget (ref 120 (Last (PartSel (decimal (51 ∷ [])) (decimal (48 ∷ [])))))) (decimal (48 ∷ [])) ∷ []
 
 last_wins : apply (stmts_updates scope Nonblocking (stmts_of twice) before) before ≡ record { nets = 3 ∷ 5 ∷ 240 ∷ []; words = [] }
+unfolding number
 last_wins = refl
 
--- `{a, b[x + 5 ..], x[0]}`: the place of the second part isn't there. `{a, b[b], x[0]} = 27` is 011011: 6, then 1 for a bit that isn't there, then 1
+-- `{a, b[b], x[0]} = 27`: b is 5, so the second part isn't there; the first takes 6, of the number's six bits 011011, and the last 1
 out_of_range : stmt_updates scope Blocking (set (ConcatTarget 1 (targets_of (RefTarget (ref 97 NoLast)
     ∷ RefTarget (ref 98 (Last (IndexSel (whole 98)))) ∷ RefTarget (ref 120 (Last (IndexSel (decimal (48 ∷ []))))) ∷ [])))
     (decimal (50 ∷ 55 ∷ []))) before ≡ update (Net 0) 0 4 6 ∷ update (Net 2) 0 1 27 ∷ []
+unfolding number
 out_of_range = refl
