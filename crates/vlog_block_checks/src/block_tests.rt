@@ -55,7 +55,7 @@ fn is_right(alloc: Global, scope: &Scope, before: &Values, row: &Block) -> Resul
     match block_of(&file) {
         Some(block) => {
             let now = after(alloc, block, scope, before)?;
-            Ok(now.nets.as_slice().starts_with(&nets) && now.words.as_slice() == words)
+            Ok(now.nets.as_slice().starts_with(&nets) && now.words.as_slice() == words.as_slice())
         }
         None => Ok(false),
     }
