@@ -9,4 +9,4 @@ mod reference;
 mod statement;
 
 pub use expression::value_of;
-pub use reference::{initial_state, is_settled, next_state, output_pins};
+pub use reference::{after_block, initial_state, is_settled, next_state, output_pins};

@@ -8,7 +8,7 @@ ghost use Rattle.net_design.specs.declared.design.Direction.TheVariants.{Input, 
 ghost use Rattle.net_design.specs.declared.design.Register.{Register};
 ghost use Rattle.vlog_operators.specs.Number.{has};
 ghost use Rattle.net_design.specs.Sized.{IsSizedBlock};
-ghost use Rattle.net_design.specs.Updates.{run};
+ghost use Rattle.net_design.specs.Updates.{apply, block_updates, run};
 ghost use Rattle.net_design.specs.Settled.{IsSized, IsSettled, Keeps, FitNets, net_width, same_direction, pins_of};
 ghost use Rattle.net_design.specs.Settled.{held, next, initial, initial_number, word_count};
 
@@ -114,14 +114,28 @@ fn same_values(a: &Values, b: &Values) -> bool
     a.nets.as_slice() == b.nets.as_slice() && a.words.as_slice() == b.words.as_slice()
 }
 
+/// The numbers after a block that reads `values` (IEEE 1364-2005, 9.2).
+pub fn after_block(
+    alloc: Global,
+    timing: Timing,
+    acts: &Items<Act>,
+    values: &Values,
+) -> Result<Values, Memory>
+    requires { IsSizedBlock acts.now }
+    ensures { IfOk result (λ v. v ≡ apply (block_updates timing acts.now values.now) values.now) }
+{
+    let made = acts_updates(alloc, timing, acts, values)?;
+    let mut now = copy(alloc, values)?;
+    apply(made.as_slice(), &mut now);
+    Ok(now)
+}
+
 /// Whether a driver's code changes nothing.
 fn is_fixed(alloc: Global, acts: &Items<Act>, values: &Values) -> Result<bool, Memory>
     requires { IsSizedBlock acts.now }
     ensures { IfOk result (λ b. IsTrue b ↔ (run acts.now values.now ≡ values.now)) }
 {
-    let made = acts_updates(alloc, Timing::Blocking, acts, values)?;
-    let mut now = copy(alloc, values)?;
-    apply(made.as_slice(), &mut now);
+    let now = after_block(alloc, Timing::Blocking, acts, values)?;
     Ok(same_values(&now, values))
 }
 

@@ -1,11 +1,14 @@
 -- Where names are checked, an expression without a fault has parts of lawful widths.
-use Rattle.std.proofs.Common.{◌≡◌, ℕ, ◌+◌, ◌-◌, ◌≤◌, Bool, true, false, not, ◌&&◌, Option, None, Some, option_map}
-use Rattle.std.proofs.Common.{List, [], ◌++◌, refl, arith}
+use Rattle.std.proofs.Common.{◌≡◌, ℕ, zero, suc, ◌+◌, ◌-◌, ◌*◌, ◌≤◌, Bool, if◌then◌else◌, true, false, not, ◌&&◌, Option, None, Some, option_map}
+use Rattle.std.proofs.Common.{List, [], ◌++◌, refl, subst, arith}
+use Rattle.std.proofs.Math.Nat.{mul-zero, zero-mul, one-mul, mul-le-mul_right, le-mul_of_pos_right}
 use Rattle.vlog_tree.specs.Tree.{ExprOf, UnaryExpr, BinaryExpr, ChoiceExpr, ExprsOf, NoExprs, MoreExprs}
-use Rattle.vlog_tree.specs.Tree.{PrimOf, NumberPrim, RefPrim, ParenPrim, ConcatPrim, RefOf, RefWith, IndexOf, NoIndex, Index}
+use Rattle.vlog_tree.specs.Tree.{PrimOf, NumberPrim, RefPrim, ParenPrim, ConcatPrim, RepeatPrim, RefOf, RefWith, IndexOf}
+use Rattle.vlog_tree.specs.Tree.{NoIndex, Index}
 use Rattle.vlog_tree.specs.Tree.{LastOf, NoLast, Last, SelOf, IndexSel, PartSel, IndexedSel}
 use Rattle.vidi_bits.specs.Findings.{told_if, or_first}
 use Rattle.vlog_operators.specs.Number.{IsWidth}
+use Rattle.vlog_tree.specs.Tree.{TargetOf, RefTarget, ConcatTarget, TargetsOf, NoTargets, MoreTargets}
 use Rattle.vlog_size.specs.declared.error.SizeError.{SizeError}
 use Rattle.vlog_size.specs.declared.error.SizeError.TheVariants as error
 use Rattle.vlog_size.specs.declared.scope.Param.{Param}
@@ -18,18 +21,22 @@ use Rattle.vlog_size.specs.Literal.{is_lawful}
 use Rattle.vlog_size.specs.Operators.{is_wide}
 use Rattle.vlog_size.specs.Names.{Readable, readable_of, fixed, checked, or_meaning, or_undeclared, net_meaning, memory_meaning}
 use Rattle.vlog_size.specs.Size.{Sizes, sizes_of, sizes_of_prim, sizes_of_ref, sizes_of_index, sizes_of_last, sizes_of_sel}
-use Rattle.vlog_size.specs.Size.{sizes_of_all, faults}
+use Rattle.vlog_size.specs.Size.{sizes_of_all, sizes_of_target, sizes_of_targets, faults}
 use Rattle.vlog_size.specs.Size.{of_name, of_ref, of_place, of_concat, Bracket, Part, Indexed, part_const_faults, part_fault}
 use Rattle.vlog_size.specs.Size.{part_width_faults, outside, too_large, number, or_zero, bounds_width, wrong_width, unsized_part}
 use Rattle.vlog_size.specs.Size.{is_bad_binary, parts_const_faults, parts_width_faults, sum_fault, total_width}
+use Rattle.vlog_size.specs.Size.{times, repeat_width, of_repeat, count_fault, is_too_large}
 use Rattle.vlog_size.proofs.Lists.{nil_left, nil_right, untold}
 use Rattle.vlog_size.proofs.Sized.{IsSized, Sized}
 use Rattle.vlog_size.proofs.Parts.{BracketSized, known_sized, part_lawful}
 use Rattle.vlog_size.proofs.Faultless.{expr_sized, expr_constant}
+use Rattle.vlog_size.proofs.Answered.{faultless_target}
 use Rattle.vlog_block.specs.declared.source.Source.TheVariants.{Nothing}
 use Rattle.vlog_block.specs.Sources.{names_of, net_source, memory_source, or_source, or_constant}
 use Rattle.vlog_block.specs.Value.{width_of}
-use Rattle.vlog_block.specs.Fit.{IsFitWith, IsFit, IsFitPrim, AreFit, IsFitRef, IsFitIndex, IsFitLast, IsFitSel}
+use Rattle.vlog_block.specs.Fit.{IsFitWith, IsFit, IsFitPrim, AreFit, IsFitRef, IsFitIndex, IsFitLast, IsFitSel, IsRepeated}
+use Rattle.vlog_block.specs.Fit.{IsFitTarget, AreFitTargets}
+use Rattle.vlog_block.specs.Targets.{target_width}
 
 lawful_width : (w : ℕ) → is_lawful w ≡ true → IsWidth w
 lawful_width w h = (grind arith, grind arith)
@@ -117,6 +124,45 @@ sel_sized s (PartSel a b) = (
 sel_sized s (IndexedSel base width) =
     (expr_sized s base, known_sized (sizes_of (fixed (checked s)) width) (expr_sized (fixed s) width) (expr_constant (checked s) width))
 
+factor_left : (n w : ℕ) → 1 ≤ n * w → 1 ≤ n
+factor_left zero w h = let none : zero * w ≡ 0 = zero-mul w in omega (arith, h, none)
+factor_left (suc n) w h = omega arith
+
+factor_right : (n w : ℕ) → 1 ≤ n * w → 1 ≤ w
+factor_right n zero h = let none : n * zero ≡ 0 = mul-zero n in omega (arith, h, none)
+factor_right n (suc w) h = omega arith
+
+fewer : (n w : ℕ) → 1 ≤ n * w → n * w ≤ 128 → w ≤ 128
+fewer n w h k =
+    let some : 1 ≤ n = factor_left n w h in
+    let more : 1 * w ≤ n * w = mul-le-mul_right w some in
+    let one : 1 * w ≡ w = one-mul w in
+    omega (arith, more, one, k)
+
+few_times : (n w : ℕ) → 1 ≤ n * w → n * w ≤ 128 → n ≤ 128
+few_times n w h k =
+    let some : 1 ≤ w = factor_right n w h in
+    let more : n ≤ n * w = le-mul_of_pos_right n some in
+    omega (arith, more, k)
+
+repeated_fit : (n : Option ℕ) (w : ℕ) → IsWidth (repeat_width n w) → IsRepeated (or_zero n) w
+repeated_fit None w h = let none : 1 ≤ 0 = h.0 in absurd (omega (arith, none))
+repeated_fit (Some n) w h = record {
+  some = factor_left n w h.0;
+  few = few_times n w h.0 h.1;
+  width = (factor_right n w h.0, fewer n w h.0 h.1);
+  all = h.1;
+}
+
+count_is : (b : Bool) (n : Option ℕ) (w : ℕ) → IsWidth (repeat_width (if b then None else n) w)
+    → or_zero (if b then None else n) ≡ or_zero n
+count_is true n w h = let none : 1 ≤ 0 = h.0 in absurd (omega (arith, none))
+count_is false n w h = refl
+
+count_fit : (e : Sizes) (w : ℕ) → IsWidth (repeat_width (times e) w) → IsRepeated (or_zero (number e)) w
+unfolding times
+count_fit e w h = subst (λ (n : ℕ). IsRepeated n w) (count_is (is_too_large e) (number e) w h) (repeated_fit (times e) w h)
+
 mutual
   expr_fit : (s : Readable) (e : ExprOf ℕ) → (sizes_of (checked s) e).const_faults ≡ [] → (sizes_of (checked s) e).width_faults ≡ []
       → IsFit (checked s) e
@@ -159,12 +205,22 @@ mutual
   prim_fit s (NumberPrim n) h k = tt
   prim_fit s (RefPrim ref) h k = ref_fit s ref h k
   prim_fit s (ParenPrim line e) h k = expr_fit s e h k
+  prim_fit s (RepeatPrim line count es) h k =
+      let parts = sizes_of_all (checked s) es in
+      let c = sizes_of (fixed (checked s)) count in
+      let whole : IsWidth (repeat_width (times c) (total_width parts)) =
+      own_fit (of_repeat line c parts) (expr_sized s (UnaryExpr None (RepeatPrim line count es))) h k in (
+        count_fit c (total_width parts) whole,
+        all_fit s es (nil_right (too_large c ++ c.const_faults) (parts_const_faults parts) h)
+            (nil_right c.width_faults (parts_width_faults parts)
+            (nil_right (count_fault line (times c) parts) (c.width_faults ++ parts_width_faults parts) k)),
+      )
   prim_fit s (ConcatPrim line es) h k =
       let parts = sizes_of_all (checked s) es in
       let whole : IsWidth (total_width parts) = own_fit (of_concat line parts) (expr_sized s (UnaryExpr None (ConcatPrim line es))) h k in
       (whole.1, all_fit s es h (nil_right (sum_fault line parts) (parts_width_faults parts) k))
 
-  ref_fit : (s : Readable) (ref : RefOf ℕ) → (sizes_of_ref (checked s) ref).const_faults ≡ []
+  pub ref_fit : (s : Readable) (ref : RefOf ℕ) → (sizes_of_ref (checked s) ref).const_faults ≡ []
       → (sizes_of_ref (checked s) ref).width_faults ≡ [] → IsFitRef (checked s) ref
   ref_fit s (RefWith id index last) h k =
       let inner : AreFitAfter id.line (sizes_of_index (checked s) index) (sizes_of_last (checked s) last)
@@ -236,3 +292,48 @@ wide_enough s e w h low high =
     (nil_left whole.const_faults whole.width_faults h) (nil_right whole.const_faults whole.width_faults h) in
     let least : 1 ≤ width_of (names_of s) e = own.0 in
     (omega (arith, least, low), high)
+
+-- the width of an expression without a fault
+pub faultless_width : (s : Scope) (e : ExprOf ℕ) → faults (sizes_of (names_of s) e) ≡ [] → IsWidth (width_of (names_of s) e)
+unfolding faults
+faultless_width s e h =
+    let whole = sizes_of (names_of s) e in
+    own_fit whole (expr_sized (readable_of s) e) (nil_left whole.const_faults whole.width_faults h)
+    (nil_right whole.const_faults whole.width_faults h)
+
+-- ---- targets
+
+mutual
+  target_fit : (s : Readable) (t : TargetOf ℕ) → (sizes_of_target (checked s) t).const_faults ≡ []
+      → (sizes_of_target (checked s) t).width_faults ≡ [] → IsFitTarget (checked s) t
+  target_fit s (RefTarget ref) h k =
+      let whole = sizes_of_ref (checked s) ref in
+      (own_fit whole (expr_sized s (UnaryExpr None (RefPrim ref))) h k, ref_fit s ref h k)
+  target_fit s (ConcatTarget line ts) h k =
+      let parts = sizes_of_targets (checked s) ts in
+      targets_fit s ts h (nil_right (sum_fault line parts) (parts_width_faults parts) k)
+
+  targets_fit : (s : Readable) (ts : TargetsOf ℕ) → parts_const_faults (sizes_of_targets (checked s) ts) ≡ []
+      → parts_width_faults (sizes_of_targets (checked s) ts) ≡ [] → AreFitTargets (checked s) ts
+  targets_fit s NoTargets h k = tt
+  targets_fit s (MoreTargets t ts) h k =
+      let p = sizes_of_target (checked s) t in
+      let rest = sizes_of_targets (checked s) ts in
+      let consts : p.const_faults ≡ [] =
+      nil_right (unsized_part p) p.const_faults (nil_left (unsized_part p ++ p.const_faults) (parts_const_faults rest) h) in
+      let widths : p.width_faults ≡ [] = nil_left p.width_faults (parts_width_faults rest) k in (
+        target_fit s t consts widths,
+        targets_fit s ts (nil_right (unsized_part p ++ p.const_faults) (parts_const_faults rest) h)
+            (nil_right p.width_faults (parts_width_faults rest) k),
+      )
+
+pub faultless_target_fit : (s : Scope) (t : TargetOf ℕ) → faults (sizes_of_target (names_of s) t) ≡ [] → IsFitTarget (names_of s) t
+unfolding faults
+faultless_target_fit s t h =
+    let whole = sizes_of_target (names_of s) t in
+    target_fit (readable_of s) t (nil_left whole.const_faults whole.width_faults h) (nil_right whole.const_faults whole.width_faults h)
+
+-- the width of a target without a fault
+pub faultless_target_width : (s : Scope) (t : TargetOf ℕ) → faults (sizes_of_target (names_of s) t) ≡ []
+    → IsWidth (target_width (names_of s) t)
+faultless_target_width s t h = lawful_width (target_width (names_of s) t) (faultless_target (readable_of s) t h)

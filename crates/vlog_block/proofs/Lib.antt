@@ -2,3 +2,9 @@ pub mod Words
 pub mod Clips
 pub mod Fitting
 pub mod Ranges
+pub mod Taken
+pub mod Places
+pub mod Extending
+pub mod Lengthening
+pub mod Statements
+mod Examples

@@ -2,7 +2,8 @@
 -- range, any other the whole net, and what its place reads. Words of memories are no bits of nets, and a constant index reads nothing.
 use Rattle.std.specs.Prelude.{ℕ, ◌+◌, Bool, ◌&&◌, ◌||◌, not, false, nat_le, nat_lt, Option, None, Some}
 use Rattle.vlog_tree.specs.Tree.{ExprOf, UnaryExpr, BinaryExpr, ChoiceExpr, ExprsOf, NoExprs, MoreExprs}
-use Rattle.vlog_tree.specs.Tree.{PrimOf, NumberPrim, RefPrim, ParenPrim, ConcatPrim, RefOf, RefWith, IndexOf, NoIndex, Index}
+use Rattle.vlog_tree.specs.Tree.{PrimOf, NumberPrim, RefPrim, ParenPrim, ConcatPrim, RepeatPrim, RefOf, RefWith, IndexOf}
+use Rattle.vlog_tree.specs.Tree.{NoIndex, Index}
 use Rattle.vlog_tree.specs.Tree.{LastOf, NoLast, Last, IndexSel, PartSel, IndexedSel}
 use Rattle.vlog_size.specs.Names.{Readable}
 use Rattle.vlog_size.specs.Size.{sizes_of}
@@ -56,6 +57,7 @@ abbrev mutual
   prim_reads r (RefPrim ref) m k = ref_reads r ref m k
   prim_reads r (ParenPrim line e) m k = reads r e m k
   prim_reads r (ConcatPrim line es) m k = parts_read r es m k
+  prim_reads r (RepeatPrim line count es) m k = parts_read r es m k
 
   pub parts_read : Readable → ExprsOf ℕ → BitSet
   parts_read r NoExprs m k = false
@@ -74,7 +76,7 @@ abbrev mutual
   index_reads r NoIndex m k = false
   index_reads r (Index i) m k = not (sizes_of r i).constant && reads r i m k
 
-  -- bounds, and the width after `+:`, read no net
+  -- bounds, the width after `+:`, and a count, read no net
   pub last_reads : Readable → LastOf ℕ → BitSet
   last_reads r NoLast m k = false
   last_reads r (Last (IndexSel i)) m k = not (sizes_of r i).constant && reads r i m k

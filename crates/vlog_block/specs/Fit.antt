@@ -1,7 +1,8 @@
 -- Expressions and targets whose parts have lawful widths, 1 to 128 bits.
-use Rattle.std.specs.Prelude.{ℕ, ◌≤◌, None, Some}
+use Rattle.std.specs.Prelude.{ℕ, ◌≤◌, ◌*◌, None, Some}
 use Rattle.vlog_tree.specs.Tree.{ExprOf, UnaryExpr, BinaryExpr, ChoiceExpr, ExprsOf, NoExprs, MoreExprs}
-use Rattle.vlog_tree.specs.Tree.{PrimOf, NumberPrim, RefPrim, ParenPrim, ConcatPrim, RefOf, RefWith, IndexOf, NoIndex, Index}
+use Rattle.vlog_tree.specs.Tree.{PrimOf, NumberPrim, RefPrim, ParenPrim, ConcatPrim, RepeatPrim, RefOf, RefWith, IndexOf}
+use Rattle.vlog_tree.specs.Tree.{NoIndex, Index}
 use Rattle.vlog_tree.specs.Tree.{LastOf, NoLast, Last, SelOf, IndexSel, PartSel, IndexedSel}
 use Rattle.vlog_tree.specs.Tree.{TargetOf, RefTarget, ConcatTarget, TargetsOf, NoTargets, MoreTargets}
 use Rattle.vlog_size.specs.Names.{Readable}
@@ -10,7 +11,7 @@ use Rattle.vlog_operators.specs.Number.{IsWidth}
 use Rattle.vlog_block.specs.declared.source.Source.{Source}
 use Rattle.vlog_block.specs.declared.source.Source.TheVariants.{Net, Memory}
 use Rattle.vlog_block.specs.Sources.{source_of}
-use Rattle.vlog_block.specs.Value.{width_of, prim_width, picked}
+use Rattle.vlog_block.specs.Value.{width_of, prim_width, picked, bound}
 use Rattle.vlog_block.specs.Targets.{target_width}
 
 -- a net or a memory of lawful width, whose brackets are fit; the brackets of anything else are passed over
@@ -18,6 +19,13 @@ abbrev pub IsFitWith : Source → Type 0 → Type 0
 IsFitWith (Net span) Brackets = IsWidth span.width × Brackets
 IsFitWith (Memory room n) Brackets = IsWidth n × Brackets
 IsFitWith _ Brackets = Unit {0}
+
+-- n times w bits
+pub record IsRepeated (n w : ℕ) : Type 0 where
+  pub some : 1 ≤ n
+  pub few : n ≤ 128
+  pub width : IsWidth w
+  pub all : n * w ≤ 128
 
 abbrev mutual
   pub IsFit : Readable → ExprOf ℕ → Type 0
@@ -31,6 +39,7 @@ abbrev mutual
   IsFitPrim r (RefPrim ref) = IsFitRef r ref
   IsFitPrim r (ParenPrim line e) = IsFit r e
   IsFitPrim r (ConcatPrim line es) = (total_width (sizes_of_all r es) ≤ 128) × AreFit r es
+  IsFitPrim r (RepeatPrim line count es) = IsRepeated (bound r count) (total_width (sizes_of_all r es)) × AreFit r es
 
   pub AreFit : Readable → ExprsOf ℕ → Type 0
   AreFit r NoExprs = Unit {0}

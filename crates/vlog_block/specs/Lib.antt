@@ -7,3 +7,4 @@ pub mod Targets
 pub mod Updates
 pub mod Written
 pub mod Faultless
+pub mod Extends

@@ -27,17 +27,21 @@ is_zero r v c = value r v c (width_of r c) == 0
 
 -- ---- `case` compares at the width of its widest expression, be it the subject or a label (9.5)
 
+-- the widest of some expressions and w bits
 abbrev pub widest : Readable → List (ExprOf ℕ) → ℕ → ℕ
 widest r [] w = w
-widest r (e ∷ es) w = max (width_of r e) (widest r es w)
+widest r (e ∷ es) w = widest r es (max w (width_of r e))
 
-abbrev pub widest_label : Readable → ArmsOf ℕ → ℕ → ℕ
-widest_label r NoArms w = w
-widest_label r (MoreArms (LabelsArm labels b) rest) w = widest r labels (widest_label r rest w)
-widest_label r (MoreArms (DefaultArm line colon b) rest) w = widest_label r rest w
+abbrev pub arm_widest : Readable → ArmOf ℕ → ℕ → ℕ
+arm_widest r (LabelsArm labels b) w = widest r labels w
+arm_widest r (DefaultArm line colon b) w = w
+
+abbrev pub arms_widest : Readable → ArmsOf ℕ → ℕ → ℕ
+arms_widest r NoArms w = w
+arms_widest r (MoreArms a rest) w = arms_widest r rest (arm_widest r a w)
 
 abbrev pub case_width : Readable → ExprOf ℕ → ArmsOf ℕ → ℕ
-case_width r subject arms = widest_label r arms (width_of r subject)
+case_width r subject arms = arms_widest r arms (width_of r subject)
 
 -- whether the subject, whose number at this width is x, equals one of the labels
 abbrev pub matches : Readable → Values → List (ExprOf ℕ) → ℕ → ℕ → Bool

@@ -3,7 +3,8 @@
 -- the words of its memories, by their places.
 use Rattle.std.specs.Prelude.{ℕ, ◌+◌, ◌-◌, max, ◌==◌, if◌then◌else◌, Option, None, Some}
 use Rattle.vlog_tree.specs.Tree.{ExprOf, UnaryExpr, BinaryExpr, ChoiceExpr, ExprsOf, NoExprs, MoreExprs}
-use Rattle.vlog_tree.specs.Tree.{PrimOf, NumberPrim, RefPrim, ParenPrim, ConcatPrim, RefOf, RefWith, IndexOf, NoIndex, Index}
+use Rattle.vlog_tree.specs.Tree.{PrimOf, NumberPrim, RefPrim, ParenPrim, ConcatPrim, RepeatPrim, RefOf, RefWith, IndexOf}
+use Rattle.vlog_tree.specs.Tree.{NoIndex, Index}
 use Rattle.vlog_tree.specs.Tree.{LastOf, NoLast, Last, SelOf, IndexSel, PartSel, IndexedSel}
 use Rattle.vlog_tree.specs.declared.expr.UnaryOp.{UnaryOp}
 use Rattle.vlog_tree.specs.declared.expr.BinaryOp.{BinaryOp}
@@ -12,8 +13,8 @@ use Rattle.vlog_size.specs.declared.operators.Kind.TheVariants.{Sum, Comparison,
 use Rattle.vlog_size.specs.Names.{Readable, fixed}
 use Rattle.vlog_size.specs.Literal.{literal_number}
 use Rattle.vlog_size.specs.Operators.{kind_of, is_wide, unary_value, binary_value}
-use Rattle.vlog_size.specs.Size.{sizes_of, sizes_of_prim, number, or_zero, const_number}
-use Rattle.vlog_operators.specs.Number.{part_of, side_by_side}
+use Rattle.vlog_size.specs.Size.{sizes_of, sizes_of_all, sizes_of_prim, total_width, number, or_zero, const_number}
+use Rattle.vlog_operators.specs.Number.{part_of, side_by_side, repeated}
 use Rattle.net_design.specs.declared.rhs.Room.{Room}
 use Rattle.net_design.specs.declared.values.Values.{Values}
 use Rattle.net_design.specs.Value.{read, word_at}
@@ -33,7 +34,7 @@ prim_width r p = (sizes_of_prim r p).width
 abbrev pub operand_width : Readable → UnaryOp → PrimOf ℕ → ℕ → ℕ
 operand_width r op prim w = if is_wide op then w else prim_width r prim
 
--- the number of a bound, or of the width after `+:`, which is a constant position
+-- the number of a bound, of the width after `+:`, or of a replication's count, each a constant position
 abbrev pub bound : Readable → ExprOf ℕ → ℕ
 bound r e = or_zero (number (sizes_of (fixed r) e))
 
@@ -91,6 +92,7 @@ abbrev mutual
   prim_value r v (RefPrim ref) w = ref_value r v ref
   prim_value r v (ParenPrim line e) w = value r v e w
   prim_value r v (ConcatPrim line es) w = parts_value r v es
+  prim_value r v (RepeatPrim line count es) w = repeated (bound r count) (parts_value r v es) (total_width (sizes_of_all r es))
 
   -- the parts of a concatenation at their own widths, side by side; the first one is the highest (5.1.14)
   pub parts_value : Readable → Values → ExprsOf ℕ → ℕ

@@ -22,8 +22,8 @@ ghost use Rattle.vlog_block.specs.Value.{index_value, part_or_whole, lone_word, 
 ghost use Rattle.vlog_block.specs.Value.{prim_width, operand_width, binary_at, bound};
 
 use crate::makers::{
-    binary_code, bits_code, choice_code, fixed_bits, join_code, number, select_code, unary_code,
-    word_code,
+    binary_code, bits_code, choice_code, fixed_bits, join_code, number, repeat_code, select_code,
+    unary_code, word_code,
 };
 use crate::source::{Source, source_of};
 use net_design::{Rhs, Room, Span};
@@ -34,10 +34,12 @@ use vlog_size::{
     Kind, Scope, checked, const_number, facts_of, fixed, is_wide, kind_of, literal_number,
     numbered, prim_facts, whole_view,
 };
-use vlog_tree::{BinaryOp, Expr, Prim as Operand, Ref, Sel, Unary, UnaryOp, see_concat};
+use vlog_tree::{
+    BinaryOp, Expr, Prim as Operand, Ref, Sel, Unary, UnaryOp, see_concat, see_repeat,
+};
 
 /// The self-determined width of an expression.
-fn own_width(scope: &Scope, e: &Expr) -> u32
+pub fn own_width(scope: &Scope, e: &Expr) -> u32
     requires { IsWidth (width_of (names_of scope.now) (plain_expr e.now)) }
     ensures { result ≡ width_of (names_of scope.now) (plain_expr e.now) }
 {
@@ -124,16 +126,16 @@ fn widths_of(scope: &Scope, op: BinaryOp, left: &Expr, right: &Expr, w: u32) -> 
 
 /// An index, and its number where it is a constant.
 #[derive(Drop)]
-struct Place {
-    code: Box<Rhs>,
-    constant: Option<u128>,
+pub struct Place {
+    pub code: Box<Rhs>,
+    pub constant: Option<u128>,
 }
 
 /// A select: its lowest bit, and its number of bits.
 #[derive(Drop)]
-struct Part {
-    low: Place,
-    width: u32,
+pub struct Part {
+    pub low: Place,
+    pub width: u32,
 }
 
 /// The number of an index that is a constant.
@@ -218,7 +220,14 @@ fn bound_prim(alloc: Global, scope: &Scope, prim: &Operand, w: u32) -> Result<Bo
         Operand::Paren { line: _, inner } => bound_expr(alloc, scope, inner, w),
         Operand::Concat { line, parts } => {
             see_concat(*line, parts);
-            bound_parts(alloc, scope, parts.as_slice())
+            let all = bound_parts(alloc, scope, parts.as_slice())?;
+            Ok(all.code)
+        }
+        Operand::Repeat { line, count, parts } => {
+            see_repeat(*line, parts);
+            let times = bound_number(scope, count) as u32;
+            let all = bound_parts(alloc, scope, parts.as_slice())?;
+            repeat_code(alloc, times, all.code, all.width)
         }
     }
 }
@@ -248,6 +257,17 @@ fn with_part(alloc: Global, high: Joined, low: Joined) -> Result<Joined, Memory>
     Ok(Joined { code, width })
 }
 
+/// No bits.
+fn nothing(alloc: Global) -> Result<Joined, Memory>
+    ensures value { IfOk result (λ j. (v : Values) → code.value j.code.value v ≡ 0) }
+    ensures reads { IfOk result (λ j. (m k : ℕ) → bits.reads j.code.value m k ≡ false) }
+    ensures sized { IfOk result (λ j. IsSizedRhs j.code.value) }
+    ensures width { IfOk result (λ j. j.width ≡ 0) }
+{
+    let code = number(alloc, 0)?;
+    Ok(Joined { code, width: 0 })
+}
+
 /// An expression at its own width.
 #[cycle(bind)]
 fn bound_own(alloc: Global, scope: &Scope, e: &Expr) -> Result<Joined, Memory>
@@ -267,28 +287,29 @@ fn bound_own(alloc: Global, scope: &Scope, e: &Expr) -> Result<Joined, Memory>
 
 /// The parts of a concatenation, side by side.
 #[cycle(bind)]
-fn bound_parts(alloc: Global, scope: &Scope, parts: &[Expr]) -> Result<Box<Rhs>, Memory>
+fn bound_parts(alloc: Global, scope: &Scope, parts: &[Expr]) -> Result<Joined, Memory>
     requires all { total_width (sizes_of_all (names_of scope.now) (plain_exprs parts.now)) ≤ 128 }
     requires fit { AreFit (names_of scope.now) (plain_exprs parts.now) }
-    ensures value { IfOk result (λ c. (v : Values) → code.value c.value v ≡ parts_value (names_of scope.now) v (plain_exprs parts.now)) }
-    ensures reads { IfOk result (λ c. (m k : ℕ) → bits.reads c.value m k
+    ensures value { IfOk result (λ j. (v : Values) → code.value j.code.value v ≡ parts_value (names_of scope.now) v (plain_exprs parts.now)) }
+    ensures reads { IfOk result (λ j. (m k : ℕ) → bits.reads j.code.value m k
         ≡ parts_read (names_of scope.now) (plain_exprs parts.now) m k) }
-    ensures sized { IfOk result (λ c. IsSizedRhs c.value) }
+    ensures sized { IfOk result (λ j. IsSizedRhs j.code.value) }
+    ensures width { IfOk result (λ j. j.width ≡ total_width (sizes_of_all (names_of scope.now) (plain_exprs parts.now))) }
 {
     let [first, rest @ ..] = parts else {
-        return number(alloc, 0);
+        return nothing(alloc);
     };
     let mut so_far = bound_own(alloc, scope, first)?;
     for part in rest {
         let low = bound_own(alloc, scope, part)?;
         so_far = with_part(alloc, so_far, low)?;
     }
-    Ok(so_far.code)
+    Ok(so_far)
 }
 
 /// An index at its own width.
 #[cycle(bind)]
-fn bound_index(alloc: Global, scope: &Scope, e: &Expr) -> Result<Place, Memory>
+pub fn bound_index(alloc: Global, scope: &Scope, e: &Expr) -> Result<Place, Memory>
     requires width { IsWidth (width_of (names_of scope.now) (plain_expr e.now)) }
     requires fit { IsFit (names_of scope.now) (plain_expr e.now) }
     ensures value { IfOk result (λ p. (v : Values) → code.value p.code.value v ≡ index_value (names_of scope.now) v (plain_expr e.now)) }
@@ -341,7 +362,7 @@ fn bits_between(first: u128, second: u128) -> u32
 
 /// What stands in the last bracket.
 #[cycle(bind)]
-fn bound_sel(alloc: Global, scope: &Scope, sel: &Sel) -> Result<Part, Memory>
+pub fn bound_sel(alloc: Global, scope: &Scope, sel: &Sel) -> Result<Part, Memory>
     requires fit { IsFitSel (names_of scope.now) (plain_sel sel.now) }
     ensures low { IfOk result (λ p. (v : Values) → code.value p.low.code.value v ≡ low_of (names_of scope.now) v (plain_sel sel.now)) }
     ensures reads { IfOk result (λ p. (m k : ℕ) → bits.reads p.low.code.value m k
@@ -513,6 +534,20 @@ fn bound_ref(alloc: Global, scope: &Scope, name: &Ref) -> Result<Box<Rhs>, Memor
     bound_source(alloc, scope, source, name)
 }
 
+/// The code of an expression, with the condition and the clauses of `bind_expr`.
+#[tactic(auto, using(crate::proofs::Fitting::faultless_fit))]
+pub fn boxed_expr(alloc: Global, e: &Expr, scope: &Scope, w: u32) -> Result<Box<Rhs>, Memory>
+    requires faultless { faults (sizes_of (names_of scope.now) (plain_expr e.now)) ≡ [] }
+    requires least { width_of (names_of scope.now) (plain_expr e.now) ≤ w }
+    requires most { w ≤ 128 }
+    ensures value { IfOk result (λ c. (v : Values) → code.value c.value v ≡ value (names_of scope.now) v (plain_expr e.now) w) }
+    ensures reads { IfOk result (λ c. (m k : ℕ) → bits.reads c.value m k
+        ≡ reads (names_of scope.now) (plain_expr e.now) m k) }
+    ensures sized { IfOk result (λ c. IsSizedRhs c.value) }
+{
+    bound_expr(alloc, scope, e, w)
+}
+
 /// The code of an expression's number at `w` bits, for all numbers of the scope's nets and words (IEEE 1364-2005, 5.1, 5.2 and 5.4).
 /// Nets and memories are named by their places in the scope's lists.
 ///
@@ -521,7 +556,6 @@ fn bound_ref(alloc: Global, scope: &Scope, name: &Ref) -> Result<Box<Rhs>, Memor
 /// # Errors
 ///
 /// `Memory`: there isn't enough memory, or the words of the scope's memories can't be counted in 64 bits.
-#[tactic(auto, using(crate::proofs::Fitting::faultless_fit))]
 pub fn bind_expr(alloc: Global, e: &Expr, scope: &Scope, w: u32) -> Result<Rhs, Memory>
     requires faultless { faults (sizes_of (names_of scope.now) (plain_expr e.now)) ≡ [] }
     requires least { width_of (names_of scope.now) (plain_expr e.now) ≤ w }
@@ -531,6 +565,6 @@ pub fn bind_expr(alloc: Global, e: &Expr, scope: &Scope, w: u32) -> Result<Rhs, 
         ≡ reads (names_of scope.now) (plain_expr e.now) m k) }
     ensures sized { IfOk result IsSizedRhs }
 {
-    let code = bound_expr(alloc, scope, e, w)?;
+    let code = boxed_expr(alloc, e, scope, w)?;
     Ok(Box::into_inner(code))
 }

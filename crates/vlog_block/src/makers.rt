@@ -1,13 +1,14 @@
 //! Pieces of code, made of their parts.
 
 ghost use Rattle.std.specs.Prelude.{◌≡◌, ℕ, false, ◌||◌, ◌≤◌, ◌<◌, ◌+◌, ◌^◌, IfOk, if◌then◌else◌, ◌==◌};
-ghost use Rattle.vlog_operators.specs.Number.{IsWidth, part_of, side_by_side};
+ghost use Rattle.vlog_operators.specs.Number.{IsWidth, part_of, side_by_side, repeated};
 ghost use Rattle.vlog_size.specs.Operators.{unary_value, binary_value};
 ghost use Rattle.net_design.specs.declared.values.Values.{Values};
 ghost use Rattle.net_design.specs.Value.{value, read, word_at};
 ghost use Rattle.net_design.specs.Bits as bits;
 ghost use Rattle.net_design.specs.Sized.{IsSizedRhs, IsCountable};
 ghost use Rattle.vlog_block.specs.Bits.{bits_from};
+ghost use Rattle.vlog_block.specs.Fit.{IsRepeated};
 
 use net_design::{Rhs, Room, Span};
 use std::alloc::Global;
@@ -126,6 +127,22 @@ pub fn join_code(
             low_width,
         },
     )?)
+}
+
+/// `width` bits so many times side by side.
+pub fn repeat_code(
+    alloc: Global,
+    count: u32,
+    part: Box<Rhs>,
+    width: u32,
+) -> Result<Box<Rhs>, Memory>
+    requires repeated { IsRepeated count width }
+    requires part { IsSizedRhs part.value }
+    ensures value { IfOk result (λ c. (v : Values) → value c.value v ≡ repeated count (value part.value v) width) }
+    ensures reads { IfOk result (λ c. (m k : ℕ) → bits.reads c.value m k ≡ bits.reads part.value m k) }
+    ensures sized { IfOk result (λ c. IsSizedRhs c.value) }
+{
+    Ok(Box::new(alloc, Rhs::Repeat { count, part, width })?)
 }
 
 /// Bits of a net.

@@ -1,6 +1,6 @@
 //! The table of `rows` in one test.
 
-use crate::rows::ROWS;
+use crate::rows::{REPEATED, ROWS};
 use crate::scopes::{scope, values};
 use net_design::Values;
 use net_reference::value_of;
@@ -11,9 +11,9 @@ use vlog_block::bind_expr;
 use vlog_expr::parse_expression;
 use vlog_lex::lex;
 use vlog_size::{Scope, width};
-use vlog_tree::Expr;
+use vlog_tree::{Expr, Exprs, Unary, repeat};
 
-fn expression(alloc: Global, text: &str) -> Result<Box<Expr>, Fail> {
+pub fn expression(alloc: Global, text: &str) -> Result<Box<Expr>, Fail> {
     let bytes = text.as_bytes();
     if bytes.len() >= 200 {
         return Err(Fail::from("a long text"));
@@ -56,6 +56,36 @@ fn wrong(alloc: Global) -> Result<&'static str, Fail> {
 #[test]
 fn numbers_of_code(rt: HostRuntime) -> Result<(), Fail> {
     let wrong = wrong(rt.alloc())?;
+    assert_eq!(rt; wrong, "");
+    Ok(())
+}
+
+/// `{count{part}}`
+fn repeated(alloc: Global, count: &str, part: &str) -> Result<Box<Expr>, Fail> {
+    let count = expression(alloc, count)?;
+    let part = expression(alloc, part)?;
+    let mut parts = Exprs::new(alloc);
+    parts.push(Box::into_inner(part))?;
+    let prim = repeat(1, count, parts);
+    Ok(Box::new(alloc, Expr::Unary(Unary { sign: None, prim }))?)
+}
+
+/// The first part of a replication whose number isn't the wanted one.
+fn wrong_replication(alloc: Global) -> Result<&'static str, Fail> {
+    let scope = scope(alloc)?;
+    let values = values(alloc)?;
+    for (count, part, w, want) in REPEATED {
+        let e = repeated(alloc, count, part)?;
+        if number(alloc, &e, &scope, &values, w)? != want {
+            return Ok(part);
+        }
+    }
+    Ok("")
+}
+
+#[test]
+fn replications(rt: HostRuntime) -> Result<(), Fail> {
+    let wrong = wrong_replication(rt.alloc())?;
     assert_eq!(rt; wrong, "");
     Ok(())
 }

@@ -23,6 +23,8 @@ invariant-bound_parts-loop-part l =
           ≡ rest_reads (names_of l.scope) (bits.reads l.initial.so_far.code.value m k) (plain_exprs l.rest) m k;
       sized : IsSizedRhs l.so_far.code.value;
       width : IsWidth l.so_far.width;
+      sum : l.so_far.width + total_width (sizes_of_all (names_of l.scope) rest)
+          ≡ l.initial.so_far.width + total_width (sizes_of_all (names_of l.scope) (plain_exprs l.rest));
       all : l.so_far.width + total_width (sizes_of_all (names_of l.scope) rest) ≤ 128;
       fit : AreFit (names_of l.scope) rest;
     }

@@ -1,6 +1,6 @@
 use Rattle.vlog_tree.specs.Plain.{plain_expr}
 use Rattle.vlog_block.proofs.Fitting.{wide_enough}
-use Rattle.vlog_block.proofs.bind.bind_expr.Goals as goal
+use Rattle.vlog_block.proofs.bind.boxed_expr.Goals as goal
 
 pub bound_expr-requires-clause-width : goal.bound_expr-requires-clause-width
 bound_expr-requires-clause-width c =
