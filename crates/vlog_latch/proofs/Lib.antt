@@ -3,5 +3,6 @@ pub mod OneMask
 pub mod Least
 pub mod Found
 pub mod Answered
+pub mod There
 pub mod Means
 pub mod Shown

@@ -8,7 +8,7 @@ use Rattle.net_design.specs.declared.act.Code.{Code}
 use Rattle.net_design.specs.declared.act.Timing.TheVariants.{Blocking}
 use Rattle.net_design.specs.Bits.{BitSet, named, block_adds}
 use Rattle.vlog_tree.specs.Tree.{EventOf, PosedgeEvent, ImplicitEvent, AlwaysOf}
-use Rattle.vlog_size.specs.Names.{Readable}
+use Rattle.vlog_size.specs.Names.{Readable, is_lawful_readable}
 use Rattle.vlog_block.specs.Updates.{timing_of}
 use Rattle.vlog_block.specs.Written.{always_writes, always_adds, always_reads}
 use Rattle.vlog_latch.specs.Blocks.{of_implicit, block_latches, IsCodeOf}
@@ -18,6 +18,7 @@ use Rattle.vlog_latch.specs.declared.error.BlockError.TheVariants as error
 use Rattle.vlog_latch.specs.Latch.{some_bit, is_latched, latches_from, latches}
 use Rattle.vlog_latch.proofs.SomeBit.{some_has, some_lacks, some_no}
 use Rattle.vlog_latch.proofs.Found.{none_from}
+use Rattle.vlog_latch.proofs.There.{body_there, within}
 
 told_none : (b : Bool) (x : BlockError) (rest : List BlockError) → told_if b x ++ rest ≡ [] → (b ≡ false) × (rest ≡ [])
 told_none true x rest h = absurd (cc)
@@ -96,14 +97,14 @@ module _ (writes adds reads : BitSet) (line : ℕ) (nets : List (Named ScopeNet)
 -- ---- a block's code
 
 module _ (r : Readable) (a : AlwaysOf ℕ) (code : Code) (bits : IsCodeOf r a code) (implicit : timing_of a.event ≡ Blocking)
-    (empty : block_latches r a ≡ []) (within : (m k : ℕ) → named code.writes m k ≡ true → (m < length r.nets) × (k < 128)) where
+    (empty : block_latches r a ≡ []) (lawful : is_lawful_readable r ≡ true) where
   none_there : (e : EventOf ℕ) (found : List BlockError) → timing_of e ≡ Blocking → of_implicit e found ≡ [] → found ≡ []
   none_there (PosedgeEvent clock) found t h = absurd (cc)
   none_there (ImplicitEvent parens) found t h = h
 
   of_bit : (m k : ℕ) → named code.writes m k ≡ true → (always_adds r a m k ≡ true) × (always_reads r a m k ≡ false)
   of_bit m k t =
-      let b = within m k t in
+      let b = within r m k lawful (body_there r m k a.body (sym (bits.writes m k) ∙ t)) in
       found (always_writes r a) (always_adds r a) (always_reads r a) a.line r.nets
       (none_there a.event (latches (always_writes r a) (always_adds r a) (always_reads r a) a.line r.nets) implicit empty) m k k b.0 b.1 b.1
       (sym (bits.writes m k) ∙ t)

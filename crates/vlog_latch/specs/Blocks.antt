@@ -1,9 +1,11 @@
 -- E9 of an always block of the trees, and what its code has to say of its bits.
-use Rattle.std.specs.Prelude.{◌≡◌, ℕ, List, []}
+use Rattle.std.specs.Prelude.{◌≡◌, ℕ, zero, suc, nat_lt, false, List, [], ◌∷◌}
 use Rattle.vlog_tree.specs.Tree.{EventOf, PosedgeEvent, ImplicitEvent, AlwaysOf}
+use Rattle.vlog_size.specs.declared.scope.ScopeNet.{ScopeNet}
+use Rattle.vlog_size.specs.Table.{Named}
 use Rattle.vlog_size.specs.Names.{Readable}
 use Rattle.net_design.specs.declared.act.Code.{Code}
-use Rattle.net_design.specs.Bits.{named, block_adds}
+use Rattle.net_design.specs.Bits.{BitSet, named, block_adds}
 use Rattle.vlog_block.specs.Written.{always_writes, always_adds, always_reads}
 use Rattle.vlog_latch.specs.declared.error.BlockError.{BlockError}
 use Rattle.vlog_latch.specs.Latch.{latches}
@@ -22,3 +24,9 @@ pub record IsCodeOf (r : Readable) (a : AlwaysOf ℕ) (c : Code) : Type 0 where
   pub writes : (m k : ℕ) → named c.writes m k ≡ always_writes r a m k
   pub adds : (m k : ℕ) → block_adds c.acts m k ≡ always_adds r a m k
   pub reads : (m k : ℕ) → named c.reads m k ≡ always_reads r a m k
+
+-- bit k of the net at place m is there
+abbrev pub is_there : List (Named ScopeNet) → BitSet
+is_there [] m k = false
+is_there (x ∷ nets) zero k = nat_lt k x.value.width
+is_there (x ∷ nets) (suc m) k = is_there nets m k

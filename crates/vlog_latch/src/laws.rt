@@ -2,27 +2,33 @@
 
 ghost use Rattle.std.specs.Prelude.{◌≡◌, ℕ, ◌<◌, true, false, List, [], ◌∷◌, length};
 ghost use Rattle.vlog_tree.specs.Tree.{AlwaysOf};
-ghost use Rattle.vlog_size.specs.Names.{Readable};
+ghost use Rattle.vlog_size.specs.Names.{Readable, is_lawful_readable};
 ghost use Rattle.vlog_size.specs.declared.scope.ScopeNet.{ScopeNet};
 ghost use Rattle.vlog_size.specs.Table.{Named};
 ghost use Rattle.net_design.specs.declared.act.Code.{Code};
 ghost use Rattle.net_design.specs.declared.act.Timing.TheVariants.{Blocking};
 ghost use Rattle.net_design.specs.Bits.{BitSet, named, block_adds};
 ghost use Rattle.vlog_block.specs.Updates.{timing_of};
+ghost use Rattle.vlog_block.specs.Written.{always_writes};
 ghost use Rattle.vlog_latch.specs.declared.error.BlockError.TheVariants.{Latch};
 ghost use Rattle.vlog_latch.specs.Latch.{latches};
-ghost use Rattle.vlog_latch.specs.Blocks.{block_latches, IsCodeOf};
+ghost use Rattle.vlog_latch.specs.Blocks.{block_latches, is_there, IsCodeOf};
 ghost use Rattle.vlog_latch.specs.Examples.{scope, always, no_else, mended, with_else, other_bit_read, read_after, two_nets};
 ghost use Rattle.vlog_latch.specs.Examples.{at_run_time, whole_before, index_read, no_default, with_default, label_read};
 
-/// Where nothing is found of an `always @*`, which writes bits of the scope's nets alone, its code surely assigns each bit that its
-/// masks say is written, and reads none of these before: this is what a lawful design asks of an `always @*`.
+/// The bits that a block writes are bits of its scope's nets.
+pub fn written_bits_are_there()
+    ensures { (r : Readable) (a : AlwaysOf ℕ) (m k : ℕ) → always_writes r a m k ≡ true → is_there r.nets m k ≡ true }
+{}
+
+/// Where nothing is found of an `always @*` in a lawful scope, its code surely assigns each bit that its masks say is written, and
+/// reads none of these before: this is what a lawful design asks of an `always @*`.
 pub fn no_latch_is_whole()
-    ensures whole { (r : Readable) (a : AlwaysOf ℕ) (code : Code) → IsCodeOf r a code → timing_of a.event ≡ Blocking
-        → ((m k : ℕ) → named code.writes m k ≡ true → (m < length r.nets) × (k < 128)) → block_latches r a ≡ []
+    ensures whole { (r : Readable) (a : AlwaysOf ℕ) (code : Code) → is_lawful_readable r ≡ true → IsCodeOf r a code
+        → timing_of a.event ≡ Blocking → block_latches r a ≡ []
         → (m k : ℕ) → named code.writes m k ≡ true → block_adds code.acts m k ≡ true }
-    ensures own { (r : Readable) (a : AlwaysOf ℕ) (code : Code) → IsCodeOf r a code → timing_of a.event ≡ Blocking
-        → ((m k : ℕ) → named code.writes m k ≡ true → (m < length r.nets) × (k < 128)) → block_latches r a ≡ []
+    ensures own { (r : Readable) (a : AlwaysOf ℕ) (code : Code) → is_lawful_readable r ≡ true → IsCodeOf r a code
+        → timing_of a.event ≡ Blocking → block_latches r a ≡ []
         → (m k : ℕ) → named code.writes m k ≡ true → named code.reads m k ≡ false }
 {}
 

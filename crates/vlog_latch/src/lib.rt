@@ -13,4 +13,4 @@ mod stub;
 pub use bind::bind_block;
 pub use code::{code_latch, latch};
 pub use error::BlockError;
-pub use laws::{latches_shown, no_latch_is_whole, no_latch_means};
+pub use laws::{latches_shown, no_latch_is_whole, no_latch_means, written_bits_are_there};

@@ -157,6 +157,27 @@ pub fn block(alloc: Global, steps: &[Step]) -> Result<Items<Act>, Memory> {
     Ok(acts)
 }
 
+fn inside(alloc: Global, body: Items<Act>) -> Result<Items<Act>, Memory> {
+    let mut guards = Items::new(alloc);
+    guards.push(Guard {
+        condition: Rhs::Bits(S),
+        body,
+    })?;
+    let otherwise = Items::new(alloc);
+    let mut acts = Items::new(alloc);
+    acts.push(Act::Branch { guards, otherwise })?;
+    Ok(acts)
+}
+
+/// `if (s) if (s) .. z = 1;` with so many conditions
+pub fn nested(alloc: Global, count: u32) -> Result<Items<Act>, Memory> {
+    let mut acts = arm(alloc, Some(Z))?;
+    for _ in 0..count {
+        acts = inside(alloc, acts)?;
+    }
+    Ok(acts)
+}
+
 fn add_nets(alloc: Global, nets: &mut ScopeNets) -> Result<(), Memory> {
     nets.push(copied(alloc, b"s")?, ScopeNet { width: 1 })?;
     nets.push(copied(alloc, b"y")?, ScopeNet { width: 2 })?;

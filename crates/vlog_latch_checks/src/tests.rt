@@ -1,10 +1,10 @@
 //! E9 of blocks, worked out by hand.
 
-use crate::build::{S, Step, Y, Y0, Y1, Y9, Z, block, scope};
+use crate::build::{S, Step, Y, Y0, Y1, Y9, Z, block, nested, scope};
 use net_code::{code_of, is_sized_block};
-use net_design::{Span, Timing};
+use net_design::{Act, Span, Timing};
 use std::alloc::Global;
-use vidi_bits::Memory;
+use vidi_bits::{Items, Memory};
 use vlog_latch::{BlockError, code_latch};
 
 // Whether E9 is answered with this name and the line 7, or with no name nothing.
@@ -16,8 +16,7 @@ fn is_answer(answer: &Result<(), BlockError>, name: &[u8]) -> bool {
     }
 }
 
-fn try_steps(alloc: Global, steps: &[Step], name: &[u8]) -> Result<bool, Memory> {
-    let acts = block(alloc, steps)?;
+fn try_acts(alloc: Global, acts: Items<Act>, name: &[u8]) -> Result<bool, Memory> {
     if !is_sized_block(&acts) {
         return Ok(false);
     }
@@ -27,11 +26,22 @@ fn try_steps(alloc: Global, steps: &[Step], name: &[u8]) -> Result<bool, Memory>
     Ok(is_answer(&answer, name))
 }
 
+fn try_steps(alloc: Global, steps: &[Step], name: &[u8]) -> Result<bool, Memory> {
+    let acts = block(alloc, steps)?;
+    try_acts(alloc, acts, name)
+}
+
+fn try_nested(alloc: Global, count: u32) -> Result<bool, Memory> {
+    let acts = nested(alloc, count)?;
+    try_acts(alloc, acts, b"z")
+}
+
+fn is_right(outcome: Result<bool, Memory>) -> bool {
+    matches!(outcome, Ok(true))
+}
+
 fn answers(alloc: Global, steps: &[Step], name: &[u8]) -> bool {
-    match try_steps(alloc, steps, name) {
-        Ok(is_right) => is_right,
-        Err(Memory) => false,
-    }
+    is_right(try_steps(alloc, steps, name))
 }
 
 // `if (s) to = 1;`, and with `else other = 1;` where there is one
@@ -114,4 +124,11 @@ fn places_out_of_range(rt: HostRuntime) {
         b"",
     );
     assert!(rt; alone && read);
+}
+
+// As many as a text can have.
+#[test]
+fn statements_within_one_another(rt: HostRuntime) {
+    let deep = is_right(try_nested(rt.alloc(), 2048));
+    assert!(rt; deep);
 }
