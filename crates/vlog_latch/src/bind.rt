@@ -16,9 +16,9 @@ ghost use Rattle.vlog_latch.specs.Blocks.{block_latches};
 
 use crate::code::latch;
 use crate::error::BlockError;
-use crate::stub::block_code;
 use net_design::Code;
 use std::alloc::Global;
+use vlog_block::block_code;
 use vlog_size::Scope;
 use vlog_tree::Always;
 

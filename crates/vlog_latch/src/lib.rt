@@ -8,7 +8,6 @@ mod bind;
 mod code;
 mod error;
 mod laws;
-mod stub;
 
 pub use bind::bind_block;
 pub use code::{code_latch, latch};
