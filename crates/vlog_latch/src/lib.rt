@@ -4,10 +4,12 @@
 //! `specs/Latch` has the findings of a block, in the order in which the nets are declared.
 #![tactic(auto)]
 
+mod bind;
 mod code;
 mod error;
 mod laws;
 
+pub use bind::bind_block;
 pub use code::{code_latch, latch};
 pub use error::BlockError;
 pub use laws::{latches_shown, no_latch_is_whole, no_latch_means, written_bits_are_there};

@@ -5,3 +5,5 @@
 mod build;
 #[cfg(test)]
 mod tests;
+#[cfg(test)]
+mod texts;
