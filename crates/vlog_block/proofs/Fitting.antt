@@ -1,5 +1,6 @@
 -- Where names are checked, an expression without a fault has parts of lawful widths.
-use Rattle.std.proofs.Common.{◌≡◌, ℕ, zero, suc, ◌+◌, ◌-◌, ◌*◌, ◌≤◌, Bool, if◌then◌else◌, true, false, not, ◌&&◌, Option, None, Some, option_map}
+use Rattle.std.proofs.Common.{◌≡◌, ℕ, zero, suc, ◌+◌, ◌-◌, ◌*◌, ◌≤◌, Bool, if◌then◌else◌, true, false, not, ◌&&◌, Option, None, Some}
+use Rattle.std.proofs.Common.{option_map}
 use Rattle.std.proofs.Common.{List, [], ◌++◌, refl, subst, arith}
 use Rattle.std.proofs.Math.Nat.{mul-zero, zero-mul, one-mul, mul-le-mul_right, le-mul_of_pos_right}
 use Rattle.vlog_tree.specs.Tree.{ExprOf, UnaryExpr, BinaryExpr, ChoiceExpr, ExprsOf, NoExprs, MoreExprs}

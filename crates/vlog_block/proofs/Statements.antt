@@ -1,5 +1,6 @@
 -- Statements of the trees as statements of code.
-use Rattle.std.proofs.Common.{◌≡◌, ℕ, ◌+◌, ◌<◌, ◌≤◌, max, ◌==◌, ◌&&◌, ◌||◌, not, Bool, true, false, List, [], ◌∷◌, ◌++◌, map, length, get_or}
+use Rattle.std.proofs.Common.{◌≡◌, ℕ, ◌+◌, ◌<◌, ◌≤◌, max, ◌==◌, ◌&&◌, ◌||◌, not, Bool, true, false, List, [], ◌∷◌, ◌++◌, map, length}
+use Rattle.std.proofs.Common.{get_or}
 use Rattle.std.proofs.Common.{drop, if◌then◌else◌, refl, ap, sym, subst, ◌∙◌, arith}
 use Rattle.std.specs.List.{list_any, AllByRecursion}
 use Rattle.std.proofs.lemmas.List.{drop_all}
@@ -8,7 +9,8 @@ use Rattle.vlog_tree.specs.declared.expr.Expr.{Expr}
 use Rattle.vlog_tree.specs.declared.stmt.Stmt.{Stmt}
 use Rattle.vlog_tree.specs.declared.stmt.Arm.{Arm}
 use Rattle.vlog_tree.specs.Plain.{plain_expr, plain_stmt, plain_stmts, plain_arm, plain_arms}
-use Rattle.vlog_tree.specs.Tree.{ExprOf, IfStmt, CaseStmt, BodyOf, StmtBody, EmptyBody, ElseOf, NoElse, Else, StmtOf, StmtsOf, MoreStmts, ArmOf, LabelsArm, DefaultArm, ArmsOf, NoArms}
+use Rattle.vlog_tree.specs.Tree.{ExprOf, IfStmt, CaseStmt, BodyOf, StmtBody, EmptyBody, ElseOf, NoElse, Else, StmtOf, StmtsOf, MoreStmts}
+use Rattle.vlog_tree.specs.Tree.{ArmOf, LabelsArm, DefaultArm, ArmsOf, NoArms}
 use Rattle.vlog_tree.specs.Tree.{MoreArms, AssignStmt, TargetOf}
 use Rattle.vlog_tree.specs.declared.stmt.AssignOp.{AssignOp}
 use Rattle.vlog_size.specs.Names.{Readable}
@@ -38,13 +40,15 @@ use Rattle.vlog_block.specs.Updates.{widest, arm_widest, arms_widest, case_width
 use Rattle.vlog_block.specs.Written.{body_writes, else_writes, default_writes, arms_write, body_adds, else_adds, default_adds, arms_add}
 use Rattle.vlog_block.specs.Written.{body_open, else_open, default_open, arms_open, labels_read, target_reads, target_writes, target_adds}
 use Rattle.vlog_block.specs.Faultless.{IsFaultless, IsFaultlessArm, AreFaultlessArms}
-use Rattle.vlog_block.specs.Extends.{Doing, Extends, Choosing, Lengthens, doing_block, doing_branch, doing_if, doing_read, doing_stmt, doing_stmts}
+use Rattle.vlog_block.specs.Extends.{Doing, Extends, Choosing, Lengthens, doing_block, doing_branch, doing_if, doing_read, doing_stmt}
+use Rattle.vlog_block.specs.Extends.{doing_stmts}
 use Rattle.vlog_block.specs.Extends.{doing_body, doing_else, doing_default, choosing_arm, choosing_arms, has_label}
 use Rattle.vlog_block.specs.Extends.{IsNarrow, AreNarrow, IsNarrowArm, AreNarrowArms}
 use Rattle.vlog_block.proofs.Fitting.{faultless_width}
 use Rattle.vlog_block.proofs.Extending.{same_bits, known_none, then_, doing_act, extends_both, extends_one, Same, extends_same, seen_none}
 use Rattle.vlog_block.proofs.Extending.{from_none, extends_none}
-use Rattle.vlog_block.proofs.Lengthening.{first_of, lengthens_none, lengthens_one, lengthens_both, lengthens_alike, choosing_guard, arm_guard, arms_more}
+use Rattle.vlog_block.proofs.Lengthening.{first_of, lengthens_none, lengthens_one, lengthens_both, lengthens_alike, choosing_guard}
+use Rattle.vlog_block.proofs.Lengthening.{arm_guard, arms_more}
 
 -- ---- assignments and readings
 
@@ -211,7 +215,8 @@ arms_step r subject w xs i x old mid end l e h k =
 pub first_faultless : (r : Readable) (xs : List Expr) (i : ℕ) (x : Expr) → i < length xs → x ≡ get_or xs i x
     → AllByRecursion (λ (e : ExprOf ℕ). IsFaultless r e) (map plain_expr (drop i xs)) → IsFaultless r (plain_expr x)
 first_faultless r xs i x l e h =
-    let whole = subst (λ (ys : List Expr). AllByRecursion (λ (y : ExprOf ℕ). IsFaultless r y) (map plain_expr ys)) (from_here xs i x l e) h in
+    let whole = subst (λ (ys : List Expr). AllByRecursion (λ (y : ExprOf ℕ). IsFaultless r y) (map plain_expr ys))
+    (from_here xs i x l e) h in
     whole.0
 
 narrow_labels : (r : Readable) (es : List (ExprOf ℕ)) (x w : ℕ) → AllByRecursion (λ (e : ExprOf ℕ). IsFaultless r e) es

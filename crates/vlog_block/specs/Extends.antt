@@ -14,10 +14,12 @@ use Rattle.net_design.specs.Sized.{IsSizedBlock, AreSizedGuards}
 use Rattle.net_code.specs.Found.{guard_writes, guard_adds, guard_reads}
 use Rattle.vlog_block.specs.Value.{value, width_of}
 use Rattle.vlog_block.specs.Bits.{reads}
-use Rattle.vlog_block.specs.Updates.{is_zero, stmt_updates, stmts_updates, body_updates, else_updates, arm_updates, arms_updates, default_updates}
+use Rattle.vlog_block.specs.Updates.{is_zero, stmt_updates, stmts_updates, body_updates, else_updates, arm_updates, arms_updates}
+use Rattle.vlog_block.specs.Updates.{default_updates}
 use Rattle.vlog_block.specs.Written.{writes, stmts_write, body_writes, else_writes, arm_writes, arms_write, default_writes}
 use Rattle.vlog_block.specs.Written.{adds, stmts_add, body_adds, else_adds, arm_adds, arms_add, default_adds}
-use Rattle.vlog_block.specs.Written.{open_reads, stmts_open, body_open, else_open, arm_open, arms_open, default_open, arm_labels_read, labels_read}
+use Rattle.vlog_block.specs.Written.{open_reads, stmts_open, body_open, else_open, arm_open, arms_open, default_open, arm_labels_read}
+use Rattle.vlog_block.specs.Written.{labels_read}
 use Rattle.vlog_block.specs.Faultless.{IsFaultless, IsFaultlessBody}
 
 -- what statements do: their updates, the bits that they may write, those that they surely assign, and those that they read

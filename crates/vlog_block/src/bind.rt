@@ -290,7 +290,8 @@ fn bound_own(alloc: Global, scope: &Scope, e: &Expr) -> Result<Joined, Memory>
 fn bound_parts(alloc: Global, scope: &Scope, parts: &[Expr]) -> Result<Joined, Memory>
     requires all { total_width (sizes_of_all (names_of scope.now) (plain_exprs parts.now)) ≤ 128 }
     requires fit { AreFit (names_of scope.now) (plain_exprs parts.now) }
-    ensures value { IfOk result (λ j. (v : Values) → code.value j.code.value v ≡ parts_value (names_of scope.now) v (plain_exprs parts.now)) }
+    ensures value { IfOk result (λ j. (v : Values)
+        → code.value j.code.value v ≡ parts_value (names_of scope.now) v (plain_exprs parts.now)) }
     ensures reads { IfOk result (λ j. (m k : ℕ) → bits.reads j.code.value m k
         ≡ parts_read (names_of scope.now) (plain_exprs parts.now) m k) }
     ensures sized { IfOk result (λ j. IsSizedRhs j.code.value) }

@@ -17,14 +17,8 @@ const BLOCKS: [(&str, &str); 22] = [
     ("@* begin z = 1'b0; if (s) z = 1'b1; end", ""),
     ("@* if (s) z = 1'b1; else z = 1'b0;", ""),
     ("@* if (1'b0) z = 1'b1;", "z"),
-    (
-        "@* case (s) 1'b0: z = 1'b1; 1'b1: z = 1'b0; endcase",
-        "z",
-    ),
-    (
-        "@* case (s) 1'b0: z = 1'b1; default: z = 1'b0; endcase",
-        "",
-    ),
+    ("@* case (s) 1'b0: z = 1'b1; 1'b1: z = 1'b0; endcase", "z"),
+    ("@* case (s) 1'b0: z = 1'b1; default: z = 1'b0; endcase", ""),
     ("@* case (s) default: z = 1'b0; 1'b0: ; endcase", "z"),
     // a label is read before what an arm before it assigns
     (

@@ -13,7 +13,9 @@ use Rattle.vlog_block.proofs.block.push_if.Goals as goal
 pub push_branch-requires-clause-guards : goal.push_branch-requires-clause-guards
 push_branch-requires-clause-guards c =
     subst (λ (gs : List Guard). AreSizedGuards gs)
-    (sym (c.in_ok-push.ensures.ok ∙ ap (λ (gs : List Guard). gs ++ record { condition = c.in_ok-condition.condition; body = c.args.then_acts } ∷ []) c.new-guards.ensures))
+    (sym (c.in_ok-push.ensures.ok
+    ∙ ap (λ (gs : List Guard). gs ++ record { condition = c.in_ok-condition.condition; body = c.args.then_acts } ∷ [])
+    c.new-guards.ensures))
     ((c.in_ok-condition.ensures.sized, c.requires.then_acts), tt)
 
 pub returns : goal.returns
