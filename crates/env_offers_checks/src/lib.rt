@@ -1,0 +1,5 @@
+//! Tests of offers.
+#![tactic(auto)]
+
+#[cfg(test)]
+mod tests;

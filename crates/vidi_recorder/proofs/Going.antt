@@ -1,0 +1,247 @@
+-- The recording so far: the rows, the books, the bytes that wait and those that are out.
+use Rattle.std.proofs.Common.{◌≡◌, ℕ, zero, suc, ◌+◌, ◌-◌, ◌<◌, ◌≤◌, Bool, true, false, cond, min, List, [], ◌∷◌, ◌++◌, Option, Some, None}
+use Rattle.std.proofs.Common.{length, take, drop, map, slice_get, refl, ap, sym, subst, ◌∙◌, append_assoc, arith, ⊎_elim, add-one, length-drop}
+use Rattle.std.specs.Io.KnownBytes.{append_known}
+use Rattle.std.specs.List.{flat_map}
+use Rattle.std.proofs.lemmas.Bool.{cases_Bool}
+use Rattle.std.proofs.lemmas.List.{append-nil, length-append, length-take-le, length_push, take-append-drop}
+use Rattle.std.proofs.lemmas.List.Concat.{flat_map-append}
+use Rattle.trace_model.specs.declared.channel.Channel.{Channel}
+use Rattle.trace_model.specs.declared.row.Row.{Row}
+use Rattle.trace_model.specs.Channel.{IsTable}
+use Rattle.trace_model.specs.Length.{packet_len}
+use Rattle.trace_model.specs.Recording.{has_event, packet_of, packets_of, trace_of}
+use Rattle.trace_model.specs.Row.{row_before, IsOver}
+use Rattle.trace_model.proofs.CountingLemmas.{slice_get-last, slice_get-append_left}
+use Rattle.trace_model.proofs.RowLaws.{row-adds}
+use Rattle.trace_code.specs.Encoding.{encode, end_mark, header_bytes, row_bytes}
+use Rattle.trace_code.proofs.RowBytes.{row-length, no-row-packet}
+use Rattle.room_ledger.specs.Gates.{Plan, drained, left, row_len, used_at}
+use Rattle.room_ledger.specs.Laws.{MayFollow, StandsAfter}
+use Rattle.room_ledger.specs.Ledger.{Ledger, Emitted, Regranted, fresh}
+use Rattle.room_ledger.specs.Reservation.{event_len}
+use Rattle.room_ledger.proofs.Following.{keeps-gates, same-len, used-front}
+use Rattle.vidi_io.specs.Sink.{AppendsSome}
+use Rattle.vidi_recorder.specs.Course.{drained_after, drained_before, sizes_of}
+use Rattle.vidi_recorder.proofs.Pushing.{told-both}
+use Rattle.vidi_recorder.proofs.Runs.{body, encode-is}
+
+pub record Going (channels : List Channel) (plan : Plan) (first : Option (List ℕ)) (rows : List Row) (room : Ledger) (items : List ℕ)
+    (told : Option (List ℕ)) (packets : ℕ) : Type 0 where
+  pub stands : StandsAfter (sizes_of channels) plan rows room
+  pub waits : length items ≡ room.used
+  pub bytes : List ℕ
+  pub told_is : told ≡ append_known first bytes
+  pub all : bytes ++ items ≡ header_bytes channels ++ body channels rows
+  pub out : length bytes ≡ length (header_bytes channels) + drained_before (sizes_of channels) plan rows (length rows)
+  pub count : packets ≡ length (packets_of channels rows)
+
+-- what is out where a push failed
+pub record Cut (channels : List Channel) (plan : Plan) (first : Option (List ℕ)) (rows : List Row) (told : Option (List ℕ)) : Type 0 where
+  pub bytes : List ℕ
+  pub lost : List ℕ
+  pub told_is : told ≡ append_known first bytes
+  pub all : bytes ++ lost ≡ header_bytes channels ++ body channels rows
+  pub out : 0 < length rows → length (header_bytes channels)
+      + drained_before (sizes_of channels) plan rows (length rows - 1) ≤ length bytes
+
+-- ---- at the beginning
+pub going-first : (channels : List Channel) (plan : Plan) (first : Option (List ℕ)) (room : Ledger) (items header : List ℕ)
+    (told : Option (List ℕ)) → room ≡ fresh (sizes_of channels) plan.capacity → items ≡ [] → header ≡ header_bytes channels
+    → told ≡ append_known first header → Going channels plan first [] room items told 0
+going-first channels plan first room items header told r i h t = record {
+  stands = subst (StandsAfter (sizes_of channels) plan []) (sym r) (keeps-gates (sizes_of channels) plan).first;
+  waits = ap length i ∙ ap (λ (l : Ledger). l.used) (sym r);
+  bytes = header;
+  told_is = t;
+  all = ap (λ xs. header ++ xs) i ∙ ap (λ xs. xs ++ []) h;
+  out = ap length h ∙ (let z : length (header_bytes channels) ≡ length (header_bytes channels) + 0 = omega arith in z);
+  count = refl;
+}
+
+-- the header's push failed
+pub cut-header : (channels : List Channel) (plan : Plan) (first told : Option (List ℕ)) (header : List ℕ)
+    → header ≡ header_bytes channels → AppendsSome first told header → Cut channels plan first [] told
+cut-header channels plan first told header h is = record {
+  bytes = is.kept;
+  lost = is.lost;
+  told_is = is.told;
+  all = sym is.split ∙ h ∙ sym (append-nil (header_bytes channels));
+  out = λ l. absurd (omega (arith, l));
+}
+
+-- ---- lengths and drains
+pub bytes-len : (channels : List Channel) (row : Row) → IsTable channels → IsOver channels row
+    → length (row_bytes channels row) ≡ event_len (sizes_of channels) row.starts row.ends
+bytes-len channels row table over =
+    let few : length channels ≤ 128 = let f = table.few in omega (arith, f) in
+    ⊎_elim
+    (λ (h : has_event row ≡ true). row-length channels row few over.starts over.contents h)
+    (λ (h : has_event row ≡ false). let n = no-row-packet channels row h in ap length n.0 ∙ sym n.1)
+    (cases_Bool (has_event row))
+    ∙ same-len channels row.starts row.ends
+
+pub drained-within : (allowance : Option ℕ) (bytes : ℕ) → drained allowance bytes ≤ bytes
+drained-within None bytes = omega arith
+drained-within (Some n) bytes = omega arith
+
+before-front : (sizes : List ℕ) (plan : Plan) (rows more : List Row) (t : ℕ) → t ≤ length rows
+    → drained_before sizes plan (rows ++ more) t ≡ drained_before sizes plan rows t
+before-front sizes plan rows more zero l = refl
+before-front sizes plan rows more (suc t) l =
+    ap (λ n. n + drained_after sizes plan (rows ++ more) t) (before-front sizes plan rows more t (omega arith))
+    ∙ ap (λ n. drained_before sizes plan rows t + drained (plan.allowance t) (n + row_len sizes (slice_get (rows ++ more) t)))
+    (used-front sizes plan rows more t (omega arith))
+    ∙ ap (λ (o : Option Row). drained_before sizes plan rows t + drained (plan.allowance t) (used_at sizes plan rows t + row_len sizes o))
+    (slice_get-append_left rows more t (omega arith))
+
+after-push : (sizes : List ℕ) (plan : Plan) (rows : List Row) (row : Row) → drained_after sizes plan (rows ++ row ∷ []) (length rows)
+    ≡ drained (plan.allowance (length rows)) (used_at sizes plan rows (length rows) + event_len sizes row.starts row.ends)
+after-push sizes plan rows row =
+    ap (λ n. drained (plan.allowance (length rows)) (n + row_len sizes (slice_get (rows ++ row ∷ []) (length rows))))
+    (used-front sizes plan rows (row ∷ []) (length rows) (omega arith))
+    ∙ ap (λ (o : Option Row). drained (plan.allowance (length rows)) (used_at sizes plan rows (length rows) + row_len sizes o))
+    (slice_get-last rows row)
+
+before-push : (sizes : List ℕ) (plan : Plan) (rows : List Row) (row : Row)
+    → drained_before sizes plan (rows ++ row ∷ []) (length (rows ++ row ∷ [])) ≡ drained_before sizes plan rows (length rows)
+    + drained (plan.allowance (length rows)) (used_at sizes plan rows (length rows) + event_len sizes row.starts row.ends)
+before-push sizes plan rows row =
+    ap (drained_before sizes plan (rows ++ row ∷ [])) (length_push rows row ∙ add-one (length rows))
+    ∙ ap (λ n. n + drained_after sizes plan (rows ++ row ∷ []) (length rows))
+    (before-front sizes plan rows (row ∷ []) (length rows) (omega arith))
+    ∙ ap (λ n. drained_before sizes plan rows (length rows) + n) (after-push sizes plan rows row)
+
+-- ---- bytes of one row more
+body-push : (channels : List Channel) (rows : List Row) (row : Row) → body channels (rows ++ row ∷ []) ≡ body channels rows ++ row_bytes channels row
+body-push channels rows row = flat_map-append (row_bytes channels) rows (row ∷ [])
+    ∙ ap (λ bs. body channels rows ++ bs) (append-nil (row_bytes channels row))
+
+all-push : (channels : List Channel) (rows : List Row) (row : Row) (bytes items : List ℕ)
+    → bytes ++ items ≡ header_bytes channels ++ body channels rows
+    → bytes ++ (items ++ row_bytes channels row) ≡ header_bytes channels ++ body channels (rows ++ row ∷ [])
+all-push channels rows row bytes items e =
+    sym (append_assoc bytes items (row_bytes channels row))
+    ∙ ap (λ bs. bs ++ row_bytes channels row) e
+    ∙ append_assoc (header_bytes channels) (body channels rows) (row_bytes channels row)
+    ∙ ap (λ bs. header_bytes channels ++ bs) (sym (body-push channels rows row))
+
+count-push : (channels : List Channel) (rows : List Row) (row : Row)
+    → length (packets_of channels (rows ++ row ∷ [])) ≡ length (packets_of channels rows) + cond (has_event row) 1 0
+count-push channels rows row =
+    ap length (row-adds channels rows row)
+    ∙ length-append (packets_of channels rows) (cond (has_event row) (packet_of channels row ∷ []) [])
+    ∙ ap (λ n. length (packets_of channels rows) + n) (one (has_event row))
+  where
+    one : (b : Bool) → length (cond b (packet_of channels row ∷ []) []) ≡ cond b 1 0
+    one true = refl
+    one false = refl
+
+-- ---- a cycle
+pub record Cycle (channels : List Channel) (plan : Plan) (rows : List Row) (row : Row) (old mid : Ledger) (items mixed : List ℕ) : Type 0 where
+  pub table : IsTable channels
+  pub over : IsOver channels row
+  pub follows : MayFollow old (row_before rows (length rows)) row
+  pub emitted : Emitted old row.starts row.ends mid
+  pub put : mixed ≡ items ++ row_bytes channels row
+
+module _ (channels : List Channel) (plan : Plan) (first : Option (List ℕ)) (rows : List Row) (row : Row) (old mid new : Ledger)
+    (items mixed : List ℕ) (told now : Option (List ℕ)) (packets : ℕ) (going : Going channels plan first rows old items told packets)
+    (cycle : Cycle channels plan rows row old mid items mixed) where
+  abbrev n : ℕ
+  n = drained (plan.allowance (length rows)) mid.used
+
+  used-is : mid.used ≡ used_at (sizes_of channels) plan rows (length rows) + event_len (sizes_of channels) row.starts row.ends
+  used-is =
+      cycle.emitted.used ∙ ap (λ k. k + event_len old.sizes row.starts row.ends) going.stands.used
+      ∙ ap (λ s. used_at (sizes_of channels) plan rows (length rows) + event_len s row.starts row.ends) going.stands.channels
+
+  mixed-long : length mixed ≡ mid.used
+  mixed-long =
+      ap length cycle.put ∙ length-append items (row_bytes channels row) ∙ ap (λ k. k + length (row_bytes channels row)) going.waits
+      ∙ ap (λ k. old.used + k) (bytes-len channels row cycle.table cycle.over)
+      ∙ ap (λ s. old.used + event_len s row.starts row.ends) (sym going.stands.channels) ∙ sym cycle.emitted.used
+
+  pub going-on : (rest : List ℕ) (more : ℕ)
+      → Regranted (record mid { used = left (plan.allowance (length rows)) mid.used }) new
+      → rest ≡ drop n mixed → now ≡ append_known told (take n mixed) → more ≡ packets + cond (has_event row) 1 0
+      → Going channels plan first (rows ++ row ∷ []) new rest now more
+  going-on rest more again r t m = record {
+    stands = (keeps-gates (sizes_of channels) plan).next rows row old mid new going.stands cycle.follows cycle.emitted again;
+    waits = ap length r ∙ length-drop n mixed ∙ ap (λ k. k - n) mixed-long ∙ sym again.used;
+    bytes = going.bytes ++ take n mixed;
+    told_is = told-both first told now going.bytes (take n mixed) going.told_is t;
+    all = ap (λ bs. (going.bytes ++ take n mixed) ++ bs) r ∙ append_assoc going.bytes (take n mixed) (drop n mixed)
+        ∙ ap (λ bs. going.bytes ++ bs) (take-append-drop n mixed ∙ cycle.put)
+        ∙ all-push channels rows row going.bytes items going.all;
+    out = length-append going.bytes (take n mixed)
+        ∙ ap (λ k. length going.bytes + k)
+        (length-take-le n mixed (let d = drained-within (plan.allowance (length rows)) mid.used in omega (arith, d, mixed-long)))
+        ∙ (let a = going.out in
+        let b = before-push (sizes_of channels) plan rows row in
+        let c : n ≡ drained (plan.allowance (length rows)) (used_at (sizes_of channels) plan rows (length rows)
+        + event_len (sizes_of channels) row.starts row.ends) = ap (drained (plan.allowance (length rows))) used-is in
+        let z : length going.bytes + n ≡ length (header_bytes channels)
+        + drained_before (sizes_of channels) plan (rows ++ row ∷ []) (length (rows ++ row ∷ [])) = omega (arith, a, b, c) in z);
+    count = m ∙ ap (λ k. k + cond (has_event row) 1 0) going.count ∙ sym (count-push channels rows row);
+  }
+
+  -- the push of what drains failed
+  pub cut-drain : AppendsSome told now (take n mixed) → Cut channels plan first (rows ++ row ∷ []) now
+  cut-drain is = record {
+    bytes = going.bytes ++ is.kept;
+    lost = is.lost ++ drop n mixed;
+    told_is = told-both first told now going.bytes is.kept going.told_is is.told;
+    all = append_assoc going.bytes is.kept (is.lost ++ drop n mixed)
+        ∙ ap (λ bs. going.bytes ++ bs) (sym (append_assoc is.kept is.lost (drop n mixed)) ∙ ap (λ bs. bs ++ drop n mixed) (sym is.split)
+        ∙ take-append-drop n mixed ∙ cycle.put)
+        ∙ all-push channels rows row going.bytes items going.all;
+    out = λ some.
+        (let long = length_push rows row in
+        let one : length (rows ++ row ∷ []) - 1 ≡ length rows = omega (arith, long) in
+        let a = going.out in
+        let b = before-front (sizes_of channels) plan rows (row ∷ []) (length rows) (omega arith) in
+        let c = ap (drained_before (sizes_of channels) plan (rows ++ row ∷ [])) one in
+        let d = length-append going.bytes is.kept in
+        omega (arith, a, b, c, d));
+  }
+
+-- ---- at the end
+module _ (channels : List Channel) (plan : Plan) (first : Option (List ℕ)) (rows : List Row) (room : Ledger) (items : List ℕ)
+    (told now : Option (List ℕ)) (packets : ℕ) (going : Going channels plan first rows room items told packets) where
+  closed : going.bytes ++ (items ++ end_mark packets) ≡ encode (trace_of channels rows)
+  closed =
+      sym (append_assoc going.bytes items (end_mark packets)) ∙ ap (λ bs. bs ++ end_mark packets) going.all
+      ∙ ap (λ k. (header_bytes channels ++ body channels rows) ++ end_mark k) going.count ∙ sym (encode-is channels rows)
+
+  pub told-closed : now ≡ append_known told (items ++ end_mark packets) → now ≡ append_known first (encode (trace_of channels rows))
+  told-closed e = told-both first told now going.bytes (items ++ end_mark packets) going.told_is e
+      ∙ ap (append_known first) closed
+
+  pub record CutEnd : Type 0 where
+    pub bytes : List ℕ
+    pub lost : List ℕ
+    pub told_is : now ≡ append_known first bytes
+    pub all : bytes ++ lost ≡ encode (trace_of channels rows)
+    pub out : 0 < length rows → length (header_bytes channels)
+        + drained_before (sizes_of channels) plan rows (length rows - 1) ≤ length bytes
+
+  pub cut-end : AppendsSome told now (items ++ end_mark packets) → CutEnd
+  cut-end is = record {
+    bytes = going.bytes ++ is.kept;
+    lost = is.lost;
+    told_is = told-both first told now going.bytes is.kept going.told_is is.told;
+    all = append_assoc going.bytes is.kept is.lost ∙ ap (λ bs. going.bytes ++ bs) (sym is.split) ∙ closed;
+    out = λ some.
+        (let a = going.out in
+        let b = before-less (length rows) in
+        let d = length-append going.bytes is.kept in
+        omega (arith, a, b, d));
+  }
+    where
+      before-less : (t : ℕ) → drained_before (sizes_of channels) plan rows (t - 1) ≤ drained_before (sizes_of channels) plan rows t
+      before-less zero = omega arith
+      before-less (suc t) =
+          let e : suc t - 1 ≡ t = omega arith in
+          let d = ap (drained_before (sizes_of channels) plan rows) e in
+          omega (arith, d)

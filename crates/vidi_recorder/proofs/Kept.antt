@@ -1,0 +1,155 @@
+-- What the trace of a run holds, and what a plan that drains everything makes of a run.
+use Rattle.std.proofs.Common.{◌≡◌, ℕ, zero, suc, ◌+◌, ◌-◌, ◌<◌, ◌≤◌, ◌^◌, ◌&&◌, Bool, true, false, not, cond, List, [], ◌∷◌, ◌++◌, Option}
+use Rattle.std.proofs.Common.{Some, None, length, take, drop, map, slice_get, count_by, refl, ap, sym, subst, ◌∙◌, arith, ⊎_elim, add-one}
+use Rattle.std.specs.Prelude.{IsSomeAnd}
+use Rattle.std.specs.List.{filter}
+use Rattle.std.proofs.lemmas.Bool.{cases_Bool, and_from}
+use Rattle.std.proofs.lemmas.List.{take-append-drop, length-take-le, length-map, length_push}
+use Rattle.std.proofs.lemmas.Option.{slice_get_within, same_Some}
+use Rattle.trace_model.specs.declared.channel.Channel.{Channel}
+use Rattle.trace_model.specs.declared.event.Kind.TheVariants.{End}
+use Rattle.trace_model.specs.declared.row.Row.{Row}
+use Rattle.trace_model.specs.Channel.{content_bytes}
+use Rattle.trace_model.specs.Counting.{has}
+use Rattle.trace_model.specs.Recording.{has_event, packet_of, packets_of, row_does}
+use Rattle.trace_model.specs.Row.{completes, is_in_flight, AreRows}
+use Rattle.trace_model.proofs.CountingLemmas.{count-cons, slice_get-last}
+use Rattle.trace_model.proofs.RowLaws.{recorded-once, same-counts}
+use Rattle.run_model.specs.Laws.{OffersStay}
+use Rattle.run_model.specs.Played.{all_up}
+use Rattle.run_model.specs.Run.{AllUp, IsRun}
+use Rattle.run_model.proofs.Contents.{has-all, same-masks_below}
+use Rattle.run_model.proofs.RunLaws.{StayUp, run-keeps, kept}
+use Rattle.run_model.proofs.Stays.{KeepsContents}
+use Rattle.room_ledger.specs.Gates.{Plan, used_at, keeps, AreGates}
+use Rattle.room_ledger.specs.Laws.{EverythingDrains}
+use Rattle.room_ledger.specs.Reservation.{need, AreRaised}
+use Rattle.room_ledger.proofs.Following.{used-front}
+use Rattle.room_ledger.proofs.GateLaws.{down-waits, some-row}
+use Rattle.script_offer.specs.Offer.{Offer}
+use Rattle.env_offers.specs.Offered.{offers_after}
+use Rattle.env_offers.proofs.OfferLaws.{stays-offered}
+use Rattle.vidi_recorder.specs.Course.{Course, course, sizes_of, GatesUnder, IsRunOf, IsTheRunOf}
+use Rattle.vidi_recorder.specs.Laws.{AreLasting, IsKept, TheRunIsKept, NoHiddenGate, DrainedRunIsPlain}
+use Rattle.vidi_recorder.proofs.Runs.{the-run}
+
+-- ---- offers and gates stay
+pub offers-stay : (channels : List Channel) (offer : List Row → ℕ → Offer) → AreLasting channels offer
+    → OffersStay channels (offers_after channels offer)
+offers-stay channels offer lasting before row are carries c x at dir up unended =
+    stays-offered channels (offer before) (offer (before ++ row ∷ [])) (lasting.fits before) (lasting.fits (before ++ row ∷ [])) c x at up
+    (λ was. lasting.stays before row c was unended)
+
+gates-on : (sizes : List ℕ) (plan : Plan) (before : List Row) (row : Row) (next : ℕ)
+    → AreGates sizes plan (before ++ row ∷ []) (suc (length before)) next → (c : ℕ) → keeps row c ≡ true → has next c ≡ true
+gates-on sizes plan before row next is c kept-up =
+    let all = before ++ row ∷ [] in
+    let found = some-row (λ r. AreRaised sizes plan.capacity (used_at sizes plan all (suc (length before))) (keeps r) (is_in_flight r)
+    (has next)) (slice_get all (length before)) is in
+    let same : row ≡ found.0 = same_Some row found.0 (sym (slice_get-last before row) ∙ found.1) in
+    found.2.stay c (ap (λ (r : Row). keeps r c) (sym same) ∙ kept-up)
+
+pub gates-stay : (channels : List Channel) (plan : Plan) → StayUp channels (GatesUnder channels plan)
+gates-stay channels plan = record {
+  stay = λ before row next are g n c up unended.
+      gates-on (sizes_of channels) plan before row next
+      (subst (λ (t : ℕ). AreGates (sizes_of channels) plan (before ++ row ∷ []) t next) (length_push before row ∙ add-one (length before)) n)
+      c (and_from (has row.gates c) (not (completes row c)) up (ap not unended));
+}
+
+-- ---- counts
+pub packets-few : (channels : List Channel) (rows : List Row) → length (packets_of channels rows) ≤ length rows
+packets-few channels [] = omega arith
+packets-few channels (r ∷ rows) = one (has_event r) (packets-few channels rows)
+  where
+    one : (b : Bool) → length (packets_of channels rows) ≤ length rows
+        → length (map (packet_of channels) (cond b (r ∷ filter has_event rows) (filter has_event rows))) ≤ suc (length rows)
+    one true l = omega (arith, l)
+    one false l = omega (arith, l)
+
+same-count : (f g : Row → Bool) (rows : List Row) → ((t : ℕ) (row : Row) → slice_get rows t ≡ Some row → f row ≡ g row)
+    → count_by f rows ≡ count_by g rows
+same-count f g [] h = refl
+same-count f g (r ∷ rows) h =
+    count-cons f r rows ∙ ap (λ b. cond b 1 0 + count_by f rows) (h 0 r refl)
+    ∙ ap (λ n. cond (g r) 1 0 + n) (same-count f g rows (λ t row at. h (suc t) row at)) ∙ sym (count-cons g r rows)
+
+pub run-is_kept : TheRunIsKept
+run-is_kept d m offer stalls cycles rows stop table lasting few is =
+    let w = course d m offer stalls cycles in
+    let r = the-run w rows stop is in
+    let keep = run-keeps d m w.offers (GatesUnder m.channels w.plan) rows (offers-stay m.channels offer lasting)
+    (gates-stay m.channels w.plan) r.0 r.1 in
+    let both = kept m.channels rows r.0.marked keep in
+    record {
+      starts = λ c. recorded-once m.channels rows r.0.marked c;
+      ends = λ c. same-counts End c m.channels rows
+          ∙ same-count (row_does End c) (λ (row : Row). completes row c) rows (λ t row at. (r.0.marked t row at).1.ends c);
+      contents = both.0;
+      encoded = record {
+        table = table;
+        well_formed = both.1;
+        few = let a = packets-few m.channels rows in let b = r.2 in omega (arith, a, b, few);
+      };
+    }
+
+-- ---- gates that are down
+pub no-hidden_gate : NoHiddenGate
+no-hidden_gate w rows t c row fits run at l down =
+    let sizes = sizes_of w.bound.channels in
+    let front = take t rows in
+    let inside = slice_get_within rows t row at in
+    let long : length front ≡ t = length-take-le t rows (omega (arith, inside)) in
+    let gates : AreGates sizes w.plan front t row.gates =
+    subst (λ (k : ℕ). AreGates sizes w.plan front k row.gates) long (run.ruled t row at).1 in
+    let many = length-map w.bound.channels content_bytes in
+    let some = down-waits sizes w.plan front t row.gates c fits gates (omega (arith, l, many)) down in
+    let used : used_at sizes w.plan rows t ≡ used_at sizes w.plan front t =
+    ap (λ (rs : List Row). used_at sizes w.plan rs t) (sym (take-append-drop t rows))
+    ∙ used-front sizes w.plan front (drop t rows) t (omega (arith, long)) in
+    omega (arith, some, used)
+
+-- ---- everything drains
+positive : (n : ℕ) → 0 < 2 ^ n
+positive zero = omega arith
+positive (suc n) = let p = positive n in omega arith
+
+plain : (w : Course) (rows : List Row) → need (sizes_of w.bound.channels) ≤ w.plan.capacity → IsRunOf w rows
+    → ((t : ℕ) → t < length rows → used_at (sizes_of w.bound.channels) w.plan rows t ≡ 0)
+    → IsRun w.design w.bound w.offers (AllUp w.bound.channels) rows
+plain w rows fits run none = record {
+  marked = run.marked;
+  driven = run.driven;
+  ruled = λ t row at. ((run.ruled t row at).0, up t row at);
+}
+  where
+    up : (t : ℕ) (row : Row) → slice_get rows t ≡ Some row → row.gates ≡ all_up w.bound.channels
+    up t row at = same-masks_below (length w.bound.channels) row.gates (all_up w.bound.channels) (run.marked t row at).0.gates
+        (let p = positive (length w.bound.channels) in omega (arith, p))
+        (λ c l. ⊎_elim
+        (λ (h : has row.gates c ≡ true). h ∙ sym (has-all (length w.bound.channels) c l))
+        (λ (h : has row.gates c ≡ false).
+        let some = no-hidden_gate w rows t c row fits run at l h in
+        let zero-used = none t (slice_get_within rows t row at) in
+        absurd (omega (arith, some, zero-used)))
+        (cases_Bool (has row.gates c)))
+
+none-left : (sizes : List ℕ) (plan : Plan) (rows : List Row) → EverythingDrains sizes plan rows → (t : ℕ) → used_at sizes plan rows t ≡ 0
+none-left sizes plan rows drains zero = refl
+none-left sizes plan rows drains (suc t) = drains t
+
+pub drained-plain : DrainedRunIsPlain
+drained-plain w rows None fits drains (run, stable, e) =
+    (plain w rows fits run (λ t l. none-left (sizes_of w.bound.channels) w.plan rows drains t), stable, e)
+drained-plain w rows (Some c) fits drains (stops, l) =
+    let sizes = sizes_of w.bound.channels in
+    let long = length_push rows stops.next in (
+      record {
+        next = stops.next;
+        played = plain w (rows ++ stops.next ∷ []) fits stops.played
+            (λ t k. used-front sizes w.plan rows (stops.next ∷ []) t (omega (arith, k, long)) ∙ none-left sizes w.plan rows drains t);
+        stable = stops.stable;
+        unstable = stops.unstable;
+      },
+      l,
+    )

@@ -1,0 +1,9 @@
+pub mod Silent
+pub mod Lengths
+pub mod Pushing
+pub mod Runs
+pub mod Kept
+pub mod Going
+pub mod Turning
+pub mod Looking
+pub mod Ends

@@ -1,0 +1,56 @@
+-- What a recording leaves, by its answer (this project's profile).
+use Rattle.std.specs.Prelude.{◌≡◌, ℕ, ◌+◌, ◌-◌, ◌<◌, ◌≤◌, List, ◌++◌, Option, None, Some, length, take}
+use Rattle.std.specs.Io.KnownBytes.{append_known}
+use Rattle.trace_model.specs.declared.channel.Channel.{Channel}
+use Rattle.trace_model.specs.declared.row.Row.{Row}
+use Rattle.trace_model.specs.Recording.{packets_of, trace_of}
+use Rattle.trace_code.specs.Encoding.{encode, header_bytes}
+use Rattle.net_design.specs.Lawful.{IsLawful}
+use Rattle.vidi_io.specs.Cause.{Rose}
+use Rattle.vidi_recorder.specs.declared.error.Outcome.{Outcome}
+use Rattle.vidi_recorder.specs.declared.error.Outcome.TheVariants.{Whole, Unstable}
+use Rattle.vidi_recorder.specs.declared.error.RecordError.{RecordError}
+use Rattle.vidi_recorder.specs.declared.error.RecordError.TheVariants.{WriteFault, Memory}
+use Rattle.vidi_recorder.specs.Course.{Course, IsRunOf, IsTheRunOf, drained_before, sizes_of}
+
+-- the environment stands for these rows, the sink has grown by the encoding of their trace, and the trace has so many packets
+pub record IsRecorded (channels : List Channel) (stands_for : List Row → Type 0) (rows : List Row) (old new : Option (List ℕ))
+    (packets : ℕ) : Type 0 where
+  pub played : stands_for rows
+  pub told : new ≡ append_known old (encode (trace_of channels rows))
+  pub count : packets ≡ length (packets_of channels rows)
+
+-- Whole: the run has all its cycles. Unstable: the row behind it, that of this cycle, is unstable, on this channel.
+abbrev pub EndsWith : Course → (List Row → Type 0) → Option (List ℕ) → Option (List ℕ) → Outcome → Type 0
+EndsWith w stands_for old new (Whole packets) = (rows : List Row) × IsTheRunOf w rows None
+    × IsRecorded w.bound.channels stands_for rows old new packets
+EndsWith w stands_for old new (Unstable channel cycle packets) = (rows : List Row) × IsTheRunOf w rows (Some channel)
+    × (cycle ≡ length rows) × IsRecorded w.bound.channels stands_for rows old new packets
+
+-- the rows are the first of the run, and the bytes a front of the encoding of its trace
+abbrev pub IsFrontOfTheRun : Course → List Row → List ℕ → Type 0
+IsFrontOfTheRun w rows bytes = IsLawful w.design → (all : List Row) (stop : Option ℕ) → IsTheRunOf w all stop
+    → (take (length rows) all ≡ rows) × ((lost : List ℕ) × (encode (trace_of w.bound.channels all) ≡ bytes ++ lost))
+
+-- The environment stands for the first k rows of the run, and the sink has grown by a front of the encoding of the run's trace. Where k
+-- isn't 0 the whole header is out, and all that drains after rows 0 to k - 2.
+pub record IsCutOff (w : Course) (stands_for : List Row → Type 0) (old new : Option (List ℕ)) : Type 0 where
+  pub rows : List Row
+  pub bytes : List ℕ
+  pub played : stands_for rows
+  pub run : IsRunOf w rows
+  pub within : length rows ≤ w.cycles
+  pub told : new ≡ append_known old bytes
+  pub front : IsFrontOfTheRun w rows bytes
+  pub out : 0 < length rows → length (header_bytes w.bound.channels)
+      + drained_before (sizes_of w.bound.channels) w.plan rows (length rows - 1) ≤ length bytes
+
+-- why a recording was cut off, and what it leaves; what want of memory leaves is said by itself
+abbrev pub FailsWith : Course → (List Row → Type 0) → Option (List ℕ) → Option (List ℕ) → RecordError → Type 0
+FailsWith w stands_for old new WriteFault = IsCutOff w stands_for old new
+FailsWith w stands_for old new Memory = Unit {0}
+
+-- only where the sink's count of faults rose
+abbrev pub FailsFor : ℕ → ℕ → RecordError → Type 0
+FailsFor before now WriteFault = Rose before now
+FailsFor before now Memory = Unit {0}

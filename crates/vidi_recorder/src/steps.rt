@@ -1,0 +1,167 @@
+//! The steps of a cycle.
+
+ghost use Rattle.std.specs.Prelude.{◌≡◌, ◌<◌, ◌≤◌, ◌^◌, ◌++◌, ℕ, Option, if◌then◌else◌, length, map, take, drop, OnOk, OnErr};
+ghost use Rattle.std.specs.Io.KnownBytes.{append_known};
+ghost use Rattle.circular_buffer.specs.Buffer.{buffer};
+ghost use Rattle.trace_model.specs.declared.row.Row.{Row as OneRow};
+ghost use Rattle.trace_model.specs.Channel.{content_bytes, IsTable};
+ghost use Rattle.trace_model.specs.Recording.{has_event};
+ghost use Rattle.trace_model.specs.Row.{all_widths, IsOver};
+ghost use Rattle.trace_code.specs.Encoding.{end_mark, row_bytes};
+ghost use Rattle.net_design.specs.declared.design.Design.{Design};
+ghost use Rattle.net_design.specs.declared.values.Values.{Values};
+ghost use Rattle.room_ledger.specs.Gates.{drained, left};
+ghost use Rattle.room_ledger.specs.Ledger.{Emitted, MayEmit, Regranted};
+ghost use Rattle.script_offer.specs.Offer.{Carries, EndsAreCompletions};
+ghost use Rattle.chan_monitor.specs.Shell.{HasPlaces, IsShown};
+ghost use Rattle.env_offers.specs.Offered.{offers_on, AllFit};
+ghost use Rattle.vidi_io.specs.Cause.{HasCause};
+ghost use Rattle.vidi_io.specs.Sink.{AppendsSome, Frame};
+
+use chan_monitor::Shell;
+use env_offers::gather;
+use env_script::Env;
+use room_ledger::Room;
+use trace_code::{end_mark, write_packet};
+use trace_model::{Channels, Offers, Row};
+use trace_store::Store;
+use vidi_io::{Failed, Sink};
+
+/// Fills the row of a cycle, under what the environment offers now and these gates.
+pub(crate) fn look<S: Shell, E: Env>(
+    shell: &mut S,
+    env: &E,
+    channels: &Channels,
+    gates: u128,
+    offers: &mut Offers,
+    row: &mut Row,
+)
+    requires map { (S.map shell.old).channels ≡ channels.now }
+    requires channels { E.channels env.now ≡ channels.now }
+    requires few { length channels.now ≤ 128 }
+    requires fits { AllFit channels.now (E.current env.now) }
+    requires gates { gates < 2 ^ length channels.now }
+    requires offers { length offers.old.contents ≡ length (all_widths channels.now) }
+    requires places { HasPlaces channels.now row.old }
+    ensures shown { (d : Design) (s : Values) (before : Option OneRow) → S.runs shell.old d s before
+        → IsShown d (S.map shell.old) s before (offers_on channels.now (E.current env.now)) gates row.new × S.runs shell.new d s before }
+    ensures over { IsOver channels.now row.new }
+    ensures carries { Carries channels.now (E.current env.now) row.new }
+    ensures ends { EndsAreCompletions row.new }
+    ensures gates { row.new.gates ≡ gates }
+    ensures offers { length offers.new.contents ≡ length (all_widths channels.now) }
+    ensures driven { S.driven shell.new row.new }
+    ensures map { S.map shell.new ≡ S.map shell.old }
+{
+    gather(env, channels, offers);
+    shell.drive(offers, gates, row);
+}
+
+/// How many packets a row has: one where it has an event.
+fn packets_of(row: &Row) -> u32
+    ensures { result ≡ (if has_event row.now then 1 else 0) }
+{
+    if row.starts == 0 && row.ends == 0 {
+        0
+    } else {
+        1
+    }
+}
+
+/// The bytes of the longest packet of a lawful table: 32 channels and 1,024 content bytes.
+pub(crate) const LONGEST_PACKET: usize = 1 + 2 * 4 + 1024;
+
+/// Puts the packet of a row into the store and the books, where the row has an event. Gives how many packets it has.
+#[tactic(auto, using(crate::proofs::Lengths::longest, crate::proofs::Lengths::packet_room, crate::proofs::Lengths::used_within))]
+pub(crate) fn keep(
+    row: &Row,
+    channels: &Channels,
+    room: &mut Room,
+    store: &mut Store,
+    packet: &mut [u8],
+) -> u32
+    requires table { IsTable channels.now }
+    requires row { IsOver channels.now row.now }
+    requires may { MayEmit room.old row.now.starts row.now.ends }
+    requires sizes { room.old.sizes ≡ map content_bytes channels.now }
+    requires waits { length store.old.items ≡ room.old.used }
+    requires capacity { store.old.capacity ≡ room.old.capacity }
+    requires packet { length packet.old ≡ 1033 }
+    ensures room { Emitted room.old row.now.starts row.now.ends room.new }
+    ensures store { store.new ≡ buffer (store.old.items ++ row_bytes channels.now row.now) store.old.capacity }
+    ensures count { result ≡ (if has_event row.now then 1 else 0) }
+    ensures within { room.new.used ≤ room.old.capacity }
+{
+    let len = write_packet(row, channels, packet);
+    let _len = room.emit(row.starts, row.ends);
+    store.put(&packet[..len]);
+    packets_of(row)
+}
+
+/// Pushes the first `n` bytes that wait, where there are any.
+#[tactic(auto, using(crate::proofs::Pushing::told_nothing))]
+fn push_out<K: Sink>(
+    store: &mut Store,
+    out: &mut [u8],
+    n: usize,
+    sink: &mut K,
+) -> Result<(), Failed>
+    requires waits { n ≤ length store.old.items }
+    requires places { n ≤ length out.old }
+    ensures rest { store.new ≡ buffer (drop n store.old.items) store.old.capacity }
+    ensures ok { OnOk result (K.told sink.new ≡ append_known (K.told sink.old) (take n store.old.items)) }
+    ensures err { OnErr result (AppendsSome (K.told sink.old) (K.told sink.new) (take n store.old.items)) }
+    ensures place { K.place sink.new ≡ K.place sink.old }
+    ensures frame { (f : Frame) → K.has_frame sink.old f → K.has_frame sink.new f }
+    ensures cause { HasCause (K.faults sink.old) (K.faults sink.new) result }
+{
+    if n == 0 {
+        return Ok(());
+    }
+    store.drain_into(out, n);
+    sink.push(&out[..n])
+}
+
+/// What drains in a cycle leaves the books and goes out, and gates go up.
+pub(crate) fn give<K: Sink>(
+    room: &mut Room,
+    allowance: Option<u32>,
+    store: &mut Store,
+    out: &mut [u8],
+    sink: &mut K,
+) -> Result<(), Failed>
+    requires waits { length store.old.items ≡ room.old.used }
+    requires places { room.old.used ≤ length out.old }
+    ensures room { Regranted (record room.old { used = left allowance room.old.used }) room.new }
+    ensures rest { store.new ≡ buffer (drop (drained allowance room.old.used) store.old.items) store.old.capacity }
+    ensures ok { OnOk result (K.told sink.new
+        ≡ append_known (K.told sink.old) (take (drained allowance room.old.used) store.old.items)) }
+    ensures err { OnErr result (AppendsSome (K.told sink.old) (K.told sink.new)
+        (take (drained allowance room.old.used) store.old.items)) }
+    ensures place { K.place sink.new ≡ K.place sink.old }
+    ensures frame { (f : Frame) → K.has_frame sink.old f → K.has_frame sink.new f }
+    ensures cause { HasCause (K.faults sink.old) (K.faults sink.new) result }
+{
+    let bytes = room.drain(allowance);
+    room.regrant();
+    push_out(store, out, bytes as usize, sink)
+}
+
+/// Pushes the rest, where there is any, and the end mark.
+pub(crate) fn close<K: Sink>(
+    store: &mut Store,
+    packets: u32,
+    out: &mut [u8],
+    sink: &mut K,
+) -> Result<(), Failed>
+    requires places { length store.old.items ≤ length out.old }
+    ensures ok { OnOk result (K.told sink.new ≡ append_known (K.told sink.old) (store.old.items ++ end_mark packets)) }
+    ensures err { OnErr result (AppendsSome (K.told sink.old) (K.told sink.new) (store.old.items ++ end_mark packets)) }
+    ensures place { K.place sink.new ≡ K.place sink.old }
+    ensures frame { (f : Frame) → K.has_frame sink.old f → K.has_frame sink.new f }
+    ensures cause { HasCause (K.faults sink.old) (K.faults sink.new) result }
+{
+    let rest = store.waiting();
+    push_out(store, out, rest, sink)?;
+    sink.push(&end_mark(packets))
+}
