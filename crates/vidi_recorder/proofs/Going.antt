@@ -1,6 +1,7 @@
 -- The recording so far: the rows, the books, the bytes that wait and those that are out.
 use Rattle.std.proofs.Common.{◌≡◌, ℕ, zero, suc, ◌+◌, ◌-◌, ◌<◌, ◌≤◌, Bool, true, false, cond, min, List, [], ◌∷◌, ◌++◌, Option, Some, None}
-use Rattle.std.proofs.Common.{length, take, drop, map, slice_get, refl, ap, sym, subst, ◌∙◌, append_assoc, arith, ⊎_elim, add-one, length-drop}
+use Rattle.std.proofs.Common.{length, take, drop, map, slice_get, refl, ap, sym, subst, ◌∙◌, append_assoc, arith, ⊎_elim, add-one}
+use Rattle.std.proofs.Common.{length-drop}
 use Rattle.std.specs.Io.KnownBytes.{append_known}
 use Rattle.std.specs.List.{flat_map}
 use Rattle.std.proofs.lemmas.Bool.{cases_Bool}
@@ -113,7 +114,8 @@ before-push sizes plan rows row =
     ∙ ap (λ n. drained_before sizes plan rows (length rows) + n) (after-push sizes plan rows row)
 
 -- ---- bytes of one row more
-body-push : (channels : List Channel) (rows : List Row) (row : Row) → body channels (rows ++ row ∷ []) ≡ body channels rows ++ row_bytes channels row
+body-push : (channels : List Channel) (rows : List Row) (row : Row)
+    → body channels (rows ++ row ∷ []) ≡ body channels rows ++ row_bytes channels row
 body-push channels rows row = flat_map-append (row_bytes channels) rows (row ∷ [])
     ∙ ap (λ bs. body channels rows ++ bs) (append-nil (row_bytes channels row))
 
@@ -138,7 +140,8 @@ count-push channels rows row =
     one false = refl
 
 -- ---- a cycle
-pub record Cycle (channels : List Channel) (plan : Plan) (rows : List Row) (row : Row) (old mid : Ledger) (items mixed : List ℕ) : Type 0 where
+pub record Cycle (channels : List Channel) (plan : Plan) (rows : List Row) (row : Row) (old mid : Ledger)
+    (items mixed : List ℕ) : Type 0 where
   pub table : IsTable channels
   pub over : IsOver channels row
   pub follows : MayFollow old (row_before rows (length rows)) row

@@ -53,7 +53,8 @@ pub gates-stay : (channels : List Channel) (plan : Plan) → StayUp channels (Ga
 gates-stay channels plan = record {
   stay = λ before row next are g n c up unended.
       gates-on (sizes_of channels) plan before row next
-      (subst (λ (t : ℕ). AreGates (sizes_of channels) plan (before ++ row ∷ []) t next) (length_push before row ∙ add-one (length before)) n)
+      (subst (λ (t : ℕ). AreGates (sizes_of channels) plan (before ++ row ∷ []) t next)
+      (length_push before row ∙ add-one (length before)) n)
       c (and_from (has row.gates c) (not (completes row c)) up (ap not unended));
 }
 

@@ -104,7 +104,8 @@ pub bytes-of_rows : (channels : List Channel) (rows : List Row)
 bytes-of_rows channels [] = refl
 bytes-of_rows channels (r ∷ rows) = one (has_event r) ∙ ap (λ bs. row_bytes channels r ++ bs) (bytes-of_rows channels rows)
   where
-    one : (b : Bool) → flat_map (packet_bytes channels) (map (packet_of channels) (cond b (r ∷ filter has_event rows) (filter has_event rows)))
+    one : (b : Bool)
+        → flat_map (packet_bytes channels) (map (packet_of channels) (cond b (r ∷ filter has_event rows) (filter has_event rows)))
         ≡ cond b (packet_bytes channels (packet_of channels r)) [] ++ flat_map (packet_bytes channels) (packets_of channels rows)
     one true = refl
     one false = refl

@@ -6,7 +6,8 @@ use Rattle.env_offers.proofs.offers.fill_contents.Goals as goal
 pub loop-c-preserved : goal.loop-c-preserved
 loop-c-preserved g c =
     fill-more c.args.channels.now (g.E.Env.current c.args.env.now) c.args.contents.now c.loop-c.contents c.fill_content.new.contents
-    c.loop-c.c c.loop-c.at _ c.len-ports.result c.index-channels-c.result c.requires.fits c.loop-c-test.true c.index-channels-c.is c.len-ports.ensures
+    c.loop-c.c c.loop-c.at _ c.len-ports.result c.index-channels-c.result c.requires.fits c.loop-c-test.true c.index-channels-c.is
+    c.len-ports.ensures
     c.loop-c.invariant c.fill_content.ensures refl
 
 pub fill_content-requires-clause-room : goal.fill_content-requires-clause-room
