@@ -1,0 +1,7 @@
+pub mod Added
+pub mod Closed
+pub mod Deeper
+mod Examples
+pub mod Many
+pub mod PlaceLaws
+pub mod Reaching

@@ -1,0 +1,15 @@
+//! The hierarchy of a design: modules that contain themselves, instances in preorder and their
+//! nets (IEEE 1364-2005, clause 12; this project's profile).
+#![tactic(auto)]
+
+mod error;
+mod laws;
+mod nodes;
+mod outline;
+mod places;
+mod walk;
+
+pub use error::{HierarchyError, HierarchyLimit};
+pub use laws::more_levels_change_nothing;
+pub use nodes::{Node, Nodes, nodes_of};
+pub use walk::nested;
