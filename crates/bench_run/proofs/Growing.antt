@@ -1,7 +1,7 @@
 -- A plain run, one row longer, and its end.
 use Rattle.std.proofs.Common.{◌≡◌, ℕ, zero, suc, ◌<◌, ◌≤◌, List, [], ◌∷◌, ◌++◌, Option, Some, None, length, slice_get, ⊎_elim, refl, ap, sym}
 use Rattle.std.proofs.Common.{subst, ◌∙◌, add-one, arith, Result, Ok, Err}
-use Rattle.std.specs.Prelude.{OnErr}
+use Rattle.std.specs.Prelude.{IfOk, OnErr}
 use Rattle.std.proofs.lemmas.List.{length_push}
 use Rattle.std.proofs.lemmas.Option.{same_Some}
 use Rattle.trace_model.specs.declared.channel.Channel.{Channel}
@@ -173,3 +173,18 @@ offers-now channels table current offer p q rows same plan e =
 pub on-error : {T E P : Type 0} (r : Result T E) → P → OnErr r P
 on-error (Ok x) p = tt
 on-error (Err e) p = p
+
+-- the row before is one of them
+pub before-over : (channels : List Channel) (rows : List Row)
+    → ((t : ℕ) (row : Row) → slice_get rows t ≡ Some row → IsOver channels row) → (n : ℕ) (before : Row)
+    → Some before ≡ row_before rows n → IsOver channels before
+before-over channels rows over zero before e = absurd (cc)
+before-over channels rows over (suc n) before e = over n before (sym e)
+
+pub if-ok : {T E : Type 0} {P Q : T → Type 0} (r : Result T E) → IfOk r P → ((x : T) → P x → Q x) → IfOk r Q
+if-ok (Ok x) p then = then x p
+if-ok (Err e) p then = tt
+
+pub if-error : {T E P Q : Type 0} (r : Result T E) → OnErr r P → (P → Q) → OnErr r Q
+if-error (Ok x) p then = tt
+if-error (Err e) p then = then p

@@ -28,7 +28,7 @@ use Rattle.chan_monitor.proofs.Filling.{replaced-more, replaced-none}
 use Rattle.bench_run.specs.Offered.{numbers_on, offers_on, AllFit}
 
 -- ---- the numbers of one channel
-zeros-read : (n k : ℕ) → get_or (replicate n 0) k 0 ≡ 0
+zeros-read : (n k : ℕ) → ◌≡◌ {A = ℕ} (get_or (replicate n 0) k 0) 0
 zeros-read zero k = get_or_past [] k 0 (omega arith)
 zeros-read (suc n) zero = refl
 zeros-read (suc n) (suc k) = zeros-read n k

@@ -1,9 +1,11 @@
-use Rattle.std.proofs.Common.{◌+◌, ◌++◌, ◌∷◌, [], ℕ, None, Some, List, length, refl, ap, sym, subst, ◌∙◌, arith}
+use Rattle.std.proofs.Common.{◌+◌, ◌++◌, ◌∷◌, [], ℕ, Option, None, Some, List, length, refl, ap, sym, subst, ◌∙◌, arith}
 use Rattle.std.proofs.lemmas.List.{length_push}
 use Rattle.trace_model.specs.declared.channel.Channel.{Channel}
 use Rattle.trace_model.specs.declared.row.Row.{Row}
 use Rattle.trace_model.specs.Row.{row_before, IsOver}
-use Rattle.bench_run.specs.Plain.{IsBreak}
+use Rattle.net_design.specs.declared.design.Design.{Design}
+use Rattle.net_design.specs.declared.values.Values.{Values}
+use Rattle.bench_run.specs.Plain.{IsBreak, StandsWithin}
 use Rattle.bench_run.proofs.Growing.{breaks, ends, fits-now, going-first, going-on, offers-now, on-error, rows-over, shown-of, stands-within}
 use Rattle.bench_run.proofs.Offering.{carries-now}
 use Rattle.bench_run.proofs.plain.run_shell.Goals as goal
@@ -67,7 +69,7 @@ loop-cycle-preserved g c =
           c.in_ok-row.ensures.driven in
           going-on (g.S.Shell.runs c.loop-cycle.shell) (g.S.Shell.runs c.clock.new.self) d m (g.S.Shell.map c.next_row.new.shell) offer rows
           c.push.new.self row going shown (c.next_row.ensures.map ∙ inv.map) step.0 step.1 step.2
-          (subst (λ (xs : List Channel). IsBreak xs there row None) c.requires.channels c.in-None.ensures)
+          (subst (λ (xs : List Channel). IsBreak xs there row None) c.requires.channels c.in_default.ensures)
           c.in_ok-push.ensures.ok);
       map = c.clock.ensures.map ∙ c.next_row.ensures.map ∙ inv.map;
       stands = subst (g.E.Env.stands_for c.commit.new.self) (sym c.in_ok-push.ensures.ok) (c.commit.ensures.rows rows inv.stands);
@@ -142,22 +144,33 @@ returns-clause-run g c d s before is =
     (let k = inv.count in let l = inv.within in let over = c.loop-cycle-test.false in omega (arith, k, l, over))
 
 pub returns-in_err-offers-clause-memory : goal.returns-in_err-offers-clause-memory
-returns-in_err-offers-clause-memory g c = on-error _ (λ d s before is.
+returns-in_err-offers-clause-memory g c =
+    let said : (d : Design) (s : Values) (before : Option Row) → g.S.Shell.runs c.args.shell.now d s before
+    → StandsWithin (g.E.Env.stands_for c.args.env.now) d (g.S.Shell.map c.args.shell.now) (g.E.Env.offer (g.E.Env.plan c.args.env.now))
+    c.args.cycles = λ d s before is.
     (let m = g.S.Shell.map c.args.shell.now in
     let first = c.reset.ensures.first d s before is in
     let offer = g.E.Env.offer (g.E.Env.plan c.args.env.now) in
     stands-within (g.S.Shell.runs c.reset.new.self) (g.E.Env.stands_for c.args.env.now) d m offer [] c.args.cycles
-    (going-first (g.S.Shell.runs c.reset.new.self) d m offer [] first.0 first.1 first.2 refl) c.requires.first (omega arith)))
+    (going-first (g.S.Shell.runs c.reset.new.self) d m offer [] first.0 first.1 first.2 refl) c.requires.first (omega arith)) in
+    on-error _ said
 
 pub returns-in_err-row-clause-memory : goal.returns-in_err-row-clause-memory
-returns-in_err-row-clause-memory g c = on-error _ (λ d s before is.
+returns-in_err-row-clause-memory g c =
+    let said : (d : Design) (s : Values) (before : Option Row) → g.S.Shell.runs c.args.shell.now d s before
+    → StandsWithin (g.E.Env.stands_for c.loop-cycle.env) d (g.S.Shell.map c.args.shell.now) (g.E.Env.offer (g.E.Env.plan c.args.env.now))
+    c.args.cycles = λ d s before is.
     (let inv = c.loop-cycle.invariant in
     stands-within (g.S.Shell.runs c.loop-cycle.shell) (g.E.Env.stands_for c.loop-cycle.env) d (g.S.Shell.map c.args.shell.now)
     (g.E.Env.offer (g.E.Env.plan c.args.env.now)) c.loop-cycle.rows c.args.cycles (inv.run d s before is) inv.stands
-    (let k = inv.count in let l = inv.within in omega (arith, k, l))))
+    (let k = inv.count in let l = inv.within in omega (arith, k, l))) in
+    on-error _ said
 
 pub returns-in_err-push-clause-memory : goal.returns-in_err-push-clause-memory
-returns-in_err-push-clause-memory g c = on-error _ (λ d s before is.
+returns-in_err-push-clause-memory g c =
+    let said : (d : Design) (s : Values) (before : Option Row) → g.S.Shell.runs c.args.shell.now d s before
+    → StandsWithin (g.E.Env.stands_for c.commit.new.self) d (g.S.Shell.map c.args.shell.now) (g.E.Env.offer (g.E.Env.plan c.args.env.now))
+    c.args.cycles = λ d s before is.
     (let m = g.S.Shell.map c.args.shell.now in
     let inv = c.loop-cycle.invariant in
     let rows = c.loop-cycle.rows in
@@ -175,6 +188,7 @@ returns-in_err-push-clause-memory g c = on-error _ (λ d s before is.
     stands-within (g.S.Shell.runs c.clock.new.self) (g.E.Env.stands_for c.commit.new.self) d m offer (rows ++ row ∷ []) c.args.cycles
     (going-on (g.S.Shell.runs c.loop-cycle.shell) (g.S.Shell.runs c.clock.new.self) d m (g.S.Shell.map c.next_row.new.shell) offer rows
     (rows ++ row ∷ []) row going shown (c.next_row.ensures.map ∙ inv.map) step.0 step.1 step.2
-    (subst (λ (xs : List Channel). IsBreak xs there row None) c.requires.channels c.in-None.ensures) refl)
+    (subst (λ (xs : List Channel). IsBreak xs there row None) c.requires.channels c.in_default.ensures) refl)
     (c.commit.ensures.rows rows inv.stands)
-    (let k = inv.count in let l = c.loop-cycle-test.true in let p = length_push rows row in omega (arith, k, l, p))))
+    (let k = inv.count in let l = c.loop-cycle-test.true in let p = length_push rows row in omega (arith, k, l, p))) in
+    on-error _ said
