@@ -1,5 +1,6 @@
 -- A plain run, one row longer, and its end.
-use Rattle.std.proofs.Common.{◌≡◌, ℕ, zero, suc, ◌<◌, ◌≤◌, List, [], ◌∷◌, ◌++◌, Option, Some, None, length, slice_get, ⊎_elim, refl, ap, sym}
+use Rattle.std.proofs.Common.{◌≡◌, ℕ, zero, suc, ◌<◌, ◌≤◌, List, [], ◌∷◌, ◌++◌, Option, Some, None, length, slice_get}
+use Rattle.std.proofs.Common.{⊎_elim, refl, ap, sym}
 use Rattle.std.proofs.Common.{subst, ◌∙◌, add-one, arith, Result, Ok, Err}
 use Rattle.std.specs.Prelude.{IfOk, OnErr}
 use Rattle.std.proofs.lemmas.List.{length_push}
@@ -13,14 +14,12 @@ use Rattle.trace_model.proofs.CountingLemmas.{slice_get-append_left, slice_get-l
 use Rattle.net_design.specs.declared.design.Design.{Design}
 use Rattle.net_design.specs.declared.values.Values.{Values}
 use Rattle.chan_map.specs.declared.pins.Map.{Map}
-use Rattle.run_model.specs.Offers.{Carries}
 use Rattle.run_model.specs.Played.{all_up, AreStable}
 use Rattle.run_model.specs.Run.{AllUp, IsRunRow}
 use Rattle.run_model.specs.Step.{IsFirst, IsStep}
 use Rattle.run_model.proofs.PlayedLaws.{Grown, played-nil, played-push}
 use Rattle.script_offer.specs.Offer.{Offer, FitsOffer}
 use Rattle.chan_monitor.specs.Shell.{IsShown}
-use Rattle.bench_run.specs.declared.plain.PlainRun.{PlainRun}
 use Rattle.bench_run.specs.Offered.{offers_after, offers_on, AllFit}
 use Rattle.bench_run.specs.Plain.{IsBreak, IsPlainRun, StandsWithin}
 
@@ -91,8 +90,8 @@ pub shown-of : (d : Design) (m at : Map) (channels : List Channel) (offer : List
     → IsShown d at now (row_before rows (length rows)) offers (all_up channels) row → Shown d m offer now rows row
 shown-of d m at channels offer offers now rows row same table o shown = record {
   shown = subst (λ (n : Map). IsShown d n now (row_before rows (length rows)) (offers_after m.channels offer rows) (all_up m.channels) row)
-      same (subst (λ (xs : List Channel). IsShown d at now (row_before rows (length rows)) (offers_after m.channels offer rows) (all_up xs) row)
-      table (subst (λ (x : Offers). IsShown d at now (row_before rows (length rows)) x (all_up channels) row) o shown));
+      same (subst (λ (xs : List Channel). IsShown d at now (row_before rows (length rows)) (offers_after m.channels offer rows) (all_up
+      xs) row) table (subst (λ (x : Offers). IsShown d at now (row_before rows (length rows)) x (all_up channels) row) o shown));
 }
 
 grown-push : (d : Design) (m : Map) (offer : List Row → ℕ → Offer) (rows : List Row) (now : Values) → Grown d m (rule m offer) rows now

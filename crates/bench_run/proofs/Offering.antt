@@ -1,14 +1,14 @@
 -- What is offered, channel by channel, as the offers of a run.
-use Rattle.std.proofs.Common.{◌≡◌, ℕ, zero, suc, ◌+◌, ◌<◌, ◌≤◌, Bool, true, false, cond, List, [], ◌∷◌, ◌++◌, Option, Some, length, take, drop}
+use Rattle.std.proofs.Common.{◌≡◌, ℕ, zero, suc, ◌+◌, ◌<◌, ◌≤◌, Bool, true, false, cond, List, [], ◌∷◌, ◌++◌, Option}
+use Rattle.std.proofs.Common.{Some, length, take, drop}
 use Rattle.std.proofs.Common.{replicate, get_or, set, slice_get, append_assoc, refl, ap, sym, subst, ◌∙◌, arith}
 use Rattle.std.proofs.Math.Seq.{drop-drop}
 use Rattle.std.proofs.lemmas.Grind.{get_or_default_zero}
-use Rattle.std.proofs.lemmas.List.{append-nil, drop_all, drop_at, get_or_past, length-append, length-replicate, length-take-le, take_all}
+use Rattle.std.proofs.lemmas.List.{append-nil, drop_all, drop_at, get_or_past, length-append, length-take-le, take_all}
 use Rattle.std.proofs.lemmas.List.{take_at}
 use Rattle.std.proofs.lemmas.List.Folds.{length-flat_map-take}
 use Rattle.std.proofs.lemmas.Option.{slice_get_read, slice_get_within}
 use Rattle.trace_model.specs.declared.channel.Channel.{Channel}
-use Rattle.trace_model.specs.declared.channel.Dir.TheVariants.{Inward, Outward}
 use Rattle.trace_model.specs.declared.row.Row.{Row}
 use Rattle.trace_model.specs.Counting.{has}
 use Rattle.trace_model.specs.Packet.{Fit, widths_of}
@@ -24,7 +24,7 @@ use Rattle.run_model.proofs.RowParts.{channel-at}
 use Rattle.script_offer.specs.Offer.{Offer, Carries}
 use Rattle.chan_monitor.specs.Shell.{AreZeroWhileDown}
 use Rattle.chan_monitor.specs.Showing.{replaced}
-use Rattle.chan_monitor.proofs.Filling.{replaced-more, replaced-none}
+use Rattle.chan_monitor.proofs.Filling.{replaced-more}
 use Rattle.bench_run.specs.Offered.{numbers_on, offers_on, AllFit}
 
 -- ---- the numbers of one channel

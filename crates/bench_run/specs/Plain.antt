@@ -4,7 +4,6 @@ use Rattle.trace_model.specs.declared.channel.Channel.{Channel}
 use Rattle.trace_model.specs.declared.row.Row.{Row}
 use Rattle.trace_model.specs.Stability.{IsLowestUnstable}
 use Rattle.net_design.specs.declared.design.Design.{Design}
-use Rattle.net_design.specs.declared.values.Values.{Values}
 use Rattle.chan_map.specs.declared.pins.Map.{Map}
 use Rattle.run_model.specs.Played.{AreStable}
 use Rattle.run_model.specs.Run.{AllUp, IsRun, IsTheRun}

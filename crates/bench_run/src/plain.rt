@@ -1,6 +1,6 @@
 //! The plain run.
 
-ghost use Rattle.std.specs.Prelude.{◌≡◌, ◌<◌, ◌≤◌, ◌-◌, ◌^◌, [], ℕ, Option, None, Some, length, slice_get, IfOk, OnErr};
+ghost use Rattle.std.specs.Prelude.{◌≡◌, ◌<◌, ◌≤◌, ◌-◌, ◌^◌, ◌⊎◌, [], ℕ, Option, None, Some, length, slice_get, IfOk, OnErr};
 ghost use Rattle.std.specs.Option.{option_copied};
 ghost use Rattle.trace_model.specs.declared.row.Row.{Row as OneRow};
 ghost use Rattle.trace_model.specs.Row.{all_widths, row_before, IsOver};
@@ -144,7 +144,8 @@ fn run_shell<S: Shell, E: Env>(
 /// channels and stands for no row yet.
 ///
 /// The rows are those of *IsRun*, and end before the first unstable one; the environment stands for them afterwards. With
-/// `Memory`, where no memory was found, it stands for the first rows of that run. In each cycle memory is taken for the row alone.
+/// `Memory`, where no memory was found, it is as at entry, or stands for the first rows of that run. In each cycle memory is taken
+/// for the row alone.
 pub fn run_plain<B: Block, E: Env>(
     alloc: Global,
     block: &mut B,
@@ -162,8 +163,8 @@ pub fn run_plain<B: Block, E: Env>(
     ensures stands { IfOk result (λ run. E.stands_for env.new run.rows) }
     ensures plan { E.plan env.new ≡ E.plan env.old }
     ensures channels { E.channels env.new ≡ E.channels env.old }
-    ensures memory { OnErr result
-        (StandsWithin (E.stands_for env.new) (B.design block.old) map.now (E.offer (E.plan env.old)) cycles) }
+    ensures memory { OnErr result ((env.new ≡ env.old)
+        ⊎ StandsWithin (E.stands_for env.new) (B.design block.old) map.now (E.offer (E.plan env.old)) cycles) }
 {
     let mut shell = Machines::new(alloc, Lent::new(block), map)?;
     run_shell(alloc, &mut shell, map.channels(), env, cycles)

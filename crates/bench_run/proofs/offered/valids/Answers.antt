@@ -8,5 +8,5 @@ with_bit-mask-requires-clause-below g c = subst (λ m. m < 2 ^ c.loop-c.c) (sym 
 
 pub loop-c-preserved : goal.loop-c-preserved
 loop-c-preserved g c =
-    mask-more (λ k. (g.E.Env.current c.args.env.now k).valid) c.loop-c.c c.valid-up.result c.loop-c.mask c.with_bit-mask.result c.valid-up.ensures
-    c.with_bit-mask.ensures c.loop-c.invariant
+    mask-more (λ k. (g.E.Env.current c.args.env.now k).valid) c.loop-c.c c.valid-up.result c.loop-c.mask c.with_bit-mask.result
+    c.valid-up.ensures c.with_bit-mask.ensures c.loop-c.invariant

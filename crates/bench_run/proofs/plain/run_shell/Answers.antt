@@ -1,4 +1,4 @@
-use Rattle.std.proofs.Common.{◌+◌, ◌++◌, ◌∷◌, [], ℕ, Option, None, Some, List, length, refl, ap, sym, subst, ◌∙◌, arith}
+use Rattle.std.proofs.Common.{◌+◌, ◌++◌, ◌∷◌, [], Option, None, Some, List, length, refl, ap, sym, subst, ◌∙◌, arith}
 use Rattle.std.proofs.lemmas.List.{length_push}
 use Rattle.trace_model.specs.declared.channel.Channel.{Channel}
 use Rattle.trace_model.specs.declared.row.Row.{Row}
@@ -6,7 +6,8 @@ use Rattle.trace_model.specs.Row.{row_before, IsOver}
 use Rattle.net_design.specs.declared.design.Design.{Design}
 use Rattle.net_design.specs.declared.values.Values.{Values}
 use Rattle.bench_run.specs.Plain.{IsBreak, StandsWithin}
-use Rattle.bench_run.proofs.Growing.{breaks, ends, fits-now, going-first, going-on, offers-now, on-error, rows-over, shown-of, stands-within}
+use Rattle.bench_run.proofs.Growing.{breaks, ends, fits-now, going-first, going-on, offers-now, on-error, rows-over}
+use Rattle.bench_run.proofs.Growing.{shown-of, stands-within}
 use Rattle.bench_run.proofs.Offering.{carries-now}
 use Rattle.bench_run.proofs.plain.run_shell.Goals as goal
 
@@ -57,14 +58,14 @@ loop-cycle-preserved g c =
     let row = c.in_ok-row.row in
     let env = c.loop-cycle.env in
     let offer = g.E.Env.offer (g.E.Env.plan c.args.env.now) in
-    let o = offers-now c.args.channels.now m.channels (g.E.Env.current env) g.E.Env.offer (g.E.Env.plan env) (g.E.Env.plan c.args.env.now) rows
-    (g.met.E.Env.offers_now env rows inv.stands) inv.plan c.requires.channels in
+    let o = offers-now c.args.channels.now m.channels (g.E.Env.current env) g.E.Env.offer (g.E.Env.plan env) (g.E.Env.plan c.args.env.now)
+    rows (g.met.E.Env.offers_now env rows inv.stands) inv.plan c.requires.channels in
     record {
       run = λ d s before is.
           (let going = inv.run d s before is in
           let there = row_before rows (length rows) in
-          let shown = shown-of d m (g.S.Shell.map c.loop-cycle.shell) c.args.channels.now offer _ going.now rows row inv.map c.requires.channels o
-          (c.in_ok-row.ensures.row d going.now there going.runs_on) in
+          let shown = shown-of d m (g.S.Shell.map c.loop-cycle.shell) c.args.channels.now offer _ going.now rows row inv.map
+          c.requires.channels o (c.in_ok-row.ensures.row d going.now there going.runs_on) in
           let step = c.clock.ensures.next d going.now there row (c.in_ok-row.ensures.runs d going.now there going.runs_on)
           c.in_ok-row.ensures.driven in
           going-on (g.S.Shell.runs c.loop-cycle.shell) (g.S.Shell.runs c.clock.new.self) d m (g.S.Shell.map c.next_row.new.shell) offer rows
@@ -126,8 +127,8 @@ returns-in-Some-clause-run g c d s before is =
     let row = c.in_ok-row.row in
     let env = c.loop-cycle.env in
     let offer = g.E.Env.offer (g.E.Env.plan c.args.env.now) in
-    let o = offers-now c.args.channels.now m.channels (g.E.Env.current env) g.E.Env.offer (g.E.Env.plan env) (g.E.Env.plan c.args.env.now) rows
-    (g.met.E.Env.offers_now env rows inv.stands) inv.plan c.requires.channels in
+    let o = offers-now c.args.channels.now m.channels (g.E.Env.current env) g.E.Env.offer (g.E.Env.plan env) (g.E.Env.plan c.args.env.now)
+    rows (g.met.E.Env.offers_now env rows inv.stands) inv.plan c.requires.channels in
     let going = inv.run d s before is in
     let there = row_before rows (length rows) in
     let shown = shown-of d m (g.S.Shell.map c.loop-cycle.shell) c.args.channels.now offer _ going.now rows row inv.map c.requires.channels o
@@ -139,8 +140,8 @@ returns-in-Some-clause-run g c d s before is =
 pub returns-clause-run : goal.returns-clause-run
 returns-clause-run g c d s before is =
     let inv = c.loop-cycle.invariant in
-    ends (g.S.Shell.runs c.loop-cycle.shell) d (g.S.Shell.map c.args.shell.now) (g.E.Env.offer (g.E.Env.plan c.args.env.now)) c.loop-cycle.rows
-    c.args.cycles (inv.run d s before is)
+    ends (g.S.Shell.runs c.loop-cycle.shell) d (g.S.Shell.map c.args.shell.now) (g.E.Env.offer (g.E.Env.plan c.args.env.now))
+    c.loop-cycle.rows c.args.cycles (inv.run d s before is)
     (let k = inv.count in let l = inv.within in let over = c.loop-cycle-test.false in omega (arith, k, l, over))
 
 pub returns-in_err-offers-clause-memory : goal.returns-in_err-offers-clause-memory
@@ -177,8 +178,8 @@ returns-in_err-push-clause-memory g c =
     let row = c.in_ok-row.row in
     let env = c.loop-cycle.env in
     let offer = g.E.Env.offer (g.E.Env.plan c.args.env.now) in
-    let o = offers-now c.args.channels.now m.channels (g.E.Env.current env) g.E.Env.offer (g.E.Env.plan env) (g.E.Env.plan c.args.env.now) rows
-    (g.met.E.Env.offers_now env rows inv.stands) inv.plan c.requires.channels in
+    let o = offers-now c.args.channels.now m.channels (g.E.Env.current env) g.E.Env.offer (g.E.Env.plan env) (g.E.Env.plan c.args.env.now)
+    rows (g.met.E.Env.offers_now env rows inv.stands) inv.plan c.requires.channels in
     let going = inv.run d s before is in
     let there = row_before rows (length rows) in
     let shown = shown-of d m (g.S.Shell.map c.loop-cycle.shell) c.args.channels.now offer _ going.now rows row inv.map c.requires.channels o
