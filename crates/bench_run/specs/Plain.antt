@@ -1,0 +1,41 @@
+-- *IsRun* with all gates up, as an answer, and *Unstable*'s place.
+use Rattle.std.specs.Prelude.{◌≡◌, ℕ, ◌≤◌, List, Option, Some, None, IfSome, length}
+use Rattle.trace_model.specs.declared.channel.Channel.{Channel}
+use Rattle.trace_model.specs.declared.row.Row.{Row}
+use Rattle.trace_model.specs.Stability.{IsLowestUnstable}
+use Rattle.net_design.specs.declared.design.Design.{Design}
+use Rattle.chan_map.specs.declared.pins.Map.{Map}
+use Rattle.run_model.specs.Played.{AreStable}
+use Rattle.run_model.specs.Run.{AllUp, IsRun, IsTheRun}
+use Rattle.script_offer.specs.Offer.{Offer}
+use Rattle.bench_run.specs.declared.plain.PlainRun.{PlainRun}
+use Rattle.bench_run.specs.declared.plain.Spot.{Spot}
+use Rattle.bench_run.specs.Offered.{offers_after}
+
+-- the rows are those of a run of this environment with all gates up
+abbrev pub IsRunAllUp : Design → Map → (List Row → ℕ → Offer) → List Row → Type 0
+IsRunAllUp d m offer rows = IsRun d m (offers_after m.channels offer) (AllUp m.channels) rows
+
+abbrev pub channel_of : Option Spot → Option ℕ
+channel_of None = None
+channel_of (Some spot) = Some spot.channel
+
+-- the run of n cycles, which ends before the first unstable row; the spot is that row's number, and the lowest channel on which it
+-- is unstable
+pub record IsPlainRun (d : Design) (m : Map) (offer : List Row → ℕ → Offer) (n : ℕ) (answer : PlainRun) : Type 0 where
+  pub played : IsTheRun d m (offers_after m.channels offer) (AllUp m.channels) n answer.rows (channel_of answer.unstable)
+  pub cycle : IfSome answer.unstable (λ (spot : Spot). spot.cycle ≡ length answer.rows)
+
+-- the environment stands for the first rows of that run, at most n of them
+pub record StandsWithin (stands_for : List Row → Type 0) (d : Design) (m : Map) (offer : List Row → ℕ → Offer) (n : ℕ) : Type 0 where
+  pub rows : List Row
+  pub stands : stands_for rows
+  pub played : IsRunAllUp d m offer rows
+  pub stable : AreStable m.channels rows
+  pub few : length rows ≤ n
+
+-- the lowest channel on which a row is unstable after the row before it, or none; a row with none before it is stable
+abbrev pub IsBreak : List Channel → Option Row → Row → Option ℕ → Type 0
+IsBreak channels None now None = Unit {0}
+IsBreak channels None now (Some c) = ⊥
+IsBreak channels (Some before) now lowest = IsLowestUnstable channels before now lowest
