@@ -1,5 +1,6 @@
 -- Modules are added one by one.
-use Rattle.std.proofs.Common.{◌≡◌, ℕ, suc, ◌+◌, ◌<◌, Bool, true, false, not, List, [], ◌∷◌, ◌++◌, map, drop, set, length, get_or, refl, sym, ap, subst}
+use Rattle.std.proofs.Common.{◌≡◌, ℕ, suc, ◌+◌, ◌<◌, Bool, true, false, not, List, [], ◌∷◌, ◌++◌, map, drop, set, length, get_or, refl}
+use Rattle.std.proofs.Common.{sym, ap, subst}
 use Rattle.std.proofs.Common.{◌∙◌, arith, drop-cons, append_assoc}
 use Rattle.std.specs.List.{Contains}
 use Rattle.std.proofs.lemmas.List.{length-set}

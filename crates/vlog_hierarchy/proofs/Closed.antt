@@ -1,16 +1,19 @@
 -- The places of the modules of instances are places of modules of the file.
-use Rattle.std.proofs.Common.{◌≡◌, ℕ, zero, suc, ◌+◌, ◌<◌, ◌⊎◌, inl, inr, Bool, true, false, cond, if◌then◌else◌, List, [], ◌∷◌, ◌++◌, map, length}
+use Rattle.std.proofs.Common.{◌≡◌, ℕ, zero, suc, ◌+◌, ◌<◌, ◌⊎◌, inl, inr, Bool, true, false, cond, if◌then◌else◌, List, [], ◌∷◌, ◌++◌}
+use Rattle.std.proofs.Common.{map, length}
 use Rattle.std.proofs.Common.{get_or, refl, sym, ap, subst, ◌∙◌, arith, Option, Some, None, slice_get, option_map}
 use Rattle.std.specs.List.{Contains, flat_map}
 use Rattle.std.specs.Str.{bytes_eq}
 use Rattle.std.proofs.lemmas.List.{map-append, length-map}
 use Rattle.std.proofs.lemmas.List.Elements.{Contains-append_cases}
 use Rattle.std.proofs.lemmas.Option.{slice_get-map, slice_get_read}
-use Rattle.vlog_tree.specs.Tree.{InstanceOf, ItemOf, WiresItem, DrivenWiresItem, RegsItem, LocalparamsItem, AssignItem, AlwaysItem, InstanceItem}
+use Rattle.vlog_tree.specs.Tree.{InstanceOf, ItemOf, WiresItem, DrivenWiresItem, RegsItem, LocalparamsItem, AssignItem, AlwaysItem}
+use Rattle.vlog_tree.specs.Tree.{InstanceItem}
 use Rattle.vlog_tree.specs.Tree.{ModuleOf}
 use Rattle.vlog_hierarchy.specs.declared.outline.Child as child
 use Rattle.vlog_hierarchy.specs.declared.outline.Outline as outline
-use Rattle.vlog_hierarchy.specs.Outlines.{Child, Outline, place_from, place_of, child_at, item_children, children_of, outline_of, outlines_of}
+use Rattle.vlog_hierarchy.specs.Outlines.{Child, Outline, place_from, place_of, child_at, item_children, children_of, outline_of}
+use Rattle.vlog_hierarchy.specs.Outlines.{outlines_of}
 use Rattle.vlog_hierarchy.specs.Outlines.{children_in}
 use Rattle.vlog_hierarchy.specs.Plain.{plain_child, plain_outline, plain_outlines}
 use Rattle.vlog_hierarchy.specs.Nested.{kids}

@@ -42,7 +42,8 @@ all_added old mid new cs depth os path k some first rest is =
     let here : Node = record { path = path; place = k } in
     let go : Child → List Node = child_nodes (depth - 1) os path in
     rest ∙ ap (λ (xs : List Node). xs ++ flat_map go cs) first ∙ append_assoc old (here ∷ []) (flat_map go cs)
-    ∙ ap (λ (xs : List Child). old ++ (here ∷ flat_map go xs)) is ∙ sym (ap (λ (xs : List Node). old ++ xs) (one_deeper depth os path k some))
+    ∙ ap (λ (xs : List Child). old ++ (here ∷ flat_map go xs)) is
+    ∙ sym (ap (λ (xs : List Node). old ++ xs) (one_deeper depth os path k some))
 
 -- ---- more levels change nothing where there are fewer instances than levels
 

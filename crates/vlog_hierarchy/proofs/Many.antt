@@ -1,5 +1,6 @@
 -- Answers of too many instances or nets.
-use Rattle.std.proofs.Common.{◌≡◌, ◌≢◌, ℕ, zero, suc, ◌+◌, ◌-◌, ◌<◌, ◌≤◌, List, [], ◌∷◌, ◌++◌, map, drop, length, get_or, refl, sym, ap, ◌∙◌, arith}
+use Rattle.std.proofs.Common.{◌≡◌, ◌≢◌, ℕ, zero, suc, ◌+◌, ◌-◌, ◌<◌, ◌≤◌, List, [], ◌∷◌, ◌++◌, map, drop, length, get_or, refl, sym, ap}
+use Rattle.std.proofs.Common.{◌∙◌, arith}
 use Rattle.std.proofs.Common.{length-append, drop-cons}
 use Rattle.std.specs.List.{flat_map}
 use Rattle.vlog_hierarchy.specs.declared.error.HierarchyError.{HierarchyError}
@@ -27,7 +28,8 @@ many_here e n depth os path k some h =
     many_more e (n + 1) (n + length (nodes depth os path k)) (omega (arith, l)) h
 
 -- in the instances of a module
-pub many_in : (e : HierarchyError) (old new : List node.Node) (depth : ℕ) (os : List Outline) (path : List (List ℕ)) (k : ℕ) (cs : List Child)
+pub many_in : (e : HierarchyError) (old new : List node.Node) (depth : ℕ) (os : List Outline) (path : List (List ℕ)) (k : ℕ)
+    (cs : List Child)
     → depth ≢ 0
     → plain_nodes new ≡ plain_nodes old ++ record { path = path; place = k } ∷ [] → cs ≡ children_at os k
     → IsTooMany e (length new + length (flat_map (child_nodes (depth - 1) os path) cs))

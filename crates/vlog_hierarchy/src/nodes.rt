@@ -126,7 +126,8 @@ fn add_inside<'a>(
 ) -> Result<(), HierarchyError>
     requires { length out.old ≤ 4096 }
     ensures value { OnOk result (plain_nodes out.new ≡ plain_nodes out.old
-        ++ flat_map (child_nodes depth (plain_outlines outlines.now) (plain_path path.now)) (children_at (plain_outlines outlines.now) place)) }
+        ++ flat_map (child_nodes depth (plain_outlines outlines.now) (plain_path path.now))
+        (children_at (plain_outlines outlines.now) place)) }
     ensures few { OnOk result (length out.new ≤ 4096) }
     ensures many { IfErr result (λ e. IsTooMany e (length out.old + length (flat_map
         (child_nodes depth (plain_outlines outlines.now) (plain_path path.now)) (children_at (plain_outlines outlines.now) place)))) }

@@ -41,7 +41,8 @@ add_nodes-returns-then-depth-eq0-clause-value t c =
 pub add_nodes-returns-clause-value : goal.add_nodes-returns-clause-value
 add_nodes-returns-clause-value t c =
     all_added (plain_nodes c.args.out.now) (plain_nodes c.add_node.new.out) (plain_nodes c.add_inside.new.out)
-    (children_at (plain_outlines c.args.outlines.now) c.args.place) c.args.depth (plain_outlines c.args.outlines.now) (plain_path c.args.path.now)
+    (children_at (plain_outlines c.args.outlines.now) c.args.place) c.args.depth (plain_outlines c.args.outlines.now)
+    (plain_path c.args.path.now)
     c.args.place c.if-depth-eq0.false c.in_ok-add_node.ensures.value c.in_ok-add_inside.ensures.value refl
 
 pub add_inside-returns-in-None-clause-value : goal.add_inside-returns-in-None-clause-value

@@ -17,7 +17,8 @@ pub first_nested-requires-clause-within : goal.first_nested-requires-clause-with
 first_nested-requires-clause-within c =
     let e : plain_outlines c.as_slice-in-Some.result.now ≡ outlines_of (map plain_module c.in_ok-index.index.modules.now) =
     ap plain_outlines c.as_slice-in-Some.ensures ∙ c.in_ok-outlines-in-Some.ensures in
-    let same : length (plain_outlines c.as_slice-in-Some.result.now) ≡ length (outlines_of (map plain_module c.in_ok-index.index.modules.now)) =
+    let same : length (plain_outlines c.as_slice-in-Some.result.now)
+    ≡ length (outlines_of (map plain_module c.in_ok-index.index.modules.now)) =
     ap (λ (xs : List Outline). length xs) e in
     let l = top_below (map plain_module c.in_ok-index.index.modules.now) c.args.top.now c.in-Some.place
     (sym c.place_named.ensures ∙ c.in-Some.is) in

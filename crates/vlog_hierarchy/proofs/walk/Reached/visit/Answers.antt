@@ -7,7 +7,8 @@ use Rattle.vlog_hierarchy.proofs.walk.Reached.visit.Goals as goal
 pub add_all-requires : goal.add_all-requires
 add_all-requires c =
     visit_below c.args.outlines.now c.args.self.now.marks c.args.place c.index-outlines-place.result c.as_slice.result.now
-    c.requires.closed c.requires.long c.requires.within c.index-outlines-place.is (c.as_slice.ensures ∙ ap (λ (o : Outline). o.children) (sym c.index-outlines-place.is))
+    c.requires.closed c.requires.long c.requires.within c.index-outlines-place.is
+    (c.as_slice.ensures ∙ ap (λ (o : Outline). o.children) (sym c.index-outlines-place.is))
 
 pub returns-clause-marks : goal.returns-clause-marks
 returns-clause-marks c =
