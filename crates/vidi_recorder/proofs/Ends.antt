@@ -1,17 +1,18 @@
 -- What a recording leaves, by how it ends.
-use Rattle.std.proofs.Common.{◌≡◌, ℕ, ◌+◌, ◌-◌, ◌<◌, ◌≤◌, List, ◌++◌, Option, Some, None, length, ap, sym, ◌∙◌, arith}
+use Rattle.std.proofs.Common.{◌≡◌, ℕ, ◌≤◌, List, ◌++◌, Option, Some, None, length, sym, subst}
 use Rattle.std.specs.Io.KnownBytes.{append_known}
 use Rattle.trace_model.specs.declared.row.Row.{Row}
-use Rattle.trace_model.specs.Recording.{packets_of, trace_of}
-use Rattle.trace_code.specs.Encoding.{encode, end_mark}
+use Rattle.trace_code.specs.Encoding.{end_mark}
 use Rattle.run_model.specs.Played.{AreStable}
 use Rattle.room_ledger.specs.Ledger.{Ledger}
 use Rattle.chan_monitor.specs.Shell.{IsMapped}
 use Rattle.vidi_io.specs.Sink.{AppendsSome}
+use Rattle.vidi_recorder.specs.declared.error.Outcome.{Outcome}
 use Rattle.vidi_recorder.specs.declared.error.Outcome.TheVariants.{Whole, Unstable}
 use Rattle.vidi_recorder.specs.Course.{Course, IsRunOf, IsTheRunOf}
 use Rattle.vidi_recorder.specs.Recording.{EndsWith, IsCutOff, IsRecorded}
-use Rattle.vidi_recorder.proofs.Going.{Cut, CutEnd, Going, cut-end, told-closed}
+use Rattle.vidi_recorder.specs.Standing.{Cut, Going, RunsTo}
+use Rattle.vidi_recorder.proofs.Going.{cut-end, told-closed}
 use Rattle.vidi_recorder.proofs.Runs.{ended-front, going-front, the-run}
 
 module _ (w : Course) (stands_for : List Row → Type 0) (rows : List Row) (first told now : Option (List ℕ)) where
@@ -69,3 +70,24 @@ cut-before w stands_for rows first now cut stands ready run stable l = record {
   front = going-front w ready rows cut.bytes cut.lost run stable l cut.all;
   out = cut.out;
 }
+
+-- ---- by the outcome
+pub ends-as : (w : Course) (stands_for : List Row → Type 0) (rows : List Row) (first told now : Option (List ℕ)) (room : Ledger)
+    (items : List ℕ) (packets : ℕ) (outcome : Outcome) → Going w.bound.channels w.plan first rows room items told packets
+    → stands_for rows → now ≡ append_known told (items ++ end_mark packets) → RunsTo w rows packets outcome
+    → EndsWith w stands_for first now outcome
+ends-as w stands_for rows first told now room items packets (Whole n) going stands e (run, same) =
+    subst (λ (k : ℕ). EndsWith w stands_for first now (Whole k)) (sym same)
+    (ends-whole w stands_for rows first told now room items packets going stands e run.0 run.1 run.2)
+ends-as w stands_for rows first told now room items packets (Unstable channel cycle n) going stands e (run, long, same) =
+    subst (λ (k : ℕ). EndsWith w stands_for first now (Unstable channel cycle k)) (sym same)
+    (ends-unstable w stands_for rows first told now room items packets cycle channel going stands e run (sym long))
+
+pub cut-as : (w : Course) (stands_for : List Row → Type 0) (rows : List Row) (first told now : Option (List ℕ)) (room : Ledger)
+    (items : List ℕ) (packets : ℕ) (outcome : Outcome) → Going w.bound.channels w.plan first rows room items told packets
+    → stands_for rows → AppendsSome told now (items ++ end_mark packets) → IsMapped w.design w.bound → RunsTo w rows packets outcome
+    → IsCutOff w stands_for first now
+cut-as w stands_for rows first told now room items packets (Whole n) going stands some ready (run, same) =
+    cut-at_end w stands_for rows first told now room items packets None going stands some ready run
+cut-as w stands_for rows first told now room items packets (Unstable channel cycle n) going stands some ready (run, long, same) =
+    cut-at_end w stands_for rows first told now room items packets (Some channel) going stands some ready run

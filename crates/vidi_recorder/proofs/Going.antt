@@ -1,16 +1,14 @@
 -- The recording so far: the rows, the books, the bytes that wait and those that are out.
-use Rattle.std.proofs.Common.{◌≡◌, ℕ, zero, suc, ◌+◌, ◌-◌, ◌<◌, ◌≤◌, Bool, true, false, cond, min, List, [], ◌∷◌, ◌++◌, Option, Some, None}
-use Rattle.std.proofs.Common.{length, take, drop, map, slice_get, refl, ap, sym, subst, ◌∙◌, append_assoc, arith, ⊎_elim, add-one}
+use Rattle.std.proofs.Common.{◌≡◌, ℕ, zero, suc, ◌+◌, ◌-◌, ◌<◌, ◌≤◌, Bool, true, false, cond, List, [], ◌∷◌, ◌++◌, Option, Some, None}
+use Rattle.std.proofs.Common.{length, take, drop, slice_get, refl, ap, sym, subst, ◌∙◌, append_assoc, arith, ⊎_elim, add-one}
 use Rattle.std.proofs.Common.{length-drop}
 use Rattle.std.specs.Io.KnownBytes.{append_known}
-use Rattle.std.specs.List.{flat_map}
 use Rattle.std.proofs.lemmas.Bool.{cases_Bool}
 use Rattle.std.proofs.lemmas.List.{append-nil, length-append, length-take-le, length_push, take-append-drop}
 use Rattle.std.proofs.lemmas.List.Concat.{flat_map-append}
 use Rattle.trace_model.specs.declared.channel.Channel.{Channel}
 use Rattle.trace_model.specs.declared.row.Row.{Row}
 use Rattle.trace_model.specs.Channel.{IsTable}
-use Rattle.trace_model.specs.Length.{packet_len}
 use Rattle.trace_model.specs.Recording.{has_event, packet_of, packets_of, trace_of}
 use Rattle.trace_model.specs.Row.{row_before, IsOver}
 use Rattle.trace_model.proofs.CountingLemmas.{slice_get-last, slice_get-append_left}
@@ -25,26 +23,8 @@ use Rattle.room_ledger.proofs.Following.{keeps-gates, same-len, used-front}
 use Rattle.vidi_io.specs.Sink.{AppendsSome}
 use Rattle.vidi_recorder.specs.Course.{drained_after, drained_before, sizes_of}
 use Rattle.vidi_recorder.proofs.Pushing.{told-both}
-use Rattle.vidi_recorder.proofs.Runs.{body, encode-is}
-
-pub record Going (channels : List Channel) (plan : Plan) (first : Option (List ℕ)) (rows : List Row) (room : Ledger) (items : List ℕ)
-    (told : Option (List ℕ)) (packets : ℕ) : Type 0 where
-  pub stands : StandsAfter (sizes_of channels) plan rows room
-  pub waits : length items ≡ room.used
-  pub bytes : List ℕ
-  pub told_is : told ≡ append_known first bytes
-  pub all : bytes ++ items ≡ header_bytes channels ++ body channels rows
-  pub out : length bytes ≡ length (header_bytes channels) + drained_before (sizes_of channels) plan rows (length rows)
-  pub count : packets ≡ length (packets_of channels rows)
-
--- what is out where a push failed
-pub record Cut (channels : List Channel) (plan : Plan) (first : Option (List ℕ)) (rows : List Row) (told : Option (List ℕ)) : Type 0 where
-  pub bytes : List ℕ
-  pub lost : List ℕ
-  pub told_is : told ≡ append_known first bytes
-  pub all : bytes ++ lost ≡ header_bytes channels ++ body channels rows
-  pub out : 0 < length rows → length (header_bytes channels)
-      + drained_before (sizes_of channels) plan rows (length rows - 1) ≤ length bytes
+use Rattle.vidi_recorder.specs.Standing.{body, Cut, Going}
+use Rattle.vidi_recorder.proofs.Runs.{encode-is}
 
 -- ---- at the beginning
 pub going-first : (channels : List Channel) (plan : Plan) (first : Option (List ℕ)) (room : Ledger) (items header : List ℕ)
@@ -159,7 +139,7 @@ module _ (channels : List Channel) (plan : Plan) (first : Option (List ℕ)) (ro
       cycle.emitted.used ∙ ap (λ k. k + event_len old.sizes row.starts row.ends) going.stands.used
       ∙ ap (λ s. used_at (sizes_of channels) plan rows (length rows) + event_len s row.starts row.ends) going.stands.channels
 
-  mixed-long : length mixed ≡ mid.used
+  pub mixed-long : length mixed ≡ mid.used
   mixed-long =
       ap length cycle.put ∙ length-append items (row_bytes channels row) ∙ ap (λ k. k + length (row_bytes channels row)) going.waits
       ∙ ap (λ k. old.used + k) (bytes-len channels row cycle.table cycle.over)

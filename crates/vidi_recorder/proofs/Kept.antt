@@ -1,7 +1,6 @@
 -- What the trace of a run holds, and what a plan that drains everything makes of a run.
-use Rattle.std.proofs.Common.{◌≡◌, ℕ, zero, suc, ◌+◌, ◌-◌, ◌<◌, ◌≤◌, ◌^◌, ◌&&◌, Bool, true, false, not, cond, List, [], ◌∷◌, ◌++◌, Option}
+use Rattle.std.proofs.Common.{◌≡◌, ℕ, zero, suc, ◌+◌, ◌<◌, ◌≤◌, ◌^◌, Bool, true, false, not, cond, List, [], ◌∷◌, ◌++◌}
 use Rattle.std.proofs.Common.{Some, None, length, take, drop, map, slice_get, count_by, refl, ap, sym, subst, ◌∙◌, arith, ⊎_elim, add-one}
-use Rattle.std.specs.Prelude.{IsSomeAnd}
 use Rattle.std.specs.List.{filter}
 use Rattle.std.proofs.lemmas.Bool.{cases_Bool, and_from}
 use Rattle.std.proofs.lemmas.List.{take-append-drop, length-take-le, length-map, length_push}
@@ -12,7 +11,7 @@ use Rattle.trace_model.specs.declared.row.Row.{Row}
 use Rattle.trace_model.specs.Channel.{content_bytes}
 use Rattle.trace_model.specs.Counting.{has}
 use Rattle.trace_model.specs.Recording.{has_event, packet_of, packets_of, row_does}
-use Rattle.trace_model.specs.Row.{completes, is_in_flight, AreRows}
+use Rattle.trace_model.specs.Row.{completes, is_in_flight}
 use Rattle.trace_model.proofs.CountingLemmas.{count-cons, slice_get-last}
 use Rattle.trace_model.proofs.RowLaws.{recorded-once, same-counts}
 use Rattle.run_model.specs.Laws.{OffersStay}
@@ -20,7 +19,6 @@ use Rattle.run_model.specs.Played.{all_up}
 use Rattle.run_model.specs.Run.{AllUp, IsRun}
 use Rattle.run_model.proofs.Contents.{has-all, same-masks_below}
 use Rattle.run_model.proofs.RunLaws.{StayUp, run-keeps, kept}
-use Rattle.run_model.proofs.Stays.{KeepsContents}
 use Rattle.room_ledger.specs.Gates.{Plan, used_at, keeps, AreGates}
 use Rattle.room_ledger.specs.Laws.{EverythingDrains}
 use Rattle.room_ledger.specs.Reservation.{need, AreRaised}
@@ -29,8 +27,8 @@ use Rattle.room_ledger.proofs.GateLaws.{down-waits, some-row}
 use Rattle.script_offer.specs.Offer.{Offer}
 use Rattle.env_offers.specs.Offered.{offers_after}
 use Rattle.env_offers.proofs.OfferLaws.{stays-offered}
-use Rattle.vidi_recorder.specs.Course.{Course, course, sizes_of, GatesUnder, IsRunOf, IsTheRunOf}
-use Rattle.vidi_recorder.specs.Laws.{AreLasting, IsKept, TheRunIsKept, NoHiddenGate, DrainedRunIsPlain}
+use Rattle.vidi_recorder.specs.Course.{Course, course, sizes_of, GatesUnder, IsRunOf}
+use Rattle.vidi_recorder.specs.Laws.{AreLasting, TheRunIsKept, NoHiddenGate, DrainedRunIsPlain}
 use Rattle.vidi_recorder.proofs.Runs.{the-run}
 
 -- ---- offers and gates stay

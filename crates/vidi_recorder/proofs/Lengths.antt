@@ -1,5 +1,5 @@
 -- Lengths of packets.
-use Rattle.std.proofs.Common.{◌≡◌, ℕ, ◌+◌, ◌*◌, ◌/◌, ◌≤◌, List, length, map, sum_by, ap, sym, ◌∙◌, arith}
+use Rattle.std.proofs.Common.{◌≡◌, ℕ, ◌+◌, ◌≤◌, List, length, map, sum_by, ap, sym, ◌∙◌, arith}
 use Rattle.trace_model.specs.declared.channel.Channel.{Channel}
 use Rattle.trace_model.specs.Channel.{content_bytes, IsTable}
 use Rattle.trace_model.specs.Length.{head_len, packet_len}

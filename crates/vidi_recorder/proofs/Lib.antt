@@ -7,3 +7,4 @@ pub mod Going
 pub mod Turning
 pub mod Looking
 pub mod Ends
+pub mod Turns

@@ -1,28 +1,26 @@
 -- Fronts of the run: rows under its rules are the first rows of it, and their bytes the first bytes of its encoding.
-use Rattle.std.proofs.Common.{◌≡◌, ℕ, zero, suc, ◌+◌, ◌<◌, ◌≤◌, Bool, true, false, cond, List, [], ◌∷◌, ◌++◌, Option, Some, None, length}
+use Rattle.std.proofs.Common.{◌≡◌, ℕ, zero, suc, ◌<◌, ◌≤◌, Bool, true, false, cond, List, [], ◌∷◌, ◌++◌, Option, Some, None, length}
 use Rattle.std.proofs.Common.{take, drop, map, slice_get, refl, ap, sym, subst, ◌∙◌, append_assoc, arith, ⊎_elim}
 use Rattle.std.specs.List.{filter, flat_map}
 use Rattle.std.proofs.lemmas.Bool.{cases_lt}
-use Rattle.std.proofs.lemmas.List.{take-append-drop, take_all, take_at, take-take, length-take-le, length_push}
+use Rattle.std.proofs.lemmas.List.{take-append-drop, take_at, take-take, length-take-le, length_push}
 use Rattle.std.proofs.lemmas.List.Concat.{flat_map-append}
 use Rattle.trace_model.specs.declared.channel.Channel.{Channel}
-use Rattle.trace_model.specs.declared.packet.Packet.{Packet}
 use Rattle.trace_model.specs.declared.row.Row.{Row}
 use Rattle.trace_model.specs.Recording.{has_event, packet_of, packets_of, trace_of}
 use Rattle.trace_model.specs.Row.{row_before}
-use Rattle.trace_model.specs.Stability.{IsUnstable}
 use Rattle.trace_model.proofs.CountingLemmas.{slice_get-take}
 use Rattle.trace_code.specs.Encoding.{encode, end_mark, header_bytes, packet_bytes, row_bytes}
 use Rattle.net_design.specs.declared.design.Design.{Design}
 use Rattle.net_design.specs.Lawful.{IsLawful}
 use Rattle.chan_map.specs.declared.pins.Map.{Map}
 use Rattle.run_model.specs.Played.{AreStable, IsPlayed}
-use Rattle.run_model.specs.Run.{IsRunRow}
 use Rattle.run_model.proofs.PlayedLaws.{Determines, one-list_of_rows, rows-front}
 use Rattle.run_model.proofs.RowParts.{carried}
 use Rattle.room_ledger.proofs.GateLaws.{one-set}
 use Rattle.chan_monitor.specs.Shell.{IsMapped}
-use Rattle.vidi_recorder.specs.Course.{Course, GatesUnder, IsRunOf, IsTheRunOf, sizes_of}
+use Rattle.vidi_recorder.specs.Course.{Course, rule_of, IsRunOf, IsTheRunOf, sizes_of}
+use Rattle.vidi_recorder.specs.Standing.{body}
 use Rattle.vidi_recorder.specs.Recording.{IsFrontOfTheRun}
 
 -- ---- fronts of rows
@@ -51,9 +49,6 @@ played-front d m rule rows k p = record {
       subst (λ (rs : List Row). rule rs row) (sym (take-take t k rows (omega arith)))
       (p.ruled t row (sym (slice_get-take k rows t l) ∙ at)));
 }
-
-abbrev pub rule_of : Course → List Row → Row → Type 0
-rule_of w = IsRunRow w.bound.channels w.offers (GatesUnder w.bound.channels w.plan)
 
 determines : (w : Course) → Determines w.bound.channels (rule_of w)
 determines w before a b are oa ob ra rb =
@@ -109,9 +104,6 @@ bytes-of_rows channels (r ∷ rows) = one (has_event r) ∙ ap (λ bs. row_bytes
         ≡ cond b (packet_bytes channels (packet_of channels r)) [] ++ flat_map (packet_bytes channels) (packets_of channels rows)
     one true = refl
     one false = refl
-
-abbrev pub body : List Channel → List Row → List ℕ
-body channels rows = flat_map (row_bytes channels) rows
 
 abbrev pub mark_of : List Channel → List Row → List ℕ
 mark_of channels rows = end_mark (length (packets_of channels rows))

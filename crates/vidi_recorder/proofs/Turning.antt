@@ -1,5 +1,5 @@
 -- A shell in the middle of a run, and the run one row longer.
-use Rattle.std.proofs.Common.{◌≡◌, ℕ, zero, suc, ◌+◌, ◌<◌, ◌≤◌, ◌^◌, ◌&&◌, ◌==◌, Bool, true, false, not, List, [], ◌∷◌, ◌++◌, Option}
+use Rattle.std.proofs.Common.{◌≡◌, ℕ, zero, suc, ◌<◌, ◌≤◌, ◌&&◌, ◌==◌, true, false, not, List, [], ◌∷◌, ◌++◌, Option}
 use Rattle.std.proofs.Common.{Some, None}
 use Rattle.std.proofs.Common.{length, slice_get, refl, ap, sym, subst, ◌∙◌, arith, ⊎_elim, add-one}
 use Rattle.std.proofs.lemmas.Bool.{false≢true}
@@ -9,14 +9,14 @@ use Rattle.trace_model.specs.declared.channel.Channel.{Channel}
 use Rattle.trace_model.specs.declared.row.Offers.{Offers}
 use Rattle.trace_model.specs.declared.row.Row.{Row}
 use Rattle.trace_model.specs.Counting.{has}
-use Rattle.trace_model.specs.Row.{completes, flies_after, is_in_flight, row_before, sink_valid, IsMarked, IsOver}
+use Rattle.trace_model.specs.Row.{completes, flies_after, row_before, sink_valid, IsMarked, IsOver}
 use Rattle.trace_model.specs.Stability.{waits, IsLowestUnstable, IsUnstable, IsUnstableAt}
 use Rattle.trace_model.proofs.CountingLemmas.{slice_get-append_left, slice_get-last, slice_get-push}
 use Rattle.std.proofs.lemmas.Nat.Bits.{bit_at-zero}
 use Rattle.net_design.specs.declared.design.Design.{Design}
 use Rattle.net_design.specs.declared.values.Values.{Values}
 use Rattle.chan_map.specs.declared.pins.Map.{Map}
-use Rattle.run_model.specs.Played.{AreStable, IsPlayed, StopsBefore}
+use Rattle.run_model.specs.Played.{AreStable}
 use Rattle.run_model.specs.Laws.{OffersStay}
 use Rattle.run_model.specs.Offers.{Carries}
 use Rattle.run_model.specs.Step.{IsFirst, IsStep}
@@ -25,16 +25,11 @@ use Rattle.run_model.proofs.RunLaws.{run-keeps}
 use Rattle.room_ledger.specs.Laws.{MayFollow, StandsAfter}
 use Rattle.room_ledger.specs.Ledger.{Ledger}
 use Rattle.chan_monitor.specs.Shell.{IsShown}
-use Rattle.vidi_recorder.specs.Course.{Course, GatesUnder, IsRunOf, IsTheRunOf, sizes_of}
+use Rattle.vidi_recorder.specs.Course.{Course, rule_of, GatesUnder, IsRunOf, IsTheRunOf, sizes_of}
+use Rattle.vidi_recorder.specs.Standing.{IsLast, Reached}
 use Rattle.vidi_recorder.proofs.Kept.{gates-stay}
-use Rattle.vidi_recorder.proofs.Runs.{rule_of}
 
 -- ---- the last row
--- what is kept as the last row: where there is none, a row in which no valid is up
-abbrev pub IsLast : Option Row → Row → Type 0
-IsLast None last = last.valids ≡ 0
-IsLast (Some before) last = last ≡ before
-
 before-last : (rows : List Row) (row : Row) → row_before (rows ++ row ∷ []) (length (rows ++ row ∷ [])) ≡ Some row
 before-last rows row = ap (row_before (rows ++ row ∷ [])) (length_push rows row ∙ add-one (length rows)) ∙ slice_get-last rows row
 
@@ -155,6 +150,16 @@ runs-more w rows row l runs after_runs m n offers gates e f stands g o (now, gro
           (subst (λ (b : Map). IsStep w.design b now row after) f step),
       subst (after_runs w.design after) (sym (before-last rows row)) next,
     )
+
+-- what a contract says of the run and the shell, and what these lemmas say of it
+pub runs-of : (w : Course) (runs : Design → Values → Option Row → Type 0) (rows : List Row) → Reached w runs rows → Runs w runs rows
+runs-of w runs rows (run, on) = (run.driven.state (length rows), record { played = run; state = refl }, on)
+
+pub reached-of : (w : Course) (runs : Design → Values → Option Row → Type 0) (rows : List Row) → Runs w runs rows → Reached w runs rows
+reached-of w runs rows (now, grown, on) = (
+  grown.played,
+  subst (λ (s : Values). runs w.design s (row_before rows (length rows))) (sym grown.state) on,
+)
 
 -- rows that end before an unstable one are the run
 pub stops-here : (w : Course) (rows : List Row) (last row : Row) (c : ℕ) → IsRunOf w (rows ++ row ∷ []) → AreStable w.bound.channels rows

@@ -6,7 +6,7 @@ use Rattle.trace_model.specs.declared.row.Row.{Row}
 use Rattle.trace_model.specs.Channel.{content_bytes}
 use Rattle.net_design.specs.declared.design.Design.{Design}
 use Rattle.chan_map.specs.declared.pins.Map.{Map}
-use Rattle.run_model.specs.Run.{IsRun, IsTheRun}
+use Rattle.run_model.specs.Run.{IsRun, IsRunRow, IsTheRun}
 use Rattle.room_ledger.specs.Gates.{Plan, drained, row_len, used_at, AreGates}
 use Rattle.script_text.specs.declared.stalls.Stalls.{Stalls}
 use Rattle.script_text.specs.Plan.{allowance_at}
@@ -41,6 +41,10 @@ sizes_of channels = map content_bytes channels
 -- *Gates* after these rows
 abbrev pub GatesUnder : List Channel → Plan → List Row → ℕ → Type 0
 GatesUnder channels plan before gates = AreGates (sizes_of channels) plan before (length before) gates
+
+-- what *IsRun* says of a row after those before it, under the plan
+abbrev pub rule_of : Course → List Row → Row → Type 0
+rule_of w = IsRunRow w.bound.channels w.offers (GatesUnder w.bound.channels w.plan)
 
 -- *IsRun* under the plan
 abbrev pub IsRunOf : Course → List Row → Type 0

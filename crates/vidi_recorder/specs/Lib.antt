@@ -1,3 +1,4 @@
 pub mod Course
+pub mod Standing
 pub mod Recording
 pub mod Laws

@@ -9,6 +9,7 @@ ghost use Rattle.chan_monitor.specs.Shell.{HasPlaces};
 
 use chan_monitor::row_over;
 use env_offers::offers_over;
+use room_ledger::Room;
 use std::alloc::Global;
 use trace_code::header_bytes;
 use trace_model::{Channels, Offers, Row};
@@ -19,15 +20,19 @@ use vidi_bits::{Bytes, Memory};
 #[derive(Drop)]
 pub(crate) struct Cells {
     pub header: Bytes,
+    /// Which gates are up, and how much room there is.
+    pub room: Room,
     /// The bytes that wait.
     pub store: Store,
-    /// Where bytes are offers_on that go out together: a place for each byte of the store.
+    /// Where bytes are that go out together: a place for each byte of the store.
     pub out: Vec<u8>,
     pub offers: Offers,
     /// The row of this cycle.
     pub row: Row,
     /// The row of the cycle before.
     pub last: Row,
+    /// How many packets were put into the store.
+    pub packets: u32,
 }
 
 /// A row in which nothing is up.
@@ -47,14 +52,21 @@ fn out_of(alloc: Global, capacity: u32) -> Result<Vec<u8>, Memory>
 }
 
 /// All memory of a recording of these channels with a store of this capacity.
-pub(crate) fn open(alloc: Global, channels: &Channels, capacity: u32) -> Result<Cells, Memory>
+pub(crate) fn open(
+    alloc: Global,
+    channels: &Channels,
+    capacity: u32,
+    room: Room,
+) -> Result<Cells, Memory>
     requires { IsTable channels.now }
     ensures header { IfOk result (λ cells. cells.header ≡ header_bytes channels.now) }
+    ensures room { IfOk result (λ cells. cells.room ≡ room) }
     ensures store { IfOk result (λ cells. cells.store ≡ buffer [] capacity) }
     ensures out { IfOk result (λ cells. length cells.out.items ≡ capacity) }
     ensures offers { IfOk result (λ cells. length cells.offers.contents ≡ length (all_widths channels.now)) }
     ensures row { IfOk result (λ cells. HasPlaces channels.now cells.row) }
     ensures last { IfOk result (λ cells. (cells.last.valids ≡ 0) × IsOver channels.now cells.last) }
+    ensures packets { IfOk result (λ cells. cells.packets ≡ 0) }
 {
     let header = header_bytes(alloc, channels)?;
     let store = Store::new(alloc, capacity as usize)?;
@@ -64,10 +76,12 @@ pub(crate) fn open(alloc: Global, channels: &Channels, capacity: u32) -> Result<
     let last = silent_row(alloc, channels)?;
     Ok(Cells {
         header,
+        room,
         store,
         out,
         offers,
         row,
         last,
+        packets: 0,
     })
 }

@@ -1,5 +1,4 @@
-use Rattle.std.proofs.Common.{List, length, refl, subst, sym, ap, ◌∙◌, arith}
-use Rattle.std.proofs.lemmas.List.{take_all}
+use Rattle.std.proofs.Common.{subst}
 use Rattle.trace_code.specs.Encoding.{end_mark}
 use Rattle.vidi_io.specs.Sink.{AppendsSome}
 use Rattle.vidi_recorder.proofs.Pushing.{err_any, on_err, some-back, some-front, told-whole, whole-front}

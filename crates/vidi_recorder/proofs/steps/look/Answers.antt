@@ -1,7 +1,5 @@
-use Rattle.std.proofs.Common.{◌<◌, ◌^◌, List, length, subst, sym}
-use Rattle.trace_model.specs.declared.channel.Channel.{Channel}
+use Rattle.std.proofs.Common.{subst}
 use Rattle.trace_model.specs.declared.row.Offers.{Offers}
-use Rattle.trace_model.specs.declared.row.Row.{Row}
 use Rattle.chan_monitor.specs.Shell.{IsShown}
 use Rattle.vidi_recorder.proofs.Looking.{drive-offers, drive-zeros, looked, offers-long}
 use Rattle.vidi_recorder.proofs.steps.look.Goals as goal
