@@ -7,14 +7,14 @@ use Rattle.vlog_scope.specs.Scope.{readable_at, scope_with, scope_of}
 use Rattle.vlog_meaning.specs.Names.{Full}
 use Rattle.vlog_meaning.specs.Placed.{placed_items}
 
--- in an instance of module m with scope s stands an instance i of the file's module `child`, whose scope is t: its parameters are made by
+-- in an instance of module m with scope s stands an instance i of the file's module n, whose scope is t: its parameters are made by
 -- what the connections of i read where it stands
-pub record IsChild (file : List (ModuleOf ℕ)) (m : ModuleOf ℕ) (s : Scope) (i : InstanceOf ℕ) (child : ModuleOf ℕ) (t : Scope) : Type 0 where
+pub record IsChild (file : List (ModuleOf ℕ)) (m : ModuleOf ℕ) (s : Scope) (i : InstanceOf ℕ) (n : ModuleOf ℕ) (t : Scope) : Type 0 where
   pub declared : ℕ
   pub stands : Contains (placed_items m s) (record { declared = declared; item = InstanceItem i })
-  pub in_file : Contains file child
-  pub named : child.name ≡ i.module_id.name
-  pub scope : t ≡ scope_of (readable_at s declared) i.parameters child
+  pub in_file : Contains file n
+  pub named : n.name ≡ i.module_id.name
+  pub scope : t ≡ scope_of (readable_at s declared) i.parameters n
 
 -- from an instance of module m with scope s this path leads to an instance of module n with scope t
 abbrev pub Leads : List (ModuleOf ℕ) → ModuleOf ℕ → Scope → Full → ModuleOf ℕ → Scope → Type 0
