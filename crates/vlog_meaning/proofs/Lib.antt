@@ -1,0 +1,5 @@
+pub mod InPlace
+pub mod SameValue
+pub mod SameUpdates
+pub mod SameHolds
+pub mod Shown
