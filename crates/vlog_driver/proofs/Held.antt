@@ -72,11 +72,11 @@ module _ (nets : Full → ℕ) (words : Full → ℕ → ℕ) where
       ↔ IsAssigned (names_at s k) (numbers_at nets words path s) target (names_at t j) (numbers_at nets words inner t) e
   assigned_there path inner s t k j p q v target e h g =
       let alike = assigned_alike p.names q.names (numbers_from p v) (numbers_at nets words path s) (numbers_from q v)
-        (numbers_at nets words inner t) target e h.numbers g.numbers in
+      (numbers_at nets words inner t) target e h.numbers g.numbers in
       subst (λ r. IsAssigned p.names (numbers_from p v) target q.names (numbers_from q v) e
-          ↔ IsAssigned r (numbers_at nets words path s) target (names_at t j) (numbers_at nets words inner t) e) h.names
+      ↔ IsAssigned r (numbers_at nets words path s) target (names_at t j) (numbers_at nets words inner t) e) h.names
       (subst (λ r. IsAssigned p.names (numbers_from p v) target q.names (numbers_from q v) e
-          ↔ IsAssigned p.names (numbers_at nets words path s) target r (numbers_at nets words inner t) e) g.names alike)
+      ↔ IsAssigned p.names (numbers_at nets words path s) target r (numbers_at nets words inner t) e) g.names alike)
 
   event_there : (path : Full) (s : Scope) (k : ℕ) (p : Spot) (v : Values) (a : AlwaysOf ℕ) (event : EventOf ℕ)
       → StandsAt nets words path s k p v
@@ -111,9 +111,10 @@ module _ (nets : Full → ℕ) (words : Full → ℕ → ℕ) where
   output_there path inner s t k j p q v line port (Some x) h g =
       let there = assigned_there path inner s t k j p q v x (read port) h g in
       let Holds : TargetOf ℕ → Type 0 = λ target. IsAssigned (names_at s k) (numbers_at nets words path s) target (names_at t j)
-        (numbers_at nets words inner t) (read port) in
-      ((λ (d : DutiesHold v (output_duties p q line port (Some x))) target e. subst Holds (some_same x target e) (there.0 d.0)),
-      (λ f. (there.1 (f x refl), tt)))
+      (numbers_at nets words inner t) (read port) in (
+        (λ (d : DutiesHold v (output_duties p q line port (Some x))) target e. subst Holds (some_same x target e) (there.0 d.0)),
+        (λ f. (there.1 (f x refl), tt)),
+      )
 
   join_there : (path inner : Full) (s t : Scope) (k j : ℕ) (p q : Spot) (v : Values) (output : Bool) (line : ℕ) (port : IdentOf ℕ)
       (o : Option (ExprOf ℕ)) → StandsAt nets words path s k p v → StandsAt nets words inner t j q v

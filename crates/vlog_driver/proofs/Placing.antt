@@ -91,8 +91,8 @@ module _ (net word : ℕ) where
       let w : Values = from_first net word v in
       let moved_set : List Act = map (moved_act net word) (Set old (Number x) ∷ []) in
       let same : run (Set new e ∷ []) v ≡ run moved_set v =
-        ap (λ ps. apply (target_updates ps (value e v) v ++ []) v) is
-        ∙ ap (λ y. apply (target_updates (map (moved_place net word) old) y v ++ []) v) number in
+      ap (λ ps. apply (target_updates ps (value e v) v ++ []) v) is
+      ∙ ap (λ y. apply (target_updates (map (moved_place net word) old) y v ++ []) v) number in
       let both = holds_moved (Set old (Number x) ∷ []) (f w x) v narrow (append-nil (target_updates old x w) ∙ h x w) in
       ((λ k. both.0 (sym same ∙ k)), (λ k. same ∙ both.1 k))
 

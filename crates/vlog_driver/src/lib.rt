@@ -10,8 +10,10 @@ mod block;
 mod laws;
 mod placed;
 mod site;
+mod whole;
 
 pub use assign::{add_assigns, assignment};
 pub use block::{add_always, clocked_block};
 pub use laws::drivers_are_items;
 pub use site::Site;
+pub use whole::{add_input, add_output, add_wire};
