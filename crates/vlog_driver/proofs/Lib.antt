@@ -1,0 +1,4 @@
+pub mod Placing
+pub mod Assigning
+pub mod More
+pub mod Held

@@ -1,0 +1,4 @@
+pub mod Spots
+pub mod Drivers
+pub mod Duties
+pub mod Held

@@ -1,0 +1,25 @@
+-- Where the code of an instance stands in the flat design.
+use Rattle.std.specs.Prelude.{ℕ}
+use Rattle.vlog_size.specs.Names.{Readable}
+use Rattle.net_design.specs.declared.values.Values.{Values}
+use Rattle.net_design.specs.Bits.{BitSet}
+use Rattle.net_code.specs.Moved.{from_first, moved_bits}
+use Rattle.vlog_block.specs.Sources.{names_of}
+use Rattle.vlog_driver.specs.declared.site.Site.{Site}
+
+-- what an instance's expressions read, and the places of its first net and its first memory word
+pub record Spot : Type 0 where
+  pub names : Readable
+  pub net : ℕ
+  pub word : ℕ
+
+abbrev pub spot_of : Site → Spot
+spot_of x = record { names = names_of x.scope.now; net = x.first_net; word = x.first_word }
+
+-- the numbers from an instance's first places on
+abbrev pub numbers_from : Spot → Values → Values
+numbers_from p v = from_first p.net p.word v
+
+-- bits of an instance's nets as bits of the flat design's
+abbrev pub bits_at : Spot → BitSet → BitSet
+bits_at p s m k = moved_bits p.net p.word s m k

@@ -1,0 +1,19 @@
+//! The drivers and the clocked blocks of the flat design that an instance's items make (IEEE 1364-2005, 6.1, 9.7.5, 9.9.2 and 12.3; this
+//! project's profile).
+//!
+//! `specs/Spots` says where the code of an instance stands, `specs/Drivers` what a driver has to say of its item, and `specs/Duties` which
+//! drivers an item makes, in text order.
+#![tactic(auto)]
+
+mod assign;
+mod block;
+mod laws;
+mod placed;
+mod site;
+mod whole;
+
+pub use assign::{add_assigns, assignment};
+pub use block::{add_always, clocked_block};
+pub use laws::drivers_are_items;
+pub use site::Site;
+pub use whole::{add_input, add_output, add_wire};
