@@ -19,7 +19,7 @@ use Rattle.net_design.specs.declared.values.Update.{Update}
 use Rattle.net_design.specs.declared.values.Values.{Values}
 use Rattle.net_design.specs.Updates.{apply, update, seen}
 use Rattle.net_design.proofs.UpdateLaws.{apply_both}
-use Rattle.net_flat.specs.Layout.{view, span, base, shown, state, Fits, IsReady, left}
+use Rattle.net_flat.specs.Layout.{view, span, base, shown, state, Fits, IsReady, left, Moves}
 use Rattle.net_flat.specs.Statements.{offset}
 use Rattle.net_flat.proofs.Views.{net_at, word_here, view_by}
 
@@ -90,22 +90,15 @@ seen_both Blocking us ws v = apply_both us ws v
 seen_both Nonblocking us ws v = refl
 
 module _ (widths : List ℕ) (W : ℕ) where
-  -- slots u have what updates make of the numbers and of the state in slots s
-  pub record Moves (t : Timing) (us : List Update) (s u : List ℕ) : Type 0 where
-    pub shows : shown widths W u ≡ seen t us (shown widths W s)
-    pub moves : state widths W u ≡ left t us (state widths W s)
-    pub long : length u ≡ length s
-    pub ready : IsReady widths W u
-
   -- free slots are the same
   abbrev pub Keeps : List ℕ → List ℕ → Type 0
   Keeps s u = (k : ℕ) → base widths W ≤ k → slice_index u k ≡ slice_index s k
 
-  pub moves_nothing : (t : Timing) (s : List ℕ) → IsReady widths W s → Moves t [] s s
+  pub moves_nothing : (t : Timing) (s : List ℕ) → IsReady widths W s → Moves widths W t [] s s
   moves_nothing Blocking s r = record { shows = refl; moves = refl; long = refl; ready = r }
   moves_nothing Nonblocking s r = record { shows = refl; moves = refl; long = refl; ready = r }
 
-  pub moves_then : (t : Timing) (us ws : List Update) (s u w : List ℕ) → Moves t us s u → Moves t ws u w → Moves t (us ++ ws) s w
+  pub moves_then : (t : Timing) (us ws : List Update) (s u w : List ℕ) → Moves widths W t us s u → Moves widths W t ws u w → Moves widths W t (us ++ ws) s w
   moves_then t us ws s u w a b =
       record {
         shows = b.shows ∙ ap (seen t ws) a.shows ∙ sym (seen_both t us ws (shown widths W s));
@@ -116,7 +109,7 @@ module _ (widths : List ℕ) (W : ℕ) where
 
   -- the same, from slots with the same numbers
   pub moves_from : (t : Timing) (us : List Update) (s u w : List ℕ) → shown widths W u ≡ shown widths W s
-      → state widths W u ≡ state widths W s → length u ≡ length s → Moves t us u w → Moves t us s w
+      → state widths W u ≡ state widths W s → length u ≡ length s → Moves widths W t us u w → Moves widths W t us s w
   moves_from t us s u w e f l m =
       record {
         shows = m.shows ∙ ap (seen t us) e;
@@ -152,7 +145,7 @@ module _ (widths : List ℕ) (W : ℕ) where
   -- bits of a net
   pub put_net : (t : Timing) (s : List ℕ) (to m low w x y : ℕ) → to ≡ offset widths W t + m → m < length widths
       → y ≡ put_of (slice_index s to) low w x → low + w ≤ slice_index widths m → IsReady widths W s
-      → Moves t (update (Net m) low w x ∷ []) s (slice_set s to y)
+      → Moves widths W t (update (Net m) low w x ∷ []) s (slice_set s to y)
   put_net Blocking s to m low w x y e l h c r =
       let n = length widths in
       let v = shown widths W s in
@@ -167,7 +160,9 @@ module _ (widths : List ℕ) (W : ℕ) where
       let fits : put_of (slice_index v.nets m) low w x < 2 ^ slice_index widths m =
       put_fits (slice_index v.nets m) low w x (slice_index widths m) (r.shown_fits m l) c in
       record {
-        shows = shows; moves = moves; long = length-set s to y;
+        shows = shows;
+        moves = moves;
+        long = length-set s to y;
         ready = ready_by s (slice_set s to y) (length-set s to y) r
             (subst (Fits widths W) (sym shows) (λ j i. fits_set v.nets m _ fits r.shown_fits j i))
             (subst (Fits widths W) (sym moves) r.state_fits);
@@ -185,7 +180,9 @@ module _ (widths : List ℕ) (W : ℕ) where
       let fits : put_of (slice_index v.nets m) low w x < 2 ^ slice_index widths m =
       put_fits (slice_index v.nets m) low w x (slice_index widths m) (r.state_fits m l) c in
       record {
-        shows = shows; moves = moves; long = length-set s to y;
+        shows = shows;
+        moves = moves;
+        long = length-set s to y;
         ready = ready_by s (slice_set s to y) (length-set s to y) r
             (subst (Fits widths W) (sym shows) r.shown_fits)
             (subst (Fits widths W) (sym moves) (λ j i. fits_set v.nets m _ fits r.state_fits j i));
@@ -194,7 +191,7 @@ module _ (widths : List ℕ) (W : ℕ) where
   -- bits of a word
   pub put_word : (t : Timing) (s : List ℕ) (to k low w x y : ℕ) → to ≡ offset widths W t + (length widths + k) → k < W
       → y ≡ put_of (slice_index s to) low w x → IsReady widths W s
-      → Moves t (update (Word k) low w x ∷ []) s (slice_set s to y)
+      → Moves widths W t (update (Word k) low w x ∷ []) s (slice_set s to y)
   put_word Blocking s to k low w x y e l h r =
       let n = length widths in
       let v = shown widths W s in
@@ -207,7 +204,9 @@ module _ (widths : List ℕ) (W : ℕ) where
       let moves : state widths W (slice_set s to y) ≡ state widths W s =
       ap (view n W) (drop-set-lt (span widths W) s to y (omega (arith, same, l))) in
       record {
-        shows = shows; moves = moves; long = length-set s to y;
+        shows = shows;
+        moves = moves;
+        long = length-set s to y;
         ready = ready_by s (slice_set s to y) (length-set s to y) r
             (subst (Fits widths W) (sym shows) (λ j i. r.shown_fits j i))
             (subst (Fits widths W) (sym moves) r.state_fits);
@@ -223,7 +222,9 @@ module _ (widths : List ℕ) (W : ℕ) where
       ∙ ap (λ z. record { nets = v.nets; words = slice_set v.words k z }) is in
       let shows : shown widths W (slice_set s to y) ≡ shown widths W s = view_past n W to y s (omega (arith, e)) in
       record {
-        shows = shows; moves = moves; long = length-set s to y;
+        shows = shows;
+        moves = moves;
+        long = length-set s to y;
         ready = ready_by s (slice_set s to y) (length-set s to y) r
             (subst (Fits widths W) (sym shows) r.shown_fits)
             (subst (Fits widths W) (sym moves) (λ j i. r.state_fits j i));

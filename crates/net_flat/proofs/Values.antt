@@ -141,7 +141,10 @@ gives_two : (t : ℕ) (code : List Instr) (k l x y : ℕ) (s : List ℕ) (last :
     → ((u : List ℕ) → number_of last u ≡ f (slice_index u k) (slice_index u l)) → LeavesTwo t code k l x y s → Gives t code last (f x y) s
 gives_two t code k l x y s last f h a =
     record {
-      after = a.after; runs = a.runs; keeps = a.keeps; long = a.long;
+      after = a.after;
+      runs = a.runs;
+      keeps = a.keeps;
+      long = a.long;
       gives = h a.after ∙ ap (λ m. f m (slice_index a.after l)) a.first ∙ ap (f x) a.second;
     }
 
@@ -171,7 +174,7 @@ module _ (widths : List ℕ) (W : ℕ) where
       → Gives t (below widths e t) (step widths e t) (value e (shown widths W s)) s
 
   -- the code below an operand is right, and so is the operand
-  operand : (e : Rhs) (t : ℕ) (s : List ℕ) → IsFlatRhs widths W e → IsRight e → base widths W ≤ t → AreBelow (length s) (code_of e t)
+  pub operand : (e : Rhs) (t : ℕ) (s : List ℕ) → IsFlatRhs widths W e → IsRight e → base widths W ≤ t → AreBelow (length s) (code_of e t)
       → IsReady widths W s → Leaves t (code_of e t) (slot widths e t) (value e (shown widths W s)) s
   operand (Number n) t s h f l i r = pushed t _ _ _ s i.0 (f t s l i.1 r)
   operand (Bits p) t s h f l i r =
@@ -212,7 +215,7 @@ module _ (widths : List ℕ) (W : ℕ) where
       let here = net_at (length widths) W p.net s l in
       let wide : p.width ≡ slice_index widths p.net = eqb-true _ _ parts.1 in
       let fits : slice_index (shown widths W s).nets p.net < 2 ^ p.width = subst (λ w. slice_index (shown widths W s).nets p.net < 2 ^ w) (sym wide)
-          (r.shown_fits p.net l) in
+      (r.shown_fits p.net l) in
       sym here ∙ sym (whole_part (slice_index (shown widths W s).nets p.net) p.low p.width (eqb-true _ _ parts.0) fits)
   whole_number false p s e l r = ap (λ x. part_of x p.low p.width) (sym (net_at (length widths) W p.net s l))
 
@@ -224,24 +227,30 @@ module _ (widths : List ℕ) (W : ℕ) where
       ap (λ j. if nat_lt j room.length then slice_index u (length widths + room.first + j) else 0) e
       ∙ word_or (nat_lt i room.length) (slice_index u (length widths + room.first + i)) (slice_index (shown widths W s).words (room.first + i))
       (λ b.
-          let l : i < room.length = ltb-true _ _ b in
-          let place : length widths + room.first + i ≡ length widths + (room.first + i) = omega arith in
-          ap (slice_index u) place
-          ∙ sym (word_here (length widths) W (room.first + i) u (omega (arith, l, h)))
-          ∙ ap (λ (v : Values). slice_index v.words (room.first + i)) same)
+      let l : i < room.length = ltb-true _ _ b in
+      let place : length widths + room.first + i ≡ length widths + (room.first + i) = omega arith in
+      ap (slice_index u) place
+      ∙ sym (word_here (length widths) W (room.first + i) u (omega (arith, l, h)))
+      ∙ ap (λ (v : Values). slice_index v.words (room.first + i)) same)
 
   gives_word : (room : Room) (t k i : ℕ) (code : List Instr) (s : List ℕ) → room.first + room.length ≤ W → base widths W ≤ t
       → Leaves t code k i s → Gives t code (S.Word (length widths + room.first) room.length k) (word_at room i (shown widths W s)) s
   gives_word room t k i code s h l a =
       record {
-        after = a.after; runs = a.runs; keeps = a.keeps; long = a.long;
+        after = a.after;
+        runs = a.runs;
+        keeps = a.keeps;
+        long = a.long;
         gives = word_number room k i s a.after h a.holds (same_shown widths W t s a.after (omega (arith, l)) a.keeps);
       }
 
   pub lowered : (e : Rhs) → IsFlatRhs widths W e → IsRight e
   lowered (Number n) h = λ t s l i r. record { after = s; runs = runs_nothing s; keeps = refl; long = refl; gives = refl }
   lowered (Bits p) h = λ t s l i r. record {
-    after = s; runs = runs_nothing s; keeps = refl; long = refl;
+    after = s;
+    runs = runs_nothing s;
+    keeps = refl;
+    long = refl;
     gives = whole_number (is_whole widths p) p s refl h.1.0 r;
   }
   lowered (Word' room p j) h = λ t s l i r.

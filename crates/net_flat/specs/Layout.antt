@@ -1,10 +1,10 @@
 -- Where the numbers of a design stand in the slots: its nets, then the words of its memories; and once more behind them.
-use Rattle.std.specs.Prelude.{ℕ, ◌+◌, ◌^◌, ◌<◌, ◌≤◌, List, length, take, drop, slice_index}
+use Rattle.std.specs.Prelude.{◌≡◌, ℕ, ◌+◌, ◌^◌, ◌<◌, ◌≤◌, List, length, take, drop, slice_index}
 use Rattle.net_design.specs.declared.act.Timing.{Timing}
 use Rattle.net_design.specs.declared.act.Timing.TheVariants.{Blocking, Nonblocking}
 use Rattle.net_design.specs.declared.values.Update.{Update}
 use Rattle.net_design.specs.declared.values.Values.{Values}
-use Rattle.net_design.specs.Updates.{apply}
+use Rattle.net_design.specs.Updates.{apply, seen}
 
 -- the numbers of n nets and W words
 abbrev pub view : ℕ → ℕ → List ℕ → Values
@@ -39,3 +39,11 @@ module _ (widths : List ℕ) (W : ℕ) where
 abbrev pub left : Timing → List Update → Values → Values
 left Blocking us v = v
 left Nonblocking us v = apply us v
+
+module _ (widths : List ℕ) (W : ℕ) where
+  -- slots u have what updates make of the numbers and of the state in slots s
+  pub record Moves (t : Timing) (us : List Update) (s u : List ℕ) : Type 0 where
+    pub shows : shown widths W u ≡ seen t us (shown widths W s)
+    pub moves : state widths W u ≡ left t us (state widths W s)
+    pub long : length u ≡ length s
+    pub ready : IsReady widths W u

@@ -91,3 +91,7 @@ IsBelow limit i = Unit {0}
 
 abbrev pub AreBelow : ℕ → List Instr → Type 0
 AreBelow limit code = AllByRecursion (IsBelow limit) code
+
+-- code that the machine can take
+abbrev pub AreSafe : List Instr → Type 0
+AreSafe code = AllByRecursion IsInstr code

@@ -44,7 +44,11 @@ pub fn slot(e: &Rhs, t: u32, widths: &[u32], words: u32) -> u32
     ensures { result ≡ slot widths.now e.now t }
 {
     match e {
-        Rhs::Bits(span) => if is_whole(*span, widths) { span.net as u32 } else { t },
+        Rhs::Bits(span) => if is_whole(*span, widths) {
+            span.net as u32
+        } else {
+            t
+        },
         _ => t,
     }
 }
@@ -71,7 +75,12 @@ fn binary_step(op: BinaryOp, left: u32, right: u32, width: u32) -> Step
         BinaryOp::Xor => Step::Xor { left, right },
         BinaryOp::Less => Step::Less { left, right },
         BinaryOp::Equal => Step::Equal { left, right },
-        _ => Step::Binary { op, left, right, width },
+        _ => Step::Binary {
+            op,
+            left,
+            right,
+            width,
+        },
     }
 }
 
@@ -82,9 +91,15 @@ fn span_step(span: Span, widths: &[u32]) -> Step
     ensures { result ≡ step widths.now (Rhs.Bits span) 0 }
 {
     if is_whole(span, widths) {
-        Step::Copy { from: span.net as u32 }
+        Step::Copy {
+            from: span.net as u32,
+        }
     } else {
-        Step::Slice { from: span.net as u32, low: span.low, width: span.width }
+        Step::Slice {
+            from: span.net as u32,
+            low: span.low,
+            width: span.width,
+        }
     }
 }
 
@@ -94,7 +109,11 @@ fn word_step(room: Room, word: u32, widths: &[u32], words: u32) -> Step
     requires few { length widths.now + words < 2 ^ 32 }
     ensures { result ≡ Step.Word (length widths.now + room.first) room.length word }
 {
-    Step::Word { first: widths.len() as u32 + room.first as u32, length: room.length as u32, word }
+    Step::Word {
+        first: widths.len() as u32 + room.first as u32,
+        length: room.length as u32,
+        word,
+    }
 }
 
 /// The step that gives an expression's number once the code below it has run.
@@ -108,16 +127,39 @@ pub fn step(e: &Rhs, t: u32, widths: &[u32], words: u32) -> Step
         Rhs::Number(number) => Step::Number { number: *number },
         Rhs::Bits(span) => span_step(*span, widths),
         Rhs::Word { room, at } => word_step(*room, slot(at, t, widths, words), widths, words),
-        Rhs::Unary { op, operand, width } => unary_step(*op, slot(operand, t, widths, words), *width),
-        Rhs::Binary { op, left, right, width } => {
-            binary_step(*op, slot(left, t, widths, words), slot(right, t + 1, widths, words), *width)
+        Rhs::Unary { op, operand, width } => unary_step(
+            *op,
+            slot(operand, t, widths, words),
+            *width,
+        ),
+        Rhs::Binary {
+            op,
+            left,
+            right,
+            width,
+        } => {
+            binary_step(
+                *op,
+                slot(left, t, widths, words),
+                slot(right, t + 1, widths, words),
+                *width,
+            )
         }
-        Rhs::Choose { condition, chosen, other } => Step::Choose {
+        Rhs::Choose {
+            condition,
+            chosen,
+            other,
+        } => Step::Choose {
             test: slot(condition, t, widths, words),
             chosen: slot(chosen, t + 1, widths, words),
             other: slot(other, t + 2, widths, words),
         },
-        Rhs::Join { high, low, high_width, low_width } => Step::Join {
+        Rhs::Join {
+            high,
+            low,
+            high_width,
+            low_width,
+        } => Step::Join {
             high: slot(high, t, widths, words),
             low: slot(low, t + 1, widths, words),
             high_width: *high_width,
@@ -152,7 +194,10 @@ pub fn take(
     if stands(e, widths, words) {
         return Ok(());
     }
-    code.push(Instr::Do { to: t, step: step(e, t, widths, words) })?;
+    code.push(Instr::Do {
+        to: t,
+        step: step(e, t, widths, words),
+    })?;
     Ok(())
 }
 
@@ -172,15 +217,25 @@ pub fn lower(
 {
     match e {
         Rhs::Number(_) | Rhs::Bits(_) => Ok(()),
-        Rhs::Word { at: operand, .. } | Rhs::Unary { operand, .. } | Rhs::Repeat { part: operand, .. } => {
+        Rhs::Word { at: operand, .. }
+        | Rhs::Unary { operand, .. }
+        | Rhs::Repeat { part: operand, .. } => {
             more_slots(t)?;
             take(code, operand, t, widths, words)?;
             lower(code, operand, t, widths, words)?;
             Ok(())
         }
         Rhs::Binary { left, right, .. }
-        | Rhs::Join { high: left, low: right, .. }
-        | Rhs::Select { vector: left, at: right, .. } => {
+        | Rhs::Join {
+            high: left,
+            low: right,
+            ..
+        }
+        | Rhs::Select {
+            vector: left,
+            at: right,
+            ..
+        } => {
             more_slots(t)?;
             take(code, right, t + 1, widths, words)?;
             lower(code, right, t + 1, widths, words)?;
@@ -188,7 +243,11 @@ pub fn lower(
             lower(code, left, t, widths, words)?;
             Ok(())
         }
-        Rhs::Choose { condition, chosen, other } => {
+        Rhs::Choose {
+            condition,
+            chosen,
+            other,
+        } => {
             more_slots(t)?;
             take(code, other, t + 2, widths, words)?;
             lower(code, other, t + 2, widths, words)?;

@@ -54,12 +54,34 @@ fn number(step: Step, slots: &[u128]) -> u128
         Step::Equal { left, right } => u128::from(at(slots, left) == at(slots, right)),
         Step::LogicalNot { from } => u128::from(at(slots, from) == 0),
         Step::Unary { op, from, width } => unary(op, at(slots, from), width),
-        Step::Binary { op, left, right, width } => binary(op, at(slots, left), at(slots, right), width),
-        Step::Choose { test, chosen, other } => at(slots, if at(slots, test) == 0 { other } else { chosen }),
-        Step::Join { high, low, high_width, low_width } => joined(at(slots, high), at(slots, low), high_width, low_width),
+        Step::Binary {
+            op,
+            left,
+            right,
+            width,
+        } => binary(op, at(slots, left), at(slots, right), width),
+        Step::Choose {
+            test,
+            chosen,
+            other,
+        } => at(slots, if at(slots, test) == 0 { other } else { chosen }),
+        Step::Join {
+            high,
+            low,
+            high_width,
+            low_width,
+        } => joined(at(slots, high), at(slots, low), high_width, low_width),
         Step::Repeat { count, part, width } => times(count, at(slots, part), width),
-        Step::Select { vector, at: place, width } => selected(at(slots, vector), at(slots, place), width),
-        Step::Word { first, length, word: place } => word(slots, first, length, at(slots, place)),
+        Step::Select {
+            vector,
+            at: place,
+            width,
+        } => selected(at(slots, vector), at(slots, place), width),
+        Step::Word {
+            first,
+            length,
+            word: place,
+        } => word(slots, first, length, at(slots, place)),
     }
 }
 
@@ -87,7 +109,15 @@ fn put_part(slots: &mut [u128], i: usize, low: u32, size: u32, at: u128, width: 
 }
 
 /// Bits of a word replaced, where the memory has it.
-fn put_word(slots: &mut [u128], first: u32, length: u32, word: u128, low: u32, width: u32, number: u128)
+fn put_word(
+    slots: &mut [u128],
+    first: u32,
+    length: u32,
+    word: u128,
+    low: u32,
+    width: u32,
+    number: u128,
+)
     requires { IsWidth width }
     ensures { slots.new ≡ (if nat_lt word length then put_at slots.old (first + word) low width number else slots.old) }
 {
@@ -97,13 +127,30 @@ fn put_word(slots: &mut [u128], first: u32, length: u32, word: u128, low: u32, w
 }
 
 /// Bits of a word from the place `at` on replaced, as far as they are there, where the memory has it.
-fn put_word_part(slots: &mut [u128], first: u32, length: u32, word: u128, size: u32, at: u128, width: u32, number: u128)
+fn put_word_part(
+    slots: &mut [u128],
+    first: u32,
+    length: u32,
+    word: u128,
+    size: u32,
+    at: u128,
+    width: u32,
+    number: u128,
+)
     requires size { size ≤ 128 }
     requires width { IsWidth width }
     ensures { slots.new ≡ (if nat_lt word length then put_from slots.old (first + word) 0 size at width number else slots.old) }
 {
     if word < u128::from(length) {
-        put_part(slots, first as usize + word as usize, 0, size, at, width, number);
+        put_part(
+            slots,
+            first as usize + word as usize,
+            0,
+            size,
+            at,
+            width,
+            number,
+        );
     }
 }
 
@@ -126,24 +173,55 @@ fn one(instr: Instr, slots: &mut [u128]) -> usize
             set(slots, to as usize, number);
             0
         }
-        Instr::Put { to, low, width, from, rest } => {
+        Instr::Put {
+            to,
+            low,
+            width,
+            from,
+            rest,
+        } => {
             let number = high_part(slots, from, rest);
             put_bits(slots, to as usize, low, width, number);
             0
         }
-        Instr::PutFrom { to, low, size, at: place, width, from, rest } => {
+        Instr::PutFrom {
+            to,
+            low,
+            size,
+            at: place,
+            width,
+            from,
+            rest,
+        } => {
             let number = high_part(slots, from, rest);
             let place = at(slots, place);
             put_part(slots, to as usize, low, size, place, width, number);
             0
         }
-        Instr::PutWord { first, length, word, low, width, from, rest } => {
+        Instr::PutWord {
+            first,
+            length,
+            word,
+            low,
+            width,
+            from,
+            rest,
+        } => {
             let number = high_part(slots, from, rest);
             let word = at(slots, word);
             put_word(slots, first, length, word, low, width, number);
             0
         }
-        Instr::PutWordFrom { first, length, word, size, at: place, width, from, rest } => {
+        Instr::PutWordFrom {
+            first,
+            length,
+            word,
+            size,
+            at: place,
+            width,
+            from,
+            rest,
+        } => {
             let number = high_part(slots, from, rest);
             let word = at(slots, word);
             let place = at(slots, place);
@@ -151,7 +229,11 @@ fn one(instr: Instr, slots: &mut [u128]) -> usize
             0
         }
         Instr::SkipIfZero { test, count } => {
-            if at(slots, test) == 0 { count as usize } else { 0 }
+            if at(slots, test) == 0 {
+                count as usize
+            } else {
+                0
+            }
         }
         Instr::Skip { count } => count as usize,
     }

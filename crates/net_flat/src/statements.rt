@@ -1,6 +1,8 @@
 //! The code of statements. It is pushed from its last instruction to its first, so that each choice knows how much to leave out.
 
 ghost use Rattle.std.specs.Prelude.{◌≡◌, ℕ, ◌+◌, ◌-◌, ◌*◌, ◌/◌, ◌^◌, ◌<◌, ◌≤◌, ◌++◌, ◌∷◌, [], ◌↔◌, ◌&&◌, not, ◌==◌, List, OnOk, IfOk, IsTrue, length, slice_index};
+ghost use Rattle.std.specs.Prelude.{if◌then◌else◌};
+ghost use Rattle.net_flat.specs.declared.instr.Step.{Step};
 ghost use Rattle.std.specs.List.{AllByRecursion};
 ghost use Rattle.net_design.specs.declared.act.Act.{Act};
 ghost use Rattle.net_design.specs.declared.act.Timing.{Timing};
@@ -49,9 +51,18 @@ fn within(e: &Rhs, w: u32) -> bool
         Rhs::Bits(span) => span.width <= w,
         Rhs::Word { .. } | Rhs::Repeat { .. } => false,
         Rhs::Unary { op, width, .. } => unary_within(*op, *width, w),
-        Rhs::Binary { op, left, right, width } => binary_within(*op, within(left, w), within(right, w), *width, w),
+        Rhs::Binary {
+            op,
+            left,
+            right,
+            width,
+        } => binary_within(*op, within(left, w), within(right, w), *width, w),
         Rhs::Choose { chosen, other, .. } => within(chosen, w) && within(other, w),
-        Rhs::Join { high_width, low_width, .. } => u64::from(*high_width) + u64::from(*low_width) <= u64::from(w),
+        Rhs::Join {
+            high_width,
+            low_width,
+            ..
+        } => u64::from(*high_width) + u64::from(*low_width) <= u64::from(w),
         Rhs::Select { width, .. } => *width <= w,
     }
 }
@@ -96,13 +107,22 @@ fn force(code: &mut Items<Instr>, e: &Rhs, t: u32, widths: &[u32], words: u32) -
     requires room { t + 2 < 2 ^ 32 }
     ensures { OnOk result (code.new ≡ code.old ++ forced widths.now words e.now t) }
 {
-    code.push(Instr::Do { to: t, step: step(e, t, widths, words) })?;
+    code.push(Instr::Do {
+        to: t,
+        step: step(e, t, widths, words),
+    })?;
     lower(code, e, t, widths, words)?;
     Ok(())
 }
 
 /// Pushes the code of a place's indexes.
-fn push_index(code: &mut Items<Instr>, place: &Place, t: u32, widths: &[u32], words: u32) -> Result<(), Memory>
+fn push_index(
+    code: &mut Items<Instr>,
+    place: &Place,
+    t: u32,
+    widths: &[u32],
+    words: u32,
+) -> Result<(), Memory>
     requires sized { IsFlatPlace widths.now words place.now }
     requires few { length widths.now + words < 2 ^ 32 }
     requires room { t + 8 < 2 ^ 32 }
@@ -123,7 +143,14 @@ fn push_index(code: &mut Items<Instr>, place: &Place, t: u32, widths: &[u32], wo
 }
 
 /// Pushes the code of the indexes of a target, which take the slots before `end`.
-fn push_indexes(code: &mut Items<Instr>, target: &[Place], t: u32, end: u32, widths: &[u32], words: u32) -> Result<(), Memory>
+fn push_indexes(
+    code: &mut Items<Instr>,
+    target: &[Place],
+    t: u32,
+    end: u32,
+    widths: &[u32],
+    words: u32,
+) -> Result<(), Memory>
     requires sized { AllByRecursion (λ p. IsFlatPlace widths.now words p) target.now }
     requires few { length widths.now + words < 2 ^ 32 }
     requires end { end ≡ t + all_slots target.now }
@@ -155,7 +182,10 @@ fn words_of(room: Room, offset: u32, widths: &[u32], words: u32) -> Words
     ensures first { result.first ≡ offset + length widths.now + room.first }
     ensures length { result.length ≡ room.length }
 {
-    Words { first: offset + widths.len() as u32 + room.first as u32, length: room.length as u32 }
+    Words {
+        first: offset + widths.len() as u32 + room.first as u32,
+        length: room.length as u32,
+    }
 }
 
 /// The instruction that puts bits of what is assigned into a net.
@@ -169,9 +199,22 @@ fn net_store(span: Span, rest: u32, offset: u32, widths: &[u32], words: u32) -> 
     let to = offset + span.net as u32;
     let from = base(widths, words);
     if is_whole(span, widths) {
-        return Instr::Do { to, step: Step::Slice { from, low: rest, width: span.width } };
+        return Instr::Do {
+            to,
+            step: Step::Slice {
+                from,
+                low: rest,
+                width: span.width,
+            },
+        };
     }
-    Instr::Put { to, low: span.low, width: span.width, from, rest }
+    Instr::Put {
+        to,
+        low: span.low,
+        width: span.width,
+        from,
+        rest,
+    }
 }
 
 /// Pushes the code that puts bits of what is assigned into a place, whose indexes stand from slot `t` on.
@@ -199,17 +242,52 @@ fn push_store(
         }
         Place::BitsFrom { whole, width, .. } => {
             let to = offset + whole.net as u32;
-            code.push(Instr::PutFrom { to, low: whole.low, size: whole.width, at: t, width: *width, from, rest })?;
+            code.push(Instr::PutFrom {
+                to,
+                low: whole.low,
+                size: whole.width,
+                at: t,
+                width: *width,
+                from,
+                rest,
+            })?;
         }
-        Place::Word { room, low, width, .. } => {
+        Place::Word {
+            room,
+            low,
+            width,
+            ..
+        } => {
             if *width > 0 {
                 let Words { first, length } = words_of(*room, offset, widths, words);
-                code.push(Instr::PutWord { first, length, word: t, low: *low, width: *width, from, rest })?;
+                code.push(Instr::PutWord {
+                    first,
+                    length,
+                    word: t,
+                    low: *low,
+                    width: *width,
+                    from,
+                    rest,
+                })?;
             }
         }
-        Place::WordFrom { room, size, width, .. } => {
+        Place::WordFrom {
+            room,
+            size,
+            width,
+            ..
+        } => {
             let Words { first, length } = words_of(*room, offset, widths, words);
-            code.push(Instr::PutWordFrom { first, length, word: t, size: *size, at: t + 1, width: *width, from, rest })?;
+            code.push(Instr::PutWordFrom {
+                first,
+                length,
+                word: t,
+                size: *size,
+                at: t + 1,
+                width: *width,
+                from,
+                rest,
+            })?;
         }
     }
     Ok(())
@@ -297,7 +375,10 @@ fn push_set(
     if let [Place::Bits { span, .. }] = target {
         if takes(*span, e, widths) {
             let t = base(widths, words);
-            code.push(Instr::Do { to: offset + span.net as u32, step: step(e, t, widths, words) })?;
+            code.push(Instr::Do {
+                to: offset + span.net as u32,
+                step: step(e, t, widths, words),
+            })?;
             lower(code, e, t, widths, words)?;
             return Ok(());
         }
@@ -336,7 +417,13 @@ fn push_end(code: &mut Items<Instr>, start: usize) -> Result<(), Memory>
 }
 
 /// Pushes the test of a guard, which leaves out its body where it is 0; the body is what was pushed since `start`.
-fn push_test(code: &mut Items<Instr>, condition: &Rhs, start: usize, widths: &[u32], words: u32) -> Result<(), Memory>
+fn push_test(
+    code: &mut Items<Instr>,
+    condition: &Rhs,
+    start: usize,
+    widths: &[u32],
+    words: u32,
+) -> Result<(), Memory>
     requires start { start ≤ length code.old }
     requires sized { IsFlatRhs widths.now words condition.now }
     requires few { length widths.now + words < 2 ^ 32 }
@@ -347,7 +434,10 @@ fn push_test(code: &mut Items<Instr>, condition: &Rhs, start: usize, widths: &[u
 {
     let count = count_of(code.len() - start)? + 1;
     let t = base(widths, words);
-    code.push(Instr::SkipIfZero { test: slot(condition, t, widths, words), count })?;
+    code.push(Instr::SkipIfZero {
+        test: slot(condition, t, widths, words),
+        count,
+    })?;
     take(code, condition, t, widths, words)?;
     lower(code, condition, t, widths, words)?;
     Ok(())
@@ -355,7 +445,13 @@ fn push_test(code: &mut Items<Instr>, condition: &Rhs, start: usize, widths: &[u
 
 /// Pushes the code of a statement. What it changes begins at slot `offset`.
 #[cycle(statement)]
-fn push_act(code: &mut Items<Instr>, act: &Act, offset: u32, widths: &[u32], words: u32) -> Result<(), Memory>
+fn push_act(
+    code: &mut Items<Instr>,
+    act: &Act,
+    offset: u32,
+    widths: &[u32],
+    words: u32,
+) -> Result<(), Memory>
     requires sized { IsFlatAct widths.now words act.now }
     requires few { offset + length widths.now + words < 2 ^ 32 }
     requires sizes { base widths.now words + 16 < 2 ^ 32 }
@@ -409,7 +505,13 @@ fn push_guards(
 
 /// Pushes the code of statements.
 #[cycle(statement)]
-pub fn push_acts(code: &mut Items<Instr>, acts: &Items<Act>, offset: u32, widths: &[u32], words: u32) -> Result<(), Memory>
+pub fn push_acts(
+    code: &mut Items<Instr>,
+    acts: &Items<Act>,
+    offset: u32,
+    widths: &[u32],
+    words: u32,
+) -> Result<(), Memory>
     requires sized { IsFlatBlock widths.now words acts.now }
     requires few { offset + length widths.now + words < 2 ^ 32 }
     requires sizes { base widths.now words + 16 < 2 ^ 32 }

@@ -16,3 +16,9 @@ invariant-push_acts-acts l = record {
   same : l.code ≡ l.initial.code ++ block_code l.widths l.words l.offset (drop l.i l.acts);
   inside : l.i ≤ length l.acts;
 }
+
+abbrev pub decreases-push_guards-guards : goal.decreases-push_guards-guards
+decreases-push_guards-guards l = l.i
+
+abbrev pub decreases-push_acts-acts : goal.decreases-push_acts-acts
+decreases-push_acts-acts l = l.i

@@ -7,5 +7,7 @@ invariant-places l = record {
   same : l.code ≡ l.initial.code ++ index_code l.widths l.words (drop l.i l.target) l.t;
   inside : l.i ≤ length l.target;
   slots : l.t + all_slots (drop l.i l.target) ≡ l.initial.t;
-  before : all_slots l.target ≤ l.t + all_slots (drop l.i l.target);
 }
+
+abbrev pub decreases-places : goal.decreases-places
+decreases-places l = l.i

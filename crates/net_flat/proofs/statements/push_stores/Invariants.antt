@@ -10,3 +10,6 @@ invariant-places l = record {
   slots : l.t + all_slots (drop l.i l.target) ≡ l.initial.t;
   rest : l.rest ≡ target_width (drop l.i l.target);
 }
+
+abbrev pub decreases-places : goal.decreases-places
+decreases-places l = l.i
