@@ -26,7 +26,8 @@ use Rattle.net_flat.specs.declared.instr.Instr.TheVariants.{Do, SkipIfZero, Skip
 use Rattle.net_flat.specs.Machine.{number_of, AreBelow}
 use Rattle.net_flat.specs.Layout.{span, base, shown, state, IsReady, Moves}
 use Rattle.net_flat.specs.Expressions.{is_whole, slot, step, below, IsThere, HasRoom, IsFlatRhs}
-use Rattle.net_flat.specs.Statements.{choice, within, offset, forced, index_code, stores, general_code, set_code, test_code, act_code, guard_row_code}
+use Rattle.net_flat.specs.Statements.{choice, within, offset, forced, index_code}
+use Rattle.net_flat.specs.Statements.{stores, general_code, set_code, test_code, act_code, guard_row_code}
 use Rattle.net_flat.specs.Statements.{act_row_code, block_code, IsFlatPlace, IsFlatAct, IsFlatBlock}
 use Rattle.net_flat.proofs.Running.{RunsTo, runs_nothing, runs_then, runs_do, runs_choice, first_below, last_below}
 use Rattle.net_flat.proofs.Views.{kept, kept_less, same_shown, same_state, same_ready}
@@ -55,7 +56,8 @@ module _ (widths : List ℕ) (W : ℕ) where
       }
 
   -- after code that changes free slots alone
-  does_after : (t : Timing) (a b : List Instr) (us : List Update) (s u : List ℕ) → RunsTo a s u → take (base widths W) u ≡ take (base widths W) s
+  does_after : (t : Timing) (a b : List Instr) (us : List Update) (s u : List ℕ) → RunsTo a s u
+      → take (base widths W) u ≡ take (base widths W) s
       → length u ≡ length s → Does t b us u → Does t (b ++ a) us s
   does_after t a b us s u f e long y =
       record {
@@ -67,7 +69,8 @@ module _ (widths : List ℕ) (W : ℕ) where
 
   general_right : (t : Timing) (target : List Place) (e : Rhs) (s : List ℕ) → AllByRecursion (IsFlatPlace widths W) target
       → IsFlatRhs widths W e → AreBelow (length s) (general_code widths W (offset widths W t) target e) → IsReady widths W s
-      → Does t (general_code widths W (offset widths W t) target e) (target_updates target (value e (shown widths W s)) (shown widths W s)) s
+      → Does t (general_code widths W (offset widths W t) target e) (target_updates target (value e (shown widths W s))
+      (shown widths W s)) s
   general_right t target e s h g i r =
       let b = base widths W in
       let x = value e (shown widths W s) in
@@ -76,7 +79,8 @@ module _ (widths : List ℕ) (W : ℕ) where
       let force = forced widths W e b in
       let rest = last_below (length s) put (find ++ force) i in
       let first = force_later widths W e b b s s g (omega arith) (omega arith) (last_below (length s) find force rest) r refl refl in
-      let found = find_places widths W target b (b + 1) s first.after h (omega arith) (omega arith) (first_below (length s) find force rest) r
+      let found = find_places widths W target b (b + 1) s first.after h (omega arith) (omega arith) (first_below
+      (length s) find force rest) r
       first.keeps first.long in
       let same = kept_less b (b + 1) first.after found.after (omega arith) found.keeps ∙ first.keeps in
       let long = found.long ∙ first.long in
@@ -129,7 +133,8 @@ module _ (widths : List ℕ) (W : ℕ) where
       })
 
   set_either : (t : Timing) (b : Bool) (xs ys : List Instr) (us : List Update) (s : List ℕ) → AreBelow (length s) (if b then xs else ys)
-      → (b ≡ true → AreBelow (length s) xs → Does t xs us s) → (AreBelow (length s) ys → Does t ys us s) → Does t (if b then xs else ys) us s
+      → (b ≡ true → AreBelow (length s) xs → Does t xs us s) → (AreBelow (length s) ys → Does t ys us s)
+      → Does t (if b then xs else ys) us s
   set_either t true xs ys us s i f g = f refl i
   set_either t false xs ys us s i f g = g i
 
@@ -183,12 +188,14 @@ module _ (widths : List ℕ) (W : ℕ) where
 
   choice_below : (limit c : ℕ) (xs ys : List Instr) → AreBelow limit (choice c xs ys) → AreBelow limit xs × AreBelow limit ys
   choice_below limit c xs ys i = (
-    first_below limit xs (SkipIfZero c (length xs + 1) ∷ []) (last_below limit ys (Skip (length ys) ∷ (xs ++ (SkipIfZero c (length xs + 1) ∷ []))) i).1,
+    first_below limit xs (SkipIfZero c (length xs + 1) ∷ []) (last_below limit ys (Skip (length ys) ∷ (xs ++ (SkipIfZero c
+        (length xs + 1) ∷ []))) i).1,
     first_below limit ys (Skip (length ys) ∷ (xs ++ (SkipIfZero c (length xs + 1) ∷ []))) i,
   )
 
   mutual
-    pub act_right : (t : Timing) (a : Act) (s : List ℕ) → IsFlatAct widths W a → AreBelow (length s) (act_code widths W (offset widths W t) a)
+    pub act_right : (t : Timing) (a : Act) (s : List ℕ) → IsFlatAct widths W a
+        → AreBelow (length s) (act_code widths W (offset widths W t) a)
         → IsReady widths W s → Does t (act_code widths W (offset widths W t) a) (updates t a (shown widths W s)) s
     act_right t (Set target e) s h i r = set_right t target e s h.1 h.2 i r
     act_right t (Read e) s h i r = does_nothing t s r
@@ -227,7 +234,8 @@ module _ (widths : List ℕ) (W : ℕ) where
         let early = act_code widths W o a in
         let x = act_right t a s h.0 (last_below (length s) late early i) r in
         let us = updates t a (shown widths W s) in
-        let y = row_right t rest x.after h.1 (subst (λ l. AreBelow l late) (sym x.moved.long) (first_below (length s) late early i)) x.moved.ready in
+        let y = row_right t rest x.after h.1 (subst (λ l. AreBelow l late) (sym x.moved.long) (first_below
+        (length s) late early i)) x.moved.ready in
         does_then t early late us (act_row t rest (seen t us (shown widths W s))) s x
         (subst (λ v. Does t late (act_row t rest v) x.after) x.moved.shows y)
 
@@ -241,6 +249,7 @@ module _ (widths : List ℕ) (W : ℕ) where
       let early = act_code widths W o a in
       let x = act_right t a s h.0 (last_below (length s) late early i) r in
       let us = updates t a (shown widths W s) in
-      let y = block_right t rest x.after h.1 (subst (λ l. AreBelow l late) (sym x.moved.long) (first_below (length s) late early i)) x.moved.ready in
+      let y = block_right t rest x.after h.1 (subst (λ l. AreBelow l late) (sym x.moved.long) (first_below
+      (length s) late early i)) x.moved.ready in
       does_then t early late us (block_updates t rest (seen t us (shown widths W s))) s x
       (subst (λ v. Does t late (block_updates t rest v) x.after) x.moved.shows y)

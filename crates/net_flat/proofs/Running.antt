@@ -44,7 +44,8 @@ choice_order c xs ys zs =
     reverse-append ys (b ++ (xs ++ a)) ∙ ap (λ l. l ++ reverse ys)
     (reverse-append b (xs ++ a) ∙ ap (λ l. l ++ b) (reverse-append xs a)) in
     ap (λ l. l ++ zs) e
-    ∙ ap (λ l. SkipIfZero c (length xs + 1) ∷ l) (append_assoc (reverse xs ++ b) (reverse ys) zs ∙ append_assoc (reverse xs) b (reverse ys ++ zs))
+    ∙ ap (λ l. SkipIfZero c (length xs + 1) ∷ l) (append_assoc (reverse xs ++ b) (reverse ys) zs
+    ∙ append_assoc (reverse xs) b (reverse ys ++ zs))
 
 first_at : (b : Bool) (m : ℕ) → b ≡ true → (if b then m else 0) ≡ m
 first_at b m h = ap (λ t. if t then m else 0) h
@@ -75,7 +76,8 @@ by_test false P f g = g refl
 pub runs_choice : (c : ℕ) (xs ys : List Instr) (s u : List ℕ) → ((slice_index s c == 0) ≡ true → RunsTo ys s u)
     → ((slice_index s c == 0) ≡ false → RunsTo xs s u) → RunsTo (choice c xs ys) s u
 runs_choice c xs ys s u f g =
-    by_test (slice_index s c == 0) (RunsTo (choice c xs ys) s u) (λ h. runs_other c xs ys s u h (f h)) (λ h. runs_chosen c xs ys s u h (g h))
+    by_test (slice_index s c == 0) (RunsTo (choice c xs ys) s u) (λ h. runs_other c xs ys s u h (f h))
+    (λ h. runs_chosen c xs ys s u h (g h))
 
 -- parts of code that lies below a slot
 pub first_below : (limit : ℕ) (xs ys : List Instr) → AreBelow limit (xs ++ ys) → AreBelow limit xs

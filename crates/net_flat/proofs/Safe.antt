@@ -23,7 +23,8 @@ use Rattle.net_flat.specs.declared.instr.Instr.TheVariants.{Do}
 use Rattle.net_flat.specs.Machine.{IsStep, IsInstr, AreSafe}
 use Rattle.net_flat.specs.Layout.{span, base}
 use Rattle.net_flat.specs.Expressions.{unary_step, binary_step, is_whole, stands, slot, step, taken, below, IsThere, HasRoom, IsFlatRhs}
-use Rattle.net_flat.specs.Statements.{choice, within, index_slots, forced, place_index, index_code, place_store, stores, general_code, set_code}
+use Rattle.net_flat.specs.Statements.{choice, within, index_slots, forced, place_index}
+use Rattle.net_flat.specs.Statements.{index_code, place_store, stores, general_code, set_code}
 use Rattle.net_flat.specs.Statements.{test_code, act_code, guard_row_code, act_row_code, block_code, IsFlatPlace, IsFlatAct, IsFlatBlock}
 
 pub safe_both : (xs ys : List Instr) → AreSafe xs → AreSafe ys → AreSafe (xs ++ ys)
@@ -98,15 +99,19 @@ module _ (widths : List ℕ) (W : ℕ) (narrow : (m : ℕ) → slice_index width
     below_safe (Word' r p i) t h = safe_both _ _ (taken_safe i t h.1) (below_safe i t h.1)
     below_safe (Unary' op p a w) t h = safe_both _ _ (taken_safe a t h.1) (below_safe a t h.1)
     below_safe (Binary' op p a q b w) t h =
-        safe_both _ _ (safe_both _ _ (taken_safe b (t + 1) h.2) (below_safe b (t + 1) h.2)) (safe_both _ _ (taken_safe a t h.1) (below_safe a t h.1))
+        safe_both _ _ (safe_both _ _ (taken_safe b (t + 1) h.2) (below_safe b (t + 1) h.2)) (safe_both _ _ (taken_safe a t h.1)
+        (below_safe a t h.1))
     below_safe (Choose' p c q a r b) t h =
         safe_both _ _ (safe_both _ _ (taken_safe b (t + 2) h.2) (below_safe b (t + 2) h.2))
-        (safe_both _ _ (safe_both _ _ (taken_safe a (t + 1) h.1) (below_safe a (t + 1) h.1)) (safe_both _ _ (taken_safe c t h.0) (below_safe c t h.0)))
+        (safe_both _ _ (safe_both _ _ (taken_safe a (t + 1) h.1) (below_safe a (t + 1) h.1)) (safe_both _ _ (taken_safe c t h.0)
+        (below_safe c t h.0)))
     below_safe (Join' p high q low x y) t h =
-        safe_both _ _ (safe_both _ _ (taken_safe low (t + 1) h.4) (below_safe low (t + 1) h.4)) (safe_both _ _ (taken_safe high t h.3) (below_safe high t h.3))
+        safe_both _ _ (safe_both _ _ (taken_safe low (t + 1) h.4) (below_safe low (t + 1) h.4)) (safe_both _ _
+        (taken_safe high t h.3) (below_safe high t h.3))
     below_safe (Repeat' n p a w) t h = safe_both _ _ (taken_safe a t h.3) (below_safe a t h.3)
     below_safe (Select' p a q i w) t h =
-        safe_both _ _ (safe_both _ _ (taken_safe i (t + 1) h.2) (below_safe i (t + 1) h.2)) (safe_both _ _ (taken_safe a t h.1) (below_safe a t h.1))
+        safe_both _ _ (safe_both _ _ (taken_safe i (t + 1) h.2) (below_safe i (t + 1) h.2)) (safe_both _ _ (taken_safe a t h.1)
+        (below_safe a t h.1))
 
   test_safe : (e : Rhs) (t : ℕ) → IsFlatRhs widths W e → AreSafe (taken widths e t ++ below widths e t)
   test_safe e t h = safe_both _ _ (taken_safe e t h) (below_safe e t h)
@@ -118,12 +123,14 @@ module _ (widths : List ℕ) (W : ℕ) (narrow : (m : ℕ) → slice_index width
   index_safe (PlaceBits s n) t h = tt
   index_safe (BitsFrom s i w) t h = forced_safe i t h.3
   index_safe (PlaceWord r i low w n) t h = forced_safe i t h.3
-  index_safe (WordFrom r i size j w) t h = safe_both (forced widths W j (t + 1)) (forced widths W i t) (forced_safe j (t + 1) h.4) (forced_safe i t h.3)
+  index_safe (WordFrom r i size j w) t h = safe_both (forced widths W j (t + 1)) (forced widths W i t) (forced_safe j
+      (t + 1) h.4) (forced_safe i t h.3)
 
   indexes_safe : (ps : List Place) (t : ℕ) → AllByRecursion (IsFlatPlace widths W) ps → AreSafe (index_code widths W ps t)
   indexes_safe [] t h = tt
   indexes_safe (p ∷ ps) t h =
-      safe_both (index_code widths W ps (t + index_slots p)) (place_index widths W p t) (indexes_safe ps (t + index_slots p) h.1) (index_safe p t h.0)
+      safe_both (index_code widths W ps (t + index_slots p)) (place_index widths W p t) (indexes_safe ps
+      (t + index_slots p) h.1) (index_safe p t h.0)
 
   store_safe : (o : ℕ) (p : Place) (t rest : ℕ) → IsFlatPlace widths W p → AreSafe (place_store widths W o p t rest)
   store_safe o (PlaceBits s n) t rest h =
@@ -168,14 +175,16 @@ module _ (widths : List ℕ) (W : ℕ) (narrow : (m : ℕ) → slice_index width
     act_safe o (Read e) h = tt
     act_safe o (Branch' n guards m otherwise) h = guards_safe o guards _ h.0 (row_safe o otherwise h.1)
 
-    guards_safe : {n : _} → (o : ℕ) (row : Row_of-Guard n) (ys : List Instr) → IsGuardRow (IsThere widths W) (HasRoom widths W) row → AreSafe ys
+    guards_safe : {n : _} → (o : ℕ) (row : Row_of-Guard n) (ys : List Instr)
+        → IsGuardRow (IsThere widths W) (HasRoom widths W) row → AreSafe ys
         → AreSafe (guard_row_code widths W o row ys)
     guards_safe o end_of-Guard ys h f = f
     guards_safe o (more_of-Guard c k body rest) ys h f =
         safe_both _ _ (choice_safe (slot widths c (base widths W)) (act_row_code widths W o body) (guard_row_code widths W o rest ys)
         (row_safe o body h.0.1) (guards_safe o rest ys h.1 f)) (test_safe c (base widths W) h.0.0)
 
-    row_safe : {n : _} → (o : ℕ) (row : Row_of-Act n) → IsActRow (IsThere widths W) (HasRoom widths W) row → AreSafe (act_row_code widths W o row)
+    row_safe : {n : _} → (o : ℕ) (row : Row_of-Act n) → IsActRow (IsThere widths W) (HasRoom widths W) row
+        → AreSafe (act_row_code widths W o row)
     row_safe o end_of-Act h = tt
     row_safe o (more_of-Act a rest) h = safe_both _ _ (row_safe o rest h.1) (act_safe o a h.0)
 

@@ -12,7 +12,8 @@ use Rattle.net_flat.specs.declared.instr.Instr.TheVariants.{SkipIfZero, Skip}
 use Rattle.net_flat.specs.Machine.{IsBelow, AreBelow}
 use Rattle.net_flat.specs.Layout.{base}
 use Rattle.net_flat.specs.Expressions.{slot}
-use Rattle.net_flat.specs.Statements.{choice, index_slots, all_slots, place_index, index_code, place_store, stores, test_code, block_code, guard_code}
+use Rattle.net_flat.specs.Statements.{choice, index_slots, all_slots, place_index, index_code}
+use Rattle.net_flat.specs.Statements.{place_store, stores, test_code, block_code, guard_code}
 
 pub before_here : {X : Type 0} (xs : List X) (i : ℕ) (x : X) → 0 < i → i ≤ length xs → x ≡ get_or xs (i - 1) x
     → drop (i - 1) xs ≡ x ∷ drop i xs
@@ -61,7 +62,8 @@ store_step widths W o ps i p t r rest code new first some l e is few h f g =
     let up : t ≡ t - r + index_slots p = omega (arith, is, few) in
     g ∙ ap (λ n. code ++ place_store widths W o p (t - r) n) h
     ∙ ap (λ c. c ++ place_store widths W o p (t - r) (target_width (drop i ps))) (f ∙ ap (λ k. first ++ stores widths W o (drop i ps) k) up)
-    ∙ append_assoc first (stores widths W o (drop i ps) (t - r + index_slots p)) (place_store widths W o p (t - r) (target_width (drop i ps)))
+    ∙ append_assoc first (stores widths W o (drop i ps) (t - r + index_slots p)) (place_store widths W o p (t - r) (target_width
+    (drop i ps)))
     ∙ ap (λ qs. first ++ stores widths W o qs (t - r)) (sym (before_here ps i p some l e))
 
 pub width_next : (ps : List Place) (i : ℕ) (p : Place) (rest w : ℕ) → 0 < i → i ≤ length ps → p ≡ get_or ps (i - 1) p
@@ -86,7 +88,8 @@ pub guard_step : (widths : List ℕ) (W o : ℕ) (gs : List Guard) (i : ℕ) (g 
     → i ≤ length gs → g ≡ get_or gs (i - 1) g
     → one ≡ front ++ (guard_code widths W o (drop i gs) ys ++ (Skip (length (guard_code widths W o (drop i gs) ys)) ∷ []))
     → two ≡ one ++ block_code widths W o g.body
-    → three ≡ one ++ (block_code widths W o g.body ++ (SkipIfZero (slot widths g.condition (base widths W)) (length (block_code widths W o g.body) + 1)
+    → three ≡ one ++ (block_code widths W o g.body ++ (SkipIfZero (slot widths g.condition (base widths W)) (length
+    (block_code widths W o g.body) + 1)
     ∷ test_code widths W g.condition))
     → three ≡ front ++ guard_code widths W o (drop (i - 1) gs) ys
 guard_step widths W o gs i g front ys one two three some l e f h k =

@@ -75,7 +75,8 @@ view_word : (n W k y : ℕ) (s : List ℕ) → k < W
 view_word n W k y s l =
     let words : drop n (take (n + W) (slice_set s (n + k) y)) ≡ slice_set (drop n (take (n + W) s)) k y =
     ap (drop n) (take-set-lt (n + W) s (n + k) y (omega (arith, l))) ∙ drop-set-add n (take (n + W) s) k y in
-    ap (λ (xs : List ℕ). record { nets = xs; words = drop n (take (n + W) (slice_set s (n + k) y)) }) (take-set-le n s (n + k) y (omega arith))
+    ap (λ (xs : List ℕ). record { nets = xs; words = drop n (take (n + W) (slice_set s (n + k) y)) }) (take-set-le n s (n + k) y
+    (omega arith))
     ∙ ap (λ (xs : List ℕ). record { nets = take n s; words = xs }) words
 
 view_past : (n W k y : ℕ) (s : List ℕ) → n + W ≤ k → view n W (slice_set s k y) ≡ view n W s
@@ -98,7 +99,8 @@ module _ (widths : List ℕ) (W : ℕ) where
   moves_nothing Blocking s r = record { shows = refl; moves = refl; long = refl; ready = r }
   moves_nothing Nonblocking s r = record { shows = refl; moves = refl; long = refl; ready = r }
 
-  pub moves_then : (t : Timing) (us ws : List Update) (s u w : List ℕ) → Moves widths W t us s u → Moves widths W t ws u w → Moves widths W t (us ++ ws) s w
+  pub moves_then : (t : Timing) (us ws : List Update) (s u w : List ℕ) → Moves widths W t us s u → Moves widths W t ws u w
+      → Moves widths W t (us ++ ws) s w
   moves_then t us ws s u w a b =
       record {
         shows = b.shows ∙ ap (seen t ws) a.shows ∙ sym (seen_both t us ws (shown widths W s));
@@ -152,7 +154,11 @@ module _ (widths : List ℕ) (W : ℕ) where
       let same : to ≡ m = omega (arith, e) in
       let is : y ≡ put_of (slice_index v.nets m) low w x = h ∙ ap (λ k. put_of (slice_index s k) low w x) same
       ∙ ap (λ z. put_of z low w x) (sym (net_at n W m s l)) in
-      let shows : shown widths W (slice_set s to y) ≡ record { nets = slice_set v.nets m (put_of (slice_index v.nets m) low w x); words = v.words } =
+      let shows : shown widths W (slice_set s to y) ≡ record {
+        nets = slice_set v.nets m (put_of
+            (slice_index v.nets m) low w x);
+        words = v.words;
+      } =
       ap (λ k. shown widths W (slice_set s k y)) same ∙ view_net n W m y s l
       ∙ ap (λ z. record { nets = slice_set v.nets m z; words = v.words }) is in
       let moves : state widths W (slice_set s to y) ≡ state widths W s =
@@ -173,7 +179,11 @@ module _ (widths : List ℕ) (W : ℕ) where
       let v = state widths W s in
       let is : y ≡ put_of (slice_index v.nets m) low w x = h ∙ ap (λ k. put_of (slice_index s k) low w x) e
       ∙ ap (λ z. put_of z low w x) (sym (net_at n W m (drop a s) l ∙ get_or-drop a s m 0)) in
-      let moves : state widths W (slice_set s to y) ≡ record { nets = slice_set v.nets m (put_of (slice_index v.nets m) low w x); words = v.words } =
+      let moves : state widths W (slice_set s to y) ≡ record {
+        nets = slice_set v.nets m (put_of
+            (slice_index v.nets m) low w x);
+        words = v.words;
+      } =
       ap (λ k. state widths W (slice_set s k y)) e ∙ ap (view n W) (drop-set-add a s m y) ∙ view_net n W m y (drop a s) l
       ∙ ap (λ z. record { nets = slice_set v.nets m z; words = v.words }) is in
       let shows : shown widths W (slice_set s to y) ≡ shown widths W s = view_past n W to y s (omega (arith, e)) in
@@ -198,7 +208,11 @@ module _ (widths : List ℕ) (W : ℕ) where
       let same : to ≡ n + k = omega (arith, e) in
       let is : y ≡ put_of (slice_index v.words k) low w x = h ∙ ap (λ j. put_of (slice_index s j) low w x) same
       ∙ ap (λ z. put_of z low w x) (sym (word_here n W k s l)) in
-      let shows : shown widths W (slice_set s to y) ≡ record { nets = v.nets; words = slice_set v.words k (put_of (slice_index v.words k) low w x) } =
+      let shows : shown widths W (slice_set s to y) ≡ record {
+        nets = v.nets;
+        words = slice_set v.words k (put_of
+            (slice_index v.words k) low w x);
+      } =
       ap (λ j. shown widths W (slice_set s j y)) same ∙ view_word n W k y s l
       ∙ ap (λ z. record { nets = v.nets; words = slice_set v.words k z }) is in
       let moves : state widths W (slice_set s to y) ≡ state widths W s =
@@ -217,7 +231,11 @@ module _ (widths : List ℕ) (W : ℕ) where
       let v = state widths W s in
       let is : y ≡ put_of (slice_index v.words k) low w x = h ∙ ap (λ j. put_of (slice_index s j) low w x) e
       ∙ ap (λ z. put_of z low w x) (sym (word_here n W k (drop a s) l ∙ get_or-drop a s (n + k) 0)) in
-      let moves : state widths W (slice_set s to y) ≡ record { nets = v.nets; words = slice_set v.words k (put_of (slice_index v.words k) low w x) } =
+      let moves : state widths W (slice_set s to y) ≡ record {
+        nets = v.nets;
+        words = slice_set v.words k (put_of
+            (slice_index v.words k) low w x);
+      } =
       ap (λ j. state widths W (slice_set s j y)) e ∙ ap (view n W) (drop-set-add a s (n + k) y) ∙ view_word n W k y (drop a s) l
       ∙ ap (λ z. record { nets = v.nets; words = slice_set v.words k z }) is in
       let shows : shown widths W (slice_set s to y) ≡ shown widths W s = view_past n W to y s (omega (arith, e)) in
@@ -237,5 +255,6 @@ module _ (widths : List ℕ) (W : ℕ) where
   pub net_keeps : (t : Timing) (s : List ℕ) (to m y : ℕ) → to ≡ offset widths W t + m → m < length widths → Keeps s (slice_set s to y)
   net_keeps t s to m y e l = λ k h. other_slot s to y k (let o = offset_below t in omega (arith, o, e, l)) h
 
-  pub word_keeps : (t : Timing) (s : List ℕ) (to k y : ℕ) → to ≡ offset widths W t + (length widths + k) → k < W → Keeps s (slice_set s to y)
+  pub word_keeps : (t : Timing) (s : List ℕ) (to k y : ℕ) → to ≡ offset widths W t + (length widths + k) → k < W
+      → Keeps s (slice_set s to y)
   word_keeps t s to k y e l = λ j h. other_slot s to y j (let o = offset_below t in omega (arith, o, e, l)) h

@@ -113,7 +113,8 @@ module _ (widths : List ℕ) (W : ℕ) where
 
   bits_place : (t : Timing) (p : Span) (rest : ℕ) (s : List ℕ) → p.net < length widths → p.low + p.width ≤ slice_index widths p.net
       → p.width ≤ 128 → IsReady widths W s
-      → Puts t (if p.width == 0 then [] else (if is_whole widths p then Do (offset widths W t + p.net) (S.Slice (base widths W) rest p.width)
+      → Puts t (if p.width == 0 then [] else (if is_whole widths p then Do (offset widths W t + p.net) (S.Slice
+      (base widths W) rest p.width)
       else Put (offset widths W t + p.net) p.low p.width (base widths W) rest) ∷ [])
       (bit_updates (Net p.net) p.low p.width (slice_index s (base widths W) / 2 ^ rest)) s
   bits_place t p rest s l c few r =
@@ -139,7 +140,8 @@ module _ (widths : List ℕ) (W : ℕ) where
       (keeps_if b s _ (λ h. net_keeps widths W t s to p.net _ refl l))
 
   word_place : (t : Timing) (room : Room) (at low w rest : ℕ) (s : List ℕ) → room.first + room.length ≤ W → IsReady widths W s
-      → Puts t (if w == 0 then [] else PutWord (offset widths W t + length widths + room.first) room.length at low w (base widths W) rest ∷ [])
+      → Puts t (if w == 0 then [] else PutWord (offset widths W t + length widths + room.first) room.length at low w
+      (base widths W) rest ∷ [])
       (word_updates room (slice_index s at) (λ target. bit_updates target low w (slice_index s (base widths W) / 2 ^ rest))) s
   word_place t room at low w rest s l r =
       let first = offset widths W t + length widths + room.first in
@@ -161,7 +163,8 @@ module _ (widths : List ℕ) (W : ℕ) where
 
   word_part : (t : Timing) (room : Room) (at size from w rest : ℕ) (s : List ℕ) → room.first + room.length ≤ W → IsReady widths W s
       → Puts t (PutWordFrom (offset widths W t + length widths + room.first) room.length at size from w (base widths W) rest ∷ [])
-      (word_updates room (slice_index s at) (λ target. part_updates target 0 size (slice_index s from) w (slice_index s (base widths W) / 2 ^ rest))) s
+      (word_updates room (slice_index s at) (λ target. part_updates target 0 size (slice_index s from) w (slice_index s
+      (base widths W) / 2 ^ rest))) s
   word_part t room at size from w rest s l r =
       let first = offset widths W t + length widths + room.first in
       let i = slice_index s at in
@@ -197,7 +200,8 @@ module _ (widths : List ℕ) (W : ℕ) where
   place_later (WordFrom room i size j width) t v u w f h =
       (f t (omega arith) (omega arith) ∙ h.0, f (t + 1) (omega arith) (omega arith) ∙ h.1)
 
-  holds_later : (ps : List Place) (t : ℕ) (v : Values) (u w : List ℕ) → base widths W ≤ t → Keeps widths W u w → Holds ps t v u → Holds ps t v w
+  holds_later : (ps : List Place) (t : ℕ) (v : Values) (u w : List ℕ) → base widths W ≤ t → Keeps widths W u w → Holds ps t v u
+      → Holds ps t v w
   holds_later [] t v u w l f h = tt
   holds_later (p ∷ ps) t v u w l f h = (
     place_later p t v u w (λ k i j. f k (omega (arith, l, i))) h.0,
@@ -208,7 +212,8 @@ module _ (widths : List ℕ) (W : ℕ) where
       → slice_index s (base widths W) ≡ x → IsReady widths W s
       → Puts t (place_store widths W (offset widths W t) p k rest) (place_updates p (x / 2 ^ rest) v) s
   put_place t (Bits p n) k rest x s v h is e r =
-      subst (λ y. Puts t (place_store widths W (offset widths W t) (Bits p n) k rest) (bit_updates (Net p.net) p.low p.width (y / 2 ^ rest)) s) e
+      subst (λ y. Puts t (place_store widths W (offset widths W t) (Bits p n) k rest) (bit_updates (Net p.net) p.low p.width
+      (y / 2 ^ rest)) s) e
       (bits_place t p rest s h.2.0 h.2.1 (let a = h.1 in let b = h.0.1 in omega (arith, a, b)) r)
   put_place t (BitsFrom p i w) k rest x s v h is e r =
       subst (λ y. Puts t (place_store widths W (offset widths W t) (BitsFrom p i w) k rest)

@@ -115,7 +115,15 @@ standing : (b : Bool) (t net x : ℕ) (cut : Step) (s : List ℕ)
     → AreBelow (length s) ((if b then [] else Do t (if b then S.Copy net else cut) ∷ []) ++ []) → net < t
     → Gives t [] (if b then S.Copy net else cut) x s
     → Leaves t ((if b then [] else Do t (if b then S.Copy net else cut) ∷ []) ++ []) (if b then net else t) x s
-standing true t net x cut s l h g = record { after = g.after; runs = g.runs; keeps = g.keeps; long = g.long; holds = g.gives; low = omega (arith, h) }
+standing true t net x cut s l h g = record {
+  after = g.after;
+  runs = g.runs;
+  keeps = g.keeps;
+  long = g.long;
+  holds = g.gives;
+  low
+      = omega (arith, h);
+}
 standing false t net x cut s l h g = pushed t [] cut x s l.0 g
 
 gives_one : (t : ℕ) (code : List Instr) (k x : ℕ) (s : List ℕ) (last : Step) (f : ℕ → ℕ)
@@ -179,7 +187,8 @@ module _ (widths : List ℕ) (W : ℕ) where
   operand (Number n) t s h f l i r = pushed t _ _ _ s i.0 (f t s l i.1 r)
   operand (Bits p) t s h f l i r =
       let there : p.net < length widths = h.1.0 in
-      standing (is_whole widths p) t p.net (read p (shown widths W s)) (S.Slice p.net p.low p.width) s i (omega (arith, there, l)) (f t s l tt r)
+      standing (is_whole widths p) t p.net (read p (shown widths W s)) (S.Slice p.net p.low p.width) s i (omega
+      (arith, there, l)) (f t s l tt r)
   operand (Word' q p j) t s h f l i r = pushed t _ _ _ s i.0 (f t s l i.1 r)
   operand (Unary' op p a w) t s h f l i r = pushed t _ _ _ s i.0 (f t s l i.1 r)
   operand (Binary' op p a q b w) t s h f l i r = pushed t _ _ _ s i.0 (f t s l i.1 r)
@@ -214,7 +223,8 @@ module _ (widths : List ℕ) (W : ℕ) where
       let parts = and_parts (p.low == 0) (p.width == slice_index widths p.net) (sym e) in
       let here = net_at (length widths) W p.net s l in
       let wide : p.width ≡ slice_index widths p.net = eqb-true _ _ parts.1 in
-      let fits : slice_index (shown widths W s).nets p.net < 2 ^ p.width = subst (λ w. slice_index (shown widths W s).nets p.net < 2 ^ w) (sym wide)
+      let fits : slice_index (shown widths W s).nets p.net < 2 ^ p.width = subst (λ w. slice_index
+      (shown widths W s).nets p.net < 2 ^ w) (sym wide)
       (r.shown_fits p.net l) in
       sym here ∙ sym (whole_part (slice_index (shown widths W s).nets p.net) p.low p.width (eqb-true _ _ parts.0) fits)
   whole_number false p s e l r = ap (λ x. part_of x p.low p.width) (sym (net_at (length widths) W p.net s l))
@@ -225,7 +235,8 @@ module _ (widths : List ℕ) (W : ℕ) where
       → number_of (S.Word (length widths + room.first) room.length k) u ≡ word_at room i (shown widths W s)
   word_number room k i s u h e same =
       ap (λ j. if nat_lt j room.length then slice_index u (length widths + room.first + j) else 0) e
-      ∙ word_or (nat_lt i room.length) (slice_index u (length widths + room.first + i)) (slice_index (shown widths W s).words (room.first + i))
+      ∙ word_or (nat_lt i room.length) (slice_index u (length widths + room.first + i)) (slice_index (shown widths W s).words
+      (room.first + i))
       (λ b.
       let l : i < room.length = ltb-true _ _ b in
       let place : length widths + room.first + i ≡ length widths + (room.first + i) = omega arith in

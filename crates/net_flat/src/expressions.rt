@@ -1,7 +1,8 @@
 //! The code of expressions. It is pushed from its last instruction to its first.
 
 ghost use Rattle.std.specs.Prelude.{◌≡◌, ◌+◌, ◌*◌, ◌^◌, ◌<◌, ◌≤◌, ◌++◌, OnOk, IsTrue, length, slice_index};
-ghost use Rattle.net_flat.specs.Expressions.{unary_step, binary_step, is_whole, stands, slot, step, taken, below, IsFlatRhs, IsThere, HasRoom};
+ghost use Rattle.net_flat.specs.Expressions.{unary_step, binary_step, is_whole, stands, slot};
+ghost use Rattle.net_flat.specs.Expressions.{step, taken, below, IsFlatRhs, IsThere, HasRoom};
 
 use crate::instr::{Instr, Step};
 use net_design::{Rhs, Room, Span};

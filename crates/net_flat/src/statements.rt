@@ -1,6 +1,7 @@
 //! The code of statements. It is pushed from its last instruction to its first, so that each choice knows how much to leave out.
 
-ghost use Rattle.std.specs.Prelude.{◌≡◌, ℕ, ◌+◌, ◌-◌, ◌*◌, ◌/◌, ◌^◌, ◌<◌, ◌≤◌, ◌++◌, ◌∷◌, [], ◌↔◌, ◌&&◌, not, ◌==◌, List, OnOk, IfOk, IsTrue, length, slice_index};
+ghost use Rattle.std.specs.Prelude.{◌≡◌, ℕ, ◌+◌, ◌-◌, ◌*◌, ◌/◌, ◌^◌, ◌<◌, ◌≤◌, ◌++◌, ◌∷◌};
+ghost use Rattle.std.specs.Prelude.{[], ◌↔◌, ◌&&◌, not, ◌==◌, List, OnOk, IfOk, IsTrue, length, slice_index};
 ghost use Rattle.std.specs.Prelude.{if◌then◌else◌};
 ghost use Rattle.net_flat.specs.declared.instr.Step.{Step};
 ghost use Rattle.std.specs.List.{AllByRecursion};
@@ -10,7 +11,8 @@ ghost use Rattle.net_design.specs.Updates.{target_width};
 ghost use Rattle.net_flat.specs.declared.instr.Instr.{Instr};
 ghost use Rattle.net_flat.specs.Expressions.{is_whole, slot, step, taken, below, IsFlatRhs};
 ghost use Rattle.net_flat.specs.Layout.{span, base};
-ghost use Rattle.net_flat.specs.Statements.{choice, unary_within, binary_within, within, index_slots, all_slots, offset, forced, place_index, index_code};
+ghost use Rattle.net_flat.specs.Statements.{choice, unary_within, binary_within, within, index_slots};
+ghost use Rattle.net_flat.specs.Statements.{all_slots, offset, forced, place_index, index_code};
 ghost use Rattle.net_flat.specs.Statements.{place_store, stores, general_code, set_code, test_code, act_code, block_code, guard_code};
 ghost use Rattle.net_flat.specs.Statements.{IsFlatPlace, IsFlatAct, IsFlatBlock, AreFlatGuards};
 

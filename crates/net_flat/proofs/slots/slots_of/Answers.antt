@@ -9,6 +9,7 @@ loop-instr-preserved c =
     record {
       below = λ limit h rest.
           l.invariant.below limit (omega (arith, h, most))
-          (below_here limit c.args.code.now l.instr-index _ c.loop-instr-test.true (c.slots_for.ensures limit (omega (arith, h, most))) rest);
+          (below_here limit c.args.code.now l.instr-index _ c.loop-instr-test.true (c.slots_for.ensures limit (omega
+          (arith, h, most))) rest);
       least = let h = l.invariant.least in omega (arith, h, most);
     }
