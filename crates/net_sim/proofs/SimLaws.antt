@@ -1,6 +1,7 @@
 -- What a simulator keeps.
 use Rattle.std.proofs.Common.{Bool, true, false, IsTrue, if◌then◌else◌, refl}
-use Rattle.std.proofs.Common.{◌≡◌, ℕ, ◌+◌, ◌<◌, ◌≤◌, ◌++◌, List, [], All, length, take, drop, reverse, slice_index, ap, sym, subst, ◌∙◌, arith}
+use Rattle.std.proofs.Common.{◌≡◌, ℕ, ◌+◌, ◌<◌, ◌≤◌, ◌++◌, List, [], All}
+use Rattle.std.proofs.Common.{length, take, drop, reverse, slice_index, ap, sym, subst, ◌∙◌, arith}
 use Rattle.std.proofs.Math.Logic.{∥∥₁_elim}
 use Rattle.std.proofs.Props.{props}
 use Rattle.net_design.specs.declared.act.Timing.TheVariants.{Nonblocking}
@@ -147,7 +148,8 @@ module _ (d : Design) (law : ∥ IsLawful d ∥₁) (order slots pins : List ℕ
       subst (Settles d order slots pins) (sym e) (record { shows = h refl; moves = refl; long = refl; ready = ready })
   again false new h e = subst (Settles d order slots pins) (sym e) (known_settles d law order slots pins ready state fit below)
 
-pub same_again : (d : Design) (order slots pins new : List ℕ) (fresh : Bool) (code : List Instr) (ports : List Port) (given : List ℕ) (span : ℕ)
+pub same_again : (d : Design) (order slots pins new : List ℕ) (fresh : Bool) (code : List Instr) (ports : List Port)
+    (given : List ℕ) (span : ℕ)
     → code ≡ reverse (settling_code d order) → ports ≡ d.ports → given ≡ pins → span ≡ span_of d
     → new ≡ (if fresh then slots else exec code 0 (entered ports given (copied span slots)))
     → new ≡ (if fresh then slots else exec (reverse (settling_code d order)) 0 (entered d.ports pins (copied (span_of d) slots)))

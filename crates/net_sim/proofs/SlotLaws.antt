@@ -1,5 +1,6 @@
 -- What a simulator's code does in its slots.
-use Rattle.std.proofs.Common.{◌≡◌, ℕ, zero, suc, ◌+◌, ◌^◌, ◌<◌, ◌≤◌, IsTrue, if◌then◌else◌, List, [], ◌∷◌, ◌++◌, All, map, length, length-append}
+use Rattle.std.proofs.Common.{◌≡◌, ℕ, zero, suc, ◌+◌, ◌^◌, ◌<◌, ◌≤◌, IsTrue}
+use Rattle.std.proofs.Common.{if◌then◌else◌, List, [], ◌∷◌, ◌++◌, All, map, length, length-append}
 use Rattle.std.proofs.Common.{get_or, take, drop, reverse, slice_index, refl, ap, sym, subst, ◌∙◌, arith}
 use Rattle.std.specs.List.{AllByRecursion, flat_map}
 use Rattle.std.proofs.Math.Seq.{drop-append_seam}
@@ -35,7 +36,8 @@ use Rattle.net_flat.proofs.Whole.{whole}
 use Rattle.net_sim.specs.Slots.{widths_of, span_of, shown_in, state_in, drivers_code, blocks_code, settling_code, clocking_code, copied}
 
 -- ---- code of lawful designs
-acts_flat : (widths : List ℕ) (W : ℕ) (xs : List Driver) → ((k : ℕ) (x : Driver) → k < length xs → IsFlatBlock widths W (get_or xs k x).code.acts)
+acts_flat : (widths : List ℕ) (W : ℕ) (xs : List Driver) → ((k : ℕ) (x : Driver) → k < length xs
+    → IsFlatBlock widths W (get_or xs k x).code.acts)
     → (i : ℕ) → IsFlatBlock widths W (acts_of xs i)
 acts_flat widths W [] f i = tt
 acts_flat widths W (x ∷ xs) f zero = f zero x (omega arith)
@@ -47,7 +49,8 @@ module _ (d : Design) (law : IsLawful d) where
 
   pub flat_block : (acts : List Act) → IsInRange d acts → IsFlatBlock (widths_of d) (word_count d) acts
   flat_block acts h =
-      block_more (λ s. IsTrue (is_span d s)) (IsThere (widths_of d) (word_count d)) (λ r n. IsTrue (is_room d r n)) (HasRoom (widths_of d) (word_count d))
+      block_more (λ s. IsTrue (is_span d s)) (IsThere (widths_of d) (word_count d)) (λ r n. IsTrue (is_room d r n)) (HasRoom
+      (widths_of d) (word_count d))
       (λ s x. let w = span_within d law s x in (subst (λ k. s.net < k) (sym (length-map d.nets (λ (n : Net). n.width))) w.0, w.1))
       (λ r n x. room_within d law r n x)
       acts h
@@ -71,7 +74,8 @@ blocks_safe : (widths : List ℕ) (W : ℕ) → ((m : ℕ) → slice_index width
 blocks_safe widths W narrow [] h = tt
 blocks_safe widths W narrow (c ∷ cs) h =
     safe_both (blocks_code widths W cs) (block_code widths W (span widths W) c.acts)
-    (blocks_safe widths W narrow cs (λ k x l. h (suc k) x (omega arith))) (block_safe widths W narrow (span widths W) c.acts (h zero c (omega arith)))
+    (blocks_safe widths W narrow cs (λ k x l. h (suc k) x (omega arith))) (block_safe widths W narrow (span widths W) c.acts
+    (h zero c (omega arith)))
 
 -- ---- what code does
 -- the code makes the shown numbers v, and keeps the state
@@ -180,7 +184,8 @@ module _ (d : Design) (law : IsLawful d) (order : List ℕ) where
   narrow m = net_width_le d law m
 
   all_flat : (i : ℕ) → IsFlatBlock (widths_of d) (word_count d) (acts_of d.drivers i)
-  all_flat i = acts_flat (widths_of d) (word_count d) d.drivers (λ k x l. flat_block d law (get_or d.drivers k x).code.acts (law.drivers k x l).code.acts) i
+  all_flat i = acts_flat (widths_of d) (word_count d) d.drivers (λ k x l. flat_block d law (get_or d.drivers k x).code.acts
+      (law.drivers k x l).code.acts) i
 
   pub settling_safe : AreSafe (settling_code d order)
   settling_safe = drivers_safe (widths_of d) (word_count d) narrow d.drivers order all_flat
@@ -223,7 +228,8 @@ module _ (d : Design) (law : IsLawful d) (order : List ℕ) where
         shown_fits = λ m l. subst (λ (v : Values). slice_index v.nets m < 2 ^ slice_index (widths_of d) m) (sym shows) (fits.each m);
         state_fits = λ m l. subst (λ (v : Values). slice_index v.nets m < 2 ^ slice_index (widths_of d) m) (sym moves) (r.state_fits m l);
       } in
-      let x = drivers_run (widths_of d) (word_count d) d.drivers all_flat order u (subst (λ l. AreBelow l (settling_code d order)) (sym long) i) ready in
+      let x = drivers_run (widths_of d) (word_count d) d.drivers all_flat order u (subst (λ l. AreBelow l
+      (settling_code d order)) (sym long) i) ready in
       let same = whole (settling_code d order) u x.after x.runs in
       subst (λ w. Settles d order s pins w) (sym same) (record {
         shows = x.shows ∙ ap (run_all d.drivers order) shows;

@@ -22,7 +22,8 @@ pub driver_step : (widths : List ℕ) (W : ℕ) (drivers : List Driver) (order :
 driver_step widths W drivers order i n x code new first some l e inside is f g =
     g ∙ ap (λ c. c ++ block_code widths W 0 x.code.acts) f
     ∙ append_assoc first (drivers_code widths W drivers (drop i order)) (block_code widths W 0 x.code.acts)
-    ∙ ap (λ acts. first ++ (drivers_code widths W drivers (drop i order) ++ block_code widths W 0 acts)) (sym (acts_at drivers n x inside is))
+    ∙ ap (λ acts. first ++ (drivers_code widths W drivers (drop i order) ++ block_code widths W 0 acts)) (sym
+    (acts_at drivers n x inside is))
     ∙ ap (λ ns. first ++ drivers_code widths W drivers ns) (sym (before_here order i n some l e))
 
 pub block_step : (widths : List ℕ) (W : ℕ) (blocks : List Code) (i : ℕ) (c : Code) (code new first : List Instr)

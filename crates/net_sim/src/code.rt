@@ -25,7 +25,13 @@ pub fn widths_of(alloc: Global, nets: &[Net]) -> Result<Items<u32>, Memory>
 }
 
 /// Pushes the code of drivers in an order.
-pub fn push_drivers(code: &mut Items<Instr>, drivers: &[Driver], order: &[u128], widths: &[u32], words: u32) -> Result<(), Memory>
+pub fn push_drivers(
+    code: &mut Items<Instr>,
+    drivers: &[Driver],
+    order: &[u128],
+    widths: &[u32],
+    words: u32,
+) -> Result<(), Memory>
     requires sized { All (λ x. IsFlatBlock widths.now words x.code.acts) drivers.now }
     requires order { All (λ i. i < length drivers.now) order.now }
     requires few { base widths.now words + 16 < 2 ^ 32 }
@@ -41,7 +47,13 @@ pub fn push_drivers(code: &mut Items<Instr>, drivers: &[Driver], order: &[u128],
 }
 
 /// Pushes the code of clocked blocks, which write the numbers behind the first `span`.
-pub fn push_blocks(code: &mut Items<Instr>, blocks: &[Code], span: u32, widths: &[u32], words: u32) -> Result<(), Memory>
+pub fn push_blocks(
+    code: &mut Items<Instr>,
+    blocks: &[Code],
+    span: u32,
+    widths: &[u32],
+    words: u32,
+) -> Result<(), Memory>
     requires sized { All (λ c. IsFlatBlock widths.now words c.acts) blocks.now }
     requires span { span ≡ length widths.now + words }
     requires few { base widths.now words + 16 < 2 ^ 32 }
@@ -56,7 +68,13 @@ pub fn push_blocks(code: &mut Items<Instr>, blocks: &[Code], span: u32, widths: 
 }
 
 /// The code of a design's drivers in an order.
-pub fn settling_of(alloc: Global, design: &Design, order: &[u128], widths: &[u32], words: u32) -> Result<Items<Instr>, Memory>
+pub fn settling_of(
+    alloc: Global,
+    design: &Design,
+    order: &[u128],
+    widths: &[u32],
+    words: u32,
+) -> Result<Items<Instr>, Memory>
     requires sized { All (λ x. IsFlatBlock widths.now words x.code.acts) design.now.drivers }
     requires order { All (λ i. i < length design.now.drivers) order.now }
     requires few { base widths.now words + 16 < 2 ^ 32 }
@@ -68,7 +86,12 @@ pub fn settling_of(alloc: Global, design: &Design, order: &[u128], widths: &[u32
 }
 
 /// The code of a design's clocked blocks.
-pub fn clocking_of(alloc: Global, design: &Design, widths: &[u32], words: u32) -> Result<Items<Instr>, Memory>
+pub fn clocking_of(
+    alloc: Global,
+    design: &Design,
+    widths: &[u32],
+    words: u32,
+) -> Result<Items<Instr>, Memory>
     requires sized { All (λ c. IsFlatBlock widths.now words c.acts) design.now.blocks }
     requires few { base widths.now words + 16 < 2 ^ 32 }
     ensures { IfOk result (λ code. code ≡ blocks_code widths.now words design.now.blocks) }

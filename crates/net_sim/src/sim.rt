@@ -93,7 +93,7 @@ impl Sim {
     pub fn net(&self, name: &[u8]) -> Option<u128>
         ensures { MatchOption result ((m : ℕ) → IsCalled self.now.design.instances self.now.design.nets name.now m → ⊥)
             (λ x. (m : ℕ) × IsCalled self.now.design.instances self.now.design.nets name.now m
-                × (x ≡ slice_index (shown_in self.now.design self.now.slots).nets m)) }
+            × (x ≡ slice_index (shown_in self.now.design self.now.slots).nets m)) }
     {
         let design = &self.design;
         match net_called(design.instances.as_slice(), design.nets.as_slice(), name) {

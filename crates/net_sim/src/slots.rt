@@ -55,7 +55,12 @@ pub fn run_slots(code: &[Instr], slots: &mut Numbers)
 }
 
 /// `count` slots, in which the state is `first` and all else is 0.
-pub fn first_slots(alloc: Global, count: usize, span: usize, first: &[u128]) -> Result<Numbers, Memory>
+pub fn first_slots(
+    alloc: Global,
+    count: usize,
+    span: usize,
+    first: &[u128],
+) -> Result<Numbers, Memory>
     requires long { span + span ≤ count }
     requires first { length first.now ≡ span }
     ensures state { IfOk result (λ slots. take span (drop span slots) ≡ first.now) }
@@ -87,7 +92,14 @@ pub fn settle_slots(code: &[Instr], ports: &[Port], pins: &[u128], span: usize, 
 }
 
 /// The same, unless that was done.
-pub fn settle_again(fresh: bool, code: &[Instr], ports: &[Port], pins: &[u128], span: usize, slots: &mut Numbers)
+pub fn settle_again(
+    fresh: bool,
+    code: &[Instr],
+    ports: &[Port],
+    pins: &[u128],
+    span: usize,
+    slots: &mut Numbers,
+)
     requires safe { All (λ i. IsInstr i) code.now }
     requires long { span + span ≤ length slots.old }
     ensures { slots.new ≡ (if fresh then slots.old else exec code.now 0 (entered ports.now pins.now (copied span slots.old))) }

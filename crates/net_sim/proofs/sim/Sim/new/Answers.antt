@@ -35,7 +35,19 @@ invariant_of-result c =
       first_is = c.in_ok-first.ensures;
       is_state = loaded_state d ∣ law ∣₁ new state;
       are_pins = zeros_fit d c.in_ok-pins.pins (c.in_ok-pins.ensures
-          ∙ ap (λ n. replicate n 0) (ap (λ (ports : List Port). length (port_places Input 0 ports)) c.as_slice-3.ensures ∙ inputs_counted d));
+          ∙ ap (λ n. replicate n 0) (ap (λ (ports : List Port). length (port_places Input 0 ports)) c.as_slice-3.ensures
+          ∙ inputs_counted d));
       are_outputs = c.in_ok-outputs.ensures ∙ ap (λ (ports : List Port). port_places Output 0 ports) c.as_slice-4.ensures;
       settled = λ t. absurd cc;
     }
+
+pub first_slots-requires-clause-first : goal.first_slots-requires-clause-first
+first_slots-requires-clause-first c =
+    ap length (c.as_slice-2.ensures ∙ c.in_ok-first.ensures) ∙ first_long c.args.design ∣ c.requires.lawful ∣₁
+    ∙ sym c.in_ok-codes.ensures.span
+
+pub returns-clause-state : goal.returns-clause-state
+returns-clause-state c =
+    let d = c.args.design in
+    loaded d ∣ c.requires.lawful ∣₁ c.in_ok-slots.slots c.as_slice-2.result.now (c.as_slice-2.ensures ∙ c.in_ok-first.ensures)
+    (subst (λ k. take k (drop k c.in_ok-slots.slots) ≡ c.as_slice-2.result.now) c.in_ok-codes.ensures.span c.in_ok-slots.ensures.state)
