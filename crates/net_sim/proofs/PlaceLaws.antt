@@ -110,3 +110,18 @@ zeros_fit d pins e =
           (λ i m. limits_some d.clock 0 d.ports i (subst (λ k. i < k) (limits_long d.clock 0 d.ports) m)) j inside in
           subst (λ x. x < slice_index (input_limits d) j) (sym zero_there) some;
     }
+
+-- ---- places are those of ports
+below_step : (b : Bool) (j k n : ℕ) (ps : List ℕ) → ((i : ℕ) → i < length ps → slice_index ps i < k + 1 + n)
+    → j < length (if b then k ∷ ps else ps) → slice_index (if b then k ∷ ps else ps) j < k + 1 + n
+below_step true zero k n ps f l = omega arith
+below_step true (suc j) k n ps f l = f j (omega (arith, l))
+below_step false j k n ps f l = f j l
+
+pub place_below : (direction : Direction) (k : ℕ) (ports : List Port) (j : ℕ) → j < length (port_places direction k ports)
+    → slice_index (port_places direction k ports) j < k + length ports
+place_below direction k [] j l = absurd (omega arith)
+place_below direction k (p ∷ ports) j l =
+    let h = below_step (same_direction direction p.direction) j k (length ports) (port_places direction (k + 1) ports)
+    (λ i m. place_below direction (k + 1) ports i m) l in
+    omega (arith, h)

@@ -1,3 +1,3 @@
-pub mod Chosen
 pub mod Places
 pub mod Names
+pub mod Slots

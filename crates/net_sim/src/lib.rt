@@ -1,18 +1,16 @@
 //! The simulator: a lawful design that runs.
 //!
-//! `Sim` settles by running each driver once, in an order of the design's drivers (`net_order`), and makes the next state from what
-//! is settled. It walks the statements where they stand (`number`, `places`, `blocking`, `clocked`), and takes no memory once
-//! it is made. `names` finds nets by full name.
+//! `Sim::new` makes flat code (`net_flat`) of the design's drivers, in an order (`net_order`), and of its clocked blocks. `settle` and
+//! `clock` run that code once over the numbers of nets and words, which stand in one list (`slots`), and take no memory. `names` finds
+//! nets by full name.
 #![tactic(auto)]
 
-mod blocking;
-mod clocked;
+mod code;
 mod names;
 mod number;
-mod places;
 mod run;
-mod settling;
 mod sim;
+mod slots;
 mod start;
 
 pub use sim::Sim;

@@ -1,39 +1,10 @@
-//! All drivers in an order, all clocked blocks, and input pins.
+//! Input pins, and numbers copied.
 
-ghost use Rattle.std.specs.Prelude.{◌≡◌, ◌≤◌, ◌<◌, ◌+◌, ◌^◌, All, length, slice_index, slice_set, if◌then◌else◌};
-ghost use Rattle.std.specs.List.{flat_map};
-ghost use Rattle.net_design.specs.declared.act.Timing.TheVariants.{Nonblocking};
-ghost use Rattle.net_design.specs.Sized.{IsSizedBlock};
-ghost use Rattle.net_design.specs.Updates.{apply, block_updates};
-ghost use Rattle.net_order.specs.Run.{enters, entered, run_all};
+ghost use Rattle.std.specs.Prelude.{◌≡◌, ◌≤◌, ◌<◌, ◌+◌, ◌^◌, length, slice_index, slice_set, if◌then◌else◌};
+ghost use Rattle.net_order.specs.Run.{enters, entered};
 
-use crate::blocking::run_acts;
-use crate::clocked::write_acts;
-use net_design::{Code, Direction, Driver, Port, Update, Values};
+use net_design::{Direction, Port};
 use vidi_bits::Numbers;
-
-/// Drivers, run one after the other in an order.
-pub fn run_drivers(drivers: &[Driver], order: &[u128], values: &mut Values, late: &mut [Update])
-    requires sized { All (λ x. IsSizedBlock x.code.acts) drivers.now }
-    requires order { All (λ i. i < length drivers.now) order.now }
-    requires room { length late.old ≡ 128 }
-    ensures { values.new ≡ run_all drivers.now order.now values.old }
-{
-    for number in order {
-        let driver = &drivers[*number as usize];
-        run_acts(&driver.code.acts, values, late);
-    }
-}
-
-/// The updates of all clocked blocks, made in the state.
-pub fn run_blocks(blocks: &[Code], values: &Values, state: &mut Values)
-    requires { All (λ c. IsSizedBlock c.acts) blocks.now }
-    ensures { state.new ≡ apply (flat_map (λ c. block_updates Nonblocking c.acts values.now) blocks.now) state.old }
-{
-    for block in blocks {
-        write_acts(&block.acts, values, state);
-    }
-}
 
 /// Number `i` of some pins, 0 past the last one.
 fn pin_at(pins: &[u128], i: usize) -> u128

@@ -1,55 +1,63 @@
 //! A design that runs.
 
-ghost use Rattle.std.specs.Prelude.{◌≡◌, ℕ, ◌<◌, ◌≤◌, List, IsTrue, IfOk, MatchOption, length, slice_index};
+ghost use Rattle.std.specs.Prelude.{◌≡◌, ℕ, ◌+◌, ◌<◌, ◌≤◌, ◌++◌, List, IsTrue, IfOk, MatchOption, length, slice_index, reverse};
 ghost use Rattle.net_design.specs.declared.design.Direction.TheVariants.{Output};
-ghost use Rattle.net_design.specs.Settled.{initial};
+ghost use Rattle.net_design.specs.Settled.{initial, word_count};
 ghost use Rattle.net_design.specs.Lawful.{IsLawful, IsState};
 ghost use Rattle.net_design.specs.Pins.{FitPins, no_pins};
 ghost use Rattle.net_order.specs.Order.{IsOrder};
 ghost use Rattle.net_order.specs.Run.{settled_by};
+ghost use Rattle.net_flat.specs.Machine.{AreBelow};
+ghost use Rattle.net_flat.specs.Layout.{IsReady};
 ghost use Rattle.net_sim.specs.Places.{port_places};
 ghost use Rattle.net_sim.specs.Names.{IsCalled};
+ghost use Rattle.net_sim.specs.Slots.{widths_of, span_of, shown_in, state_in, settling_code, clocking_code};
 
+use crate::code::codes_of;
 use crate::names::net_called;
 use crate::number::number_at;
-use crate::places::MOST_PARTS;
-use crate::run::{copy_numbers, run_blocks};
-use crate::settling::{copy_values, settle_again, settle_parts};
-use crate::start::{clear, first_state, no_updates, places_of, zeros};
-use net_design::{Block, Design, Direction, Update, Values};
+use crate::run::copy_numbers;
+use crate::slots::{first_slots, load_slots, run_slots, settle_again, settle_slots};
+use crate::start::{clear, first_numbers, places_of, zero_pins};
+use net_design::{Block, Design, Direction};
+use net_flat::Instr;
 use net_order::Order;
 use std::alloc::Global;
 use vidi_bits::{Items, Memory, Numbers};
 
-/// A design that runs: its state, and what this settled to last.
+/// A design that runs: its code, and its numbers in slots, which are the numbers that are shown, the state, and free slots.
 #[derive(Drop)]
 pub struct Sim {
     design: Design,
     order: Order,
+    /// The flat code of the drivers, in the order.
+    settling: Items<Instr>,
+    /// The flat code of the clocked blocks.
+    clocking: Items<Instr>,
+    /// The numbers of nets and memory words.
+    span: usize,
+    slots: Numbers,
     /// The initial state.
-    first: Values,
-    state: Values,
-    shown: Values,
+    first: Numbers,
     /// The inputs of the last `settle`.
     pins: Numbers,
     /// The nets of the output ports.
     outputs: Items<usize>,
-    /// Room for the updates of one assignment.
-    late: Vec<Update>,
     /// Whether what is shown is settled for the state and the inputs.
     fresh: bool,
     ghost lawful: { ∥ IsLawful design ∥₁ },
     ghost ordered: { ∥ IsOrder design order.drivers ∥₁ },
-    ghost first_nets: { first.nets ≡ (initial design).nets },
-    ghost first_words: { first.words ≡ (initial design).words },
-    ghost is_state: { IsState design state },
+    ghost settling_is: { settling ≡ reverse (settling_code design order.drivers) },
+    ghost clocking_is: { clocking ≡ reverse (clocking_code design) },
+    ghost settling_below: { ∥ AreBelow (length slots) (settling_code design order.drivers) ∥₁ },
+    ghost clocking_below: { ∥ AreBelow (length slots) (clocking_code design) ∥₁ },
+    ghost span_is: { span ≡ span_of design },
+    ghost ready: { IsReady (widths_of design) (word_count design) slots },
+    ghost first_is: { first ≡ (initial design).nets ++ (initial design).words },
+    ghost is_state: { IsState design (state_in design slots) },
     ghost are_pins: { FitPins design pins },
     ghost are_outputs: { outputs ≡ port_places Output 0 design.ports },
-    ghost shown_nets: { length shown.nets ≡ length state.nets },
-    ghost shown_words: { length shown.words ≡ length state.words },
-    ghost room: { length late.items ≡ 128 },
-    ghost settled: { IsTrue fresh → (shown.nets ≡ (settled_by design order.drivers state pins).nets)
-        × (shown.words ≡ (settled_by design order.drivers state pins).words) },
+    ghost settled: { IsTrue fresh → shown_in design slots ≡ settled_by design order.drivers (state_in design slots) pins },
 }
 
 impl Sim {
@@ -58,25 +66,24 @@ impl Sim {
         requires lawful { IsLawful design }
         requires order { IsOrder design order.drivers }
         ensures design { IfOk result (λ sim. sim.design ≡ design) }
-        ensures state { IfOk result (λ sim. sim.state ≡ initial design) }
+        ensures state { IfOk result (λ sim. state_in sim.design sim.slots ≡ initial design) }
         ensures inputs { IfOk result (λ sim. sim.pins ≡ no_pins design) }
     {
-        let first = first_state(alloc, &design)?;
-        let state = first_state(alloc, &design)?;
-        let shown = first_state(alloc, &design)?;
-        let inputs = places_of(alloc, Direction::Input, design.ports.as_slice())?;
-        let pins = zeros(alloc, inputs.len())?;
+        let codes = codes_of(alloc, &design, order.drivers.as_slice())?;
+        let first = first_numbers(alloc, &design)?;
+        let slots = first_slots(alloc, codes.slots, codes.span, first.as_slice())?;
+        let pins = zero_pins(alloc, design.ports.as_slice())?;
         let outputs = places_of(alloc, Direction::Output, design.ports.as_slice())?;
-        let late = no_updates(alloc, MOST_PARTS)?;
         Ok(Sim {
             design,
             order,
+            settling: codes.settling,
+            clocking: codes.clocking,
+            span: codes.span,
+            slots,
             first,
-            state,
-            shown,
             pins,
             outputs,
-            late,
             fresh: false,
         })
     }
@@ -85,11 +92,12 @@ impl Sim {
     /// dots. None exactly where no net has this name.
     pub fn net(&self, name: &[u8]) -> Option<u128>
         ensures { MatchOption result ((m : ℕ) → IsCalled self.now.design.instances self.now.design.nets name.now m → ⊥)
-            (λ x. (m : ℕ) × IsCalled self.now.design.instances self.now.design.nets name.now m × (x ≡ slice_index self.now.shown.nets m)) }
+            (λ x. (m : ℕ) × IsCalled self.now.design.instances self.now.design.nets name.now m
+            × (x ≡ slice_index (shown_in self.now.design self.now.slots).nets m)) }
     {
         let design = &self.design;
         match net_called(design.instances.as_slice(), design.nets.as_slice(), name) {
-            Some(m) => Some(number_at(&self.shown.nets, m)),
+            Some(m) => Some(number_at(&self.slots, m)),
             None => None,
         }
     }
@@ -100,11 +108,11 @@ impl Block for Sim {
 
     ghost design = { λ sim. sim.design };
 
-    ghost state = { λ sim. sim.state };
+    ghost state = { λ sim. state_in sim.design sim.slots };
 
     ghost inputs = { λ sim. sim.pins };
 
-    ghost shown = { λ sim. sim.shown };
+    ghost shown = { λ sim. shown_in sim.design sim.slots };
 
     ghost one_map = { λ sim. known_one sim.design sim.lawful sim.order.drivers sim.ordered };
 
@@ -115,42 +123,29 @@ impl Block for Sim {
     fn settle(&mut self, pins: &[u128]) {
         self.fresh = false;
         copy_numbers(pins, &mut self.pins);
-        let order = self.order.drivers.as_slice();
-        settle_parts(
-            &self.design,
-            order,
-            &self.state,
-            pins,
-            &mut self.shown,
-            &mut self.late,
-        );
+        let code = self.settling.as_slice();
+        let ports = self.design.ports.as_slice();
+        settle_slots(code, ports, pins, self.span, &mut self.slots);
         self.fresh = true;
     }
 
     fn pin(&self, port: usize) -> u128 {
         let places = self.outputs.as_slice();
-        number_at(&self.shown.nets, places[port])
+        number_at(&self.slots, places[port])
     }
 
     fn clock(&mut self) {
-        let order = self.order.drivers.as_slice();
+        let code = self.settling.as_slice();
+        let ports = self.design.ports.as_slice();
         let pins = self.pins.as_slice();
-        settle_again(
-            self.fresh,
-            &self.design,
-            order,
-            &self.state,
-            pins,
-            &mut self.shown,
-            &mut self.late,
-        );
+        settle_again(self.fresh, code, ports, pins, self.span, &mut self.slots);
         self.fresh = false;
-        run_blocks(self.design.blocks.as_slice(), &self.shown, &mut self.state);
+        run_slots(self.clocking.as_slice(), &mut self.slots);
     }
 
     fn load(&mut self) {
         self.fresh = false;
-        copy_values(&self.first, &mut self.state);
+        load_slots(&mut self.slots, self.span, self.first.as_slice());
         clear(&mut self.pins);
     }
 }

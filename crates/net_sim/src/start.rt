@@ -2,9 +2,10 @@
 
 ghost use Rattle.std.specs.Prelude.{◌≡◌, ◌+◌, ◌<◌, ◌^◌, ◌++◌, ◌∷◌, [], OnOk, IfOk, length, replicate, if◌then◌else◌};
 ghost use Rattle.net_design.specs.Settled.{initial, initial_number, same_direction, word_count};
+ghost use Rattle.net_design.specs.declared.design.Direction.TheVariants.{Input};
 ghost use Rattle.net_sim.specs.Places.{port_places};
 
-use net_design::{Design, Direction, Port, Register, Target, Update, Values};
+use net_design::{Design, Direction, Port, Register, count_words};
 use std::alloc::Global;
 use vidi_bits::{Items, Memory, Numbers};
 
@@ -20,30 +21,36 @@ fn initial_of(registers: &[Register], m: usize) -> u128
     0
 }
 
-/// The number of words of memories.
-fn count_words(design: &Design) -> usize
-    requires { word_count design.now < 2 ^ 64 }
-    ensures { result ≡ word_count design.now }
+/// Adds `count` zeros.
+fn push_zeros(numbers: &mut Numbers, count: usize) -> Result<(), Memory>
+    ensures { OnOk result (numbers.new ≡ numbers.old ++ replicate count 0) }
 {
-    let mut count = 0;
-    for memory in design.memories.as_slice() {
-        count += memory.room.length;
+    for _done in 0..count {
+        numbers.push(0)?;
     }
-    count
+    Ok(())
 }
 
-/// The initial state (IEEE 1364-2005, 6.2.1).
-pub fn first_state(alloc: Global, design: &Design) -> Result<Values, Memory>
-    requires { word_count design.now < 2 ^ 64 }
-    ensures { IfOk result (λ s. s ≡ initial design.now) }
+/// Adds the initial numbers of the nets.
+fn push_initial(numbers: &mut Numbers, design: &Design) -> Result<(), Memory>
+    ensures { OnOk result (numbers.new ≡ numbers.old ++ (initial design.now).nets) }
 {
-    let mut nets = Items::new(alloc);
     for (m, _net) in design.nets.as_slice().iter().enumerate() {
         let number = initial_of(design.registers.as_slice(), m);
-        nets.push(number)?;
+        numbers.push(number)?;
     }
-    let words = zeros(alloc, count_words(design))?;
-    Ok(Values { nets, words })
+    Ok(())
+}
+
+/// The numbers of the initial state: those of the nets, then those of the words (IEEE 1364-2005, 6.2.1).
+pub fn first_numbers(alloc: Global, design: &Design) -> Result<Numbers, Memory>
+    requires { word_count design.now < 2 ^ 64 }
+    ensures { IfOk result (λ numbers. numbers ≡ (initial design.now).nets ++ (initial design.now).words) }
+{
+    let mut numbers = Items::new(alloc);
+    push_initial(&mut numbers, design)?;
+    push_zeros(&mut numbers, count_words(design))?;
+    Ok(numbers)
 }
 
 /// `count` zeros.
@@ -61,20 +68,6 @@ pub fn clear(numbers: &mut Numbers)
     for i in 0..numbers.len() {
         numbers.set(i, 0);
     }
-}
-
-/// Room for `count` updates.
-pub fn no_updates(alloc: Global, count: usize) -> Result<Vec<Update>, Memory>
-    ensures { IfOk result (λ updates. length updates.items ≡ count) }
-{
-    let none = Update {
-        target: Target::Net(0),
-        low: 0,
-        width: 0,
-        number: 0,
-    };
-    let updates = Vec::from_elem(alloc, none, count)?;
-    Ok(updates)
 }
 
 /// Adds a place where a port has this direction.
@@ -105,4 +98,12 @@ pub fn places_of(
         push_place(&mut out, direction, port, k)?;
     }
     Ok(out)
+}
+
+/// A 0 for each input port.
+pub fn zero_pins(alloc: Global, ports: &[Port]) -> Result<Numbers, Memory>
+    ensures { IfOk result (λ pins. pins ≡ replicate (length (port_places Input 0 ports.now)) 0) }
+{
+    let inputs = places_of(alloc, Direction::Input, ports)?;
+    Ok(zeros(alloc, inputs.len())?)
 }

@@ -1,33 +1,53 @@
-use Rattle.std.proofs.Common.{List, length, replicate, ap, sym, subst, ◌∙◌}
+use Rattle.std.proofs.Common.{◌≡◌, ℕ, ◌+◌, ◌≤◌, List, take, drop, reverse, replicate, length, ap, sym, subst, ◌∙◌, arith}
 use Rattle.net_design.specs.declared.design.Port.{Port}
 use Rattle.net_design.specs.declared.design.Direction.TheVariants.{Input, Output}
-use Rattle.net_design.specs.declared.values.Values.{Values}
-use Rattle.net_design.specs.Lawful.{IsState}
-use Rattle.net_design.proofs.StateLaws.{initial_state}
+use Rattle.net_flat.specs.Machine.{AreBelow}
 use Rattle.net_sim.specs.Places.{port_places}
+use Rattle.net_sim.specs.Slots.{settling_code, clocking_code, span_of}
 use Rattle.net_sim.proofs.PlaceLaws.{zeros_fit, inputs_counted}
+use Rattle.net_sim.proofs.LoadLaws.{loaded, loaded_state, first_ready, first_long}
 use Rattle.net_sim.proofs.sim.Sim.new.Goals as goal
 
 pub invariant_of-result : goal.invariant_of-result
 invariant_of-result c =
     let d = c.args.design in
     let law = c.requires.lawful in
-    let first = c.in_ok-first.ensures in
-    let same = c.in_ok-shown.ensures ∙ sym c.in_ok-state.ensures in
+    let order = c.args.order.drivers in
+    let codes = c.in_ok-codes.codes in
+    let new = c.in_ok-slots.slots in
+    let same = c.as_slice.ensures in
+    let span = c.in_ok-codes.ensures.span in
+    let first = c.as_slice-2.ensures ∙ c.in_ok-first.ensures in
+    let state = loaded d ∣ law ∣₁ new c.as_slice-2.result.now first
+    (subst (λ k. take k (drop k new) ≡ c.as_slice-2.result.now) span c.in_ok-slots.ensures.state) in
+    let front = subst (λ k. take k new ≡ take k (replicate codes.slots 0)) span c.in_ok-slots.ensures.shown in
+    let long = c.in_ok-slots.ensures.long in
     record {
       lawful = ∣ law ∣₁;
       ordered = ∣ c.requires.order ∣₁;
-      first_nets = ap (λ (v : Values). v.nets) first;
-      first_words = ap (λ (v : Values). v.words) first;
-      is_state = subst (IsState d) (sym c.in_ok-state.ensures) (initial_state d law);
+      settling_is = c.in_ok-codes.ensures.settling ∙ ap (λ (xs : List ℕ). reverse (settling_code d xs)) same;
+      clocking_is = c.in_ok-codes.ensures.clocking;
+      settling_below = ∣ subst (λ n. AreBelow n (settling_code d order)) (sym long)
+          (subst (λ (xs : List ℕ). AreBelow codes.slots (settling_code d xs)) same c.in_ok-codes.ensures.settling_below) ∣₁;
+      clocking_below = ∣ subst (λ n. AreBelow n (clocking_code d)) (sym long) c.in_ok-codes.ensures.clocking_below ∣₁;
+      span_is = span;
+      ready = first_ready d ∣ law ∣₁ codes.slots new c.in_ok-codes.ensures.slots long front state;
+      first_is = c.in_ok-first.ensures;
+      is_state = loaded_state d ∣ law ∣₁ new state;
       are_pins = zeros_fit d c.in_ok-pins.pins (c.in_ok-pins.ensures
-          ∙ ap (λ n. replicate n 0)
-          (c.len.ensures ∙ ap length c.in_ok-inputs.ensures ∙ ap (λ (ports : List Port). length
-          (port_places Input 0 ports)) c.as_slice.ensures
+          ∙ ap (λ n. replicate n 0) (ap (λ (ports : List Port). length (port_places Input 0 ports)) c.as_slice-3.ensures
           ∙ inputs_counted d));
-      are_outputs = c.in_ok-outputs.ensures ∙ ap (λ (ports : List Port). port_places Output 0 ports) c.as_slice-2.ensures;
-      shown_nets = ap (λ (v : Values). length v.nets) same;
-      shown_words = ap (λ (v : Values). length v.words) same;
-      room = c.in_ok-late.ensures;
+      are_outputs = c.in_ok-outputs.ensures ∙ ap (λ (ports : List Port). port_places Output 0 ports) c.as_slice-4.ensures;
       settled = λ t. absurd cc;
     }
+
+pub first_slots-requires-clause-first : goal.first_slots-requires-clause-first
+first_slots-requires-clause-first c =
+    ap length (c.as_slice-2.ensures ∙ c.in_ok-first.ensures) ∙ first_long c.args.design ∣ c.requires.lawful ∣₁
+    ∙ sym c.in_ok-codes.ensures.span
+
+pub returns-clause-state : goal.returns-clause-state
+returns-clause-state c =
+    let d = c.args.design in
+    loaded d ∣ c.requires.lawful ∣₁ c.in_ok-slots.slots c.as_slice-2.result.now (c.as_slice-2.ensures ∙ c.in_ok-first.ensures)
+    (subst (λ k. take k (drop k c.in_ok-slots.slots) ≡ c.as_slice-2.result.now) c.in_ok-codes.ensures.span c.in_ok-slots.ensures.state)

@@ -1,38 +1,50 @@
-use Rattle.std.proofs.Common.{◌≡◌, length, replicate, ap, sym, subst, ◌∙◌}
-use Rattle.net_design.specs.Settled.{initial}
-use Rattle.net_design.specs.Lawful.{IsState}
-use Rattle.net_order.proofs.Known.{known_initial}
+use Rattle.std.proofs.Common.{◌≡◌, ℕ, ◌+◌, ◌≤◌, List, take, drop, replicate, length, ap, sym, subst, ◌∙◌, arith}
+use Rattle.net_flat.specs.Machine.{AreBelow}
+use Rattle.net_sim.specs.Slots.{settling_code, clocking_code, span_of}
 use Rattle.net_sim.proofs.PlaceLaws.{zeros_fit}
-use Rattle.net_sim.proofs.SimLaws.{same_values}
+use Rattle.net_sim.proofs.LoadLaws.{loaded, loaded_state, load_ready, first_long}
 use Rattle.net_sim.proofs.sim.SimBlock.load.Goals as goal
 
-pub copy_values-requires-clause-nets : goal.copy_values-requires-clause-nets
-copy_values-requires-clause-nets c =
+pub load_slots-requires-clause-long : goal.load_slots-requires-clause-long
+load_slots-requires-clause-long c =
     let s = c.args.self.now in
-    s.is_state.nets.long ∙ sym (known_initial s.design s.lawful).nets.long ∙ sym (ap length s.first_nets)
+    let long = s.ready.long in
+    omega (arith, long, s.span_is)
 
-pub copy_values-requires-clause-words : goal.copy_values-requires-clause-words
-copy_values-requires-clause-words c =
+pub load_slots-requires-clause-first : goal.load_slots-requires-clause-first
+load_slots-requires-clause-first c =
     let s = c.args.self.now in
-    s.is_state.words ∙ sym (known_initial s.design s.lawful).words ∙ sym (ap length s.first_words)
+    ap length (c.as_slice.ensures ∙ s.first_is) ∙ first_long s.design s.lawful ∙ sym s.span_is
 
 pub invariant_of-self : goal.invariant_of-self
 invariant_of-self c =
     let s = c.args.self.now in
     let d = s.design in
-    let begin = known_initial d s.lawful in
-    let first : c.copy_values.new.to ≡ initial d = c.copy_values.ensures ∙ same_values s.first (initial d) s.first_nets s.first_words in
-    let state = subst (IsState d) (sym first) begin in
+    let order = s.order.drivers in
+    let new = c.load_slots.new.slots in
+    let state = loaded d s.lawful new c.as_slice.result.now (c.as_slice.ensures ∙ s.first_is)
+    (subst (λ k. take k (drop k new) ≡ c.as_slice.result.now) s.span_is c.load_slots.ensures.state) in
+    let front = subst (λ k. take k new ≡ take k s.slots) s.span_is c.load_slots.ensures.shown in
+    let long = c.load_slots.ensures.long in
     record {
       lawful = s.lawful;
       ordered = s.ordered;
-      first_nets = s.first_nets;
-      first_words = s.first_words;
-      is_state = state;
+      settling_is = s.settling_is;
+      clocking_is = s.clocking_is;
+      settling_below = subst (λ n. ∥ AreBelow n (settling_code d order) ∥₁) (sym long) s.settling_below;
+      clocking_below = subst (λ n. ∥ AreBelow n (clocking_code d) ∥₁) (sym long) s.clocking_below;
+      span_is = s.span_is;
+      ready = load_ready d s.lawful s.slots new s.ready long front state;
+      first_is = s.first_is;
+      is_state = loaded_state d s.lawful new state;
       are_pins = zeros_fit d c.clear.new.numbers (c.clear.ensures ∙ ap (λ n. replicate n 0) s.are_pins.long);
       are_outputs = s.are_outputs;
-      shown_nets = s.shown_nets ∙ s.is_state.nets.long ∙ sym state.nets.long;
-      shown_words = s.shown_words ∙ s.is_state.words ∙ sym state.words;
-      room = s.room;
       settled = λ t. absurd cc;
     }
+
+pub returns-clause-state : goal.returns-clause-state
+returns-clause-state c =
+    let s = c.args.self.now in
+    let new = c.load_slots.new.slots in
+    loaded s.design s.lawful new c.as_slice.result.now (c.as_slice.ensures ∙ s.first_is)
+    (subst (λ k. take k (drop k new) ≡ c.as_slice.result.now) s.span_is c.load_slots.ensures.state)

@@ -1,0 +1,12 @@
+pub mod Fetch
+pub mod Running
+pub mod Views
+pub mod Values
+pub mod Within
+pub mod Stores
+pub mod Targets
+pub mod Acts
+pub mod RowCode
+pub mod Safe
+pub mod Whole
+pub mod Steps

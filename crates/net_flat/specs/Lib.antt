@@ -1,0 +1,4 @@
+pub mod Machine
+pub mod Layout
+pub mod Expressions
+pub mod Statements
