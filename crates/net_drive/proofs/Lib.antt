@@ -1,0 +1,4 @@
+pub mod Exact
+pub mod NoneFound
+pub mod Tallies
+pub mod TargetRows

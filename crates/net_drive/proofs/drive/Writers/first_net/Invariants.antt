@@ -1,0 +1,9 @@
+use Rattle.std.proofs.Common.{◌≡◌, drop}
+use Rattle.vidi_bits.specs.Findings.{first}
+use Rattle.net_drive.specs.Targets.{plain_places}
+use Rattle.net_drive.specs.Drive.{nets_from}
+use Rattle.net_drive.proofs.drive.Writers.first_net.Given as goal
+
+abbrev pub invariant-loop-place : goal.invariant-loop-place
+invariant-loop-place l = first (nets_from (plain_places l.self.places) l.self.blocks l.kinds l.place (drop l.place l.nets))
+    ≡ first (nets_from (plain_places l.self.places) l.self.blocks l.kinds 0 l.nets)

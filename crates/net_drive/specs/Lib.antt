@@ -1,0 +1,4 @@
+pub mod Drive
+pub mod Laws
+pub mod Tallied
+pub mod Targets
