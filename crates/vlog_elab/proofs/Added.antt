@@ -1,16 +1,20 @@
 -- Instances are added one by one.
-use Rattle.std.proofs.Common.{◌≡◌, ◌≢◌, ℕ, zero, suc, ◌+◌, ◌-◌, ◌<◌, ◌⊎◌, inl, inr, List, [], ◌∷◌, ◌++◌, map, drop, length, get_or}
+use Rattle.std.proofs.Common.{◌≡◌, ◌≢◌, ℕ, zero, suc, ◌+◌, ◌-◌, ◌<◌, ◌≤◌, ◌⊎◌, inl, inr, List, [], ◌∷◌, ◌++◌, map, drop, length, get_or}
 use Rattle.std.proofs.Common.{refl, sym, ap, subst, ◌∙◌, arith, drop-cons, append_assoc, append-nil, length-append}
 use Rattle.std.proofs.Common.{Option, None, Some, slice_get}
 use Rattle.std.specs.List.{flat_map}
 use Rattle.std.proofs.lemmas.Grind.{flat_map-append}
+use Rattle.std.proofs.lemmas.List.{length-map, drop_all}
+use Rattle.std.proofs.lemmas.Option.{slice_get_past}
 use Rattle.vlog_tree.specs.Tree.{InstanceOf, ItemOf, WiresItem, DrivenWiresItem, RegsItem, LocalparamsItem, AssignItem, AlwaysItem}
 use Rattle.vlog_tree.specs.Tree.{InstanceItem, ModuleOf}
 use Rattle.vlog_tree.specs.declared.module.Item.{Item}
 use Rattle.vlog_tree.specs.Plain.{plain_item}
 use Rattle.vlog_size.specs.Names.{Readable}
 use Rattle.vlog_hierarchy.specs.Outlines.{place_of}
-use Rattle.vlog_elab.specs.Instances.{ModuleInstance, child_of, child_at, item_children, children, within}
+use Rattle.vlog_elab.specs.Instances.{ModuleInstance, child_of, child_at, item_children, children, within, top_of, top_at}
+use Rattle.vlog_elab.specs.declared.instance.ModuleInstance as code
+use Rattle.vlog_elab.specs.Plain.{plain_instance, plain_instances}
 use Rattle.vlog_elab.specs.Inside.{one_child, children_past, children_at, declared_past}
 
 -- ---- lists
@@ -108,9 +112,9 @@ split_at items i item within at =
 
 -- where the invariant stands before an item
 pub record Before (ms : List (ModuleOf ℕ)) (depth at : ℕ) (first xs whole : List ModuleInstance) (k : ℕ) (items : List (ItemOf ℕ)) : Type 0 where
-  place : slice_get xs at ≡ slice_get first at
-  there : at < length xs
-  value : xs ++ flat_map (within depth ms) (children_past ms (slice_get first at) k items) ≡ whole
+  pub place : slice_get xs at ≡ slice_get first at
+  pub there : at < length xs
+  pub value : xs ++ flat_map (within depth ms) (children_past ms (slice_get first at) k items) ≡ whole
 
 pub next_inside : (ms : List (ModuleOf ℕ)) (depth at : ℕ) (first xs mid new whole : List ModuleInstance) (k next : ℕ) (items : List Item) (i : ℕ)
     (item : Item) → depth ≢ 0 → i < length items → item ≡ get_or items i item
@@ -148,3 +152,53 @@ next_inside ms depth at first xs mid new whole k next items i item some within' 
           (sym (past ms o k (plain_item item) rest) ∙ sym (ap (children_past ms o k) (split_at items i item within' is))))
           ∙ before.value)));
     }
+
+pub first_inside : (ms : List (ModuleOf ℕ)) (depth at : ℕ) (out : List code.ModuleInstance) (k : ℕ) (items : List (ItemOf ℕ))
+    → at < length out
+    → Before ms depth at (plain_instances out) (plain_instances out)
+    (plain_instances out ++ flat_map (within depth ms) (children_past ms (slice_get (plain_instances out) at) k items)) k items
+first_inside ms depth at out k items there = record {
+  place = refl;
+  there = omega (arith, there, length-map out plain_instance);
+  value = refl;
+}
+
+nothing_past : (ms : List (ModuleOf ℕ)) (o : Option ModuleInstance) (k : ℕ) → children_past ms o k [] ≡ []
+nothing_past ms None k = refl
+nothing_past ms (Some i) k = refl
+
+pub all_inside : (ms : List (ModuleOf ℕ)) (depth at : ℕ) (first xs whole : List ModuleInstance) (k : ℕ) (items : List Item) (i : ℕ)
+    → length items ≤ i → Before ms depth at first xs whole k (map plain_item (drop i items)) → xs ≡ whole
+all_inside ms depth at first xs whole k items i past' before =
+    sym (append-nil xs)
+    ∙ (ap (λ (ys : List ModuleInstance). xs ++ flat_map (within depth ms) ys)
+    (sym (nothing_past ms (slice_get first at) k)
+    ∙ ap (λ (ys : List Item). children_past ms (slice_get first at) k (map plain_item ys)) (sym (drop_all i items past')))
+    ∙ before.value)
+
+-- ---- the instance at a place of the list
+
+pub nothing_there : (ms : List (ModuleOf ℕ)) (depth at : ℕ) (out : List code.ModuleInstance) → length out ≤ at
+    → plain_instances out ≡ plain_instances out ++ flat_map (within depth ms) (children_at ms (slice_get (plain_instances out) at))
+nothing_there ms depth at out past' =
+    sym (ap (λ (o : Option ModuleInstance). plain_instances out ++ flat_map (within depth ms) (children_at ms o))
+    (slice_get_past (plain_instances out) at (omega (arith, past', length-map out plain_instance)))
+    ∙ append-nil (plain_instances out))
+
+-- ---- the top
+
+one_top : (k : ℕ) (o : Option (ModuleOf ℕ)) → AtMostOne (top_of k o)
+one_top k None = inl refl
+one_top k (Some m) = inr (_, refl)
+
+at_most_top : (ms : List (ModuleOf ℕ)) (o : Option ℕ) → AtMostOne (top_at ms o)
+at_most_top ms None = inl refl
+at_most_top ms (Some k) = one_top k (slice_get ms k)
+
+pub all_below : (ms : List (ModuleOf ℕ)) (o : Option ℕ) (mid new : List ModuleInstance) → mid ≡ top_at ms o
+    → new ≡ mid ++ flat_map (within 4096 ms) (children_at ms (slice_get mid 0)) → new ≡ flat_map (within 4097 ms) (top_at ms o)
+all_below ms o mid new is filled =
+    let some : 4097 ≢ 0 = λ e. omega (arith, e) in
+    filled
+    ∙ (ap (λ (ys : List ModuleInstance). ys ++ flat_map (within 4096 ms) (children_at ms (slice_get ys 0))) is
+    ∙ one_inside [] (top_at ms o) 4097 ms some (at_most_top ms o))

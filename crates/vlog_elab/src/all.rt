@@ -48,7 +48,24 @@ fn add_top<'a>(
     })
 }
 
+/// The instances of these modules and this top.
+fn instances_in<'a>(
+    alloc: Global,
+    modules: &Modules<'a, '_>,
+    top: &[u8],
+) -> Result<Items<ModuleInstance<'a>>, Memory>
+    requires { IsTable modules.now }
+    ensures { IfOk result (λ is. plain_instances is ≡ flat_map (instances.within 4097 (trees_in modules.now))
+        (instances.top_at (trees_in modules.now) (place_of (trees_in modules.now) top.now))) }
+{
+    let mut out = Items::new(alloc);
+    add_top(alloc, modules, top, &mut out)?;
+    add_inside(alloc, modules, DEPTH - 1, 0, &mut out)?;
+    Ok(out)
+}
+
 /// The instances of a file, of which `table` has the modules, and its top.
+#[tactic(auto, unfolding(crate::specs::Instances::instances, vlog_names::specs::Entries::modules_of))]
 pub fn all_instances<'a>(
     alloc: Global,
     table: &ModuleTable,
@@ -62,8 +79,5 @@ pub fn all_instances<'a>(
         table,
         list: file.modules.as_slice(),
     };
-    let mut out = Items::new(alloc);
-    add_top(alloc, &modules, top, &mut out)?;
-    add_inside(alloc, &modules, DEPTH - 1, 0, &mut out)?;
-    Ok(out)
+    instances_in(alloc, &modules, top)
 }

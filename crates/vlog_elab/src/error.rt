@@ -52,7 +52,6 @@ impl From<Memory> for ElabError {
 }
 
 impl From<NameError> for ElabError {
-    ghost use Rattle.std.specs.Prelude.{◌≡◌};
     ghost use Rattle.vlog_elab.specs.Errors.{of_name};
 
     ghost from_gives = { λ x e. e ≡ of_name x };
@@ -67,7 +66,6 @@ impl From<NameError> for ElabError {
 }
 
 impl From<KindError> for ElabError {
-    ghost use Rattle.std.specs.Prelude.{◌≡◌};
     ghost use Rattle.vlog_elab.specs.Errors.{of_kind};
 
     ghost from_gives = { λ x e. e ≡ of_kind x };
@@ -78,7 +76,6 @@ impl From<KindError> for ElabError {
 }
 
 impl From<HierarchyError> for ElabError {
-    ghost use Rattle.std.specs.Prelude.{◌≡◌};
     ghost use Rattle.vlog_elab.specs.Errors.{of_hierarchy};
 
     ghost from_gives = { λ x e. e ≡ of_hierarchy x };
@@ -100,7 +97,6 @@ impl From<HierarchyError> for ElabError {
 }
 
 impl From<SizeError> for ElabError {
-    ghost use Rattle.std.specs.Prelude.{◌≡◌};
     ghost use Rattle.vlog_elab.specs.Errors.{of_size};
 
     ghost from_gives = { λ x e. e ≡ of_size x };

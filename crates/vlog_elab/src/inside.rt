@@ -75,8 +75,8 @@ pub fn add_inside<'a>(
     match out.get(at) {
         Some(parent) => {
             let declared = parent.scope.declared;
-            let items = parent.tree.items.as_slice();
-            add_items(alloc, modules, depth, at, declared, items, out)
+            let tree = parent.tree;
+            add_items(alloc, modules, depth, at, declared, tree.items.as_slice(), out)
         }
         None => Ok(()),
     }

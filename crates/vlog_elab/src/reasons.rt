@@ -17,7 +17,7 @@ use crate::error::{Big, ElabError};
 use crate::instance::{ModuleInstance, ModuleInstances};
 use std::alloc::Global;
 use vidi_bits::{Items, Memory, Name, copied};
-use vlog_hierarchy::{nested, nodes_of};
+use vlog_hierarchy::{Nodes, nested, nodes_of};
 use vlog_kinds::check_kinds;
 use vlog_names::{ModuleTable, check_names};
 use vlog_scope::{const_fault, width_fault, words_of};
@@ -27,6 +27,7 @@ use vlog_tree::File;
 const MOST_WORDS: usize = 1_048_576;
 
 /// E3, then E4.
+#[tactic(auto, unfolding(crate::specs::Reasons::name_findings), using(crate::proofs::Firsts::name_first, crate::proofs::Firsts::none_map))]
 fn named(alloc: Global, file: &File, top: &[u8]) -> Result<ModuleTable, ElabError>
     ensures told { Judged result (reasons.name_findings (plain file.now) top.now) }
     ensures modules { IfOk result (λ t. t ≡ modules_of (plain file.now)) }
@@ -35,6 +36,7 @@ fn named(alloc: Global, file: &File, top: &[u8]) -> Result<ModuleTable, ElabErro
 }
 
 /// E7.
+#[tactic(auto, unfolding(crate::specs::Reasons::kind_findings), using(crate::proofs::Firsts::kind_first, crate::proofs::Firsts::none_map))]
 fn of_right_kinds(modules: &ModuleTable, file: &File) -> Result<(), ElabError>
     requires { modules.now ≡ modules_of (plain file.now) }
     ensures { Judged result (reasons.kind_findings (plain file.now)) }
@@ -63,6 +65,7 @@ fn name_at(alloc: Global, file: &File, place: usize) -> Result<Name, Memory>
 }
 
 /// E11.
+#[tactic(auto, using(crate::proofs::Firsts::nested_there))]
 fn not_nested(alloc: Global, file: &File, top: &[u8]) -> Result<(), ElabError>
     ensures { MatchResult result (λ _. reasons.IsNotNested (plain file.now) top.now)
         (reasons.NestedFinding (plain file.now) top.now) }
@@ -84,6 +87,7 @@ struct Numbers {
 }
 
 /// E12 of instances, then of nets.
+#[tactic(auto, unfolding(crate::specs::Reasons::hierarchy_findings), using(crate::proofs::Firsts::hierarchy_first, crate::proofs::Firsts::none_map, crate::proofs::Same::same_nodes))]
 fn counted(alloc: Global, file: &File, top: &[u8]) -> Result<Numbers, ElabError>
     ensures told { Judged result (reasons.hierarchy_findings (plain file.now) top.now) }
     ensures firsts { IfOk result (λ n. n.firsts
@@ -91,14 +95,16 @@ fn counted(alloc: Global, file: &File, top: &[u8]) -> Result<Numbers, ElabError>
     ensures nets { IfOk result (λ n. n.nets
         ≡ net_total (outlines_of (plain file.now).modules) (map node_of (instances (plain file.now) top.now))) }
 {
-    let nodes = nodes_of(alloc, file, top)?;
-    Ok(Numbers {
-        firsts: nodes.firsts,
-        nets: nodes.nets,
-    })
+    let Nodes {
+        nodes: _nodes,
+        firsts,
+        nets,
+    } = nodes_of(alloc, file, top)?;
+    Ok(Numbers { firsts, nets })
 }
 
 /// E5 of an instance.
+#[tactic(auto, unfolding(crate::specs::Reasons::instance_consts), using(crate::proofs::Firsts::size_first, crate::proofs::Firsts::none_map))]
 fn instance_consts(instance: &ModuleInstance<'_>) -> Result<(), ElabError>
     ensures { Judged result (reasons.instance_consts (plain_instance instance.now)) }
 {
@@ -106,6 +112,7 @@ fn instance_consts(instance: &ModuleInstance<'_>) -> Result<(), ElabError>
 }
 
 /// E6 of an instance.
+#[tactic(auto, unfolding(crate::specs::Reasons::instance_widths), using(crate::proofs::Firsts::size_first, crate::proofs::Firsts::none_map))]
 fn instance_widths(instance: &ModuleInstance<'_>) -> Result<(), ElabError>
     ensures { Judged result (reasons.instance_widths (plain_instance instance.now)) }
 {
