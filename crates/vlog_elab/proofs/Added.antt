@@ -11,6 +11,7 @@ use Rattle.vlog_tree.specs.Tree.{InstanceItem, ModuleOf}
 use Rattle.vlog_tree.specs.declared.module.Item.{Item}
 use Rattle.vlog_tree.specs.Plain.{plain_item}
 use Rattle.vlog_size.specs.Names.{Readable}
+use Rattle.vlog_scope.specs.Scope.{readable_at}
 use Rattle.vlog_hierarchy.specs.Outlines.{place_of}
 use Rattle.vlog_elab.specs.Instances.{ModuleInstance, child_of, child_at, item_children, children, within, top_of, top_at}
 use Rattle.vlog_elab.specs.declared.instance.ModuleInstance as code
@@ -53,7 +54,7 @@ one_item ms path r (InstanceItem x) = one_at ms path r x (place_of ms x.module_i
 
 at_most_one : (ms : List (ModuleOf ℕ)) (o : Option ModuleInstance) (k : ℕ) (item : ItemOf ℕ) → AtMostOne (one_child ms o k item)
 at_most_one ms None k item = inl refl
-at_most_one ms (Some i) k item = one_item ms i.path _ item
+at_most_one ms (Some i) k item = one_item ms i.path (readable_at i.scope k) item
 
 -- ---- levels
 

@@ -10,7 +10,7 @@ use Rattle.vlog_tree.specs.Tree.{InstanceItem, ModuleOf, FileOf}
 use Rattle.vlog_size.specs.declared.scope.Scope.{Scope}
 use Rattle.vlog_size.specs.Names.{Readable}
 use Rattle.vlog_scope.specs.Scope.{readable_at, after_item, scope_of, scope_with}
-use Rattle.vlog_hierarchy.specs.Outlines.{Child, Outline, place_of, outline_of, outlines_of, children_in, children_at}
+use Rattle.vlog_hierarchy.specs.Outlines.{Child, Outline, place_of, outline_of, outlines_of, children_of, children_in, children_at}
 use Rattle.vlog_hierarchy.specs.Outlines as outlines
 use Rattle.vlog_hierarchy.specs.Nodes.{Node, nodes, child_nodes, nodes_of}
 use Rattle.vlog_elab.specs.Instances.{ModuleInstance, child_of, child_at, item_children, children_from, children, within, top_of, top_at}
@@ -72,12 +72,12 @@ same_items n ms are path s k (item ∷ items) =
 
 its_children : (ms : List (ModuleOf ℕ)) (k : ℕ) (m : ModuleOf ℕ) → slice_get ms k ≡ Some m
     → children_at (outlines_of ms) k ≡ flat_map (outlines.item_children ms) m.items
-unfolding outlines_of, outlines.children_of
+unfolding outlines_of children_of
 its_children ms k m at =
     ap children_in (slice_get-map (outline_of ms) ms k ∙ ap (option_map (outline_of ms)) at)
 
 are_nodes : (n : ℕ) (ms : List (ModuleOf ℕ)) → AreNodes n ms
-unfolding within, nodes, children
+unfolding within nodes children
 are_nodes zero ms i at = refl
 are_nodes (suc n) ms i at =
     ap (λ (xs : List Node). node_of i ∷ xs)
