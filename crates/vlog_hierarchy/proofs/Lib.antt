@@ -5,3 +5,4 @@ mod Examples
 pub mod Many
 pub mod PlaceLaws
 pub mod Reaching
+pub mod Scoped

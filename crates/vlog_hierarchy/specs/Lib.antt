@@ -1,3 +1,5 @@
+pub mod Clock
+pub mod Joined
 pub mod Judged
 pub mod Laws
 pub mod Nested
