@@ -1,5 +1,4 @@
 pub mod Clock
-pub mod Joined
 pub mod Judged
 pub mod Laws
 pub mod Nested

@@ -1,13 +1,12 @@
 //! E13: the one clock.
 
-ghost use Rattle.std.specs.Prelude.{◌≡◌, ◌++◌, map, option_map, Some, IfOk, OnOk};
-ghost use Rattle.std.specs.List.{flat_map, list_any};
+ghost use Rattle.std.specs.Prelude.{◌≡◌, ◌++◌, false, map, length, replicate, option_map, IfOk, OnOk};
+ghost use Rattle.std.specs.List.{flat_map};
 ghost use Rattle.vlog_tree.specs.Plain.{plain, plain_expr, plain_event, plain_conn, plain_named, plain_assign, plain_always, plain_item, plain_module};
 ghost use Rattle.vlog_hierarchy.specs.Outlines.{outlines_of, place_of};
 ghost use Rattle.vlog_hierarchy.specs.Plain.{plain_path};
-ghost use Rattle.vlog_hierarchy.specs.Joined.{plain_joined, plain_all_joined, plain_scope, plain_scopes};
-ghost use Rattle.vlog_hierarchy.specs.Clock.{event_ports, item_ports, scope_ports, clock_ports, first_port, same_port, is_clock};
-ghost use Rattle.vlog_hierarchy.specs.Clock.{clock_name, clock_names, event_faults, body_faults, value_faults, conn_faults, wire_faults, assign_faults};
+ghost use Rattle.vlog_hierarchy.specs.Clock.{event_ports, item_ports, scope_ports, clock_ports, first_port, same_port, marked, clock_marks};
+ghost use Rattle.vlog_hierarchy.specs.Clock.{event_faults, body_faults, value_faults, conn_faults, wire_faults, assign_faults};
 ghost use Rattle.vlog_hierarchy.specs.Clock.{item_faults, items_at, scope_faults, clock_faults, scopes_of};
 ghost use Rattle.vlog_hierarchy.specs.Judged.{Judged};
 
@@ -15,17 +14,18 @@ use crate::error::HierarchyError;
 use crate::outline::outlines;
 use crate::places::{index_of, place_named};
 use crate::reads::{check_body, check_expr, check_target};
-use crate::scopes::{Joined, Scope, plain_name, port_of, scopes_of};
+use crate::scopes::{Scope, plain_name, port_of, scopes_of};
 use std::alloc::Global;
 use vidi_bits::{Items, Memory, Name};
+use vlog_size::Table;
 use vlog_tree::{Always, Assign, Conn, Event, Expr, File, Item, Module, NamedValue};
 
 /// For each clocked block the port to which its name is joined.
 type ClockPorts = Items<Option<usize>>;
 
 /// Adds the port of a clocked block.
-fn add_port(ports: &mut ClockPorts, joined: &[Joined<'_>], event: &Event) -> Result<(), Memory>
-    ensures { OnOk result (ports.new ≡ ports.old ++ event_ports (plain_all_joined joined.now) (plain_event event.now)) }
+fn add_port(ports: &mut ClockPorts, joined: &Table<usize>, event: &Event) -> Result<(), Memory>
+    ensures { OnOk result (ports.new ≡ ports.old ++ event_ports joined.now (plain_event event.now)) }
 {
     match event {
         Event::Posedge(id) => {
@@ -37,8 +37,8 @@ fn add_port(ports: &mut ClockPorts, joined: &[Joined<'_>], event: &Event) -> Res
 }
 
 /// Adds the port of an item that is a clocked block.
-fn add_item_ports(ports: &mut ClockPorts, joined: &[Joined<'_>], item: &Item) -> Result<(), Memory>
-    ensures { OnOk result (ports.new ≡ ports.old ++ item_ports (plain_all_joined joined.now) (plain_item item.now)) }
+fn add_item_ports(ports: &mut ClockPorts, joined: &Table<usize>, item: &Item) -> Result<(), Memory>
+    ensures { OnOk result (ports.new ≡ ports.old ++ item_ports joined.now (plain_item item.now)) }
 {
     match item {
         Item::Always(always) => {
@@ -64,13 +64,13 @@ fn items_at(modules: &[Module], place: usize) -> &[Item]
 fn add_scope_ports(
     ports: &mut ClockPorts,
     modules: &[Module],
-    scope: &Scope<'_>,
+    scope: &Scope,
 ) -> Result<(), Memory>
-    ensures { OnOk result (ports.new ≡ ports.old ++ scope_ports (map plain_module modules.now) (plain_scope scope.now)) }
+    ensures { OnOk result (ports.new ≡ ports.old ++ scope_ports (map plain_module modules.now) scope.now) }
 {
     let items = items_at(modules, scope.place);
     for item in items {
-        add_item_ports(ports, scope.joined.as_slice(), item)?;
+        add_item_ports(ports, &scope.joined, item)?;
     }
     Ok(())
 }
@@ -80,9 +80,9 @@ fn add_scope_ports(
 fn clock_ports(
     alloc: Global,
     modules: &[Module],
-    scopes: &[Scope<'_>],
+    scopes: &[Scope],
 ) -> Result<ClockPorts, Memory>
-    ensures { IfOk result (λ ports. ports ≡ clock_ports (map plain_module modules.now) (plain_scopes scopes.now)) }
+    ensures { IfOk result (λ ports. ports ≡ clock_ports (map plain_module modules.now) scopes.now) }
 {
     let mut ports = Items::new(alloc);
     for scope in scopes {
@@ -110,55 +110,47 @@ fn same_port(a: Option<usize>, b: Option<usize>) -> bool
     }
 }
 
-/// Whether a clocked block's name is joined to this port.
-fn is_clock(ports: &[Option<usize>], port: usize) -> bool
-    ensures { result ≡ list_any (same_port (Some port)) ports.now }
+/// As many times `false`.
+fn unmarked(alloc: Global, n: usize) -> Result<Items<bool>, Memory>
+    ensures { IfOk result (λ marks. marks ≡ replicate n false) }
 {
-    for other in ports {
-        if same_port(Some(port), *other) {
-            return true;
+    let mut marks = Items::new(alloc);
+    for _ in 0..n {
+        marks.push(false)?;
+    }
+    Ok(marks)
+}
+
+/// Marks the port of a clocked block.
+fn mark(marks: &mut Items<bool>, port: Option<usize>)
+    ensures { marks.new ≡ marked marks.old port }
+{
+    if let Some(port) = port {
+        if port < marks.len() {
+            marks.set(port, true);
         }
     }
-    false
 }
 
-/// Adds a name, where it is joined to a clock.
-fn add_clock<'a>(
-    ports: &[Option<usize>],
-    one: &Joined<'a>,
-    names: &mut Items<&'a Name>,
-) -> Result<(), Memory>
-    ensures { OnOk result (plain_path names.new ≡ plain_path names.old ++ clock_name ports.now (plain_joined one.now)) }
+/// For each of the top's 1-bit input ports whether it is a clock.
+fn marks_of(alloc: Global, inputs: usize, ports: &[Option<usize>]) -> Result<Items<bool>, Memory>
+    ensures { IfOk result (λ marks. marks ≡ clock_marks inputs ports.now) }
 {
-    if is_clock(ports, one.port) {
-        names.push(one.name)?;
+    let mut marks = unmarked(alloc, inputs)?;
+    for port in ports {
+        mark(&mut marks, *port);
     }
-    Ok(())
-}
-
-/// The names that are joined to a clock.
-fn clock_names<'a>(
-    alloc: Global,
-    ports: &[Option<usize>],
-    joined: &[Joined<'a>],
-) -> Result<Items<&'a Name>, Memory>
-    ensures { IfOk result (λ names. plain_path names ≡ clock_names ports.now (plain_all_joined joined.now)) }
-{
-    let mut names = Items::new(alloc);
-    for one in joined {
-        add_clock(ports, one, &mut names)?;
-    }
-    Ok(names)
+    Ok(marks)
 }
 
 /// Refuses a clocked block whose name isn't joined to the wanted port.
 fn check_event(
     wanted: Option<usize>,
-    joined: &[Joined<'_>],
+    joined: &Table<usize>,
     line: u32,
     event: &Event,
 ) -> Result<(), HierarchyError>
-    ensures { Judged result (event_faults wanted (plain_all_joined joined.now) line (plain_event event.now)) }
+    ensures { Judged result (event_faults wanted joined.now line (plain_event event.now)) }
 {
     match event {
         Event::Posedge(id) => {
@@ -175,93 +167,93 @@ fn check_event(
 
 fn check_always(
     wanted: Option<usize>,
-    joined: &[Joined<'_>],
-    clocks: &[&Name],
+    marks: &[bool],
+    joined: &Table<usize>,
     always: &Always,
 ) -> Result<(), HierarchyError>
-    ensures { Judged result (event_faults wanted (plain_all_joined joined.now) always.now.line (plain_always always.now).event
-        ++ body_faults (plain_path clocks.now) (plain_always always.now).body) }
+    ensures { Judged result (event_faults wanted joined.now always.now.line (plain_always always.now).event
+        ++ body_faults marks.now joined.now (plain_always always.now).body) }
 {
     check_event(wanted, joined, always.line, &always.event)?;
-    check_body(clocks, &always.body)
+    check_body(marks, joined, &always.body)
 }
 
 /// Refuses reads of the clock in what is connected, unless it is a name alone.
-fn check_value(clocks: &[&Name], value: &Option<Expr>) -> Result<(), HierarchyError>
-    ensures { Judged result (value_faults (plain_path clocks.now) (option_map plain_expr value.now)) }
+fn check_value(marks: &[bool], joined: &Table<usize>, value: &Option<Expr>) -> Result<(), HierarchyError>
+    ensures { Judged result (value_faults marks.now joined.now (option_map plain_expr value.now)) }
 {
     match value {
         None => Ok(()),
         Some(e) => match plain_name(e) {
             Some(_) => Ok(()),
-            None => check_expr(clocks, e),
+            None => check_expr(marks, joined, e),
         },
     }
 }
 
-fn check_conns(clocks: &[&Name], conns: &[Conn]) -> Result<(), HierarchyError>
-    ensures { Judged result (flat_map (conn_faults (plain_path clocks.now)) (map plain_conn conns.now)) }
+fn check_conns(marks: &[bool], joined: &Table<usize>, conns: &[Conn]) -> Result<(), HierarchyError>
+    ensures { Judged result (flat_map (conn_faults marks.now joined.now) (map plain_conn conns.now)) }
 {
     for conn in conns {
-        check_value(clocks, &conn.value)?;
+        check_value(marks, joined, &conn.value)?;
     }
     Ok(())
 }
 
-fn check_wires(clocks: &[&Name], wires: &[NamedValue]) -> Result<(), HierarchyError>
-    ensures { Judged result (flat_map (wire_faults (plain_path clocks.now)) (map plain_named wires.now)) }
+fn check_wires(marks: &[bool], joined: &Table<usize>, wires: &[NamedValue]) -> Result<(), HierarchyError>
+    ensures { Judged result (flat_map (wire_faults marks.now joined.now) (map plain_named wires.now)) }
 {
     for wire in wires {
-        check_expr(clocks, &wire.value)?;
+        check_expr(marks, joined, &wire.value)?;
     }
     Ok(())
 }
 
-fn check_assign(clocks: &[&Name], assign: &Assign) -> Result<(), HierarchyError>
-    ensures { Judged result (assign_faults (plain_path clocks.now) (plain_assign assign.now)) }
+fn check_assign(marks: &[bool], joined: &Table<usize>, assign: &Assign) -> Result<(), HierarchyError>
+    ensures { Judged result (assign_faults marks.now joined.now (plain_assign assign.now)) }
 {
-    check_target(clocks, &assign.target)?;
-    check_expr(clocks, &assign.value)
+    check_target(marks, joined, &assign.target)?;
+    check_expr(marks, joined, &assign.value)
 }
 
-fn check_assigns(clocks: &[&Name], assigns: &[Assign]) -> Result<(), HierarchyError>
-    ensures { Judged result (flat_map (assign_faults (plain_path clocks.now)) (map plain_assign assigns.now)) }
+fn check_assigns(marks: &[bool], joined: &Table<usize>, assigns: &[Assign]) -> Result<(), HierarchyError>
+    ensures { Judged result (flat_map (assign_faults marks.now joined.now) (map plain_assign assigns.now)) }
 {
     for assign in assigns {
-        check_assign(clocks, assign)?;
+        check_assign(marks, joined, assign)?;
     }
     Ok(())
 }
 
 fn check_item(
     wanted: Option<usize>,
-    joined: &[Joined<'_>],
-    clocks: &[&Name],
+    marks: &[bool],
+    joined: &Table<usize>,
     item: &Item,
 ) -> Result<(), HierarchyError>
-    ensures { Judged result (item_faults wanted (plain_all_joined joined.now) (plain_path clocks.now) (plain_item item.now)) }
+    ensures { Judged result (item_faults wanted marks.now joined.now (plain_item item.now)) }
 {
     match item {
         Item::Wires { .. } => Ok(()),
-        Item::DrivenWires { wires, .. } => check_wires(clocks, wires.as_slice()),
+        Item::DrivenWires { wires, .. } => check_wires(marks, joined, wires.as_slice()),
         Item::Regs { .. } => Ok(()),
         Item::Localparams { .. } => Ok(()),
-        Item::Assign { assigns } => check_assigns(clocks, assigns.as_slice()),
-        Item::Always(always) => check_always(wanted, joined, clocks, always),
-        Item::Instance(instance) => check_conns(clocks, instance.ports.as_slice()),
+        Item::Assign { assigns } => check_assigns(marks, joined, assigns.as_slice()),
+        Item::Always(always) => check_always(wanted, marks, joined, always),
+        Item::Instance(instance) => check_conns(marks, joined, instance.ports.as_slice()),
     }
 }
 
 fn check_items(
     wanted: Option<usize>,
-    joined: &[Joined<'_>],
-    clocks: &[&Name],
+    marks: &[bool],
+    joined: &Table<usize>,
     items: &[Item],
 ) -> Result<(), HierarchyError>
-    ensures { Judged result (flat_map (item_faults wanted (plain_all_joined joined.now) (plain_path clocks.now)) (map plain_item items.now)) }
+    ensures { Judged result (flat_map (item_faults wanted marks.now joined.now) (map plain_item items.now)) }
 {
     for item in items {
-        check_item(wanted, joined, clocks, item)?;
+        check_item(wanted, marks, joined, item)?;
     }
     Ok(())
 }
@@ -269,56 +261,65 @@ fn check_items(
 /// E13 of an instance.
 #[tactic(auto, unfolding(crate::specs::Clock::scope_faults))]
 fn check_scope(
-    alloc: Global,
     modules: &[Module],
-    ports: &[Option<usize>],
-    scope: &Scope<'_>,
+    wanted: Option<usize>,
+    marks: &[bool],
+    scope: &Scope,
 ) -> Result<(), HierarchyError>
-    ensures { Judged result (scope_faults (map plain_module modules.now) ports.now (plain_scope scope.now)) }
+    ensures { Judged result (scope_faults (map plain_module modules.now) wanted marks.now scope.now) }
 {
-    let clocks = clock_names(alloc, ports, scope.joined.as_slice())?;
     let items = items_at(modules, scope.place);
-    check_items(
-        first_port(ports),
-        scope.joined.as_slice(),
-        clocks.as_slice(),
-        items,
-    )
+    check_items(wanted, marks, &scope.joined, items)
 }
 
 fn check_scopes(
-    alloc: Global,
     modules: &[Module],
-    ports: &[Option<usize>],
-    scopes: &[Scope<'_>],
+    wanted: Option<usize>,
+    marks: &[bool],
+    scopes: &[Scope],
 ) -> Result<(), HierarchyError>
-    ensures { Judged result (flat_map (scope_faults (map plain_module modules.now) ports.now) (plain_scopes scopes.now)) }
+    ensures { Judged result (flat_map (scope_faults (map plain_module modules.now) wanted marks.now) scopes.now) }
 {
     for scope in scopes {
-        check_scope(alloc, modules, ports, scope)?;
+        check_scope(modules, wanted, marks, scope)?;
     }
     Ok(())
 }
 
-/// E13 `Clock` of a top whose 1-bit input ports are these: the line of the first clocked block whose name isn't
-/// joined to one of them, or to another than the first clocked block's, or of the first name that is joined to a
-/// clocked block's and is read in another place than after `posedge` and as a plain connection. The instances
-/// are taken in preorder, and each in text order.
+/// E13 of these instances.
 #[tactic(auto, unfolding(crate::specs::Clock::clock_faults))]
+fn check_all(
+    alloc: Global,
+    modules: &[Module],
+    inputs: usize,
+    scopes: &[Scope],
+) -> Result<(), HierarchyError>
+    ensures { Judged result (clock_faults (map plain_module modules.now) inputs scopes.now) }
+{
+    let ports = clock_ports(alloc, modules, scopes)?;
+    let wanted = first_port(ports.as_slice());
+    let marks = marks_of(alloc, inputs, ports.as_slice())?;
+    check_scopes(modules, wanted, marks.as_slice(), scopes)
+}
+
+/// E13 `Clock` of a top whose 1-bit input ports are these: the line of the first clocked block whose name isn't
+/// joined, by plain names through ports, to one of them, or is joined to another than the first clocked block's,
+/// or of the first name that is joined to a clocked block's port and is read in another place than after
+/// `posedge` and as a plain connection. The instances are taken in preorder, and each in text order. Nothing is
+/// found where the top isn't declared (E4). Ask only where `nodes_of` has an answer: the walk looks at all
+/// instances.
 pub fn check_clock(
     alloc: Global,
     file: &File,
     top: &[u8],
-    inputs: &[Name],
+    inputs: &[&Name],
 ) -> Result<(), HierarchyError>
-    ensures { Judged result (clock_faults (plain file.now).modules
-        (scopes_of (outlines_of (plain file.now).modules) inputs.now (place_of (plain file.now).modules top.now))) }
+    ensures { Judged result (clock_faults (plain file.now).modules (length inputs.now)
+        (scopes_of (outlines_of (plain file.now).modules) (plain_path inputs.now) (place_of (plain file.now).modules top.now))) }
 {
-    let modules = file.modules.as_slice();
-    let index = index_of(alloc, modules)?;
+    let index = index_of(alloc, file.modules.as_slice())?;
     let place = place_named(&index, top);
     let outlines = outlines(alloc, &index)?;
     let scopes = scopes_of(alloc, outlines.as_slice(), inputs, place)?;
-    let ports = clock_ports(alloc, modules, scopes.as_slice())?;
-    check_scopes(alloc, modules, ports.as_slice(), scopes.as_slice())
+    check_all(alloc, file.modules.as_slice(), inputs.len(), scopes.as_slice())
 }

@@ -1,49 +1,39 @@
 //! Names that are joined to input ports of the top, in each instance.
 
-ghost use Rattle.std.specs.Prelude.{◌≡◌, [], ◌∷◌, ◌++◌, map, option_map, IfOk, OnOk};
+ghost use Rattle.std.specs.Prelude.{◌≡◌, ◌<◌, [], ◌∷◌, ◌++◌, map, length, option_map, IfOk, OnOk};
 ghost use Rattle.std.specs.Option.{option_copied};
 ghost use Rattle.std.specs.List.{flat_map};
+ghost use Rattle.vlog_size.specs.Table.{value_of};
 ghost use Rattle.vlog_tree.specs.Plain.{plain_expr, plain_unary, plain_ref, plain_conn, plain_instance};
 ghost use Rattle.vlog_hierarchy.specs.Outlines.{children_at};
-ghost use Rattle.vlog_hierarchy.specs.Plain.{plain_child, plain_outlines};
-ghost use Rattle.vlog_hierarchy.specs.Joined.{plain_all_joined, plain_scopes};
-ghost use Rattle.vlog_hierarchy.specs.Clock.{ports_from, port_of, ref_name, plain_name, port_of_value, conn_joined, child_joined};
-ghost use Rattle.vlog_hierarchy.specs.Clock.{scopes, child_scopes, scopes_of};
+ghost use Rattle.vlog_hierarchy.specs.Plain.{plain_child, plain_outlines, plain_path};
+ghost use Rattle.vlog_hierarchy.specs.Clock.{ports_from, ref_name, plain_name, port_of_value, conn_joined, child_joined};
+ghost use Rattle.vlog_hierarchy.specs.Clock.{scopes, child_scopes, scopes_of, joined_at};
 
 use crate::outline::{Child, Outline};
 use std::alloc::Global;
-use vidi_bits::{Items, Memory, Name};
+use vidi_bits::{Items, Memory, Name, copied};
+use vlog_size::Table;
 use vlog_tree::{Conn, Expr, Instance, Prim as Operand, Ref, Unary, see_concat, see_repeat};
 
 /// The most levels that are looked at: one more than there can be with the most instances.
 const DEPTH: usize = 4_097;
 
-/// A name of an instance that is joined, by plain names through ports, to a 1-bit input port of the top.
-#[derive(Clone, Copy)]
-pub struct Joined<'a> {
-    pub name: &'a Name,
-    /// The place of the top's port among its 1-bit input ports, counted from 0.
-    pub port: usize,
-}
-
 /// An instance.
 #[derive(Drop)]
-pub struct Scope<'a> {
+pub struct Scope {
     /// The place of its module in the file, counted from 0.
     pub place: usize,
-    pub joined: Items<Joined<'a>>,
+    /// Its names that are joined, by plain names through ports, to a 1-bit input port of the top, each with that
+    /// port's place among these ports, counted from 0.
+    pub joined: Table<usize>,
 }
 
 /// The port to which a name is joined.
-pub fn port_of(joined: &[Joined<'_>], name: &[u8]) -> Option<usize>
-    ensures { result ≡ port_of (plain_all_joined joined.now) name.now }
+pub fn port_of(joined: &Table<usize>, name: &[u8]) -> Option<usize>
+    ensures { result ≡ value_of joined.now name.now }
 {
-    for one in joined {
-        if name == one.name.as_slice() {
-            return Some(one.port);
-        }
-    }
-    None
+    joined.get(name).copied()
 }
 
 /// The name that a reference without brackets is.
@@ -93,8 +83,8 @@ pub fn plain_name(e: &Expr) -> Option<&Name>
 }
 
 /// The port to which what is connected is joined.
-fn port_of_value(joined: &[Joined<'_>], value: &Option<Expr>) -> Option<usize>
-    ensures { result ≡ port_of_value (plain_all_joined joined.now) (option_map plain_expr value.now) }
+fn port_of_value(joined: &Table<usize>, value: &Option<Expr>) -> Option<usize>
+    ensures { result ≡ port_of_value joined.now (option_map plain_expr value.now) }
 {
     match value {
         None => None,
@@ -106,109 +96,94 @@ fn port_of_value(joined: &[Joined<'_>], value: &Option<Expr>) -> Option<usize>
 }
 
 /// Adds what a connection joins.
-fn add_joined<'a>(
-    joined: &[Joined<'_>],
-    conn: &'a Conn,
-    out: &mut Items<Joined<'a>>,
+fn add_joined(
+    alloc: Global,
+    joined: &Table<usize>,
+    conn: &Conn,
+    inner: &mut Table<usize>,
 ) -> Result<(), Memory>
-    ensures { OnOk result (plain_all_joined out.new
-        ≡ plain_all_joined out.old ++ conn_joined (plain_all_joined joined.now) (plain_conn conn.now)) }
+    ensures { OnOk result (inner.new ≡ conn_joined joined.now inner.old (plain_conn conn.now)) }
 {
     match port_of_value(joined, &conn.value) {
         Some(port) => {
-            out.push(Joined {
-                name: &conn.id.name,
-                port,
-            })?;
+            let name = copied(alloc, conn.id.name.as_slice())?;
+            inner.push(name, port)?;
             Ok(())
         }
         None => Ok(()),
     }
 }
 
-/// What the connections of an instance join in it.
+/// The joined names of a child.
 #[tactic(auto, unfolding(crate::specs::Clock::child_joined))]
-fn child_joined<'a>(
+fn child_joined(
     alloc: Global,
-    joined: &[Joined<'_>],
-    instance: &'a Instance,
-) -> Result<Items<Joined<'a>>, Memory>
-    ensures { IfOk result (λ js. plain_all_joined js ≡ child_joined (plain_all_joined joined.now) (plain_instance instance.now)) }
+    joined: &Table<usize>,
+    instance: &Instance,
+) -> Result<Table<usize>, Memory>
+    ensures { IfOk result (λ js. js ≡ child_joined joined.now (plain_instance instance.now)) }
 {
-    let mut out = Items::new(alloc);
+    let mut inner = Table::new(alloc);
     for conn in instance.ports.as_slice() {
-        add_joined(joined, conn, &mut out)?;
+        add_joined(alloc, joined, conn, &mut inner)?;
     }
-    Ok(out)
+    Ok(inner)
 }
 
-/// A copy of joined names.
-fn copied_joined<'a>(
+/// The joined names of a child of the instance at place `at` of the list.
+fn inner_of(
     alloc: Global,
-    joined: &[Joined<'a>],
-) -> Result<Items<Joined<'a>>, Memory>
-    ensures { IfOk result (λ js. plain_all_joined js ≡ plain_all_joined joined.now) }
+    scopes: &[Scope],
+    at: usize,
+    instance: &Instance,
+) -> Result<Table<usize>, Memory>
+    requires { at < length scopes.now }
+    ensures { IfOk result (λ js. js ≡ child_joined (joined_at scopes.now at) (plain_instance instance.now)) }
 {
-    let mut copy = Items::new(alloc);
-    for one in joined {
-        copy.push(*one)?;
-    }
-    Ok(copy)
-}
-
-fn add_scope<'a>(
-    alloc: Global,
-    joined: &[Joined<'a>],
-    place: usize,
-    out: &mut Items<Scope<'a>>,
-) -> Result<(), Memory>
-    ensures { OnOk result (plain_scopes out.new ≡ plain_scopes out.old ++ record { place = place; joined = plain_all_joined joined.now } ∷ []) }
-{
-    let joined = copied_joined(alloc, joined)?;
-    out.push(Scope { place, joined })?;
-    Ok(())
+    child_joined(alloc, &scopes[at].joined, instance)
 }
 
 /// Adds an instance of a module, and all those in it.
 #[cycle(add)]
-fn add_scopes<'a>(
+fn add_scopes(
     alloc: Global,
-    outlines: &[Outline<'a>],
+    outlines: &[Outline<'_>],
     depth: usize,
-    joined: &[Joined<'a>],
+    joined: Table<usize>,
     place: usize,
-    out: &mut Items<Scope<'a>>,
+    out: &mut Items<Scope>,
 ) -> Result<(), Memory>
-    ensures { OnOk result (plain_scopes out.new
-        ≡ plain_scopes out.old ++ scopes depth (plain_outlines outlines.now) (plain_all_joined joined.now) place) }
+    ensures { OnOk result (out.new ≡ out.old ++ scopes depth (plain_outlines outlines.now) joined place) }
 {
     if depth == 0 {
         return Ok(());
     }
-    add_scope(alloc, joined, place, out)?;
-    add_inside(alloc, outlines, depth - 1, joined, place, out)?;
+    let at = out.len();
+    out.push(Scope { place, joined })?;
+    add_inside(alloc, outlines, depth - 1, at, place, out)?;
     Ok(())
 }
 
-/// Adds all instances in an instance of a module.
+/// Adds all instances in the instance at place `at` of the list, whose module is at this place.
 #[cycle(add)]
-fn add_inside<'a>(
+fn add_inside(
     alloc: Global,
-    outlines: &[Outline<'a>],
+    outlines: &[Outline<'_>],
     depth: usize,
-    joined: &[Joined<'a>],
+    at: usize,
     place: usize,
-    out: &mut Items<Scope<'a>>,
+    out: &mut Items<Scope>,
 ) -> Result<(), Memory>
-    ensures { OnOk result (plain_scopes out.new ≡ plain_scopes out.old ++ flat_map
-        (child_scopes depth (plain_outlines outlines.now) (plain_all_joined joined.now)) (children_at (plain_outlines outlines.now) place)) }
+    requires { at < length out.old }
+    ensures { OnOk result (out.new ≡ out.old ++ flat_map
+        (child_scopes depth (plain_outlines outlines.now) (joined_at out.old at)) (children_at (plain_outlines outlines.now) place)) }
 {
     match outlines.get(place) {
         Some(outline) => add_children(
             alloc,
             outlines,
             depth,
-            joined,
+            at,
             outline.children.as_slice(),
             out,
         ),
@@ -216,52 +191,54 @@ fn add_inside<'a>(
     }
 }
 
-/// Adds all instances in an instance of a module with these children.
+/// Adds all instances in the instance at place `at` of the list, which has these children.
 #[cycle(add)]
-fn add_children<'a>(
+fn add_children(
     alloc: Global,
-    outlines: &[Outline<'a>],
+    outlines: &[Outline<'_>],
     depth: usize,
-    joined: &[Joined<'a>],
-    children: &[Child<'a>],
-    out: &mut Items<Scope<'a>>,
+    at: usize,
+    children: &[Child<'_>],
+    out: &mut Items<Scope>,
 ) -> Result<(), Memory>
-    ensures { OnOk result (plain_scopes out.new ≡ plain_scopes out.old
-        ++ flat_map (child_scopes depth (plain_outlines outlines.now) (plain_all_joined joined.now)) (map plain_child children.now)) }
+    requires { at < length out.old }
+    ensures { OnOk result (out.new ≡ out.old
+        ++ flat_map (child_scopes depth (plain_outlines outlines.now) (joined_at out.old at)) (map plain_child children.now)) }
 {
     for child in children {
-        let inner = child_joined(alloc, joined, child.instance)?;
-        add_scopes(alloc, outlines, depth, inner.as_slice(), child.place, out)?;
+        let inner = inner_of(alloc, out.as_slice(), at, child.instance)?;
+        add_scopes(alloc, outlines, depth, inner, child.place, out)?;
     }
     Ok(())
 }
 
 /// The joined names of the top.
-fn top_joined<'a>(alloc: Global, inputs: &'a [Name]) -> Result<Items<Joined<'a>>, Memory>
-    ensures { IfOk result (λ js. plain_all_joined js ≡ ports_from 0 inputs.now) }
+fn top_joined(alloc: Global, inputs: &[&Name]) -> Result<Table<usize>, Memory>
+    ensures { IfOk result (λ js. js ≡ ports_from 0 [] (plain_path inputs.now)) }
 {
-    let mut joined = Items::new(alloc);
+    let mut joined = Table::new(alloc);
     for (port, name) in inputs.iter().enumerate() {
-        joined.push(Joined { name, port })?;
+        let copy = copied(alloc, name.as_slice())?;
+        joined.push(copy, port)?;
     }
     Ok(joined)
 }
 
 /// The instances of a top with these 1-bit input ports.
 #[tactic(auto, unfolding(crate::specs::Clock::scopes_of))]
-pub fn scopes_of<'a>(
+pub fn scopes_of(
     alloc: Global,
-    outlines: &[Outline<'a>],
-    inputs: &'a [Name],
+    outlines: &[Outline<'_>],
+    inputs: &[&Name],
     top: Option<usize>,
-) -> Result<Items<Scope<'a>>, Memory>
-    ensures { IfOk result (λ ss. plain_scopes ss ≡ scopes_of (plain_outlines outlines.now) inputs.now top) }
+) -> Result<Items<Scope>, Memory>
+    ensures { IfOk result (λ ss. ss ≡ scopes_of (plain_outlines outlines.now) (plain_path inputs.now) top) }
 {
     let mut out = Items::new(alloc);
     match top {
         Some(place) => {
             let joined = top_joined(alloc, inputs)?;
-            add_scopes(alloc, outlines, DEPTH, joined.as_slice(), place, &mut out)?;
+            add_scopes(alloc, outlines, DEPTH, joined, place, &mut out)?;
             Ok(out)
         }
         None => Ok(out),

@@ -1,9 +1,0 @@
-use Rattle.std.proofs.Common.{◌≡◌, drop}
-use Rattle.std.specs.List.{list_any}
-use Rattle.std.specs.Str.{bytes_eq}
-use Rattle.vlog_hierarchy.specs.Plain.{plain_path}
-use Rattle.vlog_hierarchy.proofs.reads.is_among.Given as goal
-
-abbrev pub invariant-loop-other : goal.invariant-loop-other
-invariant-loop-other l =
-    list_any (bytes_eq l.name) (plain_path (drop l.other-index l.names)) ≡ list_any (bytes_eq l.name) (plain_path l.names)
