@@ -3,5 +3,7 @@ pub mod Closed
 pub mod Deeper
 mod Examples
 pub mod Many
+pub mod Marks
 pub mod PlaceLaws
 pub mod Reaching
+pub mod Scoped
