@@ -22,7 +22,7 @@ abbrev AreNodes : ℕ → List (ModuleOf ℕ) → Type 0
 AreNodes n ms = (i : ModuleInstance) → slice_get ms i.place ≡ Some i.tree
     → map node_of (within n ms i) ≡ nodes n (outlines_of ms) i.path i.place
 
-below : (n : ℕ) (ms : List (ModuleOf ℕ)) → List ModuleInstance → List Node
+abbrev below : (n : ℕ) (ms : List (ModuleOf ℕ)) → List ModuleInstance → List Node
 below n ms is = map node_of (flat_map (within n ms) is)
 
 one_node : (n : ℕ) (ms : List (ModuleOf ℕ)) → AreNodes n ms → (i : ModuleInstance) → slice_get ms i.place ≡ Some i.tree

@@ -1,4 +1,5 @@
 pub mod Answered
+pub mod Clock
 pub mod Errors
 pub mod Inside
 pub mod Instances

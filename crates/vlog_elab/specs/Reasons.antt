@@ -1,6 +1,6 @@
 -- Why a design text with a top is refused, in the order in which the reasons are tried (this project's profile): each reason as the list
 -- of all its findings, in the order in which they are answered.
-use Rattle.std.specs.Prelude.{◌≡◌, ◌⊎◌, ℕ, nat_lt, List, [], ◌∷◌, ◌++◌, map, slice_get, Option, None, Some}
+use Rattle.std.specs.Prelude.{◌≡◌, ◌⊎◌, ℕ, nat_lt, List, [], ◌∷◌, ◌++◌, map, length, slice_get, Option, None, Some}
 use Rattle.std.specs.List.{flat_map, sum_by}
 use Rattle.vidi_bits.specs.Findings.{told_if}
 use Rattle.vlog_tree.specs.Tree.{ModuleOf, FileOf}
@@ -10,6 +10,7 @@ use Rattle.vlog_kinds.specs.Uses.{wrong_uses}
 use Rattle.vlog_hierarchy.specs.Outlines.{place_of, outlines_of}
 use Rattle.vlog_hierarchy.specs.Nested.{IsNestedAnswer}
 use Rattle.vlog_hierarchy.specs.Nodes.{nodes_of, size_faults}
+use Rattle.vlog_hierarchy.specs.Clock.{scopes_of, clock_faults}
 use Rattle.vlog_scope.specs.Scope.{words_of}
 use Rattle.vlog_scope.specs.Faults.{const_faults, width_faults}
 use Rattle.vlog_elab.specs.declared.error.Big.TheVariants.{Words}
@@ -17,6 +18,7 @@ use Rattle.vlog_elab.specs.declared.error.ElabError.{ElabError}
 use Rattle.vlog_elab.specs.declared.error.ElabError.TheVariants as e
 use Rattle.vlog_elab.specs.Errors.{of_name, of_line, of_hierarchy, of_size}
 use Rattle.vlog_elab.specs.Instances.{ModuleInstance, instances}
+use Rattle.vlog_elab.specs.Clock.{clock_inputs}
 use Rattle.vlog_elab.specs.Answered.{IsFirst}
 
 -- ---- over the file
@@ -77,9 +79,22 @@ word_findings is = told_if (nat_lt 1048576 (word_total is)) (e.TooBig Words)
 unfoldable pub instance_findings : List ModuleInstance → List ElabError
 instance_findings is = flat_map instance_consts is ++ (flat_map instance_widths is ++ word_findings is)
 
--- E12 of instances and nets, E5, E6 and E12 of words
+-- E13, where the top has these input ports of one bit
+abbrev pub clock_faults_of : FileOf ℕ → List ℕ → List (List ℕ) → List ElabError
+clock_faults_of file top inputs = map of_hierarchy
+    (clock_faults file.modules (length inputs) (scopes_of (outlines_of file.modules) inputs (place_of file.modules top)))
+
+-- E13, where these are the instances
+unfoldable pub clock_findings : FileOf ℕ → List ℕ → List ModuleInstance → List ElabError
+clock_findings file top is = clock_faults_of file top (clock_inputs is)
+
+-- E5, E6, E12 of words and E13, where these are the instances
+unfoldable pub late_findings : FileOf ℕ → List ℕ → List ModuleInstance → List ElabError
+late_findings file top is = instance_findings is ++ clock_findings file top is
+
+-- E12 of instances and nets, E5, E6, E12 of words and E13
 unfoldable pub size_findings : FileOf ℕ → List ℕ → List ElabError
-size_findings file top = hierarchy_findings file top ++ instance_findings (instances file top)
+size_findings file top = hierarchy_findings file top ++ late_findings file top (instances file top)
 
 -- ---- all reasons
 
@@ -94,7 +109,7 @@ RefusedLater file top error = Then (NestedFinding file top) (IsNotNested file to
 abbrev pub ClearLater : FileOf ℕ → List ℕ → Type 0
 ClearLater file top = IsNotNested file top × (size_findings file top ≡ [])
 
--- the first reason, in the order E3, E4, E7, E11, E12 of instances and nets, E5, E6, E12 of words
+-- the first reason, in the order E3, E4, E7, E11, E12 of instances and nets, E5, E6, E12 of words, E13
 abbrev pub Refused : FileOf ℕ → List ℕ → ElabError → Type 0
 Refused file top error = Then (IsFirst (text_findings file top)) (text_findings file top ≡ []) (RefusedLater file top) error
 

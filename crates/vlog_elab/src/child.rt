@@ -1,7 +1,7 @@
 //! The instances that stand in an instance.
 
 ghost use Rattle.std.specs.Prelude.{◌≡◌, ◌++◌, ◌∷◌, [], map, slice_get, IfOk, OnOk, Some};
-ghost use Rattle.vlog_tree.specs.Plain.{plain_instance, plain_item};
+ghost use Rattle.vlog_tree.specs.Plain.{plain_instance, plain_item, plain_module};
 ghost use Rattle.vlog_hierarchy.specs.Plain.{plain_path};
 ghost use Rattle.vlog_hierarchy.specs.Outlines.{place_of};
 ghost use Rattle.vlog_scope.specs.Scope.{readable_at};
@@ -41,7 +41,7 @@ fn child_of<'a>(
     tree: &'a Module,
 ) -> Result<ModuleInstance<'a>, Memory>
     ensures { IfOk result (λ c. plain.plain_instance c ∷ [] ≡ instances.child_of (plain_path parent.now.path)
-        (readable_at parent.now.scope declared) (plain_instance instance.now) place (Some (plain.plain_borrowed tree))) }
+        (readable_at parent.now.scope declared) (plain_instance instance.now) place (Some (plain_module tree.now))) }
 {
     let path = longer_path(alloc, parent.path.as_slice(), &instance.id.name)?;
     let view = view_at(&parent.scope, declared);
@@ -96,7 +96,7 @@ fn child_named<'a>(
 }
 
 /// The instance that an item is.
-fn item_child<'a>(
+pub fn item_child<'a>(
     alloc: Global,
     modules: &Modules<'a, '_>,
     parent: &ModuleInstance<'a>,

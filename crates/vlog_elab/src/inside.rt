@@ -20,7 +20,7 @@ fn add_listed<'a>(
     out: &mut Items<ModuleInstance<'a>>,
     child: Option<ModuleInstance<'a>>,
 ) -> Result<(), Memory>
-    ensures { OnOk result (plain_instances out.new ≡ plain_instances out.old ++ listed child) }
+    ensures { OnOk result (plain_instances out.new ≡ plain_instances out.old ++ listed child.entry) }
 {
     match child {
         Some(child) => out.push(child),

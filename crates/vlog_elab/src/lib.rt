@@ -7,6 +7,7 @@
 
 mod all;
 mod child;
+mod clock;
 mod error;
 mod inside;
 mod instance;

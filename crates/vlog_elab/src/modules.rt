@@ -9,6 +9,7 @@ use vlog_names::ModuleTable;
 use vlog_tree::Module;
 
 /// The modules of a file, and what each declares by name.
+#[derive(Clone, Copy)]
 pub struct Modules<'a, 'b> {
     pub table: &'b ModuleTable,
     pub list: &'a [Module],

@@ -13,6 +13,7 @@ ghost use Rattle.vlog_elab.specs.Reasons as reasons;
 ghost use Rattle.vlog_elab.specs.Answered.{Judged};
 
 use crate::all::all_instances;
+use crate::clock::one_clock;
 use crate::error::{Big, ElabError};
 use crate::instance::{ModuleInstance, ModuleInstances};
 use std::alloc::Global;
@@ -171,19 +172,33 @@ fn lawful(list: &[ModuleInstance<'_>]) -> Result<(), ElabError>
     few_words(list)
 }
 
+/// E5, E6, E12 of words, then E13.
+#[tactic(auto, unfolding(crate::specs::Reasons::late_findings))]
+fn judged(
+    alloc: Global,
+    file: &File,
+    top: &[u8],
+    list: &[ModuleInstance<'_>],
+) -> Result<(), ElabError>
+    ensures { Judged result (reasons.late_findings (plain file.now) top.now (plain_instances list.now)) }
+{
+    lawful(list)?;
+    one_clock(alloc, file, top, list)
+}
+
 /// The instances, where nothing is found in them.
-fn lawful_instances<'a>(
+fn judged_instances<'a>(
     alloc: Global,
     modules: &ModuleTable,
     file: &'a File,
     top: &[u8],
 ) -> Result<Items<ModuleInstance<'a>>, ElabError>
     requires { modules.now ≡ modules_of (plain file.now) }
-    ensures told { Judged result (reasons.instance_findings (instances (plain file.now) top.now)) }
+    ensures told { Judged result (reasons.late_findings (plain file.now) top.now (instances (plain file.now) top.now)) }
     ensures value { IfOk result (λ is. plain_instances is ≡ instances (plain file.now) top.now) }
 {
     let list = all_instances(alloc, modules, file, top)?;
-    lawful(list.as_slice())?;
+    judged(alloc, file, top, list.as_slice())?;
     Ok(list)
 }
 
@@ -200,11 +215,11 @@ fn sized<'a>(
     ensures value { IfOk result (λ r. AreInstances (plain file.now) top.now r) }
 {
     let Numbers { firsts, nets } = counted(alloc, file, top)?;
-    let list = lawful_instances(alloc, modules, file, top)?;
+    let list = judged_instances(alloc, modules, file, top)?;
     Ok(ModuleInstances { list, firsts, nets })
 }
 
-/// The instances, where E11, E12, E5 and E6 find nothing.
+/// The instances, where E11, E12, E5, E6 and E13 find nothing.
 fn below_top<'a>(
     alloc: Global,
     modules: &ModuleTable,
@@ -225,8 +240,8 @@ fn below_top<'a>(
 /// # Errors
 ///
 /// The first reason that holds of the file and its top, in the order E3, E4, E7, E11, E12 of instances, E12 of nets, E5, E6, E12 of
-/// words; of several findings of one reason the first in the file for E3, E4, E7 and E11, and for E5 and E6 the first in the first
-/// instance in preorder. `Memory`: there isn't enough memory.
+/// words, E13; of several findings of one reason the first in the file for E3, E4, E7 and E11, and for E5, E6 and E13 the first in the
+/// first instance in preorder. `Memory`: there isn't enough memory.
 pub fn instances_of<'a>(
     alloc: Global,
     file: &'a File,

@@ -1,13 +1,13 @@
 //! Design texts whose top is `t`, and why they are refused.
 
 use crate::said::Said;
-use crate::said::Said::{E3, E4, E5, E6, E7, E11, E12, Fine};
+use crate::said::Said::{E3, E4, E5, E6, E7, E11, E12, E13, Fine};
 use vlog_elab::Big;
 
 pub type Row = (&'static str, Said);
 
 /// A smallest text for each reason, and one beside it for which none holds.
-pub const REASONS: [Row; 20] = [
+pub const REASONS: [Row; 28] = [
     ("module t(input a); wire a; endmodule", E3("a")),
     ("module t(input a); wire b; endmodule", Fine),
     ("module t(); endmodule module t(); endmodule", E3("t")),
@@ -45,6 +45,45 @@ pub const REASONS: [Row; 20] = [
     ),
     // A memory whose bound isn't lawful.
     ("module t(); reg m [\n1:1048577]; endmodule", E5(2)),
+    (
+        "module t(input c, input d, output reg q); always @(posedge c) q <= d; endmodule",
+        Fine,
+    ),
+    (
+        "module t(input [1:0] c, input d, output reg q);\nalways @(posedge c) q <= d; endmodule",
+        E13(2),
+    ),
+    // One bit by a parameter.
+    (
+        "module t #(parameter P = 0)(input [P:0] c, input d, output reg q); always @(posedge c) q <= d; endmodule",
+        Fine,
+    ),
+    (
+        "module t(output c, input d, output reg q);\nalways @(posedge c) q <= d; endmodule",
+        E13(2),
+    ),
+    // A port without a direction is an input as the one before.
+    (
+        "module t(input d, c, output reg q); always @(posedge c) q <= d; endmodule",
+        Fine,
+    ),
+    // A clock that is read.
+    (
+        "module t(input c, output reg q); always @(posedge c) q <=\nc; endmodule",
+        E13(2),
+    ),
+    // Through two levels of ports, and through an expression.
+    (
+        "module t(input c, input d, output q); a u(.e(c), .d(d), .q(q)); endmodule
+module a(input e, input d, output q); b v(.c(e), .d(d), .q(q)); endmodule
+module b(input c, input d, output reg q); always @(posedge c) q <= d; endmodule",
+        Fine,
+    ),
+    (
+        "module t(input c, input d, output q); b v(.c(c & 1'b1), .d(d), .q(q)); endmodule
+module b(input c, input d, output reg q); always @(posedge c) q <= d; endmodule",
+        E13(2),
+    ),
 ];
 
 /// Several instances.
@@ -136,9 +175,9 @@ module b #(parameter Q = 0)(); wire [\nQ - 5:0] w; endmodule",
     ),
 ];
 
-/// Items of the top, each with a reason, in the order of the reasons: E3, E4, E7, E11, E12 of instances, E12 of nets, E5, E6, and E12
-/// of words.
-pub const FAULTS: [Row; 9] = [
+/// Items of the top, each with a reason, in the order of the reasons: E3, E4, E7, E11, E12 of instances, E12 of nets, E5, E6, E12
+/// of words, and E13.
+pub const FAULTS: [Row; 10] = [
     ("wire a, a; ", E3("a")),
     ("wire b = nope; ", E4("nope")),
     ("assign i = 1'b0; ", E7(1)),
@@ -148,6 +187,7 @@ pub const FAULTS: [Row; 9] = [
     ("wire [1:1] f; ", E5(1)),
     ("wire [128:0] g; ", E6(1, 129)),
     ("reg h [0:1048576]; ", E12(Big::Words)),
+    ("wire j; reg k; always @(posedge j) k <= 1'b0; ", E13(1)),
 ];
 
 /// A module that contains itself; one with 8,190 instances in it; and one with 4,094, of which 2,048 have 33 nets each.

@@ -14,6 +14,7 @@ pub enum Said {
     E7(u32),
     E11(&'static str),
     E12(Big),
+    E13(u32),
 }
 
 fn is_name(name: &Name, want: &str) -> bool {
@@ -30,6 +31,7 @@ pub fn is_said(error: &ElabError, want: Said) -> bool {
         (ElabError::Kind { line }, Said::E7(want)) => *line == want,
         (ElabError::Nested { name }, Said::E11(want)) => is_name(name, want),
         (ElabError::TooBig { what }, Said::E12(want)) => *what == want,
+        (ElabError::Clock { line }, Said::E13(want)) => *line == want,
         _ => false,
     }
 }
