@@ -1,11 +1,11 @@
 -- Instances are added one by one.
 use Rattle.std.proofs.Common.{◌≡◌, ◌≢◌, ℕ, zero, suc, ◌+◌, ◌-◌, ◌<◌, ◌≤◌, ◌⊎◌, inl, inr, List, [], ◌∷◌, ◌++◌, map, drop, length, get_or}
 use Rattle.std.proofs.Common.{refl, sym, ap, subst, ◌∙◌, arith, drop-cons, append_assoc, append-nil, length-append}
-use Rattle.std.proofs.Common.{Option, None, Some, slice_get}
+use Rattle.std.proofs.Common.{Option, None, Some, slice_get, option_map}
 use Rattle.std.specs.List.{flat_map}
 use Rattle.std.proofs.lemmas.Grind.{flat_map-append}
 use Rattle.std.proofs.lemmas.List.{length-map, drop_all}
-use Rattle.std.proofs.lemmas.Option.{slice_get_past}
+use Rattle.std.proofs.lemmas.Option.{slice_get-map}
 use Rattle.vlog_tree.specs.Tree.{InstanceOf, ItemOf, WiresItem, DrivenWiresItem, RegsItem, LocalparamsItem, AssignItem, AlwaysItem}
 use Rattle.vlog_tree.specs.Tree.{InstanceItem, ModuleOf}
 use Rattle.vlog_tree.specs.declared.module.Item.{Item}
@@ -179,12 +179,46 @@ all_inside ms depth at first xs whole k items i past' before =
 
 -- ---- the instance at a place of the list
 
-pub nothing_there : (ms : List (ModuleOf ℕ)) (depth at : ℕ) (out : List code.ModuleInstance) → length out ≤ at
+at_place : (out : List code.ModuleInstance) (at : ℕ) (o : Option code.ModuleInstance) → o ≡ slice_get out at
+    → slice_get (plain_instances out) at ≡ option_map plain_instance o
+at_place out at o h = slice_get-map plain_instance out at ∙ ap (option_map plain_instance) (sym h)
+
+pub none_inside : (ms : List (ModuleOf ℕ)) (depth at : ℕ) (out : List code.ModuleInstance) → None ≡ slice_get out at
     → plain_instances out ≡ plain_instances out ++ flat_map (within depth ms) (children_at ms (slice_get (plain_instances out) at))
-nothing_there ms depth at out past' =
-    sym (ap (λ (o : Option ModuleInstance). plain_instances out ++ flat_map (within depth ms) (children_at ms o))
-    (slice_get_past (plain_instances out) at (omega (arith, past', length-map out plain_instance)))
+none_inside ms depth at out h =
+    sym (ap (λ (o : Option ModuleInstance). plain_instances out ++ flat_map (within depth ms) (children_at ms o)) (at_place out at None h)
     ∙ append-nil (plain_instances out))
+
+pub no_child : (ms : List (ModuleOf ℕ)) (at : ℕ) (out : List code.ModuleInstance) (k : ℕ) (item : ItemOf ℕ) → None ≡ slice_get out at
+    → plain_instances out ≡ plain_instances out ++ one_child ms (slice_get (plain_instances out) at) k item
+no_child ms at out k item h =
+    sym (ap (λ (o : Option ModuleInstance). plain_instances out ++ one_child ms o k item) (at_place out at None h)
+    ∙ append-nil (plain_instances out))
+
+pub child_here : (ms : List (ModuleOf ℕ)) (at : ℕ) (out : List code.ModuleInstance) (p : code.ModuleInstance) (k : ℕ) (item : ItemOf ℕ)
+    (new children : List ModuleInstance) → Some p ≡ slice_get out at → new ≡ plain_instances out ++ children
+    → children ≡ one_child ms (Some (plain_instance p)) k item
+    → new ≡ plain_instances out ++ one_child ms (slice_get (plain_instances out) at) k item
+child_here ms at out p k item new children there grew is =
+    grew ∙ ap (λ (xs : List ModuleInstance). plain_instances out ++ xs)
+    (is ∙ sym (ap (λ (o : Option ModuleInstance). one_child ms o k item) (at_place out at (Some p) there)))
+
+children_here : (ms : List (ModuleOf ℕ)) (i : ModuleInstance)
+    → children_past ms (Some i) i.scope.declared i.tree.items ≡ children_at ms (Some i)
+unfolding children
+children_here ms i = refl
+
+pub inside_here : (ms : List (ModuleOf ℕ)) (depth at : ℕ) (out new : List code.ModuleInstance) (p : code.ModuleInstance) (items : List Item)
+    → Some p ≡ slice_get out at → items ≡ p.tree.now.items
+    → plain_instances new ≡ plain_instances out ++ flat_map (within depth ms)
+    (children_past ms (slice_get (plain_instances out) at) p.scope.declared (map plain_item items))
+    → plain_instances new ≡ plain_instances out ++ flat_map (within depth ms) (children_at ms (slice_get (plain_instances out) at))
+inside_here ms depth at out new p items there is grew =
+    let e : slice_get (plain_instances out) at ≡ Some (plain_instance p) = at_place out at (Some p) there in
+    grew ∙ ap (λ (cs : List ModuleInstance). plain_instances out ++ flat_map (within depth ms) cs)
+    (ap (λ (xs : List Item). children_past ms (slice_get (plain_instances out) at) p.scope.declared (map plain_item xs)) is
+    ∙ (ap (λ (o : Option ModuleInstance). children_past ms o p.scope.declared (map plain_item p.tree.now.items)) e
+    ∙ (children_here ms (plain_instance p) ∙ sym (ap (children_at ms) e))))
 
 -- ---- the top
 

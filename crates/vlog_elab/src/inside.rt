@@ -41,11 +41,13 @@ fn add_child<'a>(
     ensures { OnOk result (plain_instances out.new ≡ plain_instances out.old
         ++ inside.one_child (trees_in modules.now) (slice_get (plain_instances out.old) at) declared (plain_item item.now)) }
 {
-    let Some(parent) = out.get(at) else {
-        return Ok(());
-    };
-    let child = item_child(alloc, modules, parent, declared, item)?;
-    add_listed(out, child)
+    match out.get(at) {
+        Some(parent) => {
+            let child = item_child(alloc, modules, parent, declared, item)?;
+            add_listed(out, child)
+        }
+        None => Ok(()),
+    }
 }
 
 /// The number of parameters that are declared before what follows an item of the instance at this place of the list.
