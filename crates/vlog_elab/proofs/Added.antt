@@ -112,12 +112,14 @@ split_at items i item within at =
     (drop-cons items i item within ∙ ap (λ (x : Item). x ∷ drop (suc i) items) (sym at) ∙ ap (λ k. item ∷ drop k items) after)
 
 -- where the invariant stands before an item
-pub record Before (ms : List (ModuleOf ℕ)) (depth at : ℕ) (first xs whole : List ModuleInstance) (k : ℕ) (items : List (ItemOf ℕ)) : Type 0 where
+pub record Before (ms : List (ModuleOf ℕ)) (depth at : ℕ) (first xs whole : List ModuleInstance) (k : ℕ)
+    (items : List (ItemOf ℕ)) : Type 0 where
   pub place : slice_get xs at ≡ slice_get first at
   pub there : at < length xs
   pub value : xs ++ flat_map (within depth ms) (children_past ms (slice_get first at) k items) ≡ whole
 
-pub next_inside : (ms : List (ModuleOf ℕ)) (depth at : ℕ) (first xs mid new whole : List ModuleInstance) (k next : ℕ) (items : List Item) (i : ℕ)
+pub next_inside : (ms : List (ModuleOf ℕ)) (depth at : ℕ) (first xs mid new whole : List ModuleInstance) (k next : ℕ)
+    (items : List Item) (i : ℕ)
     (item : Item) → depth ≢ 0 → i < length items → item ≡ get_or items i item
     → Before ms depth at first xs whole k (map plain_item (drop i items))
     → mid ≡ xs ++ one_child ms (slice_get xs at) k (plain_item item)
@@ -144,9 +146,10 @@ next_inside ms depth at first xs mid new whole k next items i item some within' 
       place = place;
       there = let l = before.there in omega (arith, l, long);
       value =
-      ap (λ (ys : List ModuleInstance). ys ++ flat_map (within depth ms) (children_past ms o next rest)) n
+          ap (λ (ys : List ModuleInstance). ys ++ flat_map (within depth ms) (children_past ms o next rest)) n
           ∙ (ap (λ j. (xs ++ flat_map (within depth ms) one) ++ flat_map (within depth ms) (children_past ms o j rest)) c
-          ∙ (append_assoc xs (flat_map (within depth ms) one) (flat_map (within depth ms) (children_past ms o (declared_past o k (plain_item item)) rest))
+          ∙ (append_assoc xs (flat_map (within depth ms) one)
+          (flat_map (within depth ms) (children_past ms o (declared_past o k (plain_item item)) rest))
           ∙ (ap (λ (ys : List ModuleInstance). xs ++ ys)
           (sym (flat_map-append (within depth ms) one (children_past ms o (declared_past o k (plain_item item)) rest))
           ∙ ap (flat_map (within depth ms))

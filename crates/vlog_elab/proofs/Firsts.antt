@@ -35,8 +35,8 @@ first_map : {A B : Type 0} → (f : A → B) (xs : List A) (x : A) → first xs 
 first_map f [] x h = (cc)
 first_map f (y ∷ ys) x h = ap (option_map f) h
 
-pub none_map : {A B : Type 0} → (f : A → B) (xs : List A) → xs ≡ [] → map f xs ≡ []
-none_map f xs h = ap (map f) h
+pub none : {A B : Type 0} → (f : A → B) (xs : List A) → xs ≡ [] → map f xs ≡ []
+none f xs h = ap (map f) h
 
 pub name_first : (x : NameError) (fs : List NameError) → names.IsFirst x fs → IsFirst (map of_name fs) (of_name x)
 name_first (name.Twice n) fs h = first_map of_name fs (name.Twice n) h

@@ -7,9 +7,9 @@ use Rattle.vlog_tree.specs.Tree.{ModuleOf, FileOf}
 use Rattle.vlog_names.specs.Twice.{twice_names}
 use Rattle.vlog_names.specs.Unknown.{unknown_names}
 use Rattle.vlog_kinds.specs.Uses.{wrong_uses}
-use Rattle.vlog_hierarchy.specs.Outlines.{place_of, outlines_of}
+use Rattle.vlog_hierarchy.specs.Outlines.{Outline, place_of, outlines_of}
 use Rattle.vlog_hierarchy.specs.Nested.{IsNestedAnswer}
-use Rattle.vlog_hierarchy.specs.Nodes.{nodes_of, size_faults}
+use Rattle.vlog_hierarchy.specs.Nodes.{Node, nodes_of, size_faults}
 use Rattle.vlog_hierarchy.specs.Clock.{scopes_of, clock_faults}
 use Rattle.vlog_scope.specs.Scope.{words_of}
 use Rattle.vlog_scope.specs.Faults.{const_faults, width_faults}
@@ -55,9 +55,12 @@ NestedFinding file top error = ⊥
 -- ---- over the instances
 
 -- E12: more than 4,096 instances, then more than 65,536 nets
+abbrev pub node_findings : List Outline → List Node → List ElabError
+node_findings os ns = map of_hierarchy (size_faults os ns)
+
 unfoldable pub hierarchy_findings : FileOf ℕ → List ℕ → List ElabError
-hierarchy_findings file top = map of_hierarchy
-    (size_faults (outlines_of file.modules) (nodes_of (outlines_of file.modules) (place_of file.modules top)))
+hierarchy_findings file top =
+    node_findings (outlines_of file.modules) (nodes_of (outlines_of file.modules) (place_of file.modules top))
 
 -- E5 of an instance
 unfoldable pub instance_consts : ModuleInstance → List ElabError

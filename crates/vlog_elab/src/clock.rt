@@ -80,10 +80,7 @@ fn one_bit_inputs<'a>(
 }
 
 /// Those of the top, which is the first instance.
-fn clock_inputs<'a>(
-    alloc: Global,
-    list: &[ModuleInstance<'a>],
-) -> Result<Items<&'a Name>, Memory>
+fn clock_inputs<'a>(alloc: Global, list: &[ModuleInstance<'a>]) -> Result<Items<&'a Name>, Memory>
     ensures { IfOk result (λ names. plain_path names ≡ clock.clock_inputs (plain_instances list.now)) }
 {
     match list.first() {
@@ -93,13 +90,8 @@ fn clock_inputs<'a>(
 }
 
 /// E13, where the top has these input ports of one bit.
-#[tactic(auto, using(crate::proofs::Firsts::hierarchy_first, crate::proofs::Firsts::none_map))]
-fn clock_checked(
-    alloc: Global,
-    file: &File,
-    top: &[u8],
-    inputs: &[&Name],
-) -> Result<(), ElabError>
+#[tactic(auto, using(crate::proofs::Firsts::hierarchy_first, crate::proofs::Firsts::none))]
+fn clock_checked(alloc: Global, file: &File, top: &[u8], inputs: &[&Name]) -> Result<(), ElabError>
     ensures { Judged result (clock_faults_of (plain file.now) top.now (plain_path inputs.now)) }
 {
     Ok(check_clock(alloc, file, top, inputs)?)

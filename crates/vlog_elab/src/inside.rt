@@ -78,7 +78,15 @@ pub fn add_inside<'a>(
         Some(parent) => {
             let declared = parent.scope.declared;
             let tree = parent.tree;
-            add_items(alloc, modules, depth, at, declared, tree.items.as_slice(), out)
+            add_items(
+                alloc,
+                modules,
+                depth,
+                at,
+                declared,
+                tree.items.as_slice(),
+                out,
+            )
         }
         None => Ok(()),
     }

@@ -5,8 +5,8 @@ ghost use Rattle.std.specs.List.{flat_map};
 ghost use Rattle.vlog_tree.specs.Tree.{ModuleOf};
 ghost use Rattle.vlog_tree.specs.Plain.{plain, plain_module};
 ghost use Rattle.vlog_names.specs.Entries.{modules_of};
-ghost use Rattle.vlog_hierarchy.specs.Outlines.{outlines_of};
-ghost use Rattle.vlog_hierarchy.specs.Nodes.{firsts, net_total};
+ghost use Rattle.vlog_hierarchy.specs.Outlines.{outlines_of, place_of};
+ghost use Rattle.vlog_hierarchy.specs.Nodes.{nodes_of, firsts, net_total};
 ghost use Rattle.vlog_elab.specs.Instances.{instances, node_of};
 ghost use Rattle.vlog_elab.specs.Plain.{plain_instance, plain_instances, AreInstances};
 ghost use Rattle.vlog_elab.specs.Reasons as reasons;
@@ -18,7 +18,7 @@ use crate::error::{Big, ElabError};
 use crate::instance::{ModuleInstance, ModuleInstances};
 use std::alloc::Global;
 use vidi_bits::{Items, Memory, Name, copied};
-use vlog_hierarchy::{Nodes, nested, nodes_of};
+use vlog_hierarchy::{Nodes, nested};
 use vlog_kinds::check_kinds;
 use vlog_names::{ModuleTable, check_names};
 use vlog_scope::{const_fault, width_fault, words_of};
@@ -28,7 +28,7 @@ use vlog_tree::File;
 const MOST_WORDS: usize = 1_048_576;
 
 /// E3, then E4.
-#[tactic(auto, unfolding(crate::specs::Reasons::name_findings), using(crate::proofs::Firsts::name_first, crate::proofs::Firsts::none_map))]
+#[tactic(auto, unfolding(crate::specs::Reasons::name_findings), using(crate::proofs::Firsts::name_first, crate::proofs::Firsts::none))]
 fn named(alloc: Global, file: &File, top: &[u8]) -> Result<ModuleTable, ElabError>
     ensures told { Judged result (reasons.name_findings (plain file.now) top.now) }
     ensures modules { IfOk result (λ t. t ≡ modules_of (plain file.now)) }
@@ -37,7 +37,7 @@ fn named(alloc: Global, file: &File, top: &[u8]) -> Result<ModuleTable, ElabErro
 }
 
 /// E7.
-#[tactic(auto, unfolding(crate::specs::Reasons::kind_findings), using(crate::proofs::Firsts::kind_first, crate::proofs::Firsts::none_map))]
+#[tactic(auto, unfolding(crate::specs::Reasons::kind_findings), using(crate::proofs::Firsts::kind_first, crate::proofs::Firsts::none))]
 fn of_right_kinds(modules: &ModuleTable, file: &File) -> Result<(), ElabError>
     requires { modules.now ≡ modules_of (plain file.now) }
     ensures { Judged result (reasons.kind_findings (plain file.now)) }
@@ -80,6 +80,19 @@ fn not_nested(alloc: Global, file: &File, top: &[u8]) -> Result<(), ElabError>
     }
 }
 
+/// The instances that E12 counts, where there aren't too many instances or nets.
+#[tactic(auto, using(crate::proofs::Firsts::hierarchy_first, crate::proofs::Firsts::none))]
+fn counted_nodes<'a>(alloc: Global, file: &'a File, top: &[u8]) -> Result<Nodes<'a>, ElabError>
+    ensures told { Judged result (reasons.node_findings (outlines_of (plain file.now).modules)
+        (nodes_of (outlines_of (plain file.now).modules) (place_of (plain file.now).modules top.now))) }
+    ensures firsts { IfOk result (λ r. r.firsts ≡ firsts (outlines_of (plain file.now).modules) 0
+        (nodes_of (outlines_of (plain file.now).modules) (place_of (plain file.now).modules top.now))) }
+    ensures nets { IfOk result (λ r. r.nets ≡ net_total (outlines_of (plain file.now).modules)
+        (nodes_of (outlines_of (plain file.now).modules) (place_of (plain file.now).modules top.now))) }
+{
+    Ok(vlog_hierarchy::nodes_of(alloc, file, top)?)
+}
+
 /// The numbers of first nets, and the number of all nets.
 #[derive(Drop)]
 struct Numbers {
@@ -88,7 +101,7 @@ struct Numbers {
 }
 
 /// E12 of instances, then of nets.
-#[tactic(auto, unfolding(crate::specs::Reasons::hierarchy_findings), using(crate::proofs::Firsts::hierarchy_first, crate::proofs::Firsts::none_map, crate::proofs::Same::same_nodes))]
+#[tactic(auto, unfolding(crate::specs::Reasons::hierarchy_findings), using(crate::proofs::Same::same_nodes))]
 fn counted(alloc: Global, file: &File, top: &[u8]) -> Result<Numbers, ElabError>
     ensures told { Judged result (reasons.hierarchy_findings (plain file.now) top.now) }
     ensures firsts { IfOk result (λ n. n.firsts
@@ -100,12 +113,12 @@ fn counted(alloc: Global, file: &File, top: &[u8]) -> Result<Numbers, ElabError>
         nodes: _nodes,
         firsts,
         nets,
-    } = nodes_of(alloc, file, top)?;
+    } = counted_nodes(alloc, file, top)?;
     Ok(Numbers { firsts, nets })
 }
 
 /// E5 of an instance.
-#[tactic(auto, unfolding(crate::specs::Reasons::instance_consts), using(crate::proofs::Firsts::size_first, crate::proofs::Firsts::none_map))]
+#[tactic(auto, unfolding(crate::specs::Reasons::instance_consts), using(crate::proofs::Firsts::size_first, crate::proofs::Firsts::none))]
 fn instance_consts(instance: &ModuleInstance<'_>) -> Result<(), ElabError>
     ensures { Judged result (reasons.instance_consts (plain_instance instance.now)) }
 {
@@ -113,7 +126,7 @@ fn instance_consts(instance: &ModuleInstance<'_>) -> Result<(), ElabError>
 }
 
 /// E6 of an instance.
-#[tactic(auto, unfolding(crate::specs::Reasons::instance_widths), using(crate::proofs::Firsts::size_first, crate::proofs::Firsts::none_map))]
+#[tactic(auto, unfolding(crate::specs::Reasons::instance_widths), using(crate::proofs::Firsts::size_first, crate::proofs::Firsts::none))]
 fn instance_widths(instance: &ModuleInstance<'_>) -> Result<(), ElabError>
     ensures { Judged result (reasons.instance_widths (plain_instance instance.now)) }
 {

@@ -21,18 +21,12 @@ pub const REASONS: [Row; 28] = [
         "module c(); t u(); endmodule module t(); c u(); endmodule",
         E11("c"),
     ),
-    (
-        "module c(); endmodule module t(); c u(); endmodule",
-        Fine,
-    ),
+    ("module c(); endmodule module t(); c u(); endmodule", Fine),
     ("module t(); wire [8:\n1] a; endmodule", E5(2)),
     ("module t(); wire [8:\n0] a; endmodule", Fine),
     ("module t(); wire [128:0]\na; endmodule", E6(2, 129)),
     ("module t(); wire [127:0]\na; endmodule", Fine),
-    (
-        "module t(); reg m [0:1048576]; endmodule",
-        E12(Big::Words),
-    ),
+    ("module t(); reg m [0:1048576]; endmodule", E12(Big::Words)),
     ("module t(); reg m [0:1048575]; endmodule", Fine),
     // The words of two instances.
     (

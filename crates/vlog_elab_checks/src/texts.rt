@@ -37,7 +37,9 @@ pub fn chain(alloc: Global, more: u32) -> Result<Vec<u8>, AllocError> {
     for k in 0..more {
         if k + 1 < more {
             let next = k + 1;
-            text.extend_from_slice(format!(in alloc; "module m{k}(); m{next} u(); endmodule ")?.as_bytes())?;
+            text.extend_from_slice(format!(in alloc;
+                "module m{k}(); m{next} u(); endmodule "
+            )?.as_bytes())?;
         } else {
             text.extend_from_slice(format!(in alloc; "module m{k}(); endmodule ")?.as_bytes())?;
         }

@@ -1,4 +1,5 @@
 pub mod Added
+mod ClockExamples
 pub mod Closed
 pub mod Deeper
 mod Examples

@@ -54,12 +54,14 @@ one_from : (k n i : ℕ) (ports : List (Option ℕ)) → marks_from k n (ports +
 one_from k zero i ports = refl
 one_from k (suc n) zero ports =
     let head : list_any (same_port (Some k)) (ports ++ Some (k + 0) ∷ []) ≡ true =
-    one_more k ports (Some (k + 0)) ∙ ap (λ b. list_any (same_port (Some k)) ports || b) (same k) ∙ this (list_any (same_port (Some k)) ports) in
+    one_more k ports (Some (k + 0)) ∙ ap (λ b. list_any (same_port (Some k)) ports || b) (same k)
+    ∙ this (list_any (same_port (Some k)) ports) in
     ap (λ b. b ∷ marks_from (k + 1) n (ports ++ Some (k + 0) ∷ [])) head
     ∙ ap (λ (bs : List Bool). true ∷ bs) (past (k + 1) n ports (k + 0) (omega arith))
 one_from k (suc n) (suc i) ports =
     let head : list_any (same_port (Some k)) (ports ++ Some (k + suc i) ∷ []) ≡ list_any (same_port (Some k)) ports =
-    one_more k ports (Some (k + suc i)) ∙ ap (λ b. list_any (same_port (Some k)) ports || b) (above k i) ∙ other (list_any (same_port (Some k)) ports) in
+    one_more k ports (Some (k + suc i)) ∙ ap (λ b. list_any (same_port (Some k)) ports || b) (above k i)
+    ∙ other (list_any (same_port (Some k)) ports) in
     let next : k + suc i ≡ k + 1 + i = omega arith in
     ap (λ b. b ∷ marks_from (k + 1) n (ports ++ Some (k + suc i) ∷ [])) head
     ∙ ap (λ (bs : List Bool). list_any (same_port (Some k)) ports ∷ bs)

@@ -2,7 +2,8 @@
 
 ghost use Rattle.std.specs.Prelude.{◌≡◌, ◌++◌, false, map, length, replicate, option_map, IfOk, OnOk};
 ghost use Rattle.std.specs.List.{flat_map};
-ghost use Rattle.vlog_tree.specs.Plain.{plain, plain_expr, plain_event, plain_conn, plain_named, plain_assign, plain_always, plain_item, plain_module};
+ghost use Rattle.vlog_tree.specs.Plain.{plain, plain_expr, plain_event, plain_conn, plain_named, plain_assign, plain_always, plain_item};
+ghost use Rattle.vlog_tree.specs.Plain.{plain_module};
 ghost use Rattle.vlog_hierarchy.specs.Outlines.{outlines_of, place_of};
 ghost use Rattle.vlog_hierarchy.specs.Plain.{plain_path};
 ghost use Rattle.vlog_hierarchy.specs.Clock.{event_ports, item_ports, scope_ports, clock_ports, first_port, same_port, marked, clock_marks};
@@ -61,11 +62,7 @@ fn items_at(modules: &[Module], place: usize) -> &[Item]
 
 /// Adds the ports of the clocked blocks of an instance.
 #[tactic(auto, unfolding(crate::specs::Clock::scope_ports))]
-fn add_scope_ports(
-    ports: &mut ClockPorts,
-    modules: &[Module],
-    scope: &Scope,
-) -> Result<(), Memory>
+fn add_scope_ports(ports: &mut ClockPorts, modules: &[Module], scope: &Scope) -> Result<(), Memory>
     ensures { OnOk result (ports.new ≡ ports.old ++ scope_ports (map plain_module modules.now) scope.now) }
 {
     let items = items_at(modules, scope.place);
@@ -77,11 +74,7 @@ fn add_scope_ports(
 
 /// The ports of all clocked blocks.
 #[tactic(auto, unfolding(crate::specs::Clock::clock_ports))]
-fn clock_ports(
-    alloc: Global,
-    modules: &[Module],
-    scopes: &[Scope],
-) -> Result<ClockPorts, Memory>
+fn clock_ports(alloc: Global, modules: &[Module], scopes: &[Scope]) -> Result<ClockPorts, Memory>
     ensures { IfOk result (λ ports. ports ≡ clock_ports (map plain_module modules.now) scopes.now) }
 {
     let mut ports = Items::new(alloc);
@@ -179,7 +172,11 @@ fn check_always(
 }
 
 /// Refuses reads of the clock in what is connected, unless it is a name alone.
-fn check_value(marks: &[bool], joined: &Table<usize>, value: &Option<Expr>) -> Result<(), HierarchyError>
+fn check_value(
+    marks: &[bool],
+    joined: &Table<usize>,
+    value: &Option<Expr>,
+) -> Result<(), HierarchyError>
     ensures { Judged result (value_faults marks.now joined.now (option_map plain_expr value.now)) }
 {
     match value {
@@ -200,7 +197,11 @@ fn check_conns(marks: &[bool], joined: &Table<usize>, conns: &[Conn]) -> Result<
     Ok(())
 }
 
-fn check_wires(marks: &[bool], joined: &Table<usize>, wires: &[NamedValue]) -> Result<(), HierarchyError>
+fn check_wires(
+    marks: &[bool],
+    joined: &Table<usize>,
+    wires: &[NamedValue],
+) -> Result<(), HierarchyError>
     ensures { Judged result (flat_map (wire_faults marks.now joined.now) (map plain_named wires.now)) }
 {
     for wire in wires {
@@ -209,14 +210,22 @@ fn check_wires(marks: &[bool], joined: &Table<usize>, wires: &[NamedValue]) -> R
     Ok(())
 }
 
-fn check_assign(marks: &[bool], joined: &Table<usize>, assign: &Assign) -> Result<(), HierarchyError>
+fn check_assign(
+    marks: &[bool],
+    joined: &Table<usize>,
+    assign: &Assign,
+) -> Result<(), HierarchyError>
     ensures { Judged result (assign_faults marks.now joined.now (plain_assign assign.now)) }
 {
     check_target(marks, joined, &assign.target)?;
     check_expr(marks, joined, &assign.value)
 }
 
-fn check_assigns(marks: &[bool], joined: &Table<usize>, assigns: &[Assign]) -> Result<(), HierarchyError>
+fn check_assigns(
+    marks: &[bool],
+    joined: &Table<usize>,
+    assigns: &[Assign],
+) -> Result<(), HierarchyError>
     ensures { Judged result (flat_map (assign_faults marks.now joined.now) (map plain_assign assigns.now)) }
 {
     for assign in assigns {
@@ -321,5 +330,10 @@ pub fn check_clock(
     let place = place_named(&index, top);
     let outlines = outlines(alloc, &index)?;
     let scopes = scopes_of(alloc, outlines.as_slice(), inputs, place)?;
-    check_all(alloc, file.modules.as_slice(), inputs.len(), scopes.as_slice())
+    check_all(
+        alloc,
+        file.modules.as_slice(),
+        inputs.len(),
+        scopes.as_slice(),
+    )
 }

@@ -151,7 +151,11 @@ fn check_exprs(marks: &[bool], joined: &Table<usize>, exprs: &[Expr]) -> Result<
 }
 
 /// Expressions in a row, as the labels of an arm.
-fn check_labels(marks: &[bool], joined: &Table<usize>, labels: &[Expr]) -> Result<(), HierarchyError>
+fn check_labels(
+    marks: &[bool],
+    joined: &Table<usize>,
+    labels: &[Expr],
+) -> Result<(), HierarchyError>
     ensures { Judged result (flat_map (expr_faults marks.now joined.now) (map plain_expr labels.now)) }
 {
     for label in labels {
@@ -162,7 +166,11 @@ fn check_labels(marks: &[bool], joined: &Table<usize>, labels: &[Expr]) -> Resul
 
 /// Refuses reads of the clock in a target.
 #[cycle(targets)]
-pub fn check_target(marks: &[bool], joined: &Table<usize>, target: &Target) -> Result<(), HierarchyError>
+pub fn check_target(
+    marks: &[bool],
+    joined: &Table<usize>,
+    target: &Target,
+) -> Result<(), HierarchyError>
     ensures { Judged result (target_faults marks.now joined.now (plain_target target.now)) }
 {
     match target {
@@ -175,7 +183,11 @@ pub fn check_target(marks: &[bool], joined: &Table<usize>, target: &Target) -> R
 }
 
 #[cycle(targets)]
-fn check_targets(marks: &[bool], joined: &Table<usize>, targets: &[Target]) -> Result<(), HierarchyError>
+fn check_targets(
+    marks: &[bool],
+    joined: &Table<usize>,
+    targets: &[Target],
+) -> Result<(), HierarchyError>
     ensures { Judged result (targets_faults marks.now joined.now (plain_targets targets.now)) }
 {
     for target in targets {

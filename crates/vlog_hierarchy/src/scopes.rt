@@ -179,14 +179,7 @@ fn add_inside(
         (child_scopes depth (plain_outlines outlines.now) (joined_at out.old at)) (children_at (plain_outlines outlines.now) place)) }
 {
     match outlines.get(place) {
-        Some(outline) => add_children(
-            alloc,
-            outlines,
-            depth,
-            at,
-            outline.children.as_slice(),
-            out,
-        ),
+        Some(outline) => add_children(alloc, outlines, depth, at, outline.children.as_slice(), out),
         None => Ok(()),
     }
 }

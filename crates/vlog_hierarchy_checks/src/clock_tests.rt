@@ -23,15 +23,14 @@ fn is_said(answer: Result<(), HierarchyError>, line: Option<u32>) -> bool {
     }
 }
 
-fn is_clocked(
-    alloc: Global,
-    inputs: &[&str],
-    text: &str,
-    line: Option<u32>,
-) -> Result<bool, Fail> {
+fn is_clocked(alloc: Global, inputs: &[&str], text: &str, line: Option<u32>) -> Result<bool, Fail> {
     let file = file_of(alloc, text)?;
     let names = names_of(alloc, inputs)?;
-    let answer = check_clock(alloc, &file, b"m", names.as_slice());
+    let mut ports = Items::new(alloc);
+    for name in names.as_slice() {
+        ports.push(name)?;
+    }
+    let answer = check_clock(alloc, &file, b"m", ports.as_slice());
     Ok(is_said(answer, line))
 }
 

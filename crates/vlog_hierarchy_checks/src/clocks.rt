@@ -3,8 +3,7 @@
 /// The 1-bit input ports of the top `m`, the text, and the line of E13.
 pub type Clocked = (&'static [&'static str], &'static str, Option<u32>);
 
-
-pub const CLOCKED: [Clocked; 24] = [
+pub const CLOCKED: [Clocked; 28] = [
     (
         &["clk"],
         "module m(input clk); reg r;
@@ -174,6 +173,39 @@ module a(input [1:0] d, output q); assign q = d[0]; endmodule",
         "module m(input clk, output q); reg r; always @(posedge clk) r <= 1'b1; a u(.d(
 clk[0]), .q(q)); endmodule
 module a(input d, output q); assign q = d; endmodule",
+        Some(2),
+    ),
+    // Three levels down, behind a joined name.
+    (
+        &["clk"],
+        "module m(input clk, output q); a u(.c(clk), .q(q)); endmodule
+module a(input c, output q); b v(.k(c), .q(q)); endmodule
+module b(input k, output q); reg r; always @(posedge k) r <= 1'b1;
+assign q = r ^ k; endmodule",
+        Some(4),
+    ),
+    // The second instance of a module is at fault, the first isn't.
+    (
+        &["clk", "d"],
+        "module m(input clk, input d, output q, output p); a u(.c(clk), .q(q)); a v(.c(d), .q(p)); endmodule
+module a(input c, output q); reg r;
+always @(posedge c) r <= 1'b1; assign q = r; endmodule",
+        Some(3),
+    ),
+    // A read in a block without a clock.
+    (
+        &["clk"],
+        "module m(input clk); reg r, s; always @(posedge clk) r <= 1'b1;
+always @* if (
+clk) s = 1'b0; else s = 1'b1; endmodule",
+        Some(3),
+    ),
+    // The index of what is written in a child's connection, and a bit of the clock beside a lawful block.
+    (
+        &["clk"],
+        "module m(input clk, output [1:0] q); reg r; always @(posedge clk) r <= 1'b1; a u(.c(clk), .q(
+q[clk])); endmodule
+module a(input c, output q); assign q = 1'b0; endmodule",
         Some(2),
     ),
 ];

@@ -6,4 +6,5 @@ use Rattle.vlog_hierarchy.proofs.clock.check_assigns.Given as goal
 
 abbrev pub invariant-loop-assign : goal.invariant-loop-assign
 invariant-loop-assign l =
-    flat_map (assign_faults l.marks l.joined) (map plain_assign (drop l.assign-index l.assigns)) ≡ flat_map (assign_faults l.marks l.joined) (map plain_assign l.assigns)
+    flat_map (assign_faults l.marks l.joined) (map plain_assign (drop l.assign-index l.assigns))
+    ≡ flat_map (assign_faults l.marks l.joined) (map plain_assign l.assigns)

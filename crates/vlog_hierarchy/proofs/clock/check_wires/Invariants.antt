@@ -6,4 +6,5 @@ use Rattle.vlog_hierarchy.proofs.clock.check_wires.Given as goal
 
 abbrev pub invariant-loop-wire : goal.invariant-loop-wire
 invariant-loop-wire l =
-    flat_map (wire_faults l.marks l.joined) (map plain_named (drop l.wire-index l.wires)) ≡ flat_map (wire_faults l.marks l.joined) (map plain_named l.wires)
+    flat_map (wire_faults l.marks l.joined) (map plain_named (drop l.wire-index l.wires))
+    ≡ flat_map (wire_faults l.marks l.joined) (map plain_named l.wires)

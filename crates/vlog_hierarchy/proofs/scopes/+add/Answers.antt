@@ -31,7 +31,8 @@ add_children-loop-child-preserved t c = record {
   all = next_added c.args.out.now c.loop-child.out c.add_scopes.new.out _ c.args.children.now c.loop-child.child-index c.child-item.result
       c.in_ok-inner.inner c.args.depth (plain_outlines c.args.outlines.now) c.args.at c.loop-child-test.true c.child-item.is
       c.loop-child.invariant.all c.loop-child.invariant.own
-      (c.in_ok-inner.ensures ∙ ap (λ (xs : List Scope). child_joined (joined_at xs c.args.at) (plain_instance c.child-item.result.instance.now))
+      (c.in_ok-inner.ensures ∙ ap
+      (λ (xs : List Scope). child_joined (joined_at xs c.args.at) (plain_instance c.child-item.result.instance.now))
       c.as_slice.ensures) c.in_ok-add_scopes.ensures;
   own = still_at c.args.out.now c.loop-child.out c.add_scopes.new.out
       (scopes c.args.depth (plain_outlines c.args.outlines.now) c.in_ok-inner.inner c.child-item.result.place) c.args.at

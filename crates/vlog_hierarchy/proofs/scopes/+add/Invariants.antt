@@ -17,7 +17,8 @@ abbrev pub invariant-add_children-loop-child : goal.invariant-add_children-loop-
 invariant-add_children-loop-child l = record {
   all : l.out ++ flat_map (child_scopes l.depth (plain_outlines l.outlines) (joined_at l.initial.out l.at))
       (map plain_child (drop l.child-index l.children))
-    ≡ l.initial.out ++ flat_map (child_scopes l.depth (plain_outlines l.outlines) (joined_at l.initial.out l.at)) (map plain_child l.children);
+      ≡ l.initial.out ++ flat_map (child_scopes l.depth (plain_outlines l.outlines) (joined_at l.initial.out l.at))
+      (map plain_child l.children);
   own : joined_at l.out l.at ≡ joined_at l.initial.out l.at;
   within : l.at < length l.out;
 }
