@@ -1,15 +1,11 @@
 pub mod WordLists
 pub mod Told
-pub mod Owed
+pub mod Endings
 pub mod OneDump
 pub mod OneCheck
-pub mod Endings
 pub mod OneCompare
 pub mod OneSalvaged
 pub mod OneAnswer
 pub mod Saying
-pub mod Checking
+pub mod Reading
 pub mod Comparing
-pub mod Lines
-pub mod Clocks
-pub mod Packets
