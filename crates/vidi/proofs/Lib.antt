@@ -8,4 +8,5 @@ pub mod OneSalvaged
 pub mod OneAnswer
 pub mod Saying
 pub mod Reading
+pub mod Checking
 pub mod Comparing

@@ -1,5 +1,5 @@
 -- `check`: one answer, none of them a failed write.
-use Rattle.std.proofs.Common.{◌≡◌, ℕ, List, Option, Some, inl, inr, sym, subst}
+use Rattle.std.proofs.Common.{◌≡◌, ◌⊎◌, ℕ, List, Option, Some, inl, inr, sym, subst}
 use Rattle.vlog_lex.specs.declared.token.Token.{Token}
 use Rattle.vlog_lex.specs.Reading.{HasTokens, OneReading, OneStuckLine, ReadOrStuck}
 use Rattle.vlog_tree.specs.Tree.{FileOf}
@@ -54,7 +54,10 @@ one-none laws tokens a b x y (inl (l, deep, s)) (inr (k, its, shallow, none, s')
     absurd (laws.depth.apart (all_marked tokens) l deep shallow)
 one-none laws tokens a b x y (inr (k, its, shallow, none, s)) (inl (l, deep, s')) =
     absurd (laws.depth.apart (all_marked tokens) l deep shallow)
-one-none laws tokens a b x y (inr no) (inr no') = one-no_file laws tokens a b x y no no'
+one-none laws tokens a b x y (inr gone) (inr gone') = one-no_file laws tokens a b x y gone gone'
+
+one-file : TextLaws → (tokens : List Token) (f g : FileOf ℕ) → IsFile tokens f → IsFile tokens g → f ≡ g
+one-file laws tokens f g (shallow, is) (shallow', is') = laws.file tokens f g is is'
 
 none-file : TextLaws → (tokens : List Token) (a : Status) (x : List ℕ) (f : FileOf ℕ) → IsNone tokens a x → IsFile tokens f → ⊥
 none-file laws tokens a x f (inl (l, deep, s)) (shallow, is) = laws.depth.apart (all_marked tokens) l deep shallow
@@ -66,12 +69,12 @@ one-checked_file top f = one-said Done (check_text f)
 one-checked_tokens : TextLaws → (top : List ℕ) (tokens : List Token) → One (CheckedTokens top tokens)
 one-checked_tokens laws top tokens =
     one-step (IsNone tokens) (IsFile tokens) (CheckedFile top) (one-none laws tokens)
-    (λ f g is is'. laws.file tokens f g is.1 is'.1) (none-file laws tokens) (λ f _. one-checked_file top f)
+    (one-file laws tokens) (none-file laws tokens) (λ f _. one-checked_file top f)
 
 one-checked_text : TextLaws → (top text : List ℕ) → One (CheckedText top text)
 one-checked_text laws top text =
     one-step (IsNoWord text) (HasTokens text) (CheckedTokens top) (one-no_word laws text) (laws.reading text)
-    (λ a x tokens no has. laws.stuck text tokens has no.1.0) (λ tokens _. one-checked_tokens laws top tokens)
+    (λ a x tokens bad has. laws.stuck text tokens has bad.1.0) (λ tokens _. one-checked_tokens laws top tokens)
 
 pub one_check : TextLaws → (design top : List ℕ) (files : Files) → One (Checks design top (Some files) (λ _. ⊥))
 one_check laws design top files = one-reading text_limit words.Design design files (CheckedText top) (one-checked_text laws top)

@@ -14,7 +14,7 @@ use Rattle.vidi.proofs.Endings.{Mute, mute-step, mute-reading, mute-said, mute-n
 one-dumped : OneReading → OnePlace → (file : List ℕ) → One (DumpedFile file)
 one-dumped reading place file =
     one-step (IsNoTrace words.Trace file) (λ t. Encodes t file) (λ t. IsSaid Done (dump_text t)) (one-no_trace place words.Trace file)
-    (reading file) (λ a x t no code. no.2 t code) (λ t _. one-said Done (dump_text t))
+    (reading file) (λ a x t bad code. bad.2 t code) (λ t _. one-said Done (dump_text t))
 
 pub one_dump : OneReading → OnePlace → (trace : List ℕ) (files : Files) → One (Dumps trace (Some files) (λ _. ⊥))
 one_dump reading place trace files = one-reading trace_limit words.Trace trace files DumpedFile (one-dumped reading place)

@@ -97,8 +97,8 @@ fn say_memory<O: Sink>(out: &mut O) -> Status
     ensures place { O.place out.new ≡ O.place out.old }
     ensures frame { (f : Frame) → O.has_frame out.old f → O.has_frame out.new f }
 {
-    match out.push(b"vidi: out of memory\n") {
-        Ok(()) => Status::Memory,
-        Err(Failed) => Status::WriteFault,
+    if out.push(b"vidi: out of memory\n").is_err() {
+        return Status::WriteFault;
     }
+    Status::Memory
 }
