@@ -1,5 +1,5 @@
 -- Modules are added one by one.
-use Rattle.std.proofs.Common.{◌≡◌, ℕ, suc, ◌+◌, ◌<◌, Bool, true, false, not, List, [], ◌∷◌, ◌++◌, map, drop, set, length, get_or, refl}
+use Rattle.std.proofs.Common.{◌≡◌, ℕ, suc, ◌+◌, ◌<◌, Bool, true, not, List, ◌∷◌, ◌++◌, drop, set, length, get_or}
 use Rattle.std.proofs.Common.{sym, ap, subst}
 use Rattle.std.proofs.Common.{◌∙◌, arith, drop-cons, append_assoc}
 use Rattle.std.specs.List.{Contains}

@@ -1,5 +1,5 @@
 -- Instances, level by level.
-use Rattle.std.proofs.Common.{◌≡◌, ◌≢◌, ℕ, zero, suc, ◌+◌, ◌-◌, ◌<◌, ◌≤◌, List, [], ◌∷◌, ◌++◌, map, length, refl, sym, ap, ◌∙◌, arith}
+use Rattle.std.proofs.Common.{◌≡◌, ◌≢◌, ℕ, zero, suc, ◌+◌, ◌-◌, ◌<◌, List, [], ◌∷◌, ◌++◌, length, refl, sym, ap, ◌∙◌, arith}
 use Rattle.std.proofs.Common.{length-append, append-nil, append_assoc, Option, None, slice_get, option_map}
 use Rattle.std.specs.List.{flat_map}
 use Rattle.std.proofs.lemmas.Option.{slice_get-map}
@@ -12,7 +12,7 @@ pub no_deeper : (os : List Outline) (path : List (List ℕ)) (k : ℕ) → nodes
 unfolding nodes
 no_deeper os path k = refl
 
-deeper : (n : ℕ) (os : List Outline) (path : List (List ℕ)) (k : ℕ)
+pub deeper : (n : ℕ) (os : List Outline) (path : List (List ℕ)) (k : ℕ)
     → nodes (suc n) os path k ≡ record { path = path; place = k } ∷ flat_map (child_nodes n os path) (children_at os k)
 unfolding nodes
 deeper n os path k = refl

@@ -1,3 +1,4 @@
+pub mod Clock
 pub mod Judged
 pub mod Laws
 pub mod Nested

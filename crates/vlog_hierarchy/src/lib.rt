@@ -1,15 +1,19 @@
 //! The hierarchy of a design: modules that contain themselves, instances in preorder and their
-//! nets (IEEE 1364-2005, clause 12; this project's profile).
+//! nets, and the one clock (IEEE 1364-2005, clause 12; this project's profile).
 #![tactic(auto)]
 
+mod clock;
 mod error;
 mod laws;
 mod nodes;
 mod outline;
 mod places;
+mod reads;
+mod scopes;
 mod walk;
 
+pub use clock::check_clock;
 pub use error::{HierarchyError, HierarchyLimit};
-pub use laws::more_levels_change_nothing;
+pub use laws::{clocks_are_of_all_nodes, more_levels_change_nothing};
 pub use nodes::{Node, Nodes, nodes_of};
 pub use walk::nested;

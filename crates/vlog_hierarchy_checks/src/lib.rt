@@ -2,6 +2,10 @@
 #![tactic(auto)]
 
 #[cfg(test)]
+mod clock_tests;
+#[cfg(test)]
+mod clocks;
+#[cfg(test)]
 mod rows;
 #[cfg(test)]
 mod tests;

@@ -1,4 +1,3 @@
-use Rattle.std.proofs.Common.{ap, ◌∙◌}
 use Rattle.vlog_hierarchy.proofs.PlaceLaws.{next_place}
 use Rattle.vlog_hierarchy.proofs.places.places_of.Goals as goal
 

@@ -1,4 +1,4 @@
-use Rattle.std.proofs.Common.{◌≡◌, ◌++◌, ◌<◌, List, ℕ, length, ap, sym, ◌∙◌, arith}
+use Rattle.std.proofs.Common.{◌++◌, ◌<◌, List, ℕ, length, ap, sym, ◌∙◌, arith}
 use Rattle.std.specs.Prelude.{slice_index}
 use Rattle.std.proofs.lemmas.List.{length-map}
 use Rattle.vlog_hierarchy.specs.Plain.{plain_outline, plain_outlines}

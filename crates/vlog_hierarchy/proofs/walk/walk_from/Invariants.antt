@@ -1,4 +1,4 @@
-use Rattle.std.proofs.Common.{length, ◌-◌, map}
+use Rattle.std.proofs.Common.{length, ◌-◌}
 use Rattle.vlog_hierarchy.specs.Plain.{plain_outlines}
 use Rattle.vlog_hierarchy.proofs.Reaching.{IsReach}
 use Rattle.vlog_hierarchy.proofs.walk.walk_from.Given as goal

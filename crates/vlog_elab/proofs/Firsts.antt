@@ -1,0 +1,126 @@
+-- First findings of the crates below, as reasons.
+use Rattle.std.proofs.Common.{◌≡◌, ℕ, suc, ◌+◌, ◌-◌, ◌^◌, ◌<◌, ◌≤◌, ◌⊎◌, inl, inr, min, List, [], ◌∷◌, ◌++◌, map, drop, length, get_or}
+use Rattle.std.proofs.Common.{Option, None, Some, slice_get, option_map, drop-cons}
+use Rattle.std.proofs.Common.{ap, subst, arith, refl, sym, ◌∙◌}
+use Rattle.std.specs.List.{Contains, flat_map}
+use Rattle.std.proofs.lemmas.List.{drop_all}
+use Rattle.std.proofs.lemmas.Option.{slice_get_cases, slice_get-map, slice_get_read}
+use Rattle.vidi_bits.specs.Findings.{first}
+use Rattle.vlog_tree.specs.Tree.{ModuleOf}
+use Rattle.vlog_tree.specs.declared.module.Module.{Module}
+use Rattle.vlog_tree.specs.Plain.{plain_module}
+use Rattle.vlog_names.specs.declared.error.NameError.{NameError}
+use Rattle.vlog_names.specs.declared.error.NameError.TheVariants as name
+use Rattle.vlog_names.specs.Judged as names
+use Rattle.vlog_kinds.specs.declared.error.KindError.{KindError}
+use Rattle.vlog_hierarchy.specs.declared.error.HierarchyError.{HierarchyError}
+use Rattle.vlog_hierarchy.specs.declared.error.HierarchyError.TheVariants as hierarchy
+use Rattle.vlog_hierarchy.specs.Judged as hierarchies
+use Rattle.vlog_hierarchy.specs.Outlines.{Child, Outline, children_in, outlines_of}
+use Rattle.vlog_hierarchy.specs.Nested.{kids, Below, direct, through, IsNestedAnswer}
+use Rattle.vlog_hierarchy.proofs.Closed.{long_outlines}
+use Rattle.vlog_hierarchy.proofs.Reaching.{none_in}
+use Rattle.vlog_size.specs.declared.error.SizeError.{SizeError}
+use Rattle.vlog_size.specs.declared.error.SizeError.TheVariants as size
+use Rattle.vlog_elab.specs.Errors.{of_name, of_line, of_kind, of_hierarchy, of_size}
+use Rattle.vlog_elab.specs.declared.error.ElabError.{ElabError}
+use Rattle.vlog_elab.specs.declared.error.ElabError.TheVariants as e
+use Rattle.vlog_elab.specs.declared.instance.ModuleInstance as code
+use Rattle.vlog_elab.specs.Instances.{ModuleInstance}
+use Rattle.vlog_elab.specs.Plain.{plain_instance, plain_instances}
+use Rattle.vlog_elab.specs.Reasons.{word_total}
+use Rattle.vlog_elab.specs.Answered.{IsFirst}
+
+first_map : {A B : Type 0} → (f : A → B) (xs : List A) (x : A) → first xs ≡ Some x → first (map f xs) ≡ Some (f x)
+first_map f [] x h = (cc)
+first_map f (y ∷ ys) x h = ap (option_map f) h
+
+pub none : {A B : Type 0} → (f : A → B) (xs : List A) → xs ≡ [] → map f xs ≡ []
+none f xs h = ap (map f) h
+
+pub name_first : (x : NameError) (fs : List NameError) → names.IsFirst x fs → IsFirst (map of_name fs) (of_name x)
+name_first (name.Twice n) fs h = first_map of_name fs (name.Twice n) h
+name_first (name.Unknown n) fs h = first_map of_name fs (name.Unknown n) h
+name_first name.Memory fs h = tt
+
+pub kind_first : (x : KindError) (lines : List ℕ) → first lines ≡ Some x.line → IsFirst (map of_line lines) (of_kind x)
+kind_first x lines h = first_map of_line lines x.line h
+
+pub hierarchy_first : (x : HierarchyError) (fs : List HierarchyError) → hierarchies.IsFirst x fs
+    → IsFirst (map of_hierarchy fs) (of_hierarchy x)
+hierarchy_first (hierarchy.TooBig what) fs h = first_map of_hierarchy fs (hierarchy.TooBig what) h
+hierarchy_first (hierarchy.Clock line) fs h = first_map of_hierarchy fs (hierarchy.Clock line) h
+hierarchy_first hierarchy.Memory fs h = tt
+
+pub size_first : (x : SizeError) (fs : List SizeError) → first fs ≡ Some x → IsFirst (map of_size fs) (of_size x)
+size_first (size.Const line) fs h = first_map of_size fs (size.Const line) h
+size_first (size.Width line got) fs h = first_map of_size fs (size.Width line got) h
+
+-- ---- a module that contains itself is in the file
+
+has_kids : (os : List Outline) (a b : ℕ) → Below os a b → slice_get os a ≡ None → ⊥
+has_kids os a b (direct h) none =
+    none_in b (subst (λ (o : Option Outline). Contains (map (λ (c : Child). c.place) (children_in o)) b) none h)
+has_kids os a b (through c p h) none = has_kids os a c p none
+
+some_within : (os : List Outline) (k : ℕ) → (slice_get os k ≡ None → ⊥) → k < length os
+some_within os k some = one (slice_get_cases os k).1
+  where
+    one : ((x : Outline) × (k < length os) × (slice_get os k ≡ Some x) × (get_or os k x ≡ x))
+        ⊎ ((length os ≤ k) × (slice_get os k ≡ None)) → k < length os
+    one (inl (x, l, is, r)) = l
+    one (inr (l, none)) = absurd (some none)
+
+pub nested_there : (ms : List (ModuleOf ℕ)) (top : Option ℕ) (k : ℕ) → IsNestedAnswer (outlines_of ms) top (Some k) → k < length ms
+nested_there ms None k h = (cc)
+nested_there ms (Some top) k h =
+    let l = some_within (outlines_of ms) k (has_kids (outlines_of ms) k k h.0.1) in omega (arith, l, long_outlines ms)
+
+-- ---- its name
+
+pub name_there : (all ms : List Module) (k : ℕ) (m : Module) (bytes copy : List ℕ) → ms ≡ all → k < length all → m ≡ get_or ms k m
+    → bytes ≡ (get_or ms k m).name → copy ≡ bytes
+    → slice_get (map (λ (x : ModuleOf ℕ). x.name) (map plain_module all)) k ≡ Some copy
+name_there all ms k m bytes copy is within at b c =
+    let long : length ms ≡ length all = ap (λ (xs : List Module). length xs) is in
+    let there : slice_get ms k ≡ Some m = slice_get_read ms (length ms) k m refl (omega (arith, within, long)) at in
+    ap (λ (xs : List Module). slice_get (map (λ (x : ModuleOf ℕ). x.name) (map plain_module xs)) k) (sym is)
+    ∙ (slice_get-map (λ (x : ModuleOf ℕ). x.name) (map plain_module ms) k
+    ∙ (ap (option_map (λ (x : ModuleOf ℕ). x.name)) (slice_get-map plain_module ms k ∙ ap (option_map plain_module) there)
+    ∙ ap Some (sym (c ∙ (b ∙ ap (λ (x : Module). x.name) (sym at))))))
+
+-- ---- findings over the instances
+
+first_more : {A : Type 0} → (xs ys : List A) (x : A) → first xs ≡ Some x → first (xs ++ ys) ≡ Some x
+first_more [] ys x h = (cc)
+first_more (z ∷ zs) ys x h = h
+
+is_first_more : (error : ElabError) (xs ys : List ElabError) → IsFirst xs error → IsFirst (xs ++ ys) error
+is_first_more (e.Twice n) xs ys h = first_more xs ys (e.Twice n) h
+is_first_more (e.Unknown n) xs ys h = first_more xs ys (e.Unknown n) h
+is_first_more (e.Kind line) xs ys h = first_more xs ys (e.Kind line) h
+is_first_more (e.Nested n) xs ys h = first_more xs ys (e.Nested n) h
+is_first_more (e.TooBig what) xs ys h = first_more xs ys (e.TooBig what) h
+is_first_more (e.Const line) xs ys h = first_more xs ys (e.Const line) h
+is_first_more (e.Width line got) xs ys h = first_more xs ys (e.Width line got) h
+is_first_more (e.Clock line) xs ys h = first_more xs ys (e.Clock line) h
+is_first_more e.Memory xs ys h = tt
+
+pub found_here : (f : ModuleInstance → List ElabError) (is : List code.ModuleInstance) (i : ℕ) (x : code.ModuleInstance) (error : ElabError)
+    → i < length is → x ≡ get_or is i x → flat_map f (plain_instances (drop i is)) ≡ flat_map f (plain_instances is)
+    → IsFirst (f (plain_instance x)) error → IsFirst (flat_map f (plain_instances is)) error
+found_here f is i x error within at same h =
+    subst (λ (fs : List ElabError). IsFirst fs error)
+    (sym (ap (λ (ys : List code.ModuleInstance). flat_map f (plain_instances ys))
+    (drop-cons is i x within ∙ ap (λ (y : code.ModuleInstance). y ∷ drop (suc i) is) (sym at)))
+    ∙ same)
+    (is_first_more error (f (plain_instance x)) (flat_map f (plain_instances (drop (suc i) is))) h)
+
+-- ---- words
+
+pub words_end : (is : List code.ModuleInstance) (i words w : ℕ) → length is ≤ i → words ≤ 2 ^ 64 - 1
+    → min (words + word_total (plain_instances (drop i is))) (2 ^ 64 - 1) ≡ min w (2 ^ 64 - 1) → words ≡ min w (2 ^ 64 - 1)
+words_end is i words w past small h =
+    let none : word_total (plain_instances (drop i is)) ≡ 0 =
+    ap (λ (ys : List code.ModuleInstance). word_total (plain_instances ys)) (drop_all i is past) in
+    omega (arith, none, small, h)

@@ -1,0 +1,4 @@
+pub mod Added
+pub mod Firsts
+pub mod Places
+pub mod Same

@@ -1,0 +1,35 @@
+-- The ports to which clocks may be joined: the input ports of the top that are one bit wide (IEEE 1364-2005, 12.3; this project's
+-- profile).
+use Rattle.std.specs.Prelude.{ℕ, nat_eq, Bool, true, false, ◌&&◌, List, [], ◌∷◌, ◌++◌, Option, None, Some}
+use Rattle.vidi_bits.specs.Findings.{told_if}
+use Rattle.vlog_tree.specs.declared.module.Direction.{Direction}
+use Rattle.vlog_tree.specs.declared.module.Direction.TheVariants.{Input, Output}
+use Rattle.vlog_tree.specs.Tree.{PortHeadOf, PortOf}
+use Rattle.vlog_size.specs.declared.scope.ScopeNet.{ScopeNet}
+use Rattle.vlog_size.specs.Table.{Named, value_of}
+use Rattle.vlog_elab.specs.Instances.{ModuleInstance}
+
+abbrev pub is_input : Direction → Bool
+is_input (Input wire) = true
+is_input (Output kind) = false
+
+-- a port without a direction has that of the port before
+abbrev pub input_after : Bool → Option (PortHeadOf ℕ) → Bool
+input_after before None = before
+input_after before (Some h) = is_input h.direction
+
+abbrev pub is_one_bit : Option ScopeNet → Bool
+is_one_bit None = false
+is_one_bit (Some n) = nat_eq n.width 1
+
+-- the input ports of one bit among these, in text order
+abbrev pub one_bit_inputs : List (Named ScopeNet) → Bool → List (PortOf ℕ) → List (List ℕ)
+one_bit_inputs nets before [] = []
+one_bit_inputs nets before (p ∷ ps) =
+    told_if (input_after before p.head && is_one_bit (value_of nets p.id.name)) p.id.name
+    ++ one_bit_inputs nets (input_after before p.head) ps
+
+-- those of the top, which is the first instance
+abbrev pub clock_inputs : List ModuleInstance → List (List ℕ)
+clock_inputs [] = []
+clock_inputs (i ∷ is) = one_bit_inputs i.scope.nets false i.tree.ports

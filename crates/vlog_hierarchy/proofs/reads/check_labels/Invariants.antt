@@ -1,0 +1,10 @@
+use Rattle.std.proofs.Common.{◌≡◌, drop, map}
+use Rattle.std.specs.List.{flat_map}
+use Rattle.vlog_tree.specs.Plain.{plain_expr}
+use Rattle.vlog_hierarchy.specs.Clock.{expr_faults}
+use Rattle.vlog_hierarchy.proofs.reads.check_labels.Given as goal
+
+abbrev pub invariant-loop-label : goal.invariant-loop-label
+invariant-loop-label l =
+    flat_map (expr_faults l.marks l.joined) (map plain_expr (drop l.label-index l.labels))
+    ≡ flat_map (expr_faults l.marks l.joined) (map plain_expr l.labels)
