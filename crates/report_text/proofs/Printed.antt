@@ -1,5 +1,6 @@
 -- What is printed goes on.
-use Rattle.std.proofs.Common.{◌≡◌, ℕ, ◌++◌, Bool, true, false, List, [], Option, Some, None, Result, Ok, Err, refl, sym, ap, subst, ◌∙◌, append_assoc}
+use Rattle.std.proofs.Common.{◌≡◌, ℕ, ◌++◌, Bool, true, false, List, [], Option, Some, None, Result, Ok, Err}
+use Rattle.std.proofs.Common.{refl, sym, ap, subst, ◌∙◌, append_assoc}
 use Rattle.std.proofs.lemmas.List.{append-nil}
 use Rattle.std.specs.Prelude.{OnOk, OnErr}
 use Rattle.std.specs.Io.KnownBytes.{append_known}
@@ -76,7 +77,8 @@ flushed told told' held held' false true none some = λ base before is. record {
 flushed told told' held held' false false none sent = λ base before is. record {
   pushed = is.pushed ++ held;
   told_is = sent ∙ ap (λ (t : Option (List ℕ)). append_known t held) is.told_is ∙ known_assoc base is.pushed held;
-  text_is = append-nil before ∙ is.text_is ∙ sym (append-nil (is.pushed ++ held)) ∙ ap (λ (h : List ℕ). (is.pushed ++ held) ++ h) (sym none);
+  text_is = append-nil before ∙ is.text_is ∙ sym (append-nil (is.pushed ++ held))
+      ∙ ap (λ (h : List ℕ). (is.pushed ++ held) ++ h) (sym none);
 }
 
 -- what was pushed after all, from an empty pad on

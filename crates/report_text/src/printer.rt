@@ -101,7 +101,8 @@ impl<'a, O: Sink> Page for Printer<'a, O> {
     ) };
 
     ghost onward = { λ p q r a b first second. (
-      prints_on (O.told p.out.now) (O.told q.out.now) (O.told r.out.now) (shown p.pad.now) (shown q.pad.now) (shown r.pad.now) p.lost q.lost r.lost a b
+      prints_on (O.told p.out.now) (O.told q.out.now) (O.told r.out.now) (shown p.pad.now) (shown q.pad.now) (shown r.pad.now)
+          p.lost q.lost r.lost a b
           first.0 second.0,
       blames_on (O.faults p.out.now) (O.faults q.out.now) (O.faults r.out.now) p.lost q.lost r.lost first.1 second.1,
       second.2 ∙ first.2,

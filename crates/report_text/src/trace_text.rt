@@ -1,6 +1,7 @@
 //! The text of a trace: its channels, events and vector clocks.
 
-ghost use Rattle.std.specs.Prelude.{◌≡◌, ℕ, ◌+◌, ◌-◌, ◌*◌, ◌^◌, ◌<◌, ◌≤◌, ◌∷◌, ◌++◌, IfOk, if◌then◌else◌, [], length, take, drop, replicate};
+ghost use Rattle.std.specs.Prelude.{◌≡◌, ℕ, ◌+◌, ◌-◌, ◌*◌, ◌^◌, ◌<◌, ◌≤◌, ◌∷◌, ◌++◌, if◌then◌else◌, [], length};
+ghost use Rattle.std.specs.Prelude.{take, drop, replicate};
 ghost use Rattle.std.specs.Prelude.{slice_index, codes, decimal};
 ghost use Rattle.std.specs.Int.{bit_at};
 ghost use Rattle.std.specs.List.{flat_map, enumerate_from};

@@ -2,6 +2,7 @@ pub mod WordLists
 pub mod Told
 pub mod Endings
 pub mod OneDump
+pub mod OneRefusal
 pub mod OneCheck
 pub mod OneCompare
 pub mod OneSalvaged

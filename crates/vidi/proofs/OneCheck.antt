@@ -1,5 +1,5 @@
 -- `check`: one answer, none of them a failed write.
-use Rattle.std.proofs.Common.{◌≡◌, ◌⊎◌, ℕ, List, Option, Some, inl, inr, sym, subst}
+use Rattle.std.proofs.Common.{◌≡◌, ◌⊎◌, ℕ, List, Option, None, Some, inl, inr, sym, ap, subst, ◌∙◌}
 use Rattle.vlog_lex.specs.declared.token.Token.{Token}
 use Rattle.vlog_lex.specs.Reading.{HasTokens, OneReading, OneStuckLine, ReadOrStuck}
 use Rattle.vlog_tree.specs.Tree.{FileOf}
@@ -8,16 +8,21 @@ use Rattle.vlog_expr.specs.Marks.{all_marked}
 use Rattle.vlog_parse.specs.Depth.{OneDepth}
 use Rattle.vlog_parse.specs.Parsing.{LinedFilesAreFiles, OneLinedFile}
 use Rattle.vlog_parse.specs.Units.{OneItemLine}
+use Rattle.vlog_elab.specs.declared.error.ElabError.{ElabError}
+use Rattle.vlog_elab.specs.declared.error.ElabError.TheVariants.{Memory}
 use Rattle.vidi_io.specs.Shelf.{Files}
 use Rattle.report_text.specs.declared.reason.Word.TheVariants as words
+use Rattle.report_text.specs.declared.reason.Reason.{Reason}
 use Rattle.report_text.specs.declared.reason.Reason.TheVariants.{Word, Deep, Item}
 use Rattle.report_text.specs.Reason.{reason_line}
 use Rattle.vidi.specs.declared.status.Status.{Status}
 use Rattle.vidi.specs.declared.status.Status.TheVariants.{Done, WriteFault, Refused}
 use Rattle.vidi.specs.Steps.{Ending, IsRefusal}
-use Rattle.vidi.specs.Design.{text_limit, IsNoWord, IsTooDeep, IsNoFile, IsFile, CheckedFile, CheckedTokens, CheckedText, Checks}
+use Rattle.vidi.specs.Design.{text_limit, reason_of, IsNoWord, IsTooDeep, IsNoFile, IsFile, IsRefusedFile, CheckedFile, CheckedTokens}
+use Rattle.vidi.specs.Design.{CheckedText, Checks}
 use Rattle.vidi.specs.Said.{check_text}
 use Rattle.vidi.proofs.Endings.{One, one-said, one-step, one-reading}
+use Rattle.vidi.proofs.OneRefusal.{one_refusal, refused_clear}
 use Rattle.vidi.proofs.Endings.{Mute, mute-step, mute-reading, mute-refusal, mute-said}
 
 -- the laws of the reader of design texts
@@ -63,8 +68,31 @@ none-file : TextLaws → (tokens : List Token) (a : Status) (x : List ℕ) (f : 
 none-file laws tokens a x f (inl (l, deep, s)) (shallow, is) = laws.depth.apart (all_marked tokens) l deep shallow
 none-file laws tokens a x f (inr (l, its, shallow, none, s)) (shallow', is) = none (bare f) (laws.plain tokens f is)
 
+same_reason : (error : ElabError) (r s : Reason) → reason_of error ≡ Some r → reason_of error ≡ Some s → r ≡ s
+same_reason error r s e f = let same : Some r ≡ Some s = sym e ∙ f in cc
+
+no_reason : (error : ElabError) (r : Reason) → reason_of error ≡ Some r → error ≡ Memory → ⊥
+no_reason error r e memory = let none : None ≡ Some r = ap reason_of (sym memory) ∙ e in cc
+
+one-refused_file : (top : List ℕ) (f : FileOf ℕ) → One (IsRefusedFile top f)
+one-refused_file top f a b x y (e, is, (r, names, s)) (d, is', (q, names', s')) = elim (one_refusal f top e d is is') [
+  | inl memory ↦ absurd (no_reason e r names memory)
+  | inr rest ↦ elim rest [
+    | inl memory ↦ absurd (no_reason d q names' memory)
+    | inr same ↦
+        let reason = same_reason d q r names' (ap reason_of (sym same) ∙ names) in
+        one-said (Refused words.Design r) (reason_line words.Design r) a b x y s
+        (subst (λ (k : Reason). IsRefusal words.Design k b y) reason s')
+  ]
+]
+
 one-checked_file : (top : List ℕ) (f : FileOf ℕ) → One (CheckedFile top f)
-one-checked_file top f = one-said Done (check_text f)
+one-checked_file top f a b x y (inl bad) (inl bad') = one-refused_file top f a b x y bad bad'
+one-checked_file top f a b x y (inl (e, is, (r, names, s))) (inr (clear, s')) =
+    absurd (no_reason e r names (refused_clear f top e is clear))
+one-checked_file top f a b x y (inr (clear, s)) (inl (e, is, (r, names, s'))) =
+    absurd (no_reason e r names (refused_clear f top e is clear))
+one-checked_file top f a b x y (inr (clear, s)) (inr (clear', s')) = one-said Done (check_text f) a b x y s s'
 
 one-checked_tokens : TextLaws → (top : List ℕ) (tokens : List Token) → One (CheckedTokens top tokens)
 one-checked_tokens laws top tokens =
@@ -91,7 +119,8 @@ mute-no_word : (text : List ℕ) → Mute (IsNoWord text)
 mute-no_word text x (l, stuck, s) = mute-refusal words.Design (Word l) x s
 
 mute-checked_file : (top : List ℕ) (f : FileOf ℕ) → Mute (CheckedFile top f)
-mute-checked_file top f = mute-said Done (check_text f) done-goes
+mute-checked_file top f x (inl (e, is, (r, names, s))) = mute-refusal words.Design r x s
+mute-checked_file top f x (inr (clear, s)) = mute-said Done (check_text f) done-goes x s
 
 mute-checked_text : (top text : List ℕ) → Mute (CheckedText top text)
 mute-checked_text top text = mute-step (IsNoWord text) (HasTokens text) (CheckedTokens top) (mute-no_word text)

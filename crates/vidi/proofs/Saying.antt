@@ -53,8 +53,10 @@ said words files F S W V old new left status text result earned why (inr (fault,
 
 quiet_does : (c : Command) (files : Option Files) (F : List ℕ → Type 0) (status : Status) (text : List ℕ) (left : Option Files)
     → ((name : List ℕ) → ¬ F name) → Does c files F status text left → Does c files (λ _. ⊥) status text left
-quiet_does (Dump trace) files F status text left quiet (d, same) = (quiet-reading trace_limit words.Trace trace files F DumpedFile status text (quiet trace) d, same)
-quiet_does (Check design top) files F status text left quiet (d, same) = (quiet-reading text_limit words.Design design files F (CheckedText top) status text (quiet design) d, same)
+quiet_does (Dump trace) files F status text left quiet (d, same) =
+    (quiet-reading trace_limit words.Trace trace files F DumpedFile status text (quiet trace) d, same)
+quiet_does (Check design top) files F status text left quiet (d, same) =
+    (quiet-reading text_limit words.Design design files F (CheckedText top) status text (quiet design) d, same)
 quiet_does (Compare trace other) files F status text left quiet (d, same) = (quiet-compares trace other files F status text quiet d, same)
 quiet_does (Salvage trace out) files F status text left quiet d = quiet-saves trace out files F status text left quiet d
 

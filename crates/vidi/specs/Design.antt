@@ -1,5 +1,5 @@
 -- `check DESIGN TOP`: each step in its order (this project's profile).
-use Rattle.std.specs.Prelude.{ℕ, ◌⊎◌, List, Option}
+use Rattle.std.specs.Prelude.{◌≡◌, ℕ, ◌⊎◌, List, Option, None, Some}
 use Rattle.vlog_lex.specs.declared.token.Token.{Token}
 use Rattle.vlog_lex.specs.Reading.{HasTokens, IsStuckOn}
 use Rattle.vlog_tree.specs.Tree.{FileOf}
@@ -7,8 +7,16 @@ use Rattle.vlog_expr.specs.Marks.{all_marked}
 use Rattle.vlog_parse.specs.Depth.{IsDeep, IsShallow}
 use Rattle.vlog_parse.specs.Parsing.{IsFileOf, IsLinedFileOf}
 use Rattle.vlog_parse.specs.Units.{IsItemLine}
+use Rattle.vlog_elab.specs.declared.error.Big.{Big as Limit}
+use Rattle.vlog_elab.specs.declared.error.Big.TheVariants as limits
+use Rattle.vlog_elab.specs.declared.error.ElabError.{ElabError}
+use Rattle.vlog_elab.specs.declared.error.ElabError.TheVariants as errors
+use Rattle.vlog_elab.specs.Reasons.{Clear, Refused}
 use Rattle.vidi_io.specs.Shelf.{Files}
+use Rattle.report_text.specs.declared.reason.Big.{Big}
+use Rattle.report_text.specs.declared.reason.Big.TheVariants.{Instances, Nets, Words}
 use Rattle.report_text.specs.declared.reason.Word.TheVariants as words
+use Rattle.report_text.specs.declared.reason.Reason.{Reason}
 use Rattle.report_text.specs.declared.reason.Reason.TheVariants as reasons
 use Rattle.vidi.specs.declared.status.Status.TheVariants.{Done}
 use Rattle.vidi.specs.Steps.{Ending, IsSaid, IsRefusal, Step}
@@ -36,9 +44,35 @@ IsNoFile tokens status said = (line : ℕ) × IsItemLine (all_marked tokens) lin
 abbrev pub IsFile : List Token → FileOf ℕ → Type 0
 IsFile tokens f = IsShallow (all_marked tokens) × IsLinedFileOf tokens f
 
+-- ---- the reasons E3 to E7 and E11 to E13
+abbrev pub big_of : Limit → Big
+big_of limits.Instances = Instances
+big_of limits.Nets = Nets
+big_of limits.Words = Words
+
+-- want of memory is no reason
+abbrev pub reason_of : ElabError → Option Reason
+reason_of (errors.Twice name) = Some (reasons.Twice name)
+reason_of (errors.Unknown name) = Some (reasons.Unknown name)
+reason_of (errors.Kind line) = Some (reasons.Kind line)
+reason_of (errors.Nested name) = Some (reasons.Nested name)
+reason_of (errors.TooBig what) = Some (reasons.TooBig (big_of what))
+reason_of (errors.Const line) = Some (reasons.Const line)
+reason_of (errors.Width line got) = Some (reasons.Width line got)
+reason_of (errors.Clock line) = Some (reasons.Clock line)
+reason_of errors.Memory = None
+
+-- the answer that refuses for this reason
+abbrev pub IsRefusedAs : ElabError → Ending
+IsRefusedAs error status said = (reason : Reason) × (reason_of error ≡ Some reason) × IsRefusal words.Design reason status said
+
+-- this is the first reason that holds of the file with this top
+abbrev pub IsRefusedFile : List ℕ → FileOf ℕ → Ending
+IsRefusedFile top f status said = (error : ElabError) × Refused f top error × IsRefusedAs error status said
+
 -- ---- the file, its tokens, its text
 abbrev pub CheckedFile : List ℕ → FileOf ℕ → Ending
-CheckedFile top f = IsSaid Done (check_text f)
+CheckedFile top f status said = IsRefusedFile top f status said ⊎ (Clear f top × IsSaid Done (check_text f) status said)
 
 abbrev pub CheckedTokens : List ℕ → List Token → Ending
 CheckedTokens top tokens = Step (λ status said. IsTooDeep tokens status said ⊎ IsNoFile tokens status said) (IsFile tokens)

@@ -52,7 +52,8 @@ abbrev pub ComparedFiles : List ℕ → List ℕ → Ending
 ComparedFiles first second = Step (IsNoTrace words.Trace first) (λ t. Encodes t first) (ComparedWith second)
 
 abbrev pub ComparedTo : List ℕ → Option Files → (List ℕ → Type 0) → List ℕ → Ending
-ComparedTo other files ReadFailed first = Step (IsUnread trace_limit words.Other other files ReadFailed) (IsRead trace_limit other files) (ComparedFiles first)
+ComparedTo other files ReadFailed first = Step (IsUnread trace_limit words.Other other files ReadFailed)
+    (IsRead trace_limit other files) (ComparedFiles first)
 
 abbrev pub Compares : List ℕ → List ℕ → Option Files → (List ℕ → Type 0) → Ending
 Compares trace other files ReadFailed = Step (IsUnread trace_limit words.Trace trace files ReadFailed) (IsRead trace_limit trace files)

@@ -5,16 +5,18 @@ ghost use Rattle.vidi_io.specs.Cause.{Rose};
 ghost use Rattle.vidi_io.specs.Shelf.{Later};
 ghost use Rattle.vlog_tree.specs.Plain.{plain};
 ghost use Rattle.vidi.specs.AnswerText.{text_of};
-ghost use Rattle.vidi.specs.Design.{text_limit, CheckedFile, CheckedText, CheckedTokens, Checks};
+ghost use Rattle.vidi.specs.Design as spec;
+ghost use Rattle.vidi.specs.Design.{text_limit, CheckedFile, CheckedText, CheckedTokens, Checks, IsRefusedAs};
 ghost use Rattle.vidi.specs.Said as said;
 ghost use Rattle.vidi.specs.Steps.{IsSaid};
 
 use crate::answer::{Answer, refused, unread, with_bytes};
 use crate::status::{Reason, Status, Word};
-use report_text::{put, put_number};
+use report_text::{Big, put, put_number};
 use std::alloc::Global;
 use vidi_bits::{Bytes, Memory};
 use vidi_io::{Shelf, read_whole};
+use vlog_elab::{Big as Limit, ElabError, instances_of};
 use vlog_lex::{LexError, Tokens, lex};
 use vlog_parse::{ParseError, parse};
 use vlog_tree::File;
@@ -66,8 +68,46 @@ fn checked_tokens(alloc: Global, tokens: &Tokens, top: &str) -> Result<Answer, M
 fn checked_file(alloc: Global, file: &File, top: &str) -> Result<Answer, Memory>
     ensures { IfOk result (λ a. CheckedFile top.now (plain file.now) a.status (text_of a.text)) }
 {
-    let _ = top;
-    accepted(alloc, file)
+    match instances_of(alloc, file, top.as_bytes()) {
+        Ok(_) => accepted(alloc, file),
+        Err(error) => refused_as(alloc, error),
+    }
+}
+
+fn refused_as(alloc: Global, error: ElabError) -> Result<Answer, Memory>
+    ensures { IfOk result (λ a. IsRefusedAs error a.status (text_of a.text)) }
+{
+    match reason_of(error) {
+        Some(reason) => refused(alloc, Word::Design, reason),
+        None => Err(Memory),
+    }
+}
+
+/// The reason that the elaborator names, unless memory was wanting.
+fn reason_of(error: ElabError) -> Option<Reason>
+    ensures { result ≡ spec.reason_of error }
+{
+    match error {
+        ElabError::Twice { name } => Some(Reason::Twice { name }),
+        ElabError::Unknown { name } => Some(Reason::Unknown { name }),
+        ElabError::Kind { line } => Some(Reason::Kind { line }),
+        ElabError::Nested { name } => Some(Reason::Nested { name }),
+        ElabError::TooBig { what } => Some(Reason::TooBig { what: big_of(what) }),
+        ElabError::Const { line } => Some(Reason::Const { line }),
+        ElabError::Width { line, got } => Some(Reason::Width { line, got }),
+        ElabError::Clock { line } => Some(Reason::Clock { line }),
+        ElabError::Memory => None,
+    }
+}
+
+fn big_of(what: Limit) -> Big
+    ensures { result ≡ spec.big_of what }
+{
+    match what {
+        Limit::Instances => Big::Instances,
+        Limit::Nets => Big::Nets,
+        Limit::Words => Big::Words,
+    }
 }
 
 fn accepted(alloc: Global, file: &File) -> Result<Answer, Memory>

@@ -92,7 +92,7 @@ endmodule
 ";
 
 // A text for each form of items and headers, and its modules and items.
-const FORMS: [(&str, &str); 12] = [
+const FORMS: [(&str, &str); 11] = [
     (
         "module m #(parameter A = 1) (input clk); endmodule",
         "modules 1 items 0\n",
@@ -110,7 +110,7 @@ const FORMS: [(&str, &str); 12] = [
         "modules 2 items 2\n",
     ),
     (
-        "module n(input c); endmodule module m(input clk); n #(.A(1)) u(.c(clk)); endmodule",
+        "module n #(parameter A = 0) (input c); endmodule module m(input clk); n #(.A(1)) u(.c(clk)); endmodule",
         "modules 2 items 1\n",
     ),
     (
@@ -130,14 +130,13 @@ const FORMS: [(&str, &str); 12] = [
         "modules 1 items 1\n",
     ),
     (
-        "module m(input a, output [1:0] y); assign y = {2, {a}}; endmodule",
+        "module m(input a, output [1:0] y); assign y = {1'b0, {a}}; endmodule",
         "modules 1 items 1\n",
     ),
     (
         "module m(input a, output [1:0] y); assign y = {2{a}}; endmodule",
         "modules 1 items 1\n",
     ),
-    (REGS, "modules 1 items 13\n"),
 ];
 
 const NO_FILE: &str = "vidi: refused design: E2 item line 1\n";
@@ -190,19 +189,28 @@ fn spaces(alloc: Global, times: u32) -> Result<Vec<u8>, Failure> {
 #[test]
 fn modules_and_items_are_counted(rt: HostRuntime) -> Result<(), Failure> {
     let alloc = rt.alloc();
-    for (design, text) in [
-        (PASS, "modules 1 items 6\n"),
-        (DEAD, "modules 1 items 3\n"),
-        (FLICK, "modules 1 items 3\n"),
-        (LOOP2, "modules 1 items 2\n"),
-        (K2, "modules 1 items 2\n"),
+    for (line, design, text) in [
+        ("check t pass", PASS, "modules 1 items 6\n"),
+        ("check t dead", DEAD, "modules 1 items 3\n"),
+        ("check t flick", FLICK, "modules 1 items 3\n"),
+        ("check t loop2", LOOP2, "modules 1 items 2\n"),
+        ("check t k2", K2, "modules 1 items 2\n"),
+        ("check t regs", REGS, "modules 1 items 13\n"),
     ] {
-        expect_check(&rt, alloc, design.as_bytes(), DONE, text)?;
+        expect(&rt, alloc, line, design.as_bytes(), DONE, text)?;
     }
     let all = joined(alloc, &[PASS, DEAD, FLICK, LOOP2, K2])?;
-    expect_check(&rt, alloc, &all, DONE, "modules 5 items 16\n")?;
+    let all_text = "modules 5 items 16\n";
+    expect(&rt, alloc, "check t dead", &all, DONE, all_text)?;
     let duo = joined(alloc, &[PASS, DUO])?;
-    expect_check(&rt, alloc, &duo, DONE, "modules 2 items 10\n")
+    expect(
+        &rt,
+        alloc,
+        "check t duo",
+        &duo,
+        DONE,
+        "modules 2 items 10\n",
+    )
 }
 
 #[test]
@@ -210,6 +218,67 @@ fn each_form_of_the_grammar_is_read(rt: HostRuntime) -> Result<(), Failure> {
     let alloc = rt.alloc();
     for (design, text) in FORMS {
         expect_check(&rt, alloc, design.as_bytes(), DONE, text)?;
+    }
+    Ok(())
+}
+
+// For each reason behind the grammar a smallest text, and two in which it comes before a later one.
+const REFUSALS: [(&str, &str); 12] = [
+    ("module m(input a, a); endmodule", "E3 twice a"),
+    (
+        "module n(input b); endmodule module m(input a); assign x = a; endmodule",
+        "E4 unknown x",
+    ),
+    ("module n(input clk); endmodule", "E4 unknown m"),
+    (
+        "module m(input a,\noutput y); assign y = a[0]; endmodule",
+        "E7 kind line 2",
+    ),
+    ("module m(input a); m u(.a(a)); endmodule", "E11 nested m"),
+    (
+        "module m(input clk, input [8:1] p); endmodule",
+        "E5 const line 1",
+    ),
+    (
+        "module m(input clk);\nwire [128:0] p; endmodule",
+        "E6 width line 2 got 129",
+    ),
+    (
+        "module m(input clk); reg [7:0] w [0:1048576]; endmodule",
+        "E12 too big words",
+    ),
+    (
+        "module m(input clk, input a, output z); reg y;\nalways @(posedge clk) y <= a;\nassign z = clk; endmodule",
+        "E13 clock line 3",
+    ),
+    (
+        "module m(input a, a); assign x = a; endmodule",
+        "E3 twice a",
+    ),
+    (
+        "module m(input a); assign x = a[0]; m u(.a(a)); endmodule",
+        "E4 unknown x",
+    ),
+    (
+        "module m(input a); wire [128:0] p;\nwire [8:1] q; endmodule",
+        "E5 const line 2",
+    ),
+];
+
+/// The line that refuses a design for this reason.
+fn refusal(alloc: Global, reason: &str) -> Result<String, Failure> {
+    let mut line = String::from_str(alloc, "vidi: refused design: ")?;
+    line.push_str(reason)?;
+    line.push_str("\n")?;
+    Ok(line)
+}
+
+#[test]
+fn each_reason_is_named(rt: HostRuntime) -> Result<(), Failure> {
+    let alloc = rt.alloc();
+    for (design, reason) in REFUSALS {
+        let text = refusal(alloc, reason)?;
+        expect_check(&rt, alloc, design.as_bytes(), REFUSED, text.as_str())?;
     }
     Ok(())
 }
@@ -267,7 +336,7 @@ fn a_block_has_at_most_1024_elses(rt: HostRuntime) -> Result<(), Failure> {
     let alloc = rt.alloc();
     let deep_text = "vidi: refused design: E14 deep line 1028\n";
     let front = "reg x;\nalways @(posedge clk) begin\n";
-    let choice = "if (clk) x <= 1'b1; else x <= 1'b0;\n";
+    let choice = "if (x) x <= 1'b1; else x <= 1'b0;\n";
     let most = module_of(alloc, &[(front, 1), (choice, 1024), ("end", 1)])?;
     expect_check(&rt, alloc, &most, DONE, "modules 1 items 2\n")?;
     let more = module_of(alloc, &[(front, 1), (choice, 1025), ("end", 1)])?;
@@ -290,10 +359,10 @@ fn a_design_that_cannot_be_read_is_a_read_fault(rt: HostRuntime) -> Result<(), F
     let fault_text = "vidi: read fault design\n";
     for (line, failing, ending, text) in [
         ("check u m", (0, 0), READ_FAULT, fault_text),
-        ("check t m", (1, 0), READ_FAULT, fault_text),
-        ("check t m", (2, 0), READ_FAULT, fault_text),
-        ("check t m", (3, 0), DONE, "modules 1 items 6\n"),
-        ("check t m", (0, 1), WRITE_FAULT, ""),
+        ("check t pass", (1, 0), READ_FAULT, fault_text),
+        ("check t pass", (2, 0), READ_FAULT, fault_text),
+        ("check t pass", (3, 0), DONE, "modules 1 items 6\n"),
+        ("check t pass", (0, 1), WRITE_FAULT, ""),
     ] {
         let answered = answers(rt.alloc(), line, PASS.as_bytes(), failing, ending, text)?;
         assert!(rt; answered, "{line}: {text}");

@@ -14,6 +14,6 @@ loop-c-preserved g c =
     let step = subst (λ (b : Bool). g.P.Page.went c.loop-c.page c.print_end.new.page (cond b line [])) c.names-ends.ensures
     c.print_end.ensures in
     subst (λ (x : List ℕ). g.P.Page.went c.args.page.now c.print_end.new.page x)
-    (more_on (λ (x : ℕ × Channel). cond (has c.args.packet.now.ends x.0) (end_line number clock x) []) c.args.channels.now c.loop-c.c channel
-    c.loop-c-test.true c.index-channels-c.is)
+    (more_on (λ (x : ℕ × Channel). cond (has c.args.packet.now.ends x.0) (end_line number clock x) []) c.args.channels.now c.loop-c.c
+    channel c.loop-c-test.true c.index-channels-c.is)
     (g.met.P.Page.onward _ _ _ _ _ c.loop-c.invariant step)
