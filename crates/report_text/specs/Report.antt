@@ -1,14 +1,12 @@
 -- The lines of findings (this project's profile). Every line ends with a newline, and numbers are decimal.
-use Rattle.std.specs.Prelude.{ℕ, List, [], ◌∷◌, ◌++◌, Option, Some, None, slice_get, codes, decimal}
+use Rattle.std.specs.Prelude.{ℕ, List, [], ◌++◌, Option, Some, None, slice_get, codes, decimal}
 use Rattle.std.specs.List.{flat_map}
 use Rattle.trace_model.specs.declared.channel.Channel.{Channel}
 use Rattle.trace_compare.specs.declared.report.Finding.{Finding}
 use Rattle.trace_compare.specs.declared.report.What.{What}
 use Rattle.trace_compare.specs.declared.report.What.TheVariants.{Differs, MissingStart, ExtraStart, MissingEnd, ExtraEnd}
 use Rattle.trace_compare.specs.declared.report.What.TheVariants.{EarlyStart, EarlyEnd}
-
-abbrev pub newline : List ℕ
-newline = 10 ∷ []
+use Rattle.report_text.specs.Text.{newline}
 
 abbrev pub verb : What → List ℕ
 verb Differs = codes "differs "

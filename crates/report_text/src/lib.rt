@@ -1,8 +1,19 @@
-//! Printed texts, built piece by piece: the lines of findings. `Report` in `specs/` spells them.
+//! Printed texts, piece by piece: the lines of traces, findings and refusals. `specs/` spells them.
+//!
+//! A long text is printed on a `Page`: in memory (`Draft`), or on a sink through a pad of one size (`Printer`).
 #![tactic(auto)]
 
+mod draft;
+mod pad;
+mod page;
+mod printer;
+mod reason;
 mod report;
 mod text;
+mod trace_lines;
+mod trace_text;
 
+pub use reason::{Big, Reason, Word, read_fault_line, reason_line};
 pub use report::report_lines;
 pub use text::{put, put_number, put_numbers};
+pub use trace_lines::{TraceLines, dump_text};

@@ -1,20 +1,23 @@
 -- Steps of commands: one answer each, none of them a failed write, and the same where no read failed.
-use Rattle.std.proofs.Common.{◌≡◌, ℕ, ◌<◌, List, Some, Option, length, inl, inr, sym, ap, subst, ◌∙◌, arith}
+use Rattle.std.proofs.Common.{◌≡◌, ◌≢◌, ℕ, ◌<◌, List, Some, Option, length, inl, inr, sym, ap, subst, ◌∙◌, arith}
 use Rattle.std.specs.FinMap.{get}
 use Rattle.trace_code.specs.Decoding.{OnePlace}
 use Rattle.vidi_io.specs.Shelf.{Files}
-use Rattle.vidi.specs.declared.status.Word.{Word}
-use Rattle.vidi.specs.declared.status.Reason.{Reason}
-use Rattle.vidi.specs.declared.status.Reason.TheVariants.{TooLong, BadTrace}
+use Rattle.report_text.specs.declared.reason.Word.{Word}
+use Rattle.report_text.specs.declared.reason.Reason.{Reason}
+use Rattle.report_text.specs.declared.reason.Reason.TheVariants.{TooLong, BadTrace}
 use Rattle.vidi.specs.declared.status.Status.{Status}
 use Rattle.vidi.specs.declared.status.Status.TheVariants.{ReadFault, WriteFault, Refused}
-use Rattle.vidi.specs.Said.{reason_line, read_fault_line}
+use Rattle.report_text.specs.Reason.{reason_line, read_fault_line}
 use Rattle.vidi.specs.Steps.{Ending, IsSaid, IsRefusal, Step}
-use Rattle.vidi.specs.Traces.{trace_limit, IsUnreadTrace, IsRead, IsNoTrace}
-use Rattle.vidi.proofs.Owed.{Same}
+use Rattle.vidi.specs.Reading.{IsUnread, IsRead}
+use Rattle.vidi.specs.Traces.{IsNoTrace}
 use Rattle.vidi.proofs.Told.{both, there}
 
 -- ---- one answer
+abbrev pub Same : Status → Status → List ℕ → List ℕ → Type 0
+Same a b x y = (a ≡ b) × (x ≡ y)
+
 abbrev pub One : Ending → Type 0
 One E = (a b : Status) (x y : List ℕ) → E a x → E b y → Same a b x y
 
@@ -30,25 +33,33 @@ one-step Ends Gives Next one same apart next a b x y (inr (k, g, n)) (inl f) = a
 one-step {X} Ends Gives Next one same apart next a b x y (inr (k, g, n)) (inr (m, h, o)) =
     next k g a b x y n (subst (λ (z : X). Next z b y) (same m k h g) o)
 
-pub one-unread : (word : Word) (name : List ℕ) (files : Files) → One (IsUnreadTrace word name (Some files) (λ _. ⊥))
-one-unread word name files a b x y (inl (u, s)) (inl (v, t)) = one-said (ReadFault word) (read_fault_line word) a b x y s t
-one-unread word name files a b x y (inl (u, s)) (inr (long, t)) = absurd (there (get files name) (λ file. trace_limit < length file) long u)
-one-unread word name files a b x y (inr (long, s)) (inl (v, t)) = absurd (there (get files name) (λ file. trace_limit < length file) long v)
-one-unread word name files a b x y (inr (long, s)) (inr (more, t)) =
-    one-said (Refused word (TooLong trace_limit)) (reason_line word (TooLong trace_limit)) a b x y s t
+pub one-unread : (limit : ℕ) (word : Word) (name : List ℕ) (files : Files) → One (IsUnread limit word name (Some files) (λ _. ⊥))
+one-unread limit word name files a b x y (inl (u, s)) (inl (v, t)) = one-said (ReadFault word) (read_fault_line word) a b x y s t
+one-unread limit word name files a b x y (inl (u, s)) (inr (long, t)) = absurd (there (get files name) (λ file. limit < length file) long u)
+one-unread limit word name files a b x y (inr (long, s)) (inl (v, t)) = absurd (there (get files name) (λ file. limit < length file) long v)
+one-unread limit word name files a b x y (inr (long, s)) (inr (more, t)) =
+    one-said (Refused word (TooLong limit)) (reason_line word (TooLong limit)) a b x y s t
 
-pub unread-read : (word : Word) (name : List ℕ) (files : Files) (a : Status) (x file : List ℕ)
-    → IsUnreadTrace word name (Some files) (λ _. ⊥) a x → IsRead name (Some files) file → ⊥
-unread-read word name files a x file (inl (u, s)) (told, small) = there (get files name) (λ t. t ≡ file) told u
-unread-read word name files a x file (inr (long, s)) (told, small) =
-    let f = both (get files name) (λ t. t ≡ file) (λ t. trace_limit < length t) told long in
+pub unread-read : (limit : ℕ) (word : Word) (name : List ℕ) (files : Files) (a : Status) (x file : List ℕ)
+    → IsUnread limit word name (Some files) (λ _. ⊥) a x → IsRead limit name (Some files) file → ⊥
+unread-read limit word name files a x file (inl (u, s)) (told, small) = there (get files name) (λ t. t ≡ file) told u
+unread-read limit word name files a x file (inr (long, s)) (told, small) =
+    let f = both (get files name) (λ t. t ≡ file) (λ t. limit < length t) told long in
     let same : length f.0 ≡ length file = ap length f.1 in
-    let longer : trace_limit < length f.0 = f.2 in
+    let longer : limit < length f.0 = f.2 in
     omega (arith, same, longer, small)
 
-pub one-read : (name : List ℕ) (files : Files) (f g : List ℕ) → IsRead name (Some files) f → IsRead name (Some files) g → f ≡ g
-one-read name files f g (told, small) (told', small') =
+pub one-read : (limit : ℕ) (name : List ℕ) (files : Files) (f g : List ℕ) → IsRead limit name (Some files) f
+    → IsRead limit name (Some files) g → f ≡ g
+one-read limit name files f g (told, small) (told', small') =
     let h = both (get files name) (λ t. t ≡ f) (λ t. t ≡ g) told told' in sym h.1 ∙ h.2
+
+-- a command that reads a file
+pub one-reading : (limit : ℕ) (word : Word) (name : List ℕ) (files : Files) (Next : List ℕ → Ending) → ((file : List ℕ) → One (Next file))
+    → One (Step (IsUnread limit word name (Some files) (λ _. ⊥)) (IsRead limit name (Some files)) Next)
+one-reading limit word name files Next one =
+    one-step (IsUnread limit word name (Some files) (λ _. ⊥)) (IsRead limit name (Some files)) Next
+    (one-unread limit word name files) (one-read limit name files) (unread-read limit word name files) (λ file _. one file)
 
 pub one-no_trace : OnePlace → (word : Word) (file : List ℕ) → One (IsNoTrace word file)
 one-no_trace place word file a b x y (m, fault, none, s) (n, fault', none', t) =
@@ -67,16 +78,31 @@ mute-step Ends Gives Next mute next x (inr (k, g, n)) = next k x n
 pub mute-refusal : (word : Word) (reason : Reason) → Mute (IsRefusal word reason)
 mute-refusal word reason x s = let e : WriteFault ≡ Refused word reason = s.0 in cc
 
-pub mute-unread : (word : Word) (name : List ℕ) (files : Option Files) (F : List ℕ → Type 0) → Mute (IsUnreadTrace word name files F)
-mute-unread word name files F x (inl (u, s)) = let e : WriteFault ≡ ReadFault word = s.0 in cc
-mute-unread word name files F x (inr (long, s)) = mute-refusal word (TooLong trace_limit) x s
+pub mute-unread : (limit : ℕ) (word : Word) (name : List ℕ) (files : Option Files) (F : List ℕ → Type 0)
+    → Mute (IsUnread limit word name files F)
+mute-unread limit word name files F x (inl (u, s)) = let e : WriteFault ≡ ReadFault word = s.0 in cc
+mute-unread limit word name files F x (inr (long, s)) = mute-refusal word (TooLong limit) x s
+
+pub mute-reading : (limit : ℕ) (word : Word) (name : List ℕ) (files : Option Files) (F : List ℕ → Type 0) (Next : List ℕ → Ending)
+    → ((file : List ℕ) → Mute (Next file)) → Mute (Step (IsUnread limit word name files F) (IsRead limit name files) Next)
+mute-reading limit word name files F Next mute =
+    mute-step (IsUnread limit word name files F) (IsRead limit name files) Next (mute-unread limit word name files F) mute
+
+pub mute-said : (s : Status) (t : List ℕ) → s ≢ WriteFault → Mute (IsSaid s t)
+mute-said s t other x is = other (sym is.0)
 
 pub mute-no_trace : (word : Word) (file : List ℕ) → Mute (IsNoTrace word file)
 mute-no_trace word file x (at, fault, none, s) = mute-refusal word (BadTrace at) x s
 
 -- ---- where no read failed
-pub quiet-unread : (word : Word) (name : List ℕ) (files : Option Files) (F : List ℕ → Type 0) (a : Status) (x : List ℕ) → ¬ F name
-    → IsUnreadTrace word name files F a x → IsUnreadTrace word name files (λ _. ⊥) a x
-quiet-unread word name files F a x quiet (inl (inl absent, s)) = inl (inl absent, s)
-quiet-unread word name files F a x quiet (inl (inr failed, s)) = absurd (quiet failed)
-quiet-unread word name files F a x quiet (inr long) = inr long
+pub quiet-unread : (limit : ℕ) (word : Word) (name : List ℕ) (files : Option Files) (F : List ℕ → Type 0) (a : Status) (x : List ℕ)
+    → ¬ F name → IsUnread limit word name files F a x → IsUnread limit word name files (λ _. ⊥) a x
+quiet-unread limit word name files F a x quiet (inl (inl absent, s)) = inl (inl absent, s)
+quiet-unread limit word name files F a x quiet (inl (inr failed, s)) = absurd (quiet failed)
+quiet-unread limit word name files F a x quiet (inr long) = inr long
+
+pub quiet-reading : (limit : ℕ) (word : Word) (name : List ℕ) (files : Option Files) (F : List ℕ → Type 0) (Next : List ℕ → Ending)
+    (a : Status) (x : List ℕ) → ¬ F name → Step (IsUnread limit word name files F) (IsRead limit name files) Next a x
+    → Step (IsUnread limit word name files (λ _. ⊥)) (IsRead limit name files) Next a x
+quiet-reading limit word name files F Next a x quiet (inl u) = inl (quiet-unread limit word name files F a x quiet u)
+quiet-reading limit word name files F Next a x quiet (inr rest) = inr rest

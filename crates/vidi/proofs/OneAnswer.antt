@@ -6,7 +6,7 @@ use Rattle.vidi_io.specs.Shelf.{Files}
 use Rattle.vidi.specs.declared.status.Status.{Status}
 use Rattle.vidi.specs.Command.{Command, Dump, Check, Compare, Salvage, IsGiven}
 use Rattle.vidi.specs.Answer.{Does, OneAnswer}
-use Rattle.vidi.proofs.Owed.{Same}
+use Rattle.vidi.proofs.Endings.{Same}
 use Rattle.vidi.proofs.OneDump.{one_dump}
 use Rattle.vidi.proofs.OneCheck.{TextLaws, one_check}
 use Rattle.vidi.proofs.OneCompare.{one_compare}
@@ -81,7 +81,7 @@ one_deed : Laws → (c : Command) (files : Files) (a b : Status) (x y : List ℕ
 one_deed laws (Dump trace) files a b x y left right (d, l) (e, r) =
     kept files a b x y left right (one_dump laws.reading laws.place trace files a b x y d e) l r
 one_deed laws (Check design top) files a b x y left right (d, l) (e, r) =
-    kept files a b x y left right (one_check laws.texts design files a b x y d e) l r
+    kept files a b x y left right (one_check laws.texts design top files a b x y d e) l r
 one_deed laws (Compare trace other) files a b x y left right (d, l) (e, r) =
     kept files a b x y left right (one_compare laws.reading laws.place trace other files a b x y d e) l r
 one_deed laws (Salvage trace out) files a b x y left right d e = one_salvaged laws.salvage trace out files a b x y left right d e

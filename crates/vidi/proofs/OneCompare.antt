@@ -8,16 +8,17 @@ use Rattle.trace_code.specs.Encoding.{Encodes}
 use Rattle.trace_code.specs.Decoding.{OnePlace, OneReading}
 use Rattle.trace_compare.specs.Findings.{findings}
 use Rattle.vidi_io.specs.Shelf.{Files}
-use Rattle.vidi.specs.declared.status.Word.TheVariants as words
-use Rattle.vidi.specs.declared.status.Reason.TheVariants.{OtherChannels}
+use Rattle.report_text.specs.declared.reason.Word.TheVariants as words
+use Rattle.report_text.specs.declared.reason.Reason.TheVariants.{OtherChannels}
 use Rattle.vidi.specs.declared.status.Status.{Status}
 use Rattle.vidi.specs.declared.status.Status.TheVariants.{Done, WriteFault, Refused, Diverged}
-use Rattle.vidi.specs.Said.{reason_line, no_divergence_line, diverged_text}
+use Rattle.report_text.specs.Reason.{reason_line}
+use Rattle.vidi.specs.Said.{no_divergence_line, diverged_text}
 use Rattle.vidi.specs.Steps.{IsRefusal}
 use Rattle.vidi.specs.Traces.{HasOtherChannels, IsVerdict, Compared, ComparedWith, ComparedFiles, ComparedTo, Compares}
-use Rattle.vidi.specs.Traces.{IsUnreadTrace, IsRead, IsNoTrace}
-use Rattle.vidi.proofs.Endings.{One, one-said, one-step, one-unread, unread-read, one-read, one-no_trace}
-use Rattle.vidi.proofs.Endings.{Mute, mute-step, mute-refusal, mute-unread, mute-no_trace, quiet-unread}
+use Rattle.vidi.specs.Traces.{trace_limit, IsNoTrace}
+use Rattle.vidi.proofs.Endings.{One, one-said, one-step, one-reading, one-no_trace}
+use Rattle.vidi.proofs.Endings.{Mute, mute-step, mute-reading, mute-refusal, mute-no_trace, quiet-unread, quiet-reading}
 
 -- two tables have one first difference
 no-lower : (t u : List Channel) (m n : ℕ) → m < n → slice_get t m ≢ slice_get u m → take n t ≡ take n u → ⊥
@@ -65,15 +66,11 @@ one-compared_files reading place first second =
 one-compared_to : OneReading → OnePlace → (other : List ℕ) (files : Files) (first : List ℕ)
     → One (ComparedTo other (Some files) (λ _. ⊥) first)
 one-compared_to reading place other files first =
-    one-step (IsUnreadTrace words.Other other (Some files) (λ _. ⊥)) (IsRead other (Some files)) (ComparedFiles first)
-    (one-unread words.Other other files) (one-read other files) (unread-read words.Other other files)
-    (λ second _. one-compared_files reading place first second)
+    one-reading trace_limit words.Other other files (ComparedFiles first) (one-compared_files reading place first)
 
 pub one_compare : OneReading → OnePlace → (trace other : List ℕ) (files : Files) → One (Compares trace other (Some files) (λ _. ⊥))
 one_compare reading place trace other files =
-    one-step (IsUnreadTrace words.Trace trace (Some files) (λ _. ⊥)) (IsRead trace (Some files))
-    (ComparedTo other (Some files) (λ _. ⊥)) (one-unread words.Trace trace files) (one-read trace files)
-    (unread-read words.Trace trace files) (λ first _. one-compared_to reading place other files first)
+    one-reading trace_limit words.Trace trace files (ComparedTo other (Some files) (λ _. ⊥)) (one-compared_to reading place other files)
 
 -- ---- no failed write
 mute-verdict : (t u : Trace) → Mute (IsVerdict t u)
@@ -93,17 +90,15 @@ mute-compared_files first second = mute-step (IsNoTrace words.Trace first) (λ t
     (mute-no_trace words.Trace first) (mute-compared_with second)
 
 mute-compared_to : (other : List ℕ) (files : Option Files) (F : List ℕ → Type 0) (first : List ℕ) → Mute (ComparedTo other files F first)
-mute-compared_to other files F first = mute-step (IsUnreadTrace words.Other other files F) (IsRead other files) (ComparedFiles first)
-    (mute-unread words.Other other files F) (mute-compared_files first)
+mute-compared_to other files F first = mute-reading trace_limit words.Other other files F (ComparedFiles first) (mute-compared_files first)
 
 pub mute-compares : (trace other : List ℕ) (files : Option Files) (F : List ℕ → Type 0) → Mute (Compares trace other files F)
-mute-compares trace other files F = mute-step (IsUnreadTrace words.Trace trace files F) (IsRead trace files) (ComparedTo other files F)
-    (mute-unread words.Trace trace files F) (mute-compared_to other files F)
+mute-compares trace other files F = mute-reading trace_limit words.Trace trace files F (ComparedTo other files F)
+    (mute-compared_to other files F)
 
 -- ---- where no read failed
 pub quiet-compares : (trace other : List ℕ) (files : Option Files) (F : List ℕ → Type 0) (a : Status) (x : List ℕ)
     → ((name : List ℕ) → ¬ F name) → Compares trace other files F a x → Compares trace other files (λ _. ⊥) a x
-quiet-compares trace other files F a x quiet (inl u) = inl (quiet-unread words.Trace trace files F a x (quiet trace) u)
-quiet-compares trace other files F a x quiet (inr (f, read, inl u)) =
-    inr (f, read, inl (quiet-unread words.Other other files F a x (quiet other) u))
-quiet-compares trace other files F a x quiet (inr (f, read, inr rest)) = inr (f, read, inr rest)
+quiet-compares trace other files F a x quiet (inl u) = inl (quiet-unread trace_limit words.Trace trace files F a x (quiet trace) u)
+quiet-compares trace other files F a x quiet (inr (f, read, rest)) =
+    inr (f, read, quiet-reading trace_limit words.Other other files F (ComparedFiles f) a x (quiet other) rest)

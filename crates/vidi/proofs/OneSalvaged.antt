@@ -8,18 +8,19 @@ use Rattle.trace_code.specs.Encoding.{packet_bytes, encode}
 use Rattle.trace_code.specs.Decoding.{HasNoHeader}
 use Rattle.trace_code.specs.Salvage.{Salvages, OneSalvage}
 use Rattle.vidi_io.specs.Shelf.{Files, holding}
-use Rattle.vidi.specs.declared.status.Word.TheVariants as words
-use Rattle.vidi.specs.declared.status.Reason.TheVariants.{BadTrace}
+use Rattle.report_text.specs.declared.reason.Word.TheVariants as words
+use Rattle.report_text.specs.declared.reason.Reason.TheVariants.{BadTrace}
 use Rattle.vidi.specs.declared.status.Status.{Status}
 use Rattle.vidi.specs.declared.status.Status.TheVariants.{Done, WriteFault, Refused}
-use Rattle.vidi.specs.Said.{reason_line, salvaged_line}
-use Rattle.vidi.specs.Traces.{IsUnsaved, IsWhole, Saves}
+use Rattle.report_text.specs.Reason.{reason_line}
+use Rattle.vidi.specs.Said.{salvaged_line}
+use Rattle.vidi.specs.Traces.{trace_limit, IsUnsaved, IsWhole, Saves}
 use Rattle.vidi.proofs.Endings.{One, one-said, one-unread, unread-read, one-read, mute-refusal, mute-unread, quiet-unread}
 
 one-unsaved : (trace : List ℕ) (files : Files) → One (IsUnsaved trace (Some files) (λ _. ⊥))
-one-unsaved trace files a b x y (inl u) (inl v) = one-unread words.Trace trace files a b x y u v
-one-unsaved trace files a b x y (inl u) (inr (f, read, headerless)) = absurd (unread-read words.Trace trace files a x f u read)
-one-unsaved trace files a b x y (inr (f, read, headerless)) (inl u) = absurd (unread-read words.Trace trace files b y f u read)
+one-unsaved trace files a b x y (inl u) (inl v) = one-unread trace_limit words.Trace trace files a b x y u v
+one-unsaved trace files a b x y (inl u) (inr (f, read, headerless)) = absurd (unread-read trace_limit words.Trace trace files a x f u read)
+one-unsaved trace files a b x y (inr (f, read, headerless)) (inl u) = absurd (unread-read trace_limit words.Trace trace files b y f u read)
 one-unsaved trace files a b x y (inr (f, read, (none, s))) (inr (g, read', (none', s'))) =
     one-said (Refused words.Trace (BadTrace 0)) (reason_line words.Trace (BadTrace 0)) a b x y s s'
 
@@ -42,7 +43,7 @@ no_header file t (rest, longest) none =
 one-whole : OneSalvage → (trace : List ℕ) (files : Files) (t u : Trace) → IsWhole trace (Some files) t → IsWhole trace (Some files) u
     → t ≡ u
 one-whole one trace files t u (f, read, whole) (g, read', whole') =
-    let same = one-read trace files g f read' read in
+    let same = one-read trace_limit trace files g f read' read in
     let there = subst (λ (h : List ℕ). Salvages h (found u)) same whole' in
     ⊎_elim (λ (e : found t ≡ wanting). absurd (no_memory t e))
     (λ (r : (found u ≡ wanting) ⊎ (found t ≡ found u)). ⊎_elim
@@ -52,9 +53,9 @@ one-whole one trace files t u (f, read, whole) (g, read', whole') =
 
 unsaved-whole : OneSalvage → (trace : List ℕ) (files : Files) (a : Status) (x : List ℕ) (t : Trace)
     → IsUnsaved trace (Some files) (λ _. ⊥) a x → IsWhole trace (Some files) t → ⊥
-unsaved-whole one trace files a x t (inl u) (f, read, whole) = unread-read words.Trace trace files a x f u read
+unsaved-whole one trace files a x t (inl u) (f, read, whole) = unread-read trace_limit words.Trace trace files a x f u read
 unsaved-whole one trace files a x t (inr (g, read', (none, s))) (f, read, whole) =
-    no_header f t whole (subst HasNoHeader (one-read trace files g f read' read) none)
+    no_header f t whole (subst HasNoHeader (one-read trace_limit trace files g f read' read) none)
 
 pub one_salvaged : OneSalvage → (trace out : List ℕ) (files : Files) (a b : Status) (x y : List ℕ) (left right : Option Files)
     → Saves trace out (Some files) (λ _. ⊥) a x left → Saves trace out (Some files) (λ _. ⊥) b y right
@@ -74,13 +75,13 @@ one_salvaged one trace out files a b x y left right (inr (t, whole, s, same)) (i
 
 pub mute-saves : (trace out : List ℕ) (files : Option Files) (F : List ℕ → Type 0) (x : List ℕ) (left : Option Files)
     → Saves trace out files F WriteFault x left → ⊥
-mute-saves trace out files F x left (inl (inl u, same)) = mute-unread words.Trace trace files F x u
+mute-saves trace out files F x left (inl (inl u, same)) = mute-unread trace_limit words.Trace trace files F x u
 mute-saves trace out files F x left (inl (inr (f, read, (none, s)), same)) = mute-refusal words.Trace (BadTrace 0) x s
 mute-saves trace out files F x left (inr (t, whole, s, same)) = let e : WriteFault ≡ Done = s.0 in cc
 
 pub quiet-saves : (trace out : List ℕ) (files : Option Files) (F : List ℕ → Type 0) (a : Status) (x : List ℕ) (left : Option Files)
     → ((name : List ℕ) → ¬ F name) → Saves trace out files F a x left → Saves trace out files (λ _. ⊥) a x left
 quiet-saves trace out files F a x left quiet (inl (inl u, same)) =
-    inl (inl (quiet-unread words.Trace trace files F a x (quiet trace) u), same)
+    inl (inl (quiet-unread trace_limit words.Trace trace files F a x (quiet trace) u), same)
 quiet-saves trace out files F a x left quiet (inl (inr unsaved, same)) = inl (inr unsaved, same)
 quiet-saves trace out files F a x left quiet (inr saved) = inr saved

@@ -5,14 +5,20 @@ use Rattle.vidi_io.specs.Shelf.{Files}
 use Rattle.vidi.specs.declared.status.Status.{Status}
 use Rattle.vidi.specs.declared.status.Status.TheVariants.{Done, Usage, ReadFault, WriteFault, Refused, Diverged, Memory}
 use Rattle.vidi.specs.Command.{Command, Dump, Check, Compare, Salvage}
-use Rattle.vidi.specs.Answer.{Dumps, Checks, Does, Earns, Answers, Says}
+use Rattle.vidi.specs.Answer.{Does, Earns, Answers, Says}
+use Rattle.vidi.specs.Design.{text_limit, CheckedText}
+use Rattle.vidi.specs.Traces.{trace_limit, DumpedFile}
+use Rattle.report_text.specs.declared.reason.Word.TheVariants as words
+use Rattle.vidi.proofs.Endings.{quiet-reading}
+use Rattle.vidi.proofs.OneDump.{mute-dumps}
+use Rattle.vidi.proofs.OneCheck.{mute-checks}
 use Rattle.vidi.proofs.OneCompare.{mute-compares, quiet-compares}
 use Rattle.vidi.proofs.OneSalvaged.{mute-saves, quiet-saves}
 
 does-writing : (c : Command) (files : Option Files) (F : List ℕ → Type 0) (text : List ℕ) (left : Option Files)
     → Does c files F WriteFault text left → ⊥
-does-writing (Dump trace) files F text left (none, same) = none
-does-writing (Check design top) files F text left (none, same) = none
+does-writing (Dump trace) files F text left (d, same) = mute-dumps trace files F text d
+does-writing (Check design top) files F text left (d, same) = mute-checks design top files F text d
 does-writing (Compare trace other) files F text left (d, same) = mute-compares trace other files F text d
 does-writing (Salvage trace out) files F text left d = mute-saves trace out files F text left d
 
@@ -45,33 +51,12 @@ said words files F S W V old new left status text result earned why (inl (same, 
 said words files F S W V old new left status text result earned why (inr (fault, failed, some)) =
     subst (λ (s : Status). Answers (Earns words files F) S W old new left s) (sym fault) (why failed, inl (status, text, earned, some))
 
-quiet_dump : (trace : List ℕ) (files : Option Files) (F : List ℕ → Type 0) (status : Status) (text : List ℕ) → ((name : List ℕ) → ¬ F name)
-    → Dumps trace files F status text → Dumps trace files (λ _. ⊥) status text
-quiet_dump trace files F Done text quiet d = d
-quiet_dump trace files F Usage text quiet d = d
-quiet_dump trace files F (ReadFault word) text quiet (same, inl absent, said) = (same, inl absent, said)
-quiet_dump trace files F (ReadFault word) text quiet (same, inr failed, said) = absurd (quiet trace failed)
-quiet_dump trace files F WriteFault text quiet d = d
-quiet_dump trace files F (Refused word reason) text quiet d = d
-quiet_dump trace files F Diverged text quiet d = d
-quiet_dump trace files F Memory text quiet d = d
-
-quiet_check : (design : List ℕ) (files : Option Files) (F : List ℕ → Type 0) (status : Status) (text : List ℕ)
-    → ((name : List ℕ) → ¬ F name)
-    → Checks design files F status text → Checks design files (λ _. ⊥) status text
-quiet_check design files F Done text quiet d = d
-quiet_check design files F Usage text quiet d = d
-quiet_check design files F (ReadFault word) text quiet (same, inl absent, said) = (same, inl absent, said)
-quiet_check design files F (ReadFault word) text quiet (same, inr failed, said) = absurd (quiet design failed)
-quiet_check design files F WriteFault text quiet d = d
-quiet_check design files F (Refused word reason) text quiet d = d
-quiet_check design files F Diverged text quiet d = d
-quiet_check design files F Memory text quiet d = d
-
 quiet_does : (c : Command) (files : Option Files) (F : List ℕ → Type 0) (status : Status) (text : List ℕ) (left : Option Files)
     → ((name : List ℕ) → ¬ F name) → Does c files F status text left → Does c files (λ _. ⊥) status text left
-quiet_does (Dump trace) files F status text left quiet (d, same) = (quiet_dump trace files F status text quiet d, same)
-quiet_does (Check design top) files F status text left quiet (d, same) = (quiet_check design files F status text quiet d, same)
+quiet_does (Dump trace) files F status text left quiet (d, same) =
+    (quiet-reading trace_limit words.Trace trace files F DumpedFile status text (quiet trace) d, same)
+quiet_does (Check design top) files F status text left quiet (d, same) =
+    (quiet-reading text_limit words.Design design files F (CheckedText top) status text (quiet design) d, same)
 quiet_does (Compare trace other) files F status text left quiet (d, same) = (quiet-compares trace other files F status text quiet d, same)
 quiet_does (Salvage trace out) files F status text left quiet d = quiet-saves trace out files F status text left quiet d
 

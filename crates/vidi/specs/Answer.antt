@@ -1,61 +1,20 @@
 -- What a call of `vidi` owes: each answer with its cause and its text.
-use Rattle.std.specs.Prelude.{◌≡◌, ℕ, ◌<◌, ◌≤◌, ◌⊎◌, List, Option, Some, length}
+use Rattle.std.specs.Prelude.{◌≡◌, ℕ, ◌⊎◌, List, Option, Some}
 use Rattle.std.specs.Io.KnownBytes.{append_known}
-use Rattle.trace_model.specs.declared.trace.Trace.{Trace}
-use Rattle.trace_code.specs.Decoding.{IsFaultAt}
-use Rattle.trace_code.specs.Encoding.{Encodes}
 use Rattle.vidi_io.specs.Shelf.{Files}
 use Rattle.vidi_io.specs.Sink.{AppendsSome}
-use Rattle.vlog_tree.specs.Tree.{FileOf}
-use Rattle.vidi.specs.declared.status.Word.TheVariants as words
-use Rattle.vidi.specs.declared.status.Reason.{Reason}
-use Rattle.vidi.specs.declared.status.Reason.TheVariants as reasons
 use Rattle.vidi.specs.declared.status.Status.{Status}
-use Rattle.vidi.specs.declared.status.Status.TheVariants.{Done, Usage, ReadFault, WriteFault, Refused, Memory}
+use Rattle.vidi.specs.declared.status.Status.TheVariants.{Usage, WriteFault, Memory}
 use Rattle.vidi.specs.Command.{Command, Dump, Check, Compare, Salvage, IsGiven}
 use Rattle.vidi.specs.Steps.{IsSaid}
-use Rattle.vidi.specs.Traces.{Absent, Compares, Saves, StopsSaving, Told, trace_limit}
-use Rattle.vidi.specs.Design.{text_limit, Spells, HasReason}
-use Rattle.vidi.specs.Said.{dump_text, check_text, usage_line, memory_line, read_fault_line, reason_line}
-
--- the reasons that are no fault of reading, in the order in which they are tried
-abbrev pub RefusesTrace : List ℕ → Option Files → Reason → Type 0
-RefusesTrace trace files (reasons.TooLong limit) = (limit ≡ trace_limit) × Told files trace (λ file. limit < length file)
-RefusesTrace trace files (reasons.BadTrace at) = Told files trace (λ file. (length file ≤ trace_limit) × IsFaultAt file at
-    × ((t : Trace) → ¬ Encodes t file))
-RefusesTrace trace files _ = ⊥
-
--- `dump TRACE`: the answer and its text, where ReadFailed says of which names a read has failed
-abbrev pub Dumps : List ℕ → Option Files → (List ℕ → Type 0) → Status → List ℕ → Type 0
-Dumps trace files ReadFailed Done text =
-    (t : Trace) × (file : List ℕ) × Encodes t file × (length file ≤ trace_limit) × Told files trace (λ told. told ≡ file)
-    × (text ≡ dump_text t)
-Dumps trace files ReadFailed (ReadFault word) text =
-    (word ≡ words.Trace) × (Absent files trace ⊎ ReadFailed trace) × (text ≡ read_fault_line word)
-Dumps trace files ReadFailed (Refused word reason) text =
-    (word ≡ words.Trace) × RefusesTrace trace files reason × (text ≡ reason_line word reason)
-Dumps trace files ReadFailed status text = ⊥
-
--- the reasons for which a design text is refused: its length first
-abbrev pub RefusesDesign : List ℕ → Option Files → Reason → Type 0
-RefusesDesign design files (reasons.TooLong limit) = (limit ≡ text_limit) × Told files design (λ file. limit < length file)
-RefusesDesign design files reason = Told files design (λ file. (length file ≤ text_limit) × HasReason file reason)
-
--- `check DESIGN TOP`: the answer and its text, where ReadFailed says of which names a read has failed
-abbrev pub Checks : List ℕ → Option Files → (List ℕ → Type 0) → Status → List ℕ → Type 0
-Checks design files ReadFailed Done text =
-    (f : FileOf (Unit {0})) × (file : List ℕ) × Spells file f × (length file ≤ text_limit) × Told files design (λ told. told ≡ file)
-    × (text ≡ check_text f)
-Checks design files ReadFailed (ReadFault word) text =
-    (word ≡ words.Design) × (Absent files design ⊎ ReadFailed design) × (text ≡ read_fault_line word)
-Checks design files ReadFailed (Refused word reason) text =
-    (word ≡ words.Design) × RefusesDesign design files reason × (text ≡ reason_line word reason)
-Checks design files ReadFailed status text = ⊥
+use Rattle.vidi.specs.Traces.{Dumps, Compares, Saves, StopsSaving}
+use Rattle.vidi.specs.Design.{Checks}
+use Rattle.vidi.specs.Said.{usage_line, memory_line}
 
 -- what a command owes: its answer, its text, and the files that are left
 abbrev pub Does : Command → Option Files → (List ℕ → Type 0) → Status → List ℕ → Option Files → Type 0
 Does (Dump trace) files ReadFailed status text left = Dumps trace files ReadFailed status text × (left ≡ files)
-Does (Check design top) files ReadFailed status text left = Checks design files ReadFailed status text × (left ≡ files)
+Does (Check design top) files ReadFailed status text left = Checks design top files ReadFailed status text × (left ≡ files)
 Does (Compare trace other) files ReadFailed status text left = Compares trace other files ReadFailed status text × (left ≡ files)
 Does (Salvage trace out) files ReadFailed status text left = Saves trace out files ReadFailed status text left
 

@@ -1,29 +1,86 @@
--- Design texts: the file that one spells, and the reason for which one is refused (this project's profile).
-use Rattle.std.specs.Prelude.{ℕ, List}
+-- `check DESIGN TOP`: each step in its order (this project's profile).
+use Rattle.std.specs.Prelude.{◌≡◌, ℕ, ◌⊎◌, List, Option, None, Some}
 use Rattle.vlog_lex.specs.declared.token.Token.{Token}
 use Rattle.vlog_lex.specs.Reading.{HasTokens, IsStuckOn}
 use Rattle.vlog_tree.specs.Tree.{FileOf}
 use Rattle.vlog_expr.specs.Marks.{all_marked}
 use Rattle.vlog_parse.specs.Depth.{IsDeep, IsShallow}
-use Rattle.vlog_parse.specs.Parsing.{IsFileOf}
+use Rattle.vlog_parse.specs.Parsing.{IsFileOf, IsLinedFileOf}
 use Rattle.vlog_parse.specs.Units.{IsItemLine}
-use Rattle.vidi.specs.declared.status.Reason.{Reason}
-use Rattle.vidi.specs.declared.status.Reason.TheVariants as reasons
+use Rattle.vlog_elab.specs.declared.error.Big.{Big as Limit}
+use Rattle.vlog_elab.specs.declared.error.Big.TheVariants as limits
+use Rattle.vlog_elab.specs.declared.error.ElabError.{ElabError}
+use Rattle.vlog_elab.specs.declared.error.ElabError.TheVariants as errors
+use Rattle.vlog_elab.specs.Reasons.{Clear, Refused}
+use Rattle.vidi_io.specs.Shelf.{Files}
+use Rattle.report_text.specs.declared.reason.Big.{Big}
+use Rattle.report_text.specs.declared.reason.Big.TheVariants.{Instances, Nets, Words}
+use Rattle.report_text.specs.declared.reason.Word.TheVariants as words
+use Rattle.report_text.specs.declared.reason.Reason.{Reason}
+use Rattle.report_text.specs.declared.reason.Reason.TheVariants as reasons
+use Rattle.vidi.specs.declared.status.Status.TheVariants.{Done}
+use Rattle.vidi.specs.Steps.{Ending, IsSaid, IsRefusal, Step}
+use Rattle.vidi.specs.Reading.{IsRead, IsUnread}
+use Rattle.vidi.specs.Said.{check_text}
 
 -- the longest design text, in bytes
 abbrev pub text_limit : ℕ
 text_limit = 4194304
 
--- the text spells the file f, and none of the three limits is passed
-abbrev pub Spells : List ℕ → FileOf (Unit {0}) → Type 0
-Spells text f = (tokens : List Token) × HasTokens text tokens × IsShallow (all_marked tokens) × IsFileOf tokens f
+-- E1: at a place of this line nothing begins
+abbrev pub IsNoWord : List ℕ → Ending
+IsNoWord text status said = (line : ℕ) × IsStuckOn text line × IsRefusal words.Design (reasons.Word line) status said
 
--- the first reason that holds: at a place of this line nothing begins, else a limit is passed first at a token with this line,
--- else no file has the tokens, and this is the line behind the longest list of whole units
-abbrev pub HasReason : List ℕ → Reason → Type 0
-HasReason text (reasons.Word line) = IsStuckOn text line
-HasReason text (reasons.Deep line) = (tokens : List Token) × HasTokens text tokens × IsDeep (all_marked tokens) line
-HasReason text (reasons.Item line) =
-    (tokens : List Token) × HasTokens text tokens × IsItemLine (all_marked tokens) line × IsShallow (all_marked tokens)
-    × ((f : FileOf (Unit {0})) → ¬ IsFileOf tokens f)
-HasReason text _ = ⊥
+-- E14: a limit is passed, first at a token of this line
+abbrev pub IsTooDeep : List Token → Ending
+IsTooDeep tokens status said = (line : ℕ) × IsDeep (all_marked tokens) line × IsRefusal words.Design (reasons.Deep line) status said
+
+-- E2: else no file has the tokens, and this is the line behind the longest list of whole units
+abbrev pub IsNoFile : List Token → Ending
+IsNoFile tokens status said = (line : ℕ) × IsItemLine (all_marked tokens) line × IsShallow (all_marked tokens)
+    × ((f : FileOf (Unit {0})) → ¬ IsFileOf tokens f) × IsRefusal words.Design (reasons.Item line) status said
+
+-- the tokens spell the file, lines included, and no limit is passed
+abbrev pub IsFile : List Token → FileOf ℕ → Type 0
+IsFile tokens f = IsShallow (all_marked tokens) × IsLinedFileOf tokens f
+
+-- ---- the reasons E3 to E7 and E11 to E13
+abbrev pub big_of : Limit → Big
+big_of limits.Instances = Instances
+big_of limits.Nets = Nets
+big_of limits.Words = Words
+
+-- want of memory is no reason
+abbrev pub reason_of : ElabError → Option Reason
+reason_of (errors.Twice name) = Some (reasons.Twice name)
+reason_of (errors.Unknown name) = Some (reasons.Unknown name)
+reason_of (errors.Kind line) = Some (reasons.Kind line)
+reason_of (errors.Nested name) = Some (reasons.Nested name)
+reason_of (errors.TooBig what) = Some (reasons.TooBig (big_of what))
+reason_of (errors.Const line) = Some (reasons.Const line)
+reason_of (errors.Width line got) = Some (reasons.Width line got)
+reason_of (errors.Clock line) = Some (reasons.Clock line)
+reason_of errors.Memory = None
+
+-- the answer that refuses for this reason
+abbrev pub IsRefusedAs : ElabError → Ending
+IsRefusedAs error status said = (reason : Reason) × (reason_of error ≡ Some reason) × IsRefusal words.Design reason status said
+
+-- this is the first reason that holds of the file with this top
+abbrev pub IsRefusedFile : List ℕ → FileOf ℕ → Ending
+IsRefusedFile top f status said = (error : ElabError) × Refused f top error × IsRefusedAs error status said
+
+-- ---- the file, its tokens, its text
+abbrev pub CheckedFile : List ℕ → FileOf ℕ → Ending
+CheckedFile top f status said = IsRefusedFile top f status said ⊎ (Clear f top × IsSaid Done (check_text f) status said)
+
+abbrev pub CheckedTokens : List ℕ → List Token → Ending
+CheckedTokens top tokens = Step (λ status said. IsTooDeep tokens status said ⊎ IsNoFile tokens status said) (IsFile tokens)
+    (CheckedFile top)
+
+abbrev pub CheckedText : List ℕ → List ℕ → Ending
+CheckedText top text = Step (IsNoWord text) (HasTokens text) (CheckedTokens top)
+
+abbrev pub Checks : List ℕ → List ℕ → Option Files → (List ℕ → Type 0) → Ending
+Checks design top files ReadFailed = Step (IsUnread text_limit words.Design design files ReadFailed) (IsRead text_limit design files)
+    (CheckedText top)

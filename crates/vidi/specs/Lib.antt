@@ -1,10 +1,11 @@
 pub mod Answer
+pub mod AnswerText
 pub mod Command
 pub mod Design
 pub mod Exit
-pub mod Refusal
+pub mod Reading
 pub mod Said
 pub mod Steps
 pub mod Stopping
 pub mod Traces
-pub mod Unread
+pub mod Unfetched

@@ -1,72 +1,13 @@
 -- *Said*: the printed texts (this project's profile). Every line ends with a newline, and numbers are decimal.
-use Rattle.std.specs.Prelude.{ℕ, List, [], ◌∷◌, ◌++◌, length, map, codes, decimal, if◌then◌else◌}
-use Rattle.std.specs.List.{flat_map, enumerate_from, range_with_len, sum_by}
+use Rattle.std.specs.Prelude.{ℕ, List, ◌++◌, length, codes, decimal}
+use Rattle.std.specs.List.{sum_by}
 use Rattle.trace_model.specs.declared.channel.Channel.{Channel}
-use Rattle.trace_model.specs.declared.channel.Dir.{Dir}
-use Rattle.trace_model.specs.declared.channel.Dir.TheVariants.{Inward, Outward}
-use Rattle.trace_model.specs.declared.packet.Packet.{Packet}
-use Rattle.trace_model.specs.declared.trace.Trace.{Trace}
-use Rattle.trace_model.specs.Counting.{has}
-use Rattle.trace_model.specs.Packet.{content_of}
-use Rattle.trace_model.specs.Clock.{clock}
 use Rattle.trace_compare.specs.declared.report.Finding.{Finding}
 use Rattle.report_text.specs.Report.{report_lines}
+use Rattle.report_text.specs.Text.{newline}
 use Rattle.vlog_tree.specs.Tree.{ModuleOf, FileOf}
-use Rattle.vidi.specs.declared.status.Word.{Word}
-use Rattle.vidi.specs.declared.status.Word.TheVariants as words
-use Rattle.vidi.specs.declared.status.Reason.{Reason}
-use Rattle.vidi.specs.declared.status.Reason.TheVariants as reasons
-pub use Rattle.report_text.specs.Report.{newline}
-
--- each number after a space, in decimal
-abbrev pub spaced : List ℕ → List ℕ
-spaced numbers = flat_map (λ (x : ℕ). 32 ∷ decimal x) numbers
-
-abbrev pub direction_text : Dir → List ℕ
-direction_text Inward = codes " in "
-direction_text Outward = codes " out "
-
--- `channel N in CH W ..` or `channel N out CH W ..`
-abbrev pub channel_line : ℕ → Channel → List ℕ
-channel_line n c = codes "channel " ++ (decimal n ++ (direction_text c.dir ++ (c.name ++ (spaced c.widths ++ newline))))
-
--- `packets N`
-abbrev pub packets_line : ℕ → List ℕ
-packets_line n = codes "packets " ++ (decimal n ++ newline)
-
--- the lines of channels that are numbered from n on
-abbrev pub channel_lines : ℕ → List Channel → List ℕ
-channel_lines n channels = flat_map (λ (x : ℕ × Channel). channel_line x.0 x.1) (enumerate_from n channels)
-
--- ` clock K ..`: the clock of packet p of n channels, and the end of the line
-abbrev pub clock_text : ℕ → List Packet → ℕ → List ℕ
-clock_text n packets p = codes " clock" ++ (spaced (map (clock packets p) (range_with_len 0 n)) ++ newline)
-
--- `P start CH V .. clock K ..` for each channel that starts in packet P, with the content that it starts
-abbrev pub start_line : List Channel → ℕ → Packet → List ℕ → ℕ × Channel → List ℕ
-start_line channels p packet clock x = decimal p ++ (codes " start " ++ (x.1.name ++ (spaced (content_of channels packet x.0) ++ clock)))
-
-abbrev pub start_lines : List Channel → ℕ → Packet → List ℕ → List ℕ
-start_lines channels p packet clock = flat_map (λ (x : ℕ × Channel). if has packet.starts x.0 then start_line channels p packet clock x
-    else []) (enumerate_from 0 channels)
-
--- `P end CH clock K ..` for each channel that completes in packet P
-abbrev pub end_line : ℕ → List ℕ → ℕ × Channel → List ℕ
-end_line p clock x = decimal p ++ (codes " end " ++ (x.1.name ++ clock))
-
-abbrev pub end_lines : List Channel → ℕ → Packet → List ℕ → List ℕ
-end_lines channels p packet clock = flat_map (λ (x : ℕ × Channel). if has packet.ends x.0 then end_line p clock x else [])
-    (enumerate_from 0 channels)
-
--- a packet's starts in channel order, then its ends, each with the packet's clock
-abbrev pub packet_lines : List Channel → List Packet → ℕ × Packet → List ℕ
-packet_lines channels packets x = start_lines channels x.0 x.1 (clock_text (length channels) packets x.0)
-    ++ end_lines channels x.0 x.1 (clock_text (length channels) packets x.0)
-
--- what `dump` prints of a trace
-abbrev pub dump_text : Trace → List ℕ
-dump_text t = channel_lines 0 t.channels ++ (flat_map (packet_lines t.channels t.packets) (enumerate_from 0 t.packets)
-    ++ packets_line (length t.packets))
+pub use Rattle.report_text.specs.Trace.{dump_text}
+pub use Rattle.report_text.specs.Reason.{read_fault_line, reason_line}
 
 -- the items of all modules
 abbrev pub items : {A : Type 0} → FileOf A → ℕ
@@ -87,29 +28,8 @@ diverged_text report channels = report_lines report channels ++ (codes "diverged
 abbrev pub salvaged_line : ℕ → List ℕ
 salvaged_line n = codes "salvaged " ++ (decimal n ++ (codes " packets" ++ newline))
 
-abbrev pub word_text : Word → List ℕ
-word_text words.Design = codes "design"
-word_text words.Trace = codes "trace"
-word_text words.Other = codes "other"
-
 abbrev pub usage_line : List ℕ
 usage_line = codes "vidi: usage" ++ newline
 
 abbrev pub memory_line : List ℕ
 memory_line = codes "vidi: out of memory" ++ newline
-
--- `vidi: read fault W`
-abbrev pub read_fault_line : Word → List ℕ
-read_fault_line word = codes "vidi: read fault " ++ (word_text word ++ newline)
-
-abbrev pub reason_text : Reason → List ℕ
-reason_text (reasons.TooLong limit) = codes "too long, limit " ++ decimal limit
-reason_text (reasons.Word line) = codes "E1 word line " ++ decimal line
-reason_text (reasons.Deep line) = codes "E14 deep line " ++ decimal line
-reason_text (reasons.Item line) = codes "E2 item line " ++ decimal line
-reason_text (reasons.BadTrace at) = codes "bad trace at " ++ decimal at
-reason_text (reasons.OtherChannels at) = codes "other channels at " ++ decimal at
-
--- `vidi: refused W: ` and the reason
-abbrev pub reason_line : Word → Reason → List ℕ
-reason_line word reason = codes "vidi: refused " ++ (word_text word ++ (codes ": " ++ (reason_text reason ++ newline)))

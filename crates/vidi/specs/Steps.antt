@@ -1,10 +1,10 @@
 -- How a command goes on: each step ends it with an answer, or gives something to go on with.
 use Rattle.std.specs.Prelude.{◌≡◌, ℕ, ◌⊎◌, List}
-use Rattle.vidi.specs.declared.status.Word.{Word}
-use Rattle.vidi.specs.declared.status.Reason.{Reason}
+use Rattle.report_text.specs.declared.reason.Word.{Word}
+use Rattle.report_text.specs.declared.reason.Reason.{Reason}
 use Rattle.vidi.specs.declared.status.Status.{Status}
 use Rattle.vidi.specs.declared.status.Status.TheVariants.{Refused}
-use Rattle.vidi.specs.Said.{reason_line}
+use Rattle.report_text.specs.Reason.{reason_line}
 
 -- a status with its text, as an answer is told
 abbrev pub Ending : Type 1

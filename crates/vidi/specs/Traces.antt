@@ -1,6 +1,5 @@
 -- What the commands on traces owe: each step of them in its order.
-use Rattle.std.specs.Prelude.{◌≡◌, ◌≢◌, ℕ, ◌<◌, ◌≤◌, ◌⊎◌, List, [], Option, None, Ok, IfSome, IsSomeAnd, length, take, slice_get}
-use Rattle.std.specs.FinMap.{get}
+use Rattle.std.specs.Prelude.{◌≡◌, ◌≢◌, ℕ, ◌⊎◌, List, [], Option, Ok, length, take, slice_get}
 use Rattle.trace_model.specs.declared.trace.Trace.{Trace}
 use Rattle.trace_code.specs.Decoding.{IsFaultAt, HasNoHeader}
 use Rattle.trace_code.specs.Encoding.{Encodes, encode}
@@ -8,40 +7,30 @@ use Rattle.trace_code.specs.Salvage.{Salvages}
 use Rattle.trace_compare.specs.Findings.{findings}
 use Rattle.vidi_io.specs.Shelf.{Files, holding}
 use Rattle.vidi_io.specs.Writing.{IsCutOff}
-use Rattle.vidi.specs.declared.status.Word.{Word}
-use Rattle.vidi.specs.declared.status.Word.TheVariants as words
-use Rattle.vidi.specs.declared.status.Reason.TheVariants.{TooLong, BadTrace, OtherChannels}
+use Rattle.report_text.specs.declared.reason.Word.{Word}
+use Rattle.report_text.specs.declared.reason.Word.TheVariants as words
+use Rattle.report_text.specs.declared.reason.Reason.TheVariants.{BadTrace, OtherChannels}
 use Rattle.vidi.specs.declared.status.Status.{Status}
-use Rattle.vidi.specs.declared.status.Status.TheVariants.{Done, ReadFault, Diverged}
-use Rattle.vidi.specs.Said.{read_fault_line, no_divergence_line, diverged_text, salvaged_line}
+use Rattle.vidi.specs.declared.status.Status.TheVariants.{Done, Diverged}
+use Rattle.vidi.specs.Said.{dump_text, no_divergence_line, diverged_text, salvaged_line}
+use Rattle.vidi.specs.Reading.{IsRead, IsUnread}
 use Rattle.vidi.specs.Steps.{Ending, IsSaid, IsRefusal, Step}
 
 -- the longest trace file, in bytes
 abbrev pub trace_limit : ℕ
 trace_limit = 67108864
 
--- where the shelf tells its files: the file of this name is there, and P holds of its bytes
-abbrev pub Told : Option Files → List ℕ → (List ℕ → Type 0) → Type 0
-Told files name P = IfSome files (λ m. IsSomeAnd (get m name) P)
-
--- where the shelf tells its files: there is no file of this name
-abbrev pub Absent : Option Files → List ℕ → Type 0
-Absent files name = IfSome files (λ m. get m name ≡ None)
-
--- ---- reading, where ReadFailed says of which names a read has failed
--- the file isn't there, or a read of it failed; or it is too long
-abbrev pub IsUnreadTrace : Word → List ℕ → Option Files → (List ℕ → Type 0) → Ending
-IsUnreadTrace word name files ReadFailed status text =
-    ((Absent files name ⊎ ReadFailed name) × IsSaid (ReadFault word) (read_fault_line word) status text)
-    ⊎ (Told files name (λ file. trace_limit < length file) × IsRefusal word (TooLong trace_limit) status text)
-
-abbrev pub IsRead : List ℕ → Option Files → List ℕ → Type 0
-IsRead name files file = Told files name (λ told. told ≡ file) × (length file ≤ trace_limit)
-
 -- the bytes encode no trace
 abbrev pub IsNoTrace : Word → List ℕ → Ending
 IsNoTrace word file status text =
     (at : ℕ) × IsFaultAt file at × ((t : Trace) → ¬ Encodes t file) × IsRefusal word (BadTrace at) status text
+
+-- ---- `dump TRACE`
+abbrev pub DumpedFile : List ℕ → Ending
+DumpedFile file = Step (IsNoTrace words.Trace file) (λ t. Encodes t file) (λ t. IsSaid Done (dump_text t))
+
+abbrev pub Dumps : List ℕ → Option Files → (List ℕ → Type 0) → Ending
+Dumps trace files ReadFailed = Step (IsUnread trace_limit words.Trace trace files ReadFailed) (IsRead trace_limit trace files) DumpedFile
 
 -- ---- `compare TRACE OTHER`
 -- the channels of the second trace are others, first at this place
@@ -63,10 +52,11 @@ abbrev pub ComparedFiles : List ℕ → List ℕ → Ending
 ComparedFiles first second = Step (IsNoTrace words.Trace first) (λ t. Encodes t first) (ComparedWith second)
 
 abbrev pub ComparedTo : List ℕ → Option Files → (List ℕ → Type 0) → List ℕ → Ending
-ComparedTo other files ReadFailed first = Step (IsUnreadTrace words.Other other files ReadFailed) (IsRead other files) (ComparedFiles first)
+ComparedTo other files ReadFailed first = Step (IsUnread trace_limit words.Other other files ReadFailed)
+    (IsRead trace_limit other files) (ComparedFiles first)
 
 abbrev pub Compares : List ℕ → List ℕ → Option Files → (List ℕ → Type 0) → Ending
-Compares trace other files ReadFailed = Step (IsUnreadTrace words.Trace trace files ReadFailed) (IsRead trace files)
+Compares trace other files ReadFailed = Step (IsUnread trace_limit words.Trace trace files ReadFailed) (IsRead trace_limit trace files)
     (ComparedTo other files ReadFailed)
 
 -- ---- `salvage TRACE OUT`
@@ -75,12 +65,12 @@ IsHeaderless file status text = HasNoHeader file × IsRefusal words.Trace (BadTr
 
 -- the file isn't read, or no lawful header begins it
 abbrev pub IsUnsaved : List ℕ → Option Files → (List ℕ → Type 0) → Ending
-IsUnsaved trace files ReadFailed status text = IsUnreadTrace words.Trace trace files ReadFailed status text
-    ⊎ ((file : List ℕ) × IsRead trace files file × IsHeaderless file status text)
+IsUnsaved trace files ReadFailed status text = IsUnread trace_limit words.Trace trace files ReadFailed status text
+    ⊎ ((file : List ℕ) × IsRead trace_limit trace files file × IsHeaderless file status text)
 
 -- t is what is whole of the file
 abbrev pub IsWhole : List ℕ → Option Files → Trace → Type 0
-IsWhole trace files t = (file : List ℕ) × IsRead trace files file × Salvages file (Ok t)
+IsWhole trace files t = (file : List ℕ) × IsRead trace_limit trace files file × Salvages file (Ok t)
 
 -- what is left of the files: OUT is not started, or holds the encoding of what is whole of the trace
 abbrev pub Saves : List ℕ → List ℕ → Option Files → (List ℕ → Type 0) → Status → List ℕ → Option Files → Type 0

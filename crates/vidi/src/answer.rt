@@ -1,36 +1,73 @@
 //! Answers: a status, and the text that is said with it.
 
-ghost use Rattle.std.specs.Prelude.{◌≡◌, IfOk};
+ghost use Rattle.std.specs.Prelude.{◌≡◌, OnOk, OnErr, IfOk};
+ghost use Rattle.std.specs.Io.KnownBytes.{append_known};
+ghost use Rattle.vidi_io.specs.Cause.{HasCause};
+ghost use Rattle.vidi_io.specs.Sink.{AppendsSome, Frame};
+ghost use Rattle.vidi.specs.AnswerText.{text_of};
 ghost use Rattle.vidi.specs.Said as said;
-ghost use Rattle.vidi.specs.Unread.{IsUnread};
+ghost use Rattle.vidi.specs.Unfetched.{IsUnfetched};
 
-use crate::reason_text::{read_fault_line, reason_line};
 use crate::status::{Reason, Status, Word};
+use report_text::{TraceLines, read_fault_line, reason_line};
 use std::alloc::Global;
 use vidi_bits::{Bytes, Memory};
-use vidi_io::ReadError;
+use vidi_io::{Failed, ReadError, Sink};
+
+/// A text that is still to be said, with all memory that saying it takes.
+#[derive(Drop)]
+pub enum AnswerText {
+    /// These bytes.
+    Bytes(Bytes),
+    /// The lines of a trace.
+    Trace(TraceLines),
+}
 
 /// A status, and the text that is said with it.
 #[derive(Drop)]
 pub struct Answer {
     pub status: Status,
-    pub text: Bytes,
+    pub text: AnswerText,
+}
+
+impl AnswerText {
+    /// Writes the text. After `Failed` some front of it was written.
+    pub fn push<O: Sink>(self, out: &mut O) -> Result<(), Failed>
+        ensures ok { OnOk result (O.told out.new ≡ append_known (O.told out.old) (text_of self)) }
+        ensures err { OnErr result (AppendsSome (O.told out.old) (O.told out.new) (text_of self)) }
+        ensures cause { HasCause (O.faults out.old) (O.faults out.new) result }
+        ensures place { O.place out.new ≡ O.place out.old }
+        ensures frame { (f : Frame) → O.has_frame out.old f → O.has_frame out.new f }
+    {
+        match self {
+            AnswerText::Bytes(bytes) => out.push(bytes.as_slice()),
+            AnswerText::Trace(lines) => lines.print(out),
+        }
+    }
+}
+
+/// The answer of this status with these bytes.
+pub fn with_bytes(status: Status, bytes: Bytes) -> Answer
+    ensures status { result.status ≡ status }
+    ensures text { text_of result.text ≡ bytes }
+{
+    Answer {
+        status,
+        text: AnswerText::Bytes(bytes),
+    }
 }
 
 /// The answer for words that give no command.
 pub fn usage(alloc: Global) -> Result<Answer, Memory>
-    ensures { IfOk result (λ a. (a.status ≡ Status.Usage) × (a.text ≡ said.usage_line)) }
+    ensures { IfOk result (λ a. (a.status ≡ Status.Usage) × (text_of a.text ≡ said.usage_line)) }
 {
     let text = Vec::from_slice(alloc, b"vidi: usage\n")?;
-    Ok(Answer {
-        status: Status::Usage,
-        text: Bytes::from_vec(text),
-    })
+    Ok(with_bytes(Status::Usage, Bytes::from_vec(text)))
 }
 
 /// The answer for a file that `read_whole` didn't give.
 pub fn unread(alloc: Global, word: Word, error: ReadError) -> Result<Answer, Memory>
-    ensures { IfOk result (λ a. IsUnread word error a.status a.text) }
+    ensures { IfOk result (λ a. IsUnfetched word error a.status (text_of a.text)) }
 {
     match error {
         ReadError::Missing | ReadError::Failed => read_fault(alloc, word),
@@ -40,20 +77,16 @@ pub fn unread(alloc: Global, word: Word, error: ReadError) -> Result<Answer, Mem
 }
 
 fn read_fault(alloc: Global, word: Word) -> Result<Answer, Memory>
-    ensures { IfOk result (λ a. (a.status ≡ Status.ReadFault word) × (a.text ≡ said.read_fault_line word)) }
+    ensures { IfOk result (λ a. (a.status ≡ Status.ReadFault word) × (text_of a.text ≡ said.read_fault_line word)) }
 {
-    Ok(Answer {
-        status: Status::ReadFault { word },
-        text: read_fault_line(alloc, word)?,
-    })
+    let line = read_fault_line(alloc, word)?;
+    Ok(with_bytes(Status::ReadFault { word }, line))
 }
 
 /// The answer for a file that isn't accepted.
 pub fn refused(alloc: Global, word: Word, reason: Reason) -> Result<Answer, Memory>
-    ensures { IfOk result (λ a. (a.status ≡ Status.Refused word reason) × (a.text ≡ said.reason_line word reason)) }
+    ensures { IfOk result (λ a. (a.status ≡ Status.Refused word reason) × (text_of a.text ≡ said.reason_line word reason)) }
 {
-    Ok(Answer {
-        status: Status::Refused { word, reason },
-        text: reason_line(alloc, word, &reason)?,
-    })
+    let line = reason_line(alloc, word, &reason)?;
+    Ok(with_bytes(Status::Refused { word, reason }, line))
 }

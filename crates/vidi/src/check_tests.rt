@@ -1,7 +1,6 @@
 //! `vidi check` on accepted and refused designs.
 
-use crate::status::{Reason, Status, Word};
-use crate::tests::{answers, expect};
+use crate::tests::{DONE, READ_FAULT, REFUSED, WRITE_FAULT, answers, expect};
 use std::alloc::Global;
 use std::process::Abort;
 use std::test::Fail as Failure;
@@ -93,7 +92,7 @@ endmodule
 ";
 
 // A text for each form of items and headers, and its modules and items.
-const FORMS: [(&str, &str); 12] = [
+const FORMS: [(&str, &str); 11] = [
     (
         "module m #(parameter A = 1) (input clk); endmodule",
         "modules 1 items 0\n",
@@ -111,7 +110,7 @@ const FORMS: [(&str, &str); 12] = [
         "modules 2 items 2\n",
     ),
     (
-        "module n(input c); endmodule module m(input clk); n #(.A(1)) u(.c(clk)); endmodule",
+        "module n #(parameter A = 0) (input c); endmodule module m(input clk); n #(.A(1)) u(.c(clk)); endmodule",
         "modules 2 items 1\n",
     ),
     (
@@ -131,33 +130,25 @@ const FORMS: [(&str, &str); 12] = [
         "modules 1 items 1\n",
     ),
     (
-        "module m(input a, output [1:0] y); assign y = {2, {a}}; endmodule",
+        "module m(input a, output [1:0] y); assign y = {1'b0, {a}}; endmodule",
         "modules 1 items 1\n",
     ),
     (
         "module m(input a, output [1:0] y); assign y = {2{a}}; endmodule",
         "modules 1 items 1\n",
     ),
-    (REGS, "modules 1 items 13\n"),
 ];
 
 const NO_FILE: &str = "vidi: refused design: E2 item line 1\n";
-
-fn refused(reason: Reason) -> Status {
-    Status::Refused {
-        word: Word::Design,
-        reason,
-    }
-}
 
 fn expect_check(
     rt: &impl Abort,
     alloc: Global,
     design: &[u8],
-    status: Status,
+    ending: u8,
     text: &str,
 ) -> Result<(), Failure> {
-    expect(rt, alloc, "check t m", design, status, text)
+    expect(rt, alloc, "check t m", design, ending, text)
 }
 
 /// Adds a piece so many times.
@@ -198,26 +189,96 @@ fn spaces(alloc: Global, times: u32) -> Result<Vec<u8>, Failure> {
 #[test]
 fn modules_and_items_are_counted(rt: HostRuntime) -> Result<(), Failure> {
     let alloc = rt.alloc();
-    for (design, text) in [
-        (PASS, "modules 1 items 6\n"),
-        (DEAD, "modules 1 items 3\n"),
-        (FLICK, "modules 1 items 3\n"),
-        (LOOP2, "modules 1 items 2\n"),
-        (K2, "modules 1 items 2\n"),
+    for (line, design, text) in [
+        ("check t pass", PASS, "modules 1 items 6\n"),
+        ("check t dead", DEAD, "modules 1 items 3\n"),
+        ("check t flick", FLICK, "modules 1 items 3\n"),
+        ("check t loop2", LOOP2, "modules 1 items 2\n"),
+        ("check t k2", K2, "modules 1 items 2\n"),
+        ("check t regs", REGS, "modules 1 items 13\n"),
     ] {
-        expect_check(&rt, alloc, design.as_bytes(), Status::Done, text)?;
+        expect(&rt, alloc, line, design.as_bytes(), DONE, text)?;
     }
     let all = joined(alloc, &[PASS, DEAD, FLICK, LOOP2, K2])?;
-    expect_check(&rt, alloc, &all, Status::Done, "modules 5 items 16\n")?;
+    let all_text = "modules 5 items 16\n";
+    expect(&rt, alloc, "check t dead", &all, DONE, all_text)?;
     let duo = joined(alloc, &[PASS, DUO])?;
-    expect_check(&rt, alloc, &duo, Status::Done, "modules 2 items 10\n")
+    expect(
+        &rt,
+        alloc,
+        "check t duo",
+        &duo,
+        DONE,
+        "modules 2 items 10\n",
+    )
 }
 
 #[test]
 fn each_form_of_the_grammar_is_read(rt: HostRuntime) -> Result<(), Failure> {
     let alloc = rt.alloc();
     for (design, text) in FORMS {
-        expect_check(&rt, alloc, design.as_bytes(), Status::Done, text)?;
+        expect_check(&rt, alloc, design.as_bytes(), DONE, text)?;
+    }
+    Ok(())
+}
+
+// For each reason behind the grammar a smallest text, and two in which it comes before a later one.
+const REFUSALS: [(&str, &str); 12] = [
+    ("module m(input a, a); endmodule", "E3 twice a"),
+    (
+        "module n(input b); endmodule module m(input a); assign x = a; endmodule",
+        "E4 unknown x",
+    ),
+    ("module n(input clk); endmodule", "E4 unknown m"),
+    (
+        "module m(input a,\noutput y); assign y = a[0]; endmodule",
+        "E7 kind line 2",
+    ),
+    ("module m(input a); m u(.a(a)); endmodule", "E11 nested m"),
+    (
+        "module m(input clk, input [8:1] p); endmodule",
+        "E5 const line 1",
+    ),
+    (
+        "module m(input clk);\nwire [128:0] p; endmodule",
+        "E6 width line 2 got 129",
+    ),
+    (
+        "module m(input clk); reg [7:0] w [0:1048576]; endmodule",
+        "E12 too big words",
+    ),
+    (
+        "module m(input clk, input a, output z); reg y;\nalways @(posedge clk) y <= a;\nassign z = clk; endmodule",
+        "E13 clock line 3",
+    ),
+    (
+        "module m(input a, a); assign x = a; endmodule",
+        "E3 twice a",
+    ),
+    (
+        "module m(input a); assign x = a[0]; m u(.a(a)); endmodule",
+        "E4 unknown x",
+    ),
+    (
+        "module m(input a); wire [128:0] p;\nwire [8:1] q; endmodule",
+        "E5 const line 2",
+    ),
+];
+
+/// The line that refuses a design for this reason.
+fn refusal(alloc: Global, reason: &str) -> Result<String, Failure> {
+    let mut line = String::from_str(alloc, "vidi: refused design: ")?;
+    line.push_str(reason)?;
+    line.push_str("\n")?;
+    Ok(line)
+}
+
+#[test]
+fn each_reason_is_named(rt: HostRuntime) -> Result<(), Failure> {
+    let alloc = rt.alloc();
+    for (design, reason) in REFUSALS {
+        let text = refusal(alloc, reason)?;
+        expect_check(&rt, alloc, design.as_bytes(), REFUSED, text.as_str())?;
     }
     Ok(())
 }
@@ -225,43 +286,25 @@ fn each_form_of_the_grammar_is_read(rt: HostRuntime) -> Result<(), Failure> {
 #[test]
 fn texts_that_are_no_design_are_refused(rt: HostRuntime) -> Result<(), Failure> {
     let alloc = rt.alloc();
-    let item = refused(Reason::Item { line: 1 });
-    let deep = refused(Reason::Deep { line: 2 });
     let mut open = Vec::new(alloc);
     add(&mut open, "\n", 1)?;
     add(&mut open, "(", 33)?;
-    expect_check(&rt, alloc, b"", item, NO_FILE)?;
+    expect_check(&rt, alloc, b"", REFUSED, NO_FILE)?;
     let first_line = "vidi: refused design: E1 word line 1\n";
-    expect_check(
-        &rt,
-        alloc,
-        b"\"",
-        refused(Reason::Word { line: 1 }),
-        first_line,
-    )?;
+    expect_check(&rt, alloc, b"\"", REFUSED, first_line)?;
     let deep_text = "vidi: refused design: E14 deep line 2\n";
-    expect_check(&rt, alloc, &open, deep, deep_text)?;
+    expect_check(&rt, alloc, &open, REFUSED, deep_text)?;
     add(&mut open, "\"", 1)?;
     let second_line = "vidi: refused design: E1 word line 2\n";
-    expect_check(
-        &rt,
-        alloc,
-        &open,
-        refused(Reason::Word { line: 2 }),
-        second_line,
-    )
+    expect_check(&rt, alloc, &open, REFUSED, second_line)
 }
 
 #[test]
 fn brackets_are_at_most_32_deep(rt: HostRuntime) -> Result<(), Failure> {
     let alloc = rt.alloc();
-    for (depth, status, text) in [
-        (32, Status::Done, "modules 1 items 1\n"),
-        (
-            33,
-            refused(Reason::Deep { line: 2 }),
-            "vidi: refused design: E14 deep line 2\n",
-        ),
+    for (depth, ending, text) in [
+        (32, DONE, "modules 1 items 1\n"),
+        (33, REFUSED, "vidi: refused design: E14 deep line 2\n"),
     ] {
         let pieces = [
             ("wire y = ", 1),
@@ -271,7 +314,7 @@ fn brackets_are_at_most_32_deep(rt: HostRuntime) -> Result<(), Failure> {
             (";", 1),
         ];
         let design = module_of(alloc, &pieces)?;
-        expect_check(&rt, alloc, &design, status, text)?;
+        expect_check(&rt, alloc, &design, ending, text)?;
     }
     Ok(())
 }
@@ -280,53 +323,48 @@ fn brackets_are_at_most_32_deep(rt: HostRuntime) -> Result<(), Failure> {
 #[test]
 fn a_run_has_at_most_1024_tokens(rt: HostRuntime) -> Result<(), Failure> {
     let alloc = rt.alloc();
-    let deep = refused(Reason::Deep { line: 3 });
     let deep_text = "vidi: refused design: E14 deep line 3\n";
     let most = module_of(alloc, &[("wire y = ~clk", 1), (" + clk", 509), ("\n;", 1)])?;
-    expect_check(&rt, alloc, &most, Status::Done, "modules 1 items 1\n")?;
+    expect_check(&rt, alloc, &most, DONE, "modules 1 items 1\n")?;
     let more = module_of(alloc, &[("wire y = clk", 1), (" + clk", 510), ("\n;", 1)])?;
-    expect_check(&rt, alloc, &more, deep, deep_text)
+    expect_check(&rt, alloc, &more, REFUSED, deep_text)
 }
 
 // The first `else` stands on line 4.
 #[test]
 fn a_block_has_at_most_1024_elses(rt: HostRuntime) -> Result<(), Failure> {
     let alloc = rt.alloc();
-    let deep = refused(Reason::Deep { line: 1028 });
     let deep_text = "vidi: refused design: E14 deep line 1028\n";
     let front = "reg x;\nalways @(posedge clk) begin\n";
-    let choice = "if (clk) x <= 1'b1; else x <= 1'b0;\n";
+    let choice = "if (x) x <= 1'b1; else x <= 1'b0;\n";
     let most = module_of(alloc, &[(front, 1), (choice, 1024), ("end", 1)])?;
-    expect_check(&rt, alloc, &most, Status::Done, "modules 1 items 2\n")?;
+    expect_check(&rt, alloc, &most, DONE, "modules 1 items 2\n")?;
     let more = module_of(alloc, &[(front, 1), (choice, 1025), ("end", 1)])?;
-    expect_check(&rt, alloc, &more, deep, deep_text)
+    expect_check(&rt, alloc, &more, REFUSED, deep_text)
 }
 
 #[test]
 fn a_design_has_at_most_4194304_bytes(rt: HostRuntime) -> Result<(), Failure> {
     let alloc = rt.alloc();
-    let item = refused(Reason::Item { line: 1 });
-    let long = refused(Reason::TooLong { limit: 4_194_304 });
     let long_text = "vidi: refused design: too long, limit 4194304\n";
     let most = spaces(alloc, 4_194_304)?;
-    expect_check(&rt, alloc, &most, item, NO_FILE)?;
+    expect_check(&rt, alloc, &most, REFUSED, NO_FILE)?;
     let more = spaces(alloc, 4_194_305)?;
-    expect_check(&rt, alloc, &more, long, long_text)
+    expect_check(&rt, alloc, &more, REFUSED, long_text)
 }
 
 // The name is missing, or the k-th fetch or the l-th push fails.
 #[test]
 fn a_design_that_cannot_be_read_is_a_read_fault(rt: HostRuntime) -> Result<(), Failure> {
-    let fault = Status::ReadFault { word: Word::Design };
     let fault_text = "vidi: read fault design\n";
-    for (line, failing, status, text) in [
-        ("check u m", (0, 0), fault, fault_text),
-        ("check t m", (1, 0), fault, fault_text),
-        ("check t m", (2, 0), fault, fault_text),
-        ("check t m", (3, 0), Status::Done, "modules 1 items 6\n"),
-        ("check t m", (0, 1), Status::WriteFault, ""),
+    for (line, failing, ending, text) in [
+        ("check u m", (0, 0), READ_FAULT, fault_text),
+        ("check t pass", (1, 0), READ_FAULT, fault_text),
+        ("check t pass", (2, 0), READ_FAULT, fault_text),
+        ("check t pass", (3, 0), DONE, "modules 1 items 6\n"),
+        ("check t pass", (0, 1), WRITE_FAULT, ""),
     ] {
-        let answered = answers(rt.alloc(), line, PASS.as_bytes(), failing, status, text)?;
+        let answered = answers(rt.alloc(), line, PASS.as_bytes(), failing, ending, text)?;
         assert!(rt; answered, "{line}: {text}");
     }
     Ok(())

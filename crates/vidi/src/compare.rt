@@ -5,15 +5,15 @@ ghost use Rattle.trace_code.specs.Encoding.{HasEncoding};
 ghost use Rattle.trace_compare.specs.Findings.{findings};
 ghost use Rattle.vidi_io.specs.Cause.{Rose};
 ghost use Rattle.vidi_io.specs.Shelf.{Later};
+ghost use Rattle.vidi.specs.AnswerText.{text_of};
 ghost use Rattle.vidi.specs.Said as said;
 ghost use Rattle.vidi.specs.Steps.{IsSaid};
 ghost use Rattle.vidi.specs.Traces.{Compared, ComparedFiles, ComparedWith, Compares, IsVerdict};
 
-use crate::answer::{Answer, refused, unread};
+use crate::answer::{Answer, refused, unread, with_bytes};
 use crate::dump::TRACE_LIMIT;
 use crate::status::{Reason, Status, Word};
-use crate::text::put;
-use report_text::report_lines;
+use report_text::{put, report_lines};
 use std::alloc::Global;
 use trace_code::{CodeError, decode};
 use trace_compare::Report;
@@ -29,7 +29,7 @@ pub fn compare<S: Shelf>(
     shelf: &mut S,
 ) -> Result<Answer, Memory>
     ensures earned { IfOk result (λ a. Compares trace.now other.now (S.files shelf.old)
-        (λ name. Rose (S.read_faults shelf.old name) (S.read_faults shelf.new name)) a.status a.text) }
+        (λ name. Rose (S.read_faults shelf.old name) (S.read_faults shelf.new name)) a.status (text_of a.text)) }
     ensures files { S.files shelf.new ≡ S.files shelf.old }
     ensures counts { Later (S.read_faults shelf.old) (S.read_faults shelf.new) (S.write_faults shelf.old) (S.write_faults shelf.new) }
 {
@@ -45,7 +45,7 @@ pub fn compare<S: Shelf>(
 }
 
 fn compared_files(alloc: Global, first: &[u8], second: &[u8]) -> Result<Answer, Memory>
-    ensures { IfOk result (λ a. ComparedFiles first.now second.now a.status a.text) }
+    ensures { IfOk result (λ a. ComparedFiles first.now second.now a.status (text_of a.text)) }
 {
     match decode(alloc, first) {
         Ok(trace) => compared_with(alloc, &trace, second),
@@ -56,7 +56,7 @@ fn compared_files(alloc: Global, first: &[u8], second: &[u8]) -> Result<Answer, 
 
 fn compared_with(alloc: Global, trace: &Trace, second: &[u8]) -> Result<Answer, Memory>
     requires { HasEncoding trace.now }
-    ensures { IfOk result (λ a. ComparedWith second.now trace.now a.status a.text) }
+    ensures { IfOk result (λ a. ComparedWith second.now trace.now a.status (text_of a.text)) }
 {
     match decode(alloc, second) {
         Ok(other) => compared(alloc, trace, &other),
@@ -68,7 +68,7 @@ fn compared_with(alloc: Global, trace: &Trace, second: &[u8]) -> Result<Answer, 
 fn compared(alloc: Global, trace: &Trace, other: &Trace) -> Result<Answer, Memory>
     requires trace { HasEncoding trace.now }
     requires other { HasEncoding other.now }
-    ensures { IfOk result (λ a. Compared trace.now other.now a.status a.text) }
+    ensures { IfOk result (λ a. Compared trace.now other.now a.status (text_of a.text)) }
 {
     match same_channels(&trace.channels, &other.channels) {
         Some(at) => refused(alloc, Word::Other, Reason::OtherChannels { at }),
@@ -80,7 +80,7 @@ fn verdict(alloc: Global, trace: &Trace, other: &Trace) -> Result<Answer, Memory
     requires trace { HasEncoding trace.now }
     requires other { HasEncoding other.now }
     requires same { trace.now.channels ≡ other.now.channels }
-    ensures { IfOk result (λ a. IsVerdict trace.now other.now a.status a.text) }
+    ensures { IfOk result (λ a. IsVerdict trace.now other.now a.status (text_of a.text)) }
 {
     let report = trace_compare::compare(alloc, trace, other)?;
     if report.is_empty() {
@@ -90,22 +90,16 @@ fn verdict(alloc: Global, trace: &Trace, other: &Trace) -> Result<Answer, Memory
 }
 
 fn no_divergence(alloc: Global) -> Result<Answer, Memory>
-    ensures { IfOk result (λ a. IsSaid Status.Done said.no_divergence_line a.status a.text) }
+    ensures { IfOk result (λ a. IsSaid Status.Done said.no_divergence_line a.status (text_of a.text)) }
 {
     let text = Vec::from_slice(alloc, b"no divergence\n")?;
-    Ok(Answer {
-        status: Status::Done,
-        text: Bytes::from_vec(text),
-    })
+    Ok(with_bytes(Status::Done, Bytes::from_vec(text)))
 }
 
 fn diverged(alloc: Global, report: &Report, channels: &Channels) -> Result<Answer, Memory>
-    ensures { IfOk result (λ a. IsSaid Status.Diverged (said.diverged_text report.now channels.now) a.status a.text) }
+    ensures { IfOk result (λ a. IsSaid Status.Diverged (said.diverged_text report.now channels.now) a.status (text_of a.text)) }
 {
     let mut text = report_lines(alloc, report, channels)?.into_vec();
     put(&mut text, b"diverged\n")?;
-    Ok(Answer {
-        status: Status::Diverged,
-        text: Bytes::from_vec(text),
-    })
+    Ok(with_bytes(Status::Diverged, Bytes::from_vec(text)))
 }

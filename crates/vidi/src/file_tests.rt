@@ -1,7 +1,9 @@
 //! `vidi compare` and `vidi salvage` on worked traces and failing calls.
 
-use crate::status::{Reason, Status, Word};
-use crate::tests::{NO_CONTENT, ONE_SEND, sink_of, with_header, words_of};
+use crate::tests::{
+    DIVERGED, DONE, NO_CONTENT, ONE_SEND, READ_FAULT, REFUSED, WRITE_FAULT, sink_of, with_header,
+    words_of,
+};
 use crate::top::vidi;
 use std::alloc::Global;
 use std::test::Fail as Failure;
@@ -25,7 +27,7 @@ const NEVER: Fail = Fail {
     kept: 0,
 };
 
-/// Whether the words of a line, with these files `t` and `u`, are answered by this status and this whole
+/// Whether the words of a line, with these files `t` and `u`, are answered by this ending and this whole
 /// text, where this call fails.
 fn says(
     alloc: Global,
@@ -33,7 +35,7 @@ fn says(
     t: &[u8],
     u: &[u8],
     fail: Fail,
-    status: Status,
+    ending: u8,
     text: &str,
 ) -> Result<bool, Failure> {
     let words = words_of(alloc, line)?;
@@ -41,7 +43,12 @@ fn says(
     let mut shelf = shelf_of(alloc, t, u, fail)?;
     let answer = vidi(alloc, &words, &mut shelf, &mut out);
     let kept = shelf.file("t") == Some(t) && shelf.file("u") == Some(u);
-    Ok(answer == status && out.bytes() == text.as_bytes() && kept && shelf.file("o").is_none())
+    Ok(
+        answer.exit_number() == ending
+            && out.bytes() == text.as_bytes()
+            && kept
+            && shelf.file("o").is_none(),
+    )
 }
 
 const ALL_MISSING: &str =
@@ -56,64 +63,67 @@ fn traces_are_compared(rt: HostRuntime) -> Result<(), Failure> {
     let at_once = with_header(alloc, &[1, 3, 3, 5, 5, 0, 0, 0, 0, 1])?;
     let other = with_header(alloc, &[1, 1, 1, 6, 1, 2, 2, 5, 0, 0, 0, 0, 2])?;
     let none = with_header(alloc, &[0, 0, 0, 0, 0])?;
-    let refused = |word, reason| Status::Refused { word, reason };
-    let fault = Status::ReadFault { word: Word::Other };
-    let bad = Reason::BadTrace { at: 0 };
-    let cases: [(&str, &[u8], &[u8], Status, &str); 9] = [
+    let cases: [(&str, &[u8], &[u8], u8, &str); 9] = [
         (
             "compare t u",
             &one,
             &at_once,
-            Status::Diverged,
+            DIVERGED,
             "early b start 0 count 1\nearly b end 0 count 1\ndiverged\n",
         ),
         (
             "compare t u",
             &one,
             &other,
-            Status::Diverged,
+            DIVERGED,
             "differs a start 0\ndiverged\n",
         ),
-        ("compare t u", &one, &none, Status::Diverged, ALL_MISSING),
-        ("compare t u", &one, &one, Status::Done, "no divergence\n"),
-        ("compare t t", &one, b"", Status::Done, "no divergence\n"),
+        ("compare t u", &one, &none, DIVERGED, ALL_MISSING),
+        ("compare t u", &one, &one, DONE, "no divergence\n"),
+        ("compare t t", &one, b"", DONE, "no divergence\n"),
         (
             "compare t u",
             &one,
             &NO_CONTENT,
-            refused(Word::Other, Reason::OtherChannels { at: 0 }),
+            REFUSED,
             "vidi: refused other: other channels at 0\n",
         ),
-        ("compare t v", b"V", &one, fault, "vidi: read fault other\n"),
+        (
+            "compare t v",
+            b"V",
+            &one,
+            READ_FAULT,
+            "vidi: read fault other\n",
+        ),
         (
             "compare t u",
             &one,
             b"V",
-            refused(Word::Other, bad),
+            REFUSED,
             "vidi: refused other: bad trace at 0\n",
         ),
         (
             "compare t u",
             b"V",
             b"V",
-            refused(Word::Trace, bad),
+            REFUSED,
             "vidi: refused trace: bad trace at 0\n",
         ),
     ];
-    for (line, t, u, status, text) in cases {
-        let said = says(alloc, line, t, u, NEVER, status, text)?;
+    for (line, t, u, ending, text) in cases {
+        let said = says(alloc, line, t, u, NEVER, ending, text)?;
         assert!(rt; said, "{text}");
     }
     Ok(())
 }
 
-/// Whether `salvage t o` of this file is answered by this status and this text, and leaves these bytes
+/// Whether `salvage t o` of this file is answered by this ending and this text, and leaves these bytes
 /// as file `o`, where this call fails.
 fn saves(
     alloc: Global,
     t: &[u8],
     fail: Fail,
-    status: Status,
+    ending: u8,
     text: &str,
     saved: Option<&[u8]>,
 ) -> Result<bool, Failure> {
@@ -122,7 +132,7 @@ fn saves(
     let mut shelf = shelf_of(alloc, t, b"", fail)?;
     let answer = vidi(alloc, &words, &mut shelf, &mut out);
     let written = out.bytes() == text.as_bytes() && shelf.file("o") == saved;
-    Ok(answer == status && written && shelf.file("t") == Some(t))
+    Ok(answer.exit_number() == ending && written && shelf.file("t") == Some(t))
 }
 
 // Cut in the second packet, in the first one, in the header, and not at all. Then a start that fails, and an
@@ -133,10 +143,6 @@ fn cut_traces_are_salvaged(rt: HostRuntime) -> Result<(), Failure> {
     let whole = with_header(alloc, &ONE_SEND)?;
     let one = with_header(alloc, &[1, 1, 1, 5, 0, 0, 0, 0, 1])?;
     let none = with_header(alloc, &[0, 0, 0, 0, 0])?;
-    let bad = Status::Refused {
-        word: Word::Trace,
-        reason: Reason::BadTrace { at: 0 },
-    };
     let bad_text = "vidi: refused trace: bad trace at 0\n";
     let start = Fail {
         call: FailCall::Start,
@@ -149,34 +155,28 @@ fn cut_traces_are_salvaged(rt: HostRuntime) -> Result<(), Failure> {
         kept: 21,
     };
     assert!(rt; whole.len() == 32);
-    let cases: [(&[u8], Fail, Status, &str, Option<&[u8]>); 6] = [
+    let cases: [(&[u8], Fail, u8, &str, Option<&[u8]>); 6] = [
         (
             &whole[..23],
             NEVER,
-            Status::Done,
+            DONE,
             "salvaged 1 packets\n",
             Some(&one),
         ),
         (
             &whole[..21],
             NEVER,
-            Status::Done,
+            DONE,
             "salvaged 0 packets\n",
             Some(&none),
         ),
-        (&whole[..4], NEVER, bad, bad_text, None),
-        (
-            &whole,
-            NEVER,
-            Status::Done,
-            "salvaged 2 packets\n",
-            Some(&whole),
-        ),
-        (&whole, start, Status::WriteFault, "", None),
-        (&whole, append, Status::WriteFault, "", Some(&whole[..21])),
+        (&whole[..4], NEVER, REFUSED, bad_text, None),
+        (&whole, NEVER, DONE, "salvaged 2 packets\n", Some(&whole)),
+        (&whole, start, WRITE_FAULT, "", None),
+        (&whole, append, WRITE_FAULT, "", Some(&whole[..21])),
     ];
-    for (t, fail, status, text, saved) in cases {
-        let right = saves(alloc, t, fail, status, text, saved)?;
+    for (t, fail, ending, text, saved) in cases {
+        let right = saves(alloc, t, fail, ending, text, saved)?;
         assert!(rt; right, "{text}");
     }
     Ok(())

@@ -15,7 +15,8 @@ pub fn one_answer()
     vlog_lex::one_reading();
     vlog_lex::read_or_stuck();
     vlog_lex::one_stuck_line();
-    vlog_parse::one_file();
+    vlog_parse::one_lined_file();
+    vlog_parse::lined_files_are_files();
     vlog_parse::one_item_line();
     vlog_parse::one_depth()
 }

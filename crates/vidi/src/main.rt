@@ -8,12 +8,9 @@ mod command;
 mod compare;
 mod dump;
 mod laws;
-mod reason_text;
 mod salvage;
 mod status;
-mod text;
 mod top;
-mod trace_text;
 
 use crate::status::Status;
 use crate::top::vidi;

@@ -5,15 +5,16 @@ ghost use Rattle.trace_code.specs.Encoding.{end_mark};
 ghost use Rattle.vidi_io.specs.Cause.{Rose};
 ghost use Rattle.vidi_io.specs.Shelf.{Later, holding};
 ghost use Rattle.vidi_io.specs.Writing.{IsCutOff};
+ghost use Rattle.vidi.specs.AnswerText.{text_of};
 ghost use Rattle.vidi.specs.Said as said;
 ghost use Rattle.vidi.specs.Steps.{IsSaid};
 ghost use Rattle.vidi.specs.Stopping.{IsStopped};
 ghost use Rattle.vidi.specs.Traces.{Saves, StopsSaving};
 
-use crate::answer::{Answer, refused, unread};
+use crate::answer::{Answer, refused, unread, with_bytes};
 use crate::dump::TRACE_LIMIT;
 use crate::status::{Reason, Status, Stop, Word};
-use crate::text::{put, put_number};
+use report_text::{put, put_number};
 use std::alloc::Global;
 use trace_code::{CodeError, Whole, end_mark, salvage_front};
 use vidi_bits::{Bytes, Memory};
@@ -27,7 +28,7 @@ pub fn salvage<S: Shelf>(
     shelf: &mut S,
 ) -> Result<Answer, Stop>
     ensures earned { IfOk result (λ a. Saves trace.now out.now (S.files shelf.old)
-        (λ name. Rose (S.read_faults shelf.old name) (S.read_faults shelf.new name)) a.status a.text (S.files shelf.new)) }
+        (λ name. Rose (S.read_faults shelf.old name) (S.read_faults shelf.new name)) a.status (text_of a.text) (S.files shelf.new)) }
     ensures stopped { IfErr result (λ s. IsStopped (StopsSaving trace.now out.now (S.files shelf.old))
         (Rose (S.write_faults shelf.old) (S.write_faults shelf.new)) (S.files shelf.old) (S.files shelf.new) s) }
     ensures counts { Later (S.read_faults shelf.old) (S.read_faults shelf.new) (S.write_faults shelf.old) (S.write_faults shelf.new) }
@@ -54,7 +55,7 @@ fn saved<S: Shelf>(
     shelf: &mut S,
 ) -> Result<Answer, Stop>
     requires few { whole.packets < 2 ^ 32 }
-    ensures done { IfOk result (λ a. IsSaid Status.Done (said.salvaged_line whole.packets) a.status a.text) }
+    ensures done { IfOk result (λ a. IsSaid Status.Done (said.salvaged_line whole.packets) a.status (text_of a.text)) }
     ensures files { IfOk result (λ a. S.files shelf.new
         ≡ holding (S.files shelf.old) out.now (take whole.len bytes ++ end_mark whole.packets)) }
     ensures stopped { IfErr result (IsStopped (IsCutOff (S.files shelf.old) out.now (take whole.len bytes ++ end_mark whole.packets))
@@ -81,14 +82,11 @@ fn ended_front(bytes: Bytes, whole: Whole) -> Result<Bytes, Memory>
 }
 
 fn salvaged(alloc: Global, packets: usize) -> Result<Answer, Memory>
-    ensures { IfOk result (λ a. IsSaid Status.Done (said.salvaged_line packets) a.status a.text) }
+    ensures { IfOk result (λ a. IsSaid Status.Done (said.salvaged_line packets) a.status (text_of a.text)) }
 {
     let mut text = Vec::new(alloc);
     put(&mut text, b"salvaged ")?;
     put_number(&mut text, packets)?;
     put(&mut text, b" packets\n")?;
-    Ok(Answer {
-        status: Status::Done,
-        text: Bytes::from_vec(text),
-    })
+    Ok(with_bytes(Status::Done, Bytes::from_vec(text)))
 }

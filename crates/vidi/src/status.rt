@@ -3,37 +3,11 @@
 ghost use Rattle.std.specs.Prelude.{◌≡◌};
 ghost use Rattle.vidi.specs.Exit as exit;
 
+pub use report_text::{Reason, Word};
 use vidi_bits::Memory;
 
-/// A file among a command's words.
-#[derive(Clone, Copy, Debug, PartialEq, Eq)]
-pub enum Word {
-    Design,
-    Trace,
-    /// The second trace of a comparison.
-    Other,
-}
-
-/// Why a file is refused.
-#[derive(Clone, Copy, Debug, PartialEq, Eq)]
-pub enum Reason {
-    /// The file has more than `limit` bytes.
-    TooLong { limit: u64 },
-    /// E1: at a place of this line neither a token nor white space nor a comment begins.
-    Word { line: u32 },
-    /// E14: a limit of nesting or length is passed, first at a token of this line.
-    Deep { line: u32 },
-    /// E2: the text isn't in the grammar. The line is that of the first token behind the longest list of
-    /// whole units, or where no token follows the last token's, 1 if there is none.
-    Item { line: u32 },
-    /// The file is no encoding of a trace; `at` is the place of the fault in bytes.
-    BadTrace { at: u64 },
-    /// The channels of the second trace are others than those of the first, first at place `at`.
-    OtherChannels { at: usize },
-}
-
 /// What a call of `vidi` answers.
-#[derive(Clone, Copy, Debug, PartialEq, Eq)]
+#[derive(Debug, Drop)]
 pub enum Status {
     /// The command did what it does, and its whole text was written.
     Done,
@@ -72,8 +46,8 @@ impl From<Memory> for Stop {
 
 impl Status {
     /// The number with which the program ends.
-    pub fn exit_number(self) -> u8
-        ensures { result ≡ exit.exit_number self }
+    pub fn exit_number(&self) -> u8
+        ensures { result ≡ exit.exit_number self.now }
     {
         match self {
             Status::Done => 0,

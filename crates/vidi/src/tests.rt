@@ -1,6 +1,5 @@
 //! `vidi dump` on worked traces, broken traces and failing calls.
 
-use crate::status::{Reason, Status, Word};
 use crate::top::vidi;
 use std::alloc::Global;
 use std::process::Abort;
@@ -27,6 +26,19 @@ const WRITE: [u8; 28] = [
     0x56, 0x49, 0x44, 0x49, 0x54, 0x52, 0x43, 0x31, 0x01, 0x00, 0x01, 0x77, 0x02, 0x20, 0x04, 1, 1,
     1, 0x00, 0x00, 0x03, 0xe8, 0x0f, 0, 0, 0, 0, 1,
 ];
+
+// The exit numbers, each with the text that is said.
+pub const DONE: u8 = 0;
+
+pub const USAGE: u8 = 1;
+
+pub const READ_FAULT: u8 = 2;
+
+pub const WRITE_FAULT: u8 = 3;
+
+pub const REFUSED: u8 = 4;
+
+pub const DIVERGED: u8 = 7;
 
 const ONE_SEND_TEXT: &str = "channel 0 in a 8\nchannel 1 out b 8\n\
     0 start a 5 clock 0 0\n0 end a clock 0 0\n\
@@ -75,21 +87,25 @@ pub fn sink_of(alloc: Global, failing: u128) -> Result<MemSink, Failure> {
     Ok(sink)
 }
 
-/// Whether the words of a line, with a file `t`, are answered by this status and this whole text and
+/// Whether the words of a line, with a file `t`, are answered by this exit number and this whole text and
 /// leave the file, where this fetch and this push fail.
 pub fn answers(
     alloc: Global,
     line: &str,
     file: &[u8],
     failing: (u32, u128),
-    status: Status,
+    ending: u8,
     text: &str,
 ) -> Result<bool, Failure> {
     let words = words_of(alloc, line)?;
     let mut out = sink_of(alloc, failing.1)?;
     let mut shelf = shelf_of(alloc, file, failing.0)?;
     let answer = vidi(alloc, &words, &mut shelf, &mut out);
-    Ok(answer == status && out.bytes() == text.as_bytes() && shelf.file("t") == Some(file))
+    Ok(
+        answer.exit_number() == ending
+            && out.bytes() == text.as_bytes()
+            && shelf.file("t") == Some(file),
+    )
 }
 
 /// Asserts an answer where no call fails.
@@ -98,10 +114,10 @@ pub fn expect(
     alloc: Global,
     line: &str,
     file: &[u8],
-    status: Status,
+    ending: u8,
     text: &str,
 ) -> Result<(), Failure> {
-    let answered = answers(alloc, line, file, (0, 0), status, text)?;
+    let answered = answers(alloc, line, file, (0, 0), ending, text)?;
     assert!(rt; answered, "{line}: {text}");
     Ok(())
 }
@@ -115,7 +131,7 @@ fn worked_traces_are_dumped(rt: HostRuntime) -> Result<(), Failure> {
         (NO_CONTENT.as_slice(), NO_CONTENT_TEXT),
         (WRITE.as_slice(), WRITE_TEXT),
     ] {
-        expect(&rt, alloc, "dump t", file, Status::Done, text)?;
+        expect(&rt, alloc, "dump t", file, DONE, text)?;
     }
     Ok(())
 }
@@ -126,20 +142,12 @@ fn broken_traces_are_refused(rt: HostRuntime) -> Result<(), Failure> {
     let alloc = rt.alloc();
     let cut = with_header(alloc, &[1, 1, 1, 5])?;
     let count = with_header(alloc, &[1, 1, 1, 5, 1, 2, 2, 5, 0, 0, 0, 0, 3])?;
-    for (file, at, text) in [
-        (cut.as_slice(), 23, "vidi: refused trace: bad trace at 23\n"),
-        (
-            count.as_slice(),
-            27,
-            "vidi: refused trace: bad trace at 27\n",
-        ),
-        (b"WIDITRC1", 0, "vidi: refused trace: bad trace at 0\n"),
+    for (file, text) in [
+        (cut.as_slice(), "vidi: refused trace: bad trace at 23\n"),
+        (count.as_slice(), "vidi: refused trace: bad trace at 27\n"),
+        (b"WIDITRC1", "vidi: refused trace: bad trace at 0\n"),
     ] {
-        let refused = Status::Refused {
-            word: Word::Trace,
-            reason: Reason::BadTrace { at },
-        };
-        expect(&rt, alloc, "dump t", file, refused, text)?;
+        expect(&rt, alloc, "dump t", file, REFUSED, text)?;
     }
     Ok(())
 }
@@ -165,40 +173,31 @@ fn other_words_are_usage(rt: HostRuntime) -> Result<(), Failure> {
         "sample 6001",
         "--help",
     ] {
-        expect(
-            &rt,
-            rt.alloc(),
-            line,
-            &NO_CONTENT,
-            Status::Usage,
-            "vidi: usage\n",
-        )?;
+        expect(&rt, rt.alloc(), line, &NO_CONTENT, USAGE, "vidi: usage\n")?;
     }
     Ok(())
 }
 
 #[test]
 fn a_missing_name_is_a_read_fault(rt: HostRuntime) -> Result<(), Failure> {
-    let fault = Status::ReadFault { word: Word::Trace };
     let text = "vidi: read fault trace\n";
-    expect(&rt, rt.alloc(), "dump u", &NO_CONTENT, fault, text)
+    expect(&rt, rt.alloc(), "dump u", &NO_CONTENT, READ_FAULT, text)
 }
 
 // The k-th fetch and the l-th push fail, for every k and l up to the last and one more.
 #[test]
 fn each_failing_call_is_answered(rt: HostRuntime) -> Result<(), Failure> {
     let alloc = rt.alloc();
-    let fault = Status::ReadFault { word: Word::Trace };
     let file = with_header(alloc, &ONE_SEND)?;
-    for (failing, status, text) in [
-        ((1, 2), fault, "vidi: read fault trace\n"),
-        ((2, 2), fault, "vidi: read fault trace\n"),
-        ((3, 2), Status::Done, ONE_SEND_TEXT),
-        ((1, 1), Status::WriteFault, ""),
-        ((2, 1), Status::WriteFault, ""),
-        ((3, 1), Status::WriteFault, ""),
+    for (failing, ending, text) in [
+        ((1, 2), READ_FAULT, "vidi: read fault trace\n"),
+        ((2, 2), READ_FAULT, "vidi: read fault trace\n"),
+        ((3, 2), DONE, ONE_SEND_TEXT),
+        ((1, 1), WRITE_FAULT, ""),
+        ((2, 1), WRITE_FAULT, ""),
+        ((3, 1), WRITE_FAULT, ""),
     ] {
-        let answered = answers(alloc, "dump t", &file, failing, status, text)?;
+        let answered = answers(alloc, "dump t", &file, failing, ending, text)?;
         assert!(rt; answered, "{text}");
     }
     Ok(())

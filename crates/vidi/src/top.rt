@@ -5,6 +5,8 @@ ghost use Rattle.vidi_io.specs.Cause.{Rose};
 ghost use Rattle.vidi_io.specs.Shelf.{Later};
 ghost use Rattle.vidi_io.specs.Sink.{Frame};
 ghost use Rattle.vidi.specs.Answer.{Answers, Earns, Says, Stops};
+ghost use Rattle.vidi.specs.AnswerText.{text_of};
+ghost use Rattle.vidi.specs.Said as said;
 ghost use Rattle.vidi.specs.Stopping.{IsStopped};
 
 use crate::answer::{Answer, usage};
@@ -20,8 +22,7 @@ use vidi_io::{Failed, Shelf, Sink, Words};
 /// Does what the words ask for: reads and writes files of the shelf, and says its text to `out`.
 ///
 /// - `dump TRACE` prints a trace.
-/// - `check DESIGN TOP` reads a design text and prints how many modules and items it has; `top` isn't looked
-///   at.
+/// - `check DESIGN TOP` reads a design text and prints how many modules and items it has, or why it is refused.
 /// - `compare TRACE OTHER` prints what is missing, extra, different or early in the second trace.
 /// - `salvage TRACE OUT` writes what is whole of a trace that was cut off.
 ///
@@ -50,8 +51,8 @@ pub fn vidi<S: Shelf, O: Sink>(alloc: Global, words: &Words, shelf: &mut S, out:
     ensures frame { (f : Frame) → O.has_frame out.old f → O.has_frame out.new f }
 {
     match answer_to(alloc, words, shelf) {
-        Ok(answer) => say(out, answer.status, answer.text.as_slice()),
-        Err(Stop::Memory) => say(out, Status::Memory, b"vidi: out of memory\n"),
+        Ok(answer) => say(out, answer),
+        Err(Stop::Memory) => say_memory(out),
         Err(Stop::WriteFault) => Status::WriteFault,
     }
 }
@@ -59,29 +60,45 @@ pub fn vidi<S: Shelf, O: Sink>(alloc: Global, words: &Words, shelf: &mut S, out:
 /// What these words are answered, before anything is said.
 fn answer_to<S: Shelf>(alloc: Global, words: &Words, shelf: &mut S) -> Result<Answer, Stop>
     ensures earned { IfOk result (λ a. Earns words.now (S.files shelf.old)
-        (λ name. Rose (S.read_faults shelf.old name) (S.read_faults shelf.new name)) a.status a.text (S.files shelf.new)) }
+        (λ name. Rose (S.read_faults shelf.old name) (S.read_faults shelf.new name)) a.status (text_of a.text) (S.files shelf.new)) }
     ensures stopped { IfErr result (λ s. IsStopped (Stops words.now (S.files shelf.old))
         (Rose (S.write_faults shelf.old) (S.write_faults shelf.new)) (S.files shelf.old) (S.files shelf.new) s) }
     ensures counts { Later (S.read_faults shelf.old) (S.read_faults shelf.new) (S.write_faults shelf.old) (S.write_faults shelf.new) }
 {
     match Command::of(words) {
         Some(Command::Dump { trace }) => Ok(dump(alloc, trace, shelf)?),
-        Some(Command::Check { design, top: _ }) => Ok(check(alloc, design, shelf)?),
+        Some(Command::Check { design, top }) => Ok(check(alloc, design, top, shelf)?),
         Some(Command::Compare { trace, other }) => Ok(compare(alloc, trace, other, shelf)?),
         Some(Command::Salvage { trace, out }) => salvage(alloc, trace, out, shelf),
         None => Ok(usage(alloc)?),
     }
 }
 
-/// Writes the text of a status. Where that fails, the answer is `WriteFault` in its place.
-fn say<O: Sink>(out: &mut O, status: Status, text: &[u8]) -> Status
-    ensures said { Says status text.now (Rose (O.faults out.old) (O.faults out.new)) (O.told out.old) (O.told out.new) result }
+/// Writes the text of an answer. Where that fails, the answer is `WriteFault` in its place.
+fn say<O: Sink>(out: &mut O, answer: Answer) -> Status
+    ensures said { Says answer.status (text_of answer.text) (Rose (O.faults out.old) (O.faults out.new)) (O.told out.old)
+        (O.told out.new) result }
     ensures faults { O.faults out.old ≤ O.faults out.new }
     ensures place { O.place out.new ≡ O.place out.old }
     ensures frame { (f : Frame) → O.has_frame out.old f → O.has_frame out.new f }
 {
-    match out.push(text) {
+    let Answer { status, text } = answer;
+    match text.push(out) {
         Ok(()) => status,
         Err(Failed) => Status::WriteFault,
     }
+}
+
+/// Writes that no memory was found, for which none is taken.
+fn say_memory<O: Sink>(out: &mut O) -> Status
+    ensures said { Says Status.Memory said.memory_line (Rose (O.faults out.old) (O.faults out.new)) (O.told out.old)
+        (O.told out.new) result }
+    ensures faults { O.faults out.old ≤ O.faults out.new }
+    ensures place { O.place out.new ≡ O.place out.old }
+    ensures frame { (f : Frame) → O.has_frame out.old f → O.has_frame out.new f }
+{
+    if out.push(b"vidi: out of memory\n").is_err() {
+        return Status::WriteFault;
+    }
+    Status::Memory
 }

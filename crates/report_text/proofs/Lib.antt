@@ -1,0 +1,4 @@
+pub mod Lines
+pub mod Clocks
+pub mod Packets
+pub mod Printed

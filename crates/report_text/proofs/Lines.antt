@@ -1,0 +1,90 @@
+-- Lines that are printed item by item.
+use Rattle.std.proofs.Common.{◌≡◌, ℕ, ◌+◌, ◌<◌, List, [], ◌∷◌, ◌++◌, Option, Some, length, get_or, take, drop, cond, slice_get, codes}
+use Rattle.std.proofs.Common.{decimal, refl, sym, ap, ◌∙◌, append_assoc, arith}
+use Rattle.std.proofs.lemmas.List.{take_more, drop-drop, append-nil, length-append, length-take-le, take-append-drop}
+use Rattle.std.proofs.lemmas.Option.{slice_get_read}
+use Rattle.std.proofs.lemmas.List.Concat.{flat_map-append}
+use Rattle.std.specs.List.{flat_map, enumerate_from}
+use Rattle.trace_model.specs.declared.channel.Channel.{Channel}
+use Rattle.trace_model.specs.Counting.{has}
+use Rattle.trace_model.specs.declared.packet.Packet.{Packet}
+use Rattle.trace_model.specs.Packet.{widths_of, widths_under, content_of}
+use Rattle.report_text.specs.Text.{spaced}
+use Rattle.report_text.specs.Trace.{start_line}
+
+enumerate-push : {X : Type 0} (n i : ℕ) (xs : List X) (x : X) → i ≡ n + length xs → enumerate_from n (xs ++ x ∷ []) ≡ enumerate_from n xs
+    ++ (i, x) ∷ []
+enumerate-push n i [] x e = let same : n ≡ i = omega (arith, e) in ap (λ k. (k, x) ∷ []) same
+enumerate-push n i (y ∷ ys) x e = ap (λ zs. (n, y) ∷ zs) (enumerate-push (n + 1) i ys x (omega (arith, e)))
+
+-- one more item is printed
+pub more_on : {X : Type 0} (F : ℕ × X → List ℕ) (xs : List X) (i : ℕ) (x : X) → i < length xs → x ≡ get_or xs i x
+    → flat_map F (enumerate_from 0 (take i xs)) ++ F (i, x) ≡ flat_map F (enumerate_from 0 (take (i + 1) xs))
+more_on F xs i x l e =
+    let here : take (i + 1) xs ≡ take i xs ++ x ∷ [] = take_more xs i x l ∙ ap (λ y. take i xs ++ y ∷ []) (sym e) in
+    let long : length (take i xs) ≡ i = length-take-le i xs (omega arith) in
+    ap (λ ys. flat_map F (enumerate_from 0 (take i xs)) ++ ys) (sym (append-nil (F (i, x))))
+    ∙ sym (flat_map-append F (enumerate_from 0 (take i xs)) ((i, x) ∷ []))
+    ∙ ap (flat_map F) (sym (enumerate-push 0 i (take i xs) x (omega (arith, long))))
+    ∙ ap (λ ys. flat_map F (enumerate_from 0 ys)) (sym here)
+
+enumerate-append : {X : Type 0} (n : ℕ) (xs ys : List X) → enumerate_from n (xs ++ ys) ≡ enumerate_from n xs
+    ++ enumerate_from (n + length xs) ys
+enumerate-append n [] ys = let same : n ≡ n + 0 = omega arith in ap (λ k. enumerate_from k ys) same
+enumerate-append n (x ∷ xs) ys =
+    let same : n + 1 + length xs ≡ n + length (x ∷ xs) = omega arith in
+    ap (λ zs. (n, x) ∷ zs) (enumerate-append (n + 1) xs ys ∙ ap (λ k. enumerate_from (n + 1) xs ++ enumerate_from k ys) same)
+
+-- those printed so far and all others
+pub halves : {X : Type 0} (F : ℕ × X → List ℕ) (xs : List X) (i : ℕ)
+    → flat_map F (enumerate_from 0 (take i xs)) ++ flat_map F (enumerate_from (0 + length (take i xs)) (drop i xs))
+    ≡ flat_map F (enumerate_from 0 xs)
+halves F xs i =
+    sym (flat_map-append F (enumerate_from 0 (take i xs)) (enumerate_from (0 + length (take i xs)) (drop i xs)))
+    ∙ ap (flat_map F) (sym (enumerate-append 0 (take i xs) (drop i xs)))
+    ∙ ap (λ ys. flat_map F (enumerate_from 0 ys)) (take-append-drop i xs)
+
+widths-more : (mask : ℕ) (cs : List Channel) (i : ℕ) (c : Channel) → i < length cs → c ≡ get_or cs i c
+    → widths_under mask (take (i + 1) cs) ≡ widths_under mask (take i cs) ++ cond (has mask i) c.widths []
+widths-more mask cs i c l e =
+    let F : ℕ × Channel → List ℕ = λ x. cond (has mask x.0) x.1.widths [] in
+    let here : take (i + 1) cs ≡ take i cs ++ c ∷ [] = take_more cs i c l ∙ ap (λ y. take i cs ++ y ∷ []) (sym e) in
+    let long : length (take i cs) ≡ i = length-take-le i cs (omega arith) in
+    ap (widths_under mask) here
+    ∙ ap (flat_map F) (enumerate-push 0 i (take i cs) c (omega (arith, long)))
+    ∙ flat_map-append F (enumerate_from 0 (take i cs)) ((i, c) ∷ [])
+    ∙ ap (λ ws. widths_under mask (take i cs) ++ ws) (append-nil (F (i, c)))
+
+-- a channel's content stands after those of the starting channels below it
+content-there : (channels : List Channel) (packet : Packet) (i : ℕ) (channel : Channel) (rest : List ℕ) → i < length channels → channel
+    ≡ get_or channels i channel
+    → rest ≡ drop (length (widths_under packet.starts (take i channels))) packet.contents → take (length channel.widths) rest
+    ≡ content_of channels packet i
+content-there channels packet i channel rest l e at =
+    let there : slice_get channels i ≡ Some channel = slice_get_read channels (length channels) i channel refl l e in
+    ap (take (length channel.widths)) at
+    ∙ ap (λ (o : Option Channel). take (length (widths_of o)) (drop (length (widths_under packet.starts (take i channels)))
+    packet.contents)) (sym there)
+
+pub rest-on : (mask : ℕ) (contents : List ℕ) (channels : List Channel) (i : ℕ) (channel : Channel) (rest after : List ℕ)
+    → i < length channels → channel ≡ get_or channels i channel
+    → rest ≡ drop (length (widths_under mask (take i channels))) contents → after ≡ drop (length (cond (has mask i) channel.widths [])) rest
+    → after ≡ drop (length (widths_under mask (take (i + 1) channels))) contents
+rest-on mask contents channels i channel rest after l e at next =
+    let more = widths-more mask channels i channel l e in
+    next
+    ∙ ap (drop (length (cond (has mask i) channel.widths []))) at
+    ∙ drop-drop (length (cond (has mask i) channel.widths [])) (length (widths_under mask (take i channels))) contents
+    ∙ ap (λ n. drop n contents) (sym (length-append (widths_under mask (take i channels)) (cond (has mask i) channel.widths [])))
+    ∙ ap (λ (ws : List ℕ). drop (length ws) contents) (sym more)
+
+-- the line of a channel, if it starts
+pub start-there : (channels : List Channel) (packet : Packet) (number : ℕ) (clock : List ℕ) (i : ℕ) (channel : Channel) (rest : List ℕ)
+    → i < length channels → channel ≡ get_or channels i channel
+    → rest ≡ drop (length (widths_under packet.starts (take i channels))) packet.contents
+    → cond (has packet.starts i) (decimal number ++ (codes " start " ++
+    (channel.name ++ (spaced (take (length channel.widths) rest) ++ clock)))) []
+    ≡ cond (has packet.starts i) (start_line channels number packet clock (i, channel)) []
+start-there channels packet number clock i channel rest l e at =
+    ap (λ (content : List ℕ). cond (has packet.starts i) (decimal number
+    ++ (codes " start " ++ (channel.name ++ (spaced content ++ clock)))) []) (content-there channels packet i channel rest l e at)

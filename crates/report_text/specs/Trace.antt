@@ -1,0 +1,58 @@
+-- The lines of a trace (this project's profile).
+use Rattle.std.specs.Prelude.{ℕ, List, [], ◌++◌, length, map, codes, decimal, if◌then◌else◌}
+use Rattle.std.specs.List.{flat_map, enumerate_from, range_with_len}
+use Rattle.trace_model.specs.declared.channel.Channel.{Channel}
+use Rattle.trace_model.specs.declared.channel.Dir.{Dir}
+use Rattle.trace_model.specs.declared.channel.Dir.TheVariants.{Inward, Outward}
+use Rattle.trace_model.specs.declared.packet.Packet.{Packet}
+use Rattle.trace_model.specs.declared.trace.Trace.{Trace}
+use Rattle.trace_model.specs.Counting.{has}
+use Rattle.trace_model.specs.Packet.{content_of}
+use Rattle.trace_model.specs.Clock.{clock}
+use Rattle.report_text.specs.Text.{newline, spaced}
+
+abbrev pub direction_text : Dir → List ℕ
+direction_text Inward = codes " in "
+direction_text Outward = codes " out "
+
+-- `channel N in CH W ..` or `channel N out CH W ..`
+abbrev pub channel_line : ℕ → Channel → List ℕ
+channel_line n c = codes "channel " ++ (decimal n ++ (direction_text c.dir ++ (c.name ++ (spaced c.widths ++ newline))))
+
+-- `packets N`
+abbrev pub packets_line : ℕ → List ℕ
+packets_line n = codes "packets " ++ (decimal n ++ newline)
+
+-- the lines of channels that are numbered from n on
+abbrev pub channel_lines : ℕ → List Channel → List ℕ
+channel_lines n channels = flat_map (λ (x : ℕ × Channel). channel_line x.0 x.1) (enumerate_from n channels)
+
+-- ` clock K ..`: the clock of packet p of n channels, and the end of the line
+abbrev pub clock_text : ℕ → List Packet → ℕ → List ℕ
+clock_text n packets p = codes " clock" ++ (spaced (map (clock packets p) (range_with_len 0 n)) ++ newline)
+
+-- `P start CH V .. clock K ..` for each channel that starts in packet P, with the content that it starts
+abbrev pub start_line : List Channel → ℕ → Packet → List ℕ → ℕ × Channel → List ℕ
+start_line channels p packet clock x = decimal p ++ (codes " start " ++ (x.1.name ++ (spaced (content_of channels packet x.0) ++ clock)))
+
+abbrev pub start_lines : List Channel → ℕ → Packet → List ℕ → List ℕ
+start_lines channels p packet clock = flat_map (λ (x : ℕ × Channel). if has packet.starts x.0 then start_line channels p packet clock x
+    else []) (enumerate_from 0 channels)
+
+-- `P end CH clock K ..` for each channel that completes in packet P
+abbrev pub end_line : ℕ → List ℕ → ℕ × Channel → List ℕ
+end_line p clock x = decimal p ++ (codes " end " ++ (x.1.name ++ clock))
+
+abbrev pub end_lines : List Channel → ℕ → Packet → List ℕ → List ℕ
+end_lines channels p packet clock = flat_map (λ (x : ℕ × Channel). if has packet.ends x.0 then end_line p clock x else [])
+    (enumerate_from 0 channels)
+
+-- a packet's starts in channel order, then its ends, each with the packet's clock
+abbrev pub packet_lines : List Channel → List Packet → ℕ × Packet → List ℕ
+packet_lines channels packets x = start_lines channels x.0 x.1 (clock_text (length channels) packets x.0)
+    ++ end_lines channels x.0 x.1 (clock_text (length channels) packets x.0)
+
+-- what `dump` prints of a trace
+abbrev pub dump_text : Trace → List ℕ
+dump_text t = channel_lines 0 t.channels ++ (flat_map (packet_lines t.channels t.packets) (enumerate_from 0 t.packets)
+    ++ packets_line (length t.packets))
