@@ -2,3 +2,4 @@ pub mod Lines
 pub mod Clocks
 pub mod Packets
 pub mod Printed
+pub mod RowLines

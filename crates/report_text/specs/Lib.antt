@@ -6,3 +6,4 @@ pub mod Pad
 pub mod Draft
 pub mod Printing
 pub mod PrintingLaws
+pub mod Rows

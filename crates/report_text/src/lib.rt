@@ -9,11 +9,13 @@ mod page;
 mod printer;
 mod reason;
 mod report;
+mod row_lines;
 mod text;
 mod trace_lines;
 mod trace_text;
 
 pub use reason::{Big, Reason, Word, read_fault_line, reason_line};
 pub use report::report_lines;
+pub use row_lines::rows_text;
 pub use text::{put, put_number, put_numbers};
 pub use trace_lines::{TraceLines, dump_text};

@@ -163,7 +163,7 @@ fn print_starts<P: Page>(
 }
 
 /// The numbers of a starting channel at the front of the contents, and those after them.
-fn split_content<'a>(channel: &Channel, contents: &'a [u128]) -> (&'a [u128], &'a [u128])
+pub(crate) fn split_content<'a>(channel: &Channel, contents: &'a [u128]) -> (&'a [u128], &'a [u128])
     ensures front { result.0.now ≡ take (length channel.now.widths) contents.now }
     ensures rest { result.1.now ≡ drop (length channel.now.widths) contents.now }
 {
@@ -213,7 +213,13 @@ fn print_ends<P: Page>(
 }
 
 /// Prints the line of a channel where it completes.
-fn print_end<P: Page>(page: &mut P, number: usize, channel: &Channel, ends: bool, clock: &[u8])
+pub(crate) fn print_end<P: Page>(
+    page: &mut P,
+    number: usize,
+    channel: &Channel,
+    ends: bool,
+    clock: &[u8],
+)
     ensures { P.went page.old page.new (if ends
         then decimal number ++ (codes " end " ++ (channel.now.name ++ clock.now)) else []) }
 {

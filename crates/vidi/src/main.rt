@@ -27,6 +27,8 @@ mod check_tests;
 mod file_tests;
 #[cfg(test)]
 mod tests;
+#[cfg(test)]
+mod text_tests;
 
 fn main(rt: HostRuntime) -> ExitCode {
     let status = match words_after_name(&rt) {

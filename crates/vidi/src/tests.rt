@@ -40,7 +40,7 @@ pub const REFUSED: u8 = 4;
 
 pub const DIVERGED: u8 = 7;
 
-const ONE_SEND_TEXT: &str = "channel 0 in a 8\nchannel 1 out b 8\n\
+pub const ONE_SEND_TEXT: &str = "channel 0 in a 8\nchannel 1 out b 8\n\
     0 start a 5 clock 0 0\n0 end a clock 0 0\n\
     1 start b 5 clock 1 0\n1 end b clock 1 0\n\
     packets 2\n";

@@ -1,0 +1,10 @@
+use Rattle.std.proofs.Common.{ℕ, take, cond, []}
+use Rattle.std.specs.List.{flat_map, enumerate_from}
+use Rattle.trace_model.specs.declared.channel.Channel.{Channel}
+use Rattle.trace_model.specs.Counting.{has}
+use Rattle.report_text.specs.Rows.{row_end}
+use Rattle.report_text.proofs.row_lines.print_row_ends.Given as goal
+
+abbrev pub invariant-loop-c : goal.invariant-loop-c
+invariant-loop-c g l = g.P.Page.went l.initial.page l.page
+    (flat_map (λ (x : ℕ × Channel). cond (has l.row.ends x.0) (row_end l.cycle x) []) (enumerate_from 0 (take l.c l.channels)))

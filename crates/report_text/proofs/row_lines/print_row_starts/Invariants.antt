@@ -1,0 +1,15 @@
+use Rattle.std.proofs.Common.{◌≡◌, ℕ, take, drop, length, cond, []}
+use Rattle.std.specs.List.{flat_map, enumerate_from}
+use Rattle.trace_model.specs.declared.channel.Channel.{Channel}
+use Rattle.trace_model.specs.Counting.{has}
+use Rattle.trace_model.specs.Row.{all_widths}
+use Rattle.report_text.specs.Rows.{row_start}
+use Rattle.report_text.proofs.row_lines.print_row_starts.Given as goal
+
+abbrev pub invariant-loop-c : goal.invariant-loop-c
+invariant-loop-c g l = record {
+  text : g.P.Page.went l.initial.page l.page
+      (flat_map (λ (x : ℕ × Channel). cond (has l.row.starts x.0) (row_start l.channels l.cycle l.row x) [])
+      (enumerate_from 0 (take l.c l.channels)));
+  rest : l.rest ≡ drop (length (all_widths (take l.c l.channels))) l.row.contents;
+}
