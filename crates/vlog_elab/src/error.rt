@@ -38,6 +38,11 @@ pub enum ElabError {
     Width { line: u32, got: u128 },
     /// E13: a clocked block whose clock isn't the one input of the top, or a read of the clock.
     Clock { line: u32 },
+    /// E9: the `always @*` on this line leaves bits of this net open, or reads some before it has surely assigned them.
+    Latch { name: Name, line: u32 },
+    /// E8: this bit of the net of this full name has so many drivers; of a reg or a memory, whose bit 0 is named, so many always
+    /// blocks write it.
+    Drive { name: Name, bit: u32, drivers: u32 },
     Memory,
 }
 

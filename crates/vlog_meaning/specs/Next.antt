@@ -1,6 +1,6 @@
 -- *Next state* and the initial state of a file and top (IEEE 1364-2005, 9.2.2 nonblocking assignments, 9.9.2, 4.2.2 initialisers; memories
 -- and registers without initialiser begin at 0, this project's profile).
-use Rattle.std.specs.Prelude.{◌≡◌, ℕ, if◌then◌else◌, List, [], ◌∷◌, ◌++◌, slice_get, replicate, Option, None, Some}
+use Rattle.std.specs.Prelude.{◌≡◌, ℕ, nat_lt, ◌&&◌, if◌then◌else◌, List, [], ◌∷◌, ◌++◌, slice_get, replicate, Option, None, Some}
 use Rattle.std.specs.Int.{bit_at}
 use Rattle.std.specs.List.{flat_map}
 use Rattle.vlog_tree.specs.Tree.{IdentOf, ExprOf, RegTailOf, InitTail, MemoryTail, Reg1Of, PortOf, EventOf, PosedgeEvent, ImplicitEvent}
@@ -81,6 +81,6 @@ initial_number m s name = or_zero (value_of (initials m s) name)
 pub record IsInitial (file : List (ModuleOf ℕ)) (top : ModuleOf ℕ) (s : State) : Type 0 where
   pub nets : (path : Full) (m : ModuleOf ℕ) (c : Scope) (j k : ℕ) (n : Named ScopeNet) → IsAt file top path m c
       → slice_get c.nets j ≡ Some n
-      → bit_at (s.nets (path ++ n.name ∷ [])) k ≡ (if is_held m c n.name j k then bit_at (initial_number m c n.name) k else 0)
+      → bit_at (s.nets (path ++ n.name ∷ [])) k ≡ (if nat_lt k n.value.width && is_held m c n.name j k then bit_at (initial_number m c n.name) k else 0)
   pub words : (path : Full) (m : ModuleOf ℕ) (c : Scope) → IsAt file top path m c
       → (numbers_at s.nets s.words path c).words ≡ replicate (words_of c.memories) 0

@@ -86,7 +86,7 @@ pub record IsSettled (file : List (ModuleOf ℕ)) (top : ModuleOf ℕ) (s : Stat
   pub fits : (path : Full) (m : ModuleOf ℕ) (c : Scope) → IsAt file top path m c
       → AllByRecursion (λ (n : Named ScopeNet). v (path ++ n.name ∷ []) < 2 ^ n.value.width) c.nets
   pub held : (path : Full) (m : ModuleOf ℕ) (c : Scope) (j k : ℕ) (n : Named ScopeNet) → IsAt file top path m c
-      → slice_get c.nets j ≡ Some n → is_held m c n.name j k ≡ true
+      → slice_get c.nets j ≡ Some n → k < n.value.width → is_held m c n.name j k ≡ true
       → bit_at (v (path ++ n.name ∷ [])) k ≡ bit_at (s.nets (path ++ n.name ∷ [])) k
   pub inputs : map (λ (x : Name). v (x ∷ [])) (inputs_of top) ≡ pins
   pub clock : (x : Name) → IsClock file top x → v (x ∷ []) ≡ 0

@@ -1,0 +1,6 @@
+pub mod Seats
+pub mod Nets
+pub mod Drivers
+pub mod State
+pub mod Built
+pub mod Meaning
