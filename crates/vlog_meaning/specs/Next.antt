@@ -81,6 +81,7 @@ initial_number m s name = or_zero (value_of (initials m s) name)
 pub record IsInitial (file : List (ModuleOf ℕ)) (top : ModuleOf ℕ) (s : State) : Type 0 where
   pub nets : (path : Full) (m : ModuleOf ℕ) (c : Scope) (j k : ℕ) (n : Named ScopeNet) → IsAt file top path m c
       → slice_get c.nets j ≡ Some n
-      → bit_at (s.nets (path ++ n.name ∷ [])) k ≡ (if nat_lt k n.value.width && is_held m c n.name j k then bit_at (initial_number m c n.name) k else 0)
+      → bit_at (s.nets (path ++ n.name ∷ [])) k
+      ≡ (if nat_lt k n.value.width && is_held m c n.name j k then bit_at (initial_number m c n.name) k else 0)
   pub words : (path : Full) (m : ModuleOf ℕ) (c : Scope) → IsAt file top path m c
       → (numbers_at s.nets s.words path c).words ≡ replicate (words_of c.memories) 0
