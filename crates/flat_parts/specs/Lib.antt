@@ -4,3 +4,4 @@ pub mod Drivers
 pub mod State
 pub mod Built
 pub mod Meaning
+pub mod Laws
