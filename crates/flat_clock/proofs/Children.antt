@@ -37,7 +37,8 @@ stands_next : (params : List (Named Param)) (k : ℕ) (x item : ItemOf ℕ) (ite
     → (j : ℕ) × Contains (placed params (after_item params k x) items) (record { declared = j; item = item })
     → (j : ℕ) × Contains (placed params k (x ∷ items)) (record { declared = j; item = item })
 stands_next params k x item items (j, there) =
-    (j, later (record { declared = k; item = x }) (placed params (after_item params k x) items) (record { declared = j; item = item }) there)
+    let next : List Placed = placed params (after_item params k x) items in
+    (j, later (record { declared = k; item = x }) next (record { declared = j; item = item }) there)
 
 pub stands : (params : List (Named Param)) (k : ℕ) (items : List (ItemOf ℕ)) (item : ItemOf ℕ) → Contains items item
     → (j : ℕ) × Contains (placed params k items) (record { declared = j; item = item })

@@ -47,7 +47,8 @@ follows : (b : Bool) (what : Declaration) (head : Option (PortHeadOf ℕ)) → F
 follows b what None before h = before h
 follows b what (Some head) before h = one head.direction h
   where
-    one : (direction : Direction) → clock.is_input direction ≡ true → is_input (port_as what (Some (record head { direction = direction }))) ≡ true
+    one : (direction : Direction) → clock.is_input direction ≡ true
+        → is_input (port_as what (Some (record head { direction = direction }))) ≡ true
     one (Input wire) e = refl
     one (Output kind) e = absurd (cc)
 

@@ -213,11 +213,13 @@ input_of_clock file name top clear (k, found, at) x (is_input, (path, m, s, inne
         → clock_name file name (inputs_in file name) ≡ Some x
     there (inl g) =
         in_scope
-        (subst (λ (ss : List hierarchy.Scope). Joined file.modules ss m inner (value_of (ports_from 0 [] (inputs_in file name)) x)) (sym all) g)
+        (subst (λ (ss : List hierarchy.Scope). Joined file.modules ss m inner (value_of (ports_from 0 [] (inputs_in file name)) x))
+        (sym all) g)
         waits
     there (inr many) =
         let small = few_scopes file name clear in
-        let long : length (scopes_in file name) ≡ length (scopes 4097 (outlines_of file.modules) (ports_from 0 [] (inputs_in file name)) k) =
+        let long : length (scopes_in file name)
+        ≡ length (scopes 4097 (outlines_of file.modules) (ports_from 0 [] (inputs_in file name)) k) =
         ap (λ (ss : List hierarchy.Scope). length ss) all in
         absurd (omega (arith, small, long, many))
 
@@ -306,7 +308,8 @@ clock_of_input file name top clear (k, found, at) x p wanted named =
         × Waits m s inner
     from = (t.path, t.tree, t.scope, b.clock.name, joins, waits_there t.tree t.scope r.0.joined p b)
 
-name_there : (names : List Name) (o : Option ℕ) (x : Name) → name_at names o ≡ Some x → (p : ℕ) × (o ≡ Some p) × (slice_get names p ≡ Some x)
+name_there : (names : List Name) (o : Option ℕ) (x : Name) → name_at names o ≡ Some x
+    → (p : ℕ) × (o ≡ Some p) × (slice_get names p ≡ Some x)
 name_there names None x h = absurd (cc)
 name_there names (Some p) x h = (p, refl, h)
 

@@ -24,7 +24,8 @@ name_placed ports (Some x) k h = (x, refl, h)
 
 -- a name among the ports of the top, as the ports of the design have it
 same_place : (top : ModuleOf ℕ) (k : ℕ)
-    → slice_get (map (λ (p : Port). p.name) (flat_ports top (scope_with [] top))) k ≡ slice_get (map (λ (p : PortOf ℕ). p.id.name) top.ports) k
+    → slice_get (map (λ (p : Port). p.name) (flat_ports top (scope_with [] top))) k
+    ≡ slice_get (map (λ (p : PortOf ℕ). p.id.name) top.ports) k
 same_place top k = ap (λ (names : List Name). slice_get names k) (flat_names top (scope_with [] top))
 
 port_of_place : (file : FileOf ℕ) (name : List ℕ) (top : ModuleOf ℕ) → Clear file name → IsTop file name top → (k : ℕ)

@@ -13,7 +13,8 @@ use Rattle.vlog_hierarchy.specs.Plain.{plain_path}
 use Rattle.flat_clock.specs.Clock.{name_at, port_named}
 
 same_from : (name : List ℕ) (f : ℕ) (ports : List Port)
-    → position_from (λ (p : Port). bytes_eq name p.id.name) f ports ≡ position_from (λ (p : PortOf ℕ). bytes_eq name p.id.name) f (map plain_port ports)
+    → position_from (λ (p : Port). bytes_eq name p.id.name) f ports
+    ≡ position_from (λ (p : PortOf ℕ). bytes_eq name p.id.name) f (map plain_port ports)
 same_from name f [] = refl
 same_from name f (p ∷ ports) = ap (λ (o : Option ℕ). cond (bytes_eq name p.id.name) (Some f) o) (same_from name (f + 1) ports)
 

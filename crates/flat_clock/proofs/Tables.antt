@@ -60,7 +60,8 @@ added_other xs name v q other = one (is_some (value_of xs name))
 -- a new name has the value
 added_own : (xs : List (Named ℕ)) (name : List ℕ) (v : ℕ) → value_of xs name ≡ None → value_of (added xs name v) name ≡ Some v
 added_own xs name v absent =
-    ap (λ (b : Bool). value_of (if b then xs else xs ++ record { name = name; value = v } ∷ []) name) (ap (λ (o : Option ℕ). is_some o) absent)
+    ap (λ (b : Bool). value_of (if b then xs else xs ++ record { name = name; value = v } ∷ []) name)
+    (ap (λ (o : Option ℕ). is_some o) absent)
     ∙ (value_append xs (record { name = name; value = v } ∷ []) name
     ∙ (ap (λ (o : Option ℕ). or_then o (if bytes_eq name name then Some v else None)) absent
     ∙ ap (λ (b : Bool). if b then Some v else None) (same_true name)))
@@ -148,7 +149,8 @@ plain_joined js (Some e) p h = one (plain_name e) refl h
 -- ---- connections
 
 -- another port keeps its value
-conn_other : (js inner : List (Named ℕ)) (c : ConnOf ℕ) (q : List ℕ) → q ≢ c.id.name → value_of (conn_joined js inner c) q ≡ value_of inner q
+conn_other : (js inner : List (Named ℕ)) (c : ConnOf ℕ) (q : List ℕ) → q ≢ c.id.name
+    → value_of (conn_joined js inner c) q ≡ value_of inner q
 conn_other js inner c q other = one (port_of_value js c.value)
   where
     one : (o : Option ℕ) → value_of (joined_as inner c.id.name o) q ≡ value_of inner q

@@ -108,7 +108,8 @@ reached_through n ms k js outer port inner m c listed same (inl j) =
       scope = j.scope;
       listed =
           subst (λ (gs : List hierarchy.Scope). Contains gs j.scope) (sym (deeper n (outlines_of ms) js k))
-          (later (record { place = k; joined = js }) (flat_map (child_scopes n (outlines_of ms) js) (children_at (outlines_of ms) k)) j.scope
+          (later (record { place = k; joined = js })
+          (flat_map (child_scopes n (outlines_of ms) js) (children_at (outlines_of ms) k)) j.scope
           (in_flat (child_scopes n (outlines_of ms) js) (children_at (outlines_of ms) k) c j.scope listed j.listed));
       there = j.there;
       value = j.value ∙ same;
@@ -133,10 +134,10 @@ reached (suc n) ms differ once k n0 s0 js outer [] m s inner at (tree, scope, na
       there = at ∙ ap (λ (x : ModuleOf ℕ). Some x) tree;
       value = ap (value_of js) (sym name);
     })
-reached (suc n) ms differ once k n0 s0 js outer (x ∷ path) m s inner at (i, child, below, port, named, is_child, (c, in_ports, conn), rest) =
+reached (suc n) ms differ once k n0 s0 js outer (x ∷ path) m s inner at (i, child, below, port, named, is_child, (c, listed, conn), rest) =
     let l : Listed ms k i child = listed_child ms differ k n0 s0 i child below at is_child in
     let stands : Contains n0.items (InstanceItem i) =
     item_in s0.params s0.declared n0.items (record { declared = is_child.declared; item = InstanceItem i }) is_child.stands in
     reached_through n ms k js outer port inner m (record { instance = i; place = l.place }) l.listed
-    (joined_as_outer js i c outer port (once n0 i (in_got ms k n0 at) stands) in_ports conn)
+    (joined_as_outer js i c outer port (once n0 i (in_got ms k n0 at) stands) listed conn)
     (reached n ms differ once l.place child below (child_joined js i) port path m s inner l.there rest)

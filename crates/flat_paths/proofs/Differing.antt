@@ -88,13 +88,15 @@ one_item ms path r (AlwaysItem a) = no_pairs OtherPath
 one_item ms path r (InstanceItem x) = one_at ms path r x (place_of ms x.module_id.name)
 
 -- the entry of an instance's name
-named_entry : (items : List (ItemOf ℕ)) (params : List (Named Param)) (k j : ℕ) (x : InstanceOf ℕ) → Contains (placed params k items) (instance_at j x)
+named_entry : (items : List (ItemOf ℕ)) (params : List (Named Param)) (k j : ℕ) (x : InstanceOf ℕ)
+    → Contains (placed params k items) (instance_at j x)
     → Contains (flat_map item_entries items) (entry x.id.name d.Instance)
 named_entry [] params k j x h = absurd (none_in (instance_at j x) h)
 named_entry (item ∷ items) params k j x h =
     elim (cons_cases (record { declared = k; item = item }) (placed params (after_item params k item) items) (instance_at j x) h) [
       | inl is ↦ Contains-append_left (item_entries item) (flat_map item_entries items) (entry x.id.name d.Instance)
-          (subst (λ (y : Placed). Contains (item_entries y.item) (entry x.id.name d.Instance)) (sym is) (here (entry x.id.name d.Instance) []))
+          (subst (λ (y : Placed). Contains (item_entries y.item) (entry x.id.name d.Instance)) (sym is)
+          (here (entry x.id.name d.Instance) []))
       | inr more ↦ Contains-append_right (item_entries item) (flat_map item_entries items) (entry x.id.name d.Instance)
           (named_entry items params (after_item params k item) j x more)
     ]
@@ -127,7 +129,8 @@ children_apart ms path s k (item ∷ items) differ =
         let own : Contains (item_entries item) (entry x.0 d.Instance) =
         subst (λ (es : Names). Contains es (entry x.0 d.Instance)) (append-nil (item_entries item)) x.1 in
         same_last path x.0 y.0 a b x.2 y.2
-        (pairs_between OtherName (item_entries item) (flat_map item_entries items) (entry x.0 d.Instance) (entry y.0 d.Instance) differ own y.1)
+        (pairs_between OtherName (item_entries item) (flat_map item_entries items) (entry x.0 d.Instance) (entry y.0 d.Instance) differ
+        own y.1)
 
 -- ---- the instances in them
 

@@ -55,6 +55,7 @@ not_below a b h = grind (arith, h)
 pub few : (file : FileOf ℕ) (name : List ℕ) → Clear file name → length (instances file name) ≤ 4096
 few file name clear =
     let ns : List Node = nodes_of (outlines_of file.modules) (place_of file.modules name) in
-    let small : length ns ≤ 4096 = not_below 4096 (length ns) (told_none (nat_lt 4096 (length ns)) (e.TooBig Instances) (few_nodes file name clear)) in
+    let small : length ns ≤ 4096 =
+    not_below 4096 (length ns) (told_none (nat_lt 4096 (length ns)) (e.TooBig Instances) (few_nodes file name clear)) in
     let same : length (map node_of (instances file name)) ≡ length ns = ap (λ (xs : List Node). length xs) (same_nodes file name) in
     omega (arith, small, same, length-map (instances file name) node_of)

@@ -102,7 +102,8 @@ pub pairs_between : {X : Type 0} (R : X → X → Type 0) → (xs ys : List X) (
 pairs_between R [] ys x y h left right = absurd (none_in x left)
 pairs_between R (z ∷ xs) ys x y h left right =
     elim (cons_cases z xs x left) [
-      | inl is ↦ subst (λ w. R w y) is (All-contains (R z) (xs ++ ys) y (pairs_first R z (xs ++ ys) h) (Contains-append_right xs ys y right))
+      | inl is ↦ subst (λ w. R w y) is
+          (All-contains (R z) (xs ++ ys) y (pairs_first R z (xs ++ ys) h) (Contains-append_right xs ys y right))
       | inr more ↦ pairs_between R xs ys x y (pairs_rest R z (xs ++ ys) h) more right
     ]
 

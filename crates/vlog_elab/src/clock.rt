@@ -85,7 +85,10 @@ fn one_bit_inputs<'a>(
 /// # Errors
 ///
 /// `Memory`: there isn't enough memory.
-pub fn clock_inputs<'a>(alloc: Global, list: &[ModuleInstance<'a>]) -> Result<Items<&'a Name>, Memory>
+pub fn clock_inputs<'a>(
+    alloc: Global,
+    list: &[ModuleInstance<'a>],
+) -> Result<Items<&'a Name>, Memory>
     ensures { IfOk result (λ names. plain_path names ≡ clock.clock_inputs (plain_instances list.now)) }
 {
     match list.first() {

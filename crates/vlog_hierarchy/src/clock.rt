@@ -74,7 +74,11 @@ fn add_scope_ports(ports: &mut ClockPorts, modules: &[Module], scope: &Scope) ->
 
 /// The ports of all clocked blocks.
 #[tactic(auto, unfolding(crate::specs::Clock::clock_ports))]
-pub fn clock_ports(alloc: Global, modules: &[Module], scopes: &[Scope]) -> Result<ClockPorts, Memory>
+pub fn clock_ports(
+    alloc: Global,
+    modules: &[Module],
+    scopes: &[Scope],
+) -> Result<ClockPorts, Memory>
     ensures { IfOk result (λ ports. ports ≡ clock_ports (map plain_module modules.now) scopes.now) }
 {
     let mut ports = Items::new(alloc);

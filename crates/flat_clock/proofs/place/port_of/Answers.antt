@@ -6,7 +6,8 @@ pub returns-in-Some-get : goal.returns-in-Some-get
 returns-in-Some-get c =
     let within : c.in-Some.place < length c.args.names.now = search rules in
     let at : c.in-Some-get.name.now ≡ get_or c.args.names.now c.in-Some.place c.in-Some-get.name.now = search rules in
-    port_there c.args.ports.now c.args.names.now c.args.place c.in-Some.place c.in-Some-get.name.now c.as_slice.result.now c.port_named.result
+    port_there c.args.ports.now c.args.names.now c.args.place c.in-Some.place c.in-Some-get.name.now c.as_slice.result.now
+    c.port_named.result
     c.in-Some.is within at c.as_slice.ensures c.port_named.ensures
 
 pub returns-in-None-get : goal.returns-in-None-get
