@@ -2,13 +2,14 @@
 use Rattle.std.proofs.Common.{◌≡◌, ◌≢◌, ℕ, zero, suc, ◌+◌, ◌-◌, ◌<◌, ◌≤◌, ◌⊎◌, inl, inr, List, [], ◌∷◌, ◌++◌, map, length, take, min, refl}
 use Rattle.std.proofs.Common.{sym, ap, subst, ◌∙◌, arith, get_or, append_assoc, length-append, length-take, Option, None, Some, slice_get}
 use Rattle.std.proofs.lemmas.Bool.{cases_lt}
-use Rattle.std.proofs.lemmas.List.{length-map, take-map}
+use Rattle.std.proofs.lemmas.List.{length-map, take-map, map_more}
+use Rattle.std.specs.Borrow.{Bor}
 use Rattle.net_design.specs.declared.design.Instance.{Instance}
 use Rattle.net_design.specs.Names.{list_at, paths_after, paths}
 use Rattle.vlog_hierarchy.specs.Plain.{plain_path}
 use Rattle.vlog_elab.specs.Instances.{ModuleInstance}
 use Rattle.vlog_elab.specs.declared.instance.ModuleInstance as code
-use Rattle.vlog_elab.specs.Plain.{plain_instances}
+use Rattle.vlog_elab.specs.Plain.{plain_instance, plain_instances}
 use Rattle.vlog_meaning.specs.Names.{Full}
 use Rattle.flat_layout.specs.Layout.{AreInstances, paths_of}
 use Rattle.flat_layout.proofs.Lists.{slice_get_left, slice_get_right}
@@ -102,17 +103,20 @@ child_push is d x n there some h before path =
       parents = behind_grows d x n long before h.parents;
     }
 
-pub child_added : (is : List ModuleInstance) (d e : List Instance) (x : Instance) (n : ℕ) → n < length is → 1 ≤ n
-    → AreInstances d (take n is) → e ≡ d ++ x ∷ [] → x.parent < n → list_at (paths_of is) n ≡ path_of (paths_of is) x
-    → AreInstances e (take (n + 1) is)
-child_added is d e x n there some h grew before path =
-    subst (λ (l : List Instance). AreInstances l (take (n + 1) is)) (sym grew) (child_push is d x n there some h before path)
+pub child_added : (all : List code.ModuleInstance) (d e : List Instance) (x : Instance) (n : ℕ) → n < length all → 1 ≤ n
+    → AreInstances d (take n (plain_instances all)) → e ≡ d ++ x ∷ [] → x.parent < n
+    → list_at (paths_of (plain_instances all)) n ≡ path_of (paths_of (plain_instances all)) x
+    → AreInstances e (take (n + 1) (plain_instances all))
+child_added all d e x n there some h grew before path =
+    let long = length-map all plain_instance in
+    subst (λ (l : List Instance). AreInstances l (take (n + 1) (plain_instances all))) (sym grew)
+    (child_push (plain_instances all) d x n (omega (arith, long, there)) some h before path)
 
 -- ---- the top
 
-top_parent : (x y : Instance) (k : ℕ) → slice_get (x ∷ []) k ≡ Some y → 1 ≤ k → y.parent < k
-top_parent x y zero e some = absurd (omega (arith, some))
-top_parent x y (suc k) e some = absurd (cc)
+top_parent : (x : Instance) (k : ℕ) (y : Instance) → slice_get (x ∷ []) k ≡ Some y → 1 ≤ k → y.parent < k
+top_parent x zero y e some = absurd (omega (arith, some))
+top_parent x (suc k) y e some = absurd (cc)
 
 top_alone : (is : List ModuleInstance) (x : Instance) → 0 < length is → list_at (paths_of is) 0 ≡ [] → AreInstances (x ∷ []) (take 1 is)
 top_alone [] x h path = absurd (omega (arith, h))
@@ -127,10 +131,26 @@ top_push : (is : List ModuleInstance) (d : List Instance) (x : Instance) → 0 <
 top_push is [] x h none path = top_alone is x h path
 top_push is (y ∷ d) x h none path = absurd (omega (arith, none))
 
-pub top_added : (is : List ModuleInstance) (d e : List Instance) (x : Instance) (n : ℕ) → n ≡ 0 → n < length is
-    → AreInstances d (take n is) → e ≡ d ++ x ∷ [] → list_at (paths_of is) 0 ≡ [] → AreInstances e (take (n + 1) is)
-top_added is d e x n first there h grew path =
-    let none : length d ≡ 0 = h.count ∙ (front_long is n (omega (arith, there)) ∙ first) in
+pub top_added : (all : List code.ModuleInstance) (d e : List Instance) (x : Instance) (n : ℕ) → n ≡ 0 → n < length all
+    → AreInstances d (take n (plain_instances all)) → e ≡ d ++ x ∷ [] → list_at (paths_of (plain_instances all)) 0 ≡ []
+    → AreInstances e (take (n + 1) (plain_instances all))
+top_added all d e x n first there h grew path =
+    let is : List ModuleInstance = plain_instances all in
+    let long : length is ≡ length all = length-map all plain_instance in
+    let none : length d ≡ 0 = h.count ∙ (front_long is n (omega (arith, there, long)) ∙ first) in
     let one : 1 ≡ n + 1 = omega (arith, first) in
     subst (λ (l : List Instance). AreInstances l (take (n + 1) is)) (sym grew)
-    (subst (λ k. AreInstances (d ++ x ∷ []) (take k is)) one (top_push is d x (omega (arith, there)) none path))
+    (subst (λ k. AreInstances (d ++ x ∷ []) (take k is)) one (top_push is d x (omega (arith, there, long)) none path))
+
+-- ---- paths name by name
+
+pub one_name : (path front : List (Bor (List ℕ))) (k : ℕ) (x y : Bor (List ℕ)) → k < length path → k < length front
+    → x ≡ get_or path k x → y ≡ get_or front k y → x.now ≡ y.now
+    → take k (plain_path path) ≡ take k (plain_path front) → take (k + 1) (plain_path path) ≡ take (k + 1) (plain_path front)
+one_name path front k x y l m a b same h =
+    let f : Bor (List ℕ) → List ℕ = λ (name : Bor (List ℕ)). name.now in
+    take-map f (k + 1) path
+    ∙ (map_more f path k x l
+    ∙ (ap (λ (p : Full). p ++ f (get_or path k x) ∷ []) (sym (take-map f k path) ∙ (h ∙ take-map f k front))
+    ∙ (ap (λ (n : List ℕ). map f (take k front) ++ n ∷ []) (ap f (sym a) ∙ (same ∙ ap f b))
+    ∙ (sym (map_more f front k y m) ∙ sym (take-map f (k + 1) front)))))

@@ -73,7 +73,7 @@ passed true x rest h = absurd (cc)
 passed false x rest h = (refl, h)
 
 other_name : (name other : List ℕ) → bytes_eq name other ≡ false → other ≢ name
-other_name name other no same = let yes : bytes_eq name other ≡ true = (bytes_eq-Decides name other).1 (sym same) in absurd (cc)
+other_name name other unlike same = let yes : bytes_eq name other ≡ true = (bytes_eq-Decides name other).1 (sym same) in absurd (cc)
 
 not_named : (ns : Nets) (name : List ℕ) → is_some (value_of ns name) ≡ false → (k : ℕ) (d : Named ScopeNet) → k < length ns
     → (get_or ns k d).name ≢ name

@@ -1,8 +1,10 @@
 -- The nets and memories of scopes, as those of the design.
-use Rattle.std.proofs.Common.{◌≡◌, ℕ, zero, suc, ◌+◌, ◌<◌, List, [], ◌∷◌, ◌++◌, map, length, take, drop, refl, sym, ap, ◌∙◌, arith}
+use Rattle.std.proofs.Common.{◌≡◌, ℕ, zero, suc, ◌+◌, ◌<◌, ◌≤◌, List, [], ◌∷◌, ◌++◌, map, length, take, drop, refl, sym, ap, ◌∙◌, arith}
 use Rattle.std.proofs.Common.{append_assoc, Option, None, Some, slice_get, option_map, subst}
 use Rattle.std.specs.List.{flat_map}
+use Rattle.std.proofs.lemmas.List.{append-nil, drop_all}
 use Rattle.std.proofs.lemmas.List.Sums.{sum_by-cons}
+use Rattle.std.proofs.lemmas.Option.{same_Some}
 use Rattle.vlog_size.specs.declared.scope.ScopeNet.{ScopeNet}
 use Rattle.vlog_size.specs.declared.scope.ScopeMemory.{ScopeMemory}
 use Rattle.vlog_size.specs.Table.{Named}
@@ -10,18 +12,27 @@ use Rattle.vlog_scope.specs.Scope.{words_of}
 use Rattle.net_design.specs.declared.design.DesignMemory.{DesignMemory}
 use Rattle.net_design.specs.declared.design.Net.{Net}
 use Rattle.vlog_elab.specs.Instances.{ModuleInstance}
-use Rattle.flat_parts.specs.Seats.{Seat, seats_from}
-use Rattle.flat_parts.specs.Nets.{net_of, seat_nets, memories_from, seat_memories}
+use Rattle.vlog_elab.specs.declared.instance.ModuleInstance as code
+use Rattle.vlog_elab.specs.Plain.{plain_instances}
+use Rattle.flat_parts.specs.Seats.{Seat, seats_from, seats_of}
+use Rattle.flat_parts.specs.Nets.{net_of, seat_nets, flat_nets, memories_from, seat_memories, flat_memories}
 use Rattle.flat_layout.specs.Layout.{memory_of}
 use Rattle.flat_layout.proofs.Lists.{given, one_less}
 
 -- ---- an entry of a table, by its name and its value
 
+abbrev entry_of : {V : Type 0} → List ℕ → V → Named V
+entry_of name v = record { name = name; value = v }
+
+some_entry : {V : Type 0} (x : Named V) (name : List ℕ) (v : V) → name ≡ x.name → v ≡ x.value → Some x ≡ Some (entry_of name v)
+some_entry x name v n e =
+    ap (λ z. Some (entry_of z x.value)) (sym n) ∙ ap (λ z. Some (entry_of name z)) (sym e)
+
 entry_there : {V : Type 0} (xs : List (Named V)) (k : ℕ) (name : List ℕ) (v : V)
     → Some name ≡ slice_get (map (λ (x : Named V). x.name) xs) k → Some v ≡ slice_get (map (λ (x : Named V). x.value) xs) k
     → slice_get xs k ≡ Some (record { name = name; value = v })
 entry_there [] k name v h g = absurd (cc)
-entry_there (x ∷ xs) zero name v h g = (cc)
+entry_there (x ∷ xs) zero name v h g = some_entry x name v (same_Some name x.name h) (same_Some v x.value g)
 entry_there (x ∷ xs) (suc k) name v h g = entry_there xs k name v h g
 
 pub net_there : (number : ℕ) (ns : List (Named ScopeNet)) (k : ℕ) (name : List ℕ) (v : ScopeNet)
@@ -79,11 +90,40 @@ next_at number first word all rest start now x h = record {
   value = append_assoc now (memory_of number word x ∷ []) (memories_from number (word + x.value.length) rest) ∙ h.value;
 }
 
-pub next_memory : (number first word place : ℕ) (all : List (Named ScopeMemory)) (start now : List DesignMemory) (m : DesignMemory)
+memory_added : (number first word place : ℕ) (all : List (Named ScopeMemory)) (start now : List DesignMemory) (m : DesignMemory)
     → IsBefore number first word all (drop place all) start now → option_map (memory_of number word) (slice_get all place) ≡ Some m
     → IsBefore number first (word + m.room.length) all (drop (place + 1) all) start (now ++ m ∷ [])
-next_memory number first word place all start now m h e =
+memory_added number first word place all start now m h e =
     let (x, there, same) = given (memory_of number word) (slice_get all place) m e in
     subst (λ (a : DesignMemory). IsBefore number first (word + a.room.length) all (drop (place + 1) all) start (now ++ a ∷ [])) same
     (next_at number first word all (drop (place + 1) all) start now x
     (subst (λ (l : List (Named ScopeMemory)). IsBefore number first word all l start now) (one_less all place x there) h))
+
+pub next_memory : (number first word place after : ℕ) (all : List (Named ScopeMemory)) (start now new : List DesignMemory)
+    (m : DesignMemory) → IsBefore number first word all (drop place all) start now
+    → option_map (memory_of number word) (slice_get all place) ≡ Some m → after ≡ word + m.room.length → new ≡ now ++ m ∷ []
+    → IsBefore number first after all (drop (place + 1) all) start new
+next_memory number first word place after all start now new m h e past grew =
+    subst (λ k. IsBefore number first k all (drop (place + 1) all) start new) (sym past)
+    (subst (λ (l : List DesignMemory). IsBefore number first (word + m.room.length) all (drop (place + 1) all) start l) (sym grew)
+    (memory_added number first word place all start now m h e))
+
+-- ---- all of them
+
+pub all_nets : (is : List code.ModuleInstance) (i : ℕ) (ns : List Net) → length is ≤ i
+    → ns ++ numbered_nets i (plain_instances (drop i is)) ≡ numbered_nets 0 (plain_instances is)
+    → ns ≡ flat_nets (seats_of (plain_instances is))
+unfolding flat_nets seats_of
+all_nets is i ns past h =
+    sym (append-nil ns)
+    ∙ (ap (λ (l : List code.ModuleInstance). ns ++ numbered_nets i (plain_instances l)) (sym (drop_all i is past))
+    ∙ (h ∙ nets_numbered 0 0 0 (plain_instances is)))
+
+pub all_memories : (is : List code.ModuleInstance) (i word : ℕ) (ms : List DesignMemory) → length is ≤ i
+    → ms ++ numbered_memories i word (plain_instances (drop i is)) ≡ numbered_memories 0 0 (plain_instances is)
+    → ms ≡ flat_memories (seats_of (plain_instances is))
+unfolding flat_memories seats_of
+all_memories is i word ms past h =
+    sym (append-nil ms)
+    ∙ (ap (λ (l : List code.ModuleInstance). ms ++ numbered_memories i word (plain_instances l)) (sym (drop_all i is past))
+    ∙ (h ∙ memories_numbered 0 0 0 (plain_instances is)))

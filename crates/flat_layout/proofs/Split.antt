@@ -18,11 +18,11 @@ word_count [] = 0
 word_count (i ∷ is) = words_of i.scope.memories + word_count is
 
 -- x is the seat of one of these instances, behind `front`, where the first of all has these places
-pub record IsBehind (number net word : ℕ) (is : List ModuleInstance) (x : Seat) (front rest : List ModuleInstance) : Type 0 where
+pub record IsBehind (first first_net first_word : ℕ) (is : List ModuleInstance) (x : Seat) (front rest : List ModuleInstance) : Type 0 where
   pub whole : is ≡ front ++ x.instance ∷ rest
-  pub number : x.number ≡ number + length front
-  pub net : x.net ≡ net + net_count front
-  pub word : x.word ≡ word + word_count front
+  pub number : x.number ≡ first + length front
+  pub net : x.net ≡ first_net + net_count front
+  pub word : x.word ≡ first_word + word_count front
 
 nothing_more : (n : ℕ) → n ≡ n + 0
 nothing_more n = omega arith

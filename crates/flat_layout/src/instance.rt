@@ -1,6 +1,6 @@
 //! The instances of the flat design.
 
-ghost use Rattle.std.specs.Prelude.{◌≡◌, ◌+◌, ◌-◌, ◌<◌, ◌≤◌, ◌++◌, ◌∷◌, [], IsTrue, IfOk, OnOk, length, take, slice_get, Some};
+ghost use Rattle.std.specs.Prelude.{◌≡◌, ◌+◌, ◌-◌, ◌<◌, ◌≤◌, ◌↔◌, ◌++◌, ◌∷◌, [], IsTrue, IfOk, OnOk, length, take, slice_get, Some};
 ghost use Rattle.net_design.specs.Names.{list_at};
 ghost use Rattle.vlog_hierarchy.specs.Plain.{plain_path};
 ghost use Rattle.vlog_elab.specs.Plain.{plain_instances};
@@ -11,13 +11,19 @@ use std::alloc::Global;
 use vidi_bits::{Items, Memory, Name, copied};
 use vlog_elab::ModuleInstance;
 
+fn same_name(a: &Name, b: &Name) -> bool
+    ensures { IsTrue result ↔ (a.now ≡ b.now) }
+{
+    a.as_slice() == b.as_slice()
+}
+
 /// Whether the names of `front` are the first of `path`.
 fn begins_with(path: &[&Name], front: &[&Name]) -> bool
     requires { length front.now < length path.now }
     ensures { IsTrue result → take (length front.now) (plain_path path.now) ≡ plain_path front.now }
 {
     for (place, name) in front.iter().enumerate() {
-        if path[place].as_slice() != name.as_slice() {
+        if !same_name(path[place], name) {
             return false;
         }
     }
@@ -93,7 +99,6 @@ fn follow(chain: &mut Items<usize>, names: usize, number: usize) -> Result<(), M
     chain.push(number)
 }
 
-#[tactic(auto, using(crate::proofs::Chains::top_added))]
 fn add_top(
     alloc: Global,
     list: &[ModuleInstance<'_>],
@@ -109,7 +114,6 @@ fn add_top(
     out.push(top)
 }
 
-#[tactic(auto, using(crate::proofs::Chains::child_added))]
 fn add_child(
     alloc: Global,
     list: &[ModuleInstance<'_>],

@@ -15,7 +15,6 @@ use vlog_elab::ModuleInstance;
 use vlog_size::ScopeMemories;
 
 /// The memory at a place of an instance's memories, whose first word is this word of the design.
-#[tactic(auto, using(crate::proofs::Entries::memory_there))]
 fn memory_at(
     alloc: Global,
     number: usize,
@@ -45,8 +44,14 @@ fn memory_at(
     })
 }
 
+/// The word behind so many words.
+fn behind(word: usize, length: usize) -> Result<usize, Memory>
+    ensures { IfOk result (λ n. n ≡ word + length) }
+{
+    Ok(word.checked_add(length).ok_or(Memory)?)
+}
+
 /// Adds the memories of the instance of this number, whose first word is this one, and answers the word behind them.
-#[tactic(auto, using(crate::proofs::Entries::next_memory))]
 fn add_memories(
     alloc: Global,
     number: usize,
@@ -60,14 +65,13 @@ fn add_memories(
     let mut word = first;
     for place in 0..list.len() {
         let memory = memory_at(alloc, number, word, list, place)?;
-        word = word.checked_add(memory.room.length).ok_or(Memory)?;
+        word = behind(word, memory.room.length)?;
         memories.push(memory)?;
     }
     Ok(word)
 }
 
 /// The memories of all instances, in their order and within one in text order, each behind the words of those before it.
-#[tactic(auto, using(crate::proofs::Entries::memories_numbered), unfolding(flat_parts::specs::Seats::seats_of, flat_parts::specs::Nets::flat_memories))]
 pub fn memories(
     alloc: Global,
     instances: &[ModuleInstance<'_>],

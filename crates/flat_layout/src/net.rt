@@ -13,7 +13,6 @@ use vlog_elab::ModuleInstance;
 use vlog_size::ScopeNets;
 
 /// The net at a place of an instance's nets.
-#[tactic(auto, using(crate::proofs::Entries::net_there))]
 fn net_at(alloc: Global, number: usize, list: &ScopeNets, place: usize) -> Result<Net, Memory>
     ensures { IfOk result (λ n. option_map (net_of number) (slice_get list.now place) ≡ Some n) }
 {
@@ -50,7 +49,6 @@ fn add_nets(
 }
 
 /// The nets of all instances, in their order and within one in text order.
-#[tactic(auto, using(crate::proofs::Entries::nets_numbered), unfolding(flat_parts::specs::Seats::seats_of, flat_parts::specs::Nets::flat_nets))]
 pub fn nets(alloc: Global, instances: &[ModuleInstance<'_>]) -> Result<Items<Net>, Memory>
     ensures { IfOk result (λ ns. ns ≡ flat_nets (seats_of (plain_instances instances.now))) }
 {

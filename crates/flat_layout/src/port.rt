@@ -43,7 +43,6 @@ fn net_width(list: &ScopeNets, name: &[u8]) -> u32
 }
 
 /// The ports of the top, a module with this scope.
-#[tactic(auto, using(crate::proofs::PortList::ports_listed))]
 pub fn ports(alloc: Global, top: &Module, scope: &Scope) -> Result<Items<Port>, Memory>
     ensures { IfOk result (λ ps. ps ≡ flat_ports (plain_module top.now) scope.now) }
 {
