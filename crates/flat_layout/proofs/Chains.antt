@@ -1,6 +1,6 @@
 -- The instances of the design are added one by one.
-use Rattle.std.proofs.Common.{◌≡◌, ◌≢◌, ℕ, zero, suc, ◌+◌, ◌-◌, ◌<◌, ◌≤◌, ◌⊎◌, inl, inr, List, [], ◌∷◌, ◌++◌, map, length, take, min, refl}
-use Rattle.std.proofs.Common.{sym, ap, subst, ◌∙◌, arith, get_or, append_assoc, length-append, length-take, Option, None, Some, slice_get}
+use Rattle.std.proofs.Common.{◌≡◌, ℕ, zero, suc, ◌+◌, ◌-◌, ◌<◌, ◌≤◌, inl, inr, List, [], ◌∷◌, ◌++◌, map, length, take, refl}
+use Rattle.std.proofs.Common.{sym, ap, subst, ◌∙◌, arith, get_or, length-append, length-take, Some, slice_get}
 use Rattle.std.proofs.lemmas.Bool.{cases_lt}
 use Rattle.std.proofs.lemmas.List.{length-map, take-map, map_more}
 use Rattle.std.specs.Borrow.{Bor}
@@ -81,7 +81,7 @@ last_behind x y (suc k) i n e h before = absurd (cc)
 
 behind_grows : (d : List Instance) (x : Instance) (n : ℕ) → length d ≡ n → x.parent < n → AreBehind d → AreBehind (d ++ x ∷ [])
 behind_grows d x n long before h i y e some = elim (cases_lt i (length d)) [
-  inl below ↦ h i y (sym (slice_get_left d (x ∷ []) i below) ∙ e) some
+  | inl below ↦ h i y (sym (slice_get_left d (x ∷ []) i below) ∙ e) some
   | inr above ↦
       last_behind x y (i - length d) i n (sym (slice_get_right d (x ∷ []) i (i - length d) (omega (arith, above))) ∙ e)
       (omega (arith, above, long)) before

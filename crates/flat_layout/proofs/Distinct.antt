@@ -1,5 +1,5 @@
 -- No two nets of the design have the same full name.
-use Rattle.std.proofs.Common.{◌≡◌, ◌≢◌, ℕ, zero, suc, ◌+◌, ◌<◌, Bool, true, false, List, [], ◌∷◌, ◌++◌, map, length, refl, sym, ap, subst}
+use Rattle.std.proofs.Common.{◌≡◌, ◌≢◌, ℕ, zero, suc, ◌<◌, Bool, true, false, List, [], ◌∷◌, ◌++◌, map, length, refl, sym, subst}
 use Rattle.std.proofs.Common.{◌∙◌, arith, get_or, Option, None, Some, slice_get}
 use Rattle.std.specs.Prelude.{is_some, if◌then◌else◌}
 use Rattle.std.specs.List.{flat_map, AllPairs, AllByRecursion}
@@ -8,12 +8,12 @@ use Rattle.std.proofs.lemmas.List.{same_from_push, map-id}
 use Rattle.std.proofs.lemmas.List.Elements.{All-from_recursion, recursion_from_All}
 use Rattle.std.proofs.lemmas.List.Quantifiers.{all_pairs_push}
 use Rattle.std.proofs.lemmas.Slice.Eq.{bytes_eq-Decides}
-use Rattle.vlog_tree.specs.Tree.{IdentOf, NamedValueOf, RegTailOf, InitTail, MemoryTail, Reg1Of, PortOf, ConnOf, InstanceOf}
+use Rattle.vlog_tree.specs.Tree.{IdentOf, NamedValueOf, RegTailOf, InitTail, MemoryTail, Reg1Of, PortOf, InstanceOf}
 use Rattle.vlog_tree.specs.Tree.{ItemOf, WiresItem, DrivenWiresItem, RegsItem, LocalparamsItem, AssignItem, AlwaysItem, InstanceItem}
 use Rattle.vlog_tree.specs.Tree.{ModuleOf, FileOf}
 use Rattle.vlog_size.specs.declared.scope.ScopeNet.{ScopeNet}
 use Rattle.vlog_size.specs.declared.scope.Scope.{Scope}
-use Rattle.vlog_size.specs.Table.{Named, value_of, added}
+use Rattle.vlog_size.specs.Table.{Named, value_of}
 use Rattle.vlog_size.specs.Names.{Readable}
 use Rattle.vlog_size.specs.Size.{Sizes}
 use Rattle.vlog_names.specs.Different.{Differ}
@@ -24,13 +24,12 @@ use Rattle.vlog_scope.specs.Extents.{extent_of, port_extent, net_width}
 use Rattle.vlog_scope.specs.Params.{header_params, items_params, overrides_of}
 use Rattle.vlog_scope.specs.Scope.{declared_in, readable_at, after_item, with_net, with_port, with_ports, wire_nets, driven_nets, with_reg}
 use Rattle.vlog_scope.specs.Scope.{with_regs, with_item, with_items, params_scope, scope_with}
-use Rattle.net_design.specs.declared.design.Design.{Design}
 use Rattle.net_design.specs.Names.{net_names}
 use Rattle.vlog_elab.specs.Instances.{ModuleInstance, child_of, child_at, item_children, children_from, children, within, top_of, top_at}
 use Rattle.vlog_elab.specs.Instances.{instances}
 use Rattle.vlog_meaning.specs.Names.{Full}
 use Rattle.flat_parts.specs.Laws.{PathsDiffer, NamesDiffer}
-use Rattle.flat_layout.proofs.Numbers.{at_names, built_names}
+use Rattle.flat_layout.proofs.Numbers.{built_names}
 
 -- ---- pairs
 
@@ -162,7 +161,8 @@ item_names ms path r (AssignItem assigns) = tt
 item_names ms path r (AlwaysItem a) = tt
 item_names ms path r (InstanceItem x) = placed_names ms path r x (place_of ms x.module_id.name)
 
-items_names : (ms : List (ModuleOf ℕ)) (path : Full) (s : Scope) (k : ℕ) (items : List (ItemOf ℕ)) → HaveNames (children_from ms path s k items)
+items_names : (ms : List (ModuleOf ℕ)) (path : Full) (s : Scope) (k : ℕ) (items : List (ItemOf ℕ))
+    → HaveNames (children_from ms path s k items)
 items_names ms path s k [] = tt
 items_names ms path s k (item ∷ items) =
     both HasNames (item_children ms path (readable_at s k) item) (children_from ms path s (after_item s.params k item) items)
@@ -188,8 +188,8 @@ placed_top_names ms (Some k) = top_names k (slice_get ms k)
 all_names : (file : FileOf ℕ) (name : List ℕ) → HaveNames (instances file name)
 unfolding instances
 all_names file name =
-    in_pieces HasNames HasNames (within 4097 file.modules) (within_names 4097 file.modules) (top_at file.modules (place_of file.modules name))
-    (placed_top_names file.modules (place_of file.modules name))
+    in_pieces HasNames HasNames (within 4097 file.modules) (within_names 4097 file.modules)
+    (top_at file.modules (place_of file.modules name)) (placed_top_names file.modules (place_of file.modules name))
 
 -- ---- full names
 

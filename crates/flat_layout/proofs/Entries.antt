@@ -1,6 +1,6 @@
 -- The nets and memories of scopes, as those of the design.
-use Rattle.std.proofs.Common.{◌≡◌, ℕ, zero, suc, ◌+◌, ◌<◌, ◌≤◌, List, [], ◌∷◌, ◌++◌, map, length, take, drop, refl, sym, ap, ◌∙◌, arith}
-use Rattle.std.proofs.Common.{append_assoc, Option, None, Some, slice_get, option_map, subst}
+use Rattle.std.proofs.Common.{◌≡◌, ℕ, zero, suc, ◌+◌, ◌≤◌, List, [], ◌∷◌, ◌++◌, map, length, drop, refl, sym, ap, ◌∙◌, arith}
+use Rattle.std.proofs.Common.{append_assoc, Some, slice_get, option_map, subst}
 use Rattle.std.specs.List.{flat_map}
 use Rattle.std.proofs.lemmas.List.{append-nil, drop_all}
 use Rattle.std.proofs.lemmas.List.Sums.{sum_by-cons}
@@ -14,7 +14,7 @@ use Rattle.net_design.specs.declared.design.Net.{Net}
 use Rattle.vlog_elab.specs.Instances.{ModuleInstance}
 use Rattle.vlog_elab.specs.declared.instance.ModuleInstance as code
 use Rattle.vlog_elab.specs.Plain.{plain_instances}
-use Rattle.flat_parts.specs.Seats.{Seat, seats_from, seats_of}
+use Rattle.flat_parts.specs.Seats.{seats_from, seats_of}
 use Rattle.flat_parts.specs.Nets.{net_of, seat_nets, flat_nets, memories_from, seat_memories, flat_memories}
 use Rattle.flat_layout.specs.Layout.{memory_of}
 use Rattle.flat_layout.proofs.Lists.{given, one_less}

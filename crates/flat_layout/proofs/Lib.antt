@@ -4,6 +4,7 @@ pub mod Standing
 pub mod Numbers
 pub mod Places
 pub mod Distinct
+pub mod Counted
 pub mod Entries
 pub mod Chains
 pub mod PortList

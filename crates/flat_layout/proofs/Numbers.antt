@@ -1,5 +1,5 @@
 -- The list of a map for the built design has the numbers of the instances, one behind the other.
-use Rattle.std.proofs.Common.{◌≡◌, ℕ, zero, suc, ◌+◌, List, [], ◌∷◌, ◌++◌, map, length, refl, sym, ap, subst, ◌∙◌, arith}
+use Rattle.std.proofs.Common.{◌≡◌, ℕ, suc, ◌+◌, List, [], ◌∷◌, ◌++◌, map, length, refl, ap, ◌∙◌, arith}
 use Rattle.std.specs.List.{flat_map}
 use Rattle.std.proofs.lemmas.Grind.{flat_map-append}
 use Rattle.std.proofs.lemmas.List.{map-append}
@@ -14,8 +14,8 @@ use Rattle.net_design.specs.declared.design.Net.{Net}
 use Rattle.net_design.specs.declared.values.Values.{Values}
 use Rattle.net_design.specs.Names.{list_at, paths, net_names}
 use Rattle.vlog_elab.specs.Instances.{ModuleInstance}
-use Rattle.vlog_meaning.specs.Names.{Full, words_from, numbers_at}
-use Rattle.flat_parts.specs.Seats.{Seat, seats_from, seats_of}
+use Rattle.vlog_meaning.specs.Names.{Full, words_from}
+use Rattle.flat_parts.specs.Seats.{seats_from, seats_of}
 use Rattle.flat_parts.specs.Nets.{net_of, seat_nets, flat_nets, memories_from, seat_memories, flat_memories}
 use Rattle.flat_parts.specs.Built.{IsBuilt}
 use Rattle.flat_parts.specs.Meaning.{values_of}
@@ -63,7 +63,8 @@ module _ {X : Type 0} (F : Full → X) (known : List Full) where
       → map F (map (name_in known) (flat_map seat_nets (seats_from number net word is))) ≡ flat_map (at_names F) is
   names_from number net word [] h = refl
   names_from number net word (i ∷ is) h =
-      let rest : List Net = flat_map seat_nets (seats_from (number + 1) (net + length i.scope.nets) (word + words_of i.scope.memories) is) in
+      let rest : List Net =
+      flat_map seat_nets (seats_from (number + 1) (net + length i.scope.nets) (word + words_of i.scope.memories) is) in
       let own : List Net = map (net_of number) i.scope.nets in
       ap (λ (l : List Full). map F l) (map-append (name_in known) own rest)
       ∙ (map-append F (map (name_in known) own) (map (name_in known) rest)
@@ -97,7 +98,8 @@ module _ (words : Full → ℕ → ℕ) (known : List Full) where
   own_words : (number word : ℕ) (ms : List (Named ScopeMemory)) → flat_map words_in (memories_from number word ms)
       ≡ flat_map (memory_at (list_at known number)) ms
   own_words number word [] = refl
-  own_words number word (m ∷ ms) = ap (λ (l : List ℕ). memory_at (list_at known number) m ++ l) (own_words number (word + m.value.length) ms)
+  own_words number word (m ∷ ms) =
+      ap (λ (l : List ℕ). memory_at (list_at known number) m ++ l) (own_words number (word + m.value.length) ms)
 
   seat_words : (number word : ℕ) (i : ModuleInstance) → list_at known number ≡ i.path
       → flat_map words_in (memories_from number word i.scope.memories) ≡ words_at i

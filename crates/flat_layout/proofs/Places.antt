@@ -1,6 +1,6 @@
 -- Which net of the design is whose.
-use Rattle.std.proofs.Common.{◌≡◌, ℕ, zero, suc, ◌+◌, ◌-◌, ◌<◌, ◌≤◌, ◌⊎◌, inl, inr, List, [], ◌∷◌, ◌++◌, map, length, refl, sym, ap}
-use Rattle.std.proofs.Common.{subst, ◌∙◌, arith, get_or, length-append, slice_get, option_map, Option}
+use Rattle.std.proofs.Common.{◌≡◌, ℕ, zero, suc, ◌+◌, ◌-◌, ◌<◌, ◌≤◌, inl, inr, List, [], ◌∷◌, ◌++◌, map, length, refl, sym, ap}
+use Rattle.std.proofs.Common.{subst, ◌∙◌, arith, get_or, length-append, slice_get, option_map}
 use Rattle.std.specs.List.{flat_map, Contains}
 use Rattle.std.proofs.lemmas.Bool.{cases_lt}
 use Rattle.std.proofs.lemmas.List.{length-map}
@@ -41,12 +41,15 @@ module _ (number net word : ℕ) (i : ModuleInstance) (is : List ModuleInstance)
   found_later : (m : ℕ) → length i.scope.nets ≤ m
       → Found (number + 1) (net + length i.scope.nets) (word + words_of i.scope.memories) is (m - length i.scope.nets)
       → Found number net word (i ∷ is) m
-  found_later m above (x, j, h) =
-      (x, j, record {
-        seat = later (head_seat number net word i) (tail_seats number net word i is) x h.seat;
-        place = let p = h.place in omega (arith, p, above);
-        there = h.there;
-      })
+  found_later m above (x, j, h) = (
+    x,
+    j,
+    record {
+      seat = later (head_seat number net word i) (tail_seats number net word i is) x h.seat;
+      place = let p = h.place in omega (arith, p, above);
+      there = h.there;
+    },
+  )
 
   below_rest : (m : ℕ) → m < length (flat_map seat_nets (seats_from number net word (i ∷ is))) → length i.scope.nets ≤ m
       → m - length i.scope.nets < length (flat_map seat_nets (tail_seats number net word i is))
@@ -59,7 +62,7 @@ find_seat : (number net word : ℕ) (is : List ModuleInstance) (m : ℕ) → m <
     → Found number net word is m
 find_seat number net word [] m l = absurd (omega (arith, l))
 find_seat number net word (i ∷ is) m l = elim (cases_lt m (length i.scope.nets)) [
-  inl below ↦ found_here number net word i is m below
+  | inl below ↦ found_here number net word i is m below
   | inr above ↦
       found_later number net word i is m above
       (find_seat (number + 1) (net + length i.scope.nets) (word + words_of i.scope.memories) is (m - length i.scope.nets)

@@ -31,7 +31,8 @@ same_direction : (direction : head.Direction) (shape : Shape) → direction_of (
 same_direction (heads.Input wire) shape = refl
 same_direction (heads.Output kind) shape = refl
 
-direction_as : (before : Declaration) (h : Option (PortHeadOf ℕ)) → direction_of (port_as before h) ≡ direction_after (direction_of before) h
+direction_as : (before : Declaration) (h : Option (PortHeadOf ℕ))
+    → direction_of (port_as before h) ≡ direction_after (direction_of before) h
 direction_as before None = refl
 direction_as before (Some h) = same_direction h.direction (shape_of h.range)
 

@@ -1,7 +1,7 @@
 -- Each instance's numbers stand from its seat's places on.
-use Rattle.std.proofs.Common.{◌≡◌, ℕ, zero, suc, ◌+◌, ◌<◌, ◌≤◌, List, [], ◌∷◌, ◌++◌, map, length, drop, refl, sym, ap, subst, ◌∙◌, arith}
-use Rattle.std.proofs.Common.{get_or, length-append, slice_index}
-use Rattle.std.specs.List.{flat_map, Contains, sum_by}
+use Rattle.std.proofs.Common.{◌≡◌, ℕ, zero, suc, ◌+◌, ◌<◌, ◌≤◌, List, [], ◌∷◌, ◌++◌, length, drop, refl, sym, ap, subst, ◌∙◌, arith}
+use Rattle.std.proofs.Common.{length-append, slice_index}
+use Rattle.std.specs.List.{flat_map}
 use Rattle.std.proofs.lemmas.List.{length-map, get_or_append_left}
 use Rattle.std.proofs.lemmas.List.Recursion.{is_sum_by}
 use Rattle.vlog_size.specs.declared.scope.ScopeMemory.{ScopeMemory}
@@ -12,10 +12,9 @@ use Rattle.vlog_block.specs.Sources.{words_before}
 use Rattle.vlog_elab.specs.Instances.{ModuleInstance}
 use Rattle.vlog_meaning.specs.Names.{Full, words_from, numbers_at}
 use Rattle.vlog_meaning.specs.Placed.{names_at}
-use Rattle.vlog_meaning.specs.Own.{word_total, IsLong, Agree}
-use Rattle.vlog_driver.specs.Spots.{numbers_from}
+use Rattle.vlog_meaning.specs.Own.{word_total}
 use Rattle.vlog_driver.specs.Held.{StandsAt}
-use Rattle.flat_parts.specs.Seats.{Seat, seats_of, spot_at}
+use Rattle.flat_parts.specs.Seats.{Seat, spot_at}
 use Rattle.flat_parts.specs.Laws.{numbers_of, SeatsStand}
 use Rattle.flat_layout.proofs.Split.{net_count, word_count, IsBehind, seat_behind, piece_count, left_behind}
 
@@ -25,19 +24,24 @@ pub length-words : (word : ℕ → ℕ) (k n : ℕ) → length (words_from word 
 length-words word k zero = refl
 length-words word k (suc n) = ap suc (length-words word (suc k) n)
 
+abbrev own_length : Named ScopeMemory → ℕ
+own_length m = m.value.length
+
 -- the words of memories, as the words before the place past the last
 pub words_before_end : (ms : List (Named ScopeMemory)) → words_before ms (length ms) ≡ words_of ms
-words_before_end ms =
-    is_sum_by (λ (l : List (Named ScopeMemory)). words_before l (length l)) (λ (m : Named ScopeMemory). m.value.length) refl (λ _ _. refl) ms
+words_before_end ms = is_sum_by (λ (l : List (Named ScopeMemory)). words_before l (length l)) own_length refl (λ _ _. refl) ms
 
-pub all_words : (word : Named ScopeMemory → ℕ → ℕ) (ms : List (Named ScopeMemory))
-    → length (flat_map (λ (m : Named ScopeMemory). words_from (word m) 0 m.value.length) ms) ≡ words_of ms
-all_words word ms =
-    is_sum_by (λ (l : List (Named ScopeMemory)). length (flat_map (λ (m : Named ScopeMemory). words_from (word m) 0 m.value.length) l))
-    (λ (m : Named ScopeMemory). m.value.length) refl
-    (λ m l. length-append (words_from (word m) 0 m.value.length) (flat_map (λ (m : Named ScopeMemory). words_from (word m) 0 m.value.length) l)
-    ∙ ap (λ n. n + length (flat_map (λ (m : Named ScopeMemory). words_from (word m) 0 m.value.length) l)) (length-words (word m) 0 m.value.length))
-    ms
+abbrev words_in : (Named ScopeMemory → ℕ → ℕ) → List (Named ScopeMemory) → List ℕ
+words_in word ms = flat_map (λ (m : Named ScopeMemory). words_from (word m) 0 m.value.length) ms
+
+more_words : (word : Named ScopeMemory → ℕ → ℕ) (m : Named ScopeMemory) (ms : List (Named ScopeMemory))
+    → length (words_in word (m ∷ ms)) ≡ m.value.length + length (words_in word ms)
+more_words word m ms =
+    length-append (words_from (word m) 0 m.value.length) (words_in word ms)
+    ∙ ap (λ n. n + length (words_in word ms)) (length-words (word m) 0 m.value.length)
+
+pub all_words : (word : Named ScopeMemory → ℕ → ℕ) (ms : List (Named ScopeMemory)) → length (words_in word ms) ≡ words_of ms
+all_words word ms = is_sum_by (λ (l : List (Named ScopeMemory)). length (words_in word l)) own_length refl (more_words word) ms
 
 -- ---- the numbers of one instance among all
 
@@ -49,7 +53,9 @@ pub record Begins (n : ℕ) (all own : List ℕ) : Type 0 where
 
 begins : (n : ℕ) (all own rest : List ℕ) → all ≡ own ++ rest → length own ≡ n → Begins n all own
 begins n all own rest whole long = record {
-  long = let l : length all ≡ length own + length rest = ap (λ (x : List ℕ). length x) whole ∙ length-append own rest in omega (arith, l, long);
+  long =
+      let l : length all ≡ length own + length rest = ap (λ (x : List ℕ). length x) whole ∙ length-append own rest in
+      omega (arith, l, long);
   own_long = omega (arith, long);
   same = λ k below. ap (λ (x : List ℕ). slice_index x k) whole ∙ get_or_append_left own rest 0 k (omega (arith, below, long));
 }

@@ -76,7 +76,7 @@ fn child_of(
     Ok(Instance { parent, name })
 }
 
-/// The number of the last instance with one name less in its path, where `chain` has the number of the last instance of each length of path.
+/// The number of the last instance with one name less in its path, where `chain` has for each length of path the number of the last one.
 fn parent_of(chain: &[usize], names: usize) -> Result<usize, Memory>
     ensures { IfOk result (λ p. slice_get chain.now (names - 1) ≡ Some p) }
 {
@@ -151,10 +151,7 @@ fn add_instance(
 }
 
 /// The instances of the design: those of the file, which stand in preorder. `Memory` also where some instance has no parent there.
-pub fn instances(
-    alloc: Global,
-    list: &[ModuleInstance<'_>],
-) -> Result<Items<Instance>, Memory>
+pub fn instances(alloc: Global, list: &[ModuleInstance<'_>]) -> Result<Items<Instance>, Memory>
     ensures { IfOk result (λ d. AreInstances d (plain_instances list.now)) }
 {
     let mut out = Items::new(alloc);

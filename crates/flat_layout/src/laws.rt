@@ -1,7 +1,7 @@
 //! Laws of the definitions, as contracts of functions that do nothing.
 
 ghost use Rattle.flat_parts.specs.Laws.{BuiltNumbers, SeatsStand, NetsHaveSeats, NetsHaveOneSeat, NetsAreThose};
-ghost use Rattle.flat_layout.specs.Laws.{NamesDifferByPaths};
+ghost use Rattle.flat_layout.specs.Laws.{NamesDifferByPaths, NetsAreCounted, WordsAreCounted};
 
 /// Each instance's numbers stand in the list of all numbers from its seat's places on.
 pub fn seats_stand()
@@ -23,4 +23,10 @@ pub fn nets_have_seats()
 /// No two nets of the design have the same full name, where no two instances have the same path: a scope has each name once.
 pub fn names_differ()
     ensures { NamesDifferByPaths }
+{}
+
+/// The design has as many nets, and as many words of memories, as the instances have together.
+pub fn parts_are_counted()
+    ensures nets { NetsAreCounted }
+    ensures words { WordsAreCounted }
 {}

@@ -12,7 +12,7 @@ mod place;
 mod port;
 
 pub use instance::instances;
-pub use laws::{built_numbers, names_differ, nets_have_seats, seats_stand};
+pub use laws::{built_numbers, names_differ, nets_have_seats, parts_are_counted, seats_stand};
 pub use memory::memories;
 pub use net::nets;
 pub use place::{Place, seats};
