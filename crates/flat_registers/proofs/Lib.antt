@@ -1,0 +1,4 @@
+pub mod Lists
+pub mod Writes
+pub mod Regs
+pub mod Initial
