@@ -17,7 +17,8 @@ entries_by : {V : Type 0} (own rest left old new whole : List (Named V)) → new
 entries_by own rest left old new whole is split e =
     ap (λ z. with_entries z rest) is ∙ sym (entries_append old own rest) ∙ ap (with_entries old) (sym split) ∙ e
 
-pub entries_step : {V X Y : Type 0} (own : X → List (Named V)) (plain : Y → X) (xs : List Y) (i : ℕ) (x : Y) (old new whole : List (Named V))
+pub entries_step : {V X Y : Type 0} (own : X → List (Named V)) (plain : Y → X) (xs : List Y) (i : ℕ) (x : Y)
+    (old new whole : List (Named V))
     → i < length xs → x ≡ get_or xs i x → new ≡ with_entries old (own (plain x))
     → with_entries old (flat_map own (map plain (drop i xs))) ≡ whole
     → with_entries new (flat_map own (map plain (drop (i + 1) xs))) ≡ whole
@@ -25,7 +26,8 @@ entries_step own plain xs i x old new whole l at is e =
     entries_by (own (plain x)) (flat_map own (map plain (drop (i + 1) xs))) (flat_map own (map plain (drop i xs))) old new whole is
     (ap (λ z. flat_map own (map plain z)) (from_here xs i x l at)) e
 
-pub items_step : {V : Type 0} (own : Placed → List (Named V)) (params : List (Named Param)) (k after : ℕ) (xs : List Item) (i : ℕ) (x : Item)
+pub items_step : {V : Type 0} (own : Placed → List (Named V)) (params : List (Named Param)) (k after : ℕ) (xs : List Item) (i : ℕ)
+    (x : Item)
     (old new whole : List (Named V)) → i < length xs → x ≡ get_or xs i x
     → new ≡ with_entries old (own (record { declared = k; item = plain_item x })) → after ≡ after_item params k (plain_item x)
     → with_entries old (flat_map own (placed params k (map plain_item (drop i xs)))) ≡ whole

@@ -113,7 +113,8 @@ pub map_none : {X A : Type 0} (p : A → Bool) (f : X → A) → ((x : X) → p 
 map_none p f h [] = refl
 map_none p f h (x ∷ xs) = ap (λ b. b || list_any p (map f xs)) (h x) ∙ map_none p f h xs
 
-pub flat_in : {X A : Type 0} (f : X → List A) (xs : List X) (a : A) → Contains (flat_map f xs) a → (x : X) × Contains xs x × Contains (f x) a
+pub flat_in : {X A : Type 0} (f : X → List A) (xs : List X) (a : A) → Contains (flat_map f xs) a
+    → (x : X) × Contains xs x × Contains (f x) a
 flat_in f [] a c = absurd (no_element a c)
 flat_in f (x ∷ xs) a c =
     ⊎_elim

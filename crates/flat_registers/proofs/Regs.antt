@@ -154,5 +154,6 @@ held_alike one file top is d b x j k n c there =
     any_zip (IsRegisterOf d.drivers) (reg_holds d.drivers (x.net + j) k) (λ (r : Register). (r.net == x.net + j) && has r.held k)
     (register_holds d.drivers (x.net + j) k) (all_regs (seats_of is)) d.registers b.registers
     ∙ regs_hold one is x j n c there d.drivers k
-    ∙ ap (λ w. has_reg x.instance.tree n.name && (nat_lt k n.value.width && not w)) (writes_alike one is x j n c there d.drivers k b.drivers)
+    ∙ ap (λ w. has_reg x.instance.tree n.name && (nat_lt k n.value.width && not w))
+    (writes_alike one is x j n c there d.drivers k b.drivers)
     ∙ and_swap (has_reg x.instance.tree n.name) (nat_lt k n.value.width) (not (own_writes x j k))

@@ -23,7 +23,8 @@ value_append (x ∷ xs) ys q =
     ∙ sym (or_first_if (bytes_eq q x.name) x.value (value_of xs q) (value_of ys q))
 
 -- a name that is there hides another entry of it
-hidden : {V : Type 0} (b : Bool) (v : V) (o p : Option V) → (b ≡ true → is_some o ≡ true) → or_first o p ≡ or_first o (if b then Some v else p)
+hidden : {V : Type 0} (b : Bool) (v : V) (o p : Option V) → (b ≡ true → is_some o ≡ true)
+    → or_first o p ≡ or_first o (if b then Some v else p)
 hidden true v None p h = let t = h refl in absurd (cc)
 hidden true v (Some x) p h = refl
 hidden false v o p h = refl

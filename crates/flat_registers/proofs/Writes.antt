@@ -90,7 +90,8 @@ module _ (m k : ℕ) where
   joined_none p i None = refl
   joined_none p i (Some q) =
       flat_none (duty_writes m k) (conn_duties (declared q.instance.tree) p (spot_at q q.instance.scope.declared))
-      (λ c. join_none (is_output (value_of (declared q.instance.tree) c.id.name)) p (spot_at q q.instance.scope.declared) c.line c.id c.value)
+      (λ c. join_none (is_output (value_of (declared q.instance.tree) c.id.name)) p (spot_at q q.instance.scope.declared) c.line c.id
+      c.value)
       i.ports
 
   child_none : (xs : List Seat) (x : Seat) (n : ℕ) (item : ItemOf ℕ) → list_any (duty_writes m k) (child_duties xs x n item) ≡ false

@@ -7,4 +7,5 @@ use Rattle.flat_registers.proofs.names.declare_items.Given as goal
 
 abbrev pub invariant-loop-item : goal.invariant-loop-item
 invariant-loop-item l =
-    with_entries l.names (flat_map item_entries (map plain_item (drop l.item-index l.items))) ≡ with_entries l.initial.names (flat_map item_entries (map plain_item l.items))
+    with_entries l.names (flat_map item_entries (map plain_item (drop l.item-index l.items)))
+    ≡ with_entries l.initial.names (flat_map item_entries (map plain_item l.items))

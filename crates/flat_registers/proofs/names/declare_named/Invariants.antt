@@ -6,4 +6,5 @@ use Rattle.flat_registers.proofs.names.declare_named.Given as goal
 
 abbrev pub invariant-loop-value : goal.invariant-loop-value
 invariant-loop-value l =
-    with_entries l.names (map (value_entry l.what) (map plain_named (drop l.value-index l.values))) ≡ with_entries l.initial.names (map (value_entry l.what) (map plain_named l.values))
+    with_entries l.names (map (value_entry l.what) (map plain_named (drop l.value-index l.values)))
+    ≡ with_entries l.initial.names (map (value_entry l.what) (map plain_named l.values))

@@ -6,4 +6,5 @@ use Rattle.flat_registers.proofs.names.declare_names.Given as goal
 
 abbrev pub invariant-loop-ident : goal.invariant-loop-ident
 invariant-loop-ident l =
-    with_entries l.names (map (ident_entry l.what) (map plain_ident (drop l.ident-index l.idents))) ≡ with_entries l.initial.names (map (ident_entry l.what) (map plain_ident l.idents))
+    with_entries l.names (map (ident_entry l.what) (map plain_ident (drop l.ident-index l.idents)))
+    ≡ with_entries l.initial.names (map (ident_entry l.what) (map plain_ident l.idents))

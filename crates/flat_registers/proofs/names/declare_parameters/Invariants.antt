@@ -6,4 +6,5 @@ use Rattle.flat_registers.proofs.names.declare_parameters.Given as goal
 
 abbrev pub invariant-loop-parameter : goal.invariant-loop-parameter
 invariant-loop-parameter l =
-    with_entries l.names (map parameter_entry (map plain_parameter (drop l.parameter-index l.parameters))) ≡ with_entries l.initial.names (map parameter_entry (map plain_parameter l.parameters))
+    with_entries l.names (map parameter_entry (map plain_parameter (drop l.parameter-index l.parameters)))
+    ≡ with_entries l.initial.names (map parameter_entry (map plain_parameter l.parameters))

@@ -6,4 +6,5 @@ use Rattle.flat_registers.proofs.names.declare_regs.Given as goal
 
 abbrev pub invariant-loop-reg : goal.invariant-loop-reg
 invariant-loop-reg l =
-    with_entries l.names (map (reg_entry l.shape) (map plain_reg (drop l.reg-index l.regs))) ≡ with_entries l.initial.names (map (reg_entry l.shape) (map plain_reg l.regs))
+    with_entries l.names (map (reg_entry l.shape) (map plain_reg (drop l.reg-index l.regs)))
+    ≡ with_entries l.initial.names (map (reg_entry l.shape) (map plain_reg l.regs))
