@@ -1,9 +1,9 @@
 //! The initialisers of an instance's registers (IEEE 1364-2005, 4.2.2).
 
-ghost use Rattle.std.specs.Prelude.{◌≡◌, ℕ, ◌∷◌, [], OnOk, IfOk, map, option_map};
+ghost use Rattle.std.specs.Prelude.{◌≡◌, ℕ, ◌∷◌, [], OnOk, IfOk, map};
 ghost use Rattle.std.specs.List.{flat_map};
 ghost use Rattle.vlog_tree.specs.Tree.{PortOf, Reg1Of};
-ghost use Rattle.vlog_tree.specs.Plain.{plain_module, plain_item, plain_ident, plain_expr, plain_port, plain_reg, plain_tail};
+ghost use Rattle.vlog_tree.specs.Plain.{plain_module, plain_item, plain_ident, plain_expr, plain_port, plain_reg};
 ghost use Rattle.vlog_size.specs.Table.{value_of};
 ghost use Rattle.vlog_meaning.specs.Placed.{Placed, placed, names_at};
 ghost use Rattle.vlog_meaning.specs.Next.{net_width, initial_at, port_initials, reg_initials, item_initials, initials};

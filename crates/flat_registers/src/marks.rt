@@ -1,7 +1,6 @@
 //! Which nets of the flat design are regs.
 
 ghost use Rattle.std.specs.Prelude.{◌≡◌, ◌++◌, ◌∷◌, [], OnOk, IfOk, Some, map, slice_get};
-ghost use Rattle.std.specs.List.{flat_map};
 ghost use Rattle.vlog_size.specs.declared.scope.ScopeNet.{ScopeNet};
 ghost use Rattle.vlog_size.specs.Table.{Named, value_of};
 ghost use Rattle.vlog_meaning.specs.Ports.{is_reg};

@@ -1,6 +1,6 @@
 //! The regs of the flat design: their nets, widths and initial numbers.
 
-ghost use Rattle.std.specs.Prelude.{◌≡◌, ◌+◌, ◌++◌, [], OnOk, IfOk, Some, length, slice_get};
+ghost use Rattle.std.specs.Prelude.{◌≡◌, ◌+◌, ◌++◌, OnOk, IfOk, Some, slice_get};
 ghost use Rattle.vlog_size.specs.declared.scope.ScopeNet.{ScopeNet};
 ghost use Rattle.vlog_size.specs.Table.{Named, value_of};
 ghost use Rattle.vlog_size.specs.Size.{or_zero};

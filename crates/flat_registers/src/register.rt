@@ -2,7 +2,6 @@
 
 ghost use Rattle.std.specs.Prelude.{◌≡◌, ℕ, List, IfOk};
 ghost use Rattle.std.specs.List.{AllZip};
-ghost use Rattle.vlog_operators.specs.Number.{has};
 ghost use Rattle.net_design.specs.declared.design.Driver.{Driver};
 ghost use Rattle.net_code.specs.BitMap.{in_map};
 ghost use Rattle.vlog_elab.specs.Plain.{plain_instances};
