@@ -30,7 +30,6 @@ pub net_at : (nets : Full → ℕ) (words : Full → ℕ → ℕ) (is : List Mod
     → (x : Seat) (j : ℕ) (n : Named ScopeNet) → Contains (seats_of is) x → slice_get x.instance.scope.nets j ≡ Some n
     → get_or (numbers_of nets words is).nets (x.net + j) 0 ≡ nets (x.instance.path ++ n.name ∷ [])
 net_at nets words is stand x j n there e =
-    let own : ℕ → List ℕ = λ k. map (λ (n : Named ScopeNet). nets (x.instance.path ++ n.name ∷ [])) x.instance.scope.nets in
     let less : j < length x.instance.scope.nets = slice_get_within x.instance.scope.nets j n e in
     sym (get_or-drop x.net (numbers_of nets words is).nets j 0)
     ∙ (stand x 0 there).numbers.nets j less
@@ -101,11 +100,11 @@ module _ (d : Design) (is : List ModuleInstance) (v old : Full → ℕ) (words :
   within_held : AllByRecursion (λ (x : Seat). HeldOf x.instance) (seats_of is) → (m k : ℕ) (x : Seat) (j : ℕ)
       → IsNetOf (seats_of is) m x j → held d m k ≡ true
       → bit_at (get_or (values_of d v words).nets m 0) k ≡ bit_at (get_or (values_of d old words).nets m 0) k
-  within_held h m k x j of holds =
+  within_held h m k x j own holds =
       ⊎_elim (λ some. subst (λ z. bit_at (get_or (values_of d v words).nets z 0) k ≡ bit_at (get_or (values_of d old words).nets z 0) k)
-      (sym of.place)
-      (net_held h x j k some.0 of.seat some.2 (sym (ap (λ z. held d z k) of.place) ∙ holds)))
-      (λ none. let less : j < length x.instance.scope.nets = of.there in absurd (omega (arith, less, none.0)))
+      (sym own.place)
+      (net_held h x j k some.0 own.seat some.2 (sym (ap (λ z. held d z k) own.place) ∙ holds)))
+      (λ none. let less : j < length x.instance.scope.nets = own.there in absurd (omega (arith, less, none.0)))
       (slice_get_cases x.instance.scope.nets j).1
 
   past_held : (m k : ℕ) → length d.nets ≤ m

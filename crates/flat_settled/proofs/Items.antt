@@ -27,7 +27,7 @@ use Rattle.flat_settled.proofs.Unfound.{IsDeclared, placed_in}
 pub record AreInstances (file : List (ModuleOf ℕ)) (top : ModuleOf ℕ) (is : List ModuleInstance) : Type 0 where
   pub listed : (path : Full) (m : ModuleOf ℕ) (s : Scope) → IsListed is path m s ↔ IsAt file top path m s
   pub differ : AllPairs (λ (a b : ModuleInstance). a.path ≢ b.path) is
-  pub top : Contains file top
+  pub top_there : Contains file top
   pub known : (m : ModuleOf ℕ) (i : InstanceOf ℕ) → Contains file m → Contains m.items (InstanceItem i)
       → IsDeclared file i.module_id.name
 
@@ -59,15 +59,15 @@ module _ (file : List (ModuleOf ℕ)) (top : ModuleOf ℕ) (is : List ModuleInst
 
     -- the instance that is found there is of the child's module
     pub record IsOf (q : Seat) (c : ModuleOf ℕ) : Type 0 where
-      pub tree : q.instance.tree ≡ c
-      pub scope : q.instance.scope ≡ scope_in c
+      pub module_is : q.instance.tree ≡ c
+      pub scope_is : q.instance.scope ≡ scope_in c
 
     found_is : (q : Seat) → Contains (seats_of is) q → q.instance.path ≡ inner → (c : ModuleOf ℕ) → IsListed is inner c (scope_in c)
         → IsOf q c
     found_is q c path m l =
         let same : q.instance ≡ l.0 = one_path is tree.differ q.instance l.0 (seated_listed is q c) l.1 (path ∙ sym l.2) in record {
-          tree = ap (λ (j : ModuleInstance). j.tree) same ∙ l.3;
-          scope = ap (λ (j : ModuleInstance). j.scope) same ∙ l.4;
+          module_is = ap (λ (j : ModuleInstance). j.tree) same ∙ l.3;
+          scope_is = ap (λ (j : ModuleInstance). j.scope) same ∙ l.4;
         }
 
     abbrev ConnsOf : ModuleOf ℕ → Type 0
@@ -80,15 +80,15 @@ module _ (file : List (ModuleOf ℕ)) (top : ModuleOf ℕ) (is : List ModuleInst
     -- the connections' duties hold where the connections do
     conns_alike : (q : Seat) → Contains (seats_of is) q → q.instance.path ≡ inner → (c : ModuleOf ℕ) → IsOf q c
         → JoinedHold q ↔ ConnsOf c
-    conns_alike q there path c of =
+    conns_alike q seated path c own =
         let Conns : Full → Scope → ModuleOf ℕ → Type 0 = λ p t m. ConnsHold m (names_at x.instance.scope k)
         (numbers_at nets words x.instance.path x.instance.scope) (names_at t t.declared) (numbers_at nets words p t) i in
         let here : JoinedHold q ↔ Conns q.instance.path q.instance.scope q.instance.tree =
         conns_are nets words x.instance.path q.instance.path x.instance.scope q.instance.scope k q.instance.scope.declared (spot_at x k)
         (spot_at q q.instance.scope.declared) (numbers_of nets words is) q.instance.tree i (stand x k there)
-        (stand q q.instance.scope.declared there) in
-        subst (λ m. JoinedHold q ↔ Conns inner (scope_in c) m) of.tree
-        (subst (λ t. JoinedHold q ↔ Conns inner t q.instance.tree) of.scope
+        (stand q q.instance.scope.declared seated) in
+        subst (λ m. JoinedHold q ↔ Conns inner (scope_in c) m) own.module_is
+        (subst (λ t. JoinedHold q ↔ Conns inner t q.instance.tree) own.scope_is
         (subst (λ p. JoinedHold q ↔ Conns p q.instance.scope q.instance.tree) path here))
 
     child_alike : (q : Seat) → IsFound (seats_of is) inner q → IsDeclared file i.module_id.name
@@ -114,7 +114,7 @@ module _ (file : List (ModuleOf ℕ)) (top : ModuleOf ℕ) (is : List ModuleInst
         ↔ HoldsAt file nets words x.instance.path x.instance.scope k (InstanceItem i)
     instance_alike =
         let in_file : Contains file x.instance.tree =
-        stays_in file top (scope_with [] top) x.instance.path x.instance.tree x.instance.scope tree.top at_seat in
+        stays_in file top (scope_with [] top) x.instance.path x.instance.tree x.instance.scope tree.top_there at_seat in
         let d : IsDeclared file i.module_id.name =
         tree.known x.instance.tree i in_file (placed_in x.instance.tree x.instance.scope (record { declared = k; item = InstanceItem i }) placed) in
         let f = seat_in d in

@@ -12,7 +12,7 @@ use Rattle.vlog_size.specs.declared.scope.Scope.{Scope}
 use Rattle.vlog_size.specs.Table.{Named, value_of, added}
 use Rattle.vlog_size.proofs.Lists.{nil_left, nil_right, untold}
 use Rattle.vlog_names.specs.declared.declaration.Declaration.{Declaration}
-use Rattle.vlog_names.specs.declared.error.NameError.TheVariants as e
+use Rattle.vlog_names.specs.declared.error.NameError.TheVariants as error
 use Rattle.vlog_names.specs.Entries.{Names, entry, parameter_entry, port_as, no_port, port_entries, header_entries}
 use Rattle.vlog_names.specs.Twice.{twice_name, twice_among, twice_items, twice_in}
 use Rattle.vlog_scope.specs.declared.extent.Extent.{Extent}
@@ -30,7 +30,7 @@ use Rattle.flat_parts.specs.Nets.{port_of}
 use Rattle.flat_settled.proofs.Lists.{each_weaker, map_map}
 
 abbrev pub names : {V : Type 0} → List (Named V) → List Name
-names xs = map (λ x. x.name) xs
+names {V} xs = map (λ (x : Named V). x.name) xs
 
 -- ---- a name that isn't there yet
 abbrev has_name : List Name → Name → Bool
@@ -128,7 +128,7 @@ ports_next before front x s was (p ∷ ps) is none =
     let t : Scope = with_port y s p.id.name in
     let others = twice_among (before ++ one ∷ []) (port_entries (port_as was p.head) ps) in
     let absent : is_some (value_of before p.id.name) ≡ false =
-    untold (is_some (value_of before p.id.name)) (e.Twice p.id.name) (nil_left (twice_name before p.id.name) others none) in
+    untold (is_some (value_of before p.id.name)) (error.Twice p.id.name) (nil_left (twice_name before p.id.name) others none) in
     let fresh : is_some (value_of s.nets p.id.name) ≡ false =
     has_value s.nets p.id.name
     ∙ not_behind front (names s.nets) p.id.name

@@ -59,10 +59,10 @@ module _ (v : Full → ℕ) (words : Full → ℕ → ℕ) (top : ModuleOf ℕ) 
   abbrev Begins : List ℕ → Type 0
   Begins xs = (tail : List ℕ) × (xs ≡ map at_top (names entries) ++ tail)
 
-  instance_begins : (path : Full) (k : ℕ) (rest : List ModuleInstance) (more : List Name) → path ≡ []
+  instance_begins : (k : ℕ) (rest : List ModuleInstance) (more : List Name)
       → names (scope_with [] top).nets ≡ names entries ++ more
       → Begins (numbers_of v words (record { path = []; place = k; tree = top; scope = scope_with [] top } ∷ rest)).nets
-  instance_begins path k rest more none h =
+  instance_begins k rest more h =
       let others : List ℕ = flat_map (λ (i : ModuleInstance). map (λ (n : Named ScopeNet). v (i.path ++ n.name ∷ [])) i.scope.nets) rest in
       let own : map (λ (n : Named ScopeNet). v (n.name ∷ [])) (scope_with [] top).nets ≡ map at_top (names entries) ++ map at_top more =
       sym (map_map at_top (λ (n : Named ScopeNet). n.name) (scope_with [] top).nets)
@@ -122,7 +122,7 @@ module _ (instances_are : InstancesAreAll) (paths_differ : PathsDiffer) (first_i
   tree = record {
     listed = listed;
     differ = paths_differ file name clear;
-    top = top_there file name top is_top;
+    top_there = top_there file name top is_top;
     known = λ m i c there. child_declared file name clear m i c there;
   }
 
@@ -155,7 +155,7 @@ module _ (instances_are : InstancesAreAll) (paths_differ : PathsDiffer) (first_i
       let more = ports_first top (once_in file name clear top (top_there file name top is_top)) in
       subst (λ (u : Values). Begins v s.words top u.nets) (sym (numbers v))
       (subst (λ js. Begins v s.words top (numbers_of v s.words js).nets) (sym first.2)
-      (instance_begins v s.words top [] first.0 first.1 more.0 refl more.1))
+      (instance_begins v s.words top first.0 first.1 more.0 more.1))
 
   narrow_now : ((path : Full) (m : ModuleOf ℕ) (c : Scope) → At path m c → FitAt v path m c) → IsNarrow now
   narrow_now fit =
