@@ -26,7 +26,7 @@ use Rattle.flat_parts.specs.Seats.{Seat, seats_from, seats_of}
 use Rattle.flat_parts.specs.Nets.{net_of, seat_nets, flat_nets}
 use Rattle.flat_parts.specs.Meaning.{values_of}
 use Rattle.flat_parts.specs.Laws.{numbers_of}
-use Rattle.flat_settled.proofs.Lists.{nothing, then_so, each_flat, each_map, each_alike, each_weaker, at_each, below_powers, map_flat, map_map}
+use Rattle.flat_settled.proofs.Lists.{then_so, each_flat, each_map, each_alike, each_weaker, at_each, below_powers, map_flat, map_map}
 use Rattle.net_design.specs.declared.values.Values.{Values}
 
 -- ---- widths in order of the nets
@@ -168,8 +168,8 @@ words_narrow word k (suc n) h = (h k (omega arith), words_narrow word (suc k) n 
 
 -- words that fit their memories
 pub memory_narrow : (words : Full → ℕ → ℕ) (path : Full) (m : ModuleOf ℕ) (s : Scope) → is_lawful_scope s ≡ true
-    → AllByRecursion (λ (a : Named ScopeMemory). (k : ℕ) → k < a.value.length → words (path ++ a.name ∷ []) k < 2 ^ a.value.width) s.memories
-    → NarrowAt words path m s
+    → AllByRecursion (λ (a : Named ScopeMemory). (k : ℕ) → k < a.value.length → words (path ++ a.name ∷ []) k < 2 ^ a.value.width)
+    s.memories → NarrowAt words path m s
 memory_narrow words path m s lawful h =
     both_each (λ (a : Named ScopeMemory). a.value.width ≤ 128)
     (λ (a : Named ScopeMemory). (k : ℕ) → k < a.value.length → words (path ++ a.name ∷ []) k < 2 ^ a.value.width)
@@ -210,5 +210,6 @@ module _ (v : Full → ℕ) (words : Full → ℕ → ℕ) where
         ((each_flat Narrow (λ (i : ModuleInstance). flat_map
         (λ (m : Named ScopeMemory). words_from (words (i.path ++ m.name ∷ [])) 0 m.value.length) i.scope.memories) is).1
         (each_weaker NarrowOf (λ (i : ModuleInstance). AllByRecursion Narrow (flat_map
-        (λ (m : Named ScopeMemory). words_from (words (i.path ++ m.name ∷ [])) 0 m.value.length) i.scope.memories)) memories_narrow is narrow));
+        (λ (m : Named ScopeMemory). words_from (words (i.path ++ m.name ∷ [])) 0 m.value.length) i.scope.memories)) memories_narrow is
+        narrow));
   }

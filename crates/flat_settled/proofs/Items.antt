@@ -116,7 +116,8 @@ module _ (file : List (ModuleOf ℕ)) (top : ModuleOf ℕ) (is : List ModuleInst
         let in_file : Contains file x.instance.tree =
         stays_in file top (scope_with [] top) x.instance.path x.instance.tree x.instance.scope tree.top_there at_seat in
         let d : IsDeclared file i.module_id.name =
-        tree.known x.instance.tree i in_file (placed_in x.instance.tree x.instance.scope (record { declared = k; item = InstanceItem i }) placed) in
+        tree.known x.instance.tree i in_file
+        (placed_in x.instance.tree x.instance.scope (record { declared = k; item = InstanceItem i }) placed) in
         let f = seat_in d in
         child_alike f.0 f.1 d
 
@@ -162,7 +163,8 @@ module _ (file : List (ModuleOf ℕ)) (top : ModuleOf ℕ) (is : List ModuleInst
   unfolding all_duties
   duties_seats =
       then_so (each_flat (DutyHolds (numbers_of nets words is)) (seat_duties (seats_of is)) (seats_of is))
-      (each_alike (λ x. DutiesHold (numbers_of nets words is) (seat_duties (seats_of is) x)) (λ x. ItemsOf x.instance) (seats_of is) seat_alike)
+      (each_alike (λ x. DutiesHold (numbers_of nets words is) (seat_duties (seats_of is) x)) (λ x. ItemsOf x.instance) (seats_of is)
+      seat_alike)
 
   -- all duties hold where the items of all instances do
   pub duties_alike : DutiesHold (numbers_of nets words is) (all_duties (seats_of is))

@@ -1,5 +1,6 @@
 -- The design settles as the file does.
-use Rattle.std.proofs.Common.{◌≡◌, ◌≢◌, ℕ, ◌↔◌, List, [], ◌∷◌, ◌++◌, map, get_or, Some, refl, ap, sym, subst, ◌∙◌, slice_get, append_assoc, true}
+use Rattle.std.proofs.Common.{◌≡◌, ◌≢◌, ℕ, ◌↔◌, List, [], ◌∷◌, ◌++◌, map, get_or, Some, refl, ap, sym, subst, ◌∙◌}
+use Rattle.std.proofs.Common.{slice_get, append_assoc, true}
 use Rattle.std.specs.List.{AllByRecursion, All, Contains, flat_map}
 use Rattle.std.proofs.lemmas.List.{map-append}
 use Rattle.std.proofs.lemmas.Option.{slice_get_within, get_or_from_slice_get}

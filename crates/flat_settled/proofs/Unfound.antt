@@ -12,8 +12,8 @@ use Rattle.vlog_size.specs.Table.{Named, value_of}
 use Rattle.vlog_size.specs.Names.{params_alone, is_lawful_scope}
 use Rattle.vlog_size.proofs.Lists.{nil_left, nil_right}
 use Rattle.vlog_names.specs.Entries.{Names, declared, module_entry, modules_of}
-use Rattle.vlog_names.specs.Unknown.{unknown_parameter, unknown_port, unknown_item, unknown_instance, unknown_in, unknown_module, unknown_top}
-use Rattle.vlog_names.specs.Unknown.{unknown_names}
+use Rattle.vlog_names.specs.Unknown.{unknown_parameter, unknown_port, unknown_item, unknown_instance, unknown_in, unknown_module}
+use Rattle.vlog_names.specs.Unknown.{unknown_top, unknown_names}
 use Rattle.vlog_names.specs.Twice.{twice_name, twice_in, twice_modules, twice_names}
 use Rattle.vlog_scope.specs.declared.fault.FaultKind.{FaultKind}
 use Rattle.vlog_scope.specs.declared.fault.FaultKind.TheVariants.{Constant, Width}
@@ -98,7 +98,8 @@ child_declared file name h m i c there =
     let unknown : unknown_names file name ≡ [] =
     nil_right (twice_names file) (unknown_names file name) (names_unfound file name h) in
     let own : unknown_module all m ≡ [] =
-    empty_at (unknown_module all) file.modules m (nil_right (unknown_top all name) (flat_map (unknown_module all) file.modules) unknown) c in
+    empty_at (unknown_module all) file.modules m
+    (nil_right (unknown_top all name) (flat_map (unknown_module all) file.modules) unknown) c in
     let items : flat_map (unknown_item all (declared m)) m.items ≡ [] =
     nil_right (flat_map (unknown_port (declared m)) m.ports) (flat_map (unknown_item all (declared m)) m.items)
     (nil_right (flat_map (unknown_parameter (declared m)) m.parameters)
@@ -127,7 +128,8 @@ item_unfound : (kind : FaultKind) (s : Scope) (k : ℕ) (items : List (ItemOf �
 item_unfound kind s k [] h = tt
 item_unfound kind s k (i ∷ is) h = (
   nil_left (item_faults kind s k i) (items_faults kind s (after_item s.params k i) is) h,
-  item_unfound kind s (after_item s.params k i) is (nil_right (item_faults kind s k i) (items_faults kind s (after_item s.params k i) is) h),
+  item_unfound kind s (after_item s.params k i) is
+      (nil_right (item_faults kind s k i) (items_faults kind s (after_item s.params k i) is) h),
 )
 
 overrides_unfound : (kind : FaultKind) (m : ModuleOf ℕ) (s : Scope) (k : ℕ) (i : InstanceOf ℕ) → scope_faults kind m s ≡ []
