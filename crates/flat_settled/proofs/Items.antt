@@ -96,7 +96,7 @@ module _ (file : List (ModuleOf ℕ)) (top : ModuleOf ℕ) (is : List ModuleInst
         ↔ HoldsAt file nets words x.instance.path x.instance.scope k (InstanceItem i)
     child_alike q found d =
         let alike : (c : ModuleOf ℕ) → Contains file c → c.name ≡ i.module_id.name → JoinedHold q ↔ ConnsOf c =
-        λ c in_file named. conns_alike q found.there found.path c (found_is q found.there found.path c (at_child c in_file named)) in
+        λ c in_file named. conns_alike q found.there found.leads c (found_is q found.there found.leads c (at_child c in_file named)) in
         let moved : JoinedHold q
         ↔ HoldsAt file nets words x.instance.path x.instance.scope k (InstanceItem i) = (
           (λ h c in_file named. (alike c in_file named).0 h),

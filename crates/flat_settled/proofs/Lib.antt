@@ -1,8 +1,8 @@
-mod Lists
-mod Paths
-mod Unfound
-mod Fits
-mod Ports
-mod Items
-mod Held
-mod Settled
+pub mod Lists
+pub mod Paths
+pub mod Unfound
+pub mod Fits
+pub mod Ports
+pub mod Items
+pub mod Held
+pub mod Settled

@@ -107,7 +107,7 @@ path_itself (x ∷ xs) = both_of (bytes_eq x x) (same_path xs xs) ((bytes_eq-Dec
 pub record IsFound (xs : List Seat) (path : Full) (q : Seat) : Type 0 where
   pub named : seat_named xs path ≡ Some q
   pub there : Contains xs q
-  pub path : q.instance.path ≡ path
+  pub leads : q.instance.path ≡ path
 
 module _ (x : Seat) (xs : List Seat) (path : Full) where
   first_or : (b : Bool) → same_path x.instance.path path ≡ b → (x.instance.path ≢ path → (q : Seat) × IsFound xs path q)
@@ -117,7 +117,7 @@ module _ (x : Seat) (xs : List Seat) (path : Full) where
     record {
       named = ap (λ (c : Bool). if c then Some x else seat_named xs path) h;
       there = (zero, omega arith, refl);
-      path = path_same x.instance.path path h;
+      leads = path_same x.instance.path path h;
     },
   )
   first_or false h later =
@@ -127,7 +127,7 @@ module _ (x : Seat) (xs : List Seat) (path : Full) where
         record {
           named = ap (λ (c : Bool). if c then Some x else seat_named xs path) h ∙ r.1.named;
           there = Contains-append_right (x ∷ []) xs r.0 r.1.there;
-          path = r.1.path;
+          leads = r.1.leads;
         },
       )
 

@@ -197,7 +197,7 @@ module _ (file : List (ModuleOf ℕ)) (top : ModuleOf ℕ)
       lawful_below (front ++ h.0.id.name ∷ []) path h.1 h.2 n t
       (one_further file top (scope_with [] top) front m s h.0 h.1 h.2 there h.4) (lawful_child front m s h.0 h.1 h.2 there l h.4) h.5
 
-  pub lawful_at : (path : Full) (m : ModuleOf ℕ) (s : Scope) → IsAt file top path m s → is_lawful_scope s ≡ true
+  lawful_at : (path : Full) (m : ModuleOf ℕ) (s : Scope) → IsAt file top path m s → is_lawful_scope s ≡ true
   lawful_at path m s there = lawful_below [] path top (scope_with [] top) m s (refl, refl) lawful_top there
 
 sound_at : (is : List ModuleInstance) → instance_findings is ≡ [] → (m : ModuleOf ℕ) (s : Scope) (i : ModuleInstance) → Contains is i
