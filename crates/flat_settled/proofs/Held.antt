@@ -1,6 +1,6 @@
 -- What the state holds is the same in the design and in the file.
-use Rattle.std.proofs.Common.{◌≡◌, ℕ, ◌+◌, ◌<◌, ◌≤◌, ◌↔◌, ◌⊎◌, ⊎_elim, Bool, true, false, nat_lt, ◌&&◌, List, [], ◌∷◌, ◌++◌, map}
-use Rattle.std.proofs.Common.{length, get_or, Option, Some, None, refl, ap, sym, subst, ◌∙◌, arith, slice_get}
+use Rattle.std.proofs.Common.{◌≡◌, ℕ, ◌+◌, ◌<◌, ◌≤◌, ◌↔◌, ⊎_elim, true, nat_lt, ◌&&◌, List, [], ◌∷◌, ◌++◌}
+use Rattle.std.proofs.Common.{length, get_or, Some, ap, sym, subst, ◌∙◌, arith, slice_get}
 use Rattle.std.specs.Int.{bit_at}
 use Rattle.std.specs.List.{AllByRecursion, Contains}
 use Rattle.std.proofs.lemmas.Bool.{cases_lt}
@@ -18,7 +18,7 @@ use Rattle.net_design.specs.Settled.{held}
 use Rattle.vlog_elab.specs.Instances.{ModuleInstance}
 use Rattle.vlog_meaning.specs.Names.{Full}
 use Rattle.vlog_meaning.specs.Settled.{is_held}
-use Rattle.flat_parts.specs.Seats.{Seat, seats_of, spot_at}
+use Rattle.flat_parts.specs.Seats.{Seat, seats_of}
 use Rattle.flat_parts.specs.Nets.{flat_nets}
 use Rattle.flat_parts.specs.Meaning.{values_of}
 use Rattle.flat_parts.specs.Laws.{numbers_of, IsNetOf}

@@ -1,19 +1,15 @@
 -- The duties of the drivers hold exactly where the items of all instances do.
 use Rattle.std.proofs.Common.{◌≡◌, ◌≢◌, ℕ, ◌↔◌, List, [], ◌∷◌, ◌++◌, Some, refl, ap, sym, subst, ◌∙◌}
-use Rattle.std.specs.List.{AllByRecursion, AllPairs, Contains, flat_map}
+use Rattle.std.specs.List.{AllByRecursion, AllPairs, Contains}
 use Rattle.vlog_tree.specs.Tree.{InstanceOf, ItemOf, WiresItem, DrivenWiresItem, RegsItem, LocalparamsItem, AssignItem, AlwaysItem}
 use Rattle.vlog_tree.specs.Tree.{InstanceItem, ModuleOf}
 use Rattle.vlog_size.specs.declared.scope.Scope.{Scope}
-use Rattle.vlog_names.specs.Entries.{declared}
 use Rattle.vlog_scope.specs.Scope.{readable_at, scope_of, scope_with}
-use Rattle.net_design.specs.declared.values.Values.{Values}
 use Rattle.vlog_elab.specs.Instances.{ModuleInstance}
 use Rattle.vlog_meaning.specs.Names.{Full, numbers_at}
 use Rattle.vlog_meaning.specs.Placed.{Placed, placed_items, names_at}
 use Rattle.vlog_meaning.specs.Instances.{IsChild, IsAt}
 use Rattle.vlog_meaning.specs.Items.{ConnsHold, HoldsAt, ItemHolds}
-use Rattle.vlog_driver.specs.Spots.{Spot}
-use Rattle.vlog_driver.specs.Duties.{Duty, conn_duties}
 use Rattle.vlog_driver.specs.Held.{DutyHolds, DutiesHold, IsNoInstance, StandsAt, item_duties}
 use Rattle.vlog_driver.proofs.Held.{items_are, conns_are}
 use Rattle.flat_parts.specs.Seats.{Seat, seats_of, spot_at, seat_named}

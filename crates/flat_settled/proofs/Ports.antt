@@ -1,7 +1,7 @@
 -- The top's ports are its first nets, and so the design's.
 use Rattle.std.proofs.Common.{◌≡◌, ℕ, zero, suc, Bool, true, false, if◌then◌else◌, List, [], ◌∷◌, ◌++◌, map, get_or, Option, Some, None}
 use Rattle.std.proofs.Common.{is_some, length, refl, ap, sym, subst, ◌∙◌, append_assoc, slice_get}
-use Rattle.std.specs.List.{AllByRecursion, Contains, flat_map}
+use Rattle.std.specs.List.{AllByRecursion}
 use Rattle.std.specs.Str.{bytes_eq}
 use Rattle.std.proofs.lemmas.List.{map-append, append-nil}
 use Rattle.vlog_tree.specs.Tree.{IdentOf, NamedValueOf, RegTailOf, InitTail, MemoryTail, Reg1Of, PortOf}
@@ -9,7 +9,7 @@ use Rattle.vlog_tree.specs.Tree.{ItemOf, WiresItem, DrivenWiresItem, RegsItem, L
 use Rattle.vlog_tree.specs.Tree.{ModuleOf}
 use Rattle.vlog_size.specs.declared.scope.ScopeNet.{ScopeNet}
 use Rattle.vlog_size.specs.declared.scope.Scope.{Scope}
-use Rattle.vlog_size.specs.Table.{Named, value_of, added}
+use Rattle.vlog_size.specs.Table.{Named, value_of}
 use Rattle.vlog_size.proofs.Lists.{nil_left, nil_right, untold}
 use Rattle.vlog_names.specs.declared.declaration.Declaration.{Declaration}
 use Rattle.vlog_names.specs.declared.error.NameError.TheVariants as error
@@ -21,13 +21,12 @@ use Rattle.vlog_scope.specs.Extents.{extent_of, port_extent, net_width}
 use Rattle.vlog_scope.specs.Params.{header_params, items_params}
 use Rattle.vlog_scope.specs.Scope.{declared_in, with_net, with_port, with_ports, wire_nets, driven_nets, with_reg, with_regs, with_item}
 use Rattle.vlog_scope.specs.Scope.{with_items, params_scope, scope_with}
-use Rattle.net_design.specs.declared.design.Port.{Port}
 use Rattle.net_design.specs.declared.design.Direction.TheVariants.{Input, Output}
 use Rattle.net_design.specs.Settled.{same_direction, pins_of}
 use Rattle.vlog_meaning.specs.Names.{Name}
 use Rattle.vlog_meaning.specs.Settled.{is_input, input_names}
 use Rattle.flat_parts.specs.Nets.{port_of}
-use Rattle.flat_settled.proofs.Lists.{each_weaker, map_map}
+use Rattle.flat_settled.proofs.Lists.{each_weaker}
 
 abbrev pub names : {V : Type 0} → List (Named V) → List Name
 names {V} xs = map (λ (x : Named V). x.name) xs

@@ -1,7 +1,7 @@
 -- The design settles as the file does.
-use Rattle.std.proofs.Common.{◌≡◌, ◌≢◌, ℕ, ◌↔◌, List, [], ◌∷◌, ◌++◌, map, get_or, Some, refl, ap, sym, subst, ◌∙◌}
+use Rattle.std.proofs.Common.{◌≡◌, ℕ, ◌↔◌, List, [], ◌∷◌, ◌++◌, map, get_or, Some, refl, ap, sym, subst, ◌∙◌}
 use Rattle.std.proofs.Common.{slice_get, append_assoc, true}
-use Rattle.std.specs.List.{AllByRecursion, All, Contains, flat_map}
+use Rattle.std.specs.List.{All, Contains, flat_map}
 use Rattle.std.proofs.lemmas.List.{map-append}
 use Rattle.std.proofs.lemmas.Option.{slice_get_within, get_or_from_slice_get}
 use Rattle.vlog_tree.specs.Tree.{ModuleOf, FileOf}
@@ -28,7 +28,7 @@ use Rattle.vlog_meaning.specs.Settled.{inputs_of, IsClock}
 use Rattle.vlog_meaning.specs.Settled as meaning
 use Rattle.vlog_driver.specs.Held.{DutiesHold}
 use Rattle.vlog_driver.proofs.Held.{drivers_do}
-use Rattle.flat_parts.specs.Seats.{Seat, seats_of}
+use Rattle.flat_parts.specs.Seats.{seats_of}
 use Rattle.flat_parts.specs.Nets.{port_of}
 use Rattle.flat_parts.specs.Drivers.{all_duties}
 use Rattle.flat_parts.specs.Built.{IsBuilt}
@@ -39,10 +39,10 @@ use Rattle.flat_settled.specs.Settled.{AreNarrow, NarrowByLaws, SettledByLaws}
 use Rattle.flat_settled.proofs.Lists.{then_so, members, all_each, map_map}
 use Rattle.flat_settled.proofs.Paths.{over_instances, each_seat}
 use Rattle.flat_settled.proofs.Unfound.{once_in, child_declared, lawful_scopes}
-use Rattle.flat_settled.proofs.Fits.{FitAt, fit_alike, IsLawfulOf, NarrowAt, NarrowOf, memory_narrow, numbers_narrow}
+use Rattle.flat_settled.proofs.Fits.{FitAt, fit_alike, NarrowAt, memory_narrow, numbers_narrow}
 use Rattle.flat_settled.proofs.Ports.{names, ports_first, pins_are, port_number, inputs_placed}
 use Rattle.flat_settled.proofs.Items.{AreInstances, Stand, ItemsHold, duties_alike}
-use Rattle.flat_settled.proofs.Held.{HeldAt, HeldOf, DesignHolds, held_alike}
+use Rattle.flat_settled.proofs.Held.{HeldAt, DesignHolds, held_alike}
 
 top_there : (file : FileOf ℕ) (name : List ℕ) (top : ModuleOf ℕ) → IsTop file name top → Contains file.modules top
 top_there file name top h =

@@ -1,6 +1,6 @@
 -- What holds of a file in which no reason holds: the modules of its instances are declared, its names differ, and its scopes are lawful.
-use Rattle.std.proofs.Common.{◌≡◌, ℕ, zero, suc, ◌+◌, ◌<◌, ◌↔◌, Bool, true, false, ◌&&◌, if◌then◌else◌, List, [], ◌∷◌, ◌++◌, map, length}
-use Rattle.std.proofs.Common.{get_or, Option, Some, None, is_none, refl, ap, sym, subst, ◌∙◌, arith}
+use Rattle.std.proofs.Common.{◌≡◌, ℕ, zero, ◌↔◌, Bool, true, false, if◌then◌else◌, List, [], ◌∷◌, ◌++◌, map}
+use Rattle.std.proofs.Common.{Option, Some, None, is_none, refl, ap, sym, subst, ◌∙◌, arith}
 use Rattle.std.specs.List.{AllByRecursion, Contains, flat_map}
 use Rattle.std.specs.Str.{bytes_eq}
 use Rattle.std.proofs.lemmas.List.Elements.{Contains-append_right}
@@ -18,7 +18,7 @@ use Rattle.vlog_names.specs.Twice.{twice_name, twice_in, twice_modules, twice_na
 use Rattle.vlog_scope.specs.declared.fault.FaultKind.{FaultKind}
 use Rattle.vlog_scope.specs.declared.fault.FaultKind.TheVariants.{Constant, Width}
 use Rattle.vlog_scope.specs.declared.extent.Extent.TheVariants.{NoRange}
-use Rattle.vlog_scope.specs.Scope.{readable_at, after_item, scope_with, scope_of}
+use Rattle.vlog_scope.specs.Scope.{readable_at, after_item, scope_with}
 use Rattle.vlog_scope.specs.Faults.{parameters_faults, ports_faults, override_faults, conn_faults, item_faults, items_faults, scope_faults}
 use Rattle.vlog_scope.specs.Faults.{const_faults, width_faults}
 use Rattle.vlog_scope.proofs.LawfulPlaces.{lawful_scope, lawful_declared}
@@ -30,7 +30,7 @@ use Rattle.vlog_meaning.specs.Names.{Full}
 use Rattle.vlog_meaning.specs.Placed.{Placed, placed, placed_items}
 use Rattle.vlog_meaning.specs.Instances.{IsChild, Leads, IsAt}
 use Rattle.flat_parts.specs.Laws.{IsListed}
-use Rattle.flat_settled.proofs.Lists.{each_map, members}
+use Rattle.flat_settled.proofs.Lists.{members}
 use Rattle.flat_settled.proofs.Paths.{one_further}
 
 -- ---- lists of findings
