@@ -1,0 +1,19 @@
+-- Why a file with a top is refused: the reasons over the text, and then those over the code that its items make (this project's profile).
+use Rattle.std.specs.Prelude.{◌≡◌, ℕ, List, []}
+use Rattle.vlog_tree.specs.Tree.{FileOf}
+use Rattle.vlog_elab.specs.declared.error.ElabError.{ElabError}
+use Rattle.vlog_elab.specs.Answered.{IsFirst}
+use Rattle.vlog_elab.specs.Reasons as elab
+use Rattle.vlog_elab.specs.Reasons.{Then}
+
+-- placeholder
+unfoldable pub code_findings : FileOf ℕ → List ℕ → List ElabError
+code_findings file top = []
+
+-- the first reason, in the order E3, E4, E7, E11, E12 of instances and nets, E5, E6, E12 of words, E13, E9, E8
+abbrev pub Refused : FileOf ℕ → List ℕ → ElabError → Type 0
+Refused file top error = Then (elab.Refused file top) (elab.Clear file top) (IsFirst (code_findings file top)) error
+
+-- no reason holds
+abbrev pub Clear : FileOf ℕ → List ℕ → Type 0
+Clear file top = elab.Clear file top × (code_findings file top ≡ [])
