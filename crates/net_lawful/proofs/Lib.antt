@@ -1,0 +1,4 @@
+pub mod MaskTests
+pub mod RoomLaws
+pub mod RegisterLaws
+pub mod WordRows

@@ -1,0 +1,5 @@
+pub mod Frame
+pub mod Rooms
+pub mod Masks
+pub mod State
+pub mod Words

@@ -1,0 +1,13 @@
+//! Whether a flat design is lawful, clause by clause.
+//!
+//! `frame` looks at names, nets, memories, ports and the clock, `registers` at the state, `range` and `words` at statements, `code` at
+//! drivers and clocked blocks, `driven` at who writes each bit of each net, and `lawful` puts all together.
+#![tactic(auto)]
+
+mod masks;
+mod frame;
+mod range;
+mod registers;
+mod rooms;
+mod words;
+
