@@ -24,7 +24,7 @@ below_power n w = (
 )
 
 -- numbers that have the same bits are the same
-by_has : (a b : ℕ) → ((k : ℕ) → has a k ≡ has b k) → a ≡ b
+pub by_has : (a b : ℕ) → ((k : ℕ) → has a k ≡ has b k) → a ≡ b
 by_has a b same = same_from_bits a b (λ k. bit a b k (same k))
   where
     bit : (a b k : ℕ) → has a k ≡ has b k → bit_at a k ≡ bit_at b k

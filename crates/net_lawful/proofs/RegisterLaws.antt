@@ -50,6 +50,10 @@ no_stray held number = (
 pub one_key : (key m : ℕ) → ((key == m) && has 1 0) ≡ (key == m)
 one_key key m = sym (and_true (key == m))
 
+pub not_new : (b x : Bool) → (IsTrue b ↔ (x ≡ false)) → b ≡ false → x ≡ true
+not_new b true e h = refl
+not_new b false e h = absurd (not_both b (e.1 refl) h)
+
 -- bit 0 alone
 pub first_alone : (mask k : ℕ) → has mask 0 ≡ false → has 1 k ≡ true → has mask k ≡ false
 first_alone mask zero h t = h
@@ -59,6 +63,24 @@ first_alone mask (suc k) h t =
 
 module _ (rs : List Register) (i : ℕ) (r : Register) (here : i < length rs) (is : r ≡ get_or rs i r) (seen : BitMap)
     (so_far : (m : ℕ) → in_map seen m 0 ≡ list_any (λ (x : Register). x.net == m) (take i rs)) where
+  -- the net wasn't there before
+  pub differ_more : in_map seen r.net 0 ≡ false
+      → ((j k : ℕ) (d : Register) → j < k → k < i → (get_or rs j d).net ≢ (get_or rs k d).net)
+      → (j k : ℕ) (d : Register) → j < k → k < i + 1 → (get_or rs j d).net ≢ (get_or rs k d).net
+  differ_more new each j k d before within = ⊎_elim
+      (λ (l : k < i). each j k d before l)
+      (λ (g : i ≤ k). λ (e : (get_or rs j d).net ≡ (get_or rs k d).net).
+      let last : k ≡ i = omega (arith, g, within) in
+      let front : j < i = omega (arith, before, last) in
+      let at : get_or (take i rs) j d ≡ get_or rs j d = get_or-take i rs j d front in
+      let here_k : get_or rs k d ≡ r = ap (λ n. get_or rs n d) last ∙ get_or_default rs i d r here ∙ sym is in
+      let same : (get_or (take i rs) j d).net ≡ r.net = ap (λ (y : Register). y.net) at ∙ e ∙ ap (λ (y : Register). y.net) here_k in
+      let long : length (take i rs) ≡ i = length-take-le i rs (omega (arith, here)) in
+      let there : list_any (λ (x : Register). x.net == r.net) (take i rs) ≡ true =
+      list_any_at (λ (x : Register). x.net == r.net) (take i rs) j d (omega (arith, front, long)) (eq-eqb _ _ same) in
+      not_both (in_map seen r.net 0) (so_far r.net ∙ there) new)
+      (cases_lt k i)
+
   -- the net was there before
   pub seen_before : in_map seen r.net 0 ≡ true → NetsDiffer rs → ⊥
   seen_before t differ =

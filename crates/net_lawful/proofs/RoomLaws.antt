@@ -1,7 +1,10 @@
 -- Memories that are found by their first words.
-use Rattle.std.proofs.Common.{◌≡◌, ℕ, ◌+◌, ◌<◌, ◌≤◌, ◌==◌, ◌&&◌, ◌||◌, nat_le, Bool, true, false, List, All, Some, length, get_or, take, slice_get}
+use Rattle.std.proofs.Common.{◌≡◌, ℕ, ◌+◌, ◌<◌, ◌≤◌, ◌==◌, ◌&&◌, ◌||◌, nat_le, Bool, true, false, List, [], All, Some, length, get_or, take, slice_get}
 use Rattle.std.proofs.Common.{if◌then◌else◌, refl, ap, sym, subst, ◌∙◌, ⊎_elim, arith}
 use Rattle.std.specs.List.{list_any, sum_by}
+use Rattle.std.specs.Ordering.{nat_cmp}
+use Rattle.std.specs.Map.{lookup}
+use Rattle.std.specs.BTreeMap.{is_at}
 use Rattle.std.proofs.lemmas.Bool.{cases_lt, eqb-true}
 use Rattle.std.proofs.lemmas.Option.{get_or_from_slice_get}
 use Rattle.std.proofs.lemmas.List.{get_or-take, take-take, length-take-le}
@@ -13,10 +16,11 @@ use Rattle.net_design.proofs.BoolLaws.{by_true, and_parts, or_none}
 use Rattle.net_design.proofs.LawfulCode.{slice_get-at}
 use Rattle.net_lawful.specs.declared.rooms.Rooms.{Rooms}
 use Rattle.net_lawful.specs.Frame.{HaveRooms}
-use Rattle.net_lawful.specs.Rooms.{extent_at, extent_of, has_room, is_extent}
+use Rattle.net_lawful.specs.Rooms.{extent_at, extent_of, has_room, is_extent, is_room_of}
 
-abbrev pub is_room_of : Room → ℕ → DesignMemory → Bool
-is_room_of r n a = (a.room.first == r.first) && ((a.room.length == r.length) && nat_le n a.width)
+pub no_rooms : (rooms : Rooms) → rooms.extents.entries ≡ [] → (r : Room) (n : ℕ) → has_room rooms r n ≡ false
+unfolding has_room
+no_rooms rooms h r n = ap (λ es. is_extent (lookup (is_at (nat_cmp r.first)) es) r.length n) h
 
 abbrev words : DesignMemory → ℕ
 words a = a.room.length

@@ -3,3 +3,5 @@ pub mod Rooms
 pub mod Masks
 pub mod State
 pub mod Words
+pub mod Coded
+pub mod Driven

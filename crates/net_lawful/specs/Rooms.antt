@@ -31,6 +31,10 @@ is_extent (Some e) length n = (e.length == length) && nat_le n e.width
 unfoldable pub has_room : Rooms → Room → ℕ → Bool
 has_room rooms r n = is_extent (extent_at rooms r.first) r.length n
 
+-- one of the design's memories has these words, and n bits or more in each
+abbrev pub is_room_of : Room → ℕ → DesignMemory → Bool
+is_room_of r n a = (a.room.first == r.first) && ((a.room.length == r.length) && nat_le n a.width)
+
 -- ---- code in range of a design's nets, and of memories that are found
 
 abbrev pub IsSpan : Design → Span → Type 0

@@ -5,9 +5,15 @@
 #![tactic(auto)]
 
 mod masks;
+mod code;
+mod driven;
 mod frame;
+mod lawful;
+mod places;
 mod range;
 mod registers;
 mod rooms;
 mod words;
 
+
+pub use lawful::is_lawful;

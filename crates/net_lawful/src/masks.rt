@@ -35,7 +35,7 @@ pub fn is_within(a: u128, b: u128) -> bool
 }
 
 /// Whether no bit that a mask names is in a set.
-fn mask_apart(mask: Mask, set: &BitMap) -> bool
+pub fn mask_apart(mask: Mask, set: &BitMap) -> bool
     ensures { IsTrue result ↔ MaskIs set.now false mask }
 {
     is_apart(mask.bits, set.mask(mask.net))
