@@ -1,5 +1,5 @@
 -- Code in range of a design, and what its masks say.
-use Rattle.std.proofs.Common.{◌≡◌, ℕ, ◌+◌, ◌^◌, ◌<◌, ◌≤◌, ◌↔◌, Bool, true, false, IsTrue, List, All, Some, length, get_or, take, slice_get}
+use Rattle.std.proofs.Common.{◌≡◌, ℕ, ◌+◌, ◌^◌, ◌<◌, ◌≤◌, ◌↔◌, Bool, true, IsTrue, List, Some, length, get_or, take, slice_get}
 use Rattle.std.proofs.Common.{ap, sym, subst, ◌∙◌, arith}
 use Rattle.std.specs.List.{sum_by}
 use Rattle.std.proofs.lemmas.Bool.{leb-true, ltb-true, eqb-true}
@@ -24,7 +24,7 @@ use Rattle.net_code.specs.declared.bit_map.BitMap.{BitMap}
 use Rattle.net_code.specs.BitMap.{in_map}
 use Rattle.net_lawful.specs.declared.rooms.Rooms.{Rooms}
 use Rattle.net_lawful.specs.Frame.{IsFramed}
-use Rattle.net_lawful.specs.Rooms.{IsSpan, IsRoom, IsBlockIn, has_room}
+use Rattle.net_lawful.specs.Rooms.{IsSpan, IsRoom, IsBlockIn}
 use Rattle.net_lawful.specs.Coded.{AreRooms, HaveBits}
 use Rattle.net_lawful.proofs.RegisterLaws.{framed_width}
 
@@ -78,7 +78,8 @@ pub meets_set : (set : BitMap) (p : BitSet) (masks : List Mask) (b : Bool) → (
 meets_set set p masks b same = ((λ h m k t. sym (same m k) ∙ h m k t), (λ h m k t. same m k ∙ h m k t))
 
 -- ---- masks of a driver or a block
-pub driver_bits : (d : Design) → HaveBits d → (k : ℕ) (x : Driver) → k < length d.drivers → x ≡ get_or d.drivers k x → HasBits Blocking x.code
+pub driver_bits : (d : Design) → HaveBits d → (k : ℕ) (x : Driver) → k < length d.drivers → x ≡ get_or d.drivers k x
+    → HasBits Blocking x.code
 driver_bits d have k x l e = subst (λ (y : Driver). HasBits Blocking y.code) (sym e) (have.drivers k x l)
 
 pub block_bits : (d : Design) → HaveBits d → (k : ℕ) (c : Code) → k < length d.blocks → c ≡ get_or d.blocks k c → HasBits Nonblocking c

@@ -1,14 +1,13 @@
 -- Bits that drivers write, counted.
-use Rattle.std.proofs.Common.{◌≡◌, ℕ, zero, suc, ◌+◌, ◌-◌, ◌^◌, ◌<◌, ◌≤◌, ◌==◌, ◌&&◌, ◌||◌, ◌⊎◌, inl, inr, ◌↔◌, not, nat_lt, cond, Bool, true, false, IsTrue, bit_and}
-use Rattle.std.proofs.Common.{List, [], ◌∷◌, Option, None, Some, All, length, get_or, take, map, slice_index, slice_get, ⊎_elim, refl, ap, sym, subst, ◌∙◌, arith}
-use Rattle.std.specs.Int.{bit_at}
-use Rattle.std.specs.List.{count_by, list_any}
+use Rattle.std.proofs.Common.{◌≡◌, ℕ, zero, suc, ◌+◌, ◌-◌, ◌^◌, ◌<◌, ◌≤◌, ◌==◌, ◌&&◌, ◌||◌, inl, inr, ◌↔◌}
+use Rattle.std.proofs.Common.{not, nat_lt, cond, Bool, true, false, IsTrue, bit_and}
+use Rattle.std.proofs.Common.{List, [], ◌∷◌, All, length, get_or, take, map, slice_index, ⊎_elim, refl, ap, sym, subst, ◌∙◌, arith}
+use Rattle.std.specs.List.{count_by}
 use Rattle.std.proofs.lemmas.Bool.{cases_lt, eqb-true, eq-eqb, ltb-true, lt-ltb}
 use Rattle.std.proofs.lemmas.List.Folds.{Any-from_list_any}
 use Rattle.std.proofs.lemmas.List.Sums.{count_by_more_yes, count_by_more_no}
 use Rattle.std.proofs.lemmas.Nat.Bits.{bit_at_ones, bit_at_ones_above}
 use Rattle.std.proofs.lemmas.Option.{slice_get_past}
-use Rattle.net_design.specs.declared.act.Mask.{Mask}
 use Rattle.net_design.specs.declared.design.Driver.{Driver}
 use Rattle.net_design.specs.declared.design.Net.{Net}
 use Rattle.net_design.specs.declared.design.Register.{Register}
@@ -16,7 +15,7 @@ use Rattle.net_design.specs.declared.design.Design.{Design}
 use Rattle.vlog_operators.specs.Number.{has}
 use Rattle.net_design.specs.Bits.{named}
 use Rattle.net_design.specs.Settled.{held, net_width}
-use Rattle.net_design.specs.Lawful.{IsBit, IsRegister, is_input, is_input_port}
+use Rattle.net_design.specs.Lawful.{is_input, is_input_port}
 use Rattle.net_design.proofs.BoolLaws.{by_true, not_both, and_parts, and_both, or_none, same_test}
 use Rattle.net_code.specs.declared.bit_map.BitMap.{BitMap}
 use Rattle.net_code.specs.BitMap.{mask_of, in_map}
@@ -24,9 +23,8 @@ use Rattle.net_code.proofs.MaskLaws.{has_and, has_less, has_zero}
 use Rattle.net_lawful.specs.declared.driven.Tally.{Tally}
 use Rattle.net_lawful.specs.Frame.{IsFramed}
 use Rattle.net_lawful.specs.State.{HasState}
-use Rattle.net_lawful.specs.Coded.{IsHeld}
 use Rattle.net_lawful.specs.Driven.{writers, IsTally, RestDriven, AreDriven, IsNetDriven, IsDriven}
-use Rattle.net_lawful.proofs.MaskTests.{net_is, by_has}
+use Rattle.net_lawful.proofs.MaskTests.{by_has}
 
 -- ---- bits that are in a set already
 
@@ -138,8 +136,7 @@ not_false false h = refl
 pub rest_bits : (width held : ℕ) → 2 ^ width - 1 < 2 ^ 128 → held < 2 ^ 128
     → IsRest width held (bit_and (2 ^ width - 1) (2 ^ 128 - 1 - held))
 rest_bits width held l h k =
-    let is = has_less (2 ^ width - 1) held k l h in
-    (
+    let is = has_less (2 ^ width - 1) held k l h in (
       (λ t. let u = and_parts (has (2 ^ width - 1) k) (not (has held k)) (sym is ∙ t) in
           ((first_bits width k).0 u.0, not_true (has held k) u.1)),
       (λ w. is ∙ and_both (has (2 ^ width - 1) k) (not (has held k)) ((first_bits width k).1 w.0) (not_false (has held k) w.1)),
@@ -184,8 +181,7 @@ net_driven_is d m input width h once more input_is width_is held_is once_is more
   }),
   (λ n. record {
     driven = λ k l no out.
-        let one = n.driven k (subst (λ w. k < w) width_is l) (sym input_is ∙ no) (sym (held_is k) ∙ out) in
-        (
+        let one = n.driven k (subst (λ w. k < w) width_is l) (sym input_is ∙ no) (sym (held_is k) ∙ out) in (
           once_is k ∙ ap (nat_lt 0) one,
           more_is k ∙ ap (nat_lt 1) one,
         );
@@ -207,7 +203,8 @@ width_past [] m l = refl
 width_past (n ∷ ns) zero l = absurd (omega arith)
 width_past (n ∷ ns) (suc m) l = width_past ns m (omega arith)
 
-some_width : (ns : List Net) → All (λ (n : Net). 1 ≤ n.width) ns → (m : ℕ) → m < length ns → 1 ≤ slice_index (map (λ (n : Net). n.width) ns) m
+some_width : (ns : List Net) → All (λ (n : Net). 1 ≤ n.width) ns → (m : ℕ) → m < length ns
+    → 1 ≤ slice_index (map (λ (n : Net). n.width) ns) m
 some_width [] h m l = absurd (omega arith)
 some_width (n ∷ ns) h zero l = h zero n (omega arith)
 some_width (n ∷ ns) h (suc m) l = some_width ns (λ k d w. h (suc k) d (omega arith)) m (omega arith)

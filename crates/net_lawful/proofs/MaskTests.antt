@@ -6,7 +6,7 @@ use Rattle.std.proofs.Math.Nat.{div-eq_of_lt}
 use Rattle.std.proofs.lemmas.Bool.{cases_lt, eqb-true, eq-eqb}
 use Rattle.std.proofs.lemmas.List.Folds.{Any-from_list_any, list_any_at}
 use Rattle.std.proofs.lemmas.Nat.{pow_pos, mod_below, shr_split}
-use Rattle.std.proofs.lemmas.Nat.Bits.{bit_at_and, bit_at-lt, same_from_bits, bit_at-zero}
+use Rattle.std.proofs.lemmas.Nat.Bits.{bit_at-lt, same_from_bits}
 use Rattle.net_design.specs.declared.act.Mask.{Mask}
 use Rattle.vlog_operators.specs.Number.{has}
 use Rattle.net_design.specs.Bits.{named}

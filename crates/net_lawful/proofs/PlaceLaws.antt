@@ -1,5 +1,5 @@
 -- Places that name no bit twice.
-use Rattle.std.proofs.Common.{◌≡◌, ◌≢◌, ℕ, zero, suc, ◌+◌, ◌<◌, ◌≤◌, ◌==◌, ◌&&◌, ◌||◌, ◌↔◌, Bool, true, false, List, [], ◌∷◌, length, get_or, drop}
+use Rattle.std.proofs.Common.{◌≡◌, ◌≢◌, ℕ, ◌+◌, ◌<◌, ◌==◌, ◌&&◌, ◌||◌, ◌↔◌, Bool, true, false, List, [], ◌∷◌, length, get_or, drop}
 use Rattle.std.proofs.Common.{refl, ap, sym, subst, ◌∙◌, arith}
 use Rattle.std.specs.List.{AllByRecursion}
 use Rattle.std.proofs.lemmas.Bool.{eqb-true, eq-eqb}
@@ -60,11 +60,14 @@ module _ (p : Place) (ps : List Place) (seen new : BitMap)
     (grew : (m k : ℕ) → in_map new m k ≡ (in_map seen m k || place_writes p m k)) where
   pub left_more : ((m k : ℕ) → place_writes p m k ≡ true → in_map seen m k ≡ false) → IsLeft seen (p ∷ ps) ↔ IsLeft new ps
   left_more apart = (
-    (λ h. (h.0.1, (λ m k t. by_true (target_writes ps m k) (λ u.
-        let s : in_map seen m k ≡ false = by_true (in_map seen m k) (λ v. not_both (target_writes ps m k) u
-        (or_parts (place_writes p m k) (target_writes ps m k) (h.1 m k v)).1) in
-        let w : place_writes p m k ≡ true = either (in_map seen m k) (place_writes p m k) (sym (grew m k) ∙ t) s in
-        not_both (target_writes ps m k) u (h.0.0 m k w))))),
+    (λ h. (
+      h.0.1,
+      (λ m k t. by_true (target_writes ps m k) (λ u.
+          let s : in_map seen m k ≡ false = by_true (in_map seen m k) (λ v. not_both (target_writes ps m k) u
+          (or_parts (place_writes p m k) (target_writes ps m k) (h.1 m k v)).1) in
+          let w : place_writes p m k ≡ true = either (in_map seen m k) (place_writes p m k) (sym (grew m k) ∙ t) s in
+          not_both (target_writes ps m k) u (h.0.0 m k w))),
+    )),
     (λ h. (
       ((λ m k t. h.1 m k (grew m k ∙ or_right (in_map seen m k) (place_writes p m k) t)), h.0),
       (λ m k t. neither (place_writes p m k) (target_writes ps m k)
@@ -86,15 +89,15 @@ module _ (xs : List Place) (i : ℕ) (p : Place) (here : i < length xs) (is : p 
   pub place_sized : AllByRecursion (λ (y : Place). IsSizedPlace y) (drop i xs) → IsSizedPlace p
   place_sized h = (subst (AllByRecursion (λ (y : Place). IsSizedPlace y)) front h).0
 
-  pub rest_sized : AllByRecursion (λ (y : Place). IsSizedPlace y) (drop i xs) → AllByRecursion (λ (y : Place). IsSizedPlace y) (drop (i + 1) xs)
+  pub rest_sized : AllByRecursion (λ (y : Place). IsSizedPlace y) (drop i xs)
+      → AllByRecursion (λ (y : Place). IsSizedPlace y) (drop (i + 1) xs)
   rest_sized h = (subst (AllByRecursion (λ (y : Place). IsSizedPlace y)) front h).1
 
   pub one_left : (new : BitMap) → ((m k : ℕ) → in_map new m k ≡ (in_map seen m k || place_writes p m k))
       → ((m k : ℕ) → place_writes p m k ≡ true → in_map seen m k ≡ false)
       → (IsLeft seen (drop i xs) ↔ Apart xs) → (IsLeft new (drop (i + 1) xs) ↔ Apart xs)
   one_left new grew apart all =
-      let e = left_more p (drop (i + 1) xs) seen new grew apart in
-      (
+      let e = left_more p (drop (i + 1) xs) seen new grew apart in (
         (λ h. all.0 (subst (IsLeft seen) (sym front) (e.1 h))),
         (λ h. e.0 (subst (IsLeft seen) front (all.1 h))),
       )

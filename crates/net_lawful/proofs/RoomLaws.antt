@@ -1,5 +1,6 @@
 -- Memories that are found by their first words.
-use Rattle.std.proofs.Common.{◌≡◌, ℕ, ◌+◌, ◌<◌, ◌≤◌, ◌==◌, ◌&&◌, ◌||◌, nat_le, Bool, true, false, List, [], All, Some, length, get_or, take, slice_get}
+use Rattle.std.proofs.Common.{◌≡◌, ℕ, ◌+◌, ◌<◌, ◌≤◌, ◌==◌, ◌&&◌, ◌||◌, nat_le, Bool, true, false, List, [], All}
+use Rattle.std.proofs.Common.{Some, length, get_or, take, slice_get}
 use Rattle.std.proofs.Common.{if◌then◌else◌, refl, ap, sym, subst, ◌∙◌, ⊎_elim, arith}
 use Rattle.std.specs.List.{list_any, sum_by}
 use Rattle.std.specs.Ordering.{nat_cmp}
@@ -27,7 +28,8 @@ words a = a.room.length
 
 -- ---- one memory after the other
 
-module _ (ms : List DesignMemory) (i : ℕ) (a : DesignMemory) (total : ℕ) (is : a ≡ get_or ms i a) (so_far : total ≡ sum_by words (take i ms)) where
+module _ (ms : List DesignMemory) (i : ℕ) (a : DesignMemory) (total : ℕ) (is : a ≡ get_or ms i a)
+    (so_far : total ≡ sum_by words (take i ms)) where
   pub words_more : i < length ms → total + words (get_or ms i a) ≡ sum_by words (take (i + 1) ms)
   words_more l = ap (λ n. n + words (get_or ms i a)) so_far ∙ sym (sum_by_more words ms i a l)
 

@@ -1,5 +1,5 @@
 -- The clauses of lawful designs that speak of code.
-use Rattle.std.specs.Prelude.{◌≡◌, ℕ, ◌↔◌, true, false, List, All}
+use Rattle.std.specs.Prelude.{◌≡◌, ℕ, true, false, All}
 use Rattle.net_design.specs.declared.rhs.Room.{Room}
 use Rattle.net_design.specs.declared.act.Code.{Code}
 use Rattle.net_design.specs.declared.act.Timing.TheVariants.{Blocking, Nonblocking}

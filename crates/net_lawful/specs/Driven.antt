@@ -5,7 +5,7 @@ use Rattle.net_design.specs.declared.design.Driver.{Driver}
 use Rattle.net_design.specs.declared.design.Design.{Design}
 use Rattle.vlog_operators.specs.Number.{has}
 use Rattle.net_design.specs.Bits.{named}
-use Rattle.net_design.specs.Settled.{held, net_width}
+use Rattle.net_design.specs.Settled.{held}
 use Rattle.net_design.specs.Lawful.{IsBit, is_input}
 use Rattle.net_code.specs.BitMap.{in_map}
 use Rattle.net_lawful.specs.declared.driven.Tally.{Tally}

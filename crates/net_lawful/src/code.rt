@@ -57,12 +57,7 @@ fn is_proper(alloc: Global, driver: &Driver) -> Result<bool, Memory>
 }
 
 /// Whether a driver is lawful.
-fn is_driver(
-    alloc: Global,
-    design: &Design,
-    rooms: &Rooms,
-    driver: &Driver,
-) -> Result<bool, Memory>
+fn is_driver(alloc: Global, design: &Design, rooms: &Rooms, driver: &Driver) -> Result<bool, Memory>
     requires framed { IsFramed design.now }
     requires rooms { AreRooms design.now rooms.now }
     requires bits { HasBits Blocking driver.now.code }

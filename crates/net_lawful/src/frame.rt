@@ -58,9 +58,7 @@ fn are_nets(nets: &[Net], instances: usize) -> bool
 fn are_memories(memories: &[DesignMemory], instances: usize) -> bool
     ensures { IsTrue result ↔ AreMemories instances memories.now }
 {
-    memories
-        .iter()
-        .all(|a| is_width(a.width) && 1 <= a.room.length && a.instance < instances)
+    memories.iter().all(|a| is_width(a.width) && 1 <= a.room.length && a.instance < instances)
 }
 
 /// Whether the words of the memories stand one memory after the other.

@@ -4,16 +4,15 @@
 //! drivers and clocked blocks, `driven` at who writes each bit of each net, and `lawful` puts all together.
 #![tactic(auto)]
 
-mod masks;
 mod code;
 mod driven;
 mod frame;
 mod lawful;
+mod masks;
 mod places;
 mod range;
 mod registers;
 mod rooms;
 mod words;
-
 
 pub use lawful::is_lawful;

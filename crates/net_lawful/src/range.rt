@@ -34,9 +34,7 @@ fn rhs_in(design: &Design, rooms: &Rooms, e: &Rhs) -> bool
             right,
             width,
             ..
-        } => {
-            is_width(*width) && rhs_in(design, rooms, left) && rhs_in(design, rooms, right)
-        }
+        } => { is_width(*width) && rhs_in(design, rooms, left) && rhs_in(design, rooms, right) }
         Rhs::Choose {
             condition,
             chosen,

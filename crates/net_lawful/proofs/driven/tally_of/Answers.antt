@@ -1,11 +1,7 @@
 use Rattle.std.proofs.Common.{◌≡◌, List, take, nat_lt, ap, ◌∙◌, arith}
 use Rattle.std.proofs.lemmas.List.{take_all}
 use Rattle.net_design.specs.declared.design.Driver.{Driver}
-use Rattle.net_design.specs.declared.act.Mask.{Mask}
-use Rattle.net_design.specs.Bits.{named}
-use Rattle.net_code.specs.BitMap.{in_map}
 use Rattle.net_lawful.specs.Driven.{writers}
-use Rattle.net_lawful.proofs.DrivenLaws.{one_more_driver}
 use Rattle.net_lawful.proofs.driven.tally_of.Goals as goal
 
 pub loop-driver-init : goal.loop-driver-init

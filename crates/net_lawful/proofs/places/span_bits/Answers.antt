@@ -1,4 +1,4 @@
-use Rattle.std.proofs.Common.{ap, sym, ◌∙◌}
+use Rattle.std.proofs.Common.{ap, ◌∙◌}
 use Rattle.vlog_operators.specs.Number.{has, put_of}
 use Rattle.net_code.proofs.MaskLaws.{has_span}
 use Rattle.net_lawful.proofs.places.span_bits.Goals as goal

@@ -11,8 +11,7 @@ returns-then-not-is_new c =
     let i = c.loop-register.register-index in
     let any : Register = record { net = 0; held = 0; initial = 0 } in
     let r : Register = slice_index_or rs i any in
-    let is : r ≡ slice_index_or rs i r = get_or_default rs i any r c.loop-register-test.true in
-    (
+    let is : r ≡ slice_index_or rs i r = get_or_default rs i any r c.loop-register-test.true in (
       (λ h. absurd (not_both _ h refl)),
       (λ h. absurd (seen_before rs i r c.loop-register-test.true is c.loop-register.seen c.loop-register.invariant.seen
           (not_new _ _ c.is_new.ensures c.if-not-is_new.true) h)),
