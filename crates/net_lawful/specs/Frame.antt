@@ -1,4 +1,4 @@
--- The clauses of lawful designs that speak of names, nets, memories, ports and the clock (this project's profile).
+-- The clauses of lawful designs that speak of instances, nets, memories, ports and the clock (this project's profile).
 use Rattle.std.specs.Prelude.{◌≡◌, ℕ, ◌<◌, ◌≤◌, true, List, take, length, slice_get, All, Some}
 use Rattle.std.specs.List.{sum_by}
 use Rattle.net_design.specs.declared.design.Instance.{Instance}

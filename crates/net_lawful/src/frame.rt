@@ -1,4 +1,4 @@
-//! Names, nets, memories, ports and the clock.
+//! Instances, nets, memories, ports and the clock.
 
 ghost use Rattle.std.specs.Prelude.{◌≡◌, ℕ, ◌^◌, ◌<◌, ◌≤◌, ◌↔◌, IsTrue, length, slice_index, slice_get, map};
 ghost use Rattle.std.specs.List.{sum_by};

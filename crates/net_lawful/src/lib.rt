@@ -1,7 +1,8 @@
 //! Whether a flat design is lawful, clause by clause.
 //!
-//! `frame` looks at names, nets, memories, ports and the clock, `registers` at the state, `range` and `words` at statements, `code` at
-//! drivers and clocked blocks, `driven` at who writes each bit of each net, and `lawful` puts all together.
+//! `frame` looks at instances, nets, memories, ports and the clock, `registers` at the state, `range`, `words` and `places` at
+//! statements, `code` at drivers and clocked blocks, `driven` at who writes each bit of each net, and `lawful` puts all together.
+//! `masks` compares sets of bits, and `rooms` finds memories.
 #![tactic(auto)]
 
 mod code;
