@@ -1,6 +1,6 @@
 -- A copy of a table, entry by entry.
 use Rattle.std.proofs.Common.{◌≡◌, ◌≢◌, ℕ, zero, suc, ◌+◌, Bool, true, false, if◌then◌else◌, List, [], ◌∷◌, ◌++◌, map, take, length}
-use Rattle.std.proofs.Common.{Option, None, Some, slice_get, is_some, refl, ap, sym, subst, ◌∙◌, add-one}
+use Rattle.std.proofs.Common.{Some, slice_get, is_some, refl, ap, sym, subst, ◌∙◌, add-one}
 use Rattle.vlog_size.specs.Table.{Named, value_of, added}
 
 some_same : {A : Type 0} → (a b : A) → Some a ≡ Some b → a ≡ b

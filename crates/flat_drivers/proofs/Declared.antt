@@ -1,5 +1,5 @@
 -- The instances of a file have its modules at their places.
-use Rattle.std.proofs.Common.{◌≡◌, ℕ, zero, suc, List, [], ◌∷◌, ◌++◌, map, Option, None, Some, slice_get, refl, ap, sym, ◌∙◌}
+use Rattle.std.proofs.Common.{◌≡◌, ℕ, zero, suc, List, [], ◌∷◌, ◌++◌, map, Option, None, Some, slice_get, refl, ap, ◌∙◌}
 use Rattle.std.specs.Prelude.{option_map}
 use Rattle.std.specs.List.{flat_map, AllByRecursion}
 use Rattle.std.proofs.lemmas.Option.{slice_get-map}
@@ -8,12 +8,12 @@ use Rattle.vlog_tree.specs.Tree.{InstanceItem, ModuleOf, FileOf}
 use Rattle.vlog_size.specs.declared.scope.Scope.{Scope}
 use Rattle.vlog_size.specs.Names.{Readable}
 use Rattle.vlog_size.specs.Table.{Named}
-use Rattle.vlog_scope.specs.Scope.{readable_at, after_item, scope_with}
-use Rattle.vlog_names.specs.Entries.{Names, declared, module_entry, modules_of}
+use Rattle.vlog_scope.specs.Scope.{readable_at, after_item}
+use Rattle.vlog_names.specs.Entries.{Names, module_entry, modules_of}
 use Rattle.vlog_hierarchy.specs.Outlines.{place_of}
 use Rattle.vlog_elab.specs.Instances.{ModuleInstance, child_of, child_at, item_children, children_from, children, within, top_of, top_at}
 use Rattle.vlog_elab.specs.Instances.{instances}
-use Rattle.flat_drivers.specs.Seated.{IsDeclaredIn, AreDeclaredIn}
+use Rattle.flat_drivers.specs.Seated.{IsDeclaredIn}
 use Rattle.flat_drivers.specs.Laws.{InstancesAreDeclared}
 
 -- ---- what holds of each of several lists holds of all

@@ -1,6 +1,6 @@
 -- The seat that a path has.
-use Rattle.std.proofs.Common.{◌≡◌, ◌≢◌, ℕ, zero, suc, ◌+◌, ◌<◌, Bool, true, false, ◌&&◌, if◌then◌else◌, List, [], ◌∷◌, ◌++◌, map, length}
-use Rattle.std.proofs.Common.{Option, None, Some, slice_get, take, refl, ap, sym, subst, ◌∙◌, arith, add-one}
+use Rattle.std.proofs.Common.{◌≡◌, ◌≢◌, ℕ, zero, suc, ◌+◌, Bool, true, false, ◌&&◌, if◌then◌else◌, List, [], ◌∷◌, ◌++◌, map, length}
+use Rattle.std.proofs.Common.{Some, slice_get, take, refl, ap, sym, ◌∙◌, arith, add-one}
 use Rattle.std.specs.Borrow.{Bor}
 use Rattle.std.proofs.lemmas.List.{map-append}
 use Rattle.vlog_hierarchy.specs.Plain.{plain_path}
@@ -14,10 +14,9 @@ use Rattle.vlog_scope.specs.Scope.{words_of}
 use Rattle.vlog_names.specs.Entries.{Names, declared}
 use Rattle.vlog_elab.specs.Instances.{ModuleInstance}
 use Rattle.vlog_meaning.specs.Names.{Full}
-use Rattle.vlog_meaning.specs.Placed.{names_at}
 use Rattle.vlog_driver.specs.Spots.{Spot}
 use Rattle.vlog_driver.specs.Duties.{Duty, conn_duties}
-use Rattle.flat_parts.specs.Seats.{Seat, seats_from, spot_at, same_path, seat_named}
+use Rattle.flat_parts.specs.Seats.{Seat, seats_from, same_path, seat_named}
 use Rattle.flat_parts.specs.Drivers.{joined_duties}
 use Rattle.flat_drivers.specs.declared.flat.Start.{Start}
 use Rattle.flat_drivers.specs.Seated.{start_of, seats_at, HaveOwnPaths}
@@ -101,7 +100,8 @@ pub joined_is : (is : List ModuleInstance) (k : ℕ) (i : ModuleInstance) (start
     → flat_map (conn_duties names p (spot_from start i.scope i.scope.declared)) x.ports ≡ joined_duties p x (seat_named (seats_at is) path)
 joined_is is k i start starts p x path names own stand at begins here table =
     let q = named_at 0 0 0 is k i start own at (ap (λ ss. slice_get ss k) (sym stand) ∙ begins) in
-    let D : Names → Start → ModuleInstance → List Duty = λ ns s j. flat_map (conn_duties ns p (spot_from s j.scope j.scope.declared)) x.ports in
+    let D : Names → Start → ModuleInstance → List Duty =
+    λ ns s j. flat_map (conn_duties ns p (spot_from s j.scope j.scope.declared)) x.ports in
     ap (λ ns. D ns start i) table ∙ ap (λ s. D (declared i.tree) s i) (sym q.1.start)
     ∙ ap (λ (j : ModuleInstance). D (declared j.tree) (start_of q.0) j) (sym q.1.instance)
     ∙ ap (joined_duties p x) (sym (ap (seat_named (seats_at is)) (sym here) ∙ q.1.named))

@@ -1,10 +1,10 @@
 -- What the items of the instance at a seat make, and the seats one by one.
-use Rattle.std.proofs.Common.{◌≡◌, ℕ, zero, suc, ◌+◌, ◌<◌, ◌≤◌, List, [], ◌∷◌, ◌++◌, map, length, drop, get_or, refl, ap, sym, subst, ◌∙◌}
-use Rattle.std.proofs.Common.{append-nil, Option, None, Some, slice_get, arith, add-one}
+use Rattle.std.proofs.Common.{◌≡◌, ℕ, zero, suc, ◌+◌, ◌<◌, ◌≤◌, List, [], ◌∷◌, ◌++◌, map, length, drop, refl, ap, sym, subst, ◌∙◌}
+use Rattle.std.proofs.Common.{append-nil, Some, slice_get, arith, add-one}
 use Rattle.std.specs.Prelude.{option_map}
 use Rattle.std.specs.List.{flat_map}
 use Rattle.std.proofs.Math.ListN.{drop_of_length-le}
-use Rattle.std.proofs.lemmas.Option.{slice_get-get_or, slice_get-map, get_or_from_slice_get, slice_get_within}
+use Rattle.std.proofs.lemmas.Option.{slice_get-map}
 use Rattle.vlog_tree.specs.Tree.{ItemOf, WiresItem, DrivenWiresItem, RegsItem, LocalparamsItem, AssignItem, AlwaysItem, InstanceItem}
 use Rattle.std.specs.Borrow.{Bor}
 use Rattle.vlog_tree.specs.declared.module.Item.{Item}
@@ -15,12 +15,12 @@ use Rattle.vlog_elab.specs.declared.instance.ModuleInstance as code
 use Rattle.vlog_elab.specs.Plain.{plain_instance, plain_instances}
 use Rattle.vlog_scope.specs.Scope.{words_of}
 use Rattle.vlog_elab.specs.Instances.{ModuleInstance}
-use Rattle.vlog_elab.specs.declared.error.ElabError.{ElabError}
-use Rattle.vlog_meaning.specs.Placed.{Placed, placed, placed_items}
+use Rattle.vlog_meaning.specs.Placed.{placed, placed_items}
 use Rattle.vlog_driver.specs.Duties.{Duty}
 use Rattle.vlog_driver.specs.Held.{item_duties}
 use Rattle.flat_parts.specs.Seats.{Seat, seats_from, seats_of, spot_at}
-use Rattle.flat_parts.specs.Drivers.{duties_at, placed_duties, seat_duties, placed_blocks, seat_blocks, all_duties, all_blocks, ClockedBlock}
+use Rattle.flat_parts.specs.Drivers.{duties_at, placed_duties, seat_duties, placed_blocks, seat_blocks, all_duties, all_blocks}
+use Rattle.flat_parts.specs.Drivers.{ClockedBlock}
 use Rattle.flat_drivers.specs.declared.flat.Start.{Start}
 use Rattle.flat_drivers.specs.Latches.{placed_latches, instance_latches}
 use Rattle.flat_drivers.specs.Seated.{start_of, seats_at}
@@ -166,7 +166,8 @@ duties_seat list starts k c x start s items path stand begins h at same text nam
     λ t ys p. flat_map (placed_in xs (plain_path p) start t) (placed t.params t.declared (map plain_item ys)) in
     ap (λ (t : Scope). D t items path) same ∙ ap (λ (ys : List Item). D c.scope ys path) text
     ∙ ap (λ (p : List (Bor (List ℕ))). D c.scope c.tree.now.items p) named
-    ∙ seat_duties_are xs x (plain_instance c) start (seat_instance (plain_instances list) k x (plain_instance c) at (instance_is list k c h))
+    ∙ seat_duties_are xs x (plain_instance c) start
+    (seat_instance (plain_instances list) k x (plain_instance c) at (instance_is list k c h))
     (seat_start (plain_instances list) starts k x start stand at begins)
 
 pub blocks_seat : (list : List code.ModuleInstance) (starts : List Start) (k : ℕ) (c : code.ModuleInstance) (x : Seat) (start : Start)

@@ -1,5 +1,5 @@
 -- First findings.
-use Rattle.std.proofs.Common.{◌≡◌, List, [], ◌∷◌, ◌++◌, map, Option, None, Some, refl, ap, sym, subst, ◌∙◌}
+use Rattle.std.proofs.Common.{◌≡◌, List, [], ◌∷◌, ◌++◌, map, Some, ap, sym, subst, ◌∙◌}
 use Rattle.std.specs.Prelude.{option_map}
 use Rattle.vidi_bits.specs.Findings.{first}
 use Rattle.vlog_latch.specs.declared.error.BlockError.{BlockError}

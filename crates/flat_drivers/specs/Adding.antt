@@ -1,7 +1,7 @@
 -- Drivers and clocked blocks that are added item by item.
-use Rattle.std.specs.Prelude.{ℕ, List, [], ◌∷◌, ◌++◌, Option}
-use Rattle.std.specs.List.{flat_map, AllZip}
-use Rattle.vlog_tree.specs.Tree.{ItemOf, WiresItem, DrivenWiresItem, RegsItem, LocalparamsItem, AssignItem, AlwaysItem, InstanceItem}
+use Rattle.std.specs.Prelude.{ℕ, List, [], ◌∷◌, ◌++◌}
+use Rattle.std.specs.List.{AllZip}
+use Rattle.vlog_tree.specs.Tree.{ItemOf, InstanceItem}
 use Rattle.vlog_size.specs.declared.scope.Scope.{Scope}
 use Rattle.net_design.specs.declared.act.Code.{Code}
 use Rattle.vlog_meaning.specs.Names.{Full}

@@ -1,5 +1,5 @@
 -- The instances of the code with what their modules declare and the places where they stand in the flat design.
-use Rattle.std.specs.Prelude.{◌≡◌, ◌≢◌, ℕ, List, map, slice_get, Some}
+use Rattle.std.specs.Prelude.{◌≡◌, ◌≢◌, List, map, slice_get, Some}
 use Rattle.std.specs.List.{AllPairs, AllByRecursion}
 use Rattle.vlog_size.specs.Table.{Named}
 use Rattle.vlog_names.specs.Entries.{Names, declared}

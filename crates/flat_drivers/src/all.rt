@@ -23,7 +23,8 @@ use vlog_names::ModuleTable;
 fn add_seats(alloc: Global, flat: &Flat<'_, '_>, out: &mut FlatCode) -> Result<(), ElabError>
     requires { IsFlat flat.now }
     ensures told { Judged result (flat_map instance_latches (instances_in flat.now)) }
-    ensures drivers { OnOk result (DoMore (flat_map (seat_duties (seats_in flat.now)) (seats_in flat.now)) out.old.drivers out.new.drivers) }
+    ensures drivers { OnOk result (DoMore (flat_map (seat_duties (seats_in flat.now)) (seats_in flat.now))
+        out.old.drivers out.new.drivers) }
     ensures blocks { OnOk result (BlocksMore (flat_map seat_blocks (seats_in flat.now)) out.old.blocks out.new.blocks) }
 {
     for at in 0..flat.list.len() {

@@ -40,8 +40,8 @@ fn add_placed(
     ensures told { Judged result (placed_latches scope.now (record { declared = scope.now.declared; item = plain_item item.now })) }
     ensures drivers { OnOk result (DoMore (placed_in (seats_in flat.now) (plain_path path.now) start scope.now
         (record { declared = scope.now.declared; item = plain_item item.now })) out.old.drivers out.new.drivers) }
-    ensures blocks { OnOk result (BlocksMore (blocks_in start scope.now (record { declared = scope.now.declared; item = plain_item item.now }))
-        out.old.blocks out.new.blocks) }
+    ensures blocks { OnOk result (BlocksMore (blocks_in start scope.now
+        (record { declared = scope.now.declared; item = plain_item item.now })) out.old.blocks out.new.blocks) }
 {
     let site = Site {
         scope,

@@ -23,7 +23,8 @@ after_all : (ts : List (TargetOf ℕ)) → after ts (Some NoTargets) ≡ Some (t
 after_all [] = refl
 after_all (t ∷ ts) = ap (both_parts (Some t)) (after_all ts)
 
-after_more : (ts : List (TargetOf ℕ)) (t : TargetOf ℕ) (o : Option (TargetsOf ℕ)) → after (ts ++ t ∷ []) o ≡ after ts (both_parts (Some t) o)
+after_more : (ts : List (TargetOf ℕ)) (t : TargetOf ℕ) (o : Option (TargetsOf ℕ))
+    → after (ts ++ t ∷ []) o ≡ after ts (both_parts (Some t) o)
 after_more [] t o = refl
 after_more (u ∷ ts) t o = ap (both_parts (Some u)) (after_more ts t o)
 
@@ -58,5 +59,6 @@ form_none parts i part ts l is form so_far =
 pub form_done : (parts : List Expr) (i : ℕ) (ts : List Target) → length parts ≤ i
     → after (map plain_target ts) (Forms (drop i parts)) ≡ Forms parts → Some (plain_targets ts) ≡ Forms parts
 form_done parts i ts l so_far =
-    sym (after_all (map plain_target ts)) ∙ ap (λ (xs : List Expr). after (map plain_target ts) (Forms xs)) (sym (drop_of_length-le parts l))
+    sym (after_all (map plain_target ts)) ∙ ap (λ (xs : List Expr). after (map plain_target ts) (Forms xs))
+    (sym (drop_of_length-le parts l))
     ∙ so_far

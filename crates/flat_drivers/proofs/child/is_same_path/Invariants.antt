@@ -1,4 +1,4 @@
-use Rattle.std.proofs.Common.{◌≡◌, take, length}
+use Rattle.std.proofs.Common.{◌≡◌, take}
 use Rattle.vlog_hierarchy.specs.Plain.{plain_path}
 use Rattle.flat_drivers.proofs.child.is_same_path.Given as goal
 

@@ -1,4 +1,4 @@
-use Rattle.std.proofs.Common.{◌≡◌, map, drop, ap, sym, subst, ◌∙◌, ◌++◌, ◌+◌, List, [], ℕ, arith}
+use Rattle.std.proofs.Common.{◌≡◌, map, drop, ap, sym, subst, ◌∙◌, ◌+◌, arith}
 use Rattle.std.specs.List.{flat_map}
 use Rattle.vlog_tree.specs.Plain.{plain_item}
 use Rattle.vlog_hierarchy.specs.Plain.{plain_path}

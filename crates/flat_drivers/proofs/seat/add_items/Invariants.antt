@@ -14,7 +14,8 @@ use Rattle.flat_drivers.proofs.seat.add_items.Given as goal
 abbrev pub invariant-loop-item : goal.invariant-loop-item
 invariant-loop-item l = record {
   scope : SetTo l.initial.scope l.scope;
-  told : flat_map (placed_latches l.initial.scope) (placed l.initial.scope.params l.scope.declared (map plain_item (drop l.item-index l.items)))
+  told : flat_map (placed_latches l.initial.scope)
+      (placed l.initial.scope.params l.scope.declared (map plain_item (drop l.item-index l.items)))
       ≡ flat_map (placed_latches l.initial.scope)
       (placed l.initial.scope.params l.initial.scope.declared (map plain_item l.items));
   drivers : Going Does (flat_map (placed_in (seats_in l.flat) (plain_path l.path) l.start l.initial.scope)

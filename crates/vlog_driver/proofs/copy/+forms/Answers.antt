@@ -1,4 +1,4 @@
-use Rattle.std.proofs.Common.{map, ap, sym, ◌∙◌, Some, arith}
+use Rattle.std.proofs.Common.{map, arith}
 use Rattle.vlog_tree.specs.Plain.{plain_target}
 use Rattle.vlog_driver.proofs.Forms.{form_next, form_none, form_done}
 use Rattle.vlog_driver.proofs.copy.+forms.Goals as goal
