@@ -1,3 +1,4 @@
+pub mod Forms
 pub mod Placing
 pub mod Assigning
 pub mod More

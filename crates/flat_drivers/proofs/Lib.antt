@@ -1,0 +1,6 @@
+pub mod Told
+pub mod Added
+pub mod Paths
+pub mod Seats
+pub mod Copies
+pub mod Declared

@@ -1,0 +1,8 @@
+//! Laws of the definitions, as contracts of functions that do nothing.
+
+ghost use Rattle.flat_drivers.specs.Laws.{InstancesAreDeclared};
+
+/// The table of a file's modules has at the place of each instance's module what that module declares: a condition of `drivers_of`.
+pub fn instances_are_declared()
+    ensures { InstancesAreDeclared }
+{}
