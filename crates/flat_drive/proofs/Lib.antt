@@ -1,0 +1,4 @@
+pub mod Inputs
+pub mod Judging
+pub mod Marking
+pub mod Places
