@@ -26,7 +26,8 @@ unfolding flat_findings
 same_findings is nets kinds memories drivers blocks n k m =
     ap (λ (ns : List Net). map (error_of is) (drive_faults ns kinds memories drivers blocks)) n
     ∙ ap (λ (ks : List NetKind). map (error_of is) (drive_faults (flat_nets (seats_of is)) ks memories drivers blocks)) k
-    ∙ ap (λ (ms : List DesignMemory). map (error_of is) (drive_faults (flat_nets (seats_of is)) (flat_kinds (seats_of is)) ms drivers blocks)) m
+    ∙ ap (λ (ms : List DesignMemory).
+    map (error_of is) (drive_faults (flat_nets (seats_of is)) (flat_kinds (seats_of is)) ms drivers blocks)) m
 
 mapped : {A B : Type 0} (f : A → B) (xs : List A) (x : A) → Some x ≡ first xs → first (map f xs) ≡ Some (f x)
 mapped f [] x e = absurd cc

@@ -54,7 +54,8 @@ not_first n = not_so (n + 1 == 0) refl
     not_so false e = sym e
 
 later_seats : (pin : ℕ → Bool) (k number net word : ℕ) (is : List ModuleInstance) → NoneFrom pin k
-    → kinds_from pin k (flat_map seat_marks (seats_from (number + 1) net word is)) ≡ flat_map seat_kinds (seats_from (number + 1) net word is)
+    → kinds_from pin k (flat_map seat_marks (seats_from (number + 1) net word is))
+    ≡ flat_map seat_kinds (seats_from (number + 1) net word is)
 later_seats pin k number net word [] off = refl
 later_seats pin k number net word (i ∷ is) off =
     let x : Seat = record { number = number + 1; net = net; word = word; instance = i } in
@@ -101,9 +102,10 @@ kinds_right table i is right =
     (λ j l. no_pin table i.scope.nets j (let e = long_marks x i.scope.nets in omega (arith, l, e))))
 
 -- the list of the code
-pub kinds_of_first : (table : List (Named Bool)) (list : List code.ModuleInstance) (top : code.ModuleInstance) → Some top ≡ slice_get list 0
-    → IsInputTable (plain_instance top).tree table
-    → kinds_from (is_pin table top.scope.nets) 0 (reg_marks (seats_of (plain_instances list))) ≡ flat_kinds (seats_of (plain_instances list))
+pub kinds_of_first : (table : List (Named Bool)) (list : List code.ModuleInstance) (top : code.ModuleInstance)
+    → Some top ≡ slice_get list 0 → IsInputTable (plain_instance top).tree table
+    → kinds_from (is_pin table top.scope.nets) 0 (reg_marks (seats_of (plain_instances list)))
+    ≡ flat_kinds (seats_of (plain_instances list))
 kinds_of_first table [] top e right = absurd cc
 kinds_of_first table (x ∷ xs) top e right =
     let same : top ≡ x = same_Some top x e in

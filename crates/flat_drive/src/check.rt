@@ -1,5 +1,9 @@
 //! E8 over the instances of a file.
 
+ghost use Rattle.std.specs.List.{AllZip};
+ghost use Rattle.vlog_driver.specs.Duties.{Does};
+ghost use Rattle.flat_parts.specs.Drivers.{all_duties, all_blocks, IsBlockOf};
+ghost use Rattle.flat_drive.specs.Findings.{drive_findings};
 ghost use Rattle.std.specs.Prelude.{◌≡◌, min, IfOk};
 ghost use Rattle.net_drive.specs.declared.findings.Misdriven.{Misdriven};
 ghost use Rattle.vlog_elab.specs.Plain.{plain_instances};
@@ -62,9 +66,11 @@ fn error_of(
 /// `drivers` and `blocks` are those of the flat design. The answer has the full name: the names of the instances that lead to it and its
 /// own, joined by `.`, the top's left out. More than 4,294,967,295 drivers are answered as so many.
 ///
+/// Where the drivers and blocks do what the items of the instances say, this is E8 of the file.
+///
 /// # Errors
 ///
-/// `Drive` and `Memory`.
+/// `Drive`, as above, exactly where something is found; `Memory`.
 pub fn check_drive(
     alloc: Global,
     list: &[ModuleInstance<'_>],
@@ -78,6 +84,9 @@ pub fn check_drive(
     requires nets { nets.now ≡ flat_nets (seats_of (plain_instances list.now)) }
     requires memories { memories.now ≡ flat_memories (seats_of (plain_instances list.now)) }
     ensures told { Judged result (flat_findings (plain_instances list.now) drivers.now blocks.now) }
+    ensures file { AllZip Does (all_duties (seats_of (plain_instances list.now))) drivers.now
+        → AllZip IsBlockOf (all_blocks (seats_of (plain_instances list.now))) blocks.now
+        → Judged result (drive_findings (seats_of (plain_instances list.now))) }
 {
     let kinds = kinds(alloc, list, marks)?;
     match misdriven(alloc, nets, kinds.as_slice(), memories, drivers, blocks)? {

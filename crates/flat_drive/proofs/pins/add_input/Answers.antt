@@ -12,5 +12,6 @@ returns-in_ok-push c =
     let old = c.args.inputs.now in
     let new = c.args.port.now.id.name in
     λ name.
-    one_added old c.push.new.self new (c.in_ok-push.ensures.ok ∙ ap (λ n. added old n true) (c.in_ok-name.ensures ∙ c.as_slice.ensures)) name
+    one_added old c.push.new.self new
+    (c.in_ok-push.ensures.ok ∙ ap (λ n. added old n true) (c.in_ok-name.ensures ∙ c.as_slice.ensures)) name
     ∙ ap (λ b. is_listed old name || list_any (bytes_eq name) (told_if b new)) (sym c.if-is_input.true)
