@@ -3,3 +3,4 @@ pub mod Placing
 pub mod Assigning
 pub mod More
 pub mod Held
+pub mod Namings
