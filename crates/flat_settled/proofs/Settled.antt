@@ -35,7 +35,8 @@ use Rattle.flat_parts.specs.Built.{IsBuilt}
 use Rattle.flat_parts.specs.Meaning.{values_of, state_of}
 use Rattle.flat_parts.specs.Laws.{IsTop, IsListed, InstancesAreAll, PathsDiffer, FirstIsTop, numbers_of, BuiltNumbers, SeatsStand}
 use Rattle.flat_parts.specs.Laws.{NetsHaveSeats, HeldAlike}
-use Rattle.flat_settled.specs.Settled.{AreNarrow, NarrowByLaws, SettledByLaws}
+use Rattle.flat_parts.specs.Meaning.{AreNarrow}
+use Rattle.flat_settled.specs.Settled.{NarrowByLaws, SettledByLaws}
 use Rattle.flat_settled.proofs.Lists.{then_so, members, all_each, map_map}
 use Rattle.flat_settled.proofs.Paths.{over_instances, each_seat}
 use Rattle.flat_settled.proofs.Unfound.{once_in, child_declared, lawful_scopes}

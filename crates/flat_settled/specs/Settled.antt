@@ -13,17 +13,8 @@ use Rattle.vlog_meaning.specs.Names.{Full, State}
 use Rattle.vlog_meaning.specs.Instances.{IsAt}
 use Rattle.vlog_meaning.specs.Settled as meaning
 use Rattle.flat_parts.specs.Built.{IsBuilt}
-use Rattle.flat_parts.specs.Meaning.{values_of, state_of}
+use Rattle.flat_parts.specs.Meaning.{values_of, state_of, WordsBelow, AreNarrow}
 use Rattle.flat_parts.specs.Laws.{IsTop, InstancesAreAll, PathsDiffer, FirstIsTop, BuiltNumbers, SeatsStand, NetsHaveSeats, HeldAlike}
-
--- the words of all memories are below a bound that each memory has
-abbrev pub WordsBelow : List (ModuleOf ℕ) → ModuleOf ℕ → (Full → ℕ → ℕ) → (ScopeMemory → ℕ) → Type 0
-WordsBelow modules top words bound = (path : Full) (m : ModuleOf ℕ) (c : Scope) → IsAt modules top path m c
-    → AllByRecursion (λ (a : Named ScopeMemory). (k : ℕ) → k < a.value.length → words (path ++ a.name ∷ []) k < bound a.value) c.memories
-
--- no word of a memory has more than 128 bits, which is the most that a memory's words can have
-abbrev pub AreNarrow : List (ModuleOf ℕ) → ModuleOf ℕ → (Full → ℕ → ℕ) → Type 0
-AreNarrow modules top words = WordsBelow modules top words (λ a. 2 ^ 128)
 
 -- each word fits its memory
 abbrev pub FitWords : List (ModuleOf ℕ) → ModuleOf ℕ → (Full → ℕ → ℕ) → Type 0
