@@ -1,1 +1,4 @@
 pub mod Loops
+pub mod SameMarks
+pub mod Top
+pub mod Build

@@ -10,10 +10,10 @@ ghost use Rattle.net_design.specs.Lawful.{IsLawful};
 ghost use Rattle.flat_parts.specs.Built.{IsBuilt};
 ghost use Rattle.flat_parts.specs.Laws.{IsTop};
 ghost use Rattle.vlog_design.specs.Design.{IsDesignOf};
-ghost use Rattle.vlog_design.specs.Parts.{AreParts};
+ghost use Rattle.vlog_design.specs.Parts.{AreParts, FirstPorts, HasTop};
 
 use crate::code::Checked;
-use flat_clock::{clock_is_joined_input, clock_place};
+use flat_clock::clock_place;
 use flat_layout::{built_numbers, instances, names_differ, nets_have_seats, ports, seats_stand};
 use flat_next::state_alike;
 use flat_paths::instances_are_paths;
@@ -47,9 +47,11 @@ fn built(
     requires clear { elab.Clear (plain file.now) top.now }
     requires listed { plain_instances list.now ≡ instances (plain file.now) top.now }
     requires parts { AreParts (plain_instances list.now) parts }
-    ensures { IfOk result (λ d. (m : ModuleOf ℕ) → IsTop (plain file.now) top.now m
+    ensures top { IfOk result (λ _. HasTop (plain file.now) top.now) }
+    ensures built { IfOk result (λ d. (m : ModuleOf ℕ) → IsTop (plain file.now) top.now m
         → IsBuilt (plain file.now).modules m (instances (plain file.now) top.now) d) }
 {
+    instances_are_paths();
     let Checked {
         nets,
         memories,
@@ -70,4 +72,33 @@ fn built(
         ports,
         clock,
     })
+}
+
+/// The flat design with these parts, which means the file; it is tried whether it is lawful, and want of memory is answered where it
+/// isn't.
+pub fn design_of(
+    alloc: Global,
+    file: &File,
+    top: &[u8],
+    list: &[ModuleInstance<'_>],
+    parts: Checked,
+) -> Result<Design, Memory>
+    requires clear { elab.Clear (plain file.now) top.now }
+    requires listed { plain_instances list.now ≡ instances (plain file.now) top.now }
+    requires parts { AreParts (plain_instances list.now) parts }
+    ensures { IfOk result (λ d. IsDesignOf (plain file.now) top.now d) }
+{
+    let design = built(alloc, file, top, list, parts)?;
+    built_numbers();
+    names_differ();
+    nets_have_seats();
+    seats_stand();
+    registers_are_state();
+    instances_are_paths();
+    settled_alike();
+    state_alike();
+    if !is_lawful(alloc, &design)? {
+        return Err(Memory);
+    }
+    Ok(design)
 }
