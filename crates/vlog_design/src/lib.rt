@@ -5,8 +5,8 @@
 
 mod code;
 mod design;
-mod elaborate;
 mod laws;
+mod whole;
 
-pub use elaborate::elaborate;
 pub use laws::loops_alike;
+pub use whole::elaborate;
