@@ -4,3 +4,4 @@ pub mod Paths
 pub mod Seats
 pub mod Copies
 pub mod Declared
+pub mod Lawful
