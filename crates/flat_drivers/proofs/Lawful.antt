@@ -18,12 +18,13 @@ use Rattle.vlog_elab.specs.Errors.{of_size}
 use Rattle.vlog_elab.specs.Instances.{ModuleInstance, child_of, child_at, item_children, children_from, children, within, top_of, top_at}
 use Rattle.vlog_elab.specs.Instances.{instances}
 use Rattle.vlog_elab.specs.Reasons.{instance_consts, instance_widths}
-use Rattle.flat_drivers.specs.Laws.{HasLawfulScope, ScopesAreLawful}
+use Rattle.flat_drivers.specs.Seated.{IsFaultlessInstance}
+use Rattle.flat_drivers.specs.Laws.{InstancesAreFaultless}
 use Rattle.flat_drivers.proofs.Declared.{both_all}
 
 -- ---- empty lists
 
-parts_empty : {A : Type 0} → (xs ys : List A) → xs ++ ys ≡ [] → (xs ≡ []) × (ys ≡ [])
+pub parts_empty : {A : Type 0} → (xs ys : List A) → xs ++ ys ≡ [] → (xs ≡ []) × (ys ≡ [])
 parts_empty [] ys h = (refl, h)
 parts_empty (x ∷ xs) ys h = absurd (cc)
 
@@ -31,15 +32,15 @@ map_empty : {A B : Type 0} → (f : A → B) (xs : List A) → map f xs ≡ [] �
 map_empty f [] h = refl
 map_empty f (x ∷ xs) h = absurd (cc)
 
-consts_empty : (i : ModuleInstance) → instance_consts i ≡ [] → const_faults i.tree i.scope ≡ []
+pub consts_empty : (i : ModuleInstance) → instance_consts i ≡ [] → const_faults i.tree i.scope ≡ []
 unfolding instance_consts
 consts_empty i h = map_empty of_size (const_faults i.tree i.scope) h
 
-widths_empty : (i : ModuleInstance) → instance_widths i ≡ [] → width_faults i.tree i.scope ≡ []
+pub widths_empty : (i : ModuleInstance) → instance_widths i ≡ [] → width_faults i.tree i.scope ≡ []
 unfolding instance_widths
 widths_empty i h = map_empty of_size (width_faults i.tree i.scope) h
 
-items_empty : (kind : FaultKind) (m : ModuleOf ℕ) (s : Scope) → scope_faults kind m s ≡ [] → items_faults kind s s.declared m.items ≡ []
+pub items_empty : (kind : FaultKind) (m : ModuleOf ℕ) (s : Scope) → scope_faults kind m s ≡ [] → items_faults kind s s.declared m.items ≡ []
 unfolding scope_faults
 items_empty kind m s h =
     (parts_empty (ports_faults kind (readable_at s s.declared) NoRange m.ports) (items_faults kind s s.declared m.items)
@@ -107,18 +108,18 @@ module _ (ms : List (ModuleOf ℕ)) where
   -- what is shown of all instances in one
   abbrev IsShown : ℕ → ModuleInstance → Type 0
   IsShown n i = IsGood i → flat_map instance_consts (within n ms i) ≡ [] → flat_map instance_widths (within n ms i) ≡ []
-      → AllByRecursion HasLawfulScope (within n ms i)
+      → AllByRecursion IsFaultlessInstance (within n ms i)
 
   all_shown : (n : ℕ) (is : List ModuleInstance) → ((i : ModuleInstance) → IsShown n i) → AllByRecursion IsGood is
       → flat_map instance_consts (flat_map (within n ms) is) ≡ [] → flat_map instance_widths (flat_map (within n ms) is) ≡ []
-      → AllByRecursion HasLawfulScope (flat_map (within n ms) is)
+      → AllByRecursion IsFaultlessInstance (flat_map (within n ms) is)
   all_shown n [] each good h g = tt
   all_shown n (i ∷ is) each good h g =
       let c = parts_empty (flat_map instance_consts (within n ms i)) (flat_map instance_consts (flat_map (within n ms) is))
       (sym (flat_map-append instance_consts (within n ms i) (flat_map (within n ms) is)) ∙ h) in
       let w = parts_empty (flat_map instance_widths (within n ms i)) (flat_map instance_widths (flat_map (within n ms) is))
       (sym (flat_map-append instance_widths (within n ms i) (flat_map (within n ms) is)) ∙ g) in
-      both_all HasLawfulScope (within n ms i) (flat_map (within n ms) is) (each i good.0 c.0 w.0) (all_shown n is each good.1 c.1 w.1)
+      both_all IsFaultlessInstance (within n ms i) (flat_map (within n ms) is) (each i good.0 c.0 w.0) (all_shown n is each good.1 c.1 w.1)
 
   within_shown : (n : ℕ) (i : ModuleInstance) → IsShown n i
   unfolding within
@@ -127,7 +128,7 @@ module _ (ms : List (ModuleOf ℕ)) where
       let c = parts_empty (instance_consts i) (flat_map instance_consts (flat_map (within n ms) (children ms i))) h in
       let w = parts_empty (instance_widths i) (flat_map instance_widths (flat_map (within n ms) (children ms i))) g in
       let lawful = good (consts_empty i c.0) (widths_empty i w.0) in (
-        lawful,
+        record { lawful = lawful; consts = c.0; widths = w.0 },
         all_shown n (children ms i) (within_shown n) (children_good i lawful (consts_empty i c.0) (widths_empty i w.0)) c.1 w.1,
       )
 
@@ -139,8 +140,8 @@ module _ (ms : List (ModuleOf ℕ)) where
   top_good None = tt
   top_good (Some k) = top_of_good k (slice_get ms k)
 
-pub all_lawful : ScopesAreLawful
+pub all_faultless : InstancesAreFaultless
 unfolding instances
-all_lawful file name h g =
+all_faultless file name h g =
     all_shown file.modules 4097 (top_at file.modules (place_of file.modules name)) (within_shown file.modules 4097)
     (top_good file.modules (place_of file.modules name)) h g

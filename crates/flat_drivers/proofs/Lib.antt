@@ -5,3 +5,4 @@ pub mod Seats
 pub mod Copies
 pub mod Declared
 pub mod Lawful
+pub mod Faultless

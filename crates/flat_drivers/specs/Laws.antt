@@ -6,16 +6,13 @@ use Rattle.vlog_size.specs.Names.{is_lawful_scope}
 use Rattle.vlog_names.specs.Entries.{modules_of}
 use Rattle.vlog_elab.specs.Instances.{ModuleInstance, instances}
 use Rattle.vlog_elab.specs.Reasons.{instance_consts, instance_widths}
-use Rattle.flat_drivers.specs.Seated.{AreDeclaredIn}
+use Rattle.flat_drivers.specs.Seated.{AreDeclaredIn, AreFaultlessInstances}
 
 -- the file's table has what each instance's module declares
 abbrev pub InstancesAreDeclared : Type 0
 InstancesAreDeclared = (file : FileOf ℕ) (name : List ℕ) → AreDeclaredIn (modules_of file) (instances file name)
 
-abbrev pub HasLawfulScope : ModuleInstance → Type 0
-HasLawfulScope i = is_lawful_scope i.scope ≡ true
-
 -- where E5 and E6 find nothing in any instance, each has a lawful scope
-abbrev pub ScopesAreLawful : Type 0
-ScopesAreLawful = (file : FileOf ℕ) (name : List ℕ) → flat_map instance_consts (instances file name) ≡ []
-    → flat_map instance_widths (instances file name) ≡ [] → AllByRecursion HasLawfulScope (instances file name)
+abbrev pub InstancesAreFaultless : Type 0
+InstancesAreFaultless = (file : FileOf ℕ) (name : List ℕ) → flat_map instance_consts (instances file name) ≡ []
+    → flat_map instance_widths (instances file name) ≡ [] → AreFaultlessInstances (instances file name)
