@@ -17,7 +17,7 @@ use Rattle.flat_parts.specs.Seats.{Seat}
 use Rattle.flat_parts.specs.Drivers.{ClockedBlock, IsBlockOf}
 use Rattle.flat_drivers.specs.declared.flat.Start.{Start}
 use Rattle.flat_drivers.specs.Latches.{placed_latches}
-use Rattle.flat_drivers.specs.Adding.{BlocksMore, placed_in, blocks_in}
+use Rattle.flat_drivers.specs.Adding.{BlocksMore, placed_in, blocks_in, IsFaultlessPlaced}
 
 module _ {A B : Type 0} (P : A → B → Type 0) where
   -- the code of one list is that of some things, and of another that of these and then of more
@@ -95,3 +95,17 @@ pub all_at : {X : Type 0} (P : X → Type 0) (xs : List X) (k : ℕ) (x : X) →
 all_at P [] k x h at = absurd (cc)
 all_at P (y ∷ xs) zero x h at = let is : y ≡ x = (cc) in subst P is h.0
 all_at P (y ∷ xs) (suc k) x h at = all_at P xs k x h.1 at
+
+-- what holds of each placed item of what is left holds of the first one and of the others
+pub first_placed : (P : Placed → Type 0) (params : List (Named Param)) (k next : ℕ) (items : List Item) (i : ℕ) (item : Item)
+    → i < length items → item ≡ get_or items i item → next ≡ after_item params k (plain_item item)
+    → AllByRecursion P (placed params k (map plain_item (drop i items)))
+    → P (record { declared = k; item = plain_item item }) × AllByRecursion P (placed params next (map plain_item (drop (i + 1) items)))
+first_placed P params k next items i item l is after h =
+    let both : P (record { declared = k; item = plain_item item })
+    × AllByRecursion P (placed params (after_item params k (plain_item item)) (map plain_item (drop (i + 1) items))) =
+    subst (λ ys. AllByRecursion P (placed params k (map plain_item ys))) (from_here items i item l is) h in
+    (both.0, subst (λ n. AllByRecursion P (placed params n (map plain_item (drop (i + 1) items)))) (sym after) both.1)
+
+pub faultless_there : (start : Start) (s t : Scope) (p : Placed) → SetTo s t → IsFaultlessPlaced start s p → IsFaultlessPlaced start t p
+faultless_there start s t p is h = subst (λ (u : Scope). IsFaultlessPlaced start u p) (sym is) h

@@ -18,7 +18,7 @@ use Rattle.flat_drivers.specs.Laws.{InstancesAreDeclared}
 
 -- ---- what holds of each of several lists holds of all
 
-both_all : {X : Type 0} → (P : X → Type 0) (xs ys : List X) → AllByRecursion P xs → AllByRecursion P ys → AllByRecursion P (xs ++ ys)
+pub both_all : {X : Type 0} → (P : X → Type 0) (xs ys : List X) → AllByRecursion P xs → AllByRecursion P ys → AllByRecursion P (xs ++ ys)
 both_all P [] ys h g = g
 both_all P (x ∷ xs) ys h g = (h.0, both_all P xs ys h.1 g)
 

@@ -4,3 +4,5 @@ pub mod Paths
 pub mod Seats
 pub mod Copies
 pub mod Declared
+pub mod Lawful
+pub mod Faultless

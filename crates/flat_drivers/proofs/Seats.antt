@@ -2,7 +2,7 @@
 use Rattle.std.proofs.Common.{◌≡◌, ℕ, zero, suc, ◌+◌, ◌<◌, ◌≤◌, List, [], ◌∷◌, ◌++◌, map, length, drop, refl, ap, sym, subst, ◌∙◌}
 use Rattle.std.proofs.Common.{append-nil, Some, slice_get, arith, add-one}
 use Rattle.std.specs.Prelude.{option_map}
-use Rattle.std.specs.List.{flat_map}
+use Rattle.std.specs.List.{flat_map, AllByRecursion}
 use Rattle.std.proofs.Math.ListN.{drop_of_length-le}
 use Rattle.std.proofs.lemmas.Option.{slice_get-map}
 use Rattle.vlog_tree.specs.Tree.{ItemOf, WiresItem, DrivenWiresItem, RegsItem, LocalparamsItem, AssignItem, AlwaysItem, InstanceItem}
@@ -23,8 +23,11 @@ use Rattle.flat_parts.specs.Drivers.{duties_at, placed_duties, seat_duties, plac
 use Rattle.flat_parts.specs.Drivers.{ClockedBlock}
 use Rattle.flat_drivers.specs.declared.flat.Start.{Start}
 use Rattle.flat_drivers.specs.Latches.{placed_latches, instance_latches}
-use Rattle.flat_drivers.specs.Seated.{start_of, seats_at}
-use Rattle.flat_drivers.specs.Adding.{spot_from, duties_in, placed_in, blocks_in}
+use Rattle.flat_drivers.specs.Seated.{start_of, seats_at, IsFaultlessInstance, AreFaultlessInstances}
+use Rattle.flat_drivers.proofs.Added.{all_at}
+use Rattle.flat_drivers.proofs.Lawful.{consts_empty, widths_empty}
+use Rattle.flat_drivers.proofs.Faultless.{instance_clean}
+use Rattle.flat_drivers.specs.Adding.{spot_from, duties_in, placed_in, blocks_in, IsFaultlessPlaced}
 
 -- ---- the items of a seat
 
@@ -181,3 +184,15 @@ blocks_seat list starts k c x start s items stand begins h at same text =
     ap (λ (t : Scope). D t items) same ∙ ap (λ (ys : List Item). D c.scope ys) text
     ∙ seat_blocks_are x (plain_instance c) start (seat_instance (plain_instances list) k x (plain_instance c) at (instance_is list k c h))
     (seat_start (plain_instances list) starts k x start stand at begins)
+
+pub clean_seat : (list : List code.ModuleInstance) (k : ℕ) (c : code.ModuleInstance) (start : Start) (s : Scope) (items : List Item)
+    → AreFaultlessInstances (plain_instances list) → slice_get list k ≡ Some c → s ≡ c.scope → items ≡ c.tree.now.items
+    → AllByRecursion (IsFaultlessPlaced start s) (placed s.params s.declared (map plain_item items))
+clean_seat list k c start s items all h same text =
+    let clean = all_at IsFaultlessInstance (plain_instances list) k (plain_instance c) all (instance_is list k c h) in
+    let P : Scope → List Item → Type 0 =
+    λ t ys. AllByRecursion (IsFaultlessPlaced start t) (placed t.params t.declared (map plain_item ys)) in
+    subst (λ (t : Scope). P t items) (sym same)
+    (subst (λ (ys : List Item). P c.scope ys) (sym text)
+    (instance_clean start (plain_instance c) clean.lawful (consts_empty (plain_instance c) clean.consts)
+    (widths_empty (plain_instance c) clean.widths)))

@@ -1,13 +1,14 @@
 -- Drivers and clocked blocks that are added item by item.
 use Rattle.std.specs.Prelude.{ℕ, List, [], ◌∷◌, ◌++◌}
-use Rattle.std.specs.List.{AllZip}
-use Rattle.vlog_tree.specs.Tree.{ItemOf, InstanceItem}
+use Rattle.std.specs.List.{AllZip, AllByRecursion}
+use Rattle.vlog_tree.specs.Tree.{ItemOf, AssignItem, AlwaysItem, InstanceItem}
 use Rattle.vlog_size.specs.declared.scope.Scope.{Scope}
 use Rattle.net_design.specs.declared.act.Code.{Code}
 use Rattle.vlog_meaning.specs.Names.{Full}
 use Rattle.vlog_meaning.specs.Placed.{Placed, names_at}
 use Rattle.vlog_driver.specs.Spots.{Spot}
-use Rattle.vlog_driver.specs.Duties.{Duty}
+use Rattle.vlog_block.specs.Faultless.{IsFaultlessBody}
+use Rattle.vlog_driver.specs.Duties.{Duty, IsFaultlessAssign}
 use Rattle.vlog_driver.specs.Held.{item_duties}
 use Rattle.flat_parts.specs.Seats.{Seat, seat_named}
 use Rattle.flat_parts.specs.Drivers.{joined_duties, ClockedBlock, IsBlockOf, item_blocks}
@@ -32,3 +33,13 @@ placed_in xs path start s p = duties_in xs path (spot_from start s p.declared) p
 
 abbrev pub blocks_in : Start → Scope → Placed → List ClockedBlock
 blocks_in start s p = item_blocks (spot_from start s p.declared) p.item
+
+-- nothing is found in an `assign` or in an always block
+abbrev pub IsFaultlessItem : Spot → ItemOf ℕ → Type 0
+IsFaultlessItem p (AssignItem assigns) = AllByRecursion (IsFaultlessAssign p) assigns
+IsFaultlessItem p (AlwaysItem a) = IsFaultlessBody p.names a.body
+IsFaultlessItem p item = Unit {0}
+
+-- the same of an item among those of its instance
+abbrev pub IsFaultlessPlaced : Start → Scope → Placed → Type 0
+IsFaultlessPlaced start s p = IsFaultlessItem (spot_from start s p.declared) p.item

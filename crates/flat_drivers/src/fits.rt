@@ -33,23 +33,6 @@ fn target_fits(site: &Site<'_>, target: &Target) -> bool
     }
 }
 
-fn assign_fits(site: &Site<'_>, a: &Assign) -> bool
-    ensures { IsTrue result → IsFaultlessAssign (spot_of site.now) (plain_assign a.now) }
-{
-    target_fits(site, &a.target) && expr_fits(site, &a.value)
-}
-
-pub fn assigns_fit(site: &Site<'_>, assigns: &[Assign]) -> bool
-    ensures { IsTrue result → AllByRecursion (IsFaultlessAssign (spot_of site.now)) (map plain_assign assigns.now) }
-{
-    for a in assigns {
-        if !assign_fits(site, a) {
-            return false;
-        }
-    }
-    true
-}
-
 /// A whole net as a target.
 fn whole_target(alloc: Global, id: &Ident) -> Result<Target, Memory>
     ensures { IfOk result (λ t. plain_target t ≡ whole (plain_ident id.now)) }

@@ -8,19 +8,19 @@ ghost use Rattle.vlog_driver.specs.Spots.{spot_of};
 ghost use Rattle.vlog_driver.specs.Duties.{DoMore, wire_duty, assign_duty, always_duties};
 ghost use Rattle.net_design.specs.declared.act.Timing.TheVariants.{Nonblocking};
 ghost use Rattle.vlog_block.specs.Updates.{timing_of};
+ghost use Rattle.vlog_block.specs.Faultless.{IsFaultlessBody};
 ghost use Rattle.vlog_driver.specs.Drivers.{IsClocked};
 ghost use Rattle.flat_parts.specs.Drivers.{ClockedBlock, IsBlockOf, event_blocks, item_blocks};
 ghost use Rattle.flat_drivers.specs.Latches.{of_block, always_latches, item_latches};
 ghost use Rattle.flat_drivers.specs.Seated.{IsFlat, seats_in};
-ghost use Rattle.flat_drivers.specs.Adding.{BlocksMore, duties_in};
+ghost use Rattle.flat_drivers.specs.Adding.{BlocksMore, duties_in, IsFaultlessItem};
 
 use crate::child::{add_child, past_child};
-use crate::fits::{assigns_fit, wire_fits};
+use crate::fits::wire_fits;
 use crate::flat::{Flat, FlatCode};
 use net_design::{Code, Driver};
 use std::alloc::Global;
 use vidi_bits::{Items, Memory, Name};
-use vlog_block::is_faultless;
 use vlog_driver::{Site, add_always, add_assigns, add_wire, clocked_block};
 use vlog_elab::ElabError;
 use vlog_latch::BlockError;
@@ -54,20 +54,6 @@ fn add_wires(
     Ok(())
 }
 
-fn add_fit_assigns(
-    alloc: Global,
-    site: &Site<'_>,
-    assigns: &[Assign],
-    out: &mut Items<Driver>,
-) -> Result<(), Memory>
-    ensures { OnOk result (DoMore (map (assign_duty (spot_of site.now)) (map plain_assign assigns.now)) out.old out.new) }
-{
-    if !assigns_fit(site, assigns) {
-        return Err(Memory);
-    }
-    add_assigns(alloc, site, assigns, out)
-}
-
 /// A finding in a block as the reason why the design text is refused.
 fn block_error(error: BlockError) -> ElabError
     ensures { result ≡ of_block error }
@@ -86,12 +72,10 @@ fn add_settling(
     block: &Always,
     out: &mut Items<Driver>,
 ) -> Result<(), ElabError>
+    requires { IsFaultlessBody (spot_of site.now).names (plain_always block.now).body }
     ensures told { Judged result (always_latches (spot_of site.now).names (plain_always block.now)) }
     ensures drivers { OnOk result (DoMore (always_duties (spot_of site.now) (plain_always block.now)) out.old out.new) }
 {
-    if !is_faultless(block, site.scope) {
-        return Err(ElabError::Memory);
-    }
     match add_always(alloc, site, block, out) {
         Ok(()) => Ok(()),
         Err(error) => Err(block_error(error)),
@@ -100,12 +84,10 @@ fn add_settling(
 
 /// The code of a clocked block.
 fn fit_block(alloc: Global, site: &Site<'_>, block: &Always) -> Result<Code, Memory>
-    requires { timing_of (plain_always block.now).event ≡ Nonblocking }
+    requires faultless { IsFaultlessBody (spot_of site.now).names (plain_always block.now).body }
+    requires clocked { timing_of (plain_always block.now).event ≡ Nonblocking }
     ensures { IfOk result (IsClocked (spot_of site.now) (plain_always block.now)) }
 {
-    if !is_faultless(block, site.scope) {
-        return Err(Memory);
-    }
     match clocked_block(alloc, site, block) {
         Ok(code) => Ok(code),
         Err(_) => Err(Memory),
@@ -126,6 +108,7 @@ fn add_clocked(
     block: &Always,
     out: &mut Items<Code>,
 ) -> Result<(), Memory>
+    requires { IsFaultlessBody (spot_of site.now).names (plain_always block.now).body }
     ensures { OnOk result (BlocksMore (event_blocks (plain_always block.now).event (spot_of site.now) (plain_always block.now))
         out.old out.new) }
 {
@@ -145,6 +128,7 @@ fn add_block(
     block: &Always,
     out: &mut FlatCode,
 ) -> Result<(), ElabError>
+    requires { IsFaultlessBody (spot_of site.now).names (plain_always block.now).body }
     ensures told { Judged result (always_latches (spot_of site.now).names (plain_always block.now)) }
     ensures drivers { OnOk result (DoMore (always_duties (spot_of site.now) (plain_always block.now)) out.old.drivers out.new.drivers) }
     ensures blocks { OnOk result (BlocksMore (event_blocks (plain_always block.now).event (spot_of site.now) (plain_always block.now))
@@ -165,7 +149,8 @@ pub fn add_item<'b>(
     item: &Item,
     out: &mut FlatCode,
 ) -> Result<(), ElabError>
-    requires { IsFlat flat.now }
+    requires flat { IsFlat flat.now }
+    requires faultless { IsFaultlessItem (spot_of site.now) (plain_item item.now) }
     ensures told { Judged result (item_latches (spot_of site.now).names (plain_item item.now)) }
     ensures drivers { OnOk result (DoMore (duties_in (seats_in flat.now) (plain_path path.now) (spot_of site.now) (plain_item item.now))
         out.old.drivers out.new.drivers) }
@@ -176,7 +161,7 @@ pub fn add_item<'b>(
             Ok(add_wires(alloc, site, wires.as_slice(), &mut out.drivers)?)
         }
         Item::Assign { assigns } => {
-            Ok(add_fit_assigns(alloc, site, assigns.as_slice(), &mut out.drivers)?)
+            Ok(add_assigns(alloc, site, assigns.as_slice(), &mut out.drivers)?)
         }
         Item::Always(block) => add_block(alloc, site, block, out),
         Item::Instance(instance) => {

@@ -17,4 +17,4 @@ mod starts;
 
 pub use all::drivers_of;
 pub use flat::FlatCode;
-pub use laws::instances_are_declared;
+pub use laws::{instances_are_declared, instances_are_faultless};

@@ -1,7 +1,7 @@
 //! What the items of an instance add.
 
 ghost use Rattle.std.specs.Prelude.{◌≡◌, ◌<◌, OnOk, Some, map, length, slice_get};
-ghost use Rattle.std.specs.List.{flat_map};
+ghost use Rattle.std.specs.List.{flat_map, AllByRecursion};
 ghost use Rattle.vlog_tree.specs.Plain.{plain_item};
 ghost use Rattle.vlog_hierarchy.specs.Plain.{plain_path};
 ghost use Rattle.vlog_meaning.specs.Placed.{placed};
@@ -12,7 +12,7 @@ ghost use Rattle.flat_parts.specs.Seats.{Seat};
 ghost use Rattle.flat_parts.specs.Drivers.{seat_duties, seat_blocks};
 ghost use Rattle.flat_drivers.specs.Latches.{placed_latches, instance_latches};
 ghost use Rattle.flat_drivers.specs.Seated.{IsFlat, instances_in, seats_in};
-ghost use Rattle.flat_drivers.specs.Adding.{BlocksMore, placed_in, blocks_in};
+ghost use Rattle.flat_drivers.specs.Adding.{BlocksMore, placed_in, blocks_in, IsFaultlessPlaced};
 
 use crate::copied::copied_scope;
 use crate::flat::{Flat, FlatCode, Start};
@@ -36,7 +36,8 @@ fn add_placed(
     item: &Item,
     out: &mut FlatCode,
 ) -> Result<(), ElabError>
-    requires { IsFlat flat.now }
+    requires flat { IsFlat flat.now }
+    requires faultless { IsFaultlessPlaced start scope.now (record { declared = scope.now.declared; item = plain_item item.now }) }
     ensures told { Judged result (placed_latches scope.now (record { declared = scope.now.declared; item = plain_item item.now })) }
     ensures drivers { OnOk result (DoMore (placed_in (seats_in flat.now) (plain_path path.now) start scope.now
         (record { declared = scope.now.declared; item = plain_item item.now })) out.old.drivers out.new.drivers) }
@@ -63,7 +64,9 @@ fn add_items(
     items: &[Item],
     out: &mut FlatCode,
 ) -> Result<(), ElabError>
-    requires { IsFlat flat.now }
+    requires flat { IsFlat flat.now }
+    requires faultless { AllByRecursion (IsFaultlessPlaced start scope.old)
+        (placed scope.old.params scope.old.declared (map plain_item items.now)) }
     ensures told { Judged result (flat_map (placed_latches scope.old)
         (placed scope.old.params scope.old.declared (map plain_item items.now))) }
     ensures drivers { OnOk result (DoMore (flat_map (placed_in (seats_in flat.now) (plain_path path.now) start scope.old)

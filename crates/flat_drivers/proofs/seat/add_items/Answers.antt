@@ -1,4 +1,4 @@
-use Rattle.std.proofs.Common.{◌≡◌, map, drop, ap, sym, subst, ◌∙◌, ◌+◌, arith}
+use Rattle.std.proofs.Common.{◌≡◌, map, drop, ap, sym, subst, ◌∙◌, ◌+◌, arith, refl}
 use Rattle.std.specs.List.{flat_map}
 use Rattle.vlog_tree.specs.Plain.{plain_item}
 use Rattle.vlog_hierarchy.specs.Plain.{plain_path}
@@ -9,10 +9,18 @@ use Rattle.vlog_driver.specs.Duties.{Does, DoMore}
 use Rattle.flat_parts.specs.Drivers.{IsBlockOf}
 use Rattle.flat_drivers.specs.Latches.{placed_latches}
 use Rattle.flat_drivers.specs.Seated.{seats_in}
-use Rattle.flat_drivers.specs.Adding.{BlocksMore, placed_in, blocks_in}
+use Rattle.flat_drivers.specs.Adding.{BlocksMore, placed_in, blocks_in, IsFaultlessPlaced}
 use Rattle.flat_drivers.proofs.Told.{told_next}
-use Rattle.flat_drivers.proofs.Added.{item_split, items_over, latches_there, duties_there, blocks_there, code_next, code_done}
+use Rattle.flat_drivers.proofs.Added.{item_split, items_over, latches_there, duties_there, blocks_there, code_next, code_done, first_placed, faultless_there}
 use Rattle.flat_drivers.proofs.seat.add_items.Goals as goal
+
+pub add_placed-requires-clause-faultless : goal.add_placed-requires-clause-faultless
+add_placed-requires-clause-faultless c =
+    let s = c.args.scope.now in
+    let t = c.loop-item.scope in
+    faultless_there c.args.start s t (record { declared = t.declared; item = plain_item c.item-item.result }) c.loop-item.invariant.scope
+    (first_placed (IsFaultlessPlaced c.args.start s) s.params t.declared (after_item s.params t.declared (plain_item c.item-item.result))
+    c.args.items.now c.loop-item.item-index c.item-item.result c.loop-item-test.true c.item-item.is refl c.loop-item.invariant.faultless).0
 
 pub loop-item-preserved : goal.loop-item-preserved
 loop-item-preserved c =
@@ -32,6 +40,8 @@ loop-item-preserved c =
     c.declared_after-scope.ensures ∙ ap (λ (u : Scope). after_item u.params k (plain_item item)) inv.scope in
     record {
       scope = ap (λ (u : Scope). record u { declared = n }) inv.scope;
+      faultless = (first_placed (IsFaultlessPlaced start s) s.params k n items i item c.loop-item-test.true c.item-item.is after
+          inv.faultless).1;
       told = told_next (placed_latches s p) (flat_map (placed_latches s) (placed s.params n (map plain_item (drop (i + 1) items))))
           (flat_map (placed_latches s) (placed s.params k (map plain_item (drop i items))))
           (flat_map (placed_latches s) (placed s.params s.declared (map plain_item items)))

@@ -1,5 +1,5 @@
 use Rattle.std.proofs.Common.{◌≡◌, map, drop}
-use Rattle.std.specs.List.{flat_map}
+use Rattle.std.specs.List.{flat_map, AllByRecursion}
 use Rattle.vlog_tree.specs.Plain.{plain_item}
 use Rattle.vlog_hierarchy.specs.Plain.{plain_path}
 use Rattle.vlog_meaning.specs.Placed.{placed}
@@ -7,13 +7,15 @@ use Rattle.vlog_driver.specs.Duties.{Does}
 use Rattle.flat_parts.specs.Drivers.{IsBlockOf}
 use Rattle.flat_drivers.specs.Latches.{placed_latches}
 use Rattle.flat_drivers.specs.Seated.{seats_in}
-use Rattle.flat_drivers.specs.Adding.{placed_in, blocks_in}
+use Rattle.flat_drivers.specs.Adding.{placed_in, blocks_in, IsFaultlessPlaced}
 use Rattle.flat_drivers.proofs.Added.{Going, SetTo}
 use Rattle.flat_drivers.proofs.seat.add_items.Given as goal
 
 abbrev pub invariant-loop-item : goal.invariant-loop-item
 invariant-loop-item l = record {
   scope : SetTo l.initial.scope l.scope;
+  faultless : AllByRecursion (IsFaultlessPlaced l.start l.initial.scope)
+      (placed l.initial.scope.params l.scope.declared (map plain_item (drop l.item-index l.items)));
   told : flat_map (placed_latches l.initial.scope)
       (placed l.initial.scope.params l.scope.declared (map plain_item (drop l.item-index l.items)))
       ≡ flat_map (placed_latches l.initial.scope)

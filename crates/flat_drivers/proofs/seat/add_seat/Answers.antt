@@ -3,8 +3,15 @@ use Rattle.std.proofs.lemmas.Option.{slice_get_read, slice_get-get_or}
 use Rattle.vlog_elab.specs.Answered.{Judged}
 use Rattle.vlog_driver.specs.Duties.{DoMore}
 use Rattle.flat_drivers.specs.Adding.{BlocksMore}
-use Rattle.flat_drivers.proofs.Seats.{latches_seat, duties_seat, blocks_seat}
+use Rattle.flat_drivers.proofs.Seats.{clean_seat, latches_seat, duties_seat, blocks_seat}
 use Rattle.flat_drivers.proofs.seat.add_seat.Goals as goal
+
+pub add_items-requires-clause-faultless : goal.add_items-requires-clause-faultless
+add_items-requires-clause-faultless c =
+    let list = c.args.flat.now.list.now in
+    let inst = get_or list c.args.at c.index-flat-at.result in
+    clean_seat list c.args.at inst c.in-Some.start.now c.in_ok-scope.scope c.as_slice-2.result.now c.requires.flat.faultless
+    (slice_get-get_or list c.args.at c.index-flat-at.result c.requires.there) c.in_ok-scope.ensures c.as_slice-2.ensures
 
 pub returns-clause-told : goal.returns-clause-told
 returns-clause-told c = λ i at.
