@@ -2,3 +2,5 @@ pub mod Loops
 pub mod SameMarks
 pub mod Top
 pub mod Build
+pub mod Found
+pub mod Joined

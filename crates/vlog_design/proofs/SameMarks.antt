@@ -5,5 +5,5 @@ use Rattle.flat_drive.specs.Kinds as drive
 use Rattle.flat_registers.specs.Marks as registers
 
 pub same_marks : (xs : List Seat) → registers.reg_marks xs ≡ drive.reg_marks xs
-unfolding registers.reg_marks, drive.reg_marks
+unfolding registers.reg_marks drive.reg_marks
 same_marks xs = refl

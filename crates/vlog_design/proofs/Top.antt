@@ -37,7 +37,9 @@ has-top file name (i ∷ rest) ports e first = some-top file name i rest (sym e)
 
 head-ports : (i j : ModuleInstance) (is js : List ModuleInstance) (ports : List Port) → i ∷ is ≡ j ∷ js → FirstPorts (i ∷ is) ports
     → ports ≡ flat_ports j.tree j.scope
-head-ports i j is js ports e first = first ∙ ap (λ (x : ModuleInstance). flat_ports x.tree x.scope) (cc)
+head-ports i j is js ports e first =
+    let same : i ≡ j = cc in
+    first ∙ ap (λ (x : ModuleInstance). flat_ports x.tree x.scope) same
 
 pub top-ports : FirstIsTop → (file : FileOf ℕ) (name : List ℕ) (m : ModuleOf ℕ) (is : List ModuleInstance) (ports : List Port)
     → elab.Clear file name → IsTop file name m → is ≡ instances file name → FirstPorts is ports

@@ -8,7 +8,7 @@ ghost use Rattle.vlog_driver.specs.Duties.{Does};
 ghost use Rattle.flat_parts.specs.Seats.{seats_of};
 ghost use Rattle.flat_parts.specs.Nets.{flat_nets, flat_memories};
 ghost use Rattle.flat_parts.specs.Drivers.{all_duties, all_blocks, IsBlockOf};
-ghost use Rattle.flat_drivers.specs.Seated.{HaveOwnPaths, AreDeclaredIn};
+ghost use Rattle.flat_drivers.specs.Seated.{HaveOwnPaths, AreDeclaredIn, AreFaultlessInstances};
 ghost use Rattle.flat_drive.specs.Findings.{drive_findings};
 ghost use Rattle.vlog_design.specs.Parts.{AreParts};
 ghost use Rattle.vlog_design.specs.Reasons.{code_findings_of};
@@ -67,6 +67,7 @@ pub fn checked_code(
 ) -> Result<Checked, ElabError>
     requires paths { HaveOwnPaths (plain_instances list.now) }
     requires names { AreDeclaredIn modules.now (plain_instances list.now) }
+    requires faultless { AreFaultlessInstances (plain_instances list.now) }
     ensures told { Judged result (code_findings_of (plain_instances list.now)) }
     ensures parts { IfOk result (λ p. AreParts (plain_instances list.now) p) }
 {

@@ -13,7 +13,7 @@ ghost use Rattle.vlog_design.specs.Reasons.{Refused, Clear, code_findings};
 
 use crate::code::checked_code;
 use crate::design::design_of;
-use flat_drivers::instances_are_declared;
+use flat_drivers::{instances_are_declared, instances_are_faultless};
 use flat_layout::parts_are_counted;
 use flat_paths::instances_are_paths;
 use net_design::Design;
@@ -39,6 +39,7 @@ fn designed(
 {
     instances_are_paths();
     instances_are_declared();
+    instances_are_faultless();
     let parts = checked_code(alloc, modules, list)?;
     Ok(design_of(alloc, file, top, list, parts)?)
 }
