@@ -2,7 +2,7 @@
 //!
 //! They are found in one search, of which nothing is proved but that it ends: whoever uses the labels looks whether they fall.
 
-ghost use Rattle.std.specs.Prelude.{◌≡◌, ◌≤◌, ◌<◌, ◌↔◌, IsTrue, length};
+ghost use Rattle.std.specs.Prelude.{◌≡◌, ◌≤◌, ◌<◌, ◌↔◌, ℕ, List, Some, IsTrue, IfOk, length};
 ghost use Rattle.std.specs.List.{All, Any};
 ghost use Rattle.vlog_hierarchy.specs.Plain.{plain_outlines};
 ghost use Rattle.vlog_hierarchy.specs.Labels.{label_of, HoldsAbove, NeverFall, KeepsLabel};
@@ -38,7 +38,7 @@ struct Search {
 }
 
 /// A module's label, 0 past the last one.
-pub fn label_at(labels: &[usize], place: usize) -> usize
+fn label_at(labels: &[usize], place: usize) -> usize
     ensures { result ≡ label_of labels.now place }
 {
     labels.get(place).copied().unwrap_or(0)
@@ -153,7 +153,7 @@ impl Search {
 
 /// A label for each module. A search takes at most four steps for each module and one for each instance: to begin there, to
 /// come to it, to label it and to leave it, and to look at the instance.
-pub fn labels_of(alloc: Global, outlines: &[Outline<'_>]) -> Result<Items<usize>, Memory> {
+fn labels_of(alloc: Global, outlines: &[Outline<'_>]) -> Result<Items<usize>, Memory> {
     let labels = Items::from_vec(vec![in alloc; 0usize; outlines.len()]?);
     let mut search = Search {
         labels,
@@ -207,7 +207,7 @@ pub fn keeps_label(labels: &[usize], outlines: &[Outline<'_>], place: usize) -> 
 }
 
 /// Whether labels never fall from a module to one in it.
-pub fn never_fall(labels: &[usize], outlines: &[Outline<'_>]) -> bool
+fn never_fall(labels: &[usize], outlines: &[Outline<'_>]) -> bool
     ensures { IsTrue result ↔ NeverFall (plain_outlines outlines.now) labels.now }
 {
     for place in 0..outlines.len() {
@@ -216,4 +216,16 @@ pub fn never_fall(labels: &[usize], outlines: &[Outline<'_>]) -> bool
         }
     }
     true
+}
+
+/// Labels that never fall from a module to one in it; none where those of the search do.
+pub fn labels(alloc: Global, outlines: &[Outline<'_>]) -> Result<Option<Items<usize>>, Memory>
+    ensures { IfOk result (λ found. (labels : List ℕ) → found ≡ Some labels → NeverFall (plain_outlines outlines.now) labels) }
+{
+    let found = labels_of(alloc, outlines)?;
+    if never_fall(found.as_slice(), outlines) {
+        Ok(Some(found))
+    } else {
+        Ok(None)
+    }
 }

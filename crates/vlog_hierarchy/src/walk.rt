@@ -9,7 +9,7 @@ ghost use Rattle.vlog_hierarchy.specs.Nested.{kids, Below, IsNested, IsFirstNest
 ghost use Rattle.vlog_hierarchy.specs.Reach.{child_places, is_marked, marked_all, fresh, AreBelow, IsClosed};
 ghost use Rattle.vlog_hierarchy.specs.Labels.{NeverFall, IsOpen, IsFirstOpen};
 
-use crate::labels::{keeps_label, labels_of, never_fall};
+use crate::labels::{keeps_label, labels};
 use crate::outline::{Child, Outline, outlines};
 use crate::places::{index_of, place_named};
 use std::alloc::Global;
@@ -199,7 +199,34 @@ fn first_open(
     None
 }
 
-/// The first module at fault, found by labels and one walk; `None` where they don't show it.
+/// The first module at fault, shown by labels and a walk from it; `None` where they don't show it.
+fn shown_by(
+    alloc: Global,
+    labels: &[usize],
+    outlines: &[Outline<'_>],
+    top: usize,
+    below: &Reached,
+) -> Result<Option<Option<usize>>, Memory>
+    requires closed { IsClosed (plain_outlines outlines.now) }
+    requires long { length below.now.marks ≡ length outlines.now }
+    requires below { (k : ℕ) → (is_marked below.now.marks k ≡ true) ↔ Below (plain_outlines outlines.now) top k }
+    requires within { top < length outlines.now }
+    requires fall { NeverFall (plain_outlines outlines.now) labels.now }
+    ensures { IfOk result (λ found. (answer : Option ℕ) → found ≡ Some answer → IsFirstNested (plain_outlines outlines.now) top answer) }
+{
+    match first_open(labels, outlines, top, below) {
+        Some(place) => {
+            if contains_itself(alloc, outlines, place)? {
+                Ok(Some(Some(place)))
+            } else {
+                Ok(None)
+            }
+        }
+        None => Ok(Some(None)),
+    }
+}
+
+/// The first module at fault, by the labels of a search; `None` where they don't show it.
 fn first_by_labels(
     alloc: Global,
     outlines: &[Outline<'_>],
@@ -212,20 +239,9 @@ fn first_by_labels(
     requires within { top < length outlines.now }
     ensures { IfOk result (λ found. (answer : Option ℕ) → found ≡ Some answer → IsFirstNested (plain_outlines outlines.now) top answer) }
 {
-    let labels = labels_of(alloc, outlines)?;
-    let labels = labels.as_slice();
-    if !never_fall(labels, outlines) {
-        return Ok(None);
-    }
-    match first_open(labels, outlines, top, below) {
-        Some(place) => {
-            if contains_itself(alloc, outlines, place)? {
-                Ok(Some(Some(place)))
-            } else {
-                Ok(None)
-            }
-        }
-        None => Ok(Some(None)),
+    match labels(alloc, outlines)? {
+        Some(labels) => shown_by(alloc, labels.as_slice(), outlines, top, below),
+        None => Ok(None),
     }
 }
 
