@@ -1,6 +1,6 @@
 -- Labels that never fall keep to themselves on the way round from a module to itself.
-use Rattle.std.proofs.Common.{◌≡◌, ℕ, zero, suc, ◌<◌, ◌≤◌, ◌↔◌, ◌⊎◌, inl, inr, IsTrue, Bool, List, [], ◌∷◌, length, get_or, map, refl, sym, ap, subst, ◌∙◌}
-use Rattle.std.proofs.Common.{arith, Option, Some, None}
+use Rattle.std.proofs.Common.{◌≡◌, ℕ, zero, suc, ◌<◌, ◌≤◌, ◌↔◌, ◌⊎◌, inl, inr, IsTrue, Bool, List, [], ◌∷◌}
+use Rattle.std.proofs.Common.{length, get_or, map, refl, sym, ap, subst, ◌∙◌, arith, Option, Some, None}
 use Rattle.std.specs.List.{Contains, All, Any}
 use Rattle.std.proofs.lemmas.List.{length-map}
 use Rattle.std.proofs.lemmas.List.Elements.{All-contains, All-contains_itself, All-map, All-weaker}
@@ -67,7 +67,8 @@ holder_of labels label [] b h q = absurd (none_in b h)
 holder_of labels label (c ∷ cs) b (zero, l, e) q = (0, c, omega arith, refl, ap (label_of labels) e ∙ q)
 holder_of labels label (c ∷ cs) b (suc k, l, e) q = one (holder_of labels label cs b (k, omega arith, e) q)
   where
-    one : Any (λ (x : child.Child). label_of labels x.place ≡ label) cs → Any (λ (x : child.Child). label_of labels x.place ≡ label) (c ∷ cs)
+    one : Any (λ (x : child.Child). label_of labels x.place ≡ label) cs
+        → Any (λ (x : child.Child). label_of labels x.place ≡ label) (c ∷ cs)
     one (i, x, within, at, is) = (suc i, x, omega arith, at, is)
 
 pub holds_at : (os : List outline.Outline) (labels : List ℕ) (i : ℕ) (o : outline.Outline) (cs : List child.Child) (label : ℕ) (t : Bool)

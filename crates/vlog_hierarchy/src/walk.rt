@@ -1,6 +1,7 @@
 //! E11: modules that contain themselves.
 
-ghost use Rattle.std.specs.Prelude.{◌≡◌, ◌<◌, ◌++◌, ◌↔◌, ℕ, Bool, true, false, not, List, map, Option, Some, None, IfOk, OnOk, length, slice_set};
+ghost use Rattle.std.specs.Prelude.{◌≡◌, ◌<◌, ◌++◌, ◌↔◌, ℕ, Bool, true, false, not, List, map, Option, Some, None, IfOk, OnOk};
+ghost use Rattle.std.specs.Prelude.{length, slice_set};
 ghost use Rattle.vidi_bits.specs.Findings.{told_if};
 ghost use Rattle.vlog_tree.specs.Plain.{plain};
 ghost use Rattle.vlog_hierarchy.specs.Outlines.{outlines_of, place_of};
