@@ -4,6 +4,7 @@
 
 mod clock;
 mod error;
+mod labels;
 mod laws;
 mod nodes;
 mod outline;
