@@ -6,9 +6,8 @@ use Rattle.vidi_io.specs.Shelf.{Files}
 use Rattle.vidi.specs.declared.status.Status.{Status}
 use Rattle.vidi.specs.Command.{Command, Dump, Check, Compare, Salvage, IsGiven}
 use Rattle.vidi.specs.Answer.{Does, OneAnswer}
-use Rattle.vidi.proofs.Endings.{Same}
 use Rattle.vidi.proofs.OneDump.{one_dump}
-use Rattle.vidi.proofs.OneCheck.{TextLaws, one_check}
+use Rattle.vidi.proofs.OneCheck.{TextLaws, Alike, one_check}
 use Rattle.vidi.proofs.OneCompare.{one_compare}
 use Rattle.vidi.proofs.OneSalvaged.{one_salvaged}
 
@@ -65,9 +64,15 @@ one_command words (Salvage d p) (Salvage e q) (g, _) (h, _) =
 abbrev SameLeft : Status → Status → List ℕ → List ℕ → Option Files → Option Files → Type 0
 SameLeft a b x y left right = (a ≡ b) × (x ≡ y) × (left ≡ right)
 
-kept : (files : Files) (a b : Status) (x y : List ℕ) (left right : Option Files) → Same a b x y → left ≡ Some files → right ≡ Some files
-    → SameLeft a b x y left right
-kept files a b x y left right same l r = (same.0, same.1, l ∙ sym r)
+abbrev AlikeLeft : Status → Status → List ℕ → List ℕ → Option Files → Option Files → Type 0
+AlikeLeft a b x y left right = Alike a b x y × (left ≡ right)
+
+kept : (files : Files) (a b : Status) (x y : List ℕ) (left right : Option Files) → Alike a b x y → left ≡ Some files → right ≡ Some files
+    → AlikeLeft a b x y left right
+kept files a b x y left right same l r = (same, l ∙ sym r)
+
+all-same : (a b : Status) (x y : List ℕ) (left right : Option Files) → SameLeft a b x y left right → AlikeLeft a b x y left right
+all-same a b x y left right (s, t, l) = (inr (s, t), l)
 
 -- the laws on which this rests
 pub record Laws : Type 0 where
@@ -77,20 +82,21 @@ pub record Laws : Type 0 where
   pub texts : TextLaws
 
 one_deed : Laws → (c : Command) (files : Files) (a b : Status) (x y : List ℕ) (left right : Option Files)
-    → Does c (Some files) (λ _. ⊥) a x left → Does c (Some files) (λ _. ⊥) b y right → SameLeft a b x y left right
+    → Does c (Some files) (λ _. ⊥) a x left → Does c (Some files) (λ _. ⊥) b y right → AlikeLeft a b x y left right
 one_deed laws (Dump trace) files a b x y left right (d, l) (e, r) =
-    kept files a b x y left right (one_dump laws.reading laws.place trace files a b x y d e) l r
+    kept files a b x y left right (inr (one_dump laws.reading laws.place trace files a b x y d e)) l r
 one_deed laws (Check design top) files a b x y left right (d, l) (e, r) =
     kept files a b x y left right (one_check laws.texts design top files a b x y d e) l r
 one_deed laws (Compare trace other) files a b x y left right (d, l) (e, r) =
-    kept files a b x y left right (one_compare laws.reading laws.place trace other files a b x y d e) l r
-one_deed laws (Salvage trace out) files a b x y left right d e = one_salvaged laws.salvage trace out files a b x y left right d e
+    kept files a b x y left right (inr (one_compare laws.reading laws.place trace other files a b x y d e)) l r
+one_deed laws (Salvage trace out) files a b x y left right d e =
+    all-same a b x y left right (one_salvaged laws.salvage trace out files a b x y left right d e)
 
 pub one_answer_lem : Laws → OneAnswer
 one_answer_lem laws words files a b x y left right (inr (inl (said, _))) _ = inl said.0
 one_answer_lem laws words files a b x y left right _ (inr (inl (said, _))) = inr (inl said.0)
 one_answer_lem laws words files a b x y left right (inl (none, s, l)) (inl (none', s', r)) =
-    inr (inr (s.0 ∙ sym s'.0, s.1 ∙ sym s'.1, l ∙ sym r))
+    inr (inr (inr (s.0 ∙ sym s'.0, s.1 ∙ sym s'.1), l ∙ sym r))
 one_answer_lem laws words files a b x y left right (inl (none, s, l)) (inr (inr (c, given, d))) = absurd (none c given)
 one_answer_lem laws words files a b x y left right (inr (inr (c, given, d))) (inl (none, s, r)) = absurd (none c given)
 one_answer_lem laws words files a b x y left right (inr (inr (c, given, d))) (inr (inr (k, given', e))) =

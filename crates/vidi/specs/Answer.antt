@@ -4,7 +4,9 @@ use Rattle.std.specs.Io.KnownBytes.{append_known}
 use Rattle.vidi_io.specs.Shelf.{Files}
 use Rattle.vidi_io.specs.Sink.{AppendsSome}
 use Rattle.vidi.specs.declared.status.Status.{Status}
-use Rattle.vidi.specs.declared.status.Status.TheVariants.{Usage, WriteFault, Memory}
+use Rattle.report_text.specs.declared.reason.Word.TheVariants as words
+use Rattle.report_text.specs.declared.reason.Reason.TheVariants.{Loop}
+use Rattle.vidi.specs.declared.status.Status.TheVariants.{Usage, WriteFault, Refused, Memory}
 use Rattle.vidi.specs.Command.{Command, Dump, Check, Compare, Salvage, IsGiven}
 use Rattle.vidi.specs.Steps.{IsSaid}
 use Rattle.vidi.specs.Traces.{Dumps, Compares, Saves, StopsSaving}
@@ -49,8 +51,14 @@ abbrev pub Says : Status → List ℕ → Type 0 → Option (List ℕ) → Optio
 Says status text WriteFailed old new result = ((result ≡ status) × (new ≡ append_known old text))
     ⊎ ((result ≡ WriteFault) × WriteFailed × AppendsSome old new text)
 
--- Of what a shelf tells, with no failed read, two answers that are earned are one, and leave the same, unless memory was wanting.
+-- the design is refused for a loop of its drivers (E10), of which any may be named
+abbrev pub NamesLoop : Status → Type 0
+NamesLoop (Refused words.Design (Loop lines)) = Unit {0}
+NamesLoop status = ⊥
+
+-- Of what a shelf tells, with no failed read, two answers that are earned are one, and leave the same, unless memory was wanting or both
+-- name a loop.
 abbrev pub OneAnswer : Type 0
 OneAnswer = (words : List (List ℕ)) (files : Files) (a b : Status) (x y : List ℕ) (left right : Option Files)
     → Earns words (Some files) (λ _. ⊥) a x left → Earns words (Some files) (λ _. ⊥) b y right
-    → (a ≡ Memory) ⊎ (b ≡ Memory) ⊎ ((a ≡ b) × (x ≡ y) × (left ≡ right))
+    → (a ≡ Memory) ⊎ (b ≡ Memory) ⊎ (((NamesLoop a × NamesLoop b) ⊎ ((a ≡ b) × (x ≡ y))) × (left ≡ right))

@@ -6,6 +6,7 @@ use Rattle.trace_compare.specs.declared.report.Finding.{Finding}
 use Rattle.report_text.specs.Report.{report_lines}
 use Rattle.report_text.specs.Text.{newline}
 use Rattle.vlog_tree.specs.Tree.{ModuleOf, FileOf}
+use Rattle.net_design.specs.declared.design.Counts.{Counts}
 pub use Rattle.report_text.specs.Trace.{dump_text}
 pub use Rattle.report_text.specs.Reason.{read_fault_line, reason_line}
 
@@ -13,9 +14,22 @@ pub use Rattle.report_text.specs.Reason.{read_fault_line, reason_line}
 abbrev pub items : {A : Type 0} → FileOf A → ℕ
 items {A} f = sum_by (λ (m : ModuleOf A). length m.items) f.modules
 
--- `modules N items N`: what `check` prints of a file
-abbrev pub check_text : {A : Type 0} → FileOf A → List ℕ
-check_text f = codes "modules " ++ (decimal (length f.modules) ++ (codes " items " ++ (decimal (items f) ++ newline)))
+-- `modules N items N`, of the whole file
+abbrev pub file_line : {A : Type 0} → FileOf A → List ℕ
+file_line f = codes "modules " ++ (decimal (length f.modules) ++ (codes " items " ++ (decimal (items f) ++ newline)))
+
+-- a word and a number behind it
+abbrev pub counted : List ℕ → ℕ → List ℕ
+counted label n = label ++ decimal n
+
+-- `instances N nets N drivers N blocks N words N`
+abbrev pub counts_line : Counts → List ℕ
+counts_line c = counted (codes "instances ") c.instances ++ (counted (codes " nets ") c.nets ++ (counted (codes " drivers ") c.drivers
+    ++ (counted (codes " blocks ") c.blocks ++ (counted (codes " words ") c.words ++ newline))))
+
+-- what `check` prints of a file and its design
+abbrev pub check_text : {A : Type 0} → FileOf A → Counts → List ℕ
+check_text f c = file_line f ++ counts_line c
 
 -- what `compare` prints of two traces: no divergence, or the findings and that they diverged
 abbrev pub no_divergence_line : List ℕ

@@ -1,2 +1,3 @@
 pub mod Design
 pub mod Reasons
+pub mod Laws

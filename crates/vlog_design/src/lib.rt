@@ -7,6 +7,10 @@ ghost use Rattle.net_design.specs.Lawful.{counts};
 ghost use Rattle.vlog_design.specs.Design.{IsDesignOf, file_counts};
 ghost use Rattle.vlog_design.specs.Reasons.{Refused, Clear};
 
+mod laws;
+
+pub use laws::loops_alike;
+
 use net_design::Design;
 use std::alloc::Global;
 use vlog_elab::ElabError;
