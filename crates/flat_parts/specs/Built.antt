@@ -1,5 +1,5 @@
 -- The flat design that has the parts of a file's instances.
-use Rattle.std.specs.Prelude.{◌≡◌, ℕ, ◌↔◌, Some, List, map, slice_get}
+use Rattle.std.specs.Prelude.{◌≡◌, ℕ, ◌↔◌, Some, List, [], map, slice_get}
 use Rattle.std.specs.List.{AllZip}
 use Rattle.vlog_tree.specs.Tree.{ModuleOf}
 use Rattle.vlog_scope.specs.Scope.{scope_with}

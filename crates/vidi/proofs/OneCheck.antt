@@ -55,7 +55,7 @@ one-no_file laws tokens a b x y (l, its, shallow, none, s) (k, its', shallow', n
     one-said (Refused words.Design (Item l)) (reason_line words.Design (Item l)) a b x y s
     (subst (λ (n : ℕ). IsRefusal words.Design (Item n) b y) (laws.item (all_marked tokens) k l its' its) s')
 
-abbrev IsNone : List Token → Ending
+abbrev pub IsNone : List Token → Ending
 IsNone tokens status said = IsTooDeep tokens status said ⊎ IsNoFile tokens status said
 
 one-none : TextLaws → (tokens : List Token) → One (IsNone tokens)
@@ -139,11 +139,11 @@ one_check laws design top files =
 done-goes : Done ≡ WriteFault → ⊥
 done-goes e = cc
 
-mute-none : (tokens : List Token) → Mute (IsNone tokens)
+pub mute-none : (tokens : List Token) → Mute (IsNone tokens)
 mute-none tokens x (inl (l, deep, s)) = mute-refusal words.Design (Deep l) x s
 mute-none tokens x (inr (l, its, shallow, none, s)) = mute-refusal words.Design (Item l) x s
 
-mute-no_word : (text : List ℕ) → Mute (IsNoWord text)
+pub mute-no_word : (text : List ℕ) → Mute (IsNoWord text)
 mute-no_word text x (l, stuck, s) = mute-refusal words.Design (Word l) x s
 
 mute-checked_file : (top : List ℕ) (f : FileOf ℕ) → Mute (CheckedFile top f)

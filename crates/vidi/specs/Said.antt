@@ -1,5 +1,5 @@
 -- *Said*: the printed texts (this project's profile). Every line ends with a newline, and numbers are decimal.
-use Rattle.std.specs.Prelude.{ℕ, List, ◌++◌, length, codes, decimal}
+use Rattle.std.specs.Prelude.{ℕ, List, [], ◌++◌, map, length, slice_index_or, codes, decimal}
 use Rattle.std.specs.List.{sum_by}
 use Rattle.trace_model.specs.declared.channel.Channel.{Channel}
 use Rattle.trace_compare.specs.declared.report.Finding.{Finding}
@@ -41,6 +41,18 @@ diverged_text report channels = report_lines report channels ++ (codes "diverged
 -- `salvaged N packets`
 abbrev pub salvaged_line : ℕ → List ℕ
 salvaged_line n = codes "salvaged " ++ (decimal n ++ (codes " packets" ++ newline))
+
+-- `cycles N`
+abbrev pub cycles_line : ℕ → List ℕ
+cycles_line n = codes "cycles " ++ (decimal n ++ newline)
+
+-- the name of channel c
+abbrev pub channel_name : List Channel → ℕ → List ℕ
+channel_name channels c = slice_index_or (map (λ (x : Channel). x.name) channels) c []
+
+-- `vidi: unstable CH cycle N`
+abbrev pub unstable_line : List Channel → ℕ → ℕ → List ℕ
+unstable_line channels c t = codes "vidi: unstable " ++ (channel_name channels c ++ (codes " cycle " ++ (decimal t ++ newline)))
 
 abbrev pub usage_line : List ℕ
 usage_line = codes "vidi: usage" ++ newline

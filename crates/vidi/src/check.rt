@@ -29,7 +29,7 @@ use vlog_parse::{ParseError, parse};
 use vlog_tree::File;
 
 /// The longest design text, in bytes.
-const TEXT_LIMIT: u64 = 4_194_304;
+pub const TEXT_LIMIT: u64 = 4_194_304;
 
 /// What `check` is answered.
 pub fn check<S: Shelf>(
@@ -99,7 +99,7 @@ fn checked_design(
 }
 
 /// E10, at the lines of these drivers.
-fn looped(alloc: Global, design: &Design, drivers: &[u128]) -> Result<Answer, Memory>
+pub fn looped(alloc: Global, design: &Design, drivers: &[u128]) -> Result<Answer, Memory>
     requires { IsLoop design.now drivers.now }
     ensures { IfOk result (λ a. IsLooped design.now a.status (text_of a.text)) }
 {
@@ -129,7 +129,7 @@ fn line_at(design: &Design, place: usize) -> u32
     }
 }
 
-fn refused_as(alloc: Global, error: ElabError) -> Result<Answer, Memory>
+pub fn refused_as(alloc: Global, error: ElabError) -> Result<Answer, Memory>
     ensures { IfOk result (λ a. IsRefusedAs error a.status (text_of a.text)) }
 {
     match reason_of(error) {

@@ -11,6 +11,12 @@ pub enum Command<'a> {
     Dump { trace: &'a str },
     /// `top` is the name of a module.
     Check { design: &'a str, top: &'a str },
+    /// The design is played as the map and the script say.
+    Run {
+        design: &'a str,
+        map: &'a str,
+        script: &'a str,
+    },
     /// `other` is compared with `trace`.
     Compare { trace: &'a str, other: &'a str },
     /// `out` gets what is whole of `trace`.
@@ -25,6 +31,11 @@ impl<'a> Command<'a> {
         match words.as_slice() {
             [name, trace] if name.as_str() == "dump" => Some(Command::Dump {
                 trace: trace.as_str(),
+            }),
+            [name, design, map, script] if name.as_str() == "run" => Some(Command::Run {
+                design: design.as_str(),
+                map: map.as_str(),
+                script: script.as_str(),
             }),
             [name, first, second] => of_two(name.as_str(), first.as_str(), second.as_str()),
             _ => None,

@@ -8,6 +8,7 @@ mod command;
 mod compare;
 mod dump;
 mod laws;
+mod run;
 mod salvage;
 mod status;
 mod top;

@@ -104,6 +104,8 @@ is_first_more (e.TooBig what) xs ys h = first_more xs ys (e.TooBig what) h
 is_first_more (e.Const line) xs ys h = first_more xs ys (e.Const line) h
 is_first_more (e.Width line got) xs ys h = first_more xs ys (e.Width line got) h
 is_first_more (e.Clock line) xs ys h = first_more xs ys (e.Clock line) h
+is_first_more (e.Latch n line) xs ys h = first_more xs ys (e.Latch n line) h
+is_first_more (e.Drive n bit drivers) xs ys h = first_more xs ys (e.Drive n bit drivers) h
 is_first_more e.Memory xs ys h = tt
 
 pub found_here : (f : ModuleInstance → List ElabError) (is : List code.ModuleInstance) (i : ℕ) (x : code.ModuleInstance) (error : ElabError)
