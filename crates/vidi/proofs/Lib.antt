@@ -14,3 +14,4 @@ pub mod Comparing
 pub mod PortNets
 pub mod Running
 pub mod OneRun
+pub mod DriverLines

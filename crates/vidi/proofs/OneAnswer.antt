@@ -102,25 +102,25 @@ pub record Laws : Type 0 where
 
 one_deed : Laws → (c : Command) → ((d m s : List ℕ) → c ≡ Run d m s → ⊥) → (files : Files) (a b : Status) (x y : List ℕ) (left right : Option Files)
     → Does c (Some files) (λ _. ⊥) a x left → Does c (Some files) (λ _. ⊥) b y right → AlikeLeft a b x y left right
-one_deed laws (Dump trace) no files a b x y left right (d, l) (e, r) =
+one_deed laws (Dump trace) unasked files a b x y left right (d, l) (e, r) =
     kept files a b x y left right (inr (one_dump laws.reading laws.place trace files a b x y d e)) l r
-one_deed laws (Run design map script) no files a b x y left right d e = absurd (no design map script refl)
-one_deed laws (Check design top) no files a b x y left right (d, l) (e, r) =
+one_deed laws (Run design map script) unasked files a b x y left right d e = absurd (unasked design map script refl)
+one_deed laws (Check design top) unasked files a b x y left right (d, l) (e, r) =
     kept files a b x y left right (one_check laws.texts design top files a b x y d e) l r
-one_deed laws (Compare trace other) no files a b x y left right (d, l) (e, r) =
+one_deed laws (Compare trace other) unasked files a b x y left right (d, l) (e, r) =
     kept files a b x y left right (inr (one_compare laws.reading laws.place trace other files a b x y d e)) l r
-one_deed laws (Salvage trace out) no files a b x y left right d e =
+one_deed laws (Salvage trace out) unasked files a b x y left right d e =
     all-same a b x y left right (one_salvaged laws.salvage trace out files a b x y left right d e)
 
 pub one_answer_lem : Laws → OneAnswer
-one_answer_lem laws words no files a b x y left right (inr (inl (said, _))) _ = inl said.0
-one_answer_lem laws words no files a b x y left right _ (inr (inl (said, _))) = inr (inl said.0)
-one_answer_lem laws words no files a b x y left right (inl (none, s, l)) (inl (none', s', r)) =
+one_answer_lem laws words unasked files a b x y left right (inr (inl (said, _))) _ = inl said.0
+one_answer_lem laws words unasked files a b x y left right _ (inr (inl (said, _))) = inr (inl said.0)
+one_answer_lem laws words unasked files a b x y left right (inl (none, s, l)) (inl (none', s', r)) =
     inr (inr (inr (s.0 ∙ sym s'.0, s.1 ∙ sym s'.1), l ∙ sym r))
-one_answer_lem laws words no files a b x y left right (inl (none, s, l)) (inr (inr (c, given, d))) = absurd (none c given)
-one_answer_lem laws words no files a b x y left right (inr (inr (c, given, d))) (inl (none, s, r)) = absurd (none c given)
-one_answer_lem laws words no files a b x y left right (inr (inr (c, given, d))) (inr (inr (k, given', e))) =
+one_answer_lem laws words unasked files a b x y left right (inl (none, s, l)) (inr (inr (c, given, d))) = absurd (none c given)
+one_answer_lem laws words unasked files a b x y left right (inr (inr (c, given, d))) (inl (none, s, r)) = absurd (none c given)
+one_answer_lem laws words unasked files a b x y left right (inr (inr (c, given, d))) (inr (inr (k, given', e))) =
     let same = one_command words k c given' given in
-    let never = λ (u m s : List ℕ) (is : c ≡ Run u m s). no u m s (subst (IsGiven words) is given) in
+    let never = λ (u m s : List ℕ) (is : c ≡ Run u m s). unasked u m s (subst (IsGiven words) is given) in
     inr (inr (one_deed laws c never files a b x y left right d
     (subst (λ (m : Command). Does m (Some files) (λ _. ⊥) b y right) same e)))

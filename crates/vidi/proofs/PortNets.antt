@@ -8,7 +8,6 @@ use Rattle.net_design.specs.Settled.{net_width}
 use Rattle.net_design.specs.Lawful.{IsLawful}
 use Rattle.run_model.specs.Building.{PortsAreNets}
 
-
 same-width : (d : Design) → IsLawful d → (k : ℕ) (p : Port) → slice_get d.ports k ≡ Some p
     → ((n : Net) × (k < length d.nets) × (slice_get d.nets k ≡ Some n) × (get_or d.nets k n ≡ n))
     ⊎ ((length d.nets ≤ k) × (slice_get d.nets k ≡ None)) → net_width d k ≡ p.width

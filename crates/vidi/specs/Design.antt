@@ -1,5 +1,5 @@
 -- `check DESIGN TOP`: each step in its order (this project's profile).
-use Rattle.std.specs.Prelude.{◌≡◌, ℕ, ◌⊎◌, List, Option, None, Some, map, slice_index}
+use Rattle.std.specs.Prelude.{◌≡◌, ℕ, ◌⊎◌, List, Option, None, Some, map, slice_get}
 use Rattle.vlog_lex.specs.declared.token.Token.{Token}
 use Rattle.vlog_lex.specs.Reading.{HasTokens, IsStuckOn}
 use Rattle.vlog_tree.specs.Tree.{FileOf}
@@ -81,8 +81,12 @@ abbrev pub IsAccepted : List ℕ → FileOf ℕ → Design → Type 0
 IsAccepted top f d = Clear f top × IsDesignOf f top d
 
 -- ---- E10: the lines of the drivers of a loop
+abbrev pub line_in : Option Driver → ℕ
+line_in None = 0
+line_in (Some x) = x.line
+
 abbrev pub line_of : List Driver → ℕ → ℕ
-line_of drivers i = slice_index (map (λ (x : Driver). x.line) drivers) i
+line_of drivers i = line_in (slice_get drivers i)
 
 abbrev pub IsLooped : Design → Ending
 IsLooped d status said = (loop : List ℕ) × IsLoop d loop × IsRefusal words.Design (reasons.Loop (map (line_of d.drivers) loop)) status said

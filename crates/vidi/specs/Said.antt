@@ -1,5 +1,5 @@
 -- *Said*: the printed texts (this project's profile). Every line ends with a newline, and numbers are decimal.
-use Rattle.std.specs.Prelude.{ℕ, List, [], ◌++◌, map, length, slice_index_or, codes, decimal}
+use Rattle.std.specs.Prelude.{ℕ, List, [], ◌++◌, length, slice_get, Option, None, Some, codes, decimal}
 use Rattle.std.specs.List.{sum_by}
 use Rattle.trace_model.specs.declared.channel.Channel.{Channel}
 use Rattle.trace_compare.specs.declared.report.Finding.{Finding}
@@ -47,8 +47,12 @@ abbrev pub cycles_line : ℕ → List ℕ
 cycles_line n = codes "cycles " ++ (decimal n ++ newline)
 
 -- the name of channel c
+abbrev pub name_in : Option Channel → List ℕ
+name_in None = []
+name_in (Some x) = x.name
+
 abbrev pub channel_name : List Channel → ℕ → List ℕ
-channel_name channels c = slice_index_or (map (λ (x : Channel). x.name) channels) c []
+channel_name channels c = name_in (slice_get channels c)
 
 -- `vidi: unstable CH cycle N`
 abbrev pub unstable_line : List Channel → ℕ → ℕ → List ℕ

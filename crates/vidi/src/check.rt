@@ -81,12 +81,7 @@ fn checked_file(alloc: Global, file: &File, top: &str) -> Result<Answer, Memory>
     }
 }
 
-fn checked_design(
-    alloc: Global,
-    file: &File,
-    top: &str,
-    design: &Design,
-) -> Result<Answer, Memory>
+fn checked_design(alloc: Global, file: &File, top: &str, design: &Design) -> Result<Answer, Memory>
     requires accepted { IsAccepted top.now (plain file.now) design.now }
     requires counted { counts design.now ≡ file_counts (plain file.now) top.now }
     ensures { IfOk result (λ a. CheckedDesign top.now (plain file.now) design.now a.status (text_of a.text)) }
@@ -110,14 +105,15 @@ pub fn looped(alloc: Global, design: &Design, drivers: &[u128]) -> Result<Answer
     refused(alloc, Word::Design, Reason::Loop { lines })
 }
 
-/// The line of a driver.
+/// The line of a driver, 0 past the last one.
+#[tactic(auto, using(crate::proofs::DriverLines::past_line))]
 fn line_of(design: &Design, driver: u128) -> u32
     ensures { result ≡ spec.line_of design.now.drivers driver }
 {
-    match usize::try_from(driver) {
-        Ok(place) => line_at(design, place),
-        Err(_) => 0,
+    if driver >= design.drivers.len() as u128 {
+        return 0;
     }
+    line_at(design, driver as usize)
 }
 
 fn line_at(design: &Design, place: usize) -> u32

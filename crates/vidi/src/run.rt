@@ -26,7 +26,9 @@ use crate::answer::{Answer, AnswerText, refused, unread};
 use crate::check::{TEXT_LIMIT, looped, refused_as};
 use crate::status::{Reason, Status, Word};
 use bench_run::{PlainRun, Spot, run_plain};
-use chan_map::{Map, MapError, MapLimit as Limit, MapText, bind_map, lawful_ports_have_widths, read_map};
+use chan_map::{
+    Map, MapError, MapLimit as Limit, MapText, bind_map, lawful_ports_have_widths, read_map,
+};
 use env_script::{ScriptEnv, ScriptError, read_script};
 use net_design::Design;
 use net_order::{Order, OrderError, order};
@@ -68,7 +70,12 @@ pub fn run<S: Shelf>(
         Ok(bytes) => bytes,
         Err(error) => return unread(alloc, Word::Script, error),
     };
-    run_texts(alloc, text.as_slice(), channels.as_slice(), steps.as_slice())
+    run_texts(
+        alloc,
+        text.as_slice(),
+        channels.as_slice(),
+        steps.as_slice(),
+    )
 }
 
 fn run_texts(alloc: Global, design: &[u8], map: &[u8], script: &[u8]) -> Result<Answer, Memory>
@@ -84,12 +91,7 @@ fn run_texts(alloc: Global, design: &[u8], map: &[u8], script: &[u8]) -> Result<
     }
 }
 
-fn run_tokens(
-    alloc: Global,
-    tokens: &Tokens,
-    map: &[u8],
-    script: &[u8],
-) -> Result<Answer, Memory>
+fn run_tokens(alloc: Global, tokens: &Tokens, map: &[u8], script: &[u8]) -> Result<Answer, Memory>
     requires map { length map.now ≤ text_limit }
     requires script { length script.now ≤ text_limit }
     ensures { IfOk result (λ a. RunTokens map.now script.now tokens.now a.status (text_of a.text)) }
@@ -245,13 +247,31 @@ fn broken(alloc: Global, channels: Channels, rows: Rows, spot: Spot) -> Result<A
         (run_text rows channels (said.unstable_line channels spot.channel spot.cycle)) a.status (text_of a.text)) }
 {
     let Spot { channel, cycle } = spot;
-    let mut last = Vec::new(alloc);
-    put(&mut last, b"vidi: unstable ")?;
-    put(&mut last, channel_name(&channels, channel))?;
-    put(&mut last, b" cycle ")?;
-    put_number(&mut last, cycle)?;
-    put(&mut last, b"\n")?;
-    with_lines(alloc, Status::Unstable { channel, cycle }, channels, rows, last)
+    let last = unstable_line(alloc, &channels, channel, cycle)?;
+    with_lines(
+        alloc,
+        Status::Unstable { channel, cycle },
+        channels,
+        rows,
+        last,
+    )
+}
+
+fn unstable_line(
+    alloc: Global,
+    channels: &Channels,
+    channel: usize,
+    cycle: u32,
+) -> Result<Vec<u8>, Memory>
+    ensures { IfOk result (λ text. text.items ≡ said.unstable_line channels.now channel cycle) }
+{
+    let mut text = Vec::new(alloc);
+    put(&mut text, b"vidi: unstable ")?;
+    put(&mut text, channel_name(channels, channel))?;
+    put(&mut text, b" cycle ")?;
+    put_number(&mut text, cycle)?;
+    put(&mut text, b"\n")?;
+    Ok(text)
 }
 
 /// The name of a channel.

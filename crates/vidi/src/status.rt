@@ -57,7 +57,10 @@ impl Status {
             Status::ReadFault { word: _ } => 2,
             Status::WriteFault => 3,
             Status::Refused { word: _, reason: _ } => 4,
-            Status::Unstable { channel: _, cycle: _ } => 5,
+            Status::Unstable {
+                channel: _,
+                cycle: _,
+            } => 5,
             Status::Diverged => 7,
             Status::Memory => 8,
         }

@@ -70,11 +70,13 @@ fn answer_to<S: Shelf>(alloc: Global, words: &Words, shelf: &mut S) -> Result<An
     match Command::of(words) {
         Some(Command::Dump { trace }) => Ok(dump(alloc, trace, shelf)?),
         Some(Command::Check { design, top }) => Ok(check(alloc, design, top, shelf)?),
-        Some(Command::Run {
-            design,
-            map,
-            script,
-        }) => Ok(run(alloc, design, map, script, shelf)?),
+        Some(
+            Command::Run {
+                design,
+                map,
+                script,
+            },
+        ) => Ok(run(alloc, design, map, script, shelf)?),
         Some(Command::Compare { trace, other }) => Ok(compare(alloc, trace, other, shelf)?),
         Some(Command::Salvage { trace, out }) => salvage(alloc, trace, out, shelf),
         None => Ok(usage(alloc)?),

@@ -10,7 +10,6 @@ ghost use Rattle.vlog_design.specs.Reasons.{Refused, Clear};
 mod laws;
 
 pub use laws::loops_alike;
-
 use net_design::Design;
 use std::alloc::Global;
 use vlog_elab::ElabError;
