@@ -27,6 +27,8 @@ mod check_tests;
 #[cfg(test)]
 mod file_tests;
 #[cfg(test)]
+mod run_tests;
+#[cfg(test)]
 mod tests;
 #[cfg(test)]
 mod text_tests;
