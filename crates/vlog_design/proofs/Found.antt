@@ -32,7 +32,7 @@ unfolding instance_findings
 widths-in is e = left-none (flat_map instance_widths is) (word_findings is) (right-none (flat_map instance_consts is) _ e)
 
 none-found : (file : FileOf ℕ) (name : List ℕ) → elab.Clear file name → instance_findings (instances file name) ≡ []
-none-found file name (text, nested, sizes) = found-none file name (instances file name) (late-none file name sizes)
+none-found file name (text, (nested, sizes)) = found-none file name (instances file name) (late-none file name sizes)
 
 pub no-consts : (file : FileOf ℕ) (name : List ℕ) → elab.Clear file name → flat_map instance_consts (instances file name) ≡ []
 no-consts file name clear = consts-in (instances file name) (none-found file name clear)

@@ -4,3 +4,4 @@ pub mod Top
 pub mod Build
 pub mod Found
 pub mod Joined
+pub mod Counted

@@ -41,9 +41,12 @@ all-write-alike (u ∷ us) (x ∷ xs) [] a b i m k = absurd b
 -- one driver reads another in both
 same-reads : (file : FileOf ℕ) (top : List ℕ) (d e : Design) → IsDesignOf file top d → IsDesignOf file top e → (i j : ℕ)
     → Reads d i j → Reads e i j
-same-reads file top d e a b i j (m, k, reads, writes) =
-    (m, k, all-read-alike _ e.drivers d.drivers b.built.drivers a.built.drivers i m k ∙ reads,
-    all-write-alike _ e.drivers d.drivers b.built.drivers a.built.drivers j m k ∙ writes)
+same-reads file top d e a b i j (m, k, reads, writes) = (
+  m,
+  k,
+  all-read-alike _ e.drivers d.drivers b.built.drivers a.built.drivers i m k ∙ reads,
+  all-write-alike _ e.drivers d.drivers b.built.drivers a.built.drivers j m k ∙ writes,
+)
 
 chain-alike : (R S : ℕ → ℕ → Type 0) → ((i j : ℕ) → R i j → S i j) → (x : ℕ) (ds : List ℕ) → Chain R x ds → Chain S x ds
 chain-alike R S on x [] c = tt
