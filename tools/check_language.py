@@ -26,9 +26,10 @@ def main():
             name = os.path.join(folder, "design.v")
             open(name, "w").write(text)
             run = subprocess.run([vidi, "check", name, top], capture_output=True, text=True)
-            if run.stdout != said:
+            status = 4 if said.startswith("vidi: refused") else 0
+            if (run.returncode, run.stdout) != (status, said):
                 wrong += 1
-                print(f"the page says {said!r}, vidi prints {run.stdout!r}")
+                print(f"the page says {said!r}, vidi prints {run.stdout!r} with status {run.returncode}")
     print(f"{len(texts)} texts of {sys.argv[2]}, {wrong} wrong")
     sys.exit(1 if wrong else 0)
 
