@@ -48,7 +48,8 @@ counted-of nets words file name d of =
     let b : length d.nets ≡ sum_by (λ (i : ModuleInstance). length i.scope.nets) is =
     ap (λ ns. length ns) of.built.nets ∙ nets is in
     let e : length d.drivers ≡ length (all_duties (seats_of is)) = length-zip Does (all_duties (seats_of is)) d.drivers of.built.drivers in
-    let f : length d.blocks ≡ length (all_blocks (seats_of is)) = length-zip IsBlockOf (all_blocks (seats_of is)) d.blocks of.built.blocks in
+    let f : length d.blocks ≡ length (all_blocks (seats_of is)) =
+    length-zip IsBlockOf (all_blocks (seats_of is)) d.blocks of.built.blocks in
     let g : word_count d ≡ word_total is =
     ap (λ (ms : List DesignMemory). sum_by (λ (m : DesignMemory). m.room.length) ms) of.built.memories ∙ words is in
     λ i. record { instances = a i; nets = b i; drivers = e i; blocks = f i; words = g i }
