@@ -19,6 +19,7 @@ const TWO_SENDS_TEXT: &str = "0 start a 5\n0 end a\n1 start a 6\n1 start b 5\n1 
     2 end a\n3 start b 6\n3 end b\ncycles 6\n";
 
 /// Three files, the last of which is missing where it has no text, and which of the fetches fails.
+#[derive(Clone, Copy)]
 struct Files<'a> {
     design: &'a str,
     map: &'a str,
