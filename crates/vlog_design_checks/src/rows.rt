@@ -6,7 +6,7 @@ use crate::said::Said::{E7, E8, E9, E13, Fine};
 pub type Row = (&'static str, Said);
 
 /// The number of drivers of a bit, and of always blocks of a reg and of a memory. Neighbours stand one behind the other.
-pub const DRIVES: [Row; 43] = [
+pub const DRIVES: [Row; 45] = [
     // No driver.
     ("module t(); wire w; endmodule", E8("w", 0, 0)),
     ("module t(); wire w = 1'b0; endmodule", Fine),
@@ -30,6 +30,11 @@ pub const DRIVES: [Row; 43] = [
     (
         "module t(); k u(.a(1'b0)); endmodule module k(input a); endmodule",
         Fine,
+    ),
+    // An output of a child.
+    (
+        "module t(); k u(.q()); endmodule module k(output [1:0] q); assign q[0] = 1'b0; endmodule",
+        E8("u.q", 1, 0),
     ),
     // Two levels below, and of the second of two instances.
     (
@@ -115,6 +120,12 @@ always @(posedge c) q <= 2'd0; endmodule",
     ),
     (
         "module t(input c, output reg [1:0] q); always @(posedge c) begin q[1] <= 1'b0; q <= 2'd0; end endmodule",
+        Fine,
+    ),
+    // One block each in the top and in two instances, which have the same names.
+    (
+        "module t(input c); reg r; reg m [0:1]; always @(posedge c) begin r <= 1'b0; m[0] <= 1'b0; end k u(.c(c)); k v(.c(c)); endmodule
+module k(input c); reg r; reg m [0:1]; always @(posedge c) begin r <= 1'b0; m[0] <= 1'b0; end endmodule",
         Fine,
     ),
     // A block that writes no bit that is there.

@@ -63,20 +63,20 @@ pub const DRIVERS: [Shown; 11] = [
     (
         DUO,
         "duo",
-        "17 u.clk=1 < clk=1
-17 u.a_v=1 < a_v=1
-17 a_r=1 < u.a_r=1
-17 u.a_d=255 < a_d=255
-17 v=1 < u.b_v=1
-17 u.b_r=1 < r=1
-17 d=255 < u.b_d=255
-18 w.clk=1 < clk=1
-18 w.a_v=1 < v=1
-18 r=1 < w.a_r=1
-18 w.a_d=255 < d=255
-18 b_v=1 < w.b_v=1
-18 w.b_r=1 < b_r=1
-18 b_d=255 < w.b_d=255
+        "16 u.clk=1 < clk=1
+16 u.a_v=1 < a_v=1
+16 a_r=1 < u.a_r=1
+16 u.a_d=255 < a_d=255
+16 v=1 < u.b_v=1
+16 u.b_r=1 < r=1
+16 d=255 < u.b_d=255
+17 w.clk=1 < clk=1
+17 w.a_v=1 < v=1
+17 r=1 < w.a_r=1
+17 w.a_d=255 < d=255
+17 b_v=1 < w.b_v=1
+17 w.b_r=1 < b_r=1
+17 b_d=255 < w.b_d=255
 5 u.a_r=1 < u.full=1
 6 u.b_v=1 < u.full=1
 7 u.b_d=255 < u.d=255
@@ -244,9 +244,9 @@ pub const NETS: [Shown; 2] = [
     (
         DUO,
         "duo",
-        " clk:1 a_v:1 a_r:1 a_d:8 b_v:1 b_r:1 b_d:8 v:1 r:1 d:8\
- u.clk:1 u.a_v:1 u.a_r:1 u.a_d:8 u.b_v:1 u.b_r:1 u.b_d:8 u.full:1 u.d:8\
- w.clk:1 w.a_v:1 w.a_r:1 w.a_d:8 w.b_v:1 w.b_r:1 w.b_d:8 w.full:1 w.d:8",
+        " clk:1 a_v:1 a_r:1 a_d:8 b_v:1 b_r:1 b_d:8 v:1 r:1 d:8 \
+u.clk:1 u.a_v:1 u.a_r:1 u.a_d:8 u.b_v:1 u.b_r:1 u.b_d:8 u.full:1 u.d:8 \
+w.clk:1 w.a_v:1 w.a_r:1 w.a_d:8 w.b_v:1 w.b_r:1 w.b_d:8 w.full:1 w.d:8",
     ),
     // Items in text order, memories left out; instances in preorder, each with its own widths.
     (
@@ -389,12 +389,14 @@ const REGS_CYCLES: [Cycle; 4] = [
     },
 ];
 
-/// Connections of other widths than the ports': to 2 bits from 4 and from 1, from 4 bits to 8 and to 2, and a sum with its carry.
+/// Connections of other widths than the ports': to 2 bits from 4 and from 1, from 4 bits to 8 and to 2, and a sum with its carry, as in
+/// any assignment.
 const JOINED: &str = "module t(input [3:0] a, b, output [7:0] y, output [1:0] z, output [5:0] s);
 k u(.i(a), .o(y)); k v(.i(a[3]), .o(z)); n w(.i(a + b), .o(s)); endmodule
 module k(input [1:0] i, output [3:0] o); assign o = {~i, i}; endmodule
 module n(input [7:0] i, output [7:0] o); assign o = i * 3; endmodule";
 
+// The same as by Icarus Verilog, but that it takes the sum at 4 bits.
 const JOINED_CYCLES: [Cycle; 3] = [
     // u.i is 10 and u.o 0110; v.i is 01 and v.o 1001, of which z has 01; w.i is 14 + 15 and w.o 87, of which s has 87 - 64.
     Cycle {
@@ -429,38 +431,40 @@ const JOINED_CYCLES: [Cycle; 3] = [
 const MIXED: &str = "module t(input c, input [1:0] a, output [7:0] y, z);
 k u(.c(c), .a(a), .y(y)); k v(.c(c), .a(~a), .y(z)); endmodule
 module k(input c, input [1:0] a, output [7:0] y);
-reg [7:0] m [0:2]; reg [3:0] r = 4'd9;
+reg [7:0] m [0:2]; reg [1:0] p = 2'd2; reg [3:0] r = 4'd9;
 always @* r[1:0] = a;
 assign y = m[a];
-always @(posedge c) begin m[r[3:2]] <= {r, r}; r[3:2] <= r[1:0] + 1; end
+always @(posedge c) begin m[p] <= {r, r}; p <= p + r[1:0]; end
 endmodule";
 
+// The registers are u's p and r, then v's; of r the state holds the upper two bits alone. The same as by Icarus Verilog, but that it
+// reads x behind the last word.
 const MIXED_CYCLES: [Cycle; 3] = [
-    // The initial state: each r holds 10 in its upper bits. u.r is 1001 and v.r 1010; both write word 2, the last one.
+    // The initial state. u.r is 1001 and v.r 1010; both write word 2, the last one.
     Cycle {
-        registers: &[8, 8],
+        registers: &[2, 8, 2, 8],
         words: &[0, 0, 0, 0, 0, 0],
         pins: &[0, 1],
-        settled: &[0, 1, 0, 0, 0, 1, 0, 9, 0, 2, 0, 10],
-        next_registers: &[8, 12],
+        settled: &[0, 1, 0, 0, 0, 1, 0, 2, 9, 0, 2, 0, 2, 10],
+        next_registers: &[3, 8, 0, 8],
         next_words: &[0, 0, 0x99, 0, 0, 0xaa],
     },
-    // u.a is 2 and v.a 1: y is the last word of u, z the middle one of v. u.r is 0110 and writes word 1, v.r is 1101 and writes nothing.
+    // y is the last word of u, z the middle one of v. u.r is 0110 and goes to word 1, v.r is 1101 and would go behind the last word.
     Cycle {
-        registers: &[4, 12],
+        registers: &[1, 4, 3, 12],
         words: &[11, 12, 13, 21, 22, 23],
         pins: &[0, 2],
-        settled: &[0, 2, 13, 22, 0, 2, 13, 6, 0, 1, 22, 13],
-        next_registers: &[12, 8],
+        settled: &[0, 2, 13, 22, 0, 2, 13, 1, 6, 0, 1, 22, 3, 13],
+        next_registers: &[3, 4, 0, 12],
         next_words: &[11, 0x66, 13, 21, 22, 23],
     },
-    // u.a is 3, behind the last word, and v.a 0. u.r is 0011 and writes word 0; v.r is 0000 and writes word 0 of v.
+    // u.a is 3, behind the last word, and v.a is 0. u.r is 0011 and v.r 0000; each goes to word 0.
     Cycle {
-        registers: &[0, 0],
+        registers: &[0, 0, 0, 0],
         words: &[11, 12, 13, 21, 22, 23],
         pins: &[0, 3],
-        settled: &[0, 3, 0, 21, 0, 3, 0, 3, 0, 0, 21, 0],
-        next_registers: &[0, 4],
+        settled: &[0, 3, 0, 21, 0, 3, 0, 0, 3, 0, 0, 21, 0, 0],
+        next_registers: &[3, 0, 0, 0],
         next_words: &[0x33, 12, 13, 0, 22, 23],
     },
 ];
@@ -471,5 +475,5 @@ pub type Start = (&'static str, &'static str, &'static [u128], usize);
 pub const STARTS: [Start; 3] = [
     (DUO, "duo", &[0, 0, 0, 0], 0),
     (REGS, "regs", &[0, 0, 0, 0, 0], 16),
-    (MIXED, "t", &[8, 8], 6),
+    (MIXED, "t", &[2, 8, 2, 8], 6),
 ];
