@@ -3,7 +3,7 @@
 
     check_language.py VIDI PAGE
 
-A text is a block fenced by ```verilog, and behind it stands: `vidi check FILE TOP` prints `LINE`.
+A text is a block fenced by ```verilog, and behind it stands: `vidi check FILE TOP` prints `LINE`, or `LINE` and `LINE`.
 """
 import os
 import re
@@ -11,7 +11,7 @@ import subprocess
 import sys
 import tempfile
 
-TEXT = re.compile(r"```verilog\n(.*?)```\n\n`vidi check FILE (\w+)` prints `([^`]*)`", re.S)
+TEXT = re.compile(r"```verilog\n(.*?)```\n\n`vidi check FILE (\w+)` prints `([^`]*)`(?:\s+and\s+`([^`]*)`)?", re.S)
 
 
 def main():
@@ -21,13 +21,15 @@ def main():
         sys.exit("a text of the page has no line that it prints")
     wrong = 0
     with tempfile.TemporaryDirectory() as folder:
-        for text, top, line in texts:
+        for text, top, *lines in texts:
+            said = "".join(line + "\n" for line in lines if line)
             name = os.path.join(folder, "design.v")
             open(name, "w").write(text)
             run = subprocess.run([vidi, "check", name, top], capture_output=True, text=True)
-            if run.stdout != line + "\n":
+            status = 4 if said.startswith("vidi: refused") else 0
+            if (run.returncode, run.stdout) != (status, said):
                 wrong += 1
-                print(f"the page says {line!r}, vidi prints {run.stdout!r}")
+                print(f"the page says {said!r}, vidi prints {run.stdout!r} with status {run.returncode}")
     print(f"{len(texts)} texts of {sys.argv[2]}, {wrong} wrong")
     sys.exit(1 if wrong else 0)
 

@@ -17,3 +17,12 @@ pub struct MapText {
     ghost named: { list_all is_named (entries lines) ≡ true },
     ghost one_clock: { flat_map clock_name (entries lines) ≡ clock ∷ [] },
 }
+
+impl MapText {
+    /// The name of the top module.
+    pub fn top(&self) -> &Name
+        ensures { result.now ≡ self.now.top }
+    {
+        &self.top
+    }
+}

@@ -4,12 +4,17 @@ use Rattle.report_text.specs.declared.reason.Word.{Word}
 use Rattle.report_text.specs.declared.reason.Word.TheVariants as words
 use Rattle.report_text.specs.declared.reason.Big.{Big}
 use Rattle.report_text.specs.declared.reason.Big.TheVariants.{Instances, Nets, Words}
+use Rattle.report_text.specs.declared.reason.MapLimit.{MapLimit}
+use Rattle.report_text.specs.declared.reason.MapLimit.TheVariants.{Channels, Ports, Bytes}
 use Rattle.report_text.specs.declared.reason.Reason.{Reason}
 use Rattle.report_text.specs.declared.reason.Reason.TheVariants as reasons
 use Rattle.report_text.specs.Text.{newline, spaced}
 
 abbrev pub word_text : Word → List ℕ
 word_text words.Design = codes "design"
+word_text words.Map = codes "map"
+word_text words.Script = codes "script"
+word_text words.Stalls = codes "stalls"
 word_text words.Trace = codes "trace"
 word_text words.Other = codes "other"
 
@@ -38,6 +43,23 @@ latch_text name line = (codes "E9 latch " ++ name) ++ (codes " line " ++ decimal
 abbrev pub loop_text : List ℕ → List ℕ
 loop_text lines = codes "E10 loop lines" ++ spaced lines
 
+abbrev pub limit_name : MapLimit → List ℕ
+limit_name Channels = codes "channels"
+limit_name Ports = codes "ports"
+limit_name Bytes = codes "bytes"
+
+-- `M3 cover X times N`
+abbrev pub cover_text : List ℕ → ℕ → List ℕ
+cover_text port times = (codes "M3 cover " ++ port) ++ (codes " times " ++ decimal times)
+
+-- `M4 limit channels got N`
+abbrev pub limit_text : MapLimit → ℕ → List ℕ
+limit_text what got = (codes "M4 limit " ++ limit_name what) ++ (codes " got " ++ decimal got)
+
+-- `too small need N given N`
+abbrev pub small_text : ℕ → ℕ → List ℕ
+small_text need given = (codes "too small need " ++ decimal need) ++ (codes " given " ++ decimal given)
+
 abbrev pub reason_text : Reason → List ℕ
 reason_text (reasons.TooLong limit) = codes "too long, limit " ++ decimal limit
 reason_text (reasons.Word line) = codes "E1 word line " ++ decimal line
@@ -54,6 +76,15 @@ reason_text (reasons.Clock line) = codes "E13 clock line " ++ decimal line
 reason_text (reasons.Drive name bit drivers) = drive_text name bit drivers
 reason_text (reasons.Latch name line) = latch_text name line
 reason_text (reasons.Loop lines) = loop_text lines
+reason_text (reasons.MapLine line) = codes "M1 line " ++ decimal line
+reason_text (reasons.MapPort line) = codes "M2 port line " ++ decimal line
+reason_text (reasons.Cover port times) = cover_text port times
+reason_text (reasons.Limit what got) = limit_text what got
+reason_text (reasons.ScriptLine line) = codes "S1 line " ++ decimal line
+reason_text (reasons.ScriptChannel line) = codes "S2 channel line " ++ decimal line
+reason_text (reasons.ScriptNumber line) = codes "S3 number line " ++ decimal line
+reason_text (reasons.StallLine line) = codes "P1 line " ++ decimal line
+reason_text (reasons.TooSmall need given) = small_text need given
 reason_text (reasons.BadTrace at) = codes "bad trace at " ++ decimal at
 reason_text (reasons.OtherChannels at) = codes "other channels at " ++ decimal at
 

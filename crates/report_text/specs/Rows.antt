@@ -29,3 +29,7 @@ row_lines channels x = row_starts channels x.0 x.1 ++ row_ends channels x.0 x.1
 -- what `run` prints of its rows
 abbrev pub rows_text : List Row → List Channel → List ℕ
 rows_text rows channels = flat_map (row_lines channels) (enumerate_from 0 rows)
+
+-- what `run` prints: the lines of its rows, and a last line
+abbrev pub run_text : List Row → List Channel → List ℕ → List ℕ
+run_text rows channels last = rows_text rows channels ++ last

@@ -14,8 +14,8 @@ mod text;
 mod trace_lines;
 mod trace_text;
 
-pub use reason::{Big, Reason, Word, read_fault_line, reason_line};
+pub use reason::{Big, MapLimit, Reason, Word, read_fault_line, reason_line};
 pub use report::report_lines;
-pub use row_lines::rows_text;
+pub use row_lines::{RunLines, rows_text};
 pub use text::{put, put_number, put_numbers};
 pub use trace_lines::{TraceLines, dump_text};

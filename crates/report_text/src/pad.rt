@@ -5,6 +5,9 @@ ghost use Rattle.std.specs.Prelude.{◌≤◌, length};
 use std::alloc::Global;
 use vidi_bits::Memory;
 
+/// How many bytes are gathered for one push.
+pub const PAD_BYTES: usize = 65_536;
+
 /// A text in memory that was taken once, its room: it never has more bytes.
 #[derive(Drop)]
 pub struct Pad {

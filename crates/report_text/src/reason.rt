@@ -13,6 +13,10 @@ use vidi_bits::{Bytes, Items, Memory, Name};
 #[derive(Clone, Copy, Debug, PartialEq, Eq)]
 pub enum Word {
     Design,
+    Map,
+    Script,
+    /// The plan of stalls.
+    Stalls,
     Trace,
     /// The second trace of a comparison.
     Other,
@@ -27,6 +31,17 @@ pub enum Big {
     Nets,
     /// More than 1,048,576 memory words.
     Words,
+}
+
+/// A limit of a map.
+#[derive(Clone, Copy, Debug, PartialEq, Eq)]
+pub enum MapLimit {
+    /// 1 to 32 channels.
+    Channels,
+    /// At most 16 content ports of a channel.
+    Ports,
+    /// At most 1,024 content bytes of all channels.
+    Bytes,
 }
 
 /// Why a file is refused. Lines are counted from 1.
@@ -63,6 +78,24 @@ pub enum Reason {
     Latch { name: Name, line: u32 },
     /// E10: the drivers on these lines read one another in a circle.
     Loop { lines: Items<u32> },
+    /// M1: this line of the map is bad, of no form or missing.
+    MapLine { line: u32 },
+    /// M2: this line of the map doesn't fit the design's ports.
+    MapPort { line: u32 },
+    /// M3: the map names this port of the top so many times, which isn't once.
+    Cover { port: Name, times: u32 },
+    /// M4: a limit of the map, and what is outside it.
+    Limit { what: MapLimit, got: u32 },
+    /// S1: this line of the script is bad, of no form or missing.
+    ScriptLine { line: u32 },
+    /// S2: the channel on this line of the script isn't in the map, or has the other direction.
+    ScriptChannel { line: u32 },
+    /// S3: a number on this line of the script is out of range.
+    ScriptNumber { line: u32 },
+    /// P1: this line of the plan of stalls is bad, of no form or missing.
+    StallLine { line: u32 },
+    /// The store of the plan has fewer bytes than the map's channels need.
+    TooSmall { need: u64, given: u32 },
     /// The file is no encoding of a trace; `at` is the place of the fault in bytes.
     BadTrace { at: u64 },
     /// The channels of the second trace are others than those of the first, first at place `at`.
@@ -101,8 +134,48 @@ fn put_reason(text: &mut Vec<u8>, reason: &Reason) -> Result<(), Memory>
         Reason::Drive { name, bit, drivers } => put_drive(text, name.as_slice(), *bit, *drivers),
         Reason::Latch { name, line } => put_latch(text, name.as_slice(), *line),
         Reason::Loop { lines } => put_loop(text, lines.as_slice()),
+        Reason::MapLine { line } => put_with(text, b"M1 line ", *line),
+        Reason::MapPort { line } => put_with(text, b"M2 port line ", *line),
+        Reason::Cover { port, times } => put_cover(text, port.as_slice(), *times),
+        Reason::Limit { what, got } => put_limit(text, *what, *got),
+        Reason::ScriptLine { line } => put_with(text, b"S1 line ", *line),
+        Reason::ScriptChannel { line } => put_with(text, b"S2 channel line ", *line),
+        Reason::ScriptNumber { line } => put_with(text, b"S3 number line ", *line),
+        Reason::StallLine { line } => put_with(text, b"P1 line ", *line),
+        Reason::TooSmall { need, given } => put_small(text, *need, *given),
         Reason::BadTrace { at } => put_with(text, b"bad trace at ", *at),
         Reason::OtherChannels { at } => put_with(text, b"other channels at ", *at),
+    }
+}
+
+fn put_cover(text: &mut Vec<u8>, port: &[u8], times: u32) -> Result<(), Memory>
+    ensures { OnOk result (text.new.items ≡ text.old.items ++ said.cover_text port.now times) }
+{
+    put_named(text, b"M3 cover ", port)?;
+    put_with(text, b" times ", times)
+}
+
+fn put_limit(text: &mut Vec<u8>, what: MapLimit, got: u32) -> Result<(), Memory>
+    ensures { OnOk result (text.new.items ≡ text.old.items ++ said.limit_text what got) }
+{
+    put_named(text, b"M4 limit ", limit_name(what))?;
+    put_with(text, b" got ", got)
+}
+
+fn put_small(text: &mut Vec<u8>, need: u64, given: u32) -> Result<(), Memory>
+    ensures { OnOk result (text.new.items ≡ text.old.items ++ said.small_text need given) }
+{
+    put_with(text, b"too small need ", need)?;
+    put_with(text, b" given ", given)
+}
+
+fn limit_name(what: MapLimit) -> &'static [u8]
+    ensures { result.now ≡ said.limit_name what }
+{
+    match what {
+        MapLimit::Channels => b"channels",
+        MapLimit::Ports => b"ports",
+        MapLimit::Bytes => b"bytes",
     }
 }
 
@@ -184,6 +257,9 @@ fn word_text(word: Word) -> &'static [u8]
 {
     match word {
         Word::Design => b"design",
+        Word::Map => b"map",
+        Word::Script => b"script",
+        Word::Stalls => b"stalls",
         Word::Trace => b"trace",
         Word::Other => b"other",
     }

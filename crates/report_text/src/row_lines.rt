@@ -1,15 +1,22 @@
 //! The text of the rows of a run: the starts and ends of each cycle.
 
-ghost use Rattle.std.specs.Prelude.{◌≡◌, ◌++◌, [], codes, decimal, if◌then◌else◌, IfOk, length, take, drop};
+ghost use Rattle.std.specs.Prelude.{◌≡◌, ◌++◌, [], codes, decimal, if◌then◌else◌, IfOk, OnOk, OnErr, length, take, drop};
+ghost use Rattle.std.specs.Io.KnownBytes.{append_known};
+ghost use Rattle.report_text.specs.Pad.{shown};
+ghost use Rattle.vidi_io.specs.Cause.{HasCause};
+ghost use Rattle.vidi_io.specs.Sink.{AppendsSome, Frame};
 ghost use Rattle.report_text.specs.Rows as said;
 ghost use Rattle.report_text.specs.Text.{newline, spaced};
 
 use crate::draft::Draft;
+use crate::pad::{PAD_BYTES, Pad};
 use crate::page::{Page, print_number, print_numbers};
+use crate::printer::Printer;
 use crate::trace_text::{print_end, split_content};
 use std::alloc::Global;
 use trace_model::{Channel, Channels, Row, Rows, names};
 use vidi_bits::{Bytes, Memory};
+use vidi_io::{Failed, Sink};
 
 /// The lines that `run` prints of its rows, without the last line.
 pub fn rows_text(alloc: Global, rows: &Rows, channels: &Channels) -> Result<Bytes, Memory>
@@ -18,6 +25,66 @@ pub fn rows_text(alloc: Global, rows: &Rows, channels: &Channels) -> Result<Byte
     let mut draft = Draft::new(alloc);
     print_rows(&mut draft, rows.as_slice(), channels.as_slice());
     draft.finish()
+}
+
+/// The rows of a run with the line behind theirs, and all memory that printing them takes.
+#[derive(Drop)]
+pub struct RunLines {
+    pub rows: Rows,
+    pub channels: Channels,
+    pub last: Bytes,
+    pad: Pad,
+    ghost blank: { shown pad ≡ [] },
+}
+
+impl RunLines {
+    /// The lines of these rows over these channels, and then `last`. Printing them takes no more memory.
+    pub fn new(
+        alloc: Global,
+        rows: Rows,
+        channels: Channels,
+        last: Bytes,
+    ) -> Result<RunLines, Memory>
+        ensures rows { IfOk result (λ lines. lines.rows ≡ rows) }
+        ensures channels { IfOk result (λ lines. lines.channels ≡ channels) }
+        ensures last { IfOk result (λ lines. lines.last ≡ last) }
+    {
+        let pad = Pad::new(alloc, PAD_BYTES)?;
+        Ok(RunLines {
+            rows,
+            channels,
+            last,
+            pad,
+        })
+    }
+
+    /// Pushes the lines, as many bytes at a time as the pad holds. After `Failed` some front of them was
+    /// written.
+    pub fn print<O: Sink>(self, out: &mut O) -> Result<(), Failed>
+        ensures ok { OnOk result (O.told out.new ≡ append_known (O.told out.old) (said.run_text self.rows self.channels self.last)) }
+        ensures err { OnErr result (AppendsSome (O.told out.old) (O.told out.new) (said.run_text self.rows self.channels self.last)) }
+        ensures cause { HasCause (O.faults out.old) (O.faults out.new) result }
+        ensures place { O.place out.new ≡ O.place out.old }
+        ensures frame { (f : Frame) → O.has_frame out.old f → O.has_frame out.new f }
+    {
+        let RunLines {
+            rows,
+            channels,
+            last,
+            mut pad,
+        } = self;
+        let mut printer = Printer::new(out, &mut pad);
+        print_run(&mut printer, &rows, &channels, &last);
+        printer.finish()
+    }
+}
+
+/// Prints the lines of all rows, and a last one.
+fn print_run<P: Page>(page: &mut P, rows: &Rows, channels: &Channels, last: &Bytes)
+    ensures { P.went page.old page.new (said.run_text rows.now channels.now last.now) }
+{
+    print_rows(page, rows.as_slice(), channels.as_slice());
+    page.print(last.as_slice());
 }
 
 /// Prints the lines of all rows.

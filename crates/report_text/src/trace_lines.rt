@@ -8,16 +8,13 @@ ghost use Rattle.vidi_io.specs.Cause.{HasCause};
 ghost use Rattle.vidi_io.specs.Sink.{AppendsSome, Frame};
 
 use crate::draft::Draft;
-use crate::pad::Pad;
+use crate::pad::{PAD_BYTES, Pad};
 use crate::printer::Printer;
 use crate::trace_text::print_trace;
 use std::alloc::Global;
 use trace_model::Trace;
 use vidi_bits::{Bytes, Memory};
 use vidi_io::{Failed, Sink};
-
-/// How many bytes are gathered for one push.
-const PAD_BYTES: usize = 65_536;
 
 /// How many bytes the text of a clock of so many channels has at most.
 fn clock_bytes(channels: usize) -> Option<usize>

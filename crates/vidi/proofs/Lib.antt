@@ -11,3 +11,7 @@ pub mod Saying
 pub mod Reading
 pub mod Checking
 pub mod Comparing
+pub mod PortNets
+pub mod Running
+pub mod OneRun
+pub mod DriverLines

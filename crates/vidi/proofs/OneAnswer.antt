@@ -1,14 +1,13 @@
 -- Of a shelf that tells its files, with no failed read, two answers that are earned are one.
-use Rattle.std.proofs.Common.{◌≡◌, ℕ, List, [], ◌∷◌, Option, Some, length, get_or, inl, inr, sym, ap, subst, ◌∙◌, arith, codes}
+use Rattle.std.proofs.Common.{◌≡◌, ℕ, List, [], ◌∷◌, Option, Some, length, get_or, inl, inr, refl, sym, ap, subst, ◌∙◌, arith, codes}
 use Rattle.trace_code.specs.Decoding.{OnePlace, OneReading}
 use Rattle.trace_code.specs.Salvage.{OneSalvage}
 use Rattle.vidi_io.specs.Shelf.{Files}
 use Rattle.vidi.specs.declared.status.Status.{Status}
-use Rattle.vidi.specs.Command.{Command, Dump, Check, Compare, Salvage, IsGiven}
-use Rattle.vidi.specs.Answer.{Does, OneAnswer}
-use Rattle.vidi.proofs.Endings.{Same}
+use Rattle.vidi.specs.Command.{Command, Dump, Check, Run, Compare, Salvage, IsGiven}
+use Rattle.vidi.specs.Answer.{Does, IsNoRun, OneAnswer}
 use Rattle.vidi.proofs.OneDump.{one_dump}
-use Rattle.vidi.proofs.OneCheck.{TextLaws, one_check}
+use Rattle.vidi.proofs.OneCheck.{TextLaws, Alike, one_check}
 use Rattle.vidi.proofs.OneCompare.{one_compare}
 use Rattle.vidi.proofs.OneSalvaged.{one_salvaged}
 
@@ -23,6 +22,15 @@ first_of_three a b c d e f same = cc
 
 two_three : (a b c d e : List ℕ) → a ∷ b ∷ [] ≡ c ∷ d ∷ e ∷ [] → ⊥
 two_three a b c d e same = let lengths : 2 ≡ 3 = ap (λ (xs : List (List ℕ)). length xs) same in omega (arith, lengths)
+
+two_four : (a b c d e f : List ℕ) → a ∷ b ∷ [] ≡ c ∷ d ∷ e ∷ f ∷ [] → ⊥
+two_four a b c d e f same = let lengths : 2 ≡ 4 = ap (λ (xs : List (List ℕ)). length xs) same in omega (arith, lengths)
+
+three_four : (a b c d e f h : List ℕ) → a ∷ b ∷ c ∷ [] ≡ d ∷ e ∷ f ∷ h ∷ [] → ⊥
+three_four a b c d e f h same = let lengths : 3 ≡ 4 = ap (λ (xs : List (List ℕ)). length xs) same in omega (arith, lengths)
+
+same_three : (a d p q e r t : List ℕ) → a ∷ d ∷ p ∷ q ∷ [] ≡ a ∷ e ∷ r ∷ t ∷ [] → (d ≡ e) × (p ≡ r) × (q ≡ t)
+same_three a d p q e r t same = (cc, cc, cc)
 
 check-compare : codes "check" ≡ codes "compare" → ⊥
 check-compare e = cc
@@ -40,6 +48,16 @@ one_command words (Dump t) (Dump u) g h = ap Dump (second (codes "dump") t u (sy
 one_command words (Dump t) (Check e q) g h = absurd (two_three (codes "dump") t (codes "check") e q (sym g ∙ h))
 one_command words (Dump t) (Compare e q) g h = absurd (two_three (codes "dump") t (codes "compare") e q (sym g ∙ h))
 one_command words (Dump t) (Salvage e q) g (h, _) = absurd (two_three (codes "dump") t (codes "salvage") e q (sym g ∙ h))
+one_command words (Dump t) (Run e q r) g h = absurd (two_four (codes "dump") t (codes "run") e q r (sym g ∙ h))
+one_command words (Run d p q) (Dump u) g h = absurd (two_four (codes "dump") u (codes "run") d p q (sym h ∙ g))
+one_command words (Run d p q) (Check e r) g h = absurd (three_four (codes "check") e r (codes "run") d p q (sym h ∙ g))
+one_command words (Run d p q) (Compare e r) g h = absurd (three_four (codes "compare") e r (codes "run") d p q (sym h ∙ g))
+one_command words (Run d p q) (Salvage e r) g (h, _) = absurd (three_four (codes "salvage") e r (codes "run") d p q (sym h ∙ g))
+one_command words (Run d p q) (Run e r t) g h =
+    let s = same_three (codes "run") d p q e r t (sym g ∙ h) in λ i. Run (s.0 i) (s.1 i) (s.2 i)
+one_command words (Check d p) (Run e q r) g h = absurd (three_four (codes "check") d p (codes "run") e q r (sym g ∙ h))
+one_command words (Compare d p) (Run e q r) g h = absurd (three_four (codes "compare") d p (codes "run") e q r (sym g ∙ h))
+one_command words (Salvage d p) (Run e q r) (g, _) h = absurd (three_four (codes "salvage") d p (codes "run") e q r (sym g ∙ h))
 one_command words (Check d p) (Dump u) g h = absurd (two_three (codes "dump") u (codes "check") d p (sym h ∙ g))
 one_command words (Check d p) (Check e q) g h =
     let s = same_pair (codes "check") d p e q (sym g ∙ h) in λ i. Check (s.0 i) (s.1 i)
@@ -65,9 +83,15 @@ one_command words (Salvage d p) (Salvage e q) (g, _) (h, _) =
 abbrev SameLeft : Status → Status → List ℕ → List ℕ → Option Files → Option Files → Type 0
 SameLeft a b x y left right = (a ≡ b) × (x ≡ y) × (left ≡ right)
 
-kept : (files : Files) (a b : Status) (x y : List ℕ) (left right : Option Files) → Same a b x y → left ≡ Some files → right ≡ Some files
-    → SameLeft a b x y left right
-kept files a b x y left right same l r = (same.0, same.1, l ∙ sym r)
+abbrev AlikeLeft : Status → Status → List ℕ → List ℕ → Option Files → Option Files → Type 0
+AlikeLeft a b x y left right = Alike a b x y × (left ≡ right)
+
+kept : (files : Files) (a b : Status) (x y : List ℕ) (left right : Option Files) → Alike a b x y → left ≡ Some files → right ≡ Some files
+    → AlikeLeft a b x y left right
+kept files a b x y left right same l r = (same, l ∙ sym r)
+
+all-same : (a b : Status) (x y : List ℕ) (left right : Option Files) → SameLeft a b x y left right → AlikeLeft a b x y left right
+all-same a b x y left right (s, t, l) = (inr (s, t), l)
 
 -- the laws on which this rests
 pub record Laws : Type 0 where
@@ -76,24 +100,27 @@ pub record Laws : Type 0 where
   pub salvage : OneSalvage
   pub texts : TextLaws
 
-one_deed : Laws → (c : Command) (files : Files) (a b : Status) (x y : List ℕ) (left right : Option Files)
-    → Does c (Some files) (λ _. ⊥) a x left → Does c (Some files) (λ _. ⊥) b y right → SameLeft a b x y left right
-one_deed laws (Dump trace) files a b x y left right (d, l) (e, r) =
-    kept files a b x y left right (one_dump laws.reading laws.place trace files a b x y d e) l r
-one_deed laws (Check design top) files a b x y left right (d, l) (e, r) =
+one_deed : Laws → (c : Command) → ((d m s : List ℕ) → c ≡ Run d m s → ⊥) → (files : Files) (a b : Status) (x y : List ℕ) (left right : Option Files)
+    → Does c (Some files) (λ _. ⊥) a x left → Does c (Some files) (λ _. ⊥) b y right → AlikeLeft a b x y left right
+one_deed laws (Dump trace) unasked files a b x y left right (d, l) (e, r) =
+    kept files a b x y left right (inr (one_dump laws.reading laws.place trace files a b x y d e)) l r
+one_deed laws (Run design map script) unasked files a b x y left right d e = absurd (unasked design map script refl)
+one_deed laws (Check design top) unasked files a b x y left right (d, l) (e, r) =
     kept files a b x y left right (one_check laws.texts design top files a b x y d e) l r
-one_deed laws (Compare trace other) files a b x y left right (d, l) (e, r) =
-    kept files a b x y left right (one_compare laws.reading laws.place trace other files a b x y d e) l r
-one_deed laws (Salvage trace out) files a b x y left right d e = one_salvaged laws.salvage trace out files a b x y left right d e
+one_deed laws (Compare trace other) unasked files a b x y left right (d, l) (e, r) =
+    kept files a b x y left right (inr (one_compare laws.reading laws.place trace other files a b x y d e)) l r
+one_deed laws (Salvage trace out) unasked files a b x y left right d e =
+    all-same a b x y left right (one_salvaged laws.salvage trace out files a b x y left right d e)
 
 pub one_answer_lem : Laws → OneAnswer
-one_answer_lem laws words files a b x y left right (inr (inl (said, _))) _ = inl said.0
-one_answer_lem laws words files a b x y left right _ (inr (inl (said, _))) = inr (inl said.0)
-one_answer_lem laws words files a b x y left right (inl (none, s, l)) (inl (none', s', r)) =
-    inr (inr (s.0 ∙ sym s'.0, s.1 ∙ sym s'.1, l ∙ sym r))
-one_answer_lem laws words files a b x y left right (inl (none, s, l)) (inr (inr (c, given, d))) = absurd (none c given)
-one_answer_lem laws words files a b x y left right (inr (inr (c, given, d))) (inl (none, s, r)) = absurd (none c given)
-one_answer_lem laws words files a b x y left right (inr (inr (c, given, d))) (inr (inr (k, given', e))) =
+one_answer_lem laws words unasked files a b x y left right (inr (inl (said, _))) _ = inl said.0
+one_answer_lem laws words unasked files a b x y left right _ (inr (inl (said, _))) = inr (inl said.0)
+one_answer_lem laws words unasked files a b x y left right (inl (none, s, l)) (inl (none', s', r)) =
+    inr (inr (inr (s.0 ∙ sym s'.0, s.1 ∙ sym s'.1), l ∙ sym r))
+one_answer_lem laws words unasked files a b x y left right (inl (none, s, l)) (inr (inr (c, given, d))) = absurd (none c given)
+one_answer_lem laws words unasked files a b x y left right (inr (inr (c, given, d))) (inl (none, s, r)) = absurd (none c given)
+one_answer_lem laws words unasked files a b x y left right (inr (inr (c, given, d))) (inr (inr (k, given', e))) =
     let same = one_command words k c given' given in
-    inr (inr (one_deed laws c files a b x y left right d
+    let never = λ (u m s : List ℕ) (is : c ≡ Run u m s). unasked u m s (subst (IsGiven words) is given) in
+    inr (inr (one_deed laws c never files a b x y left right d
     (subst (λ (m : Command). Does m (Some files) (λ _. ⊥) b y right) same e)))

@@ -1,5 +1,5 @@
 -- `check`: one answer, none of them a failed write.
-use Rattle.std.proofs.Common.{◌≡◌, ◌⊎◌, ℕ, List, Option, None, Some, inl, inr, sym, ap, subst, ◌∙◌}
+use Rattle.std.proofs.Common.{◌≡◌, ◌⊎◌, ℕ, List, Option, None, Some, inl, inr, sym, ap, subst, ◌∙◌, map}
 use Rattle.vlog_lex.specs.declared.token.Token.{Token}
 use Rattle.vlog_lex.specs.Reading.{HasTokens, OneReading, OneStuckLine, ReadOrStuck}
 use Rattle.vlog_tree.specs.Tree.{FileOf}
@@ -8,20 +8,24 @@ use Rattle.vlog_expr.specs.Marks.{all_marked}
 use Rattle.vlog_parse.specs.Depth.{OneDepth}
 use Rattle.vlog_parse.specs.Parsing.{LinedFilesAreFiles, OneLinedFile}
 use Rattle.vlog_parse.specs.Units.{OneItemLine}
+use Rattle.net_design.specs.declared.design.Design.{Design}
+use Rattle.vlog_design.specs.Design.{IsDesignOf, file_counts}
+use Rattle.vlog_design.specs.Laws.{LoopsAlike}
 use Rattle.vlog_elab.specs.declared.error.ElabError.{ElabError}
 use Rattle.vlog_elab.specs.declared.error.ElabError.TheVariants.{Memory}
 use Rattle.vidi_io.specs.Shelf.{Files}
 use Rattle.report_text.specs.declared.reason.Word.TheVariants as words
 use Rattle.report_text.specs.declared.reason.Reason.{Reason}
-use Rattle.report_text.specs.declared.reason.Reason.TheVariants.{Word, Deep, Item}
+use Rattle.report_text.specs.declared.reason.Reason.TheVariants.{Word, Deep, Item, Loop}
 use Rattle.report_text.specs.Reason.{reason_line}
 use Rattle.vidi.specs.declared.status.Status.{Status}
 use Rattle.vidi.specs.declared.status.Status.TheVariants.{Done, WriteFault, Refused}
 use Rattle.vidi.specs.Steps.{Ending, IsRefusal}
 use Rattle.vidi.specs.Design.{text_limit, reason_of, IsNoWord, IsTooDeep, IsNoFile, IsFile, IsRefusedFile, CheckedFile, CheckedTokens}
-use Rattle.vidi.specs.Design.{CheckedText, Checks}
+use Rattle.vidi.specs.Design.{CheckedText, CheckedDesign, Checks, line_of}
+use Rattle.vidi.specs.Answer.{NamesLoop}
 use Rattle.vidi.specs.Said.{check_text}
-use Rattle.vidi.proofs.Endings.{One, one-said, one-step, one-reading}
+use Rattle.vidi.proofs.Endings.{Same, One, OneBy, one-said, one-step-by, one-reading-by}
 use Rattle.vidi.proofs.OneRefusal.{one_refusal, refused_clear}
 use Rattle.vidi.proofs.Endings.{Mute, mute-step, mute-reading, mute-refusal, mute-said}
 
@@ -34,6 +38,7 @@ pub record TextLaws : Type 0 where
   pub depth : OneDepth ℕ
   pub word : OneStuckLine
   pub item : OneItemLine
+  pub loops : LoopsAlike
 
 one-no_word : TextLaws → (text : List ℕ) → One (IsNoWord text)
 one-no_word laws text a b x y (l, stuck, s) (k, stuck', s') =
@@ -50,7 +55,7 @@ one-no_file laws tokens a b x y (l, its, shallow, none, s) (k, its', shallow', n
     one-said (Refused words.Design (Item l)) (reason_line words.Design (Item l)) a b x y s
     (subst (λ (n : ℕ). IsRefusal words.Design (Item n) b y) (laws.item (all_marked tokens) k l its' its) s')
 
-abbrev IsNone : List Token → Ending
+abbrev pub IsNone : List Token → Ending
 IsNone tokens status said = IsTooDeep tokens status said ⊎ IsNoFile tokens status said
 
 one-none : TextLaws → (tokens : List Token) → One (IsNone tokens)
@@ -86,41 +91,66 @@ one-refused_file top f a b x y (e, is, (r, names, s)) (d, is', (q, names', s')) 
   ]
 ]
 
-one-checked_file : (top : List ℕ) (f : FileOf ℕ) → One (CheckedFile top f)
-one-checked_file top f a b x y (inl bad) (inl bad') = one-refused_file top f a b x y bad bad'
-one-checked_file top f a b x y (inl (e, is, (r, names, s))) (inr (clear, s')) =
-    absurd (no_reason e r names (refused_clear f top e is clear))
-one-checked_file top f a b x y (inr (clear, s)) (inl (e, is, (r, names, s'))) =
-    absurd (no_reason e r names (refused_clear f top e is clear))
-one-checked_file top f a b x y (inr (clear, s)) (inr (clear', s')) = one-said Done (check_text f) a b x y s s'
+-- the same answer, or both name a loop
+abbrev pub Alike : Status → Status → List ℕ → List ℕ → Type 0
+Alike a b x y = (NamesLoop a × NamesLoop b) ⊎ Same a b x y
 
-one-checked_tokens : TextLaws → (top : List ℕ) (tokens : List Token) → One (CheckedTokens top tokens)
+alike : (a b : Status) (x y : List ℕ) → Same a b x y → Alike a b x y
+alike a b x y same = inr same
+
+names-loop : (a : Status) (x lines : List ℕ) → IsRefusal words.Design (Loop lines) a x → NamesLoop a
+names-loop a x lines s = subst NamesLoop (sym s.0) tt
+
+one-checked_design : TextLaws → (top : List ℕ) (f : FileOf ℕ) (d e : Design) → IsDesignOf f top d → IsDesignOf f top e → (a b : Status)
+    (x y : List ℕ) → CheckedDesign top f d a x → CheckedDesign top f e b y → Alike a b x y
+one-checked_design laws top f d e is is' a b x y (inl (loop, l, s)) (inl (loop', l', s')) =
+    inl (names-loop a x (map (line_of d.drivers) loop) s, names-loop b y (map (line_of e.drivers) loop') s')
+one-checked_design laws top f d e is is' a b x y (inl (loop, l, s)) (inr (order, o, s')) = absurd (laws.loops f top d e is is' loop order l o)
+one-checked_design laws top f d e is is' a b x y (inr (order, o, s)) (inl (loop, l, s')) = absurd (laws.loops f top e d is' is loop order l o)
+one-checked_design laws top f d e is is' a b x y (inr (order, o, s)) (inr (order', o', s')) =
+    inr (one-said Done (check_text f (file_counts f top)) a b x y s s')
+
+one-checked_file : TextLaws → (top : List ℕ) (f : FileOf ℕ) → OneBy Alike (CheckedFile top f)
+one-checked_file laws top f a b x y (inl bad) (inl bad') = inr (one-refused_file top f a b x y bad bad')
+one-checked_file laws top f a b x y (inl (e, is, (r, names, s))) (inr (d, (clear, of), s')) =
+    absurd (no_reason e r names (refused_clear f top e is clear))
+one-checked_file laws top f a b x y (inr (d, (clear, of), s)) (inl (e, is, (r, names, s'))) =
+    absurd (no_reason e r names (refused_clear f top e is clear))
+one-checked_file laws top f a b x y (inr (d, (clear, of), s)) (inr (e, (clear', of'), s')) =
+    one-checked_design laws top f d e of of' a b x y s s'
+
+one-checked_tokens : TextLaws → (top : List ℕ) (tokens : List Token) → OneBy Alike (CheckedTokens top tokens)
 one-checked_tokens laws top tokens =
-    one-step (IsNone tokens) (IsFile tokens) (CheckedFile top) (one-none laws tokens)
-    (one-file laws tokens) (none-file laws tokens) (λ f _. one-checked_file top f)
+    one-step-by Alike (IsNone tokens) (IsFile tokens) (CheckedFile top)
+    (λ a b x y e f. alike a b x y (one-none laws tokens a b x y e f))
+    (one-file laws tokens) (none-file laws tokens) (λ f _. one-checked_file laws top f)
 
-one-checked_text : TextLaws → (top text : List ℕ) → One (CheckedText top text)
+one-checked_text : TextLaws → (top text : List ℕ) → OneBy Alike (CheckedText top text)
 one-checked_text laws top text =
-    one-step (IsNoWord text) (HasTokens text) (CheckedTokens top) (one-no_word laws text) (laws.reading text)
+    one-step-by Alike (IsNoWord text) (HasTokens text) (CheckedTokens top)
+    (λ a b x y e f. alike a b x y (one-no_word laws text a b x y e f)) (laws.reading text)
     (λ a x tokens bad has. laws.stuck text tokens has bad.1.0) (λ tokens _. one-checked_tokens laws top tokens)
 
-pub one_check : TextLaws → (design top : List ℕ) (files : Files) → One (Checks design top (Some files) (λ _. ⊥))
-one_check laws design top files = one-reading text_limit words.Design design files (CheckedText top) (one-checked_text laws top)
+pub one_check : TextLaws → (design top : List ℕ) (files : Files) → OneBy Alike (Checks design top (Some files) (λ _. ⊥))
+one_check laws design top files =
+    one-reading-by Alike alike text_limit words.Design design files (CheckedText top) (one-checked_text laws top)
 
 -- ---- no failed write
 done-goes : Done ≡ WriteFault → ⊥
 done-goes e = cc
 
-mute-none : (tokens : List Token) → Mute (IsNone tokens)
+pub mute-none : (tokens : List Token) → Mute (IsNone tokens)
 mute-none tokens x (inl (l, deep, s)) = mute-refusal words.Design (Deep l) x s
 mute-none tokens x (inr (l, its, shallow, none, s)) = mute-refusal words.Design (Item l) x s
 
-mute-no_word : (text : List ℕ) → Mute (IsNoWord text)
+pub mute-no_word : (text : List ℕ) → Mute (IsNoWord text)
 mute-no_word text x (l, stuck, s) = mute-refusal words.Design (Word l) x s
 
 mute-checked_file : (top : List ℕ) (f : FileOf ℕ) → Mute (CheckedFile top f)
 mute-checked_file top f x (inl (e, is, (r, names, s))) = mute-refusal words.Design r x s
-mute-checked_file top f x (inr (clear, s)) = mute-said Done (check_text f) done-goes x s
+mute-checked_file top f x (inr (d, is, inl (loop, l, s))) =
+    mute-refusal words.Design (Loop (map (line_of d.drivers) loop)) x s
+mute-checked_file top f x (inr (d, is, inr (order, o, s))) = mute-said Done (check_text f (file_counts f top)) done-goes x s
 
 mute-checked_text : (top text : List ℕ) → Mute (CheckedText top text)
 mute-checked_text top text = mute-step (IsNoWord text) (HasTokens text) (CheckedTokens top) (mute-no_word text)

@@ -7,10 +7,13 @@ use Rattle.vlog_tree.specs.Tree.{ModuleOf, FileOf}
 use Rattle.vlog_hierarchy.specs.Outlines.{Outline, place_of, outlines_of}
 use Rattle.vlog_hierarchy.specs.Nested.{IsFirstNested, IsNestedAnswer}
 use Rattle.vlog_elab.specs.declared.error.ElabError.{ElabError}
-use Rattle.vlog_elab.specs.declared.error.ElabError.TheVariants.{Twice, Unknown, Kind, Nested, TooBig, Const, Width, Clock, Memory}
+use Rattle.vlog_elab.specs.declared.error.ElabError.TheVariants.{Twice, Unknown, Kind, Nested, TooBig, Const, Width, Clock, Latch, Drive}
+use Rattle.vlog_elab.specs.declared.error.ElabError.TheVariants.{Memory}
 use Rattle.vlog_elab.specs.Answered.{IsFirst}
-use Rattle.vlog_elab.specs.Reasons.{Then, IsNestedName, IsNotNested, NestedFinding, Refused, RefusedLater, Clear, ClearLater}
+use Rattle.vlog_elab.specs.Reasons.{Then, IsNestedName, IsNotNested, NestedFinding, RefusedLater, ClearLater}
 use Rattle.vlog_elab.specs.Reasons.{text_findings, size_findings}
+use Rattle.vlog_elab.specs.Reasons as elab
+use Rattle.vlog_design.specs.Reasons.{Refused, Clear, code_findings}
 
 -- the same reason, unless memory was wanting
 abbrev pub Agree : ElabError → ElabError → Type 0
@@ -43,6 +46,8 @@ is-first findings (TooBig what) is = inr is
 is-first findings (Const line) is = inr is
 is-first findings (Width line got) is = inr is
 is-first findings (Clock line) is = inr is
+is-first findings (Latch name line) is = inr is
+is-first findings (Drive name bit drivers) is = inr is
 is-first findings Memory is = inl refl
 
 same_some : (e d : ElabError) → Some e ≡ Some d → e ≡ d
@@ -77,6 +82,8 @@ is-nested file top (TooBig what) is = absurd is
 is-nested file top (Const line) is = absurd is
 is-nested file top (Width line got) is = absurd is
 is-nested file top (Clock line) is = absurd is
+is-nested file top (Latch name line) is = absurd is
+is-nested file top (Drive name bit drivers) is = absurd is
 is-nested file top Memory is = inl refl
 
 no-place : (k : ℕ) → Some k ≡ None → ⊥
@@ -122,12 +129,20 @@ one-later : (file : FileOf ℕ) (top : List ℕ) → OneOf (RefusedLater file to
 one-later file top = one-then (NestedFinding file top) (IsFirst (size_findings file top)) (IsNotNested file top)
     (one-nested file top) (apart-nested file top) (one-first (size_findings file top))
 
-pub one_refusal : (file : FileOf ℕ) (top : List ℕ) → OneOf (Refused file top)
-one_refusal file top = one-then (IsFirst (text_findings file top)) (RefusedLater file top) (text_findings file top ≡ [])
+one-text : (file : FileOf ℕ) (top : List ℕ) → OneOf (elab.Refused file top)
+one-text file top = one-then (IsFirst (text_findings file top)) (RefusedLater file top) (text_findings file top ≡ [])
     (one-first (text_findings file top)) (apart-first (text_findings file top)) (one-later file top)
 
-pub refused_clear : (file : FileOf ℕ) (top : List ℕ) → Apart (Refused file top) (Clear file top)
-refused_clear file top = apart-then (IsFirst (text_findings file top)) (RefusedLater file top) (text_findings file top ≡ [])
+text-clear : (file : FileOf ℕ) (top : List ℕ) → Apart (elab.Refused file top) (elab.Clear file top)
+text-clear file top = apart-then (IsFirst (text_findings file top)) (RefusedLater file top) (text_findings file top ≡ [])
     (ClearLater file top) (apart-first (text_findings file top))
     (apart-then (NestedFinding file top) (IsFirst (size_findings file top)) (IsNotNested file top) (size_findings file top ≡ [])
     (apart-nested file top) (apart-first (size_findings file top)))
+
+pub one_refusal : (file : FileOf ℕ) (top : List ℕ) → OneOf (Refused file top)
+one_refusal file top = one-then (elab.Refused file top) (IsFirst (code_findings file top)) (elab.Clear file top)
+    (one-text file top) (text-clear file top) (one-first (code_findings file top))
+
+pub refused_clear : (file : FileOf ℕ) (top : List ℕ) → Apart (Refused file top) (Clear file top)
+refused_clear file top = apart-then (elab.Refused file top) (IsFirst (code_findings file top)) (elab.Clear file top)
+    (code_findings file top ≡ []) (text-clear file top) (apart-first (code_findings file top))

@@ -3,8 +3,8 @@ use Rattle.std.proofs.Common.{◌≡◌, ◌≢◌, ℕ, List, Option, inl, inr,
 use Rattle.std.specs.Io.KnownBytes.{append_known}
 use Rattle.vidi_io.specs.Shelf.{Files}
 use Rattle.vidi.specs.declared.status.Status.{Status}
-use Rattle.vidi.specs.declared.status.Status.TheVariants.{Done, Usage, ReadFault, WriteFault, Refused, Diverged, Memory}
-use Rattle.vidi.specs.Command.{Command, Dump, Check, Compare, Salvage}
+use Rattle.vidi.specs.declared.status.Status.TheVariants.{Done, Usage, ReadFault, WriteFault, Refused, Unstable, Diverged, Memory}
+use Rattle.vidi.specs.Command.{Command, Dump, Check, Run, Compare, Salvage}
 use Rattle.vidi.specs.Answer.{Does, Earns, Answers, Says}
 use Rattle.vidi.specs.Design.{text_limit, CheckedText}
 use Rattle.vidi.specs.Traces.{trace_limit, DumpedFile}
@@ -12,6 +12,7 @@ use Rattle.report_text.specs.declared.reason.Word.TheVariants as words
 use Rattle.vidi.proofs.Endings.{quiet-reading}
 use Rattle.vidi.proofs.OneDump.{mute-dumps}
 use Rattle.vidi.proofs.OneCheck.{mute-checks}
+use Rattle.vidi.proofs.OneRun.{mute-runs, quiet-runs}
 use Rattle.vidi.proofs.OneCompare.{mute-compares, quiet-compares}
 use Rattle.vidi.proofs.OneSalvaged.{mute-saves, quiet-saves}
 
@@ -19,6 +20,7 @@ does-writing : (c : Command) (files : Option Files) (F : List ℕ → Type 0) (t
     → Does c files F WriteFault text left → ⊥
 does-writing (Dump trace) files F text left (d, same) = mute-dumps trace files F text d
 does-writing (Check design top) files F text left (d, same) = mute-checks design top files F text d
+does-writing (Run design map script) files F text left (d, same) = mute-runs design map script files F text d
 does-writing (Compare trace other) files F text left (d, same) = mute-compares trace other files F text d
 does-writing (Salvage trace out) files F text left d = mute-saves trace out files F text left d
 
@@ -36,6 +38,7 @@ answered E S W old new left Usage text earned other told = (text, earned, told)
 answered E S W old new left (ReadFault word) text earned other told = (text, earned, told)
 answered E S W old new left WriteFault text earned other told = absurd (other refl)
 answered E S W old new left (Refused word reason) text earned other told = (text, earned, told)
+answered E S W old new left (Unstable channel cycle) text earned other told = (text, earned, told)
 answered E S W old new left Diverged text earned other told = (text, earned, told)
 answered E S W old new left Memory text earned other told = (text, earned, told)
 
@@ -57,6 +60,8 @@ quiet_does (Dump trace) files F status text left quiet (d, same) =
     (quiet-reading trace_limit words.Trace trace files F DumpedFile status text (quiet trace) d, same)
 quiet_does (Check design top) files F status text left quiet (d, same) =
     (quiet-reading text_limit words.Design design files F (CheckedText top) status text (quiet design) d, same)
+quiet_does (Run design map script) files F status text left quiet (d, same) =
+    (quiet-runs design map script files F status text quiet d, same)
 quiet_does (Compare trace other) files F status text left quiet (d, same) = (quiet-compares trace other files F status text quiet d, same)
 quiet_does (Salvage trace out) files F status text left quiet d = quiet-saves trace out files F status text left quiet d
 
@@ -78,6 +83,8 @@ quietly words files F S W old new left (ReadFault word) quiet kept (text, e, tol
 quietly words files F S W old new left WriteFault quiet kept (failed, _) = absurd (kept failed)
 quietly words files F S W old new left (Refused word reason) quiet kept (text, e, told)
     = (text, quiet_earns words files F (Refused word reason) text left quiet e, told)
+quietly words files F S W old new left (Unstable channel cycle) quiet kept (text, e, told)
+    = (text, quiet_earns words files F (Unstable channel cycle) text left quiet e, told)
 quietly words files F S W old new left Diverged quiet kept (text, e, told)
     = (text, quiet_earns words files F Diverged text left quiet e, told)
 quietly words files F S W old new left Memory quiet kept (text, e, told) = (text, quiet_earns words files F Memory text left quiet e, told)

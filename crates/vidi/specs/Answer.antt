@@ -4,17 +4,21 @@ use Rattle.std.specs.Io.KnownBytes.{append_known}
 use Rattle.vidi_io.specs.Shelf.{Files}
 use Rattle.vidi_io.specs.Sink.{AppendsSome}
 use Rattle.vidi.specs.declared.status.Status.{Status}
-use Rattle.vidi.specs.declared.status.Status.TheVariants.{Usage, WriteFault, Memory}
-use Rattle.vidi.specs.Command.{Command, Dump, Check, Compare, Salvage, IsGiven}
+use Rattle.report_text.specs.declared.reason.Word.TheVariants as words
+use Rattle.report_text.specs.declared.reason.Reason.TheVariants.{Loop}
+use Rattle.vidi.specs.declared.status.Status.TheVariants.{Usage, WriteFault, Refused, Memory}
+use Rattle.vidi.specs.Command.{Command, Dump, Check, Run, Compare, Salvage, IsGiven}
 use Rattle.vidi.specs.Steps.{IsSaid}
 use Rattle.vidi.specs.Traces.{Dumps, Compares, Saves, StopsSaving}
 use Rattle.vidi.specs.Design.{Checks}
+use Rattle.vidi.specs.Runs.{Runs}
 use Rattle.vidi.specs.Said.{usage_line, memory_line}
 
 -- what a command owes: its answer, its text, and the files that are left
 abbrev pub Does : Command → Option Files → (List ℕ → Type 0) → Status → List ℕ → Option Files → Type 0
 Does (Dump trace) files ReadFailed status text left = Dumps trace files ReadFailed status text × (left ≡ files)
 Does (Check design top) files ReadFailed status text left = Checks design top files ReadFailed status text × (left ≡ files)
+Does (Run design map script) files ReadFailed status text left = Runs design map script files ReadFailed status text × (left ≡ files)
 Does (Compare trace other) files ReadFailed status text left = Compares trace other files ReadFailed status text × (left ≡ files)
 Does (Salvage trace out) files ReadFailed status text left = Saves trace out files ReadFailed status text left
 
@@ -49,8 +53,18 @@ abbrev pub Says : Status → List ℕ → Type 0 → Option (List ℕ) → Optio
 Says status text WriteFailed old new result = ((result ≡ status) × (new ≡ append_known old text))
     ⊎ ((result ≡ WriteFault) × WriteFailed × AppendsSome old new text)
 
--- Of what a shelf tells, with no failed read, two answers that are earned are one, and leave the same, unless memory was wanting.
+-- the design is refused for a loop of its drivers (E10), of which any may be named
+abbrev pub NamesLoop : Status → Type 0
+NamesLoop (Refused words.Design (Loop lines)) = Unit {0}
+NamesLoop status = ⊥
+
+-- the words don't ask for a run
+abbrev pub IsNoRun : List (List ℕ) → Type 0
+IsNoRun words = (design map script : List ℕ) → IsGiven words (Run design map script) → ⊥
+
+-- Of what a shelf tells, with no failed read, two answers that are earned are one, and leave the same, unless memory was wanting or both
+-- name a loop.
 abbrev pub OneAnswer : Type 0
-OneAnswer = (words : List (List ℕ)) (files : Files) (a b : Status) (x y : List ℕ) (left right : Option Files)
+OneAnswer = (words : List (List ℕ)) → IsNoRun words → (files : Files) (a b : Status) (x y : List ℕ) (left right : Option Files)
     → Earns words (Some files) (λ _. ⊥) a x left → Earns words (Some files) (λ _. ⊥) b y right
-    → (a ≡ Memory) ⊎ (b ≡ Memory) ⊎ ((a ≡ b) × (x ≡ y) × (left ≡ right))
+    → (a ≡ Memory) ⊎ (b ≡ Memory) ⊎ (((NamesLoop a × NamesLoop b) ⊎ ((a ≡ b) × (x ≡ y))) × (left ≡ right))

@@ -6,6 +6,7 @@ use Rattle.vidi.specs.declared.command.Command.TheVariants as variants
 pub data Command : Type 0 where
   Dump : (trace : List ℕ) → Command
   Check : (design top : List ℕ) → Command
+  Run : (design map script : List ℕ) → Command
   Compare : (trace other : List ℕ) → Command
   Salvage : (trace out : List ℕ) → Command
 
@@ -13,6 +14,7 @@ pub data Command : Type 0 where
 abbrev pub IsGiven : List (List ℕ) → Command → Type 0
 IsGiven words (Dump trace) = words ≡ codes "dump" ∷ trace ∷ []
 IsGiven words (Check design top) = words ≡ codes "check" ∷ design ∷ top ∷ []
+IsGiven words (Run design map script) = words ≡ codes "run" ∷ design ∷ map ∷ script ∷ []
 IsGiven words (Compare trace other) = words ≡ codes "compare" ∷ trace ∷ other ∷ []
 IsGiven words (Salvage trace out) = (words ≡ codes "salvage" ∷ trace ∷ out ∷ []) × (trace ≢ out)
 
@@ -20,5 +22,6 @@ IsGiven words (Salvage trace out) = (words ≡ codes "salvage" ∷ trace ∷ out
 abbrev pub plain : declared.Command → Command
 plain (variants.Dump trace) = Dump trace.now
 plain (variants.Check design top) = Check design.now top.now
+plain (variants.Run design map script) = Run design.now map.now script.now
 plain (variants.Compare trace other) = Compare trace.now other.now
 plain (variants.Salvage trace out) = Salvage trace.now out.now

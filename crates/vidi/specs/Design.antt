@@ -1,5 +1,5 @@
 -- `check DESIGN TOP`: each step in its order (this project's profile).
-use Rattle.std.specs.Prelude.{◌≡◌, ℕ, ◌⊎◌, List, Option, None, Some}
+use Rattle.std.specs.Prelude.{◌≡◌, ℕ, ◌⊎◌, List, Option, None, Some, map, slice_get}
 use Rattle.vlog_lex.specs.declared.token.Token.{Token}
 use Rattle.vlog_lex.specs.Reading.{HasTokens, IsStuckOn}
 use Rattle.vlog_tree.specs.Tree.{FileOf}
@@ -11,7 +11,11 @@ use Rattle.vlog_elab.specs.declared.error.Big.{Big as Limit}
 use Rattle.vlog_elab.specs.declared.error.Big.TheVariants as limits
 use Rattle.vlog_elab.specs.declared.error.ElabError.{ElabError}
 use Rattle.vlog_elab.specs.declared.error.ElabError.TheVariants as errors
-use Rattle.vlog_elab.specs.Reasons.{Clear, Refused}
+use Rattle.net_design.specs.declared.design.Design.{Design}
+use Rattle.net_design.specs.declared.design.Driver.{Driver}
+use Rattle.net_order.specs.Order.{IsOrder, IsLoop}
+use Rattle.vlog_design.specs.Design.{IsDesignOf, file_counts}
+use Rattle.vlog_design.specs.Reasons.{Clear, Refused}
 use Rattle.vidi_io.specs.Shelf.{Files}
 use Rattle.report_text.specs.declared.reason.Big.{Big}
 use Rattle.report_text.specs.declared.reason.Big.TheVariants.{Instances, Nets, Words}
@@ -44,7 +48,7 @@ IsNoFile tokens status said = (line : ℕ) × IsItemLine (all_marked tokens) lin
 abbrev pub IsFile : List Token → FileOf ℕ → Type 0
 IsFile tokens f = IsShallow (all_marked tokens) × IsLinedFileOf tokens f
 
--- ---- the reasons E3 to E7 and E11 to E13
+-- ---- the reasons E3 to E9 and E11 to E13
 abbrev pub big_of : Limit → Big
 big_of limits.Instances = Instances
 big_of limits.Nets = Nets
@@ -60,6 +64,8 @@ reason_of (errors.TooBig what) = Some (reasons.TooBig (big_of what))
 reason_of (errors.Const line) = Some (reasons.Const line)
 reason_of (errors.Width line got) = Some (reasons.Width line got)
 reason_of (errors.Clock line) = Some (reasons.Clock line)
+reason_of (errors.Latch name line) = Some (reasons.Latch name line)
+reason_of (errors.Drive name bit drivers) = Some (reasons.Drive name bit drivers)
 reason_of errors.Memory = None
 
 -- the answer that refuses for this reason
@@ -70,9 +76,27 @@ IsRefusedAs error status said = (reason : Reason) × (reason_of error ≡ Some r
 abbrev pub IsRefusedFile : List ℕ → FileOf ℕ → Ending
 IsRefusedFile top f status said = (error : ElabError) × Refused f top error × IsRefusedAs error status said
 
--- ---- the file, its tokens, its text
+-- none of these reasons holds, and this is the design of the file
+abbrev pub IsAccepted : List ℕ → FileOf ℕ → Design → Type 0
+IsAccepted top f d = Clear f top × IsDesignOf f top d
+
+-- ---- E10: the lines of the drivers of a loop
+abbrev pub line_in : Option Driver → ℕ
+line_in None = 0
+line_in (Some x) = x.line
+
+abbrev pub line_of : List Driver → ℕ → ℕ
+line_of drivers i = line_in (slice_get drivers i)
+
+abbrev pub IsLooped : Design → Ending
+IsLooped d status said = (loop : List ℕ) × IsLoop d loop × IsRefusal words.Design (reasons.Loop (map (line_of d.drivers) loop)) status said
+
+-- ---- the design, the file, its tokens, its text
+abbrev pub CheckedDesign : List ℕ → FileOf ℕ → Design → Ending
+CheckedDesign top f d = Step (IsLooped d) (IsOrder d) (λ _. IsSaid Done (check_text f (file_counts f top)))
+
 abbrev pub CheckedFile : List ℕ → FileOf ℕ → Ending
-CheckedFile top f status said = IsRefusedFile top f status said ⊎ (Clear f top × IsSaid Done (check_text f) status said)
+CheckedFile top f = Step (IsRefusedFile top f) (IsAccepted top f) (CheckedDesign top f)
 
 abbrev pub CheckedTokens : List ℕ → List Token → Ending
 CheckedTokens top tokens = Step (λ status said. IsTooDeep tokens status said ⊎ IsNoFile tokens status said) (IsFile tokens)

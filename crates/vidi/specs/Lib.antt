@@ -2,6 +2,7 @@ pub mod Answer
 pub mod AnswerText
 pub mod Command
 pub mod Design
+pub mod Runs
 pub mod Exit
 pub mod Reading
 pub mod Said

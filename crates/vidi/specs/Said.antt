@@ -1,11 +1,12 @@
 -- *Said*: the printed texts (this project's profile). Every line ends with a newline, and numbers are decimal.
-use Rattle.std.specs.Prelude.{ℕ, List, ◌++◌, length, codes, decimal}
+use Rattle.std.specs.Prelude.{ℕ, List, [], ◌++◌, length, slice_get, Option, None, Some, codes, decimal}
 use Rattle.std.specs.List.{sum_by}
 use Rattle.trace_model.specs.declared.channel.Channel.{Channel}
 use Rattle.trace_compare.specs.declared.report.Finding.{Finding}
 use Rattle.report_text.specs.Report.{report_lines}
 use Rattle.report_text.specs.Text.{newline}
 use Rattle.vlog_tree.specs.Tree.{ModuleOf, FileOf}
+use Rattle.net_design.specs.declared.design.Counts.{Counts}
 pub use Rattle.report_text.specs.Trace.{dump_text}
 pub use Rattle.report_text.specs.Reason.{read_fault_line, reason_line}
 
@@ -13,9 +14,22 @@ pub use Rattle.report_text.specs.Reason.{read_fault_line, reason_line}
 abbrev pub items : {A : Type 0} → FileOf A → ℕ
 items {A} f = sum_by (λ (m : ModuleOf A). length m.items) f.modules
 
--- `modules N items N`: what `check` prints of a file
-abbrev pub check_text : {A : Type 0} → FileOf A → List ℕ
-check_text f = codes "modules " ++ (decimal (length f.modules) ++ (codes " items " ++ (decimal (items f) ++ newline)))
+-- `modules N items N`, of the whole file
+abbrev pub file_line : {A : Type 0} → FileOf A → List ℕ
+file_line f = codes "modules " ++ (decimal (length f.modules) ++ (codes " items " ++ (decimal (items f) ++ newline)))
+
+-- a word and a number behind it
+abbrev pub counted : List ℕ → ℕ → List ℕ
+counted label n = label ++ decimal n
+
+-- `instances N nets N drivers N blocks N words N`
+abbrev pub counts_line : Counts → List ℕ
+counts_line c = counted (codes "instances ") c.instances ++ (counted (codes " nets ") c.nets ++ (counted (codes " drivers ") c.drivers
+    ++ (counted (codes " blocks ") c.blocks ++ (counted (codes " words ") c.words ++ newline))))
+
+-- what `check` prints of a file and its design
+abbrev pub check_text : {A : Type 0} → FileOf A → Counts → List ℕ
+check_text f c = file_line f ++ counts_line c
 
 -- what `compare` prints of two traces: no divergence, or the findings and that they diverged
 abbrev pub no_divergence_line : List ℕ
@@ -27,6 +41,22 @@ diverged_text report channels = report_lines report channels ++ (codes "diverged
 -- `salvaged N packets`
 abbrev pub salvaged_line : ℕ → List ℕ
 salvaged_line n = codes "salvaged " ++ (decimal n ++ (codes " packets" ++ newline))
+
+-- `cycles N`
+abbrev pub cycles_line : ℕ → List ℕ
+cycles_line n = codes "cycles " ++ (decimal n ++ newline)
+
+-- the name of channel c
+abbrev pub name_in : Option Channel → List ℕ
+name_in None = []
+name_in (Some x) = x.name
+
+abbrev pub channel_name : List Channel → ℕ → List ℕ
+channel_name channels c = name_in (slice_get channels c)
+
+-- `vidi: unstable CH cycle N`
+abbrev pub unstable_line : List Channel → ℕ → ℕ → List ℕ
+unstable_line channels c t = codes "vidi: unstable " ++ (channel_name channels c ++ (codes " cycle " ++ (decimal t ++ newline)))
 
 abbrev pub usage_line : List ℕ
 usage_line = codes "vidi: usage" ++ newline

@@ -9,7 +9,7 @@ ghost use Rattle.vidi.specs.Said as said;
 ghost use Rattle.vidi.specs.Unfetched.{IsUnfetched};
 
 use crate::status::{Reason, Status, Word};
-use report_text::{TraceLines, read_fault_line, reason_line};
+use report_text::{RunLines, TraceLines, read_fault_line, reason_line};
 use std::alloc::Global;
 use vidi_bits::{Bytes, Memory};
 use vidi_io::{Failed, ReadError, Sink};
@@ -21,6 +21,8 @@ pub enum AnswerText {
     Bytes(Bytes),
     /// The lines of a trace.
     Trace(TraceLines),
+    /// The lines of a run.
+    Run(RunLines),
 }
 
 /// A status, and the text that is said with it.
@@ -42,6 +44,7 @@ impl AnswerText {
         match self {
             AnswerText::Bytes(bytes) => out.push(bytes.as_slice()),
             AnswerText::Trace(lines) => lines.print(out),
+            AnswerText::Run(lines) => lines.print(out),
         }
     }
 }

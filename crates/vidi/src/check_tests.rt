@@ -5,7 +5,7 @@ use std::alloc::Global;
 use std::process::Abort;
 use std::test::Fail as Failure;
 
-const PASS: &str = "module pass(input clk, input a_v, output a_r, input [7:0] a_d,
+pub const PASS: &str = "module pass(input clk, input a_v, output a_r, input [7:0] a_d,
             output b_v, input b_r, output [7:0] b_d);
   reg full;
   reg [7:0] d;
@@ -18,7 +18,7 @@ const PASS: &str = "module pass(input clk, input a_v, output a_r, input [7:0] a_
 endmodule
 ";
 
-const DEAD: &str = "module dead(input clk, input a_v, output a_r, input [7:0] a_d,
+pub const DEAD: &str = "module dead(input clk, input a_v, output a_r, input [7:0] a_d,
             output b_v, input b_r, output [7:0] b_d);
   assign a_r = 1'b1;
   assign b_v = 1'b0;
@@ -26,10 +26,10 @@ const DEAD: &str = "module dead(input clk, input a_v, output a_r, input [7:0] a_
 endmodule
 ";
 
-const FLICK: &str =
+pub const FLICK: &str =
     "module flick(input clk, output b_v, input b_r); reg t; assign b_v = t; always @(posedge clk) t <= ~t; endmodule\n";
 
-const LOOP2: &str = "module loop2(input clk, output x, output y);
+pub const LOOP2: &str = "module loop2(input clk, output x, output y);
 assign x = y;
 assign y = x;
 endmodule
@@ -91,53 +91,56 @@ module regs #(parameter AW = 32, parameter DW = 32, parameter DEPTH = 16) (
 endmodule
 ";
 
-// A text for each form of items and headers, and its modules and items.
+// A text for each form of items and headers, and its counts.
 const FORMS: [(&str, &str); 11] = [
     (
         "module m #(parameter A = 1) (input clk); endmodule",
-        "modules 1 items 0\n",
+        "modules 1 items 0\ninstances 1 nets 1 drivers 0 blocks 0 words 0\n",
     ),
     (
         "module m #(parameter [3:0] A = 1, B = 2) (input clk); endmodule",
-        "modules 1 items 0\n",
+        "modules 1 items 0\ninstances 1 nets 1 drivers 0 blocks 0 words 0\n",
     ),
     (
         "module m(input clk); localparam A = 1; wire B = A; endmodule",
-        "modules 1 items 2\n",
+        "modules 1 items 2\ninstances 1 nets 2 drivers 1 blocks 0 words 0\n",
     ),
     (
-        "module n(input c); endmodule module m(input clk); n u(.c(clk)); n v(); endmodule",
-        "modules 2 items 2\n",
+        "module n(output c); assign c = 1'b1; endmodule module m(input clk); wire w; n u(.c(w)); n v(); endmodule",
+        "modules 2 items 4\ninstances 3 nets 4 drivers 3 blocks 0 words 0\n",
     ),
     (
         "module n #(parameter A = 0) (input c); endmodule module m(input clk); n #(.A(1)) u(.c(clk)); endmodule",
-        "modules 2 items 1\n",
+        "modules 2 items 1\ninstances 2 nets 2 drivers 1 blocks 0 words 0\n",
     ),
     (
         "module m(input clk); reg [7:0] m [0:3]; endmodule",
-        "modules 1 items 1\n",
+        "modules 1 items 1\ninstances 1 nets 1 drivers 0 blocks 0 words 4\n",
     ),
     (
         "module m(input a, output reg y); always @* y = a; endmodule",
-        "modules 1 items 1\n",
+        "modules 1 items 1\ninstances 1 nets 2 drivers 1 blocks 0 words 0\n",
     ),
     (
         "module m(input a, output reg y); always @(*) y = a; endmodule",
-        "modules 1 items 1\n",
+        "modules 1 items 1\ninstances 1 nets 2 drivers 1 blocks 0 words 0\n",
     ),
     (
         "module m(input clk, output reg y); always @(posedge clk) case (y) 0: y <= 1'b1; endcase endmodule",
-        "modules 1 items 1\n",
+        "modules 1 items 1\ninstances 1 nets 2 drivers 0 blocks 1 words 0\n",
     ),
     (
         "module m(input a, output [1:0] y); assign y = {1'b0, {a}}; endmodule",
-        "modules 1 items 1\n",
+        "modules 1 items 1\ninstances 1 nets 2 drivers 1 blocks 0 words 0\n",
     ),
     (
         "module m(input a, output [1:0] y); assign y = {2{a}}; endmodule",
-        "modules 1 items 1\n",
+        "modules 1 items 1\ninstances 1 nets 2 drivers 1 blocks 0 words 0\n",
     ),
 ];
+
+// A module with one input and one wire that has an expression.
+const WIRE_TEXT: &str = "modules 1 items 1\ninstances 1 nets 2 drivers 1 blocks 0 words 0\n";
 
 const NO_FILE: &str = "vidi: refused design: E2 item line 1\n";
 
@@ -186,30 +189,49 @@ fn spaces(alloc: Global, times: u32) -> Result<Vec<u8>, Failure> {
     Ok(bytes)
 }
 
+// The numbers of `pass`, which has 7 ports, 2 regs, 3 assigns and a clocked block.
+const PASS_TEXT: &str = "modules 1 items 6\ninstances 1 nets 9 drivers 3 blocks 1 words 0\n";
+
 #[test]
-fn modules_and_items_are_counted(rt: HostRuntime) -> Result<(), Failure> {
+fn designs_are_counted(rt: HostRuntime) -> Result<(), Failure> {
     let alloc = rt.alloc();
+    let dead = "modules 1 items 3\ninstances 1 nets 7 drivers 3 blocks 0 words 0\n";
+    let flick = "modules 1 items 3\ninstances 1 nets 4 drivers 1 blocks 1 words 0\n";
+    let k2 = "modules 1 items 2\ninstances 1 nets 4 drivers 2 blocks 0 words 0\n";
+    let regs = "modules 1 items 13\ninstances 1 nets 27 drivers 12 blocks 1 words 16\n";
     for (line, design, text) in [
-        ("check t pass", PASS, "modules 1 items 6\n"),
-        ("check t dead", DEAD, "modules 1 items 3\n"),
-        ("check t flick", FLICK, "modules 1 items 3\n"),
-        ("check t loop2", LOOP2, "modules 1 items 2\n"),
-        ("check t k2", K2, "modules 1 items 2\n"),
-        ("check t regs", REGS, "modules 1 items 13\n"),
+        ("check t pass", PASS, PASS_TEXT),
+        ("check t dead", DEAD, dead),
+        ("check t flick", FLICK, flick),
+        ("check t k2", K2, k2),
+        ("check t regs", REGS, regs),
     ] {
         expect(&rt, alloc, line, design.as_bytes(), DONE, text)?;
     }
+    Ok(())
+}
+
+#[test]
+fn files_of_several_modules_are_counted(rt: HostRuntime) -> Result<(), Failure> {
+    let alloc = rt.alloc();
     let all = joined(alloc, &[PASS, DEAD, FLICK, LOOP2, K2])?;
-    let all_text = "modules 5 items 16\n";
+    let all_text = "modules 5 items 16\ninstances 1 nets 7 drivers 3 blocks 0 words 0\n";
     expect(&rt, alloc, "check t dead", &all, DONE, all_text)?;
     let duo = joined(alloc, &[PASS, DUO])?;
+    let duo_text = "modules 2 items 10\ninstances 3 nets 28 drivers 20 blocks 2 words 0\n";
+    expect(&rt, alloc, "check t duo", &duo, DONE, duo_text)
+}
+
+#[test]
+fn a_loop_is_refused_at_its_lines(rt: HostRuntime) -> Result<(), Failure> {
+    let text = "vidi: refused design: E10 loop lines 2 3\n";
     expect(
         &rt,
-        alloc,
-        "check t duo",
-        &duo,
-        DONE,
-        "modules 2 items 10\n",
+        rt.alloc(),
+        "check t loop2",
+        LOOP2.as_bytes(),
+        REFUSED,
+        text,
     )
 }
 
@@ -223,7 +245,7 @@ fn each_form_of_the_grammar_is_read(rt: HostRuntime) -> Result<(), Failure> {
 }
 
 // For each reason behind the grammar a smallest text, and two in which it comes before a later one.
-const REFUSALS: [(&str, &str); 12] = [
+const REFUSALS: [(&str, &str); 16] = [
     ("module m(input a, a); endmodule", "E3 twice a"),
     (
         "module n(input b); endmodule module m(input a); assign x = a; endmodule",
@@ -250,6 +272,22 @@ const REFUSALS: [(&str, &str); 12] = [
     (
         "module m(input clk, input a, output z); reg y;\nalways @(posedge clk) y <= a;\nassign z = clk; endmodule",
         "E13 clock line 3",
+    ),
+    (
+        "module m(input s, output reg y);\nalways @* if (s) y = 1'b1; endmodule",
+        "E9 latch y line 2",
+    ),
+    (
+        "module n(input a); endmodule module m(input clk); n u(); endmodule",
+        "E8 drive u.a bit 0 drivers 0",
+    ),
+    (
+        "module m(input a, output [1:0] y); assign y[0] = a; assign y[0] = a; endmodule",
+        "E8 drive y bit 0 drivers 2",
+    ),
+    (
+        "module m(input s, output z, output reg y);\nalways @* if (s) y = 1'b1; endmodule",
+        "E9 latch y line 2",
     ),
     (
         "module m(input a, a); assign x = a; endmodule",
@@ -303,7 +341,7 @@ fn texts_that_are_no_design_are_refused(rt: HostRuntime) -> Result<(), Failure> 
 fn brackets_are_at_most_32_deep(rt: HostRuntime) -> Result<(), Failure> {
     let alloc = rt.alloc();
     for (depth, ending, text) in [
-        (32, DONE, "modules 1 items 1\n"),
+        (32, DONE, WIRE_TEXT),
         (33, REFUSED, "vidi: refused design: E14 deep line 2\n"),
     ] {
         let pieces = [
@@ -325,7 +363,7 @@ fn a_run_has_at_most_1024_tokens(rt: HostRuntime) -> Result<(), Failure> {
     let alloc = rt.alloc();
     let deep_text = "vidi: refused design: E14 deep line 3\n";
     let most = module_of(alloc, &[("wire y = ~clk", 1), (" + clk", 509), ("\n;", 1)])?;
-    expect_check(&rt, alloc, &most, DONE, "modules 1 items 1\n")?;
+    expect_check(&rt, alloc, &most, DONE, WIRE_TEXT)?;
     let more = module_of(alloc, &[("wire y = clk", 1), (" + clk", 510), ("\n;", 1)])?;
     expect_check(&rt, alloc, &more, REFUSED, deep_text)
 }
@@ -338,7 +376,8 @@ fn a_block_has_at_most_1024_elses(rt: HostRuntime) -> Result<(), Failure> {
     let front = "reg x;\nalways @(posedge clk) begin\n";
     let choice = "if (x) x <= 1'b1; else x <= 1'b0;\n";
     let most = module_of(alloc, &[(front, 1), (choice, 1024), ("end", 1)])?;
-    expect_check(&rt, alloc, &most, DONE, "modules 1 items 2\n")?;
+    let most_text = "modules 1 items 2\ninstances 1 nets 2 drivers 0 blocks 1 words 0\n";
+    expect_check(&rt, alloc, &most, DONE, most_text)?;
     let more = module_of(alloc, &[(front, 1), (choice, 1025), ("end", 1)])?;
     expect_check(&rt, alloc, &more, REFUSED, deep_text)
 }
@@ -361,7 +400,7 @@ fn a_design_that_cannot_be_read_is_a_read_fault(rt: HostRuntime) -> Result<(), F
         ("check u m", (0, 0), READ_FAULT, fault_text),
         ("check t pass", (1, 0), READ_FAULT, fault_text),
         ("check t pass", (2, 0), READ_FAULT, fault_text),
-        ("check t pass", (3, 0), DONE, "modules 1 items 6\n"),
+        ("check t pass", (3, 0), DONE, PASS_TEXT),
         ("check t pass", (0, 1), WRITE_FAULT, ""),
     ] {
         let answered = answers(rt.alloc(), line, PASS.as_bytes(), failing, ending, text)?;

@@ -8,13 +8,30 @@ use vidi_io::Words;
 /// A command with its parts.
 #[derive(Clone, Copy)]
 pub enum Command<'a> {
-    Dump { trace: &'a str },
+    Dump {
+        trace: &'a str,
+    },
     /// `top` is the name of a module.
-    Check { design: &'a str, top: &'a str },
+    Check {
+        design: &'a str,
+        top: &'a str,
+    },
+    /// The design is played as the map and the script say.
+    Run {
+        design: &'a str,
+        map: &'a str,
+        script: &'a str,
+    },
     /// `other` is compared with `trace`.
-    Compare { trace: &'a str, other: &'a str },
+    Compare {
+        trace: &'a str,
+        other: &'a str,
+    },
     /// `out` gets what is whole of `trace`.
-    Salvage { trace: &'a str, out: &'a str },
+    Salvage {
+        trace: &'a str,
+        out: &'a str,
+    },
 }
 
 impl<'a> Command<'a> {
@@ -26,10 +43,31 @@ impl<'a> Command<'a> {
             [name, trace] if name.as_str() == "dump" => Some(Command::Dump {
                 trace: trace.as_str(),
             }),
+            [name, first, second, third] => of_three(
+                name.as_str(),
+                first.as_str(),
+                second.as_str(),
+                third.as_str(),
+            ),
             [name, first, second] => of_two(name.as_str(), first.as_str(), second.as_str()),
             _ => None,
         }
     }
+}
+
+/// The command of this name with three parts.
+fn of_three<'a>(name: &str, design: &'a str, map: &'a str, script: &'a str) -> Option<Command<'a>>
+    ensures { MatchOption result ((c : spec.Command) → ¬ spec.IsGiven (name.now ∷ design.now ∷ map.now ∷ script.now ∷ []) c)
+        (λ c. spec.IsGiven (name.now ∷ design.now ∷ map.now ∷ script.now ∷ []) (spec.plain c)) }
+{
+    if name == "run" {
+        return Some(Command::Run {
+            design,
+            map,
+            script,
+        });
+    }
+    None
 }
 
 /// The command of this name with two parts. A file that is written isn't one that is read.

@@ -5,7 +5,7 @@ ghost use Rattle.vidi.specs.Answer.{OneAnswer};
 use trace_code::{one_place, one_reading, one_salvage};
 
 /// Of what a shelf tells, with no failed read, words earn one answer with one text, which leaves the same files,
-/// or want of memory.
+/// or want of memory, or refuse the design for a loop, of which any may be named.
 pub fn one_answer()
     ensures { OneAnswer }
 {
@@ -18,5 +18,6 @@ pub fn one_answer()
     vlog_parse::one_lined_file();
     vlog_parse::lined_files_are_files();
     vlog_parse::one_item_line();
-    vlog_parse::one_depth()
+    vlog_parse::one_depth();
+    vlog_design::loops_alike()
 }

@@ -8,6 +8,7 @@ mod command;
 mod compare;
 mod dump;
 mod laws;
+mod run;
 mod salvage;
 mod status;
 mod top;
@@ -25,6 +26,8 @@ use vidi_io::{HostShelf, HostSink, Text, Words};
 mod check_tests;
 #[cfg(test)]
 mod file_tests;
+#[cfg(test)]
+mod run_tests;
 #[cfg(test)]
 mod tests;
 #[cfg(test)]

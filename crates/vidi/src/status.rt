@@ -19,6 +19,8 @@ pub enum Status {
     WriteFault,
     /// The file isn't accepted.
     Refused { word: Word, reason: Reason },
+    /// On this channel, by its place in the map, the design takes back in this cycle what it offered.
+    Unstable { channel: usize, cycle: u32 },
     /// The second trace has findings against the first.
     Diverged,
     /// No memory was found.
@@ -55,6 +57,10 @@ impl Status {
             Status::ReadFault { word: _ } => 2,
             Status::WriteFault => 3,
             Status::Refused { word: _, reason: _ } => 4,
+            Status::Unstable {
+                channel: _,
+                cycle: _,
+            } => 5,
             Status::Diverged => 7,
             Status::Memory => 8,
         }

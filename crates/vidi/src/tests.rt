@@ -38,6 +38,8 @@ pub const WRITE_FAULT: u8 = 3;
 
 pub const REFUSED: u8 = 4;
 
+pub const UNSTABLE: u8 = 5;
+
 pub const DIVERGED: u8 = 7;
 
 pub const ONE_SEND_TEXT: &str = "channel 0 in a 8\nchannel 1 out b 8\n\

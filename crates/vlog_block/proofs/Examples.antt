@@ -1,5 +1,5 @@
 -- What statements change, computed on examples.
-use Rattle.std.proofs.Common.{◌≡◌, ℕ, true, List, [], ◌∷◌, None, Some, refl}
+use Rattle.std.proofs.Common.{◌≡◌, ℕ, true, List, [], ◌∷◌, None, refl}
 use Rattle.vlog_tree.specs.declared.expr.NumberKind.TheVariants.{Decimal}
 use Rattle.vlog_tree.specs.declared.stmt.AssignOp.TheVariants as sign
 use Rattle.vlog_tree.specs.Tree.{ExprOf, UnaryExpr, NumberPrim, RefPrim, RefOf, RefWith, NoIndex, LastOf, NoLast, Last, IndexSel, PartSel}
@@ -9,7 +9,6 @@ use Rattle.vlog_size.specs.Size.{number}
 use Rattle.net_design.specs.declared.act.Timing.TheVariants.{Blocking, Nonblocking}
 use Rattle.net_design.specs.declared.values.Values.{Values}
 use Rattle.net_design.specs.declared.values.Target.TheVariants.{Net}
-use Rattle.net_design.specs.declared.values.Update.{Update}
 use Rattle.net_design.specs.Updates.{apply, update}
 use Rattle.vlog_block.specs.Updates.{stmt_updates, stmts_updates}
 

@@ -1,8 +1,7 @@
 -- Statements of code, one after the other.
-use Rattle.std.proofs.Common.{◌≡◌, ℕ, ◌&&◌, ◌||◌, not, Bool, true, false, List, [], ◌∷◌, ◌++◌, if◌then◌else◌, refl, ap, sym, ◌∙◌}
+use Rattle.std.proofs.Common.{◌≡◌, ℕ, ◌||◌, false, List, [], ◌∷◌, ◌++◌, refl, ap, sym, ◌∙◌}
 use Rattle.std.proofs.Common.{append_assoc, ◌^◌}
 use Rattle.std.proofs.Math.Path.{fun_ext}
-use Rattle.std.specs.List.{list_any, AllByRecursion}
 use Rattle.std.proofs.lemmas.List.{append-nil}
 use Rattle.std.proofs.lemmas.List.Folds.{list_any-append}
 use Rattle.net_design.specs.declared.act.Act.{Act}
@@ -10,20 +9,21 @@ use Rattle.net_design.specs.declared.act.Act.TheVariants.{Branch}
 use Rattle.net_design.specs.declared.act.Guard.{Guard}
 use Rattle.net_design.specs.declared.act.Timing.{Timing}
 use Rattle.net_design.specs.declared.act.Timing.TheVariants.{Blocking, Nonblocking}
-use Rattle.net_design.specs.declared.rhs.Span.{Span}
-use Rattle.net_design.specs.declared.rhs.Room.{Room}
 use Rattle.net_design.specs.declared.values.Values.{Values}
 use Rattle.net_design.specs.declared.values.Update.{Update}
 use Rattle.net_design.specs.Updates as code
 use Rattle.net_design.specs.Bits as bits
 use Rattle.net_design.specs.Bits.{BitSet, no_bits, known_after}
 use Rattle.net_design.specs.Sized.{IsSizedAct, IsSizedBlock, AreSizedGuards, IsShort, IsCountable}
-use Rattle.net_design.proofs.BoolLaws.{or_none, or_assoc, and_assoc}
+use Rattle.net_design.proofs.BoolLaws.{or_none, or_assoc}
 use Rattle.net_design.proofs.UpdateLaws.{apply_both, two_blocks}
 use Rattle.net_design.proofs.Rows.{updates_branch, branch_sized}
-use Rattle.net_code.specs.Found.{guard_writes, guard_adds, guard_reads}
 use Rattle.net_code.proofs.RowBits.{branch_writes, branch_adds, branch_open}
-use Rattle.vlog_block.specs.Extends.{Doing, Extends, doing_block, doing_branch, doing_if, doing_body, doing_else, doing_stmt}
+use Rattle.net_drive.specs.Targets.{targets, block_targets}
+use Rattle.net_drive.proofs.TargetRows.{branch_targets}
+use Rattle.vlog_block.specs.Naming.{place_names, code_names}
+use Rattle.vlog_block.proofs.Names.{code_append, names_append}
+use Rattle.vlog_block.specs.Extends.{Doing, Extends, doing_block, doing_branch}
 
 -- ---- what is known to the next statement
 
@@ -51,7 +51,7 @@ seen_both Nonblocking us ws v = refl
 -- ---- nothing, and one thing after another
 
 abbrev pub nothing : Doing
-nothing = record { updates = λ t v. []; writes = λ m k. false; adds = λ m k. false; reads = λ t known m k. false }
+nothing = record { updates = λ t v. []; writes = λ m k. false; adds = λ m k. false; reads = λ t known m k. false; names = [] }
 
 abbrev pub then_ : Doing → Doing → Doing
 then_ a b = record {
@@ -59,6 +59,7 @@ then_ a b = record {
   writes = λ m k. a.writes m k || b.writes m k;
   adds = λ m k. a.adds m k || b.adds m k;
   reads = λ t known m k. a.reads t known m k || b.reads t (known_after t known a.adds) m k;
+  names = a.names ++ b.names;
 }
 
 pub extends_none : (old : List Act) → Extends nothing old old
@@ -67,6 +68,7 @@ extends_none old = record {
   writes = λ m k. or_none (bits.block_writes old m k);
   adds = λ m k. or_none (bits.block_adds old m k);
   reads = λ t known m k. or_none (bits.block_open_reads t old known m k);
+  names = sym (append-nil (code_names old));
   sized = λ h. h;
 }
 
@@ -89,6 +91,7 @@ extends_both a b old mid new x y = record {
       ∙ ap (λ (s : BitSet). (bits.block_open_reads t old known m k || a.reads t before m k) || b.reads t s m k)
       (known_then t known (bits.block_adds old) a.adds (bits.block_adds mid) x.adds)
       ∙ or_assoc (bits.block_open_reads t old known m k) (a.reads t before m k) (b.reads t (known_after t before a.adds) m k);
+  names = y.names ∙ ap (λ ns. ns ++ b.names) x.names ∙ append_assoc (code_names old) a.names b.names;
   sized = λ h. y.sized (x.sized h);
 }
 
@@ -100,6 +103,7 @@ doing_act a = record {
   writes = λ m k. bits.writes a m k;
   adds = λ m k. bits.adds a m k;
   reads = λ t known m k. bits.open_reads t a known m k;
+  names = place_names (targets a);
 }
 
 open_both : (t : Timing) (xs ys : List Act) (known : BitSet) (m k : ℕ)
@@ -120,6 +124,12 @@ acts_sized : (xs : List Act) (a : Act) → IsSizedBlock xs → IsSizedAct a → 
 acts_sized [] a h k = (k, tt)
 acts_sized (x ∷ xs) a h k = (h.0, acts_sized xs a h.1 k)
 
+-- what one statement more names
+one_name : (old : List Act) (a : Act) → code_names (old ++ a ∷ []) ≡ code_names old ++ place_names (targets a)
+unfolding block_targets
+one_name old a =
+    code_append old (a ∷ []) ∙ ap (λ ps. code_names old ++ place_names ps) (append-nil (targets a))
+
 pub extends_one : (old : List Act) (a : Act) → IsSizedAct a → Extends (doing_act a) old (old ++ a ∷ [])
 extends_one old a s = record {
   updates = λ t v.
@@ -135,6 +145,7 @@ extends_one old a s = record {
       open_both t old (a ∷ []) known m k
       ∙ ap (λ b. bits.block_open_reads t old known m k || b)
       (sym (or_none (bits.open_reads t a (known_after t known (bits.block_adds old)) m k)));
+  names = one_name old a;
   sized = λ h. acts_sized old a h s;
 }
 
@@ -145,6 +156,7 @@ pub record Same (a b : Doing) : Type 0 where
   pub writes : (m k : ℕ) → a.writes m k ≡ b.writes m k
   pub adds : (m k : ℕ) → a.adds m k ≡ b.adds m k
   pub reads : (t : Timing) (known : BitSet) (m k : ℕ) → a.reads t known m k ≡ b.reads t known m k
+  pub names : a.names ≡ b.names
 
 pub extends_same : (a b : Doing) (old new : List Act) → Same a b → Extends a old new → Extends b old new
 extends_same a b old new s x = record {
@@ -156,6 +168,7 @@ extends_same a b old new s x = record {
   reads = λ t known m k.
       x.reads t known m k ∙ ap (λ z. bits.block_open_reads t old known m k || z)
       (s.reads t (known_after t known (bits.block_adds old)) m k);
+  names = x.names ∙ ap (λ ns. code_names old ++ ns) s.names;
   sized = x.sized;
 }
 
@@ -165,6 +178,10 @@ pub seen_none : (t : Timing) (v : Values) → code.seen t [] v ≡ v
 seen_none Blocking v = refl
 seen_none Nonblocking v = refl
 
+pub no_names : code_names [] ≡ []
+unfolding block_targets
+no_names = refl
+
 -- a list that is made from the empty one
 pub from_none : (does : Doing) (acts : List Act) → Extends does [] acts → Same (doing_block acts) does
 from_none does acts x = record {
@@ -173,6 +190,7 @@ from_none does acts x = record {
   adds = λ m k. x.adds m k;
   reads = λ t known m k.
       x.reads t known m k ∙ ap (λ (s : BitSet). does.reads t s m k) (same_bits (known_after t known no_bits) known (known_none t known));
+  names = x.names ∙ ap (λ ns. ns ++ does.names) no_names;
 }
 
 pub none_sized : (does : Doing) (acts : List Act) → Extends does [] acts → IsSizedBlock acts
@@ -188,4 +206,5 @@ extends_branch guards others old g h =
       writes = λ m k. branch_writes guards others m k;
       adds = λ m k. branch_adds guards others m k;
       reads = λ t known m k. branch_open t guards others known m k;
+      names = ap place_names (branch_targets guards others) ∙ names_append _ _;
     }) (extends_one old (Branch guards others) (branch_sized (IsShort (2 ^ 64)) (IsCountable (2 ^ 64)) guards others g h))

@@ -1,6 +1,6 @@
 -- Guards of code, one after the other, and those of the arms of a `case`.
 use Rattle.std.proofs.Common.{◌≡◌, ℕ, ◌==◌, ◌&&◌, ◌||◌, not, Bool, true, false, List, [], ◌∷◌, ◌++◌, if◌then◌else◌, refl, ap, sym, ◌∙◌}
-use Rattle.std.specs.List.{list_any, AllByRecursion}
+use Rattle.std.specs.List.{list_any}
 use Rattle.std.proofs.lemmas.List.Folds.{list_any-append}
 use Rattle.vlog_tree.specs.Tree.{ExprOf, ArmOf, LabelsArm, ArmsOf, MoreArms, BodyOf}
 use Rattle.vlog_size.specs.Names.{Readable}
@@ -18,7 +18,12 @@ use Rattle.net_code.specs.Found.{guard_writes, guard_adds, guard_reads}
 use Rattle.vlog_block.specs.Value.{value}
 use Rattle.vlog_block.specs.Bits.{reads}
 use Rattle.vlog_block.specs.Updates.{matches, body_updates}
-use Rattle.vlog_block.specs.Written.{body_open, labels_read, arm_labels_read, arm_open, arms_open}
+use Rattle.vlog_block.specs.Written.{labels_read, arm_labels_read, arm_open, arms_open}
+use Rattle.std.proofs.Common.{append_assoc}
+use Rattle.std.proofs.lemmas.List.{append-nil}
+use Rattle.net_drive.specs.Targets.{block_targets, guard_targets}
+use Rattle.vlog_block.specs.Naming.{place_names, code_names, guard_names}
+use Rattle.vlog_block.proofs.Names.{guards_append}
 use Rattle.vlog_block.specs.Extends.{Choosing, Lengthens, choosing_arm, choosing_arms, has_some, arm_has_label, has_label}
 use Rattle.vlog_block.specs.Extends.{doing_block, doing_body}
 use Rattle.vlog_block.proofs.Extending.{Same}
@@ -26,7 +31,7 @@ use Rattle.vlog_block.proofs.Extending.{Same}
 -- ---- nothing, and one thing after another
 
 abbrev pub none : Choosing
-none = record { updates = λ t us v. us; writes = λ m k. false; adds = λ m k. true; reads = λ t known m k. false }
+none = record { updates = λ t us v. us; writes = λ m k. false; adds = λ m k. true; reads = λ t known m k. false; names = [] }
 
 abbrev pub first_of : Choosing → Choosing → Choosing
 first_of a b = record {
@@ -34,6 +39,7 @@ first_of a b = record {
   writes = λ m k. a.writes m k || b.writes m k;
   adds = λ m k. a.adds m k && b.adds m k;
   reads = λ t known m k. a.reads t known m k || b.reads t known m k;
+  names = a.names ++ b.names;
 }
 
 pub lengthens_none : (old : List Guard) → Lengthens none old old
@@ -42,6 +48,7 @@ lengthens_none old = record {
   writes = λ m k. or_none (guard_writes old m k);
   adds = λ m k. and_true (guard_adds old m k);
   reads = λ t known m k. or_none (guard_reads t old known m k);
+  names = sym (append-nil (guard_names old));
   sized = λ h. h;
 }
 
@@ -55,6 +62,7 @@ lengthens_both a b old mid new x y = record {
   reads = λ t known m k.
       y.reads t known m k ∙ ap (λ z. z || b.reads t known m k) (x.reads t known m k)
       ∙ or_assoc (guard_reads t old known m k) (a.reads t known m k) (b.reads t known m k);
+  names = y.names ∙ ap (λ ns. ns ++ b.names) x.names ∙ append_assoc (guard_names old) a.names b.names;
   sized = λ h. y.sized (x.sized h);
 }
 
@@ -66,6 +74,7 @@ choosing_guard g = record {
   writes = λ m k. bits.block_writes g.body m k;
   adds = λ m k. bits.block_adds g.body m k;
   reads = λ t known m k. (bits.reads g.condition m k && not (known m k)) || bits.block_open_reads t g.body known m k;
+  names = code_names g.body;
 }
 
 updates_end : (t : Timing) (gs : List Guard) (g : Guard) (us : List Update) (v : Values)
@@ -102,6 +111,11 @@ guards_sized : (gs : List Guard) (g : Guard) → AreSizedGuards gs → IsSizedRh
 guards_sized [] g h k = (k, tt)
 guards_sized (x ∷ gs) g h k = (h.0, guards_sized gs g h.1 k)
 
+one_guard_name : (old : List Guard) (g : Guard) → guard_names (old ++ g ∷ []) ≡ guard_names old ++ code_names g.body
+unfolding guard_targets
+one_guard_name old g =
+    guards_append old (g ∷ []) ∙ ap (λ ps. guard_names old ++ place_names ps) (append-nil (block_targets g.body))
+
 pub lengthens_one : (old : List Guard) (g : Guard) → IsSizedRhs g.condition → IsSizedBlock g.body
     → Lengthens (choosing_guard g) old (old ++ g ∷ [])
 lengthens_one old g c b = record {
@@ -111,6 +125,7 @@ lengthens_one old g c b = record {
       (sym (or_none (bits.block_writes g.body m k)));
   adds = λ m k. adds_end old g m k;
   reads = λ t known m k. reads_end t old g known m k;
+  names = one_guard_name old g;
   sized = λ h. guards_sized old g h (c, b);
 }
 
@@ -121,6 +136,7 @@ pub record Alike (a b : Choosing) : Type 0 where
   pub writes : (m k : ℕ) → a.writes m k ≡ b.writes m k
   pub adds : (m k : ℕ) → a.adds m k ≡ b.adds m k
   pub reads : (t : Timing) (known : BitSet) (m k : ℕ) → a.reads t known m k ≡ b.reads t known m k
+  pub names : a.names ≡ b.names
 
 pub lengthens_alike : (a b : Choosing) (old new : List Guard) → Alike a b → Lengthens a old new → Lengthens b old new
 lengthens_alike a b old new s x = record {
@@ -128,6 +144,7 @@ lengthens_alike a b old new s x = record {
   writes = λ m k. x.writes m k ∙ ap (λ z. guard_writes old m k || z) (s.writes m k);
   adds = λ m k. x.adds m k ∙ ap (λ z. guard_adds old m k && z) (s.adds m k);
   reads = λ t known m k. x.reads t known m k ∙ ap (λ z. guard_reads t old known m k || z) (s.reads t known m k);
+  names = x.names ∙ ap (λ ns. guard_names old ++ ns) s.names;
   sized = x.sized;
 }
 
@@ -160,6 +177,7 @@ arms_more r subject w a rest = record {
       let l = arm_labels_read r a m k in
       let q = labels_read r rest m k in
       or_then ((x && s) || l) ((y && s) || q) n o p ∙ ap (λ z. (z && n) || (o || p)) (or_then x y s l q);
+  names = refl;
 }
 
 -- the reading of the subject with each label
@@ -197,4 +215,5 @@ arm_guard r subject w labels b g test read same = record {
       (read m k ∙ labels_with (reads r subject m k) (λ (e : ExprOf ℕ). reads r e m k) labels)
       ∙ ap (λ z. (((has_some labels && reads r subject m k) || list_any (λ (e : ExprOf ℕ). reads r e m k) labels) && not (known m k)) || z)
       (same.reads t known m k);
+  names = same.names;
 }

@@ -4,6 +4,7 @@ pub mod Fitting
 pub mod Ranges
 pub mod Taken
 pub mod Places
+pub mod Names
 pub mod Extending
 pub mod Lengthening
 pub mod Statements

@@ -1,5 +1,5 @@
 -- The places of a target, one after the other.
-use Rattle.std.proofs.Common.{◌≡◌, ℕ, ◌+◌, ◌*◌, ◌/◌, ◌^◌, ◌||◌, Bool, true, false, List, [], ◌∷◌, ◌++◌, refl, ap, sym, ◌∙◌}
+use Rattle.std.proofs.Common.{◌≡◌, ℕ, ◌+◌, ◌/◌, ◌^◌, ◌||◌, Bool, true, false, List, [], ◌∷◌, ◌++◌, refl, ap, sym, ◌∙◌}
 use Rattle.std.proofs.Common.{append_assoc, arith}
 use Rattle.std.specs.List.{list_any, AllByRecursion}
 use Rattle.std.proofs.Math.Nat.{div-div-eq-div-mul, div-one}
@@ -13,7 +13,6 @@ use Rattle.vlog_size.specs.Size.{Sizes, sizes_of_target, sizes_of_targets}
 use Rattle.net_design.specs.declared.act.Place.{Place}
 use Rattle.net_design.specs.declared.values.Values.{Values}
 use Rattle.net_design.specs.Updates as places
-use Rattle.net_design.specs.Sized.{IsSizedPlace}
 use Rattle.vlog_block.specs.Targets.{target_width, targets_width, target_updates, targets_updates}
 
 -- the bits of a number from bit a + b on

@@ -9,7 +9,7 @@ use Rattle.vlog_tree.specs.declared.expr.Expr.{Expr}
 use Rattle.vlog_tree.specs.declared.stmt.Stmt.{Stmt}
 use Rattle.vlog_tree.specs.declared.stmt.Arm.{Arm}
 use Rattle.vlog_tree.specs.Plain.{plain_expr, plain_stmt, plain_stmts, plain_arm, plain_arms}
-use Rattle.vlog_tree.specs.Tree.{ExprOf, IfStmt, CaseStmt, BodyOf, StmtBody, EmptyBody, ElseOf, NoElse, Else, StmtOf, StmtsOf, MoreStmts}
+use Rattle.vlog_tree.specs.Tree.{ExprOf, IfStmt, CaseStmt, BodyOf, StmtBody, EmptyBody, ElseOf, NoElse, Else, StmtOf}
 use Rattle.vlog_tree.specs.Tree.{ArmOf, LabelsArm, DefaultArm, ArmsOf, NoArms}
 use Rattle.vlog_tree.specs.Tree.{MoreArms, AssignStmt, TargetOf}
 use Rattle.vlog_tree.specs.declared.stmt.AssignOp.{AssignOp}
@@ -35,17 +35,20 @@ use Rattle.vlog_block.specs.Sources.{names_of}
 use Rattle.vlog_block.specs.Value.{value, width_of}
 use Rattle.vlog_block.specs.Bits.{reads}
 use Rattle.vlog_block.specs.Targets as targets
-use Rattle.vlog_block.specs.Updates.{is_zero, assigned, assigned_width, body_updates, else_updates, default_updates, arms_updates}
+use Rattle.vlog_block.specs.Updates.{is_zero, assigned, body_updates, else_updates, default_updates, arms_updates}
 use Rattle.vlog_block.specs.Updates.{widest, arm_widest, arms_widest, case_width, matches}
-use Rattle.vlog_block.specs.Written.{body_writes, else_writes, default_writes, arms_write, body_adds, else_adds, default_adds, arms_add}
-use Rattle.vlog_block.specs.Written.{body_open, else_open, default_open, arms_open, labels_read, target_reads, target_writes, target_adds}
+use Rattle.vlog_block.specs.Written.{body_writes, default_writes, arms_write, body_adds, default_adds, arms_add}
+use Rattle.vlog_block.specs.Written.{body_open, default_open, arms_open, labels_read, target_reads, target_writes, target_adds}
+use Rattle.std.proofs.lemmas.List.{append-nil}
+use Rattle.net_drive.specs.Targets.{block_targets, guard_targets}
+use Rattle.vlog_block.specs.Naming.{place_names, code_names, guard_names, target_names, body_names, default_names, arms_names}
 use Rattle.vlog_block.specs.Faultless.{IsFaultless, IsFaultlessArm, AreFaultlessArms}
 use Rattle.vlog_block.specs.Extends.{Doing, Extends, Choosing, Lengthens, doing_block, doing_branch, doing_if, doing_read, doing_stmt}
 use Rattle.vlog_block.specs.Extends.{doing_stmts}
 use Rattle.vlog_block.specs.Extends.{doing_body, doing_else, doing_default, choosing_arm, choosing_arms, has_label}
 use Rattle.vlog_block.specs.Extends.{IsNarrow, AreNarrow, IsNarrowArm, AreNarrowArms}
 use Rattle.vlog_block.proofs.Fitting.{faultless_width}
-use Rattle.vlog_block.proofs.Extending.{same_bits, known_none, then_, doing_act, extends_both, extends_one, Same, extends_same, seen_none}
+use Rattle.vlog_block.proofs.Extending.{same_bits, known_none, then_, doing_act, extends_both, Same, extends_same, seen_none}
 use Rattle.vlog_block.proofs.Extending.{from_none, extends_none}
 use Rattle.vlog_block.proofs.Lengthening.{first_of, lengthens_none, lengthens_one, lengthens_both, lengthens_alike, choosing_guard}
 use Rattle.vlog_block.proofs.Lengthening.{arm_guard, arms_more}
@@ -58,14 +61,15 @@ pub set_does : (r : Readable) (target : TargetOf ℕ) (op : AssignOp) (e : ExprO
     → ((m k : ℕ) → bits.target_writes places m k ≡ target_writes r target m k)
     → ((m k : ℕ) → bits.target_adds places m k ≡ target_adds r target m k)
     → ((m k : ℕ) → bits.target_reads places m k ≡ target_reads r target m k) → ((m k : ℕ) → bits.reads x m k ≡ reads r e m k)
-    → Same (doing_act (Set places x)) (doing_stmt r (AssignStmt target op e))
-set_does r target op e places x updates number writes adds read own = record {
+    → place_names places ≡ target_names r target → Same (doing_act (Set places x)) (doing_stmt r (AssignStmt target op e))
+set_does r target op e places x updates number writes adds read own names = record {
   updates = λ t v. updates (values.value x v) v ∙ ap (λ n. targets.target_updates r v target n) (number v);
   writes = writes;
   adds = adds;
   reads = λ t known m k.
       ap (λ b. (b || bits.target_reads places m k) && not (known m k)) (own m k)
       ∙ ap (λ b. (reads r e m k || b) && not (known m k)) (read m k);
+  names = names;
 }
 
 pub read_does : (r : Readable) (e : ExprOf ℕ) (x : Rhs) → ((m k : ℕ) → bits.reads x m k ≡ reads r e m k)
@@ -75,9 +79,14 @@ read_does r e x own = record {
   writes = λ m k. refl;
   adds = λ m k. refl;
   reads = λ t known m k. ap (λ b. b && not (known m k)) (own m k);
+  names = refl;
 }
 
 -- ---- one condition
+
+lone_guard : (g : Guard) → guard_names (g ∷ []) ≡ code_names g.body
+unfolding guard_targets
+lone_guard g = ap place_names (append-nil (block_targets g.body))
 
 pub one_guard : (r : Readable) (c : ExprOf ℕ) (g : Guard) (others : List Act)
     → ((v : Values) → values.value g.condition v ≡ value r v c (width_of r c)) → ((m k : ℕ) → bits.reads g.condition m k ≡ reads r c m k)
@@ -93,6 +102,7 @@ one_guard r c g others number read = record {
       ap (λ b. ((b && n) || (body || false)) || rest) (read m k)
       ∙ ap (λ b. ((reads r c m k && n) || b) || rest) (sym (or_none body))
       ∙ or_assoc (reads r c m k && n) body rest;
+  names = ap (λ ns. ns ++ code_names others) (lone_guard g);
 }
 
 both : (b : Bool) (x x' y y' : List Update) → x ≡ x' → y ≡ y' → (if b then x else y) ≡ (if b then x' else y')
@@ -110,6 +120,7 @@ if_does r c b other acts others x y = record {
       let c = reads r c m k && not (known m k) in
       ap (λ z. c || (z || bits.block_open_reads t others known m k)) (x.reads t known m k)
       ∙ ap (λ z. c || (body_open r t b known m k || z)) (y.reads t known m k);
+  names = ap (λ ns. ns ++ code_names others) x.names ∙ ap (λ ns. body_names r b ++ ns) y.names;
 }
 
 -- ---- `case`
@@ -150,6 +161,17 @@ branch_reads r subject arms guards others h is g o t known m k =
     ∙ ap (λ z. (read || arms_open r t arms known m k) || z) (o.reads t known m k)
     ∙ or_assoc read (arms_open r t arms known m k) (default_open r t arms known m k)
 
+no_guards : guard_names [] ≡ []
+unfolding guard_targets
+no_guards = refl
+
+branch_names : (r : Readable) (subject : ExprOf ℕ) (arms : ArmsOf ℕ) (guards : List Guard) (others : List Act)
+    → Lengthens (choosing_arms r subject (case_width r subject arms) arms) [] guards → Same (doing_block others) (doing_default r arms)
+    → guard_names guards ++ code_names others ≡ arms_names r arms ++ default_names r arms
+branch_names r subject arms guards others g o =
+    ap (λ ns. ns ++ code_names others) (g.names ∙ ap (λ ns. ns ++ arms_names r arms) no_guards)
+    ∙ ap (λ ns. arms_names r arms ++ ns) o.names
+
 pub case_does : (r : Readable) (subject : ExprOf ℕ) (arms : ArmsOf ℕ) (guards : List Guard) (others : List Act)
     → has_label arms ≡ true → Lengthens (choosing_arms r subject (case_width r subject arms) arms) [] guards
     → Extends (doing_default r arms) [] others → Same (doing_branch guards others) (doing_stmt r (CaseStmt subject arms))
@@ -160,6 +182,7 @@ case_does r subject arms guards others is g x =
       writes = λ m k. branch_writes r subject arms guards others g o m k;
       adds = λ m k. branch_adds r subject arms guards others g o m k;
       reads = λ t known m k. branch_reads r subject arms guards others true is g o t known m k;
+      names = branch_names r subject arms guards others g o;
     }
 
 read_then : (x y n a : Bool) → ((x && n) || ((y && n) || a)) ≡ (((x || y) && n) || a)
@@ -188,6 +211,7 @@ unlabelled_does r subject arms guards others is g x =
           (same_bits (known_after t known no_bits) known (known_none t known))
           ∙ ap (λ z. (s && n) || z) (branch_reads r subject arms guards others false is g o t known m k)
           ∙ read_then s (labels_read r arms m k) n (arms_open r t arms known m k || default_open r t arms known m k);
+      names = branch_names r subject arms guards others g o;
     }
 
 -- ---- lists, a part at a time

@@ -6,7 +6,6 @@ use Rattle.vlog_operators.specs.Number.{IsWidth}
 use Rattle.vlog_size.specs.declared.scope.Param.{Param}
 use Rattle.vlog_size.specs.declared.scope.ScopeNet.{ScopeNet}
 use Rattle.vlog_size.specs.declared.scope.ScopeMemory.{ScopeMemory}
-use Rattle.vlog_size.specs.declared.names.Meaning.{Meaning}
 use Rattle.vlog_size.specs.Table.{Named, value_of, place_of}
 use Rattle.vlog_size.specs.Names.{Readable, fixed, or_meaning, or_undeclared, net_meaning, memory_meaning}
 use Rattle.vlog_size.specs.Size.{Sizes, sizes_of, sizes_of_index, sizes_of_last, of_ref, part_width, bounds_width, or_zero, number}

@@ -20,14 +20,17 @@ use Rattle.vlog_block.specs.Written.{writes, stmts_write, body_writes, else_writ
 use Rattle.vlog_block.specs.Written.{adds, stmts_add, body_adds, else_adds, arm_adds, arms_add, default_adds}
 use Rattle.vlog_block.specs.Written.{open_reads, stmts_open, body_open, else_open, arm_open, arms_open, default_open, arm_labels_read}
 use Rattle.vlog_block.specs.Written.{labels_read}
+use Rattle.vlog_block.specs.Naming.{Naming, code_names, guard_names, stmt_names, stmts_names, body_names, else_names, arms_names, arm_names}
+use Rattle.vlog_block.specs.Naming.{default_names}
 use Rattle.vlog_block.specs.Faultless.{IsFaultless, IsFaultlessBody}
 
--- what statements do: their updates, the bits that they may write, those that they surely assign, and those that they read
+-- what statements do: their updates, the bits that they may write, those that they surely assign, those that they read, and what they name
 pub record Doing : Type 0 where
   pub updates : Timing → Values → List Update
   pub writes : BitSet
   pub adds : BitSet
   pub reads : Timing → BitSet → BitSet
+  pub names : List Naming
 
 -- `new` is `old` and then statements that do this
 pub record Extends (does : Doing) (old new : List Act) : Type 0 where
@@ -38,6 +41,7 @@ pub record Extends (does : Doing) (old new : List Act) : Type 0 where
   pub reads : (t : Timing) (known : BitSet) (m k : ℕ)
       → block_open_reads t new known m k
       ≡ (block_open_reads t old known m k || does.reads t (known_after t known (block_adds old)) m k)
+  pub names : code_names new ≡ code_names old ++ does.names
   pub sized : IsSizedBlock old → IsSizedBlock new
 
 -- statements of code
@@ -47,6 +51,7 @@ doing_block acts = record {
   writes = λ m k. block_writes acts m k;
   adds = λ m k. block_adds acts m k;
   reads = λ t known m k. block_open_reads t acts known m k;
+  names = code_names acts;
 }
 
 -- a choice of code
@@ -56,6 +61,7 @@ doing_branch guards others = record {
   writes = λ m k. guard_writes guards m k || block_writes others m k;
   adds = λ m k. guard_adds guards m k && block_adds others m k;
   reads = λ t known m k. guard_reads t guards known m k || block_open_reads t others known m k;
+  names = guard_names guards ++ code_names others;
 }
 
 -- one of two lists of statements of code, by a condition of the trees
@@ -66,6 +72,7 @@ doing_if r c acts others = record {
   adds = λ m k. block_adds acts m k && block_adds others m k;
   reads = λ t known m k.
       (reads r c m k && not (known m k)) || (block_open_reads t acts known m k || block_open_reads t others known m k);
+  names = code_names acts ++ code_names others;
 }
 
 -- the reading of an expression of the trees
@@ -75,6 +82,7 @@ doing_read r e = record {
   writes = λ m k. no_bits m k;
   adds = λ m k. no_bits m k;
   reads = λ t known m k. reads r e m k && not (known m k);
+  names = [];
 }
 
 abbrev pub doing_stmt : Readable → StmtOf ℕ → Doing
@@ -83,6 +91,7 @@ doing_stmt r s = record {
   writes = λ m k. writes r s m k;
   adds = λ m k. adds r s m k;
   reads = λ t known m k. open_reads r t s known m k;
+  names = stmt_names r s;
 }
 
 abbrev pub doing_stmts : Readable → StmtsOf ℕ → Doing
@@ -91,6 +100,7 @@ doing_stmts r ss = record {
   writes = λ m k. stmts_write r ss m k;
   adds = λ m k. stmts_add r ss m k;
   reads = λ t known m k. stmts_open r t ss known m k;
+  names = stmts_names r ss;
 }
 
 abbrev pub doing_body : Readable → BodyOf ℕ → Doing
@@ -99,6 +109,7 @@ doing_body r b = record {
   writes = λ m k. body_writes r b m k;
   adds = λ m k. body_adds r b m k;
   reads = λ t known m k. body_open r t b known m k;
+  names = body_names r b;
 }
 
 abbrev pub doing_else : Readable → ElseOf ℕ → Doing
@@ -107,6 +118,7 @@ doing_else r other = record {
   writes = λ m k. else_writes r other m k;
   adds = λ m k. else_adds r other m k;
   reads = λ t known m k. else_open r t other known m k;
+  names = else_names r other;
 }
 
 abbrev pub doing_default : Readable → ArmsOf ℕ → Doing
@@ -115,6 +127,7 @@ doing_default r arms = record {
   writes = λ m k. default_writes r arms m k;
   adds = λ m k. default_adds r arms m k;
   reads = λ t known m k. default_open r t arms known m k;
+  names = default_names r arms;
 }
 
 -- what guards do, where the updates are known that come where none of them is true
@@ -123,6 +136,7 @@ pub record Choosing : Type 0 where
   pub writes : BitSet
   pub adds : BitSet
   pub reads : Timing → BitSet → BitSet
+  pub names : List Naming
 
 -- `new` are the guards `old` and then others that do this
 pub record Lengthens (does : Choosing) (old new : List Guard) : Type 0 where
@@ -131,6 +145,7 @@ pub record Lengthens (does : Choosing) (old new : List Guard) : Type 0 where
   pub adds : (m k : ℕ) → guard_adds new m k ≡ (guard_adds old m k && does.adds m k)
   pub reads : (t : Timing) (known : BitSet) (m k : ℕ)
       → guard_reads t new known m k ≡ (guard_reads t old known m k || does.reads t known m k)
+  pub names : guard_names new ≡ guard_names old ++ does.names
   pub sized : AreSizedGuards old → AreSizedGuards new
 
 -- whether there is a label: in a list, in an arm, in some arms
@@ -154,6 +169,7 @@ choosing_arm r subject w a = record {
   adds = λ m k. arm_adds r a m k;
   reads = λ t known m k.
       (((arm_has_label a && reads r subject m k) || arm_labels_read r a m k) && not (known m k)) || arm_open r t a known m k;
+  names = arm_names r a;
 }
 
 abbrev pub choosing_arms : Readable → ExprOf ℕ → ℕ → ArmsOf ℕ → Choosing
@@ -163,6 +179,7 @@ choosing_arms r subject w arms = record {
   adds = λ m k. arms_add r arms m k;
   reads = λ t known m k.
       (((has_label arms && reads r subject m k) || labels_read r arms m k) && not (known m k)) || arms_open r t arms known m k;
+  names = arms_names r arms;
 }
 
 -- ---- expressions without a fault that are no wider than w

@@ -1,5 +1,5 @@
 -- Statements in whose expressions and targets nothing is found (this project's profile: no E4, E5 or E6).
-use Rattle.std.specs.Prelude.{◌≡◌, ℕ, List, []}
+use Rattle.std.specs.Prelude.{◌≡◌, ℕ, []}
 use Rattle.std.specs.List.{AllByRecursion}
 use Rattle.vlog_tree.specs.Tree.{ExprOf, TargetOf, StmtOf, BeginStmt, IfStmt, CaseStmt, AssignStmt, StmtsOf, NoStmts, MoreStmts}
 use Rattle.vlog_tree.specs.Tree.{ArmOf, LabelsArm, DefaultArm, ArmsOf, NoArms, MoreArms, BodyOf, StmtBody, EmptyBody, ElseOf, NoElse, Else}

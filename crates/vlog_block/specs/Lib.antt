@@ -6,5 +6,6 @@ pub mod Fit
 pub mod Targets
 pub mod Updates
 pub mod Written
+pub mod Naming
 pub mod Faultless
 pub mod Extends

@@ -1,9 +1,9 @@
 -- The bits of nets that targets and statements write, surely assign and read (this project's profile). A select of a net at a constant
 -- place writes its bits that are in range, and surely assigns them; any other may write each bit of the net, and surely assigns none.
 -- Words of memories are no bits of nets. An `if` without `else` and a `case` without `default` have an empty arm.
-use Rattle.std.specs.Prelude.{ℕ, Bool, ◌&&◌, ◌||◌, not, true, false, List, [], ◌∷◌, Option, None, Some}
+use Rattle.std.specs.Prelude.{ℕ, Bool, ◌&&◌, ◌||◌, not, true, false, Option, None, Some}
 use Rattle.std.specs.List.{list_any}
-use Rattle.vlog_tree.specs.Tree.{RefOf, RefWith, IndexOf, NoIndex, Index, LastOf, NoLast, Last}
+use Rattle.vlog_tree.specs.Tree.{RefWith, IndexOf, NoIndex, Index, LastOf, NoLast, Last}
 use Rattle.vlog_tree.specs.Tree.{ExprOf, TargetOf, RefTarget, ConcatTarget, TargetsOf, NoTargets, MoreTargets}
 use Rattle.vlog_tree.specs.Tree.{StmtOf, BeginStmt, IfStmt, CaseStmt, AssignStmt, StmtsOf, NoStmts, MoreStmts}
 use Rattle.vlog_tree.specs.Tree.{ArmOf, LabelsArm, DefaultArm, ArmsOf, NoArms, MoreArms, BodyOf, StmtBody, EmptyBody, ElseOf, NoElse, Else}

@@ -20,6 +20,7 @@ ghost use Rattle.vlog_block.specs.Bits.{reads};
 ghost use Rattle.vlog_block.specs.Updates.{assigned_width, widest, arm_widest, arms_widest, case_width, matches, timing_of};
 ghost use Rattle.vlog_block.specs.Updates.{body_updates, always_updates};
 ghost use Rattle.vlog_block.specs.Written.{body_writes, body_adds, body_open, always_writes, always_adds, always_reads};
+ghost use Rattle.vlog_block.specs.Naming.{code_names, always_names};
 ghost use Rattle.vlog_block.specs.Faultless.{IsFaultless, IsFaultlessTarget, IsFaultlessStmt, AreFaultlessStmts, IsFaultlessBody};
 ghost use Rattle.vlog_block.specs.Faultless.{IsFaultlessArm, AreFaultlessArms};
 ghost use Rattle.vlog_block.specs.Extends.{Extends, Lengthens, doing_branch, doing_if, doing_read, doing_stmt, doing_stmts, doing_body};
@@ -479,6 +480,7 @@ pub fn block_code(alloc: Global, block: &Always, scope: &Scope) -> Result<Code, 
         ≡ body_open (names_of scope.now) t (plain_always block.now).body known m k) }
     ensures writes { IfOk result (λ c. (m k : ℕ) → named c.writes m k ≡ always_writes (names_of scope.now) (plain_always block.now) m k) }
     ensures reads { IfOk result (λ c. (m k : ℕ) → named c.reads m k ≡ always_reads (names_of scope.now) (plain_always block.now) m k) }
+    ensures names { IfOk result (λ c. code_names c.acts ≡ always_names (names_of scope.now) (plain_always block.now)) }
     ensures bits { IfOk result (λ c. HasBits (timing_of (plain_always block.now).event) c) }
     ensures sized { IfOk result (λ c. IsSizedBlock c.acts) }
 {

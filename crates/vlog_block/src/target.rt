@@ -1,9 +1,9 @@
 //! Targets as code: the places that an assignment writes.
 
-ghost use Rattle.std.specs.Prelude.{◌≡◌, ℕ, ◌+◌, ◌≤◌, ◌<◌, ◌^◌, ◌/◌, ◌&&◌, ◌||◌, ◌++◌};
+ghost use Rattle.std.specs.Prelude.{◌≡◌, ℕ, ◌+◌, ◌≤◌, ◌<◌, ◌^◌, ◌/◌, ◌&&◌, ◌||◌, ◌++◌, ◌∷◌};
 ghost use Rattle.std.specs.Prelude.{Bool, false, nat_le, nat_lt, [], IfOk, OnOk, IfSome, Some};
 ghost use Rattle.std.specs.List.{AllByRecursion};
-ghost use Rattle.vlog_operators.specs.Number.{IsWidth};
+ghost use Rattle.vlog_operators.specs.Number.{IsWidth, truth};
 ghost use Rattle.vlog_tree.specs.Tree.{RefTarget, Index, Last};
 ghost use Rattle.vlog_tree.specs.Plain.{plain_expr, plain_target, plain_targets, plain_ref, plain_sel, plain_index, plain_last};
 ghost use Rattle.vlog_tree.specs.declared.expr.Ref.{back-Ref-index, back-Ref-sel};
@@ -25,6 +25,9 @@ ghost use Rattle.vlog_block.specs.Targets.{source_updates, ref_updates, target_u
 ghost use Rattle.vlog_block.specs.Written.{part_writes, part_adds, net_writes, net_adds, source_writes, source_adds};
 ghost use Rattle.vlog_block.specs.Written.{places_read, target_reads, target_writes, target_adds, targets_read, targets_write};
 ghost use Rattle.vlog_block.specs.Written.{targets_add};
+ghost use Rattle.vlog_block.specs.Naming.{NamesNet, NamesRoom, place_name, place_names, lone_name, source_name};
+ghost use Rattle.vlog_block.specs.Naming.{target_names, targets_names, target_count, targets_count};
+ghost use Rattle.net_drive.specs.Drive.{bit_count};
 
 use crate::bind::{Part, bound_index, bound_sel};
 use crate::source::{Source, source_of};
@@ -45,6 +48,7 @@ fn no_place(takes: u32) -> Place
     ensures reads { (m k : ℕ) → bits.place_reads result m k ≡ false }
     ensures writes { (m k : ℕ) → bits.place_writes result m k ≡ false }
     ensures adds { (m k : ℕ) → bits.place_adds result m k ≡ false }
+    ensures name { place_name result ≡ NamesNet 0 }
     ensures sized { IsSizedPlace result }
 {
     let span = Span {
@@ -91,6 +95,7 @@ fn fixed_bits(span: Span, at: u128, w: u32) -> Place
     ensures reads { (m k : ℕ) → bits.place_reads result m k ≡ false }
     ensures writes { (m k : ℕ) → bits.place_writes result m k ≡ bits_from span at w m k }
     ensures adds { (m k : ℕ) → bits.place_adds result m k ≡ bits_from span at w m k }
+    ensures name { place_name result ≡ NamesNet span.net }
     ensures sized { IsSizedPlace result }
 {
     let range = range_from(span.width, at, w);
@@ -111,6 +116,7 @@ fn whole_net(span: Span) -> Place
     ensures reads { (m k : ℕ) → bits.place_reads result m k ≡ false }
     ensures writes { (m k : ℕ) → bits.place_writes result m k ≡ bits.bits_of span m k }
     ensures adds { (m k : ℕ) → bits.place_adds result m k ≡ bits.bits_of span m k }
+    ensures name { place_name result ≡ NamesNet span.net }
     ensures sized { IsSizedPlace result }
 {
     Place::Bits {
@@ -132,6 +138,7 @@ fn net_part(span: Span, part: Part) -> Place
     ensures reads { (m k : ℕ) → bits.place_reads result m k ≡ bits.reads part.low.code.value m k }
     ensures writes { (m k : ℕ) → bits.place_writes result m k ≡ part_writes span part.low.constant part.width m k }
     ensures adds { (m k : ℕ) → bits.place_adds result m k ≡ part_adds span part.low.constant part.width m k }
+    ensures name { place_name result ≡ NamesNet span.net }
     ensures sized { IsSizedPlace result }
 {
     match part.low.constant {
@@ -165,6 +172,7 @@ fn whole_word(word: Word) -> Place
     ensures reads { (m k : ℕ) → bits.place_reads result m k ≡ bits.reads word.index.value m k }
     ensures writes { (m k : ℕ) → bits.place_writes result m k ≡ false }
     ensures adds { (m k : ℕ) → bits.place_adds result m k ≡ false }
+    ensures name { place_name result ≡ NamesRoom word.room.first }
     ensures sized { IsSizedPlace result }
 {
     Place::Word {
@@ -188,6 +196,7 @@ fn fixed_word_bits(word: Word, at: u128, w: u32) -> Place
     ensures reads { (m k : ℕ) → bits.place_reads result m k ≡ bits.reads word.index.value m k }
     ensures writes { (m k : ℕ) → bits.place_writes result m k ≡ false }
     ensures adds { (m k : ℕ) → bits.place_adds result m k ≡ false }
+    ensures name { place_name result ≡ NamesRoom word.room.first }
     ensures sized { IsSizedPlace result }
 {
     let range = range_from(word.size, at, w);
@@ -217,6 +226,7 @@ fn word_part(word: Word, part: Part) -> Place
         ≡ (bits.reads word.index.value m k || bits.reads part.low.code.value m k) }
     ensures writes { (m k : ℕ) → bits.place_writes result m k ≡ false }
     ensures adds { (m k : ℕ) → bits.place_adds result m k ≡ false }
+    ensures name { place_name result ≡ NamesRoom word.room.first }
     ensures sized { IsSizedPlace result }
 {
     match part.low.constant {
@@ -248,6 +258,7 @@ fn net_place(alloc: Global, scope: &Scope, span: Span, name: &Ref) -> Result<Pla
         ≡ net_writes (names_of scope.now) span (plain_last (back-Ref-sel name.now.sel)) m k) }
     ensures adds { IfOk result (λ p. (m k : ℕ) → bits.place_adds p m k
         ≡ net_adds (names_of scope.now) span (plain_last (back-Ref-sel name.now.sel)) m k) }
+    ensures name { IfOk result (λ p. place_name p ≡ NamesNet span.net) }
     ensures sized { IfOk result IsSizedPlace }
 {
     match &name.sel {
@@ -292,6 +303,7 @@ fn no_word(alloc: Global, scope: &Scope, sel: &Sel) -> Result<Place, Memory>
     ensures reads { IfOk result (λ p. (m k : ℕ) → bits.place_reads p m k ≡ false) }
     ensures writes { IfOk result (λ p. (m k : ℕ) → bits.place_writes p m k ≡ false) }
     ensures adds { IfOk result (λ p. (m k : ℕ) → bits.place_adds p m k ≡ false) }
+    ensures name { IfOk result (λ p. place_name p ≡ NamesNet 0) }
     ensures sized { IfOk result IsSizedPlace }
 {
     let part = bound_sel(alloc, scope, sel)?;
@@ -317,6 +329,7 @@ fn lone_place(
         ≡ lone_reads (Last (plain_sel sel.now)) (last_reads (names_of scope.now) (Last (plain_sel sel.now)) m k)) }
     ensures writes { IfOk result (λ p. (m k : ℕ) → bits.place_writes p m k ≡ false) }
     ensures adds { IfOk result (λ p. (m k : ℕ) → bits.place_adds p m k ≡ false) }
+    ensures name { IfOk result (λ p. place_name p ≡ lone_name room (Last (plain_sel sel.now))) }
     ensures sized { IfOk result IsSizedPlace }
 {
     match sel {
@@ -352,6 +365,8 @@ fn word_place(
         (last_reads (names_of scope.now) (plain_last (back-Ref-sel name.now.sel)) m k)) }
     ensures writes { IfOk result (λ p. (m k : ℕ) → bits.place_writes p m k ≡ false) }
     ensures adds { IfOk result (λ p. (m k : ℕ) → bits.place_adds p m k ≡ false) }
+    ensures name { IfOk result (λ p. place_name p ≡ source_name (MemorySource room size)
+        (plain_index (back-Ref-index name.now.index)) (plain_last (back-Ref-sel name.now.sel))) }
     ensures sized { IfOk result IsSizedPlace }
 {
     match (&name.index, &name.sel) {
@@ -399,6 +414,8 @@ fn source_place(
         ≡ source_writes (names_of scope.now) source (plain_last (back-Ref-sel name.now.sel)) m k) }
     ensures adds { IfOk result (λ p. (m k : ℕ) → bits.place_adds p m k
         ≡ source_adds (names_of scope.now) source (plain_last (back-Ref-sel name.now.sel)) m k) }
+    ensures name { IfOk result (λ p. place_name p ≡ source_name source
+        (plain_index (back-Ref-index name.now.index)) (plain_last (back-Ref-sel name.now.sel))) }
     ensures sized { IfOk result IsSizedPlace }
 {
     match source {
@@ -432,6 +449,7 @@ fn ref_place(alloc: Global, scope: &Scope, name: &Ref, takes: u32) -> Result<Pla
         ≡ target_writes (names_of scope.now) (RefTarget (plain_ref name.now)) m k) }
     ensures adds { IfOk result (λ p. (m k : ℕ) → bits.place_adds p m k
         ≡ target_adds (names_of scope.now) (RefTarget (plain_ref name.now)) m k) }
+    ensures name { IfOk result (λ p. place_name p ∷ [] ≡ target_names (names_of scope.now) (RefTarget (plain_ref name.now))) }
     ensures sized { IfOk result IsSizedPlace }
 {
     let source = source_of(scope, name.id.name.as_slice())?;
@@ -452,6 +470,9 @@ fn push_place(out: &mut Lhs, place: Place) -> Result<(), Memory>
         ≡ (bits.target_writes out.old m k || bits.place_writes place m k)) }
     ensures adds { OnOk result ((m k : ℕ) → bits.target_adds out.new m k
         ≡ (bits.target_adds out.old m k || bits.place_adds place m k)) }
+    ensures names { OnOk result (place_names out.new ≡ place_names out.old ++ place_name place ∷ []) }
+    ensures count { OnOk result ((m k : ℕ) → bit_count out.new m k
+        ≡ bit_count out.old m k + truth (bits.place_writes place m k)) }
     ensures sized { OnOk result (AllByRecursion (λ p. IsSizedPlace p) out.old → AllByRecursion (λ p. IsSizedPlace p) out.new) }
 {
     out.push(place)
@@ -472,6 +493,10 @@ fn push_target(alloc: Global, scope: &Scope, out: &mut Lhs, target: &Target) -> 
         ≡ (bits.target_writes out.old m k || target_writes (names_of scope.now) (plain_target target.now) m k)) }
     ensures adds { OnOk result ((m k : ℕ) → bits.target_adds out.new m k
         ≡ (bits.target_adds out.old m k || target_adds (names_of scope.now) (plain_target target.now) m k)) }
+    ensures names { OnOk result (place_names out.new
+        ≡ place_names out.old ++ target_names (names_of scope.now) (plain_target target.now)) }
+    ensures count { OnOk result ((m k : ℕ) → bit_count out.new m k
+        ≡ bit_count out.old m k + target_count (names_of scope.now) (plain_target target.now) m k) }
     ensures sized { OnOk result (AllByRecursion (λ p. IsSizedPlace p) out.old → AllByRecursion (λ p. IsSizedPlace p) out.new) }
 {
     match target {
@@ -502,6 +527,10 @@ fn push_targets(alloc: Global, scope: &Scope, out: &mut Lhs, parts: &[Target]) -
         ≡ (bits.target_writes out.old m k || targets_write (names_of scope.now) (plain_targets parts.now) m k)) }
     ensures adds { OnOk result ((m k : ℕ) → bits.target_adds out.new m k
         ≡ (bits.target_adds out.old m k || targets_add (names_of scope.now) (plain_targets parts.now) m k)) }
+    ensures names { OnOk result (place_names out.new
+        ≡ place_names out.old ++ targets_names (names_of scope.now) (plain_targets parts.now)) }
+    ensures count { OnOk result ((m k : ℕ) → bit_count out.new m k
+        ≡ bit_count out.old m k + targets_count (names_of scope.now) (plain_targets parts.now) m k) }
     ensures sized { OnOk result (AllByRecursion (λ p. IsSizedPlace p) out.old → AllByRecursion (λ p. IsSizedPlace p) out.new) }
 {
     for part in parts {
@@ -530,6 +559,9 @@ pub fn bind_target(alloc: Global, target: &Target, scope: &Scope) -> Result<Lhs,
         ≡ target_writes (names_of scope.now) (plain_target target.now) m k) }
     ensures adds { IfOk result (λ lhs. (m k : ℕ) → bits.target_adds lhs m k
         ≡ target_adds (names_of scope.now) (plain_target target.now) m k) }
+    ensures names { IfOk result (λ lhs. place_names lhs ≡ target_names (names_of scope.now) (plain_target target.now)) }
+    ensures count { IfOk result (λ lhs. (m k : ℕ) → bit_count lhs m k
+        ≡ target_count (names_of scope.now) (plain_target target.now) m k) }
     ensures sized { IfOk result (λ lhs. AllByRecursion (λ p. IsSizedPlace p) lhs) }
 {
     let mut places = Items::new(alloc);

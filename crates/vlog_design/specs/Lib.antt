@@ -1,2 +1,4 @@
 pub mod Design
 pub mod Reasons
+pub mod Parts
+pub mod Laws

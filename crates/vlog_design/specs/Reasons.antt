@@ -1,14 +1,23 @@
--- Why a file with a top is refused: the reasons over the text, and then those over the code that its items make (this project's profile).
-use Rattle.std.specs.Prelude.{◌≡◌, ℕ, List, []}
+-- Why a file with a top is refused: the reasons over the text and the instances, and then those over what the items drive (this project's
+-- profile).
+use Rattle.std.specs.Prelude.{◌≡◌, ℕ, List, [], ◌++◌}
+use Rattle.std.specs.List.{flat_map}
 use Rattle.vlog_tree.specs.Tree.{FileOf}
 use Rattle.vlog_elab.specs.declared.error.ElabError.{ElabError}
+use Rattle.vlog_elab.specs.Instances.{ModuleInstance, instances}
 use Rattle.vlog_elab.specs.Answered.{IsFirst}
 use Rattle.vlog_elab.specs.Reasons as elab
 use Rattle.vlog_elab.specs.Reasons.{Then}
+use Rattle.flat_parts.specs.Seats.{seats_of}
+use Rattle.flat_drivers.specs.Latches.{instance_latches}
+use Rattle.flat_drive.specs.Findings.{drive_findings}
 
--- placeholder
+-- E9 of all instances, then E8
+abbrev pub code_findings_of : List ModuleInstance → List ElabError
+code_findings_of is = flat_map instance_latches is ++ drive_findings (seats_of is)
+
 unfoldable pub code_findings : FileOf ℕ → List ℕ → List ElabError
-code_findings file top = []
+code_findings file top = code_findings_of (instances file top)
 
 -- the first reason, in the order E3, E4, E7, E11, E12 of instances and nets, E5, E6, E12 of words, E13, E9, E8
 abbrev pub Refused : FileOf ℕ → List ℕ → ElabError → Type 0

@@ -17,9 +17,12 @@ use Rattle.vlog_block.specs.Value.{value, width_of}
 use Rattle.vlog_block.specs.Targets.{target_width, target_updates}
 use Rattle.vlog_block.specs.Bits.{reads}
 use Rattle.vlog_block.specs.Written.{target_writes, target_adds, target_reads}
-use Rattle.vlog_driver.specs.Spots.{Spot, numbers_from, bits_at}
+use Rattle.net_drive.specs.Drive.{bit_count}
+use Rattle.vlog_block.specs.Naming.{target_count}
+use Rattle.vlog_driver.specs.Spots.{Spot, numbers_from, bits_at, count_at}
 use Rattle.vlog_driver.specs.Drivers.{IsOneSet, IsAssignment}
 use Rattle.vlog_driver.proofs.Placing.{or_no, and_yes}
+use Rattle.vlog_driver.proofs.Namings.{set_targets}
 
 module _ (to : Spot) (target : TargetOf ℕ) (from : Spot) (e : ExprOf ℕ) where
   -- what is known of the code of the target and of the expression
@@ -29,6 +32,7 @@ module _ (to : Spot) (target : TargetOf ℕ) (from : Spot) (e : ExprOf ℕ) wher
     pub writes : (m k : ℕ) → bits.target_writes lhs m k ≡ bits_at to (target_writes to.names target) m k
     pub adds : (m k : ℕ) → bits.target_adds lhs m k ≡ bits_at to (target_adds to.names target) m k
     pub places : (m k : ℕ) → bits.target_reads lhs m k ≡ bits_at to (target_reads to.names target) m k
+    pub count : (m k : ℕ) → bit_count lhs m k ≡ count_at to (target_count to.names target) m k
     pub value : (v : Values) → code.value rhs v ≡ value from.names (numbers_from from v) e w
     pub reads : (m k : ℕ) → bits.reads rhs m k ≡ bits_at from (reads from.names e) m k
     pub width : w ≡ max (target_width to.names target) (width_of from.names e)
@@ -50,6 +54,7 @@ module _ (to : Spot) (target : TargetOf ℕ) (from : Spot) (e : ExprOf ℕ) wher
     reads = λ m k. has.reads m k ∙ ap (λ xs. block_reads Blocking xs m k) acts ∙ or_no _ ∙ and_yes _
         ∙ ap (λ b. b || bits.target_reads lhs m k) (p.reads m k) ∙ ap (λ b. bits_at from (reads from.names e) m k || b) (p.places m k);
     bits = has;
+    count = λ m k. set_targets d.code.acts lhs rhs acts m k ∙ p.count m k;
     one = subst (λ xs. IsOneSet xs) (sym acts) tt;
   }
 

@@ -14,8 +14,11 @@ use Rattle.net_code.specs.Moved.{moved_update}
 use Rattle.vlog_block.specs.Bits.{reads}
 use Rattle.vlog_block.specs.Updates.{always_updates}
 use Rattle.vlog_block.specs.Written.{target_writes, target_adds, target_reads, always_writes, always_adds, always_reads}
+use Rattle.net_drive.specs.Targets.{block_targets}
+use Rattle.net_drive.specs.Drive.{bit_count}
+use Rattle.vlog_block.specs.Naming.{target_count, always_names, code_names}
 use Rattle.vlog_meaning.specs.Items.{IsAssigned}
-use Rattle.vlog_driver.specs.Spots.{Spot, numbers_from, bits_at}
+use Rattle.vlog_driver.specs.Spots.{Spot, numbers_from, bits_at, count_at, names_at_spot}
 
 -- one assignment
 abbrev pub IsOneSet : List Act → Type 0
@@ -34,6 +37,7 @@ pub record IsAssignment (on : ℕ) (to : Spot) (target : TargetOf ℕ) (from : S
   pub reads : (m k : ℕ) → named d.code.reads m k
       ≡ (bits_at from (reads from.names e) m k || bits_at to (target_reads to.names target) m k)
   pub bits : HasBits Blocking d.code
+  pub count : (m k : ℕ) → bit_count (block_targets d.code.acts) m k ≡ count_at to (target_count to.names target) m k
   pub one : IsOneSet d.code.acts
 
 -- a driver that is an `always @*` of an instance: it holds at v exactly where each bit that the block writes is what the last of its
@@ -46,6 +50,7 @@ pub record IsSettling (p : Spot) (a : AlwaysOf ℕ) (d : Driver) : Type 0 where
   pub adds : (m k : ℕ) → block_adds d.code.acts m k ≡ bits_at p (always_adds p.names a) m k
   pub reads : (m k : ℕ) → named d.code.reads m k ≡ bits_at p (always_reads p.names a) m k
   pub bits : HasBits Blocking d.code
+  pub names : code_names d.code.acts ≡ names_at_spot p (always_names p.names a)
 
 -- a clocked block of an instance: its updates are those of the text, moved
 pub record IsClocked (p : Spot) (a : AlwaysOf ℕ) (c : Code) : Type 0 where
@@ -54,3 +59,4 @@ pub record IsClocked (p : Spot) (a : AlwaysOf ℕ) (c : Code) : Type 0 where
   pub writes : (m k : ℕ) → named c.writes m k ≡ bits_at p (always_writes p.names a) m k
   pub reads : (m k : ℕ) → named c.reads m k ≡ bits_at p (always_reads p.names a) m k
   pub bits : HasBits Nonblocking c
+  pub names : code_names c.acts ≡ names_at_spot p (always_names p.names a)

@@ -7,6 +7,8 @@
 
 mod assign;
 mod block;
+mod conn;
+mod copy;
 mod laws;
 mod placed;
 mod site;
@@ -14,6 +16,8 @@ mod whole;
 
 pub use assign::{add_assigns, assignment};
 pub use block::{add_always, clocked_block};
+pub use conn::{add_conns, is_output};
+pub use copy::target_form;
 pub use laws::drivers_are_items;
 pub use site::Site;
 pub use whole::{add_input, add_output, add_wire};

@@ -19,9 +19,11 @@ ghost use Rattle.vlog_block.specs.Bits.{reads};
 ghost use Rattle.vlog_block.specs.Updates.{timing_of, body_updates};
 ghost use Rattle.vlog_block.specs.Written.{target_writes, target_adds, target_reads, always_writes, always_adds, always_reads};
 ghost use Rattle.vlog_block.specs.Faultless.{IsFaultless, IsFaultlessTarget, IsFaultlessBody};
+ghost use Rattle.vlog_block.specs.Naming.{target_count, always_names, code_names};
+ghost use Rattle.net_drive.specs.Drive.{bit_count};
 ghost use Rattle.vlog_latch.specs.Latch.{Answers};
 ghost use Rattle.vlog_latch.specs.Blocks.{block_latches};
-ghost use Rattle.vlog_driver.specs.Spots.{spot_of, numbers_from, bits_at};
+ghost use Rattle.vlog_driver.specs.Spots.{spot_of, numbers_from, bits_at, count_at, names_at_spot};
 
 use crate::site::Site;
 use net_code::{
@@ -88,6 +90,8 @@ pub fn placed_target(alloc: Global, site: &Site<'_>, target: &Target) -> Result<
         ≡ bits_at (spot_of site.now) (target_adds (spot_of site.now).names (plain_target target.now)) m k) }
     ensures reads { IfOk result (λ lhs. (m k : ℕ) → bits.target_reads lhs m k
         ≡ bits_at (spot_of site.now) (target_reads (spot_of site.now).names (plain_target target.now)) m k) }
+    ensures count { IfOk result (λ lhs. (m k : ℕ) → bit_count lhs m k
+        ≡ count_at (spot_of site.now) (target_count (spot_of site.now).names (plain_target target.now)) m k) }
 {
     let mut places = bind_target(alloc, target, site.scope)?;
     if !target_is_near(&places) {
@@ -114,6 +118,8 @@ pub fn placed_block(alloc: Global, site: &Site<'_>, block: &Always) -> Result<Co
     ensures reads { IfOk result (λ c. (m k : ℕ) → named c.reads m k
         ≡ bits_at (spot_of site.now) (always_reads (spot_of site.now).names (plain_always block.now)) m k) }
     ensures bits { IfOk result (λ c. HasBits (timing_of (plain_always block.now).event) c) }
+    ensures names { IfOk result (λ c. code_names c.acts
+        ≡ names_at_spot (spot_of site.now) (always_names (spot_of site.now).names (plain_always block.now))) }
 {
     let mut code = bind_block(alloc, block, site.scope)?;
     if !code_is_near(&code) {

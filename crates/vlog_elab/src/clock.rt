@@ -79,8 +79,16 @@ fn one_bit_inputs<'a>(
     Ok(inputs)
 }
 
-/// Those of the top, which is the first instance.
-fn clock_inputs<'a>(alloc: Global, list: &[ModuleInstance<'a>]) -> Result<Items<&'a Name>, Memory>
+/// The names of the input ports of the top that are one bit wide, in text order, where these are the instances of a file and its top, the
+/// top first; none where there is no instance.
+///
+/// # Errors
+///
+/// `Memory`: there isn't enough memory.
+pub fn clock_inputs<'a>(
+    alloc: Global,
+    list: &[ModuleInstance<'a>],
+) -> Result<Items<&'a Name>, Memory>
     ensures { IfOk result (λ names. plain_path names ≡ clock.clock_inputs (plain_instances list.now)) }
 {
     match list.first() {

@@ -1,6 +1,7 @@
 //! The instances of a design, each with its scope.
 
 use vidi_bits::{Items, Name};
+use vlog_names::ModuleTable;
 use vlog_size::Scope;
 use vlog_tree::Module;
 
@@ -20,6 +21,8 @@ pub struct ModuleInstance<'a> {
 /// The instances of a design in preorder and text order.
 #[derive(Drop)]
 pub struct ModuleInstances<'a> {
+    /// What each module of the file declares.
+    pub modules: ModuleTable,
     pub list: Items<ModuleInstance<'a>>,
     /// For each instance the number of its first net, which is the number of nets of the instances before it.
     pub firsts: Items<u128>,

@@ -15,6 +15,7 @@ mod laws;
 mod modules;
 mod reasons;
 
+pub use clock::clock_inputs;
 pub use error::{Big, ElabError};
 pub use instance::{ModuleInstance, ModuleInstances};
 pub use laws::instances_are_nodes;

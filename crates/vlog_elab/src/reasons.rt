@@ -219,36 +219,44 @@ fn judged_instances<'a>(
 #[tactic(auto, unfolding(crate::specs::Reasons::size_findings))]
 fn sized<'a>(
     alloc: Global,
-    modules: &ModuleTable,
+    modules: ModuleTable,
     file: &'a File,
     top: &[u8],
 ) -> Result<ModuleInstances<'a>, ElabError>
-    requires { modules.now ≡ modules_of (plain file.now) }
+    requires { modules ≡ modules_of (plain file.now) }
     ensures told { Judged result (reasons.size_findings (plain file.now) top.now) }
     ensures value { IfOk result (λ r. AreInstances (plain file.now) top.now r) }
+    ensures modules { IfOk result (λ r. r.modules ≡ modules_of (plain file.now)) }
 {
     let Numbers { firsts, nets } = counted(alloc, file, top)?;
-    let list = judged_instances(alloc, modules, file, top)?;
-    Ok(ModuleInstances { list, firsts, nets })
+    let list = judged_instances(alloc, &modules, file, top)?;
+    Ok(ModuleInstances {
+        modules,
+        list,
+        firsts,
+        nets,
+    })
 }
 
 /// The instances, where E11, E12, E5, E6 and E13 find nothing.
 fn below_top<'a>(
     alloc: Global,
-    modules: &ModuleTable,
+    modules: ModuleTable,
     file: &'a File,
     top: &[u8],
 ) -> Result<ModuleInstances<'a>, ElabError>
-    requires { modules.now ≡ modules_of (plain file.now) }
+    requires { modules ≡ modules_of (plain file.now) }
     ensures told { MatchResult result (λ _. reasons.ClearLater (plain file.now) top.now)
         (reasons.RefusedLater (plain file.now) top.now) }
     ensures value { IfOk result (λ r. AreInstances (plain file.now) top.now r) }
+    ensures modules { IfOk result (λ r. r.modules ≡ modules_of (plain file.now)) }
 {
     not_nested(alloc, file, top)?;
     sized(alloc, modules, file, top)
 }
 
-/// The instances of a file and its top in preorder and text order, each with its path, module, scope and first net.
+/// The instances of a file and its top in preorder and text order, each with its path, module, scope and first net; and what each module
+/// of the file declares.
 ///
 /// # Errors
 ///
@@ -262,7 +270,8 @@ pub fn instances_of<'a>(
 ) -> Result<ModuleInstances<'a>, ElabError>
     ensures told { MatchResult result (λ _. reasons.Clear (plain file.now) top.now) (reasons.Refused (plain file.now) top.now) }
     ensures value { IfOk result (λ r. AreInstances (plain file.now) top.now r) }
+    ensures modules { IfOk result (λ r. r.modules ≡ modules_of (plain file.now)) }
 {
     let modules = written(alloc, file, top)?;
-    below_top(alloc, &modules, file, top)
+    below_top(alloc, modules, file, top)
 }

@@ -1,11 +1,11 @@
 -- E13's definitions on a top with the ports c and d, a clocked block of c, and an instance with c joined to its k.
-use Rattle.std.proofs.Common.{◌≡◌, ℕ, List, [], ◌∷◌, None, Some, true, false, refl}
+use Rattle.std.proofs.Common.{◌≡◌, ℕ, List, [], ◌∷◌, None, Some, refl}
 use Rattle.vlog_size.specs.Table.{Named}
 use Rattle.vlog_tree.specs.Tree.{ExprOf, UnaryExpr, RefPrim, ParenPrim, RefWith, NoIndex, NoLast, ConnOf, InstanceOf, ItemOf, ModuleOf}
 use Rattle.vlog_tree.specs.Tree.{AlwaysItem, InstanceItem, PosedgeEvent, EmptyBody}
 use Rattle.vlog_hierarchy.specs.declared.error.HierarchyError.TheVariants as error
 use Rattle.vlog_hierarchy.specs.declared.scopes.Scope.{Scope}
-use Rattle.vlog_hierarchy.specs.Outlines.{Child, Outline}
+use Rattle.vlog_hierarchy.specs.Outlines.{Outline}
 use Rattle.vlog_hierarchy.specs.Clock.{ports_from, child_joined, scopes, clock_ports, scope_ports, clock_marks, name_faults, scope_faults}
 use Rattle.vlog_hierarchy.specs.Clock.{clock_faults}
 

@@ -3,6 +3,7 @@ mod ClockExamples
 pub mod Closed
 pub mod Deeper
 mod Examples
+pub mod Labelled
 pub mod Many
 pub mod Marks
 pub mod PlaceLaws

@@ -1,5 +1,6 @@
 pub mod Clock
 pub mod Judged
+pub mod Labels
 pub mod Laws
 pub mod Nested
 pub mod Nodes

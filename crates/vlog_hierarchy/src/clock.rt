@@ -22,7 +22,7 @@ use vlog_size::Table;
 use vlog_tree::{Always, Assign, Conn, Event, Expr, File, Item, Module, NamedValue};
 
 /// For each clocked block the port to which its name is joined.
-type ClockPorts = Items<Option<usize>>;
+pub type ClockPorts = Items<Option<usize>>;
 
 /// Adds the port of a clocked block.
 fn add_port(ports: &mut ClockPorts, joined: &Table<usize>, event: &Event) -> Result<(), Memory>
@@ -74,7 +74,11 @@ fn add_scope_ports(ports: &mut ClockPorts, modules: &[Module], scope: &Scope) ->
 
 /// The ports of all clocked blocks.
 #[tactic(auto, unfolding(crate::specs::Clock::clock_ports))]
-fn clock_ports(alloc: Global, modules: &[Module], scopes: &[Scope]) -> Result<ClockPorts, Memory>
+pub fn clock_ports(
+    alloc: Global,
+    modules: &[Module],
+    scopes: &[Scope],
+) -> Result<ClockPorts, Memory>
     ensures { IfOk result (λ ports. ports ≡ clock_ports (map plain_module modules.now) scopes.now) }
 {
     let mut ports = Items::new(alloc);
@@ -85,7 +89,7 @@ fn clock_ports(alloc: Global, modules: &[Module], scopes: &[Scope]) -> Result<Cl
 }
 
 /// The port of the first clocked block.
-fn first_port(ports: &[Option<usize>]) -> Option<usize>
+pub fn first_port(ports: &[Option<usize>]) -> Option<usize>
     ensures { result ≡ first_port ports.now }
 {
     match ports {

@@ -4,10 +4,12 @@
 
 mod clock;
 mod error;
+mod labels;
 mod laws;
 mod nodes;
 mod outline;
 mod places;
+mod port;
 mod reads;
 mod scopes;
 mod walk;
@@ -16,4 +18,5 @@ pub use clock::check_clock;
 pub use error::{HierarchyError, HierarchyLimit};
 pub use laws::{clocks_are_of_all_nodes, more_levels_change_nothing};
 pub use nodes::{Node, Nodes, nodes_of};
+pub use port::clock_port;
 pub use walk::nested;

@@ -1,13 +1,16 @@
 //! E11: modules that contain themselves.
 
-ghost use Rattle.std.specs.Prelude.{◌≡◌, ◌<◌, ◌++◌, ◌↔◌, ℕ, Bool, true, false, not, List, map, Some, None, IfOk, OnOk, length, slice_set};
+ghost use Rattle.std.specs.Prelude.{◌≡◌, ◌<◌, ◌++◌, ◌↔◌, ℕ, Bool, true, false, not, List, map, Option, Some, None, IfOk, OnOk};
+ghost use Rattle.std.specs.Prelude.{length, slice_set};
 ghost use Rattle.vidi_bits.specs.Findings.{told_if};
 ghost use Rattle.vlog_tree.specs.Plain.{plain};
 ghost use Rattle.vlog_hierarchy.specs.Outlines.{outlines_of, place_of};
 ghost use Rattle.vlog_hierarchy.specs.Plain.{plain_outlines};
 ghost use Rattle.vlog_hierarchy.specs.Nested.{kids, Below, IsNested, IsFirstNested, IsNestedAnswer};
 ghost use Rattle.vlog_hierarchy.specs.Reach.{child_places, is_marked, marked_all, fresh, AreBelow, IsClosed};
+ghost use Rattle.vlog_hierarchy.specs.Labels.{NeverFall, IsOpen, IsFirstOpen};
 
+use crate::labels::{keeps_label, labels};
 use crate::outline::{Child, Outline, outlines};
 use crate::places::{index_of, place_named};
 use std::alloc::Global;
@@ -136,6 +139,113 @@ fn is_nested(
     }
 }
 
+/// The first module at fault, found by a walk from each.
+fn first_by_walks(
+    alloc: Global,
+    outlines: &[Outline<'_>],
+    top: usize,
+    below: &Reached,
+) -> Result<Option<usize>, Memory>
+    requires closed { IsClosed (plain_outlines outlines.now) }
+    requires long { length below.now.marks ≡ length outlines.now }
+    requires below { (k : ℕ) → (is_marked below.now.marks k ≡ true) ↔ Below (plain_outlines outlines.now) top k }
+    requires within { top < length outlines.now }
+    ensures { IfOk result (IsFirstNested (plain_outlines outlines.now) top) }
+{
+    for place in 0..outlines.len() {
+        if is_nested(alloc, outlines, top, below, place)? {
+            return Ok(Some(place));
+        }
+    }
+    Ok(None)
+}
+
+/// Whether labels leave a module open.
+fn is_open(
+    labels: &[usize],
+    outlines: &[Outline<'_>],
+    top: usize,
+    below: &Reached,
+    place: usize,
+) -> bool
+    requires within { place < length outlines.now }
+    requires long { length below.now.marks ≡ length outlines.now }
+    requires below { (k : ℕ) → (is_marked below.now.marks k ≡ true) ↔ Below (plain_outlines outlines.now) top k }
+    ensures { (result ≡ true) ↔ IsOpen (plain_outlines outlines.now) labels.now top place }
+{
+    if below.has(place) || place == top {
+        keeps_label(labels, outlines, place)
+    } else {
+        false
+    }
+}
+
+/// The first module that labels leave open.
+fn first_open(
+    labels: &[usize],
+    outlines: &[Outline<'_>],
+    top: usize,
+    below: &Reached,
+) -> Option<usize>
+    requires long { length below.now.marks ≡ length outlines.now }
+    requires below { (k : ℕ) → (is_marked below.now.marks k ≡ true) ↔ Below (plain_outlines outlines.now) top k }
+    requires within { top < length outlines.now }
+    ensures { IsFirstOpen (plain_outlines outlines.now) labels.now top result }
+{
+    for place in 0..outlines.len() {
+        if is_open(labels, outlines, top, below, place) {
+            return Some(place);
+        }
+    }
+    None
+}
+
+/// The first module at fault, shown by labels and a walk from it; `None` where they don't show it.
+fn shown_by(
+    alloc: Global,
+    labels: &[usize],
+    outlines: &[Outline<'_>],
+    top: usize,
+    below: &Reached,
+) -> Result<Option<Option<usize>>, Memory>
+    requires closed { IsClosed (plain_outlines outlines.now) }
+    requires long { length below.now.marks ≡ length outlines.now }
+    requires below { (k : ℕ) → (is_marked below.now.marks k ≡ true) ↔ Below (plain_outlines outlines.now) top k }
+    requires within { top < length outlines.now }
+    requires fall { NeverFall (plain_outlines outlines.now) labels.now }
+    ensures { IfOk result (λ found. (answer : Option ℕ) → found ≡ Some answer → IsFirstNested (plain_outlines outlines.now) top answer) }
+{
+    match first_open(labels, outlines, top, below) {
+        Some(place) => {
+            if contains_itself(alloc, outlines, place)? {
+                Ok(Some(Some(place)))
+            } else {
+                Ok(None)
+            }
+        }
+        None => Ok(Some(None)),
+    }
+}
+
+/// The first module at fault, by the labels of a search; `None` where they don't show it.
+fn first_by_labels(
+    alloc: Global,
+    outlines: &[Outline<'_>],
+    top: usize,
+    below: &Reached,
+) -> Result<Option<Option<usize>>, Memory>
+    requires closed { IsClosed (plain_outlines outlines.now) }
+    requires long { length below.now.marks ≡ length outlines.now }
+    requires below { (k : ℕ) → (is_marked below.now.marks k ≡ true) ↔ Below (plain_outlines outlines.now) top k }
+    requires within { top < length outlines.now }
+    ensures { IfOk result (λ found. (answer : Option ℕ) → found ≡ Some answer → IsFirstNested (plain_outlines outlines.now) top answer) }
+{
+    match labels(alloc, outlines)? {
+        Some(labels) => shown_by(alloc, labels.as_slice(), outlines, top, below),
+        None => Ok(None),
+    }
+}
+
 /// The first module at fault.
 fn first_nested(
     alloc: Global,
@@ -147,12 +257,10 @@ fn first_nested(
     ensures { IfOk result (IsFirstNested (plain_outlines outlines.now) top) }
 {
     let below = walk_from(alloc, outlines, top)?;
-    for place in 0..outlines.len() {
-        if is_nested(alloc, outlines, top, &below, place)? {
-            return Ok(Some(place));
-        }
+    match first_by_labels(alloc, outlines, top, &below)? {
+        Some(answer) => Ok(answer),
+        None => first_by_walks(alloc, outlines, top, &below),
     }
-    Ok(None)
 }
 
 /// E11: the place in the file of the first module that is the top or instantiated below it and contains

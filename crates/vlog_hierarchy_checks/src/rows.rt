@@ -3,7 +3,7 @@
 /// The top's name, the text, and the place of the module at fault.
 pub type Nested = (&'static str, &'static str, Option<usize>);
 
-pub const NESTED: [Nested; 10] = [
+pub const NESTED: [Nested; 14] = [
     ("m", "module m(); endmodule", None),
     ("m", "module m(); m u(); endmodule", Some(0)),
     ("x", "module m(); m u(); endmodule", None),
@@ -45,6 +45,35 @@ pub const NESTED: [Nested; 10] = [
     (
         "m",
         "module n(); m u(); endmodule module m(); endmodule",
+        None,
+    ),
+    // A chain between two cycles: the modules of the chain, which come first, aren't at fault.
+    (
+        "m",
+        "module c(); d u(); endmodule module d(); f u(); endmodule module m(); n u(); endmodule \
+        module n(); m u(); c v(); endmodule module e(); f u(); endmodule module f(); e u(); endmodule",
+        Some(2),
+    ),
+    // Modules that each hold one of a cycle, and one that holds all of these.
+    (
+        "m",
+        "module m(); a u(); b v(); c w(); endmodule module a(); d u(); b v(); endmodule \
+        module b(); e u(); c v(); endmodule module c(); f u(); endmodule module d(); e u(); endmodule \
+        module e(); f u(); endmodule module f(); d u(); endmodule",
+        Some(4),
+    ),
+    // Two cycles that share a module, and a shorter way within one.
+    (
+        "m",
+        "module e(); endmodule module a(); b u(); c v(); e w(); endmodule module b(); c u(); endmodule \
+        module c(); d u(); endmodule module d(); a u(); c v(); endmodule module m(); d u(); endmodule",
+        Some(1),
+    ),
+    // No cycle, though three ways lead to one module.
+    (
+        "m",
+        "module d(); endmodule module a(); d u(); b v(); endmodule module b(); d u(); c v(); endmodule \
+        module c(); d u(); endmodule module m(); c u(); b v(); a w(); d x(); endmodule",
         None,
     ),
 ];

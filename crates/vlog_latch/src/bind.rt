@@ -11,6 +11,7 @@ ghost use Rattle.vlog_block.specs.Sources.{names_of};
 ghost use Rattle.vlog_block.specs.Faultless.{IsFaultlessBody};
 ghost use Rattle.vlog_block.specs.Updates.{timing_of, body_updates};
 ghost use Rattle.vlog_block.specs.Written.{body_open, always_writes, always_adds, always_reads};
+ghost use Rattle.vlog_block.specs.Naming.{code_names, always_names};
 ghost use Rattle.vlog_latch.specs.Latch.{Answers};
 ghost use Rattle.vlog_latch.specs.Blocks.{block_latches};
 
@@ -41,6 +42,7 @@ pub fn bind_block(alloc: Global, b: &Always, scope: &Scope) -> Result<Code, Bloc
     ensures surely { IfOk result (λ c. (m k : ℕ) → block_adds c.acts m k ≡ always_adds (names_of scope.now) (plain_always b.now) m k) }
     ensures writes { IfOk result (λ c. (m k : ℕ) → named c.writes m k ≡ always_writes (names_of scope.now) (plain_always b.now) m k) }
     ensures reads { IfOk result (λ c. (m k : ℕ) → named c.reads m k ≡ always_reads (names_of scope.now) (plain_always b.now) m k) }
+    ensures names { IfOk result (λ c. code_names c.acts ≡ always_names (names_of scope.now) (plain_always b.now)) }
     ensures bits { IfOk result (λ c. HasBits (timing_of (plain_always b.now).event) c) }
     ensures sized { IfOk result (λ c. IsSizedBlock c.acts) }
 {

@@ -14,5 +14,6 @@ returns c = one_answer_lem (record {
     depth = c.one_depth.ensures;
     word = c.one_stuck_line.ensures;
     item = c.one_item_line.ensures;
+    loops = c.loops_alike.ensures;
   };
 })

@@ -1,17 +1,17 @@
-use Rattle.std.proofs.Common.{rules, ◌≡◌, ℕ, ◌+◌, List, [], drop, map, ap, sym, subst, ◌∙◌}
+use Rattle.std.proofs.Common.{rules, ◌≡◌, ℕ, List, drop, map, ap, sym, subst, ◌∙◌}
 use Rattle.std.proofs.lemmas.Result.{on_ok_weaker}
-use Rattle.vlog_tree.specs.Tree.{StmtOf, BeginStmt, IfStmt, CaseStmt, NoElse, Else, ArmOf, LabelsArm, DefaultArm, MoreArms, MoreStmts}
-use Rattle.vlog_tree.specs.Plain.{plain_expr, plain_stmt, plain_stmts, plain_body, plain_arm, plain_arms}
+use Rattle.vlog_tree.specs.Tree.{StmtOf, AssignStmt, BeginStmt, IfStmt, CaseStmt, NoElse, Else, LabelsArm, DefaultArm}
+use Rattle.vlog_tree.specs.Plain.{plain_expr, plain_target, plain_stmt, plain_stmts, plain_body, plain_arm, plain_arms}
 use Rattle.vlog_tree.specs.declared.stmt.Stmt.{Stmt}
 use Rattle.vlog_tree.specs.declared.stmt.Arm.{Arm}
 use Rattle.net_design.proofs.UpdateLaws.{from_here}
 use Rattle.vlog_block.specs.Sources.{names_of}
 use Rattle.vlog_block.specs.Faultless.{IsFaultlessStmt, AreFaultlessStmts, AreFaultlessArms}
-use Rattle.vlog_block.specs.Extends.{Extends, Lengthens, doing_stmt, doing_body, doing_else, doing_default, choosing_arms, has_label}
-use Rattle.vlog_block.specs.Extends.{IsNarrowArm, AreNarrowArms}
+use Rattle.vlog_block.specs.Extends.{Extends, doing_body, doing_default}
+use Rattle.vlog_block.specs.Extends.{AreNarrowArms}
 use Rattle.vlog_block.proofs.Statements.{stmts_step, stmts_end, arms_step, arms_end, default_here, default_later, default_end, sized_none}
-use Rattle.vlog_block.proofs.Statements.{sized_made, stmt_made, no_body, if_made, no_else, else_made}
-use Rattle.vlog_block.proofs.Statements.{guard_made, no_guard, case_seen, own_guards, own_default}
+use Rattle.vlog_block.proofs.Statements.{sized_made, stmt_made, if_made, no_else, else_made}
+use Rattle.vlog_block.proofs.Statements.{guard_made, case_seen, own_guards, own_default}
 use Rattle.vlog_block.proofs.block.+statements.Goals as goal
 
 -- ---- a list of statements
@@ -91,6 +91,16 @@ push_stmt-returns-in_ok-push_body-in-Some t c =
     c.in_ok-push_body-in-If.ensures c.new-else_acts.ensures
     (else_made r other c.new-else_acts.result c.push_body-in-Some.new.out c.in_ok-push_body-in-Some.ensures) x)
     c.push_if-in-Some.ensures
+
+pub push_stmt-returns-in-Assign : goal.push_stmt-returns-in-Assign
+push_stmt-returns-in-Assign t c =
+    let r = names_of c.args.scope.now in
+    let target = plain_target c.in-Assign.target in
+    let value = plain_expr c.in-Assign.value in
+    let e : plain_stmt c.args.stmt.now ≡ AssignStmt target c.in-Assign.op value = search rules in
+    on_ok_weaker c.push_set.result
+    (λ x. stmt_made r (plain_stmt c.args.stmt.now) (AssignStmt target c.in-Assign.op value) c.args.out.now c.push_set.new.out e
+    (x c.in-Assign.op)) c.push_set.ensures
 
 -- ---- a `case`
 

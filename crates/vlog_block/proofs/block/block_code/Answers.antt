@@ -1,6 +1,5 @@
-use Rattle.std.proofs.Common.{◌≡◌, [], List, ap, sym, subst, ◌∙◌}
+use Rattle.std.proofs.Common.{List, ap, sym, subst, ◌∙◌}
 use Rattle.vlog_tree.specs.Plain.{plain_always}
-use Rattle.vlog_tree.specs.Tree.{AlwaysOf}
 use Rattle.net_design.specs.declared.act.Act.{Act}
 use Rattle.net_design.specs.declared.act.Timing.{Timing}
 use Rattle.net_design.specs.Updates.{block_updates}
@@ -8,6 +7,7 @@ use Rattle.net_design.specs.Bits.{no_bits, block_writes, block_adds, block_open_
 use Rattle.net_design.specs.Sized.{IsSizedBlock}
 use Rattle.vlog_block.specs.Sources.{names_of}
 use Rattle.vlog_block.specs.Written.{body_open}
+use Rattle.vlog_block.specs.Naming.{code_names}
 use Rattle.vlog_block.specs.Extends.{Extends, doing_block, doing_body}
 use Rattle.vlog_block.proofs.Extending.{Same, from_none}
 use Rattle.vlog_block.proofs.Statements.{sized_made}
@@ -65,6 +65,15 @@ returns-clause-reads c =
     λ m k. c.in_ok-code.ensures.bits.reads m k
     ∙ ap (λ (xs : List Act). block_open_reads time xs no_bits m k) c.in_ok-code.ensures.acts ∙ same.reads time no_bits m k
     ∙ ap (λ (t : Timing). body_open r t b no_bits m k) c.timing_of.ensures
+
+pub returns-clause-names : goal.returns-clause-names
+returns-clause-names c =
+    let r = names_of c.args.scope.now in
+    let b = (plain_always c.args.block.now).body in
+    let acts = c.push_body.new.out in
+    let same : Same (doing_block acts) (doing_body r b) = from_none (doing_body r b) acts
+    (subst (λ (xs : List Act). Extends (doing_body r b) xs acts) c.new-acts.ensures c.in_ok-push_body.ensures) in
+    ap (λ (xs : List Act). code_names xs) c.in_ok-code.ensures.acts ∙ same.names
 
 pub returns-clause-bits : goal.returns-clause-bits
 returns-clause-bits c =

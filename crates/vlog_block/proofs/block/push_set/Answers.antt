@@ -1,4 +1,4 @@
-use Rattle.std.proofs.Common.{rules, ◌≡◌, ◌≤◌, max, ◌++◌, ◌∷◌, [], List, ap, sym, subst, ◌∙◌}
+use Rattle.std.proofs.Common.{rules, ◌≡◌, ◌≤◌, ◌++◌, ◌∷◌, [], List, ap, sym, subst, ◌∙◌}
 use Rattle.std.proofs.lemmas.Result.{on_ok_weaker}
 use Rattle.vlog_tree.specs.Tree.{AssignStmt}
 use Rattle.vlog_tree.specs.Plain.{plain_expr, plain_target}
@@ -10,7 +10,6 @@ use Rattle.vlog_block.specs.Sources.{names_of}
 use Rattle.vlog_block.specs.Value.{value}
 use Rattle.vlog_block.specs.Updates.{assigned_width}
 use Rattle.vlog_block.specs.Extends.{Extends, doing_stmt}
-use Rattle.vlog_block.specs.Targets.{target_width}
 use Rattle.vlog_block.proofs.Fitting.{faultless_target_width}
 use Rattle.vlog_block.proofs.Extending.{extends_one, extends_same, doing_act}
 use Rattle.vlog_block.proofs.Statements.{set_does}
@@ -34,5 +33,5 @@ returns c =
     (set_does r t op e places x (λ n v. c.in_ok-places.ensures.updates n v)
     (λ v. c.in_ok-value.ensures.value v ∙ ap (λ w. value r v e w) wide)
     (λ m k. c.in_ok-places.ensures.writes m k) (λ m k. c.in_ok-places.ensures.adds m k) (λ m k. c.in_ok-places.ensures.reads m k)
-    (λ m k. c.in_ok-value.ensures.reads m k))
+    (λ m k. c.in_ok-value.ensures.reads m k) c.in_ok-places.ensures.names)
     (extends_one old a (few, c.in_ok-places.ensures.sized, c.in_ok-value.ensures.sized)))) c.push.ensures.ok

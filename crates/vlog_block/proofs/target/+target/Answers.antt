@@ -1,5 +1,5 @@
-use Rattle.std.proofs.Common.{◌≡◌, ◌+◌, ◌/◌, ◌^◌, ◌||◌, ◌++◌, drop, ap, sym, subst, ◌∙◌}
-use Rattle.vlog_tree.specs.Tree.{TargetsOf, MoreTargets}
+use Rattle.std.proofs.Common.{◌≡◌, ◌+◌, ◌/◌, ◌^◌, ◌||◌, ◌++◌, drop, append_assoc, ap, sym, subst, ◌∙◌}
+use Rattle.vlog_tree.specs.Tree.{MoreTargets}
 use Rattle.vlog_tree.specs.Plain.{plain_target, plain_targets}
 use Rattle.net_design.specs.Updates as places
 use Rattle.net_design.specs.Bits as bits
@@ -9,6 +9,9 @@ use Rattle.vlog_block.specs.Sources.{names_of}
 use Rattle.vlog_block.specs.Fit.{AreFitTargets}
 use Rattle.vlog_block.specs.Targets.{targets_width, targets_updates}
 use Rattle.vlog_block.specs.Written.{target_reads, target_writes, target_adds, targets_read, targets_write, targets_add}
+use Rattle.net_drive.specs.Drive.{bit_count}
+use Rattle.vlog_block.specs.Naming.{place_names, target_names, targets_names, target_count, targets_count}
+use Rattle.vlog_block.proofs.Names.{sum_assoc}
 use Rattle.vlog_block.proofs.Places.{part_added, width_added}
 use Rattle.vlog_block.proofs.target.+target.Goals as goal
 
@@ -42,6 +45,13 @@ push_targets-loop-part-preserved t c =
           ap (λ b. b || targets_add r rest m k) (added.adds m k)
           ∙ or_assoc (bits.target_adds l.out m k) (target_adds r x m k) (targets_add r rest m k)
           ∙ ap (λ ts. bits.target_adds l.out m k || targets_add r ts m k) (sym e) ∙ l.invariant.adds m k;
+      names = ap (λ ns. ns ++ targets_names r rest) added.names
+          ∙ append_assoc (place_names l.out) (target_names r x) (targets_names r rest)
+          ∙ ap (λ ts. place_names l.out ++ targets_names r ts) (sym e) ∙ l.invariant.names;
+      count = λ m k.
+          ap (λ n. n + targets_count r rest m k) (added.count m k)
+          ∙ sum_assoc (bit_count l.out m k) (target_count r x m k) (targets_count r rest m k)
+          ∙ ap (λ ts. bit_count l.out m k + targets_count r ts m k) (sym e) ∙ l.invariant.count m k;
       sized = λ h. added.sized (l.invariant.sized h);
       fit = (subst (λ ts. AreFitTargets r ts) e l.invariant.fit).1;
     }

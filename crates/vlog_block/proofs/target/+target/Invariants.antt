@@ -9,6 +9,8 @@ use Rattle.vlog_block.specs.Sources.{names_of}
 use Rattle.vlog_block.specs.Fit.{AreFitTargets}
 use Rattle.vlog_block.specs.Targets.{targets_width, targets_updates}
 use Rattle.vlog_block.specs.Written.{targets_read, targets_write, targets_add}
+use Rattle.net_drive.specs.Drive.{bit_count}
+use Rattle.vlog_block.specs.Naming.{place_names, targets_names, targets_count}
 use Rattle.vlog_block.proofs.target.+target.Given as goal
 
 -- the places so far and the rest of the parts make all of them
@@ -27,6 +29,8 @@ invariant-push_targets-loop-part l =
           ≡ (bits.target_writes l.initial.out m k || targets_write r all m k);
       adds : (m k : ℕ) → (bits.target_adds l.out m k || targets_add r rest m k)
           ≡ (bits.target_adds l.initial.out m k || targets_add r all m k);
+      names : place_names l.out ++ targets_names r rest ≡ place_names l.initial.out ++ targets_names r all;
+      count : (m k : ℕ) → bit_count l.out m k + targets_count r rest m k ≡ bit_count l.initial.out m k + targets_count r all m k;
       sized : AllByRecursion (λ p. IsSizedPlace p) l.initial.out → AllByRecursion (λ p. IsSizedPlace p) l.out;
       fit : AreFitTargets r rest;
     }

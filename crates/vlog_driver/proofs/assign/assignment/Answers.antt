@@ -15,6 +15,7 @@ returns c =
       writes = c.in_ok-places.ensures.writes;
       adds = c.in_ok-places.ensures.adds;
       places = c.in_ok-places.ensures.reads;
+      count = c.in_ok-places.ensures.count;
       value = c.in_ok-value.ensures.value;
       reads = c.in_ok-value.ensures.reads;
       width = c.max-w.ensures

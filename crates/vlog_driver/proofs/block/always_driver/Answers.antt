@@ -22,4 +22,5 @@ returns-clause-driver c =
       adds = c.in_ok-code.ensures.adds;
       reads = c.in_ok-code.ensures.reads;
       bits = subst (λ t. HasBits t code) c.requires.implicit c.in_ok-code.ensures.bits;
+      names = c.in_ok-code.ensures.names;
     }

@@ -2,6 +2,9 @@ use Rattle.vlog_tree.specs.Plain.{plain_always}
 use Rattle.vlog_block.specs.Sources.{names_of}
 use Rattle.vlog_block.specs.Updates.{timing_of, body_updates}
 use Rattle.vlog_block.specs.Written.{always_writes, always_adds, always_reads}
+use Rattle.vlog_block.specs.Naming.{always_names}
+use Rattle.vlog_driver.specs.Spots.{spot_of}
+use Rattle.vlog_driver.proofs.Namings.{names_placed}
 use Rattle.vlog_driver.proofs.Placing.{code_updates, code_holds, code_writes, code_adds, code_reads, code_bits}
 use Rattle.vlog_driver.proofs.placed.placed_block.Goals as goal
 
@@ -45,3 +48,10 @@ returns-clause-bits c =
     let site = c.args.site.now in
     code_bits site.first_net site.first_word (timing_of (plain_always c.args.block.now).event) c.in_ok-code.code c.move_code.new.code
     c.move_code.ensures c.in_ok-code.ensures.bits
+
+pub returns-clause-names : goal.returns-clause-names
+returns-clause-names c =
+    let site = c.args.site.now in
+    names_placed (spot_of site) c.in_ok-code.code c.move_code.new.code
+    (always_names (names_of site.scope.now) (plain_always c.args.block.now))
+    c.move_code.ensures c.in_ok-code.ensures.names

@@ -2,6 +2,9 @@ use Rattle.vlog_tree.specs.Plain.{plain_target}
 use Rattle.vlog_block.specs.Sources.{names_of}
 use Rattle.vlog_block.specs.Targets.{target_updates}
 use Rattle.vlog_block.specs.Written.{target_writes, target_adds, target_reads}
+use Rattle.vlog_block.specs.Naming.{target_count}
+use Rattle.vlog_driver.specs.Spots.{spot_of}
+use Rattle.vlog_driver.proofs.Namings.{count_placed}
 use Rattle.vlog_driver.proofs.Placing.{set_holds, target_writes_placed, target_adds_placed, target_reads_placed}
 use Rattle.vlog_driver.proofs.placed.placed_target.Goals as goal
 
@@ -32,3 +35,10 @@ returns-clause-reads c =
     target_reads_placed site.first_net site.first_word c.in_ok-places.places c.move_target.new.target
     (λ m k. target_reads (names_of site.scope.now) (plain_target c.args.target.now) m k) c.move_target.ensures
     c.in_ok-places.ensures.reads
+
+pub returns-clause-count : goal.returns-clause-count
+returns-clause-count c =
+    let site = c.args.site.now in
+    count_placed (spot_of site) c.in_ok-places.places c.move_target.new.target
+    (λ m k. target_count (names_of site.scope.now) (plain_target c.args.target.now) m k) c.move_target.ensures
+    c.in_ok-places.ensures.count

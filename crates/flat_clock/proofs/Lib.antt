@@ -1,0 +1,7 @@
+pub mod Tables
+pub mod Children
+pub mod Traces
+pub mod Inputs
+pub mod Named
+pub mod Placed
+pub mod Positions

@@ -1,0 +1,33 @@
+use Rattle.std.proofs.Common.{◌≡◌, sym, ap, ◌∙◌}
+use Rattle.std.proofs.lemmas.Result.{IfOk-weaker}
+use Rattle.vlog_hierarchy.specs.Plain.{plain_path}
+use Rattle.vlog_elab.specs.Plain.{plain_instances}
+use Rattle.flat_drive.specs.Reasons.{dotted_all, instance_nets, net_texts, text_at}
+use Rattle.flat_drive.proofs.Places.{text_here, text_later, text_none, long, all_net_texts}
+use Rattle.flat_drive.proofs.full_names.net_name.Goals as goal
+
+pub returns-then-left-count : goal.returns-then-left-count
+returns-then-left-count c =
+    let l = c.loop-instance in
+    let x = c.instance-item.result in
+    IfOk-weaker c.name_in.result (λ text. text ≡ text_at (dotted_all (plain_path c.as_slice.result.now) x.scope.nets) l.left)
+    (λ text. text ≡ text_at (net_texts (plain_instances c.args.list.now)) c.args.net)
+    (λ text h. h ∙ ap (λ path. text_at (dotted_all (plain_path path) x.scope.nets) l.left) c.as_slice.ensures
+    ∙ text_here instance_nets c.args.list.now l.instance-index l.left c.args.net c.len-count.result x
+    c.loop-instance-test.true c.instance-item.is
+    (long (plain_path x.path) x.scope.nets ∙ sym c.len-count.ensures) c.if-left-count.true l.invariant
+    ∙ all_net_texts (plain_instances c.args.list.now) c.args.net)
+    c.name_in.ensures
+
+pub loop-instance-preserved : goal.loop-instance-preserved
+loop-instance-preserved c =
+    let l = c.loop-instance in
+    let x = c.instance-item.result in
+    text_later instance_nets c.args.list.now l.instance-index l.left c.args.net c.len-count.result x
+    c.loop-instance-test.true c.instance-item.is
+    (long (plain_path x.path) x.scope.nets ∙ sym c.len-count.ensures) c.if-left-count.false l.invariant
+
+pub returns : goal.returns
+returns c =
+    c.new.ensures ∙ text_none instance_nets c.args.list.now c.loop-instance.instance-index c.loop-instance.left c.args.net
+    c.loop-instance-test.false c.loop-instance.invariant ∙ all_net_texts (plain_instances c.args.list.now) c.args.net

@@ -1,0 +1,4 @@
+pub mod Latches
+pub mod Seated
+pub mod Adding
+pub mod Laws

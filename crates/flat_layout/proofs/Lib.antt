@@ -1,0 +1,10 @@
+pub mod Lists
+pub mod Split
+pub mod Standing
+pub mod Numbers
+pub mod Places
+pub mod Distinct
+pub mod Counted
+pub mod Entries
+pub mod Chains
+pub mod PortList

@@ -1,0 +1,7 @@
+use Rattle.std.proofs.Common.{take}
+use Rattle.vlog_elab.specs.Plain.{plain_instances}
+use Rattle.flat_layout.specs.Layout.{AreInstances}
+use Rattle.flat_layout.proofs.instance.instances.Given as goal
+
+abbrev pub invariant-loop-number : goal.invariant-loop-number
+invariant-loop-number l = AreInstances l.out (take l.number (plain_instances l.list))

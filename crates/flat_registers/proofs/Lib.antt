@@ -1,0 +1,10 @@
+pub mod Lists
+pub mod Writes
+pub mod Regs
+pub mod Initial
+pub mod Tables
+pub mod Entries
+pub mod Steps
+pub mod MarkLaws
+pub mod PlaceLaws
+pub mod Held

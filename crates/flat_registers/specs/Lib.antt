@@ -1,0 +1,4 @@
+pub mod Laws
+pub mod Tables
+pub mod Marks
+pub mod Places

@@ -1,0 +1,70 @@
+//! Which nets of the flat design are regs.
+
+ghost use Rattle.std.specs.Prelude.{◌≡◌, ◌++◌, ◌∷◌, [], OnOk, IfOk, Some, map, slice_get};
+ghost use Rattle.vlog_size.specs.declared.scope.ScopeNet.{ScopeNet};
+ghost use Rattle.vlog_size.specs.Table.{Named, value_of};
+ghost use Rattle.vlog_meaning.specs.Ports.{is_reg};
+ghost use Rattle.vlog_elab.specs.Plain.{plain_instance, plain_instances};
+ghost use Rattle.flat_parts.specs.Seats.{seats_of};
+ghost use Rattle.flat_registers.specs.Marks as marks;
+
+use crate::names::{declarations_of, is_reg};
+use std::alloc::Global;
+use vidi_bits::{Items, Memory};
+use vlog_elab::ModuleInstance;
+use vlog_names::Declarations;
+use vlog_size::ScopeNets;
+
+/// Adds whether the net at this place is a reg. There is one.
+fn add_mark(
+    names: &Declarations,
+    nets: &ScopeNets,
+    place: usize,
+    out: &mut Items<bool>,
+) -> Result<(), Memory>
+    ensures { OnOk result ((n : Named ScopeNet) → slice_get nets.now place ≡ Some n
+        → out.new ≡ out.old ++ is_reg (value_of names.now n.name) ∷ []) }
+{
+    match nets.name_at(place) {
+        Some(name) => out.push(is_reg(names, name)),
+        None => Err(Memory),
+    }
+}
+
+/// Adds for each of these nets whether it is a reg.
+fn add_marks(names: &Declarations, nets: &ScopeNets, out: &mut Items<bool>) -> Result<(), Memory>
+    ensures { OnOk result (out.new ≡ out.old ++ map (λ (n : Named ScopeNet). is_reg (value_of names.now n.name)) nets.now) }
+{
+    for place in 0..nets.len() {
+        add_mark(names, nets, place, out)?;
+    }
+    Ok(())
+}
+
+/// Adds the same for the nets of an instance.
+fn add_instance(
+    alloc: Global,
+    instance: &ModuleInstance<'_>,
+    out: &mut Items<bool>,
+) -> Result<(), Memory>
+    ensures { OnOk result (out.new ≡ out.old ++ marks.instance_marks (plain_instance instance.now)) }
+{
+    let names = declarations_of(alloc, instance.tree)?;
+    add_marks(&names, &instance.scope.nets, out)
+}
+
+/// For each net of the instances, in the order of the flat design's nets, whether it is a reg, also an `output reg` (IEEE 1364-2005,
+/// 4.2.2).
+///
+/// # Errors
+///
+/// `Memory`.
+pub fn reg_marks(alloc: Global, list: &[ModuleInstance<'_>]) -> Result<Items<bool>, Memory>
+    ensures { IfOk result (λ bs. bs ≡ marks.reg_marks (seats_of (plain_instances list.now))) }
+{
+    let mut out = Items::new(alloc);
+    for instance in list {
+        add_instance(alloc, instance, &mut out)?;
+    }
+    Ok(out)
+}

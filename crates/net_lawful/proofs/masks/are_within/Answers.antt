@@ -1,0 +1,8 @@
+use Rattle.std.proofs.Common.{true}
+use Rattle.net_lawful.proofs.MaskTests.{all_named}
+use Rattle.net_lawful.proofs.masks.are_within.Goals as goal
+
+pub returns : goal.returns
+returns c =
+    let e = all_named c.args.set.now true c.args.masks.now in
+    ((λ h. e.0 (c.all_within.ensures.0 h)), (λ h. c.all_within.ensures.1 (e.1 h)))

@@ -1,0 +1,9 @@
+use Rattle.std.proofs.Common.{sym, ◌∙◌}
+use Rattle.net_lawful.proofs.MaskTests.{net_is}
+use Rattle.net_lawful.proofs.masks.mask_apart.Goals as goal
+
+pub returns : goal.returns
+returns c = (
+  (λ h k t. sym (net_is c.args.set.now c.args.mask.net k c.mask.result c.mask.ensures) ∙ c.is_apart.ensures.0 h k t),
+  (λ h. c.is_apart.ensures.1 (λ k t. net_is c.args.set.now c.args.mask.net k c.mask.result c.mask.ensures ∙ h k t)),
+)

@@ -1,0 +1,41 @@
+-- Who writes each bit of each net.
+use Rattle.std.specs.Prelude.{◌≡◌, ℕ, ◌<◌, ◌⊎◌, nat_lt, Bool, true, false, List}
+use Rattle.std.specs.List.{count_by}
+use Rattle.net_design.specs.declared.design.Driver.{Driver}
+use Rattle.net_design.specs.declared.design.Design.{Design}
+use Rattle.vlog_operators.specs.Number.{has}
+use Rattle.net_design.specs.Bits.{named}
+use Rattle.net_design.specs.Settled.{held}
+use Rattle.net_design.specs.Lawful.{IsBit, is_input}
+use Rattle.net_code.specs.BitMap.{in_map}
+use Rattle.net_lawful.specs.declared.driven.Tally.{Tally}
+
+-- how many drivers write bit k of net m
+abbrev pub writers : List Driver → ℕ → ℕ → ℕ
+writers drivers m k = count_by (λ (x : Driver). named x.code.writes m k) drivers
+
+-- the bits that are written at least once, and those that are written at least twice
+pub record IsTally (t : Tally) (count : ℕ → ℕ → ℕ) : Type 0 where
+  pub once : (m k : ℕ) → in_map t.once m k ≡ nat_lt 0 (count m k)
+  pub more : (m k : ℕ) → in_map t.more m k ≡ nat_lt 1 (count m k)
+
+-- the bits of `held` aren't written, and those of `rest` once
+abbrev pub RestDriven : ℕ → ℕ → ℕ → ℕ → Type 0
+RestDriven rest held once more =
+    ((k : ℕ) → has held k ≡ true → has once k ≡ false)
+    × ((k : ℕ) → has rest k ≡ true → has once k ≡ true) × ((k : ℕ) → has rest k ≡ true → has more k ≡ false)
+
+-- of a net's bits, the first of which there are so many: those that neither inputs nor the state give are written once, the others not
+pub record AreDriven (input : Bool) (width held once more : ℕ) : Type 0 where
+  pub driven : (k : ℕ) → k < width → input ≡ false → has held k ≡ false → (has once k ≡ true) × (has more k ≡ false)
+  pub others : (k : ℕ) → (input ≡ true) ⊎ (has held k ≡ true) → has once k ≡ false
+
+-- the same of net m of a design
+pub record IsNetDriven (d : Design) (m : ℕ) : Type 0 where
+  pub driven : (k : ℕ) → IsBit d m k → is_input d m ≡ false → held d m k ≡ false → writers d.drivers m k ≡ 1
+  pub others : (k : ℕ) → (is_input d m ≡ true) ⊎ (held d m k ≡ true) → writers d.drivers m k ≡ 0
+
+-- and of all nets
+pub record IsDriven (d : Design) : Type 0 where
+  pub driven : (m k : ℕ) → IsBit d m k → is_input d m ≡ false → held d m k ≡ false → writers d.drivers m k ≡ 1
+  pub others : (m k : ℕ) → (is_input d m ≡ true) ⊎ (held d m k ≡ true) → writers d.drivers m k ≡ 0

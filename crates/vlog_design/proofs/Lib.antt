@@ -1,0 +1,7 @@
+pub mod Loops
+pub mod SameMarks
+pub mod Top
+pub mod Build
+pub mod Found
+pub mod Joined
+pub mod Counted

@@ -1,0 +1,31 @@
+use Rattle.std.proofs.Common.{List, refl, subst}
+use Rattle.std.specs.List.{AllZip}
+use Rattle.vlog_tree.specs.Plain.{plain}
+use Rattle.vlog_elab.specs.Plain.{plain_instances}
+use Rattle.net_design.specs.declared.design.Driver.{Driver}
+use Rattle.flat_parts.specs.Seats.{seats_of}
+use Rattle.flat_parts.specs.State.{all_regs, IsRegisterOf}
+use Rattle.vlog_design.proofs.Top.{has-top}
+use Rattle.vlog_design.proofs.Build.{build}
+use Rattle.vlog_design.proofs.design.built.Goals as goal
+
+pub returns-clause-top : goal.returns-clause-top
+returns-clause-top c =
+    has-top (plain c.args.file.now) c.args.top.now (plain_instances c.args.list.now) c.in_ok-ports.ports c.requires.listed
+    c.in_ok-ports.ensures
+
+pub returns-clause-built : goal.returns-clause-built
+returns-clause-built c =
+    let is = plain_instances c.args.list.now in
+    build c.instances_are_paths.ensures.first (plain c.args.file.now) c.args.top.now is c.args.parts (record {
+      instances = c.in_ok-instances.instances;
+      nets = c.args.parts.nets;
+      registers = c.in_ok-registers.registers;
+      memories = c.args.parts.memories;
+      drivers = c.args.parts.drivers;
+      blocks = c.args.parts.blocks;
+      ports = c.in_ok-ports.ports;
+      clock = c.in_ok-clock.clock;
+    }) c.requires.clear c.requires.listed c.requires.parts c.in_ok-instances.ensures c.in_ok-ports.ensures
+    (subst (λ (ds : List Driver). AllZip (IsRegisterOf ds) (all_regs (seats_of is)) c.in_ok-registers.registers) c.as_slice.ensures
+    c.in_ok-registers.ensures) c.in_ok-clock.ensures refl refl refl refl

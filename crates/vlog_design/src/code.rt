@@ -1,0 +1,85 @@
+//! Nets, memories, drivers and clocked blocks of the flat design, with E9 and E8.
+
+ghost use Rattle.std.specs.Prelude.{◌≡◌, AllPairs, IfOk};
+ghost use Rattle.std.specs.List.{AllZip, flat_map};
+ghost use Rattle.vlog_elab.specs.Plain.{plain_instances};
+ghost use Rattle.vlog_elab.specs.Answered.{Judged};
+ghost use Rattle.vlog_driver.specs.Duties.{Does};
+ghost use Rattle.flat_parts.specs.Seats.{seats_of};
+ghost use Rattle.flat_parts.specs.Nets.{flat_nets, flat_memories};
+ghost use Rattle.flat_parts.specs.Drivers.{all_duties, all_blocks, IsBlockOf};
+ghost use Rattle.flat_drivers.specs.Seated.{HaveOwnPaths, AreDeclaredIn, AreFaultlessInstances};
+ghost use Rattle.flat_drive.specs.Findings.{drive_findings};
+ghost use Rattle.vlog_design.specs.Parts.{AreParts};
+ghost use Rattle.vlog_design.specs.Reasons.{code_findings_of};
+
+use flat_drive::check_drive;
+use flat_drivers::{FlatCode, drivers_of};
+use flat_layout::{memories, nets};
+use flat_registers::reg_marks;
+use net_design::{Code, DesignMemory, Driver, Net};
+use std::alloc::Global;
+use vidi_bits::Items;
+use vlog_elab::{ElabError, ModuleInstance};
+use vlog_names::ModuleTable;
+
+/// Nets and memories of the flat design, and what drives them.
+#[derive(Drop)]
+pub struct Checked {
+    pub nets: Items<Net>,
+    pub memories: Items<DesignMemory>,
+    pub drivers: Items<Driver>,
+    pub blocks: Items<Code>,
+}
+
+/// E8 of drivers and clocked blocks that do what the items of these instances say.
+#[tactic(auto, using(crate::proofs::SameMarks::same_marks))]
+fn driven(
+    alloc: Global,
+    list: &[ModuleInstance<'_>],
+    nets: &[Net],
+    memories: &[DesignMemory],
+    code: &FlatCode,
+) -> Result<(), ElabError>
+    requires nets { nets.now ≡ flat_nets (seats_of (plain_instances list.now)) }
+    requires memories { memories.now ≡ flat_memories (seats_of (plain_instances list.now)) }
+    requires drivers { AllZip Does (all_duties (seats_of (plain_instances list.now))) code.now.drivers }
+    requires blocks { AllZip IsBlockOf (all_blocks (seats_of (plain_instances list.now))) code.now.blocks }
+    ensures { Judged result (drive_findings (seats_of (plain_instances list.now))) }
+{
+    let marks = reg_marks(alloc, list)?;
+    check_drive(
+        alloc,
+        list,
+        marks.as_slice(),
+        nets,
+        memories,
+        code.drivers.as_slice(),
+        code.blocks.as_slice(),
+    )
+}
+
+/// What drives the nets of these instances, where E9 and then E8 find nothing.
+pub fn checked_code(
+    alloc: Global,
+    modules: &ModuleTable,
+    list: &[ModuleInstance<'_>],
+) -> Result<Checked, ElabError>
+    requires paths { HaveOwnPaths (plain_instances list.now) }
+    requires names { AreDeclaredIn modules.now (plain_instances list.now) }
+    requires faultless { AreFaultlessInstances (plain_instances list.now) }
+    ensures told { Judged result (code_findings_of (plain_instances list.now)) }
+    ensures parts { IfOk result (λ p. AreParts (plain_instances list.now) p) }
+{
+    let code = drivers_of(alloc, modules, list)?;
+    let nets = nets(alloc, list)?;
+    let memories = memories(alloc, list)?;
+    driven(alloc, list, nets.as_slice(), memories.as_slice(), &code)?;
+    let FlatCode { drivers, blocks } = code;
+    Ok(Checked {
+        nets,
+        memories,
+        drivers,
+        blocks,
+    })
+}

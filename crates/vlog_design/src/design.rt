@@ -1,0 +1,104 @@
+//! The flat design of instances.
+
+ghost use Rattle.std.specs.Prelude.{◌≡◌, ◌≢◌, ℕ, List, IfOk, All, AllPairs};
+ghost use Rattle.vlog_tree.specs.Tree.{ModuleOf};
+ghost use Rattle.vlog_tree.specs.Plain.{plain};
+ghost use Rattle.vlog_elab.specs.Instances.{instances};
+ghost use Rattle.vlog_elab.specs.Plain.{plain_instances};
+ghost use Rattle.vlog_elab.specs.Reasons as elab;
+ghost use Rattle.net_design.specs.Lawful.{IsLawful};
+ghost use Rattle.flat_parts.specs.Built.{IsBuilt};
+ghost use Rattle.flat_parts.specs.Laws.{IsTop};
+ghost use Rattle.vlog_design.specs.Design.{IsDesignOf};
+ghost use Rattle.vlog_design.specs.Parts.{AreParts, FirstPorts, HasTop};
+
+use crate::code::Checked;
+use flat_clock::clock_place;
+use flat_layout::{built_numbers, instances, names_differ, nets_have_seats, ports, seats_stand};
+use flat_next::state_alike;
+use flat_paths::instances_are_paths;
+use flat_registers::{registers, registers_are_state};
+use flat_settled::settled_alike;
+use net_design::{Design, Port};
+use net_lawful::is_lawful;
+use std::alloc::Global;
+use vidi_bits::{Items, Memory};
+use vlog_elab::ModuleInstance;
+use vlog_tree::File;
+
+/// The ports of the top, which is the first instance.
+fn top_ports(alloc: Global, list: &[ModuleInstance<'_>]) -> Result<Items<Port>, Memory>
+    ensures { IfOk result (λ ps. FirstPorts (plain_instances list.now) ps) }
+{
+    match list.first() {
+        Some(top) => ports(alloc, top.tree, &top.scope),
+        None => Err(Memory),
+    }
+}
+
+/// The flat design with these parts.
+fn built(
+    alloc: Global,
+    file: &File,
+    top: &[u8],
+    list: &[ModuleInstance<'_>],
+    parts: Checked,
+) -> Result<Design, Memory>
+    requires clear { elab.Clear (plain file.now) top.now }
+    requires listed { plain_instances list.now ≡ instances (plain file.now) top.now }
+    requires parts { AreParts (plain_instances list.now) parts }
+    ensures top { IfOk result (λ _. HasTop (plain file.now) top.now) }
+    ensures built { IfOk result (λ d. (m : ModuleOf ℕ) → IsTop (plain file.now) top.now m
+        → IsBuilt (plain file.now).modules m (instances (plain file.now) top.now) d) }
+{
+    instances_are_paths();
+    let Checked {
+        nets,
+        memories,
+        drivers,
+        blocks,
+    } = parts;
+    let instances = instances(alloc, list)?;
+    let ports = top_ports(alloc, list)?;
+    let registers = registers(alloc, list, drivers.as_slice())?;
+    let clock = clock_place(alloc, file, top, list)?;
+    Ok(Design {
+        instances,
+        nets,
+        registers,
+        memories,
+        drivers,
+        blocks,
+        ports,
+        clock,
+    })
+}
+
+/// The flat design with these parts, which means the file; it is tried whether it is lawful, and want of memory is answered where it
+/// isn't.
+pub fn design_of(
+    alloc: Global,
+    file: &File,
+    top: &[u8],
+    list: &[ModuleInstance<'_>],
+    parts: Checked,
+) -> Result<Design, Memory>
+    requires clear { elab.Clear (plain file.now) top.now }
+    requires listed { plain_instances list.now ≡ instances (plain file.now) top.now }
+    requires parts { AreParts (plain_instances list.now) parts }
+    ensures { IfOk result (λ d. IsDesignOf (plain file.now) top.now d) }
+{
+    let design = built(alloc, file, top, list, parts)?;
+    built_numbers();
+    names_differ();
+    nets_have_seats();
+    seats_stand();
+    registers_are_state();
+    instances_are_paths();
+    settled_alike();
+    state_alike();
+    if !is_lawful(alloc, &design)? {
+        return Err(Memory);
+    }
+    Ok(design)
+}

@@ -1,0 +1,194 @@
+#!/usr/bin/env python3
+"""Prints what `vidi run` has to print, with Icarus Verilog in the place of Vidi: for the files run.out of examples/.
+
+    icarus_rows.py DESIGN MAP SCRIPT
+
+Icarus (iverilog and vvp) runs the design: a bench reads the pins of each cycle, and prints the outputs before the clock rises.
+This file plays the script and makes the rows, with lists and counts of its own. It trusts its files: it refuses nothing.
+
+Vidi has no x: registers and memories start at 0. So the copy that Icarus runs has SystemVerilog's `bit` for `reg`, which starts at 0,
+a loop that sets each memory to 0, and `always_comb` for `always @*`, which also runs once at the start.
+"""
+import os
+import re
+import subprocess
+import sys
+import tempfile
+
+
+def lines(path):
+    """The words of each line."""
+    return [words for words in (line.split("#")[0].split() for line in open(path)) if words]
+
+
+def number(word):
+    return int(word, 16) if word.startswith("0x") else int(word)
+
+
+class Map:
+    """The lines of a map: the channels as (name, inward, valid, ready, content ports)."""
+
+    def __init__(self, path):
+        self.channels, self.ties, self.reset = [], {}, None
+        for form, *words in lines(path):
+            if form in ("in", "out"):
+                self.channels.append((words[0], form == "in", words[1], words[2], words[3:]))
+            elif form == "tie":
+                self.ties[words[0]] = number(words[1])
+            elif form == "reset":
+                self.reset = (words[0], number(words[1]), number(words[2]))
+            elif form == "top":
+                self.top = words[0]
+            elif form == "clock":
+                self.clock = words[0]
+        self.inputs = list(self.ties) + ([self.reset[0]] if self.reset else [])
+        self.outputs = []
+        for _, inward, valid, ready, ports in self.channels:
+            self.inputs += [valid, *ports] if inward else [ready]
+            self.outputs += [ready] if inward else [valid, *ports]
+
+
+def bench(plan):
+    """A module that reads the inputs of a cycle as hexadecimal numbers, prints the outputs, and lets the clock rise."""
+    reads = " ".join(["%h"] * len(plan.inputs))
+    pins = ", ".join("pin_" + name for name in plan.inputs)
+    joins = ", ".join([f".{plan.clock}(clock)"] + [f".{name}(pin_{name})" for name in plan.inputs])
+    shows = ", ".join("dut." + name for name in plan.outputs)
+    prints = " ".join(["%0d"] * len(plan.outputs))
+    regs = "\n".join(f"  reg [127:0] pin_{name} = 0;" for name in plan.inputs)
+    return f"""module bench;
+  reg clock = 0;
+{regs}
+  {plan.top} dut({joins});
+  always begin
+    if ($fscanf('h80000000, "{reads}", {pins}) != {len(plan.inputs)}) $finish(0);
+    #1 $display("{prints}", {shows});
+    $fflush;
+    #1 clock = 1;
+    #1 clock = 0;
+  end
+endmodule
+"""
+
+
+def from_zero(text):
+    """The design with all state at 0 in the beginning."""
+    zero = "initial begin : zero_{1} integer at; for (at = 0; at <= {2}; at = at + 1) {1}[at] = 0; end"
+    memory = r"\breg\b(\s*\[[^\]]*\])?\s*(\w+)\s*\[0:([^\]]*)\]\s*;"
+    text = re.sub(memory, lambda m: f"logic{m[1] or ''} {m[2]} [0:{m[3]}]; " + zero.format(*m.groups()), text)
+    text = re.sub(r"\breg\b", "bit", text)
+    return re.sub(r"\balways\s*@\s*(\*|\(\s*\*\s*\))", "always_comb", text)
+
+
+class Design:
+    """The design as Icarus runs it, from its initial state on."""
+
+    def __init__(self, path, plan, folder):
+        source, program = os.path.join(folder, "bench.sv"), os.path.join(folder, "bench.vvp")
+        open(source, "w").write(from_zero(open(path).read()) + "\n`default_nettype wire\n" + bench(plan))
+        built = subprocess.run(["iverilog", "-g2012", "-s", "bench", "-o", program, source], capture_output=True, text=True)
+        if built.returncode:
+            sys.exit(built.stderr)
+        self.run = subprocess.Popen(["vvp", "-n", program], stdin=subprocess.PIPE, stdout=subprocess.PIPE, text=True)
+        self.plan = plan
+
+    def cycle(self, pins):
+        """The outputs under these pins, all others 0; then the clock rises."""
+        self.run.stdin.write(" ".join("%x" % pins.get(name, 0) for name in self.plan.inputs) + "\n")
+        self.run.stdin.flush()
+        return dict(zip(self.plan.outputs, map(int, self.run.stdout.readline().split())))
+
+
+class Player:
+    """The script's steps of one channel, and the step that it is at."""
+
+    def __init__(self, steps):
+        self.steps, self.place, self.cycles, self.taken = steps, 0, 0, 0
+
+    def step(self):
+        return self.steps[self.place] if self.place < len(self.steps) else ["end"]
+
+    def move(self):
+        self.place, self.cycles, self.taken = self.place + 1, 0, 0
+
+    def offer(self, ends):
+        """Whether the source's valid or the sink's ready is offered, and the content, where the channels have ended so often."""
+        while self.step()[0] == "after" and ends[self.step()[1]] >= number(self.step()[2]):
+            self.move()
+        form, *words = self.step()
+        return form in ("send", "take"), [number(word) for word in words] if form == "send" else None
+
+    def seen(self, completed):
+        """The row has been seen."""
+        form, *words = self.step()
+        self.cycles, self.taken = self.cycles + 1, self.taken + completed
+        if form == "send" and completed:
+            self.move()
+        elif form == "take" and words != ["all"] and self.taken == number(words[0]):
+            self.move()
+        elif form == "wait" and self.cycles == number(words[0]):
+            self.move()
+
+
+def first_unstable(channels, row, before):
+    """The first outward channel that showed valid without a completion and now doesn't show the same."""
+    for name, inward, *_ in channels:
+        if not inward and before and before[name][0] and not before[name][1] and row[name][::2] != before[name][::2]:
+            return name
+    return None
+
+
+def row_of(plan, design, players, ends, base):
+    """For each channel: valid, ready, and the content where it is valid."""
+    offers = {name: players[name].offer(ends) for name, *_ in plan.channels}
+    pins = dict(base)
+    for name, inward, valid, ready, ports in plan.channels:
+        offered, content = offers[name]
+        pins[valid if inward else ready] = int(offered)
+        if inward and offered:
+            pins.update(zip(ports, content))
+    shown = design.cycle(pins)
+    row = {}
+    for name, inward, valid, ready, ports in plan.channels:
+        at = {**pins, **shown}
+        row[name] = (at[valid], at[ready], [at.get(port, 0) for port in ports])
+    return row
+
+
+def play(plan, design, script):
+    cycles = number(script[0][1])
+    players = {name: Player([words for own, *words in script[1:] if own == name]) for name, *_ in plan.channels}
+    ends, flying, before = {name: 0 for name in players}, {name: False for name in players}, None
+    base = dict(plan.ties)
+    if plan.reset:
+        port, active, count = plan.reset
+        for _ in range(count):
+            design.cycle({**base, port: active})
+        base[port] = 1 - active
+    for cycle in range(cycles):
+        row = row_of(plan, design, players, ends, base)
+        unstable = first_unstable(plan.channels, row, before)
+        if unstable:
+            return print("vidi: unstable", unstable, "cycle", cycle)
+        for name, (valid, _, content) in row.items():
+            if valid and not flying[name]:
+                print(cycle, "start", name, *content)
+        for name, (valid, ready, _) in row.items():
+            completed = bool(valid and ready)
+            if completed:
+                print(cycle, "end", name)
+            ends[name] += completed
+            flying[name] = bool(valid and not ready)
+            players[name].seen(completed)
+        before = row
+    print("cycles", cycles)
+
+
+def main():
+    path, plan, script = sys.argv[1], Map(sys.argv[2]), lines(sys.argv[3])
+    with tempfile.TemporaryDirectory() as folder:
+        play(plan, Design(path, plan, folder), script)
+
+
+if __name__ == "__main__":
+    main()
