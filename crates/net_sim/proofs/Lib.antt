@@ -5,4 +5,3 @@ pub mod SlotLaws
 pub mod SimLaws
 pub mod NameLaws
 pub mod LoadLaws
-pub mod TableLaws

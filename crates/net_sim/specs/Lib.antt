@@ -1,4 +1,3 @@
 pub mod Places
 pub mod Names
 pub mod Slots
-pub mod Table

@@ -12,6 +12,5 @@ mod run;
 mod sim;
 mod slots;
 mod start;
-mod table;
 
 pub use sim::Sim;

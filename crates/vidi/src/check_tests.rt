@@ -18,7 +18,7 @@ pub const PASS: &str = "module pass(input clk, input a_v, output a_r, input [7:0
 endmodule
 ";
 
-pub const DEAD: &str = "module dead(input clk, input a_v, output a_r, input [7:0] a_d,
+const DEAD: &str = "module dead(input clk, input a_v, output a_r, input [7:0] a_d,
             output b_v, input b_r, output [7:0] b_d);
   assign a_r = 1'b1;
   assign b_v = 1'b0;
