@@ -10,13 +10,13 @@ ghost use Rattle.run_model.specs.Building.{PortsAreNets};
 ghost use Rattle.run_model.specs.MapOf.{IsMapOf};
 ghost use Rattle.run_model.specs.Played.{all_up};
 ghost use Rattle.chan_monitor.specs.Shell.{IsRunning, IsShown};
-ghost use Rattle.bench_run.specs.Offered.{offers_on, AllFit};
+ghost use Rattle.env_offers.specs.Offered.{offers_on, AllFit};
 ghost use Rattle.bench_run.specs.Plain.{IsBreak, IsPlainRun, StandsWithin};
 
 use crate::lent::Lent;
-use crate::offered::{gather, offers_over};
 use chan_map::Map;
 use chan_monitor::{Machines, Shell, row_over};
+use env_offers::{gather, offers_over};
 use env_script::Env;
 use net_design::Block;
 use std::alloc::Global;
