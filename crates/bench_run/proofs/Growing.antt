@@ -14,13 +14,15 @@ use Rattle.trace_model.proofs.CountingLemmas.{slice_get-append_left, slice_get-l
 use Rattle.net_design.specs.declared.design.Design.{Design}
 use Rattle.net_design.specs.declared.values.Values.{Values}
 use Rattle.chan_map.specs.declared.pins.Map.{Map}
+use Rattle.run_model.specs.Offers.{Carries as RunCarries}
 use Rattle.run_model.specs.Played.{all_up, AreStable}
 use Rattle.run_model.specs.Run.{AllUp, IsRunRow}
 use Rattle.run_model.specs.Step.{IsFirst, IsStep}
 use Rattle.run_model.proofs.PlayedLaws.{Grown, played-nil, played-push}
-use Rattle.script_offer.specs.Offer.{Offer, FitsOffer}
+use Rattle.script_offer.specs.Offer.{Offer, Carries, FitsOffer}
 use Rattle.chan_monitor.specs.Shell.{IsShown}
-use Rattle.bench_run.specs.Offered.{offers_after, offers_on, AllFit}
+use Rattle.env_offers.specs.Offered.{offers_after, offers_on, AllFit}
+use Rattle.env_offers.proofs.OfferLaws.{carries-each}
 use Rattle.bench_run.specs.Plain.{IsBreak, IsPlainRun, StandsWithin}
 
 -- ---- the row before
@@ -167,6 +169,13 @@ pub offers-now : {P : Type 0} (channels table : List Channel) (current : ℕ →
 offers-now channels table current offer p q rows same plan e =
     ap (offers_on channels) (ext current (offer p rows) same) ∙ ap (λ x. offers_on channels (offer x rows)) plan
     ∙ ap (λ xs. offers_on xs (offer q rows)) e
+
+-- a row that carries these offers, as an environment says it
+pub carries-now : (xs ys zs : List Channel) (offer : ℕ → Offer) (row : Row) → xs ≡ zs → ys ≡ zs → AllFit zs offer
+    → RunCarries xs (offers_on ys offer) row → Carries zs offer row
+carries-now xs ys zs offer row ex ey fit carries =
+    carries-each zs offer fit row (subst (λ v. RunCarries zs (offers_on v offer) row) ey
+    (subst (λ v. RunCarries v (offers_on ys offer) row) ex carries))
 
 -- whatever the answer is
 pub on-error : {T E P : Type 0} (r : Result T E) → P → OnErr r P

@@ -8,9 +8,9 @@ use Rattle.chan_map.specs.declared.pins.Map.{Map}
 use Rattle.run_model.specs.Played.{AreStable}
 use Rattle.run_model.specs.Run.{AllUp, IsRun, IsTheRun}
 use Rattle.script_offer.specs.Offer.{Offer}
+use Rattle.env_offers.specs.Offered.{offers_after}
 use Rattle.bench_run.specs.declared.plain.PlainRun.{PlainRun}
 use Rattle.bench_run.specs.declared.plain.Spot.{Spot}
-use Rattle.bench_run.specs.Offered.{offers_after}
 
 -- the rows are those of a run of this environment with all gates up
 abbrev pub IsRunAllUp : Design → Map → (List Row → ℕ → Offer) → List Row → Type 0

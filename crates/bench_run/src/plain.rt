@@ -10,18 +10,18 @@ ghost use Rattle.run_model.specs.Building.{PortsAreNets};
 ghost use Rattle.run_model.specs.MapOf.{IsMapOf};
 ghost use Rattle.run_model.specs.Played.{all_up};
 ghost use Rattle.chan_monitor.specs.Shell.{IsRunning, IsShown};
-ghost use Rattle.bench_run.specs.Offered.{offers_on, AllFit};
+ghost use Rattle.env_offers.specs.Offered.{offers_on, AllFit};
 ghost use Rattle.bench_run.specs.Plain.{IsBreak, IsPlainRun, StandsWithin};
 
 use crate::lent::Lent;
-use crate::offered::{gather, offers_over};
 use chan_map::Map;
-use chan_monitor::{Machines, Shell, row_over};
+use chan_monitor::{Machines, Shell};
+use env_offers::{gather, offers_over};
 use env_script::Env;
 use net_design::Block;
 use std::alloc::Global;
 use trace_model::{Channels, Offers, Row, Rows, unstable};
-use vidi_bits::Memory;
+use vidi_bits::{Items, Memory};
 
 /// A channel in a cycle.
 #[derive(Clone, Copy, PartialEq, Eq, Drop)]
@@ -71,6 +71,21 @@ fn break_after(rows: &Rows, row: &Row, channels: &Channels) -> Option<usize>
     }
 }
 
+/// A row with as many places for numbers as the offers have, in which nothing is up. Its memory is taken at once.
+fn row_for(alloc: Global, offers: &Offers) -> Result<Row, Memory>
+    ensures { IfOk result (λ row. length row.contents ≡ length offers.now.contents) }
+{
+    let contents = vec![in alloc; 0u128; offers.contents.len()]?;
+    Ok(Row {
+        gates: 0,
+        valids: 0,
+        readies: 0,
+        contents: Items::from_vec(contents),
+        starts: 0,
+        ends: 0,
+    })
+}
+
 /// The row of the next cycle, which the shell was driven with.
 fn next_row<S: Shell, E: Env>(
     alloc: Global,
@@ -92,7 +107,7 @@ fn next_row<S: Shell, E: Env>(
     ensures map { S.map shell.new ≡ S.map shell.old }
     ensures places { length offers.new.contents ≡ length (all_widths channels.now) }
 {
-    let mut row = row_over(alloc, channels)?;
+    let mut row = row_for(alloc, offers)?;
     gather(env, channels, offers);
     shell.drive(offers, all_up(channels), &mut row);
     Ok(row)

@@ -5,8 +5,8 @@ use Rattle.trace_model.specs.Row.{all_widths, AreOffers}
 use Rattle.trace_model.proofs.ContentsLemmas.{fit-length}
 use Rattle.run_model.specs.Played.{all_up}
 use Rattle.chan_monitor.specs.Shell.{AreZeroWhileDown, IsShown}
-use Rattle.bench_run.specs.Offered.{offers_on, AllFit}
-use Rattle.bench_run.proofs.Offering.{are-offers, are-zero}
+use Rattle.env_offers.specs.Offered.{offers_on, AllFit}
+use Rattle.env_offers.proofs.OfferLaws.{are-offers, are-zero}
 use Rattle.bench_run.proofs.plain.next_row.Goals as goal
 
 pub drive-requires-clause-offers : goal.drive-requires-clause-offers

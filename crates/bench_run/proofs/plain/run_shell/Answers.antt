@@ -6,9 +6,8 @@ use Rattle.trace_model.specs.Row.{row_before, IsOver}
 use Rattle.net_design.specs.declared.design.Design.{Design}
 use Rattle.net_design.specs.declared.values.Values.{Values}
 use Rattle.bench_run.specs.Plain.{IsBreak, StandsWithin}
-use Rattle.bench_run.proofs.Growing.{breaks, ends, fits-now, going-first, going-on, offers-now, on-error, rows-over}
+use Rattle.bench_run.proofs.Growing.{breaks, carries-now, ends, fits-now, going-first, going-on, offers-now, on-error, rows-over}
 use Rattle.bench_run.proofs.Growing.{shown-of, stands-within}
-use Rattle.bench_run.proofs.Offering.{carries-now}
 use Rattle.bench_run.proofs.plain.run_shell.Goals as goal
 
 pub loop-cycle-init : goal.loop-cycle-init
