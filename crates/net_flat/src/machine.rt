@@ -37,51 +37,58 @@ fn word(slots: &[u128], first: u32, length: u32, word: u128) -> u128
 }
 
 /// The number that a step gives.
-fn number(step: Step, slots: &[u128]) -> u128
-    requires { IsStep step }
-    ensures { result ≡ number_of step slots.now }
+fn number(step: &Step, slots: &[u128]) -> u128
+    requires { IsStep step.now }
+    ensures { result ≡ number_of step.now slots.now }
 {
     match step {
-        Step::Number { number } => number,
-        Step::Copy { from } => at(slots, from),
-        Step::Slice { from, low, width } => slice(at(slots, from), low, width),
-        Step::And { left, right } => at(slots, left) & at(slots, right),
-        Step::Or { left, right } => at(slots, left) | at(slots, right),
-        Step::Xor { left, right } => at(slots, left) ^ at(slots, right),
-        Step::Add { left, right, width } => add_w(at(slots, left), at(slots, right), width),
-        Step::Subtract { left, right, width } => sub_w(at(slots, left), at(slots, right), width),
-        Step::Less { left, right } => u128::from(at(slots, left) < at(slots, right)),
-        Step::Equal { left, right } => u128::from(at(slots, left) == at(slots, right)),
-        Step::LogicalNot { from } => u128::from(at(slots, from) == 0),
-        Step::Unary { op, from, width } => unary(op, at(slots, from), width),
+        Step::Number { number } => *number,
+        Step::Copy { from } => at(slots, *from),
+        Step::Slice { from, low, width } => slice(at(slots, *from), *low, *width),
+        Step::And { left, right } => at(slots, *left) & at(slots, *right),
+        Step::Or { left, right } => at(slots, *left) | at(slots, *right),
+        Step::Xor { left, right } => at(slots, *left) ^ at(slots, *right),
+        Step::Add { left, right, width } => add_w(at(slots, *left), at(slots, *right), *width),
+        Step::Subtract { left, right, width } => sub_w(at(slots, *left), at(slots, *right), *width),
+        Step::Less { left, right } => u128::from(at(slots, *left) < at(slots, *right)),
+        Step::Equal { left, right } => u128::from(at(slots, *left) == at(slots, *right)),
+        Step::LogicalNot { from } => u128::from(at(slots, *from) == 0),
+        Step::Unary { op, from, width } => unary(*op, at(slots, *from), *width),
         Step::Binary {
             op,
             left,
             right,
             width,
-        } => binary(op, at(slots, left), at(slots, right), width),
+        } => binary(*op, at(slots, *left), at(slots, *right), *width),
         Step::Choose {
             test,
             chosen,
             other,
-        } => at(slots, if at(slots, test) == 0 { other } else { chosen }),
+        } => at(
+            slots,
+            if at(slots, *test) == 0 {
+                *other
+            } else {
+                *chosen
+            },
+        ),
         Step::Join {
             high,
             low,
             high_width,
             low_width,
-        } => joined(at(slots, high), at(slots, low), high_width, low_width),
-        Step::Repeat { count, part, width } => times(count, at(slots, part), width),
+        } => joined(at(slots, *high), at(slots, *low), *high_width, *low_width),
+        Step::Repeat { count, part, width } => times(*count, at(slots, *part), *width),
         Step::Select {
             vector,
             at: place,
             width,
-        } => selected(at(slots, vector), at(slots, place), width),
+        } => selected(at(slots, *vector), at(slots, *place), *width),
         Step::Word {
             first,
             length,
             word: place,
-        } => word(slots, first, length, at(slots, place)),
+        } => word(slots, *first, *length, at(slots, *place)),
     }
 }
 
@@ -162,15 +169,15 @@ fn high_part(slots: &[u128], from: u32, rest: u32) -> u128
 }
 
 /// One instruction; answers how many of the next ones are left out.
-fn one(instr: Instr, slots: &mut [u128]) -> usize
-    requires { IsInstr instr }
-    ensures slots { slots.new ≡ changed instr slots.old }
-    ensures skip { result ≡ skips instr slots.old }
+fn one(instr: &Instr, slots: &mut [u128]) -> usize
+    requires { IsInstr instr.now }
+    ensures slots { slots.new ≡ changed instr.now slots.old }
+    ensures skip { result ≡ skips instr.now slots.old }
 {
     match instr {
         Instr::Do { to, step } => {
             let number = number(step, slots);
-            set(slots, to as usize, number);
+            set(slots, *to as usize, number);
             0
         }
         Instr::Put {
@@ -180,8 +187,8 @@ fn one(instr: Instr, slots: &mut [u128]) -> usize
             from,
             rest,
         } => {
-            let number = high_part(slots, from, rest);
-            put_bits(slots, to as usize, low, width, number);
+            let number = high_part(slots, *from, *rest);
+            put_bits(slots, *to as usize, *low, *width, number);
             0
         }
         Instr::PutFrom {
@@ -193,9 +200,9 @@ fn one(instr: Instr, slots: &mut [u128]) -> usize
             from,
             rest,
         } => {
-            let number = high_part(slots, from, rest);
-            let place = at(slots, place);
-            put_part(slots, to as usize, low, size, place, width, number);
+            let number = high_part(slots, *from, *rest);
+            let place = at(slots, *place);
+            put_part(slots, *to as usize, *low, *size, place, *width, number);
             0
         }
         Instr::PutWord {
@@ -207,9 +214,9 @@ fn one(instr: Instr, slots: &mut [u128]) -> usize
             from,
             rest,
         } => {
-            let number = high_part(slots, from, rest);
-            let word = at(slots, word);
-            put_word(slots, first, length, word, low, width, number);
+            let number = high_part(slots, *from, *rest);
+            let word = at(slots, *word);
+            put_word(slots, *first, *length, word, *low, *width, number);
             0
         }
         Instr::PutWordFrom {
@@ -222,20 +229,20 @@ fn one(instr: Instr, slots: &mut [u128]) -> usize
             from,
             rest,
         } => {
-            let number = high_part(slots, from, rest);
-            let word = at(slots, word);
-            let place = at(slots, place);
-            put_word_part(slots, first, length, word, size, place, width, number);
+            let number = high_part(slots, *from, *rest);
+            let word = at(slots, *word);
+            let place = at(slots, *place);
+            put_word_part(slots, *first, *length, word, *size, place, *width, number);
             0
         }
         Instr::SkipIfZero { test, count } => {
-            if at(slots, test) == 0 {
-                count as usize
+            if at(slots, *test) == 0 {
+                *count as usize
             } else {
                 0
             }
         }
-        Instr::Skip { count } => count as usize,
+        Instr::Skip { count } => *count as usize,
     }
 }
 
@@ -246,7 +253,7 @@ pub fn run_code(code: &[Instr], slots: &mut [u128])
 {
     let mut at = 0;
     'go: while at < code.len() {
-        let skip = one(code[at], slots);
+        let skip = one(&code[at], slots);
         if skip >= code.len() - at {
             return;
         }

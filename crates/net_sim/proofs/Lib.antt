@@ -5,3 +5,4 @@ pub mod SlotLaws
 pub mod SimLaws
 pub mod NameLaws
 pub mod LoadLaws
+pub mod TableLaws

@@ -137,7 +137,7 @@ net_in (Some x) y = x
 net_in None y = y
 
 -- ---- nets looked at one after the other
-net_same : (x y : Net) → Some x ≡ Some y → x ≡ y
+pub net_same : (x y : Net) → Some x ≡ Some y → x ≡ y
 net_same x y h = ap (λ o. net_in o x) h
 
 pub not_called : (instances : List Instance) (nets : List Net) (name : List ℕ) (m : ℕ) (x : Net) → m < length nets → x ≡ get_or nets m x

@@ -12,5 +12,6 @@ mod run;
 mod sim;
 mod slots;
 mod start;
+mod table;
 
 pub use sim::Sim;

@@ -3,7 +3,9 @@
 ghost use Rattle.std.specs.Prelude.{◌≡◌, ℕ, ◌<◌, ◌↔◌, List, [], ◌∷◌, ◌++◌, All, IsTrue, MatchOption, length};
 ghost use Rattle.net_design.specs.Names.{list_at, paths};
 ghost use Rattle.net_sim.specs.Names.{dotted, full_name, IsCalled, AreAfterParents};
+ghost use Rattle.net_sim.specs.Table.{IsTable};
 
+use crate::table::{Table, place_of};
 use net_design::{Instance, Net};
 
 /// What stands before the last part of a text, where it ends in that.
@@ -53,8 +55,8 @@ fn is_called(instances: &[Instance], net: &Net, name: &[u8]) -> bool
     }
 }
 
-/// The first net with this full name.
-pub fn net_called(instances: &[Instance], nets: &[Net], name: &[u8]) -> Option<usize>
+/// The first net with this full name, all looked at in turn.
+fn first_called(instances: &[Instance], nets: &[Net], name: &[u8]) -> Option<usize>
     requires parents { AreAfterParents instances.now }
     requires within { All (λ n. n.instance < length instances.now) nets.now }
     ensures { MatchOption result ((m : ℕ) → IsCalled instances.now nets.now name.now m → ⊥)
@@ -66,4 +68,33 @@ pub fn net_called(instances: &[Instance], nets: &[Net], name: &[u8]) -> Option<u
         }
     }
     None
+}
+
+/// Net `m`, where it has this full name, else the first one that has it.
+fn called_at(instances: &[Instance], nets: &[Net], name: &[u8], m: usize) -> Option<usize>
+    requires parents { AreAfterParents instances.now }
+    requires within { All (λ n. n.instance < length instances.now) nets.now }
+    requires there { m < length nets.now }
+    ensures { MatchOption result ((m : ℕ) → IsCalled instances.now nets.now name.now m → ⊥)
+        (λ m. IsCalled instances.now nets.now name.now m) }
+{
+    if is_called(instances, &nets[m], name) {
+        return Some(m);
+    }
+    first_called(instances, nets, name)
+}
+
+/// A net with this full name, by way of the table. All nets are looked at only where the place under the name's number is that of a
+/// net of another name.
+pub fn net_called(table: &Table, instances: &[Instance], nets: &[Net], name: &[u8]) -> Option<usize>
+    requires parents { AreAfterParents instances.now }
+    requires within { All (λ n. n.instance < length instances.now) nets.now }
+    requires table { IsTable instances.now nets.now (length nets.now) table.now.entries }
+    ensures { MatchOption result ((m : ℕ) → IsCalled instances.now nets.now name.now m → ⊥)
+        (λ m. IsCalled instances.now nets.now name.now m) }
+{
+    match place_of(table, name) {
+        Some(m) => called_at(instances, nets, name, m),
+        None => None,
+    }
 }

@@ -11,6 +11,7 @@ ghost use Rattle.net_flat.specs.Machine.{AreBelow};
 ghost use Rattle.net_flat.specs.Layout.{IsReady};
 ghost use Rattle.net_sim.specs.Places.{port_places};
 ghost use Rattle.net_sim.specs.Names.{IsCalled};
+ghost use Rattle.net_sim.specs.Table.{IsTable};
 ghost use Rattle.net_sim.specs.Slots.{widths_of, span_of, shown_in, state_in, settling_code, clocking_code};
 
 use crate::code::codes_of;
@@ -19,6 +20,7 @@ use crate::number::number_at;
 use crate::run::copy_numbers;
 use crate::slots::{first_slots, load_slots, run_slots, settle_again, settle_slots};
 use crate::start::{clear, first_numbers, places_of, zero_pins};
+use crate::table::{Table, table_of};
 use net_design::{Block, Design, Direction};
 use net_flat::Instr;
 use net_order::Order;
@@ -43,6 +45,8 @@ pub struct Sim {
     pins: Numbers,
     /// The nets of the output ports.
     outputs: Items<usize>,
+    /// The nets by name.
+    names: Table,
     /// Whether what is shown is settled for the state and the inputs.
     fresh: bool,
     ghost lawful: { ∥ IsLawful design ∥₁ },
@@ -57,6 +61,7 @@ pub struct Sim {
     ghost is_state: { IsState design (state_in design slots) },
     ghost are_pins: { FitPins design pins },
     ghost are_outputs: { outputs ≡ port_places Output 0 design.ports },
+    ghost named: { IsTable design.instances design.nets (length design.nets) names.entries },
     ghost settled: { IsTrue fresh → shown_in design slots ≡ settled_by design order.drivers (state_in design slots) pins },
 }
 
@@ -74,6 +79,7 @@ impl Sim {
         let slots = first_slots(alloc, codes.slots, codes.span, first.as_slice())?;
         let pins = zero_pins(alloc, design.ports.as_slice())?;
         let outputs = places_of(alloc, Direction::Output, design.ports.as_slice())?;
+        let names = table_of(alloc, design.instances.as_slice(), design.nets.as_slice())?;
         Ok(Sim {
             design,
             order,
@@ -84,6 +90,7 @@ impl Sim {
             first,
             pins,
             outputs,
+            names,
             fresh: false,
         })
     }
@@ -96,7 +103,12 @@ impl Sim {
             × (x ≡ slice_index (shown_in self.now.design self.now.slots).nets m)) }
     {
         let design = &self.design;
-        match net_called(design.instances.as_slice(), design.nets.as_slice(), name) {
+        match net_called(
+            &self.names,
+            design.instances.as_slice(),
+            design.nets.as_slice(),
+            name,
+        ) {
             Some(m) => Some(number_at(&self.slots, m)),
             None => None,
         }

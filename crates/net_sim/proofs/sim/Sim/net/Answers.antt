@@ -7,6 +7,7 @@ use Rattle.net_design.specs.Settled.{word_count}
 use Rattle.net_order.proofs.Known.{known_parents, known_instances}
 use Rattle.net_flat.proofs.Views.{net_at}
 use Rattle.net_sim.specs.Names.{IsCalled, AreAfterParents}
+use Rattle.net_sim.specs.Table.{IsTable}
 use Rattle.net_sim.specs.Slots.{widths_of}
 use Rattle.net_sim.proofs.sim.Sim.net.Goals as goal
 
@@ -21,6 +22,13 @@ net_called-requires-clause-within c =
     subst (λ (is : List Instance). All (λ (n : Net). n.instance < length is) c.as_slice-2.result.now) (sym c.as_slice.ensures)
     (subst (λ (ns : List Net). All (λ (n : Net). n.instance < length s.design.instances) ns) (sym c.as_slice-2.ensures)
     (known_instances s.design s.lawful))
+
+pub net_called-requires-clause-table : goal.net_called-requires-clause-table
+net_called-requires-clause-table c =
+    let s = c.args.self.now in
+    subst (λ (is : List Instance). IsTable is c.as_slice-2.result.now (length c.as_slice-2.result.now) s.names.entries)
+    (sym c.as_slice.ensures)
+    (subst (λ (ns : List Net). IsTable s.design.instances ns (length ns) s.names.entries) (sym c.as_slice-2.ensures) s.named)
 
 pub returns-in-None : goal.returns-in-None
 returns-in-None c = λ m h.

@@ -1,9 +1,14 @@
-use Rattle.std.proofs.Common.{◌≡◌, ℕ, ◌+◌, ◌≤◌, List, take, drop, reverse, replicate, length, ap, sym, subst, ◌∙◌, arith}
+use Rattle.std.proofs.Common.{◌≡◌, ℕ, ◌+◌, ◌<◌, ◌≤◌, List, All, take, drop, reverse, replicate, length, ap, sym, subst, ◌∙◌, arith}
+use Rattle.net_design.specs.declared.design.Instance.{Instance}
+use Rattle.net_design.specs.declared.design.Net.{Net}
 use Rattle.net_design.specs.declared.design.Port.{Port}
 use Rattle.net_design.specs.declared.design.Direction.TheVariants.{Input, Output}
 use Rattle.net_flat.specs.Machine.{AreBelow}
 use Rattle.net_sim.specs.Places.{port_places}
 use Rattle.net_sim.specs.Slots.{settling_code, clocking_code, span_of}
+use Rattle.net_order.proofs.Known.{known_parents, known_instances}
+use Rattle.net_sim.specs.Names.{AreAfterParents}
+use Rattle.net_sim.proofs.TableLaws.{table_named}
 use Rattle.net_sim.proofs.PlaceLaws.{zeros_fit, inputs_counted}
 use Rattle.net_sim.proofs.LoadLaws.{loaded, loaded_state, first_ready, first_long}
 use Rattle.net_sim.proofs.sim.Sim.new.Goals as goal
@@ -38,8 +43,20 @@ invariant_of-result c =
           ∙ ap (λ n. replicate n 0) (ap (λ (ports : List Port). length (port_places Input 0 ports)) c.as_slice-3.ensures
           ∙ inputs_counted d));
       are_outputs = c.in_ok-outputs.ensures ∙ ap (λ (ports : List Port). port_places Output 0 ports) c.as_slice-4.ensures;
+      named = table_named d c.as_slice-5.result.now c.as_slice-6.result.now c.in_ok-names.names.entries c.as_slice-5.ensures
+          c.as_slice-6.ensures c.in_ok-names.ensures;
       settled = λ t. absurd cc;
     }
+
+pub table_of-requires-clause-parents : goal.table_of-requires-clause-parents
+table_of-requires-clause-parents c =
+    subst (λ (is : List Instance). AreAfterParents is) (sym c.as_slice-5.ensures) (known_parents c.args.design ∣ c.requires.lawful ∣₁)
+
+pub table_of-requires-clause-within : goal.table_of-requires-clause-within
+table_of-requires-clause-within c =
+    subst (λ (is : List Instance). All (λ (n : Net). n.instance < length is) c.as_slice-6.result.now) (sym c.as_slice-5.ensures)
+    (subst (λ (ns : List Net). All (λ (n : Net). n.instance < length c.args.design.instances) ns) (sym c.as_slice-6.ensures)
+    (known_instances c.args.design ∣ c.requires.lawful ∣₁))
 
 pub first_slots-requires-clause-first : goal.first_slots-requires-clause-first
 first_slots-requires-clause-first c =

@@ -49,6 +49,7 @@ invariant_of-self c =
       is_state = clock_is d s.lawful order s.ordered s.slots s.pins mid new s.is_state s.are_pins s.clocking_below f e;
       are_pins = s.are_pins;
       are_outputs = s.are_outputs;
+      named = s.named;
       settled = λ t. absurd cc;
     }
 

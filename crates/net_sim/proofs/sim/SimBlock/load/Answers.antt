@@ -39,6 +39,7 @@ invariant_of-self c =
       is_state = loaded_state d s.lawful new state;
       are_pins = zeros_fit d c.clear.new.numbers (c.clear.ensures ∙ ap (λ n. replicate n 0) s.are_pins.long);
       are_outputs = s.are_outputs;
+      named = s.named;
       settled = λ t. absurd cc;
     }
 

@@ -44,6 +44,7 @@ invariant_of-self c =
       is_state = new_state d s.lawful order s.ordered s.slots pins new s.ready s.is_state c.requires s.settling_below e;
       are_pins = subst (FitPins d) (sym c.copy_numbers.ensures) c.requires;
       are_outputs = s.are_outputs;
+      named = s.named;
       settled = λ t.
           new_shown d s.lawful order s.ordered s.slots pins new s.ready s.is_state c.requires s.settling_below e
           ∙ ap (λ (xs : List ℕ). settled_by d order (state_in d new) xs) (sym c.copy_numbers.ensures);
