@@ -1,0 +1,4 @@
+pub mod Narrow
+pub mod Lists
+pub mod Parts
+pub mod Alike

@@ -1,0 +1,4 @@
+pub mod Turned
+pub mod Bound
+pub mod Played
+pub mod Ends
