@@ -1,7 +1,7 @@
 -- Nets read in place: what is seen in slots, and code that reads so, run.
-use Rattle.std.proofs.Common.{◌≡◌, ◌≢◌, ◌↔◌, ℕ, zero, suc, ◌+◌, ◌-◌, ◌*◌, ◌/◌, ◌%◌, ◌^◌, ◌<◌, ◌≤◌, ◌==◌, min, max, nat_lt, Bool, true, false}
-use Rattle.std.proofs.Common.{if◌then◌else◌, bit_and, bit_or, bit_xor, List, [], ◌∷◌, ◌++◌, All, length, length-append, get_or, map, take, drop}
-use Rattle.std.proofs.Common.{slice_index, slice_set, ⊎_elim, refl, ap, sym, subst, ◌∙◌, append_assoc, arith}
+use Rattle.std.proofs.Common.{◌≡◌, ◌≢◌, ℕ, zero, suc, ◌+◌, ◌-◌, ◌/◌, ◌%◌, ◌^◌, ◌<◌, ◌≤◌, ◌==◌, min, max, nat_lt, Bool, true, false}
+use Rattle.std.proofs.Common.{if◌then◌else◌, bit_and, bit_or, bit_xor, List, [], ◌∷◌, ◌++◌, All, length, length-append, get_or, map, drop}
+use Rattle.std.proofs.Common.{slice_index, slice_set, ⊎_elim, refl, ap, sym, subst, ◌∙◌, arith}
 use Rattle.std.proofs.Common.{Option, Some, MatchOption}
 use Rattle.std.proofs.lemmas.Bool.{cases_lt, lt-ltb, le-ltb}
 use Rattle.std.proofs.lemmas.List.{length-map, length-drop, length-set, get_or-set_same, get_or-set_other}
@@ -71,19 +71,19 @@ set_seen ps s t x l f =
     let here : i < length s = omega (arith, h, long) in
     either_way i t (slice_index (slice_set (through ps s) t x) i ≡ slice_index (through ps u) i)
     (λ e.
-        let p : place ps i ≡ t = (f i).1 e in
-        let there : place ps i < length s = omega (arith, p, e, here) in
-        same_set (through ps s) t i x e (let k = seen_long ps s l in omega (arith, k, here))
-        ∙ sym (same_set s t (place ps i) x p there) ∙ sym (seen_at ps u i lu))
+    let p : place ps i ≡ t = (f i).1 e in
+    let there : place ps i < length s = omega (arith, p, e, here) in
+    same_set (through ps s) t i x e (let k = seen_long ps s l in omega (arith, k, here))
+    ∙ sym (same_set s t (place ps i) x p there) ∙ sym (seen_at ps u i lu))
     (λ n.
-        get_or-set_other (through ps s) t i x 0 n ∙ seen_at ps s i l
-        ∙ sym (get_or-set_other s t (place ps i) x 0 (λ e. n ((f i).0 e))) ∙ sym (seen_at ps u i lu)))
+    get_or-set_other (through ps s) t i x 0 n ∙ seen_at ps s i l
+    ∙ sym (get_or-set_other s t (place ps i) x 0 (λ e. n ((f i).0 e))) ∙ sym (seen_at ps u i lu)))
 
 -- a net that copies another, read in its place from then on
 place_set : (ps : List ℕ) (m q i : ℕ) → m < length ps → i ≢ m → place (slice_set ps m q) i ≡ place ps i
 place_set ps m q i l n = ⊎_elim
     (λ (a : i < length ps).
-        at_net (slice_set ps m q) i (let e = length-set ps m q in omega (arith, e, a)) ∙ get_or-set_other ps m i q 0 n ∙ sym (at_net ps i a))
+    at_net (slice_set ps m q) i (let e = length-set ps m q in omega (arith, e, a)) ∙ get_or-set_other ps m i q 0 n ∙ sym (at_net ps i a))
     (λ (b : length ps ≤ i). at_rest (slice_set ps m q) i (let e = length-set ps m q in omega (arith, e, b)) ∙ sym (at_rest ps i b))
     (cases_lt i (length ps))
 
@@ -104,11 +104,11 @@ copy_seen ps s m f l inside =
     let here : i < length s = omega (arith, h, long) in
     either_way i m (slice_index (slice_set (through ps s) m x) i ≡ slice_index (through qs s) i)
     (λ e.
-        same_set (through ps s) m i x e (let k = seen_long ps s l in omega (arith, k, here)) ∙ seen_at ps s f l
-        ∙ ap (slice_index s) (sym (place_here ps m q i inside e)) ∙ sym (seen_at qs s i lq))
+    same_set (through ps s) m i x e (let k = seen_long ps s l in omega (arith, k, here)) ∙ seen_at ps s f l
+    ∙ ap (slice_index s) (sym (place_here ps m q i inside e)) ∙ sym (seen_at qs s i lq))
     (λ n.
-        get_or-set_other (through ps s) m i x 0 n ∙ seen_at ps s i l
-        ∙ ap (slice_index s) (sym (place_set ps m q i inside n)) ∙ sym (seen_at qs s i lq)))
+    get_or-set_other (through ps s) m i x 0 n ∙ seen_at ps s i l
+    ∙ ap (slice_index s) (sym (place_set ps m q i inside n)) ∙ sym (seen_at qs s i lq)))
 
 -- ---- steps and instructions
 if_in : (b : Bool) (x y z : ℕ) → (b ≡ true → x ≡ y) → (if b then x else z) ≡ (if b then y else z)
@@ -162,8 +162,8 @@ module _ (ps s : List ℕ) (l : length ps ≤ length s) where
 pub behind_free : (ps : List ℕ) (t : ℕ) → ((i : ℕ) → i < length ps → slice_index ps i < length ps) → length ps ≤ t → IsFree ps t
 behind_free ps t below l = λ i. ⊎_elim
     (λ (a : i < length ps).
-        let b = below i a in
-        (λ e. let p : slice_index ps i ≡ t = sym (at_net ps i a) ∙ e in absurd (omega (arith, b, p, l)), λ e. absurd (omega (arith, a, e, l))))
+    let b = below i a in
+    (λ e. let p : slice_index ps i ≡ t = sym (at_net ps i a) ∙ e in absurd (omega (arith, b, p, l)), λ e. absurd (omega (arith, a, e, l))))
     (λ (b : length ps ≤ i). (λ e. sym (at_rest ps i b) ∙ e, λ e. at_rest ps i b ∙ e))
     (cases_lt i (length ps))
 
@@ -296,7 +296,7 @@ follows_more first ps most xs out i below apart f =
     let j : Instr = moved_instr ps i in
     let long = f.long in
     let there : (s : List ℕ) → length first ≤ length s → length ps ≤ length (exec out 0 s)
-        = λ s l. (let e = exec_long out 0 s in omega (arith, e, l, long)) in
+    = λ s l. (let e = exec_long out 0 s in omega (arith, e, l, long)) in
     record {
       long = f.long;
       same = λ s l.
@@ -355,29 +355,30 @@ places_copy ps shared marks m g p inside from e =
     let long = length-set ps m q in
     let qs : List ℕ = slice_set ps m q in
     let marked : get_or marks q true ≡ true
-        = ap (λ (bs : List Bool). get_or bs q true) e ∙ set_or_past shared q in
+    = ap (λ (bs : List Bool). get_or bs q true) e ∙ set_or_past shared q in
     record {
       below = λ i l. either_way i m (slice_index qs i < length qs)
           (λ h. let x = same_set ps m i q h (omega (arith, h, inside)) in omega (arith, x, is, few, long))
           (λ h. let x = get_or-set_other ps m i q 0 h in let b = p.below i (omega (arith, l, long)) in omega (arith, x, b, long));
       alone = λ i l alone. either_way i m (slice_index qs i ≡ i)
           (λ h. let x = same_set ps m i q h (omega (arith, h, inside)) in
-              let no : true ≡ false = sym marked ∙ ap (λ n. get_or marks n true) (sym x) ∙ alone in absurd cc)
+          let no : true ≡ false = sym marked ∙ ap (λ n. get_or marks n true) (sym x) ∙ alone in absurd cc)
           (λ h. let x : slice_index qs i ≡ slice_index ps i = get_or-set_other ps m i q 0 h in
-              let old : get_or marks (slice_index ps i) true ≡ false = ap (λ n. get_or marks n true) (sym x) ∙ alone in
-              let other : slice_index ps i ≢ q = (λ y. let no : true ≡ false = sym marked ∙ ap (λ n. get_or marks n true) (sym y) ∙ old in absurd cc) in
-              x ∙ p.alone i (omega (arith, l, long)) (sym (get_or-set_other shared q (slice_index ps i) true true other)
-              ∙ ap (λ (bs : List Bool). get_or bs (slice_index ps i) true) (sym e) ∙ old));
+          let old : get_or marks (slice_index ps i) true ≡ false = ap (λ n. get_or marks n true) (sym x) ∙ alone in
+          let other : slice_index ps i ≢ q = (λ y. let no : true ≡ false = sym marked ∙ ap (λ n. get_or marks n true) (sym y) ∙ old in absurd cc) in
+          x ∙ p.alone i (omega (arith, l, long)) (sym (get_or-set_other shared q (slice_index ps i) true true other)
+          ∙ ap (λ (bs : List Bool). get_or bs (slice_index ps i) true) (sym e) ∙ old));
     }
 
 -- a net that is read at itself alone
 pub net_free : (ps : List ℕ) (shared : List Bool) (t : ℕ) → ArePlaces ps shared → t < length ps → slice_index ps t ≡ t
     → get_or shared t true ≡ false → IsFree ps t
 net_free ps shared t p l here alone = λ i. ⊎_elim
-    (λ (a : i < length ps).
-        (λ e. let x : slice_index ps i ≡ t = sym (at_net ps i a) ∙ e in
-            sym (p.alone i a (ap (λ n. get_or shared n true) x ∙ alone)) ∙ x,
-        λ e. at_net ps i a ∙ ap (slice_index ps) e ∙ here))
+    (λ (a : i < length ps). (
+      λ e. let x : slice_index ps i ≡ t = sym (at_net ps i a) ∙ e in
+          sym (p.alone i a (ap (λ n. get_or shared n true) x ∙ alone)) ∙ x,
+      λ e. at_net ps i a ∙ ap (slice_index ps) e ∙ here,
+    ))
     (λ (b : length ps ≤ i). (λ e. sym (at_rest ps i b) ∙ e, λ e. absurd (omega (arith, b, e, l))))
     (cases_lt i (length ps))
 
@@ -396,7 +397,7 @@ pub as_it_stands : (n : ℕ) (settling clocking : List Instr) (ps : List ℕ) �
     → All (λ (i : Instr). IsInstr i) settling → All (λ (i : Instr). IsInstr i) clocking → IsInPlace n settling clocking ps settling clocking
 as_it_stands n settling clocking ps long h a b =
     let id : (s : List ℕ) → n ≤ length s → through ps s ≡ s
-        = λ s l. identity_seen ps s (λ i k. h i (omega (arith, k, long))) (omega (arith, l, long)) in
+    = λ s l. identity_seen ps s (λ i k. h i (omega (arith, k, long))) (omega (arith, l, long)) in
     record {
       long = long;
       below = λ i l. let e = h i l in omega (arith, l, e);
@@ -412,7 +413,7 @@ pub identity_more : (ps new : List ℕ) (n : ℕ) → length ps ≡ n → ((i : 
 identity_more ps new n long h e i l = ap (λ (xs : List ℕ). slice_index xs i) e ∙ ⊎_elim
     (λ (a : i < n). get_or-append ps (n ∷ []) 0 i (omega (arith, a, long)) ∙ h i a)
     (λ (b : n ≤ i). let last : i ≡ length ps = omega (arith, b, l, long) in
-        ap (slice_index (ps ++ n ∷ [])) last ∙ get_or-append_seam ps n [] 0 ∙ sym long ∙ sym last)
+    ap (slice_index (ps ++ n ∷ [])) last ∙ get_or-append_seam ps n [] 0 ∙ sym long ∙ sym last)
     (cases_lt i n)
 
 -- instructions that the machine can take

@@ -1,4 +1,4 @@
-use Rattle.std.proofs.Common.{◌≡◌, ℕ, ◌-◌, max, List, All, ◌++◌, ◌∷◌, [], sym, subst, arith}
+use Rattle.std.proofs.Common.{◌≡◌, ◌-◌, max, List, All, ◌++◌, ◌∷◌, [], sym, subst, arith}
 use Rattle.std.proofs.lemmas.List.Elements.{All-push}
 use Rattle.net_flat.specs.declared.instr.Instr.{Instr}
 use Rattle.net_flat.specs.Machine.{IsInstr}
@@ -18,7 +18,7 @@ returns-clause-follows c = λ first code f.
     let i = c.args.instr.now in
     let out = c.args.out.now in
     let next : c.max.result ≡ max (c.args.left - 1) (most_left i)
-        = (let m = c.max.ensures in let s = c.saturating_sub.ensures in let l = c.left_out.ensures in omega (arith, m, s, l)) in
+    = (let m = c.max.ensures in let s = c.saturating_sub.ensures in let l = c.left_out.ensures in omega (arith, m, s, l)) in
     subst (λ (xs : List Instr). Follows first ps c.max.result (code ++ i ∷ []) xs) (sym c.in_ok-push.ensures.ok)
     (subst (λ (j : Instr). Follows first ps c.max.result (code ++ i ∷ []) (out ++ j ∷ [])) (sym c.instr_at.ensures)
     (subst (λ n. Follows first ps n (code ++ i ∷ []) (out ++ moved_instr ps i ∷ [])) (sym next)

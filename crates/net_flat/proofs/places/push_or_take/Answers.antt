@@ -1,4 +1,4 @@
-use Rattle.std.proofs.Common.{◌≡◌, ℕ, ◌<◌, ◌≤◌, List, ◌++◌, ◌∷◌, [], IfOk, MatchOption, sym, subst, arith}
+use Rattle.std.proofs.Common.{◌≡◌, ℕ, List, ◌++◌, ◌∷◌, [], IfOk, MatchOption, subst, arith}
 use Rattle.net_flat.specs.declared.instr.Instr.{Instr}
 use Rattle.net_flat.specs.InPlace.{Follows}
 use Rattle.net_flat.proofs.places.push_or_take.Goals as goal

@@ -1,4 +1,4 @@
-use Rattle.std.proofs.Common.{ℕ, ◌<◌, List, ◌++◌, ◌∷◌, [], sym, subst, arith}
+use Rattle.std.proofs.Common.{ℕ, List, ◌++◌, ◌∷◌, [], sym, subst, arith}
 use Rattle.net_flat.specs.declared.instr.Step.TheVariants.{Copy}
 use Rattle.net_flat.specs.declared.instr.Instr.{Instr}
 use Rattle.net_flat.specs.declared.instr.Instr.TheVariants.{Do}
