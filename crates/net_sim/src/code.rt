@@ -110,6 +110,7 @@ pub struct Codes {
     pub settling: Items<Instr>,
     /// That of the clocked blocks.
     pub clocking: Items<Instr>,
+    /// How many nets the design has.
     pub nets: u32,
     /// The numbers of nets and memory words.
     pub span: usize,
@@ -181,6 +182,7 @@ pub fn codes_of(alloc: Global, design: &Design, order: &[u128]) -> Result<Codes,
 /// The flat code of a design, which reads nets that only copy another in its place.
 #[derive(Drop)]
 pub struct Placed {
+    /// The code, and the slot at which each net is read.
     pub made: InPlace,
     /// The numbers of nets and memory words.
     pub span: usize,
