@@ -1,40 +1,37 @@
 -- The code of statements makes their updates.
-use Rattle.std.proofs.Common.{◌≡◌, ℕ, ◌+◌, ◌-◌, ◌/◌, ◌%◌, ◌^◌, ◌<◌, ◌≤◌, ◌==◌, ◌&&◌, not, Bool, true, false, if◌then◌else◌}
+use Rattle.std.proofs.Common.{◌≡◌, ℕ, ◌+◌, ◌^◌, ◌<◌, ◌==◌, ◌&&◌, not, Bool, true, false, if◌then◌else◌}
 use Rattle.std.proofs.Common.{List, [], ◌∷◌, ◌++◌, append-nil, length, take, slice_index, slice_set, refl, ap, sym, subst, ◌∙◌, arith}
 use Rattle.std.specs.List.{AllByRecursion}
 use Rattle.std.proofs.Math.Nat.{div-one, mod-eq_of_lt}
 use Rattle.std.proofs.lemmas.Bool.{eqb-true}
-use Rattle.std.proofs.lemmas.List.{take-set-le, length-set}
 use Rattle.vlog_operators.specs.Number.{put_of}
 use Rattle.net_design.specs.declared.rhs.Span.{Span}
 use Rattle.net_design.specs.declared.rhs.Rhs.{Rhs}
 use Rattle.net_design.specs.declared.act.Place.{Place}
 use Rattle.net_design.specs.declared.act.Place.TheVariants.{Bits, BitsFrom, Word, WordFrom}
-use Rattle.net_design.specs.declared.act.Guard.{Guard}
 use Rattle.net_design.specs.declared.act.Act.{Act, Set, Read, Branch', Row_of-Act, end_of-Act, more_of-Act, Row_of-Guard, end_of-Guard}
 use Rattle.net_design.specs.declared.act.Act.{more_of-Guard}
 use Rattle.net_design.specs.declared.act.Timing.{Timing}
 use Rattle.net_design.specs.declared.values.Target.TheVariants.{Net}
 use Rattle.net_design.specs.declared.values.Update.{Update}
-use Rattle.net_design.specs.declared.values.Values.{Values}
 use Rattle.net_design.specs.Value.{value}
 use Rattle.net_design.specs.Sized.{IsGuardRow, IsActRow}
-use Rattle.net_design.specs.Updates.{update, bit_updates, target_width, target_updates, seen, updates, guard_row, act_row, block_updates}
+use Rattle.net_design.specs.Updates.{update, bit_updates, target_updates, seen, updates, guard_row, act_row, block_updates}
 use Rattle.net_design.proofs.BoolLaws.{and_parts, not_both}
 use Rattle.net_flat.specs.declared.instr.Instr.{Instr}
 use Rattle.net_flat.specs.declared.instr.Instr.TheVariants.{Do, SkipIfZero, Skip}
 use Rattle.net_flat.specs.Machine.{number_of, AreBelow}
-use Rattle.net_flat.specs.Layout.{span, base, shown, state, IsReady, Moves}
+use Rattle.net_flat.specs.Layout.{base, shown, state, IsReady, Moves}
 use Rattle.net_flat.specs.Expressions.{is_whole, slot, step, below, IsThere, HasRoom, IsFlatRhs}
 use Rattle.net_flat.specs.Statements.{choice, within, offset, forced, index_code}
 use Rattle.net_flat.specs.Statements.{stores, general_code, set_code, test_code, act_code, guard_row_code}
 use Rattle.net_flat.specs.Statements.{act_row_code, block_code, IsFlatPlace, IsFlatAct, IsFlatBlock}
 use Rattle.net_flat.proofs.Running.{RunsTo, runs_nothing, runs_then, runs_do, runs_choice, first_below, last_below}
 use Rattle.net_flat.proofs.Views.{kept, kept_less, same_shown, same_state, same_ready}
-use Rattle.net_flat.proofs.Values.{Leaves, Gives, lowered, operand}
+use Rattle.net_flat.proofs.Values.{lowered, operand}
 use Rattle.net_flat.proofs.Within.{within_fits}
 use Rattle.net_flat.proofs.Stores.{put_whole, moves_nothing, moves_then, moves_from, old_fits, put_net}
-use Rattle.net_flat.proofs.Targets.{Puts, Holds, put_places, Finds, find_places, force_later}
+use Rattle.net_flat.proofs.Targets.{put_places, find_places, force_later}
 
 module _ (widths : List ℕ) (W : ℕ) where
   -- the code does what updates say

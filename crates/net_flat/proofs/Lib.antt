@@ -10,3 +10,4 @@ pub mod RowCode
 pub mod Safe
 pub mod Whole
 pub mod Steps
+pub mod InPlaceLaws

@@ -5,9 +5,8 @@ use Rattle.std.proofs.lemmas.List.{reverse-append, length-reverse}
 use Rattle.net_flat.specs.declared.instr.Step.{Step}
 use Rattle.net_flat.specs.declared.instr.Instr.{Instr}
 use Rattle.net_flat.specs.declared.instr.Instr.TheVariants.{Do, SkipIfZero, Skip}
-use Rattle.std.specs.List.{AllByRecursion}
 use Rattle.net_flat.specs.Statements.{choice}
-use Rattle.net_flat.specs.Machine.{exec, changed, skips, number_of, IsBelow, AreBelow}
+use Rattle.net_flat.specs.Machine.{exec, changed, skips, number_of, AreBelow}
 
 abbrev pub RunsTo : List Instr → List ℕ → List ℕ → Type 0
 RunsTo code s u = (ys : List Instr) → exec (reverse code ++ ys) 0 s ≡ exec ys 0 u

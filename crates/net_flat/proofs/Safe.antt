@@ -1,8 +1,7 @@
 -- The machine can take the code of expressions and statements: its widths are 1 to 128.
-use Rattle.std.proofs.Common.{◌≡◌, ℕ, zero, suc, ◌+◌, ◌*◌, ◌<◌, ◌≤◌, ◌==◌, ◌&&◌, not, Bool, true, false, if◌then◌else◌}
-use Rattle.std.proofs.Common.{List, [], ◌∷◌, ◌++◌, All, length, slice_index, refl, ap, sym, subst, ◌∙◌, arith}
+use Rattle.std.proofs.Common.{◌≡◌, ℕ, zero, suc, ◌+◌, ◌≤◌, ◌==◌, ◌&&◌, not, Bool, true, false, if◌then◌else◌}
+use Rattle.std.proofs.Common.{List, [], ◌∷◌, ◌++◌, slice_index, refl, arith}
 use Rattle.std.specs.List.{AllByRecursion}
-use Rattle.std.proofs.lemmas.Bool.{eq-eqb}
 use Rattle.vlog_operators.specs.Number.{IsWidth}
 use Rattle.vlog_operators.specs.declared.operators.UnaryOp.{UnaryOp}
 use Rattle.vlog_operators.specs.declared.operators.UnaryOp.TheVariants as unary
@@ -15,17 +14,16 @@ use Rattle.net_design.specs.declared.act.Act.{Act, Set, Read, Branch', Row_of-Ac
 use Rattle.net_design.specs.declared.act.Act.{more_of-Guard}
 use Rattle.net_design.specs.Sized.{IsGuardRow, IsActRow}
 use Rattle.net_design.specs.Updates.{target_width}
-use Rattle.net_design.proofs.BoolLaws.{not_both}
 use Rattle.net_flat.specs.declared.instr.Step.{Step}
 use Rattle.net_flat.specs.declared.instr.Step.TheVariants as S
 use Rattle.net_flat.specs.declared.instr.Instr.{Instr}
 use Rattle.net_flat.specs.declared.instr.Instr.TheVariants.{Do}
 use Rattle.net_flat.specs.Machine.{IsStep, IsInstr, AreSafe}
-use Rattle.net_flat.specs.Layout.{span, base}
+use Rattle.net_flat.specs.Layout.{base}
 use Rattle.net_flat.specs.Expressions.{unary_step, binary_step, is_whole, stands, slot, step, taken, below, IsThere, HasRoom, IsFlatRhs}
 use Rattle.net_flat.specs.Statements.{choice, within, index_slots, forced, place_index}
 use Rattle.net_flat.specs.Statements.{index_code, place_store, stores, general_code, set_code}
-use Rattle.net_flat.specs.Statements.{test_code, act_code, guard_row_code, act_row_code, block_code, IsFlatPlace, IsFlatAct, IsFlatBlock}
+use Rattle.net_flat.specs.Statements.{act_code, guard_row_code, act_row_code, block_code, IsFlatPlace, IsFlatAct, IsFlatBlock}
 
 pub safe_both : (xs ys : List Instr) → AreSafe xs → AreSafe ys → AreSafe (xs ++ ys)
 safe_both [] ys f g = g

@@ -1,23 +1,23 @@
 -- What is put into slots, as updates of the numbers that are read or of the state.
-use Rattle.std.proofs.Common.{◌≡◌, ℕ, zero, suc, ◌+◌, ◌-◌, ◌*◌, ◌/◌, ◌%◌, ◌^◌, ◌<◌, ◌≤◌, ◌==◌, min, nat_lt, Bool, true, false}
-use Rattle.std.proofs.Common.{if◌then◌else◌, ⊎_elim, List, [], ◌∷◌, ◌++◌, length, take, drop, slice_index, slice_set, refl, ap, sym, subst}
-use Rattle.std.proofs.Common.{◌∙◌, append_assoc, arith}
+use Rattle.std.proofs.Common.{◌≡◌, ℕ, zero, suc, ◌+◌, ◌*◌, ◌/◌, ◌%◌, ◌^◌, ◌<◌, ◌≤◌}
+use Rattle.std.proofs.Common.{⊎_elim, List, [], ◌∷◌, ◌++◌, length, take, drop, slice_index, slice_set, refl, ap, sym, subst}
+use Rattle.std.proofs.Common.{◌∙◌, arith}
 use Rattle.std.specs.Int.{bit_at}
 use Rattle.std.proofs.Math.Pow.{pow_mono}
 use Rattle.std.proofs.Math.Nat.{mod-eq_of_lt, div-eq_of_lt}
 use Rattle.std.proofs.Math.Seq.{take-set-lt}
-use Rattle.std.proofs.lemmas.Bool.{cases_lt, eqb-true, ltb-true}
+use Rattle.std.proofs.lemmas.Bool.{cases_lt}
 use Rattle.std.proofs.lemmas.List.{get_or-set_other, get_or-drop, length-set, take-set-le, drop-set-lt, drop-set-add}
 use Rattle.std.proofs.lemmas.Nat.{pow_pos, mod_below}
 use Rattle.std.proofs.lemmas.Nat.Bits.{bit_at_above, same_from_bits}
 use Rattle.vidi_bits.proofs.BitLemmas.{bit_at-mod, bit_at-mod_above, bit_at-put_above}
-use Rattle.vlog_operators.specs.Number.{part_of, put_of}
+use Rattle.vlog_operators.specs.Number.{put_of}
 use Rattle.net_design.specs.declared.act.Timing.{Timing}
 use Rattle.net_design.specs.declared.act.Timing.TheVariants.{Blocking, Nonblocking}
 use Rattle.net_design.specs.declared.values.Target.TheVariants.{Net, Word}
 use Rattle.net_design.specs.declared.values.Update.{Update}
 use Rattle.net_design.specs.declared.values.Values.{Values}
-use Rattle.net_design.specs.Updates.{apply, update, seen}
+use Rattle.net_design.specs.Updates.{update, seen}
 use Rattle.net_design.proofs.UpdateLaws.{apply_both}
 use Rattle.net_flat.specs.Layout.{view, span, base, shown, state, Fits, IsReady, left, Moves}
 use Rattle.net_flat.specs.Statements.{offset}

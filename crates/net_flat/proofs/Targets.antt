@@ -1,9 +1,8 @@
 -- The code of targets makes their updates.
 use Rattle.std.proofs.Common.{◌≡◌, ℕ, ◌+◌, ◌-◌, ◌/◌, ◌%◌, ◌^◌, ◌<◌, ◌≤◌, ◌==◌, min, nat_lt, Bool, true, false, if◌then◌else◌}
-use Rattle.std.proofs.Common.{List, [], ◌∷◌, ◌++◌, length, take, slice_index, slice_set, refl, ap, sym, subst, ◌∙◌, arith}
+use Rattle.std.proofs.Common.{List, [], ◌∷◌, ◌++◌, length, take, slice_index, refl, ap, sym, subst, ◌∙◌, arith}
 use Rattle.std.specs.List.{AllByRecursion}
 use Rattle.std.proofs.lemmas.Bool.{eqb-true, ltb-true}
-use Rattle.vlog_operators.specs.Number.{part_of, put_of}
 use Rattle.net_design.specs.declared.rhs.Span.{Span}
 use Rattle.net_design.specs.declared.rhs.Room.{Room}
 use Rattle.net_design.specs.declared.rhs.Rhs.{Rhs}
@@ -14,17 +13,17 @@ use Rattle.net_design.specs.declared.values.Target.TheVariants.{Net, Word as Wor
 use Rattle.net_design.specs.declared.values.Update.{Update}
 use Rattle.net_design.specs.declared.values.Values.{Values}
 use Rattle.net_design.specs.Value.{value}
-use Rattle.net_design.specs.Updates.{update, bit_updates, part_updates, word_updates, place_updates, target_width, target_updates, seen}
+use Rattle.net_design.specs.Updates.{update, bit_updates, part_updates, word_updates, place_updates, target_width, target_updates}
 use Rattle.net_design.proofs.BoolLaws.{and_parts}
 use Rattle.net_flat.specs.declared.instr.Step.TheVariants as S
 use Rattle.net_flat.specs.declared.instr.Instr.{Instr}
 use Rattle.net_flat.specs.declared.instr.Instr.TheVariants.{Do, Put, PutFrom, PutWord, PutWordFrom}
-use Rattle.net_flat.specs.Machine.{changed, skips, put_at, put_from, AreBelow}
-use Rattle.net_flat.specs.Layout.{span, base, shown, state, IsReady, Moves}
+use Rattle.net_flat.specs.Machine.{changed, skips, AreBelow}
+use Rattle.net_flat.specs.Layout.{base, shown, IsReady, Moves}
 use Rattle.net_flat.specs.Expressions.{is_whole, step, below, IsFlatRhs}
 use Rattle.net_flat.specs.Statements.{offset, index_slots, forced, place_index, index_code, place_store, stores, IsFlatPlace}
 use Rattle.net_flat.proofs.Running.{RunsTo, runs_nothing, runs_one, runs_then, first_below, last_below}
-use Rattle.net_flat.proofs.Views.{kept, kept_less, same_shown, same_state, same_ready}
+use Rattle.net_flat.proofs.Views.{kept, kept_less, same_shown, same_ready}
 use Rattle.net_flat.proofs.Values.{Leaves, pushed, lowered}
 use Rattle.net_flat.proofs.Stores.{put_whole, Keeps, moves_nothing, moves_then, old_fits, put_net, put_word, net_keeps, word_keeps}
 

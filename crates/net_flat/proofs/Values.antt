@@ -1,5 +1,5 @@
 -- The code of an expression gives its number.
-use Rattle.std.proofs.Common.{◌≡◌, ℕ, ◌+◌, ◌*◌, ◌/◌, ◌%◌, ◌^◌, ◌<◌, ◌≤◌, ◌==◌, ◌&&◌, nat_lt, Bool, true, false, if◌then◌else◌}
+use Rattle.std.proofs.Common.{◌≡◌, ℕ, ◌+◌, ◌%◌, ◌^◌, ◌<◌, ◌≤◌, ◌==◌, nat_lt, Bool, true, false, if◌then◌else◌}
 use Rattle.std.proofs.Common.{List, [], ◌∷◌, ◌++◌, length, take, slice_index, slice_set, refl, ap, sym, subst, ◌∙◌, arith}
 use Rattle.std.proofs.Math.Nat.{div-one, mod-eq_of_lt}
 use Rattle.std.proofs.lemmas.Bool.{eqb-true, ltb-true}
@@ -23,10 +23,9 @@ use Rattle.net_flat.specs.declared.instr.Step.{Step}
 use Rattle.net_flat.specs.declared.instr.Step.TheVariants as S
 use Rattle.net_flat.specs.declared.instr.Instr.{Instr}
 use Rattle.net_flat.specs.declared.instr.Instr.TheVariants.{Do}
-use Rattle.std.specs.List.{AllByRecursion}
-use Rattle.net_flat.specs.Machine.{number_of, IsBelow, AreBelow}
-use Rattle.net_flat.specs.Layout.{span, base, shown, state, Fits, IsReady}
-use Rattle.net_flat.specs.Expressions.{unary_step, binary_step, is_whole, stands, slot, step, taken, below, IsThere, HasRoom, IsFlatRhs}
+use Rattle.net_flat.specs.Machine.{number_of, AreBelow}
+use Rattle.net_flat.specs.Layout.{base, shown, IsReady}
+use Rattle.net_flat.specs.Expressions.{unary_step, binary_step, is_whole, slot, step, taken, below, IsFlatRhs}
 use Rattle.net_flat.proofs.Running.{RunsTo, runs_nothing, runs_then, runs_do, first_below, last_below}
 use Rattle.net_flat.proofs.Views.{kept, kept_less, net_at, word_here, same_shown, same_ready}
 

@@ -1,8 +1,7 @@
 -- The numbers of a design in the slots, where slots change.
-use Rattle.std.proofs.Common.{◌≡◌, ℕ, ◌+◌, ◌-◌, ◌/◌, ◌%◌, ◌^◌, ◌<◌, ◌≤◌, List, length, get_or, take, drop, slice_index, slice_set, refl, ap}
+use Rattle.std.proofs.Common.{◌≡◌, ℕ, ◌+◌, ◌<◌, ◌≤◌, List, length, take, drop, slice_index, ap}
 use Rattle.std.proofs.Common.{sym, subst, ◌∙◌, arith}
 use Rattle.std.proofs.lemmas.List.{take-take, get_or-take, get_or-drop, drop-take}
-use Rattle.net_design.specs.declared.values.Values.{Values}
 use Rattle.net_flat.specs.Layout.{view, span, base, shown, state, Fits, IsReady}
 
 -- slots that are the same up to a place

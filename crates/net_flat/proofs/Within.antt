@@ -1,11 +1,11 @@
 -- Expressions whose number surely has at most w bits.
-use Rattle.std.proofs.Common.{◌≡◌, ℕ, ◌+◌, ◌-◌, ◌*◌, ◌/◌, ◌%◌, ◌^◌, ◌<◌, ◌≤◌, ◌==◌, ◌&&◌, not, nat_le, nat_lt, Bool, true, false}
-use Rattle.std.proofs.Common.{if◌then◌else◌, bit_xor, count_ones, sym, subst, ap, ◌∙◌, arith}
+use Rattle.std.proofs.Common.{◌≡◌, ℕ, ◌+◌, ◌-◌, ◌*◌, ◌/◌, ◌%◌, ◌^◌, ◌<◌, ◌≤◌, ◌==◌, not, nat_le, nat_lt, Bool, true, false}
+use Rattle.std.proofs.Common.{if◌then◌else◌, bit_xor, count_ones, sym, ap, ◌∙◌, arith}
 use Rattle.std.proofs.Math.Pow.{pow_mono}
 use Rattle.std.proofs.lemmas.Bool.{leb-true, eqb-true}
-use Rattle.std.proofs.lemmas.Nat.{pow_pos, mod_below, or_lt, xor_lt, shr_split}
+use Rattle.std.proofs.lemmas.Nat.{pow_pos, or_lt, xor_lt, shr_split}
 use Rattle.std.specs.Int.Bits.{and_lt}
-use Rattle.vlog_operators.specs.Number.{complement, truth, side_by_side}
+use Rattle.vlog_operators.specs.Number.{complement}
 use Rattle.vlog_operators.specs.Operators.{unary_number, binary_number}
 use Rattle.vlog_operators.specs.declared.operators.UnaryOp.{UnaryOp}
 use Rattle.vlog_operators.specs.declared.operators.UnaryOp.TheVariants as unary

@@ -1,6 +1,6 @@
 -- The code of expressions. Slots: the nets, then the words of memories, both twice, then free slots; so net m is slot m, and word k is
 -- slot k after the nets. Code is listed from its last instruction to its first.
-use Rattle.std.specs.Prelude.{ℕ, ◌+◌, ◌*◌, ◌≤◌, ◌<◌, ◌==◌, ◌&&◌, Bool, true, false, if◌then◌else◌}
+use Rattle.std.specs.Prelude.{ℕ, ◌+◌, ◌≤◌, ◌<◌, ◌==◌, ◌&&◌, Bool, false, if◌then◌else◌}
 use Rattle.std.specs.Prelude.{List, [], ◌∷◌, ◌++◌, length, slice_index}
 use Rattle.vlog_operators.specs.declared.operators.UnaryOp.{UnaryOp}
 use Rattle.vlog_operators.specs.declared.operators.UnaryOp.TheVariants.{LogicalNot}

@@ -2,3 +2,4 @@ pub mod Machine
 pub mod Layout
 pub mod Expressions
 pub mod Statements
+pub mod InPlace

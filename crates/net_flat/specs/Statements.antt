@@ -1,7 +1,7 @@
 -- The code of statements, listed from its last instruction to its first. What is assigned stands in the first free slot, the indexes
 -- of the target's places in the slots behind it. Where assignments take effect at once, they change the numbers that are read; else
 -- they change the state.
-use Rattle.std.specs.Prelude.{ℕ, ◌+◌, ◌*◌, ◌/◌, ◌^◌, ◌==◌, ◌&&◌, ◌||◌, not, nat_le, Bool, true, false, if◌then◌else◌}
+use Rattle.std.specs.Prelude.{ℕ, ◌+◌, ◌/◌, ◌^◌, ◌==◌, ◌&&◌, not, nat_le, Bool, false, if◌then◌else◌}
 use Rattle.std.specs.Prelude.{List, [], ◌∷◌, ◌++◌, length}
 use Rattle.vlog_operators.specs.declared.operators.UnaryOp.{UnaryOp}
 use Rattle.vlog_operators.specs.declared.operators.UnaryOp.TheVariants.{Negate, Complement}

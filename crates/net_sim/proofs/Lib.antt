@@ -6,3 +6,4 @@ pub mod SimLaws
 pub mod NameLaws
 pub mod LoadLaws
 pub mod TableLaws
+pub mod SeenLaws

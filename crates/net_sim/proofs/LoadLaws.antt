@@ -1,8 +1,8 @@
 -- The initial state, loaded into slots.
 use Rattle.std.proofs.Common.{◌≡◌, ℕ, ◌+◌, ◌^◌, ◌<◌, ◌≤◌, List, ◌++◌, length, length-append}
-use Rattle.std.proofs.Common.{take, drop, replicate, slice_index, refl, ap, sym, subst, ◌∙◌, arith}
+use Rattle.std.proofs.Common.{take, drop, replicate, slice_index, ap, sym, subst, ◌∙◌, arith}
 use Rattle.std.proofs.Math.Seq.{take-append_seam, drop-append_seam}
-use Rattle.std.proofs.lemmas.List.{length-map, length-replicate, take-take, get_or-take, get_or-replicate}
+use Rattle.std.proofs.lemmas.List.{length-map, take-take, get_or-take, get_or-replicate}
 use Rattle.std.specs.List.{refill}
 use Rattle.std.proofs.lemmas.List.{take-append-le, take_all}
 use Rattle.std.proofs.lemmas.Nat.{pow_pos}
@@ -11,7 +11,7 @@ use Rattle.net_design.specs.declared.design.Design.{Design}
 use Rattle.net_design.specs.declared.values.Values.{Values}
 use Rattle.net_design.specs.Settled.{word_count, initial}
 use Rattle.net_design.specs.Lawful.{IsLawful, IsState}
-use Rattle.net_flat.specs.Layout.{view, span, shown, state, IsReady, Fits}
+use Rattle.net_flat.specs.Layout.{view, IsReady, Fits}
 use Rattle.net_flat.proofs.Views.{view_by}
 use Rattle.net_order.proofs.Known.{known_initial}
 use Rattle.net_sim.specs.Slots.{widths_of, span_of, shown_in, state_in}

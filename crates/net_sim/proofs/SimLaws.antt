@@ -1,14 +1,13 @@
 -- What a simulator keeps.
 use Rattle.std.proofs.Common.{Bool, true, false, IsTrue, if◌then◌else◌, refl}
-use Rattle.std.proofs.Common.{◌≡◌, ℕ, ◌+◌, ◌<◌, ◌≤◌, ◌++◌, List, [], All}
-use Rattle.std.proofs.Common.{length, take, drop, reverse, slice_index, ap, sym, subst, ◌∙◌, arith}
+use Rattle.std.proofs.Common.{◌≡◌, ℕ, List, [], All}
+use Rattle.std.proofs.Common.{length, reverse, ap, sym, subst, ◌∙◌}
 use Rattle.std.proofs.Math.Logic.{∥∥₁_elim}
 use Rattle.std.proofs.Props.{props}
 use Rattle.net_design.specs.declared.act.Timing.TheVariants.{Nonblocking}
 use Rattle.net_design.specs.declared.design.Design.{Design}
-use Rattle.net_design.specs.declared.design.Port.{Port}
 use Rattle.net_design.specs.declared.values.Values.{Values}
-use Rattle.net_design.specs.Settled.{IsSettled, word_count, clocked, initial, next}
+use Rattle.net_design.specs.Settled.{IsSettled, word_count, clocked, next}
 use Rattle.net_design.specs.Lawful.{IsLawful, IsState}
 use Rattle.net_design.specs.Pins.{FitPins}
 use Rattle.net_order.specs.Order.{IsOrder}
@@ -55,7 +54,7 @@ instr_prop (PutWordFrom first length i size j w a rest) = hlevel props
 instr_prop (SkipIfZero c n) = hlevel props
 instr_prop (Skip n) = hlevel props
 
-safe_prop : (code : List Instr) → IsProp (All (λ (i : Instr). IsInstr i) code)
+pub safe_prop : (code : List Instr) → IsProp (All (λ (i : Instr). IsInstr i) code)
 safe_prop code = hlevel (props, instr_prop)
 
 settles_prop : (d : Design) (order s pins u : List ℕ) → IsProp (Settles d order s pins u)
@@ -92,16 +91,6 @@ module _ (d : Design) (law : ∥ IsLawful d ∥₁) (order : List ℕ) (o : ∥ 
     (state : IsState d s) (fit : FitPins d pins) (shown : Values) (e : shown ≡ settled_by d order s pins) where
   pub shown_settled : IsSettled d s pins shown
   shown_settled = subst (IsSettled d s pins) (sym e) (known_settled d law order o s pins state fit)
-
--- what was run, as the code of the design
-pub same_settling : (d : Design) (order slots pins new : List ℕ) (code : List Instr) (ports : List Port) (span : ℕ)
-    → code ≡ reverse (settling_code d order) → ports ≡ d.ports → span ≡ span_of d
-    → new ≡ exec code 0 (entered ports pins (copied span slots))
-    → new ≡ exec (reverse (settling_code d order)) 0 (entered d.ports pins (copied (span_of d) slots))
-same_settling d order slots pins new code ports span c p k e =
-    e ∙ ap (λ (xs : List Instr). exec xs 0 (entered ports pins (copied span slots))) c
-    ∙ ap (λ (ps : List Port). exec (reverse (settling_code d order)) 0 (entered ps pins (copied span slots))) p
-    ∙ ap (λ j. exec (reverse (settling_code d order)) 0 (entered d.ports pins (copied j slots))) k
 
 -- slots after settling
 module _ (d : Design) (law : ∥ IsLawful d ∥₁) (order : List ℕ) (o : ∥ IsOrder d order ∥₁) (slots pins new : List ℕ)
@@ -147,18 +136,6 @@ module _ (d : Design) (law : ∥ IsLawful d ∥₁) (order slots pins : List ℕ
   again true new h e =
       subst (Settles d order slots pins) (sym e) (record { shows = h refl; moves = refl; long = refl; ready = ready })
   again false new h e = subst (Settles d order slots pins) (sym e) (known_settles d law order slots pins ready state fit below)
-
-pub same_again : (d : Design) (order slots pins new : List ℕ) (fresh : Bool) (code : List Instr) (ports : List Port)
-    (given : List ℕ) (span : ℕ)
-    → code ≡ reverse (settling_code d order) → ports ≡ d.ports → given ≡ pins → span ≡ span_of d
-    → new ≡ (if fresh then slots else exec code 0 (entered ports given (copied span slots)))
-    → new ≡ (if fresh then slots else exec (reverse (settling_code d order)) 0 (entered d.ports pins (copied (span_of d) slots)))
-same_again d order slots pins new fresh code ports given span c p g k e =
-    e ∙ ap (λ (xs : List Instr). if fresh then slots else exec xs 0 (entered ports given (copied span slots))) c
-    ∙ ap (λ (ps : List Port). if fresh then slots else exec (reverse (settling_code d order)) 0 (entered ps given (copied span slots))) p
-    ∙ ap (λ (xs : List ℕ). if fresh then slots
-    else exec (reverse (settling_code d order)) 0 (entered d.ports xs (copied span slots))) g
-    ∙ ap (λ j. if fresh then slots else exec (reverse (settling_code d order)) 0 (entered d.ports pins (copied j slots))) k
 
 -- slots after a clock
 module _ (d : Design) (law : ∥ IsLawful d ∥₁) (order : List ℕ) (o : ∥ IsOrder d order ∥₁) (slots pins mid new : List ℕ)

@@ -1,12 +1,10 @@
 -- What a simulator's code does in its slots.
 use Rattle.std.proofs.Common.{◌≡◌, ℕ, zero, suc, ◌+◌, ◌^◌, ◌<◌, ◌≤◌, IsTrue}
-use Rattle.std.proofs.Common.{if◌then◌else◌, List, [], ◌∷◌, ◌++◌, All, map, length, length-append}
+use Rattle.std.proofs.Common.{if◌then◌else◌, List, [], ◌∷◌, All, length, length-append}
 use Rattle.std.proofs.Common.{get_or, take, drop, reverse, slice_index, refl, ap, sym, subst, ◌∙◌, arith}
-use Rattle.std.specs.List.{AllByRecursion, flat_map}
+use Rattle.std.specs.List.{flat_map}
 use Rattle.std.proofs.Math.Seq.{drop-append_seam}
 use Rattle.std.proofs.lemmas.List.{length-take-le, take-append-le, take-take, length-map, length-drop}
-use Rattle.net_design.specs.declared.rhs.Span.{Span}
-use Rattle.net_design.specs.declared.rhs.Room.{Room}
 use Rattle.net_design.specs.declared.act.Act.{Act}
 use Rattle.net_design.specs.declared.act.Code.{Code}
 use Rattle.net_design.specs.declared.act.Timing.TheVariants.{Blocking, Nonblocking}
@@ -16,18 +14,18 @@ use Rattle.net_design.specs.declared.design.Driver.{Driver}
 use Rattle.net_design.specs.declared.design.Design.{Design}
 use Rattle.net_design.specs.declared.values.Update.{Update}
 use Rattle.net_design.specs.declared.values.Values.{Values}
-use Rattle.net_design.specs.Updates.{apply, block_updates, seen, run}
-use Rattle.net_design.specs.Settled.{net_width, word_count, clocked, next}
+use Rattle.net_design.specs.Updates.{block_updates}
+use Rattle.net_design.specs.Settled.{word_count, clocked}
 use Rattle.net_design.specs.Lawful.{IsLawful, IsState, IsInRange, is_span, is_room}
 use Rattle.net_design.specs.Pins.{FitPins}
 use Rattle.net_design.proofs.LawfulCode.{net_width_le, block_more, room_within, span_within}
 use Rattle.net_order.specs.Run.{enters, entered, acts_of, run_all, start}
 use Rattle.net_order.proofs.OneMap.{start_fits}
 use Rattle.net_flat.specs.declared.instr.Instr.{Instr}
-use Rattle.net_flat.specs.Machine.{AreBelow, AreSafe, IsInstr, exec}
-use Rattle.net_flat.specs.Layout.{view, span, base, shown, state, IsReady, Moves}
+use Rattle.net_flat.specs.Machine.{AreBelow, AreSafe, exec}
+use Rattle.net_flat.specs.Layout.{view, span, shown, state, IsReady, Moves}
 use Rattle.net_flat.specs.Expressions.{IsThere, HasRoom}
-use Rattle.net_flat.specs.Statements.{offset, block_code, IsFlatBlock}
+use Rattle.net_flat.specs.Statements.{block_code, IsFlatBlock}
 use Rattle.net_flat.proofs.Running.{RunsTo, runs_nothing, runs_then, first_below, last_below}
 use Rattle.net_flat.proofs.Views.{view_by}
 use Rattle.net_flat.proofs.Acts.{Does, does_nothing, does_then, block_right}
@@ -136,7 +134,7 @@ copied_back k s l =
     let long : length (take k (drop k s)) ≡ k = length-take-le k (drop k s) (let e = length-drop k s in omega (arith, e, l)) in
     ap (λ j. drop j (copied k s)) (sym long) ∙ drop-append_seam (take k (drop k s)) (drop k s)
 
-copied_long : (k : ℕ) (s : List ℕ) → k + k ≤ length s → length (copied k s) ≡ length s
+pub copied_long : (k : ℕ) (s : List ℕ) → k + k ≤ length s → length (copied k s) ≡ length s
 copied_long k s l =
     let e = length-drop k s in
     let long : length (take k (drop k s)) ≡ k = length-take-le k (drop k s) (omega (arith, e, l)) in
@@ -157,7 +155,7 @@ entered_drop (p ∷ ports) pins zero xs l = absurd (omega arith)
 entered_drop (p ∷ ports) pins (suc k) [] l = refl
 entered_drop (p ∷ ports) pins (suc k) (x ∷ xs) l = entered_drop ports (if enters p then drop 1 pins else pins) k xs (omega arith)
 
-entered_long : (ports : List Port) (pins xs : List ℕ) → length (entered ports pins xs) ≡ length xs
+pub entered_long : (ports : List Port) (pins xs : List ℕ) → length (entered ports pins xs) ≡ length xs
 entered_long [] pins xs = refl
 entered_long (p ∷ ports) pins [] = refl
 entered_long (p ∷ ports) pins (x ∷ xs) = ap suc (entered_long ports (if enters p then drop 1 pins else pins) xs)

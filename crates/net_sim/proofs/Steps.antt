@@ -1,5 +1,5 @@
 -- Drivers and clocked blocks, one after the other.
-use Rattle.std.proofs.Common.{◌≡◌, ℕ, zero, suc, ◌+◌, ◌-◌, ◌<◌, ◌≤◌, List, [], ◌∷◌, ◌++◌, length, get_or, drop}
+use Rattle.std.proofs.Common.{◌≡◌, ℕ, zero, suc, ◌-◌, ◌<◌, ◌≤◌, List, [], ◌∷◌, ◌++◌, length, get_or, drop}
 use Rattle.std.proofs.Common.{ap, sym, ◌∙◌, append_assoc, arith}
 use Rattle.net_design.specs.declared.act.Code.{Code}
 use Rattle.net_design.specs.declared.design.Driver.{Driver}

@@ -3,13 +3,14 @@
 ghost use Rattle.std.specs.Prelude.{◌≡◌, ◌+◌, ◌^◌, ◌<◌, ◌≤◌, ◌++◌, All, IfOk, OnOk, length, map, reverse};
 ghost use Rattle.net_flat.specs.Machine.{AreBelow};
 ghost use Rattle.net_flat.specs.Layout.{base};
+ghost use Rattle.net_flat.specs.InPlace.{IsInPlace};
 ghost use Rattle.net_flat.specs.Statements.{IsFlatBlock};
 ghost use Rattle.net_design.specs.Lawful.{IsLawful};
 ghost use Rattle.net_order.specs.Order.{IsOrder};
 ghost use Rattle.net_sim.specs.Slots.{span_of, drivers_code, blocks_code, settling_code, clocking_code};
 
 use net_design::{Code, Design, Driver, Net, count_words};
-use net_flat::{Instr, push_acts, slots_of};
+use net_flat::{InPlace, Instr, in_place, push_acts, slots_of};
 use std::alloc::Global;
 use vidi_bits::{Items, Memory};
 
@@ -109,6 +110,8 @@ pub struct Codes {
     pub settling: Items<Instr>,
     /// That of the clocked blocks.
     pub clocking: Items<Instr>,
+    /// How many nets the design has.
+    pub nets: u32,
     /// The numbers of nets and memory words.
     pub span: usize,
     /// How many slots the code takes.
@@ -135,10 +138,11 @@ fn turned(mut code: Items<Instr>) -> Items<Instr>
 }
 
 /// The code of a design, and the slots that it takes.
-fn codes_at(settling: Items<Instr>, clocking: Items<Instr>, span: usize) -> Codes
+fn codes_at(settling: Items<Instr>, clocking: Items<Instr>, nets: u32, span: usize) -> Codes
     requires { span < 2 ^ 32 }
     ensures settling { result.settling ≡ reverse settling }
     ensures clocking { result.clocking ≡ reverse clocking }
+    ensures nets { result.nets ≡ nets }
     ensures span { result.span ≡ span }
     ensures settling_below { AreBelow result.slots settling }
     ensures clocking_below { AreBelow result.slots clocking }
@@ -149,6 +153,7 @@ fn codes_at(settling: Items<Instr>, clocking: Items<Instr>, span: usize) -> Code
     Codes {
         settling: turned(settling),
         clocking: turned(clocking),
+        nets,
         span,
         slots,
     }
@@ -160,6 +165,7 @@ pub fn codes_of(alloc: Global, design: &Design, order: &[u128]) -> Result<Codes,
     requires order { IsOrder design.now order.now }
     ensures settling { IfOk result (λ codes. codes.settling ≡ reverse (settling_code design.now order.now)) }
     ensures clocking { IfOk result (λ codes. codes.clocking ≡ reverse (clocking_code design.now)) }
+    ensures nets { IfOk result (λ codes. codes.nets ≡ length design.now.nets) }
     ensures span { IfOk result (λ codes. codes.span ≡ span_of design.now) }
     ensures settling_below { IfOk result (λ codes. AreBelow codes.slots (settling_code design.now order.now)) }
     ensures clocking_below { IfOk result (λ codes. AreBelow codes.slots (clocking_code design.now)) }
@@ -170,5 +176,36 @@ pub fn codes_of(alloc: Global, design: &Design, order: &[u128]) -> Result<Codes,
     let settling = settling_of(alloc, design, order, widths.as_slice(), words)?;
     let clocking = clocking_of(alloc, design, widths.as_slice(), words)?;
     let span = widths.len() + words as usize;
-    Ok(codes_at(settling, clocking, span))
+    Ok(codes_at(settling, clocking, widths.len() as u32, span))
+}
+
+/// The flat code of a design, which reads nets that only copy another in its place.
+#[derive(Drop)]
+pub struct Placed {
+    /// The code, and the slot at which each net is read.
+    pub made: InPlace,
+    /// The numbers of nets and memory words.
+    pub span: usize,
+    /// How many slots the code takes.
+    pub slots: usize,
+}
+
+/// The flat code of a lawful design, whose drivers have an order, without those that only copy a net.
+pub fn placed_of(alloc: Global, design: &Design, order: &[u128]) -> Result<Placed, Memory>
+    requires lawful { IsLawful design.now }
+    requires order { IsOrder design.now order.now }
+    ensures made { IfOk result (λ p. IsInPlace (length design.now.nets) (reverse (settling_code design.now order.now))
+        (reverse (clocking_code design.now)) p.made.places p.made.settling p.made.clocking) }
+    ensures span { IfOk result (λ p. p.span ≡ span_of design.now) }
+    ensures settling_below { IfOk result (λ p. AreBelow p.slots (settling_code design.now order.now)) }
+    ensures clocking_below { IfOk result (λ p. AreBelow p.slots (clocking_code design.now)) }
+    ensures slots { IfOk result (λ p. span_of design.now + span_of design.now ≤ p.slots) }
+{
+    let codes = codes_of(alloc, design, order)?;
+    let made = in_place(alloc, codes.settling, codes.clocking, codes.nets)?;
+    Ok(Placed {
+        made,
+        span: codes.span,
+        slots: codes.slots,
+    })
 }

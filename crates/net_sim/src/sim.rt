@@ -9,14 +9,15 @@ ghost use Rattle.net_order.specs.Order.{IsOrder};
 ghost use Rattle.net_order.specs.Run.{settled_by};
 ghost use Rattle.net_flat.specs.Machine.{AreBelow};
 ghost use Rattle.net_flat.specs.Layout.{IsReady};
+ghost use Rattle.net_flat.specs.InPlace.{through, IsInPlace};
 ghost use Rattle.net_sim.specs.Places.{port_places};
 ghost use Rattle.net_sim.specs.Names.{IsCalled};
 ghost use Rattle.net_sim.specs.Table.{IsTable};
 ghost use Rattle.net_sim.specs.Slots.{widths_of, span_of, shown_in, state_in, settling_code, clocking_code};
 
-use crate::code::codes_of;
+use crate::code::placed_of;
 use crate::names::net_called;
-use crate::number::number_at;
+use crate::number::number_seen;
 use crate::run::copy_numbers;
 use crate::slots::{first_slots, load_slots, run_slots, settle_again, settle_slots};
 use crate::start::{clear, first_numbers, places_of, zero_pins};
@@ -32,10 +33,12 @@ use vidi_bits::{Items, Memory, Numbers};
 pub struct Sim {
     design: Design,
     order: Order,
-    /// The flat code of the drivers, in the order.
+    /// The flat code of the drivers, in the order, without those that only copy a net.
     settling: Items<Instr>,
     /// The flat code of the clocked blocks.
     clocking: Items<Instr>,
+    /// The slot at which each net is read.
+    places: Items<u32>,
     /// The numbers of nets and memory words.
     span: usize,
     slots: Numbers,
@@ -51,18 +54,17 @@ pub struct Sim {
     fresh: bool,
     ghost lawful: { ∥ IsLawful design ∥₁ },
     ghost ordered: { ∥ IsOrder design order.drivers ∥₁ },
-    ghost settling_is: { settling ≡ reverse (settling_code design order.drivers) },
-    ghost clocking_is: { clocking ≡ reverse (clocking_code design) },
-    ghost settling_below: { ∥ AreBelow (length slots) (settling_code design order.drivers) ∥₁ },
-    ghost clocking_below: { ∥ AreBelow (length slots) (clocking_code design) ∥₁ },
+    ghost placed: { ∥ IsInPlace (length design.nets) (reverse (settling_code design order.drivers)) (reverse (clocking_code design)) places settling clocking ∥₁ },
+    ghost settling_below: { ∥ AreBelow (length (through places slots)) (settling_code design order.drivers) ∥₁ },
+    ghost clocking_below: { ∥ AreBelow (length (through places slots)) (clocking_code design) ∥₁ },
     ghost span_is: { span ≡ span_of design },
-    ghost ready: { IsReady (widths_of design) (word_count design) slots },
+    ghost ready: { IsReady (widths_of design) (word_count design) (through places slots) },
     ghost first_is: { first ≡ (initial design).nets ++ (initial design).words },
-    ghost is_state: { IsState design (state_in design slots) },
+    ghost is_state: { IsState design (state_in design (through places slots)) },
     ghost are_pins: { FitPins design pins },
     ghost are_outputs: { outputs ≡ port_places Output 0 design.ports },
     ghost named: { IsTable design.instances design.nets (length design.nets) names.entries },
-    ghost settled: { IsTrue fresh → shown_in design slots ≡ settled_by design order.drivers (state_in design slots) pins },
+    ghost settled: { IsTrue fresh → shown_in design (through places slots) ≡ settled_by design order.drivers (state_in design (through places slots)) pins },
 }
 
 impl Sim {
@@ -71,10 +73,10 @@ impl Sim {
         requires lawful { IsLawful design }
         requires order { IsOrder design order.drivers }
         ensures design { IfOk result (λ sim. sim.design ≡ design) }
-        ensures state { IfOk result (λ sim. state_in sim.design sim.slots ≡ initial design) }
+        ensures state { IfOk result (λ sim. state_in sim.design (through sim.places sim.slots) ≡ initial design) }
         ensures inputs { IfOk result (λ sim. sim.pins ≡ no_pins design) }
     {
-        let codes = codes_of(alloc, &design, order.drivers.as_slice())?;
+        let codes = placed_of(alloc, &design, order.drivers.as_slice())?;
         let first = first_numbers(alloc, &design)?;
         let slots = first_slots(alloc, codes.slots, codes.span, first.as_slice())?;
         let pins = zero_pins(alloc, design.ports.as_slice())?;
@@ -83,8 +85,9 @@ impl Sim {
         Ok(Sim {
             design,
             order,
-            settling: codes.settling,
-            clocking: codes.clocking,
+            settling: codes.made.settling,
+            clocking: codes.made.clocking,
+            places: codes.made.places,
             span: codes.span,
             slots,
             first,
@@ -100,7 +103,7 @@ impl Sim {
     pub fn net(&self, name: &[u8]) -> Option<u128>
         ensures { MatchOption result ((m : ℕ) → IsCalled self.now.design.instances self.now.design.nets name.now m → ⊥)
             (λ x. (m : ℕ) × IsCalled self.now.design.instances self.now.design.nets name.now m
-            × (x ≡ slice_index (shown_in self.now.design self.now.slots).nets m)) }
+            × (x ≡ slice_index (shown_in self.now.design (through self.now.places self.now.slots)).nets m)) }
     {
         let design = &self.design;
         match net_called(
@@ -109,7 +112,7 @@ impl Sim {
             design.nets.as_slice(),
             name,
         ) {
-            Some(m) => Some(number_at(&self.slots, m)),
+            Some(m) => Some(number_seen(&self.places, &self.slots, m)),
             None => None,
         }
     }
@@ -120,11 +123,11 @@ impl Block for Sim {
 
     ghost design = { λ sim. sim.design };
 
-    ghost state = { λ sim. state_in sim.design sim.slots };
+    ghost state = { λ sim. state_in sim.design (through sim.places sim.slots) };
 
     ghost inputs = { λ sim. sim.pins };
 
-    ghost shown = { λ sim. shown_in sim.design sim.slots };
+    ghost shown = { λ sim. shown_in sim.design (through sim.places sim.slots) };
 
     ghost one_map = { λ sim. known_one sim.design sim.lawful sim.order.drivers sim.ordered };
 
@@ -142,8 +145,8 @@ impl Block for Sim {
     }
 
     fn pin(&self, port: usize) -> u128 {
-        let places = self.outputs.as_slice();
-        number_at(&self.slots, places[port])
+        let outputs = self.outputs.as_slice();
+        number_seen(&self.places, &self.slots, outputs[port])
     }
 
     fn clock(&mut self) {

@@ -1,4 +1,4 @@
-use Rattle.std.proofs.Common.{◌≡◌, ◌+◌, ◌≤◌, length, sym, ◌∙◌, arith}
+use Rattle.std.proofs.Common.{◌+◌, sym, ◌∙◌, arith}
 use Rattle.net_flat.proofs.Fetch.{past, stepped}
 use Rattle.net_flat.proofs.machine.run_code.Goals as goal
 

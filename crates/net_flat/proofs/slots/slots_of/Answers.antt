@@ -1,4 +1,4 @@
-use Rattle.std.proofs.Common.{◌≡◌, ◌+◌, ◌≤◌, arith}
+use Rattle.std.proofs.Common.{arith}
 use Rattle.net_flat.proofs.Steps.{below_here}
 use Rattle.net_flat.proofs.slots.slots_of.Goals as goal
 

@@ -1,6 +1,5 @@
-use Rattle.std.proofs.Common.{◌≡◌, ◌+◌, ◌-◌, ◌≤◌, arith}
-use Rattle.net_flat.specs.Statements.{index_slots, all_slots}
-use Rattle.net_flat.proofs.Steps.{slots_left, slots_next, slots_drop, index_step}
+use Rattle.std.proofs.Common.{◌≤◌, arith}
+use Rattle.net_flat.proofs.Steps.{slots_left, slots_next, index_step}
 use Rattle.net_flat.proofs.statements.push_indexes.Goals as goal
 
 pub overflow_sub-t : goal.overflow_sub-t

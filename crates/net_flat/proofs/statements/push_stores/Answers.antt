@@ -1,6 +1,4 @@
-use Rattle.std.proofs.Common.{◌≡◌, ◌+◌, ◌-◌, ◌≤◌, arith}
-use Rattle.net_design.specs.Updates.{target_width}
-use Rattle.net_flat.specs.Statements.{index_slots, all_slots}
+use Rattle.std.proofs.Common.{◌-◌, ◌≤◌, arith}
 use Rattle.net_flat.proofs.Steps.{slots_left, slots_next, width_next, width_drop, store_step}
 use Rattle.net_flat.proofs.statements.push_stores.Goals as goal
 

@@ -1,4 +1,4 @@
-use Rattle.std.proofs.Common.{ap, sym, subst, ◌∙◌}
+use Rattle.std.proofs.Common.{ap, subst, ◌∙◌}
 use Rattle.net_design.proofs.Rows.{sized_branch}
 use Rattle.net_flat.specs.Expressions.{IsThere, HasRoom}
 use Rattle.net_flat.specs.Statements.{act_code, IsFlatAct}

@@ -1,9 +1,7 @@
-use Rattle.std.proofs.Common.{◌≡◌, ℕ, ◌<◌, List, All, length, map, ap, sym, subst, ◌∙◌}
-use Rattle.std.proofs.lemmas.List.Elements.{All-from_recursion}
+use Rattle.std.proofs.Common.{ℕ, List, All, map, ap, sym, subst, ◌∙◌}
 use Rattle.net_design.specs.declared.act.Code.{Code}
 use Rattle.net_design.specs.declared.design.Driver.{Driver}
 use Rattle.net_design.specs.declared.design.Net.{Net}
-use Rattle.net_design.specs.Settled.{word_count}
 use Rattle.net_order.proofs.Known.{known_below}
 use Rattle.net_flat.specs.Statements.{IsFlatBlock}
 use Rattle.net_sim.specs.Slots.{widths_of}

@@ -1,4 +1,4 @@
-use Rattle.std.proofs.Common.{◌≡◌, ◌≤◌, length, take, drop}
+use Rattle.std.proofs.Common.{◌≡◌, length, take, drop}
 use Rattle.net_sim.proofs.slots.load_state.Given as goal
 
 abbrev pub invariant-loop-i : goal.invariant-loop-i

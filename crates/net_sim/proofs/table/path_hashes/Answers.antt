@@ -1,4 +1,4 @@
-use Rattle.std.proofs.Common.{◌≡◌, ℕ, ◌<◌, ◌≤◌, List, length, ap, sym, subst, ◌∙◌, arith}
+use Rattle.std.proofs.Common.{◌≡◌, ℕ, ◌<◌, List, length, ap, sym, subst, ◌∙◌, arith}
 use Rattle.net_design.proofs.LawfulCode.{slice_get-at}
 use Rattle.net_sim.specs.Table.{ArePaths}
 use Rattle.net_sim.proofs.TableLaws.{one_path, more_paths}

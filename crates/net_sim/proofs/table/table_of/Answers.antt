@@ -1,4 +1,4 @@
-use Rattle.std.proofs.Common.{◌≡◌, ℕ, ◌<◌, List, nat_eq, length, slice_index, ap, sym, subst, ◌∙◌}
+use Rattle.std.proofs.Common.{ℕ, ◌<◌, List, nat_eq, length, slice_index, ap, sym, subst, ◌∙◌}
 use Rattle.indexmap.specs.IndexMap.{insert_entry}
 use Rattle.net_design.specs.declared.design.Net.{Net}
 use Rattle.net_sim.specs.Table.{hash_from}

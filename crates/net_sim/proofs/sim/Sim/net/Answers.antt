@@ -1,4 +1,4 @@
-use Rattle.std.proofs.Common.{◌≡◌, ℕ, ◌<◌, List, All, length, slice_index, ap, sym, subst, ◌∙◌, arith}
+use Rattle.std.proofs.Common.{◌<◌, List, All, length, sym, subst, ◌∙◌, arith}
 use Rattle.std.proofs.lemmas.List.{length-map}
 use Rattle.std.proofs.lemmas.Option.{slice_get_within}
 use Rattle.net_design.specs.declared.design.Instance.{Instance}
@@ -6,6 +6,8 @@ use Rattle.net_design.specs.declared.design.Net.{Net}
 use Rattle.net_design.specs.Settled.{word_count}
 use Rattle.net_order.proofs.Known.{known_parents, known_instances}
 use Rattle.net_flat.proofs.Views.{net_at}
+use Rattle.net_flat.specs.InPlace.{through}
+use Rattle.net_sim.proofs.SeenLaws.{few_places, slots_long}
 use Rattle.net_sim.specs.Names.{IsCalled, AreAfterParents}
 use Rattle.net_sim.specs.Table.{IsTable}
 use Rattle.net_sim.specs.Slots.{widths_of}
@@ -30,6 +32,13 @@ net_called-requires-clause-table c =
     (sym c.as_slice.ensures)
     (subst (λ (ns : List Net). IsTable s.design.instances ns (length ns) s.names.entries) (sym c.as_slice-2.ensures) s.named)
 
+pub number_seen-requires : goal.number_seen-requires
+number_seen-requires c =
+    let s = c.args.self.now in
+    let few = few_places s.design s.order.drivers s.places s.settling s.clocking s.placed in
+    let many = slots_long s.design s.order.drivers s.places s.settling s.clocking s.placed s.slots s.ready.long in
+    omega (arith, few, many)
+
 pub returns-in-None : goal.returns-in-None
 returns-in-None c = λ m h.
     let d = c.args.self.now.design in
@@ -47,4 +56,4 @@ returns-in-Some c =
     (subst (λ (is : List Instance). IsCalled is c.as_slice-2.result.now name m) c.as_slice.ensures c.in-Some.ensures) in
     let l = slice_get_within d.nets m called.0 called.1 in
     let long = length-map d.nets (λ (n : Net). n.width) in
-    (m, called, c.number_at.ensures ∙ sym (net_at (length (widths_of d)) (word_count d) m s.slots (omega (arith, l, long))))
+    (m, called, c.number_seen.ensures ∙ sym (net_at (length (widths_of d)) (word_count d) m (through s.places s.slots) (omega (arith, l, long))))

@@ -1,4 +1,4 @@
-use Rattle.std.proofs.Common.{◌≡◌, ℕ, ◌+◌, ◌<◌, ◌≤◌, List, All, take, drop, reverse, replicate, length, ap, sym, subst, ◌∙◌, arith}
+use Rattle.std.proofs.Common.{◌≡◌, ℕ, ◌<◌, List, All, take, drop, reverse, replicate, length, ap, sym, subst, ◌∙◌, arith}
 use Rattle.net_design.specs.declared.design.Instance.{Instance}
 use Rattle.net_design.specs.declared.design.Net.{Net}
 use Rattle.net_design.specs.declared.design.Port.{Port}
@@ -9,6 +9,10 @@ use Rattle.net_sim.specs.Slots.{settling_code, clocking_code, span_of}
 use Rattle.net_order.proofs.Known.{known_parents, known_instances}
 use Rattle.net_sim.specs.Names.{AreAfterParents}
 use Rattle.net_sim.proofs.TableLaws.{table_named}
+use Rattle.std.proofs.lemmas.List.{length-replicate}
+use Rattle.net_flat.specs.InPlace.{through, IsInPlace}
+use Rattle.net_flat.proofs.InPlaceLaws.{seen_long}
+use Rattle.net_sim.proofs.SeenLaws.{few_places, seen_state, seen_front, seen_zeros}
 use Rattle.net_sim.proofs.PlaceLaws.{zeros_fit, inputs_counted}
 use Rattle.net_sim.proofs.LoadLaws.{loaded, loaded_state, first_ready, first_long}
 use Rattle.net_sim.proofs.sim.Sim.new.Goals as goal
@@ -19,19 +23,31 @@ invariant_of-result c =
     let law = c.requires.lawful in
     let order = c.args.order.drivers in
     let codes = c.in_ok-codes.codes in
-    let new = c.in_ok-slots.slots in
+    let made = codes.made in
+    let raw = c.in_ok-slots.slots in
+    let new = through made.places raw in
     let same = c.as_slice.ensures in
     let span = c.in_ok-codes.ensures.span in
+    let most = c.in_ok-codes.ensures.slots in
     let first = c.as_slice-2.ensures ∙ c.in_ok-first.ensures in
+    let placed : ∥ IsInPlace (length d.nets) (reverse (settling_code d order)) (reverse (clocking_code d)) made.places made.settling made.clocking ∥₁
+    = ∣ subst (λ (xs : List ℕ). IsInPlace (length d.nets) (reverse (settling_code d xs)) (reverse (clocking_code d)) made.places
+    made.settling made.clocking) same c.in_ok-codes.ensures.made ∣₁ in
+    let few = few_places d order made.places made.settling made.clocking placed in
+    let count = c.in_ok-slots.ensures.long in
+    let long : length new ≡ codes.slots = seen_long made.places raw (omega (arith, few, count, most)) ∙ count in
+    let zeros : length (replicate {A = ℕ} codes.slots 0) ≡ codes.slots = length-replicate {A = ℕ} codes.slots 0 in
     let state = loaded d ∣ law ∣₁ new c.as_slice-2.result.now first
-    (subst (λ k. take k (drop k new) ≡ c.as_slice-2.result.now) span c.in_ok-slots.ensures.state) in
-    let front = subst (λ k. take k new ≡ take k (replicate codes.slots 0)) span c.in_ok-slots.ensures.shown in
-    let long = c.in_ok-slots.ensures.long in
+    (seen_state d order made.places made.settling made.clocking placed c.as_slice-2.result.now raw (omega (arith, few, count, most))
+    (subst (λ k. take k (drop k raw) ≡ c.as_slice-2.result.now) span c.in_ok-slots.ensures.state)) in
+    let front = seen_front d order made.places made.settling made.clocking placed raw (replicate codes.slots 0)
+    (omega (arith, few, count, most)) (omega (arith, zeros, most))
+    (subst (λ k. take k raw ≡ take k (replicate codes.slots 0)) span c.in_ok-slots.ensures.shown)
+    ∙ ap (take (span_of d)) (seen_zeros d order made.places made.settling made.clocking placed codes.slots (omega (arith, most))) in
     record {
       lawful = ∣ law ∣₁;
       ordered = ∣ c.requires.order ∣₁;
-      settling_is = c.in_ok-codes.ensures.settling ∙ ap (λ (xs : List ℕ). reverse (settling_code d xs)) same;
-      clocking_is = c.in_ok-codes.ensures.clocking;
+      placed = placed;
       settling_below = ∣ subst (λ n. AreBelow n (settling_code d order)) (sym long)
           (subst (λ (xs : List ℕ). AreBelow codes.slots (settling_code d xs)) same c.in_ok-codes.ensures.settling_below) ∣₁;
       clocking_below = ∣ subst (λ n. AreBelow n (clocking_code d)) (sym long) c.in_ok-codes.ensures.clocking_below ∣₁;
@@ -66,5 +82,16 @@ first_slots-requires-clause-first c =
 pub returns-clause-state : goal.returns-clause-state
 returns-clause-state c =
     let d = c.args.design in
-    loaded d ∣ c.requires.lawful ∣₁ c.in_ok-slots.slots c.as_slice-2.result.now (c.as_slice-2.ensures ∙ c.in_ok-first.ensures)
-    (subst (λ k. take k (drop k c.in_ok-slots.slots) ≡ c.as_slice-2.result.now) c.in_ok-codes.ensures.span c.in_ok-slots.ensures.state)
+    let order = c.args.order.drivers in
+    let codes = c.in_ok-codes.codes in
+    let made = codes.made in
+    let raw = c.in_ok-slots.slots in
+    let most = c.in_ok-codes.ensures.slots in
+    let placed : ∥ IsInPlace (length d.nets) (reverse (settling_code d order)) (reverse (clocking_code d)) made.places made.settling made.clocking ∥₁
+    = ∣ subst (λ (xs : List ℕ). IsInPlace (length d.nets) (reverse (settling_code d xs)) (reverse (clocking_code d)) made.places
+    made.settling made.clocking) c.as_slice.ensures c.in_ok-codes.ensures.made ∣₁ in
+    let few = few_places d order made.places made.settling made.clocking placed in
+    let count = c.in_ok-slots.ensures.long in
+    loaded d ∣ c.requires.lawful ∣₁ (through made.places raw) c.as_slice-2.result.now (c.as_slice-2.ensures ∙ c.in_ok-first.ensures)
+    (seen_state d order made.places made.settling made.clocking placed c.as_slice-2.result.now raw (omega (arith, few, count, most))
+    (subst (λ k. take k (drop k raw) ≡ c.as_slice-2.result.now) c.in_ok-codes.ensures.span c.in_ok-slots.ensures.state))

@@ -1,0 +1,30 @@
+use Rattle.std.proofs.Common.{List, All, reverse, sym, subst}
+use Rattle.net_flat.specs.declared.instr.Instr.{Instr}
+use Rattle.net_flat.specs.Machine.{IsInstr}
+use Rattle.net_flat.specs.InPlace.{IsInPlace}
+use Rattle.net_sim.specs.Slots.{settling_code, clocking_code}
+use Rattle.net_sim.proofs.SimLaws.{known_settling, known_clocking}
+use Rattle.net_sim.proofs.code.placed_of.Goals as goal
+
+pub in_place-requires-clause-settling : goal.in_place-requires-clause-settling
+in_place-requires-clause-settling c =
+    subst (λ (xs : List Instr). All (λ (i : Instr). IsInstr i) xs) (sym c.in_ok-codes.ensures.settling)
+    (known_settling c.args.design.now ∣ c.requires.lawful ∣₁ c.args.order.now)
+
+pub in_place-requires-clause-clocking : goal.in_place-requires-clause-clocking
+in_place-requires-clause-clocking c =
+    subst (λ (xs : List Instr). All (λ (i : Instr). IsInstr i) xs) (sym c.in_ok-codes.ensures.clocking)
+    (known_clocking c.args.design.now ∣ c.requires.lawful ∣₁)
+
+pub returns-clause-made : goal.returns-clause-made
+returns-clause-made c =
+    let d = c.args.design.now in
+    let order = c.args.order.now in
+    let codes = c.in_ok-codes.codes in
+    let made = c.in_ok-made.made in
+    subst (λ n. IsInPlace n (reverse (settling_code d order)) (reverse (clocking_code d)) made.places made.settling made.clocking)
+    c.in_ok-codes.ensures.nets
+    (subst (λ (xs : List Instr). IsInPlace codes.nets (reverse (settling_code d order)) xs made.places made.settling made.clocking)
+    c.in_ok-codes.ensures.clocking
+    (subst (λ (xs : List Instr). IsInPlace codes.nets xs codes.clocking made.places made.settling made.clocking)
+    c.in_ok-codes.ensures.settling c.in_ok-made.ensures))
