@@ -4,10 +4,10 @@
     check_pages.py VIDI LANGUAGE FILES EXAMPLE
 
 - LANGUAGE: a text is a block fenced by ```verilog, and behind it stands: `vidi check FILE TOP` prints `LINE`, or `LINE` and `LINE`.
-- FILES: a file is a block fenced by ```map, ```script or ```plan, and behind it stands: `vidi run` prints `LINE`, or for a plan
-  `vidi record` prints `LINE`. It takes the place of the file of this name in a copy of the folder EXAMPLE.
+- FILES: a file is a block fenced by ```map, ```script or ```stalls, and behind it stands: `vidi run` prints `LINE`, or for a plan of
+  stalls `vidi record` prints `LINE`. It takes the place of the file of this name in a copy of the folder EXAMPLE.
 
-A refused file has the status 4, any other one 0.
+A refused file has the status 4, any other one 0. No trace is written.
 """
 import os
 import re
@@ -17,8 +17,8 @@ import sys
 import tempfile
 
 TEXT = re.compile(r"```verilog\n(.*?)```\n\n`vidi check FILE (\w+)` prints `([^`]*)`(?:\s+and\s+`([^`]*)`)?", re.S)
-FILE = re.compile(r"```(map|script|plan)\n(.*?)```\n\n`vidi (run|record)` prints `([^`]*)`", re.S)
-WORDS = {"run": ["run", "design.v", "map", "script"], "record": ["record", "design.v", "map", "script", "plan", "trace"]}
+FILE = re.compile(r"```(map|script|stalls)\n(.*?)```\n\n`vidi (run|record)` prints `([^`]*)`", re.S)
+WORDS = {"run": ["run", "design.v", "map", "script"], "record": ["record", "design.v", "map", "script", "stalls", "trace"]}
 
 
 def texts(page):
@@ -40,9 +40,10 @@ def fault(vidi, example, name, text, words, lines):
         with open(os.path.join(folder, name), "w") as file:
             file.write(text)
         run = subprocess.run([vidi, *words], cwd=folder, capture_output=True, text=True)
+        is_written = os.path.exists(os.path.join(folder, "trace"))
     said = "".join(line + "\n" for line in lines)
     status = 4 if said.startswith("vidi: refused") else 0
-    if (run.returncode, run.stdout) == (status, said):
+    if (run.returncode, run.stdout, is_written) == (status, said, False):
         return None
     return f"the page says {said!r}, vidi prints {run.stdout!r} with status {run.returncode}"
 
@@ -50,7 +51,7 @@ def fault(vidi, example, name, text, words, lines):
 def main():
     vidi, example = os.path.abspath(sys.argv[1]), sys.argv[4]
     wrong = 0
-    for path, cases_of, fences in ((sys.argv[2], texts, ["verilog"]), (sys.argv[3], files, ["map", "script", "plan"])):
+    for path, cases_of, fences in ((sys.argv[2], texts, ["verilog"]), (sys.argv[3], files, ["map", "script", "stalls"])):
         with open(path) as file:
             page = file.read()
         cases = list(cases_of(page))

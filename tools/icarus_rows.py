@@ -1,10 +1,12 @@
 #!/usr/bin/env python3
 """Prints what `vidi run` has to print, with Icarus Verilog in the place of Vidi: for the files run.out of examples/.
+With a plan of stalls it prints what `vidi record` and then `vidi dump` of its trace have to print: for the files record.out.
 
-    icarus_rows.py DESIGN MAP SCRIPT
+    icarus_rows.py DESIGN MAP SCRIPT [STALLS]
 
 Icarus (iverilog and vvp) runs the design: a bench reads the pins of each cycle, and prints the outputs before the clock rises.
-This file plays the script and makes the rows, with lists and counts of its own. It trusts its files: it refuses nothing.
+This file plays the script and the gates, and makes the rows and the packets, with lists and counts of its own. It trusts its files:
+it refuses nothing.
 
 Vidi has no x: registers and memories start at 0. So the copy that Icarus runs has SystemVerilog's `bit` for `reg`, which starts at 0,
 a loop that sets each memory to 0, and `always_comb` for `always @*`, which also runs once at the start.
@@ -49,7 +51,10 @@ class Map:
 
 
 def bench(plan):
-    """A module that reads the inputs of a cycle as hexadecimal numbers, prints the outputs, and lets the clock rise."""
+    """A module that prints the widths of the content ports; it then reads the inputs of each cycle as hexadecimal numbers, prints the
+    outputs, and lets the clock rise."""
+    ports = [port for *_, contents in plan.channels for port in contents]
+    widths = ", ".join([f"$bits(dut.{port})" for port in ports] + ["0"])
     reads = " ".join(["%h"] * len(plan.inputs))
     pins = ", ".join("pin_" + name for name in plan.inputs)
     joins = ", ".join([f".{plan.clock}(clock)"] + [f".{name}(pin_{name})" for name in plan.inputs])
@@ -60,12 +65,16 @@ def bench(plan):
   reg clock = 0;
 {regs}
   {plan.top} dut({joins});
-  always begin
-    if ($fscanf('h80000000, "{reads}", {pins}) != {len(plan.inputs)}) $finish(0);
-    #1 $display("{prints}", {shows});
+  initial begin
+    $display("{' '.join(['%0d'] * (len(ports) + 1))}", {widths});
     $fflush;
-    #1 clock = 1;
-    #1 clock = 0;
+    forever begin
+      if ($fscanf('h80000000, "{reads}", {pins}) != {len(plan.inputs)}) $finish(0);
+      #1 $display("{prints}", {shows});
+      $fflush;
+      #1 clock = 1;
+      #1 clock = 0;
+    end
   end
 endmodule
 """
@@ -91,6 +100,8 @@ class Design:
             sys.exit(built.stderr)
         self.run = subprocess.Popen(["vvp", "-n", program], stdin=subprocess.PIPE, stdout=subprocess.PIPE, text=True)
         self.plan = plan
+        widths = iter(map(int, self.run.stdout.readline().split()))
+        self.widths = {name: [next(widths) for _ in ports] for name, *_, ports in plan.channels}
 
     def cycle(self, pins):
         """The outputs under these pins, all others 0; then the clock rises."""
@@ -130,35 +141,80 @@ class Player:
             self.move()
 
 
+class Room:
+    """The store, and the channels whose gate is up. All is added up anew in each row."""
+
+    def __init__(self, widths, path):
+        (_, capacity), *drains = lines(path)
+        self.capacity, self.used, self.up = number(capacity), 0, set(widths)
+        self.drains = [amount for _, amount, count in drains for _ in range(number(count))] or ["all"]
+        self.head = 1 + 2 * -(-len(widths) // 8)
+        self.content = {name: sum(-(-width // 8) for width in ports) for name, ports in widths.items()}
+
+    def pass_row(self, cycle, starts, ends, flying):
+        """The row of this cycle has these starts and ends, and leaves these channels in flight."""
+        waiting = self.used + (self.head + sum(self.content[name] for name in starts) if starts or ends else 0)
+        amount = self.drains[cycle % len(self.drains)]
+        self.used = 0 if amount == "all" else waiting - min(number(amount), waiting)
+        whole = {name: 2 * self.head + size for name, size in self.content.items()}
+        up = {name for name in self.up if name not in ends}
+        claimed = self.used + sum(self.head if flying[name] else whole[name] for name in up)
+        for name in whole:
+            if name not in up and claimed + whole[name] <= self.capacity:
+                up.add(name)
+                claimed += whole[name]
+        self.up = up
+
+
+class AllUp:
+    """Without a store all gates stay up."""
+
+    def __init__(self, widths):
+        self.up = set(widths)
+
+    def pass_row(self, cycle, starts, ends, flying):
+        pass
+
+
 def first_unstable(channels, row, before):
     """The first outward channel that showed valid without a completion and now doesn't show the same."""
     for name, inward, *_ in channels:
-        if not inward and before and before[name][0] and not before[name][1] and row[name][::2] != before[name][::2]:
+        if not inward and before and before[name][0] and not completes(before[name]) and row[name][::2] != before[name][::2]:
             return name
     return None
 
 
-def row_of(plan, design, players, ends, base):
-    """For each channel: valid, ready, and the content where it is valid."""
+def completes(shown):
+    valid, ready, _, gate = shown
+    return bool(valid and ready and gate)
+
+
+def row_of(plan, design, players, ends, base, up):
+    """For each channel: valid at its source, ready at its sink, the content, and the gate."""
     offers = {name: players[name].offer(ends) for name, *_ in plan.channels}
     pins = dict(base)
     for name, inward, valid, ready, ports in plan.channels:
         offered, content = offers[name]
-        pins[valid if inward else ready] = int(offered)
-        if inward and offered:
+        pins[valid if inward else ready] = int(offered and name in up)
+        if inward and offered and name in up:
             pins.update(zip(ports, content))
     shown = design.cycle(pins)
     row = {}
     for name, inward, valid, ready, ports in plan.channels:
-        at = {**pins, **shown}
-        row[name] = (at[valid], at[ready], [at.get(port, 0) for port in ports])
+        offered, content = offers[name]
+        gate = name in up
+        if inward:
+            row[name] = (int(offered), shown[ready], content if offered else [0] * len(ports), gate)
+        else:
+            row[name] = (shown[valid], int(offered), [shown[port] for port in ports], gate)
     return row
 
 
-def play(plan, design, script):
+def play(plan, design, script, room):
+    """The rows as (starts with contents, ends), and the channel on which the next one is unstable."""
     cycles = number(script[0][1])
     players = {name: Player([words for own, *words in script[1:] if own == name]) for name, *_ in plan.channels}
-    ends, flying, before = {name: 0 for name in players}, {name: False for name in players}, None
+    ends, flying, before, rows = {name: 0 for name in players}, {name: False for name in players}, None, []
     base = dict(plan.ties)
     if plan.reset:
         port, active, count = plan.reset
@@ -166,28 +222,56 @@ def play(plan, design, script):
             design.cycle({**base, port: active})
         base[port] = 1 - active
     for cycle in range(cycles):
-        row = row_of(plan, design, players, ends, base)
+        row = row_of(plan, design, players, ends, base, room.up)
         unstable = first_unstable(plan.channels, row, before)
         if unstable:
-            return print("vidi: unstable", unstable, "cycle", cycle)
-        for name, (valid, _, content) in row.items():
-            if valid and not flying[name]:
-                print(cycle, "start", name, *content)
-        for name, (valid, ready, _) in row.items():
-            completed = bool(valid and ready)
-            if completed:
-                print(cycle, "end", name)
-            ends[name] += completed
-            flying[name] = bool(valid and not ready)
-            players[name].seen(completed)
+            return rows, unstable
+        started = {name: shown[2] for name, shown in row.items() if shown[0] and shown[3] and not flying[name]}
+        ended = [name for name, shown in row.items() if completes(shown)]
+        rows.append((started, ended))
+        for name, shown in row.items():
+            ends[name] += name in ended
+            flying[name] = bool(shown[0] and shown[3]) and name not in ended
+            players[name].seen(name in ended)
+        room.pass_row(cycle, started, ended, flying)
         before = row
-    print("cycles", cycles)
+    return rows, None
+
+
+def say_run(rows, unstable):
+    for cycle, (started, ended) in enumerate(rows):
+        for name, content in started.items():
+            print(cycle, "start", name, *content)
+        for name in ended:
+            print(cycle, "end", name)
+    print(f"vidi: unstable {unstable} cycle {len(rows)}" if unstable else f"cycles {len(rows)}")
+
+
+def say_recording(plan, widths, rows, unstable):
+    """The line of the recording, then the lines of its trace: each event with the completions of the packets before."""
+    packets = [row for row in rows if row[0] or row[1]]
+    print(f"vidi: unstable {unstable} cycle {len(rows)}" if unstable else f"recorded {len(rows)} cycles {len(packets)} packets")
+    for number_of, (name, inward, *_) in enumerate(plan.channels):
+        print("channel", number_of, "in" if inward else "out", name, *widths[name])
+    done = {name: 0 for name in widths}
+    for number_of, (started, ended) in enumerate(packets):
+        clock = list(done.values())
+        for name, content in started.items():
+            print(number_of, "start", name, *content, "clock", *clock)
+        for name in ended:
+            print(number_of, "end", name, "clock", *clock)
+            done[name] += 1
+    print("packets", len(packets))
 
 
 def main():
     path, plan, script = sys.argv[1], Map(sys.argv[2]), lines(sys.argv[3])
     with tempfile.TemporaryDirectory() as folder:
-        play(plan, Design(path, plan, folder), script)
+        design = Design(path, plan, folder)
+        if len(sys.argv) > 4:
+            say_recording(plan, design.widths, *play(plan, design, script, Room(design.widths, sys.argv[4])))
+        else:
+            say_run(*play(plan, design, script, AllUp(design.widths)))
 
 
 if __name__ == "__main__":

@@ -12,6 +12,15 @@ pub mod Reading
 pub mod Checking
 pub mod Comparing
 pub mod PortNets
+pub mod Names
+pub mod Unready
+pub mod Benches
+pub mod Planning
+pub mod Filed
+pub mod Recorded
 pub mod Running
+pub mod OneBench
 pub mod OneRun
+pub mod OneRecord
+pub mod Headline
 pub mod DriverLines

@@ -4,7 +4,7 @@ use Rattle.trace_code.specs.Decoding.{OnePlace, OneReading}
 use Rattle.trace_code.specs.Salvage.{OneSalvage}
 use Rattle.vidi_io.specs.Shelf.{Files}
 use Rattle.vidi.specs.declared.status.Status.{Status}
-use Rattle.vidi.specs.Command.{Command, Dump, Check, Run, Compare, Salvage, IsGiven}
+use Rattle.vidi.specs.Command.{Command, Dump, Check, Run, Record, Compare, Salvage, IsGiven}
 use Rattle.vidi.specs.Answer.{Does, IsNoRun, OneAnswer}
 use Rattle.vidi.proofs.OneDump.{one_dump}
 use Rattle.vidi.proofs.OneCheck.{TextLaws, Alike, one_check}
@@ -43,6 +43,30 @@ compare-salvage e =
     let first : 99 ≡ 115 = ap (λ (text : List ℕ). get_or text 0 0) e in
     omega (arith, first)
 
+-- how many words give the command
+abbrev words_of : Command → ℕ
+words_of (Dump t) = 2
+words_of (Check d p) = 3
+words_of (Run d m s) = 4
+words_of (Record d m s p t) = 6
+words_of (Compare d p) = 3
+words_of (Salvage d p) = 3
+
+given_words : (words : List (List ℕ)) (c : Command) → IsGiven words c → length words ≡ words_of c
+given_words words (Dump t) g = ap (λ (xs : List (List ℕ)). length xs) g
+given_words words (Check d p) g = ap (λ (xs : List (List ℕ)). length xs) g
+given_words words (Run d m s) g = ap (λ (xs : List (List ℕ)). length xs) g
+given_words words (Record d m s p t) (g, _, _, _, _) = ap (λ (xs : List (List ℕ)). length xs) g
+given_words words (Compare d p) g = ap (λ (xs : List (List ℕ)). length xs) g
+given_words words (Salvage d p) (g, _) = ap (λ (xs : List (List ℕ)). length xs) g
+
+as_many : (words : List (List ℕ)) (c d : Command) → IsGiven words c → IsGiven words d → words_of c ≡ words_of d
+as_many words c d g h = sym (given_words words c g) ∙ given_words words d h
+
+same_five : (a d m s p t e n r q u : List ℕ) → a ∷ d ∷ m ∷ s ∷ p ∷ t ∷ [] ≡ a ∷ e ∷ n ∷ r ∷ q ∷ u ∷ []
+    → (d ≡ e) × (m ≡ n) × (s ≡ r) × (p ≡ q) × (t ≡ u)
+same_five a d m s p t e n r q u same = (cc, cc, cc, cc, cc)
+
 one_command : (words : List (List ℕ)) (c d : Command) → IsGiven words c → IsGiven words d → c ≡ d
 one_command words (Dump t) (Dump u) g h = ap Dump (second (codes "dump") t u (sym g ∙ h))
 one_command words (Dump t) (Check e q) g h = absurd (two_three (codes "dump") t (codes "check") e q (sym g ∙ h))
@@ -79,6 +103,28 @@ one_command words (Salvage d p) (Compare e q) (g, _) h =
     absurd (compare-salvage (first_of_three (codes "compare") e q (codes "salvage") d p (sym h ∙ g)))
 one_command words (Salvage d p) (Salvage e q) (g, _) (h, _) =
     let s = same_pair (codes "salvage") d p e q (sym g ∙ h) in λ i. Salvage (s.0 i) (s.1 i)
+one_command words (Record d m s p t) (Dump w) g h =
+    let e : 6 ≡ 2 = as_many words (Record d m s p t) (Dump w) g h in absurd (omega (arith, e))
+one_command words (Dump w) (Record d m s p t) g h =
+    let e : 2 ≡ 6 = as_many words (Dump w) (Record d m s p t) g h in absurd (omega (arith, e))
+one_command words (Record d m s p t) (Check w x) g h =
+    let e : 6 ≡ 3 = as_many words (Record d m s p t) (Check w x) g h in absurd (omega (arith, e))
+one_command words (Check w x) (Record d m s p t) g h =
+    let e : 3 ≡ 6 = as_many words (Check w x) (Record d m s p t) g h in absurd (omega (arith, e))
+one_command words (Record d m s p t) (Run w x y) g h =
+    let e : 6 ≡ 4 = as_many words (Record d m s p t) (Run w x y) g h in absurd (omega (arith, e))
+one_command words (Run w x y) (Record d m s p t) g h =
+    let e : 4 ≡ 6 = as_many words (Run w x y) (Record d m s p t) g h in absurd (omega (arith, e))
+one_command words (Record d m s p t) (Compare w x) g h =
+    let e : 6 ≡ 3 = as_many words (Record d m s p t) (Compare w x) g h in absurd (omega (arith, e))
+one_command words (Compare w x) (Record d m s p t) g h =
+    let e : 3 ≡ 6 = as_many words (Compare w x) (Record d m s p t) g h in absurd (omega (arith, e))
+one_command words (Record d m s p t) (Salvage w x) g h =
+    let e : 6 ≡ 3 = as_many words (Record d m s p t) (Salvage w x) g h in absurd (omega (arith, e))
+one_command words (Salvage w x) (Record d m s p t) g h =
+    let e : 3 ≡ 6 = as_many words (Salvage w x) (Record d m s p t) g h in absurd (omega (arith, e))
+one_command words (Record d m s p t) (Record e n r q u) (g, _, _, _, _) (h, _, _, _, _) =
+    let k = same_five (codes "record") d m s p t e n r q u (sym g ∙ h) in λ i. Record (k.0 i) (k.1 i) (k.2 i) (k.3 i) (k.4 i)
 
 abbrev SameLeft : Status → Status → List ℕ → List ℕ → Option Files → Option Files → Type 0
 SameLeft a b x y left right = (a ≡ b) × (x ≡ y) × (left ≡ right)
@@ -100,16 +146,19 @@ pub record Laws : Type 0 where
   pub salvage : OneSalvage
   pub texts : TextLaws
 
-one_deed : Laws → (c : Command) → ((d m s : List ℕ) → c ≡ Run d m s → ⊥) → (files : Files) (a b : Status) (x y : List ℕ) (left right : Option Files)
+one_deed : Laws → (c : Command) → ((d m s : List ℕ) → c ≡ Run d m s → ⊥) → ((d m s p t : List ℕ) → c ≡ Record d m s p t → ⊥)
+    → (files : Files) (a b : Status) (x y : List ℕ) (left right : Option Files)
     → Does c (Some files) (λ _. ⊥) a x left → Does c (Some files) (λ _. ⊥) b y right → AlikeLeft a b x y left right
-one_deed laws (Dump trace) unasked files a b x y left right (d, l) (e, r) =
+one_deed laws (Dump trace) unasked unmade files a b x y left right (d, l) (e, r) =
     kept files a b x y left right (inr (one_dump laws.reading laws.place trace files a b x y d e)) l r
-one_deed laws (Run design map script) unasked files a b x y left right d e = absurd (unasked design map script refl)
-one_deed laws (Check design top) unasked files a b x y left right (d, l) (e, r) =
+one_deed laws (Run design map script) unasked unmade files a b x y left right d e = absurd (unasked design map script refl)
+one_deed laws (Record design map script stalls trace) unasked unmade files a b x y left right d e =
+    absurd (unmade design map script stalls trace refl)
+one_deed laws (Check design top) unasked unmade files a b x y left right (d, l) (e, r) =
     kept files a b x y left right (one_check laws.texts design top files a b x y d e) l r
-one_deed laws (Compare trace other) unasked files a b x y left right (d, l) (e, r) =
+one_deed laws (Compare trace other) unasked unmade files a b x y left right (d, l) (e, r) =
     kept files a b x y left right (inr (one_compare laws.reading laws.place trace other files a b x y d e)) l r
-one_deed laws (Salvage trace out) unasked files a b x y left right d e =
+one_deed laws (Salvage trace out) unasked unmade files a b x y left right d e =
     all-same a b x y left right (one_salvaged laws.salvage trace out files a b x y left right d e)
 
 pub one_answer_lem : Laws → OneAnswer
@@ -121,6 +170,7 @@ one_answer_lem laws words unasked files a b x y left right (inl (none, s, l)) (i
 one_answer_lem laws words unasked files a b x y left right (inr (inr (c, given, d))) (inl (none, s, r)) = absurd (none c given)
 one_answer_lem laws words unasked files a b x y left right (inr (inr (c, given, d))) (inr (inr (k, given', e))) =
     let same = one_command words k c given' given in
-    let never = λ (u m s : List ℕ) (is : c ≡ Run u m s). unasked u m s (subst (IsGiven words) is given) in
-    inr (inr (one_deed laws c never files a b x y left right d
+    let never = λ (u m s : List ℕ) (is : c ≡ Run u m s). unasked.0 u m s (subst (IsGiven words) is given) in
+    let unmade = λ (u m s p t : List ℕ) (is : c ≡ Record u m s p t). unasked.1 u m s p t (subst (IsGiven words) is given) in
+    inr (inr (one_deed laws c never unmade files a b x y left right d
     (subst (λ (m : Command). Does m (Some files) (λ _. ⊥) b y right) same e)))

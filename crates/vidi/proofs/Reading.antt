@@ -17,7 +17,7 @@ told : (files : Option Files) (name bytes : List ℕ) (P : List ℕ → Type 0) 
 told None name bytes P has p = tt
 told (Some m) name bytes P has p = subst (λ (o : Option (List ℕ)). IsSomeAnd o P) (sym has) p
 
-is-read : (limit : ℕ) (files : Option Files) (name bytes : List ℕ) → Has files name bytes → length bytes ≤ limit
+pub is-read : (limit : ℕ) (files : Option Files) (name bytes : List ℕ) → Has files name bytes → length bytes ≤ limit
     → IsRead limit name files bytes
 is-read limit files name bytes has small = (told files name bytes (λ file. file ≡ bytes) has refl, small)
 

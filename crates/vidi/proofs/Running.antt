@@ -40,7 +40,7 @@ all-read design map script files second third F d m s first middle last r has sm
 pub rose-since : (first middle now : ℕ) → first ≤ middle → Rose middle now → Rose first now
 rose-since first middle now later rose = omega (arith, later, rose)
 
-unread-of : (word : Word) (name : List ℕ) (files : Option Files) (F : List ℕ → Type 0) (error : ReadError) (before now : ℕ) (a : Status)
+pub unread-of : (word : Word) (name : List ℕ) (files : Option Files) (F : List ℕ → Type 0) (error : ReadError) (before now : ℕ) (a : Status)
     (x : List ℕ) → ReadCause error files name text_limit before now → (Rose before now → F name) → IsUnfetched word error a x
     → IsUnread text_limit word name files F a x
 unread-of word name files F errors.Missing before now a x absent rose said = inl (inl absent, said)

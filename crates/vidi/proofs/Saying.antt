@@ -4,7 +4,7 @@ use Rattle.std.specs.Io.KnownBytes.{append_known}
 use Rattle.vidi_io.specs.Shelf.{Files}
 use Rattle.vidi.specs.declared.status.Status.{Status}
 use Rattle.vidi.specs.declared.status.Status.TheVariants.{Done, Usage, ReadFault, WriteFault, Refused, Unstable, Diverged, Memory}
-use Rattle.vidi.specs.Command.{Command, Dump, Check, Run, Compare, Salvage}
+use Rattle.vidi.specs.Command.{Command, Dump, Check, Run, Record, Compare, Salvage}
 use Rattle.vidi.specs.Answer.{Does, Earns, Answers, Says}
 use Rattle.vidi.specs.Design.{text_limit, CheckedText}
 use Rattle.vidi.specs.Traces.{trace_limit, DumpedFile}
@@ -13,6 +13,7 @@ use Rattle.vidi.proofs.Endings.{quiet-reading}
 use Rattle.vidi.proofs.OneDump.{mute-dumps}
 use Rattle.vidi.proofs.OneCheck.{mute-checks}
 use Rattle.vidi.proofs.OneRun.{mute-runs, quiet-runs}
+use Rattle.vidi.proofs.OneRecord.{mute-records, quiet-records}
 use Rattle.vidi.proofs.OneCompare.{mute-compares, quiet-compares}
 use Rattle.vidi.proofs.OneSalvaged.{mute-saves, quiet-saves}
 
@@ -21,6 +22,7 @@ does-writing : (c : Command) (files : Option Files) (F : List ℕ → Type 0) (t
 does-writing (Dump trace) files F text left (d, same) = mute-dumps trace files F text d
 does-writing (Check design top) files F text left (d, same) = mute-checks design top files F text d
 does-writing (Run design map script) files F text left (d, same) = mute-runs design map script files F text d
+does-writing (Record design map script stalls trace) files F text left d = mute-records design map script stalls trace files F text left d
 does-writing (Compare trace other) files F text left (d, same) = mute-compares trace other files F text d
 does-writing (Salvage trace out) files F text left d = mute-saves trace out files F text left d
 
@@ -62,6 +64,8 @@ quiet_does (Check design top) files F status text left quiet (d, same) =
     (quiet-reading text_limit words.Design design files F (CheckedText top) status text (quiet design) d, same)
 quiet_does (Run design map script) files F status text left quiet (d, same) =
     (quiet-runs design map script files F status text quiet d, same)
+quiet_does (Record design map script stalls trace) files F status text left quiet d =
+    quiet-records design map script stalls trace files F status text left quiet d
 quiet_does (Compare trace other) files F status text left quiet (d, same) = (quiet-compares trace other files F status text quiet d, same)
 quiet_does (Salvage trace out) files F status text left quiet d = quiet-saves trace out files F status text left quiet d
 

@@ -15,3 +15,15 @@ three (x ∷ y ∷ []) a b c low high p q r = absurd (omega arith)
 three (x ∷ y ∷ z ∷ []) a b c low high p q r = ap (λ w. w ∷ y ∷ z ∷ []) (sym p) ∙ ap (λ w. a ∷ w ∷ z ∷ []) (sym q)
     ∙ ap (λ w. a ∷ b ∷ w ∷ []) (sym r)
 three (x ∷ y ∷ z ∷ w ∷ xs) a b c low high p q r = absurd (omega arith)
+
+pub six : {A : Type 0} (xs : List A) (a b c d e f : A) → 6 ≤ length xs → length xs < 7 → a ≡ get_or xs 0 a → b ≡ get_or xs 1 b
+    → c ≡ get_or xs 2 c → d ≡ get_or xs 3 d → e ≡ get_or xs 4 e → f ≡ get_or xs 5 f → xs ≡ a ∷ b ∷ c ∷ d ∷ e ∷ f ∷ []
+six [] a b c d e f low high p q r s t u = absurd (omega arith)
+six (x ∷ []) a b c d e f low high p q r s t u = absurd (omega arith)
+six (x ∷ y ∷ []) a b c d e f low high p q r s t u = absurd (omega arith)
+six (x ∷ y ∷ z ∷ []) a b c d e f low high p q r s t u = absurd (omega arith)
+six (x ∷ y ∷ z ∷ w ∷ []) a b c d e f low high p q r s t u = absurd (omega arith)
+six (x ∷ y ∷ z ∷ w ∷ v ∷ []) a b c d e f low high p q r s t u = absurd (omega arith)
+six (x ∷ y ∷ z ∷ w ∷ v ∷ k ∷ []) a b c d e f low high p q r s t u =
+    λ i. sym p i ∷ sym q i ∷ sym r i ∷ sym s i ∷ sym t i ∷ sym u i ∷ []
+six (x ∷ y ∷ z ∷ w ∷ v ∷ k ∷ m ∷ xs) a b c d e f low high p q r s t u = absurd (omega arith)

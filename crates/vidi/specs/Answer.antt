@@ -7,11 +7,12 @@ use Rattle.vidi.specs.declared.status.Status.{Status}
 use Rattle.report_text.specs.declared.reason.Word.TheVariants as words
 use Rattle.report_text.specs.declared.reason.Reason.TheVariants.{Loop}
 use Rattle.vidi.specs.declared.status.Status.TheVariants.{Usage, WriteFault, Refused, Memory}
-use Rattle.vidi.specs.Command.{Command, Dump, Check, Run, Compare, Salvage, IsGiven}
+use Rattle.vidi.specs.Command.{Command, Dump, Check, Run, Record, Compare, Salvage, IsGiven}
 use Rattle.vidi.specs.Steps.{IsSaid}
 use Rattle.vidi.specs.Traces.{Dumps, Compares, Saves, StopsSaving}
 use Rattle.vidi.specs.Design.{Checks}
 use Rattle.vidi.specs.Runs.{Runs}
+use Rattle.vidi.specs.Records.{Records, StopsRecording}
 use Rattle.vidi.specs.Said.{usage_line, memory_line}
 
 -- what a command owes: its answer, its text, and the files that are left
@@ -19,6 +20,8 @@ abbrev pub Does : Command → Option Files → (List ℕ → Type 0) → Status 
 Does (Dump trace) files ReadFailed status text left = Dumps trace files ReadFailed status text × (left ≡ files)
 Does (Check design top) files ReadFailed status text left = Checks design top files ReadFailed status text × (left ≡ files)
 Does (Run design map script) files ReadFailed status text left = Runs design map script files ReadFailed status text × (left ≡ files)
+Does (Record design map script stalls trace) files ReadFailed status text left =
+    Records design map script stalls trace files ReadFailed status text left
 Does (Compare trace other) files ReadFailed status text left = Compares trace other files ReadFailed status text × (left ≡ files)
 Does (Salvage trace out) files ReadFailed status text left = Saves trace out files ReadFailed status text left
 
@@ -32,6 +35,7 @@ Earns words files ReadFailed status text left = (((c : Command) → ¬ IsGiven w
 -- a write of a command's file failed, which leaves these files
 abbrev pub StopsIn : Command → Option Files → Option Files → Type 0
 StopsIn (Salvage trace out) files left = StopsSaving trace out files left
+StopsIn (Record design map script stalls trace) files left = StopsRecording design map script stalls trace files left
 StopsIn _ files left = ⊥
 
 abbrev pub Stops : List (List ℕ) → Option Files → Option Files → Type 0
@@ -58,9 +62,10 @@ abbrev pub NamesLoop : Status → Type 0
 NamesLoop (Refused words.Design (Loop lines)) = Unit {0}
 NamesLoop status = ⊥
 
--- the words don't ask for a run
+-- the words don't ask for a run, recorded or not
 abbrev pub IsNoRun : List (List ℕ) → Type 0
-IsNoRun words = (design map script : List ℕ) → IsGiven words (Run design map script) → ⊥
+IsNoRun words = ((design map script : List ℕ) → IsGiven words (Run design map script) → ⊥)
+    × ((design map script stalls trace : List ℕ) → IsGiven words (Record design map script stalls trace) → ⊥)
 
 -- Of what a shelf tells, with no failed read, two answers that are earned are one, and leave the same, unless memory was wanting or both
 -- name a loop.

@@ -7,6 +7,7 @@ pub data Command : Type 0 where
   Dump : (trace : List ℕ) → Command
   Check : (design top : List ℕ) → Command
   Run : (design map script : List ℕ) → Command
+  Record : (design map script stalls trace : List ℕ) → Command
   Compare : (trace other : List ℕ) → Command
   Salvage : (trace out : List ℕ) → Command
 
@@ -15,6 +16,9 @@ abbrev pub IsGiven : List (List ℕ) → Command → Type 0
 IsGiven words (Dump trace) = words ≡ codes "dump" ∷ trace ∷ []
 IsGiven words (Check design top) = words ≡ codes "check" ∷ design ∷ top ∷ []
 IsGiven words (Run design map script) = words ≡ codes "run" ∷ design ∷ map ∷ script ∷ []
+IsGiven words (Record design map script stalls trace) =
+    (words ≡ codes "record" ∷ design ∷ map ∷ script ∷ stalls ∷ trace ∷ [])
+    × (design ≢ trace) × (map ≢ trace) × (script ≢ trace) × (stalls ≢ trace)
 IsGiven words (Compare trace other) = words ≡ codes "compare" ∷ trace ∷ other ∷ []
 IsGiven words (Salvage trace out) = (words ≡ codes "salvage" ∷ trace ∷ out ∷ []) × (trace ≢ out)
 
@@ -23,5 +27,6 @@ abbrev pub plain : declared.Command → Command
 plain (variants.Dump trace) = Dump trace.now
 plain (variants.Check design top) = Check design.now top.now
 plain (variants.Run design map script) = Run design.now map.now script.now
+plain (variants.Record design map script stalls trace) = Record design.now map.now script.now stalls.now trace.now
 plain (variants.Compare trace other) = Compare trace.now other.now
 plain (variants.Salvage trace out) = Salvage trace.now out.now

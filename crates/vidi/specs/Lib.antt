@@ -1,9 +1,13 @@
 pub mod Answer
 pub mod AnswerText
+pub mod Benches
 pub mod Command
 pub mod Design
+pub mod Recorded
+pub mod Records
 pub mod Runs
 pub mod Exit
+pub mod Headline
 pub mod Reading
 pub mod Said
 pub mod Steps

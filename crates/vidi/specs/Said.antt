@@ -46,6 +46,11 @@ salvaged_line n = codes "salvaged " ++ (decimal n ++ (codes " packets" ++ newlin
 abbrev pub cycles_line : ℕ → List ℕ
 cycles_line n = codes "cycles " ++ (decimal n ++ newline)
 
+-- `recorded N cycles N packets`
+abbrev pub recorded_line : ℕ → ℕ → List ℕ
+recorded_line cycles packets =
+    codes "recorded " ++ (decimal cycles ++ (codes " cycles " ++ (decimal packets ++ (codes " packets" ++ newline))))
+
 -- the name of channel c
 abbrev pub name_in : Option Channel → List ℕ
 name_in None = []

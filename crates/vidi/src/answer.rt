@@ -9,7 +9,7 @@ ghost use Rattle.vidi.specs.Said as said;
 ghost use Rattle.vidi.specs.Unfetched.{IsUnfetched};
 
 use crate::status::{Reason, Status, Word};
-use report_text::{RunLines, TraceLines, read_fault_line, reason_line};
+use report_text::{Pad, RunLines, TraceLines, read_fault_line, reason_line};
 use std::alloc::Global;
 use vidi_bits::{Bytes, Memory};
 use vidi_io::{Failed, ReadError, Sink};
@@ -23,6 +23,8 @@ pub enum AnswerText {
     Trace(TraceLines),
     /// The lines of a run.
     Run(RunLines),
+    /// A line in memory that was taken before.
+    Line(Pad),
 }
 
 /// A status, and the text that is said with it.
@@ -45,6 +47,7 @@ impl AnswerText {
             AnswerText::Bytes(bytes) => out.push(bytes.as_slice()),
             AnswerText::Trace(lines) => lines.print(out),
             AnswerText::Run(lines) => lines.print(out),
+            AnswerText::Line(line) => out.push(line.as_slice()),
         }
     }
 }

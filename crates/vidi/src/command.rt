@@ -22,6 +22,14 @@ pub enum Command<'a> {
         map: &'a str,
         script: &'a str,
     },
+    /// The design is played as the map and the script say, behind a store that drains as the stalls say, and `trace` gets its trace.
+    Record {
+        design: &'a str,
+        map: &'a str,
+        script: &'a str,
+        stalls: &'a str,
+        trace: &'a str,
+    },
     /// `other` is compared with `trace`.
     Compare {
         trace: &'a str,
@@ -50,6 +58,14 @@ impl<'a> Command<'a> {
                 third.as_str(),
             ),
             [name, first, second] => of_two(name.as_str(), first.as_str(), second.as_str()),
+            [name, design, map, script, stalls, trace] => of_five(
+                name.as_str(),
+                design.as_str(),
+                map.as_str(),
+                script.as_str(),
+                stalls.as_str(),
+                trace.as_str(),
+            ),
             _ => None,
         }
     }
@@ -68,6 +84,34 @@ fn of_three<'a>(name: &str, design: &'a str, map: &'a str, script: &'a str) -> O
         });
     }
     None
+}
+
+/// The command of this name with five parts. The file that is written isn't one that is read.
+fn of_five<'a>(
+    name: &str,
+    design: &'a str,
+    map: &'a str,
+    script: &'a str,
+    stalls: &'a str,
+    trace: &'a str,
+) -> Option<Command<'a>>
+    ensures { MatchOption result
+        ((c : spec.Command) → ¬ spec.IsGiven (name.now ∷ design.now ∷ map.now ∷ script.now ∷ stalls.now ∷ trace.now ∷ []) c)
+        (λ c. spec.IsGiven (name.now ∷ design.now ∷ map.now ∷ script.now ∷ stalls.now ∷ trace.now ∷ []) (spec.plain c)) }
+{
+    if name != "record" {
+        return None;
+    }
+    if design == trace || map == trace || script == trace || stalls == trace {
+        return None;
+    }
+    Some(Command::Record {
+        design,
+        map,
+        script,
+        stalls,
+        trace,
+    })
 }
 
 /// The command of this name with two parts. A file that is written isn't one that is read.

@@ -1,6 +1,7 @@
 //! Laws of the definitions.
 
 ghost use Rattle.vidi.specs.Answer.{OneAnswer};
+ghost use Rattle.vidi.specs.Headline.{DrainedRecordingIsTheRun, RecordedRunIsKept};
 
 use trace_code::{one_place, one_reading, one_salvage};
 
@@ -21,3 +22,14 @@ pub fn one_answer()
     vlog_parse::one_depth();
     vlog_design::loops_alike()
 }
+
+/// Whatever the accepted design, script and plan of stalls, the trace of the run that `record` writes holds each channel's started and
+/// completed transactions, with contents, once and in order.
+pub fn recorded_run_is_kept()
+    ensures { RecordedRunIsKept }
+{}
+
+/// Under a plan each of whose lines drains everything, `record` plays the run that `run` prints.
+pub fn drained_recording_is_the_run()
+    ensures { DrainedRecordingIsTheRun }
+{}

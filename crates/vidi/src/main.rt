@@ -3,11 +3,13 @@
 #![tactic(auto)]
 
 mod answer;
+mod bench;
 mod check;
 mod command;
 mod compare;
 mod dump;
 mod laws;
+mod recording;
 mod run;
 mod salvage;
 mod status;
@@ -26,6 +28,8 @@ use vidi_io::{HostShelf, HostSink, Text, Words};
 mod check_tests;
 #[cfg(test)]
 mod file_tests;
+#[cfg(test)]
+mod record_tests;
 #[cfg(test)]
 mod run_tests;
 #[cfg(test)]

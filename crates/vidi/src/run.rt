@@ -1,49 +1,38 @@
 //! The command `run`.
 
-ghost use Rattle.std.specs.Prelude.{◌≡◌, ◌≤◌, ◌++◌, IfOk, Ok, Err, length};
+ghost use Rattle.std.specs.Prelude.{◌≡◌, ◌≤◌, IfOk, length};
 ghost use Rattle.vidi_io.specs.Cause.{Rose};
 ghost use Rattle.vidi_io.specs.Shelf.{Later};
-ghost use Rattle.vlog_tree.specs.Plain.{plain};
 ghost use Rattle.net_design.specs.Lawful.{IsLawful};
 ghost use Rattle.net_order.specs.Order.{IsOrder};
-ghost use Rattle.chan_map.specs.Text.{ReadsMap};
-ghost use Rattle.chan_map.specs.Bound.{BindsMap};
-ghost use Rattle.script_text.specs.Reasons.{read_lines};
+ghost use Rattle.run_model.specs.MapOf.{IsMapOf};
 ghost use Rattle.script_text.specs.Fits.{FitsChannels};
-ghost use Rattle.script_text.specs.Reads.{ReadsScript};
 ghost use Rattle.script_offer.specs.ScriptOffer.{script_offer};
 ghost use Rattle.bench_run.specs.Plain.{IsPlainRun};
 ghost use Rattle.report_text.specs.Rows.{run_text};
 ghost use Rattle.vidi.specs.AnswerText.{text_of};
-ghost use Rattle.vidi.specs.Design.{text_limit, IsAccepted};
-ghost use Rattle.vidi.specs.Runs as spec;
-ghost use Rattle.vidi.specs.Runs.{Runs, RunMapFile, RunScriptFile, RunTexts, RunTokens, RunMapped, RunFile, RunDesign, RunOrdered};
-ghost use Rattle.vidi.specs.Runs.{RunScript, IsPlayed, IsEnded, IsMapRefusal, IsScriptRefusal};
+ghost use Rattle.vidi.specs.Benches.{IsPlayable};
+ghost use Rattle.vidi.specs.Design.{text_limit};
+ghost use Rattle.vidi.specs.Runs.{Runs, RunTexts, IsPlayed, IsEnded};
 ghost use Rattle.vidi.specs.Said as said;
 ghost use Rattle.vidi.specs.Steps.{IsSaid};
 
-use crate::answer::{Answer, AnswerText, refused, unread};
-use crate::check::{TEXT_LIMIT, looped, refused_as};
-use crate::status::{Reason, Status, Word};
+use crate::answer::{Answer, AnswerText, unread};
+use crate::bench::{Bench, Unready, bench_of};
+use crate::check::TEXT_LIMIT;
+use crate::status::{Status, Word};
 use bench_run::{PlainRun, Spot, run_plain};
-use chan_map::{
-    Map, MapError, MapLimit as Limit, MapText, bind_map, lawful_ports_have_widths, read_map,
-};
-use env_script::{ScriptEnv, ScriptError, read_script};
+use chan_map::Map;
+use env_script::ScriptEnv;
 use net_design::Design;
-use net_order::{Order, OrderError, order};
+use net_order::Order;
 use net_sim::Sim;
-use report_text::{MapLimit, RunLines, put, put_number};
-use run_model::bound_is_map_of;
+use report_text::{RunLines, put, put_number};
 use script_text::Script;
 use std::alloc::Global;
 use trace_model::{Channels, Rows};
 use vidi_bits::{Bytes, Memory};
 use vidi_io::{Shelf, read_whole};
-use vlog_design::elaborate;
-use vlog_lex::{LexError, Tokens, lex};
-use vlog_parse::{ParseError, parse};
-use vlog_tree::File;
 
 /// What `run` is answered.
 pub fn run<S: Shelf>(
@@ -84,119 +73,25 @@ fn run_texts(alloc: Global, design: &[u8], map: &[u8], script: &[u8]) -> Result<
     requires script { length script.now ≤ text_limit }
     ensures { IfOk result (λ a. RunTexts design.now map.now script.now a.status (text_of a.text)) }
 {
-    match lex(alloc, design) {
-        Ok(tokens) => run_tokens(alloc, &tokens, map, script),
-        Err(LexError::Word { line }) => refused(alloc, Word::Design, Reason::Word { line }),
-        Err(LexError::Memory) => Err(Memory),
-    }
-}
-
-fn run_tokens(alloc: Global, tokens: &Tokens, map: &[u8], script: &[u8]) -> Result<Answer, Memory>
-    requires map { length map.now ≤ text_limit }
-    requires script { length script.now ≤ text_limit }
-    ensures { IfOk result (λ a. RunTokens map.now script.now tokens.now a.status (text_of a.text)) }
-{
-    match parse(alloc, tokens) {
-        Ok(file) => run_mapped(alloc, &file, map, script),
-        Err(ParseError::Deep { line }) => refused(alloc, Word::Design, Reason::Deep { line }),
-        Err(ParseError::Item { line }) => refused(alloc, Word::Design, Reason::Item { line }),
-        Err(ParseError::Memory) => Err(Memory),
-    }
-}
-
-fn run_mapped(alloc: Global, file: &File, map: &[u8], script: &[u8]) -> Result<Answer, Memory>
-    requires map { length map.now ≤ text_limit }
-    requires script { length script.now ≤ text_limit }
-    ensures { IfOk result (λ a. RunMapped map.now script.now (plain file.now) a.status (text_of a.text)) }
-{
-    match read_map(alloc, map) {
-        Ok(text) => run_file(alloc, file, &text, script),
-        Err(error) => map_refused(alloc, error),
-    }
-}
-
-fn run_file(alloc: Global, file: &File, text: &MapText, script: &[u8]) -> Result<Answer, Memory>
-    requires { length script.now ≤ text_limit }
-    ensures { IfOk result (λ a. RunFile (plain file.now) script.now text.now a.status (text_of a.text)) }
-{
-    match elaborate(alloc, file, text.top().as_slice()) {
-        Ok(design) => run_design(alloc, design, text, script),
-        Err(error) => refused_as(alloc, error),
-    }
-}
-
-fn run_design(
-    alloc: Global,
-    design: Design,
-    text: &MapText,
-    script: &[u8],
-) -> Result<Answer, Memory>
-    requires lawful { IsLawful design }
-    requires script { length script.now ≤ text_limit }
-    ensures { IfOk result (λ a. RunDesign text.now script.now design a.status (text_of a.text)) }
-{
-    match order(alloc, &design) {
-        Ok(order) => run_ordered(alloc, design, order, text, script),
-        Err(OrderError::Loop { drivers }) => looped(alloc, &design, drivers.as_slice()),
-        Err(OrderError::Memory) => Err(Memory),
-    }
-}
-
-fn run_ordered(
-    alloc: Global,
-    design: Design,
-    order: Order,
-    text: &MapText,
-    script: &[u8],
-) -> Result<Answer, Memory>
-    requires lawful { IsLawful design }
-    requires order { IsOrder design order.drivers }
-    requires script { length script.now ≤ text_limit }
-    ensures { IfOk result (λ a. RunOrdered text.now script.now design a.status (text_of a.text)) }
-{
-    lawful_ports_have_widths();
-    match bind_map(alloc, text, &design) {
-        Ok(map) => run_bound(alloc, design, order, text, map, script),
-        Err(error) => map_refused(alloc, error),
-    }
-}
-
-fn run_bound(
-    alloc: Global,
-    design: Design,
-    order: Order,
-    text: &MapText,
-    map: Map,
-    script: &[u8],
-) -> Result<Answer, Memory>
-    requires lawful { IsLawful design }
-    requires order { IsOrder design order.drivers }
-    requires bound { BindsMap text.now design (Ok map) }
-    requires script { length script.now ≤ text_limit }
-    ensures { IfOk result (λ a. RunScript design script.now map a.status (text_of a.text)) }
-{
-    match read_script(alloc, script, &map) {
-        Ok(steps) => played(alloc, design, order, text, map, &steps),
-        Err(error) => script_refused(alloc, error),
+    match bench_of(alloc, design, map, script) {
+        Ok(bench) => played(alloc, bench),
+        Err(Unready::Refused(answer)) => Ok(answer),
+        Err(Unready::Memory) => Err(Memory),
     }
 }
 
 /// Plays the design in the environment of the script, with all gates up.
-fn played(
-    alloc: Global,
-    design: Design,
-    order: Order,
-    text: &MapText,
-    map: Map,
-    script: &Script,
-) -> Result<Answer, Memory>
-    requires lawful { IsLawful design }
-    requires order { IsOrder design order.drivers }
-    requires bound { BindsMap text.now design (Ok map) }
-    requires fits { FitsChannels map.channels script.now }
-    ensures { IfOk result (λ a. IsPlayed design map script.now a.status (text_of a.text)) }
+fn played(alloc: Global, bench: Bench) -> Result<Answer, Memory>
+    requires { IsPlayable bench }
+    ensures { IfOk result (λ a. IsPlayed bench.design bench.map bench.script a.status (text_of a.text)) }
 {
-    let run = run_of(alloc, design, order, text, &map, script)?;
+    let Bench {
+        design,
+        order,
+        map,
+        script,
+    } = bench;
+    let run = run_of(alloc, design, order, &map, &script)?;
     ended(alloc, map, run)
 }
 
@@ -206,17 +101,15 @@ fn run_of(
     alloc: Global,
     design: Design,
     order: Order,
-    text: &MapText,
     map: &Map,
     script: &Script,
 ) -> Result<PlainRun, Memory>
     requires lawful { IsLawful design }
     requires order { IsOrder design order.drivers }
-    requires bound { BindsMap text.now design (Ok map.now) }
+    requires mapped { IsMapOf design map.now }
     requires fits { FitsChannels map.now.channels script.now }
     ensures { IfOk result (λ run. IsPlainRun design map.now (script_offer script.now) script.now.cycles run) }
 {
-    bound_is_map_of();
     let mut sim = Sim::new(alloc, design, order)?;
     let mut env = ScriptEnv::new(alloc, script, map)?;
     run_plain(alloc, &mut sim, map, &mut env, script.cycles())
@@ -275,7 +168,7 @@ fn unstable_line(
 }
 
 /// The name of a channel.
-fn channel_name(channels: &Channels, channel: usize) -> &[u8]
+pub fn channel_name(channels: &Channels, channel: usize) -> &[u8]
     ensures { result.now ≡ said.channel_name channels.now channel }
 {
     match channels.get(channel) {
@@ -299,60 +192,4 @@ fn with_lines(
         status,
         text: AnswerText::Run(lines),
     })
-}
-
-/// The answer that refuses the map.
-fn map_refused(alloc: Global, error: MapError) -> Result<Answer, Memory>
-    ensures { IfOk result (λ a. IsMapRefusal error a.status (text_of a.text)) }
-{
-    match map_reason(error) {
-        Some(reason) => refused(alloc, Word::Map, reason),
-        None => Err(Memory),
-    }
-}
-
-fn map_reason(error: MapError) -> Option<Reason>
-    ensures { result ≡ spec.map_reason error }
-{
-    match error {
-        MapError::Line { line } => Some(Reason::MapLine { line }),
-        MapError::Port { line } => Some(Reason::MapPort { line }),
-        MapError::Cover { port, times } => Some(Reason::Cover { port, times }),
-        MapError::Limit { what, got } => Some(Reason::Limit {
-            what: limit_of(what),
-            got,
-        }),
-        MapError::Memory => None,
-    }
-}
-
-fn limit_of(what: Limit) -> MapLimit
-    ensures { result ≡ spec.limit_of what }
-{
-    match what {
-        Limit::Channels => MapLimit::Channels,
-        Limit::Ports => MapLimit::Ports,
-        Limit::Bytes => MapLimit::Bytes,
-    }
-}
-
-/// The answer that refuses the script.
-fn script_refused(alloc: Global, error: ScriptError) -> Result<Answer, Memory>
-    ensures { IfOk result (λ a. IsScriptRefusal error a.status (text_of a.text)) }
-{
-    match script_reason(error) {
-        Some(reason) => refused(alloc, Word::Script, reason),
-        None => Err(Memory),
-    }
-}
-
-fn script_reason(error: ScriptError) -> Option<Reason>
-    ensures { result ≡ spec.script_reason error }
-{
-    match error {
-        ScriptError::Line { line } => Some(Reason::ScriptLine { line }),
-        ScriptError::Channel { line } => Some(Reason::ScriptChannel { line }),
-        ScriptError::Number { line } => Some(Reason::ScriptNumber { line }),
-        ScriptError::Memory => None,
-    }
 }

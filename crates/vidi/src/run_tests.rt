@@ -8,12 +8,12 @@ use std::process::Abort;
 use std::test::Fail as Failure;
 use vidi_io::{Fail, FailCall, Fails, MemShelf};
 
-const PASS_MAP: &str = "top pass\nclock clk\nin a a_v a_r a_d\nout b b_v b_r b_d\n";
+pub const PASS_MAP: &str = "top pass\nclock clk\nin a a_v a_r a_d\nout b b_v b_r b_d\n";
 
-const FLICK_MAP: &str = "top flick\nclock clk\nout b b_v b_r\n";
+pub const FLICK_MAP: &str = "top flick\nclock clk\nout b b_v b_r\n";
 
 // Two sends on `a`, which `b` gives on one cycle later.
-const TWO_SENDS: &str = "cycles 6\na send 5\na send 6\nb take all\n";
+pub const TWO_SENDS: &str = "cycles 6\na send 5\na send 6\nb take all\n";
 
 const TWO_SENDS_TEXT: &str = "0 start a 5\n0 end a\n1 start a 6\n1 start b 5\n1 end b\n\
     2 end a\n3 start b 6\n3 end b\ncycles 6\n";

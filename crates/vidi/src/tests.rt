@@ -170,6 +170,7 @@ fn other_words_are_usage(rt: HostRuntime) -> Result<(), Failure> {
         "salvage t o o",
         "run",
         "record d m s t",
+        "record d m s p p",
         "replay d m t 0 o",
         "replay d m t 5 t",
         "sample 6001",

@@ -14,6 +14,7 @@ use crate::check::check;
 use crate::command::Command;
 use crate::compare::compare;
 use crate::dump::dump;
+use crate::recording::record;
 use crate::run::run;
 use crate::salvage::salvage;
 use crate::status::{Status, Stop};
@@ -25,6 +26,7 @@ use vidi_io::{Failed, Shelf, Sink, Words};
 /// - `dump TRACE` prints a trace.
 /// - `check DESIGN TOP` reads a design text and prints how many modules and items it has, or why it is refused.
 /// - `run DESIGN MAP SCRIPT` plays a design in the environment of a script, and prints what starts and ends on its channels.
+/// - `record DESIGN MAP SCRIPT STALLS TRACE` does so behind a store that drains as the stalls say, and writes the trace of the run.
 /// - `compare TRACE OTHER` prints what is missing, extra, different or early in the second trace.
 /// - `salvage TRACE OUT` writes what is whole of a trace that was cut off.
 ///
@@ -77,6 +79,15 @@ fn answer_to<S: Shelf>(alloc: Global, words: &Words, shelf: &mut S) -> Result<An
                 script,
             },
         ) => Ok(run(alloc, design, map, script, shelf)?),
+        Some(
+            Command::Record {
+                design,
+                map,
+                script,
+                stalls,
+                trace,
+            },
+        ) => record(alloc, design, map, script, stalls, trace, shelf),
         Some(Command::Compare { trace, other }) => Ok(compare(alloc, trace, other, shelf)?),
         Some(Command::Salvage { trace, out }) => salvage(alloc, trace, out, shelf),
         None => Ok(usage(alloc)?),

@@ -5,5 +5,4 @@ use Rattle.vidi.proofs.run.run_of.Goals as goal
 
 pub run_plain-requires-clause-mapped : goal.run_plain-requires-clause-mapped
 run_plain-requires-clause-mapped c =
-    subst (λ (d : Design). IsMapOf d c.args.map.now) (sym c.in_ok-sim.ensures.design)
-    (c.bound_is_map_of.ensures c.args.text.now c.args.design c.args.map.now c.requires.bound)
+    subst (λ (d : Design). IsMapOf d c.args.map.now) (sym c.in_ok-sim.ensures.design) c.requires.mapped

@@ -2,7 +2,7 @@ use Rattle.std.proofs.Common.{◌≡◌, List, [], ◌∷◌, ℕ, sym, ◌∙�
 use Rattle.std.specs.Prelude.{MatchOption}
 use Rattle.std.specs.Cmp.Lexicographic.{same_text}
 use Rattle.vidi.specs.Command.{Command, IsGiven, plain}
-use Rattle.vidi.proofs.WordLists.{two, three}
+use Rattle.vidi.proofs.WordLists.{two, three, six}
 use Rattle.vidi.proofs.command.Command.of.Goals as goal
 
 pub returns-in-len2 : goal.returns-in-len2
@@ -24,3 +24,20 @@ returns-in-len3 c =
     parts ∙ sym shape ∙ c.as_slice.ensures in
     subst (λ (ws : List (List ℕ)). MatchOption c.of_two.result ((k : Command) → ¬ IsGiven ws k) (λ k. IsGiven ws (plain k))) whole
     c.of_two.ensures
+
+pub returns-in-len6 : goal.returns-in-len6
+returns-in-len6 c =
+    let shape = six c.as_slice.result.now c.name-item-then-this-lt7.result c.design-item.result c.map-item.result c.script-item.result
+    c.stalls-item.result c.trace-item-then-this-lt7.result c.in-len6.len_at_least c.in-len6.len_below c.name-item-then-this-lt7.is
+    c.design-item.is c.map-item.is c.script-item.is c.stalls-item.is c.trace-item-then-this-lt7.is in
+    let parts : c.as_str-in-len6.result.now ∷ c.as_str-in-len6-2.result.now ∷ c.as_str-in-len6-3.result.now
+    ∷ c.as_str-in-len6-4.result.now ∷ c.as_str-in-len6-5.result.now ∷ c.as_str-in-len6-6.result.now ∷ []
+    ≡ c.name-item-then-this-lt7.result ∷ c.design-item.result ∷ c.map-item.result
+    ∷ c.script-item.result ∷ c.stalls-item.result ∷ c.trace-item-then-this-lt7.result ∷ [] =
+    λ i. c.as_str-in-len6.ensures i ∷ c.as_str-in-len6-2.ensures i ∷ c.as_str-in-len6-3.ensures i
+    ∷ c.as_str-in-len6-4.ensures i ∷ c.as_str-in-len6-5.ensures i ∷ c.as_str-in-len6-6.ensures i ∷ [] in
+    let whole : c.as_str-in-len6.result.now ∷ c.as_str-in-len6-2.result.now ∷ c.as_str-in-len6-3.result.now
+    ∷ c.as_str-in-len6-4.result.now ∷ c.as_str-in-len6-5.result.now ∷ c.as_str-in-len6-6.result.now ∷ [] ≡ c.args.words.now =
+    parts ∙ sym shape ∙ c.as_slice.ensures in
+    subst (λ (ws : List (List ℕ)). MatchOption c.of_five.result ((k : Command) → ¬ IsGiven ws k) (λ k. IsGiven ws (plain k))) whole
+    c.of_five.ensures
