@@ -19,6 +19,10 @@ pub mod Planning
 pub mod Filed
 pub mod Recorded
 pub mod Running
+pub mod Meets
+pub mod SameBench
+pub mod SameRun
+pub mod SameRecord
 pub mod OneBench
 pub mod OneRun
 pub mod OneRecord

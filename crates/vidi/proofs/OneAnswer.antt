@@ -1,15 +1,18 @@
 -- Of a shelf that tells its files, with no failed read, two answers that are earned are one.
-use Rattle.std.proofs.Common.{◌≡◌, ℕ, List, [], ◌∷◌, Option, Some, length, get_or, inl, inr, refl, sym, ap, subst, ◌∙◌, arith, codes}
+use Rattle.std.proofs.Common.{◌≡◌, ℕ, List, [], ◌∷◌, Option, Some, length, get_or, inl, inr, sym, ap, subst, ◌∙◌, arith, codes}
 use Rattle.trace_code.specs.Decoding.{OnePlace, OneReading}
 use Rattle.trace_code.specs.Salvage.{OneSalvage}
 use Rattle.vidi_io.specs.Shelf.{Files}
 use Rattle.vidi.specs.declared.status.Status.{Status}
 use Rattle.vidi.specs.Command.{Command, Dump, Check, Run, Record, Compare, Salvage, IsGiven}
-use Rattle.vidi.specs.Answer.{Does, IsNoRun, OneAnswer}
+use Rattle.vidi.specs.Answer.{Does, OneAnswer}
 use Rattle.vidi.proofs.OneDump.{one_dump}
-use Rattle.vidi.proofs.OneCheck.{TextLaws, Alike, one_check}
+use Rattle.vidi.proofs.OneCheck.{Alike, one_check}
 use Rattle.vidi.proofs.OneCompare.{one_compare}
 use Rattle.vidi.proofs.OneSalvaged.{one_salvaged}
+use Rattle.vidi.proofs.SameBench.{BenchLaws}
+use Rattle.vidi.proofs.SameRun.{one_run}
+use Rattle.vidi.proofs.SameRecord.{one_record}
 
 second : (a b c : List ℕ) → a ∷ b ∷ [] ≡ a ∷ c ∷ [] → b ≡ c
 second a b c e = cc
@@ -144,33 +147,31 @@ pub record Laws : Type 0 where
   pub reading : OneReading
   pub place : OnePlace
   pub salvage : OneSalvage
-  pub texts : TextLaws
+  pub benches : BenchLaws
 
-one_deed : Laws → (c : Command) → ((d m s : List ℕ) → c ≡ Run d m s → ⊥) → ((d m s p t : List ℕ) → c ≡ Record d m s p t → ⊥)
-    → (files : Files) (a b : Status) (x y : List ℕ) (left right : Option Files)
+one_deed : Laws → (c : Command) → (files : Files) (a b : Status) (x y : List ℕ) (left right : Option Files)
     → Does c (Some files) (λ _. ⊥) a x left → Does c (Some files) (λ _. ⊥) b y right → AlikeLeft a b x y left right
-one_deed laws (Dump trace) unasked unmade files a b x y left right (d, l) (e, r) =
+one_deed laws (Dump trace) files a b x y left right (d, l) (e, r) =
     kept files a b x y left right (inr (one_dump laws.reading laws.place trace files a b x y d e)) l r
-one_deed laws (Run design map script) unasked unmade files a b x y left right d e = absurd (unasked design map script refl)
-one_deed laws (Record design map script stalls trace) unasked unmade files a b x y left right d e =
-    absurd (unmade design map script stalls trace refl)
-one_deed laws (Check design top) unasked unmade files a b x y left right (d, l) (e, r) =
-    kept files a b x y left right (one_check laws.texts design top files a b x y d e) l r
-one_deed laws (Compare trace other) unasked unmade files a b x y left right (d, l) (e, r) =
+one_deed laws (Run design map script) files a b x y left right (d, l) (e, r) =
+    kept files a b x y left right (one_run laws.benches design map script files a b x y d e) l r
+one_deed laws (Record design map script stalls trace) files a b x y left right d e =
+    one_record laws.benches design map script stalls trace files a b x y left right d e
+one_deed laws (Check design top) files a b x y left right (d, l) (e, r) =
+    kept files a b x y left right (one_check laws.benches.texts design top files a b x y d e) l r
+one_deed laws (Compare trace other) files a b x y left right (d, l) (e, r) =
     kept files a b x y left right (inr (one_compare laws.reading laws.place trace other files a b x y d e)) l r
-one_deed laws (Salvage trace out) unasked unmade files a b x y left right d e =
+one_deed laws (Salvage trace out) files a b x y left right d e =
     all-same a b x y left right (one_salvaged laws.salvage trace out files a b x y left right d e)
 
 pub one_answer_lem : Laws → OneAnswer
-one_answer_lem laws words unasked files a b x y left right (inr (inl (said, _))) _ = inl said.0
-one_answer_lem laws words unasked files a b x y left right _ (inr (inl (said, _))) = inr (inl said.0)
-one_answer_lem laws words unasked files a b x y left right (inl (none, s, l)) (inl (none', s', r)) =
+one_answer_lem laws words files a b x y left right (inr (inl (said, _))) _ = inl said.0
+one_answer_lem laws words files a b x y left right _ (inr (inl (said, _))) = inr (inl said.0)
+one_answer_lem laws words files a b x y left right (inl (none, s, l)) (inl (none', s', r)) =
     inr (inr (inr (s.0 ∙ sym s'.0, s.1 ∙ sym s'.1), l ∙ sym r))
-one_answer_lem laws words unasked files a b x y left right (inl (none, s, l)) (inr (inr (c, given, d))) = absurd (none c given)
-one_answer_lem laws words unasked files a b x y left right (inr (inr (c, given, d))) (inl (none, s, r)) = absurd (none c given)
-one_answer_lem laws words unasked files a b x y left right (inr (inr (c, given, d))) (inr (inr (k, given', e))) =
+one_answer_lem laws words files a b x y left right (inl (none, s, l)) (inr (inr (c, given, d))) = absurd (none c given)
+one_answer_lem laws words files a b x y left right (inr (inr (c, given, d))) (inl (none, s, r)) = absurd (none c given)
+one_answer_lem laws words files a b x y left right (inr (inr (c, given, d))) (inr (inr (k, given', e))) =
     let same = one_command words k c given' given in
-    let never = λ (u m s : List ℕ) (is : c ≡ Run u m s). unasked.0 u m s (subst (IsGiven words) is given) in
-    let unmade = λ (u m s p t : List ℕ) (is : c ≡ Record u m s p t). unasked.1 u m s p t (subst (IsGiven words) is given) in
-    inr (inr (one_deed laws c never unmade files a b x y left right d
+    inr (inr (one_deed laws c files a b x y left right d
     (subst (λ (m : Command). Does m (Some files) (λ _. ⊥) b y right) same e)))

@@ -40,7 +40,7 @@ pub record TextLaws : Type 0 where
   pub item : OneItemLine
   pub loops : LoopsAlike
 
-one-no_word : TextLaws → (text : List ℕ) → One (IsNoWord text)
+pub one-no_word : TextLaws → (text : List ℕ) → One (IsNoWord text)
 one-no_word laws text a b x y (l, stuck, s) (k, stuck', s') =
     one-said (Refused words.Design (Word l)) (reason_line words.Design (Word l)) a b x y s
     (subst (λ (n : ℕ). IsRefusal words.Design (Word n) b y) (laws.word text k l stuck' stuck) s')
@@ -58,7 +58,7 @@ one-no_file laws tokens a b x y (l, its, shallow, none, s) (k, its', shallow', n
 abbrev pub IsNone : List Token → Ending
 IsNone tokens status said = IsTooDeep tokens status said ⊎ IsNoFile tokens status said
 
-one-none : TextLaws → (tokens : List Token) → One (IsNone tokens)
+pub one-none : TextLaws → (tokens : List Token) → One (IsNone tokens)
 one-none laws tokens a b x y (inl deep) (inl deep') = one-too_deep laws tokens a b x y deep deep'
 one-none laws tokens a b x y (inl (l, deep, s)) (inr (k, its, shallow, none, s')) =
     absurd (laws.depth.apart (all_marked tokens) l deep shallow)
@@ -66,20 +66,20 @@ one-none laws tokens a b x y (inr (k, its, shallow, none, s)) (inl (l, deep, s')
     absurd (laws.depth.apart (all_marked tokens) l deep shallow)
 one-none laws tokens a b x y (inr gone) (inr gone') = one-no_file laws tokens a b x y gone gone'
 
-one-file : TextLaws → (tokens : List Token) (f g : FileOf ℕ) → IsFile tokens f → IsFile tokens g → f ≡ g
+pub one-file : TextLaws → (tokens : List Token) (f g : FileOf ℕ) → IsFile tokens f → IsFile tokens g → f ≡ g
 one-file laws tokens f g (shallow, is) (shallow', is') = laws.file tokens f g is is'
 
-none-file : TextLaws → (tokens : List Token) (a : Status) (x : List ℕ) (f : FileOf ℕ) → IsNone tokens a x → IsFile tokens f → ⊥
+pub none-file : TextLaws → (tokens : List Token) (a : Status) (x : List ℕ) (f : FileOf ℕ) → IsNone tokens a x → IsFile tokens f → ⊥
 none-file laws tokens a x f (inl (l, deep, s)) (shallow, is) = laws.depth.apart (all_marked tokens) l deep shallow
 none-file laws tokens a x f (inr (l, its, shallow, none, s)) (shallow', is) = none (bare f) (laws.plain tokens f is)
 
 same_reason : (error : ElabError) (r s : Reason) → reason_of error ≡ Some r → reason_of error ≡ Some s → r ≡ s
 same_reason error r s e f = let same : Some r ≡ Some s = sym e ∙ f in cc
 
-no_reason : (error : ElabError) (r : Reason) → reason_of error ≡ Some r → error ≡ Memory → ⊥
+pub no_reason : (error : ElabError) (r : Reason) → reason_of error ≡ Some r → error ≡ Memory → ⊥
 no_reason error r e memory = let none : None ≡ Some r = ap reason_of (sym memory) ∙ e in cc
 
-one-refused_file : (top : List ℕ) (f : FileOf ℕ) → One (IsRefusedFile top f)
+pub one-refused_file : (top : List ℕ) (f : FileOf ℕ) → One (IsRefusedFile top f)
 one-refused_file top f a b x y (e, is, (r, names, s)) (d, is', (q, names', s')) = elim (one_refusal f top e d is is') [
   | inl memory ↦ absurd (no_reason e r names memory)
   | inr rest ↦ elim rest [
@@ -95,10 +95,10 @@ one-refused_file top f a b x y (e, is, (r, names, s)) (d, is', (q, names', s')) 
 abbrev pub Alike : Status → Status → List ℕ → List ℕ → Type 0
 Alike a b x y = (NamesLoop a × NamesLoop b) ⊎ Same a b x y
 
-alike : (a b : Status) (x y : List ℕ) → Same a b x y → Alike a b x y
+pub alike : (a b : Status) (x y : List ℕ) → Same a b x y → Alike a b x y
 alike a b x y same = inr same
 
-names-loop : (a : Status) (x lines : List ℕ) → IsRefusal words.Design (Loop lines) a x → NamesLoop a
+pub names-loop : (a : Status) (x lines : List ℕ) → IsRefusal words.Design (Loop lines) a x → NamesLoop a
 names-loop a x lines s = subst NamesLoop (sym s.0) tt
 
 one-checked_design : TextLaws → (top : List ℕ) (f : FileOf ℕ) (d e : Design) → IsDesignOf f top d → IsDesignOf f top e → (a b : Status)

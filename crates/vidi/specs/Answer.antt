@@ -62,14 +62,9 @@ abbrev pub NamesLoop : Status → Type 0
 NamesLoop (Refused words.Design (Loop lines)) = Unit {0}
 NamesLoop status = ⊥
 
--- the words don't ask for a run, recorded or not
-abbrev pub IsNoRun : List (List ℕ) → Type 0
-IsNoRun words = ((design map script : List ℕ) → IsGiven words (Run design map script) → ⊥)
-    × ((design map script stalls trace : List ℕ) → IsGiven words (Record design map script stalls trace) → ⊥)
-
 -- Of what a shelf tells, with no failed read, two answers that are earned are one, and leave the same, unless memory was wanting or both
 -- name a loop.
 abbrev pub OneAnswer : Type 0
-OneAnswer = (words : List (List ℕ)) → IsNoRun words → (files : Files) (a b : Status) (x y : List ℕ) (left right : Option Files)
+OneAnswer = (words : List (List ℕ)) → (files : Files) (a b : Status) (x y : List ℕ) (left right : Option Files)
     → Earns words (Some files) (λ _. ⊥) a x left → Earns words (Some files) (λ _. ⊥) b y right
     → (a ≡ Memory) ⊎ (b ≡ Memory) ⊎ (((NamesLoop a × NamesLoop b) ⊎ ((a ≡ b) × (x ≡ y))) × (left ≡ right))

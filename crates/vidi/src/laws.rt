@@ -3,6 +3,11 @@
 ghost use Rattle.vidi.specs.Answer.{OneAnswer};
 ghost use Rattle.vidi.specs.Headline.{DrainedRecordingIsTheRun, RecordedRunIsKept};
 
+use flat_alike::built_alike;
+use net_order::one_settled_map;
+use one_bench::{one_binding, one_map_text, one_plan, one_script};
+use run_alike::{maps_alike, one_end, runs_alike};
+use run_model::bound_is_map_of;
 use trace_code::{one_place, one_reading, one_salvage};
 
 /// Of what a shelf tells, with no failed read, words earn one answer with one text, which leaves the same files,
@@ -20,7 +25,17 @@ pub fn one_answer()
     vlog_parse::lined_files_are_files();
     vlog_parse::one_item_line();
     vlog_parse::one_depth();
-    vlog_design::loops_alike()
+    vlog_design::loops_alike();
+    built_alike();
+    maps_alike();
+    runs_alike();
+    one_end();
+    one_settled_map();
+    bound_is_map_of();
+    one_map_text();
+    one_binding();
+    one_script();
+    one_plan()
 }
 
 /// Whatever the accepted design, script and plan of stalls, the trace of the run that `record` writes holds each channel's started and
