@@ -7,7 +7,7 @@ use Rattle.run_model.specs.Played.{all_up}
 use Rattle.script_text.specs.declared.script.Script.{Script}
 use Rattle.script_offer.specs.ScriptOffer.{script_offer}
 use Rattle.bench_run.specs.declared.plain.Spot.{Spot}
-use Rattle.bench_run.specs.Offered.{offers_after}
+use Rattle.env_offers.specs.Offered.{offers_after}
 use Rattle.bench_run.specs.Plain.{channel_of}
 use Rattle.vidi_io.specs.Shelf.{Files}
 use Rattle.report_text.specs.declared.reason.Word.TheVariants as words

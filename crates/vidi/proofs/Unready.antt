@@ -22,6 +22,12 @@ pub ends-later : {X : Type 0} (Ends : Ending) (Gives : X → Type 0) (Next : X �
 ends-later Ends Gives Next x (Refused a) gives is = inr (x, gives, is)
 ends-later Ends Gives Next x Memory gives is = tt
 
+-- the step gives x, and what is made of x may end it
+pub all-later : {X A : Type 0} (Ends : Ending) (Gives : X → Type 0) (Next : X → Ending) (x : X) (r : Result A Unready) → Gives x
+    → IfErr r (IsUnready (Next x)) → IfErr r (IsUnready (Step Ends Gives Next))
+all-later Ends Gives Next x (Ok a) gives is = tt
+all-later Ends Gives Next x (Err e) gives is = ends-later Ends Gives Next x e gives is
+
 -- what is passed on
 pub passed-on : {X : Type 0} (Q : Unready → Type 0) (r : Result X Unready) (e made : Unready) → r ≡ Err e → e ≡ made → Q made → IfErr r Q
 passed-on {X} Q r e made p q x = subst (λ (s : Result X Unready). IfErr s Q) (sym p) (subst Q (sym q) x)

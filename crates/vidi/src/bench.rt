@@ -108,13 +108,20 @@ fn tree_of(alloc: Global, tokens: &Tokens) -> Result<File, Unready>
     ensures spelled { IfOk result (λ file. IsFile tokens.now (plain file)) }
     ensures refused { IfErr result (IsUnready (IsNoTree tokens.now)) }
 {
-    let reason = match parse(alloc, tokens) {
-        Ok(file) => return Ok(file),
-        Err(ParseError::Deep { line }) => Reason::Deep { line },
-        Err(ParseError::Item { line }) => Reason::Item { line },
-        Err(ParseError::Memory) => return Err(Unready::Memory),
-    };
-    Err(Unready::Refused(refused(alloc, Word::Design, reason)?))
+    match parse(alloc, tokens) {
+        Ok(file) => Ok(file),
+        Err(ParseError::Deep { line }) => Err(Unready::Refused(refused(
+            alloc,
+            Word::Design,
+            Reason::Deep { line },
+        )?)),
+        Err(ParseError::Item { line }) => Err(Unready::Refused(refused(
+            alloc,
+            Word::Design,
+            Reason::Item { line },
+        )?)),
+        Err(ParseError::Memory) => Err(Unready::Memory),
+    }
 }
 
 /// The lines of a map.

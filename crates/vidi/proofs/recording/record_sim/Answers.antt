@@ -30,7 +30,7 @@ returns-in-Err-WriteFault-clause-stopped g c =
           (failed c.in_ok-sim.sim.design _ None c.in_ok-shell.ensures.runs),
     )
 
-pub returns-in-Err-Memory-clause-stopped : goal.returns-in-Err-Memory-clause-stopped
-returns-in-Err-Memory-clause-stopped g c =
+pub returns-clause-stopped : goal.returns-clause-stopped
+returns-clause-stopped g c =
     let failed = rw c.in-Err-Memory.field-0-is at c.in-Err-Memory.ensures.failed in
     failed c.in_ok-sim.sim.design _ None c.in_ok-shell.ensures.runs
