@@ -1,6 +1,5 @@
 -- From a step of the three texts to the answer that refuses them.
-use Rattle.std.proofs.Common.{◌≡◌, ℕ, List, Result, Ok, Err, sym, subst}
-use Rattle.std.specs.Prelude.{IfErr}
+use Rattle.std.proofs.Common.{ℕ, List, Ok}
 use Rattle.vlog_tree.specs.Tree.{FileOf}
 use Rattle.net_design.specs.declared.design.Design.{Design}
 use Rattle.net_order.specs.Order.{IsOrder}
@@ -8,10 +7,9 @@ use Rattle.chan_map.specs.declared.text.MapText.{MapText}
 use Rattle.chan_map.specs.declared.pins.Map.{Map}
 use Rattle.chan_map.specs.Text.{ReadsMap}
 use Rattle.chan_map.specs.Bound.{BindsMap}
-use Rattle.vidi.specs.declared.bench.Bench.{Bench}
 use Rattle.vidi.specs.declared.bench.Unready.{Unready}
 use Rattle.vidi.specs.Design.{IsRefusedFile, IsAccepted, IsLooped}
-use Rattle.vidi.specs.Benches.{IsNoText, IsNoMap, IsUnbound, IsNoScript, Spells, IsUnready, IsBench}
+use Rattle.vidi.specs.Benches.{IsNoText, IsNoMap, IsUnbound, IsNoScript, Spells, IsUnready}
 use Rattle.vidi.specs.Benches.{RefusedBound, RefusedDesign, RefusedFile, RefusedMap, RefusedTexts}
 use Rattle.vidi.proofs.Unready.{ends-here, ends-later}
 

@@ -1,5 +1,5 @@
 -- The laws of a script's run, said of the four files.
-use Rattle.std.proofs.Common.{◌≡◌, ℕ, List, Option, None, Some, refl}
+use Rattle.std.proofs.Common.{ℕ, List, Option, None, Some, refl}
 use Rattle.trace_model.specs.declared.row.Row.{Row}
 use Rattle.net_design.specs.declared.design.Design.{Design}
 use Rattle.chan_map.specs.declared.pins.Map.{Map}

@@ -1,5 +1,5 @@
 -- The texts of a design, a map and a script: no failed write among the answers that refuse them.
-use Rattle.std.proofs.Common.{◌≡◌, ◌⊎◌, ℕ, List, Ok, map}
+use Rattle.std.proofs.Common.{ℕ, List, Ok, map}
 use Rattle.vlog_lex.specs.declared.token.Token.{Token}
 use Rattle.vlog_lex.specs.Reading.{HasTokens}
 use Rattle.vlog_tree.specs.Tree.{FileOf}

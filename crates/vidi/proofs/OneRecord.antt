@@ -1,5 +1,5 @@
 -- `record`: no failed write among its answers, and the same where no read failed.
-use Rattle.std.proofs.Common.{◌≡◌, ◌⊎◌, ℕ, List, Option, None, Some, Ok, inl, inr, length}
+use Rattle.std.proofs.Common.{ℕ, List, Option, None, Some, Ok, inl, inr, length}
 use Rattle.trace_model.specs.declared.channel.Channel.{Channel}
 use Rattle.trace_model.specs.declared.row.Row.{Row}
 use Rattle.trace_model.specs.Recording.{packets_of}

@@ -1,11 +1,11 @@
 -- The reasons for which a file with a top is refused: no two of them hold, and none where none is to hold. Want of memory is free.
-use Rattle.std.proofs.Common.{◌≡◌, ℕ, ◌<◌, ◌⊎◌, List, [], Option, None, Some, inl, inr, refl, sym, ap, subst, ◌∙◌, map, ⊎_elim}
+use Rattle.std.proofs.Common.{◌≡◌, ℕ, ◌<◌, ◌⊎◌, List, [], Option, None, Some, inl, inr, refl, sym, ap, ◌∙◌, map, ⊎_elim}
 use Rattle.std.specs.Prelude.{slice_get}
 use Rattle.std.proofs.lemmas.Bool.{cases_order}
 use Rattle.vidi_bits.specs.Findings.{first}
 use Rattle.vlog_tree.specs.Tree.{ModuleOf, FileOf}
 use Rattle.vlog_hierarchy.specs.Outlines.{Outline, place_of, outlines_of}
-use Rattle.vlog_hierarchy.specs.Nested.{IsFirstNested, IsNestedAnswer}
+use Rattle.vlog_hierarchy.specs.Nested.{IsNestedAnswer}
 use Rattle.vlog_elab.specs.declared.error.ElabError.{ElabError}
 use Rattle.vlog_elab.specs.declared.error.ElabError.TheVariants.{Twice, Unknown, Kind, Nested, TooBig, Const, Width, Clock, Latch, Drive}
 use Rattle.vlog_elab.specs.declared.error.ElabError.TheVariants.{Memory}

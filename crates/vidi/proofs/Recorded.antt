@@ -1,7 +1,6 @@
 -- From a recording into a file to the answer of `record`.
-use Rattle.std.proofs.Common.{◌≡◌, ℕ, List, Option, None, Some, Result, Ok, Err, length, inl, inr, sym, ap, subst, ◌∙◌}
+use Rattle.std.proofs.Common.{◌≡◌, ℕ, List, Option, None, Some, Result, Ok, Err, length, inr, sym, ap, subst, ◌∙◌}
 use Rattle.std.specs.Prelude.{IfOk, IfErr}
-use Rattle.trace_model.specs.Recording.{packets_of}
 use Rattle.script_text.specs.declared.stalls.Stalls.{Stalls}
 use Rattle.vidi_io.specs.Shelf.{Files}
 use Rattle.vidi_recorder.specs.declared.error.Outcome.{Outcome}

@@ -1,5 +1,5 @@
 -- From what was read of three files to the answer of `run`, and from step to step.
-use Rattle.std.proofs.Common.{◌≡◌, ℕ, ◌+◌, ◌^◌, ◌-◌, ◌≤◌, min, List, Option, Result, Ok, Err, length, inl, inr, refl, sym, subst, ◌∙◌, arith}
+use Rattle.std.proofs.Common.{◌≡◌, ℕ, ◌≤◌, List, Option, Result, Ok, Err, length, inl, inr, refl, subst, ◌∙◌, arith}
 use Rattle.report_text.specs.declared.reason.Word.{Word}
 use Rattle.vidi.specs.declared.status.Status.{Status}
 use Rattle.std.specs.Prelude.{IfOk}

@@ -1,5 +1,5 @@
 -- What the trace of a recording holds, and when its run is the one that `run` prints.
-use Rattle.std.specs.Prelude.{◌≡◌, ℕ, List, Option, None, Some, length}
+use Rattle.std.specs.Prelude.{ℕ, List, Option, None, Some, length}
 use Rattle.vidi_io.specs.Shelf.{Files}
 use Rattle.trace_model.specs.declared.row.Row.{Row}
 use Rattle.script_offer.specs.ScriptOffer.{script_offer}

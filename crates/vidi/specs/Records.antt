@@ -1,5 +1,5 @@
 -- What `record DESIGN MAP SCRIPT STALLS TRACE` owes: each step of it in its order, and what is left in TRACE.
-use Rattle.std.specs.Prelude.{◌≡◌, ℕ, ◌<◌, ◌≤◌, ◌⊎◌, List, ◌++◌, Option, None, Some, Ok, Err, length}
+use Rattle.std.specs.Prelude.{◌≡◌, ℕ, ◌<◌, ◌≤◌, ◌⊎◌, List, Option, None, Some, Ok, Err, length}
 use Rattle.vidi_io.specs.Shelf.{Files, holding}
 use Rattle.trace_model.specs.declared.channel.Channel.{Channel}
 use Rattle.trace_model.specs.declared.row.Row.{Row}
