@@ -1,10 +1,10 @@
 -- A plain run, one row longer, and its end.
 use Rattle.std.proofs.Common.{◌≡◌, ℕ, zero, suc, ◌<◌, ◌≤◌, List, [], ◌∷◌, ◌++◌, Option, Some, None, length, slice_get}
 use Rattle.std.proofs.Common.{⊎_elim, refl, ap, sym}
-use Rattle.std.proofs.Common.{subst, ◌∙◌, add-one, arith, Result, Ok, Err}
-use Rattle.std.specs.Prelude.{IfOk, OnErr}
-use Rattle.std.proofs.lemmas.List.{length_push}
+use Rattle.std.proofs.Common.{subst, ◌∙◌, arith, Result, Ok, Err}
+use Rattle.std.specs.Prelude.{OnErr}
 use Rattle.std.proofs.lemmas.Option.{same_Some}
+use Rattle.trace_model.proofs.RowLemmas.{before-last}
 use Rattle.trace_model.specs.declared.channel.Channel.{Channel}
 use Rattle.trace_model.specs.declared.row.Offers.{Offers}
 use Rattle.trace_model.specs.declared.row.Row.{Row}
@@ -19,19 +19,16 @@ use Rattle.run_model.specs.Played.{all_up, AreStable}
 use Rattle.run_model.specs.Run.{AllUp, IsRunRow}
 use Rattle.run_model.specs.Step.{IsFirst, IsStep}
 use Rattle.run_model.proofs.PlayedLaws.{Grown, played-nil, played-push}
-use Rattle.script_offer.specs.Offer.{Offer, Carries, FitsOffer}
+use Rattle.script_text.specs.Offer.{Offer, Carries, FitsOffer}
 use Rattle.chan_monitor.specs.Shell.{IsShown}
-use Rattle.env_offers.specs.Offered.{offers_after, offers_on, AllFit}
-use Rattle.env_offers.proofs.OfferLaws.{carries-each}
+use Rattle.env_script.specs.Offered.{offers_after, offers_on, AllFit}
+use Rattle.env_script.proofs.OfferLaws.{carries-each}
 use Rattle.bench_run.specs.Plain.{IsBreak, IsPlainRun, StandsWithin}
 
 -- ---- the row before
 before-append : (rows : List Row) (row : Row) (t : ℕ) → t ≤ length rows → row_before (rows ++ row ∷ []) t ≡ row_before rows t
 before-append rows row zero l = refl
 before-append rows row (suc t) l = slice_get-append_left rows (row ∷ []) t (omega (arith, l))
-
-before-last : (rows : List Row) (row : Row) → row_before (rows ++ row ∷ []) (length (rows ++ row ∷ [])) ≡ Some row
-before-last rows row = ap (row_before (rows ++ row ∷ [])) (length_push rows row ∙ add-one (length rows)) ∙ slice_get-last rows row
 
 -- ---- stability
 unbroken : (channels : List Channel) (o : Option Row) (row before : Row) → IsBreak channels o row None → o ≡ Some before
@@ -177,21 +174,12 @@ carries-now xs ys zs offer row ex ey fit carries =
     carries-each zs offer fit row (subst (λ v. RunCarries zs (offers_on v offer) row) ey
     (subst (λ v. RunCarries v (offers_on ys offer) row) ex carries))
 
--- whatever the answer is
-pub on-error : {T E P : Type 0} (r : Result T E) → P → OnErr r P
-on-error (Ok x) p = tt
-on-error (Err e) p = p
-
 -- the row before is one of them
 pub before-over : (channels : List Channel) (rows : List Row)
     → ((t : ℕ) (row : Row) → slice_get rows t ≡ Some row → IsOver channels row) → (n : ℕ) (before : Row)
     → Some before ≡ row_before rows n → IsOver channels before
 before-over channels rows over zero before e = absurd (cc)
 before-over channels rows over (suc n) before e = over n before (sym e)
-
-pub if-ok : {T E : Type 0} {P Q : T → Type 0} (r : Result T E) → IfOk r P → ((x : T) → P x → Q x) → IfOk r Q
-if-ok (Ok x) p then = then x p
-if-ok (Err e) p then = tt
 
 pub if-error : {T E P Q : Type 0} (r : Result T E) → OnErr r P → (P → Q) → OnErr r Q
 if-error (Ok x) p then = tt

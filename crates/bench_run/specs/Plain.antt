@@ -7,8 +7,8 @@ use Rattle.net_design.specs.declared.design.Design.{Design}
 use Rattle.chan_map.specs.declared.pins.Map.{Map}
 use Rattle.run_model.specs.Played.{AreStable}
 use Rattle.run_model.specs.Run.{AllUp, IsRun, IsTheRun}
-use Rattle.script_offer.specs.Offer.{Offer}
-use Rattle.env_offers.specs.Offered.{offers_after}
+use Rattle.script_text.specs.Offer.{Offer}
+use Rattle.env_script.specs.Offered.{offers_after}
 use Rattle.bench_run.specs.declared.plain.PlainRun.{PlainRun}
 use Rattle.bench_run.specs.declared.plain.Spot.{Spot}
 

@@ -10,14 +10,14 @@ ghost use Rattle.run_model.specs.Building.{PortsAreNets};
 ghost use Rattle.run_model.specs.MapOf.{IsMapOf};
 ghost use Rattle.run_model.specs.Played.{all_up};
 ghost use Rattle.chan_monitor.specs.Shell.{IsRunning, IsShown};
-ghost use Rattle.env_offers.specs.Offered.{offers_on, AllFit};
+ghost use Rattle.env_script.specs.Offered.{offers_on, AllFit};
 ghost use Rattle.bench_run.specs.Plain.{IsBreak, IsPlainRun, StandsWithin};
+ghost use Rattle.script_text.specs.declared.script.TheConstants.{MOST_CYCLES};
 
 use crate::lent::Lent;
 use chan_map::Map;
 use chan_monitor::{Machines, Shell};
-use env_offers::{gather, offers_over};
-use env_script::Env;
+use env_script::{Env, gather, offers_over};
 use net_design::Block;
 use std::alloc::Global;
 use trace_model::{Channels, Offers, Row, Rows, unstable};
@@ -126,7 +126,7 @@ fn run_shell<S: Shell, E: Env>(
     requires same { channels.now ≡ E.channels env.old }
     requires few { length channels.now ≤ 32 }
     requires first { E.stands_for env.old [] }
-    requires cycles { cycles ≤ 50000 }
+    requires cycles { cycles ≤ MOST_CYCLES }
     ensures run { IfOk result (λ run. (d : Design) (s : Values) (before : Option OneRow) → S.runs shell.old d s before
         → IsPlainRun d (S.map shell.old) (E.offer (E.plan env.old)) cycles run) }
     ensures stands { IfOk result (λ run. E.stands_for env.new run.rows) }
@@ -173,7 +173,7 @@ pub fn run_plain<B: Block, E: Env>(
     requires channels { E.channels env.old ≡ map.now.channels }
     requires first { E.stands_for env.old [] }
     requires some { 1 ≤ cycles }
-    requires few { cycles ≤ 50000 }
+    requires few { cycles ≤ MOST_CYCLES }
     ensures run { IfOk result (λ run. IsPlainRun (B.design block.old) map.now (E.offer (E.plan env.old)) cycles run) }
     ensures stands { IfOk result (λ run. E.stands_for env.new run.rows) }
     ensures plan { E.plan env.new ≡ E.plan env.old }

@@ -3,6 +3,7 @@ use Rattle.std.proofs.Common.{◌≡◌, ℕ, ◌≤◌, List, [], ◌∷◌, �
 use Rattle.std.specs.Prelude.{count_by}
 use Rattle.std.specs.Option.{option_to_list}
 use Rattle.std.specs.List.{flat_map}
+use Rattle.vidi_bits.proofs.Bools.{left_of}
 use Rattle.net_design.specs.declared.design.Design.{Design}
 use Rattle.net_design.specs.declared.design.Direction.TheVariants.{Input}
 use Rattle.chan_map.specs.declared.map_text.MapLine.{MapLine}
@@ -15,7 +16,6 @@ use Rattle.chan_map.specs.Reasons.{port_faults, cover_faults, limit_faults, all_
 use Rattle.chan_map.specs.Places.{is_at, places, reset_places, tie_places, plugs_places}
 use Rattle.chan_map.specs.Bound.{place_of, pin_named, plugs_of, ties_of, resets_of, table_of, map_faults, IsBound}
 use Rattle.chan_map.specs.Parts.{ArePartsOf}
-use Rattle.chan_map.proofs.Follows.{both_left}
 use Rattle.chan_map.proofs.Found.{bit_is}
 use Rattle.chan_map.proofs.Fitting.{no_left, no_right, lines_fit, plugs_fit, ties_fit, last_reset_fits, clock_fits, once}
 use Rattle.chan_map.proofs.Tabled.{table_is}
@@ -63,7 +63,7 @@ bound text d parts map widths none of top clock channels plugs ties reset =
       plugs_fit = rw (channels ∙ of.channels, plugs ∙ of.plugs) (plugs_fit d text.lines fits);
       ties_fit = rw (ties ∙ of.ties) (ties_fit d text.lines fits);
       reset_fits = rw (reset ∙ of.reset) (last_reset_fits d text.lines fits);
-      clock_fits = rw clock (bit_is d Input text.clock (both_left _ _ clock_line));
+      clock_fits = rw clock (bit_is d Input text.clock (left_of _ _ clock_line));
       table = rw (channels ∙ of.channels)
           (table_is d widths text.lines fits text.follows text.named (no_right (cover_faults d text.lines) _ rest));
       once = one_each;

@@ -4,8 +4,10 @@ use Rattle.std.proofs.Common.{◌∙◌, arith, inl, inr}
 use Rattle.std.specs.Prelude.{count_by}
 use Rattle.std.specs.List.{flat_map, list_all, list_any}
 use Rattle.std.specs.Option.{option_to_list}
-use Rattle.std.proofs.lemmas.Bool.{cases_lt}
+use Rattle.std.proofs.lemmas.Bool.{cases_lt, or_right}
 use Rattle.std.proofs.lemmas.List.Sums.{sum_by-append}
+use Rattle.vidi_bits.proofs.Bools.{left_of, right_of}
+use Rattle.trace_model.proofs.RowLaws.{flag}
 use Rattle.trace_model.specs.declared.channel.Channel.{Channel as Row}
 use Rattle.net_design.specs.declared.design.Port.{Port}
 use Rattle.net_design.specs.declared.design.Direction.{Direction}
@@ -24,11 +26,10 @@ use Rattle.chan_map.specs.Ports.{socket_named, is_pin, source_side, sink_side, l
 use Rattle.chan_map.specs.Reasons.{all_names}
 use Rattle.chan_map.specs.Bound.{place_of, pin_named, rows_of, plugs_of, ties_of, resets_of, later, table_of}
 use Rattle.chan_map.specs.Places.{is_at, reset_places, tie_places, plugs_places}
-use Rattle.chan_map.proofs.Follows.{both_left, both_right}
 use Rattle.chan_map.proofs.Found.{bit_pin, tied_pin}
 use Rattle.chan_map.proofs.Fitting.{Fits}
 use Rattle.chan_map.proofs.Tabled.{follows_told}
-use Rattle.chan_map.proofs.Places.{Hits, standing, hits_in, hits_out, times_out, count_cons, bit, inside}
+use Rattle.chan_map.proofs.Places.{Hits, standing, hits_in, hits_out, times_out, count_cons, inside}
 
 -- the places of the ports with these names
 abbrev pub named_places : List Port → Direction → List (List ℕ) → List (Direction × ℕ)
@@ -43,11 +44,11 @@ ignored entry = []
 
 counted : (ports : List Port) (way : Direction) (place k : ℕ) → Hits ports way place k → (side : Direction) (name : List ℕ)
     → is_pin side (socket_named ports name) ≡ true
-    → bit (is_at way place (side, place_of (socket_named ports name))) ≡ bit (is_port k (socket_named ports name))
-counted ports way place k hits side name pin = ap (λ b. bit b) (hits side name pin)
+    → flag (is_at way place (side, place_of (socket_named ports name))) ≡ flag (is_port k (socket_named ports name))
+counted ports way place k hits side name pin = ap (λ b. flag b) (hits side name pin)
 
 -- a pin in front on one side, and its name on the other
-front : {A B : Type 0} (f : A → Bool) (g : B → Bool) (x : A) (y : B) (xs : List A) (ys : List B) (n : ℕ) → bit (f x) ≡ bit (g y)
+front : {A B : Type 0} (f : A → Bool) (g : B → Bool) (x : A) (y : B) (xs : List A) (ys : List B) (n : ℕ) → flag (f x) ≡ flag (g y)
     → count_by f xs + n ≡ count_by g ys → count_by f (x ∷ xs) + n ≡ count_by g (y ∷ ys)
 front f g x y xs ys n e h = omega (arith, count_cons f x xs, count_cons g y ys, e, h)
 
@@ -65,8 +66,8 @@ contents_counted ports way place k hits side [] e rest words n h = h
 contents_counted ports way place k hits side (name ∷ names) e rest words n h =
     front (is_at way place) (λ x. is_port k (socket_named ports x)) (side, place_of (socket_named ports name)) name
     (map (λ (p : Pin). (side, p.place)) (map (pin_named ports) names) ++ rest) (names ++ words) n
-    (counted ports way place k hits side name (both_left _ _ e))
-    (contents_counted ports way place k hits side names (both_right _ _ e) rest words n h)
+    (counted ports way place k hits side name (left_of _ _ e))
+    (contents_counted ports way place k hits side names (right_of _ _ e) rest words n h)
 
 line_counted : (d : Design) (way : Direction) (place k : ℕ) → Hits d.ports way place k → (entry : Entry) → line_fits d entry ≡ true
     → (clocks : List (List ℕ)) (resets : List ResetOf) (ties : List TieOf) (passed : List (List ℕ)) (rows : List Row)
@@ -78,7 +79,7 @@ line_counted : (d : Design) (way : Direction) (place k : ℕ) → Hits d.ports w
     ≡ times d.ports (names_of entry ++ words) k
 line_counted d way place k hits (Top name) e clocks resets ties passed rows plugs words h = h
 line_counted d way place k hits (Clock port) e clocks resets ties passed rows plugs words h =
-    let one = counted d.ports way place k hits Input port (bit_pin Input (socket_named d.ports port) (both_left _ _ e)).0 in
+    let one = counted d.ports way place k hits Input port (bit_pin Input (socket_named d.ports port) (left_of _ _ e)).0 in
     omega (
       arith,
       h,
@@ -119,15 +120,15 @@ line_counted d way place k hits (Channel c) e clocks resets ties passed rows plu
     let contents = map (λ (p : Pin). (source_side c.dir, p.place)) (map (pin_named d.ports) c.contents) ++ plugs_places rows plugs in
     let ready : Direction × ℕ = (sink_side c.dir, place_of (socket_named d.ports c.ready)) in
     let n = others d.ports way place clocks resets ties passed in
-    let inner = contents_counted d.ports way place k hits (source_side c.dir) c.contents (both_right _ _ (both_right _ _ e))
+    let inner = contents_counted d.ports way place k hits (source_side c.dir) c.contents (right_of _ _ (right_of _ _ e))
     (plugs_places rows plugs) words n h in
     front test name_test (source_side c.dir, place_of (socket_named d.ports c.valid)) c.valid (ready ∷ contents)
     (c.ready ∷ (c.contents ++ words)) n
     (counted d.ports way place k hits (source_side c.dir) c.valid
-    (bit_pin (source_side c.dir) (socket_named d.ports c.valid) (both_left _ _ e)).0)
+    (bit_pin (source_side c.dir) (socket_named d.ports c.valid) (left_of _ _ e)).0)
     (front test name_test ready c.ready contents (c.contents ++ words) n
     (counted d.ports way place k hits (sink_side c.dir) c.ready
-    (bit_pin (sink_side c.dir) (socket_named d.ports c.ready) (both_left _ _ (both_right _ _ e))).0) inner)
+    (bit_pin (sink_side c.dir) (socket_named d.ports c.ready) (left_of _ _ (right_of _ _ e))).0) inner)
 
 abbrev passed_of : List MapLine → List (List ℕ)
 passed_of lines = flat_map (λ (l : MapLine). ignored l.entry) lines
@@ -160,7 +161,7 @@ all_places d lines clock =
     (reset_places (resets_in d lines) ++ (tie_places (ties_in d lines) ++ plugs_places (table_of d lines) (plugs_in d lines)))
 
 count_append : {A : Type 0} (p : A → Bool) (xs ys : List A) → count_by p (xs ++ ys) ≡ count_by p xs + count_by p ys
-count_append p xs ys = sum_by-append (λ x. bit (p x)) xs ys
+count_append p xs ys = sum_by-append (λ x. flag (p x)) xs ys
 
 all_counted : (d : Design) (way : Direction) (place k : ℕ) → Hits d.ports way place k → (lines : List MapLine) → Fits d lines
     → (clock : List ℕ) → flat_map clock_name (entries lines) ≡ clock ∷ []
@@ -188,7 +189,7 @@ all_counted d way place k hits lines fits clock is =
 no_input : (ports : List Port) (place : ℕ) (names : List (List ℕ)) → count_by (is_at Input place) (named_places ports Output names) ≡ 0
 no_input ports place [] = refl
 no_input ports place (name ∷ names) =
-    let off : bit (is_at Input place (Output, place_of (socket_named ports name))) ≡ 0 = refl in
+    let off : flag (is_at Input place (Output, place_of (socket_named ports name))) ≡ 0 = refl in
     omega (
       arith,
       count_cons (is_at Input place) (Output, place_of (socket_named ports name))
@@ -241,13 +242,9 @@ any_front : (f : Entry → Bool) (xs : List Entry) (x : Entry) → list_any f xs
 any_front f [] x e = let off : false ≡ true = e in absurd (cc)
 any_front f (y ∷ xs) x e = or_more (f y) (list_any f xs) (list_any f (xs ++ x ∷ [])) (any_front f xs x) e
 
-or_last : (b c : Bool) → c ≡ true → (b || c) ≡ true
-or_last true c h = refl
-or_last false c h = h
-
 any_last : (f : Entry → Bool) (xs : List Entry) (x : Entry) → f x ≡ true → list_any f (xs ++ x ∷ []) ≡ true
 any_last f [] x e = ap (λ b. b || false) e
-any_last f (y ∷ xs) x e = or_last (f y) (list_any f (xs ++ x ∷ [])) (any_last f xs x e)
+any_last f (y ∷ xs) x e = or_right (f y) (list_any f (xs ++ x ∷ [])) (any_last f xs x e)
 
 none_more : (d : Design) (entry : Entry) (before : List Entry) (rest : List ResetOf) → list_any is_reset before ≡ true
     → may_follow before entry ≡ true → rest ≡ []
@@ -265,8 +262,8 @@ no_more : (d : Design) (before : List Entry) (lines : List MapLine) → list_any
     → follow before (entries lines) ≡ true → resets_in d lines ≡ []
 no_more d before [] there f = refl
 no_more d before (l ∷ lines) there f =
-    none_more d l.entry before (resets_in d lines) there (both_left (may_follow before l.entry) _ f)
-    (no_more d (before ++ l.entry ∷ []) lines (any_front is_reset before l.entry there) (both_right (may_follow before l.entry) _ f))
+    none_more d l.entry before (resets_in d lines) there (left_of (may_follow before l.entry) _ f)
+    (no_more d (before ++ l.entry ∷ []) lines (any_front is_reset before l.entry there) (right_of (may_follow before l.entry) _ f))
 
 first_one : (d : Design) (entry : Entry) (before : List Entry) (lines : List MapLine) → follow (before ++ entry ∷ []) (entries lines) ≡ true
     → option_to_list (later None (resets_in d lines)) ≡ resets_in d lines
@@ -287,7 +284,7 @@ one_reset_behind : (d : Design) (before : List Entry) (lines : List MapLine) →
     → option_to_list (later None (resets_in d lines)) ≡ resets_in d lines
 one_reset_behind d before [] f = refl
 one_reset_behind d before (l ∷ lines) f =
-    let rest = both_right (may_follow before l.entry) _ f in
+    let rest = right_of (may_follow before l.entry) _ f in
     first_one d l.entry before lines rest (one_reset_behind d (before ++ l.entry ∷ []) lines rest)
 
 pub one_reset : (d : Design) (lines : List MapLine) → follow [] (entries lines) ≡ true

@@ -4,6 +4,8 @@ use Rattle.std.proofs.Common.{length, refl, ap, subst, ◌∙◌, arith}
 use Rattle.std.specs.Prelude.{IfSome}
 use Rattle.std.specs.List.{flat_map, list_all, AllZip, AllByRecursion}
 use Rattle.std.proofs.lemmas.Bool.{eqb-true}
+use Rattle.vidi_bits.proofs.Bools.{left_of, right_of}
+use Rattle.vidi_bits.proofs.Each.{each_append}
 use Rattle.vidi_bits.specs.Findings.{told_if}
 use Rattle.net_design.specs.declared.design.Port.{Port}
 use Rattle.net_design.specs.declared.design.Direction.{Direction}
@@ -19,7 +21,6 @@ use Rattle.chan_map.specs.Ports.{socket_named, is_pin, source_side, sink_side, l
 use Rattle.chan_map.specs.Reasons.{port_faults, cover_from, capped}
 use Rattle.chan_map.specs.Bound.{pin_named, width_named, rows_of, plugs_of, ties_of, resets_of, later, table_of, IsPin, IsPlug, IsTie}
 use Rattle.chan_map.proofs.Found.{pin_is, bit_is, tie_is}
-use Rattle.chan_map.proofs.Follows.{both_left, both_right}
 
 pub no_left : {A : Type 0} (xs ys : List A) → xs ++ ys ≡ [] → xs ≡ []
 no_left [] ys e = refl
@@ -32,10 +33,6 @@ no_right (x ∷ xs) ys e = absurd (cc)
 pub told_none : {A : Type 0} (b : Bool) (x : A) → told_if (not b) x ≡ [] → b ≡ true
 told_none true x e = refl
 told_none false x e = absurd (cc)
-
-pub all_append : {A : Type 0} (P : A → Type 0) (xs ys : List A) → AllByRecursion P xs → AllByRecursion P ys → AllByRecursion P (xs ++ ys)
-all_append P [] ys h k = k
-all_append P (x ∷ xs) ys h k = (h.0, all_append P xs ys h.1 k)
 
 zip_append : {A B : Type 0} (R : A → B → Type 0) (xs us : List A) (ys vs : List B) → AllZip R xs ys → AllZip R us vs
     → AllZip R (xs ++ us) (ys ++ vs)
@@ -61,7 +58,7 @@ contents_fit : (d : Design) (side : Direction) (names : List (List ℕ))
     → AllZip (λ width pin. IsPin d side width pin) (map (width_named d.ports) names) (map (pin_named d.ports) names)
 contents_fit d side [] e = tt
 contents_fit d side (name ∷ names) e =
-    (pin_is d side name (socket_named d.ports name) refl (both_left _ _ e), contents_fit d side names (both_right _ _ e))
+    (pin_is d side name (socket_named d.ports name) refl (left_of _ _ e), contents_fit d side names (right_of _ _ e))
 
 plug_fits : (d : Design) (entry : Entry) → line_fits d entry ≡ true → AllZip (IsPlug d) (rows_of d.ports entry) (plugs_of d.ports entry)
 plug_fits d (Top name) e = tt
@@ -71,9 +68,9 @@ plug_fits d (Reset port active cycles) e = tt
 plug_fits d (Ignore port) e = tt
 plug_fits d (Channel c) e = (
   record {
-    valid = bit_is d (source_side c.dir) c.valid (both_left _ _ e);
-    ready = bit_is d (sink_side c.dir) c.ready (both_left _ _ (both_right _ _ e));
-    contents = contents_fit d (source_side c.dir) c.contents (both_right _ _ (both_right _ _ e));
+    valid = bit_is d (source_side c.dir) c.valid (left_of _ _ e);
+    ready = bit_is d (sink_side c.dir) c.ready (left_of _ _ (right_of _ _ e));
+    contents = contents_fit d (source_side c.dir) c.contents (right_of _ _ (right_of _ _ e));
   },
   tt,
 )
@@ -99,7 +96,7 @@ tie_fits d (Channel c) e = tt
 pub ties_fit : (d : Design) (lines : List MapLine) → Fits d lines
     → AllByRecursion (IsTie d) (flat_map (λ (l : MapLine). ties_of d.ports l.entry) lines)
 ties_fit d [] fits = tt
-ties_fit d (l ∷ lines) fits = all_append (IsTie d) (ties_of d.ports l.entry) _ (tie_fits d l.entry fits.0) (ties_fit d lines fits.1)
+ties_fit d (l ∷ lines) fits = each_append (IsTie d) (ties_of d.ports l.entry) _ (tie_fits d l.entry fits.0) (ties_fit d lines fits.1)
 
 abbrev pub IsResetOf : Design → ResetOf → Type 0
 IsResetOf d r = IsPin d Input 1 r.pin
@@ -115,7 +112,7 @@ reset_fits d (Channel c) e = tt
 resets_fit : (d : Design) (lines : List MapLine) → Fits d lines
     → AllByRecursion (IsResetOf d) (flat_map (λ (l : MapLine). resets_of d.ports l.entry) lines)
 resets_fit d [] fits = tt
-resets_fit d (l ∷ lines) fits = all_append (IsResetOf d) (resets_of d.ports l.entry) _ (reset_fits d l.entry fits.0)
+resets_fit d (l ∷ lines) fits = each_append (IsResetOf d) (resets_of d.ports l.entry) _ (reset_fits d l.entry fits.0)
     (resets_fit d lines fits.1)
 
 later_fits : (d : Design) (o : Option ResetOf) (xs : List ResetOf) → IfSome o (IsResetOf d) → AllByRecursion (IsResetOf d) xs
@@ -140,7 +137,7 @@ clock_name_fits d (Channel c) e = tt
 
 clock_names_fit : (d : Design) (lines : List MapLine) → Fits d lines → AllByRecursion (IsClockName d) (flat_map clock_name (entries lines))
 clock_names_fit d [] fits = tt
-clock_names_fit d (l ∷ lines) fits = all_append (IsClockName d) (clock_name l.entry) _ (clock_name_fits d l.entry fits.0)
+clock_names_fit d (l ∷ lines) fits = each_append (IsClockName d) (clock_name l.entry) _ (clock_name_fits d l.entry fits.0)
     (clock_names_fit d lines fits.1)
 
 pub clock_fits : (d : Design) (lines : List MapLine) (clock : List ℕ) → Fits d lines → flat_map clock_name (entries lines) ≡ clock ∷ []

@@ -1,29 +1,19 @@
 -- Lines that follow one another, with one line more.
-use Rattle.std.proofs.Common.{◌≡◌, Bool, true, false, ◌&&◌, List, [], ◌∷◌, ◌++◌, refl, sym, ap, ◌∙◌, append-nil, append_assoc}
+use Rattle.std.proofs.Common.{◌≡◌, true, List, [], ◌∷◌, ◌++◌, refl, sym, ap, ◌∙◌, append-nil, append_assoc}
 use Rattle.std.specs.List.{list_all}
 use Rattle.chan_map.specs.declared.map_text.Entry.{Entry}
 use Rattle.std.proofs.lemmas.List.{map-append}
+use Rattle.std.proofs.lemmas.Bool.{and_from}
+use Rattle.vidi_bits.proofs.Bools.{left_of, right_of}
 use Rattle.chan_map.specs.declared.map_text.MapLine.{MapLine}
 use Rattle.chan_map.specs.Seen.{AreLawful}
 use Rattle.chan_map.specs.Follow.{entries, may_follow, follow, is_named}
 
-pub both_left : (a b : Bool) → a && b ≡ true → a ≡ true
-both_left true b e = refl
-both_left false b e = e
-
-pub both_right : (a b : Bool) → a && b ≡ true → b ≡ true
-both_right true b e = e
-both_right false b e = let off : false ≡ true = e in absurd (cc)
-
-both : (a b : Bool) → a ≡ true → b ≡ true → a && b ≡ true
-both true b p q = q
-both false b p q = p
-
 follow_grows : (b xs : List Entry) (e : Entry) → follow b xs ≡ true → may_follow (b ++ xs) e ≡ true → follow b (xs ++ e ∷ []) ≡ true
-follow_grows b [] e f m = both (may_follow b e) true (ap (λ l. may_follow l e) (sym (append-nil b)) ∙ m) refl
+follow_grows b [] e f m = and_from (may_follow b e) true (ap (λ l. may_follow l e) (sym (append-nil b)) ∙ m) refl
 follow_grows b (x ∷ xs) e f m =
-    both (may_follow b x) _ (both_left (may_follow b x) _ f)
-    (follow_grows (b ++ x ∷ []) xs e (both_right (may_follow b x) _ f) (ap (λ l. may_follow l e) (append_assoc b (x ∷ []) xs) ∙ m))
+    and_from (may_follow b x) _ (left_of (may_follow b x) _ f)
+    (follow_grows (b ++ x ∷ []) xs e (right_of (may_follow b x) _ f) (ap (λ l. may_follow l e) (append_assoc b (x ∷ []) xs) ∙ m))
 
 pub follow_push : (before : List Entry) (e : Entry) → follow [] before ≡ true → may_follow before e ≡ true
     → follow [] (before ++ e ∷ []) ≡ true
@@ -31,8 +21,8 @@ follow_push before e f m = follow_grows [] before e f m
 
 pub named_push : (before : List Entry) (e : Entry) → list_all is_named before ≡ true → is_named e ≡ true
     → list_all is_named (before ++ e ∷ []) ≡ true
-named_push [] e f m = both (is_named e) true m refl
-named_push (x ∷ xs) e f m = both (is_named x) _ (both_left (is_named x) _ f) (named_push xs e (both_right (is_named x) _ f) m)
+named_push [] e f m = and_from (is_named e) true m refl
+named_push (x ∷ xs) e f m = and_from (is_named x) _ (left_of (is_named x) _ f) (named_push xs e (right_of (is_named x) _ f) m)
 
 pub lawful_push : (old new : List MapLine) (l : MapLine) → new ≡ old ++ l ∷ [] → AreLawful (entries old)
     → may_follow (entries old) l.entry ≡ true → is_named l.entry ≡ true → AreLawful (entries new)

@@ -8,14 +8,14 @@ use Rattle.std.proofs.lemmas.Option.{slice_get_cases, get_or_from_slice_get, sli
 use Rattle.std.proofs.lemmas.Slice.Eq.{bytes_eq-Decides}
 use borrow.Author.Tests.{ltb-true}
 use Rattle.std.proofs.lemmas.Bool.{eqb-true}
-use Rattle.vlog_operators.specs.Number.{IsWidth}
+use Rattle.vidi_bits.proofs.Bools.{left_of, right_of}
+use Rattle.vidi_bits.specs.Number.{IsWidth}
 use Rattle.net_design.specs.declared.design.Port.{Port}
 use Rattle.net_design.specs.declared.design.Direction.{Direction}
 use Rattle.net_design.specs.declared.design.Direction.TheVariants.{Input, Output}
 use Rattle.net_design.specs.declared.design.Design.{Design}
 use Rattle.net_design.specs.Settled.{same_direction}
 use Rattle.net_design.specs.Lawful.{IsLawful}
-use Rattle.chan_map.proofs.Follows.{both_left, both_right}
 use Rattle.chan_map.specs.declared.sockets.Socket.{Socket}
 use Rattle.chan_map.specs.Ports.{socket, socket_from, socket_named, is_pin, is_bit, is_tied, HaveWidths}
 use Rattle.chan_map.specs.Bound.{place_of, width_of, pin_named, width_named, IsPin, IsTie}
@@ -118,7 +118,7 @@ pin_is d direction name (Some s) e pin =
 
 pub bit_pin : (direction : Direction) (o : Option Socket) → is_bit direction o ≡ true → (is_pin direction o ≡ true) × (width_of o ≡ 1)
 bit_pin direction None e = let off : false ≡ true = e in absurd (cc)
-bit_pin direction (Some s) e = (both_left _ _ e, eqb-true _ _ (both_right _ _ e))
+bit_pin direction (Some s) e = (left_of _ _ e, eqb-true _ _ (right_of _ _ e))
 
 pub bit_is : (d : Design) (direction : Direction) (name : List ℕ) → is_bit direction (socket_named d.ports name) ≡ true
     → IsPin d direction 1 (pin_named d.ports name)
@@ -128,7 +128,7 @@ bit_is d direction name e =
 
 pub tied_pin : (number : ℕ) (o : Option Socket) → is_tied number o ≡ true → (is_pin Input o ≡ true) × (number < 2 ^ width_of o)
 tied_pin number None e = let off : false ≡ true = e in absurd (cc)
-tied_pin number (Some s) e = (both_left _ _ e, ltb-true _ _ (both_right _ _ e))
+tied_pin number (Some s) e = (left_of _ _ e, ltb-true _ _ (right_of _ _ e))
 
 pub tie_is : (d : Design) (name : List ℕ) (number : ℕ) → is_tied number (socket_named d.ports name) ≡ true
     → IsTie d record { pin = pin_named d.ports name; width = width_named d.ports name; number = number }

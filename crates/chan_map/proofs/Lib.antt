@@ -8,3 +8,5 @@ pub mod Tabled
 pub mod Places
 pub mod Covered
 pub mod Bounds
+pub mod OneText
+pub mod OneBinding

@@ -1,11 +1,13 @@
 -- Of the ports of one direction each has a place of its own.
-use Rattle.std.proofs.Common.{◌≡◌, ◌≢◌, ℕ, zero, suc, ◌+◌, ◌<◌, ◌≤◌, ◌==◌, Bool, true, false, cond, List, [], ◌∷◌, Option, Some, None}
+use Rattle.std.proofs.Common.{◌≡◌, ◌≢◌, ℕ, zero, suc, ◌+◌, ◌<◌, ◌≤◌, ◌==◌, Bool, true, false, List, [], ◌∷◌, Option, Some, None}
 use Rattle.std.proofs.Common.{length, get_or, take, refl, sym, ap, ◌∙◌, arith, inl, inr}
 use Rattle.std.specs.Prelude.{slice_get, count_by}
 use Rattle.std.specs.List.{AllPairs}
-use Rattle.std.proofs.lemmas.Bool.{eqb-true, eq-eqb, and_from, cases_lt}
+use Rattle.std.proofs.lemmas.Bool.{eqb-true, eq-eqb, and_from, cases_lt, false_from_ne_true}
 use Rattle.std.proofs.lemmas.List.{take_all}
 use Rattle.std.proofs.lemmas.List.Sums.{sum_by-cons}
+use Rattle.vidi_bits.proofs.Bools.{left_of, right_of}
+use Rattle.trace_model.proofs.RowLaws.{flag}
 use Rattle.net_design.specs.declared.design.Port.{Port}
 use Rattle.net_design.specs.declared.design.Direction.{Direction}
 use Rattle.net_design.specs.declared.design.Direction.TheVariants.{Input, Output}
@@ -14,32 +16,23 @@ use Rattle.chan_map.specs.declared.sockets.Socket.{Socket}
 use Rattle.chan_map.specs.Ports.{socket_named, is_pin, is_port, times}
 use Rattle.chan_map.specs.Bound.{place_of}
 use Rattle.chan_map.specs.Places.{is_at}
-use Rattle.chan_map.proofs.Follows.{both_left, both_right}
 use Rattle.chan_map.proofs.Counts.{port_below}
 use Rattle.chan_map.proofs.Found.{socket_is, same}
 
--- 1 where it holds, else 0
-abbrev pub bit : Bool → ℕ
-bit b = cond b 1 0
+pub count_cons : {A : Type 0} (p : A → Bool) (x : A) (xs : List A) → count_by p (x ∷ xs) ≡ flag (p x) + count_by p xs
+count_cons p x xs = sum_by-cons (λ y. flag (p y)) x xs
 
-pub count_cons : {A : Type 0} (p : A → Bool) (x : A) (xs : List A) → count_by p (x ∷ xs) ≡ bit (p x) + count_by p xs
-count_cons p x xs = sum_by-cons (λ y. bit (p y)) x xs
-
-one : (b : Bool) → b ≡ true → bit b ≡ 1
+one : (b : Bool) → b ≡ true → flag b ≡ 1
 one true e = refl
 one false e = let off : false ≡ true = e in absurd (cc)
 
-none : (b : Bool) → b ≡ false → bit b ≡ 0
+none : (b : Bool) → b ≡ false → flag b ≡ 0
 none true e = let off : true ≡ false = e in absurd (cc)
 none false e = refl
 
-never : (b : Bool) → (b ≡ true → ⊥) → b ≡ false
-never true h = absurd (h refl)
-never false h = refl
-
 same_bools : (b c : Bool) → (b ≡ true → c ≡ true) → (c ≡ true → b ≡ true) → b ≡ c
 same_bools true c forth back = sym (forth refl)
-same_bools false c forth back = sym (never c (λ e. let off : false ≡ true = back e in absurd (cc)))
+same_bools false c forth back = sym (false_from_ne_true c (λ e. let off : false ≡ true = back e in absurd (cc)))
 
 -- ---- places
 
@@ -49,7 +42,7 @@ earlier f [] i j p at holds less = let off : None ≡ Some p = at in absurd (cc)
 earlier f (x ∷ ports) i zero p at holds less = absurd (omega arith)
 earlier f (x ∷ ports) zero (suc j) p at holds less =
     let is : x ≡ p = cc in
-    let first : bit (f x) ≡ 1 = one (f x) (ap f is ∙ holds) in
+    let first : flag (f x) ≡ 1 = one (f x) (ap f is ∙ holds) in
     omega (arith, count_cons f x (take j ports), first)
 earlier f (x ∷ ports) (suc i) (suc j) p at holds less =
     omega (arith, count_cons f x (take i ports), count_cons f x (take j ports), earlier f ports i j p at holds (omega arith))
@@ -79,7 +72,7 @@ standing_with : (f : Port → Bool) (x : Port) (ports : List Port) (b : Bool) (p
     → place < count_by f (x ∷ ports) → Standing f (x ∷ ports) place
 standing_with f x ports true zero is rest less = record { port = 0; p = x; at = refl; holds = is; stands = refl }
 standing_with f x ports true (suc place) is rest less =
-    let first : bit (f x) ≡ 1 = one (f x) is in
+    let first : flag (f x) ≡ 1 = one (f x) is in
     let s = rest place (omega (arith, less, count_cons f x ports, first)) in
     record {
       port = suc s.port;
@@ -90,7 +83,7 @@ standing_with f x ports true (suc place) is rest less =
           (arith, count_cons f x (take s.port ports), first, s.stands);
     }
 standing_with f x ports false place is rest less =
-    let first : bit (f x) ≡ 0 = none (f x) is in
+    let first : flag (f x) ≡ 0 = none (f x) is in
     let s = rest place (omega (arith, less, count_cons f x ports, first)) in
     record {
       port = suc s.port;
@@ -138,9 +131,9 @@ hits_by ports way place k forth back side name pin = by (socket_named ports name
         λ w. ap (λ (x : Socket). x.place) is.is ∙ ap (λ (x : Direction). count_by (goes x) (take t.port ports)) (to ∙ w) in
         same_bools (is_at way place (side, t.place)) (t.port == k)
         (λ h.
-        let w : side ≡ way = same way side (both_left _ _ h) in
+        let w : side ≡ way = same way side (left_of _ _ h) in
         eq-eqb _ _ (forth t.port is.p is.at (goes_same way is.p (to ∙ w))
-        (sym (counted w) ∙ eqb-true _ _ (both_right (same_direction way side) _ h))))
+        (sym (counted w) ∙ eqb-true _ _ (right_of (same_direction way side) _ h))))
         (λ h.
         let b = back t.port is.p is.at (eqb-true _ _ h) in
         let w : side ≡ way = sym to ∙ same way is.p.direction b.0 in
@@ -187,7 +180,7 @@ times_out ports (name ∷ words) =
   where
     by : (o : Option Socket) → socket_named ports name ≡ o → is_port (length ports) o ≡ false
     by None e = refl
-    by (Some t) e = never (t.port == length ports)
+    by (Some t) e = false_from_ne_true (t.port == length ports)
         (λ h. let is : t.port ≡ length ports = eqb-true _ _ h in absurd (omega (arith, port_below ports name t e, is)))
 
 -- ---- pins that differ

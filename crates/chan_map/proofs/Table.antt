@@ -1,12 +1,13 @@
 -- A table of ports by name grows port by port.
 use Rattle.std.proofs.Common.{◌≡◌, ℕ, suc, ◌+◌, ◌<◌, ◌≤◌, Bool, true, false, cond, if◌then◌else◌, nat_eq, List, [], ◌∷◌, ◌++◌, Option}
-use Rattle.std.proofs.Common.{Some, None, take, drop, length, get_or, refl, sym, ap, ◌∙◌, arith, drop-cons, length-take, is_some}
+use Rattle.std.proofs.Common.{Some, None, take, drop, length, get_or, refl, sym, ap, ◌∙◌, arith, drop-cons, length-take}
 use Rattle.std.proofs.lemmas.List.{take_more}
 use Rattle.std.proofs.lemmas.List.Sums.{sum_by_more}
 use Rattle.std.specs.Prelude.{count_by}
 use Rattle.std.specs.Cmp.Lexicographic.{pointwise}
 use Rattle.std.specs.Map.{lookup}
 use Rattle.std.specs.Str.{bytes_eq}
+use Rattle.vidi_bits.specs.Findings.{or_first}
 use Rattle.indexmap.specs.IndexMap.{IndexMap, get, get_by, insert_entry}
 use Rattle.indexmap.proofs.CallerLemmas.{insert_entry-new}
 use Rattle.net_design.specs.declared.design.Port.{Port}
@@ -15,29 +16,28 @@ use Rattle.net_design.specs.declared.design.Direction.TheVariants.{Input, Output
 use Rattle.net_design.specs.Settled.{same_direction}
 use Rattle.chan_map.specs.declared.sockets.Socket.{Socket}
 use Rattle.chan_map.specs.Ports.{socket, socket_from}
-use Rattle.chan_map.specs.Sockets.{or_else}
 use Rattle.chan_map.proofs.Keys.{Key, same_key}
 
 abbrev pub is_key : List ℕ → Key → Bool
 is_key q v = pointwise nat_eq q v.items
 
 lookup_push : (test : Key → Bool) (es : List (Key × Socket)) (v : Key) (s : Socket)
-    → lookup test (es ++ (v, s) ∷ []) ≡ or_else (lookup test es) (if test v then Some s else None)
+    → lookup test (es ++ (v, s) ∷ []) ≡ or_first (lookup test es) (if test v then Some s else None)
 lookup_push test [] v s = refl
 lookup_push test (e ∷ es) v s = ap (λ rest. cond (test e.0) (Some e.1) rest) (lookup_push test es v s) ∙ cond_else (test e.0) e.1
     (lookup test es) _
   where
-    cond_else : (b : Bool) (x : Socket) (y z : Option Socket) → cond b (Some x) (or_else y z) ≡ or_else (cond b (Some x) y) z
+    cond_else : (b : Bool) (x : Socket) (y z : Option Socket) → cond b (Some x) (or_first y z) ≡ or_first (cond b (Some x) y) z
     cond_else true x y z = refl
     cond_else false x y z = refl
 
 pub grown : {S : Type 0} (m : IndexMap Key Socket S) (new : List (Key × Socket)) (v : Key) (s : Socket) (name q : List ℕ) → v.items ≡ name
     → get_by (is_key name) m ≡ None → new ≡ insert_entry same_key m.entries v s
-    → lookup (is_key q) new ≡ or_else (get_by (is_key q) m) (if bytes_eq q name then Some s else None)
+    → lookup (is_key q) new ≡ or_first (get_by (is_key q) m) (if bytes_eq q name then Some s else None)
 grown m new v s name q is absent inserted =
     let none : get same_key m v ≡ None = ap (λ n. get_by (is_key n) m) is ∙ absent in
     ap (lookup (is_key q)) (inserted ∙ insert_entry-new same_key m v s none) ∙ lookup_push (is_key q) m.entries v s
-    ∙ ap (λ n. or_else (get_by (is_key q) m) (if bytes_eq q n then Some s else None)) is
+    ∙ ap (λ n. or_first (get_by (is_key q) m) (if bytes_eq q n then Some s else None)) is
 
 pub counted : (d : Direction) (ports : List Port) (i n : ℕ) (p : Port) → i < length ports → p ≡ get_or ports i p
     → n ≡ count_by (λ (q : Port). same_direction d q.direction) (take i ports)
@@ -55,8 +55,8 @@ same_place : (d : Direction) (before : List Port) (inputs outputs : ℕ)
 same_place Input before inputs outputs i o = i
 same_place Output before inputs outputs i o = o
 
-found_at : (old rest whole : Option Socket) (b : Bool) (s : Socket) → or_else old (if b then Some s else rest) ≡ whole
-    → or_else (or_else old (if b then Some s else None)) rest ≡ whole
+found_at : (old rest whole : Option Socket) (b : Bool) (s : Socket) → or_first old (if b then Some s else rest) ≡ whole
+    → or_first (or_first old (if b then Some s else None)) rest ≡ whole
 found_at None rest whole true s e = e
 found_at None rest whole false s e = e
 found_at (Some t) rest whole b s e = e
@@ -87,10 +87,10 @@ place_counted ports i inputs outputs place d ins outs is = is ∙ same_place d (
 pub next_found : (ports : List Port) (i place : ℕ) (p : Port) (q : List ℕ) (old new whole : Option Socket) → i < length ports
     → p ≡ get_or ports i p
     → place ≡ count_by (λ (r : Port). same_direction p.direction r.direction) (take i ports)
-    → or_else old (socket_from (take i ports) (drop i ports) q) ≡ whole
-    → new ≡ or_else old (if bytes_eq q p.name then Some record { port = i; direction = p.direction; place = place; width = p.width }
+    → or_first old (socket_from (take i ports) (drop i ports) q) ≡ whole
+    → new ≡ or_first old (if bytes_eq q p.name then Some record { port = i; direction = p.direction; place = place; width = p.width }
     else None)
-    → or_else new (socket_from (take (i + 1) ports) (drop (i + 1) ports) q) ≡ whole
+    → or_first new (socket_from (take (i + 1) ports) (drop (i + 1) ports) q) ≡ whole
 next_found ports i place p q old new whole within at is so_far grew =
     let here : Socket = record { port = i; direction = p.direction; place = place; width = p.width } in
     let after : suc i ≡ i + 1 = omega arith in
@@ -105,13 +105,9 @@ next_found ports i place p q old new whole within at is so_far grew =
     ap (λ rest. socket_from (take i ports) rest q) split
     ∙ ap (λ (x : Socket). if bytes_eq q p.name then Some x else socket_from (take i ports ++ p ∷ []) (drop (i + 1) ports) q) same
     ∙ ap (λ before. if bytes_eq q p.name then Some here else socket_from before (drop (i + 1) ports) q) front in
-    ap (λ o. or_else o (socket_from (take (i + 1) ports) (drop (i + 1) ports) q)) grew
+    ap (λ o. or_first o (socket_from (take (i + 1) ports) (drop (i + 1) ports) q)) grew
     ∙ found_at old (socket_from (take (i + 1) ports) (drop (i + 1) ports) q) whole (bytes_eq q p.name) here
-    (ap (or_else old) (sym step) ∙ so_far)
-
-pub no_some : {A : Type 0} (o : Option A) → is_some o ≡ false → o ≡ None
-no_some None e = refl
-no_some (Some a) e = let off : true ≡ false = e in absurd (cc)
+    (ap (or_first old) (sym step) ∙ so_far)
 
 pub one_more : (b : Bool) (n m i : ℕ) → m ≡ (if b then 1 else 0) → n ≤ i → n + m ≤ i + 1
 one_more true n m i e le = omega arith

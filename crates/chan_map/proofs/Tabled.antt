@@ -12,10 +12,12 @@ use Rattle.std.proofs.lemmas.List.Elements.{All-from_recursion}
 use Rattle.std.proofs.lemmas.List.Sums.{AllPass-from_list_all}
 use Rattle.std.proofs.lemmas.List.Quantifiers.{all_pairs_push}
 use Rattle.std.proofs.lemmas.Slice.Eq.{bytes_eq-Decides}
+use Rattle.vidi_bits.proofs.Bools.{left_of, right_of}
+use Rattle.vidi_bits.proofs.Each.{each_append}
 use Rattle.vidi_bits.specs.Findings.{is_nil, told_if}
 use Rattle.trace_model.specs.declared.channel.Channel.{Channel as Row}
 use Rattle.trace_model.specs.Channel.{is_letter, is_letter_or_digit, IsName, IsChannel, IsTable}
-use Rattle.vlog_operators.specs.Number.{IsWidth}
+use Rattle.vidi_bits.specs.Number.{IsWidth}
 use Rattle.net_design.specs.declared.design.Direction.{Direction}
 use Rattle.net_design.specs.declared.design.Design.{Design}
 use Rattle.chan_map.specs.declared.error.MapError.TheVariants as F
@@ -29,9 +31,8 @@ use Rattle.chan_map.specs.Follow.{entries, is_top, channel_name, channel_names, 
 use Rattle.chan_map.specs.Ports.{socket_named, is_pin, source_side, line_fits, HaveWidths}
 use Rattle.chan_map.specs.Reasons.{count_faults, width_faults, byte_faults, limit_faults, capped}
 use Rattle.chan_map.specs.Bound.{width_of, width_named, rows_of, table_of}
-use Rattle.chan_map.proofs.Follows.{both_left, both_right}
 use Rattle.chan_map.proofs.Found.{socket_is, port_width}
-use Rattle.chan_map.proofs.Fitting.{Fits, no_left, no_right, told_none, all_append}
+use Rattle.chan_map.proofs.Fitting.{Fits, no_left, no_right, told_none}
 
 told_never : {A : Type 0} (b : Bool) (x : A) → told_if b x ≡ [] → b ≡ false
 told_never true x e = absurd (cc)
@@ -42,9 +43,9 @@ told_never false x e = refl
 name_is : (name : List ℕ) → is_channel_name name ≡ true → IsName name
 name_is [] e = let off : false ≡ true = e in absurd (cc)
 name_is (b ∷ bs) e = (
-  both_left (is_letter b) _ e,
-  AllPass-from_list_all is_letter_or_digit bs (both_left (list_all is_letter_or_digit bs) _ (both_right (is_letter b) _ e)),
-  leb-true _ _ (both_right (list_all is_letter_or_digit bs) _ (both_right (is_letter b) _ e)),
+  left_of (is_letter b) _ e,
+  AllPass-from_list_all is_letter_or_digit bs (left_of (list_all is_letter_or_digit bs) _ (right_of (is_letter b) _ e)),
+  leb-true _ _ (right_of (list_all is_letter_or_digit bs) _ (right_of (is_letter b) _ e)),
 )
 
 row_names : (d : Design) (entry : Entry) → is_named entry ≡ true → AllByRecursion (λ (r : Row). IsName r.name) (rows_of d.ports entry)
@@ -59,8 +60,8 @@ table_names : (d : Design) (lines : List MapLine) → list_all is_named (entries
     → AllByRecursion (λ (r : Row). IsName r.name) (table_of d lines)
 table_names d [] e = tt
 table_names d (l ∷ lines) e =
-    all_append (λ (r : Row). IsName r.name) (rows_of d.ports l.entry) (table_of d lines)
-    (row_names d l.entry (both_left (is_named l.entry) _ e)) (table_names d lines (both_right (is_named l.entry) _ e))
+    each_append (λ (r : Row). IsName r.name) (rows_of d.ports l.entry) (table_of d lines)
+    (row_names d l.entry (left_of (is_named l.entry) _ e)) (table_names d lines (right_of (is_named l.entry) _ e))
 
 -- ---- widths
 
@@ -77,7 +78,7 @@ names_widths : (d : Design) → HaveWidths d.ports → (side : Direction) (names
     → AllByRecursion (λ w. (1 ≤ w) × (w ≤ 128)) (map (width_named d.ports) names)
 names_widths d widths side [] e = tt
 names_widths d widths side (name ∷ names) e =
-    (pin_width d widths side name (socket_named d.ports name) refl (both_left _ _ e), names_widths d widths side names (both_right _ _ e))
+    (pin_width d widths side name (socket_named d.ports name) refl (left_of _ _ e), names_widths d widths side names (right_of _ _ e))
 
 abbrev HasWidths : Row → Type 0
 HasWidths r = All (λ w. (1 ≤ w) × (w ≤ 128)) r.widths
@@ -91,14 +92,14 @@ row_widths d widths (Reset port active cycles) e = tt
 row_widths d widths (Ignore port) e = tt
 row_widths d widths (Channel c) e = (
   All-from_recursion (λ w. (1 ≤ w) × (w ≤ 128)) (map (width_named d.ports) c.contents)
-      (names_widths d widths (source_side c.dir) c.contents (both_right _ _ (both_right _ _ e))),
+      (names_widths d widths (source_side c.dir) c.contents (right_of _ _ (right_of _ _ e))),
   tt,
 )
 
 table_widths : (d : Design) → HaveWidths d.ports → (lines : List MapLine) → Fits d lines → AllByRecursion HasWidths (table_of d lines)
 table_widths d widths [] fits = tt
 table_widths d widths (l ∷ lines) fits =
-    all_append HasWidths (rows_of d.ports l.entry) (table_of d lines) (row_widths d widths l.entry fits.0)
+    each_append HasWidths (rows_of d.ports l.entry) (table_of d lines) (row_widths d widths l.entry fits.0)
     (table_widths d widths lines fits.1)
 
 few_ports : (table : List Row) → width_faults table ≡ [] → AllByRecursion (λ (r : Row). length r.widths ≤ 16) table
@@ -169,9 +170,9 @@ names_differ before [] f differ = subst (λ l. Differ (channel_names l)) (sym (a
 names_differ before (x ∷ more) f differ =
     let one : Differ (channel_names (before ++ x ∷ [])) =
     subst Differ (ap (λ l. channel_names before ++ l) (sym (append-nil (channel_name x))) ∙ sym (names_append before (x ∷ [])))
-    (differ_more before x (both_left (may_follow before x) _ f) differ) in
+    (differ_more before x (left_of (may_follow before x) _ f) differ) in
     subst (λ l. Differ (channel_names l)) (append_assoc before (x ∷ []) more)
-    (names_differ (before ++ x ∷ []) more (both_right (may_follow before x) _ f) one)
+    (names_differ (before ++ x ∷ []) more (right_of (may_follow before x) _ f) one)
 
 named_rows : (d : Design) (entry : Entry) → map (λ (r : Row). r.name) (rows_of d.ports entry) ≡ channel_name entry
 named_rows d (Top name) = refl
@@ -201,8 +202,8 @@ table_is d widths lines fits follows named none =
     let count : nat_le 1 (length table) && nat_le (length table) 32 ≡ true = told_none _ _ (no_left (count_faults table) _ none) in
     let others : width_faults table ++ byte_faults table ≡ [] = no_right (count_faults table) _ none in
     record {
-      some = leb-true _ _ (both_left _ _ count);
-      few = leb-true _ _ (both_right (nat_le 1 (length table)) _ count);
+      some = leb-true _ _ (left_of _ _ count);
+      few = leb-true _ _ (right_of (nat_le 1 (length table)) _ count);
       each = All-from_recursion IsChannel table
           (rows_lawful table (table_names d lines named) (table_widths d widths lines fits)
           (few_ports table (no_left (width_faults table) _ others)));

@@ -23,7 +23,9 @@ use Rattle.chan_map.specs.declared.pins.Plug.{Plug}
 use Rattle.chan_map.specs.declared.pins.Tie.{Tie}
 use Rattle.chan_map.specs.declared.pins.Reset.{Reset}
 use Rattle.chan_map.specs.Ports.{socket_named, source_side, sink_side, times}
-use Rattle.chan_map.specs.Reasons.{port_faults, cover_faults, limit_faults, all_names, IsFirst}
+use Rattle.chan_map.specs.Reasons.{port_faults, cover_faults, limit_faults, all_names}
+use Rattle.vidi_bits.specs.Findings.{IsFirst}
+use Rattle.chan_map.specs.Told.{map_told}
 use Rattle.chan_map.specs.Places.{is_at, places}
 
 abbrev pub place_of : Option Socket → ℕ
@@ -126,4 +128,4 @@ pub record IsBound (text : MapText) (d : Design) (map : Map) : Type 0 where
 -- a bound map exactly where nothing is found, else the first finding; want of memory is free
 abbrev pub BindsMap : MapText → Design → Result Map MapError → Type 0
 BindsMap text d (Ok map) = (map_faults d text.lines ≡ []) × IsBound text d map
-BindsMap text d (Err error) = IsFirst (map_faults d text.lines) error
+BindsMap text d (Err error) = IsFirst map_told (map_faults d text.lines) error

@@ -9,3 +9,5 @@ pub mod Bound
 pub mod Times
 pub mod Parts
 pub mod Places
+pub mod Told
+pub mod Laws

@@ -10,7 +10,7 @@ use Rattle.net_design.specs.declared.design.Driver.{Driver}
 use Rattle.net_design.specs.declared.design.Direction.{Direction}
 use Rattle.net_design.specs.declared.design.Direction.TheVariants.{Input, Output}
 use Rattle.net_design.specs.declared.design.Design.{Design}
-use Rattle.vlog_operators.specs.Number.{IsWidth}
+use Rattle.vidi_bits.specs.Number.{IsWidth}
 use Rattle.net_design.specs.Settled.{same_direction}
 use Rattle.net_design.specs.Bits.{named}
 use Rattle.vidi_bits.specs.Findings.{is_nil}

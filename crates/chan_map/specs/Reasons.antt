@@ -1,12 +1,12 @@
 -- M2, M3 and M4: how the lines of a map don't fit a design (this project's profile).
-use Rattle.std.specs.Prelude.{◌≡◌, ℕ, ◌+◌, ◌-◌, ◌^◌, ◌==◌, ◌&&◌, not, nat_lt, nat_le, min, Some, Result, Ok, Err, List, [], ◌∷◌, ◌++◌}
+use Rattle.std.specs.Prelude.{ℕ, ◌+◌, ◌-◌, ◌^◌, ◌==◌, ◌&&◌, not, nat_lt, nat_le, min, List, [], ◌∷◌, ◌++◌}
 use Rattle.std.specs.Prelude.{length, sum_by}
 use Rattle.std.specs.List.{flat_map}
 use Rattle.trace_model.specs.declared.channel.Channel.{Channel as Row}
 use Rattle.trace_model.specs.Channel.{content_bytes}
 use Rattle.net_design.specs.declared.design.Port.{Port}
 use Rattle.net_design.specs.declared.design.Design.{Design}
-use Rattle.vidi_bits.specs.Findings.{first, told_if}
+use Rattle.vidi_bits.specs.Findings.{told_if}
 use Rattle.chan_map.specs.declared.error.MapError.{MapError}
 use Rattle.chan_map.specs.declared.error.MapError.TheVariants as E
 use Rattle.chan_map.specs.declared.error.MapLimit.TheVariants.{Channels, Ports, Bytes}
@@ -46,13 +46,3 @@ byte_faults table = told_if (nat_lt 1024 (sum_by content_bytes table)) (E.Limit 
 
 abbrev pub limit_faults : List Row → List MapError
 limit_faults table = count_faults table ++ (width_faults table ++ byte_faults table)
-
--- the first of the findings; want of memory is free
-abbrev pub IsFirst : List MapError → MapError → Type 0
-IsFirst faults E.Memory = Unit {0}
-IsFirst faults error = first faults ≡ Some error
-
--- nothing is found, or the first finding is answered
-abbrev pub Tried : {A : Type 0} → List MapError → Result A MapError → Type 0
-Tried faults (Ok a) = faults ≡ []
-Tried faults (Err error) = IsFirst faults error

@@ -1,13 +1,9 @@
 -- A table of ports by name.
-use Rattle.std.specs.Prelude.{◌≡◌, ℕ, nat_eq, List, Option, Some, None}
+use Rattle.std.specs.Prelude.{◌≡◌, ℕ, nat_eq, List}
 use Rattle.std.specs.Cmp.Lexicographic.{pointwise}
 use Rattle.indexmap.specs.IndexMap.{get_by}
 use Rattle.chan_map.specs.declared.sockets.Top.{Top}
 use Rattle.chan_map.specs.Ports.{socket_named}
-
-abbrev pub or_else : {A : Type 0} → Option A → Option A → Option A
-or_else None b = b
-or_else (Some a) b = Some a
 
 -- the table gives each name its port of the design
 abbrev pub IsTop : Top → Type 0

@@ -3,7 +3,8 @@
 ghost use Rattle.std.specs.Prelude.{◌<◌, ℕ, List, IfOk};
 ghost use Rattle.chan_map.specs.Ports.{HaveWidths};
 ghost use Rattle.chan_map.specs.Sockets.{IsTop};
-ghost use Rattle.chan_map.specs.Reasons.{Tried};
+ghost use Rattle.vidi_bits.specs.Findings.{Judged};
+ghost use Rattle.chan_map.specs.Told.{map_told};
 ghost use Rattle.chan_map.specs.Bound.{width_named, map_faults, BindsMap};
 ghost use Rattle.chan_map.specs.Parts.{ArePartsOf};
 
@@ -24,7 +25,7 @@ use vidi_bits::copied;
 fn checked_parts(alloc: Global, top: &Top, lines: &[MapLine]) -> Result<Parts, MapError>
     requires top { IsTop top.now }
     requires narrow { (name : List ℕ) → width_named top.now.design.now.ports name < 256 }
-    ensures tried { Tried (map_faults top.now.design.now lines.now) result }
+    ensures tried { Judged map_told result (map_faults top.now.design.now lines.now) }
     ensures parts { IfOk result (ArePartsOf top.now.design.now lines.now) }
 {
     check_lines(top, lines)?;

@@ -7,7 +7,9 @@ ghost use Rattle.chan_map.specs.declared.map_text.Entry.TheVariants.{Clock};
 ghost use Rattle.chan_map.specs.Sockets.{IsTop};
 ghost use Rattle.chan_map.specs.Ports.{socket_named, is_pin, is_bit, is_tied, is_read, is_own_clock, is_clock_of};
 ghost use Rattle.chan_map.specs.Ports.{source_side, sink_side, channel_fits, line_fits};
-ghost use Rattle.chan_map.specs.Reasons.{port_faults, Tried};
+ghost use Rattle.chan_map.specs.Reasons.{port_faults};
+ghost use Rattle.vidi_bits.specs.Findings.{Judged};
+ghost use Rattle.chan_map.specs.Told.{map_told};
 
 use crate::error::MapError;
 use crate::map_text::{ChannelLine, Entry, MapLine};
@@ -157,7 +159,7 @@ fn line_fits(top: &Top, entry: &Entry) -> bool
 /// `Port`, with the first line that doesn't fit the design.
 pub fn check_lines(top: &Top, lines: &[MapLine]) -> Result<(), MapError>
     requires { IsTop top.now }
-    ensures { Tried (port_faults top.now.design.now lines.now) result }
+    ensures { Judged map_told result (port_faults top.now.design.now lines.now) }
 {
     for l in lines {
         if !line_fits(top, &l.entry) {

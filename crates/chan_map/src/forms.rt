@@ -1,16 +1,14 @@
 //! The forms of a map's lines.
 
 ghost use Rattle.std.specs.Prelude.{◌≡◌, IfOk, IfSome, true};
-ghost use Rattle.std.specs.List.{list_all};
 ghost use Rattle.std.specs.Str.{bytes_eq};
 ghost use Rattle.vidi_lines.specs.Number.{number_of};
-ghost use Rattle.trace_model.specs.Channel.{is_letter, is_letter_or_digit};
 ghost use Rattle.chan_map.specs.Follow.{is_named};
 ghost use Rattle.chan_map.specs.Forms.{keyword_of, is_channel_name, tie_of, reset_of, form_of, channel_of, entry_of};
 
 use crate::map_text::{ChannelLine, Entry};
 use std::alloc::Global;
-use trace_model::Dir;
+use trace_model::{Dir, are_letters_or_digits, is_letter};
 use vidi_bits::{Items, Memory, Name, copied};
 use vidi_lines::{Names, number};
 
@@ -53,24 +51,6 @@ fn keyword_of(word: &[u8]) -> Option<Keyword>
     } else {
         None
     }
-}
-
-fn is_letter(b: u8) -> bool
-    ensures { result ≡ is_letter b }
-{
-    matches!(b, b'A'..=b'Z' | b'a'..=b'z' | b'_')
-}
-
-fn is_letter_or_digit(b: u8) -> bool
-    ensures { result ≡ is_letter_or_digit b }
-{
-    is_letter(b) || matches!(b, b'0'..=b'9')
-}
-
-fn are_letters_or_digits(bytes: &[u8]) -> bool
-    ensures { result ≡ list_all is_letter_or_digit bytes.now }
-{
-    bytes.iter().all(|b| is_letter_or_digit(*b))
 }
 
 fn is_channel_name(name: &[u8]) -> bool

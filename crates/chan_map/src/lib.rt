@@ -2,7 +2,7 @@
 //!
 //! The definitions stand in `specs/`: `Forms` (what a line of a map says), `Text` (reason M1, over a whole file),
 //! `Ports` (the ports that words name), `Reasons` (M2, M3 and M4), `Bound` (the map that lines and a design make) and `Places`
-//! (its pins).
+//! (its pins). `Laws` says that of a text there is one list of lines, and of lines and a design one map.
 #![tactic(auto)]
 
 mod binding;
@@ -22,7 +22,7 @@ mod times;
 
 pub use binding::bind_map;
 pub use error::{MapError, MapLimit};
-pub use laws::{have_widths, lawful_ports_have_widths};
+pub use laws::{have_widths, lawful_ports_have_widths, one_binding, one_map_text};
 pub use map_text::{ChannelLine, Entry, MapLine, MapLines};
 pub use pins::{Map, Pin, Pins, Plug, Plugs, Reset, Tie, Ties};
 pub use reading::read_map;

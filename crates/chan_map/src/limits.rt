@@ -2,7 +2,9 @@
 
 ghost use Rattle.std.specs.Prelude.{◌≡◌, sum_by};
 ghost use Rattle.trace_model.specs.Channel.{byte_count, content_bytes};
-ghost use Rattle.chan_map.specs.Reasons.{capped, count_faults, width_faults, byte_faults, limit_faults, Tried};
+ghost use Rattle.chan_map.specs.Reasons.{capped, count_faults, width_faults, byte_faults, limit_faults};
+ghost use Rattle.vidi_bits.specs.Findings.{Judged};
+ghost use Rattle.chan_map.specs.Told.{map_told};
 
 use crate::error::{MapError, MapLimit};
 use trace_model::Channel;
@@ -37,7 +39,7 @@ fn all_bytes(channels: &[Channel]) -> u32
 }
 
 fn check_count(channels: &[Channel]) -> Result<(), MapError>
-    ensures { Tried (count_faults channels.now) result }
+    ensures { Judged map_told result (count_faults channels.now) }
 {
     let n = channels.len();
     if n < 1 || n > 32 {
@@ -50,7 +52,7 @@ fn check_count(channels: &[Channel]) -> Result<(), MapError>
 }
 
 fn check_widths(channels: &[Channel]) -> Result<(), MapError>
-    ensures { Tried (width_faults channels.now) result }
+    ensures { Judged map_told result (width_faults channels.now) }
 {
     for c in channels {
         let n = c.widths.len();
@@ -65,7 +67,7 @@ fn check_widths(channels: &[Channel]) -> Result<(), MapError>
 }
 
 fn check_bytes(channels: &[Channel]) -> Result<(), MapError>
-    ensures { Tried (byte_faults channels.now) result }
+    ensures { Judged map_told result (byte_faults channels.now) }
 {
     let got = all_bytes(channels);
     if got > 1024 {
@@ -79,7 +81,7 @@ fn check_bytes(channels: &[Channel]) -> Result<(), MapError>
 
 /// `Limit`, with the first limit that the table passes.
 pub fn check_limits(channels: &[Channel]) -> Result<(), MapError>
-    ensures { Tried (limit_faults channels.now) result }
+    ensures { Judged map_told result (limit_faults channels.now) }
 {
     check_count(channels)?;
     check_widths(channels)?;

@@ -3,11 +3,12 @@
 ghost use Rattle.std.specs.Prelude.{◌≡◌, ◌≢◌, ◌<◌, ℕ, Some, None, List, IfOk, OnOk, nat_eq, if◌then◌else◌};
 ghost use Rattle.std.specs.Cmp.Lexicographic.{pointwise};
 ghost use Rattle.std.specs.Str.{bytes_eq};
+ghost use Rattle.vidi_bits.specs.Findings.{or_first};
 ghost use Rattle.indexmap.specs.IndexMap.{get_by};
 ghost use Rattle.net_design.specs.declared.design.Direction.TheVariants.{Input, Output};
 ghost use Rattle.net_design.specs.Settled.{same_direction};
 ghost use Rattle.chan_map.specs.Ports.{socket_named};
-ghost use Rattle.chan_map.specs.Sockets.{or_else, IsTop};
+ghost use Rattle.chan_map.specs.Sockets.{IsTop};
 
 use indexmap::IndexMap;
 use net_design::{Design, Direction, Port};
@@ -59,7 +60,7 @@ fn add_socket(
     socket: Socket,
 ) -> Result<(), Memory>
     ensures { OnOk result ((q : List ℕ) → get_by (λ v. pointwise nat_eq q v.items) sockets.new
-        ≡ or_else (get_by (λ v. pointwise nat_eq q v.items) sockets.old) (if bytes_eq q name.now then Some socket else None)) }
+        ≡ or_first (get_by (λ v. pointwise nat_eq q v.items) sockets.old) (if bytes_eq q name.now then Some socket else None)) }
 {
     if socket_under(sockets, name).is_some() {
         return Ok(());

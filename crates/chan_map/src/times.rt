@@ -3,7 +3,9 @@
 ghost use Rattle.std.specs.Prelude.{◌≡◌, ◌+◌, ◌<◌, ◌∷◌, [], ℕ, List, length, IfOk, slice_index, slice_set, replicate};
 ghost use Rattle.chan_map.specs.Sockets.{IsTop};
 ghost use Rattle.chan_map.specs.Ports.{names_of};
-ghost use Rattle.chan_map.specs.Reasons.{capped, all_names, cover_faults, Tried};
+ghost use Rattle.chan_map.specs.Reasons.{capped, all_names, cover_faults};
+ghost use Rattle.vidi_bits.specs.Findings.{Judged};
+ghost use Rattle.chan_map.specs.Told.{map_told};
 ghost use Rattle.chan_map.specs.Times.{Adds, AreTimes};
 
 use crate::error::MapError;
@@ -99,7 +101,7 @@ fn times_of(alloc: Global, top: &Top, lines: &[MapLine]) -> Result<Counts, Memor
 /// `Cover`, with the first port that the lines don't name exactly once.
 pub fn check_cover(alloc: Global, top: &Top, lines: &[MapLine]) -> Result<(), MapError>
     requires { IsTop top.now }
-    ensures { Tried (cover_faults top.now.design.now lines.now) result }
+    ensures { Judged map_told result (cover_faults top.now.design.now lines.now) }
 {
     let counts = times_of(alloc, top, lines)?;
     for (k, p) in top.design.ports.as_slice().iter().enumerate() {

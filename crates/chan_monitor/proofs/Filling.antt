@@ -1,64 +1,31 @@
 -- Masks and contents that are made channel by channel.
-use Rattle.std.proofs.Common.{◌≡◌, ℕ, zero, suc, ◌+◌, ◌*◌, ◌%◌, ◌<◌, ◌≤◌, ◌^◌, ◌&&◌, Bool, true, false, not, cond, List, [], ◌∷◌}
-use Rattle.std.proofs.Common.{◌++◌, Some, length, take, drop, replicate, get_or, set, slice_get, append_assoc, add-one}
+use Rattle.std.proofs.Common.{◌≡◌, ℕ, ◌+◌, ◌*◌, ◌<◌, ◌≤◌, ◌^◌, ◌&&◌, Bool, true, false, not, cond, List, [], ◌∷◌}
+use Rattle.std.proofs.Common.{◌++◌, Some, length, take, drop, get_or, set, slice_get, append_assoc}
 use Rattle.std.proofs.Common.{refl, ap, sym, ◌∙◌, arith}
-use mir.Val.{bool_byte}
-use Rattle.std.proofs.Math.Nat.{pow-le-pow_right, mod-le}
 use Rattle.std.proofs.lemmas.List.{append-nil, length-append, length-drop, length-map, length-take-le, map-append, take-append-drop}
 use Rattle.std.proofs.lemmas.List.{take_at}
-use Rattle.std.proofs.lemmas.List.{take_all, drop_at, drop-drop, drop_more, drop_all, set_at, replicate-append-replicate}
+use Rattle.std.proofs.lemmas.List.{take_all, drop_at, drop-drop, drop_all}
 use Rattle.std.proofs.lemmas.Option.{slice_get_read}
 use Rattle.trace_model.specs.declared.channel.Channel.{Channel}
 use Rattle.trace_model.specs.declared.channel.Dir.{Dir}
 use Rattle.trace_model.specs.declared.channel.Dir.TheVariants.{Inward, Outward}
 use Rattle.trace_model.specs.declared.row.Offers.{Offers}
-use Rattle.trace_model.specs.Counting.{has}
 use Rattle.trace_model.specs.Packet.{Fit}
-use Rattle.trace_model.specs.Row.{all_widths, content_at}
+use Rattle.trace_model.specs.Row.{all_widths, content_at, replaced}
 use Rattle.trace_model.proofs.CountingLemmas.{take-more_read}
 use Rattle.trace_model.proofs.ContentsLemmas.{fit-length}
-use Rattle.trace_model.proofs.RowLemmas.{first_of, first-more, first-within, content-read}
+use Rattle.trace_model.proofs.RowLemmas.{first_of, first-more, first-within, content-read, replaced-more}
 use Rattle.chan_map.specs.declared.pins.Pin.{Pin}
 use Rattle.chan_map.specs.declared.pins.Plug.{Plug}
 use Rattle.run_model.specs.Building.{at_plug, content_on, joined, mask_of}
-use Rattle.run_model.specs.Offers.{no_content}
+use Rattle.run_model.specs.Offers.{no_content, AreZeroWhileDown}
 use Rattle.std.proofs.lemmas.List.{get_or_read}
+use Rattle.run_model.proofs.Contents.{mask-more}
+use Rattle.vidi_bits.specs.Number.{has}
+use Rattle.run_model.proofs.JoinedLaws.{joined-more}
 use Rattle.chan_monitor.specs.declared.monitor.Passed.{Passed}
 use Rattle.chan_monitor.specs.Passing.{passed}
-use Rattle.chan_monitor.specs.Shell.{AreZeroWhileDown}
-use Rattle.chan_monitor.specs.Showing.{filled, read, replaced, IsPlugShown, ArePlugsShown}
-
--- ---- masks
--- a mask with one more bit is a number of 128 bits
-pub bit-fits : (mask c n : ℕ) → n ≤ 1 → mask < 2 ^ c → c < 128 → mask + n * 2 ^ c % 2 ^ 128 < 2 ^ 128
-bit-fits mask zero n one l few = let m = mod-le (n * 2 ^ 0) (2 ^ 128) in omega (arith, one, l, m)
-bit-fits mask (suc c) n one l few =
-    let h : suc (suc c) ≤ 128 = omega (arith, few) in
-    let p : 2 ^ suc (suc c) ≤ 2 ^ 128 = pow-le-pow_right (omega arith) h in
-    let q : 2 ^ suc (suc c) ≡ 2 ^ suc c + 2 ^ suc c = omega arith in
-    let m = mod-le (n * 2 ^ suc c) (2 ^ 128) in
-    small n one p q m
-  where
-    small : (k : ℕ) → k ≤ 1 → 2 ^ suc (suc c) ≤ 2 ^ 128 → 2 ^ suc (suc c) ≡ 2 ^ suc c + 2 ^ suc c
-        → k * 2 ^ suc c % 2 ^ 128 ≤ k * 2 ^ suc c → mask + k * 2 ^ suc c % 2 ^ 128 < 2 ^ 128
-    small zero h p q m = omega (arith, p, q, m, l)
-    small (suc zero) h p q m = omega (arith, p, q, m, l)
-    small (suc (suc k)) h p q m = absurd (omega (arith, h))
-
-pub flag-small : (b : Bool) → bool_byte b ≤ 1
-flag-small true = omega arith
-flag-small false = omega arith
-
-pub mask-more : (f : ℕ → Bool) (c : ℕ) (up : Bool) (mask new : ℕ) → up ≡ f c → new ≡ cond up 1 0 * 2 ^ c + mask → mask ≡ mask_of f c
-    → new ≡ mask_of f (c + 1)
-mask-more f c up mask new u n m =
-    n ∙ ap (λ b. cond b 1 0 * 2 ^ c + mask) u ∙ ap (λ k. cond (f c) 1 0 * 2 ^ c + k) m ∙ sym (ap (mask_of f) (add-one c))
-
-pub same-mask : (f g : ℕ → Bool) (n : ℕ) → ((c : ℕ) → c < n → f c ≡ g c) → mask_of f n ≡ mask_of g n
-same-mask f g zero h = refl
-same-mask f g (suc n) h =
-    ap (λ b. cond b 1 0 * 2 ^ n + mask_of f n) (h n (omega arith))
-    ∙ ap (λ m. cond (g n) 1 0 * 2 ^ n + m) (same-mask f g n (λ c l. h c (omega (arith, l))))
+use Rattle.chan_monitor.specs.Showing.{filled, read, IsPlugShown, ArePlugsShown}
 
 -- ---- at a channel and its plug
 pub plug-at : {A : Type 0} (none : A) (f : Dir → Plug → A) (channels : List Channel) (plugs : List Plug) (c : ℕ) (x : Channel) (plug : Plug)
@@ -86,26 +53,6 @@ plug-shown n channels plugs are c x plug l ex ep =
     (slice_get_read plugs (length plugs) c plug refl (let m = are.many in omega (arith, l, m)) ep)
 
 -- ---- numbers in place of others
-pub replaced-none : (contents : List ℕ) (at : ℕ) → contents ≡ replaced contents at []
-replaced-none contents at =
-    let z : at + 0 ≡ at = omega arith in
-    sym (ap (λ xs. xs ++ drop (at + 0) contents) (append-nil (take at contents))
-    ∙ ap (λ k. take at contents ++ drop k contents) z ∙ take-append-drop at contents)
-
-pub replaced-more : (contents numbers now new : List ℕ) (at y : ℕ) → at + length numbers < length contents
-    → now ≡ replaced contents at numbers → new ≡ set now (at + length numbers) y → new ≡ replaced contents at (numbers ++ y ∷ [])
-replaced-more contents numbers now new at y l n w =
-    let k = at + length numbers in
-    let front = take at contents ++ numbers in
-    let long : length front ≡ k = length-append (take at contents) numbers
-    ∙ ap (λ m. m + length numbers) (length-take-le at contents (omega (arith, l))) in
-    let next : at + length (numbers ++ y ∷ []) ≡ k + 1 = let a = length-append numbers (y ∷ []) in omega (arith, a) in
-    w ∙ ap (λ xs. set xs k y) n
-    ∙ ap (λ xs. set (front ++ xs) k y) (drop_more contents k 0 l)
-    ∙ set_at front (get_or contents k 0) (drop (k + 1) contents) y k long
-    ∙ sym (append_assoc front (y ∷ []) (drop (k + 1) contents))
-    ∙ ap (λ xs. xs ++ drop (k + 1) contents) (append_assoc (take at contents) numbers (y ∷ []))
-    ∙ ap (λ m. take at contents ++ (numbers ++ y ∷ []) ++ drop m contents) (sym next)
 
 pub read-more : (out : List ℕ) (pins : List Pin) (i : ℕ) (pin : Pin) → i < length pins → pin ≡ get_or pins i pin
     → read out (take (i + 1) pins) ≡ read out (take i pins) ++ get_or out pin.place 0 ∷ []
@@ -127,19 +74,6 @@ pin-read contents now new out pins at i y pin l e room ey n w =
     ∙ ap (replaced contents at) (sym (read-more out pins i pin l e))
 
 -- ---- the contents of all channels
-joined-push : (f : ℕ → List ℕ) (k : ℕ) (xs : List Channel) (x : Channel) → joined f k (xs ++ x ∷ []) ≡ joined f k xs ++ f (k + length xs)
-joined-push f k [] x = append-nil (f k) ∙ ap f (let z : k ≡ k + 0 = omega arith in z)
-joined-push f k (y ∷ ys) x =
-    ap (λ zs. f k ++ zs) (joined-push f (k + 1) ys x)
-    ∙ sym (append_assoc (f k) (joined f (k + 1) ys) (f (k + 1 + length ys)))
-    ∙ ap (λ n. f k ++ joined f (k + 1) ys ++ f n) (let z : k + 1 + length ys ≡ k + suc (length ys) = omega arith in z)
-
-joined-more : (f : ℕ → List ℕ) (channels : List Channel) (c : ℕ) (x : Channel) → c < length channels → x ≡ get_or channels c x
-    → joined f 0 (take (c + 1) channels) ≡ joined f 0 (take c channels) ++ f c
-joined-more f channels c x l e =
-    ap (joined f 0) (take-more_read channels c x l e) ∙ joined-push f 0 (take c channels) x
-    ∙ ap (λ n. joined f 0 (take c channels) ++ f n)
-    (let k = length-take-le c channels (omega (arith, l)) in let z : 0 + length (take c channels) ≡ c = omega (arith, k) in z)
 
 -- the offered content of an inward channel, 0 while its valid is down
 pub offered-is : (channels : List Channel) (offers : Offers) (c : ℕ) (b : Bool) → has offers.valids c ≡ b
@@ -228,10 +162,6 @@ fill-done channels plugs offers out contents c at fit l are =
     let b = fit-length (all_widths channels) offers.contents fit in omega (arith, p, a, b) in
     are.filled_is ∙ ap (λ cs. joined f 0 cs ++ drop at offers.contents) all
     ∙ ap (λ xs. joined f 0 channels ++ xs) (drop_all at offers.contents past) ∙ append-nil (joined f 0 channels)
-
--- ---- zeros
-pub zeros-more : (n m : ℕ) (zeros new : List ℕ) → zeros ≡ replicate n 0 → new ≡ zeros ++ replicate m 0 → new ≡ replicate (n + m) 0
-zeros-more n m zeros new z e = e ∙ ap (λ xs. xs ++ replicate m 0) z ∙ replicate-append-replicate n m 0
 
 -- ---- what a monitor passes of a row's masks
 pub passed-is : (c : ℕ) (flight : Bool) (p : Passed) (gates valids readies : ℕ) (gate valid ready : Bool) → gate ≡ has gates c

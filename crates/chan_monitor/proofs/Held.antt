@@ -10,12 +10,14 @@ use Rattle.std.proofs.lemmas.List.Elements.{All-cons, All-append, All-nil, All-h
 use Rattle.std.proofs.lemmas.List.Elements.{All-weaker}
 use Rattle.std.proofs.lemmas.List.FromFn.{length-enumerate_from}
 use Rattle.std.proofs.lemmas.Option.{slice_get-get_or, same_Some, IfSome_then}
+use Rattle.std.proofs.lemmas.Nat.{pow_pos}
+use Rattle.vidi_bits.specs.Number.{truth, has}
+use Rattle.vidi_bits.proofs.BitLemmas.{has-above}
 use Rattle.trace_model.specs.declared.channel.Channel.{Channel}
 use Rattle.trace_model.specs.declared.channel.Dir.{Dir}
 use Rattle.trace_model.specs.declared.channel.Dir.TheVariants.{Inward, Outward}
 use Rattle.trace_model.specs.declared.row.Offers.{Offers}
 use Rattle.trace_model.specs.declared.row.Row.{Row}
-use Rattle.trace_model.specs.Counting.{has}
 use Rattle.trace_model.specs.Row.{content_at, sink_valid, AreOffers}
 use Rattle.trace_model.proofs.CountingLemmas.{count-cons, nth-below}
 use Rattle.net_design.specs.declared.design.Port.{Port}
@@ -30,14 +32,12 @@ use Rattle.chan_map.specs.declared.pins.Plug.{Plug}
 use Rattle.chan_map.specs.declared.pins.Reset.{Reset}
 use Rattle.chan_map.specs.declared.pins.Tie.{Tie}
 use Rattle.chan_map.specs.Bound.{IsPin, IsPlug, IsTie}
-use Rattle.chan_map.specs.Ports.{source_side, sink_side}
 use Rattle.run_model.specs.Building.{AreSmall}
 use Rattle.run_model.specs.declared.pins.PinNumber.{PinNumber}
 use Rattle.run_model.specs.MapOf.{IsMapOf}
-use Rattle.run_model.specs.Pins.{flag, pin_number, shown_number, plug_inputs, inputs_from, reset_input, tie_input, entered, silent, ArePins}
-use Rattle.run_model.proofs.Contents.{has-above}
+use Rattle.run_model.specs.Pins.{pin_number, shown_number, plug_inputs, inputs_from, reset_input, tie_input, entered, silent, ArePins}
 use Rattle.run_model.proofs.PinLemmas.{all-at, at_place, count-append, count-entered, enters, input-count, length-entered, output-below}
-use Rattle.run_model.proofs.PinLemmas.{stands, ways}
+use Rattle.run_model.proofs.PinLemmas.{stands, ways, IsSide}
 use Rattle.run_model.proofs.RowParts.{has-plug, small-row}
 use Rattle.chan_monitor.specs.Around.{AreHeld}
 use Rattle.chan_monitor.specs.Entering.{write, held_inputs, offered, input_count, inputs_count, IsPlugWithin, AreTiesWithin, ArePlugsWithin}
@@ -183,20 +183,16 @@ off c = has-above 0 0 c (omega arith) (omega arith)
 off-and : (b : Bool) (c : ℕ) → (has 0 c && b) ≡ false
 off-and b c = ap (λ x. x && b) (off c)
 
-positive : (n : ℕ) → 0 < 2 ^ n
-positive zero = omega arith
-positive (suc n) = let p = positive n in omega arith
-
 pub silent-small : (channels : List Channel) → AreSmall channels silent
 silent-small channels c x at i = subst (λ n. n < 2 ^ get_or x.widths i 0)
     (sym (cond-false (sink_valid silent c) (get_or (content_at channels silent.contents c) i 0) 0 (off-and (has 0 c) c)))
-    (positive (get_or x.widths i 0))
+    (pow_pos (get_or x.widths i 0))
 
 abbrev IsZero : PinNumber → Type 0
 IsZero e = e.number ≡ 0
 
-flag-off : (b : Bool) → b ≡ false → flag b ≡ 0
-flag-off b e = ap flag e
+flag-off : (b : Bool) → b ≡ false → truth b ≡ 0
+flag-off b e = ap truth e
 
 shown-off : (b : Bool) (content : List ℕ) (i : ℕ) → b ≡ false → shown_number b content i ≡ 0
 shown-off b content i e = ap (λ x. shown_number x content i) e
@@ -212,10 +208,10 @@ plug-zero : (channels : List Channel) (c : ℕ) (dir : Dir) (plug : Plug) → Al
 plug-zero channels c Inward plug =
     let b = sink_valid silent c in
     let content = content_at channels silent.contents c in
-    All-cons IsZero (pin_number plug.valid.place (flag b))
+    All-cons IsZero (pin_number plug.valid.place (truth b))
     (map (λ (q : ℕ × Pin). pin_number q.1.place (shown_number b content q.0)) (enumerate_from 0 plug.contents))
     (flag-off b (off-and (has 0 c) c)) (contents-zero b content (off-and (has 0 c) c) 0 plug.contents)
-plug-zero channels c Outward plug = All-cons IsZero (pin_number plug.ready.place (flag (has 0 c && has 0 c))) []
+plug-zero channels c Outward plug = All-cons IsZero (pin_number plug.ready.place (truth (has 0 c && has 0 c))) []
     (flag-off (has 0 c && has 0 c) (off-and (has 0 c) c)) (All-nil IsZero)
 
 channels-zero : (channels : List Channel) (c : ℕ) (xs : List Channel) (plugs : List Plug)
@@ -289,10 +285,6 @@ pins-below d way n below (w ∷ ws) (p ∷ ps) z =
       let e = more.1 in let s : suc (length ps)
           ≡ suc (length ws) = omega (arith, e) in s,
     )
-
-abbrev IsSide : Design → Dir → List ℕ → Plug → Type 0
-IsSide d dir widths plug = IsPin d (source_side dir) 1 plug.valid × IsPin d (sink_side dir) 1 plug.ready
-    × AllZip (λ width pin. IsPin d (source_side dir) width pin) widths plug.contents
 
 side-within : (d : Design) (dir : Dir) (widths : List ℕ) (plug : Plug) → IsSide d dir widths plug
     → IsPlugWithin (length (input_limits d)) dir plug × (length plug.contents ≡ length widths)
@@ -391,8 +383,8 @@ offered-small channels offers gates are l = small-row channels (offered gates of
   gates = l;
   valids = are.valids;
   readies = are.readies;
-  starts = positive (length channels);
-  ends = positive (length channels);
+  starts = pow_pos (length channels);
+  ends = pow_pos (length channels);
   contents = are.contents;
 })
 

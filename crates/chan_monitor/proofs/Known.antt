@@ -5,10 +5,12 @@ use Rattle.std.proofs.Math.Logic.{∥∥₁_elim, ∥∥₁_map}
 use Rattle.std.proofs.Props.{props}
 use Rattle.std.specs.List.{refill, AllZip, AllByRecursion}
 use Rattle.std.specs.Option.{IfSome}
+use Rattle.net_design.proofs.OneProof.{one_prop}
+use Rattle.vidi_bits.specs.Number.{has}
 use Rattle.trace_model.specs.declared.channel.Channel.{Channel}
 use Rattle.trace_model.specs.declared.row.Row.{Row}
 use Rattle.trace_model.specs.Channel.{IsTable, IsChannel, IsName}
-use Rattle.trace_model.specs.Counting.{has, IsNth}
+use Rattle.trace_model.specs.Counting.{IsNth}
 use Rattle.trace_model.specs.Row.{is_in_flight}
 use Rattle.trace_model.proofs.CountingLemmas.{nth, nth-below, nth-unique}
 use Rattle.net_design.specs.declared.design.Port.{Port}
@@ -136,9 +138,6 @@ known-map d m known =
       inputs = ∥∥₁_elim known (hlevel props) (λ (is : IsMapOf d m). is.inputs);
       differ = ∥∥₁_elim known (hlevel props) (λ (is : IsMapOf d m). is.differ);
     }
-
-one_prop : (d : Design) → IsProp (HasOneMap d)
-one_prop d = hlevel props
 
 nets_prop : (d : Design) → IsProp (PortsAreNets d)
 nets_prop d = hlevel props

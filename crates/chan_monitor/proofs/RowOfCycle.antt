@@ -3,12 +3,13 @@ use Rattle.std.proofs.Common.{◌≡◌, ℕ, zero, suc, ◌<◌, ◌^◌, ◌&&
 use Rattle.std.proofs.Common.{None, All, length, drop, replicate, get_or, slice_get, refl, ap, sym, subst, ◌∙◌, arith}
 use Rattle.std.specs.List.{refill}
 use Rattle.std.proofs.lemmas.List.{take-append-le, take_all}
+use Rattle.run_model.proofs.Contents.{same-mask}
+use Rattle.vidi_bits.specs.Number.{has}
 use Rattle.trace_model.specs.declared.channel.Channel.{Channel}
 use Rattle.trace_model.specs.declared.channel.Dir.{Dir}
 use Rattle.trace_model.specs.declared.channel.Dir.TheVariants.{Inward, Outward}
 use Rattle.trace_model.specs.declared.row.Offers.{Offers}
 use Rattle.trace_model.specs.declared.row.Row.{Row}
-use Rattle.trace_model.specs.Counting.{has}
 use Rattle.trace_model.specs.Row.{flies_after, AreOffers}
 use Rattle.net_design.specs.declared.design.Design.{Design}
 use Rattle.net_design.specs.declared.values.Values.{Values}
@@ -18,7 +19,7 @@ use Rattle.chan_map.specs.declared.pins.Map.{Map}
 use Rattle.chan_map.specs.declared.pins.Reset.{Reset}
 use Rattle.run_model.specs.Building.{content_here, ends_of, joined, mask_of, ready_at, row_of, starts_of, valid_at}
 use Rattle.run_model.specs.declared.pins.PinNumber.{PinNumber}
-use Rattle.run_model.specs.Offers.{Carries, CarriesOn}
+use Rattle.run_model.specs.Offers.{Carries, CarriesOn, AreZeroWhileDown}
 use Rattle.run_model.specs.Pins.{silent, ArePins}
 use Rattle.run_model.specs.Step.{IsAfter, IsAfterReset, IsFirst}
 use Rattle.run_model.proofs.PlayedLaws.{fit-outputs}
@@ -26,8 +27,8 @@ use Rattle.run_model.proofs.RowParts.{carried, entered-same, row-carries, row-ma
 use Rattle.chan_monitor.specs.declared.rows.Handshakes.{Handshakes}
 use Rattle.chan_monitor.specs.Around.{handshakes, AreHeld, AreMonitors, IsDriven}
 use Rattle.chan_monitor.specs.Entering.{offered}
-use Rattle.chan_monitor.specs.Shell.{AreZeroWhileDown, IsMapped, IsShown}
-use Rattle.chan_monitor.proofs.Filling.{offered-is, same-mask}
+use Rattle.chan_monitor.specs.Shell.{IsMapped, IsShown}
+use Rattle.chan_monitor.proofs.Filling.{offered-is}
 
 -- what a borrow of a whole list leaves
 pub refill-is : {X : Type 0} (xs ys : List X) → length ys ≡ length xs → refill (length xs) xs ys ≡ ys

@@ -10,7 +10,6 @@ use Rattle.trace_model.specs.declared.channel.Dir.{Dir}
 use Rattle.trace_model.specs.declared.channel.Dir.TheVariants.{Inward, Outward}
 use Rattle.trace_model.specs.declared.row.Offers.{Offers}
 use Rattle.trace_model.specs.declared.row.Row.{Row}
-use Rattle.trace_model.specs.Counting.{has}
 use Rattle.trace_model.specs.Row.{content_at}
 use Rattle.trace_model.proofs.CountingLemmas.{count-cons}
 use Rattle.chan_map.specs.declared.pins.Plug.{Plug}
@@ -20,6 +19,7 @@ use Rattle.run_model.proofs.PinLemmas.{at_place}
 use Rattle.chan_monitor.specs.declared.monitor.Passed.{Passed}
 use Rattle.chan_monitor.specs.Passing.{passed}
 use Rattle.std.proofs.lemmas.Option.{slice_get_read}
+use Rattle.vidi_bits.specs.Number.{has}
 use Rattle.trace_model.proofs.RowLemmas.{first_of, content-read}
 use Rattle.chan_monitor.specs.Entering.{write, passed_inputs, offered, ArePlugsWithin, IsPlugWithin}
 

@@ -2,6 +2,7 @@
 use Rattle.std.specs.Prelude.{◌≡◌, ℕ, ◌+◌, ◌<◌, Bool, List, [], ◌∷◌, ◌++◌, Some, All, length, map, slice_get, slice_set}
 use Rattle.std.specs.List.{enumerate_from}
 use Rattle.std.specs.Option.{option_to_list}
+use Rattle.vidi_bits.specs.Number.{truth}
 use Rattle.trace_model.specs.declared.channel.Channel.{Channel}
 use Rattle.trace_model.specs.declared.channel.Dir.{Dir}
 use Rattle.trace_model.specs.declared.channel.Dir.TheVariants.{Inward, Outward}
@@ -12,7 +13,7 @@ use Rattle.chan_map.specs.declared.pins.Pin.{Pin}
 use Rattle.chan_map.specs.declared.pins.Plug.{Plug}
 use Rattle.chan_map.specs.declared.pins.Tie.{Tie}
 use Rattle.run_model.specs.declared.pins.PinNumber.{PinNumber}
-use Rattle.run_model.specs.Pins.{flag, pin_number, shown_number, inward_inputs, reset_input, tie_input}
+use Rattle.run_model.specs.Pins.{pin_number, shown_number, inward_inputs, reset_input, tie_input}
 use Rattle.chan_monitor.specs.declared.monitor.Passed.{Passed}
 
 -- each number at its pin, in order
@@ -27,7 +28,7 @@ content_inputs pins shown content = map (λ (p : ℕ × Pin). pin_number p.1.pla
 -- what a monitor lets pass, at the input pins of its channel
 abbrev pub passed_inputs : Dir → Plug → Passed → List ℕ → List PinNumber
 passed_inputs Inward plug p content = inward_inputs plug p.sink_valid content
-passed_inputs Outward plug p content = pin_number plug.ready.place (flag p.source_ready) ∷ []
+passed_inputs Outward plug p content = pin_number plug.ready.place (truth p.source_ready) ∷ []
 
 -- the reset and the ties
 abbrev pub held_inputs : Map → Bool → List PinNumber

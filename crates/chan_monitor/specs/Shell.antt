@@ -1,18 +1,16 @@
 -- What a shell promises of a cycle: *IsRun* of one row.
-use Rattle.std.specs.Prelude.{◌≡◌, ℕ, false, List, Option, Some, length, slice_get}
+use Rattle.std.specs.Prelude.{◌≡◌, ℕ, List, Option, length}
 use Rattle.trace_model.specs.declared.channel.Channel.{Channel}
-use Rattle.trace_model.specs.declared.channel.Dir.TheVariants.{Inward}
 use Rattle.trace_model.specs.declared.row.Offers.{Offers}
 use Rattle.trace_model.specs.declared.row.Row.{Row}
-use Rattle.trace_model.specs.Counting.{has}
-use Rattle.trace_model.specs.Row.{all_widths, content_at, IsMarked, IsOver}
+use Rattle.trace_model.specs.Row.{all_widths, IsMarked, IsOver}
 use Rattle.net_design.specs.declared.design.Design.{Design}
 use Rattle.net_design.specs.declared.values.Values.{Values}
 use Rattle.chan_map.specs.declared.pins.Map.{Map}
 use Rattle.net_design.specs.Pins.{HasOneMap}
 use Rattle.run_model.specs.Building.{PortsAreNets}
 use Rattle.run_model.specs.MapOf.{IsMapOf}
-use Rattle.run_model.specs.Offers.{no_content, Carries}
+use Rattle.run_model.specs.Offers.{Carries}
 use Rattle.run_model.specs.Step.{IsStep}
 
 -- the design settles in one way, its port k is net k, and the map is a map of it
@@ -24,11 +22,6 @@ pub record IsMapped (d : Design) (m : Map) : Type 0 where
 -- a shell runs some design, in some state, after some row
 abbrev pub IsRunning : (Design → Values → Option Row → Type 0) → Type 0
 IsRunning runs = (d : Design) × (s : Values) × (before : Option Row) × runs d s before
-
--- an inward channel's offered content is 0 while its offered valid is down
-abbrev pub AreZeroWhileDown : List Channel → Offers → Type 0
-AreZeroWhileDown channels offers = (c : ℕ) (x : Channel) → slice_get channels c ≡ Some x → x.dir ≡ Inward
-    → has offers.valids c ≡ false → content_at channels offers.contents c ≡ no_content channels c
 
 -- a row with a place for the number of each port
 abbrev pub HasPlaces : List Channel → Row → Type 0

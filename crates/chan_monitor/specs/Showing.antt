@@ -1,5 +1,6 @@
 -- The numbers that a design shows, in the contents of all channels.
-use Rattle.std.specs.Prelude.{◌≡◌, ℕ, ◌+◌, ◌<◌, List, ◌++◌, Some, All, length, map, take, drop, slice_get, slice_index}
+use Rattle.std.specs.Prelude.{◌≡◌, ℕ, ◌<◌, List, Some, All, length, map, slice_get, slice_index}
+use Rattle.trace_model.specs.Row.{replaced}
 use Rattle.trace_model.specs.declared.channel.Channel.{Channel}
 use Rattle.trace_model.specs.declared.channel.Dir.{Dir}
 use Rattle.trace_model.specs.declared.channel.Dir.TheVariants.{Inward, Outward}
@@ -9,10 +10,6 @@ use Rattle.chan_map.specs.declared.pins.Plug.{Plug}
 -- the numbers of these output pins
 abbrev pub read : List ℕ → List Pin → List ℕ
 read out pins = map (λ (p : Pin). slice_index out p.place) pins
-
--- numbers from place `at` on, in place of as many others
-abbrev pub replaced : List ℕ → ℕ → List ℕ → List ℕ
-replaced contents at numbers = take at contents ++ numbers ++ drop (at + length numbers) contents
 
 -- an outward channel's content, from place `at` on, is what its pins show
 abbrev pub filled : Dir → Plug → ℕ → List ℕ → List ℕ → List ℕ

@@ -2,6 +2,7 @@
 
 ghost use Rattle.std.specs.Prelude.{◌≡◌, ℕ, ◌+◌, ◌<◌, ◌≤◌, ◌^◌, Option, false, length, replicate, IfOk, OnOk};
 ghost use Rattle.std.specs.Option.{option_to_list};
+ghost use Rattle.run_model.specs.Offers.{AreZeroWhileDown};
 ghost use Rattle.trace_model.specs.declared.row.Row.{Row as OneRow};
 ghost use Rattle.trace_model.specs.Row.{AreOffers};
 ghost use Rattle.net_design.specs.Pins.{input_limits, output_count, outputs, FitPins};
@@ -12,15 +13,15 @@ ghost use Rattle.run_model.specs.Pins.{entered, silent, ArePins};
 ghost use Rattle.run_model.specs.Step.{IsAfter, IsFirst};
 ghost use Rattle.chan_monitor.specs.Around.{handshakes, AreHeld, AreMonitors};
 ghost use Rattle.chan_monitor.specs.Entering.{input_count, inputs_count, offered};
-ghost use Rattle.chan_monitor.specs.Shell.{AreZeroWhileDown, HasPlaces};
+ghost use Rattle.chan_monitor.specs.Shell.{HasPlaces};
 
 use crate::monitor::Monitor;
 use crate::pins::{enter, hold};
-use crate::rows::{Handshakes, fill, marks_of, push_zeros, readies, valids};
+use crate::rows::{Handshakes, fill, marks_of, readies, valids};
 use chan_map::{Map, Plug, Reset};
 use net_design::Block;
 use std::alloc::Global;
-use trace_model::{Channel, Dir, Offers, Row};
+use trace_model::{Channel, Dir, Offers, Row, push_zeros};
 use vidi_bits::{Items, Memory, Numbers};
 
 /// Adds a zero for each input pin of a channel.

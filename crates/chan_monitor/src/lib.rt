@@ -13,5 +13,4 @@ mod shell;
 
 pub use machines::Machines;
 pub use monitor::{Monitor, Passed};
-pub use rows::row_over;
 pub use shell::Shell;

@@ -1,22 +1,20 @@
 //! Rows, from what the environment offers and what a settled block shows.
 
-ghost use Rattle.std.specs.Prelude.{◌≡◌, ℕ, ◌+◌, ◌*◌, ◌<◌, ◌≤◌, ◌^◌, ◌&&◌, [], ◌++◌, All, false, not, if◌then◌else◌};
-ghost use Rattle.std.specs.Prelude.{length, replicate, slice_get, slice_index, slice_index_or, IfOk, OnOk};
-ghost use Rattle.trace_model.specs.Counting.{has};
-ghost use Rattle.trace_model.specs.Row.{all_widths, AreOffers};
+ghost use Rattle.std.specs.Prelude.{◌≡◌, ◌<◌, ℕ, ◌+◌, ◌≤◌, ◌&&◌, [], All, false, not};
+ghost use Rattle.std.specs.Prelude.{length, slice_get, slice_index_or};
+ghost use Rattle.run_model.specs.Offers.{AreZeroWhileDown};
+ghost use Rattle.vidi_bits.specs.Number.{has};
+ghost use Rattle.trace_model.specs.Row.{all_widths, AreOffers, replaced};
 ghost use Rattle.net_design.specs.Pins.{output_count, outputs};
 ghost use Rattle.chan_map.specs.declared.pins.Pin.{Pin as OnePin};
 ghost use Rattle.run_model.specs.Building.{at_plug, content_on, ends_of, joined, mask_of, ready_on, valid_on};
 ghost use Rattle.chan_monitor.specs.Passing.{stays};
-ghost use Rattle.chan_monitor.specs.Shell.{AreZeroWhileDown};
-ghost use Rattle.chan_monitor.specs.Showing.{filled, read, replaced, IsPlugShown, ArePlugsShown};
+ghost use Rattle.chan_monitor.specs.Showing.{filled, read, IsPlugShown, ArePlugsShown};
 
 use crate::monitor::Monitor;
 use chan_map::{Pin, Plug};
 use net_design::Block;
-use std::alloc::Global;
-use trace_model::{Channel, Channels, Dir, Offers, Row, names};
-use vidi_bits::{Items, Memory, Numbers};
+use trace_model::{Channel, Dir, Offers, names, with_bit};
 
 /// The masks of a row: the gates, and valid and ready on their own sides of them.
 #[derive(Clone, Copy)]
@@ -31,15 +29,6 @@ pub(crate) struct Handshakes {
 pub(crate) struct Marks {
     pub starts: u128,
     pub ends: u128,
-}
-
-/// The mask with bit `c` above its lower ones.
-fn with_bit(mask: u128, c: usize, up: bool) -> u128
-    requires few { c < 128 }
-    requires below { mask < 2 ^ c }
-    ensures { result ≡ (if up then 1 else 0) * 2 ^ c + mask }
-{
-    mask + (u128::from(up) << c)
 }
 
 /// Whether the source of channel `c` has valid up.
@@ -177,47 +166,4 @@ pub(crate) fn fill<B: Block>(
         fill_content(block, channel.dir, &plugs[c], contents, at);
         at += channel.widths.len();
     }
-}
-
-/// Adds `count` zeros.
-pub(crate) fn push_zeros(numbers: &mut Numbers, count: usize) -> Result<(), Memory>
-    ensures { OnOk result (numbers.new ≡ numbers.old ++ replicate count 0) }
-{
-    for _ in 0..count {
-        numbers.push(0)?;
-    }
-    Ok(())
-}
-
-/// A zero for each port of the channels.
-fn zeros_over(alloc: Global, channels: &[Channel]) -> Result<Numbers, Memory>
-    ensures { IfOk result (λ zeros. zeros ≡ replicate (length (all_widths channels.now)) 0) }
-{
-    let mut zeros = Items::new(alloc);
-    for channel in channels {
-        push_zeros(&mut zeros, channel.widths.len())?;
-    }
-    Ok(zeros)
-}
-
-/// A row with a place for each port's number, in which nothing is up: to be driven.
-pub fn row_over(alloc: Global, channels: &Channels) -> Result<Row, Memory>
-    ensures { IfOk result (λ row. row ≡ record {
-      gates = 0;
-      valids = 0;
-      readies = 0;
-      contents = replicate (length (all_widths channels.now)) 0;
-      starts = 0;
-      ends = 0;
-    }) }
-{
-    let contents = zeros_over(alloc, channels.as_slice())?;
-    Ok(Row {
-        gates: 0,
-        valids: 0,
-        readies: 0,
-        contents,
-        starts: 0,
-        ends: 0,
-    })
 }

@@ -1,13 +1,14 @@
 //! Shells: designs that run behind the gates of their channels.
 
 ghost use Rattle.std.specs.Prelude.{◌≡◌, ◌<◌, ◌^◌, ℕ, Option, length};
+ghost use Rattle.run_model.specs.Offers.{AreZeroWhileDown};
 ghost use Rattle.trace_model.specs.declared.row.Row.{Row};
 ghost use Rattle.trace_model.specs.Row.{AreOffers};
 ghost use Rattle.net_design.specs.declared.design.Design.{Design};
 ghost use Rattle.net_design.specs.declared.values.Values.{Values};
 ghost use Rattle.chan_map.specs.declared.pins.Map.{Map};
 ghost use Rattle.run_model.specs.Step.{IsFirst, IsStep};
-ghost use Rattle.chan_monitor.specs.Shell.{AreZeroWhileDown, HasPlaces, IsMapped, IsRunning, IsShown};
+ghost use Rattle.chan_monitor.specs.Shell.{HasPlaces, IsMapped, IsRunning, IsShown};
 
 use trace_model::{Offers, Row};
 

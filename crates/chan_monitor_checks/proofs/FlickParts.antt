@@ -3,11 +3,11 @@ use Rattle.std.proofs.Common.{◌≡◌, ℕ, zero, suc, ◌<◌, ◌≤◌, ◌
 use mir.Val.{bool_byte}
 use Rattle.std.proofs.Math.Nat.{pow-le-pow_right}
 use Rattle.std.proofs.lemmas.Option.{same_Some}
+use Rattle.run_model.specs.Offers.{AreZeroWhileDown}
 use Rattle.trace_model.specs.declared.channel.Channel.{Channel}
 use Rattle.trace_model.specs.declared.channel.Dir.TheVariants.{Inward, Outward}
 use Rattle.trace_model.specs.declared.row.Offers.{Offers}
 use Rattle.run_model_checks.specs.Flick.{flick_map}
-use Rattle.chan_monitor.specs.Shell.{AreZeroWhileDown}
 
 pub no-zeros : (offers : Offers) → AreZeroWhileDown flick_map.channels offers
 no-zeros offers zero x at way down =

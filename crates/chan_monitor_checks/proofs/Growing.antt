@@ -1,10 +1,9 @@
 -- A run of a shell, one row longer.
-use Rattle.std.proofs.Common.{◌≡◌, ℕ, List, [], ◌∷◌, ◌++◌, Option, Some, length, ap, sym, subst, ◌∙◌, add-one}
-use Rattle.std.proofs.lemmas.List.{length_push}
+use Rattle.std.proofs.Common.{◌≡◌, ℕ, List, [], ◌∷◌, ◌++◌, Option, Some, length, sym, subst}
+use Rattle.trace_model.proofs.RowLemmas.{before-last}
 use Rattle.trace_model.specs.declared.row.Offers.{Offers}
 use Rattle.trace_model.specs.declared.row.Row.{Row}
 use Rattle.trace_model.specs.Row.{row_before}
-use Rattle.trace_model.proofs.CountingLemmas.{slice_get-last}
 use Rattle.net_design.specs.declared.design.Design.{Design}
 use Rattle.net_design.specs.declared.values.Values.{Values}
 use Rattle.chan_map.specs.declared.pins.Map.{Map}
@@ -14,9 +13,6 @@ use Rattle.run_model.proofs.PlayedLaws.{Grown}
 use Rattle.run_reference.specs.Given.{offers_by, gates_by}
 use Rattle.run_reference.proofs.StepLemmas.{run-grow}
 use Rattle.chan_monitor_checks.specs.Playing.{IsTurn}
-
-before-last : (rows : List Row) (row : Row) → row_before (rows ++ row ∷ []) (length (rows ++ row ∷ [])) ≡ Some row
-before-last rows row = ap (row_before (rows ++ row ∷ [])) (length_push rows row ∙ add-one (length rows)) ∙ slice_get-last rows row
 
 pub turned : (runs : Design → Values → Option Row → Type 0) (d : Design) (m at : Map) (offers : List Offers) (gates : List ℕ)
     (rows new : List Row) (now : Values) (offer : Offers) (g : ℕ) (row : Row) → at ≡ m

@@ -1,6 +1,7 @@
 //! Runs of a shell, cycle by cycle.
 
-ghost use Rattle.std.specs.Prelude.{◌≡◌, ◌<◌, ◌^◌, ℕ, Option, All, length, IfOk};
+ghost use Rattle.std.specs.Prelude.{◌≡◌, ◌<◌, ◌^◌, Option, All, length, IfOk};
+ghost use Rattle.run_model.specs.Offers.{AreZeroWhileDown};
 ghost use Rattle.trace_model.specs.declared.row.Row.{Row as OneRow};
 ghost use Rattle.trace_model.specs.Row.{AreOffers};
 ghost use Rattle.net_design.specs.declared.design.Design.{Design};
@@ -8,12 +9,11 @@ ghost use Rattle.net_design.specs.declared.values.Values.{Values};
 ghost use Rattle.run_model.specs.Laws.{GatesOf};
 ghost use Rattle.run_model.specs.Run.{IsRun};
 ghost use Rattle.run_reference.specs.Given.{offers_by, gates_by};
-ghost use Rattle.chan_monitor.specs.Shell.{AreZeroWhileDown};
 ghost use Rattle.chan_monitor_checks.specs.Playing.{IsTurn};
 
-use chan_monitor::{Shell, row_over};
+use chan_monitor::Shell;
 use std::alloc::Global;
-use trace_model::{Channels, Offers, Row, Rows};
+use trace_model::{Channels, Offers, Row, Rows, row_over};
 use vidi_bits::Memory;
 
 /// One cycle of a shell, and its row.

@@ -1,10 +1,10 @@
 //! Monitors round `flick`, whose valid rises and falls whatever the ready is.
 
 ghost use Rattle.std.specs.Prelude.{◌≡◌, ◌≤◌, IfOk, length, sum_by};
+ghost use Rattle.run_model.specs.Offers.{AreZeroWhileDown};
 ghost use Rattle.trace_model.specs.Channel.{content_bytes};
 ghost use Rattle.trace_model.specs.Row.{AreOffers};
 ghost use Rattle.run_model_checks.specs.Flick.{flick_map};
-ghost use Rattle.chan_monitor.specs.Shell.{AreZeroWhileDown};
 
 use crate::play::cycle;
 use chan_map::Map;

@@ -5,7 +5,8 @@ ghost use Rattle.trace_model.specs.declared.channel.Channel.{Channel};
 ghost use Rattle.trace_model.specs.declared.row.Row.{Row};
 ghost use Rattle.trace_model.specs.Packet.{widths_of};
 ghost use Rattle.trace_model.specs.Row.{IsOver, completes};
-ghost use Rattle.script_offer.specs.Offer.{Offer, FitsOffer, Carries, EndsAreCompletions};
+ghost use Rattle.script_text.specs.declared.script.TheConstants.{MOST_CYCLES};
+ghost use Rattle.script_text.specs.Offer.{Offer, FitsOffer, Carries, EndsAreCompletions};
 
 use trace_model::Row;
 
@@ -54,7 +55,7 @@ pub trait Env {
         requires over { IsOver (channels self.old) row.now }
         requires carries { Carries (channels self.old) (current self.old) row.now }
         requires ends { EndsAreCompletions row.now }
-        requires few { committed self.old < 50000 }
+        requires few { committed self.old < MOST_CYCLES }
         ensures plan { plan self.new ≡ plan self.old }
         ensures channels { channels self.new ≡ channels self.old }
         ensures committed { committed self.new ≡ committed self.old + 1 }

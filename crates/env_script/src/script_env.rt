@@ -6,13 +6,12 @@ ghost use Rattle.std.specs.Option.{option_copied};
 ghost use Rattle.std.proofs.Props.{props};
 ghost use Rattle.script_text.proofs.Props.{step_prop};
 ghost use Rattle.script_text.specs.Fits.{steps_of, FitsChannels};
-ghost use Rattle.script_offer.specs.ScriptOffer.{script_offer};
-ghost use Rattle.script_offer.specs.Places.{StandsFor, step_at, offer_at};
+ghost use Rattle.script_text.specs.ScriptOffer.{script_offer};
+ghost use Rattle.script_text.specs.Places.{StandsFor, step_at, offer_at};
 
 use crate::env::Env;
 use chan_map::Map;
-use script_offer::{Place, count_ends, move_on};
-use script_text::{Script, Step};
+use script_text::{Place, Script, Step, count_ends, move_on};
 use std::alloc::Global;
 use trace_model::{Channels, Row};
 use vidi_bits::Memory;
@@ -118,7 +117,7 @@ impl<'a> ScriptEnv<'a> {
 impl<'a> Env for ScriptEnv<'a> {
     type Plan = Script;
 
-    ghost use Rattle.script_offer.proofs.Kept.{now_is, all_fit, stays_on};
+    ghost use Rattle.script_text.proofs.Kept.{now_is, all_fit, stays_on};
 
     ghost plan = { λ s. s.script.now };
 

@@ -1,7 +1,9 @@
-//! Tests of scripts, stall plans and their environment over a map that is made by hand.
+//! Tests of scripts, stall plans, their environment and its offers over maps that are made by hand.
 #![tactic(auto)]
 
 #[cfg(test)]
 mod maps;
+#[cfg(test)]
+mod offers;
 #[cfg(test)]
 mod tests;

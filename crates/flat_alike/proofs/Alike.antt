@@ -2,6 +2,7 @@
 use Rattle.std.proofs.Common.{◌≡◌, ℕ, ◌<◌, ◌^◌, ◌==◌, ◌&&◌, List, Option, None, Some, map, length, replicate, slice_index, refl, ap, sym}
 use Rattle.std.proofs.Common.{subst, ◌∙◌}
 use Rattle.std.specs.List.{AllZip, Contains, enumerate_from, sum_by}
+use Rattle.vidi_bits.proofs.Each.{zip-on}
 use Rattle.vlog_tree.specs.Tree.{ModuleOf}
 use Rattle.net_design.specs.declared.act.Code.{Code}
 use Rattle.net_design.specs.declared.act.Timing.TheVariants.{Nonblocking}
@@ -18,7 +19,7 @@ use Rattle.net_design.specs.Bits.{named}
 use Rattle.net_design.specs.Lawful.{IsLawful, IsState}
 use Rattle.net_design.specs.Settled.{clocked, held, initial, initial_number, pins_of, word_count, FitNets, IsSettled}
 use Rattle.net_design.specs.Updates.{apply, block_updates, run}
-use Rattle.vlog_operators.specs.Number.{has}
+use Rattle.vidi_bits.specs.Number.{has}
 use Rattle.chan_map.specs.Ports.{is_read}
 use Rattle.vlog_elab.specs.Instances.{ModuleInstance}
 use Rattle.vlog_driver.specs.Duties.{Does}
@@ -27,7 +28,7 @@ use Rattle.flat_parts.specs.Drivers.{all_blocks, all_duties, IsBlockOf}
 use Rattle.flat_parts.specs.Seats.{seats_of}
 use Rattle.flat_parts.specs.State.{all_regs, IsRegisterOf}
 use Rattle.flat_alike.specs.Laws.{BuiltAlike}
-use Rattle.flat_alike.proofs.Lists.{zip-on, any-alike, joined-alike, nil-alike, all-alike}
+use Rattle.flat_alike.proofs.Lists.{any-alike, joined-alike, nil-alike, all-alike}
 use Rattle.flat_alike.proofs.Narrow.{settled-narrow}
 use Rattle.flat_alike.proofs.Parts.{reads-alike, holds-alike, updates-alike, register-of, holds-bit, initial-alike}
 

@@ -3,13 +3,6 @@ use Rattle.std.proofs.Common.{◌≡◌, zero, suc, Bool, ◌||◌, List, [], �
 use Rattle.std.specs.List.{All, AllZip, flat_map, list_any}
 use Rattle.vidi_bits.specs.Findings.{is_nil}
 
-pub zip-on : {A B : Type 0} (R S : A → B → Type 0) → ((u : A) (x : B) → R u x → S u x) → (us : List A) (xs : List B) → AllZip R us xs
-    → AllZip S us xs
-zip-on R S on [] [] a = tt
-zip-on R S on [] (x ∷ xs) a = absurd a
-zip-on R S on (u ∷ us) [] a = absurd a
-zip-on R S on (u ∷ us) (x ∷ xs) a = (on u x a.0, zip-on R S on us xs a.1)
-
 module _ {A B : Type 0} (R : A → B → Type 0) where
   -- some element passes a test
   pub any-alike : (f : B → Bool) → ((u : A) (x y : B) → R u x → R u y → f x ≡ f y) → (us : List A) (xs ys : List B) → AllZip R us xs

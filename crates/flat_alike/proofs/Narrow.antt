@@ -10,15 +10,12 @@ use Rattle.net_design.specs.declared.design.DesignMemory.{DesignMemory}
 use Rattle.net_design.specs.declared.design.Design.{Design}
 use Rattle.net_design.specs.declared.values.Values.{Values}
 use Rattle.net_design.specs.Last.{IsNarrow}
-use Rattle.net_design.specs.Settled.{net_width, word_count, Keeps}
+use Rattle.net_design.specs.Settled.{net_width, word_count, Keeps, room_length}
 use Rattle.net_design.specs.Lawful.{IsLawful, IsState}
 use Rattle.net_design.proofs.LawfulCode.{net_width_le}
 
 fits-128 : (x w : ℕ) → x < 2 ^ w → w ≤ 128 → x < 2 ^ 128
 fits-128 x w l h = let most : 2 ^ w ≤ 2 ^ 128 = pow_mono {i = w} {j = 128} h in omega (arith, most, l)
-
-abbrev size_of : DesignMemory → ℕ
-size_of a = a.room.length
 
 -- the memory that has word i, and the place of the word in it
 record HasWord (ms : List DesignMemory) (i : ℕ) : Type 0 where
@@ -26,17 +23,17 @@ record HasWord (ms : List DesignMemory) (i : ℕ) : Type 0 where
   memory : DesignMemory
   place : ℕ
   at : slice_get ms number ≡ Some memory
-  inside : place < size_of memory
-  is : sum_by size_of (take number ms) + place ≡ i
+  inside : place < room_length memory
+  is : sum_by room_length (take number ms) + place ≡ i
 
-has-word : (ms : List DesignMemory) (i : ℕ) → i < sum_by size_of ms → HasWord ms i
+has-word : (ms : List DesignMemory) (i : ℕ) → i < sum_by room_length ms → HasWord ms i
 has-word [] i l = absurd (omega (arith, l))
 has-word (m ∷ ms) i l = ⊎_elim
-    (λ (h : i < size_of m). record { number = zero; memory = m; place = i; at = refl; inside = h; is = omega arith })
-    (λ (g : size_of m ≤ i).
-    let all = sum_by-cons size_of m ms in
-    let rest = has-word ms (i - size_of m) (omega (arith, l, g, all)) in
-    let before = sum_by-cons size_of m (take rest.number ms) in
+    (λ (h : i < room_length m). record { number = zero; memory = m; place = i; at = refl; inside = h; is = omega arith })
+    (λ (g : room_length m ≤ i).
+    let all = sum_by-cons room_length m ms in
+    let rest = has-word ms (i - room_length m) (omega (arith, l, g, all)) in
+    let before = sum_by-cons room_length m (take rest.number ms) in
     let is = rest.is in
     record {
       number = suc rest.number;
@@ -46,7 +43,7 @@ has-word (m ∷ ms) i l = ⊎_elim
       inside = rest.inside;
       is = omega (arith, before, is, g);
     })
-    (cases_lt i (size_of m))
+    (cases_lt i (room_length m))
 
 module _ (d : Design) (law : IsLawful d) where
   word-narrow : (s : Values) → IsState d s → (i : ℕ) → slice_index s.words i < 2 ^ 128

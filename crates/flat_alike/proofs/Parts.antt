@@ -12,7 +12,7 @@ use Rattle.net_design.specs.Bits.{named}
 use Rattle.net_design.specs.Last.{IsNarrow}
 use Rattle.net_design.specs.Settled.{initial_number}
 use Rattle.net_design.specs.Updates.{block_updates, run}
-use Rattle.vlog_operators.specs.Number.{has}
+use Rattle.vidi_bits.specs.Number.{has}
 use Rattle.vlog_driver.specs.Duties.{Duty, Assigns, Settles, Does}
 use Rattle.flat_parts.specs.Drivers.{ClockedBlock, IsBlockOf}
 use Rattle.flat_parts.specs.State.{RegPlace, IsRegisterOf, always_writes_bit}

@@ -5,7 +5,7 @@ use Rattle.net_design.specs.declared.design.Design.{Design}
 use Rattle.net_design.specs.Lawful.{IsLawful}
 use Rattle.vlog_elab.specs.Instances.{ModuleInstance}
 use Rattle.flat_parts.specs.Built.{IsBuilt}
-use Rattle.run_alike.specs.Alike.{AreAlike}
+use Rattle.run_model.specs.Alike.{AreAlike}
 
 -- lawful designs that have the parts of one file's instances are alike
 abbrev pub BuiltAlike : Type 0

@@ -3,18 +3,18 @@ use Rattle.std.proofs.Common.{◌≡◌, ℕ, ◌⊎◌, inl, inr, List, [], ◌
 use Rattle.std.proofs.Common.{Option, None, Some, slice_get, option_map}
 use Rattle.std.specs.List.{Contains, flat_map}
 use Rattle.std.proofs.lemmas.Option.{slice_get-map}
+use Rattle.vidi_bits.proofs.Lists.{none_in, head_in, tail_in, cases_in, in_flat, from_flat}
 use Rattle.vlog_tree.specs.Tree.{InstanceOf, ItemOf, WiresItem, DrivenWiresItem, RegsItem, LocalparamsItem, AssignItem, AlwaysItem}
 use Rattle.vlog_tree.specs.Tree.{InstanceItem, ModuleOf}
 use Rattle.vlog_size.specs.Table.{Named}
 use Rattle.vlog_size.specs.declared.scope.Param.{Param}
 use Rattle.vlog_size.specs.declared.scope.Scope.{Scope}
-use Rattle.vlog_scope.specs.Scope.{readable_at, after_item, scope_of}
+use Rattle.vlog_elab.specs.Scope.{readable_at, after_item, scope_of}
 use Rattle.vlog_hierarchy.specs.Outlines.{Child, place_of, child_at, item_children, children_of, outline_of, outlines_of, children_in}
 use Rattle.vlog_hierarchy.specs.Outlines.{children_at}
 use Rattle.vlog_meaning.specs.Placed.{Placed, placed}
 use Rattle.vlog_meaning.specs.Instances.{IsChild}
-use Rattle.flat_paths.proofs.Lists.{none_in, here, later, cons_cases, in_flat, out_flat}
-use Rattle.flat_paths.proofs.Named.{named_at, place_is}
+use Rattle.flat_laws.proofs.Named.{named_at, place_is}
 use Rattle.vlog_names.specs.Entries.{module_entry}
 use Rattle.vlog_names.specs.Different.{Differ}
 
@@ -30,7 +30,7 @@ stands_first : (params : List (Named Param)) (k : ℕ) (x item : ItemOf ℕ) (it
 stands_first params k x item items is = (
   k,
   subst (λ (y : ItemOf ℕ). Contains (placed params k (x ∷ items)) (record { declared = k; item = y })) is
-      (here (record { declared = k; item = x }) (placed params (after_item params k x) items)),
+      (head_in (record { declared = k; item = x }) (placed params (after_item params k x) items)),
 )
 
 stands_next : (params : List (Named Param)) (k : ℕ) (x item : ItemOf ℕ) (items : List (ItemOf ℕ))
@@ -38,13 +38,13 @@ stands_next : (params : List (Named Param)) (k : ℕ) (x item : ItemOf ℕ) (ite
     → (j : ℕ) × Contains (placed params k (x ∷ items)) (record { declared = j; item = item })
 stands_next params k x item items (j, there) =
     let next : List Placed = placed params (after_item params k x) items in
-    (j, later (record { declared = k; item = x }) next (record { declared = j; item = item }) there)
+    (j, tail_in (record { declared = k; item = x }) next (record { declared = j; item = item }) there)
 
 pub stands : (params : List (Named Param)) (k : ℕ) (items : List (ItemOf ℕ)) (item : ItemOf ℕ) → Contains items item
     → (j : ℕ) × Contains (placed params k items) (record { declared = j; item = item })
 stands params k [] item h = absurd (none_in item h)
 stands params k (x ∷ items) item h =
-    elim (cons_cases x items item h) [
+    elim (cases_in x items item h) [
       | inl is ↦ stands_first params k x item items is
       | inr rest ↦ stands_next params k x item items (stands params (after_item params k x) items item rest)
     ]
@@ -53,9 +53,9 @@ pub item_in : (params : List (Named Param)) (k : ℕ) (items : List (ItemOf ℕ)
     → Contains items p.item
 item_in params k [] p h = absurd (none_in p h)
 item_in params k (x ∷ items) p h =
-    elim (cons_cases (record { declared = k; item = x }) (placed params (after_item params k x) items) p h) [
-      | inl is ↦ subst (λ (y : Placed). Contains (x ∷ items) y.item) is (here x items)
-      | inr more ↦ later x items p.item (item_in params (after_item params k x) items p more)
+    elim (cases_in (record { declared = k; item = x }) (placed params (after_item params k x) items) p h) [
+      | inl is ↦ subst (λ (y : Placed). Contains (x ∷ items) y.item) is (head_in x items)
+      | inr more ↦ tail_in x items p.item (item_in params (after_item params k x) items p more)
     ]
 
 -- ---- children
@@ -68,7 +68,7 @@ pub record IsKid (ms : List (ModuleOf ℕ)) (items : List (ItemOf ℕ)) (c : Chi
 kid_at : (ms : List (ModuleOf ℕ)) (items : List (ItemOf ℕ)) (i : InstanceOf ℕ) (c : Child) (o : Option ℕ)
     → Contains items (InstanceItem i) → place_of ms i.module_id.name ≡ o → Contains (child_at i o) c → IsKid ms items c
 kid_at ms items i c None listed is h = absurd (none_in c h)
-kid_at ms items i c (Some p) listed is h = one (cons_cases (record { instance = i; place = p }) [] c h)
+kid_at ms items i c (Some p) listed is h = one (cases_in (record { instance = i; place = p }) [] c h)
   where
     one : (record { instance = i; place = p } ≡ c) ⊎ Contains [] c → IsKid ms items c
     one (inl same) = subst (IsKid ms items) same (record { listed = listed; place = is })
@@ -87,7 +87,7 @@ kid_item ms items (InstanceItem i) c listed h = kid_at ms items i c (place_of ms
 pub is_kid : (ms : List (ModuleOf ℕ)) (k : ℕ) (m : ModuleOf ℕ) (c : Child) → slice_get ms k ≡ Some m
     → Contains (children_at (outlines_of ms) k) c → IsKid ms m.items c
 is_kid ms k m c at h =
-    let r = out_flat (item_children ms) m.items c (subst (λ (cs : List Child). Contains cs c) (kids_at ms k m at) h) in
+    let r = from_flat (item_children ms) m.items c (subst (λ (cs : List Child). Contains cs c) (kids_at ms k m at) h) in
     kid_item ms m.items r.0 c r.1 r.2
 
 pub kid_listed : (ms : List (ModuleOf ℕ)) (k : ℕ) (m : ModuleOf ℕ) (c : Child) → slice_get ms k ≡ Some m → IsKid ms m.items c
@@ -95,7 +95,7 @@ pub kid_listed : (ms : List (ModuleOf ℕ)) (k : ℕ) (m : ModuleOf ℕ) (c : Ch
 kid_listed ms k m c at kid =
     subst (λ (cs : List Child). Contains cs c) (sym (kids_at ms k m at))
     (in_flat (item_children ms) m.items (InstanceItem c.instance) c kid.listed
-    (subst (λ (o : Option ℕ). Contains (child_at c.instance o) c) (sym kid.place) (here c [])))
+    (subst (λ (o : Option ℕ). Contains (child_at c.instance o) c) (sym kid.place) (head_in c [])))
 
 -- ---- children of an instance
 

@@ -6,6 +6,9 @@ use Rattle.std.specs.Str.{bytes_eq}
 use Rattle.std.proofs.lemmas.Slice.Eq.{bytes_eq-Decides}
 use Rattle.std.proofs.lemmas.List.Elements.{Contains-append_cases, All-contains}
 use Rattle.std.proofs.lemmas.Iterator.Adapters.{position_from-zero}
+use Rattle.std.proofs.lemmas.Bool.{false_from_ne_true}
+use Rattle.vidi_bits.proofs.Lists.{none_in, head_in, tail_in, cases_in}
+use Rattle.vidi_bits.proofs.Bools.{left_of}
 use Rattle.vidi_bits.specs.Findings.{told_if}
 use Rattle.vlog_tree.specs.declared.module.Direction.{Direction}
 use Rattle.vlog_tree.specs.declared.module.Direction.TheVariants.{Input, Output}
@@ -15,39 +18,36 @@ use Rattle.vlog_size.specs.declared.scope.Scope.{Scope}
 use Rattle.vlog_size.specs.Table.{Named, value_of}
 use Rattle.vlog_names.specs.declared.declaration.Declaration.{Declaration}
 use Rattle.vlog_names.specs.Entries.{entry, parameter_entry, port_as, port_entries, no_port, item_entries, header_entries, declared}
-use Rattle.vlog_names.specs.Different.{Differ}
+use Rattle.vlog_names.specs.Different.{Differ, OtherName}
+use Rattle.vlog_names.specs.Ports.{is_input_port, input_after}
 use Rattle.vlog_elab.specs.Clock as clock
 use Rattle.vlog_meaning.specs.Names.{Name}
 use Rattle.vlog_meaning.specs.Settled.{is_input, input_names, inputs_of}
 use Rattle.net_design.specs.declared.design.Port.{Port}
 use Rattle.flat_parts.specs.Nets.{port_of, flat_ports}
-use Rattle.flat_paths.proofs.Lists.{none_in, here, later, cons_cases, not_true, pairs_first, pairs_rest, pairs_behind, pairs_front}
+use Rattle.flat_laws.proofs.Lists.{pairs_first, pairs_rest, pairs_behind, pairs_front}
 use Rattle.flat_clock.specs.Clock.{port_named}
 
 -- ---- inputs
 
 told_in : (b : Bool) (x y : Name) → Contains (told_if b x) y → (b ≡ true) × (x ≡ y)
-told_in true x y h = one (cons_cases x [] y h)
+told_in true x y h = one (cases_in x [] y h)
   where
     one : (x ≡ y) ⊎ Contains [] y → (true ≡ true) × (x ≡ y)
     one (inl is) = (refl, is)
     one (inr off) = absurd (none_in y off)
 told_in false x y h = absurd (none_in y h)
 
-first_true : (a b : Bool) → (a && b) ≡ true → a ≡ true
-first_true true b h = refl
-first_true false b h = h
-
 -- what the port before was as an input, as what it was declared as
 abbrev Follows : Bool → Declaration → Type 0
 Follows b what = b ≡ true → is_input what ≡ true
 
 follows : (b : Bool) (what : Declaration) (head : Option (PortHeadOf ℕ)) → Follows b what
-    → Follows (clock.input_after b head) (port_as what head)
+    → Follows (input_after b head) (port_as what head)
 follows b what None before h = before h
 follows b what (Some head) before h = one head.direction h
   where
-    one : (direction : Direction) → clock.is_input direction ≡ true
+    one : (direction : Direction) → is_input_port direction ≡ true
         → is_input (port_as what (Some (record head { direction = direction }))) ≡ true
     one (Input wire) e = refl
     one (Output kind) e = absurd (cc)
@@ -58,21 +58,21 @@ own_name true name x names e is = (0, omega arith, is)
 own_name false name x names e is = absurd (cc)
 
 other_name : (i : Bool) (name x : Name) (names : List Name) → Contains names x → Contains (if i then name ∷ names else names) x
-other_name true name x names there = later name names x there
+other_name true name x names there = tail_in name names x there
 other_name false name x names there = there
 
 one_bit_input : (nets : List (Named ScopeNet)) (b : Bool) (what : Declaration) (ports : List (PortOf ℕ)) (x : Name) → Follows b what
     → Contains (clock.one_bit_inputs nets b ports) x → Contains (input_names (port_entries what ports)) x
 one_bit_input nets b what [] x before h = absurd (none_in x h)
 one_bit_input nets b what (p ∷ ports) x before h =
-    let now : Follows (clock.input_after b p.head) (port_as what p.head) = follows b what p.head before in
-    elim (Contains-append_cases (told_if (clock.input_after b p.head && clock.is_one_bit (value_of nets p.id.name)) p.id.name)
-    (clock.one_bit_inputs nets (clock.input_after b p.head) ports) x h) [
-      | inl told ↦ let r = told_in (clock.input_after b p.head && clock.is_one_bit (value_of nets p.id.name)) p.id.name x told in
+    let now : Follows (input_after b p.head) (port_as what p.head) = follows b what p.head before in
+    elim (Contains-append_cases (told_if (input_after b p.head && clock.is_one_bit (value_of nets p.id.name)) p.id.name)
+    (clock.one_bit_inputs nets (input_after b p.head) ports) x h) [
+      | inl told ↦ let r = told_in (input_after b p.head && clock.is_one_bit (value_of nets p.id.name)) p.id.name x told in
           own_name (is_input (port_as what p.head)) p.id.name x (input_names (port_entries (port_as what p.head) ports))
-          (now (first_true (clock.input_after b p.head) (clock.is_one_bit (value_of nets p.id.name)) r.0)) r.1
+          (now (left_of (input_after b p.head) (clock.is_one_bit (value_of nets p.id.name)) r.0)) r.1
       | inr rest ↦ other_name (is_input (port_as what p.head)) p.id.name x (input_names (port_entries (port_as what p.head) ports))
-          (one_bit_input nets (clock.input_after b p.head) (port_as what p.head) ports x now rest)
+          (one_bit_input nets (input_after b p.head) (port_as what p.head) ports x now rest)
     ]
 
 pub one_bit_inputs_are : (nets : List (Named ScopeNet)) (m : ModuleOf ℕ) (x : Name) → Contains (clock.one_bit_inputs nets false m.ports) x
@@ -98,25 +98,22 @@ named_in : (what : Declaration) (ports : List (PortOf ℕ)) (k : ℕ) (x : Name)
 named_in what [] k x h = absurd (cc)
 named_in what (p ∷ ports) zero x h =
     let is : p.id.name ≡ x = cc in
-    (entry p.id.name (port_as what p.head), here (entry p.id.name (port_as what p.head)) (port_entries (port_as what p.head) ports), is)
+    (entry p.id.name (port_as what p.head), head_in (entry p.id.name (port_as what p.head)) (port_entries (port_as what p.head) ports), is)
 named_in what (p ∷ ports) (suc k) x h =
     let r = named_in (port_as what p.head) ports k x h in
-    (r.0, later (entry p.id.name (port_as what p.head)) (port_entries (port_as what p.head) ports) r.0 r.1, r.2)
+    (r.0, tail_in (entry p.id.name (port_as what p.head)) (port_entries (port_as what p.head) ports) r.0 r.1, r.2)
 
 other_named : (x name : Name) → name ≢ x → bytes_eq x name ≡ false
-other_named x name other = not_true (bytes_eq x name) (λ yes. other (sym ((bytes_eq-Decides x name).0 yes)))
-
-abbrev OtherName : Named Declaration → Named Declaration → Type 0
-OtherName a b = a.name ≢ b.name
+other_named x name other = false_from_ne_true (bytes_eq x name) (λ yes. other (sym ((bytes_eq-Decides x name).0 yes)))
 
 place_from_name : (f : ℕ) (what : Declaration) (ports : List (PortOf ℕ)) (x : Name) (k : ℕ) → Differ (port_entries what ports)
     → slice_get (port_names ports) k ≡ Some x → position_from (λ (p : PortOf ℕ). bytes_eq x p.id.name) f ports ≡ Some (f + k)
 place_from_name f what [] x k differ h = absurd (cc)
 place_from_name f what (p ∷ ports) x zero differ h =
     let is : x ≡ p.id.name = cc in
-    let here : f ≡ f + 0 = omega arith in
+    let head_in : f ≡ f + 0 = omega arith in
     ap (λ b. cond b (Some f) (position_from (λ (q : PortOf ℕ). bytes_eq x q.id.name) (f + 1) ports)) ((bytes_eq-Decides x p.id.name).1 is)
-    ∙ ap (λ (j : ℕ). Some j) here
+    ∙ ap (λ (j : ℕ). Some j) head_in
 place_from_name f what (p ∷ ports) x (suc k) differ h =
     let r = named_in (port_as what p.head) ports k x h in
     let other : p.id.name ≢ r.0.name =

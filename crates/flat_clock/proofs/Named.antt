@@ -1,13 +1,16 @@
 -- Where no reason holds, the one clock is the input to which the first clocked block is joined.
 use Rattle.std.proofs.Common.{◌≡◌, ℕ, ◌≤◌, ◌⊎◌, inl, inr, List, [], ◌∷◌, ◌++◌, map, length, refl, sym, ap, subst}
-use Rattle.std.proofs.Common.{◌∙◌, arith, Option, None, Some, slice_get, Bool, true, false, not, ◌==◌}
+use Rattle.std.proofs.Common.{◌∙◌, arith, Option, None, Some, slice_get, Bool, true, not, ◌==◌}
 use Rattle.std.specs.List.{Contains, flat_map}
 use Rattle.std.proofs.lemmas.List.{length-map}
+use Rattle.std.proofs.lemmas.Bool.{not-false}
+use Rattle.vidi_bits.proofs.FindingLaws.{told_none}
+use Rattle.vidi_bits.proofs.Lists.{none_in, cases_in, from_flat, nil_left, nil_right, none_mapped}
 use Rattle.vlog_tree.specs.Tree.{IdentOf, EventOf, PosedgeEvent, ImplicitEvent, AlwaysOf, InstanceOf, ItemOf, WiresItem, DrivenWiresItem}
 use Rattle.vlog_tree.specs.Tree.{RegsItem, LocalparamsItem, AssignItem, AlwaysItem, InstanceItem, ModuleOf, FileOf}
 use Rattle.vlog_size.specs.Table.{Named, value_of}
 use Rattle.vlog_size.specs.declared.scope.Scope.{Scope}
-use Rattle.vlog_scope.specs.Scope.{scope_with}
+use Rattle.vlog_elab.specs.Scope.{scope_with}
 use Rattle.vlog_names.specs.Entries.{Names, item_entries, header_entries, module_entry}
 use Rattle.vlog_names.specs.Twice.{twice_name, twice_among, twice_connected, twice_item, twice_items, twice_in, twice_modules, twice_names}
 use Rattle.vlog_hierarchy.specs.declared.error.HierarchyError.TheVariants as error
@@ -26,9 +29,9 @@ use Rattle.vlog_elab.proofs.Same.{same_nodes}
 use Rattle.vlog_meaning.specs.Names.{Name, Full}
 use Rattle.vlog_meaning.specs.Settled.{inputs_of, Joins, Waits, IsClock}
 use Rattle.flat_parts.specs.Laws.{IsTop}
-use Rattle.flat_paths.proofs.Lists.{none_in, cons_cases, out_flat, in_got, no_left, no_right, none_mapped, told_none}
-use Rattle.flat_paths.proofs.Found.{no_twice, modules_apart, few}
-use Rattle.flat_paths.proofs.Listed.{first_is_top}
+use Rattle.flat_laws.proofs.Lists.{in_got}
+use Rattle.flat_laws.proofs.Found.{no_twice, modules_apart, few}
+use Rattle.flat_laws.proofs.Listed.{first_is_top}
 use Rattle.flat_clock.specs.Clock.{joined_input, name_at, clock_name, ClockIsInput}
 use Rattle.flat_clock.proofs.Tables.{input_at}
 use Rattle.flat_clock.proofs.Children.{stands, item_in}
@@ -38,28 +41,28 @@ use Rattle.flat_clock.proofs.Inputs.{one_bit_inputs_are}
 -- ---- no port is connected twice
 
 once_item : (before : Names) (i : InstanceOf ℕ) → twice_item before (InstanceItem i) ≡ [] → twice_connected i.ports ≡ []
-once_item before i e = no_right (twice_name before i.id.name) (twice_connected i.ports) (no_right (twice_connected i.parameters) _ e)
+once_item before i e = nil_right (twice_name before i.id.name) (twice_connected i.ports) (nil_right (twice_connected i.parameters) _ e)
 
 once_items : (before : Names) (items : List (ItemOf ℕ)) (i : InstanceOf ℕ) → twice_items before items ≡ [] → Contains items (InstanceItem i)
     → twice_connected i.ports ≡ []
 once_items before [] i none h = absurd (none_in (InstanceItem i) h)
 once_items before (x ∷ items) i none h =
-    elim (cons_cases x items (InstanceItem i) h) [
-      | inl is ↦ once_item before i (subst (λ (y : ItemOf ℕ). twice_item before y ≡ []) is (no_left (twice_item before x) _ none))
-      | inr more ↦ once_items (before ++ item_entries x) items i (no_right (twice_item before x) _ none) more
+    elim (cases_in x items (InstanceItem i) h) [
+      | inl is ↦ once_item before i (subst (λ (y : ItemOf ℕ). twice_item before y ≡ []) is (nil_left (twice_item before x) _ none))
+      | inr more ↦ once_items (before ++ item_entries x) items i (nil_right (twice_item before x) _ none) more
     ]
 
 once_module : (m : ModuleOf ℕ) (i : InstanceOf ℕ) → twice_in m ≡ [] → Contains m.items (InstanceItem i) → twice_connected i.ports ≡ []
 unfolding twice_in
-once_module m i none h = once_items (header_entries m) m.items i (no_right (twice_among [] (header_entries m)) _ none) h
+once_module m i none h = once_items (header_entries m) m.items i (nil_right (twice_among [] (header_entries m)) _ none) h
 
 once_modules : (before : List (Named Names)) (ms : List (ModuleOf ℕ)) → twice_modules before ms ≡ [] → ConnectedOnce ms
 once_modules before [] none m i listed h = absurd (none_in m listed)
 once_modules before (x ∷ ms) none m i listed h =
-    let rest : twice_in x ++ twice_modules (before ++ module_entry x ∷ []) ms ≡ [] = no_right (twice_name before x.name) _ none in
-    elim (cons_cases x ms m listed) [
-      | inl is ↦ once_module m i (subst (λ (y : ModuleOf ℕ). twice_in y ≡ []) is (no_left (twice_in x) _ rest)) h
-      | inr more ↦ once_modules (before ++ module_entry x ∷ []) ms (no_right (twice_in x) _ rest) m i more h
+    let rest : twice_in x ++ twice_modules (before ++ module_entry x ∷ []) ms ≡ [] = nil_right (twice_name before x.name) _ none in
+    elim (cases_in x ms m listed) [
+      | inl is ↦ once_module m i (subst (λ (y : ModuleOf ℕ). twice_in y ≡ []) is (nil_left (twice_in x) _ rest)) h
+      | inr more ↦ once_modules (before ++ module_entry x ∷ []) ms (nil_right (twice_in x) _ rest) m i more h
     ]
 
 once_file : (file : FileOf ℕ) → twice_names file ≡ [] → ConnectedOnce file.modules
@@ -74,9 +77,9 @@ connected_once file name clear = once_file file (no_twice file name clear)
 none_flat : {X A : Type 0} → (f : X → List A) (xs : List X) (x : X) → flat_map f xs ≡ [] → Contains xs x → f x ≡ []
 none_flat f [] x none h = absurd (none_in x h)
 none_flat f (y ∷ ys) x none h =
-    elim (cons_cases y ys x h) [
-      | inl is ↦ subst (λ z. f z ≡ []) is (no_left (f y) (flat_map f ys) none)
-      | inr more ↦ none_flat f ys x (no_right (f y) (flat_map f ys) none) more
+    elim (cases_in y ys x h) [
+      | inl is ↦ subst (λ z. f z ≡ []) is (nil_left (f y) (flat_map f ys) none)
+      | inr more ↦ none_flat f ys x (nil_right (f y) (flat_map f ys) none) more
     ]
 
 abbrev inputs_in : FileOf ℕ → List ℕ → List Name
@@ -94,8 +97,8 @@ unfolding size_findings late_findings clock_findings
 no_clock_faults file name clear =
     let is : List ModuleInstance = instances file name in
     none_mapped of_hierarchy (clock_faults file.modules (length (inputs_in file name)) (scopes_in file name))
-    (no_right (instance_findings is) (clock_findings file name is)
-    (no_right (hierarchy_findings file name) (late_findings file name is) clear.1.1))
+    (nil_right (instance_findings is) (clock_findings file name is)
+    (nil_right (hierarchy_findings file name) (late_findings file name is) clear.1.1))
 
 one_scope : (ms : List (ModuleOf ℕ)) (n : ℕ) (ss : List hierarchy.Scope) (g : hierarchy.Scope) → clock_faults ms n ss ≡ [] → Contains ss g
     → scope_faults ms (first_port (clock_ports ms ss)) (clock_marks n (clock_ports ms ss)) g ≡ []
@@ -114,10 +117,6 @@ pub record Same (a b : Option ℕ) : Type 0 where
   pub first : a ≡ Some port
   pub second : b ≡ Some port
 
-not_not : (b : Bool) → not b ≡ false → b ≡ true
-not_not true e = refl
-not_not false e = absurd (cc)
-
 equal : (p q : ℕ) → (p == q) ≡ true → p ≡ q
 equal p q e = grind (arith, e)
 
@@ -133,9 +132,9 @@ wanted_event : (wanted : Option ℕ) (marks : List Bool) (js : List (Named ℕ))
 wanted_event wanted marks js a id none is =
     let at : event_faults wanted js a.line (PosedgeEvent id) ≡ [] =
     subst (λ (e : EventOf ℕ). event_faults wanted js a.line e ≡ []) is
-    (no_left (event_faults wanted js a.line a.event) (body_faults marks js a.body) none) in
+    (nil_left (event_faults wanted js a.line a.event) (body_faults marks js a.body) none) in
     same_ports wanted (value_of js id.name)
-    (not_not (same_port wanted (value_of js id.name)) (told_none (not (same_port wanted (value_of js id.name))) (error.Clock a.line) at))
+    (not-false (same_port wanted (value_of js id.name)) (told_none (not (same_port wanted (value_of js id.name))) (error.Clock a.line) at))
 
 -- each clocked block's name is joined to the port of the first
 pub waited : (file : FileOf ℕ) (name : List ℕ) (g : hierarchy.Scope) (a : AlwaysOf ℕ) (id : IdentOf ℕ) → Clear file name
@@ -235,7 +234,7 @@ pub record Block (items : List (ItemOf ℕ)) (js : List (Named ℕ)) (p : ℕ) :
 
 event_block : (items : List (ItemOf ℕ)) (js : List (Named ℕ)) (p : ℕ) (a : AlwaysOf ℕ) (event : EventOf ℕ) → a.event ≡ event
     → Contains items (AlwaysItem a) → Contains (event_ports js event) (Some p) → Block items js p
-event_block items js p a (PosedgeEvent id) is listed h = one (cons_cases (value_of js id.name) [] (Some p) h)
+event_block items js p a (PosedgeEvent id) is listed h = one (cases_in (value_of js id.name) [] (Some p) h)
   where
     one : (value_of js id.name ≡ Some p) ⊎ Contains [] (Some p) → Block items js p
     one (inl same) = record { block = a; clock = id; listed = listed; event = is; joined = same }
@@ -256,7 +255,7 @@ scope_block : (ms : List (ModuleOf ℕ)) (g : hierarchy.Scope) (p : ℕ) → Con
     → Block (items_at ms g.place) g.joined p
 unfolding scope_ports
 scope_block ms g p h =
-    let r = out_flat (item_ports g.joined) (items_at ms g.place) (Some p) h in
+    let r = from_flat (item_ports g.joined) (items_at ms g.place) (Some p) h in
     item_block (items_at ms g.place) g.joined p r.0 r.1 r.2
 
 first_listed : (ports : List (Option ℕ)) (p : ℕ) → first_port ports ≡ Some p → Contains ports (Some p)
@@ -266,7 +265,7 @@ first_listed (o ∷ ports) p e = (0, omega arith, e)
 clocked_scope : (ms : List (ModuleOf ℕ)) (ss : List hierarchy.Scope) (p : ℕ) → first_port (clock_ports ms ss) ≡ Some p
     → (g : hierarchy.Scope) × Contains ss g × Contains (scope_ports ms g) (Some p)
 unfolding clock_ports
-clocked_scope ms ss p e = out_flat (scope_ports ms) ss (Some p) (first_listed (flat_map (scope_ports ms) ss) p e)
+clocked_scope ms ss p e = from_flat (scope_ports ms) ss (Some p) (first_listed (flat_map (scope_ports ms) ss) p e)
 
 its_inputs : (file : FileOf ℕ) (name : List ℕ) (top : ModuleOf ℕ) → Clear file name → IsTop file name top → (x : Name)
     → Contains (inputs_in file name) x → Contains (inputs_of top) x

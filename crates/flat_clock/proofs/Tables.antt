@@ -5,6 +5,10 @@ use Rattle.std.specs.List.{Contains}
 use Rattle.std.specs.Str.{bytes_eq}
 use Rattle.std.proofs.lemmas.Slice.Eq.{bytes_eq-Decides}
 use Rattle.std.proofs.lemmas.List.Elements.{Contains-append_left, Contains-push}
+use Rattle.std.proofs.lemmas.Bool.{false_from_ne_true}
+use Rattle.vidi_bits.proofs.FindingLaws.{told_none}
+use Rattle.vidi_bits.specs.Findings.{or_first}
+use Rattle.vidi_bits.proofs.Lists.{bytes_eq-self, none_in, head_in, tail_in, cases_in, nil_left, nil_right}
 use Rattle.vlog_tree.specs.Tree.{IdentOf, ExprOf, UnaryExpr, BinaryExpr, ChoiceExpr, NumberPrim, RefPrim, ParenPrim, ConcatPrim}
 use Rattle.vlog_tree.specs.Tree.{RepeatPrim, RefWith, NoIndex, Index, NoLast, Last, ConnOf, InstanceOf}
 use Rattle.vlog_size.specs.Table.{Named, value_of, added}
@@ -13,22 +17,16 @@ use Rattle.vlog_hierarchy.specs.Clock.{ports_from, plain_name, port_of_name, por
 use Rattle.vlog_hierarchy.specs.Clock.{conns_joined, child_joined}
 use Rattle.vlog_meaning.specs.Items.{read}
 use Rattle.vlog_meaning.specs.Settled.{ConnJoins}
-use Rattle.flat_paths.proofs.Lists.{none_in, here, later, cons_cases, no_left, no_right, told_none, not_true}
 
 -- ---- tables
 
--- the value that a name has first in one table or then in another
-abbrev or_then : {V : Type 0} → Option V → Option V → Option V
-or_then None b = b
-or_then (Some a) b = Some a
-
-value_append : {V : Type 0} → (xs ys : List (Named V)) (q : List ℕ) → value_of (xs ++ ys) q ≡ or_then (value_of xs q) (value_of ys q)
+value_append : {V : Type 0} → (xs ys : List (Named V)) (q : List ℕ) → value_of (xs ++ ys) q ≡ or_first (value_of xs q) (value_of ys q)
 value_append [] ys q = refl
 value_append {V} (x ∷ xs) ys q =
     ap (λ (o : Option V). if bytes_eq q x.name then Some x.value else o) (value_append xs ys q) ∙ one (bytes_eq q x.name)
   where
-    one : (b : Bool) → (if b then Some x.value else or_then (value_of xs q) (value_of ys q))
-        ≡ or_then (if b then Some x.value else value_of xs q) (value_of ys q)
+    one : (b : Bool) → (if b then Some x.value else or_first (value_of xs q) (value_of ys q))
+        ≡ or_first (if b then Some x.value else value_of xs q) (value_of ys q)
     one true = refl
     one false = refl
 
@@ -37,16 +35,13 @@ no_some None h = refl
 no_some (Some v) h = absurd (cc)
 
 other_false : (q name : List ℕ) → q ≢ name → bytes_eq q name ≡ false
-other_false q name other = not_true (bytes_eq q name) (λ yes. other ((bytes_eq-Decides q name).0 yes))
-
-same_true : (q : List ℕ) → bytes_eq q q ≡ true
-same_true q = (bytes_eq-Decides q q).1 refl
+other_false q name other = false_from_ne_true (bytes_eq q name) (λ yes. other ((bytes_eq-Decides q name).0 yes))
 
 -- another name keeps its value
 added_other : (xs : List (Named ℕ)) (name : List ℕ) (v : ℕ) (q : List ℕ) → q ≢ name → value_of (added xs name v) q ≡ value_of xs q
 added_other xs name v q other = one (is_some (value_of xs name))
   where
-    none_more : (o : Option ℕ) → or_then o None ≡ o
+    none_more : (o : Option ℕ) → or_first o None ≡ o
     none_more None = refl
     none_more (Some x) = refl
 
@@ -54,7 +49,7 @@ added_other xs name v q other = one (is_some (value_of xs name))
     one true = refl
     one false =
         value_append xs (record { name = name; value = v } ∷ []) q
-        ∙ (ap (λ (b : Bool). or_then (value_of xs q) (if b then Some v else None)) (other_false q name other)
+        ∙ (ap (λ (b : Bool). or_first (value_of xs q) (if b then Some v else None)) (other_false q name other)
         ∙ none_more (value_of xs q))
 
 -- a new name has the value
@@ -63,15 +58,15 @@ added_own xs name v absent =
     ap (λ (b : Bool). value_of (if b then xs else xs ++ record { name = name; value = v } ∷ []) name)
     (ap (λ (o : Option ℕ). is_some o) absent)
     ∙ (value_append xs (record { name = name; value = v } ∷ []) name
-    ∙ (ap (λ (o : Option ℕ). or_then o (if bytes_eq name name then Some v else None)) absent
-    ∙ ap (λ (b : Bool). if b then Some v else None) (same_true name)))
+    ∙ (ap (λ (o : Option ℕ). or_first o (if bytes_eq name name then Some v else None)) absent
+    ∙ ap (λ (b : Bool). if b then Some v else None) (bytes_eq-self name)))
 
 -- where a value of a grown table is from
 added_cases : (xs : List (Named ℕ)) (name : List ℕ) (v : ℕ) (q : List ℕ) (p : ℕ) → value_of (added xs name v) q ≡ Some p
     → (value_of xs q ≡ Some p) ⊎ ((name ≡ q) × (v ≡ p))
 added_cases xs name v q p h = one (is_some (value_of xs name)) h
   where
-    from : (o : Option ℕ) (b : Bool) → bytes_eq q name ≡ b → or_then o (if b then Some v else None) ≡ Some p
+    from : (o : Option ℕ) (b : Bool) → bytes_eq q name ≡ b → or_first o (if b then Some v else None) ≡ Some p
         → (o ≡ Some p) ⊎ ((name ≡ q) × (v ≡ p))
     from (Some x) b is e = inl e
     from None true is e = let same : v ≡ p = cc in inr (sym ((bytes_eq-Decides q name).0 is), same)
@@ -192,13 +187,13 @@ joined_first : (js inner : List (Named ℕ)) (c : ConnOf ℕ) (cs : List (ConnOf
     → (value_of inner q ≡ Some p) ⊎ JoinedBy js (c ∷ cs) q p
 joined_first js inner c cs q p (inl before) = inl before
 joined_first js inner c cs q p (inr (named, joined)) =
-    inr (record { conn = c; listed = here c cs; named = named; joined = joined })
+    inr (record { conn = c; listed = head_in c cs; named = named; joined = joined })
 
 joined_next : (js inner : List (Named ℕ)) (c : ConnOf ℕ) (cs : List (ConnOf ℕ)) (q : List ℕ) (p : ℕ)
     → (value_of (conn_joined js inner c) q ≡ Some p) ⊎ JoinedBy js cs q p → (value_of inner q ≡ Some p) ⊎ JoinedBy js (c ∷ cs) q p
 joined_next js inner c cs q p (inl early) = joined_first js inner c cs q p (conn_cases js inner c q p early)
 joined_next js inner c cs q p (inr j) =
-    inr (record { conn = j.conn; listed = later c cs j.conn j.listed; named = j.named; joined = j.joined })
+    inr (record { conn = j.conn; listed = tail_in c cs j.conn j.listed; named = j.named; joined = j.joined })
 
 conns_cases : (js inner : List (Named ℕ)) (cs : List (ConnOf ℕ)) (q : List ℕ) (p : ℕ) → value_of (conns_joined js inner cs) q ≡ Some p
     → (value_of inner q ≡ Some p) ⊎ JoinedBy js cs q p
@@ -223,7 +218,7 @@ some_else false v o e = e
 found_some : {V : Type 0} → (xs : List (Named V)) (x : Named V) → Contains xs x → is_some (value_of xs x.name) ≡ true
 found_some [] x h = absurd (none_in x h)
 found_some {V} (y ∷ ys) x h =
-    elim (cons_cases y ys x h) [
+    elim (cases_in y ys x h) [
       | inl is ↦ ap (λ (b : Bool). is_some (if b then Some y.value else value_of ys x.name))
           ((bytes_eq-Decides x.name y.name).1 (ap (λ (z : Named V). z.name) (sym is)))
       | inr more ↦ some_else (bytes_eq x.name y.name) y.value (value_of ys x.name) (found_some ys x more)
@@ -232,7 +227,7 @@ found_some {V} (y ∷ ys) x h =
 not_before : {V : Type 0} → (before ys : List (Named V)) (b y : Named V) → twice_among before (y ∷ ys) ≡ [] → Contains before b
     → b.name ≢ y.name
 not_before before ys b y none in_before same =
-    let no : is_some (value_of before y.name) ≡ false = told_none _ _ (no_left (twice_name before y.name) _ none) in
+    let no : is_some (value_of before y.name) ≡ false = told_none _ _ (nil_left (twice_name before y.name) _ none) in
     let yes : is_some (value_of before y.name) ≡ true =
     subst (λ (n : List ℕ). is_some (value_of before n) ≡ true) same (found_some before b in_before) in
     absurd (cc)
@@ -242,18 +237,18 @@ apart_from : {V : Type 0} → (before xs : List (Named V)) (b x : Named V) → t
     → b.name ≢ x.name
 apart_from before [] b x none in_before in_xs = absurd (none_in x in_xs)
 apart_from {V} before (y ∷ ys) b x none in_before in_xs =
-    elim (cons_cases y ys x in_xs) [
+    elim (cases_in y ys x in_xs) [
       | inl is ↦ subst (λ (z : Named V). b.name ≢ z.name) is (not_before before ys b y none in_before)
-      | inr more ↦ apart_from (before ++ y ∷ []) ys b x (no_right (twice_name before y.name) _ none)
+      | inr more ↦ apart_from (before ++ y ∷ []) ys b x (nil_right (twice_name before y.name) _ none)
           (Contains-append_left before (y ∷ []) b in_before) more
     ]
 
 entry_in : (cs : List (ConnOf ℕ)) (c : ConnOf ℕ) → Contains cs c → Contains (map conn_entry cs) (conn_entry c)
 entry_in [] c h = absurd (none_in c h)
 entry_in (x ∷ cs) c h =
-    elim (cons_cases x cs c h) [
+    elim (cases_in x cs c h) [
       | inl is ↦ (0, omega arith, ap conn_entry is)
-      | inr more ↦ later (conn_entry x) (map conn_entry cs) (conn_entry c) (entry_in cs c more)
+      | inr more ↦ tail_in (conn_entry x) (map conn_entry cs) (conn_entry c) (entry_in cs c more)
     ]
 
 -- a port that isn't connected keeps its value
@@ -261,7 +256,7 @@ conns_other : (js inner : List (Named ℕ)) (cs : List (ConnOf ℕ)) (q : List �
     → value_of (conns_joined js inner cs) q ≡ value_of inner q
 conns_other js inner [] q other = refl
 conns_other js inner (c ∷ cs) q other =
-    conns_other js (conn_joined js inner c) cs q (λ d h. other d (later c cs d h)) ∙ conn_other js inner c q (other c (here c cs))
+    conns_other js (conn_joined js inner c) cs q (λ d h. other d (tail_in c cs d h)) ∙ conn_other js inner c q (other c (head_in c cs))
 
 others_apart : (before : List (Named (Unit {0}))) (x : ConnOf ℕ) (cs : List (ConnOf ℕ))
     → twice_among (before ++ conn_entry x ∷ []) (map conn_entry cs) ≡ [] → (d : ConnOf ℕ) → Contains cs d → x.id.name ≢ d.id.name
@@ -282,8 +277,8 @@ conns_own : (js inner : List (Named ℕ)) (before : List (Named (Unit {0}))) (cs
     → value_of (conns_joined js inner cs) c.id.name ≡ port_of_value js c.value
 conns_own js inner before [] c none h absent = absurd (none_in c h)
 conns_own js inner before (x ∷ cs) c none h absent =
-    let rest : twice_among (before ++ conn_entry x ∷ []) (map conn_entry cs) ≡ [] = no_right (twice_name before x.id.name) _ none in
-    elim (cons_cases x cs c h) [
+    let rest : twice_among (before ++ conn_entry x ∷ []) (map conn_entry cs) ≡ [] = nil_right (twice_name before x.id.name) _ none in
+    elim (cases_in x cs c h) [
       | inl is ↦ own_first js inner x c cs (others_apart before x cs rest) is absent
       | inr more ↦ conns_own js (conn_joined js inner x) (before ++ conn_entry x ∷ []) cs c rest more
           (conn_other js inner x c.id.name (λ same. others_apart before x cs rest c more (sym same)) ∙ absent)

@@ -2,6 +2,7 @@
 use Rattle.std.proofs.Common.{◌≡◌, ℕ, zero, suc, ◌≤◌, ◌⊎◌, inl, inr, List, [], ◌∷◌, map, length, refl, sym, ap, subst, ◌∙◌}
 use Rattle.std.proofs.Common.{arith, Option, Some, slice_get}
 use Rattle.std.specs.List.{Contains, flat_map}
+use Rattle.vidi_bits.proofs.Lists.{none_in, head_in, tail_in, cases_in, in_flat, from_flat}
 use Rattle.vlog_tree.specs.Tree.{InstanceOf, InstanceItem, ModuleOf}
 use Rattle.vlog_size.specs.Table.{Named, value_of}
 use Rattle.vlog_size.specs.declared.scope.Scope.{Scope}
@@ -9,20 +10,15 @@ use Rattle.vlog_names.specs.Entries.{module_entry}
 use Rattle.vlog_names.specs.Different.{Differ}
 use Rattle.vlog_names.specs.Twice.{twice_connected}
 use Rattle.vlog_hierarchy.specs.declared.scopes.Scope as hierarchy
-use Rattle.vlog_hierarchy.specs.Outlines.{Child, Outline, outlines_of, children_at}
+use Rattle.vlog_hierarchy.specs.Outlines.{Child, outlines_of, children_at}
 use Rattle.vlog_hierarchy.specs.Clock.{scopes, child_scopes, child_joined}
-use Rattle.vlog_hierarchy.proofs.Scoped.{no_deeper}
+use Rattle.vlog_hierarchy.proofs.Scoped.{no_deeper, deeper}
 use Rattle.vlog_elab.proofs.Places.{there}
 use Rattle.vlog_meaning.specs.Names.{Name, Full}
 use Rattle.vlog_meaning.specs.Settled.{Joins}
-use Rattle.flat_paths.proofs.Lists.{none_in, here, later, cons_cases, in_flat, out_flat, long_flat, in_got}
+use Rattle.flat_laws.proofs.Lists.{long_flat, in_got}
 use Rattle.flat_clock.proofs.Tables.{Plain, plain_joined, JoinedBy, joined_by, joined_as_outer}
 use Rattle.flat_clock.proofs.Children.{IsKid, is_kid, Own, own_child, Listed, listed_child, item_in}
-
-deeper : (n : ℕ) (os : List Outline) (js : List (Named ℕ)) (k : ℕ)
-    → scopes (suc n) os js k ≡ record { place = k; joined = js } ∷ flat_map (child_scopes n os js) (children_at os k)
-unfolding scopes
-deeper n os js k = refl
 
 -- ---- from an instance's joined names to a path
 
@@ -72,10 +68,10 @@ pub traced : (n : ℕ) (ms : List (ModuleOf ℕ)) (m : ModuleOf ℕ) (s : Scope)
 traced zero ms m s js k g at h =
     absurd (none_in g (subst (λ (gs : List hierarchy.Scope). Contains gs g) (no_deeper (outlines_of ms) js k) h))
 traced (suc n) ms m s js k g at h =
-    elim (cons_cases (record { place = k; joined = js }) (flat_map (child_scopes n (outlines_of ms) js) (children_at (outlines_of ms) k)) g
+    elim (cases_in (record { place = k; joined = js }) (flat_map (child_scopes n (outlines_of ms) js) (children_at (outlines_of ms) k)) g
     (subst (λ (gs : List hierarchy.Scope). Contains gs g) (deeper n (outlines_of ms) js k) h)) [
       | inl is ↦ traced_itself ms m s js k g at is
-      | inr more ↦ let r = out_flat (child_scopes n (outlines_of ms) js) (children_at (outlines_of ms) k) g more in
+      | inr more ↦ let r = from_flat (child_scopes n (outlines_of ms) js) (children_at (outlines_of ms) k) g more in
           let kid : IsKid ms m.items r.0 = is_kid ms k m r.0 at r.1 in
           let is = there ms r.0.instance.module_id.name r.0.place kid.place in
           let o : Own ms m s r.0 = own_child ms m s r.0 is.0 kid is.1 in
@@ -108,7 +104,7 @@ reached_through n ms k js outer port inner m c listed same (inl j) =
       scope = j.scope;
       listed =
           subst (λ (gs : List hierarchy.Scope). Contains gs j.scope) (sym (deeper n (outlines_of ms) js k))
-          (later (record { place = k; joined = js })
+          (tail_in (record { place = k; joined = js })
           (flat_map (child_scopes n (outlines_of ms) js) (children_at (outlines_of ms) k)) j.scope
           (in_flat (child_scopes n (outlines_of ms) js) (children_at (outlines_of ms) k) c j.scope listed j.listed));
       there = j.there;
@@ -130,7 +126,7 @@ reached (suc n) ms differ once k n0 s0 js outer [] m s inner at (tree, scope, na
       scope = record { place = k; joined = js };
       listed =
           subst (λ (gs : List hierarchy.Scope). Contains gs (record { place = k; joined = js })) (sym (deeper n (outlines_of ms) js k))
-          (here (record { place = k; joined = js }) (flat_map (child_scopes n (outlines_of ms) js) (children_at (outlines_of ms) k)));
+          (head_in (record { place = k; joined = js }) (flat_map (child_scopes n (outlines_of ms) js) (children_at (outlines_of ms) k)));
       there = at ∙ ap (λ (x : ModuleOf ℕ). Some x) tree;
       value = ap (value_of js) (sym name);
     })

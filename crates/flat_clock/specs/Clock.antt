@@ -5,7 +5,7 @@ use Rattle.std.specs.Str.{bytes_eq}
 use Rattle.vlog_tree.specs.Tree.{PortOf, ModuleOf, FileOf}
 use Rattle.vlog_hierarchy.specs.Outlines.{place_of, outlines_of}
 use Rattle.vlog_hierarchy.specs.Clock.{scopes_of, clock_ports, first_port}
-use Rattle.vlog_scope.specs.Scope.{scope_with}
+use Rattle.vlog_elab.specs.Scope.{scope_with}
 use Rattle.vlog_elab.specs.Instances.{ModuleInstance, instances}
 use Rattle.vlog_elab.specs.Clock.{clock_inputs}
 use Rattle.vlog_elab.specs.Reasons.{Clear}

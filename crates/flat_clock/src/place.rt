@@ -5,7 +5,7 @@ ghost use Rattle.std.specs.Str.{bytes_eq};
 ghost use Rattle.vlog_tree.specs.Tree.{ModuleOf};
 ghost use Rattle.vlog_tree.specs.Plain.{plain, plain_port};
 ghost use Rattle.vlog_hierarchy.specs.Plain.{plain_path};
-ghost use Rattle.vlog_scope.specs.Scope.{scope_with};
+ghost use Rattle.vlog_elab.specs.Scope.{scope_with};
 ghost use Rattle.vlog_elab.specs.Instances.{instances};
 ghost use Rattle.vlog_elab.specs.Plain.{plain_instances};
 ghost use Rattle.vlog_elab.specs.Reasons.{Clear};

@@ -3,16 +3,17 @@ use Rattle.std.proofs.Common.{◌≡◌, ℕ, ◌+◌, ◌==◌, ◌||◌, Bool,
 use Rattle.std.proofs.Common.{refl, ap, sym, ◌∙◌, append_assoc}
 use Rattle.std.specs.List.{AllZip, count_by, flat_map, list_any}
 use Rattle.std.proofs.lemmas.List.Sums.{sum_by-append, sum_by-cons}
+use Rattle.net_code.specs.BitMap.{is_among}
 use Rattle.vidi_bits.specs.Findings.{told_if}
 use Rattle.net_design.specs.declared.act.Code.{Code}
 use Rattle.net_design.specs.declared.act.Place.{Place}
 use Rattle.net_design.specs.declared.act.Place.TheVariants.{Bits as PlaceBits, BitsFrom, Word as PlaceWord, WordFrom}
 use Rattle.net_design.specs.declared.design.Driver.{Driver}
 use Rattle.net_design.specs.Bits.{place_writes}
-use Rattle.net_drive.specs.Targets.{block_targets, place_net, place_room, nets_named, rooms_named}
-use Rattle.net_drive.specs.Drive.{driver_places, wire_places, bit_count, always_names, block_names, is_among, block_count}
+use Rattle.net_code.specs.Targets.{block_targets, place_net, place_room, nets_named, rooms_named, bit_count}
+use Rattle.net_drive.specs.Drive.{driver_places, wire_places, always_names, block_names, block_count}
 use Rattle.vlog_block.specs.Naming.{always_names as of_block}
-use Rattle.vlog_driver.specs.Spots.{names_at_spot}
+use Rattle.vlog_driver.specs.Sites.{names_at_site}
 use Rattle.vlog_block.specs.Naming.{Naming, place_names}
 use Rattle.vlog_driver.specs.Duties.{Duty, Assigns, Settles, Does}
 use Rattle.flat_parts.specs.Drivers.{ClockedBlock, IsBlockOf}
@@ -51,10 +52,6 @@ unfolding wire_places
 wires_counted duties drivers h m k = places_counted duties drivers h m k
 
 -- ---- blocks, where lists of numbers are among places as names are
-
-or_no : (b : Bool) → (b || false) ≡ b
-or_no true = refl
-or_no false = refl
 
 net_among : (m : ℕ) (ps : List Place) → is_among m (flat_map place_net ps) ≡ list_any (is_net m) (place_names ps)
 net_among m [] = refl
@@ -111,8 +108,8 @@ module _ (names : List Place → List ℕ) (is_that : ℕ → Naming → Bool)
       ap (λ zs. block_count zs m) (told_not d.always (names (block_targets d.code.acts)) cs h.always) ∙ k
   one_duty m (Settles p a) d cs ns h k =
       ap (λ zs. block_count zs m) (told_so d.always (names (block_targets d.code.acts)) cs h.always)
-      ∙ one_block m (names (block_targets d.code.acts)) cs (names_at_spot p (of_block p.names a)) ns
-      (among_code m (block_targets d.code.acts) (names_at_spot p (of_block p.names a)) h.names) k
+      ∙ one_block m (names (block_targets d.code.acts)) cs (names_at_site p (of_block p.names a)) ns
+      (among_code m (block_targets d.code.acts) (names_at_site p (of_block p.names a)) h.names) k
 
   pub blocks_counted : (m : ℕ) (duties : List Duty) (drivers : List Driver) (bs : List ClockedBlock) (cs : List Code)
       → AllZip Does duties drivers → AllZip IsBlockOf bs cs

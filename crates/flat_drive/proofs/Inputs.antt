@@ -5,6 +5,7 @@ use Rattle.std.specs.List.{list_any}
 use Rattle.std.specs.Str.{bytes_eq}
 use Rattle.std.proofs.lemmas.Slice.Eq.{bytes_eq-Decides}
 use Rattle.std.proofs.lemmas.List.Folds.{list_any-append}
+use Rattle.vidi_bits.proofs.Bools.{or_none}
 use Rattle.vidi_bits.specs.Findings.{told_if}
 use Rattle.vlog_tree.specs.Tree.{PortOf, PortHeadOf, ModuleOf}
 use Rattle.vlog_tree.specs.declared.module.Direction.{Direction}
@@ -12,19 +13,18 @@ use Rattle.vlog_tree.specs.declared.module.Direction.TheVariants.{Input, Output}
 use Rattle.vlog_size.specs.Table.{Named, value_of, added}
 use Rattle.vlog_names.specs.declared.declaration.Declaration.{Declaration}
 use Rattle.vlog_names.specs.Entries.{port_entries, port_as, no_port}
-use Rattle.vlog_elab.specs.Clock as clock
-use Rattle.vlog_meaning.specs.Ports.{is_output_port}
+use Rattle.vlog_names.specs.Ports.{is_input_port, input_after, is_output_port}
 use Rattle.vlog_meaning.specs.Settled.{is_input, input_names}
 use Rattle.vlog_meaning.specs.Names.{Name}
 use Rattle.flat_drive.specs.Marked.{inputs_after, is_listed, IsInputTable}
 
 -- ---- ports
 
-no_output : (d : Direction) → clock.is_input d ≡ not (is_output_port d)
+no_output : (d : Direction) → is_input_port d ≡ not (is_output_port d)
 no_output (Input wire) = refl
 no_output (Output kind) = refl
 
-next_input : (d : Declaration) (h : Option (PortHeadOf ℕ)) → clock.input_after (is_input d) h ≡ is_input (port_as d h)
+next_input : (d : Declaration) (h : Option (PortHeadOf ℕ)) → input_after (is_input d) h ≡ is_input (port_as d h)
 next_input d None = refl
 next_input d (Some h) = no_output h.direction
 
@@ -45,10 +45,6 @@ table_right m table h name = h name ∙ ap (list_any (bytes_eq name)) (inputs_ri
 
 -- ---- the table
 
-either_none : (b : Bool) → b ≡ (b || false)
-either_none true = refl
-either_none false = refl
-
 one_more : (b c : Bool) (n : Bool) (o : Option Bool) → is_some o ≡ (b || c) → is_some (if n then Some true else o) ≡ ((n || b) || c)
 one_more b c true o h = refl
 one_more b c false o h = h
@@ -63,7 +59,7 @@ or_three false b c = refl
 
 at_end : (xs : List (Named Bool)) (name new : Name) (v : Bool)
     → is_listed (xs ++ record { name = new; value = v } ∷ []) name ≡ (is_listed xs name || bytes_eq name new)
-at_end [] name new v = listed_if (bytes_eq name new) v None ∙ sym (either_none (bytes_eq name new))
+at_end [] name new v = listed_if (bytes_eq name new) v None ∙ sym (or_none (bytes_eq name new))
 at_end (x ∷ xs) name new v =
     listed_if (bytes_eq name x.name) x.value (value_of (xs ++ record { name = new; value = v } ∷ []) name)
     ∙ ap (λ b. bytes_eq name x.name || b) (at_end xs name new v)
@@ -92,11 +88,11 @@ pub one_added : (xs ys : List (Named Bool)) (new : Name) → ys ≡ added xs new
     → is_listed ys name ≡ (is_listed xs name || list_any (bytes_eq name) (told_if true new))
 one_added xs ys new e name =
     ap (λ (t : List (Named Bool)). is_listed t name) e ∙ added_listed xs name new true
-    ∙ ap (λ b. is_listed xs name || b) (either_none (bytes_eq name new))
+    ∙ ap (λ b. is_listed xs name || b) (or_none (bytes_eq name new))
 
 pub none_added : (xs : List (Named Bool)) (new name : Name)
     → is_listed xs name ≡ (is_listed xs name || list_any (bytes_eq name) (told_if false new))
-none_added xs new name = either_none (is_listed xs name)
+none_added xs new name = or_none (is_listed xs name)
 
 -- one port more
 pub step : (table new : List (Named Bool)) (b : Bool) (n : Name) (rest : List Name) (name : Name)

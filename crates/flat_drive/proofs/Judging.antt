@@ -12,7 +12,8 @@ use Rattle.net_drive.specs.declared.findings.Misdriven.TheVariants as what
 use Rattle.net_drive.specs.Drive.{drive_faults}
 use Rattle.vlog_elab.specs.declared.error.ElabError.{ElabError}
 use Rattle.vlog_elab.specs.Instances.{ModuleInstance}
-use Rattle.vlog_elab.specs.Answered.{IsFirst}
+use Rattle.vidi_bits.specs.Findings.{IsFirst}
+use Rattle.vlog_elab.specs.Told.{elab_told}
 use Rattle.flat_parts.specs.Seats.{seats_of}
 use Rattle.flat_parts.specs.Nets.{flat_nets, flat_memories}
 use Rattle.flat_drive.specs.Kinds.{flat_kinds}
@@ -33,7 +34,7 @@ mapped : {A B : Type 0} (f : A → B) (xs : List A) (x : A) → Some x ≡ first
 mapped f [] x e = absurd cc
 mapped f (y ∷ ys) x e = ap (λ z. Some (f z)) (sym (same_Some x y e))
 
-first_is : (is : List ModuleInstance) (x : Misdriven) (fs : List ElabError) → first fs ≡ Some (error_of is x) → IsFirst fs (error_of is x)
+first_is : (is : List ModuleInstance) (x : Misdriven) (fs : List ElabError) → first fs ≡ Some (error_of is x) → IsFirst elab_told fs (error_of is x)
 first_is is (what.Net m bit n) fs e = e
 first_is is (what.Memory i n) fs e = e
 
@@ -45,9 +46,9 @@ module _ (is : List ModuleInstance) (nets : List Net) (kinds : List NetKind) (me
     (blocks : List Code) (n : nets ≡ flat_nets (seats_of is)) (k : kinds ≡ flat_kinds (seats_of is))
     (m : memories ≡ flat_memories (seats_of is)) where
   pub found : (x : Misdriven) (error : ElabError) → Some x ≡ first (drive_faults nets kinds memories drivers blocks)
-      → error ≡ error_of is x → IsFirst (flat_findings is drivers blocks) error
+      → error ≡ error_of is x → IsFirst elab_told (flat_findings is drivers blocks) error
   found x error e h =
-      subst (λ (y : ElabError). IsFirst (flat_findings is drivers blocks) y) (sym h)
+      subst (λ (y : ElabError). IsFirst elab_told (flat_findings is drivers blocks) y) (sym h)
       (first_is is x (flat_findings is drivers blocks) (sym (ap first (same_findings is nets kinds memories drivers blocks n k m))
       ∙ mapped (error_of is) (drive_faults nets kinds memories drivers blocks) x e))
 

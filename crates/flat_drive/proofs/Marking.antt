@@ -6,14 +6,15 @@ use Rattle.std.specs.List.{flat_map}
 use Rattle.std.proofs.lemmas.Bool.{eqb-true}
 use Rattle.vlog_size.specs.declared.scope.ScopeNet.{ScopeNet}
 use Rattle.vlog_size.specs.Table.{Named}
-use Rattle.vlog_scope.specs.Scope.{words_of}
+use Rattle.vlog_elab.specs.Scope.{words_of}
 use Rattle.std.proofs.lemmas.Option.{same_Some}
 use Rattle.vlog_elab.specs.Instances.{ModuleInstance}
 use Rattle.vlog_elab.specs.declared.instance.ModuleInstance as code
 use Rattle.vlog_elab.specs.Plain.{plain_instance, plain_instances}
-use Rattle.vlog_meaning.specs.Ports.{has_reg}
+use Rattle.vlog_names.specs.Ports.{has_reg}
 use Rattle.flat_parts.specs.Seats.{Seat, seats_from, seats_of}
-use Rattle.flat_drive.specs.Kinds.{has_input, kind_if, kind_of, seat_kinds, flat_kinds, seat_marks, reg_marks}
+use Rattle.flat_parts.specs.Marks.{seat_marks, reg_marks}
+use Rattle.flat_drive.specs.Kinds.{has_input, kind_if, kind_of, seat_kinds, flat_kinds}
 use Rattle.flat_drive.specs.Marked.{IsInputTable, is_pin, kinds_from}
 
 two_lists : (pin : ℕ → Bool) (k : ℕ) (xs ys : List Bool)
@@ -58,7 +59,7 @@ later_seats : (pin : ℕ → Bool) (k number net word : ℕ) (is : List ModuleIn
     ≡ flat_map seat_kinds (seats_from (number + 1) net word is)
 later_seats pin k number net word [] off = refl
 later_seats pin k number net word (i ∷ is) off =
-    let x : Seat = record { number = number + 1; net = net; word = word; instance = i } in
+    let x : Seat = record { number = number + 1; base = record { net = net; word = word }; instance = i } in
     let rest = seats_from (number + 1 + 1) (net + length i.scope.nets) (word + words_of i.scope.memories) is in
     two_lists pin k (seat_marks x) (flat_map seat_marks rest)
     ∙ ap (λ ks. ks ++ kinds_from pin (k + length (seat_marks x)) (flat_map seat_marks rest))
@@ -92,7 +93,7 @@ pub kinds_right : (table : List (Named Bool)) (i : ModuleInstance) (is : List Mo
 unfolding reg_marks flat_kinds seats_of
 kinds_right table i is right =
     let pin = is_pin table i.scope.nets in
-    let x : Seat = record { number = 0; net = 0; word = 0; instance = i } in
+    let x : Seat = record { number = 0; base = record { net = 0; word = 0 }; instance = i } in
     let rest = seats_from (0 + 1) (0 + length i.scope.nets) (0 + words_of i.scope.memories) is in
     two_lists pin 0 (seat_marks x) (flat_map seat_marks rest)
     ∙ ap (λ ks. ks ++ kinds_from pin (0 + length (seat_marks x)) (flat_map seat_marks rest))

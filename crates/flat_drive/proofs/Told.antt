@@ -1,4 +1,5 @@
 -- What is found in the flat design is what is found in the instances.
+use Rattle.std.proofs.Math.Nat.{zero-add}
 use Rattle.std.proofs.Common.{◌≡◌, ℕ, zero, suc, ◌+◌, ◌==◌, min, not, nat_lt, Bool, true, false, List, [], ◌∷◌, ◌++◌, map, length}
 use Rattle.std.proofs.Common.{refl, ap, sym, ◌∙◌, append_assoc, arith}
 use Rattle.std.specs.List.{AllZip, flat_map}
@@ -7,7 +8,7 @@ use Rattle.vidi_bits.specs.Findings.{told_if}
 use Rattle.vlog_size.specs.declared.scope.ScopeNet.{ScopeNet}
 use Rattle.vlog_size.specs.declared.scope.ScopeMemory.{ScopeMemory}
 use Rattle.vlog_size.specs.Table.{Named}
-use Rattle.vlog_scope.specs.Scope.{words_of}
+use Rattle.vlog_elab.specs.Scope.{words_of}
 use Rattle.net_design.specs.declared.act.Code.{Code}
 use Rattle.net_design.specs.declared.act.Place.{Place}
 use Rattle.net_design.specs.declared.design.Net.{Net}
@@ -17,8 +18,8 @@ use Rattle.net_drive.specs.declared.findings.NetKind.{NetKind}
 use Rattle.net_drive.specs.declared.findings.NetKind.TheVariants.{Pin, Wire, Reg}
 use Rattle.net_drive.specs.declared.findings.Misdriven.{Misdriven}
 use Rattle.net_drive.specs.declared.findings.Misdriven.TheVariants as what
-use Rattle.net_drive.specs.Targets.{nets_named, rooms_named}
-use Rattle.net_drive.specs.Drive.{bit_count, block_count, bit_faults, reg_faults, kind_faults, kind_at, nets_from, memory_at, wire_places}
+use Rattle.net_code.specs.Targets.{nets_named, rooms_named, bit_count}
+use Rattle.net_drive.specs.Drive.{block_count, bit_faults, reg_faults, kind_faults, kind_at, nets_from, memory_at, wire_places}
 use Rattle.net_drive.specs.Drive.{block_names, memories_from as memories_past, net_faults, memory_faults}
 use Rattle.vlog_block.specs.Naming.{Naming}
 use Rattle.vlog_driver.specs.Duties.{Duty, Does}
@@ -144,7 +145,7 @@ module _ (is : List ModuleInstance) (places : List Place) (in_nets in_rooms : Li
       ≡ flat_map (seat_net_findings duties names) (seats_from number net word js)
   seats_told kinds number net word [] at_text at_kind = refl
   seats_told kinds number net word (i ∷ js) at_text at_kind =
-      let x : Seat = record { number = number; net = net; word = word; instance = i } in
+      let x : Seat = record { number = number; base = record { net = net; word = word }; instance = i } in
       let after = seats_from (number + 1) (net + length i.scope.nets) (word + words_of i.scope.memories) js in
       nets_told kinds x net i.scope.nets (flat_map instance_nets js) (flat_map seat_kinds after) (flat_map seat_nets after) at_text at_kind
       ∙ ap (λ xs. nets_findings duties names x net i.scope.nets ++ xs)
@@ -189,7 +190,7 @@ module _ (is : List ModuleInstance) (places : List Place) (in_nets in_rooms : Li
       ≡ flat_map (seat_memory_findings duties names) (seats_from number net word js)
   rooms_told at number net word [] at_text = refl
   rooms_told at number net word (i ∷ js) at_text =
-      let x : Seat = record { number = number; net = net; word = word; instance = i } in
+      let x : Seat = record { number = number; base = record { net = net; word = word }; instance = i } in
       let after = seats_from (number + 1) (net + length i.scope.nets) (word + words_of i.scope.memories) js in
       memories_told x at word i.scope.memories (flat_map instance_memories js) (flat_map seat_memories after) at_text
       ∙ ap (λ xs. memories_findings duties names x word i.scope.memories ++ xs)
@@ -197,9 +198,6 @@ module _ (is : List ModuleInstance) (places : List Place) (in_nets in_rooms : Li
       (λ j. past_memory i.path i.scope.memories at j (flat_map instance_memories js) at_text))
 
 -- ---- all
-
-from_none : (j : ℕ) → 0 + j ≡ j
-from_none j = omega arith
 
 pub all_told : (is : List ModuleInstance) (drivers : List Driver) (blocks : List Code) → AllZip Does (all_duties (seats_of is)) drivers
     → AllZip IsBlockOf (all_blocks (seats_of is)) blocks → flat_findings is drivers blocks ≡ drive_findings (seats_of is)
@@ -218,7 +216,7 @@ all_told is drivers blocks h k =
     map-append (error_of is) (net_faults (flat_nets xs) (flat_kinds xs) drivers blocks) (memory_faults (flat_memories xs) drivers blocks)
     ∙ ap (λ zs. zs ++ map (error_of is) (memory_faults (flat_memories xs) drivers blocks))
     (seats_told is places in_nets in_rooms duties names bits nets rooms (flat_kinds xs) 0 0 0 is
-    (λ j. ap (text_at (net_texts is)) (from_none j)) (λ j. ap (kind_at (flat_kinds xs)) (from_none j)))
+    (λ j. ap (text_at (net_texts is)) (zero-add j)) (λ j. ap (kind_at (flat_kinds xs)) (zero-add j)))
     ∙ ap (λ zs. flat_map (seat_net_findings duties names) xs ++ zs)
     (rooms_told is places in_nets in_rooms duties names bits nets rooms 0 0 0 0 is
-    (λ j. ap (text_at (memory_texts is)) (from_none j)))
+    (λ j. ap (text_at (memory_texts is)) (zero-add j)))

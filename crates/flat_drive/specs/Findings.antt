@@ -10,7 +10,7 @@ use Rattle.net_drive.specs.declared.findings.NetKind.{NetKind}
 use Rattle.net_drive.specs.declared.findings.NetKind.TheVariants.{Pin, Wire, Reg}
 use Rattle.net_drive.specs.Drive.{pin_count}
 use Rattle.vlog_block.specs.Naming.{Naming, NamesNet, NamesRoom, target_count, always_names}
-use Rattle.vlog_driver.specs.Spots.{count_at, names_at_spot}
+use Rattle.vlog_driver.specs.Sites.{count_at, names_at_site}
 use Rattle.vlog_driver.specs.Duties.{Duty, Assigns, Settles}
 use Rattle.vlog_elab.specs.declared.error.ElabError.{ElabError}
 use Rattle.vlog_elab.specs.declared.error.ElabError.TheVariants as e
@@ -34,10 +34,10 @@ driver_count duties m k = sum_by (duty_count m k) duties
 -- what an `always @*` names
 abbrev pub settled_names : Duty → List (List Naming)
 settled_names (Assigns line to target from e) = []
-settled_names (Settles p a) = names_at_spot p (always_names p.names a) ∷ []
+settled_names (Settles p a) = names_at_site p (always_names p.names a) ∷ []
 
 abbrev pub clocked_names : ClockedBlock → List Naming
-clocked_names b = names_at_spot b.spot (always_names b.spot.names b.block)
+clocked_names b = names_at_site b.site (always_names b.site.names b.block)
 
 -- what each always block names
 abbrev pub blocks_name : List Duty → List ClockedBlock → List (List Naming)
@@ -94,10 +94,10 @@ module _ (duties : List Duty) (named : List (List Naming)) where
       block_findings (dotted x.instance.path a.name) (room_blocks named word) ++ memories_findings x (word + a.value.length) memories
 
   abbrev pub seat_net_findings : Seat → List ElabError
-  seat_net_findings x = nets_findings x x.net x.instance.scope.nets
+  seat_net_findings x = nets_findings x x.base.net x.instance.scope.nets
 
   abbrev pub seat_memory_findings : Seat → List ElabError
-  seat_memory_findings x = memories_findings x x.word x.instance.scope.memories
+  seat_memory_findings x = memories_findings x x.base.word x.instance.scope.memories
 
 -- all nets in their order and each from its lowest bit, then all memories
 unfoldable pub drive_findings : List Seat → List ElabError

@@ -7,7 +7,7 @@ use Rattle.vlog_size.specs.declared.scope.ScopeNet.{ScopeNet}
 use Rattle.vlog_size.specs.Table.{Named}
 use Rattle.net_drive.specs.declared.findings.NetKind.{NetKind}
 use Rattle.net_drive.specs.declared.findings.NetKind.TheVariants.{Pin, Wire, Reg}
-use Rattle.vlog_meaning.specs.Ports.{has_reg}
+use Rattle.vlog_names.specs.Ports.{has_reg}
 use Rattle.vlog_meaning.specs.Settled.{inputs_of}
 use Rattle.flat_parts.specs.Seats.{Seat}
 
@@ -31,10 +31,3 @@ seat_kinds x = map (kind_of x) x.instance.scope.nets
 -- of the nets of the flat design, in their order
 unfoldable pub flat_kinds : List Seat → List NetKind
 flat_kinds xs = flat_map seat_kinds xs
-
--- which of them are regs
-abbrev pub seat_marks : Seat → List Bool
-seat_marks x = map (λ (n : Named ScopeNet). has_reg x.instance.tree n.name) x.instance.scope.nets
-
-unfoldable pub reg_marks : List Seat → List Bool
-reg_marks xs = flat_map seat_marks xs

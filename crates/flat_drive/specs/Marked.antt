@@ -5,7 +5,7 @@ use Rattle.vlog_tree.specs.Tree.{PortOf, ModuleOf}
 use Rattle.vlog_size.specs.declared.scope.ScopeNet.{ScopeNet}
 use Rattle.vlog_size.specs.Table.{Named, value_of}
 use Rattle.net_drive.specs.declared.findings.NetKind.{NetKind}
-use Rattle.vlog_elab.specs.Clock.{input_after}
+use Rattle.vlog_names.specs.Ports.{input_after}
 use Rattle.vlog_meaning.specs.Names.{Name}
 use Rattle.flat_drive.specs.Kinds.{has_input, kind_if}
 

@@ -7,10 +7,11 @@ ghost use Rattle.flat_drive.specs.Findings.{drive_findings};
 ghost use Rattle.std.specs.Prelude.{◌≡◌, min, IfOk};
 ghost use Rattle.net_drive.specs.declared.findings.Misdriven.{Misdriven};
 ghost use Rattle.vlog_elab.specs.Plain.{plain_instances};
-ghost use Rattle.vlog_elab.specs.Answered.{Judged};
+ghost use Rattle.vidi_bits.specs.Findings.{Judged};
+ghost use Rattle.vlog_elab.specs.Told.{elab_told};
 ghost use Rattle.flat_parts.specs.Seats.{seats_of};
 ghost use Rattle.flat_parts.specs.Nets.{flat_nets, flat_memories};
-ghost use Rattle.flat_drive.specs.Kinds.{reg_marks};
+ghost use Rattle.flat_parts.specs.Marks.{reg_marks};
 ghost use Rattle.flat_drive.specs.Reasons.{drivers_told, error_of, flat_findings};
 
 use crate::full_names::{memory_name, net_name};
@@ -83,10 +84,10 @@ pub fn check_drive(
     requires marks { marks.now ≡ reg_marks (seats_of (plain_instances list.now)) }
     requires nets { nets.now ≡ flat_nets (seats_of (plain_instances list.now)) }
     requires memories { memories.now ≡ flat_memories (seats_of (plain_instances list.now)) }
-    ensures told { Judged result (flat_findings (plain_instances list.now) drivers.now blocks.now) }
+    ensures told { Judged elab_told result (flat_findings (plain_instances list.now) drivers.now blocks.now) }
     ensures file { AllZip Does (all_duties (seats_of (plain_instances list.now))) drivers.now
         → AllZip IsBlockOf (all_blocks (seats_of (plain_instances list.now))) blocks.now
-        → Judged result (drive_findings (seats_of (plain_instances list.now))) }
+        → Judged elab_told result (drive_findings (seats_of (plain_instances list.now))) }
 {
     let kinds = kinds(alloc, list, marks)?;
     match misdriven(alloc, nets, kinds.as_slice(), memories, drivers, blocks)? {

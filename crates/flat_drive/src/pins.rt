@@ -1,42 +1,24 @@
 //! What kind each net of the flat design is.
 
-ghost use Rattle.std.specs.Prelude.{◌≡◌, ◌++◌, ◌||◌, true, map, option_map, IfOk, OnOk};
+ghost use Rattle.std.specs.Prelude.{◌≡◌, ◌++◌, ◌||◌, true, map, IfOk, OnOk};
 ghost use Rattle.std.specs.List.{list_any};
 ghost use Rattle.std.specs.Str.{bytes_eq};
 ghost use Rattle.vidi_bits.specs.Findings.{told_if};
-ghost use Rattle.vlog_tree.specs.Plain.{plain_head, plain_port, plain_module};
-ghost use Rattle.vlog_elab.specs.Clock.{is_input, input_after};
+ghost use Rattle.vlog_tree.specs.Plain.{plain_port, plain_module};
 ghost use Rattle.vlog_elab.specs.Plain.{plain_instances};
 ghost use Rattle.vlog_meaning.specs.Names.{Name};
 ghost use Rattle.flat_parts.specs.Seats.{seats_of};
-ghost use Rattle.flat_drive.specs.Kinds.{kind_if, flat_kinds, reg_marks};
+ghost use Rattle.flat_parts.specs.Marks.{reg_marks};
+ghost use Rattle.flat_drive.specs.Kinds.{kind_if, flat_kinds};
 ghost use Rattle.flat_drive.specs.Marked.{IsInputTable, inputs_after, is_listed, is_pin, kinds_from};
 
 use net_drive::NetKind;
 use std::alloc::Global;
 use vidi_bits::{Items, Memory, copied};
 use vlog_elab::ModuleInstance;
+use vlog_names::input_after;
 use vlog_size::{ScopeNets, Table};
-use vlog_tree::{Direction, Module, Port, PortHead};
-
-fn is_input(direction: Direction) -> bool
-    ensures { result ≡ is_input direction }
-{
-    match direction {
-        Direction::Input { wire: _ } => true,
-        Direction::Output { kind: _ } => false,
-    }
-}
-
-/// Whether a port is an input, where the port before it is one or isn't.
-fn input_after(before: bool, head: &Option<PortHead>) -> bool
-    ensures { result ≡ input_after before (option_map plain_head head.now) }
-{
-    match head {
-        Some(head) => is_input(head.direction),
-        None => before,
-    }
-}
+use vlog_tree::{Module, Port};
 
 /// Adds the name of a port that is an input.
 fn add_input(

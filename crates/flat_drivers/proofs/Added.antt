@@ -15,7 +15,7 @@ use Rattle.vlog_meaning.specs.Names.{Full}
 use Rattle.vlog_meaning.specs.Placed.{Placed, placed}
 use Rattle.flat_parts.specs.Seats.{Seat}
 use Rattle.flat_parts.specs.Drivers.{ClockedBlock, IsBlockOf}
-use Rattle.flat_drivers.specs.declared.flat.Start.{Start}
+use Rattle.net_code.specs.declared.base.Base.{Base}
 use Rattle.flat_drivers.specs.Latches.{placed_latches}
 use Rattle.flat_drivers.specs.Adding.{BlocksMore, placed_in, blocks_in, IsFaultlessPlaced}
 
@@ -41,15 +41,15 @@ module _ {A B : Type 0} (P : A → B → Type 0) where
 
   -- once what is left is added to what there is now, all is added to what there was
   abbrev pub Going : List A → List A → List B → List B → Type 0
-  Going left all now start = (end : List B) → Adds left now end → Adds all start end
+  Going left all now base = (end : List B) → Adds left now end → Adds all base end
 
-  pub code_next : (own more left all : List A) (now next start : List B) → left ≡ own ++ more → Adds own now next
-      → Going left all now start → Going more all next start
-  code_next own more left all now next start split adds going end h =
+  pub code_next : (own more left all : List A) (now next base : List B) → left ≡ own ++ more → Adds own now next
+      → Going left all now base → Going more all next base
+  code_next own more left all now next base split adds going end h =
       going end (subst (λ zs. Adds zs now end) (sym split) (and_more own more now next end adds h))
 
-  pub code_done : (left all : List A) (now start : List B) → left ≡ [] → Going left all now start → Adds all start now
-  code_done left all now start over going = going now (subst (λ zs. Adds zs now now) (sym over) (no_more now))
+  pub code_done : (left all : List A) (now base : List B) → left ≡ [] → Going left all now base → Adds all base now
+  code_done left all now base over going = going now (subst (λ zs. Adds zs now now) (sym over) (no_more now))
 
 pub one_block_result : {E : Type 0} (result : Result (Unit {0}) E) (c : Code) (old new : List Code) → OnOk result (new ≡ old ++ c ∷ [])
     → OnOk result ((b : ClockedBlock) → IsBlockOf b c → BlocksMore (b ∷ []) old new)
@@ -79,12 +79,12 @@ SetTo s t = t ≡ record s { declared = t.declared }
 pub latches_there : (s t : Scope) (p : Placed) → SetTo s t → placed_latches t p ≡ placed_latches s p
 latches_there s t p is = ap (λ (u : Scope). placed_latches u p) is
 
-pub duties_there : (xs : List Seat) (path : Full) (start : Start) (s t : Scope) (p : Placed) → SetTo s t
-    → placed_in xs path start t p ≡ placed_in xs path start s p
-duties_there xs path start s t p is = ap (λ (u : Scope). placed_in xs path start u p) is
+pub duties_there : (xs : List Seat) (path : Full) (base : Base) (s t : Scope) (p : Placed) → SetTo s t
+    → placed_in xs path base t p ≡ placed_in xs path base s p
+duties_there xs path base s t p is = ap (λ (u : Scope). placed_in xs path base u p) is
 
-pub blocks_there : (start : Start) (s t : Scope) (p : Placed) → SetTo s t → blocks_in start t p ≡ blocks_in start s p
-blocks_there start s t p is = ap (λ (u : Scope). blocks_in start u p) is
+pub blocks_there : (base : Base) (s t : Scope) (p : Placed) → SetTo s t → blocks_in base t p ≡ blocks_in base s p
+blocks_there base s t p is = ap (λ (u : Scope). blocks_in base u p) is
 
 -- what holds of the first of what is left and of the others holds of what is left
 pub left_first : {X Y : Type 0} (P : Y → Type 0) (plain : X → Y) (xs : List X) (i : ℕ) (x : X) → i < length xs → x ≡ get_or xs i x
@@ -107,5 +107,5 @@ first_placed P params k next items i item l is after h =
     subst (λ ys. AllByRecursion P (placed params k (map plain_item ys))) (from_here items i item l is) h in
     (both.0, subst (λ n. AllByRecursion P (placed params n (map plain_item (drop (i + 1) items)))) (sym after) both.1)
 
-pub faultless_there : (start : Start) (s t : Scope) (p : Placed) → SetTo s t → IsFaultlessPlaced start s p → IsFaultlessPlaced start t p
-faultless_there start s t p is h = subst (λ (u : Scope). IsFaultlessPlaced start u p) (sym is) h
+pub faultless_there : (base : Base) (s t : Scope) (p : Placed) → SetTo s t → IsFaultlessPlaced base s p → IsFaultlessPlaced base t p
+faultless_there base s t p is h = subst (λ (u : Scope). IsFaultlessPlaced base u p) (sym is) h

@@ -3,6 +3,7 @@ use Rattle.std.proofs.Common.{◌≡◌, ℕ, zero, suc, List, [], ◌∷◌, �
 use Rattle.std.specs.Prelude.{option_map}
 use Rattle.std.specs.List.{flat_map, AllByRecursion}
 use Rattle.std.proofs.lemmas.Option.{slice_get-map}
+use Rattle.flat_parts.specs.Instances.{IsDeclaredIn}
 use Rattle.vlog_tree.specs.Tree.{InstanceOf, ItemOf, WiresItem, DrivenWiresItem, RegsItem, LocalparamsItem, AssignItem, AlwaysItem}
 use Rattle.vlog_tree.specs.Tree.{InstanceItem, ModuleOf, FileOf}
 use Rattle.vlog_size.specs.declared.scope.Scope.{Scope}
@@ -13,7 +14,6 @@ use Rattle.vlog_names.specs.Entries.{Names, module_entry, modules_of}
 use Rattle.vlog_hierarchy.specs.Outlines.{place_of}
 use Rattle.vlog_elab.specs.Instances.{ModuleInstance, child_of, child_at, item_children, children_from, children, within, top_of, top_at}
 use Rattle.vlog_elab.specs.Instances.{instances}
-use Rattle.flat_drivers.specs.Seated.{IsDeclaredIn}
 use Rattle.flat_drivers.specs.Laws.{InstancesAreDeclared}
 
 -- ---- what holds of each of several lists holds of all

@@ -1,5 +1,5 @@
 -- In an instance of a lawful scope in which nothing is found, nothing is found in what its items are made of.
-use Rattle.std.proofs.Common.{◌≡◌, ℕ, true, List, [], ◌∷◌, ◌++◌, map, refl, ap, sym, ◌∙◌}
+use Rattle.std.proofs.Common.{◌≡◌, ℕ, true, List, [], ◌∷◌, ◌++◌, ap, ◌∙◌}
 use Rattle.std.specs.List.{flat_map, AllByRecursion}
 use Rattle.vlog_tree.specs.Tree.{ExprOf, TargetOf, AssignOf, StmtOf, BeginStmt, IfStmt, CaseStmt, AssignStmt, StmtsOf, NoStmts, MoreStmts}
 use Rattle.vlog_tree.specs.Tree.{ArmOf, LabelsArm, DefaultArm, ArmsOf, NoArms, MoreArms, BodyOf, StmtBody, EmptyBody, ElseOf, NoElse, Else}
@@ -13,14 +13,13 @@ use Rattle.vlog_scope.specs.declared.fault.FaultKind.TheVariants.{Constant, Widt
 use Rattle.vlog_scope.specs.Scope.{readable_at, after_item}
 use Rattle.vlog_scope.specs.Faults.{found, expr_faults, assign_faults, assigned_faults, stmt_faults, stmts_faults, body_faults, else_faults}
 use Rattle.vlog_scope.specs.Faults.{arm_faults, arms_faults, item_faults, items_faults, const_faults, width_faults}
-use Rattle.vlog_block.specs.Faultless.{IsFaultless, IsFaultlessTarget, IsFaultlessStmt, AreFaultlessStmts, IsFaultlessBody}
-use Rattle.vlog_block.specs.Faultless.{IsFaultlessElse, IsFaultlessArm, AreFaultlessArms}
+use Rattle.vlog_driver.specs.Faultless.{IsFaultless, IsFaultlessTarget, IsFaultlessStmt, AreFaultlessStmts, IsFaultlessBody}
+use Rattle.vlog_driver.specs.Faultless.{IsFaultlessElse, IsFaultlessArm, AreFaultlessArms}
 use Rattle.vlog_meaning.specs.Placed.{placed, placed_items}
-use Rattle.vlog_driver.specs.Spots.{Spot}
 use Rattle.vlog_driver.specs.Duties.{IsFaultlessAssign}
 use Rattle.vlog_elab.specs.Instances.{ModuleInstance}
-use Rattle.flat_drivers.specs.declared.flat.Start.{Start}
-use Rattle.flat_drivers.specs.Adding.{spot_from, IsFaultlessItem, IsFaultlessPlaced}
+use Rattle.net_code.specs.declared.base.Base.{Base}
+use Rattle.flat_drivers.specs.Adding.{site_from, IsFaultlessItem, IsFaultlessPlaced}
 use Rattle.flat_drivers.proofs.Lawful.{parts_empty, items_empty}
 
 no_faults : (e : Sizes) → e.const_faults ≡ [] → e.width_faults ≡ [] → faults e ≡ []
@@ -94,12 +93,12 @@ module _ (r : Readable) (lawful : is_lawful_readable r ≡ true) where
         let ws = parts_empty (arm_faults Width r a) (arms_faults Width r rest) w in
         (arm_clean a cs.0 ws.0, arms_clean rest cs.1 ws.1)
 
-module _ (start : Start) (s : Scope) (lawful : is_lawful_scope s ≡ true) where
+module _ (base : Base) (s : Scope) (lawful : is_lawful_scope s ≡ true) where
   readable_lawful : (k : ℕ) → is_lawful_readable (readable_at s k) ≡ true
   readable_lawful k = scope_lawful (record s { declared = k }) lawful
 
   assigns_clean : (k : ℕ) (xs : List (AssignOf ℕ)) → flat_map (assigned_faults Constant (readable_at s k)) xs ≡ []
-      → flat_map (assigned_faults Width (readable_at s k)) xs ≡ [] → AllByRecursion (IsFaultlessAssign (spot_from start s k)) xs
+      → flat_map (assigned_faults Width (readable_at s k)) xs ≡ [] → AllByRecursion (IsFaultlessAssign (site_from base s k)) xs
   assigns_clean k [] c w = tt
   assigns_clean k (a ∷ xs) c w =
       let r = readable_at s k in
@@ -108,7 +107,7 @@ module _ (start : Start) (s : Scope) (lawful : is_lawful_scope s ≡ true) where
       (assign_clean r (readable_lawful k) a.target a.value cs.0 ws.0, assigns_clean k xs cs.1 ws.1)
 
   item_clean : (k : ℕ) (item : ItemOf ℕ) → item_faults Constant s k item ≡ [] → item_faults Width s k item ≡ []
-      → IsFaultlessItem (spot_from start s k) item
+      → IsFaultlessItem (site_from base s k) item
   unfolding item_faults
   item_clean k (WiresItem range ids) c w = tt
   item_clean k (DrivenWiresItem range ws) c w = tt
@@ -119,7 +118,7 @@ module _ (start : Start) (s : Scope) (lawful : is_lawful_scope s ≡ true) where
   item_clean k (InstanceItem i) c w = tt
 
   items_clean : (k : ℕ) (items : List (ItemOf ℕ)) → items_faults Constant s k items ≡ [] → items_faults Width s k items ≡ []
-      → AllByRecursion (IsFaultlessPlaced start s) (placed s.params k items)
+      → AllByRecursion (IsFaultlessPlaced base s) (placed s.params k items)
   items_clean k [] c w = tt
   items_clean k (item ∷ items) c w =
       let next = after_item s.params k item in
@@ -127,8 +126,8 @@ module _ (start : Start) (s : Scope) (lawful : is_lawful_scope s ≡ true) where
       let ws = parts_empty (item_faults Width s k item) (items_faults Width s next items) w in
       (item_clean k item cs.0 ws.0, items_clean next items cs.1 ws.1)
 
-pub instance_clean : (start : Start) (i : ModuleInstance) → is_lawful_scope i.scope ≡ true → const_faults i.tree i.scope ≡ []
-    → width_faults i.tree i.scope ≡ [] → AllByRecursion (IsFaultlessPlaced start i.scope) (placed_items i.tree i.scope)
-instance_clean start i lawful c w =
-    items_clean start i.scope lawful i.scope.declared i.tree.items (items_empty Constant i.tree i.scope c)
+pub instance_clean : (base : Base) (i : ModuleInstance) → is_lawful_scope i.scope ≡ true → const_faults i.tree i.scope ≡ []
+    → width_faults i.tree i.scope ≡ [] → AllByRecursion (IsFaultlessPlaced base i.scope) (placed_items i.tree i.scope)
+instance_clean base i lawful c w =
+    items_clean base i.scope lawful i.scope.declared i.tree.items (items_empty Constant i.tree i.scope c)
     (items_empty Width i.tree i.scope w)

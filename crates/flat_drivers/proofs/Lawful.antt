@@ -1,7 +1,8 @@
 -- The scopes of instances in which nothing is found.
-use Rattle.std.proofs.Common.{◌≡◌, ℕ, zero, suc, true, List, [], ◌∷◌, ◌++◌, map, Option, None, Some, slice_get, refl, sym, ◌∙◌}
+use Rattle.std.proofs.Common.{◌≡◌, ℕ, zero, suc, true, List, [], ◌∷◌, ◌++◌, Option, None, Some, slice_get, refl, sym, ◌∙◌}
 use Rattle.std.specs.List.{flat_map, AllByRecursion}
 use Rattle.std.proofs.lemmas.Grind.{flat_map-append}
+use Rattle.vidi_bits.proofs.Lists.{none_mapped}
 use Rattle.vlog_tree.specs.Tree.{InstanceOf, ItemOf, WiresItem, DrivenWiresItem, RegsItem, LocalparamsItem, AssignItem, AlwaysItem}
 use Rattle.vlog_tree.specs.Tree.{InstanceItem, ModuleOf}
 use Rattle.vlog_size.specs.declared.scope.Scope.{Scope}
@@ -28,17 +29,13 @@ pub parts_empty : {A : Type 0} → (xs ys : List A) → xs ++ ys ≡ [] → (xs 
 parts_empty [] ys h = (refl, h)
 parts_empty (x ∷ xs) ys h = absurd (cc)
 
-map_empty : {A B : Type 0} → (f : A → B) (xs : List A) → map f xs ≡ [] → xs ≡ []
-map_empty f [] h = refl
-map_empty f (x ∷ xs) h = absurd (cc)
-
 pub consts_empty : (i : ModuleInstance) → instance_consts i ≡ [] → const_faults i.tree i.scope ≡ []
 unfolding instance_consts
-consts_empty i h = map_empty of_size (const_faults i.tree i.scope) h
+consts_empty i h = none_mapped of_size (const_faults i.tree i.scope) h
 
 pub widths_empty : (i : ModuleInstance) → instance_widths i ≡ [] → width_faults i.tree i.scope ≡ []
 unfolding instance_widths
-widths_empty i h = map_empty of_size (width_faults i.tree i.scope) h
+widths_empty i h = none_mapped of_size (width_faults i.tree i.scope) h
 
 pub items_empty : (kind : FaultKind) (m : ModuleOf ℕ) (s : Scope) → scope_faults kind m s ≡ [] → items_faults kind s s.declared m.items ≡ []
 unfolding scope_faults

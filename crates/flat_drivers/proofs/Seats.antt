@@ -7,6 +7,7 @@ use Rattle.std.proofs.Math.ListN.{drop_of_length-le}
 use Rattle.std.proofs.lemmas.Option.{slice_get-map}
 use Rattle.vlog_tree.specs.Tree.{ItemOf, WiresItem, DrivenWiresItem, RegsItem, LocalparamsItem, AssignItem, AlwaysItem, InstanceItem}
 use Rattle.std.specs.Borrow.{Bor}
+use Rattle.vidi_bits.proofs.Lists.{some_same}
 use Rattle.vlog_tree.specs.declared.module.Item.{Item}
 use Rattle.vlog_tree.specs.Plain.{plain_item}
 use Rattle.vlog_size.specs.declared.scope.Scope.{Scope}
@@ -18,27 +19,27 @@ use Rattle.vlog_elab.specs.Instances.{ModuleInstance}
 use Rattle.vlog_meaning.specs.Placed.{placed, placed_items}
 use Rattle.vlog_driver.specs.Duties.{Duty}
 use Rattle.vlog_driver.specs.Held.{item_duties}
-use Rattle.flat_parts.specs.Seats.{Seat, seats_from, seats_of, spot_at}
+use Rattle.flat_parts.specs.Seats.{Seat, base_of, seats_from, seats_of, site_at}
 use Rattle.flat_parts.specs.Drivers.{duties_at, placed_duties, seat_duties, placed_blocks, seat_blocks, all_duties, all_blocks}
 use Rattle.flat_parts.specs.Drivers.{ClockedBlock}
-use Rattle.flat_drivers.specs.declared.flat.Start.{Start}
+use Rattle.net_code.specs.declared.base.Base.{Base}
 use Rattle.flat_drivers.specs.Latches.{placed_latches, instance_latches}
-use Rattle.flat_drivers.specs.Seated.{start_of, seats_at, IsFaultlessInstance, AreFaultlessInstances}
+use Rattle.flat_drivers.specs.Seated.{IsFaultlessInstance, AreFaultlessInstances}
 use Rattle.flat_drivers.proofs.Added.{all_at}
 use Rattle.flat_drivers.proofs.Lawful.{consts_empty, widths_empty}
 use Rattle.flat_drivers.proofs.Faultless.{instance_clean}
-use Rattle.flat_drivers.specs.Adding.{spot_from, duties_in, placed_in, blocks_in, IsFaultlessPlaced}
+use Rattle.flat_drivers.specs.Adding.{site_from, duties_in, placed_in, blocks_in, IsFaultlessPlaced}
 
 -- ---- the items of a seat
 
 duties_are : (xs : List Seat) (x : Seat) (k : ℕ) (item : ItemOf ℕ)
-    → duties_at xs x k item ≡ duties_in xs x.instance.path (spot_from (start_of x) x.instance.scope k) item
+    → duties_at xs x k item ≡ duties_in xs x.instance.path (site_from (base_of x) x.instance.scope k) item
 duties_are xs x k (WiresItem range ids) = refl
-duties_are xs x k (DrivenWiresItem range ws) = append-nil (item_duties (spot_at x k) (DrivenWiresItem range ws))
+duties_are xs x k (DrivenWiresItem range ws) = append-nil (item_duties (site_at x k) (DrivenWiresItem range ws))
 duties_are xs x k (RegsItem range gs) = refl
 duties_are xs x k (LocalparamsItem range vs) = refl
-duties_are xs x k (AssignItem assigns) = append-nil (item_duties (spot_at x k) (AssignItem assigns))
-duties_are xs x k (AlwaysItem a) = append-nil (item_duties (spot_at x k) (AlwaysItem a))
+duties_are xs x k (AssignItem assigns) = append-nil (item_duties (site_at x k) (AssignItem assigns))
+duties_are xs x k (AlwaysItem a) = append-nil (item_duties (site_at x k) (AlwaysItem a))
 duties_are xs x k (InstanceItem i) = refl
 
 same_all : {X Y : Type 0} → (f g : X → List Y) (xs : List X) → ((x : X) → f x ≡ g x) → flat_map f xs ≡ flat_map g xs
@@ -46,26 +47,26 @@ same_all f g [] h = refl
 same_all f g (x ∷ xs) h = ap (λ ys. ys ++ flat_map f xs) (h x) ∙ ap (λ ys. g x ++ ys) (same_all f g xs h)
 
 -- the items of an instance that stands there
-abbrev DutiesOf : List Seat → Start → ModuleInstance → List Duty
-DutiesOf xs start i = flat_map (placed_in xs i.path start i.scope) (placed_items i.tree i.scope)
+abbrev DutiesOf : List Seat → Base → ModuleInstance → List Duty
+DutiesOf xs base i = flat_map (placed_in xs i.path base i.scope) (placed_items i.tree i.scope)
 
-abbrev BlocksOf : Start → ModuleInstance → List ClockedBlock
-BlocksOf start i = flat_map (blocks_in start i.scope) (placed_items i.tree i.scope)
+abbrev BlocksOf : Base → ModuleInstance → List ClockedBlock
+BlocksOf base i = flat_map (blocks_in base i.scope) (placed_items i.tree i.scope)
 
-pub seat_duties_are : (xs : List Seat) (x : Seat) (i : ModuleInstance) (start : Start) → x.instance ≡ i → start_of x ≡ start
-    → flat_map (placed_in xs i.path start i.scope) (placed_items i.tree i.scope) ≡ seat_duties xs x
+pub seat_duties_are : (xs : List Seat) (x : Seat) (i : ModuleInstance) (base : Base) → x.instance ≡ i → base_of x ≡ base
+    → flat_map (placed_in xs i.path base i.scope) (placed_items i.tree i.scope) ≡ seat_duties xs x
 unfolding seat_duties
-seat_duties_are xs x i start is at =
-    sym (same_all (placed_duties xs x) (placed_in xs x.instance.path (start_of x) x.instance.scope)
+seat_duties_are xs x i base is at =
+    sym (same_all (placed_duties xs x) (placed_in xs x.instance.path (base_of x) x.instance.scope)
     (placed_items x.instance.tree x.instance.scope) (λ p. duties_are xs x p.declared p.item)
-    ∙ ap (DutiesOf xs (start_of x)) is ∙ ap (λ s. DutiesOf xs s i) at)
+    ∙ ap (DutiesOf xs (base_of x)) is ∙ ap (λ s. DutiesOf xs s i) at)
 
-pub seat_blocks_are : (x : Seat) (i : ModuleInstance) (start : Start) → x.instance ≡ i → start_of x ≡ start
-    → flat_map (blocks_in start i.scope) (placed_items i.tree i.scope) ≡ seat_blocks x
+pub seat_blocks_are : (x : Seat) (i : ModuleInstance) (base : Base) → x.instance ≡ i → base_of x ≡ base
+    → flat_map (blocks_in base i.scope) (placed_items i.tree i.scope) ≡ seat_blocks x
 unfolding seat_blocks
-seat_blocks_are x i start is at =
-    sym (same_all (placed_blocks x) (blocks_in (start_of x) x.instance.scope) (placed_items x.instance.tree x.instance.scope) (λ p. refl)
-    ∙ ap (BlocksOf (start_of x)) is ∙ ap (λ s. BlocksOf s i) at)
+seat_blocks_are x i base is at =
+    sym (same_all (placed_blocks x) (blocks_in (base_of x) x.instance.scope) (placed_items x.instance.tree x.instance.scope) (λ p. refl)
+    ∙ ap (BlocksOf (base_of x)) is ∙ ap (λ s. BlocksOf s i) at)
 
 -- ---- seats one by one
 
@@ -78,22 +79,20 @@ seats_hold n net word [] = refl
 seats_hold n net word (i ∷ is) =
     ap (λ js. i ∷ js) (seats_hold (n + 1) (net + length i.scope.nets) (word + words_of i.scope.memories) is)
 
-some_same : {A : Type 0} → (a b : A) → Some a ≡ Some b → a ≡ b
-some_same a b h = (cc)
-
 -- the instance of the seat at a place is the one there
-pub seat_instance : (is : List ModuleInstance) (k : ℕ) (x : Seat) (i : ModuleInstance) → slice_get (seats_at is) k ≡ Some x
+pub seat_instance : (is : List ModuleInstance) (k : ℕ) (x : Seat) (i : ModuleInstance) → slice_get (seats_of is) k ≡ Some x
     → slice_get is k ≡ Some i → x.instance ≡ i
+unfolding seats_of
 seat_instance is k x i at there =
-    some_same x.instance i (sym (slice_get-map (λ (y : Seat). y.instance) (seats_at is) k
+    some_same x.instance i (sym (slice_get-map (λ (y : Seat). y.instance) (seats_of is) k
     ∙ ap (option_map (λ (y : Seat). y.instance)) at)
     ∙ ap (λ js. slice_get js k) (seats_hold 0 0 0 is) ∙ there)
 
-pub seat_start : (is : List ModuleInstance) (starts : List Start) (k : ℕ) (x : Seat) (start : Start) → starts ≡ map start_of (seats_at is)
-    → slice_get (seats_at is) k ≡ Some x → slice_get starts k ≡ Some start → start_of x ≡ start
-seat_start is starts k x start stand at begins =
-    some_same (start_of x) start (sym (ap (λ ss. slice_get ss k) stand ∙ slice_get-map start_of (seats_at is) k
-    ∙ ap (option_map start_of) at)
+pub seat_start : (is : List ModuleInstance) (bases : List Base) (k : ℕ) (x : Seat) (base : Base) → bases ≡ map base_of (seats_of is)
+    → slice_get (seats_of is) k ≡ Some x → slice_get bases k ≡ Some base → base_of x ≡ base
+seat_start is bases k x base stand at begins =
+    some_same (base_of x) base (sym (ap (λ ss. slice_get ss k) stand ∙ slice_get-map base_of (seats_of is) k
+    ∙ ap (option_map base_of) at)
     ∙ begins)
 
 there : {X : Type 0} → (xs : List X) (k : ℕ) → k < length xs → (x : X) × (slice_get xs k ≡ Some x)
@@ -104,8 +103,9 @@ there (x ∷ xs) (suc k) l = there xs k (omega (arith, l))
 pub instance_there : (is : List ModuleInstance) (k : ℕ) → k < length is → (i : ModuleInstance) × (slice_get is k ≡ Some i)
 instance_there is k l = there is k l
 
-pub seat_there : (is : List ModuleInstance) (k : ℕ) → k < length is → (x : Seat) × (slice_get (seats_at is) k ≡ Some x)
-seat_there is k l = there (seats_at is) k (subst (λ n. k < n) (sym (seats_long 0 0 0 is)) l)
+pub seat_there : (is : List ModuleInstance) (k : ℕ) → k < length is → (x : Seat) × (slice_get (seats_of is) k ≡ Some x)
+unfolding seats_of
+seat_there is k l = there (seats_of is) k (subst (λ n. k < n) (sym (seats_long 0 0 0 is)) l)
 
 split_suc : {X Y : Type 0} → (f : X → List Y) (xs : List X) (k : ℕ) (x : X) → slice_get xs k ≡ Some x
     → flat_map f (drop k xs) ≡ f x ++ flat_map f (drop (suc k) xs)
@@ -122,25 +122,22 @@ pub all_over : {X Y : Type 0} → (f : X → List Y) (xs : List X) (k : ℕ) →
 all_over f xs k l = ap (flat_map f) (drop_of_length-le xs l)
 
 pub seats_over : {Y : Type 0} → (f : Seat → List Y) (is : List ModuleInstance) (k : ℕ) → length is ≤ k
-    → flat_map f (drop k (seats_at is)) ≡ []
-seats_over f is k l = all_over f (seats_at is) k (subst (λ n. n ≤ k) (sym (seats_long 0 0 0 is)) l)
+    → flat_map f (drop k (seats_of is)) ≡ []
+unfolding seats_of
+seats_over f is k l = all_over f (seats_of is) k (subst (λ n. n ≤ k) (sym (seats_long 0 0 0 is)) l)
 
 -- ---- the clauses in the words of the parts
-
-pub seats_are : (is : List ModuleInstance) → seats_of is ≡ seats_at is
-unfolding seats_of
-seats_are is = refl
 
 pub latches_are : (i : ModuleInstance) → flat_map (placed_latches i.scope) (placed_items i.tree i.scope) ≡ instance_latches i
 unfolding instance_latches
 latches_are i = refl
 
-pub duties_all : (is : List ModuleInstance) → flat_map (seat_duties (seats_at is)) (seats_at is) ≡ all_duties (seats_of is)
-unfolding all_duties seats_of
+pub duties_all : (is : List ModuleInstance) → flat_map (seat_duties (seats_of is)) (seats_of is) ≡ all_duties (seats_of is)
+unfolding all_duties
 duties_all is = refl
 
-pub blocks_all : (is : List ModuleInstance) → flat_map seat_blocks (seats_at is) ≡ all_blocks (seats_of is)
-unfolding all_blocks seats_of
+pub blocks_all : (is : List ModuleInstance) → flat_map seat_blocks (seats_of is) ≡ all_blocks (seats_of is)
+unfolding all_blocks
 blocks_all is = refl
 
 -- ---- the instance of the code that stands at a place
@@ -157,42 +154,42 @@ latches_seat list k c i s items h at same text =
     ∙ ap (λ (ys : List Item). flat_map (placed_latches c.scope) (placed c.scope.params c.scope.declared (map plain_item ys))) text
     ∙ latches_are (plain_instance c) ∙ ap instance_latches (some_same (plain_instance c) i (sym (instance_is list k c h) ∙ at))
 
-pub duties_seat : (list : List code.ModuleInstance) (starts : List Start) (k : ℕ) (c : code.ModuleInstance) (x : Seat) (start : Start)
-    (s : Scope) (items : List Item) (path : List (Bor (List ℕ))) → starts ≡ map start_of (seats_at (plain_instances list))
-    → slice_get starts k ≡ Some start → slice_get list k ≡ Some c → slice_get (seats_at (plain_instances list)) k ≡ Some x
+pub duties_seat : (list : List code.ModuleInstance) (bases : List Base) (k : ℕ) (c : code.ModuleInstance) (x : Seat) (base : Base)
+    (s : Scope) (items : List Item) (path : List (Bor (List ℕ))) → bases ≡ map base_of (seats_of (plain_instances list))
+    → slice_get bases k ≡ Some base → slice_get list k ≡ Some c → slice_get (seats_of (plain_instances list)) k ≡ Some x
     → s ≡ c.scope → items ≡ c.tree.now.items → path ≡ c.path
-    → flat_map (placed_in (seats_at (plain_instances list)) (plain_path path) start s)
-    (placed s.params s.declared (map plain_item items)) ≡ seat_duties (seats_at (plain_instances list)) x
-duties_seat list starts k c x start s items path stand begins h at same text named =
-    let xs = seats_at (plain_instances list) in
+    → flat_map (placed_in (seats_of (plain_instances list)) (plain_path path) base s)
+    (placed s.params s.declared (map plain_item items)) ≡ seat_duties (seats_of (plain_instances list)) x
+duties_seat list bases k c x base s items path stand begins h at same text named =
+    let xs = seats_of (plain_instances list) in
     let D : Scope → List Item → List (Bor (List ℕ)) → List Duty =
-    λ t ys p. flat_map (placed_in xs (plain_path p) start t) (placed t.params t.declared (map plain_item ys)) in
+    λ t ys p. flat_map (placed_in xs (plain_path p) base t) (placed t.params t.declared (map plain_item ys)) in
     ap (λ (t : Scope). D t items path) same ∙ ap (λ (ys : List Item). D c.scope ys path) text
     ∙ ap (λ (p : List (Bor (List ℕ))). D c.scope c.tree.now.items p) named
-    ∙ seat_duties_are xs x (plain_instance c) start
+    ∙ seat_duties_are xs x (plain_instance c) base
     (seat_instance (plain_instances list) k x (plain_instance c) at (instance_is list k c h))
-    (seat_start (plain_instances list) starts k x start stand at begins)
+    (seat_start (plain_instances list) bases k x base stand at begins)
 
-pub blocks_seat : (list : List code.ModuleInstance) (starts : List Start) (k : ℕ) (c : code.ModuleInstance) (x : Seat) (start : Start)
-    (s : Scope) (items : List Item) → starts ≡ map start_of (seats_at (plain_instances list))
-    → slice_get starts k ≡ Some start → slice_get list k ≡ Some c → slice_get (seats_at (plain_instances list)) k ≡ Some x
+pub blocks_seat : (list : List code.ModuleInstance) (bases : List Base) (k : ℕ) (c : code.ModuleInstance) (x : Seat) (base : Base)
+    (s : Scope) (items : List Item) → bases ≡ map base_of (seats_of (plain_instances list))
+    → slice_get bases k ≡ Some base → slice_get list k ≡ Some c → slice_get (seats_of (plain_instances list)) k ≡ Some x
     → s ≡ c.scope → items ≡ c.tree.now.items
-    → flat_map (blocks_in start s) (placed s.params s.declared (map plain_item items)) ≡ seat_blocks x
-blocks_seat list starts k c x start s items stand begins h at same text =
+    → flat_map (blocks_in base s) (placed s.params s.declared (map plain_item items)) ≡ seat_blocks x
+blocks_seat list bases k c x base s items stand begins h at same text =
     let D : Scope → List Item → List ClockedBlock =
-    λ t ys. flat_map (blocks_in start t) (placed t.params t.declared (map plain_item ys)) in
+    λ t ys. flat_map (blocks_in base t) (placed t.params t.declared (map plain_item ys)) in
     ap (λ (t : Scope). D t items) same ∙ ap (λ (ys : List Item). D c.scope ys) text
-    ∙ seat_blocks_are x (plain_instance c) start (seat_instance (plain_instances list) k x (plain_instance c) at (instance_is list k c h))
-    (seat_start (plain_instances list) starts k x start stand at begins)
+    ∙ seat_blocks_are x (plain_instance c) base (seat_instance (plain_instances list) k x (plain_instance c) at (instance_is list k c h))
+    (seat_start (plain_instances list) bases k x base stand at begins)
 
-pub clean_seat : (list : List code.ModuleInstance) (k : ℕ) (c : code.ModuleInstance) (start : Start) (s : Scope) (items : List Item)
+pub clean_seat : (list : List code.ModuleInstance) (k : ℕ) (c : code.ModuleInstance) (base : Base) (s : Scope) (items : List Item)
     → AreFaultlessInstances (plain_instances list) → slice_get list k ≡ Some c → s ≡ c.scope → items ≡ c.tree.now.items
-    → AllByRecursion (IsFaultlessPlaced start s) (placed s.params s.declared (map plain_item items))
-clean_seat list k c start s items all h same text =
+    → AllByRecursion (IsFaultlessPlaced base s) (placed s.params s.declared (map plain_item items))
+clean_seat list k c base s items all h same text =
     let clean = all_at IsFaultlessInstance (plain_instances list) k (plain_instance c) all (instance_is list k c h) in
     let P : Scope → List Item → Type 0 =
-    λ t ys. AllByRecursion (IsFaultlessPlaced start t) (placed t.params t.declared (map plain_item ys)) in
+    λ t ys. AllByRecursion (IsFaultlessPlaced base t) (placed t.params t.declared (map plain_item ys)) in
     subst (λ (t : Scope). P t items) (sym same)
     (subst (λ (ys : List Item). P c.scope ys) (sym text)
-    (instance_clean start (plain_instance c) clean.lawful (consts_empty (plain_instance c) clean.consts)
+    (instance_clean base (plain_instance c) clean.lawful (consts_empty (plain_instance c) clean.consts)
     (widths_empty (plain_instance c) clean.widths)))

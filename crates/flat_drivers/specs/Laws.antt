@@ -1,12 +1,12 @@
 -- Laws of the instances of a file.
-use Rattle.std.specs.Prelude.{◌≡◌, ℕ, true, List, []}
-use Rattle.std.specs.List.{flat_map, AllByRecursion}
+use Rattle.std.specs.Prelude.{◌≡◌, ℕ, List, []}
+use Rattle.std.specs.List.{flat_map}
+use Rattle.flat_parts.specs.Instances.{AreDeclaredIn}
 use Rattle.vlog_tree.specs.Tree.{FileOf}
-use Rattle.vlog_size.specs.Names.{is_lawful_scope}
 use Rattle.vlog_names.specs.Entries.{modules_of}
-use Rattle.vlog_elab.specs.Instances.{ModuleInstance, instances}
+use Rattle.vlog_elab.specs.Instances.{instances}
 use Rattle.vlog_elab.specs.Reasons.{instance_consts, instance_widths}
-use Rattle.flat_drivers.specs.Seated.{AreDeclaredIn, AreFaultlessInstances}
+use Rattle.flat_drivers.specs.Seated.{AreFaultlessInstances}
 
 -- the file's table has what each instance's module declares
 abbrev pub InstancesAreDeclared : Type 0

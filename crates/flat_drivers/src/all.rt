@@ -2,18 +2,20 @@
 
 ghost use Rattle.std.specs.Prelude.{◌≡◌, IfOk, OnOk};
 ghost use Rattle.std.specs.List.{flat_map, AllZip};
+ghost use Rattle.flat_parts.specs.Instances.{HaveOwnPaths, AreDeclaredIn};
 ghost use Rattle.vlog_elab.specs.Plain.{plain_instances};
-ghost use Rattle.vlog_elab.specs.Answered.{Judged};
+ghost use Rattle.vidi_bits.specs.Findings.{Judged};
+ghost use Rattle.vlog_elab.specs.Told.{elab_told};
 ghost use Rattle.vlog_driver.specs.Duties.{Does, DoMore};
 ghost use Rattle.flat_parts.specs.Seats.{seats_of};
 ghost use Rattle.flat_parts.specs.Drivers.{seat_duties, seat_blocks, all_duties, all_blocks, IsBlockOf};
 ghost use Rattle.flat_drivers.specs.Latches.{instance_latches};
-ghost use Rattle.flat_drivers.specs.Seated.{IsFlat, HaveOwnPaths, AreDeclaredIn, AreFaultlessInstances, instances_in, seats_in};
+ghost use Rattle.flat_drivers.specs.Seated.{IsFlat, AreFaultlessInstances, instances_in, seats_in};
 ghost use Rattle.flat_drivers.specs.Adding.{BlocksMore};
 
 use crate::flat::{Flat, FlatCode};
 use crate::seat::add_seat;
-use crate::starts::starts_of;
+use flat_parts::bases_of;
 use std::alloc::Global;
 use vidi_bits::Items;
 use vlog_elab::{ElabError, ModuleInstance};
@@ -22,7 +24,7 @@ use vlog_names::ModuleTable;
 /// Adds what all instances make.
 fn add_seats(alloc: Global, flat: &Flat<'_, '_>, out: &mut FlatCode) -> Result<(), ElabError>
     requires { IsFlat flat.now }
-    ensures told { Judged result (flat_map instance_latches (instances_in flat.now)) }
+    ensures told { Judged elab_told result (flat_map instance_latches (instances_in flat.now)) }
     ensures drivers { OnOk result (DoMore (flat_map (seat_duties (seats_in flat.now)) (seats_in flat.now))
         out.old.drivers out.new.drivers) }
     ensures blocks { OnOk result (BlocksMore (flat_map seat_blocks (seats_in flat.now)) out.old.blocks out.new.blocks) }
@@ -52,15 +54,15 @@ pub fn drivers_of(
     requires paths { HaveOwnPaths (plain_instances list.now) }
     requires names { AreDeclaredIn modules.now (plain_instances list.now) }
     requires faultless { AreFaultlessInstances (plain_instances list.now) }
-    ensures told { Judged result (flat_map instance_latches (plain_instances list.now)) }
+    ensures told { Judged elab_told result (flat_map instance_latches (plain_instances list.now)) }
     ensures drivers { IfOk result (λ r. AllZip Does (all_duties (seats_of (plain_instances list.now))) r.drivers) }
     ensures blocks { IfOk result (λ r. AllZip IsBlockOf (all_blocks (seats_of (plain_instances list.now))) r.blocks) }
 {
-    let starts = starts_of(alloc, list)?;
+    let bases = bases_of(alloc, list)?;
     let flat = Flat {
         modules,
         list,
-        starts: starts.as_slice(),
+        bases: bases.as_slice(),
     };
     let mut out = FlatCode {
         drivers: Items::new(alloc),

@@ -4,7 +4,7 @@ ghost use Rattle.std.specs.Prelude.{◌≡◌, ◌≤◌, ◌++◌, ◌∷◌, [
 ghost use Rattle.std.specs.List.{flat_map};
 ghost use Rattle.vlog_tree.specs.Plain.{plain_instance, plain_conn};
 ghost use Rattle.vlog_hierarchy.specs.Plain.{plain_path};
-ghost use Rattle.vlog_driver.specs.Spots.{spot_of};
+ghost use Rattle.vlog_driver.specs.Sites.{site_of};
 ghost use Rattle.vlog_driver.specs.Duties.{DoMore, conn_duties};
 ghost use Rattle.flat_parts.specs.Seats.{seat_named};
 ghost use Rattle.flat_parts.specs.Drivers.{joined_duties};
@@ -59,7 +59,7 @@ fn add_fit_conns<'a>(
     conns: &[Conn],
     out: &mut Items<Driver>,
 ) -> Result<(), Memory>
-    ensures { OnOk result (DoMore (flat_map (conn_duties names.now (spot_of parent.now) (spot_of child.now)) (map plain_conn conns.now))
+    ensures { OnOk result (DoMore (flat_map (conn_duties names.now (site_of parent.now) (site_of child.now)) (map plain_conn conns.now))
         out.old out.new) }
 {
     if !conns_fit(alloc, parent, child, names, conns)? {
@@ -79,13 +79,13 @@ pub fn add_child<'b>(
     out: &mut Items<Driver>,
 ) -> Result<(), Memory>
     requires { IsFlat flat.now }
-    ensures { OnOk result (DoMore (joined_duties (spot_of site.now) (plain_instance instance.now)
+    ensures { OnOk result (DoMore (joined_duties (site_of site.now) (plain_instance instance.now)
         (seat_named (seats_in flat.now) (plain_path path.now ++ (plain_instance instance.now).id.name ∷ []))) out.old out.new) }
 {
     let Some(child) = flat.list.get(at) else {
         return Err(Memory);
     };
-    let Some(start) = flat.starts.get(at) else {
+    let Some(base) = flat.bases.get(at) else {
         return Err(Memory);
     };
     let Some(names) = flat.modules.value_at(child.place) else {
@@ -96,8 +96,7 @@ pub fn add_child<'b>(
     }
     let inner = Site {
         scope: &child.scope,
-        first_net: start.net,
-        first_word: start.word,
+        base: *base,
     };
     add_fit_conns(alloc, site, &inner, names, instance.ports.as_slice(), out)
 }

@@ -3,12 +3,13 @@
 ghost use Rattle.std.specs.Prelude.{◌≡◌, ◌≤◌, [], ◌∷◌, IfOk, OnOk, map};
 ghost use Rattle.vlog_tree.specs.Plain.{plain_item, plain_always, plain_named, plain_assign};
 ghost use Rattle.vlog_hierarchy.specs.Plain.{plain_path};
-ghost use Rattle.vlog_elab.specs.Answered.{Judged};
-ghost use Rattle.vlog_driver.specs.Spots.{spot_of};
+ghost use Rattle.vidi_bits.specs.Findings.{Judged};
+ghost use Rattle.vlog_elab.specs.Told.{elab_told};
+ghost use Rattle.vlog_driver.specs.Sites.{site_of};
 ghost use Rattle.vlog_driver.specs.Duties.{DoMore, wire_duty, assign_duty, always_duties};
 ghost use Rattle.net_design.specs.declared.act.Timing.TheVariants.{Nonblocking};
-ghost use Rattle.vlog_block.specs.Updates.{timing_of};
-ghost use Rattle.vlog_block.specs.Faultless.{IsFaultlessBody};
+ghost use Rattle.vlog_driver.specs.Updates.{timing_of};
+ghost use Rattle.vlog_driver.specs.Faultless.{IsFaultlessBody};
 ghost use Rattle.vlog_driver.specs.Drivers.{IsClocked};
 ghost use Rattle.flat_parts.specs.Drivers.{ClockedBlock, IsBlockOf, event_blocks, item_blocks};
 ghost use Rattle.flat_drivers.specs.Latches.{of_block, always_latches, item_latches};
@@ -16,12 +17,11 @@ ghost use Rattle.flat_drivers.specs.Seated.{IsFlat, seats_in};
 ghost use Rattle.flat_drivers.specs.Adding.{BlocksMore, duties_in, IsFaultlessItem};
 
 use crate::child::{add_child, past_child};
-use crate::fits::wire_fits;
 use crate::flat::{Flat, FlatCode};
 use net_design::{Code, Driver};
 use std::alloc::Global;
 use vidi_bits::{Items, Memory, Name};
-use vlog_driver::{Site, add_always, add_assigns, add_wire, clocked_block};
+use vlog_driver::{Site, add_always, add_assigns, add_wire, clocked_block, wire_fits};
 use vlog_elab::ElabError;
 use vlog_latch::BlockError;
 use vlog_tree::{Always, Assign, Event, Item, NamedValue};
@@ -32,7 +32,7 @@ fn add_fit_wire(
     wire: &NamedValue,
     out: &mut Items<Driver>,
 ) -> Result<(), Memory>
-    ensures { OnOk result (DoMore (wire_duty (spot_of site.now) (plain_named wire.now) ∷ []) out.old out.new) }
+    ensures { OnOk result (DoMore (wire_duty (site_of site.now) (plain_named wire.now) ∷ []) out.old out.new) }
 {
     if !wire_fits(alloc, site, wire)? {
         return Err(Memory);
@@ -46,7 +46,7 @@ fn add_wires(
     wires: &[NamedValue],
     out: &mut Items<Driver>,
 ) -> Result<(), Memory>
-    ensures { OnOk result (DoMore (map (wire_duty (spot_of site.now)) (map plain_named wires.now)) out.old out.new) }
+    ensures { OnOk result (DoMore (map (wire_duty (site_of site.now)) (map plain_named wires.now)) out.old out.new) }
 {
     for wire in wires {
         add_fit_wire(alloc, site, wire, out)?;
@@ -65,16 +65,16 @@ fn block_error(error: BlockError) -> ElabError
 }
 
 /// Adds the driver of an `always @*`.
-#[tactic(auto, using(crate::proofs::Told::block_first, crate::proofs::Told::none))]
+#[tactic(auto, using(crate::proofs::Told::block_first, vidi_bits::proofs::FindingLaws::none_map))]
 fn add_settling(
     alloc: Global,
     site: &Site<'_>,
     block: &Always,
     out: &mut Items<Driver>,
 ) -> Result<(), ElabError>
-    requires { IsFaultlessBody (spot_of site.now).names (plain_always block.now).body }
-    ensures told { Judged result (always_latches (spot_of site.now).names (plain_always block.now)) }
-    ensures drivers { OnOk result (DoMore (always_duties (spot_of site.now) (plain_always block.now)) out.old out.new) }
+    requires { IsFaultlessBody (site_of site.now).names (plain_always block.now).body }
+    ensures told { Judged elab_told result (always_latches (site_of site.now).names (plain_always block.now)) }
+    ensures drivers { OnOk result (DoMore (always_duties (site_of site.now) (plain_always block.now)) out.old out.new) }
 {
     match add_always(alloc, site, block, out) {
         Ok(()) => Ok(()),
@@ -84,9 +84,9 @@ fn add_settling(
 
 /// The code of a clocked block.
 fn fit_block(alloc: Global, site: &Site<'_>, block: &Always) -> Result<Code, Memory>
-    requires faultless { IsFaultlessBody (spot_of site.now).names (plain_always block.now).body }
+    requires faultless { IsFaultlessBody (site_of site.now).names (plain_always block.now).body }
     requires clocked { timing_of (plain_always block.now).event ≡ Nonblocking }
-    ensures { IfOk result (IsClocked (spot_of site.now) (plain_always block.now)) }
+    ensures { IfOk result (IsClocked (site_of site.now) (plain_always block.now)) }
 {
     match clocked_block(alloc, site, block) {
         Ok(code) => Ok(code),
@@ -108,8 +108,8 @@ fn add_clocked(
     block: &Always,
     out: &mut Items<Code>,
 ) -> Result<(), Memory>
-    requires { IsFaultlessBody (spot_of site.now).names (plain_always block.now).body }
-    ensures { OnOk result (BlocksMore (event_blocks (plain_always block.now).event (spot_of site.now) (plain_always block.now))
+    requires { IsFaultlessBody (site_of site.now).names (plain_always block.now).body }
+    ensures { OnOk result (BlocksMore (event_blocks (plain_always block.now).event (site_of site.now) (plain_always block.now))
         out.old out.new) }
 {
     match &block.event {
@@ -128,10 +128,10 @@ fn add_block(
     block: &Always,
     out: &mut FlatCode,
 ) -> Result<(), ElabError>
-    requires { IsFaultlessBody (spot_of site.now).names (plain_always block.now).body }
-    ensures told { Judged result (always_latches (spot_of site.now).names (plain_always block.now)) }
-    ensures drivers { OnOk result (DoMore (always_duties (spot_of site.now) (plain_always block.now)) out.old.drivers out.new.drivers) }
-    ensures blocks { OnOk result (BlocksMore (event_blocks (plain_always block.now).event (spot_of site.now) (plain_always block.now))
+    requires { IsFaultlessBody (site_of site.now).names (plain_always block.now).body }
+    ensures told { Judged elab_told result (always_latches (site_of site.now).names (plain_always block.now)) }
+    ensures drivers { OnOk result (DoMore (always_duties (site_of site.now) (plain_always block.now)) out.old.drivers out.new.drivers) }
+    ensures blocks { OnOk result (BlocksMore (event_blocks (plain_always block.now).event (site_of site.now) (plain_always block.now))
         out.old.blocks out.new.blocks) }
 {
     add_settling(alloc, site, block, &mut out.drivers)?;
@@ -150,11 +150,11 @@ pub fn add_item<'b>(
     out: &mut FlatCode,
 ) -> Result<(), ElabError>
     requires flat { IsFlat flat.now }
-    requires faultless { IsFaultlessItem (spot_of site.now) (plain_item item.now) }
-    ensures told { Judged result (item_latches (spot_of site.now).names (plain_item item.now)) }
-    ensures drivers { OnOk result (DoMore (duties_in (seats_in flat.now) (plain_path path.now) (spot_of site.now) (plain_item item.now))
+    requires faultless { IsFaultlessItem (site_of site.now) (plain_item item.now) }
+    ensures told { Judged elab_told result (item_latches (site_of site.now).names (plain_item item.now)) }
+    ensures drivers { OnOk result (DoMore (duties_in (seats_in flat.now) (plain_path path.now) (site_of site.now) (plain_item item.now))
         out.old.drivers out.new.drivers) }
-    ensures blocks { OnOk result (BlocksMore (item_blocks (spot_of site.now) (plain_item item.now)) out.old.blocks out.new.blocks) }
+    ensures blocks { OnOk result (BlocksMore (item_blocks (site_of site.now) (plain_item item.now)) out.old.blocks out.new.blocks) }
 {
     match item {
         Item::DrivenWires { wires, .. } => {

@@ -13,7 +13,6 @@ mod flat;
 mod item;
 mod laws;
 mod seat;
-mod starts;
 
 pub use all::drivers_of;
 pub use flat::FlatCode;

@@ -6,7 +6,8 @@ ghost use Rattle.vlog_tree.specs.Plain.{plain_item};
 ghost use Rattle.vlog_hierarchy.specs.Plain.{plain_path};
 ghost use Rattle.vlog_meaning.specs.Placed.{placed};
 ghost use Rattle.vlog_elab.specs.Instances as instances;
-ghost use Rattle.vlog_elab.specs.Answered.{Judged};
+ghost use Rattle.vidi_bits.specs.Findings.{Judged};
+ghost use Rattle.vlog_elab.specs.Told.{elab_told};
 ghost use Rattle.vlog_driver.specs.Duties.{DoMore};
 ghost use Rattle.flat_parts.specs.Seats.{Seat};
 ghost use Rattle.flat_parts.specs.Drivers.{seat_duties, seat_blocks};
@@ -15,8 +16,9 @@ ghost use Rattle.flat_drivers.specs.Seated.{IsFlat, instances_in, seats_in};
 ghost use Rattle.flat_drivers.specs.Adding.{BlocksMore, placed_in, blocks_in, IsFaultlessPlaced};
 
 use crate::copied::copied_scope;
-use crate::flat::{Flat, FlatCode, Start};
+use crate::flat::{Flat, FlatCode};
 use crate::item::{add_item, past_item};
+use net_code::Base;
 use std::alloc::Global;
 use vidi_bits::Name;
 use vlog_driver::Site;
@@ -31,24 +33,20 @@ fn add_placed(
     flat: &Flat<'_, '_>,
     path: &[&Name],
     scope: &Scope,
-    start: Start,
+    base: Base,
     at: usize,
     item: &Item,
     out: &mut FlatCode,
 ) -> Result<(), ElabError>
     requires flat { IsFlat flat.now }
-    requires faultless { IsFaultlessPlaced start scope.now (record { declared = scope.now.declared; item = plain_item item.now }) }
-    ensures told { Judged result (placed_latches scope.now (record { declared = scope.now.declared; item = plain_item item.now })) }
-    ensures drivers { OnOk result (DoMore (placed_in (seats_in flat.now) (plain_path path.now) start scope.now
+    requires faultless { IsFaultlessPlaced base scope.now (record { declared = scope.now.declared; item = plain_item item.now }) }
+    ensures told { Judged elab_told result (placed_latches scope.now (record { declared = scope.now.declared; item = plain_item item.now })) }
+    ensures drivers { OnOk result (DoMore (placed_in (seats_in flat.now) (plain_path path.now) base scope.now
         (record { declared = scope.now.declared; item = plain_item item.now })) out.old.drivers out.new.drivers) }
-    ensures blocks { OnOk result (BlocksMore (blocks_in start scope.now
+    ensures blocks { OnOk result (BlocksMore (blocks_in base scope.now
         (record { declared = scope.now.declared; item = plain_item item.now })) out.old.blocks out.new.blocks) }
 {
-    let site = Site {
-        scope,
-        first_net: start.net,
-        first_word: start.word,
-    };
+    let site = Site { scope, base };
     add_item(alloc, flat, path, &site, at, item, out)
 }
 
@@ -59,24 +57,24 @@ fn add_items(
     flat: &Flat<'_, '_>,
     path: &[&Name],
     scope: &mut Scope,
-    start: Start,
+    base: Base,
     first: usize,
     items: &[Item],
     out: &mut FlatCode,
 ) -> Result<(), ElabError>
     requires flat { IsFlat flat.now }
-    requires faultless { AllByRecursion (IsFaultlessPlaced start scope.old)
+    requires faultless { AllByRecursion (IsFaultlessPlaced base scope.old)
         (placed scope.old.params scope.old.declared (map plain_item items.now)) }
-    ensures told { Judged result (flat_map (placed_latches scope.old)
+    ensures told { Judged elab_told result (flat_map (placed_latches scope.old)
         (placed scope.old.params scope.old.declared (map plain_item items.now))) }
-    ensures drivers { OnOk result (DoMore (flat_map (placed_in (seats_in flat.now) (plain_path path.now) start scope.old)
+    ensures drivers { OnOk result (DoMore (flat_map (placed_in (seats_in flat.now) (plain_path path.now) base scope.old)
         (placed scope.old.params scope.old.declared (map plain_item items.now))) out.old.drivers out.new.drivers) }
-    ensures blocks { OnOk result (BlocksMore (flat_map (blocks_in start scope.old)
+    ensures blocks { OnOk result (BlocksMore (flat_map (blocks_in base scope.old)
         (placed scope.old.params scope.old.declared (map plain_item items.now))) out.old.blocks out.new.blocks) }
 {
     let mut at = first;
     for item in items {
-        add_placed(alloc, flat, path, scope, start, at, item, out)?;
+        add_placed(alloc, flat, path, scope, base, at, item, out)?;
         at = past_item(flat, at, item);
         scope.declared = declared_after(scope, scope.declared, item);
     }
@@ -92,14 +90,14 @@ pub fn add_seat(
 ) -> Result<(), ElabError>
     requires flat { IsFlat flat.now }
     requires there { at < length flat.now.list.now }
-    ensures told { (i : instances.ModuleInstance) → slice_get (instances_in flat.now) at ≡ Some i → Judged result (instance_latches i) }
+    ensures told { (i : instances.ModuleInstance) → slice_get (instances_in flat.now) at ≡ Some i → Judged elab_told result (instance_latches i) }
     ensures drivers { (x : Seat) → slice_get (seats_in flat.now) at ≡ Some x
         → OnOk result (DoMore (seat_duties (seats_in flat.now) x) out.old.drivers out.new.drivers) }
     ensures blocks { (x : Seat) → slice_get (seats_in flat.now) at ≡ Some x
         → OnOk result (BlocksMore (seat_blocks x) out.old.blocks out.new.blocks) }
 {
     let instance = &flat.list[at];
-    let Some(start) = flat.starts.get(at) else {
+    let Some(base) = flat.bases.get(at) else {
         return Err(ElabError::Memory);
     };
     let mut scope = copied_scope(alloc, &instance.scope)?;
@@ -108,7 +106,7 @@ pub fn add_seat(
         flat,
         instance.path.as_slice(),
         &mut scope,
-        *start,
+        *base,
         at + 1,
         instance.tree.items.as_slice(),
         out,

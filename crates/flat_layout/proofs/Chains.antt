@@ -5,7 +5,7 @@ use Rattle.std.proofs.lemmas.Bool.{cases_lt}
 use Rattle.std.proofs.lemmas.List.{length-map, take-map, map_more}
 use Rattle.std.specs.Borrow.{Bor}
 use Rattle.net_design.specs.declared.design.Instance.{Instance}
-use Rattle.net_design.specs.Names.{list_at, paths_after, paths}
+use Rattle.net_design.specs.Names.{list_at, paths_after, paths, AreAfterParents}
 use Rattle.vlog_hierarchy.specs.Plain.{plain_path}
 use Rattle.vlog_elab.specs.Instances.{ModuleInstance}
 use Rattle.vlog_elab.specs.declared.instance.ModuleInstance as code
@@ -68,10 +68,6 @@ paths_grow is d x n there some before same path =
     ∙ (sym (one_longer l n long)
     ∙ (ap (λ k. take k l) next ∙ take-map (λ (i : ModuleInstance). i.path) (n + 1) is))))
 
--- each stands behind its parent
-abbrev AreBehind : List Instance → Type 0
-AreBehind d = (i : ℕ) (y : Instance) → slice_get d i ≡ Some y → 1 ≤ i → y.parent < i
-
 last_behind : (x y : Instance) (k i n : ℕ) → slice_get (x ∷ []) k ≡ Some y → i ≡ n + k → x.parent < n → y.parent < i
 last_behind x y zero i n e h before =
     let same : x ≡ y = (cc) in
@@ -79,7 +75,7 @@ last_behind x y zero i n e h before =
     omega (arith, p, h, before)
 last_behind x y (suc k) i n e h before = absurd (cc)
 
-behind_grows : (d : List Instance) (x : Instance) (n : ℕ) → length d ≡ n → x.parent < n → AreBehind d → AreBehind (d ++ x ∷ [])
+behind_grows : (d : List Instance) (x : Instance) (n : ℕ) → length d ≡ n → x.parent < n → AreAfterParents d → AreAfterParents (d ++ x ∷ [])
 behind_grows d x n long before h i y e some = elim (cases_lt i (length d)) [
   | inl below ↦ h i y (sym (slice_get_left d (x ∷ []) i below) ∙ e) some
   | inr above ↦

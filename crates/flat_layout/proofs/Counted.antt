@@ -3,10 +3,10 @@ use Rattle.std.proofs.Common.{◌≡◌, ℕ, ◌+◌, List, [], ◌∷◌, map,
 use Rattle.std.specs.List.{flat_map, sum_by}
 use Rattle.std.proofs.lemmas.List.{length-map}
 use Rattle.std.proofs.lemmas.List.Sums.{sum_by-cons, sum_by-append}
+use Rattle.net_design.specs.Settled.{room_length}
 use Rattle.vlog_size.specs.declared.scope.ScopeMemory.{ScopeMemory}
 use Rattle.vlog_size.specs.Table.{Named}
 use Rattle.vlog_scope.specs.Scope.{words_of}
-use Rattle.net_design.specs.declared.design.DesignMemory.{DesignMemory}
 use Rattle.vlog_elab.specs.Instances.{ModuleInstance}
 use Rattle.vlog_elab.specs.Reasons.{word_total}
 use Rattle.flat_parts.specs.Seats.{seats_from, seats_of}
@@ -20,10 +20,7 @@ own_nets i = length i.scope.nets
 abbrev own_words : ModuleInstance → ℕ
 own_words i = words_of i.scope.memories
 
-abbrev room_length : DesignMemory → ℕ
-room_length a = a.room.length
-
-abbrev own_length : Named ScopeMemory → ℕ
+abbrev pub own_length : Named ScopeMemory → ℕ
 own_length m = m.value.length
 
 nets_from : (number net word : ℕ) (is : List ModuleInstance)

@@ -8,6 +8,9 @@ use Rattle.std.proofs.lemmas.List.{same_from_push, map-id}
 use Rattle.std.proofs.lemmas.List.Elements.{All-from_recursion, recursion_from_All}
 use Rattle.std.proofs.lemmas.List.Quantifiers.{all_pairs_push}
 use Rattle.std.proofs.lemmas.Slice.Eq.{bytes_eq-Decides}
+use Rattle.vlog_names.specs.Entries.{entry}
+use Rattle.flat_parts.specs.Instances.{HasOtherPath}
+use Rattle.vidi_bits.proofs.Each.{each_weaker, each_append}
 use Rattle.vlog_tree.specs.Tree.{IdentOf, NamedValueOf, RegTailOf, InitTail, MemoryTail, Reg1Of, PortOf, InstanceOf}
 use Rattle.vlog_tree.specs.Tree.{ItemOf, WiresItem, DrivenWiresItem, RegsItem, LocalparamsItem, AssignItem, AlwaysItem, InstanceItem}
 use Rattle.vlog_tree.specs.Tree.{ModuleOf, FileOf}
@@ -48,18 +51,10 @@ first_pairs R x xs h = recursion_from_All (R x) xs (λ k d l. h 0 (suc k) d (ome
 rest_pairs : {X : Type 0} (R : X → X → Type 0) (x : X) (xs : List X) → AllPairs R (x ∷ xs) → AllPairs R xs
 rest_pairs R x xs h i j d a b = h (suc i) (suc j) d (omega (arith, a)) (omega (arith, b))
 
-both : {X : Type 0} (P : X → Type 0) (xs ys : List X) → AllByRecursion P xs → AllByRecursion P ys → AllByRecursion P (xs ++ ys)
-both P [] ys h g = g
-both P (x ∷ xs) ys h g = (h.0, both P xs ys h.1 g)
-
-weaker : {X : Type 0} (P Q : X → Type 0) → ((x : X) → P x → Q x) → (xs : List X) → AllByRecursion P xs → AllByRecursion Q xs
-weaker P Q f [] h = tt
-weaker P Q f (x ∷ xs) h = (f x h.0, weaker P Q f xs h.1)
-
 in_pieces : {X Y : Type 0} (P : X → Type 0) (Q : Y → Type 0) (f : X → List Y) → ((x : X) → P x → AllByRecursion Q (f x))
     → (xs : List X) → AllByRecursion P xs → AllByRecursion Q (flat_map f xs)
 in_pieces P Q f g [] h = tt
-in_pieces P Q f g (x ∷ xs) h = both Q (f x) (flat_map f xs) (g x h.0) (in_pieces P Q f g xs h.1)
+in_pieces P Q f g (x ∷ xs) h = each_append Q (f x) (flat_map f xs) (g x h.0) (in_pieces P Q f g xs h.1)
 
 -- ---- the names of one scope: each is added where it isn't there
 
@@ -81,14 +76,11 @@ not_named (x ∷ ns) name h zero d l = other_name name x.name (passed (bytes_eq 
 not_named (x ∷ ns) name h (suc k) d l =
     not_named ns name (passed (bytes_eq name x.name) x (value_of ns name) h).1 k d (omega (arith, l))
 
-abbrev entry_of : List ℕ → ScopeNet → Named ScopeNet
-entry_of name v = record { name = name; value = v }
-
 differ_if : (ns : Nets) (name : List ℕ) (v : ScopeNet) (b : Bool) → is_some (value_of ns name) ≡ b → Differ ns
-    → Differ (if b then ns else ns ++ entry_of name v ∷ [])
+    → Differ (if b then ns else ns ++ entry name v ∷ [])
 differ_if ns name v true e h = h
 differ_if ns name v false e h =
-    all_pairs_push (λ (a b : Named ScopeNet). a.name ≢ b.name) ns (entry_of name v) h (not_named ns name e)
+    all_pairs_push (λ (a b : Named ScopeNet). a.name ≢ b.name) ns (entry name v) h (not_named ns name e)
 
 with_net_differ : (x : Extent) (ns : Nets) (name : List ℕ) → Differ ns → Differ (with_net x ns name)
 with_net_differ x ns name h = differ_if ns name (record { width = net_width x }) (is_some (value_of ns name)) refl h
@@ -165,7 +157,7 @@ items_names : (ms : List (ModuleOf ℕ)) (path : Full) (s : Scope) (k : ℕ) (it
     → HaveNames (children_from ms path s k items)
 items_names ms path s k [] = tt
 items_names ms path s k (item ∷ items) =
-    both HasNames (item_children ms path (readable_at s k) item) (children_from ms path s (after_item s.params k item) items)
+    each_append HasNames (item_children ms path (readable_at s k) item) (children_from ms path s (after_item s.params k item) items)
     (item_names ms path (readable_at s k) item) (items_names ms path s (after_item s.params k item) items)
 
 children_names : (ms : List (ModuleOf ℕ)) (i : ModuleInstance) → HaveNames (children ms i)
@@ -217,16 +209,13 @@ one_behind : (path : Full) (ns : Nets) (rest : List Full) → Differ ns → AllB
 one_behind path [] rest d h g = g
 one_behind path (n ∷ ns) rest d h g =
     pairs_cons IsOther (path ++ n.name ∷ []) (behind_path path ns ++ rest)
-    (both (IsOther (path ++ n.name ∷ [])) (behind_path path ns) rest
+    (each_append (IsOther (path ++ n.name ∷ [])) (behind_path path ns) rest
     (other_names path n.name ns (first_pairs (λ (a b : Named ScopeNet). a.name ≢ b.name) n ns d))
-    (weaker (IsNotBehind path) (IsOther (path ++ n.name ∷ [])) (λ y f. f n.name) rest h))
+    (each_weaker (IsNotBehind path) (IsOther (path ++ n.name ∷ [])) (λ y f. f n.name) rest h))
     (one_behind path ns rest (rest_pairs (λ (a b : Named ScopeNet). a.name ≢ b.name) n ns d) h g)
 
 abbrev full_names : ModuleInstance → List Full
 full_names i = behind_path i.path i.scope.nets
-
-abbrev HasOtherPath : ModuleInstance → ModuleInstance → Type 0
-HasOtherPath a b = a.path ≢ b.path
 
 all_differ : (is : List ModuleInstance) → AllPairs HasOtherPath is → HaveNames is → AllPairs IsOther (flat_map full_names is)
 all_differ [] h g = pairs_none IsOther

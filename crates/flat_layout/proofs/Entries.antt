@@ -5,6 +5,7 @@ use Rattle.std.specs.List.{flat_map}
 use Rattle.std.proofs.lemmas.List.{append-nil, drop_all}
 use Rattle.std.proofs.lemmas.List.Sums.{sum_by-cons}
 use Rattle.std.proofs.lemmas.Option.{same_Some}
+use Rattle.vlog_names.specs.Entries.{entry}
 use Rattle.vlog_size.specs.declared.scope.ScopeNet.{ScopeNet}
 use Rattle.vlog_size.specs.declared.scope.ScopeMemory.{ScopeMemory}
 use Rattle.vlog_size.specs.Table.{Named}
@@ -21,12 +22,9 @@ use Rattle.flat_layout.proofs.Lists.{given, one_less}
 
 -- ---- an entry of a table, by its name and its value
 
-abbrev entry_of : {V : Type 0} → List ℕ → V → Named V
-entry_of name v = record { name = name; value = v }
-
-some_entry : {V : Type 0} (x : Named V) (name : List ℕ) (v : V) → name ≡ x.name → v ≡ x.value → Some x ≡ Some (entry_of name v)
+some_entry : {V : Type 0} (x : Named V) (name : List ℕ) (v : V) → name ≡ x.name → v ≡ x.value → Some x ≡ Some (entry name v)
 some_entry x name v n e =
-    ap (λ z. Some (entry_of z x.value)) (sym n) ∙ ap (λ z. Some (entry_of name z)) (sym e)
+    ap (λ z. Some (entry z x.value)) (sym n) ∙ ap (λ z. Some (entry name z)) (sym e)
 
 entry_there : {V : Type 0} (xs : List (Named V)) (k : ℕ) (name : List ℕ) (v : V)
     → Some name ≡ slice_get (map (λ (x : Named V). x.name) xs) k → Some v ≡ slice_get (map (λ (x : Named V). x.value) xs) k

@@ -19,7 +19,7 @@ use Rattle.flat_layout.proofs.Split.{net_count, behind}
 -- ---- seats
 
 abbrev head_seat : ℕ → ℕ → ℕ → ModuleInstance → Seat
-head_seat number net word i = record { number = number; net = net; word = word; instance = i }
+head_seat number net word i = record { number = number; base = record { net = net; word = word }; instance = i }
 
 abbrev tail_seats : ℕ → ℕ → ℕ → ModuleInstance → List ModuleInstance → List Seat
 tail_seats number net word i is = seats_from (number + 1) (net + length i.scope.nets) (word + words_of i.scope.memories) is
@@ -78,25 +78,25 @@ have_seats is m l =
 -- ---- one seat alone
 
 -- a net of the first instance stands before those of the others
-head_below : (s x : Seat) (m j : ℕ) → s ≡ x → m ≡ x.net + j → j < length x.instance.scope.nets → m < s.net + length s.instance.scope.nets
+head_below : (s x : Seat) (m j : ℕ) → s ≡ x → m ≡ x.base.net + j → j < length x.instance.scope.nets → m < s.base.net + length s.instance.scope.nets
 head_below s x m j e =
-    subst (λ (y : Seat). m ≡ y.net + j → j < length y.instance.scope.nets → m < s.net + length s.instance.scope.nets) e
+    subst (λ (y : Seat). m ≡ y.base.net + j → j < length y.instance.scope.nets → m < s.base.net + length s.instance.scope.nets) e
     (λ p q. omega (arith, p, q))
 
 tail_above : (number net word : ℕ) (is : List ModuleInstance) (x : Seat) (k m j : ℕ) → k < length (seats_from number net word is)
-    → get_or (seats_from number net word is) k x ≡ x → m ≡ x.net + j → net ≤ m
+    → get_or (seats_from number net word is) k x ≡ x → m ≡ x.base.net + j → net ≤ m
 tail_above number net word is x k m j l e p =
     let (front, rest, h) = behind number net word is x k l e in
-    let n : x.net ≡ net + net_count front = h.net in
+    let n : x.base.net ≡ net + net_count front = h.net in
     omega (arith, n, p)
 
-same_place : (x y : Seat) (m j i : ℕ) → x ≡ y → m ≡ x.net + j → m ≡ y.net + i → j ≡ i
-same_place x y m j i e p q = let n : x.net ≡ y.net = ap (λ (s : Seat). s.net) e in omega (arith, n, p, q)
+same_place : (x y : Seat) (m j i : ℕ) → x ≡ y → m ≡ x.base.net + j → m ≡ y.base.net + i → j ≡ i
+same_place x y m j i e p q = let n : x.base.net ≡ y.base.net = ap (λ (s : Seat). s.base.net) e in omega (arith, n, p, q)
 
 one_seat : (number net word : ℕ) (is : List ModuleInstance) (x y : Seat) (k l m j i : ℕ)
     → k < length (seats_from number net word is) → get_or (seats_from number net word is) k x ≡ x
     → l < length (seats_from number net word is) → get_or (seats_from number net word is) l y ≡ y
-    → m ≡ x.net + j → m ≡ y.net + i → j < length x.instance.scope.nets → i < length y.instance.scope.nets → x ≡ y
+    → m ≡ x.base.net + j → m ≡ y.base.net + i → j < length x.instance.scope.nets → i < length y.instance.scope.nets → x ≡ y
 one_seat number net word [] x y k l m j i a e b f p q s t = absurd (omega (arith, a))
 one_seat number net word (z ∷ is) x y zero zero m j i a e b f p q s t = sym e ∙ f
 one_seat number net word (z ∷ is) x y zero (suc l) m j i a e b f p q s t =
@@ -114,7 +114,7 @@ one_seat number net word (z ∷ is) x y (suc k) (suc l) m j i a e b f p q s t =
     (omega (arith, b)) f p q s t
 
 seat_alone : (is : List ModuleInstance) (m j i : ℕ) (x y : Seat) → Contains (seats_of is) x → Contains (seats_of is) y
-    → m ≡ x.net + j → m ≡ y.net + i → j < length x.instance.scope.nets → i < length y.instance.scope.nets → x ≡ y
+    → m ≡ x.base.net + j → m ≡ y.base.net + i → j < length x.instance.scope.nets → i < length y.instance.scope.nets → x ≡ y
 unfolding seats_of
 seat_alone is m j i x y (k, a, e) (l, b, f) p q s t = one_seat 0 0 0 is x y k l m j i a e b f p q s t
 
@@ -133,13 +133,13 @@ net_here s rest m j e below =
     ∙ slice_get-map (net_of s.number) s.instance.scope.nets j)
 
 net_at : (number net word : ℕ) (is : List ModuleInstance) (m j : ℕ) (x : Seat) (k : ℕ) → k < length (seats_from number net word is)
-    → get_or (seats_from number net word is) k x ≡ x → net + m ≡ x.net + j → j < length x.instance.scope.nets
+    → get_or (seats_from number net word is) k x ≡ x → net + m ≡ x.base.net + j → j < length x.instance.scope.nets
     → slice_get (flat_map seat_nets (seats_from number net word is)) m
     ≡ option_map (net_of x.number) (slice_get x.instance.scope.nets j)
 net_at number net word [] m j x k l e p below = absurd (omega (arith, l))
 net_at number net word (i ∷ is) m j x zero l e p below =
     subst
-    (λ (y : Seat). net + m ≡ y.net + j → j < length y.instance.scope.nets
+    (λ (y : Seat). net + m ≡ y.base.net + j → j < length y.instance.scope.nets
     → slice_get (flat_map seat_nets (seats_from number net word (i ∷ is))) m
     ≡ option_map (net_of y.number) (slice_get y.instance.scope.nets j))
     e
@@ -153,7 +153,7 @@ net_at number net word (i ∷ is) m j x (suc k) l e p below =
     ∙ net_at (number + 1) (net + length i.scope.nets) (word + words_of i.scope.memories) is (m - length i.scope.nets) j x k
     (omega (arith, l)) e (omega (arith, p, high)) below
 
-net_of_seat : (is : List ModuleInstance) (m j : ℕ) (x : Seat) → Contains (seats_of is) x → m ≡ x.net + j
+net_of_seat : (is : List ModuleInstance) (m j : ℕ) (x : Seat) → Contains (seats_of is) x → m ≡ x.base.net + j
     → j < length x.instance.scope.nets
     → slice_get (flat_nets (seats_of is)) m ≡ option_map (net_of x.number) (slice_get x.instance.scope.nets j)
 unfolding flat_nets seats_of

@@ -21,8 +21,8 @@ word_count (i ∷ is) = words_of i.scope.memories + word_count is
 pub record IsBehind (first first_net first_word : ℕ) (is : List ModuleInstance) (x : Seat) (front rest : List ModuleInstance) : Type 0 where
   pub whole : is ≡ front ++ x.instance ∷ rest
   pub number : x.number ≡ first + length front
-  pub net : x.net ≡ first_net + net_count front
-  pub word : x.word ≡ first_word + word_count front
+  pub net : x.base.net ≡ first_net + net_count front
+  pub word : x.base.word ≡ first_word + word_count front
 
 nothing_more : (n : ℕ) → n ≡ n + 0
 nothing_more n = omega arith
@@ -34,7 +34,7 @@ so_many_more : (x n a k : ℕ) → x ≡ n + a + k → x ≡ n + (a + k)
 so_many_more x n a k h = omega (arith, h)
 
 at_front : (number net word : ℕ) (i : ModuleInstance) (is : List ModuleInstance)
-    → IsBehind number net word (i ∷ is) (record { number = number; net = net; word = word; instance = i }) [] is
+    → IsBehind number net word (i ∷ is) (record { number = number; base = record { net = net; word = word }; instance = i }) [] is
 at_front number net word i is =
     record { whole = refl; number = nothing_more number; net = nothing_more net; word = nothing_more word }
 
@@ -44,8 +44,8 @@ further : (number net word : ℕ) (i : ModuleInstance) (is front rest : List Mod
 further number net word i is front rest x h = record {
   whole = ap (λ (l : List ModuleInstance). i ∷ l) h.whole;
   number = one_more x.number number (length front) h.number;
-  net = so_many_more x.net net (length i.scope.nets) (net_count front) h.net;
-  word = so_many_more x.word word (words_of i.scope.memories) (word_count front) h.word;
+  net = so_many_more x.base.net net (length i.scope.nets) (net_count front) h.net;
+  word = so_many_more x.base.word word (words_of i.scope.memories) (word_count front) h.word;
 }
 
 abbrev Behind : ℕ → ℕ → ℕ → List ModuleInstance → Seat → Type 0

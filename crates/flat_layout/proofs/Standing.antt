@@ -1,9 +1,11 @@
 -- Each instance's numbers stand from its seat's places on.
-use Rattle.std.proofs.Common.{◌≡◌, ℕ, zero, suc, ◌+◌, ◌<◌, ◌≤◌, List, [], ◌∷◌, ◌++◌, length, drop, refl, sym, ap, subst, ◌∙◌, arith}
+use Rattle.std.proofs.Common.{◌≡◌, ℕ, ◌+◌, ◌<◌, ◌≤◌, List, [], ◌∷◌, ◌++◌, length, drop, refl, sym, ap, subst, ◌∙◌, arith}
 use Rattle.std.proofs.Common.{length-append, slice_index}
 use Rattle.std.specs.List.{flat_map}
 use Rattle.std.proofs.lemmas.List.{length-map, get_or_append_left}
 use Rattle.std.proofs.lemmas.List.Recursion.{is_sum_by}
+use Rattle.flat_layout.proofs.Counted.{own_length}
+use Rattle.vlog_meaning.proofs.Words.{length-words}
 use Rattle.vlog_size.specs.declared.scope.ScopeMemory.{ScopeMemory}
 use Rattle.vlog_size.specs.declared.scope.ScopeNet.{ScopeNet}
 use Rattle.vlog_size.specs.Table.{Named}
@@ -14,18 +16,11 @@ use Rattle.vlog_meaning.specs.Names.{Full, words_from, numbers_at}
 use Rattle.vlog_meaning.specs.Placed.{names_at}
 use Rattle.vlog_meaning.specs.Own.{word_total}
 use Rattle.vlog_driver.specs.Held.{StandsAt}
-use Rattle.flat_parts.specs.Seats.{Seat, spot_at}
+use Rattle.flat_parts.specs.Seats.{Seat, site_at}
 use Rattle.flat_parts.specs.Laws.{numbers_of, SeatsStand}
 use Rattle.flat_layout.proofs.Split.{net_count, word_count, IsBehind, seat_behind, piece_count, left_behind}
 
 -- ---- words
-
-pub length-words : (word : ℕ → ℕ) (k n : ℕ) → length (words_from word k n) ≡ n
-length-words word k zero = refl
-length-words word k (suc n) = ap suc (length-words word (suc k) n)
-
-abbrev own_length : Named ScopeMemory → ℕ
-own_length m = m.value.length
 
 -- the words of memories, as the words before the place past the last
 pub words_before_end : (ms : List (Named ScopeMemory)) → words_before ms (length ms) ≡ words_of ms
@@ -74,31 +69,31 @@ module _ (nets : Full → ℕ) (words : Full → ℕ → ℕ) where
   words_long i = all_words (λ (m : Named ScopeMemory). words (i.path ++ m.name ∷ [])) i.scope.memories
 
   nets_stand : (is front rest : List ModuleInstance) (x : Seat) → IsBehind 0 0 0 is x front rest
-      → Begins (length x.instance.scope.nets) (drop x.net (flat_map own_nets is)) (own_nets x.instance)
+      → Begins (length x.instance.scope.nets) (drop x.base.net (flat_map own_nets is)) (own_nets x.instance)
   nets_stand is front rest x h =
-      begins (length x.instance.scope.nets) (drop x.net (flat_map own_nets is)) (own_nets x.instance) (flat_map own_nets rest)
-      (left_behind own_nets is front rest x.instance x.net h.whole
+      begins (length x.instance.scope.nets) (drop x.base.net (flat_map own_nets is)) (own_nets x.instance) (flat_map own_nets rest)
+      (left_behind own_nets is front rest x.instance x.base.net h.whole
       (let e : length (flat_map own_nets front) ≡ net_count front =
       piece_count own_nets (λ (i : ModuleInstance). length i.scope.nets) net_count nets_long refl (λ _ _. refl) front in
       let n = h.net in omega (arith, e, n)))
       (nets_long x.instance)
 
   words_stand : (is front rest : List ModuleInstance) (x : Seat) → IsBehind 0 0 0 is x front rest
-      → Begins (words_of x.instance.scope.memories) (drop x.word (flat_map own_words is)) (own_words x.instance)
+      → Begins (words_of x.instance.scope.memories) (drop x.base.word (flat_map own_words is)) (own_words x.instance)
   words_stand is front rest x h =
-      begins (words_of x.instance.scope.memories) (drop x.word (flat_map own_words is)) (own_words x.instance) (flat_map own_words rest)
-      (left_behind own_words is front rest x.instance x.word h.whole
+      begins (words_of x.instance.scope.memories) (drop x.base.word (flat_map own_words is)) (own_words x.instance) (flat_map own_words rest)
+      (left_behind own_words is front rest x.instance x.base.word h.whole
       (let e : length (flat_map own_words front) ≡ word_count front =
       piece_count own_words (λ (i : ModuleInstance). words_of i.scope.memories) word_count words_long refl (λ _ _. refl) front in
       let n = h.word in omega (arith, e, n)))
       (words_long x.instance)
 
   stand : (is : List ModuleInstance) (x : Seat) (k : ℕ) (front rest : List ModuleInstance) → IsBehind 0 0 0 is x front rest
-      → StandsAt nets words x.instance.path x.instance.scope k (spot_at x k) (numbers_of nets words is)
+      → StandsAt nets words x.instance.path x.instance.scope k (site_at x k) (numbers_of nets words is)
   stand is x k front rest h =
       let n = nets_stand is front rest x h in
-      let w : Begins (word_total (names_at x.instance.scope k)) (drop x.word (flat_map own_words is)) (own_words x.instance) =
-      subst (λ t. Begins t (drop x.word (flat_map own_words is)) (own_words x.instance))
+      let w : Begins (word_total (names_at x.instance.scope k)) (drop x.base.word (flat_map own_words is)) (own_words x.instance) =
+      subst (λ t. Begins t (drop x.base.word (flat_map own_words is)) (own_words x.instance))
       (sym (words_before_end x.instance.scope.memories)) (words_stand is front rest x h) in
       record {
         names = refl;

@@ -1,20 +1,16 @@
 -- What the code answers, beside the parts of the flat design.
-use Rattle.std.specs.Prelude.{◌≡◌, ℕ, ◌+◌, ◌<◌, ◌≤◌, List, map, length, slice_get, Some, Option, None}
+use Rattle.std.specs.Prelude.{◌≡◌, ℕ, ◌<◌, ◌≤◌, List, map, length, slice_get, Some, Option, None}
 use Rattle.vlog_size.specs.declared.scope.ScopeMemory.{ScopeMemory}
-use Rattle.vlog_size.specs.declared.scope.Scope.{Scope}
 use Rattle.vlog_size.specs.Table.{Named}
 use Rattle.vlog_tree.specs.Tree.{PortHeadOf}
 use Rattle.vlog_tree.specs.declared.module.Direction as head
 use Rattle.vlog_tree.specs.declared.module.Direction.TheVariants as heads
-use Rattle.vlog_scope.specs.Scope.{words_of}
 use Rattle.net_design.specs.declared.design.Instance.{Instance}
 use Rattle.net_design.specs.declared.design.DesignMemory.{DesignMemory}
 use Rattle.net_design.specs.declared.design.Direction.{Direction}
 use Rattle.net_design.specs.declared.design.Direction.TheVariants.{Input, Output}
 use Rattle.net_design.specs.Names.{paths}
 use Rattle.vlog_elab.specs.Instances.{ModuleInstance}
-use Rattle.flat_parts.specs.Seats.{Seat}
-use Rattle.flat_layout.specs.declared.place.Place.{Place}
 
 -- ---- instances
 
@@ -26,16 +22,6 @@ pub record AreInstances (d : List Instance) (is : List ModuleInstance) : Type 0 
   pub count : length d ≡ length is
   pub same : paths d ≡ paths_of is
   pub parents : (i : ℕ) (x : Instance) → slice_get d i ≡ Some x → 1 ≤ i → x.parent < i
-
--- ---- seats
-
--- the places of a seat
-abbrev pub place_of : Seat → Place
-place_of x = record { net = x.net; word = x.word }
-
--- the place behind an instance of this scope
-abbrev pub place_behind : Place → Scope → Place
-place_behind p s = record { net = p.net + length s.nets; word = p.word + words_of s.memories }
 
 -- ---- memories
 

@@ -8,12 +8,10 @@ mod instance;
 mod laws;
 mod memory;
 mod net;
-mod place;
 mod port;
 
 pub use instance::instances;
 pub use laws::{built_numbers, names_differ, nets_have_seats, parts_are_counted, seats_stand};
 pub use memory::memories;
 pub use net::nets;
-pub use place::{Place, seats};
 pub use port::ports;

@@ -1,5 +1,5 @@
 -- Laws of the parts, which the crates above prove and use.
-use Rattle.std.specs.Prelude.{◌≡◌, ◌≢◌, ℕ, ◌+◌, ◌<◌, ◌↔◌, nat_lt, ◌&&◌, if◌then◌else◌, List, [], ◌∷◌, ◌++◌, length, slice_get, slice_index}
+use Rattle.std.specs.Prelude.{◌≡◌, ◌≢◌, ℕ, ◌+◌, ◌<◌, ◌↔◌, nat_lt, ◌&&◌, if◌then◌else◌, List, [], ◌∷◌, length, slice_get, slice_index}
 use Rattle.std.specs.Prelude.{option_map, Some}
 use Rattle.std.specs.Int.{bit_at}
 use Rattle.std.specs.List.{Contains, AllPairs, flat_map}
@@ -7,7 +7,7 @@ use Rattle.vlog_tree.specs.Tree.{ModuleOf, FileOf}
 use Rattle.vlog_size.specs.declared.scope.ScopeNet.{ScopeNet}
 use Rattle.vlog_size.specs.declared.scope.Scope.{Scope}
 use Rattle.vlog_size.specs.Table.{Named}
-use Rattle.vlog_hierarchy.specs.Outlines.{place_of}
+use Rattle.vlog_elab.specs.Outlines.{place_of}
 use Rattle.vlog_scope.specs.Scope.{scope_with}
 use Rattle.net_design.specs.declared.design.Design.{Design}
 use Rattle.net_design.specs.declared.values.Values.{Values}
@@ -20,7 +20,7 @@ use Rattle.vlog_meaning.specs.Instances.{IsAt}
 use Rattle.vlog_meaning.specs.Settled.{is_held}
 use Rattle.vlog_meaning.specs.Next.{initial_number}
 use Rattle.vlog_driver.specs.Held.{StandsAt}
-use Rattle.flat_parts.specs.Seats.{Seat, seats_of, spot_at}
+use Rattle.flat_parts.specs.Seats.{Seat, seats_of, site_at}
 use Rattle.flat_parts.specs.Nets.{net_of, flat_nets}
 use Rattle.flat_parts.specs.Built.{IsBuilt}
 use Rattle.flat_parts.specs.Meaning.{values_of}
@@ -68,12 +68,12 @@ BuiltNumbers = (file : List (ModuleOf ℕ)) (top : ModuleOf ℕ) (is : List Modu
 -- each instance's numbers stand there from its seat's places on
 abbrev pub SeatsStand : Type 0
 SeatsStand = (nets : Full → ℕ) (words : Full → ℕ → ℕ) (is : List ModuleInstance) (x : Seat) (k : ℕ) → Contains (seats_of is) x
-    → StandsAt nets words x.instance.path x.instance.scope k (spot_at x k) (numbers_of nets words is)
+    → StandsAt nets words x.instance.path x.instance.scope k (site_at x k) (numbers_of nets words is)
 
 -- net m of the design is net j of the instance at this seat
 pub record IsNetOf (xs : List Seat) (m : ℕ) (x : Seat) (j : ℕ) : Type 0 where
   pub seat : Contains xs x
-  pub place : m ≡ x.net + j
+  pub place : m ≡ x.base.net + j
   pub there : j < length x.instance.scope.nets
 
 abbrev pub NetsHaveSeats : Type 0
@@ -99,12 +99,12 @@ NamesDiffer = (file : FileOf ℕ) (name : List ℕ) (top : ModuleOf ℕ) (d : De
 abbrev pub HeldAlike : Type 0
 HeldAlike = (file : List (ModuleOf ℕ)) (top : ModuleOf ℕ) (is : List ModuleInstance) (d : Design) → IsBuilt file top is d
     → (x : Seat) (j k : ℕ) (n : Named ScopeNet) → Contains (seats_of is) x → slice_get x.instance.scope.nets j ≡ Some n
-    → held d (x.net + j) k ≡ (nat_lt k n.value.width && is_held x.instance.tree x.instance.scope n.name j k)
+    → held d (x.base.net + j) k ≡ (nat_lt k n.value.width && is_held x.instance.tree x.instance.scope n.name j k)
 
 -- and begins with the file's initial numbers there
 abbrev pub InitialAlike : Type 0
 InitialAlike = (file : List (ModuleOf ℕ)) (top : ModuleOf ℕ) (is : List ModuleInstance) (d : Design) → IsBuilt file top is d
     → (x : Seat) (j k : ℕ) (n : Named ScopeNet) → Contains (seats_of is) x → slice_get x.instance.scope.nets j ≡ Some n
-    → bit_at (slice_index (initial d).nets (x.net + j)) k
+    → bit_at (slice_index (initial d).nets (x.base.net + j)) k
     ≡ (if nat_lt k n.value.width && is_held x.instance.tree x.instance.scope n.name j k
     then bit_at (initial_number x.instance.tree x.instance.scope n.name) k else 0)

@@ -1,7 +1,9 @@
+pub mod Instances
 pub mod Seats
 pub mod Nets
 pub mod Drivers
 pub mod State
+pub mod Marks
 pub mod Built
 pub mod Meaning
 pub mod Laws

@@ -1,5 +1,5 @@
 -- The nets, memories and ports of the flat design (IEEE 1364-2005, 4.2, 4.9 and 12.3; this project's profile).
-use Rattle.std.specs.Prelude.{ℕ, ◌+◌, if◌then◌else◌, List, [], ◌∷◌, ◌++◌, map}
+use Rattle.std.specs.Prelude.{ℕ, ◌+◌, if◌then◌else◌, List, [], ◌∷◌, map}
 use Rattle.std.specs.List.{flat_map}
 use Rattle.vlog_tree.specs.Tree.{ModuleOf}
 use Rattle.vlog_size.specs.declared.scope.ScopeNet.{ScopeNet}
@@ -38,7 +38,7 @@ memories_from number word (m ∷ ms) =
     ∷ memories_from number (word + m.value.length) ms
 
 abbrev pub seat_memories : Seat → List DesignMemory
-seat_memories x = memories_from x.number x.word x.instance.scope.memories
+seat_memories x = memories_from x.number x.base.word x.instance.scope.memories
 
 unfoldable pub flat_memories : List Seat → List DesignMemory
 flat_memories xs = flat_map seat_memories xs

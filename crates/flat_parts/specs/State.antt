@@ -5,14 +5,14 @@ use Rattle.std.specs.Int.{bit_at}
 use Rattle.std.specs.List.{flat_map, list_any}
 use Rattle.vidi_bits.specs.Findings.{told_if}
 use Rattle.vlog_tree.specs.Tree.{ModuleOf}
-use Rattle.vlog_operators.specs.Number.{has}
+use Rattle.vidi_bits.specs.Number.{has}
 use Rattle.vlog_size.specs.declared.scope.ScopeNet.{ScopeNet}
 use Rattle.vlog_size.specs.declared.scope.Scope.{Scope}
 use Rattle.vlog_size.specs.Table.{Named}
 use Rattle.net_design.specs.declared.design.Driver.{Driver}
 use Rattle.net_design.specs.declared.design.Register.{Register}
 use Rattle.net_design.specs.Bits.{named}
-use Rattle.vlog_meaning.specs.Ports.{has_reg}
+use Rattle.vlog_names.specs.Ports.{has_reg}
 use Rattle.vlog_meaning.specs.Next.{initial_number}
 use Rattle.flat_parts.specs.Seats.{Seat}
 
@@ -30,7 +30,7 @@ regs_from m s net (n ∷ ns) =
     ++ regs_from m s (net + 1) ns
 
 abbrev pub seat_regs : Seat → List RegPlace
-seat_regs x = regs_from x.instance.tree x.instance.scope x.net x.instance.scope.nets
+seat_regs x = regs_from x.instance.tree x.instance.scope x.base.net x.instance.scope.nets
 
 unfoldable pub all_regs : List Seat → List RegPlace
 all_regs xs = flat_map seat_regs xs

@@ -9,7 +9,7 @@ use Rattle.std.proofs.lemmas.Nat.Bits.{bit_at-lt, bit_at_and, bit_at_ones, bit_a
 use Rattle.std.proofs.lemmas.List.{take_more, map-append}
 use Rattle.net_design.specs.declared.design.Driver.{Driver}
 use Rattle.net_design.specs.declared.design.Register.{Register}
-use Rattle.vlog_operators.specs.Number.{has}
+use Rattle.vidi_bits.specs.Number.{has}
 use Rattle.net_code.specs.declared.bit_map.BitMap.{BitMap}
 use Rattle.net_code.specs.BitMap.{mask_of, in_map}
 use Rattle.net_code.proofs.MaskLaws.{has_less}

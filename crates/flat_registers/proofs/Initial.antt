@@ -7,20 +7,20 @@ use Rattle.std.proofs.lemmas.Nat.Bits.{bit_at-zero}
 use Rattle.std.proofs.lemmas.Option.{slice_get_within}
 use Rattle.std.specs.Int.{bit_at}
 use Rattle.std.specs.List.{Contains, AllZip, enumerate_from}
+use Rattle.vidi_bits.proofs.Lists.{head_in, tail_in, none_in, cases_in}
 use Rattle.vlog_size.specs.declared.scope.ScopeNet.{ScopeNet}
 use Rattle.vlog_size.specs.Table.{Named}
 use Rattle.net_design.specs.declared.design.Driver.{Driver}
 use Rattle.net_design.specs.declared.design.Net.{Net}
 use Rattle.net_design.specs.declared.design.Register.{Register}
 use Rattle.net_design.specs.Settled.{initial_number as register_number}
-use Rattle.vlog_meaning.specs.Ports.{has_reg}
+use Rattle.vlog_names.specs.Ports.{has_reg}
 use Rattle.vlog_meaning.specs.Next.{initial_number}
 use Rattle.vlog_elab.specs.Instances.{ModuleInstance}
 use Rattle.flat_parts.specs.Seats.{Seat, seats_of}
 use Rattle.flat_parts.specs.Nets.{net_of, flat_nets}
 use Rattle.flat_parts.specs.State.{RegPlace, all_regs, always_writes_bit, IsRegisterOf}
 use Rattle.flat_parts.specs.Laws.{NetsHaveOneSeat, NetsAreThose, InitialAlike}
-use Rattle.flat_registers.proofs.Lists.{head, tail, no_element, cases}
 use Rattle.flat_registers.proofs.Writes.{own_net, writes_alike}
 use Rattle.flat_registers.proofs.Regs.{reg_of, only_reg, reg_there}
 
@@ -50,17 +50,17 @@ module _ (drivers : List Driver) (m k v : ℕ) where
 
   begins_past : (q : RegPlace) (qs : List RegPlace) → (q.net ≡ m → ⊥) → Begins (q ∷ qs) → Begins qs
   begins_past q qs other h = record {
-    each = λ p c. h.each p (tail q qs p c);
+    each = λ p c. h.each p (tail_in q qs p c);
     some = ⊎_elim
         (λ (w : (p : RegPlace) × Contains (q ∷ qs) p × (p.net ≡ m)).
         ⊎_elim (λ (e : q ≡ w.0). absurd (other (ap (λ (z : RegPlace). z.net) e ∙ w.2))) (λ (c : Contains qs w.0). inl (w.0, c, w.2))
-        (cases q qs w.0 w.1))
+        (cases_in q qs w.0 w.1))
         (λ (z : v ≡ 0). inr z)
         h.some;
   }
 
   none_begins : Begins [] → v ≡ 0
-  none_begins h = ⊎_elim (λ (w : (q : RegPlace) × Contains [] q × (q.net ≡ m)). absurd (no_element w.0 w.1)) (λ (z : v ≡ 0). z) h.some
+  none_begins h = ⊎_elim (λ (w : (q : RegPlace) × Contains [] q × (q.net ≡ m)). absurd (none_in w.0 w.1)) (λ (z : v ≡ 0). z) h.some
 
   not_same : (a b : ℕ) → (a == b) ≡ false → a ≡ b → ⊥
   not_same a b f e = let t = eq-eqb a b e in absurd (cc)
@@ -68,7 +68,7 @@ module _ (drivers : List Driver) (m k v : ℕ) where
   bit_by : (q : RegPlace) (qs : List RegPlace) (r : Register) (rest : ℕ) (b : Bool) → (r.net == m) ≡ b → IsRegisterOf drivers q r
       → Begins (q ∷ qs) → (Begins qs → bit_at rest k ≡ v) → bit_at (if b then r.initial else rest) k ≡ v
   bit_by q qs r rest true e is h more =
-      register_bit drivers k q r is ∙ h.each q (head q qs) (sym is.net ∙ eqb-true r.net m e)
+      register_bit drivers k q r is ∙ h.each q (head_in q qs) (sym is.net ∙ eqb-true r.net m e)
   bit_by q qs r rest false e is h more = more (begins_past q qs (λ g. not_same r.net m e (is.net ∙ g)) h)
 
   first_number : (qs : List RegPlace) (rs : List Register) → AllZip (IsRegisterOf drivers) qs rs → Begins qs
@@ -96,39 +96,39 @@ module _ (one : NetsHaveOneSeat) (is : List ModuleInstance) (x : Seat) (j : ℕ)
     (there : slice_get x.instance.scope.nets j ≡ Some n) (drivers : List Driver) (k : ℕ) where
   -- bit k of what the file gives the net
   abbrev Bit : Bool → ℕ
-  Bit reg = masked (nat_lt k n.value.width) reg (not (always_writes_bit drivers (x.net + j) k))
+  Bit reg = masked (nat_lt k n.value.width) reg (not (always_writes_bit drivers (x.base.net + j) k))
       (bit_at (initial_number x.instance.tree x.instance.scope n.name) k)
 
-  one_begins : (q : RegPlace) → Contains (all_regs (seats_of is)) q → q.net ≡ x.net + j
+  one_begins : (q : RegPlace) → Contains (all_regs (seats_of is)) q → q.net ≡ x.base.net + j
       → first_bit drivers k q ≡ Bit (has_reg x.instance.tree n.name)
   one_begins q d e =
       let r = only_reg one is x j n c there q d e in
       ap (first_bit drivers k) (sym r.1)
-      ∙ masked_reg (nat_lt k n.value.width) (has_reg x.instance.tree n.name) (not (always_writes_bit drivers (x.net + j) k))
+      ∙ masked_reg (nat_lt k n.value.width) (has_reg x.instance.tree n.name) (not (always_writes_bit drivers (x.base.net + j) k))
       (bit_at (initial_number x.instance.tree x.instance.scope n.name) k) r.0
 
   some_begins : (b : Bool) → has_reg x.instance.tree n.name ≡ b
-      → ((q : RegPlace) × Contains (all_regs (seats_of is)) q × (q.net ≡ x.net + j)) ⊎ (Bit b ≡ 0)
-  some_begins true e = inl (reg_of x.instance.tree x.instance.scope (x.net + j) n, reg_there one is x j n c there e, refl)
+      → ((q : RegPlace) × Contains (all_regs (seats_of is)) q × (q.net ≡ x.base.net + j)) ⊎ (Bit b ≡ 0)
+  some_begins true e = inl (reg_of x.instance.tree x.instance.scope (x.base.net + j) n, reg_there one is x j n c there e, refl)
   some_begins false e =
-      inr (masked_none (nat_lt k n.value.width) (not (always_writes_bit drivers (x.net + j) k))
+      inr (masked_none (nat_lt k n.value.width) (not (always_writes_bit drivers (x.base.net + j) k))
       (bit_at (initial_number x.instance.tree x.instance.scope n.name) k))
 
-  begins : Begins drivers (x.net + j) k (Bit (has_reg x.instance.tree n.name)) (all_regs (seats_of is))
+  begins : Begins drivers (x.base.net + j) k (Bit (has_reg x.instance.tree n.name)) (all_regs (seats_of is))
   begins = record { each = one_begins; some = some_begins (has_reg x.instance.tree n.name) refl }
 
 net_there : NetsHaveOneSeat → NetsAreThose → (is : List ModuleInstance) (x : Seat) (j : ℕ) (n : Named ScopeNet)
-    → Contains (seats_of is) x → slice_get x.instance.scope.nets j ≡ Some n → x.net + j < length (flat_nets (seats_of is))
+    → Contains (seats_of is) x → slice_get x.instance.scope.nets j ≡ Some n → x.base.net + j < length (flat_nets (seats_of is))
 net_there one those is x j n c there =
-    slice_get_within (flat_nets (seats_of is)) (x.net + j) (net_of x.number n)
-    (those is (x.net + j) j x (own_net one is x j n c there) ∙ ap (option_map (net_of x.number)) there)
+    slice_get_within (flat_nets (seats_of is)) (x.base.net + j) (net_of x.number n)
+    (those is (x.base.net + j) j x (own_net one is x j n c there) ∙ ap (option_map (net_of x.number)) there)
 
 pub initial_alike : NetsHaveOneSeat → NetsAreThose → InitialAlike
 initial_alike one those file top is d b x j k n c there =
-    let l : x.net + j < length d.nets =
-    subst (λ (z : List Net). x.net + j < length z) (sym b.nets) (net_there one those is x j n c there) in
-    ap (λ i. bit_at i k) (number_at d.registers 0 d.nets (x.net + j) (x.net + j) l (omega arith))
-    ∙ first_number d.drivers (x.net + j) k (Bit one is x j n c there d.drivers k (has_reg x.instance.tree n.name)) (all_regs (seats_of is))
+    let l : x.base.net + j < length d.nets =
+    subst (λ (z : List Net). x.base.net + j < length z) (sym b.nets) (net_there one those is x j n c there) in
+    ap (λ i. bit_at i k) (number_at d.registers 0 d.nets (x.base.net + j) (x.base.net + j) l (omega arith))
+    ∙ first_number d.drivers (x.base.net + j) k (Bit one is x j n c there d.drivers k (has_reg x.instance.tree n.name)) (all_regs (seats_of is))
     d.registers b.registers (begins one is x j n c there d.drivers k)
     ∙ ap (λ w. if nat_lt k n.value.width && (has_reg x.instance.tree n.name && not w)
     then bit_at (initial_number x.instance.tree x.instance.scope n.name) k else 0) (writes_alike one is x j n c there d.drivers k b.drivers)

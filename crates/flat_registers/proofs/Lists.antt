@@ -1,53 +1,14 @@
 -- Lists: which elements pass a test, and which are in a list of lists.
-use Rattle.std.proofs.Common.{◌≡◌, zero, suc, ◌&&◌, ◌||◌, Bool, true, false, List, [], ◌∷◌, map}
-use Rattle.std.proofs.Common.{Some, ◌⊎◌, inl, inr, ⊎_elim, refl, sym, ap, subst, ◌∙◌, arith}
+use Rattle.std.proofs.Common.{◌≡◌, ◌&&◌, ◌||◌, Bool, true, false, List, [], ◌∷◌, map}
+use Rattle.std.proofs.Common.{refl, ap, ◌∙◌}
 use Rattle.std.specs.List.{Contains, AllZip, list_any, flat_map}
-use Rattle.std.proofs.lemmas.List.Elements.{Contains-append_left, Contains-append_right, Contains-append_cases}
 use Rattle.std.proofs.lemmas.List.Folds.{list_any-append, list_any_at}
+use Rattle.vidi_bits.proofs.Lists.{head_in, tail_in}
+use Rattle.vidi_bits.proofs.Bools.{same_test}
 
 -- ---- tests
 
-pub same_test : (a b : Bool) → (a ≡ true → b ≡ true) → (b ≡ true → a ≡ true) → a ≡ b
-same_test true b h k = sym (h refl)
-same_test false true h k = k refl
-same_test false false h k = refl
-
-pub and_parts : (a b : Bool) → (a && b) ≡ true → (a ≡ true) × (b ≡ true)
-and_parts true b h = (refl, h)
-and_parts false b h = absurd (cc)
-
-pub and_both : (a b : Bool) → a ≡ true → b ≡ true → (a && b) ≡ true
-and_both a b h k = rw h k
-
-pub and_false : (b : Bool) → (b && false) ≡ false
-and_false true = refl
-and_false false = refl
-
-pub or_false : (b : Bool) → (b || false) ≡ b
-or_false true = refl
-or_false false = refl
-
-pub and_swap : (a b c : Bool) → (a && (b && c)) ≡ (b && (a && c))
-and_swap true b c = refl
-and_swap false b c = sym (and_false b)
-
 -- ---- elements
-
-pub head : {X : Type 0} (x : X) (xs : List X) → Contains (x ∷ xs) x
-head x xs = (0, omega arith, refl)
-
-pub tail : {X : Type 0} (x : X) (xs : List X) (y : X) → Contains xs y → Contains (x ∷ xs) y
-tail x xs y (k, l, e) = (suc k, omega arith, e)
-
-pub no_element : {X : Type 0} (y : X) → Contains [] y → ⊥
-no_element y (k, l, e) = absurd (omega arith)
-
-pub cases : {X : Type 0} (x : X) (xs : List X) (y : X) → Contains (x ∷ xs) y → (x ≡ y) ⊎ Contains xs y
-cases x xs y (zero, l, e) = inl e
-cases x xs y (suc k, l, e) = inr (k, omega arith, e)
-
-pub some_same : {X : Type 0} (x y : X) → Some x ≡ Some y → x ≡ y
-some_same x y h = (cc)
 
 -- ---- tests of elements
 
@@ -57,8 +18,8 @@ Passing {X} p xs = (x : X) × Contains xs x × (p x ≡ true)
 
 first_passes : {X : Type 0} (p : X → Bool) (x : X) (xs : List X) (b : Bool) → p x ≡ b → (list_any p xs ≡ true → Passing p xs)
     → (b || list_any p xs) ≡ true → Passing p (x ∷ xs)
-first_passes p x xs true e more h = (x, head x xs, e)
-first_passes p x xs false e more h = let r = more h in (r.0, tail x xs r.0 r.1, r.2)
+first_passes p x xs true e more h = (x, head_in x xs, e)
+first_passes p x xs false e more h = let r = more h in (r.0, tail_in x xs r.0 r.1, r.2)
 
 pub any_found : {X : Type 0} (p : X → Bool) (xs : List X) → list_any p xs ≡ true → Passing p xs
 any_found p [] h = absurd (cc)
@@ -112,21 +73,3 @@ flat_none p f h (x ∷ xs) =
 pub map_none : {X A : Type 0} (p : A → Bool) (f : X → A) → ((x : X) → p (f x) ≡ false) → (xs : List X) → list_any p (map f xs) ≡ false
 map_none p f h [] = refl
 map_none p f h (x ∷ xs) = ap (λ b. b || list_any p (map f xs)) (h x) ∙ map_none p f h xs
-
-pub flat_in : {X A : Type 0} (f : X → List A) (xs : List X) (a : A) → Contains (flat_map f xs) a
-    → (x : X) × Contains xs x × Contains (f x) a
-flat_in f [] a c = absurd (no_element a c)
-flat_in f (x ∷ xs) a c =
-    ⊎_elim
-    (λ (d : Contains (f x) a). (x, head x xs, d))
-    (λ (d : Contains (flat_map f xs) a). let r = flat_in f xs a d in (r.0, tail x xs r.0 r.1, r.2))
-    (Contains-append_cases (f x) (flat_map f xs) a c)
-
-pub flat_there : {X A : Type 0} (f : X → List A) (xs : List X) (x : X) (a : A) → Contains xs x → Contains (f x) a
-    → Contains (flat_map f xs) a
-flat_there f [] x a c d = absurd (no_element x c)
-flat_there f (y ∷ ys) x a c d =
-    ⊎_elim
-    (λ (e : y ≡ x). Contains-append_left (f y) (flat_map f ys) a (subst (λ z. Contains (f z) a) (sym e) d))
-    (λ (t : Contains ys x). Contains-append_right (f y) (flat_map f ys) a (flat_there f ys x a t d))
-    (cases y ys x c)

@@ -1,33 +1,22 @@
 -- Which nets are regs.
-use Rattle.std.proofs.Common.{◌≡◌, ℕ, ◌+◌, ◌++◌, Bool, List, [], ◌∷◌, length, map, drop, slice_get, Some, refl, ap, ◌∙◌}
+use Rattle.std.proofs.Common.{◌≡◌, ℕ, ◌+◌, ◌++◌, Bool, List, [], ◌∷◌, length, map, drop, slice_get, Some, refl, ap}
 use Rattle.std.specs.List.{flat_map}
-use Rattle.vlog_tree.specs.Tree.{ModuleOf}
 use Rattle.vlog_size.specs.declared.scope.ScopeNet.{ScopeNet}
 use Rattle.vlog_size.specs.Table.{Named, value_of}
 use Rattle.vlog_scope.specs.Scope.{words_of}
 use Rattle.vlog_names.specs.Entries.{Names, declared}
-use Rattle.vlog_meaning.specs.Ports.{is_reg, has_reg}
+use Rattle.vlog_names.specs.Ports.{is_reg}
 use Rattle.vlog_elab.specs.Instances.{ModuleInstance}
 use Rattle.flat_parts.specs.Seats.{seats_from, seats_of}
-use Rattle.flat_registers.specs.Tables.{with_entries}
-use Rattle.flat_registers.specs.Marks.{instance_marks, seat_marks, reg_marks}
-use Rattle.flat_registers.proofs.Tables.{value_in}
+use Rattle.flat_parts.specs.Marks.{instance_marks, seat_marks, reg_marks}
 use Rattle.flat_registers.proofs.Steps.{drop_split}
 
 -- whether names that are declared so are regs
 abbrev pub marks_in : Names → List (Named ScopeNet) → List Bool
 marks_in names nets = map (λ (n : Named ScopeNet). is_reg (value_of names n.name)) nets
 
-marks_by : (m : ModuleOf ℕ) (nets : List (Named ScopeNet))
-    → marks_in (with_entries [] (declared m)) nets ≡ map (λ (n : Named ScopeNet). has_reg m n.name) nets
-marks_by m [] = refl
-marks_by m (n ∷ ns) =
-    ap (λ o. is_reg o ∷ marks_in (with_entries [] (declared m)) ns) (value_in (declared m) n.name)
-    ∙ ap (λ z. has_reg m n.name ∷ z) (marks_by m ns)
-
-pub marks_alike : (i : ModuleInstance) (names : Names) → names ≡ with_entries [] (declared i.tree)
-    → marks_in names i.scope.nets ≡ instance_marks i
-marks_alike i names is = ap (λ z. marks_in z i.scope.nets) is ∙ marks_by i.tree i.scope.nets
+pub marks_alike : (i : ModuleInstance) (names : Names) → names ≡ declared i.tree → marks_in names i.scope.nets ≡ instance_marks i
+marks_alike i names is = ap (λ z. marks_in z i.scope.nets) is
 
 pub marks_split : (names : Names) (nets : List (Named ScopeNet)) (j : ℕ) (n : Named ScopeNet) → slice_get nets j ≡ Some n
     → marks_in names (drop j nets) ≡ (is_reg (value_of names n.name) ∷ []) ++ marks_in names (drop (j + 1) nets)

@@ -9,7 +9,7 @@ use Rattle.vlog_size.specs.Size.{or_zero}
 use Rattle.vlog_size.specs.Table.{Named, value_of}
 use Rattle.vlog_scope.specs.Scope.{words_of}
 use Rattle.vlog_names.specs.Entries.{Names, declared}
-use Rattle.vlog_meaning.specs.Ports.{is_reg}
+use Rattle.vlog_names.specs.Ports.{is_reg}
 use Rattle.vlog_meaning.specs.Next.{initials}
 use Rattle.vlog_elab.specs.Instances.{ModuleInstance}
 use Rattle.flat_parts.specs.Seats.{seats_from, seats_of}
@@ -20,23 +20,20 @@ use Rattle.flat_registers.proofs.Tables.{value_in}
 use Rattle.flat_registers.proofs.Steps.{drop_split}
 
 told_by : (m : ModuleOf ℕ) (s : Scope) (net : ℕ) (ns : List (Named ScopeNet))
-    → told_regs (with_entries [] (declared m)) (with_entries [] (initials m s)) net ns ≡ regs_from m s net ns
+    → told_regs (declared m) (with_entries [] (initials m s)) net ns ≡ regs_from m s net ns
 told_by m s net [] = refl
 told_by m s net (n ∷ ns) =
-    let more = told_regs (with_entries [] (declared m)) (with_entries [] (initials m s)) (net + 1) ns in
-    ap (λ o. told_if (is_reg o)
-    (record { net = net; width = n.value.width; initial = or_zero (value_of (with_entries [] (initials m s)) n.name) }) ++ more)
-    (value_in (declared m) n.name)
-    ∙ ap (λ o. told_if (is_reg (value_of (declared m) n.name)) (record { net = net; width = n.value.width; initial = or_zero o }) ++ more)
+    let more = told_regs (declared m) (with_entries [] (initials m s)) (net + 1) ns in
+    ap (λ o. told_if (is_reg (value_of (declared m) n.name)) (record { net = net; width = n.value.width; initial = or_zero o }) ++ more)
     (value_in (initials m s) n.name)
     ∙ ap (λ z. told_if (is_reg (value_of (declared m) n.name))
     (record { net = net; width = n.value.width; initial = or_zero (value_of (initials m s) n.name) }) ++ z) (told_by m s (net + 1) ns)
 
 pub told_alike : (m : ModuleOf ℕ) (s : Scope) (names : Names) (numbers : List (Named ℕ)) (net : ℕ) (ns : List (Named ScopeNet))
-    → names ≡ with_entries [] (declared m) → numbers ≡ with_entries [] (initials m s)
+    → names ≡ declared m → numbers ≡ with_entries [] (initials m s)
     → told_regs names numbers net ns ≡ regs_from m s net ns
 told_alike m s names numbers net ns is are =
-    ap (λ z. told_regs z numbers net ns) is ∙ ap (λ z. told_regs (with_entries [] (declared m)) z net ns) are ∙ told_by m s net ns
+    ap (λ z. told_regs z numbers net ns) is ∙ ap (λ z. told_regs (declared m) z net ns) are ∙ told_by m s net ns
 
 pub told_split : (names : Names) (numbers : List (Named ℕ)) (first : ℕ) (nets : List (Named ScopeNet)) (j : ℕ) (n : Named ScopeNet)
     → slice_get nets j ≡ Some n → told_regs names numbers (first + j) (drop j nets)

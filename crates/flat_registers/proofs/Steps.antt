@@ -1,12 +1,12 @@
 -- A walk over places of a list, which adds what belongs to each.
 use Rattle.std.proofs.Common.{◌≡◌, ℕ, zero, suc, ◌+◌, ◌<◌, List, [], ◌∷◌, ◌++◌, length, map, drop, get_or, slice_get, Some, option_map}
-use Rattle.std.proofs.Common.{sym, ap, ◌∙◌, append_assoc, append-nil, arith}
+use Rattle.std.proofs.Common.{sym, ap, subst, ◌∙◌, append_assoc, append-nil, arith}
 use Rattle.std.proofs.lemmas.Option.{slice_get-get_or, slice_get-map}
-use Rattle.std.specs.List.{flat_map}
+use Rattle.std.specs.List.{flat_map, AllByRecursion}
+use Rattle.vidi_bits.proofs.Lists.{some_same}
 use Rattle.vlog_size.specs.declared.scope.ScopeNet.{ScopeNet}
 use Rattle.vlog_size.specs.Table.{Named}
 use Rattle.net_design.proofs.UpdateLaws.{from_here}
-use Rattle.flat_registers.proofs.Lists.{some_same}
 
 pub drop_split : {X : Type 0} (xs : List X) (j : ℕ) (x : X) → slice_get xs j ≡ Some x → drop j xs ≡ x ∷ drop (j + 1) xs
 drop_split [] j x h = absurd (cc)
@@ -30,6 +30,13 @@ flat_step own plain xs i x old new whole l at is e =
     ap (λ z. z ++ flat_map own (map plain (drop (i + 1) xs))) is
     ∙ append_assoc old (own (plain x)) (flat_map own (map plain (drop (i + 1) xs)))
     ∙ ap (λ z. old ++ z) (sym (ap (λ z. flat_map own (map plain z)) (from_here xs i x l at))) ∙ e
+
+-- what holds of all plain elements holds of that of an element
+pub plain_at : {X Y : Type 0} (P : X → Type 0) (plain : Y → X) (xs : List Y) (i : ℕ) (x : Y) → i < length xs → x ≡ get_or xs i x
+    → AllByRecursion P (map plain xs) → P (plain x)
+plain_at P plain [] i x l at h = absurd (omega (arith, l))
+plain_at P plain (y ∷ ys) zero x l at h = subst (λ z. P (plain z)) (sym at) h.0
+plain_at P plain (y ∷ ys) (suc i) x l at h = plain_at P plain ys i x (omega (arith, l)) at h.1
 
 -- nothing is left
 pub done_by : {A : Type 0} (old left whole : List A) → left ≡ [] → old ++ left ≡ whole → old ≡ whole

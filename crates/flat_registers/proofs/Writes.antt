@@ -1,10 +1,11 @@
 -- The bits that some `always @*` of the design writes are those that some `always @*` of the instance does.
 use Rattle.std.proofs.Common.{◌≡◌, ℕ, zero, suc, ◌+◌, ◌-◌, ◌<◌, ◌≤◌, nat_le, ◌&&◌, ◌||◌, Bool, true, false, List, [], ◌∷◌, ◌++◌}
 use Rattle.std.proofs.Common.{length, slice_get, Option, None, Some, refl, sym, ap, ◌∙◌, arith}
-use Rattle.std.proofs.lemmas.Bool.{leb-true, le-leb}
+use Rattle.std.proofs.lemmas.Bool.{leb-true, le-leb, and_parts}
 use Rattle.std.proofs.lemmas.Option.{slice_get_within}
 use Rattle.std.proofs.lemmas.List.Folds.{list_any-append}
 use Rattle.std.specs.List.{Contains, AllZip, list_any}
+use Rattle.std.proofs.Math.Bool.{and-false, or-false}
 use Rattle.vlog_tree.specs.Tree.{IdentOf, ExprOf, TargetOf, EventOf, PosedgeEvent, ImplicitEvent, AlwaysOf, InstanceOf}
 use Rattle.vlog_tree.specs.Tree.{ItemOf, WiresItem, DrivenWiresItem, RegsItem, LocalparamsItem, AssignItem, AlwaysItem, InstanceItem}
 use Rattle.vlog_size.specs.declared.scope.ScopeNet.{ScopeNet}
@@ -16,20 +17,20 @@ use Rattle.net_design.specs.Bits.{named}
 use Rattle.vlog_block.specs.Written.{always_writes}
 use Rattle.vlog_latch.specs.Blocks.{is_there}
 use Rattle.vlog_latch.proofs.There.{body_there}
-use Rattle.vlog_meaning.specs.Ports.{is_output}
+use Rattle.vlog_names.specs.Ports.{is_output}
 use Rattle.vlog_meaning.specs.Placed.{Placed, placed_items, names_at}
 use Rattle.vlog_meaning.specs.Settled.{event_writes, item_writes}
 use Rattle.vlog_meaning.specs.Items.{target_of}
-use Rattle.vlog_driver.specs.Spots.{Spot, bits_at}
+use Rattle.vlog_driver.specs.Sites.{Site, bits_at}
 use Rattle.vlog_driver.specs.Duties.{Duty, Assigns, Settles, Does, wire_duty, assign_duty, event_duties, output_duties, join_duties}
 use Rattle.vlog_driver.specs.Duties.{conn_duties}
 use Rattle.vlog_driver.specs.Held.{item_duties}
 use Rattle.vlog_elab.specs.Instances.{ModuleInstance}
-use Rattle.flat_parts.specs.Seats.{Seat, seats_of, spot_at, seat_named}
+use Rattle.flat_parts.specs.Seats.{Seat, seats_of, site_at, seat_named}
 use Rattle.flat_parts.specs.Drivers.{joined_duties, child_duties, duties_at, placed_duties, seat_duties, all_duties}
 use Rattle.flat_parts.specs.State.{always_writes_bit}
 use Rattle.flat_parts.specs.Laws.{IsNetOf, NetsHaveOneSeat}
-use Rattle.flat_registers.proofs.Lists.{and_parts, and_false, or_false, any_found, any_one, any_same, any_and, any_zip, any_flat}
+use Rattle.flat_registers.proofs.Lists.{any_found, any_one, any_same, any_and, any_zip, any_flat}
 use Rattle.flat_registers.proofs.Lists.{flat_none, map_none}
 
 -- ---- drivers and duties
@@ -57,40 +58,40 @@ own_writes x j k =
 
 -- the same of net m of the design
 abbrev pub seat_writes : ℕ → ℕ → Seat → Bool
-seat_writes m k x = nat_le x.net m && own_writes x (m - x.net) k
+seat_writes m k x = nat_le x.base.net m && own_writes x (m - x.base.net) k
 
 module _ (m k : ℕ) where
-  event_any : (event : EventOf ℕ) (p : Spot) (a : AlwaysOf ℕ)
-      → list_any (duty_writes m k) (event_duties event p a) ≡ (nat_le p.net m && event_writes event p.names a (m - p.net) k)
-  event_any (PosedgeEvent clock) p a = sym (and_false (nat_le p.net m))
-  event_any (ImplicitEvent parens) p a = or_false (bits_at p (always_writes p.names a) m k)
+  event_any : (event : EventOf ℕ) (p : Site) (a : AlwaysOf ℕ)
+      → list_any (duty_writes m k) (event_duties event p a) ≡ (nat_le p.base.net m && event_writes event p.names a (m - p.base.net) k)
+  event_any (PosedgeEvent clock) p a = sym (and-false (nat_le p.base.net m))
+  event_any (ImplicitEvent parens) p a = or-false (bits_at p (always_writes p.names a) m k)
 
-  item_any : (p : Spot) (item : ItemOf ℕ)
-      → list_any (duty_writes m k) (item_duties p item) ≡ (nat_le p.net m && item_writes p.names item (m - p.net) k)
-  item_any p (WiresItem range ids) = sym (and_false (nat_le p.net m))
-  item_any p (DrivenWiresItem range ws) = map_none (duty_writes m k) (wire_duty p) (λ w. refl) ws ∙ sym (and_false (nat_le p.net m))
-  item_any p (RegsItem range gs) = sym (and_false (nat_le p.net m))
-  item_any p (LocalparamsItem range vs) = sym (and_false (nat_le p.net m))
-  item_any p (AssignItem assigns) = map_none (duty_writes m k) (assign_duty p) (λ a. refl) assigns ∙ sym (and_false (nat_le p.net m))
+  item_any : (p : Site) (item : ItemOf ℕ)
+      → list_any (duty_writes m k) (item_duties p item) ≡ (nat_le p.base.net m && item_writes p.names item (m - p.base.net) k)
+  item_any p (WiresItem range ids) = sym (and-false (nat_le p.base.net m))
+  item_any p (DrivenWiresItem range ws) = map_none (duty_writes m k) (wire_duty p) (λ w. refl) ws ∙ sym (and-false (nat_le p.base.net m))
+  item_any p (RegsItem range gs) = sym (and-false (nat_le p.base.net m))
+  item_any p (LocalparamsItem range vs) = sym (and-false (nat_le p.base.net m))
+  item_any p (AssignItem assigns) = map_none (duty_writes m k) (assign_duty p) (λ a. refl) assigns ∙ sym (and-false (nat_le p.base.net m))
   item_any p (AlwaysItem a) = event_any a.event p a
-  item_any p (InstanceItem i) = sym (and_false (nat_le p.net m))
+  item_any p (InstanceItem i) = sym (and-false (nat_le p.base.net m))
 
-  output_none : (p q : Spot) (line : ℕ) (port : IdentOf ℕ) (o : Option (TargetOf ℕ))
+  output_none : (p q : Site) (line : ℕ) (port : IdentOf ℕ) (o : Option (TargetOf ℕ))
       → list_any (duty_writes m k) (output_duties p q line port o) ≡ false
   output_none p q line port None = refl
   output_none p q line port (Some target) = refl
 
-  join_none : (output : Bool) (p q : Spot) (line : ℕ) (port : IdentOf ℕ) (o : Option (ExprOf ℕ))
+  join_none : (output : Bool) (p q : Site) (line : ℕ) (port : IdentOf ℕ) (o : Option (ExprOf ℕ))
       → list_any (duty_writes m k) (join_duties output p q line port o) ≡ false
   join_none output p q line port None = refl
   join_none false p q line port (Some e) = refl
   join_none true p q line port (Some e) = output_none p q line port (target_of e)
 
-  joined_none : (p : Spot) (i : InstanceOf ℕ) (o : Option Seat) → list_any (duty_writes m k) (joined_duties p i o) ≡ false
+  joined_none : (p : Site) (i : InstanceOf ℕ) (o : Option Seat) → list_any (duty_writes m k) (joined_duties p i o) ≡ false
   joined_none p i None = refl
   joined_none p i (Some q) =
-      flat_none (duty_writes m k) (conn_duties (declared q.instance.tree) p (spot_at q q.instance.scope.declared))
-      (λ c. join_none (is_output (value_of (declared q.instance.tree) c.id.name)) p (spot_at q q.instance.scope.declared) c.line c.id
+      flat_none (duty_writes m k) (conn_duties (declared q.instance.tree) p (site_at q q.instance.scope.declared))
+      (λ c. join_none (is_output (value_of (declared q.instance.tree) c.id.name)) p (site_at q q.instance.scope.declared) c.line c.id
       c.value)
       i.ports
 
@@ -101,15 +102,15 @@ module _ (m k : ℕ) where
   child_none xs x n (LocalparamsItem range vs) = refl
   child_none xs x n (AssignItem assigns) = refl
   child_none xs x n (AlwaysItem a) = refl
-  child_none xs x n (InstanceItem i) = joined_none (spot_at x n) i (seat_named xs (x.instance.path ++ i.id.name ∷ []))
+  child_none xs x n (InstanceItem i) = joined_none (site_at x n) i (seat_named xs (x.instance.path ++ i.id.name ∷ []))
 
   duties_any : (xs : List Seat) (x : Seat) (n : ℕ) (item : ItemOf ℕ) → list_any (duty_writes m k) (duties_at xs x n item)
-      ≡ (nat_le x.net m && item_writes (names_at x.instance.scope n) item (m - x.net) k)
+      ≡ (nat_le x.base.net m && item_writes (names_at x.instance.scope n) item (m - x.base.net) k)
   duties_any xs x n item =
-      list_any-append (duty_writes m k) (item_duties (spot_at x n) item) (child_duties xs x n item)
-      ∙ ap (λ b. list_any (duty_writes m k) (item_duties (spot_at x n) item) || b) (child_none xs x n item)
-      ∙ or_false (list_any (duty_writes m k) (item_duties (spot_at x n) item))
-      ∙ item_any (spot_at x n) item
+      list_any-append (duty_writes m k) (item_duties (site_at x n) item) (child_duties xs x n item)
+      ∙ ap (λ b. list_any (duty_writes m k) (item_duties (site_at x n) item) || b) (child_none xs x n item)
+      ∙ or-false (list_any (duty_writes m k) (item_duties (site_at x n) item))
+      ∙ item_any (site_at x n) item
 
   -- ---- the duties of all instances
 
@@ -118,9 +119,9 @@ module _ (m k : ℕ) where
   seat_any xs x =
       any_flat (duty_writes m k) (placed_duties xs x) (placed_items x.instance.tree x.instance.scope)
       ∙ any_same (λ (p : Placed). list_any (duty_writes m k) (placed_duties xs x p))
-      (λ (p : Placed). nat_le x.net m && item_writes (names_at x.instance.scope p.declared) p.item (m - x.net) k)
+      (λ (p : Placed). nat_le x.base.net m && item_writes (names_at x.instance.scope p.declared) p.item (m - x.base.net) k)
       (λ p. duties_any xs x p.declared p.item) (placed_items x.instance.tree x.instance.scope)
-      ∙ any_and (nat_le x.net m) (λ (p : Placed). item_writes (names_at x.instance.scope p.declared) p.item (m - x.net) k)
+      ∙ any_and (nat_le x.base.net m) (λ (p : Placed). item_writes (names_at x.instance.scope p.declared) p.item (m - x.base.net) k)
       (placed_items x.instance.tree x.instance.scope)
 
   all_any : (xs : List Seat) → list_any (duty_writes m k) (all_duties xs) ≡ list_any (seat_writes m k) xs
@@ -157,26 +158,26 @@ own_below x j k h =
 
 module _ (one : NetsHaveOneSeat) (is : List ModuleInstance) (x : Seat) (j : ℕ) (n : Named ScopeNet) (c : Contains (seats_of is) x)
     (there : slice_get x.instance.scope.nets j ≡ Some n) where
-  pub own_net : IsNetOf (seats_of is) (x.net + j) x j
+  pub own_net : IsNetOf (seats_of is) (x.base.net + j) x j
   own_net = record { seat = c; place = refl; there = slice_get_within x.instance.scope.nets j n there }
 
-  other_writes : (k : ℕ) (y : Seat) → Contains (seats_of is) y → seat_writes (x.net + j) k y ≡ true → x ≡ y
+  other_writes : (k : ℕ) (y : Seat) → Contains (seats_of is) y → seat_writes (x.base.net + j) k y ≡ true → x ≡ y
   other_writes k y d h =
-      let parts = and_parts (nat_le y.net (x.net + j)) (own_writes y ((x.net + j) - y.net) k) h in
-      let l : y.net ≤ x.net + j = leb-true y.net (x.net + j) parts.0 in
-      let below = own_below y ((x.net + j) - y.net) k parts.1 in
-      (one is (x.net + j) j ((x.net + j) - y.net) x y own_net (record { seat = d; place = omega (arith, l); there = below })).0
+      let parts = and_parts (nat_le y.base.net (x.base.net + j)) (own_writes y ((x.base.net + j) - y.base.net) k) h in
+      let l : y.base.net ≤ x.base.net + j = leb-true y.base.net (x.base.net + j) parts.0 in
+      let below = own_below y ((x.base.net + j) - y.base.net) k parts.1 in
+      (one is (x.base.net + j) j ((x.base.net + j) - y.base.net) x y own_net (record { seat = d; place = omega (arith, l); there = below })).0
 
-  own_test : (k : ℕ) → seat_writes (x.net + j) k x ≡ own_writes x j k
+  own_test : (k : ℕ) → seat_writes (x.base.net + j) k x ≡ own_writes x j k
   own_test k =
-      let l : x.net ≤ x.net + j = omega arith in
-      let e : (x.net + j) - x.net ≡ j = omega arith in
-      ap (λ b. b && own_writes x ((x.net + j) - x.net) k) (le-leb x.net (x.net + j) l) ∙ ap (λ i. own_writes x i k) e
+      let l : x.base.net ≤ x.base.net + j = omega arith in
+      let e : (x.base.net + j) - x.base.net ≡ j = omega arith in
+      ap (λ b. b && own_writes x ((x.base.net + j) - x.base.net) k) (le-leb x.base.net (x.base.net + j) l) ∙ ap (λ i. own_writes x i k) e
 
   pub writes_alike : (drivers : List Driver) (k : ℕ) → AllZip Does (all_duties (seats_of is)) drivers
-      → always_writes_bit drivers (x.net + j) k ≡ own_writes x j k
+      → always_writes_bit drivers (x.base.net + j) k ≡ own_writes x j k
   writes_alike drivers k h =
-      drivers_write (all_duties (seats_of is)) drivers (x.net + j) k h
-      ∙ all_any (x.net + j) k (seats_of is)
-      ∙ any_one (seat_writes (x.net + j) k) x (seats_of is) c (other_writes k)
+      drivers_write (all_duties (seats_of is)) drivers (x.base.net + j) k h
+      ∙ all_any (x.base.net + j) k (seats_of is)
+      ∙ any_one (seat_writes (x.base.net + j) k) x (seats_of is) c (other_writes k)
       ∙ own_test k

@@ -1,4 +1,3 @@
 pub mod Laws
 pub mod Tables
-pub mod Marks
 pub mod Places

@@ -5,9 +5,9 @@ use Rattle.vlog_size.specs.declared.scope.ScopeNet.{ScopeNet}
 use Rattle.vlog_size.specs.Size.{or_zero}
 use Rattle.vlog_size.specs.Table.{Named, value_of}
 use Rattle.vlog_names.specs.Entries.{Names}
-use Rattle.vlog_meaning.specs.Ports.{is_reg}
+use Rattle.vlog_names.specs.Ports.{is_reg}
 use Rattle.vlog_elab.specs.Instances.{ModuleInstance}
-use Rattle.vlog_operators.specs.Number.{has}
+use Rattle.vidi_bits.specs.Number.{has}
 use Rattle.net_design.specs.declared.design.Driver.{Driver}
 use Rattle.flat_parts.specs.State.{RegPlace, regs_from, always_writes_bit}
 use Rattle.flat_registers.specs.declared.places.RegNet.{RegNet}

@@ -4,14 +4,13 @@ ghost use Rattle.std.specs.Prelude.{◌≡◌, ℕ, ◌∷◌, [], OnOk, IfOk, m
 ghost use Rattle.std.specs.List.{flat_map};
 ghost use Rattle.vlog_tree.specs.Tree.{PortOf, Reg1Of};
 ghost use Rattle.vlog_tree.specs.Plain.{plain_module, plain_item, plain_ident, plain_expr, plain_port, plain_reg};
-ghost use Rattle.vlog_size.specs.Table.{value_of};
+ghost use Rattle.vlog_size.specs.Table.{added, value_of};
 ghost use Rattle.vlog_meaning.specs.Placed.{Placed, placed, names_at};
 ghost use Rattle.vlog_meaning.specs.Next.{net_width, initial_at, port_initials, reg_initials, item_initials, initials};
 ghost use Rattle.flat_registers.specs.Tables.{with_entries};
 
-use crate::names::declare;
 use std::alloc::Global;
-use vidi_bits::Memory;
+use vidi_bits::{Memory, Name, copied};
 use vlog_scope::{declared_after, view_at};
 use vlog_size::{Scope, Table, assigned_number, checked, fixed};
 use vlog_tree::{Expr, Ident, Item, Module, Port, Reg1, RegTail};
@@ -38,6 +37,14 @@ fn initial_of(scope: &Scope, declared: usize, id: &Ident, e: &Expr) -> Result<u1
     let view = checked(&view_at(scope, declared));
     let number = assigned_number(&fixed(&view), e, width);
     Ok(number.unwrap_or(0))
+}
+
+/// Adds a name and its number; a name that is there keeps its number.
+fn declare(alloc: Global, table: &mut Table<u128>, name: &Name, number: u128) -> Result<(), Memory>
+    ensures { OnOk result (table.new ≡ added table.old name.now number) }
+{
+    let copy = copied(alloc, name.as_slice())?;
+    table.push(copy, number)
 }
 
 /// Adds an initialiser.

@@ -3,16 +3,16 @@
 ghost use Rattle.std.specs.Prelude.{◌≡◌, ◌++◌, ◌∷◌, [], OnOk, IfOk, Some, map, slice_get};
 ghost use Rattle.vlog_size.specs.declared.scope.ScopeNet.{ScopeNet};
 ghost use Rattle.vlog_size.specs.Table.{Named, value_of};
-ghost use Rattle.vlog_meaning.specs.Ports.{is_reg};
+ghost use Rattle.vlog_names.specs.Ports.{is_reg};
 ghost use Rattle.vlog_elab.specs.Plain.{plain_instance, plain_instances};
+ghost use Rattle.flat_parts.specs.Instances.{IsDeclaredIn, AreDeclaredIn};
 ghost use Rattle.flat_parts.specs.Seats.{seats_of};
-ghost use Rattle.flat_registers.specs.Marks as marks;
+ghost use Rattle.flat_parts.specs.Marks as marks;
 
-use crate::names::{declarations_of, is_reg};
 use std::alloc::Global;
 use vidi_bits::{Items, Memory};
 use vlog_elab::ModuleInstance;
-use vlog_names::Declarations;
+use vlog_names::{Declarations, ModuleTable, is_reg};
 use vlog_size::ScopeNets;
 
 /// Adds whether the net at this place is a reg. There is one.
@@ -43,28 +43,36 @@ fn add_marks(names: &Declarations, nets: &ScopeNets, out: &mut Items<bool>) -> R
 
 /// Adds the same for the nets of an instance.
 fn add_instance(
-    alloc: Global,
+    modules: &ModuleTable,
     instance: &ModuleInstance<'_>,
     out: &mut Items<bool>,
 ) -> Result<(), Memory>
+    requires { IsDeclaredIn modules.now (plain_instance instance.now) }
     ensures { OnOk result (out.new ≡ out.old ++ marks.instance_marks (plain_instance instance.now)) }
 {
-    let names = declarations_of(alloc, instance.tree)?;
-    add_marks(&names, &instance.scope.nets, out)
+    let Some(names) = modules.value_at(instance.place) else {
+        return Err(Memory);
+    };
+    add_marks(names, &instance.scope.nets, out)
 }
 
 /// For each net of the instances, in the order of the flat design's nets, whether it is a reg, also an `output reg` (IEEE 1364-2005,
-/// 4.2.2).
+/// 4.2.2). By condition the table has what each instance's module declares.
 ///
 /// # Errors
 ///
 /// `Memory`.
-pub fn reg_marks(alloc: Global, list: &[ModuleInstance<'_>]) -> Result<Items<bool>, Memory>
+pub fn reg_marks(
+    alloc: Global,
+    modules: &ModuleTable,
+    list: &[ModuleInstance<'_>],
+) -> Result<Items<bool>, Memory>
+    requires { AreDeclaredIn modules.now (plain_instances list.now) }
     ensures { IfOk result (λ bs. bs ≡ marks.reg_marks (seats_of (plain_instances list.now))) }
 {
     let mut out = Items::new(alloc);
     for instance in list {
-        add_instance(alloc, instance, &mut out)?;
+        add_instance(modules, instance, &mut out)?;
     }
     Ok(out)
 }

@@ -5,16 +5,16 @@ ghost use Rattle.vlog_size.specs.declared.scope.ScopeNet.{ScopeNet};
 ghost use Rattle.vlog_size.specs.Table.{Named, value_of};
 ghost use Rattle.vlog_size.specs.Size.{or_zero};
 ghost use Rattle.vlog_elab.specs.Plain.{plain_instance, plain_instances};
+ghost use Rattle.flat_parts.specs.Instances.{IsDeclaredIn, AreDeclaredIn};
 ghost use Rattle.flat_parts.specs.Seats.{seats_of};
 ghost use Rattle.flat_parts.specs.State.{regs_from, all_regs};
 ghost use Rattle.flat_registers.specs.Places.{plain_places, reg_named, told_reg, told_regs};
 
 use crate::initials::initials_of;
-use crate::names::{declarations_of, is_reg};
 use std::alloc::Global;
 use vidi_bits::{Items, Memory};
 use vlog_elab::ModuleInstance;
-use vlog_names::Declarations;
+use vlog_names::{Declarations, ModuleTable, is_reg};
 use vlog_size::{ScopeNets, Table};
 
 /// A reg of the flat design.
@@ -98,16 +98,20 @@ fn add_nets(
 /// Adds the regs of an instance, whose first net this is.
 fn add_instance(
     alloc: Global,
+    modules: &ModuleTable,
     instance: &ModuleInstance<'_>,
     first: usize,
     out: &mut Items<RegNet>,
 ) -> Result<(), Memory>
+    requires { IsDeclaredIn modules.now (plain_instance instance.now) }
     ensures { OnOk result (plain_places out.new ≡ plain_places out.old ++ regs_from (plain_instance instance.now).tree
         (plain_instance instance.now).scope first (plain_instance instance.now).scope.nets) }
 {
-    let names = declarations_of(alloc, instance.tree)?;
+    let Some(names) = modules.value_at(instance.place) else {
+        return Err(Memory);
+    };
     let initials = initials_of(alloc, instance.tree, &instance.scope)?;
-    add_nets(&names, &initials, &instance.scope.nets, first, out)
+    add_nets(names, &initials, &instance.scope.nets, first, out)
 }
 
 /// The sum of two counts.
@@ -121,13 +125,18 @@ fn sum(a: usize, b: usize) -> Result<usize, Memory>
 }
 
 /// The regs of all instances, in the order of the flat design's nets.
-pub fn reg_nets(alloc: Global, list: &[ModuleInstance<'_>]) -> Result<Items<RegNet>, Memory>
+pub fn reg_nets(
+    alloc: Global,
+    modules: &ModuleTable,
+    list: &[ModuleInstance<'_>],
+) -> Result<Items<RegNet>, Memory>
+    requires { AreDeclaredIn modules.now (plain_instances list.now) }
     ensures { IfOk result (λ rs. plain_places rs ≡ all_regs (seats_of (plain_instances list.now))) }
 {
     let mut out = Items::new(alloc);
     let mut first = 0;
     for instance in list {
-        add_instance(alloc, instance, first, &mut out)?;
+        add_instance(alloc, modules, instance, first, &mut out)?;
         first = sum(first, instance.scope.nets.len())?;
     }
     Ok(out)

@@ -5,6 +5,7 @@ ghost use Rattle.std.specs.List.{AllZip};
 ghost use Rattle.net_design.specs.declared.design.Driver.{Driver};
 ghost use Rattle.net_code.specs.BitMap.{in_map};
 ghost use Rattle.vlog_elab.specs.Plain.{plain_instances};
+ghost use Rattle.flat_parts.specs.Instances.{AreDeclaredIn};
 ghost use Rattle.flat_parts.specs.Seats.{seats_of};
 ghost use Rattle.flat_parts.specs.State.{all_regs, always_writes_bit, IsRegisterOf};
 ghost use Rattle.flat_registers.specs.Places.{plain_place, plain_places, IsWrittenAt};
@@ -16,6 +17,7 @@ use net_design::{Driver, Register};
 use std::alloc::Global;
 use vidi_bits::{Items, Memory, ones};
 use vlog_elab::ModuleInstance;
+use vlog_names::ModuleTable;
 
 /// The register of a reg, of which some `always @*` writes these bits. `Memory` where it hasn't 1 to 128 bits.
 fn register_of(reg: &RegNet, written: u128) -> Result<Register, Memory>
@@ -47,19 +49,22 @@ fn registers_of(alloc: Global, regs: &[RegNet], written: &BitMap) -> Result<Item
 }
 
 /// The registers of the flat design that these instances and drivers make: of each reg the bits that no `always @*` writes, with what its
-/// initialiser makes of them, else 0 (IEEE 1364-2005, 4.2.2; this project's profile), in the order of the nets.
+/// initialiser makes of them, else 0 (IEEE 1364-2005, 4.2.2; this project's profile), in the order of the nets. By condition the table has
+/// what each instance's module declares.
 ///
 /// # Errors
 ///
 /// `Memory`: there isn't enough memory, a reg hasn't 1 to 128 bits, or the nets can't be counted in 64 bits.
 pub fn registers(
     alloc: Global,
+    modules: &ModuleTable,
     list: &[ModuleInstance<'_>],
     drivers: &[Driver],
 ) -> Result<Items<Register>, Memory>
+    requires { AreDeclaredIn modules.now (plain_instances list.now) }
     ensures { IfOk result (λ rs. AllZip (IsRegisterOf drivers.now) (all_regs (seats_of (plain_instances list.now))) rs) }
 {
-    let regs = reg_nets(alloc, list)?;
+    let regs = reg_nets(alloc, modules, list)?;
     let written = always_bits(alloc, drivers)?;
     registers_of(alloc, regs.as_slice(), &written)
 }

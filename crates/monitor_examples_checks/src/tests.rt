@@ -2,8 +2,8 @@
 //! valids, readies, starts and ends.
 
 ghost use Rattle.std.specs.Prelude.{◌≡◌, ◌<◌, All, IfOk, length};
+ghost use Rattle.run_model.specs.Offers.{AreZeroWhileDown};
 ghost use Rattle.trace_model.specs.Row.{AreOffers};
-ghost use Rattle.chan_monitor.specs.Shell.{AreZeroWhileDown};
 ghost use Rattle.run_examples_checks.specs.Stage.{stage_channels, stage_map};
 ghost use Rattle.monitor_examples_checks.specs.Send.{IsSend};
 ghost use Rattle.run_examples_checks.specs.Pass.{IsPass, pass_name};

@@ -3,16 +3,16 @@ use Rattle.std.proofs.Common.{◌≡◌, ℕ, ◌+◌, ◌-◌, ◌^◌, ◌<◌
 use Rattle.std.proofs.Common.{List, [], ◌∷◌, ◌++◌, length, get_or, drop, bit_and, refl, ap, sym, subst, ◌∙◌}
 use Rattle.std.proofs.lemmas.List.Folds.{list_any-append}
 use Rattle.std.proofs.lemmas.Bool.{eqb-true}
+use Rattle.std.proofs.Math.Bool.{or-false, or_assoc}
 use Rattle.net_design.specs.declared.rhs.Span.{Span}
 use Rattle.net_design.specs.declared.act.Mask.{Mask}
 use Rattle.net_code.specs.declared.bit_map.BitMap.{BitMap}
-use Rattle.vlog_operators.specs.Number.{has}
+use Rattle.vidi_bits.specs.Number.{has}
 use Rattle.net_design.specs.declared.act.Place.{Place}
 use Rattle.net_design.specs.Bits.{BitSet, named, bits_of, place_reads, place_writes, target_reads, target_writes}
 use Rattle.net_code.specs.BitMap.{mask_of, in_map}
 use Rattle.net_code.specs.Found.{Reads, Learns}
 use Rattle.net_code.proofs.MaskLaws.{has_less, has_and}
-use Rattle.net_design.proofs.BoolLaws.{or_assoc}
 use Rattle.net_design.proofs.UpdateLaws.{from_here}
 
 -- ---- Bool
@@ -107,10 +107,10 @@ learn_nothing p known fresh h = record {
       (sym (h m k));
 }
 
-pub learn_both : (p q : BitSet) (known mid end : BitMap) (fresh new last : List Mask) → Learns p known mid fresh new
-    → Learns q mid end new last
-    → Learns (λ m k. p m k || q m k) known end fresh last
-learn_both p q known mid end fresh new last a b = record {
+pub learn_both : (p q : BitSet) (known mid end : BitMap) (fresh new or-false : List Mask) → Learns p known mid fresh new
+    → Learns q mid end new or-false
+    → Learns (λ m k. p m k || q m k) known end fresh or-false
+learn_both p q known mid end fresh new or-false a b = record {
   bits = λ m k. b.bits m k ∙ ap (λ z. z || q m k) (a.bits m k) ∙ or_assoc (in_map known m k) (p m k) (q m k);
   masks = λ m k.
       b.masks m k
@@ -132,15 +132,11 @@ or_fresh true p = refl
 or_fresh false true = refl
 or_fresh false false = refl
 
-last : (b : Bool) → (b || false) ≡ b
-last true = refl
-last false = refl
-
 pub push_named : (fresh : List Mask) (x : Mask) (m k : ℕ) → named (fresh ++ x ∷ []) m k ≡
     (named fresh m k || ((x.net == m) && has x.bits k))
 push_named fresh x m k =
     list_any-append (λ (y : Mask). (y.net == m) && has y.bits k) fresh (x ∷ [])
-    ∙ ap (λ b. named fresh m k || b) (last ((x.net == m) && has x.bits k))
+    ∙ ap (λ b. named fresh m k || b) (or-false ((x.net == m) && has x.bits k))
 
 pub learn_one : (net bits mask : ℕ) (known after : BitMap) (fresh new : List Mask) → bits < 2 ^ 128 → mask < 2 ^ 128
     → mask ≡ mask_of known net
@@ -166,10 +162,10 @@ LearnsRest whole rest known now fresh new =
     ((m k : ℕ) → (in_map now m k || rest m k) ≡ (in_map known m k || whole m k))
     × ((m k : ℕ) → (named new m k || (rest m k && not (in_map now m k))) ≡ (named fresh m k || (whole m k && not (in_map known m k))))
 
-pub rest_step : (whole p rest later : BitSet) (known now mid : BitMap) (fresh new last : List Mask)
+pub rest_step : (whole p rest later : BitSet) (known now mid : BitMap) (fresh new or-false : List Mask)
     → ((m k : ℕ) → rest m k ≡ (p m k || later m k))
-    → LearnsRest whole rest known now fresh new → Learns p now mid new last → LearnsRest whole later known mid fresh last
-rest_step whole p rest later known now mid fresh new last split h a = (
+    → LearnsRest whole rest known now fresh new → Learns p now mid new or-false → LearnsRest whole later known mid fresh or-false
+rest_step whole p rest later known now mid fresh new or-false split h a = (
   (λ m k.
       ap (λ z. z || later m k) (a.bits m k) ∙ or_assoc (in_map now m k) (p m k) (later m k)
       ∙ ap (λ b. in_map now m k || b) (sym (split m k)) ∙ h.0 m k),

@@ -7,3 +7,5 @@ pub mod MaskLaws
 pub mod FoundLaws
 pub mod RowBits
 pub mod WalkLaws
+pub mod TallyLaws
+pub mod TargetRows

@@ -10,16 +10,17 @@ use Rattle.std.specs.Ordering.{nat_cmp, eq_by_cmp}
 use Rattle.std.specs.Map.{lookup, keys_of}
 use Rattle.std.specs.BTreeMap.{is_at}
 use Rattle.std.specs.Cmp.{unsigned_tied}
-use Rattle.std.proofs.lemmas.Bool.{cases_lt, leb-true, le-leb, ltb-true, lt-ltb, eqb-true, eq-eqb}
+use Rattle.std.proofs.lemmas.Bool.{cases_lt, leb-true, le-leb, ltb-true, lt-ltb, eqb-true, eq-eqb, false_from_ne_true}
 use Rattle.std.proofs.lemmas.List.Folds.{list_any-append}
 use Rattle.std.proofs.lemmas.Nat.Bits.{bit_at-zero, bit_at-lt, bit_at_and, bit_at_or, bit_at_not, bit_at_above, bit_at_ones}
+use mathlib.Core.Path.{fun_ext}
+use Rattle.vidi_bits.proofs.Bools.{and_none, or_none, and_true, same_test}
 use Rattle.vidi_bits.proofs.BitLemmas.{bit_at-mod_above, bit_at-put_below, bit_at-put_inside, bit_at-put_above}
 use Rattle.net_design.specs.declared.act.Mask.{Mask}
 use Rattle.net_code.specs.declared.bit_map.BitMap.{BitMap}
-use Rattle.vlog_operators.specs.Number.{has, put_of}
-use Rattle.net_design.specs.Bits.{named}
+use Rattle.vidi_bits.specs.Number.{has, put_of}
+use Rattle.net_design.specs.Bits.{named, BitSet}
 use Rattle.net_code.specs.BitMap.{mask_of, in_map}
-use Rattle.net_design.proofs.BoolLaws.{by_true, or_none, and_true, same_test}
 
 -- ---- one bit
 max_bits : (x y : ℕ) → x < 2 → y < 2 → (max x y == 1) ≡ ((x == 1) || (y == 1))
@@ -60,7 +61,7 @@ has_less a b k la lb = ⊎_elim
 pub has_span : (low w k : ℕ) → low + w ≤ 128 → has (put_of 0 low w (2 ^ w - 1)) k ≡ (nat_le low k && nat_lt k (low + w))
 has_span low w k l = ⊎_elim
     (λ (below : k < low).
-    let out : nat_le low k ≡ false = by_true _ (λ t. let h : low ≤ k = leb-true _ _ t in omega arith) in
+    let out : nat_le low k ≡ false = false_from_ne_true _ (λ t. let h : low ≤ k = leb-true _ _ t in omega arith) in
     ap (λ n. n == 1) (bit_at-put_below 0 low w (2 ^ w - 1) k (omega arith) below ∙ bit_at-zero k)
     ∙ sym (ap (λ b. b && nat_lt k (low + w)) out))
     (λ (from : low ≤ k). ⊎_elim
@@ -68,7 +69,7 @@ has_span low w k l = ⊎_elim
     ap (λ n. n == 1) (bit_at-put_inside 0 low w (2 ^ w - 1) k (omega arith) from inside ∙ bit_at_ones w (k - low) (omega arith))
     ∙ sym (ap (λ b. b && nat_lt k (low + w)) (le-leb low k from) ∙ lt-ltb k (low + w) inside))
     (λ (above : low + w ≤ k).
-    let out : nat_lt k (low + w) ≡ false = by_true _ (λ t. let h : k < low + w = ltb-true _ _ t in omega arith) in
+    let out : nat_lt k (low + w) ≡ false = false_from_ne_true _ (λ t. let h : k < low + w = ltb-true _ _ t in omega arith) in
     let none : bit_at (put_of 0 low w (2 ^ w - 1)) k ≡ 0 = ⊎_elim
     (λ (small : k < 128). bit_at-put_above 0 low w (2 ^ w - 1) k small above ∙ bit_at-zero k)
     (λ (large : 128 ≤ k). bit_at-mod_above ((0 / 2 ^ (low + w) * 2 ^ w + (2 ^ w - 1) % 2 ^ w) * 2 ^ low + 0 % 2 ^ low) 128 k large)
@@ -102,15 +103,11 @@ module _ (old new : BitMap) (net mask bits : ℕ) where
   removed is lm lb all m k =
       ap (λ n. has n k) (all m) ∙ remove_case (net == m) mask bits (mask_of old m) k lm lb (λ t. is ∙ ap (mask_of old) (eqb-true net m t))
 
-and_false : (b : Bool) → false ≡ (b && false)
-and_false true = refl
-and_false false = refl
-
 -- no bits are added
 pub none_added : (net bits m k : ℕ) (b : Bool) → bits ≡ 0 → b ≡ (b || ((net == m) && has bits k))
 none_added net bits m k b e =
     let z : has bits k ≡ false = ap (λ n. has n k) e ∙ has_zero k in
-    or_none b ∙ ap (λ c. b || c) (and_false (net == m) ∙ ap (λ c. (net == m) && c) (sym z))
+    or_none b ∙ ap (λ c. b || c) (and_none (net == m) ∙ ap (λ c. (net == m) && c) (sym z))
 
 pub none_in : (b : BitMap) → b.masks.entries ≡ [] → (m k : ℕ) → in_map b m k ≡ false
 unfolding in_map
@@ -174,3 +171,14 @@ and_bits (suc (suc x)) y l h = absurd (omega arith)
 
 pub has_and : (a b k : ℕ) → has (bit_and a b) k ≡ (has a k && has b k)
 has_and a b k = ap (λ n. n == 1) (bit_at_and a b k) ∙ and_bits (bit_at a k) (bit_at b k) (bit_at-lt a k) (bit_at-lt b k)
+
+-- a set's mask of a net
+pub net_is : (set : BitMap) (m k n : ℕ) → n ≡ mask_of set m → has n k ≡ in_map set m k
+unfolding in_map
+net_is set m k n e = ap (λ x. has x k) e
+
+pub one_key : (key m : ℕ) → ((key == m) && has 1 0) ≡ (key == m)
+one_key key m = sym (and_true (key == m))
+
+pub same_sets : (p q : BitSet) → ((m k : ℕ) → p m k ≡ q m k) → p ≡ q
+same_sets p q h = fun_ext (λ m. fun_ext (λ k. h m k))

@@ -2,7 +2,9 @@
 use Rattle.std.proofs.Common.{◌≡◌, ℕ, ◌+◌, ◌-◌, ◌≤◌, ◌==◌, ◌&&◌, ◌||◌, not, nat_le, nat_lt, Bool, true, false, List, [], ◌∷◌, map, refl, ap}
 use Rattle.std.proofs.Common.{sym, ◌∙◌, arith}
 use Rattle.std.specs.List.{list_any}
-use Rattle.std.proofs.lemmas.Bool.{eqb-true, eq-eqb, leb-true, le-leb}
+use Rattle.std.proofs.lemmas.Bool.{eqb-true, eq-eqb, leb-true, le-leb, and_parts}
+use Rattle.std.proofs.Math.Bool.{and_assoc}
+use Rattle.vidi_bits.proofs.Bools.{and_none, same_test}
 use Rattle.net_design.specs.declared.rhs.Span.{Span}
 use Rattle.net_design.specs.declared.rhs.Rhs.{Rhs, Number, Bits, Word', Unary', Binary', Choose', Join', Repeat', Select'}
 use Rattle.net_design.specs.declared.act.Place.{Place}
@@ -13,23 +15,15 @@ use Rattle.net_design.specs.declared.act.Act.{more_of-Guard}
 use Rattle.net_design.specs.declared.act.Code.{Code}
 use Rattle.net_design.specs.declared.act.Timing.{Timing}
 use Rattle.net_design.specs.declared.act.Timing.TheVariants.{Blocking, Nonblocking}
-use Rattle.vlog_operators.specs.Number.{has}
+use Rattle.vidi_bits.specs.Number.{has}
 use Rattle.net_design.specs.Bits.{BitSet, no_bits, bits_of, named, reads, place_reads, place_writes, place_adds, target_reads}
 use Rattle.net_design.specs.Bits.{target_writes, target_adds, Apart, writes, writes_guards, writes_row, adds, adds_guards, adds_row}
 use Rattle.net_design.specs.Bits.{known_after, open_reads, open_reads_guards, open_reads_row}
 use Rattle.net_design.specs.Bits.{HasBits, block_writes, block_adds, block_open_reads, block_reads, place_is_word, writes_words}
 use Rattle.net_design.specs.Bits.{guards_write_words, row_writes_words, block_writes_words}
 use Rattle.net_code.specs.Moved.{moved_span, moved_rhs, moved_place, moved_act, moved_guards, moved_row, moved_mask, moved_bits, moved}
-use Rattle.net_design.proofs.BoolLaws.{same_test, and_parts}
 
 -- ---- Bool
-no : (b : Bool) → false ≡ (b && false)
-no true = refl
-no false = refl
-
-under_and : (b q r : Bool) → ((b && q) && r) ≡ (b && (q && r))
-under_and true q r = refl
-under_and false q r = refl
 
 under_or : (b x y p q : Bool) → x ≡ (b && p) → y ≡ (b && q) → (x || y) ≡ (b && (p || q))
 under_or true x y p q h k = ap (λ z. z || y) h ∙ ap (λ z. p || z) k
@@ -48,7 +42,7 @@ both_of x x' y y' h k = ap (λ z. z || y) h ∙ ap (λ z. x' || z) k
 
 all_of : (b g h o o' : Bool) → (b ≡ true → g ≡ h) → o ≡ (b && o') → (g && o) ≡ (b && (h && o'))
 all_of true g h o o' e k = ap (λ z. z && o) (e refl) ∙ ap (λ z. h && z) k
-all_of false g h o o' e k = ap (λ z. g && z) k ∙ sym (no g)
+all_of false g h o o' e k = ap (λ z. g && z) k ∙ sym (and_none g)
 
 module _ (net word : ℕ) where
   place_test : (a m : ℕ) → ((net + a) == m) ≡ (nat_le net m && (a == m - net))
@@ -64,16 +58,16 @@ module _ (net word : ℕ) where
 
   span_moved : (s : Span) (m k : ℕ) → bits_of (moved_span net word s) m k ≡ moved_bits net word (bits_of s) m k
   span_moved s m k =
-      ap (λ b. b && (nat_le s.low k && nat_lt k (s.low + s.width))) (place_test s.net m) ∙ under_and (nat_le net m) (s.net == m - net) _
+      ap (λ b. b && (nat_le s.low k && nat_lt k (s.low + s.width))) (place_test s.net m) ∙ and_assoc (nat_le net m) (s.net == m - net) _
 
   pub named_moved : (masks : List Mask) (m k : ℕ) → named (map (moved_mask net word) masks) m k ≡ moved_bits net word (named masks) m k
-  named_moved [] m k = no (nat_le net m)
+  named_moved [] m k = and_none (nat_le net m)
   named_moved (x ∷ masks) m k =
       under_or (nat_le net m) _ _ ((x.net == m - net) && has x.bits k) (named masks (m - net) k)
-      (ap (λ b. b && has x.bits k) (place_test x.net m) ∙ under_and (nat_le net m) (x.net == m - net) _) (named_moved masks m k)
+      (ap (λ b. b && has x.bits k) (place_test x.net m) ∙ and_assoc (nat_le net m) (x.net == m - net) _) (named_moved masks m k)
 
   pub reads_moved : (e : Rhs) (m k : ℕ) → reads (moved_rhs net word e) m k ≡ moved_bits net word (reads e) m k
-  reads_moved (Number n) m k = no (nat_le net m)
+  reads_moved (Number n) m k = and_none (nat_le net m)
   reads_moved (Bits s) m k = span_moved s m k
   reads_moved (Word' r p i) m k = reads_moved i m k
   reads_moved (Unary' op p a w) m k = reads_moved a m k
@@ -85,7 +79,7 @@ module _ (net word : ℕ) where
   reads_moved (Select' p a q i w) m k = under_or (nat_le net m) _ _ _ _ (reads_moved a m k) (reads_moved i m k)
 
   place_reads_moved : (p : Place) (m k : ℕ) → place_reads (moved_place net word p) m k ≡ moved_bits net word (place_reads p) m k
-  place_reads_moved (PlaceBits s n) m k = no (nat_le net m)
+  place_reads_moved (PlaceBits s n) m k = and_none (nat_le net m)
   place_reads_moved (BitsFrom s i w) m k = reads_moved i m k
   place_reads_moved (PlaceWord r i low w n) m k = reads_moved i m k
   place_reads_moved (WordFrom r i size j w) m k = under_or (nat_le net m) _ _ _ _ (reads_moved i m k) (reads_moved j m k)
@@ -93,53 +87,53 @@ module _ (net word : ℕ) where
   place_writes_moved : (p : Place) (m k : ℕ) → place_writes (moved_place net word p) m k ≡ moved_bits net word (place_writes p) m k
   place_writes_moved (PlaceBits s n) m k = span_moved s m k
   place_writes_moved (BitsFrom s i w) m k = span_moved s m k
-  place_writes_moved (PlaceWord r i low w n) m k = no (nat_le net m)
-  place_writes_moved (WordFrom r i size j w) m k = no (nat_le net m)
+  place_writes_moved (PlaceWord r i low w n) m k = and_none (nat_le net m)
+  place_writes_moved (WordFrom r i size j w) m k = and_none (nat_le net m)
 
   place_adds_moved : (p : Place) (m k : ℕ) → place_adds (moved_place net word p) m k ≡ moved_bits net word (place_adds p) m k
   place_adds_moved (PlaceBits s n) m k = span_moved s m k
-  place_adds_moved (BitsFrom s i w) m k = no (nat_le net m)
-  place_adds_moved (PlaceWord r i low w n) m k = no (nat_le net m)
-  place_adds_moved (WordFrom r i size j w) m k = no (nat_le net m)
+  place_adds_moved (BitsFrom s i w) m k = and_none (nat_le net m)
+  place_adds_moved (PlaceWord r i low w n) m k = and_none (nat_le net m)
+  place_adds_moved (WordFrom r i size j w) m k = and_none (nat_le net m)
 
   target_reads_moved : (ps : List Place) (m k : ℕ) → target_reads (map (moved_place net word) ps) m k ≡ moved_bits net word
       (target_reads ps) m k
-  target_reads_moved [] m k = no (nat_le net m)
+  target_reads_moved [] m k = and_none (nat_le net m)
   target_reads_moved (p ∷ ps) m k = under_or (nat_le net m) _ _ _ _ (place_reads_moved p m k) (target_reads_moved ps m k)
 
   target_writes_moved : (ps : List Place) (m k : ℕ) → target_writes (map (moved_place net word) ps) m k ≡ moved_bits net word
       (target_writes ps) m k
-  target_writes_moved [] m k = no (nat_le net m)
+  target_writes_moved [] m k = and_none (nat_le net m)
   target_writes_moved (p ∷ ps) m k = under_or (nat_le net m) _ _ _ _ (place_writes_moved p m k) (target_writes_moved ps m k)
 
   target_adds_moved : (ps : List Place) (m k : ℕ) → target_adds (map (moved_place net word) ps) m k ≡ moved_bits net word
       (target_adds ps) m k
-  target_adds_moved [] m k = no (nat_le net m)
+  target_adds_moved [] m k = and_none (nat_le net m)
   target_adds_moved (p ∷ ps) m k = under_or (nat_le net m) _ _ _ _ (place_adds_moved p m k) (target_adds_moved ps m k)
 
   -- ---- statements
   mutual
     writes_moved : (a : Act) (m k : ℕ) → writes (moved_act net word a) m k ≡ moved_bits net word (writes a) m k
     writes_moved (Set target e) m k = target_writes_moved target m k
-    writes_moved (Read e) m k = no (nat_le net m)
+    writes_moved (Read e) m k = and_none (nat_le net m)
     writes_moved (Branch' n guards l otherwise) m k =
         under_or (nat_le net m) _ _ _ _ (guard_writes_moved guards m k) (row_writes_moved otherwise m k)
 
     guard_writes_moved : {n : _} → (row : Row_of-Guard n) (m k : ℕ) → writes_guards (moved_guards net word row) m k ≡ moved_bits net word
         (writes_guards row) m k
-    guard_writes_moved end_of-Guard m k = no (nat_le net m)
+    guard_writes_moved end_of-Guard m k = and_none (nat_le net m)
     guard_writes_moved (more_of-Guard c n body rest) m k =
         under_or (nat_le net m) _ _ _ _ (row_writes_moved body m k) (guard_writes_moved rest m k)
 
     row_writes_moved : {n : _} → (row : Row_of-Act n) (m k : ℕ) → writes_row (moved_row net word row) m k ≡ moved_bits net word
         (writes_row row) m k
-    row_writes_moved end_of-Act m k = no (nat_le net m)
+    row_writes_moved end_of-Act m k = and_none (nat_le net m)
     row_writes_moved (more_of-Act a rest) m k = under_or (nat_le net m) _ _ _ _ (writes_moved a m k) (row_writes_moved rest m k)
 
   mutual
     adds_moved : (a : Act) (m k : ℕ) → adds (moved_act net word a) m k ≡ moved_bits net word (adds a) m k
     adds_moved (Set target e) m k = target_adds_moved target m k
-    adds_moved (Read e) m k = no (nat_le net m)
+    adds_moved (Read e) m k = and_none (nat_le net m)
     adds_moved (Branch' n guards l otherwise) m k =
         all_of (nat_le net m) _ _ _ _ (guard_adds_moved guards m k) (row_adds_moved otherwise m k)
 
@@ -152,7 +146,7 @@ module _ (net word : ℕ) where
 
     row_adds_moved : {n : _} → (row : Row_of-Act n) (m k : ℕ) → adds_row (moved_row net word row) m k ≡ moved_bits net word
         (adds_row row) m k
-    row_adds_moved end_of-Act m k = no (nat_le net m)
+    row_adds_moved end_of-Act m k = and_none (nat_le net m)
     row_adds_moved (more_of-Act a rest) m k = under_or (nat_le net m) _ _ _ _ (adds_moved a m k) (row_adds_moved rest m k)
 
   -- two sets of known bits are the same from the first net on
@@ -175,14 +169,14 @@ module _ (net word : ℕ) where
 
     guard_open_moved : {n : _} → (t : Timing) (row : Row_of-Guard n) (s u : BitSet) → Same s u → (m k : ℕ)
         → open_reads_guards t (moved_guards net word row) s m k ≡ moved_bits net word (open_reads_guards t row u) m k
-    guard_open_moved t end_of-Guard s u h m k = no (nat_le net m)
+    guard_open_moved t end_of-Guard s u h m k = and_none (nat_le net m)
     guard_open_moved t (more_of-Guard c n body rest) s u h m k =
         under_or (nat_le net m) _ _ _ _ (under_not (nat_le net m) _ _ _ _ (reads_moved c m k) (h m k))
         (under_or (nat_le net m) _ _ _ _ (row_open_moved t body s u h m k) (guard_open_moved t rest s u h m k))
 
     row_open_moved : {n : _} → (t : Timing) (row : Row_of-Act n) (s u : BitSet) → Same s u → (m k : ℕ)
         → open_reads_row t (moved_row net word row) s m k ≡ moved_bits net word (open_reads_row t row u) m k
-    row_open_moved t end_of-Act s u h m k = no (nat_le net m)
+    row_open_moved t end_of-Act s u h m k = and_none (nat_le net m)
     row_open_moved t (more_of-Act a rest) s u h m k =
         under_or (nat_le net m) _ _ _ _ (open_moved t a s u h m k)
         (row_open_moved t rest (known_after t s (adds (moved_act net word a))) (known_after t u (adds a)) (more_known t s u a h) m k)
@@ -190,17 +184,17 @@ module _ (net word : ℕ) where
   -- ---- blocks
   pub block_writes_moved : (acts : List Act) (m k : ℕ) → block_writes (map (moved_act net word) acts) m k ≡ moved_bits net word
       (block_writes acts) m k
-  block_writes_moved [] m k = no (nat_le net m)
+  block_writes_moved [] m k = and_none (nat_le net m)
   block_writes_moved (a ∷ rest) m k = under_or (nat_le net m) _ _ _ _ (writes_moved a m k) (block_writes_moved rest m k)
 
   pub block_adds_moved : (acts : List Act) (m k : ℕ) → block_adds (map (moved_act net word) acts) m k ≡ moved_bits net word
       (block_adds acts) m k
-  block_adds_moved [] m k = no (nat_le net m)
+  block_adds_moved [] m k = and_none (nat_le net m)
   block_adds_moved (a ∷ rest) m k = under_or (nat_le net m) _ _ _ _ (adds_moved a m k) (block_adds_moved rest m k)
 
   block_open : (t : Timing) (acts : List Act) (s u : BitSet) → Same s u → (m k : ℕ)
       → block_open_reads t (map (moved_act net word) acts) s m k ≡ moved_bits net word (block_open_reads t acts u) m k
-  block_open t [] s u h m k = no (nat_le net m)
+  block_open t [] s u h m k = and_none (nat_le net m)
   block_open t (a ∷ rest) s u h m k =
       under_or (nat_le net m) _ _ _ _ (open_moved t a s u h m k)
       (block_open t rest (known_after t s (adds (moved_act net word a))) (known_after t u (adds a)) (more_known t s u a h) m k)
@@ -215,7 +209,7 @@ module _ (net word : ℕ) where
     reads = λ m k. named_moved c.reads m k ∙ ap (λ b. nat_le net m && b) (h.reads (m - net) k) ∙ sym (block_open_moved t c.acts m k);
   }
 
-  -- ---- memories, and targets that name no bit twice
+  -- ---- memories, and targets that name and_none bit twice
   place_word_moved : (p : Place) → place_is_word (moved_place net word p) ≡ place_is_word p
   place_word_moved (PlaceBits s n) = refl
   place_word_moved (BitsFrom s i w) = refl

@@ -3,8 +3,10 @@ use Rattle.std.proofs.Common.{◌≡◌, ℕ, ◌+◌, ◌<◌, ◌&&◌, ◌||�
 use Rattle.std.proofs.Common.{ap, sym, subst, ◌∙◌}
 use Rattle.std.proofs.lemmas.List.{take_more, drop_more}
 use Rattle.std.proofs.lemmas.List.Folds.{list_any-append}
+use Rattle.std.proofs.Math.Bool.{or_assoc}
+use Rattle.net_code.proofs.MaskLaws.{same_sets}
+use Rattle.vidi_bits.proofs.Bools.{or_none, and_true, and_assoc}
 use Rattle.net_design.specs.Sized.{AreSizedGuards}
-use mathlib.Core.Path.{fun_ext}
 use Rattle.net_design.specs.declared.act.Act.{Act}
 use Rattle.net_design.specs.declared.act.Code.{Code}
 use Rattle.net_design.specs.declared.act.Guard.{Guard}
@@ -17,10 +19,6 @@ use Rattle.net_design.specs.Bits.{block_open_reads, HasBits}
 use Rattle.net_code.specs.BitMap.{in_map}
 use Rattle.net_code.specs.Found.{Learns, Walks, WalksChoice, Arm, AfterArms, learned, guard_writes, guard_adds, guard_reads}
 use Rattle.net_code.proofs.FoundLaws.{or_fresh, LearnsRest, rest_step, rest_done}
-use Rattle.net_design.proofs.BoolLaws.{or_none, or_assoc, and_true, and_assoc}
-
-same_sets : (p q : BitSet) → ((m k : ℕ) → p m k ≡ q m k) → p ≡ q
-same_sets p q h = fun_ext (λ m. fun_ext (λ k. h m k))
 
 known_is : (t : Timing) (s p : BitSet) (m k : ℕ) → known_after t s p m k ≡ (s m k || learned t p m k)
 known_is Blocking s p m k = refl

@@ -1,3 +1,5 @@
 pub mod BitMap
 pub mod Found
 pub mod Moved
+pub mod Tally
+pub mod Targets

@@ -1,9 +1,9 @@
 //! Sets of bits of nets, as a mask for each net.
 
 ghost use Rattle.std.specs.Prelude.{◌≡◌, ℕ, ◌==◌, ◌&&◌, ◌||◌, not, false, if◌then◌else◌, OnOk, IfOk};
-ghost use Rattle.vlog_operators.specs.Number.{has};
+ghost use Rattle.vidi_bits.specs.Number.{has};
 ghost use Rattle.net_design.specs.Bits.{named};
-ghost use Rattle.net_code.specs.BitMap.{mask_of, in_map};
+ghost use Rattle.net_code.specs.BitMap.{mask_of, in_map, is_among};
 
 use net_design::Mask;
 use std::alloc::Global;
@@ -31,9 +31,7 @@ impl BitMap {
         ensures { IfOk result (λ map. (m k : ℕ) → in_map map m k ≡ named masks.now m k) }
     {
         let mut map = BitMap::new(alloc);
-        for mask in masks {
-            map.add(mask.net, mask.bits)?;
-        }
+        map.add_masks(masks)?;
         Ok(map)
     }
 
@@ -60,6 +58,34 @@ impl BitMap {
         }
         let mask = self.mask(net);
         self.set_mask(net, mask | bits)?;
+        Ok(())
+    }
+
+    /// Adds the bits that masks name.
+    pub fn add_masks(&mut self, masks: &[Mask]) -> Result<(), Memory>
+        ensures { OnOk result ((m k : ℕ) → in_map self.new m k ≡ (in_map self.old m k || named masks.now m k)) }
+    {
+        for mask in masks {
+            self.add(mask.net, mask.bits)?;
+        }
+        Ok(())
+    }
+
+    /// Adds a number, where the set is one of numbers: each stands in it as bit 0 of the net of that number.
+    pub fn add_key(&mut self, key: usize) -> Result<(), Memory>
+        ensures { OnOk result ((m : ℕ) → in_map self.new m 0 ≡ (in_map self.old m 0 || (key == m))) }
+    {
+        self.add(key, 1)?;
+        Ok(())
+    }
+
+    /// Adds numbers.
+    pub fn add_keys(&mut self, keys: &[usize]) -> Result<(), Memory>
+        ensures { OnOk result ((m : ℕ) → in_map self.new m 0 ≡ (in_map self.old m 0 || is_among m keys.now)) }
+    {
+        for key in keys {
+            self.add_key(*key)?;
+        }
         Ok(())
     }
 

@@ -5,7 +5,7 @@
 
 ghost use Rattle.std.specs.Prelude.{◌≡◌, ℕ, ◌==◌, ◌&&◌, ◌||◌, ◌+◌, ◌≤◌, not, nat_le, nat_lt, List, [], OnOk, IfOk};
 ghost use Rattle.std.specs.List.{AllByRecursion};
-ghost use Rattle.vlog_operators.specs.Number.{has};
+ghost use Rattle.vidi_bits.specs.Number.{has};
 ghost use Rattle.net_design.specs.declared.act.Act.{Act};
 ghost use Rattle.net_design.specs.declared.act.Timing.{Timing};
 ghost use Rattle.net_code.specs.declared.code_bits.Found.{Found};
@@ -29,8 +29,8 @@ pub struct Found {
     known: BitMap,
 }
 
-/// The bits of a span.
-fn span_mask(span: Span) -> u128
+/// The bits of a span, as a mask of its net.
+pub fn span_mask(span: Span) -> u128
     requires { span.low + span.width ≤ 128 }
     ensures { (k : ℕ) → has result k ≡ (nat_le span.low k && nat_lt k (span.low + span.width)) }
 {

@@ -1,4 +1,4 @@
-//! Code of one instance, moved to the instance's first net and first memory word.
+//! Code of one instance, moved to the instance's base.
 
 ghost use Rattle.std.specs.Prelude.{◌≡◌, ℕ, ◌<◌, ◌^◌, ◌↔◌, IsTrue, All, map};
 ghost use Rattle.net_design.specs.declared.act.Act.{Act};
@@ -7,112 +7,106 @@ ghost use Rattle.net_design.specs.Sized.{IsRhs, IsPlace, IsAct, IsBlock, AreGuar
 ghost use Rattle.net_code.specs.Moved.{moved_span, moved_room, moved_rhs, moved_place, moved_act, moved_guard, moved_mask, moved};
 ghost use Rattle.net_code.specs.Moved.{IsNear, IsNearBlock, IsNearRhs, AreNearPlaces};
 
+use crate::base::Base;
 use crate::sized::{acts_sized, places_sized, rhs_sized};
 use net_design::{Act, Code, Guard, Lhs, Mask, Place, Rhs, Room, Span};
 use vidi_bits::Items;
 
-/// The first net and the first memory word of an instance.
-#[derive(Clone, Copy)]
-pub struct First {
-    pub net: u32,
-    pub word: u32,
-}
-
-fn move_span(span: &mut Span, first: First)
+fn move_span(span: &mut Span, base: Base)
     requires { span.old.net < 2 ^ 32 }
-    ensures { span.new ≡ moved_span first.net first.word span.old }
+    ensures { span.new ≡ moved_span base.net base.word span.old }
 {
-    span.net += first.net as usize;
+    span.net += base.net as usize;
 }
 
-fn move_room(room: &mut Room, first: First)
+fn move_room(room: &mut Room, base: Base)
     requires { room.old.first < 2 ^ 32 }
-    ensures { room.new ≡ moved_room first.net first.word room.old }
+    ensures { room.new ≡ moved_room base.net base.word room.old }
 {
-    room.first += first.word as usize;
+    room.first += base.word as usize;
 }
 
-fn move_rhs(e: &mut Rhs, first: First)
+fn move_rhs(e: &mut Rhs, base: Base)
     requires { IsRhs (IsShort (2 ^ 32)) (IsCountable (2 ^ 32)) e.old }
-    ensures { e.new ≡ moved_rhs first.net first.word e.old }
+    ensures { e.new ≡ moved_rhs base.net base.word e.old }
 {
     match e {
         Rhs::Number(_) => (),
-        Rhs::Bits(span) => move_span(span, first),
+        Rhs::Bits(span) => move_span(span, base),
         Rhs::Word { room, at } => {
-            move_room(room, first);
-            move_rhs(at, first);
+            move_room(room, base);
+            move_rhs(at, base);
         }
-        Rhs::Unary { operand, .. } => move_rhs(operand, first),
+        Rhs::Unary { operand, .. } => move_rhs(operand, base),
         Rhs::Binary { left, right, .. } => {
-            move_rhs(left, first);
-            move_rhs(right, first);
+            move_rhs(left, base);
+            move_rhs(right, base);
         }
         Rhs::Choose {
             condition,
             chosen,
             other,
         } => {
-            move_rhs(condition, first);
-            move_rhs(chosen, first);
-            move_rhs(other, first);
+            move_rhs(condition, base);
+            move_rhs(chosen, base);
+            move_rhs(other, base);
         }
         Rhs::Join { high, low, .. } => {
-            move_rhs(high, first);
-            move_rhs(low, first);
+            move_rhs(high, base);
+            move_rhs(low, base);
         }
-        Rhs::Repeat { part, .. } => move_rhs(part, first),
+        Rhs::Repeat { part, .. } => move_rhs(part, base),
         Rhs::Select { vector, at, .. } => {
-            move_rhs(vector, first);
-            move_rhs(at, first);
+            move_rhs(vector, base);
+            move_rhs(at, base);
         }
     }
 }
 
-fn move_place(place: &mut Place, first: First)
+fn move_place(place: &mut Place, base: Base)
     requires { IsPlace (IsShort (2 ^ 32)) (IsCountable (2 ^ 32)) place.old }
-    ensures { place.new ≡ moved_place first.net first.word place.old }
+    ensures { place.new ≡ moved_place base.net base.word place.old }
 {
     match place {
-        Place::Bits { span, .. } => move_span(span, first),
+        Place::Bits { span, .. } => move_span(span, base),
         Place::BitsFrom { whole, at, .. } => {
-            move_span(whole, first);
-            move_rhs(at, first);
+            move_span(whole, base);
+            move_rhs(at, base);
         }
         Place::Word { room, word, .. } => {
-            move_room(room, first);
-            move_rhs(word, first);
+            move_room(room, base);
+            move_rhs(word, base);
         }
         Place::WordFrom { room, word, at, .. } => {
-            move_room(room, first);
-            move_rhs(word, first);
-            move_rhs(at, first);
+            move_room(room, base);
+            move_rhs(word, base);
+            move_rhs(at, base);
         }
     }
 }
 
-fn move_places(places: &mut Lhs, first: First)
+fn move_places(places: &mut Lhs, base: Base)
     requires { AreNearPlaces places.old }
-    ensures { places.new ≡ map (moved_place first.net first.word) places.old }
+    ensures { places.new ≡ map (moved_place base.net base.word) places.old }
 {
     for place in places.as_mut_slice() {
-        move_place(place, first);
+        move_place(place, base);
     }
 }
 
-fn move_mask(mask: &mut Mask, first: First)
+fn move_mask(mask: &mut Mask, base: Base)
     requires { mask.old.net < 2 ^ 32 }
-    ensures { mask.new ≡ moved_mask first.net first.word mask.old }
+    ensures { mask.new ≡ moved_mask base.net base.word mask.old }
 {
-    mask.net += first.net as usize;
+    mask.net += base.net as usize;
 }
 
-fn move_masks(masks: &mut Items<Mask>, first: First)
+fn move_masks(masks: &mut Items<Mask>, base: Base)
     requires { All (λ x. x.net < 2 ^ 32) masks.old }
-    ensures { masks.new ≡ map (moved_mask first.net first.word) masks.old }
+    ensures { masks.new ≡ map (moved_mask base.net base.word) masks.old }
 {
     for mask in masks.as_mut_slice() {
-        move_mask(mask, first);
+        move_mask(mask, base);
     }
 }
 
@@ -126,51 +120,51 @@ fn see_moved(guards: &Items<Guard>, otherwise: &Items<Act>)
 {}
 
 #[cycle(moves)]
-fn move_act(act: &mut Act, first: First)
+fn move_act(act: &mut Act, base: Base)
     requires { IsAct (IsShort (2 ^ 32)) (IsCountable (2 ^ 32)) act.old }
-    ensures { act.new ≡ moved_act first.net first.word act.old }
+    ensures { act.new ≡ moved_act base.net base.word act.old }
 {
     match act {
         Act::Set { target, value } => {
-            move_places(target, first);
-            move_rhs(value, first);
+            move_places(target, base);
+            move_rhs(value, base);
         }
-        Act::Read(value) => move_rhs(value, first),
+        Act::Read(value) => move_rhs(value, base),
         Act::Branch { guards, otherwise } => {
             see_moved(guards, otherwise);
-            move_guards(guards, first);
-            move_acts(otherwise, first);
+            move_guards(guards, base);
+            move_acts(otherwise, base);
         }
     }
 }
 
 #[cycle(moves)]
-fn move_guard(guard: &mut Guard, first: First)
+fn move_guard(guard: &mut Guard, base: Base)
     requires condition { IsRhs (IsShort (2 ^ 32)) (IsCountable (2 ^ 32)) guard.old.condition }
     requires body { IsNearBlock guard.old.body }
-    ensures { guard.new ≡ moved_guard first.net first.word guard.old }
+    ensures { guard.new ≡ moved_guard base.net base.word guard.old }
 {
-    move_rhs(&mut guard.condition, first);
-    move_acts(&mut guard.body, first);
+    move_rhs(&mut guard.condition, base);
+    move_acts(&mut guard.body, base);
 }
 
 #[cycle(moves)]
-fn move_guards(guards: &mut Items<Guard>, first: First)
+fn move_guards(guards: &mut Items<Guard>, base: Base)
     requires { AreGuards (IsShort (2 ^ 32)) (IsCountable (2 ^ 32)) guards.old }
-    ensures { guards.new ≡ map (moved_guard first.net first.word) guards.old }
+    ensures { guards.new ≡ map (moved_guard base.net base.word) guards.old }
 {
     for guard in guards.as_mut_slice() {
-        move_guard(guard, first);
+        move_guard(guard, base);
     }
 }
 
 #[cycle(moves)]
-fn move_acts(acts: &mut Items<Act>, first: First)
+fn move_acts(acts: &mut Items<Act>, base: Base)
     requires { IsNearBlock acts.old }
-    ensures { acts.new ≡ map (moved_act first.net first.word) acts.old }
+    ensures { acts.new ≡ map (moved_act base.net base.word) acts.old }
 {
     for act in acts.as_mut_slice() {
-        move_act(act, first);
+        move_act(act, base);
     }
 }
 
@@ -190,18 +184,14 @@ pub fn code_is_near(code: &Code) -> bool
         && masks_near(code.reads.as_slice())
 }
 
-/// Moves the code of an instance, which counts nets and memory words from the instance's first ones, to these places.
-pub fn move_code(code: &mut Code, first_net: u32, first_word: u32)
+/// Moves the code of an instance, which counts nets and memory words from the instance's first ones, to this base.
+pub fn move_code(code: &mut Code, base: Base)
     requires { IsNear code.old }
-    ensures { code.new ≡ moved first_net first_word code.old }
+    ensures { code.new ≡ moved base.net base.word code.old }
 {
-    let first = First {
-        net: first_net,
-        word: first_word,
-    };
-    move_acts(&mut code.acts, first);
-    move_masks(&mut code.writes, first);
-    move_masks(&mut code.reads, first);
+    move_acts(&mut code.acts, base);
+    move_masks(&mut code.writes, base);
+    move_masks(&mut code.reads, base);
 }
 
 /// Whether the expression can be moved: its places are below 2^32, its widths 1 to 128.
@@ -212,15 +202,11 @@ pub fn expression_is_near(e: &Rhs) -> bool
 }
 
 /// Moves an expression of an instance as `move_code` moves code.
-pub fn move_expression(e: &mut Rhs, first_net: u32, first_word: u32)
+pub fn move_expression(e: &mut Rhs, base: Base)
     requires { IsNearRhs e.old }
-    ensures { e.new ≡ moved_rhs first_net first_word e.old }
+    ensures { e.new ≡ moved_rhs base.net base.word e.old }
 {
-    let first = First {
-        net: first_net,
-        word: first_word,
-    };
-    move_rhs(e, first);
+    move_rhs(e, base);
 }
 
 /// Whether a target can be moved: its places are below 2^32, its widths 1 to 128.
@@ -231,13 +217,9 @@ pub fn target_is_near(target: &Lhs) -> bool
 }
 
 /// Moves a target of an instance as `move_code` moves code.
-pub fn move_target(target: &mut Lhs, first_net: u32, first_word: u32)
+pub fn move_target(target: &mut Lhs, base: Base)
     requires { AreNearPlaces target.old }
-    ensures { target.new ≡ map (moved_place first_net first_word) target.old }
+    ensures { target.new ≡ map (moved_place base.net base.word) target.old }
 {
-    let first = First {
-        net: first_net,
-        word: first_word,
-    };
-    move_places(target, first);
+    move_places(target, base);
 }

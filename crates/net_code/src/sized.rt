@@ -3,7 +3,7 @@
 ghost use Rattle.std.specs.Prelude.{◌≡◌, ◌≤◌, ◌<◌, ◌↔◌, ◌&&◌, ◌^◌, IsTrue, All};
 ghost use Rattle.std.specs.List.{AllByRecursion};
 ghost use Rattle.net_design.specs.declared.act.Act.{Act};
-ghost use Rattle.vlog_operators.specs.Number.{IsWidth};
+ghost use Rattle.vidi_bits.specs.Number.{IsWidth};
 ghost use Rattle.net_design.specs.Sized.{IsShort, IsCountable, IsRhs, IsPlace, IsAct, IsBlock, AreGuards, IsSizedBlock};
 ghost use Rattle.net_design.specs.Updates.{target_width};
 ghost use Rattle.net_design.specs.Settled.{IsSized};
@@ -15,7 +15,7 @@ use net_design::{
 use vidi_bits::Items;
 
 /// Whether a width is 1 to 128.
-fn is_width(w: u32) -> bool
+pub fn is_width(w: u32) -> bool
     ensures { IsTrue result ↔ IsWidth w }
 {
     1 <= w && w <= 128
@@ -135,7 +135,7 @@ pub fn places_sized(places: &[Place], limit: u128) -> bool
 }
 
 /// Whether a target has at most 128 bits.
-fn narrow(places: &[Place]) -> bool
+pub fn is_narrow(places: &[Place]) -> bool
     ensures { IsTrue result ↔ (target_width places.now ≤ 128) }
 {
     let mut total: u64 = 0;
@@ -154,7 +154,7 @@ fn act_sized(act: &Act, limit: u128) -> bool
 {
     match act {
         Act::Set { target, value } => {
-            narrow(target.as_slice())
+            is_narrow(target.as_slice())
                 && places_sized(target.as_slice(), limit)
                 && rhs_sized(value, limit)
         }

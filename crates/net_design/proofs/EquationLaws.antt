@@ -4,21 +4,18 @@ use Rattle.std.proofs.Common.{append-nil, length, slice_index, slice_set, ⊎_el
 use Rattle.std.specs.Int.{bit_at}
 use Rattle.std.proofs.lemmas.Bool.{cases_lt, eqb-true}
 use Rattle.std.proofs.lemmas.List.{get_or-set_same, set-get_or}
-use Rattle.std.proofs.lemmas.Nat.{pow_pos, mod_below, shr_split}
-use Rattle.std.proofs.lemmas.Nat.Bits.{bit_at_cat_low, same_from_bits_below}
-use Rattle.vidi_bits.proofs.BitLemmas.{bit_at-part, bit_at-put_below, bit_at-put_inside, bit_at-put_above}
+use Rattle.std.proofs.lemmas.Nat.{pow_pos, mod_below}
+use Rattle.std.proofs.lemmas.Nat.Bits.{same_from_bits_below}
+use Rattle.vidi_bits.proofs.BitLemmas.{bit_at-part, bit_at-put_below, bit_at-put_inside, bit_at-put_above, bit_at-mod}
 use Rattle.net_design.specs.declared.rhs.Span.{Span}
 use Rattle.net_design.specs.declared.rhs.Rhs.{Rhs}
 use Rattle.net_design.specs.declared.act.Place.TheVariants.{Bits}
 use Rattle.net_design.specs.declared.act.Act.TheVariants.{Set}
 use Rattle.net_design.specs.declared.values.Target.TheVariants.{Net}
 use Rattle.net_design.specs.declared.values.Values.{Values}
-use Rattle.vlog_operators.specs.Number.{part_of, put_of}
+use Rattle.vidi_bits.specs.Number.{part_of, put_of}
 use Rattle.net_design.specs.Value.{read, value}
 use Rattle.net_design.specs.Updates.{apply, update, bit_updates, target_updates, run}
-
-pub bit_at-rest : (n k i : ℕ) → i < k → bit_at (n % 2 ^ k) i ≡ bit_at n i
-bit_at-rest n k i l = sym (bit_at_cat_low (n / 2 ^ k) k (n % 2 ^ k) i l) ∙ ap (λ m. bit_at m i) (shr_split n k)
 
 -- what is put stands there
 pub part-put : (n low w x : ℕ) → low + w ≤ 128 → part_of (put_of n low w x) low w ≡ x % 2 ^ w
@@ -29,7 +26,7 @@ part-put n low w x l =
     bit_at-part (put_of n low w x) low w i h
     ∙ bit_at-put_inside n low w x (low + i) (omega arith) (omega arith) (omega arith)
     ∙ ap (λ j. bit_at x j) back
-    ∙ sym (bit_at-rest x w i h))
+    ∙ sym (bit_at-mod x w i h))
 
 -- to put what stands there changes nothing
 pub put-part : (n low w x : ℕ) → low + w ≤ 128 → n < 2 ^ 128 → part_of n low w ≡ x % 2 ^ w → put_of n low w x ≡ n
@@ -42,7 +39,7 @@ put-part n low w x l fits same =
     let j : i - low < w = omega arith in
     let back : low + (i - low) ≡ i = omega arith in
     bit_at-put_inside n low w x i h from inside
-    ∙ sym (bit_at-rest x w (i - low) j)
+    ∙ sym (bit_at-mod x w (i - low) j)
     ∙ ap (λ p. bit_at p (i - low)) (sym same)
     ∙ bit_at-part n low w (i - low) j
     ∙ ap (λ k. bit_at n k) back)

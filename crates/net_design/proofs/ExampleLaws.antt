@@ -1,17 +1,18 @@
 -- The example is lawful, and its neighbours aren't.
 use Rattle.std.proofs.Common.{◌≡◌, ◌≢◌, IsTrue, List, [], ◌∷◌, ℕ, zero, suc, ◌<◌, ◌≤◌, ◌==◌, ◌&&◌, ◌||◌, nat_lt, Bool, true, false}
-use Rattle.std.proofs.Common.{◌⊎◌, inl, inr, Option, Some, None, All, slice_get, take, refl, ap, sym, subst, ◌∙◌, arith}
+use Rattle.std.proofs.Common.{◌⊎◌, inl, inr, Some, All, slice_get, take, refl, ap, sym, subst, ◌∙◌, arith}
 use Rattle.std.specs.Int.{bit_at}
 use Rattle.std.specs.List.{AllPairs, count_by, sum_by}
-use Rattle.std.proofs.lemmas.Bool.{eqb-true, ltb-true, le-leb}
+use Rattle.std.proofs.lemmas.Bool.{eqb-true, ltb-true, le-leb, false_from_ne_true}
 use Rattle.std.proofs.lemmas.Nat.Bits.{bit_at_above}
+use Rattle.vidi_bits.proofs.Lists.{some_same}
 use Rattle.net_design.specs.declared.design.Instance.{Instance}
 use Rattle.net_design.specs.declared.design.Net.{Net}
 use Rattle.net_design.specs.declared.design.DesignMemory.{DesignMemory}
 use Rattle.net_design.specs.declared.design.Driver.{Driver}
 use Rattle.net_design.specs.declared.design.Port.{Port}
 use Rattle.net_design.specs.declared.design.Design.{Design}
-use Rattle.vlog_operators.specs.Number.{has, IsWidth}
+use Rattle.vidi_bits.specs.Number.{has, IsWidth}
 use Rattle.net_design.specs.Bits.{named, bits_of}
 use Rattle.net_design.specs.Settled.{net_width, held}
 use Rattle.net_design.specs.declared.act.Timing.{Timing}
@@ -20,7 +21,6 @@ use Rattle.net_design.specs.Names.{net_names}
 use Rattle.net_design.specs.Lawful.{IsLawful, is_span, is_room, IsCode, IsDriver, IsClocked, IsRegister, IsBit, is_input}
 use Rattle.net_design.specs.Example.{net_of, four_words, pair, copies, stores, assigned, combined, example, driven_twice, not_driven}
 use Rattle.net_design.specs.Example.{held_driven, stray_initial, named_twice}
-use Rattle.net_design.proofs.BoolLaws.{by_true}
 
 -- the number 3 has the bits 0 and 1
 two_bits : (k : ℕ) → has 3 k ≡ nat_lt k 2
@@ -28,17 +28,17 @@ two_bits zero = refl
 two_bits (suc zero) = refl
 two_bits (suc (suc k)) =
     let z : bit_at 3 (suc (suc k)) ≡ 0 = bit_at_above 3 2 (suc (suc k)) (omega arith) (omega arith) in
-    let f : nat_lt (suc (suc k)) 2 ≡ false = by_true _ (λ t. let l : suc (suc k) < 2 = ltb-true _ _ t in absurd (omega arith)) in
+    let f : nat_lt (suc (suc k)) 2 ≡ false = false_from_ne_true _ (λ t. let l : suc (suc k) < 2 = ltb-true _ _ t in absurd (omega arith)) in
     ap (λ b. b == 1) z ∙ sym f
 
 pair_bits : (n m k : ℕ) → ((n == m) && has 3 k) ≡ bits_of (pair n) m k
 pair_bits n m k = ap (λ b. (n == m) && b) (two_bits k ∙ sym (ap (λ b. b && nat_lt k 2) (le-leb 0 k (omega arith))))
 
-more : (b : Bool) → (b || false) ≡ (b || false || false)
+pub more : (b : Bool) → (b || false) ≡ (b || false || false)
 more true = refl
 more false = refl
 
-open_one : (b : Bool) → (b || false) ≡ (((b || false) && true) || false)
+pub open_one : (b : Bool) → (b || false) ≡ (((b || false) && true) || false)
 open_one true = refl
 open_one false = refl
 
@@ -100,7 +100,7 @@ combined_driver = record {
   whole = λ m k h. sym (ap (λ b. b || false) (pair_bits 4 m k) ∙ more (bits_of (pair 4) m k)) ∙ h;
   no_words = refl;
   equation = λ h. absurd cc;
-  own = λ h m k t. by_true _ (λ u. let a : 4 ≡ m = in_pair 4 m k t in let b : 3 ≡ m = in_pair 3 m k u in absurd (omega arith));
+  own = λ h m k t. false_from_ne_true _ (λ u. let a : 4 ≡ m = in_pair 4 m k t in let b : 3 ≡ m = in_pair 3 m k u in absurd (omega arith));
 }
 
 abbrev IsNet : Net → Type 0
@@ -140,18 +140,11 @@ all_blocks zero d l = record { code = copies_code example 3 1 Nonblocking refl r
 all_blocks (suc zero) d l = record { code = stores_code example 3 1 Nonblocking refl refl refl; held = λ m k h. absurd cc }
 all_blocks (suc (suc k)) d l = absurd (omega arith)
 
-abbrev held_in : {X : Type 0} → Option X → X → X
-held_in (Some x) y = x
-held_in None y = y
-
-same_in : {X : Type 0} (x y : X) → Some x ≡ Some y → x ≡ y
-same_in x y h = ap (λ o. held_in o x) h
-
-same_port : (q p : Port) (x n : Net) → x.name ≡ q.name → x.width ≡ q.width → x.instance ≡ 0 → Some q ≡ Some p → Some x ≡ Some n
+pub same_port : (q p : Port) (x n : Net) → x.name ≡ q.name → x.width ≡ q.width → x.instance ≡ 0 → Some q ≡ Some p → Some x ≡ Some n
     → (n.name ≡ p.name) × (n.width ≡ p.width) × (n.instance ≡ 0)
 same_port q p x n name width top a b =
-    let e = same_in q p a in
-    let f = same_in x n b in (
+    let e = some_same q p a in
+    let f = some_same x n b in (
       sym (ap (λ (y : Net). y.name) f) ∙ name ∙ ap (λ (y : Port). y.name) e,
       sym (ap (λ (y : Net). y.width) f) ∙ width
           ∙ ap (λ (y : Port). y.width) e,
@@ -167,12 +160,12 @@ ports_nets (suc (suc (suc k))) p n a b = absurd cc
 
 parent_first : (i : ℕ) (x : Instance) → slice_get example.instances i ≡ Some x → 1 ≤ i → x.parent < i
 parent_first zero x h l = absurd (omega arith)
-parent_first (suc zero) x h l = subst (λ (y : Instance). y.parent < 1) (same_in _ x h) (omega arith)
+parent_first (suc zero) x h l = subst (λ (y : Instance). y.parent < 1) (some_same _ x h) (omega arith)
 parent_first (suc (suc i)) x h l = absurd cc
 
 room_places : (i : ℕ) (a : DesignMemory) → slice_get example.memories i ≡ Some a
     → a.room.first ≡ sum_by (λ (x : DesignMemory). x.room.length) (take i example.memories)
-room_places zero a h = sym (ap (λ (y : DesignMemory). y.room.first) (same_in _ a h))
+room_places zero a h = sym (ap (λ (y : DesignMemory). y.room.first) (some_same _ a h))
 room_places (suc i) a h = absurd cc
 
 abbrev letter_of : List (List ℕ) → ℕ
@@ -248,7 +241,7 @@ lawful = record {
   rooms = room_places;
   ports = omega arith;
   port_nets = ports_nets;
-  clock = λ k h. subst (λ j. (is_input example j ≡ true) × (net_width example j ≡ 1)) (same_in 0 k h) (refl, refl);
+  clock = λ k h. subst (λ j. (is_input example j ≡ true) × (net_width example j ≡ 1)) (some_same 0 k h) (refl, refl);
   registers = all_registers;
   registers_differ = λ i j r l h. absurd (omega arith);
   drivers = all_drivers;

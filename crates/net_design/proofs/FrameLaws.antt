@@ -4,7 +4,8 @@ use Rattle.std.proofs.Common.{◌++◌, ◌⊎◌, inl, inr, if◌then◌else◌
 use Rattle.std.proofs.Common.{◌∙◌, arith}
 use Rattle.std.specs.Int.{bit_at}
 use Rattle.std.specs.List.{list_any}
-use Rattle.std.proofs.lemmas.Bool.{cases_lt, or_from, eq-eqb, leb-true, le-leb, ltb-true, lt-ltb, both_ways}
+use Rattle.std.proofs.lemmas.Bool.{cases_lt, or_from, eq-eqb, leb-true, le-leb, ltb-true, lt-ltb, both_ways, false_from_ne_true, and_parts}
+use Rattle.std.proofs.lemmas.Bool.{and_from, or_parts}
 use Rattle.std.proofs.lemmas.List.{get_or-set_same, get_or-set_other}
 use Rattle.std.proofs.lemmas.List.Folds.{list_any-append}
 use Rattle.vidi_bits.proofs.BitLemmas.{bit_at-put_below, bit_at-put_above}
@@ -17,12 +18,11 @@ use Rattle.net_design.specs.declared.values.Target.{Target}
 use Rattle.net_design.specs.declared.values.Target.TheVariants.{Net, Word as WordTarget}
 use Rattle.net_design.specs.declared.values.Update.{Update}
 use Rattle.net_design.specs.declared.values.Values.{Values}
-use Rattle.vlog_operators.specs.Number.{put_of}
+use Rattle.vidi_bits.specs.Number.{put_of}
 use Rattle.net_design.specs.Value.{value}
 use Rattle.net_design.specs.Updates.{written_to, apply, place_updates, target_width, target_updates, seen, updates, guard_row, act_row}
 use Rattle.net_design.specs.Updates.{block_updates}
 use Rattle.net_design.specs.Bits.{place_writes, target_writes, writes, writes_guards, writes_row, block_writes}
-use Rattle.net_design.proofs.BoolLaws.{by_true, and_parts, and_both, or_parts}
 
 -- an update changes bit k of net m
 abbrev pub touches_at : Target → Update → ℕ → ℕ → Bool
@@ -46,12 +46,12 @@ joined xs ys m k h g = list_any-append (λ (u : Update). touches_at u.target u m
 
 inner : (n m k low size i w : ℕ) → ((n == m) && (nat_le low k && nat_lt k (low + size))) ≡ false
     → ((n == m) && (nat_le (low + i) k && nat_lt k (low + i + min w (size - i)))) ≡ false
-inner n m k low size i w h = by_true _ (λ t.
+inner n m k low size i w h = false_from_ne_true _ (λ t.
     let p = and_parts _ _ t in
     let q = and_parts _ _ p.1 in
     let above : low + i ≤ k = leb-true _ _ q.0 in
     let below : k < low + i + min w (size - i) = ltb-true _ _ q.1 in
-    both_ways _ h (and_both _ _ p.0 (and_both _ _ (le-leb low k (omega arith)) (lt-ltb k (low + size) (omega arith)))))
+    both_ways _ h (and_from _ _ p.0 (and_from _ _ (le-leb low k (omega arith)) (lt-ltb k (low + size) (omega arith)))))
 
 place_touch : (p : Place) (x : ℕ) (v : Values) (m k : ℕ) → place_writes p m k ≡ false → touched (place_updates p x v) m k ≡ false
 place_touch (Bits s n) x v m k h = none_or (s.width == 0) _ m k (or_from _ _ h refl)
@@ -112,7 +112,7 @@ outside : (low w k : ℕ) → (nat_le low k && nat_lt k (low + w)) ≡ false →
 outside low w k h = ⊎_elim
     (λ (below : k < low). inl below)
     (λ (from : low ≤ k). ⊎_elim
-    (λ (inside : k < low + w). absurd (both_ways _ h (and_both _ _ (le-leb low k from) (lt-ltb k (low + w) inside))))
+    (λ (inside : k < low + w). absurd (both_ways _ h (and_from _ _ (le-leb low k from) (lt-ltb k (low + w) inside))))
     (λ (above : low + w ≤ k). inr above)
     (cases_lt k (low + w)))
     (cases_lt k low)
@@ -141,7 +141,7 @@ pub written_stays : (target : Target) (u : Update) (v : Values) (m k : ℕ) → 
     → bit_at (slice_index (written_to target u v).nets m) k ≡ bit_at (slice_index v.nets m) k
 written_stays (Net n) u v m k l h = ⊎_elim
     (λ (e : n ≡ m).
-    let range : (nat_le u.low k && nat_lt k (u.low + u.width)) ≡ false = by_true _ (λ t. both_ways _ h (and_both _ _ (eq-eqb n m e) t)) in
+    let range : (nat_le u.low k && nat_lt k (u.low + u.width)) ≡ false = false_from_ne_true _ (λ t. both_ways _ h (and_from _ _ (eq-eqb n m e) t)) in
     subst (λ j. bit_at (slice_index (slice_set v.nets n (put_of (slice_index v.nets n) u.low u.width u.number)) j) k ≡ bit_at
     (slice_index v.nets j) k) e
     (same_net v.nets n u.low u.width u.number k l range))

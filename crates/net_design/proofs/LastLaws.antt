@@ -3,7 +3,7 @@ use Rattle.std.proofs.Common.{◌≡◌, ℕ, ◌+◌, ◌-◌, ◌^◌, ◌<◌
 use Rattle.std.proofs.Common.{List, [], ◌∷◌, length, slice_index, slice_set, Option, Some, None, refl, ap, sym, subst, ◌∙◌}
 use Rattle.std.specs.Int.{bit_at}
 use Rattle.std.specs.Option.{option_or, unwrap_or}
-use Rattle.std.proofs.lemmas.Bool.{eqb-true, leb-true, ltb-true}
+use Rattle.std.proofs.lemmas.Bool.{eqb-true, leb-true, ltb-true, and_parts}
 use Rattle.std.proofs.lemmas.List.{ext_get_or, get_or-set_same}
 use Rattle.std.proofs.lemmas.Nat.Bits.{same_from_bits_below}
 use Rattle.vidi_bits.proofs.BitLemmas.{bit_at-put_inside}
@@ -11,12 +11,11 @@ use Rattle.net_design.specs.declared.values.Target.{Target}
 use Rattle.net_design.specs.declared.values.Target.TheVariants.{Net, Word}
 use Rattle.net_design.specs.declared.values.Update.{Update}
 use Rattle.net_design.specs.declared.values.Values.{Values}
-use Rattle.vlog_operators.specs.Number.{put_of}
+use Rattle.vidi_bits.specs.Number.{put_of}
 use Rattle.net_design.specs.Updates.{written_to, apply}
 use Rattle.net_design.specs.Last.{touches, last_bit, bit_of, IsThere, HasLast, IsNarrow}
 use Rattle.net_design.proofs.FrameLaws.{written_stays}
 use Rattle.net_design.proofs.StateLaws.{written_long, applied_long, set_narrow, nets_narrow}
-use Rattle.net_design.proofs.BoolLaws.{and_parts}
 
 -- nets and words in each other's place
 abbrev turned : Values → Values

@@ -1,8 +1,8 @@
 -- The code of a lawful design is sized: what its evaluators ask for.
 use Rattle.std.proofs.Common.{◌≡◌, ℕ, zero, suc, ◌+◌, ◌^◌, ◌<◌, ◌≤◌, IsTrue, List, [], ◌∷◌, Some, All, length}
-use Rattle.std.proofs.Common.{get_or, take, map, slice_index, slice_get, ap, sym, subst, arith}
+use Rattle.std.proofs.Common.{get_or, take, map, slice_index, slice_get, ap, sym, subst, arith, refl}
 use Rattle.std.specs.List.{AllByRecursion, sum_by}
-use Rattle.std.proofs.lemmas.Bool.{leb-true, ltb-true, eqb-true}
+use Rattle.std.proofs.lemmas.Bool.{leb-true, ltb-true, eqb-true, and_parts}
 use Rattle.std.proofs.lemmas.List.Folds.{Any-from_list_any}
 use Rattle.std.proofs.lemmas.List.Sums.{sum_by_more_le}
 use Rattle.net_design.specs.declared.rhs.Span.{Span}
@@ -20,7 +20,6 @@ use Rattle.net_design.specs.declared.design.Design.{Design}
 use Rattle.net_design.specs.Sized.{IsRhs, IsPlace, IsAct, IsGuardRow, IsActRow, IsBlock, IsShort, IsCountable, IsSizedBlock}
 use Rattle.net_design.specs.Settled.{IsSized, net_width, word_count}
 use Rattle.net_design.specs.Lawful.{IsLawful, IsInRange, is_span, is_room}
-use Rattle.net_design.proofs.BoolLaws.{and_parts}
 
 -- ---- what asks for less of spans and rooms holds of more code
 module _ (P Q : Span → Type 0) (R S : Room → ℕ → Type 0) (p : (s : Span) → P s → Q s) (r : (x : Room) (n : ℕ) → R x n → S x n) where
@@ -64,7 +63,7 @@ module _ (P Q : Span → Type 0) (R S : Room → ℕ → Type 0) (p : (s : Span)
   block_more (a ∷ rest) h = (act_more a h.0, block_more rest h.1)
 
 -- ---- nets and memories of a lawful design
-width_at : (ns : List Net) → All (λ (n : Net). n.width ≤ 128) ns → (m : ℕ) → slice_index (map (λ (n : Net). n.width) ns) m ≤ 128
+pub width_at : (ns : List Net) → All (λ (n : Net). n.width ≤ 128) ns → (m : ℕ) → slice_index (map (λ (n : Net). n.width) ns) m ≤ 128
 width_at [] h m = omega arith
 width_at (n ∷ ns) h zero = h zero n (omega arith)
 width_at (n ∷ ns) h (suc m) = width_at ns (λ k d l. h (suc k) d (omega arith)) m
@@ -129,3 +128,8 @@ clocked_sized d sized k c l e = subst (λ (x : Code). IsSizedBlock x.acts) (sym 
 pub driver_sized : (d : Design) → IsSized d → (k : ℕ) (x : Driver) → k < length d.drivers → x ≡ get_or d.drivers k x
     → IsSizedBlock x.code.acts
 driver_sized d sized k x l e = subst (λ (y : Driver). IsSizedBlock y.code.acts) (sym e) (sized.drivers k x l)
+
+pub width_past : (ns : List Net) (m : ℕ) → length ns ≤ m → slice_index (map (λ (n : Net). n.width) ns) m ≡ 0
+width_past [] m l = refl
+width_past (n ∷ ns) zero l = absurd (omega arith)
+width_past (n ∷ ns) (suc m) l = width_past ns m (omega arith)

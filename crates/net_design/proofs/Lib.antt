@@ -1,4 +1,3 @@
-pub mod BoolLaws
 pub mod Rows
 pub mod ExampleLaws
 pub mod LawfulCode
@@ -8,3 +7,5 @@ pub mod FrameLaws
 pub mod TargetLaws
 pub mod StateLaws
 pub mod LastLaws
+pub mod OneProof
+mod InitialLaws

@@ -26,7 +26,7 @@ body_items : {n : _} → (t : Timing) (body : Row_of-Act n) (v : Values) (acts :
     → act_row t body v ≡ block_updates t acts v
 body_items t body v acts h = act_items t body v ∙ ap (λ xs. block_updates t xs v) (sym h)
 
-choice : (b : Bool) (x x' y y' : List Update) → x ≡ x' → y ≡ y' → (if b then x else y) ≡ (if b then x' else y')
+pub choice : (b : Bool) (x x' y y' : List Update) → x ≡ x' → y ≡ y' → (if b then x else y) ≡ (if b then x' else y')
 choice b x x' y y' h k = ap (λ u. if b then u else y) h ∙ ap (λ u. if b then x' else u) k
 
 guard_items : {n : _} → (t : Timing) (row : Row_of-Guard n) (us : List Update) (v : Values)

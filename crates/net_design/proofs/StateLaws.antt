@@ -1,19 +1,21 @@
 -- The initial state is a state, and so is the next state of a state.
 use Rattle.std.proofs.Common.{◌≡◌, ◌≢◌, ℕ, zero, suc, ◌+◌, ◌-◌, ◌*◌, ◌/◌, ◌%◌, ◌^◌, ◌<◌, ◌≤◌, ◌==◌, ◌&&◌, min, nat_lt, Bool, true}
 use Rattle.std.proofs.Common.{false, IsTrue}
-use Rattle.std.proofs.Common.{List, [], ◌∷◌, ◌++◌, map, take, replicate, length, slice_index, slice_set, slice_get, Option}
-use Rattle.std.proofs.Common.{Some, None}
+use Rattle.std.proofs.Common.{List, [], ◌∷◌, ◌++◌, map, take, replicate, length, slice_index, slice_set, slice_get}
+use Rattle.std.proofs.Common.{Some}
 use Rattle.std.proofs.Common.{if◌then◌else◌, ⊎_elim, refl, ap, sym, subst, ◌∙◌, arith}
 use Rattle.std.specs.Int.{bit_at}
 use Rattle.std.specs.List.{AllByRecursion, Contains, list_any, flat_map, enumerate_from, sum_by}
-use Rattle.std.proofs.lemmas.Bool.{cases_lt, or_from, leb-true, eqb-true, ltb-true}
+use Rattle.std.proofs.lemmas.Bool.{cases_lt, or_from, leb-true, eqb-true, ltb-true, false_from_ne_true, and_parts, or_parts}
 use Rattle.std.proofs.lemmas.List.{get_or-replicate, get_or_past, get_or-set_same, get_or-set_other, length-replicate, length-set}
 use Rattle.std.proofs.lemmas.List.Folds.{Any-from_list_any, list_any-append}
 use Rattle.std.proofs.lemmas.List.Sums.{sum_by-cons}
 use Rattle.std.proofs.lemmas.Option.{get_or_from_slice_get, slice_get_within}
 use Rattle.std.proofs.lemmas.Nat.{pow_pos, mod_below}
-use Rattle.std.proofs.lemmas.Nat.Bits.{bit_at_above, same_from_bits}
-use Rattle.vidi_bits.proofs.BitLemmas.{bit_at-mod, bit_at-mod_above, bit_at-put_above}
+use Rattle.std.proofs.lemmas.Nat.Bits.{bit_at_above}
+use Rattle.vidi_bits.proofs.Bools.{not_both}
+use Rattle.vidi_bits.proofs.Lists.{some_same}
+use Rattle.vidi_bits.proofs.BitLemmas.{fits_by_bits, put_fits}
 use Rattle.net_design.specs.declared.rhs.Room.{Room}
 use Rattle.net_design.specs.declared.act.Place.{Place}
 use Rattle.net_design.specs.declared.act.Place.TheVariants.{Bits, BitsFrom, Word, WordFrom}
@@ -30,33 +32,15 @@ use Rattle.net_design.specs.declared.values.Target.{Target}
 use Rattle.net_design.specs.declared.values.Target.TheVariants.{Net as NetTarget, Word as WordTarget}
 use Rattle.net_design.specs.declared.values.Update.{Update}
 use Rattle.net_design.specs.declared.values.Values.{Values}
-use Rattle.vlog_operators.specs.Number.{has, put_of}
+use Rattle.vidi_bits.specs.Number.{has, put_of}
 use Rattle.net_design.specs.Value.{value}
 use Rattle.net_design.specs.Sized.{IsPlace, IsAct, IsGuardRow, IsActRow}
 use Rattle.net_design.specs.Updates.{written_to, apply, place_updates, target_width, target_updates, seen, updates, guard_row, act_row}
 use Rattle.net_design.specs.Updates.{block_updates}
-use Rattle.net_design.specs.Settled.{net_width, held, word_count, FitNets, clocked, next, initial_number, initial}
+use Rattle.net_design.specs.Settled.{net_width, held, word_count, FitNets, clocked, next, initial_number, initial, room_length}
 use Rattle.net_design.specs.Lawful.{IsLawful, IsClocked, IsRegister, IsInRange, IsState, is_span, is_room}
 use Rattle.net_design.proofs.LawfulCode.{net_width_le, slice_get-at}
 use Rattle.net_design.proofs.FrameLaws.{touched, touches_at, block_touch, applied_stays, set_past, same_or_other}
-use Rattle.net_design.proofs.BoolLaws.{by_true, and_parts, or_parts, not_both}
-
--- a number without a bit from w on is below 2 to the power of w
-pub fits_by_bits : (n w : ℕ) → ((k : ℕ) → w ≤ k → bit_at n k ≡ 0) → n < 2 ^ w
-fits_by_bits n w h =
-    let same : n % 2 ^ w ≡ n = same_from_bits (n % 2 ^ w) n (λ k. ⊎_elim
-    (λ (l : k < w). bit_at-mod n w k l)
-    (λ (g : w ≤ k). bit_at-mod_above n w k g ∙ sym (h k g))
-    (cases_lt k w)) in
-    subst (λ x. x < 2 ^ w) same (mod_below n (2 ^ w) (pow_pos w))
-
--- a number that is written below a width still fits it
-put_fits : (x low w y width : ℕ) → x < 2 ^ width → low + w ≤ width → put_of x low w y < 2 ^ width
-put_fits x low w y width l h =
-    fits_by_bits (put_of x low w y) width (λ k g. ⊎_elim
-    (λ (small : k < 128). bit_at-put_above x low w y k small (omega arith) ∙ bit_at_above x width k l g)
-    (λ (large : 128 ≤ k). bit_at-mod_above ((x / 2 ^ (low + w) * 2 ^ w + y % 2 ^ w) * 2 ^ low + x % 2 ^ low) 128 k large)
-    (cases_lt k 128))
 
 -- ---- bits that the state holds
 held_below : (d : Design) → IsLawful d → (m k : ℕ) → held d m k ≡ true → k < net_width d m
@@ -74,7 +58,7 @@ held_below d law m k h =
     (cases_lt k (net_width d m))
 
 unheld_above : (d : Design) → IsLawful d → (m k : ℕ) → net_width d m ≤ k → held d m k ≡ false
-unheld_above d law m k g = by_true _ (λ t. let l : k < net_width d m = held_below d law m k t in omega arith)
+unheld_above d law m k g = false_from_ne_true _ (λ t. let l : k < net_width d m = held_below d law m k t in omega arith)
 
 -- numbers without bits that the state doesn't hold fit their nets
 state_fits : (d : Design) → IsLawful d → (numbers : List ℕ) → length numbers ≡ length d.nets
@@ -200,35 +184,25 @@ AreWithin d (u ∷ us) = IsWithin d u.target (u.low + u.width) × AreWithin d us
 abbrev WordsFit : Design → List ℕ → Type 0
 WordsFit d ws = (a : DesignMemory) (i : ℕ) → Contains d.memories a → i < a.room.length → slice_index ws (a.room.first + i) < 2 ^ a.width
 
-abbrev size_of : DesignMemory → ℕ
-size_of a = a.room.length
-
-abbrev from_some : {X : Type 0} → Option X → X → X
-from_some (Some x) y = x
-from_some None y = y
-
-same_in : {X : Type 0} (x y : X) → Some x ≡ Some y → x ≡ y
-same_in x y h = ap (λ o. from_some o x) h
-
 -- the words before memory q have those of memory p, where p comes first
 before : (ms : List DesignMemory) (p q : ℕ) (a : DesignMemory) → slice_get ms p ≡ Some a → p < q
-    → sum_by size_of (take p ms) + size_of a ≤ sum_by size_of (take q ms)
+    → sum_by room_length (take p ms) + room_length a ≤ sum_by room_length (take q ms)
 before [] p q a h l = absurd cc
 before (m ∷ ms) zero zero a h l = absurd (omega arith)
 before (m ∷ ms) zero (suc q) a h l =
-    let e : size_of m ≡ size_of a = ap size_of (same_in m a h) in
-    let c = sum_by-cons size_of m (take q ms) in
+    let e : room_length m ≡ room_length a = ap room_length (some_same m a h) in
+    let c = sum_by-cons room_length m (take q ms) in
     omega arith
 before (m ∷ ms) (suc p) zero a h l = absurd (omega arith)
 before (m ∷ ms) (suc p) (suc q) a h l =
     let i = before ms p q a h (omega arith) in
-    let c = sum_by-cons size_of m (take p ms) in
-    let e = sum_by-cons size_of m (take q ms) in
+    let c = sum_by-cons room_length m (take p ms) in
+    let e = sum_by-cons room_length m (take q ms) in
     omega arith
 
 -- two memories that have one word are the same
 one_memory : (d : Design) → IsLawful d → (p q : ℕ) (a b : DesignMemory) → slice_get d.memories p ≡ Some a → slice_get d.memories q ≡ Some b
-    → (x y : ℕ) → x < size_of a → y < size_of b → a.room.first + x ≡ b.room.first + y → a ≡ b
+    → (x y : ℕ) → x < room_length a → y < room_length b → a.room.first + x ≡ b.room.first + y → a ≡ b
 one_memory d law p q a b ha hb x y lx ly e =
     let fa = law.rooms p a ha in
     let fb = law.rooms q b hb in
@@ -236,7 +210,7 @@ one_memory d law p q a b ha hb x y lx ly e =
     (λ (l : p < q). let t = before d.memories p q a ha l in absurd (omega arith))
     (λ (g : q ≤ p). ⊎_elim
     (λ (l : q < p). let t = before d.memories q p b hb l in absurd (omega arith))
-    (λ (h : p ≤ q). let same : p ≡ q = omega arith in same_in a b (sym ha ∙ ap (slice_get d.memories) same ∙ hb))
+    (λ (h : p ≤ q). let same : p ≡ q = omega arith in some_same a b (sym ha ∙ ap (slice_get d.memories) same ∙ hb))
     (cases_lt q p))
     (cases_lt p q)
 
@@ -356,7 +330,7 @@ module _ (d : Design) (law : IsLawful d) where
   untouched : (c : Code) → IsClocked d c → (v : Values) (m k : ℕ) → held d m k ≡ false
       → touched (block_updates Nonblocking c.acts v) m k ≡ false
   untouched c h v m k e =
-      block_touch Nonblocking c.acts v m k (by_true _ (λ t. not_both _ (h.held m k (h.code.bits.writes m k ∙ t)) e))
+      block_touch Nonblocking c.acts v m k (false_from_ne_true _ (λ t. not_both _ (h.held m k (h.code.bits.writes m k ∙ t)) e))
 
   all_untouched : (bs : List Code) → AllClocked bs → (v : Values) (m k : ℕ) → held d m k ≡ false → touched (all_updates bs v) m k ≡ false
   all_untouched [] h v m k e = refl

@@ -2,11 +2,11 @@
 use Rattle.std.proofs.Common.{◌≡◌, ℕ, ◌==◌, Bool, true, false, if◌then◌else◌, subst, ◌+◌, ◌-◌, ◌/◌, ◌%◌, ◌^◌, ◌<◌, ◌≤◌, ◌↔◌, List, [], ◌∷◌}
 use Rattle.std.proofs.Common.{◌++◌, length, slice_index, append-nil, refl, ap, sym, ◌∙◌, arith}
 use Rattle.std.specs.Int.{bit_at}
-use Rattle.std.proofs.lemmas.Bool.{le-leb, lt-ltb, eq-eqb, eqb-true}
+use Rattle.std.proofs.lemmas.Bool.{le-leb, lt-ltb, eq-eqb, eqb-true, and_from}
 use Rattle.std.proofs.lemmas.List.{get_or-set_same}
 use Rattle.std.proofs.lemmas.Nat.{pow_pos, mod_below}
 use Rattle.std.proofs.lemmas.Nat.Bits.{same_from_bits_below}
-use Rattle.vidi_bits.proofs.BitLemmas.{bit_at-part, bit_at-put_inside}
+use Rattle.vidi_bits.proofs.BitLemmas.{bit_at-part, bit_at-put_inside, bit_at-mod}
 use Rattle.net_design.specs.declared.rhs.Span.{Span}
 use Rattle.net_design.specs.declared.rhs.Rhs.{Rhs}
 use Rattle.net_design.specs.declared.act.Place.{Place}
@@ -15,18 +15,17 @@ use Rattle.net_design.specs.declared.act.Act.TheVariants.{Set}
 use Rattle.net_design.specs.declared.values.Target.TheVariants.{Net}
 use Rattle.net_design.specs.declared.values.Update.{Update}
 use Rattle.net_design.specs.declared.values.Values.{Values}
-use Rattle.vlog_operators.specs.Number.{part_of, put_of}
+use Rattle.vidi_bits.specs.Number.{part_of, put_of}
 use Rattle.net_design.specs.Value.{read, value}
 use Rattle.net_design.specs.Updates.{apply, update, bit_updates, target_width, target_updates, run, ArePlaced, HasParts}
 use Rattle.net_design.specs.Bits.{bits_of, Apart}
-use Rattle.net_design.proofs.EquationLaws.{bit_at-rest, rest_one, bits_same}
+use Rattle.net_design.proofs.EquationLaws.{rest_one, bits_same}
 use Rattle.net_design.proofs.UpdateLaws.{apply_both}
 use Rattle.net_design.proofs.FrameLaws.{applied_stays, target_touch}
-use Rattle.net_design.proofs.BoolLaws.{and_both}
 
 in_span : (s : Span) (i : ℕ) → i < s.width → bits_of s s.net (s.low + i) ≡ true
 in_span s i l =
-    and_both _ _ (eq-eqb s.net s.net refl) (and_both _ _ (le-leb s.low (s.low + i) (omega arith))
+    and_from _ _ (eq-eqb s.net s.net refl) (and_from _ _ (le-leb s.low (s.low + i) (omega arith))
     (lt-ltb (s.low + i) (s.low + s.width) (omega arith)))
 
 -- v after w bits were written, or none
@@ -52,7 +51,7 @@ first_part false m low w us x v z there wide stay same =
     ∙ ap (λ n. bit_at n (low + i)) (get_or-set_same v.nets m (put_of (slice_index v.nets m) low w x) 0 there)
     ∙ bit_at-put_inside (slice_index v.nets m) low w x (low + i) (omega arith) (omega arith) (omega arith)
     ∙ ap (λ j. bit_at x j) back
-    ∙ sym (bit_at-rest x w i l))
+    ∙ sym (bit_at-mod x w i l))
 
 parts_from : (ps : List Place) (x : ℕ) (v : Values) → ArePlaced ps v → Apart ps → apply (target_updates ps x v) v ≡ v → HasParts ps x v
 parts_from [] x v placed apart h = tt

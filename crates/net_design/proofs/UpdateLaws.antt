@@ -33,7 +33,7 @@ seen_nothing : (t : Timing) (v : Values) → seen t [] v ≡ v
 seen_nothing Blocking v = refl
 seen_nothing Nonblocking v = refl
 
-seen_both : (t : Timing) (us ws : List Update) (v : Values) → seen t (us ++ ws) v ≡ seen t ws (seen t us v)
+pub seen_both : (t : Timing) (us ws : List Update) (v : Values) → seen t (us ++ ws) v ≡ seen t ws (seen t us v)
 seen_both Blocking us ws v = apply_both us ws v
 seen_both Nonblocking us ws v = refl
 

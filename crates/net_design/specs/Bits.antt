@@ -12,7 +12,7 @@ use Rattle.net_design.specs.declared.act.Act.{more_of-Guard}
 use Rattle.net_design.specs.declared.act.Code.{Code}
 use Rattle.net_design.specs.declared.act.Timing.{Timing}
 use Rattle.net_design.specs.declared.act.Timing.TheVariants.{Blocking, Nonblocking}
-use Rattle.vlog_operators.specs.Number.{has}
+use Rattle.vidi_bits.specs.Number.{has}
 
 abbrev pub BitSet : Type 0
 BitSet = ℕ → ℕ → Bool

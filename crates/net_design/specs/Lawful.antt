@@ -9,7 +9,6 @@ use Rattle.net_design.specs.declared.act.Act.{Act, Set}
 use Rattle.net_design.specs.declared.act.Code.{Code}
 use Rattle.net_design.specs.declared.act.Timing.{Timing}
 use Rattle.net_design.specs.declared.act.Timing.TheVariants.{Blocking, Nonblocking}
-use Rattle.net_design.specs.declared.design.Instance.{Instance}
 use Rattle.net_design.specs.declared.design.Net.{Net}
 use Rattle.net_design.specs.declared.design.Register.{Register}
 use Rattle.net_design.specs.declared.design.DesignMemory.{DesignMemory}
@@ -19,11 +18,11 @@ use Rattle.net_design.specs.declared.design.Direction.TheVariants.{Input}
 use Rattle.net_design.specs.declared.design.Design.{Design}
 use Rattle.net_design.specs.declared.design.Counts.{Counts}
 use Rattle.net_design.specs.declared.values.Values.{Values}
-use Rattle.vlog_operators.specs.Number.{IsWidth, has}
+use Rattle.vidi_bits.specs.Number.{IsWidth, has}
 use Rattle.net_design.specs.Sized.{IsBlock}
 use Rattle.net_design.specs.Bits.{named, Apart, HasBits, block_adds, block_writes_words}
 use Rattle.net_design.specs.Settled.{net_width, held, word_count, same_direction, FitNets}
-use Rattle.net_design.specs.Names.{net_names}
+use Rattle.net_design.specs.Names.{AreAfterParents, net_names}
 
 -- bit k of net m is there
 abbrev pub IsBit : Design → ℕ → ℕ → Type 0
@@ -101,7 +100,7 @@ pub record IsLawful (d : Design) : Type 0 where
   pub small : AreSmall (counts d)
   -- names: the top comes first, and each instance after the one that holds it
   pub top : 1 ≤ length d.instances
-  pub parents : (i : ℕ) (x : Instance) → slice_get d.instances i ≡ Some x → 1 ≤ i → x.parent < i
+  pub parents : AreAfterParents d.instances
   -- no two nets have the same full name
   pub names : AllPairs (λ (a b : List (List ℕ)). a ≢ b) (net_names d)
   -- nets, memories, ports and state

@@ -16,7 +16,7 @@ use Rattle.net_design.specs.declared.design.Direction.TheVariants.{Input, Output
 use Rattle.net_design.specs.declared.design.Design.{Design}
 use Rattle.net_design.specs.declared.values.Update.{Update}
 use Rattle.net_design.specs.declared.values.Values.{Values}
-use Rattle.vlog_operators.specs.Number.{has}
+use Rattle.vidi_bits.specs.Number.{has}
 use Rattle.net_design.specs.Sized.{IsSizedBlock}
 use Rattle.net_design.specs.Bits.{BitSet}
 use Rattle.net_design.specs.Updates.{apply, block_updates, run}
@@ -29,6 +29,10 @@ net_width d m = slice_index (map (λ (n : Net). n.width) d.nets) m
 -- the bits of regs that the state holds
 abbrev pub held : Design → BitSet
 held d m k = list_any (λ (r : Register). (r.net == m) && has r.held k) d.registers
+
+-- how many words a memory has
+abbrev pub room_length : DesignMemory → ℕ
+room_length a = a.room.length
 
 abbrev pub word_count : Design → ℕ
 word_count d = sum_by (λ (a : DesignMemory). a.room.length) d.memories

@@ -10,7 +10,7 @@ use Rattle.net_design.specs.declared.act.Place.TheVariants.{Bits as PlaceBits, B
 use Rattle.net_design.specs.declared.act.Guard.{Guard}
 use Rattle.net_design.specs.declared.act.Act.{Act, Set, Read, Branch', Row_of-Act, end_of-Act, more_of-Act, Row_of-Guard, end_of-Guard}
 use Rattle.net_design.specs.declared.act.Act.{more_of-Guard}
-use Rattle.vlog_operators.specs.Number.{IsWidth}
+use Rattle.vidi_bits.specs.Number.{IsWidth}
 use Rattle.net_design.specs.Updates.{target_width}
 
 module _ (P : Span → Type 0) (R : Room → ℕ → Type 0) where

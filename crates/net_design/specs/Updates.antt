@@ -14,7 +14,7 @@ use Rattle.net_design.specs.declared.values.Target.{Target}
 use Rattle.net_design.specs.declared.values.Target.TheVariants.{Net, Word as WordTarget}
 use Rattle.net_design.specs.declared.values.Update.{Update}
 use Rattle.net_design.specs.declared.values.Values.{Values}
-use Rattle.vlog_operators.specs.Number.{put_of}
+use Rattle.vidi_bits.specs.Number.{put_of}
 use Rattle.net_design.specs.Value.{read, value}
 
 -- ---- updates made

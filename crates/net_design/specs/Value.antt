@@ -5,8 +5,8 @@ use Rattle.net_design.specs.declared.rhs.Span.{Span}
 use Rattle.net_design.specs.declared.rhs.Room.{Room}
 use Rattle.net_design.specs.declared.rhs.Rhs.{Rhs, Number, Bits, Word', Unary', Binary', Choose', Join', Repeat', Select'}
 use Rattle.net_design.specs.declared.values.Values.{Values}
-use Rattle.vlog_operators.specs.Number.{part_of, repeated}
-use Rattle.vlog_operators.specs.Operators.{unary_number, binary_number}
+use Rattle.vidi_bits.specs.Number.{part_of, repeated}
+use Rattle.vidi_bits.specs.Operators.{unary_number, binary_number}
 
 -- bits of a net (5.2.1)
 abbrev pub read : Span → Values → ℕ

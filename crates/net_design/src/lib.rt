@@ -11,6 +11,7 @@ mod act;
 mod block;
 mod counts;
 mod design;
+mod initial;
 mod laws;
 mod parts;
 mod rhs;
@@ -20,6 +21,7 @@ pub use act::{Act, Code, Guard, Lhs, Mask, Place, Timing};
 pub use block::Block;
 pub use counts::{count_words, few_words};
 pub use design::{Counts, Design, DesignMemory, Direction, Driver, Instance, Net, Port, Register};
+pub use initial::{initial_numbers, zeros};
 pub use laws::{
     assignment_is_equation, blocks_in_order, choice_by_lists, initial_is_state, last_update_stands,
     lawful_design_shown, lawful_is_sized, next_is_state, target_is_equation, unwritten_bits_stay,
@@ -27,4 +29,4 @@ pub use laws::{
 };
 pub use parts::{place_width, see_branch};
 pub use rhs::{Rhs, Room, Span};
-pub use values::{Target, Update, Values};
+pub use values::{Target, Update, Values, number_at};

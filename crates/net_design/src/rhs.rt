@@ -1,7 +1,7 @@
 //! Expressions: the right sides of assignments, and conditions and indexes.
 
 use std::boxed::Box;
-use vlog_operators::{BinaryOp, UnaryOp};
+use vidi_bits::{BinaryOp, UnaryOp};
 
 /// `width` bits of a net, from bit `low` on.
 #[derive(Clone, Copy)]

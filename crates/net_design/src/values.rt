@@ -1,5 +1,7 @@
 //! The numbers of nets and words, and changes of them.
 
+ghost use Rattle.std.specs.Prelude.{◌≡◌, slice_index};
+
 use vidi_bits::Numbers;
 
 /// A number for each net and each memory word of a design, in order: a state, or what a state and the
@@ -26,4 +28,12 @@ pub struct Update {
     pub low: u32,
     pub width: u32,
     pub number: u128,
+}
+
+/// Number `i` of a list, 0 past its end.
+pub fn number_at(list: &Numbers, i: usize) -> u128
+    ensures { result ≡ slice_index list.now i }
+{
+    let numbers = list.as_slice();
+    if i < numbers.len() { numbers[i] } else { 0 }
 }

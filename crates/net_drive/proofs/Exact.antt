@@ -1,41 +1,36 @@
 -- Bits that have exactly one driver, and the first that hasn't.
-use Rattle.std.proofs.Common.{◌≡◌, ℕ, zero, suc, ◌+◌, ◌-◌, ◌<◌, ◌==◌, ◌&&◌, not, nat_lt, cond, Bool, true, false}
+use Rattle.std.proofs.Common.{◌≡◌, ℕ, zero, suc, ◌+◌, ◌-◌, ◌<◌, ◌==◌, ◌&&◌, not, nat_lt, Bool, true, false}
 use Rattle.std.proofs.Common.{List, [], ◌∷◌, ◌++◌, Option, Some, None, is_some, drop, drop-cons, get_or, length, refl, ap, sym, ◌∙◌, arith}
-use Rattle.std.proofs.lemmas.Bool.{lt-ltb, eqb-true}
+use Rattle.std.proofs.lemmas.Bool.{lt-ltb, eqb-true, false_from_ne_true}
+use Rattle.net_code.specs.Targets.{bit_count}
+use Rattle.vidi_bits.proofs.Bools.{not_both}
 use Rattle.vidi_bits.specs.Findings.{first, told_if}
-use Rattle.vlog_operators.specs.Number.{has, truth}
+use Rattle.vidi_bits.specs.Number.{truth}
 use Rattle.net_design.specs.declared.act.Place.{Place}
-use Rattle.net_design.proofs.BoolLaws.{by_true}
-use Rattle.net_code.specs.declared.bit_map.BitMap.{BitMap}
-use Rattle.net_code.specs.BitMap.{mask_of, in_map}
 use Rattle.net_drive.specs.declared.findings.Misdriven.{Misdriven}
 use Rattle.net_drive.specs.declared.findings.Misdriven.TheVariants as what
 use Rattle.net_design.specs.declared.design.Net.{Net}
 use Rattle.net_design.specs.declared.design.DesignMemory.{DesignMemory}
 use Rattle.net_drive.specs.declared.findings.NetKind.{NetKind}
-use Rattle.net_drive.specs.Drive.{bit_count, bit_faults, kind_faults, kind_at, nets_from, memory_at, memories_from}
+use Rattle.net_drive.specs.Drive.{bit_faults, kind_faults, kind_at, nets_from, memory_at, memories_from}
 use Rattle.net_drive.specs.Tallied.{exact}
 
 exact_pin : (c : ℕ) → not (nat_lt 0 c) ≡ (1 + c == 1)
 exact_pin zero = refl
 exact_pin (suc n) =
     ap not (lt-ltb 0 (suc n) (omega arith))
-    ∙ sym (by_true (1 + suc n == 1) (λ t. let h : 1 + suc n ≡ 1 = eqb-true (1 + suc n) 1 t in omega arith))
+    ∙ sym (false_from_ne_true (1 + suc n == 1) (λ t. let h : 1 + suc n ≡ 1 = eqb-true (1 + suc n) 1 t in omega arith))
 
 exact_wire : (c : ℕ) → (nat_lt 0 c && not (nat_lt 1 c)) ≡ (0 + c == 1)
 exact_wire zero = refl
 exact_wire (suc zero) = refl
 exact_wire (suc (suc n)) =
     ap (λ b. b && not (nat_lt 1 (suc (suc n)))) (lt-ltb 0 (suc (suc n)) (omega arith)) ∙ ap not (lt-ltb 1 (suc (suc n)) (omega arith))
-    ∙ sym (by_true (0 + suc (suc n) == 1) (λ t. let h : 0 + suc (suc n) ≡ 1 = eqb-true (0 + suc (suc n)) 1 t in omega arith))
+    ∙ sym (false_from_ne_true (0 + suc (suc n) == 1) (λ t. let h : 0 + suc (suc n) ≡ 1 = eqb-true (0 + suc (suc n)) 1 t in omega arith))
 
 exact_count : (pin : Bool) (c : ℕ) → exact pin (nat_lt 0 c) (nat_lt 1 c) ≡ (truth pin + c == 1)
 exact_count true c = exact_pin c
 exact_count false c = exact_wire c
-
-pub in_is : (b : BitMap) (m k n : ℕ) → n ≡ mask_of b m → has n k ≡ in_map b m k
-unfolding in_map
-in_is b m k n is = ap (λ x. has x k) is
 
 pub counted : (pin : Bool) (c : ℕ) (once more : Bool) → once ≡ nat_lt 0 c → more ≡ nat_lt 1 c → exact pin once more ≡ (truth pin + c == 1)
 counted pin c once more o w = ap (λ b. exact pin b more) o ∙ ap (exact pin (nat_lt 0 c)) w ∙ exact_count pin c
@@ -82,27 +77,15 @@ either found other result xs ys f o is = is ∙ ap (λ x. pick x other) f ∙ bo
     both [] = o
     both (x ∷ xs) = refl
 
-pub not_true : (b : Bool) → not b ≡ true → b ≡ false
-not_true true e = absurd (cc)
-not_true false e = refl
-
-pub not_false : (b : Bool) → not b ≡ false → b ≡ true
-not_false true e = refl
-not_false false e = absurd (cc)
-
 -- ---- the first finding of two lists
 
-pub off_on : (b : Bool) → b ≡ false → b ≡ true → ⊥
-off_on true e h = absurd (cc)
-off_on false e h = absurd (cc)
-
 pub found_first : (xs ys : List Misdriven) (o : Option Misdriven) → o ≡ first xs → is_some o ≡ true → o ≡ first (xs ++ ys)
-found_first [] ys o e s = absurd (off_on (is_some o) (ap (λ (x : Option Misdriven). is_some x) e) s)
+found_first [] ys o e s = absurd (not_both (is_some o) s (ap (λ (x : Option Misdriven). is_some x) e))
 found_first (x ∷ xs) ys o e s = e
 
 pub not_found : (xs ys : List Misdriven) (o : Option Misdriven) → o ≡ first xs → is_some o ≡ false → first (xs ++ ys) ≡ first ys
 not_found [] ys o e s = refl
-not_found (x ∷ xs) ys o e s = absurd (off_on (is_some o) s (ap (λ (x : Option Misdriven). is_some x) e))
+not_found (x ∷ xs) ys o e s = absurd (not_both (is_some o) (ap (λ (x : Option Misdriven). is_some x) e) s)
 
 pub nets_split : (places : List Place) (blocks : List (List ℕ)) (kinds : List NetKind) (nets : List Net) (i : ℕ) (n : Net) → i < length nets
     → n ≡ get_or nets i n → nets_from places blocks kinds i (drop i nets)

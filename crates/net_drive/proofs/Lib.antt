@@ -1,4 +1,3 @@
 pub mod Exact
 pub mod NoneFound
 pub mod Tallies
-pub mod TargetRows

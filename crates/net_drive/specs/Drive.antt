@@ -1,20 +1,20 @@
 -- E8 ("Reasons"; this project's profile): each bit of a wire, or of a port that isn't `output reg`, has exactly one driver, and a reg or a
 -- memory is written by at most one always block.
-use Rattle.std.specs.Prelude.{ℕ, zero, suc, ◌+◌, ◌==◌, min, not, nat_lt, Bool, List, [], ◌∷◌, ◌++◌, map, Option, None, Some, slice_get}
+use Rattle.std.specs.Prelude.{ℕ, zero, suc, ◌+◌, ◌==◌, min, not, nat_lt, List, [], ◌∷◌, ◌++◌, map, Option, None, Some, slice_get}
 use Rattle.std.specs.Prelude.{if◌then◌else◌}
-use Rattle.std.specs.List.{count_by, flat_map, list_any}
+use Rattle.std.specs.List.{count_by, flat_map}
 use Rattle.vidi_bits.specs.Findings.{told_if}
 use Rattle.net_design.specs.declared.act.Place.{Place}
 use Rattle.net_design.specs.declared.act.Code.{Code}
 use Rattle.net_design.specs.declared.design.Net.{Net}
 use Rattle.net_design.specs.declared.design.DesignMemory.{DesignMemory}
 use Rattle.net_design.specs.declared.design.Driver.{Driver}
-use Rattle.net_design.specs.Bits.{place_writes}
 use Rattle.net_drive.specs.declared.findings.NetKind.{NetKind}
 use Rattle.net_drive.specs.declared.findings.NetKind.TheVariants.{Pin, Wire, Reg}
 use Rattle.net_drive.specs.declared.findings.Misdriven.{Misdriven}
 use Rattle.net_drive.specs.declared.findings.Misdriven.TheVariants as what
-use Rattle.net_drive.specs.Targets.{block_targets, nets_named, rooms_named}
+use Rattle.net_code.specs.BitMap.{is_among}
+use Rattle.net_code.specs.Targets.{block_targets, nets_named, rooms_named, bit_count}
 
 -- ---- drivers
 
@@ -24,10 +24,6 @@ driver_places x = if x.always then [] else block_targets x.code.acts
 
 unfoldable pub wire_places : List Driver → List Place
 wire_places drivers = flat_map driver_places drivers
-
--- how often bit k of net m is driven: a target that names it more than once counts so many times
-abbrev pub bit_count : List Place → ℕ → ℕ → ℕ
-bit_count places m k = count_by (λ (p : Place). place_writes p m k) places
 
 -- ---- always blocks
 
@@ -39,9 +35,6 @@ always_names names x = told_if x.always (names (block_targets x.code.acts))
 abbrev pub block_names : (List Place → List ℕ) → List Driver → List Code → List (List ℕ)
 block_names names drivers blocks =
     flat_map (always_names names) drivers ++ map (λ (c : Code). names (block_targets c.acts)) blocks
-
-abbrev pub is_among : ℕ → List ℕ → Bool
-is_among m named = list_any (λ i. i == m) named
 
 -- how many blocks name m
 abbrev pub block_count : List (List ℕ) → ℕ → ℕ

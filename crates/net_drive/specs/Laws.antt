@@ -7,8 +7,8 @@ use Rattle.net_design.specs.declared.design.DesignMemory.{DesignMemory}
 use Rattle.net_design.specs.declared.design.Driver.{Driver}
 use Rattle.net_drive.specs.declared.findings.NetKind.{NetKind}
 use Rattle.net_drive.specs.declared.findings.NetKind.TheVariants.{Pin, Wire, Reg}
-use Rattle.net_drive.specs.Targets.{nets_named, rooms_named}
-use Rattle.net_drive.specs.Drive.{bit_count, block_count, block_names, wire_places, kind_at, drive_faults}
+use Rattle.net_code.specs.Targets.{nets_named, rooms_named, bit_count}
+use Rattle.net_drive.specs.Drive.{block_count, block_names, wire_places, kind_at, drive_faults}
 
 -- a pin's bits are written by no driver, a wire's each by one and once, and a reg is named by at most one always block
 abbrev pub IsDriven : List Place → List (List ℕ) → ℕ → ℕ → NetKind → Type 0

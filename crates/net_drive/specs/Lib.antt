@@ -1,4 +1,3 @@
 pub mod Drive
 pub mod Laws
 pub mod Tallied
-pub mod Targets

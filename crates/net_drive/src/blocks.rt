@@ -2,7 +2,7 @@
 
 ghost use Rattle.std.specs.Prelude.{◌≡◌, ◌++◌, ◌∷◌, [], map, IfOk, OnOk};
 ghost use Rattle.std.specs.List.{flat_map};
-ghost use Rattle.net_drive.specs.Targets.{block_targets, nets_named, rooms_named, plain_places};
+ghost use Rattle.net_code.specs.Targets.{block_targets, nets_named, rooms_named, plain_places};
 ghost use Rattle.net_drive.specs.Drive.{driver_places, wire_places, always_names, block_names};
 
 use crate::targets::{add_targets, nets_named, rooms_named};

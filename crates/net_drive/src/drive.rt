@@ -1,19 +1,21 @@
 //! E8: the first net or memory that isn't driven as it has to be.
 
 ghost use Rattle.std.specs.Prelude.{◌≡◌, ◌++◌, List, ℕ, ◌+◌, ◌^◌, ◌≤◌, ◌<◌, ◌==◌, not, min, Some, None, IfOk};
+ghost use Rattle.net_code.specs.Tally.{IsLowTally, IsKeyTally};
 ghost use Rattle.vidi_bits.specs.Findings.{first};
-ghost use Rattle.vlog_operators.specs.Number.{has, truth};
+ghost use Rattle.vidi_bits.specs.Number.{has, truth};
 ghost use Rattle.net_design.specs.Bits.{bits_of, place_writes};
-ghost use Rattle.net_code.specs.BitMap.{in_map};
+ghost use Rattle.net_code.specs.BitMap.{in_map, is_among};
 ghost use Rattle.net_drive.specs.declared.findings.Misdriven.{Misdriven};
-ghost use Rattle.net_drive.specs.Targets.{plain_places, nets_named, rooms_named};
-ghost use Rattle.net_drive.specs.Drive.{bit_count, block_count, is_among, bit_faults, reg_faults, kind_faults, kind_at, nets_from};
+ghost use Rattle.net_code.specs.Targets.{plain_places, nets_named, rooms_named, bit_count};
+ghost use Rattle.net_drive.specs.Drive.{block_count, bit_faults, reg_faults, kind_faults, kind_at, nets_from};
 ghost use Rattle.net_drive.specs.Drive.{memory_at, memories_from, net_faults, memory_faults, drive_faults, wire_places, block_names};
-ghost use Rattle.net_drive.specs.Tallied.{IsTally, IsKeyTally, exact};
+ghost use Rattle.net_drive.specs.Tallied.{exact};
 
 use crate::blocks::{named_by, wire_places};
 use crate::findings::{Misdriven, NetKind};
-use crate::tally::{Tally, capped, net_span, tally_blocks, tally_places};
+use crate::tally::{capped, net_span, tally_blocks, tally_places};
+use net_code::Tally;
 use net_design::{Code, DesignMemory, Driver, Net, Place, Span};
 use std::alloc::Global;
 use vidi_bits::{Items, Memory, slice};
@@ -116,7 +118,7 @@ fn first_bit(
     pin: bool,
     width: u32,
 ) -> Option<Misdriven>
-    requires { IsTally tally.now (bit_count (plain_places places.now)) }
+    requires { IsLowTally tally.now (bit_count (plain_places places.now)) }
     ensures { result ≡ first (bit_faults (plain_places places.now) net (truth pin) 0 (min width 128)) }
 {
     let once = tally.once.mask(net);
@@ -174,7 +176,7 @@ struct Writers<'a> {
 impl Writers<'_> {
     /// The first finding at a net.
     fn net_fault(&self, net: usize, width: u32, kind: NetKind) -> Option<Misdriven>
-        requires wires { IsTally self.now.wires (bit_count (plain_places self.now.places)) }
+        requires wires { IsLowTally self.now.wires (bit_count (plain_places self.now.places)) }
         requires regs { IsKeyTally self.now.regs (block_count self.now.blocks) }
         ensures { result ≡ first (kind_faults (plain_places self.now.places) self.now.blocks net width kind) }
     {
@@ -187,7 +189,7 @@ impl Writers<'_> {
 
     /// The first finding at nets.
     fn first_net(&self, nets: &[Net], kinds: &[NetKind]) -> Option<Misdriven>
-        requires wires { IsTally self.now.wires (bit_count (plain_places self.now.places)) }
+        requires wires { IsLowTally self.now.wires (bit_count (plain_places self.now.places)) }
         requires regs { IsKeyTally self.now.regs (block_count self.now.blocks) }
         ensures { result ≡ first (nets_from (plain_places self.now.places) self.now.blocks kinds.now 0 nets.now) }
     {

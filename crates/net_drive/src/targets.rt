@@ -2,8 +2,8 @@
 
 ghost use Rattle.std.specs.Prelude.{◌≡◌, ◌++◌, [], ◌∷◌, map, IfOk, OnOk};
 ghost use Rattle.net_design.specs.declared.act.Act.{Act};
-ghost use Rattle.net_drive.specs.Targets.{targets, block_targets, guard_targets, plain_places};
-ghost use Rattle.net_drive.specs.Targets.{place_net, place_room, nets_named, rooms_named};
+ghost use Rattle.net_code.specs.Targets.{targets, block_targets, guard_targets, plain_places};
+ghost use Rattle.net_code.specs.Targets.{place_net, place_room, nets_named, rooms_named};
 
 use net_design::{Act, Guard, Place};
 use std::alloc::Global;
@@ -42,7 +42,7 @@ fn add_act<'a>(act: &'a Act, out: &mut Items<&'a Place>) -> Result<(), Memory>
 
 /// Adds the targets of statements.
 #[cycle(walk)]
-#[tactic(auto, unfolding(crate::specs::Targets::block_targets))]
+#[tactic(auto, unfolding(net_code::specs::Targets::block_targets))]
 fn add_acts<'a>(acts: &'a Items<Act>, out: &mut Items<&'a Place>) -> Result<(), Memory>
     ensures { OnOk result (plain_places out.new ≡ plain_places out.old ++ block_targets acts.now) }
 {
@@ -54,7 +54,7 @@ fn add_acts<'a>(acts: &'a Items<Act>, out: &mut Items<&'a Place>) -> Result<(), 
 
 /// Adds the targets of the bodies of guards.
 #[cycle(walk)]
-#[tactic(auto, unfolding(crate::specs::Targets::guard_targets))]
+#[tactic(auto, unfolding(net_code::specs::Targets::guard_targets))]
 fn add_guards<'a>(guards: &'a Items<Guard>, out: &mut Items<&'a Place>) -> Result<(), Memory>
     ensures { OnOk result (plain_places out.new ≡ plain_places out.old ++ guard_targets guards.now) }
 {
@@ -84,7 +84,7 @@ fn add_net(place: &Place, out: &mut Items<usize>) -> Result<(), Memory>
 }
 
 /// The nets that places name.
-#[tactic(auto, unfolding(crate::specs::Targets::nets_named))]
+#[tactic(auto, unfolding(net_code::specs::Targets::nets_named))]
 pub fn nets_named(alloc: Global, places: &[&Place]) -> Result<Items<usize>, Memory>
     ensures { IfOk result (λ named. named ≡ nets_named (plain_places places.now)) }
 {
@@ -108,7 +108,7 @@ fn add_room(place: &Place, out: &mut Items<usize>) -> Result<(), Memory>
 }
 
 /// The first words of the memories that places name.
-#[tactic(auto, unfolding(crate::specs::Targets::rooms_named))]
+#[tactic(auto, unfolding(net_code::specs::Targets::rooms_named))]
 pub fn rooms_named(alloc: Global, places: &[&Place]) -> Result<Items<usize>, Memory>
     ensures { IfOk result (λ named. named ≡ rooms_named (plain_places places.now)) }
 {

@@ -2,7 +2,7 @@
 use Rattle.std.proofs.Common.{◌≡◌, ℕ, ◌+◌, ◌^◌, ◌<◌, ◌≤◌, ◌↔◌, Bool, true, IsTrue, List, Some, length, get_or, take, slice_get}
 use Rattle.std.proofs.Common.{ap, sym, subst, ◌∙◌, arith}
 use Rattle.std.specs.List.{sum_by}
-use Rattle.std.proofs.lemmas.Bool.{leb-true, ltb-true, eqb-true}
+use Rattle.std.proofs.lemmas.Bool.{leb-true, ltb-true, eqb-true, and_parts}
 use Rattle.std.proofs.lemmas.List.Folds.{Any-from_list_any}
 use Rattle.std.proofs.lemmas.List.Sums.{sum_by_more_le}
 use Rattle.net_design.specs.declared.rhs.Span.{Span}
@@ -18,7 +18,6 @@ use Rattle.net_design.specs.Bits.{BitSet, HasBits, named}
 use Rattle.net_design.specs.Sized.{IsShort, IsCountable, IsSizedBlock}
 use Rattle.net_design.specs.Settled.{net_width, word_count}
 use Rattle.net_design.specs.Lawful.{IsInRange, is_span, is_room}
-use Rattle.net_design.proofs.BoolLaws.{and_parts}
 use Rattle.net_design.proofs.LawfulCode.{block_more, slice_get-at}
 use Rattle.net_code.specs.declared.bit_map.BitMap.{BitMap}
 use Rattle.net_code.specs.BitMap.{in_map}

@@ -1,84 +1,32 @@
 -- Bits that drivers write, counted.
 use Rattle.std.proofs.Common.{◌≡◌, ℕ, zero, suc, ◌+◌, ◌-◌, ◌^◌, ◌<◌, ◌≤◌, ◌==◌, ◌&&◌, ◌||◌, inl, inr, ◌↔◌}
-use Rattle.std.proofs.Common.{not, nat_lt, cond, Bool, true, false, IsTrue, bit_and}
-use Rattle.std.proofs.Common.{List, [], ◌∷◌, All, length, get_or, take, map, slice_index, ⊎_elim, refl, ap, sym, subst, ◌∙◌, arith}
-use Rattle.std.specs.List.{count_by}
-use Rattle.std.proofs.lemmas.Bool.{cases_lt, eqb-true, eq-eqb, ltb-true, lt-ltb}
+use Rattle.std.proofs.Common.{not, nat_lt, Bool, true, false, IsTrue, bit_and}
+use Rattle.std.proofs.Common.{List, [], ◌∷◌, All, length, get_or, take, map, slice_index, ⊎_elim, ap, sym, subst, ◌∙◌, arith}
+use Rattle.std.proofs.lemmas.Bool.{not-true, not_from_false, cases_lt, eqb-true, eq-eqb, ltb-true, lt-ltb, false_from_ne_true, and_parts, and_from}
 use Rattle.std.proofs.lemmas.List.Folds.{Any-from_list_any}
-use Rattle.std.proofs.lemmas.List.Sums.{count_by_more_yes, count_by_more_no}
 use Rattle.std.proofs.lemmas.Nat.Bits.{bit_at_ones, bit_at_ones_above}
 use Rattle.std.proofs.lemmas.Option.{slice_get_past}
+use Rattle.net_code.specs.Tally.{IsTally}
+use Rattle.net_design.proofs.LawfulCode.{width_past}
+use Rattle.vidi_bits.proofs.Bools.{not_both}
 use Rattle.net_design.specs.declared.design.Driver.{Driver}
 use Rattle.net_design.specs.declared.design.Net.{Net}
 use Rattle.net_design.specs.declared.design.Register.{Register}
 use Rattle.net_design.specs.declared.design.Design.{Design}
-use Rattle.vlog_operators.specs.Number.{has}
+use Rattle.vidi_bits.specs.Number.{has}
 use Rattle.net_design.specs.Bits.{named}
 use Rattle.net_design.specs.Settled.{held, net_width}
 use Rattle.net_design.specs.Lawful.{is_input, is_input_port}
-use Rattle.net_design.proofs.BoolLaws.{by_true, not_both, and_parts, and_both, or_none, same_test}
-use Rattle.net_code.specs.declared.bit_map.BitMap.{BitMap}
-use Rattle.net_code.specs.BitMap.{mask_of, in_map}
-use Rattle.net_code.proofs.MaskLaws.{has_and, has_less, has_zero}
-use Rattle.net_lawful.specs.declared.driven.Tally.{Tally}
+use Rattle.net_code.specs.BitMap.{in_map}
+use Rattle.net_code.proofs.MaskLaws.{has_less, has_zero}
+use Rattle.net_code.specs.declared.tally.Tally.{Tally}
+use Rattle.net_code.proofs.TallyLaws.{next_once, next_more}
 use Rattle.net_lawful.specs.Frame.{IsFramed}
 use Rattle.net_lawful.specs.State.{HasState}
-use Rattle.net_lawful.specs.Driven.{writers, IsTally, RestDriven, AreDriven, IsNetDriven, IsDriven}
+use Rattle.net_lawful.specs.Driven.{writers, RestDriven, AreDriven, IsNetDriven, IsDriven}
 use Rattle.net_lawful.proofs.MaskTests.{by_has}
 
--- ---- bits that are in a set already
-
-and_false : (b : Bool) → false ≡ (b && false)
-and_false true = refl
-and_false false = refl
-
-seen_case : (b : Bool) (mask old bits k : ℕ) → (b ≡ true → mask ≡ old)
-    → (b && (has mask k && has bits k)) ≡ (has old k && (b && has bits k))
-seen_case true mask old bits k h = ap (λ n. has n k && has bits k) (h refl)
-seen_case false mask old bits k h = and_false (has old k)
-
-pub bits_seen : (once : BitMap) (net mask bits m k : ℕ) → mask ≡ mask_of once net
-    → ((net == m) && has (bit_and mask bits) k) ≡ (in_map once m k && ((net == m) && has bits k))
-unfolding in_map
-bits_seen once net mask bits m k is =
-    ap (λ b. (net == m) && b) (has_and mask bits k)
-    ∙ seen_case (net == m) mask (mask_of once m) bits k (λ t. is ∙ ap (mask_of once) (eqb-true net m t))
-
 -- ---- one more driver
-
-other : (b : Bool) → (b || false) ≡ b
-other b = sym (or_none b)
-
-this : (b : Bool) → (b || true) ≡ true
-this true = refl
-this false = refl
-
-implied : (x y : Bool) → (x ≡ true → y ≡ true) → (x || (y && true)) ≡ y
-implied true y h = sym (h refl)
-implied false true h = refl
-implied false false h = refl
-
-once_step : (c : ℕ) (b : Bool) → (nat_lt 0 c || b) ≡ nat_lt 0 (c + cond b 1 0)
-once_step c true = this (nat_lt 0 c) ∙ sym (lt-ltb 0 (c + 1) (omega arith))
-once_step c false =
-    let same : c ≡ c + 0 = omega arith in
-    other (nat_lt 0 c) ∙ ap (nat_lt 0) same
-
-more_step : (c : ℕ) (b : Bool) → (nat_lt 1 c || (nat_lt 0 c && b)) ≡ nat_lt 1 (c + cond b 1 0)
-more_step c true =
-    implied (nat_lt 1 c) (nat_lt 0 c) (λ t. lt-ltb 0 c (let h : 1 < c = ltb-true 1 c t in omega arith))
-    ∙ same_test (nat_lt 0 c) (nat_lt 1 (c + 1)) (λ t. lt-ltb 1 (c + 1) (let h : 0 < c = ltb-true 0 c t in omega arith))
-    (λ t. lt-ltb 0 c (let h : 1 < c + 1 = ltb-true 1 (c + 1) t in omega arith))
-more_step c false =
-    let same : c ≡ c + 0 = omega arith in
-    ap (λ b. nat_lt 1 c || b) (sym (and_false (nat_lt 0 c))) ∙ other (nat_lt 1 c) ∙ ap (nat_lt 1) same
-
-more_case : {X : Type 0} → (test : X → Bool) (xs : List X) (i : ℕ) (x : X) (b : Bool) → i < length xs → x ≡ get_or xs i x → test x ≡ b
-    → count_by test (take (i + 1) xs) ≡ count_by test (take i xs) + cond b 1 0
-more_case test xs i x true within is e = count_by_more_yes test xs i x within (ap test (sym is) ∙ e)
-more_case test xs i x false within is e =
-    let same : count_by test (take i xs) ≡ count_by test (take i xs) + 0 = omega arith in
-    count_by_more_no test xs i x within (ap test (sym is) ∙ e) ∙ same
 
 pub one_more_driver : (drivers : List Driver) (i : ℕ) (x : Driver) (old new : Tally) → i < length drivers → x ≡ get_or drivers i x
     → IsTally old (writers (take i drivers))
@@ -87,15 +35,11 @@ pub one_more_driver : (drivers : List Driver) (i : ℕ) (x : Driver) (old new : 
     → IsTally new (writers (take (i + 1) drivers))
 one_more_driver drivers i x old new within is so_far once more = record {
   once = λ m k.
-      let w : Bool = named x.code.writes m k in
-      once m k ∙ ap (λ b. b || w) (so_far.once m k) ∙ once_step (writers (take i drivers) m k) w
-      ∙ ap (nat_lt 0) (sym (more_case (λ (y : Driver). named y.code.writes m k) drivers i x w within is refl));
+      next_once (λ (y : Driver). named y.code.writes m k) drivers i x (in_map old.once m k) (in_map new.once m k) within is
+      (so_far.once m k) (once m k);
   more = λ m k.
-      let w : Bool = named x.code.writes m k in
-      more m k ∙ ap (λ b. b || (in_map old.once m k && w)) (so_far.more m k)
-      ∙ ap (λ b. nat_lt 1 (writers (take i drivers) m k) || (b && w)) (so_far.once m k)
-      ∙ more_step (writers (take i drivers) m k) w
-      ∙ ap (nat_lt 1) (sym (more_case (λ (y : Driver). named y.code.writes m k) drivers i x w within is refl));
+      next_more (λ (y : Driver). named y.code.writes m k) drivers i x (in_map old.once m k) (in_map old.more m k) (in_map new.more m k)
+      within is (so_far.once m k) (so_far.more m k) (more m k);
 }
 
 -- ---- the bits of one net
@@ -125,21 +69,13 @@ first_bits width k = (
   (λ l. ap (λ n. n == 1) (bit_at_ones width k l)),
 )
 
-not_true : (b : Bool) → not b ≡ true → b ≡ false
-not_true true h = sym h
-not_true false h = refl
-
-not_false : (b : Bool) → b ≡ false → not b ≡ true
-not_false true h = sym h
-not_false false h = refl
-
 pub rest_bits : (width held : ℕ) → 2 ^ width - 1 < 2 ^ 128 → held < 2 ^ 128
     → IsRest width held (bit_and (2 ^ width - 1) (2 ^ 128 - 1 - held))
 rest_bits width held l h k =
     let is = has_less (2 ^ width - 1) held k l h in (
       (λ t. let u = and_parts (has (2 ^ width - 1) k) (not (has held k)) (sym is ∙ t) in
-          ((first_bits width k).0 u.0, not_true (has held k) u.1)),
-      (λ w. is ∙ and_both (has (2 ^ width - 1) k) (not (has held k)) ((first_bits width k).1 w.0) (not_false (has held k) w.1)),
+          ((first_bits width k).0 u.0, not-true (has held k) u.1)),
+      (λ w. is ∙ and_from (has (2 ^ width - 1) k) (not (has held k)) ((first_bits width k).1 w.0) (not_from_false (has held k) w.1)),
     )
 
 pub other_driven : (input : Bool) (width held once more rest : ℕ) → input ≡ false → IsRest width held rest
@@ -198,11 +134,6 @@ next_below P i before here j l = ⊎_elim
     (λ (g : i ≤ j). let same : i ≡ j = omega (arith, l, g) in subst P same here)
     (cases_lt j i)
 
-width_past : (ns : List Net) (m : ℕ) → length ns ≤ m → slice_index (map (λ (n : Net). n.width) ns) m ≡ 0
-width_past [] m l = refl
-width_past (n ∷ ns) zero l = absurd (omega arith)
-width_past (n ∷ ns) (suc m) l = width_past ns m (omega arith)
-
 some_width : (ns : List Net) → All (λ (n : Net). 1 ≤ n.width) ns → (m : ℕ) → m < length ns
     → 1 ≤ slice_index (map (λ (n : Net). n.width) ns) m
 some_width [] h m l = absurd (omega arith)
@@ -218,7 +149,7 @@ no_input d framed m l =
     ap is_input_port (slice_get_past d.ports m (omega (arith, ports, l)))
 
 no_held : (d : Design) → HasState d → (m k : ℕ) → length d.nets ≤ m → held d m k ≡ false
-no_held d state m k l = by_true (held d m k) (λ t.
+no_held d state m k l = false_from_ne_true (held d m k) (λ t.
     let found = Any-from_list_any (λ (r : Register). (r.net == m) && has r.held k) d.registers t in
     let r : Register = found.1 in
     let u = and_parts _ _ found.4 in

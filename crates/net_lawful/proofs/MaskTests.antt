@@ -3,16 +3,16 @@ use Rattle.std.proofs.Common.{◌≡◌, ℕ, ◌*◌, ◌/◌, ◌%◌, ◌^◌
 use Rattle.std.proofs.Common.{⊎_elim, refl, ap, sym, subst, ◌∙◌, arith}
 use Rattle.std.specs.Int.{bit_at}
 use Rattle.std.proofs.Math.Nat.{div-eq_of_lt}
-use Rattle.std.proofs.lemmas.Bool.{cases_lt, eqb-true, eq-eqb}
+use Rattle.std.proofs.lemmas.Bool.{cases_lt, eqb-true, eq-eqb, false_from_ne_true, and_parts, and_from}
 use Rattle.std.proofs.lemmas.List.Folds.{Any-from_list_any, list_any_at}
 use Rattle.std.proofs.lemmas.Nat.{pow_pos, mod_below, shr_split}
 use Rattle.std.proofs.lemmas.Nat.Bits.{bit_at-lt, same_from_bits}
+use Rattle.vidi_bits.proofs.Bools.{not_both, same_test}
 use Rattle.net_design.specs.declared.act.Mask.{Mask}
-use Rattle.vlog_operators.specs.Number.{has}
+use Rattle.vidi_bits.specs.Number.{has}
 use Rattle.net_design.specs.Bits.{named}
-use Rattle.net_design.proofs.BoolLaws.{by_true, and_parts, and_both, not_both, same_test}
 use Rattle.net_code.specs.declared.bit_map.BitMap.{BitMap}
-use Rattle.net_code.specs.BitMap.{mask_of, in_map}
+use Rattle.net_code.specs.BitMap.{in_map}
 use Rattle.net_code.proofs.MaskLaws.{has_and, has_zero}
 use Rattle.net_lawful.specs.Masks.{MaskIs}
 
@@ -43,9 +43,9 @@ by_has a b same = same_from_bits a b (λ k. bit a b k (same k))
 
 pub none_common : (a b : ℕ) → IsTrue (bit_and a b == 0) ↔ ((k : ℕ) → has a k ≡ true → has b k ≡ false)
 none_common a b = (
-  (λ h k t. by_true (has b k) (λ u. not_both (has (bit_and a b) k) (has_and a b k ∙ and_both (has a k) (has b k) t u)
+  (λ h k t. false_from_ne_true (has b k) (λ u. not_both (has (bit_and a b) k) (has_and a b k ∙ and_from (has a k) (has b k) t u)
       (ap (λ n. has n k) (eqb-true _ _ h) ∙ has_zero k))),
-  (λ h. eq-eqb _ _ (by_has (bit_and a b) 0 (λ k. by_true (has (bit_and a b) k)
+  (λ h. eq-eqb _ _ (by_has (bit_and a b) 0 (λ k. false_from_ne_true (has (bit_and a b) k)
       (λ t. let u = and_parts (has a k) (has b k) (sym (has_and a b k) ∙ t) in not_both (has b k) u.1 (h k u.0)) ∙ sym (has_zero k)))),
 )
 
@@ -54,13 +54,8 @@ all_common a b = (
   (λ h k t. (and_parts (has a k) (has b k) (sym (has_and a b k) ∙ ap (λ n. has n k) (eqb-true _ _ h) ∙ t)).1),
   (λ h. eq-eqb _ _ (by_has (bit_and a b) a (λ k. same_test (has (bit_and a b) k) (has a k)
       (λ t. (and_parts (has a k) (has b k) (sym (has_and a b k) ∙ t)).0)
-      (λ t. has_and a b k ∙ and_both (has a k) (has b k) t (h k t))))),
+      (λ t. has_and a b k ∙ and_from (has a k) (has b k) t (h k t))))),
 )
-
--- a set's mask of a net
-pub net_is : (set : BitMap) (m k n : ℕ) → n ≡ mask_of set m → has n k ≡ in_map set m k
-unfolding in_map
-net_is set m k n e = ap (λ x. has x k) e
 
 -- masks, each of which meets a test of its bits
 module _ (set : BitMap) (b : Bool) where
@@ -76,7 +71,7 @@ module _ (set : BitMap) (b : Bool) where
   by_names : (masks : List Mask) → ((m k : ℕ) → named masks m k ≡ true → in_map set m k ≡ b) → All (MaskIs set b) masks
   by_names masks same i x l k h =
       let y : Mask = get_or masks i x in
-      same y.net k (list_any_at (λ (z : Mask). (z.net == y.net) && has z.bits k) masks i x l (and_both _ _ (eq-eqb y.net y.net refl) h))
+      same y.net k (list_any_at (λ (z : Mask). (z.net == y.net) && has z.bits k) masks i x l (and_from _ _ (eq-eqb y.net y.net refl) h))
 
   pub all_named : (masks : List Mask) → All (MaskIs set b) masks ↔ ((m k : ℕ) → named masks m k ≡ true → in_map set m k ≡ b)
   all_named masks = (by_masks masks, by_names masks)

@@ -2,16 +2,16 @@
 use Rattle.std.proofs.Common.{◌≡◌, ◌≢◌, ℕ, ◌+◌, ◌<◌, ◌==◌, ◌&&◌, ◌||◌, ◌↔◌, Bool, true, false, List, [], ◌∷◌, length, get_or, drop}
 use Rattle.std.proofs.Common.{refl, ap, sym, subst, ◌∙◌, arith}
 use Rattle.std.specs.List.{AllByRecursion}
-use Rattle.std.proofs.lemmas.Bool.{eqb-true, eq-eqb}
+use Rattle.std.proofs.lemmas.Bool.{eqb-true, eq-eqb, or_right, false_from_ne_true, and_parts, and_from, or_parts, or_left, or_from}
 use Rattle.std.proofs.lemmas.List.{drop_more}
+use Rattle.vidi_bits.proofs.Bools.{not_both}
 use Rattle.net_design.specs.declared.act.Act.{Act, Set, Read, Branch'}
 use Rattle.net_design.specs.declared.act.Mask.{Mask}
 use Rattle.net_design.specs.declared.act.Place.{Place}
-use Rattle.vlog_operators.specs.Number.{has}
+use Rattle.vidi_bits.specs.Number.{has}
 use Rattle.net_design.specs.Sized.{IsSizedPlace}
 use Rattle.net_design.specs.Bits.{BitSet, place_writes, target_writes, Apart}
 use Rattle.net_design.specs.Lawful.{IsEquation}
-use Rattle.net_design.proofs.BoolLaws.{by_true, and_parts, and_both, or_parts, not_both}
 use Rattle.net_code.specs.declared.bit_map.BitMap.{BitMap}
 use Rattle.net_code.specs.BitMap.{in_map}
 use Rattle.net_code.proofs.MaskLaws.{has_zero}
@@ -28,7 +28,7 @@ mask_meets set x p is = (
   (λ h m k t.
       let u = and_parts (x.net == m) (has x.bits k) (is m k ∙ t) in
       subst (λ n. in_map set n k ≡ false) (eqb-true x.net m u.0) (h k u.1)),
-  (λ h k t. h x.net k (sym (is x.net k) ∙ and_both (x.net == x.net) (has x.bits k) (eq-eqb x.net x.net refl) t)),
+  (λ h k t. h x.net k (sym (is x.net k) ∙ and_from (x.net == x.net) (has x.bits k) (eq-eqb x.net x.net refl) t)),
 )
 
 -- ---- one place after the other
@@ -44,41 +44,29 @@ either : (a b : Bool) → (a || b) ≡ true → (a ≡ false → b ≡ true)
 either true b h = λ e. absurd (not_both true refl e)
 either false b h = λ e. h
 
-or_left : (a b : Bool) → a ≡ true → (a || b) ≡ true
-or_left true b h = refl
-or_left false b h = absurd (not_both false h refl)
-
-or_right : (a b : Bool) → b ≡ true → (a || b) ≡ true
-or_right true b h = refl
-or_right false b h = h
-
-neither : (a b : Bool) → a ≡ false → b ≡ false → (a || b) ≡ false
-neither true b h g = absurd (not_both true refl h)
-neither false b h g = g
-
 module _ (p : Place) (ps : List Place) (seen new : BitMap)
     (grew : (m k : ℕ) → in_map new m k ≡ (in_map seen m k || place_writes p m k)) where
   pub left_more : ((m k : ℕ) → place_writes p m k ≡ true → in_map seen m k ≡ false) → IsLeft seen (p ∷ ps) ↔ IsLeft new ps
   left_more apart = (
     (λ h. (
       h.0.1,
-      (λ m k t. by_true (target_writes ps m k) (λ u.
-          let s : in_map seen m k ≡ false = by_true (in_map seen m k) (λ v. not_both (target_writes ps m k) u
+      (λ m k t. false_from_ne_true (target_writes ps m k) (λ u.
+          let s : in_map seen m k ≡ false = false_from_ne_true (in_map seen m k) (λ v. not_both (target_writes ps m k) u
           (or_parts (place_writes p m k) (target_writes ps m k) (h.1 m k v)).1) in
           let w : place_writes p m k ≡ true = either (in_map seen m k) (place_writes p m k) (sym (grew m k) ∙ t) s in
           not_both (target_writes ps m k) u (h.0.0 m k w))),
     )),
     (λ h. (
       ((λ m k t. h.1 m k (grew m k ∙ or_right (in_map seen m k) (place_writes p m k) t)), h.0),
-      (λ m k t. neither (place_writes p m k) (target_writes ps m k)
-          (by_true (place_writes p m k) (λ u. not_both (in_map seen m k) t (apart m k u)))
+      (λ m k t. or_from (place_writes p m k) (target_writes ps m k)
+          (false_from_ne_true (place_writes p m k) (λ u. not_both (in_map seen m k) t (apart m k u)))
           (h.1 m k (grew m k ∙ or_left (in_map seen m k) (place_writes p m k) t))),
     )),
   )
 
 pub first_apart : (p : Place) (ps : List Place) (seen : BitMap) → IsLeft seen (p ∷ ps)
     → (m k : ℕ) → place_writes p m k ≡ true → in_map seen m k ≡ false
-first_apart p ps seen h m k t = by_true (in_map seen m k) (λ u.
+first_apart p ps seen h m k t = false_from_ne_true (in_map seen m k) (λ u.
     not_both (place_writes p m k) t (or_parts (place_writes p m k) (target_writes ps m k) (h.1 m k u)).0)
 
 -- ---- at a place of a list

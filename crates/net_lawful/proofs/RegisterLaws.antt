@@ -1,29 +1,24 @@
 -- Registers, told by tests.
-use Rattle.std.proofs.Common.{◌≡◌, ◌≢◌, ℕ, zero, suc, ◌+◌, ◌<◌, ◌≤◌, ◌==◌, ◌&&◌, ◌||◌, ◌↔◌, Bool, true, false, IsTrue, List, [], ◌∷◌, All}
-use Rattle.std.proofs.Common.{length, get_or, take, map, slice_index, ⊎_elim, refl, ap, sym, ◌∙◌, arith}
+use Rattle.std.proofs.Common.{◌≡◌, ◌≢◌, ℕ, zero, suc, ◌+◌, ◌<◌, ◌≤◌, ◌==◌, ◌||◌, ◌↔◌, Bool, true, false, IsTrue, List, []}
+use Rattle.std.proofs.Common.{length, get_or, take, ⊎_elim, refl, ap, sym, ◌∙◌, arith}
 use Rattle.std.specs.Int.{bit_at}
 use Rattle.std.specs.List.{list_any}
 use Rattle.std.proofs.lemmas.Bool.{cases_lt, eqb-true, eq-eqb}
 use Rattle.std.proofs.lemmas.List.{get_or-take, get_or_default, length-take-le}
 use Rattle.std.proofs.lemmas.List.Folds.{Any-from_list_any, list_any_at, list_any_more}
 use Rattle.std.proofs.lemmas.Nat.Bits.{bit_at-lt, bit_at_above}
-use Rattle.net_design.specs.declared.design.Net.{Net}
+use Rattle.vidi_bits.proofs.Bools.{not_both}
+use Rattle.net_design.proofs.LawfulCode.{width_at}
 use Rattle.net_design.specs.declared.design.Register.{Register}
 use Rattle.net_design.specs.declared.design.Design.{Design}
-use Rattle.vlog_operators.specs.Number.{has}
+use Rattle.vidi_bits.specs.Number.{has}
 use Rattle.net_design.specs.Settled.{net_width}
-use Rattle.net_design.proofs.BoolLaws.{and_true, not_both}
 use Rattle.net_code.specs.declared.bit_map.BitMap.{BitMap}
 use Rattle.net_code.specs.BitMap.{in_map}
 use Rattle.net_lawful.specs.Frame.{IsFramed}
 use Rattle.net_lawful.specs.State.{NetsDiffer}
 
 -- ---- widths and bits
-
-width_at : (ns : List Net) → All (λ (n : Net). n.width ≤ 128) ns → (m : ℕ) → slice_index (map (λ (n : Net). n.width) ns) m ≤ 128
-width_at [] h m = omega arith
-width_at (n ∷ ns) h zero = h zero n (omega arith)
-width_at (n ∷ ns) h (suc m) = width_at ns (λ k d l. h (suc k) d (omega arith)) m
 
 pub framed_width : (d : Design) → IsFramed d → (m : ℕ) → net_width d m ≤ 128
 framed_width d framed m = width_at d.nets (λ k n l. (framed.nets k n l).0.1) m
@@ -46,9 +41,6 @@ no_stray held number = (
     outside false h = absurd (h refl)
 
 -- ---- nets that differ
-
-pub one_key : (key m : ℕ) → ((key == m) && has 1 0) ≡ (key == m)
-one_key key m = sym (and_true (key == m))
 
 pub not_new : (b x : Bool) → (IsTrue b ↔ (x ≡ false)) → b ≡ false → x ≡ true
 not_new b true e h = refl

@@ -1,23 +1,16 @@
 -- Who writes each bit of each net.
-use Rattle.std.specs.Prelude.{◌≡◌, ℕ, ◌<◌, ◌⊎◌, nat_lt, Bool, true, false, List}
+use Rattle.std.specs.Prelude.{◌≡◌, ℕ, ◌<◌, ◌⊎◌, Bool, true, false, List}
 use Rattle.std.specs.List.{count_by}
 use Rattle.net_design.specs.declared.design.Driver.{Driver}
 use Rattle.net_design.specs.declared.design.Design.{Design}
-use Rattle.vlog_operators.specs.Number.{has}
+use Rattle.vidi_bits.specs.Number.{has}
 use Rattle.net_design.specs.Bits.{named}
 use Rattle.net_design.specs.Settled.{held}
 use Rattle.net_design.specs.Lawful.{IsBit, is_input}
-use Rattle.net_code.specs.BitMap.{in_map}
-use Rattle.net_lawful.specs.declared.driven.Tally.{Tally}
 
 -- how many drivers write bit k of net m
 abbrev pub writers : List Driver → ℕ → ℕ → ℕ
 writers drivers m k = count_by (λ (x : Driver). named x.code.writes m k) drivers
-
--- the bits that are written at least once, and those that are written at least twice
-pub record IsTally (t : Tally) (count : ℕ → ℕ → ℕ) : Type 0 where
-  pub once : (m k : ℕ) → in_map t.once m k ≡ nat_lt 0 (count m k)
-  pub more : (m k : ℕ) → in_map t.more m k ≡ nat_lt 1 (count m k)
 
 -- the bits of `held` aren't written, and those of `rest` once
 abbrev pub RestDriven : ℕ → ℕ → ℕ → ℕ → Type 0

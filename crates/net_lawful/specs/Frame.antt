@@ -1,18 +1,14 @@
 -- The clauses of lawful designs that speak of instances, nets, memories, ports and the clock (this project's profile).
 use Rattle.std.specs.Prelude.{◌≡◌, ℕ, ◌<◌, ◌≤◌, true, List, take, length, slice_get, All, Some}
 use Rattle.std.specs.List.{sum_by}
-use Rattle.net_design.specs.declared.design.Instance.{Instance}
 use Rattle.net_design.specs.declared.design.Net.{Net}
 use Rattle.net_design.specs.declared.design.DesignMemory.{DesignMemory}
 use Rattle.net_design.specs.declared.design.Port.{Port}
 use Rattle.net_design.specs.declared.design.Design.{Design}
-use Rattle.vlog_operators.specs.Number.{IsWidth}
+use Rattle.vidi_bits.specs.Number.{IsWidth}
+use Rattle.net_design.specs.Names.{AreAfterParents}
 use Rattle.net_design.specs.Settled.{net_width}
 use Rattle.net_design.specs.Lawful.{AreSmall, counts, is_input}
-
--- each instance but the top comes after the one that holds it
-abbrev pub HaveParents : List Instance → Type 0
-HaveParents instances = (i : ℕ) (x : Instance) → slice_get instances i ≡ Some x → 1 ≤ i → x.parent < i
 
 -- nets of one of n instances
 abbrev pub AreNets : ℕ → List Net → Type 0
@@ -41,7 +37,7 @@ HasClock d = (k : ℕ) → d.clock ≡ Some k → (is_input d k ≡ true) × (ne
 pub record IsFramed (d : Design) : Type 0 where
   pub small : AreSmall (counts d)
   pub top : 1 ≤ length d.instances
-  pub parents : HaveParents d.instances
+  pub parents : AreAfterParents d.instances
   pub nets : AreNets (length d.instances) d.nets
   pub memories : AreMemories (length d.instances) d.memories
   pub rooms : HaveRooms d.memories

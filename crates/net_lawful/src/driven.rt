@@ -1,81 +1,18 @@
 //! Who writes each bit of each net.
 
-ghost use Rattle.std.specs.Prelude.{◌≡◌, ℕ, ◌<◌, ◌≤◌, ◌==◌, ◌&&◌, ◌||◌, ◌↔◌, false, IsTrue, OnOk, IfOk, length};
-ghost use Rattle.vlog_operators.specs.Number.{has};
-ghost use Rattle.net_design.specs.Bits.{named};
-ghost use Rattle.net_code.specs.BitMap.{in_map};
+ghost use Rattle.std.specs.Prelude.{◌<◌, ◌≤◌, ◌↔◌, IsTrue, IfOk, length};
+ghost use Rattle.net_code.specs.Tally.{IsTally};
 ghost use Rattle.net_lawful.specs.Frame.{IsFramed};
 ghost use Rattle.net_lawful.specs.State.{HasState};
 ghost use Rattle.net_lawful.specs.Coded.{IsHeld};
-ghost use Rattle.net_lawful.specs.Driven.{writers, IsTally, RestDriven, AreDriven, IsNetDriven, IsDriven};
+ghost use Rattle.net_lawful.specs.Driven.{writers, RestDriven, AreDriven, IsNetDriven, IsDriven};
 
 use crate::frame::{is_input, net_width};
 use crate::masks::{is_apart, is_within};
-use net_code::BitMap;
-use net_design::{Design, Driver, Mask};
+use net_code::{BitMap, Tally};
+use net_design::{Design, Driver};
 use std::alloc::Global;
 use vidi_bits::{Memory, ones};
-
-/// The bits that are written by a driver at least, and those that are written by two.
-#[derive(Drop)]
-pub struct Tally {
-    once: BitMap,
-    more: BitMap,
-}
-
-/// Adds those bits of a mask that are in a set to another.
-fn add_again(once: &BitMap, more: &mut BitMap, mask: Mask) -> Result<(), Memory>
-    ensures { OnOk result ((m k : ℕ) → in_map more.new m k
-        ≡ (in_map more.old m k || (in_map once.now m k && ((mask.net == m) && has mask.bits k)))) }
-{
-    let seen = once.mask(mask.net) & mask.bits;
-    more.add(mask.net, seen)?;
-    Ok(())
-}
-
-/// Adds those bits of masks that are in a set to another.
-fn add_all_again(once: &BitMap, more: &mut BitMap, masks: &[Mask]) -> Result<(), Memory>
-    ensures { OnOk result ((m k : ℕ) → in_map more.new m k ≡ (in_map more.old m k || (in_map once.now m k && named masks.now m k))) }
-{
-    for mask in masks {
-        add_again(once, more, *mask)?;
-    }
-    Ok(())
-}
-
-/// Adds the bits of masks to a set.
-fn add_all(once: &mut BitMap, masks: &[Mask]) -> Result<(), Memory>
-    ensures { OnOk result ((m k : ℕ) → in_map once.new m k ≡ (in_map once.old m k || named masks.now m k)) }
-{
-    for mask in masks {
-        once.add(mask.net, mask.bits)?;
-    }
-    Ok(())
-}
-
-impl Tally {
-    /// Nothing is written.
-    fn new(alloc: Global) -> Tally
-        ensures once { (m k : ℕ) → in_map result.once m k ≡ false }
-        ensures more { (m k : ℕ) → in_map result.more m k ≡ false }
-    {
-        Tally {
-            once: BitMap::new(alloc),
-            more: BitMap::new(alloc),
-        }
-    }
-
-    /// Adds what a driver writes.
-    fn add(&mut self, masks: &[Mask]) -> Result<(), Memory>
-        ensures once { OnOk result ((m k : ℕ) → in_map self.new.once m k ≡ (in_map self.old.once m k || named masks.now m k)) }
-        ensures more { OnOk result ((m k : ℕ) → in_map self.new.more m k
-            ≡ (in_map self.old.more m k || (in_map self.old.once m k && named masks.now m k))) }
-    {
-        add_all_again(&self.once, &mut self.more, masks)?;
-        add_all(&mut self.once, masks)?;
-        Ok(())
-    }
-}
 
 /// How often drivers write each bit.
 fn tally_of(alloc: Global, drivers: &[Driver]) -> Result<Tally, Memory>
@@ -83,7 +20,7 @@ fn tally_of(alloc: Global, drivers: &[Driver]) -> Result<Tally, Memory>
 {
     let mut tally = Tally::new(alloc);
     for driver in drivers {
-        tally.add(driver.code.writes.as_slice())?;
+        tally.add_masks(driver.code.writes.as_slice())?;
     }
     Ok(tally)
 }

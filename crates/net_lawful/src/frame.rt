@@ -4,19 +4,13 @@ ghost use Rattle.std.specs.Prelude.{◌≡◌, ℕ, ◌^◌, ◌<◌, ◌≤◌,
 ghost use Rattle.std.specs.List.{sum_by};
 ghost use Rattle.net_design.specs.declared.design.Net.{Net};
 ghost use Rattle.net_design.specs.declared.design.DesignMemory.{DesignMemory};
+ghost use Rattle.net_design.specs.Names.{AreAfterParents};
 ghost use Rattle.net_design.specs.Settled.{net_width, word_count};
 ghost use Rattle.net_design.specs.Lawful.{AreSmall, counts, is_input, is_input_port};
-ghost use Rattle.vlog_operators.specs.Number.{IsWidth};
-ghost use Rattle.net_lawful.specs.Frame.{HaveParents, AreNets, AreMemories, HaveRooms, IsPortNet, HavePortNets, HasClock, IsFramed};
+ghost use Rattle.net_lawful.specs.Frame.{AreNets, AreMemories, HaveRooms, IsPortNet, HavePortNets, HasClock, IsFramed};
 
+use net_code::is_width;
 use net_design::{Design, DesignMemory, Direction, Instance, Net, Port};
-
-/// Whether a width is 1 to 128.
-pub fn is_width(w: u32) -> bool
-    ensures { IsTrue result ↔ IsWidth w }
-{
-    1 <= w && w <= 128
-}
 
 /// The width of net `m`, 0 past the last one.
 pub fn net_width(design: &Design, m: usize) -> u32
@@ -38,7 +32,7 @@ pub fn is_input(design: &Design, m: usize) -> bool
 
 /// Whether each instance but the top comes after the one that holds it.
 fn have_parents(instances: &[Instance]) -> bool
-    ensures { IsTrue result ↔ HaveParents instances.now }
+    ensures { IsTrue result ↔ AreAfterParents instances.now }
 {
     for i in 1..instances.len() {
         if instances[i].parent >= i {
@@ -108,7 +102,7 @@ fn has_clock(design: &Design) -> bool
 /// Whether instances, nets and memories are in range.
 fn are_in_range(design: &Design) -> bool
     ensures { IsTrue result ↔ (AreNets (length design.now.instances) design.now.nets
-        × AreMemories (length design.now.instances) design.now.memories × HaveParents design.now.instances) }
+        × AreMemories (length design.now.instances) design.now.memories × AreAfterParents design.now.instances) }
 {
     let count = design.instances.len();
     are_nets(design.nets.as_slice(), count)

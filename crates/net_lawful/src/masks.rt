@@ -1,7 +1,7 @@
 //! Masks and sets of bits, compared.
 
 ghost use Rattle.std.specs.Prelude.{◌≡◌, ℕ, ◌<◌, ◌≤◌, ◌↔◌, ◌^◌, IsTrue, true, false, All};
-ghost use Rattle.vlog_operators.specs.Number.{has};
+ghost use Rattle.vidi_bits.specs.Number.{has};
 ghost use Rattle.net_design.specs.Bits.{named};
 ghost use Rattle.net_code.specs.BitMap.{in_map};
 ghost use Rattle.net_lawful.specs.Masks.{MaskIs};

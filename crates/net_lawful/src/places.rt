@@ -1,35 +1,25 @@
 //! Targets whose places name no bit twice.
 
-ghost use Rattle.std.specs.Prelude.{◌≡◌, ℕ, ◌+◌, ◌≤◌, ◌==◌, ◌&&◌, ◌||◌, ◌↔◌, nat_le, nat_lt, IsTrue, true, false, [], ◌∷◌, OnOk, IfOk};
+ghost use Rattle.std.specs.Prelude.{◌≡◌, ℕ, ◌+◌, ◌≤◌, ◌==◌, ◌&&◌, ◌||◌, ◌↔◌, IsTrue, true, false, [], ◌∷◌, OnOk, IfOk};
 ghost use Rattle.std.specs.List.{AllByRecursion};
-ghost use Rattle.vlog_operators.specs.Number.{has};
+ghost use Rattle.vidi_bits.specs.Number.{has};
 ghost use Rattle.net_design.specs.Sized.{IsSizedPlace, IsSizedAct, IsSizedBlock};
 ghost use Rattle.net_design.specs.Bits.{bits_of, place_writes, Apart};
 ghost use Rattle.net_design.specs.Lawful.{IsEquation};
 ghost use Rattle.net_code.specs.BitMap.{in_map};
 
 use crate::masks::mask_apart;
-use net_code::BitMap;
+use net_code::{BitMap, span_mask};
 use net_design::{Act, Mask, Place, Span};
 use std::alloc::Global;
-use vidi_bits::{Items, Memory, ones, put};
+use vidi_bits::{Items, Memory};
 
 /// The bits of a span.
-fn span_bits(span: Span) -> u128
-    requires { span.low + span.width ≤ 128 }
-    ensures { (k : ℕ) → has result k ≡ (nat_le span.low k && nat_lt k (span.low + span.width)) }
-{
-    if span.width == 0 {
-        return 0;
-    }
-    put(0, span.low, span.width, ones(span.width))
-}
-
-fn span_mask(span: Span) -> Mask
+fn mask_of(span: Span) -> Mask
     requires { span.low + span.width ≤ 128 }
     ensures { (m k : ℕ) → ((result.net == m) && has result.bits k) ≡ bits_of span m k }
 {
-    let bits = span_bits(span);
+    let bits = span_mask(span);
     Mask {
         net: span.net,
         bits,
@@ -49,8 +39,8 @@ fn place_mask(place: &Place) -> Mask
     ensures { (m k : ℕ) → ((result.net == m) && has result.bits k) ≡ place_writes place.now m k }
 {
     match place {
-        Place::Bits { span, .. } => span_mask(*span),
-        Place::BitsFrom { whole, .. } => span_mask(*whole),
+        Place::Bits { span, .. } => mask_of(*span),
+        Place::BitsFrom { whole, .. } => mask_of(*whole),
         Place::Word { .. } => no_mask(),
         Place::WordFrom { .. } => no_mask(),
     }

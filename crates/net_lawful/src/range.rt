@@ -1,16 +1,15 @@
 //! Whether statements name nets, bits and memories that are there.
 
-ghost use Rattle.std.specs.Prelude.{◌≡◌, ◌≤◌, ◌↔◌, ◌+◌, IsTrue};
+ghost use Rattle.std.specs.Prelude.{◌≡◌, ◌↔◌, IsTrue};
 ghost use Rattle.std.specs.List.{AllByRecursion};
 ghost use Rattle.net_design.specs.declared.act.Act.{Act};
-ghost use Rattle.vlog_operators.specs.Number.{IsWidth};
 ghost use Rattle.net_design.specs.Lawful.{is_span};
-ghost use Rattle.net_design.specs.Updates.{target_width};
 ghost use Rattle.net_lawful.specs.Rooms.{has_room, IsSpan, IsRoom, IsRhsIn, IsPlaceIn, IsActIn, IsBlockIn, AreGuardsIn};
 
-use crate::frame::{is_width, net_width};
+use crate::frame::net_width;
 use crate::rooms::Rooms;
-use net_design::{Act, Design, Guard, Place, Rhs, Span, place_width};
+use net_code::{is_narrow, is_width};
+use net_design::{Act, Design, Guard, Place, Rhs, Span};
 use vidi_bits::Items;
 
 /// Whether a span names bits of a net that is there.
@@ -114,20 +113,6 @@ fn places_in(design: &Design, rooms: &Rooms, places: &[Place]) -> bool
 {
     for place in places {
         if !place_in(design, rooms, place) {
-            return false;
-        }
-    }
-    true
-}
-
-/// Whether a target has at most 128 bits.
-fn is_narrow(places: &[Place]) -> bool
-    ensures { IsTrue result ↔ (target_width places.now ≤ 128) }
-{
-    let mut total: u64 = 0;
-    for place in places {
-        total += u64::from(place_width(place));
-        if total > 128 {
             return false;
         }
     }

@@ -1,8 +1,8 @@
 //! Registers: the bits that the state holds.
 
-ghost use Rattle.std.specs.Prelude.{◌≡◌, ℕ, ◌^◌, ◌<◌, ◌==◌, ◌||◌, ◌↔◌, IsTrue, false, All, OnOk, IfOk};
+ghost use Rattle.std.specs.Prelude.{◌≡◌, ℕ, ◌^◌, ◌<◌, ◌↔◌, IsTrue, false, All, IfOk};
 ghost use Rattle.std.specs.Int.{bit_at};
-ghost use Rattle.vlog_operators.specs.Number.{has};
+ghost use Rattle.vidi_bits.specs.Number.{has};
 ghost use Rattle.net_design.specs.Settled.{held, net_width};
 ghost use Rattle.net_design.specs.Lawful.{IsRegister};
 ghost use Rattle.net_code.specs.BitMap.{in_map};
@@ -61,14 +61,6 @@ fn is_new(seen: &BitMap, net: usize) -> bool
     is_apart(1, seen.mask(net))
 }
 
-/// Adds a net to a set of nets.
-fn see(seen: &mut BitMap, net: usize) -> Result<(), Memory>
-    ensures { OnOk result ((m : ℕ) → in_map seen.new m 0 ≡ (in_map seen.old m 0 || (net == m))) }
-{
-    seen.add(net, 1)?;
-    Ok(())
-}
-
 /// Whether no two registers are the same net.
 fn nets_differ(alloc: Global, registers: &[Register]) -> Result<bool, Memory>
     ensures { IfOk result (λ b. IsTrue b ↔ NetsDiffer registers.now) }
@@ -78,7 +70,7 @@ fn nets_differ(alloc: Global, registers: &[Register]) -> Result<bool, Memory>
         if !is_new(&seen, register.net) {
             return Ok(false);
         }
-        see(&mut seen, register.net)?;
+        seen.add_key(register.net)?;
     }
     Ok(true)
 }

@@ -2,10 +2,10 @@
 use Rattle.std.proofs.Common.{◌≡◌, ◌≢◌, ℕ, zero, suc, ◌+◌, ◌^◌, ◌<◌, ◌≤◌, ◌==◌, not, Bool, true, false, bit_and, ⊎_elim, refl, ap}
 use Rattle.std.proofs.Common.{◌∙◌, min, arith}
 use Rattle.std.specs.Int.{bit_at}
-use Rattle.std.proofs.lemmas.Bool.{cases_lt, eqb-true, eq-eqb}
+use Rattle.std.proofs.lemmas.Bool.{cases_lt, eqb-true, eq-eqb, not-true}
 use Rattle.std.proofs.lemmas.Nat.Bits.{bit_at_and, bit_at-lt, bit_at-zero, bit_at_above}
-use Rattle.vlog_operators.specs.Number.{has}
-use Rattle.net_design.proofs.StateLaws.{fits_by_bits}
+use Rattle.vidi_bits.proofs.BitLemmas.{fits_by_bits}
+use Rattle.vidi_bits.specs.Number.{has}
 use Rattle.net_order.specs.Index.{meets}
 
 below_power : (n : ℕ) → n < 2 ^ n
@@ -23,10 +23,6 @@ some_bit (suc w) n l z = ⊎_elim
     (λ (one : 1 ≤ bit_at n w). let small = bit_at-lt n w in (w, omega arith))
     (cases_lt (bit_at n w) 1)
 
-by_not : (b : Bool) → not b ≡ true → b ≡ false
-by_not true h = absurd cc
-by_not false h = refl
-
 to_not : (b : Bool) → (b ≡ true → ⊥) → not b ≡ true
 to_not true h = absurd (h refl)
 to_not false h = refl
@@ -34,7 +30,7 @@ to_not false h = refl
 pub meets_bit : (a b : ℕ) → meets a b ≡ true → (k : ℕ) × (has a k ≡ true) × (has b k ≡ true)
 meets_bit a b h =
     let n : ℕ = bit_and a b in
-    let differs : (n == 0) ≡ false = by_not (n == 0) h in
+    let differs : (n == 0) ≡ false = not-true (n == 0) h in
     let found = some_bit n n (below_power n) (λ z. let t = eq-eqb n 0 z in absurd cc) in
     let k = found.0 in
     let both : bit_at n k ≡ min (bit_at a k) (bit_at b k) = bit_at_and a b k in

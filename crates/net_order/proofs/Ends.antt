@@ -2,13 +2,13 @@
 use Rattle.std.proofs.Common.{◌≡◌, ◌≢◌, ℕ, zero, suc, ◌<◌, ◌≤◌, List, [], ◌∷◌, length, slice_index, map, take, replicate, refl, ap, sym}
 use Rattle.std.proofs.Common.{subst, ◌∙◌, arith}
 use Rattle.std.specs.List.{Contains}
+use Rattle.vidi_bits.proofs.Lists.{none_in}
 use Rattle.net_design.specs.Names.{list_at}
 use Rattle.net_order.specs.declared.search.Mark.{Mark}
 use Rattle.net_order.specs.declared.search.Mark.TheVariants.{Fresh, Open, Done}
 use Rattle.net_order.specs.Order.{IsOrderBy}
 use Rattle.net_order.specs.Graph.{Graph, Points}
 use Rattle.net_order.specs.Search.{IsSound, mark_of}
-use Rattle.net_order.proofs.Members.{no_element}
 
 all_fresh : (n i : ℕ) → mark_of (replicate n Fresh) i ≡ Fresh
 all_fresh zero i = refl
@@ -27,7 +27,7 @@ start_sound g left long each =
       marks_long = length_replicate n;
       left_long = long;
       done = λ i h. let f = sym (all_fresh n i) ∙ h in absurd cc;
-      placed = λ i c. absurd (no_element i c);
+      placed = λ i c. absurd (none_in i c);
       opened = λ i h. let f = sym (all_fresh n i) ∙ h in absurd cc;
       on_path = λ t l. absurd (omega (arith, l));
       linked = λ t l. absurd (omega (arith, l));
@@ -50,7 +50,7 @@ done_of Done a b = refl
 pub ordered : (g : Graph) (marks : List Mark) (left path order : List ℕ) → IsSound g marks left path order → path ≡ []
     → ((i : ℕ) → i < length g → mark_of marks i ≢ Fresh) → IsOrderBy (length g) (Points g) order
 ordered g marks left path order s empty begun = record {
-  all = λ i l. s.done i (done_of (mark_of marks i) (begun i l) (λ h. no_element i
+  all = λ i l. s.done i (done_of (mark_of marks i) (begun i l) (λ h. none_in i
       (subst (λ (p : List ℕ). Contains p i) empty (s.opened i h))));
   follows = s.follows;
 }

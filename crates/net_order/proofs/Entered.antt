@@ -1,7 +1,8 @@
 -- The numbers of the input pins at the nets.
-use Rattle.std.proofs.Common.{◌≡◌, ℕ, zero, suc, ◌+◌, ◌^◌, ◌<◌, ◌≤◌, Bool, true, false, Option, Some, None, List, [], ◌∷◌, length}
+use Rattle.std.proofs.Common.{◌≡◌, ℕ, zero, suc, ◌+◌, ◌^◌, ◌<◌, ◌≤◌, Bool, true, false, Option, Some, List, [], ◌∷◌, length}
 use Rattle.std.proofs.Common.{if◌then◌else◌, drop, map, slice_get, slice_index, refl, ap, ◌∙◌, arith}
 use Rattle.std.specs.List.{enumerate_from}
+use Rattle.vidi_bits.proofs.Lists.{some_same}
 use Rattle.net_design.specs.declared.design.Port.{Port}
 use Rattle.net_design.specs.declared.design.Direction.TheVariants.{Input}
 use Rattle.net_design.specs.Settled.{pins_of}
@@ -83,13 +84,6 @@ entered_below (p ∷ ports) (z ∷ limits) pins (x ∷ nets) (suc m) e l h f t =
     (rest_long (enters p) z pins (taken ports limits) h) (rest_below (enters p) z pins (taken ports limits) h f) t
 
 -- the limits of ports
-abbrev from_some : {X : Type 0} → Option X → X → X
-from_some (Some x) y = x
-from_some None y = y
-
-some_same : {X : Type 0} (x y : X) → Some x ≡ Some y → x ≡ y
-some_same x y h = ap (λ o. from_some o x) h
-
 pub limits_long : (clock : Option ℕ) (k : ℕ) (ports : List Port)
     → length (map (λ (p : ℕ × Port). if is_clock clock p.0 then 1 else 2 ^ p.1.width) (enumerate_from k ports)) ≡ length ports
 limits_long clock k [] = refl

@@ -2,16 +2,16 @@
 use Rattle.std.proofs.Common.{◌≡◌, ℕ, zero, suc, ◌<◌, ◌≤◌, ◌==◌, ◌&&◌, true, List, [], ◌∷◌, length, get_or}
 use Rattle.std.proofs.Common.{Result, Ok, Err, IfOk, IfErr, ⊎_elim, refl, ap, sym, subst, ◌∙◌, arith}
 use Rattle.std.specs.List.{Contains}
-use Rattle.std.proofs.lemmas.Bool.{cases_lt, eqb-true, eq-eqb}
+use Rattle.std.proofs.lemmas.Bool.{cases_lt, eqb-true, eq-eqb, and_parts, and_from}
 use Rattle.std.proofs.lemmas.List.Folds.{Any-from_list_any, list_any_at}
+use Rattle.vidi_bits.proofs.Lists.{none_in}
 use Rattle.net_design.specs.declared.act.Mask.{Mask}
 use Rattle.net_design.specs.declared.design.Driver.{Driver}
 use Rattle.net_design.specs.declared.design.Design.{Design}
-use Rattle.vlog_operators.specs.Number.{has}
+use Rattle.vidi_bits.specs.Number.{has}
 use Rattle.net_design.specs.Bits.{named}
 use Rattle.net_design.specs.Names.{list_at}
 use Rattle.net_design.specs.Lawful.{IsLawful}
-use Rattle.net_design.proofs.BoolLaws.{and_parts, and_both}
 use Rattle.net_order.specs.declared.writers.Writer.{Writer}
 use Rattle.net_order.specs.Order.{Follows, IsOrderBy, Chain, IsLoopBy, Reads, reads_of, writes_of}
 use Rattle.net_order.specs.Graph.{Graph, Points, IsGraph}
@@ -21,7 +21,6 @@ use Rattle.net_order.specs.declared.answer.OrderError.{OrderError}
 use Rattle.net_order.specs.declared.answer.OrderError.TheVariants.{Loop, Memory}
 use Rattle.net_order.specs.Steps.{IsLoopError}
 use Rattle.net_order.proofs.BitPairs.{meets_bit, bit_meets}
-use Rattle.net_order.proofs.Members.{no_element}
 use Rattle.net_order.proofs.Rows.{list_past}
 use Rattle.net_order.proofs.WriteRange.{writes_in_range}
 
@@ -47,7 +46,7 @@ module _ (d : Design) (law : IsLawful d) (writers : List (List Writer)) (w : Are
       let k = bit.0 in
       let in_list : listed writers m j k ≡ true = list_any_at (λ (y : Writer). (y.driver == j) && has y.bits k) (list_at writers m) any.0 x
       any.2
-      (subst (λ (y : Writer). ((y.driver == j) && has y.bits k) ≡ true) (sym any.3) (and_both _ _ t.0 bit.2)) in
+      (subst (λ (y : Writer). ((y.driver == j) && has y.bits k) ≡ true) (sym any.3) (and_from _ _ t.0 bit.2)) in
       ⊎_elim
       (λ (l : m < length d.nets). (k, bit.1, sym (w.all m j k l) ∙ in_list))
       (λ (g : length d.nets ≤ m).
@@ -65,7 +64,7 @@ module _ (d : Design) (law : IsLawful d) (writers : List (List Writer)) (w : Are
       let t = and_parts _ _ any.4 in
       list_any_at (λ (y : Writer). (y.driver == j) && meets bits y.bits) (list_at writers m) any.0 x any.2
       (subst (λ (y : Writer). ((y.driver == j) && meets bits y.bits) ≡ true) (sym any.3)
-      (and_both _ _ t.0 (bit_meets bits x.bits k h t.1)))
+      (and_from _ _ t.0 (bit_meets bits x.bits k h t.1)))
 
   found_from : (reads : List Mask) (j : ℕ) → found writers reads j ≡ true
       → (m : ℕ) × (k : ℕ) × (named reads m k ≡ true) × (writes_of d.drivers j m k ≡ true)
@@ -77,7 +76,7 @@ module _ (d : Design) (law : IsLawful d) (writers : List (List Writer)) (w : Are
         bit.0,
         list_any_at (λ (y : Mask). (y.net == x.net) && has y.bits bit.0) reads any.0 x any.2
             (subst (λ (y : Mask). ((y.net == x.net) && has y.bits bit.0)
-            ≡ true) (sym any.3) (and_both _ _ (eq-eqb x.net x.net refl) bit.1)),
+            ≡ true) (sym any.3) (and_from _ _ (eq-eqb x.net x.net refl) bit.1)),
         bit.2,
       )
 
@@ -100,7 +99,7 @@ module _ (d : Design) (law : IsLawful d) (writers : List (List Writer)) (w : Are
 
   rows_from : (xs : List Driver) (g : Graph) → AreRows writers xs g → (i j : ℕ) → Points g i j
       → (m : ℕ) × (k : ℕ) × (reads_of xs i m k ≡ true) × (writes_of d.drivers j m k ≡ true)
-  rows_from [] [] h i j c = absurd (no_element j c)
+  rows_from [] [] h i j c = absurd (none_in j c)
   rows_from [] (row ∷ g) h i j c = absurd h
   rows_from (x ∷ xs) [] h i j c = absurd h
   rows_from (x ∷ xs) (row ∷ g) h zero j c = found_from x.code.reads j (sym (h.0 j) ∙ contains_row row j c)
@@ -119,7 +118,7 @@ module _ (d : Design) (law : IsLawful d) (writers : List (List Writer)) (w : Are
     reads = λ i j. (rows_from d.drivers g h i j, (λ r. rows_by d.drivers g h i j r.0 r.1 r.2 r.3));
   }
 
-writer_within : (xs : List Driver) (j m k : ℕ) → writes_of xs j m k ≡ true → j < length xs
+pub writer_within : (xs : List Driver) (j m k : ℕ) → writes_of xs j m k ≡ true → j < length xs
 writer_within [] j m k h = absurd cc
 writer_within (x ∷ xs) zero m k h = omega arith
 writer_within (x ∷ xs) (suc j) m k h = let l = writer_within xs j m k h in omega arith

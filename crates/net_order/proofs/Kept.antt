@@ -3,10 +3,11 @@ use Rattle.std.proofs.Common.{◌≡◌, ℕ, ◌/◌, ◌^◌, ◌<◌, ◌≤�
 use Rattle.std.proofs.Common.{slice_index, if◌then◌else◌, ⊎_elim, refl, ap, sym, ◌∙◌, arith}
 use Rattle.std.specs.Int.{bit_at}
 use Rattle.std.specs.List.{list_any}
-use Rattle.std.proofs.lemmas.Bool.{cases_lt, or_from}
+use Rattle.std.proofs.lemmas.Bool.{cases_lt, or_from, false_from_ne_true, or_parts}
 use Rattle.std.proofs.lemmas.List.{ext_get_or}
 use Rattle.std.proofs.lemmas.List.Folds.{list_any-append}
 use Rattle.std.proofs.lemmas.Nat.Bits.{bit_at_above, same_from_bits}
+use Rattle.vidi_bits.proofs.BitLemmas.{fits_by_bits}
 use Rattle.net_design.specs.declared.act.Place.{Place}
 use Rattle.net_design.specs.declared.act.Place.TheVariants.{Bits, BitsFrom, Word, WordFrom}
 use Rattle.net_design.specs.declared.act.Act.{Act, Set, Read, Branch', Row_of-Act, end_of-Act, more_of-Act, Row_of-Guard, end_of-Guard}
@@ -23,10 +24,9 @@ use Rattle.net_design.specs.Updates.{block_updates, run}
 use Rattle.net_design.specs.Bits.{place_is_word, writes_words, guards_write_words, row_writes_words, block_writes, block_writes_words}
 use Rattle.net_design.specs.Settled.{net_width, FitNets}
 use Rattle.net_design.specs.Lawful.{IsLawful, IsInRange}
-use Rattle.net_design.proofs.BoolLaws.{by_true, or_parts}
 use Rattle.net_design.proofs.LawfulCode.{net_width_le}
 use Rattle.net_design.proofs.FrameLaws.{unwritten}
-use Rattle.net_design.proofs.StateLaws.{fits_by_bits, applied_long, AreNarrow, nets_narrow}
+use Rattle.net_design.proofs.StateLaws.{applied_long, AreNarrow, nets_narrow}
 use Rattle.net_order.proofs.WriteRange.{block_bit}
 
 -- ---- code that writes no word makes no update of one
@@ -128,6 +128,6 @@ module _ (d : Design) (law : IsLawful d) where
     run_fits = record {
       long = (applied_long (block_updates Blocking acts v) v).0 ∙ fit.long;
       each = λ m. fits_by_bits _ (net_width d m) (λ k g.
-          frame m k (by_true _ (λ t. let l : k < net_width d m = block_bit d acts range m k t in omega arith))
+          frame m k (false_from_ne_true _ (λ t. let l : k < net_width d m = block_bit d acts range m k t in omega arith))
           ∙ bit_at_above _ (net_width d m) k (fit.each m) g);
     }

@@ -4,6 +4,7 @@ use Rattle.std.proofs.Math.Logic.{∥∥₁_elim}
 use Rattle.std.proofs.Props.{props}
 use Rattle.std.specs.List.{AllByRecursion}
 use Rattle.std.proofs.lemmas.List.Elements.{All-from_recursion}
+use Rattle.net_design.proofs.OneProof.{one_prop}
 use Rattle.net_design.specs.declared.rhs.Rhs.{Rhs, Number, Bits, Word', Unary', Binary', Choose', Join', Repeat', Select'}
 use Rattle.net_design.specs.declared.act.Place.{Place}
 use Rattle.net_design.specs.declared.act.Place.TheVariants.{Bits as PlaceBits, BitsFrom, Word as PlaceWord, WordFrom}
@@ -32,9 +33,6 @@ settled_prop d s pins v = hlevel props
 
 state_prop : (d : Design) (s : Values) → IsProp (IsState d s)
 state_prop d s = hlevel props
-
-one_prop : (d : Design) → IsProp (HasOneMap d)
-one_prop d = hlevel props
 
 below_prop : (n : ℕ) (order : List ℕ) → IsProp (All (λ (i : ℕ). i < n) order)
 below_prop n order = hlevel props

@@ -7,13 +7,14 @@ use Rattle.std.proofs.lemmas.List.{get_or-set_same, get_or-set_other, get_or_app
 use Rattle.std.proofs.lemmas.List.Elements.{Contains-append_cases, Contains-append_left, Contains-append_right}
 use Rattle.std.proofs.lemmas.List.Sums.{sum_by-set}
 use Rattle.std.proofs.Math.Seq.{get_or-append_seam}
+use Rattle.vidi_bits.proofs.Lists.{head_in}
 use Rattle.net_design.specs.Names.{list_at}
 use Rattle.net_order.specs.declared.search.Mark.{Mark}
 use Rattle.net_order.specs.declared.search.Mark.TheVariants.{Fresh, Open, Done}
 use Rattle.net_order.specs.Order.{Follows}
 use Rattle.net_order.specs.Graph.{Graph, Points, IsGraph}
 use Rattle.net_order.specs.Search.{IsSound, StayBegun, mark_of, steps_left, weight}
-use Rattle.net_order.proofs.Members.{head, single}
+use Rattle.net_order.proofs.Members.{single}
 
 same_or_not : (i j : ℕ) → (i ≡ j) ⊎ (i ≢ j)
 same_or_not i j = ⊎_elim
@@ -91,7 +92,7 @@ module _ (g : Graph) (marks : List Mark) (left path order : List ℕ) (s : IsSou
           (same_or_not j i);
       placed = λ j c. kept Fresh Open Done j fresh (λ e. absurd cc) (s.placed j c);
       opened = λ j h. ⊎_elim
-          (λ (e : j ≡ i). Contains-append_right path (i ∷ []) j (subst (λ z. Contains (z ∷ []) j) e (head j [])))
+          (λ (e : j ≡ i). Contains-append_right path (i ∷ []) j (subst (λ z. Contains (z ∷ []) j) e (head_in j [])))
           (λ (n : j ≢ i). Contains-append_left path (i ∷ []) j (s.opened j (sym (stays Open j n) ∙ h)))
           (same_or_not j i);
       on_path = λ t h. ⊎_elim
@@ -142,7 +143,7 @@ module _ (g : Graph) (marks : List Mark) (left path order : List ℕ) (s : IsSou
       marks_long = length-set marks i Done ∙ s.marks_long;
       left_long = s.left_long;
       done = λ j h. ⊎_elim
-          (λ (e : j ≡ i). Contains-append_right order (i ∷ []) j (subst (λ z. Contains (z ∷ []) j) e (head j [])))
+          (λ (e : j ≡ i). Contains-append_right order (i ∷ []) j (subst (λ z. Contains (z ∷ []) j) e (head_in j [])))
           (λ (n : j ≢ i). Contains-append_left order (i ∷ []) j (s.done j (sym (stays Done j n) ∙ h)))
           (same_or_not j i);
       placed = λ j c. ⊎_elim

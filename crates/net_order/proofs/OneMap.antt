@@ -3,10 +3,12 @@ use Rattle.std.proofs.Common.{◌≡◌, ℕ, zero, suc, ◌^◌, ◌<◌, ◌�
 use Rattle.std.proofs.Common.{List, [], ◌∷◌, All, length, get_or, map, slice_get, slice_index, if◌then◌else◌, ⊎_elim, refl}
 use Rattle.std.proofs.Common.{ap, sym, subst, ◌∙◌, arith}
 use Rattle.std.specs.Int.{bit_at}
-use Rattle.std.proofs.lemmas.Bool.{cases_lt, eq-eqb, eqb-true, lt-ltb}
+use Rattle.std.proofs.lemmas.Bool.{cases_lt, eq-eqb, eqb-true, lt-ltb, not-true, or_cases, or_right, and_parts, cases_Bool, or_left}
 use Rattle.std.proofs.lemmas.List.Folds.{Any-from_list_any}
 use Rattle.std.proofs.lemmas.Nat.{pow_pos}
 use Rattle.std.proofs.lemmas.Nat.Bits.{bit_at_above, same_from_bits}
+use Rattle.net_order.proofs.GraphLaws.{writer_within}
+use Rattle.vidi_bits.proofs.Bools.{or_none, not_both}
 use Rattle.net_design.specs.declared.act.Act.{Act}
 use Rattle.net_design.specs.declared.design.Net.{Net}
 use Rattle.net_design.specs.declared.design.Port.{Port}
@@ -18,19 +20,14 @@ use Rattle.net_design.specs.Updates.{run}
 use Rattle.net_design.specs.Settled.{net_width, held, FitNets, IsSettled}
 use Rattle.net_design.specs.Lawful.{IsLawful, IsState, IsRegister, is_input, is_input_port}
 use Rattle.net_design.specs.Pins.{FitPins, HasOneMap, is_clock, port_limits}
-use Rattle.net_design.proofs.BoolLaws.{not_both, and_parts}
-use Rattle.net_order.specs.Order.{IsOrder, writes_of}
+use Rattle.net_order.specs.Order.{IsOrder}
 use Rattle.net_order.specs.Run.{acts_of, start, settled_by}
-use Rattle.net_order.proofs.SameRun.{Agree, or_cases, or_left, or_right}
+use Rattle.net_order.proofs.SameRun.{Agree}
 use Rattle.net_order.proofs.Kept.{same_values}
 use Rattle.net_order.proofs.Settling.{driver_fits, driver_words, InOrder, all_fit, all_words, known_stay, settles, one_map, given}
-use Rattle.net_order.proofs.Settling.{some_writer, in_order, bool_cases}
+use Rattle.net_order.proofs.Settling.{some_writer, in_order}
 use Rattle.net_order.proofs.Entered.{entered_long, entered_other, pins_entered, entered_below, limits_long, limit_at, same_pins}
 use Rattle.net_order.proofs.Entered.{pins_decide}
-
-or_none_right : (b : Bool) → b ≡ (b || false)
-or_none_right true = refl
-or_none_right false = refl
 
 acts_at : (xs : List Driver) (k : ℕ) (x : Driver) → k < length xs → acts_of xs k ≡ (get_or xs k x).code.acts
 acts_at [] k x l = absurd (omega arith)
@@ -64,15 +61,6 @@ limit_clock : (b : Bool) (w x : ℕ) → b ≡ true → x < (if b then 1 else 2 
 limit_clock true w x t l = omega arith
 limit_clock false w x t l = absurd cc
 
-not_true : (b : Bool) → not b ≡ true → b ≡ false
-not_true true h = absurd cc
-not_true false h = refl
-
-writer_within : (xs : List Driver) (j m k : ℕ) → writes_of xs j m k ≡ true → j < length xs
-writer_within [] j m k h = absurd cc
-writer_within (x ∷ xs) zero m k h = omega arith
-writer_within (x ∷ xs) (suc j) m k h = let l = writer_within xs j m k h in omega arith
-
 -- past the last driver nothing is run
 fixed_in : (xs : List Driver) (v : Values) → All (λ (x : Driver). run x.code.acts v ≡ v) xs → (i : ℕ) → run (acts_of xs i) v ≡ v
 fixed_in [] v h i = refl
@@ -81,7 +69,7 @@ fixed_in (x ∷ xs) v h (suc i) = fixed_in xs v (λ k y l. h (suc k) y (omega ar
 
 zero_above : (x w k : ℕ) → x < 2 ^ w → (not (nat_lt k w)) ≡ true → bit_at x k ≡ 0
 zero_above x w k l t = ⊎_elim
-    (λ (h : k < w). absurd (not_both (nat_lt k w) (lt-ltb k w h) (not_true (nat_lt k w) t)))
+    (λ (h : k < w). absurd (not_both (nat_lt k w) (lt-ltb k w h) (not-true (nat_lt k w) t)))
     (λ (g : w ≤ k). bit_at_above x w k l g)
     (cases_lt k w)
 
@@ -134,7 +122,7 @@ module _ (d : Design) (law : IsLawful d) where
           (λ (t : is_input d m ≡ true). input_fits m t)
           (λ (f : is_input d m ≡ false). subst (λ n. n < 2 ^ net_width d m) (sym (entered_other d.ports pins s.nets m f))
           (state.nets.each m))
-          (bool_cases (is_input d m));
+          (cases_Bool (is_input d m));
     }
 
     module _ (order : List ℕ) (o : IsOrder d order) where
@@ -142,7 +130,7 @@ module _ (d : Design) (law : IsLawful d) where
       settled = settled_by d order s pins
 
       ordered : InOrder d law (given d law) order
-      ordered = in_order d law (given d law) [] order (λ m k. or_none_right (given d law m k)) o.follows
+      ordered = in_order d law (given d law) [] order (λ m k. or_none (given d law m k)) o.follows
 
       fits : FitNets d settled.nets
       fits = all_fit d law (given d law) order ordered from start_fits
@@ -188,7 +176,7 @@ module _ (d : Design) (law : IsLawful d) where
   only_map order o s pins u v su sv =
       let words : u.words ≡ v.words = su.keeps.words ∙ sym sv.keeps.words in
       let ordered : InOrder d law (given d law) order =
-      in_order d law (given d law) [] order (λ m k. or_none_right (given d law m k)) o.follows in
+      in_order d law (given d law) [] order (λ m k. or_none (given d law m k)) o.follows in
       let fu = su.keeps.fit in
       let fv = sv.keeps.fit in
       let known : Agree (given d law) u v = λ m k t. ⊎_elim
@@ -207,7 +195,7 @@ module _ (d : Design) (law : IsLawful d) where
       (λ (n : given d law m k ≡ false).
       let w = some_writer d law m k n in
       written w.0 (o.all w.0 (writer_within d.drivers w.0 m k w.1)) m k w.1)
-      (bool_cases (given d law m k)))
+      (cases_Bool (given d law m k)))
 
   pub has_one_map : (order : List ℕ) → IsOrder d order → HasOneMap d
   has_one_map order o = record {

@@ -4,10 +4,11 @@ use Rattle.std.proofs.Common.{drop, take, bit_and, refl, ap, sym, subst, ◌∙�
 use Rattle.std.proofs.lemmas.Bool.{eq-eqb}
 use Rattle.std.proofs.lemmas.List.Folds.{list_any-append}
 use Rattle.std.proofs.lemmas.List.{take_more}
+use Rattle.std.proofs.Math.Bool.{or_assoc}
+use Rattle.vidi_bits.proofs.Bools.{or_none}
 use Rattle.net_design.specs.declared.act.Mask.{Mask}
 use Rattle.net_design.specs.declared.design.Driver.{Driver}
 use Rattle.net_design.specs.Names.{list_at}
-use Rattle.net_design.proofs.BoolLaws.{or_none, or_assoc}
 use Rattle.net_design.proofs.UpdateLaws.{from_here}
 use Rattle.net_order.specs.declared.writers.Writer.{Writer}
 use Rattle.net_order.specs.Index.{meets, met, found, in_row, IsRow, AreRows}
@@ -22,10 +23,6 @@ no_or : (a b c : Bool) → c ≡ false → a ≡ (a || (b && c))
 no_or true b c h = refl
 no_or false true c h = sym h
 no_or false false c h = refl
-
-test_true : (b : Bool) → (b ≡ true → ⊥) → not b ≡ true
-test_true true h = absurd (h refl)
-test_true false h = refl
 
 pub row_more : (row : List ℕ) (n bits mask j : ℕ) → (not (bit_and bits mask == 0) ≡ true)
     → in_row (row ++ n ∷ []) j ≡ (in_row row j || ((n == j) && meets bits mask))

@@ -4,7 +4,8 @@ use Rattle.std.proofs.Common.{List, [], ◌∷◌, ◌++◌, ◌⊎◌, inl, inr
 use Rattle.std.proofs.Common.{subst}
 use Rattle.std.proofs.Common.{◌∙◌, arith}
 use Rattle.std.specs.Int.{bit_at}
-use Rattle.std.proofs.lemmas.Bool.{cases_lt, eqb-true, eq-eqb, leb-true, le-leb, ltb-true, lt-ltb}
+use Rattle.std.proofs.lemmas.Bool.{cases_lt, eqb-true, eq-eqb, leb-true, le-leb, ltb-true, lt-ltb, or_right, or_cases, and_parts, and_from}
+use Rattle.std.proofs.lemmas.Bool.{or_left}
 use Rattle.std.proofs.lemmas.List.{get_or_past, get_or-set_same}
 use Rattle.std.proofs.lemmas.List.Folds.{list_any-append}
 use Rattle.std.proofs.lemmas.Nat.{pow_pos, mod_below}
@@ -21,30 +22,18 @@ use Rattle.net_design.specs.declared.values.Target.{Target}
 use Rattle.net_design.specs.declared.values.Target.TheVariants.{Net, Word as WordTarget}
 use Rattle.net_design.specs.declared.values.Update.{Update}
 use Rattle.net_design.specs.declared.values.Values.{Values}
-use Rattle.vlog_operators.specs.Number.{part_of, put_of, repeated}
-use Rattle.vlog_operators.specs.Operators.{unary_number, binary_number}
+use Rattle.vidi_bits.specs.Number.{part_of, put_of, repeated}
+use Rattle.vidi_bits.specs.Operators.{unary_number, binary_number}
 use Rattle.net_design.specs.Value.{word_at, value}
 use Rattle.net_design.specs.Updates.{written_to, apply, update, bit_updates, part_updates, word_updates, place_updates, target_width}
 use Rattle.net_design.specs.Updates.{target_updates, updates, guard_row, act_row, block_updates, run}
 use Rattle.net_design.specs.Bits.{BitSet, no_bits, bits_of, reads, place_reads, target_reads, place_adds, target_adds, adds, adds_guards}
 use Rattle.net_design.specs.Bits.{adds_row, block_adds, open_reads, open_reads_guards, open_reads_row, block_open_reads}
 use Rattle.net_design.specs.Bits.{block_reads}
-use Rattle.net_design.proofs.BoolLaws.{and_parts, and_both}
 use Rattle.net_design.proofs.FrameLaws.{touches_at, touched, written_stays}
 use Rattle.net_design.proofs.StateLaws.{written_long, applied_long, AreNarrow, nets_narrow}
 
 -- ---- tests
-pub or_cases : (a b : Bool) → (a || b) ≡ true → (a ≡ true) ⊎ (b ≡ true)
-or_cases true b h = inl refl
-or_cases false b h = inr h
-
-pub or_left : (a b : Bool) → a ≡ true → (a || b) ≡ true
-or_left true b h = refl
-or_left false b h = absurd cc
-
-pub or_right : (a b : Bool) → b ≡ true → (a || b) ≡ true
-or_right true b h = refl
-or_right false b h = h
 
 opened : (r known p : Bool) → ((r && not known) ≡ true → p ≡ true) → (known ≡ true → p ≡ true) → r ≡ true → p ≡ true
 opened r true p f g h = g refl
@@ -85,7 +74,7 @@ part_same x y low w h =
 
 in_span : (s : Span) (i : ℕ) → i < s.width → bits_of s s.net (s.low + i) ≡ true
 in_span s i l =
-    and_both _ _ (eq-eqb s.net s.net refl) (and_both _ _ (le-leb s.low (s.low + i) (omega arith))
+    and_from _ _ (eq-eqb s.net s.net refl) (and_from _ _ (le-leb s.low (s.low + i) (omega arith))
     (lt-ltb (s.low + i) (s.low + s.width) (omega arith)))
 
 module _ (p : BitSet) (v u : Values) (h : Same p v u) where

@@ -1,10 +1,12 @@
 -- Drivers run once each in an order settle, and nothing else is settled.
 use Rattle.std.proofs.Common.{◌≡◌, ℕ, zero, suc, ◌+◌, ◌<◌, ◌≤◌, ◌||◌, not, nat_lt, Bool, true, false, List, [], ◌∷◌, ◌++◌}
-use Rattle.std.proofs.Common.{◌⊎◌, inl, inr, cond, length, get_or, ⊎_elim, refl, ap, sym, subst, ◌∙◌, arith}
+use Rattle.std.proofs.Common.{◌⊎◌, cond, length, get_or, ⊎_elim, refl, ap, sym, subst, ◌∙◌, arith}
 use Rattle.std.specs.List.{list_any, count_by, Contains}
-use Rattle.std.proofs.lemmas.Bool.{ltb-true, lt-ltb}
+use Rattle.std.proofs.lemmas.Bool.{ltb-true, lt-ltb, not-true, or_cases, or_right, false_from_ne_true, or_parts, cases_Bool, or_left}
 use Rattle.std.proofs.lemmas.List.Folds.{Any-from_list_any, list_any_at, list_any-append}
 use Rattle.std.proofs.lemmas.List.Sums.{sum_by-cons}
+use Rattle.vidi_bits.proofs.Bools.{not_both, or_none}
+use Rattle.vidi_bits.proofs.Lists.{head_in, tail_in, cases_in, none_in}
 use Rattle.net_design.specs.declared.act.Act.{Act}
 use Rattle.net_design.specs.declared.design.Driver.{Driver}
 use Rattle.net_design.specs.declared.design.Design.{Design}
@@ -13,21 +15,15 @@ use Rattle.net_design.specs.Updates.{run}
 use Rattle.net_design.specs.Bits.{BitSet, named}
 use Rattle.net_design.specs.Settled.{net_width, held, FitNets}
 use Rattle.net_design.specs.Lawful.{IsLawful, IsDriver, is_input}
-use Rattle.net_design.proofs.BoolLaws.{by_true, not_both, or_none, or_parts}
 use Rattle.net_order.specs.Order.{Follows, Reads, reads_of, writes_of}
 use Rattle.net_order.specs.Run.{acts_of, run_all}
-use Rattle.net_order.proofs.Members.{head, tail, cases, no_element}
 use Rattle.net_order.proofs.WriteRange.{writes_are_bits}
-use Rattle.net_order.proofs.SameRun.{Agree, Within, joint, bit, or_cases, or_left, or_right, run_same}
+use Rattle.net_order.proofs.SameRun.{Agree, Within, joint, bit, run_same}
 use Rattle.net_order.proofs.Kept.{fit_narrow, frame, run_fits, run_words}
 
 -- ---- how many drivers write a bit
 abbrev names_bit : ℕ → ℕ → Driver → Bool
 names_bit m k x = named x.code.writes m k
-
-pub bool_cases : (b : Bool) → (b ≡ true) ⊎ (b ≡ false)
-bool_cases true = inl refl
-bool_cases false = inr refl
 
 count_cons : (m k : ℕ) (x : Driver) (xs : List Driver) (b : Bool) → named x.code.writes m k ≡ b
     → count_by (names_bit m k) (x ∷ xs) ≡ cond b 1 0 + count_by (names_bit m k) xs
@@ -41,7 +37,7 @@ count_some (x ∷ xs) m k l = ⊎_elim
     (λ (f : named x.code.writes m k ≡ false).
     let c = count_cons m k x xs false f in
     let r = count_some xs m k (omega arith) in (suc r.0, r.1))
-    (bool_cases (named x.code.writes m k))
+    (cases_Bool (named x.code.writes m k))
 
 count_none : (xs : List Driver) (m k j : ℕ) → count_by (names_bit m k) xs ≡ 0 → writes_of xs j m k ≡ true → ⊥
 count_none [] m k j z h = absurd cc
@@ -49,7 +45,7 @@ count_none (x ∷ xs) m k zero z h = let c = count_cons m k x xs true h in absur
 count_none (x ∷ xs) m k (suc j) z h = ⊎_elim
     (λ (t : named x.code.writes m k ≡ true). let c = count_cons m k x xs true t in absurd (omega arith))
     (λ (f : named x.code.writes m k ≡ false). let c = count_cons m k x xs false f in count_none xs m k j (omega arith) h)
-    (bool_cases (named x.code.writes m k))
+    (cases_Bool (named x.code.writes m k))
 
 count_one : (xs : List Driver) (m k i j : ℕ) → count_by (names_bit m k) xs ≡ 1 → writes_of xs i m k ≡ true
     → writes_of xs j m k ≡ true → i ≡ j
@@ -63,7 +59,7 @@ count_one (x ∷ xs) m k (suc i) (suc j) z h g = ⊎_elim
     (λ (t : named x.code.writes m k ≡ true). let c = count_cons m k x xs true t in absurd (count_none xs m k i (omega arith) h))
     (λ (f : named x.code.writes m k ≡ false).
     let c = count_cons m k x xs false f in ap suc (count_one xs m k i j (omega arith) h g))
-    (bool_cases (named x.code.writes m k))
+    (cases_Bool (named x.code.writes m k))
 
 -- ---- drivers by number
 pub record At (d : Design) (xs : List Driver) (i : ℕ) : Type 0 where
@@ -87,16 +83,12 @@ at d (x ∷ xs) all (suc i) l =
     let r = at d xs (λ j y h. all (suc j) y (omega arith)) i (omega arith) in
     record { driver = r.driver; lawful = r.lawful; acts = r.acts; reads = r.reads; writes = r.writes }
 
-by_not : (b : Bool) → not b ≡ true → b ≡ false
-by_not true h = absurd cc
-by_not false h = refl
-
 twice : (a : Bool) → not a ≡ false → a ≡ true
 twice true h = refl
 twice false h = absurd cc
 
 not_lt : (k w : ℕ) → not (nat_lt k w) ≡ true → k < w → ⊥
-not_lt k w h l = not_both (nat_lt k w) (lt-ltb k w l) (by_not (nat_lt k w) h)
+not_lt k w h l = not_both (nat_lt k w) (lt-ltb k w l) (not-true (nat_lt k w) h)
 
 module _ (d : Design) (law : IsLawful d) where
   at_driver : (i : ℕ) → i < length d.drivers → At d d.drivers i
@@ -172,7 +164,7 @@ module _ (d : Design) (law : IsLawful d) where
   -- the bits of a driver are fixed once all ran
   pub settles : (known : BitSet) (order : List ℕ) → InOrder known order → (v : Values) → FitNets d v.nets → (i : ℕ) → Contains order i
       → (m k : ℕ) → bit (after i (run_all d.drivers order v)) m k ≡ bit (run_all d.drivers order v) m k
-  settles known [] o v fit i c m k = absurd (no_element i c)
+  settles known [] o v fit i c m k = absurd (none_in i c)
   settles known (j ∷ rest) o v fit i c m k =
       let w : Values = run_all d.drivers rest (after j v) in
       let more : BitSet = joint known (writes_at j) in
@@ -185,27 +177,27 @@ module _ (d : Design) (law : IsLawful d) where
       (λ x y r. known_stay known (j ∷ rest) o v fit x y (o.1 x y r)) m k t
       ∙ sym (known_stay more rest o.3 (after j v) first m k (or_right (known m k) (writes_at j m k) t)))
       (λ (f : writes_at j m k ≡ false). driver_frame j o.0 w last m k f)
-      (bool_cases (writes_at j m k))))
+      (cases_Bool (writes_at j m k))))
       (λ (h : Contains rest i). settles more rest o.3 (after j v) first i h m k)
-      (cases j rest i c)
+      (cases_in j rest i c)
 
   -- two maps that no driver changes and that agree on what is known agree on what the drivers write
   pub one_map : (known : BitSet) (order : List ℕ) → InOrder known order → (v u : Values) → FitNets d v.nets → FitNets d u.nets
       → v.words ≡ u.words → ((i : ℕ) → Contains order i → after i v ≡ v) → ((i : ℕ) → Contains order i → after i u ≡ u) → Agree known v u
       → (i : ℕ) → Contains order i → Agree (writes_at i) v u
-  one_map known [] o v u fv fu words sv su agree i c = absurd (no_element i c)
+  one_map known [] o v u fv fu words sv su agree i c = absurd (none_in i c)
   one_map known (j ∷ rest) o v u fv fu words sv su agree i c =
       let here : Agree (writes_at j) v u = λ m k t.
-      ap (λ (x : Values). bit x m k) (sym (sv j (head j rest)))
+      ap (λ (x : Values). bit x m k) (sym (sv j (head_in j rest)))
       ∙ driver_depends j o.0 v u fv fu words (λ x y r. agree x y (o.1 x y r)) m k t
-      ∙ ap (λ (x : Values). bit x m k) (su j (head j rest)) in
+      ∙ ap (λ (x : Values). bit x m k) (su j (head_in j rest)) in
       ⊎_elim
       (λ (e : j ≡ i). subst (λ x. Agree (writes_at x) v u) e here)
       (λ (h : Contains rest i). one_map (joint known (writes_at j)) rest o.3 v u fv fu words
-      (λ x y. sv x (tail j rest x y)) (λ x y. su x (tail j rest x y))
+      (λ x y. sv x (tail_in j rest x y)) (λ x y. su x (tail_in j rest x y))
       (λ m k t. ⊎_elim (λ (a : known m k ≡ true). agree m k a) (λ (b : writes_at j m k ≡ true). here m k b)
       (or_cases (known m k) (writes_at j m k) t)) i h)
-      (cases j rest i c)
+      (cases_in j rest i c)
 
   -- ---- an order of the design's drivers is one in this sense
   -- what no driver writes: what is no bit of a net, and what inputs and state hold
@@ -233,7 +225,7 @@ module _ (d : Design) (law : IsLawful d) where
   one_writer m k i j wi wj = ⊎_elim
       (λ (g : given m k ≡ true). absurd (given_from m k g i wi))
       (λ (n : given m k ≡ false). count_one d.drivers m k i j (not_given m k n) wi wj)
-      (bool_cases (given m k))
+      (cases_Bool (given m k))
 
   abbrev written_by : List ℕ → BitSet
   written_by before m k = list_any (λ (j : ℕ). writes_of d.drivers j m k) before
@@ -256,8 +248,8 @@ module _ (d : Design) (law : IsLawful d) where
         or_right (given m k) (written_by before m k)
         (list_any_at (λ (j : ℕ). writes_of d.drivers j m k) before c.0 w.0 c.1
         (subst (λ j. writes_of d.drivers j m k ≡ true) (sym c.2) w.1)))
-        (bool_cases (given m k))),
-    (λ m k t. by_true _ (λ w. ⊎_elim
+        (cases_Bool (given m k))),
+    (λ m k t. false_from_ne_true _ (λ w. ⊎_elim
         (λ (g : given m k ≡ true). given_from m k g i w)
         (λ (b : written_by before m k ≡ true).
         let any = Any-from_list_any (λ (j : ℕ). writes_of d.drivers j m k) before b in

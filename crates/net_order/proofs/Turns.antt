@@ -3,16 +3,16 @@ use Rattle.std.proofs.Common.{◌≡◌, ◌≢◌, ℕ, zero, suc, ◌+◌, ◌
 use Rattle.std.proofs.Common.{subst, ◌∙◌, arith}
 use Rattle.std.specs.List.{Contains}
 use Rattle.std.proofs.lemmas.List.Elements.{Contains-append_cases}
+use Rattle.vidi_bits.proofs.Lists.{head_in, tail_in, none_in, cases_in}
 use Rattle.net_order.specs.Order.{Chain, Once, IsLoopBy, last_of}
 use Rattle.net_order.specs.Turn.{down, IsTurned}
-use Rattle.net_order.proofs.Members.{head, tail, no_element, cases}
 
 once_append : (xs ys : List ℕ) → Once xs → Once ys → ((i : ℕ) → Contains xs i → Contains ys i → ⊥) → Once (xs ++ ys)
 once_append [] ys a b h = b
 once_append (x ∷ xs) ys a b h = (
-  (λ c. ⊎_elim a.0 (λ (d : Contains ys x). h x (head x xs) d) (Contains-append_cases xs ys x c)),
+  (λ c. ⊎_elim a.0 (λ (d : Contains ys x). h x (head_in x xs) d) (Contains-append_cases xs ys x c)),
   once_append xs ys a.1 b
-      (λ i c d. h i (tail x xs i c) d),
+      (λ i c d. h i (tail_in x xs i c) d),
 )
 
 chain_append : (R : ℕ → ℕ → Type 0) (x : ℕ) (xs ys : List ℕ) → Chain R x xs → Chain R (last_of x xs) ys → Chain R x (xs ++ ys)
@@ -28,12 +28,12 @@ last_down path x low zero = ap (slice_index path) (omega arith)
 last_down path x low (suc n) = last_down path (slice_index path (low + suc n)) low n
 
 in_down : (path : List ℕ) (low n i : ℕ) → Contains (down path low n) i → (t : ℕ) × (low ≤ t) × (t < low + n) × (slice_index path t ≡ i)
-in_down path low zero i h = absurd (no_element i h)
+in_down path low zero i h = absurd (none_in i h)
 in_down path low (suc n) i h = ⊎_elim
     (λ (e : slice_index path (low + n) ≡ i). (low + n, omega arith, omega arith, e))
     (λ (t : Contains (down path low n) i). let r = in_down path low n i t in let k : r.0 < low + n = r.2
     in (r.0, r.1, omega (arith, k), r.3))
-    (cases (slice_index path (low + n)) (down path low n) i h)
+    (cases_in (slice_index path (low + n)) (down path low n) i h)
 
 module _ (R : ℕ → ℕ → Type 0) (path : List ℕ) where
   abbrev Linked : Type 0

@@ -1,37 +1,27 @@
 -- The bits that code in range writes are bits of nets.
-use Rattle.std.proofs.Common.{◌≡◌, ℕ, zero, suc, ◌+◌, ◌<◌, ◌≤◌, ◌||◌, Bool, true, false, List, [], ◌∷◌, ◌⊎◌}
-use Rattle.std.proofs.Common.{inl, inr, IsTrue, length, get_or, map, slice_index, ⊎_elim, refl, sym, subst, ◌∙◌, arith}
+use Rattle.std.proofs.Common.{◌≡◌, ℕ, zero, suc, ◌+◌, ◌<◌, ◌≤◌, true, List, [], ◌∷◌, ◌⊎◌}
+use Rattle.std.proofs.Common.{IsTrue, length, get_or, ⊎_elim, sym, subst, ◌∙◌, arith}
 use Rattle.std.specs.List.{AllByRecursion}
-use Rattle.std.proofs.lemmas.Bool.{cases_lt, eqb-true, ltb-true, leb-true}
+use Rattle.std.proofs.lemmas.Bool.{cases_lt, eqb-true, ltb-true, leb-true, or_cases, and_parts}
+use Rattle.net_design.proofs.LawfulCode.{width_past}
 use Rattle.net_design.specs.declared.rhs.Span.{Span}
 use Rattle.net_design.specs.declared.act.Place.{Place}
 use Rattle.net_design.specs.declared.act.Place.TheVariants.{Bits, BitsFrom, Word, WordFrom}
 use Rattle.net_design.specs.declared.act.Act.{Act, Set, Read, Branch', Row_of-Act, end_of-Act, more_of-Act, Row_of-Guard, end_of-Guard}
 use Rattle.net_design.specs.declared.act.Act.{more_of-Guard}
-use Rattle.net_design.specs.declared.design.Net.{Net}
 use Rattle.net_design.specs.declared.design.Driver.{Driver}
 use Rattle.net_design.specs.declared.design.Design.{Design}
 use Rattle.net_design.specs.Sized.{IsPlace, IsAct, IsGuardRow, IsActRow}
 use Rattle.net_design.specs.Bits.{bits_of, named, place_writes, target_writes, writes, writes_guards, writes_row, block_writes}
 use Rattle.net_design.specs.Settled.{net_width}
 use Rattle.net_design.specs.Lawful.{IsLawful, IsDriver, IsInRange, is_span, is_room}
-use Rattle.net_design.proofs.BoolLaws.{and_parts}
 use Rattle.net_order.specs.Order.{writes_of}
-
-or_cases : (a b : Bool) → (a || b) ≡ true → (a ≡ true) ⊎ (b ≡ true)
-or_cases true b h = inl refl
-or_cases false b h = inr h
-
-no_width : (ns : List Net) (m : ℕ) → length ns ≤ m → slice_index (map (λ (n : Net). n.width) ns) m ≡ 0
-no_width [] m l = refl
-no_width (n ∷ ns) zero l = absurd (omega arith)
-no_width (n ∷ ns) (suc m) l = no_width ns m (omega arith)
 
 -- a net that has a bit is there
 width_there : (d : Design) (m k : ℕ) → k < net_width d m → m < length d.nets
 width_there d m k l = ⊎_elim
     (λ (h : m < length d.nets). h)
-    (λ (g : length d.nets ≤ m). let none : net_width d m ≡ 0 = no_width d.nets m g in absurd (omega arith))
+    (λ (g : length d.nets ≤ m). let none : net_width d m ≡ 0 = width_past d.nets m g in absurd (omega arith))
     (cases_lt m (length d.nets))
 
 module _ (d : Design) where

@@ -2,23 +2,19 @@
 use Rattle.std.proofs.Common.{◌≡◌, ℕ, zero, suc, ◌+◌, ◌<◌, ◌≤◌, ◌==◌, ◌&&◌, ◌||◌, Bool, true, false, List, [], ◌∷◌, ◌++◌, length, get_or}
 use Rattle.std.proofs.Common.{slice_set, slice_index_or, take, drop, refl, ap, sym, ◌∙◌, arith}
 use Rattle.std.specs.List.{list_any}
-use Rattle.std.proofs.lemmas.Bool.{eqb-true, eq-eqb}
+use Rattle.std.proofs.lemmas.Bool.{eqb-true, eq-eqb, ne_eqb}
 use Rattle.std.proofs.lemmas.List.{take_more}
 use Rattle.std.proofs.lemmas.List.Folds.{list_any-append}
+use Rattle.vidi_bits.proofs.Bools.{same_test, or_none}
 use Rattle.net_design.specs.declared.act.Mask.{Mask}
 use Rattle.net_design.specs.declared.design.Driver.{Driver}
-use Rattle.vlog_operators.specs.Number.{has}
+use Rattle.vidi_bits.specs.Number.{has}
 use Rattle.net_design.specs.Bits.{named}
 use Rattle.net_design.specs.Names.{list_at}
-use Rattle.net_design.proofs.BoolLaws.{by_true, same_test, or_none}
 use Rattle.net_design.proofs.UpdateLaws.{from_here}
 use Rattle.net_order.specs.declared.writers.Writer.{Writer}
 use Rattle.net_order.specs.Order.{writes_of}
 use Rattle.net_order.specs.Index.{listed}
-
--- numbers told apart
-not_same : (n m : ℕ) → (n ≡ m → ⊥) → (n == m) ≡ false
-not_same n m h = by_true (n == m) (λ t. h (eqb-true n m t))
 
 suc_same : (n m : ℕ) → (n == m) ≡ (suc n == suc m)
 suc_same n m =
@@ -26,7 +22,7 @@ suc_same n m =
     (λ t. let e : suc n ≡ suc m = eqb-true (suc n) (suc m) t in eq-eqb n m (omega arith))
 
 no_more : (a b : Bool) (n m : ℕ) → (n ≡ m → ⊥) → a ≡ (a || ((n == m) && b))
-no_more a b n m h = or_none a ∙ ap (λ t. a || (t && b)) (sym (not_same n m h))
+no_more a b n m h = or_none a ∙ ap (λ t. a || (t && b)) (sym (ne_eqb n m h))
 
 suc_more : (a b c : Bool) (n m : ℕ) → c ≡ (a || ((n == m) && b)) → c ≡ (a || ((suc n == suc m) && b))
 suc_more a b c n m h = h ∙ ap (λ t. a || (t && b)) (suc_same n m)

@@ -1,7 +1,7 @@
 //! The drivers that write bits of each net.
 
 ghost use Rattle.std.specs.Prelude.{◌≡◌, ℕ, ◌<◌, ◌==◌, ◌&&◌, ◌||◌, [], OnOk, IfOk, length};
-ghost use Rattle.vlog_operators.specs.Number.{has};
+ghost use Rattle.vidi_bits.specs.Number.{has};
 ghost use Rattle.net_design.specs.Names.{list_at};
 ghost use Rattle.net_design.specs.Bits.{named};
 ghost use Rattle.net_order.specs.Index.{listed};

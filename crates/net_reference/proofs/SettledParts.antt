@@ -1,13 +1,12 @@
 -- The parts of a settled map, told by tests.
 use Rattle.std.proofs.Common.{◌≡◌, ℕ, ◌==◌, ◌&&◌, ◌↔◌, true, List, All, get_or, slice_index, refl, subst}
 use Rattle.std.specs.Int.{bit_at}
-use Rattle.std.proofs.lemmas.Bool.{eqb-true, eq-eqb}
+use Rattle.std.proofs.lemmas.Bool.{eqb-true, eq-eqb, and_parts, and_from}
 use Rattle.std.proofs.lemmas.List.Folds.{Any-from_list_any, list_any_at}
 use Rattle.net_design.specs.declared.design.Register.{Register}
 use Rattle.net_design.specs.declared.design.Design.{Design}
-use Rattle.vlog_operators.specs.Number.{has}
+use Rattle.vidi_bits.specs.Number.{has}
 use Rattle.net_design.specs.Settled.{held}
-use Rattle.net_design.proofs.BoolLaws.{and_parts, and_both}
 
 -- the two lists of numbers have the same bits of a register
 abbrev SameBits : List ℕ → List ℕ → Register → Type 0
@@ -29,7 +28,7 @@ by_bits : (d : Design) (v s : List ℕ) → SameHeld d v s → All (SameBits v s
 by_bits d v s same i r l k h =
     let x : Register = get_or d.registers i r in
     same x.net k (list_any_at (λ (y : Register). (y.net == x.net) && has y.held k) d.registers i r l
-    (and_both _ _ (eq-eqb x.net x.net refl) h))
+    (and_from _ _ (eq-eqb x.net x.net refl) h))
 
 pub same_held : (d : Design) (v s : List ℕ) → All (SameBits v s) d.registers ↔ SameHeld d v s
 same_held d v s = (by_registers d v s, by_bits d v s)

@@ -1,21 +1,12 @@
 //! The number of an expression.
 
 ghost use Rattle.std.specs.Prelude.{◌≡◌, ◌+◌, ◌<◌, ◌≤◌, ◌^◌, MatchOption, slice_index};
-ghost use Rattle.vlog_operators.specs.Number.{IsWidth};
+ghost use Rattle.vidi_bits.specs.Number.{IsWidth};
 ghost use Rattle.net_design.specs.Value.{value, word_at, read};
 ghost use Rattle.net_design.specs.Sized.{IsSizedRhs, IsCountable};
 
-use net_design::{Rhs, Room, Span, Values};
-use vidi_bits::{Numbers, slice};
-use vlog_operators::{binary, joined, selected, times, unary};
-
-/// Number `i` of a list, 0 past its end.
-pub fn number_at(list: &Numbers, i: usize) -> u128
-    ensures { result ≡ slice_index list.now i }
-{
-    let numbers = list.as_slice();
-    if i < numbers.len() { numbers[i] } else { 0 }
-}
+use net_design::{Rhs, Room, Span, Values, number_at};
+use vidi_bits::{Numbers, binary, joined, selected, slice, times, unary};
 
 pub fn read_bits(span: Span, values: &Values) -> u128
     requires { IsWidth span.width }

@@ -6,15 +6,17 @@ ghost use Rattle.std.specs.Int.{bit_at};
 ghost use Rattle.net_design.specs.declared.design.Net.{Net};
 ghost use Rattle.net_design.specs.declared.design.Direction.TheVariants.{Input, Output};
 ghost use Rattle.net_design.specs.declared.design.Register.{Register};
-ghost use Rattle.vlog_operators.specs.Number.{has};
+ghost use Rattle.vidi_bits.specs.Number.{has};
 ghost use Rattle.net_design.specs.Sized.{IsSizedBlock};
 ghost use Rattle.net_design.specs.Updates.{apply, block_updates, run};
 ghost use Rattle.net_design.specs.Settled.{IsSized, IsSettled, Keeps, FitNets, net_width, same_direction, pins_of};
-ghost use Rattle.net_design.specs.Settled.{held, next, initial, initial_number, word_count};
+ghost use Rattle.net_design.specs.Settled.{held, next, initial, word_count};
 
-use crate::expression::number_at;
 use crate::statement::{acts_updates, apply, copy};
-use net_design::{Act, Design, Direction, Net, Port, Register, Timing, Values, count_words};
+use net_design::{
+    Act, Design, Direction, Net, Port, Register, Timing, Values, count_words, initial_numbers,
+    number_at, zeros,
+};
 use std::alloc::Global;
 use vidi_bits::{Items, Memory, Numbers};
 
@@ -139,18 +141,6 @@ fn is_fixed(alloc: Global, acts: &Items<Act>, values: &Values) -> Result<bool, M
     Ok(same_values(&now, values))
 }
 
-/// The initial number of net `m`.
-fn initial_of(registers: &[Register], m: usize) -> u128
-    ensures { result ≡ initial_number registers.now m }
-{
-    for register in registers {
-        if register.net == m {
-            return register.initial;
-        }
-    }
-    0
-}
-
 /// The state after `state`, where `values` are settled for it (IEEE 1364-2005, 9.2.2): every clocked block reads the
 /// settled values alone.
 #[tactic(auto, using(net_design::proofs::LawfulCode::clocked_sized))]
@@ -176,16 +166,9 @@ pub fn initial_state(alloc: Global, design: &Design) -> Result<Values, Memory>
     requires { IsSized design.now }
     ensures { IfOk result (λ s. s ≡ initial design.now) }
 {
-    let mut nets = Items::new(alloc);
-    for (m, _net) in design.nets.as_slice().iter().enumerate() {
-        let number = initial_of(design.registers.as_slice(), m);
-        nets.push(number)?;
-    }
-    let words = Vec::from_elem(alloc, 0, count_words(design))?;
-    Ok(Values {
-        nets,
-        words: Items::from_vec(words),
-    })
+    let nets = initial_numbers(alloc, design)?;
+    let words = zeros(alloc, count_words(design))?;
+    Ok(Values { nets, words })
 }
 
 /// Whether the clock, where there is one, is 0.

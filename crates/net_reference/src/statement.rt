@@ -3,15 +3,17 @@
 ghost use Rattle.std.specs.Prelude.{◌≡◌, ◌++◌, ◌+◌, ◌≤◌, ◌==◌, not, List, OnOk, IfOk, IfSome, All};
 ghost use Rattle.std.specs.List.{AllByRecursion};
 ghost use Rattle.std.specs.Option.{option_to_list, unwrap_or};
-ghost use Rattle.vlog_operators.specs.Number.{IsWidth};
+ghost use Rattle.vidi_bits.specs.Number.{IsWidth};
 ghost use Rattle.net_design.specs.Value.{value};
 ghost use Rattle.net_design.specs.Sized.{IsSizedRhs, IsSizedPlace, IsSizedAct, IsSizedBlock, AreSizedGuards};
 ghost use Rattle.net_design.specs.declared.values.Update.{Update};
 ghost use Rattle.net_design.specs.Updates.{written, written_to, apply, bit_updates, part_updates, place_updates};
 ghost use Rattle.net_design.specs.Updates.{target_width, target_updates, seen, updates, block_updates, guard_updates};
 
-use crate::expression::{number_at, value_of, word_in};
-use net_design::{Act, Guard, Place, Rhs, Target, Timing, Update, Values, place_width, see_branch};
+use crate::expression::{value_of, word_in};
+use net_design::{
+    Act, Guard, Place, Rhs, Target, Timing, Update, Values, number_at, place_width, see_branch,
+};
 use std::alloc::Global;
 use vidi_bits::{Items, Memory, Numbers, put, shr_w};
 

@@ -11,8 +11,8 @@ use Rattle.net_design.specs.declared.design.Design.{Design}
 use Rattle.net_design.specs.declared.values.Values.{Values}
 use Rattle.net_design.specs.Settled.{word_count, initial}
 use Rattle.net_design.specs.Lawful.{IsLawful, IsState}
-use Rattle.net_flat.specs.Layout.{view, IsReady, Fits}
-use Rattle.net_flat.proofs.Views.{view_by}
+use Rattle.net_instr.specs.Layout.{view, IsReady, Fits}
+use Rattle.net_instr.proofs.Views.{view_by}
 use Rattle.net_order.proofs.Known.{known_initial}
 use Rattle.net_sim.specs.Slots.{widths_of, span_of, shown_in, state_in}
 

@@ -4,13 +4,13 @@ use Rattle.std.proofs.Common.{Some, None, MatchOption}
 use Rattle.std.proofs.Common.{length, length-append, get_or, take, drop, slice_get, ⊎_elim, refl, ap, sym, ◌∙◌, append_assoc, arith}
 use Rattle.std.specs.Cmp.Lexicographic.{pointwise}
 use Rattle.std.proofs.Math.Seq.{drop-append_seam}
-use Rattle.std.proofs.lemmas.Bool.{cases_lt, eqb-true, eq-eqb}
+use Rattle.std.proofs.lemmas.Bool.{cases_lt, eqb-true, eq-eqb, and_parts, and_from}
 use Rattle.std.proofs.lemmas.List.{take-append-drop, append_cancel_right}
+use Rattle.vidi_bits.proofs.Bools.{not_both}
 use Rattle.net_design.specs.declared.design.Instance.{Instance}
 use Rattle.net_design.specs.declared.design.Net.{Net}
-use Rattle.net_design.specs.Names.{list_at, paths, paths_after}
-use Rattle.net_design.proofs.BoolLaws.{and_parts, and_both, not_both}
-use Rattle.net_sim.specs.Names.{dotted, full_name, IsCalled, AreAfterParents}
+use Rattle.net_design.specs.Names.{list_at, paths, paths_after, AreAfterParents}
+use Rattle.net_sim.specs.Names.{dotted, full_name, IsCalled}
 use Rattle.net_design.proofs.LawfulCode.{slice_get-at}
 
 -- ---- equal lists
@@ -24,7 +24,7 @@ same_pointwise (x ∷ xs) (y ∷ ys) h =
 
 pointwise_self : (xs : List ℕ) → pointwise nat_eq xs xs ≡ true
 pointwise_self [] = refl
-pointwise_self (x ∷ xs) = and_both _ _ (eq-eqb x x refl) (pointwise_self xs)
+pointwise_self (x ∷ xs) = and_from _ _ (eq-eqb x x refl) (pointwise_self xs)
 
 pub front_some : (text last front : List ℕ) → pointwise nat_eq (drop (length text - length last) text) last ≡ true
     → front ≡ take (length text - length last) text → text ≡ front ++ last

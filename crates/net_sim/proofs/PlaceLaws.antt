@@ -5,6 +5,7 @@ use Rattle.std.specs.List.{count_by, enumerate_from}
 use Rattle.std.proofs.lemmas.List.{get_or-replicate, length-replicate}
 use Rattle.std.proofs.lemmas.List.Sums.{sum_by-cons}
 use Rattle.std.proofs.lemmas.Nat.{pow_pos}
+use Rattle.net_order.proofs.Entered.{limits_long}
 use Rattle.net_design.specs.declared.design.Port.{Port}
 use Rattle.net_design.specs.declared.design.Direction.{Direction}
 use Rattle.net_design.specs.declared.design.Direction.TheVariants.{Input}
@@ -65,10 +66,6 @@ pins_at direction (p ∷ ports) k all (x ∷ nets) e h j l =
     (λ i m. pins_at direction ports (k + 1) all nets f.1 (omega arith) i m) l
 
 -- ---- zeros fit
-limits_long : (clock : Option ℕ) (k : ℕ) (ports : List Port)
-    → length (map (λ (p : ℕ × Port). if is_clock clock p.0 then 1 else 2 ^ p.1.width) (enumerate_from k ports)) ≡ length ports
-limits_long clock k [] = refl
-limits_long clock k (p ∷ ports) = ap suc (limits_long clock (k + 1) ports)
 
 limit_some : (b : Bool) (w : ℕ) → 0 < (if b then 1 else 2 ^ w)
 limit_some true w = omega arith

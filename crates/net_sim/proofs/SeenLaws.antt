@@ -7,16 +7,17 @@ use Rattle.std.proofs.lemmas.Bool.{cases_lt}
 use Rattle.std.proofs.lemmas.List.{length-drop, length-map, length-take-le, length-replicate}
 use Rattle.std.proofs.lemmas.List.{get_or-drop, get_or-take, get_or-replicate}
 use Rattle.std.proofs.lemmas.Grind.{same_number_lists}
+use Rattle.net_order.proofs.Entered.{entered_long}
 use Rattle.net_design.specs.declared.design.Net.{Net}
 use Rattle.net_design.specs.declared.design.Port.{Port}
 use Rattle.net_design.specs.declared.design.Design.{Design}
 use Rattle.net_order.specs.Run.{entered}
-use Rattle.net_flat.specs.declared.instr.Instr.{Instr}
-use Rattle.net_flat.specs.Machine.{exec, IsInstr}
-use Rattle.net_flat.specs.InPlace.{place, through, IsInPlace}
-use Rattle.net_flat.proofs.InPlaceLaws.{at_net, at_rest, seen_at, seen_long}
+use Rattle.net_instr.specs.declared.instr.Instr.{Instr}
+use Rattle.net_instr.specs.Machine.{exec, IsInstr}
+use Rattle.net_instr.specs.InPlace.{place, through, IsInPlace}
+use Rattle.net_instr.proofs.InPlaceLaws.{at_net, at_rest, seen_at, seen_long}
 use Rattle.net_sim.specs.Slots.{span_of, settling_code, clocking_code, copied}
-use Rattle.net_sim.proofs.SlotLaws.{entered_long, copied_long}
+use Rattle.net_sim.proofs.SlotLaws.{copied_long}
 use Rattle.net_sim.proofs.SimLaws.{safe_prop}
 
 -- ---- behind the nets slots are seen where they stand

@@ -13,14 +13,14 @@ use Rattle.net_design.specs.Pins.{FitPins}
 use Rattle.net_order.specs.Order.{IsOrder}
 use Rattle.net_order.specs.Run.{entered, settled_by}
 use Rattle.net_order.proofs.Known.{known_settled, known_only, known_next}
-use Rattle.net_flat.specs.declared.instr.Step.{Step}
-use Rattle.net_flat.specs.declared.instr.Step.TheVariants.{Number, Copy, Slice, And, Or, Xor, Add, Subtract, Less, Equal, LogicalNot}
-use Rattle.net_flat.specs.declared.instr.Step.TheVariants.{Unary, Binary, Choose, Join, Repeat, Select, Word}
-use Rattle.net_flat.specs.declared.instr.Instr.{Instr}
-use Rattle.net_flat.specs.declared.instr.Instr.TheVariants.{Do, Put, PutFrom, PutWord, PutWordFrom, SkipIfZero, Skip}
-use Rattle.net_flat.specs.Machine.{IsStep, IsInstr, AreBelow, exec}
-use Rattle.net_flat.specs.Layout.{IsReady, Moves}
-use Rattle.net_flat.proofs.Whole.{safe_reverse}
+use Rattle.net_instr.specs.declared.instr.Step.{Step}
+use Rattle.net_instr.specs.declared.instr.Step.TheVariants.{Number, Copy, Slice, And, Or, Xor, Add, Subtract, Less, Equal, LogicalNot}
+use Rattle.net_instr.specs.declared.instr.Step.TheVariants.{Unary, Binary, Choose, Join, Repeat, Select, Word}
+use Rattle.net_instr.specs.declared.instr.Instr.{Instr}
+use Rattle.net_instr.specs.declared.instr.Instr.TheVariants.{Do, Put, PutFrom, PutWord, PutWordFrom, SkipIfZero, Skip}
+use Rattle.net_instr.specs.Machine.{IsStep, IsInstr, AreBelow, exec}
+use Rattle.net_instr.specs.Layout.{IsReady, Moves}
+use Rattle.net_instr.proofs.Whole.{safe_reverse}
 use Rattle.net_sim.specs.Slots.{widths_of, span_of, shown_in, state_in, settling_code, clocking_code, copied}
 use Rattle.net_sim.proofs.SlotLaws.{Settles, settling_safe, clocking_safe, settled_slots, clocked_slots}
 

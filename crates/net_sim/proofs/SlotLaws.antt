@@ -5,6 +5,7 @@ use Rattle.std.proofs.Common.{get_or, take, drop, reverse, slice_index, refl, ap
 use Rattle.std.specs.List.{flat_map}
 use Rattle.std.proofs.Math.Seq.{drop-append_seam}
 use Rattle.std.proofs.lemmas.List.{length-take-le, take-append-le, take-take, length-map, length-drop}
+use Rattle.net_order.proofs.Entered.{entered_long}
 use Rattle.net_design.specs.declared.act.Act.{Act}
 use Rattle.net_design.specs.declared.act.Code.{Code}
 use Rattle.net_design.specs.declared.act.Timing.TheVariants.{Blocking, Nonblocking}
@@ -21,54 +22,54 @@ use Rattle.net_design.specs.Pins.{FitPins}
 use Rattle.net_design.proofs.LawfulCode.{net_width_le, block_more, room_within, span_within}
 use Rattle.net_order.specs.Run.{enters, entered, acts_of, run_all, start}
 use Rattle.net_order.proofs.OneMap.{start_fits}
-use Rattle.net_flat.specs.declared.instr.Instr.{Instr}
-use Rattle.net_flat.specs.Machine.{AreBelow, AreSafe, exec}
-use Rattle.net_flat.specs.Layout.{view, span, shown, state, IsReady, Moves}
-use Rattle.net_flat.specs.Expressions.{IsThere, HasRoom}
-use Rattle.net_flat.specs.Statements.{block_code, IsFlatBlock}
-use Rattle.net_flat.proofs.Running.{RunsTo, runs_nothing, runs_then, first_below, last_below}
-use Rattle.net_flat.proofs.Views.{view_by}
-use Rattle.net_flat.proofs.Acts.{Does, does_nothing, does_then, block_right}
-use Rattle.net_flat.proofs.Safe.{safe_both, block_safe}
-use Rattle.net_flat.proofs.Whole.{whole}
+use Rattle.net_instr.specs.declared.instr.Instr.{Instr}
+use Rattle.net_instr.specs.Machine.{AreBelow, AreSafe, exec}
+use Rattle.net_instr.specs.Layout.{view, span, shown, state, IsReady, Moves}
+use Rattle.net_instr.specs.Expressions.{IsThere, HasRoom}
+use Rattle.net_instr.specs.Statements.{block_code, IsBlockThere}
+use Rattle.net_instr.proofs.Running.{RunsTo, runs_nothing, runs_then, first_below, last_below}
+use Rattle.net_instr.proofs.Views.{view_by}
+use Rattle.net_instr.proofs.Acts.{Does, does_nothing, does_then, block_right}
+use Rattle.net_instr.proofs.Safe.{safe_both, block_safe}
+use Rattle.net_instr.proofs.Whole.{whole}
 use Rattle.net_sim.specs.Slots.{widths_of, span_of, shown_in, state_in, drivers_code, blocks_code, settling_code, clocking_code, copied}
 
 -- ---- code of lawful designs
-acts_flat : (widths : List ℕ) (W : ℕ) (xs : List Driver) → ((k : ℕ) (x : Driver) → k < length xs
-    → IsFlatBlock widths W (get_or xs k x).code.acts)
-    → (i : ℕ) → IsFlatBlock widths W (acts_of xs i)
-acts_flat widths W [] f i = tt
-acts_flat widths W (x ∷ xs) f zero = f zero x (omega arith)
-acts_flat widths W (x ∷ xs) f (suc i) = acts_flat widths W xs (λ k y l. f (suc k) y (omega arith)) i
+acts_there : (widths : List ℕ) (W : ℕ) (xs : List Driver) → ((k : ℕ) (x : Driver) → k < length xs
+    → IsBlockThere widths W (get_or xs k x).code.acts)
+    → (i : ℕ) → IsBlockThere widths W (acts_of xs i)
+acts_there widths W [] f i = tt
+acts_there widths W (x ∷ xs) f zero = f zero x (omega arith)
+acts_there widths W (x ∷ xs) f (suc i) = acts_there widths W xs (λ k y l. f (suc k) y (omega arith)) i
 
 module _ (d : Design) (law : IsLawful d) where
   widths : List ℕ
   widths = widths_of d
 
-  pub flat_block : (acts : List Act) → IsInRange d acts → IsFlatBlock (widths_of d) (word_count d) acts
-  flat_block acts h =
+  pub block_there : (acts : List Act) → IsInRange d acts → IsBlockThere (widths_of d) (word_count d) acts
+  block_there acts h =
       block_more (λ s. IsTrue (is_span d s)) (IsThere (widths_of d) (word_count d)) (λ r n. IsTrue (is_room d r n)) (HasRoom
       (widths_of d) (word_count d))
       (λ s x. let w = span_within d law s x in (subst (λ k. s.net < k) (sym (length-map d.nets (λ (n : Net). n.width))) w.0, w.1))
       (λ r n x. room_within d law r n x)
       acts h
 
-  pub flat_drivers : All (λ (x : Driver). IsFlatBlock (widths_of d) (word_count d) x.code.acts) d.drivers
-  flat_drivers = λ k x l. flat_block (get_or d.drivers k x).code.acts (law.drivers k x l).code.acts
+  pub drivers_there : All (λ (x : Driver). IsBlockThere (widths_of d) (word_count d) x.code.acts) d.drivers
+  drivers_there = λ k x l. block_there (get_or d.drivers k x).code.acts (law.drivers k x l).code.acts
 
-  pub flat_blocks : All (λ (c : Code). IsFlatBlock (widths_of d) (word_count d) c.acts) d.blocks
-  flat_blocks = λ k c l. flat_block (get_or d.blocks k c).acts (law.blocks k c l).code.acts
+  pub blocks_there : All (λ (c : Code). IsBlockThere (widths_of d) (word_count d) c.acts) d.blocks
+  blocks_there = λ k c l. block_there (get_or d.blocks k c).acts (law.blocks k c l).code.acts
 
 -- ---- safe code
 drivers_safe : (widths : List ℕ) (W : ℕ) → ((m : ℕ) → slice_index widths m ≤ 128) → (xs : List Driver) (order : List ℕ)
-    → ((i : ℕ) → IsFlatBlock widths W (acts_of xs i)) → AreSafe (drivers_code widths W xs order)
+    → ((i : ℕ) → IsBlockThere widths W (acts_of xs i)) → AreSafe (drivers_code widths W xs order)
 drivers_safe widths W narrow xs [] h = tt
 drivers_safe widths W narrow xs (i ∷ order) h =
     safe_both (drivers_code widths W xs order) (block_code widths W 0 (acts_of xs i)) (drivers_safe widths W narrow xs order h)
     (block_safe widths W narrow 0 (acts_of xs i) (h i))
 
 blocks_safe : (widths : List ℕ) (W : ℕ) → ((m : ℕ) → slice_index widths m ≤ 128) → (cs : List Code)
-    → ((k : ℕ) (c : Code) → k < length cs → IsFlatBlock widths W (get_or cs k c).acts) → AreSafe (blocks_code widths W cs)
+    → ((k : ℕ) (c : Code) → k < length cs → IsBlockThere widths W (get_or cs k c).acts) → AreSafe (blocks_code widths W cs)
 blocks_safe widths W narrow [] h = tt
 blocks_safe widths W narrow (c ∷ cs) h =
     safe_both (blocks_code widths W cs) (block_code widths W (span widths W) c.acts)
@@ -85,7 +86,7 @@ record Shows (widths : List ℕ) (W : ℕ) (code : List Instr) (v : Values) (s :
   long : length after ≡ length s
   ready : IsReady widths W after
 
-drivers_run : (widths : List ℕ) (W : ℕ) (xs : List Driver) → ((i : ℕ) → IsFlatBlock widths W (acts_of xs i)) → (order : List ℕ) (s : List ℕ)
+drivers_run : (widths : List ℕ) (W : ℕ) (xs : List Driver) → ((i : ℕ) → IsBlockThere widths W (acts_of xs i)) → (order : List ℕ) (s : List ℕ)
     → AreBelow (length s) (drivers_code widths W xs order) → IsReady widths W s
     → Shows widths W (drivers_code widths W xs order) (run_all xs order (shown widths W s)) s
 drivers_run widths W xs h [] s i r = record { after = s; runs = runs_nothing s; shows = refl; moves = refl; long = refl; ready = r }
@@ -108,7 +109,7 @@ drivers_run widths W xs h (k ∷ order) s i r =
 abbrev block_writes : Values → Code → List Update
 block_writes v c = block_updates Nonblocking c.acts v
 
-blocks_run : (widths : List ℕ) (W : ℕ) (cs : List Code) → ((k : ℕ) (c : Code) → k < length cs → IsFlatBlock widths W (get_or cs k c).acts)
+blocks_run : (widths : List ℕ) (W : ℕ) (cs : List Code) → ((k : ℕ) (c : Code) → k < length cs → IsBlockThere widths W (get_or cs k c).acts)
     → (s : List ℕ) → AreBelow (length s) (blocks_code widths W cs) → IsReady widths W s
     → Does widths W Nonblocking (blocks_code widths W cs) (flat_map (block_writes (shown widths W s)) cs) s
 blocks_run widths W [] h s i r = does_nothing widths W Nonblocking s r
@@ -155,11 +156,6 @@ entered_drop (p ∷ ports) pins zero xs l = absurd (omega arith)
 entered_drop (p ∷ ports) pins (suc k) [] l = refl
 entered_drop (p ∷ ports) pins (suc k) (x ∷ xs) l = entered_drop ports (if enters p then drop 1 pins else pins) k xs (omega arith)
 
-pub entered_long : (ports : List Port) (pins xs : List ℕ) → length (entered ports pins xs) ≡ length xs
-entered_long [] pins xs = refl
-entered_long (p ∷ ports) pins [] = refl
-entered_long (p ∷ ports) pins (x ∷ xs) = ap suc (entered_long ports (if enters p then drop 1 pins else pins) xs)
-
 entered_view : (n W : ℕ) (ports : List Port) (pins s : List ℕ) → length ports ≤ n
     → view n W (entered ports pins s) ≡ record { nets = entered ports pins (view n W s).nets; words = (view n W s).words }
 entered_view n W ports pins s l =
@@ -181,15 +177,15 @@ module _ (d : Design) (law : IsLawful d) (order : List ℕ) where
   narrow : (m : ℕ) → slice_index (widths_of d) m ≤ 128
   narrow m = net_width_le d law m
 
-  all_flat : (i : ℕ) → IsFlatBlock (widths_of d) (word_count d) (acts_of d.drivers i)
-  all_flat i = acts_flat (widths_of d) (word_count d) d.drivers (λ k x l. flat_block d law (get_or d.drivers k x).code.acts
+  all_there : (i : ℕ) → IsBlockThere (widths_of d) (word_count d) (acts_of d.drivers i)
+  all_there i = acts_there (widths_of d) (word_count d) d.drivers (λ k x l. block_there d law (get_or d.drivers k x).code.acts
       (law.drivers k x l).code.acts) i
 
   pub settling_safe : AreSafe (settling_code d order)
-  settling_safe = drivers_safe (widths_of d) (word_count d) narrow d.drivers order all_flat
+  settling_safe = drivers_safe (widths_of d) (word_count d) narrow d.drivers order all_there
 
   pub clocking_safe : AreSafe (clocking_code d)
-  clocking_safe = blocks_safe (widths_of d) (word_count d) narrow d.blocks (flat_blocks d law)
+  clocking_safe = blocks_safe (widths_of d) (word_count d) narrow d.blocks (blocks_there d law)
 
   -- slots in which the state is shown, with pins entered
   begin : (s pins : List ℕ) → List ℕ
@@ -226,7 +222,7 @@ module _ (d : Design) (law : IsLawful d) (order : List ℕ) where
         shown_fits = λ m l. subst (λ (v : Values). slice_index v.nets m < 2 ^ slice_index (widths_of d) m) (sym shows) (fits.each m);
         state_fits = λ m l. subst (λ (v : Values). slice_index v.nets m < 2 ^ slice_index (widths_of d) m) (sym moves) (r.state_fits m l);
       } in
-      let x = drivers_run (widths_of d) (word_count d) d.drivers all_flat order u (subst (λ l. AreBelow l
+      let x = drivers_run (widths_of d) (word_count d) d.drivers all_there order u (subst (λ l. AreBelow l
       (settling_code d order)) (sym long) i) ready in
       let same = whole (settling_code d order) u x.after x.runs in
       subst (λ w. Settles d order s pins w) (sym same) (record {
@@ -239,6 +235,6 @@ module _ (d : Design) (law : IsLawful d) (order : List ℕ) where
   pub clocked_slots : (s : List ℕ) → IsReady (widths_of d) (word_count d) s → AreBelow (length s) (clocking_code d)
       → Moves (widths_of d) (word_count d) Nonblocking (clocked d (shown_in d s)) s (exec (reverse (clocking_code d)) 0 s)
   clocked_slots s r i =
-      let x = blocks_run (widths_of d) (word_count d) d.blocks (flat_blocks d law) s i r in
+      let x = blocks_run (widths_of d) (word_count d) d.blocks (blocks_there d law) s i r in
       subst (λ u. Moves (widths_of d) (word_count d) Nonblocking (clocked d (shown_in d s)) s u)
       (sym (whole (clocking_code d) s x.after x.runs)) x.moved

@@ -4,10 +4,10 @@ use Rattle.std.proofs.Common.{ap, sym, ◌∙◌, append_assoc, arith}
 use Rattle.net_design.specs.declared.act.Code.{Code}
 use Rattle.net_design.specs.declared.design.Driver.{Driver}
 use Rattle.net_order.specs.Run.{acts_of}
-use Rattle.net_flat.specs.declared.instr.Instr.{Instr}
-use Rattle.net_flat.specs.Layout.{span}
-use Rattle.net_flat.specs.Statements.{block_code}
-use Rattle.net_flat.proofs.Steps.{before_here}
+use Rattle.net_instr.specs.declared.instr.Instr.{Instr}
+use Rattle.net_instr.specs.Layout.{span}
+use Rattle.net_instr.specs.Statements.{block_code}
+use Rattle.net_instr.proofs.Steps.{before_here}
 use Rattle.net_sim.specs.Slots.{drivers_code, blocks_code}
 
 acts_at : (xs : List Driver) (k : ℕ) (x : Driver) → k < length xs → x ≡ get_or xs k x → acts_of xs k ≡ x.code.acts

@@ -7,10 +7,10 @@ use Rattle.indexmap.specs.IndexMap.{insert_entry}
 use Rattle.net_design.specs.declared.design.Instance.{Instance}
 use Rattle.net_design.specs.declared.design.Net.{Net}
 use Rattle.net_design.specs.declared.design.Design.{Design}
-use Rattle.net_design.specs.Names.{list_at, paths}
+use Rattle.net_design.specs.Names.{list_at, paths, AreAfterParents}
 use Rattle.net_design.proofs.LawfulCode.{slice_get-at}
 use Rattle.std.proofs.lemmas.Option.{slice_get_within}
-use Rattle.net_sim.specs.Names.{dotted, IsCalled, AreAfterParents}
+use Rattle.net_sim.specs.Names.{dotted, IsCalled}
 use Rattle.net_sim.specs.Table.{hash_from, path_hash, name_hash, ArePaths, IsTable}
 use Rattle.net_sim.proofs.NameLaws.{top_path, path_text, net_same}
 

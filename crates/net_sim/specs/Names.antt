@@ -1,5 +1,5 @@
 -- Full names as text: an instance path and a name, joined by dots (IEEE 1364-2005, 12.5, with the top's own name left out).
-use Rattle.std.specs.Prelude.{◌≡◌, ℕ, ◌<◌, ◌≤◌, List, [], ◌∷◌, ◌++◌, Some, slice_get}
+use Rattle.std.specs.Prelude.{◌≡◌, ℕ, List, [], ◌∷◌, ◌++◌, Some, slice_get}
 use Rattle.net_design.specs.declared.design.Instance.{Instance}
 use Rattle.net_design.specs.declared.design.Net.{Net}
 use Rattle.net_design.specs.Names.{list_at, paths}
@@ -16,7 +16,3 @@ full_name instances n = dotted (list_at (paths instances) n.instance) ++ n.name
 -- net m has this full name
 abbrev pub IsCalled : List Instance → List Net → List ℕ → ℕ → Type 0
 IsCalled instances nets name m = (n : Net) × (slice_get nets m ≡ Some n) × (full_name instances n ≡ name)
-
--- each instance comes after the one that holds it
-abbrev pub AreAfterParents : List Instance → Type 0
-AreAfterParents instances = (i : ℕ) (x : Instance) → slice_get instances i ≡ Some x → 1 ≤ i → x.parent < i

@@ -1,4 +1,4 @@
--- What a simulator keeps in slots, and its code: flat code (`net_flat`), listed from its last instruction to its first.
+-- What a simulator keeps in slots, and its instructions (`net_instr`), listed from the last to the first.
 use Rattle.std.specs.Prelude.{ℕ, List, [], ◌∷◌, ◌++◌, map, take, drop}
 use Rattle.net_design.specs.declared.act.Code.{Code}
 use Rattle.net_design.specs.declared.design.Net.{Net}
@@ -7,9 +7,9 @@ use Rattle.net_design.specs.declared.design.Design.{Design}
 use Rattle.net_design.specs.declared.values.Values.{Values}
 use Rattle.net_design.specs.Settled.{word_count}
 use Rattle.net_order.specs.Run.{acts_of}
-use Rattle.net_flat.specs.declared.instr.Instr.{Instr}
-use Rattle.net_flat.specs.Layout.{span, shown, state}
-use Rattle.net_flat.specs.Statements.{block_code}
+use Rattle.net_instr.specs.declared.instr.Instr.{Instr}
+use Rattle.net_instr.specs.Layout.{span, shown, state}
+use Rattle.net_instr.specs.Statements.{block_code}
 
 abbrev pub widths_of : Design → List ℕ
 widths_of d = map (λ (n : Net). n.width) d.nets

@@ -1,16 +1,16 @@
-//! The flat code of a design's drivers and clocked blocks. It is pushed from its last instruction to its first.
+//! The instructions of a design's drivers and clocked blocks. They are pushed from the last to the first.
 
 ghost use Rattle.std.specs.Prelude.{◌≡◌, ◌+◌, ◌^◌, ◌<◌, ◌≤◌, ◌++◌, All, IfOk, OnOk, length, map, reverse};
-ghost use Rattle.net_flat.specs.Machine.{AreBelow};
-ghost use Rattle.net_flat.specs.Layout.{base};
-ghost use Rattle.net_flat.specs.InPlace.{IsInPlace};
-ghost use Rattle.net_flat.specs.Statements.{IsFlatBlock};
+ghost use Rattle.net_instr.specs.Machine.{AreBelow};
+ghost use Rattle.net_instr.specs.Layout.{base};
+ghost use Rattle.net_instr.specs.InPlace.{IsInPlace};
+ghost use Rattle.net_instr.specs.Statements.{IsBlockThere};
 ghost use Rattle.net_design.specs.Lawful.{IsLawful};
 ghost use Rattle.net_order.specs.Order.{IsOrder};
 ghost use Rattle.net_sim.specs.Slots.{span_of, drivers_code, blocks_code, settling_code, clocking_code};
 
 use net_design::{Code, Design, Driver, Net, count_words};
-use net_flat::{InPlace, Instr, in_place, push_acts, slots_of};
+use net_instr::{InPlace, Instr, in_place, push_acts, slots_of};
 use std::alloc::Global;
 use vidi_bits::{Items, Memory};
 
@@ -33,7 +33,7 @@ pub fn push_drivers(
     widths: &[u32],
     words: u32,
 ) -> Result<(), Memory>
-    requires sized { All (λ x. IsFlatBlock widths.now words x.code.acts) drivers.now }
+    requires sized { All (λ x. IsBlockThere widths.now words x.code.acts) drivers.now }
     requires order { All (λ i. i < length drivers.now) order.now }
     requires few { base widths.now words + 16 < 2 ^ 32 }
     ensures { OnOk result (code.new ≡ code.old ++ drivers_code widths.now words drivers.now order.now) }
@@ -55,7 +55,7 @@ pub fn push_blocks(
     widths: &[u32],
     words: u32,
 ) -> Result<(), Memory>
-    requires sized { All (λ c. IsFlatBlock widths.now words c.acts) blocks.now }
+    requires sized { All (λ c. IsBlockThere widths.now words c.acts) blocks.now }
     requires span { span ≡ length widths.now + words }
     requires few { base widths.now words + 16 < 2 ^ 32 }
     ensures { OnOk result (code.new ≡ code.old ++ blocks_code widths.now words blocks.now) }
@@ -76,7 +76,7 @@ pub fn settling_of(
     widths: &[u32],
     words: u32,
 ) -> Result<Items<Instr>, Memory>
-    requires sized { All (λ x. IsFlatBlock widths.now words x.code.acts) design.now.drivers }
+    requires sized { All (λ x. IsBlockThere widths.now words x.code.acts) design.now.drivers }
     requires order { All (λ i. i < length design.now.drivers) order.now }
     requires few { base widths.now words + 16 < 2 ^ 32 }
     ensures { IfOk result (λ code. code ≡ drivers_code widths.now words design.now.drivers order.now) }
@@ -93,7 +93,7 @@ pub fn clocking_of(
     widths: &[u32],
     words: u32,
 ) -> Result<Items<Instr>, Memory>
-    requires sized { All (λ c. IsFlatBlock widths.now words c.acts) design.now.blocks }
+    requires sized { All (λ c. IsBlockThere widths.now words c.acts) design.now.blocks }
     requires few { base widths.now words + 16 < 2 ^ 32 }
     ensures { IfOk result (λ code. code ≡ blocks_code widths.now words design.now.blocks) }
 {
@@ -103,7 +103,7 @@ pub fn clocking_of(
     Ok(code)
 }
 
-/// The flat code of a design, from its first instruction to its last.
+/// The instructions of a design, from the first to the last.
 #[derive(Drop)]
 pub struct Codes {
     /// That of the drivers, in an order.
@@ -159,7 +159,7 @@ fn codes_at(settling: Items<Instr>, clocking: Items<Instr>, nets: u32, span: usi
     }
 }
 
-/// The flat code of a lawful design, whose drivers have an order.
+/// The instructions of a lawful design, whose drivers have an order.
 pub fn codes_of(alloc: Global, design: &Design, order: &[u128]) -> Result<Codes, Memory>
     requires lawful { IsLawful design.now }
     requires order { IsOrder design.now order.now }
@@ -179,7 +179,7 @@ pub fn codes_of(alloc: Global, design: &Design, order: &[u128]) -> Result<Codes,
     Ok(codes_at(settling, clocking, widths.len() as u32, span))
 }
 
-/// The flat code of a design, which reads nets that only copy another in its place.
+/// The instructions of a design, which reads nets that only copy another in its place.
 #[derive(Drop)]
 pub struct Placed {
     /// The code, and the slot at which each net is read.
@@ -190,7 +190,7 @@ pub struct Placed {
     pub slots: usize,
 }
 
-/// The flat code of a lawful design, whose drivers have an order, without those that only copy a net.
+/// The instructions of a lawful design, whose drivers have an order, without those that only copy a net.
 pub fn placed_of(alloc: Global, design: &Design, order: &[u128]) -> Result<Placed, Memory>
     requires lawful { IsLawful design.now }
     requires order { IsOrder design.now order.now }

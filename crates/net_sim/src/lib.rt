@@ -1,6 +1,6 @@
 //! The simulator: a lawful design that runs.
 //!
-//! `Sim::new` makes flat code (`net_flat`) of the design's drivers, in an order (`net_order`), and of its clocked blocks. `settle` and
+//! `Sim::new` makes instructions (`net_instr`) of the design's drivers, in an order (`net_order`), and of its clocked blocks. `settle` and
 //! `clock` run that code once over the numbers of nets and words, which stand in one list (`slots`), and take no memory. `names` finds
 //! nets by full name.
 #![tactic(auto)]

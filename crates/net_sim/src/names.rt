@@ -1,8 +1,8 @@
 //! Nets by full name.
 
 ghost use Rattle.std.specs.Prelude.{◌≡◌, ℕ, ◌<◌, ◌↔◌, List, [], ◌∷◌, ◌++◌, All, IsTrue, MatchOption, length};
-ghost use Rattle.net_design.specs.Names.{list_at, paths};
-ghost use Rattle.net_sim.specs.Names.{dotted, full_name, IsCalled, AreAfterParents};
+ghost use Rattle.net_design.specs.Names.{list_at, paths, AreAfterParents};
+ghost use Rattle.net_sim.specs.Names.{dotted, full_name, IsCalled};
 ghost use Rattle.net_sim.specs.Table.{IsTable};
 
 use crate::table::{Table, place_of};

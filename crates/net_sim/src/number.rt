@@ -1,17 +1,10 @@
 //! Numbers of a list.
 
 ghost use Rattle.std.specs.Prelude.{◌≡◌, ◌≤◌, length, slice_index};
-ghost use Rattle.net_flat.specs.InPlace.{place, through};
+ghost use Rattle.net_instr.specs.InPlace.{place, through};
 
+use net_design::number_at;
 use vidi_bits::{Items, Numbers};
-
-/// Number `i` of a list, 0 past its end.
-fn number_at(list: &Numbers, i: usize) -> u128
-    ensures { result ≡ slice_index list.now i }
-{
-    let numbers = list.as_slice();
-    if i < numbers.len() { numbers[i] } else { 0 }
-}
 
 /// The slot at which slot `i` is read.
 fn place_of_slot(places: &Items<u32>, i: usize) -> usize

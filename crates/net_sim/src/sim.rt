@@ -7,9 +7,9 @@ ghost use Rattle.net_design.specs.Lawful.{IsLawful, IsState};
 ghost use Rattle.net_design.specs.Pins.{FitPins, no_pins};
 ghost use Rattle.net_order.specs.Order.{IsOrder};
 ghost use Rattle.net_order.specs.Run.{settled_by};
-ghost use Rattle.net_flat.specs.Machine.{AreBelow};
-ghost use Rattle.net_flat.specs.Layout.{IsReady};
-ghost use Rattle.net_flat.specs.InPlace.{through, IsInPlace};
+ghost use Rattle.net_instr.specs.Machine.{AreBelow};
+ghost use Rattle.net_instr.specs.Layout.{IsReady};
+ghost use Rattle.net_instr.specs.InPlace.{through, IsInPlace};
 ghost use Rattle.net_sim.specs.Places.{port_places};
 ghost use Rattle.net_sim.specs.Names.{IsCalled};
 ghost use Rattle.net_sim.specs.Table.{IsTable};
@@ -23,7 +23,7 @@ use crate::slots::{first_slots, load_slots, run_slots, settle_again, settle_slot
 use crate::start::{clear, first_numbers, places_of, zero_pins};
 use crate::table::{Table, table_of};
 use net_design::{Block, Design, Direction};
-use net_flat::Instr;
+use net_instr::Instr;
 use net_order::Order;
 use std::alloc::Global;
 use vidi_bits::{Items, Memory, Numbers};
@@ -33,9 +33,9 @@ use vidi_bits::{Items, Memory, Numbers};
 pub struct Sim {
     design: Design,
     order: Order,
-    /// The flat code of the drivers, in the order, without those that only copy a net.
+    /// The instructions of the drivers, in the order, without those that only copy a net.
     settling: Items<Instr>,
-    /// The flat code of the clocked blocks.
+    /// The instructions of the clocked blocks.
     clocking: Items<Instr>,
     /// The slot at which each net is read.
     places: Items<u32>,

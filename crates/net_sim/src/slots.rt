@@ -2,13 +2,12 @@
 
 ghost use Rattle.std.specs.Prelude.{◌≡◌, ◌+◌, ◌≤◌, All, IfOk, length, take, drop, replicate, if◌then◌else◌};
 ghost use Rattle.net_order.specs.Run.{entered};
-ghost use Rattle.net_flat.specs.Machine.{exec, IsInstr};
+ghost use Rattle.net_instr.specs.Machine.{exec, IsInstr};
 ghost use Rattle.net_sim.specs.Slots.{copied};
 
 use crate::run::enter;
-use crate::start::zeros;
-use net_design::Port;
-use net_flat::{Instr, run_code};
+use net_design::{Port, zeros};
+use net_instr::{Instr, run_code};
 use std::alloc::Global;
 use vidi_bits::{Memory, Numbers};
 

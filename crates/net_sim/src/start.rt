@@ -1,25 +1,13 @@
 //! What a simulator begins with.
 
 ghost use Rattle.std.specs.Prelude.{◌≡◌, ◌+◌, ◌<◌, ◌^◌, ◌++◌, ◌∷◌, [], OnOk, IfOk, length, replicate, if◌then◌else◌};
-ghost use Rattle.net_design.specs.Settled.{initial, initial_number, same_direction, word_count};
+ghost use Rattle.net_design.specs.Settled.{initial, same_direction, word_count};
 ghost use Rattle.net_design.specs.declared.design.Direction.TheVariants.{Input};
 ghost use Rattle.net_sim.specs.Places.{port_places};
 
-use net_design::{Design, Direction, Port, Register, count_words};
+use net_design::{Design, Direction, Port, count_words, initial_numbers, zeros};
 use std::alloc::Global;
 use vidi_bits::{Items, Memory, Numbers};
-
-/// The initial number of net `m`.
-fn initial_of(registers: &[Register], m: usize) -> u128
-    ensures { result ≡ initial_number registers.now m }
-{
-    for register in registers {
-        if register.net == m {
-            return register.initial;
-        }
-    }
-    0
-}
 
 /// Adds `count` zeros.
 fn push_zeros(numbers: &mut Numbers, count: usize) -> Result<(), Memory>
@@ -31,34 +19,14 @@ fn push_zeros(numbers: &mut Numbers, count: usize) -> Result<(), Memory>
     Ok(())
 }
 
-/// Adds the initial numbers of the nets.
-fn push_initial(numbers: &mut Numbers, design: &Design) -> Result<(), Memory>
-    ensures { OnOk result (numbers.new ≡ numbers.old ++ (initial design.now).nets) }
-{
-    for (m, _net) in design.nets.as_slice().iter().enumerate() {
-        let number = initial_of(design.registers.as_slice(), m);
-        numbers.push(number)?;
-    }
-    Ok(())
-}
-
 /// The numbers of the initial state: those of the nets, then those of the words (IEEE 1364-2005, 6.2.1).
 pub fn first_numbers(alloc: Global, design: &Design) -> Result<Numbers, Memory>
     requires { word_count design.now < 2 ^ 64 }
     ensures { IfOk result (λ numbers. numbers ≡ (initial design.now).nets ++ (initial design.now).words) }
 {
-    let mut numbers = Items::new(alloc);
-    push_initial(&mut numbers, design)?;
+    let mut numbers = initial_numbers(alloc, design)?;
     push_zeros(&mut numbers, count_words(design))?;
     Ok(numbers)
-}
-
-/// `count` zeros.
-pub fn zeros(alloc: Global, count: usize) -> Result<Numbers, Memory>
-    ensures { IfOk result (λ xs. xs ≡ replicate count 0) }
-{
-    let numbers = Vec::from_elem(alloc, 0, count)?;
-    Ok(Items::from_vec(numbers))
 }
 
 /// All numbers made 0.

@@ -2,8 +2,8 @@
 
 ghost use Rattle.std.specs.Prelude.{◌≡◌, ◌<◌, ◌≤◌, ◌==◌, ◌∷◌, [], nat_eq, All, IfOk, OnOk, length, slice_index, if◌then◌else◌};
 ghost use Rattle.std.specs.Map.{lookup};
+ghost use Rattle.net_design.specs.Names.{AreAfterParents};
 ghost use Rattle.indexmap.specs.IndexMap.{insert_entry};
-ghost use Rattle.net_sim.specs.Names.{AreAfterParents};
 ghost use Rattle.net_sim.specs.Table.{hash_from, ArePaths, IsTable};
 
 use indexmap::IndexMap;

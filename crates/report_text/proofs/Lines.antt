@@ -1,14 +1,14 @@
 -- Lines that are printed item by item.
-use Rattle.std.proofs.Common.{◌≡◌, ℕ, ◌+◌, ◌<◌, List, [], ◌∷◌, ◌++◌, Option, Some, length, get_or, take, drop, cond, slice_get, codes}
-use Rattle.std.proofs.Common.{decimal, refl, sym, ap, ◌∙◌, append_assoc, arith}
-use Rattle.std.proofs.lemmas.List.{take_more, drop-drop, append-nil, length-append, length-take-le, take-append-drop}
-use Rattle.std.proofs.lemmas.Option.{slice_get_read}
+use Rattle.std.proofs.Common.{◌≡◌, ℕ, ◌+◌, ◌<◌, List, [], ◌∷◌, ◌++◌, length, get_or, take, drop, cond, codes}
+use Rattle.std.proofs.Common.{decimal, sym, ap, ◌∙◌, arith}
+use Rattle.std.proofs.lemmas.List.{take_more, append-nil, length-take-le, take-append-drop}
 use Rattle.std.proofs.lemmas.List.Concat.{flat_map-append}
 use Rattle.std.specs.List.{flat_map, enumerate_from}
+use Rattle.vidi_bits.specs.Number.{has}
+use Rattle.trace_model.proofs.ContentsLemmas.{content-there, enumerate-append}
 use Rattle.trace_model.specs.declared.channel.Channel.{Channel}
-use Rattle.trace_model.specs.Counting.{has}
 use Rattle.trace_model.specs.declared.packet.Packet.{Packet}
-use Rattle.trace_model.specs.Packet.{widths_of, widths_under, content_of}
+use Rattle.trace_model.specs.Packet.{widths_under}
 use Rattle.report_text.specs.Text.{spaced}
 use Rattle.report_text.specs.Trace.{start_line}
 
@@ -27,13 +27,6 @@ more_on F xs i x l e =
     ∙ sym (flat_map-append F (enumerate_from 0 (take i xs)) ((i, x) ∷ []))
     ∙ ap (flat_map F) (sym (enumerate-push 0 i (take i xs) x (omega (arith, long))))
     ∙ ap (λ ys. flat_map F (enumerate_from 0 ys)) (sym here)
-
-enumerate-append : {X : Type 0} (n : ℕ) (xs ys : List X) → enumerate_from n (xs ++ ys) ≡ enumerate_from n xs
-    ++ enumerate_from (n + length xs) ys
-enumerate-append n [] ys = let same : n ≡ n + 0 = omega arith in ap (λ k. enumerate_from k ys) same
-enumerate-append n (x ∷ xs) ys =
-    let same : n + 1 + length xs ≡ n + length (x ∷ xs) = omega arith in
-    ap (λ zs. (n, x) ∷ zs) (enumerate-append (n + 1) xs ys ∙ ap (λ k. enumerate_from (n + 1) xs ++ enumerate_from k ys) same)
 
 -- those printed so far and all others
 pub halves : {X : Type 0} (F : ℕ × X → List ℕ) (xs : List X) (i : ℕ)
@@ -54,29 +47,6 @@ widths-more mask cs i c l e =
     ∙ ap (flat_map F) (enumerate-push 0 i (take i cs) c (omega (arith, long)))
     ∙ flat_map-append F (enumerate_from 0 (take i cs)) ((i, c) ∷ [])
     ∙ ap (λ ws. widths_under mask (take i cs) ++ ws) (append-nil (F (i, c)))
-
--- a channel's content stands after those of the starting channels below it
-content-there : (channels : List Channel) (packet : Packet) (i : ℕ) (channel : Channel) (rest : List ℕ) → i < length channels → channel
-    ≡ get_or channels i channel
-    → rest ≡ drop (length (widths_under packet.starts (take i channels))) packet.contents → take (length channel.widths) rest
-    ≡ content_of channels packet i
-content-there channels packet i channel rest l e at =
-    let there : slice_get channels i ≡ Some channel = slice_get_read channels (length channels) i channel refl l e in
-    ap (take (length channel.widths)) at
-    ∙ ap (λ (o : Option Channel). take (length (widths_of o)) (drop (length (widths_under packet.starts (take i channels)))
-    packet.contents)) (sym there)
-
-pub rest-on : (mask : ℕ) (contents : List ℕ) (channels : List Channel) (i : ℕ) (channel : Channel) (rest after : List ℕ)
-    → i < length channels → channel ≡ get_or channels i channel
-    → rest ≡ drop (length (widths_under mask (take i channels))) contents → after ≡ drop (length (cond (has mask i) channel.widths [])) rest
-    → after ≡ drop (length (widths_under mask (take (i + 1) channels))) contents
-rest-on mask contents channels i channel rest after l e at next =
-    let more = widths-more mask channels i channel l e in
-    next
-    ∙ ap (drop (length (cond (has mask i) channel.widths []))) at
-    ∙ drop-drop (length (cond (has mask i) channel.widths [])) (length (widths_under mask (take i channels))) contents
-    ∙ ap (λ n. drop n contents) (sym (length-append (widths_under mask (take i channels)) (cond (has mask i) channel.widths [])))
-    ∙ ap (λ (ws : List ℕ). drop (length ws) contents) (sym more)
 
 -- the line of a channel, if it starts
 pub start-there : (channels : List Channel) (packet : Packet) (number : ℕ) (clock : List ℕ) (i : ℕ) (channel : Channel) (rest : List ℕ)

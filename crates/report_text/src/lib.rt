@@ -18,5 +18,5 @@ pub use pad::Pad;
 pub use reason::{Big, MapLimit, Reason, Word, read_fault_line, reason_line};
 pub use report::report_lines;
 pub use row_lines::{RunLines, rows_text};
-pub use text::{put, put_number, put_numbers};
+pub use text::{put, put_number};
 pub use trace_lines::{TraceLines, dump_text};

@@ -12,9 +12,9 @@ use crate::draft::Draft;
 use crate::pad::{PAD_BYTES, Pad};
 use crate::page::{Page, print_number, print_numbers};
 use crate::printer::Printer;
-use crate::trace_text::{print_end, split_content};
+use crate::trace_text::print_end;
 use std::alloc::Global;
-use trace_model::{Channel, Channels, Row, Rows, names};
+use trace_model::{Channel, Channels, Row, Rows, names, split_content};
 use vidi_bits::{Bytes, Memory};
 use vidi_io::{Failed, Sink};
 

@@ -23,7 +23,7 @@ pub fn put_number<I: Integer>(text: &mut Vec<u8>, number: I) -> Result<(), Memor
 }
 
 /// Adds each number after a space.
-pub fn put_numbers<I: Integer>(text: &mut Vec<u8>, numbers: &[I]) -> Result<(), Memory>
+pub(crate) fn put_numbers<I: Integer>(text: &mut Vec<u8>, numbers: &[I]) -> Result<(), Memory>
     ensures { OnOk result (text.new.items ≡ text.old.items ++ flat_map (λ x. 32 ∷ I.text x) numbers.now) }
 {
     for number in numbers {

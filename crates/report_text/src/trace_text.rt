@@ -1,6 +1,6 @@
 //! The text of a trace: its channels, events and vector clocks.
 
-ghost use Rattle.std.specs.Prelude.{◌≡◌, ℕ, ◌+◌, ◌-◌, ◌*◌, ◌^◌, ◌<◌, ◌≤◌, ◌∷◌, ◌++◌, if◌then◌else◌, [], length};
+ghost use Rattle.std.specs.Prelude.{◌≡◌, ◌<◌, ℕ, ◌+◌, ◌-◌, ◌*◌, ◌^◌, ◌≤◌, ◌∷◌, ◌++◌, if◌then◌else◌, [], length};
 ghost use Rattle.std.specs.Prelude.{take, drop, replicate};
 ghost use Rattle.std.specs.Prelude.{slice_index, codes, decimal};
 ghost use Rattle.std.specs.Int.{bit_at};
@@ -12,7 +12,7 @@ ghost use Rattle.report_text.specs.Trace as said;
 use crate::pad::Pad;
 use crate::page::{Page, print_number, print_numbers};
 use itoa::Buffer;
-use trace_model::{Channel, Dir, Packet, Trace, names};
+use trace_model::{Channel, Dir, Packet, Trace, names, split_content};
 
 /// Prints the lines of a trace. `completed` counts each channel's completions so far, and `clock` holds the text of
 /// a packet's clock: for each channel a space and at most 20 digits.
@@ -160,14 +160,6 @@ fn print_starts<P: Page>(
         let starts = names(packet.starts, c);
         rest = print_start(page, number, channel, starts, rest, clock);
     }
-}
-
-/// The numbers of a starting channel at the front of the contents, and those after them.
-pub(crate) fn split_content<'a>(channel: &Channel, contents: &'a [u128]) -> (&'a [u128], &'a [u128])
-    ensures front { result.0.now ≡ take (length channel.now.widths) contents.now }
-    ensures rest { result.1.now ≡ drop (length channel.now.widths) contents.now }
-{
-    contents.split_at(channel.widths.len().min(contents.len()))
 }
 
 /// Prints the line of a channel where it starts, and gives the contents after its own.

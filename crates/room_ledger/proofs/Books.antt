@@ -2,22 +2,23 @@
 use Rattle.std.proofs.Common.{◌≡◌, ◌≢◌, ◌↔◌, ℕ, ◌+◌, ◌-◌, ◌*◌, ◌/◌, ◌%◌, ◌<◌, ◌≤◌, ◌^◌, ◌&&◌, ◌||◌, ◌==◌, Bool, IsTrue, true, false, not}
 use Rattle.std.proofs.Common.{cond, map, List, [], ◌∷◌, length, bit_and, bit_or, sum_by, refl, ap, sym, subst, ◌∙◌, ⊎_elim, arith}
 use Rattle.std.proofs.Math.Nat.{pow-le-pow_right}
-use Rattle.std.proofs.lemmas.Bool.{cases_Bool, cases_eq, cases_lt, false≢true, eqb-true, eq-eqb}
+use Rattle.std.proofs.lemmas.Bool.{cases_Bool, cases_eq, cases_lt, false≢true, eqb-true, eq-eqb, or_right, and_from}
 use Rattle.std.proofs.lemmas.List.Sums.{sum_by-cons}
 use Rattle.std.proofs.lemmas.Nat.{and_le_l, or_lt, pow_pos, mod_below}
 use Rattle.std.proofs.lemmas.Nat.Bits.{same_from_bits, ones_shr}
 use Rattle.std.proofs.lemmas.List.{length-map}
-use Rattle.vidi_bits.proofs.BitLemmas.{bit_at-mod, bit_at-mod_above}
+use Rattle.vidi_bits.specs.Number.{has}
+use Rattle.vidi_bits.proofs.Bools.{and_not_false}
+use Rattle.vidi_bits.proofs.BitLemmas.{bit_at-mod, bit_at-mod_above, has-above}
 use Rattle.trace_model.specs.declared.channel.Channel.{Channel}
 use Rattle.trace_model.specs.Channel.{content_bytes}
-use Rattle.trace_model.specs.Counting.{has}
 use Rattle.trace_model.specs.Length.{head_len}
 use Rattle.trace_model.proofs.MaskLemmas.{some-bit, has-from-bit, no-bit-from-has}
 use Rattle.room_ledger.specs.Reservation.{whole, need, reservation, reserved, event_len, sizes_under}
 use Rattle.room_ledger.specs.Gates.{all_up}
 use Rattle.room_ledger.specs.Raising.{raise}
 use Rattle.room_ledger.specs.Ledger.{Ledger, ledger, fresh, claimed, IsSound, MayEmit, Emitted, Regranted}
-use Rattle.room_ledger.proofs.Masks.{same-masks, has-or, has-without, has-zero, has-above}
+use Rattle.room_ledger.proofs.Masks.{same-masks, has-or, has-without, has-zero}
 use Rattle.room_ledger.proofs.Totals.{total}
 use Rattle.room_ledger.proofs.Emission.{IsLawful, packet-fits, pays-all}
 use Rattle.room_ledger.proofs.Raising.{raised-from}
@@ -48,10 +49,6 @@ up-within gates n c l h = ⊎_elim (λ (k : c < n). k) (λ (k : n ≤ c). absurd
 left-true : (a b : Bool) → a ≡ true → (a || b) ≡ true
 left-true a b h = rw h refl
 
-right-true : (a b : Bool) → b ≡ true → (a || b) ≡ true
-right-true true b h = refl
-right-true false b h = h
-
 both-zero : (starts ends : ℕ) → starts ≡ 0 → ends ≡ 0 → (starts == 0 && ends == 0) ≡ true
 both-zero starts ends h k = rw (h, k) refl
 
@@ -62,7 +59,7 @@ some-event starts ends ls le h = ⊎_elim
     (λ (also : ends ≡ 0). absurd (false≢true (sym h ∙ both-zero starts ends none also)))
     (λ (some : ends ≢ 0). let found = some-bit ends le some in (
       found.0,
-      right-true (has starts found.0) (has ends found.0)
+      or_right (has starts found.0) (has ends found.0)
           (has-from-bit ends found.0 found.1),
     ))
     (cases_eq ends 0))
@@ -278,17 +275,12 @@ and-not true true h = refl
 and-not true false h = absurd (let x = h refl in cc)
 and-not false b h = refl
 
-not-and : (a b : Bool) → (a && not b) ≡ false → a ≡ true → b ≡ true
-not-and true true h k = refl
-not-and true false h k = absurd (cc)
-not-and false b h k = absurd (cc)
-
 none-without : (a b : ℕ) → a < 2 ^ 128 → b < 2 ^ 128 → ((c : ℕ) → has a c ≡ true → has b c ≡ true) → bit_and a (2 ^ 128 - 1 - b) ≡ 0
 none-without a b la lb h = same-masks (bit_and a (2 ^ 128 - 1 - b)) 0 (λ c. has-without a b la lb c ∙ and-not (has a c) (has b c) (h c)
     ∙ sym (has-zero c))
 
 names-within : (a b : ℕ) → a < 2 ^ 128 → b < 2 ^ 128 → bit_and a (2 ^ 128 - 1 - b) ≡ 0 → (c : ℕ) → has a c ≡ true → has b c ≡ true
-names-within a b la lb e c = not-and (has a c) (has b c) (sym (has-without a b la lb c) ∙ ap (λ x. has x c) e ∙ has-zero c)
+names-within a b la lb e c = and_not_false (has a c) (has b c) (sym (has-without a b la lb c) ∙ ap (λ x. has x c) e ∙ has-zero c)
 
 -- the channels that may start, and those that may end
 abbrev pub idle : Ledger → ℕ
@@ -298,9 +290,6 @@ and-parts : (g f : Bool) → (g && not f) ≡ true → (g ≡ true) × (f ≡ fa
 and-parts true false h = (refl, refl)
 and-parts true true h = absurd (cc)
 and-parts false f h = absurd (cc)
-
-and-whole : (g f : Bool) → g ≡ true → f ≡ false → (g && not f) ≡ true
-and-whole g f h k = rw (h, k) refl
 
 has-idle : (l : Ledger) → IsSound l → (c : ℕ) → has (idle l) c ≡ (has l.gates c && not (has l.flying c))
 has-idle l sound c = has-without l.gates l.flying (gates-fit l sound) (flying-fits l sound) c
@@ -320,7 +309,7 @@ may-if l starts ends ls le sound a b = record {
 starts-only : (l : Ledger) (starts ends : ℕ) → starts < 2 ^ 128 → IsSound l → MayEmit l starts ends → bit_and starts (2 ^ 128 - 1 - idle l)
     ≡ 0
 starts-only l starts ends ls sound may = none-without starts (idle l) ls (idle-fits l sound)
-    (λ c h. has-idle l sound c ∙ and-whole (has l.gates c) (has l.flying c) (may.start c h).0 (may.start c h).1)
+    (λ c h. has-idle l sound c ∙ and_from (has l.gates c) (not (has l.flying c)) (may.start c h).0 (ap not (may.start c h).1))
 
 ends-only : (l : Ledger) (starts ends : ℕ) → starts < 2 ^ 128 → ends < 2 ^ 128 → IsSound l → MayEmit l starts ends
     → bit_and ends (2 ^ 128 - 1 - bit_or l.flying starts) ≡ 0

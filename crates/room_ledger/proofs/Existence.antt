@@ -8,14 +8,15 @@ use Rattle.std.proofs.lemmas.Bool.{cases_lt}
 use Rattle.std.proofs.lemmas.Nat.{and_le_l}
 use Rattle.std.proofs.lemmas.Nat.Bits.{bit_at_xor, bit_at_ones}
 use Rattle.std.proofs.lemmas.Option.{slice_get_cases}
+use Rattle.vidi_bits.specs.Number.{has}
+use Rattle.vidi_bits.proofs.BitLemmas.{has-above}
 use Rattle.trace_model.specs.declared.row.Row.{Row}
-use Rattle.trace_model.specs.Counting.{has}
 use Rattle.trace_model.specs.Length.{head_len}
 use Rattle.trace_model.specs.Row.{completes, is_in_flight}
 use Rattle.room_ledger.specs.Reservation.{AreRaised, reserved}
 use Rattle.room_ledger.specs.Gates.{Plan, used_at, all_up, keeps, AreGates}
 use Rattle.room_ledger.specs.Raising.{raise}
-use Rattle.room_ledger.proofs.Masks.{bit-is, has-and, has-above}
+use Rattle.room_ledger.proofs.Masks.{bit-is, has-and}
 use Rattle.room_ledger.proofs.Raising.{raised-from}
 use Rattle.room_ledger.proofs.Reserving.{are-raised}
 

@@ -5,10 +5,11 @@ use Rattle.std.proofs.lemmas.List.{length-map}
 use Rattle.std.specs.Prelude.{IsSomeAnd}
 use Rattle.std.specs.List.{enumerate_from}
 use Rattle.std.proofs.lemmas.List.Sums.{sum_by-cons}
+use Rattle.std.proofs.Math.Bool.{and-false}
+use Rattle.vidi_bits.specs.Number.{has}
 use Rattle.trace_model.specs.declared.channel.Channel.{Channel}
 use Rattle.trace_model.specs.declared.row.Row.{Row}
 use Rattle.trace_model.specs.Channel.{content_bytes}
-use Rattle.trace_model.specs.Counting.{has}
 use Rattle.trace_model.specs.Length.{head_len, packet_len}
 use Rattle.trace_model.specs.Row.{completes, flies_after, is_in_flight, row_before, sink_valid}
 use Rattle.trace_model.proofs.CountingLemmas.{slice_get-last, slice_get-append_left}
@@ -181,13 +182,9 @@ shown-start false true true start = refl
 shown-start false true false start = absurd (let x = (start refl).0 in cc)
 shown-start false false g start = refl
 
-none-and : (a : Bool) → (a && false) ≡ false
-none-and true = refl
-none-and false = refl
-
 shown-end : (f s g e : Bool) → (e ≡ true → (f || s) ≡ true) → (s ≡ true → (g ≡ true) × (f ≡ false)) → (f ≡ true → g ≡ true) → e
     ≡ (((f || s) && g) && e)
-shown-end f s g false complete start up = sym (none-and ((f || s) && g))
+shown-end f s g false complete start up = sym (and-false ((f || s) && g))
 shown-end true s true true complete start up = refl
 shown-end true s false true complete start up = absurd (let x = up refl in cc)
 shown-end false true true true complete start up = refl

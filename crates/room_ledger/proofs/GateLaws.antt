@@ -5,8 +5,8 @@ use Rattle.std.specs.Prelude.{IsSomeAnd}
 use Rattle.std.proofs.lemmas.Bool.{cases_Bool, cases_lt, false≢true}
 use Rattle.std.proofs.lemmas.List.{length-take-le}
 use Rattle.std.proofs.lemmas.Option.{slice_get_cases}
+use Rattle.vidi_bits.specs.Number.{has}
 use Rattle.trace_model.specs.declared.row.Row.{Row}
-use Rattle.trace_model.specs.Counting.{has}
 use Rattle.trace_model.specs.Length.{head_len}
 use Rattle.trace_model.specs.Row.{is_in_flight}
 use Rattle.room_ledger.specs.Reservation.{whole, need, reserved, raised_below, AreRaised}
@@ -58,7 +58,7 @@ down-waits sizes plan rows (suc t) gates c fits is l down =
     channel.0 channel.1 down
 
 -- ---- all stay up
-none-left : (sizes : List ℕ) (plan : Plan) (rows : List Row) → EverythingDrains sizes plan rows → (t : ℕ) → used_at sizes plan rows t ≡ 0
+pub none-left : (sizes : List ℕ) (plan : Plan) (rows : List Row) → EverythingDrains sizes plan rows → (t : ℕ) → used_at sizes plan rows t ≡ 0
 none-left sizes plan rows drains zero = refl
 none-left sizes plan rows drains (suc t) = drains t
 

@@ -2,15 +2,12 @@
 use Rattle.std.proofs.Common.{◌≡◌, ◌≢◌, ℕ, ◌-◌, ◌<◌, ◌≤◌, ◌^◌, ◌&&◌, ◌||◌, ◌==◌, Bool, true, false, not, cond, min, max, bit_and, bit_or}
 use Rattle.std.proofs.Common.{refl, ap, sym, ◌∙◌, arith}
 use Rattle.std.specs.Int.{bit_at}
-use Rattle.std.proofs.lemmas.Bool.{eqb-true, eqb-false, ne_eqb}
-use Rattle.std.proofs.lemmas.Nat.Bits.{bit_at_and, bit_at_or, bit_at-zero, bit_at-lt, bit_at_above, bit_at-pow_same, bit_at-pow_other}
+use Rattle.std.proofs.lemmas.Bool.{eqb-true, eqb-false}
+use Rattle.std.proofs.lemmas.Nat.Bits.{bit_at_and, bit_at_or, bit_at-zero, bit_at-lt, bit_at-pow_same, bit_at-pow_other}
 use Rattle.std.proofs.lemmas.Nat.Bits.{bit_at_ones, bit_at_ones_above, same_from_bits}
-use Rattle.trace_model.specs.Counting.{has}
+use Rattle.vidi_bits.specs.Number.{has}
+use Rattle.vidi_bits.proofs.BitLemmas.{hasn't-from-bit}
 use Rattle.trace_model.proofs.MaskLemmas.{has-from-bit, bit_at-without}
-
--- no bit, so not named
-pub hasn't-from-bit : (mask c : ℕ) → bit_at mask c ≡ 0 → has mask c ≡ false
-hasn't-from-bit mask c h = ne_eqb (bit_at mask c) 1 (λ one. absurd (omega (arith, one, h)))
 
 -- a bit is 0 or 1, so a test of it tells it
 tells : (x : ℕ) → x < 2 → (b : Bool) → (x == 1) ≡ b → x ≡ cond b 1 0
@@ -67,9 +64,6 @@ has-pow_same c = has-from-bit (2 ^ c) c (bit_at-pow_same c)
 
 pub has-pow_other : (c i : ℕ) → i ≢ c → has (2 ^ c) i ≡ false
 has-pow_other c i h = hasn't-from-bit (2 ^ c) i (bit_at-pow_other c i h)
-
-pub has-above : (mask n c : ℕ) → mask < 2 ^ n → n ≤ c → has mask c ≡ false
-has-above mask n c l h = hasn't-from-bit mask c (bit_at_above mask n c l h)
 
 -- the mask of n channels
 pub has-all : (n c : ℕ) → c < n → has (2 ^ n - 1) c ≡ true

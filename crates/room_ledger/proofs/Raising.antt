@@ -3,7 +3,8 @@ use Rattle.std.proofs.Common.{◌≡◌, ◌≢◌, ℕ, zero, suc, ◌+◌, ◌
 use Rattle.std.proofs.Common.{length, take, slice_get, bit_or, leb, refl, ap, sym, ◌∙◌, ⊎_elim, arith, add-zero}
 use Rattle.std.proofs.lemmas.Bool.{cases_Bool, cases_eq}
 use Rattle.std.proofs.lemmas.Option.{same_Some}
-use Rattle.trace_model.specs.Counting.{has}
+use Rattle.std.proofs.Math.Bool.{or-false}
+use Rattle.vidi_bits.specs.Number.{has}
 use Rattle.room_ledger.specs.Reservation.{whole}
 use Rattle.room_ledger.specs.Raising.{raise}
 use Rattle.room_ledger.proofs.Masks.{has-or, has-pow_same, has-pow_other}
@@ -25,10 +26,6 @@ pub record RaisedFrom (head capacity : ℕ) (sizes : List ℕ) (c claimed gates 
 set-same : (gates c : ℕ) → has (bit_or gates (2 ^ c)) c ≡ true
 set-same gates c = has-or gates (2 ^ c) c ∙ ap (λ b. has gates c || b) (has-pow_same c)
     ∙ ⊎_elim (λ (h : has gates c ≡ true). rw h refl) (λ (h : has gates c ≡ false). rw h refl) (cases_Bool (has gates c))
-
-or-false : (a : Bool) → (a || false) ≡ a
-or-false true = refl
-or-false false = refl
 
 set-other : (gates c i : ℕ) → i ≢ c → has (bit_or gates (2 ^ c)) i ≡ has gates i
 set-other gates c i h = has-or gates (2 ^ c) i ∙ ap (λ b. has gates i || b) (has-pow_other c i h) ∙ or-false (has gates i)

@@ -1,9 +1,9 @@
 -- The ledger beside *Gates*, and what *Gates* alone says.
 use Rattle.std.specs.Prelude.{◌≡◌, ℕ, ◌+◌, ◌^◌, ◌<◌, ◌≤◌, true, false, List, [], ◌∷◌, ◌++◌, Option, Some, length, map, slice_get}
+use Rattle.vidi_bits.specs.Number.{has}
 use Rattle.trace_model.specs.declared.channel.Channel.{Channel}
 use Rattle.trace_model.specs.declared.row.Row.{Row}
 use Rattle.trace_model.specs.Channel.{content_bytes}
-use Rattle.trace_model.specs.Counting.{has}
 use Rattle.trace_model.specs.Length.{packet_len}
 use Rattle.trace_model.specs.Row.{IsMarked, flies_after, row_before, sink_valid}
 use Rattle.room_ledger.specs.Reservation.{need, event_len}

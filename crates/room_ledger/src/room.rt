@@ -1,8 +1,8 @@
 //! The ledger of the store's bytes and of what the channels have reserved.
 
 ghost use Rattle.std.specs.Prelude.{◌≡◌, ◌<◌, ◌≤◌, ◌^◌, ◌↔◌, IsTrue, IfOk, IfErr, length, map, sum_by};
+ghost use Rattle.vidi_bits.specs.Number.{has};
 ghost use Rattle.trace_model.specs.Channel.{content_bytes};
-ghost use Rattle.trace_model.specs.Counting.{has};
 ghost use Rattle.room_ledger.specs.Reservation.{need, event_len};
 ghost use Rattle.room_ledger.specs.Gates.{drained, left};
 ghost use Rattle.room_ledger.specs.Ledger.{fresh, claimed, MayEmit, Emitted, Regranted};

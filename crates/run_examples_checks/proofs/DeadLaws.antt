@@ -1,24 +1,21 @@
 -- The stage that gives nothing is lawful, and its map fits it.
-use Rattle.std.proofs.Common.{◌≡◌, ◌≢◌, IsTrue, List, [], ◌∷◌, ℕ, zero, suc, ◌<◌, ◌≤◌, ◌+◌, ◌==◌, ◌&&◌, ◌||◌, nat_lt, Bool, true, false}
-use Rattle.std.proofs.Common.{◌⊎◌, inl, inr, Option, Some, None, All, slice_get, slice_index, take, refl, ap, sym, subst, ◌∙◌, arith}
-use Rattle.std.specs.List.{AllPairs, count_by, sum_by}
-use Rattle.net_design.specs.declared.rhs.Rhs.{Number}
+use Rattle.std.proofs.Common.{◌≡◌, ◌≢◌, IsTrue, List, [], ◌∷◌, ℕ, zero, suc, ◌<◌, ◌≤◌, ◌+◌, ◌==◌, ◌&&◌, ◌||◌, true, false}
+use Rattle.std.proofs.Common.{◌⊎◌, inl, inr, Some, None, All, slice_get, slice_index, refl, ap, sym, ◌∙◌, arith}
+use Rattle.std.specs.List.{AllPairs, count_by}
+use Rattle.net_design.proofs.ExampleLaws.{more}
 use Rattle.net_design.specs.declared.design.Instance.{Instance}
 use Rattle.net_design.specs.declared.design.Net.{Net}
-use Rattle.net_design.specs.declared.design.DesignMemory.{DesignMemory}
 use Rattle.net_design.specs.declared.design.Driver.{Driver}
-use Rattle.net_design.specs.declared.design.Register.{Register}
-use Rattle.net_design.specs.declared.act.Timing.TheVariants.{Blocking}
-use Rattle.vlog_operators.specs.Number.{has, IsWidth}
+use Rattle.vidi_bits.specs.Number.{has, IsWidth}
 use Rattle.net_design.specs.Bits.{named, bits_of}
 use Rattle.net_design.specs.Settled.{held}
 use Rattle.net_design.specs.Names.{net_names}
-use Rattle.net_design.specs.Lawful.{IsLawful, IsCode, IsDriver, IsRegister, IsBit, is_input, is_span}
+use Rattle.net_design.specs.Lawful.{IsLawful, IsDriver, IsBit, is_input, is_span}
 use Rattle.run_model.specs.Building.{PortsAreNets}
 use Rattle.run_model.specs.MapOf.{IsMapOf}
 use Rattle.run_examples_checks.specs.Stage.{stage_map, one_bit, eight_bits, whole}
 use Rattle.run_examples_checks.specs.Dead.{gives, assigns, dead, dead_drivers, dead_name}
-use Rattle.run_examples_checks.proofs.StageLaws.{one_whole, eight_whole, more, same_in, port_nets, are_nets, map_of}
+use Rattle.run_examples_checks.proofs.StageLaws.{one_whole, eight_whole, port_nets, are_nets, map_of}
 
 one_driver : (line net number : ℕ) → IsTrue (is_span dead (whole net 1)) → IsDriver dead (assigns line (gives net 1 (one_bit net) number))
 one_driver line net number s = record {

@@ -1,5 +1,4 @@
 mod StageLaws
 mod DeadLaws
-mod BranchBits
 mod PassLaws
 pub mod GivenLaws

@@ -1,10 +1,13 @@
 -- The register stage is lawful, and its map fits it.
-use Rattle.std.proofs.Common.{◌≡◌, ◌≢◌, IsTrue, List, [], ◌∷◌, ℕ, zero, suc, ◌<◌, ◌≤◌, ◌+◌, ◌==◌, ◌&&◌, ◌||◌, nat_lt, Bool, true, false}
-use Rattle.std.proofs.Common.{◌⊎◌, inl, inr, Option, Some, None, All, slice_get, slice_index, take, refl, ap, sym, subst, ◌∙◌, arith}
-use Rattle.std.specs.Int.{bit_at}
+use Rattle.std.proofs.Common.{◌≡◌, ◌≢◌, IsTrue, List, [], ◌∷◌, ℕ, zero, suc, ◌<◌, ◌≤◌, ◌==◌, ◌&&◌, ◌||◌, Bool, true, false}
+use Rattle.std.proofs.Common.{◌⊎◌, inl, inr, Some, All, slice_get, refl, ap, sym, subst, ◌∙◌, arith}
 use Rattle.std.specs.List.{AllPairs, count_by}
 use Rattle.std.proofs.lemmas.Bool.{eqb-true}
 use Rattle.std.proofs.lemmas.Nat.Bits.{bit_at_above}
+use Rattle.net_code.proofs.RowBits.{branch_writes, branch_open}
+use Rattle.net_code.specs.Found.{guard_writes, guard_reads}
+use Rattle.net_design.proofs.ExampleLaws.{open_one, more}
+use Rattle.vidi_bits.proofs.Lists.{some_same}
 use Rattle.net_design.specs.declared.rhs.Rhs.{Bits, Number}
 use Rattle.net_design.specs.declared.rhs.Room.{Room}
 use Rattle.net_design.specs.declared.rhs.Span.{Span}
@@ -14,12 +17,11 @@ use Rattle.net_design.specs.declared.design.Net.{Net}
 use Rattle.net_design.specs.declared.design.Driver.{Driver}
 use Rattle.net_design.specs.declared.design.Register.{Register}
 use Rattle.net_design.specs.declared.design.Design.{Design}
-use Rattle.net_design.specs.declared.act.Timing.TheVariants.{Blocking, Nonblocking}
-use Rattle.vlog_operators.specs.Number.{has, IsWidth}
+use Rattle.net_design.specs.declared.act.Timing.TheVariants.{Nonblocking}
+use Rattle.vidi_bits.specs.Number.{has, IsWidth}
 use Rattle.net_design.specs.Bits.{named, bits_of, no_bits, block_writes, block_reads}
 use Rattle.net_design.specs.Sized.{AreGuards}
 use Rattle.net_design.proofs.Rows.{branch_sized}
-use Rattle.run_examples_checks.proofs.BranchBits.{guard_writes, guard_reads, branch_writes, branch_open}
 use Rattle.net_design.specs.Settled.{held, net_width}
 use Rattle.net_design.specs.Names.{net_names}
 use Rattle.net_design.specs.Lawful.{IsLawful, IsDriver, IsClocked, IsRegister, IsBit, is_input, is_span, is_room}
@@ -29,12 +31,8 @@ use Rattle.run_examples_checks.specs.Stage.{stage_map, one_bit, eight_bits, whol
 use Rattle.run_examples_checks.specs.Dead.{assigns}
 use Rattle.run_examples_checks.specs.Pass.{Stand, pass, pass_drivers, pass_name, kept, kept_nets, clocked, equation, not_full}
 use Rattle.run_examples_checks.specs.Pass.{takes, fills, sets, empties}
-use Rattle.run_examples_checks.proofs.StageLaws.{one_whole, eight_whole, more, same_in, port_nets, are_nets, map_of}
+use Rattle.run_examples_checks.proofs.StageLaws.{one_whole, eight_whole, port_nets, are_nets, map_of}
 use Rattle.run_examples_checks.proofs.DeadLaws.{other}
-
-open_one : (b : Bool) → (b || false) ≡ (((b || false) && true) || false)
-open_one true = refl
-open_one false = refl
 
 two_written : (a b : Bool) → (a || (b || false))
     ≡ (((((a || false) || ((b || false) || false)) || false) || (((((a || false) || false) || false) || false) || false)) || false)
@@ -381,7 +379,7 @@ module _ (p q r : Stand) where
     rooms = λ i a h. absurd cc;
     ports = omega arith;
     port_nets = port_nets kept_nets kept (pass_drivers p) (clocked q r ∷ []) (Some 0);
-    clock = λ k h. subst (λ j. (is_input D j ≡ true) × (net_width D j ≡ 1)) (same_in 0 k h) (refl, refl);
+    clock = λ k h. subst (λ j. (is_input D j ≡ true) × (net_width D j ≡ 1)) (some_same 0 k h) (refl, refl);
     registers = all_registers;
     registers_differ = registers_differ;
     drivers = all_drivers;
@@ -394,4 +392,4 @@ module _ (p q r : Stand) where
   ports_are_nets = are_nets kept_nets kept (pass_drivers p) (clocked q r ∷ []) (Some 0)
 
   pub map-of : IsMapOf D (stage_map pass_name)
-  map-of = map_of kept_nets kept (pass_drivers p) (clocked q r ∷ []) (Some 0) pass_name (λ k h. sym (same_in 0 k h))
+  map-of = map_of kept_nets kept (pass_drivers p) (clocked q r ∷ []) (Some 0) pass_name (λ k h. sym (some_same 0 k h))

@@ -1,16 +1,17 @@
 -- What holds of every stage: its masks, its ports and its map.
-use Rattle.std.proofs.Common.{◌≡◌, ◌≢◌, IsTrue, List, [], ◌∷◌, ℕ, zero, suc, ◌+◌, ◌<◌, ◌≤◌, ◌==◌, ◌&&◌, ◌||◌, nat_lt, Bool, true, false}
-use Rattle.std.proofs.Common.{All, Option, Some, None, length, take, slice_get, slice_index, refl, ap, sym, subst, ◌∙◌, arith}
+use Rattle.std.proofs.Common.{◌≡◌, ◌≢◌, List, [], ◌∷◌, ℕ, zero, suc, ◌+◌, ◌<◌, ◌≤◌, ◌==◌, ◌&&◌, nat_lt, false}
+use Rattle.std.proofs.Common.{All, Option, Some, take, slice_get, slice_index, refl, ap, sym, ◌∙◌, arith}
 use Rattle.std.specs.Prelude.{count_by}
 use Rattle.std.specs.Int.{bit_at}
 use Rattle.std.specs.List.{AllPairs}
-use Rattle.std.proofs.lemmas.Bool.{eqb-true, ltb-true, le-leb}
+use Rattle.std.proofs.lemmas.Bool.{ltb-true, le-leb, false_from_ne_true}
 use Rattle.std.proofs.lemmas.List.Elements.{All-nil, All-cons}
 use Rattle.std.proofs.lemmas.Nat.Bits.{bit_at_above}
+use Rattle.net_design.proofs.ExampleLaws.{same_port}
+use Rattle.vidi_bits.proofs.Lists.{some_same}
 use Rattle.trace_model.specs.declared.channel.Channel.{Channel}
 use Rattle.trace_model.specs.declared.channel.Dir.TheVariants.{Inward, Outward}
 use Rattle.trace_model.specs.Channel.{IsChannel, IsTable}
-use Rattle.net_design.specs.declared.design.Instance.{Instance}
 use Rattle.net_design.specs.declared.design.Net.{Net}
 use Rattle.net_design.specs.declared.design.Driver.{Driver}
 use Rattle.net_design.specs.declared.design.Port.{Port}
@@ -19,7 +20,7 @@ use Rattle.net_design.specs.declared.design.Direction.{Direction}
 use Rattle.net_design.specs.declared.design.Direction.TheVariants.{Input, Output}
 use Rattle.net_design.specs.declared.design.Design.{Design}
 use Rattle.net_design.specs.declared.act.Code.{Code}
-use Rattle.vlog_operators.specs.Number.{has}
+use Rattle.vidi_bits.specs.Number.{has}
 use Rattle.net_design.specs.Bits.{bits_of}
 use Rattle.net_design.specs.Settled.{net_width, same_direction}
 use Rattle.chan_map.specs.Bound.{IsPin}
@@ -29,16 +30,12 @@ use Rattle.run_model.specs.MapOf.{IsMapOf}
 use Rattle.run_examples_checks.specs.Stage.{clk, a_v, a_r, a_d, b_v, b_r, b_d, stage, stage_ports, stage_nets, stage_map, stage_channels}
 use Rattle.run_examples_checks.specs.Stage.{port_of, pin_at, whole}
 
-by_true : (b : Bool) → (b ≡ true → ⊥) → b ≡ false
-by_true true f = absurd (f refl)
-by_true false f = refl
-
 -- a mask of all bits of a net
 one : (k : ℕ) → has 1 k ≡ nat_lt k 1
 one zero = refl
 one (suc k) =
     let z : bit_at 1 (suc k) ≡ 0 = bit_at_above 1 1 (suc k) (omega arith) (omega arith) in
-    let f : nat_lt (suc k) 1 ≡ false = by_true _ (λ t. let l : suc k < 1 = ltb-true _ _ t in absurd (omega arith)) in
+    let f : nat_lt (suc k) 1 ≡ false = false_from_ne_true _ (λ t. let l : suc k < 1 = ltb-true _ _ t in absurd (omega arith)) in
     ap (λ b. b == 1) z ∙ sym f
 
 eight : (k : ℕ) → has 255 k ≡ nat_lt k 8
@@ -54,7 +51,7 @@ eight (suc (suc (suc (suc (suc (suc (suc (suc k)))))))) =
     let z : bit_at 255 (suc (suc (suc (suc (suc (suc (suc (suc k)))))))) ≡ 0 =
     bit_at_above 255 8 (suc (suc (suc (suc (suc (suc (suc (suc k)))))))) (omega arith) (omega arith) in
     let f : nat_lt (suc (suc (suc (suc (suc (suc (suc (suc k)))))))) 8 ≡ false =
-    by_true _ (λ t. let l : (suc (suc (suc (suc (suc (suc (suc (suc k)))))))) < 8 = ltb-true _ _ t in absurd (omega arith)) in
+    false_from_ne_true _ (λ t. let l : (suc (suc (suc (suc (suc (suc (suc (suc k)))))))) < 8 = ltb-true _ _ t in absurd (omega arith)) in
     ap (λ b. b == 1) z ∙ sym f
 
 pub one_whole : (n m k : ℕ) → ((n == m) && has 1 k) ≡ bits_of (whole n 1) m k
@@ -62,28 +59,6 @@ one_whole n m k = ap (λ b. (n == m) && b) (one k ∙ sym (ap (λ b. b && nat_lt
 
 pub eight_whole : (n m k : ℕ) → ((n == m) && has 255 k) ≡ bits_of (whole n 8) m k
 eight_whole n m k = ap (λ b. (n == m) && b) (eight k ∙ sym (ap (λ b. b && nat_lt k 8) (le-leb 0 k (omega arith))))
-
-pub more : (b : Bool) → (b || false) ≡ (b || false || false)
-more true = refl
-more false = refl
-
-abbrev held_in : {X : Type 0} → Option X → X → X
-held_in (Some x) y = x
-held_in None y = y
-
-pub same_in : {X : Type 0} (x y : X) → Some x ≡ Some y → x ≡ y
-same_in x y h = ap (λ o. held_in o x) h
-
-same_port : (q p : Port) (x n : Net) → x.name ≡ q.name → x.width ≡ q.width → x.instance ≡ 0 → Some q ≡ Some p → Some x ≡ Some n
-    → (n.name ≡ p.name) × (n.width ≡ p.width) × (n.instance ≡ 0)
-same_port q p x n name width top a b =
-    let e = same_in q p a in
-    let f = same_in x n b in (
-      sym (ap (λ (y : Net). y.name) f) ∙ name ∙ ap (λ (y : Port). y.name) e,
-      sym (ap (λ (y : Net). y.width) f) ∙ width
-          ∙ ap (λ (y : Port). y.width) e,
-      sym (ap (λ (y : Net). y.instance) f) ∙ top,
-    )
 
 eight_fits : All (λ (w : ℕ). (1 ≤ w) × (w ≤ 128)) (8 ∷ [])
 eight_fits zero d l = (omega arith, omega arith)
@@ -196,13 +171,13 @@ module _ (extra : List Net) (registers : List Register) (drivers : List Driver) 
   are_nets = record { few = omega arith; widths = widths }
     where
       widths : (k : ℕ) (p : Port) → slice_get stage_ports k ≡ Some p → net_width D k ≡ p.width
-      widths zero p e = ap (λ (q : Port). q.width) (same_in _ p e)
-      widths (suc zero) p e = ap (λ (q : Port). q.width) (same_in _ p e)
-      widths (suc (suc zero)) p e = ap (λ (q : Port). q.width) (same_in _ p e)
-      widths (suc (suc (suc zero))) p e = ap (λ (q : Port). q.width) (same_in _ p e)
-      widths (suc (suc (suc (suc zero)))) p e = ap (λ (q : Port). q.width) (same_in _ p e)
-      widths (suc (suc (suc (suc (suc zero))))) p e = ap (λ (q : Port). q.width) (same_in _ p e)
-      widths (suc (suc (suc (suc (suc (suc zero)))))) p e = ap (λ (q : Port). q.width) (same_in _ p e)
+      widths zero p e = ap (λ (q : Port). q.width) (some_same _ p e)
+      widths (suc zero) p e = ap (λ (q : Port). q.width) (some_same _ p e)
+      widths (suc (suc zero)) p e = ap (λ (q : Port). q.width) (some_same _ p e)
+      widths (suc (suc (suc zero))) p e = ap (λ (q : Port). q.width) (some_same _ p e)
+      widths (suc (suc (suc (suc zero)))) p e = ap (λ (q : Port). q.width) (some_same _ p e)
+      widths (suc (suc (suc (suc (suc zero))))) p e = ap (λ (q : Port). q.width) (some_same _ p e)
+      widths (suc (suc (suc (suc (suc (suc zero)))))) p e = ap (λ (q : Port). q.width) (some_same _ p e)
       widths (suc (suc (suc (suc (suc (suc (suc k))))))) p e = absurd cc
 
   pin-is : (way : Direction) (name : List ℕ) (width port place : ℕ) → slice_get stage_ports port ≡ Some (port_of name way width)

@@ -3,15 +3,14 @@
 --   always @(posedge clk)
 --     if (a_v & a_r) begin full <= 1'b1; d <= a_d; end
 --     else if (b_r) full <= 1'b0;
-use Rattle.std.specs.Prelude.{◌≡◌, ℕ, List, [], ◌∷◌, false, Some, Box}
+use Rattle.std.specs.Prelude.{◌≡◌, ℕ, List, [], ◌∷◌, Some, Box}
 use Rattle.std.specs.declared.alloc.Global.{Global}
-use Rattle.vlog_operators.specs.declared.operators.UnaryOp.TheVariants.{LogicalNot}
-use Rattle.vlog_operators.specs.declared.operators.BinaryOp.TheVariants.{And}
+use Rattle.vidi_bits.specs.declared.operators.UnaryOp.TheVariants.{LogicalNot}
+use Rattle.vidi_bits.specs.declared.operators.BinaryOp.TheVariants.{And}
 use Rattle.net_design.specs.declared.rhs.Rhs.{Rhs, Number, Bits, Unary', Binary'}
 use Rattle.net_design.specs.declared.act.Act.{Act, Set}
 use Rattle.net_design.specs.declared.act.Act.TheVariants.{Branch}
 use Rattle.net_design.specs.declared.act.Code.{Code}
-use Rattle.net_design.specs.declared.act.Guard.{Guard}
 use Rattle.net_design.specs.declared.act.Mask.{Mask}
 use Rattle.net_design.specs.declared.design.Driver.{Driver}
 use Rattle.net_design.specs.declared.design.Net.{Net}

@@ -12,8 +12,7 @@ use crate::stage::{instances, nets, ports, push_net, target};
 use net_design::{Act, Code, Design, Driver, Guard, Mask, Net, Register, Rhs, Span};
 use std::alloc::Global;
 use std::boxed::Box;
-use vidi_bits::{Items, Memory};
-use vlog_operators::{BinaryOp, UnaryOp};
+use vidi_bits::{BinaryOp, Items, Memory, UnaryOp};
 
 /// All bits of a net.
 fn bits(net: usize, width: u32) -> Rhs

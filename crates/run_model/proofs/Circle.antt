@@ -7,6 +7,7 @@ use Rattle.std.proofs.lemmas.Bool.{cases_Bool, cases_lt, and_parts, false≢true
 use Rattle.std.proofs.lemmas.List.{take_all}
 use Rattle.std.proofs.lemmas.List.Elements.{All-nil, All-cons, All-append, All-head, All-tail}
 use Rattle.std.proofs.lemmas.Option.{get_or_from_slice_get, slice_get_within, same_Some}
+use Rattle.vidi_bits.specs.Number.{has}
 use Rattle.trace_model.specs.declared.channel.Channel.{Channel}
 use Rattle.trace_model.specs.declared.event.Event.{Event}
 use Rattle.trace_model.specs.declared.event.Kind.{Kind}
@@ -14,7 +15,7 @@ use Rattle.trace_model.specs.declared.event.Kind.TheVariants.{Start, End}
 use Rattle.trace_model.specs.declared.packet.Packet.{Packet}
 use Rattle.trace_model.specs.declared.row.Row.{Row}
 use Rattle.trace_model.specs.Clock.{clock}
-use Rattle.trace_model.specs.Counting.{has, IsNth}
+use Rattle.trace_model.specs.Counting.{IsNth}
 use Rattle.trace_model.specs.Packet.{does, count}
 use Rattle.trace_model.specs.Recording.{shown}
 use Rattle.trace_model.specs.Trace.{Alternates}

@@ -1,23 +1,20 @@
 -- The contents of all channels as one list: each channel's can be given, and together they fix the list. Masks by their bits.
 use Rattle.std.proofs.Common.{◌≡◌, ℕ, zero, suc, ◌+◌, ◌*◌, ◌-◌, ◌<◌, ◌≤◌, ◌^◌, Bool, true, false, cond, eqb, List, [], ◌∷◌, ◌++◌}
-use Rattle.std.proofs.Common.{Some, length, take, drop, replicate, slice_get, ⊎_elim, refl, ap, sym, subst, ◌∙◌, arith}
+use Rattle.std.proofs.Common.{Some, length, take, drop, replicate, slice_get, ⊎_elim, refl, ap, sym, subst, ◌∙◌, arith, add-one}
 use Rattle.std.specs.Int.{bit_at}
-use Rattle.std.proofs.lemmas.Bool.{cases_lt, eqb-true, eqb-false, ne_eqb, eq-eqb}
+use Rattle.std.proofs.lemmas.Bool.{cases_lt, eqb-true, eqb-false, eq-eqb}
 use Rattle.std.proofs.lemmas.List.{length-append, take-append-drop, take_at, drop_at, drop-drop, nil_from_length}
-use Rattle.std.proofs.lemmas.Nat.Bits.{bit_at_ones, bit_at_cat_low, bit_at_cat_high, bit_at_above, bit_at-lt, same_from_bits}
+use Rattle.std.proofs.lemmas.Nat.Bits.{bit_at_ones, bit_at_cat_low, bit_at_cat_high, bit_at-lt, same_from_bits}
+use Rattle.std.proofs.lemmas.Nat.{pow_pos}
+use Rattle.vidi_bits.specs.Number.{has}
+use Rattle.vidi_bits.proofs.BitLemmas.{has-above}
 use Rattle.trace_model.specs.declared.channel.Channel.{Channel}
-use Rattle.trace_model.specs.Counting.{has}
 use Rattle.trace_model.specs.Packet.{Fit, widths_of}
 use Rattle.trace_model.specs.Row.{all_widths, content_at}
 use Rattle.run_model.specs.Building.{mask_of, joined}
 use Rattle.trace_model.proofs.ContentsLemmas.{fit-append, fit-front, fit-length, fit-rest}
 
 -- ---- masks
-hasn't : (mask c : ℕ) → bit_at mask c ≡ 0 → has mask c ≡ false
-hasn't mask c h = ne_eqb (bit_at mask c) 1 (λ one. absurd (omega (arith, one, h)))
-
-pub has-above : (mask n c : ℕ) → mask < 2 ^ n → n ≤ c → has mask c ≡ false
-has-above mask n c l h = hasn't mask c (bit_at_above mask n c l h)
 
 pub has-all : (n c : ℕ) → c < n → has (2 ^ n - 1) c ≡ true
 has-all n c l = eq-eqb (bit_at (2 ^ n - 1) c) 1 (bit_at_ones n c l)
@@ -130,8 +127,15 @@ content-fits (y ∷ ys) xs f (suc c) x at = subst (Fit x.widths) (sym (content-s
 -- zeros fit
 pub fit-zeros : (widths : List ℕ) → Fit widths (replicate (length widths) 0)
 fit-zeros [] = tt
-fit-zeros (w ∷ ws) = (positive w, fit-zeros ws)
-  where
-    positive : (n : ℕ) → 0 < 2 ^ n
-    positive zero = omega arith
-    positive (suc n) = let p = positive n in omega arith
+fit-zeros (w ∷ ws) = (pow_pos w, fit-zeros ws)
+
+pub mask-more : (f : ℕ → Bool) (c : ℕ) (up : Bool) (mask new : ℕ) → up ≡ f c → new ≡ cond up 1 0 * 2 ^ c + mask → mask ≡ mask_of f c
+    → new ≡ mask_of f (c + 1)
+mask-more f c up mask new u n m =
+    n ∙ ap (λ b. cond b 1 0 * 2 ^ c + mask) u ∙ ap (λ k. cond (f c) 1 0 * 2 ^ c + k) m ∙ sym (ap (mask_of f) (add-one c))
+
+pub same-mask : (f g : ℕ → Bool) (n : ℕ) → ((c : ℕ) → c < n → f c ≡ g c) → mask_of f n ≡ mask_of g n
+same-mask f g zero h = refl
+same-mask f g (suc n) h =
+    ap (λ b. cond b 1 0 * 2 ^ n + mask_of f n) (h n (omega arith))
+    ∙ ap (λ m. cond (g n) 1 0 * 2 ^ n + m) (same-mask f g n (λ c l. h c (omega (arith, l))))

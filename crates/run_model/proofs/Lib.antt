@@ -8,3 +8,8 @@ pub mod EventPlaces
 pub mod ReplayLaws
 pub mod Circle
 pub mod MapLaws
+pub mod JoinedLaws
+pub mod Turned
+pub mod Bound
+pub mod Played
+pub mod Ends

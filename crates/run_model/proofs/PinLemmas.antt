@@ -10,11 +10,12 @@ use Rattle.std.proofs.lemmas.List.Elements.{All-cons, All-append, All-nil, All-m
 use Rattle.std.proofs.lemmas.List.FromFn.{length-map-range_with_len, get_or-map-range_with_len, length-enumerate_from}
 use Rattle.std.proofs.lemmas.List.Sums.{sum_by-append}
 use Rattle.std.proofs.lemmas.Option.{get_or_from_slice_get, slice_get_within, slice_get-get_or}
+use Rattle.std.proofs.lemmas.Nat.{pow_pos}
+use Rattle.vidi_bits.specs.Number.{truth, has}
 use Rattle.trace_model.specs.declared.channel.Channel.{Channel}
 use Rattle.trace_model.specs.declared.channel.Dir.{Dir}
 use Rattle.trace_model.specs.declared.channel.Dir.TheVariants.{Inward, Outward}
 use Rattle.trace_model.specs.declared.row.Row.{Row}
-use Rattle.trace_model.specs.Counting.{has}
 use Rattle.trace_model.specs.Row.{content_at, sink_valid}
 use Rattle.trace_model.proofs.CountingLemmas.{count-cons, nth, nth-below}
 use Rattle.net_design.specs.declared.design.Port.{Port}
@@ -34,7 +35,7 @@ use Rattle.chan_map.specs.Places.{is_at, reset_places, tie_places, plugs_places,
 use Rattle.run_model.specs.declared.pins.PinNumber.{PinNumber}
 use Rattle.run_model.specs.Building.{number_for, AreSmall}
 use Rattle.run_model.specs.MapOf.{IsMapOf}
-use Rattle.run_model.specs.Pins.{flag, pin_number, shown_number, plug_inputs, inputs_from, reset_input, tie_input, entered}
+use Rattle.run_model.specs.Pins.{pin_number, shown_number, plug_inputs, inputs_from, reset_input, tie_input, entered}
 use Rattle.run_model.specs.Pins.{ArePins}
 
 -- ---- lists
@@ -148,7 +149,7 @@ count-two p x y xs = count-cons p x (y ∷ xs) ∙ ap (λ n. cond (p x) 1 0 + n)
 count-side : (channels : List Channel) (row : Row) (k c : ℕ) (dir : Dir) (plug : Plug)
     → count_by (at_place k) (plug_inputs channels row c dir plug) ≡ count_by (is_at Input k) (side_places dir plug)
 count-side channels row k c Inward plug =
-    let a = count-cons (at_place k) (pin_number plug.valid.place (flag (sink_valid row c)))
+    let a = count-cons (at_place k) (pin_number plug.valid.place (truth (sink_valid row c)))
     (map (λ (p : ℕ × Pin). pin_number p.1.place (shown_number (sink_valid row c) (content_at channels row.contents c) p.0))
     (enumerate_from 0 plug.contents)) in
     let b = count-two (is_at Input k) (Input, plug.valid.place) (Output, plug.ready.place) (map (λ (p : Pin).
@@ -159,7 +160,7 @@ count-side channels row k c Inward plug =
     (λ (p : Pin). (Input, p.place)) (λ n p. refl) 0 plug.contents in
     omega (arith, a, b, e)
 count-side channels row k c Outward plug =
-    let a = count-cons (at_place k) (pin_number plug.ready.place (flag (has row.readies c && has row.gates c))) [] in
+    let a = count-cons (at_place k) (pin_number plug.ready.place (truth (has row.readies c && has row.gates c))) [] in
     let b = count-two (is_at Input k) (Output, plug.valid.place) (Input, plug.ready.place) (map (λ (p : Pin).
     (Output, p.place)) plug.contents)
     in
@@ -260,7 +261,7 @@ fits-port d width place number pin is e l = record {
   fits = subst (λ w. number < 2 ^ w) (sym is.width_is) l;
 }
 
-flag-small : (b : Bool) → flag b < 2 ^ 1
+flag-small : (b : Bool) → truth b < 2 ^ 1
 flag-small true = omega arith
 flag-small false = omega arith
 
@@ -276,7 +277,7 @@ contents-fit d (w ∷ ws) (p ∷ ps) n number z small = All-cons (FitsPort d) (p
     (fits-port d w p.place (number n) p z.0 refl (small 0 n (omega arith)))
     (contents-fit d ws ps (n + 1) number z.1 (λ i j e. small (suc i) j (omega (arith, e))))
 
-abbrev IsSide : Design → Dir → List ℕ → Plug → Type 0
+abbrev pub IsSide : Design → Dir → List ℕ → Plug → Type 0
 IsSide d dir widths plug = IsPin d (source_side dir) 1 plug.valid × IsPin d (sink_side dir) 1 plug.ready
     × AllZip (λ width pin. IsPin d (source_side dir) width pin) widths plug.contents
 
@@ -284,16 +285,16 @@ side-fits : (d : Design) (channels : List Channel) (row : Row) (c : ℕ) (dir : 
     → IsSide d dir widths plug
     → ((i : ℕ) → shown_number (sink_valid row c) (content_at channels row.contents c) i < 2 ^ get_or widths i 0)
     → All (FitsPort d) (plug_inputs channels row c dir plug)
-side-fits d channels row c Inward widths plug is small = All-cons (FitsPort d) (pin_number plug.valid.place (flag (sink_valid row c)))
+side-fits d channels row c Inward widths plug is small = All-cons (FitsPort d) (pin_number plug.valid.place (truth (sink_valid row c)))
     (map (λ (p : ℕ × Pin). pin_number p.1.place (shown_number (sink_valid row c) (content_at channels row.contents c) p.0))
     (enumerate_from 0 plug.contents))
-    (fits-port d 1 plug.valid.place (flag (sink_valid row c)) plug.valid is.0 refl (flag-small (sink_valid row c)))
+    (fits-port d 1 plug.valid.place (truth (sink_valid row c)) plug.valid is.0 refl (flag-small (sink_valid row c)))
     (contents-fit d widths plug.contents 0 (shown_number (sink_valid row c) (content_at channels row.contents c)) is.2
     (λ i j e. let same : i ≡ j = omega (arith, e) in
     subst (λ n. shown_number (sink_valid row c) (content_at channels row.contents c) n < 2 ^ get_or widths i 0) same (small i)))
 side-fits d channels row c Outward widths plug is small =
-    All-cons (FitsPort d) (pin_number plug.ready.place (flag (has row.readies c && has row.gates c))) []
-    (fits-port d 1 plug.ready.place (flag (has row.readies c && has row.gates c)) plug.ready is.1 refl
+    All-cons (FitsPort d) (pin_number plug.ready.place (truth (has row.readies c && has row.gates c))) []
+    (fits-port d 1 plug.ready.place (truth (has row.readies c && has row.gates c)) plug.ready is.1 refl
     (flag-small (has row.readies c && has row.gates c))) (All-nil (FitsPort d))
 
 plugs-fit : (d : Design) (channels : List Channel) (row : Row) (c : ℕ) (xs : List Channel) (plugs : List Plug) → AllZip (IsPlug d) xs plugs
@@ -312,7 +313,7 @@ resets-fit : (d : Design) (resets : Bool) (o : Option Reset) → IfSome o (λ (r
     → All (FitsPort d) (map (reset_input resets) (option_to_list o))
 resets-fit d resets None is = All-nil (FitsPort d)
 resets-fit d resets (Some r) is = All-cons (FitsPort d) (reset_input resets r) []
-    (fits-port d 1 r.pin.place (flag (cond resets r.active (not r.active))) r.pin is refl (flag-small (cond resets r.active
+    (fits-port d 1 r.pin.place (truth (cond resets r.active (not r.active))) r.pin is refl (flag-small (cond resets r.active
     (not r.active))))
     (All-nil (FitsPort d))
 
@@ -351,11 +352,7 @@ below-limit false number power h l = l
 
 zero-below : (b : Bool) (w : ℕ) → 0 < cond b 1 (2 ^ w)
 zero-below true w = omega arith
-zero-below false w = positive w
-  where
-    positive : (n : ℕ) → 0 < 2 ^ n
-    positive zero = omega arith
-    positive (suc n) = let p = positive n in omega arith
+zero-below false w = pow_pos w
 
 clocked : (o : Option ℕ) (k : ℕ) → is_clock o k ≡ true → o ≡ Some k
 clocked None k h = absurd (false≢true h)

@@ -4,12 +4,14 @@ use Rattle.std.proofs.Common.{Some, None, All, length, take, map, get_or, slice_
 use Rattle.std.specs.List.{range_with_len}
 use mathlib.Core.Logic.{∥∥₁_elim, ∥∥₁_map, ∥∥₁_prop}
 use Rattle.std.proofs.lemmas.Bool.{lt-ltb, le-ltb, cond-true, cond-false}
-use Rattle.std.proofs.lemmas.List.{take_all, take_at, take-append-le, length_push, get_or-map}
+use Rattle.std.proofs.lemmas.List.{take_all, take_at, take-append-le, length_push, get_or-map, take-take}
 use Rattle.std.proofs.lemmas.Option.{get_or_from_slice_get, slice_get_within}
+use Rattle.std.proofs.lemmas.Nat.{pow_pos}
+use Rattle.vidi_bits.specs.Number.{has}
+use Rattle.vidi_bits.proofs.BitLemmas.{has-above}
 use Rattle.trace_model.specs.declared.channel.Channel.{Channel}
 use Rattle.trace_model.specs.declared.row.Offers.{Offers}
 use Rattle.trace_model.specs.declared.row.Row.{Row}
-use Rattle.trace_model.specs.Counting.{has}
 use Rattle.trace_model.specs.Row.{content_at, sink_valid, row_before, IsOver, AreOffers, IsMarked, AreRows}
 use Rattle.trace_model.proofs.CountingLemmas.{slice_get-push, slice_get-append_left, slice_get-take, take-suc_get}
 use Rattle.net_design.specs.declared.design.Net.{Net}
@@ -28,7 +30,6 @@ use Rattle.run_model.specs.Pins.{ArePins, entered, silent}
 use Rattle.run_model.specs.Step.{IsStep, IsNext, IsAfter, IsAfterReset, IsFirst, Shows}
 use Rattle.run_model.specs.Offers.{Carries}
 use Rattle.run_model.specs.Played.{IsDriven, IsPlayed}
-use Rattle.run_model.proofs.Contents.{has-above}
 use Rattle.run_model.proofs.PinLemmas.{one-list, are-pins, pin-at, ways}
 use Rattle.run_model.proofs.RowParts.{Agree, entered-same, one-row, carried, channel-at, row-over, row-marked}
 use Rattle.run_model.proofs.RowParts.{row-shows, row-carries, small-row}
@@ -81,7 +82,7 @@ one-step d m one is s st before a b na nb oa ob ma mb agree x y =
     )
 
 -- ---- fronts of rows
-row-before_take : (rows : List Row) (k t : ℕ) → t ≤ k → row_before (take k rows) t ≡ row_before rows t
+pub row-before_take : (rows : List Row) (k t : ℕ) → t ≤ k → row_before (take k rows) t ≡ row_before rows t
 row-before_take rows k zero l = refl
 row-before_take rows k (suc t) l = slice_get-take k rows t (omega arith)
 
@@ -264,11 +265,7 @@ pub silent-small : (channels : List Channel) → AreSmall channels silent
 silent-small channels c x at i =
     let off : sink_valid silent c ≡ false = ap (λ b. b && has 0 c) (has-above 0 0 c (omega arith) (omega arith)) in
     subst (λ n. n < 2 ^ get_or x.widths i 0)
-    (sym (cond-false (sink_valid silent c) (get_or (content_at channels silent.contents c) i 0) 0 off)) (positive (get_or x.widths i 0))
-  where
-    positive : (n : ℕ) → 0 < 2 ^ n
-    positive zero = omega arith
-    positive (suc n) = let p = positive n in omega arith
+    (sym (cond-false (sink_valid silent c) (get_or (content_at channels silent.contents c) i 0) 0 off)) (pow_pos (get_or x.widths i 0))
 
 first-some : (d : Design) (m : Map) → IsLawful d → HasOneMap d → IsMapOf d m → (o : Option Reset)
     → ∥ ((s : Values) × IsAfterReset d m o s) ∥₁
@@ -280,11 +277,7 @@ first-some d m law one is (Some r) =
     (λ (a : (a : Values) × IsAfter d pins r.cycles (initial d) a). (a.0, (pins, are, a.1)))
 
 no-outputs : (d : Design) → FitOutputs d []
-no-outputs d width pin is = positive width
-  where
-    positive : (n : ℕ) → 0 < 2 ^ n
-    positive zero = omega arith
-    positive (suc n) = let p = positive n in omega arith
+no-outputs d width pin is = pow_pos width
 
 -- the next row, and the state after it, by its settled map
 pub row-step : (d : Design) (m : Map) → PortsAreNets d → IsMapOf d m → (before : Option Row) (offers : Offers) → AreOffers m.channels offers
@@ -349,3 +342,25 @@ module _ (d : Design) (m : Map) (law : IsLawful d) (one : HasOneMap d) (is : IsM
   pub some-list : (n : ℕ) → ∥ ((rows : List Row) × (length rows ≡ n) × IsPlayed d m rule rows) ∥₁
   some-list n = ∥∥₁_map {B = (rows : List Row) × (length rows ≡ n) × IsPlayed d m rule rows} (lists n)
       (λ (x : Lists d m rule n). (x.rows, x.long, x.played))
+
+pub within : (rows : List Row) (k t : ℕ) (row : Row) → slice_get (take k rows) t ≡ Some row → t < k
+within [] zero t row at = absurd (cc)
+within [] (suc k) t row at = absurd (cc)
+within (x ∷ xs) zero t row at = absurd (cc)
+within (x ∷ xs) (suc k) zero row at = omega arith
+within (x ∷ xs) (suc k) (suc t) row at = let l = within xs k t row at in omega arith
+
+pub played-front : (d : Design) (m : Map) (rule : List Row → Row → Type 0) (rows : List Row) (k : ℕ) → IsPlayed d m rule rows
+    → IsPlayed d m rule (take k rows)
+played-front d m rule rows k p = record {
+  marked = rows-front m.channels rows k p.marked;
+  driven = record {
+    state = p.driven.state;
+    first = p.driven.first;
+    steps = λ t row at. p.driven.steps t row (sym (slice_get-take k rows t (within rows k t row at)) ∙ at);
+  };
+  ruled = λ t row at.
+      (let l = within rows k t row at in
+      subst (λ (rs : List Row). rule rs row) (sym (take-take t k rows (omega arith)))
+      (p.ruled t row (sym (slice_get-take k rows t l) ∙ at)));
+}

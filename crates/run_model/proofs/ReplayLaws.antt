@@ -7,6 +7,8 @@ use Rattle.std.proofs.lemmas.Bool.{cases_Bool, cases_lt, and_parts, false≢true
 use Rattle.std.proofs.lemmas.List.{length-map}
 use Rattle.std.proofs.lemmas.List.Sums.{length-filter}
 use Rattle.std.proofs.lemmas.Option.{slice_get_within, same_Some}
+use Rattle.vidi_bits.specs.Number.{has}
+use Rattle.vidi_bits.proofs.BitLemmas.{has-above}
 use Rattle.trace_model.specs.declared.channel.Channel.{Channel}
 use Rattle.trace_model.specs.declared.channel.Dir.{Dir}
 use Rattle.trace_model.specs.declared.channel.Dir.TheVariants.{Inward, Outward}
@@ -16,13 +18,13 @@ use Rattle.trace_model.specs.declared.packet.Packet.{Packet}
 use Rattle.trace_model.specs.declared.row.Offers.{Offers}
 use Rattle.trace_model.specs.declared.row.Row.{Row}
 use Rattle.trace_model.specs.Clock.{clock, Covers}
-use Rattle.trace_model.specs.Counting.{has, IsNth}
+use Rattle.trace_model.specs.Counting.{IsNth}
 use Rattle.trace_model.specs.Packet.{does, count, content_of, Fit, IsPacket}
 use Rattle.trace_model.specs.Recording.{row_does, shown, has_event, packet_of, packets_of, recorded}
 use Rattle.trace_model.specs.Row.{content_at, sink_valid, is_in_flight, flies_after, row_before, AreOffers, AreRows}
 use Rattle.trace_model.proofs.ContentsLemmas.{content-fits}
 use Rattle.trace_model.proofs.CountingLemmas.{count-suc_no, count-mono, nth, nth-unique}
-use Rattle.trace_model.proofs.RowLaws.{counted, recorded-once, same-counts}
+use Rattle.trace_model.proofs.RowLaws.{counted, recorded-once, same-counts, does-same}
 use Rattle.net_design.specs.declared.design.Design.{Design}
 use Rattle.chan_map.specs.declared.pins.Map.{Map}
 use Rattle.run_model.specs.Building.{mask_of, joined}
@@ -30,7 +32,7 @@ use Rattle.run_model.specs.Laws.{OneReplay, ContentsFit, ReplayKeepsContents, co
 use Rattle.run_model.specs.Offers.{no_content, CarriesOn}
 use Rattle.run_model.specs.Played.{AreStable, all_up}
 use Rattle.run_model.specs.Replay.{done, IsCovered, IsOfferedOn, IsReplayRow, IsReplay}
-use Rattle.run_model.proofs.Contents.{mask-below, has-mask, has-all, has-above, fit-joined, content-joined}
+use Rattle.run_model.proofs.Contents.{mask-below, has-mask, has-all, fit-joined, content-joined}
 use Rattle.run_model.proofs.EventPlaces.{covered-or-not, filter-nth}
 use Rattle.run_model.proofs.PinLemmas.{all-at}
 use Rattle.run_model.proofs.PlayedLaws.{Determines, Allows, one-list_of_rows, some-list}
@@ -150,7 +152,7 @@ offered-on channels packets have fit row c Outward x at h =
     let when = yes-when decided in
     (λ t. when.0 (sym bit ∙ t), λ w. bit ∙ when.1 w)
 
-all-up-below : (n : ℕ) → 2 ^ n - 1 < 2 ^ n
+pub all-up-below : (n : ℕ) → 2 ^ n - 1 < 2 ^ n
 all-up-below zero = omega arith
 all-up-below (suc n) = let p = all-up-below n in omega arith
 
@@ -281,10 +283,6 @@ from-row channels [] p packet at = absurd (cc)
 from-row channels (row ∷ rows) p packet at = from-cons channels row rows (has_event row) refl p packet at
     (λ q h. from-row channels rows q packet h)
 
-does-row : (kind : Kind) (c : ℕ) (channels : List Channel) (row : Row) → does kind c (packet_of channels row) ≡ row_does kind c row
-does-row Start c channels row = refl
-does-row End c channels row = refl
-
 pub front-count : (channels : List Channel) (rows : List Row) (p : ℕ) (packet : Packet) (f : FromRow channels rows p packet)
     (kind : Kind) (c : ℕ)
     → count kind c (take p (packets_of channels rows)) ≡ shown kind c (take f.t rows)
@@ -294,7 +292,7 @@ nth-row : (channels : List Channel) (rows : List Row) (kind : Kind) (c j p : ℕ
     → IsNth (does kind c) (packets_of channels rows) j p packet → IsNth (row_does kind c) rows j f.t f.row
 nth-row channels rows kind c j p packet f is = record {
   at = f.at;
-  passes = sym (does-row kind c channels f.row) ∙ ap (does kind c) (sym f.packet-is) ∙ is.passes;
+  passes = sym (does-same kind c channels f.row) ∙ ap (does kind c) (sym f.packet-is) ∙ is.passes;
   before = sym (front-count channels rows p packet f kind c) ∙ is.before;
 }
 

@@ -7,12 +7,14 @@ use Rattle.std.specs.Option.{option_to_list}
 use Rattle.std.proofs.lemmas.Bool.{false≢true, cases_lt}
 use Rattle.std.proofs.lemmas.List.{get_or_past}
 use Rattle.std.proofs.lemmas.Option.{slice_get_within, slice_get_cases}
+use Rattle.std.proofs.lemmas.Nat.{pow_pos}
+use Rattle.vidi_bits.specs.Number.{truth, has}
+use Rattle.vidi_bits.proofs.BitLemmas.{has-above}
 use Rattle.trace_model.specs.declared.channel.Channel.{Channel}
 use Rattle.trace_model.specs.declared.channel.Dir.{Dir}
 use Rattle.trace_model.specs.declared.channel.Dir.TheVariants.{Inward, Outward}
 use Rattle.trace_model.specs.declared.row.Offers.{Offers}
 use Rattle.trace_model.specs.declared.row.Row.{Row}
-use Rattle.trace_model.specs.Counting.{has}
 use Rattle.trace_model.specs.Packet.{Fit, widths_of}
 use Rattle.trace_model.specs.Row.{all_widths, content_at, sink_valid, flies_after, IsOver, AreOffers, IsMarked}
 use Rattle.trace_model.proofs.ContentsLemmas.{fit-length, fit-at}
@@ -24,10 +26,10 @@ use Rattle.chan_map.specs.declared.pins.Plug.{Plug}
 use Rattle.chan_map.specs.Bound.{IsPin, IsPlug}
 use Rattle.chan_map.specs.Ports.{source_side}
 use Rattle.run_model.specs.MapOf.{IsMapOf}
-use Rattle.run_model.specs.Pins.{flag, pin_number, inward_inputs, plug_inputs, inputs_from, entered, reset_input, tie_input}
+use Rattle.run_model.specs.Pins.{pin_number, inward_inputs, plug_inputs, inputs_from, entered, reset_input, tie_input}
 use Rattle.run_model.specs.Step.{ShowsPlug, Shows}
 use Rattle.run_model.specs.Offers.{no_content, offered_content, CarriesOn, Carries}
-use Rattle.run_model.proofs.Contents.{same-masks_below, same-contents, mask-below, has-mask, has-above, fit-joined}
+use Rattle.run_model.proofs.Contents.{same-masks_below, same-contents, mask-below, has-mask, fit-joined}
 use Rattle.run_model.proofs.Contents.{content-joined, content-fits, fit-zeros}
 use Rattle.run_model.specs.Building.{AreSmall, FitOutputs, at_plug, content_here, content_on, mask_of, ready_at, ready_on, row_of}
 use Rattle.run_model.specs.Building.{valid_at, valid_on}
@@ -49,8 +51,8 @@ plug-same channels a b c Inward plug gates on =
     ∙ ap (λ g. inward_inputs plug (has b.valids c && has g c) (content_at channels a.contents c)) gates
     ∙ ap (inward_inputs plug (sink_valid b c)) on.1
 plug-same channels a b c Outward plug gates on =
-    ap (λ r. pin_number plug.ready.place (flag (r && has a.gates c)) ∷ []) on
-    ∙ ap (λ g. pin_number plug.ready.place (flag (has b.readies c && has g c)) ∷ []) gates
+    ap (λ r. pin_number plug.ready.place (truth (r && has a.gates c)) ∷ []) on
+    ∙ ap (λ g. pin_number plug.ready.place (truth (has b.readies c && has g c)) ∷ []) gates
 
 inputs-same : (channels : List Channel) (a b : Row) (c : ℕ) (xs : List Channel) (plugs : List Plug) → a.gates ≡ b.gates
     → ((i j : ℕ) (x : Channel) → slice_get xs i ≡ Some x → j ≡ c + i → AgreeOn channels a b j x.dir)
@@ -272,10 +274,6 @@ small-cond : (b : Bool) (x limit : ℕ) → x < limit → 0 < limit → cond b x
 small-cond true x limit l z = l
 small-cond false x limit l z = z
 
-positive : (n : ℕ) → 0 < 2 ^ n
-positive zero = omega arith
-positive (suc n) = let p = positive n in omega arith
-
 pub small-fit : (channels : List Channel) (row : Row) → Fit (all_widths channels) row.contents → AreSmall channels row
 small-fit channels row fits c x at i =
     let k = content_at channels row.contents c in
@@ -284,9 +282,9 @@ small-fit channels row fits c x at i =
     (⊎_elim
     (λ (l : i < length x.widths). fit-at x.widths k i f l)
     (λ (l : length x.widths ≤ i). subst (λ n. n < 2 ^ get_or x.widths i 0)
-    (sym (get_or_past k i 0 (let e = fit-length x.widths k f in omega (arith, e, l)))) (positive (get_or x.widths i 0)))
+    (sym (get_or_past k i 0 (let e = fit-length x.widths k f in omega (arith, e, l)))) (pow_pos (get_or x.widths i 0)))
     (cases_lt i (length x.widths)))
-    (positive (get_or x.widths i 0))
+    (pow_pos (get_or x.widths i 0))
 
 pub small-row : (channels : List Channel) (row : Row) → IsOver channels row → AreSmall channels row
 small-row channels row over = small-fit channels row over.contents

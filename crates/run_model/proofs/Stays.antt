@@ -5,12 +5,14 @@ use Rattle.std.specs.Str.{bytes_eq}
 use Rattle.std.proofs.lemmas.Bool.{cases_Bool, cases_lt, and_parts, and_from, false≢true}
 use Rattle.std.proofs.lemmas.Option.{slice_get_within, same_Some}
 use Rattle.std.proofs.lemmas.Slice.Eq.{bytes_eq-Decides}
+use Rattle.vidi_bits.specs.Number.{has}
+use Rattle.vidi_bits.proofs.BitLemmas.{has-above}
 use Rattle.trace_model.specs.declared.channel.Channel.{Channel}
 use Rattle.trace_model.specs.declared.channel.Dir.{Dir}
 use Rattle.trace_model.specs.declared.channel.Dir.TheVariants.{Inward, Outward}
 use Rattle.trace_model.specs.declared.event.Kind.TheVariants.{Start}
 use Rattle.trace_model.specs.declared.row.Row.{Row}
-use Rattle.trace_model.specs.Counting.{has, IsNth}
+use Rattle.trace_model.specs.Counting.{IsNth}
 use Rattle.trace_model.specs.Laws.{KeepsInFlight}
 use Rattle.trace_model.specs.Recording.{row_does, IsTransaction}
 use Rattle.trace_model.specs.Row.{content_at, sink_valid, completes, is_in_flight, flies_after, row_before, AreRows}
@@ -19,7 +21,6 @@ use Rattle.trace_model.proofs.CountingLemmas.{count-suc_yes, count-suc_no, nth-u
 use Rattle.trace_model.proofs.RowLaws.{counted}
 use Rattle.run_model.specs.Laws.{ContentsStay}
 use Rattle.run_model.specs.Played.{AreStable}
-use Rattle.run_model.proofs.Contents.{has-above}
 use Rattle.run_model.proofs.RowParts.{channel-at}
 
 -- what is in flight after the row before is shown on with the same content
@@ -108,9 +109,6 @@ record Since (channels : List Channel) (rows : List Row) (c u : ℕ) : Type 0 wh
   count : count_by (row_does Start c) (take u rows) ≡ suc j
   same : (row : Row) → row_before rows u ≡ Some row → content_at channels row.contents c ≡ content_at channels first.contents c
 
-start-bit : (v f : Bool) → v ≡ true → f ≡ false → (v && not f) ≡ true
-start-bit v f h k = rw (h, k) refl
-
 no-start : (v f : Bool) → f ≡ true → (v && not f) ≡ false
 no-start true f h = ap not h
 no-start false f h = refl
@@ -161,8 +159,8 @@ module _ (channels : List Channel) (rows : List Row) (are : AreRows channels row
       (λ (f : flies_after (row_before rows v) c ≡ false).
       let p = flight-parts row c flies in
       since-started channels rows c v row at
-      ((are v row at).1.starts c ∙ start-bit (sink_valid row c) (flies_after (row_before rows v) c)
-      (and_from (has row.valids c) (has row.gates c) p.0 p.1) f))
+      ((are v row at).1.starts c ∙ and_from (sink_valid row c) (not (flies_after (row_before rows v) c))
+      (and_from (has row.valids c) (has row.gates c) p.0 p.1) (ap not f)))
       (cases_Bool (flies_after (row_before rows v) c))
 
   since : (u : ℕ) → flies_after (row_before rows u) c ≡ true → Since channels rows c u
@@ -202,7 +200,7 @@ module _ (channels : List Channel) (rows : List Row) (are : AreRows channels row
       let n = flying-none (flies_after (row_before rows u) c) f in
       let is : IsNth (row_does Start c) rows j u x.last = record {
         at = at;
-        passes = (are u x.last at).1.starts c ∙ start-bit (sink_valid x.last c) (flies_after (row_before rows u) c) valid f;
+        passes = (are u x.last at).1.starts c ∙ and_from (sink_valid x.last c) (not (flies_after (row_before rows u) c)) valid (ap not f);
         before = omega (arith, all, done, n);
       } in
       let one = nth-unique (row_does Start c) rows j u t x.last x.first is x.starts in

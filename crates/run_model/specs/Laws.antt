@@ -1,6 +1,7 @@
 -- What follows from the definitions of runs and replays.
 use Rattle.std.specs.Prelude.{◌≡◌, ℕ, ◌<◌, ◌^◌, Bool, true, false, List, [], ◌∷◌, ◌++◌, Some, All, Contains, Ok}
 use Rattle.std.specs.Prelude.{length, take, slice_get}
+use Rattle.vidi_bits.specs.Number.{has}
 use Rattle.trace_model.specs.declared.channel.Channel.{Channel}
 use Rattle.trace_model.specs.declared.channel.Dir.{Dir}
 use Rattle.trace_model.specs.declared.channel.Dir.TheVariants.{Inward, Outward}
@@ -11,7 +12,7 @@ use Rattle.trace_model.specs.declared.packet.Packet.{Packet}
 use Rattle.trace_model.specs.declared.row.Offers.{Offers}
 use Rattle.trace_model.specs.declared.row.Row.{Row}
 use Rattle.trace_model.specs.Clock.{clock, Covers}
-use Rattle.trace_model.specs.Counting.{has, IsNth}
+use Rattle.trace_model.specs.Counting.{IsNth}
 use Rattle.trace_model.specs.Packet.{does, count, content_of, IsPacket}
 use Rattle.trace_model.specs.Recording.{packets_of, recorded, shown, trace_of, IsTransaction}
 use Rattle.trace_model.specs.Row.{content_at, completes, AreOffers, AreRows}

@@ -8,3 +8,5 @@ pub mod Replay
 pub mod Held
 pub mod Laws
 pub mod Building
+pub mod Alike
+pub mod AlikeLaws

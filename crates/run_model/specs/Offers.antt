@@ -1,11 +1,11 @@
 -- The environment's part of a row: what it offers.
-use Rattle.std.specs.Prelude.{◌≡◌, ℕ, if◌then◌else◌, List, Some, length, replicate, slice_get}
+use Rattle.std.specs.Prelude.{◌≡◌, ℕ, if◌then◌else◌, List, Some, length, replicate, slice_get, false}
+use Rattle.vidi_bits.specs.Number.{has}
 use Rattle.trace_model.specs.declared.channel.Channel.{Channel}
 use Rattle.trace_model.specs.declared.channel.Dir.{Dir}
 use Rattle.trace_model.specs.declared.channel.Dir.TheVariants.{Inward, Outward}
 use Rattle.trace_model.specs.declared.row.Offers.{Offers}
 use Rattle.trace_model.specs.declared.row.Row.{Row}
-use Rattle.trace_model.specs.Counting.{has}
 use Rattle.trace_model.specs.Packet.{widths_of}
 use Rattle.trace_model.specs.Row.{content_at}
 
@@ -26,3 +26,8 @@ CarriesOn channels offers row c Outward = has row.readies c ≡ has offers.readi
 abbrev pub Carries : List Channel → Offers → Row → Type 0
 Carries channels offers row = (c : ℕ) (channel : Channel) → slice_get channels c ≡ Some channel
     → CarriesOn channels offers row c channel.dir
+
+-- an inward channel's offered content is 0 while its offered valid is down
+abbrev pub AreZeroWhileDown : List Channel → Offers → Type 0
+AreZeroWhileDown channels offers = (c : ℕ) (x : Channel) → slice_get channels c ≡ Some x → x.dir ≡ Inward
+    → has offers.valids c ≡ false → content_at channels offers.contents c ≡ no_content channels c

@@ -2,11 +2,11 @@
 use Rattle.std.specs.Prelude.{◌≡◌, ℕ, ◌+◌, ◌&&◌, Bool, not, if◌then◌else◌, List, [], ◌∷◌, ◌++◌, All, map, slice_index}
 use Rattle.std.specs.List.{enumerate_from}
 use Rattle.std.specs.Option.{option_to_list}
+use Rattle.vidi_bits.specs.Number.{truth, has}
 use Rattle.trace_model.specs.declared.channel.Channel.{Channel}
 use Rattle.trace_model.specs.declared.channel.Dir.{Dir}
 use Rattle.trace_model.specs.declared.channel.Dir.TheVariants.{Inward, Outward}
 use Rattle.trace_model.specs.declared.row.Row.{Row}
-use Rattle.trace_model.specs.Counting.{has}
 use Rattle.trace_model.specs.Row.{content_at, sink_valid}
 use Rattle.net_design.specs.declared.design.Design.{Design}
 use Rattle.net_design.specs.Pins.{FitPins}
@@ -17,10 +17,6 @@ use Rattle.chan_map.specs.declared.pins.Reset.{Reset}
 use Rattle.chan_map.specs.declared.pins.Tie.{Tie}
 use Rattle.run_model.specs.declared.pins.PinNumber.{PinNumber}
 
--- 1 where it is up
-abbrev pub flag : Bool → ℕ
-flag b = if b then 1 else 0
-
 abbrev pub pin_number : ℕ → ℕ → PinNumber
 pin_number place number = record { place = place; number = number }
 
@@ -30,14 +26,14 @@ shown_number valid content i = if valid then slice_index content i else 0
 
 -- the valid of an inward channel, and its contents
 abbrev pub inward_inputs : Plug → Bool → List ℕ → List PinNumber
-inward_inputs plug valid content = pin_number plug.valid.place (flag valid)
+inward_inputs plug valid content = pin_number plug.valid.place (truth valid)
     ∷ map (λ (p : ℕ × Pin). pin_number p.1.place (shown_number valid content p.0)) (enumerate_from 0 plug.contents)
 
 -- The pins of channel c that are inputs of the top. Inward: the valid that the sink sees behind the gate, and the content while it
 -- is up. Outward: the ready that the source sees behind the gate.
 abbrev pub plug_inputs : List Channel → Row → ℕ → Dir → Plug → List PinNumber
 plug_inputs channels row c Inward plug = inward_inputs plug (sink_valid row c) (content_at channels row.contents c)
-plug_inputs channels row c Outward plug = pin_number plug.ready.place (flag (has row.readies c && has row.gates c)) ∷ []
+plug_inputs channels row c Outward plug = pin_number plug.ready.place (truth (has row.readies c && has row.gates c)) ∷ []
 
 -- those of the channels from c on, with their plugs
 abbrev pub inputs_from : List Channel → Row → ℕ → List Channel → List Plug → List PinNumber
@@ -46,7 +42,7 @@ inputs_from channels row c xs plugs = []
 
 -- the reset pin has its active value in a reset cycle, else the other one
 abbrev pub reset_input : Bool → Reset → PinNumber
-reset_input resets r = pin_number r.pin.place (flag (if resets then r.active else not r.active))
+reset_input resets r = pin_number r.pin.place (truth (if resets then r.active else not r.active))
 
 abbrev pub tie_input : Tie → PinNumber
 tie_input t = pin_number t.pin.place t.number

@@ -1,5 +1,6 @@
 -- *IsReplay*: which recorded events a replay lets come, and the replay of n cycles.
 use Rattle.std.specs.Prelude.{◌≡◌, ℕ, ◌<◌, ◌≤◌, ◌↔◌, true, false, List, Some, length, take, slice_get}
+use Rattle.vidi_bits.specs.Number.{has}
 use Rattle.trace_model.specs.declared.channel.Channel.{Channel}
 use Rattle.trace_model.specs.declared.channel.Dir.{Dir}
 use Rattle.trace_model.specs.declared.channel.Dir.TheVariants.{Inward, Outward}
@@ -8,7 +9,7 @@ use Rattle.trace_model.specs.declared.event.Kind.TheVariants.{Start, End}
 use Rattle.trace_model.specs.declared.packet.Packet.{Packet}
 use Rattle.trace_model.specs.declared.row.Row.{Row}
 use Rattle.trace_model.specs.Clock.{clock, Covers}
-use Rattle.trace_model.specs.Counting.{has, IsNth}
+use Rattle.trace_model.specs.Counting.{IsNth}
 use Rattle.trace_model.specs.Packet.{does, count, content_of}
 use Rattle.trace_model.specs.Recording.{shown}
 use Rattle.trace_model.specs.Row.{content_at}

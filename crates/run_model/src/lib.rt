@@ -2,13 +2,16 @@
 //!
 //! The definitions stand in `specs/`: `MapOf` (a map of a design), `Pins` (what a cycle enters at the input pins), `Step` (the
 //! row that a state shows, and the state after it), `Offers` (what the environment's part of a row is), `Played` (rows that a
-//! design shows under a rule), `Run`, `Replay`, and `Held` (what a replay that hasn't ended waits for).
+//! design shows under a rule), `Run`, `Replay`, `Held` (what a replay that hasn't ended waits for) and `Alike` (designs that no map
+//! and no run can tell apart). `Laws` says what follows for runs and replays, `AlikeLaws` what follows for designs that are alike.
 #![tactic(auto)]
 
+mod alike;
 mod held;
 mod laws;
 mod pins;
 
+pub use alike::{driven_alike, maps_alike, one_end, runs_alike};
 pub use held::{Await, Awaits, Held, Helds};
 pub use laws::{
     bound_is_map_of, no_circle, one_replay, one_run, order_in_the_output, replay_keeps_contents,

@@ -1,6 +1,7 @@
 -- A design made by hand, whose valid rises and falls whatever the ready is, and its map:
 --   input c;  output v;  input r;  reg t = 0, u = 1;  assign v = t;  always @(posedge c) begin t <= u; u <= t; end
-use Rattle.std.specs.Prelude.{ℕ, Bool, List, [], ◌∷◌, false, Some, None, if◌then◌else◌}
+use Rattle.std.specs.Prelude.{ℕ, Bool, List, [], ◌∷◌, false, Some, None}
+use Rattle.vidi_bits.specs.Number.{truth}
 use Rattle.net_design.specs.declared.rhs.Span.{Span}
 use Rattle.net_design.specs.declared.rhs.Rhs.{Bits}
 use Rattle.net_design.specs.declared.act.Place.TheVariants.{Bits as PlaceBits}
@@ -27,7 +28,7 @@ port_of direction letter = record { name = letter ∷ []; direction = direction;
 abbrev pub bit_of : ℕ → Span
 bit_of net = record { net = net; low = 0; width = 1 }
 
--- the bit of one net becomes that of another
+-- the truth of one net becomes that of another
 abbrev pub copies : ℕ → ℕ → Act
 copies to from = Set (PlaceBits (bit_of to) 1 ∷ []) (Bits (bit_of from))
 
@@ -70,19 +71,17 @@ flick_map = record {
 }
 
 -- ---- its numbers
-abbrev pub bit : Bool → ℕ
-bit b = if b then 1 else 0
 
 abbrev pub values : ℕ → ℕ → ℕ → ℕ → ℕ → Values
 values c v r t u = record { nets = c ∷ v ∷ r ∷ t ∷ u ∷ []; words = [] }
 
 -- the state in which the registers have these bits
 abbrev pub flick_state : Bool → Bool → Values
-flick_state t u = values 0 0 0 (bit t) (bit u)
+flick_state t u = values 0 0 0 (truth t) (truth u)
 
 -- what it settles to
 abbrev pub flick_shown : Bool → Bool → Bool → Values
-flick_shown t u ready = values 0 (bit t) (bit ready) (bit t) (bit u)
+flick_shown t u ready = values 0 (truth t) (truth ready) (truth t) (truth u)
 
 abbrev pub flick_inputs : Bool → List ℕ
-flick_inputs ready = 0 ∷ bit ready ∷ []
+flick_inputs ready = 0 ∷ truth ready ∷ []

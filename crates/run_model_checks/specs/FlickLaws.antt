@@ -15,7 +15,7 @@ use Rattle.net_design.specs.declared.design.Port.{Port}
 use Rattle.net_design.specs.declared.design.Direction.{Direction}
 use Rattle.net_design.specs.declared.design.Direction.TheVariants.{Input, Output}
 use Rattle.net_design.specs.declared.values.Values.{Values}
-use Rattle.vlog_operators.specs.Number.{put_of}
+use Rattle.vidi_bits.specs.Number.{put_of, truth}
 use Rattle.net_design.specs.Lawful.{IsState}
 use Rattle.net_design.specs.Pins.{FitPins, HasOneMap}
 use Rattle.net_design.specs.Settled.{same_direction, FitNets, IsSettled, held, net_width, next}
@@ -24,9 +24,9 @@ use Rattle.chan_map.specs.Bound.{IsPin}
 use Rattle.chan_map.specs.Places.{is_at, places}
 use Rattle.run_model.specs.Building.{PortsAreNets}
 use Rattle.run_model.specs.MapOf.{IsMapOf}
-use Rattle.run_model_checks.specs.Flick.{flick, flick_map, bit, flick_driver, flick_state, flick_shown, flick_inputs, port_of, pin_at}
+use Rattle.run_model_checks.specs.Flick.{flick, flick_map, flick_driver, flick_state, flick_shown, flick_inputs, port_of, pin_at}
 
-bit-small : (b : Bool) → bit b < 2
+bit-small : (b : Bool) → truth b < 2
 bit-small true = omega arith
 bit-small false = omega arith
 
@@ -46,7 +46,7 @@ five-fit a b c d e la lb lc ld le = record { long = refl; each = each }
 settled-at : (t u r : Bool) → IsSettled flick (flick_state t u) (flick_inputs r) (flick_shown t u r)
 settled-at t u r = record {
   keeps = record {
-    fit = five-fit 0 (bit t) (bit r) (bit t) (bit u) (omega arith) (bit-small t) (bit-small r) (bit-small t) (bit-small u);
+    fit = five-fit 0 (truth t) (truth r) (truth t) (truth u) (omega arith) (bit-small t) (bit-small r) (bit-small t) (bit-small u);
     clock = λ k e. zero-clock k e;
     state = same;
     words = refl;
@@ -89,19 +89,19 @@ two (a ∷ []) l = absurd (omega (arith, l))
 two (a ∷ b ∷ []) l = (a, b, refl)
 two (a ∷ b ∷ c ∷ xs) l = absurd (omega (arith, l))
 
-low-bit : (d : ℕ) (t : Bool) → d < 2 → bit_at d 0 ≡ bit_at (bit t) 0 → d ≡ bit t
+low-bit : (d : ℕ) (t : Bool) → d < 2 → bit_at d 0 ≡ bit_at (truth t) 0 → d ≡ truth t
 low-bit d t l h =
-    let x = bit_at_lowest d in let y = bit_at_lowest (bit t) in let s = bit-small t in omega (arith, l, h, x, y, s)
+    let x = bit_at_lowest d in let y = bit_at_lowest (truth t) in let s = bit-small t in omega (arith, l, h, x, y, s)
 
-driven-is : (b : ℕ) (t : Bool) → b < 2 → put_of b 0 1 (bit t) ≡ b → b ≡ bit t
+driven-is : (b : ℕ) (t : Bool) → b < 2 → put_of b 0 1 (truth t) ≡ b → b ≡ truth t
 driven-is zero true l h = absurd (omega (arith, h))
 driven-is zero false l h = refl
 driven-is (suc zero) true l h = refl
 driven-is (suc zero) false l h = absurd (omega (arith, h))
 driven-is (suc (suc b)) t l h = absurd (omega arith)
 
-made : (t : Bool) (a b c e : ℕ) (ws : List ℕ) → run flick_driver.code.acts (record { nets = a ∷ b ∷ c ∷ bit t ∷ e ∷ []; words = ws })
-    ≡ record { nets = a ∷ put_of b 0 1 (bit t) ∷ c ∷ bit t ∷ e ∷ []; words = ws }
+made : (t : Bool) (a b c e : ℕ) (ws : List ℕ) → run flick_driver.code.acts (record { nets = a ∷ b ∷ c ∷ truth t ∷ e ∷ []; words = ws })
+    ≡ record { nets = a ∷ put_of b 0 1 (truth t) ∷ c ∷ truth t ∷ e ∷ []; words = ws }
 made true a b c e ws = refl
 made false a b c e ws = refl
 
@@ -112,20 +112,20 @@ one-at : (t u r : Bool) (a b c d e : ℕ) (ws : List ℕ)
     → IsSettled flick (flick_state t u) (flick_inputs r) (record { nets = a ∷ b ∷ c ∷ d ∷ e ∷ []; words = ws })
     → ◌≡◌ {A = Values} (record { nets = a ∷ b ∷ c ∷ d ∷ e ∷ []; words = ws }) (flick_shown t u r)
 one-at t u r a b c d e ws h =
-    let d-is : d ≡ bit t = low-bit d t (h.keeps.fit.each 3) (h.keeps.state 3 0 refl) in
-    let e-is : e ≡ bit u = low-bit e u (h.keeps.fit.each 4) (h.keeps.state 4 0 refl) in
-    let pins : a ∷ c ∷ [] ≡ 0 ∷ bit r ∷ [] = h.inputs in
+    let d-is : d ≡ truth t = low-bit d t (h.keeps.fit.each 3) (h.keeps.state 3 0 refl) in
+    let e-is : e ≡ truth u = low-bit e u (h.keeps.fit.each 4) (h.keeps.state 4 0 refl) in
+    let pins : a ∷ c ∷ [] ≡ 0 ∷ truth r ∷ [] = h.inputs in
     let a-is : a ≡ 0 = cc in
-    let c-is : c ≡ bit r = cc in
+    let c-is : c ≡ truth r = cc in
     let drives : run flick_driver.code.acts (record { nets = a ∷ b ∷ c ∷ d ∷ e ∷ []; words = ws })
     ≡ record { nets = a ∷ b ∷ c ∷ d ∷ e ∷ []; words = ws } =
     All-head (λ (x : Driver). run x.code.acts (record { nets = a ∷ b ∷ c ∷ d ∷ e ∷ []; words = ws })
     ≡ record { nets = a ∷ b ∷ c ∷ d ∷ e ∷ []; words = ws }) flick_driver [] h.driven in
-    let drives' : run flick_driver.code.acts (record { nets = a ∷ b ∷ c ∷ bit t ∷ e ∷ []; words = ws })
-    ≡ record { nets = a ∷ b ∷ c ∷ bit t ∷ e ∷ []; words = ws } =
+    let drives' : run flick_driver.code.acts (record { nets = a ∷ b ∷ c ∷ truth t ∷ e ∷ []; words = ws })
+    ≡ record { nets = a ∷ b ∷ c ∷ truth t ∷ e ∷ []; words = ws } =
     subst (λ (n : ℕ). run flick_driver.code.acts (record { nets = a ∷ b ∷ c ∷ n ∷ e ∷ []; words = ws })
     ≡ record { nets = a ∷ b ∷ c ∷ n ∷ e ∷ []; words = ws }) d-is drives in
-    let b-is : b ≡ bit t = driven-is b t (h.keeps.fit.each 1)
+    let b-is : b ≡ truth t = driven-is b t (h.keeps.fit.each 1)
     (ap (λ (v : Values). slice_index v.nets 1) (sym (made t a b c e ws) ∙ drives')) in
     λ i. record { nets = a-is i ∷ b-is i ∷ c-is i ∷ d-is i ∷ e-is i ∷ []; words = h.keeps.words i }
 
@@ -136,7 +136,7 @@ one-map_at t u r v h =
     same ∙ one-at t u r f.0 f.1 f.2 f.3 f.4 v.words (subst (IsSettled flick (flick_state t u) (flick_inputs r)) same h)
 
 -- ---- states and inputs are bits
-bool-of : (n : ℕ) → n < 2 → (b : Bool) × (n ≡ bit b)
+bool-of : (n : ℕ) → n < 2 → (b : Bool) × (n ≡ truth b)
 bool-of zero l = (false, refl)
 bool-of (suc zero) l = (true, refl)
 bool-of (suc (suc n)) l = absurd (omega arith)
@@ -170,7 +170,7 @@ inputs-are pins h =
     let r = bool-of f.1 (fit 1 (omega arith)) in
     (r.0, f.2 ∙ (λ i. a i ∷ r.1 i ∷ []))
 
-flag-test : (r : Bool) → (bit r == 1) ≡ r
+flag-test : (r : Bool) → (truth r == 1) ≡ r
 flag-test true = refl
 flag-test false = refl
 
@@ -201,14 +201,14 @@ one-map = record {
 
 pub is-state : (t u : Bool) → IsState flick (flick_state t u)
 is-state t u = record {
-  nets = five-fit 0 0 0 (bit t) (bit u) (omega arith) (omega arith) (omega arith) (bit-small t) (bit-small u);
+  nets = five-fit 0 0 0 (truth t) (truth u) (omega arith) (omega arith) (omega arith) (bit-small t) (bit-small u);
   rest = rest;
   words = refl;
   fit = λ a i c l. absurd (omega (arith, c.1));
 }
   where
-    high : (b : Bool) (k : ℕ) → bit_at (bit b) (suc k) ≡ 0
-    high b k = bit_at_above (bit b) 1 (suc k) (bit-small b) (omega arith)
+    high : (b : Bool) (k : ℕ) → bit_at (truth b) (suc k) ≡ 0
+    high b k = bit_at_above (truth b) 1 (suc k) (bit-small b) (omega arith)
 
     rest : (m k : ℕ) → held flick m k ≡ false → bit_at (slice_index (flick_state t u).nets m) k ≡ 0
     rest zero k h = bit_at_above 0 0 k (omega arith) (omega arith)

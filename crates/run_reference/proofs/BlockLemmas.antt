@@ -1,11 +1,9 @@
 -- Pins of plugs, masks bit by bit, and contents channel by channel.
-use Rattle.std.proofs.Common.{◌≡◌, ℕ, zero, suc, ◌+◌, ◌*◌, ◌%◌, ◌<◌, ◌≤◌, ◌^◌, List, [], ◌∷◌, ◌++◌, Some, length}
+use Rattle.std.proofs.Common.{◌≡◌, ℕ, zero, suc, ◌+◌, ◌<◌, ◌≤◌, List, [], ◌∷◌, ◌++◌, Some, length}
 use Rattle.std.proofs.Common.{drop, get_or, slice_get, ap, sym, subst, ◌∙◌, arith}
 use Rattle.std.specs.List.{AllZip}
 use Rattle.std.proofs.lemmas.List.{drop_more}
 use Rattle.std.proofs.lemmas.Option.{same_Some}
-use Rattle.std.proofs.Math.Pow.{pow_mono}
-use Rattle.std.proofs.Math.Nat.{mod-eq_of_lt}
 use Rattle.trace_model.specs.declared.channel.Channel.{Channel}
 use Rattle.trace_model.specs.declared.channel.Dir.TheVariants.{Inward, Outward}
 use Rattle.net_design.specs.declared.design.Design.{Design}
@@ -54,24 +52,3 @@ pub joined-more : (f : ℕ → List ℕ) (c : ℕ) (xs : List Channel) → c < l
     → joined f c (drop c xs) ≡ f c ++ joined f (c + 1) (drop (c + 1) xs)
 joined-more f c [] l = absurd (omega arith)
 joined-more f c (x ∷ xs) l = ap (joined f c) (drop_more (x ∷ xs) c x l)
-
--- ---- one bit more
-pub bit-one : (c : ℕ) → c < 128 → 1 * 2 ^ c % 2 ^ 128 ≡ 2 ^ c
-bit-one c l = let p : 2 ^ suc c ≤ 2 ^ 128 = pow_mono {i = suc c} {j = 128} (omega arith) in
-    let q : 2 ^ suc c ≡ 2 ^ c + 2 ^ c = omega arith in let z = positive c in
-    let one : 1 * 2 ^ c ≡ 2 ^ c = omega arith in
-    ap (λ n. n % 2 ^ 128) one ∙ mod-eq_of_lt {n = 2 ^ c} {m = 2 ^ 128} (omega arith)
-  where
-    positive : (n : ℕ) → 0 < 2 ^ n
-    positive zero = omega arith
-    positive (suc n) = let p = positive n in omega arith
-
-pub bit-fits : (mask c : ℕ) → c < 128 → mask < 2 ^ c → mask + 1 * 2 ^ c % 2 ^ 128 < 2 ^ 128
-bit-fits mask c l small =
-    let p : 2 ^ suc c ≤ 2 ^ 128 = pow_mono {i = suc c} {j = 128} (omega arith) in
-    let q : 2 ^ suc c ≡ 2 ^ c + 2 ^ c = omega arith in
-    let one = bit-one c l in
-    omega (arith, p, q, one, small)
-
-pub bit-more : (mask c : ℕ) → c < 128 → mask + 1 * 2 ^ c % 2 ^ 128 ≡ 1 * 2 ^ c + mask
-bit-more mask c l = let one = bit-one c l in omega (arith, one)

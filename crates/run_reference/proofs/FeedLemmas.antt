@@ -1,10 +1,11 @@
 -- What a replay offers, in the manner of the code, is what *IsReplay* asks for.
-use Rattle.std.proofs.Common.{◌≡◌, ◌↔◌, ℕ, zero, suc, ◌+◌, ◌-◌, ◌<◌, ◌≤◌, ◌^◌, Bool, true, false, cond, ltb, List, [], ◌∷◌, ◌++◌}
+use Rattle.std.proofs.Common.{◌≡◌, ◌↔◌, ℕ, zero, suc, ◌+◌, ◌-◌, ◌<◌, ◌≤◌, Bool, true, false, cond, ltb, List, [], ◌∷◌, ◌++◌}
 use Rattle.std.proofs.Common.{Option, Some, None, length, slice_get, ⊎_elim, refl, ap, sym, subst, ◌∙◌, arith}
 use Rattle.std.specs.Prelude.{is_some}
 use Rattle.std.specs.List.{enumerate_from, flat_map}
 use Rattle.std.proofs.lemmas.Bool.{cases_lt, false≢true, cond-true, cond-false, lt-ltb}
 use Rattle.std.proofs.lemmas.Option.{slice_get_within, same_Some}
+use Rattle.vidi_bits.specs.Number.{has}
 use Rattle.trace_model.specs.declared.channel.Channel.{Channel}
 use Rattle.trace_model.specs.declared.channel.Dir.{Dir}
 use Rattle.trace_model.specs.declared.channel.Dir.TheVariants.{Inward, Outward}
@@ -15,7 +16,7 @@ use Rattle.trace_model.specs.declared.packet.Packet.{Packet}
 use Rattle.trace_model.specs.declared.row.Offers.{Offers}
 use Rattle.trace_model.specs.declared.row.Row.{Row}
 use Rattle.trace_model.specs.Clock.{clock, Covers}
-use Rattle.trace_model.specs.Counting.{has, IsNth}
+use Rattle.trace_model.specs.Counting.{IsNth}
 use Rattle.trace_model.specs.Packet.{does, content_of, Fit, IsPacket}
 use Rattle.trace_model.specs.Row.{row_before, AreOffers}
 use Rattle.trace_model.proofs.ContentsLemmas.{content-fits}
@@ -204,7 +205,3 @@ replay-grow d m packets fit rows s grown offers o gates up row after st g =
     played-push d m (IsReplayRow m.channels packets) rows row after grown.played
     (feed-allows m.channels packets rows fit row (subst (λ (x : Offers). Carries m.channels x row) o st.carried), g ∙ up) st.over st.marked
     (subst (λ u. IsStep d m u row after) (sym grown.state) st.step)
-
-pub all-up-below : (n : ℕ) → 2 ^ n - 1 < 2 ^ n
-all-up-below zero = omega arith
-all-up-below (suc n) = let p = all-up-below n in omega arith

@@ -5,12 +5,12 @@ use Rattle.std.specs.Prelude.{unwrap_or}
 use Rattle.std.specs.List.{AllZip}
 use Rattle.std.specs.Option.{option_to_list}
 use Rattle.std.proofs.lemmas.Bool.{cases_Bool, cond-true}
+use Rattle.vidi_bits.specs.Number.{truth, has}
 use Rattle.trace_model.specs.declared.channel.Channel.{Channel}
 use Rattle.trace_model.specs.declared.channel.Dir.{Dir}
 use Rattle.trace_model.specs.declared.channel.Dir.TheVariants.{Inward, Outward}
 use Rattle.trace_model.specs.declared.row.Offers.{Offers}
 use Rattle.trace_model.specs.declared.row.Row.{Row}
-use Rattle.trace_model.specs.Counting.{has}
 use Rattle.trace_model.specs.Row.{content_at, sink_valid, row_before, AreOffers, IsOver, IsMarked}
 use Rattle.net_design.specs.declared.design.Design.{Design}
 use Rattle.net_design.specs.declared.values.Values.{Values}
@@ -24,7 +24,7 @@ use Rattle.run_model.specs.Building.{AreSmall, PortsAreNets, row_of}
 use Rattle.run_model.specs.Laws.{GatesOf}
 use Rattle.run_model.specs.MapOf.{IsMapOf}
 use Rattle.run_model.specs.Offers.{CarriesOn, Carries, no_content}
-use Rattle.run_model.specs.Pins.{flag, pin_number, inward_inputs, plug_inputs, inputs_from, reset_input, tie_input, entered, ArePins}
+use Rattle.run_model.specs.Pins.{pin_number, inward_inputs, plug_inputs, inputs_from, reset_input, tie_input, entered, ArePins}
 use Rattle.run_model.specs.Run.{IsRunRow}
 use Rattle.run_model.specs.Step.{IsAfter, IsStep}
 use Rattle.run_model.proofs.PlayedLaws.{Grown, played-push, fit-outputs}
@@ -75,8 +75,8 @@ plug-asked channels offers gates row c Inward plug g carries =
     (sink_valid row c) (no-valid (has row.valids c) (has row.gates c) (carries.0 ∙ f)))
     (cases_Bool (has offers.valids c))
 plug-asked channels offers gates row c Outward plug g carries =
-    ap (λ r. pin_number plug.ready.place (flag (r && has gates c)) ∷ []) (sym carries)
-    ∙ ap (λ m. pin_number plug.ready.place (flag (has row.readies c && has m c)) ∷ []) (sym g)
+    ap (λ r. pin_number plug.ready.place (truth (r && has gates c)) ∷ []) (sym carries)
+    ∙ ap (λ m. pin_number plug.ready.place (truth (has row.readies c && has m c)) ∷ []) (sym g)
 
 inputs-asked : (channels : List Channel) (offers : Offers) (gates : ℕ) (row : Row) (c : ℕ) (xs : List Channel) (plugs : List Plug)
     → row.gates ≡ gates

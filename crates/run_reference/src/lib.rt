@@ -11,8 +11,6 @@ mod replay;
 mod row;
 mod waiting;
 
-pub use pins::{entered, input_pins};
-pub use play::{reset, run_rows, step};
-pub use replay::{feed, replay_rows};
-pub use row::shown_row;
-pub use waiting::{awaits, held, packet_place, shown, waits};
+pub use play::run_rows;
+pub use replay::replay_rows;
+pub use waiting::{held, waits};

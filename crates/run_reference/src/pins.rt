@@ -3,6 +3,7 @@
 ghost use Rattle.std.specs.Prelude.{◌≡◌, ◌<◌, ◌≤◌, ◌++◌, ◌∷◌, [], ℕ, List, map, take, drop, length, slice_get, slice_index, IfOk, OnOk};
 ghost use Rattle.std.specs.List.{enumerate_from, range_with_len};
 ghost use Rattle.std.specs.Option.{option_to_list};
+ghost use Rattle.vidi_bits.specs.Number.{truth};
 ghost use Rattle.trace_model.specs.Channel.{IsTable};
 ghost use Rattle.trace_model.specs.Packet.{widths_of};
 ghost use Rattle.trace_model.specs.Row.{all_widths, content_at, sink_valid};
@@ -10,7 +11,7 @@ ghost use Rattle.net_design.specs.declared.design.Design.{Design};
 ghost use Rattle.chan_map.specs.declared.pins.Pin.{Pin};
 ghost use Rattle.run_model.specs.Building.{number_for, AreSmall};
 ghost use Rattle.run_model.specs.MapOf.{IsMapOf};
-ghost use Rattle.run_model.specs.Pins.{flag, pin_number, shown_number, plug_inputs, inputs_from, reset_input, tie_input, entered, ArePins};
+ghost use Rattle.run_model.specs.Pins.{pin_number, shown_number, plug_inputs, inputs_from, reset_input, tie_input, entered, ArePins};
 
 use chan_map::{Map, Plug, Reset, Tie};
 use run_model::{PinNumber, PinNumbers};
@@ -52,8 +53,8 @@ pub fn number_in(contents: &[u128], first: usize, len: usize, i: usize) -> u128
     }
 }
 
-fn flag(up: bool) -> u128
-    ensures { result ≡ flag up }
+fn truth(up: bool) -> u128
+    ensures { result ≡ truth up }
 {
     if up { 1 } else { 0 }
 }
@@ -116,7 +117,7 @@ fn push_plug(
             let valid = sink_valid(row, c);
             out.push(PinNumber {
                 place: plug.valid.place,
-                number: flag(valid),
+                number: truth(valid),
             })?;
             let first = first_place(channels, c);
             let len = port_count(channels, c);
@@ -126,7 +127,7 @@ fn push_plug(
             let ready = names(row.readies, c) && names(row.gates, c);
             out.push(PinNumber {
                 place: plug.ready.place,
-                number: flag(ready),
+                number: truth(ready),
             })?;
             Ok(())
         }
@@ -158,7 +159,7 @@ fn push_reset(out: &mut PinNumbers, reset: &Option<Reset>, resets: bool) -> Resu
             let up = if resets { reset.active } else { !reset.active };
             out.push(PinNumber {
                 place: reset.pin.place,
-                number: flag(up),
+                number: truth(up),
             })?;
             Ok(())
         }
@@ -180,7 +181,12 @@ fn push_ties(out: &mut PinNumbers, ties: &[Tie]) -> Result<(), Memory>
 
 /// Each input pin with its number: the clock, the reset, the ties and the channels, by the row that the channels show. In a reset
 /// cycle the reset pin has its active value.
-pub fn entered(alloc: Global, map: &Map, resets: bool, row: &Row) -> Result<PinNumbers, Memory>
+pub(crate) fn entered(
+    alloc: Global,
+    map: &Map,
+    resets: bool,
+    row: &Row,
+) -> Result<PinNumbers, Memory>
     requires table { IsTable map.now.channels }
     requires plugs { length map.now.plugs ≡ length map.now.channels }
     ensures { IfOk result (λ es. es ≡ entered map.now resets row.now) }
@@ -220,7 +226,12 @@ fn by_place(alloc: Global, entries: &[PinNumber]) -> Result<Numbers, Memory>
 }
 
 /// The numbers of the input ports of the top, in port order, in a cycle with this row, or in a reset cycle.
-pub fn input_pins(alloc: Global, map: &Map, resets: bool, row: &Row) -> Result<Numbers, Memory>
+pub(crate) fn input_pins(
+    alloc: Global,
+    map: &Map,
+    resets: bool,
+    row: &Row,
+) -> Result<Numbers, Memory>
     requires table { IsTable map.now.channels }
     requires plugs { length map.now.plugs ≡ length map.now.channels }
     requires small { AreSmall map.now.channels row.now }

@@ -69,7 +69,7 @@ fn cycles<B: Block>(block: &mut B, pins: &[u128], count: u32)
 }
 
 /// Brings a block to the state in which row 0 begins: the initial one, after the map's reset cycles.
-pub fn reset<B: Block>(alloc: Global, block: &mut B, map: &Map) -> Result<(), Memory>
+pub(crate) fn reset<B: Block>(alloc: Global, block: &mut B, map: &Map) -> Result<(), Memory>
     requires { IsMapOf (B.design block.old) map.now }
     ensures state { OnOk result (IsFirst (B.design block.old) map.now (B.state block.new)) }
     ensures design { B.design block.new ≡ B.design block.old }
@@ -87,7 +87,7 @@ pub fn reset<B: Block>(alloc: Global, block: &mut B, map: &Map) -> Result<(), Me
 
 /// One cycle after these rows: settles the block with these offers and gates, answers the row that it shows, and makes its state the
 /// next one.
-pub fn step<B: Block>(
+pub(crate) fn step<B: Block>(
     alloc: Global,
     block: &mut B,
     map: &Map,

@@ -1,24 +1,24 @@
 //! Replays of a block, cycle by cycle.
 
-ghost use Rattle.std.specs.Prelude.{◌≡◌, ◌<◌, ◌≤◌, ◌^◌, ◌++◌, if◌then◌else◌, List, All, take, length, slice_get, IfOk, OnOk};
+ghost use Rattle.std.specs.Prelude.{◌≡◌, ◌<◌, ◌≤◌, ◌^◌, ◌++◌, if◌then◌else◌, All, take, length, slice_get, IfOk, OnOk};
+ghost use Rattle.vidi_bits.specs.Number.{has};
 ghost use Rattle.trace_model.specs.Channel.{IsTable};
-ghost use Rattle.trace_model.specs.Counting.{has};
 ghost use Rattle.trace_model.specs.Packet.{IsPacket, widths_of, widths_under};
 ghost use Rattle.trace_model.specs.declared.event.Kind.TheVariants.{Start};
 ghost use Rattle.run_model.specs.Building.{PortsAreNets, mask_of, joined};
 ghost use Rattle.run_model.specs.MapOf.{IsMapOf};
 ghost use Rattle.run_model.specs.Played.{all_up};
-ghost use Rattle.run_model.specs.Replay.{IsReplay, done};
+ghost use Rattle.run_model.specs.Replay.{IsReplay};
 ghost use Rattle.run_reference.specs.Feed.{covered_place, is_offered, content_in, feed};
 
 use crate::pins::{first_place, port_count};
 use crate::play::{reset, step};
-use crate::row::{part, push_all, push_zeros, with_bit};
+use crate::row::{part, push_all};
 use crate::waiting::{awaits, packet_place, shown};
 use chan_map::Map;
 use net_design::Block;
 use std::alloc::Global;
-use trace_model::{Channel, Event, Kind, Offers, Packet, Row, Rows, names};
+use trace_model::{Channel, Event, Kind, Offers, Packet, Row, Rows, names, push_zeros, with_bit};
 use vidi_bits::{Memory, Numbers};
 
 /// The place of the packet in which the next start, or completion, of channel `c` is recorded, where the completions in the rows cover
@@ -159,7 +159,7 @@ fn contents(
 }
 
 /// What a replay of these packets offers after these rows.
-pub fn feed(
+pub(crate) fn feed(
     alloc: Global,
     channels: &[Channel],
     packets: &[Packet],

@@ -1,10 +1,10 @@
 //! The row that a block shows.
 
-ghost use Rattle.std.specs.Prelude.{◌≡◌, ◌+◌, ◌*◌, ◌<◌, ◌≤◌, ◌^◌, ◌&&◌, ◌++◌, ◌∷◌, [], ℕ, if◌then◌else◌, List, map, take, drop, length};
-ghost use Rattle.std.specs.Prelude.{replicate, slice_get, slice_index, IfOk, OnOk};
+ghost use Rattle.std.specs.Prelude.{◌≡◌, ◌<◌, ◌+◌, ◌*◌, ◌≤◌, ◌&&◌, ◌++◌, map, take, drop, length};
+ghost use Rattle.std.specs.Prelude.{slice_index, IfOk, OnOk};
 ghost use Rattle.std.specs.List.{AllZip};
 ghost use Rattle.trace_model.specs.Channel.{IsTable};
-ghost use Rattle.trace_model.specs.Row.{content_at, is_in_flight, flies_after, row_before};
+ghost use Rattle.trace_model.specs.Row.{is_in_flight, row_before};
 ghost use Rattle.net_design.specs.Pins.{outputs};
 ghost use Rattle.chan_map.specs.declared.pins.Pin.{Pin};
 ghost use Rattle.chan_map.specs.Bound.{IsPin, IsPlug};
@@ -13,23 +13,14 @@ ghost use Rattle.run_model.specs.Building.{mask_of, valid_on, ready_on, valid_at
 ghost use Rattle.run_model.specs.Building.{content_here, joined, starts_of, ends_of, row_of};
 ghost use Rattle.run_model.specs.Held.{flies};
 ghost use Rattle.run_model.specs.MapOf.{IsMapOf};
-ghost use Rattle.run_model.specs.Offers.{no_content, offered_content};
+ghost use Rattle.run_model.specs.Offers.{offered_content};
 
 use crate::pins::{first_place, port_count, sink_valid};
 use chan_map::{Map, Pin, Plug};
 use net_design::Block;
 use std::alloc::Global;
-use trace_model::{Channel, Dir, Offers, Row, names};
+use trace_model::{Channel, Dir, Offers, Row, names, push_zeros, with_bit};
 use vidi_bits::{Memory, Numbers};
-
-/// A mask with bit `c` beside those below it.
-pub fn with_bit(mask: u128, c: usize, up: bool) -> u128
-    requires channel { c < 128 }
-    requires below { mask < 2 ^ c }
-    ensures { result ≡ (if up then 1 else 0) * 2 ^ c + mask }
-{
-    if up { mask + (1 << c) } else { mask }
-}
 
 fn all_three(a: bool, b: bool, c: bool) -> bool
     ensures { result ≡ ((a && b) && c) }
@@ -171,16 +162,6 @@ pub fn push_all(out: &mut Numbers, numbers: &[u128]) -> Result<(), Memory>
     Ok(())
 }
 
-/// Adds so many zeros.
-pub fn push_zeros(out: &mut Numbers, count: usize) -> Result<(), Memory>
-    ensures { OnOk result (out.new ≡ out.old ++ replicate count 0) }
-{
-    for _i in 0..count {
-        out.push(0)?;
-    }
-    Ok(())
-}
-
 /// Adds the content that is offered on channel `c`, 0 for each port while its valid is down.
 fn push_offered(
     out: &mut Numbers,
@@ -266,7 +247,7 @@ fn contents<B: Block>(
 }
 
 /// The row after these rows, of these offers, these gates and what the block shows.
-pub fn shown_row<B: Block>(
+pub(crate) fn shown_row<B: Block>(
     alloc: Global,
     block: &B,
     map: &Map,

@@ -44,7 +44,7 @@ fn one_if(holds: bool) -> u32
 }
 
 /// How many of the rows have an event of this kind on channel `c`.
-pub fn shown(rows: &[Row], kind: Kind, c: usize) -> u32
+pub(crate) fn shown(rows: &[Row], kind: Kind, c: usize) -> u32
     requires { length rows.now < 2 ^ 32 }
     ensures { result ≡ shown kind c rows.now }
 {
@@ -69,7 +69,7 @@ fn clock(packets: &[Packet], place: usize, c: usize) -> u32
 }
 
 /// The place of the packet in which an event is recorded.
-pub fn packet_place(packets: &[Packet], event: Event) -> Option<usize>
+pub(crate) fn packet_place(packets: &[Packet], event: Event) -> Option<usize>
     ensures { result ≡ packet_place packets.now event }
 {
     let mut left = event.index;
@@ -99,7 +99,7 @@ fn push_await(out: &mut Awaits, c: usize, have: u32, need: u32) -> Result<(), Me
 }
 
 /// What an event in the packet at this place awaits: each channel with fewer completions in the rows than its clock asks for.
-pub fn awaits(
+pub(crate) fn awaits(
     alloc: Global,
     channels: &[Channel],
     packets: &[Packet],

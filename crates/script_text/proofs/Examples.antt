@@ -1,7 +1,7 @@
 -- The definitions on worked plans and texts, found by hand.
 use Rattle.std.specs.Prelude.{◌≡◌, ℕ, List, [], ◌∷◌, ◌++◌, map, codes, Option, Some, None, refl}
 use Rattle.trace_model.specs.declared.channel.Channel.{Channel}
-use Rattle.trace_model.specs.declared.channel.Dir.TheVariants.{Inward, Outward}
+use Rattle.trace_model.proofs.Examples.{pass}
 use Rattle.vidi_lines.specs.Lines.{file_lines, is_bad, words_between}
 use Rattle.script_text.specs.declared.error.ScriptError.{ScriptError}
 use Rattle.script_text.specs.declared.error.ScriptError.TheVariants as E
@@ -23,12 +23,8 @@ begins_anew = refl
 everything : allowance_at [] 5 ≡ None
 everything = refl
 
--- an inward channel a of 8 bits and an outward one b
-abbrev channels : List Channel
-channels = record { dir = Inward; name = codes "a"; widths = 8 ∷ [] } ∷ record { dir = Outward; name = codes "b"; widths = 8 ∷ [] } ∷ []
-
 abbrev fault : List ℕ → Option ScriptError
-fault bytes = first (script_faults channels (read_lines bytes))
+fault bytes = first (script_faults pass (read_lines bytes))
 
 lawful : fault (codes "cycles 4" ++ 10 ∷ codes "a send 255" ++ 10 ∷ codes "b take all") ≡ None
 unfolding file_lines is_bad words_between keyword_of

@@ -8,11 +8,15 @@ use Rattle.std.specs.List.{list_all}
 use Rattle.std.specs.Option.{option_to_list}
 use Rattle.std.proofs.lemmas.List.{drop_more}
 use Rattle.std.proofs.lemmas.Option.{slice_get_within}
+use Rattle.std.proofs.lemmas.Bool.{and_from, and_right}
+use Rattle.trace_model.specs.Channel.{between}
+use Rattle.vidi_bits.proofs.Bools.{left_of, right_of}
 use Rattle.trace_model.specs.declared.channel.Channel.{Channel}
 use Rattle.trace_model.specs.declared.channel.Dir.{Dir}
 use Rattle.trace_model.specs.declared.channel.Dir.TheVariants.{Inward, Outward}
 use Rattle.trace_model.specs.Packet.{Fit}
 use Rattle.vidi_bits.specs.Findings.{first, told_if}
+use Rattle.script_text.specs.declared.script.TheConstants.{MOST_CYCLES}
 use Rattle.script_text.specs.declared.error.ScriptError.{ScriptError}
 use Rattle.script_text.specs.declared.error.ScriptError.TheVariants as E
 use Rattle.script_text.specs.declared.gathered.Gathered.{Gathered}
@@ -22,7 +26,7 @@ use Rattle.script_text.specs.declared.said.StepLine.{StepLine}
 use Rattle.script_text.specs.declared.script.Step.{Step}
 use Rattle.script_text.specs.declared.script.Step.TheVariants as S
 use Rattle.script_text.specs.declared.script.Script.{Script}
-use Rattle.script_text.specs.Reasons.{between, channel_at, is_inward, suits, suits_channel, names_channels, is_small, fits_ports}
+use Rattle.script_text.specs.Reasons.{channel_at, is_inward, suits, suits_channel, names_channels, is_small, fits_ports}
 use Rattle.script_text.specs.Reasons.{fits_content}
 use Rattle.script_text.specs.Reasons.{fits_channel, fits_numbers, channel_faults, number_faults, later_faults}
 use Rattle.script_text.specs.Reads.{is_lawful, IsGathered, Finishes, IsFirstLine}
@@ -31,19 +35,11 @@ use Rattle.script_text.specs.Steps.{made, is_of, steps_for}
 
 -- ---- the tests as facts
 
-both_left : (a b : Bool) → a && b ≡ true → a ≡ true
-both_left true b e = refl
-both_left false b e = e
-
-both_right : (a b : Bool) → a && b ≡ true → b ≡ true
-both_right true b e = e
-both_right false b e = let off : false ≡ true = e in absurd (cc)
-
 some_between : (low high n : ℕ) → between low high n ≡ true → low ≤ n
-some_between low high n e = leb-true low n (both_left _ _ e)
+some_between low high n e = leb-true low n (left_of _ _ e)
 
 few_between : (low high n : ℕ) → between low high n ≡ true → n ≤ high
-few_between low high n e = leb-true n high (both_right _ _ e)
+few_between low high n e = leb-true n high (right_of _ _ e)
 
 inward_is : (d : Dir) → is_inward d ≡ true → d ≡ Inward
 inward_is Inward e = refl
@@ -57,7 +53,7 @@ ports_fit : (widths content : List ℕ) → fits_ports widths content ≡ true �
 ports_fit [] [] e = tt
 ports_fit [] (x ∷ xs) e = let off : false ≡ true = e in absurd (cc)
 ports_fit (w ∷ ws) [] e = let off : false ≡ true = e in absurd (cc)
-ports_fit (w ∷ ws) (x ∷ xs) e = (ltb-true x (2 ^ w) (both_left _ _ e), ports_fit ws xs (both_right _ _ e))
+ports_fit (w ∷ ws) (x ∷ xs) e = (ltb-true x (2 ^ w) (left_of _ _ e), ports_fit ws xs (right_of _ _ e))
 
 some_at : (channels : List Channel) (x : ℕ) (at : Option Channel) → slice_get channels x ≡ at → is_some at ≡ true → x < length channels
 some_at channels x None is e = let off : false ≡ true = e in absurd (cc)
@@ -80,7 +76,7 @@ step_fits channels channel TakeAll step names small fits is =
     let same : S.TakeAll ≡ step = cc in subst (StepFits channels channel) same (outward_is channel.dir names)
 step_fits channels channel (Wait cycles) step names small fits is =
     let same : S.Wait cycles ≡ step = cc in
-    subst (StepFits channels channel) same (some_between 1 50000 cycles small, few_between 1 50000 cycles small)
+    subst (StepFits channels channel) same (some_between 1 MOST_CYCLES cycles small, few_between 1 MOST_CYCLES cycles small)
 step_fits channels channel (After None count) step names small fits is = let off : None ≡ Some step = is in absurd (cc)
 step_fits channels channel (After (Some x) count) step names small fits is =
     let same : S.After x count ≡ step = cc in
@@ -92,10 +88,10 @@ line_fits : (channels : List Channel) (channel : Channel) (at : Option Channel) 
 line_fits channels channel None said step at lawful is = let off : None ≡ Some channel = at in absurd (cc)
 line_fits channels channel (Some x) said step at lawful is =
     let same : x ≡ channel = cc in
-    let numbers = both_right (suits channels x.dir said) (is_small said && fits_content x.widths said) lawful in
+    let numbers = right_of (suits channels x.dir said) (is_small said && fits_content x.widths said) lawful in
     subst (λ (y : Channel). StepFits channels y step) same
-    (step_fits channels x said step (both_left (suits channels x.dir said) _ lawful) (both_left (is_small said) _ numbers)
-    (both_right (is_small said) _ numbers) is)
+    (step_fits channels x said step (left_of (suits channels x.dir said) _ lawful) (left_of (is_small said) _ numbers)
+    (right_of (is_small said) _ numbers) is)
 
 abbrev pub AllFit : List Channel → Channel → List Step → Type 0
 AllFit channels channel steps = (j : ℕ) (step : Step) → slice_get steps j ≡ Some step → StepFits channels channel step
@@ -131,8 +127,8 @@ steps_fit : (channels : List Channel) (channel : Channel) (c : ℕ) (lines : Lis
 steps_fit channels channel c [] at lawful = none_fit channels channel
 steps_fit channels channel c (l ∷ lines) at lawful =
     of_more channels channel c l.channel l.said (steps_for c lines) (is_of c l.channel) refl at
-    (both_left (is_lawful channels l) _ lawful)
-    (steps_fit channels channel c lines at (both_right (is_lawful channels l) _ lawful))
+    (left_of (is_lawful channels l) _ lawful)
+    (steps_fit channels channel c lines at (right_of (is_lawful channels l) _ lawful))
 
 -- ---- without a fault each line is lawful
 
@@ -140,17 +136,13 @@ told_none : (b : Bool) (n : ℕ) (rest : List ℕ) → told_if (not b) n ++ rest
 told_none true n rest e = (refl, e)
 told_none false n rest e = let off : n ∷ rest ≡ [] = e in absurd (cc)
 
-both : (a b : Bool) → a ≡ true → b ≡ true → a && b ≡ true
-both true b p q = q
-both false b p q = p
-
 all_lawful : (channels : List Channel) (lines : List StepLine) → channel_faults channels lines ≡ [] → number_faults channels lines ≡ []
     → list_all (is_lawful channels) lines ≡ true
 all_lawful channels [] names numbers = refl
 all_lawful channels (l ∷ lines) names numbers =
     let n = told_none (names_channels channels l) l.line (channel_faults channels lines) names in
     let f = told_none (fits_numbers channels l) l.line (number_faults channels lines) numbers in
-    both (is_lawful channels l) _ (both (names_channels channels l) _ n.0 f.0) (all_lawful channels lines n.1 f.1)
+    and_from (is_lawful channels l) _ (and_from (names_channels channels l) _ n.0 f.0) (all_lawful channels lines n.1 f.1)
 
 -- ---- the answer at the end
 
@@ -169,7 +161,7 @@ abbrev number_error : ℕ → ScriptError
 number_error m = E.Number m
 
 abbrev numbers_at_fault : List Channel → ℕ → ℕ → List StepLine → List ℕ
-numbers_at_fault channels n cycles lines = told_if (not (between 1 50000 cycles)) n ++ number_faults channels lines
+numbers_at_fault channels n cycles lines = told_if (not (between 1 MOST_CYCLES cycles)) n ++ number_faults channels lines
 
 -- behind channels without a fault the first fault is that of the numbers
 behind : (channels : List Channel) (n cycles : ℕ) (lines : List StepLine) → channel_faults channels lines ≡ []
@@ -189,20 +181,20 @@ number_first channels n cycles lines line none e =
 
 pub cycles_refused : (channels : List Channel) (n cycles : ℕ) (lines : List StepLine)
     → None ≡ first (channel_faults channels lines)
-    → between 1 50000 cycles ≡ false → Finishes channels n cycles lines (Err (E.Number n))
+    → between 1 MOST_CYCLES cycles ≡ false → Finishes channels n cycles lines (Err (E.Number n))
 cycles_refused channels n cycles lines none e =
     number_first channels n cycles lines n none (ap (λ b. first (told_if (not b) n ++ number_faults channels lines)) (sym e))
 
 pub number_refused : (channels : List Channel) (n cycles : ℕ) (lines : List StepLine) (line : ℕ)
     → None ≡ first (channel_faults channels lines)
-    → between 1 50000 cycles ≡ true → Some line ≡ first (number_faults channels lines)
+    → between 1 MOST_CYCLES cycles ≡ true → Some line ≡ first (number_faults channels lines)
     → Finishes channels n cycles lines (Err (E.Number line))
 number_refused channels n cycles lines line none fine e =
     number_first channels n cycles lines line none (e ∙ ap (λ b. first (told_if (not b) n ++ number_faults channels lines)) (sym fine))
 
 pub script_made : (channels : List Channel) (n cycles : ℕ) (lines : List StepLine) (g : Gathered) (script : Script)
     → IsGathered channels lines g
-    → g.channel ≡ None → g.number ≡ None → between 1 50000 cycles ≡ true → script.cycles ≡ cycles → script.steps ≡ g.steps
+    → g.channel ≡ None → g.number ≡ None → between 1 MOST_CYCLES cycles ≡ true → script.cycles ≡ cycles → script.steps ≡ g.steps
     → Finishes channels n cycles lines (Ok script)
 script_made channels n cycles lines g script is no_channel no_number fine cycles_are steps_are =
     let named : channel_faults channels lines ≡ [] = none_told _ (sym no_channel ∙ is.channel) in
@@ -216,8 +208,8 @@ script_made channels n cycles lines g script is no_channel no_number fine cycles
       record { cycles_are = cycles_are; lists = lists; steps = steps },
       record {
         lists = lists;
-        some = omega (arith, some_between 1 50000 cycles fine, cycles_are);
-        few = omega (arith, few_between 1 50000 cycles fine, cycles_are);
+        some = omega (arith, some_between 1 MOST_CYCLES cycles fine, cycles_are);
+        few = omega (arith, few_between 1 MOST_CYCLES cycles fine, cycles_are);
         fits = λ c channel at. subst (AllFit channels channel) (sym (steps c (slice_get_within channels c channel at)))
             (steps_fit channels channel c lines at lawful);
       },
@@ -233,16 +225,12 @@ ports_more widths content i same within =
     ap (λ ws. fits_ports ws (drop i content)) (drop_more widths i 0 w)
     ∙ ap (λ xs. fits_ports (get_or widths i 0 ∷ drop (i + 1) widths) xs) (drop_more content i 0 within)
 
-neither : (a b : Bool) → b ≡ false → (a && b) ≡ false
-neither true b e = e
-neither false b e = refl
-
 pub ports_differ : (widths content : List ℕ) → length widths ≢ length content → fits_ports widths content ≡ false
 ports_differ [] [] differ = absurd (differ refl)
 ports_differ [] (x ∷ xs) differ = refl
 ports_differ (w ∷ ws) [] differ = refl
 ports_differ (w ∷ ws) (x ∷ xs) differ =
-    neither (ltb x (2 ^ w)) (fits_ports ws xs) (ports_differ ws xs (λ same. differ (omega (arith, same))))
+    and_right (ltb x (2 ^ w)) (fits_ports ws xs) (ports_differ ws xs (λ same. differ (omega (arith, same))))
 
 -- ---- a line that is refused
 

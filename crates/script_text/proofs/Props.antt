@@ -1,17 +1,11 @@
 -- That a step fits a channel has one proof at most.
-use Rattle.std.proofs.Common.{ℕ, List, [], ◌∷◌}
+use Rattle.std.proofs.Common.{List, []}
 use Rattle.std.proofs.Props.{props}
+use Rattle.trace_model.proofs.ContentsLemmas.{fit_prop}
 use Rattle.trace_model.specs.declared.channel.Channel.{Channel}
-use Rattle.trace_model.specs.Packet.{Fit}
 use Rattle.script_text.specs.declared.script.Step.{Step}
 use Rattle.script_text.specs.declared.script.Step.TheVariants.{Send, Take, TakeAll, Wait, After}
 use Rattle.script_text.specs.Fits.{StepFits}
-
-fit_prop : (widths numbers : List ℕ) → IsProp (Fit widths numbers)
-fit_prop [] [] = hlevel props
-fit_prop [] (x ∷ xs) = hlevel props
-fit_prop (w ∷ ws) [] = hlevel props
-fit_prop (w ∷ ws) (x ∷ xs) = let rest = fit_prop ws xs in hlevel (props, rest)
 
 pub step_prop : (channels : List Channel) (channel : Channel) (step : Step) → IsProp (StepFits channels channel step)
 step_prop channels channel (Send content) = let fit = fit_prop channel.widths content in hlevel (props, fit)

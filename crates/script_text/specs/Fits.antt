@@ -3,6 +3,7 @@ use Rattle.std.specs.Prelude.{◌≡◌, ℕ, ◌≤◌, ◌<◌, List, [], Some
 use Rattle.trace_model.specs.declared.channel.Channel.{Channel}
 use Rattle.trace_model.specs.declared.channel.Dir.TheVariants.{Inward, Outward}
 use Rattle.trace_model.specs.Packet.{Fit}
+use Rattle.script_text.specs.declared.script.TheConstants.{MOST_CYCLES}
 use Rattle.script_text.specs.declared.script.Step.{Step}
 use Rattle.script_text.specs.declared.script.Step.TheVariants.{Send, Take, TakeAll, Wait, After}
 use Rattle.script_text.specs.declared.script.Script.{Script}
@@ -16,13 +17,13 @@ abbrev pub StepFits : List Channel → Channel → Step → Type 0
 StepFits channels channel (Send content) = (channel.dir ≡ Inward) × Fit channel.widths content
 StepFits channels channel (Take count) = (channel.dir ≡ Outward) × (1 ≤ count)
 StepFits channels channel TakeAll = channel.dir ≡ Outward
-StepFits channels channel (Wait cycles) = (1 ≤ cycles) × (cycles ≤ 50000)
+StepFits channels channel (Wait cycles) = (1 ≤ cycles) × (cycles ≤ MOST_CYCLES)
 StepFits channels channel (After other count) = (other < length channels) × (1 ≤ count)
 
 -- there is a list of steps for each channel, and each step of it fits; the cycles are 1 to 50,000
 pub record FitsChannels (channels : List Channel) (script : Script) : Type 0 where
   pub lists : length script.steps ≡ length channels
   pub some : 1 ≤ script.cycles
-  pub few : script.cycles ≤ 50000
+  pub few : script.cycles ≤ MOST_CYCLES
   pub fits : (c : ℕ) (channel : Channel) → slice_get channels c ≡ Some channel
       → (j : ℕ) (step : Step) → slice_get (steps_of script c) j ≡ Some step → StepFits channels channel step

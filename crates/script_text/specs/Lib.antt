@@ -6,3 +6,9 @@ pub mod Fits
 pub mod Reads
 pub mod Plan
 pub mod Stalls
+pub mod Told
+pub mod Offer
+pub mod ScriptOffer
+pub mod Places
+pub mod Laws
+pub mod OneReading

@@ -3,7 +3,7 @@ use Rattle.std.specs.Prelude.{◌≡◌, ℕ, ◌+◌, ◌<◌, ◌++◌, ◌&&�
 use Rattle.std.specs.Prelude.{Some, None, Result, Ok, Err}
 use Rattle.std.specs.List.{prefix_len, list_all}
 use Rattle.trace_model.specs.declared.channel.Channel.{Channel}
-use Rattle.vidi_bits.specs.Findings.{first}
+use Rattle.vidi_bits.specs.Findings.{first, IsFirst}
 use Rattle.vidi_lines.specs.declared.lines.Line.{Line}
 use Rattle.script_text.specs.declared.error.ScriptError.{ScriptError}
 use Rattle.script_text.specs.declared.error.ScriptError.TheVariants as E
@@ -15,6 +15,7 @@ use Rattle.script_text.specs.Reasons.{said, line_faults, step_faults, all_said, 
 use Rattle.script_text.specs.Reasons.{later_faults, script_faults}
 use Rattle.script_text.specs.Fits.{steps_of, FitsChannels}
 use Rattle.script_text.specs.Steps.{steps_for}
+use Rattle.script_text.specs.Told.{script_told}
 
 -- a script of these cycles, with the steps that lines say for each channel
 pub record IsScript (channels : List Channel) (cycles : ℕ) (lines : List StepLine) (script : Script) : Type 0 where
@@ -34,17 +35,10 @@ SaysFrom channels n (head ∷ others) script = SaysBehind channels n (number_in 
 abbrev pub Says : List Channel → List (Option Line) → Script → Type 0
 Says channels lines script = SaysFrom channels (prefix_len is_blank lines + 1) (drop (prefix_len is_blank lines) lines) script
 
--- the first of the findings; want of memory is free
-abbrev pub IsFirst : List ScriptError → ScriptError → Type 0
-IsFirst faults E.Memory = Unit {0}
-IsFirst faults (E.Line line) = first faults ≡ Some (E.Line line)
-IsFirst faults (E.Channel line) = first faults ≡ Some (E.Channel line)
-IsFirst faults (E.Number line) = first faults ≡ Some (E.Number line)
-
 -- a script exactly where nothing is found, and then the one that the lines say; else the first finding
 abbrev pub ReadsScript : List Channel → List (Option Line) → Result Script ScriptError → Type 0
 ReadsScript channels lines (Ok script) = (script_faults channels lines ≡ []) × Says channels lines script × FitsChannels channels script
-ReadsScript channels lines (Err error) = IsFirst (script_faults channels lines) error
+ReadsScript channels lines (Err error) = IsFirst script_told (script_faults channels lines) error
 
 -- ---- what is gathered on the way
 

@@ -1,14 +1,16 @@
 -- S1, S2 and S3: why a script is refused (this project's profile). Channels are those of the map.
-use Rattle.std.specs.Prelude.{ℕ, ◌+◌, ◌^◌, ◌||◌, ◌&&◌, not, Bool, true, false, nat_lt, nat_le, is_some, List, [], ◌∷◌}
+use Rattle.std.specs.Prelude.{ℕ, ◌+◌, ◌^◌, ◌||◌, ◌&&◌, not, Bool, true, false, nat_lt, is_some, List, [], ◌∷◌}
 use Rattle.std.specs.Prelude.{◌++◌, map, drop, slice_get, codes, Option, Some, None}
 use Rattle.std.specs.List.{flat_map, prefix_len}
 use Rattle.std.specs.Option.{option_to_list}
+use Rattle.trace_model.specs.Channel.{between}
 use Rattle.trace_model.specs.declared.channel.Channel.{Channel}
 use Rattle.trace_model.specs.declared.channel.Dir.{Dir}
 use Rattle.trace_model.specs.declared.channel.Dir.TheVariants.{Inward, Outward}
 use Rattle.vidi_bits.specs.Findings.{is_nil, told_if}
 use Rattle.vidi_lines.specs.declared.lines.Line.{Line}
 use Rattle.vidi_lines.specs.Lines.{file_lines, line_unless_bad}
+use Rattle.script_text.specs.declared.script.TheConstants.{MOST_CYCLES}
 use Rattle.script_text.specs.declared.error.ScriptError.{ScriptError}
 use Rattle.script_text.specs.declared.error.ScriptError.TheVariants as E
 use Rattle.script_text.specs.declared.said.Said.{Said}
@@ -69,14 +71,11 @@ channel_faults channels lines = flat_map (λ (l : StepLine). told_if (not (names
 -- ---- S3: `wait` not 1 to 50,000, `take` and `after` not 1 to 4,294,967,295, a `send` whose numbers aren't as many as the content ports or
 -- don't fit them
 
-abbrev pub between : ℕ → ℕ → ℕ → Bool
-between low high n = nat_le low n && nat_le n high
-
 abbrev pub is_small : Said → Bool
 is_small (Send content) = true
 is_small (Take count) = between 1 4294967295 count
 is_small TakeAll = true
-is_small (Wait cycles) = between 1 50000 cycles
+is_small (Wait cycles) = between 1 MOST_CYCLES cycles
 is_small (After other count) = between 1 4294967295 count
 
 abbrev pub fits_ports : List ℕ → List ℕ → Bool
@@ -107,7 +106,7 @@ number_faults channels lines = flat_map (λ (l : StepLine). told_if (not (fits_n
 -- S2 and then S3, where the line with number n says `cycles N` and the lines behind it say this; N is 1 to 50,000
 abbrev pub later_faults : List Channel → ℕ → ℕ → List StepLine → List ScriptError
 later_faults channels n cycles lines = map (λ (m : ℕ). E.Channel m) (channel_faults channels lines)
-    ++ map (λ (m : ℕ). E.Number m) (told_if (not (between 1 50000 cycles)) n ++ number_faults channels lines)
+    ++ map (λ (m : ℕ). E.Number m) (told_if (not (between 1 MOST_CYCLES cycles)) n ++ number_faults channels lines)
 
 -- the first line with words, which has number n, says `cycles N` or isn't one of that form
 abbrev pub faults_behind : List Channel → ℕ → Option ℕ → List (Option Line) → List ScriptError

@@ -4,15 +4,16 @@ use Rattle.std.specs.Prelude.{Option, Some, None, Result, Ok, Err}
 use Rattle.std.specs.List.{prefix_len}
 use Rattle.std.specs.Str.{bytes_eq}
 use Rattle.std.specs.Option.{option_to_list}
+use Rattle.trace_model.specs.Channel.{between}
 use Rattle.vidi_bits.specs.Findings.{first, told_if}
 use Rattle.vidi_lines.specs.declared.lines.Line.{Line}
 use Rattle.vidi_lines.specs.Number.{number_of}
+use Rattle.script_text.specs.declared.script.TheConstants.{MOST_CYCLES}
 use Rattle.script_text.specs.declared.error.StallError.{StallError}
 use Rattle.script_text.specs.declared.error.StallError.TheVariants as E
 use Rattle.script_text.specs.declared.stalls.Drain.{Drain}
 use Rattle.script_text.specs.declared.stalls.Stalls.{Stalls}
 use Rattle.script_text.specs.Used.{is_blank, number_in}
-use Rattle.script_text.specs.Reasons.{between}
 
 -- the number where the test holds
 abbrev pub kept_if : (ℕ → Bool) → Option ℕ → Option ℕ
@@ -33,7 +34,7 @@ amount_of word = if bytes_eq word (codes "all") then Some None else amount_under
 
 -- a number of cycles, 1 to 50,000
 abbrev pub cycles_of : List ℕ → Option ℕ
-cycles_of word = kept_if (between 1 50000) (number_of word)
+cycles_of word = kept_if (between 1 MOST_CYCLES) (number_of word)
 
 abbrev pub drain_with : Option (Option ℕ) → Option ℕ → Option Drain
 drain_with (Some allowance) (Some cycles) = Some (record { allowance = allowance; cycles = cycles })

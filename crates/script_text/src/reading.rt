@@ -9,7 +9,7 @@ ghost use Rattle.script_text.specs.Reads.{Gathers, IsGathered, Finishes, ReadsSc
 use crate::error::ScriptError;
 use crate::gathered::Gathered;
 use crate::lawful::between;
-use crate::script::Script;
+use crate::script::{MOST_CYCLES, Script};
 use crate::used::{blank_lines, number_in};
 use chan_map::Map;
 use std::alloc::Global;
@@ -48,7 +48,7 @@ fn finished(line: u32, cycles: u128, gathered: Gathered) -> Result<Script, Scrip
     if let Some(line) = channel {
         return Err(ScriptError::Channel { line });
     }
-    if !between(1, 50_000, cycles) {
+    if !between(1, MOST_CYCLES, cycles) {
         return Err(ScriptError::Number { line });
     }
     if let Some(line) = number {

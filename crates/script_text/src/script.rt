@@ -4,6 +4,9 @@ ghost use Rattle.std.specs.Prelude.{◌≡◌};
 
 use vidi_bits::{Items, Numbers};
 
+/// The most cycles that a script or a stall plan says (this project's profile): of a run, of a wait and of a drain.
+pub const MOST_CYCLES: u128 = 50_000;
+
 /// A step of a channel's environment.
 #[derive(Drop)]
 pub enum Step {

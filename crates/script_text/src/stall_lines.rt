@@ -6,6 +6,7 @@ ghost use Rattle.script_text.specs.Stalls.{capacity_in, amount_of, cycles_of, dr
 
 use crate::error::StallError;
 use crate::lawful::between;
+use crate::script::MOST_CYCLES;
 use crate::stalls::{Drain, Drains};
 use crate::used::{is_blank, is_word, number_in};
 use std::alloc::Global;
@@ -45,7 +46,7 @@ fn cycles_of(word: &[u8]) -> Option<u32>
     ensures some { IfSome result (λ n. 1 ≤ n) }
 {
     let n = number(word)?;
-    if between(1, 50_000, n) {
+    if between(1, MOST_CYCLES, n) {
         Some(n as u32)
     } else {
         None

@@ -6,11 +6,8 @@ use Rattle.trace_model.specs.declared.channel.Channel.{Channel}
 use Rattle.trace_model.specs.declared.channel.Dir.TheVariants.{Inward, Outward}
 use Rattle.trace_model.specs.declared.packet.Packet.{Packet}
 use Rattle.trace_model.specs.declared.trace.Trace.{Trace}
+use Rattle.trace_model.proofs.Examples.{pass}
 use Rattle.trace_code.specs.Encoding.{encode, packet_bytes}
-
--- a buffer of one place: a byte goes in at a and comes out at b
-pass : List Channel
-pass = record { dir = Inward; name = codes "a"; widths = 8 ∷ [] } ∷ record { dir = Outward; name = codes "b"; widths = 8 ∷ [] } ∷ []
 
 packet : ℕ → ℕ → List ℕ → Packet
 packet starts ends contents = record { starts = starts; ends = ends; contents = contents }
@@ -25,19 +22,19 @@ header = 0x56 ∷ 0x49 ∷ 0x44 ∷ 0x49 ∷ 0x54 ∷ 0x52 ∷ 0x43 ∷ 0x31 ∷
 
 -- nothing was sent
 no_send : encode (trace []) ≡ header ++ 0 ∷ 0 ∷ 0 ∷ 0 ∷ 0 ∷ []
-unfolding trace header pass
+unfolding trace header
 no_send = refl
 
 -- 5 goes through
 one_send : encode (trace (packet 1 1 (5 ∷ []) ∷ packet 2 2 (5 ∷ []) ∷ []))
     ≡ header ++ 1 ∷ 1 ∷ 1 ∷ 5 ∷ 1 ∷ 2 ∷ 2 ∷ 5 ∷ 0 ∷ 0 ∷ 0 ∷ 0 ∷ 2 ∷ []
-unfolding trace header pass packet
+unfolding trace header packet
 one_send = refl
 
 -- 5 and then 6 go through
 two_sends : encode (trace (packet 1 1 (5 ∷ []) ∷ packet 3 2 (6 ∷ 5 ∷ []) ∷ packet 0 1 [] ∷ packet 2 2 (6 ∷ []) ∷ []))
     ≡ header ++ 1 ∷ 1 ∷ 1 ∷ 5 ∷ 1 ∷ 3 ∷ 2 ∷ 6 ∷ 5 ∷ 1 ∷ 0 ∷ 1 ∷ 1 ∷ 2 ∷ 2 ∷ 6 ∷ 0 ∷ 0 ∷ 0 ∷ 0 ∷ 4 ∷ []
-unfolding trace header pass packet
+unfolding trace header packet
 two_sends = refl
 
 -- registers behind AXI4-Lite channels

@@ -9,9 +9,9 @@ use Rattle.std.proofs.lemmas.List.{append-nil, length-append, length-take-le, ta
 use Rattle.std.proofs.lemmas.List.Concat.{flat_map-append}
 use Rattle.std.proofs.lemmas.List.Sums.{sum_by-cons, sum_by-append}
 use Rattle.std.proofs.lemmas.Nat.Bits.{bit_at_ones, bit_at_above}
+use Rattle.vidi_bits.specs.Number.{has}
 use Rattle.trace_model.specs.declared.channel.Channel.{Channel}
 use Rattle.trace_model.specs.Channel.{byte_count, content_bytes}
-use Rattle.trace_model.specs.Counting.{has}
 use Rattle.trace_model.specs.declared.packet.Packet.{Packet}
 use Rattle.trace_model.specs.declared.row.Row.{Row}
 use Rattle.trace_model.specs.Length.{mask_len, head_len, contents_len, packet_len}
@@ -20,7 +20,7 @@ use Rattle.trace_model.specs.Recording.{has_event, packet_of, contents_under}
 use Rattle.trace_model.specs.Row.{all_widths, content_at}
 use Rattle.trace_model.proofs.CountingLemmas.{take-more_read}
 use Rattle.trace_model.proofs.ContentsLemmas.{fit-length}
-use Rattle.trace_model.proofs.RowLaws.{content-behind}
+use Rattle.trace_model.proofs.RowLaws.{content-behind, taken_of}
 use Rattle.trace_code.specs.Encoding.{mask_bytes, number_bytes, packet_bytes, row_bytes}
 use Rattle.trace_code.specs.Writing.{overwritten, picked, events_bytes}
 use Rattle.trace_code.proofs.NumberLaws.{length-low}
@@ -146,12 +146,9 @@ every-from n (c ∷ cs) l =
 pub every-widths : (cs : List Channel) → length cs ≤ 128 → widths_under every cs ≡ all_widths cs
 every-widths cs l = every-from 0 cs (omega arith)
 
-abbrev started : ℕ → List Channel → List ℕ → ℕ → List Channel → List ℕ
-started starts cs numbers n ds = flat_map (λ (c : ℕ × Channel). cond (has starts c.0) (content_at cs numbers c.0) []) (enumerate_from n ds)
-
 all-behind : (starts : ℕ) (cs : List Channel) (numbers : List ℕ) (front ds : List Channel) (n : ℕ) → cs ≡ front ++ ds → n ≡ length front → n
     + length ds ≤ 128
-    → picked every starts n ds (drop (length (all_widths front)) numbers) ≡ started starts cs numbers n ds
+    → picked every starts n ds (drop (length (all_widths front)) numbers) ≡ taken_of starts cs numbers n ds
 unfolding picked
 all-behind starts cs numbers front [] n e l few = refl
 all-behind starts cs numbers front (d ∷ ds) n e l few =
@@ -163,7 +160,7 @@ all-behind starts cs numbers front (d ∷ ds) n e l few =
     let next : place + k ≡ length (all_widths (front ++ d ∷ [])) =
     sym (ap length (flat_map-append (λ (c : Channel). c.widths) front (d ∷ []) ∙ ap (λ ws. all_widths front ++ ws) (append-nil d.widths))
     ∙ length-append (all_widths front) d.widths) in
-    let others : picked every starts (n + 1) ds (drop k xs) ≡ started starts cs numbers (n + 1) ds =
+    let others : picked every starts (n + 1) ds (drop k xs) ≡ taken_of starts cs numbers (n + 1) ds =
     ap (picked every starts (n + 1) ds) (drop-drop k place numbers ∙ ap (λ m. drop m numbers) next)
     ∙ all-behind starts cs numbers (front ++ d ∷ []) ds (n + 1) grouped further (omega arith) in
     ap (λ b. cond b (cond (has starts n) (take k xs) [] ++ picked every starts (n + 1) ds (drop k xs)) (picked every starts (n + 1) ds xs))

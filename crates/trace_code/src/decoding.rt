@@ -19,6 +19,9 @@ use std::alloc::Global;
 use trace_model::{Channel, Packet, Packets, Trace, in_flight_after};
 use vidi_bits::{Items, Memory};
 
+/// The bytes of the longest trace file that is read (this project's profile).
+pub const TRACE_LIMIT: u64 = 67_108_864;
+
 /// The packet at the front of the bytes, the channels in flight after it, and the bytes after it. None
 /// where no packet stands there that is lawful after packets that leave `flying` in flight.
 fn next_packet<'a>(

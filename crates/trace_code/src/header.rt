@@ -3,7 +3,7 @@
 ghost use Rattle.std.specs.Prelude.{◌≡◌, ℕ, ◌≤◌, ◌⊎◌, ◌≢◌, ◌↔◌, IsTrue, List, ◌++◌, length, All, sum_by, IfOk, IfErr, MatchResult};
 ghost use Rattle.std.specs.List.{AllPairs, list_all, Any};
 ghost use Rattle.trace_model.specs.declared.channel.Channel.{Channel};
-ghost use Rattle.trace_model.specs.Channel.{is_letter, is_letter_or_digit, IsTable, content_bytes};
+ghost use Rattle.trace_model.specs.Channel.{IsTable, content_bytes};
 ghost use Rattle.trace_code.specs.Encoding.{header_bytes};
 ghost use Rattle.trace_code.specs.Reading.{Gives, magic_at, dir_at, counted_at, is_width, is_name, are_widths, name_at, widths_at};
 ghost use Rattle.trace_code.specs.Reading.{channel_at, channels_at, count_at, header_at, AreChannels};
@@ -11,7 +11,7 @@ ghost use Rattle.trace_code.specs.Reading.{channel_at, channels_at, count_at, he
 use crate::error::{CodeError, FAULT};
 use crate::number::byte_count;
 use std::alloc::Global;
-use trace_model::{Channel, Channels, Dir};
+use trace_model::{Channel, Channels, Dir, are_letters_or_digits, is_letter};
 use vidi_bits::{Bytes, Items, Name, copied};
 
 /// The first bytes of a trace of version 1.
@@ -70,27 +70,6 @@ fn read_counted(bytes: &[u8]) -> Result<(&[u8], &[u8]), CodeError>
             Ok(rest.split_at(count))
         }
     }
-}
-
-/// Whether a byte is a letter or `_`.
-fn is_letter(b: u8) -> bool
-    ensures { result ≡ is_letter b }
-{
-    matches!(b, b'A'..=b'Z' | b'a'..=b'z' | b'_')
-}
-
-/// Whether a byte may stand in a name behind its first one.
-fn is_letter_or_digit(b: u8) -> bool
-    ensures { result ≡ is_letter_or_digit b }
-{
-    is_letter(b) || matches!(b, b'0'..=b'9')
-}
-
-/// Whether each byte may stand in a name behind its first one.
-fn are_letters_or_digits(bytes: &[u8]) -> bool
-    ensures { result ≡ list_all is_letter_or_digit bytes.now }
-{
-    bytes.iter().all(|b| is_letter_or_digit(*b))
 }
 
 /// Whether the bytes are a lawful name.

@@ -13,7 +13,7 @@ mod salvaging;
 mod skipping;
 mod writing;
 
-pub use decoding::decode;
+pub use decoding::{TRACE_LIMIT, decode};
 pub use encoding::{encode, end_mark, header_bytes};
 pub use error::CodeError;
 pub use laws::{front_is_salvaged, one_place, one_reading, one_salvage, reads_back};

@@ -2,8 +2,8 @@
 
 ghost use Rattle.std.specs.Prelude.{◌≡◌, ℕ, true, ◌+◌, ◌*◌, ◌≤◌, ◌^◌, ◌<◌, [], ◌∷◌, ◌++◌, length, drop, All, sum_by, if◌then◌else◌};
 ghost use Rattle.std.specs.Int.{bytes_high_first};
+ghost use Rattle.vidi_bits.specs.Number.{has};
 ghost use Rattle.trace_model.specs.Channel.{byte_count, content_bytes, IsChannel, IsTable};
-ghost use Rattle.trace_model.specs.Counting.{has};
 ghost use Rattle.trace_model.specs.Length.{head_len, packet_len};
 ghost use Rattle.trace_model.specs.Packet.{widths_under};
 ghost use Rattle.trace_model.specs.Recording.{has_event};

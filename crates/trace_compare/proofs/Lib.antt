@@ -1,6 +1,5 @@
 pub mod Tallies
 pub mod EventPlaces
-pub mod Contents
 pub mod Early
 pub mod PairMarks
 pub mod FirstCovers

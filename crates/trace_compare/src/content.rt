@@ -1,17 +1,9 @@
 //! The content of a channel in a packet.
 
-ghost use Rattle.std.specs.Prelude.{◌≡◌, ◌<◌, [], length, take, drop, if◌then◌else◌};
+ghost use Rattle.std.specs.Prelude.{◌≡◌, ◌<◌, [], length, drop, if◌then◌else◌};
 ghost use Rattle.trace_model.specs.Packet.{content_of};
 
-use trace_model::{Channel, Packet, names};
-
-/// The numbers of a channel at the front of the contents, and those after them.
-fn split_content<'a>(channel: &Channel, contents: &'a [u128]) -> (&'a [u128], &'a [u128])
-    ensures front { result.0.now ≡ take (length channel.now.widths) contents.now }
-    ensures rest { result.1.now ≡ drop (length channel.now.widths) contents.now }
-{
-    contents.split_at(channel.widths.len().min(contents.len()))
-}
+use trace_model::{Channel, Packet, names, split_content};
 
 /// The contents after those of a channel, which has none where it doesn't start.
 fn behind<'a>(starts: bool, channel: &Channel, contents: &'a [u128]) -> &'a [u128]

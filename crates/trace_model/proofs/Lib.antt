@@ -4,3 +4,4 @@ pub mod FlightLemmas
 pub mod ContentsLemmas
 pub mod RowLemmas
 pub mod RowLaws
+pub mod Examples

@@ -1,10 +1,13 @@
 -- The bits of masks, and the tests of masks that say a fact of each bit.
-use Rattle.std.proofs.Common.{◌≡◌, ◌≢◌, ℕ, ◌+◌, ◌-◌, ◌<◌, ◌≤◌, ◌^◌, true, false, cond, min, bit_and, ⊎_elim, arith}
+use Rattle.std.proofs.Common.{◌≡◌, ◌≢◌, ℕ, ◌+◌, ◌-◌, ◌<◌, ◌≤◌, ◌^◌, true, false, cond, min, bit_and, ⊎_elim, arith, zero, suc, ◌*◌, ◌%◌}
+use Rattle.std.proofs.Common.{Bool}
+use mir.Val.{bool_byte}
 use Rattle.std.specs.Int.{bit_at, w128}
 use Rattle.std.proofs.lemmas.Bool.{cases_lt, cases_eq, eqb-true, eqb-false, eq-eqb, ne_eqb}
 use Rattle.std.proofs.lemmas.Nat.{and_le_l}
 use Rattle.std.proofs.lemmas.Nat.Bits.{bit_at_and, bit_at_not, bit_at-zero, bit_at-lt, bit_at_above, bit_at-trailing_zeros}
-use Rattle.trace_model.specs.Counting.{has}
+use Rattle.std.proofs.Math.Nat.{pow-le-pow_right, mod-le}
+use Rattle.vidi_bits.specs.Number.{has}
 
 pub bit-from-has : (mask c : ℕ) → has mask c ≡ true → bit_at mask c ≡ 1
 bit-from-has mask c h = eqb-true (bit_at mask c) 1 h
@@ -62,3 +65,24 @@ some-bit-without a b la lb h =
     let found = some-bit (bit_and a (2 ^ 128 - 1 - b)) (omega (arith, and_le_l a (2 ^ 128 - 1 - b))) h in
     let one : bit_at a found.0 - bit_at b found.0 ≡ 1 = rw (← bit_at-without a b la lb found.0) found.1 in
     (found.0, omega (arith, bit_at-lt a found.0), omega (arith, bit_at-lt a found.0))
+
+-- ---- a mask with one more bit
+-- it is a number of 128 bits
+pub bit-fits : (mask c n : ℕ) → n ≤ 1 → mask < 2 ^ c → c < 128 → mask + n * 2 ^ c % 2 ^ 128 < 2 ^ 128
+bit-fits mask zero n one l few = let m = mod-le (n * 2 ^ 0) (2 ^ 128) in omega (arith, one, l, m)
+bit-fits mask (suc c) n one l few =
+    let h : suc (suc c) ≤ 128 = omega (arith, few) in
+    let p : 2 ^ suc (suc c) ≤ 2 ^ 128 = pow-le-pow_right (omega arith) h in
+    let q : 2 ^ suc (suc c) ≡ 2 ^ suc c + 2 ^ suc c = omega arith in
+    let m = mod-le (n * 2 ^ suc c) (2 ^ 128) in
+    small n one p q m
+  where
+    small : (k : ℕ) → k ≤ 1 → 2 ^ suc (suc c) ≤ 2 ^ 128 → 2 ^ suc (suc c) ≡ 2 ^ suc c + 2 ^ suc c
+        → k * 2 ^ suc c % 2 ^ 128 ≤ k * 2 ^ suc c → mask + k * 2 ^ suc c % 2 ^ 128 < 2 ^ 128
+    small zero h p q m = omega (arith, p, q, m, l)
+    small (suc zero) h p q m = omega (arith, p, q, m, l)
+    small (suc (suc k)) h p q m = absurd (omega (arith, h))
+
+pub flag-small : (b : Bool) → bool_byte b ≤ 1
+flag-small true = omega arith
+flag-small false = omega arith

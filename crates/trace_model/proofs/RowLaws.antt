@@ -10,12 +10,12 @@ use Rattle.std.proofs.lemmas.List.Concat.{flat_map-append}
 use Rattle.std.proofs.lemmas.List.Elements.{All-push, filter-append}
 use Rattle.std.proofs.lemmas.Nat.Bits.{bit_at-zero, bit_at_above}
 use Rattle.std.proofs.lemmas.Option.{slice_get_cases, slice_get_within}
+use Rattle.vidi_bits.specs.Number.{has}
 use Rattle.trace_model.specs.declared.channel.Channel.{Channel}
 use Rattle.trace_model.specs.declared.event.Kind.{Kind}
 use Rattle.trace_model.specs.declared.event.Kind.TheVariants.{Start, End}
 use Rattle.trace_model.specs.declared.packet.Packet.{Packet}
 use Rattle.trace_model.specs.declared.row.Row.{Row}
-use Rattle.trace_model.specs.Counting.{has}
 use Rattle.trace_model.specs.Laws.{RecordedOnce, RowAddsItsPacket, KeepsInFlight, RowsAreWellFormed, StartsWaitForEnds}
 use Rattle.trace_model.specs.Packet.{does, count, content_of, widths_of, widths_under, Fit, IsPacket}
 use Rattle.trace_model.specs.Recording.{row_does, shown, has_event, contents_under, packet_of, packets_of, recorded, transactions}
@@ -26,7 +26,7 @@ use Rattle.trace_model.proofs.CountingLemmas.{count-cons, count-suc, count-mono,
 use Rattle.trace_model.proofs.CountingLemmas.{slice_get-append, take-suc_get}
 use Rattle.trace_model.proofs.MaskLemmas.{cond-has}
 use Rattle.trace_model.proofs.FlightLemmas.{alternates-nil, alternates-push_by}
-use Rattle.trace_model.proofs.ContentsLemmas.{enumerate-append, fit-append, fit-front, fit-length, fit-rest}
+use Rattle.trace_model.proofs.ContentsLemmas.{enumerate-append, fit-append, fit-front, fit-length, fit-rest, widths_from}
 
 -- ---- a row more
 pub row-adds : RowAddsItsPacket
@@ -59,7 +59,7 @@ quiet : (kind : Kind) (c : ℕ) (row : Row) → has_event row ≡ false → row_
 quiet Start c row h = ap (λ m. has m c) (no-event row.starts row.ends h).0 ∙ has-none c
 quiet End c row h = ap (λ m. has m c) (no-event row.starts row.ends h).1 ∙ has-none c
 
-does-same : (kind : Kind) (c : ℕ) (channels : List Channel) (row : Row) → does kind c (packet_of channels row) ≡ row_does kind c row
+pub does-same : (kind : Kind) (c : ℕ) (channels : List Channel) (row : Row) → does kind c (packet_of channels row) ≡ row_does kind c row
 does-same Start c channels row = refl
 does-same End c channels row = refl
 
@@ -157,10 +157,7 @@ event-of starts ends h = cases (eqb starts 0) (eqb ends 0) h (eqb-false starts 0
     cases true false h p q = inr (q refl)
     cases false b h p q = inl (p refl)
 
-abbrev under : ℕ → ℕ → List Channel → List ℕ
-under mask n ds = flat_map (λ (c : ℕ × Channel). cond (has mask c.0) c.1.widths []) (enumerate_from n ds)
-
-abbrev taken_of : ℕ → List Channel → List ℕ → ℕ → List Channel → List ℕ
+abbrev pub taken_of : ℕ → List Channel → List ℕ → ℕ → List Channel → List ℕ
 taken_of mask cs numbers n ds = flat_map (λ (c : ℕ × Channel). cond (has mask c.0) (content_at cs numbers c.0) []) (enumerate_from n ds)
 
 pub content-behind : (front ds cs : List Channel) (d : Channel) (numbers : List ℕ) (n : ℕ) → cs ≡ front ++ d ∷ ds → n ≡ length front
@@ -190,12 +187,12 @@ fit-one false ws xs vs ys f g = g
 
 -- the contents of some channels in the middle of a table
 fit-from : (mask : ℕ) (cs : List Channel) (numbers : List ℕ) (front ds back : List Channel) (n : ℕ) → cs ≡ front ++ (ds ++ back) → n
-    ≡ length front → Fit (all_widths cs) numbers → Fit (under mask n ds) (taken_of mask cs numbers n ds)
+    ≡ length front → Fit (all_widths cs) numbers → Fit (widths_from mask n ds) (taken_of mask cs numbers n ds)
 fit-from mask cs numbers front [] back n e l f = tt
 fit-from mask cs numbers front (d ∷ ds) back n e l f =
     let grouped : cs ≡ (front ++ d ∷ []) ++ (ds ++ back) = e ∙ sym (append_assoc front (d ∷ []) (ds ++ back)) in
     let further : n + 1 ≡ length (front ++ d ∷ []) = omega (arith, l, length_push front d) in
-    fit-one (has mask n) d.widths (content_at cs numbers n) (under mask (n + 1) ds) (taken_of mask cs numbers (n + 1) ds)
+    fit-one (has mask n) d.widths (content_at cs numbers n) (widths_from mask (n + 1) ds) (taken_of mask cs numbers (n + 1) ds)
     (content-fits-at front (ds ++ back) cs d numbers n e l f) (fit-from mask cs numbers (front ++ d ∷ []) ds back (n + 1) grouped
     further f)
 
@@ -305,7 +302,7 @@ recorded-content cs front ds d row c e l f h =
     ∙ ap (λ b. taken_of mask cs numbers 0 front ++ (cond b mine [] ++ behind)) h in
     let before : take c cs ≡ front = ap (take c) e ∙ take_at front (d ∷ ds) c (sym l) in
     let first : length (taken_of mask cs numbers 0 front) ≡ length (widths_under mask (take c cs)) =
-    sym (fit-length (under mask 0 front) (taken_of mask cs numbers 0 front) (fit-from mask cs numbers [] front (d ∷ ds) 0 e refl f))
+    sym (fit-length (widths_from mask 0 front) (taken_of mask cs numbers 0 front) (fit-from mask cs numbers [] front (d ∷ ds) 0 e refl f))
     ∙ ap (λ xs. length (widths_under mask xs)) (sym before) in
     let at : slice_get cs c ≡ Some d =
     ap (λ xs. slice_get xs c) (e ∙ sym (append_assoc front (d ∷ []) ds)) ∙ ap (slice_get ((front ++ d ∷ []) ++ ds)) l

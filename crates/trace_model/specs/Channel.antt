@@ -11,7 +11,7 @@ byte_count width = (width + 7) / 8
 abbrev pub content_bytes : Channel → ℕ
 content_bytes c = sum_by byte_count c.widths
 
-abbrev between : ℕ → ℕ → ℕ → Bool
+abbrev pub between : ℕ → ℕ → ℕ → Bool
 between low high b = nat_le low b && nat_le b high
 
 -- A to Z, a to z, or _

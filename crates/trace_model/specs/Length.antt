@@ -1,13 +1,13 @@
 -- How many bytes a packet has (this project's profile): a byte, the two masks, and the contents of the starts.
-use Rattle.std.specs.Prelude.{ℕ, ◌+◌, ◌*◌, ◌/◌, ◌==◌, ◌&&◌, List, length, sum_by, if◌then◌else◌}
+use Rattle.std.specs.Prelude.{ℕ, ◌+◌, ◌*◌, ◌==◌, ◌&&◌, List, length, sum_by, if◌then◌else◌}
 use Rattle.std.specs.List.{enumerate_from}
+use Rattle.vidi_bits.specs.Number.{has}
 use Rattle.trace_model.specs.declared.channel.Channel.{Channel}
-use Rattle.trace_model.specs.Channel.{content_bytes}
-use Rattle.trace_model.specs.Counting.{has}
+use Rattle.trace_model.specs.Channel.{byte_count, content_bytes}
 
--- the bytes of a mask of n channels
+-- the bytes of a mask of n channels, of which each has a bit
 abbrev pub mask_len : ℕ → ℕ
-mask_len n = (n + 7) / 8
+mask_len n = byte_count n
 
 -- the bytes of a packet of n channels without contents
 abbrev pub head_len : ℕ → ℕ

@@ -1,10 +1,10 @@
 -- *Well-formed*: lawful packets, in which the starts and ends of each channel alternate.
 use Rattle.std.specs.Prelude.{◌≡◌, ℕ, suc, ◌+◌, ◌<◌, true, List, Some, take, slice_get, All}
 use Rattle.std.specs.Int.{bit_at}
+use Rattle.vidi_bits.specs.Number.{has}
 use Rattle.trace_model.specs.declared.event.Kind.TheVariants.{Start, End}
 use Rattle.trace_model.specs.declared.packet.Packet.{Packet}
 use Rattle.trace_model.specs.declared.trace.Trace.{Trace}
-use Rattle.trace_model.specs.Counting.{has}
 use Rattle.trace_model.specs.Packet.{count, IsPacket}
 
 -- On each channel starts and ends alternate, beginning with a start; in one packet the start comes first. So a start

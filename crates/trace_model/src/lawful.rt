@@ -21,7 +21,7 @@ fn fits_masks(p: &Packet, channels: usize) -> bool
 
 /// Whether a packet is one over these channels: it has an event, its masks name channels of the
 /// table, and it has one number for each port of the channels that start, which fits its width.
-pub fn is_packet(p: &Packet, channels: &Channels) -> bool
+fn is_packet(p: &Packet, channels: &Channels) -> bool
     ensures { IsTrue result ↔ IsPacket channels.now p.now }
 {
     if p.starts == 0 && p.ends == 0 {

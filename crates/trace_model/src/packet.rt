@@ -2,6 +2,10 @@
 
 use vidi_bits::{Items, Numbers};
 
+/// The bytes of the longest packet of a table's channels (this project's profile): a byte, the masks of 32 channels' starts
+/// and ends, and 1,024 bytes of contents.
+pub const LONGEST_PACKET: usize = 1 + 2 * 4 + 1024;
+
 /// The events of one cycle: bit c of a mask is channel c.
 #[derive(Debug, Drop)]
 pub struct Packet {

@@ -1,6 +1,11 @@
 //! Rows: what all channels show in one cycle.
 
-use vidi_bits::{Items, Numbers};
+ghost use Rattle.std.specs.Prelude.{◌≡◌, ◌++◌, length, replicate, IfOk, OnOk};
+ghost use Rattle.trace_model.specs.Row.{all_widths};
+
+use crate::channel::{Channel, Channels};
+use std::alloc::Global;
+use vidi_bits::{Items, Memory, Numbers};
 
 /// What the environment offers in one cycle: bit c of a mask is channel c.
 #[derive(Drop)]
@@ -34,3 +39,46 @@ pub struct Row {
 
 /// The rows of a run, numbered from 0 in order.
 pub type Rows = Items<Row>;
+
+/// Adds this many zeros.
+pub fn push_zeros(numbers: &mut Numbers, count: usize) -> Result<(), Memory>
+    ensures { OnOk result (numbers.new ≡ numbers.old ++ replicate count 0) }
+{
+    for _ in 0..count {
+        numbers.push(0)?;
+    }
+    Ok(())
+}
+
+/// A zero for each port of the channels.
+fn zeros_over(alloc: Global, channels: &[Channel]) -> Result<Numbers, Memory>
+    ensures { IfOk result (λ zeros. zeros ≡ replicate (length (all_widths channels.now)) 0) }
+{
+    let mut zeros = Items::new(alloc);
+    for channel in channels {
+        push_zeros(&mut zeros, channel.widths.len())?;
+    }
+    Ok(zeros)
+}
+
+/// A row with a place for each port's number, in which nothing is up: to be driven.
+pub fn row_over(alloc: Global, channels: &Channels) -> Result<Row, Memory>
+    ensures { IfOk result (λ row. row ≡ record {
+      gates = 0;
+      valids = 0;
+      readies = 0;
+      contents = replicate (length (all_widths channels.now)) 0;
+      starts = 0;
+      ends = 0;
+    }) }
+{
+    let contents = zeros_over(alloc, channels.as_slice())?;
+    Ok(Row {
+        gates: 0,
+        valids: 0,
+        readies: 0,
+        contents,
+        starts: 0,
+        ends: 0,
+    })
+}

@@ -6,11 +6,8 @@ use std::env;
 use std::process::ExitCode;
 use std::rt::Clock;
 use std::time::Instant;
-use trace_code::{decode, encode};
+use trace_code::{TRACE_LIMIT, decode, encode};
 use vidi_io::{HostShelf, read_whole};
-
-/// The longest trace file, in bytes.
-const TRACE_LIMIT: u64 = 67_108_864;
 
 /// What was measured of one file, in microseconds.
 #[derive(Clone, Copy)]

@@ -3,8 +3,8 @@
 ghost use Rattle.std.specs.Prelude.{◌≡◌, ℕ, ◌+◌, ◌-◌, ◌^◌, ◌<◌, ◌≤◌, ◌↔◌, true, IsTrue, IfOk, MatchOption, length, replicate};
 ghost use Rattle.std.specs.Prelude.{slice_index, slice_set};
 ghost use Rattle.std.specs.Int.{bit_at};
+ghost use Rattle.vidi_bits.specs.Number.{has};
 ghost use Rattle.trace_model.specs.Clock.{Covers};
-ghost use Rattle.trace_model.specs.Counting.{has};
 
 use std::alloc::Global;
 use std::marker::Model;

@@ -4,11 +4,11 @@ use Rattle.trace_model.specs.declared.row.Row.{Row}
 use Rattle.net_design.specs.declared.design.Design.{Design}
 use Rattle.chan_map.specs.declared.pins.Map.{Map}
 use Rattle.run_model.specs.Run.{AllUp, IsTheRun}
-use Rattle.env_offers.specs.Offered.{offers_after}
-use Rattle.script_offer.specs.Offer.{Offer}
-use Rattle.script_offer.specs.ScriptOffer.{script_offer}
+use Rattle.env_script.specs.Offered.{offers_after}
+use Rattle.script_text.specs.Offer.{Offer}
+use Rattle.script_text.specs.ScriptOffer.{script_offer}
 use Rattle.bench_run.specs.Plain.{IsPlainRun}
-use Rattle.record_laws.proofs.Kept.{script-kept, full-plain}
+use Rattle.vidi_recorder.proofs.ScriptKept.{script-kept, full-plain}
 use Rattle.vidi.specs.Headline.{RecordedRunIsKept, DrainedRecordingIsTheRun, spot_behind}
 
 pub run-kept : RecordedRunIsKept

@@ -4,7 +4,7 @@ use Rattle.vlog_lex.specs.declared.token.Token.{Token}
 use Rattle.vlog_lex.specs.Reading.{HasTokens, OneReading, OneStuckLine, ReadOrStuck}
 use Rattle.vlog_tree.specs.Tree.{FileOf}
 use Rattle.vlog_tree.specs.Lines.{bare}
-use Rattle.vlog_expr.specs.Marks.{all_marked}
+use Rattle.vlog_parse.specs.Marks.{all_marked}
 use Rattle.vlog_parse.specs.Depth.{OneDepth}
 use Rattle.vlog_parse.specs.Parsing.{LinedFilesAreFiles, OneLinedFile}
 use Rattle.vlog_parse.specs.Units.{OneItemLine}

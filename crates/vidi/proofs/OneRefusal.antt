@@ -4,12 +4,13 @@ use Rattle.std.specs.Prelude.{slice_get}
 use Rattle.std.proofs.lemmas.Bool.{cases_order}
 use Rattle.vidi_bits.specs.Findings.{first}
 use Rattle.vlog_tree.specs.Tree.{ModuleOf, FileOf}
-use Rattle.vlog_hierarchy.specs.Outlines.{Outline, place_of, outlines_of}
-use Rattle.vlog_hierarchy.specs.Nested.{IsNestedAnswer}
+use Rattle.vlog_elab.specs.Outlines.{Outline, place_of, outlines_of}
+use Rattle.vlog_elab.specs.Nested.{IsNestedAnswer}
 use Rattle.vlog_elab.specs.declared.error.ElabError.{ElabError}
 use Rattle.vlog_elab.specs.declared.error.ElabError.TheVariants.{Twice, Unknown, Kind, Nested, TooBig, Const, Width, Clock, Latch, Drive}
 use Rattle.vlog_elab.specs.declared.error.ElabError.TheVariants.{Memory}
-use Rattle.vlog_elab.specs.Answered.{IsFirst}
+use Rattle.vidi_bits.specs.Findings.{IsFirst}
+use Rattle.vlog_elab.specs.Told.{elab_told}
 use Rattle.vlog_elab.specs.Reasons.{Then, IsNestedName, IsNotNested, NestedFinding, RefusedLater, ClearLater}
 use Rattle.vlog_elab.specs.Reasons.{text_findings, size_findings}
 use Rattle.vlog_elab.specs.Reasons as elab
@@ -37,7 +38,7 @@ apart-then Here Later Clear After apart later e (inl h) (clear, after) = apart e
 apart-then Here Later Clear After apart later e (inr (clear, l)) (clear', after) = later e l after
 
 -- ---- the first of a list of findings
-is-first : (findings : List ElabError) (e : ElabError) → IsFirst findings e → (e ≡ Memory) ⊎ (first findings ≡ Some e)
+is-first : (findings : List ElabError) (e : ElabError) → IsFirst elab_told findings e → (e ≡ Memory) ⊎ (first findings ≡ Some e)
 is-first findings (Twice name) is = inr is
 is-first findings (Unknown name) is = inr is
 is-first findings (Kind line) is = inr is
@@ -56,7 +57,7 @@ same_some e d h = cc
 none_some : (e : ElabError) → first [] ≡ Some e → ⊥
 none_some e h = cc
 
-one-first : (findings : List ElabError) → OneOf (IsFirst findings)
+one-first : (findings : List ElabError) → OneOf (IsFirst elab_told findings)
 one-first findings e d is is' = elim (is-first findings e is) [
   | inl memory ↦ inl memory
   | inr told ↦ elim (is-first findings d is') [
@@ -65,7 +66,7 @@ one-first findings e d is is' = elim (is-first findings e is) [
   ]
 ]
 
-apart-first : (findings : List ElabError) → Apart (IsFirst findings) (findings ≡ [])
+apart-first : (findings : List ElabError) → Apart (IsFirst elab_told findings) (findings ≡ [])
 apart-first findings e is none = elim (is-first findings e is) [
   | inl memory ↦ memory
   | inr told ↦ absurd (none_some e (ap first (sym none) ∙ told))
@@ -126,23 +127,23 @@ apart-nested file top e is none = elim (is-nested file top e is) [
 
 -- ---- all reasons
 one-later : (file : FileOf ℕ) (top : List ℕ) → OneOf (RefusedLater file top)
-one-later file top = one-then (NestedFinding file top) (IsFirst (size_findings file top)) (IsNotNested file top)
+one-later file top = one-then (NestedFinding file top) (IsFirst elab_told (size_findings file top)) (IsNotNested file top)
     (one-nested file top) (apart-nested file top) (one-first (size_findings file top))
 
 one-text : (file : FileOf ℕ) (top : List ℕ) → OneOf (elab.Refused file top)
-one-text file top = one-then (IsFirst (text_findings file top)) (RefusedLater file top) (text_findings file top ≡ [])
+one-text file top = one-then (IsFirst elab_told (text_findings file top)) (RefusedLater file top) (text_findings file top ≡ [])
     (one-first (text_findings file top)) (apart-first (text_findings file top)) (one-later file top)
 
 text-clear : (file : FileOf ℕ) (top : List ℕ) → Apart (elab.Refused file top) (elab.Clear file top)
-text-clear file top = apart-then (IsFirst (text_findings file top)) (RefusedLater file top) (text_findings file top ≡ [])
+text-clear file top = apart-then (IsFirst elab_told (text_findings file top)) (RefusedLater file top) (text_findings file top ≡ [])
     (ClearLater file top) (apart-first (text_findings file top))
-    (apart-then (NestedFinding file top) (IsFirst (size_findings file top)) (IsNotNested file top) (size_findings file top ≡ [])
+    (apart-then (NestedFinding file top) (IsFirst elab_told (size_findings file top)) (IsNotNested file top) (size_findings file top ≡ [])
     (apart-nested file top) (apart-first (size_findings file top)))
 
 pub one_refusal : (file : FileOf ℕ) (top : List ℕ) → OneOf (Refused file top)
-one_refusal file top = one-then (elab.Refused file top) (IsFirst (code_findings file top)) (elab.Clear file top)
+one_refusal file top = one-then (elab.Refused file top) (IsFirst elab_told (code_findings file top)) (elab.Clear file top)
     (one-text file top) (text-clear file top) (one-first (code_findings file top))
 
 pub refused_clear : (file : FileOf ℕ) (top : List ℕ) → Apart (Refused file top) (Clear file top)
-refused_clear file top = apart-then (elab.Refused file top) (IsFirst (code_findings file top)) (elab.Clear file top)
+refused_clear file top = apart-then (elab.Refused file top) (IsFirst elab_told (code_findings file top)) (elab.Clear file top)
     (code_findings file top ≡ []) (text-clear file top) (apart-first (code_findings file top))

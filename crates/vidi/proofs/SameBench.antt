@@ -1,6 +1,7 @@
 -- What three texts say together is one, or the reason for which they are refused.
 use Rattle.std.proofs.Common.{◌≡◌, ◌⊎◌, ℕ, List, None, Some, Ok, Err, inl, inr, map, sym, ap, subst, ◌∙◌}
 use Rattle.std.specs.Prelude.{slice_get}
+use Rattle.vidi_bits.proofs.Lists.{some_same}
 use Rattle.vlog_lex.specs.declared.token.Token.{Token}
 use Rattle.vlog_lex.specs.Reading.{HasTokens}
 use Rattle.vlog_tree.specs.Tree.{FileOf, ModuleOf}
@@ -24,10 +25,11 @@ use Rattle.vlog_elab.specs.Instances.{instances}
 use Rattle.vlog_design.specs.Design.{IsDesignOf}
 use Rattle.flat_parts.specs.Built.{IsBuilt}
 use Rattle.flat_parts.specs.Laws.{IsTop}
-use Rattle.run_alike.specs.Alike.{AreAlike}
-use Rattle.run_alike.specs.Laws.{MapsAlike, OneEnd, RunsAlike}
+use Rattle.run_model.specs.Alike.{AreAlike}
+use Rattle.run_model.specs.AlikeLaws.{MapsAlike, OneEnd, RunsAlike}
 use Rattle.flat_alike.specs.Laws.{BuiltAlike}
-use Rattle.one_bench.specs.Laws.{OneBinding, OneMapText, OnePlan, OneScript}
+use Rattle.chan_map.specs.Laws.{OneBinding, OneMapText}
+use Rattle.script_text.specs.OneReading.{OnePlan, OneScript}
 use Rattle.report_text.specs.declared.reason.Word.TheVariants as words
 use Rattle.report_text.specs.declared.reason.Reason.{Reason}
 use Rattle.report_text.specs.Reason.{reason_line}
@@ -58,8 +60,6 @@ pub record BenchLaws : Type 0 where
   pub plan : OnePlan
 
 -- ---- reasons
-same-some : {A : Type 0} (a b : A) → Some a ≡ Some b → a ≡ b
-same-some a b e = cc
 
 no-map_reason : (e : MapError) (r : Reason) → map_reason e ≡ Some r → e ≡ map_errors.Memory → ⊥
 no-map_reason e r names memory = let none : None ≡ Some r = ap map_reason (sym memory) ∙ names in cc
@@ -72,7 +72,7 @@ map-refusals : (e f : MapError) → (e ≡ map_errors.Memory) ⊎ (f ≡ map_err
 map-refusals e f (inl memory) a b x y (r, names, s) (q, names', s') = absurd (no-map_reason e r names memory)
 map-refusals e f (inr (inl memory)) a b x y (r, names, s) (q, names', s') = absurd (no-map_reason f q names' memory)
 map-refusals e f (inr (inr same)) a b x y (r, names, s) (q, names', s') =
-    let reason = same-some q r (sym names' ∙ ap map_reason (sym same) ∙ names) in
+    let reason = some_same q r (sym names' ∙ ap map_reason (sym same) ∙ names) in
     one-said (Refused words.Map r) (reason_line words.Map r) a b x y s
     (subst (λ (k : Reason). IsRefusal words.Map k b y) reason s')
 
@@ -81,15 +81,15 @@ script-refusals : (e f : ScriptError) → (e ≡ script_errors.Memory) ⊎ (f �
 script-refusals e f (inl memory) a b x y (r, names, s) (q, names', s') = absurd (no-script_reason e r names memory)
 script-refusals e f (inr (inl memory)) a b x y (r, names, s) (q, names', s') = absurd (no-script_reason f q names' memory)
 script-refusals e f (inr (inr same)) a b x y (r, names, s) (q, names', s') =
-    let reason = same-some q r (sym names' ∙ ap script_reason (sym same) ∙ names) in
+    let reason = some_same q r (sym names' ∙ ap script_reason (sym same) ∙ names) in
     one-said (Refused words.Script r) (reason_line words.Script r) a b x y s
     (subst (λ (k : Reason). IsRefusal words.Script k b y) reason s')
 
 -- ---- designs of one file
 one-top : (f : FileOf ℕ) (name : List ℕ) (m n : ModuleOf ℕ) → IsTop f name m → IsTop f name n → m ≡ n
 one-top f name m n (j, at, is) (k, at', is') =
-    let place = same-some j k (sym at ∙ at') in
-    same-some m n (sym is ∙ ap (λ (i : ℕ). slice_get f.modules i) place ∙ is')
+    let place = some_same j k (sym at ∙ at') in
+    some_same m n (sym is ∙ ap (λ (i : ℕ). slice_get f.modules i) place ∙ is')
 
 designs-alike : BuiltAlike → (f : FileOf ℕ) (top : List ℕ) (d e : Design) → IsDesignOf f top d → IsDesignOf f top e → AreAlike d e
 designs-alike built f top d e x y =

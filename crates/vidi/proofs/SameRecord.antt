@@ -8,17 +8,17 @@ use Rattle.chan_map.specs.declared.pins.Map.{Map}
 use Rattle.room_ledger.specs.Gates.{Plan}
 use Rattle.room_ledger.specs.Reservation.{need}
 use Rattle.room_ledger.proofs.GateLaws.{one-set}
-use Rattle.run_alike.proofs.Ends.{one-end_of}
-use Rattle.run_alike.proofs.Played.{the-runs_alike}
+use Rattle.run_model.proofs.Ends.{one-end_of}
+use Rattle.run_model.proofs.Played.{the-runs_alike}
 use Rattle.script_text.specs.declared.error.StallError.TheVariants as stall_errors
 use Rattle.script_text.specs.declared.script.Script.{Script}
 use Rattle.script_text.specs.declared.stalls.Stalls.{Stalls}
 use Rattle.script_text.specs.Plan.{allowance_at}
 use Rattle.script_text.specs.Reasons.{read_lines}
 use Rattle.script_text.specs.Stalls.{ReadsStalls}
-use Rattle.script_offer.specs.ScriptOffer.{script_offer}
-use Rattle.env_offers.specs.Offered.{offers_after}
-use Rattle.one_bench.specs.Laws.{SamePlan}
+use Rattle.script_text.specs.ScriptOffer.{script_offer}
+use Rattle.env_script.specs.Offered.{offers_after}
+use Rattle.script_text.specs.OneReading.{SamePlan}
 use Rattle.vidi_io.specs.Shelf.{Files, holding}
 use Rattle.vidi_recorder.specs.Course.{Course, GatesUnder, course, plan_of, sizes_of}
 use Rattle.report_text.specs.declared.reason.Word.TheVariants as words

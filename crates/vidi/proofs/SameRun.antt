@@ -5,9 +5,9 @@ use Rattle.trace_model.specs.declared.row.Row.{Row}
 use Rattle.chan_map.specs.declared.pins.Map.{Map}
 use Rattle.run_model.specs.Played.{all_up}
 use Rattle.script_text.specs.declared.script.Script.{Script}
-use Rattle.script_offer.specs.ScriptOffer.{script_offer}
+use Rattle.script_text.specs.ScriptOffer.{script_offer}
 use Rattle.bench_run.specs.declared.plain.Spot.{Spot}
-use Rattle.env_offers.specs.Offered.{offers_after}
+use Rattle.env_script.specs.Offered.{offers_after}
 use Rattle.bench_run.specs.Plain.{channel_of}
 use Rattle.vidi_io.specs.Shelf.{Files}
 use Rattle.report_text.specs.declared.reason.Word.TheVariants as words

@@ -3,7 +3,7 @@ use Rattle.std.specs.Prelude.{◌≡◌, ℕ, ◌⊎◌, List, Option, None, Som
 use Rattle.vlog_lex.specs.declared.token.Token.{Token}
 use Rattle.vlog_lex.specs.Reading.{HasTokens, IsStuckOn}
 use Rattle.vlog_tree.specs.Tree.{FileOf}
-use Rattle.vlog_expr.specs.Marks.{all_marked}
+use Rattle.vlog_parse.specs.Marks.{all_marked}
 use Rattle.vlog_parse.specs.Depth.{IsDeep, IsShallow}
 use Rattle.vlog_parse.specs.Parsing.{IsFileOf, IsLinedFileOf}
 use Rattle.vlog_parse.specs.Units.{IsItemLine}

@@ -2,13 +2,13 @@
 use Rattle.std.specs.Prelude.{ℕ, List, Option, None, Some, length}
 use Rattle.vidi_io.specs.Shelf.{Files}
 use Rattle.trace_model.specs.declared.row.Row.{Row}
-use Rattle.script_offer.specs.ScriptOffer.{script_offer}
+use Rattle.script_text.specs.ScriptOffer.{script_offer}
 use Rattle.script_text.specs.declared.stalls.Stalls.{Stalls}
 use Rattle.bench_run.specs.declared.plain.Spot.{Spot}
 use Rattle.bench_run.specs.Plain.{IsPlainRun}
 use Rattle.vidi_recorder.specs.Course.{IsTheRunOf}
 use Rattle.vidi_recorder.specs.Laws.{IsKept}
-use Rattle.record_laws.specs.Laws.{DrainsAll}
+use Rattle.vidi_recorder.specs.ScriptLaws.{DrainsAll}
 use Rattle.vidi.specs.declared.bench.Bench.{Bench}
 use Rattle.vidi.specs.Records.{course_of, IsPlanned}
 

@@ -10,7 +10,7 @@ use Rattle.script_text.specs.declared.error.StallError.TheVariants as errors
 use Rattle.script_text.specs.declared.stalls.Stalls.{Stalls}
 use Rattle.script_text.specs.Reasons.{read_lines}
 use Rattle.script_text.specs.Stalls.{ReadsStalls}
-use Rattle.script_offer.specs.ScriptOffer.{script_offer}
+use Rattle.script_text.specs.ScriptOffer.{script_offer}
 use Rattle.vidi_recorder.specs.Course.{Course, course, sizes_of, IsRunOf, IsTheRunOf}
 use Rattle.vidi_recorder.specs.Recording.{IsFrontOfTheRun}
 use Rattle.report_text.specs.declared.reason.Word.TheVariants as words

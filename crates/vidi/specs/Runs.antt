@@ -5,7 +5,7 @@ use Rattle.trace_model.specs.declared.row.Row.{Row}
 use Rattle.net_design.specs.declared.design.Design.{Design}
 use Rattle.chan_map.specs.declared.pins.Map.{Map}
 use Rattle.script_text.specs.declared.script.Script.{Script}
-use Rattle.script_offer.specs.ScriptOffer.{script_offer}
+use Rattle.script_text.specs.ScriptOffer.{script_offer}
 use Rattle.bench_run.specs.declared.plain.PlainRun.{PlainRun}
 use Rattle.bench_run.specs.declared.plain.Spot.{Spot}
 use Rattle.bench_run.specs.Plain.{IsPlainRun}

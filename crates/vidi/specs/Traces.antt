@@ -10,6 +10,7 @@ use Rattle.vidi_io.specs.Writing.{IsCutOff}
 use Rattle.report_text.specs.declared.reason.Word.{Word}
 use Rattle.report_text.specs.declared.reason.Word.TheVariants as words
 use Rattle.report_text.specs.declared.reason.Reason.TheVariants.{BadTrace, OtherChannels}
+use Rattle.trace_code.specs.declared.decoding.TheConstants.{TRACE_LIMIT}
 use Rattle.vidi.specs.declared.status.Status.{Status}
 use Rattle.vidi.specs.declared.status.Status.TheVariants.{Done, Diverged}
 use Rattle.vidi.specs.Said.{dump_text, no_divergence_line, diverged_text, salvaged_line}
@@ -18,7 +19,7 @@ use Rattle.vidi.specs.Steps.{Ending, IsSaid, IsRefusal, Step}
 
 -- the longest trace file, in bytes
 abbrev pub trace_limit : ℕ
-trace_limit = 67108864
+trace_limit = TRACE_LIMIT
 
 -- the bytes encode no trace
 abbrev pub IsNoTrace : Word → List ℕ → Ending

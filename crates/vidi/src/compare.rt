@@ -11,11 +11,10 @@ ghost use Rattle.vidi.specs.Steps.{IsSaid};
 ghost use Rattle.vidi.specs.Traces.{Compared, ComparedFiles, ComparedWith, Compares, IsVerdict};
 
 use crate::answer::{Answer, refused, unread, with_bytes};
-use crate::dump::TRACE_LIMIT;
 use crate::status::{Reason, Status, Word};
 use report_text::{put, report_lines};
 use std::alloc::Global;
-use trace_code::{CodeError, decode};
+use trace_code::{CodeError, TRACE_LIMIT, decode};
 use trace_compare::Report;
 use trace_model::{Channels, Trace, same_channels};
 use vidi_bits::{Bytes, Memory};

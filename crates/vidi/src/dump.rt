@@ -12,13 +12,10 @@ use crate::answer::{Answer, AnswerText, refused, unread};
 use crate::status::{Reason, Status, Word};
 use report_text::TraceLines;
 use std::alloc::Global;
-use trace_code::{CodeError, decode};
+use trace_code::{CodeError, TRACE_LIMIT, decode};
 use trace_model::Trace;
 use vidi_bits::Memory;
 use vidi_io::{Shelf, read_whole};
-
-/// The longest trace file, in bytes.
-pub const TRACE_LIMIT: u64 = 67_108_864;
 
 /// What `dump` is answered.
 pub fn dump<S: Shelf>(alloc: Global, trace: &str, shelf: &mut S) -> Result<Answer, Memory>

@@ -3,11 +3,11 @@
 ghost use Rattle.vidi.specs.Answer.{OneAnswer};
 ghost use Rattle.vidi.specs.Headline.{DrainedRecordingIsTheRun, RecordedRunIsKept};
 
+use chan_map::{one_binding, one_map_text};
 use flat_alike::built_alike;
 use net_order::one_settled_map;
-use one_bench::{one_binding, one_map_text, one_plan, one_script};
-use run_alike::{maps_alike, one_end, runs_alike};
-use run_model::bound_is_map_of;
+use run_model::{bound_is_map_of, maps_alike, one_end, runs_alike};
+use script_text::{one_plan, one_script};
 use trace_code::{one_place, one_reading, one_salvage};
 
 /// Of what a shelf tells, with no failed read, words earn one answer with one text, which leaves the same files,

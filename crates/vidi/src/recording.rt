@@ -1,5 +1,6 @@
 //! The command `record`.
 
+ghost use Rattle.vidi.specs.declared.recording.TheConstants.{LINE_BYTES};
 ghost use Rattle.std.specs.Prelude.{◌≡◌, ◌≤◌, ◌+◌, ◌++◌, [], Option, Ok, IfOk, IfErr, decimal, length};
 ghost use Rattle.trace_model.specs.declared.row.Row.{Row as OneRow};
 ghost use Rattle.trace_model.specs.Channel.{IsTable};
@@ -7,8 +8,9 @@ ghost use Rattle.net_design.specs.declared.values.Values.{Values};
 ghost use Rattle.net_design.specs.Lawful.{IsLawful};
 ghost use Rattle.net_order.specs.Order.{IsOrder};
 ghost use Rattle.run_model.specs.MapOf.{IsMapOf};
+ghost use Rattle.script_text.specs.declared.script.TheConstants.{MOST_CYCLES};
 ghost use Rattle.script_text.specs.Fits.{FitsChannels};
-ghost use Rattle.script_offer.specs.ScriptOffer.{script_offer};
+ghost use Rattle.script_text.specs.ScriptOffer.{script_offer};
 ghost use Rattle.room_ledger.specs.Ledger.{fresh};
 ghost use Rattle.room_ledger.specs.Reservation.{need};
 ghost use Rattle.script_text.specs.Reasons.{read_lines};
@@ -291,7 +293,7 @@ fn record_file<S: Shell, E: Env, F: Shelf>(
     requires first { E.stands_for env.old [] }
     requires room { room ≡ fresh (sizes_of map.now.channels) plan.now.capacity }
     requires some { 1 ≤ cycles }
-    requires few { cycles ≤ 50000 }
+    requires few { cycles ≤ MOST_CYCLES }
     ensures ended { IfOk result (λ outcome. (d : Design) (s : Values) (before : Option OneRow) → S.runs shell.old d s before
         → FileEnds (course d map.now (E.offer (E.plan env.old)) plan.now cycles) (F.files shelf.old) trace.now (F.files shelf.new) outcome) }
     ensures failed { IfErr result (λ e. (d : Design) (s : Values) (before : Option OneRow) → S.runs shell.old d s before
@@ -307,7 +309,7 @@ fn record_file<S: Shell, E: Env, F: Shelf>(
 fn told(outcome: Outcome, cycles: u32, channels: &Channels, line: Pad) -> Answer
     requires table { IsTable channels.now }
     requires empty { shown line ≡ [] }
-    requires room { left line ≡ 256 }
+    requires room { left line ≡ LINE_BYTES }
     ensures { IsOutcome channels.now cycles outcome result.status (text_of result.text) }
 {
     match outcome {
@@ -335,7 +337,7 @@ fn with_line(status: Status, line: Pad) -> Answer
 
 fn recorded_line(line: Pad, cycles: u32, packets: u32) -> Pad
     requires empty { shown line ≡ [] }
-    requires room { left line ≡ 256 }
+    requires room { left line ≡ LINE_BYTES }
     ensures { shown result ≡ said.recorded_line cycles packets }
 {
     let mut line = line;
@@ -351,7 +353,7 @@ fn recorded_line(line: Pad, cycles: u32, packets: u32) -> Pad
 fn unstable_line(line: Pad, channels: &Channels, channel: usize, cycle: u32) -> Pad
     requires table { IsTable channels.now }
     requires empty { shown line ≡ [] }
-    requires room { left line ≡ 256 }
+    requires room { left line ≡ LINE_BYTES }
     ensures { shown result ≡ said.unstable_line channels.now channel cycle }
 {
     let mut line = line;

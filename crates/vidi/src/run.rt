@@ -7,7 +7,7 @@ ghost use Rattle.net_design.specs.Lawful.{IsLawful};
 ghost use Rattle.net_order.specs.Order.{IsOrder};
 ghost use Rattle.run_model.specs.MapOf.{IsMapOf};
 ghost use Rattle.script_text.specs.Fits.{FitsChannels};
-ghost use Rattle.script_offer.specs.ScriptOffer.{script_offer};
+ghost use Rattle.script_text.specs.ScriptOffer.{script_offer};
 ghost use Rattle.bench_run.specs.Plain.{IsPlainRun};
 ghost use Rattle.report_text.specs.Rows.{run_text};
 ghost use Rattle.vidi.specs.AnswerText.{text_of};

@@ -12,11 +12,10 @@ ghost use Rattle.vidi.specs.Stopping.{IsStopped};
 ghost use Rattle.vidi.specs.Traces.{Saves, StopsSaving};
 
 use crate::answer::{Answer, refused, unread, with_bytes};
-use crate::dump::TRACE_LIMIT;
 use crate::status::{Reason, Status, Stop, Word};
 use report_text::{put, put_number};
 use std::alloc::Global;
-use trace_code::{CodeError, Whole, end_mark, salvage_front};
+use trace_code::{CodeError, TRACE_LIMIT, Whole, end_mark, salvage_front};
 use vidi_bits::{Bytes, Memory};
 use vidi_io::{Failed, Shelf, read_whole, write_whole};
 

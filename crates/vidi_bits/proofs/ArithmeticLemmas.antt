@@ -1,6 +1,6 @@
 -- Arithmetic modulo 2 to the power of a width of at most 128, by way of numbers of 128 bits.
 use Rattle.std.proofs.Common.{◌≡◌, ℕ, ◌+◌, ◌-◌, ◌*◌, ◌/◌, ◌%◌, ◌^◌, ◌<◌, ◌≤◌, bit_or, sym, arith}
-use Rattle.std.proofs.Math.Nat.{pow-le-pow_right, div-eq_of_lt, mul-mod_left, add-mul-mod_self_right}
+use Rattle.std.proofs.Math.Nat.{pow-le-pow_right, div-eq_of_lt, mul-mod_left, add-mul-mod_self_right, mul-le-mul_left}
 use Rattle.std.proofs.Math.Pow.{mod-mod-pow}
 use Rattle.std.proofs.lemmas.Nat.{pow_pos, pow-add, shr_split, shr_below, shl_whole, or_shifted, mod_below}
 
@@ -56,3 +56,6 @@ pub side_by_side : (high low w : ℕ) → w ≤ 128 → high < 2 ^ (128 - w) →
     + low % 2 ^ w
 side_by_side high low w l h =
     rw (shl_whole high (128 - w) w 128 h (omega arith)) (or_shifted high w (low % 2 ^ w) (mod_below low (2 ^ w) (pow_pos w)))
+
+pub shifted_grows : (base n d : ℕ) → 1 ≤ base → n ≤ n * base + d
+shifted_grows base n d h = omega (arith, mul-le-mul_left n h)

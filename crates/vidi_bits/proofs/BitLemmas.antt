@@ -1,11 +1,12 @@
 -- The bits of shifted numbers, of parts of numbers, and of numbers with a part replaced.
 use Rattle.std.proofs.Common.{◌≡◌, ℕ, ◌+◌, ◌-◌, ◌*◌, ◌/◌, ◌%◌, ◌^◌, ◌<◌, ◌≤◌, min, max, bit_and, bit_or, ⊎_elim, ap, sym, ◌∙◌, add-zero}
-use Rattle.std.proofs.Common.{arith}
+use Rattle.std.proofs.Common.{arith, false, subst}
 use Rattle.std.specs.Int.{bit_at, w128}
-use Rattle.std.proofs.lemmas.Bool.{cases_lt}
+use Rattle.std.proofs.lemmas.Bool.{cases_lt, ne_eqb}
 use Rattle.std.proofs.lemmas.Nat.{pow_pos, shr_split, shr-shr, or_lt, mod_below, and_le_l}
 use Rattle.std.proofs.lemmas.Nat.Bits.{bit_at_and, bit_at_or, bit_at_not, bit_at-zero, bit_at-lt, bit_at_above, bit_at_cat_low}
-use Rattle.std.proofs.lemmas.Nat.Bits.{bit_at_cat_high, bit_at_ones, bit_at_ones_above, same_from_bits_below}
+use Rattle.std.proofs.lemmas.Nat.Bits.{bit_at_cat_high, bit_at_ones, bit_at_ones_above, same_from_bits_below, same_from_bits}
+use Rattle.vidi_bits.specs.Number.{put_of, has}
 
 -- ---- shifts and rests
 pub bit_at-mod : (n k i : ℕ) → i < k → bit_at (n % 2 ^ k) i ≡ bit_at n i
@@ -120,3 +121,27 @@ put-by_masks x low w part lx =
     (mod_below (part % 2 ^ w * 2 ^ low) (2 ^ 128) (pow_pos 128)))
     (mod_below ((x / 2 ^ (low + w) * 2 ^ w + part % 2 ^ w) * 2 ^ low + x % 2 ^ low) (2 ^ 128) (pow_pos 128))
     (λ i l. put-bit x low w part i l)
+
+-- no bit, so not named
+pub hasn't-from-bit : (mask c : ℕ) → bit_at mask c ≡ 0 → has mask c ≡ false
+hasn't-from-bit mask c h = ne_eqb (bit_at mask c) 1 (λ one. absurd (omega (arith, one, h)))
+
+pub has-above : (mask n c : ℕ) → mask < 2 ^ n → n ≤ c → has mask c ≡ false
+has-above mask n c l h = hasn't-from-bit mask c (bit_at_above mask n c l h)
+
+-- a number without a bit from w on is below 2 to the power of w
+pub fits_by_bits : (n w : ℕ) → ((k : ℕ) → w ≤ k → bit_at n k ≡ 0) → n < 2 ^ w
+fits_by_bits n w h =
+    let same : n % 2 ^ w ≡ n = same_from_bits (n % 2 ^ w) n (λ k. ⊎_elim
+    (λ (l : k < w). bit_at-mod n w k l)
+    (λ (g : w ≤ k). bit_at-mod_above n w k g ∙ sym (h k g))
+    (cases_lt k w)) in
+    subst (λ x. x < 2 ^ w) same (mod_below n (2 ^ w) (pow_pos w))
+
+-- a number that is written below a width still fits it
+pub put_fits : (x low w y width : ℕ) → x < 2 ^ width → low + w ≤ width → put_of x low w y < 2 ^ width
+put_fits x low w y width l h =
+    fits_by_bits (put_of x low w y) width (λ k g. ⊎_elim
+    (λ (small : k < 128). bit_at-put_above x low w y k small (omega arith) ∙ bit_at_above x width k l g)
+    (λ (large : 128 ≤ k). bit_at-mod_above ((x / 2 ^ (low + w) * 2 ^ w + y % 2 ^ w) * 2 ^ low + x % 2 ^ low) 128 k large)
+    (cases_lt k 128))

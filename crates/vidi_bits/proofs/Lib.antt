@@ -1,2 +1,10 @@
 pub mod ArithmeticLemmas
 pub mod BitLemmas
+pub mod NumberLemmas
+pub mod Below
+pub mod Bools
+pub mod Each
+pub mod FindingLaws
+pub mod Lists
+pub mod Results
+pub mod OneAnswer

@@ -1,5 +1,5 @@
 -- A reason is the list of all its findings, in the order in which they are answered; an answer is the first of them.
-use Rattle.std.specs.Prelude.{◌≡◌, Bool, true, false, List, [], ◌∷◌, Option, None, Some, Result, Ok, Err}
+use Rattle.std.specs.Prelude.{◌≡◌, Bool, true, false, List, [], ◌∷◌, Option, None, Some, IfSome, Result, Ok, Err}
 
 -- whether a list is empty
 abbrev pub is_nil : {A : Type 0} → List A → Bool
@@ -21,7 +21,11 @@ abbrev pub told_if : {A : Type 0} → Bool → A → List A
 told_if true x = x ∷ []
 told_if false x = []
 
--- an answer exactly where nothing is found, and else the first finding
-abbrev pub Tried : {A E : Type 0} → Result A E → List E → Type 0
-Tried (Ok a) findings = findings ≡ []
-Tried (Err e) findings = first findings ≡ Some e
+-- the first finding, where the error tells one; want of memory tells none, and is free
+abbrev pub IsFirst : {E F : Type 0} → (E → Option F) → List F → E → Type 0
+IsFirst told findings error = IfSome (told error) (λ finding. first findings ≡ Some finding)
+
+-- an answer exactly where nothing is found, and else the first finding; want of memory is free
+abbrev pub Judged : {A E F : Type 0} → (E → Option F) → Result A E → List F → Type 0
+Judged told (Ok a) findings = findings ≡ []
+Judged told (Err error) findings = IsFirst told findings error

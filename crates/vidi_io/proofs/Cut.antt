@@ -1,5 +1,5 @@
 -- A file that is started, and whose one piece is cut off.
-use Rattle.std.proofs.Common.{◌≡◌, ℕ, List, [], Option, Result, Ok, Err, OnOk, OnErr, take, inl, inr, ap, ◌∙◌}
+use Rattle.std.proofs.Common.{◌≡◌, ℕ, List, [], Option, Result, Ok, Err, OnOk, take, inl, inr, ap, ◌∙◌}
 use Rattle.vidi_io.specs.Shelf.{Files, holding, emptied, appended, GrewBySome}
 use Rattle.vidi_io.specs.Writing.{IsCutOff}
 use Rattle.vidi_io.proofs.Started.{appended-holding}
@@ -22,7 +22,3 @@ written-whole old mid new name bytes started grew =
 pub on_ok : {X E P Q : Type 0} (r : Result X E) → (P → Q) → OnOk r P → OnOk r Q
 on_ok (Ok x) f p = f p
 on_ok (Err e) f p = p
-
-pub on_err : {X E P Q : Type 0} (r : Result X E) → (P → Q) → OnErr r P → OnErr r Q
-on_err (Ok x) f p = p
-on_err (Err e) f p = f p

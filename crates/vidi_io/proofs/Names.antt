@@ -18,6 +18,7 @@ use Rattle.std.specs.List.{find, position, position_or_len}
 use Rattle.std.specs.Option.{option_or}
 use Rattle.std.specs.Ordering.{nat_cmp}
 use Rattle.std.specs.Str.{bytes_eq}
+use Rattle.vidi_bits.proofs.Lists.{bytes_eq-self}
 use Rattle.vidi_io.specs.Cause.{Rose}
 use Rattle.vidi_io.specs.Entries.{entry_of, files_of, file_in, faults_of, room_of, Became, RoomsStay, ReadFailed}
 use Rattle.vidi_io.specs.Shelf.{Files, bytes_of}
@@ -53,9 +54,6 @@ Puts old new name e = (q : List ℕ) → entry_of new q ≡ cond (bytes_eq q nam
 bytes_eq-other : (xs ys : List ℕ) → xs ≢ ys → bytes_eq xs ys ≡ false
 bytes_eq-other xs ys other = ⊎_elim (λ (t : bytes_eq xs ys ≡ true). absurd (other ((bytes_eq-Decides xs ys).0 t)))
     (λ (f : bytes_eq xs ys ≡ false). f) (cases_Bool (bytes_eq xs ys))
-
-pub bytes_eq-self : (xs : List ℕ) → bytes_eq xs xs ≡ true
-bytes_eq-self xs = (bytes_eq-Decides xs xs).1 refl
 
 -- a fact at each name from the fact at the one that was set
 at_each : (P : List ℕ → Option Entry → Type 0) (old new : List Entry) (name : List ℕ) (e : Entry) → Puts old new name e → P name (Some e)
@@ -266,10 +264,6 @@ on_ok (Err e) p f = tt
 pub on_err : {T E P Q : Type 0} (r : Result T E) → OnErr r P → (P → Q) → OnErr r Q
 on_err (Ok x) p f = tt
 on_err (Err e) p f = f p
-
-pub always_on_err : {T E P : Type 0} (r : Result T E) → P → OnErr r P
-always_on_err (Ok x) p = tt
-always_on_err (Err e) p = p
 
 -- the piece was added to the file as it was
 pub grows : {old mid : List Entry} {name : List ℕ} {i : ℕ} {o : Entry} (e : Entry) (piece : List ℕ) → IsAt old mid name i o → Keeps o e

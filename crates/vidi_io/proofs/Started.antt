@@ -8,10 +8,11 @@ use Rattle.std.specs.Cmp.Lexicographic.{nat_list_cmp_total}
 use Rattle.std.specs.FinMap.{get, insert, get-insert}
 use Rattle.std.specs.Io.KnownBytes.{append_known}
 use Rattle.std.specs.Str.{bytes_eq}
+use Rattle.vidi_bits.proofs.Lists.{bytes_eq-self}
 use Rattle.vidi_io.specs.Shelf.{Files, bytes_of, holding, emptied, appended, GrewBySome}
 use Rattle.vidi_io.specs.ShelfSink.{bytes_written, IsOver}
 use Rattle.vidi_io.specs.Sink.{Frame, AppendsSome}
-use Rattle.vidi_io.proofs.Names.{bytes_eq-self, same_files}
+use Rattle.vidi_io.proofs.Names.{same_files}
 
 get-here : (m : Files) (name bytes : List ℕ) → get (insert m name bytes) name ≡ Some bytes
 get-here m name bytes = get-insert nat_list_cmp_total m name bytes name
@@ -62,9 +63,9 @@ written-more : (files : Option Files) (name piece : List ℕ) → bytes_written 
 written-more None name piece = refl
 written-more (Some m) name piece = ap Some (bytes_of-insert m name (bytes_of m name ++ piece))
 
-pub nothing-more : (known : Option (List ℕ)) → known ≡ append_known known []
-nothing-more None = refl
-nothing-more (Some bytes) = ap Some (sym (append-nil bytes))
+pub nothing_more : (known : Option (List ℕ)) → known ≡ append_known known []
+nothing_more None = refl
+nothing_more (Some bytes) = ap Some (sym (append-nil bytes))
 
 -- after an append that answers Ok
 pushed : (started : Bool) (old new : Option Files) (was : Option (List ℕ)) (name piece : List ℕ) → started ≡ true
@@ -80,7 +81,7 @@ pushed_some started old new was name piece s w (inl e) = record {
   kept = [];
   lost = piece;
   split = refl;
-  told = ap (λ fs. bytes_written started fs name) e ∙ w ∙ nothing-more was;
+  told = ap (λ fs. bytes_written started fs name) e ∙ w ∙ nothing_more was;
 }
 pushed_some started old new was name piece s w (inr (k, e)) = record {
   kept = take k piece;

@@ -176,3 +176,62 @@ fn host_files_are_written_and_read(rt: HostRuntime) -> Result<(), test::Fail> {
     HostSink::new(&rt).push(b"one\n")?;
     Ok(())
 }
+
+// What is in a real file, of at most 64 bytes.
+fn holds(alloc: Global, shelf: &mut impl Shelf, name: &str, want: &[u8]) -> bool {
+    match read_whole(alloc, shelf, name, 64) {
+        Ok(bytes) => bytes.as_slice() == want,
+        Err(_) => false,
+    }
+}
+
+// Two real files that are added to by turns; one is started again while it is open, and one while the other is.
+#[test]
+fn host_files_are_added_to_by_turns(rt: HostRuntime) -> Result<(), test::Fail> {
+    let folder = env::temp_dir(&rt)?;
+    let name = format!(in rt.alloc(); "vidi_io-turns-{}", process::id(rt.process()))?;
+    let path = folder.join(rt.alloc(), name.as_str())?;
+    fs::create_dir(&rt, &path)?;
+    let one = path.join(rt.alloc(), "one")?;
+    let two = path.join(rt.alloc(), "two")?;
+    let one = one.as_path().to_str().expect(&rt, "a path that is text");
+    let two = two.as_path().to_str().expect(&rt, "a path that is text");
+    let mut shelf = HostShelf::new(&rt);
+    for (name, piece) in [(one, "a"), (one, "b"), (two, "c"), (one, "d"), (two, "e")] {
+        shelf.append(name, piece.as_bytes())?;
+    }
+    let first = holds(rt.alloc(), &mut shelf, one, b"abd");
+    let second = holds(rt.alloc(), &mut shelf, two, b"ce");
+    shelf.start(two)?;
+    let begun = holds(rt.alloc(), &mut shelf, two, b"");
+    shelf.append(two, b"f")?;
+    shelf.start(one)?;
+    shelf.append(one, b"g")?;
+    shelf.append(two, b"h")?;
+    let first_again = holds(rt.alloc(), &mut shelf, one, b"g");
+    let second_again = holds(rt.alloc(), &mut shelf, two, b"fh");
+    fs::remove_dir_all(&rt, &path)?;
+    assert!(rt; first && second, "by turns");
+    assert!(rt; begun && first_again && second_again, "started again");
+    Ok(())
+}
+
+// A device on which every write fails, between two pieces of a real file.
+#[test]
+fn a_failed_write_is_told(rt: HostRuntime) -> Result<(), test::Fail> {
+    let folder = env::temp_dir(&rt)?;
+    let name = format!(in rt.alloc(); "vidi_io-full-{}", process::id(rt.process()))?;
+    let path = folder.join(rt.alloc(), name.as_str())?;
+    let file = path.as_path().to_str().expect(&rt, "a path that is text");
+    let mut shelf = HostShelf::new(&rt);
+    shelf.append(file, b"o")?;
+    let full = shelf.append("/dev/full", b"lost");
+    let full_again = shelf.append("/dev/full", b"lost");
+    shelf.append(file, b"ne")?;
+    let whole = holds(rt.alloc(), &mut shelf, file, b"one");
+    fs::remove_file(&rt, file)?;
+    assert_eq!(rt; full, Err::<(), Failed>(Failed));
+    assert_eq!(rt; full_again, Err::<(), Failed>(Failed));
+    assert!(rt; whole, "the file of the other name");
+    Ok(())
+}

@@ -2,10 +2,10 @@
 use Rattle.std.proofs.Common.{◌≡◌, ℕ, ◌+◌, ◌*◌, ◌≤◌, ◌<◌, ◌^◌, Bool, true, false, ◌&&◌, nat_lt, List, [], ◌∷◌, if◌then◌else◌, arith, Option}
 use Rattle.std.proofs.Common.{None, Some, refl, drop, length, get_or, ap, ◌∙◌, suc, drop-cons}
 use Rattle.std.proofs.lemmas.List.{drop_all}
-use Rattle.std.proofs.Math.Nat.{mul-le-mul_left}
 use Rattle.std.specs.Char.{digit_value}
 use Rattle.std.specs.List.{list_all}
 use Rattle.std.specs.Str.Parse.{digits_value_after}
+use Rattle.vidi_bits.proofs.ArithmeticLemmas.{shifted_grows}
 use Rattle.vidi_bits.specs.Findings.{is_nil}
 use Rattle.vidi_bits.specs.Limits.{below_top}
 use Rattle.vidi_lines.specs.Number.{number_in}
@@ -25,9 +25,6 @@ past_below x v le e = grind arith
 
 fits : (n : ℕ) → n < 2 ^ 128 → below_top n ≡ Some n
 fits n h = grind arith
-
-shifted_grows : (base n d : ℕ) → 1 ≤ base → n ≤ n * base + d
-shifted_grows base n d h = omega (arith, mul-le-mul_left n h)
 
 digits_grow : (base n : ℕ) (text : List ℕ) → 1 ≤ base → n ≤ digits_value_after base n text
 digits_grow base n [] h = omega arith

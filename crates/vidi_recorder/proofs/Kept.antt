@@ -1,15 +1,16 @@
 -- What the trace of a run holds, and what a plan that drains everything makes of a run.
-use Rattle.std.proofs.Common.{◌≡◌, ℕ, zero, suc, ◌+◌, ◌<◌, ◌≤◌, ◌^◌, Bool, true, false, not, cond, List, [], ◌∷◌, ◌++◌}
+use Rattle.std.proofs.Common.{◌≡◌, ℕ, suc, ◌+◌, ◌<◌, ◌≤◌, Bool, true, false, not, cond, List, [], ◌∷◌, ◌++◌}
 use Rattle.std.proofs.Common.{Some, None, length, take, drop, map, slice_get, count_by, refl, ap, sym, subst, ◌∙◌, arith, ⊎_elim, add-one}
 use Rattle.std.specs.List.{filter}
 use Rattle.std.proofs.lemmas.Bool.{cases_Bool, and_from}
 use Rattle.std.proofs.lemmas.List.{take-append-drop, length-take-le, length-map, length_push}
 use Rattle.std.proofs.lemmas.Option.{slice_get_within, same_Some}
+use Rattle.std.proofs.lemmas.Nat.{pow_pos}
+use Rattle.vidi_bits.specs.Number.{has}
 use Rattle.trace_model.specs.declared.channel.Channel.{Channel}
 use Rattle.trace_model.specs.declared.event.Kind.TheVariants.{End}
 use Rattle.trace_model.specs.declared.row.Row.{Row}
 use Rattle.trace_model.specs.Channel.{content_bytes}
-use Rattle.trace_model.specs.Counting.{has}
 use Rattle.trace_model.specs.Recording.{has_event, packet_of, packets_of, row_does}
 use Rattle.trace_model.specs.Row.{completes, is_in_flight}
 use Rattle.trace_model.proofs.CountingLemmas.{count-cons, slice_get-last}
@@ -20,13 +21,12 @@ use Rattle.run_model.specs.Run.{AllUp, IsRun}
 use Rattle.run_model.proofs.Contents.{has-all, same-masks_below}
 use Rattle.run_model.proofs.RunLaws.{StayUp, run-keeps, kept}
 use Rattle.room_ledger.specs.Gates.{Plan, used_at, keeps, AreGates}
-use Rattle.room_ledger.specs.Laws.{EverythingDrains}
 use Rattle.room_ledger.specs.Reservation.{need, AreRaised}
 use Rattle.room_ledger.proofs.Following.{used-front}
-use Rattle.room_ledger.proofs.GateLaws.{down-waits, some-row}
-use Rattle.script_offer.specs.Offer.{Offer}
-use Rattle.env_offers.specs.Offered.{offers_after}
-use Rattle.env_offers.proofs.OfferLaws.{stays-offered}
+use Rattle.room_ledger.proofs.GateLaws.{down-waits, some-row, none-left}
+use Rattle.script_text.specs.Offer.{Offer}
+use Rattle.env_script.specs.Offered.{offers_after}
+use Rattle.env_script.proofs.OfferLaws.{stays-offered}
 use Rattle.vidi_recorder.specs.Course.{Course, course, sizes_of, GatesUnder, IsRunOf}
 use Rattle.vidi_recorder.specs.Laws.{AreLasting, TheRunIsKept, NoHiddenGate, DrainedRunIsPlain}
 use Rattle.vidi_recorder.proofs.Runs.{the-run}
@@ -109,9 +109,6 @@ no-hidden_gate w rows t c row fits run at l down =
     omega (arith, some, used)
 
 -- ---- everything drains
-positive : (n : ℕ) → 0 < 2 ^ n
-positive zero = omega arith
-positive (suc n) = let p = positive n in omega arith
 
 plain : (w : Course) (rows : List Row) → need (sizes_of w.bound.channels) ≤ w.plan.capacity → IsRunOf w rows
     → ((t : ℕ) → t < length rows → used_at (sizes_of w.bound.channels) w.plan rows t ≡ 0)
@@ -124,7 +121,7 @@ plain w rows fits run none = record {
   where
     up : (t : ℕ) (row : Row) → slice_get rows t ≡ Some row → row.gates ≡ all_up w.bound.channels
     up t row at = same-masks_below (length w.bound.channels) row.gates (all_up w.bound.channels) (run.marked t row at).0.gates
-        (let p = positive (length w.bound.channels) in omega (arith, p))
+        (let p = pow_pos (length w.bound.channels) in omega (arith, p))
         (λ c l. ⊎_elim
         (λ (h : has row.gates c ≡ true). h ∙ sym (has-all (length w.bound.channels) c l))
         (λ (h : has row.gates c ≡ false).
@@ -132,10 +129,6 @@ plain w rows fits run none = record {
         let zero-used = none t (slice_get_within rows t row at) in
         absurd (omega (arith, some, zero-used)))
         (cases_Bool (has row.gates c)))
-
-none-left : (sizes : List ℕ) (plan : Plan) (rows : List Row) → EverythingDrains sizes plan rows → (t : ℕ) → used_at sizes plan rows t ≡ 0
-none-left sizes plan rows drains zero = refl
-none-left sizes plan rows drains (suc t) = drains t
 
 pub drained-plain : DrainedRunIsPlain
 drained-plain w rows None fits drains (run, stable, e) =

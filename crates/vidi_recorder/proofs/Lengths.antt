@@ -1,5 +1,6 @@
 -- Lengths of packets.
 use Rattle.std.proofs.Common.{◌≡◌, ℕ, ◌+◌, ◌≤◌, List, length, map, sum_by, ap, sym, ◌∙◌, arith}
+use Rattle.trace_model.specs.declared.packet.TheConstants.{LONGEST_PACKET}
 use Rattle.trace_model.specs.declared.channel.Channel.{Channel}
 use Rattle.trace_model.specs.Channel.{content_bytes, IsTable}
 use Rattle.trace_model.specs.Length.{head_len, packet_len}
@@ -7,8 +8,8 @@ use Rattle.room_ledger.specs.Ledger.{Ledger, claimed, Emitted}
 use Rattle.room_ledger.specs.Reservation.{event_len}
 use Rattle.room_ledger.proofs.Following.{same-len}
 
--- a lawful table's packets have at most 1,033 bytes
-pub longest : (channels : List Channel) → IsTable channels → head_len (length channels) + sum_by content_bytes channels ≤ 1033
+-- a lawful table's packets are no longer than the longest
+pub longest : (channels : List Channel) → IsTable channels → head_len (length channels) + sum_by content_bytes channels ≤ LONGEST_PACKET
 longest channels table =
     let few = table.few in
     let content = table.content in

@@ -8,3 +8,4 @@ pub mod Turning
 pub mod Looking
 pub mod Ends
 pub mod Turns
+pub mod ScriptKept

@@ -1,27 +1,21 @@
 -- The row that a shell shows for the offers of an environment.
-use Rattle.std.proofs.Common.{◌≡◌, ℕ, List, [], ◌∷◌, Option, length, subst, sym}
+use Rattle.std.proofs.Common.{◌≡◌, ℕ, List, [], Option, length, subst, sym}
 use Rattle.std.proofs.Math.Logic.{∥∥₁_elim}
 use Rattle.std.proofs.Props.{props}
+use Rattle.run_model.specs.Offers.{AreZeroWhileDown}
 use Rattle.trace_model.specs.declared.channel.Channel.{Channel}
 use Rattle.trace_model.specs.declared.row.Offers.{Offers}
 use Rattle.trace_model.specs.declared.row.Row.{Row}
-use Rattle.trace_model.specs.Packet.{Fit}
 use Rattle.trace_model.specs.Row.{all_widths, AreOffers, IsOver}
-use Rattle.trace_model.proofs.ContentsLemmas.{fit-length}
+use Rattle.trace_model.proofs.ContentsLemmas.{fit-length, fit_prop}
 use Rattle.net_design.specs.declared.design.Design.{Design}
 use Rattle.net_design.specs.declared.values.Values.{Values}
 use Rattle.chan_map.specs.declared.pins.Map.{Map}
 use Rattle.run_model.specs.Offers as Rows
-use Rattle.script_offer.specs.Offer.{Offer, Carries, EndsAreCompletions}
-use Rattle.chan_monitor.specs.Shell.{AreZeroWhileDown, IsRunning, IsShown}
-use Rattle.env_offers.specs.Offered.{offers_on, AllFit}
-use Rattle.env_offers.proofs.OfferLaws.{are-offers, are-zero, carries-each}
-
-fit_prop : (widths numbers : List ℕ) → IsProp (Fit widths numbers)
-fit_prop [] [] = hlevel props
-fit_prop [] (x ∷ xs) = hlevel props
-fit_prop (w ∷ ws) [] = hlevel props
-fit_prop (w ∷ ws) (x ∷ xs) = let rest = fit_prop ws xs in hlevel (props, rest)
+use Rattle.script_text.specs.Offer.{Offer, Carries, EndsAreCompletions}
+use Rattle.chan_monitor.specs.Shell.{IsRunning, IsShown}
+use Rattle.env_script.specs.Offered.{offers_on, AllFit}
+use Rattle.env_script.proofs.OfferLaws.{are-offers, are-zero, carries-each}
 
 over_prop : (channels : List Channel) (row : Row) → IsProp (IsOver channels row)
 over_prop channels row = hlevel (props, fit_prop)

@@ -1,13 +1,9 @@
 -- Pieces that were pushed.
-use Rattle.std.proofs.Common.{◌≡◌, ℕ, List, [], ◌++◌, Option, Some, None, Result, Ok, Err, OnErr, length, take, refl, ap, sym, subst, ◌∙◌}
+use Rattle.std.proofs.Common.{◌≡◌, ℕ, List, [], ◌++◌, Option, Some, None, length, take, refl, ap, sym, subst, ◌∙◌}
 use Rattle.std.proofs.Common.{append_assoc, arith}
 use Rattle.std.specs.Io.KnownBytes.{append_known}
-use Rattle.std.proofs.lemmas.List.{append-nil, take_all}
+use Rattle.std.proofs.lemmas.List.{take_all}
 use Rattle.vidi_io.specs.Sink.{AppendsSome}
-
-pub told_nothing : (told : Option (List ℕ)) → told ≡ append_known told []
-told_nothing None = refl
-told_nothing (Some xs) = ap Some (sym (append-nil xs))
 
 pub told-both : (a b c : Option (List ℕ)) (xs ys : List ℕ) → b ≡ append_known a xs → c ≡ append_known b ys → c ≡ append_known a (xs ++ ys)
 told-both a b c xs ys p q = q ∙ ap (λ o. append_known o ys) p ∙ both a xs ys
@@ -43,11 +39,3 @@ told-whole old new items n e h = h ∙ ap (append_known old) (take_all n items (
 pub whole-front : (old new : Option (List ℕ)) (items : List ℕ) (n : ℕ) → n ≡ length items → AppendsSome old new (take n items)
     → AppendsSome old new items
 whole-front old new items n e = subst (AppendsSome old new) (take_all n items (omega (arith, e)))
-
-pub on_err : {X E P Q : Type 0} (r : Result X E) → (P → Q) → OnErr r P → OnErr r Q
-on_err (Ok x) f p = p
-on_err (Err e) f p = f p
-
-pub err_any : {X E P : Type 0} (r : Result X E) → P → OnErr r P
-err_any (Ok x) p = tt
-err_any (Err e) p = p

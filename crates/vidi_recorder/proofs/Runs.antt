@@ -1,9 +1,9 @@
 -- Fronts of the run: rows under its rules are the first rows of it, and their bytes the first bytes of its encoding.
-use Rattle.std.proofs.Common.{◌≡◌, ℕ, zero, suc, ◌<◌, ◌≤◌, Bool, true, false, cond, List, [], ◌∷◌, ◌++◌, Option, Some, None, length}
+use Rattle.std.proofs.Common.{◌≡◌, ℕ, ◌<◌, ◌≤◌, Bool, true, false, cond, List, [], ◌∷◌, ◌++◌, Option, Some, None, length}
 use Rattle.std.proofs.Common.{take, drop, map, slice_get, refl, ap, sym, subst, ◌∙◌, append_assoc, arith, ⊎_elim}
 use Rattle.std.specs.List.{filter, flat_map}
 use Rattle.std.proofs.lemmas.Bool.{cases_lt}
-use Rattle.std.proofs.lemmas.List.{take-append-drop, take_at, take-take, length-take-le, length_push}
+use Rattle.std.proofs.lemmas.List.{take-append-drop, take_at, length-take-le, length_push}
 use Rattle.std.proofs.lemmas.List.Concat.{flat_map-append}
 use Rattle.trace_model.specs.declared.channel.Channel.{Channel}
 use Rattle.trace_model.specs.declared.row.Row.{Row}
@@ -11,11 +11,9 @@ use Rattle.trace_model.specs.Recording.{has_event, packet_of, packets_of, trace_
 use Rattle.trace_model.specs.Row.{row_before}
 use Rattle.trace_model.proofs.CountingLemmas.{slice_get-take}
 use Rattle.trace_code.specs.Encoding.{encode, end_mark, header_bytes, packet_bytes, row_bytes}
-use Rattle.net_design.specs.declared.design.Design.{Design}
 use Rattle.net_design.specs.Lawful.{IsLawful}
-use Rattle.chan_map.specs.declared.pins.Map.{Map}
-use Rattle.run_model.specs.Played.{AreStable, IsPlayed}
-use Rattle.run_model.proofs.PlayedLaws.{Determines, one-list_of_rows, rows-front}
+use Rattle.run_model.specs.Played.{AreStable}
+use Rattle.run_model.proofs.PlayedLaws.{Determines, one-list_of_rows, row-before_take, played-front}
 use Rattle.run_model.proofs.RowParts.{carried}
 use Rattle.room_ledger.proofs.GateLaws.{one-set}
 use Rattle.chan_monitor.specs.Shell.{IsMapped}
@@ -24,31 +22,6 @@ use Rattle.vidi_recorder.specs.Standing.{body}
 use Rattle.vidi_recorder.specs.Recording.{IsFrontOfTheRun}
 
 -- ---- fronts of rows
-within : (rows : List Row) (k t : ℕ) (row : Row) → slice_get (take k rows) t ≡ Some row → t < k
-within [] zero t row at = absurd (cc)
-within [] (suc k) t row at = absurd (cc)
-within (x ∷ xs) zero t row at = absurd (cc)
-within (x ∷ xs) (suc k) zero row at = omega arith
-within (x ∷ xs) (suc k) (suc t) row at = let l = within xs k t row at in omega arith
-
-before-front : (rows : List Row) (k t : ℕ) → t ≤ k → row_before (take k rows) t ≡ row_before rows t
-before-front rows k zero l = refl
-before-front rows k (suc t) l = slice_get-take k rows t (omega arith)
-
-pub played-front : (d : Design) (m : Map) (rule : List Row → Row → Type 0) (rows : List Row) (k : ℕ) → IsPlayed d m rule rows
-    → IsPlayed d m rule (take k rows)
-played-front d m rule rows k p = record {
-  marked = rows-front m.channels rows k p.marked;
-  driven = record {
-    state = p.driven.state;
-    first = p.driven.first;
-    steps = λ t row at. p.driven.steps t row (sym (slice_get-take k rows t (within rows k t row at)) ∙ at);
-  };
-  ruled = λ t row at.
-      (let l = within rows k t row at in
-      subst (λ (rs : List Row). rule rs row) (sym (take-take t k rows (omega arith)))
-      (p.ruled t row (sym (slice_get-take k rows t l) ∙ at)));
-}
 
 determines : (w : Course) → Determines w.bound.channels (rule_of w)
 determines w before a b are oa ob ra rb =
@@ -86,7 +59,7 @@ module _ (w : Course) (lawful : IsLawful w.design) (ready : IsMapped w.design w.
       let is : take (length more) rows ≡ more = front-of more rows stops.played r longer in
       let u = stops.unstable in
       absurd (s (length all) u.before u.now
-      (sym (before-front rows (length more) (length all) (omega (arith, long)))
+      (sym (row-before_take rows (length more) (length all) (omega (arith, long)))
       ∙ ap (λ (rs : List Row). row_before rs (length all)) is ∙ u.before_is)
       (sym (slice_get-take (length more) rows (length all) (omega (arith, long)))
       ∙ ap (λ (rs : List Row). slice_get rs (length all)) is ∙ u.now_is) c u.lowest.0))

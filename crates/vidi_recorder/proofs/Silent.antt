@@ -1,13 +1,10 @@
 -- A row in which nothing is up is one over its channels.
-use Rattle.std.proofs.Common.{◌≡◌, ℕ, zero, suc, ◌<◌, ◌^◌, List, length, replicate, arith, refl, subst, sym}
+use Rattle.std.proofs.Common.{◌≡◌, List, length, replicate, refl, subst, sym}
+use Rattle.std.proofs.lemmas.Nat.{pow_pos}
 use Rattle.trace_model.specs.declared.channel.Channel.{Channel}
 use Rattle.trace_model.specs.declared.row.Row.{Row}
 use Rattle.trace_model.specs.Row.{all_widths, IsOver}
 use Rattle.run_model.proofs.Contents.{fit-zeros}
-
-positive : (n : ℕ) → 0 < 2 ^ n
-positive zero = omega arith
-positive (suc n) = let p = positive n in omega arith
 
 abbrev pub silent : List Channel → Row
 silent channels = record {
@@ -21,11 +18,11 @@ silent channels = record {
 
 over-silent : (channels : List Channel) → IsOver channels (silent channels)
 over-silent channels = record {
-  gates = positive (length channels);
-  valids = positive (length channels);
-  readies = positive (length channels);
-  starts = positive (length channels);
-  ends = positive (length channels);
+  gates = pow_pos (length channels);
+  valids = pow_pos (length channels);
+  readies = pow_pos (length channels);
+  starts = pow_pos (length channels);
+  ends = pow_pos (length channels);
   contents = fit-zeros (all_widths channels);
 }
 

@@ -1,18 +1,18 @@
 -- A shell in the middle of a run, and the run one row longer.
 use Rattle.std.proofs.Common.{◌≡◌, ℕ, zero, suc, ◌<◌, ◌≤◌, ◌&&◌, ◌==◌, true, false, not, List, [], ◌∷◌, ◌++◌, Option}
 use Rattle.std.proofs.Common.{Some, None}
-use Rattle.std.proofs.Common.{length, slice_get, refl, ap, sym, subst, ◌∙◌, arith, ⊎_elim, add-one}
+use Rattle.std.proofs.Common.{length, slice_get, refl, ap, sym, subst, ◌∙◌, arith, ⊎_elim}
 use Rattle.std.proofs.lemmas.Bool.{false≢true}
-use Rattle.std.proofs.lemmas.List.{length_push}
 use Rattle.std.proofs.lemmas.Option.{same_Some}
 use Rattle.trace_model.specs.declared.channel.Channel.{Channel}
 use Rattle.trace_model.specs.declared.row.Offers.{Offers}
 use Rattle.trace_model.specs.declared.row.Row.{Row}
-use Rattle.trace_model.specs.Counting.{has}
 use Rattle.trace_model.specs.Row.{completes, flies_after, row_before, sink_valid, IsMarked, IsOver}
 use Rattle.trace_model.specs.Stability.{waits, IsLowestUnstable, IsUnstable, IsUnstableAt}
 use Rattle.trace_model.proofs.CountingLemmas.{slice_get-append_left, slice_get-last, slice_get-push}
 use Rattle.std.proofs.lemmas.Nat.Bits.{bit_at-zero}
+use Rattle.trace_model.proofs.RowLemmas.{before-last}
+use Rattle.vidi_bits.specs.Number.{has}
 use Rattle.net_design.specs.declared.design.Design.{Design}
 use Rattle.net_design.specs.declared.values.Values.{Values}
 use Rattle.chan_map.specs.declared.pins.Map.{Map}
@@ -30,8 +30,6 @@ use Rattle.vidi_recorder.specs.Standing.{IsLast, Reached}
 use Rattle.vidi_recorder.proofs.Kept.{gates-stay}
 
 -- ---- the last row
-before-last : (rows : List Row) (row : Row) → row_before (rows ++ row ∷ []) (length (rows ++ row ∷ [])) ≡ Some row
-before-last rows row = ap (row_before (rows ++ row ∷ [])) (length_push rows row ∙ add-one (length rows)) ∙ slice_get-last rows row
 
 pub last-push : (rows : List Row) (row last : Row) → last ≡ row → IsLast (row_before (rows ++ row ∷ []) (length (rows ++ row ∷ []))) last
 last-push rows row last e = subst (λ (o : Option Row). IsLast o last) (sym (before-last rows row)) e

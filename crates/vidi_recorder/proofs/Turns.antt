@@ -23,9 +23,9 @@ use Rattle.room_ledger.specs.Laws.{MayFollow, StandsAfter}
 use Rattle.room_ledger.specs.Ledger.{Ledger, MayEmit, Regranted}
 use Rattle.room_ledger.proofs.Following.{keeps-gates}
 use Rattle.script_text.specs.declared.stalls.Stalls.{Stalls}
-use Rattle.script_offer.specs.Offer.{Offer, FitsOffer}
+use Rattle.script_text.specs.Offer.{Offer, FitsOffer}
 use Rattle.chan_monitor.specs.Shell.{IsShown}
-use Rattle.env_offers.specs.Offered.{offers_after, offers_on, AllFit}
+use Rattle.env_script.specs.Offered.{offers_after, offers_on, AllFit}
 use Rattle.vidi_io.specs.Sink.{AppendsSome}
 use Rattle.vidi_recorder.specs.Course.{course, plan_of, rule_of, sizes_of, IsRunOf}
 use Rattle.vidi_recorder.specs.Laws.{AreLasting}

@@ -10,8 +10,8 @@ use Rattle.run_model.specs.Run.{IsRun, IsRunRow, IsTheRun}
 use Rattle.room_ledger.specs.Gates.{Plan, drained, row_len, used_at, AreGates}
 use Rattle.script_text.specs.declared.stalls.Stalls.{Stalls}
 use Rattle.script_text.specs.Plan.{allowance_at}
-use Rattle.script_offer.specs.Offer.{Offer}
-use Rattle.env_offers.specs.Offered.{offers_after}
+use Rattle.script_text.specs.Offer.{Offer}
+use Rattle.env_script.specs.Offered.{offers_after}
 
 -- a design with its map, what is offered after a list of rows, the plan of stalls, and the number of cycles
 pub record Course : Type 0 where

@@ -1,10 +1,10 @@
 -- What a recording holds of a run, and what gates do to it.
 use Rattle.std.specs.Prelude.{◌≡◌, ℕ, ◌<◌, ◌≤◌, ◌^◌, true, false, List, [], ◌∷◌, ◌++◌, Option, Some, length, slice_get, count_by}
+use Rattle.vidi_bits.specs.Number.{has}
 use Rattle.trace_model.specs.declared.channel.Channel.{Channel}
 use Rattle.trace_model.specs.declared.event.Kind.TheVariants.{End}
 use Rattle.trace_model.specs.declared.row.Row.{Row}
 use Rattle.trace_model.specs.Channel.{IsTable}
-use Rattle.trace_model.specs.Counting.{has}
 use Rattle.trace_model.specs.Packet.{count}
 use Rattle.trace_model.specs.Recording.{packets_of, recorded, trace_of, transactions}
 use Rattle.trace_model.specs.Row.{completes}
@@ -17,7 +17,7 @@ use Rattle.room_ledger.specs.Gates.{used_at}
 use Rattle.room_ledger.specs.Laws.{EverythingDrains}
 use Rattle.room_ledger.specs.Reservation.{need}
 use Rattle.script_text.specs.declared.stalls.Stalls.{Stalls}
-use Rattle.script_offer.specs.Offer.{Offer, FitsOffer}
+use Rattle.script_text.specs.Offer.{Offer, FitsOffer}
 use Rattle.vidi_recorder.specs.Course.{Course, course, sizes_of, IsRunOf, IsTheRunOf}
 
 -- what any environment keeps to: each offer fits its channel, and a valid with its content stays until it is taken

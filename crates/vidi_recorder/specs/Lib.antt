@@ -2,3 +2,4 @@ pub mod Course
 pub mod Standing
 pub mod Recording
 pub mod Laws
+pub mod ScriptLaws

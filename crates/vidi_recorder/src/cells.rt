@@ -7,12 +7,11 @@ ghost use Rattle.trace_model.specs.Row.{all_widths, IsOver};
 ghost use Rattle.trace_code.specs.Encoding.{header_bytes};
 ghost use Rattle.chan_monitor.specs.Shell.{HasPlaces};
 
-use chan_monitor::row_over;
-use env_offers::offers_over;
+use env_script::offers_over;
 use room_ledger::Room;
 use std::alloc::Global;
 use trace_code::header_bytes;
-use trace_model::{Channels, Offers, Row};
+use trace_model::{Channels, Offers, Row, row_over};
 use trace_store::Store;
 use vidi_bits::{Bytes, Memory};
 

@@ -13,16 +13,18 @@ ghost use Rattle.vidi_io.specs.Sink.{Frame};
 ghost use Rattle.vidi_recorder.specs.Course.{course, plan_of, sizes_of};
 ghost use Rattle.vidi_recorder.specs.Recording.{EndsWith, FailsFor, FailsWith, IsCutOff};
 ghost use Rattle.vidi_recorder.specs.Standing.{Going, HasSizes, RunsTo};
+ghost use Rattle.script_text.specs.declared.script.TheConstants.{MOST_CYCLES};
 
 use crate::cells::{Cells, open};
 use crate::error::{Outcome, RecordError};
-use crate::steps::{LONGEST_PACKET, close};
+use crate::steps::close;
 use crate::turn::turn;
 use chan_map::Map;
 use chan_monitor::Shell;
 use env_script::{Env, Stalls};
 use room_ledger::Room;
 use std::alloc::Global;
+use trace_model::LONGEST_PACKET;
 use vidi_io::{Failed, Sink};
 
 /// Resets the shell, pushes the header and goes through the cycles of the run. The rest and the end mark aren't pushed yet.
@@ -39,7 +41,7 @@ fn play<S: Shell, E: Env, K: Sink>(
     requires mapped { S.map shell.old ≡ map.now }
     requires channels { E.channels env.old ≡ map.now.channels }
     requires first { E.stands_for env.old [] }
-    requires few { cycles ≤ 50000 }
+    requires few { cycles ≤ MOST_CYCLES }
     requires header { cells.old.header ≡ header_bytes map.now.channels }
     requires room { cells.old.room ≡ fresh (sizes_of map.now.channels) stalls.now.capacity }
     requires store { cells.old.store ≡ buffer [] stalls.now.capacity }
@@ -104,7 +106,7 @@ pub fn record_run<S: Shell, E: Env, K: Sink>(
     requires first { E.stands_for env.old [] }
     requires room { room ≡ fresh (sizes_of map.now.channels) stalls.now.capacity }
     requires some { 1 ≤ cycles }
-    requires few { cycles ≤ 50000 }
+    requires few { cycles ≤ MOST_CYCLES }
     ensures ok { IfOk result (λ outcome. (d : Design) (s : Values) (before : Option OneRow) → S.runs shell.old d s before
         → EndsWith (course d map.now (E.offer (E.plan env.old)) stalls.now cycles) (E.stands_for env.new)
         (K.told sink.old) (K.told sink.new) outcome) }

@@ -3,6 +3,7 @@
 ghost use Rattle.std.specs.Prelude.{◌≡◌, ◌<◌, ◌≤◌, ◌^◌, ◌++◌, ℕ, Option, if◌then◌else◌, length, map, take, drop, OnOk, OnErr};
 ghost use Rattle.std.specs.Io.KnownBytes.{append_known};
 ghost use Rattle.circular_buffer.specs.Buffer.{buffer};
+ghost use Rattle.trace_model.specs.declared.packet.TheConstants.{LONGEST_PACKET};
 ghost use Rattle.trace_model.specs.declared.row.Row.{Row as OneRow};
 ghost use Rattle.trace_model.specs.Channel.{content_bytes, IsTable};
 ghost use Rattle.trace_model.specs.Recording.{has_event};
@@ -12,15 +13,14 @@ ghost use Rattle.net_design.specs.declared.design.Design.{Design};
 ghost use Rattle.net_design.specs.declared.values.Values.{Values};
 ghost use Rattle.room_ledger.specs.Gates.{drained, left};
 ghost use Rattle.room_ledger.specs.Ledger.{Emitted, MayEmit, Regranted};
-ghost use Rattle.script_offer.specs.Offer.{Carries, EndsAreCompletions};
+ghost use Rattle.script_text.specs.Offer.{Carries, EndsAreCompletions};
 ghost use Rattle.chan_monitor.specs.Shell.{HasPlaces, IsShown};
-ghost use Rattle.env_offers.specs.Offered.{offers_on, AllFit};
+ghost use Rattle.env_script.specs.Offered.{offers_on, AllFit};
 ghost use Rattle.vidi_io.specs.Cause.{HasCause};
 ghost use Rattle.vidi_io.specs.Sink.{AppendsSome, Frame};
 
 use chan_monitor::Shell;
-use env_offers::gather;
-use env_script::Env;
+use env_script::{Env, gather};
 use room_ledger::Room;
 use trace_code::{end_mark, write_packet};
 use trace_model::{Channels, Offers, Row};
@@ -68,9 +68,6 @@ fn packets_of(row: &Row) -> u32
     }
 }
 
-/// The bytes of the longest packet of a lawful table: 32 channels and 1,024 content bytes.
-pub(crate) const LONGEST_PACKET: usize = 1 + 2 * 4 + 1024;
-
 /// Puts the packet of a row into the store and the books, where the row has an event. Gives how many packets it has.
 #[tactic(auto, using(crate::proofs::Lengths::longest, crate::proofs::Lengths::packet_room, crate::proofs::Lengths::used_within))]
 pub(crate) fn keep(
@@ -86,7 +83,7 @@ pub(crate) fn keep(
     requires sizes { room.old.sizes ≡ map content_bytes channels.now }
     requires waits { length store.old.items ≡ room.old.used }
     requires capacity { store.old.capacity ≡ room.old.capacity }
-    requires packet { length packet.old ≡ 1033 }
+    requires packet { length packet.old ≡ LONGEST_PACKET }
     ensures room { Emitted room.old row.now.starts row.now.ends room.new }
     ensures store { store.new ≡ buffer (store.old.items ++ row_bytes channels.now row.now) store.old.capacity }
     ensures count { result ≡ (if has_event row.now then 1 else 0) }
@@ -99,7 +96,7 @@ pub(crate) fn keep(
 }
 
 /// Pushes the first `n` bytes that wait, where there are any.
-#[tactic(auto, using(crate::proofs::Pushing::told_nothing))]
+#[tactic(auto, using(vidi_io::proofs::Started::nothing_more))]
 fn push_out<K: Sink>(
     store: &mut Store,
     out: &mut [u8],

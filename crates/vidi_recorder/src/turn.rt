@@ -1,6 +1,7 @@
 //! A cycle.
 
 ghost use Rattle.std.specs.Prelude.{◌≡◌, ◌<◌, ◌++◌, ◌∷◌, [], ℕ, List, Option, None, Some, length, IfOk, OnErr};
+ghost use Rattle.trace_model.specs.declared.packet.TheConstants.{LONGEST_PACKET};
 ghost use Rattle.trace_model.specs.declared.row.Row.{Row as OneRow};
 ghost use Rattle.trace_model.specs.Channel.{IsTable};
 ghost use Rattle.net_design.specs.declared.design.Design.{Design};
@@ -9,6 +10,7 @@ ghost use Rattle.vidi_io.specs.Cause.{HasCause};
 ghost use Rattle.vidi_io.specs.Sink.{Frame};
 ghost use Rattle.vidi_recorder.specs.Course.{course, plan_of, rule_of, IsRunOf};
 ghost use Rattle.vidi_recorder.specs.Standing.{Cut, HasSizes, Reached, StandsAt};
+ghost use Rattle.script_text.specs.declared.script.TheConstants.{MOST_CYCLES};
 
 use crate::cells::Cells;
 use crate::steps::{give, keep, look};
@@ -34,8 +36,8 @@ pub(crate) fn turn<S: Shell, E: Env, K: Sink>(
     requires table { IsTable map.now.channels }
     requires mapped { S.map shell.old ≡ map.now }
     requires channels { E.channels env.old ≡ map.now.channels }
-    requires few { cycle < 50000 }
-    requires packet { length packet.old ≡ 1033 }
+    requires few { cycle < MOST_CYCLES }
+    requires packet { length packet.old ≡ LONGEST_PACKET }
     requires sizes { HasSizes map.now.channels stalls.now.capacity cells.old.store.capacity cells.old.room.used cells.old.out.items
         cells.old.offers cells.old.row cells.old.last }
     requires stands { (first : Option (List ℕ)) × (rows : List OneRow) × (length rows ≡ cycle)

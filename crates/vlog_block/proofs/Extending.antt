@@ -4,6 +4,8 @@ use Rattle.std.proofs.Common.{append_assoc, ◌^◌}
 use Rattle.std.proofs.Math.Path.{fun_ext}
 use Rattle.std.proofs.lemmas.List.{append-nil}
 use Rattle.std.proofs.lemmas.List.Folds.{list_any-append}
+use Rattle.std.proofs.Math.Bool.{or_assoc}
+use Rattle.vidi_bits.proofs.Bools.{or_none}
 use Rattle.net_design.specs.declared.act.Act.{Act}
 use Rattle.net_design.specs.declared.act.Act.TheVariants.{Branch}
 use Rattle.net_design.specs.declared.act.Guard.{Guard}
@@ -15,12 +17,11 @@ use Rattle.net_design.specs.Updates as code
 use Rattle.net_design.specs.Bits as bits
 use Rattle.net_design.specs.Bits.{BitSet, no_bits, known_after}
 use Rattle.net_design.specs.Sized.{IsSizedAct, IsSizedBlock, AreSizedGuards, IsShort, IsCountable}
-use Rattle.net_design.proofs.BoolLaws.{or_none, or_assoc}
 use Rattle.net_design.proofs.UpdateLaws.{apply_both, two_blocks}
 use Rattle.net_design.proofs.Rows.{updates_branch, branch_sized}
 use Rattle.net_code.proofs.RowBits.{branch_writes, branch_adds, branch_open}
-use Rattle.net_drive.specs.Targets.{targets, block_targets}
-use Rattle.net_drive.proofs.TargetRows.{branch_targets}
+use Rattle.net_code.specs.Targets.{targets, block_targets}
+use Rattle.net_code.proofs.TargetRows.{branch_targets}
 use Rattle.vlog_block.specs.Naming.{place_names, code_names}
 use Rattle.vlog_block.proofs.Names.{code_append, names_append}
 use Rattle.vlog_block.specs.Extends.{Doing, Extends, doing_block, doing_branch}

@@ -3,12 +3,15 @@ use Rattle.std.proofs.Common.{◌≡◌, ℕ, zero, suc, ◌+◌, ◌-◌, ◌*�
 use Rattle.std.proofs.Common.{option_map}
 use Rattle.std.proofs.Common.{List, [], ◌++◌, refl, subst, arith}
 use Rattle.std.proofs.Math.Nat.{mul-zero, zero-mul, one-mul, mul-le-mul_right, le-mul_of_pos_right}
+use Rattle.std.proofs.lemmas.Bool.{not-false}
+use Rattle.vidi_bits.proofs.FindingLaws.{told_none}
+use Rattle.vidi_bits.proofs.Lists.{nil_left, nil_right}
 use Rattle.vlog_tree.specs.Tree.{ExprOf, UnaryExpr, BinaryExpr, ChoiceExpr, ExprsOf, NoExprs, MoreExprs}
 use Rattle.vlog_tree.specs.Tree.{PrimOf, NumberPrim, RefPrim, ParenPrim, ConcatPrim, RepeatPrim, RefOf, RefWith, IndexOf}
 use Rattle.vlog_tree.specs.Tree.{NoIndex, Index}
 use Rattle.vlog_tree.specs.Tree.{LastOf, NoLast, Last, SelOf, IndexSel, PartSel, IndexedSel}
 use Rattle.vidi_bits.specs.Findings.{told_if, or_first}
-use Rattle.vlog_operators.specs.Number.{IsWidth}
+use Rattle.vidi_bits.specs.Number.{IsWidth}
 use Rattle.vlog_tree.specs.Tree.{TargetOf, RefTarget, ConcatTarget, TargetsOf, NoTargets, MoreTargets}
 use Rattle.vlog_size.specs.declared.error.SizeError.{SizeError}
 use Rattle.vlog_size.specs.declared.error.SizeError.TheVariants as error
@@ -27,7 +30,6 @@ use Rattle.vlog_size.specs.Size.{of_name, of_ref, of_place, of_concat, Bracket, 
 use Rattle.vlog_size.specs.Size.{part_width_faults, outside, too_large, number, or_zero, bounds_width, wrong_width, unsized_part}
 use Rattle.vlog_size.specs.Size.{is_bad_binary, parts_const_faults, parts_width_faults, sum_fault, total_width}
 use Rattle.vlog_size.specs.Size.{times, repeat_width, of_repeat, count_fault, is_too_large}
-use Rattle.vlog_size.proofs.Lists.{nil_left, nil_right, untold}
 use Rattle.vlog_size.proofs.Sized.{IsSized, Sized}
 use Rattle.vlog_size.proofs.Parts.{BracketSized, known_sized, part_lawful}
 use Rattle.vlog_size.proofs.Faultless.{expr_sized, expr_constant}
@@ -50,13 +52,9 @@ bounds_fit (Some a) (Some b) h = lawful_width (a + 1 - b) h
 bounds_fit (Some a) None h = (cc)
 bounds_fit None b h = (cc)
 
-not_false : (b : Bool) → not b ≡ false → b ≡ true
-not_false true h = refl
-not_false false h = (cc)
-
 good_width : (line w : ℕ) (rest : List SizeError) → wrong_width line w ++ rest ≡ [] → is_lawful w ≡ true
 good_width line w rest h =
-    not_false (is_lawful w) (untold (not (is_lawful w)) (error.Width line w) (nil_left (wrong_width line w) rest h))
+    not-false (is_lawful w) (told_none (not (is_lawful w)) (error.Width line w) (nil_left (wrong_width line w) rest h))
 
 -- what the brackets of a net or a memory without a fault are
 abbrev AreFitAfter : ℕ → Option Sizes → Bracket → Type 0 → Type 0

@@ -11,9 +11,8 @@ use Rattle.net_design.specs.declared.values.Update.{Update}
 use Rattle.net_design.specs.Updates as code
 use Rattle.net_design.specs.Value as values
 use Rattle.net_design.specs.Bits as bits
-use Rattle.net_design.specs.Bits.{BitSet, no_bits}
+use Rattle.net_design.specs.Bits.{BitSet}
 use Rattle.net_design.specs.Sized.{IsSizedRhs, IsSizedBlock, AreSizedGuards}
-use Rattle.net_design.proofs.BoolLaws.{or_none, or_assoc, and_assoc, and_true}
 use Rattle.net_code.specs.Found.{guard_writes, guard_adds, guard_reads}
 use Rattle.vlog_block.specs.Value.{value}
 use Rattle.vlog_block.specs.Bits.{reads}
@@ -21,7 +20,9 @@ use Rattle.vlog_block.specs.Updates.{matches, body_updates}
 use Rattle.vlog_block.specs.Written.{labels_read, arm_labels_read, arm_open, arms_open}
 use Rattle.std.proofs.Common.{append_assoc}
 use Rattle.std.proofs.lemmas.List.{append-nil}
-use Rattle.net_drive.specs.Targets.{block_targets, guard_targets}
+use Rattle.std.proofs.Math.Bool.{or_assoc}
+use Rattle.vidi_bits.proofs.Bools.{or_none, and_assoc, and_true}
+use Rattle.net_code.specs.Targets.{block_targets, guard_targets}
 use Rattle.vlog_block.specs.Naming.{place_names, code_names, guard_names}
 use Rattle.vlog_block.proofs.Names.{guards_append}
 use Rattle.vlog_block.specs.Extends.{Choosing, Lengthens, choosing_arm, choosing_arms, has_some, arm_has_label, has_label}

@@ -1,12 +1,13 @@
 -- The places of a target, one after the other.
-use Rattle.std.proofs.Common.{◌≡◌, ℕ, ◌+◌, ◌/◌, ◌^◌, ◌||◌, Bool, true, false, List, [], ◌∷◌, ◌++◌, refl, ap, sym, ◌∙◌}
+use Rattle.std.proofs.Common.{◌≡◌, ℕ, ◌+◌, ◌/◌, ◌^◌, ◌||◌, Bool, List, [], ◌∷◌, ◌++◌, refl, ap, sym, ◌∙◌}
 use Rattle.std.proofs.Common.{append_assoc, arith}
 use Rattle.std.specs.List.{list_any, AllByRecursion}
-use Rattle.std.proofs.Math.Nat.{div-div-eq-div-mul, div-one}
+use Rattle.std.proofs.Math.Nat.{add_assoc, div-div-eq-div-mul, div-one}
 use Rattle.std.proofs.lemmas.Nat.{pow-add}
 use Rattle.std.proofs.lemmas.List.{append-nil}
 use Rattle.std.proofs.lemmas.List.Sums.{sum_by-cons}
 use Rattle.std.proofs.lemmas.List.Folds.{list_any-append}
+use Rattle.std.proofs.Math.Bool.{or-false}
 use Rattle.vlog_tree.specs.Tree.{TargetOf, TargetsOf, MoreTargets}
 use Rattle.vlog_size.specs.Names.{Readable}
 use Rattle.vlog_size.specs.Size.{Sizes, sizes_of_target, sizes_of_targets}
@@ -21,9 +22,6 @@ high_bits x a b =
     let turned : a + b ≡ b + a = omega arith in
     ap (λ n. x / 2 ^ n) turned ∙ ap (λ n. x / n) (pow-add 2 b a) ∙ sym (div-div-eq-div-mul x (2 ^ b) (2 ^ a))
 
-assoc : (a b c : ℕ) → a + (b + c) ≡ a + b + c
-assoc a b c = omega arith
-
 width_after : (p : Place) (ps : List Place) → places.target_width (p ∷ ps) ≡ places.place_width p + places.target_width ps
 width_after p ps = sum_by-cons places.place_width p ps
 
@@ -31,7 +29,7 @@ pub width_end : (ps : List Place) (p : Place) → places.target_width (ps ++ p �
 width_end [] p = refl
 width_end (q ∷ qs) p =
     width_after q (qs ++ p ∷ []) ∙ ap (λ n. places.place_width q + n) (width_end qs p)
-    ∙ assoc (places.place_width q) (places.target_width qs) (places.place_width p)
+    ∙ sym (add_assoc (places.place_width q) (places.target_width qs) (places.place_width p))
     ∙ ap (λ n. n + places.place_width p) (sym (width_after q qs))
 
 -- one more place at the end, which takes the lowest bits
@@ -48,13 +46,9 @@ updates_end (q ∷ qs) p x v =
     ∙ sym (append_assoc (places.place_updates q (x / 2 ^ w / 2 ^ places.target_width qs) v)
     (places.target_updates qs (x / 2 ^ w) v) (places.place_updates p x v))
 
-none_more : (b : Bool) → (b || false) ≡ b
-none_more true = refl
-none_more false = refl
-
 -- a test of places, with one more place at the end
 pub any_end : (f : Place → Bool) (ps : List Place) (p : Place) → list_any f (ps ++ p ∷ []) ≡ (list_any f ps || f p)
-any_end f ps p = list_any-append f ps (p ∷ []) ∙ ap (λ b. list_any f ps || b) (none_more (f p))
+any_end f ps p = list_any-append f ps (p ∷ []) ∙ ap (λ b. list_any f ps || b) (or-false (f p))
 
 pub all_end : (P : Place → Type 0) (ps : List Place) (p : Place) → AllByRecursion P ps → P p → AllByRecursion P (ps ++ p ∷ [])
 all_end P [] p h k = (k, tt)
@@ -81,4 +75,4 @@ part_added r t ts old new v h x =
 pub width_added : (r : Readable) (t : TargetOf ℕ) (ts : TargetsOf ℕ) (n m : ℕ) → m ≡ n + target_width r t
     → m + targets_width r ts ≡ n + targets_width r (MoreTargets t ts)
 width_added r t ts n m h =
-    ap (λ k. k + targets_width r ts) h ∙ sym (assoc n (target_width r t) (targets_width r ts)) ∙ ap (λ k. n + k) (sym (after_part r t ts))
+    ap (λ k. k + targets_width r ts) h ∙ add_assoc n (target_width r t) (targets_width r ts) ∙ ap (λ k. n + k) (sym (after_part r t ts))

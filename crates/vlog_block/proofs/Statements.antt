@@ -4,7 +4,7 @@ use Rattle.std.proofs.Common.{get_or}
 use Rattle.std.proofs.Common.{drop, if◌then◌else◌, refl, ap, sym, subst, ◌∙◌, arith}
 use Rattle.std.specs.List.{list_any, AllByRecursion}
 use Rattle.std.proofs.lemmas.List.{drop_all}
-use Rattle.vlog_operators.specs.Number.{IsWidth}
+use Rattle.vidi_bits.specs.Number.{IsWidth}
 use Rattle.vlog_tree.specs.declared.expr.Expr.{Expr}
 use Rattle.vlog_tree.specs.declared.stmt.Stmt.{Stmt}
 use Rattle.vlog_tree.specs.declared.stmt.Arm.{Arm}
@@ -22,12 +22,10 @@ use Rattle.net_design.specs.declared.act.Guard.{Guard}
 use Rattle.net_design.specs.declared.act.Timing.{Timing}
 use Rattle.net_design.specs.declared.rhs.Rhs.{Rhs}
 use Rattle.net_design.specs.declared.values.Values.{Values}
-use Rattle.net_design.specs.declared.values.Update.{Update}
 use Rattle.net_design.specs.Value as values
 use Rattle.net_design.specs.Updates as code
 use Rattle.net_design.specs.Bits as bits
 use Rattle.net_design.specs.Bits.{BitSet, no_bits, known_after}
-use Rattle.net_design.proofs.BoolLaws.{or_none, or_assoc, and_true}
 use Rattle.net_design.proofs.UpdateLaws.{from_here}
 use Rattle.net_design.specs.Sized.{IsSizedRhs, IsSizedBlock, AreSizedGuards}
 use Rattle.net_code.specs.Found.{guard_writes, guard_adds, guard_reads}
@@ -40,7 +38,10 @@ use Rattle.vlog_block.specs.Updates.{widest, arm_widest, arms_widest, case_width
 use Rattle.vlog_block.specs.Written.{body_writes, default_writes, arms_write, body_adds, default_adds, arms_add}
 use Rattle.vlog_block.specs.Written.{body_open, default_open, arms_open, labels_read, target_reads, target_writes, target_adds}
 use Rattle.std.proofs.lemmas.List.{append-nil}
-use Rattle.net_drive.specs.Targets.{block_targets, guard_targets}
+use Rattle.std.proofs.Math.Bool.{or_assoc}
+use Rattle.net_design.proofs.Rows.{choice}
+use Rattle.vidi_bits.proofs.Bools.{or_none, and_true}
+use Rattle.net_code.specs.Targets.{block_targets, guard_targets}
 use Rattle.vlog_block.specs.Naming.{place_names, code_names, guard_names, target_names, body_names, default_names, arms_names}
 use Rattle.vlog_block.specs.Faultless.{IsFaultless, IsFaultlessArm, AreFaultlessArms}
 use Rattle.vlog_block.specs.Extends.{Doing, Extends, Choosing, Lengthens, doing_block, doing_branch, doing_if, doing_read, doing_stmt}
@@ -105,14 +106,11 @@ one_guard r c g others number read = record {
   names = ap (λ ns. ns ++ code_names others) (lone_guard g);
 }
 
-both : (b : Bool) (x x' y y' : List Update) → x ≡ x' → y ≡ y' → (if b then x else y) ≡ (if b then x' else y')
-both b x x' y y' h k = ap (λ u. if b then u else y) h ∙ ap (λ u. if b then x' else u) k
-
 pub if_does : (r : Readable) (c : ExprOf ℕ) (b : BodyOf ℕ) (other : ElseOf ℕ) (acts others : List Act)
     → Same (doing_block acts) (doing_body r b) → Same (doing_block others) (doing_else r other)
     → Same (doing_if r c acts others) (doing_stmt r (IfStmt c b other))
 if_does r c b other acts others x y = record {
-  updates = λ t v. both (is_zero r v c) (code.block_updates t others v) (else_updates r t other v) (code.block_updates t acts v)
+  updates = λ t v. choice (is_zero r v c) (code.block_updates t others v) (else_updates r t other v) (code.block_updates t acts v)
       (body_updates r t b v) (y.updates t v) (x.updates t v);
   writes = λ m k. ap (λ z. z || bits.block_writes others m k) (x.writes m k) ∙ ap (λ z. body_writes r b m k || z) (y.writes m k);
   adds = λ m k. ap (λ z. z && bits.block_adds others m k) (x.adds m k) ∙ ap (λ z. body_adds r b m k && z) (y.adds m k);

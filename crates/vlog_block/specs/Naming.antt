@@ -1,7 +1,7 @@
 -- What targets and statements name, in text order, whatever bits of it are in range: how often a target names a bit of a net, and which
 -- nets and memories a block names ("Reasons": E8; this project's profile).
 use Rattle.std.specs.Prelude.{ℕ, ◌+◌, List, [], ◌∷◌, ◌++◌, map}
-use Rattle.vlog_operators.specs.Number.{truth}
+use Rattle.vidi_bits.specs.Number.{truth}
 use Rattle.vlog_tree.specs.Tree.{RefWith, IndexOf, NoIndex, Index, LastOf, Last, IndexSel}
 use Rattle.vlog_tree.specs.Tree.{TargetOf, RefTarget, ConcatTarget, TargetsOf, NoTargets, MoreTargets}
 use Rattle.vlog_tree.specs.Tree.{StmtOf, BeginStmt, IfStmt, CaseStmt, AssignStmt, StmtsOf, NoStmts, MoreStmts}
@@ -13,7 +13,7 @@ use Rattle.net_design.specs.declared.act.Place.{Place}
 use Rattle.net_design.specs.declared.act.Place.TheVariants.{Bits as PlaceBits, BitsFrom, Word as PlaceWord, WordFrom}
 use Rattle.net_design.specs.declared.act.Act.{Act}
 use Rattle.net_design.specs.declared.act.Guard.{Guard}
-use Rattle.net_drive.specs.Targets.{block_targets, guard_targets}
+use Rattle.net_code.specs.Targets.{block_targets, guard_targets}
 use Rattle.vlog_block.specs.declared.source.Source.{Source}
 use Rattle.vlog_block.specs.declared.source.Source.TheVariants.{Net, Memory}
 use Rattle.vlog_block.specs.Sources.{source_of}

@@ -14,7 +14,7 @@ use Rattle.vlog_size.specs.Names.{Readable, fixed}
 use Rattle.vlog_size.specs.Literal.{literal_number}
 use Rattle.vlog_size.specs.Operators.{kind_of, is_wide, unary_value, binary_value}
 use Rattle.vlog_size.specs.Size.{sizes_of, sizes_of_all, sizes_of_prim, total_width, number, or_zero, const_number}
-use Rattle.vlog_operators.specs.Number.{part_of, side_by_side, repeated}
+use Rattle.vidi_bits.specs.Number.{part_of, side_by_side, repeated}
 use Rattle.net_design.specs.declared.rhs.Room.{Room}
 use Rattle.net_design.specs.declared.values.Values.{Values}
 use Rattle.net_design.specs.Value.{read, word_at}

@@ -1,7 +1,7 @@
 //! The code of an expression.
 
 ghost use Rattle.std.specs.Prelude.{◌≡◌, ℕ, ◌≤◌, ◌+◌, ◌-◌, ◌<◌, ◌^◌, ◌||◌, false, [], IfOk, IfSome, Some};
-ghost use Rattle.vlog_operators.specs.Number.{IsWidth, part_of, side_by_side};
+ghost use Rattle.vidi_bits.specs.Number.{IsWidth, part_of, side_by_side};
 ghost use Rattle.vlog_tree.specs.Tree.{Last, Index};
 ghost use Rattle.vlog_tree.specs.Plain.{plain_expr, plain_prim, plain_unary, plain_ref, plain_sel, plain_index, plain_last, plain_exprs};
 ghost use Rattle.vlog_tree.specs.declared.expr.Ref.{back-Ref-index, back-Ref-sel};
@@ -34,9 +34,7 @@ use vlog_size::{
     Kind, Scope, checked, const_number, facts_of, fixed, is_wide, kind_of, literal_number,
     numbered, prim_facts, whole_view,
 };
-use vlog_tree::{
-    BinaryOp, Expr, Prim as Operand, Ref, Sel, Unary, UnaryOp, see_concat, see_repeat,
-};
+use vlog_tree::{BinaryOp, Expr, Operand, Ref, Sel, Unary, UnaryOp, see_concat, see_repeat};
 
 /// The self-determined width of an expression.
 pub fn own_width(scope: &Scope, e: &Expr) -> u32

@@ -2,7 +2,7 @@
 
 ghost use Rattle.std.specs.Prelude.{◌≡◌, ℕ, ◌≤◌, ◌==◌, ◌||◌, not, [], IfOk, OnOk, map};
 ghost use Rattle.std.specs.List.{list_any, AllByRecursion};
-ghost use Rattle.vlog_operators.specs.Number.{IsWidth};
+ghost use Rattle.vidi_bits.specs.Number.{IsWidth};
 ghost use Rattle.vlog_tree.specs.Plain.{plain_expr, plain_target, plain_stmt, plain_stmts, plain_body, plain_arm, plain_arms};
 ghost use Rattle.vlog_tree.specs.Plain.{plain_event, plain_always};
 ghost use Rattle.vlog_tree.specs.Tree.{AssignStmt, CaseStmt};
@@ -36,10 +36,9 @@ use std::alloc::Global;
 use std::boxed::Box;
 use vidi_bits::{Items, Memory};
 use vlog_size::Scope;
-use vlog_tree::{Always, Arm, BinaryOp, Body, Event, Expr, Stmt, Target, see_begin, see_case};
-
-/// The statements within one another that the stack has room for, as many as are read from a text.
-const MOST_NESTED: u32 = 2_048;
+use vlog_tree::{
+    Always, Arm, BinaryOp, Body, Event, Expr, MOST_NESTED, Stmt, Target, see_begin, see_case,
+};
 
 /// When the assignments of a block take effect.
 fn timing_of(event: &Event) -> Timing

@@ -1,7 +1,7 @@
 //! Pieces of code, made of their parts.
 
 ghost use Rattle.std.specs.Prelude.{◌≡◌, ℕ, false, ◌||◌, ◌≤◌, ◌<◌, ◌+◌, ◌^◌, IfOk, if◌then◌else◌, ◌==◌};
-ghost use Rattle.vlog_operators.specs.Number.{IsWidth, part_of, side_by_side, repeated};
+ghost use Rattle.vidi_bits.specs.Number.{IsWidth, part_of, side_by_side, repeated};
 ghost use Rattle.vlog_size.specs.Operators.{unary_value, binary_value};
 ghost use Rattle.net_design.specs.declared.values.Values.{Values};
 ghost use Rattle.net_design.specs.Value.{value, read, word_at};

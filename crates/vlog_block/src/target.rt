@@ -3,7 +3,8 @@
 ghost use Rattle.std.specs.Prelude.{◌≡◌, ℕ, ◌+◌, ◌≤◌, ◌<◌, ◌^◌, ◌/◌, ◌&&◌, ◌||◌, ◌++◌, ◌∷◌};
 ghost use Rattle.std.specs.Prelude.{Bool, false, nat_le, nat_lt, [], IfOk, OnOk, IfSome, Some};
 ghost use Rattle.std.specs.List.{AllByRecursion};
-ghost use Rattle.vlog_operators.specs.Number.{IsWidth, truth};
+ghost use Rattle.net_code.specs.Targets.{bit_count};
+ghost use Rattle.vidi_bits.specs.Number.{IsWidth, truth};
 ghost use Rattle.vlog_tree.specs.Tree.{RefTarget, Index, Last};
 ghost use Rattle.vlog_tree.specs.Plain.{plain_expr, plain_target, plain_targets, plain_ref, plain_sel, plain_index, plain_last};
 ghost use Rattle.vlog_tree.specs.declared.expr.Ref.{back-Ref-index, back-Ref-sel};
@@ -27,7 +28,6 @@ ghost use Rattle.vlog_block.specs.Written.{places_read, target_reads, target_wri
 ghost use Rattle.vlog_block.specs.Written.{targets_add};
 ghost use Rattle.vlog_block.specs.Naming.{NamesNet, NamesRoom, place_name, place_names, lone_name, source_name};
 ghost use Rattle.vlog_block.specs.Naming.{target_names, targets_names, target_count, targets_count};
-ghost use Rattle.net_drive.specs.Drive.{bit_count};
 
 use crate::bind::{Part, bound_index, bound_sel};
 use crate::source::{Source, source_of};

@@ -2,7 +2,7 @@
 use Rattle.std.proofs.Common.{◌≡◌, ℕ, ◌↔◌, List, [], Option, Some, sym, subst, ◌∙◌}
 use Rattle.std.specs.List.{AllZip}
 use Rattle.vlog_tree.specs.Tree.{ModuleOf, FileOf}
-use Rattle.vlog_scope.specs.Scope.{scope_with}
+use Rattle.vlog_elab.specs.Scope.{scope_with}
 use Rattle.vlog_elab.specs.Instances.{ModuleInstance, instances}
 use Rattle.vlog_elab.specs.Reasons as elab
 use Rattle.net_design.specs.declared.design.Port.{Port}
@@ -10,7 +10,7 @@ use Rattle.net_design.specs.declared.design.Design.{Design}
 use Rattle.flat_parts.specs.Seats.{seats_of}
 use Rattle.flat_parts.specs.Nets.{flat_ports}
 use Rattle.flat_parts.specs.State.{all_regs, IsRegisterOf}
-use Rattle.vlog_driver.specs.Duties.{Does}
+use Rattle.flat_drivers.specs.Duties.{Does}
 use Rattle.flat_parts.specs.Drivers.{all_duties, all_blocks, IsBlockOf}
 use Rattle.flat_parts.specs.Built.{IsBuilt, IsClockPort}
 use Rattle.flat_parts.specs.Laws.{IsTop, FirstIsTop}

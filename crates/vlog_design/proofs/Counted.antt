@@ -13,7 +13,7 @@ use Rattle.net_design.specs.declared.design.Design.{Design}
 use Rattle.net_design.specs.Names.{list_at, paths_after, paths}
 use Rattle.net_design.specs.Settled.{word_count}
 use Rattle.net_design.specs.Lawful.{counts}
-use Rattle.vlog_driver.specs.Duties.{Does}
+use Rattle.flat_drivers.specs.Duties.{Does}
 use Rattle.flat_parts.specs.Seats.{seats_of}
 use Rattle.flat_parts.specs.Nets.{flat_nets, flat_memories}
 use Rattle.flat_parts.specs.Drivers.{all_duties, all_blocks, IsBlockOf}

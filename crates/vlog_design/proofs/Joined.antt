@@ -12,16 +12,16 @@ use Rattle.net_design.specs.declared.design.Design.{Design}
 use Rattle.net_design.specs.Bits.{HasBits}
 use Rattle.net_design.specs.Names.{net_names}
 use Rattle.net_design.specs.Lawful.{IsLawful}
-use Rattle.vlog_driver.specs.Duties.{Duty, Assigns, Settles, Does}
+use Rattle.flat_drivers.specs.Duties.{Duty, Assigns, Settles, Does}
 use Rattle.flat_parts.specs.Seats.{seats_of}
 use Rattle.flat_parts.specs.Drivers.{ClockedBlock, IsBlockOf, all_duties, all_blocks}
 use Rattle.flat_parts.specs.Built.{IsBuilt}
 use Rattle.flat_parts.specs.Meaning.{Means}
 use Rattle.flat_parts.specs.Laws.{IsTop, InstancesAreAll, PathsDiffer, FirstIsTop, BuiltNumbers, SeatsStand, NetsHaveSeats}
 use Rattle.flat_parts.specs.Laws.{NetsHaveOneSeat, NetsAreThose, NamesDiffer, HeldAlike, InitialAlike}
-use Rattle.flat_settled.specs.Settled.{SettledByLaws}
-use Rattle.flat_settled.proofs.Lists.{all_each}
-use Rattle.flat_next.specs.Alike.{NextAlike, InitialStateAlike}
+use Rattle.flat_laws.specs.Settled.{SettledByLaws}
+use Rattle.flat_laws.proofs.SettledLists.{all_each}
+use Rattle.flat_laws.specs.Next.{NextAlike, InitialStateAlike}
 use Rattle.vlog_design.specs.Design.{IsDesignOf}
 use Rattle.vlog_design.specs.Parts.{HasTop}
 

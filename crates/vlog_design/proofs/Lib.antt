@@ -1,5 +1,4 @@
 pub mod Loops
-pub mod SameMarks
 pub mod Top
 pub mod Build
 pub mod Found

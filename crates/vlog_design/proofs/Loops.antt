@@ -6,7 +6,7 @@ use Rattle.net_design.specs.declared.design.Design.{Design}
 use Rattle.net_design.specs.declared.design.Driver.{Driver}
 use Rattle.net_design.specs.Bits.{named}
 use Rattle.net_order.specs.Order.{reads_of, writes_of, Reads, last_of, Chain, IsLoopBy, IsOrder, IsLoop}
-use Rattle.vlog_driver.specs.Duties.{Duty, Assigns, Settles, Does}
+use Rattle.flat_drivers.specs.Duties.{Duty, Assigns, Settles, Does}
 use Rattle.vlog_design.specs.Design.{IsDesignOf}
 use Rattle.vlog_design.specs.Laws.{LoopsAlike}
 

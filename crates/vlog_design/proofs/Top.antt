@@ -2,8 +2,8 @@
 use Rattle.std.proofs.Common.{◌≡◌, ℕ, List, [], ◌∷◌, Option, None, Some, slice_get, refl, sym, ap, subst, ◌∙◌}
 use Rattle.std.specs.List.{flat_map}
 use Rattle.vlog_tree.specs.Tree.{ModuleOf, FileOf}
-use Rattle.vlog_scope.specs.Scope.{scope_with}
-use Rattle.vlog_hierarchy.specs.Outlines.{place_of}
+use Rattle.vlog_elab.specs.Scope.{scope_with}
+use Rattle.vlog_elab.specs.Outlines.{place_of}
 use Rattle.vlog_elab.specs.Instances.{ModuleInstance, within, top_of, top_at, instances}
 use Rattle.vlog_elab.specs.Reasons as elab
 use Rattle.net_design.specs.declared.design.Port.{Port}

@@ -4,7 +4,7 @@ use Rattle.std.specs.List.{AllZip}
 use Rattle.vlog_tree.specs.Tree.{ModuleOf, FileOf}
 use Rattle.vlog_elab.specs.Instances.{ModuleInstance}
 use Rattle.net_design.specs.declared.design.Port.{Port}
-use Rattle.vlog_driver.specs.Duties.{Does}
+use Rattle.flat_drivers.specs.Duties.{Does}
 use Rattle.flat_parts.specs.Seats.{seats_of}
 use Rattle.flat_parts.specs.Nets.{flat_nets, flat_memories, flat_ports}
 use Rattle.flat_parts.specs.Laws.{IsTop}

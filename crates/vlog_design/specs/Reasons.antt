@@ -5,7 +5,8 @@ use Rattle.std.specs.List.{flat_map}
 use Rattle.vlog_tree.specs.Tree.{FileOf}
 use Rattle.vlog_elab.specs.declared.error.ElabError.{ElabError}
 use Rattle.vlog_elab.specs.Instances.{ModuleInstance, instances}
-use Rattle.vlog_elab.specs.Answered.{IsFirst}
+use Rattle.vidi_bits.specs.Findings.{IsFirst}
+use Rattle.vlog_elab.specs.Told.{elab_told}
 use Rattle.vlog_elab.specs.Reasons as elab
 use Rattle.vlog_elab.specs.Reasons.{Then}
 use Rattle.flat_parts.specs.Seats.{seats_of}
@@ -21,7 +22,7 @@ code_findings file top = code_findings_of (instances file top)
 
 -- the first reason, in the order E3, E4, E7, E11, E12 of instances and nets, E5, E6, E12 of words, E13, E9, E8
 abbrev pub Refused : FileOf ℕ → List ℕ → ElabError → Type 0
-Refused file top error = Then (elab.Refused file top) (elab.Clear file top) (IsFirst (code_findings file top)) error
+Refused file top error = Then (elab.Refused file top) (elab.Clear file top) (IsFirst elab_told (code_findings file top)) error
 
 -- no reason holds
 abbrev pub Clear : FileOf ℕ → List ℕ → Type 0

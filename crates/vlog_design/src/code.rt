@@ -2,13 +2,15 @@
 
 ghost use Rattle.std.specs.Prelude.{◌≡◌, AllPairs, IfOk};
 ghost use Rattle.std.specs.List.{AllZip, flat_map};
+ghost use Rattle.flat_parts.specs.Instances.{HaveOwnPaths, AreDeclaredIn};
 ghost use Rattle.vlog_elab.specs.Plain.{plain_instances};
-ghost use Rattle.vlog_elab.specs.Answered.{Judged};
-ghost use Rattle.vlog_driver.specs.Duties.{Does};
+ghost use Rattle.vidi_bits.specs.Findings.{Judged};
+ghost use Rattle.vlog_elab.specs.Told.{elab_told};
+ghost use Rattle.flat_drivers.specs.Duties.{Does};
 ghost use Rattle.flat_parts.specs.Seats.{seats_of};
 ghost use Rattle.flat_parts.specs.Nets.{flat_nets, flat_memories};
 ghost use Rattle.flat_parts.specs.Drivers.{all_duties, all_blocks, IsBlockOf};
-ghost use Rattle.flat_drivers.specs.Seated.{HaveOwnPaths, AreDeclaredIn, AreFaultlessInstances};
+ghost use Rattle.flat_drivers.specs.Seated.{AreFaultlessInstances};
 ghost use Rattle.flat_drive.specs.Findings.{drive_findings};
 ghost use Rattle.vlog_design.specs.Parts.{AreParts};
 ghost use Rattle.vlog_design.specs.Reasons.{code_findings_of};
@@ -33,27 +35,28 @@ pub struct Checked {
 }
 
 /// E8 of drivers and clocked blocks that do what the items of these instances say.
-#[tactic(auto, using(crate::proofs::SameMarks::same_marks))]
 fn driven(
     alloc: Global,
+    modules: &ModuleTable,
     list: &[ModuleInstance<'_>],
-    nets: &[Net],
-    memories: &[DesignMemory],
+    nets: &Items<Net>,
+    memories: &Items<DesignMemory>,
     code: &FlatCode,
 ) -> Result<(), ElabError>
+    requires names { AreDeclaredIn modules.now (plain_instances list.now) }
     requires nets { nets.now ≡ flat_nets (seats_of (plain_instances list.now)) }
     requires memories { memories.now ≡ flat_memories (seats_of (plain_instances list.now)) }
     requires drivers { AllZip Does (all_duties (seats_of (plain_instances list.now))) code.now.drivers }
     requires blocks { AllZip IsBlockOf (all_blocks (seats_of (plain_instances list.now))) code.now.blocks }
-    ensures { Judged result (drive_findings (seats_of (plain_instances list.now))) }
+    ensures { Judged elab_told result (drive_findings (seats_of (plain_instances list.now))) }
 {
-    let marks = reg_marks(alloc, list)?;
+    let marks = reg_marks(alloc, modules, list)?;
     check_drive(
         alloc,
         list,
         marks.as_slice(),
-        nets,
-        memories,
+        nets.as_slice(),
+        memories.as_slice(),
         code.drivers.as_slice(),
         code.blocks.as_slice(),
     )
@@ -68,13 +71,13 @@ pub fn checked_code(
     requires paths { HaveOwnPaths (plain_instances list.now) }
     requires names { AreDeclaredIn modules.now (plain_instances list.now) }
     requires faultless { AreFaultlessInstances (plain_instances list.now) }
-    ensures told { Judged result (code_findings_of (plain_instances list.now)) }
+    ensures told { Judged elab_told result (code_findings_of (plain_instances list.now)) }
     ensures parts { IfOk result (λ p. AreParts (plain_instances list.now) p) }
 {
     let code = drivers_of(alloc, modules, list)?;
     let nets = nets(alloc, list)?;
     let memories = memories(alloc, list)?;
-    driven(alloc, list, nets.as_slice(), memories.as_slice(), &code)?;
+    driven(alloc, modules, list, &nets, &memories, &code)?;
     let FlatCode { drivers, blocks } = code;
     Ok(Checked {
         nets,

@@ -7,6 +7,7 @@ ghost use Rattle.vlog_elab.specs.Instances.{instances};
 ghost use Rattle.vlog_elab.specs.Plain.{plain_instances};
 ghost use Rattle.vlog_elab.specs.Reasons as elab;
 ghost use Rattle.net_design.specs.Lawful.{IsLawful};
+ghost use Rattle.flat_parts.specs.Instances.{AreDeclaredIn};
 ghost use Rattle.flat_parts.specs.Built.{IsBuilt};
 ghost use Rattle.flat_parts.specs.Laws.{IsTop};
 ghost use Rattle.vlog_design.specs.Design.{IsDesignOf};
@@ -14,16 +15,15 @@ ghost use Rattle.vlog_design.specs.Parts.{AreParts, FirstPorts, HasTop};
 
 use crate::code::Checked;
 use flat_clock::clock_place;
+use flat_laws::{instances_are_paths, settled_alike, state_alike};
 use flat_layout::{built_numbers, instances, names_differ, nets_have_seats, ports, seats_stand};
-use flat_next::state_alike;
-use flat_paths::instances_are_paths;
 use flat_registers::{registers, registers_are_state};
-use flat_settled::settled_alike;
 use net_design::{Design, Port};
 use net_lawful::is_lawful;
 use std::alloc::Global;
 use vidi_bits::{Items, Memory};
 use vlog_elab::ModuleInstance;
+use vlog_names::ModuleTable;
 use vlog_tree::File;
 
 /// The ports of the top, which is the first instance.
@@ -41,10 +41,12 @@ fn built(
     alloc: Global,
     file: &File,
     top: &[u8],
+    modules: &ModuleTable,
     list: &[ModuleInstance<'_>],
     parts: Checked,
 ) -> Result<Design, Memory>
     requires clear { elab.Clear (plain file.now) top.now }
+    requires names { AreDeclaredIn modules.now (plain_instances list.now) }
     requires listed { plain_instances list.now ≡ instances (plain file.now) top.now }
     requires parts { AreParts (plain_instances list.now) parts }
     ensures top { IfOk result (λ _. HasTop (plain file.now) top.now) }
@@ -60,7 +62,7 @@ fn built(
     } = parts;
     let instances = instances(alloc, list)?;
     let ports = top_ports(alloc, list)?;
-    let registers = registers(alloc, list, drivers.as_slice())?;
+    let registers = registers(alloc, modules, list, drivers.as_slice())?;
     let clock = clock_place(alloc, file, top, list)?;
     Ok(Design {
         instances,
@@ -80,15 +82,17 @@ pub fn design_of(
     alloc: Global,
     file: &File,
     top: &[u8],
+    modules: &ModuleTable,
     list: &[ModuleInstance<'_>],
     parts: Checked,
 ) -> Result<Design, Memory>
     requires clear { elab.Clear (plain file.now) top.now }
+    requires names { AreDeclaredIn modules.now (plain_instances list.now) }
     requires listed { plain_instances list.now ≡ instances (plain file.now) top.now }
     requires parts { AreParts (plain_instances list.now) parts }
     ensures { IfOk result (λ d. IsDesignOf (plain file.now) top.now d) }
 {
-    let design = built(alloc, file, top, list, parts)?;
+    let design = built(alloc, file, top, modules, list, parts)?;
     built_numbers();
     names_differ();
     nets_have_seats();

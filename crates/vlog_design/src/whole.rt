@@ -6,7 +6,8 @@ ghost use Rattle.vlog_names.specs.Entries.{modules_of};
 ghost use Rattle.vlog_elab.specs.Instances.{instances};
 ghost use Rattle.vlog_elab.specs.Plain.{plain_instances};
 ghost use Rattle.vlog_elab.specs.Reasons as elab;
-ghost use Rattle.vlog_elab.specs.Answered.{Judged};
+ghost use Rattle.vidi_bits.specs.Findings.{Judged};
+ghost use Rattle.vlog_elab.specs.Told.{elab_told};
 ghost use Rattle.net_design.specs.Lawful.{counts};
 ghost use Rattle.vlog_design.specs.Design.{IsDesignOf, file_counts};
 ghost use Rattle.vlog_design.specs.Reasons.{Refused, Clear, code_findings};
@@ -14,8 +15,8 @@ ghost use Rattle.vlog_design.specs.Reasons.{Refused, Clear, code_findings};
 use crate::code::checked_code;
 use crate::design::design_of;
 use flat_drivers::{instances_are_declared, instances_are_faultless};
+use flat_laws::instances_are_paths;
 use flat_layout::parts_are_counted;
-use flat_paths::instances_are_paths;
 use net_design::Design;
 use std::alloc::Global;
 use vlog_elab::{ElabError, ModuleInstance, instances_of};
@@ -34,14 +35,14 @@ fn designed(
     requires clear { elab.Clear (plain file.now) top.now }
     requires modules { modules.now ≡ modules_of (plain file.now) }
     requires listed { plain_instances list.now ≡ instances (plain file.now) top.now }
-    ensures told { Judged result (code_findings (plain file.now) top.now) }
+    ensures told { Judged elab_told result (code_findings (plain file.now) top.now) }
     ensures design { IfOk result (λ d. IsDesignOf (plain file.now) top.now d) }
 {
     instances_are_paths();
     instances_are_declared();
     instances_are_faultless();
     let parts = checked_code(alloc, modules, list)?;
-    Ok(design_of(alloc, file, top, list, parts)?)
+    Ok(design_of(alloc, file, top, modules, list, parts)?)
 }
 
 /// The flat design of a file and its top: it is lawful, it has the drivers and clocked blocks of the file's instances in their order, and

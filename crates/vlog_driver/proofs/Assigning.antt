@@ -1,6 +1,8 @@
 -- A driver that is one assignment.
 use Rattle.std.proofs.Common.{◌≡◌, ℕ, max, ◌↔◌, ◌||◌, false, List, [], ◌∷◌, Result, Ok, Err, IfOk, ap, sym}
 use Rattle.std.proofs.Common.{subst, ◌∙◌}
+use Rattle.std.proofs.Math.Bool.{or-false, and-true}
+use Rattle.net_code.specs.Targets.{bit_count}
 use Rattle.vlog_tree.specs.Tree.{ExprOf, TargetOf}
 use Rattle.net_design.specs.declared.act.Place.{Place}
 use Rattle.net_design.specs.declared.act.Act.{Set}
@@ -11,20 +13,18 @@ use Rattle.net_design.specs.declared.values.Values.{Values}
 use Rattle.net_design.specs.Value as code
 use Rattle.net_design.specs.Updates.{run}
 use Rattle.net_design.specs.Bits as bits
-use Rattle.net_design.specs.Bits.{named, block_writes, block_adds, block_reads, HasBits}
+use Rattle.net_design.specs.Bits.{block_writes, block_adds, block_reads, HasBits}
 use Rattle.net_design.specs.Last.{HasLast, IsNarrow}
 use Rattle.vlog_block.specs.Value.{value, width_of}
 use Rattle.vlog_block.specs.Targets.{target_width, target_updates}
 use Rattle.vlog_block.specs.Bits.{reads}
 use Rattle.vlog_block.specs.Written.{target_writes, target_adds, target_reads}
-use Rattle.net_drive.specs.Drive.{bit_count}
 use Rattle.vlog_block.specs.Naming.{target_count}
-use Rattle.vlog_driver.specs.Spots.{Spot, numbers_from, bits_at, count_at}
+use Rattle.vlog_driver.specs.Sites.{Site, numbers_from, bits_at, count_at}
 use Rattle.vlog_driver.specs.Drivers.{IsOneSet, IsAssignment}
-use Rattle.vlog_driver.proofs.Placing.{or_no, and_yes}
 use Rattle.vlog_driver.proofs.Namings.{set_targets}
 
-module _ (to : Spot) (target : TargetOf ℕ) (from : Spot) (e : ExprOf ℕ) where
+module _ (to : Site) (target : TargetOf ℕ) (from : Site) (e : ExprOf ℕ) where
   -- what is known of the code of the target and of the expression
   pub record AreParts (lhs : List Place) (rhs : Rhs) (w : ℕ) : Type 0 where
     pub holds : (x : Rhs) (n : ℕ) (v : Values) → IsNarrow v → code.value x v ≡ n
@@ -49,9 +49,9 @@ module _ (to : Spot) (target : TargetOf ℕ) (from : Spot) (e : ExprOf ℕ) wher
         (sym acts)
         (p.holds rhs (value from.names (numbers_from from v) e (max (target_width to.names target) (width_of from.names e))) v narrow
         (p.value v ∙ ap (value from.names (numbers_from from v) e) p.width));
-    writes = λ m k. has.writes m k ∙ ap (λ xs. block_writes xs m k) acts ∙ or_no _ ∙ p.writes m k;
-    adds = λ m k. ap (λ xs. block_adds xs m k) acts ∙ or_no _ ∙ p.adds m k;
-    reads = λ m k. has.reads m k ∙ ap (λ xs. block_reads Blocking xs m k) acts ∙ or_no _ ∙ and_yes _
+    writes = λ m k. has.writes m k ∙ ap (λ xs. block_writes xs m k) acts ∙ or-false _ ∙ p.writes m k;
+    adds = λ m k. ap (λ xs. block_adds xs m k) acts ∙ or-false _ ∙ p.adds m k;
+    reads = λ m k. has.reads m k ∙ ap (λ xs. block_reads Blocking xs m k) acts ∙ or-false _ ∙ and-true _
         ∙ ap (λ b. b || bits.target_reads lhs m k) (p.reads m k) ∙ ap (λ b. bits_at from (reads from.names e) m k || b) (p.places m k);
     bits = has;
     count = λ m k. set_targets d.code.acts lhs rhs acts m k ∙ p.count m k;

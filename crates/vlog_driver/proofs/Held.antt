@@ -1,6 +1,7 @@
 -- The drivers of an item hold exactly where the item holds.
-use Rattle.std.proofs.Common.{◌≡◌, ℕ, ◌↔◌, Bool, true, false, List, [], ◌∷◌, ◌++◌, map, Option, Some, None, refl, subst}
+use Rattle.std.proofs.Common.{◌≡◌, ℕ, ◌↔◌, Bool, true, false, List, [], ◌∷◌, map, Option, Some, None, refl, subst}
 use Rattle.std.specs.List.{flat_map, AllByRecursion}
+use Rattle.vidi_bits.proofs.Each.{same_both, nothing, then_so, split}
 use Rattle.vlog_tree.specs.Tree.{IdentOf, ExprOf, TargetOf, EventOf, PosedgeEvent, ImplicitEvent, AlwaysOf}
 use Rattle.vlog_tree.specs.Tree.{ConnOf}
 use Rattle.vlog_tree.specs.Tree.{ItemOf, WiresItem, DrivenWiresItem, RegsItem, LocalparamsItem, AssignItem, AlwaysItem, InstanceItem}
@@ -8,7 +9,7 @@ use Rattle.vlog_tree.specs.Tree.{ModuleOf}
 use Rattle.vlog_size.specs.declared.scope.Scope.{Scope}
 use Rattle.vlog_size.specs.Table.{value_of}
 use Rattle.vlog_names.specs.Entries.{declared}
-use Rattle.vlog_meaning.specs.Ports.{is_output}
+use Rattle.vlog_names.specs.Ports.{is_output}
 use Rattle.net_design.specs.declared.design.Driver.{Driver}
 use Rattle.net_design.specs.declared.values.Values.{Values}
 use Rattle.net_design.specs.Updates.{run}
@@ -17,18 +18,13 @@ use Rattle.vlog_meaning.specs.Names.{Full, numbers_at}
 use Rattle.vlog_meaning.specs.Placed.{names_at}
 use Rattle.vlog_meaning.specs.Items.{IsAssigned, AssignHolds, WireHolds, EventHolds, JoinHolds, ConnHolds, HoldsAt, target_of, whole, read}
 use Rattle.vlog_meaning.proofs.SameHolds.{assigned_alike, settled_alike}
-use Rattle.vlog_driver.specs.Spots.{Spot, numbers_from}
+use Rattle.vlog_driver.specs.Sites.{Site, numbers_from}
 use Rattle.vlog_driver.specs.Duties.{Duty, Assigns, Settles, Does, wire_duty, assign_duty, event_duties, output_duties}
 use Rattle.vlog_driver.specs.Duties.{join_duties, conn_duties}
 use Rattle.vlog_driver.specs.Held.{DutyHolds, DutiesHold, DriversDoDuties, IsNoInstance, StandsAt, item_duties, ItemsAreDuties}
 use Rattle.vlog_driver.specs.Held.{ConnsAreDuties}
 
 -- ---- equivalences
-same_both : {A B C D : Type 0} → A ↔ B → C ↔ D → (A × C) ↔ (B × D)
-same_both f g = ((λ h. (f.0 h.0, g.0 h.1)), (λ h. (f.1 h.0, g.1 h.1)))
-
-nothing : {A : Type 0} → A ↔ A
-nothing = ((λ h. h), (λ h. h))
 
 alone : {A B : Type 0} → A ↔ B → (A × Unit {0}) ↔ B
 alone f = ((λ h. f.0 h.0), (λ h. (f.1 h, tt)))
@@ -40,15 +36,6 @@ each : {X : Type 0} (P : Duty → Type 0) (Q : X → Type 0) (f : X → Duty) �
     → AllByRecursion P (map f xs) ↔ AllByRecursion Q xs
 each P Q f h [] = nothing
 each P Q f h (x ∷ xs) = same_both (h x) (each P Q f h xs)
-
-split : {X : Type 0} (P : X → Type 0) (xs ys : List X) → AllByRecursion P (xs ++ ys) ↔ (AllByRecursion P xs × AllByRecursion P ys)
-split P [] ys = ((λ h. (tt, h)), (λ h. h.1))
-split P (x ∷ xs) ys =
-    let rest = split P xs ys in
-    ((λ h. let k = rest.0 h.1 in ((h.0, k.0), k.1)), (λ h. (h.0.0, rest.1 (h.0.1, h.1))))
-
-then_so : {A B C : Type 0} → A ↔ B → B ↔ C → A ↔ C
-then_so f g = ((λ h. g.0 (f.0 h)), (λ h. f.1 (g.1 h)))
 
 some_same : (x y : TargetOf ℕ) → Some x ≡ Some y → x ≡ y
 some_same x y h = (cc)
@@ -66,7 +53,7 @@ drivers_do (x ∷ xs) (d ∷ ds) v h narrow = same_both (driver_does x d v h.0 n
 
 -- ---- items
 module _ (nets : Full → ℕ) (words : Full → ℕ → ℕ) where
-  assigned_there : (path inner : Full) (s t : Scope) (k j : ℕ) (p q : Spot) (v : Values) (target : TargetOf ℕ) (e : ExprOf ℕ)
+  assigned_there : (path inner : Full) (s t : Scope) (k j : ℕ) (p q : Site) (v : Values) (target : TargetOf ℕ) (e : ExprOf ℕ)
       → StandsAt nets words path s k p v → StandsAt nets words inner t j q v
       → IsAssigned p.names (numbers_from p v) target q.names (numbers_from q v) e
       ↔ IsAssigned (names_at s k) (numbers_at nets words path s) target (names_at t j) (numbers_at nets words inner t) e
@@ -78,7 +65,7 @@ module _ (nets : Full → ℕ) (words : Full → ℕ → ℕ) where
       (subst (λ r. IsAssigned p.names (numbers_from p v) target q.names (numbers_from q v) e
       ↔ IsAssigned p.names (numbers_at nets words path s) target r (numbers_at nets words inner t) e) g.names alike)
 
-  event_there : (path : Full) (s : Scope) (k : ℕ) (p : Spot) (v : Values) (a : AlwaysOf ℕ) (event : EventOf ℕ)
+  event_there : (path : Full) (s : Scope) (k : ℕ) (p : Site) (v : Values) (a : AlwaysOf ℕ) (event : EventOf ℕ)
       → StandsAt nets words path s k p v
       → DutiesHold v (event_duties event p a) ↔ EventHolds event (names_at s k) (numbers_at nets words path s) a
   event_there path s k p v a (PosedgeEvent clock) h = nothing
@@ -86,7 +73,7 @@ module _ (nets : Full → ℕ) (words : Full → ℕ → ℕ) where
       alone (subst (λ r. DutyHolds v (Settles p a) ↔ EventHolds (ImplicitEvent parens) r (numbers_at nets words path s) a) h.names
       (settled_alike p.names (numbers_from p v) (numbers_at nets words path s) a h.numbers))
 
-  item_there : (file : List (ModuleOf ℕ)) (path : Full) (s : Scope) (k : ℕ) (p : Spot) (v : Values) (item : ItemOf ℕ)
+  item_there : (file : List (ModuleOf ℕ)) (path : Full) (s : Scope) (k : ℕ) (p : Site) (v : Values) (item : ItemOf ℕ)
       → StandsAt nets words path s k p v → IsNoInstance item
       → DutiesHold v (item_duties p item) ↔ HoldsAt file nets words path s k item
   item_there file path s k p v (WiresItem range ids) h none = nothing
@@ -102,7 +89,7 @@ module _ (nets : Full → ℕ) (words : Full → ℕ → ℕ) where
   item_there file path s k p v (InstanceItem i) h none = absurd none
 
   -- ---- connections
-  output_there : (path inner : Full) (s t : Scope) (k j : ℕ) (p q : Spot) (v : Values) (line : ℕ) (port : IdentOf ℕ)
+  output_there : (path inner : Full) (s t : Scope) (k j : ℕ) (p q : Site) (v : Values) (line : ℕ) (port : IdentOf ℕ)
       (o : Option (TargetOf ℕ)) → StandsAt nets words path s k p v → StandsAt nets words inner t j q v
       → DutiesHold v (output_duties p q line port o)
       ↔ ((target : TargetOf ℕ) → o ≡ Some target
@@ -116,7 +103,7 @@ module _ (nets : Full → ℕ) (words : Full → ℕ → ℕ) where
         (λ f. (there.1 (f x refl), tt)),
       )
 
-  join_there : (path inner : Full) (s t : Scope) (k j : ℕ) (p q : Spot) (v : Values) (output : Bool) (line : ℕ) (port : IdentOf ℕ)
+  join_there : (path inner : Full) (s t : Scope) (k j : ℕ) (p q : Site) (v : Values) (output : Bool) (line : ℕ) (port : IdentOf ℕ)
       (o : Option (ExprOf ℕ)) → StandsAt nets words path s k p v → StandsAt nets words inner t j q v
       → DutiesHold v (join_duties output p q line port o)
       ↔ JoinHolds output (names_at s k) (numbers_at nets words path s) (names_at t j) (numbers_at nets words inner t) port o
@@ -125,7 +112,7 @@ module _ (nets : Full → ℕ) (words : Full → ℕ → ℕ) where
       alone (assigned_there inner path t s j k q p v (whole port) e g h)
   join_there path inner s t k j p q v true line port (Some e) h g = output_there path inner s t k j p q v line port (target_of e) h g
 
-  conns_there : (path inner : Full) (s t : Scope) (k j : ℕ) (p q : Spot) (v : Values) (child : ModuleOf ℕ) (conns : List (ConnOf ℕ))
+  conns_there : (path inner : Full) (s t : Scope) (k j : ℕ) (p q : Site) (v : Values) (child : ModuleOf ℕ) (conns : List (ConnOf ℕ))
       → StandsAt nets words path s k p v → StandsAt nets words inner t j q v
       → DutiesHold v (flat_map (conn_duties (declared child) p q) conns)
       ↔ AllByRecursion (ConnHolds child (names_at s k) (numbers_at nets words path s) (names_at t j) (numbers_at nets words inner t)) conns

@@ -1,9 +1,8 @@
 -- Lists of drivers to which others were added.
-use Rattle.std.proofs.Common.{◌≡◌, ℕ, ◌+◌, ◌<◌, ◌≤◌, List, [], ◌∷◌, ◌++◌, map, length, drop, get_or, ap, sym, subst, ◌∙◌}
+use Rattle.std.proofs.Common.{◌≡◌, ℕ, ◌+◌, ◌<◌, List, [], ◌∷◌, ◌++◌, map, length, drop, get_or, ap, sym, subst, ◌∙◌}
 use Rattle.std.proofs.Common.{append_assoc, Result, Ok, Err, OnOk}
 use Rattle.std.specs.List.{AllZip, AllByRecursion}
 use Rattle.std.proofs.lemmas.List.{append-nil}
-use Rattle.std.proofs.Math.ListN.{drop_of_length-le}
 use Rattle.net_design.specs.declared.design.Driver.{Driver}
 use Rattle.net_design.proofs.UpdateLaws.{from_here}
 use Rattle.vlog_driver.specs.Duties.{Duty, Does, DoMore}
@@ -35,12 +34,6 @@ module _ {X : Type 0} (duties : List X → List Duty) (own : X → List Duty)
   go_on xs i x now next start l is does going end h =
       let whole : duties (drop i xs) ≡ own x ++ duties (drop (i + 1) xs) = ap duties (from_here xs i x l is) ∙ split x (drop (i + 1) xs) in
       going end (subst (λ zs. DoMore zs now end) (sym whole) (and_more (own x) (duties (drop (i + 1) xs)) now next end does h))
-
-pub go_done : {X : Type 0} (duties : List X → List Duty) (xs : List X) (i : ℕ) (now start : List Driver) → duties [] ≡ []
-    → length xs ≤ i → Going duties (drop i xs) xs now start → DoMore (duties xs) start now
-go_done duties xs i now start none l going =
-    let over : duties (drop i xs) ≡ [] = ap duties (drop_of_length-le xs l) ∙ none in
-    going now (subst (λ zs. DoMore zs now now) (sym over) (no_more now))
 
 -- what holds of each of what is left holds of the first of these and of the others
 pub first_left : {X Y : Type 0} (P : Y → Type 0) (plain : X → Y) (xs : List X) (i : ℕ) (x : X) → i < length xs → x ≡ get_or xs i x

@@ -1,8 +1,9 @@
 -- Code at an instance's places, and its equations.
-use Rattle.std.proofs.Common.{◌≡◌, ℕ, ◌+◌, ◌-◌, ◌^◌, ◌<◌, ◌↔◌, nat_le, ◌||◌, ◌&&◌, Bool, true, false, List, []}
+use Rattle.std.proofs.Common.{◌≡◌, ℕ, ◌+◌, ◌-◌, ◌^◌, ◌<◌, ◌↔◌, nat_le, ◌&&◌, List, []}
 use Rattle.std.proofs.Common.{◌∷◌, ◌++◌, map}
-use Rattle.std.proofs.Common.{refl, ap, sym, subst, ◌∙◌}
+use Rattle.std.proofs.Common.{ap, sym, subst, ◌∙◌}
 use Rattle.std.proofs.lemmas.List.{get_or-drop, append-nil}
+use Rattle.std.proofs.Math.Bool.{or-false, and-true}
 use Rattle.net_design.specs.declared.act.Place.{Place}
 use Rattle.net_design.specs.declared.act.Act.{Act, Set}
 use Rattle.net_design.specs.declared.act.Code.{Code}
@@ -20,14 +21,6 @@ use Rattle.net_design.proofs.LastLaws.{last_updates}
 use Rattle.net_code.specs.Moved.{moved_rhs, moved_place, moved_act, moved_update, moved_bits, moved, from_first}
 use Rattle.net_code.proofs.MovedValues.{value_moved, block_moved, fixed_moved}
 use Rattle.net_code.proofs.MovedBits.{named_moved, reads_moved, block_writes_moved, block_adds_moved, block_open_moved, bits_moved}
-
-pub or_no : (b : Bool) → (b || false) ≡ b
-or_no true = refl
-or_no false = refl
-
-pub and_yes : (b : Bool) → (b && true) ≡ b
-and_yes true = refl
-and_yes false = refl
 
 module _ (net word : ℕ) where
   narrow_from : (v : Values) → IsNarrow v → IsNarrow (from_first net word v)
@@ -51,19 +44,19 @@ module _ (net word : ℕ) where
 
   -- ---- targets
   target_reads_alone : (ps : List Place) (m k : ℕ) → block_reads Blocking (Set ps (Number 0) ∷ []) m k ≡ target_reads ps m k
-  target_reads_alone ps m k = or_no _ ∙ and_yes _
+  target_reads_alone ps m k = or-false _ ∙ and-true _
 
   pub target_writes_placed : (old new : List Place) (p : BitSet) → new ≡ map (moved_place net word) old
       → ((m k : ℕ) → target_writes old m k ≡ p m k) → (m k : ℕ) → target_writes new m k ≡ moved_bits net word p m k
   target_writes_placed old new p is h m k =
-      ap (λ ps. target_writes ps m k) is ∙ sym (or_no _) ∙ block_writes_moved net word (Set old (Number 0) ∷ []) m k
-      ∙ same_bits (block_writes (Set old (Number 0) ∷ [])) p (λ x y. or_no _ ∙ h x y) m k
+      ap (λ ps. target_writes ps m k) is ∙ sym (or-false _) ∙ block_writes_moved net word (Set old (Number 0) ∷ []) m k
+      ∙ same_bits (block_writes (Set old (Number 0) ∷ [])) p (λ x y. or-false _ ∙ h x y) m k
 
   pub target_adds_placed : (old new : List Place) (p : BitSet) → new ≡ map (moved_place net word) old
       → ((m k : ℕ) → target_adds old m k ≡ p m k) → (m k : ℕ) → target_adds new m k ≡ moved_bits net word p m k
   target_adds_placed old new p is h m k =
-      ap (λ ps. target_adds ps m k) is ∙ sym (or_no _) ∙ block_adds_moved net word (Set old (Number 0) ∷ []) m k
-      ∙ same_bits (block_adds (Set old (Number 0) ∷ [])) p (λ x y. or_no _ ∙ h x y) m k
+      ap (λ ps. target_adds ps m k) is ∙ sym (or-false _) ∙ block_adds_moved net word (Set old (Number 0) ∷ []) m k
+      ∙ same_bits (block_adds (Set old (Number 0) ∷ [])) p (λ x y. or-false _ ∙ h x y) m k
 
   pub target_reads_placed : (old new : List Place) (p : BitSet) → new ≡ map (moved_place net word) old
       → ((m k : ℕ) → target_reads old m k ≡ p m k) → (m k : ℕ) → target_reads new m k ≡ moved_bits net word p m k

@@ -14,7 +14,7 @@ use Rattle.vlog_meaning.specs.Names.{Full, numbers_at}
 use Rattle.vlog_meaning.specs.Placed.{names_at}
 use Rattle.vlog_meaning.specs.Items.{IsAssigned, ConnsHold, HoldsAt}
 use Rattle.vlog_meaning.specs.Own.{Agree}
-use Rattle.vlog_driver.specs.Spots.{Spot, numbers_from}
+use Rattle.vlog_driver.specs.Sites.{Site, numbers_from}
 use Rattle.vlog_driver.specs.Duties.{Duty, Assigns, Settles, Does, wire_duty, assign_duty, always_duties, conn_duties}
 
 -- what a driver is to do holds of the flat design's numbers
@@ -34,7 +34,7 @@ DriversDoDuties = (duties : List Duty) (drivers : List Driver) (v : Values) → 
     → DriversHold v drivers ↔ DutiesHold v duties
 
 -- the drivers of an item, but for those of an instance's connections
-abbrev pub item_duties : Spot → ItemOf ℕ → List Duty
+abbrev pub item_duties : Site → ItemOf ℕ → List Duty
 item_duties p (WiresItem range ids) = []
 item_duties p (DrivenWiresItem range ws) = map (wire_duty p) ws
 item_duties p (RegsItem range gs) = []
@@ -48,18 +48,18 @@ IsNoInstance (InstanceItem i) = ⊥
 IsNoInstance item = Unit {0}
 
 -- the numbers of the instance at a path are those of the flat design's list from its first places on
-pub record StandsAt (nets : Full → ℕ) (words : Full → ℕ → ℕ) (path : Full) (s : Scope) (k : ℕ) (p : Spot) (v : Values) : Type 0 where
+pub record StandsAt (nets : Full → ℕ) (words : Full → ℕ → ℕ) (path : Full) (s : Scope) (k : ℕ) (p : Site) (v : Values) : Type 0 where
   pub names : p.names ≡ names_at s k
   pub numbers : Agree p.names (numbers_from p v) (numbers_at nets words path s)
 
 abbrev pub ItemsAreDuties : Type 0
-ItemsAreDuties = (file : List (ModuleOf ℕ)) (nets : Full → ℕ) (words : Full → ℕ → ℕ) (path : Full) (s : Scope) (k : ℕ) (p : Spot)
+ItemsAreDuties = (file : List (ModuleOf ℕ)) (nets : Full → ℕ) (words : Full → ℕ → ℕ) (path : Full) (s : Scope) (k : ℕ) (p : Site)
     (v : Values) (item : ItemOf ℕ) → StandsAt nets words path s k p v → IsNoInstance item
     → DutiesHold v (item_duties p item) ↔ HoldsAt file nets words path s k item
 
 -- the same of the connections of a child, which stands at `inner` with the scope t
 abbrev pub ConnsAreDuties : Type 0
-ConnsAreDuties = (nets : Full → ℕ) (words : Full → ℕ → ℕ) (path inner : Full) (s t : Scope) (k j : ℕ) (p q : Spot) (v : Values)
+ConnsAreDuties = (nets : Full → ℕ) (words : Full → ℕ → ℕ) (path inner : Full) (s t : Scope) (k j : ℕ) (p q : Site) (v : Values)
     (child : ModuleOf ℕ) (i : InstanceOf ℕ) → StandsAt nets words path s k p v → StandsAt nets words inner t j q v
     → DutiesHold v (flat_map (conn_duties (declared child) p q) i.ports)
     ↔ ConnsHold child (names_at s k) (numbers_at nets words path s) (names_at t j) (numbers_at nets words inner t) i

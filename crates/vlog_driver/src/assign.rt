@@ -7,7 +7,7 @@ ghost use Rattle.net_design.specs.declared.act.Act.{Set};
 ghost use Rattle.net_design.specs.declared.act.Timing.TheVariants as timing;
 ghost use Rattle.net_design.specs.Bits.{HasBits};
 ghost use Rattle.vlog_block.specs.Faultless.{IsFaultless, IsFaultlessTarget};
-ghost use Rattle.vlog_driver.specs.Spots.{spot_of};
+ghost use Rattle.vlog_driver.specs.Sites.{site_of};
 ghost use Rattle.vlog_driver.specs.Drivers.{IsAssignment};
 ghost use Rattle.vlog_driver.specs.Duties.{Duty, DoMore, Does, assign_duty, IsFaultlessAssign};
 
@@ -55,9 +55,9 @@ pub fn assignment<'a>(
     from: &Site<'a>,
     e: &Expr,
 ) -> Result<Driver, Memory>
-    requires target { IsFaultlessTarget (spot_of to.now).names (plain_target target.now) }
-    requires value { IsFaultless (spot_of «from».now).names (plain_expr e.now) }
-    ensures { IfOk result (IsAssignment line (spot_of to.now) (plain_target target.now) (spot_of «from».now) (plain_expr e.now)) }
+    requires target { IsFaultlessTarget (site_of to.now).names (plain_target target.now) }
+    requires value { IsFaultless (site_of «from».now).names (plain_expr e.now) }
+    ensures { IfOk result (IsAssignment line (site_of to.now) (plain_target target.now) (site_of «from».now) (plain_expr e.now)) }
 {
     let own = own_width(from, e)?;
     let w = own_target_width(to, target)?.max(own);
@@ -80,8 +80,8 @@ fn add_assign(
     a: &Assign,
     out: &mut Items<Driver>,
 ) -> Result<(), Memory>
-    requires { IsFaultlessAssign (spot_of site.now) (plain_assign a.now) }
-    ensures { OnOk result (DoMore (assign_duty (spot_of site.now) (plain_assign a.now) ∷ []) out.old out.new) }
+    requires { IsFaultlessAssign (site_of site.now) (plain_assign a.now) }
+    ensures { OnOk result (DoMore (assign_duty (site_of site.now) (plain_assign a.now) ∷ []) out.old out.new) }
 {
     let line = target_line(&a.target);
     let driver = assignment(alloc, line, site, &a.target, site, &a.value)?;
@@ -99,8 +99,8 @@ pub fn add_assigns(
     assigns: &[Assign],
     out: &mut Items<Driver>,
 ) -> Result<(), Memory>
-    requires { AllByRecursion (IsFaultlessAssign (spot_of site.now)) (map plain_assign assigns.now) }
-    ensures { OnOk result (DoMore (map (assign_duty (spot_of site.now)) (map plain_assign assigns.now)) out.old out.new) }
+    requires { AllByRecursion (IsFaultlessAssign (site_of site.now)) (map plain_assign assigns.now) }
+    ensures { OnOk result (DoMore (map (assign_duty (site_of site.now)) (map plain_assign assigns.now)) out.old out.new) }
 {
     for a in assigns {
         add_assign(alloc, site, a, out)?;

@@ -5,9 +5,10 @@ ghost use Rattle.vlog_tree.specs.Plain.{plain_always};
 ghost use Rattle.net_design.specs.declared.act.Timing.TheVariants.{Blocking, Nonblocking};
 ghost use Rattle.vlog_block.specs.Faultless.{IsFaultlessBody};
 ghost use Rattle.vlog_block.specs.Updates.{timing_of};
-ghost use Rattle.vlog_latch.specs.Latch.{Answers};
+ghost use Rattle.vidi_bits.specs.Findings.{Judged};
+ghost use Rattle.vlog_latch.specs.Told.{block_told};
 ghost use Rattle.vlog_latch.specs.Blocks.{block_latches};
-ghost use Rattle.vlog_driver.specs.Spots.{spot_of};
+ghost use Rattle.vlog_driver.specs.Sites.{site_of};
 ghost use Rattle.vlog_driver.specs.Drivers.{IsSettling, IsClocked};
 ghost use Rattle.vlog_driver.specs.Duties.{DoMore, always_duties};
 
@@ -22,10 +23,10 @@ use vlog_tree::{Always, Event};
 
 /// The driver that an `always @*` is, on the line of `always`.
 fn always_driver(alloc: Global, site: &Site<'_>, block: &Always) -> Result<Driver, BlockError>
-    requires faultless { IsFaultlessBody (spot_of site.now).names (plain_always block.now).body }
+    requires faultless { IsFaultlessBody (site_of site.now).names (plain_always block.now).body }
     requires implicit { timing_of (plain_always block.now).event ≡ Blocking }
-    ensures latch { Answers result (block_latches (spot_of site.now).names (plain_always block.now)) }
-    ensures driver { IfOk result (IsSettling (spot_of site.now) (plain_always block.now)) }
+    ensures latch { Judged block_told result (block_latches (site_of site.now).names (plain_always block.now)) }
+    ensures driver { IfOk result (IsSettling (site_of site.now) (plain_always block.now)) }
 {
     let code = placed_block(alloc, site, block)?;
     Ok(Driver {
@@ -49,9 +50,9 @@ pub fn add_always(
     block: &Always,
     out: &mut Items<Driver>,
 ) -> Result<(), BlockError>
-    requires { IsFaultlessBody (spot_of site.now).names (plain_always block.now).body }
-    ensures latch { Answers result (block_latches (spot_of site.now).names (plain_always block.now)) }
-    ensures driver { OnOk result (DoMore (always_duties (spot_of site.now) (plain_always block.now)) out.old out.new) }
+    requires { IsFaultlessBody (site_of site.now).names (plain_always block.now).body }
+    ensures latch { Judged block_told result (block_latches (site_of site.now).names (plain_always block.now)) }
+    ensures driver { OnOk result (DoMore (always_duties (site_of site.now) (plain_always block.now)) out.old out.new) }
 {
     match &block.event {
         Event::Posedge(_) => Ok(()),
@@ -72,9 +73,9 @@ pub fn add_always(
 /// `Memory`: there isn't enough memory, or nets or words can't be counted in 32 bits, or more than 2,048 statements stand within one
 /// another.
 pub fn clocked_block(alloc: Global, site: &Site<'_>, block: &Always) -> Result<Code, BlockError>
-    requires faultless { IsFaultlessBody (spot_of site.now).names (plain_always block.now).body }
+    requires faultless { IsFaultlessBody (site_of site.now).names (plain_always block.now).body }
     requires clocked { timing_of (plain_always block.now).event ≡ Nonblocking }
-    ensures { IfOk result (IsClocked (spot_of site.now) (plain_always block.now)) }
+    ensures { IfOk result (IsClocked (site_of site.now) (plain_always block.now)) }
 {
     placed_block(alloc, site, block)
 }

@@ -1,15 +1,12 @@
 //! Connections of an instance's ports as drivers.
 
-ghost use Rattle.std.specs.Prelude.{◌≡◌, [], ◌∷◌, IfOk, OnOk, map};
+ghost use Rattle.std.specs.Prelude.{OnOk, map};
 ghost use Rattle.std.specs.List.{AllByRecursion, flat_map};
-ghost use Rattle.vlog_tree.specs.Plain.{plain_ident, plain_expr, plain_conn};
-ghost use Rattle.vlog_size.specs.Table.{value_of};
-ghost use Rattle.vlog_meaning.specs.Ports.{is_output, is_output_port};
-ghost use Rattle.vlog_block.specs.Faultless.{IsFaultless, IsFaultlessTarget};
-ghost use Rattle.vlog_meaning.specs.Items.{whole, read, target_of};
-ghost use Rattle.vlog_driver.specs.Spots.{spot_of};
-ghost use Rattle.vlog_driver.specs.Drivers.{IsAssignment};
-ghost use Rattle.vlog_driver.specs.Duties.{DoMore, output_duties, input_duties, conn_duties, IsFaultlessForm, IsFaultlessConn};
+ghost use Rattle.vlog_tree.specs.Plain.{plain_expr, plain_conn};
+ghost use Rattle.vlog_block.specs.Faultless.{IsFaultless};
+ghost use Rattle.vlog_meaning.specs.Items.{read, target_of};
+ghost use Rattle.vlog_driver.specs.Sites.{site_of};
+ghost use Rattle.vlog_driver.specs.Duties.{DoMore, output_duties, conn_duties, IsFaultlessForm, IsFaultlessConn};
 
 use crate::copy::target_form;
 use crate::site::Site;
@@ -17,32 +14,8 @@ use crate::whole::{add_input, add_output};
 use net_design::Driver;
 use std::alloc::Global;
 use vidi_bits::{Items, Memory};
-use vlog_names::{Declaration, Declarations};
-use vlog_tree::{Conn, Direction, Expr, Ident};
-
-fn is_output_port(direction: Direction) -> bool
-    ensures { result ≡ is_output_port direction }
-{
-    match direction {
-        Direction::Output { kind: _ } => true,
-        Direction::Input { wire: _ } => false,
-    }
-}
-
-/// Whether a module with these names has an output of this name.
-pub fn is_output(names: &Declarations, ident: &Ident) -> bool
-    ensures { result ≡ is_output (value_of names.now (plain_ident ident.now).name) }
-{
-    match names.get(ident.name.as_slice()) {
-        Some(
-            Declaration::Port {
-                direction,
-                shape: _,
-            },
-        ) => is_output_port(*direction),
-        _ => false,
-    }
-}
+use vlog_names::{Declarations, is_output};
+use vlog_tree::{Conn, Expr};
 
 /// Adds the driver of the target that gets a child's output.
 fn add_from_port<'a>(
@@ -53,9 +26,9 @@ fn add_from_port<'a>(
     e: &Expr,
     out: &mut Items<Driver>,
 ) -> Result<(), Memory>
-    requires port { IsFaultless (spot_of child.now).names (read (plain_conn conn.now).id) }
-    requires target { IsFaultlessForm (spot_of parent.now) (target_of (plain_expr e.now)) }
-    ensures { OnOk result (DoMore (output_duties (spot_of parent.now) (spot_of child.now) (plain_conn conn.now).line
+    requires port { IsFaultless (site_of child.now).names (read (plain_conn conn.now).id) }
+    requires target { IsFaultlessForm (site_of parent.now) (target_of (plain_expr e.now)) }
+    ensures { OnOk result (DoMore (output_duties (site_of parent.now) (site_of child.now) (plain_conn conn.now).line
         (plain_conn conn.now).id (target_of (plain_expr e.now))) out.old out.new) }
 {
     match target_form(alloc, e)? {
@@ -73,8 +46,8 @@ fn add_conn<'a>(
     conn: &Conn,
     out: &mut Items<Driver>,
 ) -> Result<(), Memory>
-    requires { IsFaultlessConn names.now (spot_of parent.now) (spot_of child.now) (plain_conn conn.now) }
-    ensures { OnOk result (DoMore (conn_duties names.now (spot_of parent.now) (spot_of child.now) (plain_conn conn.now)) out.old out.new) }
+    requires { IsFaultlessConn names.now (site_of parent.now) (site_of child.now) (plain_conn conn.now) }
+    ensures { OnOk result (DoMore (conn_duties names.now (site_of parent.now) (site_of child.now) (plain_conn conn.now)) out.old out.new) }
 {
     match &conn.value {
         None => Ok(()),
@@ -102,8 +75,8 @@ pub fn add_conns<'a>(
     conns: &[Conn],
     out: &mut Items<Driver>,
 ) -> Result<(), Memory>
-    requires { AllByRecursion (IsFaultlessConn names.now (spot_of parent.now) (spot_of child.now)) (map plain_conn conns.now) }
-    ensures { OnOk result (DoMore (flat_map (conn_duties names.now (spot_of parent.now) (spot_of child.now)) (map plain_conn conns.now))
+    requires { AllByRecursion (IsFaultlessConn names.now (site_of parent.now) (site_of child.now)) (map plain_conn conns.now) }
+    ensures { OnOk result (DoMore (flat_map (conn_duties names.now (site_of parent.now) (site_of child.now)) (map plain_conn conns.now))
         out.old out.new) }
 {
     for conn in conns {

@@ -10,8 +10,8 @@ use std::alloc::Global;
 use std::boxed::Box;
 use vidi_bits::{Items, Memory, copied};
 use vlog_tree::{
-    Expr, Exprs, Ident, Number, Prim as Operand, Ref, Sel, Target, Targets, Unary, concat,
-    concat_target, repeat, see_concat, see_repeat,
+    Expr, Exprs, Ident, Number, Operand, Ref, Sel, Target, Targets, Unary, concat, concat_target,
+    repeat, see_concat, see_repeat,
 };
 
 fn copied_ident(alloc: Global, id: &Ident) -> Result<Ident, Memory>

@@ -1,7 +1,7 @@
 //! The drivers and the clocked blocks of the flat design that an instance's items make (IEEE 1364-2005, 6.1, 9.7.5, 9.9.2 and 12.3; this
 //! project's profile).
 //!
-//! `specs/Spots` says where the code of an instance stands, `specs/Drivers` what a driver has to say of its item, and `specs/Duties` which
+//! `specs/Sites` says where the code of an instance stands, `specs/Drivers` what a driver has to say of its item, and `specs/Duties` which
 //! drivers an item makes, in text order.
 #![tactic(auto)]
 
@@ -9,6 +9,7 @@ mod assign;
 mod block;
 mod conn;
 mod copy;
+mod fits;
 mod laws;
 mod placed;
 mod site;
@@ -16,8 +17,9 @@ mod whole;
 
 pub use assign::{add_assigns, assignment};
 pub use block::{add_always, clocked_block};
-pub use conn::{add_conns, is_output};
+pub use conn::add_conns;
 pub use copy::target_form;
+pub use fits::{expr_fits, net_fits, read_fits, target_fits, wire_fits};
 pub use laws::drivers_are_items;
 pub use site::Site;
-pub use whole::{add_input, add_output, add_wire};
+pub use whole::{add_input, add_output, add_wire, whole_target};

@@ -1,12 +1,12 @@
 //! Where the code of an instance stands.
 
+use net_code::Base;
 use vlog_size::Scope;
 
-/// An instance of a module: its scope, in which the parameters are declared that stand before the item in question, and the
-/// places of its first net and of its first memory word in the flat design.
+/// An instance of a module: its scope, in which the parameters are declared that stand before the item in question, and where it stands
+/// in the flat design.
 #[derive(Clone, Copy)]
 pub struct Site<'a> {
     pub scope: &'a Scope,
-    pub first_net: u32,
-    pub first_word: u32,
+    pub base: Base,
 }

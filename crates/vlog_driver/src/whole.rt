@@ -5,7 +5,7 @@ ghost use Rattle.std.specs.List.{AllByRecursion};
 ghost use Rattle.vlog_tree.specs.Plain.{plain_ident, plain_expr, plain_target, plain_named, plain_conn};
 ghost use Rattle.vlog_block.specs.Faultless.{IsFaultless, IsFaultlessTarget};
 ghost use Rattle.vlog_meaning.specs.Items.{whole, read, target_of};
-ghost use Rattle.vlog_driver.specs.Spots.{spot_of};
+ghost use Rattle.vlog_driver.specs.Sites.{site_of};
 ghost use Rattle.vlog_driver.specs.Duties.{DoMore, wire_duty, IsFaultlessWire, input_duties, output_duties};
 
 use crate::assign::{assignment, push_driver};
@@ -13,10 +13,10 @@ use crate::site::Site;
 use net_design::Driver;
 use std::alloc::Global;
 use vidi_bits::{Items, Memory, copied};
-use vlog_tree::{Conn, Expr, Ident, NamedValue, Prim as Operand, Ref, Target, Unary};
+use vlog_tree::{Conn, Expr, Ident, NamedValue, Operand, Ref, Target, Unary};
 
 /// A whole net as a target.
-fn whole_target(alloc: Global, id: &Ident) -> Result<Target, Memory>
+pub fn whole_target(alloc: Global, id: &Ident) -> Result<Target, Memory>
     ensures { IfOk result (λ t. plain_target t ≡ whole (plain_ident id.now)) }
 {
     let name = copied(alloc, id.name.as_slice())?;
@@ -29,7 +29,7 @@ fn whole_target(alloc: Global, id: &Ident) -> Result<Target, Memory>
 }
 
 /// A whole net as an expression.
-fn whole_read(alloc: Global, id: &Ident) -> Result<Expr, Memory>
+pub fn whole_read(alloc: Global, id: &Ident) -> Result<Expr, Memory>
     ensures { IfOk result (λ e. plain_expr e ≡ read (plain_ident id.now)) }
 {
     let name = copied(alloc, id.name.as_slice())?;
@@ -57,8 +57,8 @@ pub fn add_wire(
     wire: &NamedValue,
     out: &mut Items<Driver>,
 ) -> Result<(), Memory>
-    requires { IsFaultlessWire (spot_of site.now) (plain_named wire.now) }
-    ensures { OnOk result (DoMore (wire_duty (spot_of site.now) (plain_named wire.now) ∷ []) out.old out.new) }
+    requires { IsFaultlessWire (site_of site.now) (plain_named wire.now) }
+    ensures { OnOk result (DoMore (wire_duty (site_of site.now) (plain_named wire.now) ∷ []) out.old out.new) }
 {
     let target = whole_target(alloc, &wire.id)?;
     let driver = assignment(alloc, wire.id.line, site, &target, site, &wire.value)?;
@@ -81,9 +81,9 @@ pub fn add_input<'a>(
     e: &Expr,
     out: &mut Items<Driver>,
 ) -> Result<(), Memory>
-    requires port { IsFaultlessTarget (spot_of child.now).names (whole (plain_conn conn.now).id) }
-    requires value { IsFaultless (spot_of parent.now).names (plain_expr e.now) }
-    ensures { OnOk result (DoMore (input_duties (spot_of parent.now) (spot_of child.now) (plain_conn conn.now).line
+    requires port { IsFaultlessTarget (site_of child.now).names (whole (plain_conn conn.now).id) }
+    requires value { IsFaultless (site_of parent.now).names (plain_expr e.now) }
+    ensures { OnOk result (DoMore (input_duties (site_of parent.now) (site_of child.now) (plain_conn conn.now).line
         (plain_conn conn.now).id (plain_expr e.now)) out.old out.new) }
 {
     let target = whole_target(alloc, &conn.id)?;
@@ -107,9 +107,9 @@ pub fn add_output<'a>(
     target: &Target,
     out: &mut Items<Driver>,
 ) -> Result<(), Memory>
-    requires port { IsFaultless (spot_of child.now).names (read (plain_conn conn.now).id) }
-    requires target { IsFaultlessTarget (spot_of parent.now).names (plain_target target.now) }
-    ensures { OnOk result (DoMore (output_duties (spot_of parent.now) (spot_of child.now) (plain_conn conn.now).line
+    requires port { IsFaultless (site_of child.now).names (read (plain_conn conn.now).id) }
+    requires target { IsFaultlessTarget (site_of parent.now).names (plain_target target.now) }
+    ensures { OnOk result (DoMore (output_duties (site_of parent.now) (site_of child.now) (plain_conn conn.now).line
         (plain_conn conn.now).id (Some (plain_target target.now))) out.old out.new) }
 {
     let value = whole_read(alloc, &conn.id)?;

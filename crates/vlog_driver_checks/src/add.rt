@@ -1,15 +1,16 @@
 //! The drivers of items in which nothing is found.
 
-use crate::fits::{
-    assigns_fit, expr_fits, input_fits, output_fits, target_fits, whole_target, wire_fits,
-};
+use crate::fits::assigns_fit;
 use net_design::Driver;
 use std::alloc::Global;
 use std::test::Fail;
 use vidi_bits::Items;
 use vlog_block::is_faultless;
-use vlog_driver::{Site, add_always, add_assigns, add_input, add_output, add_wire};
-use vlog_tree::{Always, Conn, Expr, Item, NamedValue, Prim as Operand};
+use vlog_driver::{
+    Site, add_always, add_assigns, add_input, add_output, add_wire, expr_fits, net_fits, read_fits,
+    target_fits, whole_target, wire_fits,
+};
+use vlog_tree::{Always, Conn, Expr, Item, NamedValue, Operand};
 
 fn add_wires(
     alloc: Global,
@@ -68,7 +69,7 @@ fn add_to_port<'a>(
     e: &Expr,
     out: &mut Items<Driver>,
 ) -> Result<(), Fail> {
-    if !input_fits(alloc, child, &conn.id)? || !expr_fits(parent, e) {
+    if !net_fits(alloc, child, &conn.id)? || !expr_fits(parent, e) {
         return Err(Fail::from("a fault at an input"));
     }
     Ok(add_input(alloc, parent, child, conn, e, out)?)
@@ -86,7 +87,7 @@ fn add_from_port<'a>(
         Expr::Unary(unary) => match &unary.prim {
             Operand::Ref(net) => {
                 let target = whole_target(alloc, &net.id)?;
-                if !output_fits(alloc, child, &conn.id)? || !target_fits(parent, &target) {
+                if !read_fits(alloc, child, &conn.id)? || !target_fits(parent, &target) {
                     return Err(Fail::from("a fault at an output"));
                 }
                 Ok(add_output(alloc, parent, child, conn, &target, out)?)

@@ -1,14 +1,14 @@
 //! The drivers of two modules' items, with the bits that they write and read worked out by hand.
 
 use crate::add::{add_conns, add_item};
-use crate::fits::{expr_fits, target_fits};
+use net_code::Base;
 use net_design::{Code, Driver, Mask};
 use std::alloc::Global;
 use std::boxed::Box;
 use std::test::Fail;
 use vidi_bits::Items;
 use vlog_block::is_faultless;
-use vlog_driver::{Site, assignment, clocked_block};
+use vlog_driver::{Site, assignment, clocked_block, expr_fits, target_fits};
 use vlog_lex::lex;
 use vlog_parse::parse;
 use vlog_scope::top_scope;
@@ -125,13 +125,11 @@ fn drivers_of(alloc: Global) -> Result<Items<Driver>, Fail> {
     let inner = top_scope(alloc, module_at(&file, 1)?)?;
     let parent = Site {
         scope: &outer,
-        first_net: 10,
-        first_word: 0,
+        base: Base { net: 10, word: 0 },
     };
     let child = Site {
         scope: &inner,
-        first_net: 20,
-        first_word: 0,
+        base: Base { net: 20, word: 0 },
     };
     let mut drivers = Items::new(alloc);
     for item in top.items.as_slice() {
@@ -173,13 +171,11 @@ fn driver_between(alloc: Global) -> Result<Driver, Fail> {
     let inner = top_scope(alloc, low)?;
     let to = Site {
         scope: &outer,
-        first_net: 10,
-        first_word: 0,
+        base: Base { net: 10, word: 0 },
     };
     let from = Site {
         scope: &inner,
-        first_net: 20,
-        first_word: 0,
+        base: Base { net: 20, word: 0 },
     };
     let target = &assign_at(top, ASSIGN)?.target;
     let value = &assign_at(low, 0)?.value;
@@ -202,8 +198,7 @@ fn code_of_clocked(alloc: Global) -> Result<Code, Fail> {
     let scope = top_scope(alloc, top)?;
     let site = Site {
         scope: &scope,
-        first_net: 10,
-        first_word: 0,
+        base: Base { net: 10, word: 0 },
     };
     let block = block_at(top, CLOCKED)?;
     if !is_faultless(block, site.scope) {

@@ -68,7 +68,7 @@ pub none_added : (xs : List ModuleInstance) (depth : ℕ) (ms : List (ModuleOf �
 none_added xs depth ms cs e =
     sym (ap (λ d. xs ++ flat_map (within d ms) cs) e ∙ ap (λ (ys : List ModuleInstance). xs ++ ys) (no_deeper ms cs) ∙ append-nil xs)
 
-deeper : (n : ℕ) (ms : List (ModuleOf ℕ)) (i : ModuleInstance) → within (suc n) ms i ≡ i ∷ flat_map (within n ms) (children ms i)
+pub deeper : (n : ℕ) (ms : List (ModuleOf ℕ)) (i : ModuleInstance) → within (suc n) ms i ≡ i ∷ flat_map (within n ms) (children ms i)
 unfolding within
 deeper n ms i = refl
 

@@ -1,58 +1,52 @@
 -- First findings of the crates below, as reasons.
-use Rattle.std.proofs.Common.{◌≡◌, ℕ, suc, ◌+◌, ◌-◌, ◌^◌, ◌<◌, ◌≤◌, ◌⊎◌, inl, inr, min, List, [], ◌∷◌, ◌++◌, map, drop, length, get_or}
+use Rattle.std.proofs.Common.{◌≡◌, ℕ, suc, ◌+◌, ◌-◌, ◌^◌, ◌<◌, ◌≤◌, ◌⊎◌, inl, inr, min, List, [], ◌∷◌, map, drop, length, get_or}
 use Rattle.std.proofs.Common.{Option, None, Some, slice_get, option_map, drop-cons}
 use Rattle.std.proofs.Common.{ap, subst, arith, refl, sym, ◌∙◌}
 use Rattle.std.specs.List.{Contains, flat_map}
 use Rattle.std.proofs.lemmas.List.{drop_all}
 use Rattle.std.proofs.lemmas.Option.{slice_get_cases, slice_get-map, slice_get_read}
+use Rattle.vidi_bits.proofs.Lists.{none_in}
+use Rattle.vidi_bits.proofs.FindingLaws.{first_map, is_first_more}
 use Rattle.vidi_bits.specs.Findings.{first}
 use Rattle.vlog_tree.specs.Tree.{ModuleOf}
 use Rattle.vlog_tree.specs.declared.module.Module.{Module}
 use Rattle.vlog_tree.specs.Plain.{plain_module}
 use Rattle.vlog_names.specs.declared.error.NameError.{NameError}
 use Rattle.vlog_names.specs.declared.error.NameError.TheVariants as name
-use Rattle.vlog_names.specs.Judged as names
+use Rattle.vlog_names.specs.Told.{name_told}
 use Rattle.vlog_kinds.specs.declared.error.KindError.{KindError}
 use Rattle.vlog_hierarchy.specs.declared.error.HierarchyError.{HierarchyError}
 use Rattle.vlog_hierarchy.specs.declared.error.HierarchyError.TheVariants as hierarchy
-use Rattle.vlog_hierarchy.specs.Judged as hierarchies
+use Rattle.vlog_hierarchy.specs.Told.{hierarchy_told}
 use Rattle.vlog_hierarchy.specs.Outlines.{Child, Outline, children_in, outlines_of}
-use Rattle.vlog_hierarchy.specs.Nested.{kids, Below, direct, through, IsNestedAnswer}
+use Rattle.vlog_hierarchy.specs.Nested.{Below, direct, through, IsNestedAnswer}
 use Rattle.vlog_hierarchy.proofs.Closed.{long_outlines}
-use Rattle.vlog_hierarchy.proofs.Reaching.{none_in}
 use Rattle.vlog_size.specs.declared.error.SizeError.{SizeError}
 use Rattle.vlog_size.specs.declared.error.SizeError.TheVariants as size
 use Rattle.vlog_elab.specs.Errors.{of_name, of_line, of_kind, of_hierarchy, of_size}
 use Rattle.vlog_elab.specs.declared.error.ElabError.{ElabError}
-use Rattle.vlog_elab.specs.declared.error.ElabError.TheVariants as e
 use Rattle.vlog_elab.specs.declared.instance.ModuleInstance as code
 use Rattle.vlog_elab.specs.Instances.{ModuleInstance}
 use Rattle.vlog_elab.specs.Plain.{plain_instance, plain_instances}
 use Rattle.vlog_elab.specs.Reasons.{word_total}
-use Rattle.vlog_elab.specs.Answered.{IsFirst}
+use Rattle.vidi_bits.specs.Findings.{IsFirst}
+use Rattle.vlog_elab.specs.Told.{elab_told}
 
-first_map : {A B : Type 0} → (f : A → B) (xs : List A) (x : A) → first xs ≡ Some x → first (map f xs) ≡ Some (f x)
-first_map f [] x h = (cc)
-first_map f (y ∷ ys) x h = ap (option_map f) h
-
-pub none : {A B : Type 0} → (f : A → B) (xs : List A) → xs ≡ [] → map f xs ≡ []
-none f xs h = ap (map f) h
-
-pub name_first : (x : NameError) (fs : List NameError) → names.IsFirst x fs → IsFirst (map of_name fs) (of_name x)
+pub name_first : (x : NameError) (fs : List NameError) → IsFirst name_told fs x → IsFirst elab_told (map of_name fs) (of_name x)
 name_first (name.Twice n) fs h = first_map of_name fs (name.Twice n) h
 name_first (name.Unknown n) fs h = first_map of_name fs (name.Unknown n) h
 name_first name.Memory fs h = tt
 
-pub kind_first : (x : KindError) (lines : List ℕ) → first lines ≡ Some x.line → IsFirst (map of_line lines) (of_kind x)
+pub kind_first : (x : KindError) (lines : List ℕ) → first lines ≡ Some x.line → IsFirst elab_told (map of_line lines) (of_kind x)
 kind_first x lines h = first_map of_line lines x.line h
 
-pub hierarchy_first : (x : HierarchyError) (fs : List HierarchyError) → hierarchies.IsFirst x fs
-    → IsFirst (map of_hierarchy fs) (of_hierarchy x)
+pub hierarchy_first : (x : HierarchyError) (fs : List HierarchyError) → IsFirst hierarchy_told fs x
+    → IsFirst elab_told (map of_hierarchy fs) (of_hierarchy x)
 hierarchy_first (hierarchy.TooBig what) fs h = first_map of_hierarchy fs (hierarchy.TooBig what) h
 hierarchy_first (hierarchy.Clock line) fs h = first_map of_hierarchy fs (hierarchy.Clock line) h
 hierarchy_first hierarchy.Memory fs h = tt
 
-pub size_first : (x : SizeError) (fs : List SizeError) → first fs ≡ Some x → IsFirst (map of_size fs) (of_size x)
+pub size_first : (x : SizeError) (fs : List SizeError) → first fs ≡ Some x → IsFirst elab_told (map of_size fs) (of_size x)
 size_first (size.Const line) fs h = first_map of_size fs (size.Const line) h
 size_first (size.Width line got) fs h = first_map of_size fs (size.Width line got) h
 
@@ -91,32 +85,15 @@ name_there all ms k m bytes copy is within at b c =
 
 -- ---- findings over the instances
 
-first_more : {A : Type 0} → (xs ys : List A) (x : A) → first xs ≡ Some x → first (xs ++ ys) ≡ Some x
-first_more [] ys x h = (cc)
-first_more (z ∷ zs) ys x h = h
-
-is_first_more : (error : ElabError) (xs ys : List ElabError) → IsFirst xs error → IsFirst (xs ++ ys) error
-is_first_more (e.Twice n) xs ys h = first_more xs ys (e.Twice n) h
-is_first_more (e.Unknown n) xs ys h = first_more xs ys (e.Unknown n) h
-is_first_more (e.Kind line) xs ys h = first_more xs ys (e.Kind line) h
-is_first_more (e.Nested n) xs ys h = first_more xs ys (e.Nested n) h
-is_first_more (e.TooBig what) xs ys h = first_more xs ys (e.TooBig what) h
-is_first_more (e.Const line) xs ys h = first_more xs ys (e.Const line) h
-is_first_more (e.Width line got) xs ys h = first_more xs ys (e.Width line got) h
-is_first_more (e.Clock line) xs ys h = first_more xs ys (e.Clock line) h
-is_first_more (e.Latch n line) xs ys h = first_more xs ys (e.Latch n line) h
-is_first_more (e.Drive n bit drivers) xs ys h = first_more xs ys (e.Drive n bit drivers) h
-is_first_more e.Memory xs ys h = tt
-
 pub found_here : (f : ModuleInstance → List ElabError) (is : List code.ModuleInstance) (i : ℕ) (x : code.ModuleInstance) (error : ElabError)
     → i < length is → x ≡ get_or is i x → flat_map f (plain_instances (drop i is)) ≡ flat_map f (plain_instances is)
-    → IsFirst (f (plain_instance x)) error → IsFirst (flat_map f (plain_instances is)) error
+    → IsFirst elab_told (f (plain_instance x)) error → IsFirst elab_told (flat_map f (plain_instances is)) error
 found_here f is i x error within at same h =
-    subst (λ (fs : List ElabError). IsFirst fs error)
+    subst (λ (fs : List ElabError). IsFirst elab_told fs error)
     (sym (ap (λ (ys : List code.ModuleInstance). flat_map f (plain_instances ys))
     (drop-cons is i x within ∙ ap (λ (y : code.ModuleInstance). y ∷ drop (suc i) is) (sym at)))
     ∙ same)
-    (is_first_more error (f (plain_instance x)) (flat_map f (plain_instances (drop (suc i) is))) h)
+    (is_first_more elab_told error (f (plain_instance x)) (flat_map f (plain_instances (drop (suc i) is))) h)
 
 -- ---- words
 

@@ -1,22 +1,12 @@
 -- The ports to which clocks may be joined: the input ports of the top that are one bit wide (IEEE 1364-2005, 12.3; this project's
 -- profile).
-use Rattle.std.specs.Prelude.{ℕ, nat_eq, Bool, true, false, ◌&&◌, List, [], ◌∷◌, ◌++◌, Option, None, Some}
+use Rattle.std.specs.Prelude.{ℕ, nat_eq, Bool, false, ◌&&◌, List, [], ◌∷◌, ◌++◌, Option, None, Some}
 use Rattle.vidi_bits.specs.Findings.{told_if}
-use Rattle.vlog_tree.specs.declared.module.Direction.{Direction}
-use Rattle.vlog_tree.specs.declared.module.Direction.TheVariants.{Input, Output}
-use Rattle.vlog_tree.specs.Tree.{PortHeadOf, PortOf}
+use Rattle.vlog_tree.specs.Tree.{PortOf}
 use Rattle.vlog_size.specs.declared.scope.ScopeNet.{ScopeNet}
 use Rattle.vlog_size.specs.Table.{Named, value_of}
+use Rattle.vlog_names.specs.Ports.{input_after}
 use Rattle.vlog_elab.specs.Instances.{ModuleInstance}
-
-abbrev pub is_input : Direction → Bool
-is_input (Input wire) = true
-is_input (Output kind) = false
-
--- a port without a direction has that of the port before
-abbrev pub input_after : Bool → Option (PortHeadOf ℕ) → Bool
-input_after before None = before
-input_after before (Some h) = is_input h.direction
 
 abbrev pub is_one_bit : Option ScopeNet → Bool
 is_one_bit None = false

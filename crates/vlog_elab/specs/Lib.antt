@@ -1,7 +1,10 @@
-pub mod Answered
+pub mod Told
 pub mod Clock
 pub mod Errors
 pub mod Inside
 pub mod Instances
 pub mod Plain
 pub mod Reasons
+pub use Rattle.vlog_hierarchy.specs.Outlines
+pub use Rattle.vlog_scope.specs.Scope
+pub use Rattle.vlog_hierarchy.specs.Nested

@@ -1,6 +1,6 @@
 -- Why a design text with a top is refused, in the order in which the reasons are tried (this project's profile): each reason as the list
 -- of all its findings, in the order in which they are answered.
-use Rattle.std.specs.Prelude.{◌≡◌, ◌⊎◌, ℕ, nat_lt, List, [], ◌∷◌, ◌++◌, map, length, slice_get, Option, None, Some}
+use Rattle.std.specs.Prelude.{◌≡◌, ◌⊎◌, ℕ, nat_lt, List, [], ◌++◌, map, length, slice_get, None, Some}
 use Rattle.std.specs.List.{flat_map, sum_by}
 use Rattle.vidi_bits.specs.Findings.{told_if}
 use Rattle.vlog_tree.specs.Tree.{ModuleOf, FileOf}
@@ -19,7 +19,8 @@ use Rattle.vlog_elab.specs.declared.error.ElabError.TheVariants as e
 use Rattle.vlog_elab.specs.Errors.{of_name, of_line, of_hierarchy, of_size}
 use Rattle.vlog_elab.specs.Instances.{ModuleInstance, instances}
 use Rattle.vlog_elab.specs.Clock.{clock_inputs}
-use Rattle.vlog_elab.specs.Answered.{IsFirst}
+use Rattle.vidi_bits.specs.Findings.{IsFirst}
+use Rattle.vlog_elab.specs.Told.{elab_told}
 
 -- ---- over the file
 
@@ -107,14 +108,14 @@ Then here clear later error = here error ⊎ (clear × later error)
 
 -- E11, then the findings over the instances
 abbrev pub RefusedLater : FileOf ℕ → List ℕ → ElabError → Type 0
-RefusedLater file top error = Then (NestedFinding file top) (IsNotNested file top) (IsFirst (size_findings file top)) error
+RefusedLater file top error = Then (NestedFinding file top) (IsNotNested file top) (IsFirst elab_told (size_findings file top)) error
 
 abbrev pub ClearLater : FileOf ℕ → List ℕ → Type 0
 ClearLater file top = IsNotNested file top × (size_findings file top ≡ [])
 
 -- the first reason, in the order E3, E4, E7, E11, E12 of instances and nets, E5, E6, E12 of words, E13
 abbrev pub Refused : FileOf ℕ → List ℕ → ElabError → Type 0
-Refused file top error = Then (IsFirst (text_findings file top)) (text_findings file top ≡ []) (RefusedLater file top) error
+Refused file top error = Then (IsFirst elab_told (text_findings file top)) (text_findings file top ≡ []) (RefusedLater file top) error
 
 -- no reason holds
 abbrev pub Clear : FileOf ℕ → List ℕ → Type 0

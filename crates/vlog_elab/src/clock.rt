@@ -1,41 +1,24 @@
 //! E13: one clock, which is an input of the top.
 
-ghost use Rattle.std.specs.Prelude.{◌≡◌, ◌&&◌, ◌++◌, false, map, option_map, IfOk, OnOk};
+ghost use Rattle.std.specs.Prelude.{◌≡◌, ◌&&◌, ◌++◌, false, map, IfOk, OnOk};
 ghost use Rattle.vidi_bits.specs.Findings.{told_if};
-ghost use Rattle.vlog_tree.specs.Plain.{plain, plain_head, plain_port};
+ghost use Rattle.vlog_tree.specs.Plain.{plain, plain_port};
 ghost use Rattle.vlog_size.specs.Table.{value_of};
 ghost use Rattle.vlog_hierarchy.specs.Plain.{plain_path};
 ghost use Rattle.vlog_elab.specs.Clock as clock;
 ghost use Rattle.vlog_elab.specs.Plain.{plain_instances};
 ghost use Rattle.vlog_elab.specs.Reasons.{clock_faults_of, clock_findings};
-ghost use Rattle.vlog_elab.specs.Answered.{Judged};
+ghost use Rattle.vidi_bits.specs.Findings.{Judged};
+ghost use Rattle.vlog_elab.specs.Told.{elab_told};
 
 use crate::error::ElabError;
 use crate::instance::ModuleInstance;
 use std::alloc::Global;
 use vidi_bits::{Items, Memory, Name};
 use vlog_hierarchy::check_clock;
+use vlog_names::input_after;
 use vlog_size::ScopeNets;
-use vlog_tree::{Direction, File, Port, PortHead};
-
-fn is_input(direction: Direction) -> bool
-    ensures { result ≡ clock.is_input direction }
-{
-    match direction {
-        Direction::Input { wire: _ } => true,
-        Direction::Output { kind: _ } => false,
-    }
-}
-
-/// Whether a port is an input, where the port before it is one or isn't.
-fn input_after(before: bool, head: &Option<PortHead>) -> bool
-    ensures { result ≡ clock.input_after before (option_map plain_head head.now) }
-{
-    match head {
-        Some(head) => is_input(head.direction),
-        None => before,
-    }
-}
+use vlog_tree::{File, Port};
 
 fn is_one_bit(nets: &ScopeNets, name: &[u8]) -> bool
     ensures { result ≡ clock.is_one_bit (value_of nets.now name.now) }
@@ -98,9 +81,9 @@ pub fn clock_inputs<'a>(
 }
 
 /// E13, where the top has these input ports of one bit.
-#[tactic(auto, using(crate::proofs::Firsts::hierarchy_first, crate::proofs::Firsts::none))]
+#[tactic(auto, using(crate::proofs::Firsts::hierarchy_first, vidi_bits::proofs::FindingLaws::none_map))]
 fn clock_checked(alloc: Global, file: &File, top: &[u8], inputs: &[&Name]) -> Result<(), ElabError>
-    ensures { Judged result (clock_faults_of (plain file.now) top.now (plain_path inputs.now)) }
+    ensures { Judged elab_told result (clock_faults_of (plain file.now) top.now (plain_path inputs.now)) }
 {
     Ok(check_clock(alloc, file, top, inputs)?)
 }
@@ -113,7 +96,7 @@ pub fn one_clock(
     top: &[u8],
     list: &[ModuleInstance<'_>],
 ) -> Result<(), ElabError>
-    ensures { Judged result (clock_findings (plain file.now) top.now (plain_instances list.now)) }
+    ensures { Judged elab_told result (clock_findings (plain file.now) top.now (plain_instances list.now)) }
 {
     let inputs = clock_inputs(alloc, list)?;
     clock_checked(alloc, file, top, inputs.as_slice())

@@ -10,7 +10,8 @@ ghost use Rattle.vlog_hierarchy.specs.Nodes.{nodes_of, firsts, net_total};
 ghost use Rattle.vlog_elab.specs.Instances.{instances, node_of};
 ghost use Rattle.vlog_elab.specs.Plain.{plain_instance, plain_instances, AreInstances};
 ghost use Rattle.vlog_elab.specs.Reasons as reasons;
-ghost use Rattle.vlog_elab.specs.Answered.{Judged};
+ghost use Rattle.vidi_bits.specs.Findings.{Judged};
+ghost use Rattle.vlog_elab.specs.Told.{elab_told};
 
 use crate::all::all_instances;
 use crate::clock::one_clock;
@@ -28,19 +29,19 @@ use vlog_tree::File;
 const MOST_WORDS: usize = 1_048_576;
 
 /// E3, then E4.
-#[tactic(auto, unfolding(crate::specs::Reasons::name_findings), using(crate::proofs::Firsts::name_first, crate::proofs::Firsts::none))]
+#[tactic(auto, unfolding(crate::specs::Reasons::name_findings), using(crate::proofs::Firsts::name_first, vidi_bits::proofs::FindingLaws::none_map))]
 fn named(alloc: Global, file: &File, top: &[u8]) -> Result<ModuleTable, ElabError>
-    ensures told { Judged result (reasons.name_findings (plain file.now) top.now) }
+    ensures told { Judged elab_told result (reasons.name_findings (plain file.now) top.now) }
     ensures modules { IfOk result (λ t. t ≡ modules_of (plain file.now)) }
 {
     Ok(check_names(alloc, file, top)?)
 }
 
 /// E7.
-#[tactic(auto, unfolding(crate::specs::Reasons::kind_findings), using(crate::proofs::Firsts::kind_first, crate::proofs::Firsts::none))]
+#[tactic(auto, unfolding(crate::specs::Reasons::kind_findings), using(crate::proofs::Firsts::kind_first, vidi_bits::proofs::FindingLaws::none_map))]
 fn of_right_kinds(modules: &ModuleTable, file: &File) -> Result<(), ElabError>
     requires { modules.now ≡ modules_of (plain file.now) }
-    ensures { Judged result (reasons.kind_findings (plain file.now)) }
+    ensures { Judged elab_told result (reasons.kind_findings (plain file.now)) }
 {
     Ok(check_kinds(modules, file)?)
 }
@@ -48,7 +49,7 @@ fn of_right_kinds(modules: &ModuleTable, file: &File) -> Result<(), ElabError>
 /// E3, E4 and E7, over the whole file.
 #[tactic(auto, unfolding(crate::specs::Reasons::text_findings))]
 fn written(alloc: Global, file: &File, top: &[u8]) -> Result<ModuleTable, ElabError>
-    ensures told { Judged result (reasons.text_findings (plain file.now) top.now) }
+    ensures told { Judged elab_told result (reasons.text_findings (plain file.now) top.now) }
     ensures modules { IfOk result (λ t. t ≡ modules_of (plain file.now)) }
 {
     let modules = named(alloc, file, top)?;
@@ -81,9 +82,9 @@ fn not_nested(alloc: Global, file: &File, top: &[u8]) -> Result<(), ElabError>
 }
 
 /// The instances that E12 counts, where there aren't too many instances or nets.
-#[tactic(auto, using(crate::proofs::Firsts::hierarchy_first, crate::proofs::Firsts::none))]
+#[tactic(auto, using(crate::proofs::Firsts::hierarchy_first, vidi_bits::proofs::FindingLaws::none_map))]
 fn counted_nodes<'a>(alloc: Global, file: &'a File, top: &[u8]) -> Result<Nodes<'a>, ElabError>
-    ensures told { Judged result (reasons.node_findings (outlines_of (plain file.now).modules)
+    ensures told { Judged elab_told result (reasons.node_findings (outlines_of (plain file.now).modules)
         (nodes_of (outlines_of (plain file.now).modules) (place_of (plain file.now).modules top.now))) }
     ensures firsts { IfOk result (λ r. r.firsts ≡ firsts (outlines_of (plain file.now).modules) 0
         (nodes_of (outlines_of (plain file.now).modules) (place_of (plain file.now).modules top.now))) }
@@ -103,7 +104,7 @@ struct Numbers {
 /// E12 of instances, then of nets.
 #[tactic(auto, unfolding(crate::specs::Reasons::hierarchy_findings), using(crate::proofs::Same::same_nodes))]
 fn counted(alloc: Global, file: &File, top: &[u8]) -> Result<Numbers, ElabError>
-    ensures told { Judged result (reasons.hierarchy_findings (plain file.now) top.now) }
+    ensures told { Judged elab_told result (reasons.hierarchy_findings (plain file.now) top.now) }
     ensures firsts { IfOk result (λ n. n.firsts
         ≡ firsts (outlines_of (plain file.now).modules) 0 (map node_of (instances (plain file.now) top.now))) }
     ensures nets { IfOk result (λ n. n.nets
@@ -118,24 +119,24 @@ fn counted(alloc: Global, file: &File, top: &[u8]) -> Result<Numbers, ElabError>
 }
 
 /// E5 of an instance.
-#[tactic(auto, unfolding(crate::specs::Reasons::instance_consts), using(crate::proofs::Firsts::size_first, crate::proofs::Firsts::none))]
+#[tactic(auto, unfolding(crate::specs::Reasons::instance_consts), using(crate::proofs::Firsts::size_first, vidi_bits::proofs::FindingLaws::none_map))]
 fn instance_consts(instance: &ModuleInstance<'_>) -> Result<(), ElabError>
-    ensures { Judged result (reasons.instance_consts (plain_instance instance.now)) }
+    ensures { Judged elab_told result (reasons.instance_consts (plain_instance instance.now)) }
 {
     Ok(const_fault(instance.tree, &instance.scope)?)
 }
 
 /// E6 of an instance.
-#[tactic(auto, unfolding(crate::specs::Reasons::instance_widths), using(crate::proofs::Firsts::size_first, crate::proofs::Firsts::none))]
+#[tactic(auto, unfolding(crate::specs::Reasons::instance_widths), using(crate::proofs::Firsts::size_first, vidi_bits::proofs::FindingLaws::none_map))]
 fn instance_widths(instance: &ModuleInstance<'_>) -> Result<(), ElabError>
-    ensures { Judged result (reasons.instance_widths (plain_instance instance.now)) }
+    ensures { Judged elab_told result (reasons.instance_widths (plain_instance instance.now)) }
 {
     Ok(width_fault(instance.tree, &instance.scope)?)
 }
 
 /// E5.
 fn lawful_constants(list: &[ModuleInstance<'_>]) -> Result<(), ElabError>
-    ensures { Judged result (flat_map reasons.instance_consts (plain_instances list.now)) }
+    ensures { Judged elab_told result (flat_map reasons.instance_consts (plain_instances list.now)) }
 {
     for instance in list {
         instance_consts(instance)?;
@@ -145,7 +146,7 @@ fn lawful_constants(list: &[ModuleInstance<'_>]) -> Result<(), ElabError>
 
 /// E6.
 fn lawful_widths(list: &[ModuleInstance<'_>]) -> Result<(), ElabError>
-    ensures { Judged result (flat_map reasons.instance_widths (plain_instances list.now)) }
+    ensures { Judged elab_told result (flat_map reasons.instance_widths (plain_instances list.now)) }
 {
     for instance in list {
         instance_widths(instance)?;
@@ -167,7 +168,7 @@ fn word_total(list: &[ModuleInstance<'_>]) -> usize
 /// E12 of words.
 #[tactic(auto, unfolding(crate::specs::Reasons::word_findings))]
 fn few_words(list: &[ModuleInstance<'_>]) -> Result<(), ElabError>
-    ensures { Judged result (reasons.word_findings (plain_instances list.now)) }
+    ensures { Judged elab_told result (reasons.word_findings (plain_instances list.now)) }
 {
     if word_total(list) > MOST_WORDS {
         return Err(ElabError::TooBig { what: Big::Words });
@@ -178,7 +179,7 @@ fn few_words(list: &[ModuleInstance<'_>]) -> Result<(), ElabError>
 /// E5, E6, then E12 of words.
 #[tactic(auto, unfolding(crate::specs::Reasons::instance_findings))]
 fn lawful(list: &[ModuleInstance<'_>]) -> Result<(), ElabError>
-    ensures { Judged result (reasons.instance_findings (plain_instances list.now)) }
+    ensures { Judged elab_told result (reasons.instance_findings (plain_instances list.now)) }
 {
     lawful_constants(list)?;
     lawful_widths(list)?;
@@ -193,7 +194,7 @@ fn judged(
     top: &[u8],
     list: &[ModuleInstance<'_>],
 ) -> Result<(), ElabError>
-    ensures { Judged result (reasons.late_findings (plain file.now) top.now (plain_instances list.now)) }
+    ensures { Judged elab_told result (reasons.late_findings (plain file.now) top.now (plain_instances list.now)) }
 {
     lawful(list)?;
     one_clock(alloc, file, top, list)
@@ -207,7 +208,7 @@ fn judged_instances<'a>(
     top: &[u8],
 ) -> Result<Items<ModuleInstance<'a>>, ElabError>
     requires { modules.now ≡ modules_of (plain file.now) }
-    ensures told { Judged result (reasons.late_findings (plain file.now) top.now (instances (plain file.now) top.now)) }
+    ensures told { Judged elab_told result (reasons.late_findings (plain file.now) top.now (instances (plain file.now) top.now)) }
     ensures value { IfOk result (λ is. plain_instances is ≡ instances (plain file.now) top.now) }
 {
     let list = all_instances(alloc, modules, file, top)?;
@@ -224,7 +225,7 @@ fn sized<'a>(
     top: &[u8],
 ) -> Result<ModuleInstances<'a>, ElabError>
     requires { modules ≡ modules_of (plain file.now) }
-    ensures told { Judged result (reasons.size_findings (plain file.now) top.now) }
+    ensures told { Judged elab_told result (reasons.size_findings (plain file.now) top.now) }
     ensures value { IfOk result (λ r. AreInstances (plain file.now) top.now r) }
     ensures modules { IfOk result (λ r. r.modules ≡ modules_of (plain file.now)) }
 {

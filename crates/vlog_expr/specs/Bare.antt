@@ -1,8 +1,8 @@
 -- Tokens, expressions and targets without their lines.
 use Rattle.std.specs.Prelude.{List, map}
 use Rattle.vlog_lex.specs.declared.token.Token.{Token}
-use Rattle.vlog_tree.specs.Tree.{IdentOf, NumberOf, SignOf, ExprOf, PrimOf, RefOf, IndexOf, LastOf, SelOf, ExprsOf, TargetOf, TargetsOf}
-use Rattle.vlog_tree.specs.Lines.{no_mark, map_ident, map_number, map_sign, map_expr, map_prim, map_ref, map_index, map_last, map_sel}
+use Rattle.vlog_tree.specs.Tree.{IdentOf, NumberOf, SignOf, ExprOf, PrimOf, RefOf, SelOf, ExprsOf, TargetOf, TargetsOf}
+use Rattle.vlog_tree.specs.Lines.{no_mark, map_ident, map_number, map_sign, map_expr, map_prim, map_ref, map_sel}
 use Rattle.vlog_tree.specs.Lines.{map_exprs, map_target, map_targets}
 use Rattle.vlog_expr.specs.Marks.{TokenOf, Toks}
 
@@ -33,12 +33,6 @@ bare_prim x = map_prim no_mark x
 
 abbrev pub bare_ref : {A : Type 0} → RefOf A → RefOf (Unit {0})
 bare_ref x = map_ref no_mark x
-
-abbrev pub bare_index : {A : Type 0} → IndexOf A → IndexOf (Unit {0})
-bare_index x = map_index no_mark x
-
-abbrev pub bare_last : {A : Type 0} → LastOf A → LastOf (Unit {0})
-bare_last x = map_last no_mark x
 
 abbrev pub bare_sel : {A : Type 0} → SelOf A → SelOf (Unit {0})
 bare_sel x = map_sel no_mark x

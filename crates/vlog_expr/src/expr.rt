@@ -14,8 +14,7 @@ use std::alloc::Global;
 use vidi_bits::copied;
 use vlog_lex::Token;
 use vlog_tree::{
-    BinaryOp, Expr, Exprs, Ident, Number, Prim as Primary, Ref, Sel, Terminal, Unary, concat,
-    repeat,
+    BinaryOp, Expr, Exprs, Ident, Number, Operand, Ref, Sel, Terminal, Unary, concat, repeat,
 };
 
 /// The level of an operand with its operator, above all binary operators.
@@ -168,7 +167,7 @@ fn unary_of(alloc: Global, tokens: &[Token], fuel: usize) -> Parsed<'_, Expr>
 
 /// An operand.
 #[cycle(reader)]
-fn prim_of(alloc: Global, tokens: &[Token], fuel: usize) -> Parsed<'_, Primary>
+fn prim_of(alloc: Global, tokens: &[Token], fuel: usize) -> Parsed<'_, Operand>
     ensures { Gives (λ x. (plain_prim x.0, all_marked x.1.now)) result (prim_at fuel (all_marked tokens.now)) }
 {
     if fuel == 0 {
@@ -177,7 +176,7 @@ fn prim_of(alloc: Global, tokens: &[Token], fuel: usize) -> Parsed<'_, Primary>
     if let Some((kind, token, rest)) = number_front(tokens) {
         let text = copied(alloc, token.text.as_slice())?;
         let line = token.line;
-        return Ok((Primary::Number(Number { kind, text, line }), rest));
+        return Ok((Operand::Number(Number { kind, text, line }), rest));
     }
     if let Some((line, rest)) = after(Terminal::ParenOpen, tokens) {
         return paren_of(alloc, line, rest, fuel - 1);
@@ -186,12 +185,12 @@ fn prim_of(alloc: Global, tokens: &[Token], fuel: usize) -> Parsed<'_, Primary>
         return concat_of(alloc, line, rest, fuel - 1);
     }
     let (name, rest) = ref_of(alloc, tokens, fuel - 1)?;
-    Ok((Primary::Ref(name), rest))
+    Ok((Operand::Ref(name), rest))
 }
 
 /// What stands behind `(`.
 #[cycle(reader)]
-fn paren_of(alloc: Global, line: u32, tokens: &[Token], fuel: usize) -> Parsed<'_, Primary>
+fn paren_of(alloc: Global, line: u32, tokens: &[Token], fuel: usize) -> Parsed<'_, Operand>
     ensures { Gives (λ x. (plain_prim x.0, all_marked x.1.now)) result (paren_at fuel line (all_marked tokens.now)) }
 {
     if fuel == 0 {
@@ -200,12 +199,12 @@ fn paren_of(alloc: Global, line: u32, tokens: &[Token], fuel: usize) -> Parsed<'
     let (inner, rest) = expr_of(alloc, tokens, fuel - 1)?;
     let inner = boxed(alloc, inner)?;
     let (_, rest) = expect(Terminal::ParenClose, rest)?;
-    Ok((Primary::Paren { line, inner }, rest))
+    Ok((Operand::Paren { line, inner }, rest))
 }
 
 /// What stands behind `{`: the parts of a concatenation, or the count of a replication and what it repeats.
 #[cycle(reader)]
-fn concat_of(alloc: Global, line: u32, tokens: &[Token], fuel: usize) -> Parsed<'_, Primary>
+fn concat_of(alloc: Global, line: u32, tokens: &[Token], fuel: usize) -> Parsed<'_, Operand>
     ensures { Gives (λ x. (plain_prim x.0, all_marked x.1.now)) result (concat_at fuel line (all_marked tokens.now)) }
 {
     if fuel == 0 {
@@ -229,7 +228,7 @@ fn repeat_of(
     count: Box<Expr>,
     tokens: &[Token],
     fuel: usize,
-) -> Parsed<'_, Primary>
+) -> Parsed<'_, Operand>
     ensures { Gives (λ x. (plain_prim x.0, all_marked x.1.now)) result
         (repeat_at fuel line (plain_expr count.value) (all_marked tokens.now)) }
 {

@@ -4,10 +4,10 @@ use Rattle.std.proofs.Common.{sym, ap, subst}
 use Rattle.std.proofs.Common.{◌∙◌, arith, drop-cons, append_assoc}
 use Rattle.std.specs.List.{Contains}
 use Rattle.std.proofs.lemmas.List.{length-set}
+use Rattle.vidi_bits.proofs.Lists.{head_in, tail_in}
 use Rattle.vidi_bits.specs.Findings.{told_if}
 use Rattle.vlog_hierarchy.specs.declared.outline.Child.{Child}
 use Rattle.vlog_hierarchy.specs.Reach.{child_places, is_marked, marked_all, fresh, AreBelow}
-use Rattle.vlog_hierarchy.proofs.Reaching.{head_in, tail_in}
 
 split_at : (cs : List Child) (i : ℕ) (c : Child) → i < length cs → c ≡ get_or cs i c
     → child_places (drop i cs) ≡ c.place ∷ child_places (drop (i + 1) cs)

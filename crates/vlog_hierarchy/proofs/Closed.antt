@@ -7,6 +7,7 @@ use Rattle.std.specs.Str.{bytes_eq}
 use Rattle.std.proofs.lemmas.List.{map-append, length-map}
 use Rattle.std.proofs.lemmas.List.Elements.{Contains-append_cases}
 use Rattle.std.proofs.lemmas.Option.{slice_get-map, slice_get_read}
+use Rattle.vidi_bits.proofs.Lists.{none_in}
 use Rattle.vlog_tree.specs.Tree.{InstanceOf, ItemOf, WiresItem, DrivenWiresItem, RegsItem, LocalparamsItem, AssignItem, AlwaysItem}
 use Rattle.vlog_tree.specs.Tree.{InstanceItem}
 use Rattle.vlog_tree.specs.Tree.{ModuleOf}
@@ -18,7 +19,6 @@ use Rattle.vlog_hierarchy.specs.Outlines.{children_in}
 use Rattle.vlog_hierarchy.specs.Plain.{plain_child, plain_outline, plain_outlines}
 use Rattle.vlog_hierarchy.specs.Nested.{kids}
 use Rattle.vlog_hierarchy.specs.Reach.{child_places, AreBelow, IsClosed}
-use Rattle.vlog_hierarchy.proofs.Reaching.{none_in}
 
 abbrev places : List Child → List ℕ
 places cs = map (λ (c : Child). c.place) cs

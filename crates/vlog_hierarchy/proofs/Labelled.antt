@@ -6,6 +6,7 @@ use Rattle.std.proofs.lemmas.List.{length-map}
 use Rattle.std.proofs.lemmas.List.Elements.{All-contains, All-contains_itself, All-map, All-weaker}
 use Rattle.std.proofs.lemmas.Bool.{cases_lt}
 use Rattle.std.proofs.lemmas.Option.{slice_get_past}
+use Rattle.vidi_bits.proofs.Lists.{none_in, tail_in}
 use Rattle.vlog_hierarchy.specs.declared.outline.Child as child
 use Rattle.vlog_hierarchy.specs.declared.outline.Outline as outline
 use Rattle.vlog_hierarchy.specs.Outlines.{Child, Outline, children_in}
@@ -13,7 +14,6 @@ use Rattle.vlog_hierarchy.specs.Plain.{plain_outline, plain_outlines}
 use Rattle.vlog_hierarchy.specs.Nested.{kids, Below, direct, through, IsNested, IsFirstNested}
 use Rattle.vlog_hierarchy.specs.Reach.{child_places}
 use Rattle.vlog_hierarchy.specs.Labels.{label_of, HoldsAbove, NeverFall, KeepsLabel, IsOpen, IsFirstOpen}
-use Rattle.vlog_hierarchy.proofs.Reaching.{none_in, tail_in}
 use Rattle.vlog_hierarchy.proofs.Closed.{visit_same}
 
 -- ---- the law

@@ -2,6 +2,7 @@
 use Rattle.std.proofs.Common.{◌≡◌, ℕ, zero, suc, ◌+◌, ◌<◌, ◌==◌, Bool, true, false, ◌||◌, List, [], ◌∷◌, ◌++◌, Option, None, Some}
 use Rattle.std.proofs.Common.{replicate, slice_set, refl, sym, ap, ◌∙◌, arith, append-nil, append_assoc}
 use Rattle.std.specs.List.{list_any}
+use Rattle.std.proofs.Math.Bool.{or-false, or-true}
 use Rattle.vlog_hierarchy.specs.Clock.{same_port, marks_from, clock_marks, marked}
 
 none_from : (k n : ℕ) → marks_from k n [] ≡ replicate n false
@@ -27,14 +28,6 @@ one_more k (q ∷ ports) p = at (same_port (Some k) q) (list_any (same_port (Som
     at true b c d e = refl
     at false b c d e = e
 
-other : (b : Bool) → (b || false) ≡ b
-other true = refl
-other false = refl
-
-this : (b : Bool) → (b || true) ≡ true
-this true = refl
-this false = refl
-
 differ : (k p : ℕ) → p < k → (k == p) ≡ false
 differ k p below = grind arith
 
@@ -46,7 +39,7 @@ past k zero ports p below = refl
 past k (suc n) ports p below =
     let head : list_any (same_port (Some k)) (ports ++ Some p ∷ []) ≡ list_any (same_port (Some k)) ports =
     one_more k ports (Some p) ∙ ap (λ b. list_any (same_port (Some k)) ports || b) (differ k p below)
-    ∙ other (list_any (same_port (Some k)) ports) in
+    ∙ or-false (list_any (same_port (Some k)) ports) in
     ap (λ b. b ∷ marks_from (k + 1) n (ports ++ Some p ∷ [])) head
     ∙ ap (λ (bs : List Bool). list_any (same_port (Some k)) ports ∷ bs) (past (k + 1) n ports p (omega arith))
 
@@ -55,13 +48,13 @@ one_from k zero i ports = refl
 one_from k (suc n) zero ports =
     let head : list_any (same_port (Some k)) (ports ++ Some (k + 0) ∷ []) ≡ true =
     one_more k ports (Some (k + 0)) ∙ ap (λ b. list_any (same_port (Some k)) ports || b) (same k)
-    ∙ this (list_any (same_port (Some k)) ports) in
+    ∙ or-true (list_any (same_port (Some k)) ports) in
     ap (λ b. b ∷ marks_from (k + 1) n (ports ++ Some (k + 0) ∷ [])) head
     ∙ ap (λ (bs : List Bool). true ∷ bs) (past (k + 1) n ports (k + 0) (omega arith))
 one_from k (suc n) (suc i) ports =
     let head : list_any (same_port (Some k)) (ports ++ Some (k + suc i) ∷ []) ≡ list_any (same_port (Some k)) ports =
     one_more k ports (Some (k + suc i)) ∙ ap (λ b. list_any (same_port (Some k)) ports || b) (above k i)
-    ∙ other (list_any (same_port (Some k)) ports) in
+    ∙ or-false (list_any (same_port (Some k)) ports) in
     let next : k + suc i ≡ k + 1 + i = omega arith in
     ap (λ b. b ∷ marks_from (k + 1) n (ports ++ Some (k + suc i) ∷ [])) head
     ∙ ap (λ (bs : List Bool). list_any (same_port (Some k)) ports ∷ bs)
@@ -73,7 +66,7 @@ one_from k (suc n) (suc i) ports =
 none_more : (k n : ℕ) (ports : List (Option ℕ)) → marks_from k n (ports ++ None ∷ []) ≡ marks_from k n ports
 none_more k zero ports = refl
 none_more k (suc n) ports =
-    ap (λ b. b ∷ marks_from (k + 1) n (ports ++ None ∷ [])) (one_more k ports None ∙ other (list_any (same_port (Some k)) ports))
+    ap (λ b. b ∷ marks_from (k + 1) n (ports ++ None ∷ [])) (one_more k ports None ∙ or-false (list_any (same_port (Some k)) ports))
     ∙ ap (λ (bs : List Bool). list_any (same_port (Some k)) ports ∷ bs) (none_more (k + 1) n ports)
 
 whole : (n : ℕ) (ports : List (Option ℕ)) → clock_marks n ports ≡ marks_from 0 n ports

@@ -1,6 +1,6 @@
 -- A table of places by name grows module by module.
 use Rattle.std.proofs.Common.{◌≡◌, ℕ, suc, ◌+◌, ◌<◌, Bool, true, false, cond, if◌then◌else◌, nat_eq, List, [], ◌∷◌, ◌++◌, Option}
-use Rattle.std.proofs.Common.{Some, None, map, drop, length, get_or, refl, sym, ap, ◌∙◌, arith, drop-cons, is_some, Vec, Global}
+use Rattle.std.proofs.Common.{Some, None, map, drop, length, get_or, refl, sym, ap, ◌∙◌, arith, drop-cons, Vec, Global}
 use Rattle.std.specs.Cmp.Lexicographic.{pointwise}
 use Rattle.std.specs.Map.{lookup}
 use Rattle.std.specs.Str.{bytes_eq}
@@ -37,10 +37,6 @@ grown m new v s name q is absent inserted =
     let none : get same_key m v ≡ None = ap (λ n. get_by (is_key n) m) is ∙ absent in
     ap (lookup (is_key q)) (inserted ∙ insert_entry-new same_key m v s none) ∙ lookup_push (is_key q) m.entries v s
     ∙ ap (λ n. or_first (get_by (is_key q) m) (if bytes_eq q n then Some s else None)) is
-
-pub no_some : {A : Type 0} (o : Option A) → is_some o ≡ false → o ≡ None
-no_some None e = refl
-no_some (Some a) e = let off : true ≡ false = e in absurd (cc)
 
 found_at : (old rest whole : Option ℕ) (b : Bool) (s : ℕ) → or_first old (if b then Some s else rest) ≡ whole
     → or_first (or_first old (if b then Some s else None)) rest ≡ whole

@@ -1,31 +1,20 @@
 -- A walk finds exactly the modules below a module.
 use Rattle.std.proofs.Common.{◌≡◌, ◌≢◌, ℕ, zero, suc, ◌+◌, ◌<◌, ◌≤◌, ◌⊎◌, inl, inr, ◌↔◌, Bool, true, false, not, cond, List, [], ◌∷◌}
-use Rattle.std.proofs.Common.{◌++◌, take, set, length, refl, sym, ap, subst, ◌∙◌, arith, length-append, append-nil}
+use Rattle.std.proofs.Common.{◌++◌, take, set, length, replicate, refl, sym, ap, subst, ◌∙◌, arith, length-append, append-nil}
 use Rattle.std.proofs.Common.{append_assoc}
 use Rattle.std.specs.Prelude.{slice_index, count_by}
 use Rattle.std.specs.List.{Contains}
 use Rattle.std.proofs.lemmas.List.{get_or-set_same, get_or-set_other, take_all, take_more, take-append-le, get_or_default, length-set}
+use Rattle.std.proofs.lemmas.List.{length-replicate}
 use Rattle.std.proofs.lemmas.List.Elements.{Contains-append_left, Contains-append_right, Contains-append_cases, Contains-push_cases}
 use Rattle.std.proofs.lemmas.List.Sums.{sum_by-set, sum_by-cons, count_by-le-length}
+use Rattle.vidi_bits.proofs.Lists.{head_in, tail_in, none_in, cases_in}
 use Rattle.vidi_bits.specs.Findings.{told_if}
 use Rattle.vlog_hierarchy.specs.Outlines.{Outline}
 use Rattle.vlog_hierarchy.specs.Nested.{kids, Below, direct, through}
 use Rattle.vlog_hierarchy.specs.Reach.{is_marked, marked_all, fresh, AreBelow, IsClosed}
 
 -- ---- elements
-
-pub head_in : {X : Type 0} (x : X) (xs : List X) → Contains (x ∷ xs) x
-head_in x xs = (0, omega arith, refl)
-
-pub tail_in : {X : Type 0} (x : X) (xs : List X) (y : X) → Contains xs y → Contains (x ∷ xs) y
-tail_in x xs y (k, l, e) = (suc k, omega arith, e)
-
-pub none_in : {X : Type 0} (y : X) → Contains [] y → ⊥
-none_in y (k, l, e) = absurd (omega arith)
-
-cases_in : {X : Type 0} (x : X) (xs : List X) (y : X) → Contains (x ∷ xs) y → (x ≡ y) ⊎ Contains xs y
-cases_in x xs y (zero, l, e) = inl e
-cases_in x xs y (suc k, l, e) = inr (k, omega arith, e)
 
 told_in : (b : Bool) (x y : ℕ) → Contains (told_if b x) y → x ≡ y
 told_in true x y (zero, l, e) = e
@@ -232,10 +221,20 @@ end_reach os from next marks found r le k = (
   (λ b. r.agree.marked k (complete os from next marks found r (take_all next found le) k b)),
 )
 
+-- a list of `false` marks nothing
+none_marked : (n k : ℕ) → is_marked (replicate n false) k ≡ false
+none_marked zero k = refl
+none_marked (suc n) zero = refl
+none_marked (suc n) (suc k) = none_marked n k
+
+pub unmarked_long : (marks : List Bool) (n : ℕ) → marks ≡ replicate n false → length marks ≡ n
+unmarked_long marks n e = ap (length {A = Bool}) e ∙ length-replicate n false
+
 pub start_at : (os : List Outline) (from : ℕ) (marks now : List Bool) (found : List ℕ) → IsClosed os → length marks ≡ length os
-    → ((k : ℕ) → is_marked marks k ≡ false)
+    → marks ≡ replicate (length os) false
     → now ≡ marked_all marks (kids os from) → found ≡ fresh marks (kids os from) → IsReach os from 0 now found
-start_at os from marks now found closed long none m f =
+start_at os from marks now found closed long unmarked m f =
+    let none : (k : ℕ) → is_marked marks k ≡ false = λ k. ap (λ (x : List Bool). is_marked x k) unmarked ∙ none_marked (length os) k in
     subst (λ (x : List Bool). IsReach os from 0 x found) (sym m)
     (subst (λ (x : List ℕ). IsReach os from 0 (marked_all marks (kids os from)) x) (sym f) (start_reach os from marks closed long none))
 

@@ -20,7 +20,7 @@ pub no_deeper : (os : List Outline) (js : List (Named ℕ)) (k : ℕ) → scopes
 unfolding scopes
 no_deeper os js k = refl
 
-deeper : (n : ℕ) (os : List Outline) (js : List (Named ℕ)) (k : ℕ)
+pub deeper : (n : ℕ) (os : List Outline) (js : List (Named ℕ)) (k : ℕ)
     → scopes (suc n) os js k ≡ record { place = k; joined = js } ∷ flat_map (child_scopes n os js) (children_at os k)
 unfolding scopes
 deeper n os js k = refl

@@ -1,5 +1,5 @@
 pub mod Clock
-pub mod Judged
+pub mod Told
 pub mod Labels
 pub mod Laws
 pub mod Nested

@@ -1,6 +1,6 @@
 //! E13: the one clock.
 
-ghost use Rattle.std.specs.Prelude.{◌≡◌, ◌++◌, false, map, length, replicate, option_map, IfOk, OnOk};
+ghost use Rattle.std.specs.Prelude.{◌≡◌, ◌++◌, map, length, option_map, IfOk, OnOk};
 ghost use Rattle.std.specs.List.{flat_map};
 ghost use Rattle.vlog_tree.specs.Plain.{plain, plain_expr, plain_event, plain_conn, plain_named, plain_assign, plain_always, plain_item};
 ghost use Rattle.vlog_tree.specs.Plain.{plain_module};
@@ -9,9 +9,11 @@ ghost use Rattle.vlog_hierarchy.specs.Plain.{plain_path};
 ghost use Rattle.vlog_hierarchy.specs.Clock.{event_ports, item_ports, scope_ports, clock_ports, first_port, same_port, marked, clock_marks};
 ghost use Rattle.vlog_hierarchy.specs.Clock.{event_faults, body_faults, value_faults, conn_faults, wire_faults, assign_faults};
 ghost use Rattle.vlog_hierarchy.specs.Clock.{item_faults, items_at, scope_faults, clock_faults, scopes_of};
-ghost use Rattle.vlog_hierarchy.specs.Judged.{Judged};
+ghost use Rattle.vidi_bits.specs.Findings.{Judged};
+ghost use Rattle.vlog_hierarchy.specs.Told.{hierarchy_told};
 
 use crate::error::HierarchyError;
+use crate::flags::unmarked;
 use crate::outline::outlines;
 use crate::places::{index_of, place_named};
 use crate::reads::{check_body, check_expr, check_target};
@@ -107,17 +109,6 @@ fn same_port(a: Option<usize>, b: Option<usize>) -> bool
     }
 }
 
-/// As many times `false`.
-fn unmarked(alloc: Global, n: usize) -> Result<Items<bool>, Memory>
-    ensures { IfOk result (λ marks. marks ≡ replicate n false) }
-{
-    let mut marks = Items::new(alloc);
-    for _ in 0..n {
-        marks.push(false)?;
-    }
-    Ok(marks)
-}
-
 /// Marks the port of a clocked block.
 fn mark(marks: &mut Items<bool>, port: Option<usize>)
     ensures { marks.new ≡ marked marks.old port }
@@ -147,7 +138,7 @@ fn check_event(
     line: u32,
     event: &Event,
 ) -> Result<(), HierarchyError>
-    ensures { Judged result (event_faults wanted joined.now line (plain_event event.now)) }
+    ensures { Judged hierarchy_told result (event_faults wanted joined.now line (plain_event event.now)) }
 {
     match event {
         Event::Posedge(id) => {
@@ -168,7 +159,7 @@ fn check_always(
     joined: &Table<usize>,
     always: &Always,
 ) -> Result<(), HierarchyError>
-    ensures { Judged result (event_faults wanted joined.now always.now.line (plain_always always.now).event
+    ensures { Judged hierarchy_told result (event_faults wanted joined.now always.now.line (plain_always always.now).event
         ++ body_faults marks.now joined.now (plain_always always.now).body) }
 {
     check_event(wanted, joined, always.line, &always.event)?;
@@ -181,7 +172,7 @@ fn check_value(
     joined: &Table<usize>,
     value: &Option<Expr>,
 ) -> Result<(), HierarchyError>
-    ensures { Judged result (value_faults marks.now joined.now (option_map plain_expr value.now)) }
+    ensures { Judged hierarchy_told result (value_faults marks.now joined.now (option_map plain_expr value.now)) }
 {
     match value {
         None => Ok(()),
@@ -193,7 +184,7 @@ fn check_value(
 }
 
 fn check_conns(marks: &[bool], joined: &Table<usize>, conns: &[Conn]) -> Result<(), HierarchyError>
-    ensures { Judged result (flat_map (conn_faults marks.now joined.now) (map plain_conn conns.now)) }
+    ensures { Judged hierarchy_told result (flat_map (conn_faults marks.now joined.now) (map plain_conn conns.now)) }
 {
     for conn in conns {
         check_value(marks, joined, &conn.value)?;
@@ -206,7 +197,7 @@ fn check_wires(
     joined: &Table<usize>,
     wires: &[NamedValue],
 ) -> Result<(), HierarchyError>
-    ensures { Judged result (flat_map (wire_faults marks.now joined.now) (map plain_named wires.now)) }
+    ensures { Judged hierarchy_told result (flat_map (wire_faults marks.now joined.now) (map plain_named wires.now)) }
 {
     for wire in wires {
         check_expr(marks, joined, &wire.value)?;
@@ -219,7 +210,7 @@ fn check_assign(
     joined: &Table<usize>,
     assign: &Assign,
 ) -> Result<(), HierarchyError>
-    ensures { Judged result (assign_faults marks.now joined.now (plain_assign assign.now)) }
+    ensures { Judged hierarchy_told result (assign_faults marks.now joined.now (plain_assign assign.now)) }
 {
     check_target(marks, joined, &assign.target)?;
     check_expr(marks, joined, &assign.value)
@@ -230,7 +221,7 @@ fn check_assigns(
     joined: &Table<usize>,
     assigns: &[Assign],
 ) -> Result<(), HierarchyError>
-    ensures { Judged result (flat_map (assign_faults marks.now joined.now) (map plain_assign assigns.now)) }
+    ensures { Judged hierarchy_told result (flat_map (assign_faults marks.now joined.now) (map plain_assign assigns.now)) }
 {
     for assign in assigns {
         check_assign(marks, joined, assign)?;
@@ -244,7 +235,7 @@ fn check_item(
     joined: &Table<usize>,
     item: &Item,
 ) -> Result<(), HierarchyError>
-    ensures { Judged result (item_faults wanted marks.now joined.now (plain_item item.now)) }
+    ensures { Judged hierarchy_told result (item_faults wanted marks.now joined.now (plain_item item.now)) }
 {
     match item {
         Item::Wires { .. } => Ok(()),
@@ -263,7 +254,7 @@ fn check_items(
     joined: &Table<usize>,
     items: &[Item],
 ) -> Result<(), HierarchyError>
-    ensures { Judged result (flat_map (item_faults wanted marks.now joined.now) (map plain_item items.now)) }
+    ensures { Judged hierarchy_told result (flat_map (item_faults wanted marks.now joined.now) (map plain_item items.now)) }
 {
     for item in items {
         check_item(wanted, marks, joined, item)?;
@@ -279,7 +270,7 @@ fn check_scope(
     marks: &[bool],
     scope: &Scope,
 ) -> Result<(), HierarchyError>
-    ensures { Judged result (scope_faults (map plain_module modules.now) wanted marks.now scope.now) }
+    ensures { Judged hierarchy_told result (scope_faults (map plain_module modules.now) wanted marks.now scope.now) }
 {
     let items = items_at(modules, scope.place);
     check_items(wanted, marks, &scope.joined, items)
@@ -291,7 +282,7 @@ fn check_scopes(
     marks: &[bool],
     scopes: &[Scope],
 ) -> Result<(), HierarchyError>
-    ensures { Judged result (flat_map (scope_faults (map plain_module modules.now) wanted marks.now) scopes.now) }
+    ensures { Judged hierarchy_told result (flat_map (scope_faults (map plain_module modules.now) wanted marks.now) scopes.now) }
 {
     for scope in scopes {
         check_scope(modules, wanted, marks, scope)?;
@@ -307,7 +298,7 @@ fn check_all(
     inputs: usize,
     scopes: &[Scope],
 ) -> Result<(), HierarchyError>
-    ensures { Judged result (clock_faults (map plain_module modules.now) inputs scopes.now) }
+    ensures { Judged hierarchy_told result (clock_faults (map plain_module modules.now) inputs scopes.now) }
 {
     let ports = clock_ports(alloc, modules, scopes)?;
     let wanted = first_port(ports.as_slice());
@@ -327,7 +318,7 @@ pub fn check_clock(
     top: &[u8],
     inputs: &[&Name],
 ) -> Result<(), HierarchyError>
-    ensures { Judged result (clock_faults (plain file.now).modules (length inputs.now)
+    ensures { Judged hierarchy_told result (clock_faults (plain file.now).modules (length inputs.now)
         (scopes_of (outlines_of (plain file.now).modules) (plain_path inputs.now) (place_of (plain file.now).modules top.now))) }
 {
     let index = index_of(alloc, file.modules.as_slice())?;

@@ -4,6 +4,7 @@
 
 mod clock;
 mod error;
+mod flags;
 mod labels;
 mod laws;
 mod nodes;

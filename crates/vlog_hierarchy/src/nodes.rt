@@ -7,7 +7,8 @@ ghost use Rattle.vlog_hierarchy.specs.Outlines.{outlines_of, place_of, nets_at, 
 ghost use Rattle.vlog_hierarchy.specs.Plain.{plain_child, plain_outlines, plain_node, plain_nodes, plain_path};
 ghost use Rattle.vlog_hierarchy.specs.Nodes.{nodes, child_nodes, nodes_of, net_total, firsts, count_faults, net_faults, size_faults};
 ghost use Rattle.vlog_hierarchy.specs.Nodes.{IsTooMany, AreTooManyNets};
-ghost use Rattle.vlog_hierarchy.specs.Judged.{Judged};
+ghost use Rattle.vidi_bits.specs.Findings.{Judged};
+ghost use Rattle.vlog_hierarchy.specs.Told.{hierarchy_told};
 
 use crate::error::{HierarchyError, HierarchyLimit};
 use crate::outline::{Child, Outline, outlines};
@@ -176,7 +177,7 @@ fn nodes_below<'a>(
     outlines: &[Outline<'a>],
     top: Option<usize>,
 ) -> Result<Items<Node<'a>>, HierarchyError>
-    ensures judged { Judged result (count_faults (nodes_of (plain_outlines outlines.now) top)) }
+    ensures judged { Judged hierarchy_told result (count_faults (nodes_of (plain_outlines outlines.now) top)) }
     ensures value { IfOk result (λ ns. plain_nodes ns ≡ nodes_of (plain_outlines outlines.now) top) }
 {
     let mut nodes = Items::new(alloc);
@@ -233,7 +234,7 @@ fn numbered(
     outlines: &[Outline<'_>],
     nodes: &[Node<'_>],
 ) -> Result<Numbering, HierarchyError>
-    ensures judged { Judged result (net_faults (plain_outlines outlines.now) (plain_nodes nodes.now)) }
+    ensures judged { Judged hierarchy_told result (net_faults (plain_outlines outlines.now) (plain_nodes nodes.now)) }
     ensures firsts { IfOk result (λ n. n.firsts ≡ firsts (plain_outlines outlines.now) 0 (plain_nodes nodes.now)) }
     ensures nets { IfOk result (λ n. n.nets ≡ net_total (plain_outlines outlines.now) (plain_nodes nodes.now)) }
 {
@@ -250,7 +251,7 @@ fn numbered(
 /// The instances of a top in preorder, with their modules and first nets; none where the top isn't declared
 /// (E4). E12 `TooBig` where there are more than 4,096 instances, else where they have more than 65,536 nets.
 pub fn nodes_of<'a>(alloc: Global, file: &'a File, top: &[u8]) -> Result<Nodes<'a>, HierarchyError>
-    ensures judged { Judged result (size_faults (outlines_of (plain file.now).modules)
+    ensures judged { Judged hierarchy_told result (size_faults (outlines_of (plain file.now).modules)
         (nodes_of (outlines_of (plain file.now).modules) (place_of (plain file.now).modules top.now))) }
     ensures nodes { IfOk result (λ r. plain_nodes r.nodes
         ≡ nodes_of (outlines_of (plain file.now).modules) (place_of (plain file.now).modules top.now)) }

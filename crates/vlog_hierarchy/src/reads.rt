@@ -9,13 +9,14 @@ ghost use Rattle.vlog_hierarchy.specs.Reach.{is_marked};
 ghost use Rattle.vlog_hierarchy.specs.Clock.{is_clock, name_faults, expr_faults, prim_faults, ref_faults, sel_faults, exprs_faults};
 ghost use Rattle.vlog_hierarchy.specs.Clock.{written_faults, target_faults, targets_faults, stmt_faults, stmts_faults, body_faults};
 ghost use Rattle.vlog_hierarchy.specs.Clock.{arm_faults, arms_faults};
-ghost use Rattle.vlog_hierarchy.specs.Judged.{Judged};
+ghost use Rattle.vidi_bits.specs.Findings.{Judged};
+ghost use Rattle.vlog_hierarchy.specs.Told.{hierarchy_told};
 
 use crate::error::HierarchyError;
 use crate::scopes::port_of;
 use vlog_size::Table;
 use vlog_tree::{
-    Arm, Body, Expr, Ident, Prim as Operand, Ref, Sel, Stmt, Target, Unary, see_begin, see_case,
+    Arm, Body, Expr, Ident, Operand, Ref, Sel, Stmt, Target, Unary, see_begin, see_case,
     see_concat, see_concat_target, see_repeat,
 };
 
@@ -43,7 +44,7 @@ fn is_clock(marks: &[bool], joined: &Table<usize>, name: &[u8]) -> bool
 /// Refuses a name that is joined to a clock.
 #[tactic(auto, unfolding(crate::specs::Clock::name_faults))]
 fn check_name(marks: &[bool], joined: &Table<usize>, ident: &Ident) -> Result<(), HierarchyError>
-    ensures { Judged result (name_faults marks.now joined.now (plain_ident ident.now)) }
+    ensures { Judged hierarchy_told result (name_faults marks.now joined.now (plain_ident ident.now)) }
 {
     if is_clock(marks, joined, ident.name.as_slice()) {
         return Err(HierarchyError::Clock { line: ident.line });
@@ -54,7 +55,7 @@ fn check_name(marks: &[bool], joined: &Table<usize>, ident: &Ident) -> Result<()
 /// Refuses reads of the clock in an expression.
 #[cycle(exprs)]
 pub fn check_expr(marks: &[bool], joined: &Table<usize>, e: &Expr) -> Result<(), HierarchyError>
-    ensures { Judged result (expr_faults marks.now joined.now (plain_expr e.now)) }
+    ensures { Judged hierarchy_told result (expr_faults marks.now joined.now (plain_expr e.now)) }
 {
     match e {
         Expr::Unary(unary) => check_unary(marks, joined, unary),
@@ -76,14 +77,14 @@ pub fn check_expr(marks: &[bool], joined: &Table<usize>, e: &Expr) -> Result<(),
 
 #[cycle(exprs)]
 fn check_unary(marks: &[bool], joined: &Table<usize>, unary: &Unary) -> Result<(), HierarchyError>
-    ensures { Judged result (expr_faults marks.now joined.now (plain_unary unary.now)) }
+    ensures { Judged hierarchy_told result (expr_faults marks.now joined.now (plain_unary unary.now)) }
 {
     check_prim(marks, joined, &unary.prim)
 }
 
 #[cycle(exprs)]
 fn check_prim(marks: &[bool], joined: &Table<usize>, prim: &Operand) -> Result<(), HierarchyError>
-    ensures { Judged result (prim_faults marks.now joined.now (plain_prim prim.now)) }
+    ensures { Judged hierarchy_told result (prim_faults marks.now joined.now (plain_prim prim.now)) }
 {
     match prim {
         Operand::Number(_) => Ok(()),
@@ -103,7 +104,7 @@ fn check_prim(marks: &[bool], joined: &Table<usize>, prim: &Operand) -> Result<(
 
 #[cycle(exprs)]
 fn check_ref(marks: &[bool], joined: &Table<usize>, name: &Ref) -> Result<(), HierarchyError>
-    ensures { Judged result (ref_faults marks.now joined.now (plain_ref name.now)) }
+    ensures { Judged hierarchy_told result (ref_faults marks.now joined.now (plain_ref name.now)) }
 {
     check_name(marks, joined, &name.id)?;
     check_written(marks, joined, name)
@@ -112,7 +113,7 @@ fn check_ref(marks: &[bool], joined: &Table<usize>, name: &Ref) -> Result<(), Hi
 /// Refuses reads of the clock in the brackets behind a name.
 #[cycle(exprs)]
 fn check_written(marks: &[bool], joined: &Table<usize>, name: &Ref) -> Result<(), HierarchyError>
-    ensures { Judged result (written_faults marks.now joined.now (plain_ref name.now)) }
+    ensures { Judged hierarchy_told result (written_faults marks.now joined.now (plain_ref name.now)) }
 {
     if let Some(index) = &name.index {
         check_expr(marks, joined, index)?;
@@ -125,7 +126,7 @@ fn check_written(marks: &[bool], joined: &Table<usize>, name: &Ref) -> Result<()
 
 #[cycle(exprs)]
 fn check_sel(marks: &[bool], joined: &Table<usize>, sel: &Sel) -> Result<(), HierarchyError>
-    ensures { Judged result (sel_faults marks.now joined.now (plain_sel sel.now)) }
+    ensures { Judged hierarchy_told result (sel_faults marks.now joined.now (plain_sel sel.now)) }
 {
     match sel {
         Sel::Index(e) => check_expr(marks, joined, e),
@@ -142,7 +143,7 @@ fn check_sel(marks: &[bool], joined: &Table<usize>, sel: &Sel) -> Result<(), Hie
 
 #[cycle(exprs)]
 fn check_exprs(marks: &[bool], joined: &Table<usize>, exprs: &[Expr]) -> Result<(), HierarchyError>
-    ensures { Judged result (exprs_faults marks.now joined.now (plain_exprs exprs.now)) }
+    ensures { Judged hierarchy_told result (exprs_faults marks.now joined.now (plain_exprs exprs.now)) }
 {
     for e in exprs {
         check_expr(marks, joined, e)?;
@@ -156,7 +157,7 @@ fn check_labels(
     joined: &Table<usize>,
     labels: &[Expr],
 ) -> Result<(), HierarchyError>
-    ensures { Judged result (flat_map (expr_faults marks.now joined.now) (map plain_expr labels.now)) }
+    ensures { Judged hierarchy_told result (flat_map (expr_faults marks.now joined.now) (map plain_expr labels.now)) }
 {
     for label in labels {
         check_expr(marks, joined, label)?;
@@ -171,7 +172,7 @@ pub fn check_target(
     joined: &Table<usize>,
     target: &Target,
 ) -> Result<(), HierarchyError>
-    ensures { Judged result (target_faults marks.now joined.now (plain_target target.now)) }
+    ensures { Judged hierarchy_told result (target_faults marks.now joined.now (plain_target target.now)) }
 {
     match target {
         Target::Ref(name) => check_written(marks, joined, name),
@@ -188,7 +189,7 @@ fn check_targets(
     joined: &Table<usize>,
     targets: &[Target],
 ) -> Result<(), HierarchyError>
-    ensures { Judged result (targets_faults marks.now joined.now (plain_targets targets.now)) }
+    ensures { Judged hierarchy_told result (targets_faults marks.now joined.now (plain_targets targets.now)) }
 {
     for target in targets {
         check_target(marks, joined, target)?;
@@ -198,7 +199,7 @@ fn check_targets(
 
 #[cycle(stmts)]
 fn check_stmt(marks: &[bool], joined: &Table<usize>, stmt: &Stmt) -> Result<(), HierarchyError>
-    ensures { Judged result (stmt_faults marks.now joined.now (plain_stmt stmt.now)) }
+    ensures { Judged hierarchy_told result (stmt_faults marks.now joined.now (plain_stmt stmt.now)) }
 {
     match stmt {
         Stmt::Begin(stmts) => {
@@ -236,7 +237,7 @@ fn check_stmt(marks: &[bool], joined: &Table<usize>, stmt: &Stmt) -> Result<(), 
 /// Refuses reads of the clock in a body.
 #[cycle(stmts)]
 pub fn check_body(marks: &[bool], joined: &Table<usize>, body: &Body) -> Result<(), HierarchyError>
-    ensures { Judged result (body_faults marks.now joined.now (plain_body body.now)) }
+    ensures { Judged hierarchy_told result (body_faults marks.now joined.now (plain_body body.now)) }
 {
     match body {
         Body::Stmt(stmt) => check_stmt(marks, joined, stmt),
@@ -246,7 +247,7 @@ pub fn check_body(marks: &[bool], joined: &Table<usize>, body: &Body) -> Result<
 
 #[cycle(stmts)]
 fn check_arm(marks: &[bool], joined: &Table<usize>, arm: &Arm) -> Result<(), HierarchyError>
-    ensures { Judged result (arm_faults marks.now joined.now (plain_arm arm.now)) }
+    ensures { Judged hierarchy_told result (arm_faults marks.now joined.now (plain_arm arm.now)) }
 {
     match arm {
         Arm::Labels { labels, body } => {
@@ -263,7 +264,7 @@ fn check_arm(marks: &[bool], joined: &Table<usize>, arm: &Arm) -> Result<(), Hie
 
 #[cycle(stmts)]
 fn check_arms(marks: &[bool], joined: &Table<usize>, arms: &[Arm]) -> Result<(), HierarchyError>
-    ensures { Judged result (arms_faults marks.now joined.now (plain_arms arms.now)) }
+    ensures { Judged hierarchy_told result (arms_faults marks.now joined.now (plain_arms arms.now)) }
 {
     for arm in arms {
         check_arm(marks, joined, arm)?;
@@ -273,7 +274,7 @@ fn check_arms(marks: &[bool], joined: &Table<usize>, arms: &[Arm]) -> Result<(),
 
 #[cycle(stmts)]
 fn check_stmts(marks: &[bool], joined: &Table<usize>, stmts: &[Stmt]) -> Result<(), HierarchyError>
-    ensures { Judged result (stmts_faults marks.now joined.now (plain_stmts stmts.now)) }
+    ensures { Judged hierarchy_told result (stmts_faults marks.now joined.now (plain_stmts stmts.now)) }
 {
     for stmt in stmts {
         check_stmt(marks, joined, stmt)?;

@@ -14,7 +14,7 @@ use crate::outline::{Child, Outline};
 use std::alloc::Global;
 use vidi_bits::{Items, Memory, Name, copied};
 use vlog_size::Table;
-use vlog_tree::{Conn, Expr, Instance, Prim as Operand, Ref, Unary, see_concat, see_repeat};
+use vlog_tree::{Conn, Expr, Instance, Operand, Ref, Unary, see_concat, see_repeat};
 
 /// The most levels that are looked at: one more than there can be with the most instances.
 const DEPTH: usize = 4_097;

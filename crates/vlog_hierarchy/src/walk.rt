@@ -1,6 +1,6 @@
 //! E11: modules that contain themselves.
 
-ghost use Rattle.std.specs.Prelude.{◌≡◌, ◌<◌, ◌++◌, ◌↔◌, ℕ, Bool, true, false, not, List, map, Option, Some, None, IfOk, OnOk};
+ghost use Rattle.std.specs.Prelude.{◌≡◌, ◌<◌, ◌++◌, ◌↔◌, ℕ, Bool, true, not, List, map, Option, Some, None, IfOk, OnOk};
 ghost use Rattle.std.specs.Prelude.{length, slice_set};
 ghost use Rattle.vidi_bits.specs.Findings.{told_if};
 ghost use Rattle.vlog_tree.specs.Plain.{plain};
@@ -10,6 +10,7 @@ ghost use Rattle.vlog_hierarchy.specs.Nested.{kids, Below, IsNested, IsFirstNest
 ghost use Rattle.vlog_hierarchy.specs.Reach.{child_places, is_marked, marked_all, fresh, AreBelow, IsClosed};
 ghost use Rattle.vlog_hierarchy.specs.Labels.{NeverFall, IsOpen, IsFirstOpen};
 
+use crate::flags::unmarked;
 use crate::labels::{keeps_label, labels};
 use crate::outline::{Child, Outline, outlines};
 use crate::places::{index_of, place_named};
@@ -24,18 +25,6 @@ struct Reached {
     marks: Items<bool>,
     /// The places of those that are found, each once.
     found: Items<usize>,
-}
-
-/// As many times `false`.
-fn unmarked(alloc: Global, n: usize) -> Result<Items<bool>, Memory>
-    ensures long { IfOk result (λ marks. length marks ≡ n) }
-    ensures none { IfOk result (λ marks. (k : ℕ) → is_marked marks k ≡ false) }
-{
-    let mut marks = Items::new(alloc);
-    for _ in 0..n {
-        marks.push(false)?;
-    }
-    Ok(marks)
 }
 
 impl Reached {

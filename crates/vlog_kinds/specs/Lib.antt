@@ -1,3 +1,4 @@
 pub mod Roles
 pub mod Selects
 pub mod Uses
+pub mod Told

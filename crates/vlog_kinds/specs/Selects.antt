@@ -5,8 +5,8 @@ use Rattle.vidi_bits.specs.Findings.{is_nil, told_if}
 use Rattle.vlog_tree.specs.Tree.{ExprOf, UnaryExpr, BinaryExpr, ChoiceExpr, PrimOf, NumberPrim, RefPrim, ParenPrim, ConcatPrim}
 use Rattle.vlog_tree.specs.Tree.{RefOf, RefWith, IndexOf, NoIndex, Index, LastOf, NoLast, Last, SelOf, IndexSel, PartSel, IndexedSel}
 use Rattle.vlog_tree.specs.Tree.{RepeatPrim, ExprsOf, NoExprs, MoreExprs}
-use Rattle.vlog_size.specs.Table.{value_of}
-use Rattle.vlog_size.specs.Kinds.{at_names, wrong_kind, is_wrong_use}
+use Rattle.vlog_names.specs.Table.{value_of}
+use Rattle.vlog_names.specs.Kinds.{at_names, wrong_kind, is_wrong_use}
 use Rattle.vlog_names.specs.declared.declaration.Shape.{Shape}
 use Rattle.vlog_names.specs.declared.declaration.Shape.TheVariants.{Scalar, Vector}
 use Rattle.vlog_names.specs.Entries.{Names, class_in}

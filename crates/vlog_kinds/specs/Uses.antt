@@ -12,10 +12,11 @@ use Rattle.vlog_tree.specs.Tree.{MoreStmts, AssignOf, EventOf, PosedgeEvent, Imp
 use Rattle.vlog_tree.specs.Tree.{WiresItem, DrivenWiresItem, RegsItem, LocalparamsItem, AssignItem, AlwaysItem, InstanceItem, ModuleOf}
 use Rattle.vlog_tree.specs.Tree.{FileOf}
 use Rattle.vlog_tree.specs.Lines.{target_line}
-use Rattle.vlog_size.specs.Table.{Named, value_of}
-use Rattle.vlog_size.specs.Kinds.{wrong_kinds, wrong_kind, at_names_of_ref}
+use Rattle.vlog_names.specs.Table.{Named, value_of}
+use Rattle.vlog_names.specs.Kinds.{wrong_kinds, wrong_kind, at_names_of_ref}
 use Rattle.vlog_names.specs.Entries.{Names, class_in, declared, modules_of}
-use Rattle.vlog_kinds.specs.Roles.{is_stored, is_memory, is_output, is_output_reg, is_wrong_sign}
+use Rattle.vlog_names.specs.Ports.{is_output}
+use Rattle.vlog_kinds.specs.Roles.{is_stored, is_memory, is_output_reg, is_wrong_sign}
 use Rattle.vlog_kinds.specs.Selects.{drives_wire, is_wire_target}
 
 -- ---- expressions: a scalar or parameter with an index, a net with two brackets, a memory without index, an instance name

@@ -4,7 +4,8 @@ ghost use Rattle.std.specs.Prelude.{◌≡◌, map};
 ghost use Rattle.std.specs.List.{flat_map};
 ghost use Rattle.vlog_tree.specs.Plain.{plain, plain_module};
 ghost use Rattle.vlog_names.specs.Entries.{declared, modules_of, module_entry};
-ghost use Rattle.vlog_kinds.specs.Roles.{Tells};
+ghost use Rattle.vidi_bits.specs.Findings.{Judged};
+ghost use Rattle.vlog_kinds.specs.Told.{kind_told};
 ghost use Rattle.vlog_kinds.specs.Uses.{in_module_with, in_module, wrong_uses};
 
 use crate::error::KindError;
@@ -15,7 +16,7 @@ use vlog_tree::{File, Module};
 /// A module that declares `names`.
 #[tactic(auto, unfolding(crate::specs::Uses::in_module_with))]
 fn check_in(modules: &ModuleTable, names: &Declarations, module: &Module) -> Result<(), KindError>
-    ensures { Tells result (in_module_with modules.now names.now (plain_module «module».now)) }
+    ensures { Judged kind_told result (in_module_with modules.now names.now (plain_module «module».now)) }
 {
     check_parameters(names, module.parameters.as_slice())?;
     check_ports(names, module.ports.as_slice())?;
@@ -30,14 +31,14 @@ fn check_module(
     module: &Module,
 ) -> Result<(), KindError>
     requires { names.now ≡ declared (plain_module «module».now) }
-    ensures { Tells result (in_module modules.now (plain_module «module».now)) }
+    ensures { Judged kind_told result (in_module modules.now (plain_module «module».now)) }
 {
     check_in(modules, names, module)
 }
 
 fn check_modules(modules: &ModuleTable, all: &[Module]) -> Result<(), KindError>
     requires { modules.now ≡ map module_entry (map plain_module all.now) }
-    ensures { Tells result (flat_map (in_module modules.now) (map plain_module all.now)) }
+    ensures { Judged kind_told result (flat_map (in_module modules.now) (map plain_module all.now)) }
 {
     for (place, module) in all.iter().enumerate() {
         let Some(names) = names_at(modules, place) else {
@@ -53,7 +54,7 @@ fn check_modules(modules: &ModuleTable, all: &[Module]) -> Result<(), KindError>
 #[tactic(auto, unfolding(crate::specs::Uses::wrong_uses, vlog_names::specs::Entries::modules_of))]
 pub fn check_kinds(modules: &ModuleTable, file: &File) -> Result<(), KindError>
     requires { modules.now ≡ modules_of (plain file.now) }
-    ensures { Tells result (wrong_uses (plain file.now)) }
+    ensures { Judged kind_told result (wrong_uses (plain file.now)) }
 {
     check_modules(modules, file.modules.as_slice())
 }

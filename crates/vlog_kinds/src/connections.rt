@@ -1,21 +1,20 @@
 //! Connections of a wrong kind.
 
-ghost use Rattle.std.specs.Prelude.{◌≡◌, map, option_map};
+ghost use Rattle.std.specs.Prelude.{map, option_map};
 ghost use Rattle.std.specs.List.{flat_map};
 ghost use Rattle.vlog_tree.specs.Plain.{plain_conn, plain_expr, plain_instance};
-ghost use Rattle.vlog_size.specs.Table.{value_of};
-ghost use Rattle.vlog_kinds.specs.Roles.{Tells};
+ghost use Rattle.vidi_bits.specs.Findings.{Judged};
+ghost use Rattle.vlog_kinds.specs.Told.{kind_told};
 ghost use Rattle.vlog_kinds.specs.Uses.{in_parameter_conn, in_output, in_port_conn, in_connected, in_port_conns, in_instance};
 
 use crate::error::KindError;
 use crate::expressions::{check_expr, check_value, refuse_if};
-use crate::roles::is_output;
 use crate::targets::is_wire_target;
-use vlog_names::{Declarations, ModuleTable};
+use vlog_names::{Declarations, ModuleTable, is_output};
 use vlog_tree::{Conn, Expr, Instance};
 
 fn check_parameter_conns(names: &Declarations, conns: &[Conn]) -> Result<(), KindError>
-    ensures { Tells result (flat_map (in_parameter_conn names.now) (map plain_conn conns.now)) }
+    ensures { Judged kind_told result (flat_map (in_parameter_conn names.now) (map plain_conn conns.now)) }
 {
     for conn in conns {
         refuse_if(conn.value.is_none(), conn.line)?;
@@ -26,7 +25,7 @@ fn check_parameter_conns(names: &Declarations, conns: &[Conn]) -> Result<(), Kin
 
 /// A connection of a child's output, whose `.` stands on `line`.
 fn check_output(names: &Declarations, line: u32, value: &Option<Expr>) -> Result<(), KindError>
-    ensures { Tells result (in_output names.now line (option_map plain_expr value.now)) }
+    ensures { Judged kind_told result (in_output names.now line (option_map plain_expr value.now)) }
 {
     match value {
         None => Ok(()),
@@ -38,7 +37,7 @@ fn check_output(names: &Declarations, line: u32, value: &Option<Expr>) -> Result
 }
 
 fn check_port_conn(child: &Declarations, names: &Declarations, conn: &Conn) -> Result<(), KindError>
-    ensures { Tells result (in_port_conn child.now names.now (plain_conn conn.now)) }
+    ensures { Judged kind_told result (in_port_conn child.now names.now (plain_conn conn.now)) }
 {
     if is_output(child, &conn.id) {
         return check_output(names, conn.line, &conn.value);
@@ -51,7 +50,7 @@ fn check_child_ports(
     names: &Declarations,
     conns: &[Conn],
 ) -> Result<(), KindError>
-    ensures { Tells result (flat_map (in_port_conn child.now names.now) (map plain_conn conns.now)) }
+    ensures { Judged kind_told result (flat_map (in_port_conn child.now names.now) (map plain_conn conns.now)) }
 {
     for conn in conns {
         check_port_conn(child, names, conn)?;
@@ -60,7 +59,7 @@ fn check_child_ports(
 }
 
 fn check_connected(names: &Declarations, conns: &[Conn]) -> Result<(), KindError>
-    ensures { Tells result (flat_map (in_connected names.now) (map plain_conn conns.now)) }
+    ensures { Judged kind_told result (flat_map (in_connected names.now) (map plain_conn conns.now)) }
 {
     for conn in conns {
         check_value(names, &conn.value)?;
@@ -74,7 +73,7 @@ pub fn check_instance(
     names: &Declarations,
     instance: &Instance,
 ) -> Result<(), KindError>
-    ensures { Tells result (in_instance modules.now names.now (plain_instance instance.now)) }
+    ensures { Judged kind_told result (in_instance modules.now names.now (plain_instance instance.now)) }
 {
     check_parameter_conns(names, instance.parameters.as_slice())?;
     match modules.get(instance.module_id.name.as_slice()) {

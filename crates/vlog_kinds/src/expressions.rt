@@ -5,9 +5,10 @@ ghost use Rattle.std.specs.List.{flat_map};
 ghost use Rattle.vidi_bits.specs.Findings.{told_if};
 ghost use Rattle.vlog_tree.specs.Tree.{ExprOf, LastOf, NoIndex, Index, NoLast, Last};
 ghost use Rattle.vlog_tree.specs.Plain.{plain_ident, plain_expr, plain_prim, plain_unary, plain_ref, plain_sel, plain_exprs, plain_range};
-ghost use Rattle.vlog_size.specs.Kinds.{at_names, at_names_of_prim, at_names_of_ref, at_names_of_sel, at_names_of_all, is_wrong_kind};
+ghost use Rattle.vlog_names.specs.Kinds.{at_names, at_names_of_prim, at_names_of_ref, at_names_of_sel, at_names_of_all, is_wrong_kind};
 ghost use Rattle.vlog_names.specs.Entries.{class_of};
-ghost use Rattle.vlog_kinds.specs.Roles.{Tells};
+ghost use Rattle.vidi_bits.specs.Findings.{Judged};
+ghost use Rattle.vlog_kinds.specs.Told.{kind_told};
 ghost use Rattle.vlog_kinds.specs.Selects.{is_scalar, is_index, sought_at, is_wrong_ref, is_constant};
 ghost use Rattle.vlog_kinds.specs.Uses.{in_expr, in_ref, in_value, in_bounds, in_range};
 
@@ -15,11 +16,11 @@ use crate::error::KindError;
 use crate::roles::is_place;
 use crate::sought::Sought;
 use vlog_names::{Declaration, Declarations, Shape};
-use vlog_tree::{Expr, Prim as Operand, Range, Ref, Sel, Unary, see_concat, see_repeat};
+use vlog_tree::{Expr, Operand, Range, Ref, Sel, Unary, see_concat, see_repeat};
 
 /// Refuses the line where the test holds.
 pub fn refuse_if(test: bool, line: u32) -> Result<(), KindError>
-    ensures { Tells result (told_if test line) }
+    ensures { Judged kind_told result (told_if test line) }
 {
     if test {
         return Err(KindError { line });
@@ -98,7 +99,7 @@ fn is_wrong_ref(names: &Declarations, name: &Ref) -> bool
 /// What is looked for, at one name.
 #[tactic(auto, unfolding(crate::specs::Selects::sought_at, crate::specs::Selects::place_at))]
 fn look_at(sought: Sought, names: &Declarations, name: &Ref) -> Result<(), KindError>
-    ensures { Tells result (sought_at sought names.now (plain_ref name.now)) }
+    ensures { Judged kind_told result (sought_at sought names.now (plain_ref name.now)) }
 {
     match sought {
         Sought::WrongKind => refuse_if(is_wrong_ref(names, name), name.id.line),
@@ -108,7 +109,7 @@ fn look_at(sought: Sought, names: &Declarations, name: &Ref) -> Result<(), KindE
 
 #[cycle(look)]
 pub fn look_in(sought: Sought, names: &Declarations, e: &Expr) -> Result<(), KindError>
-    ensures { Tells result (at_names (sought_at sought names.now) (plain_expr e.now)) }
+    ensures { Judged kind_told result (at_names (sought_at sought names.now) (plain_expr e.now)) }
 {
     match e {
         Expr::Unary(unary) => look_in_unary(sought, names, unary),
@@ -130,14 +131,14 @@ pub fn look_in(sought: Sought, names: &Declarations, e: &Expr) -> Result<(), Kin
 
 #[cycle(look)]
 fn look_in_unary(sought: Sought, names: &Declarations, unary: &Unary) -> Result<(), KindError>
-    ensures { Tells result (at_names (sought_at sought names.now) (plain_unary unary.now)) }
+    ensures { Judged kind_told result (at_names (sought_at sought names.now) (plain_unary unary.now)) }
 {
     look_in_prim(sought, names, &unary.prim)
 }
 
 #[cycle(look)]
 fn look_in_prim(sought: Sought, names: &Declarations, prim: &Operand) -> Result<(), KindError>
-    ensures { Tells result (at_names_of_prim (sought_at sought names.now) (plain_prim prim.now)) }
+    ensures { Judged kind_told result (at_names_of_prim (sought_at sought names.now) (plain_prim prim.now)) }
 {
     match prim {
         Operand::Number(_) => Ok(()),
@@ -157,7 +158,7 @@ fn look_in_prim(sought: Sought, names: &Declarations, prim: &Operand) -> Result<
 
 #[cycle(look)]
 fn look_in_ref(sought: Sought, names: &Declarations, name: &Ref) -> Result<(), KindError>
-    ensures { Tells result (at_names_of_ref (sought_at sought names.now) (plain_ref name.now)) }
+    ensures { Judged kind_told result (at_names_of_ref (sought_at sought names.now) (plain_ref name.now)) }
 {
     look_at(sought, names, name)?;
     if let Some(index) = &name.index {
@@ -171,7 +172,7 @@ fn look_in_ref(sought: Sought, names: &Declarations, name: &Ref) -> Result<(), K
 
 #[cycle(look)]
 fn look_in_sel(sought: Sought, names: &Declarations, sel: &Sel) -> Result<(), KindError>
-    ensures { Tells result (at_names_of_sel (sought_at sought names.now) (plain_sel sel.now)) }
+    ensures { Judged kind_told result (at_names_of_sel (sought_at sought names.now) (plain_sel sel.now)) }
 {
     match sel {
         Sel::Index(e) => look_in(sought, names, e),
@@ -188,7 +189,7 @@ fn look_in_sel(sought: Sought, names: &Declarations, sel: &Sel) -> Result<(), Ki
 
 #[cycle(look)]
 fn look_in_exprs(sought: Sought, names: &Declarations, exprs: &[Expr]) -> Result<(), KindError>
-    ensures { Tells result (at_names_of_all (sought_at sought names.now) (plain_exprs exprs.now)) }
+    ensures { Judged kind_told result (at_names_of_all (sought_at sought names.now) (plain_exprs exprs.now)) }
 {
     for e in exprs {
         look_in(sought, names, e)?;
@@ -209,21 +210,21 @@ pub fn is_constant(names: &Declarations, e: &Expr) -> bool
 
 #[tactic(auto, unfolding(crate::specs::Selects::sought_at, crate::specs::Uses::in_expr))]
 pub fn check_expr(names: &Declarations, e: &Expr) -> Result<(), KindError>
-    ensures { Tells result (in_expr names.now (plain_expr e.now)) }
+    ensures { Judged kind_told result (in_expr names.now (plain_expr e.now)) }
 {
     look_in(Sought::WrongKind, names, e)
 }
 
 #[tactic(auto, unfolding(crate::specs::Selects::sought_at, crate::specs::Uses::in_ref))]
 pub fn check_ref(names: &Declarations, name: &Ref) -> Result<(), KindError>
-    ensures { Tells result (in_ref names.now (plain_ref name.now)) }
+    ensures { Judged kind_told result (in_ref names.now (plain_ref name.now)) }
 {
     look_in_ref(Sought::WrongKind, names, name)
 }
 
 /// Expressions in a row, as the labels of an arm.
 pub fn check_labels(names: &Declarations, labels: &[Expr]) -> Result<(), KindError>
-    ensures { Tells result (flat_map (in_expr names.now) (map plain_expr labels.now)) }
+    ensures { Judged kind_told result (flat_map (in_expr names.now) (map plain_expr labels.now)) }
 {
     for label in labels {
         check_expr(names, label)?;
@@ -232,7 +233,7 @@ pub fn check_labels(names: &Declarations, labels: &[Expr]) -> Result<(), KindErr
 }
 
 pub fn check_value(names: &Declarations, value: &Option<Expr>) -> Result<(), KindError>
-    ensures { Tells result (in_value names.now (option_map plain_expr value.now)) }
+    ensures { Judged kind_told result (in_value names.now (option_map plain_expr value.now)) }
 {
     match value {
         None => Ok(()),
@@ -241,14 +242,14 @@ pub fn check_value(names: &Declarations, value: &Option<Expr>) -> Result<(), Kin
 }
 
 pub fn check_bounds(names: &Declarations, range: &Range) -> Result<(), KindError>
-    ensures { Tells result (in_bounds names.now (plain_range range.now)) }
+    ensures { Judged kind_told result (in_bounds names.now (plain_range range.now)) }
 {
     check_expr(names, &range.first)?;
     check_expr(names, &range.second)
 }
 
 pub fn check_range(names: &Declarations, range: &Option<Range>) -> Result<(), KindError>
-    ensures { Tells result (in_range names.now (option_map plain_range range.now)) }
+    ensures { Judged kind_told result (in_range names.now (option_map plain_range range.now)) }
 {
     match range {
         None => Ok(()),

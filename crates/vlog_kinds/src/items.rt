@@ -4,7 +4,8 @@ ghost use Rattle.std.specs.Prelude.{◌≡◌, map, option_map};
 ghost use Rattle.std.specs.List.{flat_map};
 ghost use Rattle.vlog_tree.specs.Plain.{plain_parameter, plain_parameter_head, plain_port, plain_head, plain_named, plain_reg};
 ghost use Rattle.vlog_tree.specs.Plain.{plain_tail, plain_assign, plain_event, plain_always, plain_item};
-ghost use Rattle.vlog_kinds.specs.Roles.{Tells};
+ghost use Rattle.vidi_bits.specs.Findings.{Judged};
+ghost use Rattle.vlog_kinds.specs.Told.{kind_told};
 ghost use Rattle.vlog_kinds.specs.Uses.{in_parameter_head, in_parameter, in_port_head, in_port, wrong_init, in_named, in_tail, in_reg};
 ghost use Rattle.vlog_kinds.specs.Uses.{in_assign, in_event, is_clocked, in_always, in_item};
 
@@ -21,7 +22,7 @@ use vlog_tree::{
 };
 
 fn check_parameter_head(names: &Declarations, head: &Option<ParameterHead>) -> Result<(), KindError>
-    ensures { Tells result (in_parameter_head names.now (option_map plain_parameter_head head.now)) }
+    ensures { Judged kind_told result (in_parameter_head names.now (option_map plain_parameter_head head.now)) }
 {
     match head {
         None => Ok(()),
@@ -30,7 +31,7 @@ fn check_parameter_head(names: &Declarations, head: &Option<ParameterHead>) -> R
 }
 
 pub fn check_parameters(names: &Declarations, parameters: &[Parameter]) -> Result<(), KindError>
-    ensures { Tells result (flat_map (in_parameter names.now) (map plain_parameter parameters.now)) }
+    ensures { Judged kind_told result (flat_map (in_parameter names.now) (map plain_parameter parameters.now)) }
 {
     for parameter in parameters {
         check_parameter_head(names, &parameter.head)?;
@@ -40,7 +41,7 @@ pub fn check_parameters(names: &Declarations, parameters: &[Parameter]) -> Resul
 }
 
 fn check_port_head(names: &Declarations, head: &Option<PortHead>) -> Result<(), KindError>
-    ensures { Tells result (in_port_head names.now (option_map plain_head head.now)) }
+    ensures { Judged kind_told result (in_port_head names.now (option_map plain_head head.now)) }
 {
     match head {
         None => Ok(()),
@@ -50,7 +51,7 @@ fn check_port_head(names: &Declarations, head: &Option<PortHead>) -> Result<(), 
 
 /// Refuses an initialiser on a port that isn't `output reg`.
 fn check_init(names: &Declarations, port: &Port) -> Result<(), KindError>
-    ensures { Tells result (wrong_init names.now (plain_port port.now)) }
+    ensures { Judged kind_told result (wrong_init names.now (plain_port port.now)) }
 {
     match &port.init {
         None => Ok(()),
@@ -59,7 +60,7 @@ fn check_init(names: &Declarations, port: &Port) -> Result<(), KindError>
 }
 
 pub fn check_ports(names: &Declarations, ports: &[Port]) -> Result<(), KindError>
-    ensures { Tells result (flat_map (in_port names.now) (map plain_port ports.now)) }
+    ensures { Judged kind_told result (flat_map (in_port names.now) (map plain_port ports.now)) }
 {
     for port in ports {
         check_port_head(names, &port.head)?;
@@ -70,7 +71,7 @@ pub fn check_ports(names: &Declarations, ports: &[Port]) -> Result<(), KindError
 }
 
 fn check_named(names: &Declarations, values: &[NamedValue]) -> Result<(), KindError>
-    ensures { Tells result (flat_map (in_named names.now) (map plain_named values.now)) }
+    ensures { Judged kind_told result (flat_map (in_named names.now) (map plain_named values.now)) }
 {
     for value in values {
         check_expr(names, &value.value)?;
@@ -79,7 +80,7 @@ fn check_named(names: &Declarations, values: &[NamedValue]) -> Result<(), KindEr
 }
 
 fn check_tail(names: &Declarations, tail: &Option<RegTail>) -> Result<(), KindError>
-    ensures { Tells result (in_tail names.now (option_map plain_tail tail.now)) }
+    ensures { Judged kind_told result (in_tail names.now (option_map plain_tail tail.now)) }
 {
     match tail {
         None => Ok(()),
@@ -89,7 +90,7 @@ fn check_tail(names: &Declarations, tail: &Option<RegTail>) -> Result<(), KindEr
 }
 
 fn check_regs(names: &Declarations, regs: &[Reg1]) -> Result<(), KindError>
-    ensures { Tells result (flat_map (in_reg names.now) (map plain_reg regs.now)) }
+    ensures { Judged kind_told result (flat_map (in_reg names.now) (map plain_reg regs.now)) }
 {
     for reg in regs {
         check_tail(names, &reg.tail)?;
@@ -98,7 +99,7 @@ fn check_regs(names: &Declarations, regs: &[Reg1]) -> Result<(), KindError>
 }
 
 fn check_assigns(names: &Declarations, assigns: &[Assign]) -> Result<(), KindError>
-    ensures { Tells result (flat_map (in_assign names.now) (map plain_assign assigns.now)) }
+    ensures { Judged kind_told result (flat_map (in_assign names.now) (map plain_assign assigns.now)) }
 {
     for assign in assigns {
         check_driven_target(names, &assign.target)?;
@@ -109,7 +110,7 @@ fn check_assigns(names: &Declarations, assigns: &[Assign]) -> Result<(), KindErr
 
 /// Refuses a memory in a sensitivity.
 fn check_event(names: &Declarations, event: &Event) -> Result<(), KindError>
-    ensures { Tells result (in_event names.now (plain_event event.now)) }
+    ensures { Judged kind_told result (in_event names.now (plain_event event.now)) }
 {
     match event {
         Event::Posedge(ident) => refuse_if(is_memory(names, ident), ident.line),
@@ -127,14 +128,14 @@ fn is_clocked(event: &Event) -> bool
 }
 
 fn check_always(names: &Declarations, always: &Always) -> Result<(), KindError>
-    ensures { Tells result (in_always names.now (plain_always always.now)) }
+    ensures { Judged kind_told result (in_always names.now (plain_always always.now)) }
 {
     check_event(names, &always.event)?;
     check_body(is_clocked(&always.event), names, &always.body)
 }
 
 fn check_item(modules: &ModuleTable, names: &Declarations, item: &Item) -> Result<(), KindError>
-    ensures { Tells result (in_item modules.now names.now (plain_item item.now)) }
+    ensures { Judged kind_told result (in_item modules.now names.now (plain_item item.now)) }
 {
     match item {
         Item::Wires { range, names: _ } => check_range(names, range),
@@ -161,7 +162,7 @@ pub fn check_items(
     names: &Declarations,
     items: &[Item],
 ) -> Result<(), KindError>
-    ensures { Tells result (flat_map (in_item modules.now names.now) (map plain_item items.now)) }
+    ensures { Judged kind_told result (flat_map (in_item modules.now names.now) (map plain_item items.now)) }
 {
     for item in items {
         check_item(modules, names, item)?;

@@ -2,24 +2,11 @@
 
 ghost use Rattle.std.specs.Prelude.{◌≡◌};
 ghost use Rattle.vlog_tree.specs.Plain.{plain_ident};
-ghost use Rattle.vlog_size.specs.Table.{value_of};
-ghost use Rattle.vlog_kinds.specs.Roles.{is_reg_port, is_wire_port, is_output_port, is_wire, is_stored, is_place, is_memory, is_output};
-ghost use Rattle.vlog_kinds.specs.Roles.{is_output_reg, is_wrong_sign};
+ghost use Rattle.vlog_names.specs.Table.{value_of};
+ghost use Rattle.vlog_kinds.specs.Roles.{is_wire_port, is_wire, is_stored, is_place, is_memory, is_output_reg, is_wrong_sign};
 
-use vlog_names::{Declaration, Declarations};
+use vlog_names::{Declaration, Declarations, is_reg_port};
 use vlog_tree::{AssignOp, Direction, Ident, NetKind};
-
-fn is_reg_port(direction: Direction) -> bool
-    ensures { result ≡ is_reg_port direction }
-{
-    match direction {
-        Direction::Output {
-            kind: Some(NetKind::Reg),
-        } => true,
-        Direction::Output { kind: _ } => false,
-        Direction::Input { wire: _ } => false,
-    }
-}
 
 fn is_wire_port(direction: Direction) -> bool
     ensures { result ≡ is_wire_port direction }
@@ -28,15 +15,6 @@ fn is_wire_port(direction: Direction) -> bool
         Direction::Output {
             kind: Some(NetKind::Reg),
         } => false,
-        Direction::Output { kind: _ } => true,
-        Direction::Input { wire: _ } => false,
-    }
-}
-
-fn is_output_port(direction: Direction) -> bool
-    ensures { result ≡ is_output_port direction }
-{
-    match direction {
         Direction::Output { kind: _ } => true,
         Direction::Input { wire: _ } => false,
     }
@@ -95,20 +73,6 @@ pub fn is_memory(names: &Declarations, ident: &Ident) -> bool
 {
     match names.get(ident.name.as_slice()) {
         Some(Declaration::Memory { shape: _ }) => true,
-        _ => false,
-    }
-}
-
-pub fn is_output(names: &Declarations, ident: &Ident) -> bool
-    ensures { result ≡ is_output (value_of names.now (plain_ident ident.now).name) }
-{
-    match names.get(ident.name.as_slice()) {
-        Some(
-            Declaration::Port {
-                direction,
-                shape: _,
-            },
-        ) => is_output_port(*direction),
         _ => false,
     }
 }

@@ -2,7 +2,8 @@
 
 ghost use Rattle.std.specs.Prelude.{◌≡◌, false};
 ghost use Rattle.vlog_tree.specs.Plain.{plain_stmt, plain_stmts, plain_body, plain_arm, plain_arms};
-ghost use Rattle.vlog_kinds.specs.Roles.{Tells};
+ghost use Rattle.vidi_bits.specs.Findings.{Judged};
+ghost use Rattle.vlog_kinds.specs.Told.{kind_told};
 ghost use Rattle.vlog_kinds.specs.Uses.{second_default, is_default, in_stmt, in_stmts, in_body, in_arm, in_arms};
 
 use crate::error::KindError;
@@ -14,7 +15,7 @@ use vlog_tree::{Arm, Body, Stmt, see_begin, see_case, target_line};
 
 /// Refuses a `default` behind another one.
 fn check_default(seen: bool, arm: &Arm) -> Result<(), KindError>
-    ensures { Tells result (second_default seen (plain_arm arm.now)) }
+    ensures { Judged kind_told result (second_default seen (plain_arm arm.now)) }
 {
     match arm {
         Arm::Labels { .. } => Ok(()),
@@ -37,7 +38,7 @@ fn is_default(arm: &Arm) -> bool
 
 #[cycle(check_stmts)]
 fn check_stmt(is_clocked: bool, names: &Declarations, stmt: &Stmt) -> Result<(), KindError>
-    ensures { Tells result (in_stmt is_clocked names.now (plain_stmt stmt.now)) }
+    ensures { Judged kind_told result (in_stmt is_clocked names.now (plain_stmt stmt.now)) }
 {
     match stmt {
         Stmt::Begin(stmts) => {
@@ -71,7 +72,7 @@ fn check_stmt(is_clocked: bool, names: &Declarations, stmt: &Stmt) -> Result<(),
 
 #[cycle(check_stmts)]
 pub fn check_body(is_clocked: bool, names: &Declarations, body: &Body) -> Result<(), KindError>
-    ensures { Tells result (in_body is_clocked names.now (plain_body body.now)) }
+    ensures { Judged kind_told result (in_body is_clocked names.now (plain_body body.now)) }
 {
     match body {
         Body::Stmt(stmt) => check_stmt(is_clocked, names, stmt),
@@ -81,7 +82,7 @@ pub fn check_body(is_clocked: bool, names: &Declarations, body: &Body) -> Result
 
 #[cycle(check_stmts)]
 fn check_arm(is_clocked: bool, names: &Declarations, arm: &Arm) -> Result<(), KindError>
-    ensures { Tells result (in_arm is_clocked names.now (plain_arm arm.now)) }
+    ensures { Judged kind_told result (in_arm is_clocked names.now (plain_arm arm.now)) }
 {
     match arm {
         Arm::Labels { labels, body } => {
@@ -98,7 +99,7 @@ fn check_arm(is_clocked: bool, names: &Declarations, arm: &Arm) -> Result<(), Ki
 
 #[cycle(check_stmts)]
 fn check_arms(is_clocked: bool, names: &Declarations, arms: &[Arm]) -> Result<(), KindError>
-    ensures { Tells result (in_arms is_clocked names.now false (plain_arms arms.now)) }
+    ensures { Judged kind_told result (in_arms is_clocked names.now false (plain_arms arms.now)) }
 {
     let mut seen = false;
     for arm in arms {
@@ -111,7 +112,7 @@ fn check_arms(is_clocked: bool, names: &Declarations, arms: &[Arm]) -> Result<()
 
 #[cycle(check_stmts)]
 fn check_stmts(is_clocked: bool, names: &Declarations, stmts: &[Stmt]) -> Result<(), KindError>
-    ensures { Tells result (in_stmts is_clocked names.now (plain_stmts stmts.now)) }
+    ensures { Judged kind_told result (in_stmts is_clocked names.now (plain_stmts stmts.now)) }
 {
     for stmt in stmts {
         check_stmt(is_clocked, names, stmt)?;

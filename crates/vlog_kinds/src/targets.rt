@@ -3,7 +3,8 @@
 ghost use Rattle.std.specs.Prelude.{◌≡◌};
 ghost use Rattle.vlog_tree.specs.Plain.{plain_expr, plain_prim, plain_unary, plain_ref, plain_sel, plain_exprs, plain_target};
 ghost use Rattle.vlog_tree.specs.Plain.{plain_targets};
-ghost use Rattle.vlog_kinds.specs.Roles.{Tells};
+ghost use Rattle.vidi_bits.specs.Findings.{Judged};
+ghost use Rattle.vlog_kinds.specs.Told.{kind_told};
 ghost use Rattle.vlog_kinds.specs.Selects.{is_constant_sel, drives_wire, is_wire_target, is_wire_prim, are_wire_targets};
 ghost use Rattle.vlog_kinds.specs.Uses.{not_driven, in_driven, in_all_driven, not_stored, in_stored, in_all_stored};
 
@@ -12,7 +13,7 @@ use crate::expressions::{check_ref, is_constant, refuse_if};
 use crate::roles::{is_stored, is_wire};
 use vlog_names::Declarations;
 use vlog_tree::{
-    Expr, Prim as Operand, Ref, Sel, Target, Unary, see_concat, see_concat_target, see_repeat,
+    Expr, Operand, Ref, Sel, Target, Unary, see_concat, see_concat_target, see_repeat,
 };
 
 fn is_constant_sel(names: &Declarations, sel: &Sel) -> bool
@@ -98,7 +99,7 @@ fn are_wire_targets(names: &Declarations, exprs: &[Expr]) -> bool
 }
 
 fn check_driven(names: &Declarations, name: &Ref) -> Result<(), KindError>
-    ensures { Tells result (not_driven names.now (plain_ref name.now)) }
+    ensures { Judged kind_told result (not_driven names.now (plain_ref name.now)) }
 {
     refuse_if(!drives_wire(names, name), name.id.line)
 }
@@ -106,7 +107,7 @@ fn check_driven(names: &Declarations, name: &Ref) -> Result<(), KindError>
 /// A target of `assign`.
 #[cycle(driven)]
 pub fn check_driven_target(names: &Declarations, target: &Target) -> Result<(), KindError>
-    ensures { Tells result (in_driven names.now (plain_target target.now)) }
+    ensures { Judged kind_told result (in_driven names.now (plain_target target.now)) }
 {
     match target {
         Target::Ref(name) => {
@@ -122,7 +123,7 @@ pub fn check_driven_target(names: &Declarations, target: &Target) -> Result<(), 
 
 #[cycle(driven)]
 fn check_driven_targets(names: &Declarations, targets: &[Target]) -> Result<(), KindError>
-    ensures { Tells result (in_all_driven names.now (plain_targets targets.now)) }
+    ensures { Judged kind_told result (in_all_driven names.now (plain_targets targets.now)) }
 {
     for target in targets {
         check_driven_target(names, target)?;
@@ -131,7 +132,7 @@ fn check_driven_targets(names: &Declarations, targets: &[Target]) -> Result<(), 
 }
 
 fn check_stored(is_clocked: bool, names: &Declarations, name: &Ref) -> Result<(), KindError>
-    ensures { Tells result (not_stored is_clocked names.now (plain_ref name.now)) }
+    ensures { Judged kind_told result (not_stored is_clocked names.now (plain_ref name.now)) }
 {
     let stored = is_stored(is_clocked, names, &name.id);
     refuse_if(!stored, name.id.line)
@@ -144,7 +145,7 @@ pub fn check_stored_target(
     names: &Declarations,
     target: &Target,
 ) -> Result<(), KindError>
-    ensures { Tells result (in_stored is_clocked names.now (plain_target target.now)) }
+    ensures { Judged kind_told result (in_stored is_clocked names.now (plain_target target.now)) }
 {
     match target {
         Target::Ref(name) => {
@@ -164,7 +165,7 @@ fn check_stored_targets(
     names: &Declarations,
     targets: &[Target],
 ) -> Result<(), KindError>
-    ensures { Tells result (in_all_stored is_clocked names.now (plain_targets targets.now)) }
+    ensures { Judged kind_told result (in_all_stored is_clocked names.now (plain_targets targets.now)) }
 {
     for target in targets {
         check_stored_target(is_clocked, names, target)?;

@@ -1,5 +1,6 @@
 -- The first net at which E9 holds, by a code's masks.
 use Rattle.std.proofs.Common.{◌≡◌, ℕ, false, List, length, ap, sym, subst, ◌∙◌}
+use Rattle.net_code.proofs.MaskLaws.{same_sets}
 use mathlib.Core.Path.{fun_ext}
 use Rattle.vlog_size.specs.declared.scope.ScopeNet.{ScopeNet}
 use Rattle.vlog_size.specs.Table.{Named}
@@ -12,9 +13,6 @@ use Rattle.vlog_latch.specs.Latch.{is_latched}
 use Rattle.vlog_latch.specs.Masks.{least_net, IsLeast}
 use Rattle.vlog_latch.proofs.OneMask.{by_masks}
 use Rattle.vlog_latch.proofs.Least.{least_of, least_start}
-
-pub same_sets : (p q : BitSet) → ((m k : ℕ) → p m k ≡ q m k) → p ≡ q
-same_sets p q h = fun_ext (λ m. fun_ext (λ k. h m k))
 
 least_latched : (writes adds reads : BitSet) (masks : List Mask) (sure early : BitMap) (count : ℕ)
     → ((m k : ℕ) → named masks m k ≡ writes m k) → ((m k : ℕ) → in_map sure m k ≡ adds m k)

@@ -1,25 +1,14 @@
 -- The first net at which E9 holds by some masks.
 use Rattle.std.proofs.Common.{◌≡◌, ℕ, ◌<◌, ◌≤◌, ◌==◌, nat_lt, ◌&&◌, ◌||◌, Bool, true, false, List, [], ◌∷◌, if◌then◌else◌}
 use Rattle.std.proofs.Common.{refl, ap, sym, subst, ◌∙◌, arith}
-use Rattle.std.proofs.lemmas.Bool.{eqb-true, eq-eqb, ltb-true, lt-ltb}
+use Rattle.std.proofs.lemmas.Bool.{eqb-true, eq-eqb, ltb-true, lt-ltb, or_from, false_from_ne_true}
+use Rattle.std.proofs.Math.Bool.{or-true, or_assoc}
+use Rattle.vidi_bits.proofs.Bools.{and_none, left_of, or_none}
 use mathlib.Core.Path.{fun_ext}
 use Rattle.net_design.specs.declared.act.Mask.{Mask}
 use Rattle.net_design.specs.Bits.{BitSet}
-use Rattle.net_design.proofs.BoolLaws.{by_true, or_none, or_assoc}
 use Rattle.vlog_latch.specs.Masks.{is_mask_latched, lesser, least_net, IsLeast}
 use Rattle.vlog_latch.proofs.OneMask.{any_latched}
-
-or_true : (a : Bool) → (a || true) ≡ true
-or_true true = refl
-or_true false = refl
-
-or_false : (a b : Bool) → a ≡ false → b ≡ false → (a || b) ≡ false
-or_false true b h k = absurd (cc)
-or_false false b h k = k
-
-and_is : (b : Bool) → (b && true) ≡ true → b ≡ true
-and_is true t = refl
-and_is false t = t
 
 -- a net that isn't below n is no net below n
 past : (net n m : ℕ) → nat_lt net n ≡ false → m < n → (b : Bool) → (net == m) ≡ b → (b && true) ≡ true → ⊥
@@ -29,10 +18,6 @@ past net n m s l true e t =
     let yes : nat_lt net n ≡ true = lt-ltb net n small in
     absurd (cc)
 past net n m s l false e t = absurd (cc)
-
-and_none : (b : Bool) → false ≡ (b && false)
-and_none true = refl
-and_none false = refl
 
 kept : (b : Bool) (net n : ℕ) → (if b && false then net else n) ≡ n
 kept true net n = refl
@@ -46,14 +31,14 @@ tried p count n net true true s h =
     let w : n ≤ count = h.within in
     record {
       within = omega (arith, l, w);
-      before = λ m b. or_false (p m) ((net == m) && true) (h.before m (omega (arith, l, b)))
-          (by_true ((net == m) && true) (λ t. let e : net ≡ m = eqb-true net m (and_is (net == m) t) in omega (arith, b, e)));
-      here = λ c. ap (λ b. p net || (b && true)) (eq-eqb net net refl) ∙ or_true (p net);
+      before = λ m b. or_from (p m) ((net == m) && true) (h.before m (omega (arith, l, b)))
+          (false_from_ne_true ((net == m) && true) (λ t. let e : net ≡ m = eqb-true net m (left_of (net == m) true t) in omega (arith, b, e)));
+      here = λ c. ap (λ b. p net || (b && true)) (eq-eqb net net refl) ∙ or-true (p net);
     }
 tried p count n net true false s h = record {
   within = h.within;
-  before = λ m b. or_false (p m) ((net == m) && true) (h.before m b)
-      (by_true ((net == m) && true) (λ t. past net n m s b (net == m) refl t));
+  before = λ m b. or_from (p m) ((net == m) && true) (h.before m b)
+      (false_from_ne_true ((net == m) && true) (λ t. past net n m s b (net == m) refl t));
   here = λ c. ap (λ b. b || ((net == n) && true)) (h.here c);
 }
 tried p count n net false small s h =

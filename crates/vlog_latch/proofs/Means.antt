@@ -1,7 +1,9 @@
 -- What it means that nothing is found of a block.
-use Rattle.std.proofs.Common.{◌≡◌, ℕ, zero, suc, ◌+◌, ◌<◌, ◌&&◌, ◌||◌, not, Bool, true, false, List, [], ◌∷◌, ◌++◌, length}
+use Rattle.std.proofs.Common.{◌≡◌, ℕ, zero, suc, ◌+◌, ◌<◌, ◌&&◌, not, Bool, true, false, List, [], ◌∷◌, ◌++◌, length}
 use Rattle.std.proofs.Common.{refl, ap, sym, ◌∙◌}
 use Rattle.std.proofs.Common.{arith}
+use Rattle.std.proofs.lemmas.Bool.{and_right, or_from, false_from_ne_true, or_parts}
+use Rattle.vidi_bits.proofs.Bools.{and_not_false}
 use Rattle.vidi_bits.specs.Findings.{told_if}
 use Rattle.vlog_size.specs.declared.scope.ScopeNet.{ScopeNet}
 use Rattle.vlog_size.specs.Table.{Named}
@@ -13,7 +15,6 @@ use Rattle.vlog_size.specs.Names.{Readable, is_lawful_readable}
 use Rattle.vlog_block.specs.Updates.{timing_of}
 use Rattle.vlog_block.specs.Written.{always_writes, always_adds, always_reads}
 use Rattle.vlog_latch.specs.Blocks.{of_implicit, block_latches, IsCodeOf}
-use Rattle.net_design.proofs.BoolLaws.{by_true, or_parts}
 use Rattle.vlog_latch.specs.declared.error.BlockError.{BlockError}
 use Rattle.vlog_latch.specs.declared.error.BlockError.TheVariants as error
 use Rattle.vlog_latch.specs.Latch.{some_bit, is_latched, latches_from, latches}
@@ -36,11 +37,6 @@ none_at p line (n ∷ nets) f (suc i) h l =
     let s : i < length nets = omega (arith, l) in
     ap p e ∙ none_at p line nets (suc f) i (told_none (p f) (error.Latch n.name line) (latches_from p line (suc f) nets) h).1 s
 
-added : (w a : Bool) → (w && not a) ≡ false → w ≡ true → a ≡ true
-added true true h t = refl
-added true false h t = absurd (cc)
-added false a h t = absurd (cc)
-
 not_added : (w a : Bool) → (w ≡ true → a ≡ true) → (w && not a) ≡ false
 not_added true a h = ap not (h refl)
 not_added false a h = refl
@@ -49,21 +45,13 @@ second : (w r : Bool) → (w && r) ≡ false → w ≡ true → r ≡ false
 second true r h t = h
 second false r h t = absurd (cc)
 
-and_false : (w r : Bool) → r ≡ false → (w && r) ≡ false
-and_false true r h = h
-and_false false r h = refl
-
-or_none : (a b : Bool) → a ≡ false → b ≡ false → (a || b) ≡ false
-or_none true b h k = absurd (cc)
-or_none false b h k = k
-
 module _ (writes adds reads : BitSet) (line : ℕ) (nets : List (Named ScopeNet)) where
   one_net : (m : ℕ) → is_latched writes adds reads m ≡ false → (k j : ℕ) → k < 128 → j < 128 → writes m k ≡ true
       → (adds m k ≡ true) × (reads m j ≡ false)
   unfolding is_latched
   one_net m h k j lk lj t =
       let parts = or_parts (some_bit (λ x. writes m x && not (adds m x))) (some_bit (λ x. writes m x) && some_bit (λ x. reads m x)) h in (
-        added (writes m k) (adds m k) (some_lacks (λ x. writes m x && not (adds m x)) parts.0 k lk) t,
+        and_not_false (writes m k) (adds m k) (some_lacks (λ x. writes m x && not (adds m x)) parts.0 k lk) t,
         some_lacks (λ x. reads m x)
             (second (some_bit (λ x. writes m x)) (some_bit (λ x. reads m x)) parts.1 (some_has (λ x. writes m x) k lk t)) j lj,
       )
@@ -76,9 +64,9 @@ module _ (writes adds reads : BitSet) (line : ℕ) (nets : List (Named ScopeNet)
 
   no_reads : (m : ℕ) → ((k j : ℕ) → k < 128 → j < 128 → writes m k ≡ true → (adds m k ≡ true) × (reads m j ≡ false)) → (r : Bool)
       → some_bit (λ x. reads m x) ≡ r → (some_bit (λ x. writes m x) && some_bit (λ x. reads m x)) ≡ false
-  no_reads m h false e = and_false (some_bit (λ x. writes m x)) (some_bit (λ x. reads m x)) e
+  no_reads m h false e = and_right (some_bit (λ x. writes m x)) (some_bit (λ x. reads m x)) e
   no_reads m h true e =
-      let none : some_bit (λ x. writes m x) ≡ false = some_no (λ x. writes m x) (λ k l. by_true (writes m k) (λ t.
+      let none : some_bit (λ x. writes m x) ≡ false = some_no (λ x. writes m x) (λ k l. false_from_ne_true (writes m k) (λ t.
       let empty : some_bit (λ x. reads m x) ≡ false = some_no (λ x. reads m x) (λ j lj. (h k j l lj t).1) in absurd (cc))) in
       ap (λ b. b && some_bit (λ x. reads m x)) none
 
@@ -86,7 +74,7 @@ module _ (writes adds reads : BitSet) (line : ℕ) (nets : List (Named ScopeNet)
       → is_latched writes adds reads m ≡ false
   unfolding is_latched
   no_net m h =
-      or_none (some_bit (λ x. writes m x && not (adds m x))) (some_bit (λ x. writes m x) && some_bit (λ x. reads m x))
+      or_from (some_bit (λ x. writes m x && not (adds m x))) (some_bit (λ x. writes m x) && some_bit (λ x. reads m x))
       (some_no (λ x. writes m x && not (adds m x)) (λ k l. not_added (writes m k) (adds m k) (λ t. (h k k l l t).0)))
       (no_reads m h (some_bit (λ x. reads m x)) refl)
 

@@ -2,15 +2,14 @@
 use Rattle.std.proofs.Common.{◌≡◌, ℕ, ◌-◌, ◌^◌, ◌<◌, ◌≤◌, ◌==◌, ◌&&◌, ◌||◌, not, Bool, true, false, List, [], ◌∷◌, bit_and}
 use Rattle.std.proofs.Common.{refl, ap, sym, subst, ◌∙◌, arith}
 use Rattle.std.specs.List.{list_any}
-use Rattle.std.proofs.lemmas.Bool.{eqb-true, eq-eqb}
+use Rattle.std.proofs.lemmas.Bool.{eqb-true, eq-eqb, false_from_ne_true}
 use Rattle.std.proofs.lemmas.Nat.{and_le_l}
-use Rattle.vlog_operators.specs.Number.{has}
+use Rattle.vidi_bits.specs.Number.{has}
 use Rattle.net_design.specs.declared.act.Mask.{Mask}
 use Rattle.net_design.specs.Bits.{BitSet, named}
 use Rattle.net_code.specs.declared.bit_map.BitMap.{BitMap}
 use Rattle.net_code.specs.BitMap.{mask_of, in_map}
 use Rattle.net_code.proofs.MaskLaws.{has_less}
-use Rattle.net_design.proofs.BoolLaws.{by_true}
 use Rattle.vlog_latch.specs.Latch.{some_bit, is_latched}
 use Rattle.vlog_latch.specs.Masks.{is_mask_latched}
 use Rattle.vlog_latch.proofs.SomeBit.{some_or, some_none, some_same, some_of_mask}
@@ -44,7 +43,7 @@ mask_latched sure reads net bits s r es er l hs hr =
 -- ---- the three ways in which the code computes it
 
 nonzero : (n : ℕ) → (n ≡ 0 → ⊥) → (n == 0) ≡ false
-nonzero n h = by_true (n == 0) (λ t. h (eqb-true n 0 t))
+nonzero n h = false_from_ne_true (n == 0) (λ t. h (eqb-true n 0 t))
 
 pub by_missed : (missed bits read : ℕ) → (missed ≡ 0 → ⊥) → not (missed == 0) ≡ (not (missed == 0) || (not (bits == 0) && not (read == 0)))
 by_missed missed bits read h =

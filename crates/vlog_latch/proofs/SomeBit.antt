@@ -2,11 +2,10 @@
 use Rattle.std.proofs.Common.{◌≡◌, ℕ, zero, suc, ◌^◌, ◌<◌, ◌≤◌, ◌==◌, ◌||◌, not, Bool, true, false, refl, ap, sym, ◌∙◌, ⊎_elim}
 use Rattle.std.proofs.Common.{arith}
 use Rattle.std.specs.Int.{bit_at}
-use Rattle.std.proofs.lemmas.Bool.{cases_lt, eqb-true, eq-eqb}
+use Rattle.std.proofs.lemmas.Bool.{cases_lt, eqb-true, eq-eqb, false_from_ne_true}
 use Rattle.std.proofs.lemmas.Nat.Bits.{bit_at-zero, bit_at-lt, bit_at_above, same_from_bits}
 use mathlib.Core.Path.{fun_ext}
-use Rattle.vlog_operators.specs.Number.{has}
-use Rattle.net_design.proofs.BoolLaws.{by_true}
+use Rattle.vidi_bits.specs.Number.{has}
 use Rattle.vlog_latch.specs.Latch.{any_below, some_bit}
 
 -- ---- the first n bits
@@ -37,7 +36,7 @@ any_has (suc n) p k l h = ⊎_elim
     last false b t = t
 
 any_lacks : (n : ℕ) (p : ℕ → Bool) → any_below n p ≡ false → (k : ℕ) → k < n → p k ≡ false
-any_lacks n p h k l = by_true (p k) (λ t. let y : any_below n p ≡ true = any_has n p k l t in absurd (cc))
+any_lacks n p h k l = false_from_ne_true (p k) (λ t. let y : any_below n p ≡ true = any_has n p k l t in absurd (cc))
 
 any_no : (n : ℕ) (p : ℕ → Bool) → ((k : ℕ) → k < n → p k ≡ false) → any_below n p ≡ false
 any_no zero p h = refl

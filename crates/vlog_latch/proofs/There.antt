@@ -4,7 +4,7 @@ use Rattle.std.proofs.Common.{cond, if◌then◌else◌}
 use Rattle.std.proofs.Common.{List, [], ◌∷◌, length, Option, Some, None, refl, ap, sym, ◌∙◌, arith}
 use Rattle.std.specs.List.{position_or_len, list_all}
 use Rattle.std.specs.Str.{bytes_eq}
-use Rattle.std.proofs.lemmas.Bool.{eqb-true, ltb-true, lt-ltb, leb-true}
+use Rattle.std.proofs.lemmas.Bool.{eqb-true, ltb-true, lt-ltb, leb-true, and_parts}
 use Rattle.vlog_tree.specs.Tree.{LastOf, NoLast, Last, RefWith, TargetOf, RefTarget, ConcatTarget, TargetsOf, NoTargets, MoreTargets}
 use Rattle.vlog_tree.specs.Tree.{StmtOf, BeginStmt, IfStmt, CaseStmt, AssignStmt, StmtsOf, NoStmts, MoreStmts}
 use Rattle.vlog_tree.specs.Tree.{LabelsArm, DefaultArm, ArmsOf, NoArms, MoreArms, BodyOf, StmtBody, EmptyBody, ElseOf, NoElse, Else}
@@ -17,7 +17,6 @@ use Rattle.vlog_size.specs.Size.{or_zero}
 use Rattle.vlog_size.specs.Table.{Named, value_of, place_of}
 use Rattle.net_design.specs.declared.rhs.Span.{Span}
 use Rattle.net_design.specs.Bits.{bits_of}
-use Rattle.net_design.proofs.BoolLaws.{and_parts}
 use Rattle.vlog_block.specs.Sources.{or_constant, or_source, net_source, memory_source, memory_named}
 use Rattle.vlog_block.specs.declared.source.Source.TheVariants.{Nothing}
 use Rattle.vlog_block.specs.Value.{picked}

@@ -1,7 +1,7 @@
 -- E9 ("Reasons"; this project's profile): an `always @*` writes a bit on some path that isn't surely assigned at its end, or reads bits
 -- of a name that it writes where not all read bits are surely assigned before.
-use Rattle.std.specs.Prelude.{◌≡◌, ℕ, zero, suc, Bool, false, ◌&&◌, ◌||◌, not, List, [], ◌∷◌, ◌++◌, Some, Result, Ok, Err}
-use Rattle.vidi_bits.specs.Findings.{first, told_if}
+use Rattle.std.specs.Prelude.{ℕ, zero, suc, Bool, false, ◌&&◌, ◌||◌, not, List, [], ◌∷◌, ◌++◌}
+use Rattle.vidi_bits.specs.Findings.{told_if}
 use Rattle.vlog_size.specs.declared.scope.ScopeNet.{ScopeNet}
 use Rattle.vlog_size.specs.Table.{Named}
 use Rattle.net_design.specs.Bits.{BitSet}
@@ -31,13 +31,3 @@ latches_from is_at line m (n ∷ nets) = told_if (is_at m) (error.Latch n.name l
 -- E9 of a block whose `always` stands on this line: the nets at which it holds, in order of declaration
 abbrev pub latches : BitSet → BitSet → BitSet → ℕ → List (Named ScopeNet) → List BlockError
 latches writes adds reads line nets = latches_from (is_latched writes adds reads) line 0 nets
-
--- the first finding; want of memory is free
-abbrev pub IsFirst : List BlockError → BlockError → Type 0
-IsFirst found error.Memory = Unit {0}
-IsFirst found e = first found ≡ Some e
-
--- an answer exactly where nothing is found, and else the first finding
-abbrev pub Answers : {A : Type 0} → Result A BlockError → List BlockError → Type 0
-Answers (Ok a) found = found ≡ []
-Answers (Err e) found = IsFirst found e

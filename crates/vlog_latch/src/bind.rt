@@ -12,7 +12,8 @@ ghost use Rattle.vlog_block.specs.Faultless.{IsFaultlessBody};
 ghost use Rattle.vlog_block.specs.Updates.{timing_of, body_updates};
 ghost use Rattle.vlog_block.specs.Written.{body_open, always_writes, always_adds, always_reads};
 ghost use Rattle.vlog_block.specs.Naming.{code_names, always_names};
-ghost use Rattle.vlog_latch.specs.Latch.{Answers};
+ghost use Rattle.vidi_bits.specs.Findings.{Judged};
+ghost use Rattle.vlog_latch.specs.Told.{block_told};
 ghost use Rattle.vlog_latch.specs.Blocks.{block_latches};
 
 use crate::code::latch;
@@ -36,7 +37,7 @@ use vlog_tree::Always;
 /// within one another.
 pub fn bind_block(alloc: Global, b: &Always, scope: &Scope) -> Result<Code, BlockError>
     requires { IsFaultlessBody (names_of scope.now) (plain_always b.now).body }
-    ensures latch { Answers result (block_latches (names_of scope.now) (plain_always b.now)) }
+    ensures latch { Judged block_told result (block_latches (names_of scope.now) (plain_always b.now)) }
     ensures updates { IfOk result (λ c. (t : Timing) (v : Values) → block_updates t c.acts v
         ≡ body_updates (names_of scope.now) t (plain_always b.now).body v) }
     ensures surely { IfOk result (λ c. (m k : ℕ) → block_adds c.acts m k ≡ always_adds (names_of scope.now) (plain_always b.now) m k) }

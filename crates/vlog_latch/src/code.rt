@@ -6,7 +6,9 @@ ghost use Rattle.net_design.specs.Sized.{IsSizedBlock};
 ghost use Rattle.net_design.specs.Bits.{BitSet, named, block_adds};
 ghost use Rattle.net_code.specs.BitMap.{in_map};
 ghost use Rattle.vlog_block.specs.Sources.{names_of};
-ghost use Rattle.vlog_latch.specs.Latch.{latches, Answers};
+ghost use Rattle.vlog_latch.specs.Latch.{latches};
+ghost use Rattle.vidi_bits.specs.Findings.{Judged};
+ghost use Rattle.vlog_latch.specs.Told.{block_told};
 ghost use Rattle.vlog_latch.specs.Blocks.{block_latches, IsCodeOf};
 ghost use Rattle.vlog_latch.specs.Masks.{is_mask_latched, lesser, least_net};
 
@@ -62,7 +64,7 @@ pub fn code_latch(alloc: Global, line: u32, code: &Code, scope: &Scope) -> Resul
     requires { IsSizedBlock code.now.acts }
     ensures { (writes adds reads : BitSet) → ((m k : ℕ) → named code.now.writes m k ≡ writes m k)
         → ((m k : ℕ) → block_adds code.now.acts m k ≡ adds m k) → ((m k : ℕ) → named code.now.reads m k ≡ reads m k)
-        → Answers result (latches writes adds reads line scope.now.nets) }
+        → Judged block_told result (latches writes adds reads line scope.now.nets) }
 {
     let sure = surely_assigned(alloc, &code.acts)?;
     let reads = BitMap::of_masks(alloc, code.reads.as_slice())?;
@@ -87,7 +89,7 @@ pub fn code_latch(alloc: Global, line: u32, code: &Code, scope: &Scope) -> Resul
 pub fn latch(alloc: Global, b: &Always, code: &Code, scope: &Scope) -> Result<(), BlockError>
     requires bits { IsCodeOf (names_of scope.now) (plain_always b.now) code.now }
     requires sized { IsSizedBlock code.now.acts }
-    ensures { Answers result (block_latches (names_of scope.now) (plain_always b.now)) }
+    ensures { Judged block_told result (block_latches (names_of scope.now) (plain_always b.now)) }
 {
     match &b.event {
         Event::Posedge(_) => Ok(()),

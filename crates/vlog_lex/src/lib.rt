@@ -13,7 +13,7 @@ mod token;
 mod words;
 
 pub use error::LexError;
-pub use lexer::{is_token, kind_of, lex, one_reading, one_stuck_line, read_or_stuck};
+pub use lexer::{is_token, lex, one_reading, one_stuck_line, read_or_stuck};
 pub use token::{Token, TokenKind, Tokens};
 
 #[cfg(test)]

@@ -1,6 +1,7 @@
 //! Tokens of worked designs and of short texts.
 
-use crate::{LexError, TokenKind, kind_of, lex};
+use crate::lexer::kind_of;
+use crate::{LexError, TokenKind, lex};
 use TokenKind::{Based, Decimal, Identifier, Other, Reserved};
 use std::alloc::Global;
 use std::process::Abort;

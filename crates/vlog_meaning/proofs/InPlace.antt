@@ -4,6 +4,7 @@ use Rattle.std.proofs.Common.{List, [], ◌∷◌, length, Option, Some, None, r
 use Rattle.std.specs.List.{position_or_len}
 use Rattle.std.specs.Str.{bytes_eq}
 use Rattle.std.proofs.lemmas.Bool.{lt-ltb}
+use Rattle.vidi_bits.proofs.Lists.{some_same}
 use Rattle.vlog_size.specs.declared.scope.Param.{Param}
 use Rattle.vlog_size.specs.declared.scope.ScopeNet.{ScopeNet}
 use Rattle.vlog_size.specs.declared.scope.ScopeMemory.{ScopeMemory}
@@ -30,9 +31,6 @@ next_below p n h = omega (arith, h)
 
 none_is : {V : Type 0} (x : V) → None ≡ Some x → ⊥
 none_is x h = (cc)
-
-some_same : {V : Type 0} (x y : V) → Some x ≡ Some y → x ≡ y
-some_same x y h = (cc)
 
 below_by : {V : Type 0} (y : Named V) (xs : List (Named V)) (name : List ℕ) (x : V) (b : Bool)
     → (value_of xs name ≡ Some x → place xs name < length xs) → (if b then Some y.value else value_of xs name) ≡ Some x

@@ -3,3 +3,5 @@ pub mod SameValue
 pub mod SameUpdates
 pub mod SameHolds
 pub mod Shown
+pub mod Paths
+pub mod Words

@@ -9,7 +9,7 @@ use Rattle.vlog_tree.specs.Tree.{TargetOf, RefTarget, ConcatTarget, TargetsOf, N
 use Rattle.vlog_tree.specs.Tree.{StmtOf, BeginStmt, IfStmt, CaseStmt, AssignStmt, StmtsOf, NoStmts, MoreStmts}
 use Rattle.vlog_tree.specs.Tree.{LabelsArm, DefaultArm, ArmsOf, NoArms, MoreArms, BodyOf, StmtBody, EmptyBody, ElseOf, NoElse, Else}
 use Rattle.vlog_size.specs.Names.{Readable}
-use Rattle.vlog_operators.specs.Number.{put_of}
+use Rattle.vidi_bits.specs.Number.{put_of}
 use Rattle.net_design.specs.declared.act.Timing.{Timing}
 use Rattle.net_design.specs.declared.act.Timing.TheVariants.{Blocking, Nonblocking}
 use Rattle.net_design.specs.declared.rhs.Room.{Room}
@@ -37,7 +37,7 @@ TargetIn r (designs.Word i) = i < word_total r
 abbrev pub AreIn : Readable → List Update → Type 0
 AreIn r us = AllByRecursion (λ (u : Update). TargetIn r u.target) us
 
-both_in : (r : Readable) (us ws : List Update) → AreIn r us → AreIn r ws → AreIn r (us ++ ws)
+pub both_in : (r : Readable) (us ws : List Update) → AreIn r us → AreIn r ws → AreIn r (us ++ ws)
 both_in r [] ws h k = k
 both_in r (u ∷ us) ws h k = (h.0, both_in r us ws h.1 k)
 

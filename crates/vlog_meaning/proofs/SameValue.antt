@@ -11,7 +11,7 @@ use Rattle.vlog_size.specs.declared.operators.Kind.TheVariants.{Sum, Comparison,
 use Rattle.vlog_size.specs.Names.{Readable}
 use Rattle.vlog_size.specs.Operators.{kind_of, unary_value, binary_value}
 use Rattle.vlog_size.specs.Size.{sizes_of_all, total_width}
-use Rattle.vlog_operators.specs.Number.{part_of, side_by_side, repeated}
+use Rattle.vidi_bits.specs.Number.{part_of, side_by_side, repeated}
 use Rattle.net_design.specs.declared.rhs.Room.{Room}
 use Rattle.net_design.specs.declared.values.Values.{Values}
 use Rattle.net_design.specs.Value.{word_at}

@@ -5,7 +5,7 @@ use Rattle.net_design.specs.Updates.{update}
 use Rattle.vlog_size.specs.Size.{number, assigned_number}
 use Rattle.vlog_names.specs.Entries.{declared}
 use Rattle.vlog_meaning.specs.Items.{whole, read}
-use Rattle.vlog_meaning.specs.Ports.{has_output}
+use Rattle.vlog_names.specs.Ports.{has_output}
 use Rattle.vlog_meaning.specs.Settled.{is_held, inputs_of}
 use Rattle.vlog_meaning.specs.Next.{clocked_updates, initial_number}
 use Rattle.vlog_meaning.specs.Examples as example

@@ -5,8 +5,7 @@
 --   module top(input c, input [1:0] x, output [1:0] z);
 --     leaf u(.c(c), .a(x[0]), .y(z[0]));  leaf w(.c(c), .a(x[1]), .y(z[1]));
 --   endmodule
-use Rattle.std.specs.Prelude.{ℕ, max, Bool, true, false, List, [], ◌∷◌, Option, None, Some, if◌then◌else◌, ◌&&◌}
-use Rattle.std.specs.Str.{bytes_eq}
+use Rattle.std.specs.Prelude.{ℕ, max, false, List, [], ◌∷◌, Option, None, Some, if◌then◌else◌}
 use Rattle.vlog_tree.specs.declared.expr.NumberKind.TheVariants.{Decimal}
 use Rattle.vlog_tree.specs.declared.expr.BinaryOp.TheVariants.{Xor}
 use Rattle.vlog_tree.specs.declared.stmt.AssignOp.TheVariants.{Nonblocking}
@@ -24,7 +23,7 @@ use Rattle.net_design.specs.declared.values.Values.{Values}
 use Rattle.net_design.specs.Updates.{apply}
 use Rattle.vlog_block.specs.Value.{value, width_of}
 use Rattle.vlog_block.specs.Targets.{target_width, target_updates}
-use Rattle.vlog_meaning.specs.Names.{Full, State, numbers_at}
+use Rattle.vlog_meaning.specs.Names.{Full, State, numbers_at, same_path}
 use Rattle.vlog_meaning.specs.Placed.{names_at}
 use Rattle.vlog_meaning.specs.Items.{whole, read}
 
@@ -84,16 +83,10 @@ file = leaf ∷ top ∷ []
 
 -- ---- numbers by full name
 
-abbrev same_full : Full → Full → Bool
-same_full [] [] = true
-same_full [] (y ∷ ys) = false
-same_full (x ∷ xs) [] = false
-same_full (x ∷ xs) (y ∷ ys) = bytes_eq x y && same_full xs ys
-
 -- the number that a list has for a full name, 0 where it has none
 abbrev number_in : List (Full × ℕ) → Full → ℕ
 number_in [] full = 0
-number_in (e ∷ es) full = if same_full e.0 full then e.1 else number_in es full
+number_in (e ∷ es) full = if same_path e.0 full then e.1 else number_in es full
 
 abbrev in_top : ℕ → Full
 in_top letter = (letter ∷ []) ∷ []

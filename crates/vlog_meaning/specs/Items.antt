@@ -18,7 +18,7 @@ use Rattle.vlog_block.specs.Targets.{target_width, target_updates}
 use Rattle.vlog_block.specs.Updates.{always_updates}
 use Rattle.vlog_meaning.specs.Names.{Full, numbers_at}
 use Rattle.vlog_meaning.specs.Placed.{Placed, names_at}
-use Rattle.vlog_meaning.specs.Ports.{has_output}
+use Rattle.vlog_names.specs.Ports.{has_output}
 
 -- ---- assignments
 

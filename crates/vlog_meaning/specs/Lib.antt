@@ -1,5 +1,4 @@
 pub mod Names
-pub mod Ports
 pub mod Placed
 pub mod Instances
 pub mod Items

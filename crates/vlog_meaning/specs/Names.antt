@@ -1,6 +1,7 @@
 -- Full names and the numbers of nets and memory words by full name (IEEE 1364-2005, 12.5, with the top's own name left out).
-use Rattle.std.specs.Prelude.{ℕ, zero, suc, List, [], ◌∷◌, ◌++◌, map}
+use Rattle.std.specs.Prelude.{ℕ, zero, suc, List, [], ◌∷◌, ◌++◌, map, Bool, true, false, ◌&&◌}
 use Rattle.std.specs.List.{flat_map}
+use Rattle.std.specs.Str.{bytes_eq}
 use Rattle.vlog_size.specs.declared.scope.ScopeNet.{ScopeNet}
 use Rattle.vlog_size.specs.declared.scope.ScopeMemory.{ScopeMemory}
 use Rattle.vlog_size.specs.declared.scope.Scope.{Scope}
@@ -30,3 +31,9 @@ numbers_at nets words path s = record {
   nets = map (λ (n : Named ScopeNet). nets (path ++ n.name ∷ [])) s.nets;
   words = flat_map (λ (m : Named ScopeMemory). words_from (words (path ++ m.name ∷ [])) 0 m.value.length) s.memories;
 }
+
+abbrev pub same_path : Full → Full → Bool
+same_path [] [] = true
+same_path [] (y ∷ ys) = false
+same_path (x ∷ xs) [] = false
+same_path (x ∷ xs) (y ∷ ys) = bytes_eq x y && same_path xs ys

@@ -15,7 +15,7 @@ use Rattle.vlog_names.specs.Entries.{Names, port_entries, no_port}
 use Rattle.vlog_scope.specs.Scope.{scope_with}
 use Rattle.vlog_block.specs.Written.{always_writes}
 use Rattle.vlog_meaning.specs.Names.{Name, Full, State}
-use Rattle.vlog_meaning.specs.Ports.{is_output_port, has_reg}
+use Rattle.vlog_names.specs.Ports.{is_output_port, has_reg}
 use Rattle.vlog_meaning.specs.Placed.{Placed, placed_items, names_at}
 use Rattle.vlog_meaning.specs.Instances.{IsChild, IsAt}
 use Rattle.vlog_meaning.specs.Items.{ItemHolds, read}

@@ -4,7 +4,7 @@ ghost use Rattle.std.specs.Prelude.{◌≡◌, true, false, [], ◌∷◌};
 ghost use Rattle.net_design.specs.declared.values.Target.TheVariants.{Net};
 ghost use Rattle.net_design.specs.Updates.{update};
 ghost use Rattle.vlog_meaning.specs.Items.{whole, read};
-ghost use Rattle.vlog_meaning.specs.Ports.{has_output};
+ghost use Rattle.vlog_names.specs.Ports.{has_output};
 ghost use Rattle.vlog_meaning.specs.Settled.{is_held, inputs_of};
 ghost use Rattle.vlog_meaning.specs.Next.{clocked_updates, initial_number};
 ghost use Rattle.vlog_meaning.specs.Own.{AssignedAlike, SettledAlike, UpdatedAlike};

@@ -1,5 +1,8 @@
 pub mod Different
 pub mod Entries
-pub mod Judged
+pub mod Ports
+pub mod Told
 pub mod Twice
 pub mod Unknown
+pub use Rattle.vlog_size.specs.Kinds
+pub use Rattle.vlog_size.specs.Table

@@ -6,7 +6,8 @@ ghost use Rattle.vlog_tree.specs.Plain.{plain, plain_module};
 ghost use Rattle.vlog_names.specs.Entries.{declared, modules_of, module_entry};
 ghost use Rattle.vlog_names.specs.Twice.{twice_names};
 ghost use Rattle.vlog_names.specs.Unknown.{unknown_in, unknown_module, unknown_top, unknown_names};
-ghost use Rattle.vlog_names.specs.Judged.{Judged};
+ghost use Rattle.vidi_bits.specs.Findings.{Judged};
+ghost use Rattle.vlog_names.specs.Told.{name_told};
 
 use crate::declaration::{Declarations, ModuleTable};
 use crate::declaring::modules_of;
@@ -25,7 +26,7 @@ fn known_in(
     names: &Declarations,
     module: &Module,
 ) -> Result<(), NameError>
-    ensures { Judged result (unknown_in modules.now names.now (plain_module «module».now)) }
+    ensures { Judged name_told result (unknown_in modules.now names.now (plain_module «module».now)) }
 {
     known_parameters(alloc, names, module.parameters.as_slice())?;
     known_ports(alloc, names, module.ports.as_slice())?;
@@ -41,13 +42,13 @@ fn known_module(
     module: &Module,
 ) -> Result<(), NameError>
     requires { names.now ≡ declared (plain_module «module».now) }
-    ensures { Judged result (unknown_module modules.now (plain_module «module».now)) }
+    ensures { Judged name_told result (unknown_module modules.now (plain_module «module».now)) }
 {
     known_in(alloc, modules, names, module)
 }
 
 fn known_top(alloc: Global, modules: &ModuleTable, top: &[u8]) -> Result<(), NameError>
-    ensures { Judged result (unknown_top modules.now top.now) }
+    ensures { Judged name_told result (unknown_top modules.now top.now) }
 {
     match modules.get(top) {
         Some(_) => Ok(()),
@@ -60,7 +61,7 @@ fn known_top(alloc: Global, modules: &ModuleTable, top: &[u8]) -> Result<(), Nam
 
 fn known_modules(alloc: Global, modules: &ModuleTable, all: &[Module]) -> Result<(), NameError>
     requires { modules.now ≡ map module_entry (map plain_module all.now) }
-    ensures { Judged result (flat_map (unknown_module modules.now) (map plain_module all.now)) }
+    ensures { Judged name_told result (flat_map (unknown_module modules.now) (map plain_module all.now)) }
 {
     for (place, module) in all.iter().enumerate() {
         let Some(names) = names_at(modules, place) else {
@@ -80,7 +81,7 @@ fn known_modules(alloc: Global, modules: &ModuleTable, all: &[Module]) -> Result
 #[tactic(auto, unfolding(crate::specs::Unknown::unknown_names, crate::specs::Entries::modules_of))]
 pub fn check_names(alloc: Global, file: &File, top: &[u8]) -> Result<ModuleTable, NameError>
     // No finding, or the first one.
-    ensures told { Judged result (twice_names (plain file.now) ++ unknown_names (plain file.now) top.now) }
+    ensures told { Judged name_told result (twice_names (plain file.now) ++ unknown_names (plain file.now) top.now) }
     // The modules, with what each declares.
     ensures modules { IfOk result (λ modules. modules ≡ modules_of (plain file.now)) }
 {

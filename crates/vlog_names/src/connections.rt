@@ -6,7 +6,8 @@ ghost use Rattle.vidi_bits.specs.Findings.{told_if};
 ghost use Rattle.vlog_tree.specs.Plain.{plain_conn, plain_instance};
 ghost use Rattle.vlog_size.specs.Table.{value_of};
 ghost use Rattle.vlog_names.specs.Unknown.{is_parameter, is_port, unknown_parameter_conn, unknown_port_conn, unknown_instance};
-ghost use Rattle.vlog_names.specs.Judged.{Judged};
+ghost use Rattle.vidi_bits.specs.Findings.{Judged};
+ghost use Rattle.vlog_names.specs.Told.{name_told};
 ghost use Rattle.vlog_names.specs.declared.error.NameError.TheVariants as e;
 
 use crate::declaration::{Declaration, Declarations, ModuleTable};
@@ -18,7 +19,7 @@ use vlog_tree::{Conn, Instance};
 
 /// Refuses a name that isn't declared as what is asked for.
 fn known_if(alloc: Global, is_known: bool, name: &Name) -> Result<(), NameError>
-    ensures { Judged result (told_if (not is_known) (e.Unknown name.now)) }
+    ensures { Judged name_told result (told_if (not is_known) (e.Unknown name.now)) }
 {
     if is_known {
         return Ok(());
@@ -52,7 +53,7 @@ fn known_parameter_conn(
     names: &Declarations,
     conn: &Conn,
 ) -> Result<(), NameError>
-    ensures { Judged result (unknown_parameter_conn child.now names.now (plain_conn conn.now)) }
+    ensures { Judged name_told result (unknown_parameter_conn child.now names.now (plain_conn conn.now)) }
 {
     let is_known = is_parameter(child, conn.id.name.as_slice());
     known_if(alloc, is_known, &conn.id.name)?;
@@ -65,7 +66,7 @@ fn known_port_conn(
     names: &Declarations,
     conn: &Conn,
 ) -> Result<(), NameError>
-    ensures { Judged result (unknown_port_conn child.now names.now (plain_conn conn.now)) }
+    ensures { Judged name_told result (unknown_port_conn child.now names.now (plain_conn conn.now)) }
 {
     let is_known = is_port(child, conn.id.name.as_slice());
     known_if(alloc, is_known, &conn.id.name)?;
@@ -78,7 +79,7 @@ fn known_parameter_conns(
     names: &Declarations,
     conns: &[Conn],
 ) -> Result<(), NameError>
-    ensures { Judged result (flat_map (unknown_parameter_conn child.now names.now) (map plain_conn conns.now)) }
+    ensures { Judged name_told result (flat_map (unknown_parameter_conn child.now names.now) (map plain_conn conns.now)) }
 {
     for conn in conns {
         known_parameter_conn(alloc, child, names, conn)?;
@@ -92,7 +93,7 @@ fn known_port_conns(
     names: &Declarations,
     conns: &[Conn],
 ) -> Result<(), NameError>
-    ensures { Judged result (flat_map (unknown_port_conn child.now names.now) (map plain_conn conns.now)) }
+    ensures { Judged name_told result (flat_map (unknown_port_conn child.now names.now) (map plain_conn conns.now)) }
 {
     for conn in conns {
         known_port_conn(alloc, child, names, conn)?;
@@ -108,7 +109,7 @@ pub fn known_instance(
     names: &Declarations,
     instance: &Instance,
 ) -> Result<(), NameError>
-    ensures { Judged result (unknown_instance (value_of modules.now (plain_instance instance.now).module_id.name) names.now
+    ensures { Judged name_told result (unknown_instance (value_of modules.now (plain_instance instance.now).module_id.name) names.now
         (plain_instance instance.now)) }
 {
     match modules.get(instance.module_id.name.as_slice()) {

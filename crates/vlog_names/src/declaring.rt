@@ -8,7 +8,8 @@ ghost use Rattle.vlog_tree.specs.Plain.{plain_parameter, plain_port, plain_head,
 ghost use Rattle.vlog_names.specs.Entries.{shape_of, port_as, no_port, reg_as, parameter_entry, port_entries, ident_entry};
 ghost use Rattle.vlog_names.specs.Entries.{value_entry, reg_entry, item_entries, declared, modules_of, header_entries, module_entry};
 ghost use Rattle.vlog_names.specs.Twice.{twice_name, twice_among, twice_connected, twice_item, twice_items, twice_in, twice_names};
-ghost use Rattle.vlog_names.specs.Judged.{Judged};
+ghost use Rattle.vidi_bits.specs.Findings.{Judged};
+ghost use Rattle.vlog_names.specs.Told.{name_told};
 
 use crate::declaration::{Declaration, Declarations, ModuleTable, Shape};
 use crate::error::NameError;
@@ -58,7 +59,7 @@ fn declare_parameters(
     names: &mut Declarations,
     parameters: &[Parameter],
 ) -> Result<(), NameError>
-    ensures told { Judged result (twice_among names.old (map parameter_entry (map plain_parameter parameters.now))) }
+    ensures told { Judged name_told result (twice_among names.old (map parameter_entry (map plain_parameter parameters.now))) }
     ensures kept { OnOk result (names.new ≡ names.old ++ map parameter_entry (map plain_parameter parameters.now)) }
 {
     for parameter in parameters {
@@ -68,7 +69,7 @@ fn declare_parameters(
 }
 
 fn declare_ports(alloc: Global, names: &mut Declarations, ports: &[Port]) -> Result<(), NameError>
-    ensures told { Judged result (twice_among names.old (port_entries no_port (map plain_port ports.now))) }
+    ensures told { Judged name_told result (twice_among names.old (port_entries no_port (map plain_port ports.now))) }
     ensures kept { OnOk result (names.new ≡ names.old ++ port_entries no_port (map plain_port ports.now)) }
 {
     let mut before = Declaration::Port {
@@ -88,7 +89,7 @@ fn declare_names(
     idents: &[Ident],
     what: Declaration,
 ) -> Result<(), NameError>
-    ensures told { Judged result (twice_among names.old (map (ident_entry what) (map plain_ident idents.now))) }
+    ensures told { Judged name_told result (twice_among names.old (map (ident_entry what) (map plain_ident idents.now))) }
     ensures kept { OnOk result (names.new ≡ names.old ++ map (ident_entry what) (map plain_ident idents.now)) }
 {
     for ident in idents {
@@ -103,7 +104,7 @@ fn declare_named(
     values: &[NamedValue],
     what: Declaration,
 ) -> Result<(), NameError>
-    ensures told { Judged result (twice_among names.old (map (value_entry what) (map plain_named values.now))) }
+    ensures told { Judged name_told result (twice_among names.old (map (value_entry what) (map plain_named values.now))) }
     ensures kept { OnOk result (names.new ≡ names.old ++ map (value_entry what) (map plain_named values.now)) }
 {
     for value in values {
@@ -118,7 +119,7 @@ fn declare_regs(
     regs: &[Reg1],
     shape: Shape,
 ) -> Result<(), NameError>
-    ensures told { Judged result (twice_among names.old (map (reg_entry shape) (map plain_reg regs.now))) }
+    ensures told { Judged name_told result (twice_among names.old (map (reg_entry shape) (map plain_reg regs.now))) }
     ensures kept { OnOk result (names.new ≡ names.old ++ map (reg_entry shape) (map plain_reg regs.now)) }
 {
     for reg in regs {
@@ -130,7 +131,7 @@ fn declare_regs(
 
 /// Refuses a name that stands twice in one list of connections.
 fn check_connected(alloc: Global, conns: &[Conn]) -> Result<(), NameError>
-    ensures { Judged result (twice_connected (map plain_conn conns.now)) }
+    ensures { Judged name_told result (twice_connected (map plain_conn conns.now)) }
 {
     let mut seen: Table<()> = Table::new(alloc);
     for conn in conns {
@@ -144,7 +145,7 @@ fn declare_instance(
     names: &mut Declarations,
     instance: &Instance,
 ) -> Result<(), NameError>
-    ensures told { Judged result (twice_item names.old (InstanceItem (plain_instance instance.now))) }
+    ensures told { Judged name_told result (twice_item names.old (InstanceItem (plain_instance instance.now))) }
     ensures kept { OnOk result (names.new ≡ names.old ++ item_entries (InstanceItem (plain_instance instance.now))) }
 {
     check_connected(alloc, instance.parameters.as_slice())?;
@@ -153,7 +154,7 @@ fn declare_instance(
 }
 
 fn declare_item(alloc: Global, names: &mut Declarations, item: &Item) -> Result<(), NameError>
-    ensures told { Judged result (twice_item names.old (plain_item item.now)) }
+    ensures told { Judged name_told result (twice_item names.old (plain_item item.now)) }
     ensures kept { OnOk result (names.new ≡ names.old ++ item_entries (plain_item item.now)) }
 {
     match item {
@@ -185,7 +186,7 @@ fn declare_item(alloc: Global, names: &mut Declarations, item: &Item) -> Result<
 }
 
 fn declare_items(alloc: Global, names: &mut Declarations, items: &[Item]) -> Result<(), NameError>
-    ensures told { Judged result (twice_items names.old (map plain_item items.now)) }
+    ensures told { Judged name_told result (twice_items names.old (map plain_item items.now)) }
     ensures kept { OnOk result (names.new ≡ names.old ++ flat_map item_entries (map plain_item items.now)) }
 {
     for item in items {
@@ -197,7 +198,7 @@ fn declare_items(alloc: Global, names: &mut Declarations, items: &[Item]) -> Res
 /// What the header of a module declares.
 #[tactic(auto, using(crate::proofs::Twice::twice_append))]
 fn header_of(alloc: Global, module: &Module) -> Result<Declarations, NameError>
-    ensures told { Judged result (twice_among [] (header_entries (plain_module «module».now))) }
+    ensures told { Judged name_told result (twice_among [] (header_entries (plain_module «module».now))) }
     ensures kept { IfOk result (λ names. names ≡ header_entries (plain_module «module».now)) }
 {
     let mut names = Table::new(alloc);
@@ -209,7 +210,7 @@ fn header_of(alloc: Global, module: &Module) -> Result<Declarations, NameError>
 /// What a module declares.
 #[tactic(auto, unfolding(crate::specs::Twice::twice_in, crate::specs::Entries::declared))]
 fn declarations_of(alloc: Global, module: &Module) -> Result<Declarations, NameError>
-    ensures told { Judged result (twice_in (plain_module «module».now)) }
+    ensures told { Judged name_told result (twice_in (plain_module «module».now)) }
     ensures kept { IfOk result (λ names. names ≡ declared (plain_module «module».now)) }
 {
     let mut names = header_of(alloc, module)?;
@@ -223,7 +224,7 @@ fn declare_module(
     modules: &mut ModuleTable,
     module: &Module,
 ) -> Result<(), NameError>
-    ensures told { Judged result (twice_name modules.old (plain_module «module».now).name ++ twice_in (plain_module «module».now)) }
+    ensures told { Judged name_told result (twice_name modules.old (plain_module «module».now).name ++ twice_in (plain_module «module».now)) }
     ensures kept { OnOk result (modules.new ≡ modules.old ++ module_entry (plain_module «module».now) ∷ []) }
 {
     check_new(alloc, modules, &module.name)?;
@@ -236,7 +237,7 @@ fn declare_module(
 /// The modules of a file, with what each declares.
 #[tactic(auto, unfolding(crate::specs::Twice::twice_names, crate::specs::Entries::modules_of))]
 pub fn modules_of(alloc: Global, file: &File) -> Result<ModuleTable, NameError>
-    ensures told { Judged result (twice_names (plain file.now)) }
+    ensures told { Judged name_told result (twice_names (plain file.now)) }
     ensures kept { IfOk result (λ modules. modules ≡ modules_of (plain file.now)) }
 {
     let mut modules = Table::new(alloc);

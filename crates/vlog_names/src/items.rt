@@ -6,7 +6,8 @@ ghost use Rattle.vlog_tree.specs.Plain.{plain_parameter, plain_parameter_head, p
 ghost use Rattle.vlog_tree.specs.Plain.{plain_tail, plain_assign, plain_event, plain_always, plain_item};
 ghost use Rattle.vlog_names.specs.Unknown.{unknown_parameter_head, unknown_parameter, unknown_port_head, unknown_port, unknown_named};
 ghost use Rattle.vlog_names.specs.Unknown.{unknown_tail, unknown_reg, unknown_assign, unknown_event, unknown_always, unknown_item};
-ghost use Rattle.vlog_names.specs.Judged.{Judged};
+ghost use Rattle.vidi_bits.specs.Findings.{Judged};
+ghost use Rattle.vlog_names.specs.Told.{name_told};
 
 use crate::connections::known_instance;
 use crate::declaration::{Declarations, ModuleTable};
@@ -24,7 +25,7 @@ fn known_parameter_head(
     names: &Declarations,
     head: &Option<ParameterHead>,
 ) -> Result<(), NameError>
-    ensures { Judged result (unknown_parameter_head names.now (option_map plain_parameter_head head.now)) }
+    ensures { Judged name_told result (unknown_parameter_head names.now (option_map plain_parameter_head head.now)) }
 {
     match head {
         None => Ok(()),
@@ -37,7 +38,7 @@ pub fn known_parameters(
     names: &Declarations,
     parameters: &[Parameter],
 ) -> Result<(), NameError>
-    ensures { Judged result (flat_map (unknown_parameter names.now) (map plain_parameter parameters.now)) }
+    ensures { Judged name_told result (flat_map (unknown_parameter names.now) (map plain_parameter parameters.now)) }
 {
     for parameter in parameters {
         known_parameter_head(alloc, names, &parameter.head)?;
@@ -51,7 +52,7 @@ fn known_port_head(
     names: &Declarations,
     head: &Option<PortHead>,
 ) -> Result<(), NameError>
-    ensures { Judged result (unknown_port_head names.now (option_map plain_head head.now)) }
+    ensures { Judged name_told result (unknown_port_head names.now (option_map plain_head head.now)) }
 {
     match head {
         None => Ok(()),
@@ -60,7 +61,7 @@ fn known_port_head(
 }
 
 pub fn known_ports(alloc: Global, names: &Declarations, ports: &[Port]) -> Result<(), NameError>
-    ensures { Judged result (flat_map (unknown_port names.now) (map plain_port ports.now)) }
+    ensures { Judged name_told result (flat_map (unknown_port names.now) (map plain_port ports.now)) }
 {
     for port in ports {
         known_port_head(alloc, names, &port.head)?;
@@ -70,7 +71,7 @@ pub fn known_ports(alloc: Global, names: &Declarations, ports: &[Port]) -> Resul
 }
 
 fn known_named(alloc: Global, names: &Declarations, values: &[NamedValue]) -> Result<(), NameError>
-    ensures { Judged result (flat_map (unknown_named names.now) (map plain_named values.now)) }
+    ensures { Judged name_told result (flat_map (unknown_named names.now) (map plain_named values.now)) }
 {
     for value in values {
         known_expr(alloc, names, &value.value)?;
@@ -79,7 +80,7 @@ fn known_named(alloc: Global, names: &Declarations, values: &[NamedValue]) -> Re
 }
 
 fn known_tail(alloc: Global, names: &Declarations, tail: &Option<RegTail>) -> Result<(), NameError>
-    ensures { Judged result (unknown_tail names.now (option_map plain_tail tail.now)) }
+    ensures { Judged name_told result (unknown_tail names.now (option_map plain_tail tail.now)) }
 {
     match tail {
         None => Ok(()),
@@ -89,7 +90,7 @@ fn known_tail(alloc: Global, names: &Declarations, tail: &Option<RegTail>) -> Re
 }
 
 fn known_regs(alloc: Global, names: &Declarations, regs: &[Reg1]) -> Result<(), NameError>
-    ensures { Judged result (flat_map (unknown_reg names.now) (map plain_reg regs.now)) }
+    ensures { Judged name_told result (flat_map (unknown_reg names.now) (map plain_reg regs.now)) }
 {
     for reg in regs {
         known_tail(alloc, names, &reg.tail)?;
@@ -98,7 +99,7 @@ fn known_regs(alloc: Global, names: &Declarations, regs: &[Reg1]) -> Result<(), 
 }
 
 fn known_assigns(alloc: Global, names: &Declarations, assigns: &[Assign]) -> Result<(), NameError>
-    ensures { Judged result (flat_map (unknown_assign names.now) (map plain_assign assigns.now)) }
+    ensures { Judged name_told result (flat_map (unknown_assign names.now) (map plain_assign assigns.now)) }
 {
     for assign in assigns {
         known_target(alloc, names, &assign.target)?;
@@ -108,7 +109,7 @@ fn known_assigns(alloc: Global, names: &Declarations, assigns: &[Assign]) -> Res
 }
 
 fn known_event(alloc: Global, names: &Declarations, event: &Event) -> Result<(), NameError>
-    ensures { Judged result (unknown_event names.now (plain_event event.now)) }
+    ensures { Judged name_told result (unknown_event names.now (plain_event event.now)) }
 {
     match event {
         Event::Posedge(ident) => known(alloc, names, ident),
@@ -117,7 +118,7 @@ fn known_event(alloc: Global, names: &Declarations, event: &Event) -> Result<(),
 }
 
 fn known_always(alloc: Global, names: &Declarations, always: &Always) -> Result<(), NameError>
-    ensures { Judged result (unknown_always names.now (plain_always always.now)) }
+    ensures { Judged name_told result (unknown_always names.now (plain_always always.now)) }
 {
     known_event(alloc, names, &always.event)?;
     known_body(alloc, names, &always.body)
@@ -129,7 +130,7 @@ fn known_item(
     names: &Declarations,
     item: &Item,
 ) -> Result<(), NameError>
-    ensures { Judged result (unknown_item modules.now names.now (plain_item item.now)) }
+    ensures { Judged name_told result (unknown_item modules.now names.now (plain_item item.now)) }
 {
     match item {
         Item::Wires { range, names: _ } => known_range(alloc, names, range),
@@ -157,7 +158,7 @@ pub fn known_items(
     names: &Declarations,
     items: &[Item],
 ) -> Result<(), NameError>
-    ensures { Judged result (flat_map (unknown_item modules.now names.now) (map plain_item items.now)) }
+    ensures { Judged name_told result (flat_map (unknown_item modules.now names.now) (map plain_item items.now)) }
 {
     for item in items {
         known_item(alloc, modules, names, item)?;

@@ -4,7 +4,8 @@ ghost use Rattle.std.specs.Prelude.{◌≡◌};
 ghost use Rattle.vlog_tree.specs.Plain.{plain_target, plain_targets, plain_stmt, plain_stmts, plain_body, plain_arm, plain_arms};
 ghost use Rattle.vlog_names.specs.Unknown.{unknown_target, unknown_targets, unknown_stmt, unknown_stmts, unknown_body, unknown_arm};
 ghost use Rattle.vlog_names.specs.Unknown.{unknown_arms};
-ghost use Rattle.vlog_names.specs.Judged.{Judged};
+ghost use Rattle.vidi_bits.specs.Findings.{Judged};
+ghost use Rattle.vlog_names.specs.Told.{name_told};
 
 use crate::declaration::Declarations;
 use crate::error::NameError;
@@ -14,7 +15,7 @@ use vlog_tree::{Arm, Body, Stmt, Target, see_begin, see_case, see_concat_target}
 
 #[cycle(known_targets)]
 pub fn known_target(alloc: Global, names: &Declarations, target: &Target) -> Result<(), NameError>
-    ensures { Judged result (unknown_target names.now (plain_target target.now)) }
+    ensures { Judged name_told result (unknown_target names.now (plain_target target.now)) }
 {
     match target {
         Target::Ref(name) => known_ref(alloc, names, name),
@@ -27,7 +28,7 @@ pub fn known_target(alloc: Global, names: &Declarations, target: &Target) -> Res
 
 #[cycle(known_targets)]
 fn known_targets(alloc: Global, names: &Declarations, targets: &[Target]) -> Result<(), NameError>
-    ensures { Judged result (unknown_targets names.now (plain_targets targets.now)) }
+    ensures { Judged name_told result (unknown_targets names.now (plain_targets targets.now)) }
 {
     for target in targets {
         known_target(alloc, names, target)?;
@@ -37,7 +38,7 @@ fn known_targets(alloc: Global, names: &Declarations, targets: &[Target]) -> Res
 
 #[cycle(known_stmts)]
 fn known_stmt(alloc: Global, names: &Declarations, stmt: &Stmt) -> Result<(), NameError>
-    ensures { Judged result (unknown_stmt names.now (plain_stmt stmt.now)) }
+    ensures { Judged name_told result (unknown_stmt names.now (plain_stmt stmt.now)) }
 {
     match stmt {
         Stmt::Begin(stmts) => {
@@ -74,7 +75,7 @@ fn known_stmt(alloc: Global, names: &Declarations, stmt: &Stmt) -> Result<(), Na
 
 #[cycle(known_stmts)]
 pub fn known_body(alloc: Global, names: &Declarations, body: &Body) -> Result<(), NameError>
-    ensures { Judged result (unknown_body names.now (plain_body body.now)) }
+    ensures { Judged name_told result (unknown_body names.now (plain_body body.now)) }
 {
     match body {
         Body::Stmt(stmt) => known_stmt(alloc, names, stmt),
@@ -84,7 +85,7 @@ pub fn known_body(alloc: Global, names: &Declarations, body: &Body) -> Result<()
 
 #[cycle(known_stmts)]
 fn known_arm(alloc: Global, names: &Declarations, arm: &Arm) -> Result<(), NameError>
-    ensures { Judged result (unknown_arm names.now (plain_arm arm.now)) }
+    ensures { Judged name_told result (unknown_arm names.now (plain_arm arm.now)) }
 {
     match arm {
         Arm::Labels { labels, body } => {
@@ -101,7 +102,7 @@ fn known_arm(alloc: Global, names: &Declarations, arm: &Arm) -> Result<(), NameE
 
 #[cycle(known_stmts)]
 fn known_arms(alloc: Global, names: &Declarations, arms: &[Arm]) -> Result<(), NameError>
-    ensures { Judged result (unknown_arms names.now (plain_arms arms.now)) }
+    ensures { Judged name_told result (unknown_arms names.now (plain_arms arms.now)) }
 {
     for arm in arms {
         known_arm(alloc, names, arm)?;
@@ -111,7 +112,7 @@ fn known_arms(alloc: Global, names: &Declarations, arms: &[Arm]) -> Result<(), N
 
 #[cycle(known_stmts)]
 fn known_stmts(alloc: Global, names: &Declarations, stmts: &[Stmt]) -> Result<(), NameError>
-    ensures { Judged result (unknown_stmts names.now (plain_stmts stmts.now)) }
+    ensures { Judged name_told result (unknown_stmts names.now (plain_stmts stmts.now)) }
 {
     for stmt in stmts {
         known_stmt(alloc, names, stmt)?;

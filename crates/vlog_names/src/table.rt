@@ -6,7 +6,8 @@ ghost use Rattle.vlog_tree.specs.Tree.{ModuleOf};
 ghost use Rattle.vlog_size.specs.Table.{value_of};
 ghost use Rattle.vlog_names.specs.Entries.{entry, declared, module_entry};
 ghost use Rattle.vlog_names.specs.Twice.{twice_name};
-ghost use Rattle.vlog_names.specs.Judged.{Judged};
+ghost use Rattle.vidi_bits.specs.Findings.{Judged};
+ghost use Rattle.vlog_names.specs.Told.{name_told};
 
 use crate::declaration::{Declarations, ModuleTable};
 use crate::error::NameError;
@@ -26,7 +27,7 @@ fn is_there<V>(table: &Table<V>, name: &[u8]) -> bool
 
 /// Refuses a name that the table has.
 pub fn check_new<V>(alloc: Global, table: &Table<V>, name: &Name) -> Result<(), NameError>
-    ensures { Judged result (twice_name table.now name.now) }
+    ensures { Judged name_told result (twice_name table.now name.now) }
 {
     if is_there(table, name.as_slice()) {
         let name = copied(alloc, name.as_slice())?;
@@ -42,7 +43,7 @@ pub fn declare<V: Drop>(
     name: &Name,
     value: V,
 ) -> Result<(), NameError>
-    ensures told { Judged result (twice_name table.old name.now) }
+    ensures told { Judged name_told result (twice_name table.old name.now) }
     ensures kept { OnOk result (table.new ≡ table.old ++ entry name.now value ∷ []) }
 {
     check_new(alloc, table, name)?;

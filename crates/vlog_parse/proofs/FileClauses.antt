@@ -1,8 +1,9 @@
 -- The clauses of the reader of whole files.
-use Rattle.std.proofs.Common.{◌≡◌, ℕ, ◌+◌, ◌≤◌, Option, None, Some, Result, Ok, Err, List, [], ◌∷◌, refl, sym, ap, subst, ◌∙◌, length}
+use Rattle.std.proofs.Common.{◌≡◌, ℕ, ◌+◌, ◌≤◌, Option, Some, Result, Ok, Err, List, [], ◌∷◌, refl, sym, ap, subst, ◌∙◌, length}
 use Rattle.std.proofs.Common.{map}
 use Rattle.std.proofs.Common.{arith}
 use Rattle.std.specs.Prelude.{IfOk, MatchResult, option_map}
+use Rattle.vidi_bits.proofs.Lists.{some_same}
 use Rattle.vlog_lex.specs.declared.token.Token.{Token}
 use Rattle.vlog_tree.specs.declared.module.File.{File}
 use Rattle.vlog_tree.specs.Words.{WordOf, NameWord, Fixed, NameAt, NumberAt, FixedAt, token_of, tokens_of, map_word}
@@ -20,7 +21,7 @@ use Rattle.vlog_expr.specs.Reader.{fuel_for}
 use Rattle.vlog_parse.specs.FileReader.{file_at, file_of}
 use Rattle.vlog_expr.specs.Laws.{Holds}
 use Rattle.vlog_expr.specs.Given.{Gives}
-use Rattle.vlog_expr.proofs.Whole.{words_tokens, spell_lawful}
+use Rattle.vlog_expr.proofs.Whole.{words_tokens, spell_lawful, none_some}
 use Rattle.vlog_parse.specs.Parsing.{IsFileOf, IsLinedFileOf, OneFile, OneLinedFile, LinedFilesAreFiles}
 use Rattle.vlog_parse.proofs.FileSpelled.{file_read}
 use Rattle.vlog_parse.proofs.FileNatural.{file_natural}
@@ -29,12 +30,6 @@ use Rattle.vlog_parse.proofs.FileWhole.{file_lawful, file_found, file_again}
 
 abbrev U : Type 0
 U = Unit {0}
-
-same_some : {X : Type 0} (x y : X) → Some x ≡ Some y → x ≡ y
-same_some x y h = cc
-
-none_some : {X : Type 0} (x : X) → None ≡ Some x → ⊥
-none_some x h = cc
 
 forgotten_lawful : (ws : Toks ℕ) → AreLawful ws → AreLawful (forget_all ws)
 forgotten_lawful [] h = tt
@@ -102,9 +97,9 @@ pub one_lined_file : OneLinedFile
 one_lined_file ts a b ia ib =
     let n = fuel_for (length (file_words a) + length (file_words b)) in
     let forgotten = words_forgotten (file_words a) (all_marked ts) ia.1 ∙ sym (words_forgotten (file_words b) (all_marked ts) ib.1) in
-    let same = same_some (bare a) (bare b) (sym (bare_read a n ia.0 (omega arith))
+    let same = some_same (bare a) (bare b) (sym (bare_read a n ia.0 (omega arith))
     ∙ ap (λ (ws : Toks U). file_at n ws) forgotten ∙ bare_read b n ib.0 (omega arith)) in
-    same_some a b (sym (file_read ℕ 0 a n ia.0 (omega arith))
+    some_same a b (sym (file_read ℕ 0 a n ia.0 (omega arith))
     ∙ ap (λ (us : List (WordOf ℕ)). file_at n (spell 0 us [])) (same_words ts a b same ia ib) ∙ file_read ℕ 0 b n ib.0 (omega arith))
 
 pub found_clause : (r : Result File Unread) (ts : List Token) → AreLawful (all_marked ts) → Gives plain r (file_of (all_marked ts))
@@ -116,7 +111,7 @@ pub only_clause : (r : Result File Unread) (ts : List Token) → Gives plain r (
     → MatchResult r (λ g. bare (plain g) ≡ f) (λ e. e ≡ unread.Memory)
 only_clause (Ok g) ts h f is =
     let a = file_again (file_read U tt) (file_natural ℕ) ts f is.0 is.1 in
-    ap (λ (x : FileOf ℕ). bare x) (same_some (plain g) a.0 (sym h ∙ a.1)) ∙ a.2
+    ap (λ (x : FileOf ℕ). bare x) (some_same (plain g) a.0 (sym h ∙ a.1)) ∙ a.2
 only_clause (Err unread.Memory) ts h f is = refl
 only_clause (Err unread.Fault) ts h f is =
     let a = file_again (file_read U tt) (file_natural ℕ) ts f is.0 is.1 in
@@ -137,4 +132,4 @@ pub one_file : OneFile
 one_file a b ga gb e =
     let x = file_again (file_read U tt) (file_natural ℕ) (toks a) a ga (lines_gone (file_words a)) in
     let y = file_again (file_read U tt) (file_natural ℕ) (toks a) b gb (sym e ∙ lines_gone (file_words a)) in
-    sym x.2 ∙ ap (λ (f : FileOf ℕ). bare f) (same_some x.0 y.0 (sym x.1 ∙ y.1)) ∙ y.2
+    sym x.2 ∙ ap (λ (f : FileOf ℕ). bare f) (some_same x.0 y.0 (sym x.1 ∙ y.1)) ∙ y.2

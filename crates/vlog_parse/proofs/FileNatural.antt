@@ -1,14 +1,15 @@
 -- Without lines the reader reads the same files, without their lines.
 use Rattle.std.proofs.Common.{◌≡◌, if◌then◌else◌, ℕ, zero, suc, Bool, true, false, Option, None, Some, List, [], ◌∷◌, ◌++◌, map, option_map}
 use Rattle.std.proofs.Common.{refl, ap, ◌∙◌}
+use Rattle.vlog_tree.specs.Lines.{bare}
 use Rattle.vlog_tree.specs.declared.module.Direction.{Direction}
 use Rattle.vlog_tree.specs.declared.terminal.Terminal.TheVariants as t
 use Rattle.vlog_tree.specs.Tree.{IdentOf, RangeOf, PortHeadOf, PortOf, ParameterHeadOf, ParameterOf, ItemOf, ModuleOf}
 use Rattle.vlog_expr.specs.Marks.{Toks, is_name, name_front}
 use Rattle.vlog_expr.specs.Bare.{forget, forget_all, bare_ident, bare_expr}
 use Rattle.vlog_parse.specs.BareFile.{bare_range, bare_head, bare_port, bare_named, bare_tail, bare_reg, bare_assign, bare_event, bare_item}
-use Rattle.vlog_parse.specs.BareFile.{bare_module, bare_file, bare_parameter_head, bare_parameter, bare_conn}
-use Rattle.vlog_expr.specs.Reader.{◌>>=◌, Read, more_at, some_at}
+use Rattle.vlog_parse.specs.BareFile.{bare_module, bare_parameter_head, bare_parameter, bare_conn}
+use Rattle.vlog_expr.specs.Reader.{◌>>=◌, Read}
 use Rattle.vlog_parse.specs.FileReader.{range_at, range_front, init_front, input_at, output_at, direction_front, head_front, port_at}
 use Rattle.vlog_parse.specs.FileReader.{where_given, first_port_at, ports_at, named_at, tail_front, reg_at, assign_at, names_at, driven_at}
 use Rattle.vlog_parse.specs.FileReader.{wires_at, regs_at, localparams_at, assigns_at, paren_event_at, event_at, always_at, value_at}
@@ -283,13 +284,13 @@ module _ (A : Type 0) where
       ∙ modules_natural n left (front ++ m.0 ∷ []) m.1)
 
   file_over : (o : Option (List (ModuleOf A))) (p : Option (List (ModuleOf U))) → p ≡ option_map (map bare_module) o
-      → (p >>= λ ms. Some (record { modules = ms })) ≡ option_map bare_file (o >>= λ ms. Some (record { modules = ms }))
+      → (p >>= λ ms. Some (record { modules = ms })) ≡ option_map bare (o >>= λ ms. Some (record { modules = ms }))
   file_over None p e = ap (λ (p : Option (List (ModuleOf U))). p >>= λ ms. Some (record { modules = ms })) e
   file_over (Some ms) p e = ap (λ (p : Option (List (ModuleOf U))). p >>= λ ms. Some (record { modules = ms })) e
 
   pub file_natural : FileLinesDontCount A
   file_natural n ws =
-      over_last bare_module bare_file (module_at n ws) (module_at n (forget_all ws))
+      over_last bare_module bare (module_at n ws) (module_at n (forget_all ws))
       (λ m. modules_at n n (m.0 ∷ []) m.1 >>= λ ms. Some (record { modules = ms }))
       (λ m. modules_at n n (m.0 ∷ []) m.1 >>= λ ms. Some (record { modules = ms }))
       (module_same n ws).is

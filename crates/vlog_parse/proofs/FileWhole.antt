@@ -3,6 +3,8 @@ use Rattle.std.proofs.Common.{◌≡◌, ℕ, true, false, List, [], ◌∷◌, 
 use Rattle.std.proofs.Common.{◌∙◌, subst}
 use Rattle.std.proofs.Common.{arith}
 use Rattle.std.specs.List.{AllByRecursion}
+use Rattle.vlog_tree.specs.Lines.{bare}
+use Rattle.vidi_bits.proofs.Lists.{some_same}
 use Rattle.vlog_lex.specs.declared.token.Token.{Token}
 use Rattle.vlog_tree.specs.declared.module.Direction.{Direction}
 use Rattle.vlog_tree.specs.declared.module.Direction.TheVariants as direction
@@ -25,7 +27,6 @@ use Rattle.vlog_tree.specs.Shape.{AreGoodStmts, IsGoodOption, IsGoodRange, IsGoo
 use Rattle.vlog_tree.specs.Shape.{IsGoodReg, IsGoodAssign, IsGoodEvent, AreSomeGood, IsGoodItem, IsGoodModule, IsGood}
 use Rattle.vlog_expr.specs.Marks.{Toks, spell, AreWords, all_marked, AreLawful}
 use Rattle.vlog_expr.specs.Bare.{forget_all, without_lines}
-use Rattle.vlog_parse.specs.BareFile.{bare_file}
 use Rattle.vlog_expr.specs.Reader.{fuel_for}
 use Rattle.vlog_parse.specs.FileReader.{file_at, file_of}
 use Rattle.vlog_expr.specs.Laws.{Holds}
@@ -314,15 +315,12 @@ pub file_found : (ts : List Token) (f : FileOf ℕ) → AreLawful (all_marked ts
 file_found ts f l h = subst (λ (o : Option (FileOf ℕ)). Holds o (λ (f : FileOf ℕ). IsGood f × AreWords (file_words f) (all_marked ts) []))
     h (all_sound (all_marked ts) l)
 
-same_some : {X : Type 0} (x y : X) → Some x ≡ Some y → x ≡ y
-same_some x y h = cc
-
-from_mapped : (o : Option (FileOf ℕ)) (t : FileOf U) → option_map bare_file o ≡ Some t → (f : FileOf ℕ) × (o ≡ Some f) × (bare_file f ≡ t)
+from_mapped : (o : Option (FileOf ℕ)) (t : FileOf U) → option_map bare o ≡ Some t → (f : FileOf ℕ) × (o ≡ Some f) × (bare f ≡ t)
 from_mapped None t h = absurd (none_some t h)
-from_mapped (Some f) t h = (f, refl, same_some (bare_file f) t h)
+from_mapped (Some f) t h = (f, refl, some_same (bare f) t h)
 
 read_again : FilesAreRead → FileLinesDontCount ℕ → (ws : Toks ℕ) (t : FileOf U) → IsGood t → spell tt (file_words t) [] ≡ forget_all ws
-    → (f : FileOf ℕ) × (file_of ws ≡ Some f) × (bare_file f ≡ t)
+    → (f : FileOf ℕ) × (file_of ws ≡ Some f) × (bare f ≡ t)
 unfolding file_of
 read_again read lines ws t g h =
     let fuel = fuel_for (length ws) in
@@ -333,5 +331,5 @@ read_again read lines ws t g h =
 
 pub file_again : FilesAreRead → FileLinesDontCount ℕ → (ts : List Token) (t : FileOf (Unit {0})) → IsGood t → tokens_of (file_words t)
     ≡ without_lines ts
-    → (f : FileOf ℕ) × (file_of (all_marked ts) ≡ Some f) × (bare_file f ≡ t)
+    → (f : FileOf ℕ) × (file_of (all_marked ts) ≡ Some f) × (bare f ≡ t)
 file_again read lines ts t g w = read_again read lines (all_marked ts) t g (tokens_spelled (file_words t) ts w)

@@ -30,7 +30,7 @@ use Rattle.vlog_expr.proofs.Spelled.{U, spell_append}
 use Rattle.vlog_expr.proofs.Found.{From, again}
 use Rattle.vlog_expr.proofs.Maps.{marked_length}
 use Rattle.vlog_expr.proofs.Natural.{over_bind, over_found, after_natural}
-use Rattle.vlog_expr.proofs.Whole.{AreLawfulWords, lawful_append, spell_lawful}
+use Rattle.vlog_expr.proofs.Whole.{AreLawfulWords, lawful_append, spell_lawful, length_forget}
 use Rattle.vlog_parse.proofs.Sure.{Sure, nothing, sure, next, either, after_found}
 use Rattle.vlog_parse.proofs.Steps.{step, skipped}
 use Rattle.vlog_parse.proofs.FileFound.{item_found, header_found}
@@ -494,10 +494,6 @@ forget_append : (a b : Toks ℕ) → forget_all (a ++ b) ≡ forget_all a ++ for
 forget_append [] b = refl
 forget_append (token ∷ a) b = ap (λ (us : Toks U). forget token ∷ us) (forget_append a b)
 
-forget_length : (ws : Toks ℕ) → length (forget_all ws) ≡ length ws
-forget_length [] = refl
-forget_length (token ∷ ws) = ap suc (forget_length ws)
-
 forget_lawful : (ws : Toks ℕ) → AreLawful ws → AreLawful (forget_all ws)
 forget_lawful [] h = tt
 forget_lawful (token ∷ ws) h = (h.0, forget_lawful ws h.1)
@@ -511,11 +507,11 @@ pub rest_short : (front : Toks ℕ) → AreLawful front → length (behind_units
 rest_short front l =
     let n = fuel_for (length front) in
     let rest = behind_units n n false front in
-    let same = forget_length front in
+    let same = length_forget front in
     let g = greedy n n false (forget_all front) (forget_lawful front l) (omega (arith, same)) (omega (arith, same)) in
     let long = ap (λ (us : Toks U). length us) g.spells ∙ length_spelled (in_row unit_words g.units)
     (behind_units n n false (forget_all front)) in
-    let short = ap (λ (us : Toks U). length us) (behind_natural n n false front) ∙ forget_length rest in
+    let short = ap (λ (us : Toks U). length us) (behind_natural n n false front) ∙ length_forget rest in
     omega (arith, same, long, short)
 
 pub item_line : (front bad : Toks ℕ) (line k : ℕ) → AreLawful front → IsUnlawful bad
@@ -524,12 +520,12 @@ pub item_line : (front bad : Toks ℕ) (line k : ℕ) → AreLawful front → Is
 item_line front bad line k l h is its =
     let n = fuel_for (length front) in
     let rest = behind_units n n false front in
-    let same = forget_length front in
+    let same = length_forget front in
     let found = greedy n n false (forget_all front) (forget_lawful front l) (omega (arith, same)) (omega (arith, same)) in
     let g = greedy_more (forget_all front) (forget_all rest) (forget_all bad) (forget_unlawful bad h)
     (subst (λ (us : Toks U). Greedy false (forget_all front) us) (behind_natural n n false front) found) in
     let place : k ≡ length (front ++ bad) - length (forget_all rest ++ forget_all bad) =
-    omega (arith, is, length-append front bad, length-append (forget_all rest) (forget_all bad), forget_length rest, forget_length bad) in
+    omega (arith, is, length-append front bad, length-append (forget_all rest) (forget_all bad), length_forget rest, length_forget bad) in
     record {
       units = g.units;
       rest = forget_all rest ++ forget_all bad;

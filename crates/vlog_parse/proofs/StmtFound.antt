@@ -1,6 +1,7 @@
 -- What is read is of good shape and spelled so: statements.
 use Rattle.std.proofs.Common.{◌≡◌, ◌≢◌, ℕ, zero, suc, Bool, true, Option, None, Some, List, [], ◌∷◌, ◌++◌, sym, ap, ◌∙◌}
 use Rattle.std.proofs.Common.{append_assoc, append-nil}
+use Rattle.std.proofs.lemmas.Bool.{false_from_ne_true}
 use Rattle.vlog_tree.specs.declared.terminal.Terminal.TheVariants as t
 use Rattle.vlog_tree.specs.declared.stmt.AssignOp.{AssignOp}
 use Rattle.vlog_tree.specs.Words.{WordOf, Fixed}
@@ -18,7 +19,7 @@ use Rattle.vlog_tree.specs.Shape.{IsGoodExpr, IsGoodArm, AreGoodArms, AreAllGood
 use Rattle.vlog_expr.specs.Laws.{Holds}
 use Rattle.vlog_parse.specs.FileLaws.{ReadBodiesAreSpelled}
 use Rattle.vlog_expr.proofs.Found.{From, again}
-use Rattle.vlog_parse.proofs.Sure.{Sure, nothing, sure, next, either, kept, ◌▹◌, some_none, not_true, false_true, start, target_found}
+use Rattle.vlog_parse.proofs.Sure.{Sure, nothing, sure, next, either, kept, ◌▹◌, some_none, false_true, start, target_found}
 use Rattle.vlog_parse.proofs.Sure.{expr_found, after_found, after_at_found}
 use Rattle.vlog_parse.proofs.ListFound.{alone, led_good, some_found}
 
@@ -97,7 +98,7 @@ module _ (A : Type 0) where
 
   shut : (b : BodyOf A) (o : ElseOf A) (ws : Toks A) → (is_open_body b ≡ true → after t.Else ws ≡ None) → Follows ws o → IsShut b o
   shut b NoElse ws h f = tt
-  shut b (Else other) ws h f = not_true (is_open_body b) (λ e. f (h e))
+  shut b (Else other) ws h f = false_from_ne_true (is_open_body b) (λ e. f (h e))
 
   op_found : (ws : Toks A) → AreLawful ws → Sure (assign_op_at ws) (AtOp ws)
   op_found ws h = either (after_found A t.Equals ws h) (next (after_found A t.LessEquals ws h) (λ o f. sure _ f)) (λ o f. sure _ f)

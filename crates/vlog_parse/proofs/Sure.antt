@@ -1,5 +1,5 @@
 -- What is surely so of what is read, step by step.
-use Rattle.std.proofs.Common.{◌≡◌, ℕ, Bool, true, false, Option, None, Some, List, [], ◌++◌, refl}
+use Rattle.std.proofs.Common.{◌≡◌, ℕ, true, false, Option, None, Some, List, [], ◌++◌, refl}
 use Rattle.vlog_tree.specs.declared.terminal.Terminal.{Terminal}
 use Rattle.vlog_tree.specs.Words.{WordOf}
 use Rattle.vlog_expr.specs.Marks.{Toks, AreLawful, after}
@@ -41,10 +41,6 @@ pub ◌▹◌ : {A : Type 0} {ws mid rest : Toks A} {a b : List (WordOf A)} → 
 
 pub some_none : {X : Type 0} (x : X) → Some x ≡ None → ⊥
 some_none x h = cc
-
-pub not_true : (b : Bool) → (b ≡ true → ⊥) → b ≡ false
-not_true true h = absurd (h refl)
-not_true false h = refl
 
 pub false_true : {X : Type 0} → false ≡ true → X
 false_true h = absurd (differ h)

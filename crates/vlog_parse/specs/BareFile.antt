@@ -1,10 +1,10 @@
 -- Statements, items and files without their lines.
 use Rattle.vlog_tree.specs.Tree.{StmtOf, BodyOf, ElseOf, StmtsOf, RangeOf, PortHeadOf, PortOf, NamedValueOf, RegTailOf, Reg1Of, AssignOf}
-use Rattle.vlog_tree.specs.Tree.{EventOf, ItemOf, ModuleOf, FileOf}
+use Rattle.vlog_tree.specs.Tree.{EventOf, ItemOf, ModuleOf}
 use Rattle.vlog_tree.specs.Lines.{no_mark, map_stmt, map_body, map_else, map_stmts, map_range, map_head, map_port, map_named, map_tail}
-use Rattle.vlog_tree.specs.Lines.{map_reg, map_assign, map_event, map_item, map_module, map_file}
-use Rattle.vlog_tree.specs.Tree.{ArmOf, ArmsOf, ParameterHeadOf, ParameterOf, ConnOf, InstanceOf}
-use Rattle.vlog_tree.specs.Lines.{map_arm, map_arms, map_parameter_head, map_parameter, map_conn, map_instance}
+use Rattle.vlog_tree.specs.Lines.{map_reg, map_assign, map_event, map_item, map_module}
+use Rattle.vlog_tree.specs.Tree.{ArmOf, ArmsOf, ParameterHeadOf, ParameterOf, ConnOf}
+use Rattle.vlog_tree.specs.Lines.{map_arm, map_arms, map_parameter_head, map_parameter, map_conn}
 
 abbrev pub bare_stmt : {A : Type 0} → StmtOf A → StmtOf (Unit {0})
 bare_stmt x = map_stmt no_mark x
@@ -57,14 +57,8 @@ bare_event x = map_event no_mark x
 abbrev pub bare_conn : {A : Type 0} → ConnOf A → ConnOf (Unit {0})
 bare_conn x = map_conn no_mark x
 
-abbrev pub bare_instance : {A : Type 0} → InstanceOf A → InstanceOf (Unit {0})
-bare_instance x = map_instance no_mark x
-
 abbrev pub bare_item : {A : Type 0} → ItemOf A → ItemOf (Unit {0})
 bare_item x = map_item no_mark x
 
 abbrev pub bare_module : {A : Type 0} → ModuleOf A → ModuleOf (Unit {0})
 bare_module x = map_module no_mark x
-
-abbrev pub bare_file : {A : Type 0} → FileOf A → FileOf (Unit {0})
-bare_file x = map_file no_mark x

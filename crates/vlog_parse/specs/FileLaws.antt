@@ -1,5 +1,6 @@
 -- What the reader of statements and files means: what is spelled is read, and what is read is spelled.
 use Rattle.std.specs.Prelude.{◌≡◌, ◌≤◌, ℕ, None, Some, length, option_map, true, []}
+use Rattle.vlog_tree.specs.Lines.{bare}
 use Rattle.vlog_tree.specs.declared.terminal.Terminal.TheVariants as t
 use Rattle.vlog_tree.specs.Tree.{BodyOf, FileOf}
 use Rattle.vlog_tree.specs.Spelling.{body_words, file_words}
@@ -8,7 +9,7 @@ use Rattle.vlog_expr.specs.Marks.{Toks, spell, AreWords, AreLawful, after}
 use Rattle.vlog_expr.specs.Bare.{forget_all}
 use Rattle.vlog_expr.specs.Reader.{fuel_for}
 use Rattle.vlog_expr.specs.Laws.{Holds, seen}
-use Rattle.vlog_parse.specs.BareFile.{bare_body, bare_file}
+use Rattle.vlog_parse.specs.BareFile.{bare_body}
 use Rattle.vlog_parse.specs.StmtReader.{body_at}
 use Rattle.vlog_parse.specs.FileReader.{file_at}
 
@@ -39,4 +40,4 @@ abbrev pub BodyLinesDontCount : Type 0 → Type 0
 BodyLinesDontCount A = (fuel : ℕ) (ws : Toks A) → body_at fuel (forget_all ws) ≡ seen bare_body (body_at fuel ws)
 
 abbrev pub FileLinesDontCount : Type 0 → Type 0
-FileLinesDontCount A = (fuel : ℕ) (ws : Toks A) → file_at fuel (forget_all ws) ≡ option_map bare_file (file_at fuel ws)
+FileLinesDontCount A = (fuel : ℕ) (ws : Toks A) → file_at fuel (forget_all ws) ≡ option_map bare (file_at fuel ws)

@@ -6,3 +6,4 @@ pub mod Parsing
 pub mod StmtReader
 pub mod UnitReader
 pub mod Units
+pub use Rattle.vlog_expr.specs.Marks

@@ -15,13 +15,13 @@ ghost use Rattle.vlog_expr.specs.Given.{Gives};
 
 use crate::instance::named_item_of;
 use crate::listed::{Listed, more_of, some_of};
-use crate::stmt::{MOST_NESTED, body_of};
+use crate::stmt::body_of;
 use std::alloc::Global;
 use vlog_expr::{Parsed, after, expect, expr_of, name_of, target_of};
 use vlog_lex::Token;
 use vlog_tree::{
-    Always, Assign, Event, Expr, Ident, Idents, Item, NamedValue, NamedValues, Range, Reg1,
-    RegTail, Terminal,
+    Always, Assign, Event, Expr, Ident, Idents, Item, MOST_NESTED, NamedValue, NamedValues, Range,
+    Reg1, RegTail, Terminal,
 };
 
 /// The bounds behind `[`, and `]`.

@@ -15,10 +15,6 @@ use vlog_expr::{Parsed, Unread, after, expect, expr_of, target_of};
 use vlog_lex::Token;
 use vlog_tree::{Arm, Arms, AssignOp, Body, Expr, Stmt, Stmts, Terminal, begin, case};
 
-/// The statements within one another that the stack has room for. The limits of a design text allow more, of which
-/// want of memory is answered.
-pub const MOST_NESTED: u32 = 2_048;
-
 /// The sign of a procedural assignment.
 fn assign_op(tokens: &[Token]) -> Parsed<'_, AssignOp>
     ensures { Gives (λ x. (x.0, all_marked x.1.now)) result (assign_op_at (all_marked tokens.now)) }

@@ -5,7 +5,7 @@ use std::process::Abort;
 use std::test::Fail;
 use vlog_expr::{Unread, parse_expression};
 use vlog_lex::lex;
-use vlog_tree::{Expr, Prim as Primary, Ref, Sel, expr_line};
+use vlog_tree::{Expr, Operand, Ref, Sel, expr_line};
 
 // The trees as words: an operator before its operands, `(` and `{` as they stand, a count before the `{` of
 // what it repeats, the first of two brackets as `<..>` and the last one as `[..]`.
@@ -149,21 +149,21 @@ fn show(alloc: Global, out: &mut Vec<u8>, e: &Expr) -> Result<(), AllocError> {
 }
 
 #[cycle(show)]
-fn show_prim(alloc: Global, out: &mut Vec<u8>, prim: &Primary) -> Result<(), AllocError> {
+fn show_prim(alloc: Global, out: &mut Vec<u8>, prim: &Operand) -> Result<(), AllocError> {
     match prim {
-        Primary::Number(number) => put(out, number.text.as_slice()),
-        Primary::Ref(name) => show_ref(alloc, out, name),
-        Primary::Paren { line: _, inner } => {
+        Operand::Number(number) => put(out, number.text.as_slice()),
+        Operand::Ref(name) => show_ref(alloc, out, name),
+        Operand::Paren { line: _, inner } => {
             put(out, b"(")?;
             show(alloc, out, inner)?;
             put(out, b")")
         }
-        Primary::Concat { line: _, parts } => {
+        Operand::Concat { line: _, parts } => {
             put(out, b"{")?;
             show_parts(alloc, out, parts.as_slice())?;
             put(out, b"}")
         }
-        Primary::Repeat {
+        Operand::Repeat {
             line: _,
             count,
             parts,
@@ -271,7 +271,7 @@ fn repeat_lines_of(alloc: Global) -> Result<(u32, u32, u32), Fail> {
     let Ok(Expr::Unary(unary)) = parse_expression(alloc, tokens.as_slice()) else {
         return Ok((0, 0, 0));
     };
-    let Primary::Repeat { line, count, parts } = &unary.prim else {
+    let Operand::Repeat { line, count, parts } = &unary.prim else {
         return Ok((0, 0, 0));
     };
     let part = parts.as_slice().first().map_or(0, |part| expr_line(part));
@@ -290,7 +290,7 @@ fn lines_of(alloc: Global) -> Result<(u32, u32), Fail> {
     let Ok(Expr::Unary(unary)) = parse_expression(alloc, tokens.as_slice()) else {
         return Ok((0, 0));
     };
-    let Primary::Paren { line, inner: _ } = unary.prim else {
+    let Operand::Paren { line, inner: _ } = unary.prim else {
         return Ok((0, 0));
     };
     Ok((unary.sign.map_or(0, |sign| sign.line), line))

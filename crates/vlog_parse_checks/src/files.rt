@@ -4,9 +4,10 @@ use std::alloc::{AllocError, Global};
 use std::test::Fail;
 use vlog_lex::{Token, lex};
 use vlog_parse::{ParseError, parse};
+use vlog_print::tokens_of;
 use vlog_tree::{
     Always, Arm, AssignOp, Body, Conn, Direction, Event, File, Instance, Item, Module, NetKind,
-    Parameter, Port, Reg1, RegTail, Stmt, tokens_of,
+    Parameter, Port, Reg1, RegTail, Stmt,
 };
 
 // A file as signs. Parameters: `#` and `p` for the word `parameter`, `[]` for a range, the name. Ports: `i`,

@@ -6,7 +6,7 @@ use vlog_lex::lex;
 use vlog_parse::parse;
 use vlog_tree::{
     Always, Arm, Assign, Body, Conn, Event, Expr, File, Ident, Instance, Item, Module, NamedValue,
-    Parameter, Port, Prim as Primary, Range, Ref, Reg1, RegTail, Sel, Stmt, Target, Unary,
+    Operand, Parameter, Port, Range, Ref, Reg1, RegTail, Sel, Stmt, Target, Unary,
 };
 
 // Each word stands on a line of its own. A tree keeps the lines of those behind a `$`.
@@ -71,19 +71,19 @@ fn in_unary(lines: &mut Vec<u32>, unary: &Unary) -> Result<(), AllocError> {
 }
 
 #[cycle(lines)]
-fn in_prim(lines: &mut Vec<u32>, prim: &Primary) -> Result<(), AllocError> {
+fn in_prim(lines: &mut Vec<u32>, prim: &Operand) -> Result<(), AllocError> {
     match prim {
-        Primary::Number(number) => keep(lines, number.line),
-        Primary::Ref(name) => in_ref(lines, name),
-        Primary::Paren { line, inner } => {
+        Operand::Number(number) => keep(lines, number.line),
+        Operand::Ref(name) => in_ref(lines, name),
+        Operand::Paren { line, inner } => {
             keep(lines, *line)?;
             in_expr(lines, inner)
         }
-        Primary::Concat { line, parts } => {
+        Operand::Concat { line, parts } => {
             keep(lines, *line)?;
             in_parts(lines, parts.as_slice())
         }
-        Primary::Repeat { line, count, parts } => {
+        Operand::Repeat { line, count, parts } => {
             keep(lines, *line)?;
             in_expr(lines, count)?;
             in_parts(lines, parts.as_slice())

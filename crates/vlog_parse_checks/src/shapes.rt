@@ -4,10 +4,11 @@ use std::alloc::Global;
 use std::process::Abort;
 use std::test::Fail;
 use vidi_bits::{Items, Memory, Name, copied};
+use vlog_print::good_shape;
 use vlog_tree::{
     Always, Arm, Assign, AssignOp, BinaryOp, Body, Event, Expr, File, Ident, Item, Module, Number,
-    NumberKind, Parameter, Port, Prim as Primary, Ref, Sel, Stmt, Target, Unary, begin, case,
-    concat, concat_target, good_shape,
+    NumberKind, Operand, Parameter, Port, Ref, Sel, Stmt, Target, Unary, begin, case, concat,
+    concat_target,
 };
 
 fn name(alloc: Global, text: &str) -> Result<Name, Memory> {
@@ -29,7 +30,7 @@ fn boxed(alloc: Global, e: Expr) -> Result<Box<Expr>, Memory> {
     Ok(Box::new(alloc, e)?)
 }
 
-fn operand(alloc: Global, prim: Primary) -> Result<Box<Expr>, Memory> {
+fn operand_alone(alloc: Global, prim: Operand) -> Result<Box<Expr>, Memory> {
     boxed(alloc, Expr::Unary(Unary { sign: None, prim }))
 }
 
@@ -44,14 +45,14 @@ fn net(alloc: Global, text: &str) -> Result<Ref, Memory> {
 
 fn net_expr(alloc: Global, text: &str) -> Result<Box<Expr>, Memory> {
     let net = net(alloc, text)?;
-    operand(alloc, Primary::Ref(net))
+    operand_alone(alloc, Operand::Ref(net))
 }
 
 fn number(alloc: Global, kind: NumberKind, text: &str) -> Result<Box<Expr>, Memory> {
     let text = name(alloc, text)?;
-    operand(
+    operand_alone(
         alloc,
-        Primary::Number(Number {
+        Operand::Number(Number {
             kind,
             text,
             line: 7,
@@ -296,7 +297,7 @@ fn brackets_are_good(alloc: Global, has_index: bool, has_sel: bool) -> Result<bo
         let bit = decimal(alloc, "2")?;
         word.sel = Some(Box::new(alloc, Sel::Index(Box::into_inner(bit)))?);
     }
-    let value = operand(alloc, Primary::Ref(word))?;
+    let value = operand_alone(alloc, Operand::Ref(word))?;
     is_good(alloc, value)
 }
 
@@ -465,7 +466,7 @@ fn lists_have_a_first_part(rt: HostRuntime) -> Result<(), Fail> {
         let file = file_of(alloc, empty_item(alloc, number))?;
         assert!(rt; !good_shape(&file), "{number}");
     }
-    let value = operand(alloc, concat(7, Items::new(alloc)))?;
+    let value = operand_alone(alloc, concat(7, Items::new(alloc)))?;
     assert!(rt; !is_good(alloc, value)?);
     assert!(rt; !empty_target_is_good(alloc)?);
     assert!(rt; !empty_case_is_good(alloc, false)?);

@@ -1,7 +1,6 @@
 -- Fronts of lists of parameters and of memories.
 use Rattle.std.proofs.Common.{◌≡◌, ◌<◌, ℕ, zero, suc, ◌+◌, List, [], ◌∷◌, take, length, Some, refl, ap, sym, ◌∙◌, arith}
 use Rattle.std.proofs.lemmas.List.Sums.{sum_by-cons}
-use Rattle.std.proofs.Math.Seq.{take-length}
 use Rattle.vlog_size.specs.Table.{Named, place_of}
 use Rattle.std.proofs.lemmas.List.Quantifiers.{position-Some}
 use Rattle.std.specs.Str.{bytes_eq}
@@ -12,9 +11,6 @@ use Rattle.vlog_scope.specs.Scope.{words_of, words_at}
 pub place_below : (xs : List (Named Param)) (name : List ℕ) (k : ℕ) → place_of xs name ≡ Some k → k < length xs
 place_below [] name k h = (cc)
 place_below (x ∷ xs) name k h = (position-Some (λ (y : Named Param). bytes_eq name y.name) (x ∷ xs) k x h).0
-
-pub take_whole : {A : Type 0} → (xs : List A) → take (length xs) xs ≡ xs
-take_whole xs = take-length xs
 
 sum_end : (p q s : ℕ) → p + (q + s) ≡ p + q + s
 sum_end p q s = omega arith

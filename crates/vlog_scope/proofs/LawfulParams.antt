@@ -4,6 +4,9 @@ use Rattle.std.proofs.Common.{None, Some, is_some}
 use Rattle.std.proofs.Common.{zero, suc, refl, ap, sym, ◌∙◌, subst}
 use Rattle.std.specs.List.{list_all, flat_map}
 use Rattle.std.specs.Str.{bytes_eq}
+use Rattle.std.proofs.lemmas.Bool.{and_from}
+use Rattle.vidi_bits.proofs.Bools.{left_of, right_of}
+use Rattle.vidi_bits.proofs.Lists.{nil_left, nil_right}
 use Rattle.vlog_tree.specs.Tree.{ExprOf, ConnOf, RangeOf, ParameterHeadOf, ParameterOf, NamedValueOf, ItemOf, WiresItem, DrivenWiresItem}
 use Rattle.vlog_tree.specs.Tree.{RegsItem, LocalparamsItem, AssignItem, AlwaysItem, InstanceItem}
 use Rattle.vlog_size.specs.declared.scope.Param.{Param}
@@ -11,7 +14,6 @@ use Rattle.vlog_size.specs.declared.scope.Scope.{Scope}
 use Rattle.vlog_size.specs.Table.{Named, value_of, added}
 use Rattle.vlog_size.specs.Names.{Readable, params_alone, are_lawful_params}
 use Rattle.vlog_size.specs.Size.{Sizes}
-use Rattle.vlog_size.proofs.Lists.{nil_left, nil_right, both_of, left_of, right_of}
 use Rattle.vlog_scope.specs.declared.fault.FaultKind.TheVariants.{Constant, Width}
 use Rattle.vlog_scope.specs.declared.extent.Extent.{Extent}
 use Rattle.vlog_scope.specs.Extents.{constant_sizes, extent_of, parameter_extent}
@@ -32,9 +34,9 @@ all_or p false xs ys h k = k
 
 all_end : {V : Type 0} (p : Named V → Bool) (xs : List (Named V)) (r : Named V) → list_all p xs ≡ true → p r ≡ true
     → list_all p (xs ++ r ∷ []) ≡ true
-all_end p [] r h k = both_of (p r) true k refl
+all_end p [] r h k = and_from (p r) true k refl
 all_end p (x ∷ xs) r h k =
-    both_of (p x) (list_all p (xs ++ r ∷ [])) (left_of (p x) (list_all p xs) h) (all_end p xs r (right_of (p x) (list_all p xs) h) k)
+    and_from (p x) (list_all p (xs ++ r ∷ [])) (left_of (p x) (list_all p xs) h) (all_end p xs r (right_of (p x) (list_all p xs) h) k)
 
 pub all_added : {V : Type 0} (p : Named V → Bool) (xs : List (Named V)) (n : List ℕ) (v : V) → list_all p xs ≡ true
     → p (record { name = n; value = v }) ≡ true → list_all p (added xs n v) ≡ true
@@ -46,7 +48,7 @@ pub all_front : {V : Type 0} (p : Named V → Bool) (n : ℕ) (xs : List (Named 
 all_front p zero xs h = refl
 all_front p (suc n) [] h = refl
 all_front p (suc n) (x ∷ xs) h =
-    both_of (p x) (list_all p (take n xs)) (left_of (p x) (list_all p xs) h) (all_front p n xs (right_of (p x) (list_all p xs) h))
+    and_from (p x) (list_all p (take n xs)) (left_of (p x) (list_all p xs) h) (all_front p n xs (right_of (p x) (list_all p xs) h))
 
 pub lawful_added : (xs : List (Named Param)) (n : List ℕ) (v : Param) → are_lawful_params xs ≡ true → is_good v ≡ true
     → are_lawful_params (added xs n v) ≡ true

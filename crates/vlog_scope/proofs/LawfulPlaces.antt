@@ -1,6 +1,9 @@
 -- Where nothing is found, each net and each memory's word has 1 to 128 bits.
 use Rattle.std.proofs.Common.{◌≡◌, ℕ, Bool, true, ◌&&◌, List, [], ◌∷◌, ◌++◌, take, length, Option, None, Some, refl, ap, sym, ◌∙◌}
 use Rattle.std.specs.List.{list_all, flat_map}
+use Rattle.std.proofs.lemmas.Bool.{and_from}
+use Rattle.vidi_bits.proofs.Bools.{left_of}
+use Rattle.vidi_bits.proofs.Lists.{nil_left, nil_right}
 use Rattle.vlog_tree.specs.Tree.{ConnOf, IdentOf, RangeOf, PortHeadOf, PortOf, NamedValueOf, RegTailOf, InitTail, MemoryTail, Reg1Of}
 use Rattle.vlog_tree.specs.Tree.{ItemOf, WiresItem, DrivenWiresItem, RegsItem, LocalparamsItem, AssignItem, AlwaysItem}
 use Rattle.vlog_tree.specs.Tree.{InstanceItem, ModuleOf}
@@ -11,7 +14,6 @@ use Rattle.vlog_size.specs.declared.scope.Scope.{Scope}
 use Rattle.vlog_size.specs.Literal.{is_lawful}
 use Rattle.vlog_size.specs.Table.{Named, added}
 use Rattle.vlog_size.specs.Names.{Readable, params_alone, are_lawful_params, is_lawful_scope}
-use Rattle.vlog_size.proofs.Lists.{nil_left, nil_right, both_of, left_of}
 use Rattle.vlog_scope.specs.declared.fault.FaultKind.TheVariants.{Constant, Width}
 use Rattle.vlog_scope.specs.declared.extent.Extent.{Extent}
 use Rattle.vlog_scope.specs.declared.extent.Extent.TheVariants.{NoRange}
@@ -261,8 +263,8 @@ lawful_scope r conns m l oc ow h w =
     let same : with_items (with_ports NoRange (state s.params k [] []) m.ports) m.items
     ≡ with_items (with_ports NoRange bare m.ports) m.items =
     ap (λ (ps : List (Named Param)). with_items (with_ports NoRange (params_scope k ps) m.ports) m.items) kept in
-    both_of (are_lawful_params s.params) (are_nets s.nets && are_memories s.memories) ls
-    (both_of (are_nets s.nets) (are_memories s.memories) (sym (ap (λ (t : Scope). are_nets t.nets) same) ∙ placed.1)
+    and_from (are_lawful_params s.params) (are_nets s.nets && are_memories s.memories) ls
+    (and_from (are_nets s.nets) (are_memories s.memories) (sym (ap (λ (t : Scope). are_nets t.nets) same) ∙ placed.1)
     (sym (ap (λ (t : Scope). are_memories t.memories) same) ∙ placed.2))
 
 pub lawful_declared : (s : Scope) (k : ℕ) → is_lawful_scope s ≡ true → are_lawful_params (readable_at s k).constants ≡ true

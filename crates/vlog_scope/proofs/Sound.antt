@@ -1,8 +1,12 @@
 -- Of constant positions in which nothing is found: the parameters that they make, and what ranges make of names.
 use Rattle.std.proofs.Common.{◌≡◌, ◌<◌, ◌^◌, ◌+◌, ℕ, Bool, true, false, ◌&&◌, not, nat_lt, nat_le, min, if◌then◌else◌, []}
 use Rattle.std.proofs.Common.{Option, None, Some, is_some, option_map, refl, ap, sym, ◌∙◌, arith}
+use Rattle.std.proofs.lemmas.Bool.{not-false, and_from}
+use Rattle.vidi_bits.proofs.Bools.{left_of}
+use Rattle.vidi_bits.proofs.FindingLaws.{told_none}
+use Rattle.vidi_bits.proofs.Lists.{nil_left, nil_right}
 use Rattle.vidi_bits.specs.Findings.{told_if}
-use Rattle.vlog_operators.specs.Number.{IsWidth}
+use Rattle.vidi_bits.specs.Number.{IsWidth}
 use Rattle.vlog_tree.specs.Tree.{ExprOf, IdentOf, RangeOf}
 use Rattle.vlog_size.specs.declared.error.SizeError.TheVariants as error
 use Rattle.vlog_size.specs.declared.scope.Const.{Const}
@@ -12,7 +16,6 @@ use Rattle.vlog_size.specs.Literal.{is_lawful}
 use Rattle.vlog_size.specs.Names.{Readable, fixed, is_lawful_const, are_lawful_params}
 use Rattle.vlog_size.specs.Size.{Sizes, sizes_of, number, or_zero, reaches, too_large, constant_at, constant_of, assigned_number, faults}
 use Rattle.vlog_size.proofs.Answered.{lawful_constant, lawful_assigned}
-use Rattle.vlog_size.proofs.Lists.{nil_left, nil_right, untold, both_of, left_of}
 use Rattle.vlog_scope.specs.declared.fault.FaultKind.TheVariants.{Constant, Width}
 use Rattle.vlog_scope.specs.declared.extent.Extent.{Extent}
 use Rattle.vlog_scope.specs.declared.extent.Extent.TheVariants.{NoRange, Bits, AtFault}
@@ -64,7 +67,7 @@ below n w h = grind arith
 
 good_number : (w : ℕ) (o : Option ℕ) (n : ℕ) → o ≡ Some n → is_lawful w ≡ true → n < 2 ^ w → is_good (ranged_param w o) ≡ true
 good_number w o n h l b =
-    ap (λ p. is_good (ranged_param w p)) h ∙ both_of (is_lawful w) (nat_lt n (2 ^ w)) l (below n w b)
+    ap (λ p. is_good (ranged_param w p)) h ∙ and_from (is_lawful w) (nat_lt n (2 ^ w)) l (below n w b)
 
 a_width : (w : ℕ) → is_lawful w ≡ true → IsWidth w
 a_width w l = (grind arith, grind arith)
@@ -115,9 +118,9 @@ counted_known : (a b : Sizes) (m n : ℕ) → number a ≡ Some m → number b �
     → told_if (reaches 1 (number a)) (error.Const a.line) ≡ [] → too_large b ≡ []
     → counted (number a) (number b) ≡ Some (n + 1)
 counted_known a b m n h k l zero small =
-    let none : nat_le 1 m ≡ false = sym (ap (reaches 1) h) ∙ untold (reaches 1 (number a)) _ zero in
+    let none : nat_le 1 m ≡ false = sym (ap (reaches 1) h) ∙ told_none (reaches 1 (number a)) _ zero in
     let few : (not b.plain && nat_le 2147483648 n) ≡ false =
-    sym (ap (λ o. not b.plain && reaches 2147483648 o) k) ∙ untold (not b.plain && reaches 2147483648 (number b)) _ small in
+    sym (ap (λ o. not b.plain && reaches 2147483648 o) k) ∙ told_none (not b.plain && reaches 2147483648 (number b)) _ small in
     ap (λ o. counted o (number b)) h
     ∙ (ap (λ o. counted (Some m) o) k ∙ counted_some m n (a_zero m none) (small_last b.plain b.width n l few))
 
@@ -143,13 +146,9 @@ pub extent_known : (r : Readable) (range : Option (RangeOf ℕ)) → are_lawful_
 extent_known r None l h k = refl
 extent_known r (Some x) l h k = let v = vector_known r x l h k in ap (λ o. is_known (bits_of o)) v.1
 
-not_false : (b : Bool) → not b ≡ false → b ≡ true
-not_false true h = refl
-not_false false h = (cc)
-
 pub named : (x : Extent) (id : IdentOf ℕ) → is_known x ≡ true → name_faults Width x id ≡ [] → is_named x ≡ true
 named NoRange id k h = refl
-named (Bits w) id k h = not_false (is_lawful w) (untold (not (is_lawful w)) (error.Width id.line w) h)
+named (Bits w) id k h = not-false (is_lawful w) (told_none (not (is_lawful w)) (error.Width id.line w) h)
 named AtFault id k h = (cc)
 
 pub lawful_net : (x : Extent) → is_named x ≡ true → is_lawful (net_width x) ≡ true

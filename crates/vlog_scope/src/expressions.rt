@@ -1,8 +1,8 @@
 //! What is at fault in one expression, target, range or declared name.
 
-ghost use Rattle.std.specs.Prelude.{◌≡◌, List, map, option_map};
+ghost use Rattle.std.specs.Prelude.{◌≡◌, List, map, option_map, Some};
 ghost use Rattle.std.specs.List.{flat_map};
-ghost use Rattle.vidi_bits.specs.Findings.{Tried, first};
+ghost use Rattle.vidi_bits.specs.Findings.{first, Judged};
 ghost use Rattle.vlog_tree.specs.Plain.{plain_ident, plain_expr, plain_target, plain_range, plain_assign};
 ghost use Rattle.vlog_size.specs.declared.error.SizeError.{SizeError};
 ghost use Rattle.vlog_size.specs.Names.{readable_in};
@@ -17,7 +17,7 @@ use vlog_tree::{Assign, Expr, Ident, Range, Target};
 
 /// The finding as an error.
 fn tell(fault: Option<SizeError>) -> Result<(), SizeError>
-    ensures { (all : List SizeError) → fault ≡ first all → Tried result all }
+    ensures { (all : List SizeError) → fault ≡ first all → Judged Some result all }
 {
     match fault {
         Some(e) => Err(e),
@@ -27,7 +27,7 @@ fn tell(fault: Option<SizeError>) -> Result<(), SizeError>
 
 /// The fault of this kind in what is said of an expression or a target.
 fn told(kind: FaultKind, facts: &Facts) -> Result<(), SizeError>
-    ensures { (E : Sizes) → Shows facts.now E → Tried result (faults.found kind E) }
+    ensures { (E : Sizes) → Shows facts.now E → Judged Some result (faults.found kind E) }
 {
     match kind {
         FaultKind::Constant => tell(facts.const_fault),
@@ -37,7 +37,7 @@ fn told(kind: FaultKind, facts: &Facts) -> Result<(), SizeError>
 
 /// The fault of an expression.
 pub fn expr_fault(kind: FaultKind, view: &View<'_>, e: &Expr) -> Result<(), SizeError>
-    ensures { Tried result (faults.expr_faults kind (readable_in view.now) (plain_expr e.now)) }
+    ensures { Judged Some result (faults.expr_faults kind (readable_in view.now) (plain_expr e.now)) }
 {
     let facts = facts_of(view, e);
     told(kind, &facts)
@@ -45,7 +45,7 @@ pub fn expr_fault(kind: FaultKind, view: &View<'_>, e: &Expr) -> Result<(), Size
 
 /// The fault of each expression.
 pub fn exprs_fault(kind: FaultKind, view: &View<'_>, list: &[Expr]) -> Result<(), SizeError>
-    ensures { Tried result (flat_map (faults.expr_faults kind (readable_in view.now)) (map plain_expr list.now)) }
+    ensures { Judged Some result (flat_map (faults.expr_faults kind (readable_in view.now)) (map plain_expr list.now)) }
 {
     for e in list {
         expr_fault(kind, view, e)?;
@@ -55,14 +55,14 @@ pub fn exprs_fault(kind: FaultKind, view: &View<'_>, list: &[Expr]) -> Result<()
 
 /// The fault of an expression in a constant position.
 pub fn constant_fault(kind: FaultKind, view: &View<'_>, e: &Expr) -> Result<(), SizeError>
-    ensures { Tried result (faults.constant_faults kind (readable_in view.now) (plain_expr e.now)) }
+    ensures { Judged Some result (faults.constant_faults kind (readable_in view.now) (plain_expr e.now)) }
 {
     expr_fault(kind, &fixed(view), e)
 }
 
 /// The fault of an initialiser or an override, where there is one.
 pub fn fixed_fault(kind: FaultKind, view: &View<'_>, e: &Option<Expr>) -> Result<(), SizeError>
-    ensures { Tried result (faults.fixed_faults kind (readable_in view.now) (option_map plain_expr e.now)) }
+    ensures { Judged Some result (faults.fixed_faults kind (readable_in view.now) (option_map plain_expr e.now)) }
 {
     match e {
         None => Ok(()),
@@ -72,7 +72,7 @@ pub fn fixed_fault(kind: FaultKind, view: &View<'_>, e: &Option<Expr>) -> Result
 
 /// The fault of the connection of a port, where there is one.
 pub fn joined_fault(kind: FaultKind, view: &View<'_>, e: &Option<Expr>) -> Result<(), SizeError>
-    ensures { Tried result (faults.joined_faults kind (readable_in view.now) (option_map plain_expr e.now)) }
+    ensures { Judged Some result (faults.joined_faults kind (readable_in view.now) (option_map plain_expr e.now)) }
 {
     match e {
         None => Ok(()),
@@ -87,7 +87,7 @@ pub fn assign_fault(
     target: &Target,
     value: &Expr,
 ) -> Result<(), SizeError>
-    ensures { Tried result (faults.assign_faults kind (readable_in view.now) (plain_target target.now) (plain_expr value.now)) }
+    ensures { Judged Some result (faults.assign_faults kind (readable_in view.now) (plain_target target.now) (plain_expr value.now)) }
 {
     let facts = target_facts(view, target);
     told(kind, &facts)?;
@@ -96,7 +96,7 @@ pub fn assign_fault(
 
 /// The bound, where it is sized and above 2,147,483,647.
 fn large_fault(view: &View<'_>, e: &Expr) -> Result<(), SizeError>
-    ensures { Tried result (too_large (sizes_of (readable_in view.now) (plain_expr e.now))) }
+    ensures { Judged Some result (too_large (sizes_of (readable_in view.now) (plain_expr e.now))) }
 {
     let bound = numbered(view, e);
     tell(too_large(&bound))
@@ -104,7 +104,7 @@ fn large_fault(view: &View<'_>, e: &Expr) -> Result<(), SizeError>
 
 /// The fault of a bound.
 fn bound_fault(kind: FaultKind, view: &View<'_>, e: &Expr) -> Result<(), SizeError>
-    ensures { Tried result (faults.bound_faults kind (sizes_of (readable_in view.now) (plain_expr e.now))) }
+    ensures { Judged Some result (faults.bound_faults kind (sizes_of (readable_in view.now) (plain_expr e.now))) }
 {
     match kind {
         FaultKind::Constant => {
@@ -117,7 +117,7 @@ fn bound_fault(kind: FaultKind, view: &View<'_>, e: &Expr) -> Result<(), SizeErr
 
 /// A bound that isn't 0.
 fn not_zero(kind: FaultKind, view: &View<'_>, e: &Expr) -> Result<(), SizeError>
-    ensures { Tried result (faults.not_zero kind (sizes_of (readable_in view.now) (plain_expr e.now))) }
+    ensures { Judged Some result (faults.not_zero kind (sizes_of (readable_in view.now) (plain_expr e.now))) }
 {
     let bound = numbered(view, e);
     match (kind, bound.number) {
@@ -130,7 +130,7 @@ fn not_zero(kind: FaultKind, view: &View<'_>, e: &Expr) -> Result<(), SizeError>
 
 /// The fault of a bound that has to be 0.
 fn zero_fault(kind: FaultKind, view: &View<'_>, e: &Expr) -> Result<(), SizeError>
-    ensures { Tried result (faults.zero_faults kind (sizes_of (readable_in view.now) (plain_expr e.now))) }
+    ensures { Judged Some result (faults.zero_faults kind (sizes_of (readable_in view.now) (plain_expr e.now))) }
 {
     not_zero(kind, view, e)?;
     bound_fault(kind, view, e)
@@ -138,7 +138,7 @@ fn zero_fault(kind: FaultKind, view: &View<'_>, e: &Expr) -> Result<(), SizeErro
 
 /// The fault of a vector's range.
 fn vector_fault(kind: FaultKind, view: &View<'_>, range: &Range) -> Result<(), SizeError>
-    ensures { Tried result (faults.vector_faults kind (readable_in view.now) (plain_range range.now)) }
+    ensures { Judged Some result (faults.vector_faults kind (readable_in view.now) (plain_range range.now)) }
 {
     let constants = fixed(view);
     bound_fault(kind, &constants, &range.first)?;
@@ -147,7 +147,7 @@ fn vector_fault(kind: FaultKind, view: &View<'_>, range: &Range) -> Result<(), S
 
 /// The fault of the range of a memory's words.
 pub fn memory_fault(kind: FaultKind, view: &View<'_>, range: &Range) -> Result<(), SizeError>
-    ensures { Tried result (faults.memory_faults kind (readable_in view.now) (plain_range range.now)) }
+    ensures { Judged Some result (faults.memory_faults kind (readable_in view.now) (plain_range range.now)) }
 {
     let constants = fixed(view);
     zero_fault(kind, &constants, &range.first)?;
@@ -156,7 +156,7 @@ pub fn memory_fault(kind: FaultKind, view: &View<'_>, range: &Range) -> Result<(
 
 /// The fault of the range of a declaration, where there is one.
 pub fn range_fault(kind: FaultKind, view: &View<'_>, range: &Option<Range>) -> Result<(), SizeError>
-    ensures { Tried result (faults.range_faults kind (readable_in view.now) (option_map plain_range range.now)) }
+    ensures { Judged Some result (faults.range_faults kind (readable_in view.now) (option_map plain_range range.now)) }
 {
     match range {
         None => Ok(()),
@@ -166,7 +166,7 @@ pub fn range_fault(kind: FaultKind, view: &View<'_>, range: &Option<Range>) -> R
 
 /// A range of more than 128 bits, at the name behind it.
 pub fn name_fault(kind: FaultKind, extent: Extent, id: &Ident) -> Result<(), SizeError>
-    ensures { Tried result (faults.name_faults kind extent (plain_ident id.now)) }
+    ensures { Judged Some result (faults.name_faults kind extent (plain_ident id.now)) }
 {
     match (kind, extent) {
         (FaultKind::Width, Extent::Bits(w)) if w == 0 || 128 < w => Err(SizeError::Width {
@@ -179,7 +179,7 @@ pub fn name_fault(kind: FaultKind, extent: Extent, id: &Ident) -> Result<(), Siz
 
 /// The fault of each name behind a range.
 pub fn names_fault(kind: FaultKind, extent: Extent, ids: &[Ident]) -> Result<(), SizeError>
-    ensures { Tried result (flat_map (faults.name_faults kind extent) (map plain_ident ids.now)) }
+    ensures { Judged Some result (flat_map (faults.name_faults kind extent) (map plain_ident ids.now)) }
 {
     for id in ids {
         name_fault(kind, extent, id)?;

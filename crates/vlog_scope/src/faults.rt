@@ -1,7 +1,7 @@
 //! The first fault of a module instance.
 
-ghost use Rattle.std.specs.Prelude.{◌≡◌, map, option_map};
-ghost use Rattle.vidi_bits.specs.Findings.{Tried};
+ghost use Rattle.std.specs.Prelude.{◌≡◌, map, option_map, Some};
+ghost use Rattle.vidi_bits.specs.Findings.{Judged};
 ghost use Rattle.vlog_tree.specs.Plain.{plain_parameter_head, plain_parameter, plain_head, plain_port, plain_module};
 ghost use Rattle.vlog_size.specs.Names.{readable_in};
 ghost use Rattle.vlog_scope.specs.Faults as faults;
@@ -21,7 +21,7 @@ fn parameter_head_fault(
     view: &View<'_>,
     head: &Option<ParameterHead>,
 ) -> Result<(), SizeError>
-    ensures { Tried result (faults.parameter_head_faults kind (readable_in view.now) (option_map plain_parameter_head head.now)) }
+    ensures { Judged Some result (faults.parameter_head_faults kind (readable_in view.now) (option_map plain_parameter_head head.now)) }
 {
     match head {
         None => Ok(()),
@@ -36,7 +36,7 @@ fn parameter_fault(
     extent: Extent,
     p: &Parameter,
 ) -> Result<(), SizeError>
-    ensures { Tried result (faults.parameter_faults kind (readable_in view.now) extent (plain_parameter p.now)) }
+    ensures { Judged Some result (faults.parameter_faults kind (readable_in view.now) extent (plain_parameter p.now)) }
 {
     parameter_head_fault(kind, view, &p.head)?;
     name_fault(kind, extent, &p.id)?;
@@ -45,7 +45,7 @@ fn parameter_fault(
 
 /// The fault of the header's parameters.
 fn parameters_fault(kind: FaultKind, scope: &Scope, list: &[Parameter]) -> Result<(), SizeError>
-    ensures { Tried result (faults.parameters_faults kind scope.now 0 NoRange (map plain_parameter list.now)) }
+    ensures { Judged Some result (faults.parameters_faults kind scope.now 0 NoRange (map plain_parameter list.now)) }
 {
     let mut count = 0;
     let mut extent = Extent::NoRange;
@@ -64,7 +64,7 @@ fn port_head_fault(
     view: &View<'_>,
     head: &Option<PortHead>,
 ) -> Result<(), SizeError>
-    ensures { Tried result (faults.port_head_faults kind (readable_in view.now) (option_map plain_head head.now)) }
+    ensures { Judged Some result (faults.port_head_faults kind (readable_in view.now) (option_map plain_head head.now)) }
 {
     match head {
         None => Ok(()),
@@ -79,7 +79,7 @@ fn port_fault(
     extent: Extent,
     port: &Port,
 ) -> Result<(), SizeError>
-    ensures { Tried result (faults.port_faults kind (readable_in view.now) extent (plain_port port.now)) }
+    ensures { Judged Some result (faults.port_faults kind (readable_in view.now) extent (plain_port port.now)) }
 {
     port_head_fault(kind, view, &port.head)?;
     name_fault(kind, extent, &port.id)?;
@@ -88,7 +88,7 @@ fn port_fault(
 
 /// The fault of the ports.
 fn ports_fault(kind: FaultKind, view: &View<'_>, ports: &[Port]) -> Result<(), SizeError>
-    ensures { Tried result (faults.ports_faults kind (readable_in view.now) NoRange (map plain_port ports.now)) }
+    ensures { Judged Some result (faults.ports_faults kind (readable_in view.now) NoRange (map plain_port ports.now)) }
 {
     let mut extent = Extent::NoRange;
     for port in ports {
@@ -101,7 +101,7 @@ fn ports_fault(kind: FaultKind, view: &View<'_>, ports: &[Port]) -> Result<(), S
 /// The first fault of this kind.
 #[tactic(auto, unfolding(crate::specs::Faults::scope_faults))]
 fn scope_fault(kind: FaultKind, module: &Module, scope: &Scope) -> Result<(), SizeError>
-    ensures { Tried result (faults.scope_faults kind (plain_module «module».now) scope.now) }
+    ensures { Judged Some result (faults.scope_faults kind (plain_module «module».now) scope.now) }
 {
     parameters_fault(kind, scope, module.parameters.as_slice())?;
     ports_fault(
@@ -118,7 +118,7 @@ fn scope_fault(kind: FaultKind, module: &Module, scope: &Scope) -> Result<(), Si
 ///
 /// The first `Const` in text order.
 pub fn const_fault(module: &Module, scope: &Scope) -> Result<(), SizeError>
-    ensures { Tried result (faults.const_faults (plain_module «module».now) scope.now) }
+    ensures { Judged Some result (faults.const_faults (plain_module «module».now) scope.now) }
 {
     scope_fault(FaultKind::Constant, module, scope)
 }
@@ -129,7 +129,7 @@ pub fn const_fault(module: &Module, scope: &Scope) -> Result<(), SizeError>
 ///
 /// The first `Width` in text order.
 pub fn width_fault(module: &Module, scope: &Scope) -> Result<(), SizeError>
-    ensures { Tried result (faults.width_faults (plain_module «module».now) scope.now) }
+    ensures { Judged Some result (faults.width_faults (plain_module «module».now) scope.now) }
 {
     scope_fault(FaultKind::Width, module, scope)
 }

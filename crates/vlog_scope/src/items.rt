@@ -1,8 +1,8 @@
 //! What is at fault in the items of a module instance.
 
-ghost use Rattle.std.specs.Prelude.{◌≡◌, map, option_map};
+ghost use Rattle.std.specs.Prelude.{◌≡◌, map, option_map, Some};
 ghost use Rattle.std.specs.List.{flat_map};
-ghost use Rattle.vidi_bits.specs.Findings.{Tried};
+ghost use Rattle.vidi_bits.specs.Findings.{Judged};
 ghost use Rattle.vlog_tree.specs.Plain.{plain_expr, plain_range, plain_tail, plain_named, plain_reg, plain_assign};
 ghost use Rattle.vlog_tree.specs.Plain.{plain_conn, plain_instance};
 ghost use Rattle.vlog_tree.specs.Plain.{plain_item};
@@ -27,7 +27,7 @@ fn driven_fault(
     extent: Extent,
     wires: &[NamedValue],
 ) -> Result<(), SizeError>
-    ensures { Tried result (flat_map (faults.driven_faults kind (readable_in view.now) extent) (map plain_named wires.now)) }
+    ensures { Judged Some result (flat_map (faults.driven_faults kind (readable_in view.now) extent) (map plain_named wires.now)) }
 {
     for wire in wires {
         name_fault(kind, extent, &wire.id)?;
@@ -38,7 +38,7 @@ fn driven_fault(
 
 /// The fault of what stands behind a register's name.
 fn tail_fault(kind: FaultKind, view: &View<'_>, tail: &Option<RegTail>) -> Result<(), SizeError>
-    ensures { Tried result (faults.tail_faults kind (readable_in view.now) (option_map plain_tail tail.now)) }
+    ensures { Judged Some result (faults.tail_faults kind (readable_in view.now) (option_map plain_tail tail.now)) }
 {
     match tail {
         None => Ok(()),
@@ -54,7 +54,7 @@ fn regs_fault(
     extent: Extent,
     regs: &[Reg1],
 ) -> Result<(), SizeError>
-    ensures { Tried result (flat_map (faults.reg_faults kind (readable_in view.now) extent) (map plain_reg regs.now)) }
+    ensures { Judged Some result (flat_map (faults.reg_faults kind (readable_in view.now) extent) (map plain_reg regs.now)) }
 {
     for reg in regs {
         name_fault(kind, extent, &reg.id)?;
@@ -71,7 +71,7 @@ fn locals_fault(
     extent: Extent,
     list: &[NamedValue],
 ) -> Result<(), SizeError>
-    ensures { Tried result (faults.local_faults kind scope.now declared extent (map plain_named list.now)) }
+    ensures { Judged Some result (faults.local_faults kind scope.now declared extent (map plain_named list.now)) }
 {
     let mut count = declared;
     for v in list {
@@ -84,7 +84,7 @@ fn locals_fault(
 
 /// The fault of each assignment.
 fn assigns_fault(kind: FaultKind, view: &View<'_>, assigns: &[Assign]) -> Result<(), SizeError>
-    ensures { Tried result (flat_map (faults.assigned_faults kind (readable_in view.now)) (map plain_assign assigns.now)) }
+    ensures { Judged Some result (flat_map (faults.assigned_faults kind (readable_in view.now)) (map plain_assign assigns.now)) }
 {
     for assign in assigns {
         assign_fault(kind, view, &assign.target, &assign.value)?;
@@ -94,7 +94,7 @@ fn assigns_fault(kind: FaultKind, view: &View<'_>, assigns: &[Assign]) -> Result
 
 /// The fault of each connection of a parameter.
 fn overrides_fault(kind: FaultKind, view: &View<'_>, conns: &[Conn]) -> Result<(), SizeError>
-    ensures { Tried result (flat_map (faults.override_faults kind (readable_in view.now)) (map plain_conn conns.now)) }
+    ensures { Judged Some result (flat_map (faults.override_faults kind (readable_in view.now)) (map plain_conn conns.now)) }
 {
     for conn in conns {
         fixed_fault(kind, view, &conn.value)?;
@@ -104,7 +104,7 @@ fn overrides_fault(kind: FaultKind, view: &View<'_>, conns: &[Conn]) -> Result<(
 
 /// The fault of each connection of a port.
 fn conns_fault(kind: FaultKind, view: &View<'_>, conns: &[Conn]) -> Result<(), SizeError>
-    ensures { Tried result (flat_map (faults.conn_faults kind (readable_in view.now)) (map plain_conn conns.now)) }
+    ensures { Judged Some result (flat_map (faults.conn_faults kind (readable_in view.now)) (map plain_conn conns.now)) }
 {
     for conn in conns {
         joined_fault(kind, view, &conn.value)?;
@@ -114,7 +114,7 @@ fn conns_fault(kind: FaultKind, view: &View<'_>, conns: &[Conn]) -> Result<(), S
 
 /// The fault of an instance's connections.
 fn instance_fault(kind: FaultKind, view: &View<'_>, instance: &Instance) -> Result<(), SizeError>
-    ensures { Tried result (faults.instance_faults kind (readable_in view.now) (plain_instance instance.now)) }
+    ensures { Judged Some result (faults.instance_faults kind (readable_in view.now) (plain_instance instance.now)) }
 {
     overrides_fault(kind, view, instance.parameters.as_slice())?;
     conns_fault(kind, view, instance.ports.as_slice())
@@ -123,7 +123,7 @@ fn instance_fault(kind: FaultKind, view: &View<'_>, instance: &Instance) -> Resu
 /// The fault of an item, before which the names of the first `declared` parameters stand.
 #[tactic(auto, unfolding(crate::specs::Faults::item_faults))]
 fn item_fault(kind: FaultKind, scope: &Scope, declared: usize, item: &Item) -> Result<(), SizeError>
-    ensures { Tried result (faults.item_faults kind scope.now declared (plain_item item.now)) }
+    ensures { Judged Some result (faults.item_faults kind scope.now declared (plain_item item.now)) }
 {
     let view = view_at(scope, declared);
     match item {
@@ -162,7 +162,7 @@ pub fn items_fault(
     declared: usize,
     items: &[Item],
 ) -> Result<(), SizeError>
-    ensures { Tried result (faults.items_faults kind scope.now declared (map plain_item items.now)) }
+    ensures { Judged Some result (faults.items_faults kind scope.now declared (map plain_item items.now)) }
 {
     let mut count = declared;
     for item in items {

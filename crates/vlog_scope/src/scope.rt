@@ -19,7 +19,7 @@ use vlog_size::{
 use vlog_tree::{Conn, Ident, Item, Module, NamedValue, Port, Range, Reg1, RegTail};
 
 /// What may be read where the names of the first `declared` parameters of the scope stand before.
-#[tactic(auto, using(crate::proofs::Fronts::take_whole))]
+#[tactic(auto, using(vidi_bits::proofs::Lists::take_whole))]
 pub fn view_at(scope: &Scope, declared: usize) -> View<'_>
     ensures { readable_in result ≡ scopes.readable_at scope.now declared }
 {

@@ -1,7 +1,7 @@
 //! What is at fault in statements.
 
-ghost use Rattle.std.specs.Prelude.{◌≡◌};
-ghost use Rattle.vidi_bits.specs.Findings.{Tried};
+ghost use Rattle.std.specs.Prelude.{◌≡◌, Some};
+ghost use Rattle.vidi_bits.specs.Findings.{Judged};
 ghost use Rattle.vlog_tree.specs.Plain.{plain_stmt, plain_stmts, plain_body, plain_arm, plain_arms};
 ghost use Rattle.vlog_size.specs.Names.{readable_in};
 ghost use Rattle.vlog_scope.specs.Faults as faults;
@@ -13,7 +13,7 @@ use vlog_tree::{Arm, Body, Stmt, see_begin, see_case};
 
 #[cycle(statements)]
 fn stmt_fault(kind: FaultKind, view: &View<'_>, stmt: &Stmt) -> Result<(), SizeError>
-    ensures { Tried result (faults.stmt_faults kind (readable_in view.now) (plain_stmt stmt.now)) }
+    ensures { Judged Some result (faults.stmt_faults kind (readable_in view.now) (plain_stmt stmt.now)) }
 {
     match stmt {
         Stmt::Begin(stmts) => {
@@ -43,7 +43,7 @@ fn stmt_fault(kind: FaultKind, view: &View<'_>, stmt: &Stmt) -> Result<(), SizeE
 
 #[cycle(statements)]
 fn stmts_fault(kind: FaultKind, view: &View<'_>, stmts: &[Stmt]) -> Result<(), SizeError>
-    ensures { Tried result (faults.stmts_faults kind (readable_in view.now) (plain_stmts stmts.now)) }
+    ensures { Judged Some result (faults.stmts_faults kind (readable_in view.now) (plain_stmts stmts.now)) }
 {
     for stmt in stmts {
         stmt_fault(kind, view, stmt)?;
@@ -54,7 +54,7 @@ fn stmts_fault(kind: FaultKind, view: &View<'_>, stmts: &[Stmt]) -> Result<(), S
 /// The fault of a statement, where there is one.
 #[cycle(statements)]
 pub fn body_fault(kind: FaultKind, view: &View<'_>, body: &Body) -> Result<(), SizeError>
-    ensures { Tried result (faults.body_faults kind (readable_in view.now) (plain_body body.now)) }
+    ensures { Judged Some result (faults.body_faults kind (readable_in view.now) (plain_body body.now)) }
 {
     match body {
         Body::Stmt(stmt) => stmt_fault(kind, view, stmt),
@@ -64,7 +64,7 @@ pub fn body_fault(kind: FaultKind, view: &View<'_>, body: &Body) -> Result<(), S
 
 #[cycle(statements)]
 fn arm_fault(kind: FaultKind, view: &View<'_>, arm: &Arm) -> Result<(), SizeError>
-    ensures { Tried result (faults.arm_faults kind (readable_in view.now) (plain_arm arm.now)) }
+    ensures { Judged Some result (faults.arm_faults kind (readable_in view.now) (plain_arm arm.now)) }
 {
     match arm {
         Arm::Labels { labels, body } => {
@@ -77,7 +77,7 @@ fn arm_fault(kind: FaultKind, view: &View<'_>, arm: &Arm) -> Result<(), SizeErro
 
 #[cycle(statements)]
 fn arms_fault(kind: FaultKind, view: &View<'_>, arms: &[Arm]) -> Result<(), SizeError>
-    ensures { Tried result (faults.arms_faults kind (readable_in view.now) (plain_arms arms.now)) }
+    ensures { Judged Some result (faults.arms_faults kind (readable_in view.now) (plain_arms arms.now)) }
 {
     for arm in arms {
         arm_fault(kind, view, arm)?;

@@ -1,5 +1,9 @@
 -- Where names are checked, an expression without a fault has a lawful width, and a number where it stands in a constant position.
 use Rattle.std.proofs.Common.{◌≡◌, ℕ, Bool, true, false, ◌&&◌, ◌||◌, not, Option, None, Some, List, [], ◌∷◌, ◌++◌, refl}
+use Rattle.std.proofs.lemmas.Bool.{not-false, and_from}
+use Rattle.vidi_bits.proofs.Bools.{never}
+use Rattle.vidi_bits.proofs.FindingLaws.{told_none}
+use Rattle.vidi_bits.proofs.Lists.{nil_left, nil_right}
 use Rattle.vlog_tree.specs.Tree.{ExprOf, UnaryExpr, BinaryExpr, ChoiceExpr, ExprsOf, NoExprs, MoreExprs}
 use Rattle.vlog_tree.specs.Tree.{PrimOf, NumberPrim, RefPrim, ParenPrim, ConcatPrim, RepeatPrim, RefOf, RefWith}
 use Rattle.vlog_tree.specs.Tree.{LastOf, NoLast, Last, SelOf, IndexSel, PartSel, IndexedSel}
@@ -19,7 +23,6 @@ use Rattle.vlog_size.specs.Size.{sizes_of_target, sizes_of_targets, of_place, of
 use Rattle.vlog_size.specs.Size.{part_width_faults}
 use Rattle.vlog_size.specs.Size.{outside, too_large, all_constant, parts_const_faults, unsized_part, is_bad_binary}
 use Rattle.vlog_size.specs.Size.{of_param, of_name, if_checked, name_const_faults, no_faults, wrong_width, const_width, is_past}
-use Rattle.vlog_size.proofs.Lists.{nil_left, nil_right, untold, never, both_of}
 use Rattle.vlog_size.proofs.Fits.{below_none}
 use Rattle.vlog_size.proofs.Literals.{number_sized}
 use Rattle.vlog_size.proofs.Meanings.{IsPicked, meaning_picked, param_sized}
@@ -56,13 +59,9 @@ not_past : (k p : Bool) → (not k || p) ≡ false → p ≡ false
 not_past true p h = h
 not_past false p h = (cc)
 
-not_false : (b : Bool) → not b ≡ false → b ≡ true
-not_false true h = refl
-not_false false h = (cc)
-
 good_width : (line w : ℕ) (rest : List SizeError) → wrong_width line w ++ rest ≡ [] → is_lawful w ≡ true
 good_width line w rest h =
-    not_false (is_lawful w) (untold (not (is_lawful w)) (error.Width line w) (nil_left (wrong_width line w) rest h))
+    not-false (is_lawful w) (told_none (not (is_lawful w)) (error.Width line w) (nil_left (wrong_width line w) rest h))
 
 name_sized : (b : Bool) (line : ℕ) (m : Meaning) (e : Sizes) → IsSized e → IsSized (of_name b line m e)
 name_sized b line m e s = record {
@@ -76,7 +75,7 @@ ref_sized : (line : ℕ) (m : Meaning) (index : Option Sizes) (last : Bracket) �
     → Sized (of_name true line m (of_ref line m index last))
 ref_sized line (Parameter c known) index last p s h k =
     let bad = not known || is_past c in
-    let good : bad ≡ false = untold bad (error.Const line) (nil_left (told_if bad (error.Const line)) no_faults h) in
+    let good : bad ≡ false = told_none bad (error.Const line) (nil_left (told_if bad (error.Const line)) no_faults h) in
     name_sized true line (Parameter c known) (of_param line c known)
     (param_sized line c known (known_of known (is_past c) good) (not_past known (is_past c) good)
     (good_width line (const_width c) no_faults k))
@@ -107,7 +106,7 @@ mutual
       let right = sizes_of (fixed s) b in
       let parts : left.const_faults ++ right.const_faults ≡ [] =
       nil_right (told_if (is_bad_binary op left right) (error.Const left.line)) (left.const_faults ++ right.const_faults) h in
-      both_of left.constant right.constant (expr_constant s a (nil_left left.const_faults right.const_faults parts))
+      and_from left.constant right.constant (expr_constant s a (nil_left left.const_faults right.const_faults parts))
       (expr_constant s b (nil_right left.const_faults right.const_faults parts))
   expr_constant s (ChoiceExpr c a b) h =
       let condition = sizes_of (fixed s) c in
@@ -115,9 +114,9 @@ mutual
       let right = sizes_of (fixed s) b in
       let parts : left.const_faults ++ right.const_faults ≡ [] =
       nil_right condition.const_faults (left.const_faults ++ right.const_faults) h in
-      both_of condition.constant (left.constant && right.constant)
+      and_from condition.constant (left.constant && right.constant)
       (expr_constant s c (nil_left condition.const_faults (left.const_faults ++ right.const_faults) h))
-      (both_of left.constant right.constant (expr_constant s a (nil_left left.const_faults right.const_faults parts))
+      (and_from left.constant right.constant (expr_constant s a (nil_left left.const_faults right.const_faults parts))
       (expr_constant s b (nil_right left.const_faults right.const_faults parts)))
 
   prim_constant : (s : Readable) (p : PrimOf ℕ) → (sizes_of_prim (fixed s) p).const_faults ≡ []
@@ -131,7 +130,7 @@ mutual
       let c = sizes_of (fixed s) count in
       let parts = sizes_of_all (fixed s) es in
       let own : too_large c ++ c.const_faults ≡ [] = nil_left (too_large c ++ c.const_faults) (parts_const_faults parts) h in
-      both_of c.constant (all_constant parts) (expr_constant s count (nil_right (too_large c) c.const_faults own))
+      and_from c.constant (all_constant parts) (expr_constant s count (nil_right (too_large c) c.const_faults own))
       (all_parts_constant s es (nil_right (too_large c ++ c.const_faults) (parts_const_faults parts) h))
 
   all_parts_constant : (s : Readable) (es : ExprsOf ℕ) → parts_const_faults (sizes_of_all (fixed s) es) ≡ []
@@ -140,7 +139,7 @@ mutual
   all_parts_constant s (MoreExprs e es) h =
       let p = sizes_of (fixed s) e in
       let rest = sizes_of_all (fixed s) es in
-      both_of p.constant (all_constant rest)
+      and_from p.constant (all_constant rest)
       (expr_constant s e (nil_right (unsized_part p) p.const_faults
       (nil_left (unsized_part p ++ p.const_faults) (parts_const_faults rest) h)))
       (all_parts_constant s es (nil_right (unsized_part p ++ p.const_faults) (parts_const_faults rest) h))

@@ -1,5 +1,5 @@
 -- The first finding of two lists.
-use Rattle.std.proofs.Common.{◌≡◌, Bool, true, false, ◌&&◌, Option, None, Some, List, [], ◌∷◌, ◌++◌, refl, sym, ap, ◌∙◌}
+use Rattle.std.proofs.Common.{◌≡◌, Option, None, Some, List, [], ◌∷◌, ◌++◌, refl, sym, ap, ◌∙◌}
 use Rattle.vidi_bits.specs.Findings.{first, or_first}
 
 pub first_append : {A : Type 0} → (xs ys : List A) → first (xs ++ ys) ≡ or_first (first xs) (first ys)
@@ -10,16 +10,8 @@ pub or_first_assoc : {A : Type 0} → (a b c : Option A) → or_first (or_first 
 or_first_assoc None b c = refl
 or_first_assoc (Some x) b c = refl
 
-pub and_assoc : (a b c : Bool) → ((a && b) && c) ≡ (a && (b && c))
-and_assoc true b c = refl
-and_assoc false b c = refl
-
 pub first_both : {A : Type 0} → (a b : Option A) (xs ys : List A) → a ≡ first xs → b ≡ first ys → or_first a b ≡ first (xs ++ ys)
 first_both a b xs ys h k = ap (λ o. or_first o b) h ∙ (ap (λ o. or_first (first xs) o) k ∙ sym (first_append xs ys))
-
-pub and_true : (b : Bool) → (b && true) ≡ b
-and_true true = refl
-and_true false = refl
 
 pub or_none : {A : Type 0} → (o : Option A) → or_first o None ≡ o
 or_none None = refl

@@ -2,7 +2,8 @@
 use Rattle.std.proofs.Common.{◌≡◌, ℕ, ◌%◌, ◌^◌, ◌≤◌, Bool, true, false, ◌&&◌, ◌||◌, not, if◌then◌else◌, Option, None, Some, is_none}
 use Rattle.std.proofs.Common.{List, refl, arith}
 use Rattle.std.proofs.Math.Pow.{pow_mono}
-use Rattle.vlog_operators.proofs.Below.{rest_below}
+use Rattle.vidi_bits.proofs.FindingLaws.{told_none}
+use Rattle.vidi_bits.proofs.Below.{rest_below}
 use Rattle.vlog_tree.specs.declared.expr.NumberKind.{NumberKind}
 use Rattle.vlog_tree.specs.declared.expr.NumberKind.TheVariants.{Decimal, Based}
 use Rattle.vlog_tree.specs.Tree.{NumberOf}
@@ -12,7 +13,6 @@ use Rattle.vlog_size.specs.Literal.{is_lawful, literal_width, literal_number, sp
 use Rattle.vlog_size.specs.Literal.{digits_from}
 use Rattle.vlog_size.specs.Operators.{in_range}
 use Rattle.vlog_size.specs.Size.{of_number, is_bad_number, is_decimal, decimal_value}
-use Rattle.vlog_size.proofs.Lists.{untold}
 use Rattle.vlog_size.proofs.Fits.{Below, below_none, below_some, wider}
 use Rattle.vlog_size.proofs.Sized.{Sized}
 
@@ -73,7 +73,7 @@ literal_fits Based text w good h = trimmed_below (spelled_number Based text) (li
 pub number_sized : (n : NumberOf ℕ) → Sized (of_number n)
 number_sized n h k =
     let decimal = is_decimal n.kind && is_none (decimal_value n.kind n.text) in
-    let good : (is_bad_literal n.kind n.text || decimal) ≡ false = untold (is_bad_number n) (error.Const n.line) h in
+    let good : (is_bad_literal n.kind n.text || decimal) ≡ false = told_none (is_bad_number n) (error.Const n.line) h in
     let lawful : is_bad_literal n.kind n.text ≡ false = or_left (is_bad_literal n.kind n.text) decimal good in
     record {
       fits = λ w wide top. literal_fits n.kind n.text w (or_right (is_bad_literal n.kind n.text) decimal good) wide;

@@ -4,6 +4,8 @@ use Rattle.std.proofs.Common.{Option, None, Some, is_none, List, [], ◌∷◌, 
 use Rattle.std.proofs.Math.Pow.{pow_mono}
 use Rattle.std.specs.List.{list_all}
 use Rattle.std.specs.Str.{bytes_eq}
+use Rattle.std.proofs.lemmas.Bool.{and_from}
+use Rattle.vidi_bits.proofs.Bools.{left_of, right_of}
 use Rattle.vlog_size.specs.declared.scope.Const.{Const}
 use Rattle.vlog_size.specs.declared.scope.Const.TheVariants as const
 use Rattle.vlog_size.specs.declared.scope.Param.{Param}
@@ -19,9 +21,8 @@ use Rattle.vlog_size.specs.Operators.{in_range}
 use Rattle.vlog_size.specs.Names.{Readable, readable_of, fixed, net_meaning, memory_meaning, or_undeclared, place_meaning, or_meaning}
 use Rattle.vlog_size.specs.Names.{meaning_of}
 use Rattle.vlog_size.specs.Names.{is_lawful_const, are_lawful_params, are_lawful_places, is_lawful_readable, is_lawful_scope}
-use Rattle.vlog_operators.proofs.Below.{rest_below}
+use Rattle.vidi_bits.proofs.Below.{rest_below}
 use Rattle.vlog_size.specs.Size.{of_param, const_width, is_plain_const, const_number, is_past}
-use Rattle.vlog_size.proofs.Lists.{left_of, right_of, both_of}
 use Rattle.vlog_size.proofs.Fits.{Below, below_none, below_some, wider}
 use Rattle.vlog_size.proofs.Sized.{IsSized}
 
@@ -179,13 +180,13 @@ front_lawful zero ps h = refl
 front_lawful (suc n) [] h = refl
 front_lawful (suc n) (p ∷ ps) h =
     let own = p.value.known && is_lawful_const p.value.value in
-    both_of own (are_lawful_params (take n ps)) (left_of own (are_lawful_params ps) h)
+    and_from own (are_lawful_params (take n ps)) (left_of own (are_lawful_params ps) h)
     (front_lawful n ps (right_of own (are_lawful_params ps) h))
 
 pub scope_lawful : (s : Scope) → is_lawful_scope s ≡ true → is_lawful_readable (readable_of s) ≡ true
 scope_lawful s h =
     let places = are_lawful_places s.nets s.memories in
     let params : are_lawful_params s.params ≡ true = left_of (are_lawful_params s.params) places h in
-    both_of (are_lawful_params s.params && are_lawful_params (take s.declared s.params)) places
-    (both_of (are_lawful_params s.params) (are_lawful_params (take s.declared s.params)) params (front_lawful s.declared s.params params))
+    and_from (are_lawful_params s.params && are_lawful_params (take s.declared s.params)) places
+    (and_from (are_lawful_params s.params) (are_lawful_params (take s.declared s.params)) params (front_lawful s.declared s.params params))
     (right_of (are_lawful_params s.params) places h)

@@ -2,12 +2,9 @@
 use Rattle.std.proofs.Common.{◌≡◌, ℕ, ◌+◌, ◌*◌, ◌≤◌, ◌<◌, ◌^◌, Bool, true, false, ◌==◌, List, [], ◌∷◌, if◌then◌else◌, arith, None, Some}
 use Rattle.std.proofs.Common.{refl, drop, length, get_or, sym, ap, ◌∙◌, suc, ◌≢◌, drop-cons}
 use Rattle.std.proofs.lemmas.List.{drop_all}
-use Rattle.std.proofs.Math.Nat.{mul-le-mul_left}
+use Rattle.vidi_bits.proofs.ArithmeticLemmas.{shifted_grows}
 use Rattle.vidi_bits.specs.Limits.{below_top}
 use Rattle.vlog_size.specs.Literal.{digit, digits_from}
-
-pub shifted_grows : (base n d : ℕ) → 1 ≤ base → n ≤ n * base + d
-shifted_grows base n d h = omega (arith, mul-le-mul_left n h)
 
 pub step_grows : (base n d : ℕ) (t : Bool) → 1 ≤ base → n ≤ (if t then n else n * base + d)
 step_grows base n d true h = omega arith

@@ -2,6 +2,10 @@
 use Rattle.std.proofs.Common.{◌*◌, ◌%◌, ◌^◌, ◌<◌, zero, suc, add-one, subst}
 use Rattle.std.proofs.Common.{◌≡◌, ◌≤◌, ◌+◌, arith, ℕ, Bool, true, false, ◌&&◌, not, if◌then◌else◌, Option, None, Some, is_none}
 use Rattle.std.proofs.Common.{List, [], ◌∷◌, ◌++◌, refl}
+use Rattle.std.proofs.lemmas.Bool.{and_from}
+use Rattle.vidi_bits.proofs.Bools.{never, left_of, right_of, and_not_false}
+use Rattle.vidi_bits.proofs.FindingLaws.{told_none}
+use Rattle.vidi_bits.proofs.Lists.{nil_left, nil_right}
 use Rattle.vlog_size.specs.declared.error.SizeError.TheVariants as error
 use Rattle.vlog_size.specs.Literal.{is_lawful}
 use Rattle.vlog_size.specs.Size.{Sizes, own_width, number, reaches, all_constant, all_lawful, total_width, sum_fault, unsized_part}
@@ -9,9 +13,9 @@ use Rattle.vlog_size.specs.Size.{parts_const_faults, parts_width_faults, joined,
 use Rattle.vlog_size.specs.Size.{is_too_large, times, repeat_width, repeat_value, count_fault, concat_value, of_repeat}
 use Rattle.vlog_size.specs.Size.{of_concat, Bracket, NoBracket, Bit, Part, Indexed, part_width, part_const_faults, part_fault}
 use Rattle.vlog_size.specs.Size.{part_width_faults, outside, too_large, wrong_order, is_wrong_order, is_wrong_part, bounds_width, or_zero}
-use Rattle.vlog_size.proofs.Lists.{nil_left, nil_right, untold, never, left_of, right_of, both_of, so, bounds_lawful}
-use Rattle.vlog_operators.specs.Number.{side_by_side, repeated}
-use Rattle.vlog_operators.proofs.NumberLemmas.{repeated_fits}
+use Rattle.vlog_size.proofs.Lists.{bounds_lawful}
+use Rattle.vidi_bits.specs.Number.{side_by_side, repeated}
+use Rattle.vidi_bits.proofs.NumberLemmas.{repeated_fits}
 use Rattle.vlog_size.proofs.Repeats.{lawful_unit}
 use Rattle.vlog_size.proofs.Fits.{Below, below_none, below_some, wider, joined_fits}
 use Rattle.vlog_size.proofs.Sized.{IsSized, Sized, two_there, number_there}
@@ -48,7 +52,7 @@ more_sized p ps head tail h k =
     let rest : AreSized ps = tail (nil_right (unsized_part p ++ p.const_faults) (parts_const_faults ps) h)
     (nil_right p.width_faults (parts_width_faults ps) k) in
     record {
-      lawful = both_of (is_lawful p.width) (all_lawful ps) s.lawful rest.lawful;
+      lawful = and_from (is_lawful p.width) (all_lawful ps) s.lawful rest.lawful;
       known = λ c w n there. rest.known (right_of p.constant (all_constant ps) c) (w + p.width) (join_with w n p (own_width p))
           (join_there w n p s (left_of p.constant (all_constant ps) c) there);
     }
@@ -71,8 +75,8 @@ pub concat_sized : (line : ℕ) (ps : List Sizes) → AllSized ps → Sized (of_
 concat_sized line ps inner h k =
     let own : sum_fault line ps ≡ [] = nil_left (sum_fault line ps) (parts_width_faults ps) k in
     let s : AreSized ps = inner h (nil_right (sum_fault line ps) (parts_width_faults ps) k) in
-    let fits : is_lawful (total_width ps) ≡ true = so (all_lawful ps) (is_lawful (total_width ps))
-    (untold (all_lawful ps && not (is_lawful (total_width ps))) (error.Width line (total_width ps)) own) s.lawful in
+    let fits : is_lawful (total_width ps) ≡ true = and_not_false (all_lawful ps) (is_lawful (total_width ps))
+    (told_none (all_lawful ps && not (is_lawful (total_width ps))) (error.Width line (total_width ps)) own) s.lawful in
     record {
       lawful = fits;
       fits = λ w h k. all_fit ps w (all_constant ps && is_lawful (total_width ps)) h;
@@ -111,8 +115,8 @@ times_lawful : (line : ℕ) (n : Option ℕ) (ps : List Sizes) → is_none n ≡
     → is_lawful (repeat_width n (total_width ps)) ≡ true
 times_lawful line None ps h l k = (cc)
 times_lawful line (Some n) ps h l k =
-    so (all_lawful ps) (is_lawful (n * total_width ps))
-    (untold (all_lawful ps && not (is_lawful (n * total_width ps))) (error.Width line (n * total_width ps)) k) l
+    and_not_false (all_lawful ps) (is_lawful (n * total_width ps))
+    (told_none (all_lawful ps && not (is_lawful (n * total_width ps))) (error.Width line (n * total_width ps)) k) l
 
 unit_lawful : (n : Option ℕ) (w : ℕ) → is_lawful (repeat_width n w) ≡ true → is_lawful w ≡ true
 unit_lawful None w l = (cc)
@@ -124,7 +128,7 @@ not_large false o h k = k
 
 times_there : (c : Sizes) → too_large c ≡ [] → is_none (number c) ≡ false → is_none (times c) ≡ false
 unfolding times
-times_there c h k = not_large (is_too_large c) (number c) (untold (is_too_large c) (error.Const c.line) h) k
+times_there c h k = not_large (is_too_large c) (number c) (told_none (is_too_large c) (error.Const c.line) h) k
 
 pub repeat_sized : (line : ℕ) (c : Sizes) (ps : List Sizes) → Known c → AllSized ps → Sized (of_repeat line c ps)
 repeat_sized line c ps count inner h k =
@@ -167,10 +171,10 @@ part_fits : (whole : ℕ) (base : Sizes) (k : Option ℕ) → is_lawful whole �
     → is_wrong_part whole base k ≡ false → is_lawful (or_zero k) ≡ true
 part_fits whole base None l b h o = (cc)
 part_fits whole base (Some k) l b h o =
-    so (is_lawful whole && is_lawful base.width) (is_lawful k) o (both_of (is_lawful whole) (is_lawful base.width) l b)
+    and_not_false (is_lawful whole && is_lawful base.width) (is_lawful k) o (and_from (is_lawful whole) (is_lawful base.width) l b)
 
 in_reach : (limit : ℕ) (i : Sizes) → outside limit i ≡ [] → reaches limit (number i) ≡ false
-in_reach limit i h = untold (reaches limit (number i)) (error.Width i.line (or_zero (number i))) h
+in_reach limit i h = told_none (reaches limit (number i)) (error.Width i.line (or_zero (number i))) h
 
 pub part_lawful : (line whole picked limit : ℕ) (b : Bracket) → BracketSized b → is_lawful whole ≡ true → is_lawful picked ≡ true
     → part_const_faults b ≡ [] → part_fault line whole b ≡ [] → part_width_faults whole limit b ≡ []
@@ -189,7 +193,7 @@ part_lawful line whole picked limit (Part a b) s l p h o k =
     let b_all : at_b ≡ [] = nil_right at_a at_b k in
     let a_rest : rest_a ≡ [] = nil_right (outside whole a) rest_a a_all in
     let order : is_wrong_order (number a) (number b) ≡ false =
-    untold (is_wrong_order (number a) (number b)) (error.Width a.line (or_zero (number b)))
+    told_none (is_wrong_order (number a) (number b)) (error.Width a.line (or_zero (number b)))
     (nil_left (wrong_order a b) a.width_faults a_rest) in
     bounds_fit whole (number a) (number b) l
     (s.0 a_const (nil_right (wrong_order a b) a.width_faults a_rest))
@@ -202,4 +206,4 @@ part_lawful line whole picked limit (Indexed base width) s l p h o k =
     part_fits whole base (number width) l inner.lawful
     (s.1 (nil_right (too_large width) width.const_faults (nil_right base.const_faults (too_large width ++ width.const_faults) h))
     (nil_right base.width_faults width.width_faults k))
-    (untold (is_wrong_part whole base (number width)) (error.Width line (or_zero (number width))) o)
+    (told_none (is_wrong_part whole base (number width)) (error.Width line (or_zero (number width))) o)

@@ -2,7 +2,9 @@
 use Rattle.std.proofs.Common.{◌≡◌, ℕ, ◌+◌, ◌≤◌, ◌<◌, Bool, true, false, ◌&&◌, ◌||◌, not, nat_le, min, max, if◌then◌else◌}
 use Rattle.std.proofs.Common.{Option, None, Some, List, ◌∷◌, refl, ap, sym, ◌∙◌, subst, arith}
 use Rattle.std.proofs.lemmas.Grind.{common_steps}
-use Rattle.vlog_operators.specs.Number.{side_by_side}
+use Rattle.std.proofs.lemmas.Bool.{and_from}
+use Rattle.vidi_bits.proofs.Bools.{never}
+use Rattle.vidi_bits.specs.Number.{side_by_side}
 use Rattle.vlog_tree.specs.declared.expr.BinaryOp.{BinaryOp}
 use Rattle.vlog_tree.specs.declared.expr.UnaryOp.{UnaryOp}
 use Rattle.vlog_size.specs.declared.facts.Facts.{Facts}
@@ -19,7 +21,6 @@ use Rattle.vlog_size.specs.Size.{binary_width, compared, operated, chosen_value,
 use Rattle.vlog_size.specs.Size.{total_width, of_concat, repeat_value}
 use Rattle.vlog_size.specs.Facts.{Shows, ShowsAt, ShowsBoth, ShowsOperands, ShowsRest, ShowsGathered, ShowsAll, operated_width}
 use Rattle.vlog_size.specs.Facts.{left_reach, right_reach, is_enough}
-use Rattle.vlog_size.proofs.Lists.{never}
 use Rattle.vlog_size.proofs.Repeats.{value_capped}
 
 -- ---- lawful widths
@@ -317,16 +318,13 @@ compared_made op a b true true w x y k h i = made_same op w x y (a w) (b w) (h r
 compared_made op a b true false w x y k h i = refl
 compared_made op a b false l w x y k h i = (cc)
 
-both_true : (a b : Bool) → a ≡ true → b ≡ true → (a && b) ≡ true
-both_true a b h k = rw (h, k) refl
-
 comparison_made : (op : BinaryOp) (o : Operands) (a b : Sizes) → ShowsBoth 0 o a b → a.constant ≡ true → b.constant ≡ true
     → lawfully (binary_made op o.left.value o.right.value) (max a.width b.width) ≡ compared op a.value b.value (shared_width a b)
 unfolding shared_width
 comparison_made op o a b s c d =
     let w = max a.width b.width in
     compared_made op a.value b.value (a.constant && b.constant) (is_lawful w) w o.left.value o.right.value
-    (both_true a.constant b.constant c d)
+    (and_from a.constant b.constant c d)
     (λ l. value_of (max 0 b.width) w o.left a s.0 c (left_width 0 a.width b.width ∙ zero_max w) l)
     (λ l. value_of (max 0 a.width) w o.right b s.1 d (right_width 0 a.width b.width ∙ zero_max w) l)
 

@@ -1,7 +1,11 @@
 -- Of parts without a fault: what each form of expression makes of their widths and numbers.
 use Rattle.std.proofs.Common.{◌≡◌, ◌≤◌, ℕ, Bool, true, false, ◌&&◌, ◌||◌, max, if◌then◌else◌, Option, None, Some, is_none, [], ◌++◌, refl}
 use Rattle.std.proofs.Common.{◌==◌, arith}
-use Rattle.vlog_operators.specs.Number.{IsWidth}
+use Rattle.std.proofs.lemmas.Bool.{and_from}
+use Rattle.vidi_bits.proofs.Bools.{never, left_of, right_of}
+use Rattle.vidi_bits.proofs.FindingLaws.{told_none, both_nil}
+use Rattle.vidi_bits.proofs.Lists.{nil_left, nil_right}
+use Rattle.vidi_bits.specs.Number.{IsWidth}
 use Rattle.vlog_size.specs.declared.error.SizeError.TheVariants as error
 use Rattle.vlog_size.specs.declared.operators.Kind.{Kind}
 use Rattle.vlog_size.specs.declared.operators.Kind.TheVariants.{Sum, Comparison, Logic, Shift}
@@ -15,7 +19,7 @@ use Rattle.vlog_size.specs.Size.{shared_width}
 use Rattle.vlog_size.specs.Size.{of_binary, is_out, is_bad_operator, is_bad_binary, wide_value, narrow_value, of_sign}
 use Rattle.vlog_size.specs.Size.{chosen_value, chosen_whole, of_choice, of_paren}
 use Rattle.vlog_size.proofs.Fits.{Below, below_none, wide_fits, narrow_fits, sum_fits, comparison_fits, logic_fits, shift_fits}
-use Rattle.vlog_size.proofs.Lists.{nil_left, nil_right, untold, both_nil, never, left_of, right_of, both_of, larger_lawful}
+use Rattle.vlog_size.proofs.Lists.{larger_lawful}
 
 -- a lawful width, the number of a constant, which fits each width that is large enough, and the value of a plain expression
 pub record IsSized (e : Sizes) : Type 0 where
@@ -115,7 +119,7 @@ comparison_there : (op : BinaryOp) (a b : Sizes) → IsSized a → IsSized b →
 unfolding shared_width
 comparison_there op a b s t c d =
     compared_there op a.value b.value (a.constant && b.constant) (is_lawful (max a.width b.width)) (max a.width b.width)
-    (both_of a.constant b.constant c d) (larger_lawful a.width b.width s.lawful t.lawful) (s.known c) (t.known d)
+    (and_from a.constant b.constant c d) (larger_lawful a.width b.width s.lawful t.lawful) (s.known c) (t.known d)
 
 compared_fits : (op : BinaryOp) (a b : ℕ → Option ℕ) (v : Option ℕ) (w : ℕ) → kind_of op ≡ Comparison → 1 ≤ w → Below w (compared op a b v)
 compared_fits op a b None w k h = below_none w
@@ -170,7 +174,7 @@ binary_sized op a b left right h k =
     let s : IsSized a = left (nil_left a.const_faults b.const_faults parts) (nil_left a.width_faults b.width_faults k) in
     let t : IsSized b = right (nil_right a.const_faults b.const_faults parts) (nil_right a.width_faults b.width_faults k) in
     let good : bad ≡ false =
-    untold bad (error.Const a.line) (nil_left (told_if bad (error.Const a.line)) (a.const_faults ++ b.const_faults) h) in
+    told_none bad (error.Const a.line) (nil_left (told_if bad (error.Const a.line)) (a.const_faults ++ b.const_faults) h) in
     record {
       lawful = binary_lawful (kind_of op) a.width b.width s.lawful t.lawful;
       fits = λ w h k. binary_fits (kind_of op) op a b w refl s t h k;

@@ -8,6 +8,7 @@ use Rattle.std.specs.Global.{Vec}
 use Rattle.std.specs.Str.{bytes_eq}
 use Rattle.std.specs.Map.{lookup, keys_of}
 use Rattle.std.specs.Cmp.Lexicographic.{pointwise}
+use Rattle.vidi_bits.proofs.Lists.{some_same}
 use Rattle.indexmap.specs.IndexMap.{insert_entry}
 use Rattle.vlog_size.specs.Table.{Named, named, value_of, place_of, added}
 
@@ -40,9 +41,6 @@ among place n v = if nat_lt place n then Some v else None
 
 next_place : (place n : ℕ) → nat_lt (1 + place) (suc n) ≡ nat_lt place n
 next_place place n = grind arith
-
-some_same : {V : Type 0} → (a b : V) → Some a ≡ Some b → a ≡ b
-some_same a b h = (cc)
 
 next_suc : (place : ℕ) → suc place ≡ 1 + place
 next_suc place = omega arith

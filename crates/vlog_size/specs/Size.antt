@@ -24,7 +24,7 @@ use Rattle.vlog_size.specs.declared.operators.Kind.{Kind}
 use Rattle.vlog_size.specs.declared.operators.Kind.TheVariants.{Sum, Comparison, Logic, Shift}
 use Rattle.vlog_size.specs.Names.{Readable, meaning_of, fixed}
 use Rattle.vlog_size.specs.Operators.{kind_of, in_range, whole_value, is_plain_op, is_plain_shift, binary_value, is_wide, unary_value}
-use Rattle.vlog_operators.specs.Number.{side_by_side, repeated}
+use Rattle.vidi_bits.specs.Number.{side_by_side, repeated}
 
 -- what is said of an expression
 pub record Sizes : Type 0 where

@@ -2,7 +2,7 @@
 
 ghost use Rattle.std.specs.Prelude.{◌≡◌, ◌<◌, ◌^◌, true, Some, IfOk, if◌then◌else◌};
 ghost use Rattle.vlog_tree.specs.Plain.{plain_expr, plain_target};
-ghost use Rattle.vidi_bits.specs.Findings.{Tried};
+ghost use Rattle.vidi_bits.specs.Findings.{Judged};
 ghost use Rattle.vlog_size.specs.Literal.{is_lawful};
 ghost use Rattle.vlog_size.specs.Names.{readable_of, params_alone, checked, is_lawful_const};
 ghost use Rattle.vlog_size.specs.Size.{Sizes, sizes_of, sizes_of_target, faults, constant_at, constant_of};
@@ -18,7 +18,7 @@ use vlog_tree::{Expr, Target};
 /// The first fault, where there is one: the first `Const` in text order, else the first `Width`.
 #[tactic(auto, unfolding(crate::specs::Size::faults))]
 fn faultless(facts: &Facts) -> Result<(), SizeError>
-    ensures { (E : Sizes) → Shows facts.now E → Tried result (faults E) }
+    ensures { (E : Sizes) → Shows facts.now E → Judged Some result (faults E) }
 {
     match (facts.const_fault, facts.width_fault) {
         (Some(e), _) | (None, Some(e)) => Err(e),
@@ -53,7 +53,7 @@ fn constant_from(facts: &Facts, n: u128) -> Const
 /// and at a parameter whose number isn't known, or is plain and above 2,147,483,647; `Width` at a
 /// parameter whose width isn't 1 to 128.
 pub fn constant(e: &Expr, params: &Params) -> Result<Const, SizeError>
-    ensures told { Tried result (faults (sizes_of (checked (params_alone params.now)) (plain_expr e.now))) }
+    ensures told { Judged Some result (faults (sizes_of (checked (params_alone params.now)) (plain_expr e.now))) }
     ensures value { IfOk result (λ c. constant_of (sizes_of (checked (params_alone params.now)) (plain_expr e.now)) ≡ Some c) }
     ensures lawful { IfOk result (λ c. is_lawful_const c ≡ true) }
 {
@@ -77,7 +77,7 @@ pub fn constant(e: &Expr, params: &Params) -> Result<Const, SizeError>
 /// number isn't known, or is plain and above 2,147,483,647; `Width` at a parameter, a net or a
 /// memory whose width isn't 1 to 128.
 pub fn width(e: &Expr, scope: &Scope) -> Result<u32, SizeError>
-    ensures told { Tried result (faults (sizes_of (checked (readable_of scope.now)) (plain_expr e.now))) }
+    ensures told { Judged Some result (faults (sizes_of (checked (readable_of scope.now)) (plain_expr e.now))) }
     ensures value { IfOk result (λ w. w ≡ (sizes_of (checked (readable_of scope.now)) (plain_expr e.now)).width) }
     ensures lawful { IfOk result (λ w. is_lawful w ≡ true) }
 {
@@ -94,7 +94,7 @@ pub fn width(e: &Expr, scope: &Scope) -> Result<u32, SizeError>
 ///
 /// The first `Const` in text order, else the first `Width`.
 pub fn target_width(target: &Target, scope: &Scope) -> Result<u32, SizeError>
-    ensures told { Tried result (faults (sizes_of_target (checked (readable_of scope.now)) (plain_target target.now))) }
+    ensures told { Judged Some result (faults (sizes_of_target (checked (readable_of scope.now)) (plain_target target.now))) }
     ensures value { IfOk result (λ w. w ≡ (sizes_of_target (checked (readable_of scope.now)) (plain_target target.now)).width) }
     ensures lawful { IfOk result (λ w. is_lawful w ≡ true) }
 {

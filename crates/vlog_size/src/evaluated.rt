@@ -2,7 +2,7 @@
 
 ghost use Rattle.std.specs.Prelude.{◌≡◌, ◌≤◌, ◌+◌, ◌&&◌, [], ◌∷◌, ℕ, List, max, true, Some, None};
 ghost use Rattle.std.specs.Prelude.{if◌then◌else◌};
-ghost use Rattle.vlog_operators.specs.Number.{IsWidth, side_by_side};
+ghost use Rattle.vidi_bits.specs.Number.{IsWidth, side_by_side};
 ghost use Rattle.vlog_tree.specs.Plain.{plain_number, plain_ref};
 ghost use Rattle.vlog_size.specs.Literal.{is_lawful};
 ghost use Rattle.vlog_size.specs.Names.{readable_in};
@@ -304,7 +304,7 @@ fn repeated_number(count: Option<u32>, width: u128, number: Option<u128>) -> Opt
     let number = number?;
     let product = u128::from(count).checked_mul(width);
     let _whole = lawful_width(product?)?;
-    Some(vlog_operators::times(count, number, width as u32))
+    Some(vidi_bits::times(count, number, width as u32))
 }
 
 /// What is said of these parts, so many times.

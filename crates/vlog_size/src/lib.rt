@@ -23,6 +23,6 @@ pub use literal::literal_number;
 pub use names::{View, checked, fixed, params_view, whole_view};
 pub use operators::{Kind, is_wide, kind_of, operator_of, unary_operator_of};
 pub use scope::{Const, Param, Params, Scope, ScopeMemories, ScopeMemory, ScopeNet, ScopeNets};
-pub use size::{assigned_number, facts_of, is_constant, numbered, prim_facts, target_facts};
+pub use size::{assigned_number, facts_of, numbered, prim_facts, target_facts};
 pub use table::Table;
 pub use value::const_number;

@@ -2,7 +2,7 @@
 
 ghost use Rattle.std.specs.Prelude.{◌≡◌, ℕ, List, [], ◌∷◌, Some, None};
 ghost use Rattle.vlog_size.specs.declared.error.SizeError.TheVariants as error;
-ghost use Rattle.vlog_operators.specs.Number.{IsWidth};
+ghost use Rattle.vidi_bits.specs.Number.{IsWidth};
 ghost use Rattle.vlog_tree.specs.Plain.{plain_expr, plain_prim, plain_unary, plain_ref, plain_sel, plain_exprs};
 ghost use Rattle.vlog_tree.specs.Plain.{plain_target, plain_targets};
 ghost use Rattle.vlog_size.specs.Names.{readable_in, meaning_of, fixed};
@@ -27,7 +27,7 @@ use crate::names::{Meaning, View, fixed, meaning_of};
 use crate::operators::{Kind, kind_of};
 use vidi_bits::trim;
 use vlog_tree::{
-    Expr, Prim as Operand, Ref, Sel, Target, Unary, see_concat, see_concat_target, see_repeat,
+    Expr, Operand, Ref, Sel, Target, Unary, see_concat, see_concat_target, see_repeat,
 };
 
 /// What is said of an expression.
@@ -42,13 +42,6 @@ pub fn prim_facts(view: &View<'_>, prim: &Operand) -> Facts
     ensures { Shows result (sizes_of_prim (readable_in view.now) (plain_prim prim.now)) }
 {
     evaluate_prim(view, prim, 0).facts
-}
-
-/// Whether an expression reads parameters alone.
-pub fn is_constant(view: &View<'_>, e: &Expr) -> bool
-    ensures { result ≡ (sizes_of (readable_in view.now) (plain_expr e.now)).constant }
-{
-    facts_of(view, e).constant
 }
 
 /// What is said of an expression, and its number.

@@ -1,7 +1,7 @@
 //! Widths and numbers of constants.
 
 ghost use Rattle.std.specs.Prelude.{◌≡◌, ◌≤◌, ◌+◌, ◌%◌, ◌^◌, Some, None, if◌then◌else◌, IfSome, ℕ};
-ghost use Rattle.vlog_operators.specs.Number.{IsWidth, side_by_side};
+ghost use Rattle.vidi_bits.specs.Number.{IsWidth, side_by_side};
 ghost use Rattle.vlog_size.specs.Literal.{is_lawful};
 ghost use Rattle.vlog_tree.specs.Plain.{plain_ref};
 ghost use Rattle.vlog_size.specs.Names.{readable_in};
@@ -86,6 +86,6 @@ pub fn join_part(before: u32, v: u32, high: u128, low: u128) -> u128
     if before == 0 {
         trim(low, v)
     } else {
-        vlog_operators::joined(high, low, before, v)
+        vidi_bits::joined(high, low, before, v)
     }
 }

@@ -6,7 +6,7 @@ use std::test::Fail;
 use vidi_bits::Items;
 use vlog_expr::{fuel_for, parse_expression, target_of};
 use vlog_lex::{Tokens, lex};
-use vlog_tree::{Expr, Exprs, Prim as Operand, Target, Unary, repeat};
+use vlog_tree::{Expr, Exprs, Operand, Target, Unary, repeat};
 
 /// The tokens of a text, with a new line for each space.
 fn tokens_of(alloc: Global, text: &str) -> Result<Tokens, Fail> {

@@ -1,4 +1,2 @@
-pub mod Commas
-pub mod Each
 pub mod Marks
 pub mod Rows

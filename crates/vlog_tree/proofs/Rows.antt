@@ -7,7 +7,7 @@ use Rattle.vlog_tree.specs.Plain.{plain_expr, plain_prim, plain_row, plain_exprs
 use Rattle.vlog_tree.specs.Plain.{plain_stmt}
 use Rattle.vlog_tree.specs.Plain.{plain_stmt_row, plain_stmts, plain_arm, plain_arm_row, plain_arms}
 use Rattle.vlog_tree.specs.declared.expr.Expr.{Expr}
-use Rattle.vlog_tree.specs.declared.expr.Primary as prim
+use Rattle.vlog_tree.specs.declared.expr.Operand as prim
 use Rattle.vlog_tree.specs.declared.expr.Expr.TheBlock.{hidden-the_row-Expr-0}
 use Rattle.vlog_tree.specs.declared.stmt.Target as target
 use Rattle.vlog_tree.specs.declared.stmt.Target.TheBlock.{hidden-the_row-Target-0}
@@ -22,11 +22,11 @@ expr_items (prim.more_of-Expr e row) = ap (MoreExprs (plain_expr e)) (expr_items
 pub exprs_hidden : (es : List Expr) → plain_row (hidden-the_row-Expr-0 es) ≡ plain_exprs es
 exprs_hidden es = expr_items (hidden-the_row-Expr-0 es) ∙ ap plain_exprs (prim.items_hidden-the_row-Expr-0 es)
 
-pub plain_concat : (p : prim.Primary) (line : ℕ) (es : List Expr) → p ≡ prim.Concat line es → plain_prim p
+pub plain_concat : (p : prim.Operand) (line : ℕ) (es : List Expr) → p ≡ prim.Concat line es → plain_prim p
     ≡ ConcatPrim line (plain_exprs es)
 plain_concat p line es is = ap plain_prim is ∙ ap (ConcatPrim line) (exprs_hidden es)
 
-pub plain_repeat : (p : prim.Primary) (line : ℕ) (count : Box Expr Global) (es : List Expr) → p ≡ prim.Repeat line count es
+pub plain_repeat : (p : prim.Operand) (line : ℕ) (count : Box Expr Global) (es : List Expr) → p ≡ prim.Repeat line count es
     → plain_prim p ≡ RepeatPrim line (plain_expr count.value) (plain_exprs es)
 plain_repeat p line count es is = ap plain_prim is ∙ ap (RepeatPrim line (plain_expr count.value)) (exprs_hidden es)
 

@@ -15,7 +15,7 @@ use Rattle.vlog_tree.specs.declared.expr.Ident.{Ident}
 use Rattle.vlog_tree.specs.declared.expr.Number.{Number}
 use Rattle.vlog_tree.specs.declared.expr.Sign.{Sign}
 use Rattle.vlog_tree.specs.declared.expr.Expr as expr
-use Rattle.vlog_tree.specs.declared.expr.Primary as prim
+use Rattle.vlog_tree.specs.declared.expr.Operand as prim
 use Rattle.vlog_tree.specs.declared.expr.Ref as ref
 use Rattle.vlog_tree.specs.declared.expr.Unary as unary
 use Rattle.vlog_tree.specs.declared.expr.Sel as sel
@@ -58,7 +58,7 @@ abbrev mutual
   plain_expr (expr.Binary' p left op q right) = BinaryExpr (plain_expr left) op (plain_expr right)
   plain_expr (expr.Choice' p condition q a r b) = ChoiceExpr (plain_expr condition) (plain_expr a) (plain_expr b)
 
-  pub plain_prim : prim.Primary → PrimOf ℕ
+  pub plain_prim : prim.Operand → PrimOf ℕ
   plain_prim (prim.Number n) = NumberPrim (plain_number n)
   plain_prim (prim.Ref' id index last) = RefPrim (RefWith (plain_ident id) (plain_index index) (plain_last last))
   plain_prim (prim.Paren' line p e) = ParenPrim line (plain_expr e)

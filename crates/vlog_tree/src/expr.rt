@@ -3,7 +3,7 @@
 use vidi_bits::{Items, Name};
 
 /// A name where it is used or declared (the grammar's `id`).
-#[derive(Debug, Drop)]
+#[derive(Drop)]
 pub struct Ident {
     /// The bytes of the name.
     pub name: Name,
@@ -12,7 +12,7 @@ pub struct Ident {
 }
 
 /// The two forms of numbers (IEEE 1364-2005, 3.5.1).
-#[derive(Clone, Copy, Debug, PartialEq, Eq)]
+#[derive(Clone, Copy, PartialEq, Eq)]
 pub enum NumberKind {
     /// A decimal number without size and base.
     Decimal,
@@ -21,7 +21,7 @@ pub enum NumberKind {
 }
 
 /// A number as it is spelled.
-#[derive(Debug, Drop)]
+#[derive(Drop)]
 pub struct Number {
     pub kind: NumberKind,
     /// The bytes of the token.
@@ -104,7 +104,7 @@ pub enum BinaryOp {
 
 /// An expression (IEEE 1364-2005, clause 5).
 #[cycle(expr)]
-#[derive(Debug, Drop)]
+#[derive(Drop)]
 pub enum Expr {
     /// An operand, perhaps with an operator before it.
     Unary(Unary),
@@ -126,7 +126,7 @@ pub enum Expr {
 pub type Exprs = Items<Expr>;
 
 /// An operator before an operand.
-#[derive(Clone, Copy, Debug, PartialEq, Eq)]
+#[derive(Clone, Copy, PartialEq, Eq)]
 pub struct Sign {
     pub op: UnaryOp,
     /// The line of its token.
@@ -135,16 +135,16 @@ pub struct Sign {
 
 /// An operand, perhaps with an operator before it.
 #[cycle(expr)]
-#[derive(Debug, Drop)]
+#[derive(Drop)]
 pub struct Unary {
     pub sign: Option<Sign>,
-    pub prim: Primary,
+    pub prim: Operand,
 }
 
 /// An operand without operator.
 #[cycle(expr)]
-#[derive(Debug, Drop)]
-pub enum Primary {
+#[derive(Drop)]
+pub enum Operand {
     Number(Number),
     Ref(Ref),
     /// `(inner)`; `line` is that of `(`.
@@ -167,7 +167,7 @@ pub enum Primary {
 
 /// A name with at most two brackets.
 #[cycle(expr)]
-#[derive(Debug, Drop)]
+#[derive(Drop)]
 pub struct Ref {
     pub id: Ident,
     /// The first of two brackets. A lone bracket is `sel`.
@@ -178,7 +178,7 @@ pub struct Ref {
 
 /// What stands in the last bracket.
 #[cycle(expr)]
-#[derive(Debug, Drop)]
+#[derive(Drop)]
 pub enum Sel {
     /// `[index]`
     Index(Expr),

@@ -10,18 +10,17 @@
 #![tactic(auto)]
 
 mod expr;
+mod level;
 mod lines;
 mod lists;
 mod module;
-mod shape;
-mod spelling;
 mod stmt;
 mod terminal;
 
 pub use expr::{
-    BinaryOp, Expr, Exprs, Ident, Number, NumberKind, Primary as Prim, Ref, Sel, Sign, Unary,
-    UnaryOp,
+    BinaryOp, Expr, Exprs, Ident, Number, NumberKind, Operand, Ref, Sel, Sign, Unary, UnaryOp,
 };
+pub use level::level_of;
 pub use lines::{expr_line, target_line};
 pub use lists::{
     begin, case, concat, concat_target, repeat, see_begin, see_case, see_concat, see_concat_target,
@@ -32,7 +31,5 @@ pub use module::{
     Modules, NamedValue, NamedValues, NetKind, Parameter, ParameterHead, Parameters, Port,
     PortHead, Ports, Range, Reg1, Reg1s, RegTail,
 };
-pub use shape::{good_shape, level_of};
-pub use spelling::tokens_of;
-pub use stmt::{Arm, Arms, AssignOp, Body, Stmt, Stmts, Target, Targets};
+pub use stmt::{Arm, Arms, AssignOp, Body, MOST_NESTED, Stmt, Stmts, Target, Targets};
 pub use terminal::Terminal;

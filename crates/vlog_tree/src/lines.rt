@@ -4,23 +4,23 @@ ghost use Rattle.std.specs.Prelude.{◌≡◌};
 ghost use Rattle.vlog_tree.specs.Plain.{plain_expr, plain_prim, plain_target};
 ghost use Rattle.vlog_tree.specs.Lines.{expr_line, prim_line, target_line};
 
-use crate::expr::{Expr, Primary};
+use crate::expr::{Expr, Operand};
 use crate::lists::{see_concat, see_concat_target, see_repeat};
 use crate::stmt::Target;
 
 /// The line of an operand's first token.
-fn prim_line(prim: &Primary) -> u32
+fn prim_line(prim: &Operand) -> u32
     ensures { result ≡ prim_line (plain_prim prim.now) }
 {
     match prim {
-        Primary::Number(number) => number.line,
-        Primary::Ref(name) => name.id.line,
-        Primary::Paren { line, inner: _ } => *line,
-        Primary::Concat { line, parts } => {
+        Operand::Number(number) => number.line,
+        Operand::Ref(name) => name.id.line,
+        Operand::Paren { line, inner: _ } => *line,
+        Operand::Concat { line, parts } => {
             see_concat(*line, parts);
             *line
         }
-        Primary::Repeat {
+        Operand::Repeat {
             line,
             count: _,
             parts,

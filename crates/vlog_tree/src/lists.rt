@@ -6,25 +6,25 @@ ghost use Rattle.vlog_tree.specs.Tree.{ConcatPrim, RepeatPrim, ConcatTarget, Beg
 ghost use Rattle.vlog_tree.specs.Plain.{plain_expr, plain_prim, plain_exprs, plain_target, plain_targets, plain_stmt, plain_stmts};
 ghost use Rattle.vlog_tree.specs.Plain.{plain_arms};
 ghost use Rattle.vlog_tree.specs.declared.expr.Expr as declared_expr;
-ghost use Rattle.vlog_tree.specs.declared.expr.Primary as declared_prim;
+ghost use Rattle.vlog_tree.specs.declared.expr.Operand as declared_prim;
 ghost use Rattle.vlog_tree.specs.declared.stmt.Target as declared_target;
 ghost use Rattle.vlog_tree.specs.declared.stmt.Stmt as declared_stmt;
 
-use crate::expr::{Expr, Exprs, Primary};
+use crate::expr::{Expr, Exprs, Operand};
 use crate::stmt::{Arms, Stmt, Stmts, Target, Targets};
 
 /// The operand `{part, ..}`, whose `{` stands on `line`.
-pub fn concat(line: u32, parts: Exprs) -> Primary
+pub fn concat(line: u32, parts: Exprs) -> Operand
     ensures { plain_prim result ≡ ConcatPrim line (plain_exprs parts) }
 {
-    Primary::Concat { line, parts }
+    Operand::Concat { line, parts }
 }
 
 /// The operand `{count{part, ..}}`, whose first `{` stands on `line`.
-pub fn repeat(line: u32, count: Box<Expr>, parts: Exprs) -> Primary
+pub fn repeat(line: u32, count: Box<Expr>, parts: Exprs) -> Operand
     ensures { plain_prim result ≡ RepeatPrim line (plain_expr count.value) (plain_exprs parts) }
 {
-    Primary::Repeat { line, count, parts }
+    Operand::Repeat { line, count, parts }
 }
 
 /// The target `{part, ..}`, whose `{` stands on `line`.
@@ -48,15 +48,15 @@ pub fn case(expression: Expr, arms: Arms) -> Stmt
     Stmt::Case { expression, arms }
 }
 
-/// What `Primary::Concat` is as plain data, for proofs of an arm that matches it.
+/// What `Operand::Concat` is as plain data, for proofs of an arm that matches it.
 pub fn see_concat(line: u32, parts: &Exprs)
-    ensures { (p : declared_prim.Primary) → p ≡ declared_prim.Concat line parts.now → plain_prim p
+    ensures { (p : declared_prim.Operand) → p ≡ declared_prim.Concat line parts.now → plain_prim p
         ≡ ConcatPrim line (plain_exprs parts.now) }
 {}
 
-/// What `Primary::Repeat` is as plain data, for proofs of an arm that matches it.
+/// What `Operand::Repeat` is as plain data, for proofs of an arm that matches it.
 pub fn see_repeat(line: u32, parts: &Exprs)
-    ensures { (p : declared_prim.Primary) (count : Box declared_expr.Expr Global) → p ≡ declared_prim.Repeat line count parts.now
+    ensures { (p : declared_prim.Operand) (count : Box declared_expr.Expr Global) → p ≡ declared_prim.Repeat line count parts.now
         → plain_prim p ≡ RepeatPrim line (plain_expr count.value) (plain_exprs parts.now) }
 {}
 

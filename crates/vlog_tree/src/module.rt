@@ -5,7 +5,7 @@ use crate::stmt::{Body, Target};
 use vidi_bits::{Items, Name};
 
 /// A design text: its modules, in their order.
-#[derive(Debug, Drop)]
+#[derive(Drop)]
 pub struct File {
     pub modules: Modules,
 }
@@ -14,7 +14,7 @@ pub struct File {
 pub type Modules = Items<Module>;
 
 /// A module (IEEE 1364-2005, 12.1).
-#[derive(Debug, Drop)]
+#[derive(Drop)]
 pub struct Module {
     pub name: Name,
     /// What `#(..)` declares; empty where it isn't there.
@@ -27,7 +27,7 @@ pub struct Module {
 pub type Parameters = Items<Parameter>;
 
 /// A parameter of a module's header: `parameter range id = value`.
-#[derive(Debug, Drop)]
+#[derive(Drop)]
 pub struct Parameter {
     /// The word `parameter` and the range. A parameter without takes the range of the one before.
     pub head: Option<ParameterHead>,
@@ -36,7 +36,7 @@ pub struct Parameter {
 }
 
 /// The word `parameter`, and the range behind it.
-#[derive(Debug, Drop)]
+#[derive(Drop)]
 pub struct ParameterHead {
     pub range: Option<Range>,
 }
@@ -45,7 +45,7 @@ pub struct ParameterHead {
 pub type Ports = Items<Port>;
 
 /// A port of a module's header.
-#[derive(Debug, Drop)]
+#[derive(Drop)]
 pub struct Port {
     /// Its direction and range. A port without takes those of the port before.
     pub head: Option<PortHead>,
@@ -55,7 +55,7 @@ pub struct Port {
 }
 
 /// The direction of a port, and its range.
-#[derive(Debug, Drop)]
+#[derive(Drop)]
 pub struct PortHead {
     pub direction: Direction,
     pub range: Option<Range>,
@@ -78,14 +78,14 @@ pub enum NetKind {
 }
 
 /// `[first:second]`
-#[derive(Debug, Drop)]
+#[derive(Drop)]
 pub struct Range {
     pub first: Expr,
     pub second: Expr,
 }
 
 /// An item of a module.
-#[derive(Debug, Drop)]
+#[derive(Drop)]
 pub enum Item {
     /// `wire range name, ..;`
     Wires {
@@ -119,7 +119,7 @@ pub enum Item {
 pub type Idents = Items<Ident>;
 
 /// A declared wire or local parameter with its value: `name = value`.
-#[derive(Debug, Drop)]
+#[derive(Drop)]
 pub struct NamedValue {
     pub id: Ident,
     pub value: Expr,
@@ -129,14 +129,14 @@ pub struct NamedValue {
 pub type NamedValues = Items<NamedValue>;
 
 /// A declared register.
-#[derive(Debug, Drop)]
+#[derive(Drop)]
 pub struct Reg1 {
     pub id: Ident,
     pub tail: Option<RegTail>,
 }
 
 /// What stands after a register's name.
-#[derive(Debug, Drop)]
+#[derive(Drop)]
 pub enum RegTail {
     /// `= value`
     Init(Expr),
@@ -148,7 +148,7 @@ pub enum RegTail {
 pub type Reg1s = Items<Reg1>;
 
 /// A continuous assignment: `target = value`.
-#[derive(Debug, Drop)]
+#[derive(Drop)]
 pub struct Assign {
     pub target: Target,
     pub value: Expr,
@@ -158,7 +158,7 @@ pub struct Assign {
 pub type Assigns = Items<Assign>;
 
 /// An `always` block (IEEE 1364-2005, 9.9.2).
-#[derive(Debug, Drop)]
+#[derive(Drop)]
 pub struct Always {
     /// The line of `always`.
     pub line: u32,
@@ -167,7 +167,7 @@ pub struct Always {
 }
 
 /// What an `always` block waits for.
-#[derive(Debug, Drop)]
+#[derive(Drop)]
 pub enum Event {
     /// `@(posedge clock)`
     Posedge(Ident),
@@ -176,7 +176,7 @@ pub enum Event {
 }
 
 /// An instance of a module (IEEE 1364-2005, 12.1.2): `module_id #(..) id (..);`
-#[derive(Debug, Drop)]
+#[derive(Drop)]
 pub struct Instance {
     pub module_id: Ident,
     /// The connections in `#(..)`; empty where it isn't there.
@@ -189,7 +189,7 @@ pub struct Instance {
 pub type Conns = Items<Conn>;
 
 /// A connection of a port or a parameter by its name: `.id(value)`.
-#[derive(Debug, Drop)]
+#[derive(Drop)]
 pub struct Conn {
     /// The line of `.`.
     pub line: u32,

@@ -3,8 +3,12 @@
 use crate::expr::{Expr, Exprs, Ref};
 use vidi_bits::Items;
 
+/// The statements within one another that the stack has room for. The limits of a design text allow more, of which want of memory is
+/// answered.
+pub const MOST_NESTED: u32 = 2_048;
+
 /// What an assignment writes.
-#[derive(Debug, Drop)]
+#[derive(Drop)]
 pub enum Target {
     Ref(Ref),
     /// `{part, ..}`; `line` is that of `{`.
@@ -15,7 +19,7 @@ pub enum Target {
 pub type Targets = Items<Target>;
 
 /// The two signs of procedural assignments (IEEE 1364-2005, 9.2).
-#[derive(Clone, Copy, Debug, PartialEq, Eq)]
+#[derive(Clone, Copy, PartialEq, Eq)]
 pub enum AssignOp {
     /// `=`
     Blocking,
@@ -25,7 +29,7 @@ pub enum AssignOp {
 
 /// A statement (IEEE 1364-2005, clause 9).
 #[cycle(stmt)]
-#[derive(Debug, Drop)]
+#[derive(Drop)]
 pub enum Stmt {
     /// `begin .. end`
     Begin(Items<Stmt>),
@@ -53,7 +57,7 @@ pub type Stmts = Items<Stmt>;
 
 /// An arm of a `case` (IEEE 1364-2005, 9.5).
 #[cycle(stmt)]
-#[derive(Debug, Drop)]
+#[derive(Drop)]
 pub enum Arm {
     /// `label, ..: body`
     Labels { labels: Exprs, body: Body },
@@ -66,7 +70,7 @@ pub type Arms = Items<Arm>;
 
 /// A statement, or `;` alone.
 #[cycle(stmt)]
-#[derive(Debug, Drop)]
+#[derive(Drop)]
 pub enum Body {
     Stmt(Box<Stmt>),
     Empty,

@@ -6,7 +6,7 @@ ghost use Rattle.vlog_tree.specs.Words.{terminal_kind, terminal_text};
 use vlog_lex::TokenKind;
 
 /// The reserved words and symbols that stand in the grammar.
-#[derive(Clone, Copy, Debug, PartialEq, Eq)]
+#[derive(Clone, Copy, PartialEq, Eq)]
 pub enum Terminal {
     /// `always`
     Always,

@@ -1,12 +1,13 @@
 use Rattle.std.proofs.Common.{ℕ, List, length, ap, sym, subst, ◌∙◌}
+use Rattle.run_model.specs.Offers.{AreZeroWhileDown}
 use Rattle.trace_model.specs.declared.channel.Channel.{Channel}
 use Rattle.trace_model.specs.declared.row.Offers.{Offers}
 use Rattle.trace_model.specs.Row.{all_widths, AreOffers}
 use Rattle.trace_model.proofs.ContentsLemmas.{fit-length}
 use Rattle.run_model.specs.Played.{all_up}
-use Rattle.chan_monitor.specs.Shell.{AreZeroWhileDown, IsShown}
-use Rattle.env_offers.specs.Offered.{offers_on, AllFit}
-use Rattle.env_offers.proofs.OfferLaws.{are-offers, are-zero}
+use Rattle.chan_monitor.specs.Shell.{IsShown}
+use Rattle.env_script.specs.Offered.{offers_on, AllFit}
+use Rattle.env_script.proofs.OfferLaws.{are-offers, are-zero}
 use Rattle.bench_run.proofs.plain.next_row.Goals as goal
 
 pub drive-requires-clause-offers : goal.drive-requires-clause-offers

@@ -1,12 +1,13 @@
 use Rattle.std.proofs.Common.{◌+◌, ◌++◌, ◌∷◌, [], Option, None, Some, List, length, refl, ap, sym, subst, ◌∙◌, arith}
 use Rattle.std.proofs.lemmas.List.{length_push}
+use Rattle.vidi_bits.proofs.Results.{on_err}
 use Rattle.trace_model.specs.declared.channel.Channel.{Channel}
 use Rattle.trace_model.specs.declared.row.Row.{Row}
 use Rattle.trace_model.specs.Row.{row_before, IsOver}
 use Rattle.net_design.specs.declared.design.Design.{Design}
 use Rattle.net_design.specs.declared.values.Values.{Values}
 use Rattle.bench_run.specs.Plain.{IsBreak, StandsWithin}
-use Rattle.bench_run.proofs.Growing.{breaks, carries-now, ends, fits-now, going-first, going-on, offers-now, on-error, rows-over}
+use Rattle.bench_run.proofs.Growing.{breaks, carries-now, ends, fits-now, going-first, going-on, offers-now, rows-over}
 use Rattle.bench_run.proofs.Growing.{shown-of, stands-within}
 use Rattle.bench_run.proofs.plain.run_shell.Goals as goal
 
@@ -153,7 +154,7 @@ returns-in_err-offers-clause-memory g c =
     let offer = g.E.Env.offer (g.E.Env.plan c.args.env.now) in
     stands-within (g.S.Shell.runs c.reset.new.self) (g.E.Env.stands_for c.args.env.now) d m offer [] c.args.cycles
     (going-first (g.S.Shell.runs c.reset.new.self) d m offer [] first.0 first.1 first.2 refl) c.requires.first (omega arith)) in
-    on-error _ said
+    on_err _ said
 
 pub returns-in_err-row-clause-memory : goal.returns-in_err-row-clause-memory
 returns-in_err-row-clause-memory g c =
@@ -164,7 +165,7 @@ returns-in_err-row-clause-memory g c =
     stands-within (g.S.Shell.runs c.loop-cycle.shell) (g.E.Env.stands_for c.loop-cycle.env) d (g.S.Shell.map c.args.shell.now)
     (g.E.Env.offer (g.E.Env.plan c.args.env.now)) c.loop-cycle.rows c.args.cycles (inv.run d s before is) inv.stands
     (let k = inv.count in let l = inv.within in omega (arith, k, l))) in
-    on-error _ said
+    on_err _ said
 
 pub returns-in_err-push-clause-memory : goal.returns-in_err-push-clause-memory
 returns-in_err-push-clause-memory g c =
@@ -191,4 +192,4 @@ returns-in_err-push-clause-memory g c =
     (subst (λ (xs : List Channel). IsBreak xs there row None) c.requires.channels c.in_default.ensures) refl)
     (c.commit.ensures.rows rows inv.stands)
     (let k = inv.count in let l = c.loop-cycle-test.true in let p = length_push rows row in omega (arith, k, l, p))) in
-    on-error _ said
+    on_err _ said

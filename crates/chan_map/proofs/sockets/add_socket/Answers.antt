@@ -1,5 +1,6 @@
 use Rattle.std.proofs.Common.{sym, ◌∙◌}
-use Rattle.chan_map.proofs.Table.{grown, no_some}
+use Rattle.vidi_bits.proofs.Lists.{no_some}
+use Rattle.chan_map.proofs.Table.{grown}
 use Rattle.chan_map.proofs.sockets.add_socket.Goals as goal
 
 pub returns : goal.returns

@@ -1,7 +1,7 @@
 use Rattle.std.proofs.Common.{◌<◌, ◌^◌, ◌&&◌, false, not, slice_index_or, subst, sym}
-use Rattle.trace_model.specs.Counting.{has}
-use Rattle.run_model.proofs.Contents.{mask-below}
-use Rattle.chan_monitor.proofs.Filling.{mask-more, start-is, end-is}
+use Rattle.vidi_bits.specs.Number.{has}
+use Rattle.run_model.proofs.Contents.{mask-below, mask-more}
+use Rattle.chan_monitor.proofs.Filling.{start-is, end-is}
 use Rattle.chan_monitor.proofs.rows.marks_of.Goals as goal
 
 pub with_bit-requires-clause-below : goal.with_bit-requires-clause-below

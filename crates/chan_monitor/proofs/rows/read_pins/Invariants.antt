@@ -1,6 +1,7 @@
 use Rattle.std.proofs.Common.{◌≡◌, take}
+use Rattle.trace_model.specs.Row.{replaced}
 use Rattle.net_design.specs.Pins.{outputs}
-use Rattle.chan_monitor.specs.Showing.{read, replaced}
+use Rattle.chan_monitor.specs.Showing.{read}
 use Rattle.chan_monitor.proofs.rows.read_pins.Given as goal
 
 abbrev pub invariant-loop-i : goal.invariant-loop-i

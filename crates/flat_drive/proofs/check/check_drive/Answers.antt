@@ -1,7 +1,8 @@
 use Rattle.std.proofs.Common.{List, sym, subst, ◌∙◌}
 use Rattle.vlog_elab.specs.declared.error.ElabError.{ElabError}
 use Rattle.vlog_elab.specs.Plain.{plain_instances}
-use Rattle.vlog_elab.specs.Answered.{IsFirst}
+use Rattle.vidi_bits.specs.Findings.{IsFirst}
+use Rattle.vlog_elab.specs.Told.{elab_told}
 use Rattle.flat_drive.proofs.Judging.{found, not_found}
 use Rattle.flat_drive.proofs.Told.{all_told}
 use Rattle.flat_drive.proofs.check.check_drive.Goals as goal
@@ -14,7 +15,7 @@ returns-in-Some c =
     (sym c.in-Some.is ∙ c.in_ok-found.ensures) c.in_ok-error_of-in-Some.ensures in
     record {
       told = told;
-      file = λ h k. subst (λ (fs : List ElabError). IsFirst fs c.in_ok-error_of-in-Some.field-0)
+      file = λ h k. subst (λ (fs : List ElabError). IsFirst elab_told fs c.in_ok-error_of-in-Some.field-0)
           (all_told is c.args.drivers.now c.args.blocks.now h k) told;
     }
 

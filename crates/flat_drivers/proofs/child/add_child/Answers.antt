@@ -2,15 +2,17 @@ use Rattle.std.proofs.Common.{◌≡◌, ap, sym, subst, ◌∙◌, ◌++◌, �
 use Rattle.std.specs.Prelude.{option_map}
 use Rattle.std.specs.List.{flat_map}
 use Rattle.std.proofs.lemmas.Option.{slice_get-map, slice_get_read}
+use Rattle.flat_parts.specs.Instances.{IsDeclaredIn}
+use Rattle.vidi_bits.proofs.Lists.{some_same}
 use Rattle.vlog_tree.specs.Plain as tree
 use Rattle.vlog_hierarchy.specs.Plain.{plain_path}
 use Rattle.vlog_elab.specs.Plain.{plain_instance}
-use Rattle.vlog_driver.specs.Spots.{spot_of}
+use Rattle.vlog_driver.specs.Sites.{site_of}
 use Rattle.vlog_driver.specs.Duties.{DoMore, conn_duties}
-use Rattle.flat_drivers.specs.Seated.{IsDeclaredIn, instances_in}
-use Rattle.flat_drivers.specs.Adding.{spot_from}
+use Rattle.flat_drivers.specs.Seated.{instances_in}
+use Rattle.flat_drivers.specs.Adding.{site_from}
 use Rattle.flat_drivers.proofs.Added.{all_at}
-use Rattle.flat_drivers.proofs.Paths.{joined_is, some_same}
+use Rattle.flat_drivers.proofs.Paths.{joined_is}
 use Rattle.flat_drivers.proofs.child.add_child.Goals as goal
 
 pub returns : goal.returns
@@ -22,12 +24,12 @@ returns c =
     (slice_get_read flat.list.now (length flat.list.now) c.args.at c.in-Some.child.now refl c.in-Some.ensures.lookup.3.0
     c.in-Some.ensures.lookup.1) in
     subst (λ ds. OnOk c.add_fit_conns.result (DoMore ds c.args.out.now c.add_fit_conns.new.out))
-    (ap (λ cs. flat_map (conn_duties c.in-Some-value_at.names.now (spot_of c.args.site.now)
-    (spot_from c.in-Some-get.start.now child.scope child.scope.declared)) (map tree.plain_conn cs)) c.as_slice-2.ensures
-    ∙ joined_is (instances_in flat) c.args.at child c.in-Some-get.start.now flat.starts.now (spot_of c.args.site.now)
+    (ap (λ cs. flat_map (conn_duties c.in-Some-value_at.names.now (site_of c.args.site.now)
+    (site_from c.in-Some-get.base.now child.scope child.scope.declared)) (map tree.plain_conn cs)) c.as_slice-2.ensures
+    ∙ joined_is (instances_in flat) c.args.at child c.in-Some-get.base.now flat.bases.now (site_of c.args.site.now)
     (tree.plain_instance c.args.instance.now) (plain_path c.args.path.now ++ c.args.instance.now.id.name ∷ [])
-    c.in-Some-value_at.names.now c.requires.paths c.requires.starts there
-    (slice_get_read flat.starts.now (length flat.starts.now) c.args.at c.in-Some-get.start.now refl c.in-Some-get.ensures.lookup.3.0
+    c.in-Some-value_at.names.now c.requires.paths c.requires.bases there
+    (slice_get_read flat.bases.now (length flat.bases.now) c.args.at c.in-Some-get.base.now refl c.in-Some-get.ensures.lookup.3.0
     c.in-Some-get.ensures.lookup.1)
     (ap plain_path (sym c.as_slice.ensures) ∙ c.is_longer_path.ensures c.if-not-is_longer_path.false)
     (some_same _ _ (c.in-Some-value_at.ensures

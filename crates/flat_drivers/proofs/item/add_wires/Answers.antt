@@ -1,14 +1,14 @@
 use Rattle.std.proofs.Common.{map, drop, ◌+◌, ap, [], ◌∷◌}
 use Rattle.vlog_tree.specs.Plain.{plain_named}
 use Rattle.net_design.proofs.UpdateLaws.{from_here}
-use Rattle.vlog_driver.specs.Spots.{spot_of}
+use Rattle.vlog_driver.specs.Sites.{site_of}
 use Rattle.vlog_driver.specs.Duties.{Does, wire_duty}
 use Rattle.flat_drivers.proofs.Added.{code_next}
 use Rattle.flat_drivers.proofs.item.add_wires.Goals as goal
 
 pub loop-wire-preserved : goal.loop-wire-preserved
 loop-wire-preserved c =
-    let p = spot_of c.args.site.now in
+    let p = site_of c.args.site.now in
     code_next Does (wire_duty p (plain_named c.wire-item.result) ∷ [])
     (map (wire_duty p) (map plain_named (drop (c.loop-wire.wire-index + 1) c.args.wires.now)))
     (map (wire_duty p) (map plain_named (drop c.loop-wire.wire-index c.args.wires.now)))

@@ -1,11 +1,11 @@
 use Rattle.std.proofs.Common.{map, drop}
 use Rattle.vlog_tree.specs.Plain.{plain_named}
-use Rattle.vlog_driver.specs.Spots.{spot_of}
+use Rattle.vlog_driver.specs.Sites.{site_of}
 use Rattle.vlog_driver.specs.Duties.{Does, wire_duty}
 use Rattle.flat_drivers.proofs.Added.{Going}
 use Rattle.flat_drivers.proofs.item.add_wires.Given as goal
 
 abbrev pub invariant-loop-wire : goal.invariant-loop-wire
 invariant-loop-wire l =
-    Going Does (map (wire_duty (spot_of l.site)) (map plain_named (drop l.wire-index l.wires)))
-    (map (wire_duty (spot_of l.site)) (map plain_named l.wires)) l.out l.initial.out
+    Going Does (map (wire_duty (site_of l.site)) (map plain_named (drop l.wire-index l.wires)))
+    (map (wire_duty (site_of l.site)) (map plain_named l.wires)) l.out l.initial.out

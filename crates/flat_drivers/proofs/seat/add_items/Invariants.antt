@@ -14,18 +14,18 @@ use Rattle.flat_drivers.proofs.seat.add_items.Given as goal
 abbrev pub invariant-loop-item : goal.invariant-loop-item
 invariant-loop-item l = record {
   scope : SetTo l.initial.scope l.scope;
-  faultless : AllByRecursion (IsFaultlessPlaced l.start l.initial.scope)
+  faultless : AllByRecursion (IsFaultlessPlaced l.base l.initial.scope)
       (placed l.initial.scope.params l.scope.declared (map plain_item (drop l.item-index l.items)));
   told : flat_map (placed_latches l.initial.scope)
       (placed l.initial.scope.params l.scope.declared (map plain_item (drop l.item-index l.items)))
       ≡ flat_map (placed_latches l.initial.scope)
       (placed l.initial.scope.params l.initial.scope.declared (map plain_item l.items));
-  drivers : Going Does (flat_map (placed_in (seats_in l.flat) (plain_path l.path) l.start l.initial.scope)
+  drivers : Going Does (flat_map (placed_in (seats_in l.flat) (plain_path l.path) l.base l.initial.scope)
       (placed l.initial.scope.params l.scope.declared (map plain_item (drop l.item-index l.items))))
-      (flat_map (placed_in (seats_in l.flat) (plain_path l.path) l.start l.initial.scope)
+      (flat_map (placed_in (seats_in l.flat) (plain_path l.path) l.base l.initial.scope)
       (placed l.initial.scope.params l.initial.scope.declared (map plain_item l.items))) l.out.drivers l.initial.out.drivers;
-  blocks : Going IsBlockOf (flat_map (blocks_in l.start l.initial.scope)
+  blocks : Going IsBlockOf (flat_map (blocks_in l.base l.initial.scope)
       (placed l.initial.scope.params l.scope.declared (map plain_item (drop l.item-index l.items))))
-      (flat_map (blocks_in l.start l.initial.scope)
+      (flat_map (blocks_in l.base l.initial.scope)
       (placed l.initial.scope.params l.initial.scope.declared (map plain_item l.items))) l.out.blocks l.initial.out.blocks;
 }

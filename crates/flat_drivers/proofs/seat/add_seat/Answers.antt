@@ -1,6 +1,7 @@
 use Rattle.std.proofs.Common.{◌≡◌, subst, refl, length, OnOk, Some, slice_get, get_or}
 use Rattle.std.proofs.lemmas.Option.{slice_get_read, slice_get-get_or}
-use Rattle.vlog_elab.specs.Answered.{Judged}
+use Rattle.vidi_bits.specs.Findings.{Judged}
+use Rattle.vlog_elab.specs.Told.{elab_told}
 use Rattle.vlog_driver.specs.Duties.{DoMore}
 use Rattle.flat_drivers.specs.Adding.{BlocksMore}
 use Rattle.flat_drivers.proofs.Seats.{clean_seat, latches_seat, duties_seat, blocks_seat}
@@ -10,7 +11,7 @@ pub add_items-requires-clause-faultless : goal.add_items-requires-clause-faultle
 add_items-requires-clause-faultless c =
     let list = c.args.flat.now.list.now in
     let inst = get_or list c.args.at c.index-flat-at.result in
-    clean_seat list c.args.at inst c.in-Some.start.now c.in_ok-scope.scope c.as_slice-2.result.now c.requires.flat.faultless
+    clean_seat list c.args.at inst c.in-Some.base.now c.in_ok-scope.scope c.as_slice-2.result.now c.requires.flat.faultless
     (slice_get-get_or list c.args.at c.index-flat-at.result c.requires.there) c.in_ok-scope.ensures c.as_slice-2.ensures
 
 pub returns-clause-told : goal.returns-clause-told
@@ -18,7 +19,7 @@ returns-clause-told c = λ i at.
     let list = c.args.flat.now.list.now in
     let there : slice_get list c.args.at ≡ Some (get_or list c.args.at c.index-flat-at.result) =
     slice_get-get_or list c.args.at c.index-flat-at.result c.requires.there in
-    subst (λ fs. Judged c.add_items.result fs)
+    subst (λ fs. Judged elab_told c.add_items.result fs)
     (latches_seat list c.args.at (get_or list c.args.at c.index-flat-at.result) i
     c.in_ok-scope.scope c.as_slice-2.result.now there at c.in_ok-scope.ensures
     c.as_slice-2.ensures)
@@ -31,10 +32,10 @@ returns-clause-drivers c = λ x at.
     let there : slice_get list c.args.at ≡ Some (get_or list c.args.at c.index-flat-at.result) =
     slice_get-get_or list c.args.at c.index-flat-at.result c.requires.there in
     subst (λ ds. OnOk c.add_items.result (DoMore ds c.args.out.now.drivers c.add_items.new.out.drivers))
-    (duties_seat list flat.starts.now c.args.at (get_or list c.args.at c.index-flat-at.result) x
-    c.in-Some.start.now c.in_ok-scope.scope c.as_slice-2.result.now
-    c.as_slice.result.now c.requires.flat.starts (slice_get_read flat.starts.now (length flat.starts.now) c.args.at
-    c.in-Some.start.now refl c.in-Some.ensures.lookup.3.0 c.in-Some.ensures.lookup.1) there at c.in_ok-scope.ensures c.as_slice-2.ensures
+    (duties_seat list flat.bases.now c.args.at (get_or list c.args.at c.index-flat-at.result) x
+    c.in-Some.base.now c.in_ok-scope.scope c.as_slice-2.result.now
+    c.as_slice.result.now c.requires.flat.bases (slice_get_read flat.bases.now (length flat.bases.now) c.args.at
+    c.in-Some.base.now refl c.in-Some.ensures.lookup.3.0 c.in-Some.ensures.lookup.1) there at c.in_ok-scope.ensures c.as_slice-2.ensures
     c.as_slice.ensures)
     c.add_items.ensures.drivers
 
@@ -45,8 +46,8 @@ returns-clause-blocks c = λ x at.
     let there : slice_get list c.args.at ≡ Some (get_or list c.args.at c.index-flat-at.result) =
     slice_get-get_or list c.args.at c.index-flat-at.result c.requires.there in
     subst (λ bs. OnOk c.add_items.result (BlocksMore bs c.args.out.now.blocks c.add_items.new.out.blocks))
-    (blocks_seat list flat.starts.now c.args.at (get_or list c.args.at c.index-flat-at.result) x
-    c.in-Some.start.now c.in_ok-scope.scope c.as_slice-2.result.now
-    c.requires.flat.starts (slice_get_read flat.starts.now (length flat.starts.now) c.args.at
-    c.in-Some.start.now refl c.in-Some.ensures.lookup.3.0 c.in-Some.ensures.lookup.1) there at c.in_ok-scope.ensures c.as_slice-2.ensures)
+    (blocks_seat list flat.bases.now c.args.at (get_or list c.args.at c.index-flat-at.result) x
+    c.in-Some.base.now c.in_ok-scope.scope c.as_slice-2.result.now
+    c.requires.flat.bases (slice_get_read flat.bases.now (length flat.bases.now) c.args.at
+    c.in-Some.base.now refl c.in-Some.ensures.lookup.3.0 c.in-Some.ensures.lookup.1) there at c.in_ok-scope.ensures c.as_slice-2.ensures)
     c.add_items.ensures.blocks

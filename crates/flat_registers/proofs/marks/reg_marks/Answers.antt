@@ -2,10 +2,16 @@ use Rattle.std.proofs.Common.{ap, sym, ◌∙◌, drop}
 use Rattle.std.proofs.Math.ListN.{drop_of_length-le}
 use Rattle.std.specs.List.{flat_map}
 use Rattle.vlog_elab.specs.Plain.{plain_instance, plain_instances}
-use Rattle.flat_registers.specs.Marks.{instance_marks}
-use Rattle.flat_registers.proofs.Steps.{flat_step, done_by}
+use Rattle.flat_parts.specs.Instances.{IsDeclaredIn}
+use Rattle.flat_parts.specs.Marks.{instance_marks}
+use Rattle.flat_registers.proofs.Steps.{plain_at, flat_step, done_by}
 use Rattle.flat_registers.proofs.MarkLaws.{marks_of_seats}
 use Rattle.flat_registers.proofs.marks.reg_marks.Goals as goal
+
+pub add_instance-requires : goal.add_instance-requires
+add_instance-requires c =
+    plain_at (IsDeclaredIn c.args.modules.now) plain_instance c.args.list.now c.loop-instance.instance-index c.instance-item.result
+    c.loop-instance-test.true c.instance-item.is c.requires
 
 pub loop-instance-preserved : goal.loop-instance-preserved
 loop-instance-preserved c =

@@ -1,4 +1,5 @@
-use Rattle.std.proofs.Common.{◌≡◌, ◌++◌, OnOk, subst}
+use Rattle.std.proofs.Common.{◌≡◌, ◌++◌, ◌∙◌, OnOk, subst}
+use Rattle.vidi_bits.proofs.Lists.{some_same}
 use Rattle.vlog_elab.specs.Plain.{plain_instance}
 use Rattle.flat_registers.specs.Places.{plain_places}
 use Rattle.flat_registers.proofs.PlaceLaws.{told_alike}
@@ -8,5 +9,5 @@ pub returns : goal.returns
 returns c =
     let i = plain_instance c.args.instance.now in
     subst (λ z. OnOk c.add_nets.result (plain_places c.add_nets.new.out ≡ plain_places c.args.out.now ++ z))
-    (told_alike i.tree i.scope c.in_ok-names.names c.in_ok-initials.initials c.args.first i.scope.nets c.in_ok-names.ensures
-    c.in_ok-initials.ensures) c.add_nets.ensures
+    (told_alike i.tree i.scope c.in-Some.names.now c.in_ok-initials.initials c.args.first i.scope.nets
+    (some_same _ _ (c.in-Some.ensures ∙ c.requires)) c.in_ok-initials.ensures) c.add_nets.ensures

@@ -1,10 +1,16 @@
 use Rattle.std.proofs.Common.{ap, sym, ◌∙◌, drop}
 use Rattle.std.proofs.Math.ListN.{drop_of_length-le}
-use Rattle.vlog_elab.specs.Plain.{plain_instances}
+use Rattle.vlog_elab.specs.Plain.{plain_instance, plain_instances}
+use Rattle.flat_parts.specs.Instances.{IsDeclaredIn}
 use Rattle.flat_registers.specs.Places.{plain_places, regs_of}
-use Rattle.flat_registers.proofs.Steps.{done_by}
+use Rattle.flat_registers.proofs.Steps.{plain_at, done_by}
 use Rattle.flat_registers.proofs.PlaceLaws.{regs_of_seats}
 use Rattle.flat_registers.proofs.places.reg_nets.Goals as goal
+
+pub add_instance-requires : goal.add_instance-requires
+add_instance-requires c =
+    plain_at (IsDeclaredIn c.args.modules.now) plain_instance c.args.list.now c.loop-instance.instance-index c.instance-item.result
+    c.loop-instance-test.true c.instance-item.is c.requires
 
 pub returns : goal.returns
 returns c =

@@ -10,7 +10,7 @@ pub move_acts-loop-act-preserved : goal.move_acts-loop-act-preserved
 move_acts-loop-act-preserved t c =
     let l = c.loop-act in
     let all = c.as_mut_slice-act-items in
-    let f = moved_act c.args.first.net c.args.first.word in
+    let f = moved_act c.args.base.net c.args.base.word in
     record {
       same = one_more f c.args.acts.now l.act-items all.result.now l.act-index c.act-item.result c.move_act.new.act
           c.loop-act-test.true all.ensures.value l.invariant.same c.act-item.is c.move_act.ensures;
@@ -22,7 +22,7 @@ pub move_guards-loop-guard-preserved : goal.move_guards-loop-guard-preserved
 move_guards-loop-guard-preserved t c =
     let l = c.loop-guard in
     let all = c.as_mut_slice-guard-items in
-    let f = moved_guard c.args.first.net c.args.first.word in
+    let f = moved_guard c.args.base.net c.args.base.word in
     record {
       same = one_more f c.args.guards.now l.guard-items all.result.now l.guard-index c.guard-item.result c.move_guard.new.guard
           c.loop-guard-test.true all.ensures.value l.invariant.same c.guard-item.is c.move_guard.ensures;

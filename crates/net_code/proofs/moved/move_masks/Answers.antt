@@ -9,7 +9,7 @@ pub loop-mask-preserved : goal.loop-mask-preserved
 loop-mask-preserved c =
     let l = c.loop-mask in
     let all = c.as_mut_slice-mask-items in
-    let f = moved_mask c.args.first.net c.args.first.word in
+    let f = moved_mask c.args.base.net c.args.base.word in
     let none : Mask = record { net = 0; bits = 0 } in
     let x : Mask = get_or l.mask-items l.mask-index none in
     let here : l.mask-index < length l.mask-items = omega (arith, c.loop-mask-test.true, l.auto.mask-items) in

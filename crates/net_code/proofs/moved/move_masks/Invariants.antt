@@ -5,6 +5,6 @@ use Rattle.net_code.proofs.moved.move_masks.Given as goal
 
 abbrev pub invariant-loop-mask : goal.invariant-loop-mask
 invariant-loop-mask l = record {
-  same : l.mask-items ≡ map (moved_mask l.first.net l.first.word) (take l.mask-index l.fn.masks) ++ drop l.mask-index l.fn.masks;
+  same : l.mask-items ≡ map (moved_mask l.base.net l.base.word) (take l.mask-index l.fn.masks) ++ drop l.mask-index l.fn.masks;
   near : All (λ (x : Mask). x.net < 2 ^ 32) (drop l.mask-index l.mask-items);
 }

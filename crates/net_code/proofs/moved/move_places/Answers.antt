@@ -9,7 +9,7 @@ pub loop-place-preserved : goal.loop-place-preserved
 loop-place-preserved c =
     let l = c.loop-place in
     let all = c.as_mut_slice-place-items in
-    let f = moved_place c.args.first.net c.args.first.word in
+    let f = moved_place c.args.base.net c.args.base.word in
     record {
       same = one_more f c.args.places.now l.place-items all.result.now l.place-index c.place-item.result c.move_place.new.place
           c.loop-place-test.true all.ensures.value l.invariant.same c.place-item.is c.move_place.ensures;

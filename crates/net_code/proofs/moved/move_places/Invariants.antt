@@ -7,6 +7,6 @@ use Rattle.net_code.proofs.moved.move_places.Given as goal
 
 abbrev pub invariant-loop-place : goal.invariant-loop-place
 invariant-loop-place l = record {
-  same : l.place-items ≡ map (moved_place l.first.net l.first.word) (take l.place-index l.fn.places) ++ drop l.place-index l.fn.places;
+  same : l.place-items ≡ map (moved_place l.base.net l.base.word) (take l.place-index l.fn.places) ++ drop l.place-index l.fn.places;
   near : AllByRecursion (λ (p : Place). IsPlace (IsShort (2 ^ 32)) (IsCountable (2 ^ 32)) p) (drop l.place-index l.place-items);
 }

@@ -1,6 +1,6 @@
 use Rattle.std.proofs.Common.{◌≡◌, ◌++◌, drop}
 use Rattle.std.specs.List.{flat_map}
-use Rattle.net_drive.specs.Targets.{nets_named, rooms_named}
+use Rattle.net_code.specs.Targets.{nets_named, rooms_named}
 use Rattle.net_drive.specs.Drive.{always_names}
 use Rattle.net_drive.proofs.blocks.add_drivers.Given as goal
 

@@ -1,6 +1,6 @@
 use Rattle.std.proofs.Common.{◌≡◌, ◌++◌, drop}
 use Rattle.std.specs.List.{flat_map}
-use Rattle.net_drive.specs.Targets.{plain_places}
+use Rattle.net_code.specs.Targets.{plain_places}
 use Rattle.net_drive.specs.Drive.{driver_places}
 use Rattle.net_drive.proofs.blocks.wire_places.Given as goal
 

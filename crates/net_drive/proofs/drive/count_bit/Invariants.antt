@@ -1,6 +1,5 @@
 use Rattle.std.proofs.Common.{◌≡◌, ◌≤◌, ◌+◌, drop}
-use Rattle.net_drive.specs.Targets.{plain_places}
-use Rattle.net_drive.specs.Drive.{bit_count}
+use Rattle.net_code.specs.Targets.{plain_places, bit_count}
 use Rattle.net_drive.proofs.drive.count_bit.Given as goal
 
 abbrev pub invariant-loop-place : goal.invariant-loop-place

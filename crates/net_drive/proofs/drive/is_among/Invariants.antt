@@ -1,5 +1,5 @@
 use Rattle.std.proofs.Common.{◌≡◌, drop}
-use Rattle.net_drive.specs.Drive.{is_among}
+use Rattle.net_code.specs.BitMap.{is_among}
 use Rattle.net_drive.proofs.drive.is_among.Given as goal
 
 abbrev pub invariant-loop-other : goal.invariant-loop-other

@@ -1,10 +1,11 @@
 use Rattle.std.proofs.Common.{◌≡◌, List, take, nat_lt, ap, ◌∙◌, arith}
 use Rattle.std.specs.Borrow.{Bor}
 use Rattle.std.proofs.lemmas.List.{take_all}
+use Rattle.net_code.proofs.TallyLaws.{next_once, next_more}
 use Rattle.net_design.specs.declared.act.Place.{Place}
 use Rattle.net_design.specs.Bits.{place_writes}
 use Rattle.net_code.specs.BitMap.{in_map}
-use Rattle.net_drive.proofs.Tallies.{lent_count, lent_counted, next_once, next_more}
+use Rattle.net_drive.proofs.Tallies.{lent_count, lent_counted}
 use Rattle.net_drive.proofs.tally.tally_places.Goals as goal
 
 pub loop-place-init : goal.loop-place-init

@@ -1,7 +1,7 @@
 use Rattle.std.proofs.Common.{◌≡◌, ◌++◌, drop}
 use Rattle.std.specs.List.{flat_map}
 use Rattle.net_design.specs.declared.act.Guard.{Guard}
-use Rattle.net_drive.specs.Targets.{targets, block_targets, plain_places}
+use Rattle.net_code.specs.Targets.{targets, block_targets, plain_places}
 use Rattle.net_drive.proofs.targets.+walk.Given as goal
 
 abbrev pub invariant-add_acts-loop-act : goal.invariant-add_acts-loop-act

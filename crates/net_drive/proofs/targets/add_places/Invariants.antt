@@ -1,5 +1,5 @@
 use Rattle.std.proofs.Common.{◌≡◌, ◌++◌, drop}
-use Rattle.net_drive.specs.Targets.{plain_places}
+use Rattle.net_code.specs.Targets.{plain_places}
 use Rattle.net_drive.proofs.targets.add_places.Given as goal
 
 abbrev pub invariant-loop-place : goal.invariant-loop-place

@@ -1,6 +1,6 @@
 use Rattle.std.proofs.Common.{◌≡◌, ◌++◌, drop}
 use Rattle.std.specs.List.{flat_map}
-use Rattle.net_drive.specs.Targets.{place_net, plain_places}
+use Rattle.net_code.specs.Targets.{place_net, plain_places}
 use Rattle.net_drive.proofs.targets.nets_named.Given as goal
 
 abbrev pub invariant-loop-place : goal.invariant-loop-place

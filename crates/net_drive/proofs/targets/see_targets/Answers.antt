@@ -1,6 +1,6 @@
 use Rattle.std.proofs.Common.{ap, ◌∙◌}
-use Rattle.net_drive.specs.Targets.{targets}
-use Rattle.net_drive.proofs.TargetRows.{branch_targets}
+use Rattle.net_code.specs.Targets.{targets}
+use Rattle.net_code.proofs.TargetRows.{branch_targets}
 use Rattle.net_drive.proofs.targets.see_targets.Goals as goal
 
 pub returns : goal.returns

@@ -1,5 +1,5 @@
 use Rattle.std.proofs.Common.{◌∙◌}
-use Rattle.net_lawful.proofs.MaskTests.{net_is}
+use Rattle.net_code.proofs.MaskLaws.{net_is}
 use Rattle.net_lawful.proofs.RegisterLaws.{framed_width}
 use Rattle.net_lawful.proofs.DrivenLaws.{framed_some, net_driven_is}
 use Rattle.net_lawful.proofs.driven.is_net_driven.Goals as goal

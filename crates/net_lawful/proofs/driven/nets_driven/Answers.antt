@@ -1,5 +1,5 @@
 use Rattle.std.proofs.Common.{refl, arith}
-use Rattle.net_design.proofs.BoolLaws.{not_both}
+use Rattle.vidi_bits.proofs.Bools.{not_both}
 use Rattle.net_lawful.specs.Driven.{IsNetDriven}
 use Rattle.net_lawful.proofs.DrivenLaws.{all_nets, next_below}
 use Rattle.net_lawful.proofs.driven.nets_driven.Goals as goal

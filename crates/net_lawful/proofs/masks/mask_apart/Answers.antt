@@ -1,5 +1,5 @@
 use Rattle.std.proofs.Common.{sym, ◌∙◌}
-use Rattle.net_lawful.proofs.MaskTests.{net_is}
+use Rattle.net_code.proofs.MaskLaws.{net_is}
 use Rattle.net_lawful.proofs.masks.mask_apart.Goals as goal
 
 pub returns : goal.returns

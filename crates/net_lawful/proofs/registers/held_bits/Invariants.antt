@@ -1,7 +1,7 @@
 use Rattle.std.proofs.Common.{◌≡◌, ℕ, ◌==◌, ◌&&◌, ◌||◌, drop}
 use Rattle.std.specs.List.{list_any}
 use Rattle.net_design.specs.declared.design.Register.{Register}
-use Rattle.vlog_operators.specs.Number.{has}
+use Rattle.vidi_bits.specs.Number.{has}
 use Rattle.net_design.specs.Settled.{held}
 use Rattle.net_code.specs.BitMap.{in_map}
 use Rattle.net_lawful.proofs.registers.held_bits.Given as goal

@@ -1,5 +1,5 @@
 use Rattle.std.proofs.Common.{refl, sym, ◌∙◌}
-use Rattle.net_lawful.proofs.MaskTests.{net_is}
+use Rattle.net_code.proofs.MaskLaws.{net_is}
 use Rattle.net_lawful.proofs.RegisterLaws.{first_alone}
 use Rattle.net_lawful.proofs.registers.is_new.Goals as goal
 

@@ -1,7 +1,7 @@
 use Rattle.std.proofs.Common.{◌≡◌, slice_index_or, refl}
 use Rattle.std.proofs.lemmas.List.{get_or_default}
+use Rattle.vidi_bits.proofs.Bools.{not_both}
 use Rattle.net_design.specs.declared.design.Register.{Register}
-use Rattle.net_design.proofs.BoolLaws.{not_both}
 use Rattle.net_lawful.proofs.RegisterLaws.{seen_before, seen_more, differ_more, not_new}
 use Rattle.net_lawful.proofs.registers.nets_differ.Goals as goal
 
@@ -25,8 +25,8 @@ loop-register-preserved c =
     let r : Register = slice_index_or rs i any in
     let is : r ≡ slice_index_or rs i r = get_or_default rs i any r c.loop-register-test.true in
     record {
-      seen = seen_more rs i r c.loop-register-test.true is c.loop-register.seen c.loop-register.invariant.seen c.see.new.seen
-          c.in_ok-see.ensures;
+      seen = seen_more rs i r c.loop-register-test.true is c.loop-register.seen c.loop-register.invariant.seen c.add_key.new.self
+          c.in_ok-add_key.ensures;
       differ = differ_more rs i r c.loop-register-test.true is c.loop-register.seen c.loop-register.invariant.seen
           (c.is_new.ensures.0 c.if-not-is_new.false) c.loop-register.invariant.differ;
     }

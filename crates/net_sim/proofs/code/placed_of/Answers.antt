@@ -1,7 +1,7 @@
 use Rattle.std.proofs.Common.{List, All, reverse, sym, subst}
-use Rattle.net_flat.specs.declared.instr.Instr.{Instr}
-use Rattle.net_flat.specs.Machine.{IsInstr}
-use Rattle.net_flat.specs.InPlace.{IsInPlace}
+use Rattle.net_instr.specs.declared.instr.Instr.{Instr}
+use Rattle.net_instr.specs.Machine.{IsInstr}
+use Rattle.net_instr.specs.InPlace.{IsInPlace}
 use Rattle.net_sim.specs.Slots.{settling_code, clocking_code}
 use Rattle.net_sim.proofs.SimLaws.{known_settling, known_clocking}
 use Rattle.net_sim.proofs.code.placed_of.Goals as goal

@@ -1,5 +1,5 @@
 use Rattle.std.proofs.Common.{slice_index, ap, sym, ◌∙◌}
-use Rattle.net_flat.proofs.InPlaceLaws.{seen_at}
+use Rattle.net_instr.proofs.InPlaceLaws.{seen_at}
 use Rattle.net_sim.proofs.number.number_seen.Goals as goal
 
 pub returns : goal.returns

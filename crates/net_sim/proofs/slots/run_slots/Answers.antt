@@ -1,5 +1,5 @@
 use Rattle.std.proofs.Common.{ℕ, List, length, ap, ◌∙◌}
-use Rattle.net_flat.specs.Machine.{exec}
+use Rattle.net_instr.specs.Machine.{exec}
 use Rattle.net_sim.proofs.LoadLaws.{came_back}
 use Rattle.net_sim.proofs.slots.run_slots.Goals as goal
 

@@ -1,9 +1,10 @@
 use Rattle.std.proofs.Common.{Bool, List, ℕ, [], ◌++◌, length, take, drop, cond, codes, decimal, ap, subst, ◌∙◌}
+use Rattle.trace_model.proofs.ContentsLemmas.{rest-on}
+use Rattle.vidi_bits.specs.Number.{has}
 use Rattle.trace_model.specs.declared.channel.Channel.{Channel}
-use Rattle.trace_model.specs.Counting.{has}
 use Rattle.report_text.specs.Text.{spaced}
 use Rattle.report_text.specs.Trace.{start_line}
-use Rattle.report_text.proofs.Lines.{more_on, rest-on, start-there}
+use Rattle.report_text.proofs.Lines.{more_on, start-there}
 use Rattle.report_text.proofs.trace_text.print_starts.Goals as goal
 
 pub loop-c-preserved : goal.loop-c-preserved

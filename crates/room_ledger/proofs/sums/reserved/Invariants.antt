@@ -1,5 +1,5 @@
 use Rattle.std.proofs.Common.{◌≡◌, take}
-use Rattle.trace_model.specs.Counting.{has}
+use Rattle.vidi_bits.specs.Number.{has}
 use Rattle.room_ledger.specs.Reservation.{reservation}
 use Rattle.room_ledger.proofs.Totals.{total}
 use Rattle.room_ledger.proofs.sums.reserved.Given as goal

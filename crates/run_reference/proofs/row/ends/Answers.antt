@@ -1,5 +1,5 @@
 use Rattle.std.proofs.Common.{ℕ, ◌<◌, ◌^◌, ◌&&◌, sym, subst}
-use Rattle.trace_model.specs.Counting.{has}
+use Rattle.vidi_bits.specs.Number.{has}
 use Rattle.run_model.proofs.Contents.{mask-below}
 use Rattle.run_reference.proofs.row.ends.Goals as goal
 

@@ -1,7 +1,7 @@
 use Rattle.std.proofs.Common.{ℕ, None}
 use Rattle.net_design.specs.declared.design.Design.{Design}
 use Rattle.script_text.specs.declared.script.Script.{Script}
-use Rattle.script_offer.specs.ScriptOffer.{script_offer}
+use Rattle.script_text.specs.ScriptOffer.{script_offer}
 use Rattle.vidi_recorder.specs.Course.{course}
 use Rattle.vidi.specs.Recorded.{FileEnds}
 use Rattle.vidi.specs.Records.{IsCutShort}

@@ -1,4 +1,5 @@
-use Rattle.vidi_io.proofs.Cut.{cut-at_piece, on_err, on_ok, written-whole}
+use Rattle.std.proofs.lemmas.Result.{on_err_weaker}
+use Rattle.vidi_io.proofs.Cut.{cut-at_piece, on_ok, written-whole}
 use Rattle.vidi_io.proofs.writing.write_whole.Goals as goal
 
 pub returns-clause-ok : goal.returns-clause-ok
@@ -7,6 +8,6 @@ returns-clause-ok g c = on_ok c.append.result
     c.args.name.now c.args.bytes.now c.in_ok-start.ensures.ok) c.append.ensures.ok
 
 pub returns-clause-err : goal.returns-clause-err
-returns-clause-err g c = on_err c.append.result
+returns-clause-err g c = on_err_weaker c.append.result
     (cut-at_piece (g.S.Shelf.files c.args.shelf.now) (g.S.Shelf.files c.start.new.self) (g.S.Shelf.files c.append.new.self)
     c.args.name.now c.args.bytes.now c.in_ok-start.ensures.ok) c.append.ensures.err

@@ -1,6 +1,7 @@
 use Rattle.std.proofs.Common.{ℕ, ◌+◌, [], ◌∷◌, ◌++◌, refl, ap, sym, subst, ◌∙◌, arith}
 use Rattle.std.proofs.lemmas.List.{length_push}
 use Rattle.std.proofs.Math.Logic.{∥∥₁_map}
+use Rattle.vidi_bits.proofs.Results.{on_err}
 use Rattle.circular_buffer.specs.Buffer.{Buffer}
 use Rattle.net_design.specs.declared.design.Design.{Design}
 use Rattle.chan_monitor.specs.Shell.{IsMapped, IsRunning}
@@ -9,7 +10,6 @@ use Rattle.vidi_recorder.specs.Course.{course, plan_of, rule_of, IsRunOf}
 use Rattle.vidi_recorder.specs.Standing.{Going, Reached}
 use Rattle.vidi_recorder.proofs.Ends.{cut-before}
 use Rattle.vidi_recorder.proofs.Going.{cut-header, going-first}
-use Rattle.vidi_recorder.proofs.Pushing.{err_any}
 use Rattle.vidi_recorder.proofs.Turning.{first-runs, reached-of}
 use Rattle.vidi_recorder.proofs.Turns.{stable-nil}
 use Rattle.vidi_recorder.proofs.record.play.Goals as goal
@@ -92,7 +92,7 @@ loop-cycle-preserved g c =
     }
 
 pub returns-in_err-push-clause-cut : goal.returns-in_err-push-clause-cut
-returns-in_err-push-clause-cut g c = err_any c.from_residual.result (λ d s before is.
+returns-in_err-push-clause-cut g c = on_err c.from_residual.result (λ d s before is.
     (let m = c.args.map.now in
     let w = course d m (g.E.Env.offer (g.E.Env.plan c.args.env.now)) c.args.stalls.now c.args.cycles in
     let r = first-runs w (g.S.Shell.map c.args.shell.now) (g.S.Shell.runs c.reset.new.self) c.requires.mapped
@@ -110,7 +110,7 @@ returns-in_err-channel-clause-cut g c =
     let stalls = c.args.stalls.now in
     let cycle = c.loop-cycle.cycle in
     let kept = c.turn.new.cells.last in
-    err_any c.from_residual-in_err-channel.result (λ d s before is.
+    on_err c.from_residual-in_err-channel.result (λ d s before is.
     (let w = course d m (g.E.Env.offer (g.E.Env.plan c.args.env.now)) stalls c.args.cycles in
     let cut = c.in_err-channel.ensures.cut (g.K.Sink.told c.args.sink.now) inv.rows inv.long inv.stands in
     let run = subst (λ p. IsRunOf (course d m (g.E.Env.offer p) stalls cycle) (inv.rows ++ kept ∷ [])) inv.plan

@@ -1,5 +1,6 @@
 use Rattle.std.proofs.Common.{ℕ, ◌+◌, ◌<◌, ◌^◌, List, [], ◌∷◌, ◌++◌, Option, length, ap, sym, subst, ◌∙◌, arith}
 use Rattle.std.proofs.lemmas.List.{length-map}
+use Rattle.vidi_bits.proofs.Results.{on_err}
 use Rattle.circular_buffer.specs.Buffer.{Buffer}
 use Rattle.trace_model.specs.declared.channel.Channel.{Channel}
 use Rattle.trace_model.specs.declared.row.Row.{Row}
@@ -11,13 +12,12 @@ use Rattle.trace_model.specs.Stability.{IsLowestUnstable}
 use Rattle.net_design.specs.declared.design.Design.{Design}
 use Rattle.net_design.specs.declared.values.Values.{Values}
 use Rattle.chan_map.specs.declared.pins.Map.{Map}
-use Rattle.script_offer.specs.Offer.{Carries}
+use Rattle.script_text.specs.Offer.{Carries}
 use Rattle.chan_monitor.specs.Shell.{IsShown}
-use Rattle.env_offers.specs.Offered.{offers_on}
+use Rattle.env_script.specs.Offered.{offers_on}
 use Rattle.script_text.specs.Plan.{allowance_at}
 use Rattle.vidi_recorder.specs.Course.{course, plan_of, sizes_of, IsRunOf}
 use Rattle.vidi_recorder.specs.Standing.{Cut, Reached}
-use Rattle.vidi_recorder.proofs.Pushing.{err_any}
 use Rattle.vidi_recorder.proofs.Going.{Cycle, mixed-long}
 use Rattle.vidi_recorder.proofs.Turns.{clocked, count-few, cut-next, fits-now, follows, follows-also, going-next, lasting, may}
 use Rattle.vidi_recorder.proofs.Turns.{one-most, run-with, sizes-next, stable-kept, stands-next, stops, written-len}
@@ -158,7 +158,7 @@ returns-clause-on g c same first rows long at =
     )
 
 pub returns-in_err-give-clause-cut : goal.returns-in_err-give-clause-cut
-returns-in_err-give-clause-cut g c = err_any c.from_residual.result (λ first rows long at.
+returns-in_err-give-clause-cut g c = on_err c.from_residual.result (λ first rows long at.
     (let env = c.args.env.now in
     let m = c.args.map.now in
     let stalls = c.args.stalls.now in

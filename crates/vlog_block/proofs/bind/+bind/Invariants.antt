@@ -1,7 +1,7 @@
 use Rattle.std.proofs.Common.{◌≡◌, ℕ, ◌+◌, ◌≤◌, drop}
 use Rattle.vlog_tree.specs.Plain.{plain_exprs}
 use Rattle.vlog_size.specs.Size.{sizes_of_all, total_width}
-use Rattle.vlog_operators.specs.Number.{IsWidth}
+use Rattle.vidi_bits.specs.Number.{IsWidth}
 use Rattle.net_design.specs.declared.values.Values.{Values}
 use Rattle.net_design.specs.Value as code
 use Rattle.net_design.specs.Bits as bits

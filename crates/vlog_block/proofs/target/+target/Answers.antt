@@ -1,15 +1,15 @@
 use Rattle.std.proofs.Common.{◌≡◌, ◌+◌, ◌/◌, ◌^◌, ◌||◌, ◌++◌, drop, append_assoc, ap, sym, subst, ◌∙◌}
+use Rattle.std.proofs.Math.Bool.{or_assoc}
+use Rattle.net_code.specs.Targets.{bit_count}
 use Rattle.vlog_tree.specs.Tree.{MoreTargets}
 use Rattle.vlog_tree.specs.Plain.{plain_target, plain_targets}
 use Rattle.net_design.specs.Updates as places
 use Rattle.net_design.specs.Bits as bits
-use Rattle.net_design.proofs.BoolLaws.{or_assoc}
 use Rattle.net_design.proofs.UpdateLaws.{from_here}
 use Rattle.vlog_block.specs.Sources.{names_of}
 use Rattle.vlog_block.specs.Fit.{AreFitTargets}
 use Rattle.vlog_block.specs.Targets.{targets_width, targets_updates}
 use Rattle.vlog_block.specs.Written.{target_reads, target_writes, target_adds, targets_read, targets_write, targets_add}
-use Rattle.net_drive.specs.Drive.{bit_count}
 use Rattle.vlog_block.specs.Naming.{place_names, target_names, targets_names, target_count, targets_count}
 use Rattle.vlog_block.proofs.Names.{sum_assoc}
 use Rattle.vlog_block.proofs.Places.{part_added, width_added}

@@ -1,5 +1,6 @@
 use Rattle.std.proofs.Common.{◌≡◌, ℕ, ◌+◌, ◌/◌, ◌^◌, ◌||◌, ◌++◌, drop}
 use Rattle.std.specs.List.{AllByRecursion}
+use Rattle.net_code.specs.Targets.{bit_count}
 use Rattle.vlog_tree.specs.Plain.{plain_targets}
 use Rattle.net_design.specs.declared.values.Values.{Values}
 use Rattle.net_design.specs.Updates as places
@@ -9,7 +10,6 @@ use Rattle.vlog_block.specs.Sources.{names_of}
 use Rattle.vlog_block.specs.Fit.{AreFitTargets}
 use Rattle.vlog_block.specs.Targets.{targets_width, targets_updates}
 use Rattle.vlog_block.specs.Written.{targets_read, targets_write, targets_add}
-use Rattle.net_drive.specs.Drive.{bit_count}
 use Rattle.vlog_block.specs.Naming.{place_names, targets_names, targets_count}
 use Rattle.vlog_block.proofs.target.+target.Given as goal
 

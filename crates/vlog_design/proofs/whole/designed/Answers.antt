@@ -1,11 +1,19 @@
-use Rattle.std.proofs.Common.{List, subst, sym}
+use Rattle.std.proofs.Common.{◌≡◌, ℕ, List, subst, sym}
+use Rattle.flat_parts.specs.Instances.{HaveOwnPaths, AreDeclaredIn}
+use Rattle.vlog_tree.specs.Tree.{FileOf}
 use Rattle.vlog_tree.specs.Plain.{plain}
-use Rattle.vlog_names.specs.Entries.{modules_of}
+use Rattle.vlog_size.specs.Table.{Named}
+use Rattle.vlog_names.specs.Entries.{Names, modules_of}
 use Rattle.vlog_elab.specs.Instances.{ModuleInstance, instances}
 use Rattle.vlog_elab.specs.Plain.{plain_instances}
-use Rattle.flat_drivers.specs.Seated.{HaveOwnPaths, AreDeclaredIn, AreFaultlessInstances}
+use Rattle.flat_drivers.specs.Seated.{AreFaultlessInstances}
 use Rattle.vlog_design.proofs.Found.{no-consts, no-widths}
 use Rattle.vlog_design.proofs.whole.designed.Goals as goal
+
+declared-in : (file : FileOf ℕ) (top : List ℕ) (modules : List (Named Names)) (is : List ModuleInstance) → modules ≡ modules_of file
+    → is ≡ instances file top → AreDeclaredIn (modules_of file) (instances file top) → AreDeclaredIn modules is
+declared-in file top modules is m l h =
+    subst (λ ms. AreDeclaredIn ms is) (sym m) (subst (AreDeclaredIn (modules_of file)) (sym l) h)
 
 pub checked_code-requires-clause-paths : goal.checked_code-requires-clause-paths
 checked_code-requires-clause-paths c = subst HaveOwnPaths (sym c.requires.listed)
@@ -13,9 +21,13 @@ checked_code-requires-clause-paths c = subst HaveOwnPaths (sym c.requires.listed
 
 pub checked_code-requires-clause-names : goal.checked_code-requires-clause-names
 checked_code-requires-clause-names c =
-    subst (λ ms. AreDeclaredIn ms (plain_instances c.args.list.now)) (sym c.requires.modules)
-    (subst (AreDeclaredIn (modules_of (plain c.args.file.now))) (sym c.requires.listed)
-    (c.instances_are_declared.ensures (plain c.args.file.now) c.args.top.now))
+    declared-in (plain c.args.file.now) c.args.top.now c.args.modules.now (plain_instances c.args.list.now) c.requires.modules
+    c.requires.listed (c.instances_are_declared.ensures (plain c.args.file.now) c.args.top.now)
+
+pub design_of-requires-clause-names : goal.design_of-requires-clause-names
+design_of-requires-clause-names c =
+    declared-in (plain c.args.file.now) c.args.top.now c.args.modules.now (plain_instances c.args.list.now) c.requires.modules
+    c.requires.listed (c.instances_are_declared.ensures (plain c.args.file.now) c.args.top.now)
 
 pub checked_code-requires-clause-faultless : goal.checked_code-requires-clause-faultless
 checked_code-requires-clause-faultless c = subst AreFaultlessInstances (sym c.requires.listed)

@@ -2,13 +2,13 @@ use Rattle.std.proofs.Common.{max, ap, ◌∙◌}
 use Rattle.vlog_tree.specs.Plain.{plain_expr, plain_target}
 use Rattle.vlog_block.specs.Sources.{names_of}
 use Rattle.vlog_block.specs.Targets.{target_width}
-use Rattle.vlog_driver.specs.Spots.{spot_of}
+use Rattle.vlog_driver.specs.Sites.{site_of}
 use Rattle.vlog_driver.proofs.Assigning.{assignment_result}
 use Rattle.vlog_driver.proofs.assign.assignment.Goals as goal
 
 pub returns : goal.returns
 returns c =
-    assignment_result (spot_of c.args.to.now) (plain_target c.args.target.now) (spot_of c.args.from.now) (plain_expr c.args.e.now)
+    assignment_result (site_of c.args.to.now) (plain_target c.args.target.now) (site_of c.args.from.now) (plain_expr c.args.e.now)
     c.args.line c.set_driver.result c.in_ok-places.places c.in_ok-value.value c.max-w.result
     (record {
       holds = c.in_ok-places.ensures.holds;

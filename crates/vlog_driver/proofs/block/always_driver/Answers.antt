@@ -4,12 +4,12 @@ use Rattle.net_design.specs.Updates.{run}
 use Rattle.net_design.specs.Bits.{HasBits}
 use Rattle.net_design.specs.Last.{HasLast}
 use Rattle.vlog_block.specs.Updates.{body_updates}
-use Rattle.vlog_driver.specs.Spots.{spot_of, numbers_from}
+use Rattle.vlog_driver.specs.Sites.{site_of, numbers_from}
 use Rattle.vlog_driver.proofs.block.always_driver.Goals as goal
 
 pub returns-clause-driver : goal.returns-clause-driver
 returns-clause-driver c =
-    let p = spot_of c.args.site.now in
+    let p = site_of c.args.site.now in
     let a = plain_always c.args.block.now in
     let code = c.in_ok-code.code in
     record {

@@ -1,5 +1,6 @@
 use Rattle.std.proofs.Common.{sym, ◌∙◌}
-use Rattle.vlog_hierarchy.proofs.PlaceLaws.{grown, no_some}
+use Rattle.vidi_bits.proofs.Lists.{no_some}
+use Rattle.vlog_hierarchy.proofs.PlaceLaws.{grown}
 use Rattle.vlog_hierarchy.proofs.places.add_place.Goals as goal
 
 pub returns : goal.returns

@@ -1,16 +1,22 @@
-use Rattle.std.proofs.Common.{◌++◌, ◌<◌, List, ℕ, length, ap, sym, ◌∙◌, arith}
+use Rattle.std.proofs.Common.{◌++◌, ◌<◌, List, ℕ, length, false, replicate, ap, sym, ◌∙◌, arith}
 use Rattle.std.specs.Prelude.{slice_index}
 use Rattle.std.proofs.lemmas.List.{length-map}
 use Rattle.vlog_hierarchy.specs.Plain.{plain_outline, plain_outlines}
 use Rattle.vlog_hierarchy.specs.Nested.{kids}
 use Rattle.vlog_hierarchy.specs.Reach.{fresh}
-use Rattle.vlog_hierarchy.proofs.Reaching.{start_at, next_at, place_within, end_reach}
+use Rattle.vlog_hierarchy.proofs.Reaching.{unmarked_long, start_at, next_at, place_within, end_reach}
 use Rattle.vlog_hierarchy.proofs.walk.walk_from.Goals as goal
+
+pub visit-requires-clause-long : goal.visit-requires-clause-long
+visit-requires-clause-long c = unmarked_long c.in_ok-marks.marks (length c.args.outlines.now) c.in_ok-marks.ensures
 
 pub loop-next-init : goal.loop-next-init
 loop-next-init c =
     start_at (plain_outlines c.args.outlines.now) c.args.from c.in_ok-marks.marks c.visit.new.self.marks c.visit.new.self.found
-    c.requires.closed (c.in_ok-marks.ensures.long ∙ sym (length-map c.args.outlines.now plain_outline)) c.in_ok-marks.ensures.none
+    c.requires.closed
+    (unmarked_long c.in_ok-marks.marks (length c.args.outlines.now) c.in_ok-marks.ensures
+    ∙ sym (length-map c.args.outlines.now plain_outline))
+    (c.in_ok-marks.ensures ∙ ap (λ n. replicate n false) (sym (length-map c.args.outlines.now plain_outline)))
     c.in_ok-visit.ensures.marks
     (c.in_ok-visit.ensures.found
     ∙ ap (λ (xs : List ℕ). xs ++ fresh c.in_ok-marks.marks (kids (plain_outlines c.args.outlines.now) c.args.from)) c.new.ensures)

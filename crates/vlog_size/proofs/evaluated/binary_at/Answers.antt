@@ -1,9 +1,9 @@
 use Rattle.std.proofs.Common.{◌∙◌, ap}
+use Rattle.vidi_bits.proofs.Bools.{left_of, right_of}
 use Rattle.vlog_size.specs.Operators.{kind_of}
 use Rattle.vlog_size.specs.Size.{of_binary}
 use Rattle.vlog_size.specs.Facts.{operated_width}
 use Rattle.vlog_size.specs.declared.operators.Kind.{Kind}
-use Rattle.vlog_size.proofs.Lists.{left_of, right_of}
 use Rattle.vlog_size.proofs.Reaches.{lawfully, binary_made, binary_same, left_facts, right_facts}
 use Rattle.vlog_size.proofs.evaluated.binary_at.Goals as goal
 

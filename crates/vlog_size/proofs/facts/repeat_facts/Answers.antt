@@ -1,13 +1,14 @@
 use Rattle.std.proofs.Common.{◌≡◌, ◌∙◌, ◌++◌, ◌&&◌, ap, sym, refl, ℕ, Bool, Option}
+use Rattle.std.proofs.Math.Bool.{and-true}
 use Rattle.vlog_size.specs.Size.{too_large, times, total_width, count_fault, all_lawful, parts_const_faults, parts_width_faults}
 use Rattle.vidi_bits.specs.Findings.{first}
-use Rattle.vlog_size.proofs.Firsts.{first_both, and_true, or_none}
+use Rattle.vlog_size.proofs.Firsts.{first_both, or_none}
 use Rattle.vlog_size.proofs.Repeats.{many_capped}
 use Rattle.vlog_size.proofs.facts.repeat_facts.Goals as goal
 
 pub returns : goal.returns
 returns c = λ C all few count many whole parts.
-    let lawful : c.args.parts.now.lawful ≡ all_lawful all = sym (and_true c.args.parts.now.lawful) ∙ parts.lawful in
+    let lawful : c.args.parts.now.lawful ≡ all_lawful all = sym (and-true c.args.parts.now.lawful) ∙ parts.lawful in
     let const : c.args.parts.now.const_fault ≡ first (parts_const_faults all) =
     sym (or_none c.args.parts.now.const_fault) ∙ parts.const_fault in
     let width : c.args.parts.now.width_fault ≡ first (parts_width_faults all) =
@@ -18,7 +19,7 @@ returns c = λ C all few count many whole parts.
       is_unsized = refl;
       unsized_literal = refl;
       constant = c.both-constant.ensures ∙ ap (λ (b : Bool). b && c.args.parts.now.constant) count.facts.constant
-          ∙ ap (λ (b : Bool). C.constant && b) (sym (and_true c.args.parts.now.constant) ∙ parts.constant);
+          ∙ ap (λ (b : Bool). C.constant && b) (sym (and-true c.args.parts.now.constant) ∙ parts.constant);
       width = many_capped c.args.many (times C) c.args.whole.now.width (total_width all) _ many whole.width c.repeat_width-width.ensures;
       whole = refl;
       const_fault = c.either-consts.ensures

@@ -7,7 +7,7 @@ use Rattle.vlog_size.proofs.Rests.{parts_few, next_gathered, none_gathered}
 use Rattle.vlog_size.proofs.Reaches.{done_operands, more_operands, paired}
 use Rattle.vlog_tree.specs.declared.expr.Sel.{Sel}
 use Rattle.vlog_tree.specs.declared.expr.Expr.{Expr}
-use Rattle.vlog_tree.specs.declared.expr.Primary.{Primary}
+use Rattle.vlog_tree.specs.declared.expr.Operand.{Operand}
 use Rattle.vlog_size.specs.declared.operators.Kind.TheVariants.{Sum}
 use Rattle.vlog_size.proofs.size.+evaluate.Goals as goal
 
@@ -80,7 +80,7 @@ evaluate-returns-in-Choice t c =
 pub evaluate_prim-returns-in-Ref : goal.evaluate_prim-returns-in-Ref
 evaluate_prim-returns-in-Ref t c =
     let P : Sizes → Type 0 = λ s. ShowsAt c.args.wide c.evaluate_ref.result s in
-    subst P (sym (ap (λ (p : Primary). sizes_of_prim (readable_in c.args.view.now) (plain_prim p)) c.in-Ref.is)) c.evaluate_ref.ensures
+    subst P (sym (ap (λ (p : Operand). sizes_of_prim (readable_in c.args.view.now) (plain_prim p)) c.in-Ref.is)) c.evaluate_ref.ensures
 
 pub evaluate_ref-returns : goal.evaluate_ref-returns
 evaluate_ref-returns t c = c.name_at.ensures c.ref_facts-facts.ensures

@@ -1,7 +1,7 @@
 use Rattle.std.proofs.Common.{◌+◌, drop, ap, sym, ◌∙◌}
 use Rattle.vidi_bits.specs.Findings.{first}
 use Rattle.net_drive.specs.declared.findings.NetKind.{NetKind}
-use Rattle.net_drive.specs.Targets.{plain_places}
+use Rattle.net_code.specs.Targets.{plain_places}
 use Rattle.net_drive.specs.Drive.{kind_faults, kind_at, nets_from}
 use Rattle.net_drive.proofs.Exact.{found_first, not_found, nets_split}
 use Rattle.net_drive.proofs.drive.Writers.first_net.Goals as goal

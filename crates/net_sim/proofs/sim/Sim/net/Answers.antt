@@ -1,14 +1,15 @@
 use Rattle.std.proofs.Common.{◌<◌, List, All, length, sym, subst, ◌∙◌, arith}
 use Rattle.std.proofs.lemmas.List.{length-map}
 use Rattle.std.proofs.lemmas.Option.{slice_get_within}
+use Rattle.net_design.specs.Names.{AreAfterParents}
 use Rattle.net_design.specs.declared.design.Instance.{Instance}
 use Rattle.net_design.specs.declared.design.Net.{Net}
 use Rattle.net_design.specs.Settled.{word_count}
 use Rattle.net_order.proofs.Known.{known_parents, known_instances}
-use Rattle.net_flat.proofs.Views.{net_at}
-use Rattle.net_flat.specs.InPlace.{through}
+use Rattle.net_instr.proofs.Views.{net_at}
+use Rattle.net_instr.specs.InPlace.{through}
 use Rattle.net_sim.proofs.SeenLaws.{few_places, slots_long}
-use Rattle.net_sim.specs.Names.{IsCalled, AreAfterParents}
+use Rattle.net_sim.specs.Names.{IsCalled}
 use Rattle.net_sim.specs.Table.{IsTable}
 use Rattle.net_sim.specs.Slots.{widths_of}
 use Rattle.net_sim.proofs.sim.Sim.net.Goals as goal

@@ -1,8 +1,8 @@
 use Rattle.std.proofs.Common.{List, All, sym, subst, arith}
-use Rattle.net_flat.specs.declared.instr.Instr.{Instr}
-use Rattle.net_flat.specs.Machine.{IsInstr, AreBelow}
+use Rattle.net_instr.specs.declared.instr.Instr.{Instr}
+use Rattle.net_instr.specs.Machine.{IsInstr, AreBelow}
 use Rattle.net_sim.specs.Slots.{settling_code, clocking_code}
-use Rattle.net_flat.specs.InPlace.{through}
+use Rattle.net_instr.specs.InPlace.{through}
 use Rattle.net_sim.proofs.SeenLaws.{settles_safe, clocks_safe, seen_again, seen_clocked, slots_long, mid_long}
 use Rattle.net_sim.proofs.SimLaws.{again, clock_moves, clock_long, clock_is, clock_next}
 use Rattle.net_sim.proofs.sim.SimBlock.clock.Goals as goal

@@ -1,8 +1,8 @@
 use Rattle.std.proofs.Common.{◌≡◌, take, drop, replicate, length, ap, sym, subst, ◌∙◌, arith}
-use Rattle.net_flat.specs.Machine.{AreBelow}
+use Rattle.net_instr.specs.Machine.{AreBelow}
 use Rattle.net_sim.specs.Slots.{settling_code, clocking_code}
-use Rattle.net_flat.specs.InPlace.{through}
-use Rattle.net_flat.proofs.InPlaceLaws.{seen_long}
+use Rattle.net_instr.specs.InPlace.{through}
+use Rattle.net_instr.proofs.InPlaceLaws.{seen_long}
 use Rattle.net_sim.proofs.SeenLaws.{few_places, seen_state, seen_front, slots_long}
 use Rattle.net_sim.proofs.PlaceLaws.{zeros_fit}
 use Rattle.net_sim.proofs.LoadLaws.{loaded, loaded_state, load_ready, first_long}

@@ -4,10 +4,10 @@ use Rattle.net_design.specs.declared.design.Net.{Net}
 use Rattle.net_design.specs.declared.design.Direction.TheVariants.{Output}
 use Rattle.net_design.specs.Settled.{word_count}
 use Rattle.net_order.proofs.Known.{known_ports}
-use Rattle.net_flat.proofs.Views.{net_at}
+use Rattle.net_instr.proofs.Views.{net_at}
 use Rattle.net_sim.specs.Places.{port_places}
 use Rattle.net_sim.specs.Slots.{widths_of, shown_in}
-use Rattle.net_flat.specs.InPlace.{through}
+use Rattle.net_instr.specs.InPlace.{through}
 use Rattle.net_sim.proofs.SeenLaws.{few_places, slots_long}
 use Rattle.net_sim.proofs.PlaceLaws.{places_count, pins_at, place_below}
 use Rattle.net_sim.proofs.sim.SimBlock.pin.Goals as goal

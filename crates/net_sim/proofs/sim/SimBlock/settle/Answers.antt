@@ -1,10 +1,10 @@
 use Rattle.std.proofs.Common.{ℕ, List, All, refl, ap, sym, subst, ◌∙◌, arith}
 use Rattle.net_design.specs.Pins.{FitPins}
 use Rattle.net_order.specs.Run.{settled_by}
-use Rattle.net_flat.specs.declared.instr.Instr.{Instr}
-use Rattle.net_flat.specs.Machine.{IsInstr}
+use Rattle.net_instr.specs.declared.instr.Instr.{Instr}
+use Rattle.net_instr.specs.Machine.{IsInstr}
 use Rattle.net_sim.specs.Slots.{state_in, settling_code, clocking_code}
-use Rattle.net_flat.specs.InPlace.{through}
+use Rattle.net_instr.specs.InPlace.{through}
 use Rattle.net_sim.proofs.SeenLaws.{settles_safe, seen_settled, slots_long}
 use Rattle.net_sim.proofs.SimLaws.{after_settling, new_settled, new_only, new_shown, new_state, new_below}
 use Rattle.net_sim.proofs.sim.SimBlock.settle.Goals as goal

@@ -1,7 +1,0 @@
-use Rattle.std.proofs.Common.{◌≡◌}
-use Rattle.chan_monitor.specs.Showing.{replaced}
-use Rattle.env_offers.specs.Offered.{port_numbers}
-use Rattle.env_offers.proofs.offers.fill_content.Given as goal
-
-abbrev pub invariant-loop-port : goal.invariant-loop-port
-invariant-loop-port g l = l.contents ≡ replaced l.fn.contents l.at (port_numbers l.port (g.E.Env.current l.env l.channel).content)

@@ -1,5 +1,0 @@
-//! Tests of offers.
-#![tactic(auto)]
-
-#[cfg(test)]
-mod tests;

@@ -1,6 +1,0 @@
-pub mod Joined
-pub mod Applied
-pub mod Clocked
-pub mod Instances
-pub mod Next
-pub mod Initial

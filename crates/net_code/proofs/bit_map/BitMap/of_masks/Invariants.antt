@@ -1,7 +1,0 @@
-use Rattle.std.proofs.Common.{◌≡◌, ℕ, ◌||◌, drop}
-use Rattle.net_design.specs.Bits.{named}
-use Rattle.net_code.specs.BitMap.{in_map}
-use Rattle.net_code.proofs.bit_map.BitMap.of_masks.Given as goal
-
-abbrev pub invariant-loop-mask : goal.invariant-loop-mask
-invariant-loop-mask l = (m k : ℕ) → (in_map l.map m k || named (drop l.mask-index l.masks) m k) ≡ named l.masks m k

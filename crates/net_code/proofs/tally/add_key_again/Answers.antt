@@ -1,0 +1,8 @@
+use Rattle.std.proofs.Common.{ap, ◌||◌, ◌&&◌, ◌∙◌}
+use Rattle.net_code.specs.BitMap.{in_map}
+use Rattle.net_code.proofs.MaskLaws.{one_key}
+use Rattle.net_code.proofs.tally.add_key_again.Goals as goal
+
+pub returns : goal.returns
+returns c = λ m. c.in_ok-add_again.ensures m 0
+    ∙ ap (λ b. in_map c.args.more.now m 0 || (in_map c.args.once.now m 0 && b)) (one_key c.args.key m)

@@ -1,7 +1,0 @@
-use Rattle.net_flat.proofs.Safe.{block_safe}
-use Rattle.net_flat.proofs.Whole.{safe_reverse}
-use Rattle.net_flat.specs.Statements.{block_code}
-use Rattle.net_flat.proofs.laws.code_is_safe.Goals as goal
-
-pub returns : goal.returns
-returns c = λ widths words o acts narrow h. safe_reverse (block_code widths words o acts) (block_safe widths words narrow o acts h)

@@ -1,9 +1,0 @@
-use Rattle.std.proofs.Common.{ap, ◌∙◌}
-use Rattle.vlog_operators.specs.Number.{has, put_of}
-use Rattle.net_code.proofs.MaskLaws.{has_span}
-use Rattle.net_lawful.proofs.places.span_bits.Goals as goal
-
-pub returns : goal.returns
-returns c = λ k.
-    ap (λ n. has n k) (c.put.ensures ∙ ap (λ x. put_of 0 c.args.span.low c.args.span.width x) c.ones.ensures)
-    ∙ has_span c.args.span.low c.args.span.width k c.requires

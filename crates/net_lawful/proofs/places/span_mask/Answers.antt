@@ -1,5 +1,0 @@
-use Rattle.std.proofs.Common.{ap, ◌==◌, ◌&&◌}
-use Rattle.net_lawful.proofs.places.span_mask.Goals as goal
-
-pub returns : goal.returns
-returns c = λ m k. ap (λ b. (c.args.span.net == m) && b) (c.span_bits-bits.ensures k)

@@ -1,4 +1,0 @@
-pub mod Faults
-pub mod Texts
-pub mod Bound
-pub mod Scripts

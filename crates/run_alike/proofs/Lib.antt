@@ -1,4 +1,0 @@
-pub mod Turned
-pub mod Bound
-pub mod Played
-pub mod Ends

@@ -1,4 +1,0 @@
-pub mod Offer
-pub mod ScriptOffer
-pub mod Places
-pub mod Laws

@@ -1,9 +1,0 @@
-use Rattle.vlog_operators.proofs.Below.{unary_below, binary_below, joined_below}
-use Rattle.vlog_operators.proofs.laws.numbers_fit.Goals as goal
-
-pub returns : goal.returns
-returns c = record {
-  unary = unary_below;
-  binary = binary_below;
-  joined = joined_below;
-}

@@ -1,0 +1,73 @@
+//! The parts of lists spelled as tokens.
+
+ghost use Rattle.std.specs.Prelude.{◌≡◌, ℕ, List, ◌++◌, OnOk, map};
+ghost use Rattle.vlog_tree.specs.Words.{WordOf, tokens_of};
+ghost use Rattle.vlog_tree.specs.Plain.{plain_expr};
+ghost use Rattle.vlog_tree.specs.Spelling.{with_commas, hash_words, expr_words};
+
+use crate::spelling::expr::push_expr;
+use crate::spelling::token::put_fixed;
+use std::alloc::Global;
+use vidi_bits::Memory;
+use vlog_lex::Tokens;
+use vlog_tree::{Expr, Terminal};
+
+/// A part of a tree that stands in lists.
+pub trait Spelled {
+    /// The words of which it is spelled.
+    ghost words: { Self → List (WordOf ℕ) };
+
+    /// Adds its tokens.
+    fn push(&self, alloc: Global, out: &mut Tokens) -> Result<(), Memory>
+        ensures { OnOk result (out.new ≡ out.old ++ tokens_of (words self.now)) };
+}
+
+/// Adds the tokens of these parts, with commas between them.
+pub fn push_with_commas<T: Spelled>(
+    alloc: Global,
+    out: &mut Tokens,
+    parts: &[T],
+) -> Result<(), Memory>
+    ensures { OnOk result (out.new ≡ out.old ++ tokens_of (with_commas T.words parts.now)) }
+{
+    match parts {
+        [] => Ok(()),
+        [first, rest @ ..] => {
+            first.push(alloc, out)?;
+            for part in rest {
+                put_fixed(alloc, out, Terminal::Comma)?;
+                part.push(alloc, out)?;
+            }
+            Ok(())
+        }
+    }
+}
+
+/// Adds the tokens of `#(part, ..)`, where there is a part.
+pub fn push_hash<T: Spelled>(alloc: Global, out: &mut Tokens, parts: &[T]) -> Result<(), Memory>
+    ensures { OnOk result (out.new ≡ out.old ++ tokens_of (hash_words T.words parts.now)) }
+{
+    match parts {
+        [] => Ok(()),
+        _ => {
+            put_fixed(alloc, out, Terminal::Hash)?;
+            put_fixed(alloc, out, Terminal::ParenOpen)?;
+            push_with_commas(alloc, out, parts)?;
+            put_fixed(alloc, out, Terminal::ParenClose)
+        }
+    }
+}
+
+impl Spelled for Expr {
+    ghost words = { λ e. expr_words (plain_expr e) };
+
+    fn push(&self, alloc: Global, out: &mut Tokens) -> Result<(), Memory> {
+        push_expr(alloc, out, self)
+    }
+}
+
+pub fn push_labels(alloc: Global, out: &mut Tokens, labels: &[Expr]) -> Result<(), Memory>
+    ensures { OnOk result (out.new ≡ out.old ++ tokens_of (with_commas expr_words (map plain_expr labels.now))) }
+{
+    push_with_commas(alloc, out, labels)
+}
