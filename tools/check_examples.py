@@ -55,6 +55,7 @@ def main():
     faults = {name: fault(vidi, os.path.join(examples, name)) for name in names}
     for name, found in faults.items():
         print(f"example {name}: {found or 'as is expected'}")
+    print(f"{len(faults)} examples played, {sum(map(bool, faults.values()))} wrong")
     sys.exit(1 if any(faults.values()) else 0)
 
 

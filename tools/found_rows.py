@@ -1,0 +1,88 @@
+#!/usr/bin/env python3
+"""Prints what Vidi has to print of a design as it was found, with Icarus in the place of Vidi: for the gallery of examples/.
+
+    found_rows.py FOUND MAP SCRIPT             the lines of vidi run
+    found_rows.py FOUND MAP SCRIPT STALLS      those of vidi record and of vidi dump of its trace
+    found_rows.py --bug FOUND MAP SCRIPT EDIT  those of the planted bug: the last line of an unstable run; else those of vidi compare of
+                                               the recordings of both, found by the definition of early, missing and unequal events
+
+EDIT has a line `old: TEXT` and a line `new: TEXT`; the old text stands once in FOUND.
+"""
+import os
+import sys
+import tempfile
+
+import icarus_rows
+import same_transfers
+import tool_kit
+from tool_kit import Problem
+
+
+def edited(text, edit):
+    """The text with the planted bug."""
+    old, new = ([line[5:] for line in tool_kit.text_of(edit).splitlines() if line.startswith(word)] for word in ("old: ", "new: "))
+    if len(old) != 1 or len(new) != 1 or text.count(old[0]) != 1:
+        raise Problem(f"{edit}: its old text doesn't stand exactly once")
+    return text.replace(old[0], new[0])
+
+
+def rows_of(text, plan, script, stalls=None):
+    """The rows of a text's run, the unstable channel if there is one, and the widths."""
+    with tempfile.TemporaryDirectory() as folder:
+        path = os.path.join(folder, "found.v")
+        tool_kit.write(path, text)
+        design = same_transfers.Found([path], plan, folder)
+        room = icarus_rows.Room(design.widths, stalls) if stalls else icarus_rows.AllUp(design.widths)
+        try:
+            return *icarus_rows.play(plan, design, script, room), design.widths
+        finally:
+            design.close()
+
+
+def clocked(rows, names):
+    """For each channel the starts, as (content, completions before), and the completions, as completions before."""
+    done, found = {name: 0 for name in names}, {name: ([], []) for name in names}
+    for started, ended in rows:
+        before = list(done.values())
+        for name, content in started.items():
+            found[name][0].append((content, before))
+        for name in ended:
+            found[name][1].append((None, before))
+            done[name] += 1
+    return found
+
+
+def findings(rows, others, names):
+    """The lines of `vidi compare`, by its definition."""
+    found, lines = (clocked(rows, names), clocked(others, names)), []
+    for name in names:
+        (starts, ends), (others_starts, others_ends) = found[0][name], found[1][name]
+        lines += [f"differs {name} start {at}" for at, (a, b) in enumerate(zip(starts, others_starts)) if a[0] != b[0]][:1]
+        for kind, mine, theirs in (("start", starts, others_starts), ("end", ends, others_ends)):
+            if len(mine) != len(theirs):
+                lines.append(f"{'missing' if len(mine) > len(theirs) else 'extra'} {name} {kind} {min(len(mine), len(theirs))}")
+        for kind, mine, theirs in (("start", starts, others_starts), ("end", ends, others_ends)):
+            early = [at for at, (a, b) in enumerate(zip(mine, theirs)) if any(y < x for x, y in zip(a[1], b[1]))]
+            lines += [f"early {name} {kind} {early[0]} count {len(early)}"] if early else []
+    return lines + ["diverged" if lines else "no divergence"]
+
+
+def main():
+    """Prints the lines."""
+    is_bug, words = sys.argv[1] == "--bug", [word for word in sys.argv[1:] if word != "--bug"]
+    text, plan, script = tool_kit.text_of(words[0]), icarus_rows.Map(words[1]), icarus_rows.lines(words[2])
+    names = [channel[0] for channel in plan.channels]
+    if is_bug:
+        rows, unstable, _ = rows_of(edited(text, words[3]), plan, script)
+        good = rows_of(text, plan, script)[0]
+        lines = [f"vidi: unstable {unstable} cycle {len(rows)}"] if unstable else findings(good, rows, names)
+        print("\n".join(lines))
+    elif len(words) > 3:
+        rows, unstable, widths = rows_of(text, plan, script, words[3])
+        icarus_rows.say_recording(plan, widths, rows, unstable)
+    else:
+        icarus_rows.say_run(*rows_of(text, plan, script)[:2])
+
+
+if __name__ == "__main__":
+    tool_kit.ended(main)
