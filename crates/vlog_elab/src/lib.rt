@@ -2,7 +2,7 @@
 //! profile).
 //!
 //! `specs/Instances` lists the instances of a file and its top, `specs/Reasons` says why they are refused, in the order in which the
-//! reasons are tried, and `specs/Answered` sets an answer beside it.
+//! reasons are tried, and `specs/Told` what an error tells of them.
 #![tactic(auto)]
 
 mod all;
