@@ -37,6 +37,7 @@ use Rattle.flat_clock.proofs.Tables.{input_at}
 use Rattle.flat_clock.proofs.Children.{stands, item_in}
 use Rattle.flat_clock.proofs.Traces.{ConnectedOnce, Traced, traced, Joined, reached}
 use Rattle.flat_clock.proofs.Inputs.{one_bit_inputs_are}
+use Rattle.vlog_hierarchy.specs.declared.nodes.TheConstants.{MOST_INSTANCES, MOST_LEVELS}
 
 -- ---- no port is connected twice
 
@@ -149,16 +150,16 @@ waited file name g a id clear listed stands is =
 
 -- ---- the instances with joined names
 
-scopes_some : (os : List Outline) (inputs : List Name) (k : ℕ) → scopes_of os inputs (Some k) ≡ scopes 4097 os (ports_from 0 [] inputs) k
+scopes_some : (os : List Outline) (inputs : List Name) (k : ℕ) → scopes_of os inputs (Some k) ≡ scopes MOST_LEVELS os (ports_from 0 [] inputs) k
 unfolding scopes_of
 scopes_some os inputs k = refl
 
 pub all_scopes : (file : FileOf ℕ) (name : List ℕ) (k : ℕ) → place_of file.modules name ≡ Some k
-    → scopes_in file name ≡ scopes 4097 (outlines_of file.modules) (ports_from 0 [] (inputs_in file name)) k
+    → scopes_in file name ≡ scopes MOST_LEVELS (outlines_of file.modules) (ports_from 0 [] (inputs_in file name)) k
 all_scopes file name k found =
     ap (scopes_of (outlines_of file.modules) (inputs_in file name)) found ∙ scopes_some (outlines_of file.modules) (inputs_in file name) k
 
-few_scopes : (file : FileOf ℕ) (name : List ℕ) → Clear file name → length (scopes_in file name) ≤ 4096
+few_scopes : (file : FileOf ℕ) (name : List ℕ) → Clear file name → length (scopes_in file name) ≤ MOST_INSTANCES
 few_scopes file name clear =
     let places : List hierarchy.Scope → List ℕ = λ ss. map (λ (s : hierarchy.Scope). s.place) ss in
     let ns : List Node = nodes_of (outlines_of file.modules) (place_of file.modules name) in
@@ -184,10 +185,10 @@ its_items ms k m at = ap items_in at
 input_of_clock : (file : FileOf ℕ) (name : List ℕ) (top : ModuleOf ℕ) → Clear file name → IsTop file name top → (x : Name)
     → IsClock file.modules top x → clock_name file name (inputs_in file name) ≡ Some x
 input_of_clock file name top clear (k, found, at) x (is_input, (path, m, s, inner, joins, waits)) =
-    there (reached 4097 file.modules (modules_apart file name clear) (connected_once file name clear) k top (scope_with [] top)
+    there (reached MOST_LEVELS file.modules (modules_apart file name clear) (connected_once file name clear) k top (scope_with [] top)
     (ports_from 0 [] (inputs_in file name)) x path m s inner at joins)
   where
-    all : scopes_in file name ≡ scopes 4097 (outlines_of file.modules) (ports_from 0 [] (inputs_in file name)) k
+    all : scopes_in file name ≡ scopes MOST_LEVELS (outlines_of file.modules) (ports_from 0 [] (inputs_in file name)) k
     all = all_scopes file name k found
 
     by_port : (port : Option ℕ) → Same (first_port (ports_in file name)) port → port ≡ value_of (ports_from 0 [] (inputs_in file name)) x
@@ -206,9 +207,9 @@ input_of_clock file name top clear (k, found, at) x (is_input, (path, m, s, inne
         (subst (λ (ys : List (ItemOf ℕ)). Contains ys (AlwaysItem a)) (sym (its_items file.modules g.scope.place m g.there)) item) event in
         by_port (value_of g.scope.joined id.name) same (ap (value_of g.scope.joined) named ∙ g.value)
 
-    there : Joined file.modules (scopes 4097 (outlines_of file.modules) (ports_from 0 [] (inputs_in file name)) k) m inner
+    there : Joined file.modules (scopes MOST_LEVELS (outlines_of file.modules) (ports_from 0 [] (inputs_in file name)) k) m inner
         (value_of (ports_from 0 [] (inputs_in file name)) x)
-        ⊎ (4097 ≤ length (scopes 4097 (outlines_of file.modules) (ports_from 0 [] (inputs_in file name)) k))
+        ⊎ (MOST_LEVELS ≤ length (scopes MOST_LEVELS (outlines_of file.modules) (ports_from 0 [] (inputs_in file name)) k))
         → clock_name file name (inputs_in file name) ≡ Some x
     there (inl g) =
         in_scope
@@ -218,7 +219,7 @@ input_of_clock file name top clear (k, found, at) x (is_input, (path, m, s, inne
     there (inr many) =
         let small = few_scopes file name clear in
         let long : length (scopes_in file name)
-        ≡ length (scopes 4097 (outlines_of file.modules) (ports_from 0 [] (inputs_in file name)) k) =
+        ≡ length (scopes MOST_LEVELS (outlines_of file.modules) (ports_from 0 [] (inputs_in file name)) k) =
         ap (λ (ss : List hierarchy.Scope). length ss) all in
         absurd (omega (arith, small, long, many))
 
@@ -288,7 +289,7 @@ clock_of_input file name top clear (k, found, at) x p wanted named =
 
     t : Traced file.modules top (scope_with [] top) (ports_from 0 [] (inputs_in file name)) r.0
     t =
-        traced 4097 file.modules top (scope_with [] top) (ports_from 0 [] (inputs_in file name)) k r.0 at
+        traced MOST_LEVELS file.modules top (scope_with [] top) (ports_from 0 [] (inputs_in file name)) k r.0 at
         (subst (λ (ss : List hierarchy.Scope). Contains ss r.0) (all_scopes file name k found) r.1)
 
     b : Block t.tree.items r.0.joined p

@@ -15,6 +15,7 @@ use Rattle.vlog_hierarchy.specs.Outlines.{place_of}
 use Rattle.vlog_elab.specs.Instances.{ModuleInstance, child_of, child_at, item_children, children_from, children, within, top_of, top_at}
 use Rattle.vlog_elab.specs.Instances.{instances}
 use Rattle.flat_drivers.specs.Laws.{InstancesAreDeclared}
+use Rattle.vlog_hierarchy.specs.declared.nodes.TheConstants.{MOST_LEVELS}
 
 -- ---- what holds of each of several lists holds of all
 
@@ -80,8 +81,8 @@ module _ (ms : List (ModuleOf ℕ)) where
 
 all_here : (file : FileOf ℕ) (name : List ℕ) → AllByRecursion (IsHere file.modules) (instances file name)
 unfolding instances
-all_here file name = flat_all (IsHere file.modules) (within 4097 file.modules) (top_at file.modules (place_of file.modules name))
-    (within_here file.modules 4097) (top_here file.modules (place_of file.modules name))
+all_here file name = flat_all (IsHere file.modules) (within MOST_LEVELS file.modules) (top_at file.modules (place_of file.modules name))
+    (within_here file.modules MOST_LEVELS) (top_here file.modules (place_of file.modules name))
 
 declared_here : (file : FileOf ℕ) (i : ModuleInstance) → IsHere file.modules i → IsDeclaredIn (modules_of file) i
 unfolding modules_of

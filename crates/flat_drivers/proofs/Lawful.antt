@@ -22,6 +22,7 @@ use Rattle.vlog_elab.specs.Reasons.{instance_consts, instance_widths}
 use Rattle.flat_drivers.specs.Seated.{IsFaultlessInstance}
 use Rattle.flat_drivers.specs.Laws.{InstancesAreFaultless}
 use Rattle.flat_drivers.proofs.Declared.{both_all}
+use Rattle.vlog_hierarchy.specs.declared.nodes.TheConstants.{MOST_LEVELS}
 
 -- ---- empty lists
 
@@ -140,5 +141,5 @@ module _ (ms : List (ModuleOf ℕ)) where
 pub all_faultless : InstancesAreFaultless
 unfolding instances
 all_faultless file name h g =
-    all_shown file.modules 4097 (top_at file.modules (place_of file.modules name)) (within_shown file.modules 4097)
+    all_shown file.modules MOST_LEVELS (top_at file.modules (place_of file.modules name)) (within_shown file.modules MOST_LEVELS)
     (top_good file.modules (place_of file.modules name)) h g

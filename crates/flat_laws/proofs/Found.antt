@@ -19,6 +19,7 @@ use Rattle.vlog_elab.specs.Errors.{of_name, of_hierarchy}
 use Rattle.vlog_elab.specs.Instances.{instances, node_of}
 use Rattle.vlog_elab.specs.Reasons.{Clear, name_findings, kind_findings, text_findings, hierarchy_findings, late_findings, size_findings}
 use Rattle.vlog_elab.proofs.Same.{same_nodes}
+use Rattle.vlog_hierarchy.specs.declared.nodes.TheConstants.{MOST_INSTANCES}
 
 -- E3 finds nothing, and E4 neither
 pub no_names : (file : FileOf ℕ) (name : List ℕ) → Clear file name → twice_names file ++ unknown_names file name ≡ []
@@ -53,10 +54,10 @@ not_below : (a b : ℕ) → nat_lt a b ≡ false → b ≤ a
 not_below a b h = grind (arith, h)
 
 -- E12: there are at most 4,096 instances
-pub few : (file : FileOf ℕ) (name : List ℕ) → Clear file name → length (instances file name) ≤ 4096
+pub few : (file : FileOf ℕ) (name : List ℕ) → Clear file name → length (instances file name) ≤ MOST_INSTANCES
 few file name clear =
     let ns : List Node = nodes_of (outlines_of file.modules) (place_of file.modules name) in
-    let small : length ns ≤ 4096 =
-    not_below 4096 (length ns) (told_none (nat_lt 4096 (length ns)) (e.TooBig Instances) (few_nodes file name clear)) in
+    let small : length ns ≤ MOST_INSTANCES =
+    not_below MOST_INSTANCES (length ns) (told_none (nat_lt MOST_INSTANCES (length ns)) (e.TooBig Instances) (few_nodes file name clear)) in
     let same : length (map node_of (instances file name)) ≡ length ns = ap (λ (xs : List Node). length xs) (same_nodes file name) in
     omega (arith, small, same, length-map (instances file name) node_of)

@@ -18,6 +18,7 @@ use Rattle.flat_laws.proofs.Lists.{in_got, no_pairs}
 use Rattle.flat_laws.proofs.Within.{Led, led, Reached, reached}
 use Rattle.flat_laws.proofs.Differing.{paths_apart}
 use Rattle.flat_laws.proofs.Found.{modules_apart, names_apart, few}
+use Rattle.vlog_hierarchy.specs.declared.nodes.TheConstants.{MOST_INSTANCES, MOST_LEVELS}
 
 -- the instance that the top is
 abbrev pub top_instance : ℕ → ModuleOf ℕ → ModuleInstance
@@ -31,13 +32,13 @@ listed_at levels ms o k m found at =
     ∙ append-nil (within levels ms (top_instance k m))
 
 pub all_listed : (file : FileOf ℕ) (name : List ℕ) (k : ℕ) (m : ModuleOf ℕ) → place_of file.modules name ≡ Some k
-    → slice_get file.modules k ≡ Some m → instances file name ≡ within 4097 file.modules (top_instance k m)
+    → slice_get file.modules k ≡ Some m → instances file name ≡ within MOST_LEVELS file.modules (top_instance k m)
 unfolding instances
-all_listed file name k m found at = listed_at 4097 file.modules (place_of file.modules name) k m found at
+all_listed file name k m found at = listed_at MOST_LEVELS file.modules (place_of file.modules name) k m found at
 
 none_listed : (file : FileOf ℕ) (name : List ℕ) → place_of file.modules name ≡ None → instances file name ≡ []
 unfolding instances
-none_listed file name none = ap (λ (x : Option ℕ). flat_map (within 4097 file.modules) (top_at file.modules x)) none
+none_listed file name none = ap (λ (x : Option ℕ). flat_map (within MOST_LEVELS file.modules) (top_at file.modules x)) none
 
 -- ---- the laws
 
@@ -45,7 +46,7 @@ at_path : (file : FileOf ℕ) (name : List ℕ) (top : ModuleOf ℕ) → IsTop f
     → IsListed (instances file name) path m s → IsAt file.modules top path m s
 at_path file name top (k, found, at) path m s (i, listed, is_path, tree, scope) =
     let l : Led file.modules (top_instance k top) i =
-    led 4097 file.modules (top_instance k top) i
+    led MOST_LEVELS file.modules (top_instance k top) i
     (subst (λ (is : List ModuleInstance). Contains is i) (all_listed file name k top found at) listed) in
     let same : l.names ≡ path = sym l.path ∙ is_path in
     subst (λ (p : Full). Leads file.modules top (scope_with [] top) p m s) same
@@ -65,9 +66,9 @@ listed_path : (file : FileOf ℕ) (name : List ℕ) (top : ModuleOf ℕ) → Cle
     (m : ModuleOf ℕ) (s : Scope) → IsAt file.modules top path m s → IsListed (instances file name) path m s
 listed_path file name top clear (k, found, at) path m s leads =
     let l = few file name clear in
-    listed_there 4097 (instances file name) file.modules (top_instance k top) path m s (all_listed file name k top found at)
+    listed_there MOST_LEVELS (instances file name) file.modules (top_instance k top) path m s (all_listed file name k top found at)
     (omega (arith, l)) refl
-    (reached 4097 file.modules (modules_apart file name clear) (top_instance k top) path m s leads)
+    (reached MOST_LEVELS file.modules (modules_apart file name clear) (top_instance k top) path m s leads)
 
 pub instances_are_all : InstancesAreAll
 instances_are_all file name top clear is_top path m s =
@@ -81,7 +82,7 @@ paths_differ file name clear = one (place_of file.modules name) refl
     one (Some k) found =
         let at = there file.modules name k found in
         subst (AllPairs HasOtherPath) (sym (all_listed file name k at.0 found at.1))
-        (paths_apart 4097 file.modules (names_apart file name clear) (top_instance k at.0) (in_got file.modules k at.0 at.1))
+        (paths_apart MOST_LEVELS file.modules (names_apart file name clear) (top_instance k at.0) (in_got file.modules k at.0 at.1))
 
 first_of_levels : (levels n : ℕ) (ms : List (ModuleOf ℕ)) (i : ModuleInstance) → levels ≡ suc n
     → within levels ms i ≡ i ∷ flat_map (within n ms) (children ms i)
@@ -90,6 +91,6 @@ first_of_levels levels n ms i is = ap (λ j. within j ms i) is ∙ deeper n ms i
 pub first_is_top : FirstIsTop
 first_is_top file name top clear (k, found, at) = (
   k,
-  flat_map (within 4096 file.modules) (children file.modules (top_instance k top)),
-  all_listed file name k top found at ∙ first_of_levels 4097 4096 file.modules (top_instance k top) (omega arith),
+  flat_map (within MOST_INSTANCES file.modules) (children file.modules (top_instance k top)),
+  all_listed file name k top found at ∙ first_of_levels MOST_LEVELS MOST_INSTANCES file.modules (top_instance k top) (omega arith),
 )

@@ -33,6 +33,7 @@ use Rattle.vlog_elab.specs.Instances.{instances}
 use Rattle.vlog_meaning.specs.Names.{Full}
 use Rattle.flat_parts.specs.Laws.{PathsDiffer, NamesDiffer}
 use Rattle.flat_layout.proofs.Numbers.{built_names}
+use Rattle.vlog_hierarchy.specs.declared.nodes.TheConstants.{MOST_LEVELS}
 
 -- ---- pairs
 
@@ -180,7 +181,7 @@ placed_top_names ms (Some k) = top_names k (slice_get ms k)
 all_names : (file : FileOf ℕ) (name : List ℕ) → HaveNames (instances file name)
 unfolding instances
 all_names file name =
-    in_pieces HasNames HasNames (within 4097 file.modules) (within_names 4097 file.modules)
+    in_pieces HasNames HasNames (within MOST_LEVELS file.modules) (within_names MOST_LEVELS file.modules)
     (top_at file.modules (place_of file.modules name)) (placed_top_names file.modules (place_of file.modules name))
 
 -- ---- full names

@@ -1,5 +1,6 @@
 //! The ledger of the store's bytes and of what the channels have reserved.
 
+ghost use Rattle.room_ledger.specs.declared.room.TheConstants.{MOST_CONTENT_BYTES};
 ghost use Rattle.std.specs.Prelude.{◌≡◌, ◌<◌, ◌≤◌, ◌^◌, ◌↔◌, IsTrue, IfOk, IfErr, length, map, sum_by};
 ghost use Rattle.vidi_bits.specs.Number.{has};
 ghost use Rattle.trace_model.specs.Channel.{content_bytes};
@@ -13,6 +14,9 @@ use crate::sums::{event_len, head_len, need, raised, reserved, sizes_of};
 use std::alloc::Global;
 use std::marker::Model;
 use trace_model::{Channels, names};
+
+/// The most content bytes of all channels together.
+pub const MOST_CONTENT_BYTES: u32 = 2_048;
 
 /// How many bytes of the store are used, and which channels have their gate up, so that whatever they
 /// start can still be put. In each cycle come `emit`, `drain` and `regrant`, in this order. A contract sees
@@ -46,7 +50,7 @@ impl Room {
     pub fn new(alloc: Global, channels: &Channels, capacity: u32) -> Result<Room, RoomError>
         requires some { 1 ≤ length channels.now }
         requires few { length channels.now ≤ 128 }
-        requires content { sum_by content_bytes channels.now ≤ 2048 }
+        requires content { sum_by content_bytes channels.now ≤ MOST_CONTENT_BYTES }
         ensures made { IfOk result (λ room. (room ≡ fresh (map content_bytes channels.now) capacity)
             × (need (map content_bytes channels.now) ≤ capacity)) }
         ensures room { IfOk result (λ room. claimed room ≤ room.capacity) }

@@ -1,5 +1,6 @@
 //! Sums over the channels, whose content bytes are `sizes`.
 
+ghost use Rattle.room_ledger.specs.declared.room.TheConstants.{MOST_CONTENT_BYTES};
 ghost use Rattle.std.specs.Prelude.{◌≡◌, ◌<◌, ◌≤◌, ◌^◌, IfOk, IfErr, length, map, sum_by, if◌then◌else◌};
 ghost use Rattle.std.specs.List.{enumerate_from};
 ghost use Rattle.vidi_bits.specs.Number.{has};
@@ -22,7 +23,7 @@ pub(crate) fn head_len(channels: usize) -> u32
 
 /// The bytes of a channel's content.
 fn content_len(channel: &Channel) -> u32
-    requires { content_bytes channel.now ≤ 2048 }
+    requires { content_bytes channel.now ≤ MOST_CONTENT_BYTES }
     ensures { result ≡ content_bytes channel.now }
 {
     let mut total = 0;
@@ -34,7 +35,7 @@ fn content_len(channel: &Channel) -> u32
 
 /// The content bytes of each channel.
 pub(crate) fn sizes_of(alloc: Global, channels: &[Channel]) -> Result<Vec<u32>, RoomError>
-    requires { sum_by content_bytes channels.now ≤ 2048 }
+    requires { sum_by content_bytes channels.now ≤ MOST_CONTENT_BYTES }
     ensures sizes { IfOk result (λ sizes. sizes.items ≡ map content_bytes channels.now) }
     ensures memory { IfErr result (λ e. e ≡ RoomError.Memory) }
 {

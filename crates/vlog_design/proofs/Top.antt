@@ -10,18 +10,19 @@ use Rattle.net_design.specs.declared.design.Port.{Port}
 use Rattle.flat_parts.specs.Nets.{flat_ports}
 use Rattle.flat_parts.specs.Laws.{IsTop, FirstIsTop}
 use Rattle.vlog_design.specs.Parts.{FirstPorts, HasTop}
+use Rattle.vlog_hierarchy.specs.declared.nodes.TheConstants.{MOST_LEVELS}
 
 no-first : (i : ModuleInstance) (rest : List ModuleInstance) → [] ≡ i ∷ rest → ⊥
 no-first i rest e = cc
 
 of-module : (file : FileOf ℕ) (name : List ℕ) (k : ℕ) → place_of file.modules name ≡ Some k → (o : Option (ModuleOf ℕ))
     → slice_get file.modules k ≡ o → (i : ModuleInstance) (rest : List ModuleInstance)
-    → flat_map (within 4097 file.modules) (top_of k o) ≡ i ∷ rest → HasTop file name
+    → flat_map (within MOST_LEVELS file.modules) (top_of k o) ≡ i ∷ rest → HasTop file name
 of-module file name k found None at i rest e = absurd (no-first i rest e)
 of-module file name k found (Some m) at i rest e = (m, (k, found, at))
 
 of-place : (file : FileOf ℕ) (name : List ℕ) (o : Option ℕ) → place_of file.modules name ≡ o → (i : ModuleInstance)
-    (rest : List ModuleInstance) → flat_map (within 4097 file.modules) (top_at file.modules o) ≡ i ∷ rest → HasTop file name
+    (rest : List ModuleInstance) → flat_map (within MOST_LEVELS file.modules) (top_at file.modules o) ≡ i ∷ rest → HasTop file name
 of-place file name None found i rest e = absurd (no-first i rest e)
 of-place file name (Some k) found i rest e = of-module file name k found (slice_get file.modules k) refl i rest e
 

@@ -17,6 +17,7 @@ use Rattle.vlog_elab.specs.Instances.{ModuleInstance, child_of, child_at, item_c
 use Rattle.vlog_elab.specs.declared.instance.ModuleInstance as code
 use Rattle.vlog_elab.specs.Plain.{plain_instance, plain_instances}
 use Rattle.vlog_elab.specs.Inside.{one_child, children_past, children_at, declared_past}
+use Rattle.vlog_hierarchy.specs.declared.nodes.TheConstants.{MOST_INSTANCES, MOST_LEVELS}
 
 -- ---- lists
 
@@ -234,9 +235,9 @@ at_most_top ms None = inl refl
 at_most_top ms (Some k) = one_top k (slice_get ms k)
 
 pub all_below : (ms : List (ModuleOf ℕ)) (o : Option ℕ) (mid new : List ModuleInstance) → mid ≡ top_at ms o
-    → new ≡ mid ++ flat_map (within 4096 ms) (children_at ms (slice_get mid 0)) → new ≡ flat_map (within 4097 ms) (top_at ms o)
+    → new ≡ mid ++ flat_map (within MOST_INSTANCES ms) (children_at ms (slice_get mid 0)) → new ≡ flat_map (within MOST_LEVELS ms) (top_at ms o)
 all_below ms o mid new is filled =
-    let some : 4097 ≢ 0 = λ e. omega (arith, e) in
+    let some : MOST_LEVELS ≢ 0 = λ e. omega (arith, e) in
     filled
-    ∙ (ap (λ (ys : List ModuleInstance). ys ++ flat_map (within 4096 ms) (children_at ms (slice_get ys 0))) is
-    ∙ one_inside [] (top_at ms o) 4097 ms some (at_most_top ms o))
+    ∙ (ap (λ (ys : List ModuleInstance). ys ++ flat_map (within MOST_INSTANCES ms) (children_at ms (slice_get ys 0))) is
+    ∙ one_inside [] (top_at ms o) MOST_LEVELS ms some (at_most_top ms o))

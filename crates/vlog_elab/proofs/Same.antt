@@ -16,6 +16,7 @@ use Rattle.vlog_hierarchy.specs.Nodes.{Node, nodes, child_nodes, nodes_of}
 use Rattle.vlog_elab.specs.Instances.{ModuleInstance, child_of, child_at, item_children, children_from, children, within, top_of, top_at}
 use Rattle.vlog_elab.specs.Instances.{instances, node_of}
 use Rattle.vlog_elab.proofs.Places.{there}
+use Rattle.vlog_hierarchy.specs.declared.nodes.TheConstants.{MOST_LEVELS}
 
 -- each instance of a module of the file is the node of that module
 abbrev AreNodes : ℕ → List (ModuleOf ℕ) → Type 0
@@ -85,16 +86,16 @@ are_nodes (suc n) ms i at =
     ∙ ap (flat_map (child_nodes n (outlines_of ms) i.path)) (sym (its_children ms i.place i.tree at)))
 
 same_top : (ms : List (ModuleOf ℕ)) (o : Option ℕ) → ((k : ℕ) → o ≡ Some k → (m : ModuleOf ℕ) × (slice_get ms k ≡ Some m))
-    → below 4097 ms (top_at ms o) ≡ nodes_of (outlines_of ms) o
+    → below MOST_LEVELS ms (top_at ms o) ≡ nodes_of (outlines_of ms) o
 unfolding nodes_of
 same_top ms None is = refl
 same_top ms (Some k) is = one (is k refl)
   where
-    one : (m : ModuleOf ℕ) × (slice_get ms k ≡ Some m) → below 4097 ms (top_at ms (Some k)) ≡ nodes 4097 (outlines_of ms) [] k
+    one : (m : ModuleOf ℕ) × (slice_get ms k ≡ Some m) → below MOST_LEVELS ms (top_at ms (Some k)) ≡ nodes MOST_LEVELS (outlines_of ms) [] k
     one (m, at) =
-        ap (λ (o : Option (ModuleOf ℕ)). below 4097 ms (top_of k o)) at
-        ∙ (ap (map node_of) (append-nil (within 4097 ms (record { path = []; place = k; tree = m; scope = scope_with [] m })))
-        ∙ are_nodes 4097 ms (record { path = []; place = k; tree = m; scope = scope_with [] m }) at)
+        ap (λ (o : Option (ModuleOf ℕ)). below MOST_LEVELS ms (top_of k o)) at
+        ∙ (ap (map node_of) (append-nil (within MOST_LEVELS ms (record { path = []; place = k; tree = m; scope = scope_with [] m })))
+        ∙ are_nodes MOST_LEVELS ms (record { path = []; place = k; tree = m; scope = scope_with [] m }) at)
 
 pub same_nodes : (file : FileOf ℕ) (top : List ℕ)
     → map node_of (instances file top) ≡ nodes_of (outlines_of file.modules) (place_of file.modules top)

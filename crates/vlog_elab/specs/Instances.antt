@@ -9,6 +9,7 @@ use Rattle.vlog_size.specs.Names.{Readable}
 use Rattle.vlog_scope.specs.Scope.{readable_at, after_item, scope_of, scope_with}
 use Rattle.vlog_hierarchy.specs.Nodes.{Node}
 use Rattle.vlog_hierarchy.specs.Outlines.{place_of}
+use Rattle.vlog_hierarchy.specs.declared.nodes.TheConstants.{MOST_LEVELS}
 
 -- an instance: the names of the instances that lead to it, the top's left out; the place of its module in the file, counted from 0;
 -- that module; and its scope
@@ -65,7 +66,7 @@ top_at modules (Some k) = top_of k (slice_get modules k)
 
 -- the instances of a file and its top. More than 4,096 of them are too many (E12), and 4,096 are at most 4,096 levels deep
 unfoldable pub instances : FileOf ℕ → List ℕ → List ModuleInstance
-instances file top = flat_map (within 4097 file.modules) (top_at file.modules (place_of file.modules top))
+instances file top = flat_map (within MOST_LEVELS file.modules) (top_at file.modules (place_of file.modules top))
 
 -- without its module and scope
 abbrev pub node_of : ModuleInstance → Node

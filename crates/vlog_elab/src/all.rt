@@ -1,5 +1,6 @@
 //! All instances of a design.
 
+ghost use Rattle.vlog_hierarchy.specs.declared.nodes.TheConstants.{MOST_LEVELS};
 ghost use Rattle.std.specs.Prelude.{◌≡◌, IfOk, OnOk, [], map};
 ghost use Rattle.std.specs.List.{flat_map};
 ghost use Rattle.vlog_tree.specs.Plain.{plain, plain_module};
@@ -13,12 +14,10 @@ use crate::instance::ModuleInstance;
 use crate::modules::{Modules, module_at, place_named};
 use std::alloc::Global;
 use vidi_bits::{Items, Memory};
+use vlog_hierarchy::MOST_LEVELS;
 use vlog_names::ModuleTable;
 use vlog_scope::top_scope;
 use vlog_tree::{File, Module};
-
-/// The most levels of instances that are looked at: one more than there can be where there aren't too many.
-const DEPTH: usize = 4_097;
 
 /// Adds the instance that the top is.
 fn add_top<'a>(
@@ -55,12 +54,12 @@ fn instances_in<'a>(
     top: &[u8],
 ) -> Result<Items<ModuleInstance<'a>>, Memory>
     requires { IsTable modules.now }
-    ensures { IfOk result (λ is. plain_instances is ≡ flat_map (instances.within 4097 (trees_in modules.now))
+    ensures { IfOk result (λ is. plain_instances is ≡ flat_map (instances.within MOST_LEVELS (trees_in modules.now))
         (instances.top_at (trees_in modules.now) (place_of (trees_in modules.now) top.now))) }
 {
     let mut out = Items::new(alloc);
     add_top(alloc, modules, top, &mut out)?;
-    add_inside(alloc, modules, DEPTH - 1, 0, &mut out)?;
+    add_inside(alloc, modules, MOST_LEVELS - 1, 0, &mut out)?;
     Ok(out)
 }
 

@@ -15,6 +15,7 @@ use Rattle.vlog_hierarchy.specs.Outlines.{Child, Outline, children_at, children_
 use Rattle.vlog_hierarchy.specs.Nodes.{Node, nodes, nodes_of, child_nodes}
 use Rattle.vlog_hierarchy.proofs.Deeper as nodes_deeper
 use Rattle.vlog_hierarchy.specs.Clock.{scopes_of, ports_from, scopes, child_scopes, child_joined, joined_at}
+use Rattle.vlog_hierarchy.specs.declared.nodes.TheConstants.{MOST_LEVELS}
 
 pub no_deeper : (os : List Outline) (js : List (Named ℕ)) (k : ℕ) → scopes 0 os js k ≡ []
 unfolding scopes
@@ -127,11 +128,11 @@ unfolding scopes_of nodes_of
 none_of os inputs = refl
 
 scopes_some : (os : List Outline) (inputs : List (List ℕ)) (top : ℕ)
-    → scopes_of os inputs (Some top) ≡ scopes 4097 os (ports_from 0 [] inputs) top
+    → scopes_of os inputs (Some top) ≡ scopes MOST_LEVELS os (ports_from 0 [] inputs) top
 unfolding scopes_of
 scopes_some os inputs top = refl
 
-nodes_some : (os : List Outline) (top : ℕ) → nodes_of os (Some top) ≡ nodes 4097 os [] top
+nodes_some : (os : List Outline) (top : ℕ) → nodes_of os (Some top) ≡ nodes MOST_LEVELS os [] top
 unfolding nodes_of
 nodes_some os top = refl
 
@@ -139,5 +140,5 @@ pub same_places : (os : List Outline) (inputs : List (List ℕ)) (top : Option �
     → scope_places (scopes_of os inputs top) ≡ node_places (nodes_of os top)
 same_places os inputs None = none_of os inputs
 same_places os inputs (Some top) =
-    ap scope_places (scopes_some os inputs top) ∙ places_below 4097 os (ports_from 0 [] inputs) [] top
+    ap scope_places (scopes_some os inputs top) ∙ places_below MOST_LEVELS os (ports_from 0 [] inputs) [] top
     ∙ sym (ap node_places (nodes_some os top))

@@ -20,6 +20,7 @@ use Rattle.vlog_hierarchy.specs.declared.scopes.Scope.{Scope}
 use Rattle.vlog_hierarchy.specs.Outlines.{Child, Outline, children_at}
 use Rattle.vlog_hierarchy.specs.Reach.{is_marked}
 use Rattle.vlog_size.specs.Table.{Named, value_of, added}
+use Rattle.vlog_hierarchy.specs.declared.nodes.TheConstants.{MOST_LEVELS}
 
 -- ---- joined names: each name of an instance that is joined, by plain names through ports, to a 1-bit input port of the top,
 -- with that port's place among these ports, counted from 0
@@ -94,7 +95,7 @@ joined_at ss k = joined_in (slice_get ss k)
 -- the instances of a top with these 1-bit input ports
 unfoldable pub scopes_of : List Outline → List (List ℕ) → Option ℕ → List Scope
 scopes_of os inputs None = []
-scopes_of os inputs (Some top) = scopes 4097 os (ports_from 0 [] inputs) top
+scopes_of os inputs (Some top) = scopes MOST_LEVELS os (ports_from 0 [] inputs) top
 
 -- ---- clocks
 

@@ -18,6 +18,6 @@ mod walk;
 pub use clock::check_clock;
 pub use error::{HierarchyError, HierarchyLimit};
 pub use laws::{clocks_are_of_all_nodes, more_levels_change_nothing};
-pub use nodes::{Node, Nodes, nodes_of};
+pub use nodes::{MOST_LEVELS, Node, Nodes, nodes_of};
 pub use port::clock_port;
 pub use walk::nested;

@@ -1,5 +1,6 @@
 //! The instances of a design in preorder, and E12.
 
+ghost use Rattle.vlog_hierarchy.specs.declared.nodes.TheConstants.{MOST_INSTANCES, MOST_NETS};
 ghost use Rattle.std.specs.Prelude.{◌≡◌, ◌≤◌, ◌<◌, ◌+◌, ◌++◌, [], ◌∷◌, List, map, IfOk, OnOk, IfErr, length};
 ghost use Rattle.std.specs.List.{flat_map};
 ghost use Rattle.vlog_tree.specs.Plain.{plain};
@@ -17,14 +18,14 @@ use std::alloc::Global;
 use vidi_bits::{Items, Memory, Name};
 use vlog_tree::File;
 
-/// The most instances.
-const MOST_NODES: usize = 4_096;
+/// The most instances of a design.
+pub const MOST_INSTANCES: usize = 4_096;
 
-/// The most levels that are looked at: one more than there can be with the most instances.
-const DEPTH: usize = 4_097;
+/// The most levels of instances that are looked at: one more than there can be with the most instances.
+pub const MOST_LEVELS: usize = 4_097;
 
-/// The most nets.
-const MOST_NETS: u128 = 65_536;
+/// The most nets of a design.
+pub const MOST_NETS: u128 = 65_536;
 
 /// An instance of the design.
 #[derive(Drop)]
@@ -77,10 +78,10 @@ fn add_node<'a>(
     out: &mut Items<Node<'a>>,
 ) -> Result<(), HierarchyError>
     ensures value { OnOk result (plain_nodes out.new ≡ plain_nodes out.old ++ record { path = plain_path path.now; place = place } ∷ []) }
-    ensures few { OnOk result (length out.old < 4096) }
+    ensures few { OnOk result (length out.old < MOST_INSTANCES) }
     ensures many { IfErr result (λ e. IsTooMany e (length out.old + 1)) }
 {
-    if out.len() >= MOST_NODES {
+    if out.len() >= MOST_INSTANCES {
         return Err(HierarchyError::TooBig {
             what: HierarchyLimit::Instances,
         });
@@ -100,10 +101,10 @@ fn add_nodes<'a>(
     place: usize,
     out: &mut Items<Node<'a>>,
 ) -> Result<(), HierarchyError>
-    requires { length out.old ≤ 4096 }
+    requires { length out.old ≤ MOST_INSTANCES }
     ensures value { OnOk result (plain_nodes out.new
         ≡ plain_nodes out.old ++ nodes depth (plain_outlines outlines.now) (plain_path path.now) place) }
-    ensures few { OnOk result (length out.new ≤ 4096) }
+    ensures few { OnOk result (length out.new ≤ MOST_INSTANCES) }
     ensures many { IfErr result (λ e.
         IsTooMany e (length out.old + length (nodes depth (plain_outlines outlines.now) (plain_path path.now) place))) }
 {
@@ -125,11 +126,11 @@ fn add_inside<'a>(
     place: usize,
     out: &mut Items<Node<'a>>,
 ) -> Result<(), HierarchyError>
-    requires { length out.old ≤ 4096 }
+    requires { length out.old ≤ MOST_INSTANCES }
     ensures value { OnOk result (plain_nodes out.new ≡ plain_nodes out.old
         ++ flat_map (child_nodes depth (plain_outlines outlines.now) (plain_path path.now))
         (children_at (plain_outlines outlines.now) place)) }
-    ensures few { OnOk result (length out.new ≤ 4096) }
+    ensures few { OnOk result (length out.new ≤ MOST_INSTANCES) }
     ensures many { IfErr result (λ e. IsTooMany e (length out.old + length (flat_map
         (child_nodes depth (plain_outlines outlines.now) (plain_path path.now)) (children_at (plain_outlines outlines.now) place)))) }
 {
@@ -156,10 +157,10 @@ fn add_children<'a>(
     children: &[Child<'a>],
     out: &mut Items<Node<'a>>,
 ) -> Result<(), HierarchyError>
-    requires { length out.old ≤ 4096 }
+    requires { length out.old ≤ MOST_INSTANCES }
     ensures value { OnOk result (plain_nodes out.new ≡ plain_nodes out.old
         ++ flat_map (child_nodes depth (plain_outlines outlines.now) (plain_path path.now)) (map plain_child children.now)) }
-    ensures few { OnOk result (length out.new ≤ 4096) }
+    ensures few { OnOk result (length out.new ≤ MOST_INSTANCES) }
     ensures many { IfErr result (λ e. IsTooMany e (length out.old + length
         (flat_map (child_nodes depth (plain_outlines outlines.now) (plain_path path.now)) (map plain_child children.now)))) }
 {
@@ -184,7 +185,14 @@ fn nodes_below<'a>(
     match top {
         Some(place) => {
             let path = Items::new(alloc);
-            add_nodes(alloc, outlines, DEPTH, path.as_slice(), place, &mut nodes)?;
+            add_nodes(
+                alloc,
+                outlines,
+                MOST_LEVELS,
+                path.as_slice(),
+                place,
+                &mut nodes,
+            )?;
             Ok(nodes)
         }
         None => Ok(nodes),
@@ -211,10 +219,10 @@ fn nets_at(outlines: &[Outline<'_>], place: usize) -> u128
 impl Numbering {
     /// Adds an instance with so many nets, unless there are more than 65,536 with them.
     fn add(&mut self, nets: u128) -> Result<(), HierarchyError>
-        requires { self.old.nets ≤ 65536 }
+        requires { self.old.nets ≤ MOST_NETS }
         ensures firsts { OnOk result (self.new.firsts ≡ self.old.firsts ++ self.old.nets ∷ []) }
         ensures nets { OnOk result (self.new.nets ≡ self.old.nets + nets) }
-        ensures few { OnOk result (self.new.nets ≤ 65536) }
+        ensures few { OnOk result (self.new.nets ≤ MOST_NETS) }
         ensures many { IfErr result (λ e. AreTooManyNets e (self.old.nets + nets)) }
     {
         if nets > MOST_NETS - self.nets {

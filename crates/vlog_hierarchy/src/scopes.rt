@@ -10,14 +10,12 @@ ghost use Rattle.vlog_hierarchy.specs.Plain.{plain_child, plain_outlines, plain_
 ghost use Rattle.vlog_hierarchy.specs.Clock.{ports_from, ref_name, plain_name, port_of_value, conn_joined, child_joined};
 ghost use Rattle.vlog_hierarchy.specs.Clock.{scopes, child_scopes, scopes_of, joined_at};
 
+use crate::nodes::MOST_LEVELS;
 use crate::outline::{Child, Outline};
 use std::alloc::Global;
 use vidi_bits::{Items, Memory, Name, copied};
 use vlog_size::Table;
 use vlog_tree::{Conn, Expr, Instance, Operand, Ref, Unary, see_concat, see_repeat};
-
-/// The most levels that are looked at: one more than there can be with the most instances.
-const DEPTH: usize = 4_097;
 
 /// An instance.
 #[derive(Drop)]
@@ -231,7 +229,7 @@ pub fn scopes_of(
     match top {
         Some(place) => {
             let joined = top_joined(alloc, inputs)?;
-            add_scopes(alloc, outlines, DEPTH, joined, place, &mut out)?;
+            add_scopes(alloc, outlines, MOST_LEVELS, joined, place, &mut out)?;
             Ok(out)
         }
         None => Ok(out),

@@ -16,4 +16,5 @@ pub mod StmtNatural
 pub mod StmtSpelled
 pub mod Sure
 pub mod Turns
+pub mod UnitSteps
 pub mod UnitWords

@@ -11,6 +11,13 @@ abbrev pub whole_item : {A : Type 0} → ItemOf A → Toks A → Option (Unit {0
 whole_item (AlwaysItem a) rest = found_or (after t.Else rest) (Some tt) (λ o. None)
 whole_item _ rest = Some tt
 
+-- what stands behind a module's header, and behind a whole item
+abbrev pub behind_header : {A : Type 0} → ℕ → Toks A → Option (Toks A)
+behind_header n ws = header_at n ws >>= λ h. Some h.1
+
+abbrev pub behind_item : {A : Type 0} → ℕ → Toks A → Option (Toks A)
+behind_item n ws = item_at n ws >>= λ i. whole_item i.0 i.1 >>= λ w. Some i.1
+
 -- a whole unit, in a module or not; what is read is whether a module is open behind it
 abbrev pub unit_at : {A : Type 0} → ℕ → Bool → Toks A → Read A Bool
 unit_at n false ws = header_at n ws >>= λ h. Some (true, h.1)

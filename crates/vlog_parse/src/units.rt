@@ -4,7 +4,7 @@ ghost use Rattle.std.specs.Prelude.{◌≡◌, ◌↔◌, false, IsTrue, Some, I
 ghost use Rattle.vlog_tree.specs.Plain.{plain_item};
 ghost use Rattle.vlog_expr.specs.Marks.{all_marked};
 ghost use Rattle.vlog_expr.specs.Given.{Gives};
-ghost use Rattle.vlog_parse.specs.UnitReader.{whole_item, unit_at, behind_units};
+ghost use Rattle.vlog_parse.specs.UnitReader.{whole_item, behind_header, behind_item, unit_at, behind_units};
 ghost use Rattle.vlog_parse.specs.Units.{line_or, last_line, IsItemLine};
 
 use crate::item::item_of;
@@ -33,23 +33,37 @@ fn is_whole(item: &Item, rest: &[Token]) -> bool
     }
 }
 
+/// The tokens behind a module's header.
+fn behind_header(alloc: Global, tokens: &[Token], fuel: usize) -> Result<&[Token], Unread>
+    ensures { Gives (λ rest. all_marked rest.now) result (behind_header fuel (all_marked tokens.now)) }
+{
+    let (_, rest) = header_of(alloc, tokens, fuel)?;
+    Ok(rest)
+}
+
+/// The tokens behind a whole item.
+fn behind_item(alloc: Global, tokens: &[Token], fuel: usize) -> Result<&[Token], Unread>
+    ensures { Gives (λ rest. all_marked rest.now) result (behind_item fuel (all_marked tokens.now)) }
+{
+    let (item, rest) = item_of(alloc, tokens, fuel)?;
+    if is_whole(&item, rest) {
+        return Ok(rest);
+    }
+    Err(Unread::Fault)
+}
+
 /// A whole unit, in a module or not, and whether a module is open behind it.
+#[tactic(auto, using(crate::proofs::UnitSteps::header_found, crate::proofs::UnitSteps::item_found))]
 fn unit_of(alloc: Global, inside: bool, tokens: &[Token], fuel: usize) -> Parsed<'_, bool>
     ensures { Gives (λ x. (x.0, all_marked x.1.now)) result (unit_at fuel inside (all_marked tokens.now)) }
 {
     if !inside {
-        let (_, rest) = header_of(alloc, tokens, fuel)?;
-        return Ok((true, rest));
+        return Ok((true, behind_header(alloc, tokens, fuel)?));
     }
     if let Some((_, rest)) = after(Terminal::Endmodule, tokens) {
         return Ok((false, rest));
     }
-    let (item, rest) = item_of(alloc, tokens, fuel)?;
-    if is_whole(&item, rest) {
-        Ok((true, rest))
-    } else {
-        Err(Unread::Fault)
-    }
+    Ok((true, behind_item(alloc, tokens, fuel)?))
 }
 
 /// A whole unit at the front, where there is one.

@@ -3,6 +3,7 @@ use Rattle.std.specs.List.{flat_map}
 use Rattle.vlog_hierarchy.specs.Plain.{plain_child, plain_outlines, plain_nodes, plain_path}
 use Rattle.vlog_hierarchy.specs.Nodes.{child_nodes}
 use Rattle.vlog_hierarchy.proofs.nodes.+add.Given as goal
+use Rattle.vlog_hierarchy.specs.declared.nodes.TheConstants.{MOST_INSTANCES}
 
 abbrev pub decreases-add_nodes : goal.decreases-add_nodes
 decreases-add_nodes l = 3 * l.depth
@@ -19,5 +20,5 @@ invariant-add_children-loop-child l = record {
       (map plain_child (drop l.child-index l.children))
       ≡ plain_nodes l.initial.out ++ flat_map (child_nodes l.depth (plain_outlines l.outlines) (plain_path l.path))
       (map plain_child l.children);
-  few : length l.out ≤ 4096;
+  few : length l.out ≤ MOST_INSTANCES;
 }

@@ -2,6 +2,7 @@ use Rattle.std.proofs.Common.{◌≡◌, ◌≤◌, ◌+◌, ◌++◌, drop}
 use Rattle.vlog_hierarchy.specs.Plain.{plain_outlines, plain_nodes}
 use Rattle.vlog_hierarchy.specs.Nodes.{firsts, net_total}
 use Rattle.vlog_hierarchy.proofs.nodes.numbered.Given as goal
+use Rattle.vlog_hierarchy.specs.declared.nodes.TheConstants.{MOST_NETS}
 
 abbrev pub invariant-loop-node : goal.invariant-loop-node
 invariant-loop-node l = record {
@@ -9,5 +10,5 @@ invariant-loop-node l = record {
       ≡ firsts (plain_outlines l.outlines) 0 (plain_nodes l.nodes);
   nets : l.numbering.nets + net_total (plain_outlines l.outlines) (plain_nodes (drop l.node-index l.nodes))
       ≡ net_total (plain_outlines l.outlines) (plain_nodes l.nodes);
-  few : l.numbering.nets ≤ 65536;
+  few : l.numbering.nets ≤ MOST_NETS;
 }
