@@ -2,8 +2,8 @@
 
 use std::alloc::Global;
 use std::test::Fail;
-use trace_code::{CodeError, decode, encode, end_mark, header_bytes, write_packet};
-use trace_model::{Packet, Row, Trace, is_over};
+use trace_code::{decode, encode, end_mark, header_bytes, write_packet};
+use trace_model::{Row, Trace, is_over};
 use vidi_bits::Numbers;
 
 // VIDITRC1, two channels: a inward and b outward, each with one port of 8 bits.
@@ -40,7 +40,7 @@ pub(crate) const ROUND: [u8; 36] = [
     0x00, 0x00, 0x00, 0x04,
 ];
 
-pub(crate) type Events<'a> = (u128, u128, &'a [u128]);
+type Events<'a> = (u128, u128, &'a [u128]);
 
 pub(crate) fn joined(alloc: Global, front: &[u8], back: &[u8]) -> Result<Vec<u8>, Fail> {
     let mut bytes = Vec::from_slice(alloc, front)?;
@@ -48,72 +48,31 @@ pub(crate) fn joined(alloc: Global, front: &[u8], back: &[u8]) -> Result<Vec<u8>
     Ok(bytes)
 }
 
-fn is_packet_of(packet: &Packet, events: &Events) -> bool {
-    packet.starts == events.0 && packet.ends == events.1 && packet.contents.as_slice() == events.2
-}
-
-pub(crate) fn are_packets_of(packets: &[Packet], events: &[Events]) -> bool {
-    if packets.len() != events.len() {
-        return false;
-    }
-    for (packet, event) in packets.iter().zip(events) {
-        if !is_packet_of(packet, event) {
-            return false;
-        }
-    }
-    true
-}
-
-// Whether the bytes decode to these packets, and what was decoded is encoded as the same bytes.
-fn is_coded(alloc: Global, bytes: &[u8], events: &[Events]) -> Result<bool, Fail> {
+// Whether what the bytes decode to is encoded as the same bytes.
+fn is_coded(alloc: Global, bytes: &[u8]) -> Result<bool, Fail> {
     let t = decode(alloc, bytes)?;
-    let read = are_packets_of(t.packets.as_slice(), events);
     let written = encode(alloc, &t)?;
-    Ok(read && written.as_slice() == bytes)
+    Ok(written.as_slice() == bytes)
 }
 
+// The packets of these traces are printed by cases of `dump`.
 #[test]
 fn worked_traces_are_coded(rt: HostRuntime) -> Result<(), Fail> {
     let alloc = rt.alloc();
-    let cases: [(&[u8], &[u8], &[Events]); 10] = [
-        (&PASS, &ONE_SEND, &[(1, 1, &[5]), (2, 2, &[5])]),
-        (&PASS, &NO_SEND, &[]),
-        (
-            &PASS,
-            &TWO_SENDS,
-            &[(1, 1, &[5]), (3, 2, &[6, 5]), (0, 1, &[]), (2, 2, &[6])],
-        ),
-        (&PASS, &[1, 1, 1, 5, 0, 0, 0, 0, 1], &[(1, 1, &[5])]),
-        (
-            &PASS,
-            &[1, 1, 1, 5, 1, 2, 2, 5, 1, 1, 1, 6, 0, 0, 0, 0, 3],
-            &[(1, 1, &[5]), (2, 2, &[5]), (1, 1, &[6])],
-        ),
-        (
-            &PASS,
-            &[1, 1, 1, 5, 1, 2, 0, 5, 0, 0, 0, 0, 2],
-            &[(1, 1, &[5]), (2, 0, &[5])],
-        ),
-        (&PASS, &[1, 3, 3, 5, 5, 0, 0, 0, 0, 1], &[(3, 3, &[5, 5])]),
-        (
-            &PASS,
-            &[1, 1, 1, 5, 1, 3, 2, 6, 5, 1, 0, 1, 0, 0, 0, 0, 3],
-            &[(1, 1, &[5]), (3, 2, &[6, 5]), (0, 1, &[])],
-        ),
-        (&FLICK, &[1, 1, 1, 0, 0, 0, 0, 1], &[(1, 1, &[])]),
-        (
-            &REGS,
-            &ROUND,
-            &[
-                (3, 3, &[0, 1000, 15]),
-                (4, 4, &[0]),
-                (8, 8, &[0]),
-                (16, 16, &[1000, 0]),
-            ],
-        ),
+    let cases: [(&[u8], &[u8]); 10] = [
+        (&PASS, &ONE_SEND),
+        (&PASS, &NO_SEND),
+        (&PASS, &TWO_SENDS),
+        (&PASS, &[1, 1, 1, 5, 0, 0, 0, 0, 1]),
+        (&PASS, &[1, 1, 1, 5, 1, 2, 2, 5, 1, 1, 1, 6, 0, 0, 0, 0, 3]),
+        (&PASS, &[1, 1, 1, 5, 1, 2, 0, 5, 0, 0, 0, 0, 2]),
+        (&PASS, &[1, 3, 3, 5, 5, 0, 0, 0, 0, 1]),
+        (&PASS, &[1, 1, 1, 5, 1, 3, 2, 6, 5, 1, 0, 1, 0, 0, 0, 0, 3]),
+        (&FLICK, &[1, 1, 1, 0, 0, 0, 0, 1]),
+        (&REGS, &ROUND),
     ];
-    for (header, body, events) in cases {
-        let coded = is_coded(alloc, &joined(alloc, header, body)?, events)?;
+    for (header, body) in cases {
+        let coded = is_coded(alloc, &joined(alloc, header, body)?)?;
         assert!(rt; coded, "{body:?}");
     }
     Ok(())
@@ -129,50 +88,6 @@ fn parts_of_a_trace_are_coded(rt: HostRuntime) -> Result<(), Fail> {
     let header = header_bytes(alloc, &channels)?;
     assert_eq!(rt; header.as_slice(), REGS.as_slice());
     assert_eq!(rt; end_mark(0x0102_0304), [0, 1, 2, 3, 4]);
-    Ok(())
-}
-
-fn is_refused_at(alloc: Global, bytes: &[u8], place: u64) -> bool {
-    matches!(decode(alloc, bytes), Err(CodeError::BadTrace { at }) if at == place)
-}
-
-// One send, changed: a spare mask bit, an empty packet, one byte more, another count, a second start,
-// and a first byte that isn't the magic's.
-#[test]
-fn faults_have_their_places(rt: HostRuntime) -> Result<(), Fail> {
-    let alloc = rt.alloc();
-    let cases: [(&[u8], u64); 5] = [
-        (&[1, 5, 1, 5, 1, 2, 2, 5, 0, 0, 0, 0, 2], 19),
-        (&[1, 0, 0, 5, 1, 2, 2, 5, 0, 0, 0, 0, 2], 19),
-        (&[1, 1, 1, 5, 1, 2, 2, 5, 0, 0, 0, 0, 2, 0], 27),
-        (&[1, 1, 1, 5, 1, 2, 2, 5, 0, 0, 0, 0, 3], 27),
-        (&[1, 1, 0, 5, 1, 1, 1, 5, 0, 0, 0, 0, 2], 23),
-    ];
-    for (body, place) in cases {
-        let refused = is_refused_at(alloc, &joined(alloc, &PASS, body)?, place);
-        assert!(rt; refused, "{body:?}");
-    }
-    let mut magic = joined(alloc, &PASS, &ONE_SEND)?;
-    assert!(rt; !magic.is_empty());
-    magic[0] = 0x57;
-    assert!(rt; is_refused_at(alloc, &magic, 0));
-    Ok(())
-}
-
-#[test]
-fn each_front_has_its_place(rt: HostRuntime) -> Result<(), Fail> {
-    let alloc = rt.alloc();
-    let bytes = joined(alloc, &PASS, &ONE_SEND)?;
-    for len in 0..bytes.len() {
-        let place = match len {
-            0..19 => 0,
-            19..23 => 19,
-            23..27 => 23,
-            _ => 27,
-        };
-        let refused = is_refused_at(alloc, &bytes[..len], place);
-        assert!(rt; refused, "{len}");
-    }
     Ok(())
 }
 

@@ -5,6 +5,10 @@
 #[cfg(test)]
 mod bytes_tests;
 #[cfg(test)]
+mod changed_tests;
+#[cfg(test)]
 mod model_tests;
 #[cfg(test)]
 mod salvage_tests;
+#[cfg(test)]
+mod text_tests;

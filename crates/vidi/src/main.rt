@@ -1,41 +1,14 @@
-//! vidi: verified record and replay for hardware channels. The one public call is `vidi` (`top`);
-//! `main` gives it the words, the files and standard output.
+//! The program `vidi`: verified record and replay for hardware channels. `main` gives the call `vidi` of `vidi_commands` its words, the
+//! files and standard output.
 #![tactic(auto)]
 
-mod answer;
-mod bench;
-mod check;
-mod command;
-mod compare;
-mod dump;
-mod laws;
-mod recording;
-mod run;
-mod salvage;
-mod status;
-mod top;
-
-use crate::status::Status;
-use crate::top::vidi;
 use std::env;
 use std::io::ErrorKind;
 use std::process::ExitCode;
 use std::rt::Env;
 use vidi_bits::Memory;
+use vidi_commands::{Status, vidi};
 use vidi_io::{HostShelf, HostSink, Text, Words};
-
-#[cfg(test)]
-mod check_tests;
-#[cfg(test)]
-mod file_tests;
-#[cfg(test)]
-mod record_tests;
-#[cfg(test)]
-mod run_tests;
-#[cfg(test)]
-mod tests;
-#[cfg(test)]
-mod text_tests;
 
 fn main(rt: HostRuntime) -> ExitCode {
     let status = match words_after_name(&rt) {

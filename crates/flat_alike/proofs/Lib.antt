@@ -1,4 +1,0 @@
-pub mod Narrow
-pub mod Lists
-pub mod Parts
-pub mod Alike

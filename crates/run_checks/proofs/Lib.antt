@@ -1,0 +1,4 @@
+mod Growing
+mod Packets
+mod SendLaws
+mod PortNets

@@ -1,0 +1,45 @@
+-- Offers of a content on the stage's inward channel.
+use Rattle.std.proofs.Common.{◌≡◌, ℕ, zero, suc, ◌<◌, List, [], ◌∷◌, All, refl, ap, ◌∙◌, arith}
+use Rattle.std.proofs.lemmas.Option.{same_Some}
+use Rattle.run_model.specs.Offers.{AreZeroWhileDown}
+use Rattle.trace_model.specs.declared.channel.Channel.{Channel}
+use Rattle.trace_model.specs.declared.channel.Dir.TheVariants.{Inward, Outward}
+use Rattle.trace_model.specs.declared.row.Offers.{Offers}
+use Rattle.trace_model.specs.Row.{AreOffers}
+use Rattle.run_checks.specs.Stage.{stage_channels}
+use Rattle.run_checks.specs.Given.{IsSend}
+
+pub offers_fit : (valids readies content : ℕ) → valids < 4 → readies < 4 → content < 256
+    → AreOffers stage_channels (record { valids = valids; readies = readies; contents = content ∷ 0 ∷ [] })
+offers_fit valids readies content v r c = record { valids = v; readies = r; contents = (c, (omega arith, tt)) }
+
+-- where the valid of `a` is up
+pub zero_up : (content : ℕ)
+    → AreZeroWhileDown stage_channels (record { valids = 1; readies = 2; contents = content ∷ 0 ∷ [] })
+zero_up content zero x at way down = absurd (cc)
+zero_up content (suc zero) x at way down =
+    let same = same_Some (record { dir = Outward; name = 98 ∷ []; widths = 8 ∷ [] }) x at in
+    let e : Outward ≡ Inward = ap (λ (y : Channel). y.dir) same ∙ way in
+    absurd (cc)
+zero_up content (suc (suc c)) x at way down = absurd (cc)
+
+-- where it is down
+pub zero_down : AreZeroWhileDown stage_channels (record { valids = 0; readies = 2; contents = 0 ∷ 0 ∷ [] })
+zero_down zero x at way down = refl
+zero_down (suc zero) x at way down =
+    let same = same_Some (record { dir = Outward; name = 98 ∷ []; widths = 8 ∷ [] }) x at in
+    let e : Outward ≡ Inward = ap (λ (y : Channel). y.dir) same ∙ way in
+    absurd (cc)
+zero_down (suc (suc c)) x at way down = absurd (cc)
+
+pub send_up : (content : ℕ) → content < 256 → IsSend (record { valids = 1; readies = 2; contents = content ∷ 0 ∷ [] })
+send_up content c = record { fit = offers_fit 1 2 content (omega arith) (omega arith) c; zeros = zero_up content }
+
+pub send_down : IsSend (record { valids = 0; readies = 2; contents = 0 ∷ 0 ∷ [] })
+send_down = record { fit = offers_fit 0 2 0 (omega arith) (omega arith) (omega arith); zeros = zero_down }
+
+pub offers_of : (os : List Offers) → All IsSend os → All (AreOffers stage_channels) os
+offers_of os sends = λ k d l. (sends k d l).fit
+
+pub zeros_of : (os : List Offers) → All IsSend os → All (AreZeroWhileDown stage_channels) os
+zeros_of os sends = λ k d l. (sends k d l).zeros

@@ -1,0 +1,147 @@
+//! What the tests give, and how rows are compared.
+
+ghost use Rattle.std.specs.Prelude.{◌≡◌, ◌<◌, All, IfOk, length};
+ghost use Rattle.run_model.specs.Offers.{AreZeroWhileDown};
+ghost use Rattle.trace_model.specs.Packet.{IsPacket};
+ghost use Rattle.trace_model.specs.Row.{AreOffers};
+ghost use Rattle.run_checks.specs.Given.{IsSend, mask_of};
+ghost use Rattle.run_checks.specs.Stage.{stage_channels};
+
+use std::alloc::Global;
+use trace_model::{Dir, Offers, Packet, Packets, Row};
+use vidi_bits::{Items, Memory, Numbers};
+
+fn mask_of(dir: Dir) -> u128
+    ensures { result ≡ mask_of dir }
+{
+    match dir {
+        Dir::Inward => 1,
+        Dir::Outward => 2,
+    }
+}
+
+/// A packet in which the channel of this direction starts.
+#[tactic(auto, using(crate::proofs::Packets::packet_fits))]
+fn packet(alloc: Global, dir: Dir, ends: u128, content: u128) -> Result<Packet, Memory>
+    requires ends { ends < 4 }
+    requires fits { content < 256 }
+    ensures { IfOk result (IsPacket stage_channels) }
+{
+    let mut contents = Numbers::new(alloc);
+    contents.push(content)?;
+    Ok(Packet {
+        starts: mask_of(dir),
+        ends,
+        contents,
+    })
+}
+
+/// `a` starts and completes, then `b`, then `a` again.
+pub fn three_packets(alloc: Global) -> Result<Packets, Memory>
+    ensures few { IfOk result (λ ps. length ps ≡ 3) }
+    ensures lawful { IfOk result (All (IsPacket stage_channels)) }
+{
+    let first = packet(alloc, Dir::Inward, 1, 5)?;
+    let mut packets = Packets::new(alloc);
+    packets.push(first)?;
+    let second = packet(alloc, Dir::Outward, 2, 5)?;
+    packets.push(second)?;
+    let third = packet(alloc, Dir::Inward, 1, 6)?;
+    packets.push(third)?;
+    Ok(packets)
+}
+
+/// `a` starts and completes, then `b`.
+pub fn two_packets(alloc: Global, last_ends: u128) -> Result<Packets, Memory>
+    requires { last_ends < 4 }
+    ensures few { IfOk result (λ ps. length ps ≡ 2) }
+    ensures lawful { IfOk result (All (IsPacket stage_channels)) }
+{
+    let first = packet(alloc, Dir::Inward, 1, 5)?;
+    let mut packets = Packets::new(alloc);
+    packets.push(first)?;
+    let second = packet(alloc, Dir::Outward, last_ends, 5)?;
+    packets.push(second)?;
+    Ok(packets)
+}
+
+/// `a` offers this content, and `b` is taken.
+#[tactic(auto, using(crate::proofs::SendLaws::send_up))]
+fn sending(alloc: Global, content: u128) -> Result<Offers, Memory>
+    requires fits { content < 256 }
+    ensures { IfOk result IsSend }
+{
+    let mut contents = Numbers::new(alloc);
+    contents.push(content)?;
+    contents.push(0)?;
+    Ok(Offers {
+        valids: 1,
+        readies: 2,
+        contents,
+    })
+}
+
+/// `a` offers nothing, and `b` is taken.
+#[tactic(auto, using(crate::proofs::SendLaws::send_down))]
+fn taking(alloc: Global) -> Result<Offers, Memory>
+    ensures { IfOk result IsSend }
+{
+    let mut contents = Numbers::new(alloc);
+    contents.push(0)?;
+    contents.push(0)?;
+    Ok(Offers {
+        valids: 0,
+        readies: 2,
+        contents,
+    })
+}
+
+/// Six cycles of `a send 5`, `a send 6` and `b take all`: the second content is offered in cycles 1 and 2, since it isn't taken
+/// in cycle 1.
+fn six_cycles(alloc: Global) -> Result<Items<Offers>, Memory>
+    ensures count { IfOk result (λ os. length os ≡ 6) }
+    ensures sends { IfOk result (All IsSend) }
+{
+    let mut list = Items::new(alloc);
+    let first = sending(alloc, 5)?;
+    list.push(first)?;
+    let second = sending(alloc, 6)?;
+    list.push(second)?;
+    let second = sending(alloc, 6)?;
+    list.push(second)?;
+    let none = taking(alloc)?;
+    list.push(none)?;
+    let none = taking(alloc)?;
+    list.push(none)?;
+    let none = taking(alloc)?;
+    list.push(none)?;
+    Ok(list)
+}
+
+/// These six cycles, as a run and a shell take them.
+#[tactic(auto, using(crate::proofs::SendLaws::offers_of, crate::proofs::SendLaws::zeros_of))]
+pub fn two_sends(alloc: Global) -> Result<Items<Offers>, Memory>
+    ensures count { IfOk result (λ os. length os ≡ 6) }
+    ensures fit { IfOk result (All (AreOffers stage_channels)) }
+    ensures zeros { IfOk result (All (AreZeroWhileDown stage_channels)) }
+{
+    six_cycles(alloc)
+}
+
+/// Whether a row has these gates, valids, readies, starts and ends, and these contents.
+pub fn is_row(row: &Row, masks: [u128; 5], contents: &[u128]) -> bool {
+    [row.gates, row.valids, row.readies, row.starts, row.ends] == masks
+        && row.contents.as_slice() == contents
+}
+
+/// The rows of the register stage with all gates up: `a` completes in rows 0 and 2, and `b` in rows 1 and 3. In row 1 the stage is
+/// full, so the second content is offered again.
+pub fn is_two_sends(rows: &[Row]) -> bool {
+    rows.len() == 6
+        && is_row(&rows[0], [3, 1, 3, 1, 1], &[5, 0])
+        && is_row(&rows[1], [3, 3, 2, 3, 2], &[6, 5])
+        && is_row(&rows[2], [3, 1, 3, 0, 1], &[6, 5])
+        && is_row(&rows[3], [3, 2, 2, 2, 2], &[0, 6])
+        && is_row(&rows[4], [3, 0, 3, 0, 0], &[0, 6])
+        && is_row(&rows[5], [3, 0, 3, 0, 0], &[0, 6])
+}

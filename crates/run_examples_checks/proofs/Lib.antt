@@ -1,4 +1,0 @@
-mod StageLaws
-mod DeadLaws
-mod PassLaws
-pub mod GivenLaws

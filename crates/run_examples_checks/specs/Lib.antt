@@ -1,4 +1,0 @@
-pub mod Stage
-pub mod Dead
-pub mod Pass
-pub mod Given

@@ -1,2 +1,0 @@
-pub mod Flick
-pub mod FlickLaws

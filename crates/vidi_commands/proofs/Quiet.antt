@@ -1,0 +1,52 @@
+-- Steps of commands: none of their answers a failed write, and the same where no read failed.
+use Rattle.std.proofs.Common.{◌≡◌, ◌≢◌, ℕ, List, Option, inl, inr, sym}
+use Rattle.vidi_io.specs.Shelf.{Files}
+use Rattle.report_text.specs.declared.reason.Word.{Word}
+use Rattle.report_text.specs.declared.reason.Reason.{Reason}
+use Rattle.report_text.specs.declared.reason.Reason.TheVariants.{TooLong, BadTrace}
+use Rattle.vidi_commands.specs.declared.status.Status.{Status}
+use Rattle.vidi_commands.specs.declared.status.Status.TheVariants.{ReadFault, WriteFault, Refused}
+use Rattle.vidi_commands.specs.Steps.{Ending, IsSaid, IsRefusal, Step}
+use Rattle.vidi_commands.specs.Reading.{IsUnread, IsRead}
+use Rattle.vidi_commands.specs.Traces.{IsNoTrace}
+
+-- ---- no failed write
+abbrev pub Mute : Ending → Type 0
+Mute E = (x : List ℕ) → E WriteFault x → ⊥
+
+pub mute-step : {X : Type 0} (Ends : Ending) (Gives : X → Type 0) (Next : X → Ending) → Mute Ends → ((x : X) → Mute (Next x))
+    → Mute (Step Ends Gives Next)
+mute-step Ends Gives Next mute next x (inl e) = mute x e
+mute-step Ends Gives Next mute next x (inr (k, g, n)) = next k x n
+
+pub mute-refusal : (word : Word) (reason : Reason) → Mute (IsRefusal word reason)
+mute-refusal word reason x s = let e : WriteFault ≡ Refused word reason = s.0 in cc
+
+pub mute-unread : (limit : ℕ) (word : Word) (name : List ℕ) (files : Option Files) (F : List ℕ → Type 0)
+    → Mute (IsUnread limit word name files F)
+mute-unread limit word name files F x (inl (u, s)) = let e : WriteFault ≡ ReadFault word = s.0 in cc
+mute-unread limit word name files F x (inr (long, s)) = mute-refusal word (TooLong limit) x s
+
+pub mute-reading : (limit : ℕ) (word : Word) (name : List ℕ) (files : Option Files) (F : List ℕ → Type 0) (Next : List ℕ → Ending)
+    → ((file : List ℕ) → Mute (Next file)) → Mute (Step (IsUnread limit word name files F) (IsRead limit name files) Next)
+mute-reading limit word name files F Next mute =
+    mute-step (IsUnread limit word name files F) (IsRead limit name files) Next (mute-unread limit word name files F) mute
+
+pub mute-said : (s : Status) (t : List ℕ) → s ≢ WriteFault → Mute (IsSaid s t)
+mute-said s t other x is = other (sym is.0)
+
+pub mute-no_trace : (word : Word) (file : List ℕ) → Mute (IsNoTrace word file)
+mute-no_trace word file x (at, fault, none, s) = mute-refusal word (BadTrace at) x s
+
+-- ---- where no read failed
+pub quiet-unread : (limit : ℕ) (word : Word) (name : List ℕ) (files : Option Files) (F : List ℕ → Type 0) (a : Status) (x : List ℕ)
+    → ¬ F name → IsUnread limit word name files F a x → IsUnread limit word name files (λ _. ⊥) a x
+quiet-unread limit word name files F a x quiet (inl (inl absent, s)) = inl (inl absent, s)
+quiet-unread limit word name files F a x quiet (inl (inr failed, s)) = absurd (quiet failed)
+quiet-unread limit word name files F a x quiet (inr long) = inr long
+
+pub quiet-reading : (limit : ℕ) (word : Word) (name : List ℕ) (files : Option Files) (F : List ℕ → Type 0) (Next : List ℕ → Ending)
+    (a : Status) (x : List ℕ) → ¬ F name → Step (IsUnread limit word name files F) (IsRead limit name files) Next a x
+    → Step (IsUnread limit word name files (λ _. ⊥)) (IsRead limit name files) Next a x
+quiet-reading limit word name files F Next a x quiet (inl u) = inl (quiet-unread limit word name files F a x quiet u)
+quiet-reading limit word name files F Next a x quiet (inr rest) = inr rest

@@ -1,0 +1,94 @@
+-- From what was earned and what was said to the answer of a call.
+use Rattle.std.proofs.Common.{◌≡◌, ◌≢◌, ℕ, List, Option, inl, inr, sym, subst, refl}
+use Rattle.std.specs.Io.KnownBytes.{append_known}
+use Rattle.vidi_io.specs.Shelf.{Files}
+use Rattle.vidi_commands.specs.declared.status.Status.{Status}
+use Rattle.vidi_commands.specs.declared.status.Status.TheVariants.{Done, Usage, ReadFault, WriteFault, Refused, Unstable, Diverged, Memory}
+use Rattle.vidi_commands.specs.Command.{Command, Dump, Check, Run, Record, Compare, Salvage}
+use Rattle.vidi_commands.specs.Answer.{Does, Earns, Answers, Says}
+use Rattle.vidi_commands.specs.Design.{text_limit, CheckedText}
+use Rattle.vidi_commands.specs.Traces.{trace_limit, DumpedFile}
+use Rattle.report_text.specs.declared.reason.Word.TheVariants as words
+use Rattle.vidi_commands.proofs.Quiet.{quiet-reading}
+use Rattle.vidi_commands.proofs.QuietDump.{mute-dumps}
+use Rattle.vidi_commands.proofs.QuietCheck.{mute-checks}
+use Rattle.vidi_commands.proofs.QuietRun.{mute-runs, quiet-runs}
+use Rattle.vidi_commands.proofs.QuietRecord.{mute-records, quiet-records}
+use Rattle.vidi_commands.proofs.QuietCompare.{mute-compares, quiet-compares}
+use Rattle.vidi_commands.proofs.QuietSalvage.{mute-saves, quiet-saves}
+
+does-writing : (c : Command) (files : Option Files) (F : List ℕ → Type 0) (text : List ℕ) (left : Option Files)
+    → Does c files F WriteFault text left → ⊥
+does-writing (Dump trace) files F text left (d, same) = mute-dumps trace files F text d
+does-writing (Check design top) files F text left (d, same) = mute-checks design top files F text d
+does-writing (Run design map script) files F text left (d, same) = mute-runs design map script files F text d
+does-writing (Record design map script stalls trace) files F text left d = mute-records design map script stalls trace files F text left d
+does-writing (Compare trace other) files F text left (d, same) = mute-compares trace other files F text d
+does-writing (Salvage trace out) files F text left d = mute-saves trace out files F text left d
+
+not_writing : (words : List (List ℕ)) (files : Option Files) (F : List ℕ → Type 0) (text : List ℕ) (left : Option Files)
+    → Earns words files F WriteFault text left → ⊥
+not_writing words files F text left (inl (none, said, same)) = let e : WriteFault ≡ Usage = said.0 in cc
+not_writing words files F text left (inr (inl (said, same))) = let e : WriteFault ≡ Memory = said.0 in cc
+not_writing words files F text left (inr (inr (c, given, d))) = does-writing c files F text left d
+
+answered : (E : Status → List ℕ → Option Files → Type 0) (S : Option Files → Type 0) (W : Type 0) (old new : Option (List ℕ))
+    (left : Option Files) (status : Status) (text : List ℕ)
+    → E status text left → status ≢ WriteFault → new ≡ append_known old text → Answers E S W old new left status
+answered E S W old new left Done text earned other told = (text, earned, told)
+answered E S W old new left Usage text earned other told = (text, earned, told)
+answered E S W old new left (ReadFault word) text earned other told = (text, earned, told)
+answered E S W old new left WriteFault text earned other told = absurd (other refl)
+answered E S W old new left (Refused word reason) text earned other told = (text, earned, told)
+answered E S W old new left (Unstable channel cycle) text earned other told = (text, earned, told)
+answered E S W old new left Diverged text earned other told = (text, earned, told)
+answered E S W old new left Memory text earned other told = (text, earned, told)
+
+pub said : (words : List (List ℕ)) (files : Option Files) (F : List ℕ → Type 0) (S : Option Files → Type 0) (W V : Type 0)
+    (old new : Option (List ℕ)) (left : Option Files) (status : Status) (text : List ℕ) (result : Status)
+    → Earns words files F status text left → (V → W) → Says status text V old new result
+    → Answers (Earns words files F) S W old new left result
+said words files F S W V old new left status text result earned why (inl (same, told)) =
+    let other : status ≢ WriteFault = λ e. not_writing words files F text left
+    (subst (λ (s : Status). Earns words files F s text left) e earned) in
+    subst (λ (s : Status). Answers (Earns words files F) S W old new left s) (sym same)
+    (answered (Earns words files F) S W old new left status text earned other told)
+said words files F S W V old new left status text result earned why (inr (fault, failed, some)) =
+    subst (λ (s : Status). Answers (Earns words files F) S W old new left s) (sym fault) (why failed, inl (status, text, earned, some))
+
+quiet_does : (c : Command) (files : Option Files) (F : List ℕ → Type 0) (status : Status) (text : List ℕ) (left : Option Files)
+    → ((name : List ℕ) → ¬ F name) → Does c files F status text left → Does c files (λ _. ⊥) status text left
+quiet_does (Dump trace) files F status text left quiet (d, same) =
+    (quiet-reading trace_limit words.Trace trace files F DumpedFile status text (quiet trace) d, same)
+quiet_does (Check design top) files F status text left quiet (d, same) =
+    (quiet-reading text_limit words.Design design files F (CheckedText top) status text (quiet design) d, same)
+quiet_does (Run design map script) files F status text left quiet (d, same) =
+    (quiet-runs design map script files F status text quiet d, same)
+quiet_does (Record design map script stalls trace) files F status text left quiet d =
+    quiet-records design map script stalls trace files F status text left quiet d
+quiet_does (Compare trace other) files F status text left quiet (d, same) = (quiet-compares trace other files F status text quiet d, same)
+quiet_does (Salvage trace out) files F status text left quiet d = quiet-saves trace out files F status text left quiet d
+
+quiet_earns : (words : List (List ℕ)) (files : Option Files) (F : List ℕ → Type 0) (status : Status) (text : List ℕ) (left : Option Files)
+    → ((name : List ℕ) → ¬ F name) → Earns words files F status text left → Earns words files (λ _. ⊥) status text left
+quiet_earns words files F status text left quiet (inl usage) = inl usage
+quiet_earns words files F status text left quiet (inr (inl memory)) = inr (inl memory)
+quiet_earns words files F status text left quiet (inr (inr (c, given, d))) =
+    inr (inr (c, given, quiet_does c files F status text left quiet d))
+
+-- where nothing failed, the answer is that of a call in which nothing fails
+pub quietly : (words : List (List ℕ)) (files : Option Files) (F : List ℕ → Type 0) (S : Option Files → Type 0) (W : Type 0)
+    (old new : Option (List ℕ)) (left : Option Files) (status : Status) → ((name : List ℕ) → ¬ F name) → ¬ W
+    → Answers (Earns words files F) S W old new left status → Answers (Earns words files (λ _. ⊥)) (λ _. ⊥) ⊥ old new left status
+quietly words files F S W old new left Done quiet kept (text, e, told) = (text, quiet_earns words files F Done text left quiet e, told)
+quietly words files F S W old new left Usage quiet kept (text, e, told) = (text, quiet_earns words files F Usage text left quiet e, told)
+quietly words files F S W old new left (ReadFault word) quiet kept (text, e, told)
+    = (text, quiet_earns words files F (ReadFault word) text left quiet e, told)
+quietly words files F S W old new left WriteFault quiet kept (failed, _) = absurd (kept failed)
+quietly words files F S W old new left (Refused word reason) quiet kept (text, e, told)
+    = (text, quiet_earns words files F (Refused word reason) text left quiet e, told)
+quietly words files F S W old new left (Unstable channel cycle) quiet kept (text, e, told)
+    = (text, quiet_earns words files F (Unstable channel cycle) text left quiet e, told)
+quietly words files F S W old new left Diverged quiet kept (text, e, told)
+    = (text, quiet_earns words files F Diverged text left quiet e, told)
+quietly words files F S W old new left Memory quiet kept (text, e, told) = (text, quiet_earns words files F Memory text left quiet e, told)

@@ -1,0 +1,12 @@
+use Rattle.vidi_io.specs.Cause.{Rose}
+use Rattle.report_text.specs.declared.reason.Word.TheVariants as words
+use Rattle.vidi_commands.specs.Design.{text_limit, CheckedText}
+use Rattle.vidi_commands.proofs.Reading.{read-on}
+use Rattle.vidi_commands.proofs.check.check.Goals as goal
+
+pub returns-clause-earned : goal.returns-clause-earned
+returns-clause-earned g c =
+    read-on text_limit words.Design c.args.design.now (g.S.Shelf.files c.args.shelf.now)
+    (λ name. Rose (g.S.Shelf.read_faults c.args.shelf.now name) (g.S.Shelf.read_faults c.read_whole.new.shelf name))
+    (CheckedText c.args.top.now) c.in-Ok.bytes c.as_slice.result.now c.checked_text.result
+    c.in-Ok.ensures.bytes c.in-Ok.ensures.within c.as_slice.ensures c.checked_text.ensures

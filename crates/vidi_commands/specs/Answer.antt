@@ -1,0 +1,56 @@
+-- What a call of `vidi` owes: each answer with its cause and its text.
+use Rattle.std.specs.Prelude.{◌≡◌, ℕ, ◌⊎◌, List, Option}
+use Rattle.std.specs.Io.KnownBytes.{append_known}
+use Rattle.vidi_io.specs.Shelf.{Files}
+use Rattle.vidi_io.specs.Sink.{AppendsSome}
+use Rattle.vidi_commands.specs.declared.status.Status.{Status}
+use Rattle.vidi_commands.specs.declared.status.Status.TheVariants.{Usage, WriteFault, Memory}
+use Rattle.vidi_commands.specs.Command.{Command, Dump, Check, Run, Record, Compare, Salvage, IsGiven}
+use Rattle.vidi_commands.specs.Steps.{IsSaid}
+use Rattle.vidi_commands.specs.Traces.{Dumps, Compares, Saves, StopsSaving}
+use Rattle.vidi_commands.specs.Design.{Checks}
+use Rattle.vidi_commands.specs.Runs.{Runs}
+use Rattle.vidi_commands.specs.Records.{Records, StopsRecording}
+use Rattle.vidi_commands.specs.Said.{usage_line, memory_line}
+
+-- what a command owes: its answer, its text, and the files that are left
+abbrev pub Does : Command → Option Files → (List ℕ → Type 0) → Status → List ℕ → Option Files → Type 0
+Does (Dump trace) files ReadFailed status text left = Dumps trace files ReadFailed status text × (left ≡ files)
+Does (Check design top) files ReadFailed status text left = Checks design top files ReadFailed status text × (left ≡ files)
+Does (Run design map script) files ReadFailed status text left = Runs design map script files ReadFailed status text × (left ≡ files)
+Does (Record design map script stalls trace) files ReadFailed status text left =
+    Records design map script stalls trace files ReadFailed status text left
+Does (Compare trace other) files ReadFailed status text left = Compares trace other files ReadFailed status text × (left ≡ files)
+Does (Salvage trace out) files ReadFailed status text left = Saves trace out files ReadFailed status text left
+
+-- An answer is earned by these words, with this text and these files left: `Usage` where they give no command, else what the command
+-- owes. Want of memory is free.
+abbrev pub Earns : List (List ℕ) → Option Files → (List ℕ → Type 0) → Status → List ℕ → Option Files → Type 0
+Earns words files ReadFailed status text left = (((c : Command) → ¬ IsGiven words c) × IsSaid Usage usage_line status text × (left ≡ files))
+    ⊎ (IsSaid Memory memory_line status text × (left ≡ files))
+    ⊎ ((c : Command) × IsGiven words c × Does c files ReadFailed status text left)
+
+-- a write of a command's file failed, which leaves these files
+abbrev pub StopsIn : Command → Option Files → Option Files → Type 0
+StopsIn (Salvage trace out) files left = StopsSaving trace out files left
+StopsIn (Record design map script stalls trace) files left = StopsRecording design map script stalls trace files left
+StopsIn _ files left = ⊥
+
+abbrev pub Stops : List (List ℕ) → Option Files → Option Files → Type 0
+Stops words files left = (c : Command) × IsGiven words c × StopsIn c files left
+
+-- a front of the text of an answer that was earned was said
+abbrev pub IsBroken : (Status → List ℕ → Option Files → Type 0) → Option (List ℕ) → Option (List ℕ) → Option Files → Type 0
+IsBroken Earned old new left = (status : Status) × (text : List ℕ) × Earned status text left × AppendsSome old new text
+
+-- What a call answers, what the sink tells before and after, and the files that are left. An answer is earned and its whole text was
+-- said. After `WriteFault`, which only a failed write causes, the text broke off, or a file's writing did and nothing was said.
+abbrev pub Answers : (Status → List ℕ → Option Files → Type 0) → (Option Files → Type 0) → Type 0 → Option (List ℕ) → Option (List ℕ)
+    → Option Files → Status → Type 0
+Answers Earned Stopped WriteFailed old new left WriteFault = WriteFailed × (IsBroken Earned old new left ⊎ (Stopped left × (new ≡ old)))
+Answers Earned Stopped WriteFailed old new left status = (text : List ℕ) × Earned status text left × (new ≡ append_known old text)
+
+-- A status was said with its text, or a write failed in the middle of the text.
+abbrev pub Says : Status → List ℕ → Type 0 → Option (List ℕ) → Option (List ℕ) → Status → Type 0
+Says status text WriteFailed old new result = ((result ≡ status) × (new ≡ append_known old text))
+    ⊎ ((result ≡ WriteFault) × WriteFailed × AppendsSome old new text)

@@ -1,0 +1,15 @@
+pub mod Answer
+pub mod AnswerText
+pub mod Benches
+pub mod Command
+pub mod Design
+pub mod Recorded
+pub mod Records
+pub mod Runs
+pub mod Exit
+pub mod Reading
+pub mod Said
+pub mod Steps
+pub mod Stopping
+pub mod Traces
+pub mod Unfetched

@@ -1,0 +1,84 @@
+-- What the commands on traces owe: each step of them in its order.
+use Rattle.std.specs.Prelude.{◌≡◌, ◌≢◌, ℕ, ◌⊎◌, List, [], Option, Ok, length, take, slice_get}
+use Rattle.trace_model.specs.declared.trace.Trace.{Trace}
+use Rattle.trace_code.specs.Decoding.{IsFaultAt, HasNoHeader}
+use Rattle.trace_code.specs.Encoding.{Encodes, encode}
+use Rattle.trace_code.specs.Salvage.{Salvages}
+use Rattle.trace_compare.specs.Findings.{findings}
+use Rattle.vidi_io.specs.Shelf.{Files, holding}
+use Rattle.vidi_io.specs.Writing.{IsCutOff}
+use Rattle.report_text.specs.declared.reason.Word.{Word}
+use Rattle.report_text.specs.declared.reason.Word.TheVariants as words
+use Rattle.report_text.specs.declared.reason.Reason.TheVariants.{BadTrace, OtherChannels}
+use Rattle.trace_code.specs.declared.decoding.TheConstants.{TRACE_LIMIT}
+use Rattle.vidi_commands.specs.declared.status.Status.{Status}
+use Rattle.vidi_commands.specs.declared.status.Status.TheVariants.{Done, Diverged}
+use Rattle.vidi_commands.specs.Said.{dump_text, no_divergence_line, diverged_text, salvaged_line}
+use Rattle.vidi_commands.specs.Reading.{IsRead, IsUnread}
+use Rattle.vidi_commands.specs.Steps.{Ending, IsSaid, IsRefusal, Step}
+
+-- the longest trace file, in bytes
+abbrev pub trace_limit : ℕ
+trace_limit = TRACE_LIMIT
+
+-- the bytes encode no trace
+abbrev pub IsNoTrace : Word → List ℕ → Ending
+IsNoTrace word file status text =
+    (at : ℕ) × IsFaultAt file at × ((t : Trace) → ¬ Encodes t file) × IsRefusal word (BadTrace at) status text
+
+-- ---- `dump TRACE`
+abbrev pub DumpedFile : List ℕ → Ending
+DumpedFile file = Step (IsNoTrace words.Trace file) (λ t. Encodes t file) (λ t. IsSaid Done (dump_text t))
+
+abbrev pub Dumps : List ℕ → Option Files → (List ℕ → Type 0) → Ending
+Dumps trace files ReadFailed = Step (IsUnread trace_limit words.Trace trace files ReadFailed) (IsRead trace_limit trace files) DumpedFile
+
+-- ---- `compare TRACE OTHER`
+-- the channels of the second trace are others, first at this place
+abbrev pub HasOtherChannels : Trace → Trace → Ending
+HasOtherChannels t u status text = (at : ℕ) × (take at t.channels ≡ take at u.channels)
+    × (slice_get t.channels at ≢ slice_get u.channels at) × IsRefusal words.Other (OtherChannels at) status text
+
+abbrev pub IsVerdict : Trace → Trace → Ending
+IsVerdict t u status text = ((findings t u ≡ []) × IsSaid Done no_divergence_line status text)
+    ⊎ ((findings t u ≢ []) × IsSaid Diverged (diverged_text (findings t u) t.channels) status text)
+
+abbrev pub Compared : Trace → Trace → Ending
+Compared t u status text = HasOtherChannels t u status text ⊎ ((t.channels ≡ u.channels) × IsVerdict t u status text)
+
+abbrev pub ComparedWith : List ℕ → Trace → Ending
+ComparedWith second t = Step (IsNoTrace words.Other second) (λ u. Encodes u second) (Compared t)
+
+abbrev pub ComparedFiles : List ℕ → List ℕ → Ending
+ComparedFiles first second = Step (IsNoTrace words.Trace first) (λ t. Encodes t first) (ComparedWith second)
+
+abbrev pub ComparedTo : List ℕ → Option Files → (List ℕ → Type 0) → List ℕ → Ending
+ComparedTo other files ReadFailed first = Step (IsUnread trace_limit words.Other other files ReadFailed)
+    (IsRead trace_limit other files) (ComparedFiles first)
+
+abbrev pub Compares : List ℕ → List ℕ → Option Files → (List ℕ → Type 0) → Ending
+Compares trace other files ReadFailed = Step (IsUnread trace_limit words.Trace trace files ReadFailed) (IsRead trace_limit trace files)
+    (ComparedTo other files ReadFailed)
+
+-- ---- `salvage TRACE OUT`
+abbrev pub IsHeaderless : List ℕ → Ending
+IsHeaderless file status text = HasNoHeader file × IsRefusal words.Trace (BadTrace 0) status text
+
+-- the file isn't read, or no lawful header begins it
+abbrev pub IsUnsaved : List ℕ → Option Files → (List ℕ → Type 0) → Ending
+IsUnsaved trace files ReadFailed status text = IsUnread trace_limit words.Trace trace files ReadFailed status text
+    ⊎ ((file : List ℕ) × IsRead trace_limit trace files file × IsHeaderless file status text)
+
+-- t is what is whole of the file
+abbrev pub IsWhole : List ℕ → Option Files → Trace → Type 0
+IsWhole trace files t = (file : List ℕ) × IsRead trace_limit trace files file × Salvages file (Ok t)
+
+-- what is left of the files: OUT is not started, or holds the encoding of what is whole of the trace
+abbrev pub Saves : List ℕ → List ℕ → Option Files → (List ℕ → Type 0) → Status → List ℕ → Option Files → Type 0
+Saves trace out files ReadFailed status text left = (IsUnsaved trace files ReadFailed status text × (left ≡ files))
+    ⊎ ((t : Trace) × IsWhole trace files t × IsSaid Done (salvaged_line (length t.packets)) status text
+    × (left ≡ holding files out (encode t)))
+
+-- writing OUT was cut off
+abbrev pub StopsSaving : List ℕ → List ℕ → Option Files → Option Files → Type 0
+StopsSaving trace out files left = (t : Trace) × IsWhole trace files t × IsCutOff files out (encode t) left

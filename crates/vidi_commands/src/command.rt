@@ -1,0 +1,141 @@
+//! The words of a command line.
+
+ghost use Rattle.std.specs.Prelude.{◌≡◌, [], ◌∷◌, MatchOption};
+ghost use Rattle.vidi_commands.specs.Command as spec;
+
+use vidi_io::Words;
+
+/// A command with its parts.
+#[derive(Clone, Copy)]
+pub enum Command<'a> {
+    Dump {
+        trace: &'a str,
+    },
+    /// `top` is the name of a module.
+    Check {
+        design: &'a str,
+        top: &'a str,
+    },
+    /// The design is played as the map and the script say.
+    Run {
+        design: &'a str,
+        map: &'a str,
+        script: &'a str,
+    },
+    /// The design is played as the map and the script say, behind a store that drains as the stalls say, and `trace` gets its trace.
+    Record {
+        design: &'a str,
+        map: &'a str,
+        script: &'a str,
+        stalls: &'a str,
+        trace: &'a str,
+    },
+    /// `other` is compared with `trace`.
+    Compare {
+        trace: &'a str,
+        other: &'a str,
+    },
+    /// `out` gets what is whole of `trace`.
+    Salvage {
+        trace: &'a str,
+        out: &'a str,
+    },
+}
+
+impl<'a> Command<'a> {
+    /// The command that the words give, if they give one.
+    pub fn of(words: &'a Words) -> Option<Command<'a>>
+        ensures { MatchOption result ((c : spec.Command) → ¬ spec.IsGiven words.now c) (λ c. spec.IsGiven words.now (spec.plain c)) }
+    {
+        match words.as_slice() {
+            [name, trace] if name.as_str() == "dump" => Some(Command::Dump {
+                trace: trace.as_str(),
+            }),
+            [name, first, second, third] => of_three(
+                name.as_str(),
+                first.as_str(),
+                second.as_str(),
+                third.as_str(),
+            ),
+            [name, first, second] => of_two(name.as_str(), first.as_str(), second.as_str()),
+            [name, design, map, script, stalls, trace] => of_five(
+                name.as_str(),
+                design.as_str(),
+                map.as_str(),
+                script.as_str(),
+                stalls.as_str(),
+                trace.as_str(),
+            ),
+            _ => None,
+        }
+    }
+}
+
+/// The command of this name with three parts.
+fn of_three<'a>(name: &str, design: &'a str, map: &'a str, script: &'a str) -> Option<Command<'a>>
+    ensures { MatchOption result ((c : spec.Command) → ¬ spec.IsGiven (name.now ∷ design.now ∷ map.now ∷ script.now ∷ []) c)
+        (λ c. spec.IsGiven (name.now ∷ design.now ∷ map.now ∷ script.now ∷ []) (spec.plain c)) }
+{
+    if name == "run" {
+        return Some(Command::Run {
+            design,
+            map,
+            script,
+        });
+    }
+    None
+}
+
+/// The command of this name with five parts. The file that is written isn't one that is read.
+fn of_five<'a>(
+    name: &str,
+    design: &'a str,
+    map: &'a str,
+    script: &'a str,
+    stalls: &'a str,
+    trace: &'a str,
+) -> Option<Command<'a>>
+    ensures { MatchOption result
+        ((c : spec.Command) → ¬ spec.IsGiven (name.now ∷ design.now ∷ map.now ∷ script.now ∷ stalls.now ∷ trace.now ∷ []) c)
+        (λ c. spec.IsGiven (name.now ∷ design.now ∷ map.now ∷ script.now ∷ stalls.now ∷ trace.now ∷ []) (spec.plain c)) }
+{
+    if name != "record" {
+        return None;
+    }
+    if design == trace || map == trace || script == trace || stalls == trace {
+        return None;
+    }
+    Some(Command::Record {
+        design,
+        map,
+        script,
+        stalls,
+        trace,
+    })
+}
+
+/// The command of this name with two parts. A file that is written isn't one that is read.
+fn of_two<'a>(name: &str, first: &'a str, second: &'a str) -> Option<Command<'a>>
+    ensures { MatchOption result ((c : spec.Command) → ¬ spec.IsGiven (name.now ∷ first.now ∷ second.now ∷ []) c)
+        (λ c. spec.IsGiven (name.now ∷ first.now ∷ second.now ∷ []) (spec.plain c)) }
+{
+    if name == "check" {
+        return Some(Command::Check {
+            design: first,
+            top: second,
+        });
+    }
+    if name == "compare" {
+        return Some(Command::Compare {
+            trace: first,
+            other: second,
+        });
+    }
+    if name == "salvage" && first != second {
+        return Some(Command::Salvage {
+            trace: first,
+            out: second,
+        });
+    }
+    None
+}

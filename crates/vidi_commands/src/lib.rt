@@ -1,0 +1,17 @@
+//! The commands of `vidi`, behind its one public call. `specs/Answer` has what a call owes.
+#![tactic(auto)]
+
+mod answer;
+mod bench;
+mod check;
+mod command;
+mod compare;
+mod dump;
+mod recording;
+mod run;
+mod salvage;
+mod status;
+mod top;
+
+pub use status::Status;
+pub use top::vidi;

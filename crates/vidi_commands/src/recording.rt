@@ -1,0 +1,376 @@
+//! The command `record`.
+
+ghost use Rattle.vidi_commands.specs.declared.recording.TheConstants.{LINE_BYTES};
+ghost use Rattle.std.specs.Prelude.{◌≡◌, ◌≤◌, ◌+◌, ◌++◌, [], Option, Ok, IfOk, IfErr, decimal, length};
+ghost use Rattle.trace_model.specs.declared.row.Row.{Row as OneRow};
+ghost use Rattle.trace_model.specs.Channel.{IsTable};
+ghost use Rattle.net_design.specs.declared.values.Values.{Values};
+ghost use Rattle.net_design.specs.Lawful.{IsLawful};
+ghost use Rattle.net_order.specs.Order.{IsOrder};
+ghost use Rattle.run_model.specs.MapOf.{IsMapOf};
+ghost use Rattle.script_text.specs.declared.script.TheConstants.{MOST_CYCLES};
+ghost use Rattle.script_text.specs.Fits.{FitsChannels};
+ghost use Rattle.script_text.specs.ScriptOffer.{script_offer};
+ghost use Rattle.room_ledger.specs.Ledger.{fresh};
+ghost use Rattle.room_ledger.specs.Reservation.{need};
+ghost use Rattle.script_text.specs.Reasons.{read_lines};
+ghost use Rattle.script_text.specs.Stalls.{ReadsStalls};
+ghost use Rattle.vidi_io.specs.Cause.{Rose};
+ghost use Rattle.vidi_io.specs.Shelf.{Later};
+ghost use Rattle.vidi_recorder.specs.Course.{course, sizes_of};
+ghost use Rattle.vidi_recorder.specs.Recording.{FailsFor};
+ghost use Rattle.report_text.specs.Pad.{shown, left};
+ghost use Rattle.vidi_commands.specs.AnswerText.{text_of};
+ghost use Rattle.vidi_commands.specs.Benches.{IsBench, IsPlayable, IsUnready};
+ghost use Rattle.vidi_commands.specs.Design.{text_limit};
+ghost use Rattle.vidi_commands.specs.Reading.{IsRead, IsUnread};
+ghost use Rattle.vidi_commands.specs.Records.{course_of, IsCutShort, IsNoPlan, IsPlanned, IsTooSmall, IsUnrecorded};
+ghost use Rattle.vidi_commands.specs.Records.{Records, RecordsRun, RefusedPlanned, StopsRecording};
+ghost use Rattle.vidi_commands.specs.Recorded.{FileEnds, FileFails, IsOutcome};
+ghost use Rattle.vidi_commands.specs.Said as said;
+ghost use Rattle.vidi_commands.specs.Steps.{IsSaid};
+ghost use Rattle.vidi_commands.specs.Stopping.{IsStopped};
+
+use crate::answer::{Answer, AnswerText, refused, unread};
+use crate::bench::{Bench, Unready, bench_of};
+use crate::check::TEXT_LIMIT;
+use crate::run::channel_name;
+use crate::status::{Reason, Status, Stop, Word};
+use chan_map::Map;
+use chan_monitor::{Machines, Shell};
+use env_script::{Env, ScriptEnv, StallError, Stalls, read_stalls};
+use itoa::Buffer;
+use net_design::Design;
+use net_order::Order;
+use net_sim::Sim;
+use report_text::Pad;
+use room_ledger::{Room, RoomError};
+use script_text::Script;
+use std::alloc::Global;
+use trace_model::Channels;
+use vidi_bits::{Bytes, Memory};
+use vidi_io::{Shelf, ShelfSink, read_whole};
+use vidi_recorder::{Outcome, RecordError, record_run};
+
+/// The longest line that is printed behind a recording, in bytes, and more.
+const LINE_BYTES: usize = 256;
+
+/// What is recorded: a design with its map and script, a plan of stalls, and a store for it.
+#[derive(Drop)]
+struct Planned {
+    bench: Bench,
+    plan: Stalls,
+    room: Room,
+}
+
+/// What `record` is answered. All memory is taken before the file `trace` is started.
+pub fn record<S: Shelf>(
+    alloc: Global,
+    design: &str,
+    map: &str,
+    script: &str,
+    stalls: &str,
+    trace: &str,
+    shelf: &mut S,
+) -> Result<Answer, Stop>
+    ensures earned { IfOk result (λ a. Records design.now map.now script.now stalls.now trace.now (S.files shelf.old)
+        (λ name. Rose (S.read_faults shelf.old name) (S.read_faults shelf.new name)) a.status (text_of a.text) (S.files shelf.new)) }
+    ensures stopped { IfErr result (λ s. IsStopped
+        (StopsRecording design.now map.now script.now stalls.now trace.now (S.files shelf.old))
+        (Rose (S.write_faults shelf.old) (S.write_faults shelf.new)) (S.files shelf.old) (S.files shelf.new) s) }
+    ensures counts { Later (S.read_faults shelf.old) (S.read_faults shelf.new) (S.write_faults shelf.old) (S.write_faults shelf.new) }
+{
+    match plan_recording(alloc, design, map, script, stalls, shelf) {
+        Ok(planned) => recorded(alloc, planned, trace, shelf),
+        Err(Unready::Refused(answer)) => Ok(answer),
+        Err(Unready::Memory) => Err(Stop::Memory),
+    }
+}
+
+/// Reads the four files, and makes what they say.
+fn plan_recording<S: Shelf>(
+    alloc: Global,
+    design: &str,
+    map: &str,
+    script: &str,
+    stalls: &str,
+    shelf: &mut S,
+) -> Result<Planned, Unready>
+    ensures planned { IfOk result (λ p. IsPlanned design.now map.now script.now stalls.now (S.files shelf.old) p.bench p.plan) }
+    ensures playable { IfOk result (λ p. IsPlayable p.bench) }
+    ensures room { IfOk result (λ p. p.room ≡ fresh (sizes_of p.bench.map.channels) p.plan.capacity) }
+    ensures refused { IfErr result (IsUnready (IsUnrecorded design.now map.now script.now stalls.now (S.files shelf.old)
+        (λ name. Rose (S.read_faults shelf.old name) (S.read_faults shelf.new name)))) }
+    ensures files { S.files shelf.new ≡ S.files shelf.old }
+    ensures counts { Later (S.read_faults shelf.old) (S.read_faults shelf.new) (S.write_faults shelf.old) (S.write_faults shelf.new) }
+{
+    let design = read_text(alloc, Word::Design, design, shelf)?;
+    let map = read_text(alloc, Word::Map, map, shelf)?;
+    let script = read_text(alloc, Word::Script, script, shelf)?;
+    let stalls = read_text(alloc, Word::Stalls, stalls, shelf)?;
+    plan_texts(
+        alloc,
+        design.as_slice(),
+        map.as_slice(),
+        script.as_slice(),
+        stalls.as_slice(),
+    )
+}
+
+/// What four texts say.
+fn plan_texts(
+    alloc: Global,
+    design: &[u8],
+    map: &[u8],
+    script: &[u8],
+    stalls: &[u8],
+) -> Result<Planned, Unready>
+    requires design { length design.now ≤ text_limit }
+    requires map { length map.now ≤ text_limit }
+    requires script { length script.now ≤ text_limit }
+    requires stalls { length stalls.now ≤ text_limit }
+    ensures bench { IfOk result (λ p. IsBench design.now map.now script.now p.bench) }
+    ensures planned { IfOk result (λ p. ReadsStalls (read_lines stalls.now) (Ok p.plan)) }
+    ensures holds { IfOk result (λ p. need (sizes_of p.bench.map.channels) ≤ p.plan.capacity) }
+    ensures playable { IfOk result (λ p. IsPlayable p.bench) }
+    ensures room { IfOk result (λ p. p.room ≡ fresh (sizes_of p.bench.map.channels) p.plan.capacity) }
+    ensures refused { IfErr result (IsUnready (RefusedPlanned design.now map.now script.now stalls.now)) }
+{
+    let bench = bench_of(alloc, design, map, script)?;
+    let plan = plan_of(alloc, stalls)?;
+    let room = room_for(alloc, &bench.map.channels, &plan)?;
+    Ok(Planned { bench, plan, room })
+}
+
+/// The bytes of the file of this word.
+fn read_text<S: Shelf>(
+    alloc: Global,
+    word: Word,
+    name: &str,
+    shelf: &mut S,
+) -> Result<Bytes, Unready>
+    ensures read { IfOk result (IsRead text_limit name.now (S.files shelf.old)) }
+    ensures within { IfOk result (λ bytes. length bytes ≤ text_limit) }
+    ensures refused { IfErr result (IsUnready (IsUnread text_limit word name.now (S.files shelf.old)
+        (λ name. Rose (S.read_faults shelf.old name) (S.read_faults shelf.new name)))) }
+    ensures files { S.files shelf.new ≡ S.files shelf.old }
+    ensures counts { Later (S.read_faults shelf.old) (S.read_faults shelf.new) (S.write_faults shelf.old) (S.write_faults shelf.new) }
+{
+    match read_whole(alloc, shelf, name, TEXT_LIMIT) {
+        Ok(bytes) => Ok(bytes),
+        Err(error) => Err(Unready::Refused(unread(alloc, word, error)?)),
+    }
+}
+
+/// The plan of a text.
+fn plan_of(alloc: Global, text: &[u8]) -> Result<Stalls, Unready>
+    requires { length text.now ≤ text_limit }
+    ensures planned { IfOk result (λ plan. ReadsStalls (read_lines text.now) (Ok plan)) }
+    ensures refused { IfErr result (IsUnready (IsNoPlan text.now)) }
+{
+    match read_stalls(alloc, text) {
+        Ok(plan) => Ok(plan),
+        Err(StallError::Line { line }) => Err(Unready::Refused(refused(
+            alloc,
+            Word::Stalls,
+            Reason::StallLine { line },
+        )?)),
+        Err(StallError::Memory) => Err(Unready::Memory),
+    }
+}
+
+/// The store of a plan for these channels.
+fn room_for(alloc: Global, channels: &Channels, plan: &Stalls) -> Result<Room, Unready>
+    requires { IsTable channels.now }
+    ensures room { IfOk result (λ room. room ≡ fresh (sizes_of channels.now) plan.now.capacity) }
+    ensures holds { IfOk result (λ room. need (sizes_of channels.now) ≤ plan.now.capacity) }
+    ensures refused { IfErr result (IsUnready (IsTooSmall channels.now plan.now)) }
+{
+    match Room::new(alloc, channels, plan.capacity()) {
+        Ok(room) => Ok(room),
+        Err(RoomError::TooSmall { need, given }) => Err(Unready::Refused(refused(
+            alloc,
+            Word::Stalls,
+            Reason::TooSmall {
+                need: u64::from(need),
+                given,
+            },
+        )?)),
+        Err(RoomError::Memory) => Err(Unready::Memory),
+    }
+}
+
+/// Records the run into the file `trace`, and says how it ended.
+fn recorded<S: Shelf>(
+    alloc: Global,
+    planned: Planned,
+    trace: &str,
+    shelf: &mut S,
+) -> Result<Answer, Stop>
+    requires playable { IsPlayable planned.bench }
+    requires room { planned.room ≡ fresh (sizes_of planned.bench.map.channels) planned.plan.capacity }
+    ensures done { IfOk result (λ a. RecordsRun (course_of planned.bench planned.plan) trace.now (S.files shelf.old) a.status
+        (text_of a.text) (S.files shelf.new)) }
+    ensures stopped { IfErr result (IsStopped (IsCutShort (course_of planned.bench planned.plan) (S.files shelf.old) trace.now)
+        (Rose (S.write_faults shelf.old) (S.write_faults shelf.new)) (S.files shelf.old) (S.files shelf.new)) }
+    ensures counts { Later (S.read_faults shelf.old) (S.read_faults shelf.new) (S.write_faults shelf.old) (S.write_faults shelf.new) }
+{
+    let Planned { bench, plan, room } = planned;
+    let line = Pad::new(alloc, LINE_BYTES)?;
+    let cycles = bench.script.cycles();
+    let Bench {
+        design,
+        order,
+        map,
+        script,
+    } = bench;
+    let outcome = record_sim(
+        alloc, design, order, &map, &script, &plan, room, trace, shelf,
+    )?;
+    Ok(told(outcome, cycles, &map.channels, line))
+}
+
+/// Records the run of a design in the environment of a script.
+#[tactic(auto, using(crate::proofs::PortNets::port_nets))]
+fn record_sim<S: Shelf>(
+    alloc: Global,
+    design: Design,
+    order: Order,
+    map: &Map,
+    script: &Script,
+    plan: &Stalls,
+    room: Room,
+    trace: &str,
+    shelf: &mut S,
+) -> Result<Outcome, Stop>
+    requires lawful { IsLawful design }
+    requires order { IsOrder design order.drivers }
+    requires mapped { IsMapOf design map.now }
+    requires fits { FitsChannels map.now.channels script.now }
+    requires room { room ≡ fresh (sizes_of map.now.channels) plan.now.capacity }
+    ensures ended { IfOk result (FileEnds (course design map.now (script_offer script.now) plan.now script.now.cycles)
+        (S.files shelf.old) trace.now (S.files shelf.new)) }
+    ensures stopped { IfErr result (IsStopped
+        (IsCutShort (course design map.now (script_offer script.now) plan.now script.now.cycles) (S.files shelf.old) trace.now)
+        (Rose (S.write_faults shelf.old) (S.write_faults shelf.new)) (S.files shelf.old) (S.files shelf.new)) }
+    ensures counts { Later (S.read_faults shelf.old) (S.read_faults shelf.new) (S.write_faults shelf.old) (S.write_faults shelf.new) }
+{
+    let sim = Sim::new(alloc, design, order)?;
+    let mut shell = Machines::new(alloc, sim, map)?;
+    let mut env = ScriptEnv::new(alloc, script, map)?;
+    match record_file(
+        alloc,
+        &mut shell,
+        map,
+        &mut env,
+        plan,
+        room,
+        script.cycles(),
+        trace,
+        shelf,
+    ) {
+        Ok(outcome) => Ok(outcome),
+        Err(RecordError::WriteFault) => Err(Stop::WriteFault),
+        Err(RecordError::Memory) => Err(Stop::Memory),
+    }
+}
+
+/// Records the run of a shell into the file `trace`.
+fn record_file<S: Shell, E: Env, F: Shelf>(
+    alloc: Global,
+    shell: &mut S,
+    map: &Map,
+    env: &mut E,
+    plan: &Stalls,
+    room: Room,
+    cycles: u32,
+    trace: &str,
+    shelf: &mut F,
+) -> Result<Outcome, RecordError>
+    requires table { IsTable map.now.channels }
+    requires mapped { S.map shell.old ≡ map.now }
+    requires channels { E.channels env.old ≡ map.now.channels }
+    requires first { E.stands_for env.old [] }
+    requires room { room ≡ fresh (sizes_of map.now.channels) plan.now.capacity }
+    requires some { 1 ≤ cycles }
+    requires few { cycles ≤ MOST_CYCLES }
+    ensures ended { IfOk result (λ outcome. (d : Design) (s : Values) (before : Option OneRow) → S.runs shell.old d s before
+        → FileEnds (course d map.now (E.offer (E.plan env.old)) plan.now cycles) (F.files shelf.old) trace.now (F.files shelf.new) outcome) }
+    ensures failed { IfErr result (λ e. (d : Design) (s : Values) (before : Option OneRow) → S.runs shell.old d s before
+        → FileFails (course d map.now (E.offer (E.plan env.old)) plan.now cycles) (F.files shelf.old) trace.now (F.files shelf.new) e) }
+    ensures cause { IfErr result (FailsFor (F.write_faults shelf.old) (F.write_faults shelf.new)) }
+    ensures counts { Later (F.read_faults shelf.old) (F.read_faults shelf.new) (F.write_faults shelf.old) (F.write_faults shelf.new) }
+{
+    let mut sink = ShelfSink::new(shelf, trace);
+    record_run(alloc, shell, map, env, plan, room, cycles, &mut sink)
+}
+
+/// The answer of an outcome, with its line in memory that was taken before.
+fn told(outcome: Outcome, cycles: u32, channels: &Channels, line: Pad) -> Answer
+    requires table { IsTable channels.now }
+    requires empty { shown line ≡ [] }
+    requires room { left line ≡ LINE_BYTES }
+    ensures { IsOutcome channels.now cycles outcome result.status (text_of result.text) }
+{
+    match outcome {
+        Outcome::Whole { packets } => with_line(Status::Done, recorded_line(line, cycles, packets)),
+        Outcome::Unstable {
+            channel,
+            cycle,
+            packets: _,
+        } => with_line(
+            Status::Unstable { channel, cycle },
+            unstable_line(line, channels, channel, cycle),
+        ),
+    }
+}
+
+/// The answer of this status with this line.
+fn with_line(status: Status, line: Pad) -> Answer
+    ensures { IsSaid status (shown line) result.status (text_of result.text) }
+{
+    Answer {
+        status,
+        text: AnswerText::Line(line),
+    }
+}
+
+fn recorded_line(line: Pad, cycles: u32, packets: u32) -> Pad
+    requires empty { shown line ≡ [] }
+    requires room { left line ≡ LINE_BYTES }
+    ensures { shown result ≡ said.recorded_line cycles packets }
+{
+    let mut line = line;
+    line.put(b"recorded ");
+    put_number(&mut line, cycles);
+    line.put(b" cycles ");
+    put_number(&mut line, packets);
+    line.put(b" packets\n");
+    line
+}
+
+#[tactic(auto, using(crate::proofs::Names::short_name))]
+fn unstable_line(line: Pad, channels: &Channels, channel: usize, cycle: u32) -> Pad
+    requires table { IsTable channels.now }
+    requires empty { shown line ≡ [] }
+    requires room { left line ≡ LINE_BYTES }
+    ensures { shown result ≡ said.unstable_line channels.now channel cycle }
+{
+    let mut line = line;
+    line.put(b"vidi: unstable ");
+    line.put(channel_name(channels, channel));
+    line.put(b" cycle ");
+    put_number(&mut line, cycle);
+    line.put(b"\n");
+    line
+}
+
+/// Adds a number in decimal.
+fn put_number(line: &mut Pad, number: u32)
+    requires { 40 ≤ left line.old }
+    ensures text { shown line.new ≡ shown line.old ++ decimal number }
+    ensures left { left line.old ≤ left line.new + 40 }
+{
+    let mut buffer = Buffer::new();
+    line.put(buffer.format(number).as_bytes());
+}

@@ -1,0 +1,68 @@
+//! How a command ends.
+
+ghost use Rattle.std.specs.Prelude.{◌≡◌};
+ghost use Rattle.vidi_commands.specs.Exit as exit;
+
+pub use report_text::{Reason, Word};
+use vidi_bits::Memory;
+
+/// What a call of `vidi` answers.
+#[derive(Debug, Drop)]
+pub enum Status {
+    /// The command did what it does, and its whole text was written.
+    Done,
+    /// The words are no command.
+    Usage,
+    /// The file isn't there, or a read of it failed.
+    ReadFault { word: Word },
+    /// A write failed.
+    WriteFault,
+    /// The file isn't accepted.
+    Refused { word: Word, reason: Reason },
+    /// On this channel, by its place in the map, the design takes back in this cycle what it offered.
+    Unstable { channel: usize, cycle: u32 },
+    /// The second trace has findings against the first.
+    Diverged,
+    /// No memory was found.
+    Memory,
+}
+
+/// Why a command says nothing of its own.
+#[derive(Drop)]
+pub enum Stop {
+    /// A write of its file failed.
+    WriteFault,
+    /// No memory was found.
+    Memory,
+}
+
+impl From<Memory> for Stop {
+    ghost use Rattle.vidi_commands.specs.declared.status.Stop.TheVariants as stops;
+
+    ghost from_gives = { λ _ s. s ≡ stops.Memory };
+
+    fn from(_error: Memory) -> Stop {
+        Stop::Memory
+    }
+}
+
+impl Status {
+    /// The number with which the program ends.
+    pub fn exit_number(&self) -> u8
+        ensures { result ≡ exit.exit_number self.now }
+    {
+        match self {
+            Status::Done => 0,
+            Status::Usage => 1,
+            Status::ReadFault { word: _ } => 2,
+            Status::WriteFault => 3,
+            Status::Refused { word: _, reason: _ } => 4,
+            Status::Unstable {
+                channel: _,
+                cycle: _,
+            } => 5,
+            Status::Diverged => 7,
+            Status::Memory => 8,
+        }
+    }
+}

@@ -1,0 +1,124 @@
+//! The one public call.
+
+ghost use Rattle.std.specs.Prelude.{◌≡◌, ℕ, ◌≤◌, ◌⊎◌, List, IfOk, IfErr};
+ghost use Rattle.vidi_io.specs.Cause.{Rose};
+ghost use Rattle.vidi_io.specs.Shelf.{Later};
+ghost use Rattle.vidi_io.specs.Sink.{Frame};
+ghost use Rattle.vidi_commands.specs.Answer.{Answers, Earns, Says, Stops};
+ghost use Rattle.vidi_commands.specs.AnswerText.{text_of};
+ghost use Rattle.vidi_commands.specs.Said as said;
+ghost use Rattle.vidi_commands.specs.Stopping.{IsStopped};
+
+use crate::answer::{Answer, usage};
+use crate::check::check;
+use crate::command::Command;
+use crate::compare::compare;
+use crate::dump::dump;
+use crate::recording::record;
+use crate::run::run;
+use crate::salvage::salvage;
+use crate::status::{Status, Stop};
+use std::alloc::Global;
+use vidi_io::{Failed, Shelf, Sink, Words};
+
+/// Does what the words ask for: reads and writes files of the shelf, and says its text to `out`.
+///
+/// - `dump TRACE` prints a trace.
+/// - `check DESIGN TOP` reads a design text and prints how many modules and items it has, or why it is refused.
+/// - `run DESIGN MAP SCRIPT` plays a design in the environment of a script, and prints what starts and ends on its channels.
+/// - `record DESIGN MAP SCRIPT STALLS TRACE` does so behind a store that drains as the stalls say, and writes the trace of the run.
+/// - `compare TRACE OTHER` prints what is missing, extra, different or early in the second trace.
+/// - `salvage TRACE OUT` writes what is whole of a trace that was cut off.
+///
+/// The clause `answers` has the cause of each answer: `Usage` where the words give no command, else
+/// what the command owes for the files that the shelf tells, with the files that are left. Reads and writes that
+/// fail are answered only where a count of faults rose. Want of memory alone is free.
+pub fn vidi<S: Shelf, O: Sink>(alloc: Global, words: &Words, shelf: &mut S, out: &mut O) -> Status
+    // Each answer with its cause, and what was said.
+    ensures answers { Answers
+        (Earns words.now (S.files shelf.old) (λ name. Rose (S.read_faults shelf.old name) (S.read_faults shelf.new name)))
+        (Stops words.now (S.files shelf.old))
+        (Rose (S.write_faults shelf.old) (S.write_faults shelf.new) ⊎ Rose (O.faults out.old) (O.faults out.new))
+        (O.told out.old) (O.told out.new) (S.files shelf.new) result }
+
+    // Where no count rose, the answer is that of a call in which nothing fails.
+    ensures complete { ((name : List ℕ) → ¬ Rose (S.read_faults shelf.old name) (S.read_faults shelf.new name))
+        → ¬ Rose (S.write_faults shelf.old) (S.write_faults shelf.new)
+        → ¬ Rose (O.faults out.old) (O.faults out.new)
+        → Answers (Earns words.now (S.files shelf.old) (λ name. ⊥)) (λ left. ⊥) ⊥ (O.told out.old) (O.told out.new)
+        (S.files shelf.new) result }
+
+    // What every answer leaves.
+    ensures counts { Later (S.read_faults shelf.old) (S.read_faults shelf.new) (S.write_faults shelf.old) (S.write_faults shelf.new) }
+    ensures faults { O.faults out.old ≤ O.faults out.new }
+    ensures place { O.place out.new ≡ O.place out.old }
+    ensures frame { (f : Frame) → O.has_frame out.old f → O.has_frame out.new f }
+{
+    match answer_to(alloc, words, shelf) {
+        Ok(answer) => say(out, answer),
+        Err(Stop::Memory) => say_memory(out),
+        Err(Stop::WriteFault) => Status::WriteFault,
+    }
+}
+
+/// What these words are answered, before anything is said.
+fn answer_to<S: Shelf>(alloc: Global, words: &Words, shelf: &mut S) -> Result<Answer, Stop>
+    ensures earned { IfOk result (λ a. Earns words.now (S.files shelf.old)
+        (λ name. Rose (S.read_faults shelf.old name) (S.read_faults shelf.new name)) a.status (text_of a.text) (S.files shelf.new)) }
+    ensures stopped { IfErr result (λ s. IsStopped (Stops words.now (S.files shelf.old))
+        (Rose (S.write_faults shelf.old) (S.write_faults shelf.new)) (S.files shelf.old) (S.files shelf.new) s) }
+    ensures counts { Later (S.read_faults shelf.old) (S.read_faults shelf.new) (S.write_faults shelf.old) (S.write_faults shelf.new) }
+{
+    match Command::of(words) {
+        Some(Command::Dump { trace }) => Ok(dump(alloc, trace, shelf)?),
+        Some(Command::Check { design, top }) => Ok(check(alloc, design, top, shelf)?),
+        Some(
+            Command::Run {
+                design,
+                map,
+                script,
+            },
+        ) => Ok(run(alloc, design, map, script, shelf)?),
+        Some(
+            Command::Record {
+                design,
+                map,
+                script,
+                stalls,
+                trace,
+            },
+        ) => record(alloc, design, map, script, stalls, trace, shelf),
+        Some(Command::Compare { trace, other }) => Ok(compare(alloc, trace, other, shelf)?),
+        Some(Command::Salvage { trace, out }) => salvage(alloc, trace, out, shelf),
+        None => Ok(usage(alloc)?),
+    }
+}
+
+/// Writes the text of an answer. Where that fails, the answer is `WriteFault` in its place.
+fn say<O: Sink>(out: &mut O, answer: Answer) -> Status
+    ensures said { Says answer.status (text_of answer.text) (Rose (O.faults out.old) (O.faults out.new)) (O.told out.old)
+        (O.told out.new) result }
+    ensures faults { O.faults out.old ≤ O.faults out.new }
+    ensures place { O.place out.new ≡ O.place out.old }
+    ensures frame { (f : Frame) → O.has_frame out.old f → O.has_frame out.new f }
+{
+    let Answer { status, text } = answer;
+    match text.push(out) {
+        Ok(()) => status,
+        Err(Failed) => Status::WriteFault,
+    }
+}
+
+/// Writes that no memory was found, for which none is taken.
+fn say_memory<O: Sink>(out: &mut O) -> Status
+    ensures said { Says Status.Memory said.memory_line (Rose (O.faults out.old) (O.faults out.new)) (O.told out.old)
+        (O.told out.new) result }
+    ensures faults { O.faults out.old ≤ O.faults out.new }
+    ensures place { O.place out.new ≡ O.place out.old }
+    ensures frame { (f : Frame) → O.has_frame out.old f → O.has_frame out.new f }
+{
+    if out.push(b"vidi: out of memory\n").is_err() {
+        return Status::WriteFault;
+    }
+    Status::Memory
+}

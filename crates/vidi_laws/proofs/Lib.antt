@@ -1,0 +1,17 @@
+pub mod Told
+pub mod OneEnding
+pub mod Meets
+pub mod OneDump
+pub mod OneRefusal
+pub mod OneCheck
+pub mod OneCompare
+pub mod OneSalvaged
+pub mod AlikeLists
+pub mod AlikeNarrow
+pub mod AlikeParts
+pub mod AlikeDesigns
+pub mod SameBench
+pub mod SameRun
+pub mod SameRecord
+pub mod OneAnswer
+pub mod Headline

@@ -1,0 +1,178 @@
+-- Of a shelf that tells its files, with no failed read, two answers that are earned are one.
+use Rattle.std.proofs.Common.{◌≡◌, ℕ, List, [], ◌∷◌, Option, Some, length, get_or, inl, inr, sym, ap, subst, ◌∙◌, arith, codes}
+use Rattle.trace_code.specs.Decoding.{OnePlace, OneReading}
+use Rattle.trace_code.specs.Salvage.{OneSalvage}
+use Rattle.vidi_io.specs.Shelf.{Files}
+use Rattle.vidi_commands.specs.declared.status.Status.{Status}
+use Rattle.vidi_commands.specs.Command.{Command, Dump, Check, Run, Record, Compare, Salvage, IsGiven}
+use Rattle.vidi_commands.specs.Answer.{Does}
+use Rattle.vidi_laws.specs.OneAnswer.{OneAnswer}
+use Rattle.vidi_laws.proofs.OneDump.{one_dump}
+use Rattle.vidi_laws.proofs.OneCheck.{Alike, one_check}
+use Rattle.vidi_laws.proofs.OneCompare.{one_compare}
+use Rattle.vidi_laws.proofs.OneSalvaged.{one_salvaged}
+use Rattle.vidi_laws.proofs.SameBench.{BenchLaws}
+use Rattle.vidi_laws.proofs.SameRun.{one_run}
+use Rattle.vidi_laws.proofs.SameRecord.{one_record}
+
+second : (a b c : List ℕ) → a ∷ b ∷ [] ≡ a ∷ c ∷ [] → b ≡ c
+second a b c e = cc
+
+same_pair : (a d p e q : List ℕ) → a ∷ d ∷ p ∷ [] ≡ a ∷ e ∷ q ∷ [] → (d ≡ e) × (p ≡ q)
+same_pair a d p e q same = (cc, cc)
+
+first_of_three : (a b c d e f : List ℕ) → a ∷ b ∷ c ∷ [] ≡ d ∷ e ∷ f ∷ [] → a ≡ d
+first_of_three a b c d e f same = cc
+
+two_three : (a b c d e : List ℕ) → a ∷ b ∷ [] ≡ c ∷ d ∷ e ∷ [] → ⊥
+two_three a b c d e same = let lengths : 2 ≡ 3 = ap (λ (xs : List (List ℕ)). length xs) same in omega (arith, lengths)
+
+two_four : (a b c d e f : List ℕ) → a ∷ b ∷ [] ≡ c ∷ d ∷ e ∷ f ∷ [] → ⊥
+two_four a b c d e f same = let lengths : 2 ≡ 4 = ap (λ (xs : List (List ℕ)). length xs) same in omega (arith, lengths)
+
+three_four : (a b c d e f h : List ℕ) → a ∷ b ∷ c ∷ [] ≡ d ∷ e ∷ f ∷ h ∷ [] → ⊥
+three_four a b c d e f h same = let lengths : 3 ≡ 4 = ap (λ (xs : List (List ℕ)). length xs) same in omega (arith, lengths)
+
+same_three : (a d p q e r t : List ℕ) → a ∷ d ∷ p ∷ q ∷ [] ≡ a ∷ e ∷ r ∷ t ∷ [] → (d ≡ e) × (p ≡ r) × (q ≡ t)
+same_three a d p q e r t same = (cc, cc, cc)
+
+check-compare : codes "check" ≡ codes "compare" → ⊥
+check-compare e = cc
+
+check-salvage : codes "check" ≡ codes "salvage" → ⊥
+check-salvage e = cc
+
+compare-salvage : codes "compare" ≡ codes "salvage" → ⊥
+compare-salvage e =
+    let first : 99 ≡ 115 = ap (λ (text : List ℕ). get_or text 0 0) e in
+    omega (arith, first)
+
+-- how many words give the command
+abbrev words_of : Command → ℕ
+words_of (Dump t) = 2
+words_of (Check d p) = 3
+words_of (Run d m s) = 4
+words_of (Record d m s p t) = 6
+words_of (Compare d p) = 3
+words_of (Salvage d p) = 3
+
+given_words : (words : List (List ℕ)) (c : Command) → IsGiven words c → length words ≡ words_of c
+given_words words (Dump t) g = ap (λ (xs : List (List ℕ)). length xs) g
+given_words words (Check d p) g = ap (λ (xs : List (List ℕ)). length xs) g
+given_words words (Run d m s) g = ap (λ (xs : List (List ℕ)). length xs) g
+given_words words (Record d m s p t) (g, _, _, _, _) = ap (λ (xs : List (List ℕ)). length xs) g
+given_words words (Compare d p) g = ap (λ (xs : List (List ℕ)). length xs) g
+given_words words (Salvage d p) (g, _) = ap (λ (xs : List (List ℕ)). length xs) g
+
+as_many : (words : List (List ℕ)) (c d : Command) → IsGiven words c → IsGiven words d → words_of c ≡ words_of d
+as_many words c d g h = sym (given_words words c g) ∙ given_words words d h
+
+same_five : (a d m s p t e n r q u : List ℕ) → a ∷ d ∷ m ∷ s ∷ p ∷ t ∷ [] ≡ a ∷ e ∷ n ∷ r ∷ q ∷ u ∷ []
+    → (d ≡ e) × (m ≡ n) × (s ≡ r) × (p ≡ q) × (t ≡ u)
+same_five a d m s p t e n r q u same = (cc, cc, cc, cc, cc)
+
+one_command : (words : List (List ℕ)) (c d : Command) → IsGiven words c → IsGiven words d → c ≡ d
+one_command words (Dump t) (Dump u) g h = ap Dump (second (codes "dump") t u (sym g ∙ h))
+one_command words (Dump t) (Check e q) g h = absurd (two_three (codes "dump") t (codes "check") e q (sym g ∙ h))
+one_command words (Dump t) (Compare e q) g h = absurd (two_three (codes "dump") t (codes "compare") e q (sym g ∙ h))
+one_command words (Dump t) (Salvage e q) g (h, _) = absurd (two_three (codes "dump") t (codes "salvage") e q (sym g ∙ h))
+one_command words (Dump t) (Run e q r) g h = absurd (two_four (codes "dump") t (codes "run") e q r (sym g ∙ h))
+one_command words (Run d p q) (Dump u) g h = absurd (two_four (codes "dump") u (codes "run") d p q (sym h ∙ g))
+one_command words (Run d p q) (Check e r) g h = absurd (three_four (codes "check") e r (codes "run") d p q (sym h ∙ g))
+one_command words (Run d p q) (Compare e r) g h = absurd (three_four (codes "compare") e r (codes "run") d p q (sym h ∙ g))
+one_command words (Run d p q) (Salvage e r) g (h, _) = absurd (three_four (codes "salvage") e r (codes "run") d p q (sym h ∙ g))
+one_command words (Run d p q) (Run e r t) g h =
+    let s = same_three (codes "run") d p q e r t (sym g ∙ h) in λ i. Run (s.0 i) (s.1 i) (s.2 i)
+one_command words (Check d p) (Run e q r) g h = absurd (three_four (codes "check") d p (codes "run") e q r (sym g ∙ h))
+one_command words (Compare d p) (Run e q r) g h = absurd (three_four (codes "compare") d p (codes "run") e q r (sym g ∙ h))
+one_command words (Salvage d p) (Run e q r) (g, _) h = absurd (three_four (codes "salvage") d p (codes "run") e q r (sym g ∙ h))
+one_command words (Check d p) (Dump u) g h = absurd (two_three (codes "dump") u (codes "check") d p (sym h ∙ g))
+one_command words (Check d p) (Check e q) g h =
+    let s = same_pair (codes "check") d p e q (sym g ∙ h) in λ i. Check (s.0 i) (s.1 i)
+one_command words (Check d p) (Compare e q) g h =
+    absurd (check-compare (first_of_three (codes "check") d p (codes "compare") e q (sym g ∙ h)))
+one_command words (Check d p) (Salvage e q) g (h, _) =
+    absurd (check-salvage (first_of_three (codes "check") d p (codes "salvage") e q (sym g ∙ h)))
+one_command words (Compare d p) (Dump u) g h = absurd (two_three (codes "dump") u (codes "compare") d p (sym h ∙ g))
+one_command words (Compare d p) (Check e q) g h =
+    absurd (check-compare (first_of_three (codes "check") e q (codes "compare") d p (sym h ∙ g)))
+one_command words (Compare d p) (Compare e q) g h =
+    let s = same_pair (codes "compare") d p e q (sym g ∙ h) in λ i. Compare (s.0 i) (s.1 i)
+one_command words (Compare d p) (Salvage e q) g (h, _) =
+    absurd (compare-salvage (first_of_three (codes "compare") d p (codes "salvage") e q (sym g ∙ h)))
+one_command words (Salvage d p) (Dump u) (g, _) h = absurd (two_three (codes "dump") u (codes "salvage") d p (sym h ∙ g))
+one_command words (Salvage d p) (Check e q) (g, _) h =
+    absurd (check-salvage (first_of_three (codes "check") e q (codes "salvage") d p (sym h ∙ g)))
+one_command words (Salvage d p) (Compare e q) (g, _) h =
+    absurd (compare-salvage (first_of_three (codes "compare") e q (codes "salvage") d p (sym h ∙ g)))
+one_command words (Salvage d p) (Salvage e q) (g, _) (h, _) =
+    let s = same_pair (codes "salvage") d p e q (sym g ∙ h) in λ i. Salvage (s.0 i) (s.1 i)
+one_command words (Record d m s p t) (Dump w) g h =
+    let e : 6 ≡ 2 = as_many words (Record d m s p t) (Dump w) g h in absurd (omega (arith, e))
+one_command words (Dump w) (Record d m s p t) g h =
+    let e : 2 ≡ 6 = as_many words (Dump w) (Record d m s p t) g h in absurd (omega (arith, e))
+one_command words (Record d m s p t) (Check w x) g h =
+    let e : 6 ≡ 3 = as_many words (Record d m s p t) (Check w x) g h in absurd (omega (arith, e))
+one_command words (Check w x) (Record d m s p t) g h =
+    let e : 3 ≡ 6 = as_many words (Check w x) (Record d m s p t) g h in absurd (omega (arith, e))
+one_command words (Record d m s p t) (Run w x y) g h =
+    let e : 6 ≡ 4 = as_many words (Record d m s p t) (Run w x y) g h in absurd (omega (arith, e))
+one_command words (Run w x y) (Record d m s p t) g h =
+    let e : 4 ≡ 6 = as_many words (Run w x y) (Record d m s p t) g h in absurd (omega (arith, e))
+one_command words (Record d m s p t) (Compare w x) g h =
+    let e : 6 ≡ 3 = as_many words (Record d m s p t) (Compare w x) g h in absurd (omega (arith, e))
+one_command words (Compare w x) (Record d m s p t) g h =
+    let e : 3 ≡ 6 = as_many words (Compare w x) (Record d m s p t) g h in absurd (omega (arith, e))
+one_command words (Record d m s p t) (Salvage w x) g h =
+    let e : 6 ≡ 3 = as_many words (Record d m s p t) (Salvage w x) g h in absurd (omega (arith, e))
+one_command words (Salvage w x) (Record d m s p t) g h =
+    let e : 3 ≡ 6 = as_many words (Salvage w x) (Record d m s p t) g h in absurd (omega (arith, e))
+one_command words (Record d m s p t) (Record e n r q u) (g, _, _, _, _) (h, _, _, _, _) =
+    let k = same_five (codes "record") d m s p t e n r q u (sym g ∙ h) in λ i. Record (k.0 i) (k.1 i) (k.2 i) (k.3 i) (k.4 i)
+
+abbrev SameLeft : Status → Status → List ℕ → List ℕ → Option Files → Option Files → Type 0
+SameLeft a b x y left right = (a ≡ b) × (x ≡ y) × (left ≡ right)
+
+abbrev AlikeLeft : Status → Status → List ℕ → List ℕ → Option Files → Option Files → Type 0
+AlikeLeft a b x y left right = Alike a b x y × (left ≡ right)
+
+kept : (files : Files) (a b : Status) (x y : List ℕ) (left right : Option Files) → Alike a b x y → left ≡ Some files → right ≡ Some files
+    → AlikeLeft a b x y left right
+kept files a b x y left right same l r = (same, l ∙ sym r)
+
+all-same : (a b : Status) (x y : List ℕ) (left right : Option Files) → SameLeft a b x y left right → AlikeLeft a b x y left right
+all-same a b x y left right (s, t, l) = (inr (s, t), l)
+
+-- the laws on which this rests
+pub record Laws : Type 0 where
+  pub reading : OneReading
+  pub place : OnePlace
+  pub salvage : OneSalvage
+  pub benches : BenchLaws
+
+one_deed : Laws → (c : Command) → (files : Files) (a b : Status) (x y : List ℕ) (left right : Option Files)
+    → Does c (Some files) (λ _. ⊥) a x left → Does c (Some files) (λ _. ⊥) b y right → AlikeLeft a b x y left right
+one_deed laws (Dump trace) files a b x y left right (d, l) (e, r) =
+    kept files a b x y left right (inr (one_dump laws.reading laws.place trace files a b x y d e)) l r
+one_deed laws (Run design map script) files a b x y left right (d, l) (e, r) =
+    kept files a b x y left right (one_run laws.benches design map script files a b x y d e) l r
+one_deed laws (Record design map script stalls trace) files a b x y left right d e =
+    one_record laws.benches design map script stalls trace files a b x y left right d e
+one_deed laws (Check design top) files a b x y left right (d, l) (e, r) =
+    kept files a b x y left right (one_check laws.benches.texts design top files a b x y d e) l r
+one_deed laws (Compare trace other) files a b x y left right (d, l) (e, r) =
+    kept files a b x y left right (inr (one_compare laws.reading laws.place trace other files a b x y d e)) l r
+one_deed laws (Salvage trace out) files a b x y left right d e =
+    all-same a b x y left right (one_salvaged laws.salvage trace out files a b x y left right d e)
+
+pub one_answer_lem : Laws → OneAnswer
+one_answer_lem laws words files a b x y left right (inr (inl (said, _))) _ = inl said.0
+one_answer_lem laws words files a b x y left right _ (inr (inl (said, _))) = inr (inl said.0)
+one_answer_lem laws words files a b x y left right (inl (none, s, l)) (inl (none', s', r)) =
+    inr (inr (inr (s.0 ∙ sym s'.0, s.1 ∙ sym s'.1), l ∙ sym r))
+one_answer_lem laws words files a b x y left right (inl (none, s, l)) (inr (inr (c, given, d))) = absurd (none c given)
+one_answer_lem laws words files a b x y left right (inr (inr (c, given, d))) (inl (none, s, r)) = absurd (none c given)
+one_answer_lem laws words files a b x y left right (inr (inr (c, given, d))) (inr (inr (k, given', e))) =
+    let same = one_command words k c given' given in
+    inr (inr (one_deed laws c files a b x y left right d
+    (subst (λ (m : Command). Does m (Some files) (λ _. ⊥) b y right) same e)))

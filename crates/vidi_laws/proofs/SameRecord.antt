@@ -1,0 +1,227 @@
+-- `record`: one answer, which leaves one trace.
+use Rattle.std.proofs.Common.{◌≡◌, ℕ, ◌≤◌, List, Option, None, Some, Ok, Err, inl, inr, length, sym, ap, subst, ◌∙◌, arith}
+use Rattle.trace_model.specs.declared.channel.Channel.{Channel}
+use Rattle.trace_model.specs.declared.row.Row.{Row}
+use Rattle.trace_model.specs.Recording.{packets_of, trace_of}
+use Rattle.trace_code.specs.Encoding.{encode}
+use Rattle.chan_map.specs.declared.pins.Map.{Map}
+use Rattle.room_ledger.specs.Gates.{Plan}
+use Rattle.room_ledger.specs.Reservation.{need}
+use Rattle.room_ledger.proofs.GateLaws.{one-set}
+use Rattle.run_model.proofs.Ends.{one-end_of}
+use Rattle.run_model.proofs.Played.{the-runs_alike}
+use Rattle.script_text.specs.declared.error.StallError.TheVariants as stall_errors
+use Rattle.script_text.specs.declared.script.Script.{Script}
+use Rattle.script_text.specs.declared.stalls.Stalls.{Stalls}
+use Rattle.script_text.specs.Plan.{allowance_at}
+use Rattle.script_text.specs.Reasons.{read_lines}
+use Rattle.script_text.specs.Stalls.{ReadsStalls}
+use Rattle.script_text.specs.ScriptOffer.{script_offer}
+use Rattle.env_script.specs.Offered.{offers_after}
+use Rattle.script_text.specs.OneReading.{SamePlan}
+use Rattle.vidi_io.specs.Shelf.{Files, holding}
+use Rattle.vidi_recorder.specs.Course.{Course, GatesUnder, course, plan_of, sizes_of}
+use Rattle.report_text.specs.declared.reason.Word.TheVariants as words
+use Rattle.report_text.specs.declared.reason.Reason.TheVariants.{StallLine, TooSmall}
+use Rattle.report_text.specs.Reason.{reason_line}
+use Rattle.vidi_commands.specs.declared.bench.Bench.{Bench}
+use Rattle.vidi_commands.specs.declared.status.Status.{Status}
+use Rattle.vidi_commands.specs.declared.status.Status.TheVariants.{Done, Refused, Unstable}
+use Rattle.vidi_commands.specs.Steps.{IsRefusal}
+use Rattle.vidi_commands.specs.Benches.{RefusedTexts, IsBench}
+use Rattle.vidi_commands.specs.Design.{text_limit}
+use Rattle.vidi_commands.specs.Records.{IsNoPlan, IsTooSmall, RefusedPlan, RefusedPlanned, StallsUnrecorded, ScriptUnrecorded, MapUnrecorded}
+use Rattle.vidi_commands.specs.Records.{IsUnrecorded, IsPlanned, IsRecorded, RecordsRun, Records, course_of}
+use Rattle.vidi_commands.specs.Said.{recorded_line, unstable_line}
+use Rattle.vidi_laws.proofs.OneEnding.{Same, One, OneBy, one-said, one-read, one-reading-by, unread-read}
+use Rattle.vidi_laws.proofs.Meets.{Meet, Apart, step-meets}
+use Rattle.vidi_laws.proofs.OneCheck.{Alike, alike}
+use Rattle.vidi_laws.proofs.SameBench.{BenchLaws, SameBench, one-refused_texts, texts-refused, same-bench}
+
+same-line : (l k : ℕ) → stall_errors.Line l ≡ stall_errors.Line k → l ≡ k
+same-line l k e = cc
+
+no-line : (l : ℕ) → stall_errors.Line l ≡ stall_errors.Memory → ⊥
+no-line l e = cc
+
+small-once : (channels : List Channel) (p q : Stalls) → SamePlan p q → Meet Same (IsTooSmall channels p) (IsTooSmall channels q)
+small-once channels p q same a b x y (small, s) (small', s') =
+    let needed = need (sizes_of channels) in
+    one-said (Refused words.Stalls (TooSmall needed p.capacity)) (reason_line words.Stalls (TooSmall needed p.capacity)) a b x y s
+    (subst (λ (n : ℕ). IsRefusal words.Stalls (TooSmall needed n) b y) (sym same.0) s')
+
+recorded-once : (channels : List Channel) (rows : List Row) (stop : Option ℕ) → One (IsRecorded channels rows stop)
+recorded-once channels rows None a b x y u v =
+    one-said Done (recorded_line (length rows) (length (packets_of channels rows))) a b x y u v
+recorded-once channels rows (Some c) a b x y u v =
+    one-said (Unstable c (length rows)) (unstable_line channels c (length rows)) a b x y u v
+
+-- the same plan, for a course
+plan-path : (p q : Stalls) → SamePlan p q → plan_of q ≡ plan_of p
+plan-path p q same =
+    let capacity = sym same.0 in
+    let drains = sym same.1 in
+    λ i. record { capacity = capacity i; allowance = allowance_at (drains i) }
+
+abbrev pub LeftAlike : Status → Status → List ℕ → List ℕ → Option Files → Option Files → Type 0
+LeftAlike a b x y left right = Alike a b x y × (left ≡ right)
+
+module _ (laws : BenchLaws) where
+  -- ---- what ends the command before anything is recorded
+  no_plan : (bytes : List ℕ) → One (IsNoPlan bytes)
+  no_plan bytes a b x y (l, is, s) (k, is', s') = elim (laws.plan (read_lines bytes) (Err (stall_errors.Line l)) (Err (stall_errors.Line k))
+      is is') [
+        | inl memory ↦ absurd (no-line l memory)
+        | inr rest ↦ elim rest [
+          | inl memory ↦ absurd (no-line k memory)
+          | inr same ↦
+              one-said (Refused words.Stalls (StallLine l)) (reason_line words.Stalls (StallLine l)) a b x y s
+              (subst (λ (n : ℕ). IsRefusal words.Stalls (StallLine n) b y) (sym (same-line l k same)) s')
+        ]
+      ]
+
+  plan-apart : (bytes : List ℕ) → Apart (IsNoPlan bytes) (λ (p : Stalls). ReadsStalls (read_lines bytes) (Ok p))
+  plan-apart bytes a x p (l, is, s) reads =
+      no-line l (laws.plan (read_lines bytes) (Err (stall_errors.Line l)) (Ok p) is reads)
+
+  one-plan_of : (bytes : List ℕ) (p q : Stalls) → ReadsStalls (read_lines bytes) (Ok p) → ReadsStalls (read_lines bytes) (Ok q)
+      → SamePlan p q
+  one-plan_of bytes p q x y = laws.plan (read_lines bytes) (Ok p) (Ok q) x y
+
+  refused-plan : (stalls : List ℕ) (b : Bench) → One (RefusedPlan stalls b)
+  refused-plan stalls b = step-meets Same (IsNoPlan stalls) (IsNoPlan stalls) (λ (p : Stalls). ReadsStalls (read_lines stalls) (Ok p))
+      (λ (p : Stalls). ReadsStalls (read_lines stalls) (Ok p)) (IsTooSmall b.map.channels) (IsTooSmall b.map.channels)
+      (no_plan stalls) (plan-apart stalls) (plan-apart stalls)
+      (λ p q is is'. small-once b.map.channels p q (one-plan_of stalls p q is is'))
+
+  -- a bench counts by its map alone
+  other-plan : (stalls : List ℕ) (b c : Bench) → b.map ≡ c.map → (a : Status) (x : List ℕ) → RefusedPlan stalls c a x
+      → RefusedPlan stalls b a x
+  other-plan stalls b c same a x (inl none) = inl none
+  other-plan stalls b c same a x (inr (p, reads, small)) =
+      inr (p, reads, subst (λ (m : Map). IsTooSmall m.channels p a x) (sym same) small)
+
+  refused-planned : (design m script stalls : List ℕ) → OneBy Alike (RefusedPlanned design m script stalls)
+  refused-planned design m script stalls = step-meets Alike (RefusedTexts design m script) (RefusedTexts design m script)
+      (IsBench design m script) (IsBench design m script) (RefusedPlan stalls) (RefusedPlan stalls)
+      (one-refused_texts laws design m script)
+      (λ a x b refused bench. texts-refused laws design m script b bench a x refused)
+      (λ a x b refused bench. texts-refused laws design m script b bench a x refused)
+      (λ b c is is' s t x y u v. alike s t x y (refused-plan stalls b s t x y u
+      (other-plan stalls b c (same-bench laws design m script b c is is').map t y v)))
+
+  unrecorded : (design m script stalls : List ℕ) (files : Files)
+      → OneBy Alike (IsUnrecorded design m script stalls (Some files) (λ _. ⊥))
+  unrecorded design m script stalls files =
+      one-reading-by Alike alike text_limit words.Design design files (MapUnrecorded m script stalls (Some files) (λ _. ⊥))
+      (λ d. one-reading-by Alike alike text_limit words.Map m files (ScriptUnrecorded script stalls (Some files) (λ _. ⊥) d)
+      (λ n. one-reading-by Alike alike text_limit words.Script script files (StallsUnrecorded stalls (Some files) (λ _. ⊥) d n)
+      (λ t. one-reading-by Alike alike text_limit words.Stalls stalls files (RefusedPlanned d n t) (refused-planned d n t))))
+
+  -- ---- which isn't there where something is recorded
+  module _ (design m script stalls : List ℕ) (files : Files) (b : Bench) (plan : Stalls)
+      (is : IsPlanned design m script stalls (Some files) b plan) (a : Status) (x : List ℕ) where
+    planned-apart : RefusedPlanned is.design_text is.map_text is.script_text is.stalls_text a x → ⊥
+    planned-apart (inl refused) = texts-refused laws is.design_text is.map_text is.script_text b is.bench a x refused
+    planned-apart (inr (c, bench, inl none)) = plan-apart is.stalls_text a x plan none is.planned
+    planned-apart (inr (c, bench, inr (p, reads, (small, said)))) =
+        let same = same-bench laws is.design_text is.map_text is.script_text c b bench is.bench in
+        let plans = one-plan_of is.stalls_text p plan reads is.planned in
+        let least = subst (λ (k : Map). need (sizes_of k.channels) ≤ plan.capacity) (sym same.map) is.holds in
+        let capacity = plans.0 in
+        omega (arith, small, least, capacity)
+
+    stalls-apart : StallsUnrecorded stalls (Some files) (λ _. ⊥) is.design_text is.map_text is.script_text a x → ⊥
+    stalls-apart (inl unread) = unread-read text_limit words.Stalls stalls files a x is.stalls_text unread is.stalls_read
+    stalls-apart (inr (text, read, rest)) =
+        planned-apart (subst (λ (t : List ℕ). RefusedPlanned is.design_text is.map_text is.script_text t a x)
+        (one-read text_limit stalls files text is.stalls_text read is.stalls_read) rest)
+
+    script-unread : ScriptUnrecorded script stalls (Some files) (λ _. ⊥) is.design_text is.map_text a x → ⊥
+    script-unread (inl unread) = unread-read text_limit words.Script script files a x is.script_text unread is.script_read
+    script-unread (inr (text, read, rest)) =
+        stalls-apart (subst (λ (t : List ℕ). StallsUnrecorded stalls (Some files) (λ _. ⊥) is.design_text is.map_text t a x)
+        (one-read text_limit script files text is.script_text read is.script_read) rest)
+
+    map-unread : MapUnrecorded m script stalls (Some files) (λ _. ⊥) is.design_text a x → ⊥
+    map-unread (inl unread) = unread-read text_limit words.Map m files a x is.map_text unread is.map_read
+    map-unread (inr (text, read, rest)) =
+        script-unread (subst (λ (t : List ℕ). ScriptUnrecorded script stalls (Some files) (λ _. ⊥) is.design_text t a x)
+        (one-read text_limit m files text is.map_text read is.map_read) rest)
+
+    unrecorded-apart : IsUnrecorded design m script stalls (Some files) (λ _. ⊥) a x → ⊥
+    unrecorded-apart (inl unread) = unread-read text_limit words.Design design files a x is.design_text unread is.design_read
+    unrecorded-apart (inr (text, read, rest)) =
+        map-unread (subst (λ (t : List ℕ). MapUnrecorded m script stalls (Some files) (λ _. ⊥) t a x)
+        (one-read text_limit design files text is.design_text read is.design_read) rest)
+
+  -- ---- what is recorded
+  -- two plannings of the same files
+  planned-once : (design m script stalls : List ℕ) (files : Files) (b c : Bench) (p q : Stalls)
+      → IsPlanned design m script stalls (Some files) b p → IsPlanned design m script stalls (Some files) c q
+      → SameBench b c × SamePlan p q
+  planned-once design m script stalls files b c p q x y =
+      let d = one-read text_limit design files y.design_text x.design_text y.design_read x.design_read in
+      let n = one-read text_limit m files y.map_text x.map_text y.map_read x.map_read in
+      let s = one-read text_limit script files y.script_text x.script_text y.script_read x.script_read in
+      let t = one-read text_limit stalls files y.stalls_text x.stalls_text y.stalls_read x.stalls_read in
+      let bench : IsBench x.design_text x.map_text x.script_text c =
+      subst (λ (text : List ℕ). IsBench x.design_text x.map_text text c) s
+      (subst (λ (text : List ℕ). IsBench x.design_text text y.script_text c) n
+      (subst (λ (text : List ℕ). IsBench text y.map_text y.script_text c) d y.bench)) in
+      let planned = subst (λ (text : List ℕ). ReadsStalls (read_lines text) (Ok q)) t y.planned in (
+        same-bench laws x.design_text x.map_text x.script_text b c x.bench bench,
+        one-plan_of x.stalls_text p q x.planned planned,
+      )
+
+  -- the course of one of them, with the other design
+  abbrev beside : Bench → Stalls → Bench → Course
+  beside b p c = course c.design b.map (script_offer b.script) p b.script.cycles
+
+  recorded-beside : (b c : Bench) (p q : Stalls) → SameBench b c → SamePlan p q → (trace : List ℕ) (files : Files) (s : Status) (y : List ℕ)
+      (right : Option Files) → RecordsRun (course_of c q) trace (Some files) s y right
+      → RecordsRun (beside b p c) trace (Some files) s y right
+  recorded-beside b c p q same plans trace files s y right r =
+      let plan = plan-path p q plans in
+      let map-there = subst (λ (k : Map). RecordsRun (course c.design k (script_offer c.script) q c.script.cycles) trace (Some files) s y right)
+      (sym same.map) r in
+      let script-there = subst (λ (k : Script). RecordsRun (course c.design b.map (script_offer k) q k.cycles) trace (Some files) s y right)
+      (sym same.script) map-there in
+      subst (λ (k : Plan). RecordsRun (record {
+        design = c.design;
+        bound = b.map;
+        offers = offers_after b.map.channels (script_offer b.script);
+        plan = k;
+        cycles = b.script.cycles;
+      }) trace (Some files) s y right) plan script-there
+
+  runs-once : (b c : Bench) (p : Stalls) → SameBench b c → (trace : List ℕ) (files : Files) (s t : Status) (x y : List ℕ)
+      (left right : Option Files) → RecordsRun (course_of b p) trace (Some files) s x left
+      → RecordsRun (beside b p c) trace (Some files) t y right → LeftAlike s t x y left right
+  runs-once b c p same trace files s t x y left right (rows, stop, (run, leaves), said) (others, end, (run', leaves'), said') =
+      let channels = b.map.channels in
+      let offers = offers_after channels (script_offer b.script) in
+      let gates = GatesUnder channels (plan_of p) in
+      let theirs = (the-runs_alike b.design c.design same.ready.lawful same.designs b.map offers gates b.script.cycles others end).1 run' in
+      let one = one-end_of b.design b.map same.ready offers gates
+      (λ before are g h. one-set (sizes_of channels) (plan_of p) before (length before) g h)
+      b.script.cycles others rows end stop theirs run in
+      let told = subst (λ (o : Option ℕ). IsRecorded channels rows o t y) one.1
+      (subst (λ (rs : List Row). IsRecorded channels rs end t y) one.0 said') in (
+        alike s t x y (recorded-once channels rows stop s t x y said told),
+        leaves ∙ ap (λ (rs : List Row). holding (Some files) trace (encode (trace_of channels rs))) (sym one.0) ∙ sym leaves',
+      )
+
+  pub one_record : (design m script stalls trace : List ℕ) (files : Files) (a b : Status) (x y : List ℕ) (left right : Option Files)
+      → Records design m script stalls trace (Some files) (λ _. ⊥) a x left
+      → Records design m script stalls trace (Some files) (λ _. ⊥) b y right → LeftAlike a b x y left right
+  one_record design m script stalls trace files a b x y left right (inl (u, l)) (inl (v, r)) =
+      (unrecorded design m script stalls files a b x y u v, l ∙ sym r)
+  one_record design m script stalls trace files a b x y left right (inl (u, l)) (inr (c, q, planned, records)) =
+      absurd (unrecorded-apart design m script stalls files c q planned a x u)
+  one_record design m script stalls trace files a b x y left right (inr (c, p, planned, records)) (inl (v, r)) =
+      absurd (unrecorded-apart design m script stalls files c p planned b y v)
+  one_record design m script stalls trace files a b x y left right (inr (c, p, planned, records)) (inr (e, q, planned', records')) =
+      let same = planned-once design m script stalls files c e p q planned planned' in
+      runs-once c e p same.0 trace files a b x y left right records
+      (recorded-beside c e p q same.0 same.1 trace files b y right records')

@@ -1,0 +1,78 @@
+-- `run`: one answer.
+use Rattle.std.proofs.Common.{◌≡◌, ℕ, List, Option, None, Some, length, sym, subst, ◌∙◌}
+use Rattle.std.specs.Prelude.{IfSome}
+use Rattle.trace_model.specs.declared.row.Row.{Row}
+use Rattle.chan_map.specs.declared.pins.Map.{Map}
+use Rattle.run_model.specs.Played.{all_up}
+use Rattle.script_text.specs.declared.script.Script.{Script}
+use Rattle.script_text.specs.ScriptOffer.{script_offer}
+use Rattle.bench_run.specs.declared.plain.Spot.{Spot}
+use Rattle.env_script.specs.Offered.{offers_after}
+use Rattle.bench_run.specs.Plain.{channel_of}
+use Rattle.vidi_io.specs.Shelf.{Files}
+use Rattle.report_text.specs.declared.reason.Word.TheVariants as words
+use Rattle.report_text.specs.Rows.{run_text}
+use Rattle.vidi_commands.specs.declared.bench.Bench.{Bench}
+use Rattle.vidi_commands.specs.declared.status.Status.TheVariants.{Done, Unstable}
+use Rattle.vidi_commands.specs.Benches.{RefusedTexts, IsBench}
+use Rattle.vidi_commands.specs.Design.{text_limit}
+use Rattle.vidi_commands.specs.Runs.{IsEnded, IsPlayed, RunTexts, RunScriptFile, RunMapFile, Runs}
+use Rattle.vidi_commands.specs.Said.{cycles_line, unstable_line}
+use Rattle.vidi_laws.proofs.OneEnding.{Same, OneBy, one-said, one-reading-by}
+use Rattle.vidi_laws.proofs.Meets.{Meet, step-meets}
+use Rattle.vidi_laws.proofs.OneCheck.{Alike, alike}
+use Rattle.vidi_laws.proofs.SameBench.{BenchLaws, SameBench, one-refused_texts, texts-refused, same-bench}
+
+-- ---- how a run ends
+no-channel : (c : ℕ) → None ≡ Some c → ⊥
+no-channel c e = cc
+
+same-some : (c d : ℕ) → Some c ≡ Some d → c ≡ d
+same-some c d e = cc
+
+ended-once : (m : Map) (rows : List Row) (s t : Option Spot) → channel_of s ≡ channel_of t
+    → IfSome s (λ (spot : Spot). spot.cycle ≡ length rows) → IfSome t (λ (spot : Spot). spot.cycle ≡ length rows)
+    → Meet Same (IsEnded m rows s) (IsEnded m rows t)
+ended-once m rows None None e p q a b x y u v =
+    one-said Done (run_text rows m.channels (cycles_line (length rows))) a b x y u v
+ended-once m rows None (Some t) e p q a b x y u v = absurd (no-channel t.channel e)
+ended-once m rows (Some s) None e p q a b x y u v = absurd (no-channel s.channel (sym e))
+ended-once m rows (Some s) (Some t) e p q a b x y u v =
+    let channel = same-some t.channel s.channel (sym e) in
+    let cycle : t.cycle ≡ s.cycle = q ∙ sym p in
+    let same : t ≡ s = λ i. record { channel = channel i; cycle = cycle i } in
+    one-said (Unstable s.channel s.cycle) (run_text rows m.channels (unstable_line m.channels s.channel s.cycle)) a b x y u
+    (subst (λ (k : Spot). IsEnded m rows (Some k) b y) same v)
+
+module _ (laws : BenchLaws) where
+  -- ---- the runs of two benches of the same texts
+  played-once : (b c : Bench) → SameBench b c → Meet Same (IsPlayed b.design b.map b.script) (IsPlayed c.design c.map c.script)
+  played-once b c same s t x y (run, is, ended) played =
+      let here : IsPlayed c.design b.map b.script t y =
+      subst (λ (k : Script). IsPlayed c.design b.map k t y) (sym same.script)
+      (subst (λ (k : Map). IsPlayed c.design k c.script t y) (sym same.map) played) in
+      let other = here.0 in
+      let offers = offers_after b.map.channels (script_offer b.script) in
+      let plan : List Row → ℕ = λ _. all_up b.map.channels in
+      let theirs = (laws.runs b.design c.design same.ready.lawful same.designs b.map offers plan b.script.cycles other.rows
+      (channel_of other.unstable)).1 here.1.played in
+      let one = laws.end b.design b.map same.ready offers plan b.script.cycles other.rows run.rows (channel_of other.unstable)
+      (channel_of run.unstable) theirs is.played in
+      let cycle : IfSome other.unstable (λ (spot : Spot). spot.cycle ≡ length run.rows) =
+      subst (λ (rows : List Row). IfSome other.unstable (λ (spot : Spot). spot.cycle ≡ length rows)) one.0 here.1.cycle in
+      let end = subst (λ (rows : List Row). IsEnded b.map rows other.unstable t y) one.0 here.2 in
+      ended-once b.map run.rows run.unstable other.unstable (sym one.1) is.cycle cycle s t x y ended end
+
+  run-texts : (design m script : List ℕ) → OneBy Alike (RunTexts design m script)
+  run-texts design m script = step-meets Alike (RefusedTexts design m script) (RefusedTexts design m script) (IsBench design m script)
+      (IsBench design m script) (λ (b : Bench). IsPlayed b.design b.map b.script) (λ (b : Bench). IsPlayed b.design b.map b.script)
+      (one-refused_texts laws design m script)
+      (λ a x b refused bench. texts-refused laws design m script b bench a x refused)
+      (λ a x b refused bench. texts-refused laws design m script b bench a x refused)
+      (λ b c is is' s t x y u v. alike s t x y (played-once b c (same-bench laws design m script b c is is') s t x y u v))
+
+  pub one_run : (design m script : List ℕ) (files : Files) → OneBy Alike (Runs design m script (Some files) (λ _. ⊥))
+  one_run design m script files =
+      one-reading-by Alike alike text_limit words.Design design files (RunMapFile m script (Some files) (λ _. ⊥))
+      (λ d. one-reading-by Alike alike text_limit words.Map m files (RunScriptFile script (Some files) (λ _. ⊥) d)
+      (λ n. one-reading-by Alike alike text_limit words.Script script files (RunTexts d n) (run-texts d n)))

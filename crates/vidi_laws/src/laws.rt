@@ -1,0 +1,55 @@
+//! Laws of the definitions.
+
+ghost use Rattle.vidi_laws.specs.Alike.{BuiltAlike};
+ghost use Rattle.vidi_laws.specs.Headline.{DrainedRecordingIsTheRun, RecordedRunIsKept};
+ghost use Rattle.vidi_laws.specs.OneAnswer.{OneAnswer};
+
+use chan_map::{one_binding, one_map_text};
+use net_order::one_settled_map;
+use run_model::{bound_is_map_of, maps_alike, one_end, runs_alike};
+use script_text::{one_plan, one_script};
+use trace_code::{one_place, one_reading, one_salvage};
+
+/// Lawful designs that have the parts of one file's instances are alike.
+pub fn built_alike()
+    ensures { BuiltAlike }
+{}
+
+/// Of what a shelf tells, with no failed read, words earn one answer with one text, which leaves the same files,
+/// or want of memory, or refuse the design for a loop, of which any may be named.
+pub fn one_answer()
+    ensures { OneAnswer }
+{
+    one_reading();
+    one_place();
+    one_salvage();
+    vlog_lex::one_reading();
+    vlog_lex::read_or_stuck();
+    vlog_lex::one_stuck_line();
+    vlog_parse::one_lined_file();
+    vlog_parse::lined_files_are_files();
+    vlog_parse::one_item_line();
+    vlog_parse::one_depth();
+    vlog_design::loops_alike();
+    built_alike();
+    maps_alike();
+    runs_alike();
+    one_end();
+    one_settled_map();
+    bound_is_map_of();
+    one_map_text();
+    one_binding();
+    one_script();
+    one_plan()
+}
+
+/// Whatever the accepted design, script and plan of stalls, the trace of the run that `record` writes holds each channel's started and
+/// completed transactions, with contents, once and in order.
+pub fn recorded_run_is_kept()
+    ensures { RecordedRunIsKept }
+{}
+
+/// Under a plan each of whose lines drains everything, `record` plays the run that `run` prints.
+pub fn drained_recording_is_the_run()
+    ensures { DrainedRecordingIsTheRun }
+{}

@@ -1,0 +1,8 @@
+//! Laws of what a call of `vidi` owes: it has one answer, and the trace of a recording keeps its run.
+//!
+//! `specs/OneAnswer`, `specs/Headline` and `specs/Alike` have the statements.
+#![tactic(auto)]
+
+mod laws;
+
+pub use laws::{built_alike, drained_recording_is_the_run, one_answer, recorded_run_is_kept};
