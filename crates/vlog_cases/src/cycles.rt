@@ -9,7 +9,7 @@ use crate::designs::{paths, put_net};
 use crate::ended::Ended;
 use crate::numbers::put_wide;
 use crate::texts::{lines_in, number_in};
-use net_design::{Design, Direction, Timing, Values, count_words, lawful_is_sized, zeros};
+use net_design::{Design, Direction, Timing, Values, lawful_is_sized, zeros};
 use net_order::{Order, OrderError, order};
 use net_reference::{after_block, initial_state, is_settled, next_state};
 use report_text::put;
@@ -62,9 +62,13 @@ fn add_numbers(numbers: &mut Numbers, words: &[Name]) -> Result<(), Ended> {
 }
 
 /// The state of a cycle, in which the nets that are no registers are 0.
-fn state_of(alloc: Global, design: &Design, cycle: &Cycle) -> Result<Values, Ended> {
+fn state_of(alloc: Global, design: &Design, cycle: &Cycle) -> Result<Values, Ended>
+    requires { IsLawful design.now }
+{
+    lawful_is_sized();
+    let first = initial_state(alloc, design)?;
     let registers = design.registers.as_slice();
-    if registers.len() != cycle.registers.len() || cycle.words.len() != count_words(design) {
+    if registers.len() != cycle.registers.len() || first.words.len() != cycle.words.len() {
         return Err(Ended::Usage);
     }
     let mut nets = zeros(alloc, design.nets.len())?;

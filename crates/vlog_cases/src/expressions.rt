@@ -1,5 +1,8 @@
 //! The words on expressions and targets: their widths, faults and numbers.
 
+ghost use Rattle.std.specs.Prelude.{IfOk};
+ghost use Rattle.vidi_bits.specs.Number.{IsWidth};
+
 use crate::ended::Ended;
 use crate::names::{Names, names_in};
 use crate::numbers::put_wide;
@@ -16,7 +19,9 @@ use vlog_size::{
 use vlog_tree::Expr;
 
 /// A width of 1 to 128 bits that a word writes.
-fn width_of(word: &Text) -> Result<u32, Ended> {
+fn width_of(word: &Text) -> Result<u32, Ended>
+    ensures { IfOk result IsWidth }
+{
     match word.as_str().parse::<u32>() {
         Ok(w) if 1 <= w && w <= 128 => Ok(w),
         _ => Err(Ended::Usage),
@@ -169,9 +174,11 @@ pub fn value<S: Shelf>(alloc: Global, words: &[Text], shelf: &mut S) -> Result<V
 }
 
 /// The number of an expression's code.
-fn number_at(alloc: Global, e: &Expr, names: &Names, w: u32) -> Result<u128, Ended> {
+fn number_at(alloc: Global, e: &Expr, names: &Names, w: u32) -> Result<u128, Ended>
+    requires { IsWidth w }
+{
     let own = width(e, &names.scope)?;
-    if own > w || w > 128 {
+    if own > w {
         return Err(Ended::Usage);
     }
     let code = bind_expr(alloc, e, &names.scope, w)?;
