@@ -1,6 +1,6 @@
 //! Cases played.
 
-ghost use Rattle.std.specs.Prelude.{◌≡◌, ◌<◌, IfOk, IfSome, IsSome, IsSomeAnd, IsNone};
+ghost use Rattle.std.specs.Prelude.{◌≡◌, ◌-◌, ◌^◌, ◌<◌, IfOk, IfSome, IsSome, IsSomeAnd, IsNone, min, vec_len};
 
 use crate::caller::Caller;
 use crate::case::{Case, Start};
@@ -128,12 +128,14 @@ fn play_groups<C: Caller, O: Sink>(
     Ok(score)
 }
 
-/// Plays the cases of a group.
+/// Plays the cases of a group, each of which counts.
 fn play_group<C: Caller, O: Sink>(
     stage: &Stage<'_, C>,
     group: &Group,
     report: &mut O,
-) -> Result<Score, PlayError> {
+) -> Result<Score, PlayError>
+    ensures { IfOk result (λ score. score.all ≡ min (vec_len group.now.cases) (2 ^ 64 - 1)) }
+{
     let mut score = Score::none();
     let mut left = group.files.clone()?;
     for case in &group.cases {
@@ -231,7 +233,9 @@ fn judge<C: Caller, O: Sink>(
     before: FileMap,
     came: &Ending,
     report: &mut O,
-) -> Result<Score, PlayError> {
+) -> Result<Score, PlayError>
+    ensures { IfOk result (λ score. score.all ≡ 1) }
+{
     let wanted = wanted_of(stage.alloc, case, before)?;
     let right = is_right(&wanted, came, case.negative);
     if !right {

@@ -11,7 +11,7 @@ pub struct Score {
 }
 
 impl Score {
-    ghost use Rattle.std.specs.Prelude.{◌≡◌, ◌<◌, ◌≤◌, ◌↔◌, IsTrue};
+    ghost use Rattle.std.specs.Prelude.{◌≡◌, ◌+◌, ◌-◌, ◌^◌, ◌≤◌, ◌↔◌, IsTrue, min};
 
     /// No case.
     pub fn none() -> Score
@@ -34,8 +34,8 @@ impl Score {
 
     /// The cases of both together, where 2^64 - 1 stands for more too.
     pub fn with(self, other: Score) -> Score
-        ensures counted { 0 < other.all → 0 < result.all }
-        ensures kept { self.all ≤ result.all }
+        ensures right { result.right ≡ min (self.right + other.right) (2 ^ 64 - 1) }
+        ensures all { result.all ≡ min (self.all + other.all) (2 ^ 64 - 1) }
     {
         Score {
             right: self.right.saturating_add(other.right),
