@@ -11,3 +11,9 @@ pub mod PacketLaws
 pub mod Overwriting
 pub mod Picking
 pub mod RowBytes
+pub mod Tallying
+pub mod Totals
+pub mod Here
+pub mod Masks
+pub mod Walking
+pub mod Content

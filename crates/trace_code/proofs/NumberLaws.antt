@@ -266,7 +266,7 @@ Takes-then a x b y c p q = record {
   rest_fits = q.rest_fits;
 }
 
-refused : {A : Type 0} (b : Bool) (o : Option A) (y : A) → cond b None o ≡ Some y → (b ≡ false) × (o ≡ Some y)
+pub refused : {A : Type 0} (b : Bool) (o : Option A) (y : A) → cond b None o ≡ Some y → (b ≡ false) × (o ≡ Some y)
 refused true o y e = absurd cc
 refused false o y e = (refl, e)
 

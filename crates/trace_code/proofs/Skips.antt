@@ -1,20 +1,19 @@
 -- Passing over packets: what was read of them, without their contents.
-use Rattle.std.proofs.Common.{◌≡◌, ◌≢◌, ℕ, ◌+◌, ◌-◌, ◌≤◌, List, [], ◌∷◌, ◌++◌, length, take, All, Option, Some, None, Result, Ok, Err}
-use Rattle.std.proofs.Common.{refl, sym, ap, subst, ◌∙◌, append_assoc, arith}
+use Rattle.std.proofs.Common.{◌≡◌, ◌≢◌, ℕ, ◌+◌, ◌-◌, ◌≤◌, List, [], ◌∷◌, ◌++◌, length, take, All, Option, Some, None}
+use Rattle.std.proofs.Common.{refl, sym, ap, ◌∙◌, append_assoc, arith}
 use Rattle.std.specs.List.{flat_map}
 use Rattle.std.proofs.lemmas.List.{length-append, take_at}
 use Rattle.std.proofs.lemmas.List.Elements.{All-push}
 use Rattle.std.proofs.lemmas.Option.{same_Some, none-some}
 use Rattle.trace_model.specs.declared.channel.Channel.{Channel}
 use Rattle.trace_model.specs.declared.packet.Packet.{Packet}
-use Rattle.trace_model.specs.declared.trace.Trace.{Trace}
 use Rattle.trace_model.specs.Channel.{IsTable}
 use Rattle.trace_model.specs.Packet.{IsPacket}
 use Rattle.trace_model.specs.Trace.{Alternates, InFlight}
 use Rattle.trace_code.specs.declared.error.CodeError.{CodeError}
 use Rattle.trace_code.specs.declared.error.CodeError.TheVariants.{BadTrace, Memory}
 use Rattle.trace_code.specs.declared.salvaging.Whole.{Whole}
-use Rattle.trace_code.specs.Encoding.{header_bytes, packet_bytes, end_mark, encode}
+use Rattle.trace_code.specs.Encoding.{header_bytes, packet_bytes, end_mark}
 use Rattle.trace_code.specs.Reading.{Fails, with_front}
 use Rattle.trace_code.specs.PacketReading.{numbers_at, packet_at, AreAll}
 use Rattle.trace_code.specs.Salvage.{IsFront}

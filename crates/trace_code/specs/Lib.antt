@@ -5,3 +5,7 @@ pub mod Reading
 pub mod PacketReading
 pub mod Skipping
 pub mod Writing
+pub mod Tallied
+pub mod Heads
+pub mod Standing
+pub mod Stands

@@ -9,7 +9,7 @@ ghost use Rattle.trace_code.specs.Reading.{Gives, magic_at, dir_at, counted_at, 
 ghost use Rattle.trace_code.specs.Reading.{channel_at, channels_at, count_at, header_at, AreChannels};
 
 use crate::error::{CodeError, FAULT};
-use crate::number::byte_count;
+use crate::number::numbers_len;
 use std::alloc::Global;
 use trace_model::{Channel, Channels, Dir, are_letters_or_digits, is_letter};
 use vidi_bits::{Bytes, Items, Name, copied};
@@ -206,16 +206,12 @@ fn names_differ(channels: &[Channel]) -> bool
 }
 
 /// The bytes of a channel's content.
-fn content_len(channel: &Channel) -> usize
+pub(crate) fn content_len(channel: &Channel) -> usize
     requires { length channel.now.widths ≤ 16 }
     ensures small { result ≤ 512 }
     ensures value { result ≡ content_bytes channel.now }
 {
-    let mut total = 0;
-    for width in channel.widths.as_slice() {
-        total += byte_count(*width);
-    }
-    total
+    numbers_len(channel.widths.as_slice())
 }
 
 /// The bytes of the contents of all channels.

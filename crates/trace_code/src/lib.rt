@@ -1,18 +1,24 @@
 //! The bytes of a trace, version 1: `Encoding` in `specs/` spells a trace, `encode` writes it, whole or by
-//! its parts, `decode` reads it back, and `salvage` reads what is whole of a trace that was cut off.
+//! its parts, `decode` reads it back, and `salvage` reads what is whole of a trace that was cut off. A `Cursor` walks over the
+//! events of one channel and kind where they stand in the bytes: `Stands` in `specs/` says where it is.
 #![tactic(auto)]
 
+mod cursor;
 mod decoding;
 mod encoding;
 mod error;
+mod head;
 mod header;
 mod laws;
 mod number;
 mod packets;
 mod salvaging;
 mod skipping;
+mod tally;
+mod walk;
 mod writing;
 
+pub use cursor::Cursor;
 pub use decoding::{TRACE_LIMIT, decode};
 pub use encoding::{encode, end_mark, header_bytes};
 pub use error::CodeError;

@@ -1,7 +1,8 @@
 //! Reading the masks and the numbers of a packet.
 
-ghost use Rattle.std.specs.Prelude.{◌≡◌, ◌^◌, ◌≤◌, length};
+ghost use Rattle.std.specs.Prelude.{◌≡◌, ◌^◌, ◌≤◌, length, sum_by};
 ghost use Rattle.trace_model.specs.Channel.{byte_count};
+ghost use Rattle.trace_model.specs.Length.{mask_len};
 ghost use Rattle.trace_code.specs.Reading.{Gives};
 ghost use Rattle.trace_code.specs.PacketReading.{low_value, high_value, mask_at, number_at};
 
@@ -16,8 +17,28 @@ pub(crate) fn byte_count(width: u8) -> usize
     usize::from(width).div_ceil(8)
 }
 
+/// The bytes that hold a number of each width.
+pub(crate) fn numbers_len(widths: &[u8]) -> usize
+    requires { length widths.now ≤ 16 }
+    ensures small { result ≤ 512 }
+    ensures value { result ≡ sum_by byte_count widths.now }
+{
+    let mut total = 0;
+    for width in widths {
+        total += byte_count(*width);
+    }
+    total
+}
+
+/// The bytes of a mask of this many channels.
+pub(crate) fn mask_len(channels: usize) -> usize
+    ensures { result ≡ mask_len channels }
+{
+    channels.div_ceil(8)
+}
+
 /// The number in the bytes, the lowest first.
-fn low_first(bytes: &[u8]) -> u128
+pub(crate) fn low_first(bytes: &[u8]) -> u128
     requires { length bytes.now ≤ 16 }
     ensures { result ≡ low_value bytes.now }
 {
@@ -29,7 +50,7 @@ fn low_first(bytes: &[u8]) -> u128
 }
 
 /// The number in the bytes, the highest first.
-fn high_first(bytes: &[u8]) -> u128
+pub(crate) fn high_first(bytes: &[u8]) -> u128
     requires { length bytes.now ≤ 16 }
     ensures { result ≡ high_value bytes.now }
 {

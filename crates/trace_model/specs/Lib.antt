@@ -1,4 +1,5 @@
 pub mod Counting
+pub mod Mask
 pub mod Channel
 pub mod Packet
 pub mod Trace

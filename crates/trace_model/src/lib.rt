@@ -28,7 +28,7 @@ pub use flight::in_flight_after;
 pub use lawful::{is_over, well_formed};
 pub use laws::{recorded_once, row_adds_its_packet, rows_are_well_formed, starts_wait_for_ends};
 pub use letters::{are_letters_or_digits, is_letter};
-pub use mask::{names, with_bit};
+pub use mask::{lowest, names, with_bit};
 pub use packet::{LONGEST_PACKET, Packet, Packets};
 pub use row::{Offers, Row, Rows, push_zeros, row_over};
 pub use stability::unstable;

@@ -1,33 +1,75 @@
-//! Prints how many microseconds the decoding and the encoding of each trace file take, and whether the bytes are the same again.
+//! Prints how many microseconds the decoding, the steps of all cursors and the encoding of each trace file take, how many steps there
+//! are, and whether the bytes are the same again.
 #![tactic(auto)]
+
+ghost use Rattle.std.specs.Prelude.{◌<◌, length};
+ghost use Rattle.trace_code.specs.Encoding.{Encodes};
 
 use std::alloc::Global;
 use std::env;
 use std::process::ExitCode;
 use std::rt::Clock;
 use std::time::Instant;
-use trace_code::{TRACE_LIMIT, decode, encode};
+use trace_code::{Cursor, TRACE_LIMIT, decode, encode};
+use trace_model::{Kind, Trace};
 use vidi_io::{HostShelf, read_whole};
 
 /// What was measured of one file, in microseconds.
 #[derive(Clone, Copy)]
 struct Measured {
+    steps: u64,
     decoding: u128,
+    walking: u128,
     encoding: u128,
     same: bool,
 }
 
-/// Decodes and encodes a file's bytes. None where the clock fails, the bytes are no trace, or no memory is found.
+/// Steps a cursor through all events of a kind on a channel of a trace, and counts them.
+fn steps_of(alloc: Global, bytes: &[u8], t: &Trace, channel: usize, kind: Kind) -> Option<u32>
+    requires encoded { Encodes t.now bytes.now }
+    requires channel { channel < length t.now.channels }
+{
+    let mut cursor = Cursor::new(alloc, bytes, channel, kind).ok()?;
+    for steps in 0..u32::MAX {
+        if cursor.at_end() {
+            return Some(steps);
+        }
+        cursor.step();
+    }
+    None
+}
+
+/// Steps all cursors of a trace through all its events, and counts them.
+fn walk(alloc: Global, bytes: &[u8], t: &Trace) -> Option<u64>
+    requires { Encodes t.now bytes.now }
+{
+    let mut steps: u64 = 0;
+    for channel in 0..t.channels.len() {
+        let starts = steps_of(alloc, bytes, t, channel, Kind::Start)?;
+        let ends = steps_of(alloc, bytes, t, channel, Kind::End)?;
+        steps = steps
+            .wrapping_add(u64::from(starts))
+            .wrapping_add(u64::from(ends));
+    }
+    Some(steps)
+}
+
+/// Decodes a file's bytes, walks over them and encodes them. None where the clock fails, the bytes are no trace, or no memory is found.
 fn measure(alloc: Global, clock: &impl Clock, bytes: &[u8]) -> Option<Measured> {
     let start = Instant::now(clock).ok()?;
     let trace = decode(alloc, bytes).ok()?;
     let decoding = start.elapsed(clock).ok()?.as_micros();
     let start = Instant::now(clock).ok()?;
+    let steps = walk(alloc, bytes, &trace)?;
+    let walking = start.elapsed(clock).ok()?.as_micros();
+    let start = Instant::now(clock).ok()?;
     let again = encode(alloc, &trace).ok()?;
     let encoding = start.elapsed(clock).ok()?.as_micros();
     let same = again.as_slice() == bytes;
     Some(Measured {
+        steps,
         decoding,
+        walking,
         encoding,
         same,
     })
@@ -46,8 +88,8 @@ fn main(rt: HostRuntime) -> ExitCode {
             return ExitCode::from(3);
         };
         let _ = println!(rt;
-            "decode {} encode {} same {}",
-            m.decoding, m.encoding, m.same
+            "decode {} walk {} steps {} encode {} same {}",
+            m.decoding, m.walking, m.steps, m.encoding, m.same
         );
     }
     ExitCode::from(0)

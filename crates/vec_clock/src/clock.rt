@@ -1,6 +1,6 @@
 //! A clock and its calls.
 
-ghost use Rattle.std.specs.Prelude.{◌≡◌, ℕ, ◌+◌, ◌-◌, ◌^◌, ◌<◌, ◌≤◌, ◌↔◌, true, IsTrue, IfOk, MatchOption, length, replicate};
+ghost use Rattle.std.specs.Prelude.{◌≡◌, ℕ, ◌+◌, ◌-◌, ◌*◌, ◌^◌, ◌<◌, ◌≤◌, ◌↔◌, true, IsTrue, IfOk, MatchOption, length, replicate};
 ghost use Rattle.std.specs.Prelude.{slice_index, slice_set};
 ghost use Rattle.std.specs.Int.{bit_at};
 ghost use Rattle.vidi_bits.specs.Number.{has};
@@ -8,7 +8,7 @@ ghost use Rattle.trace_model.specs.Clock.{Covers};
 
 use std::alloc::Global;
 use std::marker::Model;
-use trace_model::names;
+use trace_model::lowest;
 use vidi_bits::Memory;
 
 /// How many transactions of each channel have completed. A contract sees it as the list of these numbers,
@@ -52,7 +52,16 @@ impl Clock {
         ensures len { length self.new ≡ length self.old }
         ensures each { (c : ℕ) → c < length self.old → slice_index self.new c ≡ slice_index self.old c + bit_at ends c }
     {
-        add_ends(self.counts.as_mut_slice(), ends);
+        self.add_times(ends, 1);
+    }
+
+    /// Counts `times` more completions of each channel that `ends` names.
+    pub fn add_times(&mut self, ends: u128, times: u32)
+        requires small { (c : ℕ) → c < length self.old → has ends c ≡ true → slice_index self.old c + times < 2 ^ 32 }
+        ensures len { length self.new ≡ length self.old }
+        ensures each { (c : ℕ) → c < length self.old → slice_index self.new c ≡ slice_index self.old c + times * bit_at ends c }
+    {
+        add_ends(self.counts.as_mut_slice(), ends, times);
     }
 
     /// Sets all numbers to 0.
@@ -70,12 +79,20 @@ impl Clock {
         self.counts[c]
     }
 
-    /// Whether each number of `other`, which has as many, is at most this clock's.
+    /// Whether each number of `other`, which has as many, is at most this clock's (*Clock*).
     pub fn covers(&self, other: &Clock) -> bool
         requires { length self.now ≡ length other.now }
         ensures { IsTrue result ↔ Covers (length self.now) (slice_index self.now) (slice_index other.now) }
     {
         self.first_short(other).is_none()
+    }
+
+    /// Whether each of these numbers, one a channel, is at most this clock's (*Clock*).
+    pub fn covers_needs(&self, needs: &[u32]) -> bool
+        requires { length self.now ≡ length needs.now }
+        ensures { IsTrue result ↔ Covers (length self.now) (slice_index self.now) (slice_index needs.now) }
+    {
+        self.first_short_of(needs).is_none()
     }
 
     /// The lowest channel whose number is smaller than that of `other`, which has as many channels; None
@@ -88,17 +105,31 @@ impl Clock {
     {
         first_less(self.counts.as_slice(), other.counts.as_slice())
     }
+
+    /// The lowest channel whose number is smaller than its one of `needs`, of which there is one a channel; None
+    /// where this clock covers them.
+    pub fn first_short_of(&self, needs: &[u32]) -> Option<usize>
+        requires { length self.now ≡ length needs.now }
+        ensures { MatchOption result (Covers (length self.now) (slice_index self.now) (slice_index needs.now))
+            (λ c. (c < length self.now) × (slice_index self.now c < slice_index needs.now c)
+            × Covers c (slice_index self.now) (slice_index needs.now)) }
+    {
+        first_less(self.counts.as_slice(), needs)
+    }
 }
 
-/// Adds one to the number of each channel that `ends` names.
-fn add_ends(counts: &mut [u32], ends: u128)
-    requires { (c : ℕ) → c < length counts.old → has ends c ≡ true → slice_index counts.old c < 2 ^ 32 - 1 }
-    ensures { (c : ℕ) → c < length counts.old → slice_index counts.new c ≡ slice_index counts.old c + bit_at ends c }
+/// Adds `times` to the number of each channel that `ends` names.
+fn add_ends(counts: &mut [u32], ends: u128, times: u32)
+    requires { (c : ℕ) → c < length counts.old → has ends c ≡ true → slice_index counts.old c + times < 2 ^ 32 }
+    ensures { (c : ℕ) → c < length counts.old → slice_index counts.new c ≡ slice_index counts.old c + times * bit_at ends c }
 {
-    for (channel, count) in counts.iter_mut().enumerate() {
-        if names(ends, channel) {
-            *count += 1;
+    let mut left = ends;
+    'ends: while let Some((channel, others)) = lowest(left) {
+        if channel >= counts.len() {
+            return;
         }
+        counts[channel] += times;
+        left = others;
     }
 }
 

@@ -3,7 +3,7 @@ use Rattle.std.proofs.lemmas.Result.{err_from_is_err_and}
 use Rattle.trace_model.specs.Packet.{widths_under}
 use Rattle.trace_code.specs.Reading.{with_front}
 use Rattle.trace_code.specs.PacketReading.{numbers_at}
-use Rattle.trace_code.proofs.PacketLoop.{widths_at_start, start_goes_on, start_ends, start_is_done}
+use Rattle.trace_code.proofs.PacketLoop.{start_goes_on, start_ends, start_is_done}
 use Rattle.trace_code.proofs.Skips.{fails-front}
 use Rattle.trace_code.proofs.skipping.skip_contents.Goals as goal
 

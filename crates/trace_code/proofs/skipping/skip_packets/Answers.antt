@@ -1,5 +1,5 @@
 use Rattle.std.proofs.Common.{arith}
-use Rattle.trace_code.proofs.Skips.{skipped-few, skipped-on, skipped-shorter, skipped-all}
+use Rattle.trace_code.proofs.Skips.{skipped-few, skipped-on}
 use Rattle.trace_code.proofs.skipping.skip_packets.Goals as goal
 
 pub overflow_add-packets : goal.overflow_add-packets

@@ -1,0 +1,4 @@
+pub mod Feed
+pub mod Fed
+pub mod Shell
+pub mod Laws

@@ -1,0 +1,26 @@
+-- What a replayed design promises of a cycle: *IsReplay* of one row.
+use Rattle.std.specs.Prelude.{◌≡◌, ℕ, List, [], ◌∷◌, ◌++◌, Some, length, slice_get}
+use Rattle.trace_model.specs.declared.channel.Channel.{Channel}
+use Rattle.trace_model.specs.declared.row.Row.{Row}
+use Rattle.trace_model.specs.Row.{row_before, IsMarked, IsOver}
+use Rattle.net_design.specs.declared.design.Design.{Design}
+use Rattle.net_design.specs.declared.values.Values.{Values}
+use Rattle.chan_map.specs.declared.pins.Map.{Map}
+use Rattle.run_model.specs.Played.{all_up}
+use Rattle.run_model.specs.Replay.{done}
+use Rattle.run_model.specs.Step.{IsStep}
+use Rattle.chan_replayer.specs.declared.feed.Feed.{Feed}
+use Rattle.chan_replayer.specs.Feed.{IsFedOn}
+
+-- the row of a cycle that begins in state s after these rows, under this feed
+pub record IsShown (d : Design) (m : Map) (s : Values) (rows : List Row) (feed : Feed) (row : Row) : Type 0 where
+  pub over : IsOver m.channels row
+  pub marked : IsMarked (row_before rows (length rows)) row
+  pub fed : (c : ℕ) (x : Channel) → slice_get m.channels c ≡ Some x → IsFedOn m.channels feed (done rows) row c x.dir
+  pub gates_are : row.gates ≡ all_up m.channels
+  pub after : Values
+  pub step : IsStep d m s row after
+
+-- the clock commits the row
+abbrev pub GoesTo : (Design → Values → List Row → Type 0) → Design → Map → Values → List Row → Row → Type 0
+GoesTo runs d m s rows row = (after : Values) × IsStep d m s row after × runs d after (rows ++ row ∷ [])

@@ -1,0 +1,21 @@
+//! Replayers: a design behind machines that let each recorded event come once everything that completed before it in the
+//! recording has completed again.
+//!
+//! The definitions stand in `specs/`: `Feed` (what replayers are told of each channel's next event), `Shell` (what a replayed
+//! design promises of a cycle, against *IsReplay*), `Fed` (the offers that replayers make of a feed) and `Laws`.
+#![tactic(auto)]
+
+mod fed;
+mod feed;
+mod laws;
+mod machines;
+mod offers;
+mod replayer;
+mod shell;
+
+pub use fed::FedShell;
+pub use feed::{Feed, Needs};
+pub use laws::fed_rows_replay;
+pub use machines::ReplayMachines;
+pub use replayer::Replayer;
+pub use shell::ReplayShell;

@@ -1,0 +1,117 @@
+//! The offers that replayers make of a feed.
+
+ghost use Rattle.std.specs.Prelude.{◌≡◌, ◌<◌, ◌≤◌, ◌+◌, ◌*◌, ◌^◌, ◌↔◌, ℕ, true, IsTrue, if◌then◌else◌, Some, length, replicate, slice_get, slice_index, take, drop};
+ghost use Rattle.vidi_bits.specs.Number.{has};
+ghost use Rattle.trace_model.specs.declared.channel.Channel.{Channel as OneChannel};
+ghost use Rattle.trace_model.specs.Packet.{Fit};
+ghost use Rattle.trace_model.specs.Row.{all_widths, replaced};
+ghost use Rattle.run_model.specs.Building.{joined};
+ghost use Rattle.chan_replayer.specs.Feed.{IsFeedOver, IsUp};
+ghost use Rattle.chan_replayer.specs.Fed.{fed_content, AreFed};
+
+use crate::feed::Feed;
+use crate::replayer::Replayer;
+use trace_model::{Channel, Channels, Dir, Offers, lowest, names, with_bit};
+
+/// The clock of the next event of channel `c`, one number a channel.
+fn needs_of(feed: &Feed, channels: usize, c: usize) -> &[u32]
+    requires channel { c < channels }
+    requires few { channels ≤ 128 }
+    requires needs { length feed.now.needs ≡ channels * channels }
+    ensures { result.now ≡ take channels (drop (channels * c) feed.now.needs) }
+{
+    let (_below, from) = feed.needs.as_slice().split_at(channels * c);
+    let (needs, _above) = from.split_at(channels);
+    needs
+}
+
+/// Whether the next event of channel `c` is there and covered.
+fn is_up(have: &Replayer, feed: &Feed, channels: usize, c: usize) -> bool
+    requires channel { c < channels }
+    requires few { channels ≤ 128 }
+    requires have { length have.now ≡ channels }
+    requires needs { length feed.now.needs ≡ channels * channels }
+    ensures { IsTrue result ↔ IsUp channels feed.now (slice_index have.now) c }
+{
+    let more = names(feed.more, c);
+    have.offers(more, needs_of(feed, channels, c))
+}
+
+/// Whether channel `c` is one of this direction whose next event is there and covered.
+fn is_offered(
+    have: &Replayer,
+    channel: &Channel,
+    feed: &Feed,
+    channels: usize,
+    c: usize,
+    dir: Dir,
+) -> bool
+    requires channel { c < channels }
+    requires few { channels ≤ 128 }
+    requires have { length have.now ≡ channels }
+    requires needs { length feed.now.needs ≡ channels * channels }
+    ensures { IsTrue result ↔ (channel.now.dir ≡ dir) × IsUp channels feed.now (slice_index have.now) c }
+{
+    channel.dir == dir && is_up(have, feed, channels, c)
+}
+
+/// The channels of a direction whose next event is there and covered.
+fn offered(have: &Replayer, channels: &[Channel], feed: &Feed, dir: Dir) -> u128
+    requires few { length channels.now ≤ 128 }
+    requires have { length have.now ≡ length channels.now }
+    requires more { feed.now.more < 2 ^ length channels.now }
+    requires needs { length feed.now.needs ≡ length channels.now * length channels.now }
+    ensures below { result < 2 ^ length channels.now }
+    ensures each { (c : ℕ) (x : OneChannel) → slice_get channels.now c ≡ Some x
+        → (has result c ≡ true) ↔ (x.dir ≡ dir) × IsUp (length channels.now) feed.now (slice_index have.now) c }
+{
+    let mut mask = 0;
+    let mut left = feed.more;
+    'more: while let Some((c, others)) = lowest(left) {
+        let up = is_offered(have, &channels[c], feed, channels.len(), c, dir);
+        mask = with_bit(mask, c, up);
+        left = others;
+    }
+    mask
+}
+
+/// Makes the content that begins at place `at` 0 for each port, unless the channel's valid is up.
+fn clear_content(up: bool, ports: usize, contents: &mut [u128], at: usize)
+    requires { at + ports ≤ length contents.old }
+    ensures { contents.new ≡ (if up then contents.old else replaced contents.old at (replicate ports 0)) }
+{
+    if !up {
+        contents[at..at + ports].fill(0);
+    }
+}
+
+/// Makes the contents those that are fed on the channels whose valid is up, else 0.
+fn fill_contents(valids: u128, channels: &[Channel], fed: &[u128], contents: &mut [u128])
+    requires fit { Fit (all_widths channels.now) fed.now }
+    requires places { length contents.old ≡ length (all_widths channels.now) }
+    ensures { contents.new ≡ joined (fed_content channels.now valids fed.now) 0 channels.now }
+{
+    contents.copy_from_slice(fed);
+    let mut at = 0;
+    for (c, channel) in channels.iter().enumerate() {
+        let ports = channel.widths.len();
+        clear_content(names(valids, c), ports, contents, at);
+        at += ports;
+    }
+}
+
+/// Makes the offers those of replayers with these completions under a feed.
+pub(crate) fn fill_offers(have: &Replayer, channels: &Channels, feed: &Feed, offers: &mut Offers)
+    requires few { length channels.now ≤ 128 }
+    requires have { length have.now ≡ length channels.now }
+    requires feed { IsFeedOver channels.now feed.now }
+    requires places { length offers.old.contents ≡ length (all_widths channels.now) }
+    ensures { AreFed channels.now (slice_index have.now) feed.now offers.new }
+{
+    let channels = channels.as_slice();
+    let valids = offered(have, channels, feed, Dir::Inward);
+    let fed = feed.contents.as_slice();
+    fill_contents(valids, channels, fed, offers.contents.as_mut_slice());
+    offers.valids = valids;
+    offers.readies = offered(have, channels, feed, Dir::Outward);
+}

@@ -1,0 +1,9 @@
+use Rattle.std.proofs.Common.{◌≡◌, ◌+◌}
+use Rattle.trace_code.specs.Heads.{sizes_under}
+use Rattle.trace_code.proofs.head.starts_len.Given as goal
+
+abbrev pub invariant-starts : goal.invariant-starts
+invariant-starts l = l.total + sizes_under l.left l.sizes ≡ sizes_under l.starts l.sizes
+
+abbrev pub decreases-starts : goal.decreases-starts
+decreases-starts l = l.left

@@ -1,0 +1,20 @@
+use Rattle.std.proofs.Common.{◌≡◌, ℕ, ◌+◌, take, length}
+use Rattle.trace_model.specs.declared.trace.Trace.{Trace}
+use Rattle.trace_model.specs.Packet.{count}
+use Rattle.trace_code.specs.Standing.{IsAt}
+use Rattle.trace_code.specs.Tallied.{tallied}
+use Rattle.trace_code.proofs.walk.seek.Given as goal
+
+abbrev pub invariant-packets : goal.invariant-packets
+invariant-packets l = record {
+  k : ℕ;
+  is : (t : Trace) (p : ℕ) → IsAt t p l.initial.head.sizes.items l.fn.rest (tallied l.initial.tally.clock l.initial.tally.ends l.initial.tally.times)
+      → IsAt t (p + k) l.head.sizes.items l.here (tallied l.tally.clock l.tally.ends l.tally.times);
+  before : (t : Trace) (p : ℕ)
+      → IsAt t p l.initial.head.sizes.items l.fn.rest (tallied l.initial.tally.clock l.initial.tally.ends l.initial.tally.times)
+      → count l.kind l.channel (take (p + k) t.packets) ≡ count l.kind l.channel (take p t.packets);
+  sizes : l.head.sizes.items ≡ l.initial.head.sizes.items;
+}
+
+abbrev pub decreases-packets : goal.decreases-packets
+decreases-packets l = length l.here

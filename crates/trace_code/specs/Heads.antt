@@ -1,0 +1,22 @@
+-- The head of a packet.
+use Rattle.std.specs.Prelude.{◌≡◌, ℕ, List, take, drop, sum_by, if◌then◌else◌}
+use Rattle.std.specs.List.{enumerate_from}
+use Rattle.vidi_bits.specs.Number.{has}
+use Rattle.trace_model.specs.declared.event.Kind.{Kind}
+use Rattle.trace_model.specs.declared.event.Kind.TheVariants.{Start, End}
+use Rattle.trace_model.specs.Length.{mask_len}
+use Rattle.trace_code.specs.PacketReading.{low_value}
+
+-- of channels with these content bytes, the content bytes of those that a mask names
+abbrev pub sizes_under : ℕ → List ℕ → ℕ
+sizes_under mask sizes = sum_by (λ (d : ℕ × ℕ). if has mask d.0 then d.1 else 0) (enumerate_from 0 sizes)
+
+-- the masks of n channels in the packet at the front of the bytes
+pub record AreMasks (n starts ends : ℕ) (rest : List ℕ) : Type 0 where
+  pub starts_are : starts ≡ low_value (take (mask_len n) (drop 1 rest))
+  pub ends_are : ends ≡ low_value (take (mask_len n) (drop (mask_len n) (drop 1 rest)))
+
+-- the channels that have an event of a kind
+abbrev pub mask_of : Kind → ℕ → ℕ → ℕ
+mask_of Start starts ends = starts
+mask_of End starts ends = ends

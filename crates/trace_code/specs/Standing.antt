@@ -1,0 +1,32 @@
+-- Where a reader stands among the packets of a trace.
+use Rattle.std.specs.Prelude.{◌≡◌, ℕ, ◌<◌, ◌≤◌, List, ◌++◌, length, drop, take, map}
+use Rattle.std.specs.List.{flat_map}
+use Rattle.trace_model.specs.declared.event.Kind.{Kind}
+use Rattle.trace_model.specs.declared.packet.Packet.{Packet}
+use Rattle.trace_model.specs.declared.trace.Trace.{Trace}
+use Rattle.trace_model.specs.Channel.{content_bytes}
+use Rattle.trace_model.specs.Counting.{IsNth}
+use Rattle.trace_model.specs.Packet.{does, count}
+use Rattle.vec_clock.specs.Counts.{clock_counts}
+use Rattle.trace_code.specs.Encoding.{HasEncoding, packet_bytes, end_mark}
+use Rattle.trace_code.specs.Heads.{AreMasks}
+
+-- the bytes of a trace from packet p on
+abbrev pub bytes_from : Trace → ℕ → List ℕ
+bytes_from t p = flat_map (packet_bytes t.channels) (drop p t.packets) ++ end_mark (length t.packets)
+
+-- packet p, or the end, stands at the front of the bytes; the clock is that of packet p
+pub record IsAt (t : Trace) (p : ℕ) (sizes rest clock : List ℕ) : Type 0 where
+  pub encoding : HasEncoding t
+  pub sizes_are : sizes ≡ map content_bytes t.channels
+  pub within : p ≤ length t.packets
+  pub parts : rest ≡ bytes_from t p
+  pub counts : clock ≡ clock_counts (length t.channels) t.packets p
+
+-- event j of this kind on channel c stands there, in the packet with these masks, or the end where there is none
+pub record StandsAt (t : Trace) (kind : Kind) (c j : ℕ) (sizes rest clock : List ℕ) (starts ends : ℕ) : Type 0 where
+  pub place : ℕ
+  pub at : IsAt t place sizes rest clock
+  pub before : count kind c (take place t.packets) ≡ j
+  pub next : place < length t.packets → (packet : Packet) × IsNth (does kind c) t.packets j place packet
+  pub masks : place < length t.packets → AreMasks (length sizes) starts ends rest

@@ -1,0 +1,23 @@
+-- What a cursor stands for.
+use Rattle.std.specs.Prelude.{◌≡◌, ℕ, Some, slice_get}
+use Rattle.trace_model.specs.declared.channel.Channel.{Channel}
+use Rattle.trace_model.specs.declared.event.Kind.{Kind}
+use Rattle.trace_model.specs.declared.trace.Trace.{Trace}
+use Rattle.trace_code.specs.declared.cursor.Cursor.{Cursor}
+use Rattle.trace_code.specs.Standing.{StandsAt}
+use Rattle.trace_code.specs.Tallied.{tallied}
+
+-- the cursor walks over the events of this kind on channel c
+abbrev pub WalksOver : Cursor → Kind → ℕ → Type 0
+WalksOver k kind c = (k.kind ≡ kind) × (k.channel ≡ c)
+
+-- its channel is there, with the widths that the cursor keeps
+pub record IsOf (t : Trace) (k : Cursor) : Type 0 where
+  pub channel : Channel
+  pub at : slice_get t.channels k.channel ≡ Some channel
+  pub widths : k.widths ≡ channel.widths
+
+-- event j of its kind on its channel is the next one; where the trace has none, the cursor is at its end
+abbrev pub Stands : Cursor → Trace → ℕ → Type 0
+Stands k t j = StandsAt t k.kind k.channel j k.head.sizes.items k.rest.now (tallied k.clock.clock k.clock.ends k.clock.times) k.head.starts
+    k.head.ends × IsOf t k

@@ -1,0 +1,80 @@
+//! Counts that are taken together while the same channels complete.
+
+ghost use Rattle.std.specs.Prelude.{◌≡◌, ◌+◌, ◌-◌, ◌*◌, ◌<◌, ◌≤◌, ◌^◌, ℕ, true, IfOk, length, replicate, slice_index};
+ghost use Rattle.std.specs.Int.{bit_at};
+ghost use Rattle.vidi_bits.specs.Number.{has};
+ghost use Rattle.trace_code.specs.Tallied.{tallied};
+
+use std::alloc::Global;
+use trace_model::names;
+use vec_clock::Clock;
+use vidi_bits::Memory;
+
+/// How many transactions of each channel have completed. Packets that complete the same channels, one behind the other, are
+/// counted as one number. Only `new` takes memory.
+#[derive(Drop)]
+pub(crate) struct Tally {
+    /// The completions before the last packets.
+    clock: Clock,
+    /// The channels that complete in each of the last packets.
+    ends: u128,
+    /// The number of these packets.
+    times: u32,
+    ghost fits: { (c : ℕ) → c < length clock → slice_index clock c + times * bit_at ends c < 2 ^ 32 },
+}
+
+impl Tally {
+    /// The counts of `n` channels on which nothing has completed. There are 1 to 128 of them.
+    pub(crate) fn new(alloc: Global, n: usize) -> Result<Tally, Memory>
+        requires some { 1 ≤ n }
+        requires few { n ≤ 128 }
+        ensures { IfOk result (λ tally. tallied tally.clock tally.ends tally.times ≡ replicate n 0) }
+    {
+        let clock = Clock::new(alloc, n)?;
+        Ok(Tally {
+            clock,
+            ends: 0,
+            times: 0,
+        })
+    }
+
+    /// Counts one more completion of each channel that `ends` names: bit c is channel c.
+    pub(crate) fn add(&mut self, ends: u128)
+        requires below { ends < 2 ^ length self.old.clock }
+        requires small { (c : ℕ) → c < length self.old.clock → has ends c ≡ true
+            → slice_index (tallied self.old.clock self.old.ends self.old.times) c < 2 ^ 32 - 1 }
+        ensures len { length self.new.clock ≡ length self.old.clock }
+        ensures each { (c : ℕ) → c < length self.old.clock
+            → slice_index (tallied self.new.clock self.new.ends self.new.times) c
+            ≡ slice_index (tallied self.old.clock self.old.ends self.old.times) c + bit_at ends c }
+    {
+        if ends == 0 {
+            return;
+        }
+        self.turn_to(ends);
+        self.times += 1;
+    }
+
+    /// Makes the channels that complete in the last packets these; no count changes.
+    fn turn_to(&mut self, ends: u128)
+        ensures ends { self.new.ends ≡ ends }
+        ensures len { length self.new.clock ≡ length self.old.clock }
+        ensures each { (c : ℕ) → c < length self.old.clock
+            → slice_index self.new.clock c + self.new.times * bit_at ends c
+            ≡ slice_index (tallied self.old.clock self.old.ends self.old.times) c }
+    {
+        if ends != self.ends {
+            self.clock.add_times(self.ends, self.times);
+            self.ends = ends;
+            self.times = 0;
+        }
+    }
+
+    /// The number of channel `c`.
+    pub(crate) fn get(&self, c: usize) -> u32
+        requires { c < length self.now.clock }
+        ensures { result ≡ slice_index (tallied self.now.clock self.now.ends self.now.times) c }
+    {
+        self.clock.get(c) + if names(self.ends, c) { self.times } else { 0 }
+    }
+}
