@@ -5,33 +5,32 @@ ghost use Rattle.run_model.specs.Building.{PortsAreNets};
 ghost use Rattle.run_model.specs.MapOf.{IsMapOf};
 
 use crate::given::{is_row, is_two_sends};
-use crate::stages::{flick, pass};
+use crate::stages::{Stage, flick, pass};
 use bench_run::{PlainRun, Spot, run_plain};
-use chan_map::Map;
 use env_script::{ScriptEnv, read_script};
-use net_sim::Sim;
 use std::alloc::Global;
 use std::test::Fail;
 
-/// The run of a simulator under a script.
-fn run_script(alloc: Global, sim: &mut Sim, map: &Map, text: &[u8]) -> Result<PlainRun, Fail>
+/// The run of a stage under a script.
+fn run_script(alloc: Global, stage: &mut Stage, text: &[u8]) -> Result<PlainRun, Fail>
     requires text { length text.now < 2 ^ 31 }
-    requires nets { PortsAreNets sim.old.design }
-    requires mapped { IsMapOf sim.old.design map.now }
+    requires nets { PortsAreNets stage.old.sim.design }
+    requires mapped { IsMapOf stage.old.sim.design stage.old.map }
 {
-    let Ok(script) = read_script(alloc, text, map) else {
+    let Ok(script) = read_script(alloc, text, &stage.map) else {
         return Err(Fail::from("a script is refused"));
     };
-    let mut env = ScriptEnv::new(alloc, &script, map)?;
-    Ok(run_plain(alloc, sim, map, &mut env, script.cycles())?)
+    let cycles = script.cycles();
+    let mut env = ScriptEnv::new(alloc, &script, &stage.map)?;
+    Ok(run_plain(alloc, &mut stage.sim, &stage.map, &mut env, cycles)?)
 }
 
 /// The run of `flick`, whose one channel is outward: its valid rises in row 1 and falls in row 2, whatever the ready is.
 fn flick_run(alloc: Global, text: &[u8]) -> Result<PlainRun, Fail>
     requires { length text.now < 2 ^ 31 }
 {
-    let (mut sim, map) = flick(alloc)?;
-    run_script(alloc, &mut sim, &map, text)
+    let mut stage = flick(alloc)?;
+    run_script(alloc, &mut stage, text)
 }
 
 /// It isn't taken in row 1, so row 2 is unstable.
@@ -85,12 +84,17 @@ fn one_cycle(rt: HostRuntime) -> Result<(), Fail> {
     Ok(())
 }
 
+/// The run of the register stage.
+fn pass_run(alloc: Global, text: &[u8]) -> Result<PlainRun, Fail>
+    requires { length text.now < 2 ^ 31 }
+{
+    let mut stage = pass(alloc)?;
+    run_script(alloc, &mut stage, text)
+}
+
 #[test]
 fn two_sends_are_played(rt: HostRuntime) -> Result<(), Fail> {
-    let alloc = rt.alloc();
-    let (mut sim, map) = pass(alloc)?;
-    let text = b"cycles 6\na send 5\na send 6\nb take all";
-    let run = run_script(alloc, &mut sim, &map, text)?;
+    let run = pass_run(rt.alloc(), b"cycles 6\na send 5\na send 6\nb take all")?;
     assert!(rt; run.unstable == None && is_two_sends(run.rows.as_slice()));
     Ok(())
 }

@@ -3,10 +3,12 @@
 
 ghost use Rattle.std.specs.Prelude.{◌≡◌, ◌<◌, ◌^◌, All, IfOk, length};
 ghost use Rattle.trace_model.specs.Packet.{IsPacket};
+ghost use Rattle.run_model.specs.Building.{PortsAreNets};
+ghost use Rattle.run_model.specs.MapOf.{IsMapOf};
 ghost use Rattle.run_checks.specs.Stage.{flick_channels, stage_channels};
 
 use crate::given::{is_row, three_packets, two_packets};
-use crate::stages::{dead, flick, pass, stage_channels};
+use crate::stages::{Stage, dead, flick, pass, stage_channels};
 use run_model::Held;
 use run_reference::{held, replay_rows, waits};
 use std::alloc::Global;
@@ -98,14 +100,30 @@ fn a_start_waits_for_what_completed_before_it(rt: HostRuntime) -> Result<(), Fai
     Ok(())
 }
 
-/// The rows of the replay of packets on the stage that gives nothing.
+/// The rows of the replay of packets on a stage.
+fn replay_of(
+    alloc: Global,
+    stage: &mut Stage,
+    packets: &[Packet],
+    cycles: u32,
+) -> Result<Rows, Fail>
+    requires nets { PortsAreNets stage.old.sim.design }
+    requires mapped { IsMapOf stage.old.sim.design stage.old.map }
+    requires packets { All (IsPacket stage.old.map.channels) packets.now }
+    requires few { length packets.now < 2 ^ 32 }
+    ensures { IfOk result (λ rows. length rows ≡ cycles) }
+{
+    Ok(replay_rows(alloc, &mut stage.sim, &stage.map, packets, cycles)?)
+}
+
+/// The same on the stage that gives nothing.
 fn dead_replay(alloc: Global, packets: &[Packet], cycles: u32) -> Result<Rows, Fail>
     requires packets { All (IsPacket stage_channels) packets.now }
     requires few { length packets.now < 2 ^ 32 }
     ensures { IfOk result (λ rows. length rows ≡ cycles) }
 {
-    let (mut sim, map) = dead(alloc)?;
-    Ok(replay_rows(alloc, &mut sim, &map, packets, cycles)?)
+    let mut stage = dead(alloc)?;
+    replay_of(alloc, &mut stage, packets, cycles)
 }
 
 /// Whether in all rows `a` is ready and offers nothing, and `b` is ready and shows nothing.
@@ -133,14 +151,14 @@ fn a_start_is_held_on_dead(rt: HostRuntime) -> Result<(), Fail> {
     Ok(())
 }
 
-/// The rows of the replay of packets on the register stage.
+/// The same on the register stage.
 fn pass_replay(alloc: Global, packets: &[Packet], cycles: u32) -> Result<Rows, Fail>
     requires packets { All (IsPacket stage_channels) packets.now }
     requires few { length packets.now < 2 ^ 32 }
     ensures { IfOk result (λ rows. length rows ≡ cycles) }
 {
-    let (mut sim, map) = pass(alloc)?;
-    Ok(replay_rows(alloc, &mut sim, &map, packets, cycles)?)
+    let mut stage = pass(alloc)?;
+    replay_of(alloc, &mut stage, packets, cycles)
 }
 
 /// What a replay of two packets gives: its rows, how many events it holds back, and what it waits for.
@@ -204,11 +222,13 @@ fn one_packet(alloc: Global) -> Result<Packets, Memory>
     Ok(packets)
 }
 
-/// Three cycles of `flick`'s replay of that packet.
-fn flick_replay(alloc: Global) -> Result<Rows, Fail> {
-    let (mut sim, map) = flick(alloc)?;
-    let packets = one_packet(alloc)?;
-    Ok(replay_rows(alloc, &mut sim, &map, packets.as_slice(), 3)?)
+/// The rows of the replay of packets on `flick`.
+fn flick_replay(alloc: Global, packets: &[Packet], cycles: u32) -> Result<Rows, Fail>
+    requires packets { All (IsPacket flick_channels) packets.now }
+    requires few { length packets.now < 2 ^ 32 }
+{
+    let mut stage = flick(alloc)?;
+    replay_of(alloc, &mut stage, packets, cycles)
 }
 
 /// The ready is up until the completion that is recorded.
@@ -221,7 +241,9 @@ fn is_flick_replay(rows: &[Row]) -> bool {
 
 #[test]
 fn a_replay_takes_what_was_taken(rt: HostRuntime) -> Result<(), Fail> {
-    let rows = flick_replay(rt.alloc())?;
+    let alloc = rt.alloc();
+    let packets = one_packet(alloc)?;
+    let rows = flick_replay(alloc, packets.as_slice(), 3)?;
     assert!(rt; is_flick_replay(rows.as_slice()));
     Ok(())
 }

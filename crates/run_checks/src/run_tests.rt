@@ -1,13 +1,15 @@
 //! Rows of runs, by the definitions and by monitors. Channel 0 is `a`, inward, and channel 1 is `b`, outward; the masks of a row are
 //! its gates, valids, readies, starts and ends.
 
-ghost use Rattle.std.specs.Prelude.{◌≡◌, ◌<◌, ◌+◌, ◌≤◌, All, IfOk, length};
+ghost use Rattle.std.specs.Prelude.{◌≡◌, ◌<◌, ◌^◌, All, IfOk, length};
 ghost use Rattle.trace_model.specs.Row.{AreOffers};
+ghost use Rattle.run_model.specs.Building.{PortsAreNets};
+ghost use Rattle.run_model.specs.MapOf.{IsMapOf};
 ghost use Rattle.run_checks.specs.Stage.{flick_channels, stage_channels};
 
 use crate::given::{is_row, is_two_sends, two_sends};
 use crate::play::play_shell;
-use crate::stages::{flick, pass};
+use crate::stages::{Stage, flick, pass};
 use chan_map::Map;
 use chan_monitor::{Machines, Shell};
 use run_reference::run_rows;
@@ -16,17 +18,45 @@ use std::test::Fail;
 use trace_model::{Offers, Row, Rows};
 use vidi_bits::{Items, Memory, Numbers};
 
+/// All gates are up.
+const OPEN: [u128; 6] = [3, 3, 3, 3, 3, 3];
+
 /// The gates of a store of 18 bytes that never drains: a packet has 3 bytes without contents, and 7 are kept for each idle channel
 /// whose gate is up, 3 for one in flight. After row 0, 4 are used and `a` has its gate again; after row 1, 9 are, and after row 2, 12.
 const SHUT: [u128; 6] = [3, 3, 1, 0, 0, 0];
 
-/// The rows of the register stage's run with two contents offered and all taken, by the definitions.
-fn pass_run(alloc: Global, gates: [u128; 6]) -> Result<Rows, Fail>
+/// The rows of a stage's run under these offers and gates, by the definitions.
+fn rows_of(
+    alloc: Global,
+    stage: &mut Stage,
+    offers: &[Offers],
+    gates: &[u128],
+) -> Result<Rows, Fail>
+    requires nets { PortsAreNets stage.old.sim.design }
+    requires mapped { IsMapOf stage.old.sim.design stage.old.map }
+    requires offers { All (AreOffers stage.old.map.channels) offers.now }
+    requires gates { All (λ g. g < 2 ^ length stage.old.map.channels) gates.now }
+    requires count { length gates.now ≡ length offers.now }
+{
+    Ok(run_rows(alloc, &mut stage.sim, &stage.map, offers, gates)?)
+}
+
+/// The rows of the register stage under these offers and gates.
+fn pass_rows(alloc: Global, offers: &[Offers], gates: &[u128]) -> Result<Rows, Fail>
+    requires offers { All (AreOffers stage_channels) offers.now }
+    requires gates { All (λ g. g < 4) gates.now }
+    requires count { length gates.now ≡ length offers.now }
+{
+    let mut stage = pass(alloc)?;
+    rows_of(alloc, &mut stage, offers, gates)
+}
+
+/// Its rows with two contents offered and all taken.
+fn two_sends_rows(alloc: Global, gates: [u128; 6]) -> Result<Rows, Fail>
     requires { All (λ g. g < 4) gates }
 {
-    let (mut sim, map) = pass(alloc)?;
     let offers = two_sends(alloc)?;
-    Ok(run_rows(alloc, &mut sim, &map, offers.as_slice(), &gates)?)
+    pass_rows(alloc, offers.as_slice(), &gates)
 }
 
 /// The gate of `b` is down from row 2 on and that of `a` from row 3 on, so the second content stays in the stage.
@@ -42,16 +72,27 @@ fn is_one_gate(rows: &[Row]) -> bool {
 
 #[test]
 fn two_sends_pass(rt: HostRuntime) -> Result<(), Fail> {
-    let rows = pass_run(rt.alloc(), [3, 3, 3, 3, 3, 3])?;
+    let rows = two_sends_rows(rt.alloc(), OPEN)?;
     assert!(rt; is_two_sends(rows.as_slice()));
     Ok(())
 }
 
 #[test]
 fn one_gate_rises(rt: HostRuntime) -> Result<(), Fail> {
-    let rows = pass_run(rt.alloc(), SHUT)?;
+    let rows = two_sends_rows(rt.alloc(), SHUT)?;
     assert!(rt; is_one_gate(rows.as_slice()));
     Ok(())
+}
+
+/// Nothing is offered, in one cycle.
+fn idle(alloc: Global) -> Offers
+    ensures { AreOffers flick_channels result }
+{
+    Offers {
+        valids: 0,
+        readies: 0,
+        contents: Numbers::new(alloc),
+    }
 }
 
 /// Nothing is offered, in six cycles.
@@ -60,21 +101,28 @@ fn idle_offers(alloc: Global) -> Result<Items<Offers>, Memory>
     ensures fit { IfOk result (All (AreOffers flick_channels)) }
 {
     let mut offers = Items::new(alloc);
-    for _i in 0..6u32 {
-        offers.push(Offers {
-            valids: 0,
-            readies: 0,
-            contents: Numbers::new(alloc),
-        })?;
-    }
+    offers.push(idle(alloc))?;
+    offers.push(idle(alloc))?;
+    offers.push(idle(alloc))?;
+    offers.push(idle(alloc))?;
+    offers.push(idle(alloc))?;
+    offers.push(idle(alloc))?;
     Ok(offers)
+}
+
+/// The rows of `flick` under these offers, with the gate up.
+fn flick_rows(alloc: Global, offers: &[Offers]) -> Result<Rows, Fail>
+    requires offers { All (AreOffers flick_channels) offers.now }
+    requires count { length offers.now ≡ 6 }
+{
+    let mut stage = flick(alloc)?;
+    rows_of(alloc, &mut stage, offers, &[1; 6])
 }
 
 /// Six cycles of `flick` with nothing offered and the gate up.
 fn flick_run(alloc: Global) -> Result<Rows, Fail> {
-    let (mut sim, map) = flick(alloc)?;
     let offers = idle_offers(alloc)?;
-    Ok(run_rows(alloc, &mut sim, &map, offers.as_slice(), &[1; 6])?)
+    flick_rows(alloc, offers.as_slice())
 }
 
 /// In row 1 the valid is up and a transaction starts, and in row 2 the valid is down again.
@@ -110,17 +158,47 @@ fn played<S: Shell>(
     play_shell(alloc, shell, &map.channels, offers.as_slice(), &gates)
 }
 
-// The rows with all gates up, then those with the gates of the store, which leave a content in the stage, and after another reset the
-// first ones again.
+/// Whether a shell shows the rows with all gates up from a reset on.
+fn shows_all<S: Shell>(alloc: Global, shell: &mut S, map: &Map) -> Result<bool, Memory>
+    requires table { map.now.channels ≡ stage_channels }
+    requires map { S.map shell.old ≡ map.now }
+    ensures map { S.map shell.new ≡ S.map shell.old }
+{
+    let rows = played(alloc, shell, map, OPEN)?;
+    Ok(is_two_sends(rows.as_slice()))
+}
+
+/// Whether a shell shows the rows with the gates of the store from a reset on.
+fn shows_one_gate<S: Shell>(alloc: Global, shell: &mut S, map: &Map) -> Result<bool, Memory>
+    requires table { map.now.channels ≡ stage_channels }
+    requires map { S.map shell.old ≡ map.now }
+    ensures map { S.map shell.new ≡ S.map shell.old }
+{
+    let rows = played(alloc, shell, map, SHUT)?;
+    Ok(is_one_gate(rows.as_slice()))
+}
+
+/// Whether a shell shows the rows with all gates up, then those with the gates of the store, and then the first ones again.
+fn begins_again<S: Shell>(alloc: Global, shell: &mut S, map: &Map) -> Result<bool, Fail>
+    requires table { map.now.channels ≡ stage_channels }
+    requires map { S.map shell.old ≡ map.now }
+{
+    let first = shows_all(alloc, shell, map)?;
+    let shut = shows_one_gate(alloc, shell, map)?;
+    let again = shows_all(alloc, shell, map)?;
+    Ok(first && shut && again)
+}
+
+/// The same of monitors round the register stage.
+fn pass_begins_again(alloc: Global) -> Result<bool, Fail> {
+    let Stage { sim, map } = pass(alloc)?;
+    let mut shell = Machines::new(alloc, sim, &map)?;
+    begins_again(alloc, &mut shell, &map)
+}
+
+// The gates of the store leave a content in the stage.
 #[test]
 fn a_reset_shell_begins_again(rt: HostRuntime) -> Result<(), Fail> {
-    let alloc = rt.alloc();
-    let (sim, map) = pass(alloc)?;
-    let mut shell = Machines::new(alloc, sim, &map)?;
-    let up = played(alloc, &mut shell, &map, [3, 3, 3, 3, 3, 3])?;
-    let shut = played(alloc, &mut shell, &map, SHUT)?;
-    let again = played(alloc, &mut shell, &map, [3, 3, 3, 3, 3, 3])?;
-    let right = is_two_sends(up.as_slice()) && is_one_gate(shut.as_slice());
-    assert!(rt; right && is_two_sends(again.as_slice()));
+    assert!(rt; pass_begins_again(rt.alloc())?);
     Ok(())
 }

@@ -72,8 +72,8 @@ fn design_of(alloc: Global, text: &[u8], top: &[u8]) -> Result<Design, Fail>
     }
 }
 
-/// The map of these lines.
-fn map_of(alloc: Global, lines: &[u8], design: &Design) -> Result<Map, Fail>
+/// These lines, bound to a design.
+fn bound(alloc: Global, lines: &[u8], design: &Design) -> Result<Map, Fail>
     requires { IsLawful design.now }
     ensures { IfOk result (λ map. IsMapOf design.now map) }
 {
@@ -91,18 +91,49 @@ fn map_of(alloc: Global, lines: &[u8], design: &Design) -> Result<Map, Fail>
     }
 }
 
-/// The simulator of a design, with which its map goes.
+/// The map of these lines, which has these channels.
+fn map_of(alloc: Global, lines: &[u8], design: &Design, channels: &Channels) -> Result<Map, Fail>
+    requires { IsLawful design.now }
+    ensures mapped { IfOk result (λ map. IsMapOf design.now map) }
+    ensures table { IfOk result (λ map. map.channels ≡ channels.now) }
+{
+    let map = bound(alloc, lines, design)?;
+    match same_channels(&map.channels, channels) {
+        None => Ok(map),
+        Some(_) => Err(Fail::from("other channels")),
+    }
+}
+
+/// A design that runs, with its map.
+#[derive(Drop)]
+pub struct Stage {
+    pub sim: Sim,
+    pub map: Map,
+}
+
+/// The simulator of a design.
 #[tactic(auto, using(crate::proofs::PortNets::port_nets))]
-fn sim_of(alloc: Global, design: Design, map: &Map) -> Result<Sim, Fail>
-    requires lawful { IsLawful design }
-    requires mapped { IsMapOf design map.now }
+fn sim_of(alloc: Global, design: Design) -> Result<Sim, Fail>
+    requires { IsLawful design }
     ensures nets { IfOk result (λ sim. PortsAreNets sim.design) }
-    ensures mapped { IfOk result (λ sim. IsMapOf sim.design map.now) }
+    ensures design { IfOk result (λ sim. sim.design ≡ design) }
 {
     match order(alloc, &design) {
         Ok(order) => Ok(Sim::new(alloc, design, order)?),
         Err(_) => Err(Fail::from("no order")),
     }
+}
+
+/// A design's simulator, with its map.
+fn stage_of(alloc: Global, design: Design, map: Map) -> Result<Stage, Fail>
+    requires lawful { IsLawful design }
+    requires mapped { IsMapOf design map }
+    ensures nets { IfOk result (λ stage. PortsAreNets stage.sim.design) }
+    ensures mapped { IfOk result (λ stage. IsMapOf stage.sim.design stage.map) }
+    ensures map { IfOk result (λ stage. stage.map ≡ map) }
+{
+    let sim = sim_of(alloc, design)?;
+    Ok(Stage { sim, map })
 }
 
 /// Adds a channel of one letter, with one port of 8 bits.
@@ -149,45 +180,41 @@ fn made(
     top: &[u8],
     lines: &[u8],
     channels: &Channels,
-) -> Result<(Sim, Map), Fail>
-    ensures nets { IfOk result (λ made. PortsAreNets made.0.design) }
-    ensures mapped { IfOk result (λ made. IsMapOf made.0.design made.1) }
-    ensures table { IfOk result (λ made. made.1.channels ≡ channels.now) }
+) -> Result<Stage, Fail>
+    ensures nets { IfOk result (λ stage. PortsAreNets stage.sim.design) }
+    ensures mapped { IfOk result (λ stage. IsMapOf stage.sim.design stage.map) }
+    ensures table { IfOk result (λ stage. stage.map.channels ≡ channels.now) }
 {
     let design = design_of(alloc, text, top)?;
-    let map = map_of(alloc, lines, &design)?;
-    if same_channels(&map.channels, channels).is_some() {
-        return Err(Fail::from("other channels"));
-    }
-    let sim = sim_of(alloc, design, &map)?;
-    Ok((sim, map))
+    let map = map_of(alloc, lines, &design, channels)?;
+    stage_of(alloc, design, map)
 }
 
 /// The register stage, which holds one content.
-pub fn pass(alloc: Global) -> Result<(Sim, Map), Fail>
-    ensures nets { IfOk result (λ made. PortsAreNets made.0.design) }
-    ensures mapped { IfOk result (λ made. IsMapOf made.0.design made.1) }
-    ensures table { IfOk result (λ made. made.1.channels ≡ stage_channels) }
+pub fn pass(alloc: Global) -> Result<Stage, Fail>
+    ensures nets { IfOk result (λ stage. PortsAreNets stage.sim.design) }
+    ensures mapped { IfOk result (λ stage. IsMapOf stage.sim.design stage.map) }
+    ensures table { IfOk result (λ stage. stage.map.channels ≡ stage_channels) }
 {
     let channels = stage_channels(alloc)?;
     made(alloc, PASS_TEXT, b"pass", PASS_MAP, &channels)
 }
 
 /// The stage that takes everything and gives nothing.
-pub fn dead(alloc: Global) -> Result<(Sim, Map), Fail>
-    ensures nets { IfOk result (λ made. PortsAreNets made.0.design) }
-    ensures mapped { IfOk result (λ made. IsMapOf made.0.design made.1) }
-    ensures table { IfOk result (λ made. made.1.channels ≡ stage_channels) }
+pub fn dead(alloc: Global) -> Result<Stage, Fail>
+    ensures nets { IfOk result (λ stage. PortsAreNets stage.sim.design) }
+    ensures mapped { IfOk result (λ stage. IsMapOf stage.sim.design stage.map) }
+    ensures table { IfOk result (λ stage. stage.map.channels ≡ stage_channels) }
 {
     let channels = stage_channels(alloc)?;
     made(alloc, DEAD_TEXT, b"dead", DEAD_MAP, &channels)
 }
 
 /// The design whose valid rises and falls whatever the ready is.
-pub fn flick(alloc: Global) -> Result<(Sim, Map), Fail>
-    ensures nets { IfOk result (λ made. PortsAreNets made.0.design) }
-    ensures mapped { IfOk result (λ made. IsMapOf made.0.design made.1) }
-    ensures table { IfOk result (λ made. made.1.channels ≡ flick_channels) }
+pub fn flick(alloc: Global) -> Result<Stage, Fail>
+    ensures nets { IfOk result (λ stage. PortsAreNets stage.sim.design) }
+    ensures mapped { IfOk result (λ stage. IsMapOf stage.sim.design stage.map) }
+    ensures table { IfOk result (λ stage. stage.map.channels ≡ flick_channels) }
 {
     let channels = flick_channels(alloc)?;
     made(alloc, FLICK_TEXT, b"f", FLICK_MAP, &channels)
