@@ -1,6 +1,8 @@
-//! Tests on trees of design texts that no text spells, so that no case has them.
+//! Tests that are no cases: trees of design texts that no text spells, and statements within one another that take much of the stack.
 #![tactic(auto)]
 
+#[cfg(test)]
+mod depth;
 #[cfg(test)]
 mod shapes;
 #[cfg(test)]
