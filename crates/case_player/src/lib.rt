@@ -23,6 +23,3 @@ pub use error::PlayError;
 pub use playing::{play_files, play_text};
 pub use program::play_program;
 pub use score::Score;
-
-#[cfg(test)]
-mod tests;

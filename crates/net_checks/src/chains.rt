@@ -1,4 +1,4 @@
-//! Orders of long chains, and of loops that share a number.
+//! Orders of small graphs and of long chains, and loops.
 
 ghost use Rattle.std.specs.Prelude.{◌<◌, ◌↔◌, IsTrue, All, length};
 ghost use Rattle.net_order.specs.Graph.{IsGraph};
@@ -6,6 +6,19 @@ ghost use Rattle.net_order.specs.Graph.{IsGraph};
 use net_order::{OrderError, sorted};
 use std::alloc::Global;
 use vidi_bits::{Items, Memory, Numbers};
+
+/// A graph of four, in which each number reads the one listed, or none where that is 4.
+fn graph(alloc: Global, reads: [usize; 4]) -> Result<Items<Items<usize>>, Memory> {
+    let mut graph = Items::new(alloc);
+    for read in reads {
+        let mut row = Items::new(alloc);
+        if read < 4 {
+            row.push(read)?;
+        }
+        graph.push(row)?;
+    }
+    Ok(graph)
+}
 
 /// A graph in which each number reads the next one, and the last reads none.
 fn chain(alloc: Global, count: usize) -> Result<Items<Items<usize>>, Memory> {
@@ -59,6 +72,25 @@ fn answer_of(alloc: Global, rows: Items<Items<usize>>) -> Result<Numbers, OrderE
     Err(OrderError::Memory)
 }
 
+fn is_order(answer: &Result<Numbers, OrderError>, expected: &[u128]) -> bool {
+    match answer {
+        Ok(order) => order.as_slice() == expected,
+        Err(_) => false,
+    }
+}
+
+fn is_loop(answer: &Result<Numbers, OrderError>, expected: &[u128]) -> bool {
+    match answer {
+        Err(OrderError::Loop { drivers }) => drivers.as_slice() == expected,
+        _ => false,
+    }
+}
+
+fn answer_of_four(alloc: Global, reads: [usize; 4]) -> Result<Numbers, OrderError> {
+    let graph = graph(alloc, reads)?;
+    answer_of(alloc, graph)
+}
+
 /// Whether numbers count down to 0.
 fn count_down(numbers: &[u128]) -> bool {
     let mut left = numbers.len();
@@ -87,6 +119,26 @@ fn is_loop_found(alloc: Global) -> Result<bool, Memory> {
         }
         _ => Ok(false),
     }
+}
+
+// Number 0 reads 1, and so on to 3, which reads none.
+#[test]
+fn a_chain_is_ordered_from_its_end(rt: HostRuntime) {
+    let answer = answer_of_four(rt.alloc(), [1, 2, 3, 4]);
+    assert!(rt; is_order(&answer, &[3, 2, 1, 0]));
+}
+
+// Number 1 reads 2, which reads 3, which reads 1; so each listed reads the one before, and 1 reads the last.
+#[test]
+fn a_loop_begins_with_its_least(rt: HostRuntime) {
+    let answer = answer_of_four(rt.alloc(), [3, 2, 3, 1]);
+    assert!(rt; is_loop(&answer, &[1, 3, 2]));
+}
+
+#[test]
+fn what_reads_itself_is_a_loop(rt: HostRuntime) {
+    let answer = answer_of_four(rt.alloc(), [4, 4, 2, 4]);
+    assert!(rt; is_loop(&answer, &[2]));
 }
 
 #[test]

@@ -1,5 +1,5 @@
-//! Tests of flat designs, which are made by hand: their settled maps, next states, bits and moves; whether they are lawful; the
-//! order of their drivers; the simulator.
+//! Tests of flat designs, which are made by hand: their settled maps, next states, bits and moves; whether they are lawful, and
+//! driven once; the order of their drivers; the simulator.
 #![tactic(auto)]
 
 #[cfg(test)]
@@ -10,6 +10,8 @@ mod build;
 mod chains;
 #[cfg(test)]
 mod clocked;
+#[cfg(test)]
+mod driven;
 #[cfg(test)]
 mod example;
 #[cfg(test)]

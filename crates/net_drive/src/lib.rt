@@ -11,6 +11,3 @@ mod targets;
 pub use drive::misdriven;
 pub use findings::{Misdriven, NetKind};
 pub use laws::{none_found_all_driven, none_found_memories_once};
-
-#[cfg(test)]
-mod tests;

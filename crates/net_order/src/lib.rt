@@ -16,6 +16,3 @@ pub use answer::{Order, OrderError};
 pub use graph::order;
 pub use laws::{one_settled_map, order_or_loop};
 pub use search::sorted;
-
-#[cfg(test)]
-mod tests;

@@ -3,3 +3,4 @@ pub mod Clocks
 pub mod Packets
 pub mod Printed
 pub mod RowLines
+mod ShortExamples

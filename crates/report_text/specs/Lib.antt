@@ -7,3 +7,4 @@ pub mod Draft
 pub mod Printing
 pub mod PrintingLaws
 pub mod Rows
+pub mod Short

@@ -53,7 +53,7 @@ fn event(what: What) -> &'static [u8]
 }
 
 /// The name of a channel; none where there is no such channel.
-fn name_of(channels: &[Channel], channel: usize) -> &[u8]
+pub(crate) fn name_of(channels: &[Channel], channel: usize) -> &[u8]
     ensures { result.now ≡ said.name_of channels.now channel }
 {
     if channel < channels.len() {

@@ -15,5 +15,7 @@ pub mod Tallying
 pub mod Totals
 pub mod Here
 pub mod Masks
+pub mod Words
+pub mod Ahead
 pub mod Walking
 pub mod Content

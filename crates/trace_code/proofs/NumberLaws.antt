@@ -21,7 +21,7 @@ use Rattle.trace_code.specs.PacketReading.{low_value, high_value, sized_at, mask
 
 -- ---- one byte more in a loop
 
-some_unit : (k : ℕ) → 0 < 256 ^ k
+pub some_unit : (k : ℕ) → 0 < 256 ^ k
 some_unit k = pow-le-pow_right {n = 256} (omega arith) {i = 0} {j = k} (omega arith)
 
 pub grows : (i v b : ℕ) → v < 256 ^ i → b < 256 → v * 256 + b < 256 ^ suc i
@@ -56,10 +56,10 @@ grows-down n i v b some within small byte =
 abbrev pub IsBytes : List ℕ → Type 0
 IsBytes bytes = (i : ℕ) → get_or bytes i 0 < 256
 
-IsBytes-drop : (n : ℕ) (bytes : List ℕ) → IsBytes bytes → IsBytes (drop n bytes)
+pub IsBytes-drop : (n : ℕ) (bytes : List ℕ) → IsBytes bytes → IsBytes (drop n bytes)
 IsBytes-drop n bytes h i = rw get_or-drop (h (n + i))
 
-IsBytes-take : (n : ℕ) (bytes : List ℕ) → IsBytes bytes → IsBytes (take n bytes)
+pub IsBytes-take : (n : ℕ) (bytes : List ℕ) → IsBytes bytes → IsBytes (take n bytes)
 IsBytes-take n bytes h i =
     elim (cases_lt i n) [
       | inl lt ↦ rw (get_or-take n bytes i 0 lt) (h i)
@@ -242,7 +242,7 @@ whole-value bytes l =
 -- ---- numbers of a size
 
 -- the bytes that hold this many bits hold each number below 2 to the power of them
-eights : (m : ℕ) → 2 ^ (8 * m) ≡ 256 ^ m
+pub eights : (m : ℕ) → 2 ^ (8 * m) ≡ 256 ^ m
 eights zero = refl
 eights (suc m) =
     let split : 8 * suc m ≡ 8 * m + 8 = omega arith in

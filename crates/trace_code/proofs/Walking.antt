@@ -281,3 +281,23 @@ packet-within t p sizes rest clock starts ends contents at r =
     let long = r.here_is.long in
     let within = contents-within t p sizes rest clock at r.here_is starts r.starts_is in
     omega (arith, long, within, length-drop m (drop m (drop 1 rest)), length-drop m (drop 1 rest), length-drop 1 rest)
+
+-- the next packet has the same masks
+pub stands-next : (t : Trace) (kind : Kind) (c j : ℕ) (sizes rest clock : List ℕ) {starts ends : ℕ} (s : StandsAt t kind c j sizes rest clock starts ends)
+    → s.place < length t.packets → (after new : List ℕ) → IsAt t (s.place + 1) sizes after new → AreMasks (length sizes) starts ends after
+    → StandsAt t kind c (j + 1) sizes after new starts ends
+stands-next t kind c j sizes rest clock {starts} {ends} s l after new at masks =
+    let here = s.next l in
+    let old = masks-read t s.place sizes rest clock starts ends _ s.at l (s.masks l) refl in
+    let named = event-is t s.place sizes rest clock starts ends _ old kind c here.0 here.1.at ∙ here.1.passes in
+    let before = behind t kind c j sizes rest clock s l in
+    record {
+      place = s.place + 1;
+      at = at;
+      before = before;
+      next = λ k.
+          (let r = masks-read t (s.place + 1) sizes after new starts ends _ at k masks refl in
+          let event = event-is t (s.place + 1) sizes after new starts ends _ r kind c r.here_is.packet r.here_is.at in
+          (r.here_is.packet, record { at = r.here_is.at; passes = sym event ∙ named; before = before }));
+      masks = λ _. masks;
+    }

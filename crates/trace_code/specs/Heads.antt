@@ -1,5 +1,5 @@
 -- The head of a packet.
-use Rattle.std.specs.Prelude.{◌≡◌, ℕ, List, take, drop, sum_by, if◌then◌else◌}
+use Rattle.std.specs.Prelude.{◌≡◌, ℕ, ◌+◌, ◌-◌, ◌*◌, ◌^◌, ◌<◌, List, take, drop, sum_by, if◌then◌else◌}
 use Rattle.std.specs.List.{enumerate_from}
 use Rattle.vidi_bits.specs.Number.{has}
 use Rattle.trace_model.specs.declared.event.Kind.{Kind}
@@ -15,6 +15,12 @@ sizes_under mask sizes = sum_by (λ (d : ℕ × ℕ). if has mask d.0 then d.1 e
 pub record AreMasks (n starts ends : ℕ) (rest : List ℕ) : Type 0 where
   pub starts_are : starts ≡ low_value (take (mask_len n) (drop 1 rest))
   pub ends_are : ends ≡ low_value (take (mask_len n) (drop (mask_len n) (drop 1 rest)))
+
+-- both masks of m bytes each as one number, and the ones that cut it out of a word
+pub record IsWord (m starts ends under both : ℕ) : Type 0 where
+  pub small : starts < 256 ^ m
+  pub under_is : under ≡ 2 ^ (16 * m) - 1
+  pub both_is : both ≡ starts + 256 ^ m * ends
 
 -- the channels that have an event of a kind
 abbrev pub mask_of : Kind → ℕ → ℕ → ℕ

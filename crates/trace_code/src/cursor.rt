@@ -41,11 +41,13 @@ pub struct Cursor<'a> {
     /// The bytes from the next event's packet on.
     rest: &'a [u8],
     /// The head of that packet.
-    head: Head<'a>,
+    head: Head,
     /// The widths of its own channel's ports in bits.
     widths: Bytes,
     /// The next event's clock.
     clock: Tally,
+    /// How many packets behind the next event's are known to have its masks.
+    same: u32,
 }
 
 impl<'a> Cursor<'a> {
@@ -84,7 +86,7 @@ impl<'a> Cursor<'a> {
         let sizes = sizes_of(alloc, channels)?;
         let widths = copied(alloc, channels[channel].widths.as_slice())?;
         let mut clock = Tally::new(alloc, channels.len())?;
-        let mut head = Head::new(sizes, rest);
+        let mut head = Head::new(sizes);
         let rest = seek(rest, &mut head, &mut clock, kind, channel);
         Ok(Cursor {
             channel,
@@ -93,6 +95,7 @@ impl<'a> Cursor<'a> {
             head,
             widths,
             clock,
+            same: 0,
         })
     }
 
@@ -136,12 +139,18 @@ impl<'a> Cursor<'a> {
         ensures over { WalksOver self.new self.old.kind self.old.channel }
     {
         let after = skip(self.rest, &self.head, &mut self.clock);
-        self.rest = seek(
-            after,
-            &mut self.head,
-            &mut self.clock,
-            self.kind,
-            self.channel,
-        );
+        if self.same > 0 {
+            self.rest = after;
+            self.same -= 1;
+        } else {
+            self.rest = seek(
+                after,
+                &mut self.head,
+                &mut self.clock,
+                self.kind,
+                self.channel,
+            );
+            self.same = self.head.count_same(self.rest);
+        }
     }
 }

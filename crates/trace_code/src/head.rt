@@ -1,30 +1,35 @@
 //! The head of a packet: its masks, and what they say of its length.
 
-ghost use Rattle.std.specs.Prelude.{◌≡◌, ◌≤◌, ◌<◌, ◌+◌, ◌*◌, ◌^◌, ℕ, length, take, drop};
+ghost use Rattle.std.specs.Prelude.{◌≡◌, IsTrue, ◌≤◌, ◌<◌, ◌+◌, ◌*◌, ◌^◌, ℕ, length, drop};
 ghost use Rattle.vidi_bits.specs.Number.{has};
 ghost use Rattle.trace_model.specs.Length.{mask_len};
-ghost use Rattle.trace_code.specs.PacketReading.{low_value};
-ghost use Rattle.trace_code.specs.Heads.{mask_of, sizes_under, AreMasks};
+ghost use Rattle.trace_code.specs.Heads.{mask_of, sizes_under, AreMasks, IsWord};
 
 use crate::number::{low_first, mask_len};
 use trace_model::{Kind, lowest, names};
+use vidi_bits::{join, ones};
 
-/// A packet's masks and the length of its contents. Where the next packet's masks are the same bytes, nothing is read anew.
+/// The most packets that are looked at ahead.
+const MOST_AHEAD: u32 = 32;
+
+/// A packet's masks and its length. Where the next packet's masks are the same, nothing is counted anew.
 #[derive(Drop)]
-pub(crate) struct Head<'a> {
+pub(crate) struct Head {
     /// The content bytes of each channel.
     pub(crate) sizes: Vec<u32>,
-    /// The bytes of both masks.
-    masks: &'a [u8],
     pub(crate) starts: u128,
     pub(crate) ends: u128,
-    /// The bytes of the contents of the channels that start.
-    pub(crate) contents: usize,
+    /// The length of the packet.
+    pub(crate) len: usize,
+    /// Ones in as many bytes as both masks have, where they have 16 at most.
+    under: u128,
+    /// Both masks as one number, the starts lowest.
+    both: u128,
+    ghost some: { 0 < length sizes.items },
     ghost few: { length sizes.items ≤ 128 },
     ghost small: { (mask : ℕ) → sizes_under mask sizes.items < 2 ^ 32 },
-    ghost starts_are: { starts ≡ low_value (take (mask_len (length sizes.items)) masks.now) },
-    ghost ends_are: { ends ≡ low_value (drop (mask_len (length sizes.items)) masks.now) },
-    ghost contents_are: { contents ≡ sizes_under starts sizes.items },
+    ghost len_is: { len ≡ 1 + 2 * mask_len (length sizes.items) + sizes_under starts sizes.items },
+    ghost word: { length sizes.items ≤ 64 → IsWord (mask_len (length sizes.items)) starts ends under both },
 }
 
 /// The sum of the sizes of the channels that start.
@@ -44,39 +49,89 @@ pub(crate) fn starts_len(sizes: &[u32], starts: u128) -> usize
     total as usize
 }
 
-impl<'a> Head<'a> {
+impl Head {
     /// A head of no packet, for channels with these content bytes.
-    pub(crate) fn new(sizes: Vec<u32>, rest: &'a [u8]) -> Head<'a>
+    pub(crate) fn new(sizes: Vec<u32>) -> Head
+        requires some { 0 < length sizes.items }
         requires few { length sizes.items ≤ 128 }
         requires small { (mask : ℕ) → sizes_under mask sizes.items < 2 ^ 32 }
         ensures { result.sizes.items ≡ sizes.items }
     {
+        let masks = mask_len(sizes.as_slice().len());
         let contents = starts_len(sizes.as_slice(), 0);
-        let (masks, _rest) = rest.split_at(0);
+        let under = if masks <= 8 {
+            ones(16 * masks as u32)
+        } else {
+            0
+        };
         Head {
             sizes,
-            masks,
             starts: 0,
             ends: 0,
-            contents,
+            len: 1 + 2 * masks + contents,
+            under,
+            both: 0,
         }
     }
 
-    /// Makes it the head of the packet at the front of the bytes.
-    pub(crate) fn turn_to(&mut self, rest: &'a [u8])
+    /// Whether one look tells that the packet at the front of the bytes has these masks.
+    fn is_of(&self, rest: &[u8]) -> bool
+        requires { 1 ≤ length rest.now }
+        ensures { IsTrue result → AreMasks (length self.now.sizes.items) self.now.starts self.now.ends rest.now }
+    {
+        if self.sizes.as_slice().len() > 64 {
+            return false;
+        }
+        match rest[1..].first_chunk::<16>() {
+            Some(word) => u128::from_le_bytes(*word) & self.under == self.both,
+            None => false,
+        }
+    }
+
+    /// Reads the masks of the packet at the front of the bytes.
+    fn read(&mut self, rest: &[u8])
         requires { 1 + 2 * mask_len (length self.old.sizes.items) ≤ length rest.now }
         ensures sizes { self.new.sizes.items ≡ self.old.sizes.items }
         ensures masks { AreMasks (length self.old.sizes.items) self.new.starts self.new.ends rest.now }
     {
         let len = mask_len(self.sizes.as_slice().len());
-        let (masks, _contents) = rest[1..].split_at(2 * len);
-        if masks != self.masks {
-            let (starts, ends) = masks.split_at(len);
-            self.masks = masks;
-            self.starts = low_first(starts);
-            self.ends = low_first(ends);
-            self.contents = starts_len(self.sizes.as_slice(), self.starts);
+        let (starts, behind) = rest[1..].split_at(len);
+        let (ends, _contents) = behind.split_at(len);
+        self.starts = low_first(starts);
+        self.ends = low_first(ends);
+        self.len = 1 + 2 * len + starts_len(self.sizes.as_slice(), self.starts);
+        if len <= 8 {
+            self.both = join(self.ends, self.starts, 8 * len as u32);
         }
+    }
+
+    /// Makes it the head of the packet at the front of the bytes.
+    pub(crate) fn turn_to(&mut self, rest: &[u8])
+        requires { 1 + 2 * mask_len (length self.old.sizes.items) ≤ length rest.now }
+        ensures sizes { self.new.sizes.items ≡ self.old.sizes.items }
+        ensures masks { AreMasks (length self.old.sizes.items) self.new.starts self.new.ends rest.now }
+    {
+        if !self.is_of(rest) {
+            self.read(rest);
+        }
+    }
+
+    /// How many packets behind the one at the front of the bytes have its masks, as far as one looks ahead.
+    pub(crate) fn count_same(&self, rest: &[u8]) -> u32
+        ensures { (i : ℕ) → i < result
+            → AreMasks (length self.now.sizes.items) self.now.starts self.now.ends (drop ((i + 1) * self.now.len) rest.now) }
+    {
+        let mut here = rest;
+        for same in 0..MOST_AHEAD {
+            if here.len() <= self.len {
+                return same;
+            }
+            here = &here[self.len..];
+            if !self.is_of(here) {
+                return same;
+            }
+        }
+        MOST_AHEAD
     }
 
     /// Whether the packet has an event of this kind on this channel.
@@ -87,12 +142,5 @@ impl<'a> Head<'a> {
             Kind::Start => names(self.starts, channel),
             Kind::End => names(self.ends, channel),
         }
-    }
-
-    /// The length of the packet.
-    pub(crate) fn packet_len(&self) -> usize
-        ensures { result ≡ 1 + 2 * mask_len (length self.now.sizes.items) + sizes_under self.now.starts self.now.sizes.items }
-    {
-        1 + 2 * mask_len(self.sizes.len()) + self.contents
     }
 }

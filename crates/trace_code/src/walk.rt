@@ -62,10 +62,11 @@ pub(crate) fn skip<'a>(rest: &'a [u8], head: &Head, tally: &mut Tally) -> &'a [u
     ensures at { (t : Trace) (p : ℕ) → IsAt t p head.now.sizes.items rest.now (tallied tally.old.clock tally.old.ends tally.old.times)
         → p < length t.packets
         → IsAt t (p + 1) head.now.sizes.items result.now (tallied tally.new.clock tally.new.ends tally.new.times) }
+    ensures behind { result.now ≡ drop head.now.len rest.now }
     ensures shorter { length result.now < length rest.now }
 {
     tally.add(head.ends);
-    let (_packet, after) = rest.split_at(head.packet_len());
+    let (_packet, after) = rest.split_at(head.len);
     after
 }
 
@@ -73,7 +74,7 @@ pub(crate) fn skip<'a>(rest: &'a [u8], head: &Head, tally: &mut Tally) -> &'a [u
 /// becomes that packet's.
 pub(crate) fn seek<'a>(
     rest: &'a [u8],
-    head: &mut Head<'a>,
+    head: &mut Head,
     tally: &mut Tally,
     kind: Kind,
     channel: usize,

@@ -1,5 +1,5 @@
-//! Tests of `trace_model` and `trace_code`, which stand apart so that these crates are proved without
-//! them.
+//! Tests of `trace_model`, `trace_store`, `vec_clock`, `trace_code` and `room_ledger`, which stand apart so that these crates are
+//! proved without them.
 #![tactic(auto)]
 
 #[cfg(test)]
@@ -7,8 +7,16 @@ mod bytes_tests;
 #[cfg(test)]
 mod changed_tests;
 #[cfg(test)]
+mod clock_tests;
+#[cfg(test)]
 mod model_tests;
+#[cfg(test)]
+mod room_tests;
 #[cfg(test)]
 mod salvage_tests;
 #[cfg(test)]
+mod store_tests;
+#[cfg(test)]
 mod text_tests;
+#[cfg(test)]
+mod walk_tests;

@@ -7,6 +7,3 @@
 mod clock;
 
 pub use clock::Clock;
-
-#[cfg(test)]
-mod tests;

@@ -21,6 +21,3 @@ pub use laws::numbers_fit;
 pub use memory::Memory;
 pub use numbers::{binary, joined, selected, times, unary};
 pub use operators::{BinaryOp, UnaryOp};
-
-#[cfg(test)]
-mod tests;

@@ -3,12 +3,12 @@ use Rattle.std.proofs.Common.{◌≡◌, ◌≢◌, ℕ, List, Option, inl, inr,
 use Rattle.vidi_io.specs.Shelf.{Files}
 use Rattle.report_text.specs.declared.reason.Word.{Word}
 use Rattle.report_text.specs.declared.reason.Reason.{Reason}
-use Rattle.report_text.specs.declared.reason.Reason.TheVariants.{TooLong, BadTrace}
+use Rattle.report_text.specs.declared.reason.Reason.TheVariants.{TooLong}
 use Rattle.vidi_commands.specs.declared.status.Status.{Status}
-use Rattle.vidi_commands.specs.declared.status.Status.TheVariants.{ReadFault, WriteFault, Refused}
+use Rattle.vidi_commands.specs.declared.status.Status.TheVariants.{Done, ReadFault, WriteFault, Refused}
 use Rattle.vidi_commands.specs.Steps.{Ending, IsSaid, IsRefusal, Step}
-use Rattle.vidi_commands.specs.Reading.{IsUnread, IsRead}
-use Rattle.vidi_commands.specs.Traces.{IsNoTrace}
+use Rattle.vidi_commands.specs.Reading.{IsUnread, IsRead, Reading}
+use Rattle.vidi_commands.proofs.Chain.{Implies}
 
 -- ---- no failed write
 abbrev pub Mute : Ending → Type 0
@@ -28,15 +28,15 @@ mute-unread limit word name files F x (inl (u, s)) = let e : WriteFault ≡ Read
 mute-unread limit word name files F x (inr (long, s)) = mute-refusal word (TooLong limit) x s
 
 pub mute-reading : (limit : ℕ) (word : Word) (name : List ℕ) (files : Option Files) (F : List ℕ → Type 0) (Next : List ℕ → Ending)
-    → ((file : List ℕ) → Mute (Next file)) → Mute (Step (IsUnread limit word name files F) (IsRead limit name files) Next)
+    → ((file : List ℕ) → Mute (Next file)) → Mute (Reading limit word name files F Next)
 mute-reading limit word name files F Next mute =
     mute-step (IsUnread limit word name files F) (IsRead limit name files) Next (mute-unread limit word name files F) mute
 
 pub mute-said : (s : Status) (t : List ℕ) → s ≢ WriteFault → Mute (IsSaid s t)
 mute-said s t other x is = other (sym is.0)
 
-pub mute-no_trace : (word : Word) (file : List ℕ) → Mute (IsNoTrace word file)
-mute-no_trace word file x (at, fault, none, s) = mute-refusal word (BadTrace at) x s
+pub done-goes : Done ≡ WriteFault → ⊥
+done-goes e = cc
 
 -- ---- where no read failed
 pub quiet-unread : (limit : ℕ) (word : Word) (name : List ℕ) (files : Option Files) (F : List ℕ → Type 0) (a : Status) (x : List ℕ)
@@ -45,8 +45,8 @@ quiet-unread limit word name files F a x quiet (inl (inl absent, s)) = inl (inl 
 quiet-unread limit word name files F a x quiet (inl (inr failed, s)) = absurd (quiet failed)
 quiet-unread limit word name files F a x quiet (inr long) = inr long
 
-pub quiet-reading : (limit : ℕ) (word : Word) (name : List ℕ) (files : Option Files) (F : List ℕ → Type 0) (Next : List ℕ → Ending)
-    (a : Status) (x : List ℕ) → ¬ F name → Step (IsUnread limit word name files F) (IsRead limit name files) Next a x
-    → Step (IsUnread limit word name files (λ _. ⊥)) (IsRead limit name files) Next a x
-quiet-reading limit word name files F Next a x quiet (inl u) = inl (quiet-unread limit word name files F a x quiet u)
-quiet-reading limit word name files F Next a x quiet (inr rest) = inr rest
+pub quiet-reading : (limit : ℕ) (word : Word) (name : List ℕ) (files : Option Files) (F : List ℕ → Type 0) (Next Then : List ℕ → Ending)
+    → ¬ F name → ((file : List ℕ) → Implies (Next file) (Then file))
+    → Implies (Reading limit word name files F Next) (Reading limit word name files (λ _. ⊥) Then)
+quiet-reading limit word name files F Next Then quiet on a x (inl u) = inl (quiet-unread limit word name files F a x quiet u)
+quiet-reading limit word name files F Next Then quiet on a x (inr (file, read, rest)) = inr (file, read, on file a x rest)

@@ -7,16 +7,16 @@ use Rattle.vidi_recorder.specs.declared.error.Outcome.{Outcome}
 use Rattle.vidi_recorder.specs.declared.error.Outcome.TheVariants as outcomes
 use Rattle.vidi_recorder.specs.Course.{Course}
 use Rattle.vidi_commands.specs.declared.answer.Answer.{Answer}
+use Rattle.vidi_commands.specs.declared.answer.Ended.{Ended}
+use Rattle.vidi_commands.specs.declared.answer.Ended.TheVariants as ends
 use Rattle.vidi_commands.specs.declared.bench.Bench.{Bench}
 use Rattle.vidi_commands.specs.declared.status.Status.{Status}
 use Rattle.vidi_commands.specs.declared.status.Status.TheVariants.{Unstable}
-use Rattle.vidi_commands.specs.declared.status.Stop.{Stop}
-use Rattle.vidi_commands.specs.declared.status.Stop.TheVariants as stops
 use Rattle.vidi_commands.specs.AnswerText.{text_of}
+use Rattle.vidi_commands.specs.Ended.{IsStopped, Owes}
 use Rattle.vidi_commands.specs.Recorded.{FileEnds, IsOutcome}
 use Rattle.vidi_commands.specs.Records.{course_of, IsCutShort, IsPlanned, Records, RecordsRun, StopsRecording}
 use Rattle.vidi_commands.specs.Said.{recorded_line, unstable_line}
-use Rattle.vidi_commands.specs.Stopping.{IsStopped}
 
 pub told-recorded : (w : Course) (files left : Option Files) (trace : List ℕ) (o : Outcome) (cycles : ℕ) (status : Status) (text : List ℕ)
     → cycles ≡ w.cycles → FileEnds w files trace left o → IsOutcome w.bound.channels cycles o status text
@@ -37,19 +37,20 @@ told-recorded w files left trace (outcomes.Unstable channel cycle packets) cycle
   (said.0 ∙ ap (λ (n : ℕ). Unstable channel n) is, said.1 ∙ ap (λ (n : ℕ). unstable_line w.bound.channels channel n) is),
 )
 
-pub recorded-on : {E : Type 0} (design map script stalls trace : List ℕ) (files now left : Option Files) (F : List ℕ → Type 0) (b : Bench)
-    (plan : Stalls) (r : Result Answer E) → now ≡ files → IsPlanned design map script stalls files b plan
+-- what is owed for a recording that was planned
+pub recorded-owed : (design map script stalls trace : List ℕ) (files now left : Option Files) (F : List ℕ → Type 0) (b : Bench)
+    (plan : Stalls) (V W : Type 0) (r : Result Answer Ended) → now ≡ files → IsPlanned design map script stalls files b plan → (V → W)
     → IfOk r (λ a. RecordsRun (course_of b plan) trace now a.status (text_of a.text) left)
-    → IfOk r (λ a. Records design map script stalls trace files F a.status (text_of a.text) left)
-recorded-on design map script stalls trace files now left F b plan (Ok a) same planned run =
-    inr (b, plan, planned, subst (λ (fs : Option Files). RecordsRun (course_of b plan) trace fs a.status (text_of a.text) left) same run)
-recorded-on design map script stalls trace files now left F b plan (Err e) same planned run = tt
-
-pub stopped-on : {X : Type 0} (design map script stalls trace : List ℕ) (files now left : Option Files) (b : Bench) (plan : Stalls)
-    (V W : Type 0) (r : Result X Stop) → now ≡ files → IsPlanned design map script stalls files b plan → (V → W)
     → IfErr r (IsStopped (IsCutShort (course_of b plan) now trace) V now left)
-    → IfErr r (IsStopped (StopsRecording design map script stalls trace files) W files left)
-stopped-on design map script stalls trace files now left b plan V W (Ok x) same planned why stopped = tt
-stopped-on design map script stalls trace files now left b plan V W (Err stops.WriteFault) same planned why (failed, cut) =
+    → Owes (Records design map script stalls trace files F) (StopsRecording design map script stalls trace files) W files left r
+recorded-owed design map script stalls trace files now left F b plan V W (Ok a) same planned why run stopped =
+    inr (b, plan, planned, subst (λ (fs : Option Files). RecordsRun (course_of b plan) trace fs a.status (text_of a.text) left) same run)
+recorded-owed design map script stalls trace files now left F b plan V W (Err (ends.Refused a)) same planned why run stopped = absurd stopped
+recorded-owed design map script stalls trace files now left F b plan V W (Err ends.WriteFault) same planned why run (failed, cut) =
     (why failed, (b, plan, planned, subst (λ (fs : Option Files). IsCutShort (course_of b plan) fs trace left) same cut))
-stopped-on design map script stalls trace files now left b plan V W (Err stops.Memory) same planned why kept = kept ∙ same
+recorded-owed design map script stalls trace files now left F b plan V W (Err ends.Memory) same planned why run kept = kept ∙ same
+
+-- at what a design, a script and a number of cycles are
+pub at-these : {D S : Type 0} (P : D → S → ℕ → Type 0) (d e : D) (s t : S) (n k : ℕ) → d ≡ e → s ≡ t → n ≡ k → P d s n → P e t k
+at-these {D} {S} P d e s t n k p q r is =
+    subst (λ (m : ℕ). P e t m) r (subst (λ (u : S). P e u n) q (subst (λ (f : D). P f s n) p is))

@@ -6,16 +6,8 @@ use Rattle.vidi_commands.specs.declared.status.Status.{Status}
 use Rattle.vidi_commands.specs.declared.status.Status.TheVariants.{Done, Usage, ReadFault, WriteFault, Refused, Unstable, Diverged, Memory}
 use Rattle.vidi_commands.specs.Command.{Command, Dump, Check, Run, Record, Compare, Salvage}
 use Rattle.vidi_commands.specs.Answer.{Does, Earns, Answers, Says}
-use Rattle.vidi_commands.specs.Design.{text_limit, CheckedText}
-use Rattle.vidi_commands.specs.Traces.{trace_limit, DumpedFile}
-use Rattle.report_text.specs.declared.reason.Word.TheVariants as words
-use Rattle.vidi_commands.proofs.Quiet.{quiet-reading}
-use Rattle.vidi_commands.proofs.QuietDump.{mute-dumps}
-use Rattle.vidi_commands.proofs.QuietCheck.{mute-checks}
-use Rattle.vidi_commands.proofs.QuietRun.{mute-runs, quiet-runs}
-use Rattle.vidi_commands.proofs.QuietRecord.{mute-records, quiet-records}
-use Rattle.vidi_commands.proofs.QuietCompare.{mute-compares, quiet-compares}
-use Rattle.vidi_commands.proofs.QuietSalvage.{mute-saves, quiet-saves}
+use Rattle.vidi_commands.proofs.QuietTraces.{mute-dumps, mute-compares, mute-saves, quiet-dumps, quiet-compares, quiet-saves}
+use Rattle.vidi_commands.proofs.QuietTexts.{mute-checks, mute-runs, mute-records, quiet-checks, quiet-runs, quiet-records}
 
 does-writing : (c : Command) (files : Option Files) (F : List ℕ → Type 0) (text : List ℕ) (left : Option Files)
     → Does c files F WriteFault text left → ⊥
@@ -59,14 +51,14 @@ said words files F S W V old new left status text result earned why (inr (fault,
 quiet_does : (c : Command) (files : Option Files) (F : List ℕ → Type 0) (status : Status) (text : List ℕ) (left : Option Files)
     → ((name : List ℕ) → ¬ F name) → Does c files F status text left → Does c files (λ _. ⊥) status text left
 quiet_does (Dump trace) files F status text left quiet (d, same) =
-    (quiet-reading trace_limit words.Trace trace files F DumpedFile status text (quiet trace) d, same)
+    (quiet-dumps trace files F quiet status text d, same)
 quiet_does (Check design top) files F status text left quiet (d, same) =
-    (quiet-reading text_limit words.Design design files F (CheckedText top) status text (quiet design) d, same)
+    (quiet-checks design top files F quiet status text d, same)
 quiet_does (Run design map script) files F status text left quiet (d, same) =
-    (quiet-runs design map script files F status text quiet d, same)
+    (quiet-runs design map script files F quiet status text d, same)
 quiet_does (Record design map script stalls trace) files F status text left quiet d =
     quiet-records design map script stalls trace files F status text left quiet d
-quiet_does (Compare trace other) files F status text left quiet (d, same) = (quiet-compares trace other files F status text quiet d, same)
+quiet_does (Compare trace other) files F status text left quiet (d, same) = (quiet-compares trace other files F quiet status text d, same)
 quiet_does (Salvage trace out) files F status text left quiet d = quiet-saves trace out files F status text left quiet d
 
 quiet_earns : (words : List (List ℕ)) (files : Option Files) (F : List ℕ → Type 0) (status : Status) (text : List ℕ) (left : Option Files)

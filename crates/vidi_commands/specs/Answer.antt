@@ -8,7 +8,7 @@ use Rattle.vidi_commands.specs.declared.status.Status.TheVariants.{Usage, WriteF
 use Rattle.vidi_commands.specs.Command.{Command, Dump, Check, Run, Record, Compare, Salvage, IsGiven}
 use Rattle.vidi_commands.specs.Steps.{IsSaid}
 use Rattle.vidi_commands.specs.Traces.{Dumps, Compares, Saves, StopsSaving}
-use Rattle.vidi_commands.specs.Design.{Checks}
+use Rattle.vidi_commands.specs.Checks.{Checks}
 use Rattle.vidi_commands.specs.Runs.{Runs}
 use Rattle.vidi_commands.specs.Records.{Records, StopsRecording}
 use Rattle.vidi_commands.specs.Said.{usage_line, memory_line}

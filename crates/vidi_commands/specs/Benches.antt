@@ -1,7 +1,6 @@
 -- What the texts of a design, a map and a script say together, or the first reason for which they are refused.
-use Rattle.std.specs.Prelude.{◌≡◌, ℕ, ◌⊎◌, List, Option, None, Some, Ok, Err}
-use Rattle.vlog_lex.specs.declared.token.Token.{Token}
-use Rattle.vlog_lex.specs.Reading.{HasTokens}
+use Rattle.std.specs.Prelude.{◌≡◌, ℕ, ◌≤◌, List, Option, None, Some, Ok, Err, length}
+use Rattle.vidi_io.specs.Shelf.{Files}
 use Rattle.vlog_tree.specs.Tree.{FileOf}
 use Rattle.trace_model.specs.Channel.{IsTable}
 use Rattle.net_design.specs.declared.design.Design.{Design}
@@ -27,11 +26,10 @@ use Rattle.report_text.specs.declared.reason.Word.TheVariants as words
 use Rattle.report_text.specs.declared.reason.Reason.{Reason}
 use Rattle.report_text.specs.declared.reason.Reason.TheVariants as reasons
 use Rattle.vidi_commands.specs.declared.bench.Bench.{Bench}
-use Rattle.vidi_commands.specs.declared.bench.Unready.{Unready}
-use Rattle.vidi_commands.specs.declared.bench.Unready.TheVariants.{Refused, Memory}
-use Rattle.vidi_commands.specs.AnswerText.{text_of}
+use Rattle.vidi_commands.specs.declared.bench.Texts.{Texts}
 use Rattle.vidi_commands.specs.Steps.{Ending, IsRefusal, Step}
-use Rattle.vidi_commands.specs.Design.{IsNoWord, IsTooDeep, IsNoFile, IsFile, IsRefusedFile, IsAccepted, IsLooped}
+use Rattle.vidi_commands.specs.Design.{text_limit, Building, IsAccepted, Spelling, Spells}
+use Rattle.vidi_commands.specs.Reading.{Reading}
 
 -- ---- the reasons M1 to M4 of a map, and S1 to S3 of a script
 
@@ -75,33 +73,30 @@ abbrev pub IsNoScript : List ℕ → Map → Ending
 IsNoScript bytes map status said =
     (error : ScriptError) × ReadsScript map.channels (read_lines bytes) (Err error) × IsScriptRefusal error status said
 
--- E1, E14 and E2
-abbrev pub IsNoTree : List Token → Ending
-IsNoTree tokens status said = IsTooDeep tokens status said ⊎ IsNoFile tokens status said
+-- ---- the files, in the order of the words, and what comes of their texts
+abbrev pub ReadTexts : List ℕ → List ℕ → List ℕ → Option Files → (List ℕ → Type 0) → (List ℕ → List ℕ → List ℕ → Ending) → Ending
+ReadTexts design map script files ReadFailed Next =
+    Reading text_limit words.Design design files ReadFailed (λ d.
+    Reading text_limit words.Map map files ReadFailed (λ m.
+    Reading text_limit words.Script script files ReadFailed (Next d m)))
 
-abbrev pub IsNoText : List ℕ → Ending
-IsNoText design = Step (IsNoWord design) (HasTokens design) IsNoTree
-
--- the text spells the file, lines included, and no limit is passed
-abbrev pub Spells : List ℕ → FileOf ℕ → Type 0
-Spells design f = (tokens : List Token) × HasTokens design tokens × IsFile tokens f
+-- no text is longer than its limit
+pub record AreWithin (texts : Texts) : Type 0 where
+  pub design : length texts.design ≤ text_limit
+  pub map : length texts.map ≤ text_limit
+  pub script : length texts.script ≤ text_limit
 
 -- ---- the first reason of the three texts, in the order of the steps
 
 abbrev pub RefusedBound : MapText → List ℕ → Design → Ending
 RefusedBound text script d = Step (IsUnbound text d) (λ map. BindsMap text d (Ok map)) (IsNoScript script)
 
-abbrev pub RefusedDesign : MapText → List ℕ → Design → Ending
-RefusedDesign text script d = Step (IsLooped d) (IsOrder d) (λ _. RefusedBound text script d)
-
-abbrev pub RefusedFile : FileOf ℕ → List ℕ → MapText → Ending
-RefusedFile f script text = Step (IsRefusedFile text.top f) (IsAccepted text.top f) (RefusedDesign text script)
-
 abbrev pub RefusedMap : List ℕ → List ℕ → FileOf ℕ → Ending
-RefusedMap map script f = Step (IsNoMap map) (λ text. ReadsMap map (Ok text)) (RefusedFile f script)
+RefusedMap map script f =
+    Step (IsNoMap map) (λ text. ReadsMap map (Ok text)) (λ text. Building text.top f (RefusedBound text script))
 
 abbrev pub RefusedTexts : List ℕ → List ℕ → List ℕ → Ending
-RefusedTexts design map script = Step (IsNoText design) (Spells design) (RefusedMap map script)
+RefusedTexts design map script = Spelling design (RefusedMap map script)
 
 -- ---- what the three texts say where none is refused
 
@@ -123,8 +118,3 @@ pub record IsPlayable (b : Bench) : Type 0 where
   pub mapped : IsMapOf b.design b.map
   pub table : IsTable b.map.channels
   pub fits : FitsChannels b.map.channels b.script
-
--- what was wanted wasn't made: one of these answers is given, or memory was wanting
-abbrev pub IsUnready : Ending → Unready → Type 0
-IsUnready Ends (Refused answer) = Ends answer.status (text_of answer.text)
-IsUnready Ends Memory = Unit {0}

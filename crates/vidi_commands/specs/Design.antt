@@ -1,4 +1,4 @@
--- `check DESIGN TOP`: each step in its order (this project's profile).
+-- What a design's text says, or the first reason for which it is refused (this project's profile).
 use Rattle.std.specs.Prelude.{◌≡◌, ℕ, ◌⊎◌, List, Option, None, Some, map, slice_get}
 use Rattle.vlog_lex.specs.declared.token.Token.{Token}
 use Rattle.vlog_lex.specs.Reading.{HasTokens, IsStuckOn}
@@ -14,18 +14,14 @@ use Rattle.vlog_elab.specs.declared.error.ElabError.TheVariants as errors
 use Rattle.net_design.specs.declared.design.Design.{Design}
 use Rattle.net_design.specs.declared.design.Driver.{Driver}
 use Rattle.net_order.specs.Order.{IsOrder, IsLoop}
-use Rattle.vlog_design.specs.Design.{IsDesignOf, file_counts}
+use Rattle.vlog_design.specs.Design.{IsDesignOf}
 use Rattle.vlog_design.specs.Reasons.{Clear, Refused}
-use Rattle.vidi_io.specs.Shelf.{Files}
 use Rattle.report_text.specs.declared.reason.Big.{Big}
 use Rattle.report_text.specs.declared.reason.Big.TheVariants.{Instances, Nets, Words}
 use Rattle.report_text.specs.declared.reason.Word.TheVariants as words
 use Rattle.report_text.specs.declared.reason.Reason.{Reason}
 use Rattle.report_text.specs.declared.reason.Reason.TheVariants as reasons
-use Rattle.vidi_commands.specs.declared.status.Status.TheVariants.{Done}
-use Rattle.vidi_commands.specs.Steps.{Ending, IsSaid, IsRefusal, Step}
-use Rattle.vidi_commands.specs.Reading.{IsRead, IsUnread}
-use Rattle.vidi_commands.specs.Said.{check_text}
+use Rattle.vidi_commands.specs.Steps.{Ending, IsRefusal, Step}
 
 -- the longest design text, in bytes
 abbrev pub text_limit : ℕ
@@ -47,6 +43,17 @@ IsNoFile tokens status said = (line : ℕ) × IsItemLine (all_marked tokens) lin
 -- the tokens spell the file, lines included, and no limit is passed
 abbrev pub IsFile : List Token → FileOf ℕ → Type 0
 IsFile tokens f = IsShallow (all_marked tokens) × IsLinedFileOf tokens f
+
+-- E1, E14 and E2
+abbrev pub IsNoTree : List Token → Ending
+IsNoTree tokens status said = IsTooDeep tokens status said ⊎ IsNoFile tokens status said
+
+abbrev pub IsNoText : List ℕ → Ending
+IsNoText text = Step (IsNoWord text) (HasTokens text) IsNoTree
+
+-- the text spells the file, lines included, and no limit is passed
+abbrev pub Spells : List ℕ → FileOf ℕ → Type 0
+Spells text f = (tokens : List Token) × HasTokens text tokens × IsFile tokens f
 
 -- ---- the reasons E3 to E9 and E11 to E13
 abbrev pub big_of : Limit → Big
@@ -91,20 +98,10 @@ line_of drivers i = line_in (slice_get drivers i)
 abbrev pub IsLooped : Design → Ending
 IsLooped d status said = (loop : List ℕ) × IsLoop d loop × IsRefusal words.Design (reasons.Loop (map (line_of d.drivers) loop)) status said
 
--- ---- the design, the file, its tokens, its text
-abbrev pub CheckedDesign : List ℕ → FileOf ℕ → Design → Ending
-CheckedDesign top f d = Step (IsLooped d) (IsOrder d) (λ _. IsSaid Done (check_text f (file_counts f top)))
+-- the text spells a tree, and this comes of it
+abbrev pub Spelling : List ℕ → (FileOf ℕ → Ending) → Ending
+Spelling text Next = Step (IsNoText text) (Spells text) Next
 
-abbrev pub CheckedFile : List ℕ → FileOf ℕ → Ending
-CheckedFile top f = Step (IsRefusedFile top f) (IsAccepted top f) (CheckedDesign top f)
-
-abbrev pub CheckedTokens : List ℕ → List Token → Ending
-CheckedTokens top tokens = Step (λ status said. IsTooDeep tokens status said ⊎ IsNoFile tokens status said) (IsFile tokens)
-    (CheckedFile top)
-
-abbrev pub CheckedText : List ℕ → List ℕ → Ending
-CheckedText top text = Step (IsNoWord text) (HasTokens text) (CheckedTokens top)
-
-abbrev pub Checks : List ℕ → List ℕ → Option Files → (List ℕ → Type 0) → Ending
-Checks design top files ReadFailed = Step (IsUnread text_limit words.Design design files ReadFailed) (IsRead text_limit design files)
-    (CheckedText top)
+-- the tree and the top have a design with an order of its drivers, and this comes of it
+abbrev pub Building : List ℕ → FileOf ℕ → (Design → Ending) → Ending
+Building top f Next = Step (IsRefusedFile top f) (IsAccepted top f) (λ d. Step (IsLooped d) (IsOrder d) (λ _. Next d))

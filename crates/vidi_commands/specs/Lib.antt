@@ -1,8 +1,10 @@
 pub mod Answer
 pub mod AnswerText
 pub mod Benches
+pub mod Checks
 pub mod Command
 pub mod Design
+pub mod Ended
 pub mod Recorded
 pub mod Records
 pub mod Runs
@@ -10,6 +12,5 @@ pub mod Exit
 pub mod Reading
 pub mod Said
 pub mod Steps
-pub mod Stopping
 pub mod Traces
 pub mod Unfetched

@@ -6,7 +6,7 @@ use Rattle.report_text.specs.declared.reason.Word.{Word}
 use Rattle.report_text.specs.declared.reason.Reason.TheVariants.{TooLong}
 use Rattle.report_text.specs.Reason.{read_fault_line}
 use Rattle.vidi_commands.specs.declared.status.Status.TheVariants.{ReadFault}
-use Rattle.vidi_commands.specs.Steps.{Ending, IsSaid, IsRefusal}
+use Rattle.vidi_commands.specs.Steps.{Ending, IsSaid, IsRefusal, Step}
 
 -- where the shelf tells its files: the file of this name is there, and P holds of its bytes
 abbrev pub Told : Option Files → List ℕ → (List ℕ → Type 0) → Type 0
@@ -24,3 +24,7 @@ IsUnread limit word name files ReadFailed status text =
 
 abbrev pub IsRead : ℕ → List ℕ → Option Files → List ℕ → Type 0
 IsRead limit name files file = Told files name (λ told. told ≡ file) × (length file ≤ limit)
+
+-- the file is read, and this comes of its bytes
+abbrev pub Reading : ℕ → Word → List ℕ → Option Files → (List ℕ → Type 0) → (List ℕ → Ending) → Ending
+Reading limit word name files ReadFailed Next = Step (IsUnread limit word name files ReadFailed) (IsRead limit name files) Next

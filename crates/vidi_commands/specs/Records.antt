@@ -19,9 +19,9 @@ use Rattle.vidi_commands.specs.declared.bench.Bench.{Bench}
 use Rattle.vidi_commands.specs.declared.status.Status.{Status}
 use Rattle.vidi_commands.specs.declared.status.Status.TheVariants.{Done, Unstable}
 use Rattle.vidi_commands.specs.Steps.{Ending, IsSaid, IsRefusal, Step}
-use Rattle.vidi_commands.specs.Reading.{IsRead, IsUnread}
+use Rattle.vidi_commands.specs.Reading.{IsRead, Reading}
 use Rattle.vidi_commands.specs.Design.{text_limit}
-use Rattle.vidi_commands.specs.Benches.{RefusedTexts, IsBench}
+use Rattle.vidi_commands.specs.Benches.{ReadTexts, RefusedTexts, IsBench}
 use Rattle.vidi_commands.specs.Said.{recorded_line, unstable_line}
 
 -- ---- what ends the command before anything is recorded
@@ -43,22 +43,10 @@ RefusedPlan stalls b = Step (IsNoPlan stalls) (λ plan. ReadsStalls (read_lines 
 abbrev pub RefusedPlanned : List ℕ → List ℕ → List ℕ → List ℕ → Ending
 RefusedPlanned design map script stalls = Step (RefusedTexts design map script) (IsBench design map script) (RefusedPlan stalls)
 
--- the files, in the order of the words
-abbrev pub StallsUnrecorded : List ℕ → Option Files → (List ℕ → Type 0) → List ℕ → List ℕ → List ℕ → Ending
-StallsUnrecorded stalls files ReadFailed design map script = Step (IsUnread text_limit words.Stalls stalls files ReadFailed)
-    (IsRead text_limit stalls files) (RefusedPlanned design map script)
-
-abbrev pub ScriptUnrecorded : List ℕ → List ℕ → Option Files → (List ℕ → Type 0) → List ℕ → List ℕ → Ending
-ScriptUnrecorded script stalls files ReadFailed design map = Step (IsUnread text_limit words.Script script files ReadFailed)
-    (IsRead text_limit script files) (StallsUnrecorded stalls files ReadFailed design map)
-
-abbrev pub MapUnrecorded : List ℕ → List ℕ → List ℕ → Option Files → (List ℕ → Type 0) → List ℕ → Ending
-MapUnrecorded map script stalls files ReadFailed design = Step (IsUnread text_limit words.Map map files ReadFailed)
-    (IsRead text_limit map files) (ScriptUnrecorded script stalls files ReadFailed design)
-
+-- four files, in the order of the words
 abbrev pub IsUnrecorded : List ℕ → List ℕ → List ℕ → List ℕ → Option Files → (List ℕ → Type 0) → Ending
-IsUnrecorded design map script stalls files ReadFailed = Step (IsUnread text_limit words.Design design files ReadFailed)
-    (IsRead text_limit design files) (MapUnrecorded map script stalls files ReadFailed)
+IsUnrecorded design map script stalls files ReadFailed = ReadTexts design map script files ReadFailed
+    (λ d m s. Reading text_limit words.Stalls stalls files ReadFailed (RefusedPlanned d m s))
 
 -- ---- what is recorded
 

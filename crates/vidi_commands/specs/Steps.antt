@@ -19,3 +19,7 @@ IsRefusal word reason = IsSaid (Refused word reason) (reason_line word reason)
 
 abbrev pub Step : {X : Type 0} → Ending → (X → Type 0) → (X → Ending) → Ending
 Step {X} Ends Gives Next status text = Ends status text ⊎ ((x : X) × Gives x × Next x status text)
+
+-- what never ends a command
+abbrev pub Never : Ending
+Never status text = ⊥

@@ -14,7 +14,7 @@ use Rattle.trace_code.specs.declared.decoding.TheConstants.{TRACE_LIMIT}
 use Rattle.vidi_commands.specs.declared.status.Status.{Status}
 use Rattle.vidi_commands.specs.declared.status.Status.TheVariants.{Done, Diverged}
 use Rattle.vidi_commands.specs.Said.{dump_text, no_divergence_line, diverged_text, salvaged_line}
-use Rattle.vidi_commands.specs.Reading.{IsRead, IsUnread}
+use Rattle.vidi_commands.specs.Reading.{IsRead, Reading}
 use Rattle.vidi_commands.specs.Steps.{Ending, IsSaid, IsRefusal, Step}
 
 -- the longest trace file, in bytes
@@ -26,12 +26,14 @@ abbrev pub IsNoTrace : Word → List ℕ → Ending
 IsNoTrace word file status text =
     (at : ℕ) × IsFaultAt file at × ((t : Trace) → ¬ Encodes t file) × IsRefusal word (BadTrace at) status text
 
--- ---- `dump TRACE`
-abbrev pub DumpedFile : List ℕ → Ending
-DumpedFile file = Step (IsNoTrace words.Trace file) (λ t. Encodes t file) (λ t. IsSaid Done (dump_text t))
+-- the bytes of this word's file encode a trace, and this comes of it
+abbrev pub Decoding : Word → List ℕ → (Trace → Ending) → Ending
+Decoding word file Next = Step (IsNoTrace word file) (λ t. Encodes t file) Next
 
+-- ---- `dump TRACE`
 abbrev pub Dumps : List ℕ → Option Files → (List ℕ → Type 0) → Ending
-Dumps trace files ReadFailed = Step (IsUnread trace_limit words.Trace trace files ReadFailed) (IsRead trace_limit trace files) DumpedFile
+Dumps trace files ReadFailed = Reading trace_limit words.Trace trace files ReadFailed
+    (λ file. Decoding words.Trace file (λ t. IsSaid Done (dump_text t)))
 
 -- ---- `compare TRACE OTHER`
 -- the channels of the second trace are others, first at this place
@@ -46,19 +48,14 @@ IsVerdict t u status text = ((findings t u ≡ []) × IsSaid Done no_divergence_
 abbrev pub Compared : Trace → Trace → Ending
 Compared t u status text = HasOtherChannels t u status text ⊎ ((t.channels ≡ u.channels) × IsVerdict t u status text)
 
-abbrev pub ComparedWith : List ℕ → Trace → Ending
-ComparedWith second t = Step (IsNoTrace words.Other second) (λ u. Encodes u second) (Compared t)
-
+-- the bytes of two files
 abbrev pub ComparedFiles : List ℕ → List ℕ → Ending
-ComparedFiles first second = Step (IsNoTrace words.Trace first) (λ t. Encodes t first) (ComparedWith second)
-
-abbrev pub ComparedTo : List ℕ → Option Files → (List ℕ → Type 0) → List ℕ → Ending
-ComparedTo other files ReadFailed first = Step (IsUnread trace_limit words.Other other files ReadFailed)
-    (IsRead trace_limit other files) (ComparedFiles first)
+ComparedFiles first second = Decoding words.Trace first (λ t. Decoding words.Other second (Compared t))
 
 abbrev pub Compares : List ℕ → List ℕ → Option Files → (List ℕ → Type 0) → Ending
-Compares trace other files ReadFailed = Step (IsUnread trace_limit words.Trace trace files ReadFailed) (IsRead trace_limit trace files)
-    (ComparedTo other files ReadFailed)
+Compares trace other files ReadFailed =
+    Reading trace_limit words.Trace trace files ReadFailed (λ first.
+    Reading trace_limit words.Other other files ReadFailed (ComparedFiles first))
 
 -- ---- `salvage TRACE OUT`
 abbrev pub IsHeaderless : List ℕ → Ending
@@ -66,8 +63,7 @@ IsHeaderless file status text = HasNoHeader file × IsRefusal words.Trace (BadTr
 
 -- the file isn't read, or no lawful header begins it
 abbrev pub IsUnsaved : List ℕ → Option Files → (List ℕ → Type 0) → Ending
-IsUnsaved trace files ReadFailed status text = IsUnread trace_limit words.Trace trace files ReadFailed status text
-    ⊎ ((file : List ℕ) × IsRead trace_limit trace files file × IsHeaderless file status text)
+IsUnsaved trace files ReadFailed = Reading trace_limit words.Trace trace files ReadFailed IsHeaderless
 
 -- t is what is whole of the file
 abbrev pub IsWhole : List ℕ → Option Files → Trace → Type 0

@@ -1,4 +1,4 @@
-//! Answers: a status, and the text that is said with it.
+//! Answers: a status, and the text that is said with it; and what ends a command before its answer.
 
 ghost use Rattle.std.specs.Prelude.{◌≡◌, OnOk, OnErr, IfOk};
 ghost use Rattle.std.specs.Io.KnownBytes.{append_known};
@@ -6,13 +6,12 @@ ghost use Rattle.vidi_io.specs.Cause.{HasCause};
 ghost use Rattle.vidi_io.specs.Sink.{AppendsSome, Frame};
 ghost use Rattle.vidi_commands.specs.AnswerText.{text_of};
 ghost use Rattle.vidi_commands.specs.Said as said;
-ghost use Rattle.vidi_commands.specs.Unfetched.{IsUnfetched};
 
 use crate::status::{Reason, Status, Word};
-use report_text::{Pad, RunLines, TraceLines, read_fault_line, reason_line};
+use report_text::{Pad, RunLines, TraceLines, reason_line};
 use std::alloc::Global;
 use vidi_bits::{Bytes, Memory};
-use vidi_io::{Failed, ReadError, Sink};
+use vidi_io::{Failed, Sink};
 
 /// A text that is still to be said, with all memory that saying it takes.
 #[derive(Drop)]
@@ -32,6 +31,27 @@ pub enum AnswerText {
 pub struct Answer {
     pub status: Status,
     pub text: AnswerText,
+}
+
+/// What ends a command before its answer.
+#[derive(Drop)]
+pub enum Ended {
+    /// This is answered in its place.
+    Refused(Answer),
+    /// A write of its file failed.
+    WriteFault,
+    /// No memory was found.
+    Memory,
+}
+
+impl From<Memory> for Ended {
+    ghost use Rattle.vidi_commands.specs.declared.answer.Ended.TheVariants as ends;
+
+    ghost from_gives = { λ _ e. e ≡ ends.Memory };
+
+    fn from(_error: Memory) -> Ended {
+        Ended::Memory
+    }
 }
 
 impl AnswerText {
@@ -69,24 +89,6 @@ pub fn usage(alloc: Global) -> Result<Answer, Memory>
 {
     let text = Vec::from_slice(alloc, b"vidi: usage\n")?;
     Ok(with_bytes(Status::Usage, Bytes::from_vec(text)))
-}
-
-/// The answer for a file that `read_whole` didn't give.
-pub fn unread(alloc: Global, word: Word, error: ReadError) -> Result<Answer, Memory>
-    ensures { IfOk result (λ a. IsUnfetched word error a.status (text_of a.text)) }
-{
-    match error {
-        ReadError::Missing | ReadError::Failed => read_fault(alloc, word),
-        ReadError::TooLong { limit } => refused(alloc, word, Reason::TooLong { limit }),
-        ReadError::Memory => Err(Memory),
-    }
-}
-
-fn read_fault(alloc: Global, word: Word) -> Result<Answer, Memory>
-    ensures { IfOk result (λ a. (a.status ≡ Status.ReadFault word) × (text_of a.text ≡ said.read_fault_line word)) }
-{
-    let line = read_fault_line(alloc, word)?;
-    Ok(with_bytes(Status::ReadFault { word }, line))
 }
 
 /// The answer for a file that isn't accepted.

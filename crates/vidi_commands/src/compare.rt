@@ -6,19 +6,22 @@ ghost use Rattle.trace_compare.specs.Findings.{findings};
 ghost use Rattle.vidi_io.specs.Cause.{Rose};
 ghost use Rattle.vidi_io.specs.Shelf.{Later};
 ghost use Rattle.vidi_commands.specs.AnswerText.{text_of};
+ghost use Rattle.vidi_commands.specs.Ended.{IsAnswered};
 ghost use Rattle.vidi_commands.specs.Said as said;
 ghost use Rattle.vidi_commands.specs.Steps.{IsSaid};
-ghost use Rattle.vidi_commands.specs.Traces.{Compared, ComparedFiles, ComparedWith, Compares, IsVerdict};
+ghost use Rattle.vidi_commands.specs.Traces.{Compared, ComparedFiles, Compares, IsVerdict};
 
-use crate::answer::{Answer, refused, unread, with_bytes};
+use crate::answer::{Answer, Ended, refused, with_bytes};
+use crate::dump::trace_of;
+use crate::read::read_file;
 use crate::status::{Reason, Status, Word};
 use report_text::{put, report_lines};
 use std::alloc::Global;
-use trace_code::{CodeError, TRACE_LIMIT, decode};
+use trace_code::TRACE_LIMIT;
 use trace_compare::Report;
 use trace_model::{Channels, Trace, same_channels};
 use vidi_bits::{Bytes, Memory};
-use vidi_io::{Shelf, read_whole};
+use vidi_io::Shelf;
 
 /// What `compare` is answered.
 pub fn compare<S: Shelf>(
@@ -26,42 +29,24 @@ pub fn compare<S: Shelf>(
     trace: &str,
     other: &str,
     shelf: &mut S,
-) -> Result<Answer, Memory>
-    ensures earned { IfOk result (λ a. Compares trace.now other.now (S.files shelf.old)
-        (λ name. Rose (S.read_faults shelf.old name) (S.read_faults shelf.new name)) a.status (text_of a.text)) }
+) -> Result<Answer, Ended>
+    ensures answered { IsAnswered (Compares trace.now other.now (S.files shelf.old)
+        (λ name. Rose (S.read_faults shelf.old name) (S.read_faults shelf.new name))) result }
     ensures files { S.files shelf.new ≡ S.files shelf.old }
     ensures counts { Later (S.read_faults shelf.old) (S.read_faults shelf.new) (S.write_faults shelf.old) (S.write_faults shelf.new) }
 {
-    let first = match read_whole(alloc, shelf, trace, TRACE_LIMIT) {
-        Ok(bytes) => bytes,
-        Err(error) => return unread(alloc, Word::Trace, error),
-    };
-    let second = match read_whole(alloc, shelf, other, TRACE_LIMIT) {
-        Ok(bytes) => bytes,
-        Err(error) => return unread(alloc, Word::Other, error),
-    };
+    let first = read_file(alloc, Word::Trace, trace, TRACE_LIMIT, shelf)?;
+    let second = read_file(alloc, Word::Other, other, TRACE_LIMIT, shelf)?;
     compared_files(alloc, first.as_slice(), second.as_slice())
 }
 
-fn compared_files(alloc: Global, first: &[u8], second: &[u8]) -> Result<Answer, Memory>
-    ensures { IfOk result (λ a. ComparedFiles first.now second.now a.status (text_of a.text)) }
+/// What is answered of the bytes of two files.
+fn compared_files(alloc: Global, first: &[u8], second: &[u8]) -> Result<Answer, Ended>
+    ensures { IsAnswered (ComparedFiles first.now second.now) result }
 {
-    match decode(alloc, first) {
-        Ok(trace) => compared_with(alloc, &trace, second),
-        Err(CodeError::BadTrace { at }) => refused(alloc, Word::Trace, Reason::BadTrace { at }),
-        Err(CodeError::Memory) => Err(Memory),
-    }
-}
-
-fn compared_with(alloc: Global, trace: &Trace, second: &[u8]) -> Result<Answer, Memory>
-    requires { HasEncoding trace.now }
-    ensures { IfOk result (λ a. ComparedWith second.now trace.now a.status (text_of a.text)) }
-{
-    match decode(alloc, second) {
-        Ok(other) => compared(alloc, trace, &other),
-        Err(CodeError::BadTrace { at }) => refused(alloc, Word::Other, Reason::BadTrace { at }),
-        Err(CodeError::Memory) => Err(Memory),
-    }
+    let trace = trace_of(alloc, Word::Trace, first)?;
+    let other = trace_of(alloc, Word::Other, second)?;
+    Ok(compared(alloc, &trace, &other)?)
 }
 
 fn compared(alloc: Global, trace: &Trace, other: &Trace) -> Result<Answer, Memory>
@@ -95,7 +80,7 @@ fn no_divergence(alloc: Global) -> Result<Answer, Memory>
     Ok(with_bytes(Status::Done, Bytes::from_vec(text)))
 }
 
-fn diverged(alloc: Global, report: &Report, channels: &Channels) -> Result<Answer, Memory>
+pub fn diverged(alloc: Global, report: &Report, channels: &Channels) -> Result<Answer, Memory>
     ensures { IfOk result (λ a. IsSaid Status.Diverged (said.diverged_text report.now channels.now) a.status (text_of a.text)) }
 {
     let mut text = report_lines(alloc, report, channels)?.into_vec();

@@ -1,7 +1,7 @@
 //! The command `record`.
 
-ghost use Rattle.vidi_commands.specs.declared.recording.TheConstants.{LINE_BYTES};
-ghost use Rattle.std.specs.Prelude.{◌≡◌, ◌≤◌, ◌+◌, ◌++◌, [], Option, Ok, IfOk, IfErr, decimal, length};
+ghost use Rattle.vidi_commands.specs.declared.line.TheConstants.{LINE_BYTES};
+ghost use Rattle.std.specs.Prelude.{◌≡◌, ◌≤◌, [], Option, Ok, IfOk, IfErr, length};
 ghost use Rattle.trace_model.specs.declared.row.Row.{Row as OneRow};
 ghost use Rattle.trace_model.specs.Channel.{IsTable};
 ghost use Rattle.net_design.specs.declared.values.Values.{Values};
@@ -21,25 +21,22 @@ ghost use Rattle.vidi_recorder.specs.Course.{course, sizes_of};
 ghost use Rattle.vidi_recorder.specs.Recording.{FailsFor};
 ghost use Rattle.report_text.specs.Pad.{shown, left};
 ghost use Rattle.vidi_commands.specs.AnswerText.{text_of};
-ghost use Rattle.vidi_commands.specs.Benches.{IsBench, IsPlayable, IsUnready};
+ghost use Rattle.vidi_commands.specs.Benches.{AreWithin, IsBench, IsPlayable};
 ghost use Rattle.vidi_commands.specs.Design.{text_limit};
-ghost use Rattle.vidi_commands.specs.Reading.{IsRead, IsUnread};
+ghost use Rattle.vidi_commands.specs.Ended.{EndsWith, IsStopped, Owes};
 ghost use Rattle.vidi_commands.specs.Records.{course_of, IsCutShort, IsNoPlan, IsPlanned, IsTooSmall, IsUnrecorded};
 ghost use Rattle.vidi_commands.specs.Records.{Records, RecordsRun, RefusedPlanned, StopsRecording};
 ghost use Rattle.vidi_commands.specs.Recorded.{FileEnds, FileFails, IsOutcome};
-ghost use Rattle.vidi_commands.specs.Said as said;
 ghost use Rattle.vidi_commands.specs.Steps.{IsSaid};
-ghost use Rattle.vidi_commands.specs.Stopping.{IsStopped};
 
-use crate::answer::{Answer, AnswerText, refused, unread};
-use crate::bench::{Bench, Unready, bench_of};
-use crate::check::TEXT_LIMIT;
-use crate::run::channel_name;
-use crate::status::{Reason, Status, Stop, Word};
+use crate::answer::{Answer, AnswerText, Ended, refused};
+use crate::bench::{Bench, Texts, bench_of, read_texts};
+use crate::line::{LINE_BYTES, recorded_line, unstable_line};
+use crate::read::{TEXT_LIMIT, read_file};
+use crate::status::{Reason, Status, Word};
 use chan_map::Map;
 use chan_monitor::{Machines, Shell};
 use env_script::{Env, ScriptEnv, StallError, Stalls, read_stalls};
-use itoa::Buffer;
 use net_design::Design;
 use net_order::Order;
 use net_sim::Sim;
@@ -48,12 +45,8 @@ use room_ledger::{Room, RoomError};
 use script_text::Script;
 use std::alloc::Global;
 use trace_model::Channels;
-use vidi_bits::{Bytes, Memory};
-use vidi_io::{Shelf, ShelfSink, read_whole};
+use vidi_io::{Shelf, ShelfSink};
 use vidi_recorder::{Outcome, RecordError, record_run};
-
-/// The longest line that is printed behind a recording, in bytes, and more.
-const LINE_BYTES: usize = 256;
 
 /// What is recorded: a design with its map and script, a plan of stalls, and a store for it.
 #[derive(Drop)]
@@ -72,19 +65,15 @@ pub fn record<S: Shelf>(
     stalls: &str,
     trace: &str,
     shelf: &mut S,
-) -> Result<Answer, Stop>
-    ensures earned { IfOk result (λ a. Records design.now map.now script.now stalls.now trace.now (S.files shelf.old)
-        (λ name. Rose (S.read_faults shelf.old name) (S.read_faults shelf.new name)) a.status (text_of a.text) (S.files shelf.new)) }
-    ensures stopped { IfErr result (λ s. IsStopped
+) -> Result<Answer, Ended>
+    ensures owed { Owes (Records design.now map.now script.now stalls.now trace.now (S.files shelf.old)
+        (λ name. Rose (S.read_faults shelf.old name) (S.read_faults shelf.new name)))
         (StopsRecording design.now map.now script.now stalls.now trace.now (S.files shelf.old))
-        (Rose (S.write_faults shelf.old) (S.write_faults shelf.new)) (S.files shelf.old) (S.files shelf.new) s) }
+        (Rose (S.write_faults shelf.old) (S.write_faults shelf.new)) (S.files shelf.old) (S.files shelf.new) result }
     ensures counts { Later (S.read_faults shelf.old) (S.read_faults shelf.new) (S.write_faults shelf.old) (S.write_faults shelf.new) }
 {
-    match plan_recording(alloc, design, map, script, stalls, shelf) {
-        Ok(planned) => recorded(alloc, planned, trace, shelf),
-        Err(Unready::Refused(answer)) => Ok(answer),
-        Err(Unready::Memory) => Err(Stop::Memory),
-    }
+    let planned = plan_recording(alloc, design, map, script, stalls, shelf)?;
+    recorded(alloc, planned, trace, shelf)
 }
 
 /// Reads the four files, and makes what they say.
@@ -95,100 +84,64 @@ fn plan_recording<S: Shelf>(
     script: &str,
     stalls: &str,
     shelf: &mut S,
-) -> Result<Planned, Unready>
+) -> Result<Planned, Ended>
     ensures planned { IfOk result (λ p. IsPlanned design.now map.now script.now stalls.now (S.files shelf.old) p.bench p.plan) }
     ensures playable { IfOk result (λ p. IsPlayable p.bench) }
     ensures room { IfOk result (λ p. p.room ≡ fresh (sizes_of p.bench.map.channels) p.plan.capacity) }
-    ensures refused { IfErr result (IsUnready (IsUnrecorded design.now map.now script.now stalls.now (S.files shelf.old)
+    ensures refused { IfErr result (EndsWith (IsUnrecorded design.now map.now script.now stalls.now (S.files shelf.old)
         (λ name. Rose (S.read_faults shelf.old name) (S.read_faults shelf.new name)))) }
     ensures files { S.files shelf.new ≡ S.files shelf.old }
     ensures counts { Later (S.read_faults shelf.old) (S.read_faults shelf.new) (S.write_faults shelf.old) (S.write_faults shelf.new) }
 {
-    let design = read_text(alloc, Word::Design, design, shelf)?;
-    let map = read_text(alloc, Word::Map, map, shelf)?;
-    let script = read_text(alloc, Word::Script, script, shelf)?;
-    let stalls = read_text(alloc, Word::Stalls, stalls, shelf)?;
-    plan_texts(
-        alloc,
-        design.as_slice(),
-        map.as_slice(),
-        script.as_slice(),
-        stalls.as_slice(),
-    )
+    let texts = read_texts(alloc, design, map, script, shelf)?;
+    let stalls = read_file(alloc, Word::Stalls, stalls, TEXT_LIMIT, shelf)?;
+    plan_texts(alloc, &texts, stalls.as_slice())
 }
 
 /// What four texts say.
-fn plan_texts(
-    alloc: Global,
-    design: &[u8],
-    map: &[u8],
-    script: &[u8],
-    stalls: &[u8],
-) -> Result<Planned, Unready>
-    requires design { length design.now ≤ text_limit }
-    requires map { length map.now ≤ text_limit }
-    requires script { length script.now ≤ text_limit }
+fn plan_texts(alloc: Global, texts: &Texts, stalls: &[u8]) -> Result<Planned, Ended>
+    requires within { AreWithin texts.now }
     requires stalls { length stalls.now ≤ text_limit }
-    ensures bench { IfOk result (λ p. IsBench design.now map.now script.now p.bench) }
+    ensures bench { IfOk result (λ p. IsBench texts.now.design texts.now.map texts.now.script p.bench) }
     ensures planned { IfOk result (λ p. ReadsStalls (read_lines stalls.now) (Ok p.plan)) }
     ensures holds { IfOk result (λ p. need (sizes_of p.bench.map.channels) ≤ p.plan.capacity) }
     ensures playable { IfOk result (λ p. IsPlayable p.bench) }
     ensures room { IfOk result (λ p. p.room ≡ fresh (sizes_of p.bench.map.channels) p.plan.capacity) }
-    ensures refused { IfErr result (IsUnready (RefusedPlanned design.now map.now script.now stalls.now)) }
+    ensures refused { IfErr result (EndsWith (RefusedPlanned texts.now.design texts.now.map texts.now.script stalls.now)) }
 {
-    let bench = bench_of(alloc, design, map, script)?;
+    let bench = bench_of(alloc, texts)?;
     let plan = plan_of(alloc, stalls)?;
     let room = room_for(alloc, &bench.map.channels, &plan)?;
     Ok(Planned { bench, plan, room })
 }
 
-/// The bytes of the file of this word.
-fn read_text<S: Shelf>(
-    alloc: Global,
-    word: Word,
-    name: &str,
-    shelf: &mut S,
-) -> Result<Bytes, Unready>
-    ensures read { IfOk result (IsRead text_limit name.now (S.files shelf.old)) }
-    ensures within { IfOk result (λ bytes. length bytes ≤ text_limit) }
-    ensures refused { IfErr result (IsUnready (IsUnread text_limit word name.now (S.files shelf.old)
-        (λ name. Rose (S.read_faults shelf.old name) (S.read_faults shelf.new name)))) }
-    ensures files { S.files shelf.new ≡ S.files shelf.old }
-    ensures counts { Later (S.read_faults shelf.old) (S.read_faults shelf.new) (S.write_faults shelf.old) (S.write_faults shelf.new) }
-{
-    match read_whole(alloc, shelf, name, TEXT_LIMIT) {
-        Ok(bytes) => Ok(bytes),
-        Err(error) => Err(Unready::Refused(unread(alloc, word, error)?)),
-    }
-}
-
 /// The plan of a text.
-fn plan_of(alloc: Global, text: &[u8]) -> Result<Stalls, Unready>
+fn plan_of(alloc: Global, text: &[u8]) -> Result<Stalls, Ended>
     requires { length text.now ≤ text_limit }
     ensures planned { IfOk result (λ plan. ReadsStalls (read_lines text.now) (Ok plan)) }
-    ensures refused { IfErr result (IsUnready (IsNoPlan text.now)) }
+    ensures refused { IfErr result (EndsWith (IsNoPlan text.now)) }
 {
     match read_stalls(alloc, text) {
         Ok(plan) => Ok(plan),
-        Err(StallError::Line { line }) => Err(Unready::Refused(refused(
+        Err(StallError::Line { line }) => Err(Ended::Refused(refused(
             alloc,
             Word::Stalls,
             Reason::StallLine { line },
         )?)),
-        Err(StallError::Memory) => Err(Unready::Memory),
+        Err(StallError::Memory) => Err(Ended::Memory),
     }
 }
 
 /// The store of a plan for these channels.
-fn room_for(alloc: Global, channels: &Channels, plan: &Stalls) -> Result<Room, Unready>
+fn room_for(alloc: Global, channels: &Channels, plan: &Stalls) -> Result<Room, Ended>
     requires { IsTable channels.now }
     ensures room { IfOk result (λ room. room ≡ fresh (sizes_of channels.now) plan.now.capacity) }
     ensures holds { IfOk result (λ room. need (sizes_of channels.now) ≤ plan.now.capacity) }
-    ensures refused { IfErr result (IsUnready (IsTooSmall channels.now plan.now)) }
+    ensures refused { IfErr result (EndsWith (IsTooSmall channels.now plan.now)) }
 {
     match Room::new(alloc, channels, plan.capacity()) {
         Ok(room) => Ok(room),
-        Err(RoomError::TooSmall { need, given }) => Err(Unready::Refused(refused(
+        Err(RoomError::TooSmall { need, given }) => Err(Ended::Refused(refused(
             alloc,
             Word::Stalls,
             Reason::TooSmall {
@@ -196,7 +149,7 @@ fn room_for(alloc: Global, channels: &Channels, plan: &Stalls) -> Result<Room, U
                 given,
             },
         )?)),
-        Err(RoomError::Memory) => Err(Unready::Memory),
+        Err(RoomError::Memory) => Err(Ended::Memory),
     }
 }
 
@@ -206,7 +159,7 @@ fn recorded<S: Shelf>(
     planned: Planned,
     trace: &str,
     shelf: &mut S,
-) -> Result<Answer, Stop>
+) -> Result<Answer, Ended>
     requires playable { IsPlayable planned.bench }
     requires room { planned.room ≡ fresh (sizes_of planned.bench.map.channels) planned.plan.capacity }
     ensures done { IfOk result (λ a. RecordsRun (course_of planned.bench planned.plan) trace.now (S.files shelf.old) a.status
@@ -242,7 +195,7 @@ fn record_sim<S: Shelf>(
     room: Room,
     trace: &str,
     shelf: &mut S,
-) -> Result<Outcome, Stop>
+) -> Result<Outcome, Ended>
     requires lawful { IsLawful design }
     requires order { IsOrder design order.drivers }
     requires mapped { IsMapOf design map.now }
@@ -270,8 +223,8 @@ fn record_sim<S: Shelf>(
         shelf,
     ) {
         Ok(outcome) => Ok(outcome),
-        Err(RecordError::WriteFault) => Err(Stop::WriteFault),
-        Err(RecordError::Memory) => Err(Stop::Memory),
+        Err(RecordError::WriteFault) => Err(Ended::WriteFault),
+        Err(RecordError::Memory) => Err(Ended::Memory),
     }
 }
 
@@ -326,51 +279,11 @@ fn told(outcome: Outcome, cycles: u32, channels: &Channels, line: Pad) -> Answer
 }
 
 /// The answer of this status with this line.
-fn with_line(status: Status, line: Pad) -> Answer
+pub fn with_line(status: Status, line: Pad) -> Answer
     ensures { IsSaid status (shown line) result.status (text_of result.text) }
 {
     Answer {
         status,
         text: AnswerText::Line(line),
     }
-}
-
-fn recorded_line(line: Pad, cycles: u32, packets: u32) -> Pad
-    requires empty { shown line ≡ [] }
-    requires room { left line ≡ LINE_BYTES }
-    ensures { shown result ≡ said.recorded_line cycles packets }
-{
-    let mut line = line;
-    line.put(b"recorded ");
-    put_number(&mut line, cycles);
-    line.put(b" cycles ");
-    put_number(&mut line, packets);
-    line.put(b" packets\n");
-    line
-}
-
-#[tactic(auto, using(crate::proofs::Names::short_name))]
-fn unstable_line(line: Pad, channels: &Channels, channel: usize, cycle: u32) -> Pad
-    requires table { IsTable channels.now }
-    requires empty { shown line ≡ [] }
-    requires room { left line ≡ LINE_BYTES }
-    ensures { shown result ≡ said.unstable_line channels.now channel cycle }
-{
-    let mut line = line;
-    line.put(b"vidi: unstable ");
-    line.put(channel_name(channels, channel));
-    line.put(b" cycle ");
-    put_number(&mut line, cycle);
-    line.put(b"\n");
-    line
-}
-
-/// Adds a number in decimal.
-fn put_number(line: &mut Pad, number: u32)
-    requires { 40 ≤ left line.old }
-    ensures text { shown line.new ≡ shown line.old ++ decimal number }
-    ensures left { left line.old ≤ left line.new + 40 }
-{
-    let mut buffer = Buffer::new();
-    line.put(buffer.format(number).as_bytes());
 }

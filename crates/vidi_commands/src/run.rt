@@ -1,8 +1,9 @@
 //! The command `run`.
 
-ghost use Rattle.std.specs.Prelude.{◌≡◌, ◌≤◌, IfOk, length};
+ghost use Rattle.std.specs.Prelude.{◌≡◌, IfOk, length};
 ghost use Rattle.vidi_io.specs.Cause.{Rose};
 ghost use Rattle.vidi_io.specs.Shelf.{Later};
+ghost use Rattle.trace_model.specs.Channel.{IsTable};
 ghost use Rattle.net_design.specs.Lawful.{IsLawful};
 ghost use Rattle.net_order.specs.Order.{IsOrder};
 ghost use Rattle.run_model.specs.MapOf.{IsMapOf};
@@ -12,27 +13,27 @@ ghost use Rattle.bench_run.specs.Plain.{IsPlainRun};
 ghost use Rattle.report_text.specs.Rows.{run_text};
 ghost use Rattle.vidi_commands.specs.AnswerText.{text_of};
 ghost use Rattle.vidi_commands.specs.Benches.{IsPlayable};
-ghost use Rattle.vidi_commands.specs.Design.{text_limit};
-ghost use Rattle.vidi_commands.specs.Runs.{Runs, RunTexts, IsPlayed, IsEnded};
+ghost use Rattle.vidi_commands.specs.Ended.{IsAnswered};
+ghost use Rattle.vidi_commands.specs.Runs.{Runs, IsPlayed, IsEnded};
 ghost use Rattle.vidi_commands.specs.Said as said;
 ghost use Rattle.vidi_commands.specs.Steps.{IsSaid};
 
-use crate::answer::{Answer, AnswerText, unread};
-use crate::bench::{Bench, Unready, bench_of};
-use crate::check::TEXT_LIMIT;
-use crate::status::{Status, Word};
+use crate::answer::{Answer, AnswerText, Ended};
+use crate::bench::{Bench, bench_of, read_texts};
+use crate::line::{LINE_BYTES, unstable_line};
+use crate::status::Status;
 use bench_run::{PlainRun, Spot, run_plain};
 use chan_map::Map;
 use env_script::ScriptEnv;
 use net_design::Design;
 use net_order::Order;
 use net_sim::Sim;
-use report_text::{RunLines, put, put_number};
+use report_text::{Pad, RunLines, put, put_number};
 use script_text::Script;
 use std::alloc::Global;
 use trace_model::{Channels, Rows};
 use vidi_bits::{Bytes, Memory};
-use vidi_io::{Shelf, read_whole};
+use vidi_io::Shelf;
 
 /// What `run` is answered.
 pub fn run<S: Shelf>(
@@ -41,43 +42,15 @@ pub fn run<S: Shelf>(
     map: &str,
     script: &str,
     shelf: &mut S,
-) -> Result<Answer, Memory>
-    ensures earned { IfOk result (λ a. Runs design.now map.now script.now (S.files shelf.old)
-        (λ name. Rose (S.read_faults shelf.old name) (S.read_faults shelf.new name)) a.status (text_of a.text)) }
+) -> Result<Answer, Ended>
+    ensures answered { IsAnswered (Runs design.now map.now script.now (S.files shelf.old)
+        (λ name. Rose (S.read_faults shelf.old name) (S.read_faults shelf.new name))) result }
     ensures files { S.files shelf.new ≡ S.files shelf.old }
     ensures counts { Later (S.read_faults shelf.old) (S.read_faults shelf.new) (S.write_faults shelf.old) (S.write_faults shelf.new) }
 {
-    let text = match read_whole(alloc, shelf, design, TEXT_LIMIT) {
-        Ok(bytes) => bytes,
-        Err(error) => return unread(alloc, Word::Design, error),
-    };
-    let channels = match read_whole(alloc, shelf, map, TEXT_LIMIT) {
-        Ok(bytes) => bytes,
-        Err(error) => return unread(alloc, Word::Map, error),
-    };
-    let steps = match read_whole(alloc, shelf, script, TEXT_LIMIT) {
-        Ok(bytes) => bytes,
-        Err(error) => return unread(alloc, Word::Script, error),
-    };
-    run_texts(
-        alloc,
-        text.as_slice(),
-        channels.as_slice(),
-        steps.as_slice(),
-    )
-}
-
-fn run_texts(alloc: Global, design: &[u8], map: &[u8], script: &[u8]) -> Result<Answer, Memory>
-    requires design { length design.now ≤ text_limit }
-    requires map { length map.now ≤ text_limit }
-    requires script { length script.now ≤ text_limit }
-    ensures { IfOk result (λ a. RunTexts design.now map.now script.now a.status (text_of a.text)) }
-{
-    match bench_of(alloc, design, map, script) {
-        Ok(bench) => played(alloc, bench),
-        Err(Unready::Refused(answer)) => Ok(answer),
-        Err(Unready::Memory) => Err(Memory),
-    }
+    let texts = read_texts(alloc, design, map, script, shelf)?;
+    let bench = bench_of(alloc, &texts)?;
+    Ok(played(alloc, bench)?)
 }
 
 /// Plays the design in the environment of the script, with all gates up.
@@ -117,6 +90,7 @@ fn run_of(
 
 /// The lines of the rows, and how the run ended.
 fn ended(alloc: Global, map: Map, run: PlainRun) -> Result<Answer, Memory>
+    requires { IsTable map.channels }
     ensures { IfOk result (λ a. IsEnded map run.rows run.unstable a.status (text_of a.text)) }
 {
     match run.unstable {
@@ -136,11 +110,14 @@ fn whole(alloc: Global, channels: Channels, rows: Rows) -> Result<Answer, Memory
 }
 
 fn broken(alloc: Global, channels: Channels, rows: Rows, spot: Spot) -> Result<Answer, Memory>
+    requires { IsTable channels }
     ensures { IfOk result (λ a. IsSaid (Status.Unstable spot.channel spot.cycle)
         (run_text rows channels (said.unstable_line channels spot.channel spot.cycle)) a.status (text_of a.text)) }
 {
     let Spot { channel, cycle } = spot;
-    let last = unstable_line(alloc, &channels, channel, cycle)?;
+    let pad = Pad::new(alloc, LINE_BYTES)?;
+    let line = unstable_line(pad, &channels, channel, cycle);
+    let last = Vec::from_slice(alloc, line.as_slice())?;
     with_lines(
         alloc,
         Status::Unstable { channel, cycle },
@@ -148,33 +125,6 @@ fn broken(alloc: Global, channels: Channels, rows: Rows, spot: Spot) -> Result<A
         rows,
         last,
     )
-}
-
-fn unstable_line(
-    alloc: Global,
-    channels: &Channels,
-    channel: usize,
-    cycle: u32,
-) -> Result<Vec<u8>, Memory>
-    ensures { IfOk result (λ text. text.items ≡ said.unstable_line channels.now channel cycle) }
-{
-    let mut text = Vec::new(alloc);
-    put(&mut text, b"vidi: unstable ")?;
-    put(&mut text, channel_name(channels, channel))?;
-    put(&mut text, b" cycle ")?;
-    put_number(&mut text, cycle)?;
-    put(&mut text, b"\n")?;
-    Ok(text)
-}
-
-/// The name of a channel.
-pub fn channel_name(channels: &Channels, channel: usize) -> &[u8]
-    ensures { result.now ≡ said.channel_name channels.now channel }
-{
-    match channels.get(channel) {
-        Some(channel) => channel.name.as_slice(),
-        None => b"",
-    }
 }
 
 /// The answer of this status with the lines of rows, and a last one.

@@ -1,23 +1,25 @@
 //! The command `salvage`.
 
-ghost use Rattle.std.specs.Prelude.{◌≡◌, ◌<◌, ◌^◌, ◌++◌, IfOk, IfErr, take};
+ghost use Rattle.std.specs.Prelude.{◌≡◌, ◌<◌, ◌^◌, ◌++◌, Ok, IfOk, IfErr, take};
 ghost use Rattle.trace_code.specs.Encoding.{end_mark};
+ghost use Rattle.trace_code.specs.Salvage.{SalvagesFront};
 ghost use Rattle.vidi_io.specs.Cause.{Rose};
 ghost use Rattle.vidi_io.specs.Shelf.{Later, holding};
 ghost use Rattle.vidi_io.specs.Writing.{IsCutOff};
 ghost use Rattle.vidi_commands.specs.AnswerText.{text_of};
+ghost use Rattle.vidi_commands.specs.Ended.{EndsWith, IsStopped, Owes};
 ghost use Rattle.vidi_commands.specs.Said as said;
 ghost use Rattle.vidi_commands.specs.Steps.{IsSaid};
-ghost use Rattle.vidi_commands.specs.Stopping.{IsStopped};
-ghost use Rattle.vidi_commands.specs.Traces.{Saves, StopsSaving};
+ghost use Rattle.vidi_commands.specs.Traces.{IsHeaderless, Saves, StopsSaving};
 
-use crate::answer::{Answer, refused, unread, with_bytes};
-use crate::status::{Reason, Status, Stop, Word};
+use crate::answer::{Answer, Ended, refused, with_bytes};
+use crate::read::read_file;
+use crate::status::{Reason, Status, Word};
 use report_text::{put, put_number};
 use std::alloc::Global;
 use trace_code::{CodeError, TRACE_LIMIT, Whole, end_mark, salvage_front};
 use vidi_bits::{Bytes, Memory};
-use vidi_io::{Failed, Shelf, read_whole, write_whole};
+use vidi_io::{Failed, Shelf, write_whole};
 
 /// What `salvage` is answered. All memory is taken before the file `out` is started.
 pub fn salvage<S: Shelf>(
@@ -25,23 +27,29 @@ pub fn salvage<S: Shelf>(
     trace: &str,
     out: &str,
     shelf: &mut S,
-) -> Result<Answer, Stop>
-    ensures earned { IfOk result (λ a. Saves trace.now out.now (S.files shelf.old)
-        (λ name. Rose (S.read_faults shelf.old name) (S.read_faults shelf.new name)) a.status (text_of a.text) (S.files shelf.new)) }
-    ensures stopped { IfErr result (λ s. IsStopped (StopsSaving trace.now out.now (S.files shelf.old))
-        (Rose (S.write_faults shelf.old) (S.write_faults shelf.new)) (S.files shelf.old) (S.files shelf.new) s) }
+) -> Result<Answer, Ended>
+    ensures owed { Owes (Saves trace.now out.now (S.files shelf.old)
+        (λ name. Rose (S.read_faults shelf.old name) (S.read_faults shelf.new name))) (StopsSaving trace.now out.now (S.files shelf.old))
+        (Rose (S.write_faults shelf.old) (S.write_faults shelf.new)) (S.files shelf.old) (S.files shelf.new) result }
     ensures counts { Later (S.read_faults shelf.old) (S.read_faults shelf.new) (S.write_faults shelf.old) (S.write_faults shelf.new) }
 {
-    let bytes = match read_whole(alloc, shelf, trace, TRACE_LIMIT) {
-        Ok(bytes) => bytes,
-        Err(error) => return Ok(unread(alloc, Word::Trace, error)?),
-    };
-    match salvage_front(alloc, bytes.as_slice()) {
-        Ok(whole) => saved(alloc, bytes, whole, out, shelf),
+    let file = read_file(alloc, Word::Trace, trace, TRACE_LIMIT, shelf)?;
+    let whole = whole_of(alloc, file.as_slice())?;
+    saved(alloc, file, whole, out, shelf)
+}
+
+/// What is whole of the bytes of a trace.
+fn whole_of(alloc: Global, file: &[u8]) -> Result<Whole, Ended>
+    ensures whole { IfOk result (λ whole. SalvagesFront file.now (Ok whole)) }
+    ensures refused { IfErr result (EndsWith (IsHeaderless file.now)) }
+{
+    match salvage_front(alloc, file) {
+        Ok(whole) => Ok(whole),
         Err(CodeError::BadTrace { at }) => {
-            Ok(refused(alloc, Word::Trace, Reason::BadTrace { at })?)
+            let answer = refused(alloc, Word::Trace, Reason::BadTrace { at })?;
+            Err(Ended::Refused(answer))
         }
-        Err(CodeError::Memory) => Err(Stop::Memory),
+        Err(CodeError::Memory) => Err(Ended::Memory),
     }
 }
 
@@ -52,7 +60,7 @@ fn saved<S: Shelf>(
     whole: Whole,
     out: &str,
     shelf: &mut S,
-) -> Result<Answer, Stop>
+) -> Result<Answer, Ended>
     requires few { whole.packets < 2 ^ 32 }
     ensures done { IfOk result (λ a. IsSaid Status.Done (said.salvaged_line whole.packets) a.status (text_of a.text)) }
     ensures files { IfOk result (λ a. S.files shelf.new
@@ -65,7 +73,7 @@ fn saved<S: Shelf>(
     let answer = salvaged(alloc, whole.packets)?;
     match write_whole(shelf, out, front.as_slice()) {
         Ok(()) => Ok(answer),
-        Err(Failed) => Err(Stop::WriteFault),
+        Err(Failed) => Err(Ended::WriteFault),
     }
 }
 

@@ -4,7 +4,6 @@ ghost use Rattle.std.specs.Prelude.{◌≡◌};
 ghost use Rattle.vidi_commands.specs.Exit as exit;
 
 pub use report_text::{Reason, Word};
-use vidi_bits::Memory;
 
 /// What a call of `vidi` answers.
 #[derive(Debug, Drop)]
@@ -25,25 +24,6 @@ pub enum Status {
     Diverged,
     /// No memory was found.
     Memory,
-}
-
-/// Why a command says nothing of its own.
-#[derive(Drop)]
-pub enum Stop {
-    /// A write of its file failed.
-    WriteFault,
-    /// No memory was found.
-    Memory,
-}
-
-impl From<Memory> for Stop {
-    ghost use Rattle.vidi_commands.specs.declared.status.Stop.TheVariants as stops;
-
-    ghost from_gives = { λ _ s. s ≡ stops.Memory };
-
-    fn from(_error: Memory) -> Stop {
-        Stop::Memory
-    }
 }
 
 impl Status {

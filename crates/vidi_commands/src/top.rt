@@ -1,15 +1,15 @@
 //! The one public call.
 
-ghost use Rattle.std.specs.Prelude.{◌≡◌, ℕ, ◌≤◌, ◌⊎◌, List, IfOk, IfErr};
+ghost use Rattle.std.specs.Prelude.{◌≡◌, ℕ, ◌≤◌, ◌⊎◌, List};
 ghost use Rattle.vidi_io.specs.Cause.{Rose};
 ghost use Rattle.vidi_io.specs.Shelf.{Later};
 ghost use Rattle.vidi_io.specs.Sink.{Frame};
 ghost use Rattle.vidi_commands.specs.Answer.{Answers, Earns, Says, Stops};
 ghost use Rattle.vidi_commands.specs.AnswerText.{text_of};
+ghost use Rattle.vidi_commands.specs.Ended.{Owes};
 ghost use Rattle.vidi_commands.specs.Said as said;
-ghost use Rattle.vidi_commands.specs.Stopping.{IsStopped};
 
-use crate::answer::{Answer, usage};
+use crate::answer::{Answer, Ended, usage};
 use crate::check::check;
 use crate::command::Command;
 use crate::compare::compare;
@@ -17,7 +17,7 @@ use crate::dump::dump;
 use crate::recording::record;
 use crate::run::run;
 use crate::salvage::salvage;
-use crate::status::{Status, Stop};
+use crate::status::Status;
 use std::alloc::Global;
 use vidi_io::{Failed, Shelf, Sink, Words};
 
@@ -56,29 +56,29 @@ pub fn vidi<S: Shelf, O: Sink>(alloc: Global, words: &Words, shelf: &mut S, out:
 {
     match answer_to(alloc, words, shelf) {
         Ok(answer) => say(out, answer),
-        Err(Stop::Memory) => say_memory(out),
-        Err(Stop::WriteFault) => Status::WriteFault,
+        Err(Ended::Refused(answer)) => say(out, answer),
+        Err(Ended::Memory) => say_memory(out),
+        Err(Ended::WriteFault) => Status::WriteFault,
     }
 }
 
 /// What these words are answered, before anything is said.
-fn answer_to<S: Shelf>(alloc: Global, words: &Words, shelf: &mut S) -> Result<Answer, Stop>
-    ensures earned { IfOk result (λ a. Earns words.now (S.files shelf.old)
-        (λ name. Rose (S.read_faults shelf.old name) (S.read_faults shelf.new name)) a.status (text_of a.text) (S.files shelf.new)) }
-    ensures stopped { IfErr result (λ s. IsStopped (Stops words.now (S.files shelf.old))
-        (Rose (S.write_faults shelf.old) (S.write_faults shelf.new)) (S.files shelf.old) (S.files shelf.new) s) }
+fn answer_to<S: Shelf>(alloc: Global, words: &Words, shelf: &mut S) -> Result<Answer, Ended>
+    ensures owed { Owes (Earns words.now (S.files shelf.old)
+        (λ name. Rose (S.read_faults shelf.old name) (S.read_faults shelf.new name))) (Stops words.now (S.files shelf.old))
+        (Rose (S.write_faults shelf.old) (S.write_faults shelf.new)) (S.files shelf.old) (S.files shelf.new) result }
     ensures counts { Later (S.read_faults shelf.old) (S.read_faults shelf.new) (S.write_faults shelf.old) (S.write_faults shelf.new) }
 {
     match Command::of(words) {
-        Some(Command::Dump { trace }) => Ok(dump(alloc, trace, shelf)?),
-        Some(Command::Check { design, top }) => Ok(check(alloc, design, top, shelf)?),
+        Some(Command::Dump { trace }) => dump(alloc, trace, shelf),
+        Some(Command::Check { design, top }) => check(alloc, design, top, shelf),
         Some(
             Command::Run {
                 design,
                 map,
                 script,
             },
-        ) => Ok(run(alloc, design, map, script, shelf)?),
+        ) => run(alloc, design, map, script, shelf),
         Some(
             Command::Record {
                 design,
@@ -88,7 +88,7 @@ fn answer_to<S: Shelf>(alloc: Global, words: &Words, shelf: &mut S) -> Result<An
                 trace,
             },
         ) => record(alloc, design, map, script, stalls, trace, shelf),
-        Some(Command::Compare { trace, other }) => Ok(compare(alloc, trace, other, shelf)?),
+        Some(Command::Compare { trace, other }) => compare(alloc, trace, other, shelf),
         Some(Command::Salvage { trace, out }) => salvage(alloc, trace, out, shelf),
         None => Ok(usage(alloc)?),
     }

@@ -1,5 +1,11 @@
-//! Tests of `vidi_io`, which stand apart so that the crate is proved without them.
+//! Tests of `vidi_bits`, `vidi_lines`, `vidi_io` and `case_player`, which stand apart so that these crates are proved without them.
 #![tactic(auto)]
 
+#[cfg(test)]
+mod bits_tests;
+#[cfg(test)]
+mod lines_tests;
+#[cfg(test)]
+mod player_tests;
 #[cfg(test)]
 mod tests;

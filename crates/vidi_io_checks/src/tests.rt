@@ -1,6 +1,7 @@
 //! Shelves, sinks and readings with ample memory and with failing calls.
 
 use std::alloc::Global;
+use std::rt::Files;
 use std::{env, fs, process, test};
 use vidi_bits::{Bytes, Memory, Numbers};
 use vidi_io::{
@@ -146,43 +147,102 @@ fn a_file_holds_what_was_pushed(rt: HostRuntime) -> Result<(), test::Fail> {
     Ok(())
 }
 
+/// Whether a file holds this, which is at most so many bytes.
+fn holds_at_most(
+    alloc: Global,
+    shelf: &mut impl Shelf,
+    name: &str,
+    limit: u64,
+    want: &[u8],
+) -> bool {
+    match read_whole(alloc, shelf, name, limit) {
+        Ok(bytes) => bytes.as_slice() == want,
+        Err(_) => false,
+    }
+}
+
+/// Whether a file of at most 64 bytes holds this.
+fn holds(alloc: Global, shelf: &mut impl Shelf, name: &str, want: &[u8]) -> bool {
+    holds_at_most(alloc, shelf, name, 64, want)
+}
+
+/// Whether a name is missing, and a file of that name, which is started again, holds what was added to it.
+fn is_written(alloc: Global, shelf: &mut impl Shelf, file: &str) -> Result<bool, Failed> {
+    let missing = read_whole(alloc, shelf, file, 8).err() == Some(ReadError::Missing);
+    shelf.append(file, b"old")?;
+    shelf.start(file)?;
+    shelf.append(file, b"on")?;
+    shelf.append(file, b"e")?;
+    Ok(missing && holds_at_most(alloc, shelf, file, 3, b"one"))
+}
+
+/// Whether real files are written and read: one of this name, a path below it, and a directory in its place.
+fn is_host_right<R: Files + AllocGlobal>(
+    rt: &R,
+    alloc: Global,
+    file: &str,
+    below: &str,
+) -> Result<bool, test::Fail> {
+    let mut shelf = HostShelf::new(rt);
+    let written = is_written(alloc, &mut shelf, file)?;
+    let inside = read_whole(alloc, &mut shelf, below, 8).err();
+    fs::remove_file(rt, file)?;
+    fs::create_dir(rt, file)?;
+    let refused = read_whole(alloc, &mut shelf, file, 8).err();
+    let started = shelf.start(file).is_ok();
+    fs::remove_dir(rt, file)?;
+    let failed = Some(ReadError::Failed);
+    Ok(written && inside == failed && refused == failed && !started)
+}
+
 // A real file, a name that isn't there, a path below a plain file, and a directory in place of a file.
 #[test]
 fn host_files_are_written_and_read(rt: HostRuntime) -> Result<(), test::Fail> {
     let folder = env::temp_dir(&rt)?;
     let name = format!(in rt.alloc(); "vidi_io-{}", process::id(rt.process()))?;
     let path = folder.join(rt.alloc(), name.as_str())?;
-    let file = path.as_path().to_str().expect(&rt, "a path that is text");
-    let mut shelf = HostShelf::new(&rt);
-    let missing = read_whole(rt.alloc(), &mut shelf, file, 8);
-    assert_eq!(rt; missing.err(), Some(ReadError::Missing));
-    shelf.append(file, b"old")?;
-    shelf.start(file)?;
-    shelf.append(file, b"on")?;
-    shelf.append(file, b"e")?;
-    let read = read_whole(rt.alloc(), &mut shelf, file, 3)?;
-    assert_eq!(rt; read.as_slice(), b"one".as_slice());
     let below = path.join(rt.alloc(), "below")?;
+    let file = path.as_path().to_str().expect(&rt, "a path that is text");
     let below = below.as_path().to_str().expect(&rt, "a path that is text");
-    let inside = read_whole(rt.alloc(), &mut shelf, below, 8);
-    fs::remove_file(&rt, file)?;
-    fs::create_dir(&rt, file)?;
-    let refused = read_whole(rt.alloc(), &mut shelf, file, 8);
-    let started = shelf.start(file);
-    fs::remove_dir(&rt, file)?;
-    assert_eq!(rt; inside.err(), Some(ReadError::Failed));
-    assert_eq!(rt; refused.err(), Some(ReadError::Failed));
-    assert_eq!(rt; started, Err::<(), Failed>(Failed));
+    let right = is_host_right(&rt, rt.alloc(), file, below)?;
+    assert!(rt; right);
     HostSink::new(&rt).push(b"one\n")?;
     Ok(())
 }
 
-// What is in a real file, of at most 64 bytes.
-fn holds(alloc: Global, shelf: &mut impl Shelf, name: &str, want: &[u8]) -> bool {
-    match read_whole(alloc, shelf, name, 64) {
-        Ok(bytes) => bytes.as_slice() == want,
-        Err(_) => false,
+/// Whether two files that are added to by turns hold their own pieces.
+fn hold_turns(alloc: Global, shelf: &mut impl Shelf, one: &str, two: &str) -> Result<bool, Failed> {
+    for (name, piece) in [(one, "a"), (one, "b"), (two, "c"), (one, "d"), (two, "e")] {
+        shelf.append(name, piece.as_bytes())?;
     }
+    Ok(holds(alloc, shelf, one, b"abd") && holds(alloc, shelf, two, b"ce"))
+}
+
+/// Whether files that are started again, the open one and then the other, hold what was added since.
+fn are_started_again(
+    alloc: Global,
+    shelf: &mut impl Shelf,
+    one: &str,
+    two: &str,
+) -> Result<bool, Failed> {
+    shelf.start(two)?;
+    let begun = holds(alloc, shelf, two, b"");
+    shelf.append(two, b"f")?;
+    shelf.start(one)?;
+    shelf.append(one, b"g")?;
+    shelf.append(two, b"h")?;
+    Ok(begun && holds(alloc, shelf, one, b"g") && holds(alloc, shelf, two, b"fh"))
+}
+
+fn are_turns_right<R: Files + AllocGlobal>(
+    rt: &R,
+    alloc: Global,
+    one: &str,
+    two: &str,
+) -> Result<bool, Failed> {
+    let mut shelf = HostShelf::new(rt);
+    let held = hold_turns(alloc, &mut shelf, one, two)?;
+    Ok(held && are_started_again(alloc, &mut shelf, one, two)?)
 }
 
 // Two real files that are added to by turns; one is started again while it is open, and one while the other is.
@@ -191,29 +251,29 @@ fn host_files_are_added_to_by_turns(rt: HostRuntime) -> Result<(), test::Fail> {
     let folder = env::temp_dir(&rt)?;
     let name = format!(in rt.alloc(); "vidi_io-turns-{}", process::id(rt.process()))?;
     let path = folder.join(rt.alloc(), name.as_str())?;
-    fs::create_dir(&rt, &path)?;
     let one = path.join(rt.alloc(), "one")?;
     let two = path.join(rt.alloc(), "two")?;
     let one = one.as_path().to_str().expect(&rt, "a path that is text");
     let two = two.as_path().to_str().expect(&rt, "a path that is text");
-    let mut shelf = HostShelf::new(&rt);
-    for (name, piece) in [(one, "a"), (one, "b"), (two, "c"), (one, "d"), (two, "e")] {
-        shelf.append(name, piece.as_bytes())?;
-    }
-    let first = holds(rt.alloc(), &mut shelf, one, b"abd");
-    let second = holds(rt.alloc(), &mut shelf, two, b"ce");
-    shelf.start(two)?;
-    let begun = holds(rt.alloc(), &mut shelf, two, b"");
-    shelf.append(two, b"f")?;
-    shelf.start(one)?;
-    shelf.append(one, b"g")?;
-    shelf.append(two, b"h")?;
-    let first_again = holds(rt.alloc(), &mut shelf, one, b"g");
-    let second_again = holds(rt.alloc(), &mut shelf, two, b"fh");
+    fs::create_dir(&rt, &path)?;
+    let right = are_turns_right(&rt, rt.alloc(), one, two)?;
     fs::remove_dir_all(&rt, &path)?;
-    assert!(rt; first && second, "by turns");
-    assert!(rt; begun && first_again && second_again, "started again");
+    assert!(rt; right);
     Ok(())
+}
+
+/// Whether a device on which every write fails tells each of two, and the file's own pieces are whole.
+fn is_failed_write_told<R: Files + AllocGlobal>(
+    rt: &R,
+    alloc: Global,
+    file: &str,
+) -> Result<bool, Failed> {
+    let mut shelf = HostShelf::new(rt);
+    shelf.append(file, b"o")?;
+    let full = shelf.append("/dev/full", b"lost").is_ok();
+    let full_again = shelf.append("/dev/full", b"lost").is_ok();
+    shelf.append(file, b"ne")?;
+    Ok(!full && !full_again && holds(alloc, &mut shelf, file, b"one"))
 }
 
 // A device on which every write fails, between two pieces of a real file.
@@ -223,15 +283,8 @@ fn a_failed_write_is_told(rt: HostRuntime) -> Result<(), test::Fail> {
     let name = format!(in rt.alloc(); "vidi_io-full-{}", process::id(rt.process()))?;
     let path = folder.join(rt.alloc(), name.as_str())?;
     let file = path.as_path().to_str().expect(&rt, "a path that is text");
-    let mut shelf = HostShelf::new(&rt);
-    shelf.append(file, b"o")?;
-    let full = shelf.append("/dev/full", b"lost");
-    let full_again = shelf.append("/dev/full", b"lost");
-    shelf.append(file, b"ne")?;
-    let whole = holds(rt.alloc(), &mut shelf, file, b"one");
+    let told = is_failed_write_told(&rt, rt.alloc(), file)?;
     fs::remove_file(&rt, file)?;
-    assert_eq!(rt; full, Err::<(), Failed>(Failed));
-    assert_eq!(rt; full_again, Err::<(), Failed>(Failed));
-    assert!(rt; whole, "the file of the other name");
+    assert!(rt; told);
     Ok(())
 }

@@ -1,10 +1,8 @@
 pub mod Told
 pub mod OneEnding
-pub mod Meets
-pub mod OneDump
+pub mod OneTraces
 pub mod OneRefusal
 pub mod OneCheck
-pub mod OneCompare
 pub mod OneSalvaged
 pub mod AlikeLists
 pub mod AlikeNarrow

@@ -7,9 +7,8 @@ use Rattle.vidi_commands.specs.declared.status.Status.{Status}
 use Rattle.vidi_commands.specs.Command.{Command, Dump, Check, Run, Record, Compare, Salvage, IsGiven}
 use Rattle.vidi_commands.specs.Answer.{Does}
 use Rattle.vidi_laws.specs.OneAnswer.{OneAnswer}
-use Rattle.vidi_laws.proofs.OneDump.{one_dump}
+use Rattle.vidi_laws.proofs.OneTraces.{one_dump, one_compare}
 use Rattle.vidi_laws.proofs.OneCheck.{Alike, one_check}
-use Rattle.vidi_laws.proofs.OneCompare.{one_compare}
 use Rattle.vidi_laws.proofs.OneSalvaged.{one_salvaged}
 use Rattle.vidi_laws.proofs.SameBench.{BenchLaws}
 use Rattle.vidi_laws.proofs.SameRun.{one_run}

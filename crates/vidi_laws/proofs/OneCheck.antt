@@ -1,4 +1,4 @@
--- `check`: one answer.
+-- The text of a design, and its design: one answer; and so of `check`.
 use Rattle.std.proofs.Common.{◌≡◌, ◌⊎◌, ℕ, List, None, Some, inl, inr, sym, ap, subst, ◌∙◌, map}
 use Rattle.vlog_lex.specs.declared.token.Token.{Token}
 use Rattle.vlog_lex.specs.Reading.{HasTokens, OneReading, OneStuckLine, ReadOrStuck}
@@ -9,6 +9,7 @@ use Rattle.vlog_parse.specs.Depth.{OneDepth}
 use Rattle.vlog_parse.specs.Parsing.{LinedFilesAreFiles, OneLinedFile}
 use Rattle.vlog_parse.specs.Units.{OneItemLine}
 use Rattle.net_design.specs.declared.design.Design.{Design}
+use Rattle.net_order.specs.Order.{IsOrder}
 use Rattle.vlog_design.specs.Design.{IsDesignOf, file_counts}
 use Rattle.vlog_design.specs.Laws.{LoopsAlike}
 use Rattle.vlog_elab.specs.declared.error.ElabError.{ElabError}
@@ -20,13 +21,13 @@ use Rattle.report_text.specs.declared.reason.Reason.TheVariants.{Word, Deep, Ite
 use Rattle.report_text.specs.Reason.{reason_line}
 use Rattle.vidi_commands.specs.declared.status.Status.{Status}
 use Rattle.vidi_commands.specs.declared.status.Status.TheVariants.{Done, Refused}
-use Rattle.vidi_commands.specs.Steps.{IsRefusal}
-use Rattle.vidi_commands.specs.Design.{text_limit, reason_of, IsNoWord, IsTooDeep, IsNoFile, IsFile, IsRefusedFile, CheckedFile, CheckedTokens}
-use Rattle.vidi_commands.specs.Design.{CheckedText, CheckedDesign, Checks, line_of}
-use Rattle.vidi_commands.specs.Benches.{IsNoTree}
+use Rattle.vidi_commands.specs.Steps.{Ending, IsRefusal, IsSaid, Step}
+use Rattle.vidi_commands.specs.Design.{text_limit, reason_of, line_of, IsNoWord, IsTooDeep, IsNoFile, IsFile, IsNoTree, IsNoText, Spells}
+use Rattle.vidi_commands.specs.Design.{IsRefusedFile, IsAccepted, IsLooped, Building, Spelling}
+use Rattle.vidi_commands.specs.Checks.{Checked, Checks}
 use Rattle.vidi_laws.specs.OneAnswer.{NamesLoop}
 use Rattle.vidi_commands.specs.Said.{check_text}
-use Rattle.vidi_laws.proofs.OneEnding.{Same, One, OneBy, one-said, one-step-by, one-reading-by}
+use Rattle.vidi_laws.proofs.OneEnding.{Same, Meet, Apart, One, OneBy, one-said, one-step-by, step-meets, one-reading-by}
 use Rattle.vidi_laws.proofs.OneRefusal.{one_refusal, refused_clear}
 
 -- the laws of the reader of design texts
@@ -40,7 +41,7 @@ pub record TextLaws : Type 0 where
   pub item : OneItemLine
   pub loops : LoopsAlike
 
-pub one-no_word : TextLaws → (text : List ℕ) → One (IsNoWord text)
+one-no_word : TextLaws → (text : List ℕ) → One (IsNoWord text)
 one-no_word laws text a b x y (l, stuck, s) (k, stuck', s') =
     one-said (Refused words.Design (Word l)) (reason_line words.Design (Word l)) a b x y s
     (subst (λ (n : ℕ). IsRefusal words.Design (Word n) b y) (laws.word text k l stuck' stuck) s')
@@ -55,7 +56,7 @@ one-no_file laws tokens a b x y (l, its, shallow, none, s) (k, its', shallow', n
     one-said (Refused words.Design (Item l)) (reason_line words.Design (Item l)) a b x y s
     (subst (λ (n : ℕ). IsRefusal words.Design (Item n) b y) (laws.item (all_marked tokens) k l its' its) s')
 
-pub one-none : TextLaws → (tokens : List Token) → One (IsNoTree tokens)
+one-none : TextLaws → (tokens : List Token) → One (IsNoTree tokens)
 one-none laws tokens a b x y (inl deep) (inl deep') = one-too_deep laws tokens a b x y deep deep'
 one-none laws tokens a b x y (inl (l, deep, s)) (inr (k, its, shallow, none, s')) =
     absurd (laws.depth.apart (all_marked tokens) l deep shallow)
@@ -63,10 +64,10 @@ one-none laws tokens a b x y (inr (k, its, shallow, none, s)) (inl (l, deep, s')
     absurd (laws.depth.apart (all_marked tokens) l deep shallow)
 one-none laws tokens a b x y (inr gone) (inr gone') = one-no_file laws tokens a b x y gone gone'
 
-pub one-file : TextLaws → (tokens : List Token) (f g : FileOf ℕ) → IsFile tokens f → IsFile tokens g → f ≡ g
+one-file : TextLaws → (tokens : List Token) (f g : FileOf ℕ) → IsFile tokens f → IsFile tokens g → f ≡ g
 one-file laws tokens f g (shallow, is) (shallow', is') = laws.file tokens f g is is'
 
-pub none-file : TextLaws → (tokens : List Token) (a : Status) (x : List ℕ) (f : FileOf ℕ) → IsNoTree tokens a x → IsFile tokens f → ⊥
+none-file : TextLaws → (tokens : List Token) (a : Status) (x : List ℕ) (f : FileOf ℕ) → IsNoTree tokens a x → IsFile tokens f → ⊥
 none-file laws tokens a x f (inl (l, deep, s)) (shallow, is) = laws.depth.apart (all_marked tokens) l deep shallow
 none-file laws tokens a x f (inr (l, its, shallow, none, s)) (shallow', is) = none (bare f) (laws.plain tokens f is)
 
@@ -76,7 +77,7 @@ same_reason error r s e f = let same : Some r ≡ Some s = sym e ∙ f in cc
 pub no_reason : (error : ElabError) (r : Reason) → reason_of error ≡ Some r → error ≡ Memory → ⊥
 no_reason error r e memory = let none : None ≡ Some r = ap reason_of (sym memory) ∙ e in cc
 
-pub one-refused_file : (top : List ℕ) (f : FileOf ℕ) → One (IsRefusedFile top f)
+one-refused_file : (top : List ℕ) (f : FileOf ℕ) → One (IsRefusedFile top f)
 one-refused_file top f a b x y (e, is, (r, names, s)) (d, is', (q, names', s')) = elim (one_refusal f top e d is is') [
   | inl memory ↦ absurd (no_reason e r names memory)
   | inr rest ↦ elim rest [
@@ -98,36 +99,50 @@ alike a b x y same = inr same
 pub names-loop : (a : Status) (x lines : List ℕ) → IsRefusal words.Design (Loop lines) a x → NamesLoop a
 names-loop a x lines s = subst NamesLoop (sym s.0) tt
 
-one-checked_design : TextLaws → (top : List ℕ) (f : FileOf ℕ) (d e : Design) → IsDesignOf f top d → IsDesignOf f top e → (a b : Status)
-    (x y : List ℕ) → CheckedDesign top f d a x → CheckedDesign top f e b y → Alike a b x y
-one-checked_design laws top f d e is is' a b x y (inl (loop, l, s)) (inl (loop', l', s')) =
+-- ---- a text that spells a tree
+one-no_text : TextLaws → (text : List ℕ) → One (IsNoText text)
+one-no_text laws text = one-step-by Same (IsNoWord text) (HasTokens text) IsNoTree (one-no_word laws text) (laws.reading text)
+    (λ a x tokens bad has. laws.stuck text tokens has bad.1.0) (λ (tokens : List Token) _. one-none laws tokens)
+
+pub one-spelled : TextLaws → (text : List ℕ) (f g : FileOf ℕ) → Spells text f → Spells text g → f ≡ g
+one-spelled laws text f g (tokens, has, is) (others, has', is') =
+    let same = laws.reading text others tokens has' has in
+    one-file laws tokens f g is (subst (λ (ts : List Token). IsFile ts g) same is')
+
+pub text-apart : TextLaws → (text : List ℕ) → Apart (IsNoText text) (Spells text)
+text-apart laws text a x f (inl bad) (tokens, has, is) = laws.stuck text tokens has bad.1.0
+text-apart laws text a x f (inr (others, has', none)) (tokens, has, is) =
+    let same = laws.reading text others tokens has' has in
+    none-file laws tokens a x f (subst (λ (ts : List Token). IsNoTree ts a x) same none) is
+
+pub one-spelling : TextLaws → (text : List ℕ) (Next : FileOf ℕ → Ending) → ((f : FileOf ℕ) → OneBy Alike (Next f))
+    → OneBy Alike (Spelling text Next)
+one-spelling laws text Next one = one-step-by Alike (IsNoText text) (Spells text) Next
+    (λ a b x y u v. alike a b x y (one-no_text laws text a b x y u v)) (one-spelled laws text) (text-apart laws text) (λ f _. one f)
+
+-- ---- a tree and a top that have a design
+pub file-apart : (top : List ℕ) (f : FileOf ℕ) → Apart (IsRefusedFile top f) (IsAccepted top f)
+file-apart top f a x d (e, is, (r, names, s)) (clear, of) = no_reason e r names (refused_clear f top e is clear)
+
+looped-meet : (d e : Design) → Meet Alike (IsLooped d) (IsLooped e)
+looped-meet d e a b x y (loop, is, s) (loop', is', s') =
     inl (names-loop a x (map (line_of d.drivers) loop) s, names-loop b y (map (line_of e.drivers) loop') s')
-one-checked_design laws top f d e is is' a b x y (inl (loop, l, s)) (inr (order, o, s')) = absurd (laws.loops f top d e is is' loop order l o)
-one-checked_design laws top f d e is is' a b x y (inr (order, o, s)) (inl (loop, l, s')) = absurd (laws.loops f top e d is' is loop order l o)
-one-checked_design laws top f d e is is' a b x y (inr (order, o, s)) (inr (order', o', s')) =
-    inr (one-said Done (check_text f (file_counts f top)) a b x y s s')
 
-one-checked_file : TextLaws → (top : List ℕ) (f : FileOf ℕ) → OneBy Alike (CheckedFile top f)
-one-checked_file laws top f a b x y (inl bad) (inl bad') = inr (one-refused_file top f a b x y bad bad')
-one-checked_file laws top f a b x y (inl (e, is, (r, names, s))) (inr (d, (clear, of), s')) =
-    absurd (no_reason e r names (refused_clear f top e is clear))
-one-checked_file laws top f a b x y (inr (d, (clear, of), s)) (inl (e, is, (r, names, s'))) =
-    absurd (no_reason e r names (refused_clear f top e is clear))
-one-checked_file laws top f a b x y (inr (d, (clear, of), s)) (inr (e, (clear', of'), s')) =
-    one-checked_design laws top f d e of of' a b x y s s'
+pub looped-apart : TextLaws → (top : List ℕ) (f : FileOf ℕ) (d e : Design) → IsDesignOf f top d → IsDesignOf f top e
+    → Apart (IsLooped d) (IsOrder e)
+looped-apart laws top f d e of of' a x order (loop, is, s) ordered = laws.loops f top d e of of' loop order is ordered
 
-one-checked_tokens : TextLaws → (top : List ℕ) (tokens : List Token) → OneBy Alike (CheckedTokens top tokens)
-one-checked_tokens laws top tokens =
-    one-step-by Alike (IsNoTree tokens) (IsFile tokens) (CheckedFile top)
-    (λ a b x y e f. alike a b x y (one-none laws tokens a b x y e f))
-    (one-file laws tokens) (none-file laws tokens) (λ f _. one-checked_file laws top f)
+pub one-building : TextLaws → (top : List ℕ) (f : FileOf ℕ) (Next : Design → Ending)
+    → ((d e : Design) → IsDesignOf f top d → IsDesignOf f top e → Meet Alike (Next d) (Next e)) → OneBy Alike (Building top f Next)
+one-building laws top f Next next = step-meets Alike (IsRefusedFile top f) (IsRefusedFile top f) (IsAccepted top f) (IsAccepted top f)
+    (λ (d : Design). Step (IsLooped d) (IsOrder d) (λ _. Next d)) (λ (d : Design). Step (IsLooped d) (IsOrder d) (λ _. Next d))
+    (λ a b x y u v. alike a b x y (one-refused_file top f a b x y u v)) (file-apart top f) (file-apart top f)
+    (λ d e is is'. step-meets Alike (IsLooped d) (IsLooped e) (IsOrder d) (IsOrder e) (λ (_ : List ℕ). Next d) (λ (_ : List ℕ). Next e)
+    (looped-meet d e) (looped-apart laws top f d e is.1 is'.1) (looped-apart laws top f e d is'.1 is.1)
+    (λ order others _ _. next d e is.1 is'.1))
 
-one-checked_text : TextLaws → (top text : List ℕ) → OneBy Alike (CheckedText top text)
-one-checked_text laws top text =
-    one-step-by Alike (IsNoWord text) (HasTokens text) (CheckedTokens top)
-    (λ a b x y e f. alike a b x y (one-no_word laws text a b x y e f)) (laws.reading text)
-    (λ a x tokens bad has. laws.stuck text tokens has bad.1.0) (λ tokens _. one-checked_tokens laws top tokens)
-
+-- ---- the command
 pub one_check : TextLaws → (design top : List ℕ) (files : Files) → OneBy Alike (Checks design top (Some files) (λ _. ⊥))
-one_check laws design top files =
-    one-reading-by Alike alike text_limit words.Design design files (CheckedText top) (one-checked_text laws top)
+one_check laws design top files = one-reading-by Alike alike text_limit words.Design design files (Checked top) (λ text.
+    one-spelling laws text (λ f. Building top f (λ _. IsSaid Done (check_text f (file_counts f top)))) (λ f. one-building laws top f (λ _. IsSaid Done (check_text f (file_counts f top)))
+    (λ d e of of' a b x y s s'. inr (one-said Done (check_text f (file_counts f top)) a b x y s s'))))

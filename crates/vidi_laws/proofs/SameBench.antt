@@ -2,8 +2,6 @@
 use Rattle.std.proofs.Common.{◌≡◌, ◌⊎◌, ℕ, List, None, Some, Ok, Err, inl, inr, map, sym, ap, subst, ◌∙◌}
 use Rattle.std.specs.Prelude.{slice_get}
 use Rattle.vidi_bits.proofs.Lists.{some_same}
-use Rattle.vlog_lex.specs.declared.token.Token.{Token}
-use Rattle.vlog_lex.specs.Reading.{HasTokens}
 use Rattle.vlog_tree.specs.Tree.{FileOf, ModuleOf}
 use Rattle.net_design.specs.declared.design.Design.{Design}
 use Rattle.net_design.specs.Lawful.{IsLawful}
@@ -30,20 +28,20 @@ use Rattle.run_model.specs.AlikeLaws.{MapsAlike, OneEnd, RunsAlike}
 use Rattle.vidi_laws.specs.Alike.{BuiltAlike}
 use Rattle.chan_map.specs.Laws.{OneBinding, OneMapText}
 use Rattle.script_text.specs.OneReading.{OnePlan, OneScript}
+use Rattle.vidi_io.specs.Shelf.{Files}
 use Rattle.report_text.specs.declared.reason.Word.TheVariants as words
 use Rattle.report_text.specs.declared.reason.Reason.{Reason}
 use Rattle.report_text.specs.Reason.{reason_line}
 use Rattle.vidi_commands.specs.declared.bench.Bench.{Bench}
 use Rattle.vidi_commands.specs.declared.status.Status.{Status}
 use Rattle.vidi_commands.specs.declared.status.Status.TheVariants.{Refused}
-use Rattle.vidi_commands.specs.Steps.{IsRefusal}
-use Rattle.vidi_commands.specs.Design.{line_of, IsNoWord, IsFile, IsRefusedFile, IsAccepted, IsLooped}
-use Rattle.vidi_commands.specs.Benches.{map_reason, script_reason, IsMapRefusal, IsScriptRefusal, IsNoMap, IsUnbound, IsNoScript, IsNoTree, IsNoText}
-use Rattle.vidi_commands.specs.Benches.{Spells, RefusedBound, RefusedDesign, RefusedFile, RefusedMap, RefusedTexts, IsBench}
-use Rattle.vidi_laws.proofs.OneEnding.{Same, One, OneBy, one-said, one-step, one-step-by}
-use Rattle.vidi_laws.proofs.Meets.{Meet, Apart, step-meets}
-use Rattle.vidi_laws.proofs.OneCheck.{TextLaws, Alike, alike, names-loop, no_reason, one-no_word, one-none, one-file, none-file, one-refused_file}
-use Rattle.vidi_laws.proofs.OneRefusal.{refused_clear}
+use Rattle.vidi_commands.specs.Steps.{Ending, IsRefusal}
+use Rattle.vidi_commands.specs.Reading.{IsRead, Reading}
+use Rattle.vidi_commands.specs.Design.{text_limit, IsAccepted, Building}
+use Rattle.vidi_commands.specs.Benches.{map_reason, script_reason, IsMapRefusal, IsScriptRefusal, IsNoMap, IsUnbound, IsNoScript}
+use Rattle.vidi_commands.specs.Benches.{ReadTexts, RefusedBound, RefusedMap, RefusedTexts, IsBench}
+use Rattle.vidi_laws.proofs.OneEnding.{Same, Meet, Apart, One, OneBy, one-said, one-step-by, one-reading-by, reading-apart, step-meets}
+use Rattle.vidi_laws.proofs.OneCheck.{TextLaws, Alike, alike, one-spelled, text-apart, one-spelling, file-apart, looped-apart, one-building}
 
 -- the laws on which this rests
 pub record BenchLaws : Type 0 where
@@ -97,6 +95,25 @@ designs-alike built f top d e x y =
     (subst (λ (t : ModuleOf ℕ). IsBuilt f.modules t (instances f top) e) (one-top f top y.top x.top y.named x.named) y.built)
     x.lawful y.lawful
 
+-- ---- the files of three texts
+pub one-texts : (design m script : List ℕ) (files : Files) (Next : List ℕ → List ℕ → List ℕ → Ending)
+    → ((d n s : List ℕ) → OneBy Alike (Next d n s)) → OneBy Alike (ReadTexts design m script (Some files) (λ _. ⊥) Next)
+one-texts design m script files Next one = one-reading-by Alike alike text_limit words.Design design files
+    (λ d. Reading text_limit words.Map m (Some files) (λ _. ⊥) (λ n. Reading text_limit words.Script script (Some files) (λ _. ⊥) (Next d n)))
+    (λ d. one-reading-by Alike alike text_limit words.Map m files
+    (λ n. Reading text_limit words.Script script (Some files) (λ _. ⊥) (Next d n))
+    (λ n. one-reading-by Alike alike text_limit words.Script script files (Next d n) (one d n)))
+
+-- where they are read, nothing but what comes of their texts ends the command
+pub texts-apart : (design m script : List ℕ) (files : Files) (Next : List ℕ → List ℕ → List ℕ → Ending) (d n s : List ℕ)
+    → IsRead text_limit design (Some files) d → IsRead text_limit m (Some files) n → IsRead text_limit script (Some files) s
+    → (a : Status) (x : List ℕ) → (Next d n s a x → ⊥) → ReadTexts design m script (Some files) (λ _. ⊥) Next a x → ⊥
+texts-apart design m script files Next d n s first second third a x apart = reading-apart text_limit words.Design design files
+    (λ d. Reading text_limit words.Map m (Some files) (λ _. ⊥) (λ n. Reading text_limit words.Script script (Some files) (λ _. ⊥) (Next d n)))
+    d first a x
+    (reading-apart text_limit words.Map m files (λ n. Reading text_limit words.Script script (Some files) (λ _. ⊥) (Next d n)) n second a x
+    (reading-apart text_limit words.Script script files (Next d n) s third a x apart))
+
 -- two benches that three texts say
 pub record SameBench (b c : Bench) : Type 0 where
   pub designs : AreAlike b.design c.design
@@ -105,22 +122,7 @@ pub record SameBench (b c : Bench) : Type 0 where
   pub script : b.script ≡ c.script
 
 module _ (laws : BenchLaws) where
-  -- ---- the texts of a design and of a map
-  no_text : (design : List ℕ) → One (IsNoText design)
-  no_text design = one-step (IsNoWord design) (HasTokens design) IsNoTree (one-no_word laws.texts design) (laws.texts.reading design)
-      (λ a x tokens bad has. laws.texts.stuck design tokens has bad.1.0) (λ (tokens : List Token) _. one-none laws.texts tokens)
-
-  one-spelled : (design : List ℕ) (f g : FileOf ℕ) → Spells design f → Spells design g → f ≡ g
-  one-spelled design f g (tokens, has, is) (others, has', is') =
-      let same = laws.texts.reading design others tokens has' has in
-      one-file laws.texts tokens f g is (subst (λ (ts : List Token). IsFile ts g) same is')
-
-  text-apart : (design : List ℕ) → Apart (IsNoText design) (Spells design)
-  text-apart design a x f (inl bad) (tokens, has, is) = laws.texts.stuck design tokens has bad.1.0
-  text-apart design a x f (inr (others, has', none)) (tokens, has, is) =
-      let same = laws.texts.reading design others tokens has' has in
-      none-file laws.texts tokens a x f (subst (λ (ts : List Token). IsNoTree ts a x) same none) is
-
+  -- ---- the text of a map
   no_map : (bytes : List ℕ) → One (IsNoMap bytes)
   no_map bytes a b x y (e, is, s) (f, is', s') = map-refusals e f (laws.map_text bytes (Err e) (Err f) is is') a b x y s s'
 
@@ -167,39 +169,15 @@ module _ (laws : BenchLaws) where
       (λ m n is is'. subst (λ (k : Map). Meet Alike (IsNoScript script m) (IsNoScript script k)) (one-map text d e same m n is is')
       (λ a b x y u v. alike a b x y (no_script script m a b x y u v)))
 
-  looped-meet : (d e : Design) → Meet Alike (IsLooped d) (IsLooped e)
-  looped-meet d e a b x y (loop, is, s) (loop', is', s') =
-      inl (names-loop a x (map (line_of d.drivers) loop) s, names-loop b y (map (line_of e.drivers) loop') s')
-
-  looped-apart : (f : FileOf ℕ) (top : List ℕ) (d e : Design) → IsDesignOf f top d → IsDesignOf f top e
-      → Apart (IsLooped d) (IsOrder e)
-  looped-apart f top d e of of' a x order (loop, is, s) ordered = laws.texts.loops f top d e of of' loop order is ordered
-
-  design-meet : (f : FileOf ℕ) (script : List ℕ) (text : MapText) (d e : Design) → IsDesignOf f text.top d → IsDesignOf f text.top e
-      → Meet Alike (RefusedDesign text script d) (RefusedDesign text script e)
-  design-meet f script text d e of of' = step-meets Alike (IsLooped d) (IsLooped e) (IsOrder d) (IsOrder e)
-      (λ _. RefusedBound text script d) (λ _. RefusedBound text script e) (looped-meet d e)
-      (looped-apart f text.top d e of of') (looped-apart f text.top e d of' of)
-      (λ order others is is'. bound-meet text script d e (designs-alike laws.built f text.top d e of of'))
-
-  file-apart : (f : FileOf ℕ) (top : List ℕ) → Apart (IsRefusedFile top f) (IsAccepted top f)
-  file-apart f top a x d (e, is, (r, names, s)) (clear, of) = absurd (no_reason e r names (refused_clear f top e is clear))
-
-  one-refused_design : (f : FileOf ℕ) (script : List ℕ) (text : MapText) → OneBy Alike (RefusedFile f script text)
-  one-refused_design f script text = step-meets Alike (IsRefusedFile text.top f) (IsRefusedFile text.top f) (IsAccepted text.top f)
-      (IsAccepted text.top f) (RefusedDesign text script) (RefusedDesign text script)
-      (λ a b x y u v. alike a b x y (one-refused_file text.top f a b x y u v)) (file-apart f text.top) (file-apart f text.top)
-      (λ d e is is'. design-meet f script text d e is.1 is'.1)
-
   one-refused_map : (m script : List ℕ) (f : FileOf ℕ) → OneBy Alike (RefusedMap m script f)
-  one-refused_map m script f = one-step-by Alike (IsNoMap m) (λ (t : MapText). ReadsMap m (Ok t)) (RefusedFile f script)
+  one-refused_map m script f = one-step-by Alike (IsNoMap m) (λ (t : MapText). ReadsMap m (Ok t))
+      (λ (text : MapText). Building text.top f (RefusedBound text script))
       (λ a b x y u v. alike a b x y (no_map m a b x y u v)) (one-text m) (map-apart m)
-      (λ text _. one-refused_design f script text)
+      (λ text _. one-building laws.texts text.top f (RefusedBound text script)
+      (λ d e of of'. bound-meet text script d e (designs-alike laws.built f text.top d e of of')))
 
   pub one-refused_texts : (design m script : List ℕ) → OneBy Alike (RefusedTexts design m script)
-  one-refused_texts design m script = one-step-by Alike (IsNoText design) (Spells design) (RefusedMap m script)
-      (λ a b x y u v. alike a b x y (no_text design a b x y u v)) (one-spelled design) (text-apart design)
-      (λ f _. one-refused_map m script f)
+  one-refused_texts design m script = one-spelling laws.texts design (RefusedMap m script) (one-refused_map m script)
 
   -- ---- no reason where they say a bench
   module _ (design m script : List ℕ) (c : Bench) (bench : IsBench design m script c) where
@@ -209,33 +187,29 @@ module _ (laws : BenchLaws) where
         let map-is = one-map bench.text d c.design same n c.map binds bench.bound in
         script-apart script c.map a x c.script (subst (λ (k : Map). IsNoScript script k a x) map-is none) bench.plays
 
-    design-apart : (a : Status) (x : List ℕ) (d : Design) → IsDesignOf bench.file bench.text.top d
-        → RefusedDesign bench.text script d a x → ⊥
-    design-apart a x d of (inl looped) =
-        looped-apart bench.file bench.text.top d c.design of bench.accepted.1 a x c.order.drivers looped bench.ordered
-    design-apart a x d of (inr (order, is, rest)) =
-        bound-apart a x d (designs-alike laws.built bench.file bench.text.top d c.design of bench.accepted.1) rest
-
-    file-refused : (a : Status) (x : List ℕ) → RefusedFile bench.file script bench.text a x → ⊥
-    file-refused a x (inl bad) = file-apart bench.file bench.text.top a x c.design bad bench.accepted
-    file-refused a x (inr (d, accepted, rest)) = design-apart a x d accepted.1 rest
+    design-refused : (a : Status) (x : List ℕ) → Building bench.text.top bench.file (RefusedBound bench.text script) a x → ⊥
+    design-refused a x (inl bad) = file-apart bench.text.top bench.file a x c.design bad bench.accepted
+    design-refused a x (inr (d, accepted, inl looped)) =
+        looped-apart laws.texts bench.text.top bench.file d c.design accepted.1 bench.accepted.1 a x c.order.drivers looped bench.ordered
+    design-refused a x (inr (d, accepted, inr (order, is, rest))) =
+        bound-apart a x d (designs-alike laws.built bench.file bench.text.top d c.design accepted.1 bench.accepted.1) rest
 
     map-refused : (a : Status) (x : List ℕ) → RefusedMap m script bench.file a x → ⊥
     map-refused a x (inl none) = map-apart m a x bench.text none bench.mapped
     map-refused a x (inr (text, reads, rest)) =
-        file-refused a x
-        (subst (λ (t : MapText). RefusedFile bench.file script t a x) (one-text m text bench.text reads bench.mapped) rest)
+        design-refused a x
+        (subst (λ (t : MapText). Building t.top bench.file (RefusedBound t script) a x) (one-text m text bench.text reads bench.mapped) rest)
 
     pub texts-refused : (a : Status) (x : List ℕ) → RefusedTexts design m script a x → ⊥
-    texts-refused a x (inl none) = text-apart design a x bench.file none bench.spelled
+    texts-refused a x (inl none) = text-apart laws.texts design a x bench.file none bench.spelled
     texts-refused a x (inr (f, spelled, rest)) =
         map-refused a x
-        (subst (λ (g : FileOf ℕ). RefusedMap m script g a x) (one-spelled design f bench.file spelled bench.spelled) rest)
+        (subst (λ (g : FileOf ℕ). RefusedMap m script g a x) (one-spelled laws.texts design f bench.file spelled bench.spelled) rest)
 
   -- ---- one bench, but for the design, of which there are several that are alike
   pub same-bench : (design m script : List ℕ) (b c : Bench) → IsBench design m script b → IsBench design m script c → SameBench b c
   same-bench design m script b c x y =
-      let file = one-spelled design y.file x.file y.spelled x.spelled in
+      let file = one-spelled laws.texts design y.file x.file y.spelled x.spelled in
       let text = one-text m y.text x.text y.mapped x.mapped in
       let accepted : IsAccepted x.text.top x.file c.design =
       subst (λ (t : MapText). IsAccepted t.top x.file c.design) text

@@ -28,15 +28,15 @@ use Rattle.vidi_commands.specs.declared.bench.Bench.{Bench}
 use Rattle.vidi_commands.specs.declared.status.Status.{Status}
 use Rattle.vidi_commands.specs.declared.status.Status.TheVariants.{Done, Refused, Unstable}
 use Rattle.vidi_commands.specs.Steps.{IsRefusal}
+use Rattle.vidi_commands.specs.Reading.{Reading}
 use Rattle.vidi_commands.specs.Benches.{RefusedTexts, IsBench}
 use Rattle.vidi_commands.specs.Design.{text_limit}
-use Rattle.vidi_commands.specs.Records.{IsNoPlan, IsTooSmall, RefusedPlan, RefusedPlanned, StallsUnrecorded, ScriptUnrecorded, MapUnrecorded}
+use Rattle.vidi_commands.specs.Records.{IsNoPlan, IsTooSmall, RefusedPlan, RefusedPlanned}
 use Rattle.vidi_commands.specs.Records.{IsUnrecorded, IsPlanned, IsRecorded, RecordsRun, Records, course_of}
 use Rattle.vidi_commands.specs.Said.{recorded_line, unstable_line}
-use Rattle.vidi_laws.proofs.OneEnding.{Same, One, OneBy, one-said, one-read, one-reading-by, unread-read}
-use Rattle.vidi_laws.proofs.Meets.{Meet, Apart, step-meets}
+use Rattle.vidi_laws.proofs.OneEnding.{Same, Meet, Apart, One, OneBy, one-said, one-read, one-reading-by, reading-apart, step-meets}
 use Rattle.vidi_laws.proofs.OneCheck.{Alike, alike}
-use Rattle.vidi_laws.proofs.SameBench.{BenchLaws, SameBench, one-refused_texts, texts-refused, same-bench}
+use Rattle.vidi_laws.proofs.SameBench.{BenchLaws, SameBench, one-texts, texts-apart, one-refused_texts, texts-refused, same-bench}
 
 same-line : (l k : ℕ) → stall_errors.Line l ≡ stall_errors.Line k → l ≡ k
 same-line l k e = cc
@@ -112,11 +112,9 @@ module _ (laws : BenchLaws) where
 
   unrecorded : (design m script stalls : List ℕ) (files : Files)
       → OneBy Alike (IsUnrecorded design m script stalls (Some files) (λ _. ⊥))
-  unrecorded design m script stalls files =
-      one-reading-by Alike alike text_limit words.Design design files (MapUnrecorded m script stalls (Some files) (λ _. ⊥))
-      (λ d. one-reading-by Alike alike text_limit words.Map m files (ScriptUnrecorded script stalls (Some files) (λ _. ⊥) d)
-      (λ n. one-reading-by Alike alike text_limit words.Script script files (StallsUnrecorded stalls (Some files) (λ _. ⊥) d n)
-      (λ t. one-reading-by Alike alike text_limit words.Stalls stalls files (RefusedPlanned d n t) (refused-planned d n t))))
+  unrecorded design m script stalls files = one-texts design m script files
+      (λ d n s. Reading text_limit words.Stalls stalls (Some files) (λ _. ⊥) (RefusedPlanned d n s)) (λ d n s.
+      one-reading-by Alike alike text_limit words.Stalls stalls files (RefusedPlanned d n s) (refused-planned d n s))
 
   -- ---- which isn't there where something is recorded
   module _ (design m script stalls : List ℕ) (files : Files) (b : Bench) (plan : Stalls)
@@ -131,29 +129,12 @@ module _ (laws : BenchLaws) where
         let capacity = plans.0 in
         omega (arith, small, least, capacity)
 
-    stalls-apart : StallsUnrecorded stalls (Some files) (λ _. ⊥) is.design_text is.map_text is.script_text a x → ⊥
-    stalls-apart (inl unread) = unread-read text_limit words.Stalls stalls files a x is.stalls_text unread is.stalls_read
-    stalls-apart (inr (text, read, rest)) =
-        planned-apart (subst (λ (t : List ℕ). RefusedPlanned is.design_text is.map_text is.script_text t a x)
-        (one-read text_limit stalls files text is.stalls_text read is.stalls_read) rest)
-
-    script-unread : ScriptUnrecorded script stalls (Some files) (λ _. ⊥) is.design_text is.map_text a x → ⊥
-    script-unread (inl unread) = unread-read text_limit words.Script script files a x is.script_text unread is.script_read
-    script-unread (inr (text, read, rest)) =
-        stalls-apart (subst (λ (t : List ℕ). StallsUnrecorded stalls (Some files) (λ _. ⊥) is.design_text is.map_text t a x)
-        (one-read text_limit script files text is.script_text read is.script_read) rest)
-
-    map-unread : MapUnrecorded m script stalls (Some files) (λ _. ⊥) is.design_text a x → ⊥
-    map-unread (inl unread) = unread-read text_limit words.Map m files a x is.map_text unread is.map_read
-    map-unread (inr (text, read, rest)) =
-        script-unread (subst (λ (t : List ℕ). ScriptUnrecorded script stalls (Some files) (λ _. ⊥) is.design_text t a x)
-        (one-read text_limit m files text is.map_text read is.map_read) rest)
-
     unrecorded-apart : IsUnrecorded design m script stalls (Some files) (λ _. ⊥) a x → ⊥
-    unrecorded-apart (inl unread) = unread-read text_limit words.Design design files a x is.design_text unread is.design_read
-    unrecorded-apart (inr (text, read, rest)) =
-        map-unread (subst (λ (t : List ℕ). MapUnrecorded m script stalls (Some files) (λ _. ⊥) t a x)
-        (one-read text_limit design files text is.design_text read is.design_read) rest)
+    unrecorded-apart = texts-apart design m script files
+        (λ d n s. Reading text_limit words.Stalls stalls (Some files) (λ _. ⊥) (RefusedPlanned d n s)) is.design_text is.map_text
+        is.script_text is.design_read is.map_read is.script_read a x
+        (reading-apart text_limit words.Stalls stalls files (RefusedPlanned is.design_text is.map_text is.script_text) is.stalls_text
+        is.stalls_read a x planned-apart)
 
   -- ---- what is recorded
   -- two plannings of the same files

@@ -10,18 +10,15 @@ use Rattle.bench_run.specs.declared.plain.Spot.{Spot}
 use Rattle.env_script.specs.Offered.{offers_after}
 use Rattle.bench_run.specs.Plain.{channel_of}
 use Rattle.vidi_io.specs.Shelf.{Files}
-use Rattle.report_text.specs.declared.reason.Word.TheVariants as words
 use Rattle.report_text.specs.Rows.{run_text}
 use Rattle.vidi_commands.specs.declared.bench.Bench.{Bench}
 use Rattle.vidi_commands.specs.declared.status.Status.TheVariants.{Done, Unstable}
 use Rattle.vidi_commands.specs.Benches.{RefusedTexts, IsBench}
-use Rattle.vidi_commands.specs.Design.{text_limit}
-use Rattle.vidi_commands.specs.Runs.{IsEnded, IsPlayed, RunTexts, RunScriptFile, RunMapFile, Runs}
+use Rattle.vidi_commands.specs.Runs.{IsEnded, IsPlayed, RunTexts, Runs}
 use Rattle.vidi_commands.specs.Said.{cycles_line, unstable_line}
-use Rattle.vidi_laws.proofs.OneEnding.{Same, OneBy, one-said, one-reading-by}
-use Rattle.vidi_laws.proofs.Meets.{Meet, step-meets}
+use Rattle.vidi_laws.proofs.OneEnding.{Same, Meet, OneBy, one-said, step-meets}
 use Rattle.vidi_laws.proofs.OneCheck.{Alike, alike}
-use Rattle.vidi_laws.proofs.SameBench.{BenchLaws, SameBench, one-refused_texts, texts-refused, same-bench}
+use Rattle.vidi_laws.proofs.SameBench.{BenchLaws, SameBench, one-texts, one-refused_texts, texts-refused, same-bench}
 
 -- ---- how a run ends
 no-channel : (c : ℕ) → None ≡ Some c → ⊥
@@ -72,7 +69,4 @@ module _ (laws : BenchLaws) where
       (λ b c is is' s t x y u v. alike s t x y (played-once b c (same-bench laws design m script b c is is') s t x y u v))
 
   pub one_run : (design m script : List ℕ) (files : Files) → OneBy Alike (Runs design m script (Some files) (λ _. ⊥))
-  one_run design m script files =
-      one-reading-by Alike alike text_limit words.Design design files (RunMapFile m script (Some files) (λ _. ⊥))
-      (λ d. one-reading-by Alike alike text_limit words.Map m files (RunScriptFile script (Some files) (λ _. ⊥) d)
-      (λ n. one-reading-by Alike alike text_limit words.Script script files (RunTexts d n) (run-texts d n)))
+  one_run design m script files = one-texts design m script files RunTexts run-texts

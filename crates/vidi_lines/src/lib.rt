@@ -11,6 +11,3 @@ mod numeral;
 pub use error::LineError;
 pub use lines::{Line, Lines, Names, ReadLines, each_line, lines_of};
 pub use numeral::number;
-
-#[cfg(test)]
-mod tests;

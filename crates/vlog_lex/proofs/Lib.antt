@@ -1,6 +1,7 @@
 pub mod Spans
 pub mod Numbers
 pub mod Longest
+pub mod Solid
 pub mod Lookup
 pub mod Gaps
 pub mod Apart

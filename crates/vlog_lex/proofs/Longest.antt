@@ -5,20 +5,16 @@ use Rattle.std.proofs.Common.{length-append, take_at}
 use Rattle.std.specs.List.{list_any, list_all}
 use Rattle.std.specs.Str.{bytes_eq}
 use Rattle.std.proofs.lemmas.Slice.Eq.{bytes_eq-Decides}
-use Rattle.std.proofs.lemmas.Bool.{false≢true, or_cases, or_left, and_parts, and_from, both_ways, le-leb, cond-false, false_from_ne_true}
+use Rattle.std.proofs.lemmas.Bool.{false≢true, or_cases, or_left, and_parts, and_from, both_ways, le-leb}
 use Rattle.std.proofs.lemmas.Bool.{eqb-true, leb-true, cases_lt}
 use Rattle.std.proofs.lemmas.Bool.Decides.{nat_tests}
-use Rattle.std.proofs.lemmas.List.Sums.{sum_by-cons, sum_by-append}
-use Rattle.vlog_lex.specs.Span.{Each}
-use Rattle.vlog_lex.specs.Reading.{newlines}
 use Rattle.vlog_lex.specs.Words.{is_among, symbols, is_symbol}
 use Rattle.vlog_lex.specs.Front.{IsLongestFront, has_symbol}
-use Rattle.vlog_lex.specs.Lexeme.{begins_name, continues_name, is_digit_of, continues_digits, IsName, IsDigits, IsDecimal, IsBased}
+use Rattle.vlog_lex.specs.Lexeme.{begins_name, is_digit_of, IsName, IsDecimal, IsBased}
 use Rattle.vlog_lex.specs.Lexeme.{IsSymbol, IsToken, IsLongest}
 use Rattle.vlog_lex.specs.declared.token.TokenKind.{TokenKind}
 use Rattle.vlog_lex.specs.declared.token.TokenKind.TheVariants.{Identifier, Reserved, Decimal, Based, Other}
-use Rattle.vlog_lex.proofs.Spans.{run_each}
-use Rattle.vlog_lex.proofs.Numbers.{decimal_before_quote, decimal_each}
+use Rattle.vlog_lex.proofs.Numbers.{decimal_before_quote}
 
 -- what a byte can begin: a name, a number, or neither
 abbrev class_of_byte : ℕ → ℕ
@@ -111,55 +107,6 @@ decimal_no_based text decimal based =
     let long : length text ≡ length based.size + suc (suc (length based.digits)) = ap length based.spelled
     ∙ length-append based.size (39 ∷ based.base ∷ based.digits) in
     omega arith
-
-abbrev newline_at : ℕ → ℕ
-newline_at b = cond (b == 10) 1 0
-
-newlines-cons : (b : ℕ) (text : List ℕ) → newlines (b ∷ text) ≡ newline_at b + newlines text
-newlines-cons b text = sum_by-cons newline_at b text
-
-both_zero : {x y : ℕ} → x ≡ 0 → y ≡ 0 → x + y ≡ 0
-both_zero a b = omega arith
-
-other_byte : (p : ℕ → Bool) → p 10 ≡ false → (b : ℕ) → p b ≡ true → newline_at b ≡ 0
-other_byte p never b passes =
-    let P : ℕ → Type 0 = λ x. p x ≡ true in
-    let one : ℕ = 1 in
-    cond-false (b == 10) one 0 (false_from_ne_true (b == 10) (λ h. both_ways _ never (subst P (eqb-true b 10 h) passes)))
-
--- no byte that passes is a newline
-each_no_newline : (p : ℕ → Bool) → p 10 ≡ false → (text : List ℕ) → Each p text → newlines text ≡ 0
-each_no_newline p never [] each = refl
-each_no_newline p never (b ∷ text) each = newlines-cons b text ∙ both_zero (other_byte p never b each.0)
-    (each_no_newline p never text each.1)
-
-no_newline_digit : (base : ℕ) → continues_digits base 10 ≡ false
-no_newline_digit base = grind (arith, nat_tests)
-
-digits_no_newline : (base : ℕ) (digits : List ℕ) → IsDigits base digits → newlines (base ∷ digits) ≡ 0
-digits_no_newline base [] run = absurd run
-digits_no_newline base (d ∷ digits) run =
-    newlines-cons base (d ∷ digits)
-    ∙ both_zero (other_byte (λ x. is_digit_of x d) refl base run.0)
-    (each_no_newline (continues_digits base) (no_newline_digit base) (d ∷ digits) (or_left (is_digit_of base d) _ run.0, run.1))
-
-based_no_newline : (text : List ℕ) → IsBased text → newlines text ≡ 0
-based_no_newline text based =
-    let size : newlines based.size ≡ 0 = ⊎_elim (λ none. ap newlines none)
-    (λ run. each_no_newline (continues_digits 100) refl based.size (decimal_each based.size run)) based.sized in
-    ap newlines based.spelled ∙ sum_by-append newline_at based.size (39 ∷ based.base ∷ based.digits)
-    ∙ both_zero size (newlines-cons 39 (based.base ∷ based.digits) ∙ both_zero refl
-    (digits_no_newline based.base based.digits based.valued))
-
-pub no_newline : (kind : TokenKind) (text : List ℕ) → IsToken kind text → newlines text ≡ 0
-unfolding is_symbol
-no_newline Identifier text token = each_no_newline continues_name refl text
-    (run_each begins_name continues_name text (λ b h. or_left (begins_name b) _ h) token.0)
-no_newline Reserved text token = each_no_newline continues_name refl text
-    (run_each begins_name continues_name text (λ b h. or_left (begins_name b) _ h) token.0)
-no_newline Decimal text token = each_no_newline (continues_digits 100) refl text (decimal_each text token)
-no_newline Based text token = based_no_newline text token
-no_newline Other text token = eqb-true _ _ (holds_among (λ t. newlines t == 0) symbols text token refl)
 
 -- a text is a token of one kind
 pub one_kind : (k j : TokenKind) (text : List ℕ) → IsToken k text → IsToken j text → k ≡ j

@@ -14,7 +14,8 @@ use Rattle.vlog_lex.specs.Front.{IsFrontBefore, IsNextToken}
 use Rattle.vlog_lex.specs.Reading.{Piece, Gap, Lexeme, text_of, IsPiece, Leads, newlines, token_of, tokens_of, HasTokens, IsStuck}
 use Rattle.vlog_lex.specs.Reading.{line_before, IsStuckOn, OneStuckLine}
 use Rattle.vlog_lex.proofs.Spans.{same_front}
-use Rattle.vlog_lex.proofs.Longest.{one_kind, token_some, no_newline}
+use Rattle.vlog_lex.proofs.Longest.{one_kind, token_some}
+use Rattle.vlog_lex.proofs.Solid.{no_newline}
 use Rattle.vlog_lex.proofs.Gaps.{one_gap, gap_some}
 use Rattle.vlog_lex.proofs.Apart.{gap_no_token}
 

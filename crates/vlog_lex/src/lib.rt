@@ -15,6 +15,3 @@ mod words;
 pub use error::LexError;
 pub use lexer::{is_token, lex, one_reading, one_stuck_line, read_or_stuck};
 pub use token::{Token, TokenKind, Tokens};
-
-#[cfg(test)]
-mod tests;

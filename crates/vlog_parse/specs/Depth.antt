@@ -1,6 +1,6 @@
 -- The three limits of a design text (this project's profile): what is open, tokens without a cut, and `else` in one `always`.
 use Rattle.std.specs.Prelude.{◌≡◌, if◌then◌else◌, ℕ, zero, suc, ◌≤◌, ◌<◌, leb, Bool, true, false, ◌&&◌, ◌||◌, ◌⊎◌, List, [], ◌∷◌, ◌++◌, All}
-use Rattle.std.specs.Prelude.{codes, count_by, length}
+use Rattle.std.specs.Prelude.{codes, count_by, length, nat_lt}
 use Rattle.std.specs.Str.{bytes_eq}
 use Rattle.vlog_lex.specs.declared.token.TokenKind.TheVariants.{Reserved, Other}
 use Rattle.vlog_expr.specs.Marks.{TokenOf, Toks, same_kind}
@@ -88,3 +88,15 @@ IsShallow {A} ws = (b : Toks A) (x : TokenOf A) (r : Toks A) → ws ≡ b ++ x �
 pub record OneDepth (A : Type 0) : Type 0 where
   pub line : (ws : Toks A) (a b : A) → IsDeep ws a → IsDeep ws b → a ≡ b
   pub apart : (ws : Toks A) (a : A) → IsDeep ws a → IsShallow ws → ⊥
+
+-- ---- what the stack has room for
+
+-- how many tokens stand outside of brackets since the last cut there, where so many stood before a token at which n are open
+abbrev pub outside_at : {A : Type 0} → ℕ → ℕ → TokenOf A → ℕ
+outside_at before n x = if nat_lt 0 n then before else if is_cut n x then 0 else suc before
+
+-- where n are open and so many stand outside, more than 2,048 come to stand there with no cut there between them
+abbrev pub overruns : {A : Type 0} → ℕ → ℕ → Toks A → Bool
+overruns n before [] = false
+overruns n before (x ∷ xs) = nat_lt 2048 (outside_at before (open_at n x) x)
+    || overruns (open_at n x) (outside_at before (open_at n x) x) xs

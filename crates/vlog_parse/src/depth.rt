@@ -1,22 +1,26 @@
 //! The limits of nesting and length.
 
-ghost use Rattle.std.specs.Prelude.{◌≡◌, if◌then◌else◌, suc, ℕ, ◌≤◌, ◌<◌, ◌↔◌, true, IsTrue, Some, None, codes};
+ghost use Rattle.std.specs.Prelude.{◌≡◌, if◌then◌else◌, suc, ℕ, ◌≤◌, ◌<◌, ◌-◌, ◌^◌, ◌↔◌, true, IsTrue, Some, None, codes};
 ghost use Rattle.vlog_expr.specs.Marks.{marked, all_marked};
 ghost use Rattle.vlog_parse.specs.Depth.{is_word, is_symbol, opens, closes, open_at, is_cut, is_else, IsDeep, IsShallow};
+ghost use Rattle.vlog_parse.specs.Depth.{outside_at, overruns};
 
 use vlog_lex::{Token, TokenKind};
 
-const MOST_OPEN: u32 = 32;
+const MOST_OPEN: usize = 32;
 
 const LONGEST_RUN: u32 = 1_024;
 
 const MOST_ELSES: u32 = 1_024;
 
+/// The most tokens of one expression outside of brackets: each operator among them is a level of its tree.
+const MOST_OUTSIDE: u32 = 2_048;
+
 /// What counts behind the tokens that were read.
 #[derive(Clone, Copy)]
 struct Limits {
     /// Brackets, `begin` and `case` that are open.
-    depth: u32,
+    depth: usize,
     /// Tokens since the last cut.
     run: u32,
     /// `else` since the last `always`.
@@ -56,8 +60,8 @@ fn closes(token: &Token) -> bool
 }
 
 /// How many are open at the token, where `before` are open before it.
-fn open_at(before: u32, token: &Token) -> u32
-    requires { before ≤ 32 }
+fn open_at(before: usize, token: &Token) -> usize
+    requires { before < 2 ^ 64 - 1 }
     ensures { result ≡ open_at before (marked token.now) }
 {
     if opens(token) {
@@ -70,7 +74,7 @@ fn open_at(before: u32, token: &Token) -> u32
 }
 
 /// Whether a run of tokens ends with this one, at which `depth` are open.
-fn is_cut(depth: u32, token: &Token) -> bool
+fn is_cut(depth: usize, token: &Token) -> bool
     ensures { result ≡ is_cut depth (marked token.now) }
 {
     is_symbol(b";", token) || is_word(b"endmodule", token) || (is_symbol(b",", token) && depth <= 1)
@@ -128,4 +132,35 @@ pub fn deep_line(tokens: &[Token]) -> Option<u32>
         }
     }
     None
+}
+
+/// How many tokens stand outside of brackets since the last cut there, where so many stood before this one, at which `depth` are open.
+fn outside_at(before: u32, depth: usize, token: &Token) -> u32
+    requires { before ≤ 2048 }
+    ensures { result ≡ outside_at before depth (marked token.now) }
+{
+    if depth > 0 {
+        before
+    } else if is_cut(depth, token) {
+        0
+    } else {
+        before + 1
+    }
+}
+
+/// Whether more than 2,048 tokens stand outside of brackets with no cut there between them. A comma within one bracket is a cut too,
+/// so the run of `{a, a} + {a, a} + ..` has no end, while its tree is as deep as it has operators.
+pub fn overruns(tokens: &[Token]) -> bool
+    ensures { result ≡ overruns 0 0 (all_marked tokens.now) }
+{
+    let mut depth = 0;
+    let mut outside = 0;
+    for token in tokens {
+        depth = open_at(depth, token);
+        outside = outside_at(outside, depth, token);
+        if outside > MOST_OUTSIDE {
+            return true;
+        }
+    }
+    false
 }

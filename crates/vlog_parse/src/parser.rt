@@ -12,7 +12,7 @@ ghost use Rattle.vlog_parse.specs.Depth.{IsDeep, IsShallow};
 ghost use Rattle.vlog_parse.specs.Parsing.{IsFileOf, IsLinedFileOf, Refuses};
 ghost use Rattle.vlog_expr.specs.Given.{Gives};
 
-use crate::depth::deep_line;
+use crate::depth::{deep_line, overruns};
 use crate::error::ParseError;
 use crate::module::file_of;
 use crate::units::item_line;
@@ -46,7 +46,8 @@ fn lawful_file(alloc: Global, tokens: &[Token]) -> Result<File, Unread>
 ///
 /// `Deep` comes exactly where a limit of nesting or length is passed, else `Item` exactly where no file
 /// of good shape has these tokens, with the line of the first token behind the longest list of whole units.
-/// `Memory` comes where no memory was found.
+/// `Memory` comes where no memory was found, and where an expression has more than 2,048 tokens outside of brackets, for
+/// which the stack may have no room.
 pub fn parse(alloc: Global, tokens: &Tokens) -> Result<File, ParseError>
     // No limit is passed, the file has good shape, and the tokens are its words, lines included.
     ensures found { IfOk result (λ f. IsShallow (all_marked tokens.now) × IsLinedFileOf tokens.now (plain f)) }
@@ -60,6 +61,9 @@ pub fn parse(alloc: Global, tokens: &Tokens) -> Result<File, ParseError>
 {
     if let Some(line) = deep_line(tokens.as_slice()) {
         return Err(ParseError::Deep { line });
+    }
+    if overruns(tokens.as_slice()) {
+        return Err(ParseError::Memory);
     }
     match lawful_file(alloc, tokens.as_slice()) {
         Ok(file) => Ok(file),

@@ -4,6 +4,7 @@ ghost use Rattle.std.specs.Prelude.{◌≡◌, ◌↔◌, false, IsTrue, Some, I
 ghost use Rattle.vlog_tree.specs.Plain.{plain_item};
 ghost use Rattle.vlog_expr.specs.Marks.{all_marked};
 ghost use Rattle.vlog_expr.specs.Given.{Gives};
+ghost use Rattle.vlog_parse.specs.FileReader.{item_at};
 ghost use Rattle.vlog_parse.specs.UnitReader.{whole_item, behind_header, behind_item, unit_at, behind_units};
 ghost use Rattle.vlog_parse.specs.Units.{line_or, last_line, IsItemLine};
 
@@ -41,11 +42,19 @@ fn behind_header(alloc: Global, tokens: &[Token], fuel: usize) -> Result<&[Token
     Ok(rest)
 }
 
+/// An item, on the heap.
+fn boxed_item(alloc: Global, tokens: &[Token], fuel: usize) -> Parsed<'_, Box<Item>>
+    ensures { Gives (λ x. (plain_item x.0.value, all_marked x.1.now)) result (item_at fuel (all_marked tokens.now)) }
+{
+    let (item, rest) = item_of(alloc, tokens, fuel)?;
+    Ok((Box::new(alloc, item)?, rest))
+}
+
 /// The tokens behind a whole item.
 fn behind_item(alloc: Global, tokens: &[Token], fuel: usize) -> Result<&[Token], Unread>
     ensures { Gives (λ rest. all_marked rest.now) result (behind_item fuel (all_marked tokens.now)) }
 {
-    let (item, rest) = item_of(alloc, tokens, fuel)?;
+    let (item, rest) = boxed_item(alloc, tokens, fuel)?;
     if is_whole(&item, rest) {
         return Ok(rest);
     }

@@ -35,7 +35,7 @@ split_at-requires c =
     let p = c.requires.at.1 in
     let r = masks-read t p h.sizes.items c.args.rest.now clock h.starts h.ends _ c.requires.at.2 c.requires.at.3 c.requires.masks refl in
     let w = packet-within t p h.sizes.items c.args.rest.now clock h.starts h.ends _ c.requires.at.2 r in
-    let n = c.packet_len.ensures in
+    let n = h.len_is in
     omega (arith, w, n)
 
 pub returns-clause-at : goal.returns-clause-at
@@ -48,7 +48,7 @@ returns-clause-at c t p at l =
     let r = masks-read t p h.sizes.items c.args.rest.now clock h.starts h.ends _ at l c.requires.masks refl in
     goes-on t p h.sizes.items c.args.rest.now clock (tallied n.clock n.ends n.times) c.split_at.result.1.now h.starts h.ends at l r.here_is
     r.starts_is r.ends_is
-    (c.split_at.ensures.back ∙ ap (λ k. drop k c.args.rest.now) c.packet_len.ensures
+    (c.split_at.ensures.back ∙ ap (λ k. drop k c.args.rest.now) h.len_is
     ∙ behind-packet (mask_len (length h.sizes.items)) (sizes_under h.starts h.sizes.items) c.args.rest.now)
     (tallied-long n.clock n.ends n.times ∙ c.add.ensures.len ∙ sym long)
     (λ k m. c.add.ensures.each k (omega (arith, m, long)))
@@ -61,5 +61,5 @@ returns-clause-shorter c =
     let r = masks-read c.requires.at.0 c.requires.at.1 h.sizes.items c.args.rest.now clock h.starts h.ends _ c.requires.at.2 c.requires.at.3
     c.requires.masks refl in
     let long = r.here_is.long in
-    let n = c.packet_len.ensures in
-    omega (arith, long, n, ap length c.split_at.ensures.back, length-drop c.packet_len.result c.args.rest.now)
+    let n = h.len_is in
+    omega (arith, long, n, ap length c.split_at.ensures.back, length-drop h.len c.args.rest.now)

@@ -1,12 +1,15 @@
+use Rattle.std.proofs.Common.{ℕ, List, inr}
 use Rattle.vidi_io.specs.Cause.{Rose}
-use Rattle.report_text.specs.declared.reason.Word.TheVariants as words
-use Rattle.vidi_commands.specs.Design.{text_limit, CheckedText}
-use Rattle.vidi_commands.proofs.Reading.{read-on}
+use Rattle.vidi_commands.specs.Checks.{Checked, Checks}
+use Rattle.vidi_commands.specs.Ended.{IsAnswered}
+use Rattle.vidi_commands.proofs.Chain.{all-answered}
 use Rattle.vidi_commands.proofs.check.check.Goals as goal
 
-pub returns-clause-earned : goal.returns-clause-earned
-returns-clause-earned g c =
-    read-on text_limit words.Design c.args.design.now (g.S.Shelf.files c.args.shelf.now)
-    (λ name. Rose (g.S.Shelf.read_faults c.args.shelf.now name) (g.S.Shelf.read_faults c.read_whole.new.shelf name))
-    (CheckedText c.args.top.now) c.in-Ok.bytes c.as_slice.result.now c.checked_text.result
-    c.in-Ok.ensures.bytes c.in-Ok.ensures.within c.as_slice.ensures c.checked_text.ensures
+pub returns-clause-answered : goal.returns-clause-answered
+returns-clause-answered g c =
+    let S = g.S.Shelf in
+    let F = λ (name : List ℕ). Rose (S.read_faults c.args.shelf.now name) (S.read_faults c.read_file.new.shelf name) in
+    let text = c.in_ok-text.text in
+    let answered : IsAnswered (Checked c.args.top.now text) c.checked.result = rw c.as_slice.ensures at c.checked.ensures in
+    all-answered (Checked c.args.top.now text) (Checks c.args.design.now c.args.top.now (S.files c.args.shelf.now) F) c.checked.result
+    (λ a x is. inr (text, c.in_ok-text.ensures.read, is)) answered

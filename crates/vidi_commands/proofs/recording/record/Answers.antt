@@ -1,30 +1,37 @@
-use Rattle.std.proofs.Common.{inl}
+use Rattle.std.proofs.Common.{ℕ, List, inl}
 use Rattle.vidi_io.specs.Cause.{Rose}
-use Rattle.vidi_commands.proofs.Recorded.{recorded-on, stopped-on}
-use Rattle.vidi_commands.proofs.Running.{rose-since}
+use Rattle.vidi_commands.specs.Records.{IsUnrecorded, Records, StopsRecording}
+use Rattle.vidi_commands.proofs.Chain.{passed-owed, rose-since}
+use Rattle.vidi_commands.proofs.Recorded.{recorded-owed}
 use Rattle.vidi_commands.proofs.recording.record.Goals as goal
 
-pub returns-in-Ok-clause-earned : goal.returns-in-Ok-clause-earned
-returns-in-Ok-clause-earned g c =
+pub returns-in_err-planned-clause-owed : goal.returns-in_err-planned-clause-owed
+returns-in_err-planned-clause-owed g c =
     let S = g.S.Shelf in
-    recorded-on c.args.design.now c.args.map.now c.args.script.now c.args.stalls.now c.args.trace.now (S.files c.args.shelf.now)
-    (S.files c.plan_recording.new.shelf) (S.files c.recorded.new.shelf)
-    (λ name. Rose (S.read_faults c.args.shelf.now name) (S.read_faults c.recorded.new.shelf name)) c.in-Ok.planned.bench
-    c.in-Ok.planned.plan c.recorded.result c.plan_recording.ensures.files c.in-Ok.ensures.planned c.recorded.ensures.done
+    let files = S.files c.args.shelf.now in
+    let F = λ (name : List ℕ). Rose (S.read_faults c.args.shelf.now name) (S.read_faults c.plan_recording.new.shelf name) in
+    let design = c.args.design.now in
+    let map = c.args.map.now in
+    let script = c.args.script.now in
+    let stalls = c.args.stalls.now in
+    let trace = c.args.trace.now in
+    passed-owed (IsUnrecorded design map script stalls files F) (Records design map script stalls trace files F)
+    (StopsRecording design map script stalls trace files)
+    (Rose (S.write_faults c.args.shelf.now) (S.write_faults c.plan_recording.new.shelf)) files (S.files c.plan_recording.new.shelf)
+    c.in_err-planned.field-0.0 c.from_residual.result c.from_residual.ensures.1 c.plan_recording.ensures.files
+    (λ a x is. inl (is, c.plan_recording.ensures.files)) c.in_err-planned.ensures.refused
 
-pub returns-in-Ok-clause-stopped : goal.returns-in-Ok-clause-stopped
-returns-in-Ok-clause-stopped g c =
+pub returns-clause-owed : goal.returns-clause-owed
+returns-clause-owed g c =
     let S = g.S.Shelf in
-    stopped-on c.args.design.now c.args.map.now c.args.script.now c.args.stalls.now c.args.trace.now (S.files c.args.shelf.now)
-    (S.files c.plan_recording.new.shelf) (S.files c.recorded.new.shelf) c.in-Ok.planned.bench c.in-Ok.planned.plan
-    (Rose (S.write_faults c.plan_recording.new.shelf) (S.write_faults c.recorded.new.shelf))
-    (Rose (S.write_faults c.args.shelf.now) (S.write_faults c.recorded.new.shelf)) c.recorded.result c.plan_recording.ensures.files
-    c.in-Ok.ensures.planned
-    (λ rose. rose-since (S.write_faults c.args.shelf.now) (S.write_faults c.plan_recording.new.shelf)
-    (S.write_faults c.recorded.new.shelf) c.plan_recording.ensures.counts.writes rose)
-    c.recorded.ensures.stopped
-
-pub returns-in-Err-Refused-clause-earned : goal.returns-in-Err-Refused-clause-earned
-returns-in-Err-Refused-clause-earned g c =
-    let refused = rw c.in-Err-Refused.field-0-is at c.in-Err-Refused.ensures.refused in
-    rw c.in-Err-Refused.field-0-is (inl (refused, c.plan_recording.ensures.files))
+    let files = S.files c.args.shelf.now in
+    let F = λ (name : List ℕ). Rose (S.read_faults c.args.shelf.now name) (S.read_faults c.recorded.new.shelf name) in
+    let old = S.write_faults c.args.shelf.now in
+    let middle = S.write_faults c.plan_recording.new.shelf in
+    let now = S.write_faults c.recorded.new.shelf in
+    let planned = c.in_ok-planned.planned in
+    recorded-owed c.args.design.now c.args.map.now c.args.script.now c.args.stalls.now c.args.trace.now files
+    (S.files c.plan_recording.new.shelf) (S.files c.recorded.new.shelf) F planned.bench planned.plan (Rose middle now) (Rose old now)
+    c.recorded.result c.plan_recording.ensures.files c.in_ok-planned.ensures.planned
+    (λ rose. rose-since old middle now c.plan_recording.ensures.counts.writes rose)
+    c.recorded.ensures.done c.recorded.ensures.stopped

@@ -5,7 +5,7 @@ use Rattle.script_text.specs.ScriptOffer.{script_offer}
 use Rattle.vidi_recorder.specs.Course.{course}
 use Rattle.vidi_commands.specs.Recorded.{FileEnds}
 use Rattle.vidi_commands.specs.Records.{IsCutShort}
-use Rattle.vidi_commands.proofs.Unready.{at-these}
+use Rattle.vidi_commands.proofs.Recorded.{at-these}
 use Rattle.vidi_commands.proofs.recording.record_sim.Goals as goal
 
 pub returns-in-Ok-clause-ended : goal.returns-in-Ok-clause-ended

@@ -1,31 +1,49 @@
+use Rattle.std.proofs.Common.{ℕ, List, inl, inr}
 use Rattle.vidi_io.specs.Cause.{Rose}
-use Rattle.vidi_commands.proofs.Running.{all-read, third-unread, rose-since}
+use Rattle.vidi_commands.specs.Benches.{ReadTexts, RefusedTexts}
+use Rattle.vidi_commands.specs.Runs.{Runs, RunTexts}
+use Rattle.vidi_commands.specs.Steps.{Never}
+use Rattle.vidi_commands.proofs.Chain.{answered-as}
+use Rattle.vidi_commands.proofs.Texts.{never-read}
 use Rattle.vidi_commands.proofs.run.run.Goals as goal
 
-pub returns-clause-earned : goal.returns-clause-earned
-returns-clause-earned g c =
-    all-read c.args.design.now c.args.map.now c.args.script.now (g.S.Shelf.files c.args.shelf.now)
-    (g.S.Shelf.files c.read_whole.new.shelf) (g.S.Shelf.files c.read_whole-2.new.shelf)
-    (λ name. Rose (g.S.Shelf.read_faults c.args.shelf.now name) (g.S.Shelf.read_faults c.read_whole-3.new.shelf name))
-    c.in-Ok.bytes c.in-Ok-read_whole.bytes c.in-Ok-read_whole-2.bytes
-    c.as_slice.result.now c.as_slice-2.result.now c.as_slice-3.result.now c.run_texts.result
-    c.in-Ok.ensures.bytes c.in-Ok.ensures.within c.read_whole.ensures.files c.in-Ok-read_whole.ensures.bytes
-    c.in-Ok-read_whole.ensures.within c.read_whole-2.ensures.files c.in-Ok-read_whole-2.ensures.bytes
-    c.in-Ok-read_whole-2.ensures.within c.as_slice.ensures c.as_slice-2.ensures c.as_slice-3.ensures c.run_texts.ensures
+pub returns-in_err-texts-clause-answered : goal.returns-in_err-texts-clause-answered
+returns-in_err-texts-clause-answered g c =
+    let S = g.S.Shelf in
+    let files = S.files c.args.shelf.now in
+    let F = λ (name : List ℕ). Rose (S.read_faults c.args.shelf.now name) (S.read_faults c.read_texts.new.shelf name) in
+    let design = c.args.design.now in
+    let map = c.args.map.now in
+    let script = c.args.script.now in
+    answered-as (ReadTexts design map script files F (λ _ _ _. Never)) (Runs design map script files F) c.in_err-texts.field-0.0
+    c.from_residual.result c.from_residual.ensures.1 (never-read design map script files F RunTexts) c.in_err-texts.ensures.refused
 
-pub returns-in-Err-read_whole-2-clause-earned : goal.returns-in-Err-read_whole-2-clause-earned
-returns-in-Err-read_whole-2-clause-earned g c =
-    let reads = g.S.Shelf.read_faults in
-    let name = c.args.script.now in
-    third-unread c.args.design.now c.args.map.now name (g.S.Shelf.files c.args.shelf.now)
-    (g.S.Shelf.files c.read_whole.new.shelf) (g.S.Shelf.files c.read_whole-2.new.shelf)
-    (λ n. Rose (reads c.args.shelf.now n) (reads c.read_whole-3.new.shelf n))
-    c.in-Ok.bytes c.in-Ok-read_whole.bytes c.in-Err-read_whole-2.error (reads c.read_whole-2.new.shelf name)
-    (reads c.read_whole-3.new.shelf name) c.unread-in-Err-read_whole-2.result
-    c.in-Ok.ensures.bytes c.in-Ok.ensures.within c.read_whole.ensures.files c.in-Ok-read_whole.ensures.bytes
-    c.in-Ok-read_whole.ensures.within c.read_whole-2.ensures.files c.in-Err-read_whole-2.ensures.cause
-    (λ rose. rose-since (reads c.args.shelf.now name) (reads c.read_whole.new.shelf name) (reads c.read_whole-3.new.shelf name)
-    (c.read_whole.ensures.counts.reads name)
-    (rose-since (reads c.read_whole.new.shelf name) (reads c.read_whole-2.new.shelf name) (reads c.read_whole-3.new.shelf name)
-    (c.read_whole-2.ensures.counts.reads name) rose))
-    c.unread-in-Err-read_whole-2.ensures
+pub returns-in_err-bench-clause-answered : goal.returns-in_err-bench-clause-answered
+returns-in_err-bench-clause-answered g c =
+    let S = g.S.Shelf in
+    let files = S.files c.args.shelf.now in
+    let F = λ (name : List ℕ). Rose (S.read_faults c.args.shelf.now name) (S.read_faults c.read_texts.new.shelf name) in
+    let read = c.in_ok-texts.ensures in
+    let texts = c.in_ok-texts.texts in
+    answered-as (RefusedTexts texts.design texts.map texts.script) (Runs c.args.design.now c.args.map.now c.args.script.now files F)
+    c.in_err-bench.field-0.0 c.from_residual-in_err-bench.result c.from_residual-in_err-bench.ensures.1
+    (λ a x is. inr (texts.design, read.design, inr (texts.map, read.map, inr (texts.script, read.script, inl is))))
+    c.in_err-bench.ensures.refused
+
+pub returns-clause-answered : goal.returns-clause-answered
+returns-clause-answered g c =
+    let read = c.in_ok-texts.ensures in
+    let texts = c.in_ok-texts.texts in
+    inr (
+      texts.design,
+      read.design,
+      inr (
+        texts.map,
+        read.map,
+        inr (
+          texts.script,
+          read.script,
+          inr (c.in_ok-bench.bench, c.in_ok-bench.ensures.ready, c.in_ok-played.ensures),
+        ),
+      ),
+    )

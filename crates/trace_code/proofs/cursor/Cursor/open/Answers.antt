@@ -6,6 +6,19 @@ use Rattle.trace_code.specs.Tallied.{tallied}
 use Rattle.trace_code.proofs.Walking.{first-at, sizes-long, small-contents}
 use Rattle.trace_code.proofs.cursor.Cursor.open.Goals as goal
 
+pub new-head-requires-clause-some : goal.new-head-requires-clause-some
+new-head-requires-clause-some c =
+    let cs = c.args.channels.now in
+    let y = c.in_ok-clock.clock in
+    let clock = tallied y.clock y.ends y.times in
+    let sizes-are = c.in_ok-sizes.ensures ∙ ap (λ (cs : List Channel). map content_bytes cs) c.as_slice-channels.ensures in
+    let zeros = c.in_ok-clock.ensures ∙ ap (λ (cs : List Channel). replicate (length cs) 0) c.as_slice-channels.ensures in
+    let t = c.requires.trace.0 in
+    let at = first-at t cs c.in_ok-sizes.sizes.items c.args.rest.now clock c.requires.trace.1 c.requires.trace.2 c.requires.trace.3 sizes-are zeros in
+    let some = at.encoding.table.some in
+    let long = sizes-long t c.in_ok-sizes.sizes.items at.sizes_are in
+    omega (arith, some, long)
+
 pub new-head-requires-clause-few : goal.new-head-requires-clause-few
 new-head-requires-clause-few c =
     let cs = c.args.channels.now in
@@ -61,5 +74,6 @@ returns-clause-stands c t has same rest =
             (subst (λ (cs : List Channel). c.args.channel < length cs) (sym c.as_slice-channels.ensures) c.requires.channel)
             c.index-channels-channel.is);
         widths = c.in_ok-widths.ensures ∙ c.as_slice.ensures ∙ ap (λ (d : Channel). d.widths) (sym c.index-channels-channel.is);
+        ahead = λ i l. absurd (omega (arith, l));
       },
     )

@@ -1,7 +1,8 @@
-use Rattle.std.proofs.Common.{◌+◌, subst}
+use Rattle.std.proofs.Common.{◌+◌, length, subst}
 use Rattle.trace_code.specs.Standing.{StandsAt}
 use Rattle.trace_code.specs.Tallied.{tallied}
-use Rattle.trace_code.proofs.Walking.{behind, not-over}
+use Rattle.trace_code.proofs.Ahead.{alike-later, alike-next}
+use Rattle.trace_code.proofs.Walking.{behind, not-over, stands-next}
 use Rattle.trace_code.proofs.cursor.Cursor.step.Goals as goal
 
 pub skip-after-requires-clause-masks : goal.skip-after-requires-clause-masks
@@ -11,8 +12,28 @@ skip-after-requires-clause-masks c =
     s.masks (not-over c.requires.0 k.kind k.channel c.requires.1 k.head.sizes.items k.rest.now
     (tallied k.clock.clock k.clock.ends k.clock.times) s c.requires.3)
 
-pub returns-clause-stands : goal.returns-clause-stands
-returns-clause-stands c t j s more =
+pub returns-then-self-gt0-clause-stands : goal.returns-then-self-gt0-clause-stands
+returns-then-self-gt0-clause-stands c t j s more =
+    let k = c.args.self.now in
+    let n = length k.head.sizes.items in
+    let y = c.skip-after.new.tally in
+    let clock = tallied k.clock.clock k.clock.ends k.clock.times in
+    let after = c.skip-after.result.now in
+    let behind-it = c.skip-after.ensures.behind in
+    let l = not-over t k.kind k.channel j k.head.sizes.items k.rest.now clock s.0 more in (
+      stands-next t k.kind k.channel j k.head.sizes.items k.rest.now clock s.0 l after (tallied y.clock y.ends y.times)
+          (c.skip-after.ensures.at t s.0.place s.0.at l)
+          (alike-next n k.head.starts k.head.ends k.head.len k.same k.rest.now after behind-it s.1.ahead c.if-self-gt0.true),
+      record {
+        channel = s.1.channel;
+        at = s.1.at;
+        widths = s.1.widths;
+        ahead = alike-later n k.head.starts k.head.ends k.head.len k.same k.rest.now after behind-it s.1.ahead;
+      },
+    )
+
+pub returns-else-self-gt0-clause-stands : goal.returns-else-self-gt0-clause-stands
+returns-else-self-gt0-clause-stands c t j s more =
     let k = c.args.self.now in
     let clock = tallied k.clock.clock k.clock.ends k.clock.times in
     let l = not-over t k.kind k.channel j k.head.sizes.items k.rest.now clock s.0 more in
@@ -21,5 +42,5 @@ returns-clause-stands c t j s more =
     let h = c.seek-self.new.head in
     let y = c.seek-self.new.tally in (
       subst (λ m. StandsAt t k.kind k.channel m h.sizes.items c.seek-self.result.now (tallied y.clock y.ends y.times) h.starts h.ends) n found,
-      record { channel = s.1.channel; at = s.1.at; widths = s.1.widths },
+      record { channel = s.1.channel; at = s.1.at; widths = s.1.widths; ahead = c.count_same-self.ensures },
     )

@@ -1,5 +1,0 @@
-use Rattle.net_order.proofs.GraphTest.{all_below_in}
-use Rattle.net_order.proofs.tests.is_graph.Goals as goal
-
-pub returns : goal.returns
-returns c t = all_below_in _ _ (c.rows_below.ensures.0 t)

@@ -1,0 +1,10 @@
+pub mod Forward
+pub mod Placing
+pub mod Fills
+pub mod Listing
+pub mod Turning
+pub mod Writing
+pub mod Looping
+pub mod Silent
+pub mod Answering
+pub mod Outcomes

@@ -1,0 +1,65 @@
+-- What is written, over plain values.
+use Rattle.std.proofs.Common.{◌≡◌, ℕ, suc, ◌+◌, ◌-◌, ◌*◌, ◌≤◌, ◌&&◌, ◌==◌, Bool, true, false, cond, List, [], ◌∷◌, ◌++◌}
+use Rattle.std.proofs.Common.{length, drop, map, take, refl, ap, sym, ◌∙◌, arith, append_assoc}
+use Rattle.std.specs.List.{filter, flat_map}
+use Rattle.std.proofs.lemmas.List.{length-map, take_at}
+use Rattle.trace_model.specs.declared.channel.Channel.{Channel}
+use Rattle.trace_model.specs.declared.row.Row.{Row}
+use Rattle.trace_model.specs.Length.{contents_len, head_len, packet_len}
+use Rattle.trace_model.specs.Recording.{has_event, packet_of, packets_of, trace_of}
+use Rattle.trace_code.specs.Encoding.{encode, end_mark, header_bytes, packet_bytes, row_bytes}
+use Rattle.trace_code.proofs.RowBytes.{contents_len-widths, contents-least}
+use Rattle.replay_run.specs.Output.{longest, IsWritten}
+use Rattle.replay_run.specs.declared.output.Output.{Output}
+
+-- ---- a packet is no longer than the longest
+pub packet-most : (channels : List Channel) (starts ends : ℕ) → packet_len channels starts ends ≤ longest channels
+packet-most channels starts ends = one (starts == 0 && ends == 0)
+  where
+    one : (b : Bool) → cond b 0 (head_len (length channels) + contents_len starts channels) ≤ longest channels
+    one true = omega arith
+    one false = let a = contents_len-widths starts channels in let b = contents-least starts channels in omega arith
+
+-- ---- no more packets than rows
+pub packets-few : (channels : List Channel) (rows : List Row) → length (packets_of channels rows) ≤ length rows
+packets-few channels rows = omega (arith, length-map (filter has_event rows) (packet_of channels), few rows)
+  where
+    few : (xs : List Row) → length (filter has_event xs) ≤ length xs
+    few [] = omega arith
+    few (x ∷ xs) = one (has_event x) (few xs)
+      where
+        one : (b : Bool) → length (filter has_event xs) ≤ length xs → length (cond b (x ∷ filter has_event xs) (filter has_event xs)) ≤ suc (length xs)
+        one true l = omega (arith, l)
+        one false l = omega (arith, l)
+
+-- ---- the buffer
+pub whole : (n : ℕ) (xs ys : List ℕ) → length xs ≡ n → take n (xs ++ drop (length xs) ys) ≡ xs
+whole n xs ys e = ap (λ k. take k (xs ++ drop (length xs) ys)) (sym e) ∙ take_at xs (drop (length xs) ys) (length xs) refl
+
+pub room-less : (len n less one total : ℕ) → less ≤ n → len + n * one + 5 ≤ total → len + less * one + 5 ≤ total
+room-less len n less one total l room =
+    let rest = n - less in
+    let e : n * one ≡ less * one + (n - less) * one = ap (λ k. k * one) (add-less less n l) ∙ omega arith in
+    omega (arith, e, room)
+  where
+    add-less : (a b : ℕ) → a ≤ b → b ≡ a + (b - a)
+    add-less a b h = omega (arith, h)
+
+-- ---- the end
+all-rows : (channels : List Channel) (rows : List Row)
+    → flat_map (row_bytes channels) rows ≡ flat_map (packet_bytes channels) (packets_of channels rows)
+all-rows channels [] = refl
+all-rows channels (row ∷ rows) = one (has_event row) (all-rows channels rows)
+  where
+    one : (b : Bool) → flat_map (row_bytes channels) rows ≡ flat_map (packet_bytes channels) (packets_of channels rows)
+        → cond b (packet_bytes channels (packet_of channels row)) [] ++ flat_map (row_bytes channels) rows
+        ≡ flat_map (packet_bytes channels) (map (packet_of channels) (cond b (row ∷ filter has_event rows) (filter has_event rows)))
+    one true e = ap (λ bs. packet_bytes channels (packet_of channels row) ++ bs) e
+    one false e = e
+
+pub ended-trace : (channels : List Channel) (rows : List Row) (output : Output) (bytes : List ℕ) → IsWritten channels rows output
+    → bytes ≡ take output.len output.bytes.items ++ end_mark output.packets → bytes ≡ encode (trace_of channels rows)
+ended-trace channels rows output bytes is e =
+    e ∙ ap (λ bs. bs ++ end_mark output.packets) is.all ∙ ap (λ n. (header_bytes channels ++ flat_map (row_bytes channels) rows) ++ end_mark n) is.count
+    ∙ append_assoc (header_bytes channels) (flat_map (row_bytes channels) rows) (end_mark (length (packets_of channels rows)))
+    ∙ ap (λ bs. header_bytes channels ++ (bs ++ end_mark (length (packets_of channels rows)))) (all-rows channels rows)

@@ -1,0 +1,8 @@
+use Rattle.trace_model.specs.declared.event.Kind.TheVariants.{Start, End}
+use Rattle.replay_run.proofs.cursors.Cursors.advance.Goals as goal
+
+pub returns : goal.returns
+returns c t have is = record {
+  starts = c.forward_vec.ensures t Start have is.starts;
+  ends = c.forward_vec-2.ensures t End have is.ends;
+}

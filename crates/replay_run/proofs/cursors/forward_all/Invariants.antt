@@ -1,0 +1,10 @@
+use Rattle.std.proofs.Common.{ℕ}
+use Rattle.trace_model.specs.declared.event.Kind.{Kind}
+use Rattle.trace_model.specs.declared.trace.Trace.{Trace}
+use Rattle.replay_run.specs.Behind.{AreAt}
+use Rattle.replay_run.proofs.Forward.{moved}
+use Rattle.replay_run.proofs.cursors.forward_all.Given as goal
+
+abbrev pub invariant-loop-c : goal.invariant-loop-c
+invariant-loop-c l = (t : Trace) (kind : Kind) (have : ℕ → ℕ) → AreAt t kind have l.fn.cursors
+    → AreAt t kind (moved have l.ends l.c) l.cursors

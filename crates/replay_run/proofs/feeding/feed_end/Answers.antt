@@ -1,0 +1,61 @@
+use Rattle.std.proofs.Common.{min, length, refl, ap, sym}
+use Rattle.trace_model.specs.declared.event.Kind.TheVariants.{End}
+use Rattle.trace_model.specs.Packet.{count}
+use Rattle.replay_run.proofs.Fills.{IsEventFed, end-here, event-others, event-over}
+use Rattle.replay_run.proofs.feeding.feed_end.Goals as goal
+
+pub feed_event-requires-clause-stands : goal.feed_event-requires-clause-stands
+feed_event-requires-clause-stands c =
+    let s = c.requires.stands in
+    (s.0, min s.1 (count End c.args.c s.0.packets), s.2.stands, sym (ap length s.3))
+
+pub feed_event-requires-clause-needs : goal.feed_event-requires-clause-needs
+feed_event-requires-clause-needs c = c.requires.over.needs
+
+pub returns-clause-over : goal.returns-clause-over
+returns-clause-over c =
+    let f = c.feed_event.ensures in
+    let fed : IsEventFed c.args.cursor.now (length c.args.channels.now) c.args.c c.feed_event.result c.args.feed.now c.feed_event.new.feed =
+    record {
+      more = f.more;
+      there = f.there;
+      need = f.need;
+      other_more = f.other_more;
+      other_needs = f.other_needs;
+      needs = f.needs;
+      contents = f.contents;
+    } in
+    event-over c.args.channels.now c.args.cursor.now (length c.args.channels.now) c.args.c c.feed_event.result c.args.feed.now c.feed_event.new.feed refl
+    fed c.requires.channel c.requires.over
+
+pub returns-clause-here : goal.returns-clause-here
+returns-clause-here c t i is same =
+    let f = c.feed_event.ensures in
+    let fed : IsEventFed c.args.cursor.now (length c.args.channels.now) c.args.c c.feed_event.result c.args.feed.now c.feed_event.new.feed =
+    record {
+      more = f.more;
+      there = f.there;
+      need = f.need;
+      other_more = f.other_more;
+      other_needs = f.other_needs;
+      needs = f.needs;
+      contents = f.contents;
+    } in
+    end-here c.args.channels.now c.args.cursor.now (length c.args.channels.now) c.args.c c.feed_event.result c.args.feed.now c.feed_event.new.feed refl
+    fed t i is same
+
+pub returns-clause-others : goal.returns-clause-others
+returns-clause-others c =
+    let f = c.feed_event.ensures in
+    let fed : IsEventFed c.args.cursor.now (length c.args.channels.now) c.args.c c.feed_event.result c.args.feed.now c.feed_event.new.feed =
+    record {
+      more = f.more;
+      there = f.there;
+      need = f.need;
+      other_more = f.other_more;
+      other_needs = f.other_needs;
+      needs = f.needs;
+      contents = f.contents;
+    } in
+    event-others c.args.channels.now c.args.cursor.now (length c.args.channels.now) c.args.c c.feed_event.result c.args.feed.now c.feed_event.new.feed
+    refl fed

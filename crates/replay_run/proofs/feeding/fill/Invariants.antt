@@ -1,0 +1,17 @@
+use Rattle.std.proofs.Common.{◌≡◌, ◌≤◌, ◌*◌, ℕ, length, take}
+use Rattle.trace_model.specs.declared.trace.Trace.{Trace}
+use Rattle.trace_model.specs.Row.{all_widths}
+use Rattle.chan_replayer.specs.Feed.{IsFeedOver}
+use Rattle.replay_run.specs.Behind.{AreBehind}
+use Rattle.replay_run.specs.Feeding.{IsFeedBut}
+use Rattle.replay_run.proofs.Fills.{AreFedBelow}
+use Rattle.replay_run.proofs.feeding.fill.Given as goal
+
+abbrev pub invariant-loop-c : goal.invariant-loop-c
+invariant-loop-c l = record {
+  place : l.at ≡ length (all_widths (take l.c l.channels));
+  small : l.at ≤ 16 * l.c;
+  over : IsFeedOver l.channels l.feed;
+  fed : (t : Trace) (have : ℕ → ℕ) → AreBehind t have l.cursors → t.channels ≡ l.channels → IsFeedBut l.which l.channels t.packets have l.fn.feed
+      → AreFedBelow l.channels t.packets have l.which l.c l.feed;
+}

@@ -1,0 +1,19 @@
+use Rattle.std.proofs.Common.{List, ℕ, ◌+◌, sym, subst, ◌∙◌}
+use Rattle.std.specs.Int.{bit_at}
+use Rattle.trace_model.specs.declared.channel.Channel.{Channel}
+use Rattle.chan_replayer.specs.Feed.{IsFeed}
+use Rattle.replay_run.proofs.Fills.{but-next}
+use Rattle.replay_run.proofs.feeding.follow.Goals as goal
+
+pub fill-requires-clause-stands : goal.fill-requires-clause-stands
+fill-requires-clause-stands c =
+    let s = c.requires.stands in
+    (s.0, λ d. s.1 d + bit_at c.args.ends d, c.advance.ensures s.0 s.1 s.2, s.3 ∙ sym c.as_slice.ensures)
+
+pub returns-clause-feed : goal.returns-clause-feed
+returns-clause-feed c t have are same is =
+    let now = λ (d : ℕ). have d + bit_at c.args.ends d in
+    subst (λ (cs : List Channel). IsFeed cs t.packets now c.fill.new.feed) c.as_slice.ensures
+    (c.fill.ensures.feed t now (c.advance.ensures t have are) (same ∙ sym c.as_slice.ensures)
+    (but-next c.as_slice.result.now t.packets have c.args.ends c.args.feed.now
+    (subst (λ (cs : List Channel). IsFeed cs t.packets have c.args.feed.now) (sym c.as_slice.ensures) is)))

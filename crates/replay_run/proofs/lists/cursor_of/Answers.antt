@@ -1,0 +1,20 @@
+use Rattle.std.proofs.Common.{◌<◌, length, sym, subst, arith}
+use Rattle.trace_model.specs.declared.event.Kind.{Kind}
+use Rattle.trace_model.specs.declared.event.Kind.TheVariants.{Start, End}
+use Rattle.replay_run.specs.Behind.{IsBehind}
+use Rattle.replay_run.proofs.Forward.{cursor-there}
+use Rattle.replay_run.proofs.lists.cursor_of.Goals as goal
+
+pub returns-in-Start : goal.returns-in-Start
+returns-in-Start c t have are l =
+    let many = are.starts.many in
+    let within : c.args.c < length c.args.cursors.now.starts.items = omega (arith, many, l) in
+    subst (λ (i : Kind). IsBehind t i c.args.c (have c.args.c) c.index.result.now) (sym c.in-Start.is)
+    (cursor-there t Start have c.args.cursors.now.starts.items c.args.c c.index.result.now are.starts within c.index.ensures)
+
+pub returns-in-End : goal.returns-in-End
+returns-in-End c t have are l =
+    let many = are.ends.many in
+    let within : c.args.c < length c.args.cursors.now.ends.items = omega (arith, many, l) in
+    subst (λ (i : Kind). IsBehind t i c.args.c (have c.args.c) c.index-in-End.result.now) (sym c.in-End.is)
+    (cursor-there t End have c.args.cursors.now.ends.items c.args.c c.index-in-End.result.now are.ends within c.index-in-End.ensures)

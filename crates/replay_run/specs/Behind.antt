@@ -1,0 +1,36 @@
+-- Cursors behind so many completions of each channel.
+use Rattle.std.specs.Prelude.{◌≡◌, ℕ, ◌+◌, ◌≤◌, min, if◌then◌else◌, List, Some, length, slice_get}
+use Rattle.trace_model.specs.declared.event.Kind.{Kind}
+use Rattle.trace_model.specs.declared.event.Kind.TheVariants.{Start, End}
+use Rattle.trace_model.specs.declared.packet.Packet.{Packet}
+use Rattle.trace_model.specs.declared.row.Row.{Row}
+use Rattle.trace_model.specs.declared.trace.Trace.{Trace}
+use Rattle.trace_model.specs.Packet.{count}
+use Rattle.trace_model.specs.Row.{is_in_flight}
+use Rattle.trace_code.specs.declared.cursor.Cursor.{Cursor}
+use Rattle.trace_code.specs.Stands.{Stands, WalksOver}
+use Rattle.replay_run.specs.declared.cursors.Cursors.{Cursors}
+
+-- the cursor stands at event n of this kind on channel c, at the end where there is none
+pub record IsBehind (t : Trace) (kind : Kind) (c n : ℕ) (k : Cursor) : Type 0 where
+  pub over : WalksOver k kind c
+  pub stands : Stands k t (min n (count kind c t.packets))
+
+-- one of this kind for each channel, where `have` completions came
+pub record AreAt (t : Trace) (kind : Kind) (have : ℕ → ℕ) (cursors : List Cursor) : Type 0 where
+  pub many : length cursors ≡ length t.channels
+  pub each : (c : ℕ) (k : Cursor) → slice_get cursors c ≡ Some k → IsBehind t kind c (have c) k
+
+-- one of each kind
+pub record AreBehind (t : Trace) (have : ℕ → ℕ) (cursors : Cursors) : Type 0 where
+  pub starts : AreAt t Start have cursors.starts.items
+  pub ends : AreAt t End have cursors.ends.items
+
+-- nothing has completed
+abbrev pub none_yet : ℕ → ℕ
+none_yet c = 0
+
+-- channel c has no further event: `have` completions came, and one start more where it is in flight after the last row
+pub record IsDone (packets : List Packet) (have : ℕ → ℕ) (last : Row) (c : ℕ) : Type 0 where
+  pub ends : count End c packets ≤ have c
+  pub starts : count Start c packets ≤ have c + (if is_in_flight last c then 1 else 0)

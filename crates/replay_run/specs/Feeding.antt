@@ -1,0 +1,19 @@
+-- Feeds that are alike on some channels.
+use Rattle.std.specs.Prelude.{◌≡◌, ℕ, ◌<◌, false, List, Some, length, slice_get}
+use Rattle.vidi_bits.specs.Number.{has}
+use Rattle.trace_model.specs.declared.channel.Channel.{Channel}
+use Rattle.trace_model.specs.declared.packet.Packet.{Packet}
+use Rattle.trace_model.specs.Row.{content_at}
+use Rattle.chan_replayer.specs.declared.feed.Feed.{Feed}
+use Rattle.chan_replayer.specs.Feed.{kind_of, need_of, IsFeedAt}
+
+-- two feeds say the same of channel c
+pub record IsSameAt (channels : List Channel) (c : ℕ) (old new : Feed) : Type 0 where
+  pub more : has new.more c ≡ has old.more c
+  pub need : (d : ℕ) → d < length channels → need_of (length channels) new c d ≡ need_of (length channels) old c d
+  pub content : content_at channels new.contents c ≡ content_at channels old.contents c
+
+-- *IsFeed* of each channel that the mask doesn't name
+abbrev pub IsFeedBut : ℕ → List Channel → List Packet → (ℕ → ℕ) → Feed → Type 0
+IsFeedBut mask channels packets have feed = (c : ℕ) (x : Channel) → slice_get channels c ≡ Some x → has mask c ≡ false
+    → IsFeedAt channels packets (kind_of x.dir) c (have c) feed

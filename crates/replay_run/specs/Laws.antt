@@ -1,0 +1,15 @@
+-- What follows from the definitions of a replay's end.
+use Rattle.std.specs.Prelude.{◌≡◌, ℕ, List}
+use Rattle.trace_model.specs.declared.packet.Packet.{Packet}
+use Rattle.trace_model.specs.declared.row.Row.{Row}
+use Rattle.net_design.specs.declared.design.Design.{Design}
+use Rattle.chan_map.specs.declared.pins.Map.{Map}
+use Rattle.run_model.specs.Laws.{ContentsFit, IsReady}
+use Rattle.replay_run.specs.declared.outcome.ReplayOutcome.{ReplayOutcome}
+use Rattle.replay_run.specs.Replaying.{EndsAs}
+
+-- Of recorded packets a design with a map has exactly one replay of at most n cycles, and it ends in one way.
+abbrev pub OneOutcome : Type 0
+OneOutcome = (d : Design) (m : Map) → IsReady d m → (packets : List Packet) → ContentsFit m.channels packets → (n : ℕ)
+    → ∥ ((rows : List Row) × (outcome : ReplayOutcome) × EndsAs d m packets n rows outcome) ∥₁
+    × ((a b : List Row) (i j : ReplayOutcome) → EndsAs d m packets n a i → EndsAs d m packets n b j → (a ≡ b) × (i ≡ j))

@@ -1,0 +1,23 @@
+-- What is written of a replay's trace, and the room that is left.
+use Rattle.std.specs.Prelude.{◌≡◌, ℕ, ◌+◌, ◌*◌, ◌≤◌, List, ◌++◌, length, sum_by, take}
+use Rattle.std.specs.List.{flat_map}
+use Rattle.trace_model.specs.declared.channel.Channel.{Channel}
+use Rattle.trace_model.specs.declared.row.Row.{Row}
+use Rattle.trace_model.specs.Channel.{content_bytes}
+use Rattle.trace_model.specs.Length.{head_len}
+use Rattle.trace_model.specs.Recording.{packets_of}
+use Rattle.trace_code.specs.Encoding.{header_bytes, row_bytes}
+use Rattle.replay_run.specs.declared.output.Output.{Output}
+
+-- the bytes of the longest packet of these channels, in which all of them start
+abbrev pub longest : List Channel → ℕ
+longest channels = head_len (length channels) + sum_by content_bytes channels
+
+-- the header and the packets of these rows are written
+pub record IsWritten (channels : List Channel) (rows : List Row) (output : Output) : Type 0 where
+  pub all : take output.len output.bytes.items ≡ header_bytes channels ++ flat_map (row_bytes channels) rows
+  pub count : output.packets ≡ length (packets_of channels rows)
+
+-- there is room for the packets of n rows, and for the 5 bytes of the end
+abbrev pub HasRoomFor : List Channel → ℕ → Output → Type 0
+HasRoomFor channels n output = output.len + n * longest channels + 5 ≤ length output.bytes.items

@@ -1,0 +1,266 @@
+//! The feed that cursors give.
+
+ghost use Rattle.std.specs.Prelude.{◌≡◌, ◌≢◌, ◌+◌, ◌*◌, ◌<◌, ◌≤◌, ◌↔◌, ◌⊎◌, ℕ, true, false, IsTrue, IfOk, length, slice_get, slice_index, take};
+ghost use Rattle.std.specs.Int.{bit_at};
+ghost use Rattle.vidi_bits.specs.Number.{has};
+ghost use Rattle.trace_model.specs.declared.packet.Packet.{Packet};
+ghost use Rattle.trace_model.specs.declared.trace.Trace.{Trace};
+ghost use Rattle.trace_model.specs.Channel.{IsTable};
+ghost use Rattle.trace_model.specs.Clock.{clock};
+ghost use Rattle.trace_model.specs.Counting.{IsNth};
+ghost use Rattle.trace_model.specs.Packet.{content_of, count, does, widths_of};
+ghost use Rattle.trace_model.specs.Row.{all_widths, replaced};
+ghost use Rattle.trace_code.specs.Stands.{Stands};
+ghost use Rattle.chan_replayer.specs.Feed.{kind_of, need_of, IsFeed, IsFeedAt, IsFeedOver};
+ghost use Rattle.replay_run.specs.Behind.{none_yet, AreBehind, IsBehind};
+ghost use Rattle.replay_run.specs.Feeding.{IsFeedBut, IsSameAt};
+
+use crate::cursors::Cursors;
+use chan_replayer::{Feed, Needs};
+use std::alloc::Global;
+use trace_code::Cursor;
+use trace_model::{Channel, Channels, Dir, Kind, names, row_over};
+use vidi_bits::{Items, Memory, Numbers};
+
+/// The mask with the bit of a channel up or down.
+fn with_bit_as(mask: u128, channel: usize, up: bool) -> u128
+    requires few { channel < 128 }
+    ensures here { has result channel ≡ up }
+    ensures others { (c : ℕ) → c ≢ channel → has result c ≡ has mask c }
+{
+    if up {
+        mask | 1 << channel
+    } else {
+        mask & !(1 << channel)
+    }
+}
+
+/// Writes the clock of the event at which a cursor stands, one number a channel, from place `at` on.
+fn copy_needs(cursor: &Cursor, channels: usize, needs: &mut [u32], at: usize)
+    requires stands { (t : Trace) × (j : ℕ) × Stands cursor.now t j × (channels ≡ length t.channels) }
+    requires room { at + channels ≤ length needs.old }
+    ensures here { (t : Trace) (j p : ℕ) (packet : Packet) → Stands cursor.now t j → channels ≡ length t.channels
+        → IsNth (does cursor.now.kind cursor.now.channel) t.packets j p packet
+        → (d : ℕ) → d < channels → slice_index needs.new (at + d) ≡ clock t.packets p d }
+    ensures others { (i : ℕ) → (i < at) ⊎ (at + channels ≤ i) → slice_index needs.new i ≡ slice_index needs.old i }
+{
+    for d in 0..channels {
+        needs[at + d] = cursor.need(d);
+    }
+}
+
+/// Writes the content of the start at which a cursor stands, a number for each port, from place `at` on.
+fn copy_content(cursor: &Cursor, ports: usize, contents: &mut [u128], at: usize)
+    requires start { cursor.now.kind ≡ Kind.Start }
+    requires stands { (t : Trace) × (j : ℕ) × Stands cursor.now t j × (j < count cursor.now.kind cursor.now.channel t.packets)
+        × (ports ≡ length (widths_of (slice_get t.channels cursor.now.channel))) }
+    requires room { at + ports ≤ length contents.old }
+    ensures { (t : Trace) (j p : ℕ) (packet : Packet) → Stands cursor.now t j
+        → ports ≡ length (widths_of (slice_get t.channels cursor.now.channel))
+        → IsNth (does Kind.Start cursor.now.channel) t.packets j p packet
+        → contents.new ≡ replaced contents.old at (content_of t.channels packet cursor.now.channel) }
+{
+    for port in 0..ports {
+        contents[at + port] = cursor.content(port);
+    }
+}
+
+/// Writes the clock of the event at which a cursor stands as that of channel `c`.
+fn write_needs(cursor: &Cursor, channels: usize, c: usize, needs: &mut Needs)
+    requires stands { (t : Trace) × (j : ℕ) × Stands cursor.now t j × (channels ≡ length t.channels) }
+    requires channel { c < channels }
+    requires few { channels ≤ 128 }
+    requires places { length needs.old ≡ channels * channels }
+    ensures here { (t : Trace) (j p : ℕ) (packet : Packet) → Stands cursor.now t j → channels ≡ length t.channels
+        → IsNth (does cursor.now.kind cursor.now.channel) t.packets j p packet
+        → (d : ℕ) → d < channels → slice_index needs.new (channels * c + d) ≡ clock t.packets p d }
+    ensures others { (d e : ℕ) → d ≢ c → e < channels
+        → slice_index needs.new (channels * d + e) ≡ slice_index needs.old (channels * d + e) }
+    ensures places { length needs.new ≡ channels * channels }
+{
+    copy_needs(cursor, channels, needs.as_mut_slice(), channels * c);
+}
+
+/// Writes the content of the start at which a cursor stands, a number for each port, from place `at` on.
+fn write_content(cursor: &Cursor, ports: usize, contents: &mut Numbers, at: usize)
+    requires start { cursor.now.kind ≡ Kind.Start }
+    requires stands { (t : Trace) × (j : ℕ) × Stands cursor.now t j × (j < count cursor.now.kind cursor.now.channel t.packets)
+        × (ports ≡ length (widths_of (slice_get t.channels cursor.now.channel))) }
+    requires room { at + ports ≤ length contents.old }
+    ensures { (t : Trace) (j p : ℕ) (packet : Packet) → Stands cursor.now t j
+        → ports ≡ length (widths_of (slice_get t.channels cursor.now.channel))
+        → IsNth (does Kind.Start cursor.now.channel) t.packets j p packet
+        → contents.new ≡ replaced contents.old at (content_of t.channels packet cursor.now.channel) }
+{
+    copy_content(cursor, ports, contents.as_mut_slice(), at);
+}
+
+/// Feeds the event at which a cursor stands as that of channel `c`: whether there is one, and its clock. Gives whether there is.
+fn feed_event(cursor: &Cursor, channels: usize, c: usize, feed: &mut Feed) -> bool
+    requires stands { (t : Trace) × (j : ℕ) × Stands cursor.now t j × (channels ≡ length t.channels) }
+    requires channel { c < channels }
+    requires few { channels ≤ 128 }
+    requires needs { length feed.old.needs ≡ channels * channels }
+    ensures more { has feed.new.more c ≡ result }
+    ensures there { (t : Trace) (j : ℕ) → Stands cursor.now t j → IsTrue result ↔ (j < count cursor.now.kind cursor.now.channel t.packets) }
+    ensures need { (t : Trace) (j p : ℕ) (packet : Packet) → Stands cursor.now t j → channels ≡ length t.channels
+        → IsNth (does cursor.now.kind cursor.now.channel) t.packets j p packet
+        → (d : ℕ) → d < channels → need_of channels feed.new c d ≡ clock t.packets p d }
+    ensures other_more { (d : ℕ) → d ≢ c → has feed.new.more d ≡ has feed.old.more d }
+    ensures other_needs { (d e : ℕ) → d ≢ c → e < channels → need_of channels feed.new d e ≡ need_of channels feed.old d e }
+    ensures needs { length feed.new.needs ≡ channels * channels }
+    ensures contents { feed.new.contents ≡ feed.old.contents }
+{
+    let more = !cursor.at_end();
+    feed.more = with_bit_as(feed.more, c, more);
+    if !more {
+        return false;
+    }
+    write_needs(cursor, channels, c, &mut feed.needs);
+    true
+}
+
+/// Feeds the start at which a cursor stands as that of channel `c`, whose contents begin at place `at`.
+fn feed_start(cursor: &Cursor, channels: &[Channel], c: usize, at: usize, feed: &mut Feed)
+    requires channel { c < length channels.now }
+    requires few { length channels.now ≤ 128 }
+    requires stands { (t : Trace) × (n : ℕ) × IsBehind t Kind.Start c n cursor.now × (t.channels ≡ channels.now) }
+    requires over { IsFeedOver channels.now feed.old }
+    requires place { at ≡ length (all_widths (take c channels.now)) }
+    ensures over { IsFeedOver channels.now feed.new }
+    ensures here { (t : Trace) (n : ℕ) → IsBehind t Kind.Start c n cursor.now → t.channels ≡ channels.now
+        → IsFeedAt channels.now t.packets Kind.Start c n feed.new }
+    ensures others { (d : ℕ) → d ≢ c → IsSameAt channels.now d feed.old feed.new }
+{
+    if feed_event(cursor, channels.len(), c, feed) {
+        let ports = channels[c].widths.len();
+        write_content(cursor, ports, &mut feed.contents, at);
+    }
+}
+
+/// Feeds the completion at which a cursor stands as that of channel `c`.
+fn feed_end(cursor: &Cursor, channels: &[Channel], c: usize, feed: &mut Feed)
+    requires channel { c < length channels.now }
+    requires few { length channels.now ≤ 128 }
+    requires stands { (t : Trace) × (n : ℕ) × IsBehind t Kind.End c n cursor.now × (t.channels ≡ channels.now) }
+    requires over { IsFeedOver channels.now feed.old }
+    ensures over { IsFeedOver channels.now feed.new }
+    ensures here { (t : Trace) (n : ℕ) → IsBehind t Kind.End c n cursor.now → t.channels ≡ channels.now
+        → IsFeedAt channels.now t.packets Kind.End c n feed.new }
+    ensures others { (d : ℕ) → d ≢ c → IsSameAt channels.now d feed.old feed.new }
+{
+    feed_event(cursor, channels.len(), c, feed);
+}
+
+/// Feeds the next event of channel `c`, which has this direction and whose contents begin at place `at`.
+fn feed_channel(
+    cursors: &Cursors,
+    channels: &[Channel],
+    c: usize,
+    dir: Dir,
+    at: usize,
+    feed: &mut Feed,
+)
+    requires channel { c < length channels.now }
+    requires few { length channels.now ≤ 128 }
+    requires stands { (t : Trace) × (have : ℕ → ℕ) × AreBehind t have cursors.now × (t.channels ≡ channels.now) }
+    requires over { IsFeedOver channels.now feed.old }
+    requires place { at ≡ length (all_widths (take c channels.now)) }
+    ensures over { IsFeedOver channels.now feed.new }
+    ensures here { (t : Trace) (have : ℕ → ℕ) → AreBehind t have cursors.now → t.channels ≡ channels.now
+        → IsFeedAt channels.now t.packets (kind_of dir) c (have c) feed.new }
+    ensures others { (d : ℕ) → d ≢ c → IsSameAt channels.now d feed.old feed.new }
+{
+    match dir {
+        Dir::Inward => feed_start(&cursors.starts[c], channels, c, at, feed),
+        Dir::Outward => feed_end(&cursors.ends[c], channels, c, feed),
+    }
+}
+
+/// Feeds the next event of channel `c` where `which` names it.
+fn feed_named(
+    cursors: &Cursors,
+    channels: &[Channel],
+    which: u128,
+    c: usize,
+    dir: Dir,
+    at: usize,
+    feed: &mut Feed,
+)
+    requires channel { c < length channels.now }
+    requires few { length channels.now ≤ 128 }
+    requires stands { (t : Trace) × (have : ℕ → ℕ) × AreBehind t have cursors.now × (t.channels ≡ channels.now) }
+    requires over { IsFeedOver channels.now feed.old }
+    requires place { at ≡ length (all_widths (take c channels.now)) }
+    ensures over { IsFeedOver channels.now feed.new }
+    ensures here { (t : Trace) (have : ℕ → ℕ) → AreBehind t have cursors.now → t.channels ≡ channels.now → has which c ≡ true
+        → IsFeedAt channels.now t.packets (kind_of dir) c (have c) feed.new }
+    ensures others { (d : ℕ) → (d ≢ c) ⊎ (has which d ≡ false) → IsSameAt channels.now d feed.old feed.new }
+{
+    if names(which, c) {
+        feed_channel(cursors, channels, c, dir, at, feed);
+    }
+}
+
+/// Feeds the next event of each channel that `which` names: bit c is channel c.
+fn fill(cursors: &Cursors, channels: &[Channel], which: u128, feed: &mut Feed)
+    requires table { IsTable channels.now }
+    requires stands { (t : Trace) × (have : ℕ → ℕ) × AreBehind t have cursors.now × (t.channels ≡ channels.now) }
+    requires over { IsFeedOver channels.now feed.old }
+    ensures over { IsFeedOver channels.now feed.new }
+    ensures feed { (t : Trace) (have : ℕ → ℕ) → AreBehind t have cursors.now → t.channels ≡ channels.now
+        → IsFeedBut which channels.now t.packets have feed.old → IsFeed channels.now t.packets have feed.new }
+{
+    let mut at = 0;
+    for (c, channel) in channels.iter().enumerate() {
+        let ports = channel.widths.len();
+        feed_named(cursors, channels, which, c, channel.dir, at, feed);
+        at += ports;
+    }
+}
+
+/// A feed with a place for each number, in which no event comes.
+fn feed_over(alloc: Global, channels: &Channels) -> Result<Feed, Memory>
+    requires { IsTable channels.now }
+    ensures { IfOk result (λ feed. IsFeedOver channels.now feed) }
+{
+    let row = row_over(alloc, channels)?;
+    let count = channels.len();
+    let needs = vec![in alloc; 0u32; count * count]?;
+    Ok(Feed {
+        more: 0,
+        needs: Items::from_vec(needs),
+        contents: row.contents,
+    })
+}
+
+/// The feed of cursors before anything has completed.
+pub(crate) fn first_feed(
+    alloc: Global,
+    cursors: &Cursors,
+    channels: &Channels,
+) -> Result<Feed, Memory>
+    requires table { IsTable channels.now }
+    requires stands { (t : Trace) × AreBehind t none_yet cursors.now × (t.channels ≡ channels.now) }
+    ensures over { IfOk result (λ feed. IsFeedOver channels.now feed) }
+    ensures feed { IfOk result (λ feed. (t : Trace) → AreBehind t none_yet cursors.now → t.channels ≡ channels.now
+        → IsFeed channels.now t.packets none_yet feed) }
+{
+    let mut feed = feed_over(alloc, channels)?;
+    fill(cursors, channels.as_slice(), u128::MAX, &mut feed);
+    Ok(feed)
+}
+
+/// Goes on behind one more completion of each channel that `ends` names, and feeds their next events: bit c is channel c.
+pub(crate) fn follow(cursors: &mut Cursors, channels: &Channels, ends: u128, feed: &mut Feed)
+    requires table { IsTable channels.now }
+    requires stands { (t : Trace) × (have : ℕ → ℕ) × AreBehind t have cursors.old × (t.channels ≡ channels.now) }
+    requires over { IsFeedOver channels.now feed.old }
+    ensures over { IsFeedOver channels.now feed.new }
+    ensures behind { (t : Trace) (have : ℕ → ℕ) → AreBehind t have cursors.old → AreBehind t (λ c. have c + bit_at ends c) cursors.new }
+    ensures feed { (t : Trace) (have : ℕ → ℕ) → AreBehind t have cursors.old → t.channels ≡ channels.now
+        → IsFeed channels.now t.packets have feed.old → IsFeed channels.now t.packets (λ c. have c + bit_at ends c) feed.new }
+{
+    cursors.advance(ends);
+    fill(cursors, channels.as_slice(), ends, feed);
+}

@@ -1,0 +1,8 @@
+//! Laws of the definitions.
+
+ghost use Rattle.replay_run.specs.Laws.{OneOutcome};
+
+/// Of recorded packets a design with a map has exactly one replay of at most so many cycles, and it ends in one way.
+pub fn one_outcome()
+    ensures { OneOutcome }
+{}

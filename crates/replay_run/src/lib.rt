@@ -1,0 +1,20 @@
+//! The replay of a trace: a design runs behind replayers until the trace has ended, a row is unstable, or the cycles are used.
+//!
+//! The definitions stand in `specs/`: `Replaying` (what a replay answers), `Standing` (where it stands between two cycles), `Output`
+//! (what is written of its trace), `Behind` (cursors behind so many completions of each channel), `Feeding` (feeds that are alike on
+//! some channels), `Lists` (what the lists of *End of replay* are made of) and `Laws`.
+#![tactic(auto)]
+
+mod cursors;
+mod feeding;
+mod laws;
+mod lists;
+mod outcome;
+mod output;
+mod play;
+mod replaying;
+mod turn;
+
+pub use laws::one_outcome;
+pub use outcome::{ReplayOutcome, Replayed};
+pub use replaying::replay;

@@ -1,0 +1,38 @@
+-- The text of a replay that is short, computed on examples.
+use Rattle.std.proofs.Common.{◌≡◌, ℕ, List, [], ◌∷◌, ◌++◌, codes, refl}
+use Rattle.std.specs.Fmt.{digits}
+use Rattle.trace_model.specs.declared.channel.Channel.{Channel}
+use Rattle.trace_model.specs.declared.channel.Dir.TheVariants.{Inward, Outward}
+use Rattle.trace_model.specs.declared.event.Kind.{Kind}
+use Rattle.trace_model.specs.declared.event.Kind.TheVariants.{Start, End}
+use Rattle.run_model.specs.declared.held.Await.{Await}
+use Rattle.run_model.specs.Held.{event}
+use Rattle.report_text.specs.Short.{short_lines}
+use Rattle.report_text.specs.Text.{newline}
+
+-- `in a` and `out b`, of 8 bits each
+abbrev channels : List Channel
+channels = record { dir = Inward; name = codes "a"; widths = 8 ∷ [] } ∷ record { dir = Outward; name = codes "b"; widths = 8 ∷ [] } ∷ []
+
+abbrev await : ℕ → ℕ → ℕ → Await
+await channel have need = record { channel = channel; have = have; need = need }
+
+-- nothing is held back
+one_cycle_short : short_lines [] (event 1 Start 0 ∷ []) 1 channels
+    ≡ codes "short after 1 cycles" ++ (newline ++ (codes "waits b start 0" ++ newline))
+unfolding digits
+one_cycle_short = refl
+
+-- the second start on a is held back, as b never completes
+held_on_dead : short_lines (record { event = event 0 Start 1; awaits = await 1 0 1 ∷ [] } ∷ []) (event 1 Start 0 ∷ []) 10 channels
+    ≡ codes "short after 10 cycles" ++ (newline ++ (codes "held a start 1" ++ (newline ++ (codes "awaits b have 0 need 1"
+    ++ (newline ++ (codes "waits b start 0" ++ newline))))))
+unfolding digits
+held_on_dead = refl
+
+-- a completion that awaits both channels
+held_end : short_lines (record { event = event 1 End 2; awaits = await 0 3 4 ∷ await 1 12 13 ∷ [] } ∷ []) (event 0 End 3 ∷ []) 7 channels
+    ≡ codes "short after 7 cycles" ++ (newline ++ (codes "held b end 2" ++ (newline ++ (codes "awaits a have 3 need 4"
+    ++ (newline ++ (codes "awaits b have 12 need 13" ++ (newline ++ (codes "waits a end 3" ++ newline))))))))
+unfolding digits
+held_end = refl

@@ -1,0 +1,11 @@
+use Rattle.std.proofs.Common.{ℕ}
+use Rattle.trace_model.specs.declared.event.Kind.TheVariants.{Start}
+use Rattle.trace_code.specs.Stands.{Stands, WalksOver}
+use Rattle.trace_code_checks.proofs.walk_tests.gives_starts.Given as goal
+
+abbrev pub invariant-loop-event : goal.invariant-loop-event
+invariant-loop-event l = record {
+  j : ℕ;
+  stands : Stands l.cursor l.t j;
+  over : WalksOver l.cursor Start l.channel;
+}

@@ -1,0 +1,14 @@
+use Rattle.trace_code_checks.proofs.Steps.{has-more, step-needs, stepped}
+use Rattle.trace_code_checks.proofs.walk_tests.passes_start.Goals as goal
+
+pub has_content-requires-clause-stands : goal.has_content-requires-clause-stands
+has_content-requires-clause-stands c =
+    has-more c.args.cursor.now c.args.t.now c.at_end.result c.args.channel c.requires.over c.requires.stands c.if-at_end.false c.at_end.ensures
+
+pub step-requires : goal.step-requires
+step-requires c = step-needs c.args.cursor.now c.args.t.now c.at_end.result c.requires.stands c.if-at_end.false c.at_end.ensures
+
+pub returns-clause-stands : goal.returns-clause-stands
+returns-clause-stands c =
+    stepped c.args.cursor.now c.step.new.self c.args.t.now c.at_end.result c.step.ensures.stands c.requires.stands c.if-at_end.false
+    c.at_end.ensures

@@ -1,0 +1,97 @@
+use Rattle.std.proofs.Common.{ℕ, List, inr}
+use Rattle.vidi_io.specs.Cause.{Rose}
+use Rattle.vidi_commands.specs.Answer.{Earns, Stops}
+use Rattle.vidi_commands.specs.Checks.{Checks}
+use Rattle.vidi_commands.specs.Command.{Check, Compare, Dump, IsGiven, Record, Run, Salvage}
+use Rattle.vidi_commands.specs.Records.{Records, StopsRecording}
+use Rattle.vidi_commands.specs.Runs.{Runs}
+use Rattle.vidi_commands.specs.Traces.{Compares, Dumps, Saves, StopsSaving}
+use Rattle.vidi_commands.proofs.Chain.{owed, owed-as}
+use Rattle.vidi_commands.proofs.top.answer_to.Goals as goal
+
+pub returns-in-Some-Dump-clause-owed : goal.returns-in-Some-Dump-clause-owed
+returns-in-Some-Dump-clause-owed g c =
+    let S = g.S.Shelf in
+    let words = c.args.words.now in
+    let files = S.files c.args.shelf.now in
+    let left = S.files c.dump.new.shelf in
+    let F = λ (name : List ℕ). Rose (S.read_faults c.args.shelf.now name) (S.read_faults c.dump.new.shelf name) in
+    let trace = c.in-Some-Dump.trace.now in
+    let given : IsGiven words (Dump trace) = rw c.in-Some-Dump.field-0-is at c.in-Some-Dump.ensures in
+    owed (Dumps trace files F) (Earns words files F) (Stops words files)
+    (Rose (S.write_faults c.args.shelf.now) (S.write_faults c.dump.new.shelf)) files left c.dump.result c.dump.ensures.files
+    (λ a x is. inr (inr (Dump trace, given, (is, c.dump.ensures.files)))) c.dump.ensures.answered
+
+pub returns-in-Some-Check-clause-owed : goal.returns-in-Some-Check-clause-owed
+returns-in-Some-Check-clause-owed g c =
+    let S = g.S.Shelf in
+    let words = c.args.words.now in
+    let files = S.files c.args.shelf.now in
+    let left = S.files c.check.new.shelf in
+    let F = λ (name : List ℕ). Rose (S.read_faults c.args.shelf.now name) (S.read_faults c.check.new.shelf name) in
+    let design = c.in-Some-Check.design.now in
+    let top = c.in-Some-Check.top.now in
+    let given : IsGiven words (Check design top) = rw c.in-Some-Check.field-0-is at c.in-Some-Check.ensures in
+    owed (Checks design top files F) (Earns words files F) (Stops words files)
+    (Rose (S.write_faults c.args.shelf.now) (S.write_faults c.check.new.shelf)) files left c.check.result c.check.ensures.files
+    (λ a x is. inr (inr (Check design top, given, (is, c.check.ensures.files)))) c.check.ensures.answered
+
+pub returns-in-Some-Run-clause-owed : goal.returns-in-Some-Run-clause-owed
+returns-in-Some-Run-clause-owed g c =
+    let S = g.S.Shelf in
+    let words = c.args.words.now in
+    let files = S.files c.args.shelf.now in
+    let left = S.files c.run.new.shelf in
+    let F = λ (name : List ℕ). Rose (S.read_faults c.args.shelf.now name) (S.read_faults c.run.new.shelf name) in
+    let design = c.in-Some-Run.design.now in
+    let map = c.in-Some-Run.map.now in
+    let script = c.in-Some-Run.script.now in
+    let given : IsGiven words (Run design map script) = rw c.in-Some-Run.field-0-is at c.in-Some-Run.ensures in
+    owed (Runs design map script files F) (Earns words files F) (Stops words files)
+    (Rose (S.write_faults c.args.shelf.now) (S.write_faults c.run.new.shelf)) files left c.run.result c.run.ensures.files
+    (λ a x is. inr (inr (Run design map script, given, (is, c.run.ensures.files)))) c.run.ensures.answered
+
+pub returns-in-Some-Compare-clause-owed : goal.returns-in-Some-Compare-clause-owed
+returns-in-Some-Compare-clause-owed g c =
+    let S = g.S.Shelf in
+    let words = c.args.words.now in
+    let files = S.files c.args.shelf.now in
+    let left = S.files c.compare.new.shelf in
+    let F = λ (name : List ℕ). Rose (S.read_faults c.args.shelf.now name) (S.read_faults c.compare.new.shelf name) in
+    let trace = c.in-Some-Compare.trace.now in
+    let other = c.in-Some-Compare.other.now in
+    let given : IsGiven words (Compare trace other) = rw c.in-Some-Compare.field-0-is at c.in-Some-Compare.ensures in
+    owed (Compares trace other files F) (Earns words files F) (Stops words files)
+    (Rose (S.write_faults c.args.shelf.now) (S.write_faults c.compare.new.shelf)) files left c.compare.result c.compare.ensures.files
+    (λ a x is. inr (inr (Compare trace other, given, (is, c.compare.ensures.files)))) c.compare.ensures.answered
+
+pub returns-in-Some-Record-clause-owed : goal.returns-in-Some-Record-clause-owed
+returns-in-Some-Record-clause-owed g c =
+    let S = g.S.Shelf in
+    let words = c.args.words.now in
+    let files = S.files c.args.shelf.now in
+    let left = S.files c.record.new.shelf in
+    let F = λ (name : List ℕ). Rose (S.read_faults c.args.shelf.now name) (S.read_faults c.record.new.shelf name) in
+    let design = c.in-Some-Record.design.now in
+    let map = c.in-Some-Record.map.now in
+    let script = c.in-Some-Record.script.now in
+    let stalls = c.in-Some-Record.stalls.now in
+    let trace = c.in-Some-Record.trace.now in
+    let given : IsGiven words (Record design map script stalls trace) = rw c.in-Some-Record.field-0-is at c.in-Some-Record.ensures in
+    owed-as (Records design map script stalls trace files F) (Earns words files F) (StopsRecording design map script stalls trace files) (Stops words files)
+    (Rose (S.write_faults c.args.shelf.now) (S.write_faults c.record.new.shelf)) files left c.record.result
+    (λ a x is. inr (inr (Record design map script stalls trace, given, is))) (λ cut. (Record design map script stalls trace, given, cut)) c.record.ensures.owed
+
+pub returns-in-Some-Salvage-clause-owed : goal.returns-in-Some-Salvage-clause-owed
+returns-in-Some-Salvage-clause-owed g c =
+    let S = g.S.Shelf in
+    let words = c.args.words.now in
+    let files = S.files c.args.shelf.now in
+    let left = S.files c.salvage.new.shelf in
+    let F = λ (name : List ℕ). Rose (S.read_faults c.args.shelf.now name) (S.read_faults c.salvage.new.shelf name) in
+    let trace = c.in-Some-Salvage.trace.now in
+    let out = c.in-Some-Salvage.out.now in
+    let given : IsGiven words (Salvage trace out) = rw c.in-Some-Salvage.field-0-is at c.in-Some-Salvage.ensures in
+    owed-as (Saves trace out files F) (Earns words files F) (StopsSaving trace out files) (Stops words files)
+    (Rose (S.write_faults c.args.shelf.now) (S.write_faults c.salvage.new.shelf)) files left c.salvage.result
+    (λ a x is. inr (inr (Salvage trace out, given, is))) (λ cut. (Salvage trace out, given, cut)) c.salvage.ensures.owed

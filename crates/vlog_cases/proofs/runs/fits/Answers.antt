@@ -1,6 +1,0 @@
-use Rattle.vlog_cases.proofs.runs.fits.Goals as goal
-use Rattle.vlog_cases.proofs.PinLaws.{settled_fits}
-
-pub returns : goal.returns
-returns c =
-    λ t. settled_fits c.args.design.now c.requires c.args.state.now c.args.settled.now c.args.pins.now (c.in_ok-is_one.ensures.0 t)

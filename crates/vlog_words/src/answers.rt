@@ -1,0 +1,128 @@
+//! What the words of a case are answered.
+
+ghost use Rattle.net_design.specs.Lawful.{IsLawful};
+
+use crate::blocks::{block, latch};
+use crate::cycles::{drivers_order, settle, start};
+use crate::designs::design_in;
+use crate::drivers::{blocks, drivers};
+use crate::ended::Ended;
+use crate::expression_tree::expression_tree;
+use crate::expressions::{
+    assigned, constant_of, facts, fixed_number, target, target_width_line, value, width_line,
+};
+use crate::file_tree::tree;
+use crate::parts::{nets, parts};
+use crate::runs::run;
+use crate::spelled::spelled;
+use crate::tree_lines::{expression_lines, file_lines};
+use net_design::Design;
+use std::alloc::Global;
+use vidi_io::{Shelf, Text};
+
+/// The text that these words ask for.
+pub fn answer<S: Shelf>(alloc: Global, words: &[Text], shelf: &mut S) -> Result<Vec<u8>, Ended> {
+    match words {
+        [word, file] if is_of_text(word.as_str()) => {
+            of_text(alloc, word.as_str(), file.as_str(), shelf)
+        }
+        [word, file, top, rest @ ..] if is_of_design(word.as_str()) => of_design(
+            alloc,
+            word.as_str(),
+            file.as_str(),
+            top.as_str(),
+            rest,
+            shelf,
+        ),
+        [word, rest @ ..] => of_words(alloc, word.as_str(), rest, shelf),
+        [] => Err(Ended::Usage),
+    }
+}
+
+/// The words on expressions and blocks, whose texts are words of the case.
+fn of_words<S: Shelf>(
+    alloc: Global,
+    word: &str,
+    rest: &[Text],
+    shelf: &mut S,
+) -> Result<Vec<u8>, Ended> {
+    match word.as_bytes() {
+        b"fixed" => fixed_number(alloc, rest, shelf),
+        b"facts" => facts(alloc, rest, shelf),
+        b"target" => target(alloc, rest, shelf),
+        b"assigned" => assigned(alloc, rest, shelf),
+        b"constant" => constant_of(alloc, rest, shelf),
+        b"width" => width_line(alloc, rest, shelf),
+        b"target-width" => target_width_line(alloc, rest, shelf),
+        b"value" => value(alloc, rest, shelf),
+        b"block" => block(alloc, rest, shelf),
+        b"latch" => latch(alloc, rest, shelf),
+        b"expr-tree" => expression_tree(alloc, rest),
+        b"expr-lines" => expression_lines(alloc, rest),
+        _ => Err(Ended::Usage),
+    }
+}
+
+fn is_of_text(word: &str) -> bool {
+    matches!(word.as_bytes(), b"tree" | b"lines" | b"spelled")
+}
+
+/// The words on a design text.
+fn of_text<S: Shelf>(
+    alloc: Global,
+    word: &str,
+    file: &str,
+    shelf: &mut S,
+) -> Result<Vec<u8>, Ended> {
+    match word.as_bytes() {
+        b"tree" => tree(alloc, file, shelf),
+        b"lines" => file_lines(alloc, file, shelf),
+        b"spelled" => spelled(alloc, file, shelf),
+        _ => Err(Ended::Usage),
+    }
+}
+
+fn is_of_design(word: &str) -> bool {
+    matches!(
+        word.as_bytes(),
+        b"drivers" | b"blocks" | b"parts" | b"nets" | b"order" | b"start" | b"settle" | b"run"
+    )
+}
+
+/// The words on the flat design of a text with this top.
+fn of_design<S: Shelf>(
+    alloc: Global,
+    word: &str,
+    file: &str,
+    top: &str,
+    rest: &[Text],
+    shelf: &mut S,
+) -> Result<Vec<u8>, Ended> {
+    let design = design_in(alloc, shelf, file, top)?;
+    if word.as_bytes() == b"run".as_slice() {
+        return run(alloc, design, shelf, rest);
+    }
+    of_flat(alloc, word, &design, rest, shelf)
+}
+
+/// The words on a flat design that isn't run.
+fn of_flat<S: Shelf>(
+    alloc: Global,
+    word: &str,
+    design: &Design,
+    rest: &[Text],
+    shelf: &mut S,
+) -> Result<Vec<u8>, Ended>
+    requires { IsLawful design.now }
+{
+    match (word.as_bytes(), rest) {
+        (b"drivers", []) => drivers(alloc, design),
+        (b"blocks", []) => blocks(alloc, design),
+        (b"parts", []) => parts(alloc, design),
+        (b"nets", []) => nets(alloc, design),
+        (b"order", []) => drivers_order(alloc, design),
+        (b"start", []) => start(alloc, design),
+        (b"settle", [state]) => settle(alloc, design, shelf, state.as_str()),
+        _ => Err(Ended::Usage),
+    }
+}
