@@ -10,7 +10,7 @@ use std::env;
 use std::process::ExitCode;
 use std::rt::Clock;
 use std::time::Instant;
-use trace_code::{Cursor, TRACE_LIMIT, decode, encode};
+use trace_code::{CodeError, Cursor, TRACE_LIMIT, decode, encode};
 use trace_model::{Kind, Trace};
 use vidi_io::{HostShelf, read_whole};
 
@@ -25,22 +25,28 @@ struct Measured {
 }
 
 /// Steps a cursor through all events of a kind on a channel of a trace, and counts them.
-fn steps_of(alloc: Global, bytes: &[u8], t: &Trace, channel: usize, kind: Kind) -> Option<u32>
+fn steps_of(
+    alloc: Global,
+    bytes: &[u8],
+    t: &Trace,
+    channel: usize,
+    kind: Kind,
+) -> Result<u32, CodeError>
     requires encoded { Encodes t.now bytes.now }
     requires channel { channel < length t.now.channels }
 {
-    let mut cursor = Cursor::new(alloc, bytes, channel, kind).ok()?;
+    let mut cursor = Cursor::new(alloc, bytes, channel, kind)?;
     for steps in 0..u32::MAX {
         if cursor.at_end() {
-            return Some(steps);
+            return Ok(steps);
         }
         cursor.step();
     }
-    None
+    Ok(u32::MAX)
 }
 
 /// Steps all cursors of a trace through all its events, and counts them.
-fn walk(alloc: Global, bytes: &[u8], t: &Trace) -> Option<u64>
+fn walk(alloc: Global, bytes: &[u8], t: &Trace) -> Result<u64, CodeError>
     requires { Encodes t.now bytes.now }
 {
     let mut steps: u64 = 0;
@@ -51,7 +57,7 @@ fn walk(alloc: Global, bytes: &[u8], t: &Trace) -> Option<u64>
             .wrapping_add(u64::from(starts))
             .wrapping_add(u64::from(ends));
     }
-    Some(steps)
+    Ok(steps)
 }
 
 /// Decodes a file's bytes, walks over them and encodes them. None where the clock fails, the bytes are no trace, or no memory is found.
@@ -60,7 +66,7 @@ fn measure(alloc: Global, clock: &impl Clock, bytes: &[u8]) -> Option<Measured> 
     let trace = decode(alloc, bytes).ok()?;
     let decoding = start.elapsed(clock).ok()?.as_micros();
     let start = Instant::now(clock).ok()?;
-    let steps = walk(alloc, bytes, &trace)?;
+    let steps = walk(alloc, bytes, &trace).ok()?;
     let walking = start.elapsed(clock).ok()?.as_micros();
     let start = Instant::now(clock).ok()?;
     let again = encode(alloc, &trace).ok()?;

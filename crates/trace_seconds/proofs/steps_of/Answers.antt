@@ -3,6 +3,9 @@ use Rattle.trace_model.specs.Packet.{count}
 use Rattle.trace_seconds.proofs.Ends.{goes-on}
 use Rattle.trace_seconds.proofs.steps_of.Goals as goal
 
+pub loop-steps-init : goal.loop-steps-init
+loop-steps-init c = record { j = 0; stands = c.in_ok-cursor.ensures.stands c.args.t.now c.requires.encoded }
+
 pub step-requires : goal.step-requires
 step-requires c =
     let k = c.loop-steps.cursor in
