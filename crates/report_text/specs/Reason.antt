@@ -2,10 +2,10 @@
 use Rattle.std.specs.Prelude.{ℕ, List, ◌++◌, codes, decimal}
 use Rattle.report_text.specs.declared.reason.Word.{Word}
 use Rattle.report_text.specs.declared.reason.Word.TheVariants as words
-use Rattle.report_text.specs.declared.reason.Big.{Big}
-use Rattle.report_text.specs.declared.reason.Big.TheVariants.{Instances, Nets, Words}
-use Rattle.report_text.specs.declared.reason.MapLimit.{MapLimit}
-use Rattle.report_text.specs.declared.reason.MapLimit.TheVariants.{Channels, Ports, Bytes}
+use Rattle.vlog_elab.specs.declared.error.Big.{Big}
+use Rattle.vlog_elab.specs.declared.error.Big.TheVariants.{Instances, Nets, Words}
+use Rattle.chan_map.specs.declared.error.MapLimit.{MapLimit}
+use Rattle.chan_map.specs.declared.error.MapLimit.TheVariants.{Channels, Ports, Bytes}
 use Rattle.report_text.specs.declared.reason.Reason.{Reason}
 use Rattle.report_text.specs.declared.reason.Reason.TheVariants as reasons
 use Rattle.report_text.specs.Text.{newline, spaced}

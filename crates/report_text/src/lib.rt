@@ -16,7 +16,7 @@ mod trace_lines;
 mod trace_text;
 
 pub use pad::Pad;
-pub use reason::{Big, MapLimit, Reason, Word, read_fault_line, reason_line};
+pub use reason::{Reason, Word, read_fault_line, reason_line};
 pub use report::report_lines;
 pub use row_lines::{RunLines, rows_text};
 pub use short::short_lines;

@@ -5,9 +5,11 @@ ghost use Rattle.report_text.specs.Reason as said;
 ghost use Rattle.report_text.specs.Text.{spaced};
 
 use crate::text::{put, put_number, put_numbers};
+use chan_map::MapLimit;
 use itoa::Integer;
 use std::alloc::Global;
 use vidi_bits::{Bytes, Items, Memory, Name};
+use vlog_elab::Big;
 
 /// A file among a command's words.
 #[derive(Clone, Copy, Debug, PartialEq, Eq)]
@@ -22,30 +24,8 @@ pub enum Word {
     Other,
 }
 
-/// What a design has too many of.
-#[derive(Clone, Copy, Debug, PartialEq, Eq)]
-pub enum Big {
-    /// More than 4,096 instances.
-    Instances,
-    /// More than 65,536 nets.
-    Nets,
-    /// More than 1,048,576 memory words.
-    Words,
-}
-
-/// A limit of a map.
-#[derive(Clone, Copy, Debug, PartialEq, Eq)]
-pub enum MapLimit {
-    /// 1 to 32 channels.
-    Channels,
-    /// At most 16 content ports of a channel.
-    Ports,
-    /// At most 1,024 content bytes of all channels.
-    Bytes,
-}
-
 /// Why a file is refused. Lines are counted from 1.
-#[derive(Debug, Drop)]
+#[derive(Drop)]
 pub enum Reason {
     /// The file has more than `limit` bytes.
     TooLong { limit: u64 },

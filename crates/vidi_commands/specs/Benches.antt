@@ -8,8 +8,6 @@ use Rattle.net_design.specs.Lawful.{IsLawful}
 use Rattle.net_order.specs.Order.{IsOrder}
 use Rattle.chan_map.specs.declared.error.MapError.{MapError}
 use Rattle.chan_map.specs.declared.error.MapError.TheVariants as map_errors
-use Rattle.chan_map.specs.declared.error.MapLimit.{MapLimit as Limit}
-use Rattle.chan_map.specs.declared.error.MapLimit.TheVariants as limits
 use Rattle.chan_map.specs.declared.text.MapText.{MapText}
 use Rattle.chan_map.specs.declared.pins.Map.{Map}
 use Rattle.chan_map.specs.Text.{ReadsMap}
@@ -20,8 +18,6 @@ use Rattle.script_text.specs.Reasons.{read_lines}
 use Rattle.script_text.specs.Fits.{FitsChannels}
 use Rattle.script_text.specs.Reads.{ReadsScript}
 use Rattle.run_model.specs.MapOf.{IsMapOf}
-use Rattle.report_text.specs.declared.reason.MapLimit.{MapLimit}
-use Rattle.report_text.specs.declared.reason.MapLimit.TheVariants.{Channels, Ports, Bytes}
 use Rattle.report_text.specs.declared.reason.Word.TheVariants as words
 use Rattle.report_text.specs.declared.reason.Reason.{Reason}
 use Rattle.report_text.specs.declared.reason.Reason.TheVariants as reasons
@@ -33,17 +29,12 @@ use Rattle.vidi_commands.specs.Reading.{Reading}
 
 -- ---- the reasons M1 to M4 of a map, and S1 to S3 of a script
 
-abbrev pub limit_of : Limit → MapLimit
-limit_of limits.Channels = Channels
-limit_of limits.Ports = Ports
-limit_of limits.Bytes = Bytes
-
 -- want of memory is no reason
 abbrev pub map_reason : MapError → Option Reason
 map_reason (map_errors.Line line) = Some (reasons.MapLine line)
 map_reason (map_errors.Port line) = Some (reasons.MapPort line)
 map_reason (map_errors.Cover port times) = Some (reasons.Cover port times)
-map_reason (map_errors.Limit what got) = Some (reasons.Limit (limit_of what) got)
+map_reason (map_errors.Limit what got) = Some (reasons.Limit what got)
 map_reason map_errors.Memory = None
 
 abbrev pub script_reason : ScriptError → Option Reason

@@ -7,8 +7,6 @@ use Rattle.vlog_parse.specs.Marks.{all_marked}
 use Rattle.vlog_parse.specs.Depth.{IsDeep, IsShallow}
 use Rattle.vlog_parse.specs.Parsing.{IsFileOf, IsLinedFileOf}
 use Rattle.vlog_parse.specs.Units.{IsItemLine}
-use Rattle.vlog_elab.specs.declared.error.Big.{Big as Limit}
-use Rattle.vlog_elab.specs.declared.error.Big.TheVariants as limits
 use Rattle.vlog_elab.specs.declared.error.ElabError.{ElabError}
 use Rattle.vlog_elab.specs.declared.error.ElabError.TheVariants as errors
 use Rattle.net_design.specs.declared.design.Design.{Design}
@@ -16,8 +14,6 @@ use Rattle.net_design.specs.declared.design.Driver.{Driver}
 use Rattle.net_order.specs.Order.{IsOrder, IsLoop}
 use Rattle.vlog_design.specs.Design.{IsDesignOf}
 use Rattle.vlog_design.specs.Reasons.{Clear, Refused}
-use Rattle.report_text.specs.declared.reason.Big.{Big}
-use Rattle.report_text.specs.declared.reason.Big.TheVariants.{Instances, Nets, Words}
 use Rattle.report_text.specs.declared.reason.Word.TheVariants as words
 use Rattle.report_text.specs.declared.reason.Reason.{Reason}
 use Rattle.report_text.specs.declared.reason.Reason.TheVariants as reasons
@@ -56,18 +52,13 @@ abbrev pub Spells : List ℕ → FileOf ℕ → Type 0
 Spells text f = (tokens : List Token) × HasTokens text tokens × IsFile tokens f
 
 -- ---- the reasons E3 to E9 and E11 to E13
-abbrev pub big_of : Limit → Big
-big_of limits.Instances = Instances
-big_of limits.Nets = Nets
-big_of limits.Words = Words
-
 -- want of memory is no reason
 abbrev pub reason_of : ElabError → Option Reason
 reason_of (errors.Twice name) = Some (reasons.Twice name)
 reason_of (errors.Unknown name) = Some (reasons.Unknown name)
 reason_of (errors.Kind line) = Some (reasons.Kind line)
 reason_of (errors.Nested name) = Some (reasons.Nested name)
-reason_of (errors.TooBig what) = Some (reasons.TooBig (big_of what))
+reason_of (errors.TooBig what) = Some (reasons.TooBig what)
 reason_of (errors.Const line) = Some (reasons.Const line)
 reason_of (errors.Width line got) = Some (reasons.Width line got)
 reason_of (errors.Clock line) = Some (reasons.Clock line)

@@ -14,11 +14,10 @@ use crate::answer::{Answer, Ended, refused};
 use crate::status::{Reason, Word};
 use net_design::Design;
 use net_order::{Order, OrderError, order};
-use report_text::Big;
 use std::alloc::Global;
 use vidi_bits::{Items, Memory};
 use vlog_design::elaborate;
-use vlog_elab::{Big as Limit, ElabError};
+use vlog_elab::ElabError;
 use vlog_lex::{LexError, Tokens, lex};
 use vlog_parse::{ParseError, parse};
 use vlog_tree::File;
@@ -91,23 +90,13 @@ fn reason_of(error: ElabError) -> Option<Reason>
         ElabError::Unknown { name } => Some(Reason::Unknown { name }),
         ElabError::Kind { line } => Some(Reason::Kind { line }),
         ElabError::Nested { name } => Some(Reason::Nested { name }),
-        ElabError::TooBig { what } => Some(Reason::TooBig { what: big_of(what) }),
+        ElabError::TooBig { what } => Some(Reason::TooBig { what }),
         ElabError::Const { line } => Some(Reason::Const { line }),
         ElabError::Width { line, got } => Some(Reason::Width { line, got }),
         ElabError::Clock { line } => Some(Reason::Clock { line }),
         ElabError::Latch { name, line } => Some(Reason::Latch { name, line }),
         ElabError::Drive { name, bit, drivers } => Some(Reason::Drive { name, bit, drivers }),
         ElabError::Memory => None,
-    }
-}
-
-fn big_of(what: Limit) -> Big
-    ensures { result ≡ spec.big_of what }
-{
-    match what {
-        Limit::Instances => Big::Instances,
-        Limit::Nets => Big::Nets,
-        Limit::Words => Big::Words,
     }
 }
 

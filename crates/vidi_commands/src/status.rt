@@ -6,7 +6,7 @@ ghost use Rattle.vidi_commands.specs.Exit as exit;
 pub use report_text::{Reason, Word};
 
 /// What a call of `vidi` answers.
-#[derive(Debug, Drop)]
+#[derive(Drop)]
 pub enum Status {
     /// The command did what it does, and its whole text was written.
     Done,
