@@ -7,7 +7,10 @@ pub mod Chain
 pub mod PortNets
 pub mod Names
 pub mod Texts
+pub mod Wired
 pub mod Filed
 pub mod Recorded
 pub mod Saved
 pub mod DriverLines
+pub mod QuietReplays
+pub mod Replayed

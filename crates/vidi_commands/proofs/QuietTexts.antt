@@ -27,12 +27,13 @@ use Rattle.report_text.specs.Rows.{run_text}
 use Rattle.vidi_commands.specs.declared.bench.Bench.{Bench}
 use Rattle.vidi_commands.specs.declared.status.Status.{Status}
 use Rattle.vidi_commands.specs.declared.status.Status.TheVariants.{Done, WriteFault, Unstable}
-use Rattle.vidi_commands.specs.Benches.{IsNoMap, IsUnbound, IsNoScript, RefusedBound, RefusedMap, RefusedTexts, IsBench, ReadTexts}
+use Rattle.vidi_commands.specs.Benches.{IsNoScript, RefusedTexts, IsBench, ReadTexts}
 use Rattle.vidi_commands.specs.Checks.{Checked, Checks}
 use Rattle.vidi_commands.specs.Design.{text_limit, line_of, IsNoWord, IsNoTree, IsNoText, IsRefusedFile, IsAccepted, IsLooped, Spells}
 use Rattle.vidi_commands.specs.Design.{Building, Spelling}
+use Rattle.vidi_commands.specs.Devices.{Binding, IsNoMap, IsUnbound, Mapping, Wiring}
 use Rattle.vidi_commands.specs.Reading.{Reading}
-use Rattle.vidi_commands.specs.Records.{IsNoPlan, IsTooSmall, RefusedPlan, RefusedPlanned, IsUnrecorded, IsRecorded, Records}
+use Rattle.vidi_commands.specs.Records.{IsNoPlan, IsTooSmall, RefusedPlan, RefusedPlanned, IsRecorded, Records}
 use Rattle.vidi_commands.specs.Runs.{IsEnded, IsPlayed, RunTexts, Runs}
 use Rattle.vidi_commands.specs.Said.{check_text, cycles_line, recorded_line, unstable_line}
 use Rattle.vidi_commands.specs.Steps.{Ending, IsSaid, Step}
@@ -72,23 +73,23 @@ mute-checks design top files F = mute-reading text_limit words.Design design fil
     (λ d. mute-said Done (check_text f (file_counts f top)) done-goes)))
 
 -- ---- the three texts
-pub mute-no_map : (bytes : List ℕ) → Mute (IsNoMap bytes)
+mute-no_map : (bytes : List ℕ) → Mute (IsNoMap bytes)
 mute-no_map bytes x (error, is, (reason, names, said)) = mute-refusal words.Map reason x said
 
-pub mute-unbound : (text : MapText) (d : Design) → Mute (IsUnbound text d)
+mute-unbound : (text : MapText) (d : Design) → Mute (IsUnbound text d)
 mute-unbound text d x (error, is, (reason, names, said)) = mute-refusal words.Map reason x said
 
 mute-no_script : (bytes : List ℕ) (m : Map) → Mute (IsNoScript bytes m)
 mute-no_script bytes m x (error, is, (reason, names, said)) = mute-refusal words.Script reason x said
 
-mute-bound : (text : MapText) (script : List ℕ) (d : Design) → Mute (RefusedBound text script d)
-mute-bound text script d = mute-step (IsUnbound text d) (λ (m : Map). BindsMap text d (Ok m)) (IsNoScript script) (mute-unbound text d)
-    (mute-no_script script)
+pub mute-wiring : (design m : List ℕ) (Next : Map → Ending) → ((k : Map) → Mute (Next k)) → Mute (Wiring design m Next)
+mute-wiring design m Next mute = mute-spelling design (λ f. Mapping m f Next) (λ f.
+    mute-step (IsNoMap m) (λ (text : MapText). ReadsMap m (Ok text)) (λ (text : MapText). Building text.top f (λ d. Binding text d Next))
+    (mute-no_map m) (λ text. mute-building text.top f (λ d. Binding text d Next) (λ d.
+    mute-step (IsUnbound text d) (λ (k : Map). BindsMap text d (Ok k)) Next (mute-unbound text d) mute)))
 
 mute-refused_texts : (design m script : List ℕ) → Mute (RefusedTexts design m script)
-mute-refused_texts design m script = mute-spelling design (RefusedMap m script) (λ f.
-    mute-step (IsNoMap m) (λ (text : MapText). ReadsMap m (Ok text)) (λ (text : MapText). Building text.top f (RefusedBound text script))
-    (mute-no_map m) (λ text. mute-building text.top f (RefusedBound text script) (mute-bound text script)))
+mute-refused_texts design m script = mute-wiring design m (IsNoScript script) (mute-no_script script)
 
 mute-texts : (design m script : List ℕ) (files : Option Files) (F : List ℕ → Type 0) (Next : List ℕ → List ℕ → List ℕ → Ending)
     → ((d n s : List ℕ) → Mute (Next d n s)) → Mute (ReadTexts design m script files F Next)
@@ -108,8 +109,8 @@ mute-played d m s x (run, is, ended) = mute-ended m run.rows run.unstable x ende
 
 pub mute-runs : (design m script : List ℕ) (files : Option Files) (F : List ℕ → Type 0) → Mute (Runs design m script files F)
 mute-runs design m script files F = mute-texts design m script files F RunTexts (λ d n s.
-    mute-step (RefusedTexts d n s) (IsBench d n s) (λ (b : Bench). IsPlayed b.design b.map b.script) (mute-refused_texts d n s)
-    (λ b. mute-played b.design b.map b.script))
+    mute-step (RefusedTexts d n s) (IsBench d n s) (λ (b : Bench). IsPlayed b.device.design b.device.map b.script) (mute-refused_texts d n s)
+    (λ b. mute-played b.device.design b.device.map b.script))
 
 -- ---- `record`
 mute-no_plan : (bytes : List ℕ) → Mute (IsNoPlan bytes)
@@ -121,7 +122,7 @@ mute-small channels plan x (small, said) = mute-refusal words.Stalls (TooSmall (
 mute-planned : (design m script stalls : List ℕ) → Mute (RefusedPlanned design m script stalls)
 mute-planned design m script stalls = mute-step (RefusedTexts design m script) (IsBench design m script) (RefusedPlan stalls)
     (mute-refused_texts design m script) (λ b. mute-step (IsNoPlan stalls) (λ (plan : Stalls). ReadsStalls (read_lines stalls) (Ok plan))
-    (IsTooSmall b.map.channels) (mute-no_plan stalls) (mute-small b.map.channels))
+    (IsTooSmall b.device.map.channels) (mute-no_plan stalls) (mute-small b.device.map.channels))
 
 mute-recorded : (channels : List Channel) (rows : List Row) (stop : Option ℕ) → Mute (IsRecorded channels rows stop)
 mute-recorded channels rows None = mute-said Done (recorded_line (length rows) (length (packets_of channels rows))) done-goes
@@ -134,7 +135,7 @@ mute-records design m script stalls trace files F x left (inl (u, same)) = mute-
     (λ d n s. Reading text_limit words.Stalls stalls files F (RefusedPlanned d n s))
     (λ d n s. mute-reading text_limit words.Stalls stalls files F (RefusedPlanned d n s) (mute-planned d n s)) x u
 mute-records design m script stalls trace files F x left (inr (b, plan, planned, (rows, stop, leaves, recorded))) =
-    mute-recorded b.map.channels rows stop x recorded
+    mute-recorded b.device.map.channels rows stop x recorded
 
 -- ---- where no read failed
 pub quiet-checks : (design top : List ℕ) (files : Option Files) (F : List ℕ → Type 0) → ((name : List ℕ) → ¬ F name)

@@ -9,7 +9,7 @@ use Rattle.report_text.specs.declared.reason.Reason.TheVariants.{BadTrace, Other
 use Rattle.vidi_commands.specs.declared.status.Status.{Status}
 use Rattle.vidi_commands.specs.declared.status.Status.TheVariants.{Done, WriteFault, Diverged}
 use Rattle.vidi_commands.specs.Reading.{Reading}
-use Rattle.vidi_commands.specs.Said.{dump_text}
+use Rattle.vidi_commands.specs.Said.{dump_text, no_divergence_line}
 use Rattle.vidi_commands.specs.Steps.{Ending, IsSaid}
 use Rattle.vidi_commands.specs.Traces.{trace_limit, IsNoTrace, Decoding, Dumps, IsVerdict, Compared, ComparedFiles, Compares, IsHeaderless, Saves}
 use Rattle.vidi_commands.proofs.Chain.{Implies}
@@ -27,13 +27,13 @@ mute-dumps trace files F = mute-reading trace_limit words.Trace trace files F
     (λ file. Decoding words.Trace file (λ t. IsSaid Done (dump_text t)))
     (λ file. mute-decoding words.Trace file (λ t. IsSaid Done (dump_text t)) (λ t. mute-said Done (dump_text t) done-goes))
 
-mute-verdict : (t u : Trace) → Mute (IsVerdict t u)
-mute-verdict t u x (inl (none, s)) = let e : WriteFault ≡ Done = s.0 in cc
-mute-verdict t u x (inr (some, s)) = let e : WriteFault ≡ Diverged = s.0 in cc
+pub mute-verdict : (line : List ℕ) (t u : Trace) → Mute (IsVerdict line t u)
+mute-verdict line t u x (inl (none, s)) = let e : WriteFault ≡ Done = s.0 in cc
+mute-verdict line t u x (inr (some, s)) = let e : WriteFault ≡ Diverged = s.0 in cc
 
 mute-compared : (t u : Trace) → Mute (Compared t u)
 mute-compared t u x (inl (at, same, other, s)) = mute-refusal words.Other (OtherChannels at) x s
-mute-compared t u x (inr (equal, v)) = mute-verdict t u x v
+mute-compared t u x (inr (equal, v)) = mute-verdict no_divergence_line t u x v
 
 pub mute-compares : (trace other : List ℕ) (files : Option Files) (F : List ℕ → Type 0) → Mute (Compares trace other files F)
 mute-compares trace other files F = mute-reading trace_limit words.Trace trace files F

@@ -1,5 +1,5 @@
 -- From what is whole of a trace to the answer of `salvage`.
-use Rattle.std.proofs.Common.{◌≡◌, ℕ, List, ◌++◌, Option, Result, Ok, Err, length, inr, ap, subst, ◌∙◌}
+use Rattle.std.proofs.Common.{◌≡◌, ℕ, List, ◌++◌, Option, Result, Ok, Err, inr, ap, subst, ◌∙◌}
 use Rattle.std.specs.Prelude.{IfOk, IfErr, take}
 use Rattle.trace_code.specs.declared.salvaging.Whole.{Whole}
 use Rattle.trace_code.specs.Encoding.{end_mark}

@@ -3,11 +3,12 @@ use Rattle.std.proofs.Common.{◌≡◌, ◌≢◌, ℕ, List, Option, inl, inr,
 use Rattle.std.specs.Io.KnownBytes.{append_known}
 use Rattle.vidi_io.specs.Shelf.{Files}
 use Rattle.vidi_commands.specs.declared.status.Status.{Status}
-use Rattle.vidi_commands.specs.declared.status.Status.TheVariants.{Done, Usage, ReadFault, WriteFault, Refused, Unstable, Diverged, Memory}
-use Rattle.vidi_commands.specs.Command.{Command, Dump, Check, Run, Record, Compare, Salvage}
+use Rattle.vidi_commands.specs.declared.status.Status.TheVariants.{Done, Usage, ReadFault, WriteFault, Refused, Unstable, Short, Diverged, Memory}
+use Rattle.vidi_commands.specs.Command.{Command, Dump, Check, Run, Record, Replay, Compare, Salvage}
 use Rattle.vidi_commands.specs.Answer.{Does, Earns, Answers, Says}
 use Rattle.vidi_commands.proofs.QuietTraces.{mute-dumps, mute-compares, mute-saves, quiet-dumps, quiet-compares, quiet-saves}
 use Rattle.vidi_commands.proofs.QuietTexts.{mute-checks, mute-runs, mute-records, quiet-checks, quiet-runs, quiet-records}
+use Rattle.vidi_commands.proofs.QuietReplays.{mute-replays, quiet-replays}
 
 does-writing : (c : Command) (files : Option Files) (F : List ℕ → Type 0) (text : List ℕ) (left : Option Files)
     → Does c files F WriteFault text left → ⊥
@@ -15,6 +16,7 @@ does-writing (Dump trace) files F text left (d, same) = mute-dumps trace files F
 does-writing (Check design top) files F text left (d, same) = mute-checks design top files F text d
 does-writing (Run design map script) files F text left (d, same) = mute-runs design map script files F text d
 does-writing (Record design map script stalls trace) files F text left d = mute-records design map script stalls trace files F text left d
+does-writing (Replay design map trace n out) files F text left d = mute-replays design map trace n out files F text left d
 does-writing (Compare trace other) files F text left (d, same) = mute-compares trace other files F text d
 does-writing (Salvage trace out) files F text left d = mute-saves trace out files F text left d
 
@@ -33,6 +35,7 @@ answered E S W old new left (ReadFault word) text earned other told = (text, ear
 answered E S W old new left WriteFault text earned other told = absurd (other refl)
 answered E S W old new left (Refused word reason) text earned other told = (text, earned, told)
 answered E S W old new left (Unstable channel cycle) text earned other told = (text, earned, told)
+answered E S W old new left (Short helds events) text earned other told = (text, earned, told)
 answered E S W old new left Diverged text earned other told = (text, earned, told)
 answered E S W old new left Memory text earned other told = (text, earned, told)
 
@@ -58,6 +61,8 @@ quiet_does (Run design map script) files F status text left quiet (d, same) =
     (quiet-runs design map script files F quiet status text d, same)
 quiet_does (Record design map script stalls trace) files F status text left quiet d =
     quiet-records design map script stalls trace files F status text left quiet d
+quiet_does (Replay design map trace n out) files F status text left quiet d =
+    quiet-replays design map trace n out files F status text left quiet d
 quiet_does (Compare trace other) files F status text left quiet (d, same) = (quiet-compares trace other files F quiet status text d, same)
 quiet_does (Salvage trace out) files F status text left quiet d = quiet-saves trace out files F status text left quiet d
 
@@ -81,6 +86,8 @@ quietly words files F S W old new left (Refused word reason) quiet kept (text, e
     = (text, quiet_earns words files F (Refused word reason) text left quiet e, told)
 quietly words files F S W old new left (Unstable channel cycle) quiet kept (text, e, told)
     = (text, quiet_earns words files F (Unstable channel cycle) text left quiet e, told)
+quietly words files F S W old new left (Short helds events) quiet kept (text, e, told)
+    = (text, quiet_earns words files F (Short helds events) text left quiet e, told)
 quietly words files F S W old new left Diverged quiet kept (text, e, told)
     = (text, quiet_earns words files F Diverged text left quiet e, told)
 quietly words files F S W old new left Memory quiet kept (text, e, told) = (text, quiet_earns words files F Memory text left quiet e, told)

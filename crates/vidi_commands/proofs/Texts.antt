@@ -1,21 +1,15 @@
 -- From the files of a command to what their texts say.
 use Rattle.std.proofs.Common.{ℕ, List, Option, Result, Ok, Err, ◌≤◌, inl, inr}
 use Rattle.std.specs.Prelude.{IfOk}
-use Rattle.vlog_tree.specs.Tree.{FileOf}
-use Rattle.chan_map.specs.declared.text.MapText.{MapText}
-use Rattle.chan_map.specs.Text.{ReadsMap}
-use Rattle.chan_map.specs.Bound.{BindsMap}
 use Rattle.room_ledger.specs.Reservation.{need}
-use Rattle.script_text.specs.Reads.{ReadsScript}
 use Rattle.script_text.specs.Reasons.{read_lines}
 use Rattle.script_text.specs.Stalls.{ReadsStalls}
 use Rattle.vidi_io.specs.Shelf.{Files}
 use Rattle.vidi_recorder.specs.Course.{sizes_of}
 use Rattle.vidi_commands.specs.declared.answer.Ended.{Ended}
-use Rattle.vidi_commands.specs.declared.bench.Bench.{Bench}
 use Rattle.vidi_commands.specs.declared.recording.Planned.{Planned}
-use Rattle.vidi_commands.specs.Benches.{IsBench, IsPlayable, ReadTexts}
-use Rattle.vidi_commands.specs.Design.{text_limit, IsAccepted, Spells}
+use Rattle.vidi_commands.specs.Benches.{IsBench, ReadTexts}
+use Rattle.vidi_commands.specs.Design.{text_limit}
 use Rattle.vidi_commands.specs.Reading.{IsRead}
 use Rattle.vidi_commands.specs.Records.{IsPlanned}
 use Rattle.vidi_commands.specs.Steps.{Ending, Never}
@@ -29,27 +23,11 @@ never-read design map script files F Next a x (inr (d, read, inl unread)) = inr 
 never-read design map script files F Next a x (inr (d, read, inr (m, read', inl unread))) = inr (d, read, inr (m, read', inl unread))
 never-read design map script files F Next a x (inr (d, read, inr (m, read', inr (s, read'', never)))) = absurd never
 
--- what the tree and the lines of a map say
-pub bench-said : (design map script : List ℕ) (file : FileOf ℕ) (text : MapText) (r : Result Bench Ended) → Spells design file
-    → ReadsMap map (Ok text) → IfOk r (λ b. IsAccepted text.top file b.design) → IfOk r (λ b. BindsMap text b.design (Ok b.map))
-    → IfOk r (λ b. ReadsScript b.map.channels (read_lines script) (Ok b.script)) → IfOk r IsPlayable → IfOk r (IsBench design map script)
-bench-said design map script file text (Ok b) spelled mapped accepted bound plays playable = record {
-  file = file;
-  spelled = spelled;
-  text = text;
-  mapped = mapped;
-  accepted = accepted;
-  ordered = playable.ordered;
-  bound = bound;
-  plays = plays;
-}
-bench-said design map script file text (Err e) spelled mapped accepted bound plays playable = tt
-
 -- what the texts of four files say
 pub plan-said : (design map script stalls : List ℕ) (files : Option Files) (d m s t : List ℕ) (r : Result Planned Ended)
     → IsRead text_limit design files d → IsRead text_limit map files m → IsRead text_limit script files s
     → IsRead text_limit stalls files t → IfOk r (λ p. IsBench d m s p.bench) → IfOk r (λ p. ReadsStalls (read_lines t) (Ok p.plan))
-    → IfOk r (λ p. need (sizes_of p.bench.map.channels) ≤ p.plan.capacity)
+    → IfOk r (λ p. need (sizes_of p.bench.device.map.channels) ≤ p.plan.capacity)
     → IfOk r (λ p. IsPlanned design map script stalls files p.bench p.plan)
 plan-said design map script stalls files d m s t (Ok p) first second third fourth bench planned holds = record {
   design_text = d;

@@ -1,5 +1,7 @@
 -- The commands, and the words that give them (this project's profile).
-use Rattle.std.specs.Prelude.{◌≡◌, ◌≢◌, ℕ, List, [], ◌∷◌, codes}
+use Rattle.std.specs.Prelude.{◌≡◌, ◌≢◌, ℕ, ◌≤◌, List, [], ◌∷◌, Some, codes}
+use Rattle.vidi_lines.specs.Number.{number_of}
+use Rattle.script_text.specs.declared.script.TheConstants.{MOST_CYCLES}
 use Rattle.vidi_commands.specs.declared.command.Command as declared
 use Rattle.vidi_commands.specs.declared.command.Command.TheVariants as variants
 
@@ -8,8 +10,13 @@ pub data Command : Type 0 where
   Check : (design top : List ℕ) → Command
   Run : (design map script : List ℕ) → Command
   Record : (design map script stalls trace : List ℕ) → Command
+  Replay : (design map trace : List ℕ) (cycles : ℕ) (out : List ℕ) → Command
   Compare : (trace other : List ℕ) → Command
   Salvage : (trace out : List ℕ) → Command
+
+-- the word writes this number of cycles, which a command can play
+abbrev pub IsCycles : List ℕ → ℕ → Type 0
+IsCycles word cycles = (number_of word ≡ Some cycles) × (1 ≤ cycles) × (cycles ≤ MOST_CYCLES)
 
 -- the words are exactly the command's name and its parts; a file that is written isn't one that is read
 abbrev pub IsGiven : List (List ℕ) → Command → Type 0
@@ -19,6 +26,9 @@ IsGiven words (Run design map script) = words ≡ codes "run" ∷ design ∷ map
 IsGiven words (Record design map script stalls trace) =
     (words ≡ codes "record" ∷ design ∷ map ∷ script ∷ stalls ∷ trace ∷ [])
     × (design ≢ trace) × (map ≢ trace) × (script ≢ trace) × (stalls ≢ trace)
+IsGiven words (Replay design map trace cycles out) =
+    (word : List ℕ) × (words ≡ codes "replay" ∷ design ∷ map ∷ trace ∷ word ∷ out ∷ []) × IsCycles word cycles
+    × (design ≢ out) × (map ≢ out) × (trace ≢ out)
 IsGiven words (Compare trace other) = words ≡ codes "compare" ∷ trace ∷ other ∷ []
 IsGiven words (Salvage trace out) = (words ≡ codes "salvage" ∷ trace ∷ out ∷ []) × (trace ≢ out)
 
@@ -28,5 +38,6 @@ plain (variants.Dump trace) = Dump trace.now
 plain (variants.Check design top) = Check design.now top.now
 plain (variants.Run design map script) = Run design.now map.now script.now
 plain (variants.Record design map script stalls trace) = Record design.now map.now script.now stalls.now trace.now
+plain (variants.Replay design map trace cycles out) = Replay design.now map.now trace.now cycles out.now
 plain (variants.Compare trace other) = Compare trace.now other.now
 plain (variants.Salvage trace out) = Salvage trace.now out.now

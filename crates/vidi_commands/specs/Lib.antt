@@ -4,9 +4,11 @@ pub mod Benches
 pub mod Checks
 pub mod Command
 pub mod Design
+pub mod Devices
 pub mod Ended
 pub mod Recorded
 pub mod Records
+pub mod Replays
 pub mod Runs
 pub mod Exit
 pub mod Reading

@@ -37,7 +37,7 @@ IsTooSmall channels plan status said = (plan.capacity < need (sizes_of channels)
     × IsRefusal words.Stalls (TooSmall (need (sizes_of channels)) plan.capacity) status said
 
 abbrev pub RefusedPlan : List ℕ → Bench → Ending
-RefusedPlan stalls b = Step (IsNoPlan stalls) (λ plan. ReadsStalls (read_lines stalls) (Ok plan)) (IsTooSmall b.map.channels)
+RefusedPlan stalls b = Step (IsNoPlan stalls) (λ plan. ReadsStalls (read_lines stalls) (Ok plan)) (IsTooSmall b.device.map.channels)
 
 -- four texts
 abbrev pub RefusedPlanned : List ℕ → List ℕ → List ℕ → List ℕ → Ending
@@ -62,11 +62,11 @@ pub record IsPlanned (design map script stalls : List ℕ) (files : Option Files
   pub stalls_read : IsRead text_limit stalls files stalls_text
   pub bench : IsBench design_text map_text script_text b
   pub planned : ReadsStalls (read_lines stalls_text) (Ok plan)
-  pub holds : need (sizes_of b.map.channels) ≤ plan.capacity
+  pub holds : need (sizes_of b.device.map.channels) ≤ plan.capacity
 
 -- of that design and map, with what the script offers and the gates of the plan, for the script's cycles
 abbrev pub course_of : Bench → Stalls → Course
-course_of b plan = course b.design b.map (script_offer b.script) plan b.script.cycles
+course_of b plan = course b.device.design b.device.map (script_offer b.script) plan b.script.cycles
 
 -- the run has all its cycles, or ends before the row of this cycle, which is unstable on this channel
 abbrev pub IsRecorded : List Channel → List Row → Option ℕ → Ending

@@ -32,7 +32,7 @@ IsPlayed d map script status said =
 -- three texts
 abbrev pub RunTexts : List ℕ → List ℕ → List ℕ → Ending
 RunTexts design map script = Step (RefusedTexts design map script) (IsBench design map script)
-    (λ (b : Bench). IsPlayed b.design b.map b.script)
+    (λ (b : Bench). IsPlayed b.device.design b.device.map b.script)
 
 abbrev pub Runs : List ℕ → List ℕ → List ℕ → Option Files → (List ℕ → Type 0) → Ending
 Runs design map script files ReadFailed = ReadTexts design map script files ReadFailed RunTexts

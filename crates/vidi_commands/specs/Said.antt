@@ -51,6 +51,10 @@ abbrev pub recorded_line : ℕ → ℕ → List ℕ
 recorded_line cycles packets =
     codes "recorded " ++ (decimal cycles ++ (codes " cycles " ++ (decimal packets ++ (codes " packets" ++ newline))))
 
+-- `replayed N cycles, no divergence`
+abbrev pub replayed_line : ℕ → List ℕ
+replayed_line cycles = codes "replayed " ++ (decimal cycles ++ (codes " cycles, no divergence" ++ newline))
+
 -- the name of channel c
 abbrev pub name_in : Option Channel → List ℕ
 name_in None = []

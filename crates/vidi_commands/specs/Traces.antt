@@ -1,5 +1,6 @@
 -- What the commands on traces owe: each step of them in its order.
 use Rattle.std.specs.Prelude.{◌≡◌, ◌≢◌, ℕ, ◌⊎◌, List, [], Option, Ok, length, take, slice_get}
+use Rattle.trace_model.specs.declared.channel.Channel.{Channel}
 use Rattle.trace_model.specs.declared.trace.Trace.{Trace}
 use Rattle.trace_code.specs.Decoding.{IsFaultAt, HasNoHeader}
 use Rattle.trace_code.specs.Encoding.{Encodes, encode}
@@ -36,17 +37,19 @@ Dumps trace files ReadFailed = Reading trace_limit words.Trace trace files ReadF
     (λ file. Decoding words.Trace file (λ t. IsSaid Done (dump_text t)))
 
 -- ---- `compare TRACE OTHER`
--- the channels of the second trace are others, first at this place
-abbrev pub HasOtherChannels : Trace → Trace → Ending
-HasOtherChannels t u status text = (at : ℕ) × (take at t.channels ≡ take at u.channels)
-    × (slice_get t.channels at ≢ slice_get u.channels at) × IsRefusal words.Other (OtherChannels at) status text
+-- there are other channels in the file of this word, first at this place
+abbrev pub HasOtherChannels : Word → List Channel → List Channel → Ending
+HasOtherChannels word channels others status text = (at : ℕ) × (take at channels ≡ take at others)
+    × (slice_get channels at ≢ slice_get others at) × IsRefusal word (OtherChannels at) status text
 
-abbrev pub IsVerdict : Trace → Trace → Ending
-IsVerdict t u status text = ((findings t u ≡ []) × IsSaid Done no_divergence_line status text)
+-- the second trace has no findings against the first, and this line is said; or it has some, and they are said
+abbrev pub IsVerdict : List ℕ → Trace → Trace → Ending
+IsVerdict line t u status text = ((findings t u ≡ []) × IsSaid Done line status text)
     ⊎ ((findings t u ≢ []) × IsSaid Diverged (diverged_text (findings t u) t.channels) status text)
 
 abbrev pub Compared : Trace → Trace → Ending
-Compared t u status text = HasOtherChannels t u status text ⊎ ((t.channels ≡ u.channels) × IsVerdict t u status text)
+Compared t u status text = HasOtherChannels words.Other t.channels u.channels status text
+    ⊎ ((t.channels ≡ u.channels) × IsVerdict no_divergence_line t u status text)
 
 -- the bytes of two files
 abbrev pub ComparedFiles : List ℕ → List ℕ → Ending

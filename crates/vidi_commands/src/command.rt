@@ -1,9 +1,11 @@
 //! The words of a command line.
 
-ghost use Rattle.std.specs.Prelude.{◌≡◌, [], ◌∷◌, MatchOption};
+ghost use Rattle.std.specs.Prelude.{◌≡◌, ℕ, [], ◌∷◌, MatchOption, codes};
 ghost use Rattle.vidi_commands.specs.Command as spec;
 
+use script_text::MOST_CYCLES;
 use vidi_io::Words;
+use vidi_lines::number;
 
 /// A command with its parts.
 #[derive(Clone, Copy)]
@@ -29,6 +31,14 @@ pub enum Command<'a> {
         script: &'a str,
         stalls: &'a str,
         trace: &'a str,
+    },
+    /// The trace is replayed on the design for at most so many cycles, 1 to 50,000, and `out` gets the trace of the replay.
+    Replay {
+        design: &'a str,
+        map: &'a str,
+        trace: &'a str,
+        cycles: u32,
+        out: &'a str,
     },
     /// `other` is compared with `trace`.
     Compare {
@@ -86,9 +96,30 @@ fn of_three<'a>(name: &str, design: &'a str, map: &'a str, script: &'a str) -> O
     None
 }
 
-/// The command of this name with five parts. The file that is written isn't one that is read.
+/// The command of this name with five parts.
 fn of_five<'a>(
     name: &str,
+    design: &'a str,
+    map: &'a str,
+    third: &'a str,
+    fourth: &'a str,
+    fifth: &'a str,
+) -> Option<Command<'a>>
+    ensures { MatchOption result
+        ((c : spec.Command) → ¬ spec.IsGiven (name.now ∷ design.now ∷ map.now ∷ third.now ∷ fourth.now ∷ fifth.now ∷ []) c)
+        (λ c. spec.IsGiven (name.now ∷ design.now ∷ map.now ∷ third.now ∷ fourth.now ∷ fifth.now ∷ []) (spec.plain c)) }
+{
+    if name == "record" {
+        return record_of(design, map, third, fourth, fifth);
+    }
+    if name == "replay" {
+        return replay_of(design, map, third, fourth, fifth);
+    }
+    None
+}
+
+/// The recording of these words. The file that is written isn't one that is read.
+fn record_of<'a>(
     design: &'a str,
     map: &'a str,
     script: &'a str,
@@ -96,12 +127,9 @@ fn of_five<'a>(
     trace: &'a str,
 ) -> Option<Command<'a>>
     ensures { MatchOption result
-        ((c : spec.Command) → ¬ spec.IsGiven (name.now ∷ design.now ∷ map.now ∷ script.now ∷ stalls.now ∷ trace.now ∷ []) c)
-        (λ c. spec.IsGiven (name.now ∷ design.now ∷ map.now ∷ script.now ∷ stalls.now ∷ trace.now ∷ []) (spec.plain c)) }
+        ((c : spec.Command) → ¬ spec.IsGiven (codes "record" ∷ design.now ∷ map.now ∷ script.now ∷ stalls.now ∷ trace.now ∷ []) c)
+        (λ c. spec.IsGiven (codes "record" ∷ design.now ∷ map.now ∷ script.now ∷ stalls.now ∷ trace.now ∷ []) (spec.plain c)) }
 {
-    if name != "record" {
-        return None;
-    }
     if design == trace || map == trace || script == trace || stalls == trace {
         return None;
     }
@@ -112,6 +140,42 @@ fn of_five<'a>(
         stalls,
         trace,
     })
+}
+
+/// The replay of these words. The file that is written isn't one that is read.
+fn replay_of<'a>(
+    design: &'a str,
+    map: &'a str,
+    trace: &'a str,
+    word: &str,
+    out: &'a str,
+) -> Option<Command<'a>>
+    ensures { MatchOption result
+        ((c : spec.Command) → ¬ spec.IsGiven (codes "replay" ∷ design.now ∷ map.now ∷ trace.now ∷ word.now ∷ out.now ∷ []) c)
+        (λ c. spec.IsGiven (codes "replay" ∷ design.now ∷ map.now ∷ trace.now ∷ word.now ∷ out.now ∷ []) (spec.plain c)) }
+{
+    let cycles = cycles_of(word)?;
+    if design == out || map == out || trace == out {
+        return None;
+    }
+    Some(Command::Replay {
+        design,
+        map,
+        trace,
+        cycles,
+        out,
+    })
+}
+
+/// The number of cycles that a word writes, if it is one that a command can play.
+fn cycles_of(word: &str) -> Option<u32>
+    ensures { MatchOption result ((n : ℕ) → ¬ spec.IsCycles word.now n) (λ n. spec.IsCycles word.now n) }
+{
+    let cycles = number(word.as_bytes())?;
+    if cycles < 1 || cycles > MOST_CYCLES {
+        return None;
+    }
+    Some(cycles as u32)
 }
 
 /// The command of this name with two parts. A file that is written isn't one that is read.

@@ -64,7 +64,7 @@ fn verdict(alloc: Global, trace: &Trace, other: &Trace) -> Result<Answer, Memory
     requires trace { HasEncoding trace.now }
     requires other { HasEncoding other.now }
     requires same { trace.now.channels ≡ other.now.channels }
-    ensures { IfOk result (λ a. IsVerdict trace.now other.now a.status (text_of a.text)) }
+    ensures { IfOk result (λ a. IsVerdict said.no_divergence_line trace.now other.now a.status (text_of a.text)) }
 {
     let report = trace_compare::compare(alloc, trace, other)?;
     if report.is_empty() {

@@ -31,6 +31,7 @@ ghost use Rattle.vidi_commands.specs.Steps.{IsSaid};
 
 use crate::answer::{Answer, AnswerText, Ended, refused};
 use crate::bench::{Bench, Texts, bench_of, read_texts};
+use crate::device::Device;
 use crate::line::{LINE_BYTES, recorded_line, unstable_line};
 use crate::read::{TEXT_LIMIT, read_file};
 use crate::status::{Reason, Status, Word};
@@ -87,7 +88,7 @@ fn plan_recording<S: Shelf>(
 ) -> Result<Planned, Ended>
     ensures planned { IfOk result (λ p. IsPlanned design.now map.now script.now stalls.now (S.files shelf.old) p.bench p.plan) }
     ensures playable { IfOk result (λ p. IsPlayable p.bench) }
-    ensures room { IfOk result (λ p. p.room ≡ fresh (sizes_of p.bench.map.channels) p.plan.capacity) }
+    ensures room { IfOk result (λ p. p.room ≡ fresh (sizes_of p.bench.device.map.channels) p.plan.capacity) }
     ensures refused { IfErr result (EndsWith (IsUnrecorded design.now map.now script.now stalls.now (S.files shelf.old)
         (λ name. Rose (S.read_faults shelf.old name) (S.read_faults shelf.new name)))) }
     ensures files { S.files shelf.new ≡ S.files shelf.old }
@@ -104,14 +105,14 @@ fn plan_texts(alloc: Global, texts: &Texts, stalls: &[u8]) -> Result<Planned, En
     requires stalls { length stalls.now ≤ text_limit }
     ensures bench { IfOk result (λ p. IsBench texts.now.design texts.now.map texts.now.script p.bench) }
     ensures planned { IfOk result (λ p. ReadsStalls (read_lines stalls.now) (Ok p.plan)) }
-    ensures holds { IfOk result (λ p. need (sizes_of p.bench.map.channels) ≤ p.plan.capacity) }
+    ensures holds { IfOk result (λ p. need (sizes_of p.bench.device.map.channels) ≤ p.plan.capacity) }
     ensures playable { IfOk result (λ p. IsPlayable p.bench) }
-    ensures room { IfOk result (λ p. p.room ≡ fresh (sizes_of p.bench.map.channels) p.plan.capacity) }
+    ensures room { IfOk result (λ p. p.room ≡ fresh (sizes_of p.bench.device.map.channels) p.plan.capacity) }
     ensures refused { IfErr result (EndsWith (RefusedPlanned texts.now.design texts.now.map texts.now.script stalls.now)) }
 {
     let bench = bench_of(alloc, texts)?;
     let plan = plan_of(alloc, stalls)?;
-    let room = room_for(alloc, &bench.map.channels, &plan)?;
+    let room = room_for(alloc, &bench.device.map.channels, &plan)?;
     Ok(Planned { bench, plan, room })
 }
 
@@ -161,7 +162,7 @@ fn recorded<S: Shelf>(
     shelf: &mut S,
 ) -> Result<Answer, Ended>
     requires playable { IsPlayable planned.bench }
-    requires room { planned.room ≡ fresh (sizes_of planned.bench.map.channels) planned.plan.capacity }
+    requires room { planned.room ≡ fresh (sizes_of planned.bench.device.map.channels) planned.plan.capacity }
     ensures done { IfOk result (λ a. RecordsRun (course_of planned.bench planned.plan) trace.now (S.files shelf.old) a.status
         (text_of a.text) (S.files shelf.new)) }
     ensures stopped { IfErr result (IsStopped (IsCutShort (course_of planned.bench planned.plan) (S.files shelf.old) trace.now)
@@ -171,16 +172,15 @@ fn recorded<S: Shelf>(
     let Planned { bench, plan, room } = planned;
     let line = Pad::new(alloc, LINE_BYTES)?;
     let cycles = bench.script.cycles();
-    let Bench {
-        design,
-        order,
-        map,
-        script,
-    } = bench;
-    let outcome = record_sim(
+    let Bench { device, script } = bench;
+    let Device { design, order, map } = device;
+    match record_sim(
         alloc, design, order, &map, &script, &plan, room, trace, shelf,
-    )?;
-    Ok(told(outcome, cycles, &map.channels, line))
+    ) {
+        Ok(outcome) => Ok(told(outcome, cycles, &map.channels, line)),
+        Err(RecordError::WriteFault) => Err(Ended::WriteFault),
+        Err(RecordError::Memory) => Err(Ended::Memory),
+    }
 }
 
 /// Records the run of a design in the environment of a script.
@@ -195,7 +195,7 @@ fn record_sim<S: Shelf>(
     room: Room,
     trace: &str,
     shelf: &mut S,
-) -> Result<Outcome, Ended>
+) -> Result<Outcome, RecordError>
     requires lawful { IsLawful design }
     requires order { IsOrder design order.drivers }
     requires mapped { IsMapOf design map.now }
@@ -203,15 +203,15 @@ fn record_sim<S: Shelf>(
     requires room { room ≡ fresh (sizes_of map.now.channels) plan.now.capacity }
     ensures ended { IfOk result (FileEnds (course design map.now (script_offer script.now) plan.now script.now.cycles)
         (S.files shelf.old) trace.now (S.files shelf.new)) }
-    ensures stopped { IfErr result (IsStopped
-        (IsCutShort (course design map.now (script_offer script.now) plan.now script.now.cycles) (S.files shelf.old) trace.now)
-        (Rose (S.write_faults shelf.old) (S.write_faults shelf.new)) (S.files shelf.old) (S.files shelf.new)) }
+    ensures failed { IfErr result (FileFails (course design map.now (script_offer script.now) plan.now script.now.cycles)
+        (S.files shelf.old) trace.now (S.files shelf.new)) }
+    ensures cause { IfErr result (FailsFor (S.write_faults shelf.old) (S.write_faults shelf.new)) }
     ensures counts { Later (S.read_faults shelf.old) (S.read_faults shelf.new) (S.write_faults shelf.old) (S.write_faults shelf.new) }
 {
     let sim = Sim::new(alloc, design, order)?;
     let mut shell = Machines::new(alloc, sim, map)?;
     let mut env = ScriptEnv::new(alloc, script, map)?;
-    match record_file(
+    record_file(
         alloc,
         &mut shell,
         map,
@@ -221,11 +221,7 @@ fn record_sim<S: Shelf>(
         script.cycles(),
         trace,
         shelf,
-    ) {
-        Ok(outcome) => Ok(outcome),
-        Err(RecordError::WriteFault) => Err(Ended::WriteFault),
-        Err(RecordError::Memory) => Err(Ended::Memory),
-    }
+    )
 }
 
 /// Records the run of a shell into the file `trace`.

@@ -20,6 +20,7 @@ ghost use Rattle.vidi_commands.specs.Steps.{IsSaid};
 
 use crate::answer::{Answer, AnswerText, Ended};
 use crate::bench::{Bench, bench_of, read_texts};
+use crate::device::Device;
 use crate::line::{LINE_BYTES, unstable_line};
 use crate::status::Status;
 use bench_run::{PlainRun, Spot, run_plain};
@@ -56,14 +57,10 @@ pub fn run<S: Shelf>(
 /// Plays the design in the environment of the script, with all gates up.
 fn played(alloc: Global, bench: Bench) -> Result<Answer, Memory>
     requires { IsPlayable bench }
-    ensures { IfOk result (λ a. IsPlayed bench.design bench.map bench.script a.status (text_of a.text)) }
+    ensures { IfOk result (λ a. IsPlayed bench.device.design bench.device.map bench.script a.status (text_of a.text)) }
 {
-    let Bench {
-        design,
-        order,
-        map,
-        script,
-    } = bench;
+    let Bench { device, script } = bench;
+    let Device { design, order, map } = device;
     let run = run_of(alloc, design, order, &map, &script)?;
     ended(alloc, map, run)
 }

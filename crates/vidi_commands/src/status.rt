@@ -4,6 +4,8 @@ ghost use Rattle.std.specs.Prelude.{◌≡◌};
 ghost use Rattle.vidi_commands.specs.Exit as exit;
 
 pub use report_text::{Reason, Word};
+use run_model::Helds;
+use trace_model::Events;
 
 /// What a call of `vidi` answers.
 #[derive(Drop)]
@@ -20,6 +22,8 @@ pub enum Status {
     Refused { word: Word, reason: Reason },
     /// On this channel, by its place in the map, the design takes back in this cycle what it offered.
     Unstable { channel: usize, cycle: u32 },
+    /// The cycles didn't suffice for the trace: what the replay holds back, and what it waits for.
+    Short { held: Helds, waits: Events },
     /// The second trace has findings against the first.
     Diverged,
     /// No memory was found.
@@ -41,6 +45,7 @@ impl Status {
                 channel: _,
                 cycle: _,
             } => 5,
+            Status::Short { held: _, waits: _ } => 6,
             Status::Diverged => 7,
             Status::Memory => 8,
         }

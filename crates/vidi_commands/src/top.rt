@@ -15,6 +15,7 @@ use crate::command::Command;
 use crate::compare::compare;
 use crate::dump::dump;
 use crate::recording::record;
+use crate::replay::replay;
 use crate::run::run;
 use crate::salvage::salvage;
 use crate::status::Status;
@@ -27,6 +28,8 @@ use vidi_io::{Failed, Shelf, Sink, Words};
 /// - `check DESIGN TOP` reads a design text and prints how many modules and items it has, or why it is refused.
 /// - `run DESIGN MAP SCRIPT` plays a design in the environment of a script, and prints what starts and ends on its channels.
 /// - `record DESIGN MAP SCRIPT STALLS TRACE` does so behind a store that drains as the stalls say, and writes the trace of the run.
+/// - `replay DESIGN MAP TRACE CYCLES OUT` plays a trace again on a design, writes the trace of the replay, and prints what is missing,
+///   extra, different or early in it, or what a replay that is short holds back and waits for.
 /// - `compare TRACE OTHER` prints what is missing, extra, different or early in the second trace.
 /// - `salvage TRACE OUT` writes what is whole of a trace that was cut off.
 ///
@@ -88,6 +91,15 @@ fn answer_to<S: Shelf>(alloc: Global, words: &Words, shelf: &mut S) -> Result<An
                 trace,
             },
         ) => record(alloc, design, map, script, stalls, trace, shelf),
+        Some(
+            Command::Replay {
+                design,
+                map,
+                trace,
+                cycles,
+                out,
+            },
+        ) => replay(alloc, design, map, trace, cycles, out, shelf),
         Some(Command::Compare { trace, other }) => compare(alloc, trace, other, shelf),
         Some(Command::Salvage { trace, out }) => salvage(alloc, trace, out, shelf),
         None => Ok(usage(alloc)?),

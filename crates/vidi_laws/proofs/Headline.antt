@@ -13,7 +13,7 @@ use Rattle.vidi_laws.specs.Headline.{RecordedRunIsKept, DrainedRecordingIsTheRun
 
 pub run-kept : RecordedRunIsKept
 run-kept design m script stalls files b plan planned rows stop run =
-    script-kept b.design b.map b.script plan rows stop planned.bench.bound.1.table planned.bench.plays.2 run
+    script-kept b.device.design b.device.map b.script plan rows stop planned.bench.device.bound.1.table planned.bench.plays.2 run
 
 plain-run : (d : Design) (m : Map) (offer : List Row → ℕ → Offer) (n : ℕ) (rows : List Row) (stop : Option ℕ)
     → IsTheRun d m (offers_after m.channels offer) (AllUp m.channels) n rows stop
@@ -23,5 +23,5 @@ plain-run d m offer n rows (Some c) run = record { played = run; cycle = refl }
 
 pub drained-run : DrainedRecordingIsTheRun
 drained-run design m script stalls files b plan planned all rows stop run =
-    plain-run b.design b.map (script_offer b.script) b.script.cycles rows stop
-    (full-plain b.design b.map b.script plan rows stop planned.holds all run)
+    plain-run b.device.design b.device.map (script_offer b.script) b.script.cycles rows stop
+    (full-plain b.device.design b.device.map b.script plan rows stop planned.holds all run)

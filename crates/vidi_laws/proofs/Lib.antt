@@ -8,8 +8,11 @@ pub mod AlikeLists
 pub mod AlikeNarrow
 pub mod AlikeParts
 pub mod AlikeDesigns
+pub mod SameDevice
 pub mod SameBench
 pub mod SameRun
 pub mod SameRecord
+pub mod SameReplay
 pub mod OneAnswer
 pub mod Headline
+pub mod Faithful

@@ -1,10 +1,12 @@
 -- Of a shelf that tells its files, with no failed read, two answers that are earned are one.
 use Rattle.std.proofs.Common.{◌≡◌, ℕ, List, [], ◌∷◌, Option, Some, length, get_or, inl, inr, sym, ap, subst, ◌∙◌, arith, codes}
+use Rattle.vidi_bits.proofs.Lists.{some_same}
+use Rattle.vidi_lines.specs.Number.{number_of}
 use Rattle.trace_code.specs.Decoding.{OnePlace, OneReading}
 use Rattle.trace_code.specs.Salvage.{OneSalvage}
 use Rattle.vidi_io.specs.Shelf.{Files}
 use Rattle.vidi_commands.specs.declared.status.Status.{Status}
-use Rattle.vidi_commands.specs.Command.{Command, Dump, Check, Run, Record, Compare, Salvage, IsGiven}
+use Rattle.vidi_commands.specs.Command.{Command, Dump, Check, Run, Record, Replay, Compare, Salvage, IsGiven}
 use Rattle.vidi_commands.specs.Answer.{Does}
 use Rattle.vidi_laws.specs.OneAnswer.{OneAnswer}
 use Rattle.vidi_laws.proofs.OneTraces.{one_dump, one_compare}
@@ -13,6 +15,7 @@ use Rattle.vidi_laws.proofs.OneSalvaged.{one_salvaged}
 use Rattle.vidi_laws.proofs.SameBench.{BenchLaws}
 use Rattle.vidi_laws.proofs.SameRun.{one_run}
 use Rattle.vidi_laws.proofs.SameRecord.{one_record}
+use Rattle.vidi_laws.proofs.SameReplay.{ReplayLaws, one_replay}
 
 second : (a b c : List ℕ) → a ∷ b ∷ [] ≡ a ∷ c ∷ [] → b ≡ c
 second a b c e = cc
@@ -46,12 +49,21 @@ compare-salvage e =
     let first : 99 ≡ 115 = ap (λ (text : List ℕ). get_or text 0 0) e in
     omega (arith, first)
 
+replay-record : codes "replay" ≡ codes "record" → ⊥
+replay-record e =
+    let third : 112 ≡ 99 = ap (λ (text : List ℕ). get_or text 2 0) e in
+    omega (arith, third)
+
+first_of_six : (a d m s p t b e n r q u : List ℕ) → a ∷ d ∷ m ∷ s ∷ p ∷ t ∷ [] ≡ b ∷ e ∷ n ∷ r ∷ q ∷ u ∷ [] → a ≡ b
+first_of_six a d m s p t b e n r q u same = cc
+
 -- how many words give the command
 abbrev words_of : Command → ℕ
 words_of (Dump t) = 2
 words_of (Check d p) = 3
 words_of (Run d m s) = 4
 words_of (Record d m s p t) = 6
+words_of (Replay d m t n o) = 6
 words_of (Compare d p) = 3
 words_of (Salvage d p) = 3
 
@@ -60,6 +72,7 @@ given_words words (Dump t) g = ap (λ (xs : List (List ℕ)). length xs) g
 given_words words (Check d p) g = ap (λ (xs : List (List ℕ)). length xs) g
 given_words words (Run d m s) g = ap (λ (xs : List (List ℕ)). length xs) g
 given_words words (Record d m s p t) (g, _, _, _, _) = ap (λ (xs : List (List ℕ)). length xs) g
+given_words words (Replay d m t n o) (w, g, _, _, _, _) = ap (λ (xs : List (List ℕ)). length xs) g
 given_words words (Compare d p) g = ap (λ (xs : List (List ℕ)). length xs) g
 given_words words (Salvage d p) (g, _) = ap (λ (xs : List (List ℕ)). length xs) g
 
@@ -128,6 +141,34 @@ one_command words (Salvage w x) (Record d m s p t) g h =
     let e : 3 ≡ 6 = as_many words (Salvage w x) (Record d m s p t) g h in absurd (omega (arith, e))
 one_command words (Record d m s p t) (Record e n r q u) (g, _, _, _, _) (h, _, _, _, _) =
     let k = same_five (codes "record") d m s p t e n r q u (sym g ∙ h) in λ i. Record (k.0 i) (k.1 i) (k.2 i) (k.3 i) (k.4 i)
+one_command words (Replay d m t n o) (Dump w) g h =
+    let e : 6 ≡ 2 = as_many words (Replay d m t n o) (Dump w) g h in absurd (omega (arith, e))
+one_command words (Dump w) (Replay d m t n o) g h =
+    let e : 2 ≡ 6 = as_many words (Dump w) (Replay d m t n o) g h in absurd (omega (arith, e))
+one_command words (Replay d m t n o) (Check w x) g h =
+    let e : 6 ≡ 3 = as_many words (Replay d m t n o) (Check w x) g h in absurd (omega (arith, e))
+one_command words (Check w x) (Replay d m t n o) g h =
+    let e : 3 ≡ 6 = as_many words (Check w x) (Replay d m t n o) g h in absurd (omega (arith, e))
+one_command words (Replay d m t n o) (Run w x y) g h =
+    let e : 6 ≡ 4 = as_many words (Replay d m t n o) (Run w x y) g h in absurd (omega (arith, e))
+one_command words (Run w x y) (Replay d m t n o) g h =
+    let e : 4 ≡ 6 = as_many words (Run w x y) (Replay d m t n o) g h in absurd (omega (arith, e))
+one_command words (Replay d m t n o) (Compare w x) g h =
+    let e : 6 ≡ 3 = as_many words (Replay d m t n o) (Compare w x) g h in absurd (omega (arith, e))
+one_command words (Compare w x) (Replay d m t n o) g h =
+    let e : 3 ≡ 6 = as_many words (Compare w x) (Replay d m t n o) g h in absurd (omega (arith, e))
+one_command words (Replay d m t n o) (Salvage w x) g h =
+    let e : 6 ≡ 3 = as_many words (Replay d m t n o) (Salvage w x) g h in absurd (omega (arith, e))
+one_command words (Salvage w x) (Replay d m t n o) g h =
+    let e : 3 ≡ 6 = as_many words (Salvage w x) (Replay d m t n o) g h in absurd (omega (arith, e))
+one_command words (Replay d m t n o) (Record e k r q u) (w, g, _, _, _, _) (h, _, _, _, _) =
+    absurd (replay-record (first_of_six (codes "replay") d m t w o (codes "record") e k r q u (sym g ∙ h)))
+one_command words (Record e k r q u) (Replay d m t n o) (h, _, _, _, _) (w, g, _, _, _, _) =
+    absurd (replay-record (first_of_six (codes "replay") d m t w o (codes "record") e k r q u (sym g ∙ h)))
+one_command words (Replay d m t n o) (Replay e k r q u) (w, g, is, _, _, _) (x, h, is', _, _, _) =
+    let s = same_five (codes "replay") d m t w o e k r x u (sym g ∙ h) in
+    let number : n ≡ q = some_same n q (sym is.0 ∙ ap (λ (word : List ℕ). number_of word) s.3 ∙ is'.0) in
+    λ i. Replay (s.0 i) (s.1 i) (s.2 i) (number i) (s.4 i)
 
 abbrev SameLeft : Status → Status → List ℕ → List ℕ → Option Files → Option Files → Type 0
 SameLeft a b x y left right = (a ≡ b) × (x ≡ y) × (left ≡ right)
@@ -148,6 +189,7 @@ pub record Laws : Type 0 where
   pub place : OnePlace
   pub salvage : OneSalvage
   pub benches : BenchLaws
+  pub replays : ReplayLaws
 
 one_deed : Laws → (c : Command) → (files : Files) (a b : Status) (x y : List ℕ) (left right : Option Files)
     → Does c (Some files) (λ _. ⊥) a x left → Does c (Some files) (λ _. ⊥) b y right → AlikeLeft a b x y left right
@@ -157,8 +199,10 @@ one_deed laws (Run design map script) files a b x y left right (d, l) (e, r) =
     kept files a b x y left right (one_run laws.benches design map script files a b x y d e) l r
 one_deed laws (Record design map script stalls trace) files a b x y left right d e =
     one_record laws.benches design map script stalls trace files a b x y left right d e
+one_deed laws (Replay design map trace n out) files a b x y left right d e =
+    one_replay laws.replays design map trace n out files a b x y left right d e
 one_deed laws (Check design top) files a b x y left right (d, l) (e, r) =
-    kept files a b x y left right (one_check laws.benches.texts design top files a b x y d e) l r
+    kept files a b x y left right (one_check laws.benches.devices.texts design top files a b x y d e) l r
 one_deed laws (Compare trace other) files a b x y left right (d, l) (e, r) =
     kept files a b x y left right (inr (one_compare laws.reading laws.place trace other files a b x y d e)) l r
 one_deed laws (Salvage trace out) files a b x y left right d e =

@@ -34,23 +34,23 @@ one-difference t u m n same other same' other' = ⊎_elim
     ne)
     (cases_order m n)
 
-one-other : (t u : Trace) → One (HasOtherChannels t u)
-one-other t u a b x y (m, same, other, s) (n, same', other', s') =
-    one-said (Refused words.Other (OtherChannels m)) (reason_line words.Other (OtherChannels m)) a b x y s
-    (subst (λ (k : ℕ). IsRefusal words.Other (OtherChannels k) b y)
-    (one-difference t.channels u.channels n m same' other' same other) s')
+pub one-other : (word : Word) (channels others : List Channel) → One (HasOtherChannels word channels others)
+one-other word channels others a b x y (m, same, other, s) (n, same', other', s') =
+    one-said (Refused word (OtherChannels m)) (reason_line word (OtherChannels m)) a b x y s
+    (subst (λ (k : ℕ). IsRefusal word (OtherChannels k) b y) (one-difference channels others n m same' other' same other) s')
 
-one-verdict : (t u : Trace) → One (IsVerdict t u)
-one-verdict t u a b x y (inl (none, s)) (inl (none', s')) = one-said Done no_divergence_line a b x y s s'
-one-verdict t u a b x y (inl (none, s)) (inr (some, s')) = absurd (some none)
-one-verdict t u a b x y (inr (some, s)) (inl (none, s')) = absurd (some none)
-one-verdict t u a b x y (inr (some, s)) (inr (some', s')) = one-said Diverged (diverged_text (findings t u) t.channels) a b x y s s'
+pub one-verdict : (line : List ℕ) (t u : Trace) → One (IsVerdict line t u)
+one-verdict line t u a b x y (inl (none, s)) (inl (none', s')) = one-said Done line a b x y s s'
+one-verdict line t u a b x y (inl (none, s)) (inr (some, s')) = absurd (some none)
+one-verdict line t u a b x y (inr (some, s)) (inl (none, s')) = absurd (some none)
+one-verdict line t u a b x y (inr (some, s)) (inr (some', s')) =
+    one-said Diverged (diverged_text (findings t u) t.channels) a b x y s s'
 
 one-compared : (t u : Trace) → One (Compared t u)
-one-compared t u a b x y (inl o) (inl p) = one-other t u a b x y o p
+one-compared t u a b x y (inl o) (inl p) = one-other words.Other t.channels u.channels a b x y o p
 one-compared t u a b x y (inl (at, same, other, s)) (inr (equal, v)) = absurd (other (ap (λ (cs : List Channel). slice_get cs at) equal))
 one-compared t u a b x y (inr (equal, v)) (inl (at, same, other, s)) = absurd (other (ap (λ (cs : List Channel). slice_get cs at) equal))
-one-compared t u a b x y (inr (equal, v)) (inr (equal', w)) = one-verdict t u a b x y v w
+one-compared t u a b x y (inr (equal, v)) (inr (equal', w)) = one-verdict no_divergence_line t u a b x y v w
 
 -- ---- the commands
 one-no_trace : OnePlace → (word : Word) (file : List ℕ) → One (IsNoTrace word file)
@@ -58,7 +58,7 @@ one-no_trace place word file a b x y (m, fault, none, s) (n, fault', none', t) =
     one-said (Refused word (BadTrace m)) (reason_line word (BadTrace m)) a b x y s
     (subst (λ (k : ℕ). IsRefusal word (BadTrace k) b y) (place file n m fault' fault) t)
 
-one-decoding : OneReading → OnePlace → (word : Word) (file : List ℕ) (Next : Trace → Ending) → ((t : Trace) → One (Next t))
+pub one-decoding : OneReading → OnePlace → (word : Word) (file : List ℕ) (Next : Trace → Ending) → ((t : Trace) → One (Next t))
     → One (Decoding word file Next)
 one-decoding reading place word file Next one = one-step-by Same (IsNoTrace word file) (λ (t : Trace). Encodes t file) Next
     (one-no_trace place word file) (reading file) (λ a x t no code. no.2 t code) (λ t _. one t)

@@ -90,12 +90,12 @@ module _ (laws : BenchLaws) where
 
   refused-plan : (stalls : List ℕ) (b : Bench) → One (RefusedPlan stalls b)
   refused-plan stalls b = step-meets Same (IsNoPlan stalls) (IsNoPlan stalls) (λ (p : Stalls). ReadsStalls (read_lines stalls) (Ok p))
-      (λ (p : Stalls). ReadsStalls (read_lines stalls) (Ok p)) (IsTooSmall b.map.channels) (IsTooSmall b.map.channels)
+      (λ (p : Stalls). ReadsStalls (read_lines stalls) (Ok p)) (IsTooSmall b.device.map.channels) (IsTooSmall b.device.map.channels)
       (no_plan stalls) (plan-apart stalls) (plan-apart stalls)
-      (λ p q is is'. small-once b.map.channels p q (one-plan_of stalls p q is is'))
+      (λ p q is is'. small-once b.device.map.channels p q (one-plan_of stalls p q is is'))
 
   -- a bench counts by its map alone
-  other-plan : (stalls : List ℕ) (b c : Bench) → b.map ≡ c.map → (a : Status) (x : List ℕ) → RefusedPlan stalls c a x
+  other-plan : (stalls : List ℕ) (b c : Bench) → b.device.map ≡ c.device.map → (a : Status) (x : List ℕ) → RefusedPlan stalls c a x
       → RefusedPlan stalls b a x
   other-plan stalls b c same a x (inl none) = inl none
   other-plan stalls b c same a x (inr (p, reads, small)) =
@@ -108,7 +108,7 @@ module _ (laws : BenchLaws) where
       (λ a x b refused bench. texts-refused laws design m script b bench a x refused)
       (λ a x b refused bench. texts-refused laws design m script b bench a x refused)
       (λ b c is is' s t x y u v. alike s t x y (refused-plan stalls b s t x y u
-      (other-plan stalls b c (same-bench laws design m script b c is is').map t y v)))
+      (other-plan stalls b c (same-bench laws design m script b c is is').device.map t y v)))
 
   unrecorded : (design m script stalls : List ℕ) (files : Files)
       → OneBy Alike (IsUnrecorded design m script stalls (Some files) (λ _. ⊥))
@@ -125,7 +125,7 @@ module _ (laws : BenchLaws) where
     planned-apart (inr (c, bench, inr (p, reads, (small, said)))) =
         let same = same-bench laws is.design_text is.map_text is.script_text c b bench is.bench in
         let plans = one-plan_of is.stalls_text p plan reads is.planned in
-        let least = subst (λ (k : Map). need (sizes_of k.channels) ≤ plan.capacity) (sym same.map) is.holds in
+        let least = subst (λ (k : Map). need (sizes_of k.channels) ≤ plan.capacity) (sym same.device.map) is.holds in
         let capacity = plans.0 in
         omega (arith, small, least, capacity)
 
@@ -157,21 +157,21 @@ module _ (laws : BenchLaws) where
 
   -- the course of one of them, with the other design
   abbrev beside : Bench → Stalls → Bench → Course
-  beside b p c = course c.design b.map (script_offer b.script) p b.script.cycles
+  beside b p c = course c.device.design b.device.map (script_offer b.script) p b.script.cycles
 
   recorded-beside : (b c : Bench) (p q : Stalls) → SameBench b c → SamePlan p q → (trace : List ℕ) (files : Files) (s : Status) (y : List ℕ)
       (right : Option Files) → RecordsRun (course_of c q) trace (Some files) s y right
       → RecordsRun (beside b p c) trace (Some files) s y right
   recorded-beside b c p q same plans trace files s y right r =
       let plan = plan-path p q plans in
-      let map-there = subst (λ (k : Map). RecordsRun (course c.design k (script_offer c.script) q c.script.cycles) trace (Some files) s y right)
-      (sym same.map) r in
-      let script-there = subst (λ (k : Script). RecordsRun (course c.design b.map (script_offer k) q k.cycles) trace (Some files) s y right)
+      let map-there = subst (λ (k : Map). RecordsRun (course c.device.design k (script_offer c.script) q c.script.cycles) trace (Some files) s y right)
+      (sym same.device.map) r in
+      let script-there = subst (λ (k : Script). RecordsRun (course c.device.design b.device.map (script_offer k) q k.cycles) trace (Some files) s y right)
       (sym same.script) map-there in
       subst (λ (k : Plan). RecordsRun (record {
-        design = c.design;
-        bound = b.map;
-        offers = offers_after b.map.channels (script_offer b.script);
+        design = c.device.design;
+        bound = b.device.map;
+        offers = offers_after b.device.map.channels (script_offer b.script);
         plan = k;
         cycles = b.script.cycles;
       }) trace (Some files) s y right) plan script-there
@@ -180,11 +180,11 @@ module _ (laws : BenchLaws) where
       (left right : Option Files) → RecordsRun (course_of b p) trace (Some files) s x left
       → RecordsRun (beside b p c) trace (Some files) t y right → LeftAlike s t x y left right
   runs-once b c p same trace files s t x y left right (rows, stop, (run, leaves), said) (others, end, (run', leaves'), said') =
-      let channels = b.map.channels in
+      let channels = b.device.map.channels in
       let offers = offers_after channels (script_offer b.script) in
       let gates = GatesUnder channels (plan_of p) in
-      let theirs = (the-runs_alike b.design c.design same.ready.lawful same.designs b.map offers gates b.script.cycles others end).1 run' in
-      let one = one-end_of b.design b.map same.ready offers gates
+      let theirs = (the-runs_alike b.device.design c.device.design same.device.ready.lawful same.device.designs b.device.map offers gates b.script.cycles others end).1 run' in
+      let one = one-end_of b.device.design b.device.map same.device.ready offers gates
       (λ before are g h. one-set (sizes_of channels) (plan_of p) before (length before) g h)
       b.script.cycles others rows end stop theirs run in
       let told = subst (λ (o : Option ℕ). IsRecorded channels rows o t y) one.1

@@ -1,12 +1,13 @@
 //! Laws of the definitions.
 
 ghost use Rattle.vidi_laws.specs.Alike.{BuiltAlike};
-ghost use Rattle.vidi_laws.specs.Headline.{DrainedRecordingIsTheRun, RecordedRunIsKept};
+ghost use Rattle.vidi_laws.specs.Headline.{DrainedRecordingIsTheRun, RecordedRunIsKept, ReplayIsFaithful};
 ghost use Rattle.vidi_laws.specs.OneAnswer.{OneAnswer};
 
 use chan_map::{one_binding, one_map_text};
 use net_order::one_settled_map;
-use run_model::{bound_is_map_of, maps_alike, one_end, runs_alike};
+use replay_run::one_outcome;
+use run_model::{bound_is_map_of, driven_alike, maps_alike, one_end, runs_alike};
 use script_text::{one_plan, one_script};
 use trace_code::{one_place, one_reading, one_salvage};
 
@@ -33,6 +34,7 @@ pub fn one_answer()
     vlog_design::loops_alike();
     built_alike();
     maps_alike();
+    driven_alike();
     runs_alike();
     one_end();
     one_settled_map();
@@ -40,7 +42,8 @@ pub fn one_answer()
     one_map_text();
     one_binding();
     one_script();
-    one_plan()
+    one_plan();
+    one_outcome()
 }
 
 /// Whatever the accepted design, script and plan of stalls, the trace of the run that `record` writes holds each channel's started and
@@ -52,4 +55,10 @@ pub fn recorded_run_is_kept()
 /// Under a plan each of whose lines drains everything, `record` plays the run that `run` prints.
 pub fn drained_recording_is_the_run()
     ensures { DrainedRecordingIsTheRun }
+{}
+
+/// Whatever the accepted design, and whatever the trace of its channels: in the trace of the replay that `replay` writes each inward
+/// channel has its recorded contents in order, and no event that the replayers hold comes before a completion recorded before it.
+pub fn replay_is_faithful()
+    ensures { ReplayIsFaithful }
 {}

@@ -22,6 +22,6 @@ returns-in_err-room-clause-refused c =
     let texts = c.args.texts.now in
     let bench = c.in_ok-bench.bench in
     let plan = c.in_ok-plan.plan in
-    passed-as (IsTooSmall bench.map.channels plan) (RefusedPlanned texts.design texts.map texts.script c.args.stalls.now)
+    passed-as (IsTooSmall bench.device.map.channels plan) (RefusedPlanned texts.design texts.map texts.script c.args.stalls.now)
     c.in_err-room.field-0.0 c.from_residual-in_err-room.result c.from_residual-in_err-room.ensures.1
     (λ a x is. inr (bench, c.in_ok-bench.ensures.ready, inr (plan, c.in_ok-plan.ensures.planned, is))) c.in_err-room.ensures.refused

@@ -2,8 +2,9 @@ use Rattle.std.proofs.Common.{ℕ, List, inr}
 use Rattle.vidi_io.specs.Cause.{Rose}
 use Rattle.vidi_commands.specs.Answer.{Earns, Stops}
 use Rattle.vidi_commands.specs.Checks.{Checks}
-use Rattle.vidi_commands.specs.Command.{Check, Compare, Dump, IsGiven, Record, Run, Salvage}
+use Rattle.vidi_commands.specs.Command.{Check, Compare, Dump, IsGiven, Record, Replay, Run, Salvage}
 use Rattle.vidi_commands.specs.Records.{Records, StopsRecording}
+use Rattle.vidi_commands.specs.Replays.{Replays, StopsReplaying}
 use Rattle.vidi_commands.specs.Runs.{Runs}
 use Rattle.vidi_commands.specs.Traces.{Compares, Dumps, Saves, StopsSaving}
 use Rattle.vidi_commands.proofs.Chain.{owed, owed-as}
@@ -81,6 +82,23 @@ returns-in-Some-Record-clause-owed g c =
     owed-as (Records design map script stalls trace files F) (Earns words files F) (StopsRecording design map script stalls trace files) (Stops words files)
     (Rose (S.write_faults c.args.shelf.now) (S.write_faults c.record.new.shelf)) files left c.record.result
     (λ a x is. inr (inr (Record design map script stalls trace, given, is))) (λ cut. (Record design map script stalls trace, given, cut)) c.record.ensures.owed
+
+pub returns-in-Some-Replay-clause-owed : goal.returns-in-Some-Replay-clause-owed
+returns-in-Some-Replay-clause-owed g c =
+    let S = g.S.Shelf in
+    let words = c.args.words.now in
+    let files = S.files c.args.shelf.now in
+    let left = S.files c.replay.new.shelf in
+    let F = λ (name : List ℕ). Rose (S.read_faults c.args.shelf.now name) (S.read_faults c.replay.new.shelf name) in
+    let design = c.in-Some-Replay.design.now in
+    let map = c.in-Some-Replay.map.now in
+    let trace = c.in-Some-Replay.trace.now in
+    let cycles = c.in-Some-Replay.cycles in
+    let out = c.in-Some-Replay.out.now in
+    let given : IsGiven words (Replay design map trace cycles out) = rw c.in-Some-Replay.field-0-is at c.in-Some-Replay.ensures in
+    owed-as (Replays design map trace cycles out files F) (Earns words files F) (StopsReplaying design map trace cycles out files) (Stops words files)
+    (Rose (S.write_faults c.args.shelf.now) (S.write_faults c.replay.new.shelf)) files left c.replay.result
+    (λ a x is. inr (inr (Replay design map trace cycles out, given, is))) (λ cut. (Replay design map trace cycles out, given, cut)) c.replay.ensures.owed
 
 pub returns-in-Some-Salvage-clause-owed : goal.returns-in-Some-Salvage-clause-owed
 returns-in-Some-Salvage-clause-owed g c =

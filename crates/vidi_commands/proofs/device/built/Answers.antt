@@ -1,10 +1,11 @@
 use Rattle.std.proofs.Common.{inl, inr}
 use Rattle.vlog_tree.specs.Plain.{plain}
-use Rattle.vidi_commands.specs.Benches.{IsNoScript, IsUnbound, RefusedBound}
 use Rattle.vidi_commands.specs.Design.{Building, IsAccepted, IsLooped, IsRefusedFile}
+use Rattle.vidi_commands.specs.Devices.{Binding, IsUnbound}
 use Rattle.vidi_commands.specs.Ended.{EndsWith}
+use Rattle.vidi_commands.specs.Steps.{Never}
 use Rattle.vidi_commands.proofs.Chain.{passed-as}
-use Rattle.vidi_commands.proofs.bench.built.Goals as goal
+use Rattle.vidi_commands.proofs.device.built.Goals as goal
 
 pub returns-in_err-design-clause-refused : goal.returns-in_err-design-clause-refused
 returns-in_err-design-clause-refused c =
@@ -13,7 +14,7 @@ returns-in_err-design-clause-refused c =
     let e = c.in_err-design.field-0.0 in
     let refused : EndsWith (IsRefusedFile text.top file) e =
     rw c.top.ensures at (rw c.as_slice.ensures at c.in_err-design.ensures.refused) in
-    passed-as (IsRefusedFile text.top file) (Building text.top file (RefusedBound text c.args.script.now)) e c.from_residual.result
+    passed-as (IsRefusedFile text.top file) (Building text.top file (λ d. Binding text d (λ _. Never))) e c.from_residual.result
     c.from_residual.ensures.1 (λ a x is. inl is) refused
 
 pub returns-in_err-order-clause-refused : goal.returns-in_err-order-clause-refused
@@ -22,7 +23,7 @@ returns-in_err-order-clause-refused c =
     let text = c.args.text.now in
     let design = c.in_ok-design.design in
     let accepted : IsAccepted text.top file design = rw c.top.ensures at (rw c.as_slice.ensures at c.in_ok-design.ensures.accepted) in
-    passed-as (IsLooped design) (Building text.top file (RefusedBound text c.args.script.now)) c.in_err-order.field-0.0
+    passed-as (IsLooped design) (Building text.top file (λ d. Binding text d (λ _. Never))) c.in_err-order.field-0.0
     c.from_residual-in_err-order.result c.from_residual-in_err-order.ensures.1 (λ a x is. inr (design, accepted, inl is))
     c.in_err-order.ensures.refused
 
@@ -32,37 +33,18 @@ returns-in_err-map-clause-refused c =
     let text = c.args.text.now in
     let design = c.in_ok-design.design in
     let accepted : IsAccepted text.top file design = rw c.top.ensures at (rw c.as_slice.ensures at c.in_ok-design.ensures.accepted) in
-    passed-as (IsUnbound text design) (Building text.top file (RefusedBound text c.args.script.now)) c.in_err-map.field-0.0
+    passed-as (IsUnbound text design) (Building text.top file (λ d. Binding text d (λ _. Never))) c.in_err-map.field-0.0
     c.from_residual-in_err-map.result c.from_residual-in_err-map.ensures.1
     (λ a x is. inr (design, accepted, inr (c.in_ok-order.order.drivers, c.in_ok-order.ensures.ordered, inl is)))
     c.in_err-map.ensures.refused
 
-pub returns-in_err-script-clause-refused : goal.returns-in_err-script-clause-refused
-returns-in_err-script-clause-refused c =
-    let file = plain c.args.file.now in
-    let text = c.args.text.now in
-    let design = c.in_ok-design.design in
-    let accepted : IsAccepted text.top file design = rw c.top.ensures at (rw c.as_slice.ensures at c.in_ok-design.ensures.accepted) in
-    passed-as (IsNoScript c.args.script.now c.in_ok-map.map) (Building text.top file (RefusedBound text c.args.script.now))
-    c.in_err-script.field-0.0 c.from_residual-in_err-script.result c.from_residual-in_err-script.ensures.1
-    (λ a x is. inr (
-      design,
-      accepted,
-      inr (
-        c.in_ok-order.order.drivers,
-        c.in_ok-order.ensures.ordered,
-        inr (c.in_ok-map.map, c.in_ok-map.ensures.bound, is),
-      ),
-    )) c.in_err-script.ensures.refused
-
 pub returns-clause-accepted : goal.returns-clause-accepted
 returns-clause-accepted c = rw c.top.ensures at (rw c.as_slice.ensures at c.in_ok-design.ensures.accepted)
 
-pub returns-clause-playable : goal.returns-clause-playable
-returns-clause-playable c = record {
+pub returns-clause-runnable : goal.returns-clause-runnable
+returns-clause-runnable c = record {
   lawful = c.in_ok-design.ensures.accepted.1.lawful;
   ordered = c.in_ok-order.ensures.ordered;
   mapped = c.bound_is_map_of.ensures c.args.text.now c.in_ok-design.design c.in_ok-map.map c.in_ok-map.ensures.bound;
   table = c.in_ok-map.ensures.bound.1.table;
-  fits = c.in_ok-script.ensures.plays.2;
 }

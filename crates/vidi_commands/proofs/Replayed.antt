@@ -1,0 +1,55 @@
+-- From the texts of a replay, and from the replay, to the answer of `replay`.
+use Rattle.std.proofs.Common.{◌≡◌, ℕ, List, Option, Result, Ok, Err, inr, sym, subst, ◌∙◌}
+use Rattle.std.specs.Prelude.{IfOk, IfErr}
+use Rattle.trace_model.specs.declared.trace.Trace.{Trace}
+use Rattle.trace_code.specs.Encoding.{Encodes}
+use Rattle.vidi_io.specs.Shelf.{Files}
+use Rattle.vidi_commands.specs.declared.answer.Answer.{Answer}
+use Rattle.vidi_commands.specs.declared.answer.Ended.{Ended}
+use Rattle.vidi_commands.specs.declared.answer.Ended.TheVariants as ends
+use Rattle.vidi_commands.specs.declared.device.Device.{Device}
+use Rattle.vidi_commands.specs.declared.replay.Replayable.{Replayable}
+use Rattle.vidi_commands.specs.AnswerText.{text_of}
+use Rattle.vidi_commands.specs.Design.{text_limit}
+use Rattle.vidi_commands.specs.Devices.{IsDevice}
+use Rattle.vidi_commands.specs.Ended.{IsStopped, Owes}
+use Rattle.vidi_commands.specs.Reading.{IsRead}
+use Rattle.vidi_commands.specs.Replays.{CutsReplay, IsReplayable, Replays, ReplaysTrace, StopsReplaying}
+use Rattle.vidi_commands.specs.Traces.{trace_limit}
+
+-- what the texts of three files say
+pub replayable-said : (design map trace : List ℕ) (files : Option Files) (d m b : List ℕ) (r : Result Replayable Ended)
+    → IsRead text_limit design files d → IsRead text_limit map files m → IsRead trace_limit trace files b
+    → IfOk r (λ p. IsDevice d m p.device) → IfOk r (λ p. Encodes p.trace b) → IfOk r (λ p. p.trace.channels ≡ p.device.map.channels)
+    → IfOk r (λ p. IsReplayable design map trace files p.device p.trace)
+replayable-said design map trace files d m b (Ok p) first second third device encodes same = record {
+  design_text = d;
+  map_text = m;
+  trace_bytes = b;
+  design_read = first;
+  map_read = second;
+  trace_read = third;
+  device = device;
+  encodes = encodes;
+  same = same;
+}
+replayable-said design map trace files d m b (Err e) first second third device encodes same = tt
+
+-- the bytes of the trace are those that were read
+pub bytes-encode : (b : List ℕ) (r : Result Replayable Ended) → IfOk r (λ p. p.bytes ≡ b) → IfOk r (λ p. Encodes p.trace b)
+    → IfOk r (λ p. Encodes p.trace p.bytes)
+bytes-encode b (Ok p) same encodes = subst (λ (x : List ℕ). Encodes p.trace x) (sym same) encodes
+bytes-encode b (Err e) same encodes = tt
+
+-- what is owed for what can be replayed
+pub replayed-owed : (design map trace : List ℕ) (n : ℕ) (out : List ℕ) (files now left : Option Files) (F : List ℕ → Type 0) (v : Device)
+    (t : Trace) (V W : Type 0) (r : Result Answer Ended) → now ≡ files → IsReplayable design map trace files v t → (V → W)
+    → IfOk r (λ a. ReplaysTrace v t n out now a.status (text_of a.text) left)
+    → IfErr r (IsStopped (CutsReplay v t n out now) V now left)
+    → Owes (Replays design map trace n out files F) (StopsReplaying design map trace n out files) W files left r
+replayed-owed design map trace n out files now left F v t V W (Ok a) same is why replayed stopped =
+    inr (v, t, is, subst (λ (fs : Option Files). ReplaysTrace v t n out fs a.status (text_of a.text) left) same replayed)
+replayed-owed design map trace n out files now left F v t V W (Err (ends.Refused a)) same is why replayed stopped = absurd stopped
+replayed-owed design map trace n out files now left F v t V W (Err ends.WriteFault) same is why replayed (failed, cut) =
+    (why failed, (v, t, is, subst (λ (fs : Option Files). CutsReplay v t n out fs left) same cut))
+replayed-owed design map trace n out files now left F v t V W (Err ends.Memory) same is why replayed kept = kept ∙ same

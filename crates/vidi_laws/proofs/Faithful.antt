@@ -1,0 +1,71 @@
+-- What holds of every replay, said of the three files.
+use Rattle.std.proofs.Common.{ℕ, ◌≤◌, List, [], ◌∷◌, ◌++◌, length, refl, subst, arith}
+use Rattle.std.proofs.lemmas.List.{take_at}
+use Rattle.trace_model.specs.declared.channel.Channel.{Channel}
+use Rattle.trace_model.specs.declared.packet.Packet.{Packet}
+use Rattle.trace_model.specs.declared.row.Row.{Row}
+use Rattle.trace_model.specs.Trace.{IsWellFormed}
+use Rattle.net_design.specs.declared.design.Design.{Design}
+use Rattle.chan_map.specs.declared.pins.Map.{Map}
+use Rattle.run_model.specs.Played.{AreStable}
+use Rattle.run_model.specs.Replay.{IsReplay, IsReplayRow}
+use Rattle.run_model.proofs.Circle.{no-circle}
+use Rattle.run_model.proofs.PlayedLaws.{played-front}
+use Rattle.run_model.proofs.ReplayLaws.{order-in_the_output, replay-keeps_contents}
+use Rattle.replay_run.specs.declared.outcome.ReplayOutcome.{ReplayOutcome}
+use Rattle.replay_run.specs.declared.outcome.ReplayOutcome.TheVariants.{Ended, Short, Unstable}
+use Rattle.replay_run.specs.Replaying.{EndsAs, GoesInNoCircle}
+use Rattle.replay_run.proofs.Writing.{packets-few}
+use Rattle.vidi_laws.specs.Headline.{AreNamed, ReplayIsFaithful}
+
+module _ (d : Design) (m : Map) (packets : List Packet) (n : ℕ) (rows : List Row) where
+  -- however they end, the rows are a replay's and stable, and at most as many as the cycles
+  record AreReplayed : Type 0 where
+    played : IsReplay d m packets rows
+    stable : AreStable m.channels rows
+    within : length rows ≤ n
+
+  replayed-rows : (o : ReplayOutcome) → EndsAs d m packets n rows o → AreReplayed
+  replayed-rows (Ended cycles) (e, same) = record { played = e.played; stable = e.stable; within = e.within }
+  replayed-rows (Short helds events) (e, held_are, waits_are) =
+      record { played = e.played; stable = e.stable; within = (let l = e.all in omega (arith, l)) }
+  replayed-rows (Unstable channel cycle) (e, same) = record {
+    played = subst (IsReplay d m packets) (take_at rows (e.stops.next ∷ []) (length rows) refl)
+        (played-front d m (IsReplayRow m.channels packets) (rows ++ e.stops.next ∷ []) (length rows) e.stops.played);
+    stable = e.stops.stable;
+    within = (let l = e.within in omega (arith, l));
+  }
+
+  lists-named : (o : ReplayOutcome) → EndsAs d m packets n rows o → AreNamed m.channels packets rows o
+  lists-named (Ended cycles) ends = tt
+  lists-named (Short helds events) (e, held_are, waits_are) = (held_are, waits_are)
+  lists-named (Unstable channel cycle) ends = tt
+
+  in-no_circle : IsWellFormed (record { channels = m.channels; packets = packets }) → (o : ReplayOutcome) → EndsAs d m packets n rows o
+      → GoesInNoCircle m.channels packets rows o
+  in-no_circle well (Ended cycles) ends = tt
+  in-no_circle well (Short helds events) (e, held_are, waits_are) =
+      let law = no-circle d m packets rows well e.played e.stable e.not_ended in
+      (law.0.0, law.0.1, law.1 law.0.0 law.0.1)
+  in-no_circle well (Unstable channel cycle) ends = tt
+
+pub replay-faithful : ReplayIsFaithful
+replay-faithful design map trace files v t is n small rows o ends =
+    let m = v.map in
+    let all = replayed-rows v.design m t.packets n rows o ends in
+    let laws = replay-keeps_contents v.design m t.packets rows all.played all.stable in
+    let well = subst (λ (cs : List Channel). IsWellFormed (record { channels = cs; packets = t.packets })) is.same
+    is.encodes.0.well_formed in
+    let packets = packets-few m.channels rows in
+    let within : length rows ≤ n = all.within in
+    record {
+      order = order-in_the_output v.design m t.packets rows all.played all.stable;
+      contents = laws.0;
+      named = lists-named v.design m t.packets n rows o ends;
+      free = in-no_circle v.design m t.packets n rows well o ends;
+      encoded = record {
+        table = is.device.bound.1.table;
+        well_formed = laws.1;
+        few = omega (arith, packets, within, small);
+      };
+    }

@@ -1,0 +1,184 @@
+-- `replay`: one answer, which leaves one trace.
+use Rattle.std.proofs.Common.{◌≡◌, ℕ, List, Option, Some, inl, inr, ◌++◌, ◌∷◌, [], sym, ap, subst, ◌∙◌}
+use Rattle.std.specs.Prelude.{slice_get}
+use Rattle.trace_model.specs.declared.channel.Channel.{Channel}
+use Rattle.trace_model.specs.declared.packet.Packet.{Packet}
+use Rattle.trace_model.specs.declared.row.Row.{Row}
+use Rattle.trace_model.specs.declared.trace.Trace.{Trace}
+use Rattle.trace_model.specs.Recording.{trace_of}
+use Rattle.trace_code.specs.Decoding.{OnePlace, OneReading}
+use Rattle.trace_code.specs.Encoding.{encode, Encodes}
+use Rattle.net_design.specs.declared.design.Design.{Design}
+use Rattle.net_design.specs.Lawful.{IsLawful}
+use Rattle.chan_map.specs.declared.pins.Map.{Map}
+use Rattle.run_model.specs.Alike.{AreAlike}
+use Rattle.run_model.specs.AlikeLaws.{DrivenAlike}
+use Rattle.run_model.specs.Laws.{ContentsFit}
+use Rattle.run_model.specs.Played.{IsPlayed}
+use Rattle.run_model.specs.Replay.{IsReplayRow}
+use Rattle.replay_run.specs.declared.outcome.ReplayOutcome.{ReplayOutcome}
+use Rattle.replay_run.specs.declared.outcome.ReplayOutcome.TheVariants as outcomes
+use Rattle.replay_run.specs.Laws.{OneOutcome}
+use Rattle.replay_run.specs.Replaying.{EndsAs}
+use Rattle.vidi_io.specs.Shelf.{Files, holding}
+use Rattle.report_text.specs.Short.{short_lines}
+use Rattle.report_text.specs.declared.reason.Word.TheVariants as words
+use Rattle.vidi_commands.specs.declared.device.Device.{Device}
+use Rattle.vidi_commands.specs.declared.status.Status.{Status}
+use Rattle.vidi_commands.specs.declared.status.Status.TheVariants.{Short, Unstable}
+use Rattle.vidi_commands.specs.Design.{text_limit}
+use Rattle.vidi_commands.specs.Devices.{IsDevice}
+use Rattle.vidi_commands.specs.Reading.{Reading}
+use Rattle.vidi_commands.specs.Replays.{IsReplayable, IsReplaySaid, IsUnreplayed, RefusedReplay, RefusedTrace, Replays, ReplaysTrace}
+use Rattle.vidi_commands.specs.Said.{replayed_line, unstable_line}
+use Rattle.vidi_commands.specs.Traces.{trace_limit, HasOtherChannels}
+use Rattle.vidi_laws.proofs.OneEnding.{One, OneBy, one-said, one-read, one-reading-by, reading-apart}
+use Rattle.vidi_laws.proofs.OneCheck.{Alike, alike}
+use Rattle.vidi_laws.proofs.OneTraces.{one-decoding, one-other, one-verdict}
+use Rattle.vidi_laws.proofs.SameDevice.{DeviceLaws, SameDevice, one-wiring, same-device, wiring-apart}
+use Rattle.vidi_laws.proofs.SameRecord.{LeftAlike}
+
+-- the laws on which this rests
+pub record ReplayLaws : Type 0 where
+  pub devices : DeviceLaws
+  pub reading : OneReading
+  pub place : OnePlace
+  pub driven : DrivenAlike
+  pub outcome : OneOutcome
+
+-- ---- the replays of designs that are alike
+module _ (law : DrivenAlike) (d e : Design) (lawful : IsLawful d) (same : AreAlike d e) (m : Map) (packets : List Packet) where
+  played-too : (rows : List Row) → IsPlayed e m (IsReplayRow m.channels packets) rows → IsPlayed d m (IsReplayRow m.channels packets) rows
+  played-too rows p = record { marked = p.marked; driven = (law d e lawful same m rows).1 p.driven; ruled = p.ruled }
+
+  ends-too : (n : ℕ) (rows : List Row) (o : ReplayOutcome) → EndsAs e m packets n rows o → EndsAs d m packets n rows o
+  ends-too n rows (outcomes.Ended cycles) (x, long) = (
+    record { played = played-too rows x.played; stable = x.stable; within = x.within; ended = x.ended; shortest = x.shortest },
+    long,
+  )
+  ends-too n rows (outcomes.Short helds events) (x, held_are, waits_are) = (
+    record { played = played-too rows x.played; stable = x.stable; all = x.all; going = x.going; not_ended = x.not_ended },
+    held_are,
+    waits_are,
+  )
+  ends-too n rows (outcomes.Unstable channel cycle) (x, long) = (
+    record {
+      stops = record {
+        next = x.stops.next;
+        played = played-too (rows ++ x.stops.next ∷ []) x.stops.played;
+        stable = x.stops.stable;
+        unstable = x.stops.unstable;
+      };
+      within = x.within;
+      going = x.going;
+      not_ended = x.not_ended;
+    },
+    long,
+  )
+
+-- ---- what is said
+said-once : (t u : Trace) (n : ℕ) (o : ReplayOutcome) → One (IsReplaySaid t u n o)
+said-once t u n (outcomes.Ended cycles) a b x y v w = one-verdict (replayed_line cycles) t u a b x y v w
+said-once t u n (outcomes.Short helds events) a b x y v w =
+    one-said (Short helds events) (short_lines helds events n t.channels) a b x y v w
+said-once t u n (outcomes.Unstable channel cycle) a b x y v w =
+    one-said (Unstable channel cycle) (unstable_line t.channels channel cycle) a b x y v w
+
+-- what is left of a design and a map
+abbrev LeavesReplay : Design → Map → Trace → ℕ → List ℕ → Option Files → Status → List ℕ → Option Files → Type 0
+LeavesReplay d m t n out files status text left = (rows : List Row) × (outcome : ReplayOutcome) × EndsAs d m t.packets n rows outcome
+    × IsReplaySaid t (trace_of m.channels rows) n outcome status text × (left ≡ holding files out (encode (trace_of m.channels rows)))
+
+fits : (t : Trace) (bytes : List ℕ) (channels : List Channel) → Encodes t bytes → t.channels ≡ channels → ContentsFit channels t.packets
+fits t bytes channels encodes same = subst (λ (cs : List Channel). ContentsFit cs t.packets) same encodes.0.well_formed.packets
+
+module _ (laws : ReplayLaws) where
+  -- ---- what ends the command before anything is replayed
+  one-refused_trace : (bytes : List ℕ) (m : Map) → OneBy Alike (RefusedTrace bytes m)
+  one-refused_trace bytes m a b x y u v = alike a b x y
+      (one-decoding laws.reading laws.place words.Trace bytes (λ t. HasOtherChannels words.Trace m.channels t.channels)
+      (λ t. one-other words.Trace m.channels t.channels) a b x y u v)
+
+  one-refused_replay : (design m trace : List ℕ) → OneBy Alike (RefusedReplay design m trace)
+  one-refused_replay design m trace = one-wiring laws.devices (RefusedTrace trace) (one-refused_trace trace) design m
+
+  unreplayed : (design m trace : List ℕ) (files : Files) → OneBy Alike (IsUnreplayed design m trace (Some files) (λ _. ⊥))
+  unreplayed design m trace files = one-reading-by Alike alike text_limit words.Design design files
+      (λ d. Reading text_limit words.Map m (Some files) (λ _. ⊥) (λ k.
+      Reading trace_limit words.Trace trace (Some files) (λ _. ⊥) (RefusedReplay d k)))
+      (λ d. one-reading-by Alike alike text_limit words.Map m files
+      (λ k. Reading trace_limit words.Trace trace (Some files) (λ _. ⊥) (RefusedReplay d k))
+      (λ k. one-reading-by Alike alike trace_limit words.Trace trace files (RefusedReplay d k) (one-refused_replay d k)))
+
+  -- ---- which isn't there where something is replayed
+  trace-apart : (bytes : List ℕ) (m : Map) (t : Trace) → Encodes t bytes → t.channels ≡ m.channels → (a : Status) (x : List ℕ)
+      → RefusedTrace bytes m a x → ⊥
+  trace-apart bytes m t encodes same a x (inl (at, fault, none, s)) = none t encodes
+  trace-apart bytes m t encodes same a x (inr (u, encodes', (at, front, other, s))) =
+      let table : u.channels ≡ m.channels = ap (λ (k : Trace). k.channels) (laws.reading bytes u t encodes' encodes) ∙ same in
+      other (ap (λ (cs : List Channel). slice_get cs at) (sym table))
+
+  module _ (design m trace : List ℕ) (files : Files) (v : Device) (t : Trace) (is : IsReplayable design m trace (Some files) v t)
+      (a : Status) (x : List ℕ) where
+    replay-apart : RefusedReplay is.design_text is.map_text is.trace_bytes a x → ⊥
+    replay-apart = wiring-apart laws.devices is.design_text is.map_text v is.device (RefusedTrace is.trace_bytes) a x
+        (trace-apart is.trace_bytes v.map t is.encodes is.same a x)
+
+    unreplayed-apart : IsUnreplayed design m trace (Some files) (λ _. ⊥) a x → ⊥
+    unreplayed-apart = reading-apart text_limit words.Design design files
+        (λ d. Reading text_limit words.Map m (Some files) (λ _. ⊥) (λ k.
+        Reading trace_limit words.Trace trace (Some files) (λ _. ⊥) (RefusedReplay d k))) is.design_text is.design_read a x
+        (reading-apart text_limit words.Map m files
+        (λ k. Reading trace_limit words.Trace trace (Some files) (λ _. ⊥) (RefusedReplay is.design_text k)) is.map_text is.map_read a x
+        (reading-apart trace_limit words.Trace trace files (RefusedReplay is.design_text is.map_text) is.trace_bytes is.trace_read a x
+        replay-apart))
+
+  -- ---- what is replayed
+  -- what the same files say twice
+  replayable-once : (design m trace : List ℕ) (files : Files) (v w : Device) (t u : Trace)
+      → IsReplayable design m trace (Some files) v t → IsReplayable design m trace (Some files) w u → SameDevice v w × (t ≡ u)
+  replayable-once design m trace files v w t u x y =
+      let d = one-read text_limit design files y.design_text x.design_text y.design_read x.design_read in
+      let n = one-read text_limit m files y.map_text x.map_text y.map_read x.map_read in
+      let b = one-read trace_limit trace files y.trace_bytes x.trace_bytes y.trace_read x.trace_read in
+      let device : IsDevice x.design_text x.map_text w =
+      subst (λ (text : List ℕ). IsDevice x.design_text text w) n (subst (λ (text : List ℕ). IsDevice text y.map_text w) d y.device) in
+      let encodes = subst (λ (bytes : List ℕ). Encodes u bytes) b y.encodes in (
+        same-device laws.devices x.design_text x.map_text v w x.device device,
+        laws.reading x.trace_bytes t u x.encodes encodes,
+      )
+
+  leaves-once : (v w : Device) (t : Trace) → SameDevice v w → ContentsFit v.map.channels t.packets → (n : ℕ) (out : List ℕ) (files : Files)
+      (a b : Status) (x y : List ℕ) (left right : Option Files) → LeavesReplay v.design v.map t n out (Some files) a x left
+      → LeavesReplay w.design v.map t n out (Some files) b y right → LeftAlike a b x y left right
+  leaves-once v w t same fit n out files a b x y left right (rows, outcome, ends, said, leaves) (others, other, ends', said', leaves') =
+      let channels = v.map.channels in
+      let theirs = ends-too laws.driven v.design w.design same.ready.lawful same.designs v.map t.packets n others other ends' in
+      let one = (laws.outcome v.design v.map same.ready t.packets fit n).1 others rows other outcome theirs ends in
+      let told = subst (λ (o : ReplayOutcome). IsReplaySaid t (trace_of channels rows) n o b y) one.1
+      (subst (λ (rs : List Row). IsReplaySaid t (trace_of channels rs) n other b y) one.0 said') in (
+        alike a b x y (said-once t (trace_of channels rows) n outcome a b x y said told),
+        leaves ∙ ap (λ (rs : List Row). holding (Some files) out (encode (trace_of channels rs))) (sym one.0) ∙ sym leaves',
+      )
+
+  replays-once : (v w : Device) (t u : Trace) → SameDevice v w → t ≡ u → ContentsFit v.map.channels t.packets → (n : ℕ) (out : List ℕ)
+      (files : Files) (a b : Status) (x y : List ℕ) (left right : Option Files) → ReplaysTrace v t n out (Some files) a x left
+      → ReplaysTrace w u n out (Some files) b y right → LeftAlike a b x y left right
+  replays-once v w t u same trace fit n out files a b x y left right replays replays' =
+      leaves-once v w t same fit n out files a b x y left right replays
+      (subst (λ (k : Trace). LeavesReplay w.design v.map k n out (Some files) b y right) (sym trace)
+      (subst (λ (k : Map). LeavesReplay w.design k u n out (Some files) b y right) (sym same.map) replays'))
+
+  pub one_replay : (design m trace : List ℕ) (n : ℕ) (out : List ℕ) (files : Files) (a b : Status) (x y : List ℕ)
+      (left right : Option Files) → Replays design m trace n out (Some files) (λ _. ⊥) a x left
+      → Replays design m trace n out (Some files) (λ _. ⊥) b y right → LeftAlike a b x y left right
+  one_replay design m trace n out files a b x y left right (inl (u, l)) (inl (v, r)) =
+      (unreplayed design m trace files a b x y u v, l ∙ sym r)
+  one_replay design m trace n out files a b x y left right (inl (u, l)) (inr (w, t, replayable, replays)) =
+      absurd (unreplayed-apart design m trace files w t replayable a x u)
+  one_replay design m trace n out files a b x y left right (inr (v, t, replayable, replays)) (inl (u, r)) =
+      absurd (unreplayed-apart design m trace files v t replayable b y u)
+  one_replay design m trace n out files a b x y left right (inr (v, t, replayable, replays)) (inr (w, u, replayable', replays')) =
+      let same = replayable-once design m trace files v w t u replayable replayable' in
+      replays-once v w t u same.0 same.1
+      (fits t replayable.trace_bytes v.map.channels replayable.encodes replayable.same) n out files a b x y left right replays replays'
