@@ -15,12 +15,9 @@ ghost use Rattle.vidi_commands.specs.Steps.{Never};
 use crate::answer::{Answer, Ended, refused};
 use crate::design::{design_of, file_of, order_of};
 use crate::status::{Reason, Word};
-use chan_map::{
-    Map, MapError, MapLimit as Limit, MapText, bind_map, lawful_ports_have_widths, read_map,
-};
+use chan_map::{Map, MapError, MapText, bind_map, lawful_ports_have_widths, read_map};
 use net_design::Design;
 use net_order::Order;
-use report_text::MapLimit;
 use run_model::bound_is_map_of;
 use std::alloc::Global;
 use vidi_bits::Memory;
@@ -104,20 +101,7 @@ fn map_reason(error: MapError) -> Option<Reason>
         MapError::Line { line } => Some(Reason::MapLine { line }),
         MapError::Port { line } => Some(Reason::MapPort { line }),
         MapError::Cover { port, times } => Some(Reason::Cover { port, times }),
-        MapError::Limit { what, got } => Some(Reason::Limit {
-            what: limit_of(what),
-            got,
-        }),
+        MapError::Limit { what, got } => Some(Reason::Limit { what, got }),
         MapError::Memory => None,
-    }
-}
-
-fn limit_of(what: Limit) -> MapLimit
-    ensures { result ≡ spec.limit_of what }
-{
-    match what {
-        Limit::Channels => MapLimit::Channels,
-        Limit::Ports => MapLimit::Ports,
-        Limit::Bytes => MapLimit::Bytes,
     }
 }
