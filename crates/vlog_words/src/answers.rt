@@ -13,6 +13,7 @@ use crate::expressions::{
 };
 use crate::file_tree::tree;
 use crate::parts::{nets, parts};
+use crate::printed::printed;
 use crate::runs::run;
 use crate::spelled::spelled;
 use crate::tree_lines::{expression_lines, file_lines};
@@ -64,7 +65,7 @@ fn of_words<S: Shelf>(
 }
 
 fn is_of_text(word: &str) -> bool {
-    matches!(word.as_bytes(), b"tree" | b"lines" | b"spelled")
+    matches!(word.as_bytes(), b"tree" | b"lines" | b"spelled" | b"print")
 }
 
 /// The words on a design text.
@@ -78,6 +79,7 @@ fn of_text<S: Shelf>(
         b"tree" => tree(alloc, file, shelf),
         b"lines" => file_lines(alloc, file, shelf),
         b"spelled" => spelled(alloc, file, shelf),
+        b"print" => printed(alloc, file, shelf),
         _ => Err(Ended::Usage),
     }
 }

@@ -14,6 +14,7 @@ mod file_tree;
 mod names;
 mod numbers;
 mod parts;
+mod printed;
 mod runs;
 mod said;
 mod spelled;

@@ -1,5 +1,9 @@
 //! The Verilog texts of a case, and what is read of them.
 
+ghost use Rattle.std.specs.Prelude.{IfOk};
+ghost use Rattle.vlog_tree.specs.Plain.{plain};
+ghost use Rattle.vlog_tree.specs.Shape.{IsGood};
+
 use crate::ended::Ended;
 use report_text::put;
 use std::alloc::Global;
@@ -33,14 +37,18 @@ fn tokens_of(alloc: Global, text: &[u8]) -> Result<Tokens, Ended> {
 }
 
 /// The tree of a design text.
-pub fn tree_of(alloc: Global, text: &[u8]) -> Result<Box<File>, Ended> {
+pub fn tree_of(alloc: Global, text: &[u8]) -> Result<Box<File>, Ended>
+    ensures { IfOk result (λ file. IsGood (plain file.value)) }
+{
     let tokens = tokens_of(alloc, text)?;
     let file = parse(alloc, &tokens)?;
     Ok(Box::new(alloc, file)?)
 }
 
 /// The tree of the design text of this name.
-pub fn tree_in<S: Shelf>(alloc: Global, shelf: &mut S, name: &str) -> Result<Box<File>, Ended> {
+pub fn tree_in<S: Shelf>(alloc: Global, shelf: &mut S, name: &str) -> Result<Box<File>, Ended>
+    ensures { IfOk result (λ file. IsGood (plain file.value)) }
+{
     let text = read_whole(alloc, shelf, name, TEXT_LIMIT)?;
     tree_of(alloc, text.as_slice())
 }
