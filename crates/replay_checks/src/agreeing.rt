@@ -2,9 +2,14 @@
 
 ghost use Rattle.std.specs.Prelude.{◌≡◌, ◌<◌, ◌≤◌, ◌^◌, IfSome, length};
 ghost use Rattle.trace_code.specs.Encoding.{Encodes, HasEncoding};
+ghost use Rattle.run_model.specs.Building.{PortsAreNets};
+ghost use Rattle.run_model.specs.MapOf.{IsMapOf};
 
+use crate::traces::trace_of;
 use crate::watched::Watched;
-use chan_replayer::ReplayMachines;
+use chan_map::Map;
+use chan_replayer::{ReplayMachines, ReplayShell};
+use net_sim::Sim;
 use replay_run::{ReplayOutcome, Replayed, replay};
 use run_model::Held;
 use run_reference::{held, replay_rows, waits};
@@ -17,10 +22,18 @@ use trace_model::{
 };
 
 /// The trace of these bytes.
-pub(crate) fn decoded(alloc: Global, bytes: &[u8]) -> Option<Trace>
+fn decoded(alloc: Global, bytes: &[u8]) -> Option<Trace>
     ensures { IfSome result (λ t. Encodes t bytes.now) }
 {
     decode(alloc, bytes).ok()
+}
+
+/// The trace of the design's channels with these packets and their number.
+pub(crate) fn trace_with(alloc: Global, sample: Sample, packets: &[u8]) -> Option<Trace>
+    ensures { IfSome result HasEncoding }
+{
+    let bytes = trace_of(alloc, sample, packets)?;
+    decoded(alloc, bytes.as_slice())
 }
 
 /// So many rows of the replay of a trace on a design, by the definitions.
@@ -29,9 +42,9 @@ pub(crate) fn rows_of(alloc: Global, sample: Sample, trace: &Trace, cycles: u32)
     requires { HasEncoding trace.now }
     ensures { IfSome result (λ rows. length rows ≡ cycles) }
 {
-    let Stage { mut sim, map } = sample_stage(alloc, sample, &trace.channels)?;
+    let mut stage = sample_stage(alloc, sample, &trace.channels)?;
     let packets = trace.packets.as_slice();
-    replay_rows(alloc, &mut sim, &map, packets, cycles).ok()
+    replay_rows(alloc, &mut stage.sim, &stage.map, packets, cycles).ok()
 }
 
 fn more_if(count: u32, mask: u128, c: usize) -> u32 {
@@ -240,9 +253,54 @@ pub(crate) struct Seen {
     pub(crate) agrees: bool,
 }
 
-/// What the replay of a trace on a design answers, against these rows.
+/// What the replay of a trace on a shell answers, against these rows.
 #[tactic(auto, using(crate::proofs::Given::trace_given))]
-fn answer_of(
+fn answer_of<S: ReplayShell>(
+    alloc: Global,
+    shell: &mut S,
+    map: &Map,
+    trace: &Trace,
+    bytes: &[u8],
+    cycles: u32,
+    rows: &[Row],
+) -> Option<Seen>
+    requires mapped { S.map shell.old ≡ map.now }
+    requires channels { map.now.channels ≡ trace.now.channels }
+    requires trace { Encodes trace.now bytes.now }
+    requires few { cycles ≤ 50000 }
+{
+    let mut shell = Watched::new(shell, rows);
+    let answer = replay(alloc, &mut shell, map, bytes, cycles).ok()?;
+    Some(Seen {
+        answer,
+        agrees: shell.same,
+    })
+}
+
+/// The same on a design that runs.
+fn answer_on(
+    alloc: Global,
+    sim: Sim,
+    map: &Map,
+    trace: &Trace,
+    bytes: &[u8],
+    cycles: u32,
+    rows: &[Row],
+) -> Option<Seen>
+    requires nets { PortsAreNets sim.design }
+    requires mapped { IsMapOf sim.design map.now }
+    requires channels { map.now.channels ≡ trace.now.channels }
+    requires trace { Encodes trace.now bytes.now }
+    requires few { cycles ≤ 50000 }
+{
+    let Ok(mut shell) = ReplayMachines::new(alloc, sim, map) else {
+        return None;
+    };
+    answer_of(alloc, &mut shell, map, trace, bytes, cycles, rows)
+}
+
+/// The same on a design.
+fn answer_from(
     alloc: Global,
     sample: Sample,
     trace: &Trace,
@@ -254,24 +312,46 @@ fn answer_of(
     requires few { cycles ≤ 50000 }
 {
     let Stage { sim, map } = sample_stage(alloc, sample, &trace.channels)?;
-    let machines = ReplayMachines::new(alloc, sim, &map).ok()?;
-    let mut shell = Watched::new(machines, rows);
-    let answer = replay(alloc, &mut shell, &map, bytes, cycles).ok()?;
-    Some(Seen {
-        answer,
-        agrees: shell.same,
-    })
+    answer_on(alloc, sim, &map, trace, bytes, cycles, rows)
 }
 
-/// What the replay of a trace on a design answers in so many cycles. `None` where the bytes are no trace of the design's channels, or
-/// there isn't enough memory.
+/// The same, against what the definitions say of these rows.
+fn answer_with(
+    alloc: Global,
+    sample: Sample,
+    trace: &Trace,
+    bytes: &[u8],
+    cycles: u32,
+    rows: &[Row],
+) -> Option<Seen>
+    requires trace { Encodes trace.now bytes.now }
+    requires few { cycles ≤ 50000 }
+    requires rows { length rows.now < 2 ^ 32 }
+{
+    let mut seen = answer_from(alloc, sample, trace, bytes, cycles, rows)?;
+    seen.agrees &= agrees(alloc, trace, rows, &seen.answer)?;
+    Some(seen)
+}
+
+/// What the replay of a trace with these bytes answers on a design in so many cycles.
+fn answer_in(
+    alloc: Global,
+    sample: Sample,
+    trace: &Trace,
+    bytes: &[u8],
+    cycles: u32,
+) -> Option<Seen>
+    requires trace { Encodes trace.now bytes.now }
+    requires few { cycles ≤ 50000 }
+{
+    let rows = rows_of(alloc, sample, trace, cycles)?;
+    answer_with(alloc, sample, trace, bytes, cycles, rows.as_slice())
+}
+
+/// The same of a trace's bytes. `None` where they are no trace of the design's channels, or there isn't enough memory.
 pub(crate) fn see_replay(alloc: Global, sample: Sample, bytes: &[u8], cycles: u32) -> Option<Seen>
     requires { cycles ≤ 50000 }
 {
     let trace = decoded(alloc, bytes)?;
-    let rows = rows_of(alloc, sample, &trace, cycles)?;
-    let rows = rows.as_slice();
-    let mut seen = answer_of(alloc, sample, &trace, bytes, cycles, rows)?;
-    seen.agrees &= agrees(alloc, &trace, rows, &seen.answer)?;
-    Some(seen)
+    answer_in(alloc, sample, &trace, bytes, cycles)
 }

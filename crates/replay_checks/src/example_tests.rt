@@ -118,16 +118,16 @@ fn is_seen(seen: &Seen, due: Due, out: &[u8]) -> bool {
     seen.agrees && is_due(&seen.answer.outcome, due) && seen.answer.out.as_slice() == out
 }
 
+/// Whether a replay of these bytes is as it has to be, with these bytes as its trace.
+fn is_played_as(alloc: Global, example: &Example, bytes: &[u8], out: &[u8]) -> Option<bool> {
+    let seen = see_replay(alloc, example.sample, bytes, u32::from(example.cycles))?;
+    Some(is_seen(&seen, example.due, out))
+}
+
 fn is_played(alloc: Global, example: &Example) -> Option<bool> {
     let bytes = trace_of(alloc, example.sample, example.packets)?;
     let out = trace_of(alloc, example.sample, example.shown)?;
-    let seen = see_replay(
-        alloc,
-        example.sample,
-        bytes.as_slice(),
-        u32::from(example.cycles),
-    )?;
-    Some(is_seen(&seen, example.due, out.as_slice()))
+    is_played_as(alloc, example, bytes.as_slice(), out.as_slice())
 }
 
 #[test]

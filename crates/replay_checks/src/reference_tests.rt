@@ -2,9 +2,10 @@
 //! a row are its gates, valids, readies, starts and ends.
 
 ghost use Rattle.std.specs.Prelude.{◌<◌, ◌^◌, length};
+ghost use Rattle.trace_code.specs.Encoding.{HasEncoding};
 
-use crate::agreeing::{decoded, rows_of};
-use crate::traces::{BARE, LAST_END_MISSING, THREE, TWO, trace_of};
+use crate::agreeing::{rows_of, trace_with};
+use crate::traces::{BARE, LAST_END_MISSING, THREE, TWO};
 use run_model::Held;
 use run_reference::{held, waits};
 use sample_designs::{Sample, is_row};
@@ -177,13 +178,18 @@ fn are_rows(rows: &[Row], due: &[DueRow]) -> bool {
     same
 }
 
-fn is_replayed(alloc: Global, example: &Example) -> Option<bool> {
+fn is_replay_of(alloc: Global, trace: &Trace, example: &Example) -> Option<bool>
+    requires { HasEncoding trace.now }
+{
     let cycles = u32::try_from(example.rows.len()).ok()?;
-    let bytes = trace_of(alloc, example.sample, example.packets)?;
-    let trace = decoded(alloc, bytes.as_slice())?;
-    let rows = rows_of(alloc, example.sample, &trace, cycles)?;
-    let left = what_is_left(alloc, &trace, rows.as_slice())?;
+    let rows = rows_of(alloc, example.sample, trace, cycles)?;
+    let left = what_is_left(alloc, trace, rows.as_slice())?;
     Some(left == example.left && are_rows(rows.as_slice(), example.rows))
+}
+
+fn is_replayed(alloc: Global, example: &Example) -> Option<bool> {
+    let trace = trace_with(alloc, example.sample, example.packets)?;
+    is_replay_of(alloc, &trace, example)
 }
 
 #[test]

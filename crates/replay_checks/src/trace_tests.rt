@@ -1,5 +1,7 @@
 //! Replays of longer traces, against the definitions' rows.
 
+ghost use Rattle.std.specs.Prelude.{◌≤◌};
+
 use crate::agreeing::{Seen, see_replay};
 use crate::traces::{drawn_trace, rounds};
 use replay_run::ReplayOutcome;
@@ -14,13 +16,21 @@ fn has_ended(seen: &Seen, after: u32) -> bool {
     }
 }
 
-/// Whether the replay of the recording with stalls has ended after 240 cycles, with the trace without them.
-fn plays_rounds(alloc: Global, cycles: u8) -> Option<bool> {
+/// Whether a replay of these bytes has ended after 240 cycles, with these bytes as its trace.
+fn is_ended_with(alloc: Global, bytes: &[u8], out: &[u8], cycles: u32) -> Option<bool>
+    requires { cycles ≤ 50000 }
+{
+    let seen = see_replay(alloc, Sample::Regs, bytes, cycles)?;
+    Some(has_ended(&seen, 240) && seen.answer.out.as_slice() == out)
+}
+
+/// The same of the recording with stalls, with the trace without them.
+fn plays_rounds(alloc: Global, cycles: u32) -> Option<bool>
+    requires { cycles ≤ 50000 }
+{
     let bytes = rounds(alloc, true)?;
     let out = rounds(alloc, false)?;
-    let seen = see_replay(alloc, Sample::Regs, bytes.as_slice(), u32::from(cycles))?;
-    let ended = has_ended(&seen, 240);
-    Some(ended && seen.answer.out.as_slice() == out.as_slice())
+    is_ended_with(alloc, bytes.as_slice(), out.as_slice(), cycles)
 }
 
 // With one cycle less it hasn't ended.

@@ -23,7 +23,7 @@ fn is_at(rows: &[Row], at: usize, row: &Row) -> bool {
 /// A shell whose rows from a reset on are compared with given ones.
 #[derive(Drop)]
 pub(crate) struct Watched<'a, S: ReplayShell> {
-    shell: S,
+    shell: &'a mut S,
     rows: &'a [Row],
     at: usize,
     /// Each row was the given one so far.
@@ -31,9 +31,10 @@ pub(crate) struct Watched<'a, S: ReplayShell> {
 }
 
 impl<'a, S: ReplayShell> Watched<'a, S> {
-    /// The shell, which was just made or reset.
-    pub(crate) fn new(shell: S, rows: &'a [Row]) -> Watched<'a, S>
-        ensures { result.shell ≡ shell }
+    /// A shell that will be reset, for as long as it is borrowed.
+    pub(crate) fn new(shell: &'a mut S, rows: &'a [Row]) -> Watched<'a, S>
+        ensures same { result.shell.ghost_name ≡ shell.entry.ghost_name }
+        ensures shell { result.shell.now ≡ shell.old }
     {
         Watched {
             shell,
@@ -45,13 +46,13 @@ impl<'a, S: ReplayShell> Watched<'a, S> {
 }
 
 impl<'a, S: ReplayShell> ReplayShell for Watched<'a, S> {
-    ghost map = { λ w. S.map w.shell };
+    ghost map = { λ w. S.map w.shell.now };
 
-    ghost runs = { λ w. S.runs w.shell };
+    ghost runs = { λ w. S.runs w.shell.now };
 
-    ghost cycles = { λ w. S.cycles w.shell };
+    ghost cycles = { λ w. S.cycles w.shell.now };
 
-    ghost driven = { λ w. S.driven w.shell };
+    ghost driven = { λ w. S.driven w.shell.now };
 
     fn reset(&mut self) {
         self.shell.reset();
@@ -68,5 +69,5 @@ impl<'a, S: ReplayShell> ReplayShell for Watched<'a, S> {
         self.at = self.at.wrapping_add(1);
     }
 
-    ghost ready = { λ w. S.ready w.shell };
+    ghost ready = { λ w. S.ready w.shell.now };
 }
