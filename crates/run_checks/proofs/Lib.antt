@@ -1,4 +1,2 @@
 mod Growing
-mod Packets
 mod SendLaws
-mod PortNets

@@ -6,7 +6,7 @@ use Rattle.trace_model.specs.declared.channel.Channel.{Channel}
 use Rattle.trace_model.specs.declared.channel.Dir.TheVariants.{Inward, Outward}
 use Rattle.trace_model.specs.declared.row.Offers.{Offers}
 use Rattle.trace_model.specs.Row.{AreOffers}
-use Rattle.run_checks.specs.Stage.{stage_channels}
+use Rattle.sample_designs.specs.Stage.{stage_channels}
 use Rattle.run_checks.specs.Given.{IsSend}
 
 pub offers_fit : (valids readies content : ℕ) → valids < 4 → readies < 4 → content < 256

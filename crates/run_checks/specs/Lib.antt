@@ -1,3 +1,2 @@
-pub mod Stage
 pub mod Given
 pub mod Playing

@@ -1,69 +1,15 @@
-//! What the tests give, and how rows are compared.
+//! What the tests offer, and the rows of it.
 
 ghost use Rattle.std.specs.Prelude.{◌≡◌, ◌<◌, All, IfOk, length};
 ghost use Rattle.run_model.specs.Offers.{AreZeroWhileDown};
-ghost use Rattle.trace_model.specs.Packet.{IsPacket};
 ghost use Rattle.trace_model.specs.Row.{AreOffers};
-ghost use Rattle.run_checks.specs.Given.{IsSend, mask_of};
-ghost use Rattle.run_checks.specs.Stage.{stage_channels};
+ghost use Rattle.run_checks.specs.Given.{IsSend};
+ghost use Rattle.sample_designs.specs.Stage.{stage_channels};
 
+use sample_designs::is_row;
 use std::alloc::Global;
-use trace_model::{Dir, Offers, Packet, Packets, Row};
+use trace_model::{Offers, Row};
 use vidi_bits::{Items, Memory, Numbers};
-
-fn mask_of(dir: Dir) -> u128
-    ensures { result ≡ mask_of dir }
-{
-    match dir {
-        Dir::Inward => 1,
-        Dir::Outward => 2,
-    }
-}
-
-/// A packet in which the channel of this direction starts.
-#[tactic(auto, using(crate::proofs::Packets::packet_fits))]
-fn packet(alloc: Global, dir: Dir, ends: u128, content: u128) -> Result<Packet, Memory>
-    requires ends { ends < 4 }
-    requires fits { content < 256 }
-    ensures { IfOk result (IsPacket stage_channels) }
-{
-    let mut contents = Numbers::new(alloc);
-    contents.push(content)?;
-    Ok(Packet {
-        starts: mask_of(dir),
-        ends,
-        contents,
-    })
-}
-
-/// `a` starts and completes, then `b`, then `a` again.
-pub fn three_packets(alloc: Global) -> Result<Packets, Memory>
-    ensures few { IfOk result (λ ps. length ps ≡ 3) }
-    ensures lawful { IfOk result (All (IsPacket stage_channels)) }
-{
-    let first = packet(alloc, Dir::Inward, 1, 5)?;
-    let mut packets = Packets::new(alloc);
-    packets.push(first)?;
-    let second = packet(alloc, Dir::Outward, 2, 5)?;
-    packets.push(second)?;
-    let third = packet(alloc, Dir::Inward, 1, 6)?;
-    packets.push(third)?;
-    Ok(packets)
-}
-
-/// `a` starts and completes, then `b`.
-pub fn two_packets(alloc: Global, last_ends: u128) -> Result<Packets, Memory>
-    requires { last_ends < 4 }
-    ensures few { IfOk result (λ ps. length ps ≡ 2) }
-    ensures lawful { IfOk result (All (IsPacket stage_channels)) }
-{
-    let first = packet(alloc, Dir::Inward, 1, 5)?;
-    let mut packets = Packets::new(alloc);
-    packets.push(first)?;
-    let second = packet(alloc, Dir::Outward, last_ends, 5)?;
-    packets.push(second)?;
-    Ok(packets)
-}
 
 /// `a` offers this content, and `b` is taken.
 #[tactic(auto, using(crate::proofs::SendLaws::send_up))]
@@ -126,12 +72,6 @@ pub fn two_sends(alloc: Global) -> Result<Items<Offers>, Memory>
     ensures zeros { IfOk result (All (AreZeroWhileDown stage_channels)) }
 {
     six_cycles(alloc)
-}
-
-/// Whether a row has these gates, valids, readies, starts and ends, and these contents.
-pub fn is_row(row: &Row, masks: [u128; 5], contents: &[u128]) -> bool {
-    [row.gates, row.valids, row.readies, row.starts, row.ends] == masks
-        && row.contents.as_slice() == contents
 }
 
 /// The rows of the register stage with all gates up: `a` completes in rows 0 and 2, and `b` in rows 1 and 3. In row 1 the stage is

@@ -1,5 +1,5 @@
-//! Tests of what no command prints: rows with all their masks, replays and what they wait for, and shells that are reset. `play_shell`
-//! is a caller of any shell, which shows that the contract of `Shell` says enough.
+//! Tests of what no command prints: rows of runs with all their masks, and shells that are reset. `play_shell` is a caller of any shell,
+//! which shows that the contract of `Shell` says enough.
 #![tactic(auto)]
 
 mod play;
@@ -11,8 +11,4 @@ mod given;
 #[cfg(test)]
 mod plain_tests;
 #[cfg(test)]
-mod replay_tests;
-#[cfg(test)]
 mod run_tests;
-#[cfg(test)]
-mod stages;

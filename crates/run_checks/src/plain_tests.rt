@@ -4,32 +4,31 @@ ghost use Rattle.std.specs.Prelude.{◌≡◌, ◌<◌, ◌^◌, length};
 ghost use Rattle.run_model.specs.Building.{PortsAreNets};
 ghost use Rattle.run_model.specs.MapOf.{IsMapOf};
 
-use crate::given::{is_row, is_two_sends};
-use crate::stages::{Stage, flick, pass};
+use crate::given::is_two_sends;
 use bench_run::{PlainRun, Spot, run_plain};
 use env_script::{ScriptEnv, read_script};
+use sample_designs::{Sample, Stage, flick_stage, is_row, two_channel_stage};
 use std::alloc::Global;
-use std::test::Fail;
 
 /// The run of a stage under a script.
-fn run_script(alloc: Global, stage: &mut Stage, text: &[u8]) -> Result<PlainRun, Fail>
+fn run_script(alloc: Global, stage: &mut Stage, text: &[u8]) -> Option<PlainRun>
     requires text { length text.now < 2 ^ 31 }
     requires nets { PortsAreNets stage.old.sim.design }
     requires mapped { IsMapOf stage.old.sim.design stage.old.map }
 {
     let Ok(script) = read_script(alloc, text, &stage.map) else {
-        return Err(Fail::from("a script is refused"));
+        return None;
     };
     let cycles = script.cycles();
-    let mut env = ScriptEnv::new(alloc, &script, &stage.map)?;
-    Ok(run_plain(alloc, &mut stage.sim, &stage.map, &mut env, cycles)?)
+    let mut env = ScriptEnv::new(alloc, &script, &stage.map).ok()?;
+    run_plain(alloc, &mut stage.sim, &stage.map, &mut env, cycles).ok()
 }
 
 /// The run of `flick`, whose one channel is outward: its valid rises in row 1 and falls in row 2, whatever the ready is.
-fn flick_run(alloc: Global, text: &[u8]) -> Result<PlainRun, Fail>
+fn flick_run(alloc: Global, text: &[u8]) -> Option<PlainRun>
     requires { length text.now < 2 ^ 31 }
 {
-    let mut stage = flick(alloc)?;
+    let mut stage = flick_stage(alloc)?;
     run_script(alloc, &mut stage, text)
 }
 
@@ -47,10 +46,9 @@ fn is_cut(run: &PlainRun) -> bool {
 }
 
 #[test]
-fn flick_is_unstable(rt: HostRuntime) -> Result<(), Fail> {
-    let run = flick_run(rt.alloc(), b"cycles 6\nb wait 10")?;
-    assert!(rt; is_cut(&run));
-    Ok(())
+fn flick_is_unstable(rt: HostRuntime) {
+    let run = flick_run(rt.alloc(), b"cycles 6\nb wait 10");
+    assert!(rt; run.is_some_and(|run| is_cut(&run)));
 }
 
 /// It is taken in rows 1 and 3, so no row is unstable.
@@ -65,10 +63,9 @@ fn is_whole(run: &PlainRun) -> bool {
 }
 
 #[test]
-fn flick_is_taken(rt: HostRuntime) -> Result<(), Fail> {
-    let run = flick_run(rt.alloc(), b"cycles 4\nb take all")?;
-    assert!(rt; is_whole(&run));
-    Ok(())
+fn flick_is_taken(rt: HostRuntime) {
+    let run = flick_run(rt.alloc(), b"cycles 4\nb take all");
+    assert!(rt; run.is_some_and(|run| is_whole(&run)));
 }
 
 /// One row, in which nothing is up.
@@ -78,23 +75,21 @@ fn is_one_row(run: &PlainRun) -> bool {
 }
 
 #[test]
-fn one_cycle(rt: HostRuntime) -> Result<(), Fail> {
-    let run = flick_run(rt.alloc(), b"cycles 1")?;
-    assert!(rt; is_one_row(&run));
-    Ok(())
+fn one_cycle(rt: HostRuntime) {
+    let run = flick_run(rt.alloc(), b"cycles 1");
+    assert!(rt; run.is_some_and(|run| is_one_row(&run)));
 }
 
 /// The run of the register stage.
-fn pass_run(alloc: Global, text: &[u8]) -> Result<PlainRun, Fail>
+fn pass_run(alloc: Global, text: &[u8]) -> Option<PlainRun>
     requires { length text.now < 2 ^ 31 }
 {
-    let mut stage = pass(alloc)?;
+    let mut stage = two_channel_stage(alloc, Sample::Pass)?;
     run_script(alloc, &mut stage, text)
 }
 
 #[test]
-fn two_sends_are_played(rt: HostRuntime) -> Result<(), Fail> {
-    let run = pass_run(rt.alloc(), b"cycles 6\na send 5\na send 6\nb take all")?;
-    assert!(rt; run.unstable == None && is_two_sends(run.rows.as_slice()));
-    Ok(())
+fn two_sends_are_played(rt: HostRuntime) {
+    let run = pass_run(rt.alloc(), b"cycles 6\na send 5\na send 6\nb take all");
+    assert!(rt; run.is_some_and(|run| run.unstable == None && is_two_sends(run.rows.as_slice())));
 }

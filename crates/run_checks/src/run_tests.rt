@@ -5,16 +5,15 @@ ghost use Rattle.std.specs.Prelude.{◌≡◌, ◌<◌, ◌^◌, All, IfOk, leng
 ghost use Rattle.trace_model.specs.Row.{AreOffers};
 ghost use Rattle.run_model.specs.Building.{PortsAreNets};
 ghost use Rattle.run_model.specs.MapOf.{IsMapOf};
-ghost use Rattle.run_checks.specs.Stage.{flick_channels, stage_channels};
+ghost use Rattle.sample_designs.specs.Stage.{flick_channels, stage_channels};
 
-use crate::given::{is_row, is_two_sends, two_sends};
+use crate::given::{is_two_sends, two_sends};
 use crate::play::play_shell;
-use crate::stages::{Stage, flick, pass};
 use chan_map::Map;
 use chan_monitor::{Machines, Shell};
 use run_reference::run_rows;
+use sample_designs::{Sample, Stage, flick_stage, is_row, two_channel_stage};
 use std::alloc::Global;
-use std::test::Fail;
 use trace_model::{Offers, Row, Rows};
 use vidi_bits::{Items, Memory, Numbers};
 
@@ -26,36 +25,31 @@ const OPEN: [u128; 6] = [3, 3, 3, 3, 3, 3];
 const SHUT: [u128; 6] = [3, 3, 1, 0, 0, 0];
 
 /// The rows of a stage's run under these offers and gates, by the definitions.
-fn rows_of(
-    alloc: Global,
-    stage: &mut Stage,
-    offers: &[Offers],
-    gates: &[u128],
-) -> Result<Rows, Fail>
+fn rows_of(alloc: Global, stage: &mut Stage, offers: &[Offers], gates: &[u128]) -> Option<Rows>
     requires nets { PortsAreNets stage.old.sim.design }
     requires mapped { IsMapOf stage.old.sim.design stage.old.map }
     requires offers { All (AreOffers stage.old.map.channels) offers.now }
     requires gates { All (λ g. g < 2 ^ length stage.old.map.channels) gates.now }
     requires count { length gates.now ≡ length offers.now }
 {
-    Ok(run_rows(alloc, &mut stage.sim, &stage.map, offers, gates)?)
+    run_rows(alloc, &mut stage.sim, &stage.map, offers, gates).ok()
 }
 
 /// The rows of the register stage under these offers and gates.
-fn pass_rows(alloc: Global, offers: &[Offers], gates: &[u128]) -> Result<Rows, Fail>
+fn pass_rows(alloc: Global, offers: &[Offers], gates: &[u128]) -> Option<Rows>
     requires offers { All (AreOffers stage_channels) offers.now }
     requires gates { All (λ g. g < 4) gates.now }
     requires count { length gates.now ≡ length offers.now }
 {
-    let mut stage = pass(alloc)?;
+    let mut stage = two_channel_stage(alloc, Sample::Pass)?;
     rows_of(alloc, &mut stage, offers, gates)
 }
 
 /// Its rows with two contents offered and all taken.
-fn two_sends_rows(alloc: Global, gates: [u128; 6]) -> Result<Rows, Fail>
+fn two_sends_rows(alloc: Global, gates: [u128; 6]) -> Option<Rows>
     requires { All (λ g. g < 4) gates }
 {
-    let offers = two_sends(alloc)?;
+    let offers = two_sends(alloc).ok()?;
     pass_rows(alloc, offers.as_slice(), &gates)
 }
 
@@ -71,17 +65,15 @@ fn is_one_gate(rows: &[Row]) -> bool {
 }
 
 #[test]
-fn two_sends_pass(rt: HostRuntime) -> Result<(), Fail> {
-    let rows = two_sends_rows(rt.alloc(), OPEN)?;
-    assert!(rt; is_two_sends(rows.as_slice()));
-    Ok(())
+fn two_sends_pass(rt: HostRuntime) {
+    let rows = two_sends_rows(rt.alloc(), OPEN);
+    assert!(rt; rows.is_some_and(|rows| is_two_sends(rows.as_slice())));
 }
 
 #[test]
-fn one_gate_rises(rt: HostRuntime) -> Result<(), Fail> {
-    let rows = two_sends_rows(rt.alloc(), SHUT)?;
-    assert!(rt; is_one_gate(rows.as_slice()));
-    Ok(())
+fn one_gate_rises(rt: HostRuntime) {
+    let rows = two_sends_rows(rt.alloc(), SHUT);
+    assert!(rt; rows.is_some_and(|rows| is_one_gate(rows.as_slice())));
 }
 
 /// Nothing is offered, in one cycle.
@@ -111,17 +103,17 @@ fn idle_offers(alloc: Global) -> Result<Items<Offers>, Memory>
 }
 
 /// The rows of `flick` under these offers, with the gate up.
-fn flick_rows(alloc: Global, offers: &[Offers]) -> Result<Rows, Fail>
+fn flick_rows(alloc: Global, offers: &[Offers]) -> Option<Rows>
     requires offers { All (AreOffers flick_channels) offers.now }
     requires count { length offers.now ≡ 6 }
 {
-    let mut stage = flick(alloc)?;
+    let mut stage = flick_stage(alloc)?;
     rows_of(alloc, &mut stage, offers, &[1; 6])
 }
 
 /// Six cycles of `flick` with nothing offered and the gate up.
-fn flick_run(alloc: Global) -> Result<Rows, Fail> {
-    let offers = idle_offers(alloc)?;
+fn flick_run(alloc: Global) -> Option<Rows> {
+    let offers = idle_offers(alloc).ok()?;
     flick_rows(alloc, offers.as_slice())
 }
 
@@ -136,10 +128,9 @@ fn is_flick_run(rows: &[Row]) -> bool {
 
 // The rows go on behind an unstable one, where a plain run ends.
 #[test]
-fn flick_takes_its_valid_back(rt: HostRuntime) -> Result<(), Fail> {
-    let rows = flick_run(rt.alloc())?;
-    assert!(rt; is_flick_run(rows.as_slice()));
-    Ok(())
+fn flick_takes_its_valid_back(rt: HostRuntime) {
+    let rows = flick_run(rt.alloc());
+    assert!(rt; rows.is_some_and(|rows| is_flick_run(rows.as_slice())));
 }
 
 /// The rows of a shell of a stage from a reset on, with two contents offered and all taken.
@@ -179,26 +170,25 @@ fn shows_one_gate<S: Shell>(alloc: Global, shell: &mut S, map: &Map) -> Result<b
 }
 
 /// Whether a shell shows the rows with all gates up, then those with the gates of the store, and then the first ones again.
-fn begins_again<S: Shell>(alloc: Global, shell: &mut S, map: &Map) -> Result<bool, Fail>
+fn begins_again<S: Shell>(alloc: Global, shell: &mut S, map: &Map) -> Option<bool>
     requires table { map.now.channels ≡ stage_channels }
     requires map { S.map shell.old ≡ map.now }
 {
-    let first = shows_all(alloc, shell, map)?;
-    let shut = shows_one_gate(alloc, shell, map)?;
-    let again = shows_all(alloc, shell, map)?;
-    Ok(first && shut && again)
+    let first = shows_all(alloc, shell, map).ok()?;
+    let shut = shows_one_gate(alloc, shell, map).ok()?;
+    let again = shows_all(alloc, shell, map).ok()?;
+    Some(first && shut && again)
 }
 
 /// The same of monitors round the register stage.
-fn pass_begins_again(alloc: Global) -> Result<bool, Fail> {
-    let Stage { sim, map } = pass(alloc)?;
-    let mut shell = Machines::new(alloc, sim, &map)?;
+fn pass_begins_again(alloc: Global) -> Option<bool> {
+    let Stage { sim, map } = two_channel_stage(alloc, Sample::Pass)?;
+    let mut shell = Machines::new(alloc, sim, &map).ok()?;
     begins_again(alloc, &mut shell, &map)
 }
 
 // The gates of the store leave a content in the stage.
 #[test]
-fn a_reset_shell_begins_again(rt: HostRuntime) -> Result<(), Fail> {
-    assert!(rt; pass_begins_again(rt.alloc())?);
-    Ok(())
+fn a_reset_shell_begins_again(rt: HostRuntime) {
+    assert!(rt; pass_begins_again(rt.alloc()) == Some(true));
 }

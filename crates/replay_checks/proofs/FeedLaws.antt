@@ -1,0 +1,9 @@
+-- Feeds of the stage's channels.
+use Rattle.std.proofs.Common.{◌≡◌, ℕ, ◌<◌, List, [], ◌∷◌, arith, refl}
+use Rattle.chan_replayer.specs.declared.feed.Feed.{Feed}
+use Rattle.chan_replayer.specs.Feed.{IsFeedOver}
+use Rattle.sample_designs.specs.Stage.{stage_channels}
+
+pub feed_over : (more a b c d content : ℕ) → more < 4 → content < 256
+    → IsFeedOver stage_channels (record { more = more; needs = a ∷ b ∷ c ∷ d ∷ []; contents = content ∷ 0 ∷ [] })
+feed_over more a b c d content m l = record { more = m; needs = refl; contents = (l, (omega arith, tt)) }

@@ -1,0 +1,2 @@
+mod FeedLaws
+mod Given

@@ -1,0 +1,17 @@
+//! Tests of replays: of the definitions' rows and lists, of replayers round a design, and of `replay` against both.
+#![tactic(auto)]
+
+#[cfg(test)]
+mod agreeing;
+#[cfg(test)]
+mod example_tests;
+#[cfg(test)]
+mod reference_tests;
+#[cfg(test)]
+mod replayer_tests;
+#[cfg(test)]
+mod trace_tests;
+#[cfg(test)]
+mod traces;
+#[cfg(test)]
+mod watched;

@@ -1,0 +1,10 @@
+//! Small designs that tests run, as texts with their maps, and how tests compare rows.
+#![tactic(auto)]
+
+mod rows;
+mod stages;
+mod texts;
+
+pub use rows::is_row;
+pub use stages::{Stage, flick_stage, sample_stage, stage_channels, two_channel_stage};
+pub use texts::Sample;

@@ -1,0 +1,9 @@
+//! How rows are compared.
+
+use trace_model::Row;
+
+/// Whether a row has these gates, valids, readies, starts and ends, and these contents.
+pub fn is_row(row: &Row, masks: [u128; 5], contents: &[u128]) -> bool {
+    [row.gates, row.valids, row.readies, row.starts, row.ends] == masks
+        && row.contents.as_slice() == contents
+}
