@@ -1,0 +1,4 @@
+pub mod Sequence
+pub mod Design
+pub mod Joint
+pub mod Sample

@@ -1,0 +1,17 @@
+//! The files of a sample: for each number up to 6,000 a design, its map, a script and a plan of stalls.
+//!
+//! `specs/` spells them. The design is a chain of one to eight registers, each with a valid and a ready on both sides; what the script
+//! sends and how the store drains comes from a sequence of numbers that the sample's number begins.
+#![tactic(auto)]
+
+mod design;
+mod files;
+mod generate;
+mod joint;
+mod script;
+mod sequence;
+#[cfg(test)]
+mod tests;
+
+pub use files::Sample;
+pub use generate::{LARGEST, sample};
