@@ -1,5 +1,5 @@
 -- What the design's ports are joined to in the tops.
-use Rattle.std.specs.Prelude.{ℕ, ◌+◌, List, [], ◌∷◌, ◌++◌, map, codes, Option, None, Some, option_map}
+use Rattle.std.specs.Prelude.{ℕ, List, [], ◌∷◌, ◌++◌, map, codes, Option, None, Some, option_map, slice_get}
 use Rattle.std.specs.List.{flat_map}
 use Rattle.std.specs.Option.{option_to_list}
 use Rattle.vlog_size.specs.Table.{Named, value_of}
@@ -12,7 +12,7 @@ use Rattle.chan_map.specs.declared.pins.Pin.{Pin}
 use Rattle.chan_map.specs.declared.pins.Plug.{Plug}
 use Rattle.chan_map.specs.declared.pins.Reset.{Reset}
 use Rattle.chan_map.specs.declared.pins.Tie.{Tie}
-use Rattle.shim_trees.specs.Pieces.{Name, numbered, numbered_twice, each, ident, net, input, wire, instance}
+use Rattle.shim_trees.specs.Pieces.{Name, numbered, numbered_twice, each, each_some, ident, net, input, wire, instance}
 
 -- this pin is joined to this net
 abbrev pub link : Pin → Name → Named Name
@@ -35,16 +35,17 @@ plug_links valid ready n Outward plug =
     link plug.valid (numbered (codes "v_") n) ∷ link plug.ready (numbered ready n)
     ∷ each (λ i pin. link pin (numbered_twice (codes "d_") n i)) 0 plug.contents
 
-abbrev pub links_from : Name → Name → ℕ → List Channel → List Plug → List (Named Name)
-links_from valid ready n (c ∷ channels) (plug ∷ plugs) =
-    plug_links valid ready n c.dir plug ++ links_from valid ready (n + 1) channels plugs
-links_from valid ready n channels plugs = []
+-- of channel n, whose pins are this plug
+abbrev pub channel_links : Name → Name → ℕ → Dir → Option Plug → List (Named Name)
+channel_links valid ready n dir None = []
+channel_links valid ready n dir (Some plug) = plug_links valid ready n dir plug
 
 -- the links of all pins of a map
 abbrev pub links : Name → Name → Map → List (Named Name)
 links valid ready m =
     link m.clock (codes "clk") ∷ (map (λ (r : Reset). tied_link r.pin) (option_to_list m.reset)
-    ++ (map (λ (t : Tie). tied_link t.pin) m.ties ++ links_from valid ready 0 m.channels m.plugs))
+    ++ (map (λ (t : Tie). tied_link t.pin) m.ties
+    ++ each_some (λ n (c : Channel). channel_links valid ready n c.dir (slice_get m.plugs n)) 0 m.channels))
 
 abbrev pub record_links : Map → List (Named Name)
 record_links m = links (codes "w_") (codes "w_") m
@@ -53,18 +54,25 @@ abbrev pub replay_links : Map → List (Named Name)
 replay_links m = links (codes "v_") (codes "r_") m
 
 -- the widths of the reset and the ties
+abbrev pub reset_width : Reset → Named ℕ
+reset_width r = record { name = r.pin.name; value = 1 }
+
+abbrev pub tie_width : Tie → Named ℕ
+tie_width t = record { name = t.pin.name; value = t.width }
+
 abbrev pub held : Map → List (Named ℕ)
-held m =
-    map (λ (r : Reset). record { name = r.pin.name; value = 1 }) (option_to_list m.reset)
-    ++ map (λ (t : Tie). record { name = t.pin.name; value = t.width }) m.ties
+held m = map reset_width (option_to_list m.reset) ++ map tie_width m.ties
 
 abbrev pub tied_input : Name → Option ℕ → List (PortOf ℕ)
 tied_input x None = []
 tied_input x (Some width) = input (tied x) width ∷ []
 
+abbrev pub tied_port : List (Named ℕ) → PortOf ℕ → List (PortOf ℕ)
+tied_port widths p = tied_input p.id.name (value_of widths p.id.name)
+
 -- an input for each port of the design that is the reset or a tie, in port order
 abbrev pub tied_ports : Map → List (PortOf ℕ) → List (PortOf ℕ)
-tied_ports m ports = flat_map (λ (p : PortOf ℕ). tied_input p.id.name (value_of (held m) p.id.name)) ports
+tied_ports m ports = flat_map (tied_port (held m)) ports
 
 -- an ignored output is joined to nothing
 abbrev pub dut_conn : List (Named Name) → PortOf ℕ → ConnOf ℕ
