@@ -7,7 +7,7 @@ ghost use Rattle.shim_trees.specs.Links as spec;
 
 use crate::conns::{add_joined, add_unjoined};
 use crate::items::add_instance;
-use crate::links::{Bases, held_widths, nets_of};
+use crate::links::{held_widths, nets_of};
 use crate::names::{named, tied};
 use crate::ports::{INPUT, add_port};
 use chan_map::Map;
@@ -52,15 +52,16 @@ fn add_ports_of(
 }
 
 /// Adds the inputs for the reset and the ties, in the order of the design's ports.
+#[tactic(auto, using(crate::proofs::Tables::tied_by_table))]
 pub fn add_tied_ports(
     alloc: Global,
     ports: &mut Ports,
-    map: &Map,
+    pins: &Map,
     design: &[Port],
 ) -> Result<(), Memory>
-    ensures { OnOk result (map plain_port ports.new ≡ map plain_port ports.old ++ spec.tied_ports map.now (map plain_port design.now)) }
+    ensures { OnOk result (map plain_port ports.new ≡ map plain_port ports.old ++ spec.tied_ports pins.now (map plain_port design.now)) }
 {
-    let widths = held_widths(alloc, map)?;
+    let widths = held_widths(alloc, pins)?;
     add_ports_of(alloc, ports, &widths, design)
 }
 
@@ -95,19 +96,21 @@ fn design_conns(alloc: Global, nets: &Table<Name>, ports: &[Port]) -> Result<Con
 }
 
 /// Adds the instance `dut` of the design, whose top has these ports.
+#[tactic(auto, using(crate::proofs::Tables::dut_by_table))]
 pub fn add_design(
     alloc: Global,
     items: &mut Items<Item>,
-    bases: Bases<'_>,
-    map: &Map,
+    valid: &str,
+    ready: &str,
+    pins: &Map,
     ports: &[Port],
 ) -> Result<(), Memory>
     ensures { OnOk result (map plain_item items.new ≡ map plain_item items.old
-        ++ spec.dut (spec.links bases.valid.now bases.ready.now map.now) map.now.top (map plain_port ports.now) ∷ []) }
+        ++ spec.dut (spec.links valid.now ready.now pins.now) pins.now.top (map plain_port ports.now) ∷ []) }
 {
-    let nets = nets_of(alloc, bases, map)?;
+    let nets = nets_of(alloc, valid, ready, pins)?;
     let conns = design_conns(alloc, &nets, ports)?;
-    let kind = copied(alloc, map.top.as_slice())?;
+    let kind = copied(alloc, pins.top.as_slice())?;
     let name = named(alloc, "dut")?;
     add_instance(alloc, items, kind, name, conns)
 }

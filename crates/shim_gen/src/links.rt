@@ -2,7 +2,6 @@
 
 ghost use Rattle.std.specs.Prelude.{◌≡◌, ◌++◌, [], ◌∷◌, ℕ, List, IfOk, OnOk, map, slice_get};
 ghost use Rattle.std.specs.Option.{option_copied, option_to_list};
-ghost use Rattle.vlog_size.specs.Table.{value_of};
 ghost use Rattle.chan_map.specs.declared.pins.Tie.{Tie as TieRecord};
 ghost use Rattle.chan_map.specs.declared.pins.Reset.{Reset as ResetRecord};
 ghost use Rattle.trace_model.specs.declared.channel.Channel.{Channel as ChannelRecord};
@@ -10,6 +9,7 @@ ghost use Rattle.trace_model.specs.declared.channel.Dir.TheVariants as dir;
 ghost use Rattle.shim_trees.specs.Pieces as pieces;
 ghost use Rattle.shim_trees.specs.Links as spec;
 ghost use Rattle.shim_gen.specs.Plain.{plain_link};
+ghost use Rattle.shim_gen.specs.Tables.{with_entries};
 
 use crate::names::{named, numbered, numbered_twice, tied};
 use chan_map::{Map, Pin, Plug, Plugs, Reset, Tie};
@@ -154,68 +154,64 @@ fn add_outward_links(
 fn add_channel_links(
     alloc: Global,
     links: &mut Links,
-    bases: Bases<'_>,
+    valid: &str,
+    ready: &str,
     n: usize,
     dir: Dir,
     plug: Option<&Plug>,
 ) -> Result<(), Memory>
     ensures { OnOk result (map plain_link links.new ≡ map plain_link links.old
-        ++ spec.channel_links bases.valid.now bases.ready.now n dir (option_copied plug)) }
+        ++ spec.channel_links valid.now ready.now n dir (option_copied plug)) }
 {
     match (plug, dir) {
         (None, _) => Ok(()),
-        (Some(plug), Dir::Inward) => add_inward_links(alloc, links, bases.valid, n, plug),
-        (Some(plug), Dir::Outward) => add_outward_links(alloc, links, bases.ready, n, plug),
+        (Some(plug), Dir::Inward) => add_inward_links(alloc, links, valid, n, plug),
+        (Some(plug), Dir::Outward) => add_outward_links(alloc, links, ready, n, plug),
     }
-}
-
-/// How the names begin of the nets that an inward channel's valid and an outward channel's ready are joined to.
-#[derive(Clone, Copy)]
-pub struct Bases<'a> {
-    pub valid: &'a str,
-    pub ready: &'a str,
 }
 
 /// Adds the links of all channels.
 fn add_all_channel_links(
     alloc: Global,
     links: &mut Links,
-    bases: Bases<'_>,
+    valid: &str,
+    ready: &str,
     channels: &[Channel],
     plugs: &Plugs,
 ) -> Result<(), Memory>
     ensures { OnOk result (map plain_link links.new ≡ map plain_link links.old
-        ++ pieces.each_some (λ n (c : ChannelRecord). spec.channel_links bases.valid.now bases.ready.now n c.dir (slice_get plugs.now n)) 0
+        ++ pieces.each_some (λ n (c : ChannelRecord). spec.channel_links valid.now ready.now n c.dir (slice_get plugs.now n)) 0
         channels.now) }
 {
     for (n, channel) in channels.iter().enumerate() {
-        add_channel_links(alloc, links, bases, n, channel.dir, plugs.get(n))?;
+        add_channel_links(alloc, links, valid, ready, n, channel.dir, plugs.get(n))?;
     }
     Ok(())
 }
 
 /// The links of all pins of a map.
-fn links_of(alloc: Global, bases: Bases<'_>, map: &Map) -> Result<Links, Memory>
-    ensures { IfOk result (λ ls. map plain_link ls ≡ spec.links bases.valid.now bases.ready.now map.now) }
+fn links_of(alloc: Global, valid: &str, ready: &str, pins: &Map) -> Result<Links, Memory>
+    ensures { IfOk result (λ ls. map plain_link ls ≡ spec.links valid.now ready.now pins.now) }
 {
     let mut links = Items::new(alloc);
     let clock = named(alloc, "clk")?;
-    add_link(alloc, &mut links, &map.clock, clock)?;
-    add_reset_link(alloc, &mut links, &map.reset)?;
-    add_tie_links(alloc, &mut links, map.ties.as_slice())?;
+    add_link(alloc, &mut links, &pins.clock, clock)?;
+    add_reset_link(alloc, &mut links, &pins.reset)?;
+    add_tie_links(alloc, &mut links, pins.ties.as_slice())?;
     add_all_channel_links(
         alloc,
         &mut links,
-        bases,
-        map.channels.as_slice(),
-        &map.plugs,
+        valid,
+        ready,
+        pins.channels.as_slice(),
+        &pins.plugs,
     )?;
     Ok(links)
 }
 
 /// The nets by pin; of links of one pin the first.
 fn table_of(alloc: Global, links: &[Link]) -> Result<Table<Name>, Memory>
-    ensures { IfOk result (λ nets. (q : List ℕ) → value_of nets q ≡ value_of (map plain_link links.now) q) }
+    ensures { IfOk result (λ nets. nets ≡ with_entries [] (map plain_link links.now)) }
 {
     let mut nets = Table::new(alloc);
     for link in links {
@@ -227,10 +223,10 @@ fn table_of(alloc: Global, links: &[Link]) -> Result<Table<Name>, Memory>
 }
 
 /// The net that each pin of a map is joined to, by the pin's name.
-pub fn nets_of(alloc: Global, bases: Bases<'_>, map: &Map) -> Result<Table<Name>, Memory>
-    ensures { IfOk result (λ nets. (q : List ℕ) → value_of nets q ≡ value_of (spec.links bases.valid.now bases.ready.now map.now) q) }
+pub fn nets_of(alloc: Global, valid: &str, ready: &str, pins: &Map) -> Result<Table<Name>, Memory>
+    ensures { IfOk result (λ nets. nets ≡ with_entries [] (spec.links valid.now ready.now pins.now)) }
 {
-    let links = links_of(alloc, bases, map)?;
+    let links = links_of(alloc, valid, ready, pins)?;
     table_of(alloc, links.as_slice())
 }
 
@@ -240,8 +236,7 @@ fn add_reset_width(
     widths: &mut Table<u32>,
     reset: &Option<Reset>,
 ) -> Result<(), Memory>
-    requires { widths.old ≡ [] }
-    ensures { OnOk result (widths.new ≡ map spec.reset_width (option_to_list reset.now)) }
+    ensures { OnOk result (widths.new ≡ with_entries widths.old (map spec.reset_width (option_to_list reset.now))) }
 {
     match reset {
         None => Ok(()),
@@ -253,12 +248,13 @@ fn add_reset_width(
 }
 
 /// The widths of the reset and the ties of a map, by name.
-pub fn held_widths(alloc: Global, map: &Map) -> Result<Table<u32>, Memory>
-    ensures { IfOk result (λ widths. (q : List ℕ) → value_of widths q ≡ value_of (spec.held map.now) q) }
+#[tactic(auto, using(crate::proofs::Tables::entries_append))]
+pub fn held_widths(alloc: Global, pins: &Map) -> Result<Table<u32>, Memory>
+    ensures { IfOk result (λ widths. widths ≡ with_entries [] (spec.held pins.now)) }
 {
     let mut widths = Table::new(alloc);
-    add_reset_width(alloc, &mut widths, &map.reset)?;
-    for tie in map.ties.as_slice() {
+    add_reset_width(alloc, &mut widths, &pins.reset)?;
+    for tie in pins.ties.as_slice() {
         let pin = copied(alloc, tie.pin.name.as_slice())?;
         widths.push(pin, tie.width)?;
     }

@@ -76,7 +76,7 @@ fn monitor_items(alloc: Global, widths: &[u8]) -> Result<Items<Item>, Memory>
 /// The monitor of channel n (from 0): the module `vidi_m_n`, which holds valid and ready back while the gate `g` is shut, shows content 0
 /// behind it, and tells starts and completions.
 pub fn monitor_tree(alloc: Global, channel: &Channel, n: usize) -> Result<Module, Memory>
-    ensures { IfOk result (λ module. plain_module module ≡ spec.monitor n channel.now.widths) }
+    ensures { IfOk result (λ tree. plain_module tree ≡ spec.monitor n channel.now.widths) }
 {
     let widths = channel.widths.as_slice();
     let ports = monitor_ports(alloc, widths)?;

@@ -34,7 +34,7 @@ pub fn numbered_twice(alloc: Global, base: &str, n: usize, i: usize) -> Result<N
 pub fn tied(alloc: Global, name: &[u8]) -> Result<Name, Memory>
     ensures { IfOk result (λ x. x ≡ links.tied name.now) }
 {
-    let mut text = Vec::from_slice(alloc, b"t_")?;
+    let mut text = Vec::from_slice(alloc, b"t_".as_slice())?;
     text.extend_from_slice(name)?;
     Ok(Items::from_vec(text))
 }

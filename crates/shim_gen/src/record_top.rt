@@ -10,7 +10,6 @@ use crate::conns::{
 };
 use crate::design::{add_design, add_tied_ports};
 use crate::items::{add_content_wires, add_instance, add_wire};
-use crate::links::Bases;
 use crate::names::{named, numbered};
 use crate::ports::{
     INPUT, OUTPUT, add_bit, add_channel_contents, add_numbered, sink_side, source_side,
@@ -168,37 +167,33 @@ fn add_monitors(
 }
 
 /// The ports of the top.
-fn top_ports(alloc: Global, map: &Map, design: &[Port]) -> Result<Ports, Memory>
-    ensures { IfOk result (λ ports. map plain_port ports ≡ (spec.record_top map.now (map plain_port design.now)).ports) }
+fn top_ports(alloc: Global, pins: &Map, design: &[Port]) -> Result<Ports, Memory>
+    ensures { IfOk result (λ ports. map plain_port ports ≡ (spec.record_top pins.now (map plain_port design.now)).ports) }
 {
     let mut ports = Items::new(alloc);
     add_bit(alloc, &mut ports, INPUT, "clk")?;
-    add_tied_ports(alloc, &mut ports, map, design)?;
-    add_all_channel_ports(alloc, &mut ports, map.channels.as_slice())?;
+    add_tied_ports(alloc, &mut ports, pins, design)?;
+    add_all_channel_ports(alloc, &mut ports, pins.channels.as_slice())?;
     Ok(ports)
 }
 
 /// The items of the top.
-fn top_items(alloc: Global, map: &Map, design: &[Port]) -> Result<Items<Item>, Memory>
-    ensures { IfOk result (λ items. map plain_item items ≡ (spec.record_top map.now (map plain_port design.now)).items) }
+fn top_items(alloc: Global, pins: &Map, design: &[Port]) -> Result<Items<Item>, Memory>
+    ensures { IfOk result (λ items. map plain_item items ≡ (spec.record_top pins.now (map plain_port design.now)).items) }
 {
-    let bases = Bases {
-        valid: "w_",
-        ready: "w_",
-    };
     let mut items = Items::new(alloc);
-    add_all_channel_wires(alloc, &mut items, map.channels.as_slice())?;
-    add_design(alloc, &mut items, bases, map, design)?;
-    add_monitors(alloc, &mut items, map.channels.as_slice())?;
+    add_all_channel_wires(alloc, &mut items, pins.channels.as_slice())?;
+    add_design(alloc, &mut items, "w_", "w_", pins, design)?;
+    add_monitors(alloc, &mut items, pins.channels.as_slice())?;
     Ok(items)
 }
 
 /// The top that records, round a design whose top has the ports `design`: the module `vidi_record_top`.
-pub fn record_top(alloc: Global, map: &Map, design: &[Port]) -> Result<Module, Memory>
-    ensures { IfOk result (λ top. plain_module top ≡ spec.record_top map.now (map plain_port design.now)) }
+pub fn record_top(alloc: Global, pins: &Map, design: &[Port]) -> Result<Module, Memory>
+    ensures { IfOk result (λ top. plain_module top ≡ spec.record_top pins.now (map plain_port design.now)) }
 {
-    let ports = top_ports(alloc, map, design)?;
-    let items = top_items(alloc, map, design)?;
+    let ports = top_ports(alloc, pins, design)?;
+    let items = top_items(alloc, pins, design)?;
     let name = named(alloc, "vidi_record_top")?;
     Ok(Module {
         name,

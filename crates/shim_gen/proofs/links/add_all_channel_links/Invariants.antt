@@ -7,4 +7,4 @@ use Rattle.shim_gen.proofs.links.add_all_channel_links.Given as goal
 
 abbrev pub invariant-loop-n : goal.invariant-loop-n
 invariant-loop-n l =
-    map plain_link l.links ++ each_some (λ n (c : Channel). channel_links l.bases.valid.now l.bases.ready.now n c.dir (slice_get l.plugs n)) l.n (drop l.n l.channels) ≡ map plain_link l.initial.links ++ each_some (λ n (c : Channel). channel_links l.bases.valid.now l.bases.ready.now n c.dir (slice_get l.plugs n)) 0 l.channels
+    map plain_link l.links ++ each_some (λ n (c : Channel). channel_links l.valid l.ready n c.dir (slice_get l.plugs n)) l.n (drop l.n l.channels) ≡ map plain_link l.initial.links ++ each_some (λ n (c : Channel). channel_links l.valid l.ready n c.dir (slice_get l.plugs n)) 0 l.channels
