@@ -161,7 +161,7 @@ fn add_channel_links(
     plug: Option<&Plug>,
 ) -> Result<(), Memory>
     ensures { OnOk result (map plain_link links.new ≡ map plain_link links.old
-        ++ spec.channel_links valid.now ready.now n dir (option_copied plug)) }
+        ++ spec.channel_links valid.now ready.now n dir (option_copied plug.entry)) }
 {
     match (plug, dir) {
         (None, _) => Ok(()),
