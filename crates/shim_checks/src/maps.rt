@@ -60,7 +60,14 @@ fn add_channel(
 pub fn stage_map(alloc: Global) -> Result<Map, Memory> {
     let mut map = bare_map(alloc, "pass")?;
     add_channel(alloc, &mut map, Dir::Inward, ["a_v", "a_r"], &["a_d"], &[8])?;
-    add_channel(alloc, &mut map, Dir::Outward, ["b_v", "b_r"], &["b_d"], &[8])?;
+    add_channel(
+        alloc,
+        &mut map,
+        Dir::Outward,
+        ["b_v", "b_r"],
+        &["b_d"],
+        &[8],
+    )?;
     Ok(map)
 }
 

@@ -15,7 +15,8 @@ endmodule
 ";
 
 /// The stage with its shims.
-pub const WRAPPED_STAGE: &[u8] = b"module pass ( input clk , input a_v , output a_r , input [ 7 : 0 ] a_d , output b_v , input b_r , output [ 7 : 0 ] b_d ) ;
+pub const WRAPPED_STAGE: &[u8] =
+    b"module pass ( input clk , input a_v , output a_r , input [ 7 : 0 ] a_d , output b_v , input b_r , output [ 7 : 0 ] b_d ) ;
 reg full ;
 reg [ 7 : 0 ] d ;
 assign a_r = ! full ;
@@ -83,14 +84,16 @@ endmodule
 ";
 
 /// A design with a reset, an input that is tied, a channel without content and an output that is ignored.
-pub const HELD: &[u8] = b"module few(input clk, input [3:0] mode, input rst, input a_v, output a_r, output spare);
+pub const HELD: &[u8] =
+    b"module few(input clk, input [3:0] mode, input rst, input a_v, output a_r, output spare);
   assign a_r = ~rst;
   assign spare = mode[0];
 endmodule
 ";
 
 /// The same with its shims.
-pub const WRAPPED_HELD: &[u8] = b"module few ( input clk , input [ 3 : 0 ] mode , input rst , input a_v , output a_r , output spare ) ;
+pub const WRAPPED_HELD: &[u8] =
+    b"module few ( input clk , input [ 3 : 0 ] mode , input rst , input a_v , output a_r , output spare ) ;
 assign a_r = ~ rst ;
 assign spare = mode [ 0 ] ;
 endmodule

@@ -63,7 +63,8 @@ fn is_reserved(alloc: Global, text: &[u8], reserved: &[u8]) -> Result<bool, Fail
 #[test]
 fn names_are_kept(rt: HostRuntime) -> Result<(), Fail> {
     let alloc = rt.alloc();
-    let first = b"module vidi(); endmodule module vidi_x(); endmodule module vidi_(); endmodule".as_slice();
+    let first =
+        b"module vidi(); endmodule module vidi_x(); endmodule module vidi_(); endmodule".as_slice();
     assert!(rt; is_reserved(alloc, first, b"vidi_x".as_slice())?);
     let bare = b"module Vidi_x(); endmodule module vidi_(); endmodule".as_slice();
     assert!(rt; is_reserved(alloc, bare, b"vidi_".as_slice())?);

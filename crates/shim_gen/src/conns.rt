@@ -101,12 +101,7 @@ pub fn add_contents(
 }
 
 /// Adds `. port0 ( )`, where 0 is `i`.
-fn add_unread_content(
-    alloc: Global,
-    conns: &mut Conns,
-    port: &str,
-    i: usize,
-) -> Result<(), Memory>
+fn add_unread_content(alloc: Global, conns: &mut Conns, port: &str, i: usize) -> Result<(), Memory>
     ensures { OnOk result (map plain_conn conns.new
         ≡ map plain_conn conns.old ++ pieces.unjoined (pieces.numbered port.now i) ∷ []) }
 {

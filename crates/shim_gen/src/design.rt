@@ -95,8 +95,24 @@ fn design_conns(alloc: Global, nets: &Table<Name>, ports: &[Port]) -> Result<Con
     Ok(conns)
 }
 
+/// Adds the instance `dut` of the design of this name, whose ports are joined to these nets.
+fn add_dut(
+    alloc: Global,
+    items: &mut Items<Item>,
+    nets: &Table<Name>,
+    kind: &[u8],
+    ports: &[Port],
+) -> Result<(), Memory>
+    ensures { OnOk result (map plain_item items.new ≡ map plain_item items.old
+        ++ spec.dut nets.now kind.now (map plain_port ports.now) ∷ []) }
+{
+    let conns = design_conns(alloc, nets, ports)?;
+    let kind = copied(alloc, kind)?;
+    let name = named(alloc, "dut")?;
+    add_instance(alloc, items, kind, name, conns)
+}
+
 /// Adds the instance `dut` of the design, whose top has these ports.
-#[tactic(auto, using(crate::proofs::Tables::dut_by_table))]
 pub fn add_design(
     alloc: Global,
     items: &mut Items<Item>,
@@ -109,8 +125,5 @@ pub fn add_design(
         ++ spec.dut (spec.links valid.now ready.now pins.now) pins.now.top (map plain_port ports.now) ∷ []) }
 {
     let nets = nets_of(alloc, valid, ready, pins)?;
-    let conns = design_conns(alloc, &nets, ports)?;
-    let kind = copied(alloc, pins.top.as_slice())?;
-    let name = named(alloc, "dut")?;
-    add_instance(alloc, items, kind, name, conns)
+    add_dut(alloc, items, &nets, pins.top.as_slice(), ports)
 }

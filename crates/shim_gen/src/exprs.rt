@@ -81,10 +81,7 @@ fn number(alloc: Global, n: u32) -> Result<Expr, Memory>
     ensures { IfOk result (λ e. plain_expr e ≡ pieces.number n) }
 {
     let text = format!(in alloc; "{n}")?;
-    Ok(number_of(
-        NumberKind::Decimal,
-        Items::from_vec(text.into_bytes()),
-    ))
+    Ok(number_of(NumberKind::Decimal, Items::from_vec(text.into_bytes())))
 }
 
 /// `W'd0`
@@ -92,10 +89,7 @@ pub fn zero_of(alloc: Global, width: u32) -> Result<Expr, Memory>
     ensures { IfOk result (λ e. plain_expr e ≡ pieces.zero_of width) }
 {
     let text = format!(in alloc; "{width}'d0")?;
-    Ok(number_of(
-        NumberKind::Based,
-        Items::from_vec(text.into_bytes()),
-    ))
+    Ok(number_of(NumberKind::Based, Items::from_vec(text.into_bytes())))
 }
 
 /// `left op right`

@@ -6,14 +6,12 @@ ghost use Rattle.vlog_tree.specs.Tree.{ChoiceExpr};
 ghost use Rattle.shim_trees.specs.Pieces as pieces;
 ghost use Rattle.shim_trees.specs.Links.{content_wires};
 
-use crate::exprs::{both_nets, ident, net, range_of, target, zero_of};
+use crate::exprs::{both_nets, ident, net, one_without, range_of, target, zero_of};
 use crate::names::{named, numbered, numbered_twice};
 use std::alloc::Global;
 use trace_model::Dir;
 use vidi_bits::{Items, Memory, Name};
-use vlog_tree::{
-    Always, Assign, AssignOp, Body, Conns, Event, Expr, Instance, Item, Reg1, Stmt,
-};
+use vlog_tree::{Always, Assign, AssignOp, Body, Conns, Event, Expr, Instance, Item, Reg1, Stmt};
 
 /// Adds `wire name ;`, of `width` bits.
 pub fn add_wire(
@@ -31,12 +29,7 @@ pub fn add_wire(
 }
 
 /// Adds `reg name ;`, of `width` bits.
-pub fn add_reg(
-    alloc: Global,
-    items: &mut Items<Item>,
-    name: Name,
-    width: u32,
-) -> Result<(), Memory>
+pub fn add_reg(alloc: Global, items: &mut Items<Item>, name: Name, width: u32) -> Result<(), Memory>
     ensures { OnOk result (map plain_item items.new ≡ map plain_item items.old ++ pieces.reg name width ∷ []) }
 {
     let mut regs = Items::new(alloc);
@@ -81,6 +74,22 @@ pub fn add_both(
     add_assign(alloc, items, name, value)
 }
 
+/// Adds `assign name = left & ~ right ;`.
+pub fn add_one_without(
+    alloc: Global,
+    items: &mut Items<Item>,
+    name: &str,
+    left: &str,
+    right: &str,
+) -> Result<(), Memory>
+    ensures { OnOk result (map plain_item items.new ≡ map plain_item items.old
+        ++ pieces.assign name.now (pieces.both (pieces.net left.now) (pieces.not_net right.now)) ∷ []) }
+{
+    let value = one_without(alloc, left, right)?;
+    let name = named(alloc, name)?;
+    add_assign(alloc, items, name, value)
+}
+
 /// `name <= value ;`
 pub fn next(name: Name, value: Expr) -> Stmt
     ensures { plain_stmt result ≡ pieces.next name (plain_expr value) }
@@ -103,6 +112,22 @@ pub fn add_at_clock(alloc: Global, items: &mut Items<Item>, body: Stmt) -> Resul
         event: Event::Posedge(ident(clock)),
         body,
     }))
+}
+
+/// Adds `always @ ( posedge clk ) name <= left & ~ right ;`.
+pub fn add_next(
+    alloc: Global,
+    items: &mut Items<Item>,
+    name: &str,
+    left: &str,
+    right: &str,
+) -> Result<(), Memory>
+    ensures { OnOk result (map plain_item items.new ≡ map plain_item items.old
+        ++ pieces.at_clock (pieces.next name.now (pieces.both (pieces.net left.now) (pieces.not_net right.now))) ∷ []) }
+{
+    let value = one_without(alloc, left, right)?;
+    let name = named(alloc, name)?;
+    add_at_clock(alloc, items, next(name, value))
 }
 
 /// Adds `kind name ( .. ) ;`.

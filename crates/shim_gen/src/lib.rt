@@ -13,7 +13,12 @@ mod links;
 mod monitor;
 mod names;
 mod ports;
-pub mod record_top;
+mod record_top;
+mod replay_top;
+mod replayer;
+mod wrapping;
 
 pub use error::WrapError;
 pub use monitor::monitor_tree;
+pub use replayer::replayer_tree;
+pub use wrapping::wrap;

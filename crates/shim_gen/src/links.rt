@@ -93,11 +93,7 @@ fn add_tied_link(alloc: Global, links: &mut Links, pin: &Pin) -> Result<(), Memo
 }
 
 /// Adds the link of the reset, where there is one.
-fn add_reset_link(
-    alloc: Global,
-    links: &mut Links,
-    reset: &Option<Reset>,
-) -> Result<(), Memory>
+fn add_reset_link(alloc: Global, links: &mut Links, reset: &Option<Reset>) -> Result<(), Memory>
     ensures { OnOk result (map plain_link links.new ≡ map plain_link links.old
         ++ map (λ (r : ResetRecord). spec.tied_link r.pin) (option_to_list reset.now)) }
 {
@@ -150,6 +146,25 @@ fn add_outward_links(
     add_content_links(alloc, links, plug.contents.as_slice(), "d_", n)
 }
 
+/// Adds the links of channel n.
+fn add_plug_links(
+    alloc: Global,
+    links: &mut Links,
+    valid: &str,
+    ready: &str,
+    n: usize,
+    dir: Dir,
+    plug: &Plug,
+) -> Result<(), Memory>
+    ensures { OnOk result (map plain_link links.new ≡ map plain_link links.old
+        ++ spec.plug_links valid.now ready.now n dir plug.now) }
+{
+    match dir {
+        Dir::Inward => add_inward_links(alloc, links, valid, n, plug),
+        Dir::Outward => add_outward_links(alloc, links, ready, n, plug),
+    }
+}
+
 /// Adds the links of channel n, where it has a plug.
 fn add_channel_links(
     alloc: Global,
@@ -163,10 +178,9 @@ fn add_channel_links(
     ensures { OnOk result (map plain_link links.new ≡ map plain_link links.old
         ++ spec.channel_links valid.now ready.now n dir (option_copied plug.entry)) }
 {
-    match (plug, dir) {
-        (None, _) => Ok(()),
-        (Some(plug), Dir::Inward) => add_inward_links(alloc, links, valid, n, plug),
-        (Some(plug), Dir::Outward) => add_outward_links(alloc, links, ready, n, plug),
+    match plug {
+        None => Ok(()),
+        Some(plug) => add_plug_links(alloc, links, valid, ready, n, dir, plug),
     }
 }
 

@@ -5,8 +5,7 @@ ghost use Rattle.vlog_tree.specs.Plain.{plain_port, plain_item, plain_module};
 ghost use Rattle.shim_trees.specs.Pieces as pieces;
 ghost use Rattle.shim_trees.specs.Monitor as spec;
 
-use crate::exprs::one_without;
-use crate::items::{add_assign, add_at_clock, add_both, add_gated_contents, add_reg, next};
+use crate::items::{add_both, add_gated_contents, add_next, add_one_without, add_reg};
 use crate::names::{named, numbered};
 use crate::ports::{INPUT, OUTPUT, add_bit, add_contents};
 use std::alloc::Global;
@@ -39,37 +38,31 @@ fn add_flight(alloc: Global, items: &mut Items<Item>) -> Result<(), Memory>
     add_reg(alloc, items, name, 1)
 }
 
-/// Adds `assign start = kv & ~ fly ;`.
-fn add_start(alloc: Global, items: &mut Items<Item>) -> Result<(), Memory>
-    ensures { OnOk result (map plain_item items.new ≡ map plain_item items.old
-        ++ pieces.assign (codes "start") (pieces.both (pieces.net (codes "kv")) (pieces.not_net (codes "fly"))) ∷ []) }
+/// Adds what the gate holds back.
+fn add_gates(alloc: Global, items: &mut Items<Item>) -> Result<(), Memory>
+    ensures { OnOk result (map plain_item items.new ≡ map plain_item items.old ++ spec.gates) }
 {
-    let value = one_without(alloc, "kv", "fly")?;
-    let name = named(alloc, "start")?;
-    add_assign(alloc, items, name, value)
+    add_flight(alloc, items)?;
+    add_both(alloc, items, "kv", "sv", "g")?;
+    add_both(alloc, items, "sr", "kr", "g")
 }
 
-/// Adds `always @ ( posedge clk ) fly <= kv & ~ kr ;`.
-fn add_next_flight(alloc: Global, items: &mut Items<Item>) -> Result<(), Memory>
-    ensures { OnOk result (map plain_item items.new ≡ map plain_item items.old
-        ++ pieces.at_clock (pieces.next (codes "fly") (pieces.both (pieces.net (codes "kv")) (pieces.not_net (codes "kr")))) ∷ []) }
+/// Adds what tells starts and completions.
+fn add_events(alloc: Global, items: &mut Items<Item>) -> Result<(), Memory>
+    ensures { OnOk result (map plain_item items.new ≡ map plain_item items.old ++ spec.events) }
 {
-    let value = one_without(alloc, "kv", "kr")?;
-    let name = named(alloc, "fly")?;
-    add_at_clock(alloc, items, next(name, value))
+    add_one_without(alloc, items, "start", "kv", "fly")?;
+    add_both(alloc, items, "stop", "kv", "kr")?;
+    add_next(alloc, items, "fly", "kv", "kr")
 }
 
 fn monitor_items(alloc: Global, widths: &[u8]) -> Result<Items<Item>, Memory>
     ensures { IfOk result (λ items. map plain_item items ≡ spec.monitor_items widths.now) }
 {
     let mut items = Items::new(alloc);
-    add_flight(alloc, &mut items)?;
-    add_both(alloc, &mut items, "kv", "sv", "g")?;
-    add_both(alloc, &mut items, "sr", "kr", "g")?;
+    add_gates(alloc, &mut items)?;
     add_gated_contents(alloc, &mut items, widths)?;
-    add_start(alloc, &mut items)?;
-    add_both(alloc, &mut items, "stop", "kv", "kr")?;
-    add_next_flight(alloc, &mut items)?;
+    add_events(alloc, &mut items)?;
     Ok(items)
 }
 

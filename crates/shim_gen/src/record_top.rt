@@ -5,9 +5,7 @@ ghost use Rattle.vlog_tree.specs.Plain.{plain_port, plain_conn, plain_item, plai
 ghost use Rattle.shim_trees.specs.Pieces as pieces;
 ghost use Rattle.shim_trees.specs.RecordTop as spec;
 
-use crate::conns::{
-    add_conn, add_conn_of, add_contents, add_unread, add_unread_contents,
-};
+use crate::conns::{add_conn, add_conn_of, add_contents, add_unread, add_unread_contents};
 use crate::design::{add_design, add_tied_ports};
 use crate::items::{add_content_wires, add_instance, add_wire};
 use crate::names::{named, numbered};
@@ -119,21 +117,47 @@ fn add_sink_contents(
     }
 }
 
+/// Adds the connections of the gate and of the source's side.
+fn add_source_conns(
+    alloc: Global,
+    conns: &mut Conns,
+    n: usize,
+    dir: Dir,
+    widths: &[u8],
+) -> Result<(), Memory>
+    ensures { OnOk result (map plain_conn conns.new ≡ map plain_conn conns.old ++ spec.source_conns n dir widths.now) }
+{
+    add_conn(alloc, conns, "clk", "clk")?;
+    add_conn_of(alloc, conns, "g", "g_", n)?;
+    add_conn_of(alloc, conns, "sv", "v_", n)?;
+    add_source_ready(alloc, conns, n, dir)?;
+    add_contents(alloc, conns, "s", "d_", n, widths)
+}
+
+/// Adds the connections of the sink's side, and of start and completion.
+fn add_sink_conns(
+    alloc: Global,
+    conns: &mut Conns,
+    n: usize,
+    dir: Dir,
+    widths: &[u8],
+) -> Result<(), Memory>
+    ensures { OnOk result (map plain_conn conns.new ≡ map plain_conn conns.old ++ spec.sink_conns n dir widths.now) }
+{
+    add_sink_valid(alloc, conns, n, dir)?;
+    add_conn_of(alloc, conns, "kr", "r_", n)?;
+    add_sink_contents(alloc, conns, n, dir, widths)?;
+    add_conn_of(alloc, conns, "start", "start_", n)?;
+    add_conn_of(alloc, conns, "stop", "stop_", n)
+}
+
 /// The connections of the monitor of channel n.
 fn monitor_conns(alloc: Global, n: usize, dir: Dir, widths: &[u8]) -> Result<Conns, Memory>
     ensures { IfOk result (λ conns. map plain_conn conns ≡ spec.monitor_conns n dir widths.now) }
 {
     let mut conns = Items::new(alloc);
-    add_conn(alloc, &mut conns, "clk", "clk")?;
-    add_conn_of(alloc, &mut conns, "g", "g_", n)?;
-    add_conn_of(alloc, &mut conns, "sv", "v_", n)?;
-    add_source_ready(alloc, &mut conns, n, dir)?;
-    add_contents(alloc, &mut conns, "s", "d_", n, widths)?;
-    add_sink_valid(alloc, &mut conns, n, dir)?;
-    add_conn_of(alloc, &mut conns, "kr", "r_", n)?;
-    add_sink_contents(alloc, &mut conns, n, dir, widths)?;
-    add_conn_of(alloc, &mut conns, "start", "start_", n)?;
-    add_conn_of(alloc, &mut conns, "stop", "stop_", n)?;
+    add_source_conns(alloc, &mut conns, n, dir, widths)?;
+    add_sink_conns(alloc, &mut conns, n, dir, widths)?;
     Ok(conns)
 }
 
@@ -153,11 +177,7 @@ fn add_monitor(
 }
 
 /// Adds the monitors of all channels.
-fn add_monitors(
-    alloc: Global,
-    items: &mut Items<Item>,
-    channels: &[Channel],
-) -> Result<(), Memory>
+fn add_monitors(alloc: Global, items: &mut Items<Item>, channels: &[Channel]) -> Result<(), Memory>
     ensures { OnOk result (map plain_item items.new ≡ map plain_item items.old ++ pieces.each spec.monitor_item 0 channels.now) }
 {
     for (n, channel) in channels.iter().enumerate() {

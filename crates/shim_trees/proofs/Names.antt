@@ -133,15 +133,17 @@ numbered_name base n named none small =
 pub twice_name : (base : List ℕ) (n i : ℕ) → name_test base ≡ true → begins_none base ≡ true → n < 2 ^ 64 → i < 2 ^ 64
     → IsGoodName (numbered_twice base n i)
 twice_name base n i named none n_small i_small =
-    subst IsGoodName (sym (append_assoc base (decimal n) (95 ∷ decimal i)))
-    ( name_more base (decimal n ++ 95 ∷ decimal i) named
-        (each_append (λ c. continues_name c ≡ true) (decimal n) (95 ∷ decimal i) (digits_go_on n n_small) (refl, digits_go_on i i_small))
-    , front_unreserved base (decimal n ++ 95 ∷ decimal i) none)
+    subst IsGoodName (sym (append_assoc base (decimal n) (95 ∷ decimal i))) (
+      name_more base (decimal n ++ 95 ∷ decimal i) named
+          (each_append (λ c. continues_name c ≡ true) (decimal n) (95 ∷ decimal i) (digits_go_on n n_small) (refl, digits_go_on i i_small)),
+      front_unreserved base (decimal n ++ 95 ∷ decimal i) none,
+    )
 
 pub tied_name : (x : List ℕ) → IsGoodName x → IsGoodName (tied x)
-tied_name x good =
-    ( name_more (codes "t_") x refl (run_each begins_name continues_name x (λ b h. or_left (begins_name b) _ h) good.0)
-    , front_unreserved (codes "t_") x refl)
+tied_name x good = (
+  name_more (codes "t_") x refl (run_each begins_name continues_name x (λ b h. or_left (begins_name b) _ h) good.0),
+  front_unreserved (codes "t_") x refl,
+)
 
 -- ---- numbers
 digit_of_ten : (b : ℕ) → IsDigit b → is_digit_of 100 b ≡ true

@@ -128,10 +128,13 @@ pub good_at_clock : (s : StmtOf ℕ) → IsGoodStmt s → IsGoodItem (at_clock s
 good_at_clock s good = (clk_name, good)
 
 pub good_gated : (i w : ℕ) → IsSmall i → IsSmall w → IsGoodItem (gated_content i w)
-good_gated i w i_small w_small =
-    ( ( good_target (numbered (codes "k") i) (k_name i i_small)
-      , (omega arith, good_net (codes "kv") kv_name, good_net (numbered (codes "s") i) (s_name i i_small), zero_token w w_small))
-    , tt)
+good_gated i w i_small w_small = (
+  (
+    good_target (numbered (codes "k") i) (k_name i i_small),
+    (omega arith, good_net (codes "kv") kv_name, good_net (numbered (codes "s") i) (s_name i i_small), zero_token w w_small),
+  ),
+  tt,
+)
 
 -- ---- instances
 pub good_conn : (x y : Name) → IsGoodName x → IsGoodName y → IsGoodConn (conn x y)

@@ -14,15 +14,20 @@ monitor_ports widths =
     ++ output (codes "start") 1 ∷ output (codes "stop") 1 ∷ []))
 
 -- `fly`: a transaction has started and not completed
-abbrev pub monitor_items : List ℕ → List (ItemOf ℕ)
-monitor_items widths =
+abbrev pub gates : List (ItemOf ℕ)
+gates =
     reg (codes "fly") 1
     ∷ assign (codes "kv") (both (net (codes "sv")) (net (codes "g")))
-    ∷ assign (codes "sr") (both (net (codes "kr")) (net (codes "g")))
-    ∷ (each gated_content 0 widths
-    ++ assign (codes "start") (both (net (codes "kv")) (not_net (codes "fly")))
+    ∷ assign (codes "sr") (both (net (codes "kr")) (net (codes "g"))) ∷ []
+
+abbrev pub events : List (ItemOf ℕ)
+events =
+    assign (codes "start") (both (net (codes "kv")) (not_net (codes "fly")))
     ∷ assign (codes "stop") (both (net (codes "kv")) (net (codes "kr")))
-    ∷ at_clock (next (codes "fly") (both (net (codes "kv")) (not_net (codes "kr")))) ∷ [])
+    ∷ at_clock (next (codes "fly") (both (net (codes "kv")) (not_net (codes "kr")))) ∷ []
+
+abbrev pub monitor_items : List ℕ → List (ItemOf ℕ)
+monitor_items widths = gates ++ (each gated_content 0 widths ++ events)
 
 -- of channel n, with contents of these widths
 abbrev pub monitor : ℕ → List ℕ → ModuleOf ℕ

@@ -37,14 +37,19 @@ abbrev pub sink_content : ℕ → Dir → ℕ → ℕ → ConnOf ℕ
 sink_content n Inward i width = conn (numbered (codes "k") i) (numbered_twice (codes "k_") n i)
 sink_content n Outward i width = unjoined (numbered (codes "k") i)
 
-abbrev pub monitor_conns : ℕ → Dir → List ℕ → List (ConnOf ℕ)
-monitor_conns n dir widths =
+abbrev pub source_conns : ℕ → Dir → List ℕ → List (ConnOf ℕ)
+source_conns n dir widths =
     conn (codes "clk") (codes "clk") ∷ conn (codes "g") (numbered (codes "g_") n) ∷ conn (codes "sv") (numbered (codes "v_") n)
-    ∷ source_ready n dir
-    ∷ (each (source_content n) 0 widths
-    ++ sink_valid n dir ∷ conn (codes "kr") (numbered (codes "r_") n)
+    ∷ source_ready n dir ∷ each (source_content n) 0 widths
+
+abbrev pub sink_conns : ℕ → Dir → List ℕ → List (ConnOf ℕ)
+sink_conns n dir widths =
+    sink_valid n dir ∷ conn (codes "kr") (numbered (codes "r_") n)
     ∷ (each (sink_content n dir) 0 widths
-    ++ conn (codes "start") (numbered (codes "start_") n) ∷ conn (codes "stop") (numbered (codes "stop_") n) ∷ []))
+    ++ conn (codes "start") (numbered (codes "start_") n) ∷ conn (codes "stop") (numbered (codes "stop_") n) ∷ [])
+
+abbrev pub monitor_conns : ℕ → Dir → List ℕ → List (ConnOf ℕ)
+monitor_conns n dir widths = source_conns n dir widths ++ sink_conns n dir widths
 
 -- the monitor `m_n` of channel n
 abbrev pub monitor_item : ℕ → Channel → ItemOf ℕ
