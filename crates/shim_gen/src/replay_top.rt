@@ -179,17 +179,37 @@ fn add_side_conns(
     }
 }
 
+/// Adds the connections of the replayer of channel n of `count`.
+fn add_replayer_conns(
+    alloc: Global,
+    conns: &mut Conns,
+    count: usize,
+    n: usize,
+    dir: Dir,
+    widths: &[u8],
+) -> Result<(), Memory>
+    ensures { OnOk result (map plain_conn conns.new ≡ map plain_conn conns.old ++ spec.replayer_conns count n dir widths.now) }
+{
+    add_conn(alloc, conns, "clk", "clk")?;
+    add_conn_of(alloc, conns, "more", "more_", n)?;
+    add_need_conns(alloc, conns, n, count)?;
+    add_pop_conns(alloc, conns, count)?;
+    add_side_conns(alloc, conns, n, dir, widths)?;
+    add_conn_of(alloc, conns, "pop", "pop_", n)
+}
+
 /// The connections of the replayer of channel n of `count`.
-fn replayer_conns(alloc: Global, count: usize, n: usize, channel: &Channel) -> Result<Conns, Memory>
-    ensures { IfOk result (λ conns. map plain_conn conns ≡ spec.replayer_conns count n channel.now) }
+fn replayer_conns(
+    alloc: Global,
+    count: usize,
+    n: usize,
+    dir: Dir,
+    widths: &[u8],
+) -> Result<Conns, Memory>
+    ensures { IfOk result (λ conns. map plain_conn conns ≡ spec.replayer_conns count n dir widths.now) }
 {
     let mut conns = Items::new(alloc);
-    add_conn(alloc, &mut conns, "clk", "clk")?;
-    add_conn_of(alloc, &mut conns, "more", "more_", n)?;
-    add_need_conns(alloc, &mut conns, n, count)?;
-    add_pop_conns(alloc, &mut conns, count)?;
-    add_side_conns(alloc, &mut conns, n, channel.dir, channel.widths.as_slice())?;
-    add_conn_of(alloc, &mut conns, "pop", "pop_", n)?;
+    add_replayer_conns(alloc, &mut conns, count, n, dir, widths)?;
     Ok(conns)
 }
 
@@ -205,7 +225,7 @@ fn add_replayer(
 {
     let kind = numbered(alloc, "vidi_q_", n)?;
     let name = numbered(alloc, "q_", n)?;
-    let conns = replayer_conns(alloc, count, n, channel)?;
+    let conns = replayer_conns(alloc, count, n, channel.dir, channel.widths.as_slice())?;
     add_instance(alloc, items, kind, name, conns)
 }
 

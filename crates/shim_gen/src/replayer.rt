@@ -15,7 +15,7 @@ use crate::ports::{INPUT, OUTPUT, add_bit, add_contents, add_numbered};
 use std::alloc::Global;
 use trace_model::{Channel, Channels, Dir};
 use vidi_bits::{Items, Memory};
-use vlog_tree::{BinaryOp, Expr, Item, Module, Operand, Ports, Stmt, Stmts, Unary};
+use vlog_tree::{BinaryOp, Expr, Item, Module, Operand, Ports, Stmts, Unary, begin};
 
 /// The width in bits of a replayer's counters, and of what they are compared with.
 pub(crate) const COUNTER_WIDTH: u32 = 32;
@@ -91,14 +91,22 @@ fn covers(alloc: Global, j: usize) -> Result<Expr, Memory>
     }))
 }
 
+/// `e & ( c0 >= n0 )`, where 0 is `j`.
+fn with_cover(alloc: Global, e: Expr, j: usize) -> Result<Expr, Memory>
+    ensures { IfOk result (λ more. plain_expr more ≡ pieces.both (plain_expr e) (spec.covers j)) }
+{
+    let covers = covers(alloc, j)?;
+    binary(alloc, e, BinaryOp::And, covers)
+}
+
 /// `more & ( c0 >= n0 ) & ( c1 >= n1 ) ..`, over `count` counters.
 fn covering(alloc: Global, count: usize) -> Result<Expr, Memory>
     ensures { IfOk result (λ e. plain_expr e ≡ spec.covering 0 count (pieces.net (codes "more"))) }
 {
-    let mut covering = net(named(alloc, "more")?);
+    let name = named(alloc, "more")?;
+    let mut covering = net(name);
     for j in 0..count {
-        let covers = covers(alloc, j)?;
-        covering = binary(alloc, covering, BinaryOp::And, covers)?;
+        covering = with_cover(alloc, covering, j)?;
     }
     Ok(covering)
 }
@@ -123,13 +131,13 @@ fn add_counters(alloc: Global, items: &mut Items<Item>, count: usize) -> Result<
     Ok(())
 }
 
-/// `c0 <= c0 + d0 ;`, where 0 is `j`.
-fn counting_of(alloc: Global, j: usize) -> Result<Stmt, Memory>
-    ensures { IfOk result (λ s. plain_stmt s ≡ counted j) }
+/// Adds `c0 <= c0 + d0 ;`, where 0 is `j`.
+fn add_count(alloc: Global, stmts: &mut Stmts, j: usize) -> Result<(), Memory>
+    ensures { OnOk result (map plain_stmt stmts.new ≡ map plain_stmt stmts.old ++ counted j ∷ []) }
 {
     let sum = compared(alloc, "c", BinaryOp::Plus, "d", j)?;
     let name = numbered(alloc, "c", j)?;
-    Ok(next(name, sum))
+    stmts.push(next(name, sum))
 }
 
 /// `c0 <= c0 + d0 ; c1 <= c1 + d1 ; ..`
@@ -138,8 +146,7 @@ fn counting(alloc: Global, count: usize) -> Result<Stmts, Memory>
 {
     let mut stmts = Items::new(alloc);
     for j in 0..count {
-        let stmt = counting_of(alloc, j)?;
-        stmts.push(stmt)?;
+        add_count(alloc, &mut stmts, j)?;
     }
     Ok(stmts)
 }
@@ -150,7 +157,7 @@ fn add_counting(alloc: Global, items: &mut Items<Item>, count: usize) -> Result<
         ≡ map plain_item items.old ++ pieces.at_clock (BeginStmt (spec.counting 0 count)) ∷ []) }
 {
     let stmts = counting(alloc, count)?;
-    add_at_clock(alloc, items, Stmt::Begin(stmts))
+    add_at_clock(alloc, items, begin(stmts))
 }
 
 /// Adds `assign name = more & ( c0 >= n0 ) & ..`.

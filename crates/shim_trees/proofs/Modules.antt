@@ -491,7 +491,7 @@ side_conns_good n Outward widths small few =
     (good_conn _ _ sv_name (v_name n small), (good_conn _ _ sr_name (r_name n small), tt))
 
 replayer_conns_good : (count : ℕ) → count ≤ 32 → (n : ℕ) (c : Channel) → IsSmall n → IsFewChannel c
-    → AllByRecursion IsGoodConn (replayer_conns count n c)
+    → AllByRecursion IsGoodConn (replayer_conns count n c.dir c.widths)
 replayer_conns_good count limit n c small few = (
   good_conn _ _ clk_name clk_name,
   (
@@ -509,7 +509,7 @@ replayer_conns_good count limit n c small few = (
 
 replayer_item_good : (count : ℕ) → count ≤ 32 → (n : ℕ) (c : Channel) → IsSmall n → IsFewChannel c → IsGoodItem (replayer_item count n c)
 replayer_item_good count limit n c small few =
-    good_instance _ _ (replayer_conns count n c) (numbered_name (codes "vidi_q_") n refl refl small)
+    good_instance _ _ (replayer_conns count n c.dir c.widths) (numbered_name (codes "vidi_q_") n refl refl small)
     (numbered_name (codes "q_") n refl refl small) (replayer_conns_good count limit n c small few)
 
 pub replay_top_good : (m : Map) (ports : List (PortOf ℕ)) → IsFewMap m → IsGoodName m.top → AllByRecursion IsGoodPort ports

@@ -38,17 +38,17 @@ side_conns n Inward widths =
 side_conns n Outward widths = conn (codes "sv") (numbered (codes "v_") n) ∷ conn (codes "sr") (numbered (codes "r_") n) ∷ []
 
 -- each replayer is told the completions of all channels
-abbrev pub replayer_conns : ℕ → ℕ → Channel → List (ConnOf ℕ)
-replayer_conns count n c =
+abbrev pub replayer_conns : ℕ → ℕ → Dir → List ℕ → List (ConnOf ℕ)
+replayer_conns count n dir widths =
     conn (codes "clk") (codes "clk") ∷ conn (codes "more") (numbered (codes "more_") n)
     ∷ (upto (λ j. conn (numbered (codes "n") j) (numbered_twice (codes "n_") n j)) 0 count
     ++ (upto (λ j. conn (numbered (codes "d") j) (numbered (codes "pop_") j)) 0 count
-    ++ (side_conns n c.dir c.widths ++ conn (codes "pop") (numbered (codes "pop_") n) ∷ [])))
+    ++ (side_conns n dir widths ++ conn (codes "pop") (numbered (codes "pop_") n) ∷ [])))
 
 -- the replayer `q_n` of channel n
 abbrev pub replayer_item : ℕ → ℕ → Channel → ItemOf ℕ
 replayer_item count n c =
-    instance (numbered (codes "vidi_q_") n) (numbered (codes "q_") n) (replayer_conns count n c)
+    instance (numbered (codes "vidi_q_") n) (numbered (codes "q_") n) (replayer_conns count n c.dir c.widths)
 
 -- round a design whose top has these ports
 abbrev pub replay_top : Map → List (PortOf ℕ) → ModuleOf ℕ
