@@ -1,0 +1,4 @@
+pub mod Each
+pub mod Pushed
+pub mod Tables
+pub mod Upto

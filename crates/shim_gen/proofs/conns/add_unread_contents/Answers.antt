@@ -1,0 +1,12 @@
+use Rattle.std.proofs.Common.{ℕ, ◌++◌, map, refl}
+use Rattle.vlog_tree.specs.Plain.{plain_conn}
+use Rattle.shim_trees.specs.Pieces.{each, unjoined, numbered}
+use Rattle.shim_gen.proofs.Each.{each_pushed}
+use Rattle.shim_gen.proofs.conns.add_unread_contents.Goals as goal
+
+pub loop-i-preserved : goal.loop-i-preserved
+loop-i-preserved c =
+    let f = λ (i w : ℕ). unjoined (numbered c.args.port.now i) in
+    each_pushed f (map plain_conn c.loop-i.conns) (map plain_conn c.add_unread_content.new.conns)
+    (map plain_conn c.args.conns.now ++ each f 0 c.args.widths.now) c.args.widths.now c.loop-i.i 0 (f c.loop-i.i 0) c.loop-i-test.true refl
+    c.in_ok-add_unread_content.ensures c.loop-i.invariant

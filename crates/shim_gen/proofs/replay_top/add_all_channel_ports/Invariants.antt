@@ -1,0 +1,10 @@
+use Rattle.std.proofs.Common.{◌≡◌, ◌++◌, drop, map, length}
+use Rattle.vlog_tree.specs.Plain.{plain_port}
+use Rattle.shim_trees.specs.Pieces.{each_some}
+use Rattle.shim_trees.specs.ReplayTop.{replay_ports}
+use Rattle.shim_gen.proofs.replay_top.add_all_channel_ports.Given as goal
+
+abbrev pub invariant-loop-n : goal.invariant-loop-n
+invariant-loop-n l =
+    map plain_port l.ports ++ each_some (replay_ports (length l.channels)) l.n (drop l.n l.channels)
+    ≡ map plain_port l.initial.ports ++ each_some (replay_ports (length l.channels)) 0 l.channels

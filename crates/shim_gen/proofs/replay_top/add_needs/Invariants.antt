@@ -1,0 +1,10 @@
+use Rattle.std.proofs.Common.{◌≡◌, ◌-◌, ◌++◌, map}
+use Rattle.std.specs.Prelude.{codes}
+use Rattle.vlog_tree.specs.Plain.{plain_port}
+use Rattle.shim_trees.specs.Pieces.{upto, input, numbered_twice}
+use Rattle.shim_gen.proofs.replay_top.add_needs.Given as goal
+
+abbrev pub invariant-loop-j : goal.invariant-loop-j
+invariant-loop-j l =
+    map plain_port l.ports ++ upto (λ j. input (numbered_twice (codes "n_") l.n j) 32) l.j (l.count - l.j)
+    ≡ map plain_port l.initial.ports ++ upto (λ j. input (numbered_twice (codes "n_") l.n j) 32) 0 l.count

@@ -1,0 +1,132 @@
+//! Expressions, targets and ranges of shims.
+
+ghost use Rattle.std.specs.Prelude.{◌≡◌, IfOk, None, option_map};
+ghost use Rattle.vlog_tree.specs.Plain.{plain_ident, plain_ref, plain_expr, plain_range, plain_target};
+ghost use Rattle.vlog_tree.specs.Tree.{UnaryExpr, BinaryExpr, NumberPrim, RefWith, NoIndex, NoLast};
+ghost use Rattle.shim_trees.specs.Pieces as pieces;
+
+use crate::names::named;
+use std::alloc::Global;
+use vidi_bits::{Items, Memory, Name};
+use vlog_tree::{
+    BinaryOp, Expr, Ident, Number, NumberKind, Operand, Range, Ref, Sign, Target, Unary, UnaryOp,
+};
+
+/// A generated name, on line 0.
+pub fn ident(name: Name) -> Ident
+    ensures { plain_ident result ≡ pieces.ident name }
+{
+    Ident { name, line: 0 }
+}
+
+/// A whole net where it is read or written.
+fn whole(name: Name) -> Ref
+    ensures { plain_ref result ≡ RefWith (pieces.ident name) NoIndex NoLast }
+{
+    Ref {
+        id: ident(name),
+        index: None,
+        sel: None,
+    }
+}
+
+/// `name`
+pub fn net(name: Name) -> Expr
+    ensures { plain_expr result ≡ pieces.net name }
+{
+    Expr::Unary(Unary {
+        sign: None,
+        prim: Operand::Ref(whole(name)),
+    })
+}
+
+/// `~ name`
+pub fn not_net(name: Name) -> Expr
+    ensures { plain_expr result ≡ pieces.not_net name }
+{
+    let sign = Sign {
+        op: UnaryOp::BitNot,
+        line: 0,
+    };
+    Expr::Unary(Unary {
+        sign: Some(sign),
+        prim: Operand::Ref(whole(name)),
+    })
+}
+
+/// `name`, as what an assignment writes.
+pub fn target(name: Name) -> Target
+    ensures { plain_target result ≡ pieces.target name }
+{
+    Target::Ref(whole(name))
+}
+
+/// A number of this form.
+fn number_of(kind: NumberKind, text: Name) -> Expr
+    ensures { plain_expr result ≡ UnaryExpr None (NumberPrim (record { kind = kind; text = text; line = 0 })) }
+{
+    let number = Number {
+        kind,
+        text,
+        line: 0,
+    };
+    Expr::Unary(Unary {
+        sign: None,
+        prim: Operand::Number(number),
+    })
+}
+
+/// `n`
+fn number(alloc: Global, n: u32) -> Result<Expr, Memory>
+    ensures { IfOk result (λ e. plain_expr e ≡ pieces.number n) }
+{
+    let text = format!(in alloc; "{n}")?;
+    Ok(number_of(NumberKind::Decimal, Items::from_vec(text.into_bytes())))
+}
+
+/// `W'd0`
+pub fn zero_of(alloc: Global, width: u32) -> Result<Expr, Memory>
+    ensures { IfOk result (λ e. plain_expr e ≡ pieces.zero_of width) }
+{
+    let text = format!(in alloc; "{width}'d0")?;
+    Ok(number_of(NumberKind::Based, Items::from_vec(text.into_bytes())))
+}
+
+/// `left op right`
+pub fn binary(alloc: Global, left: Expr, op: BinaryOp, right: Expr) -> Result<Expr, Memory>
+    ensures { IfOk result (λ e. plain_expr e ≡ BinaryExpr (plain_expr left) op (plain_expr right)) }
+{
+    let left = Box::new(alloc, left)?;
+    let right = Box::new(alloc, right)?;
+    Ok(Expr::Binary { left, op, right })
+}
+
+/// `left & right`, two whole nets.
+pub fn both_nets(alloc: Global, left: &str, right: &str) -> Result<Expr, Memory>
+    ensures { IfOk result (λ e. plain_expr e ≡ pieces.both (pieces.net left.now) (pieces.net right.now)) }
+{
+    let left = named(alloc, left)?;
+    let right = named(alloc, right)?;
+    binary(alloc, net(left), BinaryOp::And, net(right))
+}
+
+/// `left & ~ right`, two whole nets.
+pub fn one_without(alloc: Global, left: &str, right: &str) -> Result<Expr, Memory>
+    ensures { IfOk result (λ e. plain_expr e ≡ pieces.both (pieces.net left.now) (pieces.not_net right.now)) }
+{
+    let left = named(alloc, left)?;
+    let right = named(alloc, right)?;
+    binary(alloc, net(left), BinaryOp::And, not_net(right))
+}
+
+/// No range for one bit, else `[ W-1 : 0 ]`.
+pub fn range_of(alloc: Global, width: u32) -> Result<Option<Range>, Memory>
+    ensures { IfOk result (λ range. option_map plain_range range ≡ pieces.range_of width) }
+{
+    if width == 1 {
+        return Ok(None);
+    }
+    let first = number(alloc, width.saturating_sub(1))?;
+    let second = number(alloc, 0)?;
+    Ok(Some(Range { first, second }))
+}

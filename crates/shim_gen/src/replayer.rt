@@ -1,0 +1,241 @@
+//! The replayer of a channel.
+
+ghost use Rattle.std.specs.Prelude.{◌≡◌, ◌<◌, ◌++◌, [], ◌∷◌, Some, IfOk, OnOk, map, length, codes, slice_get};
+ghost use Rattle.trace_model.specs.declared.channel.Channel.{Channel as ChannelRecord};
+ghost use Rattle.vlog_tree.specs.Plain.{plain_expr, plain_stmt, plain_port, plain_item, plain_module};
+ghost use Rattle.vlog_tree.specs.Tree.{BinaryExpr, BeginStmt};
+ghost use Rattle.shim_trees.specs.Pieces as pieces;
+ghost use Rattle.shim_trees.specs.Replayer as spec;
+ghost use Rattle.shim_gen.specs.Counting.{counted};
+
+use crate::exprs::{binary, net};
+use crate::items::{add_assign, add_at_clock, add_both, add_gated_contents, add_reg, next};
+use crate::names::{named, numbered};
+use crate::ports::{INPUT, OUTPUT, add_bit, add_contents, add_numbered};
+use std::alloc::Global;
+use trace_model::{Channel, Channels, Dir};
+use vidi_bits::{Items, Memory};
+use vlog_tree::{BinaryOp, Expr, Item, Module, Operand, Ports, Stmts, Unary, begin};
+
+/// The width in bits of a replayer's counters, and of what they are compared with.
+pub(crate) const COUNTER_WIDTH: u32 = 32;
+
+/// Adds `count` inputs of `width` bits, numbered from 0.
+fn add_inputs(
+    alloc: Global,
+    ports: &mut Ports,
+    base: &str,
+    count: usize,
+    width: u32,
+) -> Result<(), Memory>
+    ensures { OnOk result (map plain_port ports.new ≡ map plain_port ports.old
+        ++ pieces.upto (λ j. pieces.input (pieces.numbered base.now j) width) 0 count) }
+{
+    for j in 0..count {
+        add_numbered(alloc, ports, INPUT, base, j, width)?;
+    }
+    Ok(())
+}
+
+/// Adds the ports of the side that the replayer stands for: the sink's of an outward channel, else both, since the source's contents go
+/// through it.
+fn add_side(alloc: Global, ports: &mut Ports, dir: Dir, widths: &[u8]) -> Result<(), Memory>
+    ensures { OnOk result (map plain_port ports.new ≡ map plain_port ports.old ++ spec.side_ports dir widths.now) }
+{
+    match dir {
+        Dir::Inward => {
+            add_contents(alloc, ports, INPUT, "s", widths)?;
+            add_bit(alloc, ports, OUTPUT, "kv")?;
+            add_bit(alloc, ports, INPUT, "kr")?;
+            add_contents(alloc, ports, OUTPUT, "k", widths)
+        }
+        Dir::Outward => {
+            add_bit(alloc, ports, INPUT, "sv")?;
+            add_bit(alloc, ports, OUTPUT, "sr")
+        }
+    }
+}
+
+fn replayer_ports(alloc: Global, count: usize, dir: Dir, widths: &[u8]) -> Result<Ports, Memory>
+    ensures { IfOk result (λ ports. map plain_port ports ≡ spec.replayer_ports count dir widths.now) }
+{
+    let mut ports = Items::new(alloc);
+    add_bit(alloc, &mut ports, INPUT, "clk")?;
+    add_bit(alloc, &mut ports, INPUT, "more")?;
+    add_inputs(alloc, &mut ports, "n", count, COUNTER_WIDTH)?;
+    add_inputs(alloc, &mut ports, "d", count, 1)?;
+    add_side(alloc, &mut ports, dir, widths)?;
+    add_bit(alloc, &mut ports, OUTPUT, "pop")?;
+    Ok(ports)
+}
+
+/// `left0 op right0`, where 0 is `j`.
+fn compared(alloc: Global, left: &str, op: BinaryOp, right: &str, j: usize) -> Result<Expr, Memory>
+    ensures { IfOk result (λ e. plain_expr e
+        ≡ BinaryExpr (pieces.net (pieces.numbered left.now j)) op (pieces.net (pieces.numbered right.now j))) }
+{
+    let left = numbered(alloc, left, j)?;
+    let right = numbered(alloc, right, j)?;
+    binary(alloc, net(left), op, net(right))
+}
+
+/// `( c0 >= n0 )`, where 0 is `j`.
+fn covers(alloc: Global, j: usize) -> Result<Expr, Memory>
+    ensures { IfOk result (λ e. plain_expr e ≡ spec.covers j) }
+{
+    let compared = compared(alloc, "c", BinaryOp::GreaterOrEqual, "n", j)?;
+    let inner = Box::new(alloc, compared)?;
+    Ok(Expr::Unary(Unary {
+        sign: None,
+        prim: Operand::Paren { line: 0, inner },
+    }))
+}
+
+/// `e & ( c0 >= n0 )`, where 0 is `j`.
+fn with_cover(alloc: Global, e: Expr, j: usize) -> Result<Expr, Memory>
+    ensures { IfOk result (λ more. plain_expr more ≡ pieces.both (plain_expr e) (spec.covers j)) }
+{
+    let covers = covers(alloc, j)?;
+    binary(alloc, e, BinaryOp::And, covers)
+}
+
+/// `more & ( c0 >= n0 ) & ( c1 >= n1 ) ..`, over `count` counters.
+fn covering(alloc: Global, count: usize) -> Result<Expr, Memory>
+    ensures { IfOk result (λ e. plain_expr e ≡ spec.covering 0 count (pieces.net (codes "more"))) }
+{
+    let name = named(alloc, "more")?;
+    let mut covering = net(name);
+    for j in 0..count {
+        covering = with_cover(alloc, covering, j)?;
+    }
+    Ok(covering)
+}
+
+/// Adds `reg [ 31 : 0 ] c0 ;`, where 0 is `j`.
+fn add_counter(alloc: Global, items: &mut Items<Item>, j: usize) -> Result<(), Memory>
+    ensures { OnOk result (map plain_item items.new
+        ≡ map plain_item items.old ++ pieces.reg (pieces.numbered (codes "c") j) 32 ∷ []) }
+{
+    let name = numbered(alloc, "c", j)?;
+    add_reg(alloc, items, name, COUNTER_WIDTH)
+}
+
+/// Adds the counters.
+fn add_counters(alloc: Global, items: &mut Items<Item>, count: usize) -> Result<(), Memory>
+    ensures { OnOk result (map plain_item items.new ≡ map plain_item items.old
+        ++ pieces.upto (λ j. pieces.reg (pieces.numbered (codes "c") j) 32) 0 count) }
+{
+    for j in 0..count {
+        add_counter(alloc, items, j)?;
+    }
+    Ok(())
+}
+
+/// Adds `c0 <= c0 + d0 ;`, where 0 is `j`.
+fn add_count(alloc: Global, stmts: &mut Stmts, j: usize) -> Result<(), Memory>
+    ensures { OnOk result (map plain_stmt stmts.new ≡ map plain_stmt stmts.old ++ counted j ∷ []) }
+{
+    let sum = compared(alloc, "c", BinaryOp::Plus, "d", j)?;
+    let name = numbered(alloc, "c", j)?;
+    stmts.push(next(name, sum))
+}
+
+/// `c0 <= c0 + d0 ; c1 <= c1 + d1 ; ..`
+fn counting(alloc: Global, count: usize) -> Result<Stmts, Memory>
+    ensures { IfOk result (λ stmts. map plain_stmt stmts ≡ pieces.upto counted 0 count) }
+{
+    let mut stmts = Items::new(alloc);
+    for j in 0..count {
+        add_count(alloc, &mut stmts, j)?;
+    }
+    Ok(stmts)
+}
+
+/// Adds the block that counts.
+fn add_counting(alloc: Global, items: &mut Items<Item>, count: usize) -> Result<(), Memory>
+    ensures { OnOk result (map plain_item items.new
+        ≡ map plain_item items.old ++ pieces.at_clock (BeginStmt (spec.counting 0 count)) ∷ []) }
+{
+    let stmts = counting(alloc, count)?;
+    add_at_clock(alloc, items, begin(stmts))
+}
+
+/// Adds `assign name = more & ( c0 >= n0 ) & ..`.
+fn add_offer(alloc: Global, items: &mut Items<Item>, name: &str, count: usize) -> Result<(), Memory>
+    ensures { OnOk result (map plain_item items.new ≡ map plain_item items.old
+        ++ pieces.assign name.now (spec.covering 0 count (pieces.net (codes "more"))) ∷ []) }
+{
+    let value = covering(alloc, count)?;
+    let name = named(alloc, name)?;
+    add_assign(alloc, items, name, value)
+}
+
+/// Adds what the replayer shows: an inward channel's valid and contents, or an outward channel's ready; and completions.
+fn add_shown(
+    alloc: Global,
+    items: &mut Items<Item>,
+    count: usize,
+    dir: Dir,
+    widths: &[u8],
+) -> Result<(), Memory>
+    ensures { OnOk result (map plain_item items.new ≡ map plain_item items.old ++ spec.shown_items count dir widths.now) }
+{
+    match dir {
+        Dir::Inward => {
+            add_offer(alloc, items, "kv", count)?;
+            add_gated_contents(alloc, items, widths)?;
+            add_both(alloc, items, "pop", "kv", "kr")
+        }
+        Dir::Outward => {
+            add_offer(alloc, items, "sr", count)?;
+            add_both(alloc, items, "pop", "sv", "sr")
+        }
+    }
+}
+
+fn replayer_items(
+    alloc: Global,
+    count: usize,
+    dir: Dir,
+    widths: &[u8],
+) -> Result<Items<Item>, Memory>
+    ensures { IfOk result (λ items. map plain_item items ≡ spec.replayer_items count dir widths.now) }
+{
+    let mut items = Items::new(alloc);
+    add_counters(alloc, &mut items, count)?;
+    add_shown(alloc, &mut items, count, dir, widths)?;
+    add_counting(alloc, &mut items, count)?;
+    Ok(items)
+}
+
+/// The replayer of channel n of `count`.
+pub fn replayer_of(
+    alloc: Global,
+    count: usize,
+    n: usize,
+    channel: &Channel,
+) -> Result<Module, Memory>
+    ensures { IfOk result (λ tree. plain_module tree ≡ spec.replayer count n channel.now) }
+{
+    let widths = channel.widths.as_slice();
+    let ports = replayer_ports(alloc, count, channel.dir, widths)?;
+    let items = replayer_items(alloc, count, channel.dir, widths)?;
+    let name = numbered(alloc, "vidi_q_", n)?;
+    Ok(Module {
+        name,
+        parameters: Items::new(alloc),
+        ports,
+        items,
+    })
+}
+
+/// The replayer of channel n (from 0) of these: the module `vidi_q_n`, which counts the completions of all channels, and offers the next
+/// transaction of its own, or takes it, once they cover what that one waits for.
+pub fn replayer_tree(alloc: Global, channels: &Channels, n: usize) -> Result<Module, Memory>
+    requires { n < length channels.now }
+    ensures { IfOk result (λ tree. (c : ChannelRecord) → slice_get channels.now n ≡ Some c
+        → plain_module tree ≡ spec.replayer (length channels.now) n c) }
+{
+    let channel = &channels.as_slice()[n];
+    replayer_of(alloc, channels.len(), n, channel)
+}
