@@ -388,7 +388,7 @@ sink_content_good n Outward i w small i_small = good_unjoined _ (k_name i i_smal
 source_conns_good : (n : ℕ) (dir : Dir) (widths : List ℕ) → IsSmall n → IsFew widths → AllByRecursion IsGoodConn (source_conns n dir widths)
 source_conns_good n dir widths small few =
     let contents = each_good IsSmall IsGoodConn (source_content n) (λ i w i_small _. good_conn _ _ (s_name i i_small) (d_name n i small i_small))
-        0 widths (room_for widths few.0) few.1 in
+    0 widths (room_for widths few.0) few.1 in
     let gate = good_conn (codes "g") (numbered (codes "g_") n) g_port (g_name n small) in
     let valid = good_conn (codes "sv") (numbered (codes "v_") n) sv_name (v_name n small) in
     (good_conn (codes "clk") (codes "clk") clk_name clk_name, (gate, (valid, (source_ready_good n dir small, contents))))
@@ -396,7 +396,7 @@ source_conns_good n dir widths small few =
 sink_conns_good : (n : ℕ) (dir : Dir) (widths : List ℕ) → IsSmall n → IsFew widths → AllByRecursion IsGoodConn (sink_conns n dir widths)
 sink_conns_good n dir widths small few =
     let contents = each_good IsSmall IsGoodConn (sink_content n dir) (λ i w i_small _. sink_content_good n dir i w small i_small)
-        0 widths (room_for widths few.0) few.1 in
+    0 widths (room_for widths few.0) few.1 in
     let start = good_conn (codes "start") (numbered (codes "start_") n) start_port (numbered_name (codes "start_") n refl refl small) in
     let stop = good_conn (codes "stop") (numbered (codes "stop_") n) stop_port (numbered_name (codes "stop_") n refl refl small) in
     let ready = good_conn (codes "kr") (numbered (codes "r_") n) kr_name (r_name n small) in
