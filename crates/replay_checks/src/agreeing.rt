@@ -36,15 +36,28 @@ pub(crate) fn trace_with(alloc: Global, sample: Sample, packets: &[u8]) -> Optio
     decoded(alloc, bytes.as_slice())
 }
 
-/// So many rows of the replay of a trace on a design, by the definitions.
+/// So many rows of the replay of a trace on a design that runs, by the definitions.
 #[tactic(auto, using(crate::proofs::Given::packets_fit))]
+fn rows_on(alloc: Global, sim: &mut Sim, map: &Map, trace: &Trace, cycles: u32) -> Option<Rows>
+    requires nets { PortsAreNets sim.old.design }
+    requires mapped { IsMapOf sim.old.design map.now }
+    requires channels { map.now.channels ≡ trace.now.channels }
+    requires trace { HasEncoding trace.now }
+    ensures { IfSome result (λ rows. length rows ≡ cycles) }
+{
+    match replay_rows(alloc, sim, map, trace.packets.as_slice(), cycles) {
+        Ok(rows) => Some(rows),
+        Err(_) => None,
+    }
+}
+
+/// The same on a design.
 pub(crate) fn rows_of(alloc: Global, sample: Sample, trace: &Trace, cycles: u32) -> Option<Rows>
     requires { HasEncoding trace.now }
     ensures { IfSome result (λ rows. length rows ≡ cycles) }
 {
     let mut stage = sample_stage(alloc, sample, &trace.channels)?;
-    let packets = trace.packets.as_slice();
-    replay_rows(alloc, &mut stage.sim, &stage.map, packets, cycles).ok()
+    rows_on(alloc, &mut stage.sim, &stage.map, trace, cycles)
 }
 
 fn more_if(count: u32, mask: u128, c: usize) -> u32 {

@@ -6,30 +6,41 @@ ghost use Rattle.run_model.specs.MapOf.{IsMapOf};
 
 use crate::given::is_two_sends;
 use bench_run::{PlainRun, Spot, run_plain};
+use chan_map::Map;
 use env_script::{ScriptEnv, read_script};
-use sample_designs::{Sample, Stage, flick_stage, is_row, two_channel_stage};
+use net_sim::Sim;
+use sample_designs::{Sample, flick_channels, is_row, sample_stage, stage_channels};
 use std::alloc::Global;
+use trace_model::Channels;
 
-/// The run of a stage under a script.
-fn run_script(alloc: Global, stage: &mut Stage, text: &[u8]) -> Option<PlainRun>
+/// The run of a design under a script.
+fn run_on(alloc: Global, sim: &mut Sim, map: &Map, text: &[u8]) -> Option<PlainRun>
     requires text { length text.now < 2 ^ 31 }
-    requires nets { PortsAreNets stage.old.sim.design }
-    requires mapped { IsMapOf stage.old.sim.design stage.old.map }
+    requires nets { PortsAreNets sim.old.design }
+    requires mapped { IsMapOf sim.old.design map.now }
 {
-    let Ok(script) = read_script(alloc, text, &stage.map) else {
+    let Ok(script) = read_script(alloc, text, map) else {
         return None;
     };
     let cycles = script.cycles();
-    let mut env = ScriptEnv::new(alloc, &script, &stage.map).ok()?;
-    run_plain(alloc, &mut stage.sim, &stage.map, &mut env, cycles).ok()
+    let mut env = ScriptEnv::new(alloc, &script, map).ok()?;
+    run_plain(alloc, sim, map, &mut env, cycles).ok()
+}
+
+/// The same of a design that has these channels.
+fn run_of(alloc: Global, sample: Sample, channels: &Channels, text: &[u8]) -> Option<PlainRun>
+    requires { length text.now < 2 ^ 31 }
+{
+    let mut stage = sample_stage(alloc, sample, channels)?;
+    run_on(alloc, &mut stage.sim, &stage.map, text)
 }
 
 /// The run of `flick`, whose one channel is outward: its valid rises in row 1 and falls in row 2, whatever the ready is.
 fn flick_run(alloc: Global, text: &[u8]) -> Option<PlainRun>
     requires { length text.now < 2 ^ 31 }
 {
-    let mut stage = flick_stage(alloc)?;
-    run_script(alloc, &mut stage, text)
+    let channels = flick_channels(alloc).ok()?;
+    run_of(alloc, Sample::Flick, &channels, text)
 }
 
 /// It isn't taken in row 1, so row 2 is unstable.
@@ -84,8 +95,8 @@ fn one_cycle(rt: HostRuntime) {
 fn pass_run(alloc: Global, text: &[u8]) -> Option<PlainRun>
     requires { length text.now < 2 ^ 31 }
 {
-    let mut stage = two_channel_stage(alloc, Sample::Pass)?;
-    run_script(alloc, &mut stage, text)
+    let channels = stage_channels(alloc).ok()?;
+    run_of(alloc, Sample::Pass, &channels, text)
 }
 
 #[test]

@@ -11,10 +11,13 @@ use crate::given::{is_two_sends, two_sends};
 use crate::play::play_shell;
 use chan_map::Map;
 use chan_monitor::{Machines, Shell};
+use net_sim::Sim;
 use run_reference::run_rows;
-use sample_designs::{Sample, Stage, flick_stage, is_row, two_channel_stage};
+use sample_designs::{
+    Sample, Stage, flick_channels, is_row, sample_stage, stage_channels, two_channel_stage,
+};
 use std::alloc::Global;
-use trace_model::{Offers, Row, Rows};
+use trace_model::{Channels, Offers, Row, Rows};
 use vidi_bits::{Items, Memory, Numbers};
 
 /// All gates are up.
@@ -24,15 +27,37 @@ const OPEN: [u128; 6] = [3, 3, 3, 3, 3, 3];
 /// whose gate is up, 3 for one in flight. After row 0, 4 are used and `a` has its gate again; after row 1, 9 are, and after row 2, 12.
 const SHUT: [u128; 6] = [3, 3, 1, 0, 0, 0];
 
-/// The rows of a stage's run under these offers and gates, by the definitions.
-fn rows_of(alloc: Global, stage: &mut Stage, offers: &[Offers], gates: &[u128]) -> Option<Rows>
-    requires nets { PortsAreNets stage.old.sim.design }
-    requires mapped { IsMapOf stage.old.sim.design stage.old.map }
-    requires offers { All (AreOffers stage.old.map.channels) offers.now }
-    requires gates { All (λ g. g < 2 ^ length stage.old.map.channels) gates.now }
+/// The rows of a design's run under these offers and gates, by the definitions.
+fn rows_on(
+    alloc: Global,
+    sim: &mut Sim,
+    map: &Map,
+    offers: &[Offers],
+    gates: &[u128],
+) -> Option<Rows>
+    requires nets { PortsAreNets sim.old.design }
+    requires mapped { IsMapOf sim.old.design map.now }
+    requires offers { All (AreOffers map.now.channels) offers.now }
+    requires gates { All (λ g. g < 2 ^ length map.now.channels) gates.now }
     requires count { length gates.now ≡ length offers.now }
 {
-    run_rows(alloc, &mut stage.sim, &stage.map, offers, gates).ok()
+    run_rows(alloc, sim, map, offers, gates).ok()
+}
+
+/// The same of a design that has these channels.
+fn rows_of(
+    alloc: Global,
+    sample: Sample,
+    channels: &Channels,
+    offers: &[Offers],
+    gates: &[u128],
+) -> Option<Rows>
+    requires offers { All (AreOffers channels.now) offers.now }
+    requires gates { All (λ g. g < 2 ^ length channels.now) gates.now }
+    requires count { length gates.now ≡ length offers.now }
+{
+    let mut stage = sample_stage(alloc, sample, channels)?;
+    rows_on(alloc, &mut stage.sim, &stage.map, offers, gates)
 }
 
 /// The rows of the register stage under these offers and gates.
@@ -41,8 +66,8 @@ fn pass_rows(alloc: Global, offers: &[Offers], gates: &[u128]) -> Option<Rows>
     requires gates { All (λ g. g < 4) gates.now }
     requires count { length gates.now ≡ length offers.now }
 {
-    let mut stage = two_channel_stage(alloc, Sample::Pass)?;
-    rows_of(alloc, &mut stage, offers, gates)
+    let channels = stage_channels(alloc).ok()?;
+    rows_of(alloc, Sample::Pass, &channels, offers, gates)
 }
 
 /// Its rows with two contents offered and all taken.
@@ -107,8 +132,8 @@ fn flick_rows(alloc: Global, offers: &[Offers]) -> Option<Rows>
     requires offers { All (AreOffers flick_channels) offers.now }
     requires count { length offers.now ≡ 6 }
 {
-    let mut stage = flick_stage(alloc)?;
-    rows_of(alloc, &mut stage, offers, &[1; 6])
+    let channels = flick_channels(alloc).ok()?;
+    rows_of(alloc, Sample::Flick, &channels, offers, &[1; 6])
 }
 
 /// Six cycles of `flick` with nothing offered and the gate up.
@@ -180,11 +205,22 @@ fn begins_again<S: Shell>(alloc: Global, shell: &mut S, map: &Map) -> Option<boo
     Some(first && shut && again)
 }
 
-/// The same of monitors round the register stage.
+/// The same of monitors round a design that runs.
+fn begins_again_on(alloc: Global, sim: Sim, map: &Map) -> Option<bool>
+    requires nets { PortsAreNets sim.design }
+    requires mapped { IsMapOf sim.design map.now }
+    requires table { map.now.channels ≡ stage_channels }
+{
+    let Ok(mut shell) = Machines::new(alloc, sim, map) else {
+        return None;
+    };
+    begins_again(alloc, &mut shell, map)
+}
+
+/// The same round the register stage.
 fn pass_begins_again(alloc: Global) -> Option<bool> {
     let Stage { sim, map } = two_channel_stage(alloc, Sample::Pass)?;
-    let mut shell = Machines::new(alloc, sim, &map).ok()?;
-    begins_again(alloc, &mut shell, &map)
+    begins_again_on(alloc, sim, &map)
 }
 
 // The gates of the store leave a content in the stage.

@@ -6,5 +6,5 @@ mod stages;
 mod texts;
 
 pub use rows::is_row;
-pub use stages::{Stage, flick_stage, sample_stage, stage_channels, two_channel_stage};
+pub use stages::{Stage, flick_channels, sample_stage, stage_channels, two_channel_stage};
 pub use texts::Sample;

@@ -139,7 +139,7 @@ pub fn stage_channels(alloc: Global) -> Result<Channels, Memory>
 }
 
 /// The channel of the design whose valid rises and falls.
-fn flick_channels(alloc: Global) -> Result<Channels, Memory>
+pub fn flick_channels(alloc: Global) -> Result<Channels, Memory>
     ensures { IfOk result (λ channels. channels ≡ flick_channels) }
 {
     let mut name = Bytes::new(alloc);
@@ -161,14 +161,4 @@ pub fn two_channel_stage(alloc: Global, sample: Sample) -> Option<Stage>
 {
     let channels = stage_channels(alloc).ok()?;
     sample_stage(alloc, sample, &channels)
-}
-
-/// The design whose valid rises and falls, ready to run. `None` where there isn't enough memory.
-pub fn flick_stage(alloc: Global) -> Option<Stage>
-    ensures nets { IfSome result (λ stage. PortsAreNets stage.sim.design) }
-    ensures mapped { IfSome result (λ stage. IsMapOf stage.sim.design stage.map) }
-    ensures table { IfSome result (λ stage. stage.map.channels ≡ flick_channels) }
-{
-    let channels = flick_channels(alloc).ok()?;
-    sample_stage(alloc, Sample::Flick, &channels)
 }
