@@ -4,6 +4,7 @@ use Rattle.std.proofs.lemmas.List.{take_at}
 use Rattle.trace_model.specs.declared.channel.Channel.{Channel}
 use Rattle.trace_model.specs.declared.packet.Packet.{Packet}
 use Rattle.trace_model.specs.declared.row.Row.{Row}
+use Rattle.trace_model.specs.Recording.{packets_of}
 use Rattle.trace_model.specs.Trace.{IsWellFormed}
 use Rattle.net_design.specs.declared.design.Design.{Design}
 use Rattle.chan_map.specs.declared.pins.Map.{Map}
@@ -17,6 +18,7 @@ use Rattle.replay_run.specs.declared.outcome.ReplayOutcome.TheVariants.{Ended, S
 use Rattle.replay_run.specs.Replaying.{EndsAs, GoesInNoCircle}
 use Rattle.replay_run.proofs.Writing.{packets-few}
 use Rattle.vidi_laws.specs.Headline.{AreNamed, ReplayIsFaithful}
+use Rattle.vidi_laws.proofs.KeptOrder.{findings-keep}
 
 module _ (d : Design) (m : Map) (packets : List Packet) (n : ℕ) (rows : List Row) where
   -- however they end, the rows are a replay's and stable, and at most as many as the cycles
@@ -58,8 +60,10 @@ replay-faithful design map trace files v t is n small rows o ends =
     is.encodes.0.well_formed in
     let packets = packets-few m.channels rows in
     let within : length rows ≤ n = all.within in
+    let order = order-in_the_output v.design m t.packets rows all.played all.stable in
     record {
-      order = order-in_the_output v.design m t.packets rows all.played all.stable;
+      order = order;
+      unbroken = findings-keep m.channels t.packets (packets_of m.channels rows) order;
       contents = laws.0;
       named = lists-named v.design m t.packets n rows o ends;
       free = in-no_circle v.design m t.packets n rows well o ends;

@@ -15,4 +15,5 @@ pub mod SameRecord
 pub mod SameReplay
 pub mod OneAnswer
 pub mod Headline
+pub mod KeptOrder
 pub mod Faithful

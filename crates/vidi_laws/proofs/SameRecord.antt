@@ -164,9 +164,10 @@ module _ (laws : BenchLaws) where
       → RecordsRun (beside b p c) trace (Some files) s y right
   recorded-beside b c p q same plans trace files s y right r =
       let plan = plan-path p q plans in
-      let map-there = subst (λ (k : Map). RecordsRun (course c.device.design k (script_offer c.script) q c.script.cycles) trace (Some files) s y right)
+      let d = c.device.design in
+      let map-there = subst (λ (k : Map). RecordsRun (course d k (script_offer c.script) q c.script.cycles) trace (Some files) s y right)
       (sym same.device.map) r in
-      let script-there = subst (λ (k : Script). RecordsRun (course c.device.design b.device.map (script_offer k) q k.cycles) trace (Some files) s y right)
+      let script-there = subst (λ (k : Script). RecordsRun (course d b.device.map (script_offer k) q k.cycles) trace (Some files) s y right)
       (sym same.script) map-there in
       subst (λ (k : Plan). RecordsRun (record {
         design = c.device.design;
@@ -183,7 +184,8 @@ module _ (laws : BenchLaws) where
       let channels = b.device.map.channels in
       let offers = offers_after channels (script_offer b.script) in
       let gates = GatesUnder channels (plan_of p) in
-      let theirs = (the-runs_alike b.device.design c.device.design same.device.ready.lawful same.device.designs b.device.map offers gates b.script.cycles others end).1 run' in
+      let theirs = (the-runs_alike b.device.design c.device.design same.device.ready.lawful same.device.designs b.device.map offers gates
+      b.script.cycles others end).1 run' in
       let one = one-end_of b.device.design b.device.map same.device.ready offers gates
       (λ before are g h. one-set (sizes_of channels) (plan_of p) before (length before) g h)
       b.script.cycles others rows end stop theirs run in

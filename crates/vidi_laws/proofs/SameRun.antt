@@ -43,7 +43,8 @@ ended-once m rows (Some s) (Some t) e p q a b x y u v =
 
 module _ (laws : BenchLaws) where
   -- ---- the runs of two benches of the same texts
-  played-once : (b c : Bench) → SameBench b c → Meet Same (IsPlayed b.device.design b.device.map b.script) (IsPlayed c.device.design c.device.map c.script)
+  played-once : (b c : Bench) → SameBench b c
+      → Meet Same (IsPlayed b.device.design b.device.map b.script) (IsPlayed c.device.design c.device.map c.script)
   played-once b c same s t x y (run, is, ended) played =
       let here : IsPlayed c.device.design b.device.map b.script t y =
       subst (λ (k : Script). IsPlayed c.device.design b.device.map k t y) (sym same.script)
@@ -51,10 +52,10 @@ module _ (laws : BenchLaws) where
       let other = here.0 in
       let offers = offers_after b.device.map.channels (script_offer b.script) in
       let plan : List Row → ℕ = λ _. all_up b.device.map.channels in
-      let theirs = (laws.runs b.device.design c.device.design same.device.ready.lawful same.device.designs b.device.map offers plan b.script.cycles other.rows
-      (channel_of other.unstable)).1 here.1.played in
-      let one = laws.end b.device.design b.device.map same.device.ready offers plan b.script.cycles other.rows run.rows (channel_of other.unstable)
-      (channel_of run.unstable) theirs is.played in
+      let theirs = (laws.runs b.device.design c.device.design same.device.ready.lawful same.device.designs b.device.map offers plan
+      b.script.cycles other.rows (channel_of other.unstable)).1 here.1.played in
+      let one = laws.end b.device.design b.device.map same.device.ready offers plan b.script.cycles other.rows run.rows
+      (channel_of other.unstable) (channel_of run.unstable) theirs is.played in
       let cycle : IfSome other.unstable (λ (spot : Spot). spot.cycle ≡ length run.rows) =
       subst (λ (rows : List Row). IfSome other.unstable (λ (spot : Spot). spot.cycle ≡ length rows)) one.0 here.1.cycle in
       let end = subst (λ (rows : List Row). IsEnded b.device.map rows other.unstable t y) one.0 here.2 in
@@ -62,7 +63,8 @@ module _ (laws : BenchLaws) where
 
   run-texts : (design m script : List ℕ) → OneBy Alike (RunTexts design m script)
   run-texts design m script = step-meets Alike (RefusedTexts design m script) (RefusedTexts design m script) (IsBench design m script)
-      (IsBench design m script) (λ (b : Bench). IsPlayed b.device.design b.device.map b.script) (λ (b : Bench). IsPlayed b.device.design b.device.map b.script)
+      (IsBench design m script) (λ (b : Bench). IsPlayed b.device.design b.device.map b.script)
+      (λ (b : Bench). IsPlayed b.device.design b.device.map b.script)
       (one-refused_texts laws design m script)
       (λ a x b refused bench. texts-refused laws design m script b bench a x refused)
       (λ a x b refused bench. texts-refused laws design m script b bench a x refused)

@@ -1,12 +1,18 @@
 -- What the trace of a recording holds, when its run is the one that `run` prints, and what holds of every replay.
-use Rattle.std.specs.Prelude.{◌≡◌, ℕ, ◌≤◌, List, Option, None, Some, length}
+use Rattle.std.specs.Prelude.{◌≡◌, ℕ, ◌≤◌, Bool, true, false, List, Option, None, Some, All, length, slice_get}
 use Rattle.vidi_io.specs.Shelf.{Files}
 use Rattle.trace_model.specs.declared.channel.Channel.{Channel}
+use Rattle.trace_model.specs.declared.channel.Dir.{Dir}
+use Rattle.trace_model.specs.declared.channel.Dir.TheVariants.{Inward, Outward}
 use Rattle.trace_model.specs.declared.packet.Packet.{Packet}
 use Rattle.trace_model.specs.declared.row.Row.{Row}
 use Rattle.trace_model.specs.declared.trace.Trace.{Trace}
 use Rattle.trace_model.specs.Recording.{packets_of, trace_of}
 use Rattle.trace_code.specs.Encoding.{HasEncoding}
+use Rattle.trace_compare.specs.declared.report.Finding.{Finding}
+use Rattle.trace_compare.specs.declared.report.What.{What}
+use Rattle.trace_compare.specs.declared.report.What.TheVariants.{Differs, ExtraStart, ExtraEnd, EarlyStart, EarlyEnd}
+use Rattle.trace_compare.specs.Findings.{findings}
 use Rattle.run_model.specs.Held.{held, waits}
 use Rattle.run_model.specs.Laws.{AreInOrder, ContentsStay}
 use Rattle.replay_run.specs.declared.outcome.ReplayOutcome.{ReplayOutcome}
@@ -42,7 +48,8 @@ abbrev pub DrainedRecordingIsTheRun : Type 0
 DrainedRecordingIsTheRun = (design map script stalls : List ℕ) (files : Option Files) (b : Bench) (plan : Stalls)
     → IsPlanned design map script stalls files b plan → DrainsAll plan
     → (rows : List Row) (stop : Option ℕ) → IsTheRunOf (course_of b plan) rows stop
-    → IsPlainRun b.device.design b.device.map (script_offer b.script) b.script.cycles (record { rows = rows; unstable = spot_behind rows stop })
+    → IsPlainRun b.device.design b.device.map (script_offer b.script) b.script.cycles
+    (record { rows = rows; unstable = spot_behind rows stop })
 
 -- where the replay is short, the lists name exactly what it holds back, with what that awaits, and what it waits for
 abbrev pub AreNamed : List Channel → List Packet → List Row → ReplayOutcome → Type 0
@@ -50,11 +57,26 @@ AreNamed channels packets rows (Ended cycles) = Unit {0}
 AreNamed channels packets rows (Short helds events) = (helds ≡ held channels packets rows) × (events ≡ waits channels packets rows)
 AreNamed channels packets rows (Unstable channel cycle) = Unit {0}
 
+-- a finding on a channel of this direction says of an event that the replayers control that it is another one, or too much, or too early
+abbrev pub breaks_order : Dir → What → Bool
+breaks_order Inward Differs = true
+breaks_order Inward ExtraStart = true
+breaks_order Inward EarlyStart = true
+breaks_order Outward ExtraEnd = true
+breaks_order Outward EarlyEnd = true
+breaks_order dir what = false
+
+abbrev pub KeepsOrder : List Channel → Finding → Type 0
+KeepsOrder channels finding =
+    (x : Channel) → slice_get channels finding.channel ≡ Some x → breaks_order x.dir finding.what ≡ false
+
 -- Rows of a replay of these packets. Each event that the replayers hold is a recorded one, and the completions of the rows before it cover
--- its recorded clock; the contents of an inward channel are a prefix of those recorded. Contents stay until they are taken. What is held
--- back and awaited is named exactly, and is in no circle. The trace has an encoding.
+-- its recorded clock; the contents of an inward channel are a prefix of those recorded. So no finding against the recorded packets breaks
+-- the order. Contents stay until they are taken. What is held back and awaited is named exactly, and is in no circle. The trace has an
+-- encoding.
 pub record IsFaithful (channels : List Channel) (packets : List Packet) (rows : List Row) (outcome : ReplayOutcome) : Type 0 where
   pub order : AreInOrder channels packets (packets_of channels rows)
+  pub unbroken : All (KeepsOrder channels) (findings (record { channels = channels; packets = packets }) (trace_of channels rows))
   pub contents : ContentsStay channels rows
   pub named : AreNamed channels packets rows outcome
   pub free : GoesInNoCircle channels packets rows outcome
