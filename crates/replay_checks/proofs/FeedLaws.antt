@@ -1,6 +1,5 @@
 -- Feeds of the stage's channels.
-use Rattle.std.proofs.Common.{◌≡◌, ℕ, ◌<◌, List, [], ◌∷◌, arith, refl}
-use Rattle.chan_replayer.specs.declared.feed.Feed.{Feed}
+use Rattle.std.proofs.Common.{ℕ, ◌<◌, [], ◌∷◌, arith, refl}
 use Rattle.chan_replayer.specs.Feed.{IsFeedOver}
 use Rattle.sample_designs.specs.Stage.{stage_channels}
 
