@@ -1,10 +1,15 @@
 //! Laws of the samples' files.
 
-ghost use Rattle.sample_laws.specs.Accepted.{MapIsRead, PlansAreRead, ScriptsAreRead};
+ghost use Rattle.sample_laws.specs.Accepted.{CapacitiesSuffice, MapIsBound, MapIsRead, PlansAreRead, ScriptsAreRead};
 
 /// The map of every sample is read: no line of it is at fault (M1).
 pub fn map_is_read()
     ensures { MapIsRead }
+{}
+
+/// The map is bound to every design with the ports and the clock of the pipe (M2 to M4), with the channels `a` and `b`.
+pub fn map_is_bound()
+    ensures { MapIsBound }
 {}
 
 /// The plan of every sample is read: no line of it is at fault (P1).
@@ -16,4 +21,9 @@ pub fn plans_are_read()
 /// number (S3).
 pub fn scripts_are_read()
     ensures { ScriptsAreRead }
+{}
+
+/// The store of every sample has the room that its channels need.
+pub fn capacities_suffice()
+    ensures { CapacitiesSuffice }
 {}

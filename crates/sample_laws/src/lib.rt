@@ -5,4 +5,4 @@
 
 mod laws;
 
-pub use laws::{map_is_read, plans_are_read, scripts_are_read};
+pub use laws::{capacities_suffice, map_is_bound, map_is_read, plans_are_read, scripts_are_read};
