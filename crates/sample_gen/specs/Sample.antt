@@ -31,9 +31,13 @@ script s = codes "cycles " ++ decimal (cycles s) ++ codes "\n"
 abbrev pub drain_line : ℕ → List ℕ
 drain_line y = codes "drain " ++ decimal (1 + y % 8) ++ codes " 1\n"
 
+-- the bytes that the store holds
+abbrev pub capacity : ℕ → ℕ
+capacity s = 14 + s % 32
+
 -- the eight numbers behind those that are sent tell how the store drains
 abbrev pub stalls : ℕ → List ℕ
-stalls s = codes "capacity " ++ decimal (14 + s % 32) ++ codes "\n"
+stalls s = codes "capacity " ++ decimal (capacity s) ++ codes "\n"
     ++ flat_map (λ i. drain_line (drawn s (s + i))) (range_with_len 1 8)
 
 -- sample s

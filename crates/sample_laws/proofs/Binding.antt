@@ -1,0 +1,9 @@
+-- The map is bound to each pipe.
+use Rattle.std.proofs.Common.{refl}
+use Rattle.vidi_lines.specs.Lines.{file_lines, words_between}
+use Rattle.chan_map.specs.Forms.{keyword_of, form_of}
+use Rattle.sample_laws.specs.Accepted.{MapIsBound}
+
+pub map_bound : MapIsBound
+unfolding file_lines words_between keyword_of form_of
+map_bound d is = (rw (is.ports, is.clock, is.blocks) refl, rw is.ports refl)

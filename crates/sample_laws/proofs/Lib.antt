@@ -1,0 +1,4 @@
+pub mod Taken
+pub mod Plans
+pub mod Scripts
+pub mod Binding

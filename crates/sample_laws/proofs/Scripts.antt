@@ -1,0 +1,152 @@
+-- The script of a sample has no finding.
+use Rattle.std.proofs.Common.{◌≡◌, ℕ, zero, suc, ◌+◌, ◌*◌, ◌/◌, ◌%◌, ◌≤◌, ◌&&◌, Bool, true, false, cond, not, List, [], ◌∷◌, ◌++◌, Option}
+use Rattle.std.proofs.Common.{None, Some, map, drop, refl, sym, ap, subst, ◌∙◌, arith, append_assoc}
+use Rattle.std.specs.Prelude.{codes, decimal}
+use Rattle.std.specs.Fmt.{digits}
+use Rattle.std.specs.List.{flat_map, list_all, range_with_len, prefix_len}
+use Rattle.std.proofs.lemmas.Bool.{and_parts, false≢true}
+use Rattle.trace_model.specs.Channel.{between}
+use Rattle.vidi_bits.specs.Findings.{told_if}
+use Rattle.vidi_lines.specs.declared.lines.Line.{Line}
+use Rattle.vidi_lines.specs.Lines.{file_lines, line_unless_bad, is_bad, words_between}
+use Rattle.script_text.specs.declared.script.TheConstants.{MOST_CYCLES}
+use Rattle.script_text.specs.declared.said.StepLine.{StepLine}
+use Rattle.script_text.specs.declared.error.ScriptError.{ScriptError}
+use Rattle.script_text.specs.declared.error.ScriptError.TheVariants as E
+use Rattle.script_text.specs.Used.{is_blank, number_in}
+use Rattle.script_text.specs.Forms.{keyword_of}
+use Rattle.script_text.specs.Reasons.{read_lines, said, is_step, step_faults, all_said, names_channels, fits_numbers, channel_faults, number_faults}
+use Rattle.script_text.specs.Reasons.{faults_behind, faults_from, script_faults}
+use Rattle.sample_gen.specs.Sequence.{drawn}
+use Rattle.sample_gen.specs.Sample.{cycles, send_line, script}
+use Rattle.sample_laws.specs.Accepted.{channels}
+use Rattle.sample_laws.proofs.Taken.{is_line, line_taken, each_in, off}
+
+-- ---- lines without findings
+
+-- lines from the one with number m on
+record Fine (m : ℕ) (lines : List (Option Line)) : Type 0 where
+  forms : step_faults channels m lines ≡ []
+  named : channel_faults channels (all_said channels m lines) ≡ []
+  fitting : number_faults channels (all_said channels m lines) ≡ []
+
+abbrev line_test : ℕ → Option Line → Bool
+line_test m line = is_step channels m line
+    && (list_all (names_channels channels) (said channels m line) && list_all (fits_numbers channels) (said channels m line))
+
+passing : (test : StepLine → Bool) (xs ys : List StepLine) → list_all test xs ≡ true
+    → flat_map (λ (l : StepLine). told_if (not (test l)) l.line) ys ≡ []
+    → flat_map (λ (l : StepLine). told_if (not (test l)) l.line) (xs ++ ys) ≡ []
+passing test [] ys all rest = rest
+passing test (x ∷ xs) ys all rest =
+    let parts = and_parts (test x) (list_all test xs) all in
+    ap (λ (t : Bool). told_if (not t) x.line ++ flat_map (λ (l : StepLine). told_if (not (test l)) l.line) (xs ++ ys)) parts.0
+    ∙ passing test xs ys parts.1 rest
+
+fine_more : (m : ℕ) (line : Option Line) (lines : List (Option Line)) → line_test m line ≡ true → Fine (m + 1) lines → Fine m (line ∷ lines)
+fine_more m line lines passes fine =
+    let parts = and_parts (is_step channels m line)
+    (list_all (names_channels channels) (said channels m line) && list_all (fits_numbers channels) (said channels m line)) passes in
+    let more = and_parts (list_all (names_channels channels) (said channels m line)) (list_all (fits_numbers channels) (said channels m line))
+    parts.1 in
+    record {
+      forms = ap (λ (t : Bool). told_if (not t) m ++ step_faults channels (m + 1) lines) parts.0 ∙ fine.forms;
+      named = passing (names_channels channels) (said channels m line) (all_said channels (m + 1) lines) more.0 fine.named;
+      fitting = passing (fits_numbers channels) (said channels m line) (all_said channels (m + 1) lines) more.1 fine.fitting;
+    }
+
+-- ---- what is sent
+abbrev send_text : ℕ → List ℕ
+send_text c = codes "a send " ++ decimal c
+
+abbrev send_test : ℕ → ℕ → Bool
+send_test m c = is_line (send_text c) && line_test m (line_unless_bad (send_text c))
+
+sends_pass : (m : ℕ) → list_all (send_test m) (range_with_len 0 256) ≡ true
+unfolding digits is_bad words_between keyword_of
+sends_pass m = refl
+
+send_read : (m y : ℕ) → send_test m (y % 256) ≡ true
+send_read m y = each_in (send_test m) 0 256 (y % 256) (sends_pass m) (omega arith) (omega arith)
+
+abbrev last : List ℕ
+last = codes "b take all\n"
+
+last_fine : (m : ℕ) → Fine m (read_lines last)
+unfolding file_lines is_bad words_between keyword_of
+last_fine m = record { forms = refl; named = refl; fitting = refl }
+
+send_spelled : (y : ℕ) (more : List ℕ) → (send_line y ++ more) ++ last ≡ send_text (y % 256) ++ 10 ∷ (more ++ last)
+send_spelled y more =
+    append_assoc (send_line y) more last
+    ∙ append_assoc (send_text (y % 256)) (10 ∷ []) (more ++ last)
+
+sends_fine : (f : ℕ → ℕ) (m a k : ℕ) → Fine m (read_lines (flat_map (λ i. send_line (f i)) (range_with_len a k) ++ last))
+sends_fine f m a zero = last_fine m
+sends_fine f m a (suc k) =
+    let more : List ℕ = flat_map (λ i. send_line (f i)) (range_with_len (a + 1) k) in
+    let text : List ℕ = send_text (f a % 256) in
+    let parts = and_parts (is_line text) (line_test m (line_unless_bad text)) (send_read m (f a)) in
+    subst (λ (t : List ℕ). Fine m (read_lines t)) (sym (send_spelled (f a) more))
+    (subst (λ (ls : List (Option Line)). Fine m ls) (sym (line_taken text (more ++ last) parts.0))
+    (fine_more m (line_unless_bad text) (read_lines (more ++ last)) parts.1 (sends_fine f (m + 1) (a + 1) k)))
+
+-- ---- the cycles
+abbrev cycles_text : ℕ → List ℕ
+cycles_text n = codes "cycles " ++ decimal n
+
+abbrev within : Option ℕ → Bool
+within None = false
+within (Some n) = between 1 MOST_CYCLES n
+
+abbrev cycles_test : ℕ → Bool
+cycles_test n = is_line (cycles_text n)
+    && (not (is_blank (line_unless_bad (cycles_text n))) && within (number_in (codes "cycles") (line_unless_bad (cycles_text n))))
+
+-- of a hundred samples
+abbrev hundred_test : ℕ → Bool
+hundred_test h = list_all (λ k. cycles_test (100 + 8 * (100 * h + k))) (range_with_len 0 100)
+
+all_cycles_pass : list_all hundred_test (range_with_len 0 61) ≡ true
+unfolding digits is_bad words_between
+all_cycles_pass = refl
+
+cycles_read : (s : ℕ) → s ≤ 6000 → cycles_test (cycles s) ≡ true
+cycles_read s few =
+    let h : ℕ = s / 100 in
+    let k : ℕ = s % 100 in
+    let e : 100 + 8 * (100 * h + k) ≡ 100 + 8 * s = omega arith in
+    sym (ap cycles_test e)
+    ∙ each_in (λ j. cycles_test (100 + 8 * (100 * h + j))) 0 100 k
+    (each_in hundred_test 0 61 h all_cycles_pass (omega arith) (omega (arith, few))) (omega arith) (omega arith)
+
+abbrev errors : List ℕ → List ℕ → Bool → List ℕ → List ScriptError
+errors a b t d = map (λ (m : ℕ). E.Line m) a ++ (map (λ (m : ℕ). E.Channel m) b ++ map (λ (m : ℕ). E.Number m) (told_if (not t) 1 ++ d))
+
+some_cycles : (o : Option ℕ) (lines : List (Option Line)) → within o ≡ true → Fine 2 lines → faults_behind channels 1 o lines ≡ []
+some_cycles None lines h fine = absurd (false≢true h)
+some_cycles (Some n) lines h fine =
+    let said' : List StepLine = all_said channels 2 lines in
+    ap (λ (a : List ℕ). errors a (channel_faults channels said') (between 1 MOST_CYCLES n) (number_faults channels said')) fine.forms
+    ∙ ap (λ (b : List ℕ). errors [] b (between 1 MOST_CYCLES n) (number_faults channels said')) fine.named
+    ∙ ap (λ (t : Bool). errors [] [] t (number_faults channels said')) h
+    ∙ ap (λ (d : List ℕ). errors [] [] true d) fine.fitting
+
+headed : (head : Option Line) (lines : List (Option Line)) → is_blank head ≡ false → within (number_in (codes "cycles") head) ≡ true
+    → Fine 2 lines → script_faults channels (head ∷ lines) ≡ []
+headed head lines seen there fine =
+    ap (λ (t : Bool). faults_from channels (cond t (1 + prefix_len is_blank lines) 0 + 1)
+    (drop (cond t (1 + prefix_len is_blank lines) 0) (head ∷ lines))) seen
+    ∙ some_cycles (number_in (codes "cycles") head) lines there fine
+
+pub scripts_read : (s : ℕ) → s ≤ 6000 → script_faults channels (read_lines (script s)) ≡ []
+scripts_read s few =
+    let text : List ℕ = cycles_text (cycles s) in
+    let sends : List ℕ = flat_map (λ i. send_line (drawn s i)) (range_with_len 1 s) in
+    let head : Option Line = line_unless_bad text in
+    let parts = and_parts (is_line text) (not (is_blank head) && within (number_in (codes "cycles") head)) (cycles_read s few) in
+    let more = and_parts (not (is_blank head)) (within (number_in (codes "cycles") head)) parts.1 in
+    ap (λ (t : List ℕ). script_faults channels (read_lines t))
+    (append_assoc (text ++ 10 ∷ []) sends last ∙ append_assoc text (10 ∷ []) (sends ++ last))
+    ∙ ap (script_faults channels) (line_taken text (sends ++ last) parts.0)
+    ∙ headed head (read_lines (sends ++ last)) (off (is_blank head) more.0) more.1 (sends_fine (λ i. drawn s i) 2 1 s)

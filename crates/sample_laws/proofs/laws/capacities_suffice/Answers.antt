@@ -1,0 +1,8 @@
+use Rattle.std.proofs.Common.{ℕ, ◌+◌, ◌%◌, ◌≤◌, arith}
+use Rattle.sample_laws.proofs.laws.capacities_suffice.Goals as goal
+
+enough : (s : ℕ) → 14 ≤ 14 + s % 32
+enough s = omega arith
+
+pub returns : goal.returns
+returns c = enough
