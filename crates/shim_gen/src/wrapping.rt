@@ -44,10 +44,10 @@ fn check_names(alloc: Global, modules: &[Module]) -> Result<(), WrapError>
 }
 
 /// Whether the module has this name.
-fn is_named(module: &Module, name: &[u8]) -> bool
-    ensures { result ≡ bytes_eq name.now module.now.name }
+fn is_named(tree: &Module, name: &[u8]) -> bool
+    ensures { result ≡ bytes_eq name.now tree.now.name }
 {
-    name == module.name.as_slice()
+    name == tree.name.as_slice()
 }
 
 /// The ports of the first module of this name; none where there is no such module.
