@@ -19,8 +19,8 @@ use Rattle.script_text.specs.Reasons.{read_lines, said, is_step, step_faults, al
 use Rattle.script_text.specs.Reasons.{faults_behind, faults_from, script_faults}
 use Rattle.sample_gen.specs.Sequence.{drawn}
 use Rattle.sample_gen.specs.Sample.{cycles, send_line, script}
-use Rattle.sample_laws.specs.Accepted.{channels}
-use Rattle.sample_laws.proofs.Taken.{is_line, line_taken, each_in, off}
+use Rattle.sample_gen.specs.Accepted.{channels}
+use Rattle.sample_gen.proofs.Taken.{is_line, line_taken, each_in, off}
 
 -- ---- lines without findings
 

@@ -2,7 +2,7 @@
 use Rattle.std.proofs.Common.{refl}
 use Rattle.vidi_lines.specs.Lines.{file_lines, words_between}
 use Rattle.chan_map.specs.Forms.{keyword_of, form_of}
-use Rattle.sample_laws.specs.Accepted.{MapIsBound}
+use Rattle.sample_gen.specs.Accepted.{MapIsBound}
 
 pub map_bound : MapIsBound
 unfolding file_lines words_between keyword_of form_of

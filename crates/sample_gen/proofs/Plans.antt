@@ -13,7 +13,7 @@ use Rattle.script_text.specs.Reasons.{read_lines}
 use Rattle.script_text.specs.Stalls.{capacity_in, is_drain, drain_faults, plan_behind, plan_from, plan_faults}
 use Rattle.sample_gen.specs.Sequence.{drawn}
 use Rattle.sample_gen.specs.Sample.{drain_line, stalls}
-use Rattle.sample_laws.proofs.Taken.{is_line, line_taken, no_lines, each_in, off}
+use Rattle.sample_gen.proofs.Taken.{is_line, line_taken, no_lines, each_in, off}
 
 abbrev drain_text : ℕ → List ℕ
 drain_text b = codes "drain " ++ decimal b ++ codes " 1"

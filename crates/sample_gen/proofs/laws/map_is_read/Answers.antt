@@ -1,7 +1,7 @@
 use Rattle.std.proofs.Common.{refl}
 use Rattle.vidi_lines.specs.Lines.{file_lines, is_bad, words_between}
 use Rattle.chan_map.specs.Forms.{keyword_of, form_of}
-use Rattle.sample_laws.proofs.laws.map_is_read.Goals as goal
+use Rattle.sample_gen.proofs.laws.map_is_read.Goals as goal
 
 pub returns : goal.returns
 unfolding file_lines is_bad words_between keyword_of form_of

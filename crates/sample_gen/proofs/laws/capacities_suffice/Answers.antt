@@ -1,5 +1,5 @@
 use Rattle.std.proofs.Common.{ℕ, ◌+◌, ◌%◌, ◌≤◌, arith}
-use Rattle.sample_laws.proofs.laws.capacities_suffice.Goals as goal
+use Rattle.sample_gen.proofs.laws.capacities_suffice.Goals as goal
 
 enough : (s : ℕ) → 14 ≤ 14 + s % 32
 enough s = omega arith

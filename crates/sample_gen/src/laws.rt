@@ -1,6 +1,6 @@
 //! Laws of the samples' files.
 
-ghost use Rattle.sample_laws.specs.Accepted.{CapacitiesSuffice, MapIsBound, MapIsRead, PlansAreRead, ScriptsAreRead};
+ghost use Rattle.sample_gen.specs.Accepted.{CapacitiesSuffice, MapIsBound, MapIsRead, PlansAreRead, ScriptsAreRead};
 
 /// The map of every sample is read: no line of it is at fault (M1).
 pub fn map_is_read()

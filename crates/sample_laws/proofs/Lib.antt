@@ -1,4 +1,0 @@
-pub mod Taken
-pub mod Plans
-pub mod Scripts
-pub mod Binding

@@ -1,5 +1,0 @@
-use Rattle.sample_laws.proofs.Binding.{map_bound}
-use Rattle.sample_laws.proofs.laws.map_is_bound.Goals as goal
-
-pub returns : goal.returns
-returns c = map_bound

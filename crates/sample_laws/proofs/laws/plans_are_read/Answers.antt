@@ -1,5 +1,0 @@
-use Rattle.sample_laws.proofs.Plans.{plans_read}
-use Rattle.sample_laws.proofs.laws.plans_are_read.Goals as goal
-
-pub returns : goal.returns
-returns c = plans_read
