@@ -11,3 +11,4 @@ mod targets;
 pub use drive::misdriven;
 pub use findings::{Misdriven, NetKind};
 pub use laws::{none_found_all_driven, none_found_memories_once};
+pub use targets::named_nets;

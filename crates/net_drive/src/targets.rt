@@ -95,6 +95,15 @@ pub fn nets_named(alloc: Global, places: &[&Place]) -> Result<Items<usize>, Memo
     Ok(named)
 }
 
+/// The nets that a block names as targets, in text order, whatever bits of them are in range.
+pub fn named_nets(alloc: Global, acts: &Items<Act>) -> Result<Items<usize>, Memory>
+    ensures { IfOk result (λ named. named ≡ nets_named (block_targets acts.now)) }
+{
+    let mut places = Items::new(alloc);
+    add_targets(acts, &mut places)?;
+    nets_named(alloc, places.as_slice())
+}
+
 /// Adds the first word of the memory that a place names.
 fn add_room(place: &Place, out: &mut Items<usize>) -> Result<(), Memory>
     ensures { OnOk result (out.new ≡ out.old ++ place_room place.now) }

@@ -121,7 +121,7 @@ sel_sized s (PartSel a b) = (
   known_sized (sizes_of (fixed (checked s)) b) (expr_sized (fixed s) b) (expr_constant (checked s) b),
 )
 sel_sized s (IndexedSel base width) =
-    (expr_sized s base, known_sized (sizes_of (fixed (checked s)) width) (expr_sized (fixed s) width) (expr_constant (checked s) width))
+    known_sized (sizes_of (fixed (checked s)) width) (expr_sized (fixed s) width) (expr_constant (checked s) width)
 
 factor_left : (n w : ℕ) → 1 ≤ n * w → 1 ≤ n
 factor_left zero w h = let none : zero * w ≡ 0 = zero-mul w in omega (arith, h, none)

@@ -9,3 +9,4 @@ pub mod Extending
 pub mod Lengthening
 pub mod Statements
 mod Examples
+pub mod Labels

@@ -1,10 +1,11 @@
 //! The code of an expression.
 
-ghost use Rattle.std.specs.Prelude.{◌≡◌, ℕ, ◌≤◌, ◌+◌, ◌-◌, ◌<◌, ◌^◌, ◌||◌, false, [], IfOk, IfSome, Some};
+ghost use Rattle.std.specs.Prelude.{◌≡◌, ℕ, ◌≤◌, ◌+◌, ◌-◌, ◌<◌, ◌^◌, ◌||◌, true, false, [], IfOk, IfSome, Some};
 ghost use Rattle.vidi_bits.specs.Number.{IsWidth, part_of, side_by_side};
 ghost use Rattle.vlog_tree.specs.Tree.{Last, Index};
 ghost use Rattle.vlog_tree.specs.Plain.{plain_expr, plain_prim, plain_unary, plain_ref, plain_sel, plain_index, plain_last, plain_exprs};
 ghost use Rattle.vlog_tree.specs.declared.expr.Ref.{back-Ref-index, back-Ref-sel};
+ghost use Rattle.vlog_size.specs.Names.{Readable};
 ghost use Rattle.vlog_size.specs.Operators.{kind_of, binary_value};
 ghost use Rattle.vlog_size.specs.Size.{sizes_of, faults, sizes_of_all, total_width};
 ghost use Rattle.net_design.specs.declared.values.Values.{Values};
@@ -36,11 +37,25 @@ use vlog_size::{
 };
 use vlog_tree::{BinaryOp, Expr, Operand, Ref, Sel, Unary, UnaryOp, see_concat, see_repeat};
 
-/// The self-determined width of an expression.
+/// Whether the expression is a comparison, `&&` or `||`, which has 1 bit whatever its operands have.
+fn is_truth(e: &Expr) -> bool
+    ensures { result ≡ true → (r : Readable) → width_of r (plain_expr e.now) ≡ 1 }
+{
+    match e {
+        Expr::Binary { op, .. } => matches!(kind_of(*op), Kind::Comparison | Kind::Logic),
+        Expr::Unary(_) | Expr::Choice { .. } => false,
+    }
+}
+
+/// The self-determined width of an expression. In a run of comparisons, `&&` or `||` the operands
+/// before an operator aren't looked at.
 pub fn own_width(scope: &Scope, e: &Expr) -> u32
     requires { IsWidth (width_of (names_of scope.now) (plain_expr e.now)) }
     ensures { result ≡ width_of (names_of scope.now) (plain_expr e.now) }
 {
+    if is_truth(e) {
+        return 1;
+    }
     let names = whole_view(scope);
     facts_of(&checked(&names), e).width as u32
 }

@@ -240,7 +240,9 @@ fn either(alloc: Global, a: Box<Rhs>, b: Box<Rhs>) -> Result<Box<Rhs>, Memory>
     binary_code(alloc, BinaryOp::LogicalOr, a, b, 1)
 }
 
-/// Whether the subject equals one of the labels, at `w` bits.
+/// Whether the subject equals one of the labels, at `w` bits. The code is as deep as the number of labels has bits.
+#[cycle(matched)]
+#[tactic(auto, using(crate::proofs::Labels::all_front, crate::proofs::Labels::all_back, crate::proofs::Labels::any_halves))]
 fn matched(
     alloc: Global,
     scope: &Scope,
@@ -257,15 +259,16 @@ fn matched(
         reads (names_of scope.now) (plain_expr subject.now) m k || reads (names_of scope.now) e m k) (map plain_expr labels.now)) }
     ensures sized { IfOk result (λ c. IsSizedRhs c.value) }
 {
-    let [first, rest @ ..] = labels else {
-        return number(alloc, 0);
-    };
-    let mut so_far = compared(alloc, scope, subject, first, w)?;
-    for label in rest {
-        let next = compared(alloc, scope, subject, label, w)?;
-        so_far = either(alloc, so_far, next)?;
+    match labels {
+        [] => number(alloc, 0),
+        [label] => compared(alloc, scope, subject, label, w),
+        [_, _, ..] => {
+            let (front, back) = labels.split_at(labels.len() / 2);
+            let a = matched(alloc, scope, subject, front, w)?;
+            let b = matched(alloc, scope, subject, back, w)?;
+            either(alloc, a, b)
+        }
     }
-    Ok(so_far)
 }
 
 /// Adds a `case` of guards and what is done otherwise: a choice, and where there is no label, the reading of the subject.

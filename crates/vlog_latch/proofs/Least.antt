@@ -1,4 +1,4 @@
--- The first net at which E9 holds by some masks.
+-- The first net at which E9 holds by some masks and named nets.
 use Rattle.std.proofs.Common.{◌≡◌, ℕ, ◌<◌, ◌≤◌, ◌==◌, nat_lt, ◌&&◌, ◌||◌, Bool, true, false, List, [], ◌∷◌, if◌then◌else◌}
 use Rattle.std.proofs.Common.{refl, ap, sym, subst, ◌∙◌, arith}
 use Rattle.std.proofs.lemmas.Bool.{eqb-true, eq-eqb, ltb-true, lt-ltb, or_from, false_from_ne_true}
@@ -7,8 +7,8 @@ use Rattle.vidi_bits.proofs.Bools.{and_none, left_of, or_none}
 use mathlib.Core.Path.{fun_ext}
 use Rattle.net_design.specs.declared.act.Mask.{Mask}
 use Rattle.net_design.specs.Bits.{BitSet}
-use Rattle.vlog_latch.specs.Masks.{is_mask_latched, lesser, least_net, IsLeast}
-use Rattle.vlog_latch.proofs.OneMask.{any_latched}
+use Rattle.vlog_latch.specs.Masks.{is_missed, is_read, lesser, least_missed, least_read, IsLeast}
+use Rattle.vlog_latch.proofs.OneMask.{any_missed, any_read}
 
 -- a net that isn't below n is no net below n
 past : (net n m : ℕ) → nat_lt net n ≡ false → m < n → (b : Bool) → (net == m) ≡ b → (b && true) ≡ true → ⊥
@@ -46,18 +46,27 @@ tried p count n net false small s h =
     (fun_ext (λ m. or_none (p m) ∙ ap (λ b. p m || b) (and_none (net == m))))
     (subst (λ k. IsLeast p count k) (sym (kept small net n)) h)
 
-module _ (adds reads : BitSet) (count : ℕ) where
+module _ (adds : BitSet) (count : ℕ) where
   pub least_of : (masks : List Mask) (p : ℕ → Bool) (n : ℕ) → IsLeast p count n
-      → IsLeast (λ m. p m || any_latched adds reads masks m) count (least_net adds reads masks n)
-  unfolding lesser
+      → IsLeast (λ m. p m || any_missed adds masks m) count (least_missed adds masks n)
   least_of [] p n h = subst (λ q. IsLeast q count n) (fun_ext (λ m. or_none (p m))) h
   least_of (x ∷ xs) p n h =
-      let bad = is_mask_latched adds reads x.net x.bits in
-      let one : IsLeast (λ m. p m || ((x.net == m) && bad)) count (lesser adds reads x n) =
-      tried p count n x.net bad (nat_lt x.net n) refl h in
-      let all = least_of xs (λ m. p m || ((x.net == m) && bad)) (lesser adds reads x n) one in
-      subst (λ q. IsLeast q count (least_net adds reads xs (lesser adds reads x n)))
-      (fun_ext (λ m. or_assoc (p m) ((x.net == m) && bad) (any_latched adds reads xs m))) all
+      let bad = is_missed adds x.net x.bits in
+      let one : IsLeast (λ m. p m || ((x.net == m) && bad)) count (lesser bad x.net n) = tried p count n x.net bad (nat_lt x.net n) refl h in
+      let all = least_of xs (λ m. p m || ((x.net == m) && bad)) (lesser bad x.net n) one in
+      subst (λ q. IsLeast q count (least_missed adds xs (lesser bad x.net n)))
+      (fun_ext (λ m. or_assoc (p m) ((x.net == m) && bad) (any_missed adds xs m))) all
+
+module _ (reads : BitSet) (count : ℕ) where
+  pub least_among : (nets : List ℕ) (p : ℕ → Bool) (n : ℕ) → IsLeast p count n
+      → IsLeast (λ m. p m || any_read reads nets m) count (least_read reads nets n)
+  least_among [] p n h = subst (λ q. IsLeast q count n) (fun_ext (λ m. or_none (p m))) h
+  least_among (x ∷ xs) p n h =
+      let bad = is_read reads x in
+      let one : IsLeast (λ m. p m || ((x == m) && bad)) count (lesser bad x n) = tried p count n x bad (nat_lt x n) refl h in
+      let all = least_among xs (λ m. p m || ((x == m) && bad)) (lesser bad x n) one in
+      subst (λ q. IsLeast q count (least_read reads xs (lesser bad x n)))
+      (fun_ext (λ m. or_assoc (p m) ((x == m) && bad) (any_read reads xs m))) all
 
 -- of no masks
 pub least_start : (count : ℕ) → IsLeast (λ m. false) count count

@@ -4,5 +4,6 @@ pub mod Least
 pub mod Found
 pub mod Answered
 pub mod There
+pub mod Targets
 pub mod Means
 pub mod Shown

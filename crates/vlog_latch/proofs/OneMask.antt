@@ -1,24 +1,30 @@
--- E9 by masks, one after the other.
-use Rattle.std.proofs.Common.{◌≡◌, ℕ, ◌-◌, ◌^◌, ◌<◌, ◌≤◌, ◌==◌, ◌&&◌, ◌||◌, not, Bool, true, false, List, [], ◌∷◌, bit_and}
+-- The two parts of E9, by masks and by nets that are named, one after the other.
+use Rattle.std.proofs.Common.{◌≡◌, ℕ, ◌-◌, ◌^◌, ◌<◌, ◌≤◌, ◌==◌, ◌&&◌, ◌||◌, not, Bool, true, false, List, [], ◌∷◌, ◌++◌, bit_and}
 use Rattle.std.proofs.Common.{refl, ap, sym, subst, ◌∙◌, arith}
-use Rattle.std.specs.List.{list_any}
-use Rattle.std.proofs.lemmas.Bool.{eqb-true, eq-eqb, false_from_ne_true}
+use Rattle.std.specs.List.{list_any, flat_map}
+use Rattle.std.proofs.lemmas.Bool.{eqb-true, eq-eqb}
 use Rattle.std.proofs.lemmas.Nat.{and_le_l}
 use Rattle.vidi_bits.specs.Number.{has}
 use Rattle.net_design.specs.declared.act.Mask.{Mask}
+use Rattle.net_design.specs.declared.act.Place.{Place}
+use Rattle.net_design.specs.declared.act.Place.TheVariants.{Bits as PlaceBits, BitsFrom, Word as PlaceWord, WordFrom}
 use Rattle.net_design.specs.Bits.{BitSet, named}
 use Rattle.net_code.specs.declared.bit_map.BitMap.{BitMap}
-use Rattle.net_code.specs.BitMap.{mask_of, in_map}
+use Rattle.net_code.specs.BitMap.{mask_of, in_map, is_among}
+use Rattle.net_code.specs.Targets.{place_net, nets_named}
 use Rattle.net_code.proofs.MaskLaws.{has_less}
-use Rattle.vlog_latch.specs.Latch.{some_bit, is_latched}
-use Rattle.vlog_latch.specs.Masks.{is_mask_latched}
+use Rattle.vlog_block.specs.Naming.{place_names}
+use Rattle.vlog_latch.specs.Latch.{some_bit, is_net, is_named}
+use Rattle.vlog_latch.specs.Masks.{is_missed, is_read}
 use Rattle.vlog_latch.proofs.SomeBit.{some_or, some_none, some_same, some_of_mask}
 
 -- ---- what the code computes of one mask
 
-some_in : (b : BitMap) (m : ℕ) → mask_of b m < 2 ^ 128 → some_bit (λ k. in_map b m k) ≡ not (mask_of b m == 0)
-unfolding in_map
-some_in b m l = some_of_mask (mask_of b m) l
+pub mask_read : (b : BitMap) (m r : ℕ) → r ≡ mask_of b m → r < 2 ^ 128 → not (r == 0) ≡ is_read (in_map b) m
+unfolding in_map is_read
+mask_read b m r e l =
+    let h : mask_of b m < 2 ^ 128 = subst (λ n. n < 2 ^ 128) e l in
+    ap (λ n. not (n == 0)) e ∙ sym (some_of_mask (mask_of b m) h)
 
 some_missed : (b : BitMap) (bits m : ℕ) → bits < 2 ^ 128 → mask_of b m < 2 ^ 128 → bit_and bits (2 ^ 128 - 1 - mask_of b m) < 2 ^ 128
     → some_bit (λ k. has bits k && not (in_map b m k)) ≡ not (bit_and bits (2 ^ 128 - 1 - mask_of b m) == 0)
@@ -26,57 +32,19 @@ unfolding in_map
 some_missed b bits m l h w =
     some_same _ _ (λ k. sym (has_less bits (mask_of b m) k l h)) ∙ some_of_mask (bit_and bits (2 ^ 128 - 1 - mask_of b m)) w
 
-pub mask_latched : (sure reads : BitMap) (net bits s r : ℕ) → s ≡ mask_of sure net → r ≡ mask_of reads net → bits < 2 ^ 128 → s < 2 ^ 128
-    → r < 2 ^ 128 → (not (bit_and bits (2 ^ 128 - 1 - s) == 0) || (not (bits == 0) && not (r == 0)))
-    ≡ is_mask_latched (in_map sure) (in_map reads) net bits
-unfolding is_mask_latched
-mask_latched sure reads net bits s r es er l hs hr =
+pub mask_missed : (sure : BitMap) (net bits s : ℕ) → s ≡ mask_of sure net → bits < 2 ^ 128 → s < 2 ^ 128
+    → not (bit_and bits (2 ^ 128 - 1 - s) == 0) ≡ is_missed (in_map sure) net bits
+unfolding is_missed
+mask_missed sure net bits s es l hs =
     let low : bit_and bits (2 ^ 128 - 1 - mask_of sure net) ≤ bits = and_le_l bits (2 ^ 128 - 1 - mask_of sure net) in
-    ap (λ n. not (bit_and bits (2 ^ 128 - 1 - n) == 0) || (not (bits == 0) && not (r == 0))) es
-    ∙ ap (λ n. not (bit_and bits (2 ^ 128 - 1 - mask_of sure net) == 0) || (not (bits == 0) && not (n == 0))) er
-    ∙ ap (λ b. b || (not (bits == 0) && not (mask_of reads net == 0)))
-    (sym (some_missed sure bits net l (subst (λ n. n < 2 ^ 128) es hs) (omega (arith, low, l))))
-    ∙ ap (λ b. some_bit (λ k. has bits k && not (in_map sure net k)) || (b && not (mask_of reads net == 0))) (sym (some_of_mask bits l))
-    ∙ ap (λ b. some_bit (λ k. has bits k && not (in_map sure net k)) || (some_bit (λ k. has bits k) && b))
-    (sym (some_in reads net (subst (λ n. n < 2 ^ 128) er hr)))
-
--- ---- the three ways in which the code computes it
-
-nonzero : (n : ℕ) → (n ≡ 0 → ⊥) → (n == 0) ≡ false
-nonzero n h = false_from_ne_true (n == 0) (λ t. h (eqb-true n 0 t))
-
-pub by_missed : (missed bits read : ℕ) → (missed ≡ 0 → ⊥) → not (missed == 0) ≡ (not (missed == 0) || (not (bits == 0) && not (read == 0)))
-by_missed missed bits read h =
-    let e : (missed == 0) ≡ false = nonzero missed h in
-    ap not e ∙ sym (ap (λ b. not b || (not (bits == 0) && not (read == 0))) e)
-
-pub by_read : (missed bits read : ℕ) → missed ≡ 0 → (bits ≡ 0 → ⊥)
-    → not (read == 0) ≡ (not (missed == 0) || (not (bits == 0) && not (read == 0)))
-by_read missed bits read z h =
-    sym (ap (λ b. not b || (not (bits == 0) && not (read == 0))) (eq-eqb missed 0 z) ∙ ap (λ b. not b && not (read == 0)) (nonzero bits h))
-
-pub by_nothing : (missed bits read : ℕ) → missed ≡ 0 → bits ≡ 0
-    → not (bits == 0) ≡ (not (missed == 0) || (not (bits == 0) && not (read == 0)))
-by_nothing missed bits read z h =
-    ap not (eq-eqb bits 0 h)
-    ∙ sym (ap (λ b. not b || (not (bits == 0) && not (read == 0))) (eq-eqb missed 0 z)
-    ∙ ap (λ b. not b && not (read == 0)) (eq-eqb bits 0 h))
+    ap (λ n. not (bit_and bits (2 ^ 128 - 1 - n) == 0)) es
+    ∙ sym (some_missed sure bits net l (subst (λ n. n < 2 ^ 128) es hs) (omega (arith, low, l)))
 
 -- ---- masks, one after the other
 
--- E9 holds at net m by the bits of one of the masks
-abbrev pub any_latched : BitSet → BitSet → List Mask → ℕ → Bool
-any_latched adds reads masks m = list_any (λ (x : Mask). (x.net == m) && is_mask_latched adds reads x.net x.bits) masks
-
-apart : (a b c d r : Bool) → ((a || b) || ((c || d) && r)) ≡ ((a || (c && r)) || (b || (d && r)))
-apart true b c d r = refl
-apart false true true d true = refl
-apart false true true d false = refl
-apart false true false d r = refl
-apart false false true d true = refl
-apart false false true true false = refl
-apart false false true false false = refl
-apart false false false d r = refl
+-- a bit of net m that one of the masks has isn't surely assigned
+abbrev pub any_missed : BitSet → List Mask → ℕ → Bool
+any_missed adds masks m = list_any (λ (x : Mask). (x.net == m) && is_missed adds x.net x.bits) masks
 
 split : (a b s : Bool) → ((a || b) && not s) ≡ ((a && not s) || (b && not s))
 split true true true = refl
@@ -84,54 +52,75 @@ split true false true = refl
 split true b false = refl
 split false b s = refl
 
-module _ (adds reads : BitSet) where
-  -- E9 at the net of the first mask, then at any net
+-- those of some masks
+abbrev missed_in : BitSet → List Mask → ℕ → Bool
+missed_in adds masks m = some_bit (λ k. named masks m k && not (adds m k))
+
+module _ (adds : BitSet) where
+  -- at the net of the first mask, then at any net
   at_first : (x : Mask) (xs : List Mask) → (x.net == x.net) ≡ true
-      → is_latched (named (x ∷ xs)) adds reads x.net
-      ≡ (is_mask_latched adds reads x.net x.bits || is_latched (named xs) adds reads x.net)
-  unfolding is_latched is_mask_latched
+      → missed_in adds (x ∷ xs) x.net ≡ (is_missed adds x.net x.bits || missed_in adds xs x.net)
+  unfolding is_missed
   at_first x xs t =
-      let missed : some_bit (λ k. named (x ∷ xs) x.net k && not (adds x.net k))
-      ≡ (some_bit (λ k. has x.bits k && not (adds x.net k)) || some_bit (λ k. named xs x.net k && not (adds x.net k))) =
       some_same (λ k. named (x ∷ xs) x.net k && not (adds x.net k))
       (λ k. (has x.bits k && not (adds x.net k)) || (named xs x.net k && not (adds x.net k)))
       (λ k. ap (λ b. ((b && has x.bits k) || named xs x.net k) && not (adds x.net k)) t
       ∙ split (has x.bits k) (named xs x.net k) (adds x.net k))
-      ∙ some_or (λ k. has x.bits k && not (adds x.net k)) (λ k. named xs x.net k && not (adds x.net k)) in
-      let written : some_bit (λ k. named (x ∷ xs) x.net k) ≡ (some_bit (λ k. has x.bits k) || some_bit (λ k. named xs x.net k)) =
-      some_same (λ k. named (x ∷ xs) x.net k) (λ k. has x.bits k || named xs x.net k)
-      (λ k. ap (λ b. (b && has x.bits k) || named xs x.net k) t)
-      ∙ some_or (λ k. has x.bits k) (λ k. named xs x.net k) in
-      ap (λ b. b || (some_bit (λ k. named (x ∷ xs) x.net k) && some_bit (λ k. reads x.net k))) missed
-      ∙ ap (λ b. (some_bit (λ k. has x.bits k && not (adds x.net k)) || some_bit (λ k. named xs x.net k && not (adds x.net k)))
-      || (b && some_bit (λ k. reads x.net k))) written
-      ∙ apart (some_bit (λ k. has x.bits k && not (adds x.net k))) (some_bit (λ k. named xs x.net k && not (adds x.net k)))
-      (some_bit (λ k. has x.bits k)) (some_bit (λ k. named xs x.net k)) (some_bit (λ k. reads x.net k))
+      ∙ some_or (λ k. has x.bits k && not (adds x.net k)) (λ k. named xs x.net k && not (adds x.net k))
 
-  elsewhere : (x : Mask) (xs : List Mask) (m : ℕ) → (x.net == m) ≡ false
-      → is_latched (named (x ∷ xs)) adds reads m ≡ is_latched (named xs) adds reads m
-  unfolding is_latched
+  elsewhere : (x : Mask) (xs : List Mask) (m : ℕ) → (x.net == m) ≡ false → missed_in adds (x ∷ xs) m ≡ missed_in adds xs m
   elsewhere x xs m h =
-      ap (λ b. b || (some_bit (λ k. named (x ∷ xs) m k) && some_bit (λ k. reads m k)))
-      (some_same (λ k. named (x ∷ xs) m k && not (adds m k)) (λ k. named xs m k && not (adds m k))
-      (λ k. ap (λ b. ((b && has x.bits k) || named xs m k) && not (adds m k)) h))
-      ∙ ap (λ b. some_bit (λ k. named xs m k && not (adds m k)) || (b && some_bit (λ k. reads m k)))
-      (some_same (λ k. named (x ∷ xs) m k) (λ k. named xs m k) (λ k. ap (λ b. (b && has x.bits k) || named xs m k) h))
+      some_same (λ k. named (x ∷ xs) m k && not (adds m k)) (λ k. named xs m k && not (adds m k))
+      (λ k. ap (λ b. ((b && has x.bits k) || named xs m k) && not (adds m k)) h)
 
   one_more : (x : Mask) (xs : List Mask) (m : ℕ) (t : Bool) → (x.net == m) ≡ t
-      → is_latched (named (x ∷ xs)) adds reads m ≡ ((t && is_mask_latched adds reads x.net x.bits) || is_latched (named xs) adds reads m)
+      → missed_in adds (x ∷ xs) m ≡ ((t && is_missed adds x.net x.bits) || missed_in adds xs m)
   one_more x xs m true h =
       let e : x.net ≡ m = eqb-true x.net m h in
-      subst (λ n. is_latched (named (x ∷ xs)) adds reads n
-      ≡ (is_mask_latched adds reads x.net x.bits || is_latched (named xs) adds reads n)) e (at_first x xs (eq-eqb x.net x.net refl))
+      subst (λ n. missed_in adds (x ∷ xs) n ≡ (is_missed adds x.net x.bits || missed_in adds xs n)) e
+      (at_first x xs (eq-eqb x.net x.net refl))
   one_more x xs m false h = elsewhere x xs m h
 
-  none_named : (m : ℕ) → is_latched (named []) adds reads m ≡ false
-  unfolding is_latched
-  none_named m = ap (λ b. b || (some_bit (λ k. false) && some_bit (λ k. reads m k))) some_none
-      ∙ ap (λ b. b && some_bit (λ k. reads m k)) some_none
-
-  pub by_masks : (masks : List Mask) (m : ℕ) → any_latched adds reads masks m ≡ is_latched (named masks) adds reads m
-  by_masks [] m = sym (none_named m)
+  pub by_masks : (masks : List Mask) (m : ℕ) → any_missed adds masks m ≡ some_bit (λ k. named masks m k && not (adds m k))
+  by_masks [] m = sym some_none
   by_masks (x ∷ xs) m =
-      ap (λ b. ((x.net == m) && is_mask_latched adds reads x.net x.bits) || b) (by_masks xs m) ∙ sym (one_more x xs m (x.net == m) refl)
+      ap (λ b. ((x.net == m) && is_missed adds x.net x.bits) || b) (by_masks xs m) ∙ sym (one_more x xs m (x.net == m) refl)
+
+-- ---- nets that are named, one after the other
+
+-- net m is one of the nets, and a bit of it is read
+abbrev pub any_read : BitSet → List ℕ → ℕ → Bool
+any_read reads nets m = list_any (λ (i : ℕ). (i == m) && is_read reads i) nets
+
+gather : (a b r : Bool) → ((a && r) || (b && r)) ≡ ((a || b) && r)
+gather true true true = refl
+gather true true false = refl
+gather true false true = refl
+gather true false false = refl
+gather false b r = refl
+
+module _ (reads : BitSet) where
+  read_at : (x m : ℕ) (t : Bool) → (x == m) ≡ t → (t && is_read reads x) ≡ (t && is_read reads m)
+  read_at x m true h = ap (is_read reads) (eqb-true x m h)
+  read_at x m false h = refl
+
+  read_among : (nets : List ℕ) (m : ℕ) → any_read reads nets m ≡ (is_among m nets && is_read reads m)
+  read_among [] m = refl
+  read_among (x ∷ xs) m =
+      ap (λ b. ((x == m) && is_read reads x) || b) (read_among xs m)
+      ∙ (ap (λ b. b || (is_among m xs && is_read reads m)) (read_at x m (x == m) refl)
+      ∙ gather (x == m) (is_among m xs) (is_read reads m))
+
+-- the nets of places are the nets that they name
+same_names : (m : ℕ) (places : List Place) → is_among m (flat_map place_net places) ≡ is_named (place_names places) m
+same_names m [] = refl
+same_names m (PlaceBits s n ∷ ps) = ap (λ b. (s.net == m) || b) (same_names m ps)
+same_names m (BitsFrom s i w ∷ ps) = ap (λ b. (s.net == m) || b) (same_names m ps)
+same_names m (PlaceWord r i low w n ∷ ps) = same_names m ps
+same_names m (WordFrom r i size j w ∷ ps) = same_names m ps
+
+pub by_names : (reads : BitSet) (places : List Place) (m : ℕ)
+    → any_read reads (nets_named places) m ≡ (is_named (place_names places) m && some_bit (λ k. reads m k))
+unfolding nets_named is_read
+by_names reads places m =
+    read_among reads (flat_map place_net places) m ∙ ap (λ b. b && some_bit (λ k. reads m k)) (same_names m places)

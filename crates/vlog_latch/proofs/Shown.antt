@@ -23,6 +23,14 @@ pub other_bit_read : block_latches scope (always examples.other_bit_read) ≡ La
 unfolding some_bit is_latched number
 other_bit_read = refl
 
+pub none_written : block_latches scope (always examples.none_written) ≡ []
+unfolding some_bit is_latched number
+none_written = refl
+
+pub none_in_range : block_latches scope (always examples.none_in_range) ≡ Latch (121 ∷ []) 2 ∷ []
+unfolding some_bit is_latched number
+none_in_range = refl
+
 pub read_after : block_latches scope (always examples.read_after) ≡ []
 unfolding some_bit is_latched number
 read_after = refl

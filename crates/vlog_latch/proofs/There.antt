@@ -69,7 +69,7 @@ part_there : (span : Span) (o : Option ℕ) (w m k : ℕ) → part_writes span o
 part_there span None w m k h = h
 part_there span (Some low) w m k h = (and_parts (bits_of span m k) (nat_le low k && nat_lt k (low + w)) h).0
 
-net_there : (r : Readable) (span : Span) (last : LastOf ℕ) (m k : ℕ) → net_writes r span last m k ≡ true → bits_of span m k ≡ true
+pub net_there : (r : Readable) (span : Span) (last : LastOf ℕ) (m k : ℕ) → net_writes r span last m k ≡ true → bits_of span m k ≡ true
 net_there r span NoLast m k h = h
 net_there r span (Last sel) m k h = part_there span (constant_low r sel) (picked r (Last sel) span.width) m k h
 
@@ -99,7 +99,7 @@ module _ (r : Readable) where
 
 -- ---- targets and statements
 
-both : (a b c : Bool) → (a ≡ true → c ≡ true) → (b ≡ true → c ≡ true) → (a || b) ≡ true → c ≡ true
+pub both : (a b c : Bool) → (a ≡ true → c ≡ true) → (b ≡ true → c ≡ true) → (a || b) ≡ true → c ≡ true
 both true b c f g h = f refl
 both false b c f g h = g h
 

@@ -2,7 +2,7 @@
 use Rattle.std.specs.Prelude.{ℕ, false, true, List, [], ◌∷◌, None}
 use Rattle.vlog_tree.specs.declared.expr.NumberKind.TheVariants.{Decimal}
 use Rattle.vlog_tree.specs.declared.stmt.AssignOp.TheVariants.{Blocking}
-use Rattle.vlog_tree.specs.Tree.{ExprOf, UnaryExpr, NumberPrim, RefPrim, RefOf, RefWith, NoIndex, LastOf, NoLast, Last, IndexSel}
+use Rattle.vlog_tree.specs.Tree.{ExprOf, UnaryExpr, NumberPrim, RefPrim, RefOf, RefWith, NoIndex, LastOf, NoLast, Last, IndexSel, IndexedSel}
 use Rattle.vlog_tree.specs.Tree.{RefTarget, StmtOf, BeginStmt, IfStmt, CaseStmt, AssignStmt, StmtBody, NoElse, Else}
 use Rattle.vlog_tree.specs.Tree.{ArmOf, LabelsArm, DefaultArm, arms_of, stmts_of, ImplicitEvent, AlwaysOf}
 use Rattle.vlog_size.specs.Names.{Readable}
@@ -78,6 +78,14 @@ with_else = IfStmt s_read (StmtBody (set_z one_number)) (Else (StmtBody (set_z z
 -- `begin y[0] = 1; z = y[1]; end`
 abbrev pub other_bit_read : StmtOf ℕ
 other_bit_read = block (set 121 (at zero_number) one_number ∷ set_z (read 121 (at one_number)) ∷ [])
+
+-- `y[2 +: 1] = 1;`, which writes no bit
+abbrev pub none_written : StmtOf ℕ
+none_written = set 121 (Last (IndexedSel (digit 50) one_number)) one_number
+
+-- `begin y[2 +: 1] = 1; z = y[0]; end`
+abbrev pub none_in_range : StmtOf ℕ
+none_in_range = block (none_written ∷ set_z (read 121 (at zero_number)) ∷ [])
 
 -- `begin y = 0; z = y[1]; end`
 abbrev pub read_after : StmtOf ℕ

@@ -10,10 +10,12 @@ ghost use Rattle.net_design.specs.declared.act.Timing.TheVariants.{Blocking};
 ghost use Rattle.net_design.specs.Bits.{BitSet, named, block_adds};
 ghost use Rattle.vlog_block.specs.Updates.{timing_of};
 ghost use Rattle.vlog_block.specs.Written.{always_writes};
+ghost use Rattle.vlog_block.specs.Naming.{Naming, always_names};
 ghost use Rattle.vlog_latch.specs.declared.error.BlockError.TheVariants.{Latch};
-ghost use Rattle.vlog_latch.specs.Latch.{latches};
+ghost use Rattle.vlog_latch.specs.Latch.{is_named, latches};
 ghost use Rattle.vlog_latch.specs.Blocks.{block_latches, is_there, IsCodeOf};
-ghost use Rattle.vlog_latch.specs.Examples.{scope, always, no_else, mended, with_else, other_bit_read, read_after, two_nets};
+ghost use Rattle.vlog_latch.specs.Examples.{scope, always, no_else, mended, with_else, other_bit_read, none_written, none_in_range};
+ghost use Rattle.vlog_latch.specs.Examples.{read_after, two_nets};
 ghost use Rattle.vlog_latch.specs.Examples.{at_run_time, whole_before, index_read, no_default, with_default, label_read};
 
 /// The bits that a block writes are bits of its scope's nets.
@@ -32,13 +34,21 @@ pub fn no_latch_is_whole()
         → (m k : ℕ) → named code.writes m k ≡ true → named code.reads m k ≡ false }
 {}
 
-/// Where nothing is found, a bit that is written is surely assigned, and no bit of its net is read before; and the other way round.
+/// Where nothing is found, a bit that is written is surely assigned, and of a net that is named as a target no bit is read before; and
+/// the other way round.
 pub fn no_latch_means()
-    ensures found { (writes adds reads : BitSet) (line : ℕ) (nets : List (Named ScopeNet)) → latches writes adds reads line nets ≡ []
-        → (m k j : ℕ) → m < length nets → k < 128 → j < 128 → writes m k ≡ true → (adds m k ≡ true) × (reads m j ≡ false) }
-    ensures none { (writes adds reads : BitSet) (line : ℕ) (nets : List (Named ScopeNet))
-        → ((m k j : ℕ) → m < length nets → k < 128 → j < 128 → writes m k ≡ true → (adds m k ≡ true) × (reads m j ≡ false))
-        → latches writes adds reads line nets ≡ [] }
+    ensures found { (writes : BitSet) (names : List Naming) (adds reads : BitSet) (line : ℕ) (nets : List (Named ScopeNet))
+        → latches writes names adds reads line nets ≡ [] → (m k : ℕ) → m < length nets → k < 128
+        → (writes m k ≡ true → adds m k ≡ true) × (is_named names m ≡ true → reads m k ≡ false) }
+    ensures none { (writes : BitSet) (names : List Naming) (adds reads : BitSet) (line : ℕ) (nets : List (Named ScopeNet))
+        → ((m k : ℕ) → m < length nets → k < 128
+        → (writes m k ≡ true → adds m k ≡ true) × (is_named names m ≡ true → reads m k ≡ false))
+        → latches writes names adds reads line nets ≡ [] }
+{}
+
+/// A net of which a block writes a bit stands among its targets.
+pub fn written_nets_are_named()
+    ensures { (r : Readable) (a : AlwaysOf ℕ) (m k : ℕ) → always_writes r a m k ≡ true → is_named (always_names r a) m ≡ true }
 {}
 
 /// The findings of small blocks.
@@ -47,6 +57,8 @@ pub fn latches_shown()
     ensures mended { block_latches scope (always mended) ≡ [] }
     ensures with_else { block_latches scope (always with_else) ≡ [] }
     ensures other_bit_read { block_latches scope (always other_bit_read) ≡ Latch (121 ∷ []) 2 ∷ [] }
+    ensures none_written { block_latches scope (always none_written) ≡ [] }
+    ensures none_in_range { block_latches scope (always none_in_range) ≡ Latch (121 ∷ []) 2 ∷ [] }
     ensures read_after { block_latches scope (always read_after) ≡ [] }
     ensures two_nets { block_latches scope (always two_nets) ≡ Latch (121 ∷ []) 2 ∷ Latch (122 ∷ []) 2 ∷ [] }
     ensures at_run_time { block_latches scope (always at_run_time) ≡ Latch (121 ∷ []) 2 ∷ [] }

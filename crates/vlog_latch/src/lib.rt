@@ -12,4 +12,7 @@ mod laws;
 pub use bind::bind_block;
 pub use code::{code_latch, latch};
 pub use error::BlockError;
-pub use laws::{latches_shown, no_latch_is_whole, no_latch_means, written_bits_are_there};
+pub use laws::{
+    latches_shown, no_latch_is_whole, no_latch_means, written_bits_are_there,
+    written_nets_are_named,
+};

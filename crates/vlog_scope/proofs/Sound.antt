@@ -15,7 +15,7 @@ use Rattle.vlog_size.specs.declared.scope.Param.{Param}
 use Rattle.vlog_size.specs.Literal.{is_lawful}
 use Rattle.vlog_size.specs.Names.{Readable, fixed, is_lawful_const, are_lawful_params}
 use Rattle.vlog_size.specs.Size.{Sizes, sizes_of, number, or_zero, reaches, too_large, constant_at, constant_of, assigned_number, faults}
-use Rattle.vlog_size.proofs.Answered.{lawful_constant, lawful_assigned}
+use Rattle.vlog_size.proofs.Answered.{lawful_constant, lawful_parts, lawful_assigned}
 use Rattle.vlog_scope.specs.declared.fault.FaultKind.TheVariants.{Constant, Width}
 use Rattle.vlog_scope.specs.declared.extent.Extent.{Extent}
 use Rattle.vlog_scope.specs.declared.extent.Extent.TheVariants.{NoRange, Bits, AtFault}
@@ -29,6 +29,7 @@ is_good p = p.known && is_lawful_const p.value
 
 -- an expression that makes lawful constants
 pub record Makes (e : Sizes) : Type 0 where
+  pub parts : e.parts_lawful ≡ true
   pub own : (c : Const) × (constant_of e ≡ Some c) × (is_lawful_const c ≡ true)
   pub assigned : (w : ℕ) → IsWidth w → (n : ℕ) × (assigned_number w e ≡ Some n) × (n < 2 ^ w)
 
@@ -41,6 +42,7 @@ pub makes : (r : Readable) (e : ExprOf ℕ) → are_lawful_params r.constants �
 makes r e l h k =
     let sound : faults (sizes_of (fixed r) e) ≡ [] = both_faults (constant_sizes r e) h k in
     record {
+      parts = lawful_parts r e l sound;
       own = lawful_constant r e l sound;
       assigned = λ w i. lawful_assigned r e w i l sound;
     }
@@ -60,7 +62,10 @@ good_const false w (Some n) c h l =
 
 pub good_own : (e : Sizes) → Makes e → is_good (own_param e) ≡ true
 unfolding constant_of
-good_own e m = good_const e.plain e.width (number e) m.own.0 m.own.1 m.own.2
+good_own e m =
+    ap (λ (b : Bool). is_some (number e)
+    && is_lawful_const (constant_at e.plain (if b then min e.width MOST else 0) (or_zero (number e)))) m.parts
+    ∙ good_const e.plain e.width (number e) m.own.0 m.own.1 m.own.2
 
 below : (n w : ℕ) → n < 2 ^ w → nat_lt n (2 ^ w) ≡ true
 below n w h = grind arith

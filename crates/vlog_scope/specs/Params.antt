@@ -30,9 +30,13 @@ abbrev pub given_or : Option Sizes → Sizes → Sizes
 given_or None own = own
 given_or (Some e) own = e
 
+-- the width of an expression's constant; 0, which is no lawful one, where a part that makes it has no lawful one
+abbrev pub constant_width : Sizes → ℕ
+constant_width e = if e.parts_lawful then min e.width MOST else 0
+
 -- the constant of an expression, with number 0 where it has none
 abbrev pub own_param : Sizes → Param
-own_param e = record { value = constant_at e.plain (min e.width MOST) (or_zero (number e)); known = is_some (number e) }
+own_param e = record { value = constant_at e.plain (constant_width e) (or_zero (number e)); known = is_some (number e) }
 
 -- so many bits and their number, where there is one
 abbrev pub ranged_param : ℕ → Option ℕ → Param

@@ -5,7 +5,7 @@ ghost use Rattle.vlog_tree.specs.Plain.{plain_expr, plain_range, plain_conn, pla
 ghost use Rattle.vlog_scope.specs.declared.extent.Extent.TheVariants.{NoRange};
 ghost use Rattle.vlog_size.specs.Names.{Readable, readable_in, params_alone, fixed};
 ghost use Rattle.vlog_size.specs.Size.{Sizes, sizes_of, number, or_zero, constant_at};
-ghost use Rattle.vlog_size.specs.Facts.{ShowsNumber};
+ghost use Rattle.vlog_size.specs.Facts.{Shows, ShowsNumber};
 ghost use Rattle.vlog_size.specs.Table.{value_of};
 ghost use Rattle.vlog_scope.specs.Extents.{MOST, constant_sizes, parameter_extent};
 ghost use Rattle.vlog_scope.specs.Params as params;
@@ -15,7 +15,8 @@ use crate::extent::{Extent, MOST, extent_of, parameter_extent};
 use std::alloc::Global;
 use vidi_bits::{Memory, copied};
 use vlog_size::{
-    Const, Numbered, Param, Params, Table, View, assigned_number, fixed, numbered, params_view,
+    Const, Facts, Numbered, Param, Params, Table, View, assigned_number, fixed, numbered,
+    params_view,
 };
 use vlog_tree::{Conn, Expr, Item, NamedValue, Parameter};
 
@@ -70,10 +71,22 @@ pub fn overrides_of<'a>(
     })
 }
 
+/// The width of an expression's constant; 0, which is no lawful one, where a part that makes it has
+/// no lawful one.
+fn constant_width(facts: &Facts) -> u32
+    ensures { (E : Sizes) → Shows facts.now E → result ≡ params.constant_width E }
+{
+    if facts.parts_lawful {
+        facts.width.min(2_147_483_648) as u32
+    } else {
+        0
+    }
+}
+
 /// The constant of an expression, with number 0 where it has none.
 #[tactic(auto, using(crate::proofs::Overridden::plain_number))]
 fn own_const(whole: &Numbered) -> Const
-    ensures { (E : Sizes) → ShowsNumber whole.now E → result ≡ constant_at E.plain (min E.width MOST) (or_zero (number E)) }
+    ensures { (E : Sizes) → ShowsNumber whole.now E → result ≡ constant_at E.plain (params.constant_width E) (or_zero (number E)) }
 {
     if whole.facts.plain {
         Const::Plain {
@@ -81,7 +94,7 @@ fn own_const(whole: &Numbered) -> Const
         }
     } else {
         Const::Sized {
-            width: whole.facts.width.min(2_147_483_648) as u32,
+            width: constant_width(&whole.facts),
             n: whole.number.unwrap_or(0),
         }
     }

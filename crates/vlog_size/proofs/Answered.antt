@@ -183,6 +183,21 @@ lawful_constant r e l =
     subst P (expr_alike (fixed r) (constants_lawful r l) e)
     (λ (h : faults found ≡ []). constant_there found (number found) (faultless_constant r e h) refl)
 
+checked_parts : (r : Readable) (e : ExprOf ℕ) → faults (sizes_of (fixed (checked r)) e) ≡ []
+    → (sizes_of (fixed (checked r)) e).parts_lawful ≡ true
+unfolding faults
+checked_parts r e h =
+    let found = sizes_of (fixed (checked r)) e in
+    let sized : IsSized found = expr_sized (fixed r) e (nil_left found.const_faults found.width_faults h)
+    (nil_right found.const_faults found.width_faults h) in
+    sized.parts
+
+pub lawful_parts : (r : Readable) (e : ExprOf ℕ) → are_lawful_params r.constants ≡ true → faults (sizes_of (fixed r) e) ≡ []
+    → (sizes_of (fixed r) e).parts_lawful ≡ true
+lawful_parts r e l =
+    let P : Sizes → Type 0 = λ s. faults s ≡ [] → s.parts_lawful ≡ true in
+    subst P (expr_alike (fixed r) (constants_lawful r l) e) (checked_parts r e)
+
 -- ---- the number that some bits have
 assigned_there : (value : ℕ → Option ℕ) (c l : Bool) (w : ℕ) → c ≡ true → l ≡ true → is_none (value w) ≡ false
     → is_none (at_width value (if c && l then Some w else None)) ≡ false

@@ -35,6 +35,7 @@ place_sized line width picked limit None last w p s h k = record {
   fits = λ v wide top. below_none v;
   lawful = part_lawful line width picked limit last s w p h (nil_left (part_fault line width last) (part_width_faults width limit last) k)
       (nil_right (part_fault line width last) (part_width_faults width limit last) k);
+  parts = refl;
   known = λ c. never ((v : ℕ) → true ≡ false) c;
   whole = λ c. never (true ≡ false) c;
 }
@@ -46,6 +47,7 @@ place_sized line width picked limit (Some i) last w p s h k =
       fits = λ v wide top. below_none v;
       lawful = part_lawful line width 1 width last s w refl (nil_right i.const_faults (part_const_faults last) h)
           (nil_left (part_fault line width last) parts k) inner;
+      parts = refl;
       known = λ c. never ((v : ℕ) → true ≡ false) c;
       whole = λ c. never (true ≡ false) c;
     }
@@ -66,6 +68,7 @@ good_width line w rest h =
 name_sized : (b : Bool) (line : ℕ) (m : Meaning) (e : Sizes) → IsSized e → IsSized (of_name b line m e)
 name_sized b line m e s = record {
   lawful = s.lawful;
+  parts = s.parts;
   fits = s.fits;
   known = s.known;
   whole = s.whole;
@@ -179,7 +182,7 @@ mutual
     known_sized (sizes_of (fixed (checked s)) b) (expr_sized (fixed s) b) (expr_constant (checked s) b),
   )
   sel_sized s (IndexedSel base width) =
-      (expr_sized s base, known_sized (sizes_of (fixed (checked s)) width) (expr_sized (fixed s) width) (expr_constant (checked s) width))
+      known_sized (sizes_of (fixed (checked s)) width) (expr_sized (fixed s) width) (expr_constant (checked s) width)
 
   all_sized : (s : Readable) (es : ExprsOf ℕ) → AllSized (sizes_of_all (checked s) es)
   all_sized s NoExprs = none_sized

@@ -16,3 +16,4 @@ pub mod Shifts
 pub mod Sized
 pub mod Tables
 pub mod Totals
+pub mod WidthExamples

@@ -78,6 +78,7 @@ number_sized n h k =
     record {
       fits = λ w wide top. literal_fits n.kind n.text w (or_right (is_bad_literal n.kind n.text) decimal good) wide;
       lawful = good_width (is_none (spelled_number n.kind n.text)) (is_lawful (literal_width n.kind n.text)) lawful;
+      parts = refl;
       known = λ c w. literal_there n.kind n.text lawful;
       whole = decimal_there n.kind n.text (or_right (is_bad_literal n.kind n.text) decimal good);
     }

@@ -63,6 +63,7 @@ pub param_sized : (line : ℕ) (c : Const) (known : Bool) → known ≡ true →
     → IsSized (of_param line c known)
 param_sized line c known k p l = record {
   lawful = l;
+  parts = refl;
   fits = λ w wide top. known_fits known c w p wide;
   known = λ o w. known_there known (const_number c) k;
   whole = plain_there known c k p;

@@ -8,7 +8,7 @@ use Rattle.vidi_bits.proofs.FindingLaws.{told_none}
 use Rattle.vidi_bits.proofs.Lists.{nil_left, nil_right}
 use Rattle.vlog_size.specs.declared.error.SizeError.TheVariants as error
 use Rattle.vlog_size.specs.Literal.{is_lawful}
-use Rattle.vlog_size.specs.Size.{Sizes, own_width, number, reaches, all_constant, all_lawful, total_width, sum_fault, unsized_part}
+use Rattle.vlog_size.specs.Size.{Sizes, has_width, own_width, number, reaches, all_constant, all_lawful, total_width, sum_fault, unsized_part}
 use Rattle.vlog_size.specs.Size.{parts_const_faults, parts_width_faults, joined, join_with, joined_at}
 use Rattle.vlog_size.specs.Size.{is_too_large, times, repeat_width, repeat_value, count_fault, concat_value, of_repeat}
 use Rattle.vlog_size.specs.Size.{of_concat, Bracket, NoBracket, Bit, Part, Indexed, part_width, part_const_faults, part_fault}
@@ -18,7 +18,7 @@ use Rattle.vidi_bits.specs.Number.{side_by_side, repeated}
 use Rattle.vidi_bits.proofs.NumberLemmas.{repeated_fits}
 use Rattle.vlog_size.proofs.Repeats.{lawful_unit}
 use Rattle.vlog_size.proofs.Fits.{Below, below_none, below_some, wider, joined_fits}
-use Rattle.vlog_size.proofs.Sized.{IsSized, Sized, two_there, number_there}
+use Rattle.vlog_size.proofs.Sized.{IsSized, Sized, sized_width, two_there, number_there}
 
 -- ---- `{part, ..}`
 pub record AreSized (ps : List Sizes) : Type 0 where
@@ -52,7 +52,7 @@ more_sized p ps head tail h k =
     let rest : AreSized ps = tail (nil_right (unsized_part p ++ p.const_faults) (parts_const_faults ps) h)
     (nil_right p.width_faults (parts_width_faults ps) k) in
     record {
-      lawful = and_from (is_lawful p.width) (all_lawful ps) s.lawful rest.lawful;
+      lawful = and_from (has_width p) (all_lawful ps) (sized_width p s) rest.lawful;
       known = λ c w n there. rest.known (right_of p.constant (all_constant ps) c) (w + p.width) (join_with w n p (own_width p))
           (join_there w n p s (left_of p.constant (all_constant ps) c) there);
     }
@@ -79,6 +79,7 @@ concat_sized line ps inner h k =
     (told_none (all_lawful ps && not (is_lawful (total_width ps))) (error.Width line (total_width ps)) own) s.lawful in
     record {
       lawful = fits;
+      parts = s.lawful;
       fits = λ w h k. all_fit ps w (all_constant ps && is_lawful (total_width ps)) h;
       known = λ c w. concat_at ps (all_constant ps) (is_lawful (total_width ps)) (total_width ps) c fits (s.known c);
       whole = λ p. never (true ≡ false) p;
@@ -144,6 +145,7 @@ repeat_sized line c ps count inner h k =
     times_lawful line (times c) ps there s.lawful (nil_left (count_fault line (times c) ps) (c.width_faults ++ parts_width_faults ps) k) in
     record {
       lawful = fits;
+      parts = s.lawful;
       fits = λ w h k. repeat_fits (times c) (total_width ps) w (concat_value ps) h;
       known = λ o w. repeat_there (times c) (total_width ps) (concat_value ps) there fits
           (concat_at ps (all_constant ps) (is_lawful (total_width ps)) (total_width ps) (right_of c.constant (all_constant ps) o)
@@ -159,7 +161,7 @@ abbrev pub BracketSized : Bracket → Type 0
 BracketSized NoBracket = Unit {0}
 BracketSized (Bit i) = Unit {0}
 BracketSized (Part a b) = Known a × Known b
-BracketSized (Indexed base width) = Sized base × Known width
+BracketSized (Indexed base width) = Known width
 
 bounds_fit : (whole : ℕ) (a b : Option ℕ) → is_lawful whole ≡ true → is_none a ≡ false → is_none b ≡ false → reaches whole a ≡ false
     → is_wrong_order a b ≡ false → is_lawful (bounds_width a b) ≡ true
@@ -167,11 +169,10 @@ bounds_fit whole None b l h k i o = (cc)
 bounds_fit whole (Some a) None l h k i o = (cc)
 bounds_fit whole (Some a) (Some b) l h k i o = bounds_lawful a b whole l i o
 
-part_fits : (whole : ℕ) (base : Sizes) (k : Option ℕ) → is_lawful whole ≡ true → is_lawful base.width ≡ true → is_none k ≡ false
-    → is_wrong_part whole base k ≡ false → is_lawful (or_zero k) ≡ true
-part_fits whole base None l b h o = (cc)
-part_fits whole base (Some k) l b h o =
-    and_not_false (is_lawful whole && is_lawful base.width) (is_lawful k) o (and_from (is_lawful whole) (is_lawful base.width) l b)
+part_fits : (whole : ℕ) (k : Option ℕ) → is_lawful whole ≡ true → is_none k ≡ false → is_wrong_part whole k ≡ false
+    → is_lawful (or_zero k) ≡ true
+part_fits whole None l h o = (cc)
+part_fits whole (Some k) l h o = and_not_false (is_lawful whole) (is_lawful k) o l
 
 in_reach : (limit : ℕ) (i : Sizes) → outside limit i ≡ [] → reaches limit (number i) ≡ false
 in_reach limit i h = told_none (reaches limit (number i)) (error.Width i.line (or_zero (number i))) h
@@ -201,9 +202,7 @@ part_lawful line whole picked limit (Part a b) s l p h o k =
     (in_reach whole a (nil_left (outside whole a) rest_a a_all))
     order
 part_lawful line whole picked limit (Indexed base width) s l p h o k =
-    let inner : IsSized base =
-    s.0 (nil_left base.const_faults (too_large width ++ width.const_faults) h) (nil_left base.width_faults width.width_faults k) in
-    part_fits whole base (number width) l inner.lawful
-    (s.1 (nil_right (too_large width) width.const_faults (nil_right base.const_faults (too_large width ++ width.const_faults) h))
+    part_fits whole (number width) l
+    (s (nil_right (too_large width) width.const_faults (nil_right base.const_faults (too_large width ++ width.const_faults) h))
     (nil_right base.width_faults width.width_faults k))
-    (told_none (is_wrong_part whole base (number width)) (error.Width line (or_zero (number width))) o)
+    (told_none (is_wrong_part whole (number width)) (error.Width line (or_zero (number width))) o)

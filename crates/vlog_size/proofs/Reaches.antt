@@ -20,7 +20,6 @@ use Rattle.vlog_size.specs.Size.{Sizes, own, own_width, shared_width, at_width, 
 use Rattle.vlog_size.specs.Size.{binary_width, compared, operated, chosen_value, join_with, joined, joined_at, concat_value, all_constant}
 use Rattle.vlog_size.specs.Size.{total_width, of_concat, repeat_value}
 use Rattle.vlog_size.specs.Facts.{Shows, ShowsAt, ShowsBoth, ShowsOperands, ShowsRest, ShowsGathered, ShowsAll, operated_width}
-use Rattle.vlog_size.specs.Facts.{left_reach, right_reach, is_enough}
 use Rattle.vlog_size.proofs.Repeats.{value_capped}
 
 -- ---- lawful widths
@@ -242,33 +241,6 @@ not_enough wide f g again a b test s t u =
       left_again wide f.facts.width g.facts.width again a b s.facts.width t.facts.width over u,
       right_asked wide f.facts.width g a b s.facts.width t,
     )
-
-pub done_operands : (kind : Kind) (h : ℕ) (f g : Evaluated) (a b : Sizes)
-    → is_enough kind h f.facts.constant f.facts.width g.facts.width ≡ true → ShowsAt (left_reach kind h) f a
-    → ShowsAt (right_reach kind h f.facts.width) g b → ShowsOperands kind h (record { left = f; right = g }) a b
-done_operands Sum h f g a b test s t = enough h f g a b test s t
-done_operands Comparison h f g a b test s t = enough 0 f g a b test s t
-done_operands Logic h f g a b test s t = (s, t)
-done_operands Shift h f g a b test s t = (s, t)
-
-pub more_operands : (kind : Kind) (h : ℕ) (f g again : Evaluated) (a b : Sizes)
-    → is_enough kind h f.facts.constant f.facts.width g.facts.width ≡ false → ShowsAt (left_reach kind h) f a
-    → ShowsAt (right_reach kind h f.facts.width) g b → ShowsAt g.facts.width again a
-    → ShowsOperands kind h (record { left = again; right = g }) a b
-more_operands Sum h f g again a b test s t u = not_enough h f g again a b test s t u
-more_operands Comparison h f g again a b test s t u = not_enough 0 f g again a b test s t u
-more_operands Logic h f g again a b test s t u = (cc)
-more_operands Shift h f g again a b test s t u = (cc)
-
-pub paired : (kind k : Kind) (h start next : ℕ) (f g : Evaluated) (o : Operands) (a b : Sizes) → kind ≡ k → start ≡ left_reach kind h
-    → next ≡ right_reach kind h f.facts.width → ShowsAt start f a → ShowsAt next g b
-    → ((c : Sizes) → ShowsAt (left_reach kind h) f a → ShowsAt (right_reach kind h f.facts.width) g c → ShowsOperands kind h o a c)
-    → ShowsOperands k h o a b
-paired kind k h start next f g o a b same left right s t made =
-    let P : ℕ → Type 0 = λ w. ShowsAt w f a in
-    let Q : ℕ → Type 0 = λ w. ShowsAt w g b in
-    let R : Kind → Type 0 = λ x. ShowsOperands x h o a b in
-    subst R same (made b (subst P left s) (subst Q right t))
 
 -- ---- an operator before an operand
 abbrev pub unary_made : UnaryOp → Option ℕ → ℕ → Option ℕ

@@ -1,5 +1,5 @@
 -- Of parts without a fault: what each form of expression makes of their widths and numbers.
-use Rattle.std.proofs.Common.{◌≡◌, ◌≤◌, ℕ, Bool, true, false, ◌&&◌, ◌||◌, max, if◌then◌else◌, Option, None, Some, is_none, [], ◌++◌, refl}
+use Rattle.std.proofs.Common.{◌≡◌, ◌≤◌, ℕ, Bool, true, false, ◌&&◌, ◌||◌, not, max, if◌then◌else◌, Option, None, Some, is_none, [], ◌++◌, refl}
 use Rattle.std.proofs.Common.{◌==◌, arith}
 use Rattle.std.proofs.lemmas.Bool.{and_from}
 use Rattle.vidi_bits.proofs.Bools.{never, left_of, right_of}
@@ -15,15 +15,16 @@ use Rattle.vidi_bits.specs.Findings.{told_if}
 use Rattle.vlog_size.specs.Literal.{is_lawful}
 use Rattle.vlog_size.specs.Operators.{kind_of, is_plain_op, is_wide, whole_value, binary_value, unary_value}
 use Rattle.vlog_size.specs.Size.{Sizes, own, own_width, at_width, number, is_sound, of_one, of_two, binary_width, operated, compared}
-use Rattle.vlog_size.specs.Size.{shared_width}
+use Rattle.vlog_size.specs.Size.{shared_width, has_width, operands_lawful}
 use Rattle.vlog_size.specs.Size.{of_binary, is_out, is_bad_operator, is_bad_binary, wide_value, narrow_value, of_sign}
 use Rattle.vlog_size.specs.Size.{chosen_value, chosen_whole, of_choice, of_paren}
 use Rattle.vlog_size.proofs.Fits.{Below, below_none, wide_fits, narrow_fits, sum_fits, comparison_fits, logic_fits, shift_fits}
 use Rattle.vlog_size.proofs.Lists.{larger_lawful}
 
--- a lawful width, the number of a constant, which fits each width that is large enough, and the value of a plain expression
+-- a lawful width, also of each part that makes it, the number of a constant, which fits each width that is large enough, and the value of a plain expression
 pub record IsSized (e : Sizes) : Type 0 where
   pub lawful : is_lawful e.width ≡ true
+  pub parts : e.parts_lawful ≡ true
   pub fits : (w : ℕ) → e.width ≤ w → w ≤ 128 → Below w (e.value w)
   pub known : e.constant ≡ true → (w : ℕ) → is_none (e.value w) ≡ false
   pub whole : e.plain ≡ true → is_none e.whole ≡ false
@@ -31,6 +32,9 @@ pub record IsSized (e : Sizes) : Type 0 where
 -- without a fault
 abbrev pub Sized : Sizes → Type 0
 Sized e = e.const_faults ≡ [] → e.width_faults ≡ [] → IsSized e
+
+pub sized_width : (e : Sizes) → IsSized e → has_width e ≡ true
+sized_width e s = and_from e.parts_lawful (is_lawful e.width) s.parts s.lawful
 
 at_own : (value : ℕ → Option ℕ) (c l : Bool) (w : ℕ) → c ≡ true → l ≡ true → ((w : ℕ) → is_none (value w) ≡ false)
     → is_none (at_width value (if c && l then Some w else None)) ≡ false
@@ -68,6 +72,10 @@ sign_lawful : (b : Bool) (w : ℕ) → is_lawful w ≡ true → is_lawful (if b 
 sign_lawful true w h = h
 sign_lawful false w h = refl
 
+or_second : (a b : Bool) → b ≡ true → (a || b) ≡ true
+or_second true b h = refl
+or_second false b h = h
+
 narrow_there : (op : UnaryOp) (value : ℕ → Option ℕ) (c l : Bool) (w : ℕ) → c ≡ true → l ≡ true → ((w : ℕ) → is_none (value w) ≡ false)
     → is_none (narrow_value op value (if c && l then Some w else None)) ≡ false
 narrow_there op value true true w h k known = one_there (λ (n : ℕ). unary_value op n w) (value w) (known w)
@@ -100,6 +108,7 @@ sign_sized line op a inner h k =
     let s : IsSized a = inner (nil_right (told_if (is_wide op && a.is_unsized) (error.Const line)) a.const_faults h) k in
     record {
       lawful = sign_lawful (is_wide op) a.width s.lawful;
+      parts = or_second (not (is_wide op)) (has_width a) (sized_width a s);
       fits = λ w h k. sign_fits (is_wide op) op a w refl s h k;
       known = λ c w. either_there (is_wide op) (wide_value op a.value w) (narrow_value op a.value (own_width a))
           (one_there (λ (n : ℕ). unary_value op n w) (a.value w) (s.known c w)) (narrow_own op a s c);
@@ -154,6 +163,12 @@ binary_lawful Comparison a b h k = refl
 binary_lawful Logic a b h k = refl
 binary_lawful Shift a b h k = h
 
+binary_parts : (kind : Kind) (a b : Sizes) → IsSized a → IsSized b → operands_lawful kind a b ≡ true
+binary_parts Sum a b s t = and_from (has_width a) (has_width b) (sized_width a s) (sized_width b t)
+binary_parts Comparison a b s t = refl
+binary_parts Logic a b s t = refl
+binary_parts Shift a b s t = sized_width a s
+
 in_range_there : (op : BinaryOp) (a b : Option ℕ) → is_none a ≡ false → is_none b ≡ false → is_out op a b ≡ false
     → is_none (of_two (whole_value op) a b) ≡ false
 in_range_there op None b h k o = h
@@ -177,6 +192,7 @@ binary_sized op a b left right h k =
     told_none bad (error.Const a.line) (nil_left (told_if bad (error.Const a.line)) (a.const_faults ++ b.const_faults) h) in
     record {
       lawful = binary_lawful (kind_of op) a.width b.width s.lawful t.lawful;
+      parts = binary_parts (kind_of op) a b s t;
       fits = λ w h k. binary_fits (kind_of op) op a b w refl s t h k;
       known = λ c w. binary_there (kind_of op) op a b w s t (left_of a.constant b.constant c) (right_of a.constant b.constant c);
       whole = λ p. in_range_there op a.whole b.whole
@@ -215,6 +231,7 @@ choice_sized c a b condition one other h k =
     let t : IsSized b = other (nil_right a.const_faults b.const_faults branches) (nil_right a.width_faults b.width_faults widths) in
     record {
       lawful = larger_lawful a.width b.width s.lawful t.lawful;
+      parts = and_from (has_width a) (has_width b) (sized_width a s) (sized_width b t);
       fits = λ w h k. chosen_fits (own c) (a.value w) (b.value w) w (s.fits w (left_fits a.width b.width w h) k)
           (t.fits w (right_fits a.width b.width w h) k);
       known = λ o w. chosen_there (own c) (a.value w) (b.value w) (own_there c r (left_of c.constant (a.constant && b.constant) o))
@@ -230,6 +247,7 @@ paren_sized line e inner h k =
     let s : IsSized e = inner h k in
     record {
       lawful = s.lawful;
+      parts = s.parts;
       fits = s.fits;
       known = s.known;
       whole = s.whole;

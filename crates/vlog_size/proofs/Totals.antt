@@ -3,21 +3,22 @@ use Rattle.std.proofs.Common.{◌≡◌, ℕ, ◌+◌, ◌*◌, ◌≤◌, ◌<�
 use Rattle.std.proofs.Common.{sym, ◌∙◌}
 use Rattle.vlog_size.specs.declared.error.SizeError.TheVariants as error
 use Rattle.std.proofs.lemmas.Grind.{common_steps}
-use Rattle.vidi_bits.proofs.Bools.{right_of}
+use Rattle.vidi_bits.proofs.Bools.{left_of, right_of}
 use Rattle.vlog_size.specs.Limits.{TOP}
 use Rattle.vlog_size.specs.Literal.{is_lawful}
 use Rattle.vidi_bits.specs.Findings.{first, told_if}
-use Rattle.vlog_size.specs.Size.{Sizes, all_lawful, total_width, sum_fault}
+use Rattle.vlog_size.specs.Size.{Sizes, has_width, all_lawful, total_width, sum_fault}
 
-one_lawful : (w : ℕ) (rest : Bool) → (is_lawful w && rest) ≡ true → w ≤ 128
-one_lawful w rest h = grind arith
+one_lawful : (p : Sizes) (rest : Bool) → (has_width p && rest) ≡ true → p.width ≤ 128
+one_lawful p rest h =
+    let own : is_lawful p.width ≡ true = right_of p.parts_lawful (is_lawful p.width) (left_of (has_width p) rest h) in grind arith
 
 pub lawful_total : (ps : List Sizes) → all_lawful ps ≡ true → total_width ps ≤ 128 * length ps
 lawful_total [] h = omega arith
 lawful_total (p ∷ ps) h =
     let split : total_width (p ∷ ps) ≡ p.width + total_width ps = grind (arith, common_steps) in
     let more : length (p ∷ ps) ≡ 1 + length ps = omega arith in
-    omega (arith, split, more, one_lawful p.width (all_lawful ps) h, lawful_total ps (right_of (is_lawful p.width) (all_lawful ps) h))
+    omega (arith, split, more, one_lawful p (all_lawful ps) h, lawful_total ps (right_of (has_width p) (all_lawful ps) h))
 
 told_at : (line sum total : ℕ) (lawful : Bool) → (lawful ≡ true → sum ≡ total)
     → first (told_if (lawful && not (is_lawful sum)) (error.Width line sum)) ≡ first

@@ -24,6 +24,7 @@ pub record Shows (f : Facts) (e : Sizes) : Type 0 where
   pub unsized_literal : f.unsized_literal ≡ e.unsized_literal
   pub constant : f.constant ≡ e.constant
   pub width : f.width ≡ min e.width TOP
+  pub parts_lawful : f.parts_lawful ≡ e.parts_lawful
   pub whole : f.whole ≡ e.whole
   pub const_fault : f.const_fault ≡ first e.const_faults
   pub width_fault : f.width_fault ≡ first e.width_faults
@@ -63,27 +64,6 @@ operated_width Sum h a b = max h (max a b)
 operated_width Comparison h a b = max a b
 operated_width Logic h a b = max h 1
 operated_width Shift h a b = max h a
-
--- the least width at which the left operand is taken
-abbrev pub left_reach : Kind → ℕ → ℕ
-left_reach Sum h = h
-left_reach Comparison h = 0
-left_reach Logic h = 0
-left_reach Shift h = h
-
--- the least width at which the right operand is taken, where the left one has v bits
-abbrev pub right_reach : Kind → ℕ → ℕ → ℕ
-right_reach Sum h v = max h v
-right_reach Comparison h v = max 0 v
-right_reach Logic h v = 0
-right_reach Shift h v = 0
-
--- whether the left operand, of u bits and constant or not, is taken wide enough for a right one of v bits
-abbrev pub is_enough : Kind → ℕ → Bool → ℕ → ℕ → Bool
-is_enough Sum h constant u v = not constant || nat_le v (max h u)
-is_enough Comparison h constant u v = not constant || nat_le v (max 0 u)
-is_enough Logic h constant u v = true
-is_enough Shift h constant u v = true
 
 -- two operands, each at the larger of h bits and both widths
 abbrev pub ShowsBoth : ℕ → Operands → Sizes → Sizes → Type 0

@@ -3,6 +3,7 @@ pub mod Literal
 pub mod Names
 pub mod Table
 pub mod Operators
+pub mod Sides
 pub mod Size
 pub mod Facts
 pub mod Kinds

@@ -40,6 +40,8 @@ pub record Sizes : Type 0 where
   pub constant : Bool
   -- its self-determined width
   pub width : ℕ
+  -- whether each part that makes its width has a lawful one
+  pub parts_lawful : Bool
   -- a plain expression's value in whole numbers; none where a part is at fault
   pub whole : Option ℕ
   -- a constant expression's number at a width; none where a width in it is unlawful
@@ -48,6 +50,11 @@ pub record Sizes : Type 0 where
   pub const_faults : List SizeError
   -- E6
   pub width_faults : List SizeError
+
+-- an expression has a lawful width where its own is one, and so is that of each part that makes it; an index, a bound and a `+:` base
+-- make no width
+abbrev pub has_width : Sizes → Bool
+has_width e = e.parts_lawful && is_lawful e.width
 
 -- a value of no, one or two numbers
 abbrev pub of_one : (ℕ → ℕ) → Option ℕ → Option ℕ
@@ -117,6 +124,7 @@ of_number n = record {
   unsized_literal = is_unsized_literal n.kind n.text;
   constant = true;
   width = literal_width n.kind n.text;
+  parts_lawful = true;
   whole = decimal_value n.kind n.text;
   value = λ w. literal_number n.kind n.text;
   const_faults = told_if (is_bad_number n) (error.Const n.line);
@@ -184,22 +192,21 @@ is_wrong_order (Some a) (Some b) = nat_lt a b
 is_wrong_order _ _ = false
 
 -- a width of a part of a vector of lawful width that is unlawful
-abbrev pub is_wrong_part : ℕ → Sizes → Option ℕ → Bool
-is_wrong_part whole base (Some k) = (is_lawful whole && is_lawful base.width) && not (is_lawful k)
-is_wrong_part whole base None = false
+abbrev pub is_wrong_part : ℕ → Option ℕ → Bool
+is_wrong_part whole (Some k) = is_lawful whole && not (is_lawful k)
+is_wrong_part whole None = false
 
 -- the first bound below the second one: the line is the first one's, the number the second one's
 abbrev pub wrong_order : Sizes → Sizes → List SizeError
 wrong_order a b = told_if (is_wrong_order (number a) (number b)) (error.Width a.line (or_zero (number b)))
 
 -- the width after `+:` is unlawful
-abbrev pub wrong_part : ℕ → ℕ → Sizes → Sizes → List SizeError
-wrong_part line whole base width =
-    told_if (is_wrong_part whole base (number width)) (error.Width line (or_zero (number width)))
+abbrev pub wrong_part : ℕ → ℕ → Sizes → List SizeError
+wrong_part line whole width = told_if (is_wrong_part whole (number width)) (error.Width line (or_zero (number width)))
 
 -- the own fault of a select on this line of a vector of `whole` bits
 abbrev pub part_fault : ℕ → ℕ → Bracket → List SizeError
-part_fault line whole (Indexed base width) = wrong_part line whole base width
+part_fault line whole (Indexed base width) = wrong_part line whole width
 part_fault line whole _ = no_faults
 
 -- the faults in the last bracket after a vector of `whole` bits, of which an index is below the limit
@@ -219,6 +226,7 @@ of_param line c known = record {
   unsized_literal = false;
   constant = true;
   width = const_width c;
+  parts_lawful = true;
   whole = if known then in_range (const_number c) else None;
   value = λ w. if known then Some (const_number c) else None;
   const_faults = no_faults;
@@ -234,6 +242,7 @@ of_read line width const_faults width_faults = record {
   unsized_literal = false;
   constant = false;
   width = width;
+  parts_lawful = true;
   whole = None;
   value = λ w. None;
   const_faults = const_faults;
@@ -297,7 +306,7 @@ all_constant parts = list_all (λ (p : Sizes). p.constant) parts
 
 -- each part has a lawful width
 abbrev pub all_lawful : List Sizes → Bool
-all_lawful parts = list_all (λ (p : Sizes). is_lawful p.width) parts
+all_lawful parts = list_all (λ (p : Sizes). has_width p) parts
 
 -- the widths of all parts
 abbrev pub total_width : List Sizes → ℕ
@@ -354,6 +363,7 @@ of_concat line parts = record {
   unsized_literal = false;
   constant = all_constant parts;
   width = total_width parts;
+  parts_lawful = all_lawful parts;
   whole = None;
   value = λ w. concat_value parts;
   const_faults = parts_const_faults parts;
@@ -391,6 +401,7 @@ of_repeat line c parts = record {
   unsized_literal = false;
   constant = c.constant && all_constant parts;
   width = repeat_width (times c) (total_width parts);
+  parts_lawful = all_lawful parts;
   whole = None;
   value = λ w. repeat_value (times c) (total_width parts) (concat_value parts);
   const_faults = (too_large c ++ c.const_faults) ++ parts_const_faults parts;
@@ -415,6 +426,7 @@ of_sign line op a = record {
   unsized_literal = false;
   constant = a.constant;
   width = if is_wide op then a.width else 1;
+  parts_lawful = not (is_wide op) || has_width a;
   whole = None;
   value = λ w. if is_wide op then wide_value op a.value w else narrow_value op a.value (own_width a);
   const_faults = told_if (is_wide op && a.is_unsized) (error.Const line) ++ a.const_faults;
@@ -427,6 +439,13 @@ binary_width Sum a b = max a b
 binary_width Comparison a b = 1
 binary_width Logic a b = 1
 binary_width Shift a b = a
+
+-- whether those of two operands that make the width with an operator of this kind between them have lawful ones
+abbrev pub operands_lawful : Kind → Sizes → Sizes → Bool
+operands_lawful Sum a b = has_width a && has_width b
+operands_lawful Comparison a b = true
+operands_lawful Logic a b = true
+operands_lawful Shift a b = has_width a
 
 -- an operator all of whose operands are unsized, of a shift the left one, that isn't lawful
 abbrev pub is_bad_kind : Kind → BinaryOp → Bool → Bool → Bool → Bool → Bool
@@ -479,6 +498,7 @@ of_binary op a b = record {
   unsized_literal = false;
   constant = a.constant && b.constant;
   width = binary_width (kind_of op) a.width b.width;
+  parts_lawful = operands_lawful (kind_of op) a b;
   whole = of_two (whole_value op) a.whole b.whole;
   value = λ w. operated (kind_of op) op a b w;
   const_faults = told_if (is_bad_binary op a b) (error.Const a.line) ++ (a.const_faults ++ b.const_faults);
@@ -504,6 +524,7 @@ of_choice c a b = record {
   unsized_literal = false;
   constant = c.constant && (a.constant && b.constant);
   width = max a.width b.width;
+  parts_lawful = has_width a && has_width b;
   whole = chosen_whole (number c) a.whole b.whole;
   value = λ w. chosen_value (own c) (a.value w) (b.value w);
   const_faults = c.const_faults ++ (a.const_faults ++ b.const_faults);

@@ -1,6 +1,6 @@
 //! What is said of each form of expression together with its number, from what is said of its parts.
 
-ghost use Rattle.std.specs.Prelude.{◌≡◌, ◌≤◌, ◌+◌, ◌&&◌, [], ◌∷◌, ℕ, List, max, true, Some, None};
+ghost use Rattle.std.specs.Prelude.{◌≡◌, ◌≤◌, ◌+◌, ◌&&◌, ◌||◌, not, nat_le, [], ◌∷◌, ℕ, List, max, true, Some, None};
 ghost use Rattle.std.specs.Prelude.{if◌then◌else◌};
 ghost use Rattle.vidi_bits.specs.Number.{IsWidth, side_by_side};
 ghost use Rattle.vlog_tree.specs.Plain.{plain_number, plain_ref};
@@ -11,7 +11,7 @@ ghost use Rattle.vlog_size.specs.Size.{Sizes, sizes_of_ref, of_number, of_paren,
 ghost use Rattle.vlog_size.specs.Size.{own, number, wide_number, at_width, assigned_width, of_one, of_two, chosen_value};
 ghost use Rattle.vlog_size.specs.Size.{repeat_value};
 ghost use Rattle.vlog_size.specs.Facts.{Shows, ShowsNumber, ShowsAt, ShowsBoth, ShowsOperands, ShowsGathered, ShowsAll};
-ghost use Rattle.vlog_size.specs.Facts.{operated_width, left_reach, right_reach, is_enough};
+ghost use Rattle.vlog_size.specs.Facts.{operated_width};
 
 use crate::facts::{
     Facts, Numbered, Parts, binary_facts, choice_facts, concat_facts, no_parts, number_facts,
@@ -131,36 +131,18 @@ fn operated_width(kind: Kind, wide: u128, left: u128, right: u128) -> u128
     }
 }
 
-/// The least width at which the left operand of an operator of this kind is taken.
-pub fn left_reach(kind: Kind, wide: u128) -> u128
-    ensures { result ≡ left_reach kind wide }
+/// The least width at which the second operand is taken, where this is the first one.
+pub fn reach_after(wide: u128, first: &Evaluated) -> u128
+    ensures { result ≡ max wide first.now.facts.width }
 {
-    match kind {
-        Kind::Sum | Kind::Shift => wide,
-        Kind::Comparison | Kind::Logic => 0,
-    }
+    wide.max(first.facts.width)
 }
 
-/// The least width at which the right operand is taken, where this is the left one.
-pub fn right_reach(kind: Kind, wide: u128, left: &Evaluated) -> u128
-    ensures { result ≡ right_reach kind wide left.now.facts.width }
+/// Whether the first operand was taken wide enough for the second one.
+pub fn is_enough(wide: u128, first: &Evaluated, second: &Evaluated) -> bool
+    ensures { result ≡ (not first.now.facts.constant || nat_le second.now.facts.width (max wide first.now.facts.width)) }
 {
-    match kind {
-        Kind::Sum => wide.max(left.facts.width),
-        Kind::Comparison => left.facts.width.max(0),
-        Kind::Logic | Kind::Shift => 0,
-    }
-}
-
-/// Whether the left operand is taken wide enough for the right one.
-pub fn is_enough(kind: Kind, wide: u128, left: &Evaluated, right: &Evaluated) -> bool
-    ensures { result ≡ is_enough kind wide left.now.facts.constant left.now.facts.width right.now.facts.width }
-{
-    let reach = right_reach(kind, wide, left);
-    match kind {
-        Kind::Sum | Kind::Comparison => !left.facts.constant || right.facts.width <= reach,
-        Kind::Logic | Kind::Shift => true,
-    }
+    !first.facts.constant || second.facts.width <= reach_after(wide, first)
 }
 
 /// The number of an operator between two operands at this width, where that is lawful.

@@ -9,7 +9,7 @@ ghost use Rattle.vlog_size.specs.Size.{Sizes, of_number, of_param, of_read, of_s
 ghost use Rattle.vlog_size.specs.Size.{is_decimal, is_plain_const, decimal_value, is_bad_operator, is_out, of_two, number};
 ghost use Rattle.vlog_size.specs.Size.{chosen_whole, outside, too_large, wrong_order, wrong_part, bounds_width, Bit, Part, Indexed};
 ghost use Rattle.vlog_size.specs.Size.{all_lawful, total_width, sum_fault, times, count_fault, repeat_width, of_repeat};
-ghost use Rattle.vlog_size.specs.Size.{is_past, wrong_width, name_const_faults, name_width_faults, if_checked, of_name};
+ghost use Rattle.vlog_size.specs.Size.{has_width, operands_lawful, is_past, wrong_width, name_const_faults, name_width_faults, if_checked, of_name};
 ghost use Rattle.vlog_size.specs.Limits.{TOP};
 ghost use Rattle.vlog_size.specs.Operators.{whole_value};
 ghost use Rattle.vlog_size.specs.Facts.{Shows, ShowsNumber, ShowsSelect, ShowsRest};
@@ -40,6 +40,8 @@ pub struct Facts {
     pub constant: bool,
     /// Its width, or the largest number where it is larger.
     pub width: u128,
+    /// Each part that makes its width has a lawful one.
+    pub parts_lawful: bool,
     /// A plain expression's value; none where a part is at fault.
     pub whole: Option<u32>,
     pub const_fault: Option<SizeError>,
@@ -51,6 +53,14 @@ pub struct Facts {
 pub struct Numbered {
     pub facts: Facts,
     pub number: Option<u128>,
+}
+
+/// Whether the expression has a lawful width: its own is 1 to 128, and so is that of each part that
+/// makes it.
+fn has_width(facts: &Facts) -> bool
+    ensures { (E : Sizes) → Shows facts.now E → result ≡ has_width E }
+{
+    facts.parts_lawful && is_lawful(facts.width)
 }
 
 /// The first of two findings, where there is one.
@@ -101,6 +111,7 @@ pub fn number_facts(number: &Number) -> Facts
         unsized_literal: is_unsized_literal(number.kind, text),
         constant: true,
         width: literal_width(number.kind, text),
+        parts_lawful: true,
         whole,
         const_fault: told_if(bad, SizeError::Const { line: number.line }),
         width_fault: None,
@@ -125,6 +136,7 @@ pub fn param_facts(line: u32, value: Const, known: bool) -> Facts
         unsized_literal: false,
         constant: true,
         width: u128::from(const_width(value)),
+        parts_lawful: true,
         whole: if known {
             in_range(const_number(value))
         } else {
@@ -149,6 +161,7 @@ pub fn sign_facts(line: u32, op: UnaryOp, a: &Facts) -> Facts
         unsized_literal: false,
         constant: a.constant,
         width: if wide { a.width } else { 1 },
+        parts_lawful: !wide || has_width(a),
         whole: None,
         const_fault: either(bad, a.const_fault),
         width_fault: a.width_fault,
@@ -187,6 +200,18 @@ fn whole_of(op: BinaryOp, a: Option<u32>, b: Option<u32>) -> Option<u32>
     }
 }
 
+/// Whether those of two operands that make the width with an operator of this kind between them have
+/// lawful ones.
+fn operands_lawful(kind: Kind, a: &Facts, b: &Facts) -> bool
+    ensures { (A B : Sizes) → Shows a.now A → Shows b.now B → result ≡ operands_lawful kind A B }
+{
+    match kind {
+        Kind::Sum => has_width(a) && has_width(b),
+        Kind::Comparison | Kind::Logic => true,
+        Kind::Shift => has_width(a),
+    }
+}
+
 /// What is said of two operands with an operator between them.
 #[tactic(auto, using(crate::proofs::Firsts::first_append))]
 pub fn binary_facts(op: BinaryOp, a: &Facts, b: &Facts) -> Facts
@@ -203,6 +228,7 @@ pub fn binary_facts(op: BinaryOp, a: &Facts, b: &Facts) -> Facts
         unsized_literal: false,
         constant: a.constant && b.constant,
         width: binary_width(kind_of(op), a.width, b.width),
+        parts_lawful: operands_lawful(kind_of(op), a, b),
         whole: whole_of(op, a.whole, b.whole),
         const_fault: either(own, parts),
         width_fault: either(a.width_fault, b.width_fault),
@@ -235,6 +261,7 @@ pub fn choice_facts(condition: &Numbered, a: &Facts, b: &Facts) -> Facts
         unsized_literal: false,
         constant: chosen.constant && (a.constant && b.constant),
         width: a.width.max(b.width),
+        parts_lawful: has_width(a) && has_width(b),
         whole: whole_choice(condition.number, a.whole, b.whole),
         const_fault: either(chosen.const_fault, consts),
         width_fault: either(chosen.width_fault, widths),
@@ -258,6 +285,7 @@ pub fn read_facts(
         unsized_literal: false,
         constant: false,
         width,
+        parts_lawful: true,
         whole: None,
         const_fault,
         width_fault,
@@ -372,13 +400,13 @@ pub fn wrong_order(a: &Numbered, b: &Numbered) -> Option<SizeError>
     }
 }
 
-/// The width after `+:`, where the vector and the base have lawful widths and it is unlawful.
-pub fn wrong_part(line: u32, whole: u32, base: &Facts, width: &Numbered) -> Option<SizeError>
-    ensures { (B W : Sizes) → Shows base.now B → ShowsNumber width.now W → result ≡ first (wrong_part line whole B W) }
+/// The width after `+:`, where the vector has a lawful width and it is unlawful.
+pub fn wrong_part(line: u32, whole: u32, width: &Numbered) -> Option<SizeError>
+    ensures { (W : Sizes) → ShowsNumber width.now W → result ≡ first (wrong_part line whole W) }
 {
     let got = width.number?;
-    let lawful = is_lawful(u128::from(whole)) && is_lawful(base.width);
-    told_if(lawful && !is_lawful(got), SizeError::Width { line, got })
+    let wrong = is_lawful(u128::from(whole)) && !is_lawful(got);
+    told_if(wrong, SizeError::Width { line, got })
 }
 
 /// What a select adds to the name before it.
@@ -445,7 +473,7 @@ pub fn indexed_select(line: u32, whole: u32, base: &Facts, width: &Numbered) -> 
     let parts = either(base.width_fault, width.facts.width_fault);
     Select {
         width: width.number.unwrap_or(0),
-        own_fault: wrong_part(line, whole, base, width),
+        own_fault: wrong_part(line, whole, width),
         const_fault: either(base.const_fault, width_const),
         width_fault: parts,
     }
@@ -487,7 +515,7 @@ pub fn with_part(parts: &Parts, part: &Facts) -> Parts
     let consts = either(own, part.const_fault);
     Parts {
         constant: parts.constant && part.constant,
-        lawful: parts.lawful && is_lawful(part.width),
+        lawful: parts.lawful && has_width(part),
         sum: parts.sum.saturating_add(part.width),
         const_fault: either(parts.const_fault, consts),
         width_fault: either(parts.width_fault, part.width_fault),
@@ -573,6 +601,7 @@ pub fn repeat_facts(
         unsized_literal: false,
         constant,
         width,
+        parts_lawful: parts.lawful,
         whole: None,
         const_fault: consts,
         width_fault: widths,
@@ -607,6 +636,7 @@ pub fn concat_facts(line: u32, parts: &Parts) -> Facts
         unsized_literal: false,
         constant: parts.constant,
         width: parts.sum,
+        parts_lawful: parts.lawful,
         whole: None,
         const_fault: parts.const_fault,
         width_fault: either(own, parts.width_fault),

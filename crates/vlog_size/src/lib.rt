@@ -7,6 +7,7 @@ mod error;
 mod evaluated;
 mod facts;
 mod laws;
+mod length;
 mod literal;
 mod names;
 mod operators;

@@ -10,19 +10,20 @@ ghost use Rattle.vlog_size.specs.Size.{sizes_of, sizes_of_prim, sizes_of_ref, si
 ghost use Rattle.vlog_size.specs.Size.{sizes_of_target, sizes_of_targets};
 ghost use Rattle.vlog_size.specs.Size.{Sizes, Bracket, NoBracket, assigned_number, of_concat, of_repeat, of_read, of_place};
 ghost use Rattle.vlog_size.specs.Size.{no_faults};
-ghost use Rattle.vlog_size.specs.Facts.{Shows, ShowsNumber, ShowsSelect, ShowsRest, ShowsAt, ShowsOperands, ShowsAll};
-ghost use Rattle.vlog_size.specs.Facts.{left_reach, right_reach};
+ghost use Rattle.vlog_size.specs.Sides.{left_of, right_of, operand_of, other_side};
+ghost use Rattle.vlog_size.specs.Facts.{Shows, ShowsNumber, ShowsSelect, ShowsRest, ShowsAt, ShowsBoth, ShowsOperands, ShowsAll};
 
 use crate::error::SizeError;
 use crate::evaluated::{
-    Evaluated, Gathered, Operands, binary_at, choice_at, concat_at, is_enough, left_reach, name_at,
-    none_gathered, number_at, numbered_from, operand_reach, paren_at, repeat_at, right_reach,
+    Evaluated, Gathered, Operands, binary_at, choice_at, concat_at, is_enough, name_at,
+    none_gathered, number_at, numbered_from, operand_reach, paren_at, reach_after, repeat_at,
     sign_at, wide_number, with_next,
 };
 use crate::facts::{
     Facts, Numbered, Select, bit_select, concat_facts, either, indexed_select, name_facts,
     no_parts, outside, param_facts, part_select, read_facts, with_part,
 };
+use crate::length::{Side, other_side, shorter_side};
 use crate::names::{Meaning, View, fixed, meaning_of};
 use crate::operators::{Kind, kind_of};
 use vidi_bits::trim;
@@ -61,12 +62,8 @@ fn evaluate(view: &View<'_>, e: &Expr, wide: u128) -> Evaluated
     match e {
         Expr::Unary(unary) => evaluate_unary(view, unary, wide),
         Expr::Binary { left, op, right } => {
-            let kind = kind_of(*op);
-            let start = left_reach(kind, wide);
-            let first = evaluate(view, left, start);
-            let reach = right_reach(kind, wide, &first);
-            let second = evaluate(view, right, reach);
-            let both = widened(view, left, kind, wide, first, second);
+            let first = shorter_side(left, right);
+            let both = operands(view, e, first, kind_of(*op), wide);
             binary_at(*op, &both, wide)
         }
         Expr::Choice {
@@ -75,40 +72,112 @@ fn evaluate(view: &View<'_>, e: &Expr, wide: u128) -> Evaluated
             else_value,
         } => {
             let chosen = evaluate(view, condition, 0);
-            let taken = evaluate(view, then_value, wide);
-            let other_reach = right_reach(Kind::Sum, wide, &taken);
-            let other = evaluate(view, else_value, other_reach);
-            let branches = widened(view, then_value, Kind::Sum, wide, taken, other);
+            let first = shorter_side(then_value, else_value);
+            let branches = together(view, e, first, wide);
             choice_at(&chosen, &branches, wide)
         }
     }
 }
 
-/// Two operands, each at the width at which an operator of this kind takes it. Where the right one
-/// is wider than what the left one was taken at, the left one is evaluated once more.
+/// What is said of the left operand of an operator, or of the first branch of `?:`.
 #[cycle(evaluate)]
-fn widened(
-    view: &View<'_>,
-    left: &Expr,
-    kind: Kind,
-    wide: u128,
-    first: Evaluated,
-    second: Evaluated,
-) -> Operands
-    ensures { (B : Sizes) → ShowsAt (left_reach kind wide) first (sizes_of (readable_in view.now) (plain_expr left.now))
-        → ShowsAt (right_reach kind wide first.facts.width) second B
-        → ShowsOperands kind wide result (sizes_of (readable_in view.now) (plain_expr left.now)) B }
+fn evaluate_left(view: &View<'_>, e: &Expr, wide: u128) -> Evaluated
+    ensures { ShowsAt wide result (sizes_of (readable_in view.now) (left_of (plain_expr e.now))) }
 {
-    if is_enough(kind, wide, &first, &second) {
+    match e {
+        Expr::Unary(unary) => evaluate_unary(view, unary, wide),
+        Expr::Binary { left, .. } => evaluate(view, left, wide),
+        Expr::Choice { then_value, .. } => evaluate(view, then_value, wide),
+    }
+}
+
+/// What is said of the right operand of an operator, or of the second branch of `?:`.
+#[cycle(evaluate)]
+fn evaluate_right(view: &View<'_>, e: &Expr, wide: u128) -> Evaluated
+    ensures { ShowsAt wide result (sizes_of (readable_in view.now) (right_of (plain_expr e.now))) }
+{
+    match e {
+        Expr::Unary(unary) => evaluate_unary(view, unary, wide),
+        Expr::Binary { right, .. } => evaluate(view, right, wide),
+        Expr::Choice { else_value, .. } => evaluate(view, else_value, wide),
+    }
+}
+
+/// What is said of the operand on one side.
+#[cycle(evaluate)]
+fn evaluate_side(view: &View<'_>, e: &Expr, side: Side, wide: u128) -> Evaluated
+    ensures { ShowsAt wide result (sizes_of (readable_in view.now) (operand_of side (plain_expr e.now))) }
+{
+    match side {
+        Side::Left => evaluate_left(view, e, wide),
+        Side::Right => evaluate_right(view, e, wide),
+    }
+}
+
+/// The operands of an expression, each at the width at which an operator of this kind takes it, where
+/// the whole is taken at `wide` or more.
+#[cycle(evaluate)]
+fn operands(view: &View<'_>, e: &Expr, first: Side, kind: Kind, wide: u128) -> Operands
+    ensures { ShowsOperands kind wide result (sizes_of (readable_in view.now) (left_of (plain_expr e.now)))
+        (sizes_of (readable_in view.now) (right_of (plain_expr e.now))) }
+{
+    match kind {
+        Kind::Sum => together(view, e, first, wide),
+        Kind::Comparison => together(view, e, first, 0),
+        Kind::Logic => apart(view, e, 0),
+        Kind::Shift => apart(view, e, wide),
+    }
+}
+
+/// The operands of an expression, the right one at its own width.
+#[cycle(evaluate)]
+fn apart(view: &View<'_>, e: &Expr, wide: u128) -> Operands
+    ensures left { ShowsAt wide result.left (sizes_of (readable_in view.now) (left_of (plain_expr e.now))) }
+    ensures right { ShowsAt 0 result.right (sizes_of (readable_in view.now) (right_of (plain_expr e.now))) }
+{
+    let left = evaluate_left(view, e, wide);
+    let right = evaluate_right(view, e, 0);
+    Operands { left, right }
+}
+
+/// The operands of an expression, or the branches of `?:`, each at the largest of `wide` and both
+/// widths. This one is evaluated first.
+#[cycle(evaluate)]
+fn together(view: &View<'_>, e: &Expr, first: Side, wide: u128) -> Operands
+    ensures { ShowsBoth wide result (sizes_of (readable_in view.now) (left_of (plain_expr e.now)))
+        (sizes_of (readable_in view.now) (right_of (plain_expr e.now))) }
+{
+    let pair = in_turn(view, e, first, wide);
+    match first {
+        Side::Left => pair,
+        Side::Right => Operands {
+            left: pair.right,
+            right: pair.left,
+        },
+    }
+}
+
+/// The operand on one side, and the other one, each at the largest of `wide` and both widths. Where the
+/// second one is wider than what the first one was taken at, the first one is evaluated once more.
+#[cycle(evaluate)]
+fn in_turn(view: &View<'_>, e: &Expr, first: Side, wide: u128) -> Operands
+    ensures { ShowsBoth wide result (sizes_of (readable_in view.now) (operand_of first (plain_expr e.now)))
+        (sizes_of (readable_in view.now) (operand_of (other_side first) (plain_expr e.now))) }
+{
+    let one = evaluate_side(view, e, first, wide);
+    let reach = reach_after(wide, &one);
+    let second = other_side(first);
+    let other = evaluate_side(view, e, second, reach);
+    if is_enough(wide, &one, &other) {
         return Operands {
-            left: first,
-            right: second,
+            left: one,
+            right: other,
         };
     }
-    let again = evaluate(view, left, second.facts.width);
+    let again = evaluate_side(view, e, first, other.facts.width);
     Operands {
         left: again,
-        right: second,
+        right: other,
     }
 }
 

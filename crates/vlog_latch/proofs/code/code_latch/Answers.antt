@@ -5,20 +5,16 @@ use Rattle.vlog_latch.proofs.Answered.{is_least}
 use Rattle.vlog_latch.proofs.code.code_latch.Goals as goal
 
 pub returns-in-None : goal.returns-in-None
-returns-in-None c = λ writes adds reads w s r.
+returns-in-None c = λ writes names adds reads w t s r.
     let nets = c.args.scope.now.nets in
-    none_found (is_latched writes adds reads) c.args.line nets c.first_net-least.result
-    (is_least c.args.code.now c.in_ok-sure.sure c.in_ok-reads.reads c.as_slice-2.result.now c.as_slice.result.now c.len.result
-    c.first_net-least.result nets c.as_slice-2.ensures c.as_slice.ensures c.len.ensures c.in_ok-sure.ensures
-    c.in_ok-reads.ensures c.first_net-least.ensures writes adds reads w s r)
+    none_found (is_latched writes names adds reads) c.args.line nets c.in_ok-least.least
+    (is_least c.args.code.now c.len.result c.in_ok-least.least nets c.len.ensures c.in_ok-least.ensures writes names adds reads w t s r)
     (sym c.in-None.ensures)
 
-pub returns : goal.returns
-returns c = λ writes adds reads w s r.
+pub returns-in_ok-name-in-Some : goal.returns-in_ok-name-in-Some
+returns-in_ok-name-in-Some c = λ writes names adds reads w t s r.
     let nets = c.args.scope.now.nets in
-    one_found (is_latched writes adds reads) c.args.line nets c.first_net-least.result
-    (is_least c.args.code.now c.in_ok-sure.sure c.in_ok-reads.reads c.as_slice-2.result.now c.as_slice.result.now c.len.result
-    c.first_net-least.result nets c.as_slice-2.ensures c.as_slice.ensures c.len.ensures c.in_ok-sure.ensures
-    c.in_ok-reads.ensures c.first_net-least.ensures writes adds reads w s r)
+    one_found (is_latched writes names adds reads) c.args.line nets c.in_ok-least.least
+    (is_least c.args.code.now c.len.result c.in_ok-least.least nets c.len.ensures c.in_ok-least.ensures writes names adds reads w t s r)
     c.in_ok-name-in-Some.name
     (sym c.in-Some.ensures ∙ ap Some (sym c.in_ok-name-in-Some.ensures))

@@ -13,6 +13,12 @@ returns-clause-with_else c = shown.with_else
 pub returns-clause-other_bit_read : goal.returns-clause-other_bit_read
 returns-clause-other_bit_read c = shown.other_bit_read
 
+pub returns-clause-none_written : goal.returns-clause-none_written
+returns-clause-none_written c = shown.none_written
+
+pub returns-clause-none_in_range : goal.returns-clause-none_in_range
+returns-clause-none_in_range c = shown.none_in_range
+
 pub returns-clause-read_after : goal.returns-clause-read_after
 returns-clause-read_after c = shown.read_after
 

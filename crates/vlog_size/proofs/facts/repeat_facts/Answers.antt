@@ -21,6 +21,7 @@ returns c = λ C all few count many whole parts.
       constant = c.both-constant.ensures ∙ ap (λ (b : Bool). b && c.args.parts.now.constant) count.facts.constant
           ∙ ap (λ (b : Bool). C.constant && b) (sym (and-true c.args.parts.now.constant) ∙ parts.constant);
       width = many_capped c.args.many (times C) c.args.whole.now.width (total_width all) _ many whole.width c.repeat_width-width.ensures;
+      parts_lawful = lawful;
       whole = refl;
       const_fault = c.either-consts.ensures
           ∙ first_both _ _ (too_large C ++ C.const_faults) (parts_const_faults all)

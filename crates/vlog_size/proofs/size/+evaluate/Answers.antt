@@ -1,14 +1,15 @@
-use Rattle.std.proofs.Common.{refl, ◌<◌, ◌^◌, length, arith, ap, sym, ◌∙◌, subst}
+use Rattle.std.proofs.Common.{◌<◌, ◌^◌, length, arith, ap, sym, ◌∙◌, subst, ℕ}
 use Rattle.vlog_tree.specs.Plain.{plain_expr, plain_prim, plain_sel}
 use Rattle.vlog_size.specs.Names.{Readable, readable_in}
 use Rattle.vlog_size.specs.Size.{Sizes, Bracket, Part, Indexed, sizes_of, sizes_of_prim, sizes_of_sel}
-use Rattle.vlog_size.specs.Facts.{ShowsSelect, ShowsAt, ShowsOperands, left_reach, right_reach}
+use Rattle.vlog_size.specs.Sides.{left_of, right_of, operand_of, other_side}
+use Rattle.vlog_size.specs.Facts.{ShowsSelect, ShowsAt, ShowsBoth}
+use Rattle.vlog_size.specs.declared.length.Side.{Side}
 use Rattle.vlog_size.proofs.Rests.{parts_few, next_gathered, none_gathered}
-use Rattle.vlog_size.proofs.Reaches.{done_operands, more_operands, paired}
-use Rattle.vlog_tree.specs.declared.expr.Sel.{Sel}
+use Rattle.vlog_size.proofs.Reaches.{enough, not_enough}
 use Rattle.vlog_tree.specs.declared.expr.Expr.{Expr}
+use Rattle.vlog_tree.specs.declared.expr.Sel.{Sel}
 use Rattle.vlog_tree.specs.declared.expr.Operand.{Operand}
-use Rattle.vlog_size.specs.declared.operators.Kind.TheVariants.{Sum}
 use Rattle.vlog_size.proofs.size.+evaluate.Goals as goal
 
 pub gather-loop-part-preserved : goal.gather-loop-part-preserved
@@ -28,54 +29,39 @@ gather-returns t c =
       few = parts_few (readable_in c.args.view.now) c.args.parts.now few;
     }
 
-pub widened-returns-then-is_enough : goal.widened-returns-then-is_enough
-widened-returns-then-is_enough t c = λ B first second.
-    done_operands c.args.kind c.args.wide c.args.first c.args.second (sizes_of (readable_in c.args.view.now) (plain_expr c.args.left.now)) B
-    (sym c.is_enough.ensures ∙ c.if-is_enough.true) first second
-
-pub widened-returns : goal.widened-returns
-widened-returns t c = λ B first second.
-    more_operands c.args.kind c.args.wide c.args.first c.args.second c.evaluate-again.result
-    (sizes_of (readable_in c.args.view.now) (plain_expr c.args.left.now)) B
-    (sym c.is_enough.ensures ∙ c.if-is_enough.false) first second c.evaluate-again.ensures
-
-pub evaluate-returns-in-Binary : goal.evaluate-returns-in-Binary
-evaluate-returns-in-Binary t c =
+pub in_turn-returns-then-is_enough : goal.in_turn-returns-then-is_enough
+in_turn-returns-then-is_enough t c =
     let r = readable_in c.args.view.now in
-    let kind = c.kind_of-kind.result in
-    let first = c.evaluate-first.result in
-    let second = c.evaluate-second.result in
-    let L : Expr → Type 0 = λ e. ShowsAt c.left_reach-start.result first (sizes_of r (plain_expr e)) in
-    let R : Expr → Type 0 = λ e. ShowsAt c.right_reach-reach.result second (sizes_of r (plain_expr e)) in
-    let W : Expr → Type 0 = λ e. (B : Sizes) → ShowsAt (left_reach kind c.args.wide) first (sizes_of r (plain_expr e))
-    → ShowsAt (right_reach kind c.args.wide first.facts.width) second B
-    → ShowsOperands kind c.args.wide c.widened-both.result (sizes_of r (plain_expr e)) B in
-    let P : Sizes → Type 0 = λ s. ShowsAt c.args.wide c.binary_at.result s in
-    subst P (sym (ap (λ (e : Expr). sizes_of r (plain_expr e)) c.in-Binary.is))
-    (c.binary_at.ensures _ _
-    (paired kind _ c.args.wide _ _ first second c.widened-both.result _ _ c.kind_of-kind.ensures c.left_reach-start.ensures
-    c.right_reach-reach.ensures (subst L c.deref.ensures c.evaluate-first.ensures)
-    (subst R c.deref-in-Binary.ensures c.evaluate-second.ensures)
-    (subst W c.deref-in-Binary-2.ensures c.widened-both.ensures)))
+    let x = plain_expr c.args.e.now in
+    let A = sizes_of r (operand_of c.args.first x) in
+    let B = sizes_of r (operand_of (other_side c.args.first) x) in
+    let P : ℕ → Type 0 = λ w. ShowsAt w c.evaluate_side-other.result B in
+    let S : Side → Type 0 = λ s. ShowsAt c.reach_after-reach.result c.evaluate_side-other.result (sizes_of r (operand_of s x)) in
+    enough c.args.wide c.evaluate_side-one.result c.evaluate_side-other.result A B (sym c.is_enough.ensures ∙ c.if-is_enough.true)
+    c.evaluate_side-one.ensures (subst P c.reach_after-reach.ensures (subst S c.other_side-second.ensures c.evaluate_side-other.ensures))
+
+pub in_turn-returns : goal.in_turn-returns
+in_turn-returns t c =
+    let r = readable_in c.args.view.now in
+    let x = plain_expr c.args.e.now in
+    let A = sizes_of r (operand_of c.args.first x) in
+    let B = sizes_of r (operand_of (other_side c.args.first) x) in
+    let P : ℕ → Type 0 = λ w. ShowsAt w c.evaluate_side-other.result B in
+    let S : Side → Type 0 = λ s. ShowsAt c.reach_after-reach.result c.evaluate_side-other.result (sizes_of r (operand_of s x)) in
+    not_enough c.args.wide c.evaluate_side-one.result c.evaluate_side-other.result c.evaluate_side-again.result A B
+    (sym c.is_enough.ensures ∙ c.if-is_enough.false) c.evaluate_side-one.ensures
+    (subst P c.reach_after-reach.ensures (subst S c.other_side-second.ensures c.evaluate_side-other.ensures)) c.evaluate_side-again.ensures
 
 pub evaluate-returns-in-Choice : goal.evaluate-returns-in-Choice
 evaluate-returns-in-Choice t c =
     let r = readable_in c.args.view.now in
-    let first = c.evaluate-taken.result in
-    let second = c.evaluate-other.result in
-    let C : Expr → Type 0 = λ e. ShowsAt 0 c.evaluate-chosen.result (sizes_of r (plain_expr e)) in
-    let L : Expr → Type 0 = λ e. ShowsAt c.args.wide first (sizes_of r (plain_expr e)) in
-    let R : Expr → Type 0 = λ e. ShowsAt c.right_reach-other_reach.result second (sizes_of r (plain_expr e)) in
-    let W : Expr → Type 0 = λ e. (B : Sizes) → ShowsAt c.args.wide first (sizes_of r (plain_expr e))
-    → ShowsAt (right_reach Sum c.args.wide first.facts.width) second B
-    → ShowsOperands Sum c.args.wide c.widened-branches.result (sizes_of r (plain_expr e)) B in
-    let P : Sizes → Type 0 = λ s. ShowsAt c.args.wide c.choice_at.result s in
-    subst P (sym (ap (λ (e : Expr). sizes_of r (plain_expr e)) c.in-Choice.is))
+    let C : Expr → Type 0 = λ x. ShowsAt 0 c.evaluate-chosen.result (sizes_of r (plain_expr x)) in
+    let P : Expr → Type 0 = λ x. ShowsBoth c.args.wide c.together-branches.result (sizes_of r (left_of (plain_expr x)))
+    (sizes_of r (right_of (plain_expr x))) in
+    let Q : Expr → Type 0 = λ x. ShowsAt c.args.wide c.choice_at.result (sizes_of r (plain_expr x)) in
+    subst Q (sym c.in-Choice.is)
     (c.choice_at.ensures _ _ _ (subst C c.deref-in-Choice.ensures c.evaluate-chosen.ensures)
-    (paired Sum Sum c.args.wide _ _ first second c.widened-branches.result _ _ refl refl c.right_reach-other_reach.ensures
-    (subst L c.deref-in-Choice-2.ensures c.evaluate-taken.ensures)
-    (subst R c.deref-in-Choice-3.ensures c.evaluate-other.ensures)
-    (subst W c.deref-in-Choice-4.ensures c.widened-branches.ensures)))
+    (subst P c.in-Choice.is c.together-branches.ensures))
 
 pub evaluate_prim-returns-in-Ref : goal.evaluate_prim-returns-in-Ref
 evaluate_prim-returns-in-Ref t c =
