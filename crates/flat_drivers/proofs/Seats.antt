@@ -4,6 +4,7 @@ use Rattle.std.proofs.Common.{append-nil, Some, slice_get, arith, add-one}
 use Rattle.std.specs.Prelude.{option_map}
 use Rattle.std.specs.List.{flat_map, AllByRecursion}
 use Rattle.std.proofs.Math.ListN.{drop_of_length-le}
+use Rattle.std.proofs.lemmas.List.{length-map}
 use Rattle.std.proofs.lemmas.Option.{slice_get-map}
 use Rattle.vlog_tree.specs.Tree.{ItemOf, WiresItem, DrivenWiresItem, RegsItem, LocalparamsItem, AssignItem, AlwaysItem, InstanceItem}
 use Rattle.std.specs.Borrow.{Bor}
@@ -106,6 +107,13 @@ instance_there is k l = there is k l
 pub seat_there : (is : List ModuleInstance) (k : ℕ) → k < length is → (x : Seat) × (slice_get (seats_of is) k ≡ Some x)
 unfolding seats_of
 seat_there is k l = there (seats_of is) k (subst (λ n. k < n) (sym (seats_long 0 0 0 is)) l)
+
+-- an instance of the list has a base
+pub base_there : (is : List ModuleInstance) (bases : List Base) (k : ℕ) → bases ≡ map base_of (seats_of is) → k < length is
+    → k < length bases
+unfolding seats_of
+base_there is bases k stand l =
+    subst (λ n. k < n) (sym (ap length stand ∙ length-map (seats_of is) base_of ∙ seats_long 0 0 0 is)) l
 
 split_suc : {X Y : Type 0} → (f : X → List Y) (xs : List X) (k : ℕ) (x : X) → slice_get xs k ≡ Some x
     → flat_map f (drop k xs) ≡ f x ++ flat_map f (drop (suc k) xs)

@@ -86,10 +86,10 @@ pub fn add_child<'b>(
         return Err(Memory);
     };
     let Some(base) = flat.bases.get(at) else {
-        return Err(Memory);
+        unreachable!();
     };
     let Some(names) = flat.modules.value_at(child.place) else {
-        return Err(Memory);
+        unreachable!();
     };
     if !is_longer_path(child.path.as_slice(), path, &instance.id.name) {
         return Err(Memory);

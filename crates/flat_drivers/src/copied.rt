@@ -1,6 +1,6 @@
 //! Copies of scopes.
 
-ghost use Rattle.std.specs.Prelude.{◌≡◌, ◌+◌, take, IfOk, OnOk};
+ghost use Rattle.std.specs.Prelude.{◌≡◌, ◌<◌, ◌+◌, length, take, IfOk, OnOk};
 
 use std::alloc::Global;
 use vidi_bits::{Memory, copied};
@@ -13,14 +13,15 @@ fn copy_entry<V: Copy + Drop>(
     place: usize,
     copy: &mut Table<V>,
 ) -> Result<(), Memory>
-    requires { copy.old ≡ take place table.now }
+    requires there { place < length table.now }
+    requires front { copy.old ≡ take place table.now }
     ensures { OnOk result (copy.new ≡ take (place + 1) table.now) }
 {
     let Some(name) = table.name_at(place) else {
-        return Err(Memory);
+        unreachable!();
     };
     let Some(value) = table.value_at(place) else {
-        return Err(Memory);
+        unreachable!();
     };
     let before = copy.len();
     let name = copied(alloc, name)?;

@@ -82,18 +82,6 @@ fn add_settling(
     }
 }
 
-/// The code of a clocked block.
-fn fit_block(alloc: Global, site: &Site<'_>, block: &Always) -> Result<Code, Memory>
-    requires faultless { IsFaultlessBody (site_of site.now).names (plain_always block.now).body }
-    requires clocked { timing_of (plain_always block.now).event ≡ Nonblocking }
-    ensures { IfOk result (IsClocked (site_of site.now) (plain_always block.now)) }
-{
-    match clocked_block(alloc, site, block) {
-        Ok(code) => Ok(code),
-        Err(_) => Err(Memory),
-    }
-}
-
 /// Adds a clocked block.
 fn push_block(out: &mut Items<Code>, code: Code) -> Result<(), Memory>
     ensures { OnOk result ((b : ClockedBlock) → IsBlockOf b code → BlocksMore (b ∷ []) out.old out.new) }
@@ -114,7 +102,7 @@ fn add_clocked(
 {
     match &block.event {
         Event::Posedge(_) => {
-            let code = fit_block(alloc, site, block)?;
+            let code = clocked_block(alloc, site, block)?;
             push_block(out, code)
         }
         Event::Implicit { .. } => Ok(()),

@@ -98,7 +98,7 @@ pub fn add_seat(
 {
     let instance = &flat.list[at];
     let Some(base) = flat.bases.get(at) else {
-        return Err(ElabError::Memory);
+        unreachable!();
     };
     let mut scope = copied_scope(alloc, &instance.scope)?;
     add_items(

@@ -1,6 +1,6 @@
 //! The memories of the flat design.
 
-ghost use Rattle.std.specs.Prelude.{◌≡◌, ◌+◌, ◌++◌, IfOk, OnOk, slice_get, Some};
+ghost use Rattle.std.specs.Prelude.{◌≡◌, ◌<◌, ◌+◌, ◌++◌, IfOk, OnOk, length, slice_get, Some};
 ghost use Rattle.std.specs.Option.{option_map};
 ghost use Rattle.vlog_scope.specs.Scope.{words_of};
 ghost use Rattle.vlog_elab.specs.Plain.{plain_instances};
@@ -22,13 +22,14 @@ fn memory_at(
     list: &ScopeMemories,
     place: usize,
 ) -> Result<DesignMemory, Memory>
+    requires { place < length list.now }
     ensures { IfOk result (λ m. option_map (memory_of number word) (slice_get list.now place) ≡ Some m) }
 {
     let Some(name) = list.name_at(place) else {
-        return Err(Memory);
+        unreachable!();
     };
     let Some(memory) = list.value_at(place) else {
-        return Err(Memory);
+        unreachable!();
     };
     let width = memory.width;
     let length = memory.length as usize;

@@ -1,6 +1,6 @@
 //! The nets of the flat design.
 
-ghost use Rattle.std.specs.Prelude.{◌≡◌, ◌++◌, IfOk, OnOk, map, slice_get, Some};
+ghost use Rattle.std.specs.Prelude.{◌≡◌, ◌<◌, ◌++◌, IfOk, OnOk, length, map, slice_get, Some};
 ghost use Rattle.std.specs.Option.{option_map};
 ghost use Rattle.vlog_elab.specs.Plain.{plain_instances};
 ghost use Rattle.flat_parts.specs.Seats.{seats_of};
@@ -14,13 +14,14 @@ use vlog_size::ScopeNets;
 
 /// The net at a place of an instance's nets.
 fn net_at(alloc: Global, number: usize, list: &ScopeNets, place: usize) -> Result<Net, Memory>
+    requires { place < length list.now }
     ensures { IfOk result (λ n. option_map (net_of number) (slice_get list.now place) ≡ Some n) }
 {
     let Some(name) = list.name_at(place) else {
-        return Err(Memory);
+        unreachable!();
     };
     let Some(net) = list.value_at(place) else {
-        return Err(Memory);
+        unreachable!();
     };
     let width = net.width;
     let name = copied(alloc, name)?;

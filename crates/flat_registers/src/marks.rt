@@ -1,6 +1,6 @@
 //! Which nets of the flat design are regs.
 
-ghost use Rattle.std.specs.Prelude.{◌≡◌, ◌++◌, ◌∷◌, [], OnOk, IfOk, Some, map, slice_get};
+ghost use Rattle.std.specs.Prelude.{◌≡◌, ◌<◌, ◌++◌, ◌∷◌, [], OnOk, IfOk, Some, length, map, slice_get};
 ghost use Rattle.vlog_size.specs.declared.scope.ScopeNet.{ScopeNet};
 ghost use Rattle.vlog_size.specs.Table.{Named, value_of};
 ghost use Rattle.vlog_names.specs.Ports.{is_reg};
@@ -15,19 +15,20 @@ use vlog_elab::ModuleInstance;
 use vlog_names::{Declarations, ModuleTable, is_reg};
 use vlog_size::ScopeNets;
 
-/// Adds whether the net at this place is a reg. There is one.
+/// Adds whether the net at this place is a reg.
 fn add_mark(
     names: &Declarations,
     nets: &ScopeNets,
     place: usize,
     out: &mut Items<bool>,
 ) -> Result<(), Memory>
+    requires { place < length nets.now }
     ensures { OnOk result ((n : Named ScopeNet) → slice_get nets.now place ≡ Some n
         → out.new ≡ out.old ++ is_reg (value_of names.now n.name) ∷ []) }
 {
     match nets.name_at(place) {
         Some(name) => out.push(is_reg(names, name)),
-        None => Err(Memory),
+        None => unreachable!(),
     }
 }
 
@@ -51,7 +52,7 @@ fn add_instance(
     ensures { OnOk result (out.new ≡ out.old ++ marks.instance_marks (plain_instance instance.now)) }
 {
     let Some(names) = modules.value_at(instance.place) else {
-        return Err(Memory);
+        unreachable!();
     };
     add_marks(names, &instance.scope.nets, out)
 }

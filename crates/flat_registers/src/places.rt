@@ -1,6 +1,6 @@
 //! The regs of the flat design: their nets, widths and initial numbers.
 
-ghost use Rattle.std.specs.Prelude.{◌≡◌, ◌+◌, ◌++◌, OnOk, IfOk, Some, slice_get};
+ghost use Rattle.std.specs.Prelude.{◌≡◌, ◌<◌, ◌+◌, ◌++◌, OnOk, IfOk, Some, length, slice_get};
 ghost use Rattle.vlog_size.specs.declared.scope.ScopeNet.{ScopeNet};
 ghost use Rattle.vlog_size.specs.Table.{Named, value_of};
 ghost use Rattle.vlog_size.specs.Size.{or_zero};
@@ -60,7 +60,7 @@ fn add_named(
     })
 }
 
-/// Adds the net at this place, where it is a reg. There is one.
+/// Adds the net at this place, where it is a reg.
 fn add_net(
     names: &Declarations,
     initials: &Table<u128>,
@@ -69,13 +69,14 @@ fn add_net(
     first: usize,
     out: &mut Items<RegNet>,
 ) -> Result<(), Memory>
+    requires { place < length nets.now }
     ensures { OnOk result ((n : Named ScopeNet) → slice_get nets.now place ≡ Some n
         → plain_places out.new ≡ plain_places out.old ++ told_reg names.now initials.now (first + place) n) }
 {
     let net = sum(first, place)?;
     match (nets.name_at(place), nets.value_at(place)) {
         (Some(name), Some(found)) => add_named(names, initials, name, found.width, net, out),
-        _ => Err(Memory),
+        _ => unreachable!(),
     }
 }
 
@@ -108,7 +109,7 @@ fn add_instance(
         (plain_instance instance.now).scope first (plain_instance instance.now).scope.nets) }
 {
     let Some(names) = modules.value_at(instance.place) else {
-        return Err(Memory);
+        unreachable!();
     };
     let initials = initials_of(alloc, instance.tree, &instance.scope)?;
     add_nets(names, &initials, &instance.scope.nets, first, out)

@@ -1,5 +1,5 @@
 -- How much the design of a file has.
-use Rattle.std.proofs.Common.{◌≡◌, ℕ, suc, ◌+◌, List, [], ◌∷◌, ◌++◌, map, length, refl, sym, ap, ◌∙◌, arith, length-append}
+use Rattle.std.proofs.Common.{◌≡◌, ℕ, suc, ◌+◌, List, [], ◌∷◌, ◌++◌, length, refl, sym, ap, ◌∙◌, arith, length-append}
 use Rattle.std.proofs.Common.{Result, Ok, Err}
 use Rattle.std.proofs.lemmas.List.{length-map}
 use Rattle.std.specs.Prelude.{IfOk}
@@ -15,7 +15,6 @@ use Rattle.net_design.specs.Settled.{word_count}
 use Rattle.net_design.specs.Lawful.{counts}
 use Rattle.flat_drivers.specs.Duties.{Does}
 use Rattle.flat_parts.specs.Seats.{seats_of}
-use Rattle.flat_parts.specs.Nets.{flat_nets, flat_memories}
 use Rattle.flat_parts.specs.Drivers.{all_duties, all_blocks, IsBlockOf}
 use Rattle.flat_layout.specs.Laws.{NetsAreCounted, WordsAreCounted}
 use Rattle.vlog_design.specs.Design.{IsDesignOf, counts_of, file_counts}

@@ -1,9 +1,9 @@
 -- From the laws of the parts to the design of a file.
-use Rattle.std.proofs.Common.{◌≡◌, ◌≢◌, ℕ, List, [], ◌∷◌}
+use Rattle.std.proofs.Common.{◌≢◌, ℕ, List, [], ◌∷◌}
 use Rattle.std.specs.Prelude.{All, AllPairs}
 use Rattle.std.specs.List.{AllZip, AllByRecursion}
 use Rattle.vlog_tree.specs.Tree.{ModuleOf, FileOf}
-use Rattle.vlog_elab.specs.Instances.{ModuleInstance, instances}
+use Rattle.vlog_elab.specs.Instances.{instances}
 use Rattle.vlog_elab.specs.Reasons as elab
 use Rattle.net_design.specs.declared.act.Code.{Code}
 use Rattle.net_design.specs.declared.act.Timing.TheVariants.{Blocking, Nonblocking}
@@ -16,7 +16,6 @@ use Rattle.flat_drivers.specs.Duties.{Duty, Assigns, Settles, Does}
 use Rattle.flat_parts.specs.Seats.{seats_of}
 use Rattle.flat_parts.specs.Drivers.{ClockedBlock, IsBlockOf, all_duties, all_blocks}
 use Rattle.flat_parts.specs.Built.{IsBuilt}
-use Rattle.flat_parts.specs.Meaning.{Means}
 use Rattle.flat_parts.specs.Laws.{IsTop, InstancesAreAll, PathsDiffer, FirstIsTop, BuiltNumbers, SeatsStand, NetsHaveSeats}
 use Rattle.flat_parts.specs.Laws.{NetsHaveOneSeat, NetsAreThose, NamesDiffer, HeldAlike, InitialAlike}
 use Rattle.flat_laws.specs.Settled.{SettledByLaws}

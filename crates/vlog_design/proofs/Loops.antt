@@ -1,5 +1,5 @@
 -- Designs of one file read and write the same bits, driver by driver.
-use Rattle.std.proofs.Common.{◌≡◌, ℕ, zero, suc, Bool, true, false, ◌||◌, List, [], ◌∷◌, refl, sym, ap, ◌∙◌}
+use Rattle.std.proofs.Common.{◌≡◌, ℕ, zero, suc, List, [], ◌∷◌, refl, sym, ◌∙◌}
 use Rattle.std.specs.List.{AllZip}
 use Rattle.vlog_tree.specs.Tree.{FileOf}
 use Rattle.net_design.specs.declared.design.Design.{Design}

@@ -1,40 +1,64 @@
 -- The top of a file whose instances there are.
-use Rattle.std.proofs.Common.{◌≡◌, ℕ, List, [], ◌∷◌, Option, None, Some, slice_get, refl, sym, ap, subst, ◌∙◌}
+use Rattle.std.proofs.Common.{◌≡◌, ◌≤◌, ◌+◌, ℕ, suc, Bool, true, false, if◌then◌else◌, List, [], ◌∷◌, length, map, Some, slice_get}
+use Rattle.std.proofs.Common.{refl, ap, ◌∙◌, is_none, bytes_eq, arith}
 use Rattle.std.specs.List.{flat_map}
 use Rattle.vlog_tree.specs.Tree.{ModuleOf, FileOf}
+use Rattle.vidi_bits.proofs.FindingLaws.{told_none}
+use Rattle.vidi_bits.proofs.Lists.{nil_left, nil_right}
+use Rattle.vlog_size.specs.Table.{value_of}
+use Rattle.vlog_names.specs.declared.error.NameError.TheVariants as e
+use Rattle.vlog_names.specs.Entries.{declared, module_entry, modules_of}
+use Rattle.vlog_names.specs.Twice.{twice_names}
+use Rattle.vlog_names.specs.Unknown.{unknown_module, unknown_top, unknown_names}
+use Rattle.vlog_hierarchy.specs.Outlines.{place_from}
+use Rattle.flat_laws.proofs.Found.{no_names}
 use Rattle.vlog_elab.specs.Scope.{scope_with}
-use Rattle.vlog_elab.specs.Outlines.{place_of}
-use Rattle.vlog_elab.specs.Instances.{ModuleInstance, within, top_of, top_at, instances}
+use Rattle.vlog_elab.specs.Instances.{ModuleInstance, instances}
 use Rattle.vlog_elab.specs.Reasons as elab
 use Rattle.net_design.specs.declared.design.Port.{Port}
 use Rattle.flat_parts.specs.Nets.{flat_ports}
 use Rattle.flat_parts.specs.Laws.{IsTop, FirstIsTop}
 use Rattle.vlog_design.specs.Parts.{FirstPorts, HasTop}
-use Rattle.vlog_hierarchy.specs.declared.nodes.TheConstants.{MOST_LEVELS}
 
-no-first : (i : ModuleInstance) (rest : List ModuleInstance) → [] ≡ i ∷ rest → ⊥
-no-first i rest e = cc
+-- a module of this name stands in the list, which begins at place k
+abbrev AtName : List (ModuleOf ℕ) → ℕ → List ℕ → Type 0
+AtName ms k name = (j : ℕ) × (m : ModuleOf ℕ) × (place_from k ms name ≡ Some (k + j)) × (slice_get ms j ≡ Some m)
 
-of-module : (file : FileOf ℕ) (name : List ℕ) (k : ℕ) → place_of file.modules name ≡ Some k → (o : Option (ModuleOf ℕ))
-    → slice_get file.modules k ≡ o → (i : ModuleInstance) (rest : List ModuleInstance)
-    → flat_map (within MOST_LEVELS file.modules) (top_of k o) ≡ i ∷ rest → HasTop file name
-of-module file name k found None at i rest e = absurd (no-first i rest e)
-of-module file name k found (Some m) at i rest e = (m, (k, found, at))
+at-head : (m : ModuleOf ℕ) (ms : List (ModuleOf ℕ)) (k : ℕ) (name : List ℕ) → bytes_eq name m.name ≡ true → AtName (m ∷ ms) k name
+at-head m ms k name same =
+    (0, m, (ap (λ b. if b then Some k else place_from (k + 1) ms name) same ∙ ap Some (omega arith)), refl)
 
-of-place : (file : FileOf ℕ) (name : List ℕ) (o : Option ℕ) → place_of file.modules name ≡ o → (i : ModuleInstance)
-    (rest : List ModuleInstance) → flat_map (within MOST_LEVELS file.modules) (top_at file.modules o) ≡ i ∷ rest → HasTop file name
-of-place file name None found i rest e = absurd (no-first i rest e)
-of-place file name (Some k) found i rest e = of-module file name k found (slice_get file.modules k) refl i rest e
+behind-head : (m : ModuleOf ℕ) (ms : List (ModuleOf ℕ)) (k : ℕ) (name : List ℕ) → bytes_eq name m.name ≡ false
+    → AtName ms (k + 1) name → AtName (m ∷ ms) k name
+behind-head m ms k name other (j, x, found, at) =
+    (suc j, x, (ap (λ b. if b then Some k else place_from (k + 1) ms name) other ∙ found ∙ ap Some (omega arith)), at)
 
-some-top : (file : FileOf ℕ) (name : List ℕ) (i : ModuleInstance) (rest : List ModuleInstance) → instances file name ≡ i ∷ rest
-    → HasTop file name
-unfolding instances
-some-top file name i rest e = of-place file name (place_of file.modules name) refl i rest e
+either-name : (b : Bool) (m : ModuleOf ℕ) (ms : List (ModuleOf ℕ)) (k : ℕ) (name : List ℕ) → bytes_eq name m.name ≡ b
+    → is_none (if b then Some (declared m) else value_of (map module_entry ms) name) ≡ false
+    → (is_none (value_of (map module_entry ms) name) ≡ false → AtName ms (k + 1) name) → AtName (m ∷ ms) k name
+either-name true m ms k name same there rest = at-head m ms k name same
+either-name false m ms k name same there rest = behind-head m ms k name same (rest there)
 
-pub has-top : (file : FileOf ℕ) (name : List ℕ) (is : List ModuleInstance) (ports : List Port) → is ≡ instances file name
-    → FirstPorts is ports → HasTop file name
-has-top file name [] ports e first = absurd first
-has-top file name (i ∷ rest) ports e first = some-top file name i rest (sym e)
+at-name : (ms : List (ModuleOf ℕ)) (k : ℕ) (name : List ℕ) → is_none (value_of (map module_entry ms) name) ≡ false → AtName ms k name
+at-name [] k name there = absurd (cc)
+at-name (m ∷ ms) k name there = either-name (bytes_eq name m.name) m ms k name refl there (at-name ms (k + 1) name)
+
+top-at : (file : FileOf ℕ) (name : List ℕ) → AtName file.modules 0 name → HasTop file name
+top-at file name (j, m, found, at) = (m, (j, (found ∙ ap Some (omega arith)), at))
+
+pub has-top : (file : FileOf ℕ) (name : List ℕ) → elab.Clear file name → HasTop file name
+unfolding unknown_names modules_of
+has-top file name clear =
+    let unknown = nil_right (twice_names file) (unknown_names file name) (no_names file name clear) in
+    let known : is_none (value_of (modules_of file) name) ≡ false = told_none (is_none (value_of (modules_of file) name)) (e.Unknown name)
+    (nil_left (unknown_top (modules_of file) name) (flat_map (unknown_module (modules_of file)) file.modules) unknown) in
+    top-at file name (at-name file.modules 0 name known)
+
+pub some-instance : FirstIsTop → (file : FileOf ℕ) (name : List ℕ) → elab.Clear file name → 1 ≤ length (instances file name)
+some-instance first-is file name clear =
+    let top = has-top file name clear in
+    let first = first-is file name top.0 clear top.1 in
+    rw first.2 (omega arith)
 
 head-ports : (i j : ModuleInstance) (is js : List ModuleInstance) (ports : List Port) → i ∷ is ≡ j ∷ js → FirstPorts (i ∷ is) ports
     → ports ≡ flat_ports j.tree j.scope

@@ -1,6 +1,6 @@
 //! The flat design of instances.
 
-ghost use Rattle.std.specs.Prelude.{◌≡◌, ◌≢◌, ℕ, List, IfOk, All, AllPairs};
+ghost use Rattle.std.specs.Prelude.{◌≡◌, ◌≢◌, ◌≤◌, ℕ, List, IfOk, All, AllPairs, length};
 ghost use Rattle.vlog_tree.specs.Tree.{ModuleOf};
 ghost use Rattle.vlog_tree.specs.Plain.{plain};
 ghost use Rattle.vlog_elab.specs.Instances.{instances};
@@ -28,11 +28,12 @@ use vlog_tree::File;
 
 /// The ports of the top, which is the first instance.
 fn top_ports(alloc: Global, list: &[ModuleInstance<'_>]) -> Result<Items<Port>, Memory>
+    requires { 1 ≤ length list.now }
     ensures { IfOk result (λ ps. FirstPorts (plain_instances list.now) ps) }
 {
     match list.first() {
         Some(top) => ports(alloc, top.tree, &top.scope),
-        None => Err(Memory),
+        None => unreachable!(),
     }
 }
 

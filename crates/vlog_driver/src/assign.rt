@@ -59,8 +59,8 @@ pub fn assignment<'a>(
     requires value { IsFaultless (site_of «from».now).names (plain_expr e.now) }
     ensures { IfOk result (IsAssignment line (site_of to.now) (plain_target target.now) (site_of «from».now) (plain_expr e.now)) }
 {
-    let own = own_width(from, e)?;
-    let w = own_target_width(to, target)?.max(own);
+    let own = own_width(from, e);
+    let w = own_target_width(to, target).max(own);
     let value = placed_value(alloc, from, e, w)?;
     let places = placed_target(alloc, to, target)?;
     set_driver(alloc, line, places, value)

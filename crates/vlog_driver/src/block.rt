@@ -17,7 +17,7 @@ use crate::placed::placed_block;
 use crate::site::Site;
 use net_design::{Code, Driver};
 use std::alloc::Global;
-use vidi_bits::Items;
+use vidi_bits::{Items, Memory};
 use vlog_latch::BlockError;
 use vlog_tree::{Always, Event};
 
@@ -72,10 +72,14 @@ pub fn add_always(
 ///
 /// `Memory`: there isn't enough memory, or nets or words can't be counted in 32 bits, or more than 2,048 statements stand within one
 /// another.
-pub fn clocked_block(alloc: Global, site: &Site<'_>, block: &Always) -> Result<Code, BlockError>
+pub fn clocked_block(alloc: Global, site: &Site<'_>, block: &Always) -> Result<Code, Memory>
     requires faultless { IsFaultlessBody (site_of site.now).names (plain_always block.now).body }
     requires clocked { timing_of (plain_always block.now).event ≡ Nonblocking }
     ensures { IfOk result (IsClocked (site_of site.now) (plain_always block.now)) }
 {
-    placed_block(alloc, site, block)
+    match placed_block(alloc, site, block) {
+        Ok(code) => Ok(code),
+        Err(BlockError::Latch { .. }) => unreachable!(),
+        Err(BlockError::Memory) => Err(Memory),
+    }
 }

@@ -39,24 +39,26 @@ use vlog_size::{target_width, width};
 use vlog_tree::{Always, Expr, Target};
 
 /// The width of an expression in which nothing is found.
-pub fn own_width(site: &Site<'_>, e: &Expr) -> Result<u32, Memory>
-    ensures value { IfOk result (λ w. w ≡ width_of (site_of site.now).names (plain_expr e.now)) }
-    ensures most { IfOk result (λ w. w ≤ 128) }
+pub fn own_width(site: &Site<'_>, e: &Expr) -> u32
+    requires { IsFaultless (site_of site.now).names (plain_expr e.now) }
+    ensures value { result ≡ width_of (site_of site.now).names (plain_expr e.now) }
+    ensures most { result ≤ 128 }
 {
     match width(e, site.scope) {
-        Ok(w) => Ok(w),
-        Err(_) => Err(Memory),
+        Ok(w) => w,
+        Err(_) => unreachable!(),
     }
 }
 
 /// The width of a target in which nothing is found.
-pub fn own_target_width(site: &Site<'_>, target: &Target) -> Result<u32, Memory>
-    ensures value { IfOk result (λ w. w ≡ targets.target_width (site_of site.now).names (plain_target target.now)) }
-    ensures most { IfOk result (λ w. w ≤ 128) }
+pub fn own_target_width(site: &Site<'_>, target: &Target) -> u32
+    requires { IsFaultlessTarget (site_of site.now).names (plain_target target.now) }
+    ensures value { result ≡ targets.target_width (site_of site.now).names (plain_target target.now) }
+    ensures most { result ≤ 128 }
 {
     match target_width(target, site.scope) {
-        Ok(w) => Ok(w),
-        Err(_) => Err(Memory),
+        Ok(w) => w,
+        Err(_) => unreachable!(),
     }
 }
 

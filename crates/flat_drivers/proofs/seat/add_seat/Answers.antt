@@ -1,10 +1,12 @@
-use Rattle.std.proofs.Common.{◌≡◌, subst, refl, length, OnOk, Some, slice_get, get_or}
+use Rattle.std.proofs.Common.{◌≡◌, ◌<◌, subst, sym, refl, length, OnOk, Some, slice_get, get_or, false, true}
+use Rattle.std.proofs.lemmas.List.{length-map}
 use Rattle.std.proofs.lemmas.Option.{slice_get_read, slice_get-get_or}
 use Rattle.vidi_bits.specs.Findings.{Judged}
 use Rattle.vlog_elab.specs.Told.{elab_told}
+use Rattle.vlog_elab.specs.Plain.{plain_instance, plain_instances}
 use Rattle.vlog_driver.specs.Duties.{DoMore}
 use Rattle.flat_drivers.specs.Adding.{BlocksMore}
-use Rattle.flat_drivers.proofs.Seats.{clean_seat, latches_seat, duties_seat, blocks_seat}
+use Rattle.flat_drivers.proofs.Seats.{base_there, clean_seat, latches_seat, duties_seat, blocks_seat}
 use Rattle.flat_drivers.proofs.seat.add_seat.Goals as goal
 
 pub add_items-requires-clause-faultless : goal.add_items-requires-clause-faultless
@@ -51,3 +53,10 @@ returns-clause-blocks c = λ x at.
     c.requires.flat.bases (slice_get_read flat.bases.now (length flat.bases.now) c.args.at
     c.in-Some.base.now refl c.in-Some.ensures.lookup.3.0 c.in-Some.ensures.lookup.1) there at c.in_ok-scope.ensures c.as_slice-2.ensures)
     c.add_items.ensures.blocks
+
+pub unreachable-requires : goal.unreachable-requires
+unreachable-requires c =
+    let list = c.args.flat.now.list.now in
+    let none : false ≡ true = c.in_default.ensures.lookup.2 (base_there (plain_instances list) c.args.flat.now.bases.now c.args.at
+    c.requires.flat.bases (subst (λ n. c.args.at < n) (sym (length-map list plain_instance)) c.requires.there)) in
+    absurd (cc)

@@ -1,5 +1,5 @@
 use Rattle.vlog_tree.specs.Plain.{plain}
-use Rattle.vlog_design.proofs.Joined.{Laws, other-names, own-drivers, own-blocks, whole}
+use Rattle.vlog_design.proofs.Joined.{own-drivers, own-blocks, whole}
 use Rattle.vlog_design.proofs.design.design_of.Goals as goal
 
 pub is_lawful-requires-clause-drivers : goal.is_lawful-requires-clause-drivers

@@ -19,7 +19,7 @@ returns c =
       value = c.in_ok-value.ensures.value;
       reads = c.in_ok-value.ensures.reads;
       width = c.max-w.ensures
-          ∙ ap (λ n. max n c.in_ok-own.own) c.in_ok-own_target_width.ensures.value
-          ∙ ap (λ n. max (target_width (names_of c.args.to.now.scope.now) (plain_target c.args.target.now)) n) c.in_ok-own.ensures.value;
+          ∙ ap (λ n. max n c.own_width-own.result) c.own_target_width.ensures.value
+          ∙ ap (λ n. max (target_width (names_of c.args.to.now.scope.now) (plain_target c.args.target.now)) n) c.own_width-own.ensures.value;
     })
     c.set_driver.ensures.line c.set_driver.ensures.always c.set_driver.ensures.acts c.set_driver.ensures.bits
