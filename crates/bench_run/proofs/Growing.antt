@@ -23,7 +23,7 @@ use Rattle.script_text.specs.Offer.{Offer, Carries, FitsOffer}
 use Rattle.chan_monitor.specs.Shell.{IsShown}
 use Rattle.env_script.specs.Offered.{offers_after, offers_on, AllFit}
 use Rattle.env_script.proofs.OfferLaws.{carries-each}
-use Rattle.bench_run.specs.Plain.{IsBreak, IsPlainRun, StandsWithin}
+use Rattle.bench_run.specs.Plain.{GoesOn, IsBreak, IsPlainRun, StandsWithin}
 
 -- ---- the row before
 before-append : (rows : List Row) (row : Row) (t : ℕ) → t ≤ length rows → row_before (rows ++ row ∷ []) t ≡ row_before rows t
@@ -111,6 +111,15 @@ going-on runs then d m at offer rows new row going s same after step on b e = su
   stable = stable-push m.channels rows row going.stable b;
   runs_on = subst (then d after) (sym (before-last rows row)) on;
 })
+
+-- ---- behind it
+pub goes-on : (runs then : Design → Values → Option Row → Type 0) (d : Design) (m : Map) (offer : List Row → ℕ → Offer) (rows : List Row)
+    → ((s : Values) → runs d s (row_before rows (length rows)) → then d s (row_before rows (length rows)))
+    → Going runs d m offer rows → GoesOn then d m offer rows
+goes-on runs then d m offer rows on going = (
+  going.grown.played,
+  subst (λ (s : Values). then d s (row_before rows (length rows))) (sym going.grown.state) (on going.now going.runs_on),
+)
 
 -- ---- its end
 pub ends : (runs : Design → Values → Option Row → Type 0) (d : Design) (m : Map) (offer : List Row → ℕ → Offer) (rows : List Row) (n : ℕ)

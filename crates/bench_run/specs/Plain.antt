@@ -2,8 +2,10 @@
 use Rattle.std.specs.Prelude.{◌≡◌, ℕ, ◌≤◌, List, Option, Some, None, IfSome, length}
 use Rattle.trace_model.specs.declared.channel.Channel.{Channel}
 use Rattle.trace_model.specs.declared.row.Row.{Row}
+use Rattle.trace_model.specs.Row.{row_before}
 use Rattle.trace_model.specs.Stability.{IsLowestUnstable}
 use Rattle.net_design.specs.declared.design.Design.{Design}
+use Rattle.net_design.specs.declared.values.Values.{Values}
 use Rattle.chan_map.specs.declared.pins.Map.{Map}
 use Rattle.run_model.specs.Played.{AreStable}
 use Rattle.run_model.specs.Run.{AllUp, IsRun, IsTheRun}
@@ -20,6 +22,11 @@ abbrev pub channel_of : Option Spot → Option ℕ
 channel_of None = None
 channel_of (Some spot) = Some spot.channel
 
+-- where a run of these rows ends before an unstable one
+abbrev pub spot_behind : List Row → Option ℕ → Option Spot
+spot_behind rows None = None
+spot_behind rows (Some channel) = Some (record { channel = channel; cycle = length rows })
+
 -- the run of n cycles, which ends before the first unstable row; the spot is that row's number, and the lowest channel on which it
 -- is unstable
 pub record IsPlainRun (d : Design) (m : Map) (offer : List Row → ℕ → Offer) (n : ℕ) (answer : PlainRun) : Type 0 where
@@ -33,6 +40,10 @@ pub record StandsWithin (stands_for : List Row → Type 0) (d : Design) (m : Map
   pub played : IsRunAllUp d m offer rows
   pub stable : AreStable m.channels rows
   pub few : length rows ≤ n
+
+-- the rows are such a run's, and what runs the design goes on behind them
+abbrev pub GoesOn : (Design → Values → Option Row → Type 0) → Design → Map → (List Row → ℕ → Offer) → List Row → Type 0
+GoesOn runs d m offer rows = (run : IsRunAllUp d m offer rows) × runs d (run.driven.state (length rows)) (row_before rows (length rows))
 
 -- the lowest channel on which a row is unstable after the row before it, or none; a row with none before it is stable
 abbrev pub IsBreak : List Channel → Option Row → Row → Option ℕ → Type 0

@@ -1,10 +1,12 @@
 //! The plain run: a block in its environment for a number of cycles, without a store.
 //!
-//! `Plain` in `specs/` says which run this is: *IsRun* with all gates up, as an answer.
+//! `Plain` in `specs/` says which run this is: *IsRun* with all gates up, as an answer. `Laws` says that it is one and keeps contents.
 #![tactic(auto)]
 
+mod laws;
 mod lent;
 mod plain;
 
+pub use laws::{one_plain_run, plain_run_keeps_contents};
 pub use lent::Lent;
 pub use plain::{PlainRun, Spot, run_plain};

@@ -11,7 +11,7 @@ ghost use Rattle.run_model.specs.MapOf.{IsMapOf};
 ghost use Rattle.run_model.specs.Played.{all_up};
 ghost use Rattle.chan_monitor.specs.Shell.{IsRunning, IsShown};
 ghost use Rattle.env_script.specs.Offered.{offers_on, AllFit};
-ghost use Rattle.bench_run.specs.Plain.{IsBreak, IsPlainRun, StandsWithin};
+ghost use Rattle.bench_run.specs.Plain.{GoesOn, IsBreak, IsPlainRun, StandsWithin};
 ghost use Rattle.script_text.specs.declared.script.TheConstants.{MOST_CYCLES};
 
 use crate::lent::Lent;
@@ -113,7 +113,7 @@ fn next_row<S: Shell, E: Env>(
     Ok(row)
 }
 
-/// The run of a shell from a reset on, of each design that it runs.
+/// The run of a shell from a reset on, of each design that it runs. The shell goes on behind its rows.
 fn run_shell<S: Shell, E: Env>(
     alloc: Global,
     shell: &mut S,
@@ -129,6 +129,8 @@ fn run_shell<S: Shell, E: Env>(
     requires cycles { cycles ≤ MOST_CYCLES }
     ensures run { IfOk result (λ run. (d : Design) (s : Values) (before : Option OneRow) → S.runs shell.old d s before
         → IsPlainRun d (S.map shell.old) (E.offer (E.plan env.old)) cycles run) }
+    ensures behind { IfOk result (λ run. (d : Design) (s : Values) (before : Option OneRow) → S.runs shell.old d s before
+        → GoesOn (S.runs shell.new) d (S.map shell.old) (E.offer (E.plan env.old)) run.rows) }
     ensures stands { IfOk result (λ run. E.stands_for env.new run.rows) }
     ensures plan { E.plan env.new ≡ E.plan env.old }
     ensures channels { E.channels env.new ≡ E.channels env.old }
@@ -159,8 +161,7 @@ fn run_shell<S: Shell, E: Env>(
 /// channels and stands for no row yet.
 ///
 /// The rows are those of *IsRun*, and end before the first unstable one; the environment stands for them afterwards. With
-/// `Memory`, where no memory was found, it is as at entry, or stands for the first rows of that run. In each cycle memory is taken
-/// for the row alone.
+/// `Memory`, where no memory was found, it is as at entry, or stands for the first rows of that run.
 pub fn run_plain<B: Block, E: Env>(
     alloc: Global,
     block: &mut B,

@@ -1,5 +1,5 @@
 -- The offers of an environment fit their channels, and a row that carries them carries each channel's offer.
-use Rattle.std.proofs.Common.{◌≡◌, ℕ, zero, suc, true, false, cond, List, [], Some}
+use Rattle.std.proofs.Common.{◌≡◌, ℕ, zero, suc, true, false, cond, List, Some}
 use Rattle.std.proofs.Common.{length, get_or, replicate, slice_get, ⊎_elim, refl, ap, sym, subst, ◌∙◌}
 use Rattle.std.proofs.lemmas.Bool.{cases_Bool, cond-true, cond-false}
 use Rattle.std.proofs.lemmas.Option.{slice_get_within}

@@ -1,9 +1,10 @@
 -- What an environment offers on its channels, as the offers of a run (AMBA AXI4 IHI 0022, A3.2.1).
-use Rattle.std.specs.Prelude.{◌≡◌, ℕ, if◌then◌else◌, List, Some, length, map, slice_get, slice_index}
+use Rattle.std.specs.Prelude.{◌≡◌, ℕ, true, false, if◌then◌else◌, List, [], ◌∷◌, ◌++◌, Some, length, map, slice_get, slice_index}
 use Rattle.std.specs.List.{range_with_len}
 use Rattle.trace_model.specs.declared.channel.Channel.{Channel}
 use Rattle.trace_model.specs.declared.row.Offers.{Offers}
 use Rattle.trace_model.specs.declared.row.Row.{Row}
+use Rattle.trace_model.specs.Row.{completes}
 use Rattle.run_model.specs.Building.{joined, mask_of}
 use Rattle.run_model.specs.Offers.{no_content}
 use Rattle.script_text.specs.Offer.{Offer, FitsOffer}
@@ -27,6 +28,12 @@ offers_after channels offer before = offers_on channels (offer before)
 -- each channel's offer is one that it may have
 abbrev pub AllFit : List Channel → (ℕ → Offer) → Type 0
 AllFit channels offer = (c : ℕ) (x : Channel) → slice_get channels c ≡ Some x → FitsOffer x (offer c)
+
+-- what any environment keeps to: each offer fits its channel, and a valid with its content stays until it is taken (A3.2.1)
+pub record AreLasting (channels : List Channel) (offer : List Row → ℕ → Offer) : Type 0 where
+  pub fits : (rows : List Row) → AllFit channels (offer rows)
+  pub stays : (rows : List Row) (row : Row) (c : ℕ) → (offer rows c).valid ≡ true → completes row c ≡ false
+      → offer (rows ++ row ∷ []) c ≡ offer rows c
 
 -- the numbers of n ports, port by port; a port without a number has 0
 abbrev pub port_numbers : ℕ → List ℕ → List ℕ

@@ -1,6 +1,6 @@
 //! Offers, channel by channel.
 
-ghost use Rattle.std.specs.Prelude.{◌≡◌, ◌<◌, ◌+◌, ◌≤◌, length, slice_get, IfOk};
+ghost use Rattle.std.specs.Prelude.{◌≡◌, ◌<◌, ◌+◌, ◌≤◌, length, replicate, slice_get, IfOk};
 ghost use Rattle.trace_model.specs.Packet.{widths_of};
 ghost use Rattle.trace_model.specs.Row.{all_widths, replaced};
 ghost use Rattle.run_model.specs.Building.{joined, mask_of};
@@ -79,9 +79,13 @@ pub fn gather<E: Env>(env: &E, channels: &Channels, offers: &mut Offers)
     fill_contents(env, channels.as_slice(), offers.contents.as_mut_slice());
 }
 
-/// Offers with a place for each port's number, of which nothing is up.
+/// Offers with a place for each port's number, of which nothing is up and each number is 0.
 pub fn offers_over(alloc: Global, channels: &Channels) -> Result<Offers, Memory>
-    ensures { IfOk result (λ offers. length offers.contents ≡ length (all_widths channels.now)) }
+    ensures { IfOk result (λ offers. offers ≡ record {
+      valids = 0;
+      readies = 0;
+      contents = replicate (length (all_widths channels.now)) 0;
+    }) }
 {
     let row = row_over(alloc, channels)?;
     Ok(Offers {

@@ -27,85 +27,11 @@ use Rattle.run_model.specs.Played.{AreStable, StopsBefore}
 use Rattle.run_model.specs.Replay.{HasEnded, IsGoing, IsReplay, IsReplayRow}
 use Rattle.run_model.proofs.PlayedLaws.{played-front, row-before_take}
 use Rattle.run_model.proofs.ReplayLaws.{one-replay}
+use Rattle.run_model.proofs.Unstable.{lowest, lowest-one, row-at, stable-next, stops-here}
 use Rattle.replay_run.specs.declared.outcome.ReplayOutcome.{ReplayOutcome}
 use Rattle.replay_run.specs.declared.outcome.ReplayOutcome.TheVariants.{Ended, Short, Unstable}
 use Rattle.replay_run.specs.Laws.{OneOutcome}
 use Rattle.replay_run.specs.Replaying.{EndsAs}
-
--- ---- the lowest unstable channel
-same-or-not : (xs ys : List ℕ) → (xs ≡ ys) ⊎ (xs ≡ ys → ⊥)
-same-or-not xs ys = ⊎_elim
-    (λ (t : bytes_eq xs ys ≡ true). inl ((bytes_eq-Decides xs ys).0 t))
-    (λ (f : bytes_eq xs ys ≡ false). inr (λ e. false≢true (sym f ∙ (bytes_eq-Decides xs ys).1 e)))
-    (cases_Bool (bytes_eq xs ys))
-
-module _ (channels : List Channel) (before now : Row) where
-  abbrev Breaks : ℕ → Type 0
-  Breaks c = IsUnstable channels before now c
-
-  outward-or-not : (c : ℕ) (x : Channel) → slice_get channels c ≡ Some x → (dir : Dir) → x.dir ≡ dir → (x.dir ≡ Outward) ⊎ (Breaks c → ⊥)
-  outward-or-not c x at Inward is = inr (λ u. inward-not (sym is ∙ ap (λ (y : Channel). y.dir) (same_Some x u.channel (sym at ∙ u.at)) ∙ u.outward))
-    where
-      inward-not : Inward ≡ Outward → ⊥
-      inward-not e = cc
-  outward-or-not c x at Outward is = inl is
-
-  broken-or-not : (c : ℕ) (x : Channel) → slice_get channels c ≡ Some x → x.dir ≡ Outward → Breaks c ⊎ (Breaks c → ⊥)
-  broken-or-not c x at dir = ⊎_elim
-      (λ (w : waits_on before c ≡ true). ⊎_elim
-      (λ (f : has now.valids c ≡ false). inl (record { channel = x; at = at; outward = dir; waited = w; broken = inl f }))
-      (λ (t : has now.valids c ≡ true). ⊎_elim
-      (λ (same : content_at channels now.contents c ≡ content_at channels before.contents c).
-      inr (λ u. ⊎_elim (λ f. false≢true (sym f ∙ t)) (λ other. other same) u.broken))
-      (λ (other : content_at channels now.contents c ≡ content_at channels before.contents c → ⊥).
-      inl (record { channel = x; at = at; outward = dir; waited = w; broken = inr other }))
-      (same-or-not (content_at channels now.contents c) (content_at channels before.contents c)))
-      (⊎_elim (λ (t : has now.valids c ≡ true). inr t) (λ (f : has now.valids c ≡ false). inl f) (cases_Bool (has now.valids c))))
-      (λ (f : waits_on before c ≡ false). inr (λ u. false≢true (sym f ∙ u.waited)))
-      (cases_Bool (waits_on before c))
-
-  breaks-or-not : (c : ℕ) (o : Option Channel) → slice_get channels c ≡ o → Breaks c ⊎ (Breaks c → ⊥)
-  breaks-or-not c None at = inr (λ u. none-some u.channel (sym at ∙ u.at))
-    where
-      none-some : (x : Channel) → None ≡ Some x → ⊥
-      none-some x e = cc
-  breaks-or-not c (Some x) at = ⊎_elim (λ dir. broken-or-not c x at dir) (λ none. inr none) (outward-or-not c x at x.dir refl)
-
-  -- among the first n channels
-  record Lowest (n : ℕ) : Type 0 where
-    channel : ℕ
-    breaks : Breaks channel
-    least : (d : ℕ) → d < channel → Breaks d → ⊥
-
-  search-to : (n : ℕ) → Lowest n ⊎ ((d : ℕ) → d < n → Breaks d → ⊥)
-  search-to zero = inr (λ d l. absurd (omega (arith, l)))
-  search-to (suc n) = ⊎_elim
-      (λ (low : Lowest n). inl (record { channel = low.channel; breaks = low.breaks; least = low.least }))
-      (λ (none : (d : ℕ) → d < n → Breaks d → ⊥). ⊎_elim
-      (λ (b : Breaks n). inl (record { channel = n; breaks = b; least = none }))
-      (λ (stays : Breaks n → ⊥). inr (λ d l. ⊎_elim
-      (λ (less : d < n). none d less)
-      (λ (most : n ≤ d). subst (λ k. Breaks k → ⊥) (let e : n ≡ d = omega (arith, l, most) in e) stays)
-      (cases_lt d n)))
-      (breaks-or-not n (slice_get channels n) refl))
-      (search-to n)
-
-  pub lowest : (o : Option ℕ) × IsLowestUnstable channels before now o
-  lowest = ⊎_elim
-      (λ (low : Lowest (length channels)). (Some low.channel, (low.breaks, low.least)))
-      (λ (none : (d : ℕ) → d < length channels → Breaks d → ⊥).
-      (None, λ c u. none c (slice_get_within channels c u.channel u.at) u))
-      (search-to (length channels))
-
-lowest-one : (channels : List Channel) (before now : Row) (c d : ℕ) → IsLowestUnstable channels before now (Some c)
-    → IsLowestUnstable channels before now (Some d) → c ≡ d
-lowest-one channels before now c d (is, least) (is', least') = ⊎_elim
-    (λ (l : c < d). absurd (least' c l is))
-    (λ (g : d ≤ c). ⊎_elim
-    (λ (l : d < c). absurd (least d l is'))
-    (λ (h : c ≤ d). omega (arith, g, h))
-    (cases_lt d c))
-    (cases_lt c d)
 
 -- ---- whether a trace has ended
 all-or-not : (n : ℕ) (x y : ℕ → ℕ) → ((c : ℕ) → c < n → x c ≤ y c) ⊎ (((c : ℕ) → c < n → x c ≤ y c) → ⊥)
@@ -169,23 +95,6 @@ module _ (d : Design) (m : Map) (packets : List Packet) where
     front-before : (k t : ℕ) → t ≤ k → row_before (take k all) t ≡ row_before all t
     front-before k t l = row-before_take all k t l
 
-    stable-next : (k : ℕ) (row : Row) → k < length all → slice_get all k ≡ Some row → AreStable m.channels (take k all)
-        → ((before : Row) → row_before all k ≡ Some before → (c : ℕ) → IsUnstable m.channels before row c → ⊥)
-        → AreStable m.channels (take (suc k) all)
-    stable-next k row l at stable none t before now b is c bad = ⊎_elim
-        (λ (less : t < k). stable t before now (row-before_take all k t (omega (arith, less)) ∙ sym (row-before_take all (suc k) t (omega (arith, less))) ∙ b)
-        (slice_get-take k all t less ∙ sym (slice_get-take (suc k) all t (omega (arith, less))) ∙ is) c bad)
-        (λ (most : k ≤ t). here most (slice_get_within (take (suc k) all) t now is))
-        (cases_lt t k)
-      where
-        here : k ≤ t → t < length (take (suc k) all) → ⊥
-        here most within =
-            let long = length-take-le (suc k) all (omega (arith, l)) in
-            let e : t ≡ k = omega (arith, most, within, long) in
-            let same : now ≡ row = same_Some now row (sym is ∙ slice_get-take (suc k) all t (omega (arith, within, long)) ∙ ap (slice_get all) e ∙ at) in
-            none before (sym (row-before_take all (suc k) k (omega arith)) ∙ sym (ap (row_before (take (suc k) all)) e) ∙ b) c
-            (subst (λ (r : Row). IsUnstable m.channels before r c) same bad)
-
     going-next : (k : ℕ) → k < length all → IsGoing (length m.channels) packets (take k all)
         → (HasEnded (length m.channels) packets (take k all) → ⊥) → IsGoing (length m.channels) packets (take (suc k) all)
     going-next k l going open_yet j less ended =
@@ -234,25 +143,12 @@ module _ (d : Design) (m : Map) (packets : List Packet) where
         → IsGoing (length m.channels) packets (take k all) → (HasEnded (length m.channels) packets (take k all) → ⊥) → Found (length all)
     breaks-here k row before c l at was low stable going open_yet =
         let long = length-take-le k all (omega (arith, l)) in
-        let more = take-suc_get all k row at in
         record {
           rows = take k all;
           outcome = Unstable c k;
           ends = (
             record {
-              stops = record {
-                next = row;
-                played = subst (IsReplay d m packets) more (front (suc k));
-                stable = stable;
-                unstable = record {
-                  before = before;
-                  now = row;
-                  before_is = ap (row_before (take k all ++ row ∷ [])) long ∙ ap (λ (rs : List Row). row_before rs k) (sym more)
-                      ∙ row-before_take all (suc k) k (omega arith) ∙ was;
-                  now_is = slice_get-last (take k all) row;
-                  lowest = low;
-                };
-              };
+              stops = stops-here d m (IsReplayRow m.channels packets) all played k row before c l at was low stable;
               within = omega (arith, long, l);
               going = going;
               not_ended = open_yet;
@@ -266,7 +162,7 @@ module _ (d : Design) (m : Map) (packets : List Packet) where
         (open_yet : HasEnded (length m.channels) packets (take k all) → ⊥)
         (next : AreStable m.channels (take (suc k) all) → IsGoing (length m.channels) packets (take (suc k) all) → Found (length all)) where
       goes-on : ((before : Row) → row_before all k ≡ Some before → (c : ℕ) → IsUnstable m.channels before row c → ⊥) → Found (length all)
-      goes-on none = next (stable-next k row l at stable none) (going-next k l going open_yet)
+      goes-on none = next (stable-next m.channels all k row l at stable none) (going-next k l going open_yet)
 
       by-lowest : (before : Row) → row_before all k ≡ Some before → ((o : Option ℕ) × IsLowestUnstable m.channels before row o)
           → Found (length all)
@@ -278,15 +174,6 @@ module _ (d : Design) (m : Map) (packets : List Packet) where
       by-before None was = goes-on (λ b e c bad. (let f : None ≡ Some b = sym was ∙ e in absurd (cc)))
       by-before (Some before) was = by-lowest before was (lowest m.channels before row)
 
-    row-at : (k : ℕ) → k < length all → (o : Option Row) → slice_get all k ≡ o → (row : Row) × (slice_get all k ≡ Some row)
-    row-at k l None e = absurd (some-below all k l e)
-      where
-        some-below : (xs : List Row) (i : ℕ) → i < length xs → slice_get xs i ≡ None → ⊥
-        some-below [] i less none = absurd (omega (arith, less))
-        some-below (x ∷ xs) zero less none = cc
-        some-below (x ∷ xs) (suc i) less none = some-below xs i (omega (arith, less)) none
-    row-at k l (Some row) e = (row, e)
-
     found-from : (left k : ℕ) → k + left ≡ length all → AreStable m.channels (take k all)
         → IsGoing (length m.channels) packets (take k all) → Found (length all)
     found-from zero k sum stable going = ⊎_elim
@@ -296,7 +183,7 @@ module _ (d : Design) (m : Map) (packets : List Packet) where
     found-from (suc left) k sum stable going = ⊎_elim
         (ends-here k (omega (arith, sum)) stable going)
         (λ (open_yet : HasEnded (length m.channels) packets (take k all) → ⊥).
-        (let r = row-at k (omega (arith, sum)) (slice_get all k) refl in
+        (let r = row-at all k (omega (arith, sum)) in
         by-before k r.0 (omega (arith, sum)) r.1 stable going open_yet (found-from left (suc k) (omega (arith, sum))) (row_before all k) refl))
         (ended-or-not (length m.channels) packets (take k all))
 

@@ -1,5 +1,5 @@
 -- To designs that are alike a map is bound with the same answer.
-use Rattle.std.proofs.Common.{◌≡◌, ℕ, ◌<◌, ◌&&◌, not, List, [], ◌++◌, Option, None, Some, Result, Ok, Err, take, length, refl, ap, sym, subst, ◌∙◌}
+use Rattle.std.proofs.Common.{◌≡◌, ℕ, ◌<◌, ◌&&◌, not, List, ◌++◌, Option, None, Some, Result, Ok, Err, take, length, refl, ap, sym, subst, ◌∙◌}
 use Rattle.std.specs.Prelude.{count_by, slice_get, IfSome}
 use Rattle.std.specs.List.{flat_map}
 use Rattle.vidi_bits.proofs.Each.{each_weaker, zip-on}

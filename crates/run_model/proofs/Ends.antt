@@ -16,6 +16,7 @@ use Rattle.run_model.specs.Played.{AreStable, StopsBefore}
 use Rattle.run_model.specs.Run.{IsRun, IsRunRow, IsTheRun}
 use Rattle.run_model.proofs.PlayedLaws.{Determines, one-list_of_rows, row-before_take, played-front}
 use Rattle.run_model.proofs.RowParts.{carried}
+use Rattle.run_model.proofs.Unstable.{lowest-one}
 use Rattle.run_model.specs.AlikeLaws.{OneEnd}
 
 -- after rows over the channels there is at most one mask of gates
@@ -23,16 +24,16 @@ abbrev pub FixGates : List Channel → (List Row → ℕ → Type 0) → Type 0
 FixGates channels gates = (before : List Row) → AreRows channels before → (a b : ℕ) → gates before a → gates before b → a ≡ b
 
 -- ---- the first rows
-
-lowest-one : (c d : ℕ) (before now : Row) → (m : Map) → IsLowestUnstable m.channels before now (Some c)
-    → IsLowestUnstable m.channels before now (Some d) → c ≡ d
-lowest-one c d before now m (is, least) (is', least') = ⊎_elim
-    (λ (l : c < d). absurd (least' c l is))
-    (λ (g : d ≤ c). ⊎_elim
-    (λ (l : d < c). absurd (least d l is'))
-    (λ (h : c ≤ d). omega (arith, g, h))
-    (cases_lt d c))
-    (cases_lt c d)
+-- the rows of a run, with what is said of them
+pub the-run : (d : Design) (m : Map) (offers : List Row → Offers) (gates : List Row → ℕ → Type 0) (n : ℕ) (a : List Row)
+    (stop : Option ℕ) → IsTheRun d m offers gates n a stop → IsRun d m offers gates a × AreStable m.channels a × (length a ≤ n)
+the-run d m offers gates n a None (run, stable, e) = (run, stable, omega (arith, e))
+the-run d m offers gates n a (Some c) (stops, l) = (
+  subst (IsRun d m offers gates) (take_at a (stops.next ∷ []) (length a) refl)
+      (played-front d m (IsRunRow m.channels offers gates) (a ++ stops.next ∷ []) (length a) stops.played),
+  stops.stable,
+  omega (arith, l),
+)
 
 module _ (d : Design) (m : Map) (ready : IsReady d m) (offers : List Row → Offers) (gates : List Row → ℕ → Type 0)
     (fix : FixGates m.channels gates) where
@@ -50,17 +51,6 @@ module _ (d : Design) (m : Map) (ready : IsReady d m) (offers : List Row → Off
   front-of : (a b : List Row) → Runs a → Runs b → length a ≤ length b → take (length a) b ≡ a
   front-of a b ra rb l = same-rows (take (length a) b) a
       (played-front d m (IsRunRow m.channels offers gates) b (length a) rb) ra (length-take-le (length a) b l)
-
-  -- the rows of a run, with what is said of them
-  the-run : (n : ℕ) (a : List Row) (stop : Option ℕ) → IsTheRun d m offers gates n a stop
-      → Runs a × AreStable m.channels a × (length a ≤ n)
-  the-run n a None (run, stable, e) = (run, stable, omega (arith, e))
-  the-run n a (Some c) (stops, l) = (
-    subst Runs (take_at a (stops.next ∷ []) (length a) refl)
-        (played-front d m (IsRunRow m.channels offers gates) (a ++ stops.next ∷ []) (length a) stops.played),
-    stops.stable,
-    omega (arith, l),
-  )
 
   -- stable rows aren't longer than those before which a run stops
   no-longer : (a b : List Row) (c : ℕ) → Runs a → AreStable m.channels a → StopsBefore d m (IsRunRow m.channels offers gates) b c
@@ -93,7 +83,7 @@ module _ (d : Design) (m : Map) (ready : IsReady d m) (offers : List Row → Off
       some-same u.before w.before (sym u.before_is ∙ ap (λ (rs : List Row). row_before rs (length a)) same ∙ w.before_is) in
       let now : u.now ≡ w.now =
       some-same u.now w.now (sym u.now_is ∙ ap (λ (rs : List Row). slice_get rs (length a)) same ∙ w.now_is) in
-      lowest-one c k w.before w.now m
+      lowest-one m.channels w.before w.now c k
       (subst (λ (r : Row). IsLowestUnstable m.channels r w.now (Some c)) before
       (subst (λ (r : Row). IsLowestUnstable m.channels u.before r (Some c)) now u.lowest)) w.lowest
     where
@@ -108,8 +98,8 @@ module _ (d : Design) (m : Map) (ready : IsReady d m) (offers : List Row → Off
   one-end_of n a b (Some c) None (stops, l) (rb, sb, lb) =
       let most = no-longer b a c rb sb stops in absurd (omega (arith, lb, l, most))
   one-end_of n a b (Some c) (Some k) (x, l) (y, l') =
-      let ra = the-run n a (Some c) (x, l) in
-      let rb = the-run n b (Some k) (y, l') in
+      let ra = the-run d m offers gates n a (Some c) (x, l) in
+      let rb = the-run d m offers gates n b (Some k) (y, l') in
       let most = no-longer a b k ra.0 ra.1 y in
       let least = no-longer b a c rb.0 rb.1 x in
       let same : a ≡ b = same-rows a b ra.0 rb.0 (omega (arith, most, least)) in (

@@ -12,4 +12,6 @@ pub mod JoinedLaws
 pub mod Turned
 pub mod Bound
 pub mod Played
+pub mod Unstable
 pub mod Ends
+pub mod Stops

@@ -1,6 +1,6 @@
 -- A run's offers and gates fix its rows; they keep contents.
 use Rattle.std.proofs.Common.{◌≡◌, ℕ, zero, suc, ◌<◌, ◌^◌, true, false, List, [], ◌∷◌}
-use Rattle.std.proofs.Common.{◌++◌, Some, length, take, slice_get, refl, ap, sym, subst, ◌∙◌}
+use Rattle.std.proofs.Common.{◌++◌, Some, length, take, slice_get, ap, sym, subst, ◌∙◌}
 use Rattle.std.proofs.lemmas.Bool.{cond-true}
 use Rattle.vidi_bits.specs.Number.{has}
 use Rattle.trace_model.specs.declared.channel.Channel.{Channel}
@@ -14,7 +14,7 @@ use Rattle.trace_model.specs.Trace.{IsWellFormed}
 use Rattle.trace_model.proofs.CountingLemmas.{take-suc_get}
 use Rattle.net_design.specs.declared.design.Design.{Design}
 use Rattle.chan_map.specs.declared.pins.Map.{Map}
-use Rattle.run_model.specs.Laws.{IsReady, GatesOf, OffersFit, GatesFit, OneRun, OffersStay, GatesStay, ContentsStay, RunKeepsContents}
+use Rattle.run_model.specs.Laws.{IsReady, GatesOf, OffersFit, OneOfLength, OffersStay, GatesStay, ContentsStay, RunKeepsContents}
 use Rattle.run_model.specs.Offers.{CarriesOn, Carries, offered_content}
 use Rattle.run_model.specs.Played.{AreStable}
 use Rattle.run_model.specs.Run.{IsRun, IsRunRow}
@@ -23,23 +23,25 @@ use Rattle.run_model.proofs.RowParts.{carried}
 use Rattle.run_model.proofs.Stays.{KeepsContents, keeps-from, keeps-in-flight, contents-stay, flight-parts}
 use Rattle.trace_model.proofs.RowLaws.{well-formed}
 
--- ---- exactly one, for any relation that fixes the gates
--- after rows over the channels exactly one mask of these channels
-pub record OneMask (channels : List Channel) (gates : List Row → ℕ → Type 0) (before : List Row) : Type 0 where
+-- ---- exactly one list of n rows
+-- after these rows exactly one set of gates may be up, and it is of these channels
+pub record HasOneMask (channels : List Channel) (gates : List Row → ℕ → Type 0) (before : List Row) : Type 0 where
   pub mask : ℕ
   pub is : gates before mask
   pub below : mask < 2 ^ length channels
   pub only : (a b : ℕ) → gates before a → gates before b → a ≡ b
 
-run-determines : (channels : List Channel) (offers : List Row → Offers) (gates : List Row → ℕ → Type 0)
-    → ((before : List Row) → AreRows channels before → OneMask channels gates before)
+-- so it is after all rows
+abbrev pub GatesAreFixed : List Channel → (List Row → ℕ → Type 0) → Type 0
+GatesAreFixed channels gates = (before : List Row) → AreRows channels before → HasOneMask channels gates before
+
+run-determines : (channels : List Channel) (offers : List Row → Offers) (gates : List Row → ℕ → Type 0) → GatesAreFixed channels gates
     → Determines channels (IsRunRow channels offers gates)
 run-determines channels offers gates one before a b are oa ob ra rb =
     carried channels (offers before) a b ((one before are).only a.gates b.gates ra.1 rb.1) ra.0 rb.0
 
 run-allows : (channels : List Channel) (offers : List Row → Offers) → OffersFit channels offers → (gates : List Row → ℕ → Type 0)
-    → ((before : List Row) → AreRows channels before → OneMask channels gates before)
-    → (before : List Row) → AreRows channels before → Allows channels (IsRunRow channels offers gates) before
+    → GatesAreFixed channels gates → (before : List Row) → AreRows channels before → Allows channels (IsRunRow channels offers gates) before
 run-allows channels offers fit gates one before are = record {
   offers = offers before;
   gates = (one before are).mask;
@@ -48,22 +50,13 @@ run-allows channels offers fit gates one before are = record {
   allows = λ row over carries g. (carries, subst (gates before) (sym g) (one before are).is);
 }
 
-pub exactly-one_run : (d : Design) (m : Map) → IsReady d m → (offers : List Row → Offers) → OffersFit m.channels offers
-    → (gates : List Row → ℕ → Type 0) → ((before : List Row) → AreRows m.channels before → OneMask m.channels gates before) → (n : ℕ)
-    → ∥ ((rows : List Row) × (length rows ≡ n) × IsRun d m offers gates rows) ∥₁
-    × ((a b : List Row) → length a ≡ n → length b ≡ n → IsRun d m offers gates a → IsRun d m offers gates b → a ≡ b)
-exactly-one_run d m ready offers fit gates one n = (
+pub one-of_length : (d : Design) (m : Map) → IsReady d m → (offers : List Row → Offers) → OffersFit m.channels offers
+    → (gates : List Row → ℕ → Type 0) → GatesAreFixed m.channels gates → (n : ℕ) → OneOfLength (IsRun d m offers gates) n
+one-of_length d m ready offers fit gates one n = (
   some-list d m ready.lawful ready.one_map ready.mapped (IsRunRow m.channels offers gates) (run-allows m.channels offers fit gates one) n,
   λ a b la lb ra rb. one-list_of_rows d m ready.lawful ready.one_map ready.mapped (IsRunRow m.channels offers gates)
       (run-determines m.channels offers gates one) a b ra rb (la ∙ sym lb),
 )
-
-plan-mask : (channels : List Channel) (plan : List Row → ℕ) → GatesFit channels plan → (before : List Row) → AreRows channels before
-    → OneMask channels (GatesOf plan) before
-plan-mask channels plan fit before are = record { mask = plan before; is = refl; below = fit before are; only = λ a b x y. x ∙ sym y }
-
-pub one-run : OneRun
-one-run d m ready offers fit plan gates n = exactly-one_run d m ready offers fit (GatesOf plan) (plan-mask m.channels plan gates) n
 
 -- ---- contents stay
 -- gates are kept where they were up without a completion

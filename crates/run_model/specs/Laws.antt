@@ -1,5 +1,5 @@
 -- What follows from the definitions of runs and replays.
-use Rattle.std.specs.Prelude.{◌≡◌, ℕ, ◌<◌, ◌^◌, Bool, true, false, List, [], ◌∷◌, ◌++◌, Some, All, Contains, Ok}
+use Rattle.std.specs.Prelude.{◌≡◌, ℕ, ◌<◌, ◌^◌, Bool, true, false, List, [], ◌∷◌, ◌++◌, Option, Some, All, Contains, Ok}
 use Rattle.std.specs.Prelude.{length, take, slice_get}
 use Rattle.vidi_bits.specs.Number.{has}
 use Rattle.trace_model.specs.declared.channel.Channel.{Channel}
@@ -27,7 +27,7 @@ use Rattle.run_model.specs.declared.held.Held.{Held}
 use Rattle.run_model.specs.MapOf.{IsMapOf}
 use Rattle.run_model.specs.Offers.{Carries}
 use Rattle.run_model.specs.Played.{AreStable}
-use Rattle.run_model.specs.Run.{IsRun}
+use Rattle.run_model.specs.Run.{IsRun, IsTheRun}
 use Rattle.run_model.specs.Replay.{IsReplay, HasEnded}
 use Rattle.run_model.specs.Held.{packet_place, held, waits}
 
@@ -53,11 +53,21 @@ OffersFit channels offers = (before : List Row) → AreRows channels before → 
 abbrev pub GatesFit : List Channel → (List Row → ℕ) → Type 0
 GatesFit channels plan = (before : List Row) → AreRows channels before → plan before < 2 ^ length channels
 
+-- exactly one list of n rows is as said
+abbrev pub OneOfLength : (List Row → Type 0) → ℕ → Type 0
+OneOfLength Is n = ∥ ((rows : List Row) × (length rows ≡ n) × Is rows) ∥₁
+    × ((a b : List Row) → length a ≡ n → length b ≡ n → Is a → Is b → a ≡ b)
+
+-- exactly one list of rows ends as said, and in exactly one way
+abbrev pub OneThatEnds : (List Row → Option ℕ → Type 0) → Type 0
+OneThatEnds Ends = ∥ ((rows : List Row) × (stop : Option ℕ) × Ends rows stop) ∥₁
+    × ((a b : List Row) (i j : Option ℕ) → Ends a i → Ends b j → (a ≡ b) × (i ≡ j))
+
+-- exactly one list of n rows with *IsRun*, and exactly one run of n cycles
 abbrev pub OneRun : Type 0
 OneRun = (d : Design) (m : Map) → IsReady d m → (offers : List Row → Offers) → OffersFit m.channels offers
     → (plan : List Row → ℕ) → GatesFit m.channels plan → (n : ℕ)
-    → ∥ ((rows : List Row) × (length rows ≡ n) × IsRun d m offers (GatesOf plan) rows) ∥₁
-    × ((a b : List Row) → length a ≡ n → length b ≡ n → IsRun d m offers (GatesOf plan) a → IsRun d m offers (GatesOf plan) b → a ≡ b)
+    → OneOfLength (IsRun d m offers (GatesOf plan)) n × OneThatEnds (IsTheRun d m offers (GatesOf plan) n)
 
 -- each recorded content fits its ports
 abbrev pub ContentsFit : List Channel → List Packet → Type 0
@@ -65,8 +75,7 @@ ContentsFit channels packets = All (IsPacket channels) packets
 
 abbrev pub OneReplay : Type 0
 OneReplay = (d : Design) (m : Map) → IsReady d m → (packets : List Packet) → ContentsFit m.channels packets → (n : ℕ)
-    → ∥ ((rows : List Row) × (length rows ≡ n) × IsReplay d m packets rows) ∥₁
-    × ((a b : List Row) → length a ≡ n → length b ≡ n → IsReplay d m packets a → IsReplay d m packets b → a ≡ b)
+    → OneOfLength (IsReplay d m packets) n
 
 -- ---- contents stay
 -- what the environment offers stays until it is taken

@@ -7,7 +7,8 @@ pub fn bound_is_map_of()
     ensures { BoundIsMapOf }
 {}
 
-/// For a design, its map, an environment and a plan of gates there is exactly one run of each number of rows.
+/// For a design, its map, an environment and a plan of gates there is exactly one run of each number of rows, and exactly one run of
+/// each number of cycles, which ends in one way.
 pub fn one_run()
     ensures { OneRun }
 {}

@@ -15,7 +15,6 @@ use Rattle.trace_model.specs.Recording.{has_event, packet_of, packets_of, row_do
 use Rattle.trace_model.specs.Row.{completes, is_in_flight}
 use Rattle.trace_model.proofs.CountingLemmas.{count-cons, slice_get-last}
 use Rattle.trace_model.proofs.RowLaws.{recorded-once, same-counts}
-use Rattle.run_model.specs.Laws.{OffersStay}
 use Rattle.run_model.specs.Played.{all_up}
 use Rattle.run_model.specs.Run.{AllUp, IsRun}
 use Rattle.run_model.proofs.Contents.{has-all, same-masks_below}
@@ -24,20 +23,12 @@ use Rattle.room_ledger.specs.Gates.{Plan, used_at, keeps, AreGates}
 use Rattle.room_ledger.specs.Reservation.{need, AreRaised}
 use Rattle.room_ledger.proofs.Following.{used-front}
 use Rattle.room_ledger.proofs.GateLaws.{down-waits, some-row, none-left}
-use Rattle.script_text.specs.Offer.{Offer}
-use Rattle.env_script.specs.Offered.{offers_after}
-use Rattle.env_script.proofs.OfferLaws.{stays-offered}
+use Rattle.env_script.proofs.Lasting.{offers-stay}
 use Rattle.vidi_recorder.specs.Course.{Course, course, sizes_of, GatesUnder, IsRunOf}
-use Rattle.vidi_recorder.specs.Laws.{AreLasting, TheRunIsKept, NoHiddenGate, DrainedRunIsPlain}
+use Rattle.vidi_recorder.specs.Laws.{TheRunIsKept, NoHiddenGate, DrainedRunIsPlain}
 use Rattle.vidi_recorder.proofs.Runs.{the-run}
 
--- ---- offers and gates stay
-pub offers-stay : (channels : List Channel) (offer : List Row → ℕ → Offer) → AreLasting channels offer
-    → OffersStay channels (offers_after channels offer)
-offers-stay channels offer lasting before row are carries c x at dir up unended =
-    stays-offered channels (offer before) (offer (before ++ row ∷ [])) (lasting.fits before) (lasting.fits (before ++ row ∷ [])) c x at up
-    (λ was. lasting.stays before row c was unended)
-
+-- ---- gates stay
 gates-on : (sizes : List ℕ) (plan : Plan) (before : List Row) (row : Row) (next : ℕ)
     → AreGates sizes plan (before ++ row ∷ []) (suc (length before)) next → (c : ℕ) → keeps row c ≡ true → has next c ≡ true
 gates-on sizes plan before row next is c kept-up =

@@ -1,11 +1,17 @@
 -- Lengths of packets.
-use Rattle.std.proofs.Common.{◌≡◌, ℕ, ◌+◌, ◌≤◌, List, length, map, sum_by, ap, sym, ◌∙◌, arith}
+use Rattle.std.proofs.Common.{◌≡◌, ℕ, ◌+◌, ◌≤◌, ◌&&◌, ◌==◌, Bool, true, false, cond, List, [], ◌∷◌, Option, None, Some}
+use Rattle.std.proofs.Common.{length, map, sum_by, ap, sym, ◌∙◌, arith}
+use Rattle.std.proofs.lemmas.List.{length-map}
+use Rattle.std.proofs.lemmas.List.Sums.{sum_by-cons}
 use Rattle.trace_model.specs.declared.packet.TheConstants.{LONGEST_PACKET}
 use Rattle.trace_model.specs.declared.channel.Channel.{Channel}
 use Rattle.trace_model.specs.Channel.{content_bytes, IsTable}
-use Rattle.trace_model.specs.Length.{head_len, packet_len}
+use Rattle.trace_model.specs.declared.row.Row.{Row}
+use Rattle.trace_model.specs.Length.{contents_len, head_len, packet_len}
+use Rattle.trace_code.proofs.RowBytes.{contents_len-widths, contents-least}
+use Rattle.room_ledger.specs.Gates.{row_len}
 use Rattle.room_ledger.specs.Ledger.{Ledger, claimed, Emitted}
-use Rattle.room_ledger.specs.Reservation.{event_len}
+use Rattle.room_ledger.specs.Reservation.{event_len, need, whole}
 use Rattle.room_ledger.proofs.Following.{same-len}
 
 -- a lawful table's packets are no longer than the longest
@@ -14,6 +20,45 @@ longest channels table =
     let few = table.few in
     let content = table.content in
     omega (arith, few, content)
+
+-- a packet is no longer than one in which all channels start
+pub packet-most : (channels : List Channel) (starts ends : ℕ)
+    → packet_len channels starts ends ≤ head_len (length channels) + sum_by content_bytes channels
+packet-most channels starts ends = one (starts == 0 && ends == 0)
+  where
+    one : (b : Bool) → cond b 0 (head_len (length channels) + contents_len starts channels)
+        ≤ head_len (length channels) + sum_by content_bytes channels
+    one true = omega arith
+    one false = let a = contents_len-widths starts channels in let b = contents-least starts channels in omega arith
+
+-- which all of them reserve together
+pub row-least : (channels : List Channel) → IsTable channels → (row : Option Row)
+    → row_len (map content_bytes channels) row ≤ need (map content_bytes channels)
+row-least channels table None = omega arith
+row-least channels table (Some row) =
+    let same = same-len channels row.starts row.ends in
+    let most = packet-most channels row.starts row.ends in
+    let long = length-map channels content_bytes in
+    let all = head-least (head_len (length channels)) channels table.some in
+    let same-need : need (map content_bytes channels) ≡ sum_by (whole (head_len (length channels))) (map content_bytes channels) =
+    ap (λ n. sum_by (whole (head_len n)) (map content_bytes channels)) long in
+    omega (arith, same, most, all, same-need)
+  where
+    contents-within : (head : ℕ) (xs : List Channel) → sum_by content_bytes xs ≤ sum_by (whole head) (map content_bytes xs)
+    contents-within head [] = omega arith
+    contents-within head (x ∷ xs) =
+        let l = contents-within head xs in
+        let a = sum_by-cons content_bytes x xs in
+        let b = sum_by-cons (whole head) (content_bytes x) (map content_bytes xs) in
+        omega (arith, l, a, b)
+
+    head-least : (head : ℕ) (xs : List Channel) → 1 ≤ length xs → head + sum_by content_bytes xs ≤ sum_by (whole head) (map content_bytes xs)
+    head-least head [] some = absurd (omega (arith, some))
+    head-least head (x ∷ xs) some =
+        let l = contents-within head xs in
+        let a = sum_by-cons content_bytes x xs in
+        let b = sum_by-cons (whole head) (content_bytes x) (map content_bytes xs) in
+        omega (arith, l, a, b)
 
 -- a packet that was taken into the books has room in the store
 pub packet_room : (channels : List Channel) (old new : Ledger) (starts ends waiting len capacity : ℕ) → Emitted old starts ends new

@@ -6,6 +6,7 @@ pub mod Kept
 pub mod Going
 pub mod Turning
 pub mod Looking
+pub mod Short
 pub mod Ends
 pub mod Turns
 pub mod ScriptKept

@@ -1,5 +1,5 @@
 -- The row that a shell shows for the offers of an environment.
-use Rattle.std.proofs.Common.{◌≡◌, ℕ, List, [], Option, length, subst, sym}
+use Rattle.std.proofs.Common.{◌≡◌, ℕ, List, Option, length, subst, sym}
 use Rattle.std.proofs.Math.Logic.{∥∥₁_elim}
 use Rattle.std.proofs.Props.{props}
 use Rattle.run_model.specs.Offers.{AreZeroWhileDown}

@@ -1,23 +1,38 @@
 -- Fronts of the run: rows under its rules are the first rows of it, and their bytes the first bytes of its encoding.
-use Rattle.std.proofs.Common.{◌≡◌, ℕ, ◌<◌, ◌≤◌, Bool, true, false, cond, List, [], ◌∷◌, ◌++◌, Option, Some, None, length}
+use Rattle.std.proofs.Common.{◌≡◌, ℕ, zero, suc, ◌<◌, ◌≤◌, ◌^◌, Bool, true, false, cond, List, [], ◌∷◌, ◌++◌, Option, Some, None, length}
 use Rattle.std.proofs.Common.{take, drop, map, slice_get, refl, ap, sym, subst, ◌∙◌, append_assoc, arith, ⊎_elim}
 use Rattle.std.specs.List.{filter, flat_map}
 use Rattle.std.proofs.lemmas.Bool.{cases_lt}
-use Rattle.std.proofs.lemmas.List.{take-append-drop, take_at, length-take-le, length_push}
+use Rattle.std.proofs.Math.Logic.{∥∥₁_map}
+use Rattle.std.proofs.lemmas.List.{take-append-drop, length-map, length-take-le, length_push}
 use Rattle.std.proofs.lemmas.List.Concat.{flat_map-append}
+use Rattle.std.proofs.lemmas.Nat.{pow_pos}
+use Rattle.vidi_bits.specs.Number.{has}
+use Rattle.vidi_bits.proofs.BitLemmas.{fits_by_bits}
 use Rattle.trace_model.specs.declared.channel.Channel.{Channel}
 use Rattle.trace_model.specs.declared.row.Row.{Row}
 use Rattle.trace_model.specs.Recording.{has_event, packet_of, packets_of, trace_of}
-use Rattle.trace_model.specs.Row.{row_before}
+use Rattle.trace_model.specs.Channel.{content_bytes}
+use Rattle.trace_model.specs.Row.{is_in_flight, row_before}
+use Rattle.trace_model.proofs.MaskLemmas.{no-bit-from-has}
 use Rattle.trace_model.proofs.CountingLemmas.{slice_get-take}
 use Rattle.trace_code.specs.Encoding.{encode, end_mark, header_bytes, packet_bytes, row_bytes}
 use Rattle.net_design.specs.Lawful.{IsLawful}
+use Rattle.run_model.specs.Laws.{IsReady, OffersFit, OneOfLength, OneThatEnds}
 use Rattle.run_model.specs.Played.{AreStable}
+use Rattle.run_model.proofs.Ends.{the-run as run-parts}
 use Rattle.run_model.proofs.PlayedLaws.{Determines, one-list_of_rows, row-before_take, played-front}
 use Rattle.run_model.proofs.RowParts.{carried}
-use Rattle.room_ledger.proofs.GateLaws.{one-set}
+use Rattle.run_model.proofs.RunLaws.{one-of_length, GatesAreFixed}
+use Rattle.run_model.proofs.Stops.{one-that_ends}
+use Rattle.room_ledger.specs.Gates.{Plan, used_at, keeps, AreGates}
+use Rattle.room_ledger.specs.Reservation.{AreRaised}
+use Rattle.room_ledger.proofs.Existence.{has-gates}
+use Rattle.room_ledger.proofs.GateLaws.{one-set, some-row}
+use Rattle.env_script.proofs.Lasting.{offers-fit}
 use Rattle.chan_monitor.specs.Shell.{IsMapped}
-use Rattle.vidi_recorder.specs.Course.{Course, rule_of, IsRunOf, IsTheRunOf, sizes_of}
+use Rattle.vidi_recorder.specs.Course.{Course, course, rule_of, GatesUnder, IsRunOf, IsTheRunOf, sizes_of}
+use Rattle.vidi_recorder.specs.Laws.{OneRecordedRun}
 use Rattle.vidi_recorder.specs.Standing.{body}
 use Rattle.vidi_recorder.specs.Recording.{IsFrontOfTheRun}
 
@@ -31,13 +46,7 @@ determines w before a b are oa ob ra rb =
 -- ---- what holds of the run
 pub the-run : (w : Course) (all : List Row) (stop : Option ℕ) → IsTheRunOf w all stop
     → IsRunOf w all × AreStable w.bound.channels all × (length all ≤ w.cycles)
-the-run w all None (run, stable, e) = (run, stable, omega (arith, e))
-the-run w all (Some c) (stops, l) = (
-  subst (IsRunOf w) (take_at all (stops.next ∷ []) (length all) refl)
-      (played-front w.design w.bound (rule_of w) (all ++ stops.next ∷ []) (length all) stops.played),
-  stops.stable,
-  omega (arith, l),
-)
+the-run w = run-parts w.design w.bound w.offers (GatesUnder w.bound.channels w.plan) w.cycles
 
 module _ (w : Course) (lawful : IsLawful w.design) (ready : IsMapped w.design w.bound) where
   same-rows : (a b : List Row) → IsRunOf w a → IsRunOf w b → length a ≡ length b → a ≡ b
@@ -101,29 +110,81 @@ front-bytes channels rows more bytes lost e =
     ∙ append_assoc (bytes ++ lost) (body channels more) mark
     ∙ append_assoc bytes lost (body channels more ++ mark)
 
-pub going-front : (w : Course) → IsMapped w.design w.bound → (rows : List Row) (bytes lost : List ℕ) → IsRunOf w rows
-    → AreStable w.bound.channels rows → length rows ≤ w.cycles
-    → bytes ++ lost ≡ header_bytes w.bound.channels ++ body w.bound.channels rows → IsFrontOfTheRun w rows bytes
-going-front w ready rows bytes lost r s l e lawful all stop is =
-    let l' = no-longer w lawful ready rows all stop r s l is in
+-- ---- the run is there, and is one
+pub gates-fixed : (channels : List Channel) (plan : Plan) → GatesAreFixed channels (GatesUnder channels plan)
+gates-fixed channels plan before are =
+    let sizes = sizes_of channels in
+    let many = length-map channels content_bytes in
+    let there = has-gates sizes plan before (length before)
+    (λ u row at. subst (λ n. row.gates < 2 ^ n) (sym many) (are u row at).0.gates) (omega arith) in
+    record {
+      mask = there.0;
+      is = there.1;
+      below = subst (λ n. there.0 < 2 ^ n) many (mask-within sizes plan before (length before) there.0 there.1);
+      only = one-set sizes plan before (length before);
+    }
+  where
+    mask-within : (sizes : List ℕ) (plan : Plan) (rows : List Row) (t gates : ℕ) → AreGates sizes plan rows t gates
+        → gates < 2 ^ length sizes
+    mask-within sizes plan rows zero gates is = let some = pow_pos (length sizes) in omega (arith, is, some)
+    mask-within sizes plan rows (suc t) gates is =
+        let before = some-row (λ row. AreRaised sizes plan.capacity (used_at sizes plan rows (suc t)) (keeps row) (is_in_flight row)
+        (has gates)) (slice_get rows t) is in
+        fits_by_bits gates (length sizes) (λ k l. no-bit-from-has gates k (before.2.channels k l))
+
+module _ (w : Course) (ready : IsReady w.design w.bound) (fit : OffersFit w.bound.channels w.offers) where
+  pub one-list : (n : ℕ) → OneOfLength (IsRunOf w) n
+  one-list n = one-of_length w.design w.bound ready w.offers fit (GatesUnder w.bound.channels w.plan)
+      (gates-fixed w.bound.channels w.plan) n
+
+  pub one-course : OneThatEnds (IsTheRunOf w)
+  one-course = one-that_ends w.design w.bound w.offers (GatesUnder w.bound.channels w.plan) ready fit
+      (gates-fixed w.bound.channels w.plan) w.cycles
+
+pub one-recorded : OneRecordedRun
+one-recorded d m offer stalls cycles ready lasting =
+    let w = course d m offer stalls cycles in
+    let fit = offers-fit m.channels offer lasting in
+    (one-list w ready fit, one-course w ready fit)
+
+-- ---- fronts of it
+abbrev FrontIn : Course → List Row → List ℕ → Type 0
+FrontIn w rows bytes = (all : List Row) (stop : Option ℕ) → IsTheRunOf w all stop
+    → (take (length rows) all ≡ rows) × ((lost : List ℕ) × (bytes ++ lost ≡ encode (trace_of w.bound.channels all)))
+
+front-there : (w : Course) → IsMapped w.design w.bound → OffersFit w.bound.channels w.offers → (rows : List Row) (bytes : List ℕ)
+    → IsLawful w.design → FrontIn w rows bytes → IsFrontOfTheRun w rows bytes
+front-there w ready fit rows bytes lawful front =
+    let is : IsReady w.design w.bound = record { lawful = lawful; one_map = ready.one_map; mapped = ready.mapped } in
+    ∥∥₁_map (one-course w is fit).0
+    (λ (x : (rows : List Row) × (stop : Option ℕ) × IsTheRunOf w rows stop).
+    (let first = front x.0 x.1 x.2 in (x.0, x.1, x.2, first.0, first.1)))
+
+pub going-front : (w : Course) → IsMapped w.design w.bound → OffersFit w.bound.channels w.offers → (rows : List Row)
+    (bytes lost : List ℕ) → IsRunOf w rows → AreStable w.bound.channels rows → length rows ≤ w.cycles
+    → bytes ++ lost ≡ header_bytes w.bound.channels ++ body w.bound.channels rows → IsLawful w.design → IsFrontOfTheRun w rows bytes
+going-front w ready fit rows bytes lost r s l e lawful = front-there w ready fit rows bytes lawful (λ all stop is.
+    (let l' = no-longer w lawful ready rows all stop r s l is in
     let front = front-of w lawful ready rows all r (the-run w all stop is).0 l' in
     let more = drop (length rows) all in
     let whole : rows ++ more ≡ all = ap (λ (rs : List Row). rs ++ more) (sym front) ∙ take-append-drop (length rows) all in (
       front,
       (
         lost ++ (body w.bound.channels more ++ mark_of w.bound.channels (rows ++ more)),
-        ap (λ (rs : List Row). encode (trace_of w.bound.channels rs)) (sym whole) ∙ front-bytes w.bound.channels rows more bytes lost e,
+        sym (front-bytes w.bound.channels rows more bytes lost e)
+            ∙ ap (λ (rs : List Row). encode (trace_of w.bound.channels rs)) whole,
       ),
-    )
+    )))
 
-pub ended-front : (w : Course) → IsMapped w.design w.bound → (rows : List Row) (stop : Option ℕ) (bytes lost : List ℕ)
-    → IsTheRunOf w rows stop → bytes ++ lost ≡ encode (trace_of w.bound.channels rows) → IsFrontOfTheRun w rows bytes
-ended-front w ready rows stop bytes lost the e lawful all other is =
-    let mine = the-run w rows stop the in
+pub ended-front : (w : Course) → IsMapped w.design w.bound → OffersFit w.bound.channels w.offers → (rows : List Row) (stop : Option ℕ)
+    (bytes lost : List ℕ) → IsTheRunOf w rows stop → bytes ++ lost ≡ encode (trace_of w.bound.channels rows) → IsLawful w.design
+    → IsFrontOfTheRun w rows bytes
+ended-front w ready fit rows stop bytes lost the e lawful = front-there w ready fit rows bytes lawful (λ all other is.
+    (let mine = the-run w rows stop the in
     let others = the-run w all other is in
     let l = no-longer w lawful ready rows all other mine.0 mine.1 mine.2 is in
     let k = no-longer w lawful ready all rows stop others.0 others.1 others.2 the in
     let same = same-rows w lawful ready rows all mine.0 others.0 (omega (arith, l, k)) in (
       front-of w lawful ready rows all mine.0 others.0 l,
-      (lost, ap (λ (rs : List Row). encode (trace_of w.bound.channels rs)) (sym same) ∙ sym e),
-    )
+      (lost, e ∙ ap (λ (rs : List Row). encode (trace_of w.bound.channels rs)) same),
+    )))

@@ -25,13 +25,13 @@ use Rattle.room_ledger.proofs.Following.{keeps-gates}
 use Rattle.script_text.specs.declared.stalls.Stalls.{Stalls}
 use Rattle.script_text.specs.Offer.{Offer, FitsOffer}
 use Rattle.chan_monitor.specs.Shell.{IsShown}
-use Rattle.env_script.specs.Offered.{offers_after, offers_on, AllFit}
+use Rattle.env_script.specs.Offered.{offers_after, offers_on, AllFit, AreLasting}
+use Rattle.env_script.proofs.Lasting.{offers-stay}
 use Rattle.vidi_io.specs.Sink.{AppendsSome}
 use Rattle.vidi_recorder.specs.Course.{course, plan_of, rule_of, sizes_of, IsRunOf}
-use Rattle.vidi_recorder.specs.Laws.{AreLasting}
 use Rattle.vidi_recorder.specs.Standing.{Cut, Going, HasSizes, IsLast, Reached, StandsAt}
 use Rattle.vidi_recorder.proofs.Going.{Cycle, cut-drain, going-on}
-use Rattle.vidi_recorder.proofs.Kept.{offers-stay, packets-few}
+use Rattle.vidi_recorder.proofs.Kept.{packets-few}
 use Rattle.vidi_recorder.proofs.Turning.{last-push, reached-of, run-more, runs-more, runs-of, stable-push, step-follows, unstable-now}
 
 -- ---- what is offered
@@ -60,7 +60,7 @@ module _ (m given : Map) (offer : List Row → ℕ → Offer) (stalls : Stalls) 
   here : offers_on m.channels current ≡ offers_after m.channels offer rows
   here = ap (offers_on m.channels) (λ i c. now c i)
 
-  pub run-with : (d : Design) → Reached (course d m offer stalls cycles) runs rows
+  run-with : (d : Design) → Reached (course d m offer stalls cycles) runs rows
       → IsRunOf (course d m offer stalls cycles) (rows ++ row ∷ [])
   run-with d r =
       let w = course d m offer stalls cycles in

@@ -1,5 +1,5 @@
 -- What a recording holds of a run, and what gates do to it.
-use Rattle.std.specs.Prelude.{◌≡◌, ℕ, ◌<◌, ◌≤◌, ◌^◌, true, false, List, [], ◌∷◌, ◌++◌, Option, Some, length, slice_get, count_by}
+use Rattle.std.specs.Prelude.{◌≡◌, ℕ, ◌<◌, ◌≤◌, ◌^◌, false, List, Option, Some, length, slice_get, count_by}
 use Rattle.vidi_bits.specs.Number.{has}
 use Rattle.trace_model.specs.declared.channel.Channel.{Channel}
 use Rattle.trace_model.specs.declared.event.Kind.TheVariants.{End}
@@ -11,20 +11,21 @@ use Rattle.trace_model.specs.Row.{completes}
 use Rattle.trace_code.specs.Encoding.{HasEncoding}
 use Rattle.net_design.specs.declared.design.Design.{Design}
 use Rattle.chan_map.specs.declared.pins.Map.{Map}
-use Rattle.run_model.specs.Laws.{ContentsStay}
+use Rattle.run_model.specs.Laws.{ContentsStay, IsReady, OneOfLength, OneThatEnds}
 use Rattle.run_model.specs.Run.{AllUp, IsTheRun}
 use Rattle.room_ledger.specs.Gates.{used_at}
 use Rattle.room_ledger.specs.Laws.{EverythingDrains}
 use Rattle.room_ledger.specs.Reservation.{need}
 use Rattle.script_text.specs.declared.stalls.Stalls.{Stalls}
-use Rattle.script_text.specs.Offer.{Offer, FitsOffer}
+use Rattle.script_text.specs.Offer.{Offer}
+use Rattle.env_script.specs.Offered.{AreLasting}
 use Rattle.vidi_recorder.specs.Course.{Course, course, sizes_of, IsRunOf, IsTheRunOf}
 
--- what any environment keeps to: each offer fits its channel, and a valid with its content stays until it is taken
-pub record AreLasting (channels : List Channel) (offer : List Row → ℕ → Offer) : Type 0 where
-  pub fits : (rows : List Row) (c : ℕ) (x : Channel) → slice_get channels c ≡ Some x → FitsOffer x (offer rows c)
-  pub stays : (rows : List Row) (row : Row) (c : ℕ) → (offer rows c).valid ≡ true → completes row c ≡ false
-      → offer (rows ++ row ∷ []) c ≡ offer rows c
+-- a design with a map, in an environment and under a plan, has exactly one run of each length, and exactly one run of so many cycles
+abbrev pub OneRecordedRun : Type 0
+OneRecordedRun = (d : Design) (m : Map) (offer : List Row → ℕ → Offer) (stalls : Stalls) (cycles : ℕ) → IsReady d m
+    → AreLasting m.channels offer → ((n : ℕ) → OneOfLength (IsRunOf (course d m offer stalls cycles)) n)
+    × OneThatEnds (IsTheRunOf (course d m offer stalls cycles))
 
 -- The starts of the packets are, channel by channel, the transactions of the rows with their contents, once and in order; the ends are
 -- the completions, each with the content of its start; and the trace has an encoding.

@@ -1,54 +1,69 @@
 -- What a recording leaves, by its answer (this project's profile).
-use Rattle.std.specs.Prelude.{◌≡◌, ℕ, ◌+◌, ◌-◌, ◌<◌, ◌≤◌, List, ◌++◌, Option, None, Some, length, take}
+use Rattle.std.specs.Prelude.{◌≡◌, ℕ, ◌+◌, ◌-◌, ◌<◌, ◌≤◌, ◌⊎◌, List, ◌++◌, Option, None, Some, length, take}
 use Rattle.std.specs.Io.KnownBytes.{append_known}
-use Rattle.trace_model.specs.declared.channel.Channel.{Channel}
 use Rattle.trace_model.specs.declared.row.Row.{Row}
 use Rattle.trace_model.specs.Recording.{packets_of, trace_of}
+use Rattle.trace_code.specs.declared.decoding.TheConstants.{TRACE_LIMIT}
 use Rattle.trace_code.specs.Encoding.{encode, header_bytes}
+use Rattle.net_design.specs.declared.design.Design.{Design}
+use Rattle.net_design.specs.declared.values.Values.{Values}
 use Rattle.net_design.specs.Lawful.{IsLawful}
 use Rattle.vidi_io.specs.Cause.{Rose}
 use Rattle.vidi_recorder.specs.declared.error.Outcome.{Outcome}
 use Rattle.vidi_recorder.specs.declared.error.Outcome.TheVariants.{Whole, Unstable}
 use Rattle.vidi_recorder.specs.declared.error.RecordError.{RecordError}
 use Rattle.vidi_recorder.specs.declared.error.RecordError.TheVariants.{WriteFault, Memory}
-use Rattle.vidi_recorder.specs.Course.{Course, IsRunOf, IsTheRunOf, drained_before, sizes_of}
+use Rattle.vidi_recorder.specs.Course.{Course, IsTheRunOf, drained_before, sizes_of}
+use Rattle.vidi_recorder.specs.Standing.{body, Reached}
 
--- the environment stands for these rows, the sink has grown by the encoding of their trace, and the trace has so many packets
-pub record IsRecorded (channels : List Channel) (stands_for : List Row → Type 0) (rows : List Row) (old new : Option (List ℕ))
-    (packets : ℕ) : Type 0 where
+-- The environment stands for these rows, the shell goes on behind them, and the sink has grown by the encoding of their trace, which isn't
+-- too long to be read again.
+pub record IsRecorded (w : Course) (runs : Design → Values → Option Row → Type 0) (stands_for : List Row → Type 0) (rows : List Row)
+    (old new : Option (List ℕ)) (packets : ℕ) : Type 0 where
   pub played : stands_for rows
-  pub told : new ≡ append_known old (encode (trace_of channels rows))
-  pub count : packets ≡ length (packets_of channels rows)
+  pub reached : Reached w runs rows
+  pub told : new ≡ append_known old (encode (trace_of w.bound.channels rows))
+  pub count : packets ≡ length (packets_of w.bound.channels rows)
+  pub short : length (encode (trace_of w.bound.channels rows)) ≤ TRACE_LIMIT
 
 -- Whole: the run has all its cycles. Unstable: the row behind it, that of this cycle, is unstable, on this channel.
-abbrev pub EndsWith : Course → (List Row → Type 0) → Option (List ℕ) → Option (List ℕ) → Outcome → Type 0
-EndsWith w stands_for old new (Whole packets) = (rows : List Row) × IsTheRunOf w rows None
-    × IsRecorded w.bound.channels stands_for rows old new packets
-EndsWith w stands_for old new (Unstable channel cycle packets) = (rows : List Row) × IsTheRunOf w rows (Some channel)
-    × (cycle ≡ length rows) × IsRecorded w.bound.channels stands_for rows old new packets
+abbrev pub EndsWith : Course → (Design → Values → Option Row → Type 0) → (List Row → Type 0) → Option (List ℕ) → Option (List ℕ) → Outcome
+    → Type 0
+EndsWith w runs stands_for old new (Whole packets) = (rows : List Row) × IsTheRunOf w rows None
+    × IsRecorded w runs stands_for rows old new packets
+EndsWith w runs stands_for old new (Unstable channel cycle packets) = (rows : List Row) × IsTheRunOf w rows (Some channel)
+    × (cycle ≡ length rows) × IsRecorded w runs stands_for rows old new packets
 
--- the rows are the first of the run, and the bytes a front of the encoding of its trace
+-- whatever the design: the bytes are a front of the header and the rows' packets, or, where the rows are the run, of its trace's encoding
+abbrev pub IsFrontOf : Course → List Row → List ℕ → Type 0
+IsFrontOf w rows bytes = (lost : List ℕ) × ((bytes ++ lost ≡ header_bytes w.bound.channels ++ body w.bound.channels rows)
+    ⊎ ((stop : Option ℕ) × IsTheRunOf w rows stop × (bytes ++ lost ≡ encode (trace_of w.bound.channels rows))))
+
+-- the run is there, these are its first rows, and the bytes are a front of the encoding of its trace
 abbrev pub IsFrontOfTheRun : Course → List Row → List ℕ → Type 0
-IsFrontOfTheRun w rows bytes = IsLawful w.design → (all : List Row) (stop : Option ℕ) → IsTheRunOf w all stop
-    → (take (length rows) all ≡ rows) × ((lost : List ℕ) × (encode (trace_of w.bound.channels all) ≡ bytes ++ lost))
+IsFrontOfTheRun w rows bytes = ∥ ((all : List Row) × (stop : Option ℕ) × IsTheRunOf w all stop × (take (length rows) all ≡ rows)
+    × ((lost : List ℕ) × (bytes ++ lost ≡ encode (trace_of w.bound.channels all)))) ∥₁
 
--- The environment stands for the first k rows of the run, and the sink has grown by a front of the encoding of the run's trace. Where k
--- isn't 0 the whole header is out, and all that drains after rows 0 to k - 2.
-pub record IsCutOff (w : Course) (stands_for : List Row → Type 0) (old new : Option (List ℕ)) : Type 0 where
+-- The environment stands for the first k rows of the run, the shell goes on behind them, and the sink has grown by a front of the encoding
+-- of the run's trace. Where k isn't 0 the whole header is out, and all that drains after rows 0 to k - 2.
+pub record IsCutOff (w : Course) (runs : Design → Values → Option Row → Type 0) (stands_for : List Row → Type 0)
+    (old new : Option (List ℕ)) : Type 0 where
   pub rows : List Row
   pub bytes : List ℕ
   pub played : stands_for rows
-  pub run : IsRunOf w rows
+  pub reached : Reached w runs rows
   pub within : length rows ≤ w.cycles
   pub told : new ≡ append_known old bytes
-  pub front : IsFrontOfTheRun w rows bytes
+  pub front : IsFrontOf w rows bytes
+  pub of_the_run : IsLawful w.design → IsFrontOfTheRun w rows bytes
   pub out : 0 < length rows → length (header_bytes w.bound.channels)
       + drained_before (sizes_of w.bound.channels) w.plan rows (length rows - 1) ≤ length bytes
 
 -- why a recording was cut off, and what it leaves; what want of memory leaves is said by itself
-abbrev pub FailsWith : Course → (List Row → Type 0) → Option (List ℕ) → Option (List ℕ) → RecordError → Type 0
-FailsWith w stands_for old new WriteFault = IsCutOff w stands_for old new
-FailsWith w stands_for old new Memory = Unit {0}
+abbrev pub FailsWith : Course → (Design → Values → Option Row → Type 0) → (List Row → Type 0) → Option (List ℕ) → Option (List ℕ)
+    → RecordError → Type 0
+FailsWith w runs stands_for old new WriteFault = IsCutOff w runs stands_for old new
+FailsWith w runs stands_for old new Memory = Unit {0}
 
 -- only where the sink's count of faults rose
 abbrev pub FailsFor : ℕ → ℕ → RecordError → Type 0

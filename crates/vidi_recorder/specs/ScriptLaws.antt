@@ -1,34 +1,45 @@
--- What the recording of a script's run holds, and when that run is the one without a store.
+-- That a script's run is one, what its recording holds, and plans under which everything drains.
 use Rattle.std.specs.Prelude.{◌≡◌, ℕ, ◌≤◌, List, Option, None, Some, slice_get}
+use Rattle.trace_model.specs.declared.channel.Channel.{Channel}
 use Rattle.trace_model.specs.declared.row.Row.{Row}
 use Rattle.trace_model.specs.Channel.{IsTable}
 use Rattle.net_design.specs.declared.design.Design.{Design}
 use Rattle.chan_map.specs.declared.pins.Map.{Map}
-use Rattle.run_model.specs.Run.{AllUp, IsTheRun}
+use Rattle.run_model.specs.Laws.{IsReady, OneOfLength, OneThatEnds}
+use Rattle.room_ledger.specs.Laws.{EverythingDrains}
 use Rattle.room_ledger.specs.Reservation.{need}
 use Rattle.script_text.specs.declared.script.Script.{Script}
 use Rattle.script_text.specs.declared.stalls.Drain.{Drain}
 use Rattle.script_text.specs.declared.stalls.Stalls.{Stalls}
 use Rattle.script_text.specs.Fits.{FitsChannels}
 use Rattle.script_text.specs.ScriptOffer.{script_offer}
-use Rattle.env_script.specs.Offered.{offers_after}
-use Rattle.vidi_recorder.specs.Course.{Course, course, sizes_of, IsTheRunOf}
+use Rattle.vidi_recorder.specs.Course.{Course, course, plan_of, sizes_of, IsRunOf, IsTheRunOf}
 use Rattle.vidi_recorder.specs.Laws.{IsKept}
 
 -- the run of a design with its map and a script, behind a store that drains by a plan
 abbrev pub script_course : Design → Map → Script → Stalls → Course
 script_course d m script stalls = course d m (script_offer script) stalls script.cycles
 
+-- it exists and is one: there is exactly one list of each length with *IsRun*, and exactly one run
+abbrev pub OneScriptRun : Type 0
+OneScriptRun = (d : Design) (m : Map) (script : Script) (stalls : Stalls) → IsReady d m → FitsChannels m.channels script
+    → ((n : ℕ) → OneOfLength (IsRunOf (script_course d m script stalls)) n) × OneThatEnds (IsTheRunOf (script_course d m script stalls))
+
 abbrev pub ScriptRunIsKept : Type 0
 ScriptRunIsKept = (d : Design) (m : Map) (script : Script) (stalls : Stalls) (rows : List Row) (stop : Option ℕ)
     → IsTable m.channels → FitsChannels m.channels script → IsTheRunOf (script_course d m script stalls) rows stop
     → IsKept m.channels rows
 
--- each line of the plan drains everything
-abbrev pub DrainsAll : Stalls → Type 0
-DrainsAll stalls = (k : ℕ) (line : Drain) → slice_get stalls.drains k ≡ Some line → line.allowance ≡ None
+-- so many bytes may drain, or all, of which there are at most so many
+abbrev pub LetsAllOut : ℕ → Option ℕ → Type 0
+LetsAllOut capacity None = Unit {0}
+LetsAllOut capacity (Some allowance) = capacity ≤ allowance
 
-abbrev pub FullDrainIsPlain : Type 0
-FullDrainIsPlain = (d : Design) (m : Map) (script : Script) (stalls : Stalls) (rows : List Row) (stop : Option ℕ)
-    → need (sizes_of m.channels) ≤ stalls.capacity → DrainsAll stalls → IsTheRunOf (script_course d m script stalls) rows stop
-    → IsTheRun d m (offers_after m.channels (script_offer script)) (AllUp m.channels) script.cycles rows stop
+-- each line of the plan lets out all that the store can hold
+abbrev pub DrainsAll : Stalls → Type 0
+DrainsAll stalls = (k : ℕ) (line : Drain) → slice_get stalls.drains k ≡ Some line → LetsAllOut stalls.capacity line.allowance
+
+-- so everything drains after each row
+abbrev pub FullPlanDrains : Type 0
+FullPlanDrains = (channels : List Channel) (stalls : Stalls) (rows : List Row) → IsTable channels → need (sizes_of channels) ≤ stalls.capacity
+    → DrainsAll stalls → EverythingDrains (sizes_of channels) (plan_of stalls) rows

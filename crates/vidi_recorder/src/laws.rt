@@ -1,6 +1,12 @@
 //! Laws of the definitions.
 
-ghost use Rattle.vidi_recorder.specs.Laws.{DrainedRunIsPlain, NoHiddenGate, TheRunIsKept};
+ghost use Rattle.vidi_recorder.specs.Laws.{DrainedRunIsPlain, NoHiddenGate, OneRecordedRun, TheRunIsKept};
+
+/// A design with its map, in an environment and under a plan of stalls, has exactly one run of each number of rows, and exactly one run
+/// of so many cycles, which ends in one way.
+pub fn one_recorded_run()
+    ensures { OneRecordedRun }
+{}
 
 /// The trace of a run records each transaction once and in order, with its content, and its completion, and has an encoding.
 pub fn the_run_is_kept()

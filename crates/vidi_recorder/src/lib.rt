@@ -14,6 +14,6 @@ mod steps;
 mod turn;
 
 pub use error::{Outcome, RecordError};
-pub use laws::{drained_run_is_plain, no_hidden_gate, the_run_is_kept};
+pub use laws::{drained_run_is_plain, no_hidden_gate, one_recorded_run, the_run_is_kept};
 pub use record::record_run;
-pub use script_laws::{full_drain_is_plain, script_run_is_kept};
+pub use script_laws::{full_plan_drains, one_script_run, script_run_is_kept};

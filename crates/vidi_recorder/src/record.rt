@@ -12,7 +12,7 @@ ghost use Rattle.vidi_io.specs.Cause.{HasCause};
 ghost use Rattle.vidi_io.specs.Sink.{Frame};
 ghost use Rattle.vidi_recorder.specs.Course.{course, plan_of, sizes_of};
 ghost use Rattle.vidi_recorder.specs.Recording.{EndsWith, FailsFor, FailsWith, IsCutOff};
-ghost use Rattle.vidi_recorder.specs.Standing.{Going, HasSizes, RunsTo};
+ghost use Rattle.vidi_recorder.specs.Standing.{Going, HasSizes, Reached, RunsTo};
 ghost use Rattle.script_text.specs.declared.script.TheConstants.{MOST_CYCLES};
 
 use crate::cells::{Cells, open};
@@ -53,9 +53,10 @@ fn play<S: Shell, E: Env, K: Sink>(
         × Going map.now.channels (plan_of stalls.now) (K.told sink.old) rows cells.new.room cells.new.store.items (K.told sink.new)
         cells.new.packets
         × ((d : Design) (s : Values) (before : Option OneRow) → S.runs shell.old d s before
-        → RunsTo (course d map.now (E.offer (E.plan env.old)) stalls.now cycles) rows cells.new.packets outcome)) }
+        → RunsTo (course d map.now (E.offer (E.plan env.old)) stalls.now cycles) rows cells.new.packets outcome
+        × Reached (course d map.now (E.offer (E.plan env.old)) stalls.now cycles) (S.runs shell.new) rows)) }
     ensures cut { OnErr result ((d : Design) (s : Values) (before : Option OneRow) → S.runs shell.old d s before
-        → IsCutOff (course d map.now (E.offer (E.plan env.old)) stalls.now cycles) (E.stands_for env.new)
+        → IsCutOff (course d map.now (E.offer (E.plan env.old)) stalls.now cycles) (S.runs shell.new) (E.stands_for env.new)
         (K.told sink.old) (K.told sink.new)) }
     ensures waits { IfOk result (λ _. length cells.new.store.items ≤ length cells.new.out.items) }
     ensures map { S.map shell.new ≡ S.map shell.old }
@@ -81,15 +82,16 @@ fn play<S: Shell, E: Env, K: Sink>(
     let packets = cells.packets;
     Ok(Outcome::Whole { packets })
 }
-/// Runs a design behind the gates of its channels for 1 to 50,000 cycles and writes the trace of the run to the sink: the header, in
-/// each cycle the bytes that drain, then the rest and the end mark. Nothing is pushed that is empty. The map's table is lawful, the
-/// shell and the environment are of the map's design and channels, the environment stands for no row yet, and the room is new, of the
-/// map's channels and the plan's capacity.
+/// Runs a design behind the gates of its channels for 1 to 50,000 cycles and writes the trace of the run to the sink as it drains. The
+/// map's table is lawful, the shell and the environment are of the map's design and channels, the environment stands for no row yet,
+/// and the room is new, of the map's channels and the plan's capacity.
 ///
 /// `Whole` exactly where no row of the run is unstable, `Unstable` where one is: the run ends before it. The sink has grown by the
-/// encoding of the run's trace and the environment stands for its rows. After `WriteFault`, which comes only where the sink's count of
-/// faults rose, the sink has grown by a front of that encoding and the environment stands for the first k rows of the run; where k isn't
-/// 0 the header is out, and what drains after all of these rows but the last. `Memory` comes before anything is moved.
+/// encoding of the run's trace, of at most 67,108,864 bytes; the environment stands for its rows, and the shell in the state behind
+/// them. After `WriteFault`, which comes only where the sink's count of faults rose, environment and shell stand behind the first k
+/// rows of the run. The sink has grown by a front of the header and their packets, or, where they are the whole run, of its trace's
+/// encoding; for a lawful design it is a front of that of the run. Where k isn't 0 the header is out, and what drains after all of these
+/// rows but the last. `Memory` comes before anything is moved.
 pub fn record_run<S: Shell, E: Env, K: Sink>(
     alloc: Global,
     shell: &mut S,
@@ -108,10 +110,10 @@ pub fn record_run<S: Shell, E: Env, K: Sink>(
     requires some { 1 ≤ cycles }
     requires few { cycles ≤ MOST_CYCLES }
     ensures ok { IfOk result (λ outcome. (d : Design) (s : Values) (before : Option OneRow) → S.runs shell.old d s before
-        → EndsWith (course d map.now (E.offer (E.plan env.old)) stalls.now cycles) (E.stands_for env.new)
+        → EndsWith (course d map.now (E.offer (E.plan env.old)) stalls.now cycles) (S.runs shell.new) (E.stands_for env.new)
         (K.told sink.old) (K.told sink.new) outcome) }
     ensures err { IfErr result (λ e. (d : Design) (s : Values) (before : Option OneRow) → S.runs shell.old d s before
-        → FailsWith (course d map.now (E.offer (E.plan env.old)) stalls.now cycles) (E.stands_for env.new)
+        → FailsWith (course d map.now (E.offer (E.plan env.old)) stalls.now cycles) (S.runs shell.new) (E.stands_for env.new)
         (K.told sink.old) (K.told sink.new) e) }
     ensures cause { IfErr result (FailsFor (K.faults sink.old) (K.faults sink.new)) }
     ensures memory { result ≡ Err RecordError.Memory → (shell.new ≡ shell.old) × (env.new ≡ env.old) × (sink.new ≡ sink.old) }

@@ -106,6 +106,7 @@ fn push_out<K: Sink>(
     requires waits { n ≤ length store.old.items }
     requires places { n ≤ length out.old }
     ensures rest { store.new ≡ buffer (drop n store.old.items) store.old.capacity }
+    ensures none { n ≡ 0 → sink.new ≡ sink.old }
     ensures ok { OnOk result (K.told sink.new ≡ append_known (K.told sink.old) (take n store.old.items)) }
     ensures err { OnErr result (AppendsSome (K.told sink.old) (K.told sink.new) (take n store.old.items)) }
     ensures place { K.place sink.new ≡ K.place sink.old }
@@ -131,6 +132,7 @@ pub(crate) fn give<K: Sink>(
     requires places { room.old.used ≤ length out.old }
     ensures room { Regranted (record room.old { used = left allowance room.old.used }) room.new }
     ensures rest { store.new ≡ buffer (drop (drained allowance room.old.used) store.old.items) store.old.capacity }
+    ensures none { drained allowance room.old.used ≡ 0 → sink.new ≡ sink.old }
     ensures ok { OnOk result (K.told sink.new
         ≡ append_known (K.told sink.old) (take (drained allowance room.old.used) store.old.items)) }
     ensures err { OnErr result (AppendsSome (K.told sink.old) (K.told sink.new)

@@ -8,7 +8,7 @@ ghost use Rattle.net_design.specs.declared.design.Design.{Design};
 ghost use Rattle.run_model.specs.Played.{AreStable, StopsBefore};
 ghost use Rattle.vidi_io.specs.Cause.{HasCause};
 ghost use Rattle.vidi_io.specs.Sink.{Frame};
-ghost use Rattle.vidi_recorder.specs.Course.{course, plan_of, rule_of, IsRunOf};
+ghost use Rattle.vidi_recorder.specs.Course.{course, plan_of, rule_of};
 ghost use Rattle.vidi_recorder.specs.Standing.{Cut, HasSizes, Reached, StandsAt};
 ghost use Rattle.script_text.specs.declared.script.TheConstants.{MOST_CYCLES};
 
@@ -57,14 +57,15 @@ pub(crate) fn turn<S: Shell, E: Env, K: Sink>(
         → StandsAt map.now.channels (plan_of stalls.now) first (E.stands_for env.new) (K.told sink.new) cells.new.last cells.new.room
         cells.new.store.items cells.new.packets rows
         × ((d : Design) → Reached (course d map.now (E.offer (E.plan env.old)) stalls.now cycle) (S.runs shell.old) rows
-        → StopsBefore d map.now (rule_of (course d map.now (E.offer (E.plan env.old)) stalls.now cycle)) rows c)) }
+        → StopsBefore d map.now (rule_of (course d map.now (E.offer (E.plan env.old)) stalls.now cycle)) rows c
+        × Reached (course d map.now (E.offer (E.plan env.old)) stalls.now cycle) (S.runs shell.new) rows)) }
     ensures cut { OnErr result ((first : Option (List ℕ)) (rows : List OneRow) → length rows ≡ cycle
         → StandsAt map.now.channels (plan_of stalls.now) first (E.stands_for env.old) (K.told sink.old) cells.old.last cells.old.room
         cells.old.store.items cells.old.packets rows
         → E.stands_for env.new (rows ++ cells.new.last ∷ []) × AreStable map.now.channels (rows ++ cells.new.last ∷ [])
         × Cut map.now.channels (plan_of stalls.now) first (rows ++ cells.new.last ∷ []) (K.told sink.new)
         × ((d : Design) → Reached (course d map.now (E.offer (E.plan env.old)) stalls.now cycle) (S.runs shell.old) rows
-        → IsRunOf (course d map.now (E.offer (E.plan env.old)) stalls.now cycle) (rows ++ cells.new.last ∷ []))) }
+        → Reached (course d map.now (E.offer (E.plan env.old)) stalls.now cycle) (S.runs shell.new) (rows ++ cells.new.last ∷ []))) }
     ensures sizes { HasSizes map.now.channels stalls.now.capacity cells.new.store.capacity cells.new.room.used cells.new.out.items
         cells.new.offers cells.new.row cells.new.last }
     ensures map { S.map shell.new ≡ S.map shell.old }

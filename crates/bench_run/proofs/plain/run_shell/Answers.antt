@@ -1,13 +1,14 @@
 use Rattle.std.proofs.Common.{◌+◌, ◌++◌, ◌∷◌, [], Option, None, Some, List, length, refl, ap, sym, subst, ◌∙◌, arith}
-use Rattle.std.proofs.lemmas.List.{length_push}
+use Rattle.std.proofs.lemmas.List.{length-replicate, length_push}
 use Rattle.vidi_bits.proofs.Results.{on_err}
 use Rattle.trace_model.specs.declared.channel.Channel.{Channel}
+use Rattle.trace_model.specs.declared.row.Offers.{Offers}
 use Rattle.trace_model.specs.declared.row.Row.{Row}
 use Rattle.trace_model.specs.Row.{row_before, IsOver}
 use Rattle.net_design.specs.declared.design.Design.{Design}
 use Rattle.net_design.specs.declared.values.Values.{Values}
 use Rattle.bench_run.specs.Plain.{IsBreak, StandsWithin}
-use Rattle.bench_run.proofs.Growing.{breaks, carries-now, ends, fits-now, going-first, going-on, offers-now, rows-over}
+use Rattle.bench_run.proofs.Growing.{breaks, carries-now, ends, fits-now, goes-on, going-first, going-on, offers-now, rows-over}
 use Rattle.bench_run.proofs.Growing.{shown-of, stands-within}
 use Rattle.bench_run.proofs.plain.run_shell.Goals as goal
 
@@ -25,7 +26,7 @@ loop-cycle-init g c =
       channels = refl;
       count = ap length c.new-rows.ensures;
       within = omega arith;
-      places = c.in_ok-offers.ensures;
+      places = ap (λ (o : Offers). length o.contents) c.in_ok-offers.ensures ∙ length-replicate _ _;
     }
 
 pub next_row-requires-clause-fits : goal.next_row-requires-clause-fits
@@ -143,6 +144,18 @@ returns-clause-run g c d s before is =
     ends (g.S.Shell.runs c.loop-cycle.shell) d (g.S.Shell.map c.args.shell.now) (g.E.Env.offer (g.E.Env.plan c.args.env.now))
     c.loop-cycle.rows c.args.cycles (inv.run d s before is)
     (let k = inv.count in let l = inv.within in let over = c.loop-cycle-test.false in omega (arith, k, l, over))
+
+pub returns-in-Some-clause-behind : goal.returns-in-Some-clause-behind
+returns-in-Some-clause-behind g c d s before is =
+    let rows = c.loop-cycle.rows in
+    goes-on (g.S.Shell.runs c.loop-cycle.shell) (g.S.Shell.runs c.next_row.new.shell) d (g.S.Shell.map c.args.shell.now)
+    (g.E.Env.offer (g.E.Env.plan c.args.env.now)) rows
+    (λ u on. c.in_ok-row.ensures.runs d u (row_before rows (length rows)) on) (c.loop-cycle.invariant.run d s before is)
+
+pub returns-clause-behind : goal.returns-clause-behind
+returns-clause-behind g c d s before is =
+    goes-on (g.S.Shell.runs c.loop-cycle.shell) (g.S.Shell.runs c.loop-cycle.shell) d (g.S.Shell.map c.args.shell.now)
+    (g.E.Env.offer (g.E.Env.plan c.args.env.now)) c.loop-cycle.rows (λ u on. on) (c.loop-cycle.invariant.run d s before is)
 
 pub returns-in_err-offers-clause-memory : goal.returns-in_err-offers-clause-memory
 returns-in_err-offers-clause-memory g c =

@@ -1,6 +1,5 @@
-use Rattle.std.proofs.Common.{arith, sym, ap, ◌∙◌, refl}
-use Rattle.env_script.proofs.Filling.{fill-more, fill-done, room-here}
-use Rattle.env_script.specs.Offered.{numbers_on}
+use Rattle.std.proofs.Common.{arith, refl}
+use Rattle.env_script.proofs.Filling.{fill-more, room-here}
 use Rattle.env_script.proofs.offers.fill_contents.Goals as goal
 
 pub loop-c-preserved : goal.loop-c-preserved

@@ -1,4 +1,4 @@
-use Rattle.run_model.proofs.RunLaws.{one-run}
+use Rattle.run_model.proofs.Stops.{one-run}
 use Rattle.run_model.proofs.laws.one_run.Goals as goal
 
 pub returns : goal.returns

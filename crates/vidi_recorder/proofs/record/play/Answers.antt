@@ -5,13 +5,14 @@ use Rattle.vidi_bits.proofs.Results.{on_err}
 use Rattle.circular_buffer.specs.Buffer.{Buffer}
 use Rattle.net_design.specs.declared.design.Design.{Design}
 use Rattle.chan_monitor.specs.Shell.{IsMapped, IsRunning}
+use Rattle.env_script.proofs.Lasting.{offers-fit}
 use Rattle.run_model.specs.Played.{StopsBefore}
-use Rattle.vidi_recorder.specs.Course.{course, plan_of, rule_of, IsRunOf}
+use Rattle.vidi_recorder.specs.Course.{course, plan_of, rule_of}
 use Rattle.vidi_recorder.specs.Standing.{Going, Reached}
 use Rattle.vidi_recorder.proofs.Ends.{cut-before}
 use Rattle.vidi_recorder.proofs.Going.{cut-header, going-first}
 use Rattle.vidi_recorder.proofs.Turning.{first-runs, reached-of}
-use Rattle.vidi_recorder.proofs.Turns.{stable-nil}
+use Rattle.vidi_recorder.proofs.Turns.{lasting, stable-nil}
 use Rattle.vidi_recorder.proofs.record.play.Goals as goal
 
 pub loop-cycle-init : goal.loop-cycle-init
@@ -94,14 +95,17 @@ loop-cycle-preserved g c =
 pub returns-in_err-push-clause-cut : goal.returns-in_err-push-clause-cut
 returns-in_err-push-clause-cut g c = on_err c.from_residual.result (λ d s before is.
     (let m = c.args.map.now in
-    let w = course d m (g.E.Env.offer (g.E.Env.plan c.args.env.now)) c.args.stalls.now c.args.cycles in
-    let r = first-runs w (g.S.Shell.map c.args.shell.now) (g.S.Shell.runs c.reset.new.self) c.requires.mapped
-    (c.reset.ensures.first d s before is) in
-    cut-before w (g.E.Env.stands_for c.args.env.now) [] (g.K.Sink.told c.args.sink.now) (g.K.Sink.told c.push.new.self)
+    let offer = g.E.Env.offer (g.E.Env.plan c.args.env.now) in
+    let w = course d m offer c.args.stalls.now c.args.cycles in
+    let runs = g.S.Shell.runs c.reset.new.self in
+    let r = first-runs w (g.S.Shell.map c.args.shell.now) runs c.requires.mapped (c.reset.ensures.first d s before is) in
+    cut-before w runs (g.E.Env.stands_for c.args.env.now) [] (g.K.Sink.told c.args.sink.now) (g.K.Sink.told c.push.new.self)
     (cut-header m.channels (plan_of c.args.stalls.now) (g.K.Sink.told c.args.sink.now) (g.K.Sink.told c.push.new.self)
     c.as_slice.result.now (c.as_slice.ensures ∙ c.requires.header) c.in_err-push.ensures.err)
     c.requires.first (subst (IsMapped d) c.requires.mapped (g.met.S.Shell.ready c.args.shell.now d s before is))
-    (reached-of w (g.S.Shell.runs c.reset.new.self) [] r).0 (stable-nil m.channels) (omega arith)))
+    (offers-fit m.channels offer (lasting m.channels (g.E.Env.channels c.args.env.now) offer c.requires.channels
+    (g.met.E.Env.fits c.args.env.now) (g.met.E.Env.stays c.args.env.now)))
+    (reached-of w runs [] r) (stable-nil m.channels) (omega arith)))
 
 pub returns-in_err-channel-clause-cut : goal.returns-in_err-channel-clause-cut
 returns-in_err-channel-clause-cut g c =
@@ -111,14 +115,19 @@ returns-in_err-channel-clause-cut g c =
     let cycle = c.loop-cycle.cycle in
     let kept = c.turn.new.cells.last in
     on_err c.from_residual-in_err-channel.result (λ d s before is.
-    (let w = course d m (g.E.Env.offer (g.E.Env.plan c.args.env.now)) stalls c.args.cycles in
+    (let offer = g.E.Env.offer (g.E.Env.plan c.args.env.now) in
+    let w = course d m offer stalls c.args.cycles in
     let cut = c.in_err-channel.ensures.cut (g.K.Sink.told c.args.sink.now) inv.rows inv.long inv.stands in
-    let run = subst (λ p. IsRunOf (course d m (g.E.Env.offer p) stalls cycle) (inv.rows ++ kept ∷ [])) inv.plan
+    let reached = subst (λ p. Reached (course d m (g.E.Env.offer p) stalls cycle) (g.S.Shell.runs c.turn.new.shell)
+    (inv.rows ++ kept ∷ [])) inv.plan
     (cut.3 d (subst (λ p. Reached (course d m (g.E.Env.offer p) stalls cycle) (g.S.Shell.runs c.loop-cycle.shell) inv.rows)
     (sym inv.plan) (inv.reached d s before is))) in
-    cut-before w (g.E.Env.stands_for c.turn.new.env) (inv.rows ++ kept ∷ []) (g.K.Sink.told c.args.sink.now)
-    (g.K.Sink.told c.turn.new.sink) cut.2 cut.0 (subst (IsMapped d) c.requires.mapped (g.met.S.Shell.ready c.args.shell.now d s before is))
-    run cut.1
+    cut-before w (g.S.Shell.runs c.turn.new.shell) (g.E.Env.stands_for c.turn.new.env) (inv.rows ++ kept ∷ [])
+    (g.K.Sink.told c.args.sink.now) (g.K.Sink.told c.turn.new.sink) cut.2 cut.0
+    (subst (IsMapped d) c.requires.mapped (g.met.S.Shell.ready c.args.shell.now d s before is))
+    (offers-fit m.channels offer (lasting m.channels (g.E.Env.channels c.args.env.now) offer c.requires.channels
+    (g.met.E.Env.fits c.args.env.now) (g.met.E.Env.stays c.args.env.now)))
+    reached cut.1
     (let a = length_push inv.rows kept in let b = inv.long in let l = c.loop-cycle-test.true in omega (arith, a, b, l))))
 
 pub returns-in-Some-clause-ok : goal.returns-in-Some-clause-ok
@@ -133,10 +142,15 @@ returns-in-Some-clause-ok g c =
       stop.0.played,
       stop.0.going,
       (λ d s before is.
-          (let stops = subst (λ p. StopsBefore d m (rule_of (course d m (g.E.Env.offer p) stalls cycle)) inv.rows channel) inv.plan
-          (stop.1 d (subst (λ p. Reached (course d m (g.E.Env.offer p) stalls cycle) (g.S.Shell.runs c.loop-cycle.shell) inv.rows)
-          (sym inv.plan) (inv.reached d s before is))) in
-          ((stops, (let a = inv.long in let l = c.loop-cycle-test.true in omega (arith, a, l))), sym inv.long, refl))),
+          (let both = stop.1 d (subst (λ p. Reached (course d m (g.E.Env.offer p) stalls cycle) (g.S.Shell.runs c.loop-cycle.shell)
+          inv.rows) (sym inv.plan) (inv.reached d s before is)) in
+          let stops = subst (λ p. StopsBefore d m (rule_of (course d m (g.E.Env.offer p) stalls cycle)) inv.rows channel) inv.plan
+          both.0 in
+          let reached = subst (λ p. Reached (course d m (g.E.Env.offer p) stalls cycle) (g.S.Shell.runs c.turn.new.shell) inv.rows)
+          inv.plan both.1 in (
+            ((stops, (let a = inv.long in let l = c.loop-cycle-test.true in omega (arith, a, l))), sym inv.long, refl),
+            reached,
+          ))),
     )
 
 pub returns-clause-ok : goal.returns-clause-ok
@@ -150,7 +164,7 @@ returns-clause-ok g c =
           let a = inv.long in
           let b = inv.within in
           let l = c.loop-cycle-test.false in
-          ((run.0, inv.stands.stable, omega (arith, a, b, l)), refl))),
+          (((run.0, inv.stands.stable, omega (arith, a, b, l)), refl), run))),
     )
 
 pub returns-in-Some-clause-waits : goal.returns-in-Some-clause-waits

@@ -8,7 +8,9 @@ use Rattle.vidi_recorder.specs.declared.error.RecordError.{RecordError}
 use Rattle.vidi_recorder.specs.declared.error.RecordError.TheVariants.{WriteFault}
 use Rattle.vidi_recorder.specs.Course.{course}
 use Rattle.vidi_recorder.specs.Recording.{FailsWith}
+use Rattle.env_script.proofs.Lasting.{offers-fit}
 use Rattle.vidi_recorder.proofs.Ends.{cut-as, ends-as}
+use Rattle.vidi_recorder.proofs.Turns.{lasting}
 use Rattle.vidi_recorder.proofs.record.record_run.Goals as goal
 
 if_err : {X : Type 0} (Q : RecordError → Type 0) (r : Result X RecordError) (e made : RecordError) → r ≡ Err e → e ≡ made → Q made
@@ -18,21 +20,27 @@ if_err {X} Q r e made p q x = subst (λ (s : Result X RecordError). IfErr s Q) (
 pub returns-clause-ok : goal.returns-clause-ok
 returns-clause-ok g c d s before is =
     let played = c.in_ok-outcome.ensures.ok in
+    let ends = played.3 d s before is in
     ends-as (course d c.args.map.now (g.E.Env.offer (g.E.Env.plan c.args.env.now)) c.args.stalls.now c.args.cycles)
-    (g.E.Env.stands_for c.play.new.env) played.0 (g.K.Sink.told c.args.sink.now) (g.K.Sink.told c.play.new.sink)
-    (g.K.Sink.told c.close.new.sink) c.play.new.cells.room c.play.new.cells.store.items c.play.new.cells.packets
-    c.in_ok-outcome.outcome played.2 played.1 c.in_ok-close.ensures.ok (played.3 d s before is)
+    (g.S.Shell.runs c.play.new.shell) (g.E.Env.stands_for c.play.new.env) played.0 (g.K.Sink.told c.args.sink.now)
+    (g.K.Sink.told c.play.new.sink) (g.K.Sink.told c.close.new.sink) ends.1 c.play.new.cells.room c.play.new.cells.store.items
+    c.play.new.cells.packets c.in_ok-outcome.outcome played.2 played.1 c.in_ok-close.ensures.ok c.requires.table c.requires.few ends.0
 
 pub returns-in_err-close-clause-err : goal.returns-in_err-close-clause-err
 returns-in_err-close-clause-err g c =
     let w = λ (d : Design). course d c.args.map.now (g.E.Env.offer (g.E.Env.plan c.args.env.now)) c.args.stalls.now c.args.cycles in
     let p = err_from_is_err_and c.from_residual-in_err-close.result c.from_residual-in_err-close.ensures.1 in
     let played = c.in_ok-outcome.ensures.ok in
+    let lasts = lasting c.args.map.now.channels (g.E.Env.channels c.args.env.now) (g.E.Env.offer (g.E.Env.plan c.args.env.now))
+    c.requires.channels (g.met.E.Env.fits c.args.env.now) (g.met.E.Env.stays c.args.env.now) in
     if_err
     (λ (e : RecordError). (d : Design) (s : Values) (before : Option Row) → g.S.Shell.runs c.args.shell.now d s before
-    → FailsWith (w d) (g.E.Env.stands_for c.play.new.env) (g.K.Sink.told c.args.sink.now) (g.K.Sink.told c.close.new.sink) e)
+    → FailsWith (w d) (g.S.Shell.runs c.play.new.shell) (g.E.Env.stands_for c.play.new.env) (g.K.Sink.told c.args.sink.now)
+    (g.K.Sink.told c.close.new.sink) e)
     c.from_residual-in_err-close.result p.0 WriteFault p.1 p.2
-    (λ d s before is. cut-as (w d) (g.E.Env.stands_for c.play.new.env) played.0 (g.K.Sink.told c.args.sink.now)
-    (g.K.Sink.told c.play.new.sink) (g.K.Sink.told c.close.new.sink) c.play.new.cells.room c.play.new.cells.store.items
+    (λ d s before is. (let ends = played.3 d s before is in
+    cut-as (w d) (g.S.Shell.runs c.play.new.shell) (g.E.Env.stands_for c.play.new.env) played.0 (g.K.Sink.told c.args.sink.now)
+    (g.K.Sink.told c.play.new.sink) (g.K.Sink.told c.close.new.sink) ends.1 c.play.new.cells.room c.play.new.cells.store.items
     c.play.new.cells.packets c.in_ok-outcome.outcome played.2 played.1 c.in_err-close.ensures.err
-    (subst (IsMapped d) c.requires.mapped (g.met.S.Shell.ready c.args.shell.now d s before is)) (played.3 d s before is))
+    (subst (IsMapped d) c.requires.mapped (g.met.S.Shell.ready c.args.shell.now d s before is))
+    (offers-fit c.args.map.now.channels (g.E.Env.offer (g.E.Env.plan c.args.env.now)) lasts) ends.0))

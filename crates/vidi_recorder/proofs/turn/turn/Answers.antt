@@ -16,11 +16,11 @@ use Rattle.script_text.specs.Offer.{Carries}
 use Rattle.chan_monitor.specs.Shell.{IsShown}
 use Rattle.env_script.specs.Offered.{offers_on}
 use Rattle.script_text.specs.Plan.{allowance_at}
-use Rattle.vidi_recorder.specs.Course.{course, plan_of, sizes_of, IsRunOf}
+use Rattle.vidi_recorder.specs.Course.{course, plan_of, sizes_of}
 use Rattle.vidi_recorder.specs.Standing.{Cut, Reached}
 use Rattle.vidi_recorder.proofs.Going.{Cycle, mixed-long}
 use Rattle.vidi_recorder.proofs.Turns.{clocked, count-few, cut-next, fits-now, follows, follows-also, going-next, lasting, may}
-use Rattle.vidi_recorder.proofs.Turns.{one-most, run-with, sizes-next, stable-kept, stands-next, stops, written-len}
+use Rattle.vidi_recorder.proofs.Turns.{one-most, sizes-next, stable-kept, stands-next, stops, written-len}
 use Rattle.vidi_recorder.proofs.turn.turn.Goals as goal
 
 pub look-requires-clause-map : goal.look-requires-clause-map
@@ -97,12 +97,15 @@ returns-in-Some-clause-stops g c k same first rows long at =
     let m = c.args.map.now in
     let offer = g.E.Env.offer (g.E.Env.plan env) in (
       at,
-      (λ d r. stops m (g.S.Shell.map c.args.shell.now) offer c.args.stalls.now c.args.cycle (g.S.Shell.runs c.args.shell.now)
-          (g.E.Env.current env) c.gates.result rows c.look.new.row c.args.cells.now.last c.args.cells.now.room c.requires.mapped
-          (lasting m.channels (g.E.Env.channels env) offer c.requires.channels (g.met.E.Env.fits env) (g.met.E.Env.stays env))
-          (g.met.E.Env.offers_now env rows at.played) at.going.stands c.gates.ensures.mask at.stable at.last_is
-          (λ e s before is. (c.look.ensures.shown e s before is).0) k
-          (subst (λ (o : Option ℕ). IsLowestUnstable m.channels c.args.cells.now.last c.look.new.row o) same c.in-Some.ensures) d r),
+      (λ d r. (
+        stops m (g.S.Shell.map c.args.shell.now) offer c.args.stalls.now c.args.cycle (g.S.Shell.runs c.args.shell.now)
+            (g.E.Env.current env) c.gates.result rows c.look.new.row c.args.cells.now.last c.args.cells.now.room c.requires.mapped
+            (lasting m.channels (g.E.Env.channels env) offer c.requires.channels (g.met.E.Env.fits env) (g.met.E.Env.stays env))
+            (g.met.E.Env.offers_now env rows at.played) at.going.stands c.gates.ensures.mask at.stable at.last_is
+            (λ e s before is. (c.look.ensures.shown e s before is).0) k
+            (subst (λ (o : Option ℕ). IsLowestUnstable m.channels c.args.cells.now.last c.look.new.row o) same c.in-Some.ensures) d r,
+        (r.0, (c.look.ensures.shown d (r.0.driven.state (length rows)) (row_before rows (length rows)) r.1).1),
+      )),
     )
 
 pub returns-clause-on : goal.returns-clause-on
@@ -197,9 +200,14 @@ returns-in_err-give-clause-cut g c = on_err c.from_residual.result (λ first row
       stable-kept m.channels (plan_of stalls) first rows row last c.swap.new.y (g.K.Sink.told c.give.new.sink) kept at.stable at.last_is
           none,
       subst (λ (q : Row). Cut m.channels (plan_of stalls) first (rows ++ q ∷ []) (g.K.Sink.told c.give.new.sink)) (sym kept) cut,
-      (λ d r. subst (λ (q : Row). IsRunOf (course d m offer stalls c.args.cycle) (rows ++ q ∷ [])) (sym kept)
-          (run-with m given offer stalls c.args.cycle (g.S.Shell.runs c.args.shell.now) (g.E.Env.current env) c.gates.result rows row last
-          room c.requires.mapped lasts now at.going.stands c.gates.ensures.mask at.stable at.last_is shown d r)),
+      (λ d r. subst (λ (q : Row). Reached (course d m offer stalls c.args.cycle) (g.S.Shell.runs c.clock.new.self) (rows ++ q ∷ []))
+          (sym kept)
+          (clocked m given offer stalls c.args.cycle (g.S.Shell.runs c.args.shell.now) (g.E.Env.current env) c.gates.result rows row last
+          room c.requires.mapped lasts now at.going.stands c.gates.ensures.mask at.stable at.last_is shown
+          (g.S.Shell.runs c.clock.new.self) (g.S.Shell.map c.look.new.shell) d (c.look.ensures.map ∙ c.requires.mapped)
+          (λ s is. c.clock.ensures.next d s (row_before rows (length rows)) row
+          (c.look.ensures.shown d s (row_before rows (length rows)) is).1
+          c.look.ensures.driven) r)),
     )))
 
 pub overflow_add-cells : goal.overflow_add-cells

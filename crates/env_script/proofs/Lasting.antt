@@ -1,0 +1,29 @@
+-- The offers of an environment, and of a script, last.
+use Rattle.std.proofs.Common.{ℕ, List, [], ◌∷◌, ◌++◌}
+use Rattle.trace_model.specs.declared.channel.Channel.{Channel}
+use Rattle.trace_model.specs.declared.row.Row.{Row}
+use Rattle.run_model.specs.Laws.{OffersFit, OffersStay}
+use Rattle.script_text.specs.Offer.{Offer}
+use Rattle.script_text.proofs.Kept.{all_fit, stays_on}
+use Rattle.env_script.specs.Laws.{LastingOffers, ScriptLasts}
+use Rattle.env_script.specs.Offered.{offers_after, AreLasting}
+use Rattle.env_script.proofs.OfferLaws.{are-offers, stays-offered}
+
+pub offers-fit : (channels : List Channel) (offer : List Row → ℕ → Offer) → AreLasting channels offer
+    → OffersFit channels (offers_after channels offer)
+offers-fit channels offer lasting before are = are-offers channels (offer before) (lasting.fits before)
+
+pub offers-stay : (channels : List Channel) (offer : List Row → ℕ → Offer) → AreLasting channels offer
+    → OffersStay channels (offers_after channels offer)
+offers-stay channels offer lasting before row are carries c x at dir up unended =
+    stays-offered channels (offer before) (offer (before ++ row ∷ [])) (lasting.fits before) (lasting.fits (before ++ row ∷ [])) c x at up
+    (λ was. lasting.stays before row c was unended)
+
+pub lasting-offers : LastingOffers
+lasting-offers channels offer lasting = (offers-fit channels offer lasting, offers-stay channels offer lasting)
+
+pub script-lasts : ScriptLasts
+script-lasts channels script fits = record {
+  fits = λ rows c x at. all_fit channels script rows c x fits at;
+  stays = λ rows row c up unended. stays_on script rows row c up unended;
+}

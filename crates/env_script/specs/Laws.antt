@@ -1,0 +1,19 @@
+-- What follows for the offers of an environment, and for those of a script.
+use Rattle.std.specs.Prelude.{ℕ, List}
+use Rattle.trace_model.specs.declared.channel.Channel.{Channel}
+use Rattle.trace_model.specs.declared.row.Row.{Row}
+use Rattle.run_model.specs.Laws.{OffersFit, OffersStay}
+use Rattle.script_text.specs.declared.script.Script.{Script}
+use Rattle.script_text.specs.Fits.{FitsChannels}
+use Rattle.script_text.specs.Offer.{Offer}
+use Rattle.script_text.specs.ScriptOffer.{script_offer}
+use Rattle.env_script.specs.Offered.{offers_after, AreLasting}
+
+-- as the offers of a run they are of the channels, and stay until they are taken
+abbrev pub LastingOffers : Type 0
+LastingOffers = (channels : List Channel) (offer : List Row → ℕ → Offer) → AreLasting channels offer
+    → OffersFit channels (offers_after channels offer) × OffersStay channels (offers_after channels offer)
+
+-- a script's offers are such
+abbrev pub ScriptLasts : Type 0
+ScriptLasts = (channels : List Channel) (script : Script) → FitsChannels channels script → AreLasting channels (script_offer script)
