@@ -87,6 +87,9 @@ reason_text (reasons.StallLine line) = codes "P1 line " ++ decimal line
 reason_text (reasons.TooSmall need given) = small_text need given
 reason_text (reasons.BadTrace at) = codes "bad trace at " ++ decimal at
 reason_text (reasons.OtherChannels at) = codes "other channels at " ++ decimal at
+reason_text (reasons.Reserved name) = codes "reserved " ++ name
+reason_text (reasons.Wrapped number) = codes "wrapped has E" ++ decimal number
+reason_text reasons.WrapLong = codes "wrapped text too long"
 
 -- `vidi: refused W: ` and the reason
 abbrev pub reason_line : Word → Reason → List ℕ

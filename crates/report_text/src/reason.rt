@@ -80,6 +80,12 @@ pub enum Reason {
     BadTrace { at: u64 },
     /// The channels of the second trace are others than those of the first, first at place `at`.
     OtherChannels { at: usize },
+    /// A module of the design has this name, which is kept for shims.
+    Reserved { name: Name },
+    /// The reason of this number, as 12 for E12, holds of the wrapped design.
+    Wrapped { number: u32 },
+    /// The text of the wrapped design has more bytes than a design's text may have.
+    WrapLong,
 }
 
 /// The line that refuses a file (this project's profile).
@@ -125,6 +131,9 @@ fn put_reason(text: &mut Vec<u8>, reason: &Reason) -> Result<(), Memory>
         Reason::TooSmall { need, given } => put_small(text, *need, *given),
         Reason::BadTrace { at } => put_with(text, b"bad trace at ", *at),
         Reason::OtherChannels { at } => put_with(text, b"other channels at ", *at),
+        Reason::Reserved { name } => put_named(text, b"reserved ", name.as_slice()),
+        Reason::Wrapped { number } => put_with(text, b"wrapped has E", *number),
+        Reason::WrapLong => put(text, b"wrapped text too long"),
     }
 }
 

@@ -8,6 +8,9 @@ use Rattle.trace_model.specs.declared.row.Row.{Row}
 use Rattle.trace_model.specs.declared.trace.Trace.{Trace}
 use Rattle.trace_model.specs.Recording.{trace_of}
 use Rattle.trace_code.specs.Encoding.{encode}
+use Rattle.net_design.specs.declared.design.Design.{Design}
+use Rattle.net_design.specs.declared.values.Values.{Values}
+use Rattle.net_design.specs.Lawful.{IsLawful}
 use Rattle.vidi_io.specs.Shelf.{Files, Later, appended, holding, emptied}
 use Rattle.vidi_io.specs.ShelfSink.{bytes_written, IsOver}
 use Rattle.vidi_io.specs.Sink.{Frame}
@@ -73,31 +76,33 @@ whole-left : (started : Bool) (files now : Option Files) (name : List ℕ) (t : 
 whole-left started files now name t reads before over told =
     some-held files now name (encode t) (encoded-some t) (over-left started files now name (encode t) reads before over told)
 
-pub file-ends : (w : Course) (stands : List Row → Type 0) (started : Bool) (files now : Option Files) (name : List ℕ)
-    (reads before : List ℕ → ℕ) (o : Outcome) → IsOver started now name reads (frame name files before)
-    → EndsWith w stands (bytes_written false files name) (bytes_written started now name) o → FileEnds w files name now o
-file-ends w stands started files now name reads before (outcomes.Whole packets) over (rows, run, kept) = (
+pub file-ends : (w : Course) (runs : Design → Values → Option Row → Type 0) (stands : List Row → Type 0) (started : Bool)
+    (files now : Option Files) (name : List ℕ) (reads before : List ℕ → ℕ) (o : Outcome)
+    → IsOver started now name reads (frame name files before)
+    → EndsWith w runs stands (bytes_written false files name) (bytes_written started now name) o → FileEnds w files name now o
+file-ends w runs stands started files now name reads before (outcomes.Whole packets) over (rows, run, kept) = (
   rows,
   (run, whole-left started files now name (trace_of w.bound.channels rows) reads before over kept.told),
   kept.count,
 )
-file-ends w stands started files now name reads before (outcomes.Unstable channel cycle packets) over (rows, run, is, kept) = (
+file-ends w runs stands started files now name reads before (outcomes.Unstable channel cycle packets) over (rows, run, is, kept) = (
   rows,
   (run, whole-left started files now name (trace_of w.bound.channels rows) reads before over kept.told),
   is,
 )
 
-pub file-fails : (w : Course) (stands : List Row → Type 0) (started : Bool) (files now : Option Files) (name : List ℕ)
-    (reads before : List ℕ → ℕ) (e : RecordError) → IsOver started now name reads (frame name files before)
-    → FailsWith w stands (bytes_written false files name) (bytes_written started now name) e
-    → (e ≡ errors.Memory → now ≡ files) → FileFails w files name now e
-file-fails w stands started files now name reads before errors.Memory over is kept = kept refl
-file-fails w stands started files now name reads before errors.WriteFault over cut kept =
+pub file-fails : (w : Course) (runs : Design → Values → Option Row → Type 0) (stands : List Row → Type 0) (started : Bool)
+    (files now : Option Files) (name : List ℕ) (reads before : List ℕ → ℕ) (e : RecordError)
+    → IsOver started now name reads (frame name files before)
+    → FailsWith w runs stands (bytes_written false files name) (bytes_written started now name) e
+    → (e ≡ errors.Memory → now ≡ files) → IsLawful w.design → FileFails w files name now e
+file-fails w runs stands started files now name reads before errors.Memory over is kept lawful = kept refl
+file-fails w runs stands started files now name reads before errors.WriteFault over cut kept lawful =
     held (over-left started files now name cut.bytes reads before over cut.told)
   where
     held : (now ≡ holding files name cut.bytes) ⊎ ((now ≡ files) × IfSome files (λ _. cut.bytes ≡ []))
         → FileFails w files name now errors.WriteFault
-    held (inl is) = inr (cut.rows, cut.bytes, cut.run, cut.front, is)
+    held (inl is) = inr (cut.rows, cut.bytes, cut.reached.0, cut.of_the_run lawful, is)
     held (inr (same, none)) = inl same
 
 -- what holds of what a call gives, and of the error that it gives
@@ -128,31 +133,32 @@ fresh-over started files now name to reads before s f n r =
     (subst (λ (q : List ℕ). IsOver false files q reads (frame to files before)) (sym n)
     (subst (λ (h : List ℕ → ℕ). IsOver false files to h (frame to files before)) (sym r) (over-fresh files to before))))
 
-pub ends-in-file : (w : Course) (stands : List Row → Type 0) (started first : Bool) (files now was left : Option Files)
-    (trace name called : List ℕ) (reads before : List ℕ → ℕ) (o : Outcome) → first ≡ false → was ≡ files → called ≡ trace → left ≡ now
+pub ends-in-file : (w : Course) (runs : Design → Values → Option Row → Type 0) (stands : List Row → Type 0)
+    (started first : Bool) (files now was left : Option Files) (trace name called : List ℕ) (reads before : List ℕ → ℕ) (o : Outcome)
+    → first ≡ false → was ≡ files → called ≡ trace → left ≡ now
     → IsOver started now name reads (frame trace files before)
-    → EndsWith w stands (bytes_written first was called) (bytes_written started now name) o → FileEnds w files trace left o
-ends-in-file w stands started first files now was left trace name called reads before o s f n l over ends =
+    → EndsWith w runs stands (bytes_written first was called) (bytes_written started now name) o → FileEnds w files trace left o
+ends-in-file w runs stands started first files now was left trace name called reads before o s f n l over ends =
     let old : bytes_written first was called ≡ bytes_written false files trace = λ i. bytes_written (s i) (f i) (n i) in
     let new : bytes_written started now name ≡ bytes_written started now trace =
     ap (λ (q : List ℕ). bytes_written started now q) over.same_name in
     let over' = subst (λ (q : List ℕ). IsOver started now q reads (frame trace files before)) over.same_name over in
-    let ends' = subst (λ (k : Option (List ℕ)). EndsWith w stands k (bytes_written started now trace) o) old
-    (subst (λ (k : Option (List ℕ)). EndsWith w stands (bytes_written first was called) k o) new ends) in
+    let ends' = subst (λ (k : Option (List ℕ)). EndsWith w runs stands k (bytes_written started now trace) o) old
+    (subst (λ (k : Option (List ℕ)). EndsWith w runs stands (bytes_written first was called) k o) new ends) in
     subst (λ (fs : Option Files). FileEnds w files trace fs o) (sym l)
-    (file-ends w stands started files now trace reads before o over' ends')
+    (file-ends w runs stands started files now trace reads before o over' ends')
 
-pub fails-in-file : (w : Course) (stands : List Row → Type 0) (started first : Bool) (files now was left : Option Files)
-    (trace name called : List ℕ) (reads before : List ℕ → ℕ) (e : RecordError) → first ≡ false → was ≡ files → called ≡ trace → left ≡ now
-    → IsOver started now name reads (frame trace files before)
-    → FailsWith w stands (bytes_written first was called) (bytes_written started now name) e → (e ≡ errors.Memory → now ≡ files)
-    → FileFails w files trace left e
-fails-in-file w stands started first files now was left trace name called reads before e s f n l over fails kept =
+pub fails-in-file : (w : Course) (runs : Design → Values → Option Row → Type 0) (stands : List Row → Type 0)
+    (started first : Bool) (files now was left : Option Files) (trace name called : List ℕ) (reads before : List ℕ → ℕ)
+    (e : RecordError) → first ≡ false → was ≡ files → called ≡ trace → left ≡ now → IsOver started now name reads (frame trace files before)
+    → FailsWith w runs stands (bytes_written first was called) (bytes_written started now name) e → (e ≡ errors.Memory → now ≡ files)
+    → IsLawful w.design → FileFails w files trace left e
+fails-in-file w runs stands started first files now was left trace name called reads before e s f n l over fails kept lawful =
     let old : bytes_written first was called ≡ bytes_written false files trace = λ i. bytes_written (s i) (f i) (n i) in
     let new : bytes_written started now name ≡ bytes_written started now trace =
     ap (λ (q : List ℕ). bytes_written started now q) over.same_name in
     let over' = subst (λ (q : List ℕ). IsOver started now q reads (frame trace files before)) over.same_name over in
-    let fails' = subst (λ (k : Option (List ℕ)). FailsWith w stands k (bytes_written started now trace) e) old
-    (subst (λ (k : Option (List ℕ)). FailsWith w stands (bytes_written first was called) k e) new fails) in
+    let fails' = subst (λ (k : Option (List ℕ)). FailsWith w runs stands k (bytes_written started now trace) e) old
+    (subst (λ (k : Option (List ℕ)). FailsWith w runs stands (bytes_written first was called) k e) new fails) in
     subst (λ (fs : Option Files). FileFails w files trace fs e) (sym l)
-    (file-fails w stands started files now trace reads before e over' fails' kept)
+    (file-fails w runs stands started files now trace reads before e over' fails' kept lawful)

@@ -14,3 +14,10 @@ pub mod Saved
 pub mod DriverLines
 pub mod QuietReplays
 pub mod Replayed
+pub mod Spelled
+pub mod Fitted
+pub mod Written
+pub mod QuietWraps
+pub mod QuietSamples
+pub mod SampleTexts
+pub mod Sampled

@@ -28,14 +28,17 @@ mute-trace : (trace : List ℕ) (m : Map) → Mute (RefusedTrace trace m)
 mute-trace trace m =
     mute-decoding words.Trace trace (λ t. HasOtherChannels words.Trace m.channels t.channels) (mute-other m.channels)
 
+pub mute-refused_replay : (design map trace : List ℕ) → Mute (RefusedReplay design map trace)
+mute-refused_replay design map trace = mute-wiring design map (RefusedTrace trace) (mute-trace trace)
+
 mute-unreplayed : (design map trace : List ℕ) (files : Option Files) (F : List ℕ → Type 0) → Mute (IsUnreplayed design map trace files F)
 mute-unreplayed design map trace files F = mute-reading text_limit words.Design design files F
     (λ d. Reading text_limit words.Map map files F (λ n. Reading trace_limit words.Trace trace files F (RefusedReplay d n)))
     (λ d. mute-reading text_limit words.Map map files F (λ n. Reading trace_limit words.Trace trace files F (RefusedReplay d n))
     (λ n. mute-reading trace_limit words.Trace trace files F (RefusedReplay d n)
-    (λ t. mute-wiring d n (RefusedTrace t) (mute-trace t))))
+    (mute-refused_replay d n)))
 
-mute-replay_said : (t u : Trace) (n : ℕ) (o : ReplayOutcome) → Mute (IsReplaySaid t u n o)
+pub mute-replay_said : (t u : Trace) (n : ℕ) (o : ReplayOutcome) → Mute (IsReplaySaid t u n o)
 mute-replay_said t u n (outcomes.Ended cycles) x v = mute-verdict (replayed_line cycles) t u x v
 mute-replay_said t u n (outcomes.Short helds events) x s = let e : WriteFault ≡ Short helds events = s.0 in cc
 mute-replay_said t u n (outcomes.Unstable channel cycle) x s = let e : WriteFault ≡ Unstable channel cycle = s.0 in cc

@@ -73,10 +73,10 @@ mute-checks design top files F = mute-reading text_limit words.Design design fil
     (λ d. mute-said Done (check_text f (file_counts f top)) done-goes)))
 
 -- ---- the three texts
-mute-no_map : (bytes : List ℕ) → Mute (IsNoMap bytes)
+pub mute-no_map : (bytes : List ℕ) → Mute (IsNoMap bytes)
 mute-no_map bytes x (error, is, (reason, names, said)) = mute-refusal words.Map reason x said
 
-mute-unbound : (text : MapText) (d : Design) → Mute (IsUnbound text d)
+pub mute-unbound : (text : MapText) (d : Design) → Mute (IsUnbound text d)
 mute-unbound text d x (error, is, (reason, names, said)) = mute-refusal words.Map reason x said
 
 mute-no_script : (bytes : List ℕ) (m : Map) → Mute (IsNoScript bytes m)
@@ -119,12 +119,12 @@ mute-no_plan bytes x (line, is, said) = mute-refusal words.Stalls (StallLine lin
 mute-small : (channels : List Channel) (plan : Stalls) → Mute (IsTooSmall channels plan)
 mute-small channels plan x (small, said) = mute-refusal words.Stalls (TooSmall (need (sizes_of channels)) plan.capacity) x said
 
-mute-planned : (design m script stalls : List ℕ) → Mute (RefusedPlanned design m script stalls)
+pub mute-planned : (design m script stalls : List ℕ) → Mute (RefusedPlanned design m script stalls)
 mute-planned design m script stalls = mute-step (RefusedTexts design m script) (IsBench design m script) (RefusedPlan stalls)
     (mute-refused_texts design m script) (λ b. mute-step (IsNoPlan stalls) (λ (plan : Stalls). ReadsStalls (read_lines stalls) (Ok plan))
     (IsTooSmall b.device.map.channels) (mute-no_plan stalls) (mute-small b.device.map.channels))
 
-mute-recorded : (channels : List Channel) (rows : List Row) (stop : Option ℕ) → Mute (IsRecorded channels rows stop)
+pub mute-recorded : (channels : List Channel) (rows : List Row) (stop : Option ℕ) → Mute (IsRecorded channels rows stop)
 mute-recorded channels rows None = mute-said Done (recorded_line (length rows) (length (packets_of channels rows))) done-goes
 mute-recorded channels rows (Some c) =
     mute-said (Unstable c (length rows)) (unstable_line channels c (length rows)) (unstable-goes c (length rows))

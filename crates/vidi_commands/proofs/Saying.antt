@@ -4,11 +4,13 @@ use Rattle.std.specs.Io.KnownBytes.{append_known}
 use Rattle.vidi_io.specs.Shelf.{Files}
 use Rattle.vidi_commands.specs.declared.status.Status.{Status}
 use Rattle.vidi_commands.specs.declared.status.Status.TheVariants.{Done, Usage, ReadFault, WriteFault, Refused, Unstable, Short, Diverged, Memory}
-use Rattle.vidi_commands.specs.Command.{Command, Dump, Check, Run, Record, Replay, Compare, Salvage}
+use Rattle.vidi_commands.specs.Command.{Command, Dump, Check, Run, Record, Replay, Compare, Salvage, Wrap, Sample}
 use Rattle.vidi_commands.specs.Answer.{Does, Earns, Answers, Says}
 use Rattle.vidi_commands.proofs.QuietTraces.{mute-dumps, mute-compares, mute-saves, quiet-dumps, quiet-compares, quiet-saves}
 use Rattle.vidi_commands.proofs.QuietTexts.{mute-checks, mute-runs, mute-records, quiet-checks, quiet-runs, quiet-records}
 use Rattle.vidi_commands.proofs.QuietReplays.{mute-replays, quiet-replays}
+use Rattle.vidi_commands.proofs.QuietSamples.{mute-samples}
+use Rattle.vidi_commands.proofs.QuietWraps.{mute-wraps, quiet-wraps}
 
 does-writing : (c : Command) (files : Option Files) (F : List ℕ → Type 0) (text : List ℕ) (left : Option Files)
     → Does c files F WriteFault text left → ⊥
@@ -19,6 +21,8 @@ does-writing (Record design map script stalls trace) files F text left d = mute-
 does-writing (Replay design map trace n out) files F text left d = mute-replays design map trace n out files F text left d
 does-writing (Compare trace other) files F text left (d, same) = mute-compares trace other files F text d
 does-writing (Salvage trace out) files F text left d = mute-saves trace out files F text left d
+does-writing (Wrap design map out) files F text left d = mute-wraps design map out files F text left d
+does-writing (Sample number) files F text left (d, same) = mute-samples number text d
 
 not_writing : (words : List (List ℕ)) (files : Option Files) (F : List ℕ → Type 0) (text : List ℕ) (left : Option Files)
     → Earns words files F WriteFault text left → ⊥
@@ -65,6 +69,8 @@ quiet_does (Replay design map trace n out) files F status text left quiet d =
     quiet-replays design map trace n out files F status text left quiet d
 quiet_does (Compare trace other) files F status text left quiet (d, same) = (quiet-compares trace other files F quiet status text d, same)
 quiet_does (Salvage trace out) files F status text left quiet d = quiet-saves trace out files F status text left quiet d
+quiet_does (Wrap design map out) files F status text left quiet d = quiet-wraps design map out files F status text left quiet d
+quiet_does (Sample number) files F status text left quiet d = d
 
 quiet_earns : (words : List (List ℕ)) (files : Option Files) (F : List ℕ → Type 0) (status : Status) (text : List ℕ) (left : Option Files)
     → ((name : List ℕ) → ¬ F name) → Earns words files F status text left → Earns words files (λ _. ⊥) status text left

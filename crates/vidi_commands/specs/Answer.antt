@@ -5,13 +5,15 @@ use Rattle.vidi_io.specs.Shelf.{Files}
 use Rattle.vidi_io.specs.Sink.{AppendsSome}
 use Rattle.vidi_commands.specs.declared.status.Status.{Status}
 use Rattle.vidi_commands.specs.declared.status.Status.TheVariants.{Usage, WriteFault, Memory}
-use Rattle.vidi_commands.specs.Command.{Command, Dump, Check, Run, Record, Replay, Compare, Salvage, IsGiven}
+use Rattle.vidi_commands.specs.Command.{Command, Dump, Check, Run, Record, Replay, Compare, Salvage, Wrap, Sample, IsGiven}
 use Rattle.vidi_commands.specs.Steps.{IsSaid}
 use Rattle.vidi_commands.specs.Traces.{Dumps, Compares, Saves, StopsSaving}
 use Rattle.vidi_commands.specs.Checks.{Checks}
 use Rattle.vidi_commands.specs.Runs.{Runs}
 use Rattle.vidi_commands.specs.Records.{Records, StopsRecording}
 use Rattle.vidi_commands.specs.Replays.{Replays, StopsReplaying}
+use Rattle.vidi_commands.specs.Wraps.{Wraps, StopsWrapping}
+use Rattle.vidi_commands.specs.Samples.{Samples}
 use Rattle.vidi_commands.specs.Said.{usage_line, memory_line}
 
 -- what a command owes: its answer, its text, and the files that are left
@@ -25,6 +27,8 @@ Does (Replay design map trace cycles out) files ReadFailed status text left =
     Replays design map trace cycles out files ReadFailed status text left
 Does (Compare trace other) files ReadFailed status text left = Compares trace other files ReadFailed status text × (left ≡ files)
 Does (Salvage trace out) files ReadFailed status text left = Saves trace out files ReadFailed status text left
+Does (Wrap design map out) files ReadFailed status text left = Wraps design map out files ReadFailed status text left
+Does (Sample number) files ReadFailed status text left = Samples number status text × (left ≡ files)
 
 -- An answer is earned by these words, with this text and these files left: `Usage` where they give no command, else what the command
 -- owes. Want of memory is free.
@@ -38,6 +42,7 @@ abbrev pub StopsIn : Command → Option Files → Option Files → Type 0
 StopsIn (Salvage trace out) files left = StopsSaving trace out files left
 StopsIn (Record design map script stalls trace) files left = StopsRecording design map script stalls trace files left
 StopsIn (Replay design map trace cycles out) files left = StopsReplaying design map trace cycles out files left
+StopsIn (Wrap design map out) files left = StopsWrapping design map out files left
 StopsIn _ files left = ⊥
 
 abbrev pub Stops : List (List ℕ) → Option Files → Option Files → Type 0

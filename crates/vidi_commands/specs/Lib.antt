@@ -13,6 +13,10 @@ pub mod Runs
 pub mod Exit
 pub mod Reading
 pub mod Said
+pub mod Samples
+pub mod Sampled
+pub mod Shims
 pub mod Steps
 pub mod Traces
 pub mod Unfetched
+pub mod Wraps

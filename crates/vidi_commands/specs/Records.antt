@@ -91,7 +91,7 @@ Records design map script stalls trace files ReadFailed status text left =
 
 -- ---- a write of TRACE failed
 
--- TRACE is as at entry, or holds a front of the encoding of the run's trace, of which these rows are the first
+-- TRACE is as at entry, or holds a front of the encoding of the run's trace; the run is there, and these rows are its first
 abbrev pub IsCutShort : Course → Option Files → List ℕ → Option Files → Type 0
 IsCutShort w files trace left = (left ≡ files)
     ⊎ ((rows : List Row) × (bytes : List ℕ) × IsRunOf w rows × IsFrontOfTheRun w rows bytes × (left ≡ holding files trace bytes))

@@ -7,6 +7,7 @@ use Rattle.report_text.specs.Report.{report_lines}
 use Rattle.report_text.specs.Text.{newline}
 use Rattle.vlog_tree.specs.Tree.{ModuleOf, FileOf}
 use Rattle.net_design.specs.declared.design.Counts.{Counts}
+use Rattle.vidi_commands.specs.declared.sample.Figures.{Figures}
 pub use Rattle.report_text.specs.Trace.{dump_text}
 pub use Rattle.report_text.specs.Reason.{read_fault_line, reason_line}
 
@@ -54,6 +55,18 @@ recorded_line cycles packets =
 -- `replayed N cycles, no divergence`
 abbrev pub replayed_line : ℕ → List ℕ
 replayed_line cycles = codes "replayed " ++ (decimal cycles ++ (codes " cycles, no divergence" ++ newline))
+
+-- `sample N: stages N sends N cycles N packets N replay N`
+abbrev pub sample_figures : Figures → List ℕ
+sample_figures x = counted (codes "sample ") x.number ++ (counted (codes ": stages ") x.stages ++ (counted (codes " sends ") x.sends
+    ++ counted (codes " cycles ") x.cycles))
+
+abbrev pub sample_line : Figures → ℕ → ℕ → List ℕ
+sample_line x packets replay = sample_figures x ++ (counted (codes " packets ") packets ++ (counted (codes " replay ") replay ++ newline))
+
+-- `wrapped N channels`
+abbrev pub wrapped_line : ℕ → List ℕ
+wrapped_line n = codes "wrapped " ++ (decimal n ++ (codes " channels" ++ newline))
 
 -- the name of channel c
 abbrev pub name_in : Option Channel → List ℕ

@@ -3,6 +3,7 @@
 ghost use Rattle.std.specs.Prelude.{◌≡◌, ℕ, [], ◌∷◌, MatchOption, codes};
 ghost use Rattle.vidi_commands.specs.Command as spec;
 
+use sample_gen::LARGEST;
 use script_text::MOST_CYCLES;
 use vidi_io::Words;
 use vidi_lines::number;
@@ -50,6 +51,16 @@ pub enum Command<'a> {
         trace: &'a str,
         out: &'a str,
     },
+    /// `out` gets the design with the shims of the map round it.
+    Wrap {
+        design: &'a str,
+        map: &'a str,
+        out: &'a str,
+    },
+    /// The sample of this number, 0 to 6,000, is recorded and replayed.
+    Sample {
+        number: u32,
+    },
 }
 
 impl<'a> Command<'a> {
@@ -58,9 +69,7 @@ impl<'a> Command<'a> {
         ensures { MatchOption result ((c : spec.Command) → ¬ spec.IsGiven words.now c) (λ c. spec.IsGiven words.now (spec.plain c)) }
     {
         match words.as_slice() {
-            [name, trace] if name.as_str() == "dump" => Some(Command::Dump {
-                trace: trace.as_str(),
-            }),
+            [name, part] => of_one(name.as_str(), part.as_str()),
             [name, first, second, third] => of_three(
                 name.as_str(),
                 first.as_str(),
@@ -81,16 +90,57 @@ impl<'a> Command<'a> {
     }
 }
 
-/// The command of this name with three parts.
-fn of_three<'a>(name: &str, design: &'a str, map: &'a str, script: &'a str) -> Option<Command<'a>>
-    ensures { MatchOption result ((c : spec.Command) → ¬ spec.IsGiven (name.now ∷ design.now ∷ map.now ∷ script.now ∷ []) c)
-        (λ c. spec.IsGiven (name.now ∷ design.now ∷ map.now ∷ script.now ∷ []) (spec.plain c)) }
+/// The command of this name with one part.
+fn of_one<'a>(name: &str, part: &'a str) -> Option<Command<'a>>
+    ensures { MatchOption result ((c : spec.Command) → ¬ spec.IsGiven (name.now ∷ part.now ∷ []) c)
+        (λ c. spec.IsGiven (name.now ∷ part.now ∷ []) (spec.plain c)) }
+{
+    if name == "dump" {
+        return Some(Command::Dump { trace: part });
+    }
+    if name == "sample" {
+        return sample_of(part);
+    }
+    None
+}
+
+/// The sample of this word.
+fn sample_of<'a>(word: &str) -> Option<Command<'a>>
+    ensures { MatchOption result ((c : spec.Command) → ¬ spec.IsGiven (codes "sample" ∷ word.now ∷ []) c)
+        (λ c. spec.IsGiven (codes "sample" ∷ word.now ∷ []) (spec.plain c)) }
+{
+    let number = sample_number(word)?;
+    Some(Command::Sample { number })
+}
+
+/// The number that a word writes, if there is a sample of it.
+fn sample_number(word: &str) -> Option<u32>
+    ensures { MatchOption result ((n : ℕ) → ¬ spec.IsSampleNumber word.now n) (λ n. spec.IsSampleNumber word.now n) }
+{
+    let number = number(word.as_bytes())?;
+    if number > u128::from(LARGEST) {
+        return None;
+    }
+    Some(number as u32)
+}
+
+/// The command of this name with three parts. A file that is written isn't one that is read.
+fn of_three<'a>(name: &str, design: &'a str, map: &'a str, third: &'a str) -> Option<Command<'a>>
+    ensures { MatchOption result ((c : spec.Command) → ¬ spec.IsGiven (name.now ∷ design.now ∷ map.now ∷ third.now ∷ []) c)
+        (λ c. spec.IsGiven (name.now ∷ design.now ∷ map.now ∷ third.now ∷ []) (spec.plain c)) }
 {
     if name == "run" {
         return Some(Command::Run {
             design,
             map,
-            script,
+            script: third,
+        });
+    }
+    if name == "wrap" && design != third && map != third {
+        return Some(Command::Wrap {
+            design,
+            map,
+            out: third,
         });
     }
     None

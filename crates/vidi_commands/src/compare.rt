@@ -83,7 +83,15 @@ fn no_divergence(alloc: Global) -> Result<Answer, Memory>
 pub fn diverged(alloc: Global, report: &Report, channels: &Channels) -> Result<Answer, Memory>
     ensures { IfOk result (λ a. IsSaid Status.Diverged (said.diverged_text report.now channels.now) a.status (text_of a.text)) }
 {
+    let text = diverged_text(alloc, report, channels)?;
+    Ok(with_bytes(Status::Diverged, text))
+}
+
+/// The lines of the findings, and that the traces diverged.
+pub fn diverged_text(alloc: Global, report: &Report, channels: &Channels) -> Result<Bytes, Memory>
+    ensures { IfOk result (λ text. text ≡ said.diverged_text report.now channels.now) }
+{
     let mut text = report_lines(alloc, report, channels)?.into_vec();
     put(&mut text, b"diverged\n")?;
-    Ok(with_bytes(Status::Diverged, Bytes::from_vec(text)))
+    Ok(Bytes::from_vec(text))
 }

@@ -46,7 +46,7 @@ pub fn device_of(alloc: Global, design: &[u8], map: &[u8]) -> Result<Device, End
 }
 
 /// The design of a tree with the top of a map, and the map bound to it.
-fn built(alloc: Global, file: &File, text: &MapText) -> Result<Device, Ended>
+pub fn built(alloc: Global, file: &File, text: &MapText) -> Result<Device, Ended>
     ensures accepted { IfOk result (λ v. IsAccepted text.now.top (plain file.now) v.design) }
     ensures bound { IfOk result (λ v. BindsMap text.now v.design (Ok v.map)) }
     ensures runnable { IfOk result IsRunnable }
@@ -60,7 +60,7 @@ fn built(alloc: Global, file: &File, text: &MapText) -> Result<Device, Ended>
 }
 
 /// The lines of a map.
-fn map_text_of(alloc: Global, map: &[u8]) -> Result<MapText, Ended>
+pub fn map_text_of(alloc: Global, map: &[u8]) -> Result<MapText, Ended>
     requires { length map.now ≤ text_limit }
     ensures mapped { IfOk result (λ text. ReadsMap map.now (Ok text)) }
     ensures refused { IfErr result (EndsWith (IsNoMap map.now)) }

@@ -15,8 +15,11 @@ mod recording;
 mod replay;
 mod run;
 mod salvage;
+mod sample;
+mod shims;
 mod status;
 mod top;
+mod wrap;
 
 pub use status::Status;
 pub use top::vidi;

@@ -51,10 +51,10 @@ use vidi_recorder::{Outcome, RecordError, record_run};
 
 /// What is recorded: a design with its map and script, a plan of stalls, and a store for it.
 #[derive(Drop)]
-struct Planned {
-    bench: Bench,
-    plan: Stalls,
-    room: Room,
+pub struct Planned {
+    pub bench: Bench,
+    pub plan: Stalls,
+    pub room: Room,
 }
 
 /// What `record` is answered. All memory is taken before the file `trace` is started.
@@ -100,7 +100,7 @@ fn plan_recording<S: Shelf>(
 }
 
 /// What four texts say.
-fn plan_texts(alloc: Global, texts: &Texts, stalls: &[u8]) -> Result<Planned, Ended>
+pub fn plan_texts(alloc: Global, texts: &Texts, stalls: &[u8]) -> Result<Planned, Ended>
     requires within { AreWithin texts.now }
     requires stalls { length stalls.now ≤ text_limit }
     ensures bench { IfOk result (λ p. IsBench texts.now.design texts.now.map texts.now.script p.bench) }
@@ -185,7 +185,7 @@ fn recorded<S: Shelf>(
 
 /// Records the run of a design in the environment of a script.
 #[tactic(auto, using(crate::proofs::PortNets::port_nets))]
-fn record_sim<S: Shelf>(
+pub fn record_sim<S: Shelf>(
     alloc: Global,
     design: Design,
     order: Order,
@@ -245,7 +245,7 @@ fn record_file<S: Shell, E: Env, F: Shelf>(
     requires few { cycles ≤ MOST_CYCLES }
     ensures ended { IfOk result (λ outcome. (d : Design) (s : Values) (before : Option OneRow) → S.runs shell.old d s before
         → FileEnds (course d map.now (E.offer (E.plan env.old)) plan.now cycles) (F.files shelf.old) trace.now (F.files shelf.new) outcome) }
-    ensures failed { IfErr result (λ e. (d : Design) (s : Values) (before : Option OneRow) → S.runs shell.old d s before
+    ensures failed { IfErr result (λ e. (d : Design) (s : Values) (before : Option OneRow) → S.runs shell.old d s before → IsLawful d
         → FileFails (course d map.now (E.offer (E.plan env.old)) plan.now cycles) (F.files shelf.old) trace.now (F.files shelf.new) e) }
     ensures cause { IfErr result (FailsFor (F.write_faults shelf.old) (F.write_faults shelf.new)) }
     ensures counts { Later (F.read_faults shelf.old) (F.read_faults shelf.new) (F.write_faults shelf.old) (F.write_faults shelf.new) }

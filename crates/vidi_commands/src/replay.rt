@@ -111,7 +111,7 @@ fn plan_texts(alloc: Global, design: &[u8], map: &[u8], bytes: Bytes) -> Result<
 }
 
 /// The trace of these bytes, which has the channels of the map.
-fn trace_over(alloc: Global, bytes: &[u8], map: &Map) -> Result<Trace, Ended>
+pub fn trace_over(alloc: Global, bytes: &[u8], map: &Map) -> Result<Trace, Ended>
     ensures encodes { IfOk result (λ t. Encodes t bytes.now) }
     ensures same { IfOk result (λ t. t.channels ≡ map.now.channels) }
     ensures refused { IfErr result (EndsWith (RefusedTrace bytes.now map.now)) }
@@ -159,7 +159,7 @@ fn replayed<S: Shelf>(
 
 /// Replays the trace of these bytes on a device.
 #[tactic(auto, using(crate::proofs::PortNets::port_nets))]
-fn played(alloc: Global, device: Device, bytes: &[u8], cycles: u32) -> Result<Replayed, Memory>
+pub fn played(alloc: Global, device: Device, bytes: &[u8], cycles: u32) -> Result<Replayed, Memory>
     requires runnable { IsRunnable device }
     requires trace { (t : OneTrace) × Encodes t bytes.now × (t.channels ≡ device.map.channels) }
     requires few { cycles ≤ MOST_CYCLES }
@@ -173,7 +173,7 @@ fn played(alloc: Global, device: Device, bytes: &[u8], cycles: u32) -> Result<Re
 }
 
 /// The answer of an outcome, where the trace of the replay has these bytes.
-fn told(
+pub fn told(
     alloc: Global,
     trace: &Trace,
     outcome: ReplayOutcome,
@@ -213,7 +213,7 @@ fn verdict(alloc: Global, trace: &Trace, written: &[u8], cycles: u32) -> Result<
 }
 
 /// The trace that these bytes encode.
-fn decoded(alloc: Global, bytes: &[u8]) -> Result<Trace, Memory>
+pub fn decoded(alloc: Global, bytes: &[u8]) -> Result<Trace, Memory>
     requires { (u : OneTrace) × Encodes u bytes.now }
     ensures only { IfOk result (λ t. (u : OneTrace) → Encodes u bytes.now → t ≡ u) }
 {
@@ -234,7 +234,7 @@ fn whole(alloc: Global, cycles: u32) -> Result<Answer, Memory>
     Ok(with_bytes(Status::Done, Bytes::from_vec(text)))
 }
 
-fn unstable(
+pub fn unstable(
     alloc: Global,
     channels: &Channels,
     channel: usize,

@@ -18,7 +18,9 @@ use crate::recording::record;
 use crate::replay::replay;
 use crate::run::run;
 use crate::salvage::salvage;
+use crate::sample::sample;
 use crate::status::Status;
+use crate::wrap::wrap;
 use std::alloc::Global;
 use vidi_io::{Failed, Shelf, Sink, Words};
 
@@ -32,6 +34,9 @@ use vidi_io::{Failed, Shelf, Sink, Words};
 ///   extra, different or early in it, or what a replay that is short holds back and waits for.
 /// - `compare TRACE OTHER` prints what is missing, extra, different or early in the second trace.
 /// - `salvage TRACE OUT` writes what is whole of a trace that was cut off.
+/// - `wrap DESIGN MAP OUT` writes a design with the monitors and replayers of the map's channels round it, as Verilog.
+/// - `sample NUMBER` makes a design and its files from a number, records and replays them in memory, and prints what is missing, extra,
+///   different or early in the replay.
 ///
 /// The clause `answers` has the cause of each answer: `Usage` where the words give no command, else
 /// what the command owes for the files that the shelf tells, with the files that are left. Reads and writes that
@@ -102,6 +107,8 @@ fn answer_to<S: Shelf>(alloc: Global, words: &Words, shelf: &mut S) -> Result<An
         ) => replay(alloc, design, map, trace, cycles, out, shelf),
         Some(Command::Compare { trace, other }) => compare(alloc, trace, other, shelf),
         Some(Command::Salvage { trace, out }) => salvage(alloc, trace, out, shelf),
+        Some(Command::Wrap { design, map, out }) => wrap(alloc, design, map, out, shelf),
+        Some(Command::Sample { number }) => sample(alloc, number),
         None => Ok(usage(alloc)?),
     }
 }

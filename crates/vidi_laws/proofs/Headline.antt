@@ -1,27 +1,42 @@
 -- The laws of a script's run, said of the four files.
-use Rattle.std.proofs.Common.{ℕ, List, Option, None, Some, refl}
-use Rattle.trace_model.specs.declared.row.Row.{Row}
-use Rattle.net_design.specs.declared.design.Design.{Design}
-use Rattle.chan_map.specs.declared.pins.Map.{Map}
-use Rattle.run_model.specs.Run.{AllUp, IsTheRun}
-use Rattle.env_script.specs.Offered.{offers_after}
-use Rattle.script_text.specs.Offer.{Offer}
+use Rattle.std.proofs.Common.{◌≤◌, length, arith}
+use Rattle.script_text.specs.declared.script.TheConstants.{MOST_CYCLES}
 use Rattle.script_text.specs.ScriptOffer.{script_offer}
-use Rattle.bench_run.specs.Plain.{IsPlainRun}
-use Rattle.vidi_recorder.proofs.ScriptKept.{script-kept, full-plain}
-use Rattle.vidi_laws.specs.Headline.{RecordedRunIsKept, DrainedRecordingIsTheRun, spot_behind}
+use Rattle.env_script.proofs.Lasting.{script-lasts}
+use Rattle.bench_run.proofs.PlainLaws.{plain-keeps, plain-of}
+use Rattle.vidi_recorder.proofs.Kept.{drained-plain, no-hidden_gate}
+use Rattle.vidi_recorder.proofs.Runs.{the-run}
+use Rattle.vidi_recorder.proofs.ScriptKept.{script-kept, full-drains}
+use Rattle.vidi_recorder.proofs.Short.{trace-short}
+use Rattle.vidi_commands.specs.Records.{course_of}
+use Rattle.vidi_laws.specs.Headline.{RecordedRunIsKept, RecordedTraceIsShort, DrainedRecordingIsTheRun, WidePlanDrains}
+use Rattle.vidi_laws.specs.Headline.{RecordingHidesNoGate, PrintedRunKeepsContents}
 
 pub run-kept : RecordedRunIsKept
 run-kept design m script stalls files b plan planned rows stop run =
     script-kept b.device.design b.device.map b.script plan rows stop planned.bench.device.bound.1.table planned.bench.plays.2 run
 
-plain-run : (d : Design) (m : Map) (offer : List Row → ℕ → Offer) (n : ℕ) (rows : List Row) (stop : Option ℕ)
-    → IsTheRun d m (offers_after m.channels offer) (AllUp m.channels) n rows stop
-    → IsPlainRun d m offer n (record { rows = rows; unstable = spot_behind rows stop })
-plain-run d m offer n rows None run = record { played = run; cycle = tt }
-plain-run d m offer n rows (Some c) run = record { played = run; cycle = refl }
-
 pub drained-run : DrainedRecordingIsTheRun
-drained-run design m script stalls files b plan planned all rows stop run =
-    plain-run b.device.design b.device.map (script_offer b.script) b.script.cycles rows stop
-    (full-plain b.device.design b.device.map b.script plan rows stop planned.holds all run)
+drained-run design map script stalls files b plan planned rows stop run drains =
+    plain-of b.device.design b.device.map (script_offer b.script) b.script.cycles rows stop
+    (drained-plain (course_of b plan) rows stop planned.holds drains run)
+
+pub wide-drains : WidePlanDrains
+wide-drains design map script stalls files b plan planned all rows =
+    full-drains b.device.map.channels plan rows planned.bench.device.bound.1.table planned.holds all
+
+pub hides-no_gate : RecordingHidesNoGate
+hides-no_gate design map script stalls files b plan planned rows run t c row at l down =
+    no-hidden_gate (course_of b plan) rows t c row planned.holds run at l down
+
+pub recorded-short : RecordedTraceIsShort
+recorded-short design map script stalls files b plan planned rows stop run =
+    let parts = the-run (course_of b plan) rows stop run in
+    let l : length rows ≤ b.script.cycles = parts.2 in
+    let few : b.script.cycles ≤ MOST_CYCLES = planned.bench.plays.2.few in
+    trace-short b.device.map.channels planned.bench.device.bound.1.table rows parts.0.marked (omega (arith, l, few))
+
+pub printed-keeps : PrintedRunKeepsContents
+printed-keeps design map script b is run played =
+    plain-keeps b.device.design b.device.map (script_offer b.script) (script-lasts b.device.map.channels b.script is.plays.2)
+    b.script.cycles run played

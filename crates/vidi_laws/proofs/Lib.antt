@@ -15,5 +15,9 @@ pub mod SameRecord
 pub mod SameReplay
 pub mod OneAnswer
 pub mod Headline
+pub mod OneRun
 pub mod KeptOrder
 pub mod Faithful
+pub mod SameWrap
+pub mod SameSample
+pub mod ReadBack

@@ -6,7 +6,7 @@ use Rattle.trace_code.specs.Decoding.{OnePlace, OneReading}
 use Rattle.trace_code.specs.Salvage.{OneSalvage}
 use Rattle.vidi_io.specs.Shelf.{Files}
 use Rattle.vidi_commands.specs.declared.status.Status.{Status}
-use Rattle.vidi_commands.specs.Command.{Command, Dump, Check, Run, Record, Replay, Compare, Salvage, IsGiven}
+use Rattle.vidi_commands.specs.Command.{Command, Dump, Check, Run, Record, Replay, Compare, Salvage, Wrap, Sample, IsGiven}
 use Rattle.vidi_commands.specs.Answer.{Does}
 use Rattle.vidi_laws.specs.OneAnswer.{OneAnswer}
 use Rattle.vidi_laws.proofs.OneTraces.{one_dump, one_compare}
@@ -15,7 +15,9 @@ use Rattle.vidi_laws.proofs.OneSalvaged.{one_salvaged}
 use Rattle.vidi_laws.proofs.SameBench.{BenchLaws}
 use Rattle.vidi_laws.proofs.SameRun.{one_run}
 use Rattle.vidi_laws.proofs.SameRecord.{one_record}
+use Rattle.vidi_laws.proofs.SameWrap.{one_wrap}
 use Rattle.vidi_laws.proofs.SameReplay.{ReplayLaws, one_replay}
+use Rattle.vidi_laws.proofs.SameSample.{one_sample}
 
 second : (a b c : List ℕ) → a ∷ b ∷ [] ≡ a ∷ c ∷ [] → b ≡ c
 second a b c e = cc
@@ -54,6 +56,20 @@ replay-record e =
     let third : 112 ≡ 99 = ap (λ (text : List ℕ). get_or text 2 0) e in
     omega (arith, third)
 
+run-wrap : codes "run" ≡ codes "wrap" → ⊥
+run-wrap e =
+    let head : 114 ≡ 119 = ap (λ (text : List ℕ). get_or text 0 0) e in
+    omega (arith, head)
+
+dump-sample : codes "dump" ≡ codes "sample" → ⊥
+dump-sample e = cc
+
+first_of_two : (a b c d : List ℕ) → a ∷ b ∷ [] ≡ c ∷ d ∷ [] → a ≡ c
+first_of_two a b c d same = cc
+
+first_of_four : (a d m s b e n r : List ℕ) → a ∷ d ∷ m ∷ s ∷ [] ≡ b ∷ e ∷ n ∷ r ∷ [] → a ≡ b
+first_of_four a d m s b e n r same = cc
+
 first_of_six : (a d m s p t b e n r q u : List ℕ) → a ∷ d ∷ m ∷ s ∷ p ∷ t ∷ [] ≡ b ∷ e ∷ n ∷ r ∷ q ∷ u ∷ [] → a ≡ b
 first_of_six a d m s p t b e n r q u same = cc
 
@@ -66,6 +82,8 @@ words_of (Record d m s p t) = 6
 words_of (Replay d m t n o) = 6
 words_of (Compare d p) = 3
 words_of (Salvage d p) = 3
+words_of (Wrap d m o) = 4
+words_of (Sample n) = 2
 
 given_words : (words : List (List ℕ)) (c : Command) → IsGiven words c → length words ≡ words_of c
 given_words words (Dump t) g = ap (λ (xs : List (List ℕ)). length xs) g
@@ -75,6 +93,8 @@ given_words words (Record d m s p t) (g, _, _, _, _) = ap (λ (xs : List (List �
 given_words words (Replay d m t n o) (w, g, _, _, _, _) = ap (λ (xs : List (List ℕ)). length xs) g
 given_words words (Compare d p) g = ap (λ (xs : List (List ℕ)). length xs) g
 given_words words (Salvage d p) (g, _) = ap (λ (xs : List (List ℕ)). length xs) g
+given_words words (Wrap d m o) (g, _, _) = ap (λ (xs : List (List ℕ)). length xs) g
+given_words words (Sample n) (w, g, _) = ap (λ (xs : List (List ℕ)). length xs) g
 
 as_many : (words : List (List ℕ)) (c d : Command) → IsGiven words c → IsGiven words d → words_of c ≡ words_of d
 as_many words c d g h = sym (given_words words c g) ∙ given_words words d h
@@ -169,6 +189,71 @@ one_command words (Replay d m t n o) (Replay e k r q u) (w, g, is, _, _, _) (x, 
     let s = same_five (codes "replay") d m t w o e k r x u (sym g ∙ h) in
     let number : n ≡ q = some_same n q (sym is.0 ∙ ap (λ (word : List ℕ). number_of word) s.3 ∙ is'.0) in
     λ i. Replay (s.0 i) (s.1 i) (s.2 i) (number i) (s.4 i)
+one_command words (Wrap d m o) (Dump w) g h =
+    let e : 4 ≡ 2 = as_many words (Wrap d m o) (Dump w) g h in absurd (omega (arith, e))
+one_command words (Dump w) (Wrap d m o) g h =
+    let e : 2 ≡ 4 = as_many words (Dump w) (Wrap d m o) g h in absurd (omega (arith, e))
+one_command words (Wrap d m o) (Check w x) g h =
+    let e : 4 ≡ 3 = as_many words (Wrap d m o) (Check w x) g h in absurd (omega (arith, e))
+one_command words (Check w x) (Wrap d m o) g h =
+    let e : 3 ≡ 4 = as_many words (Check w x) (Wrap d m o) g h in absurd (omega (arith, e))
+one_command words (Wrap d m o) (Compare w x) g h =
+    let e : 4 ≡ 3 = as_many words (Wrap d m o) (Compare w x) g h in absurd (omega (arith, e))
+one_command words (Compare w x) (Wrap d m o) g h =
+    let e : 3 ≡ 4 = as_many words (Compare w x) (Wrap d m o) g h in absurd (omega (arith, e))
+one_command words (Wrap d m o) (Salvage w x) g h =
+    let e : 4 ≡ 3 = as_many words (Wrap d m o) (Salvage w x) g h in absurd (omega (arith, e))
+one_command words (Salvage w x) (Wrap d m o) g h =
+    let e : 3 ≡ 4 = as_many words (Salvage w x) (Wrap d m o) g h in absurd (omega (arith, e))
+one_command words (Wrap d m o) (Record w x y z t) g h =
+    let e : 4 ≡ 6 = as_many words (Wrap d m o) (Record w x y z t) g h in absurd (omega (arith, e))
+one_command words (Record w x y z t) (Wrap d m o) g h =
+    let e : 6 ≡ 4 = as_many words (Record w x y z t) (Wrap d m o) g h in absurd (omega (arith, e))
+one_command words (Wrap d m o) (Replay w x y n z) g h =
+    let e : 4 ≡ 6 = as_many words (Wrap d m o) (Replay w x y n z) g h in absurd (omega (arith, e))
+one_command words (Replay w x y n z) (Wrap d m o) g h =
+    let e : 6 ≡ 4 = as_many words (Replay w x y n z) (Wrap d m o) g h in absurd (omega (arith, e))
+one_command words (Wrap d m o) (Run e k r) (g, _, _) h =
+    absurd (run-wrap (first_of_four (codes "run") e k r (codes "wrap") d m o (sym h ∙ g)))
+one_command words (Run e k r) (Wrap d m o) g (h, _, _) =
+    absurd (run-wrap (first_of_four (codes "run") e k r (codes "wrap") d m o (sym g ∙ h)))
+one_command words (Wrap d m o) (Wrap e k r) (g, _, _) (h, _, _) =
+    let s = same_three (codes "wrap") d m o e k r (sym g ∙ h) in λ i. Wrap (s.0 i) (s.1 i) (s.2 i)
+one_command words (Sample n) (Check w x) g h =
+    let e : 2 ≡ 3 = as_many words (Sample n) (Check w x) g h in absurd (omega (arith, e))
+one_command words (Check w x) (Sample n) g h =
+    let e : 3 ≡ 2 = as_many words (Check w x) (Sample n) g h in absurd (omega (arith, e))
+one_command words (Sample n) (Run w x y) g h =
+    let e : 2 ≡ 4 = as_many words (Sample n) (Run w x y) g h in absurd (omega (arith, e))
+one_command words (Run w x y) (Sample n) g h =
+    let e : 4 ≡ 2 = as_many words (Run w x y) (Sample n) g h in absurd (omega (arith, e))
+one_command words (Sample n) (Record w x y z t) g h =
+    let e : 2 ≡ 6 = as_many words (Sample n) (Record w x y z t) g h in absurd (omega (arith, e))
+one_command words (Record w x y z t) (Sample n) g h =
+    let e : 6 ≡ 2 = as_many words (Record w x y z t) (Sample n) g h in absurd (omega (arith, e))
+one_command words (Sample n) (Replay w x y k z) g h =
+    let e : 2 ≡ 6 = as_many words (Sample n) (Replay w x y k z) g h in absurd (omega (arith, e))
+one_command words (Replay w x y k z) (Sample n) g h =
+    let e : 6 ≡ 2 = as_many words (Replay w x y k z) (Sample n) g h in absurd (omega (arith, e))
+one_command words (Sample n) (Compare w x) g h =
+    let e : 2 ≡ 3 = as_many words (Sample n) (Compare w x) g h in absurd (omega (arith, e))
+one_command words (Compare w x) (Sample n) g h =
+    let e : 3 ≡ 2 = as_many words (Compare w x) (Sample n) g h in absurd (omega (arith, e))
+one_command words (Sample n) (Salvage w x) g h =
+    let e : 2 ≡ 3 = as_many words (Sample n) (Salvage w x) g h in absurd (omega (arith, e))
+one_command words (Salvage w x) (Sample n) g h =
+    let e : 3 ≡ 2 = as_many words (Salvage w x) (Sample n) g h in absurd (omega (arith, e))
+one_command words (Sample n) (Wrap w x y) g h =
+    let e : 2 ≡ 4 = as_many words (Sample n) (Wrap w x y) g h in absurd (omega (arith, e))
+one_command words (Wrap w x y) (Sample n) g h =
+    let e : 4 ≡ 2 = as_many words (Wrap w x y) (Sample n) g h in absurd (omega (arith, e))
+one_command words (Sample n) (Dump w) (x, g, is) h =
+    absurd (dump-sample (first_of_two (codes "dump") w (codes "sample") x (sym h ∙ g)))
+one_command words (Dump w) (Sample n) g (x, h, is) =
+    absurd (dump-sample (first_of_two (codes "dump") w (codes "sample") x (sym g ∙ h)))
+one_command words (Sample n) (Sample k) (w, g, is) (x, h, is') =
+    let same : w ≡ x = second (codes "sample") w x (sym g ∙ h) in
+    ap Sample (some_same n k (sym is.0 ∙ ap (λ (word : List ℕ). number_of word) same ∙ is'.0))
 
 abbrev SameLeft : Status → Status → List ℕ → List ℕ → Option Files → Option Files → Type 0
 SameLeft a b x y left right = (a ≡ b) × (x ≡ y) × (left ≡ right)
@@ -207,6 +292,10 @@ one_deed laws (Compare trace other) files a b x y left right (d, l) (e, r) =
     kept files a b x y left right (inr (one_compare laws.reading laws.place trace other files a b x y d e)) l r
 one_deed laws (Salvage trace out) files a b x y left right d e =
     all-same a b x y left right (one_salvaged laws.salvage trace out files a b x y left right d e)
+one_deed laws (Wrap design map out) files a b x y left right d e =
+    one_wrap laws.benches.devices design map out files a b x y left right d e
+one_deed laws (Sample number) files a b x y left right (d, l) (e, r) =
+    kept files a b x y left right (one_sample laws.benches laws.replays number a b x y d e) l r
 
 pub one_answer_lem : Laws → OneAnswer
 one_answer_lem laws words files a b x y left right (inr (inl (said, _))) _ = inl said.0

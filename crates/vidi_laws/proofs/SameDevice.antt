@@ -113,7 +113,7 @@ module _ (laws : DeviceLaws) where
         (unbound-apart text d e same) (apart-unbound text d e same)
         (λ m n is is'. subst (λ (k : Map). Meet Alike (Next m) (Next k)) (one-map text d e same m n is is') (one m))
 
-    one-mapping : (m : List ℕ) (f : FileOf ℕ) → OneBy Alike (Mapping m f Next)
+    pub one-mapping : (m : List ℕ) (f : FileOf ℕ) → OneBy Alike (Mapping m f Next)
     one-mapping m f = one-step-by Alike (IsNoMap m) (λ (t : MapText). ReadsMap m (Ok t))
         (λ (text : MapText). Building text.top f (λ d. Binding text d Next))
         (λ a b x y u v. alike a b x y (no_map m a b x y u v)) (one-text m) (map-apart m)
@@ -138,7 +138,7 @@ module _ (laws : DeviceLaws) where
     building-apart (inr (d, accepted, inr (order, is, rest))) =
         binding-apart d (designs-alike laws.built device.file device.text.top d w.design accepted.1 device.accepted.1) rest
 
-    mapping-apart : Mapping m device.file Next a x → ⊥
+    pub mapping-apart : Mapping m device.file Next a x → ⊥
     mapping-apart (inl none) = map-apart m a x device.text none device.mapped
     mapping-apart (inr (text, reads, rest)) =
         building-apart

@@ -20,7 +20,7 @@ use Rattle.script_text.specs.ScriptOffer.{script_offer}
 use Rattle.env_script.specs.Offered.{offers_after}
 use Rattle.script_text.specs.OneReading.{SamePlan}
 use Rattle.vidi_io.specs.Shelf.{Files, holding}
-use Rattle.vidi_recorder.specs.Course.{Course, GatesUnder, course, plan_of, sizes_of}
+use Rattle.vidi_recorder.specs.Course.{Course, GatesUnder, course, plan_of, sizes_of, IsTheRunOf}
 use Rattle.report_text.specs.declared.reason.Word.TheVariants as words
 use Rattle.report_text.specs.declared.reason.Reason.TheVariants.{StallLine, TooSmall}
 use Rattle.report_text.specs.Reason.{reason_line}
@@ -50,7 +50,7 @@ small-once channels p q same a b x y (small, s) (small', s') =
     one-said (Refused words.Stalls (TooSmall needed p.capacity)) (reason_line words.Stalls (TooSmall needed p.capacity)) a b x y s
     (subst (λ (n : ℕ). IsRefusal words.Stalls (TooSmall needed n) b y) (sym same.0) s')
 
-recorded-once : (channels : List Channel) (rows : List Row) (stop : Option ℕ) → One (IsRecorded channels rows stop)
+pub recorded-once : (channels : List Channel) (rows : List Row) (stop : Option ℕ) → One (IsRecorded channels rows stop)
 recorded-once channels rows None a b x y u v =
     one-said Done (recorded_line (length rows) (length (packets_of channels rows))) a b x y u v
 recorded-once channels rows (Some c) a b x y u v =
@@ -84,7 +84,7 @@ module _ (laws : BenchLaws) where
   plan-apart bytes a x p (l, is, s) reads =
       no-line l (laws.plan (read_lines bytes) (Err (stall_errors.Line l)) (Ok p) is reads)
 
-  one-plan_of : (bytes : List ℕ) (p q : Stalls) → ReadsStalls (read_lines bytes) (Ok p) → ReadsStalls (read_lines bytes) (Ok q)
+  pub one-plan_of : (bytes : List ℕ) (p q : Stalls) → ReadsStalls (read_lines bytes) (Ok p) → ReadsStalls (read_lines bytes) (Ok q)
       → SamePlan p q
   one-plan_of bytes p q x y = laws.plan (read_lines bytes) (Ok p) (Ok q) x y
 
@@ -101,7 +101,7 @@ module _ (laws : BenchLaws) where
   other-plan stalls b c same a x (inr (p, reads, small)) =
       inr (p, reads, subst (λ (m : Map). IsTooSmall m.channels p a x) (sym same) small)
 
-  refused-planned : (design m script stalls : List ℕ) → OneBy Alike (RefusedPlanned design m script stalls)
+  pub refused-planned : (design m script stalls : List ℕ) → OneBy Alike (RefusedPlanned design m script stalls)
   refused-planned design m script stalls = step-meets Alike (RefusedTexts design m script) (RefusedTexts design m script)
       (IsBench design m script) (IsBench design m script) (RefusedPlan stalls) (RefusedPlan stalls)
       (one-refused_texts laws design m script)
@@ -117,17 +117,24 @@ module _ (laws : BenchLaws) where
       one-reading-by Alike alike text_limit words.Stalls stalls files (RefusedPlanned d n s) (refused-planned d n s))
 
   -- ---- which isn't there where something is recorded
+  module _ (design m script stalls : List ℕ) (b : Bench) (plan : Stalls) (bench : IsBench design m script b)
+      (planned : ReadsStalls (read_lines stalls) (Ok plan)) (holds : need (sizes_of b.device.map.channels) ≤ plan.capacity) (a : Status)
+      (x : List ℕ) where
+    pub refused-apart : RefusedPlanned design m script stalls a x → ⊥
+    refused-apart (inl refused) = texts-refused laws design m script b bench a x refused
+    refused-apart (inr (c, other, inl none)) = plan-apart stalls a x plan none planned
+    refused-apart (inr (c, other, inr (p, reads, (small, said)))) =
+        let same = same-bench laws design m script c b other bench in
+        let plans = one-plan_of stalls p plan reads planned in
+        let least = subst (λ (k : Map). need (sizes_of k.channels) ≤ plan.capacity) (sym same.device.map) holds in
+        let capacity = plans.0 in
+        omega (arith, small, least, capacity)
+
   module _ (design m script stalls : List ℕ) (files : Files) (b : Bench) (plan : Stalls)
       (is : IsPlanned design m script stalls (Some files) b plan) (a : Status) (x : List ℕ) where
     planned-apart : RefusedPlanned is.design_text is.map_text is.script_text is.stalls_text a x → ⊥
-    planned-apart (inl refused) = texts-refused laws is.design_text is.map_text is.script_text b is.bench a x refused
-    planned-apart (inr (c, bench, inl none)) = plan-apart is.stalls_text a x plan none is.planned
-    planned-apart (inr (c, bench, inr (p, reads, (small, said)))) =
-        let same = same-bench laws is.design_text is.map_text is.script_text c b bench is.bench in
-        let plans = one-plan_of is.stalls_text p plan reads is.planned in
-        let least = subst (λ (k : Map). need (sizes_of k.channels) ≤ plan.capacity) (sym same.device.map) is.holds in
-        let capacity = plans.0 in
-        omega (arith, small, least, capacity)
+    planned-apart =
+        refused-apart is.design_text is.map_text is.script_text is.stalls_text b plan is.bench is.planned is.holds a x
 
     unrecorded-apart : IsUnrecorded design m script stalls (Some files) (λ _. ⊥) a x → ⊥
     unrecorded-apart = texts-apart design m script files
@@ -159,36 +166,39 @@ module _ (laws : BenchLaws) where
   abbrev beside : Bench → Stalls → Bench → Course
   beside b p c = course c.device.design b.device.map (script_offer b.script) p b.script.cycles
 
-  recorded-beside : (b c : Bench) (p q : Stalls) → SameBench b c → SamePlan p q → (trace : List ℕ) (files : Files) (s : Status) (y : List ℕ)
-      (right : Option Files) → RecordsRun (course_of c q) trace (Some files) s y right
-      → RecordsRun (beside b p c) trace (Some files) s y right
-  recorded-beside b c p q same plans trace files s y right r =
+  pub course-beside : (P : Course → Type 0) (b c : Bench) (p q : Stalls) → SameBench b c → SamePlan p q → P (course_of c q)
+      → P (beside b p c)
+  course-beside P b c p q same plans r =
       let plan = plan-path p q plans in
       let d = c.device.design in
-      let map-there = subst (λ (k : Map). RecordsRun (course d k (script_offer c.script) q c.script.cycles) trace (Some files) s y right)
-      (sym same.device.map) r in
-      let script-there = subst (λ (k : Script). RecordsRun (course d b.device.map (script_offer k) q k.cycles) trace (Some files) s y right)
-      (sym same.script) map-there in
-      subst (λ (k : Plan). RecordsRun (record {
+      let map-there = subst (λ (k : Map). P (course d k (script_offer c.script) q c.script.cycles)) (sym same.device.map) r in
+      let script-there = subst (λ (k : Script). P (course d b.device.map (script_offer k) q k.cycles)) (sym same.script) map-there in
+      subst (λ (k : Plan). P (record {
         design = c.device.design;
         bound = b.device.map;
         offers = offers_after b.device.map.channels (script_offer b.script);
         plan = k;
         cycles = b.script.cycles;
-      }) trace (Some files) s y right) plan script-there
+      })) plan script-there
+
+  pub run-once : (b c : Bench) (p : Stalls) → SameBench b c → (rows others : List Row) (stop end : Option ℕ)
+      → IsTheRunOf (course_of b p) rows stop → IsTheRunOf (beside b p c) others end → (others ≡ rows) × (end ≡ stop)
+  run-once b c p same rows others stop end run run' =
+      let channels = b.device.map.channels in
+      let offers = offers_after channels (script_offer b.script) in
+      let gates = GatesUnder channels (plan_of p) in
+      let theirs = (the-runs_alike b.device.design c.device.design same.device.ready.lawful same.device.designs b.device.map offers gates
+      b.script.cycles others end).1 run' in
+      one-end_of b.device.design b.device.map same.device.ready offers gates
+      (λ before are g h. one-set (sizes_of channels) (plan_of p) before (length before) g h)
+      b.script.cycles others rows end stop theirs run
 
   runs-once : (b c : Bench) (p : Stalls) → SameBench b c → (trace : List ℕ) (files : Files) (s t : Status) (x y : List ℕ)
       (left right : Option Files) → RecordsRun (course_of b p) trace (Some files) s x left
       → RecordsRun (beside b p c) trace (Some files) t y right → LeftAlike s t x y left right
   runs-once b c p same trace files s t x y left right (rows, stop, (run, leaves), said) (others, end, (run', leaves'), said') =
       let channels = b.device.map.channels in
-      let offers = offers_after channels (script_offer b.script) in
-      let gates = GatesUnder channels (plan_of p) in
-      let theirs = (the-runs_alike b.device.design c.device.design same.device.ready.lawful same.device.designs b.device.map offers gates
-      b.script.cycles others end).1 run' in
-      let one = one-end_of b.device.design b.device.map same.device.ready offers gates
-      (λ before are g h. one-set (sizes_of channels) (plan_of p) before (length before) g h)
-      b.script.cycles others rows end stop theirs run in
+      let one = run-once b c p same rows others stop end run run' in
       let told = subst (λ (o : Option ℕ). IsRecorded channels rows o t y) one.1
       (subst (λ (rs : List Row). IsRecorded channels rs end t y) one.0 said') in (
         alike s t x y (recorded-once channels rows stop s t x y said told),
@@ -207,4 +217,4 @@ module _ (laws : BenchLaws) where
   one_record design m script stalls trace files a b x y left right (inr (c, p, planned, records)) (inr (e, q, planned', records')) =
       let same = planned-once design m script stalls files c e p q planned planned' in
       runs-once c e p same.0 trace files a b x y left right records
-      (recorded-beside c e p q same.0 same.1 trace files b y right records')
+      (course-beside (λ (w : Course). RecordsRun w trace (Some files) b y right) c e p q same.0 same.1 records')

@@ -77,7 +77,7 @@ module _ (law : DrivenAlike) (d e : Design) (lawful : IsLawful d) (same : AreAli
   )
 
 -- ---- what is said
-said-once : (t u : Trace) (n : ℕ) (o : ReplayOutcome) → One (IsReplaySaid t u n o)
+pub said-once : (t u : Trace) (n : ℕ) (o : ReplayOutcome) → One (IsReplaySaid t u n o)
 said-once t u n (outcomes.Ended cycles) a b x y v w = one-verdict (replayed_line cycles) t u a b x y v w
 said-once t u n (outcomes.Short helds events) a b x y v w =
     one-said (Short helds events) (short_lines helds events n t.channels) a b x y v w
@@ -89,7 +89,7 @@ abbrev LeavesReplay : Design → Map → Trace → ℕ → List ℕ → Option F
 LeavesReplay d m t n out files status text left = (rows : List Row) × (outcome : ReplayOutcome) × EndsAs d m t.packets n rows outcome
     × IsReplaySaid t (trace_of m.channels rows) n outcome status text × (left ≡ holding files out (encode (trace_of m.channels rows)))
 
-fits : (t : Trace) (bytes : List ℕ) (channels : List Channel) → Encodes t bytes → t.channels ≡ channels → ContentsFit channels t.packets
+pub fits : (t : Trace) (bytes : List ℕ) (channels : List Channel) → Encodes t bytes → t.channels ≡ channels → ContentsFit channels t.packets
 fits t bytes channels encodes same = subst (λ (cs : List Channel). ContentsFit cs t.packets) same encodes.0.well_formed.packets
 
 module _ (laws : ReplayLaws) where
@@ -99,7 +99,7 @@ module _ (laws : ReplayLaws) where
       (one-decoding laws.reading laws.place words.Trace bytes (λ t. HasOtherChannels words.Trace m.channels t.channels)
       (λ t. one-other words.Trace m.channels t.channels) a b x y u v)
 
-  one-refused_replay : (design m trace : List ℕ) → OneBy Alike (RefusedReplay design m trace)
+  pub one-refused_replay : (design m trace : List ℕ) → OneBy Alike (RefusedReplay design m trace)
   one-refused_replay design m trace = one-wiring laws.devices (RefusedTrace trace) (one-refused_trace trace) design m
 
   unreplayed : (design m trace : List ℕ) (files : Files) → OneBy Alike (IsUnreplayed design m trace (Some files) (λ _. ⊥))
@@ -118,11 +118,15 @@ module _ (laws : ReplayLaws) where
       let table : u.channels ≡ m.channels = ap (λ (k : Trace). k.channels) (laws.reading bytes u t encodes' encodes) ∙ same in
       other (ap (λ (cs : List Channel). slice_get cs at) (sym table))
 
+  pub refused-apart : (design m trace : List ℕ) (v : Device) (t : Trace) → IsDevice design m v → Encodes t trace
+      → t.channels ≡ v.map.channels → (a : Status) (x : List ℕ) → RefusedReplay design m trace a x → ⊥
+  refused-apart design m trace v t device encodes same a x =
+      wiring-apart laws.devices design m v device (RefusedTrace trace) a x (trace-apart trace v.map t encodes same a x)
+
   module _ (design m trace : List ℕ) (files : Files) (v : Device) (t : Trace) (is : IsReplayable design m trace (Some files) v t)
       (a : Status) (x : List ℕ) where
     replay-apart : RefusedReplay is.design_text is.map_text is.trace_bytes a x → ⊥
-    replay-apart = wiring-apart laws.devices is.design_text is.map_text v is.device (RefusedTrace is.trace_bytes) a x
-        (trace-apart is.trace_bytes v.map t is.encodes is.same a x)
+    replay-apart = refused-apart is.design_text is.map_text is.trace_bytes v t is.device is.encodes is.same a x
 
     unreplayed-apart : IsUnreplayed design m trace (Some files) (λ _. ⊥) a x → ⊥
     unreplayed-apart = reading-apart text_limit words.Design design files
@@ -148,13 +152,19 @@ module _ (laws : ReplayLaws) where
         laws.reading x.trace_bytes t u x.encodes encodes,
       )
 
+  pub ends-once : (v w : Device) (t : Trace) → SameDevice v w → ContentsFit v.map.channels t.packets → (n : ℕ) (rows others : List Row)
+      (outcome other : ReplayOutcome) → EndsAs v.design v.map t.packets n rows outcome → EndsAs w.design v.map t.packets n others other
+      → (others ≡ rows) × (other ≡ outcome)
+  ends-once v w t same fit n rows others outcome other ends ends' =
+      let theirs = ends-too laws.driven v.design w.design same.ready.lawful same.designs v.map t.packets n others other ends' in
+      (laws.outcome v.design v.map same.ready t.packets fit n).1 others rows other outcome theirs ends
+
   leaves-once : (v w : Device) (t : Trace) → SameDevice v w → ContentsFit v.map.channels t.packets → (n : ℕ) (out : List ℕ) (files : Files)
       (a b : Status) (x y : List ℕ) (left right : Option Files) → LeavesReplay v.design v.map t n out (Some files) a x left
       → LeavesReplay w.design v.map t n out (Some files) b y right → LeftAlike a b x y left right
   leaves-once v w t same fit n out files a b x y left right (rows, outcome, ends, said, leaves) (others, other, ends', said', leaves') =
       let channels = v.map.channels in
-      let theirs = ends-too laws.driven v.design w.design same.ready.lawful same.designs v.map t.packets n others other ends' in
-      let one = (laws.outcome v.design v.map same.ready t.packets fit n).1 others rows other outcome theirs ends in
+      let one = ends-once v w t same fit n rows others outcome other ends ends' in
       let told = subst (λ (o : ReplayOutcome). IsReplaySaid t (trace_of channels rows) n o b y) one.1
       (subst (λ (rs : List Row). IsReplaySaid t (trace_of channels rs) n other b y) one.0 said') in (
         alike a b x y (said-once t (trace_of channels rows) n outcome a b x y said told),

@@ -1,6 +1,10 @@
--- What the trace of a recording holds, when its run is the one that `run` prints, and what holds of every replay.
-use Rattle.std.specs.Prelude.{◌≡◌, ℕ, ◌≤◌, Bool, true, false, List, Option, None, Some, All, length, slice_get}
+-- What the trace of a recording holds, when its run is the one that `run` prints, what holds of every run and every replay, and what is
+-- read of a wrapped design.
+use Rattle.std.specs.Prelude.{◌≡◌, ℕ, ◌<◌, ◌≤◌, Bool, true, false, List, Option, Some, All, length, slice_get}
+use Rattle.vidi_bits.specs.Number.{has}
 use Rattle.vidi_io.specs.Shelf.{Files}
+use Rattle.vlog_tree.specs.Tree.{FileOf}
+use Rattle.vlog_tree.specs.Lines.{bare}
 use Rattle.trace_model.specs.declared.channel.Channel.{Channel}
 use Rattle.trace_model.specs.declared.channel.Dir.{Dir}
 use Rattle.trace_model.specs.declared.channel.Dir.TheVariants.{Inward, Outward}
@@ -8,7 +12,7 @@ use Rattle.trace_model.specs.declared.packet.Packet.{Packet}
 use Rattle.trace_model.specs.declared.row.Row.{Row}
 use Rattle.trace_model.specs.declared.trace.Trace.{Trace}
 use Rattle.trace_model.specs.Recording.{packets_of, trace_of}
-use Rattle.trace_code.specs.Encoding.{HasEncoding}
+use Rattle.trace_code.specs.Encoding.{HasEncoding, encode}
 use Rattle.trace_compare.specs.declared.report.Finding.{Finding}
 use Rattle.trace_compare.specs.declared.report.What.{What}
 use Rattle.trace_compare.specs.declared.report.What.TheVariants.{Differs, ExtraStart, ExtraEnd, EarlyStart, EarlyEnd}
@@ -18,18 +22,27 @@ use Rattle.run_model.specs.Laws.{AreInOrder, ContentsStay}
 use Rattle.replay_run.specs.declared.outcome.ReplayOutcome.{ReplayOutcome}
 use Rattle.replay_run.specs.declared.outcome.ReplayOutcome.TheVariants.{Ended, Short, Unstable}
 use Rattle.replay_run.specs.Replaying.{GoesInNoCircle}
+use Rattle.chan_map.specs.declared.pins.Map.{Map}
+use Rattle.shim_trees.specs.Wrapped.{wrapped}
 use Rattle.script_text.specs.declared.script.TheConstants.{MOST_CYCLES}
 use Rattle.script_text.specs.ScriptOffer.{script_offer}
 use Rattle.script_text.specs.declared.stalls.Stalls.{Stalls}
-use Rattle.bench_run.specs.declared.plain.Spot.{Spot}
-use Rattle.bench_run.specs.Plain.{IsPlainRun}
-use Rattle.vidi_recorder.specs.Course.{IsTheRunOf}
+use Rattle.room_ledger.specs.Gates.{used_at}
+use Rattle.room_ledger.specs.Laws.{EverythingDrains}
+use Rattle.bench_run.specs.declared.plain.PlainRun.{PlainRun}
+use Rattle.bench_run.specs.Plain.{spot_behind, IsPlainRun}
+use Rattle.vidi_recorder.specs.Course.{plan_of, sizes_of, IsRunOf, IsTheRunOf}
 use Rattle.vidi_recorder.specs.Laws.{IsKept}
 use Rattle.vidi_recorder.specs.ScriptLaws.{DrainsAll}
 use Rattle.vidi_commands.specs.declared.bench.Bench.{Bench}
 use Rattle.vidi_commands.specs.declared.device.Device.{Device}
+use Rattle.vidi_commands.specs.Benches.{IsBench}
+use Rattle.vidi_commands.specs.Design.{Spells}
 use Rattle.vidi_commands.specs.Records.{course_of, IsPlanned}
 use Rattle.vidi_commands.specs.Replays.{IsReplayable, IsTheReplay}
+use Rattle.vidi_commands.specs.Shims.{file_text}
+use Rattle.vidi_commands.specs.Traces.{trace_limit}
+use Rattle.vidi_commands.specs.Wraps.{IsWrappable}
 
 -- Whatever the accepted design, script and store stalls, the trace of the run holds each channel's started and completed transactions,
 -- with contents, once and in order, and has an encoding.
@@ -38,18 +51,38 @@ RecordedRunIsKept = (design map script stalls : List ℕ) (files : Option Files)
     → IsPlanned design map script stalls files b plan → (rows : List Row) (stop : Option ℕ) → IsTheRunOf (course_of b plan) rows stop
     → IsKept b.device.map.channels rows
 
--- where a run of these rows ends before an unstable one
-abbrev pub spot_behind : List Row → Option ℕ → Option Spot
-spot_behind rows None = None
-spot_behind rows (Some channel) = Some (record { channel = channel; cycle = length rows })
+-- that trace isn't too long to be read again
+abbrev pub RecordedTraceIsShort : Type 0
+RecordedTraceIsShort = (design map script stalls : List ℕ) (files : Option Files) (b : Bench) (plan : Stalls)
+    → IsPlanned design map script stalls files b plan → (rows : List Row) (stop : Option ℕ) → IsTheRunOf (course_of b plan) rows stop
+    → length (encode (trace_of b.device.map.channels rows)) ≤ trace_limit
 
--- under a plan each of whose lines drains everything, the rows that are recorded are those of `run`
+-- where everything drains after each row, the rows that are recorded are those of `run`
 abbrev pub DrainedRecordingIsTheRun : Type 0
 DrainedRecordingIsTheRun = (design map script stalls : List ℕ) (files : Option Files) (b : Bench) (plan : Stalls)
-    → IsPlanned design map script stalls files b plan → DrainsAll plan
+    → IsPlanned design map script stalls files b plan
     → (rows : List Row) (stop : Option ℕ) → IsTheRunOf (course_of b plan) rows stop
+    → EverythingDrains (sizes_of b.device.map.channels) (plan_of plan) rows
     → IsPlainRun b.device.design b.device.map (script_offer b.script) b.script.cycles
     (record { rows = rows; unstable = spot_behind rows stop })
+
+-- so it does where each line of the plan lets out all that the store can hold
+abbrev pub WidePlanDrains : Type 0
+WidePlanDrains = (design map script stalls : List ℕ) (files : Option Files) (b : Bench) (plan : Stalls)
+    → IsPlanned design map script stalls files b plan → DrainsAll plan
+    → (rows : List Row) → EverythingDrains (sizes_of b.device.map.channels) (plan_of plan) rows
+
+-- a gate is down in row t only where bytes wait
+abbrev pub RecordingHidesNoGate : Type 0
+RecordingHidesNoGate = (design map script stalls : List ℕ) (files : Option Files) (b : Bench) (plan : Stalls)
+    → IsPlanned design map script stalls files b plan → (rows : List Row) → IsRunOf (course_of b plan) rows
+    → (t c : ℕ) (row : Row) → slice_get rows t ≡ Some row → c < length b.device.map.channels → has row.gates c ≡ false
+    → 0 < used_at (sizes_of b.device.map.channels) (plan_of plan) rows t
+
+-- in the run that `run` prints each transaction's content in the row of its completion is that of its start
+abbrev pub PrintedRunKeepsContents : Type 0
+PrintedRunKeepsContents = (design map script : List ℕ) (b : Bench) → IsBench design map script b → (run : PlainRun)
+    → IsPlainRun b.device.design b.device.map (script_offer b.script) b.script.cycles run → ContentsStay b.device.map.channels run.rows
 
 -- where the replay is short, the lists name exactly what it holds back, with what that awaits, and what it waits for
 abbrev pub AreNamed : List Channel → List Packet → List Row → ReplayOutcome → Type 0
@@ -87,3 +120,8 @@ abbrev pub ReplayIsFaithful : Type 0
 ReplayIsFaithful = (design map trace : List ℕ) (files : Option Files) (v : Device) (t : Trace)
     → IsReplayable design map trace files v t → (n : ℕ) → n ≤ MOST_CYCLES → (rows : List Row) (outcome : ReplayOutcome)
     → IsTheReplay v t n rows outcome → IsFaithful v.map.channels t.packets rows outcome
+
+-- what is read of the text that `wrap` writes, as `check` reads a design, is the wrapped tree; lines don't count
+abbrev pub WrappedIsReadBack : Type 0
+WrappedIsReadBack = (design map : List ℕ) (files : Option Files) (f : FileOf ℕ) (m : Map) → IsWrappable design map files f m
+    → (g : FileOf ℕ) → Spells (file_text (wrapped f m)) g → bare g ≡ bare (wrapped f m)

@@ -1,7 +1,7 @@
 //! Laws of the definitions.
 
 ghost use Rattle.vidi_laws.specs.Alike.{BuiltAlike};
-ghost use Rattle.vidi_laws.specs.Headline.{DrainedRecordingIsTheRun, RecordedRunIsKept, ReplayIsFaithful};
+ghost use Rattle.vidi_laws.specs.Headline.{DrainedRecordingIsTheRun, RecordedRunIsKept, ReplayIsFaithful, WrappedIsReadBack};
 ghost use Rattle.vidi_laws.specs.OneAnswer.{OneAnswer};
 
 use chan_map::{one_binding, one_map_text};
@@ -52,7 +52,7 @@ pub fn recorded_run_is_kept()
     ensures { RecordedRunIsKept }
 {}
 
-/// Under a plan each of whose lines drains everything, `record` plays the run that `run` prints.
+/// Where everything drains after each row, `record` plays the run that `run` prints.
 pub fn drained_recording_is_the_run()
     ensures { DrainedRecordingIsTheRun }
 {}
@@ -62,3 +62,13 @@ pub fn drained_recording_is_the_run()
 pub fn replay_is_faithful()
     ensures { ReplayIsFaithful }
 {}
+
+/// What is read of the text that `wrap` writes is the wrapped tree: the design's modules, the monitors, the replayers and the tops. Lines
+/// don't count.
+pub fn wrapped_is_read_back()
+    ensures { WrappedIsReadBack }
+{
+    vlog_lex::one_reading();
+    vlog_parse::one_file();
+    vlog_parse::lined_files_are_files()
+}

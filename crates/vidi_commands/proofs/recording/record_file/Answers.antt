@@ -18,7 +18,8 @@ returns-clause-ended g c =
     c.new-sink.ensures.fresh was c.new-sink.ensures.name reads) in
     if-ends c.record_run.result c.record_run.ensures.ok (λ o ends d s row runs.
     ends-in-file (course d c.args.map.now (g.E.Env.offer (g.E.Env.plan c.args.env.now)) c.args.plan.now c.args.cycles)
-    (g.E.Env.stands_for c.record_run.new.env) sink.started made.started files (F.files sink.shelf.now) (F.files made.shelf.now) _ to
+    (g.S.Shell.runs c.record_run.new.shell) (g.E.Env.stands_for c.record_run.new.env) sink.started made.started files
+    (F.files sink.shelf.now) (F.files made.shelf.now) _ to
     sink.name.now made.name.now (F.read_faults sink.shelf.now) before o c.new-sink.ensures.fresh was c.new-sink.ensures.name
     (ap F.files (c.shelf-1.given.1 cc)) over (ends d s row runs))
 
@@ -35,12 +36,13 @@ returns-clause-failed g c =
     let over = c.record_run.ensures.frame (frame to files before)
     (fresh-over made.started files (F.files made.shelf.now) made.name.now to (F.read_faults made.shelf.now) before
     c.new-sink.ensures.fresh was c.new-sink.ensures.name reads) in
-    if-fails c.record_run.result c.record_run.ensures.err (λ e is fails d s row runs.
+    if-fails c.record_run.result c.record_run.ensures.err (λ e is fails d s row runs lawful.
     fails-in-file (course d c.args.map.now (g.E.Env.offer (g.E.Env.plan c.args.env.now)) c.args.plan.now c.args.cycles)
-    (g.E.Env.stands_for c.record_run.new.env) sink.started made.started files (F.files sink.shelf.now) (F.files made.shelf.now) _ to
+    (g.S.Shell.runs c.record_run.new.shell) (g.E.Env.stands_for c.record_run.new.env) sink.started made.started files
+    (F.files sink.shelf.now) (F.files made.shelf.now) _ to
     sink.name.now made.name.now (F.read_faults sink.shelf.now) before e c.new-sink.ensures.fresh was c.new-sink.ensures.name
     (ap F.files (c.shelf-1.given.1 cc)) over (fails d s row runs)
-    (λ memory. ap (λ k. F.files k.shelf.now) (c.record_run.ensures.memory (is ∙ ap Err memory)).2 ∙ was))
+    (λ memory. ap (λ k. F.files k.shelf.now) (c.record_run.ensures.memory (is ∙ ap Err memory)).2 ∙ was) lawful)
 
 pub returns-clause-counts : goal.returns-clause-counts
 returns-clause-counts g c =

@@ -1,5 +1,6 @@
-use Rattle.std.proofs.Common.{ℕ, None}
+use Rattle.std.proofs.Common.{ℕ, None, subst, sym}
 use Rattle.net_design.specs.declared.design.Design.{Design}
+use Rattle.net_design.specs.Lawful.{IsLawful}
 use Rattle.script_text.specs.declared.script.Script.{Script}
 use Rattle.script_text.specs.ScriptOffer.{script_offer}
 use Rattle.vidi_recorder.specs.Course.{course}
@@ -26,4 +27,5 @@ returns-clause-failed g c =
     (g.S.Shelf.files c.args.shelf.now) c.args.trace.now (g.S.Shelf.files c.record_file.new.shelf) e)
     c.in_ok-sim.sim.design c.args.design c.in_ok-env.env.script.now c.args.script.now c.cycles.result c.args.script.now.cycles
     c.in_ok-sim.ensures.design c.in_ok-env.ensures.plan c.cycles.ensures
-    (fails c.in_ok-sim.sim.design _ None c.in_ok-shell.ensures.runs))
+    (fails c.in_ok-sim.sim.design _ None c.in_ok-shell.ensures.runs
+    (subst IsLawful (sym c.in_ok-sim.ensures.design) c.requires.lawful)))

@@ -1,12 +1,14 @@
-use Rattle.std.proofs.Common.{ℕ, List, inr}
+use Rattle.std.proofs.Common.{ℕ, List, inr, refl}
 use Rattle.vidi_io.specs.Cause.{Rose}
 use Rattle.vidi_commands.specs.Answer.{Earns, Stops}
 use Rattle.vidi_commands.specs.Checks.{Checks}
-use Rattle.vidi_commands.specs.Command.{Check, Compare, Dump, IsGiven, Record, Replay, Run, Salvage}
+use Rattle.vidi_commands.specs.Command.{Check, Compare, Dump, IsGiven, Record, Replay, Run, Salvage, Sample, Wrap}
 use Rattle.vidi_commands.specs.Records.{Records, StopsRecording}
 use Rattle.vidi_commands.specs.Replays.{Replays, StopsReplaying}
 use Rattle.vidi_commands.specs.Runs.{Runs}
+use Rattle.vidi_commands.specs.Samples.{Samples}
 use Rattle.vidi_commands.specs.Traces.{Compares, Dumps, Saves, StopsSaving}
+use Rattle.vidi_commands.specs.Wraps.{StopsWrapping, Wraps}
 use Rattle.vidi_commands.proofs.Chain.{owed, owed-as}
 use Rattle.vidi_commands.proofs.top.answer_to.Goals as goal
 
@@ -113,3 +115,30 @@ returns-in-Some-Salvage-clause-owed g c =
     owed-as (Saves trace out files F) (Earns words files F) (StopsSaving trace out files) (Stops words files)
     (Rose (S.write_faults c.args.shelf.now) (S.write_faults c.salvage.new.shelf)) files left c.salvage.result
     (λ a x is. inr (inr (Salvage trace out, given, is))) (λ cut. (Salvage trace out, given, cut)) c.salvage.ensures.owed
+
+pub returns-in-Some-Wrap-clause-owed : goal.returns-in-Some-Wrap-clause-owed
+returns-in-Some-Wrap-clause-owed g c =
+    let S = g.S.Shelf in
+    let words = c.args.words.now in
+    let files = S.files c.args.shelf.now in
+    let left = S.files c.wrap.new.shelf in
+    let F = λ (name : List ℕ). Rose (S.read_faults c.args.shelf.now name) (S.read_faults c.wrap.new.shelf name) in
+    let design = c.in-Some-Wrap.design.now in
+    let map = c.in-Some-Wrap.map.now in
+    let out = c.in-Some-Wrap.out.now in
+    let given : IsGiven words (Wrap design map out) = rw c.in-Some-Wrap.field-0-is at c.in-Some-Wrap.ensures in
+    owed-as (Wraps design map out files F) (Earns words files F) (StopsWrapping design map out files) (Stops words files)
+    (Rose (S.write_faults c.args.shelf.now) (S.write_faults c.wrap.new.shelf)) files left c.wrap.result
+    (λ a x is. inr (inr (Wrap design map out, given, is))) (λ cut. (Wrap design map out, given, cut)) c.wrap.ensures.owed
+
+pub returns-in-Some-Sample-clause-owed : goal.returns-in-Some-Sample-clause-owed
+returns-in-Some-Sample-clause-owed g c =
+    let S = g.S.Shelf in
+    let words = c.args.words.now in
+    let files = S.files c.args.shelf.now in
+    let F = λ (name : List ℕ). Rose (S.read_faults c.args.shelf.now name) (S.read_faults c.args.shelf.now name) in
+    let number = c.in-Some-Sample.number in
+    let given : IsGiven words (Sample number) = rw c.in-Some-Sample.field-0-is at c.in-Some-Sample.ensures in
+    owed (Samples number) (Earns words files F) (Stops words files)
+    (Rose (S.write_faults c.args.shelf.now) (S.write_faults c.args.shelf.now)) files files c.sample.result refl
+    (λ a x is. inr (inr (Sample number, given, (is, refl)))) c.sample.ensures

@@ -1,17 +1,18 @@
-use Rattle.std.proofs.Common.{◌≡◌, List, [], ◌∷◌, ℕ, sym, ◌∙◌, ap, codes, subst}
+use Rattle.std.proofs.Common.{◌≡◌, List, [], ◌∷◌, ℕ, sym, ◌∙◌, subst}
 use Rattle.std.specs.Prelude.{MatchOption}
-use Rattle.std.specs.Cmp.Lexicographic.{same_text}
 use Rattle.vidi_commands.specs.Command.{Command, IsGiven, plain}
 use Rattle.vidi_commands.proofs.WordLists.{two, three, six}
 use Rattle.vidi_commands.proofs.command.Command.of.Goals as goal
 
 pub returns-in-len2 : goal.returns-in-len2
 returns-in-len2 c =
-    let shape = two c.as_slice.result.now c.name-item.result c.trace-item.result c.in-len2.len_at_least c.in-len2.len_below c.name-item.is
-    c.trace-item.is in
-    let name = same_text _ _ (sym c.if-eq.true ∙ c.eq.ensures) in
-    sym c.as_slice.ensures ∙ shape ∙ ap (λ (x : List ℕ). x ∷ c.trace-item.result ∷ []) (sym c.as_str.ensures ∙ name)
-    ∙ ap (λ (x : List ℕ). codes "dump" ∷ x ∷ []) (sym c.as_str-in-len2.ensures)
+    let shape = two c.as_slice.result.now c.name-item.result c.part-item.result c.in-len2.len_at_least c.in-len2.len_below c.name-item.is
+    c.part-item.is in
+    let parts : c.as_str.result.now ∷ c.as_str-in-len2.result.now ∷ [] ≡ c.name-item.result ∷ c.part-item.result ∷ [] =
+    λ i. c.as_str.ensures i ∷ c.as_str-in-len2.ensures i ∷ [] in
+    let whole : c.as_str.result.now ∷ c.as_str-in-len2.result.now ∷ [] ≡ c.args.words.now = parts ∙ sym shape ∙ c.as_slice.ensures in
+    subst (λ (ws : List (List ℕ)). MatchOption c.of_one.result ((k : Command) → ¬ IsGiven ws k) (λ k. IsGiven ws (plain k))) whole
+    c.of_one.ensures
 
 pub returns-in-len3 : goal.returns-in-len3
 returns-in-len3 c =
@@ -28,12 +29,12 @@ returns-in-len3 c =
 pub returns-in-len6 : goal.returns-in-len6
 returns-in-len6 c =
     let shape = six c.as_slice.result.now c.name-item-then-this-lt7.result c.design-item.result c.map-item.result c.script-item.result
-    c.stalls-item.result c.trace-item-then-this-lt7.result c.in-len6.len_at_least c.in-len6.len_below c.name-item-then-this-lt7.is
-    c.design-item.is c.map-item.is c.script-item.is c.stalls-item.is c.trace-item-then-this-lt7.is in
+    c.stalls-item.result c.trace-item.result c.in-len6.len_at_least c.in-len6.len_below c.name-item-then-this-lt7.is
+    c.design-item.is c.map-item.is c.script-item.is c.stalls-item.is c.trace-item.is in
     let parts : c.as_str-in-len6.result.now ∷ c.as_str-in-len6-2.result.now ∷ c.as_str-in-len6-3.result.now
     ∷ c.as_str-in-len6-4.result.now ∷ c.as_str-in-len6-5.result.now ∷ c.as_str-in-len6-6.result.now ∷ []
     ≡ c.name-item-then-this-lt7.result ∷ c.design-item.result ∷ c.map-item.result
-    ∷ c.script-item.result ∷ c.stalls-item.result ∷ c.trace-item-then-this-lt7.result ∷ [] =
+    ∷ c.script-item.result ∷ c.stalls-item.result ∷ c.trace-item.result ∷ [] =
     λ i. c.as_str-in-len6.ensures i ∷ c.as_str-in-len6-2.ensures i ∷ c.as_str-in-len6-3.ensures i
     ∷ c.as_str-in-len6-4.ensures i ∷ c.as_str-in-len6-5.ensures i ∷ c.as_str-in-len6-6.ensures i ∷ [] in
     let whole : c.as_str-in-len6.result.now ∷ c.as_str-in-len6-2.result.now ∷ c.as_str-in-len6-3.result.now

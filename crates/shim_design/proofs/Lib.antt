@@ -1,0 +1,12 @@
+pub mod Elements
+pub mod Scopes
+pub mod Declared
+pub mod Whole
+pub mod Standing
+pub mod Part
+pub mod PortNets
+pub mod FlatPart
+pub mod Beside
+pub mod Maps
+pub mod Initial
+pub mod Memories

@@ -1,0 +1,5 @@
+pub mod Part
+pub mod FlatPart
+pub mod Maps
+pub mod Plain
+pub mod Nets

@@ -1,0 +1,4 @@
+pub mod Wrapped
+pub mod Ports
+pub mod Recording
+pub mod Replaying

@@ -1,0 +1,6 @@
+//! Lock step of the shims' Verilog with monitors and replayers (this project's profile).
+#![tactic(auto)]
+
+mod laws;
+
+pub use laws::{recording_steps, replaying_steps};

@@ -1,0 +1,39 @@
+//! Laws of runs and of the replay: they exist, they are one, and what holds of them.
+
+ghost use Rattle.vidi_laws.specs.Headline.{PrintedRunKeepsContents, RecordedTraceIsShort, RecordingHidesNoGate, WidePlanDrains};
+ghost use Rattle.vidi_laws.specs.OneRun.{OnePrintedRun, OneRecording, OneReplayOfFiles};
+
+/// For accepted files there is exactly one run of each number of rows behind the store, and exactly one run that `record` writes.
+pub fn one_recording()
+    ensures { OneRecording }
+{}
+
+/// For accepted files there is exactly one run of each number of rows with all gates up, and exactly one that `run` prints.
+pub fn one_printed_run()
+    ensures { OnePrintedRun }
+{}
+
+/// For accepted files there is exactly one replay of at most so many cycles, which ends in one way.
+pub fn one_replay_of_files()
+    ensures { OneReplayOfFiles }
+{}
+
+/// The trace of the run that `record` writes isn't longer than a trace that is read.
+pub fn recorded_trace_is_short()
+    ensures { RecordedTraceIsShort }
+{}
+
+/// In a recording a gate is down only while bytes wait in the store.
+pub fn recording_hides_no_gate()
+    ensures { RecordingHidesNoGate }
+{}
+
+/// Under a plan each of whose lines lets out all that the store can hold, everything drains after each row.
+pub fn wide_plan_drains()
+    ensures { WidePlanDrains }
+{}
+
+/// In the run that `run` prints each transaction completes with the content of its start.
+pub fn printed_run_keeps_contents()
+    ensures { PrintedRunKeepsContents }
+{}
