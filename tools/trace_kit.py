@@ -1,0 +1,89 @@
+"""The bytes of a trace, and what it means: docs/FILES.md, "The bytes of a trace" and "replay"."""
+from tool_kit import Problem
+
+
+class Table:
+    """A channel of a trace: its name, whether it is inward, and the widths of its contents."""
+
+    def __init__(self, name, is_inward, widths):
+        self.name, self.is_inward, self.widths = name, is_inward, widths
+
+
+class Bytes:
+    """Bytes that are read from the front."""
+
+    def __init__(self, content):
+        self.content, self.at = content, 0
+
+    def take(self, count):
+        """The next bytes."""
+        if self.at + count > len(self.content):
+            raise Problem("the trace ends early")
+        self.at += count
+        return self.content[self.at - count:self.at]
+
+    def number(self, count=1):
+        """The next bytes as a number."""
+        return int.from_bytes(self.take(count), "big")
+
+
+def decoded(content):
+    """The channels, and the packets as (starts with contents by name, names of those that end)."""
+    source, packets = Bytes(content), []
+    if source.take(8) != b"VIDITRC1":
+        raise Problem("the trace has no header")
+    channels = []
+    for _ in range(source.number()):
+        is_inward = source.number() == 0
+        name = source.take(source.number()).decode()
+        channels.append(Table(name, is_inward, list(source.take(source.number()))))
+    size = (len(channels) + 7) // 8
+    while source.number() == 1:
+        starts, ends = (int.from_bytes(source.take(size), "little") for _ in range(2))
+        started = {channel.name: [source.number((width + 7) // 8) for width in channel.widths]
+                   for at, channel in enumerate(channels) if starts >> at & 1}
+        packets.append((started, [channel.name for at, channel in enumerate(channels) if ends >> at & 1]))
+    if source.number(4) != len(packets) or source.at != len(content):
+        raise Problem("the trace has no end mark")
+    return channels, packets
+
+
+def encoded(channels, packets):
+    """The bytes of a trace with these channels and packets."""
+    out, size = bytearray(b"VIDITRC1") + bytes([len(channels)]), (len(channels) + 7) // 8
+    for channel in channels:
+        out += bytes([not channel.is_inward, len(channel.name)]) + channel.name.encode() + bytes([len(channel.widths), *channel.widths])
+    for started, ended in packets:
+        starts = sum(1 << at for at, channel in enumerate(channels) if channel.name in started)
+        ends = sum(1 << at for at, channel in enumerate(channels) if channel.name in ended)
+        out += b"\1" + starts.to_bytes(size, "little") + ends.to_bytes(size, "little")
+        for channel in channels:
+            for width, number in zip(channel.widths, started.get(channel.name, [])):
+                out += number.to_bytes((width + 7) // 8, "big")
+    return bytes(out + b"\0" + len(packets).to_bytes(4, "big"))
+
+
+def drawn(draw, channels, count):
+    """Packets by chance: on each channel starts and completions by turns."""
+    flying, packets = set(), []
+    for _ in range(count):
+        started = {channel.name: [draw.getrandbits(width) for width in channel.widths]
+                   for channel in channels if channel.name not in flying and draw.random() < 0.4}
+        ended = [channel.name for channel in channels if channel.name in flying | set(started) and draw.random() < 0.6]
+        flying = (flying | set(started)) - set(ended)
+        packets += [(started, ended)] if started or ended else []
+    return packets
+
+
+def histories(names, packets):
+    """For each channel its starts, as (content, clock), and its completions, as clocks. A clock is the list of all channels' completions in
+    the packets before."""
+    done, starts, ends = {name: 0 for name in names}, {name: [] for name in names}, {name: [] for name in names}
+    for started, ended in packets:
+        clock = list(done.values())
+        for name, content in started.items():
+            starts[name].append((content, clock))
+        for name in ended:
+            ends[name].append(clock)
+            done[name] += 1
+    return starts, ends
