@@ -11,6 +11,4 @@ mod given;
 #[cfg(test)]
 mod plain_tests;
 #[cfg(test)]
-mod recorder_tests;
-#[cfg(test)]
 mod run_tests;
