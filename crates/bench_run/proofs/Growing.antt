@@ -23,7 +23,7 @@ use Rattle.script_text.specs.Offer.{Offer, Carries, FitsOffer}
 use Rattle.chan_monitor.specs.Shell.{IsShown}
 use Rattle.env_script.specs.Offered.{offers_after, offers_on, AllFit}
 use Rattle.env_script.proofs.OfferLaws.{carries-each}
-use Rattle.bench_run.specs.Plain.{GoesOn, IsBreak, IsPlainRun, StandsWithin}
+use Rattle.bench_run.specs.Plain.{GoesOn, IsBreak, IsPlainRun, IsRunAllUp, StandsBehind, StandsWithin}
 
 -- ---- the row before
 before-append : (rows : List Row) (row : Row) (t : ℕ) → t ≤ length rows → row_before (rows ++ row ∷ []) t ≡ row_before rows t
@@ -193,3 +193,8 @@ before-over channels rows over (suc n) before e = over n before (sym e)
 pub if-error : {T E P Q : Type 0} (r : Result T E) → OnErr r P → (P → Q) → OnErr r Q
 if-error (Ok x) p then = tt
 if-error (Err e) p then = then p
+
+-- ---- the block that the shell borrows
+pub stands-behind : (state : Values) (d : Design) (m n : Map) (offer : List Row → ℕ → Offer) (rows : List Row) (run : IsRunAllUp d m offer rows)
+    → m ≡ n → state ≡ run.driven.state (length rows) → StandsBehind state d n offer rows
+stands-behind state d m n offer rows run e is = subst (λ (k : Map). StandsBehind state d k offer rows) e (run, sym is)

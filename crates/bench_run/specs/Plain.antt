@@ -45,6 +45,10 @@ pub record StandsWithin (stands_for : List Row → Type 0) (d : Design) (m : Map
 abbrev pub GoesOn : (Design → Values → Option Row → Type 0) → Design → Map → (List Row → ℕ → Offer) → List Row → Type 0
 GoesOn runs d m offer rows = (run : IsRunAllUp d m offer rows) × runs d (run.driven.state (length rows)) (row_before rows (length rows))
 
+-- the rows are such a run's, and this is the state behind them
+abbrev pub StandsBehind : Values → Design → Map → (List Row → ℕ → Offer) → List Row → Type 0
+StandsBehind state d m offer rows = (run : IsRunAllUp d m offer rows) × (run.driven.state (length rows) ≡ state)
+
 -- the lowest channel on which a row is unstable after the row before it, or none; a row with none before it is stable
 abbrev pub IsBreak : List Channel → Option Row → Row → Option ℕ → Type 0
 IsBreak channels None now None = Unit {0}

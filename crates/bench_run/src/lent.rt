@@ -1,13 +1,13 @@
 //! Blocks that are borrowed.
 
-ghost use Rattle.std.specs.Prelude.{◌≡◌};
+ghost use Rattle.std.specs.Prelude.{◌≡◌, Some};
 
 use net_design::Block;
 
 /// A block that is borrowed, as a block.
 #[derive(Drop)]
 pub struct Lent<'a, B: Block> {
-    block: &'a mut B,
+    pub(crate) block: &'a mut B,
 }
 
 impl<'a, B: Block> Lent<'a, B> {
@@ -28,6 +28,8 @@ impl<'a, B: Block> Block for Lent<'a, B> {
     ghost inputs = { λ s. B.inputs s.block.now };
 
     ghost shown = { λ s. B.shown s.block.now };
+
+    ghost place = { λ s. Some s.block.ghost_name };
 
     fn settle(&mut self, pins: &[u128]) {
         self.block.settle(pins);

@@ -11,7 +11,7 @@ ghost use Rattle.run_model.specs.MapOf.{IsMapOf};
 ghost use Rattle.run_model.specs.Played.{all_up};
 ghost use Rattle.chan_monitor.specs.Shell.{IsRunning, IsShown};
 ghost use Rattle.env_script.specs.Offered.{offers_on, AllFit};
-ghost use Rattle.bench_run.specs.Plain.{GoesOn, IsBreak, IsPlainRun, StandsWithin};
+ghost use Rattle.bench_run.specs.Plain.{GoesOn, IsBreak, IsPlainRun, StandsBehind, StandsWithin};
 ghost use Rattle.script_text.specs.declared.script.TheConstants.{MOST_CYCLES};
 
 use crate::lent::Lent;
@@ -105,6 +105,7 @@ fn next_row<S: Shell, E: Env>(
         → S.runs shell.new d s before) }
     ensures driven { IfOk result (λ row. S.driven shell.new row) }
     ensures map { S.map shell.new ≡ S.map shell.old }
+    ensures place { S.place shell.new ≡ S.place shell.old }
     ensures places { length offers.new.contents ≡ length (all_widths channels.now) }
 {
     let mut row = row_for(alloc, offers)?;
@@ -131,6 +132,7 @@ fn run_shell<S: Shell, E: Env>(
         → IsPlainRun d (S.map shell.old) (E.offer (E.plan env.old)) cycles run) }
     ensures behind { IfOk result (λ run. (d : Design) (s : Values) (before : Option OneRow) → S.runs shell.old d s before
         → GoesOn (S.runs shell.new) d (S.map shell.old) (E.offer (E.plan env.old)) run.rows) }
+    ensures place { S.place shell.new ≡ S.place shell.old }
     ensures stands { IfOk result (λ run. E.stands_for env.new run.rows) }
     ensures plan { E.plan env.new ≡ E.plan env.old }
     ensures channels { E.channels env.new ≡ E.channels env.old }
@@ -160,7 +162,7 @@ fn run_shell<S: Shell, E: Env>(
 /// the block's design is its net k, as in every lawful design; the map is a map of it, and the environment is over the map's
 /// channels and stands for no row yet.
 ///
-/// The rows are those of *IsRun*, and end before the first unstable one; the environment stands for them afterwards. With
+/// The rows are those of *IsRun*, and end before the first unstable one; the environment and the block stand behind them afterwards. With
 /// `Memory`, where no memory was found, it is as at entry, or stands for the first rows of that run.
 pub fn run_plain<B: Block, E: Env>(
     alloc: Global,
@@ -176,6 +178,8 @@ pub fn run_plain<B: Block, E: Env>(
     requires some { 1 ≤ cycles }
     requires few { cycles ≤ MOST_CYCLES }
     ensures run { IfOk result (λ run. IsPlainRun (B.design block.old) map.now (E.offer (E.plan env.old)) cycles run) }
+    ensures design { IfOk result (λ run. B.design block.new ≡ B.design block.old) }
+    ensures behind { IfOk result (λ run. StandsBehind (B.state block.new) (B.design block.old) map.now (E.offer (E.plan env.old)) run.rows) }
     ensures stands { IfOk result (λ run. E.stands_for env.new run.rows) }
     ensures plan { E.plan env.new ≡ E.plan env.old }
     ensures channels { E.channels env.new ≡ E.channels env.old }
@@ -183,5 +187,8 @@ pub fn run_plain<B: Block, E: Env>(
         ⊎ StandsWithin (E.stands_for env.new) (B.design block.old) map.now (E.offer (E.plan env.old)) cycles) }
 {
     let mut shell = Machines::new(alloc, Lent::new(block), map)?;
-    run_shell(alloc, &mut shell, map.channels(), env, cycles)
+    let run = run_shell(alloc, &mut shell, map.channels(), env, cycles);
+    // The borrow ends, with the block as the shell leaves it.
+    let Lent { block: _back } = shell.into_block();
+    run
 }

@@ -94,6 +94,7 @@ fn run_cycles<B: Block>(block: &mut B, pins: &[u128], cycles: u32)
     requires { FitPins (B.design block.old) pins.now }
     ensures state { IsAfter (B.design block.old) pins.now cycles (B.state block.old) (B.state block.new) }
     ensures design { B.design block.new ≡ B.design block.old }
+    ensures place { B.place block.new ≡ B.place block.old }
 {
     for _ in 0..cycles {
         block.settle(pins);
@@ -108,6 +109,7 @@ fn run_reset<B: Block>(block: &mut B, pins: &mut [u128], map: &Map)
     requires loaded { B.state block.old ≡ initial (B.design block.old) }
     ensures first { IsFirst (B.design block.old) map.now (B.state block.new) }
     ensures design { B.design block.new ≡ B.design block.old }
+    ensures place { B.place block.new ≡ B.place block.old }
 {
     let Some(reset) = &map.reset else {
         return;
@@ -123,6 +125,7 @@ pub(crate) fn restart<B: Block>(block: &mut B, pins: &mut [u128], map: &Map)
     ensures first { IsFirst (B.design block.old) map.now (B.state block.new) }
     ensures held { AreHeld (B.design block.old) map.now pins.new }
     ensures design { B.design block.new ≡ B.design block.old }
+    ensures place { B.place block.new ≡ B.place block.old }
 {
     block.load();
     run_reset(block, pins, map);
@@ -149,6 +152,7 @@ pub(crate) fn settle_offers<B: Block>(
     ensures settled { IsSettled (B.design block.old) (B.state block.old) pins.new (B.shown block.new) }
     ensures state { B.state block.new ≡ B.state block.old }
     ensures design { B.design block.new ≡ B.design block.old }
+    ensures place { B.place block.new ≡ B.place block.old }
 {
     let channels = map.channels.as_slice();
     enter(

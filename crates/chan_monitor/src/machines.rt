@@ -41,6 +41,7 @@ impl<'a, B: Block + Drop> Machines<'a, B> {
             (B.design block) (B.state block) None) }
         ensures undriven { IfOk result (λ shell. shell.shown ≡ None) }
         ensures map { IfOk result (λ shell. shell.map.now ≡ map.now) }
+        ensures place { IfOk result (λ shell. B.place shell.block ≡ B.place block) }
     {
         let mut pins = pins_for(alloc, map)?;
         let monitors = monitors_for(alloc, map.channels.len())?;
@@ -53,6 +54,14 @@ impl<'a, B: Block + Drop> Machines<'a, B> {
             shown: None,
         })
     }
+
+    /// The block, without its monitors.
+    pub fn into_block(self) -> B
+        ensures { result ≡ self.entry.block }
+    {
+        let Machines { block, .. } = self;
+        block
+    }
 }
 
 impl<'a, B: Block> Shell for Machines<'a, B> {
@@ -61,6 +70,8 @@ impl<'a, B: Block> Shell for Machines<'a, B> {
     ghost map = { λ s. s.map.now };
 
     ghost runs = { λ s d state before. IsAround (B.design s.block) (B.state s.block) s.map.now s.pins s.monitors d state before };
+
+    ghost place = { λ s. B.place s.block };
 
     ghost driven = { λ s row. IsDriven (B.design s.block) (B.state s.block) (B.inputs s.block) (B.shown s.block) s.map.now s.shown row };
 

@@ -1,6 +1,7 @@
 //! Shells: designs that run behind the gates of their channels.
 
 ghost use Rattle.std.specs.Prelude.{◌≡◌, ◌<◌, ◌^◌, ℕ, Option, length};
+ghost use Rattle.std.specs.Borrow.{GName};
 ghost use Rattle.run_model.specs.Offers.{AreZeroWhileDown};
 ghost use Rattle.trace_model.specs.declared.row.Row.{Row};
 ghost use Rattle.trace_model.specs.Row.{AreOffers};
@@ -25,13 +26,17 @@ pub trait Shell {
     /// The last `drive` filled this row, and there was no `clock` and no `reset` since.
     ghost driven: { Self → Row → Type 0 };
 
+    /// The borrow that the design runs through, where there is one.
+    ghost place: { Self → Option GName };
+
     /// Loads the design and runs the map's reset cycles. The next cycle begins in s_0 with no channel in flight, whatever was
     /// before.
     fn reset(&mut self)
         ensures first { (d : Design) (s : Values) (before : Option Row) → runs self.old d s before
             → (first : Values) × IsFirst d (map self.old) first × runs self.new d first None }
         ensures undriven { (row : Row) → ¬ driven self.new row }
-        ensures map { map self.new ≡ map self.old };
+        ensures map { map self.new ≡ map self.old }
+        ensures place { place self.new ≡ place self.old };
 
     /// Settles everything for these offers and gates, and fills the row: it is the row of *IsRun*. Bit c of a mask is channel
     /// c. An inward channel's content is 0 while its valid is down; an outward channel's numbers in the offers are passed over.
@@ -45,7 +50,8 @@ pub trait Shell {
             → IsShown d (map self.old) s before offers.now gates row.new }
         ensures runs { (d : Design) (s : Values) (before : Option Row) → runs self.old d s before → runs self.new d s before }
         ensures driven { driven self.new row.new }
-        ensures map { map self.new ≡ map self.old };
+        ensures map { map self.new ≡ map self.old }
+        ensures place { place self.new ≡ place self.old };
 
     /// Commits the cycle of the last `drive`, since which there was no `clock` and no `reset`: the state becomes the next one,
     /// and in flight is what is in flight after the row.
@@ -54,7 +60,8 @@ pub trait Shell {
         ensures next { (d : Design) (s : Values) (before : Option Row) (row : Row) → runs self.old d s before
             → driven self.old row → (after : Values) × IsStep d (map self.old) s row after × runs self.new d after (Some row) }
         ensures undriven { (row : Row) → ¬ driven self.new row }
-        ensures map { map self.new ≡ map self.old };
+        ensures map { map self.new ≡ map self.old }
+        ensures place { place self.new ≡ place self.old };
 
     /// It runs some design.
     ghost running: { (shell : Self) → ∥ IsRunning (runs shell) ∥₁ };

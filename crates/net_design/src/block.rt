@@ -1,6 +1,7 @@
 //! Blocks: designs that run.
 
-ghost use Rattle.std.specs.Prelude.{◌≡◌, ℕ, ◌<◌, List, slice_index};
+ghost use Rattle.std.specs.Prelude.{◌≡◌, ℕ, ◌<◌, List, Option, slice_index};
+ghost use Rattle.std.specs.Borrow.{GName};
 ghost use Rattle.net_design.specs.declared.design.Design.{Design};
 ghost use Rattle.net_design.specs.declared.values.Values.{Values};
 ghost use Rattle.net_design.specs.Settled.{IsSettled, initial, next};
@@ -23,6 +24,9 @@ pub trait Block {
     /// The map whose outputs are shown.
     ghost shown: { Self → Values };
 
+    /// The borrow that the block runs through, where there is one.
+    ghost place: { Self → Option GName };
+
     /// Settles the design with these inputs, one number for each input port in port order, of which the clock's is 0
     /// (IEEE 1364-2005, 6.1 and 9.7.5).
     fn settle(&mut self, pins: &[u128])
@@ -31,7 +35,8 @@ pub trait Block {
         ensures only { (v : Values) → IsSettled (design self.new) (state self.new) pins.now v → v ≡ shown self.new }
         ensures inputs { inputs self.new ≡ pins.now }
         ensures state { state self.new ≡ state self.old }
-        ensures design { design self.new ≡ design self.old };
+        ensures design { design self.new ≡ design self.old }
+        ensures place { place self.new ≡ place self.old };
 
     /// The settled number of an output port; the output ports are counted from 0 in port order.
     fn pin(&self, port: usize) -> u128
@@ -44,13 +49,15 @@ pub trait Block {
         ensures state { (v : Values) → IsSettled (design self.old) (state self.old) (inputs self.old) v
             → state self.new ≡ next (design self.old) v (state self.old) }
         ensures inputs { inputs self.new ≡ inputs self.old }
-        ensures design { design self.new ≡ design self.old };
+        ensures design { design self.new ≡ design self.old }
+        ensures place { place self.new ≡ place self.old };
 
     /// Makes the state the initial one and the last inputs 0 (IEEE 1364-2005, 6.2.1).
     fn load(&mut self)
         ensures state { state self.new ≡ initial (design self.old) }
         ensures inputs { inputs self.new ≡ no_pins (design self.old) }
-        ensures design { design self.new ≡ design self.old };
+        ensures design { design self.new ≡ design self.old }
+        ensures place { place self.new ≡ place self.old };
 
     /// Each state settles in one way with all fitting inputs.
     ghost one_map: { (block : Self) → HasOneMap (design block) };

@@ -1,6 +1,6 @@
 //! A design that runs.
 
-ghost use Rattle.std.specs.Prelude.{◌≡◌, ℕ, ◌+◌, ◌<◌, ◌≤◌, ◌++◌, List, IsTrue, IfOk, MatchOption, length, slice_index, reverse};
+ghost use Rattle.std.specs.Prelude.{◌≡◌, ℕ, ◌+◌, ◌<◌, ◌≤◌, ◌++◌, List, None, IsTrue, IfOk, MatchOption, length, slice_index, reverse};
 ghost use Rattle.net_design.specs.declared.design.Direction.TheVariants.{Output};
 ghost use Rattle.net_design.specs.Settled.{initial, word_count};
 ghost use Rattle.net_design.specs.Lawful.{IsLawful, IsState};
@@ -128,6 +128,8 @@ impl Block for Sim {
     ghost inputs = { λ sim. sim.pins };
 
     ghost shown = { λ sim. shown_in sim.design (through sim.places sim.slots) };
+
+    ghost place = { λ sim. None };
 
     ghost one_map = { λ sim. known_one sim.design sim.lawful sim.order.drivers sim.ordered };
 

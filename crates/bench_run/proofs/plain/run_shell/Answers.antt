@@ -21,6 +21,7 @@ loop-cycle-init g c =
           going-first (g.S.Shell.runs c.reset.new.self) d m (g.E.Env.offer (g.E.Env.plan c.args.env.now)) _ first.0 first.1 first.2
           c.new-rows.ensures);
       map = c.reset.ensures.map;
+      place = c.reset.ensures.place;
       stands = subst (g.E.Env.stands_for c.args.env.now) (sym c.new-rows.ensures) c.requires.first;
       plan = refl;
       channels = refl;
@@ -74,6 +75,7 @@ loop-cycle-preserved g c =
           (subst (λ (xs : List Channel). IsBreak xs there row None) c.requires.channels c.in_default.ensures)
           c.in_ok-push.ensures.ok);
       map = c.clock.ensures.map ∙ c.next_row.ensures.map ∙ inv.map;
+      place = c.clock.ensures.place ∙ c.next_row.ensures.place ∙ inv.place;
       stands = subst (g.E.Env.stands_for c.commit.new.self) (sym c.in_ok-push.ensures.ok) (c.commit.ensures.rows rows inv.stands);
       plan = c.commit.ensures.plan ∙ inv.plan;
       channels = c.commit.ensures.channels ∙ inv.channels;

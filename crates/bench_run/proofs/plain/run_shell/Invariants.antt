@@ -11,6 +11,7 @@ invariant-loop-cycle g l = record {
   run : (d : Design) (s : Values) (before : Option Row) → g.S.Shell.runs l.fn.shell d s before
       → Going (g.S.Shell.runs l.shell) d (g.S.Shell.map l.fn.shell) (g.E.Env.offer (g.E.Env.plan l.fn.env)) l.rows;
   map : g.S.Shell.map l.shell ≡ g.S.Shell.map l.fn.shell;
+  place : g.S.Shell.place l.shell ≡ g.S.Shell.place l.fn.shell;
   stands : g.E.Env.stands_for l.env l.rows;
   plan : g.E.Env.plan l.env ≡ g.E.Env.plan l.fn.env;
   channels : g.E.Env.channels l.env ≡ g.E.Env.channels l.fn.env;
