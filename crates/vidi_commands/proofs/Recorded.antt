@@ -1,5 +1,5 @@
 -- From a recording into a file to the answer of `record`.
-use Rattle.std.proofs.Common.{◌≡◌, ℕ, List, Option, None, Some, Result, Ok, Err, length, inr, sym, ap, subst, ◌∙◌}
+use Rattle.std.proofs.Common.{◌≡◌, ℕ, List, Option, None, Some, Result, Ok, Err, length, inl, inr, sym, ap, subst, ◌∙◌}
 use Rattle.std.specs.Prelude.{IfOk, IfErr}
 use Rattle.script_text.specs.declared.stalls.Stalls.{Stalls}
 use Rattle.vidi_io.specs.Shelf.{Files}
@@ -37,20 +37,27 @@ told-recorded w files left trace (outcomes.Unstable channel cycle packets) cycle
   (said.0 ∙ ap (λ (n : ℕ). Unstable channel n) is, said.1 ∙ ap (λ (n : ℕ). unstable_line w.bound.channels channel n) is),
 )
 
+-- a file that is as before, of which as much is known besides
+short-knowing : (w : Course) (files left : Option Files) (trace : List ℕ) (U V : Type 0) → (U → V) → IsCutShort w files trace U left
+    → IsCutShort w files trace V left
+short-knowing w files left trace U V known (inl (same, is)) = inl (same, known is)
+short-knowing w files left trace U V known (inr held) = inr held
+
 -- what is owed for a recording that was planned
 pub recorded-owed : (design map script stalls trace : List ℕ) (files now left : Option Files) (F : List ℕ → Type 0) (b : Bench)
-    (plan : Stalls) (V W : Type 0) (r : Result Answer Ended) → now ≡ files → IsPlanned design map script stalls files b plan → (V → W)
-    → IfOk r (λ a. RecordsRun (course_of b plan) trace now a.status (text_of a.text) left)
-    → IfErr r (IsStopped (IsCutShort (course_of b plan) now trace) V now left)
-    → Owes (Records design map script stalls trace files F) (StopsRecording design map script stalls trace files) W files left r
-recorded-owed design map script stalls trace files now left F b plan V W (Ok a) same planned why run stopped =
+    (plan : Stalls) (V W X Y : Type 0) (r : Result Answer Ended) → now ≡ files → IsPlanned design map script stalls files b plan → (V → W)
+    → (X → Y) → IfOk r (λ a. RecordsRun (course_of b plan) trace now a.status (text_of a.text) left)
+    → IfErr r (IsStopped (IsCutShort (course_of b plan) now trace X) V now left)
+    → Owes (Records design map script stalls trace files F) (StopsRecording design map script stalls trace files Y) W files left r
+recorded-owed design map script stalls trace files now left F b plan V W X Y (Ok a) same planned why kept run stopped =
     inr (b, plan, planned, subst (λ (fs : Option Files). RecordsRun (course_of b plan) trace fs a.status (text_of a.text) left) same run)
-recorded-owed design map script stalls trace files now left F b plan V W (Err (ends.Refused a)) same planned why run stopped = absurd stopped
-recorded-owed design map script stalls trace files now left F b plan V W (Err ends.WriteFault) same planned why run (failed, cut) =
-    (why failed, (b, plan, planned, subst (λ (fs : Option Files). IsCutShort (course_of b plan) fs trace left) same cut))
-recorded-owed design map script stalls trace files now left F b plan V W (Err ends.Memory) same planned why run kept = kept ∙ same
+recorded-owed design map script stalls trace files now left F b plan V W X Y (Err (ends.Refused a)) same planned why kept run stopped =
+    absurd stopped
+recorded-owed design map script stalls trace files now left F b plan V W X Y (Err ends.WriteFault) same planned why kept run (failed, cut) =
+    let known = short-knowing (course_of b plan) now left trace X Y kept cut in
+    (why failed, (b, plan, planned, subst (λ (fs : Option Files). IsCutShort (course_of b plan) fs trace Y left) same known))
+recorded-owed design map script stalls trace files now left F b plan V W X Y (Err ends.Memory) same planned why kept run stays = stays ∙ same
 
 -- at what a design, a script and a number of cycles are
-pub at-these : {D S : Type 0} (P : D → S → ℕ → Type 0) (d e : D) (s t : S) (n k : ℕ) → d ≡ e → s ≡ t → n ≡ k → P d s n → P e t k
-at-these {D} {S} P d e s t n k p q r is =
-    subst (λ (m : ℕ). P e t m) r (subst (λ (u : S). P e u n) q (subst (λ (f : D). P f s n) p is))
+pub at-these : {S : Type 0} (P : S → ℕ → Type 0) (s t : S) (n k : ℕ) → s ≡ t → n ≡ k → P s n → P t k
+at-these {S} P s t n k q r is = subst (λ (m : ℕ). P t m) r (subst (λ (u : S). P u n) q is)

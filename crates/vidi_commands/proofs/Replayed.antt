@@ -2,8 +2,10 @@
 use Rattle.std.proofs.Common.{◌≡◌, ℕ, List, Option, Result, Ok, Err, inr, sym, subst, ◌∙◌}
 use Rattle.std.specs.Prelude.{IfOk, IfErr}
 use Rattle.trace_model.specs.declared.trace.Trace.{Trace}
-use Rattle.trace_code.specs.Encoding.{Encodes}
+use Rattle.trace_model.specs.Recording.{trace_of}
+use Rattle.trace_code.specs.Encoding.{Encodes, encode}
 use Rattle.vidi_io.specs.Shelf.{Files}
+use Rattle.vidi_io.proofs.Cut.{cut-knowing}
 use Rattle.vidi_commands.specs.declared.answer.Answer.{Answer}
 use Rattle.vidi_commands.specs.declared.answer.Ended.{Ended}
 use Rattle.vidi_commands.specs.declared.answer.Ended.TheVariants as ends
@@ -43,13 +45,14 @@ bytes-encode b (Err e) same encodes = tt
 
 -- what is owed for what can be replayed
 pub replayed-owed : (design map trace : List ℕ) (n : ℕ) (out : List ℕ) (files now left : Option Files) (F : List ℕ → Type 0) (v : Device)
-    (t : Trace) (V W : Type 0) (r : Result Answer Ended) → now ≡ files → IsReplayable design map trace files v t → (V → W)
+    (t : Trace) (V W X Y : Type 0) (r : Result Answer Ended) → now ≡ files → IsReplayable design map trace files v t → (V → W) → (X → Y)
     → IfOk r (λ a. ReplaysTrace v t n out now a.status (text_of a.text) left)
-    → IfErr r (IsStopped (CutsReplay v t n out now) V now left)
-    → Owes (Replays design map trace n out files F) (StopsReplaying design map trace n out files) W files left r
-replayed-owed design map trace n out files now left F v t V W (Ok a) same is why replayed stopped =
+    → IfErr r (IsStopped (CutsReplay v t n out now X) V now left)
+    → Owes (Replays design map trace n out files F) (StopsReplaying design map trace n out files Y) W files left r
+replayed-owed design map trace n out files now left F v t V W X Y (Ok a) same is why kept replayed stopped =
     inr (v, t, is, subst (λ (fs : Option Files). ReplaysTrace v t n out fs a.status (text_of a.text) left) same replayed)
-replayed-owed design map trace n out files now left F v t V W (Err (ends.Refused a)) same is why replayed stopped = absurd stopped
-replayed-owed design map trace n out files now left F v t V W (Err ends.WriteFault) same is why replayed (failed, cut) =
-    (why failed, (v, t, is, subst (λ (fs : Option Files). CutsReplay v t n out fs left) same cut))
-replayed-owed design map trace n out files now left F v t V W (Err ends.Memory) same is why replayed kept = kept ∙ same
+replayed-owed design map trace n out files now left F v t V W X Y (Err (ends.Refused a)) same is why kept replayed stopped = absurd stopped
+replayed-owed design map trace n out files now left F v t V W X Y (Err ends.WriteFault) same is why kept replayed (failed, (rows, outcome, run, cut)) =
+    let known = cut-knowing now left out (encode (trace_of v.map.channels rows)) X Y kept cut in
+    (why failed, (v, t, is, subst (λ (fs : Option Files). CutsReplay v t n out fs Y left) same (rows, outcome, run, known)))
+replayed-owed design map trace n out files now left F v t V W X Y (Err ends.Memory) same is why kept replayed stays = stays ∙ same

@@ -6,6 +6,7 @@ use Rattle.trace_code.specs.Encoding.{end_mark}
 use Rattle.trace_code.specs.Salvage.{SalvagesFront}
 use Rattle.vidi_io.specs.Shelf.{Files, holding}
 use Rattle.vidi_io.specs.Writing.{IsCutOff}
+use Rattle.vidi_io.proofs.Cut.{cut-knowing}
 use Rattle.vidi_commands.specs.declared.answer.Answer.{Answer}
 use Rattle.vidi_commands.specs.declared.answer.Ended.{Ended}
 use Rattle.vidi_commands.specs.declared.answer.Ended.TheVariants as ends
@@ -21,26 +22,27 @@ use Rattle.vidi_commands.specs.Traces.{trace_limit, Saves, StopsSaving}
 abbrev ended_front : List ℕ → Whole → List ℕ
 ended_front file whole = take whole.len file ++ end_mark whole.packets
 
-pub saved-owed : (trace out : List ℕ) (files now left : Option Files) (F : List ℕ → Type 0) (file : List ℕ) (whole : Whole) (V W : Type 0)
-    (r : Result Answer Ended) → IsRead trace_limit trace files file → SalvagesFront file (Ok whole) → now ≡ files → (V → W)
+pub saved-owed : (trace out : List ℕ) (files now left : Option Files) (F : List ℕ → Type 0) (file : List ℕ) (whole : Whole) (V W X Y : Type 0)
+    (r : Result Answer Ended) → IsRead trace_limit trace files file → SalvagesFront file (Ok whole) → now ≡ files → (V → W) → (X → Y)
     → IfOk r (λ a. IsSaid Done (salvaged_line whole.packets) a.status (text_of a.text))
     → IfOk r (λ a. left ≡ holding now out (ended_front file whole))
-    → IfErr r (IsStopped (IsCutOff now out (ended_front file whole)) V now left)
-    → Owes (Saves trace out files F) (StopsSaving trace out files) W files left r
-saved-owed trace out files now left F file whole V W (Ok a) read (t, front) same why said holds stopped = inr (
+    → IfErr r (IsStopped (IsCutOff now out (ended_front file whole) X) V now left)
+    → Owes (Saves trace out files F) (StopsSaving trace out files Y) W files left r
+saved-owed trace out files now left F file whole V W X Y (Ok a) read (t, front) same why kept said holds stopped = inr (
   t,
   (file, read, front.salvaged),
   (said.0, said.1 ∙ ap (λ (n : ℕ). salvaged_line n) front.packets),
   holds ∙ ap (λ (fs : Option Files). holding fs out (ended_front file whole)) same ∙ ap (λ (b : List ℕ). holding files out b) front.encoded,
 )
-saved-owed trace out files now left F file whole V W (Err (ends.Refused a)) read front same why said holds stopped = absurd stopped
-saved-owed trace out files now left F file whole V W (Err ends.WriteFault) read (t, front) same why said holds (failed, cut) = (
+saved-owed trace out files now left F file whole V W X Y (Err (ends.Refused a)) read front same why kept said holds stopped = absurd stopped
+saved-owed trace out files now left F file whole V W X Y (Err ends.WriteFault) read (t, front) same why kept said holds (failed, cut) = (
   why failed,
   (
     t,
     (file, read, front.salvaged),
-    subst (λ (b : List ℕ). IsCutOff files out b left) front.encoded
-        (subst (λ (fs : Option Files). IsCutOff fs out (ended_front file whole) left) same cut),
+    subst (λ (b : List ℕ). IsCutOff files out b Y left) front.encoded
+        (subst (λ (fs : Option Files). IsCutOff fs out (ended_front file whole) Y left) same
+        (cut-knowing now left out (ended_front file whole) X Y kept cut)),
   ),
 )
-saved-owed trace out files now left F file whole V W (Err ends.Memory) read front same why said holds kept = kept ∙ same
+saved-owed trace out files now left F file whole V W X Y (Err ends.Memory) read front same why kept said holds stays = stays ∙ same

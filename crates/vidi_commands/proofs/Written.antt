@@ -4,6 +4,7 @@ use Rattle.std.specs.Prelude.{IfOk, IfErr}
 use Rattle.vlog_tree.specs.Tree.{FileOf}
 use Rattle.vidi_io.specs.Shelf.{Files, holding}
 use Rattle.vidi_io.specs.Writing.{IsCutOff}
+use Rattle.vidi_io.proofs.Cut.{cut-knowing}
 use Rattle.chan_map.specs.declared.pins.Map.{Map}
 use Rattle.chan_map.specs.declared.text.MapText.{MapText}
 use Rattle.chan_map.specs.Text.{ReadsMap}
@@ -67,13 +68,13 @@ planned-said design map files d m (Ok p) first second (f, k, is, text, channels)
 planned-said design map files d m (Err e) first second planned = tt
 
 -- ---- what is owed for what is written
-pub written-owed : (design map out : List ℕ) (files now left : Option Files) (F : List ℕ → Type 0) (p : Wrapping) (V W : Type 0)
-    (r : Result Answer Ended) → now ≡ files → IsPlanned design map files p.text p.channels → (V → W)
+pub written-owed : (design map out : List ℕ) (files now left : Option Files) (F : List ℕ → Type 0) (p : Wrapping) (V W X Y : Type 0)
+    (r : Result Answer Ended) → now ≡ files → IsPlanned design map files p.text p.channels → (V → W) → (X → Y)
     → IfOk r (λ a. IsSaid Done (wrapped_line p.channels) a.status (text_of a.text))
     → IfOk r (λ a. left ≡ holding now out p.text)
-    → IfErr r (IsStopped (IsCutOff now out p.text) V now left)
-    → Owes (Wraps design map out files F) (StopsWrapping design map out files) W files left r
-written-owed design map out files now left F p V W (Ok a) same (f, m, is, text, channels) why said holds stopped = inr (
+    → IfErr r (IsStopped (IsCutOff now out p.text X) V now left)
+    → Owes (Wraps design map out files F) (StopsWrapping design map out files Y) W files left r
+written-owed design map out files now left F p V W X Y (Ok a) same (f, m, is, text, channels) why kept said holds stopped = inr (
   f,
   m,
   is,
@@ -82,15 +83,15 @@ written-owed design map out files now left F p V W (Ok a) same (f, m, is, text, 
     holds ∙ ap (λ (fs : Option Files). holding fs out p.text) same ∙ ap (λ (b : List ℕ). holding files out b) text,
   ),
 )
-written-owed design map out files now left F p V W (Err (ends.Refused a)) same is why said holds stopped = absurd stopped
-written-owed design map out files now left F p V W (Err ends.WriteFault) same (f, m, is, text, channels) why said holds (failed, cut) = (
+written-owed design map out files now left F p V W X Y (Err (ends.Refused a)) same is why kept said holds stopped = absurd stopped
+written-owed design map out files now left F p V W X Y (Err ends.WriteFault) same (f, m, is, text, channels) why kept said holds (failed, cut) = (
   why failed,
   (
     f,
     m,
     is,
-    subst (λ (b : List ℕ). IsCutOff files out b left) text
-        (subst (λ (fs : Option Files). IsCutOff fs out p.text left) same cut),
+    subst (λ (b : List ℕ). IsCutOff files out b Y left) text
+        (subst (λ (fs : Option Files). IsCutOff fs out p.text Y left) same (cut-knowing now left out p.text X Y kept cut)),
   ),
 )
-written-owed design map out files now left F p V W (Err ends.Memory) same is why said holds kept = kept ∙ same
+written-owed design map out files now left F p V W X Y (Err ends.Memory) same is why kept said holds stays = stays ∙ same

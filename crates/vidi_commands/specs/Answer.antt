@@ -37,16 +37,17 @@ Earns words files ReadFailed status text left = (((c : Command) → ¬ IsGiven w
     ⊎ (IsSaid Memory memory_line status text × (left ≡ files))
     ⊎ ((c : Command) × IsGiven words c × Does c files ReadFailed status text left)
 
--- a write of a command's file failed, which leaves these files
-abbrev pub StopsIn : Command → Option Files → Option Files → Type 0
-StopsIn (Salvage trace out) files left = StopsSaving trace out files left
-StopsIn (Record design map script stalls trace) files left = StopsRecording design map script stalls trace files left
-StopsIn (Replay design map trace cycles out) files left = StopsReplaying design map trace cycles out files left
-StopsIn (Wrap design map out) files left = StopsWrapping design map out files left
-StopsIn _ files left = ⊥
+-- A write of a command's file failed, which leaves these files: the command's file as at entry only where no start succeeded
+-- (`Unstarted`), else a front of what it defines.
+abbrev pub StopsIn : Command → Option Files → Type 0 → Option Files → Type 0
+StopsIn (Salvage trace out) files Unstarted left = StopsSaving trace out files Unstarted left
+StopsIn (Record design map script stalls trace) files Unstarted left = StopsRecording design map script stalls trace files Unstarted left
+StopsIn (Replay design map trace cycles out) files Unstarted left = StopsReplaying design map trace cycles out files Unstarted left
+StopsIn (Wrap design map out) files Unstarted left = StopsWrapping design map out files Unstarted left
+StopsIn _ files Unstarted left = ⊥
 
-abbrev pub Stops : List (List ℕ) → Option Files → Option Files → Type 0
-Stops words files left = (c : Command) × IsGiven words c × StopsIn c files left
+abbrev pub Stops : List (List ℕ) → Option Files → Type 0 → Option Files → Type 0
+Stops words files Unstarted left = (c : Command) × IsGiven words c × StopsIn c files Unstarted left
 
 -- a front of the text of an answer that was earned was said
 abbrev pub IsBroken : (Status → List ℕ → Option Files → Type 0) → Option (List ℕ) → Option (List ℕ) → Option Files → Type 0

@@ -20,9 +20,9 @@ FileEnds w files trace left (outcomes.Whole packets) = (rows : List Row) × Leav
 FileEnds w files trace left (outcomes.Unstable channel cycle packets) = (rows : List Row) × Leaves w files trace left rows (Some channel)
     × (cycle ≡ length rows)
 
-abbrev pub FileFails : Course → Option Files → List ℕ → Option Files → RecordError → Type 0
-FileFails w files trace left errors.WriteFault = IsCutShort w files trace left
-FileFails w files trace left errors.Memory = left ≡ files
+abbrev pub FileFails : Course → Option Files → List ℕ → Type 0 → Option Files → RecordError → Type 0
+FileFails w files trace Unstarted left errors.WriteFault = IsCutShort w files trace Unstarted left
+FileFails w files trace Unstarted left errors.Memory = left ≡ files
 
 -- what is said of an outcome, after so many cycles where it is whole
 abbrev pub IsOutcome : List Channel → ℕ → Outcome → Ending

@@ -91,11 +91,12 @@ Records design map script stalls trace files ReadFailed status text left =
 
 -- ---- a write of TRACE failed
 
--- TRACE is as at entry, or holds a front of the encoding of the run's trace; the run is there, and these rows are its first
-abbrev pub IsCutShort : Course → Option Files → List ℕ → Option Files → Type 0
-IsCutShort w files trace left = (left ≡ files)
+-- TRACE is as at entry, as no start of it succeeded, or holds a front of the encoding of the run's trace; the run is there, and these
+-- rows are its first
+abbrev pub IsCutShort : Course → Option Files → List ℕ → Type 0 → Option Files → Type 0
+IsCutShort w files trace Unstarted left = ((left ≡ files) × Unstarted)
     ⊎ ((rows : List Row) × (bytes : List ℕ) × IsRunOf w rows × IsFrontOfTheRun w rows bytes × (left ≡ holding files trace bytes))
 
-abbrev pub StopsRecording : List ℕ → List ℕ → List ℕ → List ℕ → List ℕ → Option Files → Option Files → Type 0
-StopsRecording design map script stalls trace files left = (b : Bench) × (plan : Stalls)
-    × IsPlanned design map script stalls files b plan × IsCutShort (course_of b plan) files trace left
+abbrev pub StopsRecording : List ℕ → List ℕ → List ℕ → List ℕ → List ℕ → Option Files → Type 0 → Option Files → Type 0
+StopsRecording design map script stalls trace files Unstarted left = (b : Bench) × (plan : Stalls)
+    × IsPlanned design map script stalls files b plan × IsCutShort (course_of b plan) files trace Unstarted left

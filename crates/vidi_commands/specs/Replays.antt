@@ -76,10 +76,10 @@ Replays design map trace n out files ReadFailed status text left =
 
 -- ---- writing OUT was cut off
 
-abbrev pub CutsReplay : Device → Trace → ℕ → List ℕ → Option Files → Option Files → Type 0
-CutsReplay v t n out files left = (rows : List Row) × (outcome : ReplayOutcome) × IsTheReplay v t n rows outcome
-    × IsCutOff files out (encode (trace_of v.map.channels rows)) left
+abbrev pub CutsReplay : Device → Trace → ℕ → List ℕ → Option Files → Type 0 → Option Files → Type 0
+CutsReplay v t n out files Unstarted left = (rows : List Row) × (outcome : ReplayOutcome) × IsTheReplay v t n rows outcome
+    × IsCutOff files out (encode (trace_of v.map.channels rows)) Unstarted left
 
-abbrev pub StopsReplaying : List ℕ → List ℕ → List ℕ → ℕ → List ℕ → Option Files → Option Files → Type 0
-StopsReplaying design map trace n out files left =
-    (v : Device) × (t : Trace) × IsReplayable design map trace files v t × CutsReplay v t n out files left
+abbrev pub StopsReplaying : List ℕ → List ℕ → List ℕ → ℕ → List ℕ → Option Files → Type 0 → Option Files → Type 0
+StopsReplaying design map trace n out files Unstarted left =
+    (v : Device) × (t : Trace) × IsReplayable design map trace files v t × CutsReplay v t n out files Unstarted left

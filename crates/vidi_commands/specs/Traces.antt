@@ -79,5 +79,5 @@ Saves trace out files ReadFailed status text left = (IsUnsaved trace files ReadF
     × (left ≡ holding files out (encode t)))
 
 -- writing OUT was cut off
-abbrev pub StopsSaving : List ℕ → List ℕ → Option Files → Option Files → Type 0
-StopsSaving trace out files left = (t : Trace) × IsWhole trace files t × IsCutOff files out (encode t) left
+abbrev pub StopsSaving : List ℕ → List ℕ → Option Files → Type 0 → Option Files → Type 0
+StopsSaving trace out files Unstarted left = (t : Trace) × IsWhole trace files t × IsCutOff files out (encode t) Unstarted left

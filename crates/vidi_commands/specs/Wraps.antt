@@ -80,9 +80,9 @@ Wraps design map out files ReadFailed status said left =
 
 -- ---- writing OUT was cut off
 
-abbrev pub CutsWrap : FileOf ℕ → Map → List ℕ → Option Files → Option Files → Type 0
-CutsWrap f m out files left = IsCutOff files out (file_text (wrapped f m)) left
+abbrev pub CutsWrap : FileOf ℕ → Map → List ℕ → Option Files → Type 0 → Option Files → Type 0
+CutsWrap f m out files Unstarted left = IsCutOff files out (file_text (wrapped f m)) Unstarted left
 
-abbrev pub StopsWrapping : List ℕ → List ℕ → List ℕ → Option Files → Option Files → Type 0
-StopsWrapping design map out files left =
-    (f : FileOf ℕ) × (m : Map) × IsWrappable design map files f m × CutsWrap f m out files left
+abbrev pub StopsWrapping : List ℕ → List ℕ → List ℕ → Option Files → Type 0 → Option Files → Type 0
+StopsWrapping design map out files Unstarted left =
+    (f : FileOf ℕ) × (m : Map) × IsWrappable design map files f m × CutsWrap f m out files Unstarted left

@@ -54,6 +54,7 @@ pub fn read_texts<S: Shelf>(
     ensures refused { IfErr result (EndsWith (ReadTexts design.now map.now script.now (S.files shelf.old)
         (λ name. Rose (S.read_faults shelf.old name) (S.read_faults shelf.new name)) (λ _ _ _. Never))) }
     ensures files { S.files shelf.new ≡ S.files shelf.old }
+    ensures starts { S.starts shelf.new ≡ S.starts shelf.old }
     ensures counts { Later (S.read_faults shelf.old) (S.read_faults shelf.new) (S.write_faults shelf.old) (S.write_faults shelf.new) }
 {
     let design = read_file(alloc, Word::Design, design, TEXT_LIMIT, shelf)?;

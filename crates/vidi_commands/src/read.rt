@@ -32,6 +32,7 @@ pub fn read_file<S: Shelf>(
     ensures refused { IfErr result (EndsWith (IsUnread limit word name.now (S.files shelf.old)
         (λ name. Rose (S.read_faults shelf.old name) (S.read_faults shelf.new name)))) }
     ensures files { S.files shelf.new ≡ S.files shelf.old }
+    ensures starts { S.starts shelf.new ≡ S.starts shelf.old }
     ensures counts { Later (S.read_faults shelf.old) (S.read_faults shelf.new) (S.write_faults shelf.old) (S.write_faults shelf.new) }
 {
     match read_whole(alloc, shelf, name, limit) {

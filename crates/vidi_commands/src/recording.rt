@@ -38,7 +38,7 @@ use crate::status::{Reason, Status, Word};
 use chan_map::Map;
 use chan_monitor::{Machines, Shell};
 use env_script::{Env, ScriptEnv, StallError, Stalls, read_stalls};
-use net_design::Design;
+use net_design::{Block, Design};
 use net_order::Order;
 use net_sim::Sim;
 use report_text::Pad;
@@ -69,7 +69,7 @@ pub fn record<S: Shelf>(
 ) -> Result<Answer, Ended>
     ensures owed { Owes (Records design.now map.now script.now stalls.now trace.now (S.files shelf.old)
         (λ name. Rose (S.read_faults shelf.old name) (S.read_faults shelf.new name)))
-        (StopsRecording design.now map.now script.now stalls.now trace.now (S.files shelf.old))
+        (StopsRecording design.now map.now script.now stalls.now trace.now (S.files shelf.old) (S.starts shelf.new ≡ S.starts shelf.old))
         (Rose (S.write_faults shelf.old) (S.write_faults shelf.new)) (S.files shelf.old) (S.files shelf.new) result }
     ensures counts { Later (S.read_faults shelf.old) (S.read_faults shelf.new) (S.write_faults shelf.old) (S.write_faults shelf.new) }
 {
@@ -92,6 +92,7 @@ fn plan_recording<S: Shelf>(
     ensures refused { IfErr result (EndsWith (IsUnrecorded design.now map.now script.now stalls.now (S.files shelf.old)
         (λ name. Rose (S.read_faults shelf.old name) (S.read_faults shelf.new name)))) }
     ensures files { S.files shelf.new ≡ S.files shelf.old }
+    ensures starts { S.starts shelf.new ≡ S.starts shelf.old }
     ensures counts { Later (S.read_faults shelf.old) (S.read_faults shelf.new) (S.write_faults shelf.old) (S.write_faults shelf.new) }
 {
     let texts = read_texts(alloc, design, map, script, shelf)?;
@@ -165,8 +166,8 @@ fn recorded<S: Shelf>(
     requires room { planned.room ≡ fresh (sizes_of planned.bench.device.map.channels) planned.plan.capacity }
     ensures done { IfOk result (λ a. RecordsRun (course_of planned.bench planned.plan) trace.now (S.files shelf.old) a.status
         (text_of a.text) (S.files shelf.new)) }
-    ensures stopped { IfErr result (IsStopped (IsCutShort (course_of planned.bench planned.plan) (S.files shelf.old) trace.now)
-        (Rose (S.write_faults shelf.old) (S.write_faults shelf.new)) (S.files shelf.old) (S.files shelf.new)) }
+    ensures stopped { IfErr result (IsStopped (IsCutShort (course_of planned.bench planned.plan) (S.files shelf.old) trace.now
+        (S.starts shelf.new ≡ S.starts shelf.old)) (Rose (S.write_faults shelf.old) (S.write_faults shelf.new)) (S.files shelf.old) (S.files shelf.new)) }
     ensures counts { Later (S.read_faults shelf.old) (S.read_faults shelf.new) (S.write_faults shelf.old) (S.write_faults shelf.new) }
 {
     let Planned { bench, plan, room } = planned;
@@ -184,7 +185,6 @@ fn recorded<S: Shelf>(
 }
 
 /// Records the run of a design in the environment of a script.
-#[tactic(auto, using(crate::proofs::PortNets::port_nets))]
 pub fn record_sim<S: Shelf>(
     alloc: Global,
     design: Design,
@@ -204,12 +204,38 @@ pub fn record_sim<S: Shelf>(
     ensures ended { IfOk result (FileEnds (course design map.now (script_offer script.now) plan.now script.now.cycles)
         (S.files shelf.old) trace.now (S.files shelf.new)) }
     ensures failed { IfErr result (FileFails (course design map.now (script_offer script.now) plan.now script.now.cycles)
-        (S.files shelf.old) trace.now (S.files shelf.new)) }
+        (S.files shelf.old) trace.now (S.starts shelf.new ≡ S.starts shelf.old) (S.files shelf.new)) }
     ensures cause { IfErr result (FailsFor (S.write_faults shelf.old) (S.write_faults shelf.new)) }
     ensures counts { Later (S.read_faults shelf.old) (S.read_faults shelf.new) (S.write_faults shelf.old) (S.write_faults shelf.new) }
 {
     let sim = Sim::new(alloc, design, order)?;
-    let mut shell = Machines::new(alloc, sim, map)?;
+    record_block(alloc, sim, map, script, plan, room, trace, shelf)
+}
+
+/// Records the run of a block in the environment of a script.
+#[tactic(auto, using(crate::proofs::PortNets::port_nets))]
+fn record_block<B: Block + Drop, S: Shelf>(
+    alloc: Global,
+    block: B,
+    map: &Map,
+    script: &Script,
+    plan: &Stalls,
+    room: Room,
+    trace: &str,
+    shelf: &mut S,
+) -> Result<Outcome, RecordError>
+    requires lawful { IsLawful (B.design block) }
+    requires mapped { IsMapOf (B.design block) map.now }
+    requires fits { FitsChannels map.now.channels script.now }
+    requires room { room ≡ fresh (sizes_of map.now.channels) plan.now.capacity }
+    ensures ended { IfOk result (FileEnds (course (B.design block) map.now (script_offer script.now) plan.now script.now.cycles)
+        (S.files shelf.old) trace.now (S.files shelf.new)) }
+    ensures failed { IfErr result (FileFails (course (B.design block) map.now (script_offer script.now) plan.now script.now.cycles)
+        (S.files shelf.old) trace.now (S.starts shelf.new ≡ S.starts shelf.old) (S.files shelf.new)) }
+    ensures cause { IfErr result (FailsFor (S.write_faults shelf.old) (S.write_faults shelf.new)) }
+    ensures counts { Later (S.read_faults shelf.old) (S.read_faults shelf.new) (S.write_faults shelf.old) (S.write_faults shelf.new) }
+{
+    let mut shell = Machines::new(alloc, block, map)?;
     let mut env = ScriptEnv::new(alloc, script, map)?;
     record_file(
         alloc,
@@ -246,7 +272,8 @@ fn record_file<S: Shell, E: Env, F: Shelf>(
     ensures ended { IfOk result (λ outcome. (d : Design) (s : Values) (before : Option OneRow) → S.runs shell.old d s before
         → FileEnds (course d map.now (E.offer (E.plan env.old)) plan.now cycles) (F.files shelf.old) trace.now (F.files shelf.new) outcome) }
     ensures failed { IfErr result (λ e. (d : Design) (s : Values) (before : Option OneRow) → S.runs shell.old d s before → IsLawful d
-        → FileFails (course d map.now (E.offer (E.plan env.old)) plan.now cycles) (F.files shelf.old) trace.now (F.files shelf.new) e) }
+        → FileFails (course d map.now (E.offer (E.plan env.old)) plan.now cycles) (F.files shelf.old) trace.now
+        (F.starts shelf.new ≡ F.starts shelf.old) (F.files shelf.new) e) }
     ensures cause { IfErr result (FailsFor (F.write_faults shelf.old) (F.write_faults shelf.new)) }
     ensures counts { Later (F.read_faults shelf.old) (F.read_faults shelf.new) (F.write_faults shelf.old) (F.write_faults shelf.new) }
 {

@@ -60,7 +60,7 @@ pub fn replay<S: Shelf>(
     requires few { cycles ≤ MOST_CYCLES }
     ensures owed { Owes (Replays design.now map.now trace.now cycles out.now (S.files shelf.old)
         (λ name. Rose (S.read_faults shelf.old name) (S.read_faults shelf.new name)))
-        (StopsReplaying design.now map.now trace.now cycles out.now (S.files shelf.old))
+        (StopsReplaying design.now map.now trace.now cycles out.now (S.files shelf.old) (S.starts shelf.new ≡ S.starts shelf.old))
         (Rose (S.write_faults shelf.old) (S.write_faults shelf.new)) (S.files shelf.old) (S.files shelf.new) result }
     ensures counts { Later (S.read_faults shelf.old) (S.read_faults shelf.new) (S.write_faults shelf.old) (S.write_faults shelf.new) }
 {
@@ -82,6 +82,7 @@ fn plan_replay<S: Shelf>(
     ensures refused { IfErr result (EndsWith (IsUnreplayed design.now map.now trace.now (S.files shelf.old)
         (λ name. Rose (S.read_faults shelf.old name) (S.read_faults shelf.new name)))) }
     ensures files { S.files shelf.new ≡ S.files shelf.old }
+    ensures starts { S.starts shelf.new ≡ S.starts shelf.old }
     ensures counts { Later (S.read_faults shelf.old) (S.read_faults shelf.new) (S.write_faults shelf.old) (S.write_faults shelf.new) }
 {
     let design = read_file(alloc, Word::Design, design, TEXT_LIMIT, shelf)?;
@@ -137,8 +138,8 @@ fn replayed<S: Shelf>(
     requires few { cycles ≤ MOST_CYCLES }
     ensures done { IfOk result (λ a. ReplaysTrace plan.device plan.trace cycles out.now (S.files shelf.old) a.status (text_of a.text)
         (S.files shelf.new)) }
-    ensures stopped { IfErr result (IsStopped (CutsReplay plan.device plan.trace cycles out.now (S.files shelf.old))
-        (Rose (S.write_faults shelf.old) (S.write_faults shelf.new)) (S.files shelf.old) (S.files shelf.new)) }
+    ensures stopped { IfErr result (IsStopped (CutsReplay plan.device plan.trace cycles out.now (S.files shelf.old)
+        (S.starts shelf.new ≡ S.starts shelf.old)) (Rose (S.write_faults shelf.old) (S.write_faults shelf.new)) (S.files shelf.old) (S.files shelf.new)) }
     ensures counts { Later (S.read_faults shelf.old) (S.read_faults shelf.new) (S.write_faults shelf.old) (S.write_faults shelf.new) }
 {
     let Replayable {

@@ -26,7 +26,7 @@ use crate::status::Status;
 use bench_run::{PlainRun, Spot, run_plain};
 use chan_map::Map;
 use env_script::ScriptEnv;
-use net_design::Design;
+use net_design::{Block, Design};
 use net_order::Order;
 use net_sim::Sim;
 use report_text::{Pad, RunLines, put, put_number};
@@ -80,9 +80,25 @@ fn run_of(
     requires fits { FitsChannels map.now.channels script.now }
     ensures { IfOk result (λ run. IsPlainRun design map.now (script_offer script.now) script.now.cycles run) }
 {
-    let mut sim = Sim::new(alloc, design, order)?;
+    let sim = Sim::new(alloc, design, order)?;
+    run_block(alloc, sim, map, script)
+}
+
+/// The rows of the run of a block.
+#[tactic(auto, using(crate::proofs::PortNets::port_nets))]
+fn run_block<B: Block + Drop>(
+    alloc: Global,
+    mut block: B,
+    map: &Map,
+    script: &Script,
+) -> Result<PlainRun, Memory>
+    requires lawful { IsLawful (B.design block) }
+    requires mapped { IsMapOf (B.design block) map.now }
+    requires fits { FitsChannels map.now.channels script.now }
+    ensures { IfOk result (λ run. IsPlainRun (B.design block) map.now (script_offer script.now) script.now.cycles run) }
+{
     let mut env = ScriptEnv::new(alloc, script, map)?;
-    run_plain(alloc, &mut sim, map, &mut env, script.cycles())
+    run_plain(alloc, &mut block, map, &mut env, script.cycles())
 }
 
 /// The lines of the rows, and how the run ended.

@@ -29,7 +29,8 @@ pub fn salvage<S: Shelf>(
     shelf: &mut S,
 ) -> Result<Answer, Ended>
     ensures owed { Owes (Saves trace.now out.now (S.files shelf.old)
-        (λ name. Rose (S.read_faults shelf.old name) (S.read_faults shelf.new name))) (StopsSaving trace.now out.now (S.files shelf.old))
+        (λ name. Rose (S.read_faults shelf.old name) (S.read_faults shelf.new name)))
+        (StopsSaving trace.now out.now (S.files shelf.old) (S.starts shelf.new ≡ S.starts shelf.old))
         (Rose (S.write_faults shelf.old) (S.write_faults shelf.new)) (S.files shelf.old) (S.files shelf.new) result }
     ensures counts { Later (S.read_faults shelf.old) (S.read_faults shelf.new) (S.write_faults shelf.old) (S.write_faults shelf.new) }
 {
@@ -65,8 +66,8 @@ fn saved<S: Shelf>(
     ensures done { IfOk result (λ a. IsSaid Status.Done (said.salvaged_line whole.packets) a.status (text_of a.text)) }
     ensures files { IfOk result (λ a. S.files shelf.new
         ≡ holding (S.files shelf.old) out.now (take whole.len bytes ++ end_mark whole.packets)) }
-    ensures stopped { IfErr result (IsStopped (IsCutOff (S.files shelf.old) out.now (take whole.len bytes ++ end_mark whole.packets))
-        (Rose (S.write_faults shelf.old) (S.write_faults shelf.new)) (S.files shelf.old) (S.files shelf.new)) }
+    ensures stopped { IfErr result (IsStopped (IsCutOff (S.files shelf.old) out.now (take whole.len bytes ++ end_mark whole.packets)
+        (S.starts shelf.new ≡ S.starts shelf.old)) (Rose (S.write_faults shelf.old) (S.write_faults shelf.new)) (S.files shelf.old) (S.files shelf.new)) }
     ensures counts { Later (S.read_faults shelf.old) (S.read_faults shelf.new) (S.write_faults shelf.old) (S.write_faults shelf.new) }
 {
     let front = ended_front(bytes, whole)?;

@@ -45,7 +45,7 @@ pub fn vidi<S: Shelf, O: Sink>(alloc: Global, words: &Words, shelf: &mut S, out:
     // Each answer with its cause, and what was said.
     ensures answers { Answers
         (Earns words.now (S.files shelf.old) (λ name. Rose (S.read_faults shelf.old name) (S.read_faults shelf.new name)))
-        (Stops words.now (S.files shelf.old))
+        (Stops words.now (S.files shelf.old) (S.starts shelf.new ≡ S.starts shelf.old))
         (Rose (S.write_faults shelf.old) (S.write_faults shelf.new) ⊎ Rose (O.faults out.old) (O.faults out.new))
         (O.told out.old) (O.told out.new) (S.files shelf.new) result }
 
@@ -73,8 +73,8 @@ pub fn vidi<S: Shelf, O: Sink>(alloc: Global, words: &Words, shelf: &mut S, out:
 /// What these words are answered, before anything is said.
 fn answer_to<S: Shelf>(alloc: Global, words: &Words, shelf: &mut S) -> Result<Answer, Ended>
     ensures owed { Owes (Earns words.now (S.files shelf.old)
-        (λ name. Rose (S.read_faults shelf.old name) (S.read_faults shelf.new name))) (Stops words.now (S.files shelf.old))
-        (Rose (S.write_faults shelf.old) (S.write_faults shelf.new)) (S.files shelf.old) (S.files shelf.new) result }
+        (λ name. Rose (S.read_faults shelf.old name) (S.read_faults shelf.new name)))
+        (Stops words.now (S.files shelf.old) (S.starts shelf.new ≡ S.starts shelf.old)) (Rose (S.write_faults shelf.old) (S.write_faults shelf.new)) (S.files shelf.old) (S.files shelf.new) result }
     ensures counts { Later (S.read_faults shelf.old) (S.read_faults shelf.new) (S.write_faults shelf.old) (S.write_faults shelf.new) }
 {
     match Command::of(words) {

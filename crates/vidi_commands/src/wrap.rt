@@ -44,7 +44,7 @@ pub fn wrap<S: Shelf>(
 ) -> Result<Answer, Ended>
     ensures owed { Owes (Wraps design.now map.now out.now (S.files shelf.old)
         (λ name. Rose (S.read_faults shelf.old name) (S.read_faults shelf.new name)))
-        (StopsWrapping design.now map.now out.now (S.files shelf.old))
+        (StopsWrapping design.now map.now out.now (S.files shelf.old) (S.starts shelf.new ≡ S.starts shelf.old))
         (Rose (S.write_faults shelf.old) (S.write_faults shelf.new)) (S.files shelf.old) (S.files shelf.new) result }
     ensures counts { Later (S.read_faults shelf.old) (S.read_faults shelf.new) (S.write_faults shelf.old) (S.write_faults shelf.new) }
 {
@@ -63,6 +63,7 @@ fn plan_wrap<S: Shelf>(
     ensures refused { IfErr result (EndsWith (IsUnwritten design.now map.now (S.files shelf.old)
         (λ name. Rose (S.read_faults shelf.old name) (S.read_faults shelf.new name)))) }
     ensures files { S.files shelf.new ≡ S.files shelf.old }
+    ensures starts { S.starts shelf.new ≡ S.starts shelf.old }
     ensures counts { Later (S.read_faults shelf.old) (S.read_faults shelf.new) (S.write_faults shelf.old) (S.write_faults shelf.new) }
 {
     let design = read_file(alloc, Word::Design, design, TEXT_LIMIT, shelf)?;
@@ -113,7 +114,7 @@ fn written<S: Shelf>(
 ) -> Result<Answer, Ended>
     ensures done { IfOk result (λ a. IsSaid Status.Done (said.wrapped_line plan.channels) a.status (text_of a.text)) }
     ensures files { IfOk result (λ a. S.files shelf.new ≡ holding (S.files shelf.old) out.now plan.text) }
-    ensures stopped { IfErr result (IsStopped (IsCutOff (S.files shelf.old) out.now plan.text)
+    ensures stopped { IfErr result (IsStopped (IsCutOff (S.files shelf.old) out.now plan.text (S.starts shelf.new ≡ S.starts shelf.old))
         (Rose (S.write_faults shelf.old) (S.write_faults shelf.new)) (S.files shelf.old) (S.files shelf.new)) }
     ensures counts { Later (S.read_faults shelf.old) (S.read_faults shelf.new) (S.write_faults shelf.old) (S.write_faults shelf.new) }
 {

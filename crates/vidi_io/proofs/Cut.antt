@@ -5,13 +5,19 @@ use Rattle.vidi_io.specs.Writing.{IsCutOff}
 use Rattle.vidi_io.proofs.Started.{appended-holding}
 
 -- the append failed
-pub cut-at_piece : (old mid new : Option Files) (name bytes : List ℕ) → mid ≡ emptied old name → GrewBySome mid new name bytes
-    → IsCutOff old name bytes new
-cut-at_piece old mid new name bytes started (inl same) = inr (0, same ∙ started)
-cut-at_piece old mid new name bytes started (inr (k, grew)) = inr (
+pub cut-at_piece : (old mid new : Option Files) (name bytes : List ℕ) (Unstarted : Type 0) → mid ≡ emptied old name
+    → GrewBySome mid new name bytes → IsCutOff old name bytes Unstarted new
+cut-at_piece old mid new name bytes Unstarted started (inl same) = inr (0, same ∙ started)
+cut-at_piece old mid new name bytes Unstarted started (inr (k, grew)) = inr (
   k,
   grew ∙ ap (λ (fs : Option Files). appended fs name (take k bytes)) started ∙ appended-holding old name [] (take k bytes),
 )
+
+-- a file that is as before, of which as much is known besides
+pub cut-knowing : (old new : Option Files) (name bytes : List ℕ) (U V : Type 0) → (U → V) → IsCutOff old name bytes U new
+    → IsCutOff old name bytes V new
+cut-knowing old new name bytes U V known (inl (same, is)) = inl (same, known is)
+cut-knowing old new name bytes U V known (inr held) = inr held
 
 -- it was written whole
 pub written-whole : (old mid new : Option Files) (name bytes : List ℕ) → mid ≡ emptied old name → new ≡ appended mid name bytes

@@ -1,6 +1,7 @@
 -- A file of a shelf that a sink starts and adds to.
 use Rattle.std.proofs.Common.{◌≡◌, ◌⊎◌, ℕ, ◌<◌, ◌≤◌, Bool, true, false, cond, List, [], ◌∷◌, ◌++◌, Option, Some, None, Result, Ok, Err}
 use Rattle.std.proofs.Common.{OnOk, OnErr, unwrap_or, length, take, drop, inl, inr, ⊎_elim, refl, sym, ap, subst, ◌∙◌, arith}
+use Rattle.std.proofs.lemmas.Bool.{true≢false}
 use Rattle.std.proofs.lemmas.List.{append-nil, take-append-drop}
 use Rattle.std.proofs.lemmas.Option.{same_Some}
 use Rattle.std.proofs.lemmas.Map.Text.{is_eq-slice_cmp}
@@ -92,10 +93,12 @@ pushed_some started old new was name piece s w (inr (k, e)) = record {
 
 -- ---- the frame
 -- a start
-pub over-started : (old new : Option Files) (name : List ℕ) (reads reads' : List ℕ → ℕ) (f : Frame) → new ≡ emptied old name
-    → ((q : List ℕ) → reads q ≤ reads' q) → IsOver false old name reads f → IsOver true new name reads' f
-over-started old new name reads reads' f e later o = record {
+pub over-started : (old new : Option Files) (name : List ℕ) (reads reads' : List ℕ → ℕ) (starts starts' : ℕ) (f : Frame)
+    → new ≡ emptied old name → ((q : List ℕ) → reads q ≤ reads' q) → IsOver false old name reads starts f
+    → IsOver true new name reads' starts' f
+over-started old new name reads reads' starts starts' f e later o = record {
   same_name = o.same_name;
+  unstarted = λ not. absurd (true≢false not);
   others = (
     [],
     e ∙ ⊎_elim (λ s. ap (λ fs. emptied fs name) s) (λ s. ap (λ fs. emptied fs name) s ∙ holding-holding f.files name [] [])
@@ -105,10 +108,12 @@ over-started old new name reads reads' f e later o = record {
 }
 
 -- one that failed
-pub over-kept : (old new : Option Files) (name : List ℕ) (reads reads' : List ℕ → ℕ) (f : Frame) → (new ≡ old) ⊎ (new ≡ emptied old name)
-    → ((q : List ℕ) → reads q ≤ reads' q) → IsOver false old name reads f → IsOver false new name reads' f
-over-kept old new name reads reads' f cause later o = record {
+pub over-kept : (old new : Option Files) (name : List ℕ) (reads reads' : List ℕ → ℕ) (starts starts' : ℕ) (f : Frame)
+    → (new ≡ old) ⊎ (new ≡ emptied old name) → starts' ≡ starts → ((q : List ℕ) → reads q ≤ reads' q)
+    → IsOver false old name reads starts f → IsOver false new name reads' starts' f
+over-kept old new name reads reads' starts starts' f cause same later o = record {
   same_name = o.same_name;
+  unstarted = λ not. same ∙ o.unstarted not;
   others = ⊎_elim
       (λ (e : new ≡ old). ⊎_elim (λ s. inl (e ∙ s)) (λ s. inr (e ∙ s)) o.others)
       (λ (e : new ≡ emptied old name). inr (e ∙ ⊎_elim (λ s. ap (λ fs. emptied fs name) s)
@@ -117,41 +122,49 @@ over-kept old new name reads reads' f cause later o = record {
   counts = λ q. omega (arith, o.counts q, later q);
 }
 
-over-appended : (old new : Option Files) (name piece : List ℕ) (reads reads' : List ℕ → ℕ) (f : Frame) → new ≡ appended old name piece
-    → ((q : List ℕ) → reads q ≤ reads' q) → IsOver true old name reads f → IsOver true new name reads' f
-over-appended old new name piece reads reads' f e later o = record {
+over-appended : (old new : Option Files) (name piece : List ℕ) (reads reads' : List ℕ → ℕ) (starts starts' : ℕ) (f : Frame)
+    → new ≡ appended old name piece → ((q : List ℕ) → reads q ≤ reads' q) → IsOver true old name reads starts f
+    → IsOver true new name reads' starts' f
+over-appended old new name piece reads reads' starts starts' f e later o = record {
   same_name = o.same_name;
+  unstarted = λ not. absurd (true≢false not);
   others = (o.others.0 ++ piece, e ∙ ap (λ fs. appended fs name piece) o.others.1 ∙ appended-holding f.files name o.others.0 piece);
   counts = λ q. omega (arith, o.counts q, later q);
 }
 
-over-same : (old new : Option Files) (name : List ℕ) (reads reads' : List ℕ → ℕ) (f : Frame) → new ≡ old
-    → ((q : List ℕ) → reads q ≤ reads' q) → IsOver true old name reads f → IsOver true new name reads' f
-over-same old new name reads reads' f e later o = record {
+over-same : (old new : Option Files) (name : List ℕ) (reads reads' : List ℕ → ℕ) (starts starts' : ℕ) (f : Frame) → new ≡ old
+    → ((q : List ℕ) → reads q ≤ reads' q) → IsOver true old name reads starts f → IsOver true new name reads' starts' f
+over-same old new name reads reads' starts starts' f e later o = record {
   same_name = o.same_name;
+  unstarted = λ not. absurd (true≢false not);
   others = (o.others.0, e ∙ o.others.1);
   counts = λ q. omega (arith, o.counts q, later q);
 }
 
-over-grown : (old new : Option Files) (name piece : List ℕ) (reads reads' : List ℕ → ℕ) (f : Frame) → GrewBySome old new name piece
-    → ((q : List ℕ) → reads q ≤ reads' q) → IsOver true old name reads f → IsOver true new name reads' f
-over-grown old new name piece reads reads' f (inl e) later o = over-same old new name reads reads' f e later o
-over-grown old new name piece reads reads' f (inr (k, e)) later o = over-appended old new name (take k piece) reads reads' f e later o
+over-grown : (old new : Option Files) (name piece : List ℕ) (reads reads' : List ℕ → ℕ) (starts starts' : ℕ) (f : Frame)
+    → GrewBySome old new name piece → ((q : List ℕ) → reads q ≤ reads' q) → IsOver true old name reads starts f
+    → IsOver true new name reads' starts' f
+over-grown old new name piece reads reads' starts starts' f (inl e) later o = over-same old new name reads reads' starts starts' f e later o
+over-grown old new name piece reads reads' starts starts' f (inr (k, e)) later o =
+    over-appended old new name (take k piece) reads reads' starts starts' f e later o
 
-over-answered : {T E : Type 0} (r : Result T E) (old new : Option Files) (name piece : List ℕ) (reads reads' : List ℕ → ℕ) (f : Frame)
-    → OnOk r (new ≡ appended old name piece) → OnErr r (GrewBySome old new name piece)
-    → ((q : List ℕ) → reads q ≤ reads' q) → IsOver true old name reads f → IsOver true new name reads' f
-over-answered (Ok x) old new name piece reads reads' f ok err later o = over-appended old new name piece reads reads' f ok later o
-over-answered (Err e) old new name piece reads reads' f ok err later o = over-grown old new name piece reads reads' f err later o
+over-answered : {T E : Type 0} (r : Result T E) (old new : Option Files) (name piece : List ℕ) (reads reads' : List ℕ → ℕ)
+    (starts starts' : ℕ) (f : Frame) → OnOk r (new ≡ appended old name piece) → OnErr r (GrewBySome old new name piece)
+    → ((q : List ℕ) → reads q ≤ reads' q) → IsOver true old name reads starts f → IsOver true new name reads' starts' f
+over-answered (Ok x) old new name piece reads reads' starts starts' f ok err later o =
+    over-appended old new name piece reads reads' starts starts' f ok later o
+over-answered (Err e) old new name piece reads reads' starts starts' f ok err later o =
+    over-grown old new name piece reads reads' starts starts' f err later o
 
 -- an append, whatever it answers
 pub over-pushed : {T E : Type 0} (started : Bool) (r : Result T E) (old new : Option Files) (name piece : List ℕ)
-    (reads reads' : List ℕ → ℕ) (f : Frame) → started ≡ true → OnOk r (new ≡ appended old name piece)
-    → OnErr r (GrewBySome old new name piece)
-    → ((q : List ℕ) → reads q ≤ reads' q) → IsOver started old name reads f → IsOver started new name reads' f
-over-pushed started r old new name piece reads reads' f s ok err later o =
-    subst (λ (b : Bool). IsOver b new name reads' f) (sym s) (over-answered r old new name piece reads reads' f ok err later
-    (subst (λ (b : Bool). IsOver b old name reads f) s o))
+    (reads reads' : List ℕ → ℕ) (starts starts' : ℕ) (f : Frame) → started ≡ true → OnOk r (new ≡ appended old name piece)
+    → OnErr r (GrewBySome old new name piece) → ((q : List ℕ) → reads q ≤ reads' q) → IsOver started old name reads starts f
+    → IsOver started new name reads' starts' f
+over-pushed started r old new name piece reads reads' starts starts' f s ok err later o =
+    subst (λ (b : Bool). IsOver b new name reads' starts' f) (sym s)
+    (over-answered r old new name piece reads reads' starts starts' f ok err later
+    (subst (λ (b : Bool). IsOver b old name reads starts f) s o))
 
 on-ok : {T E : Type 0} (r : Result T E) (P Q : Type 0) → (P → Q) → OnOk r P → OnOk r Q
 on-ok (Ok x) P Q f p = f p
@@ -170,33 +183,3 @@ pub err-pushed : {T E : Type 0} (r : Result T E) (started : Bool) (old new : Opt
     → started ≡ true → bytes_written started old name ≡ was → OnErr r (GrewBySome old new name piece)
     → OnErr r (AppendsSome was (bytes_written started new name) piece)
 err-pushed r started old new was name piece s w a = on-err r _ _ (pushed_some started old new was name piece s w) a
-
--- ---- a whole file
-held-whole : (files : Option Files) (name bytes all : List ℕ) → bytes_written true (holding files name bytes) name
-    ≡ append_known (bytes_written false files name) all → holding files name bytes ≡ holding files name all
-held-whole None name bytes all w = refl
-held-whole (Some m) name bytes all w = ap (λ bs. Some (insert m name bs))
-    (sym (bytes_of-insert m name bytes) ∙ same_Some (bytes_of (insert m name bytes) name) all w)
-
-none-whole : (files : Option Files) (name all : List ℕ) → 0 < length all → bytes_written false files name
-    ≡ append_known (bytes_written false files name) all → files ≡ holding files name all
-none-whole None name all some w = refl
-none-whole (Some m) name [] some w = absurd (omega arith)
-none-whole (Some m) name (b ∷ bs) some w = absurd (let e = same_Some [] (b ∷ bs) w in cc)
-
--- once something was written, the file is what was written, and the others are those of the frame
-pub whole-written : (started : Bool) (now : Option Files) (name all : List ℕ) (reads : List ℕ → ℕ) (f : Frame) → 0 < length all
-    → IsOver started now name reads f → bytes_written started now name ≡ append_known (bytes_written false f.files name) all
-    → now ≡ holding f.files name all
-whole-written true now name all reads f some o w =
-    o.others.1 ∙ held-whole f.files name o.others.0 all (ap (λ fs. bytes_written true fs name) (sym o.others.1) ∙ w)
-whole-written false now name all reads f some o w = ⊎_elim
-    (λ (e : now ≡ f.files). e ∙ none-whole f.files name all some (ap (λ fs. bytes_written false fs name) (sym e) ∙ w))
-    (λ (e : now ≡ emptied f.files name). e ∙ emptied-whole f.files name all some (ap (λ fs. bytes_written false fs name) (sym e) ∙ w))
-    o.others
-  where
-    emptied-whole : (files : Option Files) (name all : List ℕ) → 0 < length all → bytes_written false (emptied files name) name
-        ≡ append_known (bytes_written false files name) all → emptied files name ≡ holding files name all
-    emptied-whole None name all some w = refl
-    emptied-whole (Some m) name [] some w = absurd (omega arith)
-    emptied-whole (Some m) name (b ∷ bs) some w = absurd (let e = same_Some [] (b ∷ bs) w in cc)

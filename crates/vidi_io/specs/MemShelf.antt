@@ -1,4 +1,4 @@
--- What a memory shelf shows: its entries, the calls that are listed to fail, and its failed writes.
+-- What a memory shelf shows: its entries, the calls that are listed to fail, its failed writes, and its starts that succeeded.
 use Rattle.std.specs.Prelude.{ℕ, List}
 use Rattle.vidi_io.specs.declared.entries.Entry.{Entry}
 use Rattle.vidi_io.specs.declared.fails.Plan.{Plan}
@@ -12,3 +12,6 @@ planned shelf = shelf.plan
 
 abbrev pub failed_writes : MemShelf → ℕ
 failed_writes shelf = shelf.write_faults
+
+abbrev pub starts_of : MemShelf → ℕ
+starts_of shelf = shelf.starts

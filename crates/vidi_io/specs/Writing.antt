@@ -2,6 +2,6 @@
 use Rattle.std.specs.Prelude.{◌≡◌, ◌⊎◌, ℕ, List, Option, take}
 use Rattle.vidi_io.specs.Shelf.{Files, holding}
 
--- the file of this name is as before, or holds a front of the bytes
-abbrev pub IsCutOff : Option Files → List ℕ → List ℕ → Option Files → Type 0
-IsCutOff old name bytes new = (new ≡ old) ⊎ ((k : ℕ) × (new ≡ holding old name (take k bytes)))
+-- the file of this name is as before, as no start succeeded, or holds a front of the bytes
+abbrev pub IsCutOff : Option Files → List ℕ → List ℕ → Type 0 → Option Files → Type 0
+IsCutOff old name bytes Unstarted new = ((new ≡ old) × Unstarted) ⊎ ((k : ℕ) × (new ≡ holding old name (take k bytes)))

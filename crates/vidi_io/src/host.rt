@@ -42,6 +42,7 @@ pub struct HostShelf<'a, R: Files + AllocGlobal> {
     kept: Option<Kept<R::File>>,
     read_faults: u64,
     write_faults: u64,
+    starts: u64,
 }
 
 impl<'a, R: Files + AllocGlobal> HostShelf<'a, R> {
@@ -49,12 +50,14 @@ impl<'a, R: Files + AllocGlobal> HostShelf<'a, R> {
     pub fn new(host: &'a R) -> HostShelf<'a, R>
         ensures reads { result.read_faults ≡ 0 }
         ensures writes { result.write_faults ≡ 0 }
+        ensures starts { result.starts ≡ 0 }
     {
         HostShelf {
             host,
             kept: None,
             read_faults: 0,
             write_faults: 0,
+            starts: 0,
         }
     }
 
@@ -64,6 +67,7 @@ impl<'a, R: Files + AllocGlobal> HostShelf<'a, R> {
         ensures later { self.old.read_faults ≤ self.new.read_faults }
         ensures rose { Rose self.old.read_faults self.new.read_faults }
         ensures writes { self.new.write_faults ≡ self.old.write_faults }
+        ensures starts { self.new.starts ≡ self.old.starts }
     {
         self.read_faults = self.read_faults.saturating_add(1);
         FetchError::Failed
@@ -74,6 +78,7 @@ impl<'a, R: Files + AllocGlobal> HostShelf<'a, R> {
         ensures reads { self.new.read_faults ≡ self.old.read_faults }
         ensures later { self.old.write_faults ≤ self.new.write_faults }
         ensures rose { Rose self.old.write_faults self.new.write_faults }
+        ensures starts { self.new.starts ≡ self.old.starts }
     {
         self.write_faults = self.write_faults.saturating_add(1);
         Failed
@@ -84,9 +89,12 @@ impl<'a, R: Files + AllocGlobal> HostShelf<'a, R> {
         ensures let_go { self.new.kept ≡ None }
         ensures reads { self.new.read_faults ≡ self.old.read_faults }
         ensures writes { self.new.write_faults ≡ self.old.write_faults }
+        ensures started { OnOk result (Rose self.old.starts self.new.starts) }
+        ensures unstarted { OnErr result (self.new.starts ≡ self.old.starts) }
     {
         self.kept = None;
         fs::create(self.host, name)?;
+        self.starts = self.starts.saturating_add(1);
         Ok(())
     }
 
@@ -98,6 +106,7 @@ impl<'a, R: Files + AllocGlobal> HostShelf<'a, R> {
         ensures let_go { self.new.kept ≡ None }
         ensures reads { self.new.read_faults ≡ self.old.read_faults }
         ensures writes { self.new.write_faults ≡ self.old.write_faults }
+        ensures starts { self.new.starts ≡ self.old.starts }
     {
         match self.kept.take() {
             Some(kept) if kept.is_of(name) => Ok(kept),
@@ -113,6 +122,7 @@ impl<'a, R: Files + AllocGlobal> HostShelf<'a, R> {
         ensures let_go { OnErr result (self.new.kept ≡ None) }
         ensures reads { self.new.read_faults ≡ self.old.read_faults }
         ensures writes { self.new.write_faults ≡ self.old.write_faults }
+        ensures starts { self.new.starts ≡ self.old.starts }
     {
         let mut kept = self.at_end(name)?;
         write_whole(&mut kept.file, piece)?;
@@ -129,6 +139,8 @@ impl<'a, R: Files + AllocGlobal> Shelf for HostShelf<'a, R> {
     ghost read_faults = { λ s _. s.read_faults };
 
     ghost write_faults = { λ s. s.write_faults };
+
+    ghost starts = { λ s. s.starts };
 
     fn fetch(&mut self, name: &str, at: u64, buf: &mut [u8]) -> Result<usize, FetchError> {
         let opened = fs::open(self.host, name);

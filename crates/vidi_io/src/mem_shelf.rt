@@ -7,7 +7,7 @@ ghost use Rattle.std.specs.FinMap.{get, empty, insert};
 ghost use Rattle.vidi_io.specs.Cause.{Rose};
 ghost use Rattle.vidi_io.specs.Entries.{files_of, faults_of, room_of, Became, LacksRoom, ReadFailed, RoomsStay};
 ghost use Rattle.vidi_io.specs.Fails.{next_listed, counted};
-ghost use Rattle.vidi_io.specs.MemShelf.{entries, planned, failed_writes};
+ghost use Rattle.vidi_io.specs.MemShelf.{entries, planned, failed_writes, starts_of};
 ghost use Rattle.vidi_io.specs.Listed.{FetchAnswer, KeptFront};
 ghost use Rattle.vidi_io.specs.Shelf.{Gives, GrewBySome, Later, SameCounts, appended, emptied};
 
@@ -27,6 +27,7 @@ pub struct MemShelf {
     entries: Vec<Entry>,
     plan: Plan,
     write_faults: u64,
+    starts: u64,
 }
 
 impl MemShelf {
@@ -35,6 +36,7 @@ impl MemShelf {
         ensures files { files_of (entries result) ≡ empty }
         ensures reads { (name : List ℕ) → faults_of (entries result) name ≡ 0 }
         ensures writes { failed_writes result ≡ 0 }
+        ensures starts { starts_of result ≡ 0 }
         ensures plan { planned result ≡ record { fails = fails; fetches = 0; starts = 0; appends = 0 } }
     {
         MemShelf {
@@ -46,6 +48,7 @@ impl MemShelf {
                 appends: 0,
             },
             write_faults: 0,
+            starts: 0,
         }
     }
 
@@ -55,6 +58,7 @@ impl MemShelf {
         ensures err { OnErr result (Became (entries self.old) (entries self.new) (files_of (entries self.old))) }
         ensures plan { planned self.new ≡ planned self.old }
         ensures writes { failed_writes self.new ≡ failed_writes self.old }
+        ensures starts { starts_of self.new ≡ starts_of self.old }
     {
         hold_file(&mut self.entries, name, bytes)?;
         Ok(())
@@ -74,6 +78,7 @@ impl MemShelf {
         ensures room { OnOk result (IsSomeAnd (room_of (entries self.new) name.now) (λ room. n ≤ room)) }
         ensures plan { planned self.new ≡ planned self.old }
         ensures writes { failed_writes self.new ≡ failed_writes self.old }
+        ensures starts { starts_of self.new ≡ starts_of self.old }
     {
         reserve_file(&mut self.entries, name, n)?;
         Ok(())
@@ -86,6 +91,7 @@ impl MemShelf {
             (λ _. (result ≡ Err FetchError.Failed) × ReadFailed (entries self.old) (entries self.new) name.now) }
         ensures plan { planned self.new ≡ planned self.old }
         ensures writes { failed_writes self.new ≡ failed_writes self.old }
+        ensures starts { starts_of self.new ≡ starts_of self.old }
     {
         if count_fault(&mut self.entries, name) {
             return Err(FetchError::Failed);
@@ -97,6 +103,7 @@ impl MemShelf {
     fn keep_front(&mut self, name: &str, piece: &[u8], kept: usize) -> Failed
         ensures kept { KeptFront (entries self.old) (entries self.new) name.now (take kept piece.now) }
         ensures plan { planned self.new ≡ planned self.old }
+        ensures starts { starts_of self.new ≡ starts_of self.old }
         ensures later { failed_writes self.old ≤ failed_writes self.new }
         ensures rose { Rose (failed_writes self.old) (failed_writes self.new) }
     {
@@ -109,6 +116,7 @@ impl MemShelf {
     fn fault(&mut self) -> Failed
         ensures entries { self.new.entries ≡ self.old.entries }
         ensures plan { planned self.new ≡ planned self.old }
+        ensures starts { starts_of self.new ≡ starts_of self.old }
         ensures later { failed_writes self.old ≤ failed_writes self.new }
         ensures rose { Rose (failed_writes self.old) (failed_writes self.new) }
     {
@@ -124,6 +132,8 @@ impl Shelf for MemShelf {
 
     ghost write_faults = { λ s. s.write_faults };
 
+    ghost starts = { λ s. s.starts };
+
     fn fetch(&mut self, name: &str, at: u64, buf: &mut [u8]) -> Result<usize, FetchError>
         ensures within { IfOk result (λ n. n ≤ length buf.new) }
         ensures bytes { IfOk result (λ n. IsSomeAnd (get (files_of (entries self.old)) name.now) (λ file. Gives file at n buf.new)) }
@@ -134,6 +144,7 @@ impl Shelf for MemShelf {
         ensures failed { IsErrOf result FetchError.Failed → Rose (faults_of (entries self.old) name.now)
             (faults_of (entries self.new) name.now) }
         ensures files { Some (files_of (entries self.new)) ≡ Some (files_of (entries self.old)) }
+        ensures starts { starts_of self.new ≡ starts_of self.old }
         ensures counts { Later (faults_of (entries self.old)) (faults_of (entries self.new)) (failed_writes self.old)
             (failed_writes self.new) }
         ensures sound { IfOk result (λ _. SameCounts (faults_of (entries self.old)) (faults_of (entries self.new)) (failed_writes self.old)
@@ -155,8 +166,10 @@ impl Shelf for MemShelf {
 
     fn start(&mut self, name: &str) -> Result<(), Failed>
         ensures ok { OnOk result (Some (files_of (entries self.new)) ≡ emptied (Some (files_of (entries self.old))) name.now) }
+        ensures started { OnOk result (Rose (starts_of self.old) (starts_of self.new)) }
         ensures err { OnErr result ((Some (files_of (entries self.new)) ≡ Some (files_of (entries self.old)))
             ⊎ (Some (files_of (entries self.new)) ≡ emptied (Some (files_of (entries self.old))) name.now)) }
+        ensures unstarted { OnErr result (starts_of self.new ≡ starts_of self.old) }
         ensures failed { OnErr result (Rose (failed_writes self.old) (failed_writes self.new)) }
         ensures counts { Later (faults_of (entries self.old)) (faults_of (entries self.new)) (failed_writes self.old)
             (failed_writes self.new) }
@@ -174,7 +187,10 @@ impl Shelf for MemShelf {
             return Err(self.fault());
         }
         match start_file(&mut self.entries, name) {
-            Ok(()) => Ok(()),
+            Ok(()) => {
+                self.starts = self.starts.saturating_add(1);
+                Ok(())
+            }
             Err(_) => Err(self.fault()),
         }
     }
@@ -183,6 +199,7 @@ impl Shelf for MemShelf {
         ensures ok { OnOk result (Some (files_of (entries self.new)) ≡ appended (Some (files_of (entries self.old))) name.now piece.now) }
         ensures err { OnErr result
             (GrewBySome (Some (files_of (entries self.old))) (Some (files_of (entries self.new))) name.now piece.now) }
+        ensures starts { starts_of self.new ≡ starts_of self.old }
         ensures failed { OnErr result (Rose (failed_writes self.old) (failed_writes self.new)) }
         ensures counts { Later (faults_of (entries self.old)) (faults_of (entries self.new)) (failed_writes self.old)
             (failed_writes self.new) }

@@ -57,6 +57,7 @@ pub fn read_whole<S: Shelf>(
     ensures whole { IfSome (S.files shelf.old) (λ m. ¬ (Rose (S.read_faults shelf.old name.now) (S.read_faults shelf.new name.now))
         → (result ≡ Err ReadError.Memory) ⊎ Whole (get m name.now) limit result) }
     ensures files { S.files shelf.new ≡ S.files shelf.old }
+    ensures starts { S.starts shelf.new ≡ S.starts shelf.old }
     ensures counts { Later (S.read_faults shelf.old) (S.read_faults shelf.new) (S.write_faults shelf.old) (S.write_faults shelf.new) }
 {
     let mut buf = vec![in alloc; 0u8; FETCHED]?;
@@ -77,6 +78,7 @@ fn read_by<S: Shelf>(
     ensures cause { IfErr result (λ e. ReadCause e (S.files shelf.old) name.now limit (S.read_faults shelf.old name.now)
         (S.read_faults shelf.new name.now)) }
     ensures files { S.files shelf.new ≡ S.files shelf.old }
+    ensures starts { S.starts shelf.new ≡ S.starts shelf.old }
     ensures counts { Later (S.read_faults shelf.old) (S.read_faults shelf.new) (S.write_faults shelf.old) (S.write_faults shelf.new) }
 {
     let mut bytes = Vec::new(alloc);

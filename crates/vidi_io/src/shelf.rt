@@ -30,6 +30,9 @@ pub trait Shelf {
     /// How many writes have failed, which never falls.
     ghost write_faults: { Self → ℕ };
 
+    /// How many starts have succeeded, of whatever name.
+    ghost starts: { Self → ℕ };
+
     /// Copies bytes of the file from place `at` on to the front of `buf` and gives their number. Into
     /// a buffer that isn't empty it gives 0 only where the file ends at `at` or before.
     fn fetch(&mut self, name: &str, at: u64, buf: &mut [u8]) -> Result<usize, FetchError>
@@ -44,12 +47,15 @@ pub trait Shelf {
         ensures failed { IsErrOf result FetchError.Failed → Rose (read_faults self.old name.now) (read_faults self.new name.now) }
 
         ensures files { files self.new ≡ files self.old }
+        ensures starts { starts self.new ≡ starts self.old }
         ensures counts { Later (read_faults self.old) (read_faults self.new) (write_faults self.old) (write_faults self.new) };
 
     /// Makes the file empty, whether it is new or old. After `Failed` it is as before or empty.
     fn start(&mut self, name: &str) -> Result<(), Failed>
         ensures ok { OnOk result (files self.new ≡ emptied (files self.old) name.now) }
+        ensures started { OnOk result (Rose (starts self.old) (starts self.new)) }
         ensures err { OnErr result ((files self.new ≡ files self.old) ⊎ (files self.new ≡ emptied (files self.old) name.now)) }
+        ensures unstarted { OnErr result (starts self.new ≡ starts self.old) }
         ensures failed { OnErr result (Rose (write_faults self.old) (write_faults self.new)) }
         ensures counts { Later (read_faults self.old) (read_faults self.new) (write_faults self.old) (write_faults self.new) };
 
@@ -58,6 +64,7 @@ pub trait Shelf {
     fn append(&mut self, name: &str, piece: &[u8]) -> Result<(), Failed>
         ensures ok { OnOk result (files self.new ≡ appended (files self.old) name.now piece.now) }
         ensures err { OnErr result (GrewBySome (files self.old) (files self.new) name.now piece.now) }
+        ensures starts { starts self.new ≡ starts self.old }
         ensures failed { OnErr result (Rose (write_faults self.old) (write_faults self.new)) }
         ensures counts { Later (read_faults self.old) (read_faults self.new) (write_faults self.old) (write_faults self.new) };
 }

@@ -18,8 +18,8 @@ pub struct ShelfSink<'a, S: Shelf> {
 }
 
 impl<'a, S: Shelf> ShelfSink<'a, S> {
-    /// A sink that has written nothing. Its frame is the name, the files and the counts of failed reads
-    /// that the shelf has here.
+    /// A sink that has written nothing. Its frame is the name, the files and the counts of failed reads and
+    /// of starts that the shelf has here.
     pub fn new(shelf: &'a mut S, name: &'a str) -> ShelfSink<'a, S>
         ensures same { result.shelf.ghost_name ≡ shelf.entry.ghost_name }
         ensures shelf { result.shelf.now ≡ shelf.old }
@@ -39,8 +39,9 @@ impl<'a, S: Shelf> ShelfSink<'a, S> {
         ensures written { bytes_written self.new.started (S.files self.new.shelf.now) self.new.name.now
             ≡ bytes_written self.old.started (S.files self.old.shelf.now) self.old.name.now }
         ensures frame { (f : Frame) → IsOver self.old.started (S.files self.old.shelf.now) self.old.name.now
-            (S.read_faults self.old.shelf.now) f → IsOver self.new.started (S.files self.new.shelf.now) self.new.name.now
-            (S.read_faults self.new.shelf.now) f }
+            (S.read_faults self.old.shelf.now) (S.starts self.old.shelf.now) f
+            → IsOver self.new.started (S.files self.new.shelf.now) self.new.name.now (S.read_faults self.new.shelf.now)
+            (S.starts self.new.shelf.now) f }
         ensures cause { HasCause (S.write_faults self.old.shelf.now) (S.write_faults self.new.shelf.now) result }
         ensures same { self.new.shelf.ghost_name ≡ self.old.shelf.ghost_name }
         ensures name { self.new.name.now ≡ self.old.name.now }
@@ -61,7 +62,8 @@ impl<'a, S: Shelf> Sink for ShelfSink<'a, S> {
 
     ghost place = { λ s. Some s.shelf.ghost_name };
 
-    ghost has_frame = { λ s f. IsOver s.started (S.files s.shelf.now) s.name.now (S.read_faults s.shelf.now) f };
+    ghost has_frame = { λ s f. IsOver s.started (S.files s.shelf.now) s.name.now (S.read_faults s.shelf.now)
+        (S.starts s.shelf.now) f };
 
     fn push(&mut self, piece: &[u8]) -> Result<(), Failed> {
         if piece.is_empty() {

@@ -9,10 +9,11 @@ use crate::shelf::Shelf;
 use crate::sink::Failed;
 
 /// Makes the file of this name hold these bytes, which are added in one append. After `Failed` it is as
-/// before, or holds a front of them.
+/// before, where its start failed, or holds a front of them.
 pub fn write_whole<S: Shelf>(shelf: &mut S, name: &str, bytes: &[u8]) -> Result<(), Failed>
     ensures ok { OnOk result (S.files shelf.new ≡ holding (S.files shelf.old) name.now bytes.now) }
-    ensures err { OnErr result (IsCutOff (S.files shelf.old) name.now bytes.now (S.files shelf.new)) }
+    ensures err { OnErr result (IsCutOff (S.files shelf.old) name.now bytes.now
+        (S.starts shelf.new ≡ S.starts shelf.old) (S.files shelf.new)) }
     ensures failed { OnErr result (Rose (S.write_faults shelf.old) (S.write_faults shelf.new)) }
     ensures counts { Later (S.read_faults shelf.old) (S.read_faults shelf.new) (S.write_faults shelf.old) (S.write_faults shelf.new) }
 {

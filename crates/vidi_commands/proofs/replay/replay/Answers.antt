@@ -1,4 +1,4 @@
-use Rattle.std.proofs.Common.{ℕ, List, inl}
+use Rattle.std.proofs.Common.{◌≡◌, ℕ, List, inl, ◌∙◌}
 use Rattle.vidi_io.specs.Cause.{Rose}
 use Rattle.vidi_commands.specs.Replays.{IsUnreplayed, Replays, StopsReplaying}
 use Rattle.vidi_commands.proofs.Chain.{passed-owed, rose-since}
@@ -15,7 +15,7 @@ returns-in_err-plan-clause-owed g c =
     let trace = c.args.trace.now in
     let out = c.args.out.now in
     passed-owed (IsUnreplayed design map trace files F) (Replays design map trace c.args.cycles out files F)
-    (StopsReplaying design map trace c.args.cycles out files)
+    (StopsReplaying design map trace c.args.cycles out files (S.starts c.plan_replay.new.shelf ≡ S.starts c.args.shelf.now))
     (Rose (S.write_faults c.args.shelf.now) (S.write_faults c.plan_replay.new.shelf)) files (S.files c.plan_replay.new.shelf)
     c.in_err-plan.field-0.0 c.from_residual.result c.from_residual.ensures.1 c.plan_replay.ensures.files
     (λ a x is. inl (is, c.plan_replay.ensures.files)) c.in_err-plan.ensures.refused
@@ -31,6 +31,7 @@ returns-clause-owed g c =
     let plan = c.in_ok-plan.plan in
     replayed-owed c.args.design.now c.args.map.now c.args.trace.now c.args.cycles c.args.out.now files
     (S.files c.plan_replay.new.shelf) (S.files c.replayed.new.shelf) F plan.device plan.trace (Rose middle now) (Rose old now)
+    (S.starts c.replayed.new.shelf ≡ S.starts c.plan_replay.new.shelf) (S.starts c.replayed.new.shelf ≡ S.starts c.args.shelf.now)
     c.replayed.result c.plan_replay.ensures.files c.in_ok-plan.ensures.planned
-    (λ rose. rose-since old middle now c.plan_replay.ensures.counts.writes rose)
+    (λ rose. rose-since old middle now c.plan_replay.ensures.counts.writes rose) (λ same. same ∙ c.plan_replay.ensures.starts)
     c.replayed.ensures.done c.replayed.ensures.stopped

@@ -3,6 +3,6 @@ use Rattle.net_design.specs.declared.design.Design.{Design}
 use Rattle.run_model.specs.MapOf.{IsMapOf}
 use Rattle.vidi_commands.proofs.run.run_of.Goals as goal
 
-pub run_plain-requires-clause-mapped : goal.run_plain-requires-clause-mapped
-run_plain-requires-clause-mapped c =
+pub run_block-requires-clause-mapped : goal.run_block-requires-clause-mapped
+run_block-requires-clause-mapped c =
     subst (λ (d : Design). IsMapOf d c.args.map.now) (sym c.in_ok-sim.ensures.design) c.requires.mapped

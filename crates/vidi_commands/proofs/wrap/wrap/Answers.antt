@@ -1,4 +1,4 @@
-use Rattle.std.proofs.Common.{ℕ, List, inl}
+use Rattle.std.proofs.Common.{◌≡◌, ℕ, List, inl, ◌∙◌}
 use Rattle.vidi_io.specs.Cause.{Rose}
 use Rattle.vidi_commands.specs.Wraps.{IsUnwritten, StopsWrapping, Wraps}
 use Rattle.vidi_commands.proofs.Chain.{passed-owed, rose-since}
@@ -13,7 +13,7 @@ returns-in_err-plan-clause-owed g c =
     let design = c.args.design.now in
     let map = c.args.map.now in
     let out = c.args.out.now in
-    passed-owed (IsUnwritten design map files F) (Wraps design map out files F) (StopsWrapping design map out files)
+    passed-owed (IsUnwritten design map files F) (Wraps design map out files F) (StopsWrapping design map out files (S.starts c.plan_wrap.new.shelf ≡ S.starts c.args.shelf.now))
     (Rose (S.write_faults c.args.shelf.now) (S.write_faults c.plan_wrap.new.shelf)) files (S.files c.plan_wrap.new.shelf)
     c.in_err-plan.field-0.0 c.from_residual.result c.from_residual.ensures.1 c.plan_wrap.ensures.files
     (λ a x is. inl (is, c.plan_wrap.ensures.files)) c.in_err-plan.ensures.refused
@@ -27,6 +27,8 @@ returns-clause-owed g c =
     let middle = S.write_faults c.plan_wrap.new.shelf in
     let now = S.write_faults c.written.new.shelf in
     written-owed c.args.design.now c.args.map.now c.args.out.now files (S.files c.plan_wrap.new.shelf) (S.files c.written.new.shelf) F
-    c.in_ok-plan.plan (Rose middle now) (Rose old now) c.written.result c.plan_wrap.ensures.files c.in_ok-plan.ensures.planned
-    (λ rose. rose-since old middle now c.plan_wrap.ensures.counts.writes rose)
+    c.in_ok-plan.plan (Rose middle now) (Rose old now)
+    (S.starts c.written.new.shelf ≡ S.starts c.plan_wrap.new.shelf) (S.starts c.written.new.shelf ≡ S.starts c.args.shelf.now)
+    c.written.result c.plan_wrap.ensures.files c.in_ok-plan.ensures.planned
+    (λ rose. rose-since old middle now c.plan_wrap.ensures.counts.writes rose) (λ same. same ∙ c.plan_wrap.ensures.starts)
     c.written.ensures.done c.written.ensures.files c.written.ensures.stopped

@@ -9,6 +9,7 @@ loop-got-preserved g c = record {
       c.fetch.new.buf c.len.result c.in-Ok.got c.loop-got.invariant.files (cc) (search rules) c.loop-got.invariant.read
       c.in-Ok.ensures.bytes (omega (arith, c.in-Ok.ensures.within));
   files = c.fetch.ensures.files ∙ c.loop-got.invariant.files;
+  starts = c.fetch.ensures.starts ∙ c.loop-got.invariant.starts;
   counts = search rules;
   within = omega (arith, c.in_ok-extend_from_slice.ensures.len, c.in-Ok.ensures.within, length-take {A = ℕ});
 }
