@@ -1,4 +1,4 @@
-//! What the tests offer, and the rows of it.
+//! What the tests offer.
 
 ghost use Rattle.std.specs.Prelude.{◌≡◌, ◌<◌, All, IfOk, length};
 ghost use Rattle.run_model.specs.Offers.{AreZeroWhileDown};
@@ -6,9 +6,8 @@ ghost use Rattle.trace_model.specs.Row.{AreOffers};
 ghost use Rattle.run_checks.specs.Given.{IsSend};
 ghost use Rattle.sample_designs.specs.Stage.{stage_channels};
 
-use sample_designs::is_row;
 use std::alloc::Global;
-use trace_model::{Offers, Row};
+use trace_model::Offers;
 use vidi_bits::{Items, Memory, Numbers};
 
 /// `a` offers this content, and `b` is taken.
@@ -72,16 +71,4 @@ pub fn two_sends(alloc: Global) -> Result<Items<Offers>, Memory>
     ensures zeros { IfOk result (All (AreZeroWhileDown stage_channels)) }
 {
     six_cycles(alloc)
-}
-
-/// The rows of the register stage with all gates up: `a` completes in rows 0 and 2, and `b` in rows 1 and 3. In row 1 the stage is
-/// full, so the second content is offered again.
-pub fn is_two_sends(rows: &[Row]) -> bool {
-    rows.len() == 6
-        && is_row(&rows[0], [3, 1, 3, 1, 1], &[5, 0])
-        && is_row(&rows[1], [3, 3, 2, 3, 2], &[6, 5])
-        && is_row(&rows[2], [3, 1, 3, 0, 1], &[6, 5])
-        && is_row(&rows[3], [3, 2, 2, 2, 2], &[0, 6])
-        && is_row(&rows[4], [3, 0, 3, 0, 0], &[0, 6])
-        && is_row(&rows[5], [3, 0, 3, 0, 0], &[0, 6])
 }

@@ -3,12 +3,12 @@
 #![tactic(auto)]
 
 mod play;
+mod sends;
 
 pub use play::play_shell;
+pub use sends::is_two_sends;
 
 #[cfg(test)]
 mod given;
-#[cfg(test)]
-mod plain_tests;
 #[cfg(test)]
 mod run_tests;

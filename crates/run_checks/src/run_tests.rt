@@ -7,8 +7,9 @@ ghost use Rattle.run_model.specs.Building.{PortsAreNets};
 ghost use Rattle.run_model.specs.MapOf.{IsMapOf};
 ghost use Rattle.sample_designs.specs.Stage.{flick_channels, stage_channels};
 
-use crate::given::{is_two_sends, two_sends};
+use crate::given::two_sends;
 use crate::play::play_shell;
+use crate::sends::is_two_sends;
 use chan_map::Map;
 use chan_monitor::{Machines, Shell};
 use net_sim::Sim;

@@ -4,11 +4,11 @@ ghost use Rattle.std.specs.Prelude.{◌≡◌, ◌<◌, ◌^◌, length};
 ghost use Rattle.run_model.specs.Building.{PortsAreNets};
 ghost use Rattle.run_model.specs.MapOf.{IsMapOf};
 
-use crate::given::is_two_sends;
 use bench_run::{PlainRun, Spot, run_plain};
 use chan_map::Map;
 use env_script::{ScriptEnv, read_script};
 use net_sim::Sim;
+use run_checks::is_two_sends;
 use sample_designs::{Sample, flick_channels, is_row, sample_stage, stage_channels};
 use std::alloc::Global;
 use trace_model::Channels;
