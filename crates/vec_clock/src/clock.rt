@@ -84,7 +84,7 @@ impl Clock {
         requires { length self.now ≡ length other.now }
         ensures { IsTrue result ↔ Covers (length self.now) (slice_index self.now) (slice_index other.now) }
     {
-        self.first_short(other).is_none()
+        are_covered(self.counts.as_slice(), other.counts.as_slice())
     }
 
     /// Whether each of these numbers, one a channel, is at most this clock's (*Clock*).
@@ -92,7 +92,7 @@ impl Clock {
         requires { length self.now ≡ length needs.now }
         ensures { IsTrue result ↔ Covers (length self.now) (slice_index self.now) (slice_index needs.now) }
     {
-        self.first_short_of(needs).is_none()
+        are_covered(self.counts.as_slice(), needs)
     }
 
     /// The lowest channel whose number is smaller than that of `other`, which has as many channels; None
@@ -131,6 +131,20 @@ fn add_ends(counts: &mut [u32], ends: u128, times: u32)
         counts[channel] += times;
         left = others;
     }
+}
+
+/// Whether each number is at least the one of `theirs`, which has as many. All are compared, several at once where the machine can.
+fn are_covered(mine: &[u32], theirs: &[u32]) -> bool
+    requires { length mine.now ≡ length theirs.now }
+    ensures { IsTrue result ↔ Covers (length mine.now) (slice_index mine.now) (slice_index theirs.now) }
+{
+    let mut short = false;
+    for c in 0..theirs.len() {
+        if mine[c] < theirs[c] {
+            short = true;
+        }
+    }
+    !short
 }
 
 /// The lowest place at which a number is less than the one of `theirs`, which has as many.
