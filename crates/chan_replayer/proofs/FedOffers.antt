@@ -29,7 +29,7 @@ use Rattle.run_model.proofs.Contents.{content-fits, content-joined, fit-joined, 
 use Rattle.run_model.proofs.JoinedLaws.{joined-more}
 use Rattle.chan_replayer.specs.declared.feed.Feed.{Feed}
 use Rattle.chan_replayer.specs.Feed.{need_of, IsFeedOver, IsUp}
-use Rattle.chan_replayer.specs.Fed.{fed_content, AreFed}
+use Rattle.chan_replayer.specs.Fed.{fed_content, AreFed, AreOffered}
 
 -- ---- one channel's clock in a feed
 pub clock-within : (n c : ℕ) → c < n → n * c + n ≤ n * n
@@ -113,6 +113,21 @@ marked-none channels dir n feed have = record {
   where
     one-small : (d : ℕ) → 0 < 2 ^ d
     one-small d = pow_pos d
+
+-- a channel of a direction that is up
+pub up-of : (dir of : Dir) {P : Type 0} (up r : Bool) → ((r ≡ true) ↔ ((dir ≡ of) × (up ≡ true))) → ((up ≡ true) ↔ P) → (r ≡ true) ↔ ((dir ≡ of) × P)
+up-of dir of up r says is = (
+  λ t. (let p = says.0 t in (p.0, is.0 p.1)),
+  λ p. says.1 (p.0, is.1 p.1),
+)
+
+-- none is left
+pub all-marked : (channels : List Channel) (dir : Dir) (feed : Feed) (have : ℕ → ℕ) (more left mask : ℕ) → left ≡ 0
+    → AreMarked channels dir (IsUp (length channels) feed have) more left mask → AreOffered channels dir feed have mask
+all-marked channels dir feed have more left mask none are = record {
+  below = are.below;
+  each = λ c x at. are.each c x at (ap (λ m. bit_at m c) none ∙ bit_at-zero c);
+}
 
 pub marked-more : (channels : List Channel) (dir : Dir) (up : ℕ → Type 0) (more left mask c others new : ℕ) (x : Channel) (b : Bool)
     → more < 2 ^ length channels → IsLowest left c others → x ≡ get_or channels c x → ((b ≡ true) ↔ ((x.dir ≡ dir) × up c))

@@ -1,7 +1,8 @@
 -- A shell behind replayers.
-use Rattle.std.specs.Prelude.{◌≡◌, ℕ, ◌<◌, ◌↔◌, true, if◌then◌else◌, List, Option, Some, length, slice_get, slice_index}
+use Rattle.std.specs.Prelude.{◌≡◌, ℕ, ◌^◌, ◌<◌, ◌↔◌, true, if◌then◌else◌, List, Option, Some, length, slice_get, slice_index}
 use Rattle.vidi_bits.specs.Number.{has}
 use Rattle.trace_model.specs.declared.channel.Channel.{Channel}
+use Rattle.trace_model.specs.declared.channel.Dir.{Dir}
 use Rattle.trace_model.specs.declared.channel.Dir.TheVariants.{Inward, Outward}
 use Rattle.trace_model.specs.declared.row.Offers.{Offers}
 use Rattle.trace_model.specs.declared.row.Row.{Row}
@@ -16,6 +17,11 @@ use Rattle.chan_replayer.specs.Feed.{IsUp}
 -- the numbers on channel c: those that are fed while its valid is up, else 0 for each port
 abbrev pub fed_content : List Channel → ℕ → List ℕ → ℕ → List ℕ
 fed_content channels valids contents c = if has valids c then content_at channels contents c else no_content channels c
+
+-- the mask names the channels of a direction whose next event is there and covered
+pub record AreOffered (channels : List Channel) (dir : Dir) (feed : Feed) (have : ℕ → ℕ) (mask : ℕ) : Type 0 where
+  pub below : mask < 2 ^ length channels
+  pub each : (c : ℕ) (x : Channel) → slice_get channels c ≡ Some x → (has mask c ≡ true) ↔ ((x.dir ≡ dir) × IsUp (length channels) feed have c)
 
 -- the offers are those that replayers make of the feed, where `have` completions came before
 pub record AreFed (channels : List Channel) (have : ℕ → ℕ) (feed : Feed) (offers : Offers) : Type 0 where

@@ -7,7 +7,7 @@ ghost use Rattle.trace_model.specs.Packet.{Fit};
 ghost use Rattle.trace_model.specs.Row.{all_widths, replaced};
 ghost use Rattle.run_model.specs.Building.{joined};
 ghost use Rattle.chan_replayer.specs.Feed.{IsFeedOver, IsUp};
-ghost use Rattle.chan_replayer.specs.Fed.{fed_content, AreFed};
+ghost use Rattle.chan_replayer.specs.Fed.{fed_content, AreFed, AreOffered};
 
 use crate::feed::Feed;
 use crate::replayer::Replayer;
@@ -37,42 +37,40 @@ fn is_up(have: &Replayer, feed: &Feed, channels: usize, c: usize) -> bool
     have.offers(more, needs_of(feed, channels, c))
 }
 
-/// Whether channel `c` is one of this direction whose next event is there and covered.
-fn is_offered(
-    have: &Replayer,
-    channel: &Channel,
-    feed: &Feed,
-    channels: usize,
-    c: usize,
-    dir: Dir,
-) -> bool
-    requires channel { c < channels }
-    requires few { channels ≤ 128 }
-    requires have { length have.now ≡ channels }
-    requires needs { length feed.now.needs ≡ channels * channels }
-    ensures { IsTrue result ↔ (channel.now.dir ≡ dir) × IsUp channels feed.now (slice_index have.now) c }
+/// Whether a channel of direction `dir` is up and of direction `of`.
+fn is_up_of(up: bool, dir: Dir, of: Dir) -> bool
+    ensures { IsTrue result ↔ (dir ≡ of) × (up ≡ true) }
 {
-    channel.dir == dir && is_up(have, feed, channels, c)
+    dir == of && up
 }
 
-/// The channels of a direction whose next event is there and covered.
-fn offered(have: &Replayer, channels: &[Channel], feed: &Feed, dir: Dir) -> u128
+/// What is offered: the inward channels whose valid is up, and the outward ones whose ready is. Bit c is channel c.
+#[derive(Clone, Copy)]
+struct Raised {
+    valids: u128,
+    readies: u128,
+}
+
+/// The channels of each direction whose next event is there and covered.
+fn offered(have: &Replayer, channels: &[Channel], feed: &Feed) -> Raised
     requires few { length channels.now ≤ 128 }
     requires have { length have.now ≡ length channels.now }
     requires more { feed.now.more < 2 ^ length channels.now }
     requires needs { length feed.now.needs ≡ length channels.now * length channels.now }
-    ensures below { result < 2 ^ length channels.now }
-    ensures each { (c : ℕ) (x : OneChannel) → slice_get channels.now c ≡ Some x
-        → (has result c ≡ true) ↔ (x.dir ≡ dir) × IsUp (length channels.now) feed.now (slice_index have.now) c }
+    ensures valids { AreOffered channels.now Dir.Inward feed.now (slice_index have.now) result.valids }
+    ensures readies { AreOffered channels.now Dir.Outward feed.now (slice_index have.now) result.readies }
 {
-    let mut mask = 0;
+    let mut valids = 0;
+    let mut readies = 0;
     let mut left = feed.more;
     'more: while let Some((c, others)) = lowest(left) {
-        let up = is_offered(have, &channels[c], feed, channels.len(), c, dir);
-        mask = with_bit(mask, c, up);
+        let up = is_up(have, feed, channels.len(), c);
+        let dir = channels[c].dir;
+        valids = with_bit(valids, c, is_up_of(up, dir, Dir::Inward));
+        readies = with_bit(readies, c, is_up_of(up, dir, Dir::Outward));
         left = others;
     }
-    mask
+    Raised { valids, readies }
 }
 
 /// Makes the content that begins at place `at` 0 for each port, unless the channel's valid is up.
@@ -109,9 +107,9 @@ pub(crate) fn fill_offers(have: &Replayer, channels: &Channels, feed: &Feed, off
     ensures { AreFed channels.now (slice_index have.now) feed.now offers.new }
 {
     let channels = channels.as_slice();
-    let valids = offered(have, channels, feed, Dir::Inward);
+    let Raised { valids, readies } = offered(have, channels, feed);
     let fed = feed.contents.as_slice();
     fill_contents(valids, channels, fed, offers.contents.as_mut_slice());
     offers.valids = valids;
-    offers.readies = offered(have, channels, feed, Dir::Outward);
+    offers.readies = readies;
 }

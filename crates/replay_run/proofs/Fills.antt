@@ -30,7 +30,7 @@ use Rattle.run_model.proofs.PinLemmas.{all-at}
 use Rattle.chan_replayer.specs.declared.feed.Feed.{Feed}
 use Rattle.chan_replayer.specs.Feed.{kind_of, need_of, IsFeed, IsFeedAt, IsFeedOver}
 use Rattle.replay_run.specs.Behind.{IsBehind}
-use Rattle.replay_run.specs.Feeding.{IsFeedBut, IsSameAt}
+use Rattle.replay_run.specs.Feeding.{IsClockBefore, IsFedBefore, IsFeedBut, IsSameAt}
 use Rattle.replay_run.proofs.Placing.{content-here, content-other, fit-replaced, room-at, still-below}
 
 -- ---- a clock
@@ -239,20 +239,21 @@ written-over channels c at old new fit place w =
     subst (Fit (all_widths channels)) (sym w.new_is) (fit-replaced channels old w.numbers c at w.channel fit w.there place w.fit)
 
 -- ---- one channel
--- `feed_event` says so, of n channels
-pub record IsEventFed (k : Cursor) (n c : ℕ) (r : Bool) (old new : Feed) : Type 0 where
+-- `feed_event` says so, of n channels; its clock is right for the traces of which `right` holds
+pub record IsEventFed (right : Trace → Type 0) (k : Cursor) (n c : ℕ) (r : Bool) (old new : Feed) : Type 0 where
   pub more : has new.more c ≡ r
   pub there : (t : Trace) (j : ℕ) → Stands k t j → (r ≡ true) ↔ (j < count k.kind k.channel t.packets)
-  pub need : (t : Trace) (j p : ℕ) (packet : Packet) → Stands k t j → n ≡ length t.channels → IsNth (does k.kind k.channel) t.packets j p packet
+  pub need : (t : Trace) (j p : ℕ) (packet : Packet) → right t → Stands k t j → n ≡ length t.channels → IsNth (does k.kind k.channel) t.packets j p packet
       → (d : ℕ) → d < n → need_of n new c d ≡ clock t.packets p d
   pub other_more : (d : ℕ) → d ≢ c → has new.more d ≡ has old.more d
   pub other_needs : (d e : ℕ) → d ≢ c → e < n → need_of n new d e ≡ need_of n old d e
   pub needs : length new.needs ≡ n * n
   pub contents : new.contents ≡ old.contents
 
-module _ (channels : List Channel) (k : Cursor) (n c : ℕ) (r : Bool) (old mid : Feed) (many : n ≡ length channels) (fed : IsEventFed k n c r old mid) where
-  own : IsEventFed k (length channels) c r old mid
-  own = subst (λ m. IsEventFed k m c r old mid) many fed
+module _ (right : Trace → Type 0) (channels : List Channel) (k : Cursor) (n c : ℕ) (r : Bool) (old mid : Feed) (many : n ≡ length channels)
+    (fed : IsEventFed right k n c r old mid) where
+  own : IsEventFed right k (length channels) c r old mid
+  own = subst (λ m. IsEventFed right k m c r old mid) many fed
 
   pub event-others : (d : ℕ) → d ≢ c → IsSameAt channels d old mid
   event-others d ne = record {
@@ -268,15 +269,16 @@ module _ (channels : List Channel) (k : Cursor) (n c : ℕ) (r : Bool) (old mid 
     contents = subst (Fit (all_widths channels)) (sym own.contents) over.contents;
   }
 
-  need-fed : (t : Trace) → t.channels ≡ channels → (j p : ℕ) (packet : Packet) → Stands k t j → IsNth (does k.kind k.channel) t.packets j p packet
+  need-fed : (t : Trace) → right t → t.channels ≡ channels → (j p : ℕ) (packet : Packet) → Stands k t j → IsNth (does k.kind k.channel) t.packets j p packet
       → (d : ℕ) → d < length channels → need_of (length channels) mid c d ≡ clock t.packets p d
-  need-fed t same j p packet st nth-is d l = own.need t j p packet st (sym (ap length same)) nth-is d l
+  need-fed t is-right same j p packet st nth-is d l = own.need t j p packet is-right st (sym (ap length same)) nth-is d l
 
-  pub end-here : (t : Trace) (i : ℕ) → IsBehind t End c i k → t.channels ≡ channels → IsFeedAt channels t.packets End c i mid
-  end-here t i is same = fed-end channels t c i k mid r same is own.more (own.there t) (need-fed t same)
+  pub end-here : (t : Trace) (i : ℕ) → right t → IsBehind t End c i k → t.channels ≡ channels → IsFeedAt channels t.packets End c i mid
+  end-here t i is-right is same = fed-end channels t c i k mid r same is own.more (own.there t) (need-fed t is-right same)
 
-  pub none-here : (t : Trace) (i : ℕ) → r ≡ false → IsBehind t Start c i k → t.channels ≡ channels → IsFeedAt channels t.packets Start c i mid
-  none-here t i down is same = fed-none channels t c i k mid r same is own.more down (own.there t) (need-fed t same)
+  pub none-here : (t : Trace) (i : ℕ) → r ≡ false → right t → IsBehind t Start c i k → t.channels ≡ channels
+      → IsFeedAt channels t.packets Start c i mid
+  none-here t i down is-right is same = fed-none channels t c i k mid r same is own.more down (own.there t) (need-fed t is-right same)
 
   -- there is a start, whose content is written from place `at` on
   module _ (at ports : ℕ) (x : Channel) (new : Feed) (over : IsFeedOver channels old) (up : r ≡ true) (place : at ≡ first_of channels c)
@@ -311,10 +313,10 @@ module _ (channels : List Channel) (k : Cursor) (n c : ℕ) (r : Bool) (old mid 
           content = written-other channels c at d mid.contents new.contents long place (content-written t i is same) ne ∙ was.content;
         }
 
-    pub start-here : (t : Trace) (i : ℕ) → IsBehind t Start c i k → t.channels ≡ channels → IsFeedAt channels t.packets Start c i new
-    start-here t i is same =
+    pub start-here : (t : Trace) (i : ℕ) → right t → IsBehind t Start c i k → t.channels ≡ channels → IsFeedAt channels t.packets Start c i new
+    start-here t i is-right is same =
         fed-at channels t Start c i k new r same is (ap (λ m. has m c) more-same ∙ own.more) (own.there t)
-        (λ j p packet st nth-is d l. ap (λ xs. get_or xs (length channels * c + d) 0) needs-same ∙ need-fed t same j p packet st nth-is d l)
+        (λ j p packet st nth-is d l. ap (λ xs. get_or xs (length channels * c + d) 0) needs-same ∙ need-fed t is-right same j p packet st nth-is d l)
         (λ p packet nth-is e.
         content-fed channels t c i at ports k x mid.contents new.contents same is x-there ports-are writes long place p packet nth-is)
 
@@ -366,6 +368,28 @@ fed-named channels packets have which c x old new within ex others here so_far d
     (λ (f : has which d ≡ false). inr f)
     side)))
     (cases_eq d c)
+
+-- the channel before channel c is fed
+pub fed-before : (channels : List Channel) (packets : List Packet) (have : ℕ → ℕ) (which c : ℕ) (feed : Feed)
+    → AreFedBelow channels packets have which c feed → IsFedBefore channels packets have c feed
+fed-before channels packets have which c feed so_far b x next at = so_far b x at (inl (omega (arith, next)))
+
+-- the clock of the channel before is the one of a cursor's event, where its own event is in the same packet
+pub clock-before : (channels : List Channel) (t : Trace) (have : ℕ → ℕ) (c b : ℕ) (feed : Feed) (x : Channel) (k o : Cursor)
+    → b + 1 ≡ c → slice_get channels b ≡ Some x → IsBehind t (kind_of x.dir) b (have b) o
+    → ((i j p : ℕ) (packet : Packet) → Stands k t i → Stands o t j → IsNth (does k.kind k.channel) t.packets i p packet
+    → IsNth (does o.kind o.channel) t.packets j p packet)
+    → IsFedBefore channels t.packets have c feed → IsClockBefore t k (length channels) c feed.needs
+clock-before channels t have c b feed x k o next at is beside fed i p packet st nth-is e same d l =
+    let too = beside i (min (have b) (count (kind_of x.dir) b t.packets)) p packet st is.stands nth-is in
+    let own : IsNth (does (kind_of x.dir) b) t.packets (min (have b) (count (kind_of x.dir) b t.packets)) p packet =
+    subst (λ (a : Kind). IsNth (does a b) t.packets (min (have b) (count (kind_of x.dir) b t.packets)) p packet) is.over.0
+    (subst (λ a. IsNth (does o.kind a) t.packets (min (have b) (count (kind_of x.dir) b t.packets)) p packet) is.over.1 too) in
+    let here = nth-below (does (kind_of x.dir) b) t.packets (min (have b) (count (kind_of x.dir) b t.packets)) p packet own in
+    let n : min (have b) (count (kind_of x.dir) b t.packets) ≡ have b = omega (arith, here) in
+    let row : e ≡ b = omega (arith, next, same) in
+    ap (λ a. get_or feed.needs (length channels * a + d) 0) row
+    ∙ (fed b x next at).need p packet (subst (λ a. IsNth (does (kind_of x.dir) b) t.packets a p packet) n own) d l
 
 -- nothing is fed where the channel isn't named
 pub same-at : (channels : List Channel) (c : ℕ) (feed : Feed) → IsSameAt channels c feed feed

@@ -1,9 +1,15 @@
 -- Feeds that are alike on some channels.
-use Rattle.std.specs.Prelude.{◌≡◌, ℕ, ◌<◌, false, List, Some, length, slice_get}
+use Rattle.std.specs.Prelude.{◌≡◌, ℕ, ◌+◌, ◌*◌, ◌<◌, false, List, Some, length, slice_get, slice_index}
 use Rattle.vidi_bits.specs.Number.{has}
 use Rattle.trace_model.specs.declared.channel.Channel.{Channel}
 use Rattle.trace_model.specs.declared.packet.Packet.{Packet}
+use Rattle.trace_model.specs.declared.trace.Trace.{Trace}
+use Rattle.trace_model.specs.Clock.{clock}
+use Rattle.trace_model.specs.Counting.{IsNth}
+use Rattle.trace_model.specs.Packet.{does}
 use Rattle.trace_model.specs.Row.{content_at}
+use Rattle.trace_code.specs.declared.cursor.Cursor.{Cursor}
+use Rattle.trace_code.specs.Stands.{Stands}
 use Rattle.chan_replayer.specs.declared.feed.Feed.{Feed}
 use Rattle.chan_replayer.specs.Feed.{kind_of, need_of, IsFeedAt}
 
@@ -17,3 +23,13 @@ pub record IsSameAt (channels : List Channel) (c : ℕ) (old new : Feed) : Type 
 abbrev pub IsFeedBut : ℕ → List Channel → List Packet → (ℕ → ℕ) → Feed → Type 0
 IsFeedBut mask channels packets have feed = (c : ℕ) (x : Channel) → slice_get channels c ≡ Some x → has mask c ≡ false
     → IsFeedAt channels packets (kind_of x.dir) c (have c) feed
+
+-- row c - 1 of the clocks of n channels is the clock of the event at which the cursor stands
+abbrev pub IsClockBefore : Trace → Cursor → ℕ → ℕ → List ℕ → Type 0
+IsClockBefore t k n c needs = (j p : ℕ) (packet : Packet) → Stands k t j → IsNth (does k.kind k.channel) t.packets j p packet
+    → (b : ℕ) → b + 1 ≡ c → (d : ℕ) → d < n → slice_index needs (n * b + d) ≡ clock t.packets p d
+
+-- *IsFeed* of channel c - 1, where there is one
+abbrev pub IsFedBefore : List Channel → List Packet → (ℕ → ℕ) → ℕ → Feed → Type 0
+IsFedBefore channels packets have c feed = (b : ℕ) (x : Channel) → b + 1 ≡ c → slice_get channels b ≡ Some x
+    → IsFeedAt channels packets (kind_of x.dir) b (have b) feed

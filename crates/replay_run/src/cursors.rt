@@ -6,11 +6,12 @@ ghost use Rattle.trace_model.specs.declared.event.Kind.{Kind as OneKind};
 ghost use Rattle.trace_model.specs.declared.trace.Trace.{Trace};
 ghost use Rattle.trace_model.specs.Row.{is_in_flight};
 ghost use Rattle.trace_code.specs.Encoding.{Encodes};
+ghost use Rattle.chan_replayer.specs.Feed.{kind_of};
 ghost use Rattle.replay_run.specs.Behind.{none_yet, AreAt, AreBehind, IsBehind, IsDone};
 
 use std::alloc::Global;
 use trace_code::Cursor;
-use trace_model::{Kind, Row, names};
+use trace_model::{Dir, Kind, Row, names};
 use vidi_bits::Memory;
 
 /// For each channel of a trace a cursor over its starts and one over its completions, both behind as many transactions. Only
@@ -75,6 +76,27 @@ pub(crate) fn is_in_flight(row: &Row, c: usize) -> bool
     ensures { result ≡ is_in_flight row.now c }
 {
     names(row.valids, c) && names(row.gates, c) && !names(row.readies, c)
+}
+
+/// The cursor over the events of this kind on a channel.
+pub(crate) fn cursor_of<'a, 'b>(cursors: &'a Cursors<'b>, kind: Kind, c: usize) -> &'a Cursor<'b>
+    requires { (t : Trace) × (have : ℕ → ℕ) × AreBehind t have cursors.now × (c < length t.channels) }
+    ensures { (t : Trace) (have : ℕ → ℕ) → AreBehind t have cursors.now → c < length t.channels → IsBehind t kind c (have c) result.now }
+{
+    match kind {
+        Kind::Start => &cursors.starts[c],
+        Kind::End => &cursors.ends[c],
+    }
+}
+
+/// The events of a channel of this direction that replayers control.
+pub(crate) fn kind_of(dir: Dir) -> Kind
+    ensures { result ≡ kind_of dir }
+{
+    match dir {
+        Dir::Inward => Kind::Start,
+        Dir::Outward => Kind::End,
+    }
 }
 
 impl<'a> Cursors<'a> {

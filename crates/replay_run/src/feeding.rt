@@ -13,9 +13,10 @@ ghost use Rattle.trace_model.specs.Row.{all_widths, replaced};
 ghost use Rattle.trace_code.specs.Stands.{Stands};
 ghost use Rattle.chan_replayer.specs.Feed.{kind_of, need_of, IsFeed, IsFeedAt, IsFeedOver};
 ghost use Rattle.replay_run.specs.Behind.{none_yet, AreBehind, IsBehind};
-ghost use Rattle.replay_run.specs.Feeding.{IsFeedBut, IsSameAt};
+ghost use Rattle.replay_run.specs.Feeding.{IsClockBefore, IsFedBefore, IsFeedBut, IsSameAt};
+ghost use Rattle.chan_replayer.specs.declared.feed.Feed.{Feed as OneFeed};
 
-use crate::cursors::Cursors;
+use crate::cursors::{Cursors, cursor_of, kind_of};
 use chan_replayer::{Feed, Needs};
 use std::alloc::Global;
 use trace_code::Cursor;
@@ -46,6 +47,18 @@ fn copy_needs(cursor: &Cursor, channels: usize, needs: &mut [u32], at: usize)
 {
     for d in 0..channels {
         needs[at + d] = cursor.need(d);
+    }
+}
+
+/// Writes again from place `at` on as many numbers as there are channels, which stand from place `from` on and end before it.
+fn repeat_needs(needs: &mut [u32], from: usize, at: usize, channels: usize)
+    requires apart { from + channels ≤ at }
+    requires room { at + channels ≤ length needs.old }
+    ensures here { (d : ℕ) → d < channels → slice_index needs.new (at + d) ≡ slice_index needs.old (from + d) }
+    ensures others { (i : ℕ) → (i < at) ⊎ (at + channels ≤ i) → slice_index needs.new i ≡ slice_index needs.old i }
+{
+    for d in 0..channels {
+        needs[at + d] = needs[from + d];
     }
 }
 
@@ -81,6 +94,43 @@ fn write_needs(cursor: &Cursor, channels: usize, c: usize, needs: &mut Needs)
     copy_needs(cursor, channels, needs.as_mut_slice(), channels * c);
 }
 
+/// Writes the clock of the channel before channel `c` as that of channel `c`.
+fn repeat_clock(channels: usize, c: usize, needs: &mut Needs)
+    requires before { 1 ≤ c }
+    requires channel { c < channels }
+    requires few { channels ≤ 128 }
+    requires places { length needs.old ≡ channels * channels }
+    ensures here { (b d : ℕ) → b + 1 ≡ c → d < channels
+        → slice_index needs.new (channels * c + d) ≡ slice_index needs.old (channels * b + d) }
+    ensures others { (d e : ℕ) → d ≢ c → e < channels
+        → slice_index needs.new (channels * d + e) ≡ slice_index needs.old (channels * d + e) }
+    ensures places { length needs.new ≡ channels * channels }
+{
+    let before = channels * (c - 1);
+    repeat_needs(needs.as_mut_slice(), before, channels * c, channels);
+}
+
+/// Writes the clock of the event at which a cursor stands as that of channel `c`. Where it is alike, it is that of the channel before.
+fn feed_clock(cursor: &Cursor, alike: bool, channels: usize, c: usize, needs: &mut Needs)
+    requires stands { (t : Trace) × (j : ℕ) × Stands cursor.now t j × (channels ≡ length t.channels) }
+    requires before { alike ≡ true → 1 ≤ c }
+    requires channel { c < channels }
+    requires few { channels ≤ 128 }
+    requires places { length needs.old ≡ channels * channels }
+    ensures here { (t : Trace) (j p : ℕ) (packet : Packet) → (alike ≡ true → IsClockBefore t cursor.now channels c needs.old)
+        → Stands cursor.now t j → channels ≡ length t.channels → IsNth (does cursor.now.kind cursor.now.channel) t.packets j p packet
+        → (d : ℕ) → d < channels → slice_index needs.new (channels * c + d) ≡ clock t.packets p d }
+    ensures others { (d e : ℕ) → d ≢ c → e < channels
+        → slice_index needs.new (channels * d + e) ≡ slice_index needs.old (channels * d + e) }
+    ensures places { length needs.new ≡ channels * channels }
+{
+    if alike {
+        repeat_clock(channels, c, needs);
+    } else {
+        write_needs(cursor, channels, c, needs);
+    }
+}
+
 /// Writes the content of the start at which a cursor stands, a number for each port, from place `at` on.
 fn write_content(cursor: &Cursor, ports: usize, contents: &mut Numbers, at: usize)
     requires start { cursor.now.kind ≡ Kind.Start }
@@ -95,15 +145,18 @@ fn write_content(cursor: &Cursor, ports: usize, contents: &mut Numbers, at: usiz
     copy_content(cursor, ports, contents.as_mut_slice(), at);
 }
 
-/// Feeds the event at which a cursor stands as that of channel `c`: whether there is one, and its clock. Gives whether there is.
-fn feed_event(cursor: &Cursor, channels: usize, c: usize, feed: &mut Feed) -> bool
+/// Feeds the event at which a cursor stands as that of channel `c`: whether there is one, and its clock, which is that of the channel
+/// before where it is alike. Gives whether there is.
+fn feed_event(cursor: &Cursor, alike: bool, channels: usize, c: usize, feed: &mut Feed) -> bool
     requires stands { (t : Trace) × (j : ℕ) × Stands cursor.now t j × (channels ≡ length t.channels) }
+    requires before { alike ≡ true → 1 ≤ c }
     requires channel { c < channels }
     requires few { channels ≤ 128 }
     requires needs { length feed.old.needs ≡ channels * channels }
     ensures more { has feed.new.more c ≡ result }
     ensures there { (t : Trace) (j : ℕ) → Stands cursor.now t j → IsTrue result ↔ (j < count cursor.now.kind cursor.now.channel t.packets) }
-    ensures need { (t : Trace) (j p : ℕ) (packet : Packet) → Stands cursor.now t j → channels ≡ length t.channels
+    ensures need { (t : Trace) (j p : ℕ) (packet : Packet) → (alike ≡ true → IsClockBefore t cursor.now channels c feed.old.needs)
+        → Stands cursor.now t j → channels ≡ length t.channels
         → IsNth (does cursor.now.kind cursor.now.channel) t.packets j p packet
         → (d : ℕ) → d < channels → need_of channels feed.new c d ≡ clock t.packets p d }
     ensures other_more { (d : ℕ) → d ≢ c → has feed.new.more d ≡ has feed.old.more d }
@@ -116,40 +169,67 @@ fn feed_event(cursor: &Cursor, channels: usize, c: usize, feed: &mut Feed) -> bo
     if !more {
         return false;
     }
-    write_needs(cursor, channels, c, &mut feed.needs);
+    feed_clock(cursor, alike, channels, c, &mut feed.needs);
     true
 }
 
-/// Feeds the start at which a cursor stands as that of channel `c`, whose contents begin at place `at`.
-fn feed_start(cursor: &Cursor, channels: &[Channel], c: usize, at: usize, feed: &mut Feed)
+/// Feeds the start at which a cursor stands as that of channel `c`, whose contents begin at place `at`. Where it is alike, its clock is
+/// that of the channel before.
+fn feed_start(
+    cursor: &Cursor,
+    alike: bool,
+    channels: &[Channel],
+    c: usize,
+    at: usize,
+    feed: &mut Feed,
+)
+    requires before { alike ≡ true → 1 ≤ c }
     requires channel { c < length channels.now }
     requires few { length channels.now ≤ 128 }
     requires stands { (t : Trace) × (n : ℕ) × IsBehind t Kind.Start c n cursor.now × (t.channels ≡ channels.now) }
     requires over { IsFeedOver channels.now feed.old }
     requires place { at ≡ length (all_widths (take c channels.now)) }
     ensures over { IsFeedOver channels.now feed.new }
-    ensures here { (t : Trace) (n : ℕ) → IsBehind t Kind.Start c n cursor.now → t.channels ≡ channels.now
+    ensures here { (t : Trace) (n : ℕ) → (alike ≡ true → IsClockBefore t cursor.now (length channels.now) c feed.old.needs)
+        → IsBehind t Kind.Start c n cursor.now → t.channels ≡ channels.now
         → IsFeedAt channels.now t.packets Kind.Start c n feed.new }
     ensures others { (d : ℕ) → d ≢ c → IsSameAt channels.now d feed.old feed.new }
 {
-    if feed_event(cursor, channels.len(), c, feed) {
+    if feed_event(cursor, alike, channels.len(), c, feed) {
         let ports = channels[c].widths.len();
         write_content(cursor, ports, &mut feed.contents, at);
     }
 }
 
-/// Feeds the completion at which a cursor stands as that of channel `c`.
-fn feed_end(cursor: &Cursor, channels: &[Channel], c: usize, feed: &mut Feed)
+/// Feeds the completion at which a cursor stands as that of channel `c`. Where it is alike, its clock is that of the channel before.
+fn feed_end(cursor: &Cursor, alike: bool, channels: &[Channel], c: usize, feed: &mut Feed)
+    requires before { alike ≡ true → 1 ≤ c }
     requires channel { c < length channels.now }
     requires few { length channels.now ≤ 128 }
     requires stands { (t : Trace) × (n : ℕ) × IsBehind t Kind.End c n cursor.now × (t.channels ≡ channels.now) }
     requires over { IsFeedOver channels.now feed.old }
     ensures over { IsFeedOver channels.now feed.new }
-    ensures here { (t : Trace) (n : ℕ) → IsBehind t Kind.End c n cursor.now → t.channels ≡ channels.now
+    ensures here { (t : Trace) (n : ℕ) → (alike ≡ true → IsClockBefore t cursor.now (length channels.now) c feed.old.needs)
+        → IsBehind t Kind.End c n cursor.now → t.channels ≡ channels.now
         → IsFeedAt channels.now t.packets Kind.End c n feed.new }
     ensures others { (d : ℕ) → d ≢ c → IsSameAt channels.now d feed.old feed.new }
 {
-    feed_event(cursor, channels.len(), c, feed);
+    feed_event(cursor, alike, channels.len(), c, feed);
+}
+
+/// Whether the next event of the channel before channel `c`, where there is one, is in the packet of the event at which a cursor stands.
+fn is_alike(cursors: &Cursors, channels: &[Channel], c: usize, cursor: &Cursor) -> bool
+    requires channel { c < length channels.now }
+    requires stands { (t : Trace) × (have : ℕ → ℕ) × AreBehind t have cursors.now × (t.channels ≡ channels.now) }
+    ensures before { result ≡ true → 1 ≤ c }
+    ensures clock { result ≡ true → (t : Trace) (have : ℕ → ℕ) (feed : OneFeed) → AreBehind t have cursors.now → t.channels ≡ channels.now
+        → IsFedBefore channels.now t.packets have c feed → IsClockBefore t cursor.now (length channels.now) c feed.needs }
+{
+    if c == 0 {
+        return false;
+    }
+    let before = c - 1;
+    cursor.is_beside(cursor_of(cursors, kind_of(channels[before].dir), before))
 }
 
 /// Feeds the next event of channel `c`, which has this direction and whose contents begin at place `at`.
@@ -168,12 +248,14 @@ fn feed_channel(
     requires place { at ≡ length (all_widths (take c channels.now)) }
     ensures over { IsFeedOver channels.now feed.new }
     ensures here { (t : Trace) (have : ℕ → ℕ) → AreBehind t have cursors.now → t.channels ≡ channels.now
-        → IsFeedAt channels.now t.packets (kind_of dir) c (have c) feed.new }
+        → IsFedBefore channels.now t.packets have c feed.old → IsFeedAt channels.now t.packets (kind_of dir) c (have c) feed.new }
     ensures others { (d : ℕ) → d ≢ c → IsSameAt channels.now d feed.old feed.new }
 {
+    let cursor = cursor_of(cursors, kind_of(dir), c);
+    let alike = is_alike(cursors, channels, c, cursor);
     match dir {
-        Dir::Inward => feed_start(&cursors.starts[c], channels, c, at, feed),
-        Dir::Outward => feed_end(&cursors.ends[c], channels, c, feed),
+        Dir::Inward => feed_start(cursor, alike, channels, c, at, feed),
+        Dir::Outward => feed_end(cursor, alike, channels, c, feed),
     }
 }
 
@@ -193,7 +275,8 @@ fn feed_named(
     requires over { IsFeedOver channels.now feed.old }
     requires place { at ≡ length (all_widths (take c channels.now)) }
     ensures over { IsFeedOver channels.now feed.new }
-    ensures here { (t : Trace) (have : ℕ → ℕ) → AreBehind t have cursors.now → t.channels ≡ channels.now → has which c ≡ true
+    ensures here { (t : Trace) (have : ℕ → ℕ) → AreBehind t have cursors.now → t.channels ≡ channels.now
+        → IsFedBefore channels.now t.packets have c feed.old → has which c ≡ true
         → IsFeedAt channels.now t.packets (kind_of dir) c (have c) feed.new }
     ensures others { (d : ℕ) → (d ≢ c) ⊎ (has which d ≡ false) → IsSameAt channels.now d feed.old feed.new }
 {

@@ -15,7 +15,7 @@ ghost use Rattle.run_model.specs.Replay.{done};
 ghost use Rattle.replay_run.specs.Behind.{AreBehind, IsBehind};
 ghost use Rattle.replay_run.specs.Lists.{AreSpare, HasRoom, IsKept};
 
-use crate::cursors::{Cursors, is_in_flight};
+use crate::cursors::{Cursors, cursor_of, is_in_flight};
 use run_model::{Await, Awaits, Held, Helds};
 use std::alloc::Global;
 use trace_code::Cursor;
@@ -99,17 +99,6 @@ fn put_held(out: &mut Vec<Held>, event: Event, awaits: Awaits)
 {
     if !awaits.is_empty() {
         out.push_reserved(Held { event, awaits });
-    }
-}
-
-/// The cursor over the events of this kind on a channel.
-fn cursor_of<'a, 'b>(cursors: &'a Cursors<'b>, kind: Kind, c: usize) -> &'a Cursor<'b>
-    requires { (t : Trace) × (have : ℕ → ℕ) × AreBehind t have cursors.now × (c < length t.channels) }
-    ensures { (t : Trace) (have : ℕ → ℕ) → AreBehind t have cursors.now → c < length t.channels → IsBehind t kind c (have c) result.now }
-{
-    match kind {
-        Kind::Start => &cursors.starts[c],
-        Kind::End => &cursors.ends[c],
     }
 }
 

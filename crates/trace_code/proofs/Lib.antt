@@ -19,3 +19,4 @@ pub mod Words
 pub mod Ahead
 pub mod Walking
 pub mod Content
+pub mod Beside

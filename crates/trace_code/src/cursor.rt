@@ -11,7 +11,7 @@ ghost use Rattle.trace_code.specs.Standing.{bytes_from};
 ghost use Rattle.trace_code.specs.Stands.{WalksOver, Stands};
 
 use crate::error::CodeError;
-use crate::head::{Head, starts_len};
+use crate::head::Head;
 use crate::header::read_header;
 use crate::number::mask_len;
 use crate::tally::Tally;
@@ -48,6 +48,8 @@ pub struct Cursor<'a> {
     clock: Tally,
     /// How many packets behind the next event's are known to have its masks.
     same: u32,
+    /// How many bytes of that packet's contents stand before its own channel's.
+    below: usize,
 }
 
 impl<'a> Cursor<'a> {
@@ -88,6 +90,7 @@ impl<'a> Cursor<'a> {
         let mut clock = Tally::new(alloc, channels.len())?;
         let mut head = Head::new(sizes);
         let rest = seek(rest, &mut head, &mut clock, kind, channel);
+        let below = head.below(channel);
         Ok(Cursor {
             channel,
             kind,
@@ -96,6 +99,7 @@ impl<'a> Cursor<'a> {
             widths,
             clock,
             same: 0,
+            below,
         })
     }
 
@@ -116,6 +120,15 @@ impl<'a> Cursor<'a> {
         self.clock.get(channel)
     }
 
+    /// Whether the next event of another cursor over this trace is in the packet of this one's.
+    pub fn is_beside(&self, other: &Cursor) -> bool
+        ensures { (t : Trace) (i j p : ℕ) (packet : Packet) → Stands self.now t i → Stands other.now t j
+            → IsNth (does self.now.kind self.now.channel) t.packets i p packet
+            → IsTrue result ↔ IsNth (does other.now.kind other.now.channel) t.packets j p packet }
+    {
+        self.rest.len() == other.rest.len()
+    }
+
     /// The number of a port of its channel in the next event's content, where it walks over starts and isn't at the end.
     pub fn content(&self, port: usize) -> u128
         requires start { self.now.kind ≡ Kind.Start }
@@ -125,9 +138,8 @@ impl<'a> Cursor<'a> {
             → IsNth (does Kind.Start self.now.channel) t.packets j p packet
             → result ≡ slice_index (content_of t.channels packet self.now.channel) port }
     {
-        let sizes = self.head.sizes.as_slice();
-        let (_head, contents) = self.rest.split_at(1 + 2 * mask_len(sizes.len()));
-        let (_below, own) = contents.split_at(starts_len(&sizes[..self.channel], self.head.starts));
+        let (_head, contents) = self.rest.split_at(1 + 2 * mask_len(self.head.channels()));
+        let (_below, own) = contents.split_at(self.below);
         number_of(self.widths.as_slice(), port, own)
     }
 
@@ -151,6 +163,7 @@ impl<'a> Cursor<'a> {
                 self.channel,
             );
             self.same = self.head.count_same(self.rest);
+            self.below = self.head.below(self.channel);
         }
     }
 }

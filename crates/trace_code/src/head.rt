@@ -1,6 +1,6 @@
 //! The head of a packet: its masks, and what they say of its length.
 
-ghost use Rattle.std.specs.Prelude.{◌≡◌, IsTrue, ◌≤◌, ◌<◌, ◌+◌, ◌*◌, ◌^◌, ℕ, length, drop};
+ghost use Rattle.std.specs.Prelude.{◌≡◌, IsTrue, ◌≤◌, ◌<◌, ◌+◌, ◌*◌, ◌^◌, ℕ, length, drop, take};
 ghost use Rattle.vidi_bits.specs.Number.{has};
 ghost use Rattle.trace_model.specs.Length.{mask_len};
 ghost use Rattle.trace_code.specs.Heads.{mask_of, sizes_under, AreMasks, IsWord};
@@ -72,6 +72,22 @@ impl Head {
             under,
             both: 0,
         }
+    }
+
+    /// The number of channels.
+    pub(crate) fn channels(&self) -> usize
+        ensures { result ≡ length self.now.sizes.items }
+    {
+        self.sizes.as_slice().len()
+    }
+
+    /// How many bytes of the packet's contents stand before a channel's.
+    pub(crate) fn below(&self, channel: usize) -> usize
+        requires channel { channel ≤ length self.now.sizes.items }
+        requires small { sizes_under self.now.starts (take channel self.now.sizes.items) < 2 ^ 32 }
+        ensures { result ≡ sizes_under self.now.starts (take channel self.now.sizes.items) }
+    {
+        starts_len(&self.sizes.as_slice()[..channel], self.starts)
     }
 
     /// Whether one look tells that the packet at the front of the bytes has these masks.

@@ -8,5 +8,5 @@ returns c =
     let long = c.fill_contents.auto.contents in
     let filled = refill-is c.args.offers.now.contents c.fill_contents.new.contents (rw c.as_mut_slice.ensures.value at long) in
     fed-by c.args.channels.now c.as_slice-channels.result.now (λ k. get_or c.args.have.now k 0) c.args.feed.now c.as_slice-fed.result.now _
-    c.as_slice-channels.ensures c.as_slice-fed.ensures c.requires.feed c.offered-valids.ensures.below c.offered-valids.ensures.each
-    c.offered-offers.ensures.below c.offered-offers.ensures.each (filled ∙ c.fill_contents.ensures)
+    c.as_slice-channels.ensures c.as_slice-fed.ensures c.requires.feed c.offered-valids.ensures.valids.below c.offered-valids.ensures.valids.each
+    c.offered-valids.ensures.readies.below c.offered-valids.ensures.readies.each (filled ∙ c.fill_contents.ensures)

@@ -1,6 +1,8 @@
-use Rattle.std.proofs.Common.{min, length, refl, ap, sym}
+use Rattle.std.proofs.Common.{◌≡◌, true, min, length, refl, ap, sym}
 use Rattle.trace_model.specs.declared.event.Kind.TheVariants.{End}
+use Rattle.trace_model.specs.declared.trace.Trace.{Trace}
 use Rattle.trace_model.specs.Packet.{count}
+use Rattle.replay_run.specs.Feeding.{IsClockBefore}
 use Rattle.replay_run.proofs.Fills.{IsEventFed, end-here, event-others, event-over}
 use Rattle.replay_run.proofs.feeding.feed_end.Goals as goal
 
@@ -15,7 +17,8 @@ feed_event-requires-clause-needs c = c.requires.over.needs
 pub returns-clause-over : goal.returns-clause-over
 returns-clause-over c =
     let f = c.feed_event.ensures in
-    let fed : IsEventFed c.args.cursor.now (length c.args.channels.now) c.args.c c.feed_event.result c.args.feed.now c.feed_event.new.feed =
+    let right : Trace → Type 0 = λ t. c.args.alike ≡ true → IsClockBefore t c.args.cursor.now (length c.args.channels.now) c.args.c c.args.feed.now.needs in
+    let fed : IsEventFed right c.args.cursor.now (length c.args.channels.now) c.args.c c.feed_event.result c.args.feed.now c.feed_event.new.feed =
     record {
       more = f.more;
       there = f.there;
@@ -25,13 +28,14 @@ returns-clause-over c =
       needs = f.needs;
       contents = f.contents;
     } in
-    event-over c.args.channels.now c.args.cursor.now (length c.args.channels.now) c.args.c c.feed_event.result c.args.feed.now c.feed_event.new.feed refl
+    event-over right c.args.channels.now c.args.cursor.now (length c.args.channels.now) c.args.c c.feed_event.result c.args.feed.now c.feed_event.new.feed refl
     fed c.requires.channel c.requires.over
 
 pub returns-clause-here : goal.returns-clause-here
-returns-clause-here c t i is same =
+returns-clause-here c t i is-right is same =
     let f = c.feed_event.ensures in
-    let fed : IsEventFed c.args.cursor.now (length c.args.channels.now) c.args.c c.feed_event.result c.args.feed.now c.feed_event.new.feed =
+    let right : Trace → Type 0 = λ t. c.args.alike ≡ true → IsClockBefore t c.args.cursor.now (length c.args.channels.now) c.args.c c.args.feed.now.needs in
+    let fed : IsEventFed right c.args.cursor.now (length c.args.channels.now) c.args.c c.feed_event.result c.args.feed.now c.feed_event.new.feed =
     record {
       more = f.more;
       there = f.there;
@@ -41,13 +45,14 @@ returns-clause-here c t i is same =
       needs = f.needs;
       contents = f.contents;
     } in
-    end-here c.args.channels.now c.args.cursor.now (length c.args.channels.now) c.args.c c.feed_event.result c.args.feed.now c.feed_event.new.feed refl
-    fed t i is same
+    end-here right c.args.channels.now c.args.cursor.now (length c.args.channels.now) c.args.c c.feed_event.result c.args.feed.now c.feed_event.new.feed refl
+    fed t i is-right is same
 
 pub returns-clause-others : goal.returns-clause-others
 returns-clause-others c =
     let f = c.feed_event.ensures in
-    let fed : IsEventFed c.args.cursor.now (length c.args.channels.now) c.args.c c.feed_event.result c.args.feed.now c.feed_event.new.feed =
+    let right : Trace → Type 0 = λ t. c.args.alike ≡ true → IsClockBefore t c.args.cursor.now (length c.args.channels.now) c.args.c c.args.feed.now.needs in
+    let fed : IsEventFed right c.args.cursor.now (length c.args.channels.now) c.args.c c.feed_event.result c.args.feed.now c.feed_event.new.feed =
     record {
       more = f.more;
       there = f.there;
@@ -57,5 +62,8 @@ returns-clause-others c =
       needs = f.needs;
       contents = f.contents;
     } in
-    event-others c.args.channels.now c.args.cursor.now (length c.args.channels.now) c.args.c c.feed_event.result c.args.feed.now c.feed_event.new.feed
+    event-others right c.args.channels.now c.args.cursor.now (length c.args.channels.now) c.args.c c.feed_event.result c.args.feed.now c.feed_event.new.feed
     refl fed
+
+pub feed_event-requires-clause-before : goal.feed_event-requires-clause-before
+feed_event-requires-clause-before c = c.requires.before

@@ -11,7 +11,7 @@ returns-then-not-more-clause-there c t j st =
     there-not (count c.args.cursor.now.kind c.args.cursor.now.channel t.packets) j c.at_end-more.result (ap not c.if-not-more.true) (c.at_end-more.ensures t j st)
 
 pub returns-then-not-more-clause-need : goal.returns-then-not-more-clause-need
-returns-then-not-more-clause-need c t j p packet st many nth d l =
+returns-then-not-more-clause-need c t j p packet is-right st many nth d l =
     absurd (none-there t c.args.cursor.now j p packet c.at_end-more.result (ap not c.if-not-more.true) (c.at_end-more.ensures t j st) nth)
 
 pub returns-clause-more : goal.returns-clause-more

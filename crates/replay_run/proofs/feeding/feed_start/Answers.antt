@@ -1,8 +1,10 @@
-use Rattle.std.proofs.Common.{min, length, refl, ap, sym, ◌∙◌}
+use Rattle.std.proofs.Common.{◌≡◌, true, min, length, refl, ap, sym, ◌∙◌}
 use Rattle.std.proofs.lemmas.Option.{slice_get_read}
 use Rattle.trace_model.specs.declared.channel.Channel.{Channel}
 use Rattle.trace_model.specs.declared.event.Kind.TheVariants.{Start}
+use Rattle.trace_model.specs.declared.trace.Trace.{Trace}
 use Rattle.trace_model.specs.Packet.{count}
+use Rattle.replay_run.specs.Feeding.{IsClockBefore}
 use Rattle.replay_run.proofs.Fills.{IsEventFed, event-others, event-over, none-here, own-ports, start-here, start-others, start-over, start-room}
 use Rattle.replay_run.proofs.feeding.feed_start.Goals as goal
 
@@ -40,7 +42,8 @@ write_content-requires-clause-room c =
 pub returns-then-feed_event-clause-over : goal.returns-then-feed_event-clause-over
 returns-then-feed_event-clause-over c =
     let f = c.feed_event.ensures in
-    let fed : IsEventFed c.args.cursor.now (length c.args.channels.now) c.args.c c.feed_event.result c.args.feed.now c.feed_event.new.feed =
+    let right : Trace → Type 0 = λ t. c.args.alike ≡ true → IsClockBefore t c.args.cursor.now (length c.args.channels.now) c.args.c c.args.feed.now.needs in
+    let fed : IsEventFed right c.args.cursor.now (length c.args.channels.now) c.args.c c.feed_event.result c.args.feed.now c.feed_event.new.feed =
     record {
       more = f.more;
       there = f.there;
@@ -53,14 +56,15 @@ returns-then-feed_event-clause-over c =
     let x = c.index-channels-c.result in
     let x-there = slice_get_read c.args.channels.now (length c.args.channels.now) c.args.c x refl c.requires.channel c.index-channels-c.is in
     let s = c.requires.stands in
-    start-over c.args.channels.now c.args.cursor.now (length c.args.channels.now) c.args.c c.feed_event.result c.args.feed.now c.feed_event.new.feed refl
+    start-over right c.args.channels.now c.args.cursor.now (length c.args.channels.now) c.args.c c.feed_event.result c.args.feed.now c.feed_event.new.feed refl
     fed c.args.at c.len-ports.result x _ c.requires.over c.if-feed_event.true c.requires.place x-there (c.len-ports.ensures ∙ ap (λ (y : Channel). length y.widths) (sym c.index-channels-c.is)) refl refl
     c.write_content.ensures s.0 s.1 s.2 s.3
 
 pub returns-then-feed_event-clause-here : goal.returns-then-feed_event-clause-here
-returns-then-feed_event-clause-here c t i is same =
+returns-then-feed_event-clause-here c t i is-right is same =
     let f = c.feed_event.ensures in
-    let fed : IsEventFed c.args.cursor.now (length c.args.channels.now) c.args.c c.feed_event.result c.args.feed.now c.feed_event.new.feed =
+    let right : Trace → Type 0 = λ t. c.args.alike ≡ true → IsClockBefore t c.args.cursor.now (length c.args.channels.now) c.args.c c.args.feed.now.needs in
+    let fed : IsEventFed right c.args.cursor.now (length c.args.channels.now) c.args.c c.feed_event.result c.args.feed.now c.feed_event.new.feed =
     record {
       more = f.more;
       there = f.there;
@@ -72,14 +76,15 @@ returns-then-feed_event-clause-here c t i is same =
     } in
     let x = c.index-channels-c.result in
     let x-there = slice_get_read c.args.channels.now (length c.args.channels.now) c.args.c x refl c.requires.channel c.index-channels-c.is in
-    start-here c.args.channels.now c.args.cursor.now (length c.args.channels.now) c.args.c c.feed_event.result c.args.feed.now c.feed_event.new.feed refl
+    start-here right c.args.channels.now c.args.cursor.now (length c.args.channels.now) c.args.c c.feed_event.result c.args.feed.now c.feed_event.new.feed refl
     fed c.args.at c.len-ports.result x _ c.requires.over c.if-feed_event.true c.requires.place x-there (c.len-ports.ensures ∙ ap (λ (y : Channel). length y.widths) (sym c.index-channels-c.is)) refl refl
-    c.write_content.ensures t i is same
+    c.write_content.ensures t i is-right is same
 
 pub returns-then-feed_event-clause-others : goal.returns-then-feed_event-clause-others
 returns-then-feed_event-clause-others c =
     let f = c.feed_event.ensures in
-    let fed : IsEventFed c.args.cursor.now (length c.args.channels.now) c.args.c c.feed_event.result c.args.feed.now c.feed_event.new.feed =
+    let right : Trace → Type 0 = λ t. c.args.alike ≡ true → IsClockBefore t c.args.cursor.now (length c.args.channels.now) c.args.c c.args.feed.now.needs in
+    let fed : IsEventFed right c.args.cursor.now (length c.args.channels.now) c.args.c c.feed_event.result c.args.feed.now c.feed_event.new.feed =
     record {
       more = f.more;
       there = f.there;
@@ -92,14 +97,15 @@ returns-then-feed_event-clause-others c =
     let x = c.index-channels-c.result in
     let x-there = slice_get_read c.args.channels.now (length c.args.channels.now) c.args.c x refl c.requires.channel c.index-channels-c.is in
     let s = c.requires.stands in
-    start-others c.args.channels.now c.args.cursor.now (length c.args.channels.now) c.args.c c.feed_event.result c.args.feed.now c.feed_event.new.feed refl
+    start-others right c.args.channels.now c.args.cursor.now (length c.args.channels.now) c.args.c c.feed_event.result c.args.feed.now c.feed_event.new.feed refl
     fed c.args.at c.len-ports.result x _ c.requires.over c.if-feed_event.true c.requires.place x-there (c.len-ports.ensures ∙ ap (λ (y : Channel). length y.widths) (sym c.index-channels-c.is)) refl refl
     c.write_content.ensures s.0 s.1 s.2 s.3
 
 pub returns-else-feed_event-clause-over : goal.returns-else-feed_event-clause-over
 returns-else-feed_event-clause-over c =
     let f = c.feed_event.ensures in
-    let fed : IsEventFed c.args.cursor.now (length c.args.channels.now) c.args.c c.feed_event.result c.args.feed.now c.feed_event.new.feed =
+    let right : Trace → Type 0 = λ t. c.args.alike ≡ true → IsClockBefore t c.args.cursor.now (length c.args.channels.now) c.args.c c.args.feed.now.needs in
+    let fed : IsEventFed right c.args.cursor.now (length c.args.channels.now) c.args.c c.feed_event.result c.args.feed.now c.feed_event.new.feed =
     record {
       more = f.more;
       there = f.there;
@@ -109,13 +115,14 @@ returns-else-feed_event-clause-over c =
       needs = f.needs;
       contents = f.contents;
     } in
-    event-over c.args.channels.now c.args.cursor.now (length c.args.channels.now) c.args.c c.feed_event.result c.args.feed.now c.feed_event.new.feed refl
+    event-over right c.args.channels.now c.args.cursor.now (length c.args.channels.now) c.args.c c.feed_event.result c.args.feed.now c.feed_event.new.feed refl
     fed c.requires.channel c.requires.over
 
 pub returns-else-feed_event-clause-here : goal.returns-else-feed_event-clause-here
-returns-else-feed_event-clause-here c t i is same =
+returns-else-feed_event-clause-here c t i is-right is same =
     let f = c.feed_event.ensures in
-    let fed : IsEventFed c.args.cursor.now (length c.args.channels.now) c.args.c c.feed_event.result c.args.feed.now c.feed_event.new.feed =
+    let right : Trace → Type 0 = λ t. c.args.alike ≡ true → IsClockBefore t c.args.cursor.now (length c.args.channels.now) c.args.c c.args.feed.now.needs in
+    let fed : IsEventFed right c.args.cursor.now (length c.args.channels.now) c.args.c c.feed_event.result c.args.feed.now c.feed_event.new.feed =
     record {
       more = f.more;
       there = f.there;
@@ -125,13 +132,14 @@ returns-else-feed_event-clause-here c t i is same =
       needs = f.needs;
       contents = f.contents;
     } in
-    none-here c.args.channels.now c.args.cursor.now (length c.args.channels.now) c.args.c c.feed_event.result c.args.feed.now c.feed_event.new.feed refl
-    fed t i c.if-feed_event.false is same
+    none-here right c.args.channels.now c.args.cursor.now (length c.args.channels.now) c.args.c c.feed_event.result c.args.feed.now c.feed_event.new.feed refl
+    fed t i c.if-feed_event.false is-right is same
 
 pub returns-else-feed_event-clause-others : goal.returns-else-feed_event-clause-others
 returns-else-feed_event-clause-others c =
     let f = c.feed_event.ensures in
-    let fed : IsEventFed c.args.cursor.now (length c.args.channels.now) c.args.c c.feed_event.result c.args.feed.now c.feed_event.new.feed =
+    let right : Trace → Type 0 = λ t. c.args.alike ≡ true → IsClockBefore t c.args.cursor.now (length c.args.channels.now) c.args.c c.args.feed.now.needs in
+    let fed : IsEventFed right c.args.cursor.now (length c.args.channels.now) c.args.c c.feed_event.result c.args.feed.now c.feed_event.new.feed =
     record {
       more = f.more;
       there = f.there;
@@ -141,5 +149,8 @@ returns-else-feed_event-clause-others c =
       needs = f.needs;
       contents = f.contents;
     } in
-    event-others c.args.channels.now c.args.cursor.now (length c.args.channels.now) c.args.c c.feed_event.result c.args.feed.now c.feed_event.new.feed refl
+    event-others right c.args.channels.now c.args.cursor.now (length c.args.channels.now) c.args.c c.feed_event.result c.args.feed.now c.feed_event.new.feed refl
     fed
+
+pub feed_event-requires-clause-before : goal.feed_event-requires-clause-before
+feed_event-requires-clause-before c = c.requires.before

@@ -1,5 +1,5 @@
 use Rattle.std.proofs.Common.{refl, arith}
-use Rattle.replay_run.proofs.Fills.{fed-all, fed-first, fed-named, place-more, ports-few}
+use Rattle.replay_run.proofs.Fills.{fed-all, fed-before, fed-first, fed-named, place-more, ports-few}
 use Rattle.replay_run.proofs.feeding.fill.Goals as goal
 
 pub loop-c-init : goal.loop-c-init
@@ -31,7 +31,9 @@ loop-c-preserved c =
       over = c.feed_named.ensures.over;
       fed = λ t have are same but.
           fed-named c.args.channels.now t.packets have c.args.which c.loop-c.c x c.loop-c.feed c.feed_named.new.feed l c.index-channels-c.is
-          c.feed_named.ensures.others (c.feed_named.ensures.here t have are same) (c.loop-c.invariant.fed t have are same but);
+          c.feed_named.ensures.others (c.feed_named.ensures.here t have are same
+          (fed-before c.args.channels.now t.packets have c.args.which c.loop-c.c c.loop-c.feed (c.loop-c.invariant.fed t have are same but)))
+          (c.loop-c.invariant.fed t have are same but);
     }
 
 pub returns-clause-feed : goal.returns-clause-feed

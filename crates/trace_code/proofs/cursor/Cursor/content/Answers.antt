@@ -1,18 +1,15 @@
 use Rattle.std.proofs.Common.{ℕ, List, get_or, ◌≡◌, ◌+◌, ◌*◌, ◌≤◌, ◌<◌, length, take, drop, ap, sym, subst, ◌∙◌, arith, All, sum_by}
-use Rattle.std.proofs.lemmas.List.{length-take-le}
-use Rattle.std.proofs.lemmas.Option.{slice_get_within}
 use Rattle.trace_model.specs.declared.event.Kind.{Kind}
 use Rattle.trace_model.specs.declared.event.Kind.TheVariants.{Start}
 use Rattle.trace_model.specs.Channel.{byte_count}
 use Rattle.trace_model.specs.Length.{mask_len}
 use Rattle.trace_model.specs.Packet.{count, does}
 use Rattle.trace_model.proofs.CountingLemmas.{nth-below}
-use Rattle.trace_code.specs.Heads.{sizes_under}
 use Rattle.trace_code.specs.PacketReading.{high_value}
 use Rattle.trace_code.specs.Tallied.{tallied}
-use Rattle.trace_code.proofs.Content.{at-start, below-within, channel-of, content-is, port-there, small-front, small-widths}
+use Rattle.trace_code.proofs.Content.{at-start, below-within, channel-of, content-is, port-there, small-widths}
 use Rattle.trace_code.proofs.Masks.{behind-head}
-use Rattle.trace_code.proofs.Walking.{long-enough, not-over, sizes-long}
+use Rattle.trace_code.proofs.Walking.{long-enough, not-over}
 use Rattle.trace_code.proofs.cursor.Cursor.content.Goals as goal
 
 pub split_at-requires : goal.split_at-requires
@@ -24,26 +21,7 @@ split_at-requires c =
     let s = c.requires.stands.2.0 in
     let l = not-over t k.kind k.channel c.requires.stands.1 sizes k.rest.now clock s c.requires.stands.3 in
     long-enough t s.place sizes k.rest.now clock c.mask_len.result s.at l
-    (c.mask_len.ensures ∙ ap (λ (xs : List ℕ). mask_len (length xs)) c.as_slice-sizes.ensures.value)
-
-pub slice_bounds-starts_len-end : goal.slice_bounds-starts_len-end
-slice_bounds-starts_len-end c =
-    let k = c.args.self.now in
-    let s = c.requires.stands.2 in
-    let n = sizes-long c.requires.stands.0 k.head.sizes.items s.0.at.sizes_are in
-    let l = slice_get_within c.requires.stands.0.channels k.channel s.1.channel s.1.at in
-    let e = ap length c.as_slice-sizes.ensures.value in
-    sym (length-take-le k.channel c.as_slice-sizes.result.now (omega (arith, n, l, e)))
-
-pub starts_len-requires : goal.starts_len-requires
-starts_len-requires c =
-    let k = c.args.self.now in
-    let clock = tallied k.clock.clock k.clock.ends k.clock.times in
-    let sizes = k.head.sizes.items in
-    let t = c.requires.stands.0 in
-    let s = c.requires.stands.2.0 in
-    subst (λ (xs : List ℕ). sizes_under k.head.starts (take k.channel xs) < 4294967296) (sym c.as_slice-sizes.ensures.value)
-    (small-front t s.place sizes k.rest.now clock s.at k.head.starts k.channel)
+    (c.mask_len.ensures ∙ ap mask_len c.channels.ensures)
 
 pub split_at-requires-2 : goal.split_at-requires-2
 split_at-requires-2 c =
@@ -55,11 +33,11 @@ split_at-requires-2 c =
     let a = at-start t k.kind k.channel c.requires.stands.1 sizes k.rest.now clock k.head.starts k.head.ends c.split_at.result.1.now s
     c.requires.start c.requires.stands.3
     (c.split_at.ensures.back ∙ ap (λ n. drop (1 + 2 * n) k.rest.now)
-    (c.mask_len.ensures ∙ ap (λ (xs : List ℕ). mask_len (length xs)) c.as_slice-sizes.ensures.value)
+    (c.mask_len.ensures ∙ ap mask_len c.channels.ensures)
     ∙ behind-head (mask_len (length sizes)) k.rest.now) in
-    (below-within t k.channel c.requires.stands.1 sizes k.rest.now clock k.head.starts k.head.ends c.split_at.result.1.now c.starts_len.result
+    (below-within t k.channel c.requires.stands.1 sizes k.rest.now clock k.head.starts k.head.ends c.split_at.result.1.now c.args.self.now.below
     c.requires.stands.2.1.channel a c.requires.stands.2.1.at
-    (c.starts_len.ensures ∙ ap (λ (xs : List ℕ). sizes_under k.head.starts (take k.channel xs)) c.as_slice-sizes.ensures.value)).0
+    c.requires.stands.2.1.below).0
 
 pub number_of-requires-clause-port : goal.number_of-requires-clause-port
 number_of-requires-clause-port c =
@@ -99,13 +77,13 @@ number_of-requires-clause-long c =
     let a = at-start t k.kind k.channel c.requires.stands.1 sizes k.rest.now clock k.head.starts k.head.ends c.split_at.result.1.now s
     c.requires.start c.requires.stands.3
     (c.split_at.ensures.back ∙ ap (λ n. drop (1 + 2 * n) k.rest.now)
-    (c.mask_len.ensures ∙ ap (λ (xs : List ℕ). mask_len (length xs)) c.as_slice-sizes.ensures.value)
+    (c.mask_len.ensures ∙ ap mask_len c.channels.ensures)
     ∙ behind-head (mask_len (length sizes)) k.rest.now) in
-    let b = (below-within t k.channel c.requires.stands.1 sizes k.rest.now clock k.head.starts k.head.ends c.split_at.result.1.now c.starts_len.result
+    let b = (below-within t k.channel c.requires.stands.1 sizes k.rest.now clock k.head.starts k.head.ends c.split_at.result.1.now c.args.self.now.below
     c.requires.stands.2.1.channel a c.requires.stands.2.1.at
-    (c.starts_len.ensures ∙ ap (λ (xs : List ℕ). sizes_under k.head.starts (take k.channel xs)) c.as_slice-sizes.ensures.value)).1 in
+    c.requires.stands.2.1.below).1 in
     subst (λ (bs : List ℕ). sum_by byte_count c.as_slice.result.now ≤ length bs) (sym c.split_at-2.ensures.back)
-    (subst (λ (ws : List ℕ). sum_by byte_count ws ≤ length (drop c.starts_len.result c.split_at.result.1.now))
+    (subst (λ (ws : List ℕ). sum_by byte_count ws ≤ length (drop c.args.self.now.below c.split_at.result.1.now))
     (sym (c.as_slice.ensures ∙ c.requires.stands.2.1.widths)) b)
 
 pub returns : goal.returns
@@ -116,14 +94,14 @@ returns c t j p packet s is =
     let a = at-start t k.kind k.channel j sizes k.rest.now clock k.head.starts k.head.ends c.split_at.result.1.now s.0 c.requires.start
     (subst (λ (i : Kind). j < count i k.channel t.packets) (sym c.requires.start) (nth-below (does Start k.channel) t.packets j p packet is))
     (c.split_at.ensures.back ∙ ap (λ n. drop (1 + 2 * n) k.rest.now)
-    (c.mask_len.ensures ∙ ap (λ (xs : List ℕ). mask_len (length xs)) c.as_slice-sizes.ensures.value)
+    (c.mask_len.ensures ∙ ap mask_len c.channels.ensures)
     ∙ behind-head (mask_len (length sizes)) k.rest.now) in
     let same : c.as_slice.result.now ≡ s.1.channel.widths = c.as_slice.ensures ∙ s.1.widths in
     c.number_of.ensures
     ∙ ap (λ (ws : List ℕ). high_value (take (byte_count (get_or ws c.args.port 0)) (drop (sum_by byte_count (take c.args.port ws))
     c.split_at-2.result.1.now))) same
     ∙ content-is t k.channel j sizes k.rest.now clock k.head.starts k.head.ends c.split_at.result.1.now c.split_at-2.result.1.now
-    c.starts_len.result s.1.channel a s.1.at
-    (c.starts_len.ensures ∙ ap (λ (xs : List ℕ). sizes_under k.head.starts (take k.channel xs)) c.as_slice-sizes.ensures.value)
+    c.args.self.now.below s.1.channel a s.1.at
+    s.1.below
     c.split_at-2.ensures.back c.args.port (subst (λ (ws : List ℕ). c.args.port < length ws) s.1.widths
     (port-there c.requires.stands.0 k c.requires.stands.2.1 c.args.port c.requires.stands.4)) p packet is

@@ -3,6 +3,7 @@ use Rattle.std.proofs.lemmas.Option.{slice_get_read}
 use Rattle.trace_model.specs.declared.channel.Channel.{Channel}
 use Rattle.trace_model.specs.Channel.{content_bytes}
 use Rattle.trace_code.specs.Tallied.{tallied}
+use Rattle.trace_code.proofs.Content.{small-front}
 use Rattle.trace_code.proofs.Walking.{first-at, sizes-long, small-contents}
 use Rattle.trace_code.proofs.cursor.Cursor.open.Goals as goal
 
@@ -57,6 +58,37 @@ seek-rest-requires c =
           (c.new-head.ensures ∙ sizes-are) zeros,
     )
 
+pub below-below-requires-clause-channel : goal.below-below-requires-clause-channel
+below-below-requires-clause-channel c =
+    let cs = c.args.channels.now in
+    let y = c.in_ok-clock.clock in
+    let clock = tallied y.clock y.ends y.times in
+    let sizes-are = c.in_ok-sizes.ensures ∙ ap (λ (cs : List Channel). map content_bytes cs) c.as_slice-channels.ensures in
+    let zeros = c.in_ok-clock.ensures ∙ ap (λ (cs : List Channel). replicate (length cs) 0) c.as_slice-channels.ensures in
+    let t = c.requires.trace.0 in
+    let at = first-at t cs c.new-head.result.sizes.items c.args.rest.now clock c.requires.trace.1 c.requires.trace.2 c.requires.trace.3
+    (c.new-head.ensures ∙ sizes-are) zeros in
+    let found = (c.seek-rest.ensures.stands t 0 at).at in
+    let long = sizes-long t c.seek-rest.new.head.sizes.items found.sizes_are in
+    let e = ap length c.requires.trace.2 in
+    let l = c.requires.channel in
+    omega (arith, long, e, l)
+
+pub below-below-requires-clause-small : goal.below-below-requires-clause-small
+below-below-requires-clause-small c =
+    let cs = c.args.channels.now in
+    let y = c.in_ok-clock.clock in
+    let clock = tallied y.clock y.ends y.times in
+    let sizes-are = c.in_ok-sizes.ensures ∙ ap (λ (cs : List Channel). map content_bytes cs) c.as_slice-channels.ensures in
+    let zeros = c.in_ok-clock.ensures ∙ ap (λ (cs : List Channel). replicate (length cs) 0) c.as_slice-channels.ensures in
+    let t = c.requires.trace.0 in
+    let at = first-at t cs c.new-head.result.sizes.items c.args.rest.now clock c.requires.trace.1 c.requires.trace.2 c.requires.trace.3
+    (c.new-head.ensures ∙ sizes-are) zeros in
+    let s = c.seek-rest.ensures.stands t 0 at in
+    let h = c.seek-rest.new.head in
+    let z = c.seek-rest.new.tally in
+    small-front t s.place h.sizes.items c.seek-rest.result.now (tallied z.clock z.ends z.times) s.at h.starts c.args.channel
+
 pub returns-clause-stands : goal.returns-clause-stands
 returns-clause-stands c t has same rest =
     let cs = c.args.channels.now in
@@ -75,5 +107,6 @@ returns-clause-stands c t has same rest =
             c.index-channels-channel.is);
         widths = c.in_ok-widths.ensures ∙ c.as_slice.ensures ∙ ap (λ (d : Channel). d.widths) (sym c.index-channels-channel.is);
         ahead = λ i l. absurd (omega (arith, l));
+        below = c.below-below.ensures;
       },
     )

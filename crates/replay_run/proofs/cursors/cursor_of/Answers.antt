@@ -3,7 +3,7 @@ use Rattle.trace_model.specs.declared.event.Kind.{Kind}
 use Rattle.trace_model.specs.declared.event.Kind.TheVariants.{Start, End}
 use Rattle.replay_run.specs.Behind.{IsBehind}
 use Rattle.replay_run.proofs.Forward.{cursor-there}
-use Rattle.replay_run.proofs.lists.cursor_of.Goals as goal
+use Rattle.replay_run.proofs.cursors.cursor_of.Goals as goal
 
 pub returns-in-Start : goal.returns-in-Start
 returns-in-Start c t have are l =
