@@ -1,5 +1,5 @@
 -- Lock step of the top that replays.
-use Rattle.std.proofs.Common.{◌≡◌, ℕ, zero, suc, ◌+◌, ◌<◌, ◌^◌, ◌==◌, ◌&&◌, ◌↔◌, Bool, true, false, if◌then◌else◌, List, [], ◌∷◌}
+use Rattle.std.proofs.Common.{◌≡◌, ℕ, zero, suc, ◌+◌, ◌<◌, ◌≤◌, ◌^◌, ◌==◌, ◌&&◌, ◌↔◌, Bool, true, false, if◌then◌else◌, List, [], ◌∷◌}
 use Rattle.std.proofs.Common.{length, replicate, Option, Some, refl, sym, ap, ◌∙◌, subst, arith, slice_get, get_or, inl, inr}
 use Rattle.std.specs.Prelude.{codes, slice_index}
 use Rattle.std.proofs.lemmas.List.Sums.{count_by-le-length}
@@ -107,7 +107,7 @@ module _ {f : FileOf ℕ} {a : Map} {m : ModuleOf ℕ} {d : Design} (w : IsWrapp
   room : n < 2 ^ 64
   room = (let few = w.mapped.table.few in omega (arith, few))
 
-  module _ (rows : List Row) (short : length rows < MOST_CYCLES) (counts : Counts a rows s) (feed : Feed) (over : IsFeedOver a.channels feed)
+  module _ (rows : List Row) (short : length rows ≤ MOST_CYCLES) (counts : Counts a rows s) (feed : Feed) (over : IsFeedOver a.channels feed)
       (on : HasFeed a feed v) where
     most : (j : ℕ) → done rows j + 1 < 2 ^ 32
     most j = (let le = count_by-le-length (row_does End j) rows in omega (arith, le, short))

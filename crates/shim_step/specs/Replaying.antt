@@ -1,5 +1,5 @@
 -- Lock step of `vidi_replay_top`: in each cycle it does what replayers round the design do.
-use Rattle.std.specs.Prelude.{◌≡◌, ℕ, ◌<◌, true, codes, List, [], ◌∷◌, ◌++◌, length}
+use Rattle.std.specs.Prelude.{◌≡◌, ℕ, ◌≤◌, true, codes, List, [], ◌∷◌, ◌++◌, length}
 use Rattle.vlog_tree.specs.Tree.{ModuleOf, FileOf}
 use Rattle.net_design.specs.declared.design.Design.{Design}
 use Rattle.net_design.specs.Settled.{initial}
@@ -20,7 +20,7 @@ use Rattle.shim_step.specs.Wrapped.{IsWrapped, DUT, Counts}
 use Rattle.shim_step.specs.Ports.{HasFeed, HasNoFeed, ShowsReplay}
 use Rattle.shim_step.specs.Recording.{own_state, IsCycleOf}
 
--- a replay has fewer cycles before each, so that a counter's 32 bits hold the completions
+-- a replay has at most so many cycles before each, so that a counter's 32 bits hold the completions
 abbrev pub MOST_CYCLES : ℕ
 MOST_CYCLES = 50000
 
@@ -37,7 +37,7 @@ pub record Replays (f : FileOf ℕ) (a : Map) (d : Design) (top : ModuleOf ℕ) 
 abbrev pub ReplaysRows : Type 0
 ReplaysRows = (f : FileOf ℕ) (a : Map) (m : ModuleOf ℕ) (d : Design) → IsWrapped f a m d
     → (top : ModuleOf ℕ) (s : State) (pins : List ℕ) (v : Full → ℕ) → IsCycleOf (wrapped f a) (codes "vidi_replay_top") top s pins v
-    → (rows : List Row) → length rows < MOST_CYCLES → Counts a rows s
+    → (rows : List Row) → length rows ≤ MOST_CYCLES → Counts a rows s
     → (feed : Feed) → IsFeedOver a.channels feed → HasFeed a feed v
     → (row : Row) × Replays f a d top s v rows feed row
 

@@ -12,9 +12,9 @@ pub fn recording_steps()
     ensures begin { RecordsBegin }
 {}
 
-/// In each of 50,000 cycles after a reset of a wrapped file with the top that replays, whatever the feed on its ports, the outputs and
-/// wires show the row that replayers round the design fill, the design makes its step, and the counters have the completions. So in reset
-/// cycles, in which no replayer has a next event, and in the initial state.
+/// In each cycle of a wrapped file with the top that replays, after at most 50,000 others since a reset, whatever the feed on its ports,
+/// the outputs and wires show the row that replayers round the design fill, the design makes its step, and the counters have the
+/// completions. So in reset cycles, in which no replayer has a next event, and in the initial state.
 pub fn replaying_steps()
     ensures rows { ReplaysRows }
     ensures resets { ReplaysResets }
