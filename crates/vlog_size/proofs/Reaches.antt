@@ -1,6 +1,6 @@
 -- Numbers of expressions at widths that are large enough.
 use Rattle.std.proofs.Common.{◌≡◌, ℕ, ◌+◌, ◌≤◌, ◌<◌, Bool, true, false, ◌&&◌, ◌||◌, not, nat_le, min, max, if◌then◌else◌}
-use Rattle.std.proofs.Common.{Option, None, Some, List, ◌∷◌, refl, ap, sym, ◌∙◌, subst, arith}
+use Rattle.std.proofs.Common.{Option, None, Some, List, ◌∷◌, refl, ap, sym, ◌∙◌, arith}
 use Rattle.std.proofs.lemmas.Grind.{common_steps}
 use Rattle.std.proofs.lemmas.Bool.{and_from}
 use Rattle.vidi_bits.proofs.Bools.{never}

@@ -1,5 +1,5 @@
 -- What the code keeps of an expression.
-use Rattle.std.specs.Prelude.{◌≡◌, ℕ, ◌+◌, ◌≤◌, ◌<◌, ◌^◌, Bool, true, ◌&&◌, ◌||◌, not, nat_le, min, max, List, [], length, Option}
+use Rattle.std.specs.Prelude.{◌≡◌, ℕ, ◌+◌, ◌≤◌, ◌<◌, ◌^◌, ◌&&◌, min, max, List, [], length, Option}
 use Rattle.std.specs.Prelude.{Some, None, if◌then◌else◌}
 use Rattle.vlog_size.specs.declared.facts.Facts.{Facts}
 use Rattle.vlog_size.specs.declared.facts.Numbered.{Numbered}

@@ -17,7 +17,7 @@ use crate::facts::{
     Facts, Numbered, Parts, binary_facts, choice_facts, concat_facts, no_parts, number_facts,
     paren_facts, repeat_facts, sign_facts, times, with_part,
 };
-use crate::literal::{is_lawful, literal_number};
+use crate::literal::{is_lawful, read_literal, read_number};
 use crate::names::View;
 use crate::operators::{Kind, binary_value, is_wide, kind_of, unary_value};
 use crate::value::{join_part, lawful_width, ref_number};
@@ -67,8 +67,9 @@ fn reached(facts: Facts, wide: u128, n: Option<u128>) -> Evaluated
 pub fn number_at(number: &Number, wide: u128) -> Evaluated
     ensures { ShowsAt wide result (of_number (plain_number number.now)) }
 {
-    let facts = number_facts(number);
-    let n = literal_number(number.kind, number.text.as_slice());
+    let literal = read_literal(number.kind, number.text.as_slice());
+    let facts = number_facts(number.line, &literal);
+    let n = read_number(&literal);
     reached(facts, wide, n)
 }
 

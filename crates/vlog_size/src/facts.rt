@@ -2,9 +2,8 @@
 
 ghost use Rattle.std.specs.Prelude.{◌≡◌, ◌<◌, ◌^◌, [], ◌∷◌, ℕ, List, min, length, ◌&&◌, not, Some};
 ghost use Rattle.vlog_tree.specs.Tree.{NumberOf};
-ghost use Rattle.vlog_tree.specs.Plain.{plain_number};
 ghost use Rattle.vidi_bits.specs.Findings.{first, told_if, or_first};
-ghost use Rattle.vlog_size.specs.Literal.{is_lawful, literal_width, is_bad_literal};
+ghost use Rattle.vlog_size.specs.Literal.{is_lawful, literal_width, is_unsized_literal, spelled_number};
 ghost use Rattle.vlog_size.specs.Size.{Sizes, of_number, of_param, of_read, of_sign, of_binary, of_choice, of_paren, of_concat};
 ghost use Rattle.vlog_size.specs.Size.{is_decimal, is_plain_const, decimal_value, is_bad_operator, is_out, of_two, number};
 ghost use Rattle.vlog_size.specs.Size.{chosen_whole, outside, too_large, wrong_order, wrong_part, bounds_width, Bit, Part, Indexed};
@@ -16,16 +15,14 @@ ghost use Rattle.vlog_size.specs.Facts.{Shows, ShowsNumber, ShowsSelect, ShowsRe
 ghost use Rattle.vlog_size.specs.declared.error.SizeError.{SizeError};
 
 use crate::error::SizeError;
-use crate::literal::{
-    is_bad_literal, is_lawful, is_unsized_literal, literal_width, spelled_number,
-};
+use crate::literal::{Literal, is_bad_literal, is_lawful};
 use crate::names::Meaning;
 use crate::operators::{
     Kind, in_range, is_plain_op, is_plain_shift, is_wide, kind_of, whole_value,
 };
 use crate::scope::Const;
 use crate::value::{binary_width, const_number, const_width};
-use vlog_tree::{BinaryOp, Number, NumberKind, UnaryOp};
+use vlog_tree::{BinaryOp, NumberKind, UnaryOp};
 
 /// What is said of an expression, with the first fault of each kind alone.
 #[derive(Clone, Copy)]
@@ -87,33 +84,36 @@ fn is_decimal(kind: NumberKind) -> bool
 }
 
 /// The value of a decimal literal, where it is in range.
-fn decimal_value(kind: NumberKind, text: &[u8]) -> Option<u32>
-    ensures { result ≡ decimal_value kind text.now }
+fn decimal_value(literal: &Literal) -> Option<u32>
+    ensures { (text : List ℕ) → literal.now.spelled ≡ spelled_number literal.now.kind text
+        → result ≡ decimal_value literal.now.kind text }
 {
-    match kind {
-        NumberKind::Decimal => in_range(spelled_number(kind, text)?),
+    match literal.kind {
+        NumberKind::Decimal => in_range(literal.spelled?),
         NumberKind::Based => None,
     }
 }
 
-/// What is said of a literal.
-pub fn number_facts(number: &Number) -> Facts
-    ensures { Shows result (of_number (plain_number number.now)) }
+/// What is said of a literal on this line, of which this is read.
+pub fn number_facts(line: u32, literal: &Literal) -> Facts
+    ensures { (text : List ℕ) → literal.now.is_unsized ≡ is_unsized_literal literal.now.kind text
+        → literal.now.width ≡ min (literal_width literal.now.kind text) TOP
+        → literal.now.spelled ≡ spelled_number literal.now.kind text
+        → Shows result (of_number (record { kind = literal.now.kind; text = text; line = line })) }
 {
-    let text = number.text.as_slice();
-    let decimal = is_decimal(number.kind);
-    let whole = decimal_value(number.kind, text);
-    let bad = is_bad_literal(number.kind, text) || (decimal && whole.is_none());
+    let decimal = is_decimal(literal.kind);
+    let whole = decimal_value(literal);
+    let bad = is_bad_literal(literal) || (decimal && whole.is_none());
     Facts {
-        line: number.line,
+        line,
         plain: decimal,
         is_unsized: decimal,
-        unsized_literal: is_unsized_literal(number.kind, text),
+        unsized_literal: literal.is_unsized,
         constant: true,
-        width: literal_width(number.kind, text),
+        width: literal.width,
         parts_lawful: true,
         whole,
-        const_fault: told_if(bad, SizeError::Const { line: number.line }),
+        const_fault: told_if(bad, SizeError::Const { line }),
         width_fault: None,
     }
 }

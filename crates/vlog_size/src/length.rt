@@ -87,8 +87,28 @@ fn after_sel(sel: &Sel, budget: usize) -> Option<usize> {
     }
 }
 
-/// The side of the shorter expression. It takes the time of that one.
+/// Whether the expression is one literal or name without brackets, which takes the time of its text
+/// alone, however often it is evaluated.
+fn is_plain_operand(e: &Expr) -> bool {
+    match e {
+        Expr::Unary(unary) => match &unary.prim {
+            Operand::Number(_) => true,
+            Operand::Ref(name) => name.index.is_none() && name.sel.is_none(),
+            _ => false,
+        },
+        _ => false,
+    }
+}
+
+/// The side of the shorter expression, or of one that is a literal or a name. It takes the time of
+/// that one.
 pub fn shorter_side(left: &Expr, right: &Expr) -> Side {
+    if is_plain_operand(right) {
+        return Side::Right;
+    }
+    if is_plain_operand(left) {
+        return Side::Left;
+    }
     for power in 4u32..32 {
         let budget = 1usize << power;
         match (left_after(left, budget), left_after(right, budget)) {

@@ -2,12 +2,13 @@
 
 ghost use Rattle.std.specs.Prelude.{◌≡◌, ◌≤◌, ◌+◌, ◌*◌, ◌<◌, ◌^◌, length};
 ghost use Rattle.vidi_bits.specs.Limits.{below_top};
-ghost use Rattle.vlog_size.specs.Literal.{digit, base_of, digits_from, before_quote, after_quote, based_number, size_of};
+ghost use Rattle.vlog_size.specs.Literal.{digit, base_of, digits_from, based_number, size_of};
 ghost use Rattle.vlog_size.specs.Literal.{literal_width, is_unsized_literal, spelled_number, literal_number, is_lawful, is_quote};
 ghost use Rattle.vlog_size.specs.Literal.{is_bad_literal};
 ghost use Rattle.vlog_size.specs.Limits.{TOP};
 ghost use Rattle.std.specs.List.{position_or_len};
-ghost use Rattle.std.specs.Prelude.{min};
+ghost use Rattle.std.specs.Prelude.{min, List, ℕ};
+ghost use Rattle.vlog_tree.specs.declared.expr.NumberKind.TheVariants.{Based};
 
 use vidi_bits::trim;
 use vlog_tree::NumberKind;
@@ -66,25 +67,6 @@ fn quote_at(text: &[u8]) -> usize
     text.iter().take_while(|b| **b != b'\'').count()
 }
 
-/// What stands before the `'`.
-fn before_quote(text: &[u8]) -> &[u8]
-    ensures { result.now ≡ before_quote text.now }
-{
-    &text[..quote_at(text)]
-}
-
-/// What stands after the `'`.
-fn after_quote(text: &[u8]) -> &[u8]
-    ensures { result.now ≡ after_quote text.now }
-{
-    let at = quote_at(text);
-    if at < text.len() {
-        &text[at + 1..]
-    } else {
-        &[]
-    }
-}
-
 /// The number that a base's letter and digits make, where it is below `2^128`.
 fn based_number(text: &[u8]) -> Option<u128>
     ensures { result ≡ below_top (based_number text.now) }
@@ -95,40 +77,65 @@ fn based_number(text: &[u8]) -> Option<u128>
     }
 }
 
-/// A literal's width, or the largest number where it is larger.
-pub fn literal_width(kind: NumberKind, text: &[u8]) -> u128
-    ensures { result ≡ min (literal_width kind text.now) TOP }
+/// What is read off a literal.
+#[derive(Clone, Copy)]
+pub struct Literal {
+    pub kind: NumberKind,
+    /// Whether it is a based one without a size.
+    pub is_unsized: bool,
+    /// Its width, or the largest number where it is larger.
+    pub width: u128,
+    /// The number that is spelled, where it is below `2^128`.
+    pub spelled: Option<u128>,
+}
+
+/// The size before the `'`, 32 without one, or the largest number where it is larger.
+fn size_of(size: &[u8]) -> u128
+    ensures { result ≡ min (size_of size.now) TOP }
 {
-    match kind {
-        NumberKind::Decimal => 32,
-        NumberKind::Based => {
-            let size = before_quote(text);
-            if size.is_empty() {
-                32
-            } else {
-                digits(10, size).unwrap_or(u128::MAX)
-            }
-        }
+    if size.is_empty() {
+        return 32;
+    }
+    digits(10, size).unwrap_or(u128::MAX)
+}
+
+/// What is read off a based literal.
+fn based_literal(text: &[u8]) -> Literal
+    ensures kind { result.kind ≡ Based }
+    ensures is_unsized { result.is_unsized ≡ is_unsized_literal Based text.now }
+    ensures width { result.width ≡ min (literal_width Based text.now) TOP }
+    ensures spelled { result.spelled ≡ spelled_number Based text.now }
+{
+    let at = quote_at(text);
+    let size = &text[..at];
+    let rest = if at < text.len() {
+        &text[at + 1..]
+    } else {
+        &[]
+    };
+    Literal {
+        kind: NumberKind::Based,
+        is_unsized: size.is_empty(),
+        width: size_of(size),
+        spelled: based_number(rest),
     }
 }
 
-/// Whether the literal is a based one without a size.
-pub fn is_unsized_literal(kind: NumberKind, text: &[u8]) -> bool
-    ensures { result ≡ is_unsized_literal kind text.now }
+/// What is read off a literal.
+pub fn read_literal(kind: NumberKind, text: &[u8]) -> Literal
+    ensures kind { result.kind ≡ kind }
+    ensures is_unsized { result.is_unsized ≡ is_unsized_literal kind text.now }
+    ensures width { result.width ≡ min (literal_width kind text.now) TOP }
+    ensures spelled { result.spelled ≡ spelled_number kind text.now }
 {
     match kind {
-        NumberKind::Decimal => false,
-        NumberKind::Based => before_quote(text).is_empty(),
-    }
-}
-
-/// The number that is spelled, where it is below `2^128`.
-pub fn spelled_number(kind: NumberKind, text: &[u8]) -> Option<u128>
-    ensures { result ≡ spelled_number kind text.now }
-{
-    match kind {
-        NumberKind::Decimal => digits(10, text),
-        NumberKind::Based => based_number(after_quote(text)),
+        NumberKind::Decimal => Literal {
+            kind,
+            is_unsized: false,
+            width: 32,
+            spelled: digits(10, text),
+        },
+        NumberKind::Based => based_literal(text),
     }
 }
 
@@ -140,21 +147,29 @@ pub fn is_lawful(w: u128) -> bool
 }
 
 /// The number of a literal of lawful width.
-pub fn literal_number(kind: NumberKind, text: &[u8]) -> Option<u128>
-    ensures { result ≡ literal_number kind text.now }
+pub fn read_number(literal: &Literal) -> Option<u128>
+    ensures { (text : List ℕ) → literal.now.width ≡ min (literal_width literal.now.kind text) TOP
+        → literal.now.spelled ≡ spelled_number literal.now.kind text → result ≡ literal_number literal.now.kind text }
 {
-    let n = spelled_number(kind, text)?;
-    let w = literal_width(kind, text);
-    match kind {
+    let n = literal.spelled?;
+    match literal.kind {
         NumberKind::Decimal => Some(n),
-        NumberKind::Based if is_lawful(w) => Some(trim(n, w as u32)),
+        NumberKind::Based if is_lawful(literal.width) => Some(trim(n, literal.width as u32)),
         NumberKind::Based => None,
     }
 }
 
-/// Whether the number is `2^128` or more, or the width unlawful.
-pub fn is_bad_literal(kind: NumberKind, text: &[u8]) -> bool
-    ensures { result ≡ is_bad_literal kind text.now }
+/// The number of a literal of lawful width.
+pub fn literal_number(kind: NumberKind, text: &[u8]) -> Option<u128>
+    ensures { result ≡ literal_number kind text.now }
 {
-    spelled_number(kind, text).is_none() || !is_lawful(literal_width(kind, text))
+    read_number(&read_literal(kind, text))
+}
+
+/// Whether the number is `2^128` or more, or the width unlawful.
+pub fn is_bad_literal(literal: &Literal) -> bool
+    ensures { (text : List ℕ) → literal.now.width ≡ min (literal_width literal.now.kind text) TOP
+        → literal.now.spelled ≡ spelled_number literal.now.kind text → result ≡ is_bad_literal literal.now.kind text }
+{
+    literal.spelled.is_none() || !is_lawful(literal.width)
 }
