@@ -6,3 +6,4 @@ pub mod Declared
 pub mod Sound
 pub mod LawfulParams
 pub mod LawfulPlaces
+pub mod EitherFaults

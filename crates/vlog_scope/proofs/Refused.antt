@@ -1,5 +1,5 @@
 -- A port or a parameter at which something is found, behind those in which nothing is.
-use Rattle.std.proofs.Common.{◌≡◌, ℕ, ◌<◌, suc, List, [], ◌∷◌, length, drop, map, get_or, drop-cons, Some, ap, sym, ◌∙◌}
+use Rattle.std.proofs.Common.{◌≡◌, ℕ, ◌<◌, suc, List, ◌∷◌, length, drop, map, get_or, drop-cons, Some, ap, sym, ◌∙◌}
 use Rattle.vidi_bits.proofs.FindingLaws.{first_more}
 use Rattle.vidi_bits.specs.Findings.{first}
 use Rattle.vlog_tree.specs.declared.module.Port.{Port}

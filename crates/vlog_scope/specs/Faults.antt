@@ -15,7 +15,7 @@ use Rattle.vlog_size.specs.Literal.{is_lawful}
 use Rattle.vlog_size.specs.Names.{Readable}
 use Rattle.vlog_size.specs.Size.{Sizes, sizes_of, sizes_of_target, number, reaches, too_large}
 use Rattle.vlog_scope.specs.declared.fault.FaultKind.{FaultKind}
-use Rattle.vlog_scope.specs.declared.fault.FaultKind.TheVariants.{Constant, Width}
+use Rattle.vlog_scope.specs.declared.fault.FaultKind.TheVariants.{Constant, Width, Either}
 use Rattle.vlog_scope.specs.declared.extent.Extent.{Extent}
 use Rattle.vlog_scope.specs.declared.extent.Extent.TheVariants.{NoRange, Bits}
 use Rattle.vlog_scope.specs.Extents.{constant_sizes, extent_of, parameter_extent, port_extent}
@@ -25,16 +25,19 @@ use Rattle.vlog_scope.specs.Scope.{readable_at, after_name, after_item}
 abbrev pub found : FaultKind → Sizes → List SizeError
 found Constant e = e.const_faults
 found Width e = e.width_faults
+found Either e = e.const_faults ++ e.width_faults
 
 -- a bound: sized and above 2,147,483,647, or what is found in it
 abbrev pub bound_faults : FaultKind → Sizes → List SizeError
 bound_faults Constant e = too_large e ++ e.const_faults
 bound_faults Width e = e.width_faults
+bound_faults Either e = too_large e ++ (e.const_faults ++ e.width_faults)
 
 -- a bound that isn't 0
 abbrev pub not_zero : FaultKind → Sizes → List SizeError
 not_zero Constant e = told_if (reaches 1 (number e)) (error.Const e.line)
 not_zero Width e = []
+not_zero Either e = told_if (reaches 1 (number e)) (error.Const e.line)
 
 -- a bound that has to be 0
 abbrev pub zero_faults : FaultKind → Sizes → List SizeError
@@ -55,6 +58,7 @@ range_faults kind r (Some x) = vector_faults kind r x
 -- E6 at a declared name: a range of more than 128 bits; where the range is at fault the name isn't
 abbrev pub name_faults : FaultKind → Extent → IdentOf ℕ → List SizeError
 name_faults Width (Bits w) id = told_if (not (is_lawful w)) (error.Width id.line w)
+name_faults Either (Bits w) id = told_if (not (is_lawful w)) (error.Width id.line w)
 name_faults kind x id = []
 
 -- an expression

@@ -32,6 +32,7 @@ fn told(kind: FaultKind, facts: &Facts) -> Result<(), SizeError>
     match kind {
         FaultKind::Constant => tell(facts.const_fault),
         FaultKind::Width => tell(facts.width_fault),
+        FaultKind::Either => tell(facts.const_fault.or(facts.width_fault)),
     }
 }
 
@@ -107,7 +108,7 @@ fn bound_fault(kind: FaultKind, view: &View<'_>, e: &Expr) -> Result<(), SizeErr
     ensures { Judged Some result (faults.bound_faults kind (sizes_of (readable_in view.now) (plain_expr e.now))) }
 {
     match kind {
-        FaultKind::Constant => {
+        FaultKind::Constant | FaultKind::Either => {
             large_fault(view, e)?;
             expr_fault(kind, view, e)
         }
@@ -121,7 +122,7 @@ fn not_zero(kind: FaultKind, view: &View<'_>, e: &Expr) -> Result<(), SizeError>
 {
     let bound = numbered(view, e);
     match (kind, bound.number) {
-        (FaultKind::Constant, Some(n)) if 1 <= n => Err(SizeError::Const {
+        (FaultKind::Constant | FaultKind::Either, Some(n)) if 1 <= n => Err(SizeError::Const {
             line: bound.facts.line,
         }),
         _ => Ok(()),
@@ -169,10 +170,12 @@ pub fn name_fault(kind: FaultKind, extent: Extent, id: &Ident) -> Result<(), Siz
     ensures { Judged Some result (faults.name_faults kind extent (plain_ident id.now)) }
 {
     match (kind, extent) {
-        (FaultKind::Width, Extent::Bits(w)) if w == 0 || 128 < w => Err(SizeError::Width {
-            line: id.line,
-            got: u128::from(w),
-        }),
+        (FaultKind::Width | FaultKind::Either, Extent::Bits(w)) if w == 0 || 128 < w => Err(
+            SizeError::Width {
+                line: id.line,
+                got: u128::from(w),
+            },
+        ),
         _ => Ok(()),
     }
 }

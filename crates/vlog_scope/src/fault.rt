@@ -7,4 +7,6 @@ pub enum FaultKind {
     Constant,
     /// E6: a width, an index or a bound that isn't lawful.
     Width,
+    /// E5 or E6: whether anything is found at all.
+    Either,
 }

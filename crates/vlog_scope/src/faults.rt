@@ -1,6 +1,6 @@
 //! The first fault of a module instance.
 
-ghost use Rattle.std.specs.Prelude.{◌≡◌, map, option_map, Some};
+ghost use Rattle.std.specs.Prelude.{◌≡◌, ◌↔◌, [], map, option_map, IsTrue, Some};
 ghost use Rattle.vidi_bits.specs.Findings.{Judged};
 ghost use Rattle.vlog_tree.specs.Plain.{plain_parameter_head, plain_parameter, plain_head, plain_port, plain_module};
 ghost use Rattle.vlog_size.specs.Names.{readable_in};
@@ -132,4 +132,13 @@ pub fn width_fault(module: &Module, scope: &Scope) -> Result<(), SizeError>
     ensures { Judged Some result (faults.width_faults (plain_module «module».now) scope.now) }
 {
     scope_fault(FaultKind::Width, module, scope)
+}
+
+/// Whether neither E5 nor E6 is found in an instance of a module that has this scope, where neither E4 nor E7 holds.
+#[tactic(auto, using(crate::proofs::EitherFaults::of_scope))]
+pub fn is_faultless(module: &Module, scope: &Scope) -> bool
+    ensures { IsTrue result ↔ ((faults.const_faults (plain_module «module».now) scope.now ≡ [])
+        × (faults.width_faults (plain_module «module».now) scope.now ≡ [])) }
+{
+    scope_fault(FaultKind::Either, module, scope).is_ok()
 }

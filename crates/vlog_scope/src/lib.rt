@@ -16,6 +16,6 @@ mod parameters;
 mod scope;
 mod statements;
 
-pub use faults::{const_fault, width_fault};
+pub use faults::{const_fault, is_faultless, width_fault};
 pub use laws::faultless_scopes_are_lawful;
 pub use scope::{declared_after, scope_of, top_scope, view_at, words_of};
