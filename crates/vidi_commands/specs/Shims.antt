@@ -1,6 +1,6 @@
 -- Why a file and the map of its design can't be wrapped: a name that is kept for shims, a reason that holds of the wrapped tree, or its
 -- length (this project's profile).
-use Rattle.std.specs.Prelude.{◌≡◌, ℕ, ◌≤◌, ◌<◌, ◌⊎◌, List, [], Option, None, Some, codes, length}
+use Rattle.std.specs.Prelude.{◌≡◌, ℕ, ◌≤◌, ◌<◌, ◌⊎◌, List, [], Some, codes, length}
 use Rattle.vidi_bits.specs.Findings.{first}
 use Rattle.vlog_lex.specs.declared.token.Token.{Token}
 use Rattle.vlog_lex.specs.Reading.{HasTokens}
@@ -12,7 +12,7 @@ use Rattle.vlog_parse.specs.Depth.{IsDeep, IsShallow}
 use Rattle.vlog_parse.specs.Parsing.{IsFileOf}
 use Rattle.vlog_print.specs.Printed.{printed}
 use Rattle.vlog_elab.specs.declared.error.ElabError.{ElabError}
-use Rattle.vlog_elab.specs.declared.error.ElabError.TheVariants as errors
+use Rattle.vlog_elab.specs.Errors.{number_of}
 use Rattle.vlog_design.specs.Reasons.{Refused}
 use Rattle.net_design.specs.declared.design.Design.{Design}
 use Rattle.net_order.specs.Order.{IsOrder, IsLoop}
@@ -45,20 +45,6 @@ IsFaulty number = IsRefusal words.Design (reasons.Wrapped number)
 -- E14: a limit is passed at one of the tree's tokens
 abbrev pub IsDeepTree : FileOf ℕ → Ending
 IsDeepTree w status said = (line : ℕ) × IsDeep (all_marked (toks w)) line × IsFaulty 14 status said
-
--- the numbers of the reasons E3 to E9 and E11 to E13; want of memory is no reason
-abbrev pub number_of : ElabError → Option ℕ
-number_of (errors.Twice name) = Some 3
-number_of (errors.Unknown name) = Some 4
-number_of (errors.Const line) = Some 5
-number_of (errors.Width line got) = Some 6
-number_of (errors.Kind line) = Some 7
-number_of (errors.Drive name bit drivers) = Some 8
-number_of (errors.Latch name line) = Some 9
-number_of (errors.Nested name) = Some 11
-number_of (errors.TooBig what) = Some 12
-number_of (errors.Clock line) = Some 13
-number_of errors.Memory = None
 
 -- the number of the reason is answered
 abbrev pub IsFaultyAs : ElabError → Ending

@@ -13,7 +13,6 @@ ghost use Rattle.vlog_tree.specs.Spelling.{toks};
 ghost use Rattle.vidi_commands.specs.AnswerText.{text_of};
 ghost use Rattle.vidi_commands.specs.Design.{text_limit, IsAccepted};
 ghost use Rattle.vidi_commands.specs.Ended.{EndsWith};
-ghost use Rattle.vidi_commands.specs.Shims as spec;
 ghost use Rattle.vidi_commands.specs.Shims.{file_text, record_name, replay_name};
 ghost use Rattle.vidi_commands.specs.Shims.{IsClearTop, IsClearTree, IsDeepTree, IsFaulty, IsFaultyAs, IsFaultyTop, IsFaultyTree};
 ghost use Rattle.vidi_commands.specs.Shims.{IsLong, IsLoopedTop, IsReadAs, IsRefusedTop, IsReserved, IsUnwrapped, IsWrapped};
@@ -134,7 +133,7 @@ fn check_order(alloc: Global, design: &Design) -> Result<(), Ended>
 fn faulty_as(alloc: Global, error: &ElabError) -> Result<Answer, Memory>
     ensures { IfOk result (λ a. IsFaultyAs error.now a.status (text_of a.text)) }
 {
-    match number_of(error) {
+    match error.number() {
         Some(number) => faulty(alloc, number),
         None => Err(Memory),
     }
@@ -145,29 +144,6 @@ fn faulty(alloc: Global, number: u32) -> Result<Answer, Memory>
     ensures { IfOk result (λ a. IsFaulty number a.status (text_of a.text)) }
 {
     refused(alloc, Word::Design, Reason::Wrapped { number })
-}
-
-/// The number of the reason that the elaborator names, unless memory was wanting.
-fn number_of(error: &ElabError) -> Option<u32>
-    ensures { result ≡ spec.number_of error.now }
-{
-    match error {
-        ElabError::Twice { name: _ } => Some(3),
-        ElabError::Unknown { name: _ } => Some(4),
-        ElabError::Const { line: _ } => Some(5),
-        ElabError::Width { line: _, got: _ } => Some(6),
-        ElabError::Kind { line: _ } => Some(7),
-        ElabError::Drive {
-            name: _,
-            bit: _,
-            drivers: _,
-        } => Some(8),
-        ElabError::Latch { name: _, line: _ } => Some(9),
-        ElabError::Nested { name: _ } => Some(11),
-        ElabError::TooBig { what: _ } => Some(12),
-        ElabError::Clock { line: _ } => Some(13),
-        ElabError::Memory => None,
-    }
 }
 
 /// The text of a wrapped tree, which has at most as many bytes as a design's text.

@@ -20,7 +20,8 @@ use Rattle.vidi_commands.specs.Design.{text_limit}
 use Rattle.vidi_commands.specs.Devices.{IsDevice, Mapping}
 use Rattle.vidi_commands.specs.Reading.{Reading}
 use Rattle.vidi_commands.specs.Said.{wrapped_line}
-use Rattle.vidi_commands.specs.Shims.{file_text, number_of, record_name, replay_name, IsClearTop, IsClearTree, IsDeepTree, IsFaulty}
+use Rattle.vlog_elab.specs.Errors.{number_of}
+use Rattle.vidi_commands.specs.Shims.{file_text, record_name, replay_name, IsClearTop, IsClearTree, IsDeepTree, IsFaulty}
 use Rattle.vidi_commands.specs.Shims.{IsFaultyTop, IsFaultyTree, IsRefusedTop, IsUnwrapped, IsWrapped}
 use Rattle.vidi_commands.specs.Steps.{IsRefusal}
 use Rattle.vidi_commands.specs.Wraps.{IsUnwritten, IsWrappable, IsWrapping, RefusedWrap, Wraps, WrapsFile}

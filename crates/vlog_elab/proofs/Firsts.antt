@@ -1,11 +1,11 @@
 -- First findings of the crates below, as reasons.
-use Rattle.std.proofs.Common.{◌≡◌, ℕ, suc, ◌+◌, ◌-◌, ◌^◌, ◌<◌, ◌≤◌, ◌⊎◌, inl, inr, min, List, [], ◌∷◌, map, drop, length, get_or}
+use Rattle.std.proofs.Common.{◌≡◌, ℕ, suc, ◌+◌, ◌-◌, ◌^◌, ◌<◌, ◌≤◌, ◌⊎◌, inl, inr, min, List, [], ◌∷◌, ◌++◌, map, drop, length, get_or}
 use Rattle.std.proofs.Common.{Option, None, Some, slice_get, option_map, drop-cons}
 use Rattle.std.proofs.Common.{ap, subst, arith, refl, sym, ◌∙◌}
 use Rattle.std.specs.List.{Contains, flat_map}
 use Rattle.std.proofs.lemmas.List.{drop_all}
 use Rattle.std.proofs.lemmas.Option.{slice_get_cases, slice_get-map, slice_get_read}
-use Rattle.vidi_bits.proofs.Lists.{none_in}
+use Rattle.vidi_bits.proofs.Lists.{none_in, nil_left}
 use Rattle.vidi_bits.proofs.FindingLaws.{first_map, is_first_more}
 use Rattle.vidi_bits.specs.Findings.{first}
 use Rattle.vlog_tree.specs.Tree.{ModuleOf}
@@ -94,6 +94,28 @@ found_here f is i x error within at same h =
     (drop-cons is i x within ∙ ap (λ (y : code.ModuleInstance). y ∷ drop (suc i) is) (sym at)))
     ∙ same)
     (is_first_more elab_told error (f (plain_instance x)) (flat_map f (plain_instances (drop (suc i) is))) h)
+
+-- what is found in an instance and in those behind it
+pub found_from : (f : ModuleInstance → List ElabError) (is : List code.ModuleInstance) (i : ℕ) (x : code.ModuleInstance) → i < length is
+    → x ≡ get_or is i x → flat_map f (plain_instances (drop i is)) ≡ f (plain_instance x) ++ flat_map f (plain_instances (drop (suc i) is))
+found_from f is i x within at =
+    ap (λ (ys : List code.ModuleInstance). flat_map f (plain_instances ys))
+    (drop-cons is i x within ∙ ap (λ (y : code.ModuleInstance). y ∷ drop (suc i) is) (sym at))
+
+-- nothing is found in an instance where nothing is found at all
+pub none_here : (f : ModuleInstance → List ElabError) (is : List code.ModuleInstance) (i : ℕ) (x : code.ModuleInstance) → i < length is
+    → x ≡ get_or is i x → flat_map f (plain_instances (drop i is)) ≡ flat_map f (plain_instances is)
+    → flat_map f (plain_instances is) ≡ [] → f (plain_instance x) ≡ []
+none_here f is i x within at same none =
+    nil_left (f (plain_instance x)) (flat_map f (plain_instances (drop (suc i) is))) (sym (found_from f is i x within at) ∙ same ∙ none)
+
+-- an instance in which nothing is found may be passed over
+pub none_passed : (f : ModuleInstance → List ElabError) (is : List code.ModuleInstance) (i : ℕ) (x : code.ModuleInstance) → i < length is
+    → x ≡ get_or is i x → flat_map f (plain_instances (drop i is)) ≡ flat_map f (plain_instances is) → f (plain_instance x) ≡ []
+    → flat_map f (plain_instances (drop (suc i) is)) ≡ flat_map f (plain_instances is)
+none_passed f is i x within at same none =
+    sym (ap (λ (ys : List ElabError). ys ++ flat_map f (plain_instances (drop (suc i) is))) none)
+    ∙ sym (found_from f is i x within at) ∙ same
 
 -- ---- words
 

@@ -1,5 +1,5 @@
 -- The findings of the crates below as reasons why a design text is refused.
-use Rattle.std.specs.Prelude.{ℕ}
+use Rattle.std.specs.Prelude.{ℕ, Option, None, Some}
 use Rattle.vlog_names.specs.declared.error.NameError.{NameError}
 use Rattle.vlog_names.specs.declared.error.NameError.TheVariants as name
 use Rattle.vlog_kinds.specs.declared.error.KindError.{KindError}
@@ -41,3 +41,17 @@ of_hierarchy hierarchy.Memory = e.Memory
 abbrev pub of_size : SizeError → ElabError
 of_size (size.Const line) = e.Const line
 of_size (size.Width line got) = e.Width line got
+
+-- the numbers of E3 to E9 and E11 to E13; want of memory is no reason
+abbrev pub number_of : ElabError → Option ℕ
+number_of (e.Twice name) = Some 3
+number_of (e.Unknown name) = Some 4
+number_of (e.Const line) = Some 5
+number_of (e.Width line got) = Some 6
+number_of (e.Kind line) = Some 7
+number_of (e.Drive name bit drivers) = Some 8
+number_of (e.Latch name line) = Some 9
+number_of (e.Nested name) = Some 11
+number_of (e.TooBig what) = Some 12
+number_of (e.Clock line) = Some 13
+number_of e.Memory = None

@@ -1,6 +1,7 @@
 //! Why a design text is refused.
 
 ghost use Rattle.std.specs.Prelude.{◌≡◌};
+ghost use Rattle.vlog_elab.specs.Errors.{number_of};
 
 use vidi_bits::{Memory, Name};
 use vlog_hierarchy::{HierarchyError, HierarchyLimit};
@@ -44,6 +45,31 @@ pub enum ElabError {
     /// blocks write it.
     Drive { name: Name, bit: u32, drivers: u32 },
     Memory,
+}
+
+impl ElabError {
+    /// The number of the reason: 3 for E3, and so on. `None` where memory was wanting, which is no reason.
+    pub fn number(&self) -> Option<u32>
+        ensures { result ≡ number_of self.now }
+    {
+        match self {
+            ElabError::Twice { name: _ } => Some(3),
+            ElabError::Unknown { name: _ } => Some(4),
+            ElabError::Const { line: _ } => Some(5),
+            ElabError::Width { line: _, got: _ } => Some(6),
+            ElabError::Kind { line: _ } => Some(7),
+            ElabError::Drive {
+                name: _,
+                bit: _,
+                drivers: _,
+            } => Some(8),
+            ElabError::Latch { name: _, line: _ } => Some(9),
+            ElabError::Nested { name: _ } => Some(11),
+            ElabError::TooBig { what: _ } => Some(12),
+            ElabError::Clock { line: _ } => Some(13),
+            ElabError::Memory => None,
+        }
+    }
 }
 
 impl From<Memory> for ElabError {

@@ -1,6 +1,6 @@
 //! Why a design text is refused.
 
-ghost use Rattle.std.specs.Prelude.{◌≡◌, ◌<◌, ◌^◌, ◌-◌, ℕ, map, min, length, slice_get, IfOk, MatchResult, Some};
+ghost use Rattle.std.specs.Prelude.{◌≡◌, ◌<◌, ◌^◌, ◌-◌, ◌↔◌, ℕ, [], map, min, length, slice_get, IfOk, IsTrue, MatchResult, Some};
 ghost use Rattle.std.specs.List.{flat_map};
 ghost use Rattle.vlog_tree.specs.Tree.{ModuleOf};
 ghost use Rattle.vlog_tree.specs.Plain.{plain, plain_module};
@@ -22,7 +22,7 @@ use vidi_bits::{Items, Memory, Name, copied};
 use vlog_hierarchy::{Nodes, nested};
 use vlog_kinds::check_kinds;
 use vlog_names::{ModuleTable, check_names};
-use vlog_scope::{const_fault, width_fault, words_of};
+use vlog_scope::{const_fault, is_faultless, width_fault, words_of};
 use vlog_tree::File;
 
 /// The most words of memories.
@@ -154,6 +154,28 @@ fn lawful_widths(list: &[ModuleInstance<'_>]) -> Result<(), ElabError>
     Ok(())
 }
 
+/// Whether neither E5 nor E6 is found in the instance.
+#[tactic(auto, unfolding(crate::specs::Reasons::instance_consts, crate::specs::Reasons::instance_widths), using(vidi_bits::proofs::FindingLaws::none_map))]
+fn is_instance_faultless(instance: &ModuleInstance<'_>) -> bool
+    ensures { IsTrue result ↔ ((reasons.instance_consts (plain_instance instance.now) ≡ [])
+        × (reasons.instance_widths (plain_instance instance.now) ≡ [])) }
+{
+    is_faultless(instance.tree, &instance.scope)
+}
+
+/// Whether neither E5 nor E6 is found in any instance.
+fn are_faultless(list: &[ModuleInstance<'_>]) -> bool
+    ensures { IsTrue result ↔ ((flat_map reasons.instance_consts (plain_instances list.now) ≡ [])
+        × (flat_map reasons.instance_widths (plain_instances list.now) ≡ [])) }
+{
+    for instance in list {
+        if !is_instance_faultless(instance) {
+            return false;
+        }
+    }
+    true
+}
+
 /// The number of words of all memories, or the largest number where there are more.
 fn word_total(list: &[ModuleInstance<'_>]) -> usize
     ensures { result ≡ min (reasons.word_total (plain_instances list.now)) (2 ^ 64 - 1) }
@@ -176,13 +198,15 @@ fn few_words(list: &[ModuleInstance<'_>]) -> Result<(), ElabError>
     Ok(())
 }
 
-/// E5, E6, then E12 of words.
+/// E5, E6, then E12 of words. Most designs have neither E5 nor E6, which one walk tells.
 #[tactic(auto, unfolding(crate::specs::Reasons::instance_findings))]
 fn lawful(list: &[ModuleInstance<'_>]) -> Result<(), ElabError>
     ensures { Judged elab_told result (reasons.instance_findings (plain_instances list.now)) }
 {
-    lawful_constants(list)?;
-    lawful_widths(list)?;
+    if !are_faultless(list) {
+        lawful_constants(list)?;
+        lawful_widths(list)?;
+    }
     few_words(list)
 }
 
