@@ -1,8 +1,8 @@
 -- The flat design of a wrapped file with one of its tops, and the first reason that holds of it (this project's profile).
-use Rattle.std.specs.Prelude.{◌≡◌, ℕ, ◌⊎◌, List, Option, None, Some, MatchOption, codes, slice_index}
+use Rattle.std.specs.Prelude.{◌≡◌, ℕ, ◌⊎◌, List, Option, Some, MatchOption, codes, slice_index}
 use Rattle.vlog_tree.specs.Tree.{ModuleOf, FileOf}
 use Rattle.vlog_elab.specs.declared.error.ElabError.{ElabError}
-use Rattle.vlog_elab.specs.declared.error.ElabError.TheVariants as reasons
+use Rattle.vlog_elab.specs.Errors.{number_of}
 use Rattle.vlog_design.specs.Design.{IsDesignOf}
 use Rattle.vlog_design.specs.Reasons.{Clear, Refused}
 use Rattle.net_design.specs.declared.design.Design.{Design}
@@ -26,20 +26,6 @@ abbrev pub REPLAY_TOP : List ℕ
 REPLAY_TOP = codes "vidi_replay_top"
 
 -- ---- the reasons
-
--- the numbers of E3 to E9 and E11 to E13; want of memory is no reason
-abbrev pub number_of : ElabError → Option ℕ
-number_of (reasons.Twice name) = Some 3
-number_of (reasons.Unknown name) = Some 4
-number_of (reasons.Const line) = Some 5
-number_of (reasons.Width line got) = Some 6
-number_of (reasons.Kind line) = Some 7
-number_of (reasons.Drive name bit drivers) = Some 8
-number_of (reasons.Latch name line) = Some 9
-number_of (reasons.Nested name) = Some 11
-number_of (reasons.TooBig what) = Some 12
-number_of (reasons.Clock line) = Some 13
-number_of reasons.Memory = None
 
 -- the first of E3 to E9 and E11 to E13 that holds of the file with this top has this number
 abbrev pub IsRefusedAs : FileOf ℕ → List ℕ → ℕ → Type 0

@@ -14,31 +14,7 @@ use net_order::{Order, OrderError, order};
 use net_sim::Sim;
 use std::alloc::Global;
 use vlog_design::elaborate;
-use vlog_elab::ElabError;
 use vlog_tree::File;
-
-/// The number of the reason that the elaborator names, unless memory was wanting.
-fn number_of(error: &ElabError) -> Option<u32>
-    ensures { result ≡ spec.number_of error.now }
-{
-    match error {
-        ElabError::Twice { name: _ } => Some(3),
-        ElabError::Unknown { name: _ } => Some(4),
-        ElabError::Const { line: _ } => Some(5),
-        ElabError::Width { line: _, got: _ } => Some(6),
-        ElabError::Kind { line: _ } => Some(7),
-        ElabError::Drive {
-            name: _,
-            bit: _,
-            drivers: _,
-        } => Some(8),
-        ElabError::Latch { name: _, line: _ } => Some(9),
-        ElabError::Nested { name: _ } => Some(11),
-        ElabError::TooBig { what: _ } => Some(12),
-        ElabError::Clock { line: _ } => Some(13),
-        ElabError::Memory => None,
-    }
-}
 
 /// The design of a file and its top, of which none of E3 to E9 and E11 to E13 holds.
 fn design_of(alloc: Global, file: &File, top: &[u8]) -> Result<Design, CosimError>
@@ -46,7 +22,7 @@ fn design_of(alloc: Global, file: &File, top: &[u8]) -> Result<Design, CosimErro
 {
     match elaborate(alloc, file, top) {
         Ok(design) => Ok(design),
-        Err(error) => match number_of(&error) {
+        Err(error) => match error.number() {
             Some(number) => Err(CosimError::Top { number }),
             None => Err(CosimError::Memory),
         },
