@@ -3,6 +3,7 @@ use Rattle.std.proofs.Common.{◌≡◌, ℕ, zero, suc, ◌+◌, ◌<◌, ◌�
 use Rattle.std.proofs.Common.{subst, arith, inl, inr, length, slice_get}
 use Rattle.std.specs.Prelude.{codes}
 use Rattle.std.specs.List.{Contains}
+use Rattle.std.proofs.lemmas.Bool.{ne_eqb}
 use Rattle.vlog_tree.specs.Tree.{BeginStmt, ConnOf, ItemOf, ModuleOf, FileOf}
 use Rattle.vlog_scope.specs.Scope.{scope_with}
 use Rattle.vlog_size.specs.declared.scope.Scope.{Scope}
@@ -29,7 +30,7 @@ use Rattle.shim_step.proofs.Replayer.{replayer_plain}
 -- no other port than the first is the clock, where that one is
 pub others_are_none : (clock : Option ℕ) → clock ≡ Some 0 → (j : ℕ) → 1 ≤ j → is_clock clock j ≡ false
 others_are_none clock e zero l = absurd (omega (arith, l))
-others_are_none clock e (suc j) l = ap (λ c. is_clock c (suc j)) e
+others_are_none clock e (suc j) l = ap (λ c. is_clock c (suc j)) e ∙ ne_eqb 0 (suc j) (λ s. absurd (omega (arith, s)))
 
 module _ {f : FileOf ℕ} {a : Map} {m : ModuleOf ℕ} {d : Design} (w : IsWrapped f a m d) where
   abbrev n : ℕ
@@ -45,6 +46,7 @@ module _ {f : FileOf ℕ} {a : Map} {m : ModuleOf ℕ} {d : Design} (w : IsWrapp
   x = (channel-at a.channels 0 some).0
 
   at : slice_get a.channels 0 ≡ Some x
+  unfolding x
   at = (channel-at a.channels 0 some).1
 
   abbrev M : ModuleOf ℕ
@@ -92,7 +94,7 @@ module _ {f : FileOf ℕ} {a : Map} {m : ModuleOf ℕ} {d : Design} (w : IsWrapp
         refl,
         child_of (top_plain w) (numbered (codes "vidi_q_") 0) (numbered (codes "q_") 0) conns (replayer_stands w 0 x at) M
             (has_contains (files.more_of f a) M (files.replayer_there w 0 x at)) refl,
-        (conn (codes "clk") (codes "clk"), has_contains conns (conn (codes "clk") (codes "clk")) (inl refl), (refl, (0, refl))),
+        (conn (codes "clk") (codes "clk"), has_contains conns (conn (codes "clk") (codes "clk")) (inl refl), (refl, 0, refl)),
         (refl, refl, refl),
       ),
       waits,

@@ -103,8 +103,8 @@ in_long n c x =
     omega (arith, a, b, d)
 
 count_way : (b : Bool) (p : Port) (ps : List Port) (k : ℕ) → k ≡ length ps → cond b 1 0 + k ≡ length (if b then p ∷ ps else ps)
-count_way true p ps k e = ap suc e
-count_way false p ps k e = e
+count_way true p ps k e = omega (arith, e)
+count_way false p ps k e = omega (arith, e)
 
 count_ways : (way : Direction) (ps : List Port) → count_by (λ (p : Port). same_direction way p.direction) ps ≡ length (ways_of way ps)
 count_ways way [] = refl
@@ -219,7 +219,7 @@ module _ {file : FileOf ℕ} {a : Map} {tree : ModuleOf ℕ} {d whole : Design} 
   -- ---- a settled cycle
   module _ {state v : Values} {inputs : List ℕ} (full : State) (narrow : (name : Full) (k : ℕ) → full.words name k < 2 ^ 128)
       (state_is : state_of whole full ≡ state) (is_state : IsState whole state) (settled : IsSettled whole state inputs v) where
-    beside : IsMapBeside whole full v
+    pub beside : IsMapBeside whole full v
     beside =
         beside_state whole full state v state_is settled.keeps.words
         (list_of (wrapped file a) REPLAY_TOP round.top.design.top whole round.top.clear.0 round.top.design.named round.top.design.built
@@ -257,26 +257,26 @@ module _ {file : FileOf ℕ} {a : Map} {tree : ModuleOf ℕ} {d whole : Design} 
         (subst (AllZip Shows (ways_of Input whole.ports)) e shows) in
         let both = zip_split Shows (side Input ties) (each_some (in_ports n) 0 a.channels) (flat_map (held_number (held_numbers a resets)) tree.ports) xs
         (zip_long Fits (side Input ties) (flat_map (held_number (held_numbers a resets)) tree.ports) (held_fit resets)) all.1 in
-        (all.0, (both.0, both.1))
+        (all.0, both.0, both.1)
 
     pub has_feed : (feed : Feed) → IsFeedOver a.channels feed → inputs ≡ held_inputs a false tree.ports ++ feed_inputs a.channels feed
         → HasFeed a feed nets
     has_feed feed over e =
         let s = split false (feed_inputs a.channels feed) e in
         record {
-          held = has_held w false nets s.1.0 s.0;
-          more = λ c x at. more_is a.channels feed over nets s.1.1 c x at;
-          need = λ c x at j l. need_is a.channels feed over nets s.1.1 c x at j l;
-          content = λ c x at. content_is a.channels feed over nets s.1.1 c x at;
+          held = has_held w false nets s.1 s.0;
+          more = λ c x at. more_is a.channels feed over nets s.2 c x at;
+          need = λ c x at j l. need_is a.channels feed over nets s.2 c x at j l;
+          content = λ c x at. content_is a.channels feed over nets s.2 c x at;
         }
 
     pub has_no_feed : inputs ≡ held_inputs a true tree.ports ++ replicate (inputs_count a.channels) 0 → HasNoFeed a nets
     has_no_feed e =
         let s = split true (replicate (inputs_count a.channels) 0) e in
         record {
-          held = has_held w true nets s.1.0 s.0;
+          held = has_held w true nets s.1 s.0;
           more = λ c x at.
-              of_zeros Shows (each_some (in_ports n) 0 a.channels) (inputs_count a.channels) s.1.1 (in_port (numbered (codes "more_") c) 1)
+              of_zeros Shows (each_some (in_ports n) 0 a.channels) (inputs_count a.channels) s.2 (in_port (numbered (codes "more_") c) 1)
               (has_some (in_ports n) 0 a.channels c x c (in_port (numbered (codes "more_") c) 1) (omega arith) at (inl refl));
         }
 
@@ -358,19 +358,19 @@ module _ {file : FileOf ℕ} {a : Map} {tree : ModuleOf ℕ} {d whole : Design} 
       let full = b.full in
       let law = replays_resets file a tree d w round.top.design.top full quiet (nets full b.narrow b.is is_state goes.settled)
       (cycle full b.narrow b.is is_state goes.settled) b.counts (has_no_feed full b.narrow b.is is_state goes.settled refl) in
-      let then = goes_on full b.narrow b.is is_state goes.settled in
-      let r = law.1 then.full (next_is full b.narrow b.is is_state goes.settled) in
+      let later = goes_on full b.narrow b.is is_state goes.settled in
+      let r = law.1 later.full (next_is full b.narrow b.is is_state goes.settled) in
       let pins_are : pins_below tree DUT (nets full b.narrow b.is is_state goes.settled) ≡ inner =
       one-list d a w.mapped true silent silent refl (pins_below tree DUT (nets full b.narrow b.is is_state goes.settled)) inner law.0 inner_pins in
       record {
-        full = then.full;
-        narrow = then.narrow;
-        is = then.is ∙ sym goes.next;
+        full = later.full;
+        narrow = later.narrow;
+        is = later.is ∙ sym goes.next;
         counts = r.1;
         after = (
           own_state d full,
           b.after,
-          subst (λ ps. run.IsNext d ps (own_state d full) (own_state d then.full)) pins_are r.0,
+          subst (λ ps. run.IsNext d ps (own_state d full) (own_state d later.full)) pins_are r.0,
         );
       }
 
@@ -378,9 +378,9 @@ module _ {file : FileOf ℕ} {a : Map} {tree : ModuleOf ℕ} {d whole : Design} 
   all_reset zero state h =
       (subst (IsBegun inner 0) (sym h) (begun inner), subst (IsState whole) (sym h) (initial_state whole round.top.design.lawful))
   all_reset (suc k) state h =
-      let before = all_reset k h.0 h.1.0 in
-      (more_reset k h.0 state before.1 before.0 h.1.1,
-      subst (IsState whole) (sym h.1.1.next) (next_state whole round.top.design.lawful h.1.1.v h.0 before.1))
+      let before = all_reset k h.0 h.1 in
+      (more_reset k h.0 state before.1 before.0 h.2,
+      subst (IsState whole) (sym h.2.next) (next_state whole round.top.design.lawful h.2.v h.0 before.1))
 
   -- the first state of the design inside
   first_by : (o : Option Reset) → a.reset ≡ o → (cycles : ℕ) → MatchOption o (cycles ≡ 0) (λ r. cycles ≡ r.cycles) → (s : Values)

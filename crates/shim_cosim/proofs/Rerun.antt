@@ -18,6 +18,7 @@ use Rattle.net_design.specs.Lawful.{IsState}
 use Rattle.net_design.specs.Pins.{outputs, FitPins}
 use Rattle.net_design.specs.Pins as pins
 use Rattle.net_design.specs.Settled.{initial, next, IsSettled}
+use Rattle.trace_model.specs.declared.channel.Channel.{Channel}
 use Rattle.trace_model.specs.declared.row.Row.{Row}
 use Rattle.trace_model.specs.Row.{row_before, flies_after, is_in_flight, sink_valid, completes, IsOver}
 use Rattle.trace_model.proofs.ContentsLemmas.{fit_prop}
@@ -116,10 +117,10 @@ front_stays : (first : ℕ) (now new xs : List ℕ) (count : ℕ) → length now
 front_stays first now new xs count long e =
     ap (take first) e ∙ take_at (take first now) xs first (length-take-le first now (omega (arith, long)))
 
-pub driven_on : (whole then : Design) (state same : Values) (a : Map) (first : ℕ) (now new resets xs : List ℕ) (flight cycles : ℕ)
-    → then ≡ whole → same ≡ state → new ≡ take first now ++ xs → length new ≡ length now → (d : Design) (s : Values) (rows : List Row)
-    → IsReplaying whole state a first now resets flight cycles d s rows → IsReplaying then same a first new resets flight cycles d s rows
-driven_on whole then state same a first now new resets xs flight cycles e f n long d s rows is = record {
+pub driven_on : (whole later : Design) (state same : Values) (a : Map) (first : ℕ) (now new resets xs : List ℕ) (flight cycles : ℕ)
+    → later ≡ whole → same ≡ state → new ≡ take first now ++ xs → length new ≡ length now → (d : Design) (s : Values) (rows : List Row)
+    → IsReplaying whole state a first now resets flight cycles d s rows → IsReplaying later same a first new resets flight cycles d s rows
+driven_on whole later state same a first now new resets xs flight cycles e f n long d s rows is = record {
   file = is.file;
   tree = is.tree;
   round = subst (λ (u : Design). IsRound REPLAY_TOP u is.file a is.tree d) (sym e) is.round;
@@ -137,12 +138,12 @@ driven_on whole then state same a first now new resets xs flight cycles e f n lo
   many = is.many;
 }
 
-pub running_on : (whole then : Design) (state same : Values) (a : Map) (first : ℕ) (now new resets xs : List ℕ) (flight cycles : ℕ)
-    → then ≡ whole → same ≡ state → new ≡ take first now ++ xs → length new ≡ length now
-    → ∥ IsRunning whole state a first now resets flight cycles ∥₁ → ∥ IsRunning then same a first new resets flight cycles ∥₁
-running_on whole then state same a first now new resets xs flight cycles e f n long known =
+pub running_on : (whole later : Design) (state same : Values) (a : Map) (first : ℕ) (now new resets xs : List ℕ) (flight cycles : ℕ)
+    → later ≡ whole → same ≡ state → new ≡ take first now ++ xs → length new ≡ length now
+    → ∥ IsRunning whole state a first now resets flight cycles ∥₁ → ∥ IsRunning later same a first new resets flight cycles ∥₁
+running_on whole later state same a first now new resets xs flight cycles e f n long known =
     ∥∥₁_map known (λ (r : IsRunning whole state a first now resets flight cycles).
-    (r.0, r.1, r.2, driven_on whole then state same a first now new resets xs flight cycles e f n long r.0 r.1 r.2 r.3))
+    (r.0, r.1, r.2, driven_on whole later state same a first now new resets xs flight cycles e f n long r.0 r.1 r.2 r.3))
 
 -- ---- the channels in flight
 all_up_bit : (v g r : Bool) → g ≡ true → (v && not r) ≡ ((v && g) && not ((v && g) && r))
@@ -170,12 +171,12 @@ flight_after a row over gates c =
     (cases_lt c n)
 
 -- ---- the clock
-pub clocked_on : (whole then : Design) (state after v : Values) (inputs : List ℕ) (a : Map) (first : ℕ) (now resets : List ℕ)
-    (flight cycles new more : ℕ) (last : Option ℕ) (row : Row) → then ≡ whole → cycles ≤ 50000 → IsState whole state
+pub clocked_on : (whole later : Design) (state after v : Values) (inputs : List ℕ) (a : Map) (first : ℕ) (now resets : List ℕ)
+    (flight cycles new more : ℕ) (last : Option ℕ) (row : Row) → later ≡ whole → cycles ≤ 50000 → IsState whole state
     → IsReplayed whole state inputs v a first now flight last row → last ≡ Some new → after ≡ next whole v state → more ≡ cycles + 1
     → (d : Design) (s : Values) (rows : List Row) → IsReplaying whole state a first now resets flight cycles d s rows
-    → GoesTo (λ e t us. IsReplaying then after a first now resets new more e t us) d a s rows row
-clocked_on whole then state after v inputs a first now resets flight cycles new more last row e few is_state driven l n m d s rows is =
+    → GoesTo (λ e t us. IsReplaying later after a first now resets new more e t us) d a s rows row
+clocked_on whole later state after v inputs a first now resets flight cycles new more last row e few is_state driven l n m d s rows is =
     let feed = driven.feed in
     let made = replay_row a.channels flight feed (outputs whole v) in
     let entered = entered_is is few is_state feed driven.over driven.entered driven.settled in
@@ -213,11 +214,11 @@ clocked_on whole then state after v inputs a first now resets flight cycles new 
 none_flies : (c : ℕ) → has 0 c ≡ flies_after (row_before [] 0) c
 none_flies c = has-above 0 0 c (omega arith) (omega arith)
 
-pub reset_on : (whole then : Design) (state after : Values) (a : Map) (first : ℕ) (now resets : List ℕ) (flight cycles many : ℕ)
-    → then ≡ whole → MatchOption a.reset (many ≡ 0) (λ r. many ≡ r.cycles) → IsAfter whole resets many (initial whole) after
+pub reset_on : (whole later : Design) (state after : Values) (a : Map) (first : ℕ) (now resets : List ℕ) (flight cycles many : ℕ)
+    → later ≡ whole → MatchOption a.reset (many ≡ 0) (λ r. many ≡ r.cycles) → IsAfter whole resets many (initial whole) after
     → (d : Design) (s : Values) (rows : List Row) → IsReplaying whole state a first now resets flight cycles d s rows
-    → (t : Values) × IsFirst d a t × IsReplaying then after a first now resets 0 0 d t []
-reset_on whole then state after a first now resets flight cycles many e m goes d s rows is =
+    → (t : Values) × IsFirst d a t × IsReplaying later after a first now resets 0 0 d t []
+reset_on whole later state after a first now resets flight cycles many e m goes d s rows is =
     let b = (cycle.all_reset is.round many after (subst (λ ps. IsAfter whole ps many (initial whole) after) is.held.reset goes)).0 in
     (
       own_state d b.full,
@@ -237,29 +238,31 @@ reset_on whole then state after a first now resets flight cycles many e m goes d
       },
     )
 
-pub running_again : (whole then : Design) (state after : Values) (a : Map) (first : ℕ) (now resets : List ℕ) (flight cycles many : ℕ)
-    → then ≡ whole → MatchOption a.reset (many ≡ 0) (λ r. many ≡ r.cycles) → IsAfter whole resets many (initial whole) after
-    → ∥ IsRunning whole state a first now resets flight cycles ∥₁ → ∥ IsRunning then after a first now resets 0 0 ∥₁
-running_again whole then state after a first now resets flight cycles many e m goes known =
+pub running_again : (whole later : Design) (state after : Values) (a : Map) (first : ℕ) (now resets : List ℕ) (flight cycles many : ℕ)
+    → later ≡ whole → MatchOption a.reset (many ≡ 0) (λ r. many ≡ r.cycles) → IsAfter whole resets many (initial whole) after
+    → ∥ IsRunning whole state a first now resets flight cycles ∥₁ → ∥ IsRunning later after a first now resets 0 0 ∥₁
+running_again whole later state after a first now resets flight cycles many e m goes known =
     ∥∥₁_map known (λ (r : IsRunning whole state a first now resets flight cycles).
-    (let n = reset_on whole then state after a first now resets flight cycles many e m goes r.0 r.1 r.2 r.3 in (r.0, n.0, [], n.1.1)))
+    (let n = reset_on whole later state after a first now resets flight cycles many e m goes r.0 r.1 r.2 r.3 in (r.0, n.0, [], n.2)))
 
-pub running_clocked : (whole then : Design) (state after v : Values) (inputs : List ℕ) (a : Map) (first : ℕ) (now resets : List ℕ)
-    (flight cycles new more : ℕ) (last : Option ℕ) (row : Row) → then ≡ whole → cycles ≤ 50000 → IsState whole state
+pub running_clocked : (whole later : Design) (state after v : Values) (inputs : List ℕ) (a : Map) (first : ℕ) (now resets : List ℕ)
+    (flight cycles new more : ℕ) (last : Option ℕ) (row : Row) → later ≡ whole → cycles ≤ 50000 → IsState whole state
     → IsReplayed whole state inputs v a first now flight last row → last ≡ Some new → after ≡ next whole v state → more ≡ cycles + 1
-    → ∥ IsRunning whole state a first now resets flight cycles ∥₁ → ∥ IsRunning then after a first now resets new more ∥₁
-running_clocked whole then state after v inputs a first now resets flight cycles new more last row e few is_state driven l n m known =
+    → ∥ IsRunning whole state a first now resets flight cycles ∥₁ → ∥ IsRunning later after a first now resets new more ∥₁
+running_clocked whole later state after v inputs a first now resets flight cycles new more last row e few is_state driven l n m known =
     ∥∥₁_map known (λ (r : IsRunning whole state a first now resets flight cycles).
-    (let g = clocked_on whole then state after v inputs a first now resets flight cycles new more last row e few is_state driven l n m r.0 r.1 r.2 r.3 in
-    (r.0, g.0, r.2 ++ row ∷ [], g.1.1)))
+    (let g = clocked_on whole later state after v inputs a first now resets flight cycles new more last row e few is_state driven l n m r.0 r.1 r.2 r.3 in
+    (r.0, g.0, r.2 ++ row ∷ [], g.2)))
 
 -- ---- a new one
+find_if : {X : Type 0} (b : Bool) (z x : X) (o p : Option X) → (o ≡ Some x → p ≡ Some x) → (if b then Some z else o) ≡ Some x
+    → (if b then Some z else p) ≡ Some x
+find_if true z x o p more h = h
+find_if false z x o p more h = more h
+
 find_left : {X : Type 0} (test : X → Bool) (xs ys : List X) (x : X) → find test xs ≡ Some x → find test (xs ++ ys) ≡ Some x
 find_left test [] ys x e = absurd (cc)
-find_left {X} test (z ∷ xs) ys x e = by_test (test z) e where
-  by_test : (b : Bool) → (if b then Some z else find test xs) ≡ Some x → (if b then Some z else find test (xs ++ ys)) ≡ Some x
-  by_test true h = h
-  by_test false h = find_left test xs ys x h
+find_left test (z ∷ xs) ys x e = find_if (test z) z x (find test xs) (find test (xs ++ ys)) (find_left test xs ys x) e
 
 module _ {w f : FileOf ℕ} {a : Map} {d : Design} (h : IsWrapOf w f a d) {whole : Design} (top : IsTopDesign w REPLAY_TOP whole) where
   there : IsTopDesign (wrapped f a) REPLAY_TOP whole
@@ -307,7 +310,7 @@ module _ {w f : FileOf ℕ} {a : Map} {d : Design} (h : IsWrapOf w f a d) {whole
           held = ap (take first) all ∙ take_at held (replicate (inputs_count a.channels) 0) first (sym count) ∙ are
               ∙ ap (held_inputs a false) ports_same;
           long = ap length all ∙ length-append held (replicate (inputs_count a.channels) 0)
-              ∙ (let z = length-replicate (inputs_count a.channels) 0 in
+              ∙ (let z = length-replicate {A = ℕ} (inputs_count a.channels) 0 in
               let k : length held + length (replicate (inputs_count a.channels) 0) ≡ first + inputs_count a.channels = omega (arith, z, count) in k);
           reset = others ∙ ap (λ ps. held_inputs a true ps ++ replicate (inputs_count a.channels) 0) ports_same;
         };
@@ -319,3 +322,15 @@ module _ {w f : FileOf ℕ} {a : Map} {d : Design} (h : IsWrapOf w f a d) {whole
         flies = none_flies;
         many = refl;
       }
+
+-- a new one, whose channels are lent
+pub new_runs : {w f : FileOf ℕ} {a : Map} {d : Design} (h : IsWrapOf w f a d) {whole : Design} (top : IsTopDesign w REPLAY_TOP whole)
+    (channels : List Channel) (state : Values) (first : ℕ) (now resets held others : List ℕ) → channels ≡ a.channels
+    → state ≡ initial whole → first ≡ length held → held ≡ held_inputs a false (ports_in (module_named w.modules a.top))
+    → now ≡ held ++ replicate (inputs_count channels) 0 → others ≡ held_inputs a true (ports_in (module_named w.modules a.top))
+    → resets ≡ others ++ replicate (inputs_count channels) 0 → IsReplaying whole state a first now resets 0 0 d (initial d) []
+new_runs {w} {f} {a} {d} h {whole} top channels state first now resets held others same e count are all is rest =
+    begun h top state first now resets held e count are
+    (all ∙ ap (λ (xs : List Channel). held ++ replicate (inputs_count xs) 0) same)
+    (rest ∙ ap (λ (xs : List Channel). others ++ replicate (inputs_count xs) 0) same
+    ∙ ap (λ (xs : List ℕ). xs ++ replicate (inputs_count a.channels) 0) is)
