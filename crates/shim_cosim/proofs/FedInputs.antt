@@ -1,17 +1,17 @@
 -- A feed that is entered channel by channel.
-use Rattle.std.proofs.Common.{◌≡◌, ℕ, zero, suc, ◌+◌, ◌*◌, ◌<◌, ◌≤◌, ◌^◌, List, [], ◌∷◌, ◌++◌, Some, refl, sym, ap, ◌∙◌, subst, arith}
-use Rattle.std.proofs.Common.{length, take, drop, get_or, set, slice_get, replicate, append_assoc, ⊎_elim}
+use Rattle.std.proofs.Common.{◌≡◌, ℕ, zero, suc, ◌+◌, ◌*◌, ◌<◌, ◌≤◌, ◌^◌, List, [], ◌∷◌, ◌++◌, refl, sym, ap, ◌∙◌, subst, arith}
+use Rattle.std.proofs.Common.{length, take, drop, get_or, set, replicate, append_assoc, ⊎_elim}
 use Rattle.std.specs.List.{sum_by}
-use Rattle.std.proofs.lemmas.Bool.{cases_eq, cases_lt}
+use Rattle.std.proofs.lemmas.Bool.{cases_lt}
 use Rattle.std.proofs.lemmas.List.{append-nil, length-append, length-take-le, length-drop, take_all, take_at, drop_at, drop-drop, drop_all}
-use Rattle.std.proofs.lemmas.List.{get_or-take, get_or-drop, take-append-drop, replicate-append-replicate}
+use Rattle.std.proofs.lemmas.List.{get_or-take, get_or-drop, replicate-append-replicate}
 use Rattle.std.proofs.lemmas.List.Sums.{sum_by_push, sum_by-take-le}
 use Rattle.std.proofs.Math.Nat.{mul-le-mul_left}
 use Rattle.vidi_bits.specs.Number.{truth, has}
 use Rattle.trace_model.specs.declared.channel.Channel.{Channel}
 use Rattle.trace_model.specs.declared.channel.Dir.{Dir}
 use Rattle.trace_model.specs.declared.channel.Dir.TheVariants.{Inward, Outward}
-use Rattle.trace_model.specs.Row.{all_widths, content_at, replaced}
+use Rattle.trace_model.specs.Row.{content_at, replaced}
 use Rattle.trace_model.proofs.CountingLemmas.{take-more_read}
 use Rattle.trace_model.proofs.RowLemmas.{first_of, first-within, content-read, rest-more, replaced-none, replaced-more}
 use Rattle.chan_replayer.specs.declared.feed.Feed.{Feed}
@@ -222,8 +222,7 @@ entered_done channels feed old pins rest first c at long l are =
     let sums : sum_by (input_count (length channels)) (take c channels) ≡ inputs_count channels = ap (sum_by (input_count (length channels))) all in
     let same = ap length whole in
     let none : drop (first + length (feed_inputs channels feed)) old ≡ [] =
-    drop_all (first + length (feed_inputs channels feed)) old (omega (arith, long, many, sums, same)) in
-    (
+    drop_all (first + length (feed_inputs channels feed)) old (omega (arith, long, many, sums, same)) in (
       are.is ∙ ap (replaced old first) whole
           ∙ ap (λ xs. take first old ++ feed_inputs channels feed ++ xs) none
           ∙ append-nil (take first old ++ feed_inputs channels feed),

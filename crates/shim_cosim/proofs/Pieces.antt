@@ -1,8 +1,7 @@
 -- Two lists of pieces, place by place.
-use Rattle.std.proofs.Common.{◌≡◌, ℕ, zero, suc, ◌+◌, ◌<◌, List, [], ◌∷◌, ◌++◌, map, length, Some, refl, sym, ap, ◌∙◌, subst, arith}
+use Rattle.std.proofs.Common.{◌≡◌, ℕ, zero, suc, ◌+◌, ◌<◌, List, [], ◌∷◌, ◌++◌, map, length, Some, refl, ap, ◌∙◌, subst, arith}
 use Rattle.std.proofs.Common.{slice_get, get_or}
-use Rattle.std.specs.List.{AllZip, flat_map}
-use Rattle.std.proofs.lemmas.List.{length-append}
+use Rattle.std.specs.List.{AllZip}
 use Rattle.shim_trees.specs.Pieces.{each, each_some, upto}
 use Rattle.shim_cosim.proofs.Zips.{zip_append}
 

@@ -1,13 +1,12 @@
 -- What the calls of a shell over the top that replays leave, where their slices are those of the shell.
-use Rattle.std.proofs.Common.{◌≡◌, ℕ, ◌+◌, ◌<◌, ◌≤◌, List, [], ◌++◌, Option, Some, None, length, take, refl, sym, ap, subst, ◌∙◌, arith}
+use Rattle.std.proofs.Common.{◌≡◌, ℕ, ◌+◌, ◌≤◌, List, [], ◌++◌, Option, Some, None, length, take, refl, sym, ap, subst, ◌∙◌, arith}
 use Rattle.std.specs.Prelude.{MatchOption}
 use Rattle.std.specs.List.{refill}
 use Rattle.std.proofs.lemmas.List.{length-take-le, take_at}
 use Rattle.net_design.specs.declared.design.Design.{Design}
 use Rattle.net_design.specs.declared.values.Values.{Values}
 use Rattle.net_design.specs.Lawful.{IsState}
-use Rattle.net_design.specs.Pins.{outputs, FitPins}
-use Rattle.net_design.specs.Pins as netpins
+use Rattle.net_design.specs.Pins.{outputs}
 use Rattle.net_design.specs.Settled.{IsSettled, initial}
 use Rattle.trace_model.specs.declared.row.Row.{Row}
 use Rattle.trace_model.specs.Row.{IsOver}
@@ -18,7 +17,7 @@ use Rattle.chan_monitor.proofs.RowOfCycle.{refill-is}
 use Rattle.chan_replayer.specs.declared.feed.Feed.{Feed}
 use Rattle.chan_replayer.specs.Feed.{IsFeedOver}
 use Rattle.chan_replayer.specs.Shell.{IsShown}
-use Rattle.shim_cosim.specs.Rewrapped.{inputs_count, outputs_count, feed_inputs, replay_row, flight_of, AreSmallNeeds}
+use Rattle.shim_cosim.specs.Rewrapped.{inputs_count, feed_inputs, replay_row, flight_of}
 use Rattle.shim_cosim.specs.Replaying.{IsReplaying, IsReplayed, IsRunning}
 use Rattle.shim_cosim.proofs.Rerun.{driven_on, running_on, shown, known_over, reset_on, running_again}
 

@@ -1,14 +1,13 @@
 -- The clock of `vidi_replay_top` is its first port.
-use Rattle.std.proofs.Common.{◌≡◌, ℕ, zero, suc, ◌+◌, ◌<◌, ◌≤◌, ◌==◌, Bool, true, false, List, [], ◌∷◌, ◌++◌, map, Some, Option, refl, sym, ap, ◌∙◌}
-use Rattle.std.proofs.Common.{subst, arith, inl, inr, length, slice_get}
+use Rattle.std.proofs.Common.{◌≡◌, ℕ, zero, suc, ◌<◌, ◌≤◌, false, List, [], ◌∷◌, ◌++◌, Some, Option, refl, sym, ap, ◌∙◌}
+use Rattle.std.proofs.Common.{subst, arith, inl, length, slice_get}
 use Rattle.std.specs.Prelude.{codes}
 use Rattle.std.specs.List.{Contains}
 use Rattle.std.proofs.lemmas.Bool.{ne_eqb}
 use Rattle.vlog_tree.specs.Tree.{BeginStmt, ConnOf, ItemOf, ModuleOf, FileOf}
 use Rattle.vlog_scope.specs.Scope.{scope_with}
 use Rattle.vlog_size.specs.declared.scope.Scope.{Scope}
-use Rattle.vlog_meaning.specs.Names.{Name}
-use Rattle.vlog_meaning.specs.Placed.{Placed, placed, placed_items}
+use Rattle.vlog_meaning.specs.Placed.{placed, placed_items}
 use Rattle.vlog_meaning.specs.Settled.{IsClock, Waits, inputs_of}
 use Rattle.net_design.specs.declared.design.Design.{Design}
 use Rattle.net_design.specs.Pins.{is_clock}
@@ -16,10 +15,10 @@ use Rattle.trace_model.specs.declared.channel.Channel.{Channel}
 use Rattle.chan_map.specs.declared.pins.Map.{Map}
 use Rattle.run_model.proofs.RowParts.{channel-at}
 use Rattle.shim_trees.specs.Pieces.{numbered, upto, reg, at_clock, conn}
-use Rattle.shim_trees.specs.Replayer.{counting, shown_items, replayer, replayer_items}
+use Rattle.shim_trees.specs.Replayer.{counting, shown_items, replayer}
 use Rattle.shim_trees.specs.ReplayTop.{replay_top, replayer_conns}
 use Rattle.shim_design.specs.Plain.{IsPlain}
-use Rattle.shim_design.proofs.Elements.{Has, has_left, has_right, has_contains}
+use Rattle.shim_design.proofs.Elements.{Has, has_right, has_contains}
 use Rattle.shim_design.proofs.Standing.{has_placed, plain_scope}
 use Rattle.shim_step.specs.Wrapped.{IsWrapped}
 use Rattle.shim_step.proofs.Files as files

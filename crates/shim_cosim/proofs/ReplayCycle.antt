@@ -1,17 +1,15 @@
 -- A wrapped file's flat design with the top that replays: its inputs, a cycle, reset cycles and the initial state, against the design inside.
-use Rattle.std.proofs.Common.{◌≡◌, ℕ, zero, suc, ◌+◌, ◌<◌, ◌≤◌, ◌^◌, ◌==◌, Bool, true, false, not, List, [], ◌∷◌, ◌++◌, map, length, replicate}
-use Rattle.std.proofs.Common.{Option, None, Some, refl, sym, ap, ◌∙◌, subst, arith, inl, inr, slice_get, get_or, take, cond, if◌then◌else◌}
+use Rattle.std.proofs.Common.{◌≡◌, ℕ, zero, suc, ◌+◌, ◌<◌, ◌≤◌, ◌^◌, Bool, true, false, List, [], ◌∷◌, ◌++◌, map, length, replicate}
+use Rattle.std.proofs.Common.{Option, None, Some, refl, sym, ap, ◌∙◌, subst, arith, inl, inr, slice_get, cond, if◌then◌else◌}
 use Rattle.std.specs.Prelude.{codes, count_by, MatchOption}
 use Rattle.std.specs.List.{AllZip, AllByRecursion, Contains, flat_map, range_with_len}
-use Rattle.std.proofs.lemmas.List.{length-append, length-map, map-append}
-use Rattle.std.proofs.lemmas.List.Sums.{sum_by-cons}
+use Rattle.std.proofs.lemmas.List.{length-append, length-map}
 use Rattle.std.proofs.lemmas.Nat.{pow_pos}
 use Rattle.vidi_bits.specs.Number.{has}
-use Rattle.vidi_bits.proofs.BitLemmas.{has-above}
 use Rattle.vidi_bits.proofs.Each.{each_append}
 use Rattle.vlog_tree.specs.Tree.{PortOf, ModuleOf, FileOf}
 use Rattle.vlog_scope.specs.Scope.{scope_with}
-use Rattle.vlog_meaning.specs.Names.{Name, Full, State}
+use Rattle.vlog_meaning.specs.Names.{Full, State}
 use Rattle.vlog_meaning.specs.Next.{IsNext}
 use Rattle.vlog_meaning.specs.Settled as meaning
 use Rattle.net_design.specs.declared.design.Design.{Design}
@@ -22,10 +20,9 @@ use Rattle.net_design.specs.declared.values.Values.{Values}
 use Rattle.net_design.specs.Lawful.{IsState}
 use Rattle.net_design.specs.Pins.{outputs, input_limits, FitPins}
 use Rattle.net_design.specs.Pins as pins
-use Rattle.net_design.specs.Settled as design
 use Rattle.net_design.specs.Settled.{initial, next, pins_of, same_direction, IsSettled}
 use Rattle.net_design.proofs.StateLaws.{initial_state, next_state}
-use Rattle.flat_parts.specs.Meaning.{values_of, state_of}
+use Rattle.flat_parts.specs.Meaning.{state_of}
 use Rattle.flat_parts.specs.Nets.{flat_ports}
 use Rattle.trace_model.specs.declared.channel.Channel.{Channel}
 use Rattle.trace_model.specs.declared.channel.Dir.{Dir}
@@ -44,14 +41,14 @@ use Rattle.run_model.proofs.PlayedLaws.{silent-small}
 use Rattle.chan_replayer.specs.declared.feed.Feed.{Feed}
 use Rattle.chan_replayer.specs.Feed.{IsFeedOver}
 use Rattle.chan_replayer.specs.Shell.{IsShown}
-use Rattle.shim_trees.specs.Pieces.{numbered, numbered_twice, each, each_some, upto, input}
-use Rattle.shim_trees.specs.Links.{held, tied_ports, tied_port}
+use Rattle.shim_trees.specs.Pieces.{numbered, numbered_twice, each_some, input}
+use Rattle.shim_trees.specs.Links.{held, tied_ports}
 use Rattle.shim_trees.specs.ReplayTop.{fed_ports, shown_ports, replay_ports, replay_top}
 use Rattle.shim_trees.specs.Wrapped.{wrapped}
 use Rattle.shim_design.specs.Part.{pins_below}
-use Rattle.shim_design.proofs.Elements.{Has, has_contains, in_slice}
+use Rattle.shim_design.proofs.Elements.{Has}
 use Rattle.shim_step.specs.Wrapped.{IsWrapped, DUT, Counts}
-use Rattle.shim_step.specs.Ports.{HasFeed, HasNoFeed, HasHeld}
+use Rattle.shim_step.specs.Ports.{HasFeed, HasNoFeed}
 use Rattle.shim_step.specs.Recording.{own_state, IsCycleOf}
 use Rattle.shim_step.specs.Replaying.{Replays}
 use Rattle.shim_step.proofs.Files as files
@@ -67,7 +64,7 @@ use Rattle.shim_cosim.proofs.Ports.{flat, side, side_append, flat_ports_are, pin
 use Rattle.shim_cosim.proofs.Zips.{ways_of, zip_map, zip_append, zip_split, zip_long, fit_pins, Fits}
 use Rattle.shim_cosim.proofs.States.{IsFull, IsMapBeside, full_of, list_of, narrow_in, beside_state}
 use Rattle.shim_cosim.proofs.HeldPorts.{keys, tied_fit, tied_headed, tied_outputs, has_held}
-use Rattle.shim_cosim.proofs.Sides.{in_port, out_port}
+use Rattle.shim_cosim.proofs.Sides.{in_port}
 use Rattle.shim_cosim.proofs.FeedPorts.{in_ports, need_inputs, fed_inputs, ins_channels, feed_fits, more_is, need_is, content_is}
 use Rattle.shim_cosim.proofs.ReplayClock.{clk_is_clock, others_are_none}
 use Rattle.shim_cosim.proofs.ReplayRow.{out_ports, out_long, outs_channels, some_length, are_outputs, row_is, AreOutputs}
@@ -252,7 +249,7 @@ module _ {file : FileOf ℕ} {a : Map} {tree : ModuleOf ℕ} {d whole : Design} 
         × AllZip Shows (each_some (in_ports (length a.channels)) 0 a.channels) xs
     split resets xs e =
         let all : AllZip Shows (flat (input (codes "clk") 1) ∷ (side Input ties ++ each_some (in_ports n) 0 a.channels))
-            (0 ∷ (flat_map (held_number (held_numbers a resets)) tree.ports ++ xs)) =
+        (0 ∷ (flat_map (held_number (held_numbers a resets)) tree.ports ++ xs)) =
         subst (λ ps. AllZip Shows ps (0 ∷ (flat_map (held_number (held_numbers a resets)) tree.ports ++ xs))) ins_are
         (subst (AllZip Shows (ways_of Input whole.ports)) e shows) in
         let both = zip_split Shows (side Input ties) (each_some (in_ports n) 0 a.channels) (flat_map (held_number (held_numbers a resets)) tree.ports) xs
@@ -378,9 +375,10 @@ module _ {file : FileOf ℕ} {a : Map} {tree : ModuleOf ℕ} {d whole : Design} 
   all_reset zero state h =
       (subst (IsBegun inner 0) (sym h) (begun inner), subst (IsState whole) (sym h) (initial_state whole round.top.design.lawful))
   all_reset (suc k) state h =
-      let before = all_reset k h.0 h.1 in
-      (more_reset k h.0 state before.1 before.0 h.2,
-      subst (IsState whole) (sym h.2.next) (next_state whole round.top.design.lawful h.2.v h.0 before.1))
+      let before = all_reset k h.0 h.1 in (
+        more_reset k h.0 state before.1 before.0 h.2,
+        subst (IsState whole) (sym h.2.next) (next_state whole round.top.design.lawful h.2.v h.0 before.1),
+      )
 
   -- the first state of the design inside
   first_by : (o : Option Reset) → a.reset ≡ o → (cycles : ℕ) → MatchOption o (cycles ≡ 0) (λ r. cycles ≡ r.cycles) → (s : Values)

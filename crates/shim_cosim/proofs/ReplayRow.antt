@@ -1,24 +1,24 @@
 -- The row that stands on the outputs of `vidi_replay_top` is the row that its map shows.
-use Rattle.std.proofs.Common.{◌≡◌, ℕ, zero, suc, ◌+◌, ◌-◌, ◌<◌, ◌≤◌, ◌^◌, ◌==◌, ◌&&◌, not, Bool, true, false, if◌then◌else◌, List, [], ◌∷◌, ◌++◌}
-use Rattle.std.proofs.Common.{Option, Some, refl, sym, ap, ◌∙◌, subst, arith, length, map, take, drop, get_or, slice_get, ⊎_elim}
+use Rattle.std.proofs.Common.{◌≡◌, ℕ, zero, suc, ◌+◌, ◌<◌, ◌≤◌, ◌==◌, ◌&&◌, not, Bool, true, false, if◌then◌else◌, List, [], ◌∷◌, ◌++◌}
+use Rattle.std.proofs.Common.{Some, refl, sym, ap, ◌∙◌, subst, arith, length, map, take, drop, get_or, slice_get}
 use Rattle.std.specs.Prelude.{codes}
 use Rattle.std.specs.List.{sum_by}
-use Rattle.std.proofs.lemmas.List.{append-nil, length-map, length-append, map-append, length-drop, length-take-le, get_or-take, get_or-drop, ext_get_or}
+use Rattle.std.proofs.lemmas.List.{length-map, length-append, map-append, length-drop, length-take-le, get_or-take, get_or-drop, ext_get_or}
 use Rattle.std.proofs.lemmas.List.Sums.{sum_by-cons}
 use Rattle.std.proofs.lemmas.Option.{slice_get_within, get_or_from_slice_get}
 use Rattle.vidi_bits.specs.Number.{truth, has}
 use Rattle.vidi_bits.proofs.BitLemmas.{has-above}
 use Rattle.net_design.specs.declared.design.Direction.TheVariants.{Output}
 use Rattle.net_design.specs.declared.design.Port.{Port}
-use Rattle.vlog_meaning.specs.Names.{Name, Full}
+use Rattle.vlog_meaning.specs.Names.{Full}
 use Rattle.trace_model.specs.declared.channel.Channel.{Channel}
 use Rattle.trace_model.specs.declared.channel.Dir.{Dir}
 use Rattle.trace_model.specs.declared.channel.Dir.TheVariants.{Inward, Outward}
 use Rattle.trace_model.specs.declared.row.Row.{Row}
 use Rattle.trace_model.specs.Packet.{Fit}
-use Rattle.trace_model.specs.Row.{all_widths, content_at, sink_valid, completes, flies_after, row_before, IsOver, IsMarked}
+use Rattle.trace_model.specs.Row.{content_at, completes, flies_after, row_before, IsOver, IsMarked}
 use Rattle.trace_model.proofs.ContentsLemmas.{fit-length}
-use Rattle.run_model.specs.Building.{mask_of, joined}
+use Rattle.run_model.specs.Building.{mask_of}
 use Rattle.run_model.specs.Offers.{no_content}
 use Rattle.run_model.specs.Played.{all_up}
 use Rattle.run_model.specs.Replay.{done}
@@ -31,7 +31,7 @@ use Rattle.shim_trees.specs.Pieces.{numbered, numbered_twice, each, each_some, u
 use Rattle.shim_trees.specs.ReplayTop.{fed_ports, shown_ports, replay_ports}
 use Rattle.shim_step.specs.Ports.{HasContent, content_base, ShowsReplay}
 use Rattle.shim_cosim.specs.declared.shown_row.Signal.TheVariants.{Valid, Ready, Pop}
-use Rattle.shim_cosim.specs.Rewrapped.{if_outward, output_count, outputs_count, seat, place_of, is_raised, content_on, content_of, contents_of, replay_row}
+use Rattle.shim_cosim.specs.Rewrapped.{if_outward, output_count, outputs_count, seat, is_raised, content_on, content_of, contents_of, replay_row}
 use Rattle.shim_cosim.proofs.Ports.{side, side_append}
 use Rattle.shim_cosim.proofs.Sides.{out_port, outs_inputs, outs_outputs, outs_upto}
 use Rattle.shim_cosim.proofs.Pieces.{length_each, each_get}

@@ -1,6 +1,6 @@
 -- A wrapped design that runs behind its replayers: what is known of it, and how it goes on.
-use Rattle.std.proofs.Common.{◌≡◌, ℕ, zero, suc, ◌+◌, ◌-◌, ◌/◌, ◌<◌, ◌≤◌, ◌^◌, ◌&&◌, not, Bool, true, false, List, [], ◌∷◌, ◌++◌, length}
-use Rattle.std.proofs.Common.{Option, None, Some, refl, sym, ap, ◌∙◌, subst, arith, take, drop, replicate, ⊎_elim, if◌then◌else◌}
+use Rattle.std.proofs.Common.{◌≡◌, ℕ, ◌+◌, ◌<◌, ◌≤◌, ◌&&◌, not, Bool, true, false, List, [], ◌∷◌, ◌++◌, length}
+use Rattle.std.proofs.Common.{Option, Some, refl, sym, ap, ◌∙◌, subst, arith, take, drop, replicate, ⊎_elim, if◌then◌else◌}
 use Rattle.std.specs.Prelude.{MatchOption}
 use Rattle.std.specs.List.{find, refill}
 use Rattle.std.specs.Str.{bytes_eq}
@@ -20,7 +20,7 @@ use Rattle.net_design.specs.Pins as pins
 use Rattle.net_design.specs.Settled.{initial, next, IsSettled}
 use Rattle.trace_model.specs.declared.channel.Channel.{Channel}
 use Rattle.trace_model.specs.declared.row.Row.{Row}
-use Rattle.trace_model.specs.Row.{row_before, flies_after, is_in_flight, sink_valid, completes, IsOver}
+use Rattle.trace_model.specs.Row.{row_before, flies_after, is_in_flight, IsOver}
 use Rattle.trace_model.proofs.ContentsLemmas.{fit_prop}
 use Rattle.trace_model.proofs.RowLemmas.{before-last}
 use Rattle.net_order.proofs.OneMap.{has_one_map}
@@ -39,7 +39,7 @@ use Rattle.shim_step.specs.Wrapped.{IsWrapped, Counts}
 use Rattle.shim_step.proofs.Files.{top_first}
 use Rattle.shim_step.specs.Recording.{own_state}
 use Rattle.shim_cosim.specs.Top.{REPLAY_TOP, IsRound, IsTopDesign, IsWrapOf}
-use Rattle.shim_cosim.specs.Held.{held_inputs, AreHeldPins}
+use Rattle.shim_cosim.specs.Held.{held_inputs}
 use Rattle.shim_cosim.specs.Rewrapped.{inputs_count, outputs_count, feed_inputs, replay_row, flight_of, AreSmallNeeds}
 use Rattle.shim_cosim.specs.Replaying.{IsReplaying, IsReplayed, IsRunning}
 use Rattle.shim_cosim.proofs.ReplayCycle as cycle
@@ -189,8 +189,7 @@ clocked_on whole later state after v inputs a first now resets flight cycles new
     subst (λ (t : Values). IsStep d a t row (own_state d goes.full)) is.own
     (subst (λ (r : Row). IsStep d a (own_state d is.full) r (own_state d goes.full)) (sym driven.shows) step.0) in
     let flying : new ≡ flight_of (length a.channels) row =
-    same_Some new (flight_of (length a.channels) row) (sym l ∙ driven.after) in
-    (
+    same_Some new (flight_of (length a.channels) row) (sym l ∙ driven.after) in (
       own_state d goes.full,
       so,
       record {
@@ -219,8 +218,7 @@ pub reset_on : (whole later : Design) (state after : Values) (a : Map) (first : 
     → (d : Design) (s : Values) (rows : List Row) → IsReplaying whole state a first now resets flight cycles d s rows
     → (t : Values) × IsFirst d a t × IsReplaying later after a first now resets 0 0 d t []
 reset_on whole later state after a first now resets flight cycles many e m goes d s rows is =
-    let b = (cycle.all_reset is.round many after (subst (λ ps. IsAfter whole ps many (initial whole) after) is.held.reset goes)).0 in
-    (
+    let b = (cycle.all_reset is.round many after (subst (λ ps. IsAfter whole ps many (initial whole) after) is.held.reset goes)).0 in (
       own_state d b.full,
       cycle.first is.round many m (own_state d b.full) b.after,
       record {

@@ -1,15 +1,10 @@
 -- Replays of one design are one.
-use Rattle.std.proofs.Common.{◌≡◌, ℕ, List, sym, ap, ◌∙◌, subst}
-use Rattle.trace_model.specs.declared.packet.Packet.{Packet}
+use Rattle.std.proofs.Common.{◌≡◌, List, sym, ◌∙◌, subst}
 use Rattle.trace_model.specs.declared.row.Row.{Row}
 use Rattle.trace_model.specs.Recording.{trace_of}
 use Rattle.trace_code.specs.Encoding.{Encodes}
 use Rattle.net_design.specs.declared.design.Design.{Design}
 use Rattle.net_design.specs.declared.values.Values.{Values}
-use Rattle.chan_map.specs.declared.pins.Map.{Map}
-use Rattle.run_model.specs.Laws.{ContentsFit, IsReady}
-use Rattle.replay_run.specs.declared.outcome.Replayed.{Replayed}
-use Rattle.replay_run.specs.Replaying.{IsReplayed}
 use Rattle.replay_run.proofs.Outcomes.{one-outcome}
 use Rattle.shim_cosim.specs.Replays.{ReplaysAlike}
 

@@ -1,10 +1,9 @@
 -- A row that is read from outputs, channel by channel.
-use Rattle.std.proofs.Common.{◌≡◌, ℕ, zero, suc, ◌+◌, ◌-◌, ◌*◌, ◌/◌, ◌<◌, ◌≤◌, ◌^◌, ◌==◌, ◌&&◌, not, Bool, true, false, cond, eqb, List, [], ◌∷◌}
-use Rattle.std.proofs.Common.{◌++◌, Option, Some, refl, sym, ap, ◌∙◌, subst, arith, length, take, drop, get_or, slice_get, replicate, append_assoc}
+use Rattle.std.proofs.Common.{◌≡◌, ℕ, zero, suc, ◌+◌, ◌-◌, ◌*◌, ◌<◌, ◌≤◌, ◌^◌, ◌&&◌, not, Bool, true, false, cond, eqb, List, [], ◌∷◌}
+use Rattle.std.proofs.Common.{◌++◌, Option, Some, refl, sym, ap, ◌∙◌, arith, length, take, drop, get_or, slice_get, replicate, append_assoc}
 use Rattle.std.proofs.Common.{⊎_elim}
 use Rattle.std.specs.Int.{bit_at}
 use Rattle.std.specs.Prelude.{bit_and}
-use Rattle.std.specs.List.{sum_by}
 use Rattle.std.proofs.lemmas.Bool.{cases_lt}
 use Rattle.std.proofs.lemmas.List.{append-nil, length-append, length-replicate, length-take-le, length-drop, take_all, take_at, drop_at, drop-drop}
 use Rattle.std.proofs.lemmas.List.{drop_all, get_or-take, get_or-drop, take-append-drop}
@@ -179,7 +178,7 @@ module _ (channels : List Channel) (valids : ℕ) (fed out : List ℕ) where
         let here : content_of channels valids fed out c (slice_get channels c) ≡ content_on channels valids fed out c x.widths x.dir =
         ap (content_of channels valids fed out c) there in
         let more : joined (λ k. content_of channels valids fed out k (slice_get channels k)) 0 (take (c + 1) channels)
-            ≡ front ++ content_on channels valids fed out c x.widths x.dir =
+        ≡ front ++ content_on channels valids fed out c x.widths x.dir =
         joined-more (λ k. content_of channels valids fed out k (slice_get channels k)) channels c x l e ∙ ap (λ xs. front ++ xs) here in
         let place = are.place in
         let first = first-more channels c x l e in

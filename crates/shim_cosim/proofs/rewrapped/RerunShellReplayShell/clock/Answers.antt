@@ -1,4 +1,4 @@
-use Rattle.std.proofs.Common.{Some, arith, refl}
+use Rattle.std.proofs.Common.{arith, refl}
 use Rattle.shim_cosim.proofs.Rerun.{clocked_on, running_clocked}
 use Rattle.shim_cosim.proofs.rewrapped.RerunShellReplayShell.clock.Goals as goal
 

@@ -2,7 +2,7 @@ use Rattle.std.proofs.Common.{◌≡◌, ◌++◌, length, take, ap, ◌∙◌}
 use Rattle.net_design.specs.declared.design.Design.{Design}
 use Rattle.net_design.specs.Pins.{outputs, output_count}
 use Rattle.chan_monitor.proofs.RowOfCycle.{refill-is}
-use Rattle.shim_cosim.specs.Rewrapped.{inputs_count, outputs_count, feed_inputs}
+use Rattle.shim_cosim.specs.Rewrapped.{feed_inputs}
 use Rattle.shim_cosim.proofs.Recalls as calls
 use Rattle.shim_cosim.proofs.Rerun.{known_few, known_fit, known_long, known_many, known_shown, known_some}
 use Rattle.shim_cosim.proofs.rewrapped.RerunShellReplayShell.drive.Goals as goal
