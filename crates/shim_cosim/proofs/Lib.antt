@@ -9,14 +9,3 @@ mod RecordTops
 mod RecordCycle
 mod Shells
 mod Calls
-mod Pieces
-mod Sides
-mod FedInputs
-mod ShownRow
-mod FeedPorts
-mod ReplayRow
-mod ReplayClock
-mod ReplayCycle
-mod Rerun
-mod Recalls
-mod SameReplays

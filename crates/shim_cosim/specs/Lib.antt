@@ -2,6 +2,3 @@ pub mod Top
 pub mod Held
 pub mod Recorded
 pub mod Recording
-pub mod Rewrapped
-pub mod Replaying
-pub mod Replays

@@ -8,16 +8,10 @@
 
 mod cycles;
 mod error;
-mod fed_inputs;
 mod held;
 mod recorded;
-mod replays;
-mod rewrapped;
-mod shown_row;
 mod top;
 mod wrapped;
 
 pub use error::CosimError;
-pub use replays::replays_alike;
-pub use rewrapped::{RerunShell, Rewrapped};
 pub use wrapped::{RecordShell, Wrapped};
