@@ -9,3 +9,4 @@ mod RecordTops
 mod RecordCycle
 mod Shells
 mod Calls
+mod SameRecords

@@ -1,13 +1,10 @@
 -- Numbers that are found in a table.
-use Rattle.std.proofs.Common.{◌≡◌, ℕ, Bool, true, false, List, [], ◌∷◌, ◌++◌, Option, Some, None, is_some, if◌then◌else◌}
-use Rattle.std.proofs.Common.{refl, sym, ap, ◌∙◌, append_assoc, append-nil}
+use Rattle.std.proofs.Common.{◌≡◌, ℕ, Bool, List, [], ◌∷◌, ◌++◌}
+use Rattle.std.proofs.Common.{refl, ap, ◌∙◌}
 use Rattle.std.specs.List.{flat_map}
 use Rattle.std.specs.Option.{option_to_list}
-use Rattle.std.specs.Str.{bytes_eq}
-use Rattle.std.proofs.lemmas.Slice.Eq.{bytes_eq-Decides}
-use Rattle.vidi_bits.specs.Findings.{or_first}
 use Rattle.vlog_tree.specs.Tree.{PortOf}
-use Rattle.vlog_size.specs.Table.{Named, value_of, added}
+use Rattle.vlog_size.specs.Table.{Named}
 use Rattle.chan_map.specs.declared.pins.Map.{Map}
 use Rattle.shim_gen.specs.Tables.{with_entries}
 use Rattle.shim_gen.proofs.Tables.{value_in}

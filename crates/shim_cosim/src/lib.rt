@@ -10,8 +10,10 @@ mod cycles;
 mod error;
 mod held;
 mod recorded;
+mod records;
 mod top;
 mod wrapped;
 
 pub use error::CosimError;
+pub use records::records_alike;
 pub use wrapped::{RecordShell, Wrapped};

@@ -1,6 +1,5 @@
-use Rattle.std.proofs.Common.{◌≡◌, ◌∙◌, ◌++◌, ◌∷◌, [], List, ℕ, ap, map}
+use Rattle.std.proofs.Common.{◌∙◌, ◌++◌, ◌∷◌, [], List, ℕ, ap, map}
 use Rattle.vlog_tree.specs.declared.module.Module.{Module}
-use Rattle.vlog_tree.specs.Tree.{PortOf}
 use Rattle.vlog_tree.specs.Plain.{plain_module}
 use Rattle.shim_trees.specs.Wrapped.{ports_in, module_named}
 use Rattle.shim_cosim.proofs.Tables.{held_are}
