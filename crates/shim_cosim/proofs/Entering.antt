@@ -1,6 +1,6 @@
 -- Numbers that are entered and read channel by channel, in loops.
-use Rattle.std.proofs.Common.{◌≡◌, ℕ, zero, suc, ◌+◌, ◌<◌, ◌≤◌, ◌==◌, Bool, cond, List, [], ◌∷◌, ◌++◌, Option, Some}
-use Rattle.std.proofs.Common.{length, take, drop, get_or, set, slice_get, replicate, refl, ap, sym, ◌∙◌, arith, append_assoc}
+use Rattle.std.proofs.Common.{◌≡◌, ℕ, zero, suc, ◌+◌, ◌<◌, ◌≤◌, ◌==◌, List, [], ◌∷◌, ◌++◌}
+use Rattle.std.proofs.Common.{length, take, drop, get_or, set, replicate, refl, ap, sym, ◌∙◌, arith, append_assoc}
 use Rattle.std.proofs.lemmas.List.{append-nil, at_drop_more, drop_all, drop_at, drop-drop, length-append, length-drop, length-take-le, take-append-drop}
 use Rattle.std.proofs.lemmas.List.{take_all, take_at}
 use Rattle.std.proofs.lemmas.List.Sums.{sum_by_push, sum_by-cons, sum_by-take-le}
@@ -22,7 +22,7 @@ use Rattle.shim_trees.specs.Pieces.{each_some, upto}
 use Rattle.shim_cosim.specs.declared.recorded.Spot.{Spot}
 use Rattle.shim_cosim.specs.Recorded.{entered_inputs, channel_inputs, side_count, input_count, inputs_count, content_count, output_count}
 use Rattle.shim_cosim.specs.Recorded.{outputs_count, spot_place, spot_in, seat, is_raised, chosen_on, is_chosen, chosen_in, made_on, made_in}
-use Rattle.shim_cosim.specs.Recorded.{made_content, shown_content}
+use Rattle.shim_cosim.specs.Recorded.{made_content}
 
 -- ---- lists of pieces
 pub each_some-push : {X Y : Type 0} (f : ℕ → X → List Y) (k : ℕ) (xs : List X) (x : X)

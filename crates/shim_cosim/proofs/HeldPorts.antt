@@ -1,5 +1,5 @@
 -- The inputs of a top for the reset and the ties, beside their numbers.
-use Rattle.std.proofs.Common.{◌≡◌, ◌≢◌, ℕ, ◌<◌, ◌^◌, Bool, true, false, if◌then◌else◌, List, [], ◌∷◌, ◌++◌, map, length}
+use Rattle.std.proofs.Common.{◌≡◌, ◌≢◌, ℕ, ◌<◌, ◌^◌, Bool, true, false, if◌then◌else◌, List, [], ◌∷◌, ◌++◌, map}
 use Rattle.std.proofs.Common.{Option, Some, None, inl, inr, refl, sym, ap, ◌∙◌, subst, arith, append_assoc, slice_get}
 use Rattle.std.specs.Prelude.{codes, IfSome}
 use Rattle.std.specs.List.{flat_map, AllZip, AllByRecursion}
@@ -21,11 +21,10 @@ use Rattle.chan_map.specs.declared.pins.Reset.{Reset}
 use Rattle.chan_map.specs.declared.pins.Tie.{Tie}
 use Rattle.chan_map.specs.Bound.{IsPin, IsTie}
 use Rattle.run_model.specs.Pins.{reset_input}
-use Rattle.shim_trees.specs.Pieces.{input}
-use Rattle.shim_trees.specs.Links.{tied, tied_input, tied_port, tied_link, tied_ports, links, held, reset_width, tie_width, channel_links, link}
+use Rattle.shim_trees.specs.Links.{tied, tied_input, tied_port, tied_link, tied_ports, held, reset_width, tie_width, channel_links, link}
 use Rattle.shim_trees.specs.Pieces.{each_some}
 use Rattle.trace_model.specs.declared.channel.Channel.{Channel}
-use Rattle.shim_design.proofs.Elements.{Has, has_left, has_right, has_map, mapped, found, at_member, Apart, apart_front}
+use Rattle.shim_design.proofs.Elements.{Has, has_left, has_right, has_map, mapped, found, Apart, apart_front}
 use Rattle.shim_step.specs.Wrapped.{IsWrapped}
 use Rattle.shim_step.specs.Ports.{HasHeld}
 use Rattle.shim_step.proofs.Dut.{behind}

@@ -9,6 +9,7 @@ mod RecordTops
 mod RecordCycle
 mod Shells
 mod Calls
+mod SameRecords
 mod Pieces
 mod Sides
 mod FedInputs

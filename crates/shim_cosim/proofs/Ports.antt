@@ -7,8 +7,7 @@ use Rattle.vlog_tree.specs.declared.module.Direction.{Direction as TreeDirection
 use Rattle.vlog_tree.specs.declared.module.Direction.TheVariants as tree
 use Rattle.vlog_tree.specs.Tree.{PortHeadOf, PortOf, ModuleOf}
 use Rattle.vlog_size.specs.declared.scope.Scope.{Scope}
-use Rattle.vlog_size.specs.declared.scope.ScopeNet.{ScopeNet}
-use Rattle.vlog_size.specs.Table.{Named, value_of}
+use Rattle.vlog_size.specs.Table.{value_of}
 use Rattle.vlog_names.specs.declared.declaration.Declaration.{Declaration}
 use Rattle.vlog_names.specs.Entries.{entry, port_as, no_port, port_entries}
 use Rattle.vlog_scope.specs.Extents.{net_width}
@@ -25,7 +24,7 @@ use Rattle.net_design.specs.Names.{list_at, paths}
 use Rattle.net_design.specs.Settled.{pins_of}
 use Rattle.flat_parts.specs.Meaning.{values_of}
 use Rattle.flat_parts.specs.Nets.{port_of, flat_ports}
-use Rattle.shim_trees.specs.Pieces.{port, range_of}
+use Rattle.shim_trees.specs.Pieces.{range_of}
 use Rattle.shim_design.specs.Plain.{net_named, extent, nets_of, IsPlain}
 use Rattle.shim_design.proofs.Elements.{Has, found}
 use Rattle.shim_design.proofs.Standing.{port_net, plain_nets_differ, plain_scope}

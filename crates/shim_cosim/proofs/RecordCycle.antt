@@ -1,5 +1,5 @@
 -- A cycle of a wrapped file's flat design with the top that records: its row is the one that monitors round the design fill.
-use Rattle.std.proofs.Common.{◌≡◌, ℕ, zero, suc, ◌+◌, ◌<◌, ◌^◌, ◌==◌, ◌&&◌, Bool, true, false, cond, List, [], ◌∷◌, ◌++◌, length, take, map, replicate}
+use Rattle.std.proofs.Common.{◌≡◌, ℕ, zero, suc, ◌+◌, ◌<◌, ◌^◌, ◌==◌, Bool, true, false, List, [], ◌∷◌, ◌++◌, length, take, map, replicate}
 use Rattle.std.proofs.Common.{Option, Some, None, refl, sym, ap, ◌∙◌, subst, arith, slice_get, get_or}
 use Rattle.std.specs.Prelude.{codes, MatchOption}
 use Rattle.std.specs.List.{range_with_len}
@@ -21,12 +21,12 @@ use Rattle.trace_model.specs.declared.channel.Dir.TheVariants.{Inward, Outward}
 use Rattle.trace_model.specs.declared.row.Offers.{Offers}
 use Rattle.trace_model.specs.declared.row.Row.{Row}
 use Rattle.trace_model.specs.Packet.{Fit}
-use Rattle.trace_model.specs.Row.{all_widths, content_at, AreOffers, IsOver}
+use Rattle.trace_model.specs.Row.{content_at, AreOffers, IsOver}
 use Rattle.trace_model.proofs.ContentsLemmas.{fit-length}
 use Rattle.chan_map.specs.declared.pins.Map.{Map}
 use Rattle.chan_map.specs.declared.pins.Reset.{Reset}
 use Rattle.run_model.specs.Building.{mask_of, joined, number_for}
-use Rattle.run_model.specs.Offers.{no_content, AreZeroWhileDown, CarriesOn}
+use Rattle.run_model.specs.Offers.{AreZeroWhileDown, CarriesOn}
 use Rattle.run_model.specs.Pins.{silent, entered, ArePins}
 use Rattle.run_model.specs.Step as run
 use Rattle.run_model.specs.Step.{IsAfter, IsFirst, IsStep}
@@ -42,7 +42,7 @@ use Rattle.shim_trees.specs.Pieces.{numbered, each_some, upto}
 use Rattle.shim_trees.specs.RecordTop.{record_ports, record_top}
 use Rattle.shim_trees.specs.Wrapped.{wrapped}
 use Rattle.shim_design.specs.Part.{pins_below}
-use Rattle.shim_step.specs.Wrapped.{IsWrapped, DUT, Flies}
+use Rattle.shim_step.specs.Wrapped.{DUT, Flies}
 use Rattle.shim_step.specs.Ports.{HasContent, ShowsContent}
 use Rattle.shim_step.specs.Recording.{own_state, Records}
 use Rattle.shim_step.proofs.Recording.{records_rows}

@@ -1,14 +1,13 @@
 -- The ports of the top that records: what fits its inputs, and what stands on them and on its outputs.
-use Rattle.std.proofs.Common.{◌≡◌, ℕ, zero, suc, ◌+◌, ◌<◌, ◌≤◌, ◌^◌, ◌==◌, Bool, true, false, List, [], ◌∷◌, ◌++◌, map, length}
-use Rattle.std.proofs.Common.{Some, inl, inr, get_or, take, slice_get, refl, sym, ap, ◌∙◌, subst, arith}
+use Rattle.std.proofs.Common.{◌≡◌, ℕ, zero, suc, ◌+◌, ◌<◌, ◌^◌, Bool, List, [], ◌∷◌, ◌++◌, map, length}
+use Rattle.std.proofs.Common.{Some, get_or, take, slice_get, refl, sym, ap, ◌∙◌, subst, arith}
 use Rattle.std.specs.Prelude.{codes}
 use Rattle.std.specs.List.{AllZip, AllByRecursion}
-use Rattle.std.proofs.lemmas.List.{append-nil, map-append, length-map, length-append}
+use Rattle.std.proofs.lemmas.List.{map-append, length-map, length-append}
 use Rattle.std.proofs.lemmas.List.Sums.{sum_by-cons}
-use Rattle.vidi_bits.specs.Number.{IsWidth, truth, has}
-use Rattle.vlog_tree.specs.Tree.{PortOf, ModuleOf}
+use Rattle.vidi_bits.specs.Number.{IsWidth, truth}
+use Rattle.vlog_tree.specs.Tree.{PortOf}
 use Rattle.vlog_meaning.specs.Names.{Name, Full}
-use Rattle.net_design.specs.declared.design.Direction.{Direction}
 use Rattle.net_design.specs.declared.design.Direction.TheVariants.{Input, Output}
 use Rattle.net_design.specs.declared.design.Port.{Port}
 use Rattle.trace_model.specs.declared.channel.Channel.{Channel}
@@ -21,7 +20,7 @@ use Rattle.shim_trees.specs.Pieces.{numbered, numbered_twice, each, each_some, p
 use Rattle.shim_trees.specs.RecordTop.{record_ports}
 use Rattle.shim_cosim.specs.Recorded.{entered_inputs, channel_inputs, content_count, output_count, outputs_count}
 use Rattle.shim_cosim.proofs.HeldPorts.{truth_below}
-use Rattle.shim_cosim.proofs.Ports.{side, side_append, flat, flat_width, IsHeaded}
+use Rattle.shim_cosim.proofs.Ports.{side, side_append, flat_width, IsHeaded}
 use Rattle.shim_cosim.proofs.Zips.{Fits, zip_append, zip_split, zip_long}
 
 -- ---- a channel's ports, by its direction

@@ -1,13 +1,13 @@
 -- A wrapped file's flat design with the top that records: its ports, its clock, and what stands on its ports.
-use Rattle.std.proofs.Common.{◌≡◌, ℕ, zero, suc, ◌+◌, ◌<◌, ◌≤◌, ◌^◌, ◌==◌, Bool, true, false, List, [], ◌∷◌, ◌++◌, map, length, replicate}
-use Rattle.std.proofs.Common.{Option, Some, None, inl, inr, refl, sym, ap, ◌∙◌, subst, arith, slice_get, get_or}
+use Rattle.std.proofs.Common.{◌≡◌, ℕ, zero, suc, ◌+◌, ◌<◌, ◌≤◌, ◌^◌, Bool, true, false, List, [], ◌∷◌, ◌++◌, map, length, replicate}
+use Rattle.std.proofs.Common.{Some, inl, inr, refl, sym, ap, ◌∙◌, subst, arith, slice_get}
 use Rattle.std.specs.Prelude.{codes}
 use Rattle.std.specs.List.{flat_map, AllZip, AllByRecursion, Contains}
 use Rattle.std.proofs.lemmas.Bool.{ne_eqb}
 use Rattle.std.proofs.lemmas.List.{length-append}
 use Rattle.std.proofs.lemmas.List.Sums.{sum_by-cons}
 use Rattle.std.proofs.lemmas.Nat.{pow_pos}
-use Rattle.vidi_bits.specs.Number.{IsWidth, truth, has}
+use Rattle.vidi_bits.specs.Number.{IsWidth}
 use Rattle.vidi_bits.proofs.Each.{each_append}
 use Rattle.vlog_tree.specs.Tree.{PortOf, ConnOf, ItemOf, PosedgeEvent, ModuleOf, FileOf}
 use Rattle.vlog_elab.specs.Instances.{instances}
@@ -31,20 +31,18 @@ use Rattle.trace_model.specs.declared.channel.Channel.{Channel}
 use Rattle.trace_model.specs.declared.channel.Dir.{Dir}
 use Rattle.trace_model.specs.declared.channel.Dir.TheVariants.{Inward, Outward}
 use Rattle.trace_model.specs.declared.row.Offers.{Offers}
-use Rattle.trace_model.specs.declared.row.Row.{Row}
 use Rattle.trace_model.specs.Row.{content_at, AreOffers}
 use Rattle.chan_map.specs.declared.pins.Map.{Map}
 use Rattle.run_model.proofs.Contents.{content-fits}
 use Rattle.run_model.proofs.RowParts.{channel-at}
 use Rattle.chan_monitor.specs.Entering.{offered}
 use Rattle.shim_trees.specs.Pieces.{numbered, ident, net, not_net, both, next, at_clock, each, each_some, conn, gated_content}
-use Rattle.shim_trees.specs.Links.{held, tied_port, tied_ports}
+use Rattle.shim_trees.specs.Links.{held, tied_ports}
 use Rattle.shim_trees.specs.Monitor.{monitor, gates, events}
 use Rattle.shim_trees.specs.RecordTop.{record_ports, record_top, monitor_conns}
 use Rattle.shim_trees.specs.Wrapped.{wrapped}
-use Rattle.shim_design.specs.Plain.{extent, IsPlain}
-use Rattle.shim_design.proofs.Elements.{Has, has_left, has_right, has_contains}
-use Rattle.shim_design.proofs.Scopes.{bare}
+use Rattle.shim_design.specs.Plain.{IsPlain}
+use Rattle.shim_design.proofs.Elements.{has_right, has_contains}
 use Rattle.shim_design.proofs.Standing.{plain_scope, has_placed}
 use Rattle.shim_step.specs.Wrapped.{IsWrapped}
 use Rattle.shim_step.specs.Ports.{HasHeld, HasOffer, HasOffers, HasReset}
@@ -54,7 +52,7 @@ use Rattle.shim_step.proofs.Monitor.{monitor_plain}
 use Rattle.shim_step.proofs.Recorder as recorder
 use Rattle.shim_step.proofs.Stand.{child_of}
 use Rattle.shim_cosim.specs.Held.{held_numbers, held_number, held_inputs}
-use Rattle.shim_cosim.specs.Recorded.{entered_inputs, channel_inputs, row_inputs, side_count, input_count, inputs_count, outputs_count}
+use Rattle.shim_cosim.specs.Recorded.{entered_inputs, channel_inputs, row_inputs, side_count, input_count, inputs_count}
 use Rattle.shim_cosim.specs.Top.{RECORD_TOP, IsRound}
 use Rattle.shim_cosim.proofs.HeldPorts.{keys, tied_fit, tied_headed, tied_outputs, has_held}
 use Rattle.shim_cosim.proofs.Ports.{side, side_append, flat, IsHeaded, flat_ports_are, pins_named}

@@ -1,8 +1,8 @@
 -- A wrapped design that runs as a shell: what is known of it, and what its calls make of it.
-use Rattle.std.proofs.Common.{◌≡◌, ℕ, zero, suc, ◌+◌, ◌<◌, ◌≤◌, ◌^◌, Bool, true, false, if◌then◌else◌, List, [], ◌∷◌, ◌++◌, map, length, take}
-use Rattle.std.proofs.Common.{Option, Some, None, count_by, replicate, cond, refl, sym, ap, ◌∙◌, subst, arith, slice_get, get_or}
-use Rattle.std.specs.Prelude.{MatchOption, codes}
-use Rattle.std.specs.List.{find, flat_map}
+use Rattle.std.proofs.Common.{◌≡◌, ℕ, suc, ◌+◌, ◌<◌, ◌≤◌, ◌^◌, Bool, true, false, if◌then◌else◌, List, [], ◌∷◌, ◌++◌, length, take}
+use Rattle.std.proofs.Common.{Option, Some, None, count_by, replicate, cond, refl, sym, ap, ◌∙◌, subst, arith}
+use Rattle.std.specs.Prelude.{MatchOption}
+use Rattle.std.specs.List.{find}
 use Rattle.std.specs.Str.{bytes_eq}
 use Rattle.std.proofs.Math.Logic.{∥∥₁_elim, ∥∥₁_map}
 use Rattle.std.proofs.Props.{props}
@@ -10,18 +10,15 @@ use Rattle.std.proofs.lemmas.List.{length-append, length-map, length-replicate, 
 use Rattle.vlog_tree.specs.Tree.{ModuleOf, FileOf}
 use Rattle.net_design.specs.declared.design.Port.{Port}
 use Rattle.net_design.specs.declared.design.Direction.{Direction}
-use Rattle.net_design.specs.declared.design.Direction.TheVariants.{Input, Output}
+use Rattle.net_design.specs.declared.design.Direction.TheVariants.{Output}
 use Rattle.net_design.specs.declared.design.Design.{Design}
 use Rattle.net_design.specs.declared.values.Values.{Values}
-use Rattle.net_design.specs.Lawful.{IsLawful, IsState}
-use Rattle.net_design.specs.Pins.{input_limits, output_count as design_count, outputs, FitPins}
+use Rattle.net_design.specs.Lawful.{IsState}
+use Rattle.net_design.specs.Pins.{output_count as design_count, outputs, FitPins}
 use Rattle.net_design.specs.Settled as design
 use Rattle.net_design.specs.Settled.{same_direction}
 use Rattle.net_order.proofs.OneMap.{has_one_map}
-use Rattle.vlog_meaning.specs.Names.{Name, Full, State}
 use Rattle.flat_laws.proofs.Found.{no_twice}
-use Rattle.flat_parts.specs.Meaning.{state_of}
-use Rattle.trace_model.specs.declared.channel.Channel.{Channel}
 use Rattle.trace_model.specs.declared.row.Offers.{Offers}
 use Rattle.trace_model.specs.declared.row.Row.{Row}
 use Rattle.trace_model.specs.Row.{AreOffers}
@@ -32,10 +29,10 @@ use Rattle.run_model.specs.Step.{IsAfter, IsFirst, IsStep}
 use Rattle.run_model.proofs.PlayedLaws.{ports-are_nets}
 use Rattle.run_model.specs.Offers.{AreZeroWhileDown}
 use Rattle.chan_monitor.specs.Entering.{offered}
-use Rattle.chan_monitor.specs.Shell.{IsMapped, IsRunning, IsShown}
+use Rattle.chan_monitor.specs.Shell.{IsRunning}
 use Rattle.shim_trees.specs.Pieces.{each_some}
 use Rattle.shim_trees.specs.Links.{held, tied_ports}
-use Rattle.shim_trees.specs.RecordTop.{record_ports, record_top}
+use Rattle.shim_trees.specs.RecordTop.{record_ports}
 use Rattle.shim_trees.specs.Wrapped.{shims, ports_in, module_named, wrapped}
 use Rattle.shim_step.specs.Wrapped.{IsWrapped}
 use Rattle.shim_step.proofs.Files.{top_first}
@@ -44,7 +41,7 @@ use Rattle.shim_cosim.specs.Recorded.{row_inputs, inputs_count, outputs_count, I
 use Rattle.shim_cosim.specs.Recording.{IsRecording, IsRecorded}
 use Rattle.shim_cosim.specs.Top.{RECORD_TOP, IsRound, IsTopDesign, IsWrapOf}
 use Rattle.shim_cosim.proofs.HeldPorts.{tied_outputs}
-use Rattle.shim_cosim.proofs.Ports.{side, side_append, flat}
+use Rattle.shim_cosim.proofs.Ports.{side, side_append}
 use Rattle.shim_cosim.proofs.Zips.{ways_of}
 use Rattle.shim_cosim.proofs.RecordPorts.{channels_fit, all_long}
 use Rattle.shim_cosim.proofs.RecordTops as tops

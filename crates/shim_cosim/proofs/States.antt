@@ -1,7 +1,7 @@
 -- States and settled lists of the flat design of a file, as maps from full names to numbers.
-use Rattle.std.proofs.Common.{◌≡◌, ◌≢◌, ℕ, zero, suc, ◌+◌, ◌-◌, ◌<◌, ◌≤◌, ◌^◌, Bool, true, false, if◌then◌else◌, nat_lt, List, [], ◌∷◌}
+use Rattle.std.proofs.Common.{◌≡◌, ℕ, zero, suc, ◌+◌, ◌-◌, ◌<◌, ◌≤◌, ◌^◌, Bool, true, false, if◌then◌else◌, nat_lt, List, [], ◌∷◌}
 use Rattle.std.proofs.Common.{◌++◌, map, length, take, get_or, slice_get, Some, ⊎_elim, inl, inr, refl, sym, ap, ◌∙◌, subst, arith}
-use Rattle.std.specs.List.{flat_map, sum_by, AllByRecursion}
+use Rattle.std.specs.List.{flat_map, sum_by}
 use Rattle.std.proofs.lemmas.Bool.{cases_lt}
 use Rattle.std.proofs.lemmas.List.{map-append}
 use Rattle.std.proofs.lemmas.List.Sums.{sum_by-cons}
@@ -12,9 +12,7 @@ use Rattle.std.proofs.Math.Nat.{pow-le-pow_right}
 use Rattle.vlog_tree.specs.Tree.{ModuleOf, FileOf}
 use Rattle.vlog_elab.specs.Instances.{instances}
 use Rattle.vlog_elab.specs.Reasons.{Clear}
-use Rattle.vlog_scope.specs.Scope.{scope_with}
 use Rattle.vlog_size.specs.declared.scope.ScopeMemory.{ScopeMemory}
-use Rattle.vlog_size.specs.declared.scope.Scope.{Scope}
 use Rattle.vlog_size.specs.Table.{Named}
 use Rattle.net_design.specs.declared.design.DesignMemory.{DesignMemory}
 use Rattle.net_design.specs.declared.design.Design.{Design}
@@ -22,7 +20,6 @@ use Rattle.net_design.specs.declared.values.Values.{Values}
 use Rattle.net_design.specs.Lawful.{IsLawful, IsState}
 use Rattle.net_design.specs.Settled.{word_count}
 use Rattle.vlog_meaning.specs.Names.{Full, State, words_from}
-use Rattle.vlog_meaning.specs.Instances.{IsAt}
 use Rattle.flat_parts.specs.Built.{IsBuilt}
 use Rattle.flat_parts.specs.Laws.{IsTop}
 use Rattle.flat_parts.specs.Meaning.{memory_words, values_of, state_of, AreNarrow}

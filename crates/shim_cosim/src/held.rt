@@ -3,36 +3,17 @@
 ghost use Rattle.std.specs.Prelude.{◌≡◌, ◌++◌, [], not, if◌then◌else◌, IfOk, OnOk, map};
 ghost use Rattle.std.specs.List.{flat_map};
 ghost use Rattle.std.specs.Option.{option_to_list};
-ghost use Rattle.std.specs.Str.{bytes_eq};
-ghost use Rattle.vlog_tree.specs.Plain.{plain, plain_port, plain_module};
+ghost use Rattle.vlog_tree.specs.Plain.{plain, plain_port};
 ghost use Rattle.shim_trees.specs.Wrapped.{ports_in, module_named};
 ghost use Rattle.shim_gen.specs.Tables.{with_entries};
 ghost use Rattle.shim_cosim.specs.Held as spec;
 
 use chan_map::{Map, Reset};
+use shim_gen::ports_of;
 use std::alloc::Global;
 use vidi_bits::{Items, Memory, Numbers, copied};
 use vlog_size::Table;
-use vlog_tree::{File, Module, Port};
-
-/// Whether the module has this name.
-fn is_named(tree: &Module, name: &[u8]) -> bool
-    ensures { result ≡ bytes_eq name.now tree.now.name }
-{
-    name == tree.name.as_slice()
-}
-
-/// The ports of the first module of this name; none where there is no such module.
-fn ports_of<'a>(modules: &'a [Module], name: &[u8]) -> &'a [Port]
-    ensures { map plain_port result.now ≡ ports_in (module_named (map plain_module modules.now) name.now) }
-{
-    for module in modules {
-        if is_named(module, name) {
-            return module.ports.as_slice();
-        }
-    }
-    &[]
-}
+use vlog_tree::{File, Port};
 
 /// The value of a reset pin: the active one in a reset cycle, else the other.
 fn reset_value(active: bool, resets: bool) -> bool

@@ -3,7 +3,7 @@
 //!
 //! The definitions stand in `specs/`: `Top` (the flat design of a wrapped file, the reasons, nets by name), `Held` (the inputs that are
 //! held), `Recorded` and `Rewrapped` (the other ports of `vidi_record_top` and of `vidi_replay_top`), `Recording` and `Replaying` (what a
-//! wrapped design that runs stands for) and `Replays` (replays of one design by two shells).
+//! wrapped design that runs stands for), `Records` and `Replays` (recordings and replays of one design by two shells).
 #![tactic(auto)]
 
 mod cycles;
@@ -11,6 +11,7 @@ mod error;
 mod fed_inputs;
 mod held;
 mod recorded;
+mod records;
 mod replays;
 mod rewrapped;
 mod shown_row;
@@ -18,6 +19,7 @@ mod top;
 mod wrapped;
 
 pub use error::CosimError;
+pub use records::records_alike;
 pub use replays::replays_alike;
 pub use rewrapped::{RerunShell, Rewrapped};
 pub use wrapped::{RecordShell, Wrapped};

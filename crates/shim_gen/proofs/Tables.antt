@@ -50,7 +50,8 @@ value_after xs [] q = ap (λ zs. value_of zs q) (sym (append-nil xs))
 value_after xs (e ∷ es) q =
     value_after (added xs e.name e.value) es q ∙ step_by (is_some (value_of xs e.name)) xs es e.name e.value q refl
 
-value_in : {V : Type 0} (es : List (Named V)) (q : List ℕ) → value_of (with_entries [] es) q ≡ value_of es q
+-- a table of entries has the value that the entries have
+pub value_in : {V : Type 0} (es : List (Named V)) (q : List ℕ) → value_of (with_entries [] es) q ≡ value_of es q
 value_in es q = value_after [] es q
 
 tied_same : (ws : List (Named ℕ)) (ports : List (PortOf ℕ)) → flat_map (tied_port (with_entries [] ws)) ports ≡ flat_map (tied_port ws) ports

@@ -21,4 +21,4 @@ mod wrapping;
 pub use error::WrapError;
 pub use monitor::monitor_tree;
 pub use replayer::replayer_tree;
-pub use wrapping::wrap;
+pub use wrapping::{ports_of, wrap};

@@ -51,7 +51,7 @@ fn is_named(tree: &Module, name: &[u8]) -> bool
 }
 
 /// The ports of the first module of this name; none where there is no such module.
-fn ports_of<'a>(modules: &'a [Module], name: &[u8]) -> &'a [Port]
+pub fn ports_of<'a>(modules: &'a [Module], name: &[u8]) -> &'a [Port]
     ensures { map plain_port result.now ≡ spec.ports_in (spec.module_named (map plain_module modules.now) name.now) }
 {
     for module in modules {

@@ -1,9 +1,9 @@
-use Rattle.std.proofs.Common.{subst, sym, ◌∙◌, ap, length, arith, refl}
+use Rattle.std.proofs.Common.{◌∙◌, arith}
 use Rattle.trace_model.proofs.RowLemmas.{room-left, rest-more}
 use Rattle.chan_monitor.specs.Entering.{offered}
 use Rattle.chan_monitor.proofs.Writing.{split-is}
 use Rattle.shim_cosim.specs.Recorded.{input_count}
-use Rattle.shim_cosim.proofs.Entering.{counted-within, enter-more, enter-none, enter-done}
+use Rattle.shim_cosim.proofs.Entering.{counted-within, enter-more}
 use Rattle.shim_cosim.proofs.recorded.enter.Goals as goal
 
 pub split_at-requires : goal.split_at-requires

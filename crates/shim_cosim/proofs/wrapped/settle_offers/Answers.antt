@@ -1,4 +1,4 @@
-use Rattle.std.proofs.Common.{◌≡◌, ◌∙◌, ◌++◌, List, ap, take}
+use Rattle.std.proofs.Common.{◌∙◌, ◌++◌, List, ap, take}
 use Rattle.trace_model.specs.declared.channel.Channel.{Channel}
 use Rattle.chan_monitor.specs.Entering.{offered}
 use Rattle.shim_cosim.specs.Recorded.{row_inputs}

@@ -1,5 +1,4 @@
-use Rattle.std.proofs.Common.{Some, refl}
-use Rattle.shim_cosim.proofs.Calls as calls
+use Rattle.std.proofs.Common.{Some}
 use Rattle.shim_cosim.proofs.Shells.{clocked, runs_on}
 use Rattle.shim_cosim.specs.Recording.{IsRecording}
 use Rattle.shim_cosim.proofs.wrapped.RecordShellShell.clock.Goals as goal

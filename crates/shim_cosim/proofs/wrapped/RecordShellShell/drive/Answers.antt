@@ -1,7 +1,7 @@
 use Rattle.std.proofs.Common.{◌≤◌, ◌++◌, length, take, refl, ap, sym, subst, ◌∙◌}
-use Rattle.net_design.specs.Pins.{outputs, output_count}
+use Rattle.net_design.specs.Pins.{output_count}
 use Rattle.chan_monitor.specs.Entering.{offered}
-use Rattle.shim_cosim.specs.Recorded.{inputs_count, row_inputs, outputs_count}
+use Rattle.shim_cosim.specs.Recorded.{row_inputs, outputs_count}
 use Rattle.shim_cosim.proofs.Calls as calls
 use Rattle.shim_cosim.proofs.Shells.{known_long, known_places, known_small, known_few, known_fit}
 use Rattle.shim_cosim.proofs.wrapped.RecordShellShell.drive.Goals as goal

@@ -1,4 +1,4 @@
-use Rattle.std.proofs.Common.{None, subst, sym, ap, ◌∙◌}
+use Rattle.std.proofs.Common.{None, subst, sym}
 use Rattle.net_design.specs.Pins.{FitPins}
 use Rattle.shim_cosim.proofs.Calls as calls
 use Rattle.shim_cosim.proofs.Shells.{known_reset, runs_on}
