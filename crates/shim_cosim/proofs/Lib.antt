@@ -1,0 +1,23 @@
+mod Entering
+pub mod Zips
+pub mod States
+pub mod Ports
+pub mod HeldPorts
+pub mod Tables
+mod RecordPorts
+mod RecordTops
+mod RecordCycle
+mod Shells
+mod Calls
+mod SameRecords
+mod Pieces
+mod Sides
+mod FedInputs
+mod ShownRow
+mod FeedPorts
+mod ReplayRow
+mod ReplayClock
+mod ReplayCycle
+mod Rerun
+mod Recalls
+mod SameReplays

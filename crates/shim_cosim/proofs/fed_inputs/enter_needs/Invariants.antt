@@ -1,0 +1,6 @@
+use Rattle.std.proofs.Common.{◌≡◌, take}
+use Rattle.trace_model.specs.Row.{replaced}
+use Rattle.shim_cosim.proofs.fed_inputs.enter_needs.Given as goal
+
+abbrev pub invariant-loop-j : goal.invariant-loop-j
+invariant-loop-j l = l.pins ≡ replaced l.fn.pins l.at (take l.j l.needs)

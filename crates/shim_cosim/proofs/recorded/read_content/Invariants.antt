@@ -1,0 +1,10 @@
+use Rattle.std.proofs.Common.{◌≡◌, get_or}
+use Rattle.net_design.specs.Pins.{outputs}
+use Rattle.trace_model.specs.Row.{replaced}
+use Rattle.shim_trees.specs.Pieces.{upto}
+use Rattle.shim_cosim.proofs.recorded.read_content.Given as goal
+
+abbrev pub invariant-loop-i : goal.invariant-loop-i
+invariant-loop-i g l =
+    l.contents ≡ replaced l.fn.contents l.at
+    (upto (λ k. get_or (outputs (g.B.Block.design l.block) (g.B.Block.shown l.block)) k 0) l.port l.i)

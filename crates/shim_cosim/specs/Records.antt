@@ -1,0 +1,23 @@
+-- Recordings of one design through two shells.
+use Rattle.std.specs.Prelude.{◌≡◌, ℕ, List, Option}
+use Rattle.trace_model.specs.declared.row.Row.{Row}
+use Rattle.net_design.specs.declared.design.Design.{Design}
+use Rattle.net_design.specs.declared.values.Values.{Values}
+use Rattle.chan_map.specs.declared.pins.Map.{Map}
+use Rattle.run_model.specs.Laws.{IsReady}
+use Rattle.script_text.specs.declared.stalls.Stalls.{Stalls}
+use Rattle.script_text.specs.Offer.{Offer}
+use Rattle.env_script.specs.Offered.{AreLasting}
+use Rattle.vidi_recorder.specs.declared.error.Outcome.{Outcome}
+use Rattle.vidi_recorder.specs.Course.{course}
+use Rattle.vidi_recorder.specs.Recording.{EndsWith}
+
+-- A recording through one of two shells answers the same as through the other, and its sink tells the same, where both run the same design,
+-- in the same environment, under the same plan of stalls, for as many cycles. The shells run what is given, and the environments stand for
+-- what is given.
+abbrev pub RecordsAlike : (Design → Values → Option Row → Type 0) → (Design → Values → Option Row → Type 0) → (List Row → Type 0)
+    → (List Row → Type 0) → Type 0
+RecordsAlike p q f g = (d : Design) (m : Map) (offer : List Row → ℕ → Offer) (stalls : Stalls) (cycles : ℕ) → IsReady d m
+    → AreLasting m.channels offer → (old one other : Option (List ℕ)) (a b : Outcome)
+    → EndsWith (course d m offer stalls cycles) p f old one a → EndsWith (course d m offer stalls cycles) q g old other b
+    → (a ≡ b) × (one ≡ other)
