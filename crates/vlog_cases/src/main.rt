@@ -2,10 +2,10 @@
 #![tactic(auto)]
 
 use case_player::{Caller, play_program};
+use net_words::say;
 use std::alloc::Global;
 use std::process::ExitCode;
 use vidi_io::{MemShelf, MemSink, Words};
-use vlog_words::say;
 
 /// The words on Verilog texts.
 struct Verilog;

@@ -4,21 +4,18 @@
 
 mod answers;
 mod blocks;
-mod cycles;
-mod designs;
-mod drivers;
 mod ended;
 mod expression_tree;
 mod expressions;
 mod file_tree;
 mod names;
 mod numbers;
-mod parts;
 mod printed;
-mod runs;
-mod said;
 mod spelled;
 mod texts;
 mod tree_lines;
 
-pub use said::say;
+pub use answers::answer;
+pub use ended::Ended;
+pub use numbers::put_wide;
+pub use texts::{lines_in, number_in, tree_in};

@@ -1,5 +1,5 @@
 use Rattle.net_design.specs.Pins.{FitPins}
-use Rattle.vlog_words.proofs.runs.run_cycles.Given as goal
+use Rattle.net_words.proofs.runs.run_cycles.Given as goal
 
 abbrev pub invariant-loop : goal.invariant-loop
 invariant-loop l = FitPins l.sim.design l.pins

@@ -1,5 +1,5 @@
-use Rattle.vlog_words.proofs.runs.fits.Goals as goal
-use Rattle.vlog_words.proofs.PinLaws.{settled_fits}
+use Rattle.net_words.proofs.runs.fits.Goals as goal
+use Rattle.net_words.proofs.PinLaws.{settled_fits}
 
 pub returns : goal.returns
 returns c =

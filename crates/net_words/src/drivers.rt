@@ -1,12 +1,11 @@
 //! The words on code: the drivers and the clocked blocks of a design.
 
 use crate::designs::{paths, put_net};
-use crate::ended::Ended;
-use crate::numbers::put_wide;
 use net_design::{Code, Design, Mask};
 use report_text::{put, put_number};
 use std::alloc::Global;
 use vidi_bits::{Items, Name};
+use vlog_words::{Ended, put_wide};
 
 /// `drivers FILE TOP`: for each driver its line, `*` where it is an `always @*`, the bits that it writes, and those that it reads.
 pub fn drivers(alloc: Global, design: &Design) -> Result<Vec<u8>, Ended> {

@@ -1,12 +1,11 @@
 //! The words on the nets of a design, and on its ports, clock, registers and memories.
 
 use crate::designs::{paths, put_name, put_net};
-use crate::ended::Ended;
-use crate::numbers::put_wide;
 use net_design::{Design, Direction};
 use report_text::{put, put_number};
 use std::alloc::Global;
 use vidi_bits::{Items, Name};
+use vlog_words::{Ended, put_wide};
 
 /// `nets FILE TOP`: the full name and the width of each net, a line each.
 pub fn nets(alloc: Global, design: &Design) -> Result<Vec<u8>, Ended> {

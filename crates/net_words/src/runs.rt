@@ -6,8 +6,6 @@ ghost use Rattle.net_design.specs.Pins.{FitPins};
 
 use crate::cycles::{Cycle, cycle_in, order_of, settled_by_order};
 use crate::designs::{paths, put_name};
-use crate::ended::Ended;
-use crate::numbers::put_wide;
 use net_design::{Block, Design, Values, lawful_is_sized, number_at};
 use net_reference::{initial_state, is_settled, next_state};
 use net_sim::Sim;
@@ -15,6 +13,7 @@ use report_text::put;
 use std::alloc::Global;
 use vidi_bits::{Items, Memory, Name};
 use vidi_io::{Shelf, Text};
+use vlog_words::{Ended, put_wide};
 
 /// The most cycles of a run.
 const MOST_CYCLES: u32 = 1000;

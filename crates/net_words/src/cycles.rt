@@ -6,9 +6,6 @@ ghost use Rattle.net_design.specs.Settled.{IsSized};
 ghost use Rattle.net_order.specs.Order.{IsOrder};
 
 use crate::designs::{paths, put_net};
-use crate::ended::Ended;
-use crate::numbers::put_wide;
-use crate::texts::{lines_in, number_in};
 use net_design::{Design, Direction, Timing, Values, lawful_is_sized, zeros};
 use net_order::{Order, OrderError, order};
 use net_reference::{after_block, initial_state, is_settled, next_state};
@@ -17,6 +14,7 @@ use std::alloc::Global;
 use vidi_bits::{Items, Name, Numbers};
 use vidi_io::Shelf;
 use vidi_lines::Line;
+use vlog_words::{Ended, lines_in, number_in, put_wide};
 
 /// A state, and what is entered at the inputs: the file of a case.
 #[derive(Drop)]

@@ -3,8 +3,6 @@
 ghost use Rattle.std.specs.Prelude.{IfOk};
 ghost use Rattle.net_design.specs.Lawful.{IsLawful};
 
-use crate::ended::Ended;
-use crate::texts::tree_in;
 use net_design::Design;
 use report_text::put;
 use std::alloc::Global;
@@ -12,6 +10,7 @@ use vidi_bits::{Items, Memory, Name};
 use vidi_io::Shelf;
 use vlog_design::elaborate;
 use vlog_elab::ElabError;
+use vlog_words::{Ended, tree_in};
 
 /// The design that a text means.
 pub fn design_in<S: Shelf>(

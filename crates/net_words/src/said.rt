@@ -1,11 +1,11 @@
 //! How a call ends: what is said, and the exit number.
 
 use crate::answers::answer;
-use crate::ended::Ended;
 use report_text::{Word, reason_line};
 use std::alloc::Global;
 use vidi_bits::Memory;
 use vidi_io::{Failed, Shelf, Sink, Words};
+use vlog_words::Ended;
 
 /// What is said where no memory was found.
 const NO_MEMORY: &[u8] = b"vidi: out of memory\n";
