@@ -1,0 +1,21 @@
+//! What the words of a case are answered.
+
+use crate::ended::Ended;
+use crate::stages::{Stage, stage_in};
+use std::alloc::Global;
+use vidi_io::{Shelf, Text};
+
+/// The text that these words ask for.
+pub(crate) fn answer<S: Shelf>(
+    alloc: Global,
+    words: &[Text],
+    shelf: &mut S,
+) -> Result<Vec<u8>, Ended> {
+    match words {
+        [word, design, map, _rest @ ..] if word.as_str().as_bytes() == b"record".as_slice() => {
+            let Stage { .. } = stage_in(alloc, shelf, design.as_str(), map.as_str())?;
+            Err(Ended::Usage)
+        }
+        _ => Err(Ended::Usage),
+    }
+}

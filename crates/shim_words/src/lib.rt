@@ -1,0 +1,11 @@
+//! What the words of a case ask for of a wrapped design: recordings and replays by monitors and replayers round the design, and by the
+//! Verilog of the wrapped file as it is simulated. docs/CASES.md has the words.
+#![tactic(auto)]
+
+mod answers;
+mod ended;
+mod said;
+mod stages;
+mod texts;
+
+pub use said::say;
