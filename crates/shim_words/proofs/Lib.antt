@@ -1,1 +1,2 @@
+mod DrawnLaws
 mod Wraps

@@ -2,8 +2,12 @@
 //! Verilog of the wrapped file as it is simulated. docs/CASES.md has the words.
 #![tactic(auto)]
 
+mod alike;
 mod answers;
+mod drawn;
 mod ended;
+mod fed_rows;
+mod rows;
 mod said;
 mod stages;
 mod texts;
