@@ -28,7 +28,7 @@ def group(seed):
     """The cases of a seed."""
     files = made(seed)
     texts = "".join(part("--", name, files[name]) for name in ("design.v", "map"))
-    return f"\n** random design {seed}\n{texts}{case('rows', seed)}{case('fed_rows', seed)}"
+    return f"** random design {seed}\n{texts}{case('rows', seed)}{case('fed_rows', seed)}"
 
 
 def main():

@@ -183,9 +183,5 @@ pub(crate) fn draw_feed(
 {
     feed.more = sequence.mask(channels.len());
     draw_needs(sequence, counts, feed.needs.as_mut_slice());
-    draw_contents(
-        sequence,
-        widths.as_slice(),
-        feed.contents.as_mut_slice(),
-    );
+    draw_contents(sequence, widths.as_slice(), feed.contents.as_mut_slice());
 }

@@ -125,7 +125,13 @@ fn differ_at<S: ReplayShell, T: ReplayShell>(
     other.reset();
     for at in 0..course.cycles {
         reset_if(at == course.cycles / 2, one, other, counts.as_mut_slice());
-        draw_feed(&mut sequence, channels, &widths, counts.as_slice(), &mut feed);
+        draw_feed(
+            &mut sequence,
+            channels,
+            &widths,
+            counts.as_slice(),
+            &mut feed,
+        );
         cycle(one, channels, &feed, &mut row);
         cycle(other, channels, &feed, &mut its);
         if !are_same(&row, &its) {

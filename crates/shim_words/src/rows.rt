@@ -63,13 +63,7 @@ fn differ_on(
 }
 
 /// One cycle of a shell under these offers and gates, and its row.
-fn cycle<S: Shell>(
-    shell: &mut S,
-    channels: &Channels,
-    offers: &Offers,
-    gates: u128,
-    row: &mut Row,
-)
+fn cycle<S: Shell>(shell: &mut S, channels: &Channels, offers: &Offers, gates: u128, row: &mut Row)
     requires map { (S.map shell.old).channels ≡ channels.now }
     requires offers { AreOffers channels.now offers.now }
     requires zeros { AreZeroWhileDown channels.now offers.now }

@@ -1,7 +1,5 @@
 use Rattle.std.proofs.Common.{arith, refl}
-use Rattle.trace_model.specs.Row.{all_widths}
-use Rattle.trace_model.proofs.ContentsLemmas.{fit-length}
-use Rattle.chan_replayer.proofs.FedOffers.{made-done, made-more, made-none, room-here}
+use Rattle.chan_replayer.proofs.FedOffers.{made-more, room-here}
 use Rattle.shim_words.proofs.drawn.clear_contents.Goals as goal
 
 pub clear_content-requires : goal.clear_content-requires

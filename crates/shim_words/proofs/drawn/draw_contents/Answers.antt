@@ -1,4 +1,4 @@
-use Rattle.std.proofs.Common.{ℕ, ◌<◌, length, arith, sym, ◌∙◌}
+use Rattle.std.proofs.Common.{◌<◌, length, arith}
 use Rattle.trace_model.proofs.ContentsLemmas.{fit-from_places}
 use Rattle.shim_words.proofs.drawn.draw_contents.Goals as goal
 

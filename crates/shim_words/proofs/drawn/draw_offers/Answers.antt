@@ -1,4 +1,4 @@
-use Rattle.std.proofs.Common.{◌≡◌, ◌^◌, ◌<◌, ℕ, length, ap, subst, sym, ◌∙◌}
+use Rattle.std.proofs.Common.{length, ap, ◌∙◌}
 use Rattle.chan_monitor.proofs.RowOfCycle.{refill-is}
 use Rattle.shim_words.proofs.DrawnLaws.{cleared}
 use Rattle.shim_words.proofs.drawn.draw_offers.Goals as goal
