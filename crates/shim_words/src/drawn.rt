@@ -36,7 +36,7 @@ impl Sequence {
     }
 
     /// The next number.
-    pub(crate) fn draw(&mut self) -> u64 {
+    fn draw(&mut self) -> u64 {
         self.state = self.state.wrapping_add(0x9e37_79b9_7f4a_7c15);
         let first = (self.state ^ (self.state >> 30)).wrapping_mul(0xbf58_476d_1ce4_e5b9);
         let second = (first ^ (first >> 27)).wrapping_mul(0x94d0_49bb_1331_11eb);
@@ -44,7 +44,7 @@ impl Sequence {
     }
 
     /// A number of at most so many bits: one in eight is 0, and one in eight the largest.
-    pub(crate) fn number(&mut self, bits: u32) -> u128
+    fn number(&mut self, bits: u32) -> u128
         ensures { result < 2 ^ bits }
     {
         let high = u128::from(self.draw());
@@ -130,11 +130,11 @@ pub(crate) fn draw_offers(
     clear_contents(offers.valids, channels.as_slice(), contents);
 }
 
-/// A number near a count: three in four are at most it.
+/// A number near a count: seven in eight are at most it.
 fn near(sequence: &mut Sequence, count: u32) -> u32 {
     match sequence.draw() % 16 {
         0 => count.saturating_add(1),
-        1 => count.saturating_add(2),
+        1 => u32::MAX,
         2 => 0,
         _ => count.saturating_sub((sequence.draw() % 3) as u32),
     }
