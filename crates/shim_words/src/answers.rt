@@ -1,7 +1,10 @@
 //! What the words of a case are answered.
 
 use crate::ended::Ended;
-use crate::stages::{Stage, stage_in};
+use crate::fed_nets::fed_nets;
+use crate::nets::nets;
+use crate::records::record;
+use crate::replays::replay;
 use std::alloc::Global;
 use vidi_io::{Shelf, Text};
 
@@ -11,11 +14,14 @@ pub(crate) fn answer<S: Shelf>(
     words: &[Text],
     shelf: &mut S,
 ) -> Result<Vec<u8>, Ended> {
-    match words {
-        [word, design, map, _rest @ ..] if word.as_str().as_bytes() == b"record".as_slice() => {
-            let Stage { .. } = stage_in(alloc, shelf, design.as_str(), map.as_str())?;
-            Err(Ended::Usage)
-        }
+    let [word, rest @ ..] = words else {
+        return Err(Ended::Usage);
+    };
+    match word.as_str().as_bytes() {
+        b"record" => record(alloc, rest, shelf),
+        b"replay" => replay(alloc, rest, shelf),
+        b"nets" => nets(alloc, rest, shelf),
+        b"fed_nets" => fed_nets(alloc, rest, shelf),
         _ => Err(Ended::Usage),
     }
 }

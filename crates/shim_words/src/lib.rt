@@ -4,8 +4,16 @@
 
 mod answers;
 mod ended;
+mod fed_nets;
+mod feeds;
+mod nets;
+mod outcomes;
+mod plans;
+mod records;
+mod replays;
 mod said;
 mod stages;
 mod texts;
+mod watched;
 
 pub use said::say;
