@@ -49,14 +49,23 @@ fn both_replays(alloc: Global, stage: Stage, bytes: &[u8], cycles: u32) -> Resul
     requires few { cycles ≤ 50000 }
 {
     let Stage { sim, map, wrapped } = stage;
-    let trace = trace_of(alloc, bytes)?;
-    if same_channels(&trace.channels, &map.channels).is_some() {
-        return Err(Ended::Usage);
-    }
+    let _trace = trace_over(alloc, bytes, &map)?;
     let mut text = Vec::new(alloc);
-    by_machines(alloc, &mut text, sim, &map, &trace, bytes, cycles)?;
-    by_wrapped(alloc, &mut text, &wrapped, &map, &trace, bytes, cycles)?;
+    by_machines(alloc, &mut text, sim, &map, bytes, cycles)?;
+    by_wrapped(alloc, &mut text, &wrapped, &map, bytes, cycles)?;
     Ok(text)
+}
+
+/// The trace of these bytes, which has the channels of the map.
+fn trace_over(alloc: Global, bytes: &[u8], map: &Map) -> Result<Trace, Ended>
+    ensures encodes { IfOk result (λ trace. Encodes trace bytes.now) }
+    ensures same { IfOk result (λ trace. trace.channels ≡ map.now.channels) }
+{
+    let trace = trace_of(alloc, bytes)?;
+    match same_channels(&trace.channels, &map.channels) {
+        None => Ok(trace),
+        Some(_) => Err(Ended::Usage),
+    }
 }
 
 /// The trace of these bytes.
@@ -75,19 +84,17 @@ fn by_machines(
     text: &mut Vec<u8>,
     sim: Sim,
     map: &Map,
-    trace: &Trace,
     bytes: &[u8],
     cycles: u32,
 ) -> Result<(), Ended>
     requires nets { PortsAreNets sim.design }
     requires mapped { IsMapOf sim.design map.now }
-    requires trace { Encodes trace.now bytes.now }
-    requires channels { trace.now.channels ≡ map.now.channels }
+    requires trace { (t : OneTrace) × Encodes t bytes.now × (t.channels ≡ map.now.channels) }
     requires few { cycles ≤ 50000 }
 {
     let mut shell = ReplayMachines::new(alloc, sim, map)?;
     put(text, b"machines ")?;
-    put_replay(alloc, text, &mut shell, map, trace, bytes, cycles)
+    put_replay(alloc, text, &mut shell, map, bytes, cycles)
 }
 
 /// The line of a wrapped design.
@@ -96,33 +103,29 @@ fn by_wrapped(
     text: &mut Vec<u8>,
     wrapped: &File,
     map: &Map,
-    trace: &Trace,
     bytes: &[u8],
     cycles: u32,
 ) -> Result<(), Ended>
     requires wrapped { (f : FileOf ℕ) × (d : OneDesign) × IsWrapOf (plain wrapped.now) f map.now d }
-    requires trace { Encodes trace.now bytes.now }
-    requires channels { trace.now.channels ≡ map.now.channels }
+    requires trace { (t : OneTrace) × Encodes t bytes.now × (t.channels ≡ map.now.channels) }
     requires few { cycles ≤ 50000 }
 {
     let mut shell = Rewrapped::new(alloc, wrapped, map)?;
     put(text, b"wrapped ")?;
-    put_replay(alloc, text, &mut shell, map, trace, bytes, cycles)
+    put_replay(alloc, text, &mut shell, map, bytes, cycles)
 }
 
-/// How the replay of these bytes, which are the trace's, by a shell ends, and the bytes of its trace.
+/// How the replay of these bytes by a shell ends, and the bytes of its trace.
 fn put_replay<S: ReplayShell>(
     alloc: Global,
     text: &mut Vec<u8>,
     shell: &mut S,
     map: &Map,
-    _trace: &Trace,
     bytes: &[u8],
     cycles: u32,
 ) -> Result<(), Ended>
     requires mapped { S.map shell.old ≡ map.now }
-    requires trace { Encodes _trace.now bytes.now }
-    requires channels { _trace.now.channels ≡ map.now.channels }
+    requires trace { (t : OneTrace) × Encodes t bytes.now × (t.channels ≡ map.now.channels) }
     requires few { cycles ≤ 50000 }
 {
     let replayed = replay_run::replay(alloc, shell, map, bytes, cycles)?;
