@@ -1,11 +1,11 @@
-//! Plays the case files that its words name: what wrapped designs do beside monitors and replayers. docs/CASES.md has the words.
+//! Plays the case files that its words name: what the Verilog of wrapped designs does. docs/CASES.md has the words.
 #![tactic(auto)]
 
 use case_player::{Caller, play_program};
+use shim_words::say;
 use std::alloc::Global;
 use std::process::ExitCode;
 use vidi_io::{MemShelf, MemSink, Words};
-use shim_words::say;
 
 /// The words on wrapped designs.
 struct Wrapped;

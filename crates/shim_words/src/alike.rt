@@ -3,13 +3,11 @@
 ghost use Rattle.std.specs.Prelude.{◌≤◌, IfOk};
 
 use crate::ended::Ended;
+use crate::texts::cycles_of;
 use report_text::{put, put_number};
 use std::alloc::Global;
 use trace_model::Row;
 use vidi_io::Text;
-
-/// The most cycles of a comparison.
-const MOST_CYCLES: u32 = 50_000;
 
 /// How long shells are compared, and which seed begins what they are given.
 #[derive(Clone, Copy, Drop)]
@@ -22,9 +20,10 @@ pub(crate) struct Course {
 pub(crate) fn course_of(seed: &Text, cycles: &Text) -> Result<Course, Ended>
     ensures { IfOk result (λ course. course.cycles ≤ 50000) }
 {
-    match (seed.as_str().parse::<u64>(), cycles.as_str().parse::<u32>()) {
-        (Ok(seed), Ok(cycles)) if cycles <= MOST_CYCLES => Ok(Course { seed, cycles }),
-        _ => Err(Ended::Usage),
+    let cycles = cycles_of(cycles)?;
+    match seed.as_str().parse::<u64>() {
+        Ok(seed) => Ok(Course { seed, cycles }),
+        Err(_) => Err(Ended::Usage),
     }
 }
 

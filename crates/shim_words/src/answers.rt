@@ -1,9 +1,12 @@
 //! What the words of a case are answered.
 
 use crate::ended::Ended;
+use crate::fed_nets::fed_nets;
 use crate::fed_rows::fed_rows;
+use crate::nets::nets;
+use crate::records::record;
+use crate::replays::replay;
 use crate::rows::rows;
-use crate::stages::{Stage, stage_in};
 use std::alloc::Global;
 use vidi_io::{Shelf, Text};
 
@@ -13,19 +16,16 @@ pub(crate) fn answer<S: Shelf>(
     words: &[Text],
     shelf: &mut S,
 ) -> Result<Vec<u8>, Ended> {
-    match words {
-        [word, design, map, _rest @ ..] if word.as_str().as_bytes() == b"record".as_slice() => {
-            let Stage { .. } = stage_in(alloc, shelf, design.as_str(), map.as_str())?;
-            Err(Ended::Usage)
-        }
-        [word, design, map, seed, cycles] if word.as_str().as_bytes() == b"rows".as_slice() => {
-            let stage = stage_in(alloc, shelf, design.as_str(), map.as_str())?;
-            rows(alloc, stage, seed, cycles)
-        }
-        [word, design, map, seed, cycles] if word.as_str().as_bytes() == b"fed_rows".as_slice() => {
-            let stage = stage_in(alloc, shelf, design.as_str(), map.as_str())?;
-            fed_rows(alloc, stage, seed, cycles)
-        }
+    let [word, rest @ ..] = words else {
+        return Err(Ended::Usage);
+    };
+    match word.as_str().as_bytes() {
+        b"record" => record(alloc, rest, shelf),
+        b"replay" => replay(alloc, rest, shelf),
+        b"nets" => nets(alloc, rest, shelf),
+        b"fed_nets" => fed_nets(alloc, rest, shelf),
+        b"rows" => rows(alloc, rest, shelf),
+        b"fed_rows" => fed_rows(alloc, rest, shelf),
         _ => Err(Ended::Usage),
     }
 }

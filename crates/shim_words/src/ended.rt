@@ -2,12 +2,16 @@
 
 use chan_map::MapError;
 use net_order::OrderError;
+use room_ledger::RoomError;
+use script_text::{ScriptError, StallError};
 use shim_cosim::CosimError;
 use shim_gen::WrapError;
 use std::alloc::{AllocError, AllocFailed};
+use trace_code::CodeError;
 use vidi_bits::Memory;
 use vidi_io::ReadError;
 use vidi_lines::LineError;
+use vidi_recorder::RecordError;
 use vlog_elab::ElabError;
 use vlog_lex::LexError;
 use vlog_parse::ParseError;
@@ -117,6 +121,49 @@ impl From<CosimError> for Ended {
         match error {
             CosimError::Memory => Ended::Memory,
             CosimError::Top { number } => Ended::NoTop { number },
+        }
+    }
+}
+
+impl From<ScriptError> for Ended {
+    fn from(error: ScriptError) -> Ended {
+        match error {
+            ScriptError::Memory => Ended::Memory,
+            _ => Ended::Usage,
+        }
+    }
+}
+
+impl From<StallError> for Ended {
+    fn from(error: StallError) -> Ended {
+        match error {
+            StallError::Memory => Ended::Memory,
+            StallError::Line { line: _ } => Ended::Usage,
+        }
+    }
+}
+
+impl From<RoomError> for Ended {
+    fn from(error: RoomError) -> Ended {
+        match error {
+            RoomError::Memory => Ended::Memory,
+            _ => Ended::Usage,
+        }
+    }
+}
+
+/// No push of a sink in memory fails, unless memory runs out.
+impl From<RecordError> for Ended {
+    fn from(_error: RecordError) -> Ended {
+        Ended::Memory
+    }
+}
+
+impl From<CodeError> for Ended {
+    fn from(error: CodeError) -> Ended {
+        match error {
+            CodeError::Memory => Ended::Memory,
+            CodeError::BadTrace { at: _ } => Ended::Usage,
         }
     }
 }

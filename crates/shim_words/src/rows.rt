@@ -14,7 +14,7 @@ ghost use Rattle.shim_cosim.specs.Top.{IsWrapOf};
 use crate::alike::{Course, are_same, course_of, said};
 use crate::drawn::{Sequence, draw_offers, widths_over};
 use crate::ended::Ended;
-use crate::stages::Stage;
+use crate::stages::{Stage, stage_in};
 use chan_map::Map;
 use chan_monitor::{Machines, Shell};
 use env_script::offers_over;
@@ -23,23 +23,21 @@ use shim_cosim::Wrapped;
 use std::alloc::Global;
 use trace_model::{Channels, Offers, Row, row_over};
 use vidi_bits::Memory;
-use vidi_io::Text;
+use vidi_io::{Shelf, Text};
 use vlog_tree::File;
 
 /// `rows DESIGN MAP SEED CYCLES`: whether the wrapped design has the rows of monitors round the design, under offers and gates that are
 /// drawn.
-pub(crate) fn rows(
+pub(crate) fn rows<S: Shelf>(
     alloc: Global,
-    stage: Stage,
-    seed: &Text,
-    cycles: &Text,
-) -> Result<Vec<u8>, Ended>
-    requires nets { PortsAreNets stage.sim.design }
-    requires mapped { IsMapOf stage.sim.design stage.map }
-    requires wrapped { (f : FileOf ℕ) × (d : OneDesign) × IsWrapOf (plain stage.wrapped) f stage.map d }
-{
+    words: &[Text],
+    shelf: &mut S,
+) -> Result<Vec<u8>, Ended> {
+    let [design, map, seed, cycles] = words else {
+        return Err(Ended::Usage);
+    };
     let course = course_of(seed, cycles)?;
-    let Stage { sim, map, wrapped } = stage;
+    let Stage { sim, map, wrapped } = stage_in(alloc, shelf, design.as_str(), map.as_str())?;
     let differ = differ_on(alloc, sim, &map, &wrapped, course)?;
     said(alloc, course.cycles, differ)
 }

@@ -1,13 +1,13 @@
-//! The files of a case, and numbers as text.
+//! The files of a case, and what is written of numbers, bytes and nets.
 
 ghost use Rattle.std.specs.Prelude.{◌≤◌, IfOk, length};
 
 use crate::ended::Ended;
 use report_text::put;
 use std::alloc::Global;
-use vidi_bits::{Bytes, Name};
-use vidi_io::{Shelf, read_whole};
-use vidi_lines::{Lines, lines_of, number};
+use vidi_bits::{Bytes, Memory};
+use vidi_io::{Shelf, Text, read_whole};
+use vidi_lines::{Lines, lines_of};
 
 /// The longest file of a case, in bytes.
 const TEXT_LIMIT: u64 = 4_194_304;
@@ -25,13 +25,43 @@ pub(crate) fn lines_in<S: Shelf>(alloc: Global, shelf: &mut S, name: &str) -> Re
     Ok(lines_of(alloc, bytes.as_slice())?)
 }
 
-/// The number that a word of a file writes.
-pub(crate) fn number_in(word: &Name) -> Result<u128, Ended> {
-    number(word.as_slice()).ok_or(Ended::Usage)
+/// The number of at most 50,000 that a word writes.
+pub(crate) fn cycles_of(word: &Text) -> Result<u32, Ended>
+    ensures { IfOk result (λ n. n ≤ 50000) }
+{
+    match word.as_str().parse::<u32>() {
+        Ok(n) if n <= 50_000 => Ok(n),
+        _ => Err(Ended::Usage),
+    }
 }
 
 /// Adds a number of at most 128 bits.
-pub(crate) fn put_wide(alloc: Global, text: &mut Vec<u8>, n: u128) -> Result<(), Ended> {
+fn put_wide(alloc: Global, text: &mut Vec<u8>, n: u128) -> Result<(), Ended> {
     put(text, format!(in alloc; "{n}")?.as_bytes())?;
+    Ok(())
+}
+
+/// Adds bytes in hexadecimal, and the end of the line.
+pub(crate) fn put_bytes(alloc: Global, text: &mut Vec<u8>, bytes: &[u8]) -> Result<(), Ended> {
+    let digits = hex::encode(alloc, bytes)?;
+    put(text, digits.as_bytes())?;
+    put(text, b"\n")?;
+    Ok(())
+}
+
+/// `NAME NUMBER`, or `NAME none`
+pub(crate) fn put_net(
+    alloc: Global,
+    text: &mut Vec<u8>,
+    name: &Text,
+    number: Option<u128>,
+) -> Result<(), Ended> {
+    put(text, name.as_str().as_bytes())?;
+    put(text, b" ")?;
+    match number {
+        Some(number) => put_wide(alloc, text, number)?,
+        None => put(text, b"none")?,
+    }
+    put(text, b"\n")?;
     Ok(())
 }
