@@ -14,7 +14,7 @@ import tool_kit
 from tool_kit import Problem
 
 CRATES = os.path.join(tool_kit.HERE, "..", "crates")
-PROGRAMS = ["vidi_cases", "vlog_cases"]
+PROGRAMS = ["vidi_cases", "vlog_cases", "shim_cases"]
 CASE = re.compile(r"^(==|\+\+|=!)( |$)", re.M)
 
 

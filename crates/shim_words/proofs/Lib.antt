@@ -1,0 +1,2 @@
+mod DrawnLaws
+mod Wraps

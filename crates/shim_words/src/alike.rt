@@ -1,0 +1,52 @@
+//! Whether two shells have the same rows, and how it is said.
+
+ghost use Rattle.std.specs.Prelude.{◌≤◌, IfOk};
+
+use crate::ended::Ended;
+use crate::texts::cycles_of;
+use report_text::{put, put_number};
+use std::alloc::Global;
+use trace_model::Row;
+use vidi_io::Text;
+
+/// How long shells are compared, and which seed begins what they are given.
+#[derive(Clone, Copy, Drop)]
+pub(crate) struct Course {
+    pub seed: u64,
+    pub cycles: u32,
+}
+
+/// The course that two words write.
+pub(crate) fn course_of(seed: &Text, cycles: &Text) -> Result<Course, Ended>
+    ensures { IfOk result (λ course. course.cycles ≤ 50000) }
+{
+    let cycles = cycles_of(cycles)?;
+    match seed.as_str().parse::<u64>() {
+        Ok(seed) => Ok(Course { seed, cycles }),
+        Err(_) => Err(Ended::Usage),
+    }
+}
+
+/// Whether both rows are the same.
+pub(crate) fn are_same(a: &Row, b: &Row) -> bool {
+    let masks = a.gates == b.gates && a.valids == b.valids && a.readies == b.readies;
+    let events = a.starts == b.starts && a.ends == b.ends;
+    masks && events && a.contents.as_slice() == b.contents.as_slice()
+}
+
+/// `alike CYCLES`, or `differs at CYCLE` with the first cycle in which the rows aren't the same.
+pub(crate) fn said(alloc: Global, cycles: u32, differ: Option<u32>) -> Result<Vec<u8>, Ended> {
+    let mut text = Vec::new(alloc);
+    match differ {
+        None => {
+            put(&mut text, b"alike ")?;
+            put_number(&mut text, cycles)?;
+        }
+        Some(cycle) => {
+            put(&mut text, b"differs at ")?;
+            put_number(&mut text, cycle)?;
+        }
+    }
+    put(&mut text, b"\n")?;
+    Ok(text)
+}

@@ -1,0 +1,31 @@
+//! What the words of a case are answered.
+
+use crate::ended::Ended;
+use crate::fed_nets::fed_nets;
+use crate::fed_rows::fed_rows;
+use crate::nets::nets;
+use crate::records::record;
+use crate::replays::replay;
+use crate::rows::rows;
+use std::alloc::Global;
+use vidi_io::{Shelf, Text};
+
+/// The text that these words ask for.
+pub(crate) fn answer<S: Shelf>(
+    alloc: Global,
+    words: &[Text],
+    shelf: &mut S,
+) -> Result<Vec<u8>, Ended> {
+    let [word, rest @ ..] = words else {
+        return Err(Ended::Usage);
+    };
+    match word.as_str().as_bytes() {
+        b"record" => record(alloc, rest, shelf),
+        b"replay" => replay(alloc, rest, shelf),
+        b"nets" => nets(alloc, rest, shelf),
+        b"fed_nets" => fed_nets(alloc, rest, shelf),
+        b"rows" => rows(alloc, rest, shelf),
+        b"fed_rows" => fed_rows(alloc, rest, shelf),
+        _ => Err(Ended::Usage),
+    }
+}

@@ -1,0 +1,141 @@
+//! The word on rows under a feed: a wrapped design that replays beside replayers round the design itself.
+
+ghost use Rattle.std.specs.Prelude.{◌≡◌, ◌≤◌, ◌<◌, ◌+◌, ◌^◌, ℕ, length};
+ghost use Rattle.vlog_tree.specs.Tree.{FileOf};
+ghost use Rattle.vlog_tree.specs.Plain.{plain};
+ghost use Rattle.net_design.specs.declared.design.Design.{Design as OneDesign};
+ghost use Rattle.run_model.specs.Building.{PortsAreNets};
+ghost use Rattle.run_model.specs.MapOf.{IsMapOf};
+ghost use Rattle.chan_monitor.specs.Shell.{HasPlaces};
+ghost use Rattle.chan_replayer.specs.Feed.{IsFeedOver};
+ghost use Rattle.shim_cosim.specs.Top.{IsWrapOf};
+
+use crate::alike::{Course, are_same, course_of, said};
+use crate::drawn::{Sequence, draw_feed, feed_over, widths_over};
+use crate::ended::Ended;
+use crate::stages::{Stage, stage_in};
+use chan_map::Map;
+use chan_replayer::{Feed, ReplayMachines, ReplayShell};
+use net_sim::Sim;
+use shim_cosim::Rewrapped;
+use std::alloc::Global;
+use trace_model::{Channels, Row, names, row_over};
+use vidi_bits::Memory;
+use vidi_io::{Shelf, Text};
+use vlog_tree::File;
+
+/// `fed_rows DESIGN MAP SEED CYCLES`: whether the wrapped design that replays has the rows of replayers round the design, under feeds that
+/// are drawn.
+pub(crate) fn fed_rows<S: Shelf>(
+    alloc: Global,
+    words: &[Text],
+    shelf: &mut S,
+) -> Result<Vec<u8>, Ended> {
+    let [design, map, seed, cycles] = words else {
+        return Err(Ended::Usage);
+    };
+    let course = course_of(seed, cycles)?;
+    let Stage { sim, map, wrapped } = stage_in(alloc, shelf, design.as_str(), map.as_str())?;
+    let differ = differ_on(alloc, sim, &map, &wrapped, course)?;
+    said(alloc, course.cycles, differ)
+}
+
+/// The first cycle in which both don't have the same row.
+fn differ_on(
+    alloc: Global,
+    sim: Sim,
+    map: &Map,
+    wrapped: &File,
+    course: Course,
+) -> Result<Option<u32>, Ended>
+    requires few { course.cycles ≤ 50000 }
+    requires nets { PortsAreNets sim.design }
+    requires mapped { IsMapOf sim.design map.now }
+    requires wrapped { (f : FileOf ℕ) × (d : OneDesign) × IsWrapOf (plain wrapped.now) f map.now d }
+{
+    let mut machines = ReplayMachines::new(alloc, sim, map)?;
+    let mut round = Rewrapped::new(alloc, wrapped, map)?;
+    let differ = differ_at(alloc, &mut machines, &mut round, map.channels(), course)?;
+    Ok(differ)
+}
+
+/// One cycle of a shell under this feed, and its row.
+fn cycle<S: ReplayShell>(shell: &mut S, channels: &Channels, feed: &Feed, row: &mut Row)
+    requires map { (S.map shell.old).channels ≡ channels.now }
+    requires feed { IsFeedOver channels.now feed.now }
+    requires places { HasPlaces channels.now row.old }
+    requires few { S.cycles shell.old < 50000 }
+    ensures places { HasPlaces channels.now row.new }
+    ensures map { S.map shell.new ≡ S.map shell.old }
+    ensures cycles { S.cycles shell.new ≡ S.cycles shell.old + 1 }
+{
+    shell.drive(feed, row);
+    shell.clock();
+}
+
+/// Counts the completions of a row.
+fn count(counts: &mut [u32], ends: u128) {
+    for c in 0..counts.len() {
+        counts[c] = counts[c].wrapping_add(u32::from(names(ends, c)));
+    }
+}
+
+/// Resets two shells and the counts of completions where it is time.
+fn reset_if<S: ReplayShell, T: ReplayShell>(
+    now: bool,
+    one: &mut S,
+    other: &mut T,
+    counts: &mut [u32],
+)
+    ensures one { S.map one.new ≡ S.map one.old }
+    ensures other { T.map other.new ≡ T.map other.old }
+    ensures one_cycles { S.cycles one.new ≤ S.cycles one.old }
+    ensures other_cycles { T.cycles other.new ≤ T.cycles other.old }
+{
+    if now {
+        one.reset();
+        other.reset();
+        counts.fill(0);
+    }
+}
+
+/// The first cycle in which two shells of these channels have different rows, from a reset on. Both are reset again in the middle.
+fn differ_at<S: ReplayShell, T: ReplayShell>(
+    alloc: Global,
+    one: &mut S,
+    other: &mut T,
+    channels: &Channels,
+    course: Course,
+) -> Result<Option<u32>, Memory>
+    requires some { 1 ≤ length channels.now }
+    requires few { length channels.now ≤ 128 }
+    requires short { course.cycles ≤ 50000 }
+    requires one { (S.map one.old).channels ≡ channels.now }
+    requires other { (T.map other.old).channels ≡ channels.now }
+{
+    let mut sequence = Sequence::new(course.seed);
+    let widths = widths_over(alloc, channels.as_slice())?;
+    let mut counts = vec![in alloc; 0u32; channels.len()]?;
+    let mut feed = feed_over(alloc, channels.len(), widths.len())?;
+    let mut row = row_over(alloc, channels)?;
+    let mut its = row_over(alloc, channels)?;
+    one.reset();
+    other.reset();
+    for at in 0..course.cycles {
+        reset_if(at == course.cycles / 2, one, other, counts.as_mut_slice());
+        draw_feed(
+            &mut sequence,
+            channels,
+            &widths,
+            counts.as_slice(),
+            &mut feed,
+        );
+        cycle(one, channels, &feed, &mut row);
+        cycle(other, channels, &feed, &mut its);
+        if !are_same(&row, &its) {
+            return Ok(Some(at));
+        }
+        count(counts.as_mut_slice(), row.ends);
+    }
+    Ok(None)
+}

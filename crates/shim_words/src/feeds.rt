@@ -1,0 +1,81 @@
+//! Feeds of replayers as lines of a file: `more N needs N .. contents N ..`.
+
+ghost use Rattle.std.specs.Prelude.{◌≡◌, ◌≤◌, IfOk, length};
+ghost use Rattle.chan_replayer.specs.Feed.{IsFeedOver};
+
+use crate::ended::Ended;
+use chan_replayer::{Feed, Needs};
+use std::alloc::Global;
+use trace_model::{Channels, Row, is_over};
+use vidi_bits::{Items, Name, Numbers};
+use vidi_lines::{Line, number};
+
+/// The numbers behind this word, up to the next word that is none.
+fn numbers_behind(alloc: Global, words: &[Name], mark: &[u8]) -> Result<Numbers, Ended> {
+    let mut numbers = Items::new(alloc);
+    let mut behind = false;
+    for word in words {
+        match number(word.as_slice()) {
+            Some(n) if behind => numbers.push(n)?,
+            Some(_) => {}
+            None => behind = word.as_slice() == mark,
+        }
+    }
+    Ok(numbers)
+}
+
+/// The same numbers, of 32 bits each.
+fn needs_of(alloc: Global, numbers: &[u128]) -> Result<Needs, Ended> {
+    let mut needs = Items::new(alloc);
+    for n in numbers {
+        match u32::try_from(*n) {
+            Ok(need) => needs.push(need)?,
+            Err(_) => return Err(Ended::Usage),
+        }
+    }
+    Ok(needs)
+}
+
+/// The feed of a line, over these channels.
+pub(crate) fn feed_of(alloc: Global, line: &Line, channels: &Channels) -> Result<Feed, Ended>
+    requires { length channels.now ≤ 32 }
+    ensures { IfOk result (IsFeedOver channels.now) }
+{
+    let words = line.words.as_slice();
+    let more = numbers_behind(alloc, words, b"more")?;
+    let needs = numbers_behind(alloc, words, b"needs")?;
+    let needs = needs_of(alloc, needs.as_slice())?;
+    let contents = numbers_behind(alloc, words, b"contents")?;
+    let [more] = more.as_slice() else {
+        return Err(Ended::Usage);
+    };
+    checked(channels, *more, needs, contents)
+}
+
+/// A feed of these parts, where they are one over the channels.
+pub(crate) fn checked(
+    channels: &Channels,
+    more: u128,
+    needs: Needs,
+    contents: Numbers,
+) -> Result<Feed, Ended>
+    requires { length channels.now ≤ 32 }
+    ensures { IfOk result (IsFeedOver channels.now) }
+{
+    let row = Row {
+        gates: 0,
+        valids: more,
+        readies: 0,
+        contents,
+        starts: 0,
+        ends: 0,
+    };
+    if needs.len() != channels.len() * channels.len() || !is_over(&row, channels) {
+        return Err(Ended::Usage);
+    }
+    Ok(Feed {
+        more,
+        needs,
+        contents: row.contents,
+    })
+}

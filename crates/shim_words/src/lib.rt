@@ -1,0 +1,23 @@
+//! What the words of a case ask for of a wrapped design: recordings and replays by monitors and replayers round the design, and by the
+//! Verilog of the wrapped file as it is simulated. docs/CASES.md has the words.
+#![tactic(auto)]
+
+mod alike;
+mod answers;
+mod drawn;
+mod ended;
+mod fed_nets;
+mod fed_rows;
+mod feeds;
+mod nets;
+mod outcomes;
+mod plans;
+mod records;
+mod replays;
+mod rows;
+mod said;
+mod stages;
+mod texts;
+mod watched;
+
+pub use said::say;

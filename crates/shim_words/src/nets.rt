@@ -1,0 +1,88 @@
+//! The word on the nets of a recording.
+
+ghost use Rattle.std.specs.Prelude.{◌≡◌, ◌<◌, ◌≤◌, ℕ, IfOk};
+ghost use Rattle.vlog_tree.specs.Tree.{FileOf};
+ghost use Rattle.vlog_tree.specs.Plain.{plain};
+ghost use Rattle.net_design.specs.declared.design.Design.{Design as OneDesign};
+ghost use Rattle.trace_model.specs.Channel.{IsTable};
+ghost use Rattle.script_text.specs.Fits.{FitsChannels};
+ghost use Rattle.shim_cosim.specs.Top.{IsWrapOf};
+
+use crate::ended::Ended;
+use crate::plans::{Plan, plan_in, recorded};
+use crate::stages::{Stage, stage_in};
+use crate::texts::{cycles_of, put_net};
+use crate::watched::Watched;
+use chan_map::Map;
+use chan_monitor::Shell;
+use shim_cosim::Wrapped;
+use std::alloc::Global;
+use vidi_bits::{Items, Memory, Numbers};
+use vidi_io::{MemSink, Shelf, Text};
+use vlog_tree::File;
+
+/// `nets DESIGN MAP SCRIPT STALLS CYCLE NAME..`: the settled numbers of these nets of the wrapped design, by full name, in this cycle of
+/// the recording.
+pub(crate) fn nets<S: Shelf>(
+    alloc: Global,
+    words: &[Text],
+    shelf: &mut S,
+) -> Result<Vec<u8>, Ended> {
+    let [design, map, script, stalls, cycle, names @ ..] = words else {
+        return Err(Ended::Usage);
+    };
+    let cycle = cycles_of(cycle)?;
+    let Stage { map, wrapped, .. } = stage_in(alloc, shelf, design.as_str(), map.as_str())?;
+    let plan = plan_in(alloc, shelf, &map, script.as_str(), stalls.as_str())?;
+    nets_in(alloc, &wrapped, &map, &plan, cycle, names)
+}
+
+/// `NAME NUMBER` for each net in this cycle.
+fn nets_in(
+    alloc: Global,
+    wrapped: &File,
+    map: &Map,
+    plan: &Plan,
+    cycle: u32,
+    names: &[Text],
+) -> Result<Vec<u8>, Ended>
+    requires wrapped { (f : FileOf ℕ) × (d : OneDesign) × IsWrapOf (plain wrapped.now) f map.now d }
+    requires fits { FitsChannels map.now.channels plan.now.script }
+    requires few { cycle ≤ 50000 }
+{
+    if cycle >= plan.script.cycles() {
+        return Err(Ended::Usage);
+    }
+    let shell = Wrapped::new(alloc, wrapped, map)?;
+    let numbers = nothing_for(alloc, names)?;
+    let mut watched = Watched {
+        shell,
+        names,
+        numbers,
+        drives: 0,
+    };
+    let mut sink = MemSink::new(alloc, Numbers::new(alloc));
+    recorded(alloc, &mut watched, map, plan, cycle + 1, &mut sink)?;
+    if watched.drives != cycle + 1 {
+        return Err(Ended::Usage);
+    }
+    lines_of(alloc, names, watched.numbers.as_slice())
+}
+
+/// A place for each number.
+fn nothing_for(alloc: Global, names: &[Text]) -> Result<Items<Option<u128>>, Memory> {
+    let mut numbers = Items::new(alloc);
+    for _ in names {
+        numbers.push(None)?;
+    }
+    Ok(numbers)
+}
+
+/// `NAME NUMBER` each, or `NAME none`
+fn lines_of(alloc: Global, names: &[Text], numbers: &[Option<u128>]) -> Result<Vec<u8>, Ended> {
+    let mut text = Vec::new(alloc);
+    for (name, number) in names.iter().zip(numbers) {
+        put_net(alloc, &mut text, name, *number)?;
+    }
+    Ok(text)
+}

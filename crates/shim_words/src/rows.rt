@@ -1,0 +1,118 @@
+//! The word on rows: a wrapped design beside monitors round the design itself.
+
+ghost use Rattle.std.specs.Prelude.{◌≡◌, ◌≤◌, ◌<◌, ◌^◌, ℕ, length};
+ghost use Rattle.vlog_tree.specs.Tree.{FileOf};
+ghost use Rattle.vlog_tree.specs.Plain.{plain};
+ghost use Rattle.trace_model.specs.Row.{AreOffers};
+ghost use Rattle.net_design.specs.declared.design.Design.{Design as OneDesign};
+ghost use Rattle.run_model.specs.Building.{PortsAreNets};
+ghost use Rattle.run_model.specs.MapOf.{IsMapOf};
+ghost use Rattle.run_model.specs.Offers.{AreZeroWhileDown};
+ghost use Rattle.chan_monitor.specs.Shell.{HasPlaces};
+ghost use Rattle.shim_cosim.specs.Top.{IsWrapOf};
+
+use crate::alike::{Course, are_same, course_of, said};
+use crate::drawn::{Sequence, draw_offers, widths_over};
+use crate::ended::Ended;
+use crate::stages::{Stage, stage_in};
+use chan_map::Map;
+use chan_monitor::{Machines, Shell};
+use env_script::offers_over;
+use net_sim::Sim;
+use shim_cosim::Wrapped;
+use std::alloc::Global;
+use trace_model::{Channels, Offers, Row, row_over};
+use vidi_bits::Memory;
+use vidi_io::{Shelf, Text};
+use vlog_tree::File;
+
+/// `rows DESIGN MAP SEED CYCLES`: whether the wrapped design has the rows of monitors round the design, under offers and gates that are
+/// drawn.
+pub(crate) fn rows<S: Shelf>(
+    alloc: Global,
+    words: &[Text],
+    shelf: &mut S,
+) -> Result<Vec<u8>, Ended> {
+    let [design, map, seed, cycles] = words else {
+        return Err(Ended::Usage);
+    };
+    let course = course_of(seed, cycles)?;
+    let Stage { sim, map, wrapped } = stage_in(alloc, shelf, design.as_str(), map.as_str())?;
+    let differ = differ_on(alloc, sim, &map, &wrapped, course)?;
+    said(alloc, course.cycles, differ)
+}
+
+/// The first cycle in which both don't have the same row.
+fn differ_on(
+    alloc: Global,
+    sim: Sim,
+    map: &Map,
+    wrapped: &File,
+    course: Course,
+) -> Result<Option<u32>, Ended>
+    requires nets { PortsAreNets sim.design }
+    requires mapped { IsMapOf sim.design map.now }
+    requires wrapped { (f : FileOf ℕ) × (d : OneDesign) × IsWrapOf (plain wrapped.now) f map.now d }
+{
+    let mut machines = Machines::new(alloc, sim, map)?;
+    let mut round = Wrapped::new(alloc, wrapped, map)?;
+    let differ = differ_at(alloc, &mut machines, &mut round, map.channels(), course)?;
+    Ok(differ)
+}
+
+/// One cycle of a shell under these offers and gates, and its row.
+fn cycle<S: Shell>(shell: &mut S, channels: &Channels, offers: &Offers, gates: u128, row: &mut Row)
+    requires map { (S.map shell.old).channels ≡ channels.now }
+    requires offers { AreOffers channels.now offers.now }
+    requires zeros { AreZeroWhileDown channels.now offers.now }
+    requires gates { gates < 2 ^ length channels.now }
+    requires places { HasPlaces channels.now row.old }
+    ensures places { HasPlaces channels.now row.new }
+    ensures map { S.map shell.new ≡ S.map shell.old }
+{
+    shell.drive(offers, gates, row);
+    shell.clock();
+}
+
+/// Resets two shells where it is time.
+fn reset_if<S: Shell, T: Shell>(now: bool, one: &mut S, other: &mut T)
+    ensures one { S.map one.new ≡ S.map one.old }
+    ensures other { T.map other.new ≡ T.map other.old }
+{
+    if now {
+        one.reset();
+        other.reset();
+    }
+}
+
+/// The first cycle in which two shells of these channels have different rows, from a reset on. Both are reset again in the middle.
+fn differ_at<S: Shell, T: Shell>(
+    alloc: Global,
+    one: &mut S,
+    other: &mut T,
+    channels: &Channels,
+    course: Course,
+) -> Result<Option<u32>, Memory>
+    requires few { length channels.now ≤ 128 }
+    requires one { (S.map one.old).channels ≡ channels.now }
+    requires other { (T.map other.old).channels ≡ channels.now }
+{
+    let mut sequence = Sequence::new(course.seed);
+    let widths = widths_over(alloc, channels.as_slice())?;
+    let mut offers = offers_over(alloc, channels)?;
+    let mut row = row_over(alloc, channels)?;
+    let mut its = row_over(alloc, channels)?;
+    one.reset();
+    other.reset();
+    for at in 0..course.cycles {
+        reset_if(at == course.cycles / 2, one, other);
+        draw_offers(&mut sequence, channels, &widths, &mut offers);
+        let gates = sequence.mask(channels.len());
+        cycle(one, channels, &offers, gates, &mut row);
+        cycle(other, channels, &offers, gates, &mut its);
+        if !are_same(&row, &its) {
+            return Ok(Some(at));
+        }
+    }
+    Ok(None)
+}

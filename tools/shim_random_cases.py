@@ -1,0 +1,49 @@
+#!/usr/bin/env python3
+"""Writes as a case file (docs/CASES.md), which `rt ci` plays, that wrapped random designs run as monitors and replayers round the designs do.
+The designs and maps are those of tools/make_random.py, a seed each. What is wanted is that statement alone, so nothing of it comes from Vidi.
+
+    shim_random_cases.py [--check]
+
+With --check nothing is written, and the status is 1 where the case file isn't what would be.
+"""
+import os
+import sys
+
+import tool_kit
+from make_random import made
+from page_cases import part
+from tool_kit import Problem
+
+DATA = os.path.join(tool_kit.HERE, "..", "crates", "shim_cases", "data", "random.case")
+HEAD = "## Made by tools/shim_random_cases.py of random designs.\n"
+SEEDS, CYCLES = range(1, 51), 200
+
+
+def case(word, seed):
+    """The case of a word on rows."""
+    return f"== {word} design.v map {seed} {CYCLES}\n" + part(">>", "0", f"alike {CYCLES}\n")
+
+
+def group(seed):
+    """The cases of a seed."""
+    files = made(seed)
+    texts = "".join(part("--", name, files[name]) for name in ("design.v", "map"))
+    return f"** random design {seed}\n{texts}{case('rows', seed)}{case('fed_rows', seed)}"
+
+
+def main():
+    """Writes the file, or compares it."""
+    if sys.argv[1:] not in ([], ["--check"]):
+        raise Problem("wants no word or --check: shim_random_cases.py [--check]")
+    text = HEAD + "".join(map(group, SEEDS))
+    if not sys.argv[1:]:
+        tool_kit.write(DATA, text)
+    elif tool_kit.text_of(DATA) != text:
+        raise Problem("random.case isn't what its seeds make: run tools/shim_random_cases.py")
+
+
+if __name__ == "__main__":
+    if sys.argv[1:] in (["--help"], ["-h"]):
+        print(__doc__)
+        sys.exit(0)
+    tool_kit.ended(main)
