@@ -32,8 +32,8 @@ pub(crate) fn fed_nets<S: Shelf>(
     let [design, map, feeds, names @ ..] = words else {
         return Err(Ended::Usage);
     };
-    let Stage { map, wrapped, .. } = stage_in(alloc, shelf, design.as_str(), map.as_str())?;
     let lines = lines_in(alloc, shelf, feeds.as_str())?;
+    let Stage { map, wrapped, .. } = stage_in(alloc, shelf, design.as_str(), map.as_str())?;
     fed_lines(alloc, &wrapped, &map, lines.as_slice(), names)
 }
 
@@ -54,10 +54,26 @@ fn fed_lines(
         return Err(Ended::Usage);
     }
     let mut shell = Rewrapped::new(alloc, wrapped, map)?;
+    last_nets(alloc, &mut shell, map, before, last, names)
+}
+
+/// `NAME NUMBER` for each net of a shell in the cycle of the last line, from a reset on.
+fn last_nets(
+    alloc: Global,
+    shell: &mut Rewrapped,
+    map: &Map,
+    before: &[Line],
+    last: &Line,
+    names: &[Text],
+) -> Result<Vec<u8>, Ended>
+    requires table { IsTable map.now.channels }
+    requires mapped { ⟦<RerunShell<'static, Sim> as ReplayShell>⟧.map shell.old ≡ map.now }
+    requires few { length before.now ≤ 50000 }
+{
     shell.reset();
-    go_through(alloc, &mut shell, map, before)?;
-    drive(alloc, &mut shell, map, last)?;
-    nets_of(alloc, &shell, names)
+    go_through(alloc, shell, map, before)?;
+    drive(alloc, shell, map, last)?;
+    nets_of(alloc, shell, names)
 }
 
 /// Settles a shell under the feed of a line.

@@ -4,6 +4,7 @@ ghost use Rattle.std.specs.Prelude.{◌≡◌, ◌≤◌, ◌<◌, ◌+◌, ◌^
 ghost use Rattle.vlog_tree.specs.Tree.{FileOf};
 ghost use Rattle.vlog_tree.specs.Plain.{plain};
 ghost use Rattle.net_design.specs.declared.design.Design.{Design as OneDesign};
+ghost use Rattle.trace_model.specs.Channel.{IsTable};
 ghost use Rattle.run_model.specs.Building.{PortsAreNets};
 ghost use Rattle.run_model.specs.MapOf.{IsMapOf};
 ghost use Rattle.chan_monitor.specs.Shell.{HasPlaces};
@@ -16,7 +17,7 @@ use crate::ended::Ended;
 use crate::stages::{Stage, stage_in};
 use chan_map::Map;
 use chan_replayer::{Feed, ReplayMachines, ReplayShell};
-use net_sim::Sim;
+use net_design::Block;
 use shim_cosim::Rewrapped;
 use std::alloc::Global;
 use trace_model::{Channels, Row, names, row_over};
@@ -36,27 +37,57 @@ pub(crate) fn fed_rows<S: Shelf>(
     };
     let course = course_of(seed, cycles)?;
     let Stage { sim, map, wrapped } = stage_in(alloc, shelf, design.as_str(), map.as_str())?;
-    let differ = differ_on(alloc, sim, &map, &wrapped, course)?;
-    said(alloc, course.cycles, differ)
+    said_of(alloc, sim, &map, &wrapped, course)
 }
 
-/// The first cycle in which both don't have the same row.
-fn differ_on(
+/// What is said of replayers round a design and of the wrapped design.
+fn said_of<B: Block + Drop>(
     alloc: Global,
-    sim: Sim,
+    block: B,
     map: &Map,
     wrapped: &File,
     course: Course,
-) -> Result<Option<u32>, Ended>
+) -> Result<Vec<u8>, Ended>
     requires few { course.cycles ≤ 50000 }
-    requires nets { PortsAreNets sim.design }
-    requires mapped { IsMapOf sim.design map.now }
+    requires nets { PortsAreNets (B.design block) }
+    requires mapped { IsMapOf (B.design block) map.now }
     requires wrapped { (f : FileOf ℕ) × (d : OneDesign) × IsWrapOf (plain wrapped.now) f map.now d }
 {
-    let mut machines = ReplayMachines::new(alloc, sim, map)?;
+    let mut machines = ReplayMachines::new(alloc, block, map)?;
+    said_beside(alloc, &mut machines, map, wrapped, course)
+}
+
+/// What is said of a shell and of the wrapped design.
+fn said_beside<S: ReplayShell>(
+    alloc: Global,
+    machines: &mut S,
+    map: &Map,
+    wrapped: &File,
+    course: Course,
+) -> Result<Vec<u8>, Ended>
+    requires few { course.cycles ≤ 50000 }
+    requires machines { S.map machines.old ≡ map.now }
+    requires wrapped { (f : FileOf ℕ) × (d : OneDesign) × IsWrapOf (plain wrapped.now) f map.now d }
+{
     let mut round = Rewrapped::new(alloc, wrapped, map)?;
-    let differ = differ_at(alloc, &mut machines, &mut round, map.channels(), course)?;
-    Ok(differ)
+    said_alike(alloc, machines, &mut round, map, course)
+}
+
+/// What is said of two shells.
+fn said_alike<S: ReplayShell, T: ReplayShell>(
+    alloc: Global,
+    one: &mut S,
+    other: &mut T,
+    map: &Map,
+    course: Course,
+) -> Result<Vec<u8>, Ended>
+    requires table { IsTable map.now.channels }
+    requires few { course.cycles ≤ 50000 }
+    requires one { S.map one.old ≡ map.now }
+    requires other { T.map other.old ≡ map.now }
+{
+    let differ = differ_at(alloc, one, other, map.channels(), course)?;
+    said(alloc, course.cycles, differ)
 }
 
 /// One cycle of a shell under this feed, and its row.

@@ -33,8 +33,27 @@ pub(crate) fn nets<S: Shelf>(
     };
     let cycle = cycles_of(cycle)?;
     let Stage { map, wrapped, .. } = stage_in(alloc, shelf, design.as_str(), map.as_str())?;
-    let plan = plan_in(alloc, shelf, &map, script.as_str(), stalls.as_str())?;
-    nets_in(alloc, &wrapped, &map, &plan, cycle, names)
+    nets_under(alloc, shelf, &map, &wrapped, [script, stalls], cycle, names)
+}
+
+/// `NAME NUMBER` for each net in this cycle, under the script and the stalls of these files.
+fn nets_under<S: Shelf>(
+    alloc: Global,
+    shelf: &mut S,
+    map: &Map,
+    wrapped: &File,
+    plan: [&Text; 2],
+    cycle: u32,
+    names: &[Text],
+) -> Result<Vec<u8>, Ended>
+    requires wrapped { (f : FileOf ℕ) × (d : OneDesign) × IsWrapOf (plain wrapped.now) f map.now d }
+{
+    let [script, stalls] = plan;
+    let plan = plan_in(alloc, shelf, map, script.as_str(), stalls.as_str())?;
+    if cycle >= plan.script.cycles() {
+        return Err(Ended::Usage);
+    }
+    nets_in(alloc, wrapped, map, &plan, cycle, names)
 }
 
 /// `NAME NUMBER` for each net in this cycle.
@@ -48,25 +67,38 @@ fn nets_in(
 ) -> Result<Vec<u8>, Ended>
     requires wrapped { (f : FileOf ℕ) × (d : OneDesign) × IsWrapOf (plain wrapped.now) f map.now d }
     requires fits { FitsChannels map.now.channels plan.now.script }
-    requires few { cycle ≤ 50000 }
+    requires within { cycle < plan.now.script.cycles }
 {
-    if cycle >= plan.script.cycles() {
-        return Err(Ended::Usage);
-    }
-    let shell = Wrapped::new(alloc, wrapped, map)?;
     let numbers = nothing_for(alloc, names)?;
+    let shell = Wrapped::new(alloc, wrapped, map)?;
     let mut watched = Watched {
         shell,
         names,
         numbers,
         drives: 0,
     };
+    watched_lines(alloc, &mut watched, map, plan, cycle)
+}
+
+/// `NAME NUMBER` for each net that is watched, in this cycle.
+fn watched_lines(
+    alloc: Global,
+    watched: &mut Watched,
+    map: &Map,
+    plan: &Plan,
+    cycle: u32,
+) -> Result<Vec<u8>, Ended>
+    requires table { IsTable map.now.channels }
+    requires mapped { ⟦<Watched<'static> as Shell>⟧.map watched.old ≡ map.now }
+    requires fits { FitsChannels map.now.channels plan.now.script }
+    requires within { cycle < plan.now.script.cycles }
+{
     let mut sink = MemSink::new(alloc, Numbers::new(alloc));
-    recorded(alloc, &mut watched, map, plan, cycle + 1, &mut sink)?;
+    recorded(alloc, watched, map, plan, cycle + 1, &mut sink)?;
     if watched.drives != cycle + 1 {
         return Err(Ended::Usage);
     }
-    lines_of(alloc, names, watched.numbers.as_slice())
+    lines_of(alloc, watched.names, watched.numbers.as_slice())
 }
 
 /// A place for each number.

@@ -16,7 +16,7 @@ use crate::stages::{Stage, stage_in};
 use crate::texts::put_bytes;
 use chan_map::Map;
 use chan_monitor::{Machines, Shell};
-use net_sim::Sim;
+use net_design::Block;
 use report_text::{put, put_number};
 use shim_cosim::Wrapped;
 use std::alloc::Global;
@@ -36,27 +36,44 @@ pub(crate) fn record<S: Shelf>(
         return Err(Ended::Usage);
     };
     let Stage { sim, map, wrapped } = stage_in(alloc, shelf, design.as_str(), map.as_str())?;
-    let plan = plan_in(alloc, shelf, &map, script.as_str(), stalls.as_str())?;
+    both_recordings(alloc, shelf, sim, &map, &wrapped, [script, stalls])
+}
+
+/// Both lines of a recording under the script and the stalls of these files.
+fn both_recordings<S: Shelf, B: Block + Drop>(
+    alloc: Global,
+    shelf: &mut S,
+    block: B,
+    map: &Map,
+    wrapped: &File,
+    plan: [&Text; 2],
+) -> Result<Vec<u8>, Ended>
+    requires nets { PortsAreNets (B.design block) }
+    requires mapped { IsMapOf (B.design block) map.now }
+    requires wrapped { (f : FileOf ℕ) × (d : OneDesign) × IsWrapOf (plain wrapped.now) f map.now d }
+{
+    let [script, stalls] = plan;
+    let plan = plan_in(alloc, shelf, map, script.as_str(), stalls.as_str())?;
     let mut text = Vec::new(alloc);
-    by_machines(alloc, &mut text, sim, &map, &plan)?;
-    by_wrapped(alloc, &mut text, &wrapped, &map, &plan)?;
+    by_machines(alloc, &mut text, block, map, &plan)?;
+    by_wrapped(alloc, &mut text, wrapped, map, &plan)?;
     Ok(text)
 }
 
 /// The line of monitors round a design.
-fn by_machines(
+fn by_machines<B: Block + Drop>(
     alloc: Global,
     text: &mut Vec<u8>,
-    sim: Sim,
+    block: B,
     map: &Map,
     plan: &Plan,
 ) -> Result<(), Ended>
-    requires nets { PortsAreNets sim.design }
-    requires mapped { IsMapOf sim.design map.now }
+    requires nets { PortsAreNets (B.design block) }
+    requires mapped { IsMapOf (B.design block) map.now }
     requires fits { FitsChannels map.now.channels plan.now.script }
 {
-    let mut shell = Machines::new(alloc, sim, map)?;
     put(text, b"machines ")?;
+    let mut shell = Machines::new(alloc, block, map)?;
     put_recording(alloc, text, &mut shell, map, plan)
 }
 
@@ -71,8 +88,8 @@ fn by_wrapped(
     requires wrapped { (f : FileOf ℕ) × (d : OneDesign) × IsWrapOf (plain wrapped.now) f map.now d }
     requires fits { FitsChannels map.now.channels plan.now.script }
 {
-    let mut shell = Wrapped::new(alloc, wrapped, map)?;
     put(text, b"wrapped ")?;
+    let mut shell = Wrapped::new(alloc, wrapped, map)?;
     put_recording(alloc, text, &mut shell, map, plan)
 }
 

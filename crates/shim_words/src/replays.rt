@@ -16,7 +16,7 @@ use crate::stages::{Stage, stage_in};
 use crate::texts::{bytes_in, cycles_of, put_bytes};
 use chan_map::Map;
 use chan_replayer::{ReplayMachines, ReplayShell};
-use net_sim::Sim;
+use net_design::Block;
 use report_text::put;
 use shim_cosim::Rewrapped;
 use std::alloc::Global;
@@ -36,23 +36,30 @@ pub(crate) fn replay<S: Shelf>(
         return Err(Ended::Usage);
     };
     let cycles = cycles_of(cycles)?;
-    let stage = stage_in(alloc, shelf, design.as_str(), map.as_str())?;
-    let bytes = bytes_in(alloc, shelf, trace.as_str())?;
-    both_replays(alloc, stage, bytes.as_slice(), cycles)
+    let Stage { sim, map, wrapped } = stage_in(alloc, shelf, design.as_str(), map.as_str())?;
+    both_replays(alloc, shelf, sim, &map, &wrapped, trace, cycles)
 }
 
-/// Both lines of a replay of these bytes.
-fn both_replays(alloc: Global, stage: Stage, bytes: &[u8], cycles: u32) -> Result<Vec<u8>, Ended>
-    requires nets { PortsAreNets stage.sim.design }
-    requires mapped { IsMapOf stage.sim.design stage.map }
-    requires wrapped { (f : FileOf ℕ) × (d : OneDesign) × IsWrapOf (plain stage.wrapped) f stage.map d }
+/// Both lines of a replay of the trace of this file.
+fn both_replays<S: Shelf, B: Block + Drop>(
+    alloc: Global,
+    shelf: &mut S,
+    block: B,
+    map: &Map,
+    wrapped: &File,
+    trace: &Text,
+    cycles: u32,
+) -> Result<Vec<u8>, Ended>
+    requires nets { PortsAreNets (B.design block) }
+    requires mapped { IsMapOf (B.design block) map.now }
+    requires wrapped { (f : FileOf ℕ) × (d : OneDesign) × IsWrapOf (plain wrapped.now) f map.now d }
     requires few { cycles ≤ 50000 }
 {
-    let Stage { sim, map, wrapped } = stage;
-    let _trace = trace_over(alloc, bytes, &map)?;
+    let bytes = bytes_in(alloc, shelf, trace.as_str())?;
+    let _trace = trace_over(alloc, bytes.as_slice(), map)?;
     let mut text = Vec::new(alloc);
-    by_machines(alloc, &mut text, sim, &map, bytes, cycles)?;
-    by_wrapped(alloc, &mut text, &wrapped, &map, bytes, cycles)?;
+    by_machines(alloc, &mut text, block, map, bytes.as_slice(), cycles)?;
+    by_wrapped(alloc, &mut text, wrapped, map, bytes.as_slice(), cycles)?;
     Ok(text)
 }
 
@@ -79,21 +86,21 @@ fn trace_of(alloc: Global, bytes: &[u8]) -> Result<Trace, Ended>
 }
 
 /// The line of replayers and monitors round a design.
-fn by_machines(
+fn by_machines<B: Block + Drop>(
     alloc: Global,
     text: &mut Vec<u8>,
-    sim: Sim,
+    block: B,
     map: &Map,
     bytes: &[u8],
     cycles: u32,
 ) -> Result<(), Ended>
-    requires nets { PortsAreNets sim.design }
-    requires mapped { IsMapOf sim.design map.now }
+    requires nets { PortsAreNets (B.design block) }
+    requires mapped { IsMapOf (B.design block) map.now }
     requires trace { (t : OneTrace) × Encodes t bytes.now × (t.channels ≡ map.now.channels) }
     requires few { cycles ≤ 50000 }
 {
-    let mut shell = ReplayMachines::new(alloc, sim, map)?;
     put(text, b"machines ")?;
+    let mut shell = ReplayMachines::new(alloc, block, map)?;
     put_replay(alloc, text, &mut shell, map, bytes, cycles)
 }
 
@@ -110,8 +117,8 @@ fn by_wrapped(
     requires trace { (t : OneTrace) × Encodes t bytes.now × (t.channels ≡ map.now.channels) }
     requires few { cycles ≤ 50000 }
 {
-    let mut shell = Rewrapped::new(alloc, wrapped, map)?;
     put(text, b"wrapped ")?;
+    let mut shell = Rewrapped::new(alloc, wrapped, map)?;
     put_replay(alloc, text, &mut shell, map, bytes, cycles)
 }
 

@@ -5,6 +5,7 @@ ghost use Rattle.vlog_tree.specs.Tree.{FileOf};
 ghost use Rattle.vlog_tree.specs.Plain.{plain};
 ghost use Rattle.trace_model.specs.Row.{AreOffers};
 ghost use Rattle.net_design.specs.declared.design.Design.{Design as OneDesign};
+ghost use Rattle.trace_model.specs.Channel.{IsTable};
 ghost use Rattle.run_model.specs.Building.{PortsAreNets};
 ghost use Rattle.run_model.specs.MapOf.{IsMapOf};
 ghost use Rattle.run_model.specs.Offers.{AreZeroWhileDown};
@@ -18,7 +19,7 @@ use crate::stages::{Stage, stage_in};
 use chan_map::Map;
 use chan_monitor::{Machines, Shell};
 use env_script::offers_over;
-use net_sim::Sim;
+use net_design::Block;
 use shim_cosim::Wrapped;
 use std::alloc::Global;
 use trace_model::{Channels, Offers, Row, row_over};
@@ -38,26 +39,54 @@ pub(crate) fn rows<S: Shelf>(
     };
     let course = course_of(seed, cycles)?;
     let Stage { sim, map, wrapped } = stage_in(alloc, shelf, design.as_str(), map.as_str())?;
-    let differ = differ_on(alloc, sim, &map, &wrapped, course)?;
-    said(alloc, course.cycles, differ)
+    said_of(alloc, sim, &map, &wrapped, course)
 }
 
-/// The first cycle in which both don't have the same row.
-fn differ_on(
+/// What is said of monitors round a design and of the wrapped design.
+fn said_of<B: Block + Drop>(
     alloc: Global,
-    sim: Sim,
+    block: B,
     map: &Map,
     wrapped: &File,
     course: Course,
-) -> Result<Option<u32>, Ended>
-    requires nets { PortsAreNets sim.design }
-    requires mapped { IsMapOf sim.design map.now }
+) -> Result<Vec<u8>, Ended>
+    requires nets { PortsAreNets (B.design block) }
+    requires mapped { IsMapOf (B.design block) map.now }
     requires wrapped { (f : FileOf ℕ) × (d : OneDesign) × IsWrapOf (plain wrapped.now) f map.now d }
 {
-    let mut machines = Machines::new(alloc, sim, map)?;
+    let mut machines = Machines::new(alloc, block, map)?;
+    said_beside(alloc, &mut machines, map, wrapped, course)
+}
+
+/// What is said of a shell and of the wrapped design.
+fn said_beside<S: Shell>(
+    alloc: Global,
+    machines: &mut S,
+    map: &Map,
+    wrapped: &File,
+    course: Course,
+) -> Result<Vec<u8>, Ended>
+    requires machines { S.map machines.old ≡ map.now }
+    requires wrapped { (f : FileOf ℕ) × (d : OneDesign) × IsWrapOf (plain wrapped.now) f map.now d }
+{
     let mut round = Wrapped::new(alloc, wrapped, map)?;
-    let differ = differ_at(alloc, &mut machines, &mut round, map.channels(), course)?;
-    Ok(differ)
+    said_alike(alloc, machines, &mut round, map, course)
+}
+
+/// What is said of two shells.
+fn said_alike<S: Shell, T: Shell>(
+    alloc: Global,
+    one: &mut S,
+    other: &mut T,
+    map: &Map,
+    course: Course,
+) -> Result<Vec<u8>, Ended>
+    requires table { IsTable map.now.channels }
+    requires one { S.map one.old ≡ map.now }
+    requires other { T.map other.old ≡ map.now }
+{
+    let differ = differ_at(alloc, one, other, map.channels(), course)?;
+    said(alloc, course.cycles, differ)
 }
 
 /// One cycle of a shell under these offers and gates, and its row.

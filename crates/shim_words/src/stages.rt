@@ -81,6 +81,28 @@ fn staged(alloc: Global, file: &File, design: Design, map: Map) -> Result<Stage,
     Ok(Stage { sim, map, wrapped })
 }
 
+/// What the tree of a design and the lines of a map say, and the wrapped file.
+fn stage_over(alloc: Global, file: &File, text: &MapText) -> Result<Stage, Ended>
+    ensures nets { IfOk result (λ stage. PortsAreNets stage.sim.design) }
+    ensures mapped { IfOk result (λ stage. IsMapOf stage.sim.design stage.map) }
+    ensures wrapped { IfOk result (λ stage. (f : FileOf ℕ) × (d : OneDesign) × IsWrapOf (plain stage.wrapped) f stage.map d) }
+{
+    let design = elaborate(alloc, file, text.top().as_slice())?;
+    let map = map_of(alloc, text, &design)?;
+    staged(alloc, file, design, map)
+}
+
+/// What the tree of a design and the text of a map say, and the wrapped file.
+fn stage_under(alloc: Global, file: &File, map: &[u8]) -> Result<Stage, Ended>
+    requires { length map.now ≤ 4194304 }
+    ensures nets { IfOk result (λ stage. PortsAreNets stage.sim.design) }
+    ensures mapped { IfOk result (λ stage. IsMapOf stage.sim.design stage.map) }
+    ensures wrapped { IfOk result (λ stage. (f : FileOf ℕ) × (d : OneDesign) × IsWrapOf (plain stage.wrapped) f stage.map d) }
+{
+    let text = read_map(alloc, map)?;
+    stage_over(alloc, file, &text)
+}
+
 /// What the texts of a design and of a map say, and the wrapped file.
 pub(crate) fn stage_of(alloc: Global, design: &[u8], map: &[u8]) -> Result<Stage, Ended>
     requires design { length design.now ≤ 4194304 }
@@ -90,10 +112,7 @@ pub(crate) fn stage_of(alloc: Global, design: &[u8], map: &[u8]) -> Result<Stage
     ensures wrapped { IfOk result (λ stage. (f : FileOf ℕ) × (d : OneDesign) × IsWrapOf (plain stage.wrapped) f stage.map d) }
 {
     let file = file_of(alloc, design)?;
-    let text = read_map(alloc, map)?;
-    let design = elaborate(alloc, &file, text.top().as_slice())?;
-    let map = map_of(alloc, &text, &design)?;
-    staged(alloc, &file, design, map)
+    stage_under(alloc, &file, map)
 }
 
 /// The same of the files of these names.
