@@ -20,7 +20,7 @@ use Rattle.chan_map.specs.Bound.{IsPlug, IsTie}
 use Rattle.chan_map.specs.Ports.{HaveWidths}
 use Rattle.shim_trees.specs.Laws.{IsMapIn}
 use Rattle.shim_trees.specs.Wrapped.{module_named}
-use Rattle.vidi_commands.specs.Design.{Spells}
+use Rattle.vidi_bench.specs.Design.{Spells}
 use Rattle.vidi_commands.specs.Wraps.{IsFitted}
 
 pub spelled_good : (text : List ℕ) (f : FileOf ℕ) → Spells text f → IsGood f

@@ -3,15 +3,12 @@ pub mod Quiet
 pub mod QuietTraces
 pub mod QuietTexts
 pub mod Saying
-pub mod Chain
 pub mod PortNets
 pub mod Names
 pub mod Texts
-pub mod Wired
 pub mod Filed
 pub mod Recorded
 pub mod Saved
-pub mod DriverLines
 pub mod QuietReplays
 pub mod Replayed
 pub mod Spelled

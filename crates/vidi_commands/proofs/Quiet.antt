@@ -4,11 +4,11 @@ use Rattle.vidi_io.specs.Shelf.{Files}
 use Rattle.report_text.specs.declared.reason.Word.{Word}
 use Rattle.report_text.specs.declared.reason.Reason.{Reason}
 use Rattle.report_text.specs.declared.reason.Reason.TheVariants.{TooLong}
-use Rattle.vidi_commands.specs.declared.status.Status.{Status}
-use Rattle.vidi_commands.specs.declared.status.Status.TheVariants.{Done, ReadFault, WriteFault, Refused}
-use Rattle.vidi_commands.specs.Steps.{Ending, IsSaid, IsRefusal, Step}
-use Rattle.vidi_commands.specs.Reading.{IsUnread, IsRead, Reading}
-use Rattle.vidi_commands.proofs.Chain.{Implies}
+use Rattle.vidi_bench.specs.declared.status.Status.{Status}
+use Rattle.vidi_bench.specs.declared.status.Status.TheVariants.{Done, ReadFault, WriteFault, Refused}
+use Rattle.vidi_bench.specs.Steps.{Ending, IsSaid, IsRefusal, Step}
+use Rattle.vidi_bench.specs.Reading.{IsUnread, IsRead, Reading}
+use Rattle.vidi_bench.proofs.Chain.{Implies}
 
 -- ---- no failed write
 abbrev pub Mute : Ending → Type 0

@@ -9,10 +9,10 @@ use Rattle.replay_run.specs.declared.outcome.ReplayOutcome.{ReplayOutcome}
 use Rattle.replay_run.specs.declared.outcome.ReplayOutcome.TheVariants as outcomes
 use Rattle.report_text.specs.declared.reason.Word.TheVariants as words
 use Rattle.report_text.specs.declared.reason.Reason.TheVariants.{OtherChannels}
-use Rattle.vidi_commands.specs.declared.status.Status.{Status}
-use Rattle.vidi_commands.specs.declared.status.Status.TheVariants.{WriteFault, Short, Unstable}
-use Rattle.vidi_commands.specs.Design.{text_limit}
-use Rattle.vidi_commands.specs.Reading.{Reading}
+use Rattle.vidi_bench.specs.declared.status.Status.{Status}
+use Rattle.vidi_bench.specs.declared.status.Status.TheVariants.{WriteFault, Short, Unstable}
+use Rattle.vidi_bench.specs.Design.{text_limit}
+use Rattle.vidi_bench.specs.Reading.{Reading}
 use Rattle.vidi_commands.specs.Replays.{RefusedTrace, RefusedReplay, IsUnreplayed, IsReplaySaid, Replays}
 use Rattle.vidi_commands.specs.Said.{replayed_line}
 use Rattle.vidi_commands.specs.Traces.{trace_limit, HasOtherChannels}

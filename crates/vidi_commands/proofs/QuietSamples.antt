@@ -7,7 +7,7 @@ use Rattle.sample_gen.specs.Sample.{sample}
 use Rattle.replay_run.specs.declared.outcome.ReplayOutcome.{ReplayOutcome}
 use Rattle.replay_run.specs.declared.outcome.ReplayOutcome.TheVariants as outcomes
 use Rattle.vidi_commands.specs.declared.sample.Figures.{Figures}
-use Rattle.vidi_commands.specs.declared.status.Status.TheVariants.{Done, Diverged, WriteFault}
+use Rattle.vidi_bench.specs.declared.status.Status.TheVariants.{Done, Diverged, WriteFault}
 use Rattle.vidi_commands.specs.Said.{sample_line}
 use Rattle.vidi_commands.specs.Samples.{figures, sample_cycles, IsSampleSaid, IsSampleVerdict, IsTraced, IsUntraced, Samples, SamplesFiles, SamplesReplay}
 use Rattle.vidi_commands.proofs.Quiet.{Mute, mute-said, mute-step, done-goes}

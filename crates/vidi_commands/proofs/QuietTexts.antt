@@ -24,20 +24,20 @@ use Rattle.vidi_recorder.specs.Course.{sizes_of}
 use Rattle.report_text.specs.declared.reason.Word.TheVariants as words
 use Rattle.report_text.specs.declared.reason.Reason.TheVariants.{Word, Deep, Item, Loop, StallLine, TooSmall}
 use Rattle.report_text.specs.Rows.{run_text}
-use Rattle.vidi_commands.specs.declared.bench.Bench.{Bench}
-use Rattle.vidi_commands.specs.declared.status.Status.{Status}
-use Rattle.vidi_commands.specs.declared.status.Status.TheVariants.{Done, WriteFault, Unstable}
-use Rattle.vidi_commands.specs.Benches.{IsNoScript, RefusedTexts, IsBench, ReadTexts}
+use Rattle.vidi_bench.specs.declared.bench.Bench.{Bench}
+use Rattle.vidi_bench.specs.declared.status.Status.{Status}
+use Rattle.vidi_bench.specs.declared.status.Status.TheVariants.{Done, WriteFault, Unstable}
+use Rattle.vidi_bench.specs.Benches.{IsNoScript, RefusedTexts, IsBench, ReadTexts}
 use Rattle.vidi_commands.specs.Checks.{Checked, Checks}
-use Rattle.vidi_commands.specs.Design.{text_limit, line_of, IsNoWord, IsNoTree, IsNoText, IsRefusedFile, IsAccepted, IsLooped, Spells}
-use Rattle.vidi_commands.specs.Design.{Building, Spelling}
-use Rattle.vidi_commands.specs.Devices.{Binding, IsNoMap, IsUnbound, Mapping, Wiring}
-use Rattle.vidi_commands.specs.Reading.{Reading}
+use Rattle.vidi_bench.specs.Design.{text_limit, line_of, IsNoWord, IsNoTree, IsNoText, IsRefusedFile, IsAccepted, IsLooped, Spells}
+use Rattle.vidi_bench.specs.Design.{Building, Spelling}
+use Rattle.vidi_bench.specs.Devices.{Binding, IsNoMap, IsUnbound, Mapping, Wiring}
+use Rattle.vidi_bench.specs.Reading.{Reading}
 use Rattle.vidi_commands.specs.Records.{IsNoPlan, IsTooSmall, RefusedPlan, RefusedPlanned, IsRecorded, Records}
 use Rattle.vidi_commands.specs.Runs.{IsEnded, IsPlayed, RunTexts, Runs}
 use Rattle.vidi_commands.specs.Said.{check_text, cycles_line, recorded_line, unstable_line}
-use Rattle.vidi_commands.specs.Steps.{Ending, IsSaid, Step}
-use Rattle.vidi_commands.proofs.Chain.{Implies}
+use Rattle.vidi_bench.specs.Steps.{Ending, IsSaid, Step}
+use Rattle.vidi_bench.proofs.Chain.{Implies}
 use Rattle.vidi_commands.proofs.Quiet.{Mute, mute-step, mute-reading, mute-refusal, mute-said, done-goes, quiet-reading}
 
 unstable-goes : (c t : ℕ) → Unstable c t ≡ WriteFault → ⊥

@@ -6,13 +6,13 @@ use Rattle.vidi_io.specs.Shelf.{Files}
 use Rattle.report_text.specs.declared.reason.Word.{Word}
 use Rattle.report_text.specs.declared.reason.Word.TheVariants as words
 use Rattle.report_text.specs.declared.reason.Reason.TheVariants.{BadTrace, OtherChannels}
-use Rattle.vidi_commands.specs.declared.status.Status.{Status}
-use Rattle.vidi_commands.specs.declared.status.Status.TheVariants.{Done, WriteFault, Diverged}
-use Rattle.vidi_commands.specs.Reading.{Reading}
+use Rattle.vidi_bench.specs.declared.status.Status.{Status}
+use Rattle.vidi_bench.specs.declared.status.Status.TheVariants.{Done, WriteFault, Diverged}
+use Rattle.vidi_bench.specs.Reading.{Reading}
 use Rattle.vidi_commands.specs.Said.{dump_text, no_divergence_line}
-use Rattle.vidi_commands.specs.Steps.{Ending, IsSaid}
+use Rattle.vidi_bench.specs.Steps.{Ending, IsSaid}
 use Rattle.vidi_commands.specs.Traces.{trace_limit, IsNoTrace, Decoding, Dumps, IsVerdict, Compared, ComparedFiles, Compares, IsHeaderless, Saves}
-use Rattle.vidi_commands.proofs.Chain.{Implies}
+use Rattle.vidi_bench.proofs.Chain.{Implies}
 use Rattle.vidi_commands.proofs.Quiet.{Mute, mute-step, mute-reading, mute-refusal, mute-said, done-goes, quiet-reading}
 
 -- ---- no failed write

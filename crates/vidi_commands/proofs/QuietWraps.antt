@@ -10,11 +10,11 @@ use Rattle.vidi_io.specs.Shelf.{Files}
 use Rattle.shim_trees.specs.Wrapped.{wrapped}
 use Rattle.report_text.specs.declared.reason.Word.TheVariants as words
 use Rattle.report_text.specs.declared.reason.Reason.TheVariants as reasons
-use Rattle.vidi_commands.specs.declared.status.Status.{Status}
-use Rattle.vidi_commands.specs.declared.status.Status.TheVariants.{Done, WriteFault}
-use Rattle.vidi_commands.specs.Design.{text_limit, Building}
-use Rattle.vidi_commands.specs.Devices.{Binding, IsNoMap, IsUnbound, Mapping}
-use Rattle.vidi_commands.specs.Reading.{Reading}
+use Rattle.vidi_bench.specs.declared.status.Status.{Status}
+use Rattle.vidi_bench.specs.declared.status.Status.TheVariants.{Done, WriteFault}
+use Rattle.vidi_bench.specs.Design.{text_limit, Building}
+use Rattle.vidi_bench.specs.Devices.{Binding, IsNoMap, IsUnbound, Mapping}
+use Rattle.vidi_bench.specs.Reading.{Reading}
 use Rattle.vidi_commands.specs.Said.{wrapped_line}
 use Rattle.vidi_commands.specs.Shims.{record_name, replay_name, IsFaulty, IsFaultyTop, IsFaultyTree, IsUnwrapped}
 use Rattle.vidi_commands.specs.Wraps.{IsUnwritten, RefusedWrap, Wraps}

@@ -6,14 +6,14 @@ use Rattle.vidi_io.specs.Shelf.{Files}
 use Rattle.vidi_recorder.specs.declared.error.Outcome.{Outcome}
 use Rattle.vidi_recorder.specs.declared.error.Outcome.TheVariants as outcomes
 use Rattle.vidi_recorder.specs.Course.{Course}
-use Rattle.vidi_commands.specs.declared.answer.Answer.{Answer}
-use Rattle.vidi_commands.specs.declared.answer.Ended.{Ended}
-use Rattle.vidi_commands.specs.declared.answer.Ended.TheVariants as ends
-use Rattle.vidi_commands.specs.declared.bench.Bench.{Bench}
-use Rattle.vidi_commands.specs.declared.status.Status.{Status}
-use Rattle.vidi_commands.specs.declared.status.Status.TheVariants.{Unstable}
-use Rattle.vidi_commands.specs.AnswerText.{text_of}
-use Rattle.vidi_commands.specs.Ended.{IsStopped, Owes}
+use Rattle.vidi_bench.specs.declared.answer.Answer.{Answer}
+use Rattle.vidi_bench.specs.declared.answer.Ended.{Ended}
+use Rattle.vidi_bench.specs.declared.answer.Ended.TheVariants as ends
+use Rattle.vidi_bench.specs.declared.bench.Bench.{Bench}
+use Rattle.vidi_bench.specs.declared.status.Status.{Status}
+use Rattle.vidi_bench.specs.declared.status.Status.TheVariants.{Unstable}
+use Rattle.vidi_bench.specs.AnswerText.{text_of}
+use Rattle.vidi_bench.specs.Ended.{IsStopped, Owes}
 use Rattle.vidi_commands.specs.Recorded.{FileEnds, IsOutcome}
 use Rattle.vidi_commands.specs.Records.{course_of, IsCutShort, IsPlanned, Records, RecordsRun, StopsRecording}
 use Rattle.vidi_commands.specs.Said.{recorded_line, unstable_line}

@@ -6,16 +6,16 @@ use Rattle.trace_model.specs.Recording.{trace_of}
 use Rattle.trace_code.specs.Encoding.{Encodes, encode}
 use Rattle.vidi_io.specs.Shelf.{Files}
 use Rattle.vidi_io.proofs.Cut.{cut-knowing}
-use Rattle.vidi_commands.specs.declared.answer.Answer.{Answer}
-use Rattle.vidi_commands.specs.declared.answer.Ended.{Ended}
-use Rattle.vidi_commands.specs.declared.answer.Ended.TheVariants as ends
-use Rattle.vidi_commands.specs.declared.device.Device.{Device}
+use Rattle.vidi_bench.specs.declared.answer.Answer.{Answer}
+use Rattle.vidi_bench.specs.declared.answer.Ended.{Ended}
+use Rattle.vidi_bench.specs.declared.answer.Ended.TheVariants as ends
+use Rattle.vidi_bench.specs.declared.device.Device.{Device}
 use Rattle.vidi_commands.specs.declared.replay.Replayable.{Replayable}
-use Rattle.vidi_commands.specs.AnswerText.{text_of}
-use Rattle.vidi_commands.specs.Design.{text_limit}
-use Rattle.vidi_commands.specs.Devices.{IsDevice}
-use Rattle.vidi_commands.specs.Ended.{IsStopped, Owes}
-use Rattle.vidi_commands.specs.Reading.{IsRead}
+use Rattle.vidi_bench.specs.AnswerText.{text_of}
+use Rattle.vidi_bench.specs.Design.{text_limit}
+use Rattle.vidi_bench.specs.Devices.{IsDevice}
+use Rattle.vidi_bench.specs.Ended.{IsStopped, Owes}
+use Rattle.vidi_bench.specs.Reading.{IsRead}
 use Rattle.vidi_commands.specs.Replays.{CutsReplay, IsReplayable, Replays, ReplaysTrace, StopsReplaying}
 use Rattle.vidi_commands.specs.Traces.{trace_limit}
 

@@ -17,14 +17,14 @@ use Rattle.vidi_io.specs.MemShelf.{entries}
 use Rattle.vidi_io.specs.Shelf.{Files, holding}
 use Rattle.vidi_recorder.specs.declared.error.Outcome.TheVariants as outcomes
 use Rattle.vidi_recorder.specs.Course.{Course, sizes_of}
-use Rattle.vidi_commands.specs.declared.answer.Ended.{Ended}
-use Rattle.vidi_commands.specs.declared.bench.Bench.{Bench}
-use Rattle.vidi_commands.specs.Benches.{IsBench}
+use Rattle.vidi_bench.specs.declared.answer.Ended.{Ended}
+use Rattle.vidi_bench.specs.declared.bench.Bench.{Bench}
+use Rattle.vidi_bench.specs.Benches.{IsBench}
 use Rattle.vidi_commands.specs.Recorded.{FileEnds}
 use Rattle.vidi_commands.specs.Records.{course_of}
 use Rattle.vidi_commands.specs.Sampled.{trace_on, HasTrace, IsTraceOf, IsUnstable}
 use Rattle.vidi_commands.specs.Samples.{IsTraced, IsUntraced}
-use Rattle.vidi_commands.proofs.Chain.{Implies}
+use Rattle.vidi_bench.proofs.Chain.{Implies}
 
 -- ---- the file on the shelf
 get-held : (m : Files) (name bytes : List ℕ) → get (insert m name bytes) name ≡ Some bytes

@@ -7,15 +7,15 @@ use Rattle.trace_code.specs.Salvage.{SalvagesFront}
 use Rattle.vidi_io.specs.Shelf.{Files, holding}
 use Rattle.vidi_io.specs.Writing.{IsCutOff}
 use Rattle.vidi_io.proofs.Cut.{cut-knowing}
-use Rattle.vidi_commands.specs.declared.answer.Answer.{Answer}
-use Rattle.vidi_commands.specs.declared.answer.Ended.{Ended}
-use Rattle.vidi_commands.specs.declared.answer.Ended.TheVariants as ends
-use Rattle.vidi_commands.specs.declared.status.Status.TheVariants.{Done}
-use Rattle.vidi_commands.specs.AnswerText.{text_of}
-use Rattle.vidi_commands.specs.Ended.{IsStopped, Owes}
-use Rattle.vidi_commands.specs.Reading.{IsRead}
+use Rattle.vidi_bench.specs.declared.answer.Answer.{Answer}
+use Rattle.vidi_bench.specs.declared.answer.Ended.{Ended}
+use Rattle.vidi_bench.specs.declared.answer.Ended.TheVariants as ends
+use Rattle.vidi_bench.specs.declared.status.Status.TheVariants.{Done}
+use Rattle.vidi_bench.specs.AnswerText.{text_of}
+use Rattle.vidi_bench.specs.Ended.{IsStopped, Owes}
+use Rattle.vidi_bench.specs.Reading.{IsRead}
 use Rattle.vidi_commands.specs.Said.{salvaged_line}
-use Rattle.vidi_commands.specs.Steps.{IsSaid}
+use Rattle.vidi_bench.specs.Steps.{IsSaid}
 use Rattle.vidi_commands.specs.Traces.{trace_limit, Saves, StopsSaving}
 
 -- the front of the file that is whole, with an end mark

@@ -14,10 +14,10 @@ use Rattle.vlog_parse.specs.declared.error.ParseError.TheVariants.{Item}
 use Rattle.vlog_print.specs.Printed.{IsTextOf, PrintedIsRead, PrintedIsSpelled}
 use Rattle.chan_map.specs.declared.pins.Map.{Map}
 use Rattle.shim_trees.specs.Wrapped.{reserved_names, wrapped}
-use Rattle.vidi_commands.specs.declared.answer.Ended.{Ended}
-use Rattle.vidi_commands.specs.Design.{text_limit}
+use Rattle.vidi_bench.specs.declared.answer.Ended.{Ended}
+use Rattle.vidi_bench.specs.Design.{text_limit}
 use Rattle.vidi_commands.specs.Shims.{file_text, IsClearTree, IsFaultyTree, IsLong, IsReadAs, IsUnwrapped, IsWrapped}
-use Rattle.vidi_commands.proofs.Chain.{Implies}
+use Rattle.vidi_bench.proofs.Chain.{Implies}
 
 abbrev unlined : Token → Token
 unlined t = record { kind = t.kind; text = t.text; line = 0 }

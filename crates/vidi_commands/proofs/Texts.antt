@@ -6,14 +6,14 @@ use Rattle.script_text.specs.Reasons.{read_lines}
 use Rattle.script_text.specs.Stalls.{ReadsStalls}
 use Rattle.vidi_io.specs.Shelf.{Files}
 use Rattle.vidi_recorder.specs.Course.{sizes_of}
-use Rattle.vidi_commands.specs.declared.answer.Ended.{Ended}
+use Rattle.vidi_bench.specs.declared.answer.Ended.{Ended}
 use Rattle.vidi_commands.specs.declared.recording.Planned.{Planned}
-use Rattle.vidi_commands.specs.Benches.{IsBench, ReadTexts}
-use Rattle.vidi_commands.specs.Design.{text_limit}
-use Rattle.vidi_commands.specs.Reading.{IsRead}
+use Rattle.vidi_bench.specs.Benches.{IsBench, ReadTexts}
+use Rattle.vidi_bench.specs.Design.{text_limit}
+use Rattle.vidi_bench.specs.Reading.{IsRead}
 use Rattle.vidi_commands.specs.Records.{IsPlanned}
-use Rattle.vidi_commands.specs.Steps.{Ending, Never}
-use Rattle.vidi_commands.proofs.Chain.{Implies}
+use Rattle.vidi_bench.specs.Steps.{Ending, Never}
+use Rattle.vidi_bench.proofs.Chain.{Implies}
 
 -- files that are not all read end the command, whatever comes of their texts
 pub never-read : (design map script : List ℕ) (files : Option Files) (F : List ℕ → Type 0) (Next : List ℕ → List ℕ → List ℕ → Ending)

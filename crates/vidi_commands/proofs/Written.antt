@@ -9,21 +9,21 @@ use Rattle.chan_map.specs.declared.pins.Map.{Map}
 use Rattle.chan_map.specs.declared.text.MapText.{MapText}
 use Rattle.chan_map.specs.Text.{ReadsMap}
 use Rattle.shim_trees.specs.Wrapped.{wrapped}
-use Rattle.vidi_commands.specs.declared.answer.Answer.{Answer}
-use Rattle.vidi_commands.specs.declared.answer.Ended.{Ended}
-use Rattle.vidi_commands.specs.declared.answer.Ended.TheVariants as ends
-use Rattle.vidi_commands.specs.declared.status.Status.TheVariants.{Done}
+use Rattle.vidi_bench.specs.declared.answer.Answer.{Answer}
+use Rattle.vidi_bench.specs.declared.answer.Ended.{Ended}
+use Rattle.vidi_bench.specs.declared.answer.Ended.TheVariants as ends
+use Rattle.vidi_bench.specs.declared.status.Status.TheVariants.{Done}
 use Rattle.vidi_commands.specs.declared.wrap.Wrapping.{Wrapping}
-use Rattle.vidi_commands.specs.AnswerText.{text_of}
-use Rattle.vidi_commands.specs.Design.{text_limit, Building, Spells}
-use Rattle.vidi_commands.specs.Devices.{Binding}
-use Rattle.vidi_commands.specs.Ended.{IsStopped, Owes}
-use Rattle.vidi_commands.specs.Reading.{IsRead}
+use Rattle.vidi_bench.specs.AnswerText.{text_of}
+use Rattle.vidi_bench.specs.Design.{text_limit, Building, Spells}
+use Rattle.vidi_bench.specs.Devices.{Binding}
+use Rattle.vidi_bench.specs.Ended.{IsStopped, Owes}
+use Rattle.vidi_bench.specs.Reading.{IsRead}
 use Rattle.vidi_commands.specs.Said.{wrapped_line}
 use Rattle.vidi_commands.specs.Shims.{file_text, IsUnwrapped, IsWrapped}
-use Rattle.vidi_commands.specs.Steps.{Ending, IsSaid, Never}
+use Rattle.vidi_bench.specs.Steps.{Ending, IsSaid, Never}
 use Rattle.vidi_commands.specs.Wraps.{IsFitted, IsPlanned, IsPlannedTexts, RefusedWrap, StopsWrapping, Wraps}
-use Rattle.vidi_commands.proofs.Chain.{Implies}
+use Rattle.vidi_bench.proofs.Chain.{Implies}
 
 -- ---- the steps of two texts
 

@@ -3,10 +3,10 @@ use Rattle.std.specs.Prelude.{◌≡◌, ℕ, ◌⊎◌, List, Option}
 use Rattle.std.specs.Io.KnownBytes.{append_known}
 use Rattle.vidi_io.specs.Shelf.{Files}
 use Rattle.vidi_io.specs.Sink.{AppendsSome}
-use Rattle.vidi_commands.specs.declared.status.Status.{Status}
-use Rattle.vidi_commands.specs.declared.status.Status.TheVariants.{Usage, WriteFault, Memory}
+use Rattle.vidi_bench.specs.declared.status.Status.{Status}
+use Rattle.vidi_bench.specs.declared.status.Status.TheVariants.{Usage, WriteFault, Memory}
 use Rattle.vidi_commands.specs.Command.{Command, Dump, Check, Run, Record, Replay, Compare, Salvage, Wrap, Sample, IsGiven}
-use Rattle.vidi_commands.specs.Steps.{IsSaid}
+use Rattle.vidi_bench.specs.Steps.{IsSaid}
 use Rattle.vidi_commands.specs.Traces.{Dumps, Compares, Saves, StopsSaving}
 use Rattle.vidi_commands.specs.Checks.{Checks}
 use Rattle.vidi_commands.specs.Runs.{Runs}

@@ -3,11 +3,11 @@ use Rattle.std.specs.Prelude.{ℕ, List, Option}
 use Rattle.vidi_io.specs.Shelf.{Files}
 use Rattle.vlog_design.specs.Design.{file_counts}
 use Rattle.report_text.specs.declared.reason.Word.TheVariants as words
-use Rattle.vidi_commands.specs.declared.status.Status.TheVariants.{Done}
-use Rattle.vidi_commands.specs.Design.{text_limit, Building, Spelling}
-use Rattle.vidi_commands.specs.Reading.{Reading}
+use Rattle.vidi_bench.specs.declared.status.Status.TheVariants.{Done}
+use Rattle.vidi_bench.specs.Design.{text_limit, Building, Spelling}
+use Rattle.vidi_bench.specs.Reading.{Reading}
 use Rattle.vidi_commands.specs.Said.{check_text}
-use Rattle.vidi_commands.specs.Steps.{Ending, IsSaid}
+use Rattle.vidi_bench.specs.Steps.{Ending, IsSaid}
 
 -- one text
 abbrev pub Checked : List ℕ → List ℕ → Ending

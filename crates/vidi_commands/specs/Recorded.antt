@@ -9,10 +9,10 @@ use Rattle.vidi_recorder.specs.declared.error.Outcome.TheVariants as outcomes
 use Rattle.vidi_recorder.specs.declared.error.RecordError.{RecordError}
 use Rattle.vidi_recorder.specs.declared.error.RecordError.TheVariants as errors
 use Rattle.vidi_recorder.specs.Course.{Course}
-use Rattle.vidi_commands.specs.declared.status.Status.TheVariants.{Done, Unstable}
+use Rattle.vidi_bench.specs.declared.status.Status.TheVariants.{Done, Unstable}
 use Rattle.vidi_commands.specs.Records.{IsCutShort, Leaves}
 use Rattle.vidi_commands.specs.Said.{recorded_line, unstable_line}
-use Rattle.vidi_commands.specs.Steps.{Ending, IsSaid}
+use Rattle.vidi_bench.specs.Steps.{Ending, IsSaid}
 
 abbrev pub FileEnds : Course → Option Files → List ℕ → Option Files → Outcome → Type 0
 FileEnds w files trace left (outcomes.Whole packets) = (rows : List Row) × Leaves w files trace left rows None

@@ -15,13 +15,13 @@ use Rattle.vidi_recorder.specs.Course.{Course, course, sizes_of, IsRunOf, IsTheR
 use Rattle.vidi_recorder.specs.Recording.{IsFrontOfTheRun}
 use Rattle.report_text.specs.declared.reason.Word.TheVariants as words
 use Rattle.report_text.specs.declared.reason.Reason.TheVariants.{StallLine, TooSmall}
-use Rattle.vidi_commands.specs.declared.bench.Bench.{Bench}
-use Rattle.vidi_commands.specs.declared.status.Status.{Status}
-use Rattle.vidi_commands.specs.declared.status.Status.TheVariants.{Done, Unstable}
-use Rattle.vidi_commands.specs.Steps.{Ending, IsSaid, IsRefusal, Step}
-use Rattle.vidi_commands.specs.Reading.{IsRead, Reading}
-use Rattle.vidi_commands.specs.Design.{text_limit}
-use Rattle.vidi_commands.specs.Benches.{ReadTexts, RefusedTexts, IsBench}
+use Rattle.vidi_bench.specs.declared.bench.Bench.{Bench}
+use Rattle.vidi_bench.specs.declared.status.Status.{Status}
+use Rattle.vidi_bench.specs.declared.status.Status.TheVariants.{Done, Unstable}
+use Rattle.vidi_bench.specs.Steps.{Ending, IsSaid, IsRefusal, Step}
+use Rattle.vidi_bench.specs.Reading.{IsRead, Reading}
+use Rattle.vidi_bench.specs.Design.{text_limit}
+use Rattle.vidi_bench.specs.Benches.{ReadTexts, RefusedTexts, IsBench}
 use Rattle.vidi_commands.specs.Said.{recorded_line, unstable_line}
 
 -- ---- what ends the command before anything is recorded

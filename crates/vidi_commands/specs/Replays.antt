@@ -12,14 +12,14 @@ use Rattle.replay_run.specs.declared.outcome.ReplayOutcome.TheVariants as outcom
 use Rattle.replay_run.specs.Replaying.{EndsAs}
 use Rattle.report_text.specs.Short.{short_lines}
 use Rattle.report_text.specs.declared.reason.Word.TheVariants as words
-use Rattle.vidi_commands.specs.declared.device.Device.{Device}
-use Rattle.vidi_commands.specs.declared.status.Status.{Status}
-use Rattle.vidi_commands.specs.declared.status.Status.TheVariants.{Short, Unstable}
-use Rattle.vidi_commands.specs.Design.{text_limit}
-use Rattle.vidi_commands.specs.Devices.{IsDevice, Wiring}
-use Rattle.vidi_commands.specs.Reading.{IsRead, Reading}
+use Rattle.vidi_bench.specs.declared.device.Device.{Device}
+use Rattle.vidi_bench.specs.declared.status.Status.{Status}
+use Rattle.vidi_bench.specs.declared.status.Status.TheVariants.{Short, Unstable}
+use Rattle.vidi_bench.specs.Design.{text_limit}
+use Rattle.vidi_bench.specs.Devices.{IsDevice, Wiring}
+use Rattle.vidi_bench.specs.Reading.{IsRead, Reading}
 use Rattle.vidi_commands.specs.Said.{replayed_line, unstable_line}
-use Rattle.vidi_commands.specs.Steps.{Ending, IsSaid}
+use Rattle.vidi_bench.specs.Steps.{Ending, IsSaid}
 use Rattle.vidi_commands.specs.Traces.{trace_limit, Decoding, HasOtherChannels, IsVerdict}
 
 -- ---- what ends the command before anything is replayed

@@ -10,10 +10,10 @@ use Rattle.bench_run.specs.declared.plain.PlainRun.{PlainRun}
 use Rattle.bench_run.specs.declared.plain.Spot.{Spot}
 use Rattle.bench_run.specs.Plain.{IsPlainRun}
 use Rattle.report_text.specs.Rows.{run_text}
-use Rattle.vidi_commands.specs.declared.bench.Bench.{Bench}
-use Rattle.vidi_commands.specs.declared.status.Status.TheVariants.{Done, Unstable}
-use Rattle.vidi_commands.specs.Steps.{Ending, IsSaid, Step}
-use Rattle.vidi_commands.specs.Benches.{ReadTexts, RefusedTexts, IsBench}
+use Rattle.vidi_bench.specs.declared.bench.Bench.{Bench}
+use Rattle.vidi_bench.specs.declared.status.Status.TheVariants.{Done, Unstable}
+use Rattle.vidi_bench.specs.Steps.{Ending, IsSaid, Step}
+use Rattle.vidi_bench.specs.Benches.{ReadTexts, RefusedTexts, IsBench}
 use Rattle.vidi_commands.specs.Said.{cycles_line, unstable_line}
 
 -- ---- the run: its rows, and `cycles N` or where it is unstable

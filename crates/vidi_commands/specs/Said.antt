@@ -10,6 +10,7 @@ use Rattle.net_design.specs.declared.design.Counts.{Counts}
 use Rattle.vidi_commands.specs.declared.sample.Figures.{Figures}
 pub use Rattle.report_text.specs.Trace.{dump_text}
 pub use Rattle.report_text.specs.Reason.{read_fault_line, reason_line}
+pub use Rattle.vidi_bench.specs.Usage.{usage_line}
 
 -- the items of all modules
 abbrev pub items : {A : Type 0} → FileOf A → ℕ
@@ -79,9 +80,6 @@ channel_name channels c = name_in (slice_get channels c)
 -- `vidi: unstable CH cycle N`
 abbrev pub unstable_line : List Channel → ℕ → ℕ → List ℕ
 unstable_line channels c t = codes "vidi: unstable " ++ (channel_name channels c ++ (codes " cycle " ++ (decimal t ++ newline)))
-
-abbrev pub usage_line : List ℕ
-usage_line = codes "vidi: usage" ++ newline
 
 abbrev pub memory_line : List ℕ
 memory_line = codes "vidi: out of memory" ++ newline

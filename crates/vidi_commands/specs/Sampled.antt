@@ -9,9 +9,9 @@ use Rattle.vidi_io.specs.Entries.{files_of}
 use Rattle.vidi_io.specs.MemShelf.{entries}
 use Rattle.sample_gen.specs.declared.files.Sample.{Sample}
 use Rattle.vidi_recorder.specs.Course.{Course, IsTheRunOf}
-use Rattle.vidi_commands.specs.Design.{text_limit}
+use Rattle.vidi_bench.specs.Design.{text_limit}
 use Rattle.vidi_commands.specs.Records.{IsRecorded}
-use Rattle.vidi_commands.specs.Steps.{Ending}
+use Rattle.vidi_bench.specs.Steps.{Ending}
 
 -- no text is longer than its limit
 pub record AreShort (x : Sample) : Type 0 where

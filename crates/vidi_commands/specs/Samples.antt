@@ -14,16 +14,16 @@ use Rattle.replay_run.specs.declared.outcome.ReplayOutcome.{ReplayOutcome}
 use Rattle.replay_run.specs.declared.outcome.ReplayOutcome.TheVariants as outcomes
 use Rattle.sample_gen.specs.declared.files.Sample.{Sample}
 use Rattle.sample_gen.specs.Sample.{sample}
-use Rattle.vidi_commands.specs.declared.bench.Bench.{Bench}
-use Rattle.vidi_commands.specs.declared.device.Device.{Device}
+use Rattle.vidi_bench.specs.declared.bench.Bench.{Bench}
+use Rattle.vidi_bench.specs.declared.device.Device.{Device}
 use Rattle.vidi_commands.specs.declared.sample.Figures.{Figures}
-use Rattle.vidi_commands.specs.declared.status.Status.TheVariants.{Done, Diverged}
-use Rattle.vidi_commands.specs.Benches.{IsBench}
-use Rattle.vidi_commands.specs.Devices.{IsDevice}
+use Rattle.vidi_bench.specs.declared.status.Status.TheVariants.{Done, Diverged}
+use Rattle.vidi_bench.specs.Benches.{IsBench}
+use Rattle.vidi_bench.specs.Devices.{IsDevice}
 use Rattle.vidi_commands.specs.Records.{course_of, IsRecorded, RefusedPlanned}
 use Rattle.vidi_commands.specs.Replays.{IsReplaySaid, IsTheReplay, RefusedReplay}
 use Rattle.vidi_commands.specs.Said.{diverged_text, sample_line}
-use Rattle.vidi_commands.specs.Steps.{Ending, IsSaid, Step}
+use Rattle.vidi_bench.specs.Steps.{Ending, IsSaid, Step}
 
 -- for at most so many cycles a sample is replayed
 abbrev pub sample_cycles : ℕ

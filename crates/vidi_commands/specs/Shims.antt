@@ -20,8 +20,8 @@ use Rattle.chan_map.specs.declared.pins.Map.{Map}
 use Rattle.shim_trees.specs.Wrapped.{reserved_names, wrapped}
 use Rattle.report_text.specs.declared.reason.Word.TheVariants as words
 use Rattle.report_text.specs.declared.reason.Reason.TheVariants as reasons
-use Rattle.vidi_commands.specs.Design.{text_limit, IsAccepted}
-use Rattle.vidi_commands.specs.Steps.{Ending, IsRefusal}
+use Rattle.vidi_bench.specs.Design.{text_limit, IsAccepted}
+use Rattle.vidi_bench.specs.Steps.{Ending, IsRefusal}
 
 -- ---- a name that is kept
 

@@ -12,11 +12,11 @@ use Rattle.report_text.specs.declared.reason.Word.{Word}
 use Rattle.report_text.specs.declared.reason.Word.TheVariants as words
 use Rattle.report_text.specs.declared.reason.Reason.TheVariants.{BadTrace, OtherChannels}
 use Rattle.trace_code.specs.declared.decoding.TheConstants.{TRACE_LIMIT}
-use Rattle.vidi_commands.specs.declared.status.Status.{Status}
-use Rattle.vidi_commands.specs.declared.status.Status.TheVariants.{Done, Diverged}
+use Rattle.vidi_bench.specs.declared.status.Status.{Status}
+use Rattle.vidi_bench.specs.declared.status.Status.TheVariants.{Done, Diverged}
 use Rattle.vidi_commands.specs.Said.{dump_text, no_divergence_line, diverged_text, salvaged_line}
-use Rattle.vidi_commands.specs.Reading.{IsRead, Reading}
-use Rattle.vidi_commands.specs.Steps.{Ending, IsSaid, IsRefusal, Step}
+use Rattle.vidi_bench.specs.Reading.{IsRead, Reading}
+use Rattle.vidi_bench.specs.Steps.{Ending, IsSaid, IsRefusal, Step}
 
 -- the longest trace file, in bytes
 abbrev pub trace_limit : ℕ

@@ -11,14 +11,14 @@ use Rattle.chan_map.specs.Text.{ReadsMap}
 use Rattle.chan_map.specs.Bound.{BindsMap}
 use Rattle.shim_trees.specs.Wrapped.{wrapped}
 use Rattle.report_text.specs.declared.reason.Word.TheVariants as words
-use Rattle.vidi_commands.specs.declared.status.Status.{Status}
-use Rattle.vidi_commands.specs.declared.status.Status.TheVariants.{Done}
-use Rattle.vidi_commands.specs.Design.{text_limit, IsAccepted, Spelling, Spells}
-use Rattle.vidi_commands.specs.Devices.{Mapping}
-use Rattle.vidi_commands.specs.Reading.{IsRead, Reading}
+use Rattle.vidi_bench.specs.declared.status.Status.{Status}
+use Rattle.vidi_bench.specs.declared.status.Status.TheVariants.{Done}
+use Rattle.vidi_bench.specs.Design.{text_limit, IsAccepted, Spelling, Spells}
+use Rattle.vidi_bench.specs.Devices.{Mapping}
+use Rattle.vidi_bench.specs.Reading.{IsRead, Reading}
 use Rattle.vidi_commands.specs.Said.{wrapped_line}
 use Rattle.vidi_commands.specs.Shims.{file_text, IsUnwrapped, IsWrapped}
-use Rattle.vidi_commands.specs.Steps.{Ending, IsSaid}
+use Rattle.vidi_bench.specs.Steps.{Ending, IsSaid}
 
 -- ---- what ends the command before anything is written
 

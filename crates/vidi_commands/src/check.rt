@@ -4,20 +4,19 @@ ghost use Rattle.std.specs.Prelude.{◌≡◌, ◌≤◌, ◌++◌, IfOk, OnOk, 
 ghost use Rattle.vidi_io.specs.Cause.{Rose};
 ghost use Rattle.vidi_io.specs.Shelf.{Later};
 ghost use Rattle.vlog_tree.specs.Plain.{plain};
-ghost use Rattle.vidi_commands.specs.AnswerText.{text_of};
+ghost use Rattle.vidi_bench.specs.AnswerText.{text_of};
 ghost use Rattle.vidi_commands.specs.Checks.{Checked, Checks};
-ghost use Rattle.vidi_commands.specs.Design.{text_limit};
-ghost use Rattle.vidi_commands.specs.Ended.{IsAnswered};
+ghost use Rattle.vidi_bench.specs.Design.{text_limit};
+ghost use Rattle.vidi_bench.specs.Ended.{IsAnswered};
 ghost use Rattle.vidi_commands.specs.Said as said;
-ghost use Rattle.vidi_commands.specs.Steps.{IsSaid};
+ghost use Rattle.vidi_bench.specs.Steps.{IsSaid};
 
-use crate::answer::{Answer, Ended, with_bytes};
-use crate::design::{design_of, file_of, order_of};
-use crate::read::{TEXT_LIMIT, read_file};
-use crate::status::{Status, Word};
 use net_design::Counts;
 use report_text::{put, put_number};
 use std::alloc::Global;
+use vidi_bench::{
+    Answer, Ended, Status, TEXT_LIMIT, Word, design_of, file_of, order_of, read_file, with_bytes,
+};
 use vidi_bits::{Bytes, Memory};
 use vidi_io::Shelf;
 use vlog_tree::File;

@@ -5,21 +5,19 @@ ghost use Rattle.trace_code.specs.Encoding.{HasEncoding};
 ghost use Rattle.trace_compare.specs.Findings.{findings};
 ghost use Rattle.vidi_io.specs.Cause.{Rose};
 ghost use Rattle.vidi_io.specs.Shelf.{Later};
-ghost use Rattle.vidi_commands.specs.AnswerText.{text_of};
-ghost use Rattle.vidi_commands.specs.Ended.{IsAnswered};
+ghost use Rattle.vidi_bench.specs.AnswerText.{text_of};
+ghost use Rattle.vidi_bench.specs.Ended.{IsAnswered};
 ghost use Rattle.vidi_commands.specs.Said as said;
-ghost use Rattle.vidi_commands.specs.Steps.{IsSaid};
+ghost use Rattle.vidi_bench.specs.Steps.{IsSaid};
 ghost use Rattle.vidi_commands.specs.Traces.{Compared, ComparedFiles, Compares, IsVerdict};
 
-use crate::answer::{Answer, Ended, refused, with_bytes};
 use crate::dump::trace_of;
-use crate::read::read_file;
-use crate::status::{Reason, Status, Word};
 use report_text::{put, report_lines};
 use std::alloc::Global;
 use trace_code::TRACE_LIMIT;
 use trace_compare::Report;
 use trace_model::{Channels, Trace, same_channels};
+use vidi_bench::{Answer, Ended, Reason, Status, Word, read_file, refused, with_bytes};
 use vidi_bits::{Bytes, Memory};
 use vidi_io::Shelf;
 

@@ -4,19 +4,17 @@ ghost use Rattle.std.specs.Prelude.{◌≡◌, IfOk, IfErr};
 ghost use Rattle.trace_code.specs.Encoding.{Encodes};
 ghost use Rattle.vidi_io.specs.Cause.{Rose};
 ghost use Rattle.vidi_io.specs.Shelf.{Later};
-ghost use Rattle.vidi_commands.specs.AnswerText.{text_of};
-ghost use Rattle.vidi_commands.specs.Ended.{EndsWith, IsAnswered};
+ghost use Rattle.vidi_bench.specs.AnswerText.{text_of};
+ghost use Rattle.vidi_bench.specs.Ended.{EndsWith, IsAnswered};
 ghost use Rattle.vidi_commands.specs.Said as said;
-ghost use Rattle.vidi_commands.specs.Steps.{IsSaid};
+ghost use Rattle.vidi_bench.specs.Steps.{IsSaid};
 ghost use Rattle.vidi_commands.specs.Traces.{Dumps, IsNoTrace};
 
-use crate::answer::{Answer, AnswerText, Ended, refused};
-use crate::read::read_file;
-use crate::status::{Reason, Status, Word};
 use report_text::TraceLines;
 use std::alloc::Global;
 use trace_code::{CodeError, TRACE_LIMIT, decode};
 use trace_model::Trace;
+use vidi_bench::{Answer, AnswerText, Ended, Reason, Status, Word, read_file, refused};
 use vidi_bits::Memory;
 use vidi_io::Shelf;
 

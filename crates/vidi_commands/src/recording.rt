@@ -20,21 +20,16 @@ ghost use Rattle.vidi_io.specs.Shelf.{Later};
 ghost use Rattle.vidi_recorder.specs.Course.{course, sizes_of};
 ghost use Rattle.vidi_recorder.specs.Recording.{FailsFor};
 ghost use Rattle.report_text.specs.Pad.{shown, left};
-ghost use Rattle.vidi_commands.specs.AnswerText.{text_of};
-ghost use Rattle.vidi_commands.specs.Benches.{AreWithin, IsBench, IsPlayable};
-ghost use Rattle.vidi_commands.specs.Design.{text_limit};
-ghost use Rattle.vidi_commands.specs.Ended.{EndsWith, IsStopped, Owes};
+ghost use Rattle.vidi_bench.specs.AnswerText.{text_of};
+ghost use Rattle.vidi_bench.specs.Benches.{AreWithin, IsBench, IsPlayable};
+ghost use Rattle.vidi_bench.specs.Design.{text_limit};
+ghost use Rattle.vidi_bench.specs.Ended.{EndsWith, IsStopped, Owes};
 ghost use Rattle.vidi_commands.specs.Records.{course_of, IsCutShort, IsNoPlan, IsPlanned, IsTooSmall, IsUnrecorded};
 ghost use Rattle.vidi_commands.specs.Records.{Records, RecordsRun, RefusedPlanned, StopsRecording};
 ghost use Rattle.vidi_commands.specs.Recorded.{FileEnds, FileFails, IsOutcome};
-ghost use Rattle.vidi_commands.specs.Steps.{IsSaid};
+ghost use Rattle.vidi_bench.specs.Steps.{IsSaid};
 
-use crate::answer::{Answer, AnswerText, Ended, refused};
-use crate::bench::{Bench, Texts, bench_of, read_texts};
-use crate::device::Device;
 use crate::line::{LINE_BYTES, recorded_line, unstable_line};
-use crate::read::{TEXT_LIMIT, read_file};
-use crate::status::{Reason, Status, Word};
 use chan_map::Map;
 use chan_monitor::{Machines, Shell};
 use env_script::{Env, ScriptEnv, StallError, Stalls, read_stalls};
@@ -46,6 +41,10 @@ use room_ledger::{Room, RoomError};
 use script_text::Script;
 use std::alloc::Global;
 use trace_model::Channels;
+use vidi_bench::{
+    Answer, AnswerText, Bench, Device, Ended, Reason, Status, TEXT_LIMIT, Texts, Word, bench_of,
+    read_file, read_texts, refused,
+};
 use vidi_io::{Shelf, ShelfSink};
 use vidi_recorder::{Outcome, RecordError, record_run};
 

@@ -10,24 +10,20 @@ ghost use Rattle.trace_code.specs.Encoding.{Encodes, HasEncoding};
 ghost use Rattle.script_text.specs.declared.script.TheConstants.{MOST_CYCLES};
 ghost use Rattle.vidi_io.specs.Cause.{Rose};
 ghost use Rattle.vidi_io.specs.Shelf.{Later};
-ghost use Rattle.vidi_commands.specs.AnswerText.{text_of};
-ghost use Rattle.vidi_commands.specs.Design.{text_limit};
-ghost use Rattle.vidi_commands.specs.Devices.{IsDevice, IsRunnable};
-ghost use Rattle.vidi_commands.specs.Ended.{EndsWith, IsStopped, Owes};
+ghost use Rattle.vidi_bench.specs.AnswerText.{text_of};
+ghost use Rattle.vidi_bench.specs.Design.{text_limit};
+ghost use Rattle.vidi_bench.specs.Devices.{IsDevice, IsRunnable};
+ghost use Rattle.vidi_bench.specs.Ended.{EndsWith, IsStopped, Owes};
 ghost use Rattle.vidi_commands.specs.Replays.{CutsReplay, IsReplayable, IsReplaySaid, IsTheReplay, IsUnreplayed};
 ghost use Rattle.vidi_commands.specs.Replays.{RefusedReplay, RefusedTrace, Replays, ReplaysTrace, StopsReplaying};
 ghost use Rattle.vidi_commands.specs.Said as said;
-ghost use Rattle.vidi_commands.specs.Steps.{IsSaid};
+ghost use Rattle.vidi_bench.specs.Steps.{IsSaid};
 ghost use Rattle.vidi_commands.specs.Traces.{IsVerdict};
 
-use crate::answer::{Answer, Ended, refused, with_bytes};
 use crate::compare::diverged;
-use crate::device::{Device, device_of};
 use crate::dump::trace_of;
 use crate::line::{LINE_BYTES, unstable_line};
-use crate::read::{TEXT_LIMIT, read_file};
 use crate::recording::with_line;
-use crate::status::{Reason, Status, Word};
 use chan_map::Map;
 use chan_replayer::ReplayMachines;
 use net_sim::Sim;
@@ -36,6 +32,10 @@ use report_text::{Pad, put, put_number, short_lines};
 use std::alloc::Global;
 use trace_code::{CodeError, TRACE_LIMIT, decode};
 use trace_model::{Channels, Trace, same_channels};
+use vidi_bench::{
+    Answer, Device, Ended, Reason, Status, TEXT_LIMIT, Word, device_of, read_file, refused,
+    with_bytes,
+};
 use vidi_bits::{Bytes, Memory};
 use vidi_io::{Failed, Shelf, write_whole};
 

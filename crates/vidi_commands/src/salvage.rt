@@ -6,18 +6,16 @@ ghost use Rattle.trace_code.specs.Salvage.{SalvagesFront};
 ghost use Rattle.vidi_io.specs.Cause.{Rose};
 ghost use Rattle.vidi_io.specs.Shelf.{Later, holding};
 ghost use Rattle.vidi_io.specs.Writing.{IsCutOff};
-ghost use Rattle.vidi_commands.specs.AnswerText.{text_of};
-ghost use Rattle.vidi_commands.specs.Ended.{EndsWith, IsStopped, Owes};
+ghost use Rattle.vidi_bench.specs.AnswerText.{text_of};
+ghost use Rattle.vidi_bench.specs.Ended.{EndsWith, IsStopped, Owes};
 ghost use Rattle.vidi_commands.specs.Said as said;
-ghost use Rattle.vidi_commands.specs.Steps.{IsSaid};
+ghost use Rattle.vidi_bench.specs.Steps.{IsSaid};
 ghost use Rattle.vidi_commands.specs.Traces.{IsHeaderless, Saves, StopsSaving};
 
-use crate::answer::{Answer, Ended, refused, with_bytes};
-use crate::read::read_file;
-use crate::status::{Reason, Status, Word};
 use report_text::{put, put_number};
 use std::alloc::Global;
 use trace_code::{CodeError, TRACE_LIMIT, Whole, end_mark, salvage_front};
+use vidi_bench::{Answer, Ended, Reason, Status, Word, read_file, refused, with_bytes};
 use vidi_bits::{Bytes, Memory};
 use vidi_io::{Failed, Shelf, write_whole};
 

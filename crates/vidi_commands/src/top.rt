@@ -5,11 +5,10 @@ ghost use Rattle.vidi_io.specs.Cause.{Rose};
 ghost use Rattle.vidi_io.specs.Shelf.{Later};
 ghost use Rattle.vidi_io.specs.Sink.{Frame};
 ghost use Rattle.vidi_commands.specs.Answer.{Answers, Earns, Says, Stops};
-ghost use Rattle.vidi_commands.specs.AnswerText.{text_of};
-ghost use Rattle.vidi_commands.specs.Ended.{Owes};
+ghost use Rattle.vidi_bench.specs.AnswerText.{text_of};
+ghost use Rattle.vidi_bench.specs.Ended.{Owes};
 ghost use Rattle.vidi_commands.specs.Said as said;
 
-use crate::answer::{Answer, Ended, usage};
 use crate::check::check;
 use crate::command::Command;
 use crate::compare::compare;
@@ -19,9 +18,9 @@ use crate::replay::replay;
 use crate::run::run;
 use crate::salvage::salvage;
 use crate::sample::sample;
-use crate::status::Status;
 use crate::wrap::wrap;
 use std::alloc::Global;
+use vidi_bench::{Answer, Ended, Status, usage};
 use vidi_io::{Failed, Shelf, Sink, Words};
 
 /// Does what the words ask for: reads and writes files of the shelf, and says its text to `out`.

@@ -6,23 +6,22 @@ ghost use Rattle.vidi_io.specs.Shelf.{Later, holding};
 ghost use Rattle.vidi_io.specs.Writing.{IsCutOff};
 ghost use Rattle.vlog_tree.specs.Plain.{plain};
 ghost use Rattle.shim_trees.specs.Laws.{IsMapIn};
-ghost use Rattle.vidi_commands.specs.AnswerText.{text_of};
-ghost use Rattle.vidi_commands.specs.Design.{text_limit, Building};
-ghost use Rattle.vidi_commands.specs.Devices.{Binding};
-ghost use Rattle.vidi_commands.specs.Ended.{EndsWith, IsStopped, Owes};
+ghost use Rattle.vidi_bench.specs.AnswerText.{text_of};
+ghost use Rattle.vidi_bench.specs.Design.{text_limit, Building};
+ghost use Rattle.vidi_bench.specs.Devices.{Binding};
+ghost use Rattle.vidi_bench.specs.Ended.{EndsWith, IsStopped, Owes};
 ghost use Rattle.vidi_commands.specs.Said as said;
-ghost use Rattle.vidi_commands.specs.Steps.{IsSaid, Never};
+ghost use Rattle.vidi_bench.specs.Steps.{IsSaid, Never};
 ghost use Rattle.vidi_commands.specs.Wraps.{IsFitted, IsPlanned, IsPlannedTexts, IsUnwritten, RefusedWrap, StopsWrapping, Wraps};
 
-use crate::answer::{Answer, Ended, with_bytes};
-use crate::design::file_of;
-use crate::device::{Device, built, map_text_of};
-use crate::read::{TEXT_LIMIT, read_file};
 use crate::shims::wrapped_text;
-use crate::status::{Status, Word};
 use chan_map::{Map, MapText, lawful_ports_have_widths};
 use report_text::{put, put_number};
 use std::alloc::Global;
+use vidi_bench::{
+    Answer, Device, Ended, Status, TEXT_LIMIT, Word, built, file_of, map_text_of, read_file,
+    with_bytes,
+};
 use vidi_bits::{Bytes, Memory};
 use vidi_io::{Failed, Shelf, write_whole};
 use vlog_tree::File;

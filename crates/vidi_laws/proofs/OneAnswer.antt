@@ -5,7 +5,7 @@ use Rattle.vidi_lines.specs.Number.{number_of}
 use Rattle.trace_code.specs.Decoding.{OnePlace, OneReading}
 use Rattle.trace_code.specs.Salvage.{OneSalvage}
 use Rattle.vidi_io.specs.Shelf.{Files}
-use Rattle.vidi_commands.specs.declared.status.Status.{Status}
+use Rattle.vidi_bench.specs.declared.status.Status.{Status}
 use Rattle.vidi_commands.specs.Command.{Command, Dump, Check, Run, Record, Replay, Compare, Salvage, Wrap, Sample, IsGiven}
 use Rattle.vidi_commands.specs.Answer.{Does}
 use Rattle.vidi_laws.specs.OneAnswer.{OneAnswer}

@@ -19,11 +19,11 @@ use Rattle.report_text.specs.declared.reason.Word.TheVariants as words
 use Rattle.report_text.specs.declared.reason.Reason.{Reason}
 use Rattle.report_text.specs.declared.reason.Reason.TheVariants.{Word, Deep, Item, Loop}
 use Rattle.report_text.specs.Reason.{reason_line}
-use Rattle.vidi_commands.specs.declared.status.Status.{Status}
-use Rattle.vidi_commands.specs.declared.status.Status.TheVariants.{Done, Refused}
-use Rattle.vidi_commands.specs.Steps.{Ending, IsRefusal, IsSaid, Step}
-use Rattle.vidi_commands.specs.Design.{text_limit, reason_of, line_of, IsNoWord, IsTooDeep, IsNoFile, IsFile, IsNoTree, IsNoText, Spells}
-use Rattle.vidi_commands.specs.Design.{IsRefusedFile, IsAccepted, IsLooped, Building, Spelling}
+use Rattle.vidi_bench.specs.declared.status.Status.{Status}
+use Rattle.vidi_bench.specs.declared.status.Status.TheVariants.{Done, Refused}
+use Rattle.vidi_bench.specs.Steps.{Ending, IsRefusal, IsSaid, Step}
+use Rattle.vidi_bench.specs.Design.{text_limit, reason_of, line_of, IsNoWord, IsTooDeep, IsNoFile, IsFile, IsNoTree, IsNoText, Spells}
+use Rattle.vidi_bench.specs.Design.{IsRefusedFile, IsAccepted, IsLooped, Building, Spelling}
 use Rattle.vidi_commands.specs.Checks.{Checked, Checks}
 use Rattle.vidi_laws.specs.OneAnswer.{NamesLoop}
 use Rattle.vidi_commands.specs.Said.{check_text}

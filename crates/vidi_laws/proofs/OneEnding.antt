@@ -4,11 +4,11 @@ use Rattle.std.specs.FinMap.{get}
 use Rattle.vidi_io.specs.Shelf.{Files}
 use Rattle.report_text.specs.declared.reason.Word.{Word}
 use Rattle.report_text.specs.declared.reason.Reason.TheVariants.{TooLong}
-use Rattle.vidi_commands.specs.declared.status.Status.{Status}
-use Rattle.vidi_commands.specs.declared.status.Status.TheVariants.{ReadFault, Refused}
+use Rattle.vidi_bench.specs.declared.status.Status.{Status}
+use Rattle.vidi_bench.specs.declared.status.Status.TheVariants.{ReadFault, Refused}
 use Rattle.report_text.specs.Reason.{reason_line, read_fault_line}
-use Rattle.vidi_commands.specs.Steps.{Ending, IsSaid, Step}
-use Rattle.vidi_commands.specs.Reading.{IsUnread, IsRead, Reading}
+use Rattle.vidi_bench.specs.Steps.{Ending, IsSaid, Step}
+use Rattle.vidi_bench.specs.Reading.{IsUnread, IsRead, Reading}
 use Rattle.vidi_laws.proofs.Told.{both, there}
 
 -- ---- what two answers have in common

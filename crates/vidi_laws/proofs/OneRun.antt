@@ -8,8 +8,8 @@ use Rattle.env_script.proofs.Lasting.{script-lasts}
 use Rattle.bench_run.proofs.PlainLaws.{one-plain_run}
 use Rattle.replay_run.proofs.Outcomes.{one-outcome}
 use Rattle.vidi_recorder.proofs.ScriptKept.{one-script_run}
-use Rattle.vidi_commands.specs.declared.device.Device.{Device}
-use Rattle.vidi_commands.specs.Devices.{IsDevice}
+use Rattle.vidi_bench.specs.declared.device.Device.{Device}
+use Rattle.vidi_bench.specs.Devices.{IsDevice}
 use Rattle.vidi_laws.specs.OneRun.{OneRecording, OnePrintedRun, OneReplayOfFiles}
 use Rattle.vidi_laws.proofs.SameReplay.{fits}
 

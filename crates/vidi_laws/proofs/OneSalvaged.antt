@@ -10,8 +10,8 @@ use Rattle.trace_code.specs.Salvage.{Salvages, OneSalvage}
 use Rattle.vidi_io.specs.Shelf.{Files, holding}
 use Rattle.report_text.specs.declared.reason.Word.TheVariants as words
 use Rattle.report_text.specs.declared.reason.Reason.TheVariants.{BadTrace}
-use Rattle.vidi_commands.specs.declared.status.Status.{Status}
-use Rattle.vidi_commands.specs.declared.status.Status.TheVariants.{Refused}
+use Rattle.vidi_bench.specs.declared.status.Status.{Status}
+use Rattle.vidi_bench.specs.declared.status.Status.TheVariants.{Refused}
 use Rattle.report_text.specs.Reason.{reason_line}
 use Rattle.vidi_commands.specs.Said.{salvaged_line}
 use Rattle.vidi_commands.specs.Traces.{trace_limit, IsUnsaved, IsWhole, Saves}

@@ -11,11 +11,11 @@ use Rattle.vidi_io.specs.Shelf.{Files}
 use Rattle.report_text.specs.declared.reason.Word.{Word}
 use Rattle.report_text.specs.declared.reason.Word.TheVariants as words
 use Rattle.report_text.specs.declared.reason.Reason.TheVariants.{BadTrace, OtherChannels}
-use Rattle.vidi_commands.specs.declared.status.Status.TheVariants.{Done, Refused, Diverged}
+use Rattle.vidi_bench.specs.declared.status.Status.TheVariants.{Done, Refused, Diverged}
 use Rattle.report_text.specs.Reason.{reason_line}
-use Rattle.vidi_commands.specs.Reading.{Reading}
+use Rattle.vidi_bench.specs.Reading.{Reading}
 use Rattle.vidi_commands.specs.Said.{dump_text, no_divergence_line, diverged_text}
-use Rattle.vidi_commands.specs.Steps.{Ending, IsRefusal, IsSaid}
+use Rattle.vidi_bench.specs.Steps.{Ending, IsRefusal, IsSaid}
 use Rattle.vidi_commands.specs.Traces.{trace_limit, IsNoTrace, Decoding, Dumps, HasOtherChannels, IsVerdict, Compared, ComparedFiles, Compares}
 use Rattle.vidi_laws.proofs.OneEnding.{Same, One, one-said, one-step-by, one-reading}
 

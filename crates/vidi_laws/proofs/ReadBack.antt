@@ -6,7 +6,7 @@ use Rattle.vlog_tree.specs.Tree.{FileOf}
 use Rattle.vlog_tree.specs.Lines.{bare}
 use Rattle.vlog_parse.specs.Parsing.{IsFileOf, LinedFilesAreFiles, OneFile}
 use Rattle.shim_trees.specs.Wrapped.{wrapped}
-use Rattle.vidi_commands.specs.Design.{Spells}
+use Rattle.vidi_bench.specs.Design.{Spells}
 use Rattle.vidi_commands.specs.Shims.{file_text, IsReadAs}
 use Rattle.vidi_laws.specs.Headline.{WrappedIsReadBack}
 

@@ -13,13 +13,13 @@ use Rattle.vidi_io.specs.Shelf.{Files}
 use Rattle.report_text.specs.declared.reason.Word.TheVariants as words
 use Rattle.report_text.specs.declared.reason.Reason.{Reason}
 use Rattle.report_text.specs.Reason.{reason_line}
-use Rattle.vidi_commands.specs.declared.bench.Bench.{Bench}
-use Rattle.vidi_commands.specs.declared.status.Status.{Status}
-use Rattle.vidi_commands.specs.declared.status.Status.TheVariants.{Refused}
-use Rattle.vidi_commands.specs.Steps.{Ending, IsRefusal}
-use Rattle.vidi_commands.specs.Reading.{IsRead, Reading}
-use Rattle.vidi_commands.specs.Design.{text_limit}
-use Rattle.vidi_commands.specs.Benches.{script_reason, IsScriptRefusal, IsNoScript, ReadTexts, RefusedTexts, IsBench}
+use Rattle.vidi_bench.specs.declared.bench.Bench.{Bench}
+use Rattle.vidi_bench.specs.declared.status.Status.{Status}
+use Rattle.vidi_bench.specs.declared.status.Status.TheVariants.{Refused}
+use Rattle.vidi_bench.specs.Steps.{Ending, IsRefusal}
+use Rattle.vidi_bench.specs.Reading.{IsRead, Reading}
+use Rattle.vidi_bench.specs.Design.{text_limit}
+use Rattle.vidi_bench.specs.Benches.{script_reason, IsScriptRefusal, IsNoScript, ReadTexts, RefusedTexts, IsBench}
 use Rattle.vidi_laws.proofs.OneEnding.{Same, Meet, Apart, One, OneBy, one-said, one-reading-by, reading-apart}
 use Rattle.vidi_laws.proofs.OneCheck.{Alike, alike}
 use Rattle.vidi_laws.proofs.SameDevice.{DeviceLaws, SameDevice, one-wiring, same-device, wiring-apart}

@@ -25,12 +25,12 @@ use Rattle.vidi_laws.specs.Alike.{BuiltAlike}
 use Rattle.report_text.specs.declared.reason.Word.TheVariants as words
 use Rattle.report_text.specs.declared.reason.Reason.{Reason}
 use Rattle.report_text.specs.Reason.{reason_line}
-use Rattle.vidi_commands.specs.declared.device.Device.{Device}
-use Rattle.vidi_commands.specs.declared.status.Status.{Status}
-use Rattle.vidi_commands.specs.declared.status.Status.TheVariants.{Refused}
-use Rattle.vidi_commands.specs.Steps.{Ending, IsRefusal}
-use Rattle.vidi_commands.specs.Design.{IsAccepted, Building}
-use Rattle.vidi_commands.specs.Devices.{map_reason, Binding, IsDevice, IsMapRefusal, IsNoMap, IsUnbound, Mapping, Wiring}
+use Rattle.vidi_bench.specs.declared.device.Device.{Device}
+use Rattle.vidi_bench.specs.declared.status.Status.{Status}
+use Rattle.vidi_bench.specs.declared.status.Status.TheVariants.{Refused}
+use Rattle.vidi_bench.specs.Steps.{Ending, IsRefusal}
+use Rattle.vidi_bench.specs.Design.{IsAccepted, Building}
+use Rattle.vidi_bench.specs.Devices.{map_reason, Binding, IsDevice, IsMapRefusal, IsNoMap, IsUnbound, Mapping, Wiring}
 use Rattle.vidi_laws.proofs.OneEnding.{Same, Meet, Apart, One, OneBy, one-said, one-step-by, step-meets}
 use Rattle.vidi_laws.proofs.OneCheck.{TextLaws, Alike, alike, one-spelled, text-apart, one-spelling, file-apart, looped-apart, one-building}
 

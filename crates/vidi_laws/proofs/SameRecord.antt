@@ -24,13 +24,13 @@ use Rattle.vidi_recorder.specs.Course.{Course, GatesUnder, course, plan_of, size
 use Rattle.report_text.specs.declared.reason.Word.TheVariants as words
 use Rattle.report_text.specs.declared.reason.Reason.TheVariants.{StallLine, TooSmall}
 use Rattle.report_text.specs.Reason.{reason_line}
-use Rattle.vidi_commands.specs.declared.bench.Bench.{Bench}
-use Rattle.vidi_commands.specs.declared.status.Status.{Status}
-use Rattle.vidi_commands.specs.declared.status.Status.TheVariants.{Done, Refused, Unstable}
-use Rattle.vidi_commands.specs.Steps.{IsRefusal}
-use Rattle.vidi_commands.specs.Reading.{Reading}
-use Rattle.vidi_commands.specs.Benches.{RefusedTexts, IsBench}
-use Rattle.vidi_commands.specs.Design.{text_limit}
+use Rattle.vidi_bench.specs.declared.bench.Bench.{Bench}
+use Rattle.vidi_bench.specs.declared.status.Status.{Status}
+use Rattle.vidi_bench.specs.declared.status.Status.TheVariants.{Done, Refused, Unstable}
+use Rattle.vidi_bench.specs.Steps.{IsRefusal}
+use Rattle.vidi_bench.specs.Reading.{Reading}
+use Rattle.vidi_bench.specs.Benches.{RefusedTexts, IsBench}
+use Rattle.vidi_bench.specs.Design.{text_limit}
 use Rattle.vidi_commands.specs.Records.{IsNoPlan, IsTooSmall, RefusedPlan, RefusedPlanned}
 use Rattle.vidi_commands.specs.Records.{IsUnrecorded, IsPlanned, IsRecorded, RecordsRun, Records, course_of}
 use Rattle.vidi_commands.specs.Said.{recorded_line, unstable_line}

@@ -23,12 +23,12 @@ use Rattle.replay_run.specs.Replaying.{EndsAs}
 use Rattle.vidi_io.specs.Shelf.{Files, holding}
 use Rattle.report_text.specs.Short.{short_lines}
 use Rattle.report_text.specs.declared.reason.Word.TheVariants as words
-use Rattle.vidi_commands.specs.declared.device.Device.{Device}
-use Rattle.vidi_commands.specs.declared.status.Status.{Status}
-use Rattle.vidi_commands.specs.declared.status.Status.TheVariants.{Short, Unstable}
-use Rattle.vidi_commands.specs.Design.{text_limit}
-use Rattle.vidi_commands.specs.Devices.{IsDevice}
-use Rattle.vidi_commands.specs.Reading.{Reading}
+use Rattle.vidi_bench.specs.declared.device.Device.{Device}
+use Rattle.vidi_bench.specs.declared.status.Status.{Status}
+use Rattle.vidi_bench.specs.declared.status.Status.TheVariants.{Short, Unstable}
+use Rattle.vidi_bench.specs.Design.{text_limit}
+use Rattle.vidi_bench.specs.Devices.{IsDevice}
+use Rattle.vidi_bench.specs.Reading.{Reading}
 use Rattle.vidi_commands.specs.Replays.{IsReplayable, IsReplaySaid, IsUnreplayed, RefusedReplay, RefusedTrace, Replays, ReplaysTrace}
 use Rattle.vidi_commands.specs.Said.{replayed_line, unstable_line}
 use Rattle.vidi_commands.specs.Traces.{trace_limit, HasOtherChannels}

@@ -11,9 +11,9 @@ use Rattle.env_script.specs.Offered.{offers_after}
 use Rattle.bench_run.specs.Plain.{channel_of}
 use Rattle.vidi_io.specs.Shelf.{Files}
 use Rattle.report_text.specs.Rows.{run_text}
-use Rattle.vidi_commands.specs.declared.bench.Bench.{Bench}
-use Rattle.vidi_commands.specs.declared.status.Status.TheVariants.{Done, Unstable}
-use Rattle.vidi_commands.specs.Benches.{RefusedTexts, IsBench}
+use Rattle.vidi_bench.specs.declared.bench.Bench.{Bench}
+use Rattle.vidi_bench.specs.declared.status.Status.TheVariants.{Done, Unstable}
+use Rattle.vidi_bench.specs.Benches.{RefusedTexts, IsBench}
 use Rattle.vidi_commands.specs.Runs.{IsEnded, IsPlayed, RunTexts, Runs}
 use Rattle.vidi_commands.specs.Said.{cycles_line, unstable_line}
 use Rattle.vidi_laws.proofs.OneEnding.{Same, Meet, OneBy, one-said, step-meets}

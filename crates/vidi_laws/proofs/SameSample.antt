@@ -12,11 +12,11 @@ use Rattle.sample_gen.specs.declared.files.Sample.{Sample}
 use Rattle.sample_gen.specs.Sample.{sample}
 use Rattle.script_text.specs.declared.stalls.Stalls.{Stalls}
 use Rattle.vidi_recorder.specs.Course.{Course, IsTheRunOf}
-use Rattle.vidi_commands.specs.declared.bench.Bench.{Bench}
-use Rattle.vidi_commands.specs.declared.device.Device.{Device}
+use Rattle.vidi_bench.specs.declared.bench.Bench.{Bench}
+use Rattle.vidi_bench.specs.declared.device.Device.{Device}
 use Rattle.vidi_commands.specs.declared.sample.Figures.{Figures}
-use Rattle.vidi_commands.specs.declared.status.Status.{Status}
-use Rattle.vidi_commands.specs.declared.status.Status.TheVariants.{Done, Diverged}
+use Rattle.vidi_bench.specs.declared.status.Status.{Status}
+use Rattle.vidi_bench.specs.declared.status.Status.TheVariants.{Done, Diverged}
 use Rattle.vidi_commands.specs.Records.{IsRecorded}
 use Rattle.vidi_commands.specs.Replays.{IsTheReplay}
 use Rattle.vidi_commands.specs.Said.{diverged_text, sample_line}

@@ -13,17 +13,17 @@ use Rattle.vidi_io.specs.Shelf.{Files}
 use Rattle.report_text.specs.declared.reason.Word.TheVariants as words
 use Rattle.report_text.specs.declared.reason.Reason.TheVariants as reasons
 use Rattle.report_text.specs.Reason.{reason_line}
-use Rattle.vidi_commands.specs.declared.device.Device.{Device}
-use Rattle.vidi_commands.specs.declared.status.Status.{Status}
-use Rattle.vidi_commands.specs.declared.status.Status.TheVariants.{Done, Refused}
-use Rattle.vidi_commands.specs.Design.{text_limit}
-use Rattle.vidi_commands.specs.Devices.{IsDevice, Mapping}
-use Rattle.vidi_commands.specs.Reading.{Reading}
+use Rattle.vidi_bench.specs.declared.device.Device.{Device}
+use Rattle.vidi_bench.specs.declared.status.Status.{Status}
+use Rattle.vidi_bench.specs.declared.status.Status.TheVariants.{Done, Refused}
+use Rattle.vidi_bench.specs.Design.{text_limit}
+use Rattle.vidi_bench.specs.Devices.{IsDevice, Mapping}
+use Rattle.vidi_bench.specs.Reading.{Reading}
 use Rattle.vidi_commands.specs.Said.{wrapped_line}
 use Rattle.vlog_elab.specs.Errors.{number_of}
 use Rattle.vidi_commands.specs.Shims.{file_text, record_name, replay_name, IsClearTop, IsClearTree, IsDeepTree, IsFaulty}
 use Rattle.vidi_commands.specs.Shims.{IsFaultyTop, IsFaultyTree, IsRefusedTop, IsUnwrapped, IsWrapped}
-use Rattle.vidi_commands.specs.Steps.{IsRefusal}
+use Rattle.vidi_bench.specs.Steps.{IsRefusal}
 use Rattle.vidi_commands.specs.Wraps.{IsUnwritten, IsWrappable, IsWrapping, RefusedWrap, Wraps, WrapsFile}
 use Rattle.vidi_laws.proofs.OneEnding.{One, OneBy, one-said, one-read, one-reading-by, reading-apart}
 use Rattle.vidi_laws.proofs.OneCheck.{TextLaws, Alike, alike, one-spelled, one-spelling, text-apart}

@@ -34,10 +34,10 @@ use Rattle.bench_run.specs.Plain.{spot_behind, IsPlainRun}
 use Rattle.vidi_recorder.specs.Course.{plan_of, sizes_of, IsRunOf, IsTheRunOf}
 use Rattle.vidi_recorder.specs.Laws.{IsKept}
 use Rattle.vidi_recorder.specs.ScriptLaws.{DrainsAll}
-use Rattle.vidi_commands.specs.declared.bench.Bench.{Bench}
-use Rattle.vidi_commands.specs.declared.device.Device.{Device}
-use Rattle.vidi_commands.specs.Benches.{IsBench}
-use Rattle.vidi_commands.specs.Design.{Spells}
+use Rattle.vidi_bench.specs.declared.bench.Bench.{Bench}
+use Rattle.vidi_bench.specs.declared.device.Device.{Device}
+use Rattle.vidi_bench.specs.Benches.{IsBench}
+use Rattle.vidi_bench.specs.Design.{Spells}
 use Rattle.vidi_commands.specs.Records.{course_of, IsPlanned}
 use Rattle.vidi_commands.specs.Replays.{IsReplayable, IsTheReplay}
 use Rattle.vidi_commands.specs.Shims.{file_text}

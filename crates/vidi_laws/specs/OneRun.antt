@@ -10,9 +10,9 @@ use Rattle.script_text.specs.declared.stalls.Stalls.{Stalls}
 use Rattle.bench_run.specs.Laws.{OneAnswerOf}
 use Rattle.bench_run.specs.Plain.{IsRunAllUp}
 use Rattle.vidi_recorder.specs.Course.{IsRunOf, IsTheRunOf}
-use Rattle.vidi_commands.specs.declared.bench.Bench.{Bench}
-use Rattle.vidi_commands.specs.declared.device.Device.{Device}
-use Rattle.vidi_commands.specs.Benches.{IsBench}
+use Rattle.vidi_bench.specs.declared.bench.Bench.{Bench}
+use Rattle.vidi_bench.specs.declared.device.Device.{Device}
+use Rattle.vidi_bench.specs.Benches.{IsBench}
 use Rattle.vidi_commands.specs.Records.{course_of, IsPlanned}
 use Rattle.vidi_commands.specs.Replays.{IsReplayable, IsTheReplay}
 

@@ -1,8 +1,8 @@
 use Rattle.std.proofs.Common.{ℕ, List, inr}
 use Rattle.vidi_io.specs.Cause.{Rose}
 use Rattle.vidi_commands.specs.Checks.{Checked, Checks}
-use Rattle.vidi_commands.specs.Ended.{IsAnswered}
-use Rattle.vidi_commands.proofs.Chain.{all-answered}
+use Rattle.vidi_bench.specs.Ended.{IsAnswered}
+use Rattle.vidi_bench.proofs.Chain.{all-answered}
 use Rattle.vidi_commands.proofs.check.check.Goals as goal
 
 pub returns-clause-answered : goal.returns-clause-answered

@@ -5,10 +5,10 @@ use Rattle.net_design.specs.Lawful.{counts}
 use Rattle.std.specs.Prelude.{◌≡◌}
 use Rattle.vlog_tree.specs.Plain.{plain}
 use Rattle.vidi_commands.specs.Checks.{Checked}
-use Rattle.vidi_commands.specs.Design.{IsAccepted, IsLooped, IsRefusedFile}
-use Rattle.vidi_commands.specs.Ended.{EndsWith}
+use Rattle.vidi_bench.specs.Design.{IsAccepted, IsLooped, IsRefusedFile}
+use Rattle.vidi_bench.specs.Ended.{EndsWith}
 use Rattle.vidi_commands.specs.Said.{check_text}
-use Rattle.vidi_commands.proofs.Chain.{answered-as}
+use Rattle.vidi_bench.proofs.Chain.{answered-as}
 use Rattle.vidi_commands.proofs.check.checked.Goals as goal
 
 pub returns-in_err-design : goal.returns-in_err-design

@@ -1,10 +1,10 @@
 use Rattle.std.proofs.Common.{ℕ, List, inl, inr}
 use Rattle.vidi_io.specs.Cause.{Rose}
 use Rattle.report_text.specs.declared.reason.Word.TheVariants as words
-use Rattle.vidi_commands.specs.Ended.{IsAnswered}
-use Rattle.vidi_commands.specs.Reading.{IsUnread}
+use Rattle.vidi_bench.specs.Ended.{IsAnswered}
+use Rattle.vidi_bench.specs.Reading.{IsUnread}
 use Rattle.vidi_commands.specs.Traces.{trace_limit, Compares, ComparedFiles}
-use Rattle.vidi_commands.proofs.Chain.{all-answered, answered-as, read-as, rose-since, unread-as}
+use Rattle.vidi_bench.proofs.Chain.{all-answered, answered-as, read-as, rose-since, unread-as}
 use Rattle.vidi_commands.proofs.compare.compare.Goals as goal
 
 pub returns-in_err-second-clause-answered : goal.returns-in_err-second-clause-answered

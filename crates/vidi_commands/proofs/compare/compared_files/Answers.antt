@@ -1,7 +1,7 @@
 use Rattle.std.proofs.Common.{inl, inr}
 use Rattle.report_text.specs.declared.reason.Word.TheVariants as words
 use Rattle.vidi_commands.specs.Traces.{ComparedFiles, IsNoTrace}
-use Rattle.vidi_commands.proofs.Chain.{answered-as}
+use Rattle.vidi_bench.proofs.Chain.{answered-as}
 use Rattle.vidi_commands.proofs.compare.compared_files.Goals as goal
 
 pub returns-in_err-other : goal.returns-in_err-other

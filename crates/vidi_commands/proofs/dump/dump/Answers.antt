@@ -1,9 +1,9 @@
 use Rattle.std.proofs.Common.{ℕ, List, inl, inr}
 use Rattle.vidi_io.specs.Cause.{Rose}
 use Rattle.report_text.specs.declared.reason.Word.TheVariants as words
-use Rattle.vidi_commands.specs.Ended.{EndsWith}
+use Rattle.vidi_bench.specs.Ended.{EndsWith}
 use Rattle.vidi_commands.specs.Traces.{Dumps, IsNoTrace}
-use Rattle.vidi_commands.proofs.Chain.{answered-as}
+use Rattle.vidi_bench.proofs.Chain.{answered-as}
 use Rattle.vidi_commands.proofs.dump.dump.Goals as goal
 
 pub returns-in_err-trace-clause-answered : goal.returns-in_err-trace-clause-answered

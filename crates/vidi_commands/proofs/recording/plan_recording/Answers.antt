@@ -4,13 +4,13 @@ use Rattle.vidi_io.specs.Cause.{Rose}
 use Rattle.report_text.specs.declared.reason.Word.TheVariants as words
 use Rattle.script_text.specs.Reasons.{read_lines}
 use Rattle.script_text.specs.Stalls.{ReadsStalls}
-use Rattle.vidi_commands.specs.Benches.{ReadTexts}
-use Rattle.vidi_commands.specs.Design.{text_limit}
-use Rattle.vidi_commands.specs.Ended.{EndsWith}
-use Rattle.vidi_commands.specs.Reading.{IsUnread, Reading}
+use Rattle.vidi_bench.specs.Benches.{ReadTexts}
+use Rattle.vidi_bench.specs.Design.{text_limit}
+use Rattle.vidi_bench.specs.Ended.{EndsWith}
+use Rattle.vidi_bench.specs.Reading.{IsUnread, Reading}
 use Rattle.vidi_commands.specs.Records.{IsUnrecorded, RefusedPlanned}
-use Rattle.vidi_commands.specs.Steps.{Never}
-use Rattle.vidi_commands.proofs.Chain.{all-as, passed-as, read-as, rose-since, unread-as}
+use Rattle.vidi_bench.specs.Steps.{Never}
+use Rattle.vidi_bench.proofs.Chain.{all-as, passed-as, read-as, rose-since, unread-as}
 use Rattle.vidi_commands.proofs.Texts.{never-read, plan-said}
 use Rattle.vidi_commands.proofs.recording.plan_recording.Goals as goal
 

@@ -1,7 +1,7 @@
 use Rattle.std.proofs.Common.{inl, inr}
-use Rattle.vidi_commands.specs.Benches.{RefusedTexts}
+use Rattle.vidi_bench.specs.Benches.{RefusedTexts}
 use Rattle.vidi_commands.specs.Records.{IsNoPlan, IsTooSmall, RefusedPlanned}
-use Rattle.vidi_commands.proofs.Chain.{passed-as}
+use Rattle.vidi_bench.proofs.Chain.{passed-as}
 use Rattle.vidi_commands.proofs.recording.plan_texts.Goals as goal
 
 pub returns-in_err-bench-clause-refused : goal.returns-in_err-bench-clause-refused

@@ -1,7 +1,7 @@
 use Rattle.std.proofs.Common.{◌≡◌, ℕ, List, inl, ◌∙◌}
 use Rattle.vidi_io.specs.Cause.{Rose}
 use Rattle.vidi_commands.specs.Records.{IsUnrecorded, Records, StopsRecording}
-use Rattle.vidi_commands.proofs.Chain.{passed-owed, rose-since}
+use Rattle.vidi_bench.proofs.Chain.{passed-owed, rose-since}
 use Rattle.vidi_commands.proofs.Recorded.{recorded-owed}
 use Rattle.vidi_commands.proofs.recording.record.Goals as goal
 

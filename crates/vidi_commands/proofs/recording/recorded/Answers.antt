@@ -1,4 +1,4 @@
-use Rattle.vidi_commands.specs.AnswerText.{text_of}
+use Rattle.vidi_bench.specs.AnswerText.{text_of}
 use Rattle.vidi_commands.specs.Records.{course_of}
 use Rattle.vidi_commands.proofs.Recorded.{told-recorded}
 use Rattle.vidi_commands.proofs.recording.recorded.Goals as goal

@@ -2,13 +2,13 @@ use Rattle.std.proofs.Common.{◌≡◌, ℕ, List, inl, inr, ◌∙◌}
 use Rattle.std.specs.Prelude.{IfOk, IfErr}
 use Rattle.vidi_io.specs.Cause.{Rose}
 use Rattle.report_text.specs.declared.reason.Word.TheVariants as words
-use Rattle.vidi_commands.specs.Design.{text_limit}
-use Rattle.vidi_commands.specs.Devices.{IsDevice}
-use Rattle.vidi_commands.specs.Ended.{EndsWith}
-use Rattle.vidi_commands.specs.Reading.{IsUnread}
+use Rattle.vidi_bench.specs.Design.{text_limit}
+use Rattle.vidi_bench.specs.Devices.{IsDevice}
+use Rattle.vidi_bench.specs.Ended.{EndsWith}
+use Rattle.vidi_bench.specs.Reading.{IsUnread}
 use Rattle.vidi_commands.specs.Replays.{IsUnreplayed, RefusedReplay}
 use Rattle.vidi_commands.specs.Traces.{trace_limit}
-use Rattle.vidi_commands.proofs.Chain.{all-as, passed-as, read-as, rose-since, unread-as}
+use Rattle.vidi_bench.proofs.Chain.{all-as, passed-as, read-as, rose-since, unread-as}
 use Rattle.vidi_commands.proofs.Replayed.{bytes-encode, replayable-said}
 use Rattle.vidi_commands.proofs.replay.plan_replay.Goals as goal
 

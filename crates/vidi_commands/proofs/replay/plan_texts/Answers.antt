@@ -1,9 +1,9 @@
-use Rattle.vidi_commands.specs.Devices.{Wiring}
-use Rattle.vidi_commands.specs.Ended.{EndsWith}
+use Rattle.vidi_bench.specs.Devices.{Wiring}
+use Rattle.vidi_bench.specs.Ended.{EndsWith}
 use Rattle.vidi_commands.specs.Replays.{RefusedReplay, RefusedTrace}
-use Rattle.vidi_commands.specs.Steps.{Never}
-use Rattle.vidi_commands.proofs.Chain.{passed-as}
-use Rattle.vidi_commands.proofs.Wired.{never-wired, wired-then}
+use Rattle.vidi_bench.specs.Steps.{Never}
+use Rattle.vidi_bench.proofs.Chain.{passed-as}
+use Rattle.vidi_bench.proofs.Wired.{never-wired, wired-then}
 use Rattle.vidi_commands.proofs.replay.plan_texts.Goals as goal
 
 pub returns-in_err-device-clause-refused : goal.returns-in_err-device-clause-refused

@@ -1,7 +1,7 @@
 use Rattle.std.proofs.Common.{◌≡◌, ℕ, List, inl, ◌∙◌}
 use Rattle.vidi_io.specs.Cause.{Rose}
 use Rattle.vidi_commands.specs.Replays.{IsUnreplayed, Replays, StopsReplaying}
-use Rattle.vidi_commands.proofs.Chain.{passed-owed, rose-since}
+use Rattle.vidi_bench.proofs.Chain.{passed-owed, rose-since}
 use Rattle.vidi_commands.proofs.Replayed.{replayed-owed}
 use Rattle.vidi_commands.proofs.replay.replay.Goals as goal
 

@@ -1,9 +1,9 @@
 use Rattle.std.proofs.Common.{ℕ, List, inl, inr}
 use Rattle.vidi_io.specs.Cause.{Rose}
-use Rattle.vidi_commands.specs.Benches.{ReadTexts, RefusedTexts}
+use Rattle.vidi_bench.specs.Benches.{ReadTexts, RefusedTexts}
 use Rattle.vidi_commands.specs.Runs.{Runs, RunTexts}
-use Rattle.vidi_commands.specs.Steps.{Never}
-use Rattle.vidi_commands.proofs.Chain.{answered-as}
+use Rattle.vidi_bench.specs.Steps.{Never}
+use Rattle.vidi_bench.proofs.Chain.{answered-as}
 use Rattle.vidi_commands.proofs.Texts.{never-read}
 use Rattle.vidi_commands.proofs.run.run.Goals as goal
 

@@ -2,10 +2,10 @@ use Rattle.std.proofs.Common.{◌≡◌, ℕ, List, Ok, inl, inr, ◌∙◌}
 use Rattle.vidi_io.specs.Cause.{Rose}
 use Rattle.report_text.specs.declared.reason.Word.TheVariants as words
 use Rattle.trace_code.specs.Salvage.{SalvagesFront}
-use Rattle.vidi_commands.specs.Ended.{EndsWith}
-use Rattle.vidi_commands.specs.Reading.{IsUnread}
+use Rattle.vidi_bench.specs.Ended.{EndsWith}
+use Rattle.vidi_bench.specs.Reading.{IsUnread}
 use Rattle.vidi_commands.specs.Traces.{trace_limit, IsHeaderless, Saves, StopsSaving}
-use Rattle.vidi_commands.proofs.Chain.{passed-owed, rose-since}
+use Rattle.vidi_bench.proofs.Chain.{passed-owed, rose-since}
 use Rattle.vidi_commands.proofs.Saved.{saved-owed}
 use Rattle.vidi_commands.proofs.salvage.salvage.Goals as goal
 

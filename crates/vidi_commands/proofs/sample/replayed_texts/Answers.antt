@@ -1,11 +1,11 @@
 use Rattle.std.proofs.Common.{inl, inr}
-use Rattle.vidi_commands.specs.Devices.{IsDevice, Wiring}
-use Rattle.vidi_commands.specs.Ended.{EndsWith}
+use Rattle.vidi_bench.specs.Devices.{IsDevice, Wiring}
+use Rattle.vidi_bench.specs.Ended.{EndsWith}
 use Rattle.vidi_commands.specs.Replays.{RefusedTrace}
 use Rattle.vidi_commands.specs.Samples.{SamplesReplay}
-use Rattle.vidi_commands.specs.Steps.{Never}
-use Rattle.vidi_commands.proofs.Chain.{answered-as}
-use Rattle.vidi_commands.proofs.Wired.{never-wired, wired-then}
+use Rattle.vidi_bench.specs.Steps.{Never}
+use Rattle.vidi_bench.proofs.Chain.{answered-as}
+use Rattle.vidi_bench.proofs.Wired.{never-wired, wired-then}
 use Rattle.vidi_commands.proofs.sample.replayed_texts.Goals as goal
 
 pub returns-in_err-device : goal.returns-in_err-device

@@ -1,6 +1,6 @@
 use Rattle.std.proofs.Common.{sym, subst}
 use Rattle.sample_gen.specs.declared.files.Sample.{Sample}
-use Rattle.vidi_commands.specs.Ended.{IsAnswered}
+use Rattle.vidi_bench.specs.Ended.{IsAnswered}
 use Rattle.vidi_commands.specs.Sampled.{AreShort}
 use Rattle.vidi_commands.specs.Samples.{SamplesFiles}
 use Rattle.vidi_commands.proofs.SampleTexts.{texts_short}

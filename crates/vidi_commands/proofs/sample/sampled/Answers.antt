@@ -1,8 +1,8 @@
 use Rattle.std.proofs.Common.{inl, inr}
-use Rattle.vidi_commands.specs.Ended.{EndsWith}
+use Rattle.vidi_bench.specs.Ended.{EndsWith}
 use Rattle.vidi_commands.specs.Sampled.{trace_on, HasTrace}
 use Rattle.vidi_commands.specs.Samples.{figures, IsTraced, IsUntraced, SamplesFiles, SamplesReplay}
-use Rattle.vidi_commands.proofs.Chain.{all-answered, answered-as}
+use Rattle.vidi_bench.proofs.Chain.{all-answered, answered-as}
 use Rattle.vidi_commands.proofs.Sampled.{some-at, some-there}
 use Rattle.vidi_commands.proofs.sample.sampled.Goals as goal
 

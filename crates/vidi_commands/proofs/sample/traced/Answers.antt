@@ -2,7 +2,7 @@ use Rattle.std.proofs.Common.{inl}
 use Rattle.vidi_commands.specs.Records.{course_of, RefusedPlanned}
 use Rattle.vidi_commands.specs.Sampled.{IsUnstable}
 use Rattle.vidi_commands.specs.Samples.{IsUntraced}
-use Rattle.vidi_commands.proofs.Chain.{all-as, passed-as}
+use Rattle.vidi_bench.proofs.Chain.{all-as, passed-as}
 use Rattle.vidi_commands.proofs.Sampled.{traced-all, unstable-texts}
 use Rattle.vidi_commands.proofs.sample.traced.Goals as goal
 

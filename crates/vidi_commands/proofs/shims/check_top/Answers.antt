@@ -1,7 +1,7 @@
 use Rattle.std.proofs.Common.{inl, inr}
 use Rattle.vlog_tree.specs.Plain.{plain}
 use Rattle.vidi_commands.specs.Shims.{IsFaultyTop, IsLoopedTop, IsRefusedTop}
-use Rattle.vidi_commands.proofs.Chain.{all-as, passed-as}
+use Rattle.vidi_bench.proofs.Chain.{all-as, passed-as}
 use Rattle.vidi_commands.proofs.shims.check_top.Goals as goal
 
 pub returns-in_err-design-clause-refused : goal.returns-in_err-design-clause-refused

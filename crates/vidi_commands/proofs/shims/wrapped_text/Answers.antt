@@ -1,7 +1,7 @@
 use Rattle.std.proofs.Common.{inl}
 use Rattle.vlog_tree.specs.Plain.{plain}
 use Rattle.vidi_commands.specs.Shims.{IsFaultyTree, IsLong, IsReserved, IsUnwrapped}
-use Rattle.vidi_commands.proofs.Chain.{all-as, passed-as}
+use Rattle.vidi_bench.proofs.Chain.{all-as, passed-as}
 use Rattle.vidi_commands.proofs.Spelled.{faulty-unwrapped, long-unwrapped, text-said, wrapped-ok}
 use Rattle.vidi_commands.proofs.shims.wrapped_text.Goals as goal
 

@@ -9,7 +9,7 @@ use Rattle.vidi_commands.specs.Runs.{Runs}
 use Rattle.vidi_commands.specs.Samples.{Samples}
 use Rattle.vidi_commands.specs.Traces.{Compares, Dumps, Saves, StopsSaving}
 use Rattle.vidi_commands.specs.Wraps.{StopsWrapping, Wraps}
-use Rattle.vidi_commands.proofs.Chain.{owed, owed-as}
+use Rattle.vidi_bench.proofs.Chain.{owed, owed-as}
 use Rattle.vidi_commands.proofs.top.answer_to.Goals as goal
 
 pub returns-in-Some-Dump-clause-owed : goal.returns-in-Some-Dump-clause-owed

@@ -1,8 +1,8 @@
 use Rattle.vlog_tree.specs.Plain.{plain}
-use Rattle.vidi_commands.specs.Design.{Building}
-use Rattle.vidi_commands.specs.Devices.{Binding}
-use Rattle.vidi_commands.specs.Steps.{Never}
-use Rattle.vidi_commands.proofs.Chain.{passed-as}
+use Rattle.vidi_bench.specs.Design.{Building}
+use Rattle.vidi_bench.specs.Devices.{Binding}
+use Rattle.vidi_bench.specs.Steps.{Never}
+use Rattle.vidi_bench.proofs.Chain.{passed-as}
 use Rattle.vidi_commands.proofs.Fitted.{map_in}
 use Rattle.vidi_commands.proofs.wrap.fitted.Goals as goal
 

@@ -1,11 +1,11 @@
 use Rattle.std.proofs.Common.{inl, inr}
 use Rattle.vlog_tree.specs.Plain.{plain}
-use Rattle.vidi_commands.specs.Design.{Building, IsNoText}
-use Rattle.vidi_commands.specs.Devices.{Binding, IsNoMap}
+use Rattle.vidi_bench.specs.Design.{Building, IsNoText}
+use Rattle.vidi_bench.specs.Devices.{Binding, IsNoMap}
 use Rattle.vidi_commands.specs.Shims.{IsUnwrapped}
-use Rattle.vidi_commands.specs.Steps.{Never}
+use Rattle.vidi_bench.specs.Steps.{Never}
 use Rattle.vidi_commands.specs.Wraps.{RefusedWrap}
-use Rattle.vidi_commands.proofs.Chain.{passed-as}
+use Rattle.vidi_bench.proofs.Chain.{passed-as}
 use Rattle.vidi_commands.proofs.Fitted.{spelled_good}
 use Rattle.vidi_commands.proofs.Written.{fitted-then, never-built, texts-said}
 use Rattle.vidi_commands.proofs.wrap.plan_texts.Goals as goal

@@ -1,7 +1,7 @@
 use Rattle.std.proofs.Common.{◌≡◌, ℕ, List, inl, ◌∙◌}
 use Rattle.vidi_io.specs.Cause.{Rose}
 use Rattle.vidi_commands.specs.Wraps.{IsUnwritten, StopsWrapping, Wraps}
-use Rattle.vidi_commands.proofs.Chain.{passed-owed, rose-since}
+use Rattle.vidi_bench.proofs.Chain.{passed-owed, rose-since}
 use Rattle.vidi_commands.proofs.Written.{written-owed}
 use Rattle.vidi_commands.proofs.wrap.wrap.Goals as goal
 

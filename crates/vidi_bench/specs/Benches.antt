@@ -1,0 +1,64 @@
+-- What the texts of a design, a map and a script say together, or the first reason for which they are refused.
+use Rattle.std.specs.Prelude.{◌≡◌, ℕ, ◌≤◌, List, Option, None, Some, Ok, Err, length}
+use Rattle.vidi_io.specs.Shelf.{Files}
+use Rattle.chan_map.specs.declared.pins.Map.{Map}
+use Rattle.script_text.specs.declared.error.ScriptError.{ScriptError}
+use Rattle.script_text.specs.declared.error.ScriptError.TheVariants as errors
+use Rattle.script_text.specs.Reasons.{read_lines}
+use Rattle.script_text.specs.Fits.{FitsChannels}
+use Rattle.script_text.specs.Reads.{ReadsScript}
+use Rattle.report_text.specs.declared.reason.Word.TheVariants as words
+use Rattle.report_text.specs.declared.reason.Reason.{Reason}
+use Rattle.report_text.specs.declared.reason.Reason.TheVariants as reasons
+use Rattle.vidi_bench.specs.declared.bench.Bench.{Bench}
+use Rattle.vidi_bench.specs.declared.bench.Texts.{Texts}
+use Rattle.vidi_bench.specs.Steps.{Ending, IsRefusal}
+use Rattle.vidi_bench.specs.Design.{text_limit}
+use Rattle.vidi_bench.specs.Devices.{IsDevice, IsRunnable, Wiring}
+use Rattle.vidi_bench.specs.Reading.{Reading}
+
+-- ---- the reasons S1 to S3 of a script
+
+-- want of memory is no reason
+abbrev pub script_reason : ScriptError → Option Reason
+script_reason (errors.Line line) = Some (reasons.ScriptLine line)
+script_reason (errors.Channel line) = Some (reasons.ScriptChannel line)
+script_reason (errors.Number line) = Some (reasons.ScriptNumber line)
+script_reason errors.Memory = None
+
+-- the answer that refuses the script for this finding
+abbrev pub IsScriptRefusal : ScriptError → Ending
+IsScriptRefusal error status said =
+    (reason : Reason) × (script_reason error ≡ Some reason) × IsRefusal words.Script reason status said
+
+-- S1 to S3
+abbrev pub IsNoScript : List ℕ → Map → Ending
+IsNoScript bytes map status said =
+    (error : ScriptError) × ReadsScript map.channels (read_lines bytes) (Err error) × IsScriptRefusal error status said
+
+-- ---- the files, in the order of the words, and what comes of their texts
+abbrev pub ReadTexts : List ℕ → List ℕ → List ℕ → Option Files → (List ℕ → Type 0) → (List ℕ → List ℕ → List ℕ → Ending) → Ending
+ReadTexts design map script files ReadFailed Next =
+    Reading text_limit words.Design design files ReadFailed (λ d.
+    Reading text_limit words.Map map files ReadFailed (λ m.
+    Reading text_limit words.Script script files ReadFailed (Next d m)))
+
+-- no text is longer than its limit
+pub record AreWithin (texts : Texts) : Type 0 where
+  pub design : length texts.design ≤ text_limit
+  pub map : length texts.map ≤ text_limit
+  pub script : length texts.script ≤ text_limit
+
+-- the first reason of the three texts, in the order of the steps
+abbrev pub RefusedTexts : List ℕ → List ℕ → List ℕ → Ending
+RefusedTexts design map script = Wiring design map (IsNoScript script)
+
+-- ---- what the three texts say where none is refused: a design with its map, and a script
+pub record IsBench (design map script : List ℕ) (b : Bench) : Type 0 where
+  pub device : IsDevice design map b.device
+  pub plays : ReadsScript b.device.map.channels (read_lines script) (Ok b.script)
+
+-- such a design can be run with such a script
+pub record IsPlayable (b : Bench) : Type 0 where
+  pub runnable : IsRunnable b.device
+  pub fits : FitsChannels b.device.map.channels b.script

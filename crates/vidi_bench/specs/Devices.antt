@@ -1,0 +1,75 @@
+-- What the texts of a design and a map say together, or the first reason for which they are refused.
+use Rattle.std.specs.Prelude.{◌≡◌, ℕ, List, Option, None, Some, Ok, Err}
+use Rattle.vlog_tree.specs.Tree.{FileOf}
+use Rattle.trace_model.specs.Channel.{IsTable}
+use Rattle.net_design.specs.declared.design.Design.{Design}
+use Rattle.net_design.specs.Lawful.{IsLawful}
+use Rattle.net_order.specs.Order.{IsOrder}
+use Rattle.chan_map.specs.declared.error.MapError.{MapError}
+use Rattle.chan_map.specs.declared.error.MapError.TheVariants as errors
+use Rattle.chan_map.specs.declared.text.MapText.{MapText}
+use Rattle.chan_map.specs.declared.pins.Map.{Map}
+use Rattle.chan_map.specs.Text.{ReadsMap}
+use Rattle.chan_map.specs.Bound.{BindsMap}
+use Rattle.run_model.specs.MapOf.{IsMapOf}
+use Rattle.report_text.specs.declared.reason.Word.TheVariants as words
+use Rattle.report_text.specs.declared.reason.Reason.{Reason}
+use Rattle.report_text.specs.declared.reason.Reason.TheVariants as reasons
+use Rattle.vidi_bench.specs.declared.device.Device.{Device}
+use Rattle.vidi_bench.specs.Steps.{Ending, IsRefusal, Step}
+use Rattle.vidi_bench.specs.Design.{Building, IsAccepted, Spelling, Spells}
+
+-- ---- the reasons M1 to M4 of a map
+
+-- want of memory is no reason
+abbrev pub map_reason : MapError → Option Reason
+map_reason (errors.Line line) = Some (reasons.MapLine line)
+map_reason (errors.Port line) = Some (reasons.MapPort line)
+map_reason (errors.Cover port times) = Some (reasons.Cover port times)
+map_reason (errors.Limit what got) = Some (reasons.Limit what got)
+map_reason errors.Memory = None
+
+-- the answer that refuses the map for this finding
+abbrev pub IsMapRefusal : MapError → Ending
+IsMapRefusal error status said = (reason : Reason) × (map_reason error ≡ Some reason) × IsRefusal words.Map reason status said
+
+-- M1
+abbrev pub IsNoMap : List ℕ → Ending
+IsNoMap bytes status said = (error : MapError) × ReadsMap bytes (Err error) × IsMapRefusal error status said
+
+-- M2 to M4
+abbrev pub IsUnbound : MapText → Design → Ending
+IsUnbound text d status said = (error : MapError) × BindsMap text d (Err error) × IsMapRefusal error status said
+
+-- ---- the steps of the two texts
+
+-- the map is bound to the design, and this comes of it
+abbrev pub Binding : MapText → Design → (Map → Ending) → Ending
+Binding text d Next = Step (IsUnbound text d) (λ map. BindsMap text d (Ok map)) Next
+
+-- the bytes are the lines of a map, the tree has a design of its top, to which it is bound, and this comes of it
+abbrev pub Mapping : List ℕ → FileOf ℕ → (Map → Ending) → Ending
+Mapping map f Next = Step (IsNoMap map) (λ text. ReadsMap map (Ok text)) (λ text. Building text.top f (λ d. Binding text d Next))
+
+-- the texts say a design and a map that is bound to it, and this comes of it
+abbrev pub Wiring : List ℕ → List ℕ → (Map → Ending) → Ending
+Wiring design map Next = Spelling design (λ f. Mapping map f Next)
+
+-- ---- what the two texts say where none is refused
+
+-- the design that the file means with the map's top, and the map bound to it; no reason holds
+pub record IsDevice (design map : List ℕ) (v : Device) : Type 0 where
+  pub file : FileOf ℕ
+  pub spelled : Spells design file
+  pub text : MapText
+  pub mapped : ReadsMap map (Ok text)
+  pub accepted : IsAccepted text.top file v.design
+  pub ordered : IsOrder v.design v.order.drivers
+  pub bound : BindsMap text v.design (Ok v.map)
+
+-- such a design can be run
+pub record IsRunnable (v : Device) : Type 0 where
+  pub lawful : IsLawful v.design
+  pub ordered : IsOrder v.design v.order.drivers
+  pub mapped : IsMapOf v.design v.map
+  pub table : IsTable v.map.channels

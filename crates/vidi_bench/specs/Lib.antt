@@ -1,0 +1,10 @@
+pub mod AnswerText
+pub mod Benches
+pub mod Design
+pub mod Devices
+pub mod Ended
+pub mod Exit
+pub mod Reading
+pub mod Steps
+pub mod Unfetched
+pub mod Usage

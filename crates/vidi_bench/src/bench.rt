@@ -1,0 +1,113 @@
+//! What the files of a design, a map and a script say together.
+
+ghost use Rattle.std.specs.Prelude.{◌≡◌, ◌≤◌, IfOk, IfErr, Ok, length};
+ghost use Rattle.script_text.specs.Reasons.{read_lines};
+ghost use Rattle.script_text.specs.Reads.{ReadsScript};
+ghost use Rattle.vidi_io.specs.Cause.{Rose};
+ghost use Rattle.vidi_io.specs.Shelf.{Later};
+ghost use Rattle.vidi_bench.specs.AnswerText.{text_of};
+ghost use Rattle.vidi_bench.specs.Benches as spec;
+ghost use Rattle.vidi_bench.specs.Benches.{AreWithin, IsBench, IsNoScript, IsPlayable, IsScriptRefusal, ReadTexts, RefusedTexts};
+ghost use Rattle.vidi_bench.specs.Design.{text_limit};
+ghost use Rattle.vidi_bench.specs.Ended.{EndsWith};
+ghost use Rattle.vidi_bench.specs.Reading.{IsRead};
+ghost use Rattle.vidi_bench.specs.Steps.{Never};
+
+use crate::answer::{Answer, Ended, refused};
+use crate::device::{Device, device_of};
+use crate::read::{TEXT_LIMIT, read_file};
+use crate::status::{Reason, Word};
+use chan_map::Map;
+use env_script::{ScriptError, read_script};
+use script_text::Script;
+use std::alloc::Global;
+use vidi_bits::{Bytes, Memory};
+use vidi_io::Shelf;
+
+/// The texts of a design, a map and a script.
+#[derive(Drop)]
+pub struct Texts {
+    pub design: Bytes,
+    pub map: Bytes,
+    pub script: Bytes,
+}
+
+/// A design with its map, and a script over the map's channels.
+#[derive(Drop)]
+pub struct Bench {
+    pub device: Device,
+    pub script: Script,
+}
+
+/// The texts of the three files, which are read in this order.
+pub fn read_texts<S: Shelf>(
+    alloc: Global,
+    design: &str,
+    map: &str,
+    script: &str,
+    shelf: &mut S,
+) -> Result<Texts, Ended>
+    ensures design { IfOk result (λ texts. IsRead text_limit design.now (S.files shelf.old) texts.design) }
+    ensures map { IfOk result (λ texts. IsRead text_limit map.now (S.files shelf.old) texts.map) }
+    ensures script { IfOk result (λ texts. IsRead text_limit script.now (S.files shelf.old) texts.script) }
+    ensures within { IfOk result AreWithin }
+    ensures refused { IfErr result (EndsWith (ReadTexts design.now map.now script.now (S.files shelf.old)
+        (λ name. Rose (S.read_faults shelf.old name) (S.read_faults shelf.new name)) (λ _ _ _. Never))) }
+    ensures files { S.files shelf.new ≡ S.files shelf.old }
+    ensures starts { S.starts shelf.new ≡ S.starts shelf.old }
+    ensures counts { Later (S.read_faults shelf.old) (S.read_faults shelf.new) (S.write_faults shelf.old) (S.write_faults shelf.new) }
+{
+    let design = read_file(alloc, Word::Design, design, TEXT_LIMIT, shelf)?;
+    let map = read_file(alloc, Word::Map, map, TEXT_LIMIT, shelf)?;
+    let script = read_file(alloc, Word::Script, script, TEXT_LIMIT, shelf)?;
+    Ok(Texts {
+        design,
+        map,
+        script,
+    })
+}
+
+/// What three texts say, or the first reason for which they are refused: those of the design and the map, and then of the script.
+pub fn bench_of(alloc: Global, texts: &Texts) -> Result<Bench, Ended>
+    requires { AreWithin texts.now }
+    ensures ready { IfOk result (IsBench texts.now.design texts.now.map texts.now.script) }
+    ensures playable { IfOk result IsPlayable }
+    ensures refused { IfErr result (EndsWith (RefusedTexts texts.now.design texts.now.map texts.now.script)) }
+{
+    let device = device_of(alloc, texts.design.as_slice(), texts.map.as_slice())?;
+    let script = script_of(alloc, texts.script.as_slice(), &device.map)?;
+    Ok(Bench { device, script })
+}
+
+/// The script over a map's channels.
+fn script_of(alloc: Global, script: &[u8], map: &Map) -> Result<Script, Ended>
+    requires { length script.now ≤ text_limit }
+    ensures plays { IfOk result (λ steps. ReadsScript map.now.channels (read_lines script.now) (Ok steps)) }
+    ensures refused { IfErr result (EndsWith (IsNoScript script.now map.now)) }
+{
+    match read_script(alloc, script, map) {
+        Ok(steps) => Ok(steps),
+        Err(error) => Err(Ended::Refused(script_refused(alloc, error)?)),
+    }
+}
+
+/// The answer that refuses the script.
+fn script_refused(alloc: Global, error: ScriptError) -> Result<Answer, Memory>
+    ensures { IfOk result (λ a. IsScriptRefusal error a.status (text_of a.text)) }
+{
+    match script_reason(error) {
+        Some(reason) => refused(alloc, Word::Script, reason),
+        None => Err(Memory),
+    }
+}
+
+fn script_reason(error: ScriptError) -> Option<Reason>
+    ensures { result ≡ spec.script_reason error }
+{
+    match error {
+        ScriptError::Line { line } => Some(Reason::ScriptLine { line }),
+        ScriptError::Channel { line } => Some(Reason::ScriptChannel { line }),
+        ScriptError::Number { line } => Some(Reason::ScriptNumber { line }),
+        ScriptError::Memory => None,
+    }
+}

@@ -1,0 +1,149 @@
+//! What the text of a design says: its tree, the design of a top, and an order of its drivers.
+
+ghost use Rattle.std.specs.Prelude.{◌≡◌, ◌≤◌, IfOk, IfErr, length, map};
+ghost use Rattle.vlog_tree.specs.Plain.{plain};
+ghost use Rattle.vlog_design.specs.Design.{file_counts};
+ghost use Rattle.net_design.specs.Lawful.{IsLawful, counts};
+ghost use Rattle.net_order.specs.Order.{IsOrder};
+ghost use Rattle.vidi_bench.specs.AnswerText.{text_of};
+ghost use Rattle.vidi_bench.specs.Design as spec;
+ghost use Rattle.vidi_bench.specs.Design.{text_limit, IsAccepted, IsFile, IsLooped, IsNoText, IsNoTree, IsRefusedAs, IsRefusedFile, Spells};
+ghost use Rattle.vidi_bench.specs.Ended.{EndsWith};
+
+use crate::answer::{Answer, Ended, refused};
+use crate::status::{Reason, Word};
+use net_design::Design;
+use net_order::{Order, OrderError, order};
+use std::alloc::Global;
+use vidi_bits::{Items, Memory};
+use vlog_design::elaborate;
+use vlog_elab::ElabError;
+use vlog_lex::{LexError, Tokens, lex};
+use vlog_parse::{ParseError, parse};
+use vlog_tree::File;
+
+/// The tree of a text.
+pub fn file_of(alloc: Global, text: &[u8]) -> Result<File, Ended>
+    requires { length text.now ≤ text_limit }
+    ensures spelled { IfOk result (λ file. Spells text.now (plain file)) }
+    ensures refused { IfErr result (EndsWith (IsNoText text.now)) }
+{
+    match lex(alloc, text) {
+        Ok(tokens) => tree_of(alloc, &tokens),
+        Err(LexError::Word { line }) => Err(Ended::Refused(refused(
+            alloc,
+            Word::Design,
+            Reason::Word { line },
+        )?)),
+        Err(LexError::Memory) => Err(Ended::Memory),
+    }
+}
+
+/// The tree of tokens.
+fn tree_of(alloc: Global, tokens: &Tokens) -> Result<File, Ended>
+    ensures spelled { IfOk result (λ file. IsFile tokens.now (plain file)) }
+    ensures refused { IfErr result (EndsWith (IsNoTree tokens.now)) }
+{
+    match parse(alloc, tokens) {
+        Ok(file) => Ok(file),
+        Err(ParseError::Deep { line }) => Err(Ended::Refused(refused(
+            alloc,
+            Word::Design,
+            Reason::Deep { line },
+        )?)),
+        Err(ParseError::Item { line }) => Err(Ended::Refused(refused(
+            alloc,
+            Word::Design,
+            Reason::Item { line },
+        )?)),
+        Err(ParseError::Memory) => Err(Ended::Memory),
+    }
+}
+
+/// The design of a tree and a top.
+pub fn design_of(alloc: Global, file: &File, top: &[u8]) -> Result<Design, Ended>
+    ensures accepted { IfOk result (IsAccepted top.now (plain file.now)) }
+    ensures counted { IfOk result (λ design. counts design ≡ file_counts (plain file.now) top.now) }
+    ensures refused { IfErr result (EndsWith (IsRefusedFile top.now (plain file.now))) }
+{
+    match elaborate(alloc, file, top) {
+        Ok(design) => Ok(design),
+        Err(error) => Err(Ended::Refused(refused_as(alloc, error)?)),
+    }
+}
+
+fn refused_as(alloc: Global, error: ElabError) -> Result<Answer, Memory>
+    ensures { IfOk result (λ a. IsRefusedAs error a.status (text_of a.text)) }
+{
+    match reason_of(error) {
+        Some(reason) => refused(alloc, Word::Design, reason),
+        None => Err(Memory),
+    }
+}
+
+/// The reason that the elaborator names, unless memory was wanting.
+fn reason_of(error: ElabError) -> Option<Reason>
+    ensures { result ≡ spec.reason_of error }
+{
+    match error {
+        ElabError::Twice { name } => Some(Reason::Twice { name }),
+        ElabError::Unknown { name } => Some(Reason::Unknown { name }),
+        ElabError::Kind { line } => Some(Reason::Kind { line }),
+        ElabError::Nested { name } => Some(Reason::Nested { name }),
+        ElabError::TooBig { what } => Some(Reason::TooBig { what }),
+        ElabError::Const { line } => Some(Reason::Const { line }),
+        ElabError::Width { line, got } => Some(Reason::Width { line, got }),
+        ElabError::Clock { line } => Some(Reason::Clock { line }),
+        ElabError::Latch { name, line } => Some(Reason::Latch { name, line }),
+        ElabError::Drive { name, bit, drivers } => Some(Reason::Drive { name, bit, drivers }),
+        ElabError::Memory => None,
+    }
+}
+
+/// An order of a design's drivers.
+pub fn order_of(alloc: Global, design: &Design) -> Result<Order, Ended>
+    requires { IsLawful design.now }
+    ensures ordered { IfOk result (λ order. IsOrder design.now order.drivers) }
+    ensures refused { IfErr result (EndsWith (IsLooped design.now)) }
+{
+    match order(alloc, design) {
+        Ok(order) => Ok(order),
+        Err(OrderError::Loop { drivers }) => {
+            let lines = lines_of(alloc, design, drivers.as_slice())?;
+            let answer = refused(alloc, Word::Design, Reason::Loop { lines })?;
+            Err(Ended::Refused(answer))
+        }
+        Err(OrderError::Memory) => Err(Ended::Memory),
+    }
+}
+
+/// The lines of drivers.
+fn lines_of(alloc: Global, design: &Design, drivers: &[u128]) -> Result<Items<u32>, Memory>
+    ensures { IfOk result (λ lines. lines ≡ map (spec.line_of design.now.drivers) drivers.now) }
+{
+    let mut lines = Items::new(alloc);
+    for driver in drivers {
+        lines.push(line_of(design, *driver))?;
+    }
+    Ok(lines)
+}
+
+/// The line of a driver, 0 past the last one.
+#[tactic(auto, using(crate::proofs::DriverLines::past_line))]
+fn line_of(design: &Design, driver: u128) -> u32
+    ensures { result ≡ spec.line_of design.now.drivers driver }
+{
+    if driver >= design.drivers.len() as u128 {
+        return 0;
+    }
+    line_at(design, driver as usize)
+}
+
+fn line_at(design: &Design, place: usize) -> u32
+    ensures { result ≡ spec.line_of design.now.drivers place }
+{
+    match design.drivers.get(place) {
+        Some(driver) => driver.line,
+        None => 0,
+    }
+}

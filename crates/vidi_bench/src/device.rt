@@ -1,0 +1,107 @@
+//! What the texts of a design and a map say together.
+
+ghost use Rattle.std.specs.Prelude.{◌≡◌, ◌≤◌, IfOk, IfErr, Ok, length};
+ghost use Rattle.vlog_tree.specs.Plain.{plain};
+ghost use Rattle.net_design.specs.Lawful.{IsLawful};
+ghost use Rattle.chan_map.specs.Text.{ReadsMap};
+ghost use Rattle.chan_map.specs.Bound.{BindsMap};
+ghost use Rattle.vidi_bench.specs.AnswerText.{text_of};
+ghost use Rattle.vidi_bench.specs.Design.{text_limit, Building, IsAccepted};
+ghost use Rattle.vidi_bench.specs.Devices as spec;
+ghost use Rattle.vidi_bench.specs.Devices.{Binding, IsDevice, IsMapRefusal, IsNoMap, IsRunnable, IsUnbound, Wiring};
+ghost use Rattle.vidi_bench.specs.Ended.{EndsWith};
+ghost use Rattle.vidi_bench.specs.Steps.{Never};
+
+use crate::answer::{Answer, Ended, refused};
+use crate::design::{design_of, file_of, order_of};
+use crate::status::{Reason, Word};
+use chan_map::{Map, MapError, MapText, bind_map, lawful_ports_have_widths, read_map};
+use net_design::Design;
+use net_order::Order;
+use run_model::bound_is_map_of;
+use std::alloc::Global;
+use vidi_bits::Memory;
+use vlog_tree::File;
+
+/// A design with an order of its drivers, and the map bound to it.
+#[derive(Drop)]
+pub struct Device {
+    pub design: Design,
+    pub order: Order,
+    pub map: Map,
+}
+
+/// What the texts of a design and a map say, or the first reason for which they are refused: those of the design's text, of the
+/// map's lines, of the design, and of the map.
+pub fn device_of(alloc: Global, design: &[u8], map: &[u8]) -> Result<Device, Ended>
+    requires design { length design.now ≤ text_limit }
+    requires map { length map.now ≤ text_limit }
+    ensures device { IfOk result (IsDevice design.now map.now) }
+    ensures runnable { IfOk result IsRunnable }
+    ensures refused { IfErr result (EndsWith (Wiring design.now map.now (λ _. Never))) }
+{
+    let file = file_of(alloc, design)?;
+    let text = map_text_of(alloc, map)?;
+    built(alloc, &file, &text)
+}
+
+/// The design of a tree with the top of a map, and the map bound to it.
+pub fn built(alloc: Global, file: &File, text: &MapText) -> Result<Device, Ended>
+    ensures accepted { IfOk result (λ v. IsAccepted text.now.top (plain file.now) v.design) }
+    ensures bound { IfOk result (λ v. BindsMap text.now v.design (Ok v.map)) }
+    ensures runnable { IfOk result IsRunnable }
+    ensures refused { IfErr result (EndsWith (Building text.now.top (plain file.now) (λ d. Binding text.now d (λ _. Never)))) }
+{
+    bound_is_map_of();
+    let design = design_of(alloc, file, text.top().as_slice())?;
+    let order = order_of(alloc, &design)?;
+    let map = map_of(alloc, text, &design)?;
+    Ok(Device { design, order, map })
+}
+
+/// The lines of a map.
+pub fn map_text_of(alloc: Global, map: &[u8]) -> Result<MapText, Ended>
+    requires { length map.now ≤ text_limit }
+    ensures mapped { IfOk result (λ text. ReadsMap map.now (Ok text)) }
+    ensures refused { IfErr result (EndsWith (IsNoMap map.now)) }
+{
+    match read_map(alloc, map) {
+        Ok(text) => Ok(text),
+        Err(error) => Err(Ended::Refused(map_refused(alloc, error)?)),
+    }
+}
+
+/// The map bound to a design.
+fn map_of(alloc: Global, text: &MapText, design: &Design) -> Result<Map, Ended>
+    requires { IsLawful design.now }
+    ensures bound { IfOk result (λ map. BindsMap text.now design.now (Ok map)) }
+    ensures refused { IfErr result (EndsWith (IsUnbound text.now design.now)) }
+{
+    lawful_ports_have_widths();
+    match bind_map(alloc, text, design) {
+        Ok(map) => Ok(map),
+        Err(error) => Err(Ended::Refused(map_refused(alloc, error)?)),
+    }
+}
+
+/// The answer that refuses the map.
+fn map_refused(alloc: Global, error: MapError) -> Result<Answer, Memory>
+    ensures { IfOk result (λ a. IsMapRefusal error a.status (text_of a.text)) }
+{
+    match map_reason(error) {
+        Some(reason) => refused(alloc, Word::Map, reason),
+        None => Err(Memory),
+    }
+}
+
+fn map_reason(error: MapError) -> Option<Reason>
+    ensures { result ≡ spec.map_reason error }
+{
+    match error {
+        MapError::Line { line } => Some(Reason::MapLine { line }),
+        MapError::Port { line } => Some(Reason::MapPort { line }),
+        MapError::Cover { port, times } => Some(Reason::Cover { port, times }),
+        MapError::Limit { what, got } => Some(Reason::Limit { what, got }),
+        MapError::Memory => None,
+    }
+}
