@@ -89,8 +89,8 @@ pub(crate) fn forget(monitors: &mut [Monitor])
     }
 }
 
-/// Runs cycles with the same numbers at the input pins.
-fn run_cycles<B: Block>(block: &mut B, pins: &[u128], cycles: u32)
+/// Runs so many cycles with the same numbers at the input pins.
+pub fn run_cycles<B: Block>(block: &mut B, pins: &[u128], cycles: u32)
     requires { FitPins (B.design block.old) pins.now }
     ensures state { IsAfter (B.design block.old) pins.now cycles (B.state block.old) (B.state block.new) }
     ensures design { B.design block.new ≡ B.design block.old }

@@ -11,6 +11,8 @@ mod pins;
 mod rows;
 mod shell;
 
+pub use cycles::run_cycles;
 pub use machines::Machines;
 pub use monitor::{Monitor, Passed};
+pub use pins::reset_value;
 pub use shell::Shell;

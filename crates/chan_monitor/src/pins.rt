@@ -82,8 +82,8 @@ fn enter_ties(pins: &mut [u128], ties: &[Tie])
     }
 }
 
-/// The value of a reset pin: the active one in a reset cycle, else the other.
-fn reset_value(active: bool, resets: bool) -> bool
+/// The value of a reset pin, where `active` is its active one: the active one in a reset cycle, else the other.
+pub fn reset_value(active: bool, resets: bool) -> bool
     ensures { result ≡ (if resets then active else not active) }
 {
     active == resets
