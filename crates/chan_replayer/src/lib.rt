@@ -17,5 +17,6 @@ pub use fed::FedShell;
 pub use feed::{Feed, Needs};
 pub use laws::fed_rows_replay;
 pub use machines::ReplayMachines;
+pub use offers::{clear_content, clear_contents};
 pub use replayer::Replayer;
 pub use shell::ReplayShell;

@@ -74,12 +74,26 @@ fn offered(have: &Replayer, channels: &[Channel], feed: &Feed) -> Raised
 }
 
 /// Makes the content that begins at place `at` 0 for each port, unless the channel's valid is up.
-fn clear_content(up: bool, ports: usize, contents: &mut [u128], at: usize)
+pub fn clear_content(up: bool, ports: usize, contents: &mut [u128], at: usize)
     requires { at + ports ≤ length contents.old }
     ensures { contents.new ≡ (if up then contents.old else replaced contents.old at (replicate ports 0)) }
 {
     if !up {
         contents[at..at + ports].fill(0);
+    }
+}
+
+/// Makes the contents of the channels whose valid is down 0. The contents are the numbers of all channels' ports, in channel order and then
+/// in port order; bit c of `valids` is channel c.
+pub fn clear_contents(valids: u128, channels: &[Channel], contents: &mut [u128])
+    requires { Fit (all_widths channels.now) contents.old }
+    ensures { contents.new ≡ joined (fed_content channels.now valids contents.old) 0 channels.now }
+{
+    let mut at = 0;
+    for (c, channel) in channels.iter().enumerate() {
+        let ports = channel.widths.len();
+        clear_content(names(valids, c), ports, contents, at);
+        at += ports;
     }
 }
 
@@ -90,12 +104,7 @@ fn fill_contents(valids: u128, channels: &[Channel], fed: &[u128], contents: &mu
     ensures { contents.new ≡ joined (fed_content channels.now valids fed.now) 0 channels.now }
 {
     contents.copy_from_slice(fed);
-    let mut at = 0;
-    for (c, channel) in channels.iter().enumerate() {
-        let ports = channel.widths.len();
-        clear_content(names(valids, c), ports, contents, at);
-        at += ports;
-    }
+    clear_contents(valids, channels, contents);
 }
 
 /// Makes the offers those of replayers with these completions under a feed.
