@@ -12,8 +12,8 @@ use Rattle.vidi_recorder.specs.declared.error.Outcome.{Outcome}
 use Rattle.vidi_recorder.specs.Course.{course}
 use Rattle.vidi_recorder.specs.Recording.{EndsWith}
 
--- A recording through one of two shells answers the same as through the other, and its sink tells the same, where both run the same design,
--- in the same environment, under the same plan of stalls, for as many cycles. The shells run what is given, and the environments stand for
+-- Two recordings that come to their end, one through each of two shells, answer the same, and their sinks tell the same, where both run the
+-- same design, in the same environment, under the same plan of stalls, for as many cycles. The shells run what is given, and the environments stand for
 -- what is given.
 abbrev pub RecordsAlike : (Design → Values → Option Row → Type 0) → (Design → Values → Option Row → Type 0) → (List Row → Type 0)
     → (List Row → Type 0) → Type 0

@@ -9,18 +9,12 @@ ghost use Rattle.shim_gen.specs.Tables.{with_entries};
 ghost use Rattle.shim_cosim.specs.Held as spec;
 
 use chan_map::{Map, Reset};
+use chan_monitor::reset_value;
 use shim_gen::ports_of;
 use std::alloc::Global;
 use vidi_bits::{Items, Memory, Numbers, copied};
 use vlog_size::Table;
 use vlog_tree::{File, Port};
-
-/// The value of a reset pin: the active one in a reset cycle, else the other.
-fn reset_value(active: bool, resets: bool) -> bool
-    ensures { result ≡ (if resets then active else not active) }
-{
-    active == resets
-}
 
 /// Adds the number of the reset, where there is one.
 fn add_reset(

@@ -10,7 +10,7 @@ ghost use Rattle.chan_monitor.specs.Shell.{HasPlaces};
 ghost use Rattle.chan_replayer.specs.Feed.{IsFeedOver};
 ghost use Rattle.shim_cosim.specs.Rewrapped as spec;
 
-use chan_replayer::Feed;
+use chan_replayer::{Feed, clear_content};
 use net_design::Block;
 use std::alloc::Global;
 use trace_model::{Channel, Dir, Row, names, push_zeros, with_bit};
@@ -95,16 +95,6 @@ fn raised(channels: &[Channel], outputs: &[u128], signal: Signal) -> u128
         rest = after;
     }
     mask
-}
-
-/// Makes the content that begins at place `at` 0 for each port, unless the channel's valid is up.
-fn clear_content(valid: bool, ports: usize, contents: &mut [u128], at: usize)
-    requires { at + ports ≤ length contents.old }
-    ensures { contents.new ≡ (if valid then contents.old else replaced contents.old at (replicate ports 0)) }
-{
-    if !valid {
-        contents[at..at + ports].fill(0);
-    }
 }
 
 /// Makes the content that begins at place `at` what is shown.

@@ -16,13 +16,13 @@ ghost use Rattle.shim_cosim.specs.Recorded.{inputs_count, outputs_count, row_inp
 ghost use Rattle.shim_cosim.specs.Recording.{IsRecording};
 ghost use Rattle.shim_cosim.specs.Top.{RECORD_TOP, IsSettledNumber, IsTopDesign, IsTopError, IsWrapOf};
 
-use crate::cycles::{cycles_of, run_cycles};
+use crate::cycles::cycles_of;
 use crate::error::CosimError;
 use crate::held::held_pins;
 use crate::recorded::{enter, push_channels, show};
 use crate::top::sim_of;
 use chan_map::Map;
-use chan_monitor::Shell;
+use chan_monitor::{Shell, run_cycles};
 use net_design::Block;
 use net_sim::Sim;
 use std::alloc::Global;
