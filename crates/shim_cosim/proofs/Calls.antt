@@ -21,8 +21,9 @@ use Rattle.chan_monitor.specs.Entering.{offered}
 use Rattle.chan_monitor.specs.Shell.{IsRunning, IsShown}
 use Rattle.chan_monitor.proofs.RowOfCycle.{refill-is}
 use Rattle.std.proofs.lemmas.List.{length-take-le, take_at}
+use Rattle.shim_trees.specs.RecordTop.{record_name}
 use Rattle.shim_trees.specs.Wrapped.{ports_in, module_named}
-use Rattle.shim_cosim.specs.Top.{RECORD_TOP, IsTopDesign, IsWrapOf}
+use Rattle.shim_cosim.specs.Top.{IsTopDesign, IsWrapOf}
 use Rattle.shim_cosim.specs.Held.{held_inputs}
 use Rattle.shim_cosim.specs.Recorded.{inputs_count, row_inputs, IsMadeRow}
 use Rattle.shim_cosim.specs.Recording.{IsRecording, IsRecorded}
@@ -95,7 +96,7 @@ reset_runs whole e state u a first pins resets lent d s before same e_is goes on
     restarted on k.0 k.1 e u e_is (subst (λ ps. IsAfter whole ps k.0 (initial whole) u) same (goes k.0 k.1))
 
 -- a new one, whose channels are lent
-pub new_runs : {w f : FileOf ℕ} {a : Map} {d : Design} (h : IsWrapOf w f a d) {whole : Design} (top : IsTopDesign w RECORD_TOP whole)
+pub new_runs : {w f : FileOf ℕ} {a : Map} {d : Design} (h : IsWrapOf w f a d) {whole : Design} (top : IsTopDesign w record_name whole)
     (channels : List Channel) (state : Values) (first : ℕ) (pins resets fixed others : List ℕ) → channels ≡ a.channels
     → state ≡ initial whole → first ≡ length fixed → fixed ≡ held_inputs a false (ports_in (module_named w.modules a.top))
     → pins ≡ fixed ++ replicate (inputs_count channels) 0 → others ≡ held_inputs a true (ports_in (module_named w.modules a.top))

@@ -39,7 +39,7 @@ use Rattle.chan_monitor.specs.Shell.{IsShown}
 use Rattle.chan_monitor.proofs.Filling.{offered-is}
 use Rattle.chan_monitor.proofs.RowOfCycle.{first-none, first-some}
 use Rattle.shim_trees.specs.Pieces.{numbered, each_some, upto}
-use Rattle.shim_trees.specs.RecordTop.{record_ports, record_top}
+use Rattle.shim_trees.specs.RecordTop.{record_ports, record_name, record_top}
 use Rattle.shim_trees.specs.Wrapped.{wrapped}
 use Rattle.shim_design.specs.Part.{pins_below}
 use Rattle.shim_step.specs.Wrapped.{DUT, Flies}
@@ -53,7 +53,7 @@ use Rattle.shim_cosim.specs.declared.recorded.Spot.{Spot}
 use Rattle.shim_cosim.specs.Held.{held_inputs}
 use Rattle.shim_cosim.specs.Recorded.{row_inputs, inputs_count, outputs_count, output_count, content_count, spot_place, spot_in, is_raised, side_mask}
 use Rattle.shim_cosim.specs.Recorded.{is_chosen, chosen_on, chosen_in, made_on, made_in, made_content, shown_content, IsMadeRow}
-use Rattle.shim_cosim.specs.Top.{RECORD_TOP, IsRound}
+use Rattle.shim_cosim.specs.Top.{IsRound}
 use Rattle.shim_cosim.proofs.Entering.{upto-at, length-upto}
 use Rattle.shim_cosim.proofs.RecordPorts as parts
 use Rattle.shim_cosim.proofs.RecordPorts.{shown, seat_shows, ready_shown, valid_shown, content_shown, events_shown}
@@ -230,7 +230,7 @@ pub record IsRunningIn (whole : Design) (a : Map) (d : Design) (state s : Values
   pub own : own_state d full ≡ s
   pub flight : Flies a before full
 
-module _ {whole : Design} {f : FileOf ℕ} {a : Map} {m : ModuleOf ℕ} {d : Design} (r : IsRound RECORD_TOP whole f a m d) where
+module _ {whole : Design} {f : FileOf ℕ} {a : Map} {m : ModuleOf ℕ} {d : Design} (r : IsRound record_name whole f a m d) where
   abbrev T : ModuleOf ℕ
   T = record_top a m.ports
 
@@ -238,7 +238,7 @@ module _ {whole : Design} {f : FileOf ℕ} {a : Map} {m : ModuleOf ℕ} {d : Des
   law = r.top.design.lawful
 
   full : (s : Values) → IsState whole s → IsFull whole s
-  full s is = full_of (wrapped f a) RECORD_TOP T whole r.top.clear.0 (tops.named r) (tops.built r) law s is
+  full s is = full_of (wrapped f a) record_name T whole r.top.clear.0 (tops.named r) (tops.built r) law s is
 
   -- ---- a cycle
   pub record Cycled (s : Values) (before : Option Row) (offers : Offers) (gates : ℕ) (row : Row) (next : Values) : Type 0 where

@@ -39,7 +39,7 @@ use Rattle.chan_monitor.specs.Entering.{offered}
 use Rattle.shim_trees.specs.Pieces.{numbered, ident, net, not_net, both, next, at_clock, each, each_some, conn, gated_content}
 use Rattle.shim_trees.specs.Links.{held, tied_ports}
 use Rattle.shim_trees.specs.Monitor.{monitor, gates, events}
-use Rattle.shim_trees.specs.RecordTop.{record_ports, record_top, monitor_conns}
+use Rattle.shim_trees.specs.RecordTop.{record_ports, record_name, record_top, monitor_conns}
 use Rattle.shim_trees.specs.Wrapped.{wrapped}
 use Rattle.shim_design.specs.Plain.{IsPlain}
 use Rattle.shim_design.proofs.Elements.{has_right, has_contains}
@@ -53,7 +53,7 @@ use Rattle.shim_step.proofs.Recorder as recorder
 use Rattle.shim_step.proofs.Stand.{child_of}
 use Rattle.shim_cosim.specs.Held.{held_numbers, held_number, held_inputs}
 use Rattle.shim_cosim.specs.Recorded.{entered_inputs, channel_inputs, row_inputs, side_count, input_count, inputs_count}
-use Rattle.shim_cosim.specs.Top.{RECORD_TOP, IsRound}
+use Rattle.shim_cosim.specs.Top.{IsRound}
 use Rattle.shim_cosim.proofs.HeldPorts.{keys, tied_fit, tied_headed, tied_outputs, has_held}
 use Rattle.shim_cosim.proofs.Ports.{side, side_append, flat, IsHeaded, flat_ports_are, pins_named}
 use Rattle.shim_cosim.proofs.Zips.{ways_of, Fits, fit_pins, zip_map, zip_append, zip_split, zip_long}
@@ -178,7 +178,7 @@ module _ {f : FileOf ℕ} {a : Map} {m : ModuleOf ℕ} {d : Design} (w : IsWrapp
 not_first : (j : ℕ) → 1 ≤ j → is_clock (Some 0) j ≡ false
 not_first j l = ne_eqb 0 j (λ e. absurd (omega (arith, l, e)))
 
-module _ {whole : Design} {f : FileOf ℕ} {a : Map} {m : ModuleOf ℕ} {d : Design} (r : IsRound RECORD_TOP whole f a m d) where
+module _ {whole : Design} {f : FileOf ℕ} {a : Map} {m : ModuleOf ℕ} {d : Design} (r : IsRound record_name whole f a m d) where
   abbrev w : IsWrapped f a m d
   w = r.wrap
 
@@ -195,13 +195,13 @@ module _ {whole : Design} {f : FileOf ℕ} {a : Map} {m : ModuleOf ℕ} {d : Des
   ties = tied_ports a m.ports
 
   top_same : r.top.design.top ≡ record_top a m.ports
-  top_same = files.top_is r.wrap RECORD_TOP r.top.design.top (record_top a m.ports) r.top.design.named (files.record_there r.wrap) refl
+  top_same = files.top_is r.wrap record_name r.top.design.top (record_top a m.ports) r.top.design.named (files.record_there r.wrap) refl
 
-  pub named : IsTop (wrapped f a) RECORD_TOP (record_top a m.ports)
-  named = subst (IsTop (wrapped f a) RECORD_TOP) top_same r.top.design.named
+  pub named : IsTop (wrapped f a) record_name (record_top a m.ports)
+  named = subst (IsTop (wrapped f a) record_name) top_same r.top.design.named
 
-  pub built : IsBuilt (files.more_of f a) (record_top a m.ports) (instances (wrapped f a) RECORD_TOP) whole
-  built = subst (λ t. IsBuilt (files.more_of f a) t (instances (wrapped f a) RECORD_TOP) whole) top_same r.top.design.built
+  pub built : IsBuilt (files.more_of f a) (record_top a m.ports) (instances (wrapped f a) record_name) whole
+  built = subst (λ t. IsBuilt (files.more_of f a) t (instances (wrapped f a) record_name) whole) top_same r.top.design.built
 
   pub means : Means (files.more_of f a) (record_top a m.ports) whole
   means = subst (λ t. Means (files.more_of f a) t whole) top_same r.top.design.means
@@ -255,7 +255,7 @@ module _ {whole : Design} {f : FileOf ℕ} {a : Map} {m : ModuleOf ℕ} {d : Des
     abbrev pub beside : IsMapBeside whole full V
     beside =
         beside_state whole full state V state_is settled.keeps.words
-        (list_of (wrapped f a) RECORD_TOP (record_top a m.ports) whole r.top.clear.0 named built r.top.design.lawful V settled.keeps.fit.long
+        (list_of (wrapped f a) record_name (record_top a m.ports) whole r.top.clear.0 named built r.top.design.lawful V settled.keeps.fit.long
         (ap length settled.keeps.words ∙ is.words))
 
     abbrev pub v : Full → ℕ
@@ -269,7 +269,7 @@ module _ {whole : Design} {f : FileOf ℕ} {a : Map} {m : ModuleOf ℕ} {d : Des
         subst (λ u. design.IsSettled whole u inputs (values_of whole v full.words)) (sym state_is)
         (subst (design.IsSettled whole state inputs) (sym beside.is) settled)
 
-    pub cycle : IsCycleOf (wrapped f a) RECORD_TOP (record_top a m.ports) full inputs v
+    pub cycle : IsCycleOf (wrapped f a) record_name (record_top a m.ports) full inputs v
     cycle =
         let small = narrow_in (files.more_of f a) (record_top a m.ports) full.words narrow in
         record { named = named; settled = (means.settled full inputs v small).0 settled_there; narrow = small }

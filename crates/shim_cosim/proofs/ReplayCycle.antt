@@ -43,7 +43,7 @@ use Rattle.chan_replayer.specs.Feed.{IsFeedOver}
 use Rattle.chan_replayer.specs.Shell.{IsShown}
 use Rattle.shim_trees.specs.Pieces.{numbered, numbered_twice, each_some, input}
 use Rattle.shim_trees.specs.Links.{held, tied_ports}
-use Rattle.shim_trees.specs.ReplayTop.{fed_ports, shown_ports, replay_ports, replay_top}
+use Rattle.shim_trees.specs.ReplayTop.{fed_ports, shown_ports, replay_ports, replay_name, replay_top}
 use Rattle.shim_trees.specs.Wrapped.{wrapped}
 use Rattle.shim_design.specs.Part.{pins_below}
 use Rattle.shim_design.proofs.Elements.{Has}
@@ -56,7 +56,7 @@ use Rattle.shim_step.proofs.Lists.{has_some, all_each, all_upto, all_some}
 use Rattle.shim_step.proofs.Replayed.{top_plain}
 use Rattle.shim_step.proofs.Replaying.{replays_rows}
 use Rattle.shim_step.proofs.ReplayResets.{replays_resets, replays_begin}
-use Rattle.shim_cosim.specs.Top.{REPLAY_TOP, IsRound}
+use Rattle.shim_cosim.specs.Top.{IsRound}
 use Rattle.shim_cosim.specs.Held.{held_numbers, held_number, held_inputs}
 use Rattle.shim_cosim.specs.Rewrapped.{inputs_count, outputs_count, feed_inputs, replay_row, AreSmallNeeds}
 use Rattle.shim_cosim.specs.Rewrapped as spec
@@ -122,7 +122,7 @@ of_zeros R (y ∷ xs) zero z x h = absurd z
 of_zeros {X} R (y ∷ xs) (suc n) z x (inl e) = subst (λ (u : X). R u 0) e z.0
 of_zeros R (y ∷ xs) (suc n) z x (inr h) = of_zeros R xs n z.1 x h
 
-module _ {file : FileOf ℕ} {a : Map} {tree : ModuleOf ℕ} {d whole : Design} (round : IsRound REPLAY_TOP whole file a tree d) where
+module _ {file : FileOf ℕ} {a : Map} {tree : ModuleOf ℕ} {d whole : Design} (round : IsRound replay_name whole file a tree d) where
   w : IsWrapped file a tree d
   w = round.wrap
 
@@ -142,7 +142,7 @@ module _ {file : FileOf ℕ} {a : Map} {tree : ModuleOf ℕ} {d whole : Design} 
   chans = each_some (replay_ports (length a.channels)) 0 a.channels
 
   same : round.top.design.top ≡ replay_top a tree.ports
-  same = files.top_is w REPLAY_TOP round.top.design.top T round.top.design.named (files.replay_there w) refl
+  same = files.top_is w replay_name round.top.design.top T round.top.design.named (files.replay_there w) refl
 
   headed : AllByRecursion IsHeaded (replay_top a tree.ports).ports
   headed = (
@@ -219,13 +219,13 @@ module _ {file : FileOf ℕ} {a : Map} {tree : ModuleOf ℕ} {d whole : Design} 
     pub beside : IsMapBeside whole full v
     beside =
         beside_state whole full state v state_is settled.keeps.words
-        (list_of (wrapped file a) REPLAY_TOP round.top.design.top whole round.top.clear.0 round.top.design.named round.top.design.built
+        (list_of (wrapped file a) replay_name round.top.design.top whole round.top.clear.0 round.top.design.named round.top.design.built
         round.top.design.lawful v settled.keeps.fit.long (ap length settled.keeps.words ∙ is_state.words))
 
     abbrev pub nets : Full → ℕ
     nets = beside.nets
 
-    pub cycle : IsCycleOf (wrapped file a) REPLAY_TOP round.top.design.top full inputs nets
+    pub cycle : IsCycleOf (wrapped file a) replay_name round.top.design.top full inputs nets
     cycle = record {
       named = round.top.design.named;
       settled = (round.top.design.means.settled full inputs nets (narrow_in modules round.top.design.top full.words narrow)).0
@@ -288,7 +288,7 @@ module _ {file : FileOf ℕ} {a : Map} {tree : ModuleOf ℕ} {d whole : Design} 
     -- the next state
     pub goes_on : IsFull whole (next whole v state)
     goes_on =
-        full_of (wrapped file a) REPLAY_TOP round.top.design.top whole round.top.clear.0 round.top.design.named round.top.design.built
+        full_of (wrapped file a) replay_name round.top.design.top whole round.top.clear.0 round.top.design.named round.top.design.built
         round.top.design.lawful (next whole v state) (next_state whole round.top.design.lawful v state is_state)
 
     pub next_is : IsNext (wrapped file a).modules round.top.design.top full nets goes_on.full
@@ -335,7 +335,7 @@ module _ {file : FileOf ℕ} {a : Map} {tree : ModuleOf ℕ} {d whole : Design} 
 
   pub begun : (pins : List ℕ) → IsBegun pins 0 (initial whole)
   begun pins =
-      let f = full_of (wrapped file a) REPLAY_TOP round.top.design.top whole round.top.clear.0 round.top.design.named round.top.design.built
+      let f = full_of (wrapped file a) replay_name round.top.design.top whole round.top.clear.0 round.top.design.named round.top.design.built
       round.top.design.lawful (initial whole) (initial_state whole round.top.design.lawful) in
       let b = replays_begin file a tree d w round.top.design.top round.top.design.named f.full ((round.top.design.means.initial f.full).0 (sym f.is)) in
       record { full = f.full; narrow = f.narrow; is = f.is; counts = b.1; after = sym b.0 }

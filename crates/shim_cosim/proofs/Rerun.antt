@@ -34,11 +34,12 @@ use Rattle.chan_replayer.specs.declared.feed.Feed.{Feed}
 use Rattle.chan_replayer.specs.Feed.{IsFeedOver}
 use Rattle.chan_replayer.specs.Shell.{GoesTo, IsShown}
 use Rattle.flat_parts.specs.Meaning.{state_of}
+use Rattle.shim_trees.specs.ReplayTop.{replay_name}
 use Rattle.shim_trees.specs.Wrapped.{shims, ports_in, module_named, wrapped}
 use Rattle.shim_step.specs.Wrapped.{IsWrapped, Counts}
 use Rattle.shim_step.proofs.Files.{top_first}
 use Rattle.shim_step.specs.Recording.{own_state}
-use Rattle.shim_cosim.specs.Top.{REPLAY_TOP, IsRound, IsTopDesign, IsWrapOf}
+use Rattle.shim_cosim.specs.Top.{IsRound, IsTopDesign, IsWrapOf}
 use Rattle.shim_cosim.specs.Held.{held_inputs}
 use Rattle.shim_cosim.specs.Rewrapped.{inputs_count, outputs_count, feed_inputs, replay_row, flight_of, AreSmallNeeds}
 use Rattle.shim_cosim.specs.Replaying.{IsReplaying, IsReplayed, IsRunning}
@@ -123,7 +124,7 @@ pub driven_on : (whole later : Design) (state same : Values) (a : Map) (first : 
 driven_on whole later state same a first now new resets xs flight cycles e f n long d s rows is = record {
   file = is.file;
   tree = is.tree;
-  round = subst (λ (u : Design). IsRound REPLAY_TOP u is.file a is.tree d) (sym e) is.round;
+  round = subst (λ (u : Design). IsRound replay_name u is.file a is.tree d) (sym e) is.round;
   held = record {
     held = front_stays first now new xs (inputs_count a.channels) is.held.long n ∙ is.held.held;
     long = long ∙ is.held.long;
@@ -195,7 +196,7 @@ clocked_on whole later state after v inputs a first now resets flight cycles new
       record {
         file = is.file;
         tree = is.tree;
-        round = subst (λ (u : Design). IsRound REPLAY_TOP u is.file a is.tree d) (sym e) is.round;
+        round = subst (λ (u : Design). IsRound replay_name u is.file a is.tree d) (sym e) is.round;
         held = is.held;
         full = goes.full;
         narrow = goes.narrow;
@@ -224,7 +225,7 @@ reset_on whole later state after a first now resets flight cycles many e m goes 
       record {
         file = is.file;
         tree = is.tree;
-        round = subst (λ (u : Design). IsRound REPLAY_TOP u is.file a is.tree d) (sym e) is.round;
+        round = subst (λ (u : Design). IsRound replay_name u is.file a is.tree d) (sym e) is.round;
         held = is.held;
         full = b.full;
         narrow = b.narrow;
@@ -262,9 +263,9 @@ find_left : {X : Type 0} (test : X → Bool) (xs ys : List X) (x : X) → find t
 find_left test [] ys x e = absurd (cc)
 find_left test (z ∷ xs) ys x e = find_if (test z) z x (find test xs) (find test (xs ++ ys)) (find_left test xs ys x) e
 
-module _ {w f : FileOf ℕ} {a : Map} {d : Design} (h : IsWrapOf w f a d) {whole : Design} (top : IsTopDesign w REPLAY_TOP whole) where
-  there : IsTopDesign (wrapped f a) REPLAY_TOP whole
-  there = subst (λ z. IsTopDesign z REPLAY_TOP whole) h.tree top
+module _ {w f : FileOf ℕ} {a : Map} {d : Design} (h : IsWrapOf w f a d) {whole : Design} (top : IsTopDesign w replay_name whole) where
+  there : IsTopDesign (wrapped f a) replay_name whole
+  there = subst (λ z. IsTopDesign z replay_name whole) h.tree top
 
   wrap : IsWrapped f a h.design.top d
   wrap = record {
@@ -273,10 +274,10 @@ module _ {w f : FileOf ℕ} {a : Map} {d : Design} (h : IsWrapOf w f a d) {whole
     means = h.design.means;
     lawful = h.design.lawful;
     mapped = h.mapped;
-    once = no_twice (wrapped f a) REPLAY_TOP there.clear.0;
+    once = no_twice (wrapped f a) replay_name there.clear.0;
   }
 
-  round : IsRound REPLAY_TOP whole f a h.design.top d
+  round : IsRound replay_name whole f a h.design.top d
   round = record {
     wrap = wrap;
     mapped = record {
@@ -322,7 +323,7 @@ module _ {w f : FileOf ℕ} {a : Map} {d : Design} (h : IsWrapOf w f a d) {whole
       }
 
 -- a new one, whose channels are lent
-pub new_runs : {w f : FileOf ℕ} {a : Map} {d : Design} (h : IsWrapOf w f a d) {whole : Design} (top : IsTopDesign w REPLAY_TOP whole)
+pub new_runs : {w f : FileOf ℕ} {a : Map} {d : Design} (h : IsWrapOf w f a d) {whole : Design} (top : IsTopDesign w replay_name whole)
     (channels : List Channel) (state : Values) (first : ℕ) (now resets held others : List ℕ) → channels ≡ a.channels
     → state ≡ initial whole → first ≡ length held → held ≡ held_inputs a false (ports_in (module_named w.modules a.top))
     → now ≡ held ++ replicate (inputs_count channels) 0 → others ≡ held_inputs a true (ports_in (module_named w.modules a.top))

@@ -32,14 +32,14 @@ use Rattle.chan_monitor.specs.Entering.{offered}
 use Rattle.chan_monitor.specs.Shell.{IsRunning}
 use Rattle.shim_trees.specs.Pieces.{each_some}
 use Rattle.shim_trees.specs.Links.{held, tied_ports}
-use Rattle.shim_trees.specs.RecordTop.{record_ports}
+use Rattle.shim_trees.specs.RecordTop.{record_name, record_ports}
 use Rattle.shim_trees.specs.Wrapped.{shims, ports_in, module_named, wrapped}
 use Rattle.shim_step.specs.Wrapped.{IsWrapped}
 use Rattle.shim_step.proofs.Files.{top_first}
 use Rattle.shim_cosim.specs.Held.{held_inputs, AreHeldPins}
 use Rattle.shim_cosim.specs.Recorded.{row_inputs, inputs_count, outputs_count, IsMadeRow}
 use Rattle.shim_cosim.specs.Recording.{IsRecording, IsRecorded}
-use Rattle.shim_cosim.specs.Top.{RECORD_TOP, IsRound, IsTopDesign, IsWrapOf}
+use Rattle.shim_cosim.specs.Top.{IsRound, IsTopDesign, IsWrapOf}
 use Rattle.shim_cosim.proofs.HeldPorts.{tied_outputs}
 use Rattle.shim_cosim.proofs.Ports.{side, side_append}
 use Rattle.shim_cosim.proofs.Zips.{ways_of}
@@ -68,7 +68,7 @@ ways_few way (p ∷ ps) = one (same_direction way p.direction) (ways_few way ps)
   one false l = omega (arith, l)
 
 -- ---- what is known of the design
-module _ {whole : Design} {f : FileOf ℕ} {a : Map} {m : ModuleOf ℕ} {d : Design} (r : IsRound RECORD_TOP whole f a m d) where
+module _ {whole : Design} {f : FileOf ℕ} {a : Map} {m : ModuleOf ℕ} {d : Design} (r : IsRound record_name whole f a m d) where
   outputs_long : length (ways_of Output whole.ports) ≡ outputs_count a.channels
   outputs_long =
       let ties = tied_ports a m.ports in
@@ -180,12 +180,12 @@ find_left : {X : Type 0} (test : X → Bool) (xs ys : List X) (x : X) → find t
 find_left test [] ys x e = absurd (cc)
 find_left test (z ∷ xs) ys x e = find_if (test z) z x (find test xs) (find test (xs ++ ys)) (find_left test xs ys x) e
 
-module _ {w f : FileOf ℕ} {a : Map} {d : Design} (h : IsWrapOf w f a d) {whole : Design} (top : IsTopDesign w RECORD_TOP whole) where
+module _ {w f : FileOf ℕ} {a : Map} {d : Design} (h : IsWrapOf w f a d) {whole : Design} (top : IsTopDesign w record_name whole) where
   abbrev m : ModuleOf ℕ
   m = h.design.top
 
-  there : IsTopDesign (wrapped f a) RECORD_TOP whole
-  there = subst (λ z. IsTopDesign z RECORD_TOP whole) h.tree top
+  there : IsTopDesign (wrapped f a) record_name whole
+  there = subst (λ z. IsTopDesign z record_name whole) h.tree top
 
   wrap : IsWrapped f a h.design.top d
   wrap = record {
@@ -194,10 +194,10 @@ module _ {w f : FileOf ℕ} {a : Map} {d : Design} (h : IsWrapOf w f a d) {whole
     means = h.design.means;
     lawful = h.design.lawful;
     mapped = h.mapped;
-    once = no_twice (wrapped f a) RECORD_TOP there.clear.0;
+    once = no_twice (wrapped f a) record_name there.clear.0;
   }
 
-  round : IsRound RECORD_TOP whole f a h.design.top d
+  round : IsRound record_name whole f a h.design.top d
   round = record {
     wrap = wrap;
     mapped = record {

@@ -13,9 +13,10 @@ use Rattle.trace_model.specs.Row.{AreOffers}
 use Rattle.chan_map.specs.declared.pins.Map.{Map}
 use Rattle.run_model.specs.Offers.{AreZeroWhileDown}
 use Rattle.chan_monitor.specs.Entering.{offered}
+use Rattle.shim_trees.specs.RecordTop.{record_name}
 use Rattle.shim_step.specs.Wrapped.{Flies}
 use Rattle.shim_step.specs.Recording.{own_state}
-use Rattle.shim_cosim.specs.Top.{RECORD_TOP, IsRound}
+use Rattle.shim_cosim.specs.Top.{IsRound}
 use Rattle.shim_cosim.specs.Held.{AreHeldPins}
 use Rattle.shim_cosim.specs.Recorded.{inputs_count, row_inputs, IsMadeRow}
 
@@ -25,7 +26,7 @@ pub record IsRecording (whole : Design) (state : Values) (a : Map) (first : ℕ)
     (before : Option Row) : Type 0 where
   pub file : FileOf ℕ
   pub tree : ModuleOf ℕ
-  pub round : IsRound RECORD_TOP whole file a tree d
+  pub round : IsRound record_name whole file a tree d
   pub held : AreHeldPins a tree.ports (inputs_count a.channels) first pins resets
   pub full : State
   pub narrow : (name : Full) (k : ℕ) → full.words name k < 2 ^ 128

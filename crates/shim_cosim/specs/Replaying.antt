@@ -13,9 +13,10 @@ use Rattle.trace_model.specs.Row.{row_before, flies_after}
 use Rattle.chan_map.specs.declared.pins.Map.{Map}
 use Rattle.chan_replayer.specs.declared.feed.Feed.{Feed}
 use Rattle.chan_replayer.specs.Feed.{IsFeedOver}
+use Rattle.shim_trees.specs.ReplayTop.{replay_name}
 use Rattle.shim_step.specs.Wrapped.{Counts}
 use Rattle.shim_step.specs.Recording.{own_state}
-use Rattle.shim_cosim.specs.Top.{REPLAY_TOP, IsRound}
+use Rattle.shim_cosim.specs.Top.{IsRound}
 use Rattle.shim_cosim.specs.Held.{AreHeldPins}
 use Rattle.shim_cosim.specs.Rewrapped.{inputs_count, feed_inputs, replay_row, flight_of}
 
@@ -25,7 +26,7 @@ pub record IsReplaying (whole : Design) (state : Values) (a : Map) (first : ℕ)
     (s : Values) (rows : List Row) : Type 0 where
   pub file : FileOf ℕ
   pub tree : ModuleOf ℕ
-  pub round : IsRound REPLAY_TOP whole file a tree d
+  pub round : IsRound replay_name whole file a tree d
   pub held : AreHeldPins a tree.ports (inputs_count a.channels) first pins resets
   pub full : State
   pub narrow : (name : Full) (k : ℕ) → full.words name k < 2 ^ 128

@@ -1,5 +1,5 @@
 -- The flat design of a wrapped file with one of its tops, and the first reason that holds of it (this project's profile).
-use Rattle.std.specs.Prelude.{◌≡◌, ℕ, ◌⊎◌, List, Option, Some, MatchOption, codes, slice_index}
+use Rattle.std.specs.Prelude.{◌≡◌, ℕ, ◌⊎◌, List, Option, Some, MatchOption, slice_index}
 use Rattle.vlog_tree.specs.Tree.{ModuleOf, FileOf}
 use Rattle.vlog_elab.specs.declared.error.ElabError.{ElabError}
 use Rattle.vlog_elab.specs.Errors.{number_of}
@@ -17,13 +17,6 @@ use Rattle.shim_trees.specs.Wrapped.{wrapped}
 use Rattle.shim_step.specs.Wrapped.{IsWrapped}
 use Rattle.shim_cosim.specs.declared.error.CosimError.{CosimError}
 use Rattle.shim_cosim.specs.declared.error.CosimError.TheVariants as errors
-
--- the tops of a wrapped file
-abbrev pub RECORD_TOP : List ℕ
-RECORD_TOP = codes "vidi_record_top"
-
-abbrev pub REPLAY_TOP : List ℕ
-REPLAY_TOP = codes "vidi_replay_top"
 
 -- ---- the reasons
 

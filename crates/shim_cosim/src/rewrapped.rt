@@ -9,9 +9,10 @@ ghost use Rattle.net_design.specs.Pins.{output_count, outputs, FitPins};
 ghost use Rattle.net_design.specs.Settled.{initial, IsSettled};
 ghost use Rattle.chan_monitor.specs.Shell.{HasPlaces};
 ghost use Rattle.chan_replayer.specs.Feed.{IsFeedOver};
+ghost use Rattle.shim_trees.specs.ReplayTop.{replay_name};
 ghost use Rattle.shim_cosim.specs.Rewrapped.{inputs_count, outputs_count, feed_inputs, replay_row, flight_of, AreSmallNeeds};
 ghost use Rattle.shim_cosim.specs.Replaying.{IsRunning};
-ghost use Rattle.shim_cosim.specs.Top.{REPLAY_TOP, IsSettledNumber, IsTopDesign, IsTopError, IsWrapOf};
+ghost use Rattle.shim_cosim.specs.Top.{IsSettledNumber, IsTopDesign, IsTopError, IsWrapOf};
 
 use crate::error::CosimError;
 use crate::fed_inputs::{enter_feed, push_channels};
@@ -108,8 +109,8 @@ impl<'a> RerunShell<'a, Sim> {
     /// where no memory was found, or where `elaborate` says so.
     pub fn new(alloc: Global, file: &File, map: &'a Map) -> Result<Rewrapped<'a>, CosimError>
         requires wrapped { (f : FileOf ℕ) × (d : Design) × IsWrapOf (plain file.now) f map.now d }
-        ensures told { MatchResult result (λ shell. IsTopDesign (plain file.now) REPLAY_TOP shell.block.design)
-            (IsTopError (plain file.now) REPLAY_TOP) }
+        ensures told { MatchResult result (λ shell. IsTopDesign (plain file.now) replay_name shell.block.design)
+            (IsTopError (plain file.now) replay_name) }
         ensures runs { IfOk result (λ shell. (f : FileOf ℕ) (d : Design) → IsWrapOf (plain file.now) f map.now d
             → ⟦<RerunShell<'static, Sim> as ReplayShell>⟧.runs shell d (initial d) []) }
         ensures cycles { IfOk result (λ shell. ⟦<RerunShell<'static, Sim> as ReplayShell>⟧.cycles shell ≡ 0) }

@@ -12,9 +12,10 @@ ghost use Rattle.run_model.specs.Step.{IsAfter};
 ghost use Rattle.chan_map.specs.declared.pins.Reset.{Reset as OneReset};
 ghost use Rattle.chan_monitor.specs.Entering.{offered};
 ghost use Rattle.chan_monitor.specs.Shell.{HasPlaces, IsRunning};
+ghost use Rattle.shim_trees.specs.RecordTop.{record_name};
 ghost use Rattle.shim_cosim.specs.Recorded.{inputs_count, outputs_count, row_inputs, IsMadeRow};
 ghost use Rattle.shim_cosim.specs.Recording.{IsRecording};
-ghost use Rattle.shim_cosim.specs.Top.{RECORD_TOP, IsSettledNumber, IsTopDesign, IsTopError, IsWrapOf};
+ghost use Rattle.shim_cosim.specs.Top.{IsSettledNumber, IsTopDesign, IsTopError, IsWrapOf};
 
 use crate::cycles::cycles_of;
 use crate::error::CosimError;
@@ -107,8 +108,8 @@ impl<'a> RecordShell<'a, Sim> {
     /// where no memory was found, or where `elaborate` says so.
     pub fn new(alloc: Global, file: &File, map: &'a Map) -> Result<Wrapped<'a>, CosimError>
         requires wrapped { (f : FileOf ℕ) × (d : Design) × IsWrapOf (plain file.now) f map.now d }
-        ensures told { MatchResult result (λ shell. IsTopDesign (plain file.now) RECORD_TOP shell.block.design)
-            (IsTopError (plain file.now) RECORD_TOP) }
+        ensures told { MatchResult result (λ shell. IsTopDesign (plain file.now) record_name shell.block.design)
+            (IsTopError (plain file.now) record_name) }
         ensures runs { IfOk result (λ shell. (f : FileOf ℕ) (d : Design) → IsWrapOf (plain file.now) f map.now d
             → ⟦<RecordShell<'static, Sim> as Shell>⟧.runs shell d (initial d) None) }
         ensures undriven { IfOk result (λ shell. (row : OneRow) → ¬ ⟦<RecordShell<'static, Sim> as Shell>⟧.driven shell row) }

@@ -24,7 +24,7 @@ use Rattle.chan_monitor.proofs.Held.{silent-small}
 use Rattle.shim_trees.specs.Pieces.{numbered, numbered_twice, each, gated_content, input, output}
 use Rattle.shim_trees.specs.Links.{link, record_links}
 use Rattle.shim_trees.specs.Monitor.{monitor, events}
-use Rattle.shim_trees.specs.RecordTop.{record_top, monitor_conns}
+use Rattle.shim_trees.specs.RecordTop.{record_name, record_top, monitor_conns}
 use Rattle.shim_trees.specs.Wrapped.{wrapped}
 use Rattle.shim_design.specs.Part.{pins_below}
 use Rattle.shim_design.specs.Plain.{nets_of, HasNoInit, HasNoInits}
@@ -178,7 +178,7 @@ module _ {f : FileOf ℕ} {a : Map} {m : ModuleOf ℕ} {d : Design} (w : IsWrapp
 pub records_resets : RecordsResets
 records_resets f a m d w T s pins v h before flies on =
     let same : T ≡ record_top a m.ports =
-    files.top_is w (codes "vidi_record_top") T (record_top a m.ports) h.named (files.record_there w) refl in
+    files.top_is w record_name T (record_top a m.ports) h.named (files.record_there w) refl in
     let settled : IsSettled (wrapped f a).modules (record_top a m.ports) s pins v =
     subst (λ (t : ModuleOf ℕ). IsSettled (wrapped f a).modules t s pins v) same h.settled in
     let narrow : AreNarrow (wrapped f a).modules (record_top a m.ports) s.words =
@@ -191,5 +191,5 @@ records_resets f a m d w T s pins v h before flies on =
 pub records_begin : RecordsBegin
 records_begin f a m d w T t s h =
     let same : T ≡ record_top a m.ports =
-    files.top_is w (codes "vidi_record_top") T (record_top a m.ports) t (files.record_there w) refl in
+    files.top_is w record_name T (record_top a m.ports) t (files.record_there w) refl in
     begins w s (subst (λ (u : ModuleOf ℕ). IsInitial (wrapped f a).modules u s) same h)

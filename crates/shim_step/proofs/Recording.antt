@@ -27,7 +27,7 @@ use Rattle.run_model.specs.Step.{ShowsPlug}
 use Rattle.run_model.proofs.RowParts.{row-carries}
 use Rattle.shim_trees.specs.Pieces.{numbered, numbered_twice}
 use Rattle.shim_trees.specs.Links.{link, record_links}
-use Rattle.shim_trees.specs.RecordTop.{record_top}
+use Rattle.shim_trees.specs.RecordTop.{record_name, record_top}
 use Rattle.shim_trees.specs.Wrapped.{wrapped}
 use Rattle.shim_design.proofs.Elements.{Has}
 use Rattle.shim_step.specs.Wrapped.{IsWrapped, Flies}
@@ -193,7 +193,7 @@ module _ {f : FileOf ℕ} {a : Map} {m : ModuleOf ℕ} {d : Design} (w : IsWrapp
 pub records_rows : RecordsRows
 records_rows f a m d w T s pins v h before flies offers are gates below on =
     let same : T ≡ record_top a m.ports =
-    files.top_is w (codes "vidi_record_top") T (record_top a m.ports) h.named (files.record_there w) refl in
+    files.top_is w record_name T (record_top a m.ports) h.named (files.record_there w) refl in
     let settled : IsSettled (wrapped f a).modules (record_top a m.ports) s pins v =
     subst (λ (t : ModuleOf ℕ). IsSettled (wrapped f a).modules t s pins v) same h.settled in
     let narrow : AreNarrow (wrapped f a).modules (record_top a m.ports) s.words =

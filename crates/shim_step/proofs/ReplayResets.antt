@@ -25,7 +25,7 @@ use Rattle.chan_monitor.proofs.Held.{silent-small}
 use Rattle.shim_trees.specs.Pieces.{numbered, numbered_twice, each, upto, reg, gated_content, input, output}
 use Rattle.shim_trees.specs.Links.{link, replay_links}
 use Rattle.shim_trees.specs.Replayer.{replayer, side_ports, shown_items}
-use Rattle.shim_trees.specs.ReplayTop.{replay_top, replayer_conns}
+use Rattle.shim_trees.specs.ReplayTop.{replay_name, replay_top, replayer_conns}
 use Rattle.shim_trees.specs.Wrapped.{wrapped}
 use Rattle.shim_design.specs.Part.{pins_below}
 use Rattle.shim_design.specs.Plain.{nets_of, HasNoInit, HasNoInits}
@@ -193,7 +193,7 @@ module _ {f : FileOf ℕ} {a : Map} {m : ModuleOf ℕ} {d : Design} (w : IsWrapp
 pub replays_resets : ReplaysResets
 replays_resets f a m d w T s pins v h counts on =
     let same : T ≡ replay_top a m.ports =
-    files.top_is w (codes "vidi_replay_top") T (replay_top a m.ports) h.named (files.replay_there w) refl in
+    files.top_is w replay_name T (replay_top a m.ports) h.named (files.replay_there w) refl in
     let settled : IsSettled (wrapped f a).modules (replay_top a m.ports) s pins v =
     subst (λ (t : ModuleOf ℕ). IsSettled (wrapped f a).modules t s pins v) same h.settled in
     let narrow : AreNarrow (wrapped f a).modules (replay_top a m.ports) s.words =
@@ -206,5 +206,5 @@ replays_resets f a m d w T s pins v h counts on =
 pub replays_begin : ReplaysBegin
 replays_begin f a m d w T t s h =
     let same : T ≡ replay_top a m.ports =
-    files.top_is w (codes "vidi_replay_top") T (replay_top a m.ports) t (files.replay_there w) refl in
+    files.top_is w replay_name T (replay_top a m.ports) t (files.replay_there w) refl in
     begins w s (subst (λ (u : ModuleOf ℕ). IsInitial (wrapped f a).modules u s) same h)

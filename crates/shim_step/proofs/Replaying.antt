@@ -38,7 +38,7 @@ use Rattle.chan_replayer.specs.declared.feed.Feed.{Feed}
 use Rattle.chan_replayer.specs.Feed.{need_of, IsFeedOver, IsFedOn, IsUp}
 use Rattle.shim_trees.specs.Pieces.{numbered, numbered_twice}
 use Rattle.shim_trees.specs.Links.{link, replay_links}
-use Rattle.shim_trees.specs.ReplayTop.{replay_top}
+use Rattle.shim_trees.specs.ReplayTop.{replay_name, replay_top}
 use Rattle.shim_trees.specs.Wrapped.{wrapped}
 use Rattle.shim_design.proofs.Elements.{Has}
 use Rattle.shim_step.specs.Wrapped.{IsWrapped, Counts, counter_name}
@@ -312,7 +312,7 @@ module _ {f : FileOf ℕ} {a : Map} {m : ModuleOf ℕ} {d : Design} (w : IsWrapp
 pub replays_rows : ReplaysRows
 replays_rows f a m d w T s pins v h rows short counts feed over on =
     let same : T ≡ replay_top a m.ports =
-    files.top_is w (codes "vidi_replay_top") T (replay_top a m.ports) h.named (files.replay_there w) refl in
+    files.top_is w replay_name T (replay_top a m.ports) h.named (files.replay_there w) refl in
     let settled : IsSettled (wrapped f a).modules (replay_top a m.ports) s pins v =
     subst (λ (t : ModuleOf ℕ). IsSettled (wrapped f a).modules t s pins v) same h.settled in
     let narrow : AreNarrow (wrapped f a).modules (replay_top a m.ports) s.words =

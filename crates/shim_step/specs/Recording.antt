@@ -1,5 +1,5 @@
 -- Lock step of `vidi_record_top`: in each cycle it does what monitors round the design do.
-use Rattle.std.specs.Prelude.{◌≡◌, ℕ, ◌<◌, ◌^◌, true, codes, List, length, Option, None, Some}
+use Rattle.std.specs.Prelude.{◌≡◌, ℕ, ◌<◌, ◌^◌, true, List, length, Option, None, Some}
 use Rattle.vlog_tree.specs.Tree.{ModuleOf, FileOf}
 use Rattle.net_design.specs.declared.design.Design.{Design}
 use Rattle.net_design.specs.declared.values.Values.{Values}
@@ -17,6 +17,7 @@ use Rattle.run_model.specs.Pins.{silent, ArePins}
 use Rattle.run_model.specs.Step as run
 use Rattle.run_model.specs.Step.{IsStep}
 use Rattle.chan_monitor.specs.Shell.{IsShown}
+use Rattle.shim_trees.specs.RecordTop.{record_name}
 use Rattle.shim_trees.specs.Wrapped.{wrapped}
 use Rattle.shim_design.specs.Part.{part, pins_below}
 use Rattle.shim_step.specs.Wrapped.{IsWrapped, DUT, Flies}
@@ -44,7 +45,7 @@ pub record Records (f : FileOf ℕ) (a : Map) (d : Design) (top : ModuleOf ℕ) 
 -- for all offers and gates there is such a row
 abbrev pub RecordsRows : Type 0
 RecordsRows = (f : FileOf ℕ) (a : Map) (m : ModuleOf ℕ) (d : Design) → IsWrapped f a m d
-    → (top : ModuleOf ℕ) (s : State) (pins : List ℕ) (v : Full → ℕ) → IsCycleOf (wrapped f a) (codes "vidi_record_top") top s pins v
+    → (top : ModuleOf ℕ) (s : State) (pins : List ℕ) (v : Full → ℕ) → IsCycleOf (wrapped f a) record_name top s pins v
     → (before : Option Row) → Flies a before s
     → (offers : Offers) → AreOffers a.channels offers → (gates : ℕ) → gates < 2 ^ length a.channels → HasOffers a offers gates v
     → (row : Row) × Records f a d top s v before offers gates row
@@ -52,7 +53,7 @@ RecordsRows = (f : FileOf ℕ) (a : Map) (m : ModuleOf ℕ) (d : Design) → IsW
 -- in a reset cycle the design's pins are those of one, and afterwards nothing is in flight
 abbrev pub RecordsResets : Type 0
 RecordsResets = (f : FileOf ℕ) (a : Map) (m : ModuleOf ℕ) (d : Design) → IsWrapped f a m d
-    → (top : ModuleOf ℕ) (s : State) (pins : List ℕ) (v : Full → ℕ) → IsCycleOf (wrapped f a) (codes "vidi_record_top") top s pins v
+    → (top : ModuleOf ℕ) (s : State) (pins : List ℕ) (v : Full → ℕ) → IsCycleOf (wrapped f a) record_name top s pins v
     → (before : Option Row) → Flies a before s → HasReset a v
     → ArePins d a true silent (pins_below m DUT v)
     × ((after : State) → IsNext (wrapped f a).modules top s v after
@@ -61,5 +62,5 @@ RecordsResets = (f : FileOf ℕ) (a : Map) (m : ModuleOf ℕ) (d : Design) → I
 -- in the initial state the design is in its own, and nothing is in flight
 abbrev pub RecordsBegin : Type 0
 RecordsBegin = (f : FileOf ℕ) (a : Map) (m : ModuleOf ℕ) (d : Design) → IsWrapped f a m d
-    → (top : ModuleOf ℕ) → IsTop (wrapped f a) (codes "vidi_record_top") top
+    → (top : ModuleOf ℕ) → IsTop (wrapped f a) record_name top
     → (s : State) → IsInitial (wrapped f a).modules top s → (initial d ≡ own_state d s) × Flies a None s

@@ -1,5 +1,5 @@
 -- Lock step of `vidi_replay_top`: in each cycle it does what replayers round the design do.
-use Rattle.std.specs.Prelude.{◌≡◌, ℕ, ◌≤◌, true, codes, List, [], ◌∷◌, ◌++◌, length}
+use Rattle.std.specs.Prelude.{◌≡◌, ℕ, ◌≤◌, true, List, [], ◌∷◌, ◌++◌, length}
 use Rattle.vlog_tree.specs.Tree.{ModuleOf, FileOf}
 use Rattle.net_design.specs.declared.design.Design.{Design}
 use Rattle.net_design.specs.Settled.{initial}
@@ -14,6 +14,7 @@ use Rattle.run_model.specs.Step.{IsStep}
 use Rattle.chan_replayer.specs.declared.feed.Feed.{Feed}
 use Rattle.chan_replayer.specs.Feed.{IsFeedOver}
 use Rattle.chan_replayer.specs.Shell.{IsShown}
+use Rattle.shim_trees.specs.ReplayTop.{replay_name}
 use Rattle.shim_trees.specs.Wrapped.{wrapped}
 use Rattle.shim_design.specs.Part.{pins_below}
 use Rattle.shim_step.specs.Wrapped.{IsWrapped, DUT, Counts}
@@ -36,7 +37,7 @@ pub record Replays (f : FileOf ℕ) (a : Map) (d : Design) (top : ModuleOf ℕ) 
 -- for all feeds there is such a row
 abbrev pub ReplaysRows : Type 0
 ReplaysRows = (f : FileOf ℕ) (a : Map) (m : ModuleOf ℕ) (d : Design) → IsWrapped f a m d
-    → (top : ModuleOf ℕ) (s : State) (pins : List ℕ) (v : Full → ℕ) → IsCycleOf (wrapped f a) (codes "vidi_replay_top") top s pins v
+    → (top : ModuleOf ℕ) (s : State) (pins : List ℕ) (v : Full → ℕ) → IsCycleOf (wrapped f a) replay_name top s pins v
     → (rows : List Row) → length rows ≤ MOST_CYCLES → Counts a rows s
     → (feed : Feed) → IsFeedOver a.channels feed → HasFeed a feed v
     → (row : Row) × Replays f a d top s v rows feed row
@@ -44,7 +45,7 @@ ReplaysRows = (f : FileOf ℕ) (a : Map) (m : ModuleOf ℕ) (d : Design) → IsW
 -- in a reset cycle the design's pins are those of one, and afterwards nothing is counted
 abbrev pub ReplaysResets : Type 0
 ReplaysResets = (f : FileOf ℕ) (a : Map) (m : ModuleOf ℕ) (d : Design) → IsWrapped f a m d
-    → (top : ModuleOf ℕ) (s : State) (pins : List ℕ) (v : Full → ℕ) → IsCycleOf (wrapped f a) (codes "vidi_replay_top") top s pins v
+    → (top : ModuleOf ℕ) (s : State) (pins : List ℕ) (v : Full → ℕ) → IsCycleOf (wrapped f a) replay_name top s pins v
     → Counts a [] s → HasNoFeed a v
     → ArePins d a true silent (pins_below m DUT v)
     × ((after : State) → IsNext (wrapped f a).modules top s v after
@@ -53,5 +54,5 @@ ReplaysResets = (f : FileOf ℕ) (a : Map) (m : ModuleOf ℕ) (d : Design) → I
 -- in the initial state the design is in its own, and nothing is counted
 abbrev pub ReplaysBegin : Type 0
 ReplaysBegin = (f : FileOf ℕ) (a : Map) (m : ModuleOf ℕ) (d : Design) → IsWrapped f a m d
-    → (top : ModuleOf ℕ) → IsTop (wrapped f a) (codes "vidi_replay_top") top
+    → (top : ModuleOf ℕ) → IsTop (wrapped f a) replay_name top
     → (s : State) → IsInitial (wrapped f a).modules top s → (initial d ≡ own_state d s) × Counts a [] s

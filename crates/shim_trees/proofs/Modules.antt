@@ -26,8 +26,8 @@ use Rattle.shim_trees.specs.Replayer.{side_ports, replayer_ports, covers, coveri
 use Rattle.shim_trees.specs.Links.{link, tied_link, plug_links, channel_links, links, reset_width, tie_width, held, tied_input, tied_port}
 use Rattle.shim_trees.specs.Links.{tied_ports, dut_conn, dut, content_wires}
 use Rattle.shim_trees.specs.RecordTop.{record_ports, record_wires, source_ready, sink_valid, source_content, sink_content, source_conns, sink_conns, monitor_conns}
-use Rattle.shim_trees.specs.RecordTop.{monitor_item, record_top}
-use Rattle.shim_trees.specs.ReplayTop.{fed_ports, shown_ports, replay_ports, replay_wires, side_conns, replayer_conns, replayer_item, replay_top}
+use Rattle.shim_trees.specs.RecordTop.{monitor_item, record_name, record_top}
+use Rattle.shim_trees.specs.ReplayTop.{fed_ports, shown_ports, replay_ports, replay_wires, side_conns, replayer_conns, replayer_item, replay_name, replay_top}
 use Rattle.shim_trees.proofs.Names.{fixed_name, letter_name, numbered_name, twice_name, tied_name}
 use Rattle.shim_trees.proofs.Pieces.{IsSmall, got, each_good, some_good, flat_good, upto_good, clk_name, kv_name, kr_name, sv_name, sr_name}
 use Rattle.shim_trees.proofs.Pieces.{s_name, k_name, good_net, good_both, good_without, good_port, good_bit, good_wire, good_reg}
@@ -423,7 +423,7 @@ pub record_top_good : (m : Map) (ports : List (PortOf ℕ)) → IsFewMap m → I
     → IsGoodModule (record_top m ports)
 record_top_good m ports few named good =
     let limit = few.limit in (
-      fixed_name (codes "vidi_record_top") refl refl,
+      fixed_name record_name refl refl,
       tt,
       tt,
       some_not_none _,
@@ -516,7 +516,7 @@ pub replay_top_good : (m : Map) (ports : List (PortOf ℕ)) → IsFewMap m → I
     → IsGoodModule (replay_top m ports)
 replay_top_good m ports few named good =
     let limit = few.limit in (
-      fixed_name (codes "vidi_replay_top") refl refl,
+      fixed_name replay_name refl refl,
       tt,
       tt,
       some_not_none _,

@@ -56,10 +56,13 @@ abbrev pub monitor_item : ℕ → Channel → ItemOf ℕ
 monitor_item n c =
     instance (numbered (codes "vidi_m_") n) (numbered (codes "m_") n) (monitor_conns n c.dir c.widths)
 
+abbrev pub record_name : List ℕ
+record_name = codes "vidi_record_top"
+
 -- round a design whose top has these ports
 abbrev pub record_top : Map → List (PortOf ℕ) → ModuleOf ℕ
 record_top m ports = record {
-  name = codes "vidi_record_top";
+  name = record_name;
   parameters = [];
   ports = input (codes "clk") 1 ∷ (tied_ports m ports ++ each_some record_ports 0 m.channels);
   items = each_some record_wires 0 m.channels ++ dut (record_links m) m.top ports ∷ each monitor_item 0 m.channels;

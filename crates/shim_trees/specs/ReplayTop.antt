@@ -50,10 +50,13 @@ abbrev pub replayer_item : ℕ → ℕ → Channel → ItemOf ℕ
 replayer_item count n c =
     instance (numbered (codes "vidi_q_") n) (numbered (codes "q_") n) (replayer_conns count n c.dir c.widths)
 
+abbrev pub replay_name : List ℕ
+replay_name = codes "vidi_replay_top"
+
 -- round a design whose top has these ports
 abbrev pub replay_top : Map → List (PortOf ℕ) → ModuleOf ℕ
 replay_top m ports = record {
-  name = codes "vidi_replay_top";
+  name = replay_name;
   parameters = [];
   ports = input (codes "clk") 1 ∷ (tied_ports m ports ++ each_some (replay_ports (length m.channels)) 0 m.channels);
   items = each_some replay_wires 0 m.channels

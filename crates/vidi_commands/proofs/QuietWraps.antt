@@ -7,6 +7,8 @@ use Rattle.chan_map.specs.Bound.{BindsMap}
 use Rattle.chan_map.specs.Text.{ReadsMap}
 use Rattle.std.specs.Prelude.{Ok}
 use Rattle.vidi_io.specs.Shelf.{Files}
+use Rattle.shim_trees.specs.RecordTop.{record_name}
+use Rattle.shim_trees.specs.ReplayTop.{replay_name}
 use Rattle.shim_trees.specs.Wrapped.{wrapped}
 use Rattle.report_text.specs.declared.reason.Word.TheVariants as words
 use Rattle.report_text.specs.declared.reason.Reason.TheVariants as reasons
@@ -16,7 +18,7 @@ use Rattle.vidi_bench.specs.Design.{text_limit, Building}
 use Rattle.vidi_bench.specs.Devices.{Binding, IsNoMap, IsUnbound, Mapping}
 use Rattle.vidi_bench.specs.Reading.{Reading}
 use Rattle.vidi_commands.specs.Said.{wrapped_line}
-use Rattle.vidi_commands.specs.Shims.{record_name, replay_name, IsFaulty, IsFaultyTop, IsFaultyTree, IsUnwrapped}
+use Rattle.vidi_commands.specs.Shims.{IsFaulty, IsFaultyTop, IsFaultyTree, IsUnwrapped}
 use Rattle.vidi_commands.specs.Wraps.{IsUnwritten, RefusedWrap, Wraps}
 use Rattle.vidi_commands.proofs.Quiet.{Mute, mute-step, mute-reading, mute-refusal, mute-said, done-goes, quiet-reading}
 use Rattle.vidi_commands.proofs.QuietTexts.{mute-spelling, mute-building, mute-no_map, mute-unbound}

@@ -1,6 +1,6 @@
 -- Why a file and the map of its design can't be wrapped: a name that is kept for shims, a reason that holds of the wrapped tree, or its
 -- length (this project's profile).
-use Rattle.std.specs.Prelude.{◌≡◌, ℕ, ◌≤◌, ◌<◌, ◌⊎◌, List, [], Some, codes, length}
+use Rattle.std.specs.Prelude.{◌≡◌, ℕ, ◌≤◌, ◌<◌, ◌⊎◌, List, [], Some, length}
 use Rattle.vidi_bits.specs.Findings.{first}
 use Rattle.vlog_lex.specs.declared.token.Token.{Token}
 use Rattle.vlog_lex.specs.Reading.{HasTokens}
@@ -17,6 +17,8 @@ use Rattle.vlog_design.specs.Reasons.{Refused}
 use Rattle.net_design.specs.declared.design.Design.{Design}
 use Rattle.net_order.specs.Order.{IsOrder, IsLoop}
 use Rattle.chan_map.specs.declared.pins.Map.{Map}
+use Rattle.shim_trees.specs.RecordTop.{record_name}
+use Rattle.shim_trees.specs.ReplayTop.{replay_name}
 use Rattle.shim_trees.specs.Wrapped.{reserved_names, wrapped}
 use Rattle.report_text.specs.declared.reason.Word.TheVariants as words
 use Rattle.report_text.specs.declared.reason.Reason.TheVariants as reasons
@@ -30,13 +32,6 @@ abbrev pub IsReserved : FileOf ℕ → Ending
 IsReserved f status said = (name : List ℕ) × (first (reserved_names f) ≡ Some name) × IsRefusal words.Design (reasons.Reserved name) status said
 
 -- ---- the reasons that hold of a wrapped tree
-
--- the tops of a wrapped tree
-abbrev pub record_name : List ℕ
-record_name = codes "vidi_record_top"
-
-abbrev pub replay_name : List ℕ
-replay_name = codes "vidi_replay_top"
 
 -- the reason of this number holds
 abbrev pub IsFaulty : ℕ → Ending

@@ -3,6 +3,8 @@
 ghost use Rattle.std.specs.Prelude.{◌≡◌, ℕ, ◌≤◌, List, [], IfOk, IfErr, length};
 ghost use Rattle.net_design.specs.Lawful.{IsLawful};
 ghost use Rattle.net_order.specs.Order.{IsOrder};
+ghost use Rattle.shim_trees.specs.RecordTop.{record_name};
+ghost use Rattle.shim_trees.specs.ReplayTop.{replay_name};
 ghost use Rattle.shim_trees.specs.Laws.{IsMapIn};
 ghost use Rattle.shim_trees.specs.Wrapped.{reserved_names, wrapped};
 ghost use Rattle.vlog_parse.specs.Marks.{all_marked};
@@ -13,7 +15,7 @@ ghost use Rattle.vlog_tree.specs.Spelling.{toks};
 ghost use Rattle.vidi_bench.specs.AnswerText.{text_of};
 ghost use Rattle.vidi_bench.specs.Design.{text_limit, IsAccepted};
 ghost use Rattle.vidi_bench.specs.Ended.{EndsWith};
-ghost use Rattle.vidi_commands.specs.Shims.{file_text, record_name, replay_name};
+ghost use Rattle.vidi_commands.specs.Shims.{file_text};
 ghost use Rattle.vidi_commands.specs.Shims.{IsClearTop, IsClearTree, IsDeepTree, IsFaulty, IsFaultyAs, IsFaultyTop, IsFaultyTree};
 ghost use Rattle.vidi_commands.specs.Shims.{IsLong, IsLoopedTop, IsReadAs, IsRefusedTop, IsReserved, IsUnwrapped, IsWrapped};
 

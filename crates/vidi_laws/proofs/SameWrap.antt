@@ -8,6 +8,8 @@ use Rattle.vlog_parse.specs.Marks.{all_marked}
 use Rattle.vlog_elab.specs.declared.error.ElabError.{ElabError}
 use Rattle.vlog_elab.specs.declared.error.ElabError.TheVariants.{Memory}
 use Rattle.chan_map.specs.declared.pins.Map.{Map}
+use Rattle.shim_trees.specs.RecordTop.{record_name}
+use Rattle.shim_trees.specs.ReplayTop.{replay_name}
 use Rattle.shim_trees.specs.Wrapped.{reserved_names, wrapped}
 use Rattle.vidi_io.specs.Shelf.{Files}
 use Rattle.report_text.specs.declared.reason.Word.TheVariants as words
@@ -21,7 +23,7 @@ use Rattle.vidi_bench.specs.Devices.{IsDevice, Mapping}
 use Rattle.vidi_bench.specs.Reading.{Reading}
 use Rattle.vidi_commands.specs.Said.{wrapped_line}
 use Rattle.vlog_elab.specs.Errors.{number_of}
-use Rattle.vidi_commands.specs.Shims.{file_text, record_name, replay_name, IsClearTop, IsClearTree, IsDeepTree, IsFaulty}
+use Rattle.vidi_commands.specs.Shims.{file_text, IsClearTop, IsClearTree, IsDeepTree, IsFaulty}
 use Rattle.vidi_commands.specs.Shims.{IsFaultyTop, IsFaultyTree, IsRefusedTop, IsUnwrapped, IsWrapped}
 use Rattle.vidi_bench.specs.Steps.{IsRefusal}
 use Rattle.vidi_commands.specs.Wraps.{IsUnwritten, IsWrappable, IsWrapping, RefusedWrap, Wraps, WrapsFile}

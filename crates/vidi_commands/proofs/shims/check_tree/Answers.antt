@@ -1,6 +1,8 @@
 use Rattle.std.proofs.Common.{inl, inr}
 use Rattle.vlog_tree.specs.Plain.{plain}
-use Rattle.vidi_commands.specs.Shims.{record_name, replay_name, IsDeepTree, IsFaultyTop, IsFaultyTree}
+use Rattle.shim_trees.specs.RecordTop.{record_name}
+use Rattle.shim_trees.specs.ReplayTop.{replay_name}
+use Rattle.vidi_commands.specs.Shims.{IsDeepTree, IsFaultyTop, IsFaultyTree}
 use Rattle.vidi_bench.proofs.Chain.{all-as, passed-as}
 use Rattle.vidi_commands.proofs.shims.check_tree.Goals as goal
 
