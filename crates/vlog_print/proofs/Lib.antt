@@ -1,5 +1,3 @@
 pub mod Again
-pub mod Commas
-pub mod Each
 pub mod GoodWords
 pub mod Printed

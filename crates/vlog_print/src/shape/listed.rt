@@ -1,7 +1,8 @@
 //! Good shape of the parts of lists.
 
-ghost use Rattle.std.specs.Prelude.{◌↔◌, IsTrue, map};
+ghost use Rattle.std.specs.Prelude.{◌↔◌, ℕ, IsTrue, map};
 ghost use Rattle.std.specs.List.{AllByRecursion};
+ghost use Rattle.vlog_tree.specs.Tree.{ExprOf};
 ghost use Rattle.vlog_tree.specs.Plain.{plain_expr};
 ghost use Rattle.vlog_tree.specs.Shape.{AreSomeGood, IsGoodExpr};
 
@@ -10,17 +11,22 @@ use vlog_tree::Expr;
 
 /// A part of a tree that stands in lists.
 pub trait Shaped {
-    /// That it has good shape.
-    ghost is_good: { Self → Type 0 };
+    /// What it is as plain data.
+    ghost Plain: { Type 0 };
+
+    ghost plain: { Self → Plain };
+
+    /// That this has good shape.
+    ghost is_good: { Plain → Type 0 };
 
     /// Whether it has good shape.
     fn good(&self) -> bool
-        ensures { IsTrue result ↔ is_good self.now };
+        ensures { IsTrue result ↔ is_good (plain self.now) };
 }
 
 /// Whether each of these parts has good shape.
 pub fn each_good<T: Shaped>(parts: &[T]) -> bool
-    ensures { IsTrue result ↔ AllByRecursion T.is_good parts.now }
+    ensures { IsTrue result ↔ AllByRecursion T.is_good (map T.plain parts.now) }
 {
     for part in parts {
         if !part.good() {
@@ -32,7 +38,7 @@ pub fn each_good<T: Shaped>(parts: &[T]) -> bool
 
 /// Whether there is a part, and each has good shape.
 pub fn some_good<T: Shaped>(parts: &[T]) -> bool
-    ensures { IsTrue result ↔ AreSomeGood T.is_good parts.now }
+    ensures { IsTrue result ↔ AreSomeGood T.is_good (map T.plain parts.now) }
 {
     match parts {
         [] => false,
@@ -41,16 +47,13 @@ pub fn some_good<T: Shaped>(parts: &[T]) -> bool
 }
 
 impl Shaped for Expr {
-    ghost is_good = { λ e. IsGoodExpr (plain_expr e) };
+    ghost Plain = { ExprOf ℕ };
+
+    ghost plain = { plain_expr };
+
+    ghost is_good = { IsGoodExpr };
 
     fn good(&self) -> bool {
         good_expr(self)
     }
-}
-
-/// Whether there is an expression, and each has good shape.
-pub fn good_labels(labels: &[Expr]) -> bool
-    ensures { IsTrue result ↔ AreSomeGood IsGoodExpr (map plain_expr labels.now) }
-{
-    some_good(labels)
 }

@@ -1,11 +1,11 @@
 //! Good shape of files, modules, ports and items.
 
-ghost use Rattle.std.specs.Prelude.{◌≡◌, ◌↔◌, IsTrue, List, option_map, map};
-ghost use Rattle.std.specs.List.{AllByRecursion};
+ghost use Rattle.std.specs.Prelude.{◌≡◌, ◌↔◌, ℕ, IsTrue, List, option_map, map};
+ghost use Rattle.vlog_tree.specs.Tree.{IdentOf, ParameterOf, PortOf, NamedValueOf, Reg1Of, AssignOf, ConnOf, ItemOf, ModuleOf};
 ghost use Rattle.vlog_tree.specs.Plain.{plain_ident, plain_range, plain_head, plain_port, plain_named, plain_tail, plain_reg, plain_assign};
 ghost use Rattle.vlog_tree.specs.Plain.{plain_event, plain_always, plain_item, plain_module, plain, plain_expr, plain_parameter_head};
 ghost use Rattle.vlog_tree.specs.Plain.{plain_parameter, plain_conn, plain_instance};
-ghost use Rattle.vlog_tree.specs.Shape.{IsGoodOption, AreSomeGood, IsGoodExpr, IsGoodIdent, IsGoodRange, IsGoodHead, IsGoodPort};
+ghost use Rattle.vlog_tree.specs.Shape.{IsGoodOption, IsGoodExpr, IsGoodIdent, IsGoodRange, IsGoodHead, IsGoodPort};
 ghost use Rattle.vlog_tree.specs.Shape.{IsFirstDirected, IsGoodNamed, IsGoodTail, IsGoodReg, IsGoodAssign, IsGoodEvent, IsGoodAlways};
 ghost use Rattle.vlog_tree.specs.Shape.{IsGoodItem, IsGoodModule, IsGood, IsGoodParameterHead, IsGoodParameter, IsFirstHeaded};
 ghost use Rattle.vlog_tree.specs.Shape.{IsGoodConn, IsGoodInstance};
@@ -20,7 +20,11 @@ use vlog_tree::{
 };
 
 impl Shaped for Ident {
-    ghost is_good = { λ id. IsGoodIdent (plain_ident id) };
+    ghost Plain = { IdentOf ℕ };
+
+    ghost plain = { plain_ident };
+
+    ghost is_good = { IsGoodIdent };
 
     fn good(&self) -> bool {
         good_name(&self.name)
@@ -70,7 +74,11 @@ fn good_parameter_head(head: &Option<ParameterHead>) -> bool
 }
 
 impl Shaped for Parameter {
-    ghost is_good = { λ p. IsGoodParameter (plain_parameter p) };
+    ghost Plain = { ParameterOf ℕ };
+
+    ghost plain = { plain_parameter };
+
+    ghost is_good = { IsGoodParameter };
 
     fn good(&self) -> bool {
         good_parameter_head(&self.head) && good_name(&self.id.name) && good_expr(&self.value)
@@ -78,7 +86,11 @@ impl Shaped for Parameter {
 }
 
 impl Shaped for Port {
-    ghost is_good = { λ p. IsGoodPort (plain_port p) };
+    ghost Plain = { PortOf ℕ };
+
+    ghost plain = { plain_port };
+
+    ghost is_good = { IsGoodPort };
 
     fn good(&self) -> bool {
         good_head(&self.head) && good_name(&self.id.name) && good_init(&self.init)
@@ -86,7 +98,11 @@ impl Shaped for Port {
 }
 
 impl Shaped for NamedValue {
-    ghost is_good = { λ w. IsGoodNamed (plain_named w) };
+    ghost Plain = { NamedValueOf ℕ };
+
+    ghost plain = { plain_named };
+
+    ghost is_good = { IsGoodNamed };
 
     fn good(&self) -> bool {
         good_name(&self.id.name) && good_expr(&self.value)
@@ -104,7 +120,11 @@ fn good_tail(tail: &Option<RegTail>) -> bool
 }
 
 impl Shaped for Reg1 {
-    ghost is_good = { λ r. IsGoodReg (plain_reg r) };
+    ghost Plain = { Reg1Of ℕ };
+
+    ghost plain = { plain_reg };
+
+    ghost is_good = { IsGoodReg };
 
     fn good(&self) -> bool {
         good_name(&self.id.name) && good_tail(&self.tail)
@@ -112,35 +132,15 @@ impl Shaped for Reg1 {
 }
 
 impl Shaped for Assign {
-    ghost is_good = { λ a. IsGoodAssign (plain_assign a) };
+    ghost Plain = { AssignOf ℕ };
+
+    ghost plain = { plain_assign };
+
+    ghost is_good = { IsGoodAssign };
 
     fn good(&self) -> bool {
         good_target(&self.target) && good_expr(&self.value)
     }
-}
-
-fn good_names(names: &[Ident]) -> bool
-    ensures { IsTrue result ↔ AreSomeGood IsGoodIdent (map plain_ident names.now) }
-{
-    some_good(names)
-}
-
-fn good_named(named: &[NamedValue]) -> bool
-    ensures { IsTrue result ↔ AreSomeGood IsGoodNamed (map plain_named named.now) }
-{
-    some_good(named)
-}
-
-fn good_regs(regs: &[Reg1]) -> bool
-    ensures { IsTrue result ↔ AreSomeGood IsGoodReg (map plain_reg regs.now) }
-{
-    some_good(regs)
-}
-
-fn good_assigns(assigns: &[Assign]) -> bool
-    ensures { IsTrue result ↔ AreSomeGood IsGoodAssign (map plain_assign assigns.now) }
-{
-    some_good(assigns)
 }
 
 fn good_event(event: &Event) -> bool
@@ -159,50 +159,46 @@ fn good_always(always: &Always) -> bool
 }
 
 impl Shaped for Conn {
-    ghost is_good = { λ c. IsGoodConn (plain_conn c) };
+    ghost Plain = { ConnOf ℕ };
+
+    ghost plain = { plain_conn };
+
+    ghost is_good = { IsGoodConn };
 
     fn good(&self) -> bool {
         good_name(&self.id.name) && good_init(&self.value)
     }
 }
 
-fn good_conns(conns: &[Conn]) -> bool
-    ensures { IsTrue result ↔ AllByRecursion IsGoodConn (map plain_conn conns.now) }
-{
-    each_good(conns)
-}
-
 fn good_instance(instance: &Instance) -> bool
     ensures { IsTrue result ↔ IsGoodInstance (plain_instance instance.now) }
 {
     good_name(&instance.module_id.name)
-        && good_conns(instance.parameters.as_slice())
+        && each_good(instance.parameters.as_slice())
         && good_name(&instance.id.name)
-        && good_conns(instance.ports.as_slice())
+        && each_good(instance.ports.as_slice())
 }
 
 impl Shaped for Item {
-    ghost is_good = { λ i. IsGoodItem (plain_item i) };
+    ghost Plain = { ItemOf ℕ };
+
+    ghost plain = { plain_item };
+
+    ghost is_good = { IsGoodItem };
 
     fn good(&self) -> bool {
         match self {
-            Item::Wires { range, names } => good_range(range) && good_names(names.as_slice()),
-            Item::DrivenWires { range, wires } => good_range(range) && good_named(wires.as_slice()),
-            Item::Regs { range, regs } => good_range(range) && good_regs(regs.as_slice()),
+            Item::Wires { range, names } => good_range(range) && some_good(names.as_slice()),
+            Item::DrivenWires { range, wires } => good_range(range) && some_good(wires.as_slice()),
+            Item::Regs { range, regs } => good_range(range) && some_good(regs.as_slice()),
             Item::Localparams { range, parameters } => {
-                good_range(range) && good_named(parameters.as_slice())
+                good_range(range) && some_good(parameters.as_slice())
             }
-            Item::Assign { assigns } => good_assigns(assigns.as_slice()),
+            Item::Assign { assigns } => some_good(assigns.as_slice()),
             Item::Always(always) => good_always(always),
             Item::Instance(instance) => good_instance(instance),
         }
     }
-}
-
-fn good_parameters(parameters: &[Parameter]) -> bool
-    ensures { IsTrue result ↔ AllByRecursion IsGoodParameter (map plain_parameter parameters.now) }
-{
-    each_good(parameters)
 }
 
 /// Whether the first parameter, where there is one, has the word `parameter`.
@@ -215,12 +211,6 @@ fn first_headed(parameters: &[Parameter]) -> bool
     }
 }
 
-fn good_ports(ports: &[Port]) -> bool
-    ensures { IsTrue result ↔ AllByRecursion IsGoodPort (map plain_port ports.now) }
-{
-    each_good(ports)
-}
-
 /// Whether the first port, where there is one, has a direction.
 fn first_directed(ports: &[Port]) -> bool
     ensures { IsTrue result ↔ IsFirstDirected (map plain_port ports.now) }
@@ -231,22 +221,20 @@ fn first_directed(ports: &[Port]) -> bool
     }
 }
 
-fn good_items(items: &[Item]) -> bool
-    ensures { IsTrue result ↔ AllByRecursion IsGoodItem (map plain_item items.now) }
-{
-    each_good(items)
-}
-
 impl Shaped for Module {
-    ghost is_good = { λ m. IsGoodModule (plain_module m) };
+    ghost Plain = { ModuleOf ℕ };
+
+    ghost plain = { plain_module };
+
+    ghost is_good = { IsGoodModule };
 
     fn good(&self) -> bool {
         good_name(&self.name)
             && first_headed(self.parameters.as_slice())
-            && good_parameters(self.parameters.as_slice())
+            && each_good(self.parameters.as_slice())
             && first_directed(self.ports.as_slice())
-            && good_ports(self.ports.as_slice())
-            && good_items(self.items.as_slice())
+            && each_good(self.ports.as_slice())
+            && each_good(self.items.as_slice())
     }
 }
 

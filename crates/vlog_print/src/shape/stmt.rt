@@ -6,7 +6,7 @@ ghost use Rattle.vlog_tree.specs.Shape.{IsGoodTarget, AreGoodTargets, is_open, i
 ghost use Rattle.vlog_tree.specs.Shape.{IsGoodArm, AreGoodArms};
 
 use crate::shape::expr::{good_expr, good_ref};
-use crate::shape::listed::good_labels;
+use crate::shape::listed::some_good;
 use vlog_tree::{Arm, Body, Stmt, Target, see_begin, see_case, see_concat_target};
 
 #[cycle(good_targets)]
@@ -111,7 +111,7 @@ fn good_arm(arm: &Arm) -> bool
     ensures { IsTrue result ↔ IsGoodArm (plain_arm arm.now) }
 {
     match arm {
-        Arm::Labels { labels, body } => good_labels(labels.as_slice()) && good_body(body),
+        Arm::Labels { labels, body } => some_good(labels.as_slice()) && good_body(body),
         Arm::Default { body, .. } => good_body(body),
     }
 }

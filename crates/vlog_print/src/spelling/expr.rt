@@ -6,7 +6,7 @@ ghost use Rattle.vlog_tree.specs.Plain.{plain_sign, plain_expr, plain_prim, plai
 ghost use Rattle.vlog_tree.specs.Spelling.{unary_terminal, binary_terminal, sign_words, expr_words, prim_words, ref_words, sel_words};
 ghost use Rattle.vlog_tree.specs.Spelling.{exprs_words};
 
-use crate::spelling::token::{put_fixed, put_name, put_number};
+use crate::spelling::token::{put_fixed, put_name, put_number, put_two};
 use std::alloc::Global;
 use vidi_bits::Memory;
 use vlog_lex::Tokens;
@@ -125,8 +125,7 @@ fn push_prim(alloc: Global, out: &mut Tokens, prim: &Operand) -> Result<(), Memo
             push_expr(alloc, out, count)?;
             put_fixed(alloc, out, Terminal::BraceOpen)?;
             push_exprs(alloc, out, parts.as_slice())?;
-            put_fixed(alloc, out, Terminal::BraceClose)?;
-            put_fixed(alloc, out, Terminal::BraceClose)
+            put_two(alloc, out, Terminal::BraceClose, Terminal::BraceClose)
         }
     }
 }

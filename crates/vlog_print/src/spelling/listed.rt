@@ -1,12 +1,13 @@
 //! The parts of lists spelled as tokens.
 
 ghost use Rattle.std.specs.Prelude.{◌≡◌, ℕ, List, ◌++◌, OnOk, map};
+ghost use Rattle.vlog_tree.specs.Tree.{ExprOf};
 ghost use Rattle.vlog_tree.specs.Words.{WordOf, tokens_of};
 ghost use Rattle.vlog_tree.specs.Plain.{plain_expr};
-ghost use Rattle.vlog_tree.specs.Spelling.{with_commas, hash_words, expr_words};
+ghost use Rattle.vlog_tree.specs.Spelling.{with_commas, in_row, hash_words, expr_words};
 
 use crate::spelling::expr::push_expr;
-use crate::spelling::token::put_fixed;
+use crate::spelling::token::{put_fixed, put_two};
 use std::alloc::Global;
 use vidi_bits::Memory;
 use vlog_lex::Tokens;
@@ -14,12 +15,17 @@ use vlog_tree::{Expr, Terminal};
 
 /// A part of a tree that stands in lists.
 pub trait Spelled {
-    /// The words of which it is spelled.
-    ghost words: { Self → List (WordOf ℕ) };
+    /// What it is as plain data.
+    ghost Plain: { Type 0 };
+
+    ghost plain: { Self → Plain };
+
+    /// The words of which that is spelled.
+    ghost words: { Plain → List (WordOf ℕ) };
 
     /// Adds its tokens.
     fn push(&self, alloc: Global, out: &mut Tokens) -> Result<(), Memory>
-        ensures { OnOk result (out.new ≡ out.old ++ tokens_of (words self.now)) };
+        ensures { OnOk result (out.new ≡ out.old ++ tokens_of (words (plain self.now))) };
 }
 
 /// Adds the tokens of these parts, with commas between them.
@@ -28,7 +34,7 @@ pub fn push_with_commas<T: Spelled>(
     out: &mut Tokens,
     parts: &[T],
 ) -> Result<(), Memory>
-    ensures { OnOk result (out.new ≡ out.old ++ tokens_of (with_commas T.words parts.now)) }
+    ensures { OnOk result (out.new ≡ out.old ++ tokens_of (with_commas T.words (map T.plain parts.now))) }
 {
     match parts {
         [] => Ok(()),
@@ -43,15 +49,24 @@ pub fn push_with_commas<T: Spelled>(
     }
 }
 
+/// Adds the tokens of these parts, one behind the other.
+pub fn push_in_row<T: Spelled>(alloc: Global, out: &mut Tokens, parts: &[T]) -> Result<(), Memory>
+    ensures { OnOk result (out.new ≡ out.old ++ tokens_of (in_row T.words (map T.plain parts.now))) }
+{
+    for part in parts {
+        part.push(alloc, out)?;
+    }
+    Ok(())
+}
+
 /// Adds the tokens of `#(part, ..)`, where there is a part.
 pub fn push_hash<T: Spelled>(alloc: Global, out: &mut Tokens, parts: &[T]) -> Result<(), Memory>
-    ensures { OnOk result (out.new ≡ out.old ++ tokens_of (hash_words T.words parts.now)) }
+    ensures { OnOk result (out.new ≡ out.old ++ tokens_of (hash_words T.words (map T.plain parts.now))) }
 {
     match parts {
         [] => Ok(()),
         _ => {
-            put_fixed(alloc, out, Terminal::Hash)?;
-            put_fixed(alloc, out, Terminal::ParenOpen)?;
+            put_two(alloc, out, Terminal::Hash, Terminal::ParenOpen)?;
             push_with_commas(alloc, out, parts)?;
             put_fixed(alloc, out, Terminal::ParenClose)
         }
@@ -59,15 +74,13 @@ pub fn push_hash<T: Spelled>(alloc: Global, out: &mut Tokens, parts: &[T]) -> Re
 }
 
 impl Spelled for Expr {
-    ghost words = { λ e. expr_words (plain_expr e) };
+    ghost Plain = { ExprOf ℕ };
+
+    ghost plain = { plain_expr };
+
+    ghost words = { expr_words };
 
     fn push(&self, alloc: Global, out: &mut Tokens) -> Result<(), Memory> {
         push_expr(alloc, out, self)
     }
-}
-
-pub fn push_labels(alloc: Global, out: &mut Tokens, labels: &[Expr]) -> Result<(), Memory>
-    ensures { OnOk result (out.new ≡ out.old ++ tokens_of (with_commas expr_words (map plain_expr labels.now))) }
-{
-    push_with_commas(alloc, out, labels)
 }

@@ -1,6 +1,7 @@
 //! Files, modules, ports and items spelled as tokens.
 
 ghost use Rattle.std.specs.Prelude.{◌≡◌, ℕ, [], ◌∷◌, ◌++◌, OnOk, IfOk, option_map, map};
+ghost use Rattle.vlog_tree.specs.Tree.{IdentOf, ParameterOf, PortOf, NamedValueOf, Reg1Of, AssignOf, ConnOf, ItemOf, ModuleOf};
 ghost use Rattle.vlog_tree.specs.Words.{NameWord, Fixed, tokens_of};
 ghost use Rattle.vlog_tree.specs.declared.terminal.Terminal.TheVariants as t;
 ghost use Rattle.vlog_tree.specs.Plain.{plain_ident, plain_range, plain_head, plain_port, plain_named, plain_tail, plain_reg, plain_assign};
@@ -12,9 +13,9 @@ ghost use Rattle.vlog_tree.specs.Spelling.{always_words, item_words, module_word
 ghost use Rattle.vlog_tree.specs.Spelling.{conn_words, instance_words};
 
 use crate::spelling::expr::push_expr;
-use crate::spelling::listed::{Spelled, push_hash, push_with_commas};
+use crate::spelling::listed::{Spelled, push_hash, push_in_row, push_with_commas};
 use crate::spelling::stmt::{push_body, push_target};
-use crate::spelling::token::{put_fixed, put_name};
+use crate::spelling::token::{put_fixed, put_name, put_two};
 use std::alloc::Global;
 use vidi_bits::Memory;
 use vlog_lex::Tokens;
@@ -24,7 +25,11 @@ use vlog_tree::{
 };
 
 impl Spelled for Ident {
-    ghost words = { λ id. ident_words (plain_ident id) };
+    ghost Plain = { IdentOf ℕ };
+
+    ghost plain = { plain_ident };
+
+    ghost words = { ident_words };
 
     fn push(&self, alloc: Global, out: &mut Tokens) -> Result<(), Memory> {
         put_name(alloc, out, &self.name)
@@ -62,23 +67,14 @@ fn push_direction(alloc: Global, out: &mut Tokens, direction: Direction) -> Resu
 {
     match direction {
         Direction::Input { wire: false } => put_fixed(alloc, out, Terminal::Input),
-        Direction::Input { wire: true } => {
-            put_fixed(alloc, out, Terminal::Input)?;
-            put_fixed(alloc, out, Terminal::Wire)
-        }
+        Direction::Input { wire: true } => { put_two(alloc, out, Terminal::Input, Terminal::Wire) }
         Direction::Output { kind: None } => put_fixed(alloc, out, Terminal::Output),
         Direction::Output {
             kind: Some(NetKind::Wire),
-        } => {
-            put_fixed(alloc, out, Terminal::Output)?;
-            put_fixed(alloc, out, Terminal::Wire)
-        }
+        } => { put_two(alloc, out, Terminal::Output, Terminal::Wire) }
         Direction::Output {
             kind: Some(NetKind::Reg),
-        } => {
-            put_fixed(alloc, out, Terminal::Output)?;
-            put_fixed(alloc, out, Terminal::Reg)
-        }
+        } => { put_two(alloc, out, Terminal::Output, Terminal::Reg) }
     }
 }
 
@@ -107,7 +103,11 @@ fn push_parameter_head(
 }
 
 impl Spelled for Parameter {
-    ghost words = { λ p. parameter_words (plain_parameter p) };
+    ghost Plain = { ParameterOf ℕ };
+
+    ghost plain = { plain_parameter };
+
+    ghost words = { parameter_words };
 
     fn push(&self, alloc: Global, out: &mut Tokens) -> Result<(), Memory> {
         push_parameter_head(alloc, out, &self.head)?;
@@ -117,7 +117,11 @@ impl Spelled for Parameter {
 }
 
 impl Spelled for Port {
-    ghost words = { λ p. port_words (plain_port p) };
+    ghost Plain = { PortOf ℕ };
+
+    ghost plain = { plain_port };
+
+    ghost words = { port_words };
 
     fn push(&self, alloc: Global, out: &mut Tokens) -> Result<(), Memory> {
         push_head(alloc, out, &self.head)?;
@@ -130,7 +134,11 @@ impl Spelled for Port {
 }
 
 impl Spelled for NamedValue {
-    ghost words = { λ w. named_words (plain_named w) };
+    ghost Plain = { NamedValueOf ℕ };
+
+    ghost plain = { plain_named };
+
+    ghost words = { named_words };
 
     fn push(&self, alloc: Global, out: &mut Tokens) -> Result<(), Memory> {
         put_name(alloc, out, &self.id.name)?;
@@ -139,7 +147,11 @@ impl Spelled for NamedValue {
 }
 
 impl Spelled for Reg1 {
-    ghost words = { λ r. reg_words (plain_reg r) };
+    ghost Plain = { Reg1Of ℕ };
+
+    ghost plain = { plain_reg };
+
+    ghost words = { reg_words };
 
     fn push(&self, alloc: Global, out: &mut Tokens) -> Result<(), Memory> {
         put_name(alloc, out, &self.id.name)?;
@@ -152,7 +164,11 @@ impl Spelled for Reg1 {
 }
 
 impl Spelled for Assign {
-    ghost words = { λ a. assign_words (plain_assign a) };
+    ghost Plain = { AssignOf ℕ };
+
+    ghost plain = { plain_assign };
+
+    ghost words = { assign_words };
 
     fn push(&self, alloc: Global, out: &mut Tokens) -> Result<(), Memory> {
         push_target(alloc, out, &self.target)?;
@@ -161,7 +177,11 @@ impl Spelled for Assign {
 }
 
 impl Spelled for Conn {
-    ghost words = { λ c. conn_words (plain_conn c) };
+    ghost Plain = { ConnOf ℕ };
+
+    ghost plain = { plain_conn };
+
+    ghost words = { conn_words };
 
     fn push(&self, alloc: Global, out: &mut Tokens) -> Result<(), Memory> {
         put_fixed(alloc, out, Terminal::Dot)?;
@@ -174,70 +194,20 @@ impl Spelled for Conn {
     }
 }
 
-fn push_parameters(alloc: Global, out: &mut Tokens, parameters: &[Parameter]) -> Result<(), Memory>
-    ensures { OnOk result (out.new ≡ out.old ++ tokens_of (hash_words parameter_words (map plain_parameter parameters.now))) }
-{
-    push_hash(alloc, out, parameters)
-}
-
-fn push_parameter_conns(alloc: Global, out: &mut Tokens, conns: &[Conn]) -> Result<(), Memory>
-    ensures { OnOk result (out.new ≡ out.old ++ tokens_of (hash_words conn_words (map plain_conn conns.now))) }
-{
-    push_hash(alloc, out, conns)
-}
-
-fn push_conns(alloc: Global, out: &mut Tokens, conns: &[Conn]) -> Result<(), Memory>
-    ensures { OnOk result (out.new ≡ out.old ++ tokens_of (with_commas conn_words (map plain_conn conns.now))) }
-{
-    push_with_commas(alloc, out, conns)
-}
-
-fn push_names(alloc: Global, out: &mut Tokens, names: &[Ident]) -> Result<(), Memory>
-    ensures { OnOk result (out.new ≡ out.old ++ tokens_of (with_commas ident_words (map plain_ident names.now))) }
-{
-    push_with_commas(alloc, out, names)
-}
-
-fn push_ports(alloc: Global, out: &mut Tokens, ports: &[Port]) -> Result<(), Memory>
-    ensures { OnOk result (out.new ≡ out.old ++ tokens_of (with_commas port_words (map plain_port ports.now))) }
-{
-    push_with_commas(alloc, out, ports)
-}
-
-fn push_named(alloc: Global, out: &mut Tokens, named: &[NamedValue]) -> Result<(), Memory>
-    ensures { OnOk result (out.new ≡ out.old ++ tokens_of (with_commas named_words (map plain_named named.now))) }
-{
-    push_with_commas(alloc, out, named)
-}
-
-fn push_regs(alloc: Global, out: &mut Tokens, regs: &[Reg1]) -> Result<(), Memory>
-    ensures { OnOk result (out.new ≡ out.old ++ tokens_of (with_commas reg_words (map plain_reg regs.now))) }
-{
-    push_with_commas(alloc, out, regs)
-}
-
-fn push_assigns(alloc: Global, out: &mut Tokens, assigns: &[Assign]) -> Result<(), Memory>
-    ensures { OnOk result (out.new ≡ out.old ++ tokens_of (with_commas assign_words (map plain_assign assigns.now))) }
-{
-    push_with_commas(alloc, out, assigns)
-}
-
 fn push_event(alloc: Global, out: &mut Tokens, event: &Event) -> Result<(), Memory>
     ensures { OnOk result (out.new ≡ out.old ++ tokens_of (event_words (plain_event event.now))) }
 {
     put_fixed(alloc, out, Terminal::At)?;
     match event {
         Event::Posedge(clock) => {
-            put_fixed(alloc, out, Terminal::ParenOpen)?;
-            put_fixed(alloc, out, Terminal::Posedge)?;
+            put_two(alloc, out, Terminal::ParenOpen, Terminal::Posedge)?;
             put_name(alloc, out, &clock.name)?;
             put_fixed(alloc, out, Terminal::ParenClose)
         }
         Event::Implicit { parens: false } => put_fixed(alloc, out, Terminal::Star),
         Event::Implicit { parens: true } => {
             put_fixed(alloc, out, Terminal::ParenOpen)?;
-            put_fixed(alloc, out, Terminal::Star)?;
-            put_fixed(alloc, out, Terminal::ParenClose)
+            put_two(alloc, out, Terminal::Star, Terminal::ParenClose)
         }
     }
 }
@@ -254,59 +224,66 @@ fn push_instance(alloc: Global, out: &mut Tokens, instance: &Instance) -> Result
     ensures { OnOk result (out.new ≡ out.old ++ tokens_of (instance_words (plain_instance instance.now))) }
 {
     put_name(alloc, out, &instance.module_id.name)?;
-    push_parameter_conns(alloc, out, instance.parameters.as_slice())?;
+    push_hash(alloc, out, instance.parameters.as_slice())?;
     put_name(alloc, out, &instance.id.name)?;
     put_fixed(alloc, out, Terminal::ParenOpen)?;
-    push_conns(alloc, out, instance.ports.as_slice())?;
-    put_fixed(alloc, out, Terminal::ParenClose)?;
+    push_with_commas(alloc, out, instance.ports.as_slice())?;
+    put_two(alloc, out, Terminal::ParenClose, Terminal::Semicolon)
+}
+
+/// Adds the tokens of a declaration: its word, its range, its parts with commas between them, and `;`.
+fn push_declaration<T: Spelled>(
+    alloc: Global,
+    out: &mut Tokens,
+    word: Terminal,
+    range: &Option<Range>,
+    parts: &[T],
+) -> Result<(), Memory>
+    ensures { OnOk result (out.new ≡ out.old ++ tokens_of (Fixed word ∷ (optional range_words (option_map plain_range range.now)
+        ++ (with_commas T.words (map T.plain parts.now) ++ Fixed t.Semicolon ∷ [])))) }
+{
+    put_fixed(alloc, out, word)?;
+    push_range(alloc, out, range)?;
+    push_with_commas(alloc, out, parts)?;
     put_fixed(alloc, out, Terminal::Semicolon)
 }
 
-fn push_item(alloc: Global, out: &mut Tokens, item: &Item) -> Result<(), Memory>
-    ensures { OnOk result (out.new ≡ out.old ++ tokens_of (item_words (plain_item item.now))) }
-{
-    match item {
-        Item::Wires { range, names } => {
-            put_fixed(alloc, out, Terminal::Wire)?;
-            push_range(alloc, out, range)?;
-            push_names(alloc, out, names.as_slice())?;
-            put_fixed(alloc, out, Terminal::Semicolon)
-        }
-        Item::DrivenWires { range, wires } => {
-            put_fixed(alloc, out, Terminal::Wire)?;
-            push_range(alloc, out, range)?;
-            push_named(alloc, out, wires.as_slice())?;
-            put_fixed(alloc, out, Terminal::Semicolon)
-        }
-        Item::Regs { range, regs } => {
-            put_fixed(alloc, out, Terminal::Reg)?;
-            push_range(alloc, out, range)?;
-            push_regs(alloc, out, regs.as_slice())?;
-            put_fixed(alloc, out, Terminal::Semicolon)
-        }
-        Item::Localparams { range, parameters } => {
-            put_fixed(alloc, out, Terminal::Localparam)?;
-            push_range(alloc, out, range)?;
-            push_named(alloc, out, parameters.as_slice())?;
-            put_fixed(alloc, out, Terminal::Semicolon)
-        }
-        Item::Assign { assigns } => {
-            put_fixed(alloc, out, Terminal::Assign)?;
-            push_assigns(alloc, out, assigns.as_slice())?;
-            put_fixed(alloc, out, Terminal::Semicolon)
-        }
-        Item::Always(always) => push_always(alloc, out, always),
-        Item::Instance(instance) => push_instance(alloc, out, instance),
-    }
-}
+impl Spelled for Item {
+    ghost Plain = { ItemOf ℕ };
 
-fn push_items(alloc: Global, out: &mut Tokens, items: &[Item]) -> Result<(), Memory>
-    ensures { OnOk result (out.new ≡ out.old ++ tokens_of (in_row item_words (map plain_item items.now))) }
-{
-    for item in items {
-        push_item(alloc, out, item)?;
+    ghost plain = { plain_item };
+
+    ghost words = { item_words };
+
+    fn push(&self, alloc: Global, out: &mut Tokens) -> Result<(), Memory> {
+        match self {
+            Item::Wires { range, names } => {
+                push_declaration(alloc, out, Terminal::Wire, range, names.as_slice())
+            }
+            Item::DrivenWires { range, wires } => {
+                push_declaration(alloc, out, Terminal::Wire, range, wires.as_slice())
+            }
+            Item::Regs { range, regs } => {
+                push_declaration(alloc, out, Terminal::Reg, range, regs.as_slice())
+            }
+            Item::Localparams { range, parameters } => {
+                push_declaration(
+                    alloc,
+                    out,
+                    Terminal::Localparam,
+                    range,
+                    parameters.as_slice(),
+                )
+            }
+            Item::Assign { assigns } => {
+                put_fixed(alloc, out, Terminal::Assign)?;
+                push_with_commas(alloc, out, assigns.as_slice())?;
+                put_fixed(alloc, out, Terminal::Semicolon)
+            }
+            Item::Always(always) => push_always(alloc, out, always),
+            Item::Instance(instance) => push_instance(alloc, out, instance),
+        }
     }
-    Ok(())
 }
 
 /// Adds the tokens of a module before its ports.
@@ -316,7 +293,7 @@ fn push_title(alloc: Global, out: &mut Tokens, declared: &Module) -> Result<(), 
 {
     put_fixed(alloc, out, Terminal::Module)?;
     put_name(alloc, out, &declared.name)?;
-    push_parameters(alloc, out, declared.parameters.as_slice())
+    push_hash(alloc, out, declared.parameters.as_slice())
 }
 
 /// Adds the tokens of a module from its ports on.
@@ -326,18 +303,23 @@ fn push_contents(alloc: Global, out: &mut Tokens, declared: &Module) -> Result<(
         ∷ (in_row item_words (map plain_item declared.now.items) ++ Fixed t.Endmodule ∷ [])))) }
 {
     put_fixed(alloc, out, Terminal::ParenOpen)?;
-    push_ports(alloc, out, declared.ports.as_slice())?;
-    put_fixed(alloc, out, Terminal::ParenClose)?;
-    put_fixed(alloc, out, Terminal::Semicolon)?;
-    push_items(alloc, out, declared.items.as_slice())?;
+    push_with_commas(alloc, out, declared.ports.as_slice())?;
+    put_two(alloc, out, Terminal::ParenClose, Terminal::Semicolon)?;
+    push_in_row(alloc, out, declared.items.as_slice())?;
     put_fixed(alloc, out, Terminal::Endmodule)
 }
 
-fn push_module(alloc: Global, out: &mut Tokens, declared: &Module) -> Result<(), Memory>
-    ensures { OnOk result (out.new ≡ out.old ++ tokens_of (module_words (plain_module declared.now))) }
-{
-    push_title(alloc, out, declared)?;
-    push_contents(alloc, out, declared)
+impl Spelled for Module {
+    ghost Plain = { ModuleOf ℕ };
+
+    ghost plain = { plain_module };
+
+    ghost words = { module_words };
+
+    fn push(&self, alloc: Global, out: &mut Tokens) -> Result<(), Memory> {
+        push_title(alloc, out, self)?;
+        push_contents(alloc, out, self)
+    }
 }
 
 /// The tokens of which a tree is spelled, each with line 0.
@@ -345,8 +327,6 @@ pub fn tokens_of(alloc: Global, file: &File) -> Result<Tokens, Memory>
     ensures { IfOk result (λ tokens. tokens ≡ toks (plain file.now)) }
 {
     let mut out = Tokens::new(alloc);
-    for module in file.modules.as_slice() {
-        push_module(alloc, &mut out, module)?;
-    }
+    push_in_row(alloc, &mut out, file.modules.as_slice())?;
     Ok(out)
 }

@@ -1,19 +1,22 @@
 //! Targets, statements and blocks spelled as tokens.
 
 ghost use Rattle.std.specs.Prelude.{◌≡◌, ℕ, [], ◌∷◌, ◌++◌, OnOk};
-ghost use Rattle.vlog_tree.specs.Words.{tokens_of};
-ghost use Rattle.vlog_tree.specs.Plain.{plain_target, plain_targets, plain_stmt, plain_stmts, plain_body, plain_arm, plain_arms};
-ghost use Rattle.vlog_tree.specs.Spelling.{assign_terminal, target_words, targets_words, stmt_words, stmts_words, body_words};
+ghost use Rattle.vlog_tree.specs.Tree.{AssignStmt};
+ghost use Rattle.vlog_tree.specs.Words.{Fixed, tokens_of};
+ghost use Rattle.vlog_tree.specs.declared.terminal.Terminal.TheVariants as t;
+ghost use Rattle.vlog_tree.specs.Plain.{plain_expr, plain_target, plain_targets, plain_stmt, plain_stmts, plain_body, plain_arm};
+ghost use Rattle.vlog_tree.specs.Plain.{plain_arms};
+ghost use Rattle.vlog_tree.specs.Spelling.{assign_terminal, expr_words, target_words, targets_words, stmt_words, stmts_words, body_words};
 ghost use Rattle.vlog_tree.specs.Spelling.{colon_words, arm_words, arms_words};
 
 use crate::spelling::expr::{push_expr, push_ref};
-use crate::spelling::listed::push_labels;
-use crate::spelling::token::put_fixed;
+use crate::spelling::listed::push_with_commas;
+use crate::spelling::token::{put_fixed, put_two};
 use std::alloc::Global;
 use vidi_bits::Memory;
 use vlog_lex::Tokens;
 use vlog_tree::{
-    Arm, AssignOp, Body, Stmt, Target, Terminal, see_begin, see_case, see_concat_target,
+    Arm, AssignOp, Body, Expr, Stmt, Target, Terminal, see_begin, see_case, see_concat_target,
 };
 
 fn assign_terminal(op: AssignOp) -> Terminal
@@ -66,6 +69,31 @@ fn push_colon(alloc: Global, out: &mut Tokens, colon: bool) -> Result<(), Memory
     }
 }
 
+/// Adds the tokens of `if (e)` or `case (e)`.
+fn push_head(alloc: Global, out: &mut Tokens, word: Terminal, e: &Expr) -> Result<(), Memory>
+    ensures { OnOk result (out.new ≡ out.old ++ tokens_of (Fixed word ∷ Fixed t.ParenOpen ∷ (expr_words (plain_expr e.now)
+        ++ Fixed t.ParenClose ∷ []))) }
+{
+    put_two(alloc, out, word, Terminal::ParenOpen)?;
+    push_expr(alloc, out, e)?;
+    put_fixed(alloc, out, Terminal::ParenClose)
+}
+
+fn push_assign(
+    alloc: Global,
+    out: &mut Tokens,
+    target: &Target,
+    op: AssignOp,
+    value: &Expr,
+) -> Result<(), Memory>
+    ensures { OnOk result (out.new ≡ out.old ++ tokens_of (stmt_words (AssignStmt (plain_target target.now) op (plain_expr value.now)))) }
+{
+    push_target(alloc, out, target)?;
+    put_fixed(alloc, out, assign_terminal(op))?;
+    push_expr(alloc, out, value)?;
+    put_fixed(alloc, out, Terminal::Semicolon)
+}
+
 #[cycle(push_stmts)]
 fn push_stmt(alloc: Global, out: &mut Tokens, stmt: &Stmt) -> Result<(), Memory>
     ensures { OnOk result (out.new ≡ out.old ++ tokens_of (stmt_words (plain_stmt stmt.now))) }
@@ -82,10 +110,7 @@ fn push_stmt(alloc: Global, out: &mut Tokens, stmt: &Stmt) -> Result<(), Memory>
             then_body,
             else_body,
         } => {
-            put_fixed(alloc, out, Terminal::If)?;
-            put_fixed(alloc, out, Terminal::ParenOpen)?;
-            push_expr(alloc, out, condition)?;
-            put_fixed(alloc, out, Terminal::ParenClose)?;
+            push_head(alloc, out, Terminal::If, condition)?;
             push_body(alloc, out, then_body)?;
             match else_body {
                 None => Ok(()),
@@ -97,19 +122,11 @@ fn push_stmt(alloc: Global, out: &mut Tokens, stmt: &Stmt) -> Result<(), Memory>
         }
         Stmt::Case { expression, arms } => {
             see_case(expression, arms);
-            put_fixed(alloc, out, Terminal::Case)?;
-            put_fixed(alloc, out, Terminal::ParenOpen)?;
-            push_expr(alloc, out, expression)?;
-            put_fixed(alloc, out, Terminal::ParenClose)?;
+            push_head(alloc, out, Terminal::Case, expression)?;
             push_arms(alloc, out, arms.as_slice())?;
             put_fixed(alloc, out, Terminal::Endcase)
         }
-        Stmt::Assign { target, op, value } => {
-            push_target(alloc, out, target)?;
-            put_fixed(alloc, out, assign_terminal(*op))?;
-            push_expr(alloc, out, value)?;
-            put_fixed(alloc, out, Terminal::Semicolon)
-        }
+        Stmt::Assign { target, op, value } => push_assign(alloc, out, target, *op, value),
     }
 }
 
@@ -129,7 +146,7 @@ fn push_arm(alloc: Global, out: &mut Tokens, arm: &Arm) -> Result<(), Memory>
 {
     match arm {
         Arm::Labels { labels, body } => {
-            push_labels(alloc, out, labels.as_slice())?;
+            push_with_commas(alloc, out, labels.as_slice())?;
             put_fixed(alloc, out, Terminal::Colon)?;
             push_body(alloc, out, body)
         }

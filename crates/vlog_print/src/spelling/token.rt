@@ -26,6 +26,19 @@ pub fn put_fixed(alloc: Global, out: &mut Tokens, terminal: Terminal) -> Result<
     put(alloc, out, terminal.kind(), terminal.text())
 }
 
+/// Adds the tokens of two words or symbols.
+pub fn put_two(
+    alloc: Global,
+    out: &mut Tokens,
+    first: Terminal,
+    second: Terminal,
+) -> Result<(), Memory>
+    ensures { OnOk result (out.new ≡ out.old ++ tokens_of {A = ℕ} (Fixed first ∷ Fixed second ∷ [])) }
+{
+    put_fixed(alloc, out, first)?;
+    put_fixed(alloc, out, second)
+}
+
 pub fn put_name(alloc: Global, out: &mut Tokens, name: &Name) -> Result<(), Memory>
     ensures { OnOk result (out.new ≡ out.old ++ tokens_of {A = ℕ} (NameWord name.now ∷ [])) }
 {
