@@ -1,16 +1,16 @@
 //! Statements within one another, as many as there may be and more. These are no cases, since a case is also played by a program that Rattle's
 //! own compiler builds, whose calls take more of the stack.
 
-use crate::unspelled::{condition, scope};
+use crate::build::{assign_itself, if_of};
+use crate::unspelled::scope;
 use std::alloc::{AllocError, Global};
-use std::test::Fail;
-use vidi_bits::copied;
+use vidi_bits::Memory;
 use vlog_block::{block_code, is_faultless};
 use vlog_latch::{BlockError, bind_block};
-use vlog_lex::lex;
+use vlog_lex::{Tokens, lex};
 use vlog_parse::{ParseError, parse};
 use vlog_size::Scope;
-use vlog_tree::{Always, AssignOp, Body, Event, Expr, Ident, Ref, Stmt, Target};
+use vlog_tree::{Always, Body, Event};
 
 fn put(out: &mut Vec<u8>, text: &[u8]) -> Result<(), AllocError> {
     out.extend_from_slice(text)
@@ -30,104 +30,101 @@ fn text_of(alloc: Global, count: usize) -> Result<Vec<u8>, AllocError> {
     Ok(text)
 }
 
-// Whether so many `if`s within one another are read, and else want of memory is answered.
-fn is_read(alloc: Global, count: usize) -> Result<Option<bool>, Fail> {
-    let text = text_of(alloc, count)?;
+// Whether tokens are read, or else want of memory is answered.
+fn are_read(alloc: Global, tokens: &Tokens) -> Option<bool> {
+    match parse(alloc, tokens) {
+        Ok(_) => Some(true),
+        Err(ParseError::Memory) => Some(false),
+        Err(_) => None,
+    }
+}
+
+// The same of a text.
+fn text_is_read(alloc: Global, text: &[u8]) -> Option<bool> {
     if text.len() >= 100_000 {
-        return Ok(None);
+        return None;
     }
-    let tokens = lex(alloc, text.as_slice())?;
-    match parse(alloc, &tokens) {
-        Ok(_) => Ok(Some(true)),
-        Err(ParseError::Memory) => Ok(Some(false)),
-        Err(_) => Ok(None),
-    }
+    let tokens = lex(alloc, text).ok()?;
+    are_read(alloc, &tokens)
+}
+
+// Whether so many `if`s within one another are read, and else want of memory is answered.
+fn is_read(alloc: Global, count: usize) -> Option<bool> {
+    let text = text_of(alloc, count).ok()?;
+    text_is_read(alloc, text.as_slice())
 }
 
 #[test]
-fn texts(rt: HostRuntime) -> Result<(), Fail> {
-    for (count, read) in [(2048, true), (2049, false), (10_000, false)] {
-        assert!(rt; is_read(rt.alloc(), count)? == Some(read), "{count}");
-    }
-    Ok(())
+fn texts(rt: HostRuntime) {
+    assert!(rt; is_read(rt.alloc(), 2048) == Some(true));
+    assert!(rt; is_read(rt.alloc(), 2049) == Some(false));
+    assert!(rt; is_read(rt.alloc(), 10_000) == Some(false));
 }
 
-/// `s = s;`
-fn assignment(alloc: Global) -> Result<Stmt, Fail> {
-    let id = Ident {
-        name: copied(alloc, b"s")?,
-        line: 1,
-    };
-    let target = Target::Ref(Ref {
-        id,
-        index: None,
-        sel: None,
-    });
-    let value: Expr = condition(alloc)?;
-    let op = AssignOp::Blocking;
-    Ok(Stmt::Assign { target, op, value })
-}
-
-/// `always @*` with so many `if (s)` around a body.
-fn nested(alloc: Global, count: u32, innermost: Body) -> Result<Always, Fail> {
+/// So many `if (s)` around a body.
+fn nested(alloc: Global, count: u32, innermost: Body) -> Result<Body, Memory> {
     let mut body = innermost;
     for _n in 0..count {
-        let condition = condition(alloc)?;
-        let stmt = Stmt::If {
-            condition,
-            then_body: body,
-            else_body: None,
-        };
-        body = Body::Stmt(Box::new(alloc, stmt)?);
+        body = Body::Stmt(if_of(alloc, "s", body, None)?);
     }
-    Ok(Always {
+    Ok(body)
+}
+
+/// `always @*` with a body.
+fn always(body: Body) -> Always {
+    Always {
         line: 7,
         event: Event::Implicit { parens: false },
         body,
-    })
+    }
 }
 
-/// Whether code is made of so many statements within one another.
-fn is_made(alloc: Global, count: u32) -> Result<bool, Fail> {
-    let scope = scope(alloc)?;
-    let block = nested(alloc, count, Body::Empty)?;
-    if !is_faultless(&block, &scope) {
-        return Err(Fail::from("a fault"));
+/// Whether code is made of a block, or else memory is wanting. `None` where the block has a fault.
+fn code_is_made(alloc: Global, block: &Always) -> Option<bool> {
+    let scope = scope(alloc).ok()?;
+    if !is_faultless(block, &scope) {
+        return None;
     }
-    Ok(block_code(alloc, &block, &scope).is_ok())
+    Some(block_code(alloc, block, &scope).is_ok())
+}
+
+/// The same of so many statements within one another.
+fn is_made(alloc: Global, count: u32) -> Option<bool> {
+    let body = nested(alloc, count, Body::Empty).ok()?;
+    code_is_made(alloc, &always(body))
 }
 
 #[test]
-fn code_of_blocks(rt: HostRuntime) -> Result<(), Fail> {
-    assert!(rt; is_made(rt.alloc(), 2048)?);
-    assert!(rt; !is_made(rt.alloc(), 2049)?);
-    Ok(())
+fn code_of_blocks(rt: HostRuntime) {
+    assert!(rt; is_made(rt.alloc(), 2048) == Some(true));
+    assert!(rt; is_made(rt.alloc(), 2049) == Some(false));
 }
 
 /// Whether E9 is answered, with s and line 7.
-fn is_open(alloc: Global, block: &Always, scope: &Scope) -> Result<bool, Fail> {
+fn is_open(alloc: Global, block: &Always, scope: &Scope) -> bool {
     if !is_faultless(block, scope) {
-        return Err(Fail::from("a fault"));
+        return false;
     }
     match bind_block(alloc, block, scope) {
-        Err(BlockError::Latch { name, line }) => Ok(
-            name.as_slice() == b"s".as_slice() && line == 7,
-        ),
-        _ => Ok(false),
+        Err(BlockError::Latch { name, line }) => name.as_slice() == b"s".as_slice() && line == 7,
+        _ => false,
     }
+}
+
+/// The same in the scope with s alone.
+fn is_latch(alloc: Global, block: &Always) -> Result<bool, Memory> {
+    let scope = scope(alloc)?;
+    Ok(is_open(alloc, block, &scope))
 }
 
 /// The same of an assignment within so many conditions.
-fn leaves_open(alloc: Global, count: u32) -> Result<bool, Fail> {
-    let scope = scope(alloc)?;
-    let stmt = assignment(alloc)?;
-    let innermost = Body::Stmt(Box::new(alloc, stmt)?);
-    let block = nested(alloc, count, innermost)?;
-    is_open(alloc, &block, &scope)
+fn leaves_open(alloc: Global, count: u32) -> Result<bool, Memory> {
+    let innermost = assign_itself(alloc, "s")?;
+    let body = nested(alloc, count, Body::Stmt(innermost))?;
+    is_latch(alloc, &always(body))
 }
 
 #[test]
-fn latches(rt: HostRuntime) -> Result<(), Fail> {
-    assert!(rt; leaves_open(rt.alloc(), 2047)?);
-    Ok(())
+fn latches(rt: HostRuntime) {
+    assert!(rt; leaves_open(rt.alloc(), 2047) == Ok(true));
 }

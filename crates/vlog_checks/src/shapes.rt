@@ -1,63 +1,18 @@
 //! Which trees have good shape, on trees that no text spells too.
 
+use crate::build::{assign_itself, boxed, ident, if_of, net, net_expr, one, operand_alone};
 use std::alloc::Global;
-use std::process::Abort;
-use std::test::Fail;
-use vidi_bits::{Items, Memory, Name, copied};
+use vidi_bits::{Items, Memory, copied};
 use vlog_print::good_shape;
 use vlog_tree::{
-    Always, Arm, Assign, AssignOp, BinaryOp, Body, Event, Expr, File, Ident, Item, Module, Number,
-    NumberKind, Operand, Parameter, Port, Ref, Sel, Stmt, Target, Unary, begin, case, concat,
-    concat_target,
+    Always, Arm, Assign, BinaryOp, Body, Event, Expr, File, Item, Module, Number, NumberKind,
+    Operand, Parameter, Port, Ref, Sel, Stmt, Target, begin, case, concat, concat_target,
 };
 
-fn name(alloc: Global, text: &str) -> Result<Name, Memory> {
-    copied(alloc, text.as_bytes())
-}
-
-fn ident(alloc: Global, text: &str) -> Result<Ident, Memory> {
-    let name = name(alloc, text)?;
-    Ok(Ident { name, line: 7 })
-}
-
-fn one<T: Drop>(alloc: Global, x: T) -> Result<Items<T>, Memory> {
-    let mut list = Items::new(alloc);
-    list.push(x)?;
-    Ok(list)
-}
-
-fn boxed(alloc: Global, e: Expr) -> Result<Box<Expr>, Memory> {
-    Ok(Box::new(alloc, e)?)
-}
-
-fn operand_alone(alloc: Global, prim: Operand) -> Result<Box<Expr>, Memory> {
-    boxed(alloc, Expr::Unary(Unary { sign: None, prim }))
-}
-
-fn net(alloc: Global, text: &str) -> Result<Ref, Memory> {
-    let id = ident(alloc, text)?;
-    Ok(Ref {
-        id,
-        index: None,
-        sel: None,
-    })
-}
-
-fn net_expr(alloc: Global, text: &str) -> Result<Box<Expr>, Memory> {
-    let net = net(alloc, text)?;
-    operand_alone(alloc, Operand::Ref(net))
-}
-
 fn number(alloc: Global, kind: NumberKind, text: &str) -> Result<Box<Expr>, Memory> {
-    let text = name(alloc, text)?;
-    operand_alone(
-        alloc,
-        Operand::Number(Number {
-            kind,
-            text,
-            line: 7,
-        }),
-    )
+    let text = copied(alloc, text.as_bytes())?;
+    let line = 7;
+    operand_alone(alloc, Operand::Number(Number { kind, text, line }))
 }
 
 fn decimal(alloc: Global, text: &str) -> Result<Box<Expr>, Memory> {
@@ -87,99 +42,90 @@ fn choice(
     boxed(alloc, choice)
 }
 
-// `a = value`
-fn assign(alloc: Global, value: Box<Expr>) -> Result<Box<Stmt>, Memory> {
-    let target = Target::Ref(net(alloc, "a")?);
-    let op = AssignOp::Blocking;
-    let value = Box::into_inner(value);
-    Ok(Box::new(alloc, Stmt::Assign { target, op, value })?)
-}
-
-fn always(alloc: Global, body: Body) -> Result<Item, Memory> {
-    let event = Event::Posedge(ident(alloc, "clk")?);
-    Ok(Item::Always(Always {
-        line: 7,
-        event,
-        body,
-    }))
-}
-
 fn module(alloc: Global, ports: Items<Port>, items: Items<Item>) -> Result<File, Memory> {
-    let name = name(alloc, "m")?;
-    let parameters = Items::new(alloc);
-    let modules = one(
-        alloc,
-        Module {
-            name,
-            parameters,
-            ports,
-            items,
-        },
-    )?;
+    let name = copied(alloc, b"m")?;
+    let declared = Module {
+        name,
+        parameters: Items::new(alloc),
+        ports,
+        items,
+    };
+    let modules = one(alloc, declared)?;
     Ok(File { modules })
 }
 
-// `module m(); item endmodule`
-fn file_of(alloc: Global, item: Item) -> Result<File, Memory> {
+// Whether `module m(); item endmodule` has good shape.
+fn item_is_good(alloc: Global, item: Item) -> Result<bool, Memory> {
     let items = one(alloc, item)?;
-    module(alloc, Items::new(alloc), items)
+    let file = module(alloc, Items::new(alloc), items)?;
+    Ok(good_shape(&file))
 }
 
-// `module m(); assign a = value; endmodule`
-fn file_of_expr(alloc: Global, value: Box<Expr>) -> Result<File, Memory> {
-    let target = Target::Ref(net(alloc, "a")?);
-    let value = Box::into_inner(value);
-    let assigns = one(alloc, Assign { target, value })?;
-    file_of(alloc, Item::Assign { assigns })
-}
-
-// Whether the tree with this expression has good shape.
+// Whether `module m(); assign a = value; endmodule` has good shape.
 fn is_good(alloc: Global, value: Box<Expr>) -> Result<bool, Memory> {
-    Ok(good_shape(&file_of_expr(alloc, value)?))
+    let target = net(alloc, "a")?;
+    let assign = Assign {
+        target: Target::Ref(target),
+        value: Box::into_inner(value),
+    };
+    let assigns = one(alloc, assign)?;
+    item_is_good(alloc, Item::Assign { assigns })
+}
+
+fn name_is_good(alloc: Global, text: &str) -> Result<bool, Memory> {
+    let value = net_expr(alloc, text)?;
+    is_good(alloc, value)
 }
 
 // Names are identifiers and no reserved words.
+const NAMES: [(&str, bool); 10] = [
+    ("a", true),
+    ("_a$9", true),
+    ("Reg", true),
+    ("reg", false),
+    ("endmodule", false),
+    ("", false),
+    ("9a", false),
+    ("a b", false),
+    ("a-", false),
+    ("12", false),
+];
+
 #[test]
-fn names_are_lawful(rt: HostRuntime) -> Result<(), Fail> {
-    let cases = [
-        ("a", true),
-        ("_a$9", true),
-        ("Reg", true),
-        ("reg", false),
-        ("endmodule", false),
-        ("", false),
-        ("9a", false),
-        ("a b", false),
-        ("a-", false),
-        ("12", false),
-    ];
-    for (text, good) in cases {
-        let value = net_expr(rt.alloc(), text)?;
-        assert!(rt; is_good(rt.alloc(), value)? == good, "{text:?}");
+fn names_are_lawful(rt: HostRuntime) {
+    let mut right = true;
+    for (text, good) in &NAMES {
+        right &= name_is_good(rt.alloc(), text) == Ok(*good);
     }
-    Ok(())
+    assert!(rt; right);
 }
 
 // Numbers are lawful literals of their kind.
+const NUMBERS: [(NumberKind, &str, bool); 10] = [
+    (NumberKind::Decimal, "12", true),
+    (NumberKind::Decimal, "1_000", true),
+    (NumberKind::Decimal, "4'd3", false),
+    (NumberKind::Decimal, "_1", false),
+    (NumberKind::Decimal, "", false),
+    (NumberKind::Based, "4'd3", true),
+    (NumberKind::Based, "'hF_f", true),
+    (NumberKind::Based, "4'b2", false),
+    (NumberKind::Based, "12", false),
+    (NumberKind::Based, "4'", false),
+];
+
+fn number_is_good(alloc: Global, kind: NumberKind, text: &str) -> Result<bool, Memory> {
+    let value = number(alloc, kind, text)?;
+    is_good(alloc, value)
+}
+
 #[test]
-fn numbers_are_lawful(rt: HostRuntime) -> Result<(), Fail> {
-    let cases = [
-        (NumberKind::Decimal, "12", true),
-        (NumberKind::Decimal, "1_000", true),
-        (NumberKind::Decimal, "4'd3", false),
-        (NumberKind::Decimal, "_1", false),
-        (NumberKind::Decimal, "", false),
-        (NumberKind::Based, "4'd3", true),
-        (NumberKind::Based, "'hF_f", true),
-        (NumberKind::Based, "4'b2", false),
-        (NumberKind::Based, "12", false),
-        (NumberKind::Based, "4'", false),
-    ];
-    for (kind, text, good) in cases {
-        let value = number(rt.alloc(), kind, text)?;
-        assert!(rt; is_good(rt.alloc(), value)? == good, "{text:?}");
+fn numbers_are_lawful(rt: HostRuntime) {
+    let mut right = true;
+    for (kind, text, good) in &NUMBERS {
+        right &= number_is_good(rt.alloc(), *kind, text) == Ok(*good);
     }
-    Ok(())
+    assert!(rt; right);
 }
 
 // An operand of an operator.
@@ -237,29 +183,30 @@ fn binary_is_good(alloc: Global, left: Small, op: BinaryOp, right: Small) -> Res
     is_good(alloc, whole)
 }
 
+// Whether the operator makes a good shape with these operands just where it should.
+fn takes(alloc: Global, left: Small, op: BinaryOp, right: Small, good: bool) -> bool {
+    binary_is_good(alloc, left, op, right) == Ok(good)
+}
+
 // Whether the operator takes exactly the operands that it should.
-fn takes_its_operands(alloc: Global, op: BinaryOp, level: u32) -> Result<bool, Memory> {
-    for (inner, at) in OPERATORS {
-        if binary_is_good(alloc, Small::Op(inner), op, Small::Net)? != (at <= level) {
-            return Ok(false);
-        }
-        if binary_is_good(alloc, Small::Net, op, Small::Op(inner))? != (at < level) {
-            return Ok(false);
-        }
+fn takes_its_operands(alloc: Global, op: BinaryOp, level: u32) -> bool {
+    let mut right = takes(alloc, Small::Choice, op, Small::Net, false);
+    right &= takes(alloc, Small::Net, op, Small::Choice, false);
+    for (inner, at) in &OPERATORS {
+        right &= takes(alloc, Small::Op(*inner), op, Small::Net, *at <= level);
+        right &= takes(alloc, Small::Net, op, Small::Op(*inner), *at < level);
     }
-    Ok(
-        !binary_is_good(alloc, Small::Choice, op, Small::Net)?
-            && !binary_is_good(alloc, Small::Net, op, Small::Choice)?,
-    )
+    right
 }
 
 // A left operand stands at its operator's level or above, a right one above it.
 #[test]
-fn operands_stand_at_their_levels(rt: HostRuntime) -> Result<(), Fail> {
-    for (op, level) in OPERATORS {
-        assert!(rt; takes_its_operands(rt.alloc(), op, level)?, "{op:?}");
+fn operands_stand_at_their_levels(rt: HostRuntime) {
+    let mut right = true;
+    for (op, level) in &OPERATORS {
+        right &= takes_its_operands(rt.alloc(), *op, *level);
     }
-    Ok(())
+    assert!(rt; right);
 }
 
 fn choice_is_good(alloc: Global, parts: [Small; 3]) -> Result<bool, Memory> {
@@ -272,54 +219,69 @@ fn choice_is_good(alloc: Global, parts: [Small; 3]) -> Result<bool, Memory> {
 }
 
 // `?:` is right-associative and of the lowest level.
+const LOWEST: Small = Small::Op(BinaryOp::LogicalOr);
+
+const CHOICES: [([Small; 3], bool); 4] = [
+    ([LOWEST, LOWEST, LOWEST], true),
+    ([Small::Net, Small::Net, Small::Choice], true),
+    ([Small::Net, Small::Choice, Small::Net], true),
+    ([Small::Choice, Small::Net, Small::Net], false),
+];
+
 #[test]
-fn a_condition_is_no_choice(rt: HostRuntime) -> Result<(), Fail> {
-    let lowest = Small::Op(BinaryOp::LogicalOr);
-    let cases = [
-        ([lowest, lowest, lowest], true),
-        ([Small::Net, Small::Net, Small::Choice], true),
-        ([Small::Net, Small::Choice, Small::Net], true),
-        ([Small::Choice, Small::Net, Small::Net], false),
-    ];
-    for (parts, good) in cases {
-        assert!(rt; choice_is_good(rt.alloc(), parts)? == good, "{good}");
+fn a_condition_is_no_choice(rt: HostRuntime) {
+    let mut right = true;
+    for (parts, good) in &CHOICES {
+        right &= choice_is_good(rt.alloc(), *parts) == Ok(*good);
     }
-    Ok(())
+    assert!(rt; right);
+}
+
+// `[1]`, where it is there
+fn index_of(alloc: Global, is_there: bool) -> Result<Option<Box<Expr>>, Memory> {
+    if !is_there {
+        return Ok(None);
+    }
+    Ok(Some(decimal(alloc, "1")?))
+}
+
+// `[2]`, where it is there
+fn sel_of(alloc: Global, is_there: bool) -> Result<Option<Box<Sel>>, Memory> {
+    if !is_there {
+        return Ok(None);
+    }
+    let bit = decimal(alloc, "2")?;
+    let sel = Box::new(alloc, Sel::Index(Box::into_inner(bit)))?;
+    Ok(Some(sel))
 }
 
 // Whether a name with these brackets has good shape.
 fn brackets_are_good(alloc: Global, has_index: bool, has_sel: bool) -> Result<bool, Memory> {
-    let mut word = net(alloc, "a")?;
-    if has_index {
-        word.index = Some(decimal(alloc, "1")?);
-    }
-    if has_sel {
-        let bit = decimal(alloc, "2")?;
-        word.sel = Some(Box::new(alloc, Sel::Index(Box::into_inner(bit)))?);
-    }
-    let value = operand_alone(alloc, Operand::Ref(word))?;
+    let id = ident(alloc, "a")?;
+    let index = index_of(alloc, has_index)?;
+    let sel = sel_of(alloc, has_sel)?;
+    let value = operand_alone(alloc, Operand::Ref(Ref { id, index, sel }))?;
     is_good(alloc, value)
 }
 
 // A lone bracket is a ref's last one.
+const BRACKETS: [(bool, bool, bool); 4] = [
+    (false, false, true),
+    (false, true, true),
+    (true, true, true),
+    (true, false, false),
+];
+
 #[test]
-fn a_lone_bracket_is_the_last(rt: HostRuntime) -> Result<(), Fail> {
-    let cases = [
-        (false, false, true),
-        (false, true, true),
-        (true, true, true),
-        (true, false, false),
-    ];
-    for (has_index, has_sel, good) in cases {
-        assert!(rt;
-            brackets_are_good(rt.alloc(), has_index, has_sel)? == good,
-            "{has_index} {has_sel}"
-        );
+fn a_lone_bracket_is_the_last(rt: HostRuntime) {
+    let mut right = true;
+    for (has_index, has_sel, good) in &BRACKETS {
+        right &= brackets_are_good(rt.alloc(), *has_index, *has_sel) == Ok(*good);
     }
-    Ok(())
+    assert!(rt; right);
 }
 
-#[derive(Clone, Copy, Debug)]
+#[derive(Clone, Copy)]
 enum Branch {
     Empty,
     Assign,
@@ -332,98 +294,105 @@ enum Branch {
 
 // `case (a) default body endcase`
 fn case_of(alloc: Global, body: Body) -> Result<Box<Stmt>, Memory> {
-    let expression = net_expr(alloc, "a")?;
-    let colon = false;
     let line = 7;
+    let colon = false;
     let arms = one(alloc, Arm::Default { line, colon, body })?;
-    Ok(Box::new(alloc, case(Box::into_inner(expression), arms))?)
+    let subject = net_expr(alloc, "a")?;
+    Ok(Box::new(alloc, case(Box::into_inner(subject), arms))?)
 }
 
 // `if (a) then_body`, with `else else_body` where there is one
-fn if_of(alloc: Global, then_body: Body, else_body: Option<Body>) -> Result<Box<Stmt>, Memory> {
-    let condition = net_expr(alloc, "a")?;
-    let condition = Box::into_inner(condition);
-    let stmt = Stmt::If {
-        condition,
-        then_body,
-        else_body,
-    };
-    Ok(Box::new(alloc, stmt)?)
+fn if_body(alloc: Global, then_body: Body, else_body: Option<Body>) -> Result<Body, Memory> {
+    Ok(Body::Stmt(if_of(alloc, "a", then_body, else_body)?))
+}
+
+// `begin if (a) ; end`
+fn block_of_if(alloc: Global) -> Result<Body, Memory> {
+    let stmt = if_of(alloc, "a", Body::Empty, None)?;
+    let stmts = one(alloc, Box::into_inner(stmt))?;
+    Ok(Body::Stmt(Box::new(alloc, begin(stmts))?))
+}
+
+// `case (a) default if (a) ; endcase`
+fn case_of_if(alloc: Global) -> Result<Body, Memory> {
+    let body = if_body(alloc, Body::Empty, None)?;
+    Ok(Body::Stmt(case_of(alloc, body)?))
+}
+
+// `if (a) ; else if (a) ;`
+fn if_else_if(alloc: Global) -> Result<Body, Memory> {
+    let inner = if_body(alloc, Body::Empty, None)?;
+    if_body(alloc, Body::Empty, Some(inner))
 }
 
 fn branch_body(alloc: Global, kind: Branch) -> Result<Body, Memory> {
     match kind {
         Branch::Empty => Ok(Body::Empty),
-        Branch::Assign => {
-            let value = net_expr(alloc, "a")?;
-            Ok(Body::Stmt(assign(alloc, value)?))
-        }
-        Branch::If => Ok(Body::Stmt(if_of(alloc, Body::Empty, None)?)),
-        Branch::IfElse => Ok(Body::Stmt(if_of(alloc, Body::Empty, Some(Body::Empty))?)),
-        Branch::IfElseIf => {
-            let inner = Body::Stmt(if_of(alloc, Body::Empty, None)?);
-            Ok(Body::Stmt(if_of(alloc, Body::Empty, Some(inner))?))
-        }
-        Branch::BlockOfIf => {
-            let stmt = if_of(alloc, Body::Empty, None)?;
-            let stmts = one(alloc, Box::into_inner(stmt))?;
-            Ok(Body::Stmt(Box::new(alloc, begin(stmts))?))
-        }
-        Branch::CaseOfIf => {
-            let stmt = if_of(alloc, Body::Empty, None)?;
-            Ok(Body::Stmt(case_of(alloc, Body::Stmt(stmt))?))
-        }
+        Branch::Assign => Ok(Body::Stmt(assign_itself(alloc, "a")?)),
+        Branch::If => if_body(alloc, Body::Empty, None),
+        Branch::IfElse => if_body(alloc, Body::Empty, Some(Body::Empty)),
+        Branch::IfElseIf => if_else_if(alloc),
+        Branch::BlockOfIf => block_of_if(alloc),
+        Branch::CaseOfIf => case_of_if(alloc),
     }
+}
+
+// Whether `always @(posedge clk) body` has good shape.
+fn body_is_good(alloc: Global, body: Body) -> Result<bool, Memory> {
+    let clock = ident(alloc, "clk")?;
+    let always = Always {
+        line: 7,
+        event: Event::Posedge(clock),
+        body,
+    };
+    item_is_good(alloc, Item::Always(always))
 }
 
 fn if_is_good(alloc: Global, kind: Branch, with_else: bool) -> Result<bool, Memory> {
     let then_body = branch_body(alloc, kind)?;
     let else_body = if with_else { Some(Body::Empty) } else { None };
-    let whole = Body::Stmt(if_of(alloc, then_body, else_body)?);
-    let item = always(alloc, whole)?;
-    Ok(good_shape(&file_of(alloc, item)?))
+    let whole = if_body(alloc, then_body, else_body)?;
+    body_is_good(alloc, whole)
 }
 
 // No `else` could belong to a nearer `if`.
+const BRANCHES: [(Branch, bool); 7] = [
+    (Branch::Empty, true),
+    (Branch::Assign, true),
+    (Branch::If, false),
+    (Branch::IfElse, true),
+    (Branch::IfElseIf, false),
+    (Branch::BlockOfIf, true),
+    (Branch::CaseOfIf, true),
+];
+
 #[test]
-fn an_else_belongs_to_its_if(rt: HostRuntime) -> Result<(), Fail> {
-    let cases = [
-        (Branch::Empty, true),
-        (Branch::Assign, true),
-        (Branch::If, false),
-        (Branch::IfElse, true),
-        (Branch::IfElseIf, false),
-        (Branch::BlockOfIf, true),
-        (Branch::CaseOfIf, true),
-    ];
-    for (kind, good) in cases {
-        let with_else = if_is_good(rt.alloc(), kind, true)?;
-        assert!(rt;
-            with_else == good && if_is_good(rt.alloc(), kind, false)?,
-            "{kind:?}"
-        );
+fn an_else_belongs_to_its_if(rt: HostRuntime) {
+    let mut right = true;
+    for (kind, good) in &BRANCHES {
+        right &= if_is_good(rt.alloc(), *kind, true) == Ok(*good);
+        right &= if_is_good(rt.alloc(), *kind, false) == Ok(true);
     }
-    Ok(())
+    assert!(rt; right);
 }
 
 // An item without a part.
 fn empty_item(alloc: Global, number: u32) -> Item {
-    let range = None;
     match number {
         0 => Item::Wires {
-            range,
+            range: None,
             names: Items::new(alloc),
         },
         1 => Item::DrivenWires {
-            range,
+            range: None,
             wires: Items::new(alloc),
         },
         2 => Item::Regs {
-            range,
+            range: None,
             regs: Items::new(alloc),
         },
         3 => Item::Localparams {
-            range,
+            range: None,
             parameters: Items::new(alloc),
         },
         _ => Item::Assign {
@@ -432,81 +401,104 @@ fn empty_item(alloc: Global, number: u32) -> Item {
     }
 }
 
-fn empty_target_is_good(alloc: Global) -> Result<bool, Memory> {
-    let value = net_expr(alloc, "a")?;
-    let value = Box::into_inner(value);
-    let target = concat_target(7, Items::new(alloc));
-    let assigns = one(alloc, Assign { target, value })?;
-    Ok(good_shape(&file_of(alloc, Item::Assign { assigns })?))
+fn empty_item_is_good(alloc: Global, number: u32) -> Result<bool, Memory> {
+    item_is_good(alloc, empty_item(alloc, number))
 }
 
-// `case (a) endcase`, or with one arm that has no label
-fn empty_case_is_good(alloc: Global, has_arm: bool) -> Result<bool, Memory> {
-    let mut arms = Items::new(alloc);
-    if has_arm {
-        let labels = Items::new(alloc);
-        let body = Body::Empty;
-        arms.push(Arm::Labels { labels, body })?;
-    }
+// `assign a = { };`
+fn empty_value_is_good(alloc: Global) -> Result<bool, Memory> {
+    let value = operand_alone(alloc, concat(7, Items::new(alloc)))?;
+    is_good(alloc, value)
+}
+
+// `assign { } = a;`
+fn empty_target_is_good(alloc: Global) -> Result<bool, Memory> {
+    let value = net_expr(alloc, "a")?;
+    let assign = Assign {
+        target: concat_target(7, Items::new(alloc)),
+        value: Box::into_inner(value),
+    };
+    let assigns = one(alloc, assign)?;
+    item_is_good(alloc, Item::Assign { assigns })
+}
+
+// `case (a) endcase`, or with these arms
+fn case_is_good(alloc: Global, arms: Items<Arm>) -> Result<bool, Memory> {
     let expression = net_expr(alloc, "a")?;
     let stmt = Box::new(alloc, case(Box::into_inner(expression), arms))?;
-    let item = always(alloc, Body::Stmt(stmt))?;
-    Ok(good_shape(&file_of(alloc, item)?))
+    body_is_good(alloc, Body::Stmt(stmt))
+}
+
+fn empty_case_is_good(alloc: Global) -> Result<bool, Memory> {
+    case_is_good(alloc, Items::new(alloc))
+}
+
+// The case has an arm without a label.
+fn empty_arm_is_good(alloc: Global) -> Result<bool, Memory> {
+    let labels = Items::new(alloc);
+    let body = Body::Empty;
+    let arms = one(alloc, Arm::Labels { labels, body })?;
+    case_is_good(alloc, arms)
+}
+
+fn empty_file_is_good(alloc: Global) -> bool {
+    let modules = Items::new(alloc);
+    good_shape(&File { modules })
+}
+
+fn empty_items_are_bad(alloc: Global) -> bool {
+    let mut bad = true;
+    for number in 0..5 {
+        bad &= empty_item_is_good(alloc, number) == Ok(false);
+    }
+    bad
 }
 
 // What the grammar wants at least one of is there.
 #[test]
-fn lists_have_a_first_part(rt: HostRuntime) -> Result<(), Fail> {
+fn lists_have_a_first_part(rt: HostRuntime) {
     let alloc = rt.alloc();
-    let none = File {
-        modules: Items::new(alloc),
-    };
-    assert!(rt; !good_shape(&none));
-    for number in 0..5 {
-        let file = file_of(alloc, empty_item(alloc, number))?;
-        assert!(rt; !good_shape(&file), "{number}");
-    }
-    let value = operand_alone(alloc, concat(7, Items::new(alloc)))?;
-    assert!(rt; !is_good(alloc, value)?);
-    assert!(rt; !empty_target_is_good(alloc)?);
-    assert!(rt; !empty_case_is_good(alloc, false)?);
-    assert!(rt; !empty_case_is_good(alloc, true)?);
-    Ok(())
+    assert!(rt; !empty_file_is_good(alloc) && empty_items_are_bad(alloc));
+    assert!(rt; empty_value_is_good(alloc) == Ok(false));
+    assert!(rt; empty_target_is_good(alloc) == Ok(false));
+    assert!(rt; empty_case_is_good(alloc) == Ok(false));
+    assert!(rt; empty_arm_is_good(alloc) == Ok(false));
+}
+
+// `module m(a); endmodule`
+fn directionless_is_good(alloc: Global) -> Result<bool, Memory> {
+    let id = ident(alloc, "a")?;
+    let head = None;
+    let init = None;
+    let ports = one(alloc, Port { head, id, init })?;
+    let file = module(alloc, ports, Items::new(alloc))?;
+    Ok(good_shape(&file))
 }
 
 // The first port has a direction.
 #[test]
-fn the_first_port_has_a_direction(rt: HostRuntime) -> Result<(), Fail> {
-    let alloc = rt.alloc();
-    let id = ident(alloc, "a")?;
-    let ports = one(
-        alloc,
-        Port {
-            head: None,
-            id,
-            init: None,
-        },
-    )?;
-    let file = module(alloc, ports, Items::new(alloc))?;
-    assert!(rt; !good_shape(&file));
-    Ok(())
+fn the_first_port_has_a_direction(rt: HostRuntime) {
+    assert!(rt; directionless_is_good(rt.alloc()) == Ok(false));
+}
+
+// `A = 1` in a module's header
+fn headless(alloc: Global) -> Result<Items<Parameter>, Memory> {
+    let value = decimal(alloc, "1")?;
+    let id = ident(alloc, "A")?;
+    let head = None;
+    let value = Box::into_inner(value);
+    one(alloc, Parameter { head, id, value })
 }
 
 // `module m #(A = 1)(); endmodule`
 fn headless_is_good(alloc: Global) -> Result<bool, Memory> {
-    let id = ident(alloc, "A")?;
-    let value = decimal(alloc, "1")?;
-    let head = None;
-    let value = Box::into_inner(value);
-    let parameters = one(alloc, Parameter { head, id, value })?;
-    let name = name(alloc, "m")?;
-    let ports = Items::new(alloc);
-    let items = Items::new(alloc);
+    let name = copied(alloc, b"m")?;
+    let parameters = headless(alloc)?;
     let declared = Module {
         name,
         parameters,
-        ports,
-        items,
+        ports: Items::new(alloc),
+        items: Items::new(alloc),
     };
     let modules = one(alloc, declared)?;
     Ok(good_shape(&File { modules }))
@@ -514,7 +506,6 @@ fn headless_is_good(alloc: Global) -> Result<bool, Memory> {
 
 // The first parameter has the word `parameter`.
 #[test]
-fn the_first_parameter_has_its_word(rt: HostRuntime) -> Result<(), Fail> {
-    assert!(rt; !headless_is_good(rt.alloc())?);
-    Ok(())
+fn the_first_parameter_has_its_word(rt: HostRuntime) {
+    assert!(rt; headless_is_good(rt.alloc()) == Ok(false));
 }

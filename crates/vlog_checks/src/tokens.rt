@@ -2,9 +2,7 @@
 
 use TokenKind::{Based, Decimal, Identifier, Other, Reserved};
 use std::alloc::Global;
-use std::process::Abort;
-use std::test::Fail;
-use vlog_lex::{LexError, TokenKind, is_token, lex};
+use vlog_lex::{LexError, Token, TokenKind, Tokens, is_token, lex};
 
 const PASS: &str = "\
 module pass(input clk, input a_v, output a_r, input [7:0] a_d,
@@ -117,30 +115,47 @@ const REFUSED: [(&str, u32); 16] = [
     ("`timescale 1\n\n\n8'hz", 4),
 ];
 
-fn expect_tokens(
-    rt: &impl Abort,
-    alloc: Global,
-    text: &str,
-    expected: &[(TokenKind, &str, u32)],
-) -> Result<(), Fail> {
-    assert!(rt; text.len() < 10000);
-    let tokens = lex(alloc, text.as_bytes())?;
-    assert_eq!(rt; tokens.len(), expected.len(), "tokens of {text:?}");
-    for (token, (kind, spelled, line)) in tokens.as_slice().iter().zip(expected) {
-        assert_eq!(rt; token.kind, *kind, "in {text:?}");
-        assert_eq!(rt; token.text.as_slice(), spelled.as_bytes(), "in {text:?}");
-        assert!(rt; is_token(*kind, spelled.as_bytes()), "of {spelled:?}");
-        assert_eq!(rt; token.line, *line, "in {text:?}");
+/// The tokens of a short text.
+fn tokens_of(alloc: Global, text: &str) -> Option<Tokens> {
+    if text.len() >= 10000 {
+        return None;
     }
-    Ok(())
+    lex(alloc, text.as_bytes()).ok()
 }
 
-// The numbers of tokens are those that a reader counts in each line.
-#[test]
-fn each_line_of_a_design_has_its_tokens(rt: HostRuntime) -> Result<(), Fail> {
-    assert!(rt; PASS.len() < 10000);
-    let tokens = lex(rt.alloc(), PASS.as_bytes())?;
-    assert_eq!(rt; tokens.len(), 94);
+/// Whether a token has this kind, these bytes and this line, and `is_token` says so of the kind and the bytes.
+fn is_as_said(token: &Token, said: &(TokenKind, &str, u32)) -> bool {
+    let bytes = said.1.as_bytes();
+    token.kind == said.0
+        && token.text.as_slice() == bytes
+        && token.line == said.2
+        && is_token(said.0, bytes)
+}
+
+fn are_as_said(tokens: &[Token], said: &[(TokenKind, &str, u32)]) -> bool {
+    let mut right = tokens.len() == said.len();
+    for (token, one) in tokens.iter().zip(said) {
+        right &= is_as_said(token, one);
+    }
+    right
+}
+
+/// Whether a text has these tokens.
+fn has_tokens(alloc: Global, text: &str, said: &[(TokenKind, &str, u32)]) -> bool {
+    match tokens_of(alloc, text) {
+        Some(tokens) => are_as_said(tokens.as_slice(), said),
+        None => false,
+    }
+}
+
+/// How many tokens stand on a line.
+fn count_on(tokens: &[Token], line: u32) -> usize {
+    tokens.iter().filter(|token| token.line == line).count()
+}
+
+/// The numbers of tokens are those that a reader counts in each line.
+fn has_lines(tokens: &[Token]) -> bool {
+    let mut right = tokens.len() == 94;
     for (line, count) in [
         (1, 20usize),
         (2, 15),
@@ -151,41 +166,59 @@ fn each_line_of_a_design_has_its_tokens(rt: HostRuntime) -> Result<(), Fail> {
         (10, 9),
         (11, 1),
     ] {
-        let found = tokens.as_slice().iter().filter(|t| t.line == line).count();
-        assert_eq!(rt; found, count, "line {line}");
+        right &= count_on(tokens, line) == count;
     }
-    Ok(())
+    right
 }
 
 #[test]
-fn tokens_come_in_the_order_of_the_text(rt: HostRuntime) -> Result<(), Fail> {
-    for (text, words, count) in [(FLICK, FLICK_TOKENS, 33), (SYMBOLS, SYMBOLS, 39)] {
-        assert!(rt; text.len() < 10000);
-        let tokens = lex(rt.alloc(), text.as_bytes())?;
-        assert_eq!(rt; tokens.len(), count);
-        for (token, word) in tokens.as_slice().iter().zip(words.split(' ')) {
-            assert_eq!(rt; token.text.as_slice(), word.as_bytes());
-        }
+fn each_line_of_a_design_has_its_tokens(rt: HostRuntime) {
+    let tokens = tokens_of(rt.alloc(), PASS);
+    assert!(rt; tokens.is_some_and(|tokens| has_lines(tokens.as_slice())));
+}
+
+/// Whether tokens have these bytes, parted by spaces.
+fn are_words(tokens: &[Token], words: &str, count: usize) -> bool {
+    let mut right = tokens.len() == count;
+    for (token, word) in tokens.iter().zip(words.split(' ')) {
+        right &= token.text.as_slice() == word.as_bytes();
     }
-    Ok(())
+    right
+}
+
+/// Whether a text has so many tokens, with these bytes.
+fn has_words(alloc: Global, text: &str, words: &str, count: usize) -> bool {
+    match tokens_of(alloc, text) {
+        Some(tokens) => are_words(tokens.as_slice(), words, count),
+        None => false,
+    }
 }
 
 #[test]
-fn texts_have_the_longest_tokens(rt: HostRuntime) -> Result<(), Fail> {
-    for (text, expected) in CASES {
-        expect_tokens(&rt, rt.alloc(), text, expected)?;
+fn tokens_come_in_the_order_of_the_text(rt: HostRuntime) {
+    assert!(rt; has_words(rt.alloc(), FLICK, FLICK_TOKENS, 33));
+    assert!(rt; has_words(rt.alloc(), SYMBOLS, SYMBOLS, 39));
+}
+
+#[test]
+fn texts_have_the_longest_tokens(rt: HostRuntime) {
+    let mut right = true;
+    for (text, said) in &CASES {
+        right &= has_tokens(rt.alloc(), text, said);
     }
-    Ok(())
+    assert!(rt; right);
+}
+
+/// Whether a text is refused at this line.
+fn is_refused(alloc: Global, text: &str, line: u32) -> bool {
+    text.len() < 10000 && lex(alloc, text.as_bytes()).err() == Some(LexError::Word { line })
 }
 
 #[test]
 fn a_text_is_refused_where_no_token_begins(rt: HostRuntime) {
-    for (text, line) in REFUSED {
-        assert!(rt; text.len() < 10000);
-        let word = LexError::Word { line };
-        assert!(rt;
-            lex(rt.alloc(), text.as_bytes()).err() == Some(word),
-            "{text:?}"
-        );
+    let mut right = true;
+    for (text, line) in &REFUSED {
+        right &= is_refused(rt.alloc(), text, *line);
     }
+    assert!(rt; right);
 }
