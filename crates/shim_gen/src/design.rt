@@ -7,7 +7,7 @@ ghost use Rattle.shim_trees.specs.Links as spec;
 
 use crate::conns::{add_joined, add_unjoined};
 use crate::items::add_instance;
-use crate::links::{held_widths, nets_of};
+use crate::links::{add_held_widths, nets_of};
 use crate::names::{named, tied};
 use crate::ports::{INPUT, add_port};
 use chan_map::Map;
@@ -61,7 +61,8 @@ pub fn add_tied_ports(
 ) -> Result<(), Memory>
     ensures { OnOk result (map plain_port ports.new ≡ map plain_port ports.old ++ spec.tied_ports pins.now (map plain_port design.now)) }
 {
-    let widths = held_widths(alloc, pins)?;
+    let mut widths = Table::new(alloc);
+    add_held_widths(alloc, &mut widths, pins)?;
     add_ports_of(alloc, ports, &widths, design)
 }
 
@@ -84,15 +85,20 @@ fn add_design_conn(
     }
 }
 
-/// The connections of the design's ports.
-fn design_conns(alloc: Global, nets: &Table<Name>, ports: &[Port]) -> Result<Conns, Memory>
-    ensures { IfOk result (λ conns. map plain_conn conns ≡ map (spec.dut_conn nets.now) (map plain_port ports.now)) }
+/// Adds the connections of the design's ports.
+fn add_design_conns(
+    alloc: Global,
+    conns: &mut Conns,
+    nets: &Table<Name>,
+    ports: &[Port],
+) -> Result<(), Memory>
+    ensures { OnOk result (map plain_conn conns.new
+        ≡ map plain_conn conns.old ++ map (spec.dut_conn nets.now) (map plain_port ports.now)) }
 {
-    let mut conns = Items::new(alloc);
     for port in ports {
-        add_design_conn(alloc, &mut conns, nets, port)?;
+        add_design_conn(alloc, conns, nets, port)?;
     }
-    Ok(conns)
+    Ok(())
 }
 
 /// Adds the instance `dut` of the design of this name, whose ports are joined to these nets.
@@ -106,9 +112,10 @@ fn add_dut(
     ensures { OnOk result (map plain_item items.new ≡ map plain_item items.old
         ++ spec.dut nets.now kind.now (map plain_port ports.now) ∷ []) }
 {
-    let conns = design_conns(alloc, nets, ports)?;
     let kind = copied(alloc, kind)?;
     let name = named(alloc, "dut")?;
+    let mut conns = Items::new(alloc);
+    add_design_conns(alloc, &mut conns, nets, ports)?;
     add_instance(alloc, items, kind, name, conns)
 }
 

@@ -1,5 +1,6 @@
 //! Expressions, targets and ranges of shims.
 
+ghost use Rattle.std.specs.Fmt.{decimal};
 ghost use Rattle.std.specs.Prelude.{◌≡◌, IfOk, None, option_map};
 ghost use Rattle.vlog_tree.specs.Plain.{plain_ident, plain_ref, plain_expr, plain_range, plain_target};
 ghost use Rattle.vlog_tree.specs.Tree.{UnaryExpr, BinaryExpr, NumberPrim, RefWith, NoIndex, NoLast};
@@ -41,7 +42,7 @@ pub fn net(name: Name) -> Expr
 }
 
 /// `~ name`
-pub fn not_net(name: Name) -> Expr
+fn not_net(name: Name) -> Expr
     ensures { plain_expr result ≡ pieces.not_net name }
 {
     let sign = Sign {
@@ -76,12 +77,12 @@ fn number_of(kind: NumberKind, text: Name) -> Expr
     })
 }
 
-/// `n`
-fn number(alloc: Global, n: u32) -> Result<Expr, Memory>
-    ensures { IfOk result (λ e. plain_expr e ≡ pieces.number n) }
+/// The digits of `n`.
+fn digits(alloc: Global, n: u32) -> Result<Name, Memory>
+    ensures { IfOk result (λ text. text ≡ decimal n) }
 {
     let text = format!(in alloc; "{n}")?;
-    Ok(number_of(NumberKind::Decimal, Items::from_vec(text.into_bytes())))
+    Ok(Items::from_vec(text.into_bytes()))
 }
 
 /// `W'd0`
@@ -93,10 +94,9 @@ pub fn zero_of(alloc: Global, width: u32) -> Result<Expr, Memory>
 }
 
 /// `left op right`
-pub fn binary(alloc: Global, left: Expr, op: BinaryOp, right: Expr) -> Result<Expr, Memory>
-    ensures { IfOk result (λ e. plain_expr e ≡ BinaryExpr (plain_expr left) op (plain_expr right)) }
+pub fn binary(alloc: Global, left: Box<Expr>, op: BinaryOp, right: Expr) -> Result<Expr, Memory>
+    ensures { IfOk result (λ e. plain_expr e ≡ BinaryExpr (plain_expr left.value) op (plain_expr right)) }
 {
-    let left = Box::new(alloc, left)?;
     let right = Box::new(alloc, right)?;
     Ok(Expr::Binary { left, op, right })
 }
@@ -105,18 +105,18 @@ pub fn binary(alloc: Global, left: Expr, op: BinaryOp, right: Expr) -> Result<Ex
 pub fn both_nets(alloc: Global, left: &str, right: &str) -> Result<Expr, Memory>
     ensures { IfOk result (λ e. plain_expr e ≡ pieces.both (pieces.net left.now) (pieces.net right.now)) }
 {
-    let left = named(alloc, left)?;
     let right = named(alloc, right)?;
-    binary(alloc, net(left), BinaryOp::And, net(right))
+    let left = Box::new(alloc, net(named(alloc, left)?))?;
+    binary(alloc, left, BinaryOp::And, net(right))
 }
 
 /// `left & ~ right`, two whole nets.
 pub fn one_without(alloc: Global, left: &str, right: &str) -> Result<Expr, Memory>
     ensures { IfOk result (λ e. plain_expr e ≡ pieces.both (pieces.net left.now) (pieces.not_net right.now)) }
 {
-    let left = named(alloc, left)?;
     let right = named(alloc, right)?;
-    binary(alloc, net(left), BinaryOp::And, not_net(right))
+    let left = Box::new(alloc, net(named(alloc, left)?))?;
+    binary(alloc, left, BinaryOp::And, not_net(right))
 }
 
 /// No range for one bit, else `[ W-1 : 0 ]`.
@@ -126,7 +126,10 @@ pub fn range_of(alloc: Global, width: u32) -> Result<Option<Range>, Memory>
     if width == 1 {
         return Ok(None);
     }
-    let first = number(alloc, width.saturating_sub(1))?;
-    let second = number(alloc, 0)?;
-    Ok(Some(Range { first, second }))
+    let first = digits(alloc, width.saturating_sub(1))?;
+    let second = digits(alloc, 0)?;
+    Ok(Some(Range {
+        first: number_of(NumberKind::Decimal, first),
+        second: number_of(NumberKind::Decimal, second),
+    }))
 }

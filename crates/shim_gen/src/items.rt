@@ -69,8 +69,8 @@ pub fn add_both(
     ensures { OnOk result (map plain_item items.new ≡ map plain_item items.old
         ++ pieces.assign name.now (pieces.both (pieces.net left.now) (pieces.net right.now)) ∷ []) }
 {
-    let value = both_nets(alloc, left, right)?;
     let name = named(alloc, name)?;
+    let value = both_nets(alloc, left, right)?;
     add_assign(alloc, items, name, value)
 }
 
@@ -85,8 +85,8 @@ pub fn add_one_without(
     ensures { OnOk result (map plain_item items.new ≡ map plain_item items.old
         ++ pieces.assign name.now (pieces.both (pieces.net left.now) (pieces.not_net right.now)) ∷ []) }
 {
-    let value = one_without(alloc, left, right)?;
     let name = named(alloc, name)?;
+    let value = one_without(alloc, left, right)?;
     add_assign(alloc, items, name, value)
 }
 
@@ -105,12 +105,12 @@ pub fn next(name: Name, value: Expr) -> Stmt
 pub fn add_at_clock(alloc: Global, items: &mut Items<Item>, body: Stmt) -> Result<(), Memory>
     ensures { OnOk result (map plain_item items.new ≡ map plain_item items.old ++ pieces.at_clock (plain_stmt body) ∷ []) }
 {
-    let body = Body::Stmt(Box::new(alloc, body)?);
+    let body = Box::new(alloc, body)?;
     let clock = named(alloc, "clk")?;
     items.push(Item::Always(Always {
         line: 0,
         event: Event::Posedge(ident(clock)),
-        body,
+        body: Body::Stmt(body),
     }))
 }
 
@@ -125,8 +125,8 @@ pub fn add_next(
     ensures { OnOk result (map plain_item items.new ≡ map plain_item items.old
         ++ pieces.at_clock (pieces.next name.now (pieces.both (pieces.net left.now) (pieces.not_net right.now))) ∷ []) }
 {
-    let value = one_without(alloc, left, right)?;
     let name = named(alloc, name)?;
+    let value = one_without(alloc, left, right)?;
     add_at_clock(alloc, items, next(name, value))
 }
 
@@ -173,8 +173,8 @@ fn add_gated_content(
 ) -> Result<(), Memory>
     ensures { OnOk result (map plain_item items.new ≡ map plain_item items.old ++ pieces.gated_content i width ∷ []) }
 {
-    let value = gated(alloc, i, width)?;
     let name = numbered(alloc, "k", i)?;
+    let value = gated(alloc, i, width)?;
     add_assign(alloc, items, name, value)
 }
 

@@ -203,45 +203,51 @@ fn add_all_channel_links(
     Ok(())
 }
 
-/// The links of all pins of a map.
-fn links_of(alloc: Global, valid: &str, ready: &str, pins: &Map) -> Result<Links, Memory>
-    ensures { IfOk result (λ ls. map plain_link ls ≡ spec.links valid.now ready.now pins.now) }
+/// Adds the links of all pins of a map.
+fn add_links(
+    alloc: Global,
+    links: &mut Links,
+    valid: &str,
+    ready: &str,
+    pins: &Map,
+) -> Result<(), Memory>
+    ensures { OnOk result (map plain_link links.new ≡ map plain_link links.old ++ spec.links valid.now ready.now pins.now) }
 {
-    let mut links = Items::new(alloc);
     let clock = named(alloc, "clk")?;
-    add_link(alloc, &mut links, &pins.clock, clock)?;
-    add_reset_link(alloc, &mut links, &pins.reset)?;
-    add_tie_links(alloc, &mut links, pins.ties.as_slice())?;
+    add_link(alloc, links, &pins.clock, clock)?;
+    add_reset_link(alloc, links, &pins.reset)?;
+    add_tie_links(alloc, links, pins.ties.as_slice())?;
     add_all_channel_links(
         alloc,
-        &mut links,
+        links,
         valid,
         ready,
         pins.channels.as_slice(),
         &pins.plugs,
-    )?;
-    Ok(links)
+    )
 }
 
-/// The nets by pin; of links of one pin the first.
-fn table_of(alloc: Global, links: &[Link]) -> Result<Table<Name>, Memory>
-    ensures { IfOk result (λ nets. nets ≡ with_entries [] (map plain_link links.now)) }
+/// Adds the nets by pin; of links of one pin the first.
+fn add_nets(alloc: Global, nets: &mut Table<Name>, links: &[Link]) -> Result<(), Memory>
+    ensures { OnOk result (nets.new ≡ with_entries nets.old (map plain_link links.now)) }
 {
-    let mut nets = Table::new(alloc);
     for link in links {
         let pin = copied(alloc, link.pin.as_slice())?;
         let net = copied(alloc, link.net.as_slice())?;
         nets.push(pin, net)?;
     }
-    Ok(nets)
+    Ok(())
 }
 
 /// The net that each pin of a map is joined to, by the pin's name.
 pub fn nets_of(alloc: Global, valid: &str, ready: &str, pins: &Map) -> Result<Table<Name>, Memory>
     ensures { IfOk result (λ nets. nets ≡ with_entries [] (spec.links valid.now ready.now pins.now)) }
 {
-    let links = links_of(alloc, valid, ready, pins)?;
-    table_of(alloc, links.as_slice())
+    let mut links = Items::new(alloc);
+    add_links(alloc, &mut links, valid, ready, pins)?;
+    let mut nets = Table::new(alloc);
+    add_nets(alloc, &mut nets, links.as_slice())?;
+    Ok(nets)
 }
 
 /// Adds the width of the reset, where there is one.
@@ -261,16 +267,22 @@ fn add_reset_width(
     }
 }
 
-/// The widths of the reset and the ties of a map, by name.
-#[tactic(auto, using(crate::proofs::Tables::entries_append))]
-pub fn held_widths(alloc: Global, pins: &Map) -> Result<Table<u32>, Memory>
-    ensures { IfOk result (λ widths. widths ≡ with_entries [] (spec.held pins.now)) }
+/// Adds the widths of the ties.
+fn add_tie_widths(alloc: Global, widths: &mut Table<u32>, ties: &[Tie]) -> Result<(), Memory>
+    ensures { OnOk result (widths.new ≡ with_entries widths.old (map spec.tie_width ties.now)) }
 {
-    let mut widths = Table::new(alloc);
-    add_reset_width(alloc, &mut widths, &pins.reset)?;
-    for tie in pins.ties.as_slice() {
+    for tie in ties {
         let pin = copied(alloc, tie.pin.name.as_slice())?;
         widths.push(pin, tie.width)?;
     }
-    Ok(widths)
+    Ok(())
+}
+
+/// Adds the widths of the reset and the ties of a map, by name.
+#[tactic(auto, using(crate::proofs::Tables::entries_append))]
+pub fn add_held_widths(alloc: Global, widths: &mut Table<u32>, pins: &Map) -> Result<(), Memory>
+    ensures { OnOk result (widths.new ≡ with_entries widths.old (spec.held pins.now)) }
+{
+    add_reset_width(alloc, widths, &pins.reset)?;
+    add_tie_widths(alloc, widths, pins.ties.as_slice())
 }

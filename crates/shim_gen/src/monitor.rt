@@ -13,21 +13,20 @@ use trace_model::Channel;
 use vidi_bits::{Items, Memory};
 use vlog_tree::{Item, Module, Ports};
 
-fn monitor_ports(alloc: Global, widths: &[u8]) -> Result<Ports, Memory>
-    ensures { IfOk result (λ ports. map plain_port ports ≡ spec.monitor_ports widths.now) }
+/// Adds the ports.
+fn add_ports(alloc: Global, ports: &mut Ports, widths: &[u8]) -> Result<(), Memory>
+    ensures { OnOk result (map plain_port ports.new ≡ map plain_port ports.old ++ spec.monitor_ports widths.now) }
 {
-    let mut ports = Items::new(alloc);
-    add_bit(alloc, &mut ports, INPUT, "clk")?;
-    add_bit(alloc, &mut ports, INPUT, "g")?;
-    add_bit(alloc, &mut ports, INPUT, "sv")?;
-    add_bit(alloc, &mut ports, OUTPUT, "sr")?;
-    add_contents(alloc, &mut ports, INPUT, "s", widths)?;
-    add_bit(alloc, &mut ports, OUTPUT, "kv")?;
-    add_bit(alloc, &mut ports, INPUT, "kr")?;
-    add_contents(alloc, &mut ports, OUTPUT, "k", widths)?;
-    add_bit(alloc, &mut ports, OUTPUT, "start")?;
-    add_bit(alloc, &mut ports, OUTPUT, "stop")?;
-    Ok(ports)
+    add_bit(alloc, ports, INPUT, "clk")?;
+    add_bit(alloc, ports, INPUT, "g")?;
+    add_bit(alloc, ports, INPUT, "sv")?;
+    add_bit(alloc, ports, OUTPUT, "sr")?;
+    add_contents(alloc, ports, INPUT, "s", widths)?;
+    add_bit(alloc, ports, OUTPUT, "kv")?;
+    add_bit(alloc, ports, INPUT, "kr")?;
+    add_contents(alloc, ports, OUTPUT, "k", widths)?;
+    add_bit(alloc, ports, OUTPUT, "start")?;
+    add_bit(alloc, ports, OUTPUT, "stop")
 }
 
 /// Adds `reg fly ;`.
@@ -56,14 +55,13 @@ fn add_events(alloc: Global, items: &mut Items<Item>) -> Result<(), Memory>
     add_next(alloc, items, "fly", "kv", "kr")
 }
 
-fn monitor_items(alloc: Global, widths: &[u8]) -> Result<Items<Item>, Memory>
-    ensures { IfOk result (λ items. map plain_item items ≡ spec.monitor_items widths.now) }
+/// Adds the items.
+fn add_items(alloc: Global, items: &mut Items<Item>, widths: &[u8]) -> Result<(), Memory>
+    ensures { OnOk result (map plain_item items.new ≡ map plain_item items.old ++ spec.monitor_items widths.now) }
 {
-    let mut items = Items::new(alloc);
-    add_gates(alloc, &mut items)?;
-    add_gated_contents(alloc, &mut items, widths)?;
-    add_events(alloc, &mut items)?;
-    Ok(items)
+    add_gates(alloc, items)?;
+    add_gated_contents(alloc, items, widths)?;
+    add_events(alloc, items)
 }
 
 /// The monitor of channel n (from 0): the module `vidi_m_n`, which holds valid and ready back while the gate `g` is shut, shows content 0
@@ -72,9 +70,11 @@ pub fn monitor_tree(alloc: Global, channel: &Channel, n: usize) -> Result<Module
     ensures { IfOk result (λ tree. plain_module tree ≡ spec.monitor n channel.now.widths) }
 {
     let widths = channel.widths.as_slice();
-    let ports = monitor_ports(alloc, widths)?;
-    let items = monitor_items(alloc, widths)?;
     let name = numbered(alloc, "vidi_m_", n)?;
+    let mut ports = Items::new(alloc);
+    add_ports(alloc, &mut ports, widths)?;
+    let mut items = Items::new(alloc);
+    add_items(alloc, &mut items, widths)?;
     Ok(Module {
         name,
         parameters: Items::new(alloc),

@@ -151,16 +151,6 @@ fn add_sink_conns(
     add_conn_of(alloc, conns, "stop", "stop_", n)
 }
 
-/// The connections of the monitor of channel n.
-fn monitor_conns(alloc: Global, n: usize, dir: Dir, widths: &[u8]) -> Result<Conns, Memory>
-    ensures { IfOk result (λ conns. map plain_conn conns ≡ spec.monitor_conns n dir widths.now) }
-{
-    let mut conns = Items::new(alloc);
-    add_source_conns(alloc, &mut conns, n, dir, widths)?;
-    add_sink_conns(alloc, &mut conns, n, dir, widths)?;
-    Ok(conns)
-}
-
 /// Adds the monitor of channel n.
 fn add_monitor(
     alloc: Global,
@@ -172,7 +162,10 @@ fn add_monitor(
 {
     let kind = numbered(alloc, "vidi_m_", n)?;
     let name = numbered(alloc, "m_", n)?;
-    let conns = monitor_conns(alloc, n, channel.dir, channel.widths.as_slice())?;
+    let widths = channel.widths.as_slice();
+    let mut conns = Items::new(alloc);
+    add_source_conns(alloc, &mut conns, n, channel.dir, widths)?;
+    add_sink_conns(alloc, &mut conns, n, channel.dir, widths)?;
     add_instance(alloc, items, kind, name, conns)
 }
 
@@ -186,35 +179,45 @@ fn add_monitors(alloc: Global, items: &mut Items<Item>, channels: &[Channel]) ->
     Ok(())
 }
 
-/// The ports of the top.
-fn top_ports(alloc: Global, pins: &Map, design: &[Port]) -> Result<Ports, Memory>
-    ensures { IfOk result (λ ports. map plain_port ports ≡ (spec.record_top pins.now (map plain_port design.now)).ports) }
+/// Adds the ports of the top.
+fn add_top_ports(
+    alloc: Global,
+    ports: &mut Ports,
+    pins: &Map,
+    design: &[Port],
+) -> Result<(), Memory>
+    ensures { OnOk result (map plain_port ports.new
+        ≡ map plain_port ports.old ++ (spec.record_top pins.now (map plain_port design.now)).ports) }
 {
-    let mut ports = Items::new(alloc);
-    add_bit(alloc, &mut ports, INPUT, "clk")?;
-    add_tied_ports(alloc, &mut ports, pins, design)?;
-    add_all_channel_ports(alloc, &mut ports, pins.channels.as_slice())?;
-    Ok(ports)
+    add_bit(alloc, ports, INPUT, "clk")?;
+    add_tied_ports(alloc, ports, pins, design)?;
+    add_all_channel_ports(alloc, ports, pins.channels.as_slice())
 }
 
-/// The items of the top.
-fn top_items(alloc: Global, pins: &Map, design: &[Port]) -> Result<Items<Item>, Memory>
-    ensures { IfOk result (λ items. map plain_item items ≡ (spec.record_top pins.now (map plain_port design.now)).items) }
+/// Adds the items of the top.
+fn add_top_items(
+    alloc: Global,
+    items: &mut Items<Item>,
+    pins: &Map,
+    design: &[Port],
+) -> Result<(), Memory>
+    ensures { OnOk result (map plain_item items.new
+        ≡ map plain_item items.old ++ (spec.record_top pins.now (map plain_port design.now)).items) }
 {
-    let mut items = Items::new(alloc);
-    add_all_channel_wires(alloc, &mut items, pins.channels.as_slice())?;
-    add_design(alloc, &mut items, "w_", "w_", pins, design)?;
-    add_monitors(alloc, &mut items, pins.channels.as_slice())?;
-    Ok(items)
+    add_all_channel_wires(alloc, items, pins.channels.as_slice())?;
+    add_design(alloc, items, "w_", "w_", pins, design)?;
+    add_monitors(alloc, items, pins.channels.as_slice())
 }
 
 /// The top that records, round a design whose top has the ports `design`: the module `vidi_record_top`.
 pub fn record_top(alloc: Global, pins: &Map, design: &[Port]) -> Result<Module, Memory>
     ensures { IfOk result (λ top. plain_module top ≡ spec.record_top pins.now (map plain_port design.now)) }
 {
-    let ports = top_ports(alloc, pins, design)?;
-    let items = top_items(alloc, pins, design)?;
     let name = named(alloc, "vidi_record_top")?;
+    let mut ports = Items::new(alloc);
+    add_top_ports(alloc, &mut ports, pins, design)?;
+    let mut items = Items::new(alloc);
+    add_top_items(alloc, &mut items, pins, design)?;
     Ok(Module {
         name,
         parameters: Items::new(alloc),

@@ -198,21 +198,6 @@ fn add_replayer_conns(
     add_conn_of(alloc, conns, "pop", "pop_", n)
 }
 
-/// The connections of the replayer of channel n of `count`.
-fn replayer_conns(
-    alloc: Global,
-    count: usize,
-    n: usize,
-    dir: Dir,
-    widths: &[u8],
-) -> Result<Conns, Memory>
-    ensures { IfOk result (λ conns. map plain_conn conns ≡ spec.replayer_conns count n dir widths.now) }
-{
-    let mut conns = Items::new(alloc);
-    add_replayer_conns(alloc, &mut conns, count, n, dir, widths)?;
-    Ok(conns)
-}
-
 /// Adds the replayer of channel n of `count`.
 fn add_replayer(
     alloc: Global,
@@ -225,7 +210,15 @@ fn add_replayer(
 {
     let kind = numbered(alloc, "vidi_q_", n)?;
     let name = numbered(alloc, "q_", n)?;
-    let conns = replayer_conns(alloc, count, n, channel.dir, channel.widths.as_slice())?;
+    let mut conns = Items::new(alloc);
+    add_replayer_conns(
+        alloc,
+        &mut conns,
+        count,
+        n,
+        channel.dir,
+        channel.widths.as_slice(),
+    )?;
     add_instance(alloc, items, kind, name, conns)
 }
 
@@ -241,35 +234,45 @@ fn add_replayers(alloc: Global, items: &mut Items<Item>, channels: &[Channel]) -
     Ok(())
 }
 
-/// The ports of the top.
-fn top_ports(alloc: Global, pins: &Map, design: &[Port]) -> Result<Ports, Memory>
-    ensures { IfOk result (λ ports. map plain_port ports ≡ (spec.replay_top pins.now (map plain_port design.now)).ports) }
+/// Adds the ports of the top.
+fn add_top_ports(
+    alloc: Global,
+    ports: &mut Ports,
+    pins: &Map,
+    design: &[Port],
+) -> Result<(), Memory>
+    ensures { OnOk result (map plain_port ports.new
+        ≡ map plain_port ports.old ++ (spec.replay_top pins.now (map plain_port design.now)).ports) }
 {
-    let mut ports = Items::new(alloc);
-    add_bit(alloc, &mut ports, INPUT, "clk")?;
-    add_tied_ports(alloc, &mut ports, pins, design)?;
-    add_all_channel_ports(alloc, &mut ports, pins.channels.as_slice())?;
-    Ok(ports)
+    add_bit(alloc, ports, INPUT, "clk")?;
+    add_tied_ports(alloc, ports, pins, design)?;
+    add_all_channel_ports(alloc, ports, pins.channels.as_slice())
 }
 
-/// The items of the top.
-fn top_items(alloc: Global, pins: &Map, design: &[Port]) -> Result<Items<Item>, Memory>
-    ensures { IfOk result (λ items. map plain_item items ≡ (spec.replay_top pins.now (map plain_port design.now)).items) }
+/// Adds the items of the top.
+fn add_top_items(
+    alloc: Global,
+    items: &mut Items<Item>,
+    pins: &Map,
+    design: &[Port],
+) -> Result<(), Memory>
+    ensures { OnOk result (map plain_item items.new
+        ≡ map plain_item items.old ++ (spec.replay_top pins.now (map plain_port design.now)).items) }
 {
-    let mut items = Items::new(alloc);
-    add_all_channel_wires(alloc, &mut items, pins.channels.as_slice())?;
-    add_design(alloc, &mut items, "v_", "r_", pins, design)?;
-    add_replayers(alloc, &mut items, pins.channels.as_slice())?;
-    Ok(items)
+    add_all_channel_wires(alloc, items, pins.channels.as_slice())?;
+    add_design(alloc, items, "v_", "r_", pins, design)?;
+    add_replayers(alloc, items, pins.channels.as_slice())
 }
 
 /// The top that replays, round a design whose top has the ports `design`: the module `vidi_replay_top`.
 pub fn replay_top(alloc: Global, pins: &Map, design: &[Port]) -> Result<Module, Memory>
     ensures { IfOk result (λ top. plain_module top ≡ spec.replay_top pins.now (map plain_port design.now)) }
 {
-    let ports = top_ports(alloc, pins, design)?;
-    let items = top_items(alloc, pins, design)?;
     let name = named(alloc, "vidi_replay_top")?;
+    let mut ports = Items::new(alloc);
+    add_top_ports(alloc, &mut ports, pins, design)?;
+    let mut items = Items::new(alloc);
+    add_top_items(alloc, &mut items, pins, design)?;
     Ok(Module {
         name,
         parameters: Items::new(alloc),

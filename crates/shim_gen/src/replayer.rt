@@ -56,17 +56,22 @@ fn add_side(alloc: Global, ports: &mut Ports, dir: Dir, widths: &[u8]) -> Result
     }
 }
 
-fn replayer_ports(alloc: Global, count: usize, dir: Dir, widths: &[u8]) -> Result<Ports, Memory>
-    ensures { IfOk result (λ ports. map plain_port ports ≡ spec.replayer_ports count dir widths.now) }
+/// Adds the ports.
+fn add_ports(
+    alloc: Global,
+    ports: &mut Ports,
+    count: usize,
+    dir: Dir,
+    widths: &[u8],
+) -> Result<(), Memory>
+    ensures { OnOk result (map plain_port ports.new ≡ map plain_port ports.old ++ spec.replayer_ports count dir widths.now) }
 {
-    let mut ports = Items::new(alloc);
-    add_bit(alloc, &mut ports, INPUT, "clk")?;
-    add_bit(alloc, &mut ports, INPUT, "more")?;
-    add_inputs(alloc, &mut ports, "n", count, COUNTER_WIDTH)?;
-    add_inputs(alloc, &mut ports, "d", count, 1)?;
-    add_side(alloc, &mut ports, dir, widths)?;
-    add_bit(alloc, &mut ports, OUTPUT, "pop")?;
-    Ok(ports)
+    add_bit(alloc, ports, INPUT, "clk")?;
+    add_bit(alloc, ports, INPUT, "more")?;
+    add_inputs(alloc, ports, "n", count, COUNTER_WIDTH)?;
+    add_inputs(alloc, ports, "d", count, 1)?;
+    add_side(alloc, ports, dir, widths)?;
+    add_bit(alloc, ports, OUTPUT, "pop")
 }
 
 /// `left0 op right0`, where 0 is `j`.
@@ -74,9 +79,9 @@ fn compared(alloc: Global, left: &str, op: BinaryOp, right: &str, j: usize) -> R
     ensures { IfOk result (λ e. plain_expr e
         ≡ BinaryExpr (pieces.net (pieces.numbered left.now j)) op (pieces.net (pieces.numbered right.now j))) }
 {
-    let left = numbered(alloc, left, j)?;
     let right = numbered(alloc, right, j)?;
-    binary(alloc, net(left), op, net(right))
+    let left = Box::new(alloc, net(numbered(alloc, left, j)?))?;
+    binary(alloc, left, op, net(right))
 }
 
 /// `( c0 >= n0 )`, where 0 is `j`.
@@ -95,6 +100,7 @@ fn covers(alloc: Global, j: usize) -> Result<Expr, Memory>
 fn with_cover(alloc: Global, e: Expr, j: usize) -> Result<Expr, Memory>
     ensures { IfOk result (λ more. plain_expr more ≡ pieces.both (plain_expr e) (spec.covers j)) }
 {
+    let e = Box::new(alloc, e)?;
     let covers = covers(alloc, j)?;
     binary(alloc, e, BinaryOp::And, covers)
 }
@@ -135,20 +141,19 @@ fn add_counters(alloc: Global, items: &mut Items<Item>, count: usize) -> Result<
 fn add_count(alloc: Global, stmts: &mut Stmts, j: usize) -> Result<(), Memory>
     ensures { OnOk result (map plain_stmt stmts.new ≡ map plain_stmt stmts.old ++ counted j ∷ []) }
 {
-    let sum = compared(alloc, "c", BinaryOp::Plus, "d", j)?;
     let name = numbered(alloc, "c", j)?;
+    let sum = compared(alloc, "c", BinaryOp::Plus, "d", j)?;
     stmts.push(next(name, sum))
 }
 
-/// `c0 <= c0 + d0 ; c1 <= c1 + d1 ; ..`
-fn counting(alloc: Global, count: usize) -> Result<Stmts, Memory>
-    ensures { IfOk result (λ stmts. map plain_stmt stmts ≡ pieces.upto counted 0 count) }
+/// Adds `c0 <= c0 + d0 ; c1 <= c1 + d1 ; ..`
+fn add_counts(alloc: Global, stmts: &mut Stmts, count: usize) -> Result<(), Memory>
+    ensures { OnOk result (map plain_stmt stmts.new ≡ map plain_stmt stmts.old ++ pieces.upto counted 0 count) }
 {
-    let mut stmts = Items::new(alloc);
     for j in 0..count {
-        add_count(alloc, &mut stmts, j)?;
+        add_count(alloc, stmts, j)?;
     }
-    Ok(stmts)
+    Ok(())
 }
 
 /// Adds the block that counts.
@@ -156,7 +161,8 @@ fn add_counting(alloc: Global, items: &mut Items<Item>, count: usize) -> Result<
     ensures { OnOk result (map plain_item items.new
         ≡ map plain_item items.old ++ pieces.at_clock (BeginStmt (spec.counting 0 count)) ∷ []) }
 {
-    let stmts = counting(alloc, count)?;
+    let mut stmts = Items::new(alloc);
+    add_counts(alloc, &mut stmts, count)?;
     add_at_clock(alloc, items, begin(stmts))
 }
 
@@ -165,8 +171,8 @@ fn add_offer(alloc: Global, items: &mut Items<Item>, name: &str, count: usize) -
     ensures { OnOk result (map plain_item items.new ≡ map plain_item items.old
         ++ pieces.assign name.now (spec.covering 0 count (pieces.net (codes "more"))) ∷ []) }
 {
-    let value = covering(alloc, count)?;
     let name = named(alloc, name)?;
+    let value = covering(alloc, count)?;
     add_assign(alloc, items, name, value)
 }
 
@@ -193,19 +199,19 @@ fn add_shown(
     }
 }
 
-fn replayer_items(
+/// Adds the items.
+fn add_items(
     alloc: Global,
+    items: &mut Items<Item>,
     count: usize,
     dir: Dir,
     widths: &[u8],
-) -> Result<Items<Item>, Memory>
-    ensures { IfOk result (λ items. map plain_item items ≡ spec.replayer_items count dir widths.now) }
+) -> Result<(), Memory>
+    ensures { OnOk result (map plain_item items.new ≡ map plain_item items.old ++ spec.replayer_items count dir widths.now) }
 {
-    let mut items = Items::new(alloc);
-    add_counters(alloc, &mut items, count)?;
-    add_shown(alloc, &mut items, count, dir, widths)?;
-    add_counting(alloc, &mut items, count)?;
-    Ok(items)
+    add_counters(alloc, items, count)?;
+    add_shown(alloc, items, count, dir, widths)?;
+    add_counting(alloc, items, count)
 }
 
 /// The replayer of channel n of `count`.
@@ -218,9 +224,11 @@ pub fn replayer_of(
     ensures { IfOk result (λ tree. plain_module tree ≡ spec.replayer count n channel.now) }
 {
     let widths = channel.widths.as_slice();
-    let ports = replayer_ports(alloc, count, channel.dir, widths)?;
-    let items = replayer_items(alloc, count, channel.dir, widths)?;
     let name = numbered(alloc, "vidi_q_", n)?;
+    let mut ports = Items::new(alloc);
+    add_ports(alloc, &mut ports, count, channel.dir, widths)?;
+    let mut items = Items::new(alloc);
+    add_items(alloc, &mut items, count, channel.dir, widths)?;
     Ok(Module {
         name,
         parameters: Items::new(alloc),

@@ -62,16 +62,15 @@ pub fn ports_of<'a>(modules: &'a [Module], name: &[u8]) -> &'a [Port]
     &[]
 }
 
-/// Copies of these modules.
-fn copies_of(alloc: Global, modules: &[Module]) -> Result<Modules, Memory>
-    ensures { IfOk result (λ copies. map plain_module copies ≡ map plain_module modules.now) }
+/// Adds copies of the design's modules.
+fn add_copies(alloc: Global, modules: &mut Modules, design: &[Module]) -> Result<(), Memory>
+    ensures { OnOk result (map plain_module modules.new ≡ map plain_module modules.old ++ map plain_module design.now) }
 {
-    let mut copies = Items::new(alloc);
-    for module in modules {
+    for module in design {
         let copy = copy_module(alloc, module)?;
-        copies.push(copy)?;
+        modules.push(copy)?;
     }
-    Ok(copies)
+    Ok(())
 }
 
 /// Adds the monitor and the replayer of channel n of `count`.
@@ -114,16 +113,20 @@ fn add_tops(alloc: Global, modules: &mut Modules, pins: &Map, design: &[Port]) -
     modules.push(replaying)
 }
 
-/// The modules of the wrapped file.
-fn wrapped_modules(alloc: Global, design: &[Module], pins: &Map) -> Result<Modules, Memory>
-    ensures { IfOk result (λ modules. map plain_module modules
-        ≡ (spec.wrapped (record { modules = map plain_module design.now }) pins.now).modules) }
+/// Adds the modules of the wrapped file.
+fn add_modules(
+    alloc: Global,
+    modules: &mut Modules,
+    design: &[Module],
+    pins: &Map,
+) -> Result<(), Memory>
+    ensures { OnOk result (map plain_module modules.new ≡ map plain_module modules.old
+        ++ (spec.wrapped (record { modules = map plain_module design.now }) pins.now).modules) }
 {
-    let mut modules = copies_of(alloc, design)?;
-    add_channels(alloc, &mut modules, pins.channels.as_slice())?;
+    add_copies(alloc, modules, design)?;
+    add_channels(alloc, modules, pins.channels.as_slice())?;
     let ports = ports_of(design, pins.top.as_slice());
-    add_tops(alloc, &mut modules, pins, ports)?;
-    Ok(modules)
+    add_tops(alloc, modules, pins, ports)
 }
 
 /// The file with the shims of this map round its top: its modules, then for each channel its monitor and its replayer, then the tops
@@ -137,6 +140,7 @@ pub fn wrap(alloc: Global, file: &File, map: &Map) -> Result<File, WrapError>
     ensures tree { IfOk result (λ w. plain w ≡ spec.wrapped (plain file.now) map.now) }
 {
     check_names(alloc, file.modules.as_slice())?;
-    let modules = wrapped_modules(alloc, file.modules.as_slice(), map)?;
+    let mut modules = Items::new(alloc);
+    add_modules(alloc, &mut modules, file.modules.as_slice(), map)?;
     Ok(File { modules })
 }
