@@ -50,10 +50,11 @@ fn offers_after<S: Shell, E: Env>(
     }
 }
 
-/// The same of a design that runs, under the script and the plan.
-fn sends_after(alloc: Global, sim: Sim, map: &Map, failing: u128) -> Option<bool>
-    requires nets { PortsAreNets sim.design }
-    requires mapped { IsMapOf sim.design map.now }
+/// The same of a shell, under the script and the plan.
+fn sends_after<S: Shell>(alloc: Global, shell: &mut S, map: &Map, failing: u128) -> Option<bool>
+    requires table { IsTable map.now.channels }
+    requires some { 0 < length map.now.channels }
+    requires mapped { S.map shell.old ≡ map.now }
 {
     let Ok(script) = read_script(alloc, TWO_SENDS, map) else {
         return None;
@@ -62,15 +63,25 @@ fn sends_after(alloc: Global, sim: Sim, map: &Map, failing: u128) -> Option<bool
         return None;
     };
     let room = Room::new(alloc, map.channels(), stalls.capacity()).ok()?;
-    let mut shell = Machines::new(alloc, sim, map).ok()?;
     let mut env = ScriptEnv::new(alloc, &script, map).ok()?;
-    offers_after(alloc, &mut shell, map, &mut env, &stalls, room, failing)
+    offers_after(alloc, shell, map, &mut env, &stalls, room, failing)
+}
+
+/// The same of monitors round a design that runs.
+fn monitored_after(alloc: Global, sim: Sim, map: &Map, failing: u128) -> Option<bool>
+    requires nets { PortsAreNets sim.design }
+    requires mapped { IsMapOf sim.design map.now }
+{
+    let Ok(mut shell) = Machines::new(alloc, sim, map) else {
+        return None;
+    };
+    sends_after(alloc, &mut shell, map, failing)
 }
 
 /// The same of the register stage.
 fn pass_sends_after(alloc: Global, failing: u128) -> Option<bool> {
     let Stage { sim, map } = two_channel_stage(alloc, Sample::Pass)?;
-    sends_after(alloc, sim, &map, failing)
+    monitored_after(alloc, sim, &map, failing)
 }
 
 // In row 0 it waits.

@@ -16,15 +16,15 @@ of_ok P (Ok a) x h p = subst P (same_some a x h) p
 of_ok P (Err e) x h p = absurd (cc)
 
 pub offers_after-requires-clause-first : goal.offers_after-requires-clause-first
-offers_after-requires-clause-first c =
-    let made : result_ok c.new-3.result ≡ Some c.in_ok-env.env = sym c.ok-3.ensures.value ∙ c.in_ok-env.was in
-    let rows = of_ok (λ (env : ScriptEnv). StandsFor c.in-Ok.script env.places.items env.done.items env.cycle []) c.new-3.result c.in_ok-env.env
-    made c.new-3.ensures.rows in
-    let plan = of_ok (λ (env : ScriptEnv). env.script.now ≡ c.in-Ok.script) c.new-3.result c.in_ok-env.env made c.new-3.ensures.plan in
+offers_after-requires-clause-first g c =
+    let made : result_ok c.new-2.result ≡ Some c.in_ok-env.env = sym c.ok-2.ensures.value ∙ c.in_ok-env.was in
+    let rows = of_ok (λ (env : ScriptEnv). StandsFor c.in-Ok.script env.places.items env.done.items env.cycle []) c.new-2.result c.in_ok-env.env
+    made c.new-2.ensures.rows in
+    let plan = of_ok (λ (env : ScriptEnv). env.script.now ≡ c.in-Ok.script) c.new-2.result c.in_ok-env.env made c.new-2.ensures.plan in
     subst (λ (script : Script). StandsFor script c.in_ok-env.env.places.items c.in_ok-env.env.done.items c.in_ok-env.env.cycle []) (sym plan) rows
 
 pub offers_after-requires-clause-room : goal.offers_after-requires-clause-room
-offers_after-requires-clause-room c =
+offers_after-requires-clause-room g c =
     (of_ok _ c.new.result c.in_ok-room.room (sym c.ok.ensures.value ∙ c.in_ok-room.was) c.new.ensures.made).0
     ∙ ap (λ (channels : List Channel). fresh (sizes_of channels) c.capacity.result) c.channels.ensures
     ∙ ap (λ n. fresh (sizes_of c.args.map.now.channels) n) c.capacity.ensures
