@@ -8,7 +8,7 @@ ghost use Rattle.run_model.specs.Offers.{AreZeroWhileDown};
 ghost use Rattle.chan_replayer.specs.Fed.{fed_content};
 ghost use Rattle.chan_replayer.specs.Feed.{IsFeedOver};
 
-use chan_replayer::Feed;
+use chan_replayer::{Feed, clear_contents};
 use std::alloc::Global;
 use trace_model::{Channel, Channels, Offers, names};
 use vidi_bits::{Bytes, Items, Memory, trim};
@@ -83,29 +83,6 @@ fn draw_contents(sequence: &mut Sequence, widths: &[u8], contents: &mut [u128])
 {
     for (k, width) in widths.iter().enumerate() {
         contents[k] = sequence.number(u32::from(*width));
-    }
-}
-
-/// Makes the content that begins at place `at` 0 for each port, unless the channel's valid is up.
-fn clear_content(up: bool, ports: usize, contents: &mut [u128], at: usize)
-    requires { at + ports ≤ length contents.old }
-    ensures { contents.new ≡ (if up then contents.old else replaced contents.old at (replicate ports 0)) }
-{
-    if !up {
-        contents[at..at + ports].fill(0);
-    }
-}
-
-/// Makes the contents of the channels whose valid is down 0.
-fn clear_contents(valids: u128, channels: &[Channel], contents: &mut [u128])
-    requires { Fit (all_widths channels.now) contents.old }
-    ensures { contents.new ≡ joined (fed_content channels.now valids contents.old) 0 channels.now }
-{
-    let mut at = 0;
-    for (c, channel) in channels.iter().enumerate() {
-        let ports = channel.widths.len();
-        clear_content(names(valids, c), ports, contents, at);
-        at += ports;
     }
 }
 
