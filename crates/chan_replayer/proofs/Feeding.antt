@@ -1,9 +1,9 @@
 -- A shell behind replayers does a replay's rows.
-use Rattle.std.proofs.Common.{◌≡◌, ℕ, zero, suc, ◌+◌, ◌-◌, ◌/◌, ◌^◌, ◌<◌, ◌≤◌, Bool, true, false, cond, List, [], Option, None, Some, length, replicate, slice_get, get_or}
+use Rattle.std.proofs.Common.{◌≡◌, ℕ, zero, suc, ◌+◌, ◌-◌, ◌/◌, ◌^◌, ◌<◌, ◌≤◌, Bool, true, false, cond, List, [], ◌∷◌, ◌++◌, Option, None, Some, length, replicate, slice_get, get_or}
 use Rattle.std.proofs.Common.{refl, sym, ap, subst, ◌∙◌, arith, ⊎_elim}
 use Rattle.std.specs.Int.{bit_at}
 use Rattle.std.specs.Prelude.{◌↔◌}
-use Rattle.std.proofs.Math.Logic.{∥∥₁_elim}
+use Rattle.std.proofs.Math.Logic.{∥∥₁_elim, ∥∥₁_map}
 use Rattle.std.proofs.Props.{props}
 use Rattle.std.proofs.lemmas.Nat.{pow_pos}
 use Rattle.std.proofs.lemmas.Nat.Bits.{ones_shr}
@@ -28,11 +28,11 @@ use Rattle.chan_monitor.specs.Shell as shells
 use Rattle.run_model.specs.Offers.{no_content, CarriesOn}
 use Rattle.run_model.specs.Played.{all_up}
 use Rattle.run_model.specs.Replay.{done}
-use Rattle.run_model.specs.Step.{IsStep}
+use Rattle.run_model.specs.Step.{IsFirst, IsStep}
 use Rattle.chan_replayer.specs.declared.feed.Feed.{Feed}
-use Rattle.chan_replayer.specs.Fed.{AreFed, IsFedAround}
+use Rattle.chan_replayer.specs.Fed.{AreFed, IsFedAround, IsFresh}
 use Rattle.chan_replayer.specs.Feed.{IsFedOn, IsUp}
-use Rattle.chan_replayer.specs.Shell.{GoesTo, IsShown}
+use Rattle.chan_replayer.specs.Shell.{GoesTo, IsRunning, IsShown}
 
 -- ---- what is merely known
 over_prop : (channels : List Channel) (row : Row) → IsProp (IsOver channels row)
@@ -61,17 +61,20 @@ gates-below channels n e few =
     omega (arith, is, some)
 
 -- ---- before the first row
-pub fed-first : (runs : Design → Values → Option Row → Type 0) (n : ℕ) (have : List ℕ) (d : Design) (s : Values) → have ≡ replicate n 0
-    → runs d s None → IsFedAround runs have d s []
-fed-first runs n have d s zeros on = record {
-  on = on;
-  counts = λ c l. ap (λ (xs : List ℕ). get_or xs c 0) zeros ∙ none n c;
-}
+pub none-yet : (n : ℕ) (have : List ℕ) → have ≡ replicate n 0 → (c : ℕ) → get_or have c 0 ≡ 0
+none-yet n have zeros c = ap (λ (xs : List ℕ). get_or xs c 0) zeros ∙ none n c
   where
     none : (n c : ℕ) → get_or (replicate {A = ℕ} n 0) c 0 ≡ 0
     none zero c = refl
     none (suc n) zero = refl
     none (suc n) (suc c) = none n c
+
+pub fed-first : (runs : Design → Values → Option Row → Type 0) (n : ℕ) (have : List ℕ) (d : Design) (s : Values) → have ≡ replicate n 0
+    → runs d s None → IsFedAround runs have d s []
+fed-first runs n have d s zeros on = record {
+  on = on;
+  counts = λ c l. none-yet n have zeros c;
+}
 
 -- ---- what is offered
 up-same : (n : ℕ) (feed : Feed) (have more : ℕ → ℕ) (c : ℕ) → ((d : ℕ) → d < n → have d ≡ more d) → IsUp n feed have c ↔ IsUp n feed more c
@@ -144,3 +147,38 @@ next d m given s rows row runs after_runs have new ends same around e long each 
         ∙ sym (count-push (row_does End c) rows row));
   },
 )
+
+-- ---- that it runs
+pub running-new : (runs : Design → Values → Option Row → Type 0) (n : ℕ) (have : List ℕ) → have ≡ replicate n 0 → ∥ IsFresh runs ∥₁
+    → ∥ IsRunning (IsFedAround runs have) ∥₁
+running-new runs n have zeros fresh =
+    ∥∥₁_map fresh (λ (r : IsFresh runs). (r.0, r.1, [], fed-first runs n have r.0 r.1 zeros r.2))
+
+pub running-first : (m : Map) (runs first_runs : Design → Values → Option Row → Type 0) (n : ℕ) (have zeroed : List ℕ)
+    → zeroed ≡ replicate n 0
+    → ((d : Design) (s : Values) (before : Option Row) → runs d s before → (first : Values) × IsFirst d m first × first_runs d first None)
+    → ∥ IsRunning (IsFedAround runs have) ∥₁ → ∥ IsRunning (IsFedAround first_runs zeroed) ∥₁
+running-first m runs first_runs n have zeroed zeros begins known =
+    ∥∥₁_map known (λ (r : IsRunning (IsFedAround runs have)).
+    (let first = begins r.0 r.1 (row_before r.2 (length r.2)) r.3.on in
+    (r.0, first.0, [], fed-first first_runs n zeroed r.0 first.0 zeros first.2)))
+
+pub running-shown : (runs shown_runs : Design → Values → Option Row → Type 0) (have : List ℕ)
+    → ((d : Design) (s : Values) (before : Option Row) → runs d s before → shown_runs d s before)
+    → ∥ IsRunning (IsFedAround runs have) ∥₁ → ∥ IsRunning (IsFedAround shown_runs have) ∥₁
+running-shown runs shown_runs have goes_on known =
+    ∥∥₁_map known (λ (r : IsRunning (IsFedAround runs have)).
+    (r.0, r.1, r.2, record { on = goes_on r.0 r.1 (row_before r.2 (length r.2)) r.3.on; counts = r.3.counts }))
+
+pub running-next : (m given : Map) (row : Row) (runs after_runs : Design → Values → Option Row → Type 0) (have new : List ℕ) (ends : ℕ)
+    → given ≡ m → ends ≡ row.ends → length new ≡ length have
+    → ((c : ℕ) → c < length have → get_or new c 0 ≡ get_or have c 0 + bit_at ends c)
+    → ((d : Design) (s : Values) (before : Option Row) → runs d s before
+    → (after : Values) × IsStep d given s row after × after_runs d after (Some row))
+    → ∥ IsRunning (IsFedAround runs have) ∥₁ → ∥ IsRunning (IsFedAround after_runs new) ∥₁
+running-next m given row runs after_runs have new ends same e long each steps known =
+    ∥∥₁_map known (λ (r : IsRunning (IsFedAround runs have)).
+    (let gone : GoesTo (IsFedAround after_runs new) r.0 m r.1 r.2 row =
+    next r.0 m given r.1 r.2 row runs after_runs have new ends same r.3 e long each
+    (steps r.0 r.1 (row_before r.2 (length r.2)) r.3.on) in
+    (r.0, gone.0, r.2 ++ row ∷ [], gone.2)))

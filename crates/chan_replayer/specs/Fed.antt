@@ -1,5 +1,5 @@
 -- A shell behind replayers.
-use Rattle.std.specs.Prelude.{◌≡◌, ℕ, ◌^◌, ◌<◌, ◌↔◌, true, if◌then◌else◌, List, Option, Some, length, slice_get, slice_index}
+use Rattle.std.specs.Prelude.{◌≡◌, ℕ, ◌^◌, ◌<◌, ◌↔◌, true, if◌then◌else◌, List, Option, None, Some, length, slice_get, slice_index}
 use Rattle.vidi_bits.specs.Number.{has}
 use Rattle.trace_model.specs.declared.channel.Channel.{Channel}
 use Rattle.trace_model.specs.declared.channel.Dir.{Dir}
@@ -33,6 +33,10 @@ pub record AreFed (channels : List Channel) (have : ℕ → ℕ) (feed : Feed) (
       → content_at channels offers.contents c ≡ content_at channels feed.contents c
   pub ready : (c : ℕ) (x : Channel) → slice_get channels c ≡ Some x → x.dir ≡ Outward
       → (has offers.readies c ≡ true) ↔ IsUp (length channels) feed have c
+
+-- the shell runs some design and no row came yet, as where it was just made or reset
+abbrev pub IsFresh : (Design → Values → Option Row → Type 0) → Type 0
+IsFresh runs = (d : Design) × (s : Values) × runs d s None
 
 -- the shell runs behind the last of these rows, whose completions were counted
 pub record IsFedAround (runs : Design → Values → Option Row → Type 0) (have : List ℕ) (d : Design) (s : Values) (rows : List Row) : Type 0 where

@@ -12,6 +12,10 @@ use Rattle.run_model.specs.Step.{IsStep}
 use Rattle.chan_replayer.specs.declared.feed.Feed.{Feed}
 use Rattle.chan_replayer.specs.Feed.{IsFedOn}
 
+-- a replayed shell runs some design, in some state, after some rows
+abbrev pub IsRunning : (Design → Values → List Row → Type 0) → Type 0
+IsRunning runs = (d : Design) × (s : Values) × (rows : List Row) × runs d s rows
+
 -- the row of a cycle that begins in state s after these rows, under this feed
 pub record IsShown (d : Design) (m : Map) (s : Values) (rows : List Row) (feed : Feed) (row : Row) : Type 0 where
   pub over : IsOver m.channels row

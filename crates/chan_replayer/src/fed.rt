@@ -5,7 +5,8 @@ ghost use Rattle.trace_model.specs.declared.row.Row.{Row as OneRow};
 ghost use Rattle.trace_model.specs.Row.{all_widths};
 ghost use Rattle.net_design.specs.declared.design.Design.{Design};
 ghost use Rattle.net_design.specs.declared.values.Values.{Values};
-ghost use Rattle.chan_replayer.specs.Fed.{IsFedAround};
+ghost use Rattle.chan_replayer.specs.Fed.{IsFedAround, IsFresh};
+ghost use Rattle.chan_replayer.specs.Shell.{IsRunning};
 
 use crate::feed::Feed;
 use crate::offers::fill_offers;
@@ -29,6 +30,7 @@ pub struct FedShell<'a, S: Shell> {
     cycles: u32,
     /// The completions of the row of the last `drive`.
     ends: u128,
+    ghost running: { ∥ IsRunning (IsFedAround (S.runs shell) have) ∥₁ },
     ghost map_is: { S.map shell ≡ map.now },
     ghost some: { 1 ≤ length map.now.channels },
     ghost few: { length map.now.channels ≤ 128 },
@@ -38,12 +40,12 @@ pub struct FedShell<'a, S: Shell> {
 }
 
 impl<'a, S: Shell + Drop> FedShell<'a, S> {
-    /// Replayers round a shell of this map, with no completions. No row came yet, and nothing was driven: the shell is one that
-    /// was just made or reset.
+    /// Replayers round a shell of this map that was just made or reset, with no completions. No row came yet.
     pub fn around(alloc: Global, shell: S, map: &'a Map) -> Result<FedShell<'a, S>, Memory>
         requires some { 1 ≤ length map.now.channels }
         requires few { length map.now.channels ≤ 128 }
         requires map { S.map shell ≡ map.now }
+        requires fresh { ∥ IsFresh (S.runs shell) ∥₁ }
         ensures runs { IfOk result (λ fed. (d : Design) (s : Values) → S.runs shell d s None
             → IsFedAround (S.runs fed.shell) fed.have d s []) }
         ensures undriven { IfOk result (λ fed. (row : OneRow) → ¬ S.driven shell row → ¬ S.driven fed.shell row) }
@@ -100,6 +102,8 @@ impl<'a, S: Shell> ReplayShell for FedShell<'a, S> {
         self.have.commit(self.ends);
         self.cycles += 1;
     }
+
+    ghost running = { λ f. f.running };
 
     ghost ready = { λ f d s rows around. subst (IsMapped d) f.map_is (S.ready f.shell d s _ around.on) };
 }

@@ -1,6 +1,7 @@
 //! Replayers and monitors round a block.
 
 ghost use Rattle.std.specs.Prelude.{◌≡◌, [], IfOk};
+ghost use Rattle.trace_model.specs.declared.row.Row.{Row};
 ghost use Rattle.run_model.specs.Building.{PortsAreNets};
 ghost use Rattle.run_model.specs.MapOf.{IsMapOf};
 
@@ -24,6 +25,7 @@ impl<'a, B: Block + Drop> FedShell<'a, Machines<'a, B>> {
         requires mapped { IsMapOf (B.design block) map.now }
         ensures runs { IfOk result (λ fed. ⟦<FedShell<'static, Machines<'static, B>> as ReplayShell>⟧.runs fed (B.design block)
             (B.state block) []) }
+        ensures undriven { IfOk result (λ fed. (row : Row) → ¬ ⟦<FedShell<'static, Machines<'static, B>> as ReplayShell>⟧.driven fed row) }
         ensures cycles { IfOk result (λ fed. ⟦<FedShell<'static, Machines<'static, B>> as ReplayShell>⟧.cycles fed ≡ 0) }
         ensures map { IfOk result (λ fed. ⟦<FedShell<'static, Machines<'static, B>> as ReplayShell>⟧.map fed ≡ map.now) }
     {

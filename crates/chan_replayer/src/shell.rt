@@ -9,7 +9,7 @@ ghost use Rattle.chan_map.specs.declared.pins.Map.{Map};
 ghost use Rattle.run_model.specs.Step.{IsFirst};
 ghost use Rattle.chan_monitor.specs.Shell.{HasPlaces, IsMapped};
 ghost use Rattle.chan_replayer.specs.Feed.{IsFeedOver};
-ghost use Rattle.chan_replayer.specs.Shell.{GoesTo, IsShown};
+ghost use Rattle.chan_replayer.specs.Shell.{GoesTo, IsRunning, IsShown};
 
 use crate::feed::Feed;
 use trace_model::Row;
@@ -61,6 +61,9 @@ pub trait ReplayShell {
         ensures cycles { cycles self.new ≡ cycles self.old + 1 }
         ensures undriven { (row : Row) → ¬ driven self.new row }
         ensures map { map self.new ≡ map self.old };
+
+    /// It runs some design.
+    ghost running: { (shell : Self) → ∥ IsRunning (runs shell) ∥₁ };
 
     /// The design settles in one way, and the map is a map of it.
     ghost ready: { (shell : Self) (d : Design) (s : Values) (rows : List Row) → runs shell d s rows → IsMapped d (map shell) };

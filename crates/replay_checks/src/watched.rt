@@ -69,5 +69,7 @@ impl<'a, S: ReplayShell> ReplayShell for Watched<'a, S> {
         self.at = self.at.wrapping_add(1);
     }
 
+    ghost running = { λ w. S.running w.shell.now };
+
     ghost ready = { λ w. S.ready w.shell.now };
 }

@@ -198,5 +198,7 @@ impl<'a, B: Block> ReplayShell for RerunShell<'a, B> {
         self.next = None;
     }
 
+    ghost running = { λ s. s.running };
+
     ghost ready = { λ s d state rows runs. runs.round.mapped };
 }

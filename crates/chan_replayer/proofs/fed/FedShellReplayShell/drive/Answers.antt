@@ -2,7 +2,7 @@ use Rattle.std.proofs.Common.{◌-◌, ◌/◌, ◌^◌, ◌<◌, ◌∙◌, len
 use Rattle.trace_model.specs.Row.{all_widths, row_before}
 use Rattle.trace_model.proofs.ContentsLemmas.{fit-length}
 use Rattle.chan_map.specs.declared.pins.Map.{Map}
-use Rattle.chan_replayer.proofs.Feeding.{all-gates, gates-below, over, shown}
+use Rattle.chan_replayer.proofs.Feeding.{all-gates, gates-below, over, running-shown, shown}
 use Rattle.chan_replayer.proofs.fed.FedShellReplayShell.drive.Goals as goal
 
 pub returns-clause-over : goal.returns-clause-over
@@ -28,6 +28,7 @@ pub invariant_of-self : goal.invariant_of-self
 invariant_of-self g c =
     let f = c.args.self.now in
     record {
+      running = running-shown (g.S.Shell.runs f.shell) (g.S.Shell.runs c.drive.new.self) f.have c.drive.ensures.runs f.running;
       map_is = c.drive.ensures.map ∙ f.map_is;
       some = f.some;
       few = f.few;
