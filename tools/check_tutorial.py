@@ -1,5 +1,5 @@
 #!/usr/bin/env python3
-"""Plays docs/TUTORIAL.md in an empty folder and compares what each command prints with what the page says.
+"""Plays docs/TUTORIAL.md or docs/FILES.md in an empty folder and compares what each command prints with what the page says.
 
     check_tutorial.py VIDI PAGE [--fill]
 

@@ -1,5 +1,5 @@
 #!/usr/bin/env python3
-"""Writes a small random design with its map, a script and a plan of stalls: design.v, map, script and stalls in FOLDER.
+"""Writes a random design with its map, a script and a plan of stalls: design.v, map, script and stalls in FOLDER.
 
     make_random.py SEED FOLDER [CHANNELS]
 

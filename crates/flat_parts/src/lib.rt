@@ -1,8 +1,8 @@
 //! What the parts of the flat design are that a file's instances make, and what it is for the design to mean the file.
 //!
 //! `specs/Seats` says where each instance's nets and words stand (`bases_of` finds it), `specs/Instances` what is known of the instances,
-//! `specs/Nets` the nets, memories and ports, `specs/Drivers` the drivers
-//! and clocked blocks, `specs/State` the registers, `specs/Marks` which nets are regs; `specs/Built` puts them together, and `specs/Meaning` says what such a design means.
+//! `specs/Nets` the nets, memories and ports, `specs/Drivers` the drivers and clocked blocks, `specs/State` the registers, `specs/Marks`
+//! which nets are regs; `specs/Built` puts them together, and `specs/Meaning` says what such a design means.
 #![tactic(auto)]
 
 mod bases;

@@ -1,4 +1,4 @@
-//! The lawful design that `net_design` shows (`specs/Example`), made in memory.
+//! The lawful design that `net_design` shows (its `specs/Example`), made in memory.
 
 ghost use Rattle.std.specs.Prelude.{◌≡◌, ◌++◌, ◌∷◌, [], OnOk, IfOk};
 ghost use Rattle.net_design.specs.declared.design.Direction.TheVariants.{Input, Output};
@@ -218,7 +218,7 @@ fn blocks(alloc: Global) -> Result<Items<Code>, Memory>
     Ok(blocks)
 }
 
-/// The design of `specs/Example`.
+/// That design.
 pub fn example(alloc: Global) -> Result<Design, Memory>
     ensures { IfOk result (λ design. design ≡ example) }
 {

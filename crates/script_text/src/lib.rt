@@ -1,4 +1,4 @@
-//! The environment script and the stall plan, read from their texts (this project's profile).
+//! The environment script and the plan of stalls, read from their texts (this project's profile).
 //!
 //! The definitions stand in `specs/`: `Forms` (what a line of a script says), `Reasons` (S1, S2 and S3 over a whole
 //! script), `Reads` (the script of a text), `Fits` (a script fits channels), `Plan` (the bytes that may drain in a

@@ -1,5 +1,5 @@
-//! Tests of `trace_model`, `trace_store`, `vec_clock`, `trace_code` and `room_ledger`, which stand apart so that these crates are
-//! proved without them.
+//! Tests of `trace_model`, `trace_store`, `vec_clock`, `trace_code`, `room_ledger` and `report_text`, which stand apart so that these crates
+//! are proved without them.
 #![tactic(auto)]
 
 #[cfg(test)]

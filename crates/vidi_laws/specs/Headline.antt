@@ -103,7 +103,7 @@ abbrev pub KeepsOrder : List Channel → Finding → Type 0
 KeepsOrder channels finding =
     (x : Channel) → slice_get channels finding.channel ≡ Some x → breaks_order x.dir finding.what ≡ false
 
--- Rows of a replay of these packets. Each event that the replayers hold is a recorded one, and the completions of the rows before it cover
+-- Rows of a replay of these packets. Each input start and output completion is a recorded one, and the completions of the rows before it cover
 -- its recorded clock; the contents of an inward channel are a prefix of those recorded. So no finding against the recorded packets breaks
 -- the order. Contents stay until they are taken. What is held back and awaited is named exactly, and is in no circle. The trace has an
 -- encoding.

@@ -1,5 +1,5 @@
-//! What the words of a case ask for of a Verilog text, and no command of `vidi` prints: from the width of an expression to the
-//! numbers that a design settles to. docs/CASES.md has the words.
+//! What the words of a case ask for of a Verilog text, and no command of `vidi` prints: expressions, targets, blocks, trees and tokens.
+//! docs/CASES.md has the words.
 #![tactic(auto)]
 
 mod answers;
