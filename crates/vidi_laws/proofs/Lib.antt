@@ -15,6 +15,7 @@ pub mod SameRecord
 pub mod SameReplay
 pub mod OneAnswer
 pub mod Headline
+pub mod Broken
 pub mod OneRun
 pub mod KeptOrder
 pub mod Faithful

@@ -24,16 +24,16 @@ one-unsaved trace files a b x y (inr (f, read, headerless)) (inl u) = absurd (un
 one-unsaved trace files a b x y (inr (f, read, (none, s))) (inr (g, read', (none', s'))) =
     one-said (Refused words.Trace (BadTrace 0)) (reason_line words.Trace (BadTrace 0)) a b x y s s'
 
-abbrev found : Trace → Result Trace CodeError
+abbrev pub found : Trace → Result Trace CodeError
 found t = Ok t
 
-abbrev wanting : Result Trace CodeError
+abbrev pub wanting : Result Trace CodeError
 wanting = Err errors.Memory
 
-same_found : (t u : Trace) → found t ≡ found u → t ≡ u
+pub same_found : (t u : Trace) → found t ≡ found u → t ≡ u
 same_found t u e = cc
 
-no_memory : (t : Trace) → found t ≡ wanting → ⊥
+pub no_memory : (t : Trace) → found t ≡ wanting → ⊥
 no_memory t e = cc
 
 no_header : (file : List ℕ) (t : Trace) → Salvages file (Ok t) → HasNoHeader file → ⊥

@@ -1,8 +1,9 @@
--- What the trace of a recording holds, when its run is the one that `run` prints, what holds of every run and every replay, and what is
--- read of a wrapped design.
-use Rattle.std.specs.Prelude.{◌≡◌, ℕ, ◌<◌, ◌≤◌, Bool, true, false, List, Option, Some, All, length, slice_get}
+-- What the trace of a recording holds, what is salvaged of it, when its run is the one that `run` prints, what holds of every run and every
+-- replay, and what is read of a wrapped design.
+use Rattle.std.specs.Prelude.{◌≡◌, ℕ, ◌<◌, ◌≤◌, Bool, true, false, List, ◌++◌, Option, Some, All, length, slice_get}
+use Rattle.std.specs.FinMap.{get}
 use Rattle.vidi_bits.specs.Number.{has}
-use Rattle.vidi_io.specs.Shelf.{Files}
+use Rattle.vidi_io.specs.Shelf.{Files, holding}
 use Rattle.vlog_tree.specs.Tree.{FileOf}
 use Rattle.vlog_tree.specs.Lines.{bare}
 use Rattle.trace_model.specs.declared.channel.Channel.{Channel}
@@ -12,7 +13,8 @@ use Rattle.trace_model.specs.declared.packet.Packet.{Packet}
 use Rattle.trace_model.specs.declared.row.Row.{Row}
 use Rattle.trace_model.specs.declared.trace.Trace.{Trace}
 use Rattle.trace_model.specs.Recording.{packets_of, trace_of}
-use Rattle.trace_code.specs.Encoding.{HasEncoding, encode}
+use Rattle.trace_code.specs.Encoding.{HasEncoding, encode, header_bytes}
+use Rattle.trace_code.specs.Salvage.{front, LieWhole}
 use Rattle.trace_compare.specs.declared.report.Finding.{Finding}
 use Rattle.trace_compare.specs.declared.report.What.{What}
 use Rattle.trace_compare.specs.declared.report.What.TheVariants.{Differs, ExtraStart, ExtraEnd, EarlyStart, EarlyEnd}
@@ -38,10 +40,14 @@ use Rattle.vidi_bench.specs.declared.bench.Bench.{Bench}
 use Rattle.vidi_bench.specs.declared.device.Device.{Device}
 use Rattle.vidi_bench.specs.Benches.{IsBench}
 use Rattle.vidi_bench.specs.Design.{Spells}
+use Rattle.vidi_bench.specs.declared.status.Status.{Status}
+use Rattle.vidi_bench.specs.declared.status.Status.TheVariants.{Done}
+use Rattle.vidi_bench.specs.Steps.{IsSaid}
 use Rattle.vidi_commands.specs.Records.{course_of, IsPlanned}
 use Rattle.vidi_commands.specs.Replays.{IsReplayable, IsTheReplay}
 use Rattle.vidi_commands.specs.Shims.{file_text}
-use Rattle.vidi_commands.specs.Traces.{trace_limit}
+use Rattle.vidi_commands.specs.Said.{salvaged_line}
+use Rattle.vidi_commands.specs.Traces.{trace_limit, Saves}
 use Rattle.vidi_commands.specs.Wraps.{IsWrappable}
 
 -- Whatever the accepted design, script and store stalls, the trace of the run holds each channel's started and completed transactions,
@@ -56,6 +62,24 @@ abbrev pub RecordedTraceIsShort : Type 0
 RecordedTraceIsShort = (design map script stalls : List ℕ) (files : Option Files) (b : Bench) (plan : Stalls)
     → IsPlanned design map script stalls files b plan → (rows : List Row) (stop : Option ℕ) → IsTheRunOf (course_of b plan) rows stop
     → length (encode (trace_of b.device.map.channels rows)) ≤ trace_limit
+
+-- the bytes are a front of the trace's encoding, with the whole header
+abbrev pub IsBrokenOff : Trace → List ℕ → Type 0
+IsBrokenOff t bytes = (length (header_bytes t.channels) ≤ length bytes) × ((lost : List ℕ) × (bytes ++ lost ≡ encode t))
+
+-- `salvage` says how many packets of t lie whole in the bytes, and leaves the encoding of t with these alone in OUT
+abbrev pub KeepsWhole : Trace → List ℕ → List ℕ → Files → Status → List ℕ → Option Files → Type 0
+KeepsWhole t bytes out files status text left = (k : ℕ) × LieWhole t (length bytes) k × IsSaid Done (salvaged_line k) status text
+    × (left ≡ holding (Some files) out (encode (front k t)))
+
+-- of what is left of a recording that broke off, `salvage` keeps exactly the packets of the run that lie whole in it
+abbrev pub BrokenRecordingIsSalvaged : Type 0
+BrokenRecordingIsSalvaged = (design map script stalls : List ℕ) (files : Option Files) (b : Bench) (plan : Stalls)
+    → IsPlanned design map script stalls files b plan → (rows : List Row) (stop : Option ℕ) → IsTheRunOf (course_of b plan) rows stop
+    → (bytes : List ℕ) → IsBrokenOff (trace_of b.device.map.channels rows) bytes
+    → (trace out : List ℕ) (now : Files) → get now trace ≡ Some bytes
+    → (status : Status) (text : List ℕ) (left : Option Files) → Saves trace out (Some now) (λ _. ⊥) status text left
+    → KeepsWhole (trace_of b.device.map.channels rows) bytes out now status text left
 
 -- where everything drains after each row, the rows that are recorded are those of `run`
 abbrev pub DrainedRecordingIsTheRun : Type 0

@@ -1,7 +1,9 @@
 //! Laws of runs and of the replay: they exist, they are one, and what holds of them.
 
-ghost use Rattle.vidi_laws.specs.Headline.{PrintedRunKeepsContents, RecordedTraceIsShort, RecordingHidesNoGate, WidePlanDrains};
+ghost use Rattle.vidi_laws.specs.Headline.{BrokenRecordingIsSalvaged, PrintedRunKeepsContents, RecordedTraceIsShort, RecordingHidesNoGate, WidePlanDrains};
 ghost use Rattle.vidi_laws.specs.OneRun.{OnePrintedRun, OneRecording, OneReplayOfFiles};
+
+use trace_code::front_is_salvaged;
 
 /// For accepted files there is exactly one run of each number of rows behind the store, and exactly one run that `record` writes.
 pub fn one_recording()
@@ -22,6 +24,14 @@ pub fn one_replay_of_files()
 pub fn recorded_trace_is_short()
     ensures { RecordedTraceIsShort }
 {}
+
+/// Of what is left of a recording that broke off, the header of its trace at least, `salvage` keeps exactly the packets of the run that lie
+/// whole in it.
+pub fn broken_recording_is_salvaged()
+    ensures { BrokenRecordingIsSalvaged }
+{
+    front_is_salvaged()
+}
 
 /// In a recording a gate is down only while bytes wait in the store.
 pub fn recording_hides_no_gate()

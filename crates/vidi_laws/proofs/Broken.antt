@@ -1,0 +1,82 @@
+-- What `salvage` keeps of a recording that broke off.
+use Rattle.std.proofs.Common.{◌≡◌, ◌⊎◌, ◌≤◌, ◌+◌, ℕ, List, ◌++◌, Option, Some, Result, Ok, Err, length, take, inl, inr, refl, sym, ap, subst, ◌∙◌, arith, ⊎_elim}
+use Rattle.std.specs.Prelude.{IsSomeAnd}
+use Rattle.std.specs.FinMap.{get}
+use Rattle.std.proofs.lemmas.List.{length-take-le, length-append, take_at}
+use Rattle.trace_model.specs.declared.trace.Trace.{Trace}
+use Rattle.trace_model.specs.Recording.{trace_of}
+use Rattle.trace_code.specs.declared.error.CodeError.{CodeError}
+use Rattle.trace_code.specs.declared.error.CodeError.TheVariants as errors
+use Rattle.trace_code.specs.Decoding.{HasNoHeader}
+use Rattle.trace_code.specs.Encoding.{HasEncoding, encode, header_bytes}
+use Rattle.trace_code.specs.Salvage.{front, FrontIsSalvaged, LieWhole, Salvages}
+use Rattle.vidi_io.specs.Shelf.{Files, holding}
+use Rattle.report_text.specs.declared.reason.Word.TheVariants as words
+use Rattle.vidi_bench.specs.declared.status.Status.{Status}
+use Rattle.vidi_bench.specs.Reading.{IsRead}
+use Rattle.vidi_commands.specs.Said.{salvaged_line}
+use Rattle.vidi_commands.specs.Traces.{trace_limit, IsHeaderless, Saves}
+use Rattle.vidi_laws.specs.Headline.{BrokenRecordingIsSalvaged, IsBrokenOff, KeepsWhole}
+use Rattle.vidi_laws.proofs.Headline.{recorded-short, run-kept}
+use Rattle.vidi_laws.proofs.OneEnding.{one-read, reading-apart}
+use Rattle.vidi_laws.proofs.OneSalvaged.{found, wanting, no_memory, same_found}
+
+abbrev headerless : Result Trace CodeError
+headerless = Err (errors.BadTrace 0)
+
+headerless-wanting : headerless ≡ wanting → ⊥
+headerless-wanting e = cc
+
+headerless-found : (t : Trace) → headerless ≡ found t → ⊥
+headerless-found t e = cc
+
+module _ (law : FrontIsSalvaged) (t : Trace) (bytes : List ℕ) (encodes : HasEncoding t) (broken : IsBrokenOff t bytes) where
+  front_is : take (length bytes) (encode t) ≡ bytes
+  front_is = ap (take (length bytes)) (sym broken.1.1) ∙ take_at bytes broken.1.0 (length bytes) refl
+
+  -- the packets that lie whole in the bytes
+  kept : (u : Trace) → Salvages bytes (found u) → (k : ℕ) × LieWhole t (length bytes) k × (u ≡ front k t)
+  kept u whole = ⊎_elim
+      (λ (e : found u ≡ wanting). absurd (no_memory u e))
+      (λ (r : (k : ℕ) × LieWhole t (length bytes) k × (found u ≡ found (front k t))). (r.0, r.1, same_found u (front r.0 t) r.2))
+      (law t (length bytes) (found u) encodes broken.0 (subst (λ (b : List ℕ). Salvages b (found u)) (sym front_is) whole))
+
+  has-header : HasNoHeader bytes → ⊥
+  has-header none = ⊎_elim
+      headerless-wanting
+      (λ (r : (k : ℕ) × LieWhole t (length bytes) k × (headerless ≡ found (front k t))). headerless-found (front r.0 t) r.2)
+      (law t (length bytes) headerless encodes broken.0 (subst (λ (b : List ℕ). Salvages b headerless) (sym front_is) (none, refl)))
+
+  fits : length (encode t) ≤ trace_limit → length bytes ≤ trace_limit
+  fits small =
+      let long = ap length (sym broken.1.1) ∙ length-append bytes broken.1.0 in
+      omega (arith, long, small)
+
+  count-is : (k : ℕ) → LieWhole t (length bytes) k → length (take k t.packets) ≡ k
+  count-is k lie = length-take-le k t.packets lie.there
+
+  saved : length (encode t) ≤ trace_limit → (trace out : List ℕ) (now : Files) → get now trace ≡ Some bytes → (status : Status)
+      (text : List ℕ) (left : Option Files) → Saves trace out (Some now) (λ _. ⊥) status text left
+      → KeepsWhole t bytes out now status text left
+  saved small trace out now at status text left saves =
+      let read : IsRead trace_limit trace (Some now) bytes =
+      (subst (λ (o : Option (List ℕ)). IsSomeAnd o (λ told. told ≡ bytes)) (sym at) refl, fits small) in
+      go read saves
+    where
+      go : IsRead trace_limit trace (Some now) bytes → Saves trace out (Some now) (λ _. ⊥) status text left
+          → KeepsWhole t bytes out now status text left
+      go read (inl (unsaved, same)) = absurd (reading-apart trace_limit words.Trace trace now IsHeaderless bytes read status text
+          (λ none. has-header none.0) unsaved)
+      go read (inr (u, (file, read', whole), said, same)) =
+          let file_is : file ≡ bytes = one-read trace_limit trace now file bytes read' read in
+          let (k, lie, e) = kept u (subst (λ (b : List ℕ). Salvages b (found u)) file_is whole) in (
+            k,
+            lie,
+            (said.0, said.1 ∙ ap (λ (v : Trace). salvaged_line (length v.packets)) e ∙ ap salvaged_line (count-is k lie)),
+            same ∙ ap (λ (v : Trace). holding (Some now) out (encode v)) e,
+          )
+
+pub broken-salvaged : FrontIsSalvaged → BrokenRecordingIsSalvaged
+broken-salvaged law design m script stalls files b plan planned rows stop run bytes broken trace out now at status text left saves =
+    saved law (trace_of b.device.map.channels rows) bytes (run-kept design m script stalls files b plan planned rows stop run).encoded broken
+    (recorded-short design m script stalls files b plan planned rows stop run) trace out now at status text left saves
