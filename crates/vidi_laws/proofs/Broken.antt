@@ -2,8 +2,11 @@
 use Rattle.std.proofs.Common.{◌≡◌, ◌⊎◌, ◌≤◌, ◌+◌, ℕ, List, ◌++◌, Option, Some, Result, Ok, Err, length, take, inl, inr, refl, sym, ap, subst, ◌∙◌, arith, ⊎_elim}
 use Rattle.std.specs.Prelude.{IsSomeAnd}
 use Rattle.std.specs.FinMap.{get}
-use Rattle.std.proofs.lemmas.List.{length-take-le, length-append, take_at}
+use Rattle.std.proofs.lemmas.List.{length-take, length-take-le, length-append, take_at}
+use Rattle.std.proofs.lemmas.List.Elements.{All-take}
 use Rattle.trace_model.specs.declared.trace.Trace.{Trace}
+use Rattle.trace_model.specs.Packet.{IsPacket}
+use Rattle.trace_model.proofs.FlightLemmas.{alternates-take}
 use Rattle.trace_model.specs.Recording.{trace_of}
 use Rattle.trace_code.specs.declared.error.CodeError.{CodeError}
 use Rattle.trace_code.specs.declared.error.CodeError.TheVariants as errors
@@ -55,6 +58,19 @@ module _ (law : FrontIsSalvaged) (t : Trace) (bytes : List ℕ) (encodes : HasEn
   count-is : (k : ℕ) → LieWhole t (length bytes) k → length (take k t.packets) ≡ k
   count-is k lie = length-take-le k t.packets lie.there
 
+  front-encodes : (k : ℕ) → HasEncoding (front k t)
+  front-encodes k = record {
+    table = encodes.table;
+    well_formed = record {
+      packets = All-take (IsPacket t.channels) k t.packets encodes.well_formed.packets;
+      alternate = alternates-take k t.packets encodes.well_formed.alternate;
+    };
+    few =
+        let cut = length-take k t.packets in
+        let small = encodes.few in
+        omega (arith, cut, small);
+  }
+
   saved : length (encode t) ≤ trace_limit → (trace out : List ℕ) (now : Files) → get now trace ≡ Some bytes → (status : Status)
       (text : List ℕ) (left : Option Files) → Saves trace out (Some now) (λ _. ⊥) status text left
       → KeepsWhole t bytes out now status text left
@@ -69,12 +85,14 @@ module _ (law : FrontIsSalvaged) (t : Trace) (bytes : List ℕ) (encodes : HasEn
           (λ none. has-header none.0) unsaved)
       go read (inr (u, (file, read', whole), said, same)) =
           let file_is : file ≡ bytes = one-read trace_limit trace now file bytes read' read in
-          let (k, lie, e) = kept u (subst (λ (b : List ℕ). Salvages b (found u)) file_is whole) in (
-            k,
-            lie,
-            (said.0, said.1 ∙ ap (λ (v : Trace). salvaged_line (length v.packets)) e ∙ ap salvaged_line (count-is k lie)),
-            same ∙ ap (λ (v : Trace). holding (Some now) out (encode v)) e,
-          )
+          let (k, lie, e) = kept u (subst (λ (b : List ℕ). Salvages b (found u)) file_is whole) in
+          record {
+            count = k;
+            whole = lie;
+            said = (said.0, said.1 ∙ ap (λ (v : Trace). salvaged_line (length v.packets)) e ∙ ap salvaged_line (count-is k lie));
+            encoding = front-encodes k;
+            leaves = same ∙ ap (λ (v : Trace). holding (Some now) out (encode v)) e;
+          }
 
 pub broken-salvaged : FrontIsSalvaged → BrokenRecordingIsSalvaged
 broken-salvaged law design m script stalls files b plan planned rows stop run bytes broken trace out now at status text left saves =

@@ -68,9 +68,12 @@ abbrev pub IsBrokenOff : Trace → List ℕ → Type 0
 IsBrokenOff t bytes = (length (header_bytes t.channels) ≤ length bytes) × ((lost : List ℕ) × (bytes ++ lost ≡ encode t))
 
 -- `salvage` says how many packets of t lie whole in the bytes, and leaves the encoding of t with these alone in OUT
-abbrev pub KeepsWhole : Trace → List ℕ → List ℕ → Files → Status → List ℕ → Option Files → Type 0
-KeepsWhole t bytes out files status text left = (k : ℕ) × LieWhole t (length bytes) k × IsSaid Done (salvaged_line k) status text
-    × (left ≡ holding (Some files) out (encode (front k t)))
+pub record KeepsWhole (t : Trace) (bytes out : List ℕ) (files : Files) (status : Status) (text : List ℕ) (left : Option Files) : Type 0 where
+  pub count : ℕ
+  pub whole : LieWhole t (length bytes) count
+  pub said : IsSaid Done (salvaged_line count) status text
+  pub encoding : HasEncoding (front count t)
+  pub leaves : left ≡ holding (Some files) out (encode (front count t))
 
 -- of what is left of a recording that broke off, `salvage` keeps exactly the packets of the run that lie whole in it
 abbrev pub BrokenRecordingIsSalvaged : Type 0
