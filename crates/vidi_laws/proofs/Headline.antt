@@ -1,5 +1,10 @@
 -- The laws of a script's run, said of the four files.
-use Rattle.std.proofs.Common.{◌≤◌, length, arith}
+use Rattle.std.proofs.Common.{◌≡◌, ◌≤◌, ℕ, List, Option, Some, length, refl, sym, subst, arith}
+use Rattle.std.specs.Prelude.{IsSomeAnd}
+use Rattle.std.specs.FinMap.{get}
+use Rattle.vidi_io.specs.Shelf.{Files}
+use Rattle.trace_model.specs.Recording.{trace_of}
+use Rattle.trace_code.specs.Encoding.{encode}
 use Rattle.script_text.specs.declared.script.TheConstants.{MOST_CYCLES}
 use Rattle.script_text.specs.ScriptOffer.{script_offer}
 use Rattle.env_script.proofs.Lasting.{script-lasts}
@@ -8,8 +13,9 @@ use Rattle.vidi_recorder.proofs.Kept.{drained-plain, no-hidden_gate}
 use Rattle.vidi_recorder.proofs.Runs.{the-run}
 use Rattle.vidi_recorder.proofs.ScriptKept.{script-kept, full-drains}
 use Rattle.vidi_recorder.proofs.Short.{trace-short}
+use Rattle.vidi_bench.specs.Reading.{IsRead}
 use Rattle.vidi_commands.specs.Records.{course_of}
-use Rattle.vidi_laws.specs.Headline.{RecordedRunIsKept, RecordedTraceIsShort, DrainedRecordingIsTheRun, WidePlanDrains}
+use Rattle.vidi_laws.specs.Headline.{RecordedRunIsKept, RecordedTraceIsReplayable, RecordedTraceIsShort, DrainedRecordingIsTheRun, WidePlanDrains}
 use Rattle.vidi_laws.specs.Headline.{RecordingHidesNoGate, PrintedRunKeepsContents}
 
 pub run-kept : RecordedRunIsKept
@@ -35,6 +41,28 @@ recorded-short design map script stalls files b plan planned rows stop run =
     let l : length rows ≤ b.script.cycles = parts.2 in
     let few : b.script.cycles ≤ MOST_CYCLES = planned.bench.plays.2.few in
     trace-short b.device.map.channels planned.bench.device.bound.1.table rows parts.0.marked (omega (arith, l, few))
+
+-- a file that stands as it did is read as it was
+read-again : (limit : ℕ) (name file : List ℕ) (files now : Files) → get now name ≡ get files name → IsRead limit name (Some files) file
+    → IsRead limit name (Some now) file
+read-again limit name file files now same (told, small) =
+    (subst (λ (o : Option (List ℕ)). IsSomeAnd o (λ t. t ≡ file)) (sym same) told, small)
+
+pub recorded-replayable : RecordedTraceIsReplayable
+recorded-replayable design map script stalls files b plan planned rows stop run trace now same same' there = record {
+  design_text = planned.design_text;
+  map_text = planned.map_text;
+  trace_bytes = encode (trace_of b.device.map.channels rows);
+  design_read = read-again _ design planned.design_text files now same planned.design_read;
+  map_read = read-again _ map planned.map_text files now same' planned.map_read;
+  trace_read = (
+    subst (λ (o : Option (List ℕ)). IsSomeAnd o (λ t. t ≡ encode (trace_of b.device.map.channels rows))) (sym there) refl,
+    recorded-short design map script stalls (Some files) b plan planned rows stop run,
+  );
+  device = planned.bench.device;
+  encodes = ((run-kept design map script stalls (Some files) b plan planned rows stop run).encoded, refl);
+  same = refl;
+}
 
 pub printed-keeps : PrintedRunKeepsContents
 printed-keeps design map script b is run played =

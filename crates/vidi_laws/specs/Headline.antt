@@ -63,6 +63,14 @@ RecordedTraceIsShort = (design map script stalls : List ℕ) (files : Option Fil
     → IsPlanned design map script stalls files b plan → (rows : List Row) (stop : Option ℕ) → IsTheRunOf (course_of b plan) rows stop
     → length (encode (trace_of b.device.map.channels rows)) ≤ trace_limit
 
+-- `replay` accepts that trace where the files of the design and the map are those that were recorded
+abbrev pub RecordedTraceIsReplayable : Type 0
+RecordedTraceIsReplayable = (design map script stalls : List ℕ) (files : Files) (b : Bench) (plan : Stalls)
+    → IsPlanned design map script stalls (Some files) b plan → (rows : List Row) (stop : Option ℕ) → IsTheRunOf (course_of b plan) rows stop
+    → (trace : List ℕ) (now : Files) → get now design ≡ get files design → get now map ≡ get files map
+    → get now trace ≡ Some (encode (trace_of b.device.map.channels rows))
+    → IsReplayable design map trace (Some now) b.device (trace_of b.device.map.channels rows)
+
 -- the bytes are a front of the trace's encoding, with the whole header
 abbrev pub IsBrokenOff : Trace → List ℕ → Type 0
 IsBrokenOff t bytes = (length (header_bytes t.channels) ≤ length bytes) × ((lost : List ℕ) × (bytes ++ lost ≡ encode t))

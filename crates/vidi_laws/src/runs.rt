@@ -1,6 +1,6 @@
 //! Laws of runs and of the replay: they exist, they are one, and what holds of them.
 
-ghost use Rattle.vidi_laws.specs.Headline.{BrokenRecordingIsSalvaged, PrintedRunKeepsContents, RecordedTraceIsShort, RecordingHidesNoGate, WidePlanDrains};
+ghost use Rattle.vidi_laws.specs.Headline.{BrokenRecordingIsSalvaged, PrintedRunKeepsContents, RecordedTraceIsReplayable, RecordedTraceIsShort, RecordingHidesNoGate, WidePlanDrains};
 ghost use Rattle.vidi_laws.specs.OneRun.{OnePrintedRun, OneRecording, OneReplayOfFiles};
 
 use trace_code::front_is_salvaged;
@@ -23,6 +23,11 @@ pub fn one_replay_of_files()
 /// The trace of the run that `record` writes isn't longer than a trace that is read.
 pub fn recorded_trace_is_short()
     ensures { RecordedTraceIsShort }
+{}
+
+/// The trace of the run that `record` writes is one that `replay` accepts, of the same design and map.
+pub fn recorded_trace_is_replayable()
+    ensures { RecordedTraceIsReplayable }
 {}
 
 /// Of what is left of a recording that broke off, the header of its trace at least, `salvage` keeps exactly the packets of the run that lie
