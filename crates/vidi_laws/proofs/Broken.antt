@@ -1,6 +1,5 @@
 -- What `salvage` keeps of a recording that broke off.
 use Rattle.std.proofs.Common.{◌≡◌, ◌⊎◌, ◌≤◌, ◌+◌, ℕ, List, ◌++◌, Option, Some, Result, Ok, Err, length, take, inl, inr, refl, sym, ap, subst, ◌∙◌, arith, ⊎_elim}
-use Rattle.std.specs.Prelude.{IsSomeAnd}
 use Rattle.std.specs.FinMap.{get}
 use Rattle.std.proofs.lemmas.List.{length-take, length-take-le, length-append, take_at}
 use Rattle.std.proofs.lemmas.List.Elements.{All-take}
@@ -20,7 +19,7 @@ use Rattle.vidi_bench.specs.Reading.{IsRead}
 use Rattle.vidi_commands.specs.Said.{salvaged_line}
 use Rattle.vidi_commands.specs.Traces.{trace_limit, IsHeaderless, Saves}
 use Rattle.vidi_laws.specs.Headline.{BrokenRecordingIsSalvaged, IsBrokenOff, KeepsWhole}
-use Rattle.vidi_laws.proofs.Headline.{recorded-short, run-kept}
+use Rattle.vidi_laws.proofs.Headline.{read-there, recorded-short, run-kept}
 use Rattle.vidi_laws.proofs.OneEnding.{one-read, reading-apart}
 use Rattle.vidi_laws.proofs.OneSalvaged.{found, wanting, no_memory, same_found}
 
@@ -74,10 +73,7 @@ module _ (law : FrontIsSalvaged) (t : Trace) (bytes : List ℕ) (encodes : HasEn
   saved : length (encode t) ≤ trace_limit → (trace out : List ℕ) (now : Files) → get now trace ≡ Some bytes → (status : Status)
       (text : List ℕ) (left : Option Files) → Saves trace out (Some now) (λ _. ⊥) status text left
       → KeepsWhole t bytes out now status text left
-  saved small trace out now at status text left saves =
-      let read : IsRead trace_limit trace (Some now) bytes =
-      (subst (λ (o : Option (List ℕ)). IsSomeAnd o (λ told. told ≡ bytes)) (sym at) refl, fits small) in
-      go read saves
+  saved small trace out now at status text left saves = go (read-there trace_limit trace bytes now at (fits small)) saves
     where
       go : IsRead trace_limit trace (Some now) bytes → Saves trace out (Some now) (λ _. ⊥) status text left
           → KeepsWhole t bytes out now status text left

@@ -48,6 +48,12 @@ read-again : (limit : ℕ) (name file : List ℕ) (files now : Files) → get no
 read-again limit name file files now same (told, small) =
     (subst (λ (o : Option (List ℕ)). IsSomeAnd o (λ t. t ≡ file)) (sym same) told, small)
 
+-- a file that is there and isn't too long is read
+pub read-there : (limit : ℕ) (name file : List ℕ) (now : Files) → get now name ≡ Some file → length file ≤ limit
+    → IsRead limit name (Some now) file
+read-there limit name file now there small =
+    (subst (λ (o : Option (List ℕ)). IsSomeAnd o (λ t. t ≡ file)) (sym there) refl, small)
+
 pub recorded-replayable : RecordedTraceIsReplayable
 recorded-replayable design map script stalls files b plan planned rows stop run trace now same same' there = record {
   design_text = planned.design_text;
@@ -55,10 +61,8 @@ recorded-replayable design map script stalls files b plan planned rows stop run 
   trace_bytes = encode (trace_of b.device.map.channels rows);
   design_read = read-again _ design planned.design_text files now same planned.design_read;
   map_read = read-again _ map planned.map_text files now same' planned.map_read;
-  trace_read = (
-    subst (λ (o : Option (List ℕ)). IsSomeAnd o (λ t. t ≡ encode (trace_of b.device.map.channels rows))) (sym there) refl,
-    recorded-short design map script stalls (Some files) b plan planned rows stop run,
-  );
+  trace_read = read-there _ trace (encode (trace_of b.device.map.channels rows)) now there
+      (recorded-short design map script stalls (Some files) b plan planned rows stop run);
   device = planned.bench.device;
   encodes = ((run-kept design map script stalls (Some files) b plan planned rows stop run).encoded, refl);
   same = refl;
