@@ -1,8 +1,10 @@
 -- What `salvage` keeps of a recording that broke off.
-use Rattle.std.proofs.Common.{◌≡◌, ◌⊎◌, ◌≤◌, ◌+◌, ℕ, List, ◌++◌, Option, Some, Result, Ok, Err, length, take, inl, inr, refl, sym, ap, subst, ◌∙◌, arith, ⊎_elim}
+use Rattle.std.proofs.Common.{◌≡◌, ◌≤◌, ◌+◌, ℕ, zero, suc, List, [], ◌∷◌, ◌++◌, Option, Some, Result, Err, length, take, inl, inr, refl, sym, ap, subst, ◌∙◌, arith, ⊎_elim}
 use Rattle.std.specs.FinMap.{get}
+use Rattle.std.specs.List.{flat_map}
 use Rattle.std.proofs.lemmas.List.{length-take, length-take-le, length-append, take_at}
 use Rattle.std.proofs.lemmas.List.Elements.{All-take}
+use Rattle.trace_model.specs.declared.packet.Packet.{Packet}
 use Rattle.trace_model.specs.declared.trace.Trace.{Trace}
 use Rattle.trace_model.specs.Packet.{IsPacket}
 use Rattle.trace_model.proofs.FlightLemmas.{alternates-take}
@@ -10,7 +12,7 @@ use Rattle.trace_model.specs.Recording.{trace_of}
 use Rattle.trace_code.specs.declared.error.CodeError.{CodeError}
 use Rattle.trace_code.specs.declared.error.CodeError.TheVariants as errors
 use Rattle.trace_code.specs.Decoding.{HasNoHeader}
-use Rattle.trace_code.specs.Encoding.{HasEncoding, encode, header_bytes}
+use Rattle.trace_code.specs.Encoding.{HasEncoding, encode, end_mark, header_bytes, packet_bytes}
 use Rattle.trace_code.specs.Salvage.{front, FrontIsSalvaged, LieWhole, Salvages}
 use Rattle.vidi_io.specs.Shelf.{Files, holding}
 use Rattle.report_text.specs.declared.reason.Word.TheVariants as words
@@ -18,8 +20,8 @@ use Rattle.vidi_bench.specs.declared.status.Status.{Status}
 use Rattle.vidi_bench.specs.Reading.{IsRead}
 use Rattle.vidi_commands.specs.Said.{salvaged_line}
 use Rattle.vidi_commands.specs.Traces.{trace_limit, IsHeaderless, Saves}
-use Rattle.vidi_laws.specs.Headline.{BrokenRecordingIsSalvaged, IsBrokenOff, KeepsWhole}
-use Rattle.vidi_laws.proofs.Headline.{read-there, recorded-short, run-kept}
+use Rattle.vidi_laws.specs.Headline.{BrokenRecordingIsSalvaged, IsBrokenOff, KeepsWhole, SalvagedTraceIsReplayable}
+use Rattle.vidi_laws.proofs.Headline.{read-there, recorded-short, replayable-there, run-kept}
 use Rattle.vidi_laws.proofs.OneEnding.{one-read, reading-apart}
 use Rattle.vidi_laws.proofs.OneSalvaged.{found, wanting, no_memory, same_found}
 
@@ -31,6 +33,19 @@ headerless-wanting e = cc
 
 headerless-found : (t : Trace) → headerless ≡ found t → ⊥
 headerless-found t e = cc
+
+front-encodes : (t : Trace) → HasEncoding t → (k : ℕ) → HasEncoding (front k t)
+front-encodes t encodes k = record {
+  table = encodes.table;
+  well_formed = record {
+    packets = All-take (IsPacket t.channels) k t.packets encodes.well_formed.packets;
+    alternate = alternates-take k t.packets encodes.well_formed.alternate;
+  };
+  few =
+      let cut = length-take k t.packets in
+      let small = encodes.few in
+      omega (arith, cut, small);
+}
 
 module _ (law : FrontIsSalvaged) (t : Trace) (bytes : List ℕ) (encodes : HasEncoding t) (broken : IsBrokenOff t bytes) where
   front_is : take (length bytes) (encode t) ≡ bytes
@@ -57,19 +72,6 @@ module _ (law : FrontIsSalvaged) (t : Trace) (bytes : List ℕ) (encodes : HasEn
   count-is : (k : ℕ) → LieWhole t (length bytes) k → length (take k t.packets) ≡ k
   count-is k lie = length-take-le k t.packets lie.there
 
-  front-encodes : (k : ℕ) → HasEncoding (front k t)
-  front-encodes k = record {
-    table = encodes.table;
-    well_formed = record {
-      packets = All-take (IsPacket t.channels) k t.packets encodes.well_formed.packets;
-      alternate = alternates-take k t.packets encodes.well_formed.alternate;
-    };
-    few =
-        let cut = length-take k t.packets in
-        let small = encodes.few in
-        omega (arith, cut, small);
-  }
-
   saved : length (encode t) ≤ trace_limit → (trace out : List ℕ) (now : Files) → get now trace ≡ Some bytes → (status : Status)
       (text : List ℕ) (left : Option Files) → Saves trace out (Some now) (λ _. ⊥) status text left
       → KeepsWhole t bytes out now status text left
@@ -86,7 +88,7 @@ module _ (law : FrontIsSalvaged) (t : Trace) (bytes : List ℕ) (encodes : HasEn
             count = k;
             whole = lie;
             said = (said.0, said.1 ∙ ap (λ (v : Trace). salvaged_line (length v.packets)) e ∙ ap salvaged_line (count-is k lie));
-            encoding = front-encodes k;
+            encoding = front-encodes t encodes k;
             leaves = same ∙ ap (λ (v : Trace). holding (Some now) out (encode v)) e;
           }
 
@@ -94,3 +96,36 @@ pub broken-salvaged : FrontIsSalvaged → BrokenRecordingIsSalvaged
 broken-salvaged law design m script stalls files b plan planned rows stop run bytes broken trace out now at status text left saves =
     saved law (trace_of b.device.map.channels rows) bytes (run-kept design m script stalls files b plan planned rows stop run).encoded broken
     (recorded-short design m script stalls files b plan planned rows stop run) trace out now at status text left saves
+
+-- ---- a front is no longer than the whole
+
+bytes-take : (f : Packet → List ℕ) (k : ℕ) (packets : List Packet) → length (flat_map f (take k packets)) ≤ length (flat_map f packets)
+bytes-take f zero packets = omega arith
+bytes-take f (suc k) [] = omega arith
+bytes-take f (suc k) (p ∷ packets) =
+    let l = bytes-take f k packets in
+    let a = length-append (f p) (flat_map f (take k packets)) in
+    let b = length-append (f p) (flat_map f packets) in
+    omega (arith, l, a, b)
+
+encoded-len : (t : Trace) → length (encode t) ≡ length (header_bytes t.channels) + (length (flat_map (packet_bytes t.channels) t.packets) + 5)
+encoded-len t =
+    let a = length-append (header_bytes t.channels) (flat_map (packet_bytes t.channels) t.packets ++ end_mark (length t.packets)) in
+    let b = length-append (flat_map (packet_bytes t.channels) t.packets) (end_mark (length t.packets)) in
+    omega (arith, a, b)
+
+front-short : (t : Trace) (k : ℕ) → length (encode (front k t)) ≤ length (encode t)
+front-short t k =
+    let a = encoded-len (front k t) in
+    let b = encoded-len t in
+    let l = bytes-take (packet_bytes t.channels) k t.packets in
+    omega (arith, a, b, l)
+
+pub salvaged-replayable : SalvagedTraceIsReplayable
+salvaged-replayable design map script stalls files b plan planned rows stop run count trace now same same' there =
+    let t : Trace = trace_of b.device.map.channels rows in
+    let encodes : HasEncoding t = (run-kept design map script stalls (Some files) b plan planned rows stop run).encoded in
+    let small : length (encode t) ≤ trace_limit = recorded-short design map script stalls (Some files) b plan planned rows stop run in
+    let l : length (encode (front count t)) ≤ length (encode t) = front-short t count in
+    replayable-there design map script stalls files b plan planned (front count t) (front-encodes t encodes count) refl
+    (omega (arith, small, l)) trace now same same' there

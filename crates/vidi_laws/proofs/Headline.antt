@@ -4,9 +4,11 @@ use Rattle.std.specs.Prelude.{IsSomeAnd}
 use Rattle.std.specs.FinMap.{get}
 use Rattle.vidi_io.specs.Shelf.{Files}
 use Rattle.trace_model.specs.Recording.{trace_of}
-use Rattle.trace_code.specs.Encoding.{encode}
+use Rattle.trace_model.specs.declared.trace.Trace.{Trace}
+use Rattle.trace_code.specs.Encoding.{encode, HasEncoding}
 use Rattle.script_text.specs.declared.script.TheConstants.{MOST_CYCLES}
 use Rattle.script_text.specs.ScriptOffer.{script_offer}
+use Rattle.script_text.specs.declared.stalls.Stalls.{Stalls}
 use Rattle.env_script.proofs.Lasting.{script-lasts}
 use Rattle.bench_run.proofs.PlainLaws.{plain-keeps, plain-of}
 use Rattle.vidi_recorder.proofs.Kept.{drained-plain, no-hidden_gate}
@@ -14,7 +16,10 @@ use Rattle.vidi_recorder.proofs.Runs.{the-run}
 use Rattle.vidi_recorder.proofs.ScriptKept.{script-kept, full-drains}
 use Rattle.vidi_recorder.proofs.Short.{trace-short}
 use Rattle.vidi_bench.specs.Reading.{IsRead}
-use Rattle.vidi_commands.specs.Records.{course_of}
+use Rattle.vidi_bench.specs.declared.bench.Bench.{Bench}
+use Rattle.vidi_commands.specs.Records.{course_of, IsPlanned}
+use Rattle.vidi_commands.specs.Replays.{IsReplayable}
+use Rattle.vidi_commands.specs.Traces.{trace_limit}
 use Rattle.vidi_laws.specs.Headline.{RecordedRunIsKept, RecordedTraceIsReplayable, RecordedTraceIsShort, DrainedRecordingIsTheRun, WidePlanDrains}
 use Rattle.vidi_laws.specs.Headline.{RecordingHidesNoGate, PrintedRunKeepsContents}
 
@@ -54,19 +59,28 @@ pub read-there : (limit : ℕ) (name file : List ℕ) (now : Files) → get now 
 read-there limit name file now there small =
     (subst (λ (o : Option (List ℕ)). IsSomeAnd o (λ t. t ≡ file)) (sym there) refl, small)
 
-pub recorded-replayable : RecordedTraceIsReplayable
-recorded-replayable design map script stalls files b plan planned rows stop run trace now same same' there = record {
+-- the encoding of a trace of the map's channels is replayed on the design and the map that were recorded
+pub replayable-there : (design map script stalls : List ℕ) (files : Files) (b : Bench) (plan : Stalls)
+    → IsPlanned design map script stalls (Some files) b plan → (t : Trace) → HasEncoding t → t.channels ≡ b.device.map.channels
+    → length (encode t) ≤ trace_limit → (trace : List ℕ) (now : Files) → get now design ≡ get files design → get now map ≡ get files map
+    → get now trace ≡ Some (encode t) → IsReplayable design map trace (Some now) b.device t
+replayable-there design map script stalls files b plan planned t encodes of small trace now same same' there = record {
   design_text = planned.design_text;
   map_text = planned.map_text;
-  trace_bytes = encode (trace_of b.device.map.channels rows);
+  trace_bytes = encode t;
   design_read = read-again _ design planned.design_text files now same planned.design_read;
   map_read = read-again _ map planned.map_text files now same' planned.map_read;
-  trace_read = read-there _ trace (encode (trace_of b.device.map.channels rows)) now there
-      (recorded-short design map script stalls (Some files) b plan planned rows stop run);
+  trace_read = read-there _ trace (encode t) now there small;
   device = planned.bench.device;
-  encodes = ((run-kept design map script stalls (Some files) b plan planned rows stop run).encoded, refl);
-  same = refl;
+  encodes = (encodes, refl);
+  same = of;
 }
+
+pub recorded-replayable : RecordedTraceIsReplayable
+recorded-replayable design map script stalls files b plan planned rows stop run trace now same same' there =
+    replayable-there design map script stalls files b plan planned (trace_of b.device.map.channels rows)
+    (run-kept design map script stalls (Some files) b plan planned rows stop run).encoded refl
+    (recorded-short design map script stalls (Some files) b plan planned rows stop run) trace now same same' there
 
 pub printed-keeps : PrintedRunKeepsContents
 printed-keeps design map script b is run played =

@@ -3,7 +3,7 @@ use Rattle.std.proofs.Common.{◌≡◌, ℕ, List, ◌++◌, Option, None, Some
 use Rattle.trace_model.specs.declared.row.Row.{Row}
 use Rattle.trace_model.specs.declared.trace.Trace.{Trace}
 use Rattle.trace_model.specs.Recording.{trace_of}
-use Rattle.trace_code.specs.Encoding.{encode, Encodes}
+use Rattle.trace_code.specs.Encoding.{encode}
 use Rattle.trace_compare.specs.Findings.{findings}
 use Rattle.chan_map.specs.declared.pins.Map.{Map}
 use Rattle.replay_run.specs.declared.outcome.ReplayOutcome.{ReplayOutcome}
@@ -18,7 +18,6 @@ use Rattle.vidi_commands.specs.declared.sample.Figures.{Figures}
 use Rattle.vidi_bench.specs.declared.status.Status.{Status}
 use Rattle.vidi_bench.specs.declared.status.Status.TheVariants.{Done, Diverged}
 use Rattle.vidi_commands.specs.Records.{IsRecorded}
-use Rattle.vidi_commands.specs.Replays.{IsTheReplay}
 use Rattle.vidi_commands.specs.Said.{diverged_text, sample_line}
 use Rattle.vidi_commands.specs.Samples.{figures, sample_cycles, IsReplayableTexts, IsRunOfTexts, IsSampleReplay, IsSampleSaid, IsSampleVerdict}
 use Rattle.vidi_commands.specs.Samples.{IsTraced, IsUntraced, Samples, SamplesFiles, SamplesReplay}

@@ -92,6 +92,14 @@ BrokenRecordingIsSalvaged = (design map script stalls : List ℕ) (files : Optio
     → (status : Status) (text : List ℕ) (left : Option Files) → Saves trace out (Some now) (λ _. ⊥) status text left
     → KeepsWhole (trace_of b.device.map.channels rows) bytes out now status text left
 
+-- `replay` accepts what `salvage` leaves of it, the encoding of its first packets, where the files of the design and the map are those
+abbrev pub SalvagedTraceIsReplayable : Type 0
+SalvagedTraceIsReplayable = (design map script stalls : List ℕ) (files : Files) (b : Bench) (plan : Stalls)
+    → IsPlanned design map script stalls (Some files) b plan → (rows : List Row) (stop : Option ℕ) → IsTheRunOf (course_of b plan) rows stop
+    → (count : ℕ) (trace : List ℕ) (now : Files) → get now design ≡ get files design → get now map ≡ get files map
+    → get now trace ≡ Some (encode (front count (trace_of b.device.map.channels rows)))
+    → IsReplayable design map trace (Some now) b.device (front count (trace_of b.device.map.channels rows))
+
 -- where everything drains after each row, the rows that are recorded are those of `run`
 abbrev pub DrainedRecordingIsTheRun : Type 0
 DrainedRecordingIsTheRun = (design map script stalls : List ℕ) (files : Option Files) (b : Bench) (plan : Stalls)

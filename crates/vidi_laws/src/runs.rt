@@ -1,6 +1,6 @@
 //! Laws of runs and of the replay: they exist, they are one, and what holds of them.
 
-ghost use Rattle.vidi_laws.specs.Headline.{BrokenRecordingIsSalvaged, PrintedRunKeepsContents, RecordedTraceIsReplayable, RecordedTraceIsShort, RecordingHidesNoGate, WidePlanDrains};
+ghost use Rattle.vidi_laws.specs.Headline.{BrokenRecordingIsSalvaged, PrintedRunKeepsContents, RecordedTraceIsReplayable, RecordedTraceIsShort, RecordingHidesNoGate, SalvagedTraceIsReplayable, WidePlanDrains};
 ghost use Rattle.vidi_laws.specs.OneRun.{OnePrintedRun, OneRecording, OneReplayOfFiles};
 
 use trace_code::front_is_salvaged;
@@ -37,6 +37,11 @@ pub fn broken_recording_is_salvaged()
 {
     front_is_salvaged()
 }
+
+/// What `salvage` leaves of the trace of the run that `record` writes is one that `replay` accepts, of the same design and map.
+pub fn salvaged_trace_is_replayable()
+    ensures { SalvagedTraceIsReplayable }
+{}
 
 /// In a recording a gate is down only while bytes wait in the store.
 pub fn recording_hides_no_gate()
