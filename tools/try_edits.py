@@ -4,11 +4,13 @@ Usage: python3 tools/try_edits.py [CRATE ..]      of these crates, or of all tha
        python3 tools/try_edits.py --check         proves nothing: each edit can be made in the sources as they are
 
 They stand in tools/edits/CRATE, in the form of the must-fail edits in crates/CRATE/must-fail, beside which they are put while
-`rt must-fail` runs. It ends with that command's status.
+`rt must-fail` runs. It ends with that command's status. In a checkout where nothing was checked yet, the libraries below a crate are
+proved first.
 """
 
 import pathlib
 import shutil
+import signal
 import subprocess
 import sys
 
@@ -42,7 +44,8 @@ def check(crates):
 
 
 def try_all(crates):
-    """Puts the edits beside the gate's, tries them, and takes them away again."""
+    """Puts the edits beside the gate's, tries them, and takes them away again, also where it is stopped."""
+    signal.signal(signal.SIGTERM, lambda *_: sys.exit(1))
     placed = []
     try:
         for crate in crates:
