@@ -16,9 +16,9 @@ use Rattle.run_model.specs.Step.{IsAfter, IsFirst}
 use Rattle.chan_monitor.proofs.RowOfCycle.{refill-is}
 use Rattle.chan_replayer.specs.declared.feed.Feed.{Feed}
 use Rattle.chan_replayer.specs.Feed.{IsFeedOver}
-use Rattle.chan_replayer.specs.Shell.{IsShown}
+use Rattle.chan_replayer.specs.Shell.{IsRunning, IsShown}
 use Rattle.shim_cosim.specs.Rewrapped.{inputs_count, feed_inputs, replay_row, flight_of}
-use Rattle.shim_cosim.specs.Replaying.{IsReplaying, IsReplayed, IsRunning}
+use Rattle.shim_cosim.specs.Replaying.{IsReplaying, IsReplayed}
 use Rattle.shim_cosim.proofs.Rerun.{driven_on, running_on, shown, known_over, reset_on, running_again}
 
 -- how many cycles the reset has
@@ -38,8 +38,8 @@ module _ (whole e : Design) (state u : Values) (a : Map) (first : ℕ) (pins len
       (all ∙ made ∙ ap (λ ps. take first ps ++ xs) is) (ap length all ∙ n) d s rows on
 
   pub still_running : e ≡ whole → u ≡ state → lent ≡ pins → now ≡ take first lent ++ xs → length now ≡ length lent
-      → ∥ IsRunning whole state a first pins resets flight cycles ∥₁
-      → ∥ IsRunning e u a first (refill (length pins) pins now) resets flight cycles ∥₁
+      → ∥ IsRunning (IsReplaying whole state a first pins resets flight cycles) ∥₁
+      → ∥ IsRunning (IsReplaying e u a first (refill (length pins) pins now) resets flight cycles) ∥₁
   still_running same kept is made long known =
       let n : length now ≡ length pins = long ∙ ap length is in
       let all : refill (length pins) pins now ≡ now = refill-is pins now n in
@@ -59,7 +59,7 @@ pub row_over : (whole e : Design) (state : Values) (a : Map) (first : ℕ) (pins
     → cycles ≤ 50000 → IsState whole state → lent ≡ pins → e ≡ whole → (v : Values)
     → IsSettled whole state now v → (feed : Feed) → IsFeedOver a.channels feed → now ≡ take first lent ++ feed_inputs a.channels feed
     → (row : Row) → row ≡ replay_row a.channels flight feed (outputs e v)
-    → ∥ IsRunning whole state a first pins resets flight cycles ∥₁ → IsOver a.channels row
+    → ∥ IsRunning (IsReplaying whole state a first pins resets flight cycles) ∥₁ → IsOver a.channels row
 row_over whole e state a first pins lent now resets flight cycles few is same e_is v settled feed over made row filled known =
     subst (IsOver a.channels) (sym (filled ∙ ap (λ z. replay_row a.channels flight feed (outputs z v)) e_is))
     (known_over whole state a first pins resets flight cycles known few is now v feed over
@@ -102,7 +102,7 @@ reset_runs whole e state u a first pins resets lent flight cycles d s rows same 
 pub reset_running : (whole e : Design) (state u : Values) (a : Map) (first : ℕ) (pins resets lent : List ℕ) (flight cycles : ℕ)
     → lent ≡ resets → e ≡ whole
     → ((n : ℕ) → MatchOption a.reset (n ≡ 0) (λ (r : Reset). n ≡ r.cycles) → IsAfter whole lent n (initial whole) u)
-    → ∥ IsRunning whole state a first pins resets flight cycles ∥₁ → ∥ IsRunning e u a first pins resets 0 0 ∥₁
+    → ∥ IsRunning (IsReplaying whole state a first pins resets flight cycles) ∥₁ → ∥ IsRunning (IsReplaying e u a first pins resets 0 0) ∥₁
 reset_running whole e state u a first pins resets lent flight cycles same e_is goes known =
     let k = cycles_in a.reset in
     running_again whole e state u a first pins resets flight cycles k.0 e_is k.1

@@ -32,7 +32,7 @@ use Rattle.run_model.proofs.PlayedLaws.{ports-are_nets}
 use Rattle.run_model.proofs.Contents.{has-all, has-mask, mask-below}
 use Rattle.chan_replayer.specs.declared.feed.Feed.{Feed}
 use Rattle.chan_replayer.specs.Feed.{IsFeedOver}
-use Rattle.chan_replayer.specs.Shell.{GoesTo, IsShown}
+use Rattle.chan_replayer.specs.Shell.{GoesTo, IsRunning, IsShown}
 use Rattle.flat_parts.specs.Meaning.{state_of}
 use Rattle.shim_trees.specs.ReplayTop.{replay_name}
 use Rattle.shim_trees.specs.Wrapped.{shims, ports_in, module_named, wrapped}
@@ -42,7 +42,7 @@ use Rattle.shim_step.specs.Recording.{own_state}
 use Rattle.shim_cosim.specs.Top.{IsRound, IsTopDesign, IsWrapOf}
 use Rattle.shim_cosim.specs.Held.{held_inputs}
 use Rattle.shim_cosim.specs.Rewrapped.{inputs_count, outputs_count, feed_inputs, replay_row, flight_of, AreSmallNeeds}
-use Rattle.shim_cosim.specs.Replaying.{IsReplaying, IsReplayed, IsRunning}
+use Rattle.shim_cosim.specs.Replaying.{IsReplaying, IsReplayed}
 use Rattle.shim_cosim.proofs.ReplayCycle as cycle
 
 -- ---- what is known, where some design runs inside
@@ -50,9 +50,9 @@ over_prop : (a : Map) (row : Row) → IsProp (IsOver a.channels row)
 over_prop a row = hlevel (props, fit_prop)
 
 module _ (whole : Design) (state : Values) (a : Map) (first : ℕ) (now resets : List ℕ) (flight cycles : ℕ)
-    (known : ∥ IsRunning whole state a first now resets flight cycles ∥₁) where
+    (known : ∥ IsRunning (IsReplaying whole state a first now resets flight cycles) ∥₁) where
   abbrev Runs : Type 0
-  Runs = IsRunning whole state a first now resets flight cycles
+  Runs = IsRunning (IsReplaying whole state a first now resets flight cycles)
 
   pub known_some : 1 ≤ length a.channels
   known_some = ∥∥₁_elim known (hlevel props) (λ (r : Runs). r.3.round.wrap.mapped.table.some)
@@ -100,12 +100,13 @@ module _ {whole : Design} {state : Values} {a : Map} {first : ℕ} {now resets :
       (cycle.shown is.round is.full is.narrow is.state_is is_state settled rows short is.counts feed over entered_is flight is.flies)
 
 pub known_over : (whole : Design) (state : Values) (a : Map) (first : ℕ) (now resets : List ℕ) (flight cycles : ℕ)
-    → ∥ IsRunning whole state a first now resets flight cycles ∥₁ → cycles ≤ 50000 → IsState whole state → (inputs : List ℕ) (v : Values)
+    → ∥ IsRunning (IsReplaying whole state a first now resets flight cycles) ∥₁ → cycles ≤ 50000 → IsState whole state
+    → (inputs : List ℕ) (v : Values)
     (feed : Feed) → IsFeedOver a.channels feed → inputs ≡ take first now ++ feed_inputs a.channels feed → IsSettled whole state inputs v
     → IsOver a.channels (replay_row a.channels flight feed (outputs whole v))
 known_over whole state a first now resets flight cycles known few is_state inputs v feed over entered settled =
     ∥∥₁_elim known (over_prop a (replay_row a.channels flight feed (outputs whole v)))
-    (λ (r : IsRunning whole state a first now resets flight cycles). (shown r.3 few is_state feed over entered settled).over)
+    (λ (r : IsRunning (IsReplaying whole state a first now resets flight cycles)). (shown r.3 few is_state feed over entered settled).over)
 
 -- ---- a cycle that is driven
 pub refill_is : {X : Type 0} (xs ys : List X) → length ys ≡ length xs → refill (length xs) xs ys ≡ ys
@@ -141,9 +142,10 @@ driven_on whole later state same a first now new resets xs flight cycles e f n l
 
 pub running_on : (whole later : Design) (state same : Values) (a : Map) (first : ℕ) (now new resets xs : List ℕ) (flight cycles : ℕ)
     → later ≡ whole → same ≡ state → new ≡ take first now ++ xs → length new ≡ length now
-    → ∥ IsRunning whole state a first now resets flight cycles ∥₁ → ∥ IsRunning later same a first new resets flight cycles ∥₁
+    → ∥ IsRunning (IsReplaying whole state a first now resets flight cycles) ∥₁
+    → ∥ IsRunning (IsReplaying later same a first new resets flight cycles) ∥₁
 running_on whole later state same a first now new resets xs flight cycles e f n long known =
-    ∥∥₁_map known (λ (r : IsRunning whole state a first now resets flight cycles).
+    ∥∥₁_map known (λ (r : IsRunning (IsReplaying whole state a first now resets flight cycles)).
     (r.0, r.1, r.2, driven_on whole later state same a first now new resets xs flight cycles e f n long r.0 r.1 r.2 r.3))
 
 -- ---- the channels in flight
@@ -239,17 +241,18 @@ reset_on whole later state after a first now resets flight cycles many e m goes 
 
 pub running_again : (whole later : Design) (state after : Values) (a : Map) (first : ℕ) (now resets : List ℕ) (flight cycles many : ℕ)
     → later ≡ whole → MatchOption a.reset (many ≡ 0) (λ r. many ≡ r.cycles) → IsAfter whole resets many (initial whole) after
-    → ∥ IsRunning whole state a first now resets flight cycles ∥₁ → ∥ IsRunning later after a first now resets 0 0 ∥₁
+    → ∥ IsRunning (IsReplaying whole state a first now resets flight cycles) ∥₁ → ∥ IsRunning (IsReplaying later after a first now resets 0 0) ∥₁
 running_again whole later state after a first now resets flight cycles many e m goes known =
-    ∥∥₁_map known (λ (r : IsRunning whole state a first now resets flight cycles).
+    ∥∥₁_map known (λ (r : IsRunning (IsReplaying whole state a first now resets flight cycles)).
     (let n = reset_on whole later state after a first now resets flight cycles many e m goes r.0 r.1 r.2 r.3 in (r.0, n.0, [], n.2)))
 
 pub running_clocked : (whole later : Design) (state after v : Values) (inputs : List ℕ) (a : Map) (first : ℕ) (now resets : List ℕ)
     (flight cycles new more : ℕ) (last : Option ℕ) (row : Row) → later ≡ whole → cycles ≤ 50000 → IsState whole state
     → IsReplayed whole state inputs v a first now flight last row → last ≡ Some new → after ≡ next whole v state → more ≡ cycles + 1
-    → ∥ IsRunning whole state a first now resets flight cycles ∥₁ → ∥ IsRunning later after a first now resets new more ∥₁
+    → ∥ IsRunning (IsReplaying whole state a first now resets flight cycles) ∥₁
+    → ∥ IsRunning (IsReplaying later after a first now resets new more) ∥₁
 running_clocked whole later state after v inputs a first now resets flight cycles new more last row e few is_state driven l n m known =
-    ∥∥₁_map known (λ (r : IsRunning whole state a first now resets flight cycles).
+    ∥∥₁_map known (λ (r : IsRunning (IsReplaying whole state a first now resets flight cycles)).
     (let g = clocked_on whole later state after v inputs a first now resets flight cycles new more last row e few is_state driven l n m r.0 r.1 r.2 r.3 in
     (r.0, g.0, r.2 ++ row ∷ [], g.2)))
 

@@ -36,11 +36,6 @@ pub record IsReplaying (whole : Design) (state : Values) (a : Map) (first : ℕ)
   pub flies : (c : ℕ) → has flight c ≡ flies_after (row_before rows (length rows)) c
   pub many : length rows ≡ cycles
 
--- some design runs inside
-abbrev pub IsRunning : Design → Values → Map → ℕ → List ℕ → List ℕ → ℕ → ℕ → Type 0
-IsRunning whole state a first pins resets flight cycles =
-    (d : Design) × (s : Values) × (rows : List Row) × IsReplaying whole state a first pins resets flight cycles d s rows
-
 -- the design is settled as v for a feed, the row is what stands on its outputs, and `next` is in flight after it
 pub record IsReplayed (whole : Design) (state : Values) (inputs : List ℕ) (v : Values) (a : Map) (first : ℕ) (pins : List ℕ) (flight : ℕ)
     (next : Option ℕ) (row : Row) : Type 0 where

@@ -9,9 +9,10 @@ ghost use Rattle.net_design.specs.Pins.{output_count, outputs, FitPins};
 ghost use Rattle.net_design.specs.Settled.{initial, IsSettled};
 ghost use Rattle.chan_monitor.specs.Shell.{HasPlaces};
 ghost use Rattle.chan_replayer.specs.Feed.{IsFeedOver};
+ghost use Rattle.chan_replayer.specs.Shell.{IsRunning};
 ghost use Rattle.shim_trees.specs.ReplayTop.{replay_name};
 ghost use Rattle.shim_cosim.specs.Rewrapped.{inputs_count, outputs_count, feed_inputs, replay_row, flight_of, AreSmallNeeds};
-ghost use Rattle.shim_cosim.specs.Replaying.{IsRunning};
+ghost use Rattle.shim_cosim.specs.Replaying.{IsReplaying};
 ghost use Rattle.shim_cosim.specs.Top.{IsSettledNumber, IsTopDesign, IsTopError, IsWrapOf};
 
 use crate::error::CosimError;
@@ -49,7 +50,7 @@ pub struct RerunShell<'a, B: Block> {
     cycles: u32,
     /// The channels that are in flight after the row of the last `drive`, since which there was no `clock` and no `reset`.
     next: Option<u128>,
-    ghost running: { ∥ IsRunning (B.design block) (B.state block) map.now first pins resets flight cycles ∥₁ },
+    ghost running: { ∥ IsRunning (IsReplaying (B.design block) (B.state block) map.now first pins resets flight cycles) ∥₁ },
     ghost places: { length outputs ≡ outputs_count map.now.channels },
     ghost few: { cycles ≤ 50000 },
 }

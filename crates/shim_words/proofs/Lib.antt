@@ -1,2 +1,1 @@
 mod DrawnLaws
-mod Wraps

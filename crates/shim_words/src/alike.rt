@@ -2,9 +2,8 @@
 
 ghost use Rattle.std.specs.Prelude.{◌≤◌, IfOk};
 
-use crate::ended::Ended;
-use crate::texts::cycles_of;
 use report_text::{put, put_number};
+use shim_runs::{Ended, cycles_of};
 use std::alloc::Global;
 use trace_model::Row;
 use vidi_io::Text;

@@ -1,12 +1,10 @@
 //! What the words of a case are answered.
 
-use crate::ended::Ended;
 use crate::fed_nets::fed_nets;
 use crate::fed_rows::fed_rows;
 use crate::nets::nets;
-use crate::records::record;
-use crate::replays::replay;
 use crate::rows::rows;
+use shim_runs::{Ended, record, replay};
 use std::alloc::Global;
 use vidi_io::{Shelf, Text};
 

@@ -8,14 +8,12 @@ ghost use Rattle.trace_model.specs.declared.row.Row.{Row as OneRow};
 ghost use Rattle.trace_model.specs.Channel.{IsTable};
 ghost use Rattle.shim_cosim.specs.Top.{IsWrapOf};
 
-use crate::ended::Ended;
 use crate::feeds::feed_of;
-use crate::stages::{Stage, stage_in};
-use crate::texts::{lines_in, put_net};
 use chan_map::Map;
 use chan_replayer::ReplayShell;
 use net_sim::Sim;
 use shim_cosim::{RerunShell, Rewrapped};
+use shim_runs::{Ended, Stage, lines_in, put_net, stage_in};
 use std::alloc::Global;
 use trace_model::row_over;
 use vidi_io::{Shelf, Text};

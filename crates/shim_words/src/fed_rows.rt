@@ -13,12 +13,11 @@ ghost use Rattle.shim_cosim.specs.Top.{IsWrapOf};
 
 use crate::alike::{Course, are_same, course_of, said};
 use crate::drawn::{Sequence, draw_feed, feed_over, widths_over};
-use crate::ended::Ended;
-use crate::stages::{Stage, stage_in};
 use chan_map::Map;
 use chan_replayer::{Feed, ReplayMachines, ReplayShell};
 use net_design::Block;
 use shim_cosim::Rewrapped;
+use shim_runs::{Ended, Stage, stage_in};
 use std::alloc::Global;
 use trace_model::{Channels, Row, names, row_over};
 use vidi_bits::Memory;

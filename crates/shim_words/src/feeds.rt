@@ -3,8 +3,8 @@
 ghost use Rattle.std.specs.Prelude.{◌≡◌, ◌≤◌, IfOk, length};
 ghost use Rattle.chan_replayer.specs.Feed.{IsFeedOver};
 
-use crate::ended::Ended;
 use chan_replayer::{Feed, Needs};
+use shim_runs::Ended;
 use std::alloc::Global;
 use trace_model::{Channels, Row, is_over};
 use vidi_bits::{Items, Name, Numbers};

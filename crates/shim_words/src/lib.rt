@@ -5,19 +5,12 @@
 mod alike;
 mod answers;
 mod drawn;
-mod ended;
 mod fed_nets;
 mod fed_rows;
 mod feeds;
 mod nets;
-mod outcomes;
-mod plans;
-mod records;
-mod replays;
 mod rows;
 mod said;
-mod stages;
-mod texts;
 mod watched;
 
 pub use said::say;

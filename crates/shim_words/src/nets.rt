@@ -8,14 +8,11 @@ ghost use Rattle.trace_model.specs.Channel.{IsTable};
 ghost use Rattle.script_text.specs.Fits.{FitsChannels};
 ghost use Rattle.shim_cosim.specs.Top.{IsWrapOf};
 
-use crate::ended::Ended;
-use crate::plans::{Plan, plan_in, recorded};
-use crate::stages::{Stage, stage_in};
-use crate::texts::{cycles_of, put_net};
 use crate::watched::Watched;
 use chan_map::Map;
 use chan_monitor::Shell;
 use shim_cosim::Wrapped;
+use shim_runs::{Ended, Plan, Stage, cycles_of, plan_in, put_net, recorded, stage_in};
 use std::alloc::Global;
 use vidi_bits::{Items, Memory, Numbers};
 use vidi_io::{MemSink, Shelf, Text};

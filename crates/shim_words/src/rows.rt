@@ -14,13 +14,12 @@ ghost use Rattle.shim_cosim.specs.Top.{IsWrapOf};
 
 use crate::alike::{Course, are_same, course_of, said};
 use crate::drawn::{Sequence, draw_offers, widths_over};
-use crate::ended::Ended;
-use crate::stages::{Stage, stage_in};
 use chan_map::Map;
 use chan_monitor::{Machines, Shell};
 use env_script::offers_over;
 use net_design::Block;
 use shim_cosim::Wrapped;
+use shim_runs::{Ended, Stage, stage_in};
 use std::alloc::Global;
 use trace_model::{Channels, Offers, Row, row_over};
 use vidi_bits::Memory;

@@ -1,8 +1,8 @@
 //! How a call ends: what is said, and the exit number.
 
 use crate::answers::answer;
-use crate::ended::Ended;
 use report_text::{put, put_number};
+use shim_runs::Ended;
 use std::alloc::Global;
 use vidi_bits::Memory;
 use vidi_io::{Failed, Shelf, Sink, Words};

@@ -1,6 +1,4 @@
 pub mod WordLists
-pub mod Quiet
-pub mod QuietTraces
 pub mod QuietTexts
 pub mod Saying
 pub mod PortNets
@@ -8,13 +6,8 @@ pub mod Names
 pub mod Texts
 pub mod Filed
 pub mod Recorded
-pub mod Saved
 pub mod QuietReplays
 pub mod Replayed
-pub mod Spelled
-pub mod Fitted
-pub mod Written
-pub mod QuietWraps
 pub mod QuietSamples
 pub mod SampleTexts
 pub mod Sampled

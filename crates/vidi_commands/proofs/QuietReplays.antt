@@ -15,10 +15,10 @@ use Rattle.vidi_bench.specs.Design.{text_limit}
 use Rattle.vidi_bench.specs.Reading.{Reading}
 use Rattle.vidi_commands.specs.Replays.{RefusedTrace, RefusedReplay, IsUnreplayed, IsReplaySaid, Replays}
 use Rattle.vidi_commands.specs.Said.{replayed_line}
-use Rattle.vidi_commands.specs.Traces.{trace_limit, HasOtherChannels}
-use Rattle.vidi_commands.proofs.Quiet.{Mute, mute-reading, mute-refusal, quiet-reading}
-use Rattle.vidi_commands.proofs.QuietTexts.{mute-wiring}
-use Rattle.vidi_commands.proofs.QuietTraces.{mute-decoding, mute-verdict}
+use Rattle.trace_commands.specs.Traces.{trace_limit, HasOtherChannels}
+use Rattle.vidi_bench.proofs.Quiet.{Mute, mute-reading, mute-refusal, quiet-reading}
+use Rattle.vidi_bench.proofs.QuietTexts.{mute-wiring}
+use Rattle.trace_commands.proofs.QuietTraces.{mute-decoding, mute-verdict}
 
 -- ---- no failed write
 mute-other : (channels : List Channel) (t : Trace) → Mute (HasOtherChannels words.Trace channels t.channels)

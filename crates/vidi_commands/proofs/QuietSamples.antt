@@ -10,7 +10,7 @@ use Rattle.vidi_commands.specs.declared.sample.Figures.{Figures}
 use Rattle.vidi_bench.specs.declared.status.Status.TheVariants.{Done, Diverged, WriteFault}
 use Rattle.vidi_commands.specs.Said.{sample_line}
 use Rattle.vidi_commands.specs.Samples.{figures, sample_cycles, IsSampleSaid, IsSampleVerdict, IsTraced, IsUntraced, Samples, SamplesFiles, SamplesReplay}
-use Rattle.vidi_commands.proofs.Quiet.{Mute, mute-said, mute-step, done-goes}
+use Rattle.vidi_bench.proofs.Quiet.{Mute, mute-said, mute-step, done-goes}
 use Rattle.vidi_commands.proofs.QuietReplays.{mute-refused_replay, mute-replay_said}
 use Rattle.vidi_commands.proofs.QuietTexts.{mute-planned, mute-recorded}
 

@@ -17,7 +17,7 @@ use Rattle.vidi_bench.specs.Devices.{IsDevice}
 use Rattle.vidi_bench.specs.Ended.{IsStopped, Owes}
 use Rattle.vidi_bench.specs.Reading.{IsRead}
 use Rattle.vidi_commands.specs.Replays.{CutsReplay, IsReplayable, Replays, ReplaysTrace, StopsReplaying}
-use Rattle.vidi_commands.specs.Traces.{trace_limit}
+use Rattle.trace_commands.specs.Traces.{trace_limit}
 
 -- what the texts of three files say
 pub replayable-said : (design map trace : List ℕ) (files : Option Files) (d m b : List ℕ) (r : Result Replayable Ended)

@@ -7,12 +7,12 @@ use Rattle.vidi_bench.specs.declared.status.Status.{Status}
 use Rattle.vidi_bench.specs.declared.status.Status.TheVariants.{Usage, WriteFault, Memory}
 use Rattle.vidi_commands.specs.Command.{Command, Dump, Check, Run, Record, Replay, Compare, Salvage, Wrap, Sample, IsGiven}
 use Rattle.vidi_bench.specs.Steps.{IsSaid}
-use Rattle.vidi_commands.specs.Traces.{Dumps, Compares, Saves, StopsSaving}
+use Rattle.trace_commands.specs.Traces.{Dumps, Compares, Saves, StopsSaving}
 use Rattle.vidi_commands.specs.Checks.{Checks}
 use Rattle.vidi_commands.specs.Runs.{Runs}
 use Rattle.vidi_commands.specs.Records.{Records, StopsRecording}
 use Rattle.vidi_commands.specs.Replays.{Replays, StopsReplaying}
-use Rattle.vidi_commands.specs.Wraps.{Wraps, StopsWrapping}
+use Rattle.wrap_command.specs.Wraps.{Wraps, StopsWrapping}
 use Rattle.vidi_commands.specs.Samples.{Samples}
 use Rattle.vidi_commands.specs.Said.{usage_line, memory_line}
 

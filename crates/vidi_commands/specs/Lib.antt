@@ -8,6 +8,3 @@ pub mod Runs
 pub mod Said
 pub mod Samples
 pub mod Sampled
-pub mod Shims
-pub mod Traces
-pub mod Wraps

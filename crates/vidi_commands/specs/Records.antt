@@ -36,8 +36,12 @@ abbrev pub IsTooSmall : List Channel → Stalls → Ending
 IsTooSmall channels plan status said = (plan.capacity < need (sizes_of channels))
     × IsRefusal words.Stalls (TooSmall (need (sizes_of channels)) plan.capacity) status said
 
+-- a plan of stalls, and a store of its capacity for these channels
+abbrev pub RefusedStore : List ℕ → List Channel → Ending
+RefusedStore stalls channels = Step (IsNoPlan stalls) (λ plan. ReadsStalls (read_lines stalls) (Ok plan)) (IsTooSmall channels)
+
 abbrev pub RefusedPlan : List ℕ → Bench → Ending
-RefusedPlan stalls b = Step (IsNoPlan stalls) (λ plan. ReadsStalls (read_lines stalls) (Ok plan)) (IsTooSmall b.device.map.channels)
+RefusedPlan stalls b = RefusedStore stalls b.device.map.channels
 
 -- four texts
 abbrev pub RefusedPlanned : List ℕ → List ℕ → List ℕ → List ℕ → Ending

@@ -20,7 +20,7 @@ use Rattle.vidi_bench.specs.Devices.{IsDevice, Wiring}
 use Rattle.vidi_bench.specs.Reading.{IsRead, Reading}
 use Rattle.vidi_commands.specs.Said.{replayed_line, unstable_line}
 use Rattle.vidi_bench.specs.Steps.{Ending, IsSaid}
-use Rattle.vidi_commands.specs.Traces.{trace_limit, Decoding, HasOtherChannels, IsVerdict}
+use Rattle.trace_commands.specs.Traces.{trace_limit, Decoding, HasOtherChannels, IsVerdict}
 
 -- ---- what ends the command before anything is replayed
 

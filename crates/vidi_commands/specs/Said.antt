@@ -2,15 +2,14 @@
 use Rattle.std.specs.Prelude.{ℕ, List, [], ◌++◌, length, slice_get, Option, None, Some, codes, decimal}
 use Rattle.std.specs.List.{sum_by}
 use Rattle.trace_model.specs.declared.channel.Channel.{Channel}
-use Rattle.trace_compare.specs.declared.report.Finding.{Finding}
-use Rattle.report_text.specs.Report.{report_lines}
 use Rattle.report_text.specs.Text.{newline}
 use Rattle.vlog_tree.specs.Tree.{ModuleOf, FileOf}
 use Rattle.net_design.specs.declared.design.Counts.{Counts}
 use Rattle.vidi_commands.specs.declared.sample.Figures.{Figures}
-pub use Rattle.report_text.specs.Trace.{dump_text}
 pub use Rattle.report_text.specs.Reason.{read_fault_line, reason_line}
 pub use Rattle.vidi_bench.specs.Usage.{usage_line}
+pub use Rattle.trace_commands.specs.Said.{dump_text, no_divergence_line, diverged_text, salvaged_line}
+pub use Rattle.wrap_command.specs.Said.{wrapped_line}
 
 -- the items of all modules
 abbrev pub items : {A : Type 0} → FileOf A → ℕ
@@ -33,17 +32,6 @@ counts_line c = counted (codes "instances ") c.instances ++ (counted (codes " ne
 abbrev pub check_text : {A : Type 0} → FileOf A → Counts → List ℕ
 check_text f c = file_line f ++ counts_line c
 
--- what `compare` prints of two traces: no divergence, or the findings and that they diverged
-abbrev pub no_divergence_line : List ℕ
-no_divergence_line = codes "no divergence" ++ newline
-
-abbrev pub diverged_text : List Finding → List Channel → List ℕ
-diverged_text report channels = report_lines report channels ++ (codes "diverged" ++ newline)
-
--- `salvaged N packets`
-abbrev pub salvaged_line : ℕ → List ℕ
-salvaged_line n = codes "salvaged " ++ (decimal n ++ (codes " packets" ++ newline))
-
 -- `cycles N`
 abbrev pub cycles_line : ℕ → List ℕ
 cycles_line n = codes "cycles " ++ (decimal n ++ newline)
@@ -64,10 +52,6 @@ sample_figures x = counted (codes "sample ") x.number ++ (counted (codes ": stag
 
 abbrev pub sample_line : Figures → ℕ → ℕ → List ℕ
 sample_line x packets replay = sample_figures x ++ (counted (codes " packets ") packets ++ (counted (codes " replay ") replay ++ newline))
-
--- `wrapped N channels`
-abbrev pub wrapped_line : ℕ → List ℕ
-wrapped_line n = codes "wrapped " ++ (decimal n ++ (codes " channels" ++ newline))
 
 -- the name of channel c
 abbrev pub name_in : Option Channel → List ℕ

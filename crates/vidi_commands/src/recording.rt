@@ -24,7 +24,7 @@ ghost use Rattle.vidi_bench.specs.AnswerText.{text_of};
 ghost use Rattle.vidi_bench.specs.Benches.{AreWithin, IsBench, IsPlayable};
 ghost use Rattle.vidi_bench.specs.Design.{text_limit};
 ghost use Rattle.vidi_bench.specs.Ended.{EndsWith, IsStopped, Owes};
-ghost use Rattle.vidi_commands.specs.Records.{course_of, IsCutShort, IsNoPlan, IsPlanned, IsTooSmall, IsUnrecorded};
+ghost use Rattle.vidi_commands.specs.Records.{course_of, IsCutShort, IsNoPlan, IsPlanned, IsTooSmall, IsUnrecorded, RefusedStore};
 ghost use Rattle.vidi_commands.specs.Records.{Records, RecordsRun, RefusedPlanned, StopsRecording};
 ghost use Rattle.vidi_commands.specs.Recorded.{FileEnds, FileFails, IsOutcome};
 ghost use Rattle.vidi_bench.specs.Steps.{IsSaid};
@@ -111,9 +111,23 @@ pub fn plan_texts(alloc: Global, texts: &Texts, stalls: &[u8]) -> Result<Planned
     ensures refused { IfErr result (EndsWith (RefusedPlanned texts.now.design texts.now.map texts.now.script stalls.now)) }
 {
     let bench = bench_of(alloc, texts)?;
-    let plan = plan_of(alloc, stalls)?;
-    let room = room_for(alloc, &bench.device.map.channels, &plan)?;
+    let store = store_of(alloc, &bench.device.map.channels, stalls)?;
+    let (plan, room) = store;
     Ok(Planned { bench, plan, room })
+}
+
+/// The plan of a text, and a store for it and these channels.
+fn store_of(alloc: Global, channels: &Channels, stalls: &[u8]) -> Result<(Stalls, Room), Ended>
+    requires table { IsTable channels.now }
+    requires stalls { length stalls.now ≤ text_limit }
+    ensures planned { IfOk result (λ s. ReadsStalls (read_lines stalls.now) (Ok s.0)) }
+    ensures holds { IfOk result (λ s. need (sizes_of channels.now) ≤ s.0.capacity) }
+    ensures room { IfOk result (λ s. s.1 ≡ fresh (sizes_of channels.now) s.0.capacity) }
+    ensures refused { IfErr result (EndsWith (RefusedStore stalls.now channels.now)) }
+{
+    let plan = plan_of(alloc, stalls)?;
+    let room = room_for(alloc, channels, &plan)?;
+    Ok((plan, room))
 }
 
 /// The plan of a text.
@@ -169,15 +183,35 @@ fn recorded<S: Shelf>(
         (S.starts shelf.new ≡ S.starts shelf.old)) (Rose (S.write_faults shelf.old) (S.write_faults shelf.new)) (S.files shelf.old) (S.files shelf.new)) }
     ensures counts { Later (S.read_faults shelf.old) (S.read_faults shelf.new) (S.write_faults shelf.old) (S.write_faults shelf.new) }
 {
-    let Planned { bench, plan, room } = planned;
     let line = Pad::new(alloc, LINE_BYTES)?;
-    let cycles = bench.script.cycles();
+    recorded_with(alloc, planned, line, trace, shelf)
+}
+
+/// The same, with memory for the line that is said.
+fn recorded_with<S: Shelf>(
+    alloc: Global,
+    planned: Planned,
+    line: Pad,
+    trace: &str,
+    shelf: &mut S,
+) -> Result<Answer, Ended>
+    requires playable { IsPlayable planned.bench }
+    requires room { planned.room ≡ fresh (sizes_of planned.bench.device.map.channels) planned.plan.capacity }
+    requires empty { shown line ≡ [] }
+    requires line { left line ≡ LINE_BYTES }
+    ensures done { IfOk result (λ a. RecordsRun (course_of planned.bench planned.plan) trace.now (S.files shelf.old) a.status
+        (text_of a.text) (S.files shelf.new)) }
+    ensures stopped { IfErr result (IsStopped (IsCutShort (course_of planned.bench planned.plan) (S.files shelf.old) trace.now
+        (S.starts shelf.new ≡ S.starts shelf.old)) (Rose (S.write_faults shelf.old) (S.write_faults shelf.new)) (S.files shelf.old) (S.files shelf.new)) }
+    ensures counts { Later (S.read_faults shelf.old) (S.read_faults shelf.new) (S.write_faults shelf.old) (S.write_faults shelf.new) }
+{
+    let Planned { bench, plan, room } = planned;
     let Bench { device, script } = bench;
     let Device { design, order, map } = device;
     match record_sim(
         alloc, design, order, &map, &script, &plan, room, trace, shelf,
     ) {
-        Ok(outcome) => Ok(told(outcome, cycles, &map.channels, line)),
+        Ok(outcome) => Ok(told(outcome, script.cycles(), &map.channels, line)),
         Err(RecordError::WriteFault) => Err(Ended::WriteFault),
         Err(RecordError::Memory) => Err(Ended::Memory),
     }

@@ -7,6 +7,10 @@ ghost use Rattle.trace_model.specs.declared.trace.Trace.{Trace as OneTrace};
 ghost use Rattle.trace_model.specs.Channel.{IsTable};
 ghost use Rattle.trace_model.specs.Recording.{trace_of};
 ghost use Rattle.trace_code.specs.Encoding.{Encodes, HasEncoding};
+ghost use Rattle.net_design.specs.Lawful.{IsLawful};
+ghost use Rattle.net_order.specs.Order.{IsOrder};
+ghost use Rattle.run_model.specs.MapOf.{IsMapOf};
+ghost use Rattle.replay_run.specs.Replaying.{EndsAs};
 ghost use Rattle.script_text.specs.declared.script.TheConstants.{MOST_CYCLES};
 ghost use Rattle.vidi_io.specs.Cause.{Rose};
 ghost use Rattle.vidi_io.specs.Shelf.{Later};
@@ -18,19 +22,20 @@ ghost use Rattle.vidi_commands.specs.Replays.{CutsReplay, IsReplayable, IsReplay
 ghost use Rattle.vidi_commands.specs.Replays.{RefusedReplay, RefusedTrace, Replays, ReplaysTrace, StopsReplaying};
 ghost use Rattle.vidi_commands.specs.Said as said;
 ghost use Rattle.vidi_bench.specs.Steps.{IsSaid};
-ghost use Rattle.vidi_commands.specs.Traces.{IsVerdict};
+ghost use Rattle.trace_commands.specs.Traces.{IsVerdict};
 
-use crate::compare::diverged;
-use crate::dump::trace_of;
 use crate::line::{LINE_BYTES, unstable_line};
 use crate::recording::with_line;
 use chan_map::Map;
 use chan_replayer::ReplayMachines;
+use net_design::{Block, Design};
+use net_order::Order;
 use net_sim::Sim;
 use replay_run::{ReplayOutcome, Replayed};
 use report_text::{Pad, put, put_number, short_lines};
 use std::alloc::Global;
 use trace_code::{CodeError, TRACE_LIMIT, decode};
+use trace_commands::{diverged, trace_of};
 use trace_model::{Channels, Trace, same_channels};
 use vidi_bench::{
     Answer, Device, Ended, Reason, Status, TEXT_LIMIT, Word, device_of, read_file, refused,
@@ -159,7 +164,6 @@ fn replayed<S: Shelf>(
 }
 
 /// Replays the trace of these bytes on a device.
-#[tactic(auto, using(crate::proofs::PortNets::port_nets))]
 pub fn played(alloc: Global, device: Device, bytes: &[u8], cycles: u32) -> Result<Replayed, Memory>
     requires runnable { IsRunnable device }
     requires trace { (t : OneTrace) × Encodes t bytes.now × (t.channels ≡ device.map.channels) }
@@ -168,9 +172,48 @@ pub fn played(alloc: Global, device: Device, bytes: &[u8], cycles: u32) -> Resul
         × IsTheReplay device t cycles rows r.outcome × Encodes (trace_of device.map.channels rows) r.out) }
 {
     let Device { design, order, map } = device;
+    replay_sim(alloc, design, order, &map, bytes, cycles)
+}
+
+/// Replays the trace of these bytes on a design.
+fn replay_sim(
+    alloc: Global,
+    design: Design,
+    order: Order,
+    map: &Map,
+    bytes: &[u8],
+    cycles: u32,
+) -> Result<Replayed, Memory>
+    requires lawful { IsLawful design }
+    requires order { IsOrder design order.drivers }
+    requires mapped { IsMapOf design map.now }
+    requires trace { (t : OneTrace) × Encodes t bytes.now × (t.channels ≡ map.now.channels) }
+    requires few { cycles ≤ MOST_CYCLES }
+    ensures { IfOk result (λ r. (t : OneTrace) → Encodes t bytes.now → (rows : List OneRow)
+        × EndsAs design map.now t.packets cycles rows r.outcome × Encodes (trace_of map.now.channels rows) r.out) }
+{
     let sim = Sim::new(alloc, design, order)?;
-    let mut shell = ReplayMachines::new(alloc, sim, &map)?;
-    replay_run::replay(alloc, &mut shell, &map, bytes, cycles)
+    replay_block(alloc, sim, map, bytes, cycles)
+}
+
+/// Replays the trace of these bytes on a block.
+#[tactic(auto, using(crate::proofs::PortNets::port_nets))]
+fn replay_block<B: Block + Drop>(
+    alloc: Global,
+    block: B,
+    map: &Map,
+    bytes: &[u8],
+    cycles: u32,
+) -> Result<Replayed, Memory>
+    requires lawful { IsLawful (B.design block) }
+    requires mapped { IsMapOf (B.design block) map.now }
+    requires trace { (t : OneTrace) × Encodes t bytes.now × (t.channels ≡ map.now.channels) }
+    requires few { cycles ≤ MOST_CYCLES }
+    ensures { IfOk result (λ r. (t : OneTrace) → Encodes t bytes.now → (rows : List OneRow)
+        × EndsAs (B.design block) map.now t.packets cycles rows r.outcome × Encodes (trace_of map.now.channels rows) r.out) }
+{
+    let mut shell = ReplayMachines::new(alloc, block, map)?;
+    replay_run::replay(alloc, &mut shell, map, bytes, cycles)
 }
 
 /// The answer of an outcome, where the trace of the replay has these bytes.

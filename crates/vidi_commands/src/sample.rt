@@ -18,13 +18,13 @@ ghost use Rattle.vidi_commands.specs.Sampled.{AreShort, HasTrace, IsTraceOf, IsU
 ghost use Rattle.vidi_commands.specs.Samples.{IsSampleReplay, IsSampleSaid, IsSampleVerdict, IsTraced, IsUntraced, Samples, SamplesFiles, SamplesReplay};
 ghost use Rattle.vidi_bench.specs.Steps.{IsSaid};
 
-use crate::compare::diverged_text;
 use crate::recording::{Planned, plan_texts, record_sim};
 use crate::replay::{self, decoded, played, trace_over, unstable};
 use replay_run::{ReplayOutcome, Replayed};
 use report_text::{put, put_number};
 use sample_gen::Sample;
 use std::alloc::Global;
+use trace_commands::diverged_text;
 use trace_compare::Report;
 use trace_model::{Channels, Trace};
 use vidi_bench::{Answer, Bench, Device, Ended, Status, Texts, device_of, with_bytes};

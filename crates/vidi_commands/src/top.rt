@@ -11,17 +11,15 @@ ghost use Rattle.vidi_commands.specs.Said as said;
 
 use crate::check::check;
 use crate::command::Command;
-use crate::compare::compare;
-use crate::dump::dump;
 use crate::recording::record;
 use crate::replay::replay;
 use crate::run::run;
-use crate::salvage::salvage;
 use crate::sample::sample;
-use crate::wrap::wrap;
 use std::alloc::Global;
+use trace_commands::{compare, dump, salvage};
 use vidi_bench::{Answer, Ended, Status, usage};
 use vidi_io::{Failed, Shelf, Sink, Words};
+use wrap_command::wrap;
 
 /// Does what the words ask for: reads and writes files of the shelf, and says its text to `out`.
 ///

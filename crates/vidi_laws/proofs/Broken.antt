@@ -19,7 +19,7 @@ use Rattle.report_text.specs.declared.reason.Word.TheVariants as words
 use Rattle.vidi_bench.specs.declared.status.Status.{Status}
 use Rattle.vidi_bench.specs.Reading.{IsRead}
 use Rattle.vidi_commands.specs.Said.{salvaged_line}
-use Rattle.vidi_commands.specs.Traces.{trace_limit, IsHeaderless, Saves}
+use Rattle.trace_commands.specs.Traces.{trace_limit, IsHeaderless, Saves}
 use Rattle.vidi_laws.specs.Headline.{BrokenRecordingIsSalvaged, IsBrokenOff, KeepsWhole, SalvagedTraceIsReplayable}
 use Rattle.vidi_laws.proofs.Headline.{read-there, recorded-short, replayable-there, run-kept}
 use Rattle.vidi_laws.proofs.OneEnding.{one-read, reading-apart}

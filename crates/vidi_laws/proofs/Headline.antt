@@ -19,7 +19,7 @@ use Rattle.vidi_bench.specs.Reading.{IsRead}
 use Rattle.vidi_bench.specs.declared.bench.Bench.{Bench}
 use Rattle.vidi_commands.specs.Records.{course_of, IsPlanned}
 use Rattle.vidi_commands.specs.Replays.{IsReplayable}
-use Rattle.vidi_commands.specs.Traces.{trace_limit}
+use Rattle.trace_commands.specs.Traces.{trace_limit}
 use Rattle.vidi_laws.specs.Headline.{RecordedRunIsKept, RecordedTraceIsReplayable, RecordedTraceIsShort, DrainedRecordingIsTheRun, WidePlanDrains}
 use Rattle.vidi_laws.specs.Headline.{RecordingHidesNoGate, PrintedRunKeepsContents}
 

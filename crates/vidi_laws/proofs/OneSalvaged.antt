@@ -14,7 +14,7 @@ use Rattle.vidi_bench.specs.declared.status.Status.{Status}
 use Rattle.vidi_bench.specs.declared.status.Status.TheVariants.{Refused}
 use Rattle.report_text.specs.Reason.{reason_line}
 use Rattle.vidi_commands.specs.Said.{salvaged_line}
-use Rattle.vidi_commands.specs.Traces.{trace_limit, IsUnsaved, IsWhole, Saves}
+use Rattle.trace_commands.specs.Traces.{trace_limit, IsUnsaved, IsWhole, Saves}
 use Rattle.vidi_laws.proofs.OneEnding.{One, one-said, one-unread, unread-read, one-read}
 
 one-unsaved : (trace : List ℕ) (files : Files) → One (IsUnsaved trace (Some files) (λ _. ⊥))

@@ -16,7 +16,7 @@ use Rattle.report_text.specs.Reason.{reason_line}
 use Rattle.vidi_bench.specs.Reading.{Reading}
 use Rattle.vidi_commands.specs.Said.{dump_text, no_divergence_line, diverged_text}
 use Rattle.vidi_bench.specs.Steps.{Ending, IsRefusal, IsSaid}
-use Rattle.vidi_commands.specs.Traces.{trace_limit, IsNoTrace, Decoding, Dumps, HasOtherChannels, IsVerdict, Compared, ComparedFiles, Compares}
+use Rattle.trace_commands.specs.Traces.{trace_limit, IsNoTrace, Decoding, Dumps, HasOtherChannels, IsVerdict, Compared, ComparedFiles, Compares}
 use Rattle.vidi_laws.proofs.OneEnding.{Same, One, one-said, one-step-by, one-reading}
 
 -- two tables have one first difference

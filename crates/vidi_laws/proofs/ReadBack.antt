@@ -7,7 +7,7 @@ use Rattle.vlog_tree.specs.Lines.{bare}
 use Rattle.vlog_parse.specs.Parsing.{IsFileOf, LinedFilesAreFiles, OneFile}
 use Rattle.shim_trees.specs.Wrapped.{wrapped}
 use Rattle.vidi_bench.specs.Design.{Spells}
-use Rattle.vidi_commands.specs.Shims.{file_text, IsReadAs}
+use Rattle.wrap_command.specs.Shims.{file_text, IsReadAs}
 use Rattle.vidi_laws.specs.Headline.{WrappedIsReadBack}
 
 same-tree : OneReading → OneFile → LinedFilesAreFiles → (text : List ℕ) (w g : FileOf ℕ) → IsReadAs text w → Spells text g

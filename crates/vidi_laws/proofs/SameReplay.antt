@@ -31,7 +31,7 @@ use Rattle.vidi_bench.specs.Devices.{IsDevice}
 use Rattle.vidi_bench.specs.Reading.{Reading}
 use Rattle.vidi_commands.specs.Replays.{IsReplayable, IsReplaySaid, IsUnreplayed, RefusedReplay, RefusedTrace, Replays, ReplaysTrace}
 use Rattle.vidi_commands.specs.Said.{replayed_line, unstable_line}
-use Rattle.vidi_commands.specs.Traces.{trace_limit, HasOtherChannels}
+use Rattle.trace_commands.specs.Traces.{trace_limit, HasOtherChannels}
 use Rattle.vidi_laws.proofs.OneEnding.{One, OneBy, one-said, one-read, one-reading-by, reading-apart}
 use Rattle.vidi_laws.proofs.OneCheck.{Alike, alike}
 use Rattle.vidi_laws.proofs.OneTraces.{one-decoding, one-other, one-verdict}

@@ -23,10 +23,10 @@ use Rattle.vidi_bench.specs.Devices.{IsDevice, Mapping}
 use Rattle.vidi_bench.specs.Reading.{Reading}
 use Rattle.vidi_commands.specs.Said.{wrapped_line}
 use Rattle.vlog_elab.specs.Errors.{number_of}
-use Rattle.vidi_commands.specs.Shims.{file_text, IsClearTop, IsClearTree, IsDeepTree, IsFaulty}
-use Rattle.vidi_commands.specs.Shims.{IsFaultyTop, IsFaultyTree, IsRefusedTop, IsUnwrapped, IsWrapped}
+use Rattle.wrap_command.specs.Shims.{file_text, IsClearTop, IsClearTree, IsDeepTree, IsFaulty}
+use Rattle.wrap_command.specs.Shims.{IsFaultyTop, IsFaultyTree, IsRefusedTop, IsUnwrapped, IsWrapped}
 use Rattle.vidi_bench.specs.Steps.{IsRefusal}
-use Rattle.vidi_commands.specs.Wraps.{IsUnwritten, IsWrappable, IsWrapping, RefusedWrap, Wraps, WrapsFile}
+use Rattle.wrap_command.specs.Wraps.{IsUnwritten, IsWrappable, IsWrapping, RefusedWrap, Wraps, WrapsFile}
 use Rattle.vidi_laws.proofs.OneEnding.{One, OneBy, one-said, one-read, one-reading-by, reading-apart}
 use Rattle.vidi_laws.proofs.OneCheck.{TextLaws, Alike, alike, one-spelled, one-spelling, text-apart}
 use Rattle.vidi_laws.proofs.OneRefusal.{one_refusal, refused_clear}

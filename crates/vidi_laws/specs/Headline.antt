@@ -45,10 +45,10 @@ use Rattle.vidi_bench.specs.declared.status.Status.TheVariants.{Done}
 use Rattle.vidi_bench.specs.Steps.{IsSaid}
 use Rattle.vidi_commands.specs.Records.{course_of, IsPlanned}
 use Rattle.vidi_commands.specs.Replays.{IsReplayable, IsTheReplay}
-use Rattle.vidi_commands.specs.Shims.{file_text}
+use Rattle.wrap_command.specs.Shims.{file_text}
 use Rattle.vidi_commands.specs.Said.{salvaged_line}
-use Rattle.vidi_commands.specs.Traces.{trace_limit, Saves}
-use Rattle.vidi_commands.specs.Wraps.{IsWrappable}
+use Rattle.trace_commands.specs.Traces.{trace_limit, Saves}
+use Rattle.wrap_command.specs.Wraps.{IsWrappable}
 
 -- Whatever the accepted design, script and store stalls, the trace of the run holds each channel's started and completed transactions,
 -- with contents, once and in order, and has an encoding.
@@ -93,6 +93,7 @@ BrokenRecordingIsSalvaged = (design map script stalls : List ℕ) (files : Optio
     → KeepsWhole (trace_of b.device.map.channels rows) bytes out now status text left
 
 -- `replay` accepts what `salvage` leaves of it, the encoding of its first packets, where the files of the design and the map are those
+-- that were recorded
 abbrev pub SalvagedTraceIsReplayable : Type 0
 SalvagedTraceIsReplayable = (design map script stalls : List ℕ) (files : Files) (b : Bench) (plan : Stalls)
     → IsPlanned design map script stalls (Some files) b plan → (rows : List Row) (stop : Option ℕ) → IsTheRunOf (course_of b plan) rows stop

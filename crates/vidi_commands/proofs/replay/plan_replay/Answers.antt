@@ -7,7 +7,7 @@ use Rattle.vidi_bench.specs.Devices.{IsDevice}
 use Rattle.vidi_bench.specs.Ended.{EndsWith}
 use Rattle.vidi_bench.specs.Reading.{IsUnread}
 use Rattle.vidi_commands.specs.Replays.{IsUnreplayed, RefusedReplay}
-use Rattle.vidi_commands.specs.Traces.{trace_limit}
+use Rattle.trace_commands.specs.Traces.{trace_limit}
 use Rattle.vidi_bench.proofs.Chain.{all-as, passed-as, read-as, rose-since, unread-as}
 use Rattle.vidi_commands.proofs.Replayed.{bytes-encode, replayable-said}
 use Rattle.vidi_commands.proofs.replay.plan_replay.Goals as goal

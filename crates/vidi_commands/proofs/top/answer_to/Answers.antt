@@ -7,8 +7,8 @@ use Rattle.vidi_commands.specs.Records.{Records, StopsRecording}
 use Rattle.vidi_commands.specs.Replays.{Replays, StopsReplaying}
 use Rattle.vidi_commands.specs.Runs.{Runs}
 use Rattle.vidi_commands.specs.Samples.{Samples}
-use Rattle.vidi_commands.specs.Traces.{Compares, Dumps, Saves, StopsSaving}
-use Rattle.vidi_commands.specs.Wraps.{StopsWrapping, Wraps}
+use Rattle.trace_commands.specs.Traces.{Compares, Dumps, Saves, StopsSaving}
+use Rattle.wrap_command.specs.Wraps.{StopsWrapping, Wraps}
 use Rattle.vidi_bench.proofs.Chain.{owed, owed-as}
 use Rattle.vidi_commands.proofs.top.answer_to.Goals as goal
 

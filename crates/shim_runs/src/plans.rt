@@ -1,0 +1,104 @@
+//! Plans of recordings, and recordings by a shell.
+
+ghost use Rattle.std.specs.Prelude.{◌≡◌, ◌≤◌, [], IfOk, length};
+ghost use Rattle.trace_model.specs.Channel.{IsTable};
+ghost use Rattle.script_text.specs.declared.script.TheConstants.{MOST_CYCLES};
+ghost use Rattle.script_text.specs.Fits.{FitsChannels};
+ghost use Rattle.room_ledger.specs.Ledger.{fresh};
+ghost use Rattle.vidi_recorder.specs.Course.{sizes_of};
+
+use crate::ended::Ended;
+use crate::texts::bytes_in;
+use chan_map::Map;
+use chan_monitor::Shell;
+use env_script::{Env, ScriptEnv, read_script, read_stalls};
+use room_ledger::Room;
+use script_text::{Script, Stalls};
+use std::alloc::Global;
+use trace_model::Channels;
+use vidi_io::{MemSink, Shelf};
+use vidi_recorder::{Outcome, record_run};
+
+/// A script and a plan of stalls.
+#[derive(Drop)]
+pub struct Plan {
+    pub script: Script,
+    pub stalls: Stalls,
+}
+
+/// The script of these lines, over a map's channels.
+fn script_of(alloc: Global, lines: &[u8], map: &Map) -> Result<Script, Ended>
+    requires { length lines.now ≤ 4194304 }
+    ensures { IfOk result (FitsChannels map.now.channels) }
+{
+    match read_script(alloc, lines, map) {
+        Ok(script) => Ok(script),
+        Err(error) => Err(Ended::from(error)),
+    }
+}
+
+/// What the files of a script and of stalls say.
+pub fn plan_in<S: Shelf>(
+    alloc: Global,
+    shelf: &mut S,
+    map: &Map,
+    script: &str,
+    stalls: &str,
+) -> Result<Plan, Ended>
+    ensures { IfOk result (λ plan. FitsChannels map.now.channels plan.script) }
+{
+    let lines = bytes_in(alloc, shelf, script)?;
+    let script = script_of(alloc, lines.as_slice(), map)?;
+    let lines = bytes_in(alloc, shelf, stalls)?;
+    let stalls = read_stalls(alloc, lines.as_slice())?;
+    Ok(Plan { script, stalls })
+}
+
+/// A new store of these stalls.
+fn room_of(alloc: Global, channels: &Channels, stalls: &Stalls) -> Result<Room, Ended>
+    requires { IsTable channels.now }
+    ensures { IfOk result (λ room. room ≡ fresh (sizes_of channels.now) stalls.now.capacity) }
+{
+    match Room::new(alloc, channels, stalls.capacity()) {
+        Ok(room) => Ok(room),
+        Err(error) => Err(Ended::from(error)),
+    }
+}
+
+/// The environment of a script, before its first row.
+fn env_of<'a>(alloc: Global, script: &'a Script, map: &'a Map) -> Result<ScriptEnv<'a>, Ended>
+    requires { FitsChannels map.now.channels script.now }
+    ensures channels { IfOk result (λ env. ⟦<ScriptEnv<'static> as Env>⟧.channels env ≡ map.now.channels) }
+    ensures rows { IfOk result (λ env. ⟦<ScriptEnv<'static> as Env>⟧.stands_for env []) }
+{
+    Ok(ScriptEnv::new(alloc, script, map)?)
+}
+
+/// Records so many cycles of a shell under a plan.
+pub fn recorded<S: Shell>(
+    alloc: Global,
+    shell: &mut S,
+    map: &Map,
+    plan: &Plan,
+    cycles: u32,
+    sink: &mut MemSink,
+) -> Result<Outcome, Ended>
+    requires table { IsTable map.now.channels }
+    requires mapped { S.map shell.old ≡ map.now }
+    requires fits { FitsChannels map.now.channels plan.now.script }
+    requires some { 1 ≤ cycles }
+    requires few { cycles ≤ MOST_CYCLES }
+{
+    let room = room_of(alloc, &map.channels, &plan.stalls)?;
+    let mut env = env_of(alloc, &plan.script, map)?;
+    Ok(record_run(
+        alloc,
+        shell,
+        map,
+        &mut env,
+        &plan.stalls,
+        room,
+        cycles,
+        sink,
+    )?)
+}

@@ -1,0 +1,2 @@
+pub mod QuietTraces
+pub mod Saved

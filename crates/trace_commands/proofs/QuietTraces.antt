@@ -1,0 +1,66 @@
+-- The commands on traces: no failed write among their answers, and the same where no read failed.
+use Rattle.std.proofs.Common.{◌≡◌, ℕ, List, Option, inl, inr}
+use Rattle.trace_model.specs.declared.trace.Trace.{Trace}
+use Rattle.trace_code.specs.Encoding.{Encodes}
+use Rattle.vidi_io.specs.Shelf.{Files}
+use Rattle.report_text.specs.declared.reason.Word.{Word}
+use Rattle.report_text.specs.declared.reason.Word.TheVariants as words
+use Rattle.report_text.specs.declared.reason.Reason.TheVariants.{BadTrace, OtherChannels}
+use Rattle.vidi_bench.specs.declared.status.Status.{Status}
+use Rattle.vidi_bench.specs.declared.status.Status.TheVariants.{Done, WriteFault, Diverged}
+use Rattle.vidi_bench.specs.Reading.{Reading}
+use Rattle.trace_commands.specs.Said.{dump_text, no_divergence_line}
+use Rattle.vidi_bench.specs.Steps.{Ending, IsSaid}
+use Rattle.trace_commands.specs.Traces.{trace_limit, IsNoTrace, Decoding, Dumps, IsVerdict, Compared, ComparedFiles, Compares, IsHeaderless, Saves}
+use Rattle.vidi_bench.proofs.Chain.{Implies}
+use Rattle.vidi_bench.proofs.Quiet.{Mute, mute-step, mute-reading, mute-refusal, mute-said, done-goes, quiet-reading}
+
+-- ---- no failed write
+mute-no_trace : (word : Word) (file : List ℕ) → Mute (IsNoTrace word file)
+mute-no_trace word file x (at, fault, none, s) = mute-refusal word (BadTrace at) x s
+
+pub mute-decoding : (word : Word) (file : List ℕ) (Next : Trace → Ending) → ((t : Trace) → Mute (Next t)) → Mute (Decoding word file Next)
+mute-decoding word file Next mute = mute-step (IsNoTrace word file) (λ (t : Trace). Encodes t file) Next (mute-no_trace word file) mute
+
+pub mute-dumps : (trace : List ℕ) (files : Option Files) (F : List ℕ → Type 0) → Mute (Dumps trace files F)
+mute-dumps trace files F = mute-reading trace_limit words.Trace trace files F
+    (λ file. Decoding words.Trace file (λ t. IsSaid Done (dump_text t)))
+    (λ file. mute-decoding words.Trace file (λ t. IsSaid Done (dump_text t)) (λ t. mute-said Done (dump_text t) done-goes))
+
+pub mute-verdict : (line : List ℕ) (t u : Trace) → Mute (IsVerdict line t u)
+mute-verdict line t u x (inl (none, s)) = let e : WriteFault ≡ Done = s.0 in cc
+mute-verdict line t u x (inr (some, s)) = let e : WriteFault ≡ Diverged = s.0 in cc
+
+mute-compared : (t u : Trace) → Mute (Compared t u)
+mute-compared t u x (inl (at, same, other, s)) = mute-refusal words.Other (OtherChannels at) x s
+mute-compared t u x (inr (equal, v)) = mute-verdict no_divergence_line t u x v
+
+pub mute-compares : (trace other : List ℕ) (files : Option Files) (F : List ℕ → Type 0) → Mute (Compares trace other files F)
+mute-compares trace other files F = mute-reading trace_limit words.Trace trace files F
+    (λ first. Reading trace_limit words.Other other files F (ComparedFiles first))
+    (λ first. mute-reading trace_limit words.Other other files F (ComparedFiles first)
+    (λ second. mute-decoding words.Trace first (λ t. Decoding words.Other second (Compared t))
+    (λ t. mute-decoding words.Other second (Compared t) (mute-compared t))))
+
+pub mute-saves : (trace out : List ℕ) (files : Option Files) (F : List ℕ → Type 0) (x : List ℕ) (left : Option Files)
+    → Saves trace out files F WriteFault x left → ⊥
+mute-saves trace out files F x left (inl (unsaved, same)) =
+    mute-reading trace_limit words.Trace trace files F IsHeaderless (λ file y (none, s). mute-refusal words.Trace (BadTrace 0) y s) x unsaved
+mute-saves trace out files F x left (inr (t, whole, s, same)) = let e : WriteFault ≡ Done = s.0 in cc
+
+-- ---- where no read failed
+pub quiet-dumps : (trace : List ℕ) (files : Option Files) (F : List ℕ → Type 0) → ((name : List ℕ) → ¬ F name)
+    → Implies (Dumps trace files F) (Dumps trace files (λ _. ⊥))
+quiet-dumps trace files F quiet = quiet-reading trace_limit words.Trace trace files F _ _ (quiet trace) (λ file a x rest. rest)
+
+pub quiet-compares : (trace other : List ℕ) (files : Option Files) (F : List ℕ → Type 0) → ((name : List ℕ) → ¬ F name)
+    → Implies (Compares trace other files F) (Compares trace other files (λ _. ⊥))
+quiet-compares trace other files F quiet = quiet-reading trace_limit words.Trace trace files F _ _ (quiet trace)
+    (λ first. quiet-reading trace_limit words.Other other files F (ComparedFiles first) (ComparedFiles first) (quiet other)
+    (λ second a x rest. rest))
+
+pub quiet-saves : (trace out : List ℕ) (files : Option Files) (F : List ℕ → Type 0) (a : Status) (x : List ℕ) (left : Option Files)
+    → ((name : List ℕ) → ¬ F name) → Saves trace out files F a x left → Saves trace out files (λ _. ⊥) a x left
+quiet-saves trace out files F a x left quiet (inl (unsaved, same)) =
+    inl (quiet-reading trace_limit words.Trace trace files F IsHeaderless IsHeaderless (quiet trace) (λ file b y rest. rest) a x unsaved, same)
+quiet-saves trace out files F a x left quiet (inr saved) = inr saved

@@ -1,0 +1,48 @@
+-- From what is whole of a trace to the answer of `salvage`.
+use Rattle.std.proofs.Common.{◌≡◌, ℕ, List, ◌++◌, Option, Result, Ok, Err, inr, ap, subst, ◌∙◌}
+use Rattle.std.specs.Prelude.{IfOk, IfErr, take}
+use Rattle.trace_code.specs.declared.salvaging.Whole.{Whole}
+use Rattle.trace_code.specs.Encoding.{end_mark}
+use Rattle.trace_code.specs.Salvage.{SalvagesFront}
+use Rattle.vidi_io.specs.Shelf.{Files, holding}
+use Rattle.vidi_io.specs.Writing.{IsCutOff}
+use Rattle.vidi_io.proofs.Cut.{cut-knowing}
+use Rattle.vidi_bench.specs.declared.answer.Answer.{Answer}
+use Rattle.vidi_bench.specs.declared.answer.Ended.{Ended}
+use Rattle.vidi_bench.specs.declared.answer.Ended.TheVariants as ends
+use Rattle.vidi_bench.specs.declared.status.Status.TheVariants.{Done}
+use Rattle.vidi_bench.specs.AnswerText.{text_of}
+use Rattle.vidi_bench.specs.Ended.{IsStopped, Owes}
+use Rattle.vidi_bench.specs.Reading.{IsRead}
+use Rattle.trace_commands.specs.Said.{salvaged_line}
+use Rattle.vidi_bench.specs.Steps.{IsSaid}
+use Rattle.trace_commands.specs.Traces.{trace_limit, Saves, StopsSaving}
+
+-- the front of the file that is whole, with an end mark
+abbrev ended_front : List ℕ → Whole → List ℕ
+ended_front file whole = take whole.len file ++ end_mark whole.packets
+
+pub saved-owed : (trace out : List ℕ) (files now left : Option Files) (F : List ℕ → Type 0) (file : List ℕ) (whole : Whole) (V W X Y : Type 0)
+    (r : Result Answer Ended) → IsRead trace_limit trace files file → SalvagesFront file (Ok whole) → now ≡ files → (V → W) → (X → Y)
+    → IfOk r (λ a. IsSaid Done (salvaged_line whole.packets) a.status (text_of a.text))
+    → IfOk r (λ a. left ≡ holding now out (ended_front file whole))
+    → IfErr r (IsStopped (IsCutOff now out (ended_front file whole) X) V now left)
+    → Owes (Saves trace out files F) (StopsSaving trace out files Y) W files left r
+saved-owed trace out files now left F file whole V W X Y (Ok a) read (t, front) same why kept said holds stopped = inr (
+  t,
+  (file, read, front.salvaged),
+  (said.0, said.1 ∙ ap (λ (n : ℕ). salvaged_line n) front.packets),
+  holds ∙ ap (λ (fs : Option Files). holding fs out (ended_front file whole)) same ∙ ap (λ (b : List ℕ). holding files out b) front.encoded,
+)
+saved-owed trace out files now left F file whole V W X Y (Err (ends.Refused a)) read front same why kept said holds stopped = absurd stopped
+saved-owed trace out files now left F file whole V W X Y (Err ends.WriteFault) read (t, front) same why kept said holds (failed, cut) = (
+  why failed,
+  (
+    t,
+    (file, read, front.salvaged),
+    subst (λ (b : List ℕ). IsCutOff files out b Y left) front.encoded
+        (subst (λ (fs : Option Files). IsCutOff fs out (ended_front file whole) Y left) same
+        (cut-knowing now left out (ended_front file whole) X Y kept cut)),
+  ),
+)
+saved-owed trace out files now left F file whole V W X Y (Err ends.Memory) read front same why kept said holds stays = stays ∙ same

@@ -1,0 +1,53 @@
+use Rattle.std.proofs.Common.{◌≡◌, ℕ, List, Ok, inl, inr, ◌∙◌}
+use Rattle.vidi_io.specs.Cause.{Rose}
+use Rattle.report_text.specs.declared.reason.Word.TheVariants as words
+use Rattle.trace_code.specs.Salvage.{SalvagesFront}
+use Rattle.vidi_bench.specs.Ended.{EndsWith}
+use Rattle.vidi_bench.specs.Reading.{IsUnread}
+use Rattle.trace_commands.specs.Traces.{trace_limit, IsHeaderless, Saves, StopsSaving}
+use Rattle.vidi_bench.proofs.Chain.{passed-owed, rose-since}
+use Rattle.trace_commands.proofs.Saved.{saved-owed}
+use Rattle.trace_commands.proofs.salvaging.salvage.Goals as goal
+
+pub returns-in_err-file-clause-owed : goal.returns-in_err-file-clause-owed
+returns-in_err-file-clause-owed g c =
+    let S = g.S.Shelf in
+    let files = S.files c.args.shelf.now in
+    let F = λ (name : List ℕ). Rose (S.read_faults c.args.shelf.now name) (S.read_faults c.read_file.new.shelf name) in
+    let trace = c.args.trace.now in
+    let out = c.args.out.now in
+    passed-owed (IsUnread trace_limit words.Trace trace files F) (Saves trace out files F) (StopsSaving trace out files (S.starts c.read_file.new.shelf ≡ S.starts c.args.shelf.now))
+    (Rose (S.write_faults c.args.shelf.now) (S.write_faults c.read_file.new.shelf)) files (S.files c.read_file.new.shelf)
+    c.in_err-file.field-0.0 c.from_residual.result c.from_residual.ensures.1 c.read_file.ensures.files
+    (λ a x is. inl (inl is, c.read_file.ensures.files)) c.in_err-file.ensures.refused
+
+pub returns-in_err-whole-clause-owed : goal.returns-in_err-whole-clause-owed
+returns-in_err-whole-clause-owed g c =
+    let S = g.S.Shelf in
+    let files = S.files c.args.shelf.now in
+    let F = λ (name : List ℕ). Rose (S.read_faults c.args.shelf.now name) (S.read_faults c.read_file.new.shelf name) in
+    let trace = c.args.trace.now in
+    let out = c.args.out.now in
+    let file = c.in_ok-file.file in
+    let e = c.in_err-whole.field-0.0 in
+    let refused : EndsWith (IsHeaderless file) e = rw c.as_slice.ensures at c.in_err-whole.ensures.refused in
+    passed-owed (IsHeaderless file) (Saves trace out files F) (StopsSaving trace out files (S.starts c.read_file.new.shelf ≡ S.starts c.args.shelf.now))
+    (Rose (S.write_faults c.args.shelf.now) (S.write_faults c.read_file.new.shelf)) files (S.files c.read_file.new.shelf)
+    e c.from_residual-in_err-whole.result c.from_residual-in_err-whole.ensures.1 c.read_file.ensures.files
+    (λ a x is. inl (inr (file, c.in_ok-file.ensures.read, is), c.read_file.ensures.files)) refused
+
+pub returns-clause-owed : goal.returns-clause-owed
+returns-clause-owed g c =
+    let S = g.S.Shelf in
+    let files = S.files c.args.shelf.now in
+    let F = λ (name : List ℕ). Rose (S.read_faults c.args.shelf.now name) (S.read_faults c.saved.new.shelf name) in
+    let old = S.write_faults c.args.shelf.now in
+    let middle = S.write_faults c.read_file.new.shelf in
+    let now = S.write_faults c.saved.new.shelf in
+    let whole : SalvagesFront c.in_ok-file.file (Ok c.in_ok-whole.whole) = rw c.as_slice.ensures at c.in_ok-whole.ensures.whole in
+    saved-owed c.args.trace.now c.args.out.now files (S.files c.read_file.new.shelf) (S.files c.saved.new.shelf) F c.in_ok-file.file
+    c.in_ok-whole.whole (Rose middle now) (Rose old now)
+    (S.starts c.saved.new.shelf ≡ S.starts c.read_file.new.shelf) (S.starts c.saved.new.shelf ≡ S.starts c.args.shelf.now)
+    c.saved.result c.in_ok-file.ensures.read whole c.read_file.ensures.files
+    (λ rose. rose-since old middle now c.read_file.ensures.counts.writes rose) (λ same. same ∙ c.read_file.ensures.starts)
+    c.saved.ensures.done c.saved.ensures.files c.saved.ensures.stopped

@@ -1,0 +1,83 @@
+-- What the commands on traces owe: each step of them in its order.
+use Rattle.std.specs.Prelude.{◌≡◌, ◌≢◌, ℕ, ◌⊎◌, List, [], Option, Ok, length, take, slice_get}
+use Rattle.trace_model.specs.declared.channel.Channel.{Channel}
+use Rattle.trace_model.specs.declared.trace.Trace.{Trace}
+use Rattle.trace_code.specs.Decoding.{IsFaultAt, HasNoHeader}
+use Rattle.trace_code.specs.Encoding.{Encodes, encode}
+use Rattle.trace_code.specs.Salvage.{Salvages}
+use Rattle.trace_compare.specs.Findings.{findings}
+use Rattle.vidi_io.specs.Shelf.{Files, holding}
+use Rattle.vidi_io.specs.Writing.{IsCutOff}
+use Rattle.report_text.specs.declared.reason.Word.{Word}
+use Rattle.report_text.specs.declared.reason.Word.TheVariants as words
+use Rattle.report_text.specs.declared.reason.Reason.TheVariants.{BadTrace, OtherChannels}
+use Rattle.trace_code.specs.declared.decoding.TheConstants.{TRACE_LIMIT}
+use Rattle.vidi_bench.specs.declared.status.Status.{Status}
+use Rattle.vidi_bench.specs.declared.status.Status.TheVariants.{Done, Diverged}
+use Rattle.trace_commands.specs.Said.{dump_text, no_divergence_line, diverged_text, salvaged_line}
+use Rattle.vidi_bench.specs.Reading.{IsRead, Reading}
+use Rattle.vidi_bench.specs.Steps.{Ending, IsSaid, IsRefusal, Step}
+
+-- the longest trace file, in bytes
+abbrev pub trace_limit : ℕ
+trace_limit = TRACE_LIMIT
+
+-- the bytes encode no trace
+abbrev pub IsNoTrace : Word → List ℕ → Ending
+IsNoTrace word file status text =
+    (at : ℕ) × IsFaultAt file at × ((t : Trace) → ¬ Encodes t file) × IsRefusal word (BadTrace at) status text
+
+-- the bytes of this word's file encode a trace, and this comes of it
+abbrev pub Decoding : Word → List ℕ → (Trace → Ending) → Ending
+Decoding word file Next = Step (IsNoTrace word file) (λ t. Encodes t file) Next
+
+-- ---- `dump TRACE`
+abbrev pub Dumps : List ℕ → Option Files → (List ℕ → Type 0) → Ending
+Dumps trace files ReadFailed = Reading trace_limit words.Trace trace files ReadFailed
+    (λ file. Decoding words.Trace file (λ t. IsSaid Done (dump_text t)))
+
+-- ---- `compare TRACE OTHER`
+-- there are other channels in the file of this word, first at this place
+abbrev pub HasOtherChannels : Word → List Channel → List Channel → Ending
+HasOtherChannels word channels others status text = (at : ℕ) × (take at channels ≡ take at others)
+    × (slice_get channels at ≢ slice_get others at) × IsRefusal word (OtherChannels at) status text
+
+-- the second trace has no findings against the first, and this line is said; or it has some, and they are said
+abbrev pub IsVerdict : List ℕ → Trace → Trace → Ending
+IsVerdict line t u status text = ((findings t u ≡ []) × IsSaid Done line status text)
+    ⊎ ((findings t u ≢ []) × IsSaid Diverged (diverged_text (findings t u) t.channels) status text)
+
+abbrev pub Compared : Trace → Trace → Ending
+Compared t u status text = HasOtherChannels words.Other t.channels u.channels status text
+    ⊎ ((t.channels ≡ u.channels) × IsVerdict no_divergence_line t u status text)
+
+-- the bytes of two files
+abbrev pub ComparedFiles : List ℕ → List ℕ → Ending
+ComparedFiles first second = Decoding words.Trace first (λ t. Decoding words.Other second (Compared t))
+
+abbrev pub Compares : List ℕ → List ℕ → Option Files → (List ℕ → Type 0) → Ending
+Compares trace other files ReadFailed =
+    Reading trace_limit words.Trace trace files ReadFailed (λ first.
+    Reading trace_limit words.Other other files ReadFailed (ComparedFiles first))
+
+-- ---- `salvage TRACE OUT`
+abbrev pub IsHeaderless : List ℕ → Ending
+IsHeaderless file status text = HasNoHeader file × IsRefusal words.Trace (BadTrace 0) status text
+
+-- the file isn't read, or no lawful header begins it
+abbrev pub IsUnsaved : List ℕ → Option Files → (List ℕ → Type 0) → Ending
+IsUnsaved trace files ReadFailed = Reading trace_limit words.Trace trace files ReadFailed IsHeaderless
+
+-- t is what is whole of the file
+abbrev pub IsWhole : List ℕ → Option Files → Trace → Type 0
+IsWhole trace files t = (file : List ℕ) × IsRead trace_limit trace files file × Salvages file (Ok t)
+
+-- what is left of the files: OUT is not started, or holds the encoding of what is whole of the trace
+abbrev pub Saves : List ℕ → List ℕ → Option Files → (List ℕ → Type 0) → Status → List ℕ → Option Files → Type 0
+Saves trace out files ReadFailed status text left = (IsUnsaved trace files ReadFailed status text × (left ≡ files))
+    ⊎ ((t : Trace) × IsWhole trace files t × IsSaid Done (salvaged_line (length t.packets)) status text
+    × (left ≡ holding files out (encode t)))
+
+-- writing OUT was cut off
+abbrev pub StopsSaving : List ℕ → List ℕ → Option Files → Type 0 → Option Files → Type 0
+StopsSaving trace out files Unstarted left = (t : Trace) × IsWhole trace files t × IsCutOff files out (encode t) Unstarted left

@@ -1,0 +1,4 @@
+pub mod Spelled
+pub mod Fitted
+pub mod Written
+pub mod QuietWraps
