@@ -17,7 +17,7 @@ TICKS = os.sysconf("SC_CLK_TCK")
 
 
 def processes():
-    """Each process: its parent, its words and its seconds."""
+    """Each process: its parent, what it works on and its seconds."""
     found = {}
     for entry in os.listdir("/proc"):
         if not entry.isdigit():
@@ -25,20 +25,20 @@ def processes():
         try:
             stat = pathlib.Path("/proc", entry, "stat").read_text()
             words = pathlib.Path("/proc", entry, "cmdline").read_bytes().decode(errors="replace").split("\0")
+            folder = os.readlink(f"/proc/{entry}/cwd")
         except OSError:
             continue
         fields = stat[stat.rindex(")") + 2 :].split()
-        found[int(entry)] = (int(fields[1]), words, sum(map(int, fields[11:15])) / TICKS)
+        found[int(entry)] = (int(fields[1]), label(words, folder), sum(map(int, fields[11:15])) / TICKS)
     return found
 
 
-def label(words):
-    """The crate that a checker's process works on, and why; None for another process."""
+def label(words, folder):
+    """The crate that a checker's process works on, and why; None for another process. An edit is tried in a folder of its own."""
     if not words[0].endswith("/rattle") or "--crate-name" not in words:
         return None
     crate = words[words.index("--crate-name") + 1]
-    text = " ".join(words)
-    if "must-fail" in text or "mustfail" in text or "edit" in text:
+    if "/rt-edit" in folder or "/rt-edit" in " ".join(words):
         return crate, "edits"
     return crate, "tests" if "--test" in words else "proof"
 
@@ -61,9 +61,8 @@ def main():
     begin = time.time()
     while command.poll() is None:
         found = processes()
-        for pid, (parent, words, spent) in found.items():
-            named = label(words)
-            if named is None or (parent in found and label(found[parent][1]) is not None):
+        for pid, (parent, named, spent) in found.items():
+            if named is None or (parent in found and found[parent][1] is not None):
                 continue
             if is_below(found, pid, command.pid):
                 seconds[pid, named] = spent
