@@ -18,3 +18,4 @@ pub mod Replayed
 pub mod Replaying
 pub mod RecordResets
 pub mod ReplayResets
+pub mod OneRow

@@ -2,3 +2,4 @@ pub mod Wrapped
 pub mod Ports
 pub mod Recording
 pub mod Replaying
+pub mod OneRow

@@ -2,6 +2,7 @@
 
 ghost use Rattle.shim_step.specs.Recording.{RecordsRows, RecordsResets, RecordsBegin};
 ghost use Rattle.shim_step.specs.Replaying.{ReplaysRows, ReplaysResets, ReplaysBegin};
+ghost use Rattle.shim_step.specs.OneRow.{OneRecordedRow, OneReplayedRow, OrderedSettleOnce, RecordsEach, ReplaysEach, StatesSettleOnce};
 
 /// In each cycle of a wrapped file with the top that records, whatever the offers and gates on its ports, the outputs show the row that
 /// monitors round the design fill, the design makes its step, and the monitors keep what is in flight. So in reset cycles, with all gates
@@ -19,4 +20,21 @@ pub fn replaying_steps()
     ensures rows { ReplaysRows }
     ensures resets { ReplaysResets }
     ensures begin { ReplaysBegin }
+{}
+
+/// Where a design settles in at most one way, the row that monitors round it fill for given offers and gates, after a given row, is one
+/// row, all of its parts determined, and so is the row that replayers round it fill under a given feed, after given rows. A design with one
+/// settled map settles so in each of its states, and a lawful one whose drivers have an order in whatever state.
+pub fn one_shown_row()
+    ensures recorded { OneRecordedRow }
+    ensures replayed { OneReplayedRow }
+    ensures states { StatesSettleOnce }
+    ensures ordered { OrderedSettleOnce }
+{}
+
+/// So the wrapped file with the top that records shows whatever row monitors round such a design fill, and with the top that replays
+/// whatever row replayers round it fill.
+pub fn shown_rows_stand()
+    ensures records { RecordsEach }
+    ensures replays { ReplaysEach }
 {}

@@ -3,4 +3,4 @@
 
 mod laws;
 
-pub use laws::{recording_steps, replaying_steps};
+pub use laws::{one_shown_row, recording_steps, replaying_steps, shown_rows_stand};
