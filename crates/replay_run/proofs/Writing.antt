@@ -11,6 +11,7 @@ use Rattle.trace_code.specs.Encoding.{encode, end_mark, header_bytes, packet_byt
 use Rattle.trace_code.proofs.RowBytes.{contents_len-widths, contents-least}
 use Rattle.replay_run.specs.Output.{longest, IsWritten}
 use Rattle.replay_run.specs.declared.output.Output.{Output}
+use Rattle.replay_run.specs.declared.output.TheConstants.{END_LEN}
 
 -- ---- a packet is no longer than the longest
 pub packet-most : (channels : List Channel) (starts ends : ℕ) → packet_len channels starts ends ≤ longest channels
@@ -36,7 +37,7 @@ packets-few channels rows = omega (arith, length-map (filter has_event rows) (pa
 pub whole : (n : ℕ) (xs ys : List ℕ) → length xs ≡ n → take n (xs ++ drop (length xs) ys) ≡ xs
 whole n xs ys e = ap (λ k. take k (xs ++ drop (length xs) ys)) (sym e) ∙ take_at xs (drop (length xs) ys) (length xs) refl
 
-pub room-less : (len n less one total : ℕ) → less ≤ n → len + n * one + 5 ≤ total → len + less * one + 5 ≤ total
+pub room-less : (len n less one total : ℕ) → less ≤ n → len + n * one + END_LEN ≤ total → len + less * one + END_LEN ≤ total
 room-less len n less one total l room =
     let rest = n - less in
     let e : n * one ≡ less * one + (n - less) * one = ap (λ k. k * one) (add-less less n l) ∙ omega arith in

@@ -8,6 +8,7 @@ use Rattle.trace_model.specs.Length.{head_len}
 use Rattle.trace_model.specs.Recording.{packets_of}
 use Rattle.trace_code.specs.Encoding.{header_bytes, row_bytes}
 use Rattle.replay_run.specs.declared.output.Output.{Output}
+use Rattle.replay_run.specs.declared.output.TheConstants.{END_LEN}
 
 -- the bytes of the longest packet of these channels, in which all of them start
 abbrev pub longest : List Channel → ℕ
@@ -18,6 +19,6 @@ pub record IsWritten (channels : List Channel) (rows : List Row) (output : Outpu
   pub all : take output.len output.bytes.items ≡ header_bytes channels ++ flat_map (row_bytes channels) rows
   pub count : output.packets ≡ length (packets_of channels rows)
 
--- there is room for the packets of n rows, and for the 5 bytes of the end
+-- there is room for the packets of n rows, and for the bytes of the end
 abbrev pub HasRoomFor : List Channel → ℕ → Output → Type 0
-HasRoomFor channels n output = output.len + n * longest channels + 5 ≤ length output.bytes.items
+HasRoomFor channels n output = output.len + n * longest channels + END_LEN ≤ length output.bytes.items

@@ -15,6 +15,8 @@ mod play;
 mod replaying;
 mod turn;
 
+pub use chan_replayer::{Feed, Needs, ReplayMachines, ReplayShell};
 pub use laws::one_outcome;
 pub use outcome::{ReplayOutcome, Replayed};
 pub use replaying::replay;
+pub use run_model::{Await, Awaits, Held, Helds};

@@ -1,12 +1,14 @@
 //! The trace that a replay writes.
 
-ghost use Rattle.std.specs.Prelude.{◌≡◌, ◌+◌, ◌-◌, ◌^◌, ◌≤◌, ◌<◌, ◌++◌, ◌∷◌, [], ℕ, List, IfOk, All, if◌then◌else◌, length, take};
+ghost use Rattle.std.specs.Prelude.{◌≡◌, ◌+◌, ◌-◌, ◌^◌, ◌≤◌, ◌<◌, ◌++◌, ◌∷◌, [], ℕ, List, IfOk, if◌then◌else◌, length, take};
+ghost use Rattle.trace_model.specs.declared.packet.TheConstants.{LONGEST_PACKET};
 ghost use Rattle.trace_model.specs.declared.channel.Channel.{Channel as OneChannel};
 ghost use Rattle.trace_model.specs.declared.row.Row.{Row as OneRow};
 ghost use Rattle.trace_model.specs.Channel.{content_bytes, IsTable};
 ghost use Rattle.trace_model.specs.Recording.{has_event, trace_of};
 ghost use Rattle.trace_model.specs.Row.{IsOver};
 ghost use Rattle.trace_code.specs.Encoding.{encode, end_mark, row_bytes};
+ghost use Rattle.replay_run.specs.declared.output.TheConstants.{END_LEN};
 ghost use Rattle.replay_run.specs.Output.{longest, HasRoomFor, IsWritten};
 
 use std::alloc::Global;
@@ -19,9 +21,8 @@ const END_LEN: usize = 5;
 
 /// The bytes of a channel's content.
 fn content_len(channel: &Channel) -> usize
-    requires { length channel.now.widths ≤ 16 }
-    ensures small { result ≤ 512 }
-    ensures value { result ≡ content_bytes channel.now }
+    requires { content_bytes channel.now ≤ LONGEST_PACKET }
+    ensures { result ≡ content_bytes channel.now }
 {
     let mut total = 0;
     for width in channel.widths.as_slice() {
@@ -32,10 +33,9 @@ fn content_len(channel: &Channel) -> usize
 
 /// The bytes of the longest packet of these channels, in which all of them start.
 fn longest_packet(channels: &[Channel]) -> usize
-    requires few { length channels.now ≤ 32 }
-    requires ports { All (λ (c : OneChannel). length c.widths ≤ 16) channels.now }
+    requires { IsTable channels.now }
     ensures value { result ≡ longest channels.now }
-    ensures small { result ≤ 16393 }
+    ensures small { result ≤ LONGEST_PACKET }
 {
     let mut total = 1 + 2 * channels.len().div_ceil(8);
     for channel in channels {
@@ -69,9 +69,9 @@ fn write_row(row: &Row, channels: &Channels, out: &mut [u8], len: usize) -> usiz
 
 /// Writes the end of a trace of so many packets behind the first `len` bytes, and gives how many there are then.
 fn write_end(packets: u32, out: &mut [u8], len: usize) -> usize
-    requires room { len + 5 ≤ length out.old }
+    requires room { len + END_LEN ≤ length out.old }
     ensures bytes { take result out.new ≡ take len out.old ++ end_mark packets }
-    ensures place { result ≡ len + 5 }
+    ensures place { result ≡ len + END_LEN }
 {
     let mark = end_mark(packets);
     let after = len + mark.len();
@@ -125,7 +125,7 @@ impl Output {
 
     /// Writes the end, and gives the whole trace.
     pub(crate) fn close(self) -> Bytes
-        requires { self.len + 5 ≤ length self.bytes.items }
+        requires { self.len + END_LEN ≤ length self.bytes.items }
         ensures { (channels : List OneChannel) (rows : List OneRow) → IsWritten channels rows self
             → result ≡ encode (trace_of channels rows) }
     {

@@ -1,4 +1,4 @@
-use Rattle.std.proofs.Common.{◌≡◌, ◌<◌, ◌+◌, length, get_or, inl, ◌∙◌, arith}
+use Rattle.std.proofs.Common.{◌≡◌, ◌<◌, ◌+◌, length, get_or, inl, arith}
 use Rattle.replay_run.proofs.Fills.{needs-here, needs-others}
 use Rattle.replay_run.proofs.feeding.repeat_needs.Goals as goal
 

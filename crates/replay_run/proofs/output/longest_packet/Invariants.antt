@@ -1,10 +1,7 @@
-use Rattle.std.proofs.Common.{◌≡◌, ◌+◌, ◌≤◌, ◌*◌, length, take, sum_by}
+use Rattle.std.proofs.Common.{◌≡◌, ◌+◌, length, take, sum_by}
 use Rattle.trace_model.specs.Channel.{content_bytes}
 use Rattle.trace_model.specs.Length.{head_len}
 use Rattle.replay_run.proofs.output.longest_packet.Given as goal
 
 abbrev pub invariant-loop-channel : goal.invariant-loop-channel
-invariant-loop-channel l = record {
-  value : l.total ≡ head_len (length l.channels) + sum_by content_bytes (take l.channel-index l.channels);
-  small : l.total ≤ 9 + 512 * l.channel-index;
-}
+invariant-loop-channel l = l.total ≡ head_len (length l.channels) + sum_by content_bytes (take l.channel-index l.channels)
