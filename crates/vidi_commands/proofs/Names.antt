@@ -3,15 +3,15 @@ use Rattle.std.proofs.Common.{◌≡◌, ℕ, ◌≤◌, List, [], ◌∷◌, Op
 use Rattle.run_model.proofs.PinLemmas.{all-at}
 use Rattle.trace_model.specs.declared.channel.Channel.{Channel}
 use Rattle.trace_model.specs.Channel.{IsName, IsChannel, IsTable}
-use Rattle.vidi_commands.specs.Said.{name_in, channel_name}
+use Rattle.report_text.specs.Report.{its_name, name_of}
 
 name_short : (name : List ℕ) → IsName name → length name ≤ 64
 name_short [] is = absurd is
 name_short (b ∷ bs) (letter, rest, few) = omega (arith, few)
 
-short_in : (channels : List Channel) → IsTable channels → (c : ℕ) (o : Option Channel) → slice_get channels c ≡ o → length (name_in o) ≤ 64
+short_in : (channels : List Channel) → IsTable channels → (c : ℕ) (o : Option Channel) → slice_get channels c ≡ o → length (its_name o) ≤ 64
 short_in channels table c None at = omega (arith)
 short_in channels table c (Some x) at = let each : IsChannel x = all-at IsChannel channels c x table.each at in name_short x.name each.name
 
-pub short_name : (channels : List Channel) (c : ℕ) → IsTable channels → length (channel_name channels c) ≤ 64
+pub short_name : (channels : List Channel) (c : ℕ) → IsTable channels → length (name_of channels c) ≤ 64
 short_name channels c table = short_in channels table c (slice_get channels c) refl

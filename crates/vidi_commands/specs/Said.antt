@@ -1,5 +1,5 @@
 -- *Said*: the printed texts (this project's profile). Every line ends with a newline, and numbers are decimal.
-use Rattle.std.specs.Prelude.{ℕ, List, [], ◌++◌, length, slice_get, Option, None, Some, codes, decimal}
+use Rattle.std.specs.Prelude.{ℕ, List, ◌++◌, length, codes, decimal}
 use Rattle.std.specs.List.{sum_by}
 use Rattle.trace_model.specs.declared.channel.Channel.{Channel}
 use Rattle.report_text.specs.Text.{newline}
@@ -7,6 +7,7 @@ use Rattle.vlog_tree.specs.Tree.{ModuleOf, FileOf}
 use Rattle.net_design.specs.declared.design.Counts.{Counts}
 use Rattle.vidi_commands.specs.declared.sample.Figures.{Figures}
 pub use Rattle.report_text.specs.Reason.{read_fault_line, reason_line}
+pub use Rattle.report_text.specs.Report.{name_of}
 pub use Rattle.vidi_bench.specs.Usage.{usage_line}
 pub use Rattle.trace_commands.specs.Said.{dump_text, no_divergence_line, diverged_text, salvaged_line}
 pub use Rattle.wrap_command.specs.Said.{wrapped_line}
@@ -53,17 +54,9 @@ sample_figures x = counted (codes "sample ") x.number ++ (counted (codes ": stag
 abbrev pub sample_line : Figures → ℕ → ℕ → List ℕ
 sample_line x packets replay = sample_figures x ++ (counted (codes " packets ") packets ++ (counted (codes " replay ") replay ++ newline))
 
--- the name of channel c
-abbrev pub name_in : Option Channel → List ℕ
-name_in None = []
-name_in (Some x) = x.name
-
-abbrev pub channel_name : List Channel → ℕ → List ℕ
-channel_name channels c = name_in (slice_get channels c)
-
 -- `vidi: unstable CH cycle N`
 abbrev pub unstable_line : List Channel → ℕ → ℕ → List ℕ
-unstable_line channels c t = codes "vidi: unstable " ++ (channel_name channels c ++ (codes " cycle " ++ (decimal t ++ newline)))
+unstable_line channels c t = codes "vidi: unstable " ++ (name_of channels c ++ (codes " cycle " ++ (decimal t ++ newline)))
 
 abbrev pub memory_line : List ℕ
 memory_line = codes "vidi: out of memory" ++ newline

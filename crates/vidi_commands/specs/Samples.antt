@@ -6,6 +6,7 @@ use Rattle.trace_model.specs.Recording.{trace_of}
 use Rattle.trace_code.specs.Encoding.{Encodes, encode}
 use Rattle.trace_compare.specs.Findings.{findings}
 use Rattle.room_ledger.specs.Reservation.{need}
+use Rattle.script_text.specs.declared.script.TheConstants.{MOST_CYCLES}
 use Rattle.script_text.specs.declared.stalls.Stalls.{Stalls}
 use Rattle.script_text.specs.Reasons.{read_lines}
 use Rattle.script_text.specs.Stalls.{ReadsStalls}
@@ -27,7 +28,7 @@ use Rattle.vidi_bench.specs.Steps.{Ending, IsSaid, Step}
 
 -- for at most so many cycles a sample is replayed
 abbrev pub sample_cycles : ℕ
-sample_cycles = 50000
+sample_cycles = MOST_CYCLES
 
 -- ---- recording, as `record` does
 

@@ -11,4 +11,4 @@ mod sample;
 mod top;
 
 pub use top::vidi;
-pub use vidi_bench::Status;
+pub use vidi_bench::{Reason, Status, Word};

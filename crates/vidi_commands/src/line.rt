@@ -47,7 +47,7 @@ pub fn unstable_line(line: Pad, channels: &Channels, channel: usize, cycle: u32)
 
 /// The name of a channel.
 fn channel_name(channels: &Channels, channel: usize) -> &[u8]
-    ensures { result.now ≡ said.channel_name channels.now channel }
+    ensures { result.now ≡ said.name_of channels.now channel }
 {
     match channels.get(channel) {
         Some(channel) => channel.name.as_slice(),

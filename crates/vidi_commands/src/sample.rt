@@ -23,6 +23,7 @@ use crate::replay::{self, decoded, played, trace_over, unstable};
 use replay_run::{ReplayOutcome, Replayed};
 use report_text::{put, put_number};
 use sample_gen::Sample;
+use script_text::MOST_CYCLES;
 use std::alloc::Global;
 use trace_commands::diverged_text;
 use trace_compare::Report;
@@ -33,7 +34,7 @@ use vidi_io::{Fails, MemShelf};
 use vidi_recorder::Outcome;
 
 /// For how many cycles a sample is replayed at most.
-const SAMPLE_CYCLES: u32 = 50_000;
+const SAMPLE_CYCLES: u32 = MOST_CYCLES as u32;
 
 /// The name of the trace, on a shelf in memory.
 const TRACE: &str = "trace";
@@ -182,13 +183,7 @@ fn told(
 {
     match outcome {
         ReplayOutcome::Ended { cycles } => verdict(alloc, figures, trace, written, cycles),
-        ReplayOutcome::Short { held, waits } => {
-            let short = ReplayOutcome::Short { held, waits };
-            replay::told(alloc, trace, short, written, SAMPLE_CYCLES)
-        }
-        ReplayOutcome::Unstable { channel, cycle } => {
-            unstable(alloc, &trace.channels, channel, cycle)
-        }
+        other => replay::told(alloc, trace, other, written, SAMPLE_CYCLES),
     }
 }
 
