@@ -26,6 +26,15 @@ pub(crate) fn course_of(seed: &Text, cycles: &Text) -> Result<Course, Ended>
     }
 }
 
+/// The file whose wrapped design is compared: the design's own, or that of one word more.
+pub(crate) fn other_of<'a>(design: &'a Text, rest: &'a [Text]) -> Result<&'a Text, Ended> {
+    match rest {
+        [] => Ok(design),
+        [other] => Ok(other),
+        _ => Err(Ended::Usage),
+    }
+}
+
 /// Whether both rows are the same.
 pub(crate) fn are_same(a: &Row, b: &Row) -> bool {
     let masks = a.gates == b.gates && a.valids == b.valids && a.readies == b.readies;

@@ -1,4 +1,4 @@
-//! The word on rows: a wrapped design beside monitors round the design itself.
+//! The word on rows: a wrapped design beside monitors round the design itself, or round another one.
 
 ghost use Rattle.std.specs.Prelude.{◌≡◌, ◌≤◌, ◌<◌, ◌^◌, ℕ, length};
 ghost use Rattle.vlog_tree.specs.Tree.{FileOf};
@@ -12,7 +12,7 @@ ghost use Rattle.run_model.specs.Offers.{AreZeroWhileDown};
 ghost use Rattle.chan_monitor.specs.Shell.{HasPlaces};
 ghost use Rattle.shim_cosim.specs.Top.{IsWrapOf};
 
-use crate::alike::{Course, are_same, course_of, said};
+use crate::alike::{Course, are_same, course_of, other_of, said};
 use crate::drawn::{Sequence, draw_offers, widths_over};
 use chan_map::Map;
 use chan_monitor::{Machines, Shell};
@@ -21,70 +21,99 @@ use net_design::Block;
 use shim_cosim::Wrapped;
 use shim_runs::{Ended, Stage, stage_in};
 use std::alloc::Global;
-use trace_model::{Channels, Offers, Row, row_over};
+use trace_model::{Channels, Offers, Row, row_over, same_channels};
 use vidi_bits::Memory;
 use vidi_io::{Shelf, Text};
 use vlog_tree::File;
 
-/// `rows DESIGN MAP SEED CYCLES`: whether the wrapped design has the rows of monitors round the design, under offers and gates that are
-/// drawn.
+/// `rows DESIGN MAP SEED CYCLES [OTHER]`: whether the wrapped design, or that of another file, has the rows of monitors round the design,
+/// under offers and gates that are drawn.
 pub(crate) fn rows<S: Shelf>(
     alloc: Global,
     words: &[Text],
     shelf: &mut S,
 ) -> Result<Vec<u8>, Ended> {
-    let [design, map, seed, cycles] = words else {
+    let [design, map, seed, cycles, rest @ ..] = words else {
         return Err(Ended::Usage);
     };
+    let other = other_of(design, rest)?;
     let course = course_of(seed, cycles)?;
-    let Stage { sim, map, wrapped } = stage_in(alloc, shelf, design.as_str(), map.as_str())?;
-    said_of(alloc, sim, &map, &wrapped, course)
+    let Stage {
+        map: its,
+        wrapped,
+        ..
+    } = stage_in(alloc, shelf, other.as_str(), map.as_str())?;
+    said_round(alloc, shelf, design, map, &its, &wrapped, course)
 }
 
-/// What is said of monitors round a design and of the wrapped design.
+/// What is said of monitors round the design of this file and of a wrapped design with its map.
+fn said_round<S: Shelf>(
+    alloc: Global,
+    shelf: &mut S,
+    design: &Text,
+    map: &Text,
+    its: &Map,
+    wrapped: &File,
+    course: Course,
+) -> Result<Vec<u8>, Ended>
+    requires wrapped { (f : FileOf ℕ) × (d : OneDesign) × IsWrapOf (plain wrapped.now) f its.now d }
+{
+    let Stage { sim, map, .. } = stage_in(alloc, shelf, design.as_str(), map.as_str())?;
+    said_of(alloc, sim, &map, its, wrapped, course)
+}
+
+/// What is said of monitors round a design and of a wrapped design with its map.
 fn said_of<B: Block + Drop>(
     alloc: Global,
     block: B,
     map: &Map,
+    its: &Map,
     wrapped: &File,
     course: Course,
 ) -> Result<Vec<u8>, Ended>
     requires nets { PortsAreNets (B.design block) }
     requires mapped { IsMapOf (B.design block) map.now }
-    requires wrapped { (f : FileOf ℕ) × (d : OneDesign) × IsWrapOf (plain wrapped.now) f map.now d }
+    requires wrapped { (f : FileOf ℕ) × (d : OneDesign) × IsWrapOf (plain wrapped.now) f its.now d }
 {
     let mut machines = Machines::new(alloc, block, map)?;
-    said_beside(alloc, &mut machines, map, wrapped, course)
+    said_beside(alloc, &mut machines, map, its, wrapped, course)
 }
 
-/// What is said of a shell and of the wrapped design.
+/// What is said of a shell and of a wrapped design with its map, where that has the same channels.
 fn said_beside<S: Shell>(
     alloc: Global,
     machines: &mut S,
     map: &Map,
+    its: &Map,
     wrapped: &File,
     course: Course,
 ) -> Result<Vec<u8>, Ended>
+    requires table { IsTable map.now.channels }
     requires machines { S.map machines.old ≡ map.now }
-    requires wrapped { (f : FileOf ℕ) × (d : OneDesign) × IsWrapOf (plain wrapped.now) f map.now d }
+    requires wrapped { (f : FileOf ℕ) × (d : OneDesign) × IsWrapOf (plain wrapped.now) f its.now d }
 {
-    let mut round = Wrapped::new(alloc, wrapped, map)?;
-    said_alike(alloc, machines, &mut round, map, course)
+    match same_channels(&map.channels, &its.channels) {
+        None => {
+            let mut round = Wrapped::new(alloc, wrapped, its)?;
+            said_alike(alloc, machines, &mut round, &map.channels, course)
+        }
+        Some(_) => Err(Ended::Usage),
+    }
 }
 
-/// What is said of two shells.
+/// What is said of two shells of these channels.
 fn said_alike<S: Shell, T: Shell>(
     alloc: Global,
     one: &mut S,
     other: &mut T,
-    map: &Map,
+    channels: &Channels,
     course: Course,
 ) -> Result<Vec<u8>, Ended>
-    requires table { IsTable map.now.channels }
-    requires one { S.map one.old ≡ map.now }
-    requires other { T.map other.old ≡ map.now }
+    requires table { IsTable channels.now }
+    requires one { (S.map one.old).channels ≡ channels.now }
+    requires other { (T.map other.old).channels ≡ channels.now }
 {
-    let differ = differ_at(alloc, one, other, map.channels(), course)?;
+    let differ = differ_at(alloc, one, other, channels, course)?;
     said(alloc, course.cycles, differ)
 }
 
