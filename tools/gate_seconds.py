@@ -38,7 +38,7 @@ def label(words, folder):
     if not words[0].endswith("/rattle") or "--crate-name" not in words:
         return None
     crate = words[words.index("--crate-name") + 1]
-    if "/rt-edit" in folder or "/rt-edit" in " ".join(words):
+    if "/rt-edit" in folder or "/try-edits-" in folder or "/rt-edit" in " ".join(words):
         return crate, "edits"
     return crate, "tests" if "--test" in words else "proof"
 
