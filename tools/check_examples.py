@@ -11,6 +11,8 @@ import subprocess
 import sys
 import tempfile
 
+import tool_kit
+
 
 def printed(vidi, folder, *words):
     """The text that vidi prints for these words, and what is wrong with its status, or None."""
@@ -49,7 +51,7 @@ def fault(vidi, folder):
 
 def main():
     vidi, examples = os.path.abspath(sys.argv[1]), sys.argv[2]
-    names = sorted(entry.name for entry in os.scandir(examples) if entry.is_dir())
+    names = tool_kit.examples(examples)
     if not names:
         sys.exit(f"{examples} has no example")
     faults = {name: fault(vidi, os.path.join(examples, name)) for name in names}

@@ -186,6 +186,9 @@ def check_same(checker):
         said, _ = checker.run("lower", "--scripts", "2", "--cycles", "150", "--prove-same", plan, name, "same.v", found)
         checker.case(f"same transfers of {name}", said.splitlines()[-1:],
                      [line for line in said.splitlines() if SAME.fullmatch(line)] or ["same"])
+    checker.write("turned.map", tool_kit.text_of(example("axi_ram", "map")).replace("aresetn 0", "aresetn 1"))
+    words = ["--scripts", "1", "--cycles", "50", "--prove-same", "turned.map", "axi_ram", "none.v", example("axi_ram", "found.v")]
+    checker.refused("same transfers where there are none", ["lower", *words], "lower: no transfer in any script: is the map's reset right?", "none.v")
     import icarus_rows
     import same_transfers
     plan, folder = icarus_rows.Map(example("fifo", "map")), checker.folder
@@ -266,6 +269,22 @@ def check_capture(checker):
     said, status = checker.run("capture", "taken.vcd", "bench.dut", "two_words.map")
     note = "capture: b changes its valid b_v before it is taken, at cycle 3 time 45; the capture ends there"
     checker.case("capture of a valid taken back", (said.splitlines()[0], note in said.splitlines(), status), ("cycles 4", True, 0))
+
+
+def check_capture_range(checker):
+    """Cycles before the reset are left out, with a note where a valid is 1 there; --cycles has its range."""
+    waves = tool_kit.text_of(os.path.join(CASES, "two_words.vcd"))
+    shutil.copy(os.path.join(CASES, "two_words.map"), checker.folder)
+    checker.write("two_words.vcd", waves)
+    early = "#0\n0!\n0r\n1a\n1b\nb1 c\n#1\n1!\n#2\n0!\n#3\n1!\n#4\n0!\n1r\n"
+    for name, valid, note in (("a valid", "1a", "capture: cycles before the reset, 2 of them, are left out\n"), ("no valid", "0a", "")):
+        checker.write("early.vcd", waves.replace("#0\n0!\n1r\n", early.replace("1a", valid)))
+        said = checker.run("capture", "early.vcd", "bench.dut", "two_words.map")
+        lines = tool_kit.text_of(os.path.join(CASES, "two_words.script")).replace("capture: ", note + "capture: ")
+        checker.case(f"capture of {name} before the reset", said, (lines, 0))
+    for cycles in ("-1", "0", "50001"):
+        checker.refused(f"capture of {cycles} cycles", ["capture", "two_words.vcd", "bench.dut", "two_words.map", "-o", "out", "--cycles", cycles],
+                        f"capture: --cycles is {cycles}, not 1 to 50000", "out")
 
 
 def check_benches(checker):
@@ -360,8 +379,8 @@ def main():
         sys.exit("check_tools.py: wants the program vidi")
     checker = Checker(os.path.abspath(sys.argv[1]))
     try:
-        for check in (check_left_out, check_lower, check_words, check_same, check_make_map, check_capture, check_benches, check_show,
-                      check_explain, check_quick_build):
+        for check in (check_left_out, check_lower, check_words, check_same, check_make_map, check_capture, check_capture_range,
+                      check_benches, check_show, check_explain, check_quick_build):
             check(checker)
     finally:
         shutil.rmtree(checker.folder)

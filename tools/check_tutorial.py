@@ -5,8 +5,8 @@
 
 A command is a line `$ ..` of a block fenced by ```console, with lines `> ..` behind it where it goes on; the lines below are what it
 prints, on both outputs. Blocks fenced by ```sh aren't played: they get the program. --fill writes what the commands print into the page,
-for who writes it. The counts of `vidi check` aren't compared, as other versions of Yosys lower to other ones. Without Yosys or Icarus
-the page is skipped, with a line.
+for who writes it. Of a page that calls `lower` the counts of `vidi check` aren't compared, as other versions of Yosys lower to other ones,
+and it is skipped without Yosys. Without Icarus each page is skipped. A line says so.
 """
 import os
 import re
@@ -36,16 +36,22 @@ def counted(text):
     return re.sub(r"^(modules|instances) .*$", lambda line: re.sub(r"\d+", "N", line[0]), text, flags=re.M)
 
 
+def is_lowering(page):
+    """Whether a command of the page calls `lower`."""
+    commands = [command for block in BLOCK.findall(page) for command, _ in COMMAND.findall(block)]
+    return any(re.search(r"(?:^|[;&|(])\s*lower\s", command) for command in commands)
+
+
 def played(page, vidi):
     """The page with what its commands print, how many there are, and what was wrong."""
-    wrong, count = [], 0
+    wrong, count, compared = [], 0, counted if is_lowering(page) else str
     with tempfile.TemporaryDirectory() as folder:
         def play(match):
             """The command with what it prints."""
             nonlocal count
             count += 1
             said = printed(match[1], folder, vidi)
-            if counted(said) != counted(match[2]):
+            if compared(said) != compared(match[2]):
                 wrong.append(f"$ {match[1].splitlines()[0]}: the page says {match[2]!r}, it prints {said!r}")
             return f"$ {match[1]}{said}"
         text = BLOCK.sub(lambda block: COMMAND.sub(play, block[0]), page)
@@ -57,11 +63,12 @@ def main():
     if len(sys.argv) < 3 or not os.access(sys.argv[1], os.X_OK):
         sys.exit("check_tutorial.py: wants the program vidi and the page")
     vidi, path = os.path.abspath(sys.argv[1]), sys.argv[2]
-    missing = [program for program in ("yosys", "iverilog") if not shutil.which(program)]
+    page = tool_kit.text_of(path)
+    missing = [program for program in ["yosys"] * is_lowering(page) + ["iverilog"] if not shutil.which(program)]
     if missing:
         print(f"{path} skipped for want of {' and '.join(missing)}")
         return
-    text, count, wrong = played(tool_kit.text_of(path), vidi)
+    text, count, wrong = played(page, vidi)
     if sys.argv[3:] == ["--fill"]:
         tool_kit.write(path, text)
         return

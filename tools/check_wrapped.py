@@ -287,7 +287,7 @@ class Feed:
         offers = []
         for _, (name, inward, _, _, ports) in self.names.channels:
             event = self.next(name)
-            shows = event is not None and covered(event[0], list(ends.values()))
+            shows = event is not None and trace_kit.covered(event[0], list(ends.values()))
             offers.append((name, int(shows), (event[1] if shows else [0] * len(ports)) if inward else None))
         return offers
 
@@ -334,9 +334,9 @@ def short_lines(played, starts, ends, names):
         count, flying = played.ends[name], played.flying[name]
         begun, events = count + flying, [clock for _, clock in starts[name]]
         held = None
-        if inward and not flying and begun < len(events) and not covered(events[begun], have):
+        if inward and not flying and begun < len(events) and not trace_kit.covered(events[begun], have):
             held = ("start", begun, events[begun])
-        if not inward and count < len(ends[name]) and not covered(ends[name][count], have):
+        if not inward and count < len(ends[name]) and not trace_kit.covered(ends[name][count], have):
             held = ("end", count, ends[name][count])
         if held:
             lines.append(f"held {name} {held[0]} {held[1]}")
@@ -345,11 +345,6 @@ def short_lines(played, starts, ends, names):
         if place < len(all_of) and not (held and held[:2] == (kind, place)):
             waits.append(f"waits {name} {kind} {place}")
     return lines + waits
-
-
-def covered(clock, have):
-    """Whether the completions cover a clock."""
-    return all(need <= here for need, here in zip(clock, have))
 
 
 def text(lines):
@@ -455,7 +450,7 @@ class Play:
         script = icarus_rows.lines(self.case.path("script"))
         played = record(self.names, self.recorder, script, icarus_rows.AllUp(self.contents))
         said = self.case.said("run", "design.v", "map", "script")
-        compared("vidi run", said[0], same_transfers.text_of_rows(played.events, played.unstable))
+        compared("vidi run", said[0], icarus_rows.text_of_rows(played.events, played.unstable))
         compared("vidi run's status", [said[1]], [5 if played.unstable else 0])
         self.same_rows("a run", played)
 
@@ -577,7 +572,7 @@ def page_in_verilator(vidi):
 
 def examples():
     """The examples, name by name; one without a plan has a small store."""
-    for name in sorted(entry.name for entry in os.scandir(EXAMPLES) if entry.is_dir()):
+    for name in tool_kit.examples():
         texts = {}
         for file in ("design.v", "map", "script", "stalls"):
             path = os.path.join(EXAMPLES, name, file)

@@ -15,6 +15,7 @@ import tempfile
 import icarus_rows
 import same_transfers
 import tool_kit
+import trace_kit
 from tool_kit import Problem
 
 
@@ -34,35 +35,24 @@ def rows_of(text, plan, script, stalls=None):
         design = same_transfers.Found([path], plan, folder)
         room = icarus_rows.Room(design.widths, stalls) if stalls else icarus_rows.AllUp(design.widths)
         try:
-            return *icarus_rows.play(plan, design, script, room), design.widths
+            rows, unstable, _ = icarus_rows.play(plan, design, script, room)
+            return rows, unstable, design.widths
         finally:
             design.close()
 
 
-def clocked(rows, names):
-    """For each channel the starts, as (content, completions before), and the completions, as completions before."""
-    done, found = {name: 0 for name in names}, {name: ([], []) for name in names}
-    for started, ended in rows:
-        before = list(done.values())
-        for name, content in started.items():
-            found[name][0].append((content, before))
-        for name in ended:
-            found[name][1].append((None, before))
-            done[name] += 1
-    return found
-
-
 def findings(rows, others, names):
     """The lines of `vidi compare`, by its definition."""
-    found, lines = (clocked(rows, names), clocked(others, names)), []
+    mine, theirs, lines = trace_kit.histories(names, rows), trace_kit.histories(names, others), []
     for name in names:
-        (starts, ends), (others_starts, others_ends) = found[0][name], found[1][name]
+        starts, others_starts = mine[0][name], theirs[0][name]
         lines += [f"differs {name} start {at}" for at, (a, b) in enumerate(zip(starts, others_starts)) if a[0] != b[0]][:1]
-        for kind, mine, theirs in (("start", starts, others_starts), ("end", ends, others_ends)):
-            if len(mine) != len(theirs):
-                lines.append(f"{'missing' if len(mine) > len(theirs) else 'extra'} {name} {kind} {min(len(mine), len(theirs))}")
-        for kind, mine, theirs in (("start", starts, others_starts), ("end", ends, others_ends)):
-            early = [at for at, (a, b) in enumerate(zip(mine, theirs)) if any(y < x for x, y in zip(a[1], b[1]))]
+        clocks = {"start": ([clock for _, clock in starts], [clock for _, clock in others_starts]), "end": (mine[1][name], theirs[1][name])}
+        for kind, (ours, those) in clocks.items():
+            if len(ours) != len(those):
+                lines.append(f"{'missing' if len(ours) > len(those) else 'extra'} {name} {kind} {min(len(ours), len(those))}")
+        for kind, (ours, those) in clocks.items():
+            early = [at for at, (clock, have) in enumerate(zip(ours, those)) if not trace_kit.covered(clock, have)]
             lines += [f"early {name} {kind} {early[0]} count {len(early)}"] if early else []
     return lines + ["diverged" if lines else "no divergence"]
 
@@ -81,7 +71,8 @@ def main():
         rows, unstable, widths = rows_of(text, plan, script, words[3])
         icarus_rows.say_recording(plan, widths, rows, unstable)
     else:
-        icarus_rows.say_run(*rows_of(text, plan, script)[:2])
+        rows, unstable, _ = rows_of(text, plan, script)
+        sys.stdout.write(icarus_rows.text_of_rows(rows, unstable))
 
 
 if __name__ == "__main__":

@@ -211,10 +211,10 @@ def row_of(plan, design, players, ends, base, up):
 
 
 def play(plan, design, script, room):
-    """The rows as (starts with contents, ends), and the channel on which the next one is unstable."""
+    """The rows as (starts with contents, ends), the channel on which the next one is unstable, and what each row shows, that one too."""
     cycles = number(script[0][1])
     players = {name: Player([words for own, *words in script[1:] if own == name]) for name, *_ in plan.channels}
-    ends, flying, before, rows = {name: 0 for name in players}, {name: False for name in players}, None, []
+    ends, flying, shown_rows, rows = {name: 0 for name in players}, {name: False for name in players}, [], []
     base = dict(plan.ties)
     if plan.reset:
         port, active, count = plan.reset
@@ -223,9 +223,10 @@ def play(plan, design, script, room):
         base[port] = 1 - active
     for cycle in range(cycles):
         row = row_of(plan, design, players, ends, base, room.up)
-        unstable = first_unstable(plan.channels, row, before)
+        unstable = first_unstable(plan.channels, row, shown_rows[-1] if shown_rows else None)
+        shown_rows.append(row)
         if unstable:
-            return rows, unstable
+            return rows, unstable, shown_rows
         started = {name: shown[2] for name, shown in row.items() if shown[0] and shown[3] and not flying[name]}
         ended = [name for name, shown in row.items() if completes(shown)]
         rows.append((started, ended))
@@ -234,17 +235,17 @@ def play(plan, design, script, room):
             flying[name] = bool(shown[0] and shown[3]) and name not in ended
             players[name].seen(name in ended)
         room.pass_row(cycle, started, ended, flying)
-        before = row
-    return rows, None
+    return rows, None, shown_rows
 
 
-def say_run(rows, unstable):
+def text_of_rows(rows, unstable):
+    """The lines of `vidi run` of these rows."""
+    said = []
     for cycle, (started, ended) in enumerate(rows):
-        for name, content in started.items():
-            print(cycle, "start", name, *content)
-        for name in ended:
-            print(cycle, "end", name)
-    print(f"vidi: unstable {unstable} cycle {len(rows)}" if unstable else f"cycles {len(rows)}")
+        said += [" ".join(map(str, (cycle, "start", name, *content))) for name, content in started.items()]
+        said += [f"{cycle} end {name}" for name in ended]
+    said.append(f"vidi: unstable {unstable} cycle {len(rows)}" if unstable else f"cycles {len(rows)}")
+    return "\n".join(said) + "\n"
 
 
 def say_recording(plan, widths, rows, unstable):
@@ -268,10 +269,12 @@ def main():
     path, plan, script = sys.argv[1], Map(sys.argv[2]), lines(sys.argv[3])
     with tempfile.TemporaryDirectory() as folder:
         design = Design(path, plan, folder)
+        room = Room(design.widths, sys.argv[4]) if len(sys.argv) > 4 else AllUp(design.widths)
+        rows, unstable, _ = play(plan, design, script, room)
         if len(sys.argv) > 4:
-            say_recording(plan, design.widths, *play(plan, design, script, Room(design.widths, sys.argv[4])))
+            say_recording(plan, design.widths, rows, unstable)
         else:
-            say_run(*play(plan, design, script, AllUp(design.widths)))
+            sys.stdout.write(text_of_rows(rows, unstable))
 
 
 if __name__ == "__main__":

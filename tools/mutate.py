@@ -6,9 +6,9 @@
 N inputs a command (10,000 where nothing is said) for check, run, record, replay, dump, compare, salvage and wrap. Each is made of the files of an
 example or of a design of tools/make_random.py: in one or more of the files that the command reads, bytes are changed, cut or doubled and lines or
 words exchanged, one to four times. Wrong is: an end by a signal, more than a second of processor time three times (or 20 seconds by the clock), anything on
-the standard error, an exit number other than 0, 1, 2, 4, 5, 6 and 7, lines that aren't those of the exit number, a file beside the one to be
-written, that one after a refusal, and an OUT that `vidi dump` (of `wrap`: `vidi check`, with both tops) doesn't take. The same seed tries the same
-inputs. It says how often each command ended how.
+the standard error, an exit number other than 0, 4, 5, 6 and 7 (the words are always a command, and its files are there), lines that aren't those
+of the exit number, a file beside the one to be written, that one after a refusal, and an OUT that `vidi dump` (of `wrap`: `vidi check`, with both
+tops) doesn't take. The same seed tries the same inputs. It says how often each command ended how.
 """
 import argparse
 import collections
@@ -25,7 +25,6 @@ import make_random
 import tool_kit
 from tool_kit import Problem
 
-EXAMPLES = os.path.join(tool_kit.HERE, "..", "examples")
 COMMANDS = {
     "check": (["design"], None), "run": (["design", "map", "script"], None), "record": (["design", "map", "script", "stalls"], "out"),
     "replay": (["design", "map", "trace"], "out"), "dump": (["trace"], None), "compare": (["trace", "other"], None),
@@ -129,8 +128,8 @@ class Base:
 def bases(vidi, folder):
     """The designs of examples/, and some random ones."""
     found = []
-    for name in sorted(entry.name for entry in os.scandir(EXAMPLES) if entry.is_dir()):
-        paths = {file: os.path.join(EXAMPLES, name, file) for file in ("design.v", "map", "script", "stalls")}
+    for name in tool_kit.examples():
+        paths = {file: os.path.join(tool_kit.EXAMPLES, name, file) for file in ("design.v", "map", "script", "stalls")}
         texts = {file: tool_kit.text_of(path) if os.path.exists(path) else "capacity 40\n" for file, path in paths.items()}
         found.append(Base(vidi, texts, folder))
     return found + [Base(vidi, make_random.made(seed), folder) for seed in range(1, 31)]

@@ -15,9 +15,9 @@ A refused file has the status 4, any other one 0. With --check nothing is writte
 """
 import os
 import re
-import sys
 
 import tool_kit
+import trace_kit
 from tool_kit import Problem
 
 TOP = os.path.join(tool_kit.HERE, "..")
@@ -60,7 +60,7 @@ def language():
 
 def example_file(name, file):
     """The text of an example's file."""
-    return tool_kit.text_of(os.path.join(TOP, "examples", name, file))
+    return tool_kit.text_of(os.path.join(tool_kit.EXAMPLES, name, file))
 
 
 def files():
@@ -72,36 +72,23 @@ def files():
     return "".join(cases)
 
 
-def packet_bytes(channels, events):
-    """A packet: the starts and the ends of its lines of a dump, each in order of the channels."""
-    masks, contents = {"start": 0, "end": 0}, b""
-    for kind, channel, numbers in events:
-        number, widths = channels[channel]
-        masks[kind] |= 1 << number
-        contents += b"".join(number.to_bytes((width + 7) // 8, "big") for number, width in zip(numbers, widths))
-    size = (len(channels) + 7) // 8
-    return b"\1" + masks["start"].to_bytes(size, "little") + masks["end"].to_bytes(size, "little") + contents
-
-
-def trace_bytes(dump):
-    """The bytes of the trace of which these are the lines (docs/FILES.md)."""
-    table, channels, packets = b"", {}, {}
-    for line in dump.splitlines():
-        words = line.split()
-        if words[0] == "channel":
-            channels[words[3]] = int(words[1]), [int(word) for word in words[4:]]
-            table += bytes([words[2] == "out", len(words[3])]) + words[3].encode() + bytes([len(words[4:]), *channels[words[3]][1]])
-        elif words[0] != "packets":
-            numbers = [int(word) for word in words[3:words.index("clock")]]
-            packets.setdefault(int(words[0]), []).append((words[1], words[2], numbers))
-    body = b"".join(packet_bytes(channels, packets[number]) for number in sorted(packets))
-    return b"VIDITRC1" + bytes([len(channels)]) + table + body + b"\0" + len(packets).to_bytes(4, "big")
+def trace_bytes(dump, where):
+    """The bytes of the trace of which these are the lines."""
+    events, table, count, _ = tool_kit.events_of(dump, where)
+    packets = [({}, []) for _ in range(count)]
+    for at, kind, name, content in events:
+        if kind == "start":
+            packets[at][0][name] = content
+        else:
+            packets[at][1].append(name)
+    channels = [trace_kit.Table(name, direction == "in", widths) for name, (direction, widths) in table.items()]
+    return trace_kit.encoded(channels, packets)
 
 
 def recording(name):
     """The cases of an example's recording: the command, and the dump of the trace that it leaves."""
     first, dump = example_file(name, "record.out").split("\n", 1)
-    trace = trace_bytes(dump)
+    trace = trace_bytes(dump, f"record.out of {name}")
     digits = "".join(f"{trace[at:at + 40].hex()}\n" for at in range(0, len(trace), 40))
     return f"== {WORDS['record']}\n{ending([first])}>x trace\n{digits}++ dump trace\n{ending(dump.splitlines())}"
 
@@ -109,8 +96,8 @@ def recording(name):
 def examples():
     """The cases of the examples."""
     cases = ["## Made by tools/page_cases.py of examples/.\n"]
-    for name in sorted(entry.name for entry in os.scandir(os.path.join(TOP, "examples")) if entry.is_dir()):
-        is_recorded = os.path.exists(os.path.join(TOP, "examples", name, "stalls"))
+    for name in tool_kit.examples():
+        is_recorded = os.path.exists(os.path.join(tool_kit.EXAMPLES, name, "stalls"))
         cases += [f"** {name}\n"]
         cases += [part("--", file, example_file(name, file)) for file in ["design.v", "map", "script"] + ["stalls"] * is_recorded]
         cases += [f"== {WORDS['run']}\n", ending(example_file(name, "run.out").splitlines())]
@@ -119,16 +106,11 @@ def examples():
     return "".join(cases)
 
 
-def main():
-    """Writes the case files, or compares them."""
-    made = {"language.case": language(), "files.case": files(), "examples.case": examples()}
-    for name, text in made.items():
-        path = os.path.join(DATA, name)
-        if sys.argv[1:] != ["--check"]:
-            tool_kit.write(path, text)
-        elif tool_kit.text_of(path) != text:
-            raise Problem(f"{name} isn't what the pages have: run tools/page_cases.py")
+def wanted():
+    """The case files."""
+    texts = {"language.case": language(), "files.case": files(), "examples.case": examples()}
+    return {os.path.join(DATA, name): text for name, text in texts.items()}
 
 
 if __name__ == "__main__":
-    tool_kit.ended(main)
+    tool_kit.ended(lambda: tool_kit.keep(__doc__, wanted))

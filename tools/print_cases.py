@@ -8,7 +8,6 @@ With --check nothing is written, and the status is 1 where the case file isn't w
 """
 import os
 import re
-import sys
 
 import tool_kit
 from page_cases import part
@@ -92,18 +91,10 @@ def wanted():
     """The case file."""
     cases = [HEAD, "** every production of the grammar, and what is printed of it once more\n", case(WHOLE, "whole.v"),
              case(laid_out(WHOLE, "whole.v"), "printed.v"), "** the examples' designs\n"]
-    for name in sorted(entry.name for entry in os.scandir(os.path.join(TOP, "examples")) if entry.is_dir()):
-        cases.append(case(tool_kit.text_of(os.path.join(TOP, "examples", name, "design.v")), f"{name}.v"))
-    return "".join(cases)
-
-
-def main():
-    """Writes the case file, or compares it."""
-    if sys.argv[1:] != ["--check"]:
-        tool_kit.write(CASES, wanted())
-    elif tool_kit.text_of(CASES) != wanted():
-        raise Problem("print.case isn't what the examples want: run tools/print_cases.py")
+    for name in tool_kit.examples():
+        cases.append(case(tool_kit.text_of(os.path.join(tool_kit.EXAMPLES, name, "design.v")), f"{name}.v"))
+    return {CASES: "".join(cases)}
 
 
 if __name__ == "__main__":
-    tool_kit.ended(main)
+    tool_kit.ended(lambda: tool_kit.keep(__doc__, wanted))

@@ -117,7 +117,7 @@ def tried(room, command, most):
     right, count = room.count(words)
     if count < 5:
         raise Problem(f"{room.vidi} takes its memory elsewhere: {count} allocations are seen")
-    places = range(1, count + 1) if count <= most else sorted({1 + at * (count - 1) // (most - 1) for at in range(most)})
+    places = range(1, count + 1) if count <= most else sorted({1 + at * (count - 1) // max(most - 1, 1) for at in range(most)})
     same, lacking, wrong = 0, 0, []
     for place in places:
         for last in (place, 1 << 40):
@@ -139,6 +139,8 @@ def main():
     parser.add_argument("--only", choices=COMMANDS, metavar="COMMAND", help="this command alone")
     parser.add_argument("--most", type=int, default=1_000_000, metavar="N", help="so many allocations a command at most")
     options = tool_kit.parse_options(parser)
+    if options.most < 1:
+        raise Problem(f"--most is {options.most}, not 1 or more")
     if not os.access(options.vidi, os.X_OK):
         raise Problem(f"no program vidi at {options.vidi}")
     if not shutil.which("cc"):

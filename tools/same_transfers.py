@@ -90,16 +90,6 @@ def some_script(draw, plan, widths, cycles):
     return [["cycles", str(cycles)]] + steps
 
 
-def text_of_rows(rows, unstable):
-    """The lines of `vidi run` of these rows."""
-    lines = []
-    for cycle, (started, ended) in enumerate(rows):
-        lines += [" ".join(map(str, (cycle, "start", name, *content))) for name, content in started.items()]
-        lines += [f"{cycle} end {name}" for name in ended]
-    lines.append(f"vidi: unstable {unstable} cycle {len(rows)}" if unstable else f"cycles {len(rows)}")
-    return "\n".join(lines) + "\n"
-
-
 def icarus_run(files, plan, script, defines=(), params=()):
     """The lines of a run of a design as it was found, by Icarus."""
     for program in ("iverilog", "vvp"):
@@ -107,7 +97,8 @@ def icarus_run(files, plan, script, defines=(), params=()):
     with tempfile.TemporaryDirectory() as folder:
         design = Found(files, plan, folder, defines, params)
         try:
-            return text_of_rows(*icarus_rows.play(plan, design, script, icarus_rows.AllUp(design.widths)))
+            rows, unstable, _ = icarus_rows.play(plan, design, script, icarus_rows.AllUp(design.widths))
+            return icarus_rows.text_of_rows(rows, unstable)
         finally:
             design.close()
 
@@ -135,7 +126,7 @@ def parting(their, our):
 
 def compared(options, plan, out):
     """Plays the scripts on the files and on what was lowered, which is in `out`. Says how many transfers were the same; a difference is
-    a Problem."""
+    a Problem, and so is nothing to compare."""
     for program in ("iverilog", "vvp"):
         tool_kit.need(program)
     plan = icarus_rows.Map(plan.path)
@@ -151,5 +142,7 @@ def compared(options, plan, out):
             if our != their:
                 raise Problem(f"seed {seed}: {where} on {options.out} parts from Icarus on the files: {parting(their, our)}")
         transfers += sum(" end " in line for line in their.splitlines())
+    if not transfers:
+        raise Problem("no transfer in any script: is the map's reset right?")
     players = "Icarus and Vidi" if has_vidi else "Icarus (no program vidi)"
     return f"same {options.scripts} scripts of {options.cycles} cycles, {transfers} transfers, by {players}"

@@ -1,7 +1,8 @@
 #!/usr/bin/env python3
 """Writes as a case file (docs/CASES.md), which `rt ci` plays, what `vidi sample` prints. The expectations don't come from Vidi: this tool
 makes the numbers of a sample by itself, plays the registers behind the store and behind replayers by the rules of docs/FILES.md, and
-compares the two traces.
+compares the two traces. It stands apart on purpose: what it has of traces, clocks and findings is its own, and not that of tools/trace_kit.py and
+tools/found_rows.py.
 
     sample_cases.py [--check | --of NUMBER..]
 
@@ -182,7 +183,7 @@ def wanted():
     words = ["sample", "sample 6001", "sample 1 2", "sample x", "sample -1", "sample 1x", "sample 0x", "sample 0x1771",
              "sample 340282366920938463463374607431768211456", "Sample 1", "sample --help"]
     cases += ["** words that are no sample\n", *(f"== {line}\n" + part(">>", "1", "vidi: usage\n") for line in words)]
-    return "".join(cases)
+    return {DATA: "".join(cases)}
 
 
 def main():
@@ -190,10 +191,8 @@ def main():
     if sys.argv[1:2] == ["--of"]:
         for word in sys.argv[2:]:
             print("\n".join(said(int(word))[1]))
-    elif sys.argv[1:] != ["--check"]:
-        tool_kit.write(DATA, wanted())
-    elif tool_kit.text_of(DATA) != wanted():
-        raise Problem("sample.case isn't what the samples want: run tools/sample_cases.py")
+    else:
+        tool_kit.keep(__doc__, wanted)
 
 
 if __name__ == "__main__":

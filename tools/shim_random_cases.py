@@ -7,12 +7,10 @@ The designs and maps are those of tools/make_random.py, a seed each. What is wan
 With --check nothing is written, and the status is 1 where the case file isn't what would be.
 """
 import os
-import sys
 
 import tool_kit
 from make_random import made
 from page_cases import part
-from tool_kit import Problem
 
 DATA = os.path.join(tool_kit.HERE, "..", "crates", "shim_cases", "data", "random.case")
 HEAD = "## Made by tools/shim_random_cases.py of random designs.\n"
@@ -31,19 +29,10 @@ def group(seed):
     return f"** random design {seed}\n{texts}{case('rows', seed)}{case('fed_rows', seed)}"
 
 
-def main():
-    """Writes the file, or compares it."""
-    if sys.argv[1:] not in ([], ["--check"]):
-        raise Problem("wants no word or --check: shim_random_cases.py [--check]")
-    text = HEAD + "".join(map(group, SEEDS))
-    if not sys.argv[1:]:
-        tool_kit.write(DATA, text)
-    elif tool_kit.text_of(DATA) != text:
-        raise Problem("random.case isn't what its seeds make: run tools/shim_random_cases.py")
+def wanted():
+    """The case file."""
+    return {DATA: HEAD + "".join(map(group, SEEDS))}
 
 
 if __name__ == "__main__":
-    if sys.argv[1:] in (["--help"], ["-h"]):
-        print(__doc__)
-        sys.exit(0)
-    tool_kit.ended(main)
+    tool_kit.ended(lambda: tool_kit.keep(__doc__, wanted))

@@ -8,6 +8,7 @@ import sys
 import tempfile
 
 HERE = os.path.dirname(os.path.abspath(__file__))
+EXAMPLES = os.path.join(HERE, "..", "examples")
 PACKAGES = {"yosys": "yosys", "iverilog": "iverilog", "vvp": "iverilog"}
 
 
@@ -35,6 +36,11 @@ def text_of(path):
         raise Problem(f"{path}: {error.strerror}") from error
 
 
+def examples(folder=EXAMPLES):
+    """The names of the examples in a folder, in order."""
+    return sorted(entry.name for entry in os.scandir(folder) if entry.is_dir())
+
+
 def write(path, content):
     """Writes a text or bytes to a file in one go."""
     try:
@@ -42,6 +48,22 @@ def write(path, content):
             file.write(content if isinstance(content, bytes) else content.encode())
     except OSError as error:
         raise Problem(f"{path}: {error.strerror}") from error
+
+
+def keep(page, made):
+    """Writes the files that `made` gives, a text for each path, or with the word --check compares them: the first that is another text is a
+    Problem. With --help the page is printed. No other words are taken."""
+    words, tool = sys.argv[1:], os.path.basename(sys.argv[0])
+    if words in (["--help"], ["-h"]):
+        print(page.strip())
+        return
+    if words not in ([], ["--check"]):
+        raise Problem(f"wants no word or --check, not {' '.join(words)}; see {tool} --help")
+    for path, text in made().items():
+        if not words:
+            write(path, text)
+        elif text_of(path) != text:
+            raise Problem(f"{os.path.relpath(path, os.path.join(HERE, '..'))} isn't what this tool makes: run tools/{tool}")
 
 
 def need(program):
@@ -220,8 +242,6 @@ def transactions_of(events):
 
 def parse_options(parser):
     """The words of the command; a usage error ends with status 1 as every other one."""
-    parser.exit_on_error = True
-
     def error(message):
         sys.exit(f"{parser.prog}: {message}; see {parser.prog} --help")
     parser.error = error

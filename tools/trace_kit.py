@@ -75,6 +75,11 @@ def drawn(draw, channels, count):
     return packets
 
 
+def covered(clock, have):
+    """Whether the completions cover a clock."""
+    return all(need <= here for need, here in zip(clock, have))
+
+
 def histories(names, packets):
     """For each channel its starts, as (content, clock), and its completions, as clocks. A clock is the list of all channels' completions in
     the packets before."""

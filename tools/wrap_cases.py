@@ -306,7 +306,7 @@ CASES = [
 
 def wanted():
     """The case file."""
-    return HEAD + "".join(f"** {title}\n{form(device)}" for title, form, device in CASES)
+    return {DATA: HEAD + "".join(f"** {title}\n{form(device)}" for title, form, device in CASES)}
 
 
 def main():
@@ -316,10 +316,8 @@ def main():
         if not found:
             raise Problem("no such design: held, wide, many, full or deep")
         sys.stdout.write(wrapped(found[0]))
-    elif sys.argv[1:] != ["--check"]:
-        tool_kit.write(DATA, wanted())
-    elif tool_kit.text_of(DATA) != wanted():
-        raise Problem("wrapped.case isn't what the designs want: run tools/wrap_cases.py")
+    else:
+        tool_kit.keep(__doc__, wanted)
 
 
 if __name__ == "__main__":
