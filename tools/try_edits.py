@@ -12,6 +12,7 @@ kept in the user's cache folder, by the toolchain and all files that the check r
 """
 
 import concurrent.futures
+import contextlib
 import functools
 import hashlib
 import os
@@ -201,8 +202,9 @@ def kept_or_tried(kit, crate, edits):
     new = tried(kit, crate, others) if others else []
     for edit, is_refused, why in new:
         if is_refused:
-            KEPT.mkdir(parents=True, exist_ok=True)
-            kit.place(edit).write_text(why)
+            with contextlib.suppress(OSError):
+                KEPT.mkdir(parents=True, exist_ok=True)
+                kit.place(edit).write_text(why)
     return kept + new
 
 
