@@ -47,7 +47,6 @@ pub struct Reset {
 }
 
 /// A map, bound to a design.
-#[derive(Drop)]
 pub struct Map {
     /// The name of the top module.
     pub top: Name,
@@ -56,6 +55,20 @@ pub struct Map {
     pub ties: Ties,
     pub reset: Option<Reset>,
     pub clock: Pin,
+}
+
+/// Written out, so that the drops of its parts are proved here and not in each crate that lets go of a map.
+impl Drop for Map {
+    fn drop(self) {
+        let Map {
+            top,
+            channels,
+            plugs,
+            ties,
+            reset,
+            clock,
+        } = self;
+    }
 }
 
 impl Map {

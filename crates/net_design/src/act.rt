@@ -76,11 +76,21 @@ pub struct Mask {
 
 /// What a driver or a clocked block does, in order, with the bits of nets that it may write, and those that it reads: a driver
 /// before it has surely assigned them, a clocked block at all, since it sees the old values.
-#[derive(Drop)]
 pub struct Code {
     pub acts: Items<Act>,
     pub writes: Items<Mask>,
     pub reads: Items<Mask>,
+}
+
+/// Written out, so that the drops of its parts are proved here and not in each crate that lets go of one.
+impl Drop for Code {
+    fn drop(self) {
+        let Code {
+            acts,
+            writes,
+            reads,
+        } = self;
+    }
 }
 
 /// When an assignment takes effect (IEEE 1364-2005, 9.2.1 and 9.2.2).

@@ -66,7 +66,6 @@ pub struct Port {
 /// A flat design. Nets and memories are named by their places. The nets of all instances stand in preorder of
 /// the instances and within one in text order, so that port k of the top is net k; the words of the memories
 /// stand one memory after the other.
-#[derive(Drop)]
 pub struct Design {
     pub instances: Items<Instance>,
     pub nets: Items<Net>,
@@ -78,6 +77,22 @@ pub struct Design {
     pub ports: Items<Port>,
     /// The place of the clock among the ports, where there is one.
     pub clock: Option<usize>,
+}
+
+/// Written out, so that the drops of its parts are proved here and not in each crate that lets go of a design.
+impl Drop for Design {
+    fn drop(self) {
+        let Design {
+            instances,
+            nets,
+            registers,
+            memories,
+            drivers,
+            blocks,
+            ports,
+            clock,
+        } = self;
+    }
 }
 
 /// How much a design has.

@@ -29,7 +29,6 @@ use std::alloc::Global;
 use vidi_bits::{Items, Memory, Numbers};
 
 /// A design that runs: its code, and its numbers in slots, which are the numbers that are shown, the state, and free slots.
-#[derive(Drop)]
 pub struct Sim {
     design: Design,
     order: Order,
@@ -65,6 +64,27 @@ pub struct Sim {
     ghost are_outputs: { outputs ≡ port_places Output 0 design.ports },
     ghost named: { IsTable design.instances design.nets (length design.nets) names.entries },
     ghost settled: { IsTrue fresh → shown_in design (through places slots) ≡ settled_by design order.drivers (state_in design (through places slots)) pins },
+}
+
+/// Written out, so that the drops of its parts are proved here and not in each crate that lets go of one.
+impl Drop for Sim {
+    fn drop(self) {
+        let Sim {
+            design,
+            order,
+            settling,
+            clocking,
+            places,
+            span,
+            slots,
+            first,
+            pins,
+            outputs,
+            names,
+            fresh,
+            ..
+        } = self;
+    }
 }
 
 impl Sim {

@@ -5,9 +5,15 @@ use crate::stmt::{Body, Target};
 use vidi_bits::{Items, Name};
 
 /// A design text: its modules, in their order.
-#[derive(Drop)]
 pub struct File {
     pub modules: Modules,
+}
+
+/// Written out, so that the drops of its parts are proved here and not in each crate that lets go of a file.
+impl Drop for File {
+    fn drop(self) {
+        let File { modules } = self;
+    }
 }
 
 /// A list of modules.
