@@ -78,7 +78,8 @@ pub enum Reason {
     TooSmall { need: u64, given: u32 },
     /// The file is no encoding of a trace; `at` is the place of the fault in bytes.
     BadTrace { at: u64 },
-    /// The channels of the second trace are others than those of the first, first at place `at`.
+    /// The channels of the trace are others than those of the map that it is replayed on, or of the trace that it is compared with; the
+    /// first that differs stands at place `at`.
     OtherChannels { at: usize },
     /// A module of the design has this name, which is kept for shims.
     Reserved { name: Name },

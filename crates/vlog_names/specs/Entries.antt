@@ -1,4 +1,4 @@
--- What the names of a module are declared as (IEEE 1364-2005, 12.1 and 4.1; this project's profile), in text order:
+-- What the names of a module are declared as (IEEE 1364-2005, 12.1 and 4.11; this project's profile), in text order:
 -- parameters, ports, nets, memories, instances and local parameters share one name space.
 use Rattle.std.specs.Prelude.{ℕ, false, List, [], ◌∷◌, ◌++◌, map, Option, None, Some, option_map}
 use Rattle.std.specs.List.{flat_map}

@@ -2,7 +2,7 @@
 
 use crate::table::Table;
 
-/// A constant (IEEE 1364-2005, 3.5.1 and 3.11).
+/// A constant (IEEE 1364-2005, 3.5.1 and 4.10).
 #[derive(Clone, Copy, PartialEq, Eq)]
 pub enum Const {
     /// A whole number, 0 to 2,147,483,647. As an operand it is 32 bits wide.
