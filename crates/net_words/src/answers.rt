@@ -2,72 +2,97 @@
 
 ghost use Rattle.net_design.specs.Lawful.{IsLawful};
 
-use crate::cycles::{drivers_order, settle, start};
-use crate::designs::design_in;
-use crate::drivers::{blocks, drivers};
-use crate::parts::{nets, parts};
-use crate::runs::run;
+use crate::cycles::{print_order, print_settled, print_start};
+use crate::designs::{design_in, paths};
+use crate::drivers::{print_blocks, print_drivers};
+use crate::parts::{print_nets, print_parts};
+use crate::runs::print_run;
 use net_design::Design;
+use report_text::Draft;
 use std::alloc::Global;
 use vidi_io::{Shelf, Text};
-use vlog_words::Ended;
+use vlog_words::{Ended, entry_of};
 
-/// The text that these words ask for.
-pub fn answer<S: Shelf>(alloc: Global, words: &[Text], shelf: &mut S) -> Result<Vec<u8>, Ended> {
-    match words {
-        [word, file, top, rest @ ..] if is_of_design(word.as_str()) => of_design(
-            alloc,
-            word.as_str(),
-            file.as_str(),
-            top.as_str(),
-            rest,
-            shelf,
-        ),
-        _ => vlog_words::answer(alloc, words, shelf),
+/// What a word asks for of a flat design.
+#[derive(Clone, Copy)]
+enum Word {
+    Drivers,
+    Blocks,
+    Parts,
+    Nets,
+    Order,
+    Start,
+    Settle,
+    Run,
+}
+
+const WORDS: [(&str, Word); 8] = [
+    ("drivers", Word::Drivers),
+    ("blocks", Word::Blocks),
+    ("parts", Word::Parts),
+    ("nets", Word::Nets),
+    ("order", Word::Order),
+    ("start", Word::Start),
+    ("settle", Word::Settle),
+    ("run", Word::Run),
+];
+
+/// Prints what these words ask for.
+pub(crate) fn answer<S: Shelf>(
+    alloc: Global,
+    words: &[Text],
+    shelf: &mut S,
+    page: &mut Draft,
+) -> Result<(), Ended> {
+    if let [word, file, top, rest @ ..] = words {
+        if let Some(word) = entry_of(&WORDS, word.as_str().as_bytes()) {
+            let design = design_in(alloc, shelf, file.as_str(), top.as_str())?;
+            return of_design(alloc, word, design, rest, shelf, page);
+        }
     }
+    vlog_words::answer(alloc, words, shelf, page)
 }
 
-fn is_of_design(word: &str) -> bool {
-    matches!(
-        word.as_bytes(),
-        b"drivers" | b"blocks" | b"parts" | b"nets" | b"order" | b"start" | b"settle" | b"run"
-    )
-}
-
-/// The words on the flat design of a text with this top.
+/// The words on a flat design.
 fn of_design<S: Shelf>(
     alloc: Global,
-    word: &str,
-    file: &str,
-    top: &str,
+    word: Word,
+    design: Design,
     rest: &[Text],
     shelf: &mut S,
-) -> Result<Vec<u8>, Ended> {
-    let design = design_in(alloc, shelf, file, top)?;
-    if word.as_bytes() == b"run".as_slice() {
-        return run(alloc, design, shelf, rest);
+    page: &mut Draft,
+) -> Result<(), Ended>
+    requires { IsLawful design }
+{
+    match word {
+        Word::Run => print_run(alloc, design, shelf, rest, page),
+        _ => of_flat(alloc, word, &design, rest, shelf, page),
     }
-    of_flat(alloc, word, &design, rest, shelf)
 }
 
 /// The words on a flat design that isn't run.
 fn of_flat<S: Shelf>(
     alloc: Global,
-    word: &str,
+    word: Word,
     design: &Design,
     rest: &[Text],
     shelf: &mut S,
-) -> Result<Vec<u8>, Ended>
+    page: &mut Draft,
+) -> Result<(), Ended>
     requires { IsLawful design.now }
 {
-    match (word.as_bytes(), rest) {
-        (b"drivers", []) => drivers(alloc, design),
-        (b"blocks", []) => blocks(alloc, design),
-        (b"parts", []) => parts(alloc, design),
-        (b"nets", []) => nets(alloc, design),
-        (b"order", []) => drivers_order(alloc, design),
-        (b"start", []) => start(alloc, design),
-        (b"settle", [state]) => settle(alloc, design, shelf, state.as_str()),
-        _ => Err(Ended::Usage),
+    let paths = paths(alloc, design)?;
+    match (word, rest) {
+        (Word::Drivers, []) => print_drivers(design, &paths, page),
+        (Word::Blocks, []) => print_blocks(design, &paths, page),
+        (Word::Parts, []) => print_parts(design, &paths, page),
+        (Word::Nets, []) => print_nets(design, &paths, page),
+        (Word::Order, []) => print_order(alloc, design, page)?,
+        (Word::Start, []) => print_start(alloc, design, &paths, page)?,
+        (Word::Settle, [state]) => {
+            print_settled(alloc, design, &paths, state.as_str(), shelf, page)?;
+        }
+        _ => return Err(Ended::Usage),
     }
+    Ok(())
 }

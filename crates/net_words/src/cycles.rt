@@ -5,20 +5,20 @@ ghost use Rattle.net_design.specs.Lawful.{IsLawful};
 ghost use Rattle.net_design.specs.Settled.{IsSized};
 ghost use Rattle.net_order.specs.Order.{IsOrder};
 
-use crate::designs::{paths, put_net};
+use crate::designs::print_net;
 use net_design::{Design, Direction, Timing, Values, lawful_is_sized, zeros};
 use net_order::{Order, OrderError, order};
 use net_reference::{after_block, initial_state, is_settled, next_state};
-use report_text::put;
+use report_text::{Draft, Page, print_number, print_numbers};
 use std::alloc::Global;
 use vidi_bits::{Items, Name, Numbers};
 use vidi_io::Shelf;
 use vidi_lines::Line;
-use vlog_words::{Ended, lines_in, number_in, put_wide};
+use vlog_words::{Ended, entry_of, lines_in, number_in};
 
 /// A state, and what is entered at the inputs: the file of a case.
 #[derive(Drop)]
-pub struct Cycle {
+pub(crate) struct Cycle {
     /// The numbers of the registers, in their order.
     registers: Numbers,
     words: Numbers,
@@ -27,7 +27,7 @@ pub struct Cycle {
 }
 
 /// The cycle that a file gives.
-pub fn cycle_in<S: Shelf>(alloc: Global, shelf: &mut S, name: &str) -> Result<Cycle, Ended> {
+pub(crate) fn cycle_in<S: Shelf>(alloc: Global, shelf: &mut S, name: &str) -> Result<Cycle, Ended> {
     let lines = lines_in(alloc, shelf, name)?;
     let mut cycle = Cycle {
         registers: Items::new(alloc),
@@ -40,15 +40,29 @@ pub fn cycle_in<S: Shelf>(alloc: Global, shelf: &mut S, name: &str) -> Result<Cy
     Ok(cycle)
 }
 
+/// What a line of the file gives.
+#[derive(Clone, Copy)]
+enum Kind {
+    Registers,
+    Words,
+    Pins,
+}
+
+const KINDS: [(&str, Kind); 3] = [
+    ("registers", Kind::Registers),
+    ("words", Kind::Words),
+    ("pins", Kind::Pins),
+];
+
 fn add_line(cycle: &mut Cycle, line: &Line) -> Result<(), Ended> {
-    match line.words.as_slice() {
-        [] => Ok(()),
-        [kind, words @ ..] => match kind.as_slice() {
-            b"registers" => add_numbers(&mut cycle.registers, words),
-            b"words" => add_numbers(&mut cycle.words, words),
-            b"pins" => add_numbers(&mut cycle.pins, words),
-            _ => Err(Ended::Usage),
-        },
+    let [kind, words @ ..] = line.words.as_slice() else {
+        return Ok(());
+    };
+    match entry_of(&KINDS, kind.as_slice()) {
+        Some(Kind::Registers) => add_numbers(&mut cycle.registers, words),
+        Some(Kind::Words) => add_numbers(&mut cycle.words, words),
+        Some(Kind::Pins) => add_numbers(&mut cycle.pins, words),
+        None => Err(Ended::Usage),
     }
 }
 
@@ -94,7 +108,7 @@ fn enter(design: &Design, pins: &[u128], values: &mut Values) {
 }
 
 /// The order of a design's drivers.
-pub fn order_of(alloc: Global, design: &Design) -> Result<Order, Ended>
+pub(crate) fn order_of(alloc: Global, design: &Design) -> Result<Order, Ended>
     requires { IsLawful design.now }
     ensures { IfOk result (λ order. IsOrder design.now order.drivers) }
 {
@@ -123,7 +137,7 @@ fn run_driver(
 }
 
 /// The drivers run once each, in their order.
-pub fn settled_by_order(
+pub(crate) fn settled_by_order(
     alloc: Global,
     design: &Design,
     state: &Values,
@@ -148,150 +162,125 @@ fn copy_of(alloc: Global, values: &Values) -> Result<Values, Ended> {
 }
 
 /// `settle FILE TOP STATE`: what a state settles to with its inputs, and the next state.
-pub fn settle<S: Shelf>(
+pub(crate) fn print_settled<S: Shelf>(
     alloc: Global,
     design: &Design,
-    shelf: &mut S,
+    paths: &Items<Name>,
     name: &str,
-) -> Result<Vec<u8>, Ended>
+    shelf: &mut S,
+    page: &mut Draft,
+) -> Result<(), Ended>
     requires { IsLawful design.now }
 {
     let cycle = cycle_in(alloc, shelf, name)?;
     let state = state_of(alloc, design, &cycle)?;
-    settled_state(alloc, design, &state, cycle.pins.as_slice())
+    let pins = cycle.pins.as_slice();
+    let settled = settled_by_order(alloc, design, &state, pins)?;
+    print_maps(alloc, design, paths, &state, pins, &settled, page)
 }
 
 /// The lines of `settle`. By its definition a map is settled or not, whatever order the drivers were run in.
-fn settled_state(
+fn print_maps(
     alloc: Global,
     design: &Design,
+    paths: &Items<Name>,
     state: &Values,
     pins: &[u128],
-) -> Result<Vec<u8>, Ended>
+    settled: &Values,
+    page: &mut Draft,
+) -> Result<(), Ended>
     requires { IsLawful design.now }
 {
     lawful_is_sized();
-    let settled = settled_by_order(alloc, design, state, pins)?;
-    let is_one = is_settled(alloc, design, state, pins, &settled)?;
-    let next = next_state(alloc, design, state, &settled)?;
-    settled_lines(alloc, design, is_one, &settled, &next)
-}
-
-/// Whether a map is settled, its nets, and the next state.
-fn settled_lines(
-    alloc: Global,
-    design: &Design,
-    is_one: bool,
-    settled: &Values,
-    next: &Values,
-) -> Result<Vec<u8>, Ended> {
-    let mut text = Vec::new(alloc);
-    put(&mut text, if is_one { b"settled" } else { b"not settled" })?;
-    put_nets(alloc, &mut text, design, settled)?;
-    put_state(alloc, &mut text, design, next)?;
-    Ok(text)
-}
-
-/// ` NAME=NUMBER` for each net
-fn put_nets(
-    alloc: Global,
-    text: &mut Vec<u8>,
-    design: &Design,
-    values: &Values,
-) -> Result<(), Ended> {
-    let paths = paths(alloc, design)?;
-    for (net, number) in values.nets.as_slice().iter().enumerate() {
-        put_net_number(alloc, text, design, &paths, net, *number)?;
-    }
-    put(text, b"\n")?;
+    let is_one = is_settled(alloc, design, state, pins, settled)?;
+    let next = next_state(alloc, design, state, settled)?;
+    page.print(if is_one { b"settled" } else { b"not settled" });
+    print_all(design, paths, settled, page);
+    print_state(design, paths, &next, page);
     Ok(())
 }
 
-fn put_net_number(
-    alloc: Global,
-    text: &mut Vec<u8>,
+/// ` NAME=NUMBER` for each net
+fn print_all(design: &Design, paths: &Items<Name>, values: &Values, page: &mut Draft) {
+    for (net, number) in values.nets.as_slice().iter().enumerate() {
+        print_net_number(design, paths, net, *number, page);
+    }
+    page.print(b"\n");
+}
+
+/// ` NAME=NUMBER`
+fn print_net_number(
     design: &Design,
     paths: &Items<Name>,
     net: usize,
     number: u128,
-) -> Result<(), Ended> {
-    put(text, b" ")?;
-    put_net(text, design, paths, net)?;
-    put(text, b"=")?;
-    put_wide(alloc, text, number)
+    page: &mut Draft,
+) {
+    page.print(b" ");
+    print_net(design, paths, net, page);
+    page.print(b"=");
+    print_number(page, number);
 }
 
 /// A line of the registers, and of other nets that aren't 0, and one of the words where there are some.
-fn put_state(
-    alloc: Global,
-    text: &mut Vec<u8>,
-    design: &Design,
-    state: &Values,
-) -> Result<(), Ended> {
-    put(text, b"state")?;
-    put_registers(alloc, text, design, state)?;
+fn print_state(design: &Design, paths: &Items<Name>, state: &Values, page: &mut Draft) {
+    page.print(b"state");
+    print_registers(design, paths, state, page);
     if !state.words.is_empty() {
-        put(text, b"words")?;
-        put_words(alloc, text, state.words.as_slice())?;
+        page.print(b"words");
+        print_line(state.words.as_slice(), page);
     }
-    Ok(())
 }
 
-fn put_registers(
-    alloc: Global,
-    text: &mut Vec<u8>,
-    design: &Design,
-    state: &Values,
-) -> Result<(), Ended> {
-    let paths = paths(alloc, design)?;
+fn print_registers(design: &Design, paths: &Items<Name>, state: &Values, page: &mut Draft) {
     for (net, number) in state.nets.as_slice().iter().enumerate() {
         if *number != 0 || is_register(design, net) {
-            put_net_number(alloc, text, design, &paths, net, *number)?;
+            print_net_number(design, paths, net, *number, page);
         }
     }
-    put(text, b"\n")?;
-    Ok(())
+    page.print(b"\n");
 }
 
 fn is_register(design: &Design, net: usize) -> bool {
     design.registers.as_slice().iter().any(|r| r.net == net)
 }
 
-fn put_words(alloc: Global, text: &mut Vec<u8>, words: &[u128]) -> Result<(), Ended> {
-    for word in words {
-        put(text, b" ")?;
-        put_wide(alloc, text, *word)?;
-    }
-    put(text, b"\n")?;
-    Ok(())
+/// Prints each number after a space, and the end of the line.
+fn print_line(numbers: &[u128], page: &mut Draft) {
+    print_numbers(page, numbers);
+    page.print(b"\n");
 }
 
 /// `start FILE TOP`: the initial state.
-pub fn start(alloc: Global, design: &Design) -> Result<Vec<u8>, Ended>
+pub(crate) fn print_start(
+    alloc: Global,
+    design: &Design,
+    paths: &Items<Name>,
+    page: &mut Draft,
+) -> Result<(), Ended>
     requires { IsLawful design.now }
 {
     lawful_is_sized();
-    let mut text = Vec::new(alloc);
     let state = initial_state(alloc, design)?;
-    put_state(alloc, &mut text, design, &state)?;
-    Ok(text)
+    print_state(design, paths, &state, page);
+    Ok(())
 }
 
 /// `order FILE TOP`: the order of the drivers, or those of a loop, counted from 0.
-pub fn drivers_order(alloc: Global, design: &Design) -> Result<Vec<u8>, Ended>
+pub(crate) fn print_order(alloc: Global, design: &Design, page: &mut Draft) -> Result<(), Ended>
     requires { IsLawful design.now }
 {
-    let mut text = Vec::new(alloc);
     match order(alloc, design) {
         Ok(order) => {
-            put(&mut text, b"order")?;
-            put_words(alloc, &mut text, order.drivers.as_slice())?;
+            page.print(b"order");
+            print_line(order.drivers.as_slice(), page);
+            Ok(())
         }
         Err(OrderError::Loop { drivers }) => {
-            put(&mut text, b"loop")?;
-            put_words(alloc, &mut text, drivers.as_slice())?;
+            page.print(b"loop");
+            print_line(drivers.as_slice(), page);
+            Ok(())
         }
-        Err(OrderError::Memory) => return Err(Ended::Memory),
+        Err(OrderError::Memory) => Err(Ended::Memory),
     }
-    Ok(text)
 }

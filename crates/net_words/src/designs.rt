@@ -3,8 +3,8 @@
 ghost use Rattle.std.specs.Prelude.{IfOk};
 ghost use Rattle.net_design.specs.Lawful.{IsLawful};
 
-use net_design::Design;
-use report_text::put;
+use net_design::{Design, Instance};
+use report_text::{Draft, Page};
 use std::alloc::Global;
 use vidi_bits::{Items, Memory, Name};
 use vidi_io::Shelf;
@@ -13,7 +13,7 @@ use vlog_elab::ElabError;
 use vlog_words::{Ended, tree_in};
 
 /// The design that a text means.
-pub fn design_in<S: Shelf>(
+pub(crate) fn design_in<S: Shelf>(
     alloc: Global,
     shelf: &mut S,
     name: &str,
@@ -30,45 +30,51 @@ pub fn design_in<S: Shelf>(
 }
 
 /// For each instance its path, with a dot behind each name.
-pub fn paths(alloc: Global, design: &Design) -> Result<Items<Name>, Memory> {
+pub(crate) fn paths(alloc: Global, design: &Design) -> Result<Items<Name>, Memory> {
     let mut known: Items<Name> = Items::new(alloc);
     for (number, instance) in design.instances.as_slice().iter().enumerate() {
-        let mut path = Vec::new(alloc);
-        if number > 0 {
-            if let Some(parent) = known.get(instance.parent) {
-                put(&mut path, parent.as_slice())?;
-            }
-            put(&mut path, instance.name.as_slice())?;
-            put(&mut path, b".")?;
-        }
-        known.push(Items::from_vec(path))?;
+        let path = path_of(alloc, &known, number, instance)?;
+        known.push(path)?;
     }
     Ok(known)
 }
 
-/// The full name of what has this name in an instance.
-pub fn put_name(
-    text: &mut Vec<u8>,
-    paths: &Items<Name>,
-    instance: usize,
-    name: &Name,
-) -> Result<(), Memory> {
-    match paths.get(instance) {
-        Some(path) => put(text, path.as_slice())?,
-        None => put(text, b"?.")?,
+/// The path of an instance, where those before it are known; that of the top is empty.
+fn path_of(
+    alloc: Global,
+    known: &Items<Name>,
+    number: usize,
+    instance: &Instance,
+) -> Result<Name, Memory> {
+    let mut path = Draft::new(alloc);
+    if number > 0 {
+        if let Some(parent) = known.get(instance.parent) {
+            path.print(parent.as_slice());
+        }
+        path.print(instance.name.as_slice());
+        path.print(b".");
     }
-    put(text, name.as_slice())
+    path.finish()
 }
 
-/// The full name of a net.
-pub fn put_net(
-    text: &mut Vec<u8>,
-    design: &Design,
-    paths: &Items<Name>,
-    net: usize,
-) -> Result<(), Memory> {
+/// The path of this instance.
+pub(crate) fn path_at(paths: &Items<Name>, instance: usize) -> &[u8] {
+    match paths.get(instance) {
+        Some(path) => path.as_slice(),
+        None => b"?.",
+    }
+}
+
+/// Prints the full name of what has this name in an instance.
+pub(crate) fn print_name(paths: &Items<Name>, instance: usize, name: &Name, page: &mut Draft) {
+    page.print(path_at(paths, instance));
+    page.print(name.as_slice());
+}
+
+/// Prints the full name of a net.
+pub(crate) fn print_net(design: &Design, paths: &Items<Name>, net: usize, page: &mut Draft) {
     match design.nets.get(net) {
-        Some(net) => put_name(text, paths, net.instance, &net.name),
-        None => put(text, b"?"),
+        Some(net) => print_name(paths, net.instance, &net.name, page),
+        None => page.print(b"?"),
     }
 }

@@ -1,96 +1,79 @@
 //! The words on the nets of a design, and on its ports, clock, registers and memories.
 
-use crate::designs::{paths, put_name, put_net};
+use crate::designs::{print_name, print_net};
 use net_design::{Design, Direction};
-use report_text::{put, put_number};
-use std::alloc::Global;
+use report_text::{Draft, Page, print_number};
 use vidi_bits::{Items, Name};
-use vlog_words::{Ended, put_wide};
 
 /// `nets FILE TOP`: the full name and the width of each net, a line each.
-pub fn nets(alloc: Global, design: &Design) -> Result<Vec<u8>, Ended> {
-    let paths = paths(alloc, design)?;
-    let mut text = Vec::new(alloc);
+pub(crate) fn print_nets(design: &Design, paths: &Items<Name>, page: &mut Draft) {
     for net in design.nets.as_slice() {
-        put_name(&mut text, &paths, net.instance, &net.name)?;
-        put(&mut text, b" ")?;
-        put_number(&mut text, net.width)?;
-        put(&mut text, b"\n")?;
+        print_name(paths, net.instance, &net.name, page);
+        page.print(b" ");
+        print_number(page, net.width);
+        page.print(b"\n");
     }
-    Ok(text)
 }
 
 /// `parts FILE TOP`: the ports, the clock, the registers and the memories, on four lines.
-pub fn parts(alloc: Global, design: &Design) -> Result<Vec<u8>, Ended> {
-    let paths = paths(alloc, design)?;
-    let mut text = Vec::new(alloc);
-    put(&mut text, b"ports")?;
-    put_ports(&mut text, design)?;
-    put(&mut text, b"\nclock")?;
-    put_clock(&mut text, design)?;
-    put(&mut text, b"\nregisters")?;
-    put_registers(alloc, &mut text, design, &paths)?;
-    put(&mut text, b"\nmemories")?;
-    put_memories(&mut text, design, &paths)?;
-    put(&mut text, b"\n")?;
-    Ok(text)
+pub(crate) fn print_parts(design: &Design, paths: &Items<Name>, page: &mut Draft) {
+    page.print(b"ports");
+    print_ports(design, page);
+    page.print(b"\nclock");
+    print_clock(design, page);
+    page.print(b"\nregisters");
+    print_registers(design, paths, page);
+    page.print(b"\nmemories");
+    print_memories(design, paths, page);
+    page.print(b"\n");
 }
 
 /// ` NAME<WIDTH` for each input, ` NAME>WIDTH` for each output.
-fn put_ports(text: &mut Vec<u8>, design: &Design) -> Result<(), Ended> {
+fn print_ports(design: &Design, page: &mut Draft) {
     for port in design.ports.as_slice() {
-        put(text, b" ")?;
-        put(text, port.name.as_slice())?;
-        match port.direction {
-            Direction::Input => put(text, b"<")?,
-            Direction::Output => put(text, b">")?,
-        }
-        put_number(text, port.width)?;
+        page.print(b" ");
+        page.print(port.name.as_slice());
+        page.print(match port.direction {
+            Direction::Input => b"<",
+            Direction::Output => b">",
+        });
+        print_number(page, port.width);
     }
-    Ok(())
 }
 
 /// ` PORT` for the clock, nothing where there is none.
-fn put_clock(text: &mut Vec<u8>, design: &Design) -> Result<(), Ended> {
+fn print_clock(design: &Design, page: &mut Draft) {
     if let Some(clock) = design.clock {
-        put(text, b" ")?;
+        page.print(b" ");
         match design.ports.get(clock) {
-            Some(port) => put(text, port.name.as_slice())?,
-            None => put(text, b"?")?,
+            Some(port) => page.print(port.name.as_slice()),
+            None => page.print(b"?"),
         }
     }
-    Ok(())
 }
 
 /// ` NAME=INITIAL/HELD` for each register.
-fn put_registers(
-    alloc: Global,
-    text: &mut Vec<u8>,
-    design: &Design,
-    paths: &Items<Name>,
-) -> Result<(), Ended> {
+fn print_registers(design: &Design, paths: &Items<Name>, page: &mut Draft) {
     for register in design.registers.as_slice() {
-        put(text, b" ")?;
-        put_net(text, design, paths, register.net)?;
-        put(text, b"=")?;
-        put_wide(alloc, text, register.initial)?;
-        put(text, b"/")?;
-        put_wide(alloc, text, register.held)?;
+        page.print(b" ");
+        print_net(design, paths, register.net, page);
+        page.print(b"=");
+        print_number(page, register.initial);
+        page.print(b"/");
+        print_number(page, register.held);
     }
-    Ok(())
 }
 
 /// ` NAME:WIDTH[LENGTH]FIRST` for each memory, with the place of its first word.
-fn put_memories(text: &mut Vec<u8>, design: &Design, paths: &Items<Name>) -> Result<(), Ended> {
+fn print_memories(design: &Design, paths: &Items<Name>, page: &mut Draft) {
     for memory in design.memories.as_slice() {
-        put(text, b" ")?;
-        put_name(text, paths, memory.instance, &memory.name)?;
-        put(text, b":")?;
-        put_number(text, memory.width)?;
-        put(text, b"[")?;
-        put_number(text, memory.room.length)?;
-        put(text, b"]")?;
-        put_number(text, memory.room.first)?;
+        page.print(b" ");
+        print_name(paths, memory.instance, &memory.name, page);
+        page.print(b":");
+        print_number(page, memory.width);
+        page.print(b"[");
+        print_number(page, memory.room.length);
+        page.print(b"]");
+        print_number(page, memory.room.first);
     }
-    Ok(())
 }

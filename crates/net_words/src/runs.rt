@@ -5,34 +5,35 @@ ghost use Rattle.net_design.specs.Lawful.{IsLawful};
 ghost use Rattle.net_design.specs.Pins.{FitPins};
 
 use crate::cycles::{Cycle, cycle_in, order_of, settled_by_order};
-use crate::designs::{paths, put_name};
+use crate::designs::{path_at, paths};
 use net_design::{Block, Design, Values, lawful_is_sized, number_at};
 use net_reference::{initial_state, is_settled, next_state};
 use net_sim::Sim;
-use report_text::put;
+use report_text::{Draft, Page, print_number};
 use std::alloc::Global;
 use vidi_bits::{Items, Memory, Name};
 use vidi_io::{Shelf, Text};
-use vlog_words::{Ended, put_wide};
+use vlog_words::Ended;
 
 /// The most cycles of a run.
 const MOST_CYCLES: u32 = 1000;
 
 /// `run FILE TOP CYCLES PINS NAME..`: the number of each of these nets, by full name, in the last of so many cycles with the same inputs,
 /// from the initial state.
-pub fn run<S: Shelf>(
+pub(crate) fn print_run<S: Shelf>(
     alloc: Global,
     design: Design,
     shelf: &mut S,
     words: &[Text],
-) -> Result<Vec<u8>, Ended>
+    page: &mut Draft,
+) -> Result<(), Ended>
     requires { IsLawful design }
 {
     let [cycles, file, names @ ..] = words else {
         return Err(Ended::Usage);
     };
     let (cycles, cycle) = given_in(alloc, shelf, cycles, file)?;
-    simulated(alloc, design, cycles, cycle.pins.as_slice(), names)
+    print_simulated(alloc, design, cycles, cycle.pins.as_slice(), names, page)
 }
 
 /// How many cycles are run, and with which inputs.
@@ -54,18 +55,20 @@ fn cycles_of(word: &Text) -> Result<u32, Ended> {
     }
 }
 
-fn simulated(
+fn print_simulated(
     alloc: Global,
     design: Design,
     cycles: u32,
     pins: &[u128],
     names: &[Text],
-) -> Result<Vec<u8>, Ended>
+    page: &mut Draft,
+) -> Result<(), Ended>
     requires { IsLawful design }
 {
     let defined = fit_numbers(alloc, &design, cycles, pins, names)?;
     let sim = ran(alloc, design, cycles, pins)?;
-    lines_of(alloc, &sim, names, defined.as_slice())
+    print_found(&sim, names, defined.as_slice(), page);
+    Ok(())
 }
 
 /// The simulator of a design, after so many cycles with the same inputs.
@@ -152,8 +155,7 @@ fn defined_numbers(
     let paths = paths(alloc, design)?;
     let mut numbers = Items::new(alloc);
     for name in names {
-        let number = number_of(alloc, design, &paths, &map, name.as_str().as_bytes())?;
-        numbers.push(number)?;
+        numbers.push(number_of(design, &paths, &map, name.as_str().as_bytes()))?;
     }
     Ok(numbers)
 }
@@ -176,53 +178,33 @@ fn fit_numbers(
 }
 
 /// The number of the first net of this full name.
-fn number_of(
-    alloc: Global,
-    design: &Design,
-    paths: &Items<Name>,
-    map: &Values,
-    name: &[u8],
-) -> Result<Option<u128>, Ended> {
+fn number_of(design: &Design, paths: &Items<Name>, map: &Values, name: &[u8]) -> Option<u128> {
     for (place, net) in design.nets.as_slice().iter().enumerate() {
-        let mut full = Vec::new(alloc);
-        put_name(&mut full, paths, net.instance, &net.name)?;
-        if full.as_slice() == name {
-            return Ok(Some(number_at(&map.nets, place)));
+        if name.strip_prefix(path_at(paths, net.instance)) == Some(net.name.as_slice()) {
+            return Some(number_at(&map.nets, place));
         }
     }
-    Ok(None)
+    None
 }
 
 /// `NAME NUMBER` for each net, `NAME none` where no net has the name; ` by definition` and a number behind it where that is another.
-fn lines_of(
-    alloc: Global,
-    sim: &Sim,
-    names: &[Text],
-    defined: &[Option<u128>],
-) -> Result<Vec<u8>, Ended> {
-    let mut text = Vec::new(alloc);
+fn print_found(sim: &Sim, names: &[Text], defined: &[Option<u128>], page: &mut Draft) {
     for (name, number) in names.iter().zip(defined) {
         let found = sim.net(name.as_str().as_bytes());
-        put(&mut text, name.as_str().as_bytes())?;
-        put_number_or_none(alloc, &mut text, found)?;
+        page.print(name.as_str().as_bytes());
+        print_number_or_none(found, page);
         if found != *number {
-            put(&mut text, b" by definition")?;
-            put_number_or_none(alloc, &mut text, *number)?;
+            page.print(b" by definition");
+            print_number_or_none(*number, page);
         }
-        put(&mut text, b"\n")?;
+        page.print(b"\n");
     }
-    Ok(text)
 }
 
-fn put_number_or_none(
-    alloc: Global,
-    text: &mut Vec<u8>,
-    number: Option<u128>,
-) -> Result<(), Ended> {
-    put(text, b" ")?;
+fn print_number_or_none(number: Option<u128>, page: &mut Draft) {
+    page.print(b" ");
     match number {
-        Some(number) => put_wide(alloc, text, number)?,
-        None => put(text, b"none")?,
+        Some(number) => print_number(page, number),
+        None => page.print(b"none"),
     }
-    Ok(())
 }

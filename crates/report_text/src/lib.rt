@@ -15,7 +15,9 @@ mod text;
 mod trace_lines;
 mod trace_text;
 
+pub use draft::Draft;
 pub use pad::Pad;
+pub use page::{Page, print_number, print_numbers};
 pub use reason::{Reason, Word, read_fault_line, reason_line};
 pub use report::report_lines;
 pub use row_lines::{RunLines, rows_text};

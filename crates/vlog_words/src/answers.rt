@@ -1,69 +1,114 @@
 //! What the words of a case on a Verilog text are answered.
 
-use crate::blocks::{block, latch};
+use crate::blocks::{BlockWord, print_block};
 use crate::ended::Ended;
-use crate::expression_tree::expression_tree;
 use crate::expressions::{
-    assigned, constant_of, facts, fixed_number, target, target_width_line, value, width_line,
+    ExpressionWord, SizedWord, TargetWord, print_expression, print_sized, print_target,
 };
-use crate::file_tree::tree;
-use crate::printed::printed;
-use crate::spelled::spelled;
-use crate::tree_lines::{expression_lines, file_lines};
+use crate::files::{FileWord, print_expression_notes, print_file};
+use crate::names::{Names, names_in};
+use crate::notes::Noted;
+use crate::tables::entry_of;
+use report_text::Draft;
 use std::alloc::Global;
 use vidi_io::{Shelf, Text};
 
-/// The text that these words ask for of a Verilog text: `Usage` where they are none of those.
-pub fn answer<S: Shelf>(alloc: Global, words: &[Text], shelf: &mut S) -> Result<Vec<u8>, Ended> {
-    match words {
-        [word, file] if is_of_text(word.as_str()) => {
-            of_text(alloc, word.as_str(), file.as_str(), shelf)
+/// What a word asks for.
+#[derive(Clone, Copy)]
+enum Word {
+    /// Something of a file.
+    File(FileWord),
+    /// Notes on the tree of an expression.
+    Notes(Noted),
+    /// Something that names and their numbers give.
+    Named(NamedWord),
+}
+
+/// What a word asks for of what reads names.
+#[derive(Clone, Copy)]
+enum NamedWord {
+    Expression(ExpressionWord),
+    Sized(SizedWord),
+    Target(TargetWord),
+    Block(BlockWord),
+}
+
+const WORDS: [(&str, Word); 16] = [
+    ("tree", Word::File(FileWord::Notes(Noted::File))),
+    ("lines", Word::File(FileWord::Notes(Noted::Lines))),
+    ("spelled", Word::File(FileWord::Spelled)),
+    ("print", Word::File(FileWord::Printed)),
+    ("expr-tree", Word::Notes(Noted::Expression)),
+    ("expr-lines", Word::Notes(Noted::Lines)),
+    (
+        "fixed",
+        Word::Named(NamedWord::Expression(ExpressionWord::Fixed)),
+    ),
+    (
+        "facts",
+        Word::Named(NamedWord::Expression(ExpressionWord::Facts)),
+    ),
+    (
+        "constant",
+        Word::Named(NamedWord::Expression(ExpressionWord::Constant)),
+    ),
+    (
+        "width",
+        Word::Named(NamedWord::Expression(ExpressionWord::Width)),
+    ),
+    (
+        "assigned",
+        Word::Named(NamedWord::Sized(SizedWord::Assigned)),
+    ),
+    ("value", Word::Named(NamedWord::Sized(SizedWord::Value))),
+    ("target", Word::Named(NamedWord::Target(TargetWord::Facts))),
+    (
+        "target-width",
+        Word::Named(NamedWord::Target(TargetWord::Width)),
+    ),
+    ("block", Word::Named(NamedWord::Block(BlockWord::Changes))),
+    ("latch", Word::Named(NamedWord::Block(BlockWord::Latch))),
+];
+
+/// Prints what these words ask for of a Verilog text: `Usage` where they are none of those.
+pub fn answer<S: Shelf>(
+    alloc: Global,
+    words: &[Text],
+    shelf: &mut S,
+    page: &mut Draft,
+) -> Result<(), Ended> {
+    let [word, rest @ ..] = words else {
+        return Err(Ended::Usage);
+    };
+    match (entry_of(&WORDS, word.as_str().as_bytes()), rest) {
+        (Some(Word::File(word)), [name]) => print_file(alloc, word, name.as_str(), shelf, page),
+        (Some(Word::Notes(noted)), _) => print_expression_notes(alloc, noted, rest, page),
+        (Some(Word::Named(word)), _) => {
+            let names = names_in(alloc, shelf)?;
+            print_named(alloc, word, rest, &names, shelf, page)
         }
-        [word, rest @ ..] => of_words(alloc, word.as_str(), rest, shelf),
-        [] => Err(Ended::Usage),
-    }
-}
-
-/// The words on expressions and blocks, whose texts are words of the case.
-fn of_words<S: Shelf>(
-    alloc: Global,
-    word: &str,
-    rest: &[Text],
-    shelf: &mut S,
-) -> Result<Vec<u8>, Ended> {
-    match word.as_bytes() {
-        b"fixed" => fixed_number(alloc, rest, shelf),
-        b"facts" => facts(alloc, rest, shelf),
-        b"target" => target(alloc, rest, shelf),
-        b"assigned" => assigned(alloc, rest, shelf),
-        b"constant" => constant_of(alloc, rest, shelf),
-        b"width" => width_line(alloc, rest, shelf),
-        b"target-width" => target_width_line(alloc, rest, shelf),
-        b"value" => value(alloc, rest, shelf),
-        b"block" => block(alloc, rest, shelf),
-        b"latch" => latch(alloc, rest, shelf),
-        b"expr-tree" => expression_tree(alloc, rest),
-        b"expr-lines" => expression_lines(alloc, rest),
         _ => Err(Ended::Usage),
     }
 }
 
-fn is_of_text(word: &str) -> bool {
-    matches!(word.as_bytes(), b"tree" | b"lines" | b"spelled" | b"print")
-}
-
-/// The words on a design text.
-fn of_text<S: Shelf>(
+/// Prints what reads these names.
+fn print_named<S: Shelf>(
     alloc: Global,
-    word: &str,
-    file: &str,
+    word: NamedWord,
+    words: &[Text],
+    names: &Names,
     shelf: &mut S,
-) -> Result<Vec<u8>, Ended> {
-    match word.as_bytes() {
-        b"tree" => tree(alloc, file, shelf),
-        b"lines" => file_lines(alloc, file, shelf),
-        b"spelled" => spelled(alloc, file, shelf),
-        b"print" => printed(alloc, file, shelf),
-        _ => Err(Ended::Usage),
+    page: &mut Draft,
+) -> Result<(), Ended> {
+    match (word, words) {
+        (NamedWord::Expression(word), _) => {
+            print_expression(alloc, word, words, &names.scope, page)
+        }
+        (NamedWord::Sized(word), [width, words @ ..]) => {
+            print_sized(alloc, word, width, words, names, page)
+        }
+        (NamedWord::Sized(_), []) => Err(Ended::Usage),
+        (NamedWord::Target(word), _) => print_target(alloc, word, words, &names.scope, page),
+        (NamedWord::Block(word), _) => print_block(alloc, word, words, names, shelf, page),
     }
 }

@@ -1,23 +1,33 @@
 //! The words on always blocks: what they change, and the bits that they leave open.
 
 use crate::ended::Ended;
-use crate::names::{Names, names_in};
-use crate::numbers::put_wide;
-use crate::texts::{put_block, tree_of};
+use crate::names::{Names, WordPlace};
+use crate::texts::{print_block_text, tree_of};
 use net_design::{Timing, Values};
 use net_reference::after_block;
-use report_text::{put, put_number};
+use report_text::{Draft, Page, print_number};
 use std::alloc::Global;
 use vidi_io::{Shelf, Text};
 use vlog_block::{block_code, is_faultless};
 use vlog_latch::bind_block;
 use vlog_tree::{Always, Event, File, Item};
 
+/// What a word asks for of a block.
+#[derive(Clone, Copy)]
+pub(crate) enum BlockWord {
+    /// The nets and words that it changes.
+    Changes,
+    /// Whether bits are left open.
+    Latch,
+}
+
 /// The module whose block the words are; `always` stands on line 2.
-fn module_of<S: Shelf>(alloc: Global, words: &[Text], shelf: &mut S) -> Result<Box<File>, Ended> {
-    let mut text = b"module t(input c);\nalways ".to_vec(alloc)?;
-    put_block(alloc, &mut text, words, shelf)?;
-    put(&mut text, b"endmodule\n")?;
+fn module_of<S: Shelf>(alloc: Global, words: &[Text], shelf: &mut S) -> Result<File, Ended> {
+    let mut page = Draft::new(alloc);
+    page.print(b"module t(input c);\nalways ");
+    print_block_text(alloc, words, shelf, &mut page)?;
+    page.print(b"endmodule\n");
+    let text = page.finish()?;
     tree_of(alloc, text.as_slice())
 }
 
@@ -33,106 +43,81 @@ fn timing_of(block: &Always) -> Timing {
     }
 }
 
-/// `latch B..`: nothing, where no bit is left open.
-pub fn latch<S: Shelf>(alloc: Global, words: &[Text], shelf: &mut S) -> Result<Vec<u8>, Ended> {
-    let names = names_in(alloc, shelf)?;
+/// `block B..`: the nets and words that a block changes, a line each; `latch B..`: nothing, where no bit is left open.
+pub(crate) fn print_block<S: Shelf>(
+    alloc: Global,
+    word: BlockWord,
+    words: &[Text],
+    names: &Names,
+    shelf: &mut S,
+    page: &mut Draft,
+) -> Result<(), Ended> {
     let file = module_of(alloc, words, shelf)?;
     match first_item(&file) {
-        Some(Item::Always(block)) if is_faultless(block, &names.scope) => {
-            bind_block(alloc, block, &names.scope)?;
-            Ok(Vec::new(alloc))
-        }
+        Some(Item::Always(block)) => print_said(alloc, word, block, names, page),
         _ => Err(Ended::Usage),
     }
 }
 
-/// `block B..`: the nets and words that a block changes, a line each.
-pub fn block<S: Shelf>(alloc: Global, words: &[Text], shelf: &mut S) -> Result<Vec<u8>, Ended> {
-    let names = names_in(alloc, shelf)?;
-    let file = module_of(alloc, words, shelf)?;
-    match first_item(&file) {
-        Some(Item::Always(block)) if is_faultless(block, &names.scope) => {
+fn print_said(
+    alloc: Global,
+    word: BlockWord,
+    block: &Always,
+    names: &Names,
+    page: &mut Draft,
+) -> Result<(), Ended> {
+    if !is_faultless(block, &names.scope) {
+        return Err(Ended::Usage);
+    }
+    match word {
+        BlockWord::Changes => {
             let code = block_code(alloc, block, &names.scope)?;
             let now = after_block(alloc, timing_of(block), &code.acts, &names.values)?;
-            changes(alloc, &names, &now)
+            print_nets(names, &now, page);
+            print_words(names, &now, page);
         }
-        _ => Err(Ended::Usage),
+        BlockWord::Latch => {
+            bind_block(alloc, block, &names.scope)?;
+        }
     }
-}
-
-fn changes(alloc: Global, names: &Names, now: &Values) -> Result<Vec<u8>, Ended> {
-    let mut text = Vec::new(alloc);
-    put_nets(alloc, &mut text, names, now)?;
-    put_words(alloc, &mut text, names, now)?;
-    Ok(text)
+    Ok(())
 }
 
 /// `NAME NUMBER` for each net that is another number.
-fn put_nets(alloc: Global, text: &mut Vec<u8>, names: &Names, now: &Values) -> Result<(), Ended> {
+fn print_nets(names: &Names, now: &Values, page: &mut Draft) {
     let before = names.values.nets.as_slice();
     for (place, (was, is)) in before.iter().zip(now.nets.as_slice()).enumerate() {
         if was != is {
-            put_net(alloc, text, names, place, *is)?;
+            page.print(names.scope.nets.name_at(place).unwrap_or(b"?"));
+            print_end(*is, page);
         }
     }
-    Ok(())
-}
-
-/// `NAME NUMBER`
-fn put_net(
-    alloc: Global,
-    text: &mut Vec<u8>,
-    names: &Names,
-    place: usize,
-    number: u128,
-) -> Result<(), Ended> {
-    put(text, names.scope.nets.name_at(place).unwrap_or(b"?"))?;
-    put_end(alloc, text, number)
 }
 
 /// ` NUMBER`, and the end of the line
-fn put_end(alloc: Global, text: &mut Vec<u8>, number: u128) -> Result<(), Ended> {
-    put(text, b" ")?;
-    put_wide(alloc, text, number)?;
-    put(text, b"\n")?;
-    Ok(())
+fn print_end(number: u128, page: &mut Draft) {
+    page.print(b" ");
+    print_number(page, number);
+    page.print(b"\n");
 }
 
 /// `NAME[PLACE] NUMBER` for each word that is another number.
-fn put_words(alloc: Global, text: &mut Vec<u8>, names: &Names, now: &Values) -> Result<(), Ended> {
+fn print_words(names: &Names, now: &Values, page: &mut Draft) {
     let before = names.values.words.as_slice();
     for (place, (was, is)) in before.iter().zip(now.words.as_slice()).enumerate() {
         if was != is {
-            put_word(alloc, text, names, place, *is)?;
+            if let Some(word) = names.words.get(place) {
+                print_place(names, *word, page);
+            }
+            print_end(*is, page);
         }
     }
-    Ok(())
 }
 
-/// `NAME[PLACE] NUMBER`
-fn put_word(
-    alloc: Global,
-    text: &mut Vec<u8>,
-    names: &Names,
-    place: usize,
-    number: u128,
-) -> Result<(), Ended> {
-    put_word_name(text, names, place)?;
-    put_end(alloc, text, number)
-}
-
-fn put_word_name(text: &mut Vec<u8>, names: &Names, place: usize) -> Result<(), Ended> {
-    match names.words.get(place) {
-        Some(word) => {
-            put(
-                text,
-                names.scope.memories.name_at(word.memory).unwrap_or(b"?"),
-            )?;
-            put(text, b"[")?;
-            put_number(text, word.index)?;
-            put(text, b"]")?;
-        }
-        None => {}
-    }
-    Ok(())
+/// `NAME[PLACE]`
+fn print_place(names: &Names, word: WordPlace, page: &mut Draft) {
+    page.print(names.scope.memories.name_at(word.memory).unwrap_or(b"?"));
+    page.print(b"[");
+    print_number(page, word.index);
+    page.print(b"]");
 }

@@ -4,19 +4,135 @@ ghost use Rattle.std.specs.Prelude.{IfOk};
 ghost use Rattle.vidi_bits.specs.Number.{IsWidth};
 
 use crate::ended::Ended;
-use crate::names::{Names, names_in};
-use crate::numbers::put_wide;
+use crate::names::Names;
 use crate::texts::{expression_of, target_of_words};
 use net_reference::value_of;
-use report_text::put;
+use report_text::{Draft, Page, print_number};
 use std::alloc::Global;
-use vidi_io::{Shelf, Text};
+use vidi_io::Text;
 use vlog_block::bind_expr;
 use vlog_size::{
-    Const, Facts, Numbered, assigned_number, constant, facts_of, fixed, numbered, target_facts,
-    target_width, whole_view, width,
+    Const, Facts, Numbered, Scope, assigned_number, constant, facts_of, fixed, numbered,
+    target_facts, target_width, whole_view, width,
 };
-use vlog_tree::Expr;
+use vlog_tree::{Expr, Target};
+
+/// What a word asks for of an expression.
+#[derive(Clone, Copy)]
+pub(crate) enum ExpressionWord {
+    /// Its number in a constant position.
+    Fixed,
+    /// Its width elsewhere.
+    Facts,
+    /// The constant that it is, of names that are checked.
+    Constant,
+    /// Its width, of names that are checked.
+    Width,
+}
+
+/// What a word asks for of an expression at so many bits.
+#[derive(Clone, Copy)]
+pub(crate) enum SizedWord {
+    /// The number that they have where it is assigned to them.
+    Assigned,
+    /// The number of its code.
+    Value,
+}
+
+/// What a word asks for of a target.
+#[derive(Clone, Copy)]
+pub(crate) enum TargetWord {
+    /// Its width.
+    Facts,
+    /// Its width, of names that are checked.
+    Width,
+}
+
+/// `fixed E..`, `facts E..`, `constant E..`, `width E..`
+pub(crate) fn print_expression(
+    alloc: Global,
+    word: ExpressionWord,
+    words: &[Text],
+    scope: &Scope,
+    page: &mut Draft,
+) -> Result<(), Ended> {
+    let e = expression_of(alloc, words)?;
+    print_said(word, &e, scope, page)
+}
+
+fn print_said(
+    word: ExpressionWord,
+    e: &Expr,
+    scope: &Scope,
+    page: &mut Draft,
+) -> Result<(), Ended> {
+    match word {
+        ExpressionWord::Fixed => print_fixed(&numbered(&fixed(&whole_view(scope)), e), page)?,
+        ExpressionWord::Facts => print_facts(&facts_of(&whole_view(scope), e), page)?,
+        ExpressionWord::Constant => print_constant(constant(e, &scope.params)?, page),
+        ExpressionWord::Width => print_line(u128::from(width(e, scope)?), page),
+    }
+    Ok(())
+}
+
+/// `target T..`, `target-width T..`
+pub(crate) fn print_target(
+    alloc: Global,
+    word: TargetWord,
+    words: &[Text],
+    scope: &Scope,
+    page: &mut Draft,
+) -> Result<(), Ended> {
+    let target = target_of_words(alloc, words)?;
+    print_target_width(word, &target, scope, page)
+}
+
+fn print_target_width(
+    word: TargetWord,
+    target: &Target,
+    scope: &Scope,
+    page: &mut Draft,
+) -> Result<(), Ended> {
+    match word {
+        TargetWord::Facts => print_facts(&target_facts(&whole_view(scope), target), page)?,
+        TargetWord::Width => print_line(u128::from(target_width(target, scope)?), page),
+    }
+    Ok(())
+}
+
+/// `assigned W E..`, `value W E..`
+pub(crate) fn print_sized(
+    alloc: Global,
+    word: SizedWord,
+    width: &Text,
+    words: &[Text],
+    names: &Names,
+    page: &mut Draft,
+) -> Result<(), Ended> {
+    let w = width_of(width)?;
+    let e = expression_of(alloc, words)?;
+    print_at(alloc, word, &e, names, w, page)
+}
+
+fn print_at(
+    alloc: Global,
+    word: SizedWord,
+    e: &Expr,
+    names: &Names,
+    w: u32,
+    page: &mut Draft,
+) -> Result<(), Ended>
+    requires { IsWidth w }
+{
+    match word {
+        SizedWord::Assigned => match assigned_number(&whole_view(&names.scope), e, w) {
+            Some(n) => print_line(n, page),
+            None => page.print(b"unknown\n"),
+        },
+        SizedWord::Value => print_line(number_at(alloc, e, names, w)?, page),
+    }
+    Ok(())
+}
 
 /// A width of 1 to 128 bits that a word writes.
 fn width_of(word: &Text) -> Result<u32, Ended>
@@ -25,151 +141,6 @@ fn width_of(word: &Text) -> Result<u32, Ended>
     match word.as_str().parse::<u32>() {
         Ok(w) if 1 <= w && w <= 128 => Ok(w),
         _ => Err(Ended::Usage),
-    }
-}
-
-fn line_of_number(alloc: Global, n: u128) -> Result<Vec<u8>, Ended> {
-    let mut text = Vec::new(alloc);
-    put_wide(alloc, &mut text, n)?;
-    put(&mut text, b"\n")?;
-    Ok(text)
-}
-
-/// `plain N`
-fn plain_line(alloc: Global, n: u128) -> Result<Vec<u8>, Ended> {
-    let mut text = Vec::new(alloc);
-    put(&mut text, b"plain ")?;
-    put_wide(alloc, &mut text, n)?;
-    put(&mut text, b"\n")?;
-    Ok(text)
-}
-
-/// `WIDTH N`
-fn sized_line(alloc: Global, width: u128, n: u128) -> Result<Vec<u8>, Ended> {
-    let mut text = Vec::new(alloc);
-    put_wide(alloc, &mut text, width)?;
-    put(&mut text, b" ")?;
-    put_wide(alloc, &mut text, n)?;
-    put(&mut text, b"\n")?;
-    Ok(text)
-}
-
-fn unknown_line(alloc: Global) -> Result<Vec<u8>, Ended> {
-    Ok(b"unknown\n".to_vec(alloc)?)
-}
-
-/// The width, unless there is a fault.
-fn facts_line(alloc: Global, facts: &Facts) -> Result<Vec<u8>, Ended> {
-    faultless(facts)?;
-    line_of_number(alloc, facts.width)
-}
-
-fn faultless(facts: &Facts) -> Result<(), Ended> {
-    match (facts.const_fault, facts.width_fault) {
-        (Some(fault), _) | (None, Some(fault)) => Err(Ended::from(fault)),
-        (None, None) => Ok(()),
-    }
-}
-
-fn numbered_line(alloc: Global, whole: &Numbered) -> Result<Vec<u8>, Ended> {
-    faultless(&whole.facts)?;
-    match whole.number {
-        Some(n) if whole.facts.plain => plain_line(alloc, n),
-        Some(n) => sized_line(alloc, whole.facts.width, n),
-        None => unknown_line(alloc),
-    }
-}
-
-/// `fixed E..`: the number of an expression in a constant position.
-pub fn fixed_number<S: Shelf>(
-    alloc: Global,
-    words: &[Text],
-    shelf: &mut S,
-) -> Result<Vec<u8>, Ended> {
-    let names = names_in(alloc, shelf)?;
-    let e = expression_of(alloc, words)?;
-    numbered_line(alloc, &numbered(&fixed(&whole_view(&names.scope)), &e))
-}
-
-/// `facts E..`: the width of an expression elsewhere.
-pub fn facts<S: Shelf>(alloc: Global, words: &[Text], shelf: &mut S) -> Result<Vec<u8>, Ended> {
-    let names = names_in(alloc, shelf)?;
-    let e = expression_of(alloc, words)?;
-    facts_line(alloc, &facts_of(&whole_view(&names.scope), &e))
-}
-
-/// `target T..`: the width of a target.
-pub fn target<S: Shelf>(alloc: Global, words: &[Text], shelf: &mut S) -> Result<Vec<u8>, Ended> {
-    let names = names_in(alloc, shelf)?;
-    let target = target_of_words(alloc, words)?;
-    facts_line(alloc, &target_facts(&whole_view(&names.scope), &target))
-}
-
-/// `assigned W E..`: the number that so many bits have where this is assigned to them.
-pub fn assigned<S: Shelf>(alloc: Global, words: &[Text], shelf: &mut S) -> Result<Vec<u8>, Ended> {
-    let names = names_in(alloc, shelf)?;
-    match words {
-        [w, words @ ..] => {
-            let w = width_of(w)?;
-            let e = expression_of(alloc, words)?;
-            match assigned_number(&whole_view(&names.scope), &e, w) {
-                Some(n) => line_of_number(alloc, n),
-                None => unknown_line(alloc),
-            }
-        }
-        [] => Err(Ended::Usage),
-    }
-}
-
-/// `constant E..`: the constant that an expression is, of names that are checked.
-pub fn constant_of<S: Shelf>(
-    alloc: Global,
-    words: &[Text],
-    shelf: &mut S,
-) -> Result<Vec<u8>, Ended> {
-    let names = names_in(alloc, shelf)?;
-    let e = expression_of(alloc, words)?;
-    match constant(&e, &names.scope.params)? {
-        Const::Plain { n } => plain_line(alloc, u128::from(n)),
-        Const::Sized { width, n } => sized_line(alloc, u128::from(width), n),
-    }
-}
-
-/// `width E..`: the width of an expression, of names that are checked.
-pub fn width_line<S: Shelf>(
-    alloc: Global,
-    words: &[Text],
-    shelf: &mut S,
-) -> Result<Vec<u8>, Ended> {
-    let names = names_in(alloc, shelf)?;
-    let e = expression_of(alloc, words)?;
-    let w = width(&e, &names.scope)?;
-    line_of_number(alloc, u128::from(w))
-}
-
-/// `target-width T..`: the width of a target, of names that are checked.
-pub fn target_width_line<S: Shelf>(
-    alloc: Global,
-    words: &[Text],
-    shelf: &mut S,
-) -> Result<Vec<u8>, Ended> {
-    let names = names_in(alloc, shelf)?;
-    let target = target_of_words(alloc, words)?;
-    let w = target_width(&target, &names.scope)?;
-    line_of_number(alloc, u128::from(w))
-}
-
-/// `value W E..`: the number of an expression's code at so many bits.
-pub fn value<S: Shelf>(alloc: Global, words: &[Text], shelf: &mut S) -> Result<Vec<u8>, Ended> {
-    let names = names_in(alloc, shelf)?;
-    match words {
-        [w, words @ ..] => {
-            let w = width_of(w)?;
-            let e = expression_of(alloc, words)?;
-            let n = number_at(alloc, &e, &names, w)?;
-            line_of_number(alloc, n)
-        }
-        [] => Err(Ended::Usage),
     }
 }
 
@@ -183,4 +154,54 @@ fn number_at(alloc: Global, e: &Expr, names: &Names, w: u32) -> Result<u128, End
     }
     let code = bind_expr(alloc, e, &names.scope, w)?;
     Ok(value_of(&code, &names.values))
+}
+
+/// Prints the width, unless there is a fault.
+fn print_facts(facts: &Facts, page: &mut Draft) -> Result<(), Ended> {
+    faultless(facts)?;
+    print_line(facts.width, page);
+    Ok(())
+}
+
+/// Prints the number where it is known, unless there is a fault.
+fn print_fixed(whole: &Numbered, page: &mut Draft) -> Result<(), Ended> {
+    faultless(&whole.facts)?;
+    match whole.number {
+        Some(n) if whole.facts.plain => print_plain(n, page),
+        Some(n) => print_with_width(whole.facts.width, n, page),
+        None => page.print(b"unknown\n"),
+    }
+    Ok(())
+}
+
+fn faultless(facts: &Facts) -> Result<(), Ended> {
+    match (facts.const_fault, facts.width_fault) {
+        (Some(fault), _) | (None, Some(fault)) => Err(Ended::from(fault)),
+        (None, None) => Ok(()),
+    }
+}
+
+fn print_constant(constant: Const, page: &mut Draft) {
+    match constant {
+        Const::Plain { n } => print_plain(u128::from(n), page),
+        Const::Sized { width, n } => print_with_width(u128::from(width), n, page),
+    }
+}
+
+/// `plain N`
+fn print_plain(n: u128, page: &mut Draft) {
+    page.print(b"plain ");
+    print_line(n, page);
+}
+
+/// `WIDTH N`
+fn print_with_width(width: u128, n: u128, page: &mut Draft) {
+    print_number(page, width);
+    page.print(b" ");
+    print_line(n, page);
+}
+
+fn print_line(n: u128, page: &mut Draft) {
+    print_number(page, n);
+    page.print(b"\n");
 }

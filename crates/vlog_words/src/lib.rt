@@ -5,17 +5,17 @@
 mod answers;
 mod blocks;
 mod ended;
-mod expression_tree;
+mod expr_notes;
 mod expressions;
-mod file_tree;
+mod file_notes;
+mod files;
 mod names;
-mod numbers;
-mod printed;
-mod spelled;
+mod notes;
+mod stmt_notes;
+mod tables;
 mod texts;
-mod tree_lines;
 
 pub use answers::answer;
 pub use ended::Ended;
-pub use numbers::put_wide;
+pub use tables::entry_of;
 pub use texts::{lines_in, number_in, tree_in};

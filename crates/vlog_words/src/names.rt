@@ -1,6 +1,7 @@
 //! The names of the words on expressions and blocks, with their numbers: the file `names` of a case.
 
 use crate::ended::Ended;
+use crate::tables::entry_of;
 use crate::texts::{lines_in, number_in};
 use net_design::Values;
 use std::alloc::Global;
@@ -14,14 +15,14 @@ const MOST_WORDS: u32 = 65_536;
 
 /// A word of a memory: the memory's place, and the word's place in it.
 #[derive(Clone, Copy)]
-pub struct WordPlace {
+pub(crate) struct WordPlace {
     pub memory: usize,
     pub index: u32,
 }
 
 /// Names and their numbers.
 #[derive(Drop)]
-pub struct Names {
+pub(crate) struct Names {
     pub scope: Scope,
     pub values: Values,
     /// Where each of the words stands.
@@ -31,7 +32,7 @@ pub struct Names {
 }
 
 /// The names that the file `names` declares.
-pub fn names_in<S: Shelf>(alloc: Global, shelf: &mut S) -> Result<Box<Names>, Ended> {
+pub(crate) fn names_in<S: Shelf>(alloc: Global, shelf: &mut S) -> Result<Box<Names>, Ended> {
     let lines = lines_in(alloc, shelf, "names")?;
     let mut names = no_names(alloc);
     add_lines(alloc, &mut names, lines.as_slice())?;
@@ -63,83 +64,93 @@ fn add_lines(alloc: Global, names: &mut Names, lines: &[Line]) -> Result<(), End
     Ok(())
 }
 
+/// What a line declares.
+#[derive(Clone, Copy)]
+enum Kind {
+    Plain,
+    Sized,
+    Behind,
+    Net,
+    Memory,
+}
+
+const KINDS: [(&str, Kind); 5] = [
+    ("plain", Kind::Plain),
+    ("sized", Kind::Sized),
+    ("behind", Kind::Behind),
+    ("net", Kind::Net),
+    ("memory", Kind::Memory),
+];
+
 fn add_line(alloc: Global, names: &mut Names, line: &Line) -> Result<(), Ended> {
-    match line.words.as_slice() {
-        [] => Ok(()),
-        [kind, words @ ..] => match kind.as_slice() {
-            b"plain" => add_plain(alloc, names, words),
-            b"sized" => add_sized(alloc, names, words),
-            b"behind" => add_behind(names, words),
-            b"net" => add_net(alloc, names, words),
-            b"memory" => add_memory(alloc, names, words),
-            _ => Err(Ended::Usage),
-        },
-    }
-}
-
-/// `plain NAME NUMBER`, or with `?` one whose number isn't known
-fn add_plain(alloc: Global, names: &mut Names, words: &[Name]) -> Result<(), Ended> {
-    match words {
-        [name, number] => {
-            let known = is_known(number);
-            let n = if known { width_in(number)? } else { 0 };
-            let value = Const::Plain { n };
-            add_parameter(alloc, names, name, Param { value, known })
+    let [kind, words @ ..] = line.words.as_slice() else {
+        return Ok(());
+    };
+    match (entry_of(&KINDS, kind.as_slice()), words) {
+        (Some(Kind::Plain), [name, number]) => add_plain(alloc, names, name, number),
+        (Some(Kind::Sized), [name, width, number]) => add_sized(alloc, names, name, width, number),
+        (Some(Kind::Behind), []) => {
+            names.declared = Some(names.scope.params.len());
+            Ok(())
+        }
+        (Some(Kind::Net), [name, width, number @ ..]) => add_net(alloc, names, name, width, number),
+        (Some(Kind::Memory), [name, width, length, numbers @ ..]) => {
+            add_memory(alloc, names, name, width, length, numbers)
         }
         _ => Err(Ended::Usage),
     }
 }
 
-/// `sized NAME WIDTH NUMBER`, or with `?` one whose number isn't known
-fn add_sized(alloc: Global, names: &mut Names, words: &[Name]) -> Result<(), Ended> {
-    match words {
-        [name, width, number] => {
-            let known = is_known(number);
-            let width = width_in(width)?;
-            let n = if known { number_in(number)? } else { 0 };
-            let value = Const::Sized { width, n };
-            add_parameter(alloc, names, name, Param { value, known })
-        }
-        _ => Err(Ended::Usage),
-    }
+/// Adds a name to a table.
+fn declare<V: Drop>(
+    alloc: Global,
+    table: &mut Table<V>,
+    name: &Name,
+    value: V,
+) -> Result<(), Ended> {
+    let name = copied(alloc, name.as_slice())?;
+    table.push(name, value)?;
+    Ok(())
 }
 
 fn is_known(number: &Name) -> bool {
     number.as_slice() != b"?".as_slice()
 }
 
-fn add_parameter(
+/// `plain NAME NUMBER`, or with `?` one whose number isn't known
+fn add_plain(alloc: Global, names: &mut Names, name: &Name, number: &Name) -> Result<(), Ended> {
+    let known = is_known(number);
+    let n = if known { width_in(number)? } else { 0 };
+    let value = Const::Plain { n };
+    declare(alloc, &mut names.scope.params, name, Param { value, known })
+}
+
+/// `sized NAME WIDTH NUMBER`, or with `?` one whose number isn't known
+fn add_sized(
     alloc: Global,
     names: &mut Names,
     name: &Name,
-    parameter: Param,
+    width: &Name,
+    number: &Name,
 ) -> Result<(), Ended> {
-    let name = copied(alloc, name.as_slice())?;
-    names.scope.params.push(name, parameter)?;
-    Ok(())
-}
-
-/// `behind`: the parameters below this line are declared behind the expression
-fn add_behind(names: &mut Names, words: &[Name]) -> Result<(), Ended> {
-    if !words.is_empty() {
-        return Err(Ended::Usage);
-    }
-    names.declared = Some(names.scope.params.len());
-    Ok(())
+    let known = is_known(number);
+    let width = width_in(width)?;
+    let n = if known { number_in(number)? } else { 0 };
+    let value = Const::Sized { width, n };
+    declare(alloc, &mut names.scope.params, name, Param { value, known })
 }
 
 /// `net NAME WIDTH`, with its number behind it where it has one
-fn add_net(alloc: Global, names: &mut Names, words: &[Name]) -> Result<(), Ended> {
-    match words {
-        [name, width, number @ ..] => {
-            let width = width_in(width)?;
-            names.values.nets.push(first_number(number)?)?;
-            let name = copied(alloc, name.as_slice())?;
-            names.scope.nets.push(name, ScopeNet { width })?;
-            Ok(())
-        }
-        _ => Err(Ended::Usage),
-    }
+fn add_net(
+    alloc: Global,
+    names: &mut Names,
+    name: &Name,
+    width: &Name,
+    number: &[Name],
+) -> Result<(), Ended> {
+    let width = width_in(width)?;
+    names.values.nets.push(first_number(number)?)?;
+    declare(alloc, &mut names.scope.nets, name, ScopeNet { width })
 }
 
 /// The number of at most one word, 0 of none.
@@ -152,21 +163,19 @@ fn first_number(words: &[Name]) -> Result<u128, Ended> {
 }
 
 /// `memory NAME WIDTH LENGTH`, with the numbers of its words behind it; those that aren't given are 0
-fn add_memory(alloc: Global, names: &mut Names, words: &[Name]) -> Result<(), Ended> {
-    match words {
-        [name, width, length, numbers @ ..] => {
-            let width = width_in(width)?;
-            let length = width_in(length)?;
-            add_words(names, length.min(MOST_WORDS), numbers)?;
-            let name = copied(alloc, name.as_slice())?;
-            names
-                .scope
-                .memories
-                .push(name, ScopeMemory { width, length })?;
-            Ok(())
-        }
-        _ => Err(Ended::Usage),
-    }
+fn add_memory(
+    alloc: Global,
+    names: &mut Names,
+    name: &Name,
+    width: &Name,
+    length: &Name,
+    numbers: &[Name],
+) -> Result<(), Ended> {
+    let width = width_in(width)?;
+    let length = width_in(length)?;
+    add_words(names, length.min(MOST_WORDS), numbers)?;
+    let memory = ScopeMemory { width, length };
+    declare(alloc, &mut names.scope.memories, name, memory)
 }
 
 fn add_words(names: &mut Names, length: u32, numbers: &[Name]) -> Result<(), Ended> {
@@ -184,7 +193,7 @@ fn add_words(names: &mut Names, length: u32, numbers: &[Name]) -> Result<(), End
 }
 
 /// A number of 32 bits.
-pub fn width_in(word: &Name) -> Result<u32, Ended> {
+fn width_in(word: &Name) -> Result<u32, Ended> {
     match u32::try_from(number_in(word)?) {
         Ok(n) => Ok(n),
         Err(_) => Err(Ended::Usage),

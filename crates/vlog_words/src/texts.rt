@@ -5,7 +5,7 @@ ghost use Rattle.vlog_tree.specs.Plain.{plain};
 ghost use Rattle.vlog_tree.specs.Shape.{IsGood};
 
 use crate::ended::Ended;
-use report_text::put;
+use report_text::{Draft, Page};
 use std::alloc::Global;
 use vidi_bits::Name;
 use vidi_io::{Shelf, Text, read_whole};
@@ -37,68 +37,65 @@ fn tokens_of(alloc: Global, text: &[u8]) -> Result<Tokens, Ended> {
 }
 
 /// The tree of a design text.
-pub fn tree_of(alloc: Global, text: &[u8]) -> Result<Box<File>, Ended>
-    ensures { IfOk result (λ file. IsGood (plain file.value)) }
+pub(crate) fn tree_of(alloc: Global, text: &[u8]) -> Result<File, Ended>
+    ensures { IfOk result (λ file. IsGood (plain file)) }
 {
     let tokens = tokens_of(alloc, text)?;
-    let file = parse(alloc, &tokens)?;
-    Ok(Box::new(alloc, file)?)
+    Ok(parse(alloc, &tokens)?)
 }
 
 /// The tree of the design text of this name.
-pub fn tree_in<S: Shelf>(alloc: Global, shelf: &mut S, name: &str) -> Result<Box<File>, Ended>
-    ensures { IfOk result (λ file. IsGood (plain file.value)) }
+pub fn tree_in<S: Shelf>(alloc: Global, shelf: &mut S, name: &str) -> Result<File, Ended>
+    ensures { IfOk result (λ file. IsGood (plain file)) }
 {
     let text = read_whole(alloc, shelf, name, TEXT_LIMIT)?;
     tree_of(alloc, text.as_slice())
 }
 
-/// Adds the words of a block, which begin with `@`, or the text of the one file that they name.
-pub fn put_block<S: Shelf>(
+/// Prints the words of a block, which begin with `@`, or the text of the one file that they name.
+pub(crate) fn print_block_text<S: Shelf>(
     alloc: Global,
-    text: &mut Vec<u8>,
     words: &[Text],
     shelf: &mut S,
+    page: &mut Draft,
 ) -> Result<(), Ended> {
     match words {
         [name] if !name.as_str().starts_with("@") => {
-            let block = read_whole(alloc, shelf, name.as_str(), TEXT_LIMIT)?;
-            put(text, block.as_slice())?;
-            Ok(())
+            let text = read_whole(alloc, shelf, name.as_str(), TEXT_LIMIT)?;
+            page.print(text.as_slice());
         }
-        _ => put_lines(text, words),
-    }
-}
-
-/// Adds words, each on a line of its own.
-fn put_lines(text: &mut Vec<u8>, words: &[Text]) -> Result<(), Ended> {
-    for word in words {
-        put(text, word.as_str().as_bytes())?;
-        put(text, b"\n")?;
+        _ => print_words(words, page),
     }
     Ok(())
 }
 
+/// Prints words, each on a line of its own.
+fn print_words(words: &[Text], page: &mut Draft) {
+    for word in words {
+        page.print(word.as_str().as_bytes());
+        page.print(b"\n");
+    }
+}
+
 /// The tokens of words, the first of which stands on line 1.
 fn tokens_of_words(alloc: Global, words: &[Text]) -> Result<Tokens, Ended> {
-    let mut text = Vec::new(alloc);
-    put_lines(&mut text, words)?;
+    let mut page = Draft::new(alloc);
+    print_words(words, &mut page);
+    let text = page.finish()?;
     tokens_of(alloc, text.as_slice())
 }
 
 /// The expression that words are.
-pub fn expression_of(alloc: Global, words: &[Text]) -> Result<Box<Expr>, Ended> {
+pub(crate) fn expression_of(alloc: Global, words: &[Text]) -> Result<Expr, Ended> {
     let tokens = tokens_of_words(alloc, words)?;
-    let e = parse_expression(alloc, tokens.as_slice())?;
-    Ok(Box::new(alloc, e)?)
+    Ok(parse_expression(alloc, tokens.as_slice())?)
 }
 
 /// The target that words are.
-pub fn target_of_words(alloc: Global, words: &[Text]) -> Result<Box<Target>, Ended> {
+pub(crate) fn target_of_words(alloc: Global, words: &[Text]) -> Result<Target, Ended> {
     let tokens = tokens_of_words(alloc, words)?;
-    let (target, rest) = target_of(alloc, tokens.as_slice(), fuel_for(tokens.as_slice()))?;
-    if !rest.is_empty() {
-        return Err(Ended::from(Unread::Fault));
+    match target_of(alloc, tokens.as_slice(), fuel_for(tokens.as_slice()))? {
+        (target, []) => Ok(target),
+        _ => Err(Ended::from(Unread::Fault)),
     }
-    Ok(Box::new(alloc, target)?)
 }
