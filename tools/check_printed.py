@@ -1,6 +1,6 @@
 #!/usr/bin/env python3
-"""Gives the printed texts that the cases want (crates/vlog_cases/data/print.case) to Icarus Verilog and to Yosys, which must read each. The gate sees
-to it that Vidi prints these texts.
+"""Gives the printed texts that the cases want (crates/vidi_cases/data/verilog/print.case) to Icarus Verilog and to Yosys, which must read
+each. The gate sees to it that Vidi prints these texts.
 
     check_printed.py
 
@@ -16,7 +16,7 @@ import tempfile
 import tool_kit
 from tool_kit import Problem
 
-CASES = os.path.join(tool_kit.HERE, "..", "crates", "vlog_cases", "data", "print.case")
+CASES = os.path.join(tool_kit.HERE, "..", "crates", "vidi_cases", "data", "verilog", "print.case")
 TEXT = re.compile(r"^== print (\S+)\n-- \S+\n.*?^>> 0\n(.*?)(?=^==|^\*\*|\Z)", re.M | re.S)
 READERS = {"iverilog": lambda path: ["iverilog", "-g2005", "-tnull", path], "yosys": lambda path: ["yosys", "-q", "-p", f"read_verilog {path}"]}
 

@@ -1,11 +1,13 @@
 #!/usr/bin/env python3
-"""Writes the files `args` and `stdout` of the programs that play cases (docs/CASES.md): the names of their case files, and that each case in
-them comes out. A case is counted by its marked line alone, so a player that leaves one out is found.
+"""Writes the files `args` and `stdout` of each program that plays cases (docs/CASES.md): the names of its case files, and that each case in
+them comes out. Such a program is each crate in whose folder data, or in a folder below it, a case file lies. A case is counted by its marked
+line alone, so a player that leaves one out is found.
 
     count_cases.py [--check]
 
 With --check nothing is written, and the status is 1 where a file isn't what would be.
 """
+import glob
 import os
 import re
 
@@ -13,16 +15,13 @@ import tool_kit
 from tool_kit import Problem
 
 CRATES = os.path.join(tool_kit.HERE, "..", "crates")
-PROGRAMS = ["vidi_cases", "vlog_cases", "shim_cases"]
 CASE = re.compile(r"^(==|\+\+|=!)( |$)", re.M)
 
 
-def counted(crate):
-    """The names of a program's case files, a line each, and what it prints."""
-    data = os.path.join(CRATES, crate, "data")
-    if not os.path.isdir(data):
-        raise Problem(f"crates/{crate} has no folder data: PROGRAMS of this tool has the crates that play cases")
-    names = sorted(name for name in os.listdir(data) if name.endswith(".case"))
+def counted(data):
+    """The names of the case files in a folder and below it, a line each, and what is printed of them."""
+    found = (os.path.relpath(path, data) for path in glob.glob(os.path.join(data, "**", "*.case"), recursive=True))
+    names = sorted(found, key=lambda name: (os.path.dirname(name), name))
     counts = {name: len(CASE.findall(tool_kit.text_of(os.path.join(data, name)))) for name in names}
     lines = [f"{name}: {count} of {count}\n" for name, count in [*counts.items(), ("all", sum(counts.values()))]]
     return {"args": "".join(f"{name}\n" for name in names), "stdout": "".join(lines)}
@@ -30,7 +29,14 @@ def counted(crate):
 
 def wanted():
     """The files of all programs."""
-    return {os.path.join(CRATES, crate, name): text for crate in PROGRAMS for name, text in counted(crate).items()}
+    made = {}
+    for data in glob.glob(os.path.join(CRATES, "*", "data")):
+        files = counted(data)
+        if files["args"]:
+            made.update({os.path.join(os.path.dirname(data), name): text for name, text in files.items()})
+    if not made:
+        raise Problem("no crate has a case file in its folder data")
+    return made
 
 
 if __name__ == "__main__":

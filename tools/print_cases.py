@@ -14,7 +14,7 @@ from page_cases import part
 from tool_kit import Problem
 
 TOP = os.path.join(tool_kit.HERE, "..")
-CASES = os.path.join(TOP, "crates", "vlog_cases", "data", "print.case")
+CASES = os.path.join(TOP, "crates", "vidi_cases", "data", "verilog", "print.case")
 HEAD = "## Made by tools/print_cases.py of examples/ and of the text below it.\n"
 GAP = re.compile(r"\s+|//[^\n]*|/\*.*?\*/|`(?:timescale|default_nettype)\b[^\n]*", re.S)
 TOKEN = re.compile(r"[A-Za-z_][\w$]*|(?:\d[\d_]*)?'[bodhBODH][\da-fA-F][\da-fA-F_]*|\d[\d_]*|<<<|>>>|[<>=!]=|&&|\|\||<<|>>|~[&|^]|\^~|\+:"

@@ -12,7 +12,7 @@ import tool_kit
 from make_random import made
 from page_cases import part
 
-DATA = os.path.join(tool_kit.HERE, "..", "crates", "shim_cases", "data", "random.case")
+DATA = os.path.join(tool_kit.HERE, "..", "crates", "vidi_cases", "data", "wrapped", "random.case")
 HEAD = "## Made by tools/shim_random_cases.py of random designs.\n"
 SEEDS, CYCLES = range(1, 51), 200
 

@@ -74,6 +74,13 @@ class Edit:
             path = pathlib.Path(folder, file)
             path.write_text(path.read_text().replace(old, new))
 
+    def home(self, name):
+        """The path of the crate's module that declares a type: methods in `impl` blocks elsewhere are named after it."""
+        source = ROOT / "crates" / self.crate / "src"
+        declares = re.compile(rf"^(?:pub(?:\(crate\))? )?(?:struct|enum) {name}\b", re.M)
+        found = [it for it in sorted(source.rglob("*.rt")) if declares.search(it.read_text())]
+        return list(found[0].relative_to(source).with_suffix("").parts) if found else None
+
     @functools.cached_property
     def lines(self):
         """The lines of the function that the first text stands in, from 0: its first and last one. None where it stands in none."""
@@ -94,6 +101,8 @@ class Edit:
         first = self.lines[0]
         indent, name = FUNCTION.match(lines[first]).groups()
         block = next((it for line in reversed(lines[:first]) if (it := IMPL.match(line))), None) if indent else None
+        if block and not block[2]:
+            path = self.home(block[3]) or path
         path += [owner(block), name] if block else [name]
         cycle = re.match(r"\s*#\[cycle\((\w+)\)\]", lines[first - 1])
         return "::".join(path), f"+{cycle[1]}" if cycle else "/".join(path)

@@ -11,6 +11,9 @@ pub enum PlayError {
     /// No memory was found.
     #[error("out of memory")]
     Memory,
+    /// A word of the program isn't UTF-8.
+    #[error("a word isn't UTF-8")]
+    Words,
     /// The report couldn't be written.
     #[error("write failed")]
     Write,

@@ -168,7 +168,9 @@ fn played<C: Caller>(
     let alloc = stage.alloc;
     let mut shelf = shelf_of(alloc, case, before)?;
     let mut out = MemSink::new(alloc, push_fails(alloc, case.failing.as_slice())?);
-    let exit = stage.caller.call(alloc, &case.words, &mut shelf, &mut out);
+    let exit = stage
+        .caller
+        .call(alloc, stage.name, &case.words, &mut shelf, &mut out);
     let text = Vec::from_slice(alloc, out.bytes())?;
     let mut files = BTreeMap::new(alloc);
     keep_files(alloc, &mut files, &shelf, before)?;

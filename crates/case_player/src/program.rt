@@ -7,11 +7,13 @@ use crate::error::PlayError;
 use crate::playing::play_files;
 use crate::score::Score;
 use std::env;
+use std::io::ErrorKind;
 use std::rt::{Env, Files};
 use vidi_io::{HostShelf, HostSink, Text, Words};
 
 /// Plays the case files that the program's words name, and reports on standard output. Gives the exit status: 0 where
-/// every case was right, 1 where one wasn't, 2 where there was no memory or the report couldn't be written.
+/// every case was right, 1 where one wasn't, 2 where there was no memory, a word isn't UTF-8, or the report couldn't be
+/// written.
 pub fn play_program<R: Env + Files + Print + AllocGlobal, C: Caller>(rt: &R, caller: &C) -> u8
     ensures { result ≤ 2 }
 {
@@ -28,8 +30,10 @@ fn play_words<R: Env + Files + Print + AllocGlobal, C: Caller>(
     caller: &C,
 ) -> Result<Score, PlayError> {
     let mut names = Words::new(rt.alloc());
-    let Ok(args) = env::args(rt) else {
-        return Err(PlayError::Memory);
+    let args = match env::args(rt) {
+        Ok(args) => args,
+        Err(error) if error.kind() == ErrorKind::OutOfMemory => return Err(PlayError::Memory),
+        Err(_) => return Err(PlayError::Words),
     };
     for arg in args.skip(1) {
         names.push(Text::from_string(arg))?;

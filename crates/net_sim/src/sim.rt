@@ -82,7 +82,6 @@ impl Drop for Sim {
             outputs,
             names,
             fresh,
-            ..
         } = self;
     }
 }

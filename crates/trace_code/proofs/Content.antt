@@ -20,7 +20,7 @@ use Rattle.trace_model.specs.Packet.{content_of, count, does, widths_of, widths_
 use Rattle.trace_model.proofs.CountingLemmas.{nth-unique}
 use Rattle.trace_model.proofs.ContentsLemmas.{content-fits, fit-at, fit-length, widths-front, widths-suc}
 use Rattle.trace_code.specs.Encoding.{number_bytes}
-use Rattle.trace_code.specs.PacketReading.{high_value, low_value}
+use Rattle.trace_code.specs.PacketReading.{high_value}
 use Rattle.trace_code.proofs.NumberLaws.{number_again}
 use Rattle.trace_code.proofs.Picking.{number_bytes-append, number_bytes-length}
 use Rattle.trace_code.proofs.RowBytes.{contents_len-widths, contents-least}

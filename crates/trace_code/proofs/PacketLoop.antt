@@ -1,7 +1,9 @@
 -- Reading the numbers of a packet one after the other, as loops over widths and channels do.
-use Rattle.std.proofs.Common.{◌≡◌, ℕ, ◌+◌, ◌<◌, ◌≤◌, Bool, cond, List, [], ◌∷◌, ◌++◌, length, get_or, drop, Option, Some, None, refl, sym}
+use Rattle.std.proofs.Common.{◌≡◌, ℕ, ◌+◌, ◌<◌, ◌≤◌, Bool, cond, List, [], ◌∷◌, ◌++◌, length, get_or, drop, Option, Some, None, Err, refl, sym}
 use Rattle.std.proofs.Common.{ap, ◌∙◌, append_assoc}
 use Rattle.std.specs.List.{flat_map, enumerate_from}
+use Rattle.std.specs.Option.{ok_or}
+use Rattle.std.proofs.lemmas.Result.{IfErr-at_err}
 use Rattle.std.proofs.lemmas.List.{append-nil, drop_more, drop_all}
 use Rattle.vidi_bits.specs.Number.{has}
 use Rattle.trace_model.specs.declared.channel.Channel.{Channel}
@@ -21,6 +23,13 @@ regroup : (front : List ℕ) (n : ℕ) (read : Read) → with_front front (read 
 regroup front n (Some x) = ap (λ (ns : List ℕ). Some (ns, x.1)) (simp append_assoc)
 regroup front n None = refl
 
+-- the fault that a reader says where it found nothing
+pub fault-fails : {X Y : Type 0} (e : CodeError) (found : Option X) (read : Option Y) → Err e ≡ ok_or found (BadTrace 0) → found ≡ None
+    → read ≡ None → Fails e read
+fault-fails e found read value none lacks =
+    let same = value ∙ ap (λ (o : Option _). ok_or o (BadTrace 0)) none in
+    IfErr-at_err (λ (y : CodeError). Fails y read) (sym same) (refl, lacks)
+
 -- ---- over widths
 
 pub number_goes_on : (front ws : List ℕ) (i : ℕ) (bytes : List ℕ) (n : ℕ) (after : List ℕ) (total : Read) → i < length ws
@@ -32,14 +41,19 @@ number_goes_on front ws i bytes n after total lt h so_far =
     (drop_more ws i 0 lt, h) (regroup front n (numbers_at (drop (i + 1) ws) after)) in
     sym one ∙ so_far
 
+pub number_lacks : (front ws : List ℕ) (i : ℕ) (bytes : List ℕ) (total : Read) → i < length ws
+    → number_at (get_or ws i 0) bytes ≡ None
+    → with_front front (numbers_at (drop i ws) bytes) ≡ total → total ≡ None
+unfolding numbers_at
+number_lacks front ws i bytes total lt h so_far =
+    let one : with_front front (numbers_at (drop i ws) bytes) ≡ None = rw (drop_more ws i 0 lt, h) refl in
+    sym so_far ∙ one
+
 pub number_ends : (e : CodeError) (front ws : List ℕ) (i : ℕ) (bytes : List ℕ) (total : Read) → i < length ws
     → Fails e (number_at (get_or ws i 0) bytes)
     → with_front front (numbers_at (drop i ws) bytes) ≡ total → Fails e total
-unfolding numbers_at
 number_ends Memory front ws i bytes total lt h so_far = tt
-number_ends (BadTrace at) front ws i bytes total lt h so_far =
-    let one : with_front front (numbers_at (drop i ws) bytes) ≡ None = rw (drop_more ws i 0 lt, h.1) refl in
-    (h.0, sym so_far ∙ one)
+number_ends (BadTrace at) front ws i bytes total lt h so_far = (h.0, number_lacks front ws i bytes total lt h.1 so_far)
 
 pub number_is_done : (front ws : List ℕ) (i : ℕ) (bytes : List ℕ) (total : Read) → length ws ≤ i
     → with_front front (numbers_at (drop i ws) bytes) ≡ total → total ≡ Some (front, bytes)
@@ -95,18 +109,25 @@ start_goes_on front mask cs c channel bytes new after total lt at h so_far =
     ∙ ap (λ (r : Read). r >>= λ x. with_front x.0 (numbers_at vs x.1)) h in
     sym one ∙ so_far
 
+pub start_lacks : (front : List ℕ) (mask : ℕ) (cs : List Channel) (c : ℕ) (channel : Channel) (bytes : List ℕ) (total : Read)
+    → c < length cs → channel ≡ get_or cs c channel
+    → with_front front (numbers_at (widths_at_start (has mask c) channel) bytes) ≡ None
+    → with_front front (numbers_at (widths_from c mask (drop c cs)) bytes) ≡ total → total ≡ None
+start_lacks front mask cs c channel bytes total lt at h so_far =
+    let ws = widths_at_start (has mask c) channel in
+    let vs = widths_from (c + 1) mask (drop (c + 1) cs) in
+    let one : with_front front (numbers_at (widths_from c mask (drop c cs)) bytes) ≡ None =
+    ap (λ (us : List ℕ). with_front front (numbers_at us bytes)) (widths-more mask cs c channel lt at) ∙ and_then front ws vs bytes
+    ∙ ap (λ (r : Read). r >>= λ x. with_front x.0 (numbers_at vs x.1)) h in
+    sym so_far ∙ one
+
 pub start_ends : (e : CodeError) (front : List ℕ) (mask : ℕ) (cs : List Channel) (c : ℕ) (channel : Channel) (bytes : List ℕ) (total : Read)
     → c < length cs → channel ≡ get_or cs c channel
     → Fails e (with_front front (numbers_at (widths_at_start (has mask c) channel) bytes))
     → with_front front (numbers_at (widths_from c mask (drop c cs)) bytes) ≡ total → Fails e total
 start_ends Memory front mask cs c channel bytes total lt at h so_far = tt
 start_ends (BadTrace place) front mask cs c channel bytes total lt at h so_far =
-    let ws = widths_at_start (has mask c) channel in
-    let vs = widths_from (c + 1) mask (drop (c + 1) cs) in
-    let one : with_front front (numbers_at (widths_from c mask (drop c cs)) bytes) ≡ None =
-    ap (λ (us : List ℕ). with_front front (numbers_at us bytes)) (widths-more mask cs c channel lt at) ∙ and_then front ws vs bytes
-    ∙ ap (λ (r : Read). r >>= λ x. with_front x.0 (numbers_at vs x.1)) h.1 in
-    (h.0, sym so_far ∙ one)
+    (h.0, start_lacks front mask cs c channel bytes total lt at h.1 so_far)
 
 pub start_is_done : (front : List ℕ) (mask : ℕ) (cs : List Channel) (c : ℕ) (bytes : List ℕ) (total : Read) → length cs ≤ c
     → with_front front (numbers_at (widths_from c mask (drop c cs)) bytes) ≡ total → total ≡ Some (front, bytes)

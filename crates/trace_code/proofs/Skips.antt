@@ -1,5 +1,5 @@
 -- Passing over packets: what was read of them, without their contents.
-use Rattle.std.proofs.Common.{◌≡◌, ◌≢◌, ℕ, ◌+◌, ◌-◌, ◌≤◌, List, [], ◌∷◌, ◌++◌, length, take, All, Option, Some, None}
+use Rattle.std.proofs.Common.{◌≡◌, ◌≢◌, ℕ, ◌+◌, ◌-◌, ◌≤◌, List, [], ◌∷◌, ◌++◌, length, take, All, Some, None}
 use Rattle.std.proofs.Common.{refl, sym, ap, ◌∙◌, append_assoc, arith}
 use Rattle.std.specs.List.{flat_map}
 use Rattle.std.proofs.lemmas.List.{length-append, take_at}
@@ -10,11 +10,8 @@ use Rattle.trace_model.specs.declared.packet.Packet.{Packet}
 use Rattle.trace_model.specs.Channel.{IsTable}
 use Rattle.trace_model.specs.Packet.{IsPacket}
 use Rattle.trace_model.specs.Trace.{Alternates, InFlight}
-use Rattle.trace_code.specs.declared.error.CodeError.{CodeError}
-use Rattle.trace_code.specs.declared.error.CodeError.TheVariants.{BadTrace, Memory}
 use Rattle.trace_code.specs.declared.salvaging.Whole.{Whole}
 use Rattle.trace_code.specs.Encoding.{header_bytes, packet_bytes, end_mark}
-use Rattle.trace_code.specs.Reading.{Fails, with_front}
 use Rattle.trace_code.specs.PacketReading.{numbers_at, packet_at, AreAll}
 use Rattle.trace_code.specs.Salvage.{IsFront}
 use Rattle.trace_code.specs.Skipping.{Follows}
@@ -27,10 +24,6 @@ use Rattle.trace_code.proofs.PacketLaws.{packet_again}
 pub none-read : (bytes : List ℕ) → numbers_at [] bytes ≡ Some ([], bytes)
 unfolding numbers_at
 none-read bytes = refl
-
-pub fails-front : (e : CodeError) (front : List ℕ) (read : Option (List ℕ × List ℕ)) → Fails e read → Fails e (with_front front read)
-fails-front Memory front read h = tt
-fails-front (BadTrace at) front read h = (h.0, ap (with_front front) h.1)
 
 -- where no packet is read, none stands
 pub none-stands : (cs : List Channel) (bytes : List ℕ) → packet_at cs bytes ≡ None → (p : Packet) (rest : List ℕ) → IsPacket cs p

@@ -1,5 +1,5 @@
 -- Sums over the channels, each with its number.
-use Rattle.std.proofs.Common.{◌≡◌, ℕ, zero, suc, ◌+◌, ◌<◌, ◌≤◌, List, [], ◌∷◌, Some, length, take, get_or, slice_get, sum_by, refl, ap, sym}
+use Rattle.std.proofs.Common.{◌≡◌, ℕ, zero, suc, ◌+◌, ◌<◌, ◌≤◌, List, [], ◌∷◌, Some, length, get_or, slice_get, sum_by, refl, ap, sym}
 use Rattle.std.proofs.Common.{◌≢◌, ◌∙◌, arith, add-zero, zero-add, cond, eqb}
 use Rattle.std.specs.Int.{bit_at}
 use Rattle.vidi_bits.specs.Number.{has}

@@ -1,17 +1,15 @@
 -- Passing over the packets of a trace, in the manner of `PacketReading`.
-use Rattle.std.specs.Prelude.{◌≡◌, ℕ, List, [], ◌∷◌, ◌++◌, Option, Some, Result, Ok, Err}
+use Rattle.std.specs.Prelude.{◌≡◌, ℕ, List, [], ◌∷◌, ◌++◌, Option, Some, None}
 use Rattle.trace_model.specs.declared.channel.Channel.{Channel}
 use Rattle.trace_model.specs.declared.packet.Packet.{Packet}
 use Rattle.trace_model.specs.Packet.{IsPacket}
 use Rattle.trace_model.specs.Trace.{Alternates, InFlight}
-use Rattle.trace_code.specs.declared.error.CodeError.{CodeError}
 use Rattle.trace_code.specs.Encoding.{packet_bytes}
-use Rattle.trace_code.specs.Reading.{Fails}
 
--- What a function returned, completed by what it didn't keep, is what reading gives, unless memory ran out.
-abbrev pub Passes : {X Y A : Type 0} → (X → Y → A) → Result Y CodeError → Option A → Type 0
-Passes {X} made (Ok y) read = (x : X) × (read ≡ Some (made x y))
-Passes made (Err e) read = Fails e read
+-- What a function returned, completed by what it didn't keep, is what reading gives.
+abbrev pub Passes : {X Y A : Type 0} → (X → Y → A) → Option Y → Option A → Type 0
+Passes {X} made (Some y) read = (x : X) × (read ≡ Some (made x y))
+Passes made None read = read ≡ None
 
 -- a packet, with the bytes after it, of which the contents weren't kept
 abbrev pub packet_with : List ℕ → ℕ → ℕ → Packet

@@ -1,6 +1,6 @@
 //! Reading the header of a trace.
 
-ghost use Rattle.std.specs.Prelude.{◌≡◌, ℕ, ◌≤◌, ◌⊎◌, ◌≢◌, ◌↔◌, IsTrue, List, ◌++◌, length, All, sum_by, IfOk, IfErr, MatchResult};
+ghost use Rattle.std.specs.Prelude.{◌≡◌, ℕ, ◌≤◌, ◌⊎◌, ◌≢◌, ◌↔◌, IsTrue, List, ◌++◌, length, All, sum_by, IfOk, IfErr, MatchResult, option_map};
 ghost use Rattle.std.specs.List.{AllPairs, list_all, Any};
 ghost use Rattle.trace_model.specs.declared.channel.Channel.{Channel};
 ghost use Rattle.trace_model.specs.Channel.{IsTable, content_bytes};
@@ -34,40 +34,37 @@ const MAX_CONTENT: usize = 1024;
 
 /// The bytes after the magic.
 #[tactic(auto, unfolding(crate::specs::Reading::magic_at))]
-fn read_magic(bytes: &[u8]) -> Result<&[u8], CodeError>
-    ensures { Gives (λ rest. rest.now) result (magic_at bytes.now) }
+fn read_magic(bytes: &[u8]) -> Option<&[u8]>
+    ensures { option_map (λ rest. rest.now) result ≡ magic_at bytes.now }
 {
-    match bytes.strip_prefix(&MAGIC) {
-        Some(rest) => Ok(rest),
-        None => Err(FAULT),
-    }
+    bytes.strip_prefix(&MAGIC)
 }
 
 /// A direction, and the bytes after it.
 #[tactic(auto, unfolding(crate::specs::Reading::dir_at))]
-fn read_dir(bytes: &[u8]) -> Result<(Dir, &[u8]), CodeError>
-    ensures { Gives (λ x. (x.0, x.1.now)) result (dir_at bytes.now) }
+fn read_dir(bytes: &[u8]) -> Option<(Dir, &[u8])>
+    ensures { option_map (λ x. (x.0, x.1.now)) result ≡ dir_at bytes.now }
 {
     match bytes {
-        [0, rest @ ..] => Ok((Dir::Inward, rest)),
-        [1, rest @ ..] => Ok((Dir::Outward, rest)),
-        _ => Err(FAULT),
+        [0, rest @ ..] => Some((Dir::Inward, rest)),
+        [1, rest @ ..] => Some((Dir::Outward, rest)),
+        _ => None,
     }
 }
 
 /// The bytes after a byte that counts them, and those that follow.
 #[tactic(auto, unfolding(crate::specs::Reading::counted_at))]
-fn read_counted(bytes: &[u8]) -> Result<(&[u8], &[u8]), CodeError>
-    ensures { Gives (λ x. (x.0.now, x.1.now)) result (counted_at bytes.now) }
+fn read_counted(bytes: &[u8]) -> Option<(&[u8], &[u8])>
+    ensures { option_map (λ x. (x.0.now, x.1.now)) result ≡ counted_at bytes.now }
 {
     match bytes {
-        [] => Err(FAULT),
+        [] => None,
         [count, rest @ ..] => {
             let count = usize::from(*count);
             if rest.len() < count {
-                return Err(FAULT);
+                return None;
             }
-            Ok(rest.split_at(count))
+            Some(rest.split_at(count))
         }
     }
 }
@@ -107,7 +104,7 @@ fn are_widths(widths: &[u8]) -> bool
 fn read_name(alloc: Global, bytes: &[u8]) -> Result<(Name, &[u8]), CodeError>
     ensures { Gives (λ x. (x.0, x.1.now)) result (name_at bytes.now) }
 {
-    let (name, rest) = read_counted(bytes)?;
+    let (name, rest) = read_counted(bytes).ok_or(FAULT)?;
     if !is_name(name) {
         return Err(FAULT);
     }
@@ -120,7 +117,7 @@ fn read_name(alloc: Global, bytes: &[u8]) -> Result<(Name, &[u8]), CodeError>
 fn read_widths(alloc: Global, bytes: &[u8]) -> Result<(Bytes, &[u8]), CodeError>
     ensures { Gives (λ x. (x.0, x.1.now)) result (widths_at bytes.now) }
 {
-    let (widths, rest) = read_counted(bytes)?;
+    let (widths, rest) = read_counted(bytes).ok_or(FAULT)?;
     if !are_widths(widths) {
         return Err(FAULT);
     }
@@ -133,7 +130,7 @@ fn read_widths(alloc: Global, bytes: &[u8]) -> Result<(Bytes, &[u8]), CodeError>
 fn read_channel(alloc: Global, bytes: &[u8]) -> Result<(Channel, &[u8]), CodeError>
     ensures { Gives (λ x. (x.0, x.1.now)) result (channel_at bytes.now) }
 {
-    let (dir, rest) = read_dir(bytes)?;
+    let (dir, rest) = read_dir(bytes).ok_or(FAULT)?;
     let (name, rest) = read_name(alloc, rest)?;
     let (widths, rest) = read_widths(alloc, rest)?;
     Ok((Channel { dir, name, widths }, rest))
@@ -155,12 +152,12 @@ fn read_channels(alloc: Global, count: u8, bytes: &[u8]) -> Result<(Channels, &[
 
 /// The number of channels, and the bytes after it.
 #[tactic(auto, unfolding(crate::specs::Reading::count_at))]
-fn read_count(bytes: &[u8]) -> Result<(u8, &[u8]), CodeError>
-    ensures { Gives (λ x. (x.0, x.1.now)) result (count_at bytes.now) }
+fn read_count(bytes: &[u8]) -> Option<(u8, &[u8])>
+    ensures { option_map (λ x. (x.0, x.1.now)) result ≡ count_at bytes.now }
 {
     match bytes {
-        [count @ 1..=MAX_CHANNELS, rest @ ..] => Ok((*count, rest)),
-        _ => Err(FAULT),
+        [count @ 1..=MAX_CHANNELS, rest @ ..] => Some((*count, rest)),
+        _ => None,
     }
 }
 
@@ -169,8 +166,8 @@ fn read_count(bytes: &[u8]) -> Result<(u8, &[u8]), CodeError>
 fn read_header_fields(alloc: Global, bytes: &[u8]) -> Result<(Channels, &[u8]), CodeError>
     ensures { Gives (λ x. (x.0, x.1.now)) result (header_at bytes.now) }
 {
-    let rest = read_magic(bytes)?;
-    let (count, rest) = read_count(rest)?;
+    let rest = read_magic(bytes).ok_or(FAULT)?;
+    let (count, rest) = read_count(rest).ok_or(FAULT)?;
     read_channels(alloc, count, rest)
 }
 

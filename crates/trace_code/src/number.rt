@@ -1,12 +1,10 @@
 //! Reading the masks and the numbers of a packet.
 
-ghost use Rattle.std.specs.Prelude.{◌≡◌, ◌^◌, ◌≤◌, length, sum_by};
+ghost use Rattle.std.specs.Prelude.{◌≡◌, ◌^◌, ◌≤◌, length, sum_by, option_map};
 ghost use Rattle.trace_model.specs.Channel.{byte_count};
 ghost use Rattle.trace_model.specs.Length.{mask_len};
-ghost use Rattle.trace_code.specs.Reading.{Gives};
 ghost use Rattle.trace_code.specs.PacketReading.{low_value, high_value, mask_at, number_at};
 
-use crate::error::{CodeError, FAULT};
 use crate::writing::write_at;
 use trace_model::fits;
 
@@ -61,36 +59,36 @@ pub(crate) fn high_first(bytes: &[u8]) -> u128
 
 /// The mask of this many channels at the front of the bytes, and the bytes after it.
 #[tactic(auto, unfolding(crate::specs::PacketReading::sized_at))]
-pub(crate) fn read_mask(channels: usize, bytes: &[u8]) -> Result<(u128, &[u8]), CodeError>
+pub(crate) fn read_mask(channels: usize, bytes: &[u8]) -> Option<(u128, &[u8])>
     requires { channels ≤ 128 }
-    ensures { Gives (λ x. (x.0, x.1.now)) result (mask_at channels bytes.now) }
+    ensures { option_map (λ x. (x.0, x.1.now)) result ≡ mask_at channels bytes.now }
 {
     let len = channels.div_ceil(8);
     if bytes.len() < len {
-        return Err(FAULT);
+        return None;
     }
     let (front, rest) = bytes.split_at(len);
     let mask = low_first(front);
     if !fits(mask, channels) {
-        return Err(FAULT);
+        return None;
     }
-    Ok((mask, rest))
+    Some((mask, rest))
 }
 
 /// The number of this width in bits at the front of the bytes, and the bytes after it.
 #[tactic(auto, unfolding(crate::specs::PacketReading::sized_at))]
-pub(crate) fn read_number(width: u8, bytes: &[u8]) -> Result<(u128, &[u8]), CodeError>
+pub(crate) fn read_number(width: u8, bytes: &[u8]) -> Option<(u128, &[u8])>
     requires { width ≤ 128 }
-    ensures { Gives (λ x. (x.0, x.1.now)) result (number_at width bytes.now) }
+    ensures { option_map (λ x. (x.0, x.1.now)) result ≡ number_at width bytes.now }
 {
     let len = byte_count(width);
     if bytes.len() < len {
-        return Err(FAULT);
+        return None;
     }
     let (front, rest) = bytes.split_at(len);
     let number = high_first(front);
     if !fits(number, usize::from(width)) {
-        return Err(FAULT);
+        return None;
     }
-    Ok((number, rest))
+    Some((number, rest))
 }

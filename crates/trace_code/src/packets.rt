@@ -1,6 +1,6 @@
 //! Reading one packet of a trace.
 
-ghost use Rattle.std.specs.Prelude.{◌≡◌, ℕ, ◌≤◌, ◌⊎◌, List, [], ◌++◌, length, All, IfOk, IfErr, MatchResult, if◌then◌else◌};
+ghost use Rattle.std.specs.Prelude.{◌≡◌, ℕ, ◌≤◌, ◌⊎◌, List, [], ◌++◌, length, All, IfOk, IfErr, MatchResult, option_map, if◌then◌else◌};
 ghost use Rattle.trace_model.specs.declared.packet.Packet.{Packet};
 ghost use Rattle.trace_model.specs.Packet.{widths_under, IsPacket};
 ghost use Rattle.trace_model.specs.Channel.{IsChannel};
@@ -25,7 +25,7 @@ fn read_content<'a>(
 {
     let mut rest = bytes;
     for width in widths {
-        let (number, after) = read_number(*width, rest)?;
+        let (number, after) = read_number(*width, rest).ok_or(FAULT)?;
         numbers.push(number)?;
         rest = after;
     }
@@ -87,27 +87,27 @@ fn read_contents<'a>(
 
 /// The bytes after the one with which a packet begins.
 #[tactic(auto, unfolding(crate::specs::PacketReading::tag_at))]
-pub(crate) fn read_tag(bytes: &[u8]) -> Result<&[u8], CodeError>
-    ensures { Gives (λ rest. rest.now) result (tag_at bytes.now) }
+pub(crate) fn read_tag(bytes: &[u8]) -> Option<&[u8]>
+    ensures { option_map (λ rest. rest.now) result ≡ tag_at bytes.now }
 {
     match bytes {
-        [1, rest @ ..] => Ok(rest),
-        _ => Err(FAULT),
+        [1, rest @ ..] => Some(rest),
+        _ => None,
     }
 }
 
 /// The starts and the ends, of which there are some, and the bytes after them.
 #[tactic(auto, unfolding(crate::specs::PacketReading::masks_at))]
-pub(crate) fn read_masks(channels: usize, bytes: &[u8]) -> Result<(u128, u128, &[u8]), CodeError>
+pub(crate) fn read_masks(channels: usize, bytes: &[u8]) -> Option<(u128, u128, &[u8])>
     requires { channels ≤ 128 }
-    ensures { Gives (λ x. (x.0, x.1, x.2.now)) result (masks_at channels bytes.now) }
+    ensures { option_map (λ x. (x.0, x.1, x.2.now)) result ≡ masks_at channels bytes.now }
 {
     let (starts, rest) = read_mask(channels, bytes)?;
     let (ends, rest) = read_mask(channels, rest)?;
     if starts == 0 && ends == 0 {
-        return Err(FAULT);
+        return None;
     }
-    Ok((starts, ends, rest))
+    Some((starts, ends, rest))
 }
 
 /// The packet at the front of the bytes, field by field, and the bytes after it.
@@ -121,8 +121,8 @@ fn read_packet_fields<'a>(
     requires each { All IsChannel channels.now }
     ensures { Gives (λ x. (x.0, x.1.now)) result (packet_at channels.now bytes.now) }
 {
-    let rest = read_tag(bytes)?;
-    let (starts, ends, rest) = read_masks(channels.len(), rest)?;
+    let rest = read_tag(bytes).ok_or(FAULT)?;
+    let (starts, ends, rest) = read_masks(channels.len(), rest).ok_or(FAULT)?;
     let (contents, rest) = read_contents(alloc, channels, starts, rest)?;
     let packet = Packet {
         starts,

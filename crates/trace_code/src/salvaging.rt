@@ -38,7 +38,7 @@ pub fn salvage_front(alloc: Global, bytes: &[u8]) -> Result<Whole, CodeError>
     ensures { SalvagesFront bytes.now result }
 {
     let (channels, rest) = read_header(alloc, bytes)?;
-    let (packets, rest) = skip_packets(channels.as_slice(), rest)?;
+    let (packets, rest) = skip_packets(channels.as_slice(), rest);
     Ok(Whole {
         len: bytes.len() - rest.len(),
         packets,

@@ -1,6 +1,6 @@
 //! Passing over the packets of a trace: as reading them, but no content is kept.
 
-ghost use Rattle.std.specs.Prelude.{◌≡◌, ◌≢◌, ℕ, ◌≤◌, List, [], ◌∷◌, ◌++◌, length, All, IfOk, IfSome, IfNone, if◌then◌else◌};
+ghost use Rattle.std.specs.Prelude.{◌≡◌, ◌≢◌, ℕ, ◌≤◌, List, [], ◌∷◌, ◌++◌, length, All, IfSome, IfNone, if◌then◌else◌};
 ghost use Rattle.trace_model.specs.declared.packet.Packet.{Packet};
 ghost use Rattle.trace_model.specs.Channel.{IsChannel};
 ghost use Rattle.trace_model.specs.Packet.{widths_under, IsPacket};
@@ -9,31 +9,29 @@ ghost use Rattle.trace_code.specs.Encoding.{packet_bytes};
 ghost use Rattle.trace_code.specs.PacketReading.{number_at, numbers_at, packet_at, AreAll};
 ghost use Rattle.trace_code.specs.Skipping.{Passes, packet_with, Follows};
 
-use crate::error::{CodeError, FAULT};
 use crate::number::{byte_count, read_number};
 use crate::packets::{read_masks, read_tag};
 use trace_model::{Channel, in_flight_after, names};
-use vidi_bits::Memory;
 
 /// The bytes after a number of this width, which isn't looked at where it may be any number of its bytes.
 #[tactic(auto, unfolding(crate::specs::PacketReading::sized_at))]
-fn skip_number(width: u8, bytes: &[u8]) -> Result<&[u8], CodeError>
+fn skip_number(width: u8, bytes: &[u8]) -> Option<&[u8]>
     requires { width ≤ 128 }
     ensures { Passes (λ n rest. (n, rest.now)) result (number_at width bytes.now) }
 {
     if width % 8 != 0 {
         let (_number, rest) = read_number(width, bytes)?;
-        return Ok(rest);
+        return Some(rest);
     }
     let len = byte_count(width);
     if bytes.len() < len {
-        return Err(FAULT);
+        return None;
     }
-    Ok(&bytes[len..])
+    Some(&bytes[len..])
 }
 
 /// The bytes after a number of each width.
-fn skip_content<'a>(widths: &[u8], bytes: &'a [u8]) -> Result<&'a [u8], CodeError>
+fn skip_content<'a>(widths: &[u8], bytes: &'a [u8]) -> Option<&'a [u8]>
     requires { All (λ w. w ≤ 128) widths.now }
     ensures { Passes (λ ns rest. (ns, rest.now)) result (numbers_at widths.now bytes.now) }
 {
@@ -41,27 +39,23 @@ fn skip_content<'a>(widths: &[u8], bytes: &'a [u8]) -> Result<&'a [u8], CodeErro
     for width in widths {
         rest = skip_number(*width, rest)?;
     }
-    Ok(rest)
+    Some(rest)
 }
 
 /// The bytes after the content of a channel, which has none where it doesn't start.
-fn skip_start<'a>(channel: &Channel, starts: bool, bytes: &'a [u8]) -> Result<&'a [u8], CodeError>
+fn skip_start<'a>(channel: &Channel, starts: bool, bytes: &'a [u8]) -> Option<&'a [u8]>
     requires { All (λ w. w ≤ 128) channel.now.widths }
     ensures { Passes (λ ns rest. (ns, rest.now)) result (numbers_at (if starts then channel.now.widths else []) bytes.now) }
 {
     if starts {
         skip_content(channel.widths.as_slice(), bytes)
     } else {
-        Ok(bytes)
+        Some(bytes)
     }
 }
 
 /// The bytes after the contents of the channels that start.
-fn skip_contents<'a>(
-    channels: &[Channel],
-    starts: u128,
-    bytes: &'a [u8],
-) -> Result<&'a [u8], CodeError>
+fn skip_contents<'a>(channels: &[Channel], starts: u128, bytes: &'a [u8]) -> Option<&'a [u8]>
     requires few { length channels.now ≤ 32 }
     requires each { All IsChannel channels.now }
     ensures { Passes (λ ns rest. (ns, rest.now)) result (numbers_at (widths_under starts channels.now) bytes.now) }
@@ -71,15 +65,12 @@ fn skip_contents<'a>(
         let starting = names(starts, c);
         rest = skip_start(channel, starting, rest)?;
     }
-    Ok(rest)
+    Some(rest)
 }
 
 /// The starts and the ends of the packet at the front of the bytes, and the bytes after it.
 #[tactic(auto, unfolding(crate::specs::PacketReading::packet_at))]
-fn skip_fields<'a>(
-    channels: &[Channel],
-    bytes: &'a [u8],
-) -> Result<(u128, u128, &'a [u8]), CodeError>
+fn skip_fields<'a>(channels: &[Channel], bytes: &'a [u8]) -> Option<(u128, u128, &'a [u8])>
     requires few { length channels.now ≤ 32 }
     requires each { All IsChannel channels.now }
     ensures { Passes (λ ns x. (packet_with ns x.0 x.1, x.2.now)) result (packet_at channels.now bytes.now) }
@@ -87,50 +78,38 @@ fn skip_fields<'a>(
     let rest = read_tag(bytes)?;
     let (starts, ends, rest) = read_masks(channels.len(), rest)?;
     let rest = skip_contents(channels, starts, rest)?;
-    Ok((starts, ends, rest))
+    Some((starts, ends, rest))
 }
 
 /// The channels in flight after the packet at the front of the bytes, and the bytes after it. None where
 /// no packet stands there that is lawful after packets that leave `flying` in flight.
-fn skip_packet<'a>(
-    channels: &[Channel],
-    flying: u128,
-    bytes: &'a [u8],
-) -> Result<Option<(u128, &'a [u8])>, Memory>
+fn skip_packet<'a>(channels: &[Channel], flying: u128, bytes: &'a [u8]) -> Option<(u128, &'a [u8])>
     requires few { length channels.now ≤ 32 }
     requires each { All IsChannel channels.now }
-    ensures found { IfOk result (λ o. IfSome o (λ x. Follows channels.now bytes.now flying x.0 x.1.now)) }
-    ensures none { IfOk result (λ o. IfNone o ((ps : List Packet) (p : Packet) (rest : List ℕ) → InFlight ps flying
-        → Alternates (ps ++ p ∷ []) → IsPacket channels.now p → bytes.now ≢ packet_bytes channels.now p ++ rest)) }
+    ensures found { IfSome result (λ x. Follows channels.now bytes.now flying x.0 x.1.now) }
+    ensures none { IfNone result ((ps : List Packet) (p : Packet) (rest : List ℕ) → InFlight ps flying
+        → Alternates (ps ++ p ∷ []) → IsPacket channels.now p → bytes.now ≢ packet_bytes channels.now p ++ rest) }
 {
-    match skip_fields(channels, bytes) {
-        Ok((starts, ends, rest)) => match in_flight_after(flying, starts, ends) {
-            Some(after) => Ok(Some((after, rest))),
-            None => Ok(None),
-        },
-        Err(CodeError::BadTrace { at: _ }) => Ok(None),
-        Err(CodeError::Memory) => Err(Memory),
-    }
+    let (starts, ends, rest) = skip_fields(channels, bytes)?;
+    let after = in_flight_after(flying, starts, ends)?;
+    Some((after, rest))
 }
 
 /// The length of the longest list of whole lawful packets at the front of the bytes, and the bytes after them.
-pub(crate) fn skip_packets<'a>(
-    channels: &[Channel],
-    bytes: &'a [u8],
-) -> Result<(usize, &'a [u8]), Memory>
+pub(crate) fn skip_packets<'a>(channels: &[Channel], bytes: &'a [u8]) -> (usize, &'a [u8])
     requires few { length channels.now ≤ 32 }
     requires each { All IsChannel channels.now }
-    ensures { IfOk result (λ x. (packets : List Packet) × (length packets ≡ x.0) × AreAll channels.now bytes.now packets x.1.now) }
+    ensures { (packets : List Packet) × (length packets ≡ result.0) × AreAll channels.now bytes.now packets result.1.now }
 {
     // There are no more packets than bytes.
     let _most = bytes.len();
     let mut packets = 0;
     let mut flying = 0;
     let mut rest = bytes;
-    while let Some((after, others)) = skip_packet(channels, flying, rest)? {
+    while let Some((after, others)) = skip_packet(channels, flying, rest) {
         packets += 1;
         flying = after;
         rest = others;
     }
-    Ok((packets, rest))
+    (packets, rest)
 }

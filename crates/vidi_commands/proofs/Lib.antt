@@ -1,13 +1,2 @@
 pub mod WordLists
-pub mod QuietTexts
 pub mod Saying
-pub mod PortNets
-pub mod Names
-pub mod Texts
-pub mod Filed
-pub mod Recorded
-pub mod QuietReplays
-pub mod Replayed
-pub mod QuietSamples
-pub mod SampleTexts
-pub mod Sampled

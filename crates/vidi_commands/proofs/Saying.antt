@@ -7,9 +7,9 @@ use Rattle.vidi_bench.specs.declared.status.Status.TheVariants.{Done, Usage, Rea
 use Rattle.vidi_commands.specs.Command.{Command, Dump, Check, Run, Record, Replay, Compare, Salvage, Wrap, Sample}
 use Rattle.vidi_commands.specs.Answer.{Does, Earns, Answers, Says}
 use Rattle.trace_commands.proofs.QuietTraces.{mute-dumps, mute-compares, mute-saves, quiet-dumps, quiet-compares, quiet-saves}
-use Rattle.vidi_commands.proofs.QuietTexts.{mute-checks, mute-runs, mute-records, quiet-checks, quiet-runs, quiet-records}
-use Rattle.vidi_commands.proofs.QuietReplays.{mute-replays, quiet-replays}
-use Rattle.vidi_commands.proofs.QuietSamples.{mute-samples}
+use Rattle.run_commands.proofs.QuietTexts.{mute-checks, mute-runs, mute-records, quiet-checks, quiet-runs, quiet-records}
+use Rattle.replay_command.proofs.QuietReplays.{mute-replays, quiet-replays}
+use Rattle.sample_command.proofs.QuietSamples.{mute-samples}
 use Rattle.wrap_command.proofs.QuietWraps.{mute-wraps, quiet-wraps}
 
 does-writing : (c : Command) (files : Option Files) (F : List ℕ → Type 0) (text : List ℕ) (left : Option Files)

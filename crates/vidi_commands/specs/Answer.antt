@@ -8,12 +8,12 @@ use Rattle.vidi_bench.specs.declared.status.Status.TheVariants.{Usage, WriteFaul
 use Rattle.vidi_commands.specs.Command.{Command, Dump, Check, Run, Record, Replay, Compare, Salvage, Wrap, Sample, IsGiven}
 use Rattle.vidi_bench.specs.Steps.{IsSaid}
 use Rattle.trace_commands.specs.Traces.{Dumps, Compares, Saves, StopsSaving}
-use Rattle.vidi_commands.specs.Checks.{Checks}
-use Rattle.vidi_commands.specs.Runs.{Runs}
-use Rattle.vidi_commands.specs.Records.{Records, StopsRecording}
-use Rattle.vidi_commands.specs.Replays.{Replays, StopsReplaying}
+use Rattle.run_commands.specs.Checks.{Checks}
+use Rattle.run_commands.specs.Runs.{Runs}
+use Rattle.run_commands.specs.Records.{Records, StopsRecording}
+use Rattle.replay_command.specs.Replays.{Replays, StopsReplaying}
 use Rattle.wrap_command.specs.Wraps.{Wraps, StopsWrapping}
-use Rattle.vidi_commands.specs.Samples.{Samples}
+use Rattle.sample_command.specs.Samples.{Samples}
 use Rattle.vidi_commands.specs.Said.{usage_line, memory_line}
 
 -- what a command owes: its answer, its text, and the files that are left

@@ -1,10 +1,3 @@
 pub mod Answer
-pub mod Checks
 pub mod Command
-pub mod Recorded
-pub mod Records
-pub mod Replays
-pub mod Runs
 pub mod Said
-pub mod Samples
-pub mod Sampled

@@ -1,13 +1,7 @@
 //! The commands of `vidi`, behind its one public call. `specs/Answer` has what a call owes.
 #![tactic(auto)]
 
-mod check;
 mod command;
-mod line;
-mod recording;
-mod replay;
-mod run;
-mod sample;
 mod top;
 
 pub use top::vidi;

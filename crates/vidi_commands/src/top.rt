@@ -9,12 +9,10 @@ ghost use Rattle.vidi_bench.specs.AnswerText.{text_of};
 ghost use Rattle.vidi_bench.specs.Ended.{Owes};
 ghost use Rattle.vidi_commands.specs.Said as said;
 
-use crate::check::check;
 use crate::command::Command;
-use crate::recording::record;
-use crate::replay::replay;
-use crate::run::run;
-use crate::sample::sample;
+use replay_command::replay;
+use run_commands::{check, record, run};
+use sample_command::sample;
 use std::alloc::Global;
 use trace_commands::{compare, dump, salvage};
 use vidi_bench::{Answer, Ended, Status, usage};

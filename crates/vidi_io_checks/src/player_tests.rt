@@ -12,7 +12,14 @@ use vidi_io::{Fails, MemShelf, MemSink, Shelf, Sink, Text, Words};
 struct Echo;
 
 impl Caller for Echo {
-    fn call(&self, _alloc: Global, words: &Words, shelf: &mut MemShelf, out: &mut MemSink) -> u8 {
+    fn call(
+        &self,
+        _alloc: Global,
+        _case_file: &str,
+        words: &Words,
+        shelf: &mut MemShelf,
+        out: &mut MemSink,
+    ) -> u8 {
         for word in words.as_slice() {
             if let Some(bytes) = shelf.file(word.as_str()) {
                 let _ = out.push(bytes);

@@ -17,8 +17,8 @@ use Rattle.vidi_recorder.proofs.ScriptKept.{script-kept, full-drains}
 use Rattle.vidi_recorder.proofs.Short.{trace-short}
 use Rattle.vidi_bench.specs.Reading.{IsRead}
 use Rattle.vidi_bench.specs.declared.bench.Bench.{Bench}
-use Rattle.vidi_commands.specs.Records.{course_of, IsPlanned}
-use Rattle.vidi_commands.specs.Replays.{IsReplayable}
+use Rattle.run_commands.specs.Records.{course_of, IsPlanned}
+use Rattle.replay_command.specs.Replays.{IsReplayable}
 use Rattle.trace_commands.specs.Traces.{trace_limit}
 use Rattle.vidi_laws.specs.Headline.{RecordedRunIsKept, RecordedTraceIsReplayable, RecordedTraceIsShort, DrainedRecordingIsTheRun, WidePlanDrains}
 use Rattle.vidi_laws.specs.Headline.{RecordingHidesNoGate, PrintedRunKeepsContents}

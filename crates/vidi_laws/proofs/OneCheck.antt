@@ -24,9 +24,9 @@ use Rattle.vidi_bench.specs.declared.status.Status.TheVariants.{Done, Refused}
 use Rattle.vidi_bench.specs.Steps.{Ending, IsRefusal, IsSaid, Step}
 use Rattle.vidi_bench.specs.Design.{text_limit, reason_of, line_of, IsNoWord, IsTooDeep, IsNoFile, IsFile, IsNoTree, IsNoText, Spells}
 use Rattle.vidi_bench.specs.Design.{IsRefusedFile, IsAccepted, IsLooped, Building, Spelling}
-use Rattle.vidi_commands.specs.Checks.{Checked, Checks}
+use Rattle.run_commands.specs.Checks.{Checked, Checks}
 use Rattle.vidi_laws.specs.OneAnswer.{NamesLoop}
-use Rattle.vidi_commands.specs.Said.{check_text}
+use Rattle.run_commands.specs.Said.{check_text}
 use Rattle.vidi_laws.proofs.OneEnding.{Same, Meet, Apart, One, OneBy, one-said, one-step-by, step-meets, one-reading-by}
 use Rattle.vidi_laws.proofs.OneRefusal.{one_refusal, refused_clear}
 

@@ -31,9 +31,9 @@ use Rattle.vidi_bench.specs.Steps.{IsRefusal}
 use Rattle.vidi_bench.specs.Reading.{Reading}
 use Rattle.vidi_bench.specs.Benches.{RefusedTexts, IsBench}
 use Rattle.vidi_bench.specs.Design.{text_limit}
-use Rattle.vidi_commands.specs.Records.{IsNoPlan, IsTooSmall, RefusedPlan, RefusedPlanned}
-use Rattle.vidi_commands.specs.Records.{IsUnrecorded, IsPlanned, IsRecorded, RecordsRun, Records, course_of}
-use Rattle.vidi_commands.specs.Said.{recorded_line, unstable_line}
+use Rattle.run_commands.specs.Records.{IsNoPlan, IsTooSmall, RefusedPlan, RefusedPlanned}
+use Rattle.run_commands.specs.Records.{IsUnrecorded, IsPlanned, IsRecorded, RecordsRun, Records, course_of}
+use Rattle.run_commands.specs.Said.{recorded_line, unstable_line}
 use Rattle.vidi_laws.proofs.OneEnding.{Same, Meet, Apart, One, OneBy, one-said, one-read, one-reading-by, reading-apart, step-meets}
 use Rattle.vidi_laws.proofs.OneCheck.{Alike, alike}
 use Rattle.vidi_laws.proofs.SameBench.{BenchLaws, SameBench, one-texts, texts-apart, one-refused_texts, texts-refused, same-bench}

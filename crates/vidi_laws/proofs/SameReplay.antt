@@ -29,8 +29,8 @@ use Rattle.vidi_bench.specs.declared.status.Status.TheVariants.{Short, Unstable}
 use Rattle.vidi_bench.specs.Design.{text_limit}
 use Rattle.vidi_bench.specs.Devices.{IsDevice}
 use Rattle.vidi_bench.specs.Reading.{Reading}
-use Rattle.vidi_commands.specs.Replays.{IsReplayable, IsReplaySaid, IsUnreplayed, RefusedReplay, RefusedTrace, Replays, ReplaysTrace}
-use Rattle.vidi_commands.specs.Said.{replayed_line, unstable_line}
+use Rattle.replay_command.specs.Replays.{IsReplayable, IsReplaySaid, IsUnreplayed, RefusedReplay, RefusedTrace, Replays, ReplaysTrace}
+use Rattle.replay_command.specs.Said.{replayed_line, unstable_line}
 use Rattle.trace_commands.specs.Traces.{trace_limit, HasOtherChannels}
 use Rattle.vidi_laws.proofs.OneEnding.{One, OneBy, one-said, one-read, one-reading-by, reading-apart}
 use Rattle.vidi_laws.proofs.OneCheck.{Alike, alike}

@@ -14,8 +14,8 @@ use Rattle.report_text.specs.Rows.{run_text}
 use Rattle.vidi_bench.specs.declared.bench.Bench.{Bench}
 use Rattle.vidi_bench.specs.declared.status.Status.TheVariants.{Done, Unstable}
 use Rattle.vidi_bench.specs.Benches.{RefusedTexts, IsBench}
-use Rattle.vidi_commands.specs.Runs.{IsEnded, IsPlayed, RunTexts, Runs}
-use Rattle.vidi_commands.specs.Said.{cycles_line, unstable_line}
+use Rattle.run_commands.specs.Runs.{IsEnded, IsPlayed, RunTexts, Runs}
+use Rattle.run_commands.specs.Said.{cycles_line, unstable_line}
 use Rattle.vidi_laws.proofs.OneEnding.{Same, Meet, OneBy, one-said, step-meets}
 use Rattle.vidi_laws.proofs.OneCheck.{Alike, alike}
 use Rattle.vidi_laws.proofs.SameBench.{BenchLaws, SameBench, one-texts, one-refused_texts, texts-refused, same-bench}

@@ -14,13 +14,13 @@ use Rattle.script_text.specs.declared.stalls.Stalls.{Stalls}
 use Rattle.vidi_recorder.specs.Course.{Course, IsTheRunOf}
 use Rattle.vidi_bench.specs.declared.bench.Bench.{Bench}
 use Rattle.vidi_bench.specs.declared.device.Device.{Device}
-use Rattle.vidi_commands.specs.declared.sample.Figures.{Figures}
+use Rattle.sample_command.specs.declared.sampling.Figures.{Figures}
 use Rattle.vidi_bench.specs.declared.status.Status.{Status}
 use Rattle.vidi_bench.specs.declared.status.Status.TheVariants.{Done, Diverged}
-use Rattle.vidi_commands.specs.Records.{IsRecorded}
-use Rattle.vidi_commands.specs.Said.{diverged_text, sample_line}
-use Rattle.vidi_commands.specs.Samples.{figures, sample_cycles, IsReplayableTexts, IsRunOfTexts, IsSampleReplay, IsSampleSaid, IsSampleVerdict}
-use Rattle.vidi_commands.specs.Samples.{IsTraced, IsUntraced, Samples, SamplesFiles, SamplesReplay}
+use Rattle.run_commands.specs.Records.{IsRecorded}
+use Rattle.sample_command.specs.Said.{diverged_text, sample_line}
+use Rattle.sample_command.specs.Samples.{figures, sample_cycles, IsReplayableTexts, IsRunOfTexts, IsSampleReplay, IsSampleSaid, IsSampleVerdict}
+use Rattle.sample_command.specs.Samples.{IsTraced, IsUntraced, Samples, SamplesFiles, SamplesReplay}
 use Rattle.vidi_laws.proofs.OneEnding.{Apart, One, OneBy, one-said, one-step-by}
 use Rattle.vidi_laws.proofs.OneCheck.{Alike, alike}
 use Rattle.vidi_laws.proofs.SameBench.{BenchLaws, same-bench}

@@ -43,8 +43,8 @@ use Rattle.vidi_bench.specs.Design.{Spells}
 use Rattle.vidi_bench.specs.declared.status.Status.{Status}
 use Rattle.vidi_bench.specs.declared.status.Status.TheVariants.{Done}
 use Rattle.vidi_bench.specs.Steps.{IsSaid}
-use Rattle.vidi_commands.specs.Records.{course_of, IsPlanned}
-use Rattle.vidi_commands.specs.Replays.{IsReplayable, IsTheReplay}
+use Rattle.run_commands.specs.Records.{course_of, IsPlanned}
+use Rattle.replay_command.specs.Replays.{IsReplayable, IsTheReplay}
 use Rattle.wrap_command.specs.Shims.{file_text}
 use Rattle.vidi_commands.specs.Said.{salvaged_line}
 use Rattle.trace_commands.specs.Traces.{trace_limit, Saves}

@@ -13,8 +13,8 @@ use Rattle.vidi_recorder.specs.Course.{IsRunOf, IsTheRunOf}
 use Rattle.vidi_bench.specs.declared.bench.Bench.{Bench}
 use Rattle.vidi_bench.specs.declared.device.Device.{Device}
 use Rattle.vidi_bench.specs.Benches.{IsBench}
-use Rattle.vidi_commands.specs.Records.{course_of, IsPlanned}
-use Rattle.vidi_commands.specs.Replays.{IsReplayable, IsTheReplay}
+use Rattle.run_commands.specs.Records.{course_of, IsPlanned}
+use Rattle.replay_command.specs.Replays.{IsReplayable, IsTheReplay}
 
 -- for each n exactly one list of n rows is a run that `record` may play, and exactly one list is *the run*, which ends in one way
 abbrev pub OneRecording : Type 0

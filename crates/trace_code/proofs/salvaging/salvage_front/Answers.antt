@@ -6,8 +6,8 @@ pub returns : goal.returns
 returns c =
     let cs = c.in_ok-channels.channels in
     let found = c.in_ok-channels.ensures.found in
-    let skipped = rw c.as_slice.ensures at c.in_ok-packets.ensures in (
+    let skipped = rw c.as_slice.ensures at c.skip_packets-packets.ensures in (
       record { channels = cs; packets = skipped.0 },
-      front-whole cs c.args.bytes.now c.in_ok-channels.rest.now c.in_ok-packets.rest.now skipped.0 _ found.0 found.1 skipped.2
+      front-whole cs c.args.bytes.now c.in_ok-channels.rest.now c.skip_packets-packets.result.1.now skipped.0 _ found.0 found.1 skipped.2
           refl skipped.1,
     )

@@ -1,14 +1,12 @@
 use Rattle.std.proofs.Common.{[], ◌∷◌, ◌++◌}
-use Rattle.std.proofs.lemmas.Result.{err_from_is_err_and}
 use Rattle.trace_code.specs.PacketReading.{numbers_at}
-use Rattle.trace_code.proofs.PacketLoop.{number_goes_on, number_ends, number_is_done}
+use Rattle.trace_code.proofs.PacketLoop.{number_goes_on, number_lacks, number_is_done}
 use Rattle.trace_code.proofs.skipping.skip_content.Goals as goal
 
 pub returns-in_err-rest : goal.returns-in_err-rest
 returns-in_err-rest c =
-    let p = err_from_is_err_and c.from_residual.result c.from_residual.ensures.1 in
     let inv = c.loop-width.invariant in
-    rw (p.1, p.2) (number_ends c.in_err-rest.field-0.0 inv.0 c.args.widths.now c.loop-width.width-index c.loop-width.rest.now
+    rw c.from_residual.ensures (number_lacks inv.0 c.args.widths.now c.loop-width.width-index c.loop-width.rest.now
     (numbers_at c.args.widths.now c.args.bytes.now) c.loop-width-test.true c.in_err-rest.ensures inv.1)
 
 pub loop-width-preserved : goal.loop-width-preserved

@@ -1,20 +1,17 @@
 use Rattle.std.proofs.Common.{◌++◌, ap}
-use Rattle.std.proofs.lemmas.Result.{err_from_is_err_and}
 use Rattle.trace_model.specs.Packet.{widths_under}
 use Rattle.trace_code.specs.Reading.{with_front}
 use Rattle.trace_code.specs.PacketReading.{numbers_at}
-use Rattle.trace_code.proofs.PacketLoop.{start_goes_on, start_ends, start_is_done}
-use Rattle.trace_code.proofs.Skips.{fails-front}
+use Rattle.trace_code.proofs.PacketLoop.{start_goes_on, start_lacks, start_is_done}
 use Rattle.trace_code.proofs.skipping.skip_contents.Goals as goal
 
 pub returns-in_err-rest : goal.returns-in_err-rest
 returns-in_err-rest c =
-    let p = err_from_is_err_and c.from_residual.result c.from_residual.ensures.1 in
     let inv = c.loop-c.invariant in
-    let fails = rw c.names-starting.ensures at c.in_err-rest.ensures in
-    rw (p.1, p.2) (start_ends c.in_err-rest.field-0.0 inv.0 c.args.starts c.args.channels.now c.loop-c.c c.index-channels-c.result
-    c.loop-c.rest.now (numbers_at (widths_under c.args.starts c.args.channels.now) c.args.bytes.now) c.loop-c-test.true
-    c.index-channels-c.is (fails-front c.in_err-rest.field-0.0 inv.0 _ fails) inv.1)
+    let lacks = rw c.names-starting.ensures at c.in_err-rest.ensures in
+    rw c.from_residual.ensures (start_lacks inv.0 c.args.starts c.args.channels.now c.loop-c.c c.index-channels-c.result c.loop-c.rest.now
+    (numbers_at (widths_under c.args.starts c.args.channels.now) c.args.bytes.now) c.loop-c-test.true c.index-channels-c.is
+    (ap (with_front inv.0) lacks) inv.1)
 
 pub loop-c-preserved : goal.loop-c-preserved
 loop-c-preserved c =

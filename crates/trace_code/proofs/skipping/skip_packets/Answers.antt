@@ -10,6 +10,6 @@ overflow_add-packets c = omega (
 
 pub loop-after-preserved : goal.loop-after-preserved
 loop-after-preserved c =
-    let follows = rw c.in-Some.is at c.in_ok-after.ensures.found in
+    let follows = rw c.in-Some.is at c.skip_packet.ensures.found in
     skipped-on c.args.channels.now c.args.bytes.now c.loop-after.packets c.loop-after.flying c.in-Some.after c.loop-after.rest.now
     c.in-Some.others.now c.loop-after.invariant follows

@@ -1,12 +1,12 @@
 use Rattle.std.proofs.Common.{◌≡◌, ℕ, List, inr, refl}
 use Rattle.vidi_io.specs.Cause.{Rose}
 use Rattle.vidi_commands.specs.Answer.{Earns, Stops}
-use Rattle.vidi_commands.specs.Checks.{Checks}
+use Rattle.run_commands.specs.Checks.{Checks}
 use Rattle.vidi_commands.specs.Command.{Check, Compare, Dump, IsGiven, Record, Replay, Run, Salvage, Sample, Wrap}
-use Rattle.vidi_commands.specs.Records.{Records, StopsRecording}
-use Rattle.vidi_commands.specs.Replays.{Replays, StopsReplaying}
-use Rattle.vidi_commands.specs.Runs.{Runs}
-use Rattle.vidi_commands.specs.Samples.{Samples}
+use Rattle.run_commands.specs.Records.{Records, StopsRecording}
+use Rattle.replay_command.specs.Replays.{Replays, StopsReplaying}
+use Rattle.run_commands.specs.Runs.{Runs}
+use Rattle.sample_command.specs.Samples.{Samples}
 use Rattle.trace_commands.specs.Traces.{Compares, Dumps, Saves, StopsSaving}
 use Rattle.wrap_command.specs.Wraps.{StopsWrapping, Wraps}
 use Rattle.vidi_bench.proofs.Chain.{owed, owed-as}

@@ -1,4 +1,4 @@
-use Rattle.std.proofs.Common.{ℕ, List, get_or, ◌≡◌, ◌+◌, ◌*◌, ◌≤◌, ◌<◌, length, take, drop, ap, sym, subst, ◌∙◌, arith, All, sum_by}
+use Rattle.std.proofs.Common.{ℕ, List, get_or, ◌≡◌, ◌+◌, ◌*◌, ◌≤◌, ◌<◌, length, take, drop, ap, sym, subst, ◌∙◌, All, sum_by}
 use Rattle.trace_model.specs.declared.event.Kind.{Kind}
 use Rattle.trace_model.specs.declared.event.Kind.TheVariants.{Start}
 use Rattle.trace_model.specs.Channel.{byte_count}

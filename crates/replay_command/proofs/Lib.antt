@@ -1,0 +1,2 @@
+pub mod QuietReplays
+pub mod Replayed

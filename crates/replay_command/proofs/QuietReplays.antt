@@ -1,0 +1,64 @@
+-- The command `replay`: no failed write among its answers, and the same where no read failed.
+use Rattle.std.proofs.Common.{◌≡◌, ℕ, List, Option, inl, inr}
+use Rattle.trace_model.specs.declared.channel.Channel.{Channel}
+use Rattle.trace_model.specs.declared.trace.Trace.{Trace}
+use Rattle.trace_model.specs.Recording.{trace_of}
+use Rattle.chan_map.specs.declared.pins.Map.{Map}
+use Rattle.vidi_io.specs.Shelf.{Files}
+use Rattle.replay_run.specs.declared.outcome.ReplayOutcome.{ReplayOutcome}
+use Rattle.replay_run.specs.declared.outcome.ReplayOutcome.TheVariants as outcomes
+use Rattle.report_text.specs.declared.reason.Word.TheVariants as words
+use Rattle.report_text.specs.declared.reason.Reason.TheVariants.{OtherChannels}
+use Rattle.vidi_bench.specs.declared.status.Status.{Status}
+use Rattle.vidi_bench.specs.declared.status.Status.TheVariants.{WriteFault, Short, Unstable}
+use Rattle.vidi_bench.specs.Design.{text_limit}
+use Rattle.vidi_bench.specs.Reading.{Reading}
+use Rattle.replay_command.specs.Replays.{RefusedTrace, RefusedReplay, IsUnreplayed, IsReplaySaid, Replays}
+use Rattle.replay_command.specs.Said.{replayed_line}
+use Rattle.trace_commands.specs.Traces.{trace_limit, HasOtherChannels}
+use Rattle.vidi_bench.proofs.Quiet.{Mute, mute-reading, mute-refusal, quiet-reading}
+use Rattle.vidi_bench.proofs.QuietTexts.{mute-wiring}
+use Rattle.trace_commands.proofs.QuietTraces.{mute-decoding, mute-verdict}
+
+-- ---- no failed write
+mute-other : (channels : List Channel) (t : Trace) → Mute (HasOtherChannels words.Trace channels t.channels)
+mute-other channels t x (at, same, other, s) = mute-refusal words.Trace (OtherChannels at) x s
+
+mute-trace : (trace : List ℕ) (m : Map) → Mute (RefusedTrace trace m)
+mute-trace trace m =
+    mute-decoding words.Trace trace (λ t. HasOtherChannels words.Trace m.channels t.channels) (mute-other m.channels)
+
+pub mute-refused_replay : (design map trace : List ℕ) → Mute (RefusedReplay design map trace)
+mute-refused_replay design map trace = mute-wiring design map (RefusedTrace trace) (mute-trace trace)
+
+mute-unreplayed : (design map trace : List ℕ) (files : Option Files) (F : List ℕ → Type 0) → Mute (IsUnreplayed design map trace files F)
+mute-unreplayed design map trace files F = mute-reading text_limit words.Design design files F
+    (λ d. Reading text_limit words.Map map files F (λ n. Reading trace_limit words.Trace trace files F (RefusedReplay d n)))
+    (λ d. mute-reading text_limit words.Map map files F (λ n. Reading trace_limit words.Trace trace files F (RefusedReplay d n))
+    (λ n. mute-reading trace_limit words.Trace trace files F (RefusedReplay d n)
+    (mute-refused_replay d n)))
+
+pub mute-replay_said : (t u : Trace) (n : ℕ) (o : ReplayOutcome) → Mute (IsReplaySaid t u n o)
+mute-replay_said t u n (outcomes.Ended cycles) x v = mute-verdict (replayed_line cycles) t u x v
+mute-replay_said t u n (outcomes.Short helds events) x s = let e : WriteFault ≡ Short helds events = s.0 in cc
+mute-replay_said t u n (outcomes.Unstable channel cycle) x s = let e : WriteFault ≡ Unstable channel cycle = s.0 in cc
+
+pub mute-replays : (design map trace : List ℕ) (n : ℕ) (out : List ℕ) (files : Option Files) (F : List ℕ → Type 0) (x : List ℕ)
+    (left : Option Files) → Replays design map trace n out files F WriteFault x left → ⊥
+mute-replays design map trace n out files F x left (inl (unreplayed, same)) = mute-unreplayed design map trace files F x unreplayed
+mute-replays design map trace n out files F x left (inr (v, t, replayable, (rows, outcome, is, s, held))) =
+    mute-replay_said t (trace_of v.map.channels rows) n outcome x s
+
+-- ---- where no read failed
+pub quiet-replays : (design map trace : List ℕ) (n : ℕ) (out : List ℕ) (files : Option Files) (F : List ℕ → Type 0) (a : Status)
+    (x : List ℕ) (left : Option Files) → ((name : List ℕ) → ¬ F name) → Replays design map trace n out files F a x left
+    → Replays design map trace n out files (λ _. ⊥) a x left
+quiet-replays design map trace n out files F a x left quiet (inl (unreplayed, same)) =
+    inl (
+      quiet-reading text_limit words.Design design files F _ _ (quiet design)
+          (λ d. quiet-reading text_limit words.Map map files F _ _ (quiet map)
+          (λ m. quiet-reading trace_limit words.Trace trace files F (RefusedReplay d m) (RefusedReplay d m) (quiet trace)
+          (λ text b y rest. rest))) a x unreplayed,
+      same,
+    )
+quiet-replays design map trace n out files F a x left quiet (inr replayed) = inr replayed

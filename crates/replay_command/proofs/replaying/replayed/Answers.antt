@@ -1,0 +1,18 @@
+use Rattle.std.proofs.Common.{◌≡◌, ℕ, List, sym, subst}
+use Rattle.trace_model.specs.Recording.{trace_of}
+use Rattle.trace_code.specs.Encoding.{Encodes}
+use Rattle.replay_command.proofs.replaying.replayed.Goals as goal
+
+pub told-requires-clause-written : goal.told-requires-clause-written
+told-requires-clause-written g c =
+    let plan = c.args.plan in
+    let encodes : Encodes plan.trace c.as_slice.result.now =
+    subst (λ (b : List ℕ). Encodes plan.trace b) (sym c.as_slice.ensures) c.requires.encodes in
+    let replay = c.in_ok-outcome.ensures plan.trace encodes in
+    let whole = c.as_slice-2.ensures in
+    let written = c.in_ok-outcome.written-is in
+    let same : c.in_ok-outcome.field-0.out ≡ c.as_slice-2.result.now = cc in (
+      trace_of plan.device.map.channels replay.0,
+      subst (λ (b : List ℕ). Encodes (trace_of plan.device.map.channels replay.0) b) same replay.2,
+      sym c.requires.same,
+    )

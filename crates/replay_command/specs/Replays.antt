@@ -1,0 +1,85 @@
+-- What `replay DESIGN MAP TRACE CYCLES OUT` owes: each step of it in its order, and what is left in OUT.
+use Rattle.std.specs.Prelude.{◌≡◌, ℕ, ◌⊎◌, List, Option}
+use Rattle.vidi_io.specs.Shelf.{Files, holding}
+use Rattle.vidi_io.specs.Writing.{IsCutOff}
+use Rattle.trace_model.specs.declared.row.Row.{Row}
+use Rattle.trace_model.specs.declared.trace.Trace.{Trace}
+use Rattle.trace_model.specs.Recording.{trace_of}
+use Rattle.trace_code.specs.Encoding.{Encodes, encode}
+use Rattle.chan_map.specs.declared.pins.Map.{Map}
+use Rattle.replay_run.specs.declared.outcome.ReplayOutcome.{ReplayOutcome}
+use Rattle.replay_run.specs.declared.outcome.ReplayOutcome.TheVariants as outcomes
+use Rattle.replay_run.specs.Replaying.{EndsAs}
+use Rattle.report_text.specs.Short.{short_lines}
+use Rattle.report_text.specs.declared.reason.Word.TheVariants as words
+use Rattle.vidi_bench.specs.declared.device.Device.{Device}
+use Rattle.vidi_bench.specs.declared.status.Status.{Status}
+use Rattle.vidi_bench.specs.declared.status.Status.TheVariants.{Short, Unstable}
+use Rattle.vidi_bench.specs.Design.{text_limit}
+use Rattle.vidi_bench.specs.Devices.{IsDevice, Wiring}
+use Rattle.vidi_bench.specs.Reading.{IsRead, Reading}
+use Rattle.replay_command.specs.Said.{replayed_line, unstable_line}
+use Rattle.vidi_bench.specs.Steps.{Ending, IsSaid}
+use Rattle.trace_commands.specs.Traces.{trace_limit, Decoding, HasOtherChannels, IsVerdict}
+
+-- ---- what ends the command before anything is replayed
+
+-- the bytes encode no trace, or one of other channels than the map's
+abbrev pub RefusedTrace : List ℕ → Map → Ending
+RefusedTrace trace m = Decoding words.Trace trace (λ t. HasOtherChannels words.Trace m.channels t.channels)
+
+-- the first reason of three texts, in the order of the steps
+abbrev pub RefusedReplay : List ℕ → List ℕ → List ℕ → Ending
+RefusedReplay design map trace = Wiring design map (RefusedTrace trace)
+
+-- three files, in the order of the words
+abbrev pub IsUnreplayed : List ℕ → List ℕ → List ℕ → Option Files → (List ℕ → Type 0) → Ending
+IsUnreplayed design map trace files ReadFailed =
+    Reading text_limit words.Design design files ReadFailed (λ d.
+    Reading text_limit words.Map map files ReadFailed (λ m.
+    Reading trace_limit words.Trace trace files ReadFailed (RefusedReplay d m)))
+
+-- ---- what is replayed
+
+-- the three files are read and accepted: they say this design with its map, and this trace of the map's channels
+pub record IsReplayable (design map trace : List ℕ) (files : Option Files) (v : Device) (t : Trace) : Type 0 where
+  pub design_text : List ℕ
+  pub map_text : List ℕ
+  pub trace_bytes : List ℕ
+  pub design_read : IsRead text_limit design files design_text
+  pub map_read : IsRead text_limit map files map_text
+  pub trace_read : IsRead trace_limit trace files trace_bytes
+  pub device : IsDevice design_text map_text v
+  pub encodes : Encodes t trace_bytes
+  pub same : t.channels ≡ v.map.channels
+
+-- what is said of a replay of at most n cycles that ends so, with the trace u
+abbrev pub IsReplaySaid : Trace → Trace → ℕ → ReplayOutcome → Ending
+IsReplaySaid t u n (outcomes.Ended cycles) = IsVerdict (replayed_line cycles) t u
+IsReplaySaid t u n (outcomes.Short helds events) = IsSaid (Short helds events) (short_lines helds events n t.channels)
+IsReplaySaid t u n (outcomes.Unstable channel cycle) = IsSaid (Unstable channel cycle) (unstable_line t.channels channel cycle)
+
+-- the rows are *the replay* of at most n cycles, and end so
+abbrev pub IsTheReplay : Device → Trace → ℕ → List Row → ReplayOutcome → Type 0
+IsTheReplay v t n rows outcome = EndsAs v.design v.map t.packets n rows outcome
+
+-- OUT is the encoding of the replay's trace, however it ends
+abbrev pub ReplaysTrace : Device → Trace → ℕ → List ℕ → Option Files → Status → List ℕ → Option Files → Type 0
+ReplaysTrace v t n out files status text left = (rows : List Row) × (outcome : ReplayOutcome) × IsTheReplay v t n rows outcome
+    × IsReplaySaid t (trace_of v.map.channels rows) n outcome status text
+    × (left ≡ holding files out (encode (trace_of v.map.channels rows)))
+
+abbrev pub Replays : List ℕ → List ℕ → List ℕ → ℕ → List ℕ → Option Files → (List ℕ → Type 0) → Status → List ℕ → Option Files → Type 0
+Replays design map trace n out files ReadFailed status text left =
+    (IsUnreplayed design map trace files ReadFailed status text × (left ≡ files))
+    ⊎ ((v : Device) × (t : Trace) × IsReplayable design map trace files v t × ReplaysTrace v t n out files status text left)
+
+-- ---- writing OUT was cut off
+
+abbrev pub CutsReplay : Device → Trace → ℕ → List ℕ → Option Files → Type 0 → Option Files → Type 0
+CutsReplay v t n out files Unstarted left = (rows : List Row) × (outcome : ReplayOutcome) × IsTheReplay v t n rows outcome
+    × IsCutOff files out (encode (trace_of v.map.channels rows)) Unstarted left
+
+abbrev pub StopsReplaying : List ℕ → List ℕ → List ℕ → ℕ → List ℕ → Option Files → Type 0 → Option Files → Type 0
+StopsReplaying design map trace n out files Unstarted left =
+    (v : Device) × (t : Trace) × IsReplayable design map trace files v t × CutsReplay v t n out files Unstarted left

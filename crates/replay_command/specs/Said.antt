@@ -1,0 +1,8 @@
+-- *Said*: what `replay` prints (this project's profile). Every line ends with a newline, and numbers are decimal.
+use Rattle.std.specs.Prelude.{ℕ, List, ◌++◌, codes, decimal}
+use Rattle.report_text.specs.Text.{newline}
+pub use Rattle.run_commands.specs.Said.{unstable_line}
+
+-- `replayed N cycles, no divergence`
+abbrev pub replayed_line : ℕ → List ℕ
+replayed_line cycles = codes "replayed " ++ (decimal cycles ++ (codes " cycles, no divergence" ++ newline))

@@ -1,0 +1,6 @@
+pub mod QuietTexts
+pub mod PortNets
+pub mod Names
+pub mod Texts
+pub mod Filed
+pub mod Recorded

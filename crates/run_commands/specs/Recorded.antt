@@ -1,0 +1,30 @@
+-- What a recording into a file leaves, by its outcome, and what is said of it.
+use Rattle.std.specs.Prelude.{◌≡◌, ℕ, List, Option, None, Some, length}
+use Rattle.vidi_io.specs.Shelf.{Files}
+use Rattle.trace_model.specs.declared.channel.Channel.{Channel}
+use Rattle.trace_model.specs.declared.row.Row.{Row}
+use Rattle.trace_model.specs.Recording.{packets_of}
+use Rattle.vidi_recorder.specs.declared.error.Outcome.{Outcome}
+use Rattle.vidi_recorder.specs.declared.error.Outcome.TheVariants as outcomes
+use Rattle.vidi_recorder.specs.declared.error.RecordError.{RecordError}
+use Rattle.vidi_recorder.specs.declared.error.RecordError.TheVariants as errors
+use Rattle.vidi_recorder.specs.Course.{Course}
+use Rattle.vidi_bench.specs.declared.status.Status.TheVariants.{Done, Unstable}
+use Rattle.run_commands.specs.Records.{IsCutShort, Leaves}
+use Rattle.run_commands.specs.Said.{recorded_line, unstable_line}
+use Rattle.vidi_bench.specs.Steps.{Ending, IsSaid}
+
+abbrev pub FileEnds : Course → Option Files → List ℕ → Option Files → Outcome → Type 0
+FileEnds w files trace left (outcomes.Whole packets) = (rows : List Row) × Leaves w files trace left rows None
+    × (packets ≡ length (packets_of w.bound.channels rows))
+FileEnds w files trace left (outcomes.Unstable channel cycle packets) = (rows : List Row) × Leaves w files trace left rows (Some channel)
+    × (cycle ≡ length rows)
+
+abbrev pub FileFails : Course → Option Files → List ℕ → Type 0 → Option Files → RecordError → Type 0
+FileFails w files trace Unstarted left errors.WriteFault = IsCutShort w files trace Unstarted left
+FileFails w files trace Unstarted left errors.Memory = left ≡ files
+
+-- what is said of an outcome, after so many cycles where it is whole
+abbrev pub IsOutcome : List Channel → ℕ → Outcome → Ending
+IsOutcome channels cycles (outcomes.Whole packets) = IsSaid Done (recorded_line cycles packets)
+IsOutcome channels cycles (outcomes.Unstable channel cycle packets) = IsSaid (Unstable channel cycle) (unstable_line channels channel cycle)

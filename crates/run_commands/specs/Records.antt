@@ -1,0 +1,106 @@
+-- What `record DESIGN MAP SCRIPT STALLS TRACE` owes: each step of it in its order, and what is left in TRACE.
+use Rattle.std.specs.Prelude.{◌≡◌, ℕ, ◌<◌, ◌≤◌, ◌⊎◌, List, Option, None, Some, Ok, Err, length}
+use Rattle.vidi_io.specs.Shelf.{Files, holding}
+use Rattle.trace_model.specs.declared.channel.Channel.{Channel}
+use Rattle.trace_model.specs.declared.row.Row.{Row}
+use Rattle.trace_model.specs.Recording.{packets_of, trace_of}
+use Rattle.trace_code.specs.Encoding.{encode}
+use Rattle.room_ledger.specs.Reservation.{need}
+use Rattle.script_text.specs.declared.error.StallError.TheVariants as errors
+use Rattle.script_text.specs.declared.stalls.Stalls.{Stalls}
+use Rattle.script_text.specs.Reasons.{read_lines}
+use Rattle.script_text.specs.Stalls.{ReadsStalls}
+use Rattle.script_text.specs.ScriptOffer.{script_offer}
+use Rattle.vidi_recorder.specs.Course.{Course, course, sizes_of, IsRunOf, IsTheRunOf}
+use Rattle.vidi_recorder.specs.Recording.{IsFrontOfTheRun}
+use Rattle.report_text.specs.declared.reason.Word.TheVariants as words
+use Rattle.report_text.specs.declared.reason.Reason.TheVariants.{StallLine, TooSmall}
+use Rattle.vidi_bench.specs.declared.bench.Bench.{Bench}
+use Rattle.vidi_bench.specs.declared.status.Status.{Status}
+use Rattle.vidi_bench.specs.declared.status.Status.TheVariants.{Done, Unstable}
+use Rattle.vidi_bench.specs.Steps.{Ending, IsSaid, IsRefusal, Step}
+use Rattle.vidi_bench.specs.Reading.{IsRead, Reading}
+use Rattle.vidi_bench.specs.Design.{text_limit}
+use Rattle.vidi_bench.specs.Benches.{ReadTexts, RefusedTexts, IsBench}
+use Rattle.run_commands.specs.Said.{recorded_line, unstable_line}
+
+-- ---- what ends the command before anything is recorded
+
+-- P1
+abbrev pub IsNoPlan : List ℕ → Ending
+IsNoPlan bytes status said =
+    (line : ℕ) × ReadsStalls (read_lines bytes) (Err (errors.Line line)) × IsRefusal words.Stalls (StallLine line) status said
+
+-- the store holds fewer bytes than all channels need together
+abbrev pub IsTooSmall : List Channel → Stalls → Ending
+IsTooSmall channels plan status said = (plan.capacity < need (sizes_of channels))
+    × IsRefusal words.Stalls (TooSmall (need (sizes_of channels)) plan.capacity) status said
+
+-- a plan of stalls, and a store of its capacity for these channels
+abbrev pub RefusedStore : List ℕ → List Channel → Ending
+RefusedStore stalls channels = Step (IsNoPlan stalls) (λ plan. ReadsStalls (read_lines stalls) (Ok plan)) (IsTooSmall channels)
+
+abbrev pub RefusedPlan : List ℕ → Bench → Ending
+RefusedPlan stalls b = RefusedStore stalls b.device.map.channels
+
+-- four texts
+abbrev pub RefusedPlanned : List ℕ → List ℕ → List ℕ → List ℕ → Ending
+RefusedPlanned design map script stalls = Step (RefusedTexts design map script) (IsBench design map script) (RefusedPlan stalls)
+
+-- four files, in the order of the words
+abbrev pub IsUnrecorded : List ℕ → List ℕ → List ℕ → List ℕ → Option Files → (List ℕ → Type 0) → Ending
+IsUnrecorded design map script stalls files ReadFailed = ReadTexts design map script files ReadFailed
+    (λ d m s. Reading text_limit words.Stalls stalls files ReadFailed (RefusedPlanned d m s))
+
+-- ---- what is recorded
+
+-- the four files are read and accepted: they say this design with its map, this script and this plan
+pub record IsPlanned (design map script stalls : List ℕ) (files : Option Files) (b : Bench) (plan : Stalls) : Type 0 where
+  pub design_text : List ℕ
+  pub map_text : List ℕ
+  pub script_text : List ℕ
+  pub stalls_text : List ℕ
+  pub design_read : IsRead text_limit design files design_text
+  pub map_read : IsRead text_limit map files map_text
+  pub script_read : IsRead text_limit script files script_text
+  pub stalls_read : IsRead text_limit stalls files stalls_text
+  pub bench : IsBench design_text map_text script_text b
+  pub planned : ReadsStalls (read_lines stalls_text) (Ok plan)
+  pub holds : need (sizes_of b.device.map.channels) ≤ plan.capacity
+
+-- of that design and map, with what the script offers and the gates of the plan, for the script's cycles
+abbrev pub course_of : Bench → Stalls → Course
+course_of b plan = course b.device.design b.device.map (script_offer b.script) plan b.script.cycles
+
+-- the run has all its cycles, or ends before the row of this cycle, which is unstable on this channel
+abbrev pub IsRecorded : List Channel → List Row → Option ℕ → Ending
+IsRecorded channels rows None = IsSaid Done (recorded_line (length rows) (length (packets_of channels rows)))
+IsRecorded channels rows (Some channel) = IsSaid (Unstable channel (length rows)) (unstable_line channels channel (length rows))
+
+-- the rows are the run, and TRACE is the encoding of their trace
+abbrev pub Leaves : Course → Option Files → List ℕ → Option Files → List Row → Option ℕ → Type 0
+Leaves w files trace left rows stop = IsTheRunOf w rows stop
+    × (left ≡ holding files trace (encode (trace_of w.bound.channels rows)))
+
+abbrev pub RecordsRun : Course → List ℕ → Option Files → Status → List ℕ → Option Files → Type 0
+RecordsRun w trace files status text left = (rows : List Row) × (stop : Option ℕ) × Leaves w files trace left rows stop
+    × IsRecorded w.bound.channels rows stop status text
+
+abbrev pub Records : List ℕ → List ℕ → List ℕ → List ℕ → List ℕ → Option Files → (List ℕ → Type 0) → Status → List ℕ → Option Files
+    → Type 0
+Records design map script stalls trace files ReadFailed status text left =
+    (IsUnrecorded design map script stalls files ReadFailed status text × (left ≡ files))
+    ⊎ ((b : Bench) × (plan : Stalls) × IsPlanned design map script stalls files b plan
+    × RecordsRun (course_of b plan) trace files status text left)
+
+-- ---- a write of TRACE failed
+
+-- TRACE is as at entry, as no start of it succeeded, or holds a front of the encoding of the run's trace; the run is there, and these
+-- rows are its first
+abbrev pub IsCutShort : Course → Option Files → List ℕ → Type 0 → Option Files → Type 0
+IsCutShort w files trace Unstarted left = ((left ≡ files) × Unstarted)
+    ⊎ ((rows : List Row) × (bytes : List ℕ) × IsRunOf w rows × IsFrontOfTheRun w rows bytes × (left ≡ holding files trace bytes))
+
+abbrev pub StopsRecording : List ℕ → List ℕ → List ℕ → List ℕ → List ℕ → Option Files → Type 0 → Option Files → Type 0
+StopsRecording design map script stalls trace files Unstarted left = (b : Bench) × (plan : Stalls)
+    × IsPlanned design map script stalls files b plan × IsCutShort (course_of b plan) files trace Unstarted left

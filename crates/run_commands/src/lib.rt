@@ -1,0 +1,12 @@
+//! The commands `check`, `run` and `record` of `vidi`. `specs/Checks`, `Runs` and `Records` have what each owes.
+#![tactic(auto)]
+
+mod checking;
+mod line;
+mod recording;
+mod running;
+
+pub use checking::check;
+pub use line::unstable;
+pub use recording::{Planned, plan_texts, record, record_sim};
+pub use running::run;

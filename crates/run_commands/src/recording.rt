@@ -1,0 +1,334 @@
+//! The command `record`.
+
+ghost use Rattle.run_commands.specs.declared.line.TheConstants.{LINE_BYTES};
+ghost use Rattle.std.specs.Prelude.{◌≡◌, ◌≤◌, [], Option, Ok, IfOk, IfErr, length};
+ghost use Rattle.trace_model.specs.declared.row.Row.{Row as OneRow};
+ghost use Rattle.trace_model.specs.Channel.{IsTable};
+ghost use Rattle.net_design.specs.declared.values.Values.{Values};
+ghost use Rattle.net_design.specs.Lawful.{IsLawful};
+ghost use Rattle.net_order.specs.Order.{IsOrder};
+ghost use Rattle.run_model.specs.MapOf.{IsMapOf};
+ghost use Rattle.script_text.specs.declared.script.TheConstants.{MOST_CYCLES};
+ghost use Rattle.script_text.specs.Fits.{FitsChannels};
+ghost use Rattle.script_text.specs.ScriptOffer.{script_offer};
+ghost use Rattle.room_ledger.specs.Ledger.{fresh};
+ghost use Rattle.room_ledger.specs.Reservation.{need};
+ghost use Rattle.script_text.specs.Reasons.{read_lines};
+ghost use Rattle.script_text.specs.Stalls.{ReadsStalls};
+ghost use Rattle.vidi_io.specs.Cause.{Rose};
+ghost use Rattle.vidi_io.specs.Shelf.{Later};
+ghost use Rattle.vidi_recorder.specs.Course.{course, sizes_of};
+ghost use Rattle.vidi_recorder.specs.Recording.{FailsFor};
+ghost use Rattle.report_text.specs.Pad.{shown, left};
+ghost use Rattle.vidi_bench.specs.AnswerText.{text_of};
+ghost use Rattle.vidi_bench.specs.Benches.{AreWithin, IsBench, IsPlayable};
+ghost use Rattle.vidi_bench.specs.Design.{text_limit};
+ghost use Rattle.vidi_bench.specs.Ended.{EndsWith, IsStopped, Owes};
+ghost use Rattle.run_commands.specs.Records.{course_of, IsCutShort, IsNoPlan, IsPlanned, IsTooSmall, IsUnrecorded, RefusedStore};
+ghost use Rattle.run_commands.specs.Records.{Records, RecordsRun, RefusedPlanned, StopsRecording};
+ghost use Rattle.run_commands.specs.Recorded.{FileEnds, FileFails, IsOutcome};
+
+use crate::line::{LINE_BYTES, recorded_line, unstable_line, with_line};
+use chan_map::Map;
+use chan_monitor::{Machines, Shell};
+use env_script::{Env, ScriptEnv, StallError, Stalls, read_stalls};
+use net_design::{Block, Design};
+use net_order::Order;
+use net_sim::Sim;
+use report_text::Pad;
+use room_ledger::{Room, RoomError};
+use script_text::Script;
+use std::alloc::Global;
+use trace_model::Channels;
+use vidi_bench::{
+    Answer, Bench, Device, Ended, Reason, Status, TEXT_LIMIT, Texts, Word, bench_of, read_file,
+    read_texts, refused,
+};
+use vidi_io::{Shelf, ShelfSink};
+use vidi_recorder::{Outcome, RecordError, record_run};
+
+/// What is recorded: a design with its map and script, a plan of stalls, and a store for it.
+#[derive(Drop)]
+pub struct Planned {
+    pub bench: Bench,
+    pub plan: Stalls,
+    pub room: Room,
+}
+
+/// What `record` is answered. All memory is taken before the file `trace` is started.
+pub fn record<S: Shelf>(
+    alloc: Global,
+    design: &str,
+    map: &str,
+    script: &str,
+    stalls: &str,
+    trace: &str,
+    shelf: &mut S,
+) -> Result<Answer, Ended>
+    ensures owed { Owes (Records design.now map.now script.now stalls.now trace.now (S.files shelf.old)
+        (λ name. Rose (S.read_faults shelf.old name) (S.read_faults shelf.new name)))
+        (StopsRecording design.now map.now script.now stalls.now trace.now (S.files shelf.old) (S.starts shelf.new ≡ S.starts shelf.old))
+        (Rose (S.write_faults shelf.old) (S.write_faults shelf.new)) (S.files shelf.old) (S.files shelf.new) result }
+    ensures counts { Later (S.read_faults shelf.old) (S.read_faults shelf.new) (S.write_faults shelf.old) (S.write_faults shelf.new) }
+{
+    let planned = plan_recording(alloc, design, map, script, stalls, shelf)?;
+    recorded(alloc, planned, trace, shelf)
+}
+
+/// Reads the four files, and makes what they say.
+fn plan_recording<S: Shelf>(
+    alloc: Global,
+    design: &str,
+    map: &str,
+    script: &str,
+    stalls: &str,
+    shelf: &mut S,
+) -> Result<Planned, Ended>
+    ensures planned { IfOk result (λ p. IsPlanned design.now map.now script.now stalls.now (S.files shelf.old) p.bench p.plan) }
+    ensures playable { IfOk result (λ p. IsPlayable p.bench) }
+    ensures room { IfOk result (λ p. p.room ≡ fresh (sizes_of p.bench.device.map.channels) p.plan.capacity) }
+    ensures refused { IfErr result (EndsWith (IsUnrecorded design.now map.now script.now stalls.now (S.files shelf.old)
+        (λ name. Rose (S.read_faults shelf.old name) (S.read_faults shelf.new name)))) }
+    ensures files { S.files shelf.new ≡ S.files shelf.old }
+    ensures starts { S.starts shelf.new ≡ S.starts shelf.old }
+    ensures counts { Later (S.read_faults shelf.old) (S.read_faults shelf.new) (S.write_faults shelf.old) (S.write_faults shelf.new) }
+{
+    let texts = read_texts(alloc, design, map, script, shelf)?;
+    let stalls = read_file(alloc, Word::Stalls, stalls, TEXT_LIMIT, shelf)?;
+    plan_texts(alloc, &texts, stalls.as_slice())
+}
+
+/// What four texts say.
+pub fn plan_texts(alloc: Global, texts: &Texts, stalls: &[u8]) -> Result<Planned, Ended>
+    requires within { AreWithin texts.now }
+    requires stalls { length stalls.now ≤ text_limit }
+    ensures bench { IfOk result (λ p. IsBench texts.now.design texts.now.map texts.now.script p.bench) }
+    ensures planned { IfOk result (λ p. ReadsStalls (read_lines stalls.now) (Ok p.plan)) }
+    ensures holds { IfOk result (λ p. need (sizes_of p.bench.device.map.channels) ≤ p.plan.capacity) }
+    ensures playable { IfOk result (λ p. IsPlayable p.bench) }
+    ensures room { IfOk result (λ p. p.room ≡ fresh (sizes_of p.bench.device.map.channels) p.plan.capacity) }
+    ensures refused { IfErr result (EndsWith (RefusedPlanned texts.now.design texts.now.map texts.now.script stalls.now)) }
+{
+    let bench = bench_of(alloc, texts)?;
+    let store = store_of(alloc, &bench.device.map.channels, stalls)?;
+    let (plan, room) = store;
+    Ok(Planned { bench, plan, room })
+}
+
+/// The plan of a text, and a store for it and these channels.
+fn store_of(alloc: Global, channels: &Channels, stalls: &[u8]) -> Result<(Stalls, Room), Ended>
+    requires table { IsTable channels.now }
+    requires stalls { length stalls.now ≤ text_limit }
+    ensures planned { IfOk result (λ s. ReadsStalls (read_lines stalls.now) (Ok s.0)) }
+    ensures holds { IfOk result (λ s. need (sizes_of channels.now) ≤ s.0.capacity) }
+    ensures room { IfOk result (λ s. s.1 ≡ fresh (sizes_of channels.now) s.0.capacity) }
+    ensures refused { IfErr result (EndsWith (RefusedStore stalls.now channels.now)) }
+{
+    let plan = plan_of(alloc, stalls)?;
+    let room = room_for(alloc, channels, &plan)?;
+    Ok((plan, room))
+}
+
+/// The plan of a text.
+fn plan_of(alloc: Global, text: &[u8]) -> Result<Stalls, Ended>
+    requires { length text.now ≤ text_limit }
+    ensures planned { IfOk result (λ plan. ReadsStalls (read_lines text.now) (Ok plan)) }
+    ensures refused { IfErr result (EndsWith (IsNoPlan text.now)) }
+{
+    match read_stalls(alloc, text) {
+        Ok(plan) => Ok(plan),
+        Err(StallError::Line { line }) => Err(Ended::Refused(refused(
+            alloc,
+            Word::Stalls,
+            Reason::StallLine { line },
+        )?)),
+        Err(StallError::Memory) => Err(Ended::Memory),
+    }
+}
+
+/// The store of a plan for these channels.
+fn room_for(alloc: Global, channels: &Channels, plan: &Stalls) -> Result<Room, Ended>
+    requires { IsTable channels.now }
+    ensures room { IfOk result (λ room. room ≡ fresh (sizes_of channels.now) plan.now.capacity) }
+    ensures holds { IfOk result (λ room. need (sizes_of channels.now) ≤ plan.now.capacity) }
+    ensures refused { IfErr result (EndsWith (IsTooSmall channels.now plan.now)) }
+{
+    match Room::new(alloc, channels, plan.capacity()) {
+        Ok(room) => Ok(room),
+        Err(RoomError::TooSmall { need, given }) => Err(Ended::Refused(refused(
+            alloc,
+            Word::Stalls,
+            Reason::TooSmall {
+                need: u64::from(need),
+                given,
+            },
+        )?)),
+        Err(RoomError::Memory) => Err(Ended::Memory),
+    }
+}
+
+/// Records the run into the file `trace`, and says how it ended.
+fn recorded<S: Shelf>(
+    alloc: Global,
+    planned: Planned,
+    trace: &str,
+    shelf: &mut S,
+) -> Result<Answer, Ended>
+    requires playable { IsPlayable planned.bench }
+    requires room { planned.room ≡ fresh (sizes_of planned.bench.device.map.channels) planned.plan.capacity }
+    ensures done { IfOk result (λ a. RecordsRun (course_of planned.bench planned.plan) trace.now (S.files shelf.old) a.status
+        (text_of a.text) (S.files shelf.new)) }
+    ensures stopped { IfErr result (IsStopped (IsCutShort (course_of planned.bench planned.plan) (S.files shelf.old) trace.now
+        (S.starts shelf.new ≡ S.starts shelf.old)) (Rose (S.write_faults shelf.old) (S.write_faults shelf.new)) (S.files shelf.old) (S.files shelf.new)) }
+    ensures counts { Later (S.read_faults shelf.old) (S.read_faults shelf.new) (S.write_faults shelf.old) (S.write_faults shelf.new) }
+{
+    let line = Pad::new(alloc, LINE_BYTES)?;
+    recorded_with(alloc, planned, line, trace, shelf)
+}
+
+/// The same, with memory for the line that is said.
+fn recorded_with<S: Shelf>(
+    alloc: Global,
+    planned: Planned,
+    line: Pad,
+    trace: &str,
+    shelf: &mut S,
+) -> Result<Answer, Ended>
+    requires playable { IsPlayable planned.bench }
+    requires room { planned.room ≡ fresh (sizes_of planned.bench.device.map.channels) planned.plan.capacity }
+    requires empty { shown line ≡ [] }
+    requires line { left line ≡ LINE_BYTES }
+    ensures done { IfOk result (λ a. RecordsRun (course_of planned.bench planned.plan) trace.now (S.files shelf.old) a.status
+        (text_of a.text) (S.files shelf.new)) }
+    ensures stopped { IfErr result (IsStopped (IsCutShort (course_of planned.bench planned.plan) (S.files shelf.old) trace.now
+        (S.starts shelf.new ≡ S.starts shelf.old)) (Rose (S.write_faults shelf.old) (S.write_faults shelf.new)) (S.files shelf.old) (S.files shelf.new)) }
+    ensures counts { Later (S.read_faults shelf.old) (S.read_faults shelf.new) (S.write_faults shelf.old) (S.write_faults shelf.new) }
+{
+    let Planned { bench, plan, room } = planned;
+    let Bench { device, script } = bench;
+    let Device { design, order, map } = device;
+    match record_sim(
+        alloc, design, order, &map, &script, &plan, room, trace, shelf,
+    ) {
+        Ok(outcome) => Ok(told(outcome, script.cycles(), &map.channels, line)),
+        Err(RecordError::WriteFault) => Err(Ended::WriteFault),
+        Err(RecordError::Memory) => Err(Ended::Memory),
+    }
+}
+
+/// Records the run of a design in the environment of a script.
+pub fn record_sim<S: Shelf>(
+    alloc: Global,
+    design: Design,
+    order: Order,
+    map: &Map,
+    script: &Script,
+    plan: &Stalls,
+    room: Room,
+    trace: &str,
+    shelf: &mut S,
+) -> Result<Outcome, RecordError>
+    requires lawful { IsLawful design }
+    requires order { IsOrder design order.drivers }
+    requires mapped { IsMapOf design map.now }
+    requires fits { FitsChannels map.now.channels script.now }
+    requires room { room ≡ fresh (sizes_of map.now.channels) plan.now.capacity }
+    ensures ended { IfOk result (FileEnds (course design map.now (script_offer script.now) plan.now script.now.cycles)
+        (S.files shelf.old) trace.now (S.files shelf.new)) }
+    ensures failed { IfErr result (FileFails (course design map.now (script_offer script.now) plan.now script.now.cycles)
+        (S.files shelf.old) trace.now (S.starts shelf.new ≡ S.starts shelf.old) (S.files shelf.new)) }
+    ensures cause { IfErr result (FailsFor (S.write_faults shelf.old) (S.write_faults shelf.new)) }
+    ensures counts { Later (S.read_faults shelf.old) (S.read_faults shelf.new) (S.write_faults shelf.old) (S.write_faults shelf.new) }
+{
+    let sim = Sim::new(alloc, design, order)?;
+    record_block(alloc, sim, map, script, plan, room, trace, shelf)
+}
+
+/// Records the run of a block in the environment of a script.
+#[tactic(auto, using(crate::proofs::PortNets::port_nets))]
+fn record_block<B: Block + Drop, S: Shelf>(
+    alloc: Global,
+    block: B,
+    map: &Map,
+    script: &Script,
+    plan: &Stalls,
+    room: Room,
+    trace: &str,
+    shelf: &mut S,
+) -> Result<Outcome, RecordError>
+    requires lawful { IsLawful (B.design block) }
+    requires mapped { IsMapOf (B.design block) map.now }
+    requires fits { FitsChannels map.now.channels script.now }
+    requires room { room ≡ fresh (sizes_of map.now.channels) plan.now.capacity }
+    ensures ended { IfOk result (FileEnds (course (B.design block) map.now (script_offer script.now) plan.now script.now.cycles)
+        (S.files shelf.old) trace.now (S.files shelf.new)) }
+    ensures failed { IfErr result (FileFails (course (B.design block) map.now (script_offer script.now) plan.now script.now.cycles)
+        (S.files shelf.old) trace.now (S.starts shelf.new ≡ S.starts shelf.old) (S.files shelf.new)) }
+    ensures cause { IfErr result (FailsFor (S.write_faults shelf.old) (S.write_faults shelf.new)) }
+    ensures counts { Later (S.read_faults shelf.old) (S.read_faults shelf.new) (S.write_faults shelf.old) (S.write_faults shelf.new) }
+{
+    let mut shell = Machines::new(alloc, block, map)?;
+    let mut env = ScriptEnv::new(alloc, script, map)?;
+    record_file(
+        alloc,
+        &mut shell,
+        map,
+        &mut env,
+        plan,
+        room,
+        script.cycles(),
+        trace,
+        shelf,
+    )
+}
+
+/// Records the run of a shell into the file `trace`.
+fn record_file<S: Shell, E: Env, F: Shelf>(
+    alloc: Global,
+    shell: &mut S,
+    map: &Map,
+    env: &mut E,
+    plan: &Stalls,
+    room: Room,
+    cycles: u32,
+    trace: &str,
+    shelf: &mut F,
+) -> Result<Outcome, RecordError>
+    requires table { IsTable map.now.channels }
+    requires mapped { S.map shell.old ≡ map.now }
+    requires channels { E.channels env.old ≡ map.now.channels }
+    requires first { E.stands_for env.old [] }
+    requires room { room ≡ fresh (sizes_of map.now.channels) plan.now.capacity }
+    requires some { 1 ≤ cycles }
+    requires few { cycles ≤ MOST_CYCLES }
+    ensures ended { IfOk result (λ outcome. (d : Design) (s : Values) (before : Option OneRow) → S.runs shell.old d s before
+        → FileEnds (course d map.now (E.offer (E.plan env.old)) plan.now cycles) (F.files shelf.old) trace.now (F.files shelf.new) outcome) }
+    ensures failed { IfErr result (λ e. (d : Design) (s : Values) (before : Option OneRow) → S.runs shell.old d s before → IsLawful d
+        → FileFails (course d map.now (E.offer (E.plan env.old)) plan.now cycles) (F.files shelf.old) trace.now
+        (F.starts shelf.new ≡ F.starts shelf.old) (F.files shelf.new) e) }
+    ensures cause { IfErr result (FailsFor (F.write_faults shelf.old) (F.write_faults shelf.new)) }
+    ensures counts { Later (F.read_faults shelf.old) (F.read_faults shelf.new) (F.write_faults shelf.old) (F.write_faults shelf.new) }
+{
+    let mut sink = ShelfSink::new(shelf, trace);
+    record_run(alloc, shell, map, env, plan, room, cycles, &mut sink)
+}
+
+/// The answer of an outcome, with its line in memory that was taken before.
+fn told(outcome: Outcome, cycles: u32, channels: &Channels, line: Pad) -> Answer
+    requires table { IsTable channels.now }
+    requires empty { shown line ≡ [] }
+    requires room { left line ≡ LINE_BYTES }
+    ensures { IsOutcome channels.now cycles outcome result.status (text_of result.text) }
+{
+    match outcome {
+        Outcome::Whole { packets } => with_line(Status::Done, recorded_line(line, cycles, packets)),
+        Outcome::Unstable {
+            channel,
+            cycle,
+            packets: _,
+        } => with_line(
+            Status::Unstable { channel, cycle },
+            unstable_line(line, channels, channel, cycle),
+        ),
+    }
+}

@@ -1,0 +1,3 @@
+pub mod QuietSamples
+pub mod SampleTexts
+pub mod Sampled

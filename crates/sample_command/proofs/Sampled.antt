@@ -1,0 +1,75 @@
+-- From a recording in memory, and a replay of its trace, to the answer of `sample`.
+use Rattle.std.proofs.Common.{◌≡◌, ◌≤◌, ℕ, List, Option, None, Some, Result, Ok, Err, cond, inr, refl, sym, ap, subst, ◌∙◌}
+use Rattle.std.specs.Prelude.{IfOk, IsSome, IsSomeAnd, codes}
+use Rattle.std.specs.Cmp.Lexicographic.{nat_list_cmp_total}
+use Rattle.std.specs.FinMap.{get, insert, get-insert}
+use Rattle.std.proofs.lemmas.Map.Text.{is_eq-slice_cmp}
+use Rattle.vidi_bits.proofs.Lists.{bytes_eq-self, some_same}
+use Rattle.trace_model.specs.Recording.{trace_of}
+use Rattle.trace_code.specs.Encoding.{encode}
+use Rattle.room_ledger.specs.Reservation.{need}
+use Rattle.script_text.specs.declared.stalls.Stalls.{Stalls}
+use Rattle.script_text.specs.Reasons.{read_lines}
+use Rattle.script_text.specs.Stalls.{ReadsStalls}
+use Rattle.vidi_io.specs.declared.mem_shelf.MemShelf.{MemShelf}
+use Rattle.vidi_io.specs.Entries.{files_of}
+use Rattle.vidi_io.specs.MemShelf.{entries}
+use Rattle.vidi_io.specs.Shelf.{Files, holding}
+use Rattle.vidi_recorder.specs.declared.error.Outcome.TheVariants as outcomes
+use Rattle.vidi_recorder.specs.Course.{Course, sizes_of}
+use Rattle.vidi_bench.specs.declared.answer.Ended.{Ended}
+use Rattle.vidi_bench.specs.declared.bench.Bench.{Bench}
+use Rattle.vidi_bench.specs.Benches.{IsBench}
+use Rattle.run_commands.specs.Recorded.{FileEnds}
+use Rattle.run_commands.specs.Records.{course_of}
+use Rattle.sample_command.specs.Sampled.{trace_on, HasTrace, IsTraceOf, IsUnstable}
+use Rattle.sample_command.specs.Samples.{IsTraced, IsUntraced}
+use Rattle.vidi_bench.proofs.Chain.{Implies}
+
+-- ---- the file on the shelf
+get-held : (m : Files) (name bytes : List ℕ) → get (insert m name bytes) name ≡ Some bytes
+get-held m name bytes = get-insert nat_list_cmp_total m name bytes name
+    ∙ ap (λ t. cond t (Some bytes) (get m name)) (is_eq-slice_cmp name name ∙ bytes_eq-self name)
+
+has-held : (P : List ℕ → Type 0) (shelf : MemShelf) (m : Files) (bytes : List ℕ)
+    → Some (files_of (entries shelf)) ≡ holding (Some m) (codes "trace") bytes → P bytes → HasTrace P shelf
+has-held P shelf m bytes same p =
+    let are : files_of (entries shelf) ≡ insert m (codes "trace") bytes =
+    some_same (files_of (entries shelf)) (insert m (codes "trace") bytes) same in
+    let there : trace_on shelf ≡ Some bytes =
+    ap (λ (fs : Files). get fs (codes "trace")) are ∙ get-held m (codes "trace") bytes in
+    subst (λ (o : Option (List ℕ)). IsSomeAnd o P) (sym there) p
+
+some-as : {A : Type 0} (P Q : A → Type 0) (o : Option A) → ((x : A) → P x → Q x) → IsSomeAnd o P → IsSomeAnd o Q
+some-as P Q (Some x) on is = on x is
+some-as P Q None on is = absurd is
+
+pub some-there : {A : Type 0} (P : A → Type 0) (o : Option A) → IsSomeAnd o P → IsSome o
+some-there P (Some x) is = refl
+some-there P None is = absurd is
+
+pub some-at : {A : Type 0} (P : A → Type 0) (o : Option A) (x : A) → o ≡ Some x → IsSomeAnd o P → P x
+some-at P o x same is = subst (λ (k : Option _). IsSomeAnd k P) same is
+
+-- ---- the recording
+pub whole-traced : (w : Course) (m : Files) (shelf : MemShelf) (packets : ℕ)
+    → FileEnds w (Some m) (codes "trace") (Some (files_of (entries shelf))) (outcomes.Whole packets) → HasTrace (IsTraceOf w) shelf
+whole-traced w m shelf packets (rows, leaves, is) =
+    has-held (IsTraceOf w) shelf m (encode (trace_of w.bound.channels rows)) leaves.1 (rows, leaves.0, refl)
+
+-- ---- of four texts
+module _ (design map script stalls : List ℕ) (b : Bench) (plan : Stalls) (bench : IsBench design map script b)
+    (planned : ReadsStalls (read_lines stalls) (Ok plan)) (holds : need (sizes_of b.device.map.channels) ≤ plan.capacity) where
+  traced-texts : (bytes : List ℕ) → IsTraceOf (course_of b plan) bytes → IsTraced design map script stalls bytes
+  traced-texts bytes (rows, run, same) =
+      (b, plan, rows, record { bench = bench; planned = planned; holds = holds; run = run }, same)
+
+  pub unstable-texts : Implies (IsUnstable (course_of b plan)) (IsUntraced design map script stalls)
+  unstable-texts a x (rows, channel, run, said) =
+      inr (b, plan, rows, channel, record { bench = bench; planned = planned; holds = holds; run = run }, said)
+
+  pub traced-all : (r : Result MemShelf Ended) → IfOk r (HasTrace (IsTraceOf (course_of b plan)))
+      → IfOk r (HasTrace (IsTraced design map script stalls))
+  traced-all (Ok shelf) is =
+      some-as (IsTraceOf (course_of b plan)) (IsTraced design map script stalls) (trace_on shelf) traced-texts is
+  traced-all (Err e) is = tt
