@@ -1,10 +1,8 @@
 //! Lists, and each whole-number call, with ample memory.
 
 use std::alloc::Global;
-use std::test::Fail;
 use vidi_bits::{
-    Bytes, Items, Memory, Name, Numbers, add_w, copied, join, mul_w, put, shl_w, shr_w, slice,
-    sub_w, trim,
+    Bytes, Items, Name, Numbers, add_w, copied, join, mul_w, put, shl_w, shr_w, slice, sub_w, trim,
 };
 
 #[derive(Drop)]
@@ -13,44 +11,78 @@ enum Tree {
     Node(Items<Tree>),
 }
 
-// Each call once with ample memory, at a list that grows by a lent allocator.
-#[test]
-fn calls_answer_with_ample_memory(rt: HostRuntime) -> Result<(), Fail> {
-    let alloc = rt.alloc();
-    let mut list: Items<u128, &Global> = Items::new(&alloc);
-    assert!(rt; list.is_empty());
-    for x in [5u128, 6, 7, 8] {
-        assert_eq!(rt; list.push(x), Ok::<(), Memory>(()));
+/// Whether each call on an empty list answers and leaves what it should. It ends with two sixes.
+fn are_calls_right(list: &mut Items<u128, &Global>) -> bool {
+    let pushed = list.is_empty()
+        && list.push(5).is_ok()
+        && list.push(6).is_ok()
+        && list.push(7).is_ok()
+        && list.push(8).is_ok()
+        && list.pop() == Some(8);
+    if list.len() != 3 {
+        return false;
     }
-    assert_eq!(rt; list.pop(), Some(8));
-    assert_eq!(rt; list.len(), 3);
     list.truncate(2);
-    assert_eq!(rt; list.len(), 2);
+    if list.len() != 2 {
+        return false;
+    }
     list.set(1, 9);
-    assert_eq!(rt; list.get(1), Some(&9));
-    assert_eq!(rt; list.get(2), None);
-    assert_eq!(rt; list.as_slice(), [5u128, 9].as_slice());
+    let set = list.get(1) == Some(&9)
+        && list.get(2) == None
+        && list.as_slice() == [5u128, 9].as_slice();
     for x in list.as_mut_slice().iter_mut() {
         *x = 6;
     }
-    assert_eq!(rt; list.as_slice(), [6u128, 6].as_slice());
-    assert_eq!(rt; list.into_vec().as_slice(), [6u128, 6].as_slice());
-    assert_eq!(rt; copied(alloc, b"pass")?.as_slice(), b"pass".as_slice());
-    Ok(())
+    pushed && set && list.as_slice() == [6u128, 6].as_slice()
 }
 
-// Lists of lists, and a recursive type that holds its own list.
+/// Whether each call is right at a list that grows by a lent allocator.
+fn is_list_right(alloc: &Global) -> bool {
+    let mut list = Items::new(alloc);
+    let right = are_calls_right(&mut list);
+    let all = list.into_vec();
+    right && all.as_slice() == [6u128, 6].as_slice()
+}
+
+fn is_copied(alloc: Global, bytes: &[u8]) -> bool {
+    match copied(alloc, bytes) {
+        Ok(copy) => copy.as_slice() == bytes,
+        Err(_) => false,
+    }
+}
+
+// Each call once with ample memory.
 #[test]
-fn lists_nest(rt: HostRuntime) -> Result<(), Fail> {
-    let alloc = rt.alloc();
+fn calls_answer_with_ample_memory(rt: HostRuntime) {
+    assert!(rt; is_list_right(&rt.alloc()) && is_copied(rt.alloc(), b"pass"));
+}
+
+/// Whether a list holds one name.
+fn is_name_held(alloc: Global) -> bool {
+    let Ok(letters) = vec![in alloc; 97u8, 98] else {
+        return false;
+    };
     let mut names: Items<Name> = Items::new(alloc);
-    names.push(Bytes::from_vec(vec![in alloc; 97u8, 98]?))?;
-    assert_eq!(rt; names.len(), 1);
+    names.push(Bytes::from_vec(letters)).is_ok() && names.len() == 1
+}
+
+/// Whether a tree holds a list of one tree.
+fn is_tree_held(alloc: Global) -> bool {
     let mut trees = Items::new(alloc);
-    trees.push(Tree::Leaf(3))?;
-    assert!(rt; matches!(Tree::Node(trees), Tree::Node(inner) if inner.len() == 1));
-    assert_eq!(rt; Numbers::new(alloc).len(), 0);
-    Ok(())
+    let pushed = trees.push(Tree::Leaf(3)).is_ok();
+    let held = matches!(Tree::Node(trees), Tree::Node(inner) if inner.len() == 1);
+    pushed && held
+}
+
+fn is_no_number_held(alloc: Global) -> bool {
+    Numbers::new(alloc).len() == 0
+}
+
+// Lists of lists, a recursive type that holds its own list, and a list of numbers.
+#[test]
+fn lists_nest(rt: HostRuntime) {
+    let alloc = rt.alloc();
+    assert!(rt; is_name_held(alloc) && is_tree_held(alloc) && is_no_number_held(alloc));
 }
 
 // Each whole-number call at 1, 64, 127 and 128 bits, and past the last bit, by hand.
