@@ -81,11 +81,8 @@ fn worked_traces_are_coded(rt: HostRuntime) -> Result<(), Fail> {
 #[test]
 fn parts_of_a_trace_are_coded(rt: HostRuntime) -> Result<(), Fail> {
     let alloc = rt.alloc();
-    let Trace {
-        channels,
-        packets: _,
-    } = decode(alloc, &joined(alloc, &REGS, &NO_SEND)?)?;
-    let header = header_bytes(alloc, &channels)?;
+    let trace = decode(alloc, &joined(alloc, &REGS, &NO_SEND)?)?;
+    let header = header_bytes(alloc, &trace.channels)?;
     assert_eq!(rt; header.as_slice(), REGS.as_slice());
     assert_eq!(rt; end_mark(0x0102_0304), [0, 1, 2, 3, 4]);
     Ok(())
@@ -96,10 +93,7 @@ fn parts_of_a_trace_are_coded(rt: HostRuntime) -> Result<(), Fail> {
 #[test]
 fn rows_are_written_in_place(rt: HostRuntime) -> Result<(), Fail> {
     let alloc = rt.alloc();
-    let Trace {
-        channels,
-        packets: _,
-    } = decode(alloc, &joined(alloc, &PASS, &NO_SEND)?)?;
+    let trace = decode(alloc, &joined(alloc, &PASS, &NO_SEND)?)?;
     let cases: [(Events, &[u8]); 5] = [
         ((1, 1, &[5, 0]), &[1, 1, 1, 5]),
         ((3, 2, &[6, 5]), &[1, 3, 2, 6, 5]),
@@ -116,9 +110,9 @@ fn rows_are_written_in_place(rt: HostRuntime) -> Result<(), Fail> {
             starts: events.0,
             ends: events.1,
         };
-        assert!(rt; is_over(&row, &channels));
+        assert!(rt; is_over(&row, &trace.channels));
         let mut buf = [0xaau8; 1040];
-        let len = write_packet(&row, &channels, &mut buf);
+        let len = write_packet(&row, &trace.channels, &mut buf);
         let front = buf[..5].starts_with(packet);
         assert!(rt; front && len == packet.len() && buf[packet.len()..].iter().all(|b| *b == 0xaa));
     }
