@@ -3,7 +3,7 @@
 use std::alloc::Global;
 use std::test::Fail;
 use trace_code::{decode, encode, end_mark, header_bytes, write_packet};
-use trace_model::{Row, Trace, is_over};
+use trace_model::{Row, is_over};
 use vidi_bits::Numbers;
 
 // VIDITRC1, two channels: a inward and b outward, each with one port of 8 bits.
