@@ -1,10 +1,11 @@
 """Prints the processor seconds that `rt ci` takes for each crate: its proof, its tests, its edits.
 
-Usage: python3 tools/gate_seconds.py COMMAND WORD ..      for example: python3 tools/gate_seconds.py rt ci --anew
+Usage: python3 tools/gate_seconds.py FILE COMMAND WORD ..      for example: python3 tools/gate_seconds.py /tmp/seconds rt ci --anew
 
 It runs the command, reads /proc twice a second and keeps, for each process of the checker whose parent is none, the last time
 that was seen of it and of its children that ended. So the last half second of a process may be missing. Only processes below the
-command count. At the end it prints a table in Markdown; the lines of a crate are those of src/, specs/ and proofs/.
+command count. Each minute, and at the end, it writes the table to FILE in Markdown, so that a run that is ended early has said
+what it saw; the lines of a crate are those of src/, specs/ and proofs/.
 """
 
 import os
@@ -55,10 +56,33 @@ def lines_of(crate):
     return sum(len(f.read_text().splitlines()) for f in files)
 
 
+def table_of(seconds):
+    """The table's lines, the dearest crate first."""
+    table = {}
+    for (_, (crate, why)), spent in seconds.items():
+        row = table.setdefault(crate, {"proof": 0.0, "tests": 0.0, "edits": 0.0})
+        row[why] += spent
+    yield "| Crate | lines | proof | tests | edits | all | minutes a 1,000 lines |"
+    yield "|---|---|---|---|---|---|---|"
+    lines_all, all_all = 0, 0.0
+    for crate, row in sorted(table.items(), key=lambda x: -sum(x[1].values())):
+        lines, spent = lines_of(crate), sum(row.values())
+        lines_all, all_all = lines_all + lines, all_all + spent
+        rate = spent / 60 / max(lines, 1) * 1000
+        yield f"| {crate} | {lines} | {row['proof']:.0f} | {row['tests']:.0f} | {row['edits']:.0f} | {spent:.0f} | {rate:.1f} |"
+    yield f"| all | {lines_all} | | | | {all_all:.0f} | {all_all / 60 / max(lines_all, 1) * 1000:.1f} |"
+
+
+def write_table(file, seconds, begin):
+    by_clock = f"{time.time() - begin:.0f} seconds by the clock"
+    file.write_text("\n".join([*table_of(seconds), by_clock]) + "\n")
+
+
 def main():
-    command = subprocess.Popen(sys.argv[1:])
+    file = pathlib.Path(sys.argv[1])
+    command = subprocess.Popen(sys.argv[2:])
     seconds = {}
-    begin = time.time()
+    begin = written = time.time()
     while command.poll() is None:
         found = processes()
         for pid, (parent, named, spent) in found.items():
@@ -66,21 +90,11 @@ def main():
                 continue
             if is_below(found, pid, command.pid):
                 seconds[pid, named] = spent
+        if time.time() - written > 60:
+            written = time.time()
+            write_table(file, seconds, begin)
         time.sleep(0.5)
-    table = {}
-    for (_, (crate, why)), spent in seconds.items():
-        row = table.setdefault(crate, {"proof": 0.0, "tests": 0.0, "edits": 0.0})
-        row[why] += spent
-    print("| Crate | lines | proof | tests | edits | all | minutes a 1,000 lines |")
-    print("|---|---|---|---|---|---|---|")
-    lines_all, all_all = 0, 0.0
-    for crate, row in sorted(table.items(), key=lambda x: -sum(x[1].values())):
-        lines, spent = lines_of(crate), sum(row.values())
-        lines_all, all_all = lines_all + lines, all_all + spent
-        rate = spent / 60 / max(lines, 1) * 1000
-        print(f"| {crate} | {lines} | {row['proof']:.0f} | {row['tests']:.0f} | {row['edits']:.0f} | {spent:.0f} | {rate:.1f} |")
-    print(f"| all | {lines_all} | | | | {all_all:.0f} | {all_all / 60 / max(lines_all, 1) * 1000:.1f} |")
-    print(f"{time.time() - begin:.0f} seconds by the clock")
+    write_table(file, seconds, begin)
     sys.exit(command.returncode)
 
 

@@ -20,10 +20,10 @@ use Rattle.vlog_parse.specs.FileReader.{regs_at, assigns_at, event_at, always_at
 use Rattle.vlog_parse.specs.FileReader.{file_at}
 use Rattle.vlog_parse.specs.FileLaws.{ReadFilesAreSpelled}
 use Rattle.vlog_expr.proofs.Found.{From, again}
-use Rattle.vlog_parse.proofs.Sure.{Sure, nothing, sure, next, either, ◌▹◌, some_none, start, after_found, after_at_found}
-use Rattle.vlog_parse.proofs.Sure.{expr_found, target_found}
-use Rattle.vlog_parse.proofs.ListFound.{AreLed, led_good, all_snoc, some_snoc, row_snoc, alone, At, more_found, some_found}
-use Rattle.vlog_parse.proofs.StmtFound.{body_found}
+use Rattle.vlog_stmt.proofs.Sure.{Sure, nothing, sure, next, either, ◌▹◌, some_none, start, after_found, after_at_found}
+use Rattle.vlog_stmt.proofs.Sure.{expr_found, target_found}
+use Rattle.vlog_stmt.proofs.ListFound.{AreLed, led_good, all_snoc, some_snoc, row_snoc, alone, At, more_found, some_found}
+use Rattle.vlog_stmt.proofs.StmtFound.{body_found}
 use Rattle.vlog_tree.specs.Tree.{ParameterHeadOf, ParameterOf, ConnOf, ExprOf, EventOf}
 use Rattle.vlog_tree.specs.Spelling.{tail_words, parameter_head_words, parameter_words, hash_words, expr_words, conn_words}
 use Rattle.vlog_tree.specs.Shape.{IsGoodTail, IsGoodParameterHead, IsGoodParameter, IsFirstHeaded, IsGoodConn}

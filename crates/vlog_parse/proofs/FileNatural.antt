@@ -19,9 +19,9 @@ use Rattle.vlog_parse.specs.FileReader.{module_at, modules_at}
 use Rattle.vlog_expr.specs.Laws.{seen}
 use Rattle.vlog_parse.specs.FileLaws.{FileLinesDontCount}
 use Rattle.vlog_expr.proofs.Natural.{U}
-use Rattle.vlog_parse.proofs.Steps.{Same, same, both_step, both_or, same_after, same_expr}
-use Rattle.vlog_parse.proofs.ListNatural.{map_snoc, longer, more_same, some_same}
-use Rattle.vlog_parse.proofs.StmtNatural.{same_target, same_body}
+use Rattle.vlog_stmt.proofs.Steps.{Same, same, both_step, both_or, same_after, same_expr}
+use Rattle.vlog_stmt.proofs.ListNatural.{map_snoc, longer, more_same, some_same}
+use Rattle.vlog_stmt.proofs.StmtNatural.{same_target, same_body}
 
 abbrev pub bare_header : {A : Type 0} → List ℕ × List (ParameterOf A) × List (PortOf A) → List ℕ × List (ParameterOf U) × List (PortOf U)
 bare_header h = (h.0, map bare_parameter h.1, map bare_port h.2)

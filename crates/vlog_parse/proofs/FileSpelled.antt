@@ -32,11 +32,11 @@ use Rattle.vlog_expr.specs.Reader.{some_at}
 use Rattle.vlog_parse.specs.Units.{ItemUnit, IsWhole}
 use Rattle.vlog_expr.proofs.Spelled.{spell_append, ends_bracket, ends_colon, ends_paren, expr_read}
 use Rattle.vlog_expr.proofs.TargetSpelled.{target_read}
-use Rattle.vlog_parse.proofs.Steps.{step, taken, skipped}
-use Rattle.vlog_parse.proofs.Starts.{expr_start, close_start}
-use Rattle.vlog_parse.proofs.ListSpelled.{semicolon, paren, Parts, parts_semicolon, parts_paren, parts_more, ReadsOne, more_read}
-use Rattle.vlog_parse.proofs.ListSpelled.{some_read}
-use Rattle.vlog_parse.proofs.StmtSpelled.{body_read}
+use Rattle.vlog_stmt.proofs.Steps.{step, taken, skipped}
+use Rattle.vlog_stmt.proofs.Starts.{expr_start, close_start}
+use Rattle.vlog_stmt.proofs.ListSpelled.{semicolon, paren, Parts, parts_semicolon, parts_paren, parts_more, ReadsOne, more_read}
+use Rattle.vlog_stmt.proofs.ListSpelled.{some_read}
+use Rattle.vlog_stmt.proofs.StmtSpelled.{body_read}
 
 module _ (A : Type 0) (blank : A) where
   -- ranges

@@ -4,17 +4,8 @@ pub mod FileFound
 pub mod FileNatural
 pub mod FileSpelled
 pub mod FileWhole
-pub mod ListFound
-pub mod ListNatural
-pub mod ListSpelled
 pub mod Longest
 pub mod Maps
-pub mod Starts
-pub mod Steps
-pub mod StmtFound
-pub mod StmtNatural
-pub mod StmtSpelled
-pub mod Sure
 pub mod Turns
 pub mod UnitSteps
 pub mod UnitWords

@@ -31,8 +31,8 @@ use Rattle.vlog_expr.proofs.Found.{From, again}
 use Rattle.vlog_expr.proofs.Maps.{marked_length}
 use Rattle.vlog_expr.proofs.Natural.{over_bind, over_found, after_natural}
 use Rattle.vlog_expr.proofs.Whole.{AreLawfulWords, lawful_append, spell_lawful, length_forget}
-use Rattle.vlog_parse.proofs.Sure.{Sure, nothing, sure, next, either, after_found}
-use Rattle.vlog_parse.proofs.Steps.{step, skipped}
+use Rattle.vlog_stmt.proofs.Sure.{Sure, nothing, sure, next, either, after_found}
+use Rattle.vlog_stmt.proofs.Steps.{step, skipped}
 use Rattle.vlog_parse.proofs.FileFound.{item_found, header_found}
 use Rattle.vlog_parse.proofs.FileSpelled.{header_read, item_read, no_endmodule, some_item}
 use Rattle.vlog_parse.proofs.FileNatural.{bare_header, item_same, header_same}

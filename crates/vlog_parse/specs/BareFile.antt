@@ -1,28 +1,8 @@
--- Statements, items and files without their lines.
-use Rattle.vlog_tree.specs.Tree.{StmtOf, BodyOf, ElseOf, StmtsOf, RangeOf, PortHeadOf, PortOf, NamedValueOf, RegTailOf, Reg1Of, AssignOf}
-use Rattle.vlog_tree.specs.Tree.{EventOf, ItemOf, ModuleOf}
-use Rattle.vlog_tree.specs.Lines.{no_mark, map_stmt, map_body, map_else, map_stmts, map_range, map_head, map_port, map_named, map_tail}
-use Rattle.vlog_tree.specs.Lines.{map_reg, map_assign, map_event, map_item, map_module}
-use Rattle.vlog_tree.specs.Tree.{ArmOf, ArmsOf, ParameterHeadOf, ParameterOf, ConnOf}
-use Rattle.vlog_tree.specs.Lines.{map_arm, map_arms, map_parameter_head, map_parameter, map_conn}
-
-abbrev pub bare_stmt : {A : Type 0} → StmtOf A → StmtOf (Unit {0})
-bare_stmt x = map_stmt no_mark x
-
-abbrev pub bare_body : {A : Type 0} → BodyOf A → BodyOf (Unit {0})
-bare_body x = map_body no_mark x
-
-abbrev pub bare_else : {A : Type 0} → ElseOf A → ElseOf (Unit {0})
-bare_else x = map_else no_mark x
-
-abbrev pub bare_stmts : {A : Type 0} → StmtsOf A → StmtsOf (Unit {0})
-bare_stmts x = map_stmts no_mark x
-
-abbrev pub bare_arm : {A : Type 0} → ArmOf A → ArmOf (Unit {0})
-bare_arm x = map_arm no_mark x
-
-abbrev pub bare_arms : {A : Type 0} → ArmsOf A → ArmsOf (Unit {0})
-bare_arms x = map_arms no_mark x
+-- Items and files without their lines.
+use Rattle.vlog_tree.specs.Tree.{RangeOf, PortHeadOf, PortOf, NamedValueOf, RegTailOf, Reg1Of, AssignOf, EventOf, ItemOf, ModuleOf}
+use Rattle.vlog_tree.specs.Tree.{ParameterHeadOf, ParameterOf, ConnOf}
+use Rattle.vlog_tree.specs.Lines.{no_mark, map_range, map_head, map_port, map_named, map_tail, map_reg, map_assign, map_event, map_item}
+use Rattle.vlog_tree.specs.Lines.{map_module, map_parameter_head, map_parameter, map_conn}
 
 abbrev pub bare_range : {A : Type 0} → RangeOf A → RangeOf (Unit {0})
 bare_range x = map_range no_mark x

@@ -10,7 +10,7 @@ use Rattle.vlog_tree.specs.Tree.{ParameterHeadOf, ParameterOf, MemoryTail, RegTa
 use Rattle.vlog_tree.specs.Tree.{InstanceItem}
 use Rattle.vlog_expr.specs.Marks.{Toks, after, name_front}
 use Rattle.vlog_expr.specs.Reader.{◌>>=◌, found_or, Read, expr_at, target_at, fuel_for, more_at, some_at}
-use Rattle.vlog_parse.specs.StmtReader.{body_at}
+use Rattle.vlog_stmt.specs.StmtReader.{body_at}
 
 -- expr ":" expr "]"
 abbrev pub range_at : {A : Type 0} → ℕ → Toks A → Read A (RangeOf A)

@@ -3,7 +3,6 @@ pub mod Depth
 pub mod FileLaws
 pub mod FileReader
 pub mod Parsing
-pub mod StmtReader
 pub mod UnitReader
 pub mod Units
 pub use Rattle.vlog_expr.specs.Marks

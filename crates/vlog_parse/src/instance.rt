@@ -7,10 +7,10 @@ ghost use Rattle.vlog_expr.specs.Marks.{all_marked};
 ghost use Rattle.vlog_expr.specs.Given.{Gives};
 ghost use Rattle.vlog_parse.specs.FileReader.{value_at, conn_at, parameter_conns_front, conns_at, instance_at, named_item_at};
 
-use crate::listed::{Listed, some_of};
 use std::alloc::Global;
 use vlog_expr::{Parsed, after, expect, expr_of, name_of};
 use vlog_lex::Token;
+use vlog_stmt::{ListReader, some_of};
 use vlog_tree::{Conn, Conns, Expr, Ident, Instance, Item, Terminal};
 
 /// The expression that may stand before `)`, and `)`.
@@ -26,7 +26,10 @@ fn value_of(alloc: Global, tokens: &[Token], fuel: usize) -> Parsed<'_, Option<E
     Ok((Some(Box::into_inner(value)), rest))
 }
 
-impl Listed for Conn {
+/// The reader of a connection.
+struct ConnReader;
+
+impl ListReader<Conn> for ConnReader {
     ghost Plain = { ConnOf ℕ };
 
     ghost plain = { plain_conn };
@@ -50,7 +53,7 @@ fn parameter_conns_front(alloc: Global, tokens: &[Token], fuel: usize) -> Parsed
         return Ok((Conns::new(alloc), tokens));
     };
     let (_, rest) = expect(Terminal::ParenOpen, rest)?;
-    let (conns, rest) = some_of(alloc, rest, fuel)?;
+    let (conns, rest) = some_of::<ConnReader, _>(alloc, rest, fuel)?;
     let (_, rest) = expect(Terminal::ParenClose, rest)?;
     Ok((conns, rest))
 }
@@ -62,7 +65,7 @@ fn conns_of(alloc: Global, tokens: &[Token], fuel: usize) -> Parsed<'_, Conns>
     if let Some((_, rest)) = after(Terminal::ParenClose, tokens) {
         return Ok((Conns::new(alloc), rest));
     }
-    let (conns, rest) = some_of(alloc, tokens, fuel)?;
+    let (conns, rest) = some_of::<ConnReader, _>(alloc, tokens, fuel)?;
     let (_, rest) = expect(Terminal::ParenClose, rest)?;
     Ok((conns, rest))
 }

@@ -14,11 +14,10 @@ ghost use Rattle.vlog_tree.specs.Plain.{plain_tail};
 ghost use Rattle.vlog_expr.specs.Given.{Gives};
 
 use crate::instance::named_item_of;
-use crate::listed::{Listed, more_of, some_of};
-use crate::stmt::body_of;
 use std::alloc::Global;
 use vlog_expr::{Parsed, after, expect, expr_of, name_of, target_of};
 use vlog_lex::Token;
+use vlog_stmt::{ListReader, body_of, more_of, some_of};
 use vlog_tree::{
     Always, Assign, Event, Expr, Ident, Idents, Item, MOST_NESTED, NamedValue, NamedValues, Range,
     Reg1, RegTail, Terminal,
@@ -68,7 +67,10 @@ pub fn init_front(alloc: Global, tokens: &[Token], fuel: usize) -> Parsed<'_, Op
     Ok((Some(value), rest))
 }
 
-impl Listed for Ident {
+/// The reader of a name.
+struct NameReader;
+
+impl ListReader<Ident> for NameReader {
     ghost Plain = { IdentOf ℕ };
 
     ghost plain = { plain_ident };
@@ -80,7 +82,10 @@ impl Listed for Ident {
     }
 }
 
-impl Listed for NamedValue {
+/// The reader of a name with its value.
+struct NamedValueReader;
+
+impl ListReader<NamedValue> for NamedValueReader {
     ghost Plain = { NamedValueOf ℕ };
 
     ghost plain = { plain_named };
@@ -110,7 +115,10 @@ fn tail_front(alloc: Global, tokens: &[Token], fuel: usize) -> Parsed<'_, Option
     Ok((None, tokens))
 }
 
-impl Listed for Reg1 {
+/// The reader of a register.
+struct RegReader;
+
+impl ListReader<Reg1> for RegReader {
     ghost Plain = { Reg1Of ℕ };
 
     ghost plain = { plain_reg };
@@ -124,7 +132,10 @@ impl Listed for Reg1 {
     }
 }
 
-impl Listed for Assign {
+/// The reader of an assignment.
+struct AssignReader;
+
+impl ListReader<Assign> for AssignReader {
     ghost Plain = { AssignOf ℕ };
 
     ghost plain = { plain_assign };
@@ -152,7 +163,7 @@ fn names_of(
 {
     let mut front = Idents::new(alloc);
     front.push(id)?;
-    let (names, rest) = more_of(alloc, front, tokens, fuel)?;
+    let (names, rest) = more_of::<NameReader, _>(alloc, front, tokens, fuel)?;
     let (_, rest) = expect(Terminal::Semicolon, rest)?;
     let range = unboxed(range);
     Ok((Item::Wires { range, names }, rest))
@@ -172,7 +183,7 @@ fn driven_of(
     let (value, rest) = expr_of(alloc, tokens, fuel)?;
     let mut front = NamedValues::new(alloc);
     front.push(NamedValue { id, value })?;
-    let (wires, rest) = more_of(alloc, front, rest, fuel)?;
+    let (wires, rest) = more_of::<NamedValueReader, _>(alloc, front, rest, fuel)?;
     let (_, rest) = expect(Terminal::Semicolon, rest)?;
     let range = unboxed(range);
     Ok((Item::DrivenWires { range, wires }, rest))
@@ -195,7 +206,7 @@ fn regs_of(alloc: Global, tokens: &[Token], fuel: usize) -> Parsed<'_, Item>
     ensures { Gives (λ x. (plain_item x.0, all_marked x.1.now)) result (regs_at fuel (all_marked tokens.now)) }
 {
     let (range, rest) = range_front(alloc, tokens, fuel)?;
-    let (regs, rest) = some_of(alloc, rest, fuel)?;
+    let (regs, rest) = some_of::<RegReader, _>(alloc, rest, fuel)?;
     let (_, rest) = expect(Terminal::Semicolon, rest)?;
     let range = unboxed(range);
     Ok((Item::Regs { range, regs }, rest))
@@ -206,7 +217,7 @@ fn localparams_of(alloc: Global, tokens: &[Token], fuel: usize) -> Parsed<'_, It
     ensures { Gives (λ x. (plain_item x.0, all_marked x.1.now)) result (localparams_at fuel (all_marked tokens.now)) }
 {
     let (range, rest) = range_front(alloc, tokens, fuel)?;
-    let (parameters, rest) = some_of(alloc, rest, fuel)?;
+    let (parameters, rest) = some_of::<NamedValueReader, _>(alloc, rest, fuel)?;
     let (_, rest) = expect(Terminal::Semicolon, rest)?;
     let range = unboxed(range);
     Ok((Item::Localparams { range, parameters }, rest))
@@ -216,7 +227,7 @@ fn localparams_of(alloc: Global, tokens: &[Token], fuel: usize) -> Parsed<'_, It
 fn assigns_of(alloc: Global, tokens: &[Token], fuel: usize) -> Parsed<'_, Item>
     ensures { Gives (λ x. (plain_item x.0, all_marked x.1.now)) result (assigns_at fuel (all_marked tokens.now)) }
 {
-    let (assigns, rest) = some_of(alloc, tokens, fuel)?;
+    let (assigns, rest) = some_of::<AssignReader, _>(alloc, tokens, fuel)?;
     let (_, rest) = expect(Terminal::Semicolon, rest)?;
     Ok((Item::Assign { assigns }, rest))
 }

@@ -1,28 +1,24 @@
 //! Laws of the definitions.
 
 ghost use Rattle.std.specs.Prelude.{ℕ};
-ghost use Rattle.vlog_parse.specs.FileLaws.{BodiesAreRead, FilesAreRead, ReadBodiesAreSpelled, ReadFilesAreSpelled};
-ghost use Rattle.vlog_parse.specs.FileLaws.{BodyLinesDontCount, FileLinesDontCount};
+ghost use Rattle.vlog_parse.specs.FileLaws.{FilesAreRead, ReadFilesAreSpelled, FileLinesDontCount};
 ghost use Rattle.vlog_parse.specs.Parsing.{OneFile, OneLinedFile, LinedFilesAreFiles};
 ghost use Rattle.vlog_parse.specs.Depth.{OneDepth};
 ghost use Rattle.vlog_parse.specs.Units.{UnitsAreSpelled, OneItemLine};
 
 /// What is spelled is read.
 pub fn spelled_is_read()
-    ensures bodies { BodiesAreRead }
-    ensures files { FilesAreRead }
+    ensures { FilesAreRead }
 {}
 
 /// What is read is spelled.
 pub fn read_is_spelled()
-    ensures bodies { ReadBodiesAreSpelled ℕ }
-    ensures files { ReadFilesAreSpelled ℕ }
+    ensures { ReadFilesAreSpelled ℕ }
 {}
 
 /// Lines change nothing but lines.
 pub fn lines_dont_count()
-    ensures bodies { BodyLinesDontCount ℕ }
-    ensures files { FileLinesDontCount ℕ }
+    ensures { FileLinesDontCount ℕ }
 {}
 
 /// No two files of good shape have the same tokens.

@@ -1,9 +1,8 @@
-//! The reader of design texts (IEEE 1364-2005, this project's profile), on top of that of expressions.
+//! The reader of design texts (IEEE 1364-2005, this project's profile), on top of that of statements.
 //!
 //! The definitions stand in `specs/`: `Parsing` (what `parse` owes), `Depth` (the limits of nesting and
-//! length), and below them `StmtReader` and `FileReader` (the grammar's rules as readers on lists of
-//! tokens), `FileLaws` (what is spelled is read, and what is read is spelled) and `Units` (the whole units
-//! of a design text).
+//! length), and below them `FileReader` (the grammar's rules as readers on lists of tokens), `FileLaws` (what
+//! is spelled is read, and what is read is spelled) and `Units` (the whole units of a design text).
 #![tactic(auto)]
 
 mod depth;
@@ -11,11 +10,9 @@ mod error;
 mod instance;
 mod item;
 mod laws;
-mod listed;
 mod module;
 mod parameter;
 mod parser;
-mod stmt;
 mod units;
 
 pub use error::ParseError;

@@ -9,12 +9,12 @@ ghost use Rattle.vlog_parse.specs.FileReader.{header_at, module_at, modules_at, 
 ghost use Rattle.vlog_expr.specs.Given.{Gives};
 
 use crate::item::{init_front, item_of, range_front, unboxed};
-use crate::listed::{Listed, more_of};
 use crate::parameter::parameters_front;
 use std::alloc::Global;
 use vidi_bits::{Items, Name};
 use vlog_expr::{Parsed, Unread, after, expect, name_of};
 use vlog_lex::Token;
+use vlog_stmt::{ListReader, more_of};
 use vlog_tree::{
     Direction, File, Item, Module, Modules, NetKind, Parameters, Port, PortHead, Ports, Terminal,
 };
@@ -76,7 +76,10 @@ fn unboxed_head(head: Option<Box<PortHead>>) -> Option<PortHead>
     Some(Box::into_inner(head?))
 }
 
-impl Listed for Port {
+/// The reader of a port.
+struct PortReader;
+
+impl ListReader<Port> for PortReader {
     ghost Plain = { PortOf ℕ };
 
     ghost plain = { plain_port };
@@ -96,7 +99,7 @@ impl Listed for Port {
 fn first_port_of(alloc: Global, tokens: &[Token], fuel: usize) -> Parsed<'_, Port>
     ensures { Gives (λ x. (plain_port x.0, all_marked x.1.now)) result (first_port_at fuel (all_marked tokens.now)) }
 {
-    let (port, rest) = Port::read(alloc, tokens, fuel)?;
+    let (port, rest) = PortReader::read(alloc, tokens, fuel)?;
     match port.head {
         Some(_) => Ok((port, rest)),
         None => Err(Unread::Fault),
@@ -113,7 +116,7 @@ fn ports_of(alloc: Global, tokens: &[Token], fuel: usize) -> Parsed<'_, Ports>
     }
     let (port, rest) = first_port_of(alloc, tokens, fuel)?;
     front.push(port)?;
-    let (ports, rest) = more_of(alloc, front, rest, fuel)?;
+    let (ports, rest) = more_of::<PortReader, _>(alloc, front, rest, fuel)?;
     let (_, rest) = expect(Terminal::ParenClose, rest)?;
     Ok((ports, rest))
 }

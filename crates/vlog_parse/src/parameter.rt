@@ -8,10 +8,10 @@ ghost use Rattle.vlog_expr.specs.Given.{Gives};
 ghost use Rattle.vlog_parse.specs.FileReader.{parameter_head_front, parameter_at, first_parameter_at, parameters_front};
 
 use crate::item::{range_front, unboxed};
-use crate::listed::{Listed, more_of};
 use std::alloc::Global;
 use vlog_expr::{Parsed, Unread, after, expect, expr_of, name_of};
 use vlog_lex::Token;
+use vlog_stmt::{ListReader, more_of};
 use vlog_tree::{Parameter, ParameterHead, Parameters, Terminal};
 
 /// The word `parameter` and its range, where that word stands at the front.
@@ -38,7 +38,10 @@ fn unboxed_head(head: Option<Box<ParameterHead>>) -> Option<ParameterHead>
     Some(Box::into_inner(head?))
 }
 
-impl Listed for Parameter {
+/// The reader of a parameter.
+struct ParameterReader;
+
+impl ListReader<Parameter> for ParameterReader {
     ghost Plain = { ParameterOf ℕ };
 
     ghost plain = { plain_parameter };
@@ -59,7 +62,7 @@ impl Listed for Parameter {
 fn first_parameter_of(alloc: Global, tokens: &[Token], fuel: usize) -> Parsed<'_, Parameter>
     ensures { Gives (λ x. (plain_parameter x.0, all_marked x.1.now)) result (first_parameter_at fuel (all_marked tokens.now)) }
 {
-    let (parameter, rest) = Parameter::read(alloc, tokens, fuel)?;
+    let (parameter, rest) = ParameterReader::read(alloc, tokens, fuel)?;
     match parameter.head {
         Some(_) => Ok((parameter, rest)),
         None => Err(Unread::Fault),
@@ -77,7 +80,7 @@ pub fn parameters_front(alloc: Global, tokens: &[Token], fuel: usize) -> Parsed<
     let (_, rest) = expect(Terminal::ParenOpen, rest)?;
     let (parameter, rest) = first_parameter_of(alloc, rest, fuel)?;
     front.push(parameter)?;
-    let (parameters, rest) = more_of(alloc, front, rest, fuel)?;
+    let (parameters, rest) = more_of::<ParameterReader, _>(alloc, front, rest, fuel)?;
     let (_, rest) = expect(Terminal::ParenClose, rest)?;
     Ok((parameters, rest))
 }

@@ -1,7 +1,6 @@
 use Rattle.std.proofs.Common.{ℕ}
-use Rattle.vlog_parse.proofs.StmtNatural.{body_natural}
 use Rattle.vlog_parse.proofs.FileNatural.{file_natural}
 use Rattle.vlog_parse.proofs.laws.lines_dont_count.Goals as goal
 
 pub returns : goal.returns
-returns c = record { bodies = body_natural ℕ; files = file_natural ℕ }
+returns c = file_natural ℕ

@@ -1,6 +1,5 @@
-use Rattle.vlog_parse.proofs.StmtSpelled.{body_read}
 use Rattle.vlog_parse.proofs.FileSpelled.{file_read}
 use Rattle.vlog_parse.proofs.laws.spelled_is_read.Goals as goal
 
 pub returns : goal.returns
-returns c = record { bodies = body_read (Unit {0}) tt; files = file_read (Unit {0}) tt }
+returns c = file_read (Unit {0}) tt

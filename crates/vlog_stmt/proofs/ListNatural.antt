@@ -5,7 +5,7 @@ use Rattle.vlog_expr.specs.Marks.{Toks}
 use Rattle.vlog_expr.specs.Bare.{forget_all}
 use Rattle.vlog_expr.specs.Reader.{Read, more_at, some_at}
 use Rattle.vlog_expr.proofs.Natural.{U}
-use Rattle.vlog_parse.proofs.Steps.{Same, same, both_step, both_or, same_after}
+use Rattle.vlog_stmt.proofs.Steps.{Same, same, both_step, both_or, same_after}
 
 pub map_snoc : {X Y : Type 0} (f : X → Y) (xs : List X) (x : X) → map f xs ++ f x ∷ [] ≡ map f (xs ++ x ∷ [])
 map_snoc f [] x = refl

@@ -8,7 +8,7 @@ use Rattle.vlog_tree.specs.Shape.{AreSomeGood}
 use Rattle.vlog_expr.specs.Marks.{Toks, AreLawful}
 use Rattle.vlog_expr.specs.Reader.{Read, more_at, some_at}
 use Rattle.vlog_expr.proofs.Found.{From, again}
-use Rattle.vlog_parse.proofs.Sure.{Sure, nothing, sure, next, either, ◌▹◌, after_found}
+use Rattle.vlog_stmt.proofs.Sure.{Sure, nothing, sure, next, either, ◌▹◌, after_found}
 
 -- at least one, of which the first meets a condition of its own
 abbrev pub AreLed : {X : Type 0} → (X → Type 0) → (X → Type 0) → List X → Type 0

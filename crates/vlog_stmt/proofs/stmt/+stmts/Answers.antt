@@ -4,10 +4,10 @@ use Rattle.vlog_tree.specs.declared.stmt.Arm.{Arm}
 use Rattle.vlog_tree.specs.Tree.{StmtOf, ArmOf}
 use Rattle.vlog_tree.specs.Plain.{plain_stmt, plain_arm}
 use Rattle.vlog_expr.specs.Marks.{all_marked}
-use Rattle.vlog_parse.specs.StmtReader.{stmts_at, arms_at}
-use Rattle.vlog_parse.proofs.Maps.{stmts_snoc, arms_snoc}
-use Rattle.vlog_parse.proofs.Turns.{stmts_turn, arms_turn}
-use Rattle.vlog_parse.proofs.stmt.+stmts.Goals as goal
+use Rattle.vlog_stmt.specs.StmtReader.{stmts_at, arms_at}
+use Rattle.vlog_stmt.proofs.Maps.{stmts_snoc, arms_snoc}
+use Rattle.vlog_stmt.proofs.Turns.{stmts_turn, arms_turn}
+use Rattle.vlog_stmt.proofs.stmt.+stmts.Goals as goal
 
 pub stmts_of-loop-left-preserved : goal.stmts_of-loop-left-preserved
 stmts_of-loop-left-preserved t c =

@@ -10,7 +10,7 @@ use Rattle.vlog_expr.specs.Marks.{Toks, spelled, spell, after}
 use Rattle.vlog_expr.specs.Reader.{Read, expr_at, fuel_for, more_at, some_at}
 use Rattle.vlog_expr.specs.Laws.{Ends}
 use Rattle.vlog_expr.proofs.Spelled.{spell_append, ends_colon, ends_comma, ends_paren, expr_read}
-use Rattle.vlog_parse.proofs.Steps.{step, skipped}
+use Rattle.vlog_stmt.proofs.Steps.{step, skipped}
 
 module _ (A : Type 0) (blank : A) where
   -- what can stand behind an expression

@@ -1,15 +1,15 @@
 //! The reader of statements.
 
 ghost use Rattle.std.specs.Prelude.{◌≡◌, ◌≤◌, ℕ, Some, [], ◌∷◌, map};
-ghost use Rattle.vlog_tree.specs.Tree.{StmtOf, IfStmt, CaseStmt, arms_of};
+ghost use Rattle.vlog_tree.specs.Tree.{ExprOf, StmtOf, IfStmt, CaseStmt, arms_of};
 ghost use Rattle.vlog_tree.specs.Plain.{plain_expr, plain_stmt, plain_body, plain_arm};
 ghost use Rattle.vlog_expr.specs.Marks.{Toks, all_marked};
-ghost use Rattle.vlog_expr.specs.Reader.{◌>>=◌ as bind};
-ghost use Rattle.vlog_parse.specs.StmtReader.{assign_op_at, assign_stmt_at, stmt_at, if_at, body_at, else_at, stmts_at};
-ghost use Rattle.vlog_parse.specs.StmtReader.{colon_front, case_at, arm_at, arms_at};
+ghost use Rattle.vlog_expr.specs.Reader.{◌>>=◌ as bind, expr_at};
+ghost use Rattle.vlog_stmt.specs.StmtReader.{assign_op_at, assign_stmt_at, stmt_at, if_at, body_at, else_at, stmts_at};
+ghost use Rattle.vlog_stmt.specs.StmtReader.{colon_front, case_at, arm_at, arms_at};
 ghost use Rattle.vlog_expr.specs.Given.{Gives};
 
-use crate::listed::some_of;
+use crate::listed::{ListReader, some_of};
 use std::alloc::Global;
 use vlog_expr::{Parsed, Unread, after, expect, expr_of, target_of};
 use vlog_lex::Token;
@@ -156,6 +156,21 @@ fn colon_front(tokens: &[Token]) -> (bool, &[Token])
     }
 }
 
+/// The reader of a label.
+struct LabelReader;
+
+impl ListReader<Expr> for LabelReader {
+    ghost Plain = { ExprOf ℕ };
+
+    ghost plain = { plain_expr };
+
+    ghost one_at = { expr_at };
+
+    fn read(alloc: Global, tokens: &[Token], fuel: usize) -> Parsed<'_, Expr> {
+        expr_of(alloc, tokens, fuel)
+    }
+}
+
 /// An arm of a `case`.
 #[cycle(stmts)]
 fn arm_of(alloc: Global, tokens: &[Token], fuel: usize, nested: u32) -> Parsed<'_, Arm>
@@ -169,7 +184,7 @@ fn arm_of(alloc: Global, tokens: &[Token], fuel: usize, nested: u32) -> Parsed<'
         let (body, rest) = body_of(alloc, rest, fuel - 1, nested)?;
         return Ok((Arm::Default { line, colon, body }, rest));
     }
-    let (labels, rest) = some_of::<Expr>(alloc, tokens, fuel - 1)?;
+    let (labels, rest) = some_of::<LabelReader, _>(alloc, tokens, fuel - 1)?;
     let (_, rest) = expect(Terminal::Colon, rest)?;
     let (body, rest) = body_of(alloc, rest, fuel - 1, nested)?;
     Ok((Arm::Labels { labels, body }, rest))

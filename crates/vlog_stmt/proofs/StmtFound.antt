@@ -11,17 +11,17 @@ use Rattle.vlog_tree.specs.Shape.{is_open, is_open_body, is_open_else, IsShut, I
 use Rattle.vlog_tree.specs.Shape.{AreGoodStmts}
 use Rattle.vlog_expr.specs.Marks.{Toks, AreWords, AreLawful, after}
 use Rattle.vlog_expr.specs.Reader.{expr_at}
-use Rattle.vlog_parse.specs.StmtReader.{assign_op_at, assign_stmt_at, stmt_at, if_at, body_at, else_at, stmts_at, colon_front, case_at}
-use Rattle.vlog_parse.specs.StmtReader.{arm_at, arms_at}
+use Rattle.vlog_stmt.specs.StmtReader.{assign_op_at, assign_stmt_at, stmt_at, if_at, body_at, else_at, stmts_at, colon_front, case_at}
+use Rattle.vlog_stmt.specs.StmtReader.{arm_at, arms_at}
 use Rattle.vlog_tree.specs.Tree.{ExprOf, ArmOf, arms_of}
 use Rattle.vlog_tree.specs.Spelling.{expr_words, colon_words, arm_words, arms_words}
 use Rattle.vlog_tree.specs.Shape.{IsGoodExpr, IsGoodArm, AreGoodArms, AreAllGoodArms}
 use Rattle.vlog_expr.specs.Laws.{Holds}
-use Rattle.vlog_parse.specs.FileLaws.{ReadBodiesAreSpelled}
+use Rattle.vlog_stmt.specs.Laws.{ReadBodiesAreSpelled}
 use Rattle.vlog_expr.proofs.Found.{From, again}
-use Rattle.vlog_parse.proofs.Sure.{Sure, nothing, sure, next, either, kept, ◌▹◌, some_none, false_true, start, target_found}
-use Rattle.vlog_parse.proofs.Sure.{expr_found, after_found, after_at_found}
-use Rattle.vlog_parse.proofs.ListFound.{alone, led_good, some_found}
+use Rattle.vlog_stmt.proofs.Sure.{Sure, nothing, sure, next, either, kept, ◌▹◌, some_none, false_true, start, target_found}
+use Rattle.vlog_stmt.proofs.Sure.{expr_found, after_found, after_at_found}
+use Rattle.vlog_stmt.proofs.ListFound.{alone, led_good, some_found}
 
 module _ (A : Type 0) where
   abbrev AtOp : Toks A → AssignOp × Toks A → Type 0

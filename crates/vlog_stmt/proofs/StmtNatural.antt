@@ -6,14 +6,14 @@ use Rattle.vlog_tree.specs.Tree.{StmtOf, BeginStmt, CaseStmt, StmtsOf, MoreStmts
 use Rattle.vlog_expr.specs.Marks.{Toks}
 use Rattle.vlog_expr.specs.Bare.{forget_all, bare_expr, bare_target}
 use Rattle.vlog_expr.specs.Reader.{expr_at, target_at}
-use Rattle.vlog_parse.specs.BareFile.{bare_stmt, bare_body, bare_else, bare_stmts, bare_arm, bare_arms}
-use Rattle.vlog_parse.specs.StmtReader.{assign_op_at, assign_stmt_at, stmt_at, if_at, body_at, else_at, stmts_at, colon_front, case_at}
-use Rattle.vlog_parse.specs.StmtReader.{arm_at, arms_at}
-use Rattle.vlog_parse.specs.FileLaws.{BodyLinesDontCount}
+use Rattle.vlog_stmt.specs.BareStmt.{bare_stmt, bare_body, bare_else, bare_stmts, bare_arm, bare_arms}
+use Rattle.vlog_stmt.specs.StmtReader.{assign_op_at, assign_stmt_at, stmt_at, if_at, body_at, else_at, stmts_at, colon_front, case_at}
+use Rattle.vlog_stmt.specs.StmtReader.{arm_at, arms_at}
+use Rattle.vlog_stmt.specs.Laws.{BodyLinesDontCount}
 use Rattle.vlog_expr.proofs.Natural.{U}
 use Rattle.vlog_expr.proofs.TargetNatural.{target_natural}
-use Rattle.vlog_parse.proofs.Steps.{Same, same, both_step, both_or, same_after, same_expr}
-use Rattle.vlog_parse.proofs.ListNatural.{longer, some_same}
+use Rattle.vlog_stmt.proofs.Steps.{Same, same, both_step, both_or, same_after, same_expr}
+use Rattle.vlog_stmt.proofs.ListNatural.{longer, some_same}
 
 abbrev same_op : AssignOp → AssignOp
 same_op op = op

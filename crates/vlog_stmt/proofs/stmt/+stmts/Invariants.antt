@@ -1,8 +1,8 @@
 use Rattle.std.proofs.Common.{◌≡◌, ◌≤◌, ◌+◌, ◌*◌, [], map}
 use Rattle.vlog_tree.specs.Plain.{plain_stmt, plain_arm}
 use Rattle.vlog_expr.specs.Marks.{all_marked}
-use Rattle.vlog_parse.specs.StmtReader.{stmts_at, arms_at}
-use Rattle.vlog_parse.proofs.stmt.+stmts.Given as goal
+use Rattle.vlog_stmt.specs.StmtReader.{stmts_at, arms_at}
+use Rattle.vlog_stmt.proofs.stmt.+stmts.Given as goal
 
 abbrev pub decreases-stmt_of : goal.decreases-stmt_of
 decreases-stmt_of l = 3 * l.fuel

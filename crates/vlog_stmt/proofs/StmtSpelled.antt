@@ -19,12 +19,12 @@ use Rattle.vlog_tree.specs.Tree.{CaseStmt, ArmOf, LabelsArm, DefaultArm, ArmsOf,
 use Rattle.vlog_tree.specs.Spelling.{arm_words, arms_words, after_commas, with_commas}
 use Rattle.vlog_tree.specs.Shape.{AreSomeGood, IsGoodArm, AreAllGoodArms}
 use Rattle.vlog_expr.specs.Reader.{expr_at, target_at, some_at, fuel_for}
-use Rattle.vlog_parse.specs.StmtReader.{assign_op_at, assign_stmt_at, stmt_at, body_at, else_at, stmts_at, arm_at, arms_at}
+use Rattle.vlog_stmt.specs.StmtReader.{assign_op_at, assign_stmt_at, stmt_at, body_at, else_at, stmts_at, arm_at, arms_at}
 use Rattle.vlog_expr.proofs.Spelled.{size, spell_append, ends_paren, expr_read}
 use Rattle.vlog_expr.proofs.TargetSpelled.{target_read}
-use Rattle.vlog_parse.proofs.Steps.{step, skipped}
-use Rattle.vlog_parse.proofs.Starts.{NoStart, expr_start, reserved_start}
-use Rattle.vlog_parse.proofs.ListSpelled.{ends_semicolon, parts_colon, some_read, exprs_read}
+use Rattle.vlog_stmt.proofs.Steps.{step, skipped}
+use Rattle.vlog_stmt.proofs.Starts.{NoStart, expr_start, reserved_start}
+use Rattle.vlog_stmt.proofs.ListSpelled.{ends_semicolon, parts_colon, some_read, exprs_read}
 
 module _ (A : Type 0) (blank : A) where
   abbrev StmtClaim : StmtOf A → Type 0

@@ -1,0 +1,11 @@
+pub mod ListFound
+pub mod ListNatural
+pub mod ListSpelled
+pub mod Maps
+pub mod Starts
+pub mod Steps
+pub mod StmtFound
+pub mod StmtNatural
+pub mod StmtSpelled
+pub mod Sure
+pub mod Turns

@@ -1,0 +1,3 @@
+pub mod BareStmt
+pub mod Laws
+pub mod StmtReader
