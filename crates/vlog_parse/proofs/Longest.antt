@@ -20,8 +20,9 @@ use Rattle.vlog_expr.specs.Lawful.{IsUnlawful}
 use Rattle.vlog_expr.specs.Bare.{forget, forget_all}
 use Rattle.vlog_expr.specs.Reader.{◌>>=◌, found_or, Read, fuel_for}
 use Rattle.vlog_expr.specs.Laws.{Holds, seen}
-use Rattle.vlog_parse.specs.BareFile.{bare_item}
-use Rattle.vlog_parse.specs.FileReader.{item_at, header_at}
+use Rattle.vlog_item.specs.BareItem.{bare_item}
+use Rattle.vlog_parse.specs.FileReader.{header_at}
+use Rattle.vlog_item.specs.ItemReader.{item_at}
 use Rattle.vlog_parse.specs.UnitReader.{whole_item, unit_at, read_or, behind_units}
 use Rattle.vlog_parse.specs.Units.{UnitOf, Header, ItemUnit, Endmodule, module_units, unit_words, IsWhole, AreWhole, BeginWith}
 use Rattle.vlog_parse.specs.Units.{AreLongest}
@@ -33,9 +34,12 @@ use Rattle.vlog_expr.proofs.Natural.{over_bind, over_found, after_natural}
 use Rattle.vlog_expr.proofs.Whole.{AreLawfulWords, lawful_append, spell_lawful, length_forget}
 use Rattle.vlog_stmt.proofs.Sure.{Sure, nothing, sure, next, either, after_found}
 use Rattle.vlog_stmt.proofs.Steps.{step, skipped}
-use Rattle.vlog_parse.proofs.FileFound.{item_found, header_found}
-use Rattle.vlog_parse.proofs.FileSpelled.{header_read, item_read, no_endmodule, some_item}
-use Rattle.vlog_parse.proofs.FileNatural.{bare_header, item_same, header_same}
+use Rattle.vlog_item.proofs.ItemFound.{item_found}
+use Rattle.vlog_parse.proofs.FileFound.{header_found}
+use Rattle.vlog_item.proofs.ItemSpelled.{item_read, no_endmodule, some_item}
+use Rattle.vlog_parse.proofs.FileSpelled.{header_read}
+use Rattle.vlog_item.proofs.ItemNatural.{item_same}
+use Rattle.vlog_parse.proofs.FileNatural.{bare_header, header_same}
 use Rattle.vlog_parse.proofs.FileWhole.{all_commas_lawful, hash_lawful, port_lawful, parameter_lawful, item_lawful}
 
 abbrev UnitU : Type 0

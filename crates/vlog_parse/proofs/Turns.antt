@@ -5,7 +5,8 @@ use Rattle.vlog_tree.specs.Tree.{ItemOf, ModuleOf}
 use Rattle.vlog_lex.specs.declared.token.Token.{Token}
 use Rattle.vlog_expr.specs.Marks.{Toks, after, all_marked}
 use Rattle.vlog_expr.specs.Reader.{◌>>=◌, found_or, Read}
-use Rattle.vlog_parse.specs.FileReader.{item_at, items_at, module_at, modules_at}
+use Rattle.vlog_parse.specs.FileReader.{items_at, module_at, modules_at}
+use Rattle.vlog_item.specs.ItemReader.{item_at}
 
 pub items_turn : {A : Type 0} (fuel m n : ℕ) (front : List (ItemOf A)) (ws : Toks A) (x : ItemOf A × Toks A)
     → m ≡ suc n → after t.Endmodule ws ≡ None → item_at fuel ws ≡ Some x → items_at fuel m front ws

@@ -4,7 +4,8 @@ use Rattle.vlog_tree.specs.declared.terminal.Terminal.TheVariants as t
 use Rattle.vlog_tree.specs.Tree.{ItemOf, AlwaysItem}
 use Rattle.vlog_expr.specs.Marks.{Toks, after}
 use Rattle.vlog_expr.specs.Reader.{◌>>=◌, found_or, Read}
-use Rattle.vlog_parse.specs.FileReader.{item_at, header_at}
+use Rattle.vlog_parse.specs.FileReader.{header_at}
+use Rattle.vlog_item.specs.ItemReader.{item_at}
 
 -- no `else` follows the item, where it is an `always`
 abbrev pub whole_item : {A : Type 0} → ItemOf A → Toks A → Option (Unit {0})

@@ -1,13 +1,14 @@
 -- The whole units of a design text: a module's header up to its `;`, an item, and `endmodule`.
-use Rattle.std.specs.Prelude.{◌≡◌, ◌≤◌, ◌-◌, ℕ, List, [], ◌∷◌, ◌++◌, None, length, drop, map}
+use Rattle.std.specs.Prelude.{◌≡◌, ◌≤◌, ◌-◌, ℕ, List, [], ◌∷◌, ◌++◌, length, drop, map}
 use Rattle.std.specs.List.{flat_map}
 use Rattle.vlog_tree.specs.declared.terminal.Terminal.TheVariants as t
 use Rattle.vlog_tree.specs.Words.{WordOf, NameWord, Fixed}
-use Rattle.vlog_tree.specs.Tree.{ParameterOf, PortOf, ItemOf, AlwaysItem, ModuleOf, FileOf}
+use Rattle.vlog_tree.specs.Tree.{ParameterOf, PortOf, ItemOf, ModuleOf, FileOf}
 use Rattle.vlog_tree.specs.Spelling.{with_commas, in_row, hash_words, parameter_words, port_words, item_words, file_words}
 use Rattle.vlog_tree.specs.Shape.{IsGood}
-use Rattle.vlog_expr.specs.Marks.{Toks, spell, after}
+use Rattle.vlog_expr.specs.Marks.{Toks, spell}
 use Rattle.vlog_expr.specs.Bare.{forget_all}
+use Rattle.vlog_item.specs.Laws.{IsWholeItem}
 
 pub data UnitOf (A : Type 0) : Type 0 where
   Header : List ℕ → List (ParameterOf A) → List (PortOf A) → UnitOf A
@@ -28,7 +29,7 @@ unit_words Endmodule = Fixed t.Endmodule ∷ []
 
 -- an `always` that `else` follows isn't a whole unit
 abbrev pub IsWhole : {A B : Type 0} → UnitOf A → Toks B → Type 0
-IsWhole (ItemUnit (AlwaysItem a)) rest = after t.Else rest ≡ None
+IsWhole (ItemUnit i) rest = IsWholeItem i rest
 IsWhole _ rest = Unit {0}
 
 abbrev pub AreWhole : List (UnitOf (Unit {0})) → Toks (Unit {0}) → Type 0

@@ -1,14 +1,13 @@
-//! The reader of design texts (IEEE 1364-2005, this project's profile), on top of that of statements.
+//! The reader of design texts (IEEE 1364-2005, this project's profile), on top of that of items.
 //!
 //! The definitions stand in `specs/`: `Parsing` (what `parse` owes), `Depth` (the limits of nesting and
-//! length), and below them `FileReader` (the grammar's rules as readers on lists of tokens), `FileLaws` (what
-//! is spelled is read, and what is read is spelled) and `Units` (the whole units of a design text).
+//! length), and below them `FileReader` and `UnitReader` (the grammar's rules as readers on lists of
+//! tokens), `FileLaws` (what is spelled is read, and what is read is spelled) and `Units` (the whole units
+//! of a design text).
 #![tactic(auto)]
 
 mod depth;
 mod error;
-mod instance;
-mod item;
 mod laws;
 mod module;
 mod parameter;

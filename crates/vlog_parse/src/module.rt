@@ -8,11 +8,11 @@ ghost use Rattle.vlog_parse.specs.FileReader.{input_at, output_at, direction_fro
 ghost use Rattle.vlog_parse.specs.FileReader.{header_at, module_at, modules_at, file_at};
 ghost use Rattle.vlog_expr.specs.Given.{Gives};
 
-use crate::item::{init_front, item_of, range_front, unboxed};
 use crate::parameter::parameters_front;
 use std::alloc::Global;
 use vidi_bits::{Items, Name};
 use vlog_expr::{Parsed, Unread, after, expect, name_of};
+use vlog_item::{init_front, item_of, range_front, unboxed};
 use vlog_lex::Token;
 use vlog_stmt::{ListReader, more_of};
 use vlog_tree::{
@@ -100,10 +100,10 @@ fn first_port_of(alloc: Global, tokens: &[Token], fuel: usize) -> Parsed<'_, Por
     ensures { Gives (λ x. (plain_port x.0, all_marked x.1.now)) result (first_port_at fuel (all_marked tokens.now)) }
 {
     let (port, rest) = PortReader::read(alloc, tokens, fuel)?;
-    match port.head {
-        Some(_) => Ok((port, rest)),
-        None => Err(Unread::Fault),
+    if port.head.is_none() {
+        return Err(Unread::Fault);
     }
+    Ok((port, rest))
 }
 
 /// The ports behind `(`, and `)`.

@@ -7,9 +7,9 @@ ghost use Rattle.vlog_expr.specs.Marks.{all_marked};
 ghost use Rattle.vlog_expr.specs.Given.{Gives};
 ghost use Rattle.vlog_parse.specs.FileReader.{parameter_head_front, parameter_at, first_parameter_at, parameters_front};
 
-use crate::item::{range_front, unboxed};
 use std::alloc::Global;
 use vlog_expr::{Parsed, Unread, after, expect, expr_of, name_of};
+use vlog_item::{range_front, unboxed};
 use vlog_lex::Token;
 use vlog_stmt::{ListReader, more_of};
 use vlog_tree::{Parameter, ParameterHead, Parameters, Terminal};
@@ -63,10 +63,10 @@ fn first_parameter_of(alloc: Global, tokens: &[Token], fuel: usize) -> Parsed<'_
     ensures { Gives (λ x. (plain_parameter x.0, all_marked x.1.now)) result (first_parameter_at fuel (all_marked tokens.now)) }
 {
     let (parameter, rest) = ParameterReader::read(alloc, tokens, fuel)?;
-    match parameter.head {
-        Some(_) => Ok((parameter, rest)),
-        None => Err(Unread::Fault),
+    if parameter.head.is_none() {
+        return Err(Unread::Fault);
     }
+    Ok((parameter, rest))
 }
 
 /// The parameters of a module, where `#` stands at the front.

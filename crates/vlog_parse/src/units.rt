@@ -4,15 +4,15 @@ ghost use Rattle.std.specs.Prelude.{◌≡◌, ◌↔◌, false, IsTrue, Some, I
 ghost use Rattle.vlog_tree.specs.Plain.{plain_item};
 ghost use Rattle.vlog_expr.specs.Marks.{all_marked};
 ghost use Rattle.vlog_expr.specs.Given.{Gives};
-ghost use Rattle.vlog_parse.specs.FileReader.{item_at};
+ghost use Rattle.vlog_item.specs.ItemReader.{item_at};
 ghost use Rattle.vlog_parse.specs.UnitReader.{whole_item, behind_header, behind_item, unit_at, behind_units};
 ghost use Rattle.vlog_parse.specs.Units.{line_or, last_line, IsItemLine};
 
-use crate::item::item_of;
 use crate::module::header_of;
 use std::alloc::Global;
 use vidi_bits::Memory;
 use vlog_expr::{Parsed, Unread, after, fuel_for, lawful_len};
+use vlog_item::item_of;
 use vlog_lex::Token;
 use vlog_tree::{Item, Terminal};
 

@@ -5,7 +5,7 @@ ghost use Rattle.vlog_tree.specs.Tree.{ConnOf};
 ghost use Rattle.vlog_tree.specs.Plain.{plain_ident, plain_expr, plain_conn, plain_item};
 ghost use Rattle.vlog_expr.specs.Marks.{all_marked};
 ghost use Rattle.vlog_expr.specs.Given.{Gives};
-ghost use Rattle.vlog_parse.specs.FileReader.{value_at, conn_at, parameter_conns_front, conns_at, instance_at, named_item_at};
+ghost use Rattle.vlog_item.specs.ItemReader.{value_at, conn_at, parameter_conns_front, conns_at, instance_at, named_item_at};
 
 use std::alloc::Global;
 use vlog_expr::{Parsed, after, expect, expr_of, name_of};

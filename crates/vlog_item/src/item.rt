@@ -5,11 +5,11 @@ ghost use Rattle.vlog_tree.specs.Tree.{IdentOf, NamedValueOf, Reg1Of, AssignOf};
 ghost use Rattle.vlog_tree.specs.Plain.{plain_ident, plain_expr, plain_range, plain_named, plain_reg, plain_assign, plain_event};
 ghost use Rattle.vlog_tree.specs.Plain.{plain_item};
 ghost use Rattle.vlog_expr.specs.Marks.{all_marked, name_front};
-ghost use Rattle.vlog_parse.specs.FileReader.{range_at, range_front, init_front, named_at, reg_at, assign_at, names_at, driven_at};
-ghost use Rattle.vlog_parse.specs.FileReader.{wires_at};
-ghost use Rattle.vlog_parse.specs.FileReader.{regs_at, assigns_at, event_at, always_at, item_at, tail_front, localparams_at};
-ghost use Rattle.vlog_parse.specs.FileReader.{paren_event_at};
-ghost use Rattle.vlog_parse.specs.FileReader.{other_item_at};
+ghost use Rattle.vlog_item.specs.ItemReader.{range_at, range_front, init_front, named_at, reg_at, assign_at, names_at, driven_at};
+ghost use Rattle.vlog_item.specs.ItemReader.{wires_at};
+ghost use Rattle.vlog_item.specs.ItemReader.{regs_at, assigns_at, event_at, always_at, item_at, tail_front, localparams_at};
+ghost use Rattle.vlog_item.specs.ItemReader.{paren_event_at};
+ghost use Rattle.vlog_item.specs.ItemReader.{other_item_at};
 ghost use Rattle.vlog_tree.specs.Plain.{plain_tail};
 ghost use Rattle.vlog_expr.specs.Given.{Gives};
 

@@ -1,0 +1,3 @@
+pub mod ItemFound
+pub mod ItemNatural
+pub mod ItemSpelled

@@ -1,0 +1,3 @@
+pub mod BareItem
+pub mod ItemReader
+pub mod Laws
