@@ -1,4 +1,5 @@
 pub mod Each
+pub mod Joined
 pub mod Pushed
 pub mod Tables
 pub mod Upto

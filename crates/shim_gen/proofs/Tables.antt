@@ -1,5 +1,5 @@
 -- Tables to which entries are added: the value of a name is that of its first entry.
-use Rattle.std.proofs.Common.{◌≡◌, ℕ, Bool, true, false, List, [], ◌∷◌, ◌++◌, Option, Some, None, is_some, if◌then◌else◌, map, option_map}
+use Rattle.std.proofs.Common.{◌≡◌, ℕ, suc, ◌+◌, ◌<◌, length, drop, get_or, arith, drop-cons, Bool, true, false, List, [], ◌∷◌, ◌++◌, Option, Some, None, is_some, if◌then◌else◌, map, option_map}
 use Rattle.std.proofs.Common.{refl, sym, ap, ◌∙◌, append_assoc, append-nil}
 use Rattle.std.specs.Prelude.{codes}
 use Rattle.std.specs.List.{flat_map}
@@ -9,7 +9,7 @@ use Rattle.vidi_bits.specs.Findings.{or_first}
 use Rattle.vlog_tree.specs.Tree.{PortOf, ConnOf}
 use Rattle.vlog_size.specs.Table.{Named, value_of, added}
 use Rattle.chan_map.specs.declared.pins.Map.{Map}
-use Rattle.shim_trees.specs.Pieces.{Name, ident, net, instance}
+use Rattle.shim_trees.specs.Pieces.{Name, ident, net, instance, each_some}
 use Rattle.shim_trees.specs.Links.{held, tied_input, tied_port, tied_ports, dut_conn, dut}
 use Rattle.shim_gen.specs.Tables.{with_entries}
 
@@ -75,3 +75,17 @@ tied_by_table m ports = tied_same (held m) ports
 -- and what the design's ports are joined to in a table of the links
 pub dut_by_table : (ls : List (Named Name)) (kind : Name) (ports : List (PortOf ℕ)) → dut (with_entries [] ls) kind ports ≡ dut ls kind ports
 dut_by_table ls kind ports = ap (λ (conns : List (ConnOf ℕ)). instance kind (codes "dut") conns) (conns_same ls ports)
+
+-- what is added for an element and for those left makes the same table as before
+pub some_linked : {X V : Type 0} (f : ℕ → X → List (Named V)) (old new all : List (Named V)) (xs : List X) (i : ℕ) (x : X) (ys : List (Named V))
+    → i < length xs → f i (get_or xs i x) ≡ ys → new ≡ with_entries old ys → with_entries old (each_some f i (drop i xs)) ≡ all
+    → with_entries new (each_some f (i + 1) (drop (i + 1) xs)) ≡ all
+some_linked f old new all xs i x ys low is push before =
+    let next : i + 1 ≡ suc i = omega arith in
+    let left = each_some f (i + 1) (drop (i + 1) xs) in
+    ap (λ t. with_entries t left) push
+    ∙ sym (entries_append old ys left)
+    ∙ ap (λ zs. with_entries old (zs ++ left)) (sym is)
+    ∙ ap (λ (k : ℕ). with_entries old (f i (get_or xs i x) ++ each_some f (i + 1) (drop k xs))) next
+    ∙ ap (λ zs. with_entries old (each_some f i zs)) (sym (drop-cons xs i x low))
+    ∙ before

@@ -1,7 +1,7 @@
 -- Loops that add one piece for each number.
-use Rattle.std.proofs.Common.{◌≡◌, ℕ, zero, suc, ◌+◌, ◌-◌, ◌<◌, List, [], ◌∷◌, ◌++◌, refl, sym, ap, ◌∙◌, append_assoc, arith}
+use Rattle.std.proofs.Common.{◌≡◌, ℕ, zero, suc, ◌+◌, ◌-◌, ◌<◌, List, [], ◌∷◌, ◌++◌, length, refl, ap, ◌∙◌, append_assoc, arith}
 use Rattle.vlog_tree.specs.Tree.{ExprOf, MoreStmts, stmts_of}
-use Rattle.shim_trees.specs.Pieces.{upto, both}
+use Rattle.shim_trees.specs.Pieces.{each, upto, both}
 use Rattle.shim_trees.specs.Replayer.{covers, covering, counting}
 use Rattle.shim_gen.specs.Counting.{counted}
 
@@ -29,3 +29,8 @@ covering_on e new all j count low is before =
 pub counting_is : (j count : ℕ) → stmts_of (upto counted j count) ≡ counting j count
 counting_is j zero = refl
 counting_is j (suc count) = ap (MoreStmts (counted j)) (counting_is (j + 1) count)
+
+-- one for each element of a list, whatever it is, is one for each of as many numbers
+pub each_is_upto : {X Y : Type 0} (f : ℕ → Y) (k : ℕ) (xs : List X) → each (λ i _. f i) k xs ≡ upto f k (length xs)
+each_is_upto f k [] = refl
+each_is_upto f k (x ∷ xs) = ap (λ ys. f k ∷ ys) (each_is_upto f (k + 1) xs)

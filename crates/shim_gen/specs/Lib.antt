@@ -1,3 +1,5 @@
 pub mod Counting
+pub mod Labels
 pub mod Plain
+pub mod Rows
 pub mod Tables

@@ -1,12 +1,7 @@
 -- Values of the code as plain data.
 use Rattle.std.specs.Prelude.{List, ℕ, Option, None, Some}
-use Rattle.vlog_size.specs.Table.{Named}
-use Rattle.shim_gen.specs.declared.links.Link.{Link}
 use Rattle.shim_gen.specs.declared.error.WrapError.{WrapError}
 use Rattle.shim_gen.specs.declared.error.WrapError.TheVariants as error
-
-abbrev pub plain_link : Link → Named (List ℕ)
-plain_link l = record { name = l.pin; value = l.net }
 
 -- the finding of an error; want of memory is none
 abbrev pub wrap_told : WrapError → Option (List ℕ)

@@ -1,126 +1,102 @@
 //! Connections of shims' instances.
 
-ghost use Rattle.std.specs.Prelude.{◌≡◌, ◌++◌, [], ◌∷◌, OnOk, map};
-ghost use Rattle.vlog_tree.specs.Plain.{plain_conn};
+ghost use Rattle.std.specs.Prelude.{◌≡◌, ◌++◌, [], ◌∷◌, IfOk, OnOk, map, option_map};
+ghost use Rattle.vlog_tree.specs.Plain.{plain_expr, plain_conn};
 ghost use Rattle.shim_trees.specs.Pieces as pieces;
+ghost use Rattle.shim_gen.specs.Rows as spec;
 
 use crate::exprs::{ident, net};
-use crate::names::{named, numbered, numbered_twice};
+use crate::names::{Label, name_of};
 use std::alloc::Global;
-use vidi_bits::{Memory, Name};
-use vlog_tree::{Conn, Conns};
+use vidi_bits::Memory;
+use vlog_tree::{Conn, Conns, Expr};
 
-/// Adds `. port ( name )`.
-pub fn add_joined(conns: &mut Conns, port: Name, name: Name) -> Result<(), Memory>
-    ensures { OnOk result (map plain_conn conns.new ≡ map plain_conn conns.old ++ pieces.conn port name ∷ []) }
+/// Connections that stand beside each other: those of ports to nets, or to nothing.
+#[derive(Clone, Copy)]
+pub enum ConnRow<'a> {
+    /// One.
+    One(Label<'a>, Option<Label<'a>>),
+    /// One for each of these widths, with both names numbered from 0.
+    Each(Label<'a>, Option<Label<'a>>, &'a [u8]),
+    /// So many, with both names numbered from 0.
+    Upto(Label<'a>, Option<Label<'a>>, usize),
+}
+
+/// The net of a label, where there is one.
+fn net_of(alloc: Global, label: Option<Label>) -> Result<Option<Expr>, Memory>
+    ensures { IfOk result (λ e. option_map plain_expr e ≡ spec.joined label.entry) }
 {
+    match label {
+        None => Ok(None),
+        Some(label) => {
+            let name = name_of(alloc, label)?;
+            Ok(Some(net(None, name)))
+        }
+    }
+}
+
+/// Adds `. port ( label )`, or `. port ( )`.
+pub fn add_conn(
+    alloc: Global,
+    conns: &mut Conns,
+    port: Label,
+    label: Option<Label>,
+) -> Result<(), Memory>
+    ensures { OnOk result (map plain_conn conns.new ≡ map plain_conn conns.old ++ spec.conn_of port.entry label.entry ∷ []) }
+{
+    let name = name_of(alloc, port)?;
+    let value = net_of(alloc, label)?;
     conns.push(Conn {
         line: 0,
-        id: ident(port),
-        value: Some(net(name)),
+        id: ident(name),
+        value,
     })
 }
 
-/// Adds `. port ( )`.
-pub fn add_unjoined(conns: &mut Conns, port: Name) -> Result<(), Memory>
-    ensures { OnOk result (map plain_conn conns.new ≡ map plain_conn conns.old ++ pieces.unjoined port ∷ []) }
+/// A label with one number more, where there is one.
+fn label_at<'a>(label: Option<Label<'a>>, i: usize) -> Option<Label<'a>>
+    ensures { spec.joined result ≡ spec.joined_at label.entry i }
 {
-    conns.push(Conn {
-        line: 0,
-        id: ident(port),
-        value: None,
-    })
+    match label {
+        None => None,
+        Some(label) => Some(label.at(i)),
+    }
 }
 
-/// Adds `. port ( name )`, both without numbers.
-pub fn add_conn(alloc: Global, conns: &mut Conns, port: &str, name: &str) -> Result<(), Memory>
-    ensures { OnOk result (map plain_conn conns.new ≡ map plain_conn conns.old ++ pieces.conn port.now name.now ∷ []) }
-{
-    let port = named(alloc, port)?;
-    let name = named(alloc, name)?;
-    add_joined(conns, port, name)
-}
-
-/// Adds `. port ( base0 )`, where 0 is `n`.
-pub fn add_conn_of(
+/// Adds `count` connections.
+fn add_upto(
     alloc: Global,
     conns: &mut Conns,
-    port: &str,
-    base: &str,
-    n: usize,
-) -> Result<(), Memory>
-    ensures { OnOk result (map plain_conn conns.new
-        ≡ map plain_conn conns.old ++ pieces.conn port.now (pieces.numbered base.now n) ∷ []) }
-{
-    let port = named(alloc, port)?;
-    let name = numbered(alloc, base, n)?;
-    add_joined(conns, port, name)
-}
-
-/// Adds `. port ( )`, without a number.
-pub fn add_unread(alloc: Global, conns: &mut Conns, port: &str) -> Result<(), Memory>
-    ensures { OnOk result (map plain_conn conns.new ≡ map plain_conn conns.old ++ pieces.unjoined port.now ∷ []) }
-{
-    let port = named(alloc, port)?;
-    add_unjoined(conns, port)
-}
-
-/// Adds `. port0 ( base1_0 )`, where 0 is `i` and 1 is `n`.
-fn add_content(
-    alloc: Global,
-    conns: &mut Conns,
-    port: &str,
-    base: &str,
-    n: usize,
-    i: usize,
+    port: Label,
+    label: Option<Label>,
+    count: usize,
 ) -> Result<(), Memory>
     ensures { OnOk result (map plain_conn conns.new ≡ map plain_conn conns.old
-        ++ pieces.conn (pieces.numbered port.now i) (pieces.numbered_twice base.now n i) ∷ []) }
+        ++ pieces.upto (λ j. spec.conn_at port.entry label.entry j) 0 count) }
 {
-    let port = numbered(alloc, port, i)?;
-    let name = numbered_twice(alloc, base, n, i)?;
-    add_joined(conns, port, name)
-}
-
-/// Adds the connections of channel n's contents.
-pub fn add_contents(
-    alloc: Global,
-    conns: &mut Conns,
-    port: &str,
-    base: &str,
-    n: usize,
-    widths: &[u8],
-) -> Result<(), Memory>
-    ensures { OnOk result (map plain_conn conns.new ≡ map plain_conn conns.old
-        ++ pieces.each (λ i _. pieces.conn (pieces.numbered port.now i) (pieces.numbered_twice base.now n i)) 0 widths.now) }
-{
-    for (i, _width) in widths.iter().enumerate() {
-        add_content(alloc, conns, port, base, n, i)?;
+    for i in 0..count {
+        add_conn(alloc, conns, port.at(i), label_at(label, i))?;
     }
     Ok(())
 }
 
-/// Adds `. port0 ( )`, where 0 is `i`.
-fn add_unread_content(alloc: Global, conns: &mut Conns, port: &str, i: usize) -> Result<(), Memory>
-    ensures { OnOk result (map plain_conn conns.new
-        ≡ map plain_conn conns.old ++ pieces.unjoined (pieces.numbered port.now i) ∷ []) }
+/// Adds the connections of a row.
+fn add_row(alloc: Global, conns: &mut Conns, row: ConnRow) -> Result<(), Memory>
+    ensures { OnOk result (map plain_conn conns.new ≡ map plain_conn conns.old ++ spec.conns_of (row.entry ∷ [])) }
 {
-    let port = numbered(alloc, port, i)?;
-    add_unjoined(conns, port)
+    match row {
+        ConnRow::One(port, label) => add_conn(alloc, conns, port, label),
+        ConnRow::Each(port, label, widths) => add_upto(alloc, conns, port, label, widths.len()),
+        ConnRow::Upto(port, label, count) => add_upto(alloc, conns, port, label, count),
+    }
 }
 
-/// Adds empty connections for the contents of a channel.
-pub fn add_unread_contents(
-    alloc: Global,
-    conns: &mut Conns,
-    port: &str,
-    widths: &[u8],
-) -> Result<(), Memory>
-    ensures { OnOk result (map plain_conn conns.new ≡ map plain_conn conns.old
-        ++ pieces.each (λ i _. pieces.unjoined (pieces.numbered port.now i)) 0 widths.now) }
+/// Adds the connections of these rows.
+pub fn add_rows(alloc: Global, conns: &mut Conns, rows: &[ConnRow]) -> Result<(), Memory>
+    ensures { OnOk result (map plain_conn conns.new ≡ map plain_conn conns.old ++ spec.conns_of rows.now) }
 {
-    for (i, _width) in widths.iter().enumerate() {
-        add_unread_content(alloc, conns, port, i)?;
+    for row in rows {
+        add_row(alloc, conns, *row)?;
     }
     Ok(())
 }

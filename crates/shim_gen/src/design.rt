@@ -1,14 +1,14 @@
 //! The design in a top: its instance, and the inputs for its reset and its ties.
 
-ghost use Rattle.std.specs.Prelude.{◌≡◌, ◌++◌, [], ◌∷◌, IfOk, OnOk, map};
+ghost use Rattle.std.specs.Prelude.{◌≡◌, ◌++◌, [], ◌∷◌, OnOk, map};
 ghost use Rattle.std.specs.List.{flat_map};
 ghost use Rattle.vlog_tree.specs.Plain.{plain_port, plain_conn, plain_item};
 ghost use Rattle.shim_trees.specs.Links as spec;
 
-use crate::conns::{add_joined, add_unjoined};
+use crate::conns::add_conn;
 use crate::items::add_instance;
 use crate::links::{add_held_widths, nets_of};
-use crate::names::{named, tied};
+use crate::names::{Label, name_of};
 use crate::ports::{INPUT, add_port};
 use chan_map::Map;
 use std::alloc::Global;
@@ -28,10 +28,7 @@ fn add_tied_port(
     let name = port.id.name.as_slice();
     match widths.get(name) {
         None => Ok(()),
-        Some(width) => {
-            let name = tied(alloc, name)?;
-            add_port(alloc, ports, INPUT, name, *width)
-        }
+        Some(width) => add_port(alloc, ports, INPUT, Label::Tied(name), *width),
     }
 }
 
@@ -75,12 +72,12 @@ fn add_design_conn(
 ) -> Result<(), Memory>
     ensures { OnOk result (map plain_conn conns.new ≡ map plain_conn conns.old ++ spec.dut_conn nets.now (plain_port port.now) ∷ []) }
 {
-    let name = copied(alloc, port.id.name.as_slice())?;
-    match nets.get(port.id.name.as_slice()) {
-        None => add_unjoined(conns, name),
+    let name = port.id.name.as_slice();
+    match nets.get(name) {
+        None => add_conn(alloc, conns, Label::Given(name), None),
         Some(net) => {
-            let net = copied(alloc, net.as_slice())?;
-            add_joined(conns, name, net)
+            let net = Label::Given(net.as_slice());
+            add_conn(alloc, conns, Label::Given(name), Some(net))
         }
     }
 }
@@ -113,7 +110,7 @@ fn add_dut(
         ++ spec.dut nets.now kind.now (map plain_port ports.now) ∷ []) }
 {
     let kind = copied(alloc, kind)?;
-    let name = named(alloc, "dut")?;
+    let name = name_of(alloc, Label::Plain("dut"))?;
     let mut conns = Items::new(alloc);
     add_design_conns(alloc, &mut conns, nets, ports)?;
     add_instance(alloc, items, kind, name, conns)

@@ -5,13 +5,20 @@ ghost use Rattle.std.specs.Prelude.{◌≡◌, IfOk, None, option_map};
 ghost use Rattle.vlog_tree.specs.Plain.{plain_ident, plain_ref, plain_expr, plain_range, plain_target};
 ghost use Rattle.vlog_tree.specs.Tree.{UnaryExpr, BinaryExpr, NumberPrim, RefWith, NoIndex, NoLast};
 ghost use Rattle.shim_trees.specs.Pieces as pieces;
+ghost use Rattle.shim_gen.specs.Labels.{text, signed};
 
-use crate::names::named;
+use crate::names::{Label, name_of};
 use std::alloc::Global;
 use vidi_bits::{Items, Memory, Name};
 use vlog_tree::{
     BinaryOp, Expr, Ident, Number, NumberKind, Operand, Range, Ref, Sign, Target, Unary, UnaryOp,
 };
+
+/// `~`
+pub const NOT: Option<Sign> = Some(Sign {
+    op: UnaryOp::BitNot,
+    line: 0,
+});
 
 /// A generated name, on line 0.
 pub fn ident(name: Name) -> Ident
@@ -31,26 +38,12 @@ fn whole(name: Name) -> Ref
     }
 }
 
-/// `name`
-pub fn net(name: Name) -> Expr
-    ensures { plain_expr result ≡ pieces.net name }
+/// A whole net, perhaps with an operator before it.
+pub fn net(sign: Option<Sign>, name: Name) -> Expr
+    ensures { plain_expr result ≡ signed sign name }
 {
     Expr::Unary(Unary {
-        sign: None,
-        prim: Operand::Ref(whole(name)),
-    })
-}
-
-/// `~ name`
-fn not_net(name: Name) -> Expr
-    ensures { plain_expr result ≡ pieces.not_net name }
-{
-    let sign = Sign {
-        op: UnaryOp::BitNot,
-        line: 0,
-    };
-    Expr::Unary(Unary {
-        sign: Some(sign),
+        sign,
         prim: Operand::Ref(whole(name)),
     })
 }
@@ -86,37 +79,35 @@ fn digits(alloc: Global, n: u32) -> Result<Name, Memory>
 }
 
 /// `W'd0`
-pub fn zero_of(alloc: Global, width: u32) -> Result<Expr, Memory>
-    ensures { IfOk result (λ e. plain_expr e ≡ pieces.zero_of width) }
+pub fn boxed_zero(alloc: Global, width: u32) -> Result<Box<Expr>, Memory>
+    ensures { IfOk result (λ e. plain_expr e.value ≡ pieces.zero_of width) }
 {
     let text = format!(in alloc; "{width}'d0")?;
-    Ok(number_of(NumberKind::Based, Items::from_vec(text.into_bytes())))
+    let zero = number_of(NumberKind::Based, Items::from_vec(text.into_bytes()));
+    Ok(Box::new(alloc, zero)?)
 }
 
-/// `left op right`
-pub fn binary(alloc: Global, left: Box<Expr>, op: BinaryOp, right: Expr) -> Result<Expr, Memory>
-    ensures { IfOk result (λ e. plain_expr e ≡ BinaryExpr (plain_expr left.value) op (plain_expr right)) }
+/// The net of a label, perhaps with an operator before it.
+pub fn boxed_net(alloc: Global, sign: Option<Sign>, label: Label) -> Result<Box<Expr>, Memory>
+    ensures { IfOk result (λ e. plain_expr e.value ≡ signed sign (text label.entry)) }
 {
-    let right = Box::new(alloc, right)?;
+    let name = name_of(alloc, label)?;
+    Ok(Box::new(alloc, net(sign, name))?)
+}
+
+/// `left op right`, two whole nets, the right one perhaps with an operator before it.
+pub fn pair(
+    alloc: Global,
+    left: Label,
+    op: BinaryOp,
+    sign: Option<Sign>,
+    right: Label,
+) -> Result<Expr, Memory>
+    ensures { IfOk result (λ e. plain_expr e ≡ BinaryExpr (pieces.net (text left.entry)) op (signed sign (text right.entry))) }
+{
+    let left = boxed_net(alloc, None, left)?;
+    let right = boxed_net(alloc, sign, right)?;
     Ok(Expr::Binary { left, op, right })
-}
-
-/// `left & right`, two whole nets.
-pub fn both_nets(alloc: Global, left: &str, right: &str) -> Result<Expr, Memory>
-    ensures { IfOk result (λ e. plain_expr e ≡ pieces.both (pieces.net left.now) (pieces.net right.now)) }
-{
-    let right = named(alloc, right)?;
-    let left = Box::new(alloc, net(named(alloc, left)?))?;
-    binary(alloc, left, BinaryOp::And, net(right))
-}
-
-/// `left & ~ right`, two whole nets.
-pub fn one_without(alloc: Global, left: &str, right: &str) -> Result<Expr, Memory>
-    ensures { IfOk result (λ e. plain_expr e ≡ pieces.both (pieces.net left.now) (pieces.not_net right.now)) }
-{
-    let right = named(alloc, right)?;
-    let left = Box::new(alloc, net(named(alloc, left)?))?;
-    binary(alloc, left, BinaryOp::And, not_net(right))
 }
 
 /// No range for one bit, else `[ W-1 : 0 ]`.

@@ -4,39 +4,67 @@ ghost use Rattle.std.specs.Prelude.{◌≡◌, ◌++◌, [], ◌∷◌, IfOk, On
 ghost use Rattle.vlog_tree.specs.Plain.{plain_expr, plain_stmt, plain_conn, plain_item};
 ghost use Rattle.vlog_tree.specs.Tree.{ChoiceExpr};
 ghost use Rattle.shim_trees.specs.Pieces as pieces;
-ghost use Rattle.shim_trees.specs.Links.{content_wires};
+ghost use Rattle.shim_gen.specs.Labels.{text, text_at, signed};
+ghost use Rattle.shim_gen.specs.Rows.{items_of};
 
-use crate::exprs::{both_nets, ident, net, one_without, range_of, target, zero_of};
-use crate::names::{named, numbered, numbered_twice};
+use crate::exprs::{NOT, boxed_net, boxed_zero, ident, pair, range_of, target};
+use crate::names::{Label, name_of};
 use std::alloc::Global;
-use trace_model::Dir;
 use vidi_bits::{Items, Memory, Name};
-use vlog_tree::{Always, Assign, AssignOp, Body, Conns, Event, Expr, Instance, Item, Reg1, Stmt};
+use vlog_tree::{
+    Always, Assign, AssignOp, BinaryOp, Body, Conns, Event, Expr, Instance, Item, Reg1, Sign, Stmt,
+};
 
-/// Adds `wire name ;`, of `width` bits.
-pub fn add_wire(
-    alloc: Global,
-    items: &mut Items<Item>,
-    name: Name,
-    width: u32,
-) -> Result<(), Memory>
-    ensures { OnOk result (map plain_item items.new ≡ map plain_item items.old ++ pieces.wire name width ∷ []) }
+/// Items that stand beside each other.
+#[derive(Clone, Copy)]
+pub enum ItemRow<'a> {
+    /// `wire label ;`
+    Wire(Label<'a>),
+    /// A wire for each of these widths, numbered from 0.
+    Wires(Label<'a>, &'a [u8]),
+    /// `reg name ;`
+    Reg(&'a str),
+    /// `assign name = left & right ;`
+    Both(&'a str, &'a str, &'a str),
+    /// `assign name = left & ~ right ;`
+    Without(&'a str, &'a str, &'a str),
+    /// `always @ ( posedge clk ) name <= left & ~ right ;`
+    Next(&'a str, &'a str, &'a str),
+    /// The assignments of gated contents of these widths.
+    Gated(&'a [u8]),
+}
+
+/// The list of one element.
+fn alone<T: Drop>(alloc: Global, x: T) -> Result<Items<T>, Memory>
+    ensures { IfOk result (λ xs. xs ≡ x ∷ []) }
 {
-    let mut names = Items::new(alloc);
-    names.push(ident(name))?;
+    let mut xs = Items::new(alloc);
+    xs.push(x)?;
+    Ok(xs)
+}
+
+/// Adds `wire label ;`, of `width` bits.
+fn add_wire(alloc: Global, items: &mut Items<Item>, label: Label, width: u32) -> Result<(), Memory>
+    ensures { OnOk result (map plain_item items.new ≡ map plain_item items.old ++ pieces.wire (text label.entry) width ∷ []) }
+{
+    let name = name_of(alloc, label)?;
+    let names = alone(alloc, ident(name))?;
     let range = range_of(alloc, width)?;
     items.push(Item::Wires { range, names })
 }
 
-/// Adds `reg name ;`, of `width` bits.
-pub fn add_reg(alloc: Global, items: &mut Items<Item>, name: Name, width: u32) -> Result<(), Memory>
-    ensures { OnOk result (map plain_item items.new ≡ map plain_item items.old ++ pieces.reg name width ∷ []) }
+/// Adds `reg label ;`, of `width` bits.
+pub fn add_reg(
+    alloc: Global,
+    items: &mut Items<Item>,
+    label: Label,
+    width: u32,
+) -> Result<(), Memory>
+    ensures { OnOk result (map plain_item items.new ≡ map plain_item items.old ++ pieces.reg (text label.entry) width ∷ []) }
 {
-    let mut regs = Items::new(alloc);
-    regs.push(Reg1 {
-        id: ident(name),
-        tail: None,
-    })?;
+    let name = name_of(alloc, label)?;
+    let id = ident(name);
+    let regs = alone(alloc, Reg1 { id, tail: None })?;
     let range = range_of(alloc, width)?;
     items.push(Item::Regs { range, regs })
 }
@@ -50,43 +78,31 @@ pub fn add_assign(
 ) -> Result<(), Memory>
     ensures { OnOk result (map plain_item items.new ≡ map plain_item items.old ++ pieces.assign name (plain_expr value) ∷ []) }
 {
-    let mut assigns = Items::new(alloc);
-    assigns.push(Assign {
-        target: target(name),
-        value,
-    })?;
+    let target = target(name);
+    let assigns = alone(alloc, Assign { target, value })?;
     items.push(Item::Assign { assigns })
 }
 
-/// Adds `assign name = left & right ;`.
-pub fn add_both(
+/// Adds `assign name = left & right ;`, perhaps with an operator before the right net.
+fn add_and(
     alloc: Global,
     items: &mut Items<Item>,
     name: &str,
     left: &str,
+    sign: Option<Sign>,
     right: &str,
 ) -> Result<(), Memory>
     ensures { OnOk result (map plain_item items.new ≡ map plain_item items.old
-        ++ pieces.assign name.now (pieces.both (pieces.net left.now) (pieces.net right.now)) ∷ []) }
+        ++ pieces.assign name.now (pieces.both (pieces.net left.now) (signed sign right.now)) ∷ []) }
 {
-    let name = named(alloc, name)?;
-    let value = both_nets(alloc, left, right)?;
-    add_assign(alloc, items, name, value)
-}
-
-/// Adds `assign name = left & ~ right ;`.
-pub fn add_one_without(
-    alloc: Global,
-    items: &mut Items<Item>,
-    name: &str,
-    left: &str,
-    right: &str,
-) -> Result<(), Memory>
-    ensures { OnOk result (map plain_item items.new ≡ map plain_item items.old
-        ++ pieces.assign name.now (pieces.both (pieces.net left.now) (pieces.not_net right.now)) ∷ []) }
-{
-    let name = named(alloc, name)?;
-    let value = one_without(alloc, left, right)?;
+    let name = name_of(alloc, Label::Plain(name))?;
+    let value = pair(
+        alloc,
+        Label::Plain(left),
+        BinaryOp::And,
+        sign,
+        Label::Plain(right),
+    )?;
     add_assign(alloc, items, name, value)
 }
 
@@ -106,7 +122,7 @@ pub fn add_at_clock(alloc: Global, items: &mut Items<Item>, body: Stmt) -> Resul
     ensures { OnOk result (map plain_item items.new ≡ map plain_item items.old ++ pieces.at_clock (plain_stmt body) ∷ []) }
 {
     let body = Box::new(alloc, body)?;
-    let clock = named(alloc, "clk")?;
+    let clock = name_of(alloc, Label::Plain("clk"))?;
     items.push(Item::Always(Always {
         line: 0,
         event: Event::Posedge(ident(clock)),
@@ -115,7 +131,7 @@ pub fn add_at_clock(alloc: Global, items: &mut Items<Item>, body: Stmt) -> Resul
 }
 
 /// Adds `always @ ( posedge clk ) name <= left & ~ right ;`.
-pub fn add_next(
+fn add_next(
     alloc: Global,
     items: &mut Items<Item>,
     name: &str,
@@ -125,8 +141,14 @@ pub fn add_next(
     ensures { OnOk result (map plain_item items.new ≡ map plain_item items.old
         ++ pieces.at_clock (pieces.next name.now (pieces.both (pieces.net left.now) (pieces.not_net right.now))) ∷ []) }
 {
-    let name = named(alloc, name)?;
-    let value = one_without(alloc, left, right)?;
+    let name = name_of(alloc, Label::Plain(name))?;
+    let value = pair(
+        alloc,
+        Label::Plain(left),
+        BinaryOp::And,
+        NOT,
+        Label::Plain(right),
+    )?;
     add_at_clock(alloc, items, next(name, value))
 }
 
@@ -154,9 +176,9 @@ fn gated(alloc: Global, i: usize, width: u32) -> Result<Expr, Memory>
     ensures { IfOk result (λ e. plain_expr e
         ≡ ChoiceExpr (pieces.net (codes "kv")) (pieces.net (pieces.numbered (codes "s") i)) (pieces.zero_of width)) }
 {
-    let condition = Box::new(alloc, net(named(alloc, "kv")?))?;
-    let then_value = Box::new(alloc, net(numbered(alloc, "s", i)?))?;
-    let else_value = Box::new(alloc, zero_of(alloc, width)?)?;
+    let condition = boxed_net(alloc, None, Label::Plain("kv"))?;
+    let then_value = boxed_net(alloc, None, Label::Numbered("s", i))?;
+    let else_value = boxed_zero(alloc, width)?;
     Ok(Expr::Choice {
         condition,
         then_value,
@@ -165,78 +187,61 @@ fn gated(alloc: Global, i: usize, width: u32) -> Result<Expr, Memory>
 }
 
 /// Adds the assignment of a gated content.
-fn add_gated_content(
-    alloc: Global,
-    items: &mut Items<Item>,
-    i: usize,
-    width: u32,
-) -> Result<(), Memory>
+fn add_gated(alloc: Global, items: &mut Items<Item>, i: usize, width: u32) -> Result<(), Memory>
     ensures { OnOk result (map plain_item items.new ≡ map plain_item items.old ++ pieces.gated_content i width ∷ []) }
 {
-    let name = numbered(alloc, "k", i)?;
+    let name = name_of(alloc, Label::Numbered("k", i))?;
     let value = gated(alloc, i, width)?;
     add_assign(alloc, items, name, value)
 }
 
 /// Adds those of all contents.
-pub fn add_gated_contents(
-    alloc: Global,
-    items: &mut Items<Item>,
-    widths: &[u8],
-) -> Result<(), Memory>
+fn add_all_gated(alloc: Global, items: &mut Items<Item>, widths: &[u8]) -> Result<(), Memory>
     ensures { OnOk result (map plain_item items.new ≡ map plain_item items.old ++ pieces.each pieces.gated_content 0 widths.now) }
 {
     for (i, width) in widths.iter().enumerate() {
-        add_gated_content(alloc, items, i, u32::from(*width))?;
+        add_gated(alloc, items, i, u32::from(*width))?;
     }
     Ok(())
 }
 
-/// Adds a wire whose name has two numbers.
-fn add_wire_numbered_twice(
+/// Adds a wire for each of these widths.
+fn add_wires(
     alloc: Global,
     items: &mut Items<Item>,
-    base: &str,
-    n: usize,
-    i: usize,
-    width: u32,
-) -> Result<(), Memory>
-    ensures { OnOk result (map plain_item items.new
-        ≡ map plain_item items.old ++ pieces.wire (pieces.numbered_twice base.now n i) width ∷ []) }
-{
-    let name = numbered_twice(alloc, base, n, i)?;
-    add_wire(alloc, items, name, width)
-}
-
-/// Adds a wire for each content of channel n.
-fn add_each_wire(
-    alloc: Global,
-    items: &mut Items<Item>,
-    base: &str,
-    n: usize,
+    label: Label,
     widths: &[u8],
 ) -> Result<(), Memory>
     ensures { OnOk result (map plain_item items.new ≡ map plain_item items.old
-        ++ pieces.each (λ i w. pieces.wire (pieces.numbered_twice base.now n i) w) 0 widths.now) }
+        ++ pieces.each (λ i w. pieces.wire (text_at label.entry i) w) 0 widths.now) }
 {
     for (i, width) in widths.iter().enumerate() {
-        add_wire_numbered_twice(alloc, items, base, n, i, u32::from(*width))?;
+        add_wire(alloc, items, label.at(i), u32::from(*width))?;
     }
     Ok(())
 }
 
-/// Adds the wires of channel n's gated contents, which an inward channel has.
-pub fn add_content_wires(
-    alloc: Global,
-    items: &mut Items<Item>,
-    n: usize,
-    dir: Dir,
-    widths: &[u8],
-) -> Result<(), Memory>
-    ensures { OnOk result (map plain_item items.new ≡ map plain_item items.old ++ content_wires n dir widths.now) }
+/// Adds the items of a row.
+fn add_row(alloc: Global, items: &mut Items<Item>, row: ItemRow) -> Result<(), Memory>
+    ensures { OnOk result (map plain_item items.new ≡ map plain_item items.old ++ items_of (row.entry ∷ [])) }
 {
-    match dir {
-        Dir::Inward => add_each_wire(alloc, items, "k_", n, widths),
-        Dir::Outward => Ok(()),
+    match row {
+        ItemRow::Wire(label) => add_wire(alloc, items, label, 1),
+        ItemRow::Wires(label, widths) => add_wires(alloc, items, label, widths),
+        ItemRow::Reg(name) => add_reg(alloc, items, Label::Plain(name), 1),
+        ItemRow::Both(name, left, right) => add_and(alloc, items, name, left, None, right),
+        ItemRow::Without(name, left, right) => add_and(alloc, items, name, left, NOT, right),
+        ItemRow::Next(name, left, right) => add_next(alloc, items, name, left, right),
+        ItemRow::Gated(widths) => add_all_gated(alloc, items, widths),
     }
+}
+
+/// Adds the items of these rows.
+pub fn add_rows(alloc: Global, items: &mut Items<Item>, rows: &[ItemRow]) -> Result<(), Memory>
+    ensures { OnOk result (map plain_item items.new ≡ map plain_item items.old ++ items_of rows.now) }
+{
+    for row in rows {
+        add_row(alloc, items, *row)?;
+    }
+    Ok(())
 }

@@ -3,12 +3,14 @@
 ghost use Rattle.std.specs.Prelude.{◌≡◌, ◌++◌, [], ◌∷◌, OnOk, map};
 ghost use Rattle.vlog_tree.specs.Plain.{plain_port};
 ghost use Rattle.shim_trees.specs.Pieces as pieces;
+ghost use Rattle.shim_gen.specs.Labels.{text, text_at};
+ghost use Rattle.shim_gen.specs.Rows.{ports_of};
 
 use crate::exprs::{ident, range_of};
-use crate::names::{named, numbered, numbered_twice};
+use crate::names::{Label, name_of};
 use std::alloc::Global;
 use trace_model::Dir;
-use vidi_bits::{Memory, Name};
+use vidi_bits::Memory;
 use vlog_tree::{Direction, Port, PortHead, Ports};
 
 /// `input`
@@ -16,6 +18,17 @@ pub const INPUT: Direction = Direction::Input { wire: false };
 
 /// `output`
 pub const OUTPUT: Direction = Direction::Output { kind: None };
+
+/// Ports that stand beside each other.
+#[derive(Clone, Copy)]
+pub enum PortRow<'a> {
+    /// One of one bit.
+    One(Direction, Label<'a>),
+    /// One for each of these widths, numbered from 0.
+    Each(Direction, Label<'a>, &'a [u8]),
+    /// So many of this width, numbered from 0.
+    Upto(Direction, Label<'a>, usize, u32),
+}
 
 /// The direction, on a top, of a channel's valid and contents.
 pub fn source_side(dir: Dir) -> Direction
@@ -42,11 +55,12 @@ pub fn add_port(
     alloc: Global,
     ports: &mut Ports,
     direction: Direction,
-    name: Name,
+    label: Label,
     width: u32,
 ) -> Result<(), Memory>
-    ensures { OnOk result (map plain_port ports.new ≡ map plain_port ports.old ++ pieces.port direction name width ∷ []) }
+    ensures { OnOk result (map plain_port ports.new ≡ map plain_port ports.old ++ pieces.port direction (text label.entry) width ∷ []) }
 {
+    let name = name_of(alloc, label)?;
     let range = range_of(alloc, width)?;
     ports.push(Port {
         head: Some(PortHead { direction, range }),
@@ -55,83 +69,60 @@ pub fn add_port(
     })
 }
 
-/// Adds a port of one bit.
-pub fn add_bit(
+/// Adds a port for each of these widths.
+fn add_each(
     alloc: Global,
     ports: &mut Ports,
     direction: Direction,
-    name: &str,
-) -> Result<(), Memory>
-    ensures { OnOk result (map plain_port ports.new ≡ map plain_port ports.old ++ pieces.port direction name.now 1 ∷ []) }
-{
-    let name = named(alloc, name)?;
-    add_port(alloc, ports, direction, name, 1)
-}
-
-/// Adds a port whose name has a number.
-pub fn add_numbered(
-    alloc: Global,
-    ports: &mut Ports,
-    direction: Direction,
-    base: &str,
-    n: usize,
-    width: u32,
-) -> Result<(), Memory>
-    ensures { OnOk result (map plain_port ports.new
-        ≡ map plain_port ports.old ++ pieces.port direction (pieces.numbered base.now n) width ∷ []) }
-{
-    let name = numbered(alloc, base, n)?;
-    add_port(alloc, ports, direction, name, width)
-}
-
-/// Adds a port whose name has two numbers.
-pub fn add_numbered_twice(
-    alloc: Global,
-    ports: &mut Ports,
-    direction: Direction,
-    base: &str,
-    n: usize,
-    i: usize,
-    width: u32,
-) -> Result<(), Memory>
-    ensures { OnOk result (map plain_port ports.new
-        ≡ map plain_port ports.old ++ pieces.port direction (pieces.numbered_twice base.now n i) width ∷ []) }
-{
-    let name = numbered_twice(alloc, base, n, i)?;
-    add_port(alloc, ports, direction, name, width)
-}
-
-/// Adds a port for each content, numbered from 0.
-pub fn add_contents(
-    alloc: Global,
-    ports: &mut Ports,
-    direction: Direction,
-    base: &str,
+    label: Label,
     widths: &[u8],
 ) -> Result<(), Memory>
     ensures { OnOk result (map plain_port ports.new ≡ map plain_port ports.old
-        ++ pieces.each (λ i w. pieces.port direction (pieces.numbered base.now i) w) 0 widths.now) }
+        ++ pieces.each (λ i w. pieces.port direction (text_at label.entry i) w) 0 widths.now) }
 {
     for (i, width) in widths.iter().enumerate() {
-        add_numbered(alloc, ports, direction, base, i, u32::from(*width))?;
+        add_port(alloc, ports, direction, label.at(i), u32::from(*width))?;
     }
     Ok(())
 }
 
-/// Adds a port for each content of channel n, numbered from 0.
-pub fn add_channel_contents(
+/// Adds `count` ports of `width` bits.
+fn add_upto(
     alloc: Global,
     ports: &mut Ports,
     direction: Direction,
-    base: &str,
-    n: usize,
-    widths: &[u8],
+    label: Label,
+    count: usize,
+    width: u32,
 ) -> Result<(), Memory>
     ensures { OnOk result (map plain_port ports.new ≡ map plain_port ports.old
-        ++ pieces.each (λ i w. pieces.port direction (pieces.numbered_twice base.now n i) w) 0 widths.now) }
+        ++ pieces.upto (λ j. pieces.port direction (text_at label.entry j) width) 0 count) }
 {
-    for (i, width) in widths.iter().enumerate() {
-        add_numbered_twice(alloc, ports, direction, base, n, i, u32::from(*width))?;
+    for j in 0..count {
+        add_port(alloc, ports, direction, label.at(j), width)?;
+    }
+    Ok(())
+}
+
+/// Adds the ports of a row.
+fn add_row(alloc: Global, ports: &mut Ports, row: PortRow) -> Result<(), Memory>
+    ensures { OnOk result (map plain_port ports.new ≡ map plain_port ports.old ++ ports_of (row.entry ∷ [])) }
+{
+    match row {
+        PortRow::One(direction, label) => add_port(alloc, ports, direction, label, 1),
+        PortRow::Each(direction, label, widths) => add_each(alloc, ports, direction, label, widths),
+        PortRow::Upto(direction, label, count, width) => {
+            add_upto(alloc, ports, direction, label, count, width)
+        }
+    }
+}
+
+/// Adds the ports of these rows.
+pub fn add_rows(alloc: Global, ports: &mut Ports, rows: &[PortRow]) -> Result<(), Memory>
+    ensures { OnOk result (map plain_port ports.new ≡ map plain_port ports.old ++ ports_of rows.now) }
+{
+    for row in rows {
+        add_row(alloc, ports, *row)?;
     }
     Ok(())
 }

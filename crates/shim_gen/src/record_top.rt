@@ -5,13 +5,11 @@ ghost use Rattle.vlog_tree.specs.Plain.{plain_port, plain_conn, plain_item, plai
 ghost use Rattle.shim_trees.specs.Pieces as pieces;
 ghost use Rattle.shim_trees.specs.RecordTop as spec;
 
-use crate::conns::{add_conn, add_conn_of, add_contents, add_unread, add_unread_contents};
+use crate::conns::{self, ConnRow};
 use crate::design::{add_design, add_tied_ports};
-use crate::items::{add_content_wires, add_instance, add_wire};
-use crate::names::{named, numbered};
-use crate::ports::{
-    INPUT, OUTPUT, add_bit, add_channel_contents, add_numbered, sink_side, source_side,
-};
+use crate::items::{self, ItemRow, add_instance};
+use crate::names::{Label, name_of};
+use crate::ports::{self, INPUT, OUTPUT, PortRow, sink_side, source_side};
 use chan_map::Map;
 use std::alloc::Global;
 use trace_model::{Channel, Dir};
@@ -29,12 +27,15 @@ fn add_channel_ports(
 {
     let source = source_side(channel.dir);
     let sink = sink_side(channel.dir);
-    add_numbered(alloc, ports, INPUT, "g_", n, 1)?;
-    add_numbered(alloc, ports, source, "v_", n, 1)?;
-    add_numbered(alloc, ports, sink, "r_", n, 1)?;
-    add_channel_contents(alloc, ports, source, "d_", n, channel.widths.as_slice())?;
-    add_numbered(alloc, ports, OUTPUT, "start_", n, 1)?;
-    add_numbered(alloc, ports, OUTPUT, "stop_", n, 1)
+    let rows = [
+        PortRow::One(INPUT, Label::Numbered("g_", n)),
+        PortRow::One(source, Label::Numbered("v_", n)),
+        PortRow::One(sink, Label::Numbered("r_", n)),
+        PortRow::Each(source, Label::Numbered("d_", n), channel.widths.as_slice()),
+        PortRow::One(OUTPUT, Label::Numbered("start_", n)),
+        PortRow::One(OUTPUT, Label::Numbered("stop_", n)),
+    ];
+    ports::add_rows(alloc, ports, &rows)
 }
 
 /// Adds the ports of all channels.
@@ -61,9 +62,12 @@ fn add_channel_wires(
 ) -> Result<(), Memory>
     ensures { OnOk result (map plain_item items.new ≡ map plain_item items.old ++ spec.record_wires n channel.now) }
 {
-    let gated = numbered(alloc, "w_", n)?;
-    add_wire(alloc, items, gated, 1)?;
-    add_content_wires(alloc, items, n, channel.dir, channel.widths.as_slice())
+    let gated = ItemRow::Wire(Label::Numbered("w_", n));
+    let contents = ItemRow::Wires(Label::Numbered("k_", n), channel.widths.as_slice());
+    match channel.dir {
+        Dir::Inward => items::add_rows(alloc, items, &[gated, contents]),
+        Dir::Outward => items::add_rows(alloc, items, &[gated]),
+    }
 }
 
 /// Adds the wires of all channels.
@@ -81,43 +85,7 @@ fn add_all_channel_wires(
     Ok(())
 }
 
-/// Adds the connection of the ready that the source sees.
-fn add_source_ready(alloc: Global, conns: &mut Conns, n: usize, dir: Dir) -> Result<(), Memory>
-    ensures { OnOk result (map plain_conn conns.new ≡ map plain_conn conns.old ++ spec.source_ready n dir ∷ []) }
-{
-    match dir {
-        Dir::Inward => add_unread(alloc, conns, "sr"),
-        Dir::Outward => add_conn_of(alloc, conns, "sr", "w_", n),
-    }
-}
-
-/// Adds the connection of the valid that the sink sees.
-fn add_sink_valid(alloc: Global, conns: &mut Conns, n: usize, dir: Dir) -> Result<(), Memory>
-    ensures { OnOk result (map plain_conn conns.new ≡ map plain_conn conns.old ++ spec.sink_valid n dir ∷ []) }
-{
-    match dir {
-        Dir::Inward => add_conn_of(alloc, conns, "kv", "w_", n),
-        Dir::Outward => add_unread(alloc, conns, "kv"),
-    }
-}
-
-/// Adds the connections of the contents that the sink sees.
-fn add_sink_contents(
-    alloc: Global,
-    conns: &mut Conns,
-    n: usize,
-    dir: Dir,
-    widths: &[u8],
-) -> Result<(), Memory>
-    ensures { OnOk result (map plain_conn conns.new ≡ map plain_conn conns.old ++ pieces.each (spec.sink_content n dir) 0 widths.now) }
-{
-    match dir {
-        Dir::Inward => add_contents(alloc, conns, "k", "k_", n, widths),
-        Dir::Outward => add_unread_contents(alloc, conns, "k", widths),
-    }
-}
-
-/// Adds the connections of the gate and of the source's side.
+/// Adds the connections of the clock, the gate and the source's side.
 fn add_source_conns(
     alloc: Global,
     conns: &mut Conns,
@@ -127,11 +95,20 @@ fn add_source_conns(
 ) -> Result<(), Memory>
     ensures { OnOk result (map plain_conn conns.new ≡ map plain_conn conns.old ++ spec.source_conns n dir widths.now) }
 {
-    add_conn(alloc, conns, "clk", "clk")?;
-    add_conn_of(alloc, conns, "g", "g_", n)?;
-    add_conn_of(alloc, conns, "sv", "v_", n)?;
-    add_source_ready(alloc, conns, n, dir)?;
-    add_contents(alloc, conns, "s", "d_", n, widths)
+    let clock = ConnRow::One(Label::Plain("clk"), Some(Label::Plain("clk")));
+    let gate = ConnRow::One(Label::Plain("g"), Some(Label::Numbered("g_", n)));
+    let valid = ConnRow::One(Label::Plain("sv"), Some(Label::Numbered("v_", n)));
+    let given = ConnRow::Each(Label::Plain("s"), Some(Label::Numbered("d_", n)), widths);
+    match dir {
+        Dir::Inward => {
+            let ready = ConnRow::One(Label::Plain("sr"), None);
+            conns::add_rows(alloc, conns, &[clock, gate, valid, ready, given])
+        }
+        Dir::Outward => {
+            let ready = ConnRow::One(Label::Plain("sr"), Some(Label::Numbered("w_", n)));
+            conns::add_rows(alloc, conns, &[clock, gate, valid, ready, given])
+        }
+    }
 }
 
 /// Adds the connections of the sink's side, and of start and completion.
@@ -144,11 +121,23 @@ fn add_sink_conns(
 ) -> Result<(), Memory>
     ensures { OnOk result (map plain_conn conns.new ≡ map plain_conn conns.old ++ spec.sink_conns n dir widths.now) }
 {
-    add_sink_valid(alloc, conns, n, dir)?;
-    add_conn_of(alloc, conns, "kr", "r_", n)?;
-    add_sink_contents(alloc, conns, n, dir, widths)?;
-    add_conn_of(alloc, conns, "start", "start_", n)?;
-    add_conn_of(alloc, conns, "stop", "stop_", n)
+    let ready = ConnRow::One(Label::Plain("kr"), Some(Label::Numbered("r_", n)));
+    let start = ConnRow::One(Label::Plain("start"), Some(Label::Numbered("start_", n)));
+    let stop = ConnRow::One(Label::Plain("stop"), Some(Label::Numbered("stop_", n)));
+    match dir {
+        Dir::Inward => {
+            let valid = ConnRow::One(Label::Plain("kv"), Some(Label::Numbered("w_", n)));
+            let shown = ConnRow::Each(Label::Plain("k"), Some(Label::Numbered("k_", n)), widths);
+            let rows = [valid, ready, shown, start, stop];
+            conns::add_rows(alloc, conns, &rows)
+        }
+        Dir::Outward => {
+            let valid = ConnRow::One(Label::Plain("kv"), None);
+            let shown = ConnRow::Each(Label::Plain("k"), None, widths);
+            let rows = [valid, ready, shown, start, stop];
+            conns::add_rows(alloc, conns, &rows)
+        }
+    }
 }
 
 /// Adds the monitor of channel n.
@@ -160,8 +149,8 @@ fn add_monitor(
 ) -> Result<(), Memory>
     ensures { OnOk result (map plain_item items.new ≡ map plain_item items.old ++ spec.monitor_item n channel.now ∷ []) }
 {
-    let kind = numbered(alloc, "vidi_m_", n)?;
-    let name = numbered(alloc, "m_", n)?;
+    let kind = name_of(alloc, Label::Numbered("vidi_m_", n))?;
+    let name = name_of(alloc, Label::Numbered("m_", n))?;
     let widths = channel.widths.as_slice();
     let mut conns = Items::new(alloc);
     add_source_conns(alloc, &mut conns, n, channel.dir, widths)?;
@@ -189,7 +178,7 @@ fn add_top_ports(
     ensures { OnOk result (map plain_port ports.new
         ≡ map plain_port ports.old ++ (spec.record_top pins.now (map plain_port design.now)).ports) }
 {
-    add_bit(alloc, ports, INPUT, "clk")?;
+    ports::add_rows(alloc, ports, &[PortRow::One(INPUT, Label::Plain("clk"))])?;
     add_tied_ports(alloc, ports, pins, design)?;
     add_all_channel_ports(alloc, ports, pins.channels.as_slice())
 }
@@ -213,7 +202,7 @@ fn add_top_items(
 pub fn record_top(alloc: Global, pins: &Map, design: &[Port]) -> Result<Module, Memory>
     ensures { IfOk result (λ top. plain_module top ≡ spec.record_top pins.now (map plain_port design.now)) }
 {
-    let name = named(alloc, "vidi_record_top")?;
+    let name = name_of(alloc, Label::Plain("vidi_record_top"))?;
     let mut ports = Items::new(alloc);
     add_top_ports(alloc, &mut ports, pins, design)?;
     let mut items = Items::new(alloc);

@@ -1,66 +1,21 @@
 //! The top that replays.
 
-ghost use Rattle.std.specs.Prelude.{◌≡◌, ◌++◌, [], ◌∷◌, IfOk, OnOk, map, length, codes};
+ghost use Rattle.std.specs.Prelude.{◌≡◌, ◌++◌, [], ◌∷◌, IfOk, OnOk, map, length};
 ghost use Rattle.vlog_tree.specs.Plain.{plain_port, plain_conn, plain_item, plain_module};
 ghost use Rattle.shim_trees.specs.Pieces as pieces;
 ghost use Rattle.shim_trees.specs.ReplayTop as spec;
 
-use crate::conns::{add_conn, add_conn_of, add_contents, add_joined};
+use crate::conns::{self, ConnRow};
 use crate::design::{add_design, add_tied_ports};
-use crate::items::{add_content_wires, add_instance};
-use crate::names::{named, numbered, numbered_twice};
-use crate::ports::{
-    INPUT, OUTPUT, add_bit, add_channel_contents, add_numbered, add_numbered_twice,
-};
+use crate::items::{self, ItemRow, add_instance};
+use crate::names::{Label, name_of};
+use crate::ports::{self, INPUT, OUTPUT, PortRow};
 use crate::replayer::COUNTER_WIDTH;
 use chan_map::Map;
 use std::alloc::Global;
 use trace_model::{Channel, Dir};
 use vidi_bits::{Items, Memory};
 use vlog_tree::{Conns, Item, Module, Port, Ports};
-
-/// Adds the inputs for how many completions of each channel channel n waits.
-fn add_needs(alloc: Global, ports: &mut Ports, n: usize, count: usize) -> Result<(), Memory>
-    ensures { OnOk result (map plain_port ports.new ≡ map plain_port ports.old
-        ++ pieces.upto (λ j. pieces.input (pieces.numbered_twice (codes "n_") n j) 32) 0 count) }
-{
-    for j in 0..count {
-        add_numbered_twice(alloc, ports, INPUT, "n_", n, j, COUNTER_WIDTH)?;
-    }
-    Ok(())
-}
-
-/// Adds the inputs for the contents that an inward channel is fed.
-fn add_fed(
-    alloc: Global,
-    ports: &mut Ports,
-    n: usize,
-    dir: Dir,
-    widths: &[u8],
-) -> Result<(), Memory>
-    ensures { OnOk result (map plain_port ports.new ≡ map plain_port ports.old ++ spec.fed_ports n dir widths.now) }
-{
-    match dir {
-        Dir::Inward => add_channel_contents(alloc, ports, INPUT, "s_", n, widths),
-        Dir::Outward => Ok(()),
-    }
-}
-
-/// Adds the outputs for the contents that an outward channel shows.
-fn add_shown(
-    alloc: Global,
-    ports: &mut Ports,
-    n: usize,
-    dir: Dir,
-    widths: &[u8],
-) -> Result<(), Memory>
-    ensures { OnOk result (map plain_port ports.new ≡ map plain_port ports.old ++ spec.shown_ports n dir widths.now) }
-{
-    match dir {
-        Dir::Inward => Ok(()),
-        Dir::Outward => add_channel_contents(alloc, ports, OUTPUT, "d_", n, widths),
-    }
-}
 
 /// Adds the ports of channel n of `count`.
 fn add_channel_ports(
@@ -73,13 +28,21 @@ fn add_channel_ports(
     ensures { OnOk result (map plain_port ports.new ≡ map plain_port ports.old ++ spec.replay_ports count n channel.now) }
 {
     let widths = channel.widths.as_slice();
-    add_numbered(alloc, ports, INPUT, "more_", n, 1)?;
-    add_needs(alloc, ports, n, count)?;
-    add_fed(alloc, ports, n, channel.dir, widths)?;
-    add_numbered(alloc, ports, OUTPUT, "v_", n, 1)?;
-    add_numbered(alloc, ports, OUTPUT, "r_", n, 1)?;
-    add_numbered(alloc, ports, OUTPUT, "pop_", n, 1)?;
-    add_shown(alloc, ports, n, channel.dir, widths)
+    let more = PortRow::One(INPUT, Label::Numbered("more_", n));
+    let needs = PortRow::Upto(INPUT, Label::Numbered("n_", n), count, COUNTER_WIDTH);
+    let valid = PortRow::One(OUTPUT, Label::Numbered("v_", n));
+    let ready = PortRow::One(OUTPUT, Label::Numbered("r_", n));
+    let pop = PortRow::One(OUTPUT, Label::Numbered("pop_", n));
+    match channel.dir {
+        Dir::Inward => {
+            let fed = PortRow::Each(INPUT, Label::Numbered("s_", n), widths);
+            ports::add_rows(alloc, ports, &[more, needs, fed, valid, ready, pop])
+        }
+        Dir::Outward => {
+            let shown = PortRow::Each(OUTPUT, Label::Numbered("d_", n), widths);
+            ports::add_rows(alloc, ports, &[more, needs, valid, ready, pop, shown])
+        }
+    }
 }
 
 /// Adds the ports of all channels.
@@ -98,6 +61,24 @@ fn add_all_channel_ports(
     Ok(())
 }
 
+/// Adds the wires of channel n.
+fn add_channel_wires(
+    alloc: Global,
+    items: &mut Items<Item>,
+    n: usize,
+    channel: &Channel,
+) -> Result<(), Memory>
+    ensures { OnOk result (map plain_item items.new ≡ map plain_item items.old ++ spec.replay_wires n channel.now) }
+{
+    match channel.dir {
+        Dir::Inward => {
+            let contents = ItemRow::Wires(Label::Numbered("k_", n), channel.widths.as_slice());
+            items::add_rows(alloc, items, &[contents])
+        }
+        Dir::Outward => Ok(()),
+    }
+}
+
 /// Adds the wires of all channels.
 fn add_all_channel_wires(
     alloc: Global,
@@ -108,49 +89,7 @@ fn add_all_channel_wires(
         ≡ map plain_item items.old ++ pieces.each_some spec.replay_wires 0 channels.now) }
 {
     for (n, channel) in channels.iter().enumerate() {
-        add_content_wires(alloc, items, n, channel.dir, channel.widths.as_slice())?;
-    }
-    Ok(())
-}
-
-/// Adds the connection of what is waited for of channel j.
-fn add_need_conn(alloc: Global, conns: &mut Conns, n: usize, j: usize) -> Result<(), Memory>
-    ensures { OnOk result (map plain_conn conns.new ≡ map plain_conn conns.old
-        ++ pieces.conn (pieces.numbered (codes "n") j) (pieces.numbered_twice (codes "n_") n j) ∷ []) }
-{
-    let port = numbered(alloc, "n", j)?;
-    let name = numbered_twice(alloc, "n_", n, j)?;
-    add_joined(conns, port, name)
-}
-
-/// Adds those of all channels.
-fn add_need_conns(alloc: Global, conns: &mut Conns, n: usize, count: usize) -> Result<(), Memory>
-    ensures { OnOk result (map plain_conn conns.new ≡ map plain_conn conns.old
-        ++ pieces.upto (λ j. pieces.conn (pieces.numbered (codes "n") j) (pieces.numbered_twice (codes "n_") n j)) 0 count) }
-{
-    for j in 0..count {
-        add_need_conn(alloc, conns, n, j)?;
-    }
-    Ok(())
-}
-
-/// Adds the connection of the completions of channel j.
-fn add_pop_conn(alloc: Global, conns: &mut Conns, j: usize) -> Result<(), Memory>
-    ensures { OnOk result (map plain_conn conns.new ≡ map plain_conn conns.old
-        ++ pieces.conn (pieces.numbered (codes "d") j) (pieces.numbered (codes "pop_") j) ∷ []) }
-{
-    let port = numbered(alloc, "d", j)?;
-    let name = numbered(alloc, "pop_", j)?;
-    add_joined(conns, port, name)
-}
-
-/// Adds those of all channels.
-fn add_pop_conns(alloc: Global, conns: &mut Conns, count: usize) -> Result<(), Memory>
-    ensures { OnOk result (map plain_conn conns.new ≡ map plain_conn conns.old
-        ++ pieces.upto (λ j. pieces.conn (pieces.numbered (codes "d") j) (pieces.numbered (codes "pop_") j)) 0 count) }
-{
-    for j in 0..count {
-        add_pop_conn(alloc, conns, j)?;
+        add_channel_wires(alloc, items, n, channel)?;
     }
     Ok(())
 }
@@ -165,16 +104,24 @@ fn add_side_conns(
 ) -> Result<(), Memory>
     ensures { OnOk result (map plain_conn conns.new ≡ map plain_conn conns.old ++ spec.side_conns n dir widths.now) }
 {
+    let valid = Some(Label::Numbered("v_", n));
+    let ready = Some(Label::Numbered("r_", n));
     match dir {
         Dir::Inward => {
-            add_contents(alloc, conns, "s", "s_", n, widths)?;
-            add_conn_of(alloc, conns, "kv", "v_", n)?;
-            add_conn_of(alloc, conns, "kr", "r_", n)?;
-            add_contents(alloc, conns, "k", "k_", n, widths)
+            let rows = [
+                ConnRow::Each(Label::Plain("s"), Some(Label::Numbered("s_", n)), widths),
+                ConnRow::One(Label::Plain("kv"), valid),
+                ConnRow::One(Label::Plain("kr"), ready),
+                ConnRow::Each(Label::Plain("k"), Some(Label::Numbered("k_", n)), widths),
+            ];
+            conns::add_rows(alloc, conns, &rows)
         }
         Dir::Outward => {
-            add_conn_of(alloc, conns, "sv", "v_", n)?;
-            add_conn_of(alloc, conns, "sr", "r_", n)
+            let rows = [
+                ConnRow::One(Label::Plain("sv"), valid),
+                ConnRow::One(Label::Plain("sr"), ready),
+            ];
+            conns::add_rows(alloc, conns, &rows)
         }
     }
 }
@@ -190,12 +137,16 @@ fn add_replayer_conns(
 ) -> Result<(), Memory>
     ensures { OnOk result (map plain_conn conns.new ≡ map plain_conn conns.old ++ spec.replayer_conns count n dir widths.now) }
 {
-    add_conn(alloc, conns, "clk", "clk")?;
-    add_conn_of(alloc, conns, "more", "more_", n)?;
-    add_need_conns(alloc, conns, n, count)?;
-    add_pop_conns(alloc, conns, count)?;
+    let rows = [
+        ConnRow::One(Label::Plain("clk"), Some(Label::Plain("clk"))),
+        ConnRow::One(Label::Plain("more"), Some(Label::Numbered("more_", n))),
+        ConnRow::Upto(Label::Plain("n"), Some(Label::Numbered("n_", n)), count),
+        ConnRow::Upto(Label::Plain("d"), Some(Label::Plain("pop_")), count),
+    ];
+    conns::add_rows(alloc, conns, &rows)?;
     add_side_conns(alloc, conns, n, dir, widths)?;
-    add_conn_of(alloc, conns, "pop", "pop_", n)
+    let pop = ConnRow::One(Label::Plain("pop"), Some(Label::Numbered("pop_", n)));
+    conns::add_rows(alloc, conns, &[pop])
 }
 
 /// Adds the replayer of channel n of `count`.
@@ -208,8 +159,8 @@ fn add_replayer(
 ) -> Result<(), Memory>
     ensures { OnOk result (map plain_item items.new ≡ map plain_item items.old ++ spec.replayer_item count n channel.now ∷ []) }
 {
-    let kind = numbered(alloc, "vidi_q_", n)?;
-    let name = numbered(alloc, "q_", n)?;
+    let kind = name_of(alloc, Label::Numbered("vidi_q_", n))?;
+    let name = name_of(alloc, Label::Numbered("q_", n))?;
     let mut conns = Items::new(alloc);
     add_replayer_conns(
         alloc,
@@ -244,7 +195,7 @@ fn add_top_ports(
     ensures { OnOk result (map plain_port ports.new
         ≡ map plain_port ports.old ++ (spec.replay_top pins.now (map plain_port design.now)).ports) }
 {
-    add_bit(alloc, ports, INPUT, "clk")?;
+    ports::add_rows(alloc, ports, &[PortRow::One(INPUT, Label::Plain("clk"))])?;
     add_tied_ports(alloc, ports, pins, design)?;
     add_all_channel_ports(alloc, ports, pins.channels.as_slice())
 }
@@ -268,7 +219,7 @@ fn add_top_items(
 pub fn replay_top(alloc: Global, pins: &Map, design: &[Port]) -> Result<Module, Memory>
     ensures { IfOk result (λ top. plain_module top ≡ spec.replay_top pins.now (map plain_port design.now)) }
 {
-    let name = named(alloc, "vidi_replay_top")?;
+    let name = name_of(alloc, Label::Plain("vidi_replay_top"))?;
     let mut ports = Items::new(alloc);
     add_top_ports(alloc, &mut ports, pins, design)?;
     let mut items = Items::new(alloc);

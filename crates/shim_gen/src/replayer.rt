@@ -3,15 +3,15 @@
 ghost use Rattle.std.specs.Prelude.{◌≡◌, ◌<◌, ◌++◌, [], ◌∷◌, Some, IfOk, OnOk, map, length, codes, slice_get};
 ghost use Rattle.trace_model.specs.declared.channel.Channel.{Channel as ChannelRecord};
 ghost use Rattle.vlog_tree.specs.Plain.{plain_expr, plain_stmt, plain_port, plain_item, plain_module};
-ghost use Rattle.vlog_tree.specs.Tree.{BinaryExpr, BeginStmt};
+ghost use Rattle.vlog_tree.specs.Tree.{BeginStmt};
 ghost use Rattle.shim_trees.specs.Pieces as pieces;
 ghost use Rattle.shim_trees.specs.Replayer as spec;
 ghost use Rattle.shim_gen.specs.Counting.{counted};
 
-use crate::exprs::{binary, net};
-use crate::items::{add_assign, add_at_clock, add_both, add_gated_contents, add_reg, next};
-use crate::names::{named, numbered};
-use crate::ports::{INPUT, OUTPUT, add_bit, add_contents, add_numbered};
+use crate::exprs::{net, pair};
+use crate::items::{self, ItemRow, add_assign, add_at_clock, add_reg, next};
+use crate::names::{Label, name_of};
+use crate::ports::{self, INPUT, OUTPUT, PortRow};
 use std::alloc::Global;
 use trace_model::{Channel, Channels, Dir};
 use vidi_bits::{Items, Memory};
@@ -20,23 +20,6 @@ use vlog_tree::{BinaryOp, Expr, Item, Module, Operand, Ports, Stmts, Unary, begi
 /// The width in bits of a replayer's counters, and of what they are compared with.
 pub(crate) const COUNTER_WIDTH: u32 = 32;
 
-/// Adds `count` inputs of `width` bits, numbered from 0.
-fn add_inputs(
-    alloc: Global,
-    ports: &mut Ports,
-    base: &str,
-    count: usize,
-    width: u32,
-) -> Result<(), Memory>
-    ensures { OnOk result (map plain_port ports.new ≡ map plain_port ports.old
-        ++ pieces.upto (λ j. pieces.input (pieces.numbered base.now j) width) 0 count) }
-{
-    for j in 0..count {
-        add_numbered(alloc, ports, INPUT, base, j, width)?;
-    }
-    Ok(())
-}
-
 /// Adds the ports of the side that the replayer stands for: the sink's of an outward channel, else both, since the source's contents go
 /// through it.
 fn add_side(alloc: Global, ports: &mut Ports, dir: Dir, widths: &[u8]) -> Result<(), Memory>
@@ -44,14 +27,20 @@ fn add_side(alloc: Global, ports: &mut Ports, dir: Dir, widths: &[u8]) -> Result
 {
     match dir {
         Dir::Inward => {
-            add_contents(alloc, ports, INPUT, "s", widths)?;
-            add_bit(alloc, ports, OUTPUT, "kv")?;
-            add_bit(alloc, ports, INPUT, "kr")?;
-            add_contents(alloc, ports, OUTPUT, "k", widths)
+            let rows = [
+                PortRow::Each(INPUT, Label::Plain("s"), widths),
+                PortRow::One(OUTPUT, Label::Plain("kv")),
+                PortRow::One(INPUT, Label::Plain("kr")),
+                PortRow::Each(OUTPUT, Label::Plain("k"), widths),
+            ];
+            ports::add_rows(alloc, ports, &rows)
         }
         Dir::Outward => {
-            add_bit(alloc, ports, INPUT, "sv")?;
-            add_bit(alloc, ports, OUTPUT, "sr")
+            let rows = [
+                PortRow::One(INPUT, Label::Plain("sv")),
+                PortRow::One(OUTPUT, Label::Plain("sr")),
+            ];
+            ports::add_rows(alloc, ports, &rows)
         }
     }
 }
@@ -66,29 +55,24 @@ fn add_ports(
 ) -> Result<(), Memory>
     ensures { OnOk result (map plain_port ports.new ≡ map plain_port ports.old ++ spec.replayer_ports count dir widths.now) }
 {
-    add_bit(alloc, ports, INPUT, "clk")?;
-    add_bit(alloc, ports, INPUT, "more")?;
-    add_inputs(alloc, ports, "n", count, COUNTER_WIDTH)?;
-    add_inputs(alloc, ports, "d", count, 1)?;
+    let rows = [
+        PortRow::One(INPUT, Label::Plain("clk")),
+        PortRow::One(INPUT, Label::Plain("more")),
+        PortRow::Upto(INPUT, Label::Plain("n"), count, COUNTER_WIDTH),
+        PortRow::Upto(INPUT, Label::Plain("d"), count, 1),
+    ];
+    ports::add_rows(alloc, ports, &rows)?;
     add_side(alloc, ports, dir, widths)?;
-    add_bit(alloc, ports, OUTPUT, "pop")
-}
-
-/// `left0 op right0`, where 0 is `j`.
-fn compared(alloc: Global, left: &str, op: BinaryOp, right: &str, j: usize) -> Result<Expr, Memory>
-    ensures { IfOk result (λ e. plain_expr e
-        ≡ BinaryExpr (pieces.net (pieces.numbered left.now j)) op (pieces.net (pieces.numbered right.now j))) }
-{
-    let right = numbered(alloc, right, j)?;
-    let left = Box::new(alloc, net(numbered(alloc, left, j)?))?;
-    binary(alloc, left, op, net(right))
+    ports::add_rows(alloc, ports, &[PortRow::One(OUTPUT, Label::Plain("pop"))])
 }
 
 /// `( c0 >= n0 )`, where 0 is `j`.
 fn covers(alloc: Global, j: usize) -> Result<Expr, Memory>
     ensures { IfOk result (λ e. plain_expr e ≡ spec.covers j) }
 {
-    let compared = compared(alloc, "c", BinaryOp::GreaterOrEqual, "n", j)?;
+    let counter = Label::Numbered("c", j);
+    let need = Label::Numbered("n", j);
+    let compared = pair(alloc, counter, BinaryOp::GreaterOrEqual, None, need)?;
     let inner = Box::new(alloc, compared)?;
     Ok(Expr::Unary(Unary {
         sign: None,
@@ -102,37 +86,33 @@ fn with_cover(alloc: Global, e: Expr, j: usize) -> Result<Expr, Memory>
 {
     let e = Box::new(alloc, e)?;
     let covers = covers(alloc, j)?;
-    binary(alloc, e, BinaryOp::And, covers)
+    let right = Box::new(alloc, covers)?;
+    Ok(Expr::Binary {
+        left: e,
+        op: BinaryOp::And,
+        right,
+    })
 }
 
 /// `more & ( c0 >= n0 ) & ( c1 >= n1 ) ..`, over `count` counters.
 fn covering(alloc: Global, count: usize) -> Result<Expr, Memory>
     ensures { IfOk result (λ e. plain_expr e ≡ spec.covering 0 count (pieces.net (codes "more"))) }
 {
-    let name = named(alloc, "more")?;
-    let mut covering = net(name);
+    let name = name_of(alloc, Label::Plain("more"))?;
+    let mut covering = net(None, name);
     for j in 0..count {
         covering = with_cover(alloc, covering, j)?;
     }
     Ok(covering)
 }
 
-/// Adds `reg [ 31 : 0 ] c0 ;`, where 0 is `j`.
-fn add_counter(alloc: Global, items: &mut Items<Item>, j: usize) -> Result<(), Memory>
-    ensures { OnOk result (map plain_item items.new
-        ≡ map plain_item items.old ++ pieces.reg (pieces.numbered (codes "c") j) 32 ∷ []) }
-{
-    let name = numbered(alloc, "c", j)?;
-    add_reg(alloc, items, name, COUNTER_WIDTH)
-}
-
-/// Adds the counters.
+/// Adds the counters: `reg [ 31 : 0 ] c0 ; reg [ 31 : 0 ] c1 ; ..`
 fn add_counters(alloc: Global, items: &mut Items<Item>, count: usize) -> Result<(), Memory>
     ensures { OnOk result (map plain_item items.new ≡ map plain_item items.old
         ++ pieces.upto (λ j. pieces.reg (pieces.numbered (codes "c") j) 32) 0 count) }
 {
     for j in 0..count {
-        add_counter(alloc, items, j)?;
+        add_reg(alloc, items, Label::Numbered("c", j), COUNTER_WIDTH)?;
     }
     Ok(())
 }
@@ -141,8 +121,15 @@ fn add_counters(alloc: Global, items: &mut Items<Item>, count: usize) -> Result<
 fn add_count(alloc: Global, stmts: &mut Stmts, j: usize) -> Result<(), Memory>
     ensures { OnOk result (map plain_stmt stmts.new ≡ map plain_stmt stmts.old ++ counted j ∷ []) }
 {
-    let name = numbered(alloc, "c", j)?;
-    let sum = compared(alloc, "c", BinaryOp::Plus, "d", j)?;
+    let counter = Label::Numbered("c", j);
+    let name = name_of(alloc, counter)?;
+    let sum = pair(
+        alloc,
+        counter,
+        BinaryOp::Plus,
+        None,
+        Label::Numbered("d", j),
+    )?;
     stmts.push(next(name, sum))
 }
 
@@ -171,7 +158,7 @@ fn add_offer(alloc: Global, items: &mut Items<Item>, name: &str, count: usize) -
     ensures { OnOk result (map plain_item items.new ≡ map plain_item items.old
         ++ pieces.assign name.now (spec.covering 0 count (pieces.net (codes "more"))) ∷ []) }
 {
-    let name = named(alloc, name)?;
+    let name = name_of(alloc, Label::Plain(name))?;
     let value = covering(alloc, count)?;
     add_assign(alloc, items, name, value)
 }
@@ -189,12 +176,12 @@ fn add_shown(
     match dir {
         Dir::Inward => {
             add_offer(alloc, items, "kv", count)?;
-            add_gated_contents(alloc, items, widths)?;
-            add_both(alloc, items, "pop", "kv", "kr")
+            let rows = [ItemRow::Gated(widths), ItemRow::Both("pop", "kv", "kr")];
+            items::add_rows(alloc, items, &rows)
         }
         Dir::Outward => {
             add_offer(alloc, items, "sr", count)?;
-            add_both(alloc, items, "pop", "sv", "sr")
+            items::add_rows(alloc, items, &[ItemRow::Both("pop", "sv", "sr")])
         }
     }
 }
@@ -224,7 +211,7 @@ pub fn replayer_of(
     ensures { IfOk result (λ tree. plain_module tree ≡ spec.replayer count n channel.now) }
 {
     let widths = channel.widths.as_slice();
-    let name = numbered(alloc, "vidi_q_", n)?;
+    let name = name_of(alloc, Label::Numbered("vidi_q_", n))?;
     let mut ports = Items::new(alloc);
     add_ports(alloc, &mut ports, count, channel.dir, widths)?;
     let mut items = Items::new(alloc);

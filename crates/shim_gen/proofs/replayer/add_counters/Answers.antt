@@ -8,5 +8,5 @@ use Rattle.shim_gen.proofs.replayer.add_counters.Goals as goal
 pub loop-j-preserved : goal.loop-j-preserved
 loop-j-preserved c =
     let f = λ (j : ℕ). reg (numbered (codes "c") j) 32 in
-    upto_pushed f (map plain_item c.loop-j.items) (map plain_item c.add_counter.new.items) (map plain_item c.args.items.now ++ upto f 0 c.args.count) c.loop-j.j c.args.count
-    c.loop-j-test.true c.in_ok-add_counter.ensures c.loop-j.invariant
+    upto_pushed f (map plain_item c.loop-j.items) (map plain_item c.add_reg.new.items) (map plain_item c.args.items.now ++ upto f 0 c.args.count) c.loop-j.j c.args.count
+    c.loop-j-test.true c.in_ok-add_reg.ensures c.loop-j.invariant
