@@ -5,44 +5,31 @@ ghost use Rattle.net_order.specs.Graph.{IsGraph};
 
 use net_order::{OrderError, sorted};
 use std::alloc::Global;
-use vidi_bits::{Items, Memory, Numbers};
+use vidi_bits::Items;
 
-/// A graph of four, in which each number reads the one listed, or none where that is 4.
-fn graph(alloc: Global, reads: [usize; 4]) -> Result<Items<Items<usize>>, Memory> {
-    let mut graph = Items::new(alloc);
-    for read in reads {
-        let mut row = Items::new(alloc);
-        if read < 4 {
-            row.push(read)?;
-        }
-        graph.push(row)?;
+// Adds a number that reads these. Answers, as all that adds here, whether memory was found.
+fn add_row(alloc: Global, graph: &mut Items<Items<usize>>, reads: &[usize]) -> bool {
+    match Vec::from_slice(alloc, reads) {
+        Ok(row) => graph.push(Items::from_vec(row)).is_ok(),
+        Err(_) => false,
     }
-    Ok(graph)
 }
 
-/// A graph in which each number reads the next one, and the last reads none.
-fn chain(alloc: Global, count: usize) -> Result<Items<Items<usize>>, Memory> {
-    let mut graph = Items::new(alloc);
+fn add_rows(alloc: Global, graph: &mut Items<Items<usize>>, rows: &[&[usize]]) -> bool {
+    let mut added = true;
+    for reads in rows {
+        added &= add_row(alloc, graph, reads);
+    }
+    added
+}
+
+// Each number reads the next one, and the last reads none.
+fn add_chain(alloc: Global, graph: &mut Items<Items<usize>>, count: usize) -> bool {
+    let mut added = true;
     for next in 1..count {
-        let mut row = Items::new(alloc);
-        row.push(next)?;
-        graph.push(row)?;
+        added &= add_row(alloc, graph, &[next]);
     }
-    graph.push(Items::new(alloc))?;
-    Ok(graph)
-}
-
-/// A graph in which 0 reads 1 and 2, and both read 0.
-fn two_loops(alloc: Global) -> Result<Items<Items<usize>>, Memory> {
-    let mut graph = Items::new(alloc);
-    for reads in [[1, 2], [0, 0], [0, 0]] {
-        let mut row = Items::new(alloc);
-        for read in reads {
-            row.push(read)?;
-        }
-        graph.push(row)?;
-    }
-    Ok(graph)
+    added & add_row(alloc, graph, &[])
 }
 
 fn all_below(row: &[usize], limit: usize) -> bool
@@ -63,92 +50,70 @@ fn is_graph(graph: &[Items<usize>]) -> bool
     rows_below(graph, graph.len())
 }
 
-/// The order of a graph or its loop, where it is one.
-fn answer_of(alloc: Global, rows: Items<Items<usize>>) -> Result<Numbers, OrderError> {
-    let graph = rows.as_slice();
-    if is_graph(graph) {
-        return sorted(alloc, graph);
-    }
-    Err(OrderError::Memory)
+fn is_one_of(numbers: &[u128], wanted: &[&[u128]]) -> bool {
+    wanted.iter().any(|one| numbers == *one)
 }
 
-fn is_order(answer: &Result<Numbers, OrderError>, expected: &[u128]) -> bool {
-    match answer {
-        Ok(order) => order.as_slice() == expected,
+// Whether a graph has one of these orders, or one of these loops.
+fn answers(alloc: Global, graph: &[Items<usize>], ordered: bool, wanted: &[&[u128]]) -> bool {
+    if !is_graph(graph) {
+        return false;
+    }
+    match sorted(alloc, graph) {
+        Ok(order) => ordered && is_one_of(order.as_slice(), wanted),
+        Err(OrderError::Loop { drivers }) => !ordered && is_one_of(drivers.as_slice(), wanted),
+        Err(OrderError::Memory) => false,
+    }
+}
+
+fn row_answers(alloc: Global, rows: &[&[usize]], ordered: bool, wanted: &[&[u128]]) -> bool {
+    let mut graph = Items::new(alloc);
+    add_rows(alloc, &mut graph, rows) && answers(alloc, graph.as_slice(), ordered, wanted)
+}
+
+// What each number reads, whether there is an order, and the orders or the loops of which one is found. A loop begins with its least
+// number, and each number in it reads the one before.
+static GRAPHS: [(&[&[usize]], bool, &[&[u128]]); 4] = [
+    (&[&[1], &[2], &[3], &[]], true, &[&[3, 2, 1, 0]]),
+    (&[&[3], &[2], &[3], &[1]], false, &[&[1, 3, 2]]),
+    (&[&[], &[], &[2], &[]], false, &[&[2]]),
+    (&[&[1, 2], &[0, 0], &[0, 0]], false, &[&[0, 1], &[0, 2]]),
+];
+
+#[test]
+fn small_graphs_have_orders_or_loops(rt: HostRuntime) {
+    let mut right = true;
+    for (rows, ordered, wanted) in &GRAPHS {
+        right &= row_answers(rt.alloc(), rows, *ordered, wanted);
+    }
+    assert!(rt; right);
+}
+
+// Whether these are so many numbers, which count down to 0.
+fn count_down(numbers: &[u128], count: usize) -> bool {
+    let mut right = numbers.len() == count;
+    for (below, number) in numbers.iter().rev().enumerate() {
+        right &= *number == below as u128;
+    }
+    right
+}
+
+fn is_counted_down(alloc: Global, graph: &[Items<usize>], count: usize) -> bool {
+    if !is_graph(graph) {
+        return false;
+    }
+    match sorted(alloc, graph) {
+        Ok(order) => count_down(order.as_slice(), count),
         Err(_) => false,
     }
 }
 
-fn is_loop(answer: &Result<Numbers, OrderError>, expected: &[u128]) -> bool {
-    match answer {
-        Err(OrderError::Loop { drivers }) => drivers.as_slice() == expected,
-        _ => false,
-    }
-}
-
-fn answer_of_four(alloc: Global, reads: [usize; 4]) -> Result<Numbers, OrderError> {
-    let graph = graph(alloc, reads)?;
-    answer_of(alloc, graph)
-}
-
-/// Whether numbers count down to 0.
-fn count_down(numbers: &[u128]) -> bool {
-    let mut left = numbers.len();
-    for number in numbers {
-        left = left.saturating_sub(1);
-        if *number != left as u128 {
-            return false;
-        }
-    }
-    true
-}
-
-fn is_chain_ordered(alloc: Global, count: usize) -> Result<bool, OrderError> {
-    let graph = chain(alloc, count)?;
-    let order = answer_of(alloc, graph)?;
-    Ok(order.len() == count && count_down(order.as_slice()))
-}
-
-/// Whether one of the two loops is found, from its least number on.
-fn is_loop_found(alloc: Global) -> Result<bool, Memory> {
-    let graph = two_loops(alloc)?;
-    match answer_of(alloc, graph) {
-        Err(OrderError::Loop { drivers }) => {
-            let found = drivers.as_slice();
-            Ok(found == [0, 1].as_slice() || found == [0, 2].as_slice())
-        }
-        _ => Ok(false),
-    }
-}
-
-// Number 0 reads 1, and so on to 3, which reads none.
-#[test]
-fn a_chain_is_ordered_from_its_end(rt: HostRuntime) {
-    let answer = answer_of_four(rt.alloc(), [1, 2, 3, 4]);
-    assert!(rt; is_order(&answer, &[3, 2, 1, 0]));
-}
-
-// Number 1 reads 2, which reads 3, which reads 1; so each listed reads the one before, and 1 reads the last.
-#[test]
-fn a_loop_begins_with_its_least(rt: HostRuntime) {
-    let answer = answer_of_four(rt.alloc(), [3, 2, 3, 1]);
-    assert!(rt; is_loop(&answer, &[1, 3, 2]));
-}
-
-#[test]
-fn what_reads_itself_is_a_loop(rt: HostRuntime) {
-    let answer = answer_of_four(rt.alloc(), [4, 4, 2, 4]);
-    assert!(rt; is_loop(&answer, &[2]));
+fn is_chain_ordered(alloc: Global, count: usize) -> bool {
+    let mut graph = Items::new(alloc);
+    add_chain(alloc, &mut graph, count) && is_counted_down(alloc, graph.as_slice(), count)
 }
 
 #[test]
 fn a_long_chain_in_reverse_order_is_ordered(rt: HostRuntime) {
-    let ordered = is_chain_ordered(rt.alloc(), 65_536).unwrap_or(false);
-    assert!(rt; ordered);
-}
-
-#[test]
-fn loops_that_share_a_number_are_found(rt: HostRuntime) {
-    let found = is_loop_found(rt.alloc()).unwrap_or(false);
-    assert!(rt; found);
+    assert!(rt; is_chain_ordered(rt.alloc(), 65_536));
 }

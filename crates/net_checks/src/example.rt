@@ -1,6 +1,6 @@
-//! The lawful design that `net_design` shows (its `specs/Example`), made in memory.
+//! The lawful design that `net_design` shows (its `specs/Example`), made in memory. What adds a part answers whether memory was found.
 
-ghost use Rattle.std.specs.Prelude.{◌≡◌, ◌++◌, ◌∷◌, [], OnOk, IfOk};
+ghost use Rattle.std.specs.Prelude.{◌≡◌, ◌++◌, ◌∷◌, [], IsTrue, IfSome, MatchOption, Some};
 ghost use Rattle.net_design.specs.declared.design.Direction.TheVariants.{Input, Output};
 ghost use Rattle.net_design.specs.Example.{net_of, port_of, pair, both_bits, four_words, copies, stores, assigned, combined, example};
 
@@ -17,103 +17,112 @@ const WORDS: Room = Room {
 };
 
 /// The name of one letter.
-fn named(alloc: Global, letter: u8) -> Result<Name, Memory>
-    ensures { IfOk result (λ name. name ≡ letter ∷ []) }
+fn named(alloc: Global, letter: u8) -> Option<Name>
+    ensures { IfSome result (λ name. name ≡ letter ∷ []) }
 {
     let mut name = Items::new(alloc);
-    name.push(letter)?;
-    Ok(name)
+    if name.push(letter).is_err() {
+        return None;
+    }
+    Some(name)
 }
 
-fn push_net(nets: &mut Items<Net>, alloc: Global, letter: u8, width: u32) -> Result<(), Memory>
-    ensures { OnOk result (nets.new ≡ nets.old ++ net_of 0 letter width ∷ []) }
+fn add_net(nets: &mut Items<Net>, alloc: Global, letter: u8, width: u32) -> bool
+    ensures { IsTrue result → nets.new ≡ nets.old ++ net_of 0 letter width ∷ [] }
 {
-    let name = named(alloc, letter)?;
-    nets.push(Net {
+    let Some(name) = named(alloc, letter) else {
+        return false;
+    };
+    let net = Net {
         instance: 0,
         name,
         width,
-    })?;
-    Ok(())
+    };
+    nets.push(net).is_ok()
 }
 
-fn push_port(
+fn add_port(
     ports: &mut Items<Port>,
     alloc: Global,
     direction: Direction,
     letter: u8,
     width: u32,
-) -> Result<(), Memory>
-    ensures { OnOk result (ports.new ≡ ports.old ++ port_of direction letter width ∷ []) }
+) -> bool
+    ensures { IsTrue result → ports.new ≡ ports.old ++ port_of direction letter width ∷ [] }
 {
-    let name = named(alloc, letter)?;
-    ports.push(Port {
+    let Some(name) = named(alloc, letter) else {
+        return false;
+    };
+    let port = Port {
         name,
         direction,
         width,
-    })?;
-    Ok(())
+    };
+    ports.push(port).is_ok()
 }
 
-fn nets(alloc: Global) -> Result<Items<Net>, Memory>
-    ensures { IfOk result (λ nets. nets ≡ example.nets) }
+fn add_nets(nets: &mut Items<Net>, alloc: Global) -> bool
+    requires { nets.old ≡ [] }
+    ensures { IsTrue result → nets.new ≡ example.nets }
 {
-    let mut nets = Items::new(alloc);
-    push_net(&mut nets, alloc, b'c', 1)?;
-    push_net(&mut nets, alloc, b'd', 2)?;
-    push_net(&mut nets, alloc, b'y', 2)?;
-    push_net(&mut nets, alloc, b'q', 2)?;
-    push_net(&mut nets, alloc, b't', 2)?;
-    Ok(nets)
+    add_net(nets, alloc, b'c', 1)
+        && add_net(nets, alloc, b'd', 2)
+        && add_net(nets, alloc, b'y', 2)
+        && add_net(nets, alloc, b'q', 2)
+        && add_net(nets, alloc, b't', 2)
 }
 
-fn ports(alloc: Global) -> Result<Items<Port>, Memory>
-    ensures { IfOk result (λ ports. ports ≡ example.ports) }
+fn add_ports(ports: &mut Items<Port>, alloc: Global) -> bool
+    requires { ports.old ≡ [] }
+    ensures { IsTrue result → ports.new ≡ example.ports }
 {
-    let mut ports = Items::new(alloc);
-    push_port(&mut ports, alloc, Direction::Input, b'c', 1)?;
-    push_port(&mut ports, alloc, Direction::Input, b'd', 2)?;
-    push_port(&mut ports, alloc, Direction::Output, b'y', 2)?;
-    Ok(ports)
+    add_port(ports, alloc, Direction::Input, b'c', 1)
+        && add_port(ports, alloc, Direction::Input, b'd', 2)
+        && add_port(ports, alloc, Direction::Output, b'y', 2)
 }
 
-fn instances(alloc: Global) -> Result<Items<Instance>, Memory>
-    ensures { IfOk result (λ instances. instances ≡ example.instances) }
+fn add_instance(instances: &mut Items<Instance>, name: Name) -> bool
+    ensures { IsTrue result → instances.new ≡ instances.old ++ record { parent = 0; name = name } ∷ [] }
 {
-    let mut instances = Items::new(alloc);
-    instances.push(Instance {
-        parent: 0,
-        name: Items::new(alloc),
-    })?;
-    let name = named(alloc, b'u')?;
-    instances.push(Instance { parent: 0, name })?;
-    Ok(instances)
+    instances.push(Instance { parent: 0, name }).is_ok()
 }
 
-fn memories(alloc: Global) -> Result<Items<DesignMemory>, Memory>
-    ensures { IfOk result (λ memories. memories ≡ example.memories) }
+fn add_instances(instances: &mut Items<Instance>, alloc: Global) -> bool
+    requires { instances.old ≡ [] }
+    ensures { IsTrue result → instances.new ≡ example.instances }
 {
-    let mut memories = Items::new(alloc);
-    let name = named(alloc, b'm')?;
-    memories.push(DesignMemory {
+    let Some(name) = named(alloc, b'u') else {
+        return false;
+    };
+    add_instance(instances, Items::new(alloc)) && add_instance(instances, name)
+}
+
+fn add_memory(memories: &mut Items<DesignMemory>, alloc: Global) -> bool
+    requires { memories.old ≡ [] }
+    ensures { IsTrue result → memories.new ≡ example.memories }
+{
+    let Some(name) = named(alloc, b'm') else {
+        return false;
+    };
+    let memory = DesignMemory {
         instance: 0,
         name,
         width: 2,
         room: WORDS,
-    })?;
-    Ok(memories)
+    };
+    memories.push(memory).is_ok()
 }
 
-fn registers(alloc: Global) -> Result<Items<Register>, Memory>
-    ensures { IfOk result (λ registers. registers ≡ example.registers) }
+fn add_register(registers: &mut Items<Register>) -> bool
+    requires { registers.old ≡ [] }
+    ensures { IsTrue result → registers.new ≡ example.registers }
 {
-    let mut registers = Items::new(alloc);
-    registers.push(Register {
+    let q = Register {
         net: 3,
         held: 3,
         initial: 2,
-    })?;
-    Ok(registers)
+    };
+    registers.push(q).is_ok()
 }
 
 /// The two bits of a net.
@@ -135,44 +144,47 @@ fn mask(net: usize) -> Mask
 }
 
 /// An assignment to one place.
-fn assign(alloc: Global, place: Place, from: usize) -> Result<Items<Act>, Memory>
-    ensures { IfOk result (λ acts. acts ≡ Act.Set (place ∷ []) (Rhs.Bits (pair from)) ∷ []) }
+fn add_assign(acts: &mut Items<Act>, alloc: Global, place: Place, from: usize) -> bool
+    requires { acts.old ≡ [] }
+    ensures { IsTrue result → acts.new ≡ Act.Set (place ∷ []) (Rhs.Bits (pair from)) ∷ [] }
 {
     let mut target = Items::new(alloc);
-    target.push(place)?;
+    let is_placed = target.push(place).is_ok();
     let value = Rhs::Bits(two_bits(from));
-    let mut acts = Items::new(alloc);
-    acts.push(Act::Set { target, value })?;
-    Ok(acts)
+    let is_added = acts.push(Act::Set { target, value }).is_ok();
+    is_placed && is_added
+}
+
+/// Code without statements.
+fn nothing(alloc: Global) -> Code
+    ensures { result ≡ record { acts = []; writes = []; reads = [] } }
+{
+    Code {
+        acts: Items::new(alloc),
+        writes: Items::new(alloc),
+        reads: Items::new(alloc),
+    }
 }
 
 /// The two bits of one net become those of another.
-fn copying(alloc: Global, to: usize, from: usize) -> Result<Code, Memory>
-    ensures { IfOk result (λ code. code ≡ copies to from) }
+fn copying(alloc: Global, to: usize, from: usize) -> Option<Code>
+    ensures { IfSome result (λ code. code ≡ copies to from) }
 {
-    let mut writes = Items::new(alloc);
-    writes.push(mask(to))?;
-    let mut reads = Items::new(alloc);
-    reads.push(mask(from))?;
     let place = Place::Bits {
         span: two_bits(to),
         takes: 2,
     };
-    let acts = assign(alloc, place, from)?;
-    Ok(Code {
-        acts,
-        writes,
-        reads,
-    })
+    let mut code = nothing(alloc);
+    let is_whole = add_assign(&mut code.acts, alloc, place, from)
+        && code.writes.push(mask(to)).is_ok()
+        && code.reads.push(mask(from)).is_ok();
+    if is_whole { Some(code) } else { None }
 }
 
 /// A word at a place that a net has becomes the bits of another.
-fn storing(alloc: Global, at: usize, from: usize) -> Result<Code, Memory>
-    ensures { IfOk result (λ code. code ≡ stores at from) }
+fn storing(alloc: Global, at: usize, from: usize) -> Option<Code>
+    ensures { IfSome result (λ code. code ≡ stores at from) }
 {
-    let mut reads = Items::new(alloc);
-    reads.push(mask(at))?;
-    reads.push(mask(from))?;
     let place = Place::Word {
         room: WORDS,
         word: Rhs::Bits(two_bits(at)),
@@ -180,63 +192,73 @@ fn storing(alloc: Global, at: usize, from: usize) -> Result<Code, Memory>
         width: 2,
         takes: 2,
     };
-    let acts = assign(alloc, place, from)?;
-    Ok(Code {
-        acts,
-        writes: Items::new(alloc),
-        reads,
-    })
+    let mut code = nothing(alloc);
+    let is_whole = add_assign(&mut code.acts, alloc, place, from)
+        && code.reads.push(mask(at)).is_ok()
+        && code.reads.push(mask(from)).is_ok();
+    if is_whole { Some(code) } else { None }
 }
 
-fn drivers(alloc: Global) -> Result<Items<Driver>, Memory>
-    ensures { IfOk result (λ drivers. drivers ≡ assigned ∷ combined ∷ []) }
+fn add_driver(drivers: &mut Items<Driver>, line: u32, always: bool, code: Option<Code>) -> bool
+    ensures { IsTrue result → MatchOption code ⊥ (λ code. drivers.new ≡ drivers.old ++ record { line = line; always = always; code = code } ∷ []) }
 {
-    let mut drivers = Items::new(alloc);
-    let code = copying(alloc, 2, 4)?;
-    drivers.push(Driver {
-        line: 1,
-        always: false,
-        code,
-    })?;
-    let code = copying(alloc, 4, 3)?;
-    drivers.push(Driver {
-        line: 2,
-        always: true,
-        code,
-    })?;
-    Ok(drivers)
+    match code {
+        Some(code) => drivers.push(Driver { line, always, code }).is_ok(),
+        None => false,
+    }
 }
 
-fn blocks(alloc: Global) -> Result<Items<Code>, Memory>
-    ensures { IfOk result (λ blocks. blocks ≡ example.blocks) }
+fn add_drivers(drivers: &mut Items<Driver>, alloc: Global) -> bool
+    requires { drivers.old ≡ [] }
+    ensures { IsTrue result → drivers.new ≡ assigned ∷ combined ∷ [] }
 {
-    let mut blocks = Items::new(alloc);
-    let block = copying(alloc, 3, 1)?;
-    blocks.push(block)?;
-    let block = storing(alloc, 3, 1)?;
-    blocks.push(block)?;
-    Ok(blocks)
+    add_driver(drivers, 1, false, copying(alloc, 2, 4))
+        && add_driver(drivers, 2, true, copying(alloc, 4, 3))
+}
+
+fn add_block(blocks: &mut Items<Code>, block: Option<Code>) -> bool
+    ensures { IsTrue result → MatchOption block ⊥ (λ block. blocks.new ≡ blocks.old ++ block ∷ []) }
+{
+    match block {
+        Some(block) => blocks.push(block).is_ok(),
+        None => false,
+    }
+}
+
+fn add_blocks(blocks: &mut Items<Code>, alloc: Global) -> bool
+    requires { blocks.old ≡ [] }
+    ensures { IsTrue result → blocks.new ≡ example.blocks }
+{
+    add_block(blocks, copying(alloc, 3, 1)) && add_block(blocks, storing(alloc, 3, 1))
+}
+
+/// A design without parts.
+fn blank(alloc: Global) -> Design
+    ensures { result ≡ record { instances = []; nets = []; registers = []; memories = []; drivers = []; blocks = []; ports = []; clock = Some 0 } }
+{
+    Design {
+        instances: Items::new(alloc),
+        nets: Items::new(alloc),
+        registers: Items::new(alloc),
+        memories: Items::new(alloc),
+        drivers: Items::new(alloc),
+        blocks: Items::new(alloc),
+        ports: Items::new(alloc),
+        clock: Some(0),
+    }
 }
 
 /// That design.
-pub fn example(alloc: Global) -> Result<Design, Memory>
-    ensures { IfOk result (λ design. design ≡ example) }
+pub fn example(alloc: Global) -> Option<Design>
+    ensures { IfSome result (λ design. design ≡ example) }
 {
-    let nets = nets(alloc)?;
-    let ports = ports(alloc)?;
-    let instances = instances(alloc)?;
-    let memories = memories(alloc)?;
-    let registers = registers(alloc)?;
-    let drivers = drivers(alloc)?;
-    let blocks = blocks(alloc)?;
-    Ok(Design {
-        instances,
-        nets,
-        registers,
-        memories,
-        drivers,
-        blocks,
-        ports,
-        clock: Some(0),
-    })
+    let mut design = blank(alloc);
+    let is_whole = add_nets(&mut design.nets, alloc)
+        && add_ports(&mut design.ports, alloc)
+        && add_instances(&mut design.instances, alloc)
+        && add_memory(&mut design.memories, alloc)
+        && add_register(&mut design.registers)
+        && add_drivers(&mut design.drivers, alloc)
+        && add_blocks(&mut design.blocks, alloc);
+    if is_whole { Some(design) } else { None }
 }

@@ -17,8 +17,6 @@ mod example;
 #[cfg(test)]
 mod lawful;
 #[cfg(test)]
-mod lawful_build;
-#[cfg(test)]
 mod moves;
 #[cfg(test)]
 mod numbers;

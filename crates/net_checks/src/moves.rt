@@ -1,12 +1,12 @@
 //! Code of an instance, moved to its first places.
 
-use crate::build::{Value, code_with_bits, is_right, room, set, span, target, whole, word};
+use crate::build::{Part, Step, Value, add_places, code_with_bits, word};
 use net_code::{
     Base, code_is_near, expression_is_near, move_code, move_expression, move_target, target_is_near,
 };
 use net_design::{Act, Code, Lhs, Place, Rhs, Timing};
 use std::alloc::Global;
-use vidi_bits::{Items, Memory};
+use vidi_bits::Items;
 
 const BASE: Base = Base { net: 3, word: 5 };
 
@@ -63,20 +63,13 @@ fn moves(code: &mut Code) -> bool {
 }
 
 // `y = m[a];`, where a and y are nets 0 and 1 of an instance and m is its words 0 and 1
-fn try_code(alloc: Global) -> Result<bool, Memory> {
-    let value = Value::Word {
-        room: room(0, 2),
-        at: span(0, 0, 1),
-    };
-    match code_with_bits(alloc, Timing::Blocking, &[set(span(1, 0, 8), value)])? {
-        Some(mut code) => Ok(moves(&mut code)),
-        None => Ok(false),
-    }
-}
+static READ: [Step; 1] = [Step::Set(Part::Whole((1, 0, 8)), Value::Word((0, 2), (0, 0, 1)))];
 
-#[test]
-fn code_moves(rt: HostRuntime) {
-    assert!(rt; is_right(try_code(rt.alloc())));
+fn try_code(alloc: Global) -> bool {
+    match code_with_bits(alloc, Timing::Blocking, &READ) {
+        Some(mut code) => moves(&mut code),
+        None => false,
+    }
 }
 
 fn expression_moves(e: &mut Rhs) -> bool {
@@ -87,9 +80,11 @@ fn expression_moves(e: &mut Rhs) -> bool {
     value_moved(e)
 }
 
-fn try_expression(alloc: Global) -> Result<bool, Memory> {
-    let mut value = word(alloc, room(0, 2), span(0, 0, 1))?;
-    Ok(expression_moves(&mut value))
+fn try_expression(alloc: Global) -> bool {
+    match word(alloc, (0, 2), (0, 0, 1)) {
+        Some(mut value) => expression_moves(&mut value),
+        None => false,
+    }
 }
 
 fn target_moves(to: &mut Lhs) -> bool {
@@ -100,15 +95,16 @@ fn target_moves(to: &mut Lhs) -> bool {
     target_moved(to)
 }
 
-fn try_target(alloc: Global) -> Result<bool, Memory> {
-    let mut to = target(alloc, &[whole(span(1, 0, 8))])?;
-    Ok(target_moves(&mut to))
+fn try_target(alloc: Global) -> bool {
+    let mut to = Items::new(alloc);
+    add_places(&mut to, &[Part::Whole((1, 0, 8))]) && target_moves(&mut to)
 }
 
 // A connection's expression and its target stand in two scopes, and move apart.
 #[test]
-fn expressions_and_targets_move(rt: HostRuntime) {
-    let expression = is_right(try_expression(rt.alloc()));
-    let target = is_right(try_target(rt.alloc()));
-    assert!(rt; expression && target);
+fn code_expressions_and_targets_move(rt: HostRuntime) {
+    let code = try_code(rt.alloc());
+    let expression = try_expression(rt.alloc());
+    let target = try_target(rt.alloc());
+    assert!(rt; code && expression && target);
 }

@@ -2,21 +2,43 @@
 
 use vidi_bits::{BinaryOp, UnaryOp, binary, joined, selected, times, unary};
 
+// An operator of 8 bits, its operand, and what it makes.
+static ONE_OPERAND: [(UnaryOp, u128, u128); 9] = [
+    (UnaryOp::Negate, 3, 253),
+    (UnaryOp::Complement, 0x0f, 0xf0),
+    (UnaryOp::LogicalNot, 4, 0),
+    (UnaryOp::ReduceAnd, 255, 1),
+    (UnaryOp::ReduceNand, 255, 0),
+    (UnaryOp::ReduceOr, 0, 0),
+    (UnaryOp::ReduceNor, 0, 1),
+    (UnaryOp::ReduceXor, 7, 1),
+    (UnaryOp::ReduceXnor, 7, 0),
+];
+
+// An operator of 8 bits, its operands, and what it makes.
+static TWO_OPERANDS: [(BinaryOp, u128, u128, u128); 15] = [
+    (BinaryOp::Add, 200, 100, 44),
+    (BinaryOp::Subtract, 3, 5, 254),
+    (BinaryOp::Multiply, 20, 13, 4),
+    (BinaryOp::And, 12, 10, 8),
+    (BinaryOp::Or, 12, 10, 14),
+    (BinaryOp::Xor, 12, 10, 6),
+    (BinaryOp::Xnor, 12, 10, 249),
+    (BinaryOp::ShiftLeft, 129, 1, 2),
+    (BinaryOp::ShiftLeft, 1, 8, 0),
+    (BinaryOp::ShiftRight, 129, 1, 64),
+    (BinaryOp::ShiftRight, 129, 200, 0),
+    (BinaryOp::Less, 3, 200, 1),
+    (BinaryOp::GreaterEqual, 3, 3, 1),
+    (BinaryOp::Equal, 3, 4, 0),
+    (BinaryOp::LogicalAnd, 2, 4, 1),
+];
+
 #[test]
 fn operators_of_one_operand(rt: HostRuntime) {
     let mut right = true;
-    for (op, a, want) in [
-        (UnaryOp::Negate, 3u128, 253u128),
-        (UnaryOp::Complement, 0x0f, 0xf0),
-        (UnaryOp::LogicalNot, 4, 0),
-        (UnaryOp::ReduceAnd, 255, 1),
-        (UnaryOp::ReduceNand, 255, 0),
-        (UnaryOp::ReduceOr, 0, 0),
-        (UnaryOp::ReduceNor, 0, 1),
-        (UnaryOp::ReduceXor, 7, 1),
-        (UnaryOp::ReduceXnor, 7, 0),
-    ] {
-        right &= unary(op, a, 8) == want;
+    for (op, a, want) in &ONE_OPERAND {
+        right &= unary(*op, *a, 8) == *want;
     }
     assert!(rt; right);
 }
@@ -24,24 +46,8 @@ fn operators_of_one_operand(rt: HostRuntime) {
 #[test]
 fn operators_of_two_operands(rt: HostRuntime) {
     let mut right = true;
-    for (op, a, b, want) in [
-        (BinaryOp::Add, 200u128, 100u128, 44u128),
-        (BinaryOp::Subtract, 3, 5, 254),
-        (BinaryOp::Multiply, 20, 13, 4),
-        (BinaryOp::And, 12, 10, 8),
-        (BinaryOp::Or, 12, 10, 14),
-        (BinaryOp::Xor, 12, 10, 6),
-        (BinaryOp::Xnor, 12, 10, 249),
-        (BinaryOp::ShiftLeft, 129, 1, 2),
-        (BinaryOp::ShiftLeft, 1, 8, 0),
-        (BinaryOp::ShiftRight, 129, 1, 64),
-        (BinaryOp::ShiftRight, 129, 200, 0),
-        (BinaryOp::Less, 3, 200, 1),
-        (BinaryOp::GreaterEqual, 3, 3, 1),
-        (BinaryOp::Equal, 3, 4, 0),
-        (BinaryOp::LogicalAnd, 2, 4, 1),
-    ] {
-        right &= binary(op, a, b, 8) == want;
+    for (op, a, b, want) in &TWO_OPERANDS {
+        right &= binary(*op, *a, *b, 8) == *want;
     }
     assert!(rt; right);
 }

@@ -2,24 +2,23 @@
 //!
 //! `assign y = t` stands before the `always @*` that gives t the number of q; q becomes d at each clock, and is 2 at first.
 
-ghost use Rattle.std.specs.Prelude.{◌≡◌, ◌<◌, IfOk};
+ghost use Rattle.std.specs.Prelude.{◌≡◌, ◌<◌, IfSome};
 ghost use Rattle.net_design.specs.Example.{example};
 
 use crate::example::example;
-use net_design::{Block, lawful_design_shown};
-use net_order::{OrderError, order};
+use net_design::{Block, Design, lawful_design_shown};
+use net_order::order;
 use net_sim::Sim;
 use std::alloc::Global;
 
 /// The example, in its initial state.
-fn start(alloc: Global) -> Result<Sim, OrderError>
-    ensures { IfOk result (λ sim. sim.design ≡ example) }
+fn start(alloc: Global) -> Option<Sim>
+    ensures { IfSome result (λ sim. sim.design ≡ example) }
 {
     lawful_design_shown();
     let design = example(alloc)?;
-    let order = order(alloc, &design)?;
-    let sim = Sim::new(alloc, design, order)?;
-    Ok(sim)
+    let order = order(alloc, &design).ok()?;
+    Sim::new(alloc, design, order).ok()
 }
 
 /// The number of y where d has this number.
@@ -33,17 +32,21 @@ fn y_at(sim: &mut Sim, d: u128) -> u128
 }
 
 /// Whether the order is that of the reads and not of the text.
-fn is_ordered(alloc: Global) -> Result<bool, OrderError> {
+fn has_order(alloc: Global, design: &Design) -> bool
+    requires { design.now ≡ example }
+{
     lawful_design_shown();
-    let design = example(alloc)?;
-    let order = order(alloc, &design)?;
-    Ok(order.drivers.as_slice() == [1, 0].as_slice())
+    match order(alloc, design) {
+        Ok(order) => order.drivers.as_slice() == [1, 0].as_slice(),
+        Err(_) => false,
+    }
 }
 
-#[test]
-fn drivers_follow_what_they_read(rt: HostRuntime) {
-    let ordered = is_ordered(rt.alloc()).unwrap_or(false);
-    assert!(rt; ordered);
+fn is_ordered(alloc: Global) -> bool {
+    match example(alloc) {
+        Some(design) => has_order(alloc, &design),
+        None => false,
+    }
 }
 
 /// The numbers of y in some cycles: with q at first, after a clock, after a clock that follows a clock, and after `load`.
@@ -79,15 +82,24 @@ fn nets_are_found(sim: &mut Sim) -> bool
         && sim.net(b"").is_none()
 }
 
-fn all_is_well(alloc: Global) -> Result<bool, OrderError> {
-    let mut sim = start(alloc)?;
-    let found = nets_are_found(&mut sim);
-    let numbers = cycles(&mut sim);
-    Ok(found && numbers == [2, 3, 1, 2, 0])
+fn runs(sim: &mut Sim) -> bool
+    requires { sim.old.design ≡ example }
+{
+    let found = nets_are_found(sim);
+    found & (cycles(sim) == [2, 3, 1, 2, 0])
 }
 
+fn all_is_well(alloc: Global) -> bool {
+    match start(alloc) {
+        Some(mut sim) => runs(&mut sim),
+        None => false,
+    }
+}
+
+// Its drivers follow what they read.
 #[test]
-fn a_design_runs(rt: HostRuntime) {
-    let well = all_is_well(rt.alloc()).unwrap_or(false);
-    assert!(rt; well);
+fn a_design_is_ordered_and_runs(rt: HostRuntime) {
+    let ordered = is_ordered(rt.alloc());
+    let runs = all_is_well(rt.alloc());
+    assert!(rt; ordered && runs);
 }
