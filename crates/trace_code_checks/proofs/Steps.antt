@@ -1,5 +1,5 @@
 -- Where a cursor stands before and behind a step.
-use Rattle.std.proofs.Common.{◌≡◌, ℕ, ◌+◌, ◌<◌, ◌≤◌, Bool, true, false, ⊎_elim, sym, subst, ◌∙◌}
+use Rattle.std.proofs.Common.{◌≡◌, ℕ, ◌+◌, ◌<◌, ◌≤◌, Bool, false, ⊎_elim, sym, subst, ◌∙◌}
 use Rattle.std.specs.Prelude.{◌↔◌, IsTrue}
 use Rattle.std.proofs.lemmas.Bool.{cases_lt, false≢true}
 use Rattle.trace_model.specs.declared.event.Kind.TheVariants.{Start}
@@ -32,10 +32,3 @@ has-more k t b c over (j, s) f says = (
   subst (λ kind. j < count kind c t.packets) over.0 (subst (λ d. j < count k.kind d t.packets) over.1
       (more-left b (count k.kind k.channel t.packets) j f (says t j s))),
 )
-
-pub place : (k : Cursor) (t : Trace) → ((j : ℕ) × Stands k t j) → ℕ
-place k t (j, s) = j
-
-pub at-place : (k : Cursor) (t : Trace) (p : (j : ℕ) × Stands k t j) → Stands k t (place k t p)
-unfolding place
-at-place k t (j, s) = s

@@ -1,9 +1,12 @@
 //! Worked traces, byte by byte.
 
+ghost use Rattle.std.specs.Prelude.{IfSome};
+ghost use Rattle.trace_model.specs.Channel.{IsTable};
+ghost use Rattle.trace_code.specs.Encoding.{HasEncoding};
+
 use std::alloc::Global;
-use std::test::Fail;
 use trace_code::{decode, encode, end_mark, header_bytes, write_packet};
-use trace_model::{Row, is_over};
+use trace_model::{Channels, Row, Trace, is_over};
 use vidi_bits::Numbers;
 
 // VIDITRC1, two channels: a inward and b outward, each with one port of 8 bits.
@@ -40,81 +43,151 @@ pub(crate) const ROUND: [u8; 36] = [
     0x00, 0x00, 0x00, 0x04,
 ];
 
-type Events<'a> = (u128, u128, &'a [u128]);
+/// What happens in a cycle: the channels that start, those that complete, and contents.
+pub(crate) type Events<'a> = (u128, u128, &'a [u128]);
 
-pub(crate) fn joined(alloc: Global, front: &[u8], back: &[u8]) -> Result<Vec<u8>, Fail> {
-    let mut bytes = Vec::from_slice(alloc, front)?;
-    bytes.extend_from_slice(back)?;
-    Ok(bytes)
+/// The bytes of a header and those of a body behind it.
+pub(crate) fn joined(alloc: Global, header: &[u8], body: &[u8]) -> Option<Vec<u8>> {
+    [header, body].concat(alloc).ok()
 }
 
-// Whether what the bytes decode to is encoded as the same bytes.
-fn is_coded(alloc: Global, bytes: &[u8]) -> Result<bool, Fail> {
-    let t = decode(alloc, bytes)?;
-    let written = encode(alloc, &t)?;
-    Ok(written.as_slice() == bytes)
+/// The trace of a header and a body.
+pub(crate) fn decoded(alloc: Global, header: &[u8], body: &[u8]) -> Option<Trace>
+    ensures { IfSome result HasEncoding }
+{
+    match joined(alloc, header, body) {
+        Some(bytes) => decode(alloc, bytes.as_slice()).ok(),
+        None => None,
+    }
 }
+
+/// Whether a trace is encoded as this header and this body.
+pub(crate) fn is_written(alloc: Global, trace: &Trace, header: &[u8], body: &[u8]) -> bool
+    requires { HasEncoding trace.now }
+{
+    match encode(alloc, trace) {
+        Ok(bytes) => bytes.as_slice().strip_prefix(header) == Some(body),
+        Err(_) => false,
+    }
+}
+
+/// Whether what a header and a body decode to is encoded as the same bytes.
+fn is_coded(alloc: Global, header: &[u8], body: &[u8]) -> bool {
+    match decoded(alloc, header, body) {
+        Some(trace) => is_written(alloc, &trace, header, body),
+        None => false,
+    }
+}
+
+const TRACES: [(&[u8], &[u8]); 10] = [
+    (&PASS, &ONE_SEND),
+    (&PASS, &NO_SEND),
+    (&PASS, &TWO_SENDS),
+    (&PASS, &[1, 1, 1, 5, 0, 0, 0, 0, 1]),
+    (&PASS, &[1, 1, 1, 5, 1, 2, 2, 5, 1, 1, 1, 6, 0, 0, 0, 0, 3]),
+    (&PASS, &[1, 1, 1, 5, 1, 2, 0, 5, 0, 0, 0, 0, 2]),
+    (&PASS, &[1, 3, 3, 5, 5, 0, 0, 0, 0, 1]),
+    (&PASS, &[1, 1, 1, 5, 1, 3, 2, 6, 5, 1, 0, 1, 0, 0, 0, 0, 3]),
+    (&FLICK, &[1, 1, 1, 0, 0, 0, 0, 1]),
+    (&REGS, &ROUND),
+];
 
 // The packets of these traces are printed by cases of `dump`.
 #[test]
-fn worked_traces_are_coded(rt: HostRuntime) -> Result<(), Fail> {
-    let alloc = rt.alloc();
-    let cases: [(&[u8], &[u8]); 10] = [
-        (&PASS, &ONE_SEND),
-        (&PASS, &NO_SEND),
-        (&PASS, &TWO_SENDS),
-        (&PASS, &[1, 1, 1, 5, 0, 0, 0, 0, 1]),
-        (&PASS, &[1, 1, 1, 5, 1, 2, 2, 5, 1, 1, 1, 6, 0, 0, 0, 0, 3]),
-        (&PASS, &[1, 1, 1, 5, 1, 2, 0, 5, 0, 0, 0, 0, 2]),
-        (&PASS, &[1, 3, 3, 5, 5, 0, 0, 0, 0, 1]),
-        (&PASS, &[1, 1, 1, 5, 1, 3, 2, 6, 5, 1, 0, 1, 0, 0, 0, 0, 3]),
-        (&FLICK, &[1, 1, 1, 0, 0, 0, 0, 1]),
-        (&REGS, &ROUND),
-    ];
-    for (header, body) in cases {
-        let coded = is_coded(alloc, &joined(alloc, header, body)?)?;
-        assert!(rt; coded, "{body:?}");
+fn worked_traces_are_coded(rt: HostRuntime) {
+    let mut right = true;
+    for (header, body) in &TRACES {
+        right &= is_coded(rt.alloc(), header, body);
     }
-    Ok(())
+    assert!(rt; right);
+}
+
+/// Whether the header of these channels is that of REGS.
+fn is_header(alloc: Global, channels: &Channels) -> bool
+    requires { IsTable channels.now }
+{
+    match header_bytes(alloc, channels) {
+        Ok(header) => header.as_slice() == REGS.as_slice(),
+        Err(_) => false,
+    }
+}
+
+fn is_header_coded(alloc: Global) -> bool {
+    match decoded(alloc, &REGS, &NO_SEND) {
+        Some(trace) => is_header(alloc, &trace.channels),
+        None => false,
+    }
 }
 
 #[test]
-fn parts_of_a_trace_are_coded(rt: HostRuntime) -> Result<(), Fail> {
-    let alloc = rt.alloc();
-    let trace = decode(alloc, &joined(alloc, &REGS, &NO_SEND)?)?;
-    let header = header_bytes(alloc, &trace.channels)?;
-    assert_eq!(rt; header.as_slice(), REGS.as_slice());
-    assert_eq!(rt; end_mark(0x0102_0304), [0, 1, 2, 3, 4]);
-    Ok(())
+fn parts_of_a_trace_are_coded(rt: HostRuntime) {
+    assert!(rt; is_header_coded(rt.alloc()) && end_mark(0x0102_0304) == [0, 1, 2, 3, 4]);
 }
 
-// The rows of two sends: gates, valids and readies are up, the others as they were, and the packet that
-// each leaves at the front of the buffer.
-#[test]
-fn rows_are_written_in_place(rt: HostRuntime) -> Result<(), Fail> {
-    let alloc = rt.alloc();
-    let trace = decode(alloc, &joined(alloc, &PASS, &NO_SEND)?)?;
-    let cases: [(Events, &[u8]); 5] = [
-        ((1, 1, &[5, 0]), &[1, 1, 1, 5]),
-        ((3, 2, &[6, 5]), &[1, 3, 2, 6, 5]),
-        ((0, 1, &[6, 0]), &[1, 0, 1]),
-        ((2, 2, &[0, 6]), &[1, 2, 2, 6]),
-        ((0, 0, &[7, 8]), &[]),
-    ];
-    for (events, packet) in cases {
-        let row = Row {
+/// A row with these events, in which gates, valids and readies are up.
+pub(crate) fn row(alloc: Global, events: &Events) -> Option<Row> {
+    match Vec::from_slice(alloc, events.2) {
+        Ok(contents) => Some(Row {
             gates: 3,
             valids: 3,
             readies: 3,
-            contents: Numbers::from_vec(events.2.to_vec(alloc)?),
+            contents: Numbers::from_vec(contents),
             starts: events.0,
             ends: events.1,
-        };
-        assert!(rt; is_over(&row, &trace.channels));
-        let mut buf = [0xaau8; 1040];
-        let len = write_packet(&row, &trace.channels, &mut buf);
-        let front = buf[..5].starts_with(packet);
-        assert!(rt; front && len == packet.len() && buf[packet.len()..].iter().all(|b| *b == 0xaa));
+        }),
+        Err(_) => None,
     }
-    Ok(())
+}
+
+/// Whether a row leaves this packet at the front of a buffer, and the rest of it as it was.
+fn leaves(row: &Row, channels: &Channels, packet: &[u8]) -> bool
+    requires { IsTable channels.now }
+{
+    if !is_over(row, channels) {
+        return false;
+    }
+    let mut buf = [0xaau8; 1040];
+    let len = write_packet(row, channels, &mut buf);
+    let front = buf[..5].starts_with(packet);
+    front && len == packet.len() && buf[packet.len()..].iter().all(|b| *b == 0xaa)
+}
+
+fn is_left(alloc: Global, channels: &Channels, events: &Events, packet: &[u8]) -> bool
+    requires { IsTable channels.now }
+{
+    match row(alloc, events) {
+        Some(row) => leaves(&row, channels, packet),
+        None => false,
+    }
+}
+
+// The rows of two sends, and the packet that each leaves. In the last nothing happens.
+const PACKETS: [(Events, &[u8]); 5] = [
+    ((1, 1, &[5, 0]), &[1, 1, 1, 5]),
+    ((3, 2, &[6, 5]), &[1, 3, 2, 6, 5]),
+    ((0, 1, &[6, 0]), &[1, 0, 1]),
+    ((2, 2, &[0, 6]), &[1, 2, 2, 6]),
+    ((0, 0, &[7, 8]), &[]),
+];
+
+fn are_left(alloc: Global, channels: &Channels) -> bool
+    requires { IsTable channels.now }
+{
+    let mut right = true;
+    for (events, packet) in &PACKETS {
+        right &= is_left(alloc, channels, events, packet);
+    }
+    right
+}
+
+fn are_rows_written(alloc: Global) -> bool {
+    match decoded(alloc, &PASS, &NO_SEND) {
+        Some(trace) => are_left(alloc, &trace.channels),
+        None => false,
+    }
+}
+
+#[test]
+fn rows_are_written_in_place(rt: HostRuntime) {
+    assert!(rt; are_rows_written(rt.alloc()));
 }

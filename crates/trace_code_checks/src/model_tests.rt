@@ -1,66 +1,72 @@
 //! Each rule of a well-formed trace, broken once.
 
+use crate::bytes_tests::{Events, NO_SEND, PASS, decoded};
 use std::alloc::Global;
-use std::test::Fail;
-use trace_model::{Channel, Dir, Packet, Trace, well_formed};
-use vidi_bits::{Bytes, Items, Numbers};
+use trace_model::{Packet, Packets, Trace, well_formed};
+use vidi_bits::Numbers;
 
-fn channel(alloc: Global, dir: Dir, name: u8) -> Result<Channel, Fail> {
-    Ok(Channel {
-        dir,
-        name: Bytes::from_vec(vec![in alloc; name]?),
-        widths: Bytes::from_vec(vec![in alloc; 8u8]?),
-    })
+/// Whether there is memory for a packet of these events.
+fn is_added(alloc: Global, packets: &mut Packets, events: &Events) -> bool {
+    match Vec::from_slice(alloc, events.2) {
+        Ok(contents) => packets
+            .push(Packet {
+                starts: events.0,
+                ends: events.1,
+                contents: Numbers::from_vec(contents),
+            })
+            .is_ok(),
+        Err(_) => false,
+    }
 }
 
-// A trace of an inward channel a and an outward channel b of one port of 8 bits each, with packets
-// of these starts, ends and contents.
-fn trace(alloc: Global, rows: &[(u128, u128, &[u128])]) -> Result<Trace, Fail> {
-    let mut channels = Items::new(alloc);
-    channels.push(channel(alloc, Dir::Inward, b'a')?)?;
-    channels.push(channel(alloc, Dir::Outward, b'b')?)?;
-    let mut packets = Items::new(alloc);
-    for (starts, ends, contents) in rows {
-        packets.push(Packet {
-            starts: *starts,
-            ends: *ends,
-            contents: Numbers::from_vec(contents.to_vec(alloc)?),
-        })?;
+/// Whether a trace with these packets in place of its own is as lawful as this.
+fn is_judged(alloc: Global, trace: &mut Trace, rows: &[Events], lawful: bool) -> bool {
+    trace.packets.truncate(0);
+    for events in rows {
+        if !is_added(alloc, &mut trace.packets, events) {
+            return false;
+        }
     }
-    Ok(Trace { channels, packets })
+    well_formed(trace) == lawful
 }
 
 // The packets of a send through two channels, and one refusal for each rule of a well-formed trace.
-#[test]
-fn each_rule_refuses(rt: HostRuntime) -> Result<(), Fail> {
-    let alloc = rt.alloc();
-    let cases: [(&str, &[(u128, u128, &[u128])], bool); 11] = [
-        ("no packet", &[], true),
-        ("one send", &[(1, 1, &[5]), (2, 2, &[5])], true),
-        ("an empty packet", &[(0, 0, &[])], false),
-        ("a start of channel 2 of 2", &[(4, 0, &[])], false),
-        ("an end of channel 2 of 2", &[(1, 5, &[5])], false),
-        ("a number of 9 bits", &[(1, 1, &[256])], false),
-        ("a number missing", &[(3, 3, &[5])], false),
-        ("a number too many", &[(1, 1, &[5, 6])], false),
-        (
-            "a second start before an end",
-            &[(1, 0, &[5]), (1, 0, &[6])],
-            false,
-        ),
-        (
-            "an end without a start",
-            &[(1, 1, &[5]), (0, 1, &[])],
-            false,
-        ),
-        (
-            "a start in flight with an end",
-            &[(1, 0, &[5]), (1, 1, &[6])],
-            false,
-        ),
-    ];
-    for (name, rows, lawful) in cases {
-        assert_eq!(rt; well_formed(&trace(alloc, rows)?), lawful, "{name}");
+const CASES: [(&[Events], bool); 11] = [
+    // No packet, and one send.
+    (&[], true),
+    (&[(1, 1, &[5]), (2, 2, &[5])], true),
+    // An empty packet.
+    (&[(0, 0, &[])], false),
+    // A start and an end of channel 2 of 2.
+    (&[(4, 0, &[])], false),
+    (&[(1, 5, &[5])], false),
+    // A number of 9 bits, a number missing, and a number too many.
+    (&[(1, 1, &[256])], false),
+    (&[(3, 3, &[5])], false),
+    (&[(1, 1, &[5, 6])], false),
+    // A second start before an end, an end without a start, and a start in flight with an end.
+    (&[(1, 0, &[5]), (1, 0, &[6])], false),
+    (&[(1, 1, &[5]), (0, 1, &[])], false),
+    (&[(1, 0, &[5]), (1, 1, &[6])], false),
+];
+
+fn are_judged(alloc: Global, trace: &mut Trace) -> bool {
+    let mut right = true;
+    for (rows, lawful) in &CASES {
+        right &= is_judged(alloc, trace, rows, *lawful);
     }
-    Ok(())
+    right
+}
+
+// Over an inward channel a and an outward channel b of one port of 8 bits each.
+fn are_rules_kept(alloc: Global) -> bool {
+    match decoded(alloc, &PASS, &NO_SEND) {
+        Some(mut trace) => are_judged(alloc, &mut trace),
+        None => false,
+    }
+}
+
+#[test]
+fn each_rule_refuses(rt: HostRuntime) {
+    assert!(rt; are_rules_kept(rt.alloc()));
 }

@@ -7,10 +7,8 @@ ghost use Rattle.trace_code.specs.Stands.{Stands, WalksOver};
 
 use crate::bytes_tests::{NO_SEND, ONE_SEND, PASS, REGS, ROUND, TWO_SENDS, joined};
 use std::alloc::Global;
-use std::test::Fail;
 use trace_code::{Cursor, decode};
 use trace_model::{Kind, Packet, Trace, names};
-use vidi_bits::Bytes;
 
 /// An event: its clock, and the content of a start.
 type Event<'a> = (&'a [u32], &'a [u128]);
@@ -49,97 +47,35 @@ fn has_content(cursor: &Cursor, t: &Trace, channel: usize, content: &[u128]) -> 
     right
 }
 
-/// Whether a cursor gives exactly these starts of a channel.
-fn gives_starts(
-    alloc: Global,
-    bytes: &[u8],
-    channel: usize,
-    events: &[Event],
-) -> Result<bool, Fail> {
-    let t = decode(alloc, bytes)?;
-    if t.channels.len() <= channel {
-        return Ok(false);
+/// Whether a cursor stands at this event. It goes on behind it.
+fn passes(cursor: &mut Cursor, t: &Trace, kind: Kind, channel: usize, event: Event) -> bool
+    requires over { WalksOver cursor.old kind channel }
+    requires stands { (j : ℕ) × Stands cursor.old t.now j }
+    ensures over { WalksOver cursor.new kind channel }
+    ensures stands { (j : ℕ) × Stands cursor.new t.now j }
+{
+    if cursor.at_end() || !has_clock(cursor, t, event.0) {
+        return false;
     }
-    let mut cursor = Cursor::new(alloc, bytes, channel, Kind::Start)?;
+    let held = match kind {
+        Kind::Start => has_content(cursor, t, channel, event.1),
+        Kind::End => true,
+    };
+    cursor.step();
+    held
+}
+
+/// Whether a cursor gives exactly these events.
+fn passes_all(cursor: &mut Cursor, t: &Trace, kind: Kind, channel: usize, events: &[Event]) -> bool
+    requires over { WalksOver cursor.old kind channel }
+    requires stands { (j : ℕ) × Stands cursor.old t.now j }
+{
     for event in events {
-        if cursor.at_end() || !has_clock(&cursor, &t, event.0) {
-            return Ok(false);
+        if !passes(cursor, t, kind, channel, *event) {
+            return false;
         }
-        if !has_content(&cursor, &t, channel, event.1) {
-            return Ok(false);
-        }
-        cursor.step();
     }
-    Ok(cursor.at_end())
-}
-
-/// Whether a cursor gives exactly the completions of a channel with these clocks.
-fn gives_ends(
-    alloc: Global,
-    bytes: &[u8],
-    channel: usize,
-    clocks: &[&[u32]],
-) -> Result<bool, Fail> {
-    let t = decode(alloc, bytes)?;
-    if t.channels.len() <= channel {
-        return Ok(false);
-    }
-    let mut cursor = Cursor::new(alloc, bytes, channel, Kind::End)?;
-    for needs in clocks {
-        if cursor.at_end() || !has_clock(&cursor, &t, needs) {
-            return Ok(false);
-        }
-        cursor.step();
-    }
-    Ok(cursor.at_end())
-}
-
-// Both channels of two sends; in the second packet one starts while the other starts and completes.
-#[test]
-fn cursors_give_the_events_of_two_sends(rt: HostRuntime) -> Result<(), Fail> {
-    let alloc = rt.alloc();
-    let bytes = joined(alloc, &PASS, &TWO_SENDS)?;
-    let in_starts: [Event; 2] = [(&[0, 0], &[5]), (&[1, 0], &[6])];
-    let out_starts: [Event; 2] = [(&[1, 0], &[5]), (&[2, 1], &[6])];
-    let starts = gives_starts(alloc, &bytes, 0, &in_starts)?
-        && gives_starts(alloc, &bytes, 1, &out_starts)?;
-    let ends = gives_ends(alloc, &bytes, 0, &[&[0, 0], &[1, 1]])?
-        && gives_ends(alloc, &bytes, 1, &[&[1, 0], &[2, 1]])?;
-    assert!(rt; starts && ends);
-    Ok(())
-}
-
-// Five channels of several ports, each of which starts and completes once in one packet.
-#[test]
-fn cursors_give_the_events_of_a_round(rt: HostRuntime) -> Result<(), Fail> {
-    let alloc = rt.alloc();
-    let bytes = joined(alloc, &REGS, &ROUND)?;
-    let cases: [Event; 5] = [
-        (&[0, 0, 0, 0, 0], &[0]),
-        (&[0, 0, 0, 0, 0], &[1000, 15]),
-        (&[1, 1, 0, 0, 0], &[0]),
-        (&[1, 1, 1, 0, 0], &[0]),
-        (&[1, 1, 1, 1, 0], &[1000, 0]),
-    ];
-    for (c, event) in cases.iter().enumerate() {
-        let starts = gives_starts(alloc, &bytes, c, &[*event])?;
-        let ends = gives_ends(alloc, &bytes, c, &[event.0])?;
-        assert!(rt; starts && ends, "{c}");
-    }
-    Ok(())
-}
-
-// A trace without events, and channels of one event.
-#[test]
-fn cursors_come_to_the_end(rt: HostRuntime) -> Result<(), Fail> {
-    let alloc = rt.alloc();
-    let silent = joined(alloc, &PASS, &NO_SEND)?;
-    let none = gives_starts(alloc, &silent, 0, &[])? && gives_ends(alloc, &silent, 1, &[])?;
-    let bytes = joined(alloc, &PASS, &ONE_SEND)?;
-    let one = gives_ends(alloc, &bytes, 0, &[&[0, 0]])?
-        && gives_ends(alloc, &bytes, 1, &[&[1, 0]])?;
-    assert!(rt; none && one);
-    Ok(())
+    cursor.at_end()
 }
 
 /// Counts the completions of a packet, one number a channel.
@@ -149,12 +85,6 @@ fn count(counts: &mut [u32], ends: u128) {
             *n = n.wrapping_add(1);
         }
     }
-}
-
-/// The number of a starting channel in a packet of channels with one port each.
-fn number_of(packet: &Packet, channel: usize) -> Option<u128> {
-    let below = below_in(packet.starts, channel);
-    packet.contents.get(below).copied()
 }
 
 /// How many channels below this one a mask names.
@@ -168,105 +98,202 @@ fn below_in(mask: u128, channel: usize) -> usize {
     below
 }
 
-/// Whether a cursor over completions stands at that of this packet, if it has one on the channel. It goes on behind it.
-fn passes_end(
-    cursor: &mut Cursor,
-    t: &Trace,
-    packet: &Packet,
-    channel: usize,
-    needs: &[u32],
-) -> bool
-    requires { (j : ℕ) × Stands cursor.old t.now j }
-    ensures { (j : ℕ) × Stands cursor.new t.now j }
-{
-    if !names(packet.ends, channel) {
-        return true;
+/// The channels that have an event of this kind in a packet.
+fn mask_of(packet: &Packet, kind: Kind) -> u128 {
+    match kind {
+        Kind::Start => packet.starts,
+        Kind::End => packet.ends,
     }
-    if cursor.at_end() || !has_clock(cursor, t, needs) {
-        return false;
-    }
-    cursor.step();
-    true
 }
 
-/// Whether a cursor over starts stands at that of this packet, if it has one on the channel. It goes on behind it.
-fn passes_start(
+/// The number of a starting channel in a packet of channels with one port each. A completion has no content, and 0 here.
+fn number_of(packet: &Packet, kind: Kind, channel: usize) -> Option<u128> {
+    match kind {
+        Kind::Start => {
+            let below = below_in(packet.starts, channel);
+            packet.contents.get(below).copied()
+        }
+        Kind::End => Some(0),
+    }
+}
+
+/// Whether a cursor stands at the event of this packet, if it has one on the channel. It goes on behind it.
+fn passes_packet(
     cursor: &mut Cursor,
     t: &Trace,
     packet: &Packet,
+    kind: Kind,
     channel: usize,
     needs: &[u32],
 ) -> bool
-    requires over { WalksOver cursor.old Kind.Start channel }
+    requires over { WalksOver cursor.old kind channel }
     requires stands { (j : ℕ) × Stands cursor.old t.now j }
-    ensures over { WalksOver cursor.new Kind.Start channel }
+    ensures over { WalksOver cursor.new kind channel }
     ensures stands { (j : ℕ) × Stands cursor.new t.now j }
 {
-    if !names(packet.starts, channel) {
+    if !names(mask_of(packet, kind), channel) {
         return true;
     }
-    let Some(number) = number_of(packet, channel) else {
-        return false;
-    };
-    if cursor.at_end() || !has_clock(cursor, t, needs) {
-        return false;
+    match number_of(packet, kind, channel) {
+        Some(number) => passes(cursor, t, kind, channel, (needs, &[number])),
+        None => false,
     }
-    if !has_content(cursor, t, channel, &[number]) {
-        return false;
-    }
-    cursor.step();
-    true
 }
 
-/// Whether a cursor gives the completions that the packets of this trace have on a channel.
-fn agrees_on_ends(alloc: Global, bytes: &[u8], t: &Trace, channel: usize) -> Result<bool, Fail>
+/// Whether a cursor gives the events that the packets of a trace of 32 channels have on its channel.
+fn passes_packets(cursor: &mut Cursor, t: &Trace, kind: Kind, channel: usize) -> bool
+    requires over { WalksOver cursor.old kind channel }
+    requires stands { (j : ℕ) × Stands cursor.old t.now j }
+{
+    let mut counts = [0u32; 32];
+    for packet in t.packets.as_slice() {
+        if !passes_packet(cursor, t, packet, kind, channel, &counts) {
+            return false;
+        }
+        count(&mut counts, packet.ends);
+    }
+    cursor.at_end()
+}
+
+/// Whether a cursor gives exactly these events of a channel, or those of the packets of a trace of 32 channels.
+fn gives(
+    alloc: Global,
+    bytes: &[u8],
+    t: &Trace,
+    kind: Kind,
+    channel: usize,
+    events: Option<&[Event]>,
+) -> bool
     requires { Encodes t.now bytes.now }
 {
     if t.channels.len() <= channel {
-        return Ok(false);
+        return false;
     }
-    let mut counts = vec![in alloc; 0u32; t.channels.len()]?;
-    let mut cursor = Cursor::new(alloc, bytes, channel, Kind::End)?;
-    for packet in t.packets.as_slice() {
-        if !passes_end(&mut cursor, t, packet, channel, counts.as_slice()) {
-            return Ok(false);
-        }
-        count(counts.as_mut_slice(), packet.ends);
+    match Cursor::new(alloc, bytes, channel, kind) {
+        Ok(mut cursor) => match events {
+            Some(events) => passes_all(&mut cursor, t, kind, channel, events),
+            None => passes_packets(&mut cursor, t, kind, channel),
+        },
+        Err(_) => false,
     }
-    Ok(cursor.at_end())
 }
 
-/// Whether a cursor gives the starts that the packets of this trace have on a channel.
-fn agrees_on_starts(alloc: Global, bytes: &[u8], t: &Trace, channel: usize) -> Result<bool, Fail>
-    requires { Encodes t.now bytes.now }
-{
-    if t.channels.len() <= channel {
-        return Ok(false);
+/// What a cursor gives: a header, a body, a kind, a channel, and all its events of that kind.
+type Walk<'a> = (&'a [u8], &'a [u8], Kind, usize, &'a [Event<'a>]);
+
+fn is_given(alloc: Global, bytes: &[u8], walk: &Walk) -> bool {
+    match decode(alloc, bytes) {
+        Ok(t) => gives(alloc, bytes, &t, walk.2, walk.3, Some(walk.4)),
+        Err(_) => false,
     }
-    let mut counts = vec![in alloc; 0u32; t.channels.len()]?;
-    let mut cursor = Cursor::new(alloc, bytes, channel, Kind::Start)?;
-    for packet in t.packets.as_slice() {
-        if !passes_start(&mut cursor, t, packet, channel, counts.as_slice()) {
-            return Ok(false);
-        }
-        count(counts.as_mut_slice(), packet.ends);
-    }
-    Ok(cursor.at_end())
 }
 
-/// The header of 32 channels of one port of 8 bits, with one letter each as their names.
-fn push_header(bytes: &mut Bytes) -> Result<(), Fail> {
-    for byte in b"VIDITRC1\x20" {
-        bytes.push(*byte)?;
+fn is_walked(alloc: Global, walk: &Walk) -> bool {
+    match joined(alloc, walk.0, walk.1) {
+        Some(bytes) => is_given(alloc, bytes.as_slice(), walk),
+        None => false,
     }
-    for c in 0..32u8 {
-        let letter = if c < 26 { b'a' + c } else { b'A' + (c - 26) };
-        for byte in [c % 2, 1, letter, 1, 8] {
-            bytes.push(byte)?;
-        }
-    }
-    Ok(())
 }
+
+// Both channels of two sends; in the second packet one starts while the other starts and completes.
+const OF_TWO_SENDS: [Walk; 4] = [
+    (
+        &PASS,
+        &TWO_SENDS,
+        Kind::Start,
+        0,
+        &[(&[0, 0], &[5]), (&[1, 0], &[6])],
+    ),
+    (
+        &PASS,
+        &TWO_SENDS,
+        Kind::Start,
+        1,
+        &[(&[1, 0], &[5]), (&[2, 1], &[6])],
+    ),
+    (
+        &PASS,
+        &TWO_SENDS,
+        Kind::End,
+        0,
+        &[(&[0, 0], &[]), (&[1, 1], &[])],
+    ),
+    (
+        &PASS,
+        &TWO_SENDS,
+        Kind::End,
+        1,
+        &[(&[1, 0], &[]), (&[2, 1], &[])],
+    ),
+];
+
+// Five channels of several ports, each of which starts and completes once in one packet.
+const OF_A_ROUND: [Walk; 10] = [
+    (&REGS, &ROUND, Kind::Start, 0, &[(&[0, 0, 0, 0, 0], &[0])]),
+    (&REGS, &ROUND, Kind::End, 0, &[(&[0, 0, 0, 0, 0], &[])]),
+    (
+        &REGS,
+        &ROUND,
+        Kind::Start,
+        1,
+        &[(&[0, 0, 0, 0, 0], &[1000, 15])],
+    ),
+    (&REGS, &ROUND, Kind::End, 1, &[(&[0, 0, 0, 0, 0], &[])]),
+    (&REGS, &ROUND, Kind::Start, 2, &[(&[1, 1, 0, 0, 0], &[0])]),
+    (&REGS, &ROUND, Kind::End, 2, &[(&[1, 1, 0, 0, 0], &[])]),
+    (&REGS, &ROUND, Kind::Start, 3, &[(&[1, 1, 1, 0, 0], &[0])]),
+    (&REGS, &ROUND, Kind::End, 3, &[(&[1, 1, 1, 0, 0], &[])]),
+    (
+        &REGS,
+        &ROUND,
+        Kind::Start,
+        4,
+        &[(&[1, 1, 1, 1, 0], &[1000, 0])],
+    ),
+    (&REGS, &ROUND, Kind::End, 4, &[(&[1, 1, 1, 1, 0], &[])]),
+];
+
+// A trace without events, and channels of one event.
+const TO_THE_END: [Walk; 4] = [
+    (&PASS, &NO_SEND, Kind::Start, 0, &[]),
+    (&PASS, &NO_SEND, Kind::End, 1, &[]),
+    (&PASS, &ONE_SEND, Kind::End, 0, &[(&[0, 0], &[])]),
+    (&PASS, &ONE_SEND, Kind::End, 1, &[(&[1, 0], &[])]),
+];
+
+fn are_walked(alloc: Global, walks: &[Walk]) -> bool {
+    let mut right = true;
+    for walk in walks {
+        right &= is_walked(alloc, walk);
+    }
+    right
+}
+
+#[test]
+fn cursors_give_the_events_of_two_sends(rt: HostRuntime) {
+    assert!(rt; are_walked(rt.alloc(), &OF_TWO_SENDS));
+}
+
+#[test]
+fn cursors_give_the_events_of_a_round(rt: HostRuntime) {
+    assert!(rt; are_walked(rt.alloc(), &OF_A_ROUND));
+}
+
+#[test]
+fn cursors_come_to_the_end(rt: HostRuntime) {
+    assert!(rt; are_walked(rt.alloc(), &TO_THE_END));
+}
+
+/// The header of 32 channels of one port of 8 bits, inward and outward in turn, with one letter each as their names.
+const WIDE: &[u8; 169] =
+    b"VIDITRC1\x20\x00\x01a\x01\x08\x01\x01b\x01\x08\x00\x01c\x01\x08\x01\x01d\x01\x08\
+    \x00\x01e\x01\x08\x01\x01f\x01\x08\x00\x01g\x01\x08\x01\x01h\x01\x08\
+    \x00\x01i\x01\x08\x01\x01j\x01\x08\x00\x01k\x01\x08\x01\x01l\x01\x08\
+    \x00\x01m\x01\x08\x01\x01n\x01\x08\x00\x01o\x01\x08\x01\x01p\x01\x08\
+    \x00\x01q\x01\x08\x01\x01r\x01\x08\x00\x01s\x01\x08\x01\x01t\x01\x08\
+    \x00\x01u\x01\x08\x01\x01v\x01\x08\x00\x01w\x01\x08\x01\x01x\x01\x08\
+    \x00\x01y\x01\x08\x01\x01z\x01\x08\x00\x01A\x01\x08\x01\x01B\x01\x08\
+    \x00\x01C\x01\x08\x01\x01D\x01\x08\x00\x01E\x01\x08\x01\x01F\x01\x08";
 
 /// The mask of the channels that are in one of two phases in packet `p`. The first four packets bring in a quarter of them each.
 fn mask_in(p: u32, first: u32, second: u32) -> u32 {
@@ -294,59 +321,78 @@ fn masks_in(p: u32, in_turn: bool) -> (u32, u32) {
     (mask, mask)
 }
 
-/// Packet `p`.
-fn push_packet(bytes: &mut Bytes, p: u32, in_turn: bool) -> Result<(), Fail> {
-    let (starts, ends) = masks_in(p, in_turn);
-    bytes.push(1)?;
-    for byte in starts.to_le_bytes() {
-        bytes.push(byte)?;
-    }
-    for byte in ends.to_le_bytes() {
-        bytes.push(byte)?;
-    }
+/// Whether there is memory for the contents of packet `p`.
+fn has_contents(bytes: &mut Vec<u8>, p: u32, starts: u32) -> bool {
     for c in 0..32u32 {
-        if (starts >> c) & 1 == 1 {
-            bytes.push((p.wrapping_mul(7).wrapping_add(c.wrapping_mul(13)) % 256) as u8)?;
+        let number = (p.wrapping_mul(7).wrapping_add(c.wrapping_mul(13)) % 256) as u8;
+        if (starts >> c) & 1 == 1 && bytes.push(number).is_err() {
+            return false;
         }
     }
-    Ok(())
+    true
 }
 
-/// A trace of this many packets of 32 channels.
-fn large(alloc: Global, packets: u32, in_turn: bool) -> Result<Bytes, Fail> {
-    let mut bytes = Bytes::new(alloc);
-    push_header(&mut bytes)?;
+/// Whether there is memory for packet `p`.
+fn has_packet(bytes: &mut Vec<u8>, p: u32, in_turn: bool) -> bool {
+    let (starts, ends) = masks_in(p, in_turn);
+    bytes.push(1).is_ok()
+        && bytes.extend_from_slice(&starts.to_le_bytes()).is_ok()
+        && bytes.extend_from_slice(&ends.to_le_bytes()).is_ok()
+        && has_contents(bytes, p, starts)
+}
+
+fn has_packets(bytes: &mut Vec<u8>, packets: u32, in_turn: bool) -> bool {
     for p in 0..packets {
-        push_packet(&mut bytes, p, in_turn)?;
+        if !has_packet(bytes, p, in_turn) {
+            return false;
+        }
     }
-    bytes.push(0)?;
-    for byte in packets.to_be_bytes() {
-        bytes.push(byte)?;
-    }
-    Ok(bytes)
+    true
 }
 
-/// Whether all cursors over this many packets of 32 channels give what the decoded packets have, with the counts of their completions.
-fn agree(alloc: Global, packets: u32, in_turn: bool) -> Result<bool, Fail> {
-    let bytes = large(alloc, packets, in_turn)?;
-    let t = decode(alloc, bytes.as_slice())?;
-    let mut right = t.channels.len() == 32 && t.packets.len() == packets as usize;
+/// Whether there is memory for a trace of this many packets of 32 channels.
+fn has_trace(bytes: &mut Vec<u8>, packets: u32, in_turn: bool) -> bool {
+    bytes.extend_from_slice(WIDE).is_ok()
+        && has_packets(bytes, packets, in_turn)
+        && bytes.push(0).is_ok()
+        && bytes.extend_from_slice(&packets.to_be_bytes()).is_ok()
+}
+
+/// Whether all cursors over a trace of 32 channels give what the decoded packets have, with the counts of their completions.
+fn are_given(alloc: Global, bytes: &[u8], t: &Trace) -> bool
+    requires { Encodes t.now bytes.now }
+{
+    let mut right = true;
     for c in 0..32 {
-        right &= agrees_on_starts(alloc, bytes.as_slice(), &t, c)?;
-        right &= agrees_on_ends(alloc, bytes.as_slice(), &t, c)?;
+        right &= gives(alloc, bytes, t, Kind::Start, c, None);
+        right &= gives(alloc, bytes, t, Kind::End, c, None);
     }
-    Ok(right)
+    right
+}
+
+fn are_all_given(alloc: Global, bytes: &[u8], packets: u32) -> bool {
+    match decode(alloc, bytes) {
+        Ok(t) => {
+            let whole = t.channels.len() == 32 && t.packets.len() == packets as usize;
+            whole && are_given(alloc, bytes, &t)
+        }
+        Err(_) => false,
+    }
+}
+
+/// The same of this many packets.
+fn agree(alloc: Global, packets: u32, in_turn: bool) -> bool {
+    let mut bytes = Vec::new(alloc);
+    has_trace(&mut bytes, packets, in_turn) && are_all_given(alloc, bytes.as_slice(), packets)
 }
 
 #[test]
-fn cursors_agree_with_packets_that_differ(rt: HostRuntime) -> Result<(), Fail> {
-    assert!(rt; agree(rt.alloc(), 50000, true)?);
-    Ok(())
+fn cursors_agree_with_packets_that_differ(rt: HostRuntime) {
+    assert!(rt; agree(rt.alloc(), 50000, true));
 }
 
 // As far as a cursor looks ahead, and further.
 #[test]
-fn cursors_agree_with_packets_that_are_alike(rt: HostRuntime) -> Result<(), Fail> {
-    assert!(rt; agree(rt.alloc(), 3000, false)?);
-    Ok(())
+fn cursors_agree_with_packets_that_are_alike(rt: HostRuntime) {
+    assert!(rt; agree(rt.alloc(), 3000, false));
 }

@@ -1,9 +1,10 @@
 use Rattle.std.proofs.Common.{ℕ}
-use Rattle.trace_code.specs.Stands.{Stands}
-use Rattle.trace_code_checks.proofs.walk_tests.agrees_on_ends.Given as goal
+use Rattle.trace_code.specs.Stands.{Stands, WalksOver}
+use Rattle.trace_code_checks.proofs.walk_tests.passes_packets.Given as goal
 
 abbrev pub invariant-loop-packet : goal.invariant-loop-packet
 invariant-loop-packet l = record {
   j : ℕ;
   stands : Stands l.cursor l.t j;
+  over : WalksOver l.cursor l.kind l.channel;
 }
