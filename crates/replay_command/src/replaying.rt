@@ -1,6 +1,6 @@
 //! The command `replay`.
 
-ghost use Rattle.std.specs.Prelude.{◌≡◌, ℕ, ◌≤◌, List, Ok, IfOk, IfErr, length};
+ghost use Rattle.std.specs.Prelude.{◌≡◌, ◌≤◌, List, Ok, IfOk, IfErr, length};
 ghost use Rattle.trace_model.specs.declared.row.Row.{Row as OneRow};
 ghost use Rattle.trace_model.specs.declared.trace.Trace.{Trace as OneTrace};
 ghost use Rattle.trace_model.specs.Recording.{trace_of};

@@ -1,6 +1,6 @@
 //! Rows of plain runs under scripts, with all masks: gates, valids, readies, starts and ends.
 
-ghost use Rattle.std.specs.Prelude.{◌≡◌, ◌<◌, ◌^◌, length};
+ghost use Rattle.std.specs.Prelude.{◌<◌, ◌^◌, length};
 ghost use Rattle.run_model.specs.Building.{PortsAreNets};
 ghost use Rattle.run_model.specs.MapOf.{IsMapOf};
 ghost use Rattle.script_text.specs.Fits.{FitsChannels};

@@ -1,6 +1,6 @@
 //! Offers, gates and feeds that look random, and are the same each time.
 
-ghost use Rattle.std.specs.Prelude.{◌≡◌, ◌≤◌, ◌<◌, ◌+◌, ◌*◌, ◌^◌, if◌then◌else◌, IfOk, length, replicate};
+ghost use Rattle.std.specs.Prelude.{◌≡◌, ◌≤◌, ◌<◌, ◌*◌, ◌^◌, IfOk, length};
 ghost use Rattle.trace_model.specs.Packet.{Fit};
 ghost use Rattle.trace_model.specs.Row.{all_widths, replaced, AreOffers};
 ghost use Rattle.run_model.specs.Building.{joined};

@@ -1,6 +1,6 @@
 //! Feeds of replayers as lines of a file: `more N needs N .. contents N ..`.
 
-ghost use Rattle.std.specs.Prelude.{◌≡◌, ◌≤◌, IfOk, length};
+ghost use Rattle.std.specs.Prelude.{◌≤◌, IfOk, length};
 ghost use Rattle.chan_replayer.specs.Feed.{IsFeedOver};
 
 use chan_replayer::{Feed, Needs};

@@ -1,6 +1,5 @@
 //! Wrapped designs whose nets are read.
 
-ghost use Rattle.std.specs.Prelude.{◌≡◌};
 ghost use Rattle.trace_model.specs.declared.row.Row.{Row as OneRow};
 
 use chan_monitor::Shell;

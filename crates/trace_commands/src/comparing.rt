@@ -2,7 +2,6 @@
 
 ghost use Rattle.std.specs.Prelude.{◌≡◌, IfOk};
 ghost use Rattle.trace_code.specs.Encoding.{HasEncoding};
-ghost use Rattle.trace_compare.specs.Findings.{findings};
 ghost use Rattle.vidi_io.specs.Cause.{Rose};
 ghost use Rattle.vidi_io.specs.Shelf.{Later};
 ghost use Rattle.vidi_bench.specs.AnswerText.{text_of};

@@ -1,6 +1,6 @@
 //! The words of a command line.
 
-ghost use Rattle.std.specs.Prelude.{◌≡◌, ℕ, [], ◌∷◌, MatchOption, codes};
+ghost use Rattle.std.specs.Prelude.{ℕ, [], ◌∷◌, MatchOption, codes};
 ghost use Rattle.vidi_commands.specs.Command as spec;
 
 use sample_gen::LARGEST;

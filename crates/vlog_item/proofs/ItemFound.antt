@@ -1,4 +1,4 @@
--- What is read is of good shape and spelled so: items, modules and files.
+-- What is read is of good shape and spelled so: items.
 use Rattle.std.proofs.Common.{◌≡◌, if◌then◌else◌, ℕ, Option, None, Some, List, [], ◌∷◌, ◌++◌, refl, ap}
 use Rattle.std.proofs.Common.{append_assoc}
 use Rattle.std.specs.List.{AllByRecursion}

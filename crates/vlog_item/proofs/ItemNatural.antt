@@ -1,4 +1,4 @@
--- Without lines the reader reads the same files, without their lines.
+-- Without lines the reader reads the same items, without their lines.
 use Rattle.std.proofs.Common.{◌≡◌, if◌then◌else◌, ℕ, Bool, true, false, Option, None, Some, [], ◌∷◌, map, option_map}
 use Rattle.std.proofs.Common.{refl}
 use Rattle.vlog_tree.specs.declared.terminal.Terminal.TheVariants as t

@@ -1,4 +1,4 @@
--- What is spelled is read: files of good shape, and all that stands in them.
+-- What is spelled is read: items of good shape, and all that stands in them.
 use Rattle.std.proofs.Common.{◌≡◌, ℕ, ◌<◌, ◌≤◌, true, false, Option, None, Some, List, [], ◌∷◌, ◌++◌, length, refl}
 use Rattle.std.proofs.Common.{ap}
 use Rattle.std.proofs.Common.{◌∙◌, arith, length-append}

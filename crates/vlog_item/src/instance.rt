@@ -1,6 +1,6 @@
 //! The reader of instances.
 
-ghost use Rattle.std.specs.Prelude.{◌≡◌, ℕ, map, option_map};
+ghost use Rattle.std.specs.Prelude.{ℕ, map, option_map};
 ghost use Rattle.vlog_tree.specs.Tree.{ConnOf};
 ghost use Rattle.vlog_tree.specs.Plain.{plain_ident, plain_expr, plain_conn, plain_item};
 ghost use Rattle.vlog_expr.specs.Marks.{all_marked};

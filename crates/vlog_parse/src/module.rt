@@ -1,8 +1,8 @@
 //! The reader of modules and files.
 
-ghost use Rattle.std.specs.Prelude.{◌≡◌, ◌≤◌, ℕ, Some, [], map, option_map};
+ghost use Rattle.std.specs.Prelude.{◌≡◌, ℕ, Some, [], map, option_map};
 ghost use Rattle.vlog_tree.specs.Tree.{PortOf};
-ghost use Rattle.vlog_tree.specs.Plain.{plain_expr, plain_parameter, plain_head, plain_port, plain_item, plain_module, plain};
+ghost use Rattle.vlog_tree.specs.Plain.{plain_parameter, plain_head, plain_port, plain_item, plain_module, plain};
 ghost use Rattle.vlog_expr.specs.Marks.{all_marked};
 ghost use Rattle.vlog_parse.specs.FileReader.{input_at, output_at, direction_front, head_front, port_at, first_port_at, ports_at, items_at};
 ghost use Rattle.vlog_parse.specs.FileReader.{header_at, module_at, modules_at, file_at};

@@ -3,8 +3,6 @@
 ghost use Rattle.std.specs.Prelude.{◌≡◌, ℕ, ◌≤◌, List, [], IfOk, IfErr, length};
 ghost use Rattle.net_design.specs.Lawful.{IsLawful};
 ghost use Rattle.net_order.specs.Order.{IsOrder};
-ghost use Rattle.shim_trees.specs.RecordTop.{record_name};
-ghost use Rattle.shim_trees.specs.ReplayTop.{replay_name};
 ghost use Rattle.shim_trees.specs.Laws.{IsMapIn};
 ghost use Rattle.shim_trees.specs.Wrapped.{reserved_names, wrapped};
 ghost use Rattle.vlog_parse.specs.Marks.{all_marked};
@@ -17,7 +15,7 @@ ghost use Rattle.vidi_bench.specs.Design.{text_limit, IsAccepted};
 ghost use Rattle.vidi_bench.specs.Ended.{EndsWith};
 ghost use Rattle.wrap_command.specs.Shims.{file_text};
 ghost use Rattle.wrap_command.specs.Shims.{IsClearTop, IsClearTree, IsDeepTree, IsFaulty, IsFaultyAs, IsFaultyTop, IsFaultyTree};
-ghost use Rattle.wrap_command.specs.Shims.{IsLong, IsLoopedTop, IsReadAs, IsRefusedTop, IsReserved, IsUnwrapped, IsWrapped};
+ghost use Rattle.wrap_command.specs.Shims.{IsLong, IsLoopedTop, IsRefusedTop, IsReserved, IsUnwrapped, IsWrapped};
 
 use chan_map::Map;
 use net_design::Design;

@@ -1,6 +1,6 @@
 //! Good shape of names and numbers.
 
-ghost use Rattle.std.specs.Prelude.{◌≡◌, ◌↔◌, IsTrue};
+ghost use Rattle.std.specs.Prelude.{◌↔◌, IsTrue};
 ghost use Rattle.vlog_lex.specs.Lexeme.{IsToken};
 ghost use Rattle.vlog_tree.specs.Shape.{IsGoodName};
 ghost use Rattle.vlog_tree.specs.Words.{number_kind};

@@ -1,6 +1,6 @@
 //! Expressions spelled as tokens.
 
-ghost use Rattle.std.specs.Prelude.{◌≡◌, [], ◌∷◌, ◌++◌, OnOk, option_map};
+ghost use Rattle.std.specs.Prelude.{◌≡◌, [], ◌++◌, OnOk, option_map};
 ghost use Rattle.vlog_tree.specs.Words.{tokens_of};
 ghost use Rattle.vlog_tree.specs.Plain.{plain_sign, plain_expr, plain_prim, plain_unary, plain_ref, plain_sel, plain_exprs};
 ghost use Rattle.vlog_tree.specs.Spelling.{unary_terminal, binary_terminal, sign_words, expr_words, prim_words, ref_words, sel_words};

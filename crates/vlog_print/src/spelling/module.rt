@@ -4,11 +4,11 @@ ghost use Rattle.std.specs.Prelude.{◌≡◌, ℕ, [], ◌∷◌, ◌++◌, OnO
 ghost use Rattle.vlog_tree.specs.Tree.{IdentOf, ParameterOf, PortOf, NamedValueOf, Reg1Of, AssignOf, ConnOf, ItemOf, ModuleOf};
 ghost use Rattle.vlog_tree.specs.Words.{NameWord, Fixed, tokens_of};
 ghost use Rattle.vlog_tree.specs.declared.terminal.Terminal.TheVariants as t;
-ghost use Rattle.vlog_tree.specs.Plain.{plain_ident, plain_range, plain_head, plain_port, plain_named, plain_tail, plain_reg, plain_assign};
+ghost use Rattle.vlog_tree.specs.Plain.{plain_ident, plain_range, plain_head, plain_port, plain_named, plain_reg, plain_assign};
 ghost use Rattle.vlog_tree.specs.Plain.{plain_event, plain_always, plain_item, plain_module, plain, plain_expr, plain_parameter_head};
 ghost use Rattle.vlog_tree.specs.Plain.{plain_parameter, plain_conn, plain_instance};
 ghost use Rattle.vlog_tree.specs.Spelling.{optional, with_commas, in_row, ident_words, range_words, direction_words, head_words};
-ghost use Rattle.vlog_tree.specs.Spelling.{init_words, port_words, named_words, tail_words, reg_words, assign_words, event_words};
+ghost use Rattle.vlog_tree.specs.Spelling.{init_words, port_words, named_words, reg_words, assign_words, event_words};
 ghost use Rattle.vlog_tree.specs.Spelling.{always_words, item_words, module_words, toks, parameter_head_words, parameter_words, hash_words};
 ghost use Rattle.vlog_tree.specs.Spelling.{conn_words, instance_words};
 
