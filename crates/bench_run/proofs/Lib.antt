@@ -1,2 +1,3 @@
 pub mod Growing
 pub mod PlainLaws
+pub use Rattle.chan_monitor.proofs.run_model as run_model

@@ -2,18 +2,18 @@
 use Rattle.std.proofs.Common.{◌≡◌, ℕ, List, Option, None, Some, length, refl, ap, sym, subst, ◌∙◌}
 use Rattle.std.specs.Prelude.{IfSome}
 use Rattle.std.proofs.Math.Logic.{∥∥₁_map}
-use Rattle.vidi_bits.specs.Number.{has}
-use Rattle.trace_model.specs.declared.channel.Channel.{Channel}
-use Rattle.trace_model.specs.declared.row.Row.{Row}
-use Rattle.run_model.specs.Played.{all_up}
-use Rattle.run_model.specs.Run.{AllUp, IsTheRun}
-use Rattle.run_model.proofs.Ends.{the-run}
-use Rattle.run_model.proofs.ReplayLaws.{all-up-below}
-use Rattle.run_model.proofs.RunLaws.{kept, one-of_length, run-keeps, GatesAreFixed, StayUp}
-use Rattle.run_model.proofs.Stops.{one-that_ends}
-use Rattle.net_design.specs.declared.design.Design.{Design}
-use Rattle.chan_map.specs.declared.pins.Map.{Map}
-use Rattle.script_text.specs.Offer.{Offer}
+use Rattle.chan_monitor.specs.vidi_bits.Number.{has}
+use Rattle.env_script.specs.trace_model.declared.channel.Channel.{Channel}
+use Rattle.env_script.specs.trace_model.declared.row.Row.{Row}
+use Rattle.chan_monitor.specs.run_model.Played.{all_up}
+use Rattle.chan_monitor.specs.run_model.Run.{AllUp, IsTheRun}
+use Rattle.chan_monitor.proofs.run_model.Ends.{the-run}
+use Rattle.chan_monitor.proofs.run_model.ReplayLaws.{all-up-below}
+use Rattle.chan_monitor.proofs.run_model.RunLaws.{kept, one-of_length, run-keeps, GatesAreFixed, StayUp}
+use Rattle.chan_monitor.proofs.run_model.Stops.{one-that_ends}
+use Rattle.chan_monitor.specs.net_design.declared.design.Design.{Design}
+use Rattle.chan_monitor.specs.chan_map.declared.pins.Map.{Map}
+use Rattle.env_script.specs.script_text.Offer.{Offer}
 use Rattle.env_script.specs.Offered.{offers_after}
 use Rattle.env_script.proofs.Lasting.{offers-fit, offers-stay}
 use Rattle.bench_run.specs.declared.plain.Spot.{Spot}

@@ -1,10 +1,10 @@
 -- What follows for plain runs.
 use Rattle.std.specs.Prelude.{◌≡◌, ℕ, List}
-use Rattle.trace_model.specs.declared.row.Row.{Row}
-use Rattle.net_design.specs.declared.design.Design.{Design}
-use Rattle.chan_map.specs.declared.pins.Map.{Map}
-use Rattle.run_model.specs.Laws.{ContentsStay, IsReady, OneOfLength}
-use Rattle.script_text.specs.Offer.{Offer}
+use Rattle.env_script.specs.trace_model.declared.row.Row.{Row}
+use Rattle.chan_monitor.specs.net_design.declared.design.Design.{Design}
+use Rattle.chan_monitor.specs.chan_map.declared.pins.Map.{Map}
+use Rattle.chan_monitor.specs.run_model.Laws.{ContentsStay, IsReady, OneOfLength}
+use Rattle.env_script.specs.script_text.Offer.{Offer}
 use Rattle.env_script.specs.Offered.{AreLasting}
 use Rattle.bench_run.specs.declared.plain.PlainRun.{PlainRun}
 use Rattle.bench_run.specs.Plain.{IsPlainRun, IsRunAllUp}

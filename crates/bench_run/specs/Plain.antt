@@ -1,15 +1,15 @@
 -- *IsRun* with all gates up, as an answer, and *Unstable*'s place.
 use Rattle.std.specs.Prelude.{◌≡◌, ℕ, ◌≤◌, List, Option, Some, None, IfSome, length}
-use Rattle.trace_model.specs.declared.channel.Channel.{Channel}
-use Rattle.trace_model.specs.declared.row.Row.{Row}
-use Rattle.trace_model.specs.Row.{row_before}
-use Rattle.trace_model.specs.Stability.{IsLowestUnstable}
-use Rattle.net_design.specs.declared.design.Design.{Design}
-use Rattle.net_design.specs.declared.values.Values.{Values}
-use Rattle.chan_map.specs.declared.pins.Map.{Map}
-use Rattle.run_model.specs.Played.{AreStable}
-use Rattle.run_model.specs.Run.{AllUp, IsRun, IsTheRun}
-use Rattle.script_text.specs.Offer.{Offer}
+use Rattle.env_script.specs.trace_model.declared.channel.Channel.{Channel}
+use Rattle.env_script.specs.trace_model.declared.row.Row.{Row}
+use Rattle.env_script.specs.trace_model.Row.{row_before}
+use Rattle.env_script.specs.trace_model.Stability.{IsLowestUnstable}
+use Rattle.chan_monitor.specs.net_design.declared.design.Design.{Design}
+use Rattle.chan_monitor.specs.net_design.declared.values.Values.{Values}
+use Rattle.chan_monitor.specs.chan_map.declared.pins.Map.{Map}
+use Rattle.chan_monitor.specs.run_model.Played.{AreStable}
+use Rattle.chan_monitor.specs.run_model.Run.{AllUp, IsRun, IsTheRun}
+use Rattle.env_script.specs.script_text.Offer.{Offer}
 use Rattle.env_script.specs.Offered.{offers_after}
 use Rattle.bench_run.specs.declared.plain.PlainRun.{PlainRun}
 use Rattle.bench_run.specs.declared.plain.Spot.{Spot}

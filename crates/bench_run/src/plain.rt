@@ -2,26 +2,26 @@
 
 ghost use Rattle.std.specs.Prelude.{◌≡◌, ◌<◌, ◌≤◌, ◌-◌, ◌^◌, ◌⊎◌, [], ℕ, Option, None, Some, length, slice_get, IfOk, OnErr};
 ghost use Rattle.std.specs.Option.{option_copied};
-ghost use Rattle.trace_model.specs.declared.row.Row.{Row as OneRow};
-ghost use Rattle.trace_model.specs.Row.{all_widths, row_before, IsOver};
-ghost use Rattle.net_design.specs.declared.design.Design.{Design};
-ghost use Rattle.net_design.specs.declared.values.Values.{Values};
-ghost use Rattle.run_model.specs.Building.{PortsAreNets};
-ghost use Rattle.run_model.specs.MapOf.{IsMapOf};
-ghost use Rattle.run_model.specs.Played.{all_up};
+ghost use Rattle.env_script.specs.trace_model.declared.row.Row.{Row as OneRow};
+ghost use Rattle.env_script.specs.trace_model.Row.{all_widths, row_before, IsOver};
+ghost use Rattle.chan_monitor.specs.net_design.declared.design.Design.{Design};
+ghost use Rattle.chan_monitor.specs.net_design.declared.values.Values.{Values};
+ghost use Rattle.chan_monitor.specs.run_model.Building.{PortsAreNets};
+ghost use Rattle.chan_monitor.specs.run_model.MapOf.{IsMapOf};
+ghost use Rattle.chan_monitor.specs.run_model.Played.{all_up};
 ghost use Rattle.chan_monitor.specs.Shell.{IsRunning, IsShown};
 ghost use Rattle.env_script.specs.Offered.{offers_on, AllFit};
 ghost use Rattle.bench_run.specs.Plain.{GoesOn, IsBreak, IsPlainRun, StandsBehind, StandsWithin};
-ghost use Rattle.script_text.specs.declared.script.TheConstants.{MOST_CYCLES};
+ghost use Rattle.env_script.specs.script_text.declared.script.TheConstants.{MOST_CYCLES};
 
 use crate::lent::Lent;
-use chan_map::Map;
+use chan_monitor::chan_map::Map;
+use chan_monitor::net_design::Block;
+use chan_monitor::vidi_bits::{Items, Memory};
 use chan_monitor::{Machines, Shell};
+use env_script::trace_model::{Channels, Offers, Row, Rows, unstable};
 use env_script::{Env, gather, offers_over};
-use net_design::Block;
 use std::alloc::Global;
-use trace_model::{Channels, Offers, Row, Rows, unstable};
-use vidi_bits::{Items, Memory};
 
 /// A channel in a cycle.
 #[derive(Clone, Copy, PartialEq, Eq, Drop)]

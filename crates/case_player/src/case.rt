@@ -7,7 +7,7 @@ use crate::mark::Mark;
 use crate::section::Section;
 use std::alloc::Global;
 use std::collections::BTreeMap;
-use vidi_bits::Memory;
+use vidi_io::vidi_bits::Memory;
 use vidi_io::{Text, Words};
 
 /// Which files a case begins with.

@@ -2,8 +2,8 @@
 
 use std::alloc::{AllocError, AllocFailed};
 use thiserror::Error;
-use vidi_bits::Memory;
 use vidi_io::Failed;
+use vidi_io::vidi_bits::Memory;
 
 /// Why no score was reported.
 #[derive(Clone, Copy, Debug, Error)]

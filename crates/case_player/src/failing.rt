@@ -1,7 +1,7 @@
 //! The calls that are to fail.
 
 use std::alloc::Global;
-use vidi_bits::{Memory, Numbers};
+use vidi_io::vidi_bits::{Memory, Numbers};
 use vidi_io::{Fail, FailCall, Fails};
 
 /// A call that is to fail.

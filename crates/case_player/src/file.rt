@@ -5,7 +5,7 @@ use crate::mark::Form;
 use crate::section::Section;
 use hex::FromHexError;
 use std::alloc::Global;
-use vidi_bits::Memory;
+use vidi_io::vidi_bits::Memory;
 
 /// Adds a section's file, and tells whether it has a name, is the first of this name, and can be read.
 pub fn add_file(

@@ -23,3 +23,4 @@ pub use error::PlayError;
 pub use playing::{play_files, play_text};
 pub use program::play_program;
 pub use score::Score;
+pub use vidi_io;

@@ -12,7 +12,7 @@ use crate::report::{report_case, report_file_error, report_score};
 use crate::score::Score;
 use std::alloc::Global;
 use std::collections::BTreeMap;
-use vidi_bits::Memory;
+use vidi_io::vidi_bits::Memory;
 use vidi_io::{MemShelf, MemSink, ReadError, Shelf, Sink, Words, read_whole};
 
 /// The most bytes that a case file may have.

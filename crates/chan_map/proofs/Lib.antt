@@ -10,3 +10,6 @@ pub mod Covered
 pub mod Bounds
 pub mod OneText
 pub mod OneBinding
+pub use Rattle.net_design.proofs as net_design
+pub use Rattle.trace_model.proofs as trace_model
+pub use Rattle.vidi_lines.proofs.vidi_bits as vidi_bits

@@ -1,18 +1,18 @@
 -- A map is bound to a design in one way.
 use Rattle.std.proofs.Common.{◌≡◌, ◌⊎◌, List, [], ◌∷◌, Option, None, Some, inl, inr, refl, sym, ap, ◌∙◌}
 use Rattle.std.specs.Option.{option_to_list}
-use Rattle.vidi_bits.specs.Findings.{first}
+use Rattle.vidi_lines.specs.vidi_bits.Findings.{first}
 use Rattle.net_design.specs.declared.design.Design.{Design}
 use Rattle.chan_map.specs.declared.error.MapError.{MapError}
 use Rattle.chan_map.specs.declared.error.MapError.TheVariants.{Line, Port, Cover, Limit, Memory}
 use Rattle.chan_map.specs.declared.text.MapText.{MapText}
 use Rattle.chan_map.specs.declared.pins.Map.{Map}
 use Rattle.chan_map.specs.declared.pins.Reset.{Reset}
-use Rattle.vidi_bits.specs.Findings.{IsFirst}
+use Rattle.vidi_lines.specs.vidi_bits.Findings.{IsFirst}
 use Rattle.chan_map.specs.Told.{map_told}
 use Rattle.chan_map.specs.Bound.{map_faults, IsBound, BindsMap}
 use Rattle.chan_map.specs.Laws.{OneBinding}
-use Rattle.vidi_bits.proofs.OneAnswer.{one-answer}
+use Rattle.vidi_lines.proofs.vidi_bits.OneAnswer.{one-answer}
 
 same-reset : (a b : Option Reset) → option_to_list a ≡ option_to_list b → a ≡ b
 same-reset None None e = refl

@@ -2,7 +2,7 @@
 use Rattle.std.proofs.Common.{◌≡◌, ◌⊎◌, ℕ, List, [], ◌∷◌, Some, inl, inr, true, refl, sym, ap, subst, ◌∙◌}
 use Rattle.std.proofs.Props.{props}
 use Rattle.std.specs.List.{flat_map, list_all}
-use Rattle.vidi_bits.specs.Findings.{first}
+use Rattle.vidi_lines.specs.vidi_bits.Findings.{first}
 use Rattle.chan_map.specs.declared.error.MapError.{MapError}
 use Rattle.chan_map.specs.declared.error.MapError.TheVariants.{Line, Port, Cover, Limit, Memory}
 use Rattle.chan_map.specs.declared.map_text.MapLine.{MapLine}
@@ -10,7 +10,7 @@ use Rattle.chan_map.specs.declared.text.MapText.{MapText}
 use Rattle.chan_map.specs.Follow.{entries, clock_name, top_name, follow, is_named}
 use Rattle.chan_map.specs.Text.{text_faults, IsText, IsFirstLine, ReadsMap}
 use Rattle.chan_map.specs.Laws.{OneMapText}
-use Rattle.vidi_bits.proofs.OneAnswer.{one-answer}
+use Rattle.vidi_lines.proofs.vidi_bits.OneAnswer.{one-answer}
 
 same-one : (a b : List ℕ) → a ∷ [] ≡ b ∷ [] → a ≡ b
 same-one a b e = cc

@@ -7,7 +7,7 @@ use Rattle.std.specs.Prelude.{count_by}
 use Rattle.std.specs.Cmp.Lexicographic.{pointwise}
 use Rattle.std.specs.Map.{lookup}
 use Rattle.std.specs.Str.{bytes_eq}
-use Rattle.vidi_bits.specs.Findings.{or_first}
+use Rattle.vidi_lines.specs.vidi_bits.Findings.{or_first}
 use Rattle.indexmap.specs.IndexMap.{IndexMap, get, get_by, insert_entry}
 use Rattle.indexmap.proofs.CallerLemmas.{insert_entry-new}
 use Rattle.net_design.specs.declared.design.Port.{Port}

@@ -12,12 +12,12 @@ use Rattle.std.proofs.lemmas.List.Elements.{All-from_recursion}
 use Rattle.std.proofs.lemmas.List.Sums.{AllPass-from_list_all}
 use Rattle.std.proofs.lemmas.List.Quantifiers.{all_pairs_push}
 use Rattle.std.proofs.lemmas.Slice.Eq.{bytes_eq-Decides}
-use Rattle.vidi_bits.proofs.Bools.{left_of, right_of}
-use Rattle.vidi_bits.proofs.Each.{each_append}
-use Rattle.vidi_bits.specs.Findings.{is_nil, told_if}
+use Rattle.vidi_lines.proofs.vidi_bits.Bools.{left_of, right_of}
+use Rattle.vidi_lines.proofs.vidi_bits.Each.{each_append}
+use Rattle.vidi_lines.specs.vidi_bits.Findings.{is_nil, told_if}
 use Rattle.trace_model.specs.declared.channel.Channel.{Channel as Row}
 use Rattle.trace_model.specs.Channel.{is_letter, is_letter_or_digit, IsName, IsChannel, IsTable}
-use Rattle.vidi_bits.specs.Number.{IsWidth}
+use Rattle.vidi_lines.specs.vidi_bits.Number.{IsWidth}
 use Rattle.net_design.specs.declared.design.Direction.{Direction}
 use Rattle.net_design.specs.declared.design.Design.{Design}
 use Rattle.chan_map.specs.declared.error.MapError.TheVariants as F

@@ -24,7 +24,7 @@ use Rattle.chan_map.specs.declared.pins.Tie.{Tie}
 use Rattle.chan_map.specs.declared.pins.Reset.{Reset}
 use Rattle.chan_map.specs.Ports.{socket_named, source_side, sink_side, times}
 use Rattle.chan_map.specs.Reasons.{port_faults, cover_faults, limit_faults, all_names}
-use Rattle.vidi_bits.specs.Findings.{IsFirst}
+use Rattle.vidi_lines.specs.vidi_bits.Findings.{IsFirst}
 use Rattle.chan_map.specs.Told.{map_told}
 use Rattle.chan_map.specs.Places.{is_at, places}
 

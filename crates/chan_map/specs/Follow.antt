@@ -2,7 +2,7 @@
 use Rattle.std.specs.Prelude.{ℕ, ◌&&◌, not, Bool, true, false, if◌then◌else◌, List, [], ◌∷◌, ◌++◌, map}
 use Rattle.std.specs.List.{list_any, flat_map}
 use Rattle.std.specs.Str.{bytes_eq}
-use Rattle.vidi_bits.specs.Findings.{is_nil}
+use Rattle.vidi_lines.specs.vidi_bits.Findings.{is_nil}
 use Rattle.chan_map.specs.declared.map_text.Entry.{Entry}
 use Rattle.chan_map.specs.declared.map_text.Entry.TheVariants.{Top, Clock, Reset, Channel}
 use Rattle.chan_map.specs.declared.map_text.MapLine.{MapLine}

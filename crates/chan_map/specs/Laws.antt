@@ -1,6 +1,6 @@
 -- Of bytes there is one map text, and of a map text and a design one map, unless memory was wanting.
 use Rattle.std.specs.Prelude.{◌≡◌, ℕ, List}
-use Rattle.vidi_bits.specs.Agree.{OneAnswer}
+use Rattle.vidi_lines.specs.vidi_bits.Agree.{OneAnswer}
 use Rattle.net_design.specs.declared.design.Design.{Design}
 use Rattle.chan_map.specs.declared.error.MapError.TheVariants.{Memory}
 use Rattle.chan_map.specs.declared.text.MapText.{MapText}

@@ -10,10 +10,10 @@ use Rattle.net_design.specs.declared.design.Driver.{Driver}
 use Rattle.net_design.specs.declared.design.Direction.{Direction}
 use Rattle.net_design.specs.declared.design.Direction.TheVariants.{Input, Output}
 use Rattle.net_design.specs.declared.design.Design.{Design}
-use Rattle.vidi_bits.specs.Number.{IsWidth}
+use Rattle.vidi_lines.specs.vidi_bits.Number.{IsWidth}
 use Rattle.net_design.specs.Settled.{same_direction}
 use Rattle.net_design.specs.Bits.{named}
-use Rattle.vidi_bits.specs.Findings.{is_nil}
+use Rattle.vidi_lines.specs.vidi_bits.Findings.{is_nil}
 use Rattle.chan_map.specs.declared.sockets.Socket.{Socket}
 use Rattle.chan_map.specs.declared.map_text.ChannelLine.{ChannelLine}
 use Rattle.chan_map.specs.declared.map_text.Entry.{Entry}

@@ -2,7 +2,7 @@
 use Rattle.std.specs.Prelude.{◌≡◌, not, true, List, [], map}
 use Rattle.std.specs.List.{list_any, list_all, flat_map}
 use Rattle.std.specs.Option.{option_to_list}
-use Rattle.vidi_bits.specs.Findings.{is_nil}
+use Rattle.vidi_lines.specs.vidi_bits.Findings.{is_nil}
 use Rattle.chan_map.specs.declared.seen.Seen.{Seen}
 use Rattle.chan_map.specs.declared.map_text.Entry.{Entry}
 use Rattle.chan_map.specs.Follow.{is_reset, top_name, clock_name, channel_names, follow, is_named}

@@ -6,7 +6,7 @@ use Rattle.std.specs.Option.{option_to_list, option_map}
 use Rattle.vidi_lines.specs.declared.lines.Line.{Line}
 use Rattle.vidi_lines.specs.declared.error.LineError.{LineError}
 use Rattle.vidi_lines.specs.declared.error.LineError.TheVariants as L
-use Rattle.vidi_bits.specs.Findings.{is_nil, first, told_if}
+use Rattle.vidi_lines.specs.vidi_bits.Findings.{is_nil, first, told_if}
 use Rattle.vidi_lines.specs.Lines.{bad_lines, file_lines, words_of}
 use Rattle.chan_map.specs.declared.error.MapError.{MapError}
 use Rattle.chan_map.specs.declared.error.MapError.TheVariants as E

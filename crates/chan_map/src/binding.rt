@@ -3,7 +3,7 @@
 ghost use Rattle.std.specs.Prelude.{◌<◌, ℕ, List, IfOk};
 ghost use Rattle.chan_map.specs.Ports.{HaveWidths};
 ghost use Rattle.chan_map.specs.Sockets.{IsTop};
-ghost use Rattle.vidi_bits.specs.Findings.{Judged};
+ghost use Rattle.vidi_lines.specs.vidi_bits.Findings.{Judged};
 ghost use Rattle.chan_map.specs.Told.{map_told};
 ghost use Rattle.chan_map.specs.Bound.{width_named, map_faults, BindsMap};
 ghost use Rattle.chan_map.specs.Parts.{ArePartsOf};
@@ -19,7 +19,7 @@ use crate::text::MapText;
 use crate::times::check_cover;
 use net_design::Design;
 use std::alloc::Global;
-use vidi_bits::copied;
+use vidi_lines::vidi_bits::copied;
 
 /// What the lines add to a map, where they fit the design.
 fn checked_parts(alloc: Global, top: &Top, lines: &[MapLine]) -> Result<Parts, MapError>

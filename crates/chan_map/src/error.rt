@@ -3,8 +3,8 @@
 ghost use Rattle.std.specs.Prelude.{◌≡◌};
 
 use std::alloc::{AllocError, AllocFailed};
-use vidi_bits::{Memory, Name};
 use vidi_lines::LineError;
+use vidi_lines::vidi_bits::{Memory, Name};
 
 /// A limit of a map.
 #[derive(Clone, Copy, PartialEq, Eq)]

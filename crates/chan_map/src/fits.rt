@@ -8,7 +8,7 @@ ghost use Rattle.chan_map.specs.Sockets.{IsTop};
 ghost use Rattle.chan_map.specs.Ports.{socket_named, is_pin, is_bit, is_tied, is_read, is_own_clock, is_clock_of};
 ghost use Rattle.chan_map.specs.Ports.{source_side, sink_side, channel_fits, line_fits};
 ghost use Rattle.chan_map.specs.Reasons.{port_faults};
-ghost use Rattle.vidi_bits.specs.Findings.{Judged};
+ghost use Rattle.vidi_lines.specs.vidi_bits.Findings.{Judged};
 ghost use Rattle.chan_map.specs.Told.{map_told};
 
 use crate::error::MapError;
@@ -16,7 +16,7 @@ use crate::map_text::{ChannelLine, Entry, MapLine};
 use crate::sockets::{Socket, Top, same_direction, socket_named};
 use net_design::{Design, Direction, Mask};
 use trace_model::{Dir, names};
-use vidi_bits::Name;
+use vidi_lines::vidi_bits::Name;
 
 fn is_pin(d: Direction, found: Option<Socket>) -> bool
     ensures { result ≡ is_pin d found }

@@ -9,7 +9,7 @@ ghost use Rattle.chan_map.specs.Forms.{keyword_of, is_channel_name, tie_of, rese
 use crate::map_text::{ChannelLine, Entry};
 use std::alloc::Global;
 use trace_model::{Dir, are_letters_or_digits, is_letter};
-use vidi_bits::{Items, Memory, Name, copied};
+use vidi_lines::vidi_bits::{Items, Memory, Name, copied};
 use vidi_lines::{Names, number};
 
 /// The first word of a line.

@@ -3,7 +3,7 @@
 ghost use Rattle.std.specs.Prelude.{◌≡◌, sum_by};
 ghost use Rattle.trace_model.specs.Channel.{byte_count, content_bytes};
 ghost use Rattle.chan_map.specs.Reasons.{capped, count_faults, width_faults, byte_faults, limit_faults};
-ghost use Rattle.vidi_bits.specs.Findings.{Judged};
+ghost use Rattle.vidi_lines.specs.vidi_bits.Findings.{Judged};
 ghost use Rattle.chan_map.specs.Told.{map_told};
 
 use crate::error::{MapError, MapLimit};

@@ -1,8 +1,8 @@
 //! What the lines of a map say.
 
 use trace_model::Dir;
-use vidi_bits::{Items, Name};
 use vidi_lines::Names;
+use vidi_lines::vidi_bits::{Items, Name};
 
 /// A line `in` or `out`.
 #[derive(Drop)]

@@ -11,7 +11,7 @@ use crate::pins::{Pin, Pins, Plug, Plugs, Reset, Tie, Ties};
 use crate::sockets::{Socket, Top, socket_named};
 use std::alloc::Global;
 use trace_model::{Channel, Channels};
-use vidi_bits::{Bytes, Memory, Name, copied};
+use vidi_lines::vidi_bits::{Bytes, Memory, Name, copied};
 
 /// What the lines of a map add to it.
 #[derive(Drop)]

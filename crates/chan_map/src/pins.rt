@@ -3,7 +3,7 @@
 ghost use Rattle.std.specs.Prelude.{◌≡◌};
 
 use trace_model::Channels;
-use vidi_bits::{Items, Name};
+use vidi_lines::vidi_bits::{Items, Name};
 
 /// A port of the top.
 #[derive(Drop)]

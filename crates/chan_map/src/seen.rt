@@ -10,7 +10,7 @@ ghost use Rattle.chan_map.specs.Seen.{IsSeen};
 use crate::map_text::Entry;
 use indexmap::IndexSet;
 use std::alloc::Global;
-use vidi_bits::{Memory, Name, copied};
+use vidi_lines::vidi_bits::{Memory, Name, copied};
 
 /// What is kept of the lines before.
 #[derive(Drop)]

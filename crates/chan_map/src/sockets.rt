@@ -3,7 +3,7 @@
 ghost use Rattle.std.specs.Prelude.{◌≡◌, ◌≢◌, ◌<◌, ℕ, Some, None, List, IfOk, OnOk, nat_eq, if◌then◌else◌};
 ghost use Rattle.std.specs.Cmp.Lexicographic.{pointwise};
 ghost use Rattle.std.specs.Str.{bytes_eq};
-ghost use Rattle.vidi_bits.specs.Findings.{or_first};
+ghost use Rattle.vidi_lines.specs.vidi_bits.Findings.{or_first};
 ghost use Rattle.indexmap.specs.IndexMap.{get_by};
 ghost use Rattle.net_design.specs.declared.design.Direction.TheVariants.{Input, Output};
 ghost use Rattle.net_design.specs.Settled.{same_direction};
@@ -13,7 +13,7 @@ ghost use Rattle.chan_map.specs.Sockets.{IsTop};
 use indexmap::IndexMap;
 use net_design::{Design, Direction, Port};
 use std::alloc::Global;
-use vidi_bits::Memory;
+use vidi_lines::vidi_bits::Memory;
 
 /// A port of the top.
 #[derive(Clone, Copy, PartialEq, Eq)]

@@ -5,7 +5,7 @@ ghost use Rattle.std.specs.List.{list_all, flat_map};
 ghost use Rattle.chan_map.specs.Follow.{entries, clock_name, follow, is_named};
 
 use crate::map_text::MapLines;
-use vidi_bits::Name;
+use vidi_lines::vidi_bits::Name;
 
 /// A map that was read: its lines with words, and the names of the top module and of the clock's port.
 #[derive(Drop)]

@@ -4,7 +4,7 @@ ghost use Rattle.std.specs.Prelude.{◌≡◌, ◌+◌, ◌<◌, ◌∷◌, [], 
 ghost use Rattle.chan_map.specs.Sockets.{IsTop};
 ghost use Rattle.chan_map.specs.Ports.{names_of};
 ghost use Rattle.chan_map.specs.Reasons.{capped, all_names, cover_faults};
-ghost use Rattle.vidi_bits.specs.Findings.{Judged};
+ghost use Rattle.vidi_lines.specs.vidi_bits.Findings.{Judged};
 ghost use Rattle.chan_map.specs.Told.{map_told};
 ghost use Rattle.chan_map.specs.Times.{Adds, AreTimes};
 
@@ -12,7 +12,7 @@ use crate::error::MapError;
 use crate::map_text::{ChannelLine, Entry, MapLine};
 use crate::sockets::{Top, socket_named};
 use std::alloc::Global;
-use vidi_bits::{Items, Memory, Name, copied};
+use vidi_lines::vidi_bits::{Items, Memory, Name, copied};
 
 /// A count for each port.
 type Counts = Items<u32>;

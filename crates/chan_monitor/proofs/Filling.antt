@@ -6,22 +6,22 @@ use Rattle.std.proofs.lemmas.List.{append-nil, length-append, length-drop, lengt
 use Rattle.std.proofs.lemmas.List.{take_at}
 use Rattle.std.proofs.lemmas.List.{take_all, drop_at, drop-drop, drop_all}
 use Rattle.std.proofs.lemmas.Option.{slice_get_read}
-use Rattle.trace_model.specs.declared.channel.Channel.{Channel}
-use Rattle.trace_model.specs.declared.channel.Dir.{Dir}
-use Rattle.trace_model.specs.declared.channel.Dir.TheVariants.{Inward, Outward}
-use Rattle.trace_model.specs.declared.row.Offers.{Offers}
-use Rattle.trace_model.specs.Packet.{Fit}
-use Rattle.trace_model.specs.Row.{all_widths, content_at, replaced}
-use Rattle.trace_model.proofs.CountingLemmas.{take-more_read}
-use Rattle.trace_model.proofs.ContentsLemmas.{fit-length}
-use Rattle.trace_model.proofs.RowLemmas.{first_of, first-more, first-within, content-read, replaced-more}
-use Rattle.chan_map.specs.declared.pins.Pin.{Pin}
-use Rattle.chan_map.specs.declared.pins.Plug.{Plug}
+use Rattle.run_model.specs.trace_model.declared.channel.Channel.{Channel}
+use Rattle.run_model.specs.trace_model.declared.channel.Dir.{Dir}
+use Rattle.run_model.specs.trace_model.declared.channel.Dir.TheVariants.{Inward, Outward}
+use Rattle.run_model.specs.trace_model.declared.row.Offers.{Offers}
+use Rattle.run_model.specs.trace_model.Packet.{Fit}
+use Rattle.run_model.specs.trace_model.Row.{all_widths, content_at, replaced}
+use Rattle.run_model.proofs.trace_model.CountingLemmas.{take-more_read}
+use Rattle.run_model.proofs.trace_model.ContentsLemmas.{fit-length}
+use Rattle.run_model.proofs.trace_model.RowLemmas.{first_of, first-more, first-within, content-read, replaced-more}
+use Rattle.run_model.specs.chan_map.declared.pins.Pin.{Pin}
+use Rattle.run_model.specs.chan_map.declared.pins.Plug.{Plug}
 use Rattle.run_model.specs.Building.{at_plug, content_on, joined, mask_of}
 use Rattle.run_model.specs.Offers.{no_content, AreZeroWhileDown}
 use Rattle.std.proofs.lemmas.List.{get_or_read}
 use Rattle.run_model.proofs.Contents.{mask-more}
-use Rattle.vidi_bits.specs.Number.{has}
+use Rattle.run_model.specs.vidi_bits.Number.{has}
 use Rattle.run_model.proofs.JoinedLaws.{joined-more}
 use Rattle.chan_monitor.specs.declared.monitor.Passed.{Passed}
 use Rattle.chan_monitor.specs.Passing.{passed}

@@ -11,27 +11,27 @@ use Rattle.std.proofs.lemmas.List.Elements.{All-weaker}
 use Rattle.std.proofs.lemmas.List.FromFn.{length-enumerate_from}
 use Rattle.std.proofs.lemmas.Option.{slice_get-get_or, same_Some, IfSome_then}
 use Rattle.std.proofs.lemmas.Nat.{pow_pos}
-use Rattle.vidi_bits.specs.Number.{truth, has}
-use Rattle.vidi_bits.proofs.BitLemmas.{has-above}
-use Rattle.trace_model.specs.declared.channel.Channel.{Channel}
-use Rattle.trace_model.specs.declared.channel.Dir.{Dir}
-use Rattle.trace_model.specs.declared.channel.Dir.TheVariants.{Inward, Outward}
-use Rattle.trace_model.specs.declared.row.Offers.{Offers}
-use Rattle.trace_model.specs.declared.row.Row.{Row}
-use Rattle.trace_model.specs.Row.{content_at, sink_valid, AreOffers}
-use Rattle.trace_model.proofs.CountingLemmas.{count-cons, nth-below}
-use Rattle.net_design.specs.declared.design.Port.{Port}
-use Rattle.net_design.specs.declared.design.Direction.{Direction}
-use Rattle.net_design.specs.declared.design.Direction.TheVariants.{Input, Output}
-use Rattle.net_design.specs.declared.design.Design.{Design}
-use Rattle.net_design.specs.Pins.{input_limits, output_count}
-use Rattle.net_design.specs.Settled.{same_direction}
-use Rattle.chan_map.specs.declared.pins.Map.{Map}
-use Rattle.chan_map.specs.declared.pins.Pin.{Pin}
-use Rattle.chan_map.specs.declared.pins.Plug.{Plug}
-use Rattle.chan_map.specs.declared.pins.Reset.{Reset}
-use Rattle.chan_map.specs.declared.pins.Tie.{Tie}
-use Rattle.chan_map.specs.Bound.{IsPin, IsPlug, IsTie}
+use Rattle.run_model.specs.vidi_bits.Number.{truth, has}
+use Rattle.run_model.proofs.vidi_bits.BitLemmas.{has-above}
+use Rattle.run_model.specs.trace_model.declared.channel.Channel.{Channel}
+use Rattle.run_model.specs.trace_model.declared.channel.Dir.{Dir}
+use Rattle.run_model.specs.trace_model.declared.channel.Dir.TheVariants.{Inward, Outward}
+use Rattle.run_model.specs.trace_model.declared.row.Offers.{Offers}
+use Rattle.run_model.specs.trace_model.declared.row.Row.{Row}
+use Rattle.run_model.specs.trace_model.Row.{content_at, sink_valid, AreOffers}
+use Rattle.run_model.proofs.trace_model.CountingLemmas.{count-cons, nth-below}
+use Rattle.run_model.specs.net_design.declared.design.Port.{Port}
+use Rattle.run_model.specs.net_design.declared.design.Direction.{Direction}
+use Rattle.run_model.specs.net_design.declared.design.Direction.TheVariants.{Input, Output}
+use Rattle.run_model.specs.net_design.declared.design.Design.{Design}
+use Rattle.run_model.specs.net_design.Pins.{input_limits, output_count}
+use Rattle.run_model.specs.net_design.Settled.{same_direction}
+use Rattle.run_model.specs.chan_map.declared.pins.Map.{Map}
+use Rattle.run_model.specs.chan_map.declared.pins.Pin.{Pin}
+use Rattle.run_model.specs.chan_map.declared.pins.Plug.{Plug}
+use Rattle.run_model.specs.chan_map.declared.pins.Reset.{Reset}
+use Rattle.run_model.specs.chan_map.declared.pins.Tie.{Tie}
+use Rattle.run_model.specs.chan_map.Bound.{IsPin, IsPlug, IsTie}
 use Rattle.run_model.specs.Building.{AreSmall}
 use Rattle.run_model.specs.declared.pins.PinNumber.{PinNumber}
 use Rattle.run_model.specs.MapOf.{IsMapOf}

@@ -5,28 +5,28 @@ use Rattle.std.proofs.Math.Logic.{∥∥₁_elim, ∥∥₁_map}
 use Rattle.std.proofs.Props.{props}
 use Rattle.std.specs.List.{refill, AllZip, AllByRecursion}
 use Rattle.std.specs.Option.{IfSome}
-use Rattle.net_design.proofs.OneProof.{one_prop}
-use Rattle.vidi_bits.specs.Number.{has}
-use Rattle.trace_model.specs.declared.channel.Channel.{Channel}
-use Rattle.trace_model.specs.declared.row.Row.{Row}
-use Rattle.trace_model.specs.Channel.{IsTable, IsChannel, IsName}
-use Rattle.trace_model.specs.Counting.{IsNth}
-use Rattle.trace_model.specs.Row.{is_in_flight}
-use Rattle.trace_model.proofs.CountingLemmas.{nth, nth-below, nth-unique}
-use Rattle.net_design.specs.declared.design.Port.{Port}
-use Rattle.net_design.specs.declared.design.Direction.{Direction}
-use Rattle.net_design.specs.declared.design.Direction.TheVariants.{Input}
-use Rattle.net_design.specs.declared.design.Design.{Design}
-use Rattle.net_design.specs.declared.values.Values.{Values}
-use Rattle.net_design.specs.Pins.{HasOneMap}
-use Rattle.net_design.specs.Settled.{same_direction}
-use Rattle.chan_map.specs.declared.pins.Map.{Map}
-use Rattle.chan_map.specs.declared.pins.Pin.{Pin}
-use Rattle.chan_map.specs.declared.pins.Plug.{Plug}
-use Rattle.chan_map.specs.declared.pins.Reset.{Reset}
-use Rattle.chan_map.specs.declared.pins.Tie.{Tie}
-use Rattle.chan_map.specs.Bound.{IsPin, IsPlug, IsTie}
-use Rattle.chan_map.specs.Ports.{source_side, sink_side}
+use Rattle.run_model.proofs.net_design.OneProof.{one_prop}
+use Rattle.run_model.specs.vidi_bits.Number.{has}
+use Rattle.run_model.specs.trace_model.declared.channel.Channel.{Channel}
+use Rattle.run_model.specs.trace_model.declared.row.Row.{Row}
+use Rattle.run_model.specs.trace_model.Channel.{IsTable, IsChannel, IsName}
+use Rattle.run_model.specs.trace_model.Counting.{IsNth}
+use Rattle.run_model.specs.trace_model.Row.{is_in_flight}
+use Rattle.run_model.proofs.trace_model.CountingLemmas.{nth, nth-below, nth-unique}
+use Rattle.run_model.specs.net_design.declared.design.Port.{Port}
+use Rattle.run_model.specs.net_design.declared.design.Direction.{Direction}
+use Rattle.run_model.specs.net_design.declared.design.Direction.TheVariants.{Input}
+use Rattle.run_model.specs.net_design.declared.design.Design.{Design}
+use Rattle.run_model.specs.net_design.declared.values.Values.{Values}
+use Rattle.run_model.specs.net_design.Pins.{HasOneMap}
+use Rattle.run_model.specs.net_design.Settled.{same_direction}
+use Rattle.run_model.specs.chan_map.declared.pins.Map.{Map}
+use Rattle.run_model.specs.chan_map.declared.pins.Pin.{Pin}
+use Rattle.run_model.specs.chan_map.declared.pins.Plug.{Plug}
+use Rattle.run_model.specs.chan_map.declared.pins.Reset.{Reset}
+use Rattle.run_model.specs.chan_map.declared.pins.Tie.{Tie}
+use Rattle.run_model.specs.chan_map.Bound.{IsPin, IsPlug, IsTie}
+use Rattle.run_model.specs.chan_map.Ports.{source_side, sink_side}
 use Rattle.run_model.specs.Building.{mask_of, PortsAreNets}
 use Rattle.run_model.specs.MapOf.{IsMapOf}
 use Rattle.run_model.specs.Pins.{entered, silent}

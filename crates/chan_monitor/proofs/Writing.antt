@@ -5,22 +5,22 @@ use Rattle.std.proofs.Common.{get_or-set_same, get_or-set_other}
 use Rattle.std.specs.List.{enumerate_from}
 use Rattle.std.proofs.lemmas.Bool.{cases_eq, eq-eqb, ne_eqb}
 use Rattle.std.proofs.lemmas.List.{at_drop_more, at_drop_all, length-set}
-use Rattle.trace_model.specs.declared.channel.Channel.{Channel}
-use Rattle.trace_model.specs.declared.channel.Dir.{Dir}
-use Rattle.trace_model.specs.declared.channel.Dir.TheVariants.{Inward, Outward}
-use Rattle.trace_model.specs.declared.row.Offers.{Offers}
-use Rattle.trace_model.specs.declared.row.Row.{Row}
-use Rattle.trace_model.specs.Row.{content_at}
-use Rattle.trace_model.proofs.CountingLemmas.{count-cons}
-use Rattle.chan_map.specs.declared.pins.Plug.{Plug}
+use Rattle.run_model.specs.trace_model.declared.channel.Channel.{Channel}
+use Rattle.run_model.specs.trace_model.declared.channel.Dir.{Dir}
+use Rattle.run_model.specs.trace_model.declared.channel.Dir.TheVariants.{Inward, Outward}
+use Rattle.run_model.specs.trace_model.declared.row.Offers.{Offers}
+use Rattle.run_model.specs.trace_model.declared.row.Row.{Row}
+use Rattle.run_model.specs.trace_model.Row.{content_at}
+use Rattle.run_model.proofs.trace_model.CountingLemmas.{count-cons}
+use Rattle.run_model.specs.chan_map.declared.pins.Plug.{Plug}
 use Rattle.run_model.specs.declared.pins.PinNumber.{PinNumber}
 use Rattle.run_model.specs.Pins.{inward_inputs, plug_inputs, inputs_from}
 use Rattle.run_model.proofs.PinLemmas.{at_place}
 use Rattle.chan_monitor.specs.declared.monitor.Passed.{Passed}
 use Rattle.chan_monitor.specs.Passing.{passed}
 use Rattle.std.proofs.lemmas.Option.{slice_get_read}
-use Rattle.vidi_bits.specs.Number.{has}
-use Rattle.trace_model.proofs.RowLemmas.{first_of, content-read}
+use Rattle.run_model.specs.vidi_bits.Number.{has}
+use Rattle.run_model.proofs.trace_model.RowLemmas.{first_of, content-read}
 use Rattle.chan_monitor.specs.Entering.{write, passed_inputs, offered, ArePlugsWithin, IsPlugWithin}
 
 -- ---- one step of a loop, and its end

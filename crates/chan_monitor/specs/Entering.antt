@@ -2,16 +2,16 @@
 use Rattle.std.specs.Prelude.{◌≡◌, ℕ, ◌+◌, ◌<◌, Bool, List, [], ◌∷◌, ◌++◌, Some, All, length, map, slice_get, slice_set}
 use Rattle.std.specs.List.{enumerate_from}
 use Rattle.std.specs.Option.{option_to_list}
-use Rattle.vidi_bits.specs.Number.{truth}
-use Rattle.trace_model.specs.declared.channel.Channel.{Channel}
-use Rattle.trace_model.specs.declared.channel.Dir.{Dir}
-use Rattle.trace_model.specs.declared.channel.Dir.TheVariants.{Inward, Outward}
-use Rattle.trace_model.specs.declared.row.Offers.{Offers}
-use Rattle.trace_model.specs.declared.row.Row.{Row}
-use Rattle.chan_map.specs.declared.pins.Map.{Map}
-use Rattle.chan_map.specs.declared.pins.Pin.{Pin}
-use Rattle.chan_map.specs.declared.pins.Plug.{Plug}
-use Rattle.chan_map.specs.declared.pins.Tie.{Tie}
+use Rattle.run_model.specs.vidi_bits.Number.{truth}
+use Rattle.run_model.specs.trace_model.declared.channel.Channel.{Channel}
+use Rattle.run_model.specs.trace_model.declared.channel.Dir.{Dir}
+use Rattle.run_model.specs.trace_model.declared.channel.Dir.TheVariants.{Inward, Outward}
+use Rattle.run_model.specs.trace_model.declared.row.Offers.{Offers}
+use Rattle.run_model.specs.trace_model.declared.row.Row.{Row}
+use Rattle.run_model.specs.chan_map.declared.pins.Map.{Map}
+use Rattle.run_model.specs.chan_map.declared.pins.Pin.{Pin}
+use Rattle.run_model.specs.chan_map.declared.pins.Plug.{Plug}
+use Rattle.run_model.specs.chan_map.declared.pins.Tie.{Tie}
 use Rattle.run_model.specs.declared.pins.PinNumber.{PinNumber}
 use Rattle.run_model.specs.Pins.{pin_number, shown_number, inward_inputs, reset_input, tie_input}
 use Rattle.chan_monitor.specs.declared.monitor.Passed.{Passed}

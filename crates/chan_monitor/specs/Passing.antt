@@ -1,8 +1,8 @@
 -- What a monitor makes of a cycle of its channel, and *Row* of that channel (AMBA AXI4, A3.2.1; gates are this project's profile).
 use Rattle.std.specs.Prelude.{◌≡◌, ℕ, ◌&&◌, Bool, not}
-use Rattle.vidi_bits.specs.Number.{has}
-use Rattle.trace_model.specs.declared.row.Row.{Row}
-use Rattle.trace_model.specs.Row.{sink_valid}
+use Rattle.run_model.specs.vidi_bits.Number.{has}
+use Rattle.run_model.specs.trace_model.declared.row.Row.{Row}
+use Rattle.run_model.specs.trace_model.Row.{sink_valid}
 use Rattle.chan_monitor.specs.declared.monitor.Passed.{Passed}
 
 -- the sink sees a valid, and the source a ready, only while the gate is up; `flight` says whether a transaction is in flight

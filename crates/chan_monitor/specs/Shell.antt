@@ -1,13 +1,13 @@
 -- What a shell promises of a cycle: *IsRun* of one row.
 use Rattle.std.specs.Prelude.{◌≡◌, ℕ, List, Option, length}
-use Rattle.trace_model.specs.declared.channel.Channel.{Channel}
-use Rattle.trace_model.specs.declared.row.Offers.{Offers}
-use Rattle.trace_model.specs.declared.row.Row.{Row}
-use Rattle.trace_model.specs.Row.{all_widths, IsMarked, IsOver}
-use Rattle.net_design.specs.declared.design.Design.{Design}
-use Rattle.net_design.specs.declared.values.Values.{Values}
-use Rattle.chan_map.specs.declared.pins.Map.{Map}
-use Rattle.net_design.specs.Pins.{HasOneMap}
+use Rattle.run_model.specs.trace_model.declared.channel.Channel.{Channel}
+use Rattle.run_model.specs.trace_model.declared.row.Offers.{Offers}
+use Rattle.run_model.specs.trace_model.declared.row.Row.{Row}
+use Rattle.run_model.specs.trace_model.Row.{all_widths, IsMarked, IsOver}
+use Rattle.run_model.specs.net_design.declared.design.Design.{Design}
+use Rattle.run_model.specs.net_design.declared.values.Values.{Values}
+use Rattle.run_model.specs.chan_map.declared.pins.Map.{Map}
+use Rattle.run_model.specs.net_design.Pins.{HasOneMap}
 use Rattle.run_model.specs.Building.{PortsAreNets}
 use Rattle.run_model.specs.MapOf.{IsMapOf}
 use Rattle.run_model.specs.Offers.{Carries}

@@ -3,10 +3,10 @@
 ghost use Rattle.std.specs.Prelude.{◌≡◌, ℕ, ◌+◌, ◌<◌, ◌≤◌, ◌^◌, Option, false, length, replicate, IfOk, OnOk};
 ghost use Rattle.std.specs.Option.{option_to_list};
 ghost use Rattle.run_model.specs.Offers.{AreZeroWhileDown};
-ghost use Rattle.trace_model.specs.declared.row.Row.{Row as OneRow};
-ghost use Rattle.trace_model.specs.Row.{AreOffers};
-ghost use Rattle.net_design.specs.Pins.{input_limits, output_count, outputs, FitPins};
-ghost use Rattle.net_design.specs.Settled.{initial, IsSettled};
+ghost use Rattle.run_model.specs.trace_model.declared.row.Row.{Row as OneRow};
+ghost use Rattle.run_model.specs.trace_model.Row.{AreOffers};
+ghost use Rattle.run_model.specs.net_design.Pins.{input_limits, output_count, outputs, FitPins};
+ghost use Rattle.run_model.specs.net_design.Settled.{initial, IsSettled};
 ghost use Rattle.run_model.specs.Building.{row_of};
 ghost use Rattle.run_model.specs.MapOf.{IsMapOf};
 ghost use Rattle.run_model.specs.Pins.{entered, silent, ArePins};
@@ -18,11 +18,11 @@ ghost use Rattle.chan_monitor.specs.Shell.{HasPlaces};
 use crate::monitor::Monitor;
 use crate::pins::{enter, hold};
 use crate::rows::{Handshakes, fill, marks_of, readies, valids};
-use chan_map::{Map, Plug, Reset};
-use net_design::Block;
+use run_model::chan_map::{Map, Plug, Reset};
+use run_model::net_design::Block;
+use run_model::trace_model::{Channel, Dir, Offers, Row, push_zeros};
+use run_model::vidi_bits::{Items, Memory, Numbers};
 use std::alloc::Global;
-use trace_model::{Channel, Dir, Offers, Row, push_zeros};
-use vidi_bits::{Items, Memory, Numbers};
 
 /// Adds a zero for each input pin of a channel.
 fn push_plug(pins: &mut Numbers, dir: Dir, plug: &Plug) -> Result<(), Memory>

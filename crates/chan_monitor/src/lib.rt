@@ -15,4 +15,6 @@ pub use cycles::run_cycles;
 pub use machines::Machines;
 pub use monitor::{Monitor, Passed};
 pub use pins::reset_value;
+pub use run_model;
+pub use run_model::{chan_map, net_design, vidi_bits};
 pub use shell::Shell;

@@ -11,11 +11,11 @@ use crate::monitor::Monitor;
 use crate::pins::hold;
 use crate::rows::{Handshakes, commit};
 use crate::shell::Shell;
-use chan_map::Map;
-use net_design::Block;
+use run_model::chan_map::Map;
+use run_model::net_design::Block;
+use run_model::trace_model::{Offers, Row};
+use run_model::vidi_bits::{Items, Memory, Numbers};
 use std::alloc::Global;
-use trace_model::{Offers, Row};
-use vidi_bits::{Items, Memory, Numbers};
 
 /// The shell of monitors round a block, one for each channel of the map. Only `new` takes memory.
 #[derive(Drop)]

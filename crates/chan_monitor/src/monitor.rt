@@ -1,8 +1,8 @@
 //! Monitors of single channels.
 
 ghost use Rattle.std.specs.Prelude.{◌≡◌, ℕ, ◌&&◌, false, Option};
-ghost use Rattle.trace_model.specs.declared.row.Row.{Row};
-ghost use Rattle.trace_model.specs.Row.{flies_after, is_in_flight, IsMarked};
+ghost use Rattle.run_model.specs.trace_model.declared.row.Row.{Row};
+ghost use Rattle.run_model.specs.trace_model.Row.{flies_after, is_in_flight, IsMarked};
 ghost use Rattle.chan_monitor.specs.Passing.{passed, stays, HasOn, IsPassed};
 
 use std::marker::Model;

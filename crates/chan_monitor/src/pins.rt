@@ -2,17 +2,17 @@
 
 ghost use Rattle.std.specs.Prelude.{◌≡◌, ◌<◌, All, IfSome, length, map, replicate, if◌then◌else◌, not};
 ghost use Rattle.std.specs.Option.{option_to_list};
-ghost use Rattle.trace_model.specs.Packet.{Fit};
-ghost use Rattle.trace_model.specs.Row.{all_widths};
-ghost use Rattle.chan_map.specs.declared.pins.Pin.{Pin as OnePin};
-ghost use Rattle.chan_map.specs.declared.pins.Reset.{Reset as OneReset};
+ghost use Rattle.run_model.specs.trace_model.Packet.{Fit};
+ghost use Rattle.run_model.specs.trace_model.Row.{all_widths};
+ghost use Rattle.run_model.specs.chan_map.declared.pins.Pin.{Pin as OnePin};
+ghost use Rattle.run_model.specs.chan_map.declared.pins.Reset.{Reset as OneReset};
 ghost use Rattle.run_model.specs.Pins.{inputs_from, reset_input, tie_input};
 ghost use Rattle.chan_monitor.specs.Entering.{write, content_inputs, passed_inputs, held_inputs, offered};
 ghost use Rattle.chan_monitor.specs.Entering.{IsPlugWithin, AreTiesWithin, ArePlugsWithin};
 
 use crate::monitor::{Monitor, Passed};
-use chan_map::{Map, Pin, Plug, Reset, Tie};
-use trace_model::{Channel, Dir, Offers, names};
+use run_model::chan_map::{Map, Pin, Plug, Reset, Tie};
+use run_model::trace_model::{Channel, Dir, Offers, names};
 
 /// The number, or 0 where it isn't shown.
 fn number_if(shown: bool, number: u128) -> u128

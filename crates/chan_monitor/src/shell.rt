@@ -3,15 +3,15 @@
 ghost use Rattle.std.specs.Prelude.{◌≡◌, ◌<◌, ◌^◌, ℕ, Option, length};
 ghost use Rattle.std.specs.Borrow.{GName};
 ghost use Rattle.run_model.specs.Offers.{AreZeroWhileDown};
-ghost use Rattle.trace_model.specs.declared.row.Row.{Row};
-ghost use Rattle.trace_model.specs.Row.{AreOffers};
-ghost use Rattle.net_design.specs.declared.design.Design.{Design};
-ghost use Rattle.net_design.specs.declared.values.Values.{Values};
-ghost use Rattle.chan_map.specs.declared.pins.Map.{Map};
+ghost use Rattle.run_model.specs.trace_model.declared.row.Row.{Row};
+ghost use Rattle.run_model.specs.trace_model.Row.{AreOffers};
+ghost use Rattle.run_model.specs.net_design.declared.design.Design.{Design};
+ghost use Rattle.run_model.specs.net_design.declared.values.Values.{Values};
+ghost use Rattle.run_model.specs.chan_map.declared.pins.Map.{Map};
 ghost use Rattle.run_model.specs.Step.{IsFirst, IsStep};
 ghost use Rattle.chan_monitor.specs.Shell.{HasPlaces, IsMapped, IsRunning, IsShown};
 
-use trace_model::{Offers, Row};
+use run_model::trace_model::{Offers, Row};
 
 /// A design behind the gates of its channels, which runs cycle by cycle. Each cycle is a `drive` and a `clock`. No call takes
 /// memory.

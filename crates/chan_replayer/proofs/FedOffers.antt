@@ -11,22 +11,22 @@ use Rattle.std.proofs.lemmas.List.{length-replicate, length-take-le, take-append
 use Rattle.std.proofs.lemmas.Nat.{pow_pos}
 use Rattle.std.proofs.lemmas.Nat.Bits.{bit_at_above, bit_at_cat_high, bit_at_cat_low, bit_at-zero}
 use Rattle.std.proofs.lemmas.Option.{same_Some, slice_get_read}
-use Rattle.vidi_bits.specs.Number.{has}
-use Rattle.trace_model.specs.declared.channel.Channel.{Channel}
-use Rattle.trace_model.specs.declared.channel.Dir.{Dir}
-use Rattle.trace_model.specs.declared.channel.Dir.TheVariants.{Inward, Outward}
-use Rattle.trace_model.specs.declared.row.Offers.{Offers}
-use Rattle.trace_model.specs.Clock.{Covers}
-use Rattle.trace_model.specs.Packet.{Fit, widths_of}
-use Rattle.trace_model.specs.Row.{all_widths, content_at, replaced}
-use Rattle.trace_model.specs.Mask.{IsLowest}
-use Rattle.trace_model.proofs.MaskLemmas.{bit-from-has}
-use Rattle.trace_model.proofs.ContentsLemmas.{fit-length}
-use Rattle.trace_model.proofs.RowLemmas.{first_of, first-more, first-within, content-read}
-use Rattle.run_model.specs.Building.{joined}
-use Rattle.run_model.specs.Offers.{no_content}
-use Rattle.run_model.proofs.Contents.{content-fits, content-joined, fit-joined, fit-zeros}
-use Rattle.run_model.proofs.JoinedLaws.{joined-more}
+use Rattle.vec_clock.specs.vidi_bits.Number.{has}
+use Rattle.vec_clock.specs.trace_model.declared.channel.Channel.{Channel}
+use Rattle.vec_clock.specs.trace_model.declared.channel.Dir.{Dir}
+use Rattle.vec_clock.specs.trace_model.declared.channel.Dir.TheVariants.{Inward, Outward}
+use Rattle.vec_clock.specs.trace_model.declared.row.Offers.{Offers}
+use Rattle.vec_clock.specs.trace_model.Clock.{Covers}
+use Rattle.vec_clock.specs.trace_model.Packet.{Fit, widths_of}
+use Rattle.vec_clock.specs.trace_model.Row.{all_widths, content_at, replaced}
+use Rattle.vec_clock.specs.trace_model.Mask.{IsLowest}
+use Rattle.vec_clock.proofs.trace_model.MaskLemmas.{bit-from-has}
+use Rattle.vec_clock.proofs.trace_model.ContentsLemmas.{fit-length}
+use Rattle.vec_clock.proofs.trace_model.RowLemmas.{first_of, first-more, first-within, content-read}
+use Rattle.chan_monitor.specs.run_model.Building.{joined}
+use Rattle.chan_monitor.specs.run_model.Offers.{no_content}
+use Rattle.chan_monitor.proofs.run_model.Contents.{content-fits, content-joined, fit-joined, fit-zeros}
+use Rattle.chan_monitor.proofs.run_model.JoinedLaws.{joined-more}
 use Rattle.chan_replayer.specs.declared.feed.Feed.{Feed}
 use Rattle.chan_replayer.specs.Feed.{need_of, IsFeedOver, IsUp}
 use Rattle.chan_replayer.specs.Fed.{fed_content, AreFed, AreOffered}

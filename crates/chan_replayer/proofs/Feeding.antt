@@ -8,27 +8,27 @@ use Rattle.std.proofs.Props.{props}
 use Rattle.std.proofs.lemmas.Nat.{pow_pos}
 use Rattle.std.proofs.lemmas.Nat.Bits.{ones_shr}
 use Rattle.std.proofs.lemmas.Bool.{cases_Bool, cond-true, cond-false}
-use Rattle.trace_model.specs.declared.channel.Channel.{Channel}
-use Rattle.trace_model.specs.declared.channel.Dir.{Dir}
-use Rattle.trace_model.specs.declared.channel.Dir.TheVariants.{Inward, Outward}
-use Rattle.trace_model.specs.declared.event.Kind.TheVariants.{End}
-use Rattle.trace_model.specs.declared.row.Offers.{Offers}
-use Rattle.trace_model.specs.declared.row.Row.{Row}
-use Rattle.vidi_bits.specs.Number.{has}
-use Rattle.trace_model.specs.Recording.{row_does}
-use Rattle.trace_model.specs.Row.{content_at, row_before, IsOver}
-use Rattle.trace_model.proofs.CountingLemmas.{count-push}
-use Rattle.trace_model.proofs.ContentsLemmas.{fit_prop}
-use Rattle.trace_model.proofs.RowLemmas.{before-last}
-use Rattle.trace_model.proofs.MaskLemmas.{cond-has}
-use Rattle.net_design.specs.declared.design.Design.{Design}
-use Rattle.net_design.specs.declared.values.Values.{Values}
-use Rattle.chan_map.specs.declared.pins.Map.{Map}
+use Rattle.vec_clock.specs.trace_model.declared.channel.Channel.{Channel}
+use Rattle.vec_clock.specs.trace_model.declared.channel.Dir.{Dir}
+use Rattle.vec_clock.specs.trace_model.declared.channel.Dir.TheVariants.{Inward, Outward}
+use Rattle.vec_clock.specs.trace_model.declared.event.Kind.TheVariants.{End}
+use Rattle.vec_clock.specs.trace_model.declared.row.Offers.{Offers}
+use Rattle.vec_clock.specs.trace_model.declared.row.Row.{Row}
+use Rattle.vec_clock.specs.vidi_bits.Number.{has}
+use Rattle.vec_clock.specs.trace_model.Recording.{row_does}
+use Rattle.vec_clock.specs.trace_model.Row.{content_at, row_before, IsOver}
+use Rattle.vec_clock.proofs.trace_model.CountingLemmas.{count-push}
+use Rattle.vec_clock.proofs.trace_model.ContentsLemmas.{fit_prop}
+use Rattle.vec_clock.proofs.trace_model.RowLemmas.{before-last}
+use Rattle.vec_clock.proofs.trace_model.MaskLemmas.{cond-has}
+use Rattle.chan_monitor.specs.net_design.declared.design.Design.{Design}
+use Rattle.chan_monitor.specs.net_design.declared.values.Values.{Values}
+use Rattle.chan_monitor.specs.chan_map.declared.pins.Map.{Map}
 use Rattle.chan_monitor.specs.Shell as shells
-use Rattle.run_model.specs.Offers.{no_content, CarriesOn}
-use Rattle.run_model.specs.Played.{all_up}
-use Rattle.run_model.specs.Replay.{done}
-use Rattle.run_model.specs.Step.{IsFirst, IsStep}
+use Rattle.chan_monitor.specs.run_model.Offers.{no_content, CarriesOn}
+use Rattle.chan_monitor.specs.run_model.Played.{all_up}
+use Rattle.chan_monitor.specs.run_model.Replay.{done}
+use Rattle.chan_monitor.specs.run_model.Step.{IsFirst, IsStep}
 use Rattle.chan_replayer.specs.declared.feed.Feed.{Feed}
 use Rattle.chan_replayer.specs.Fed.{AreFed, IsFedAround, IsFresh}
 use Rattle.chan_replayer.specs.Feed.{IsFedOn, IsUp}

@@ -2,19 +2,19 @@
 use Rattle.std.proofs.Common.{◌≡◌, ℕ, List, Some, length, slice_get, refl, ◌∙◌, arith}
 use Rattle.std.proofs.lemmas.Bool.{cond-true, cond-false}
 use Rattle.std.specs.Prelude.{◌↔◌}
-use Rattle.trace_model.specs.declared.channel.Channel.{Channel}
-use Rattle.trace_model.specs.declared.channel.Dir.{Dir}
-use Rattle.trace_model.specs.declared.channel.Dir.TheVariants.{Inward, Outward}
-use Rattle.trace_model.specs.declared.event.Kind.{Kind}
-use Rattle.trace_model.specs.declared.event.Kind.TheVariants.{Start, End}
-use Rattle.trace_model.specs.declared.packet.Packet.{Packet}
-use Rattle.trace_model.specs.declared.row.Row.{Row}
-use Rattle.vidi_bits.specs.Number.{has}
-use Rattle.trace_model.specs.Packet.{does}
-use Rattle.trace_model.specs.Row.{content_at}
-use Rattle.trace_model.proofs.CountingLemmas.{nth, nth-below}
-use Rattle.run_model.specs.Offers.{no_content}
-use Rattle.run_model.specs.Replay.{done, IsCovered, IsOfferedOn, IsOffered}
+use Rattle.vec_clock.specs.trace_model.declared.channel.Channel.{Channel}
+use Rattle.vec_clock.specs.trace_model.declared.channel.Dir.{Dir}
+use Rattle.vec_clock.specs.trace_model.declared.channel.Dir.TheVariants.{Inward, Outward}
+use Rattle.vec_clock.specs.trace_model.declared.event.Kind.{Kind}
+use Rattle.vec_clock.specs.trace_model.declared.event.Kind.TheVariants.{Start, End}
+use Rattle.vec_clock.specs.trace_model.declared.packet.Packet.{Packet}
+use Rattle.vec_clock.specs.trace_model.declared.row.Row.{Row}
+use Rattle.vec_clock.specs.vidi_bits.Number.{has}
+use Rattle.vec_clock.specs.trace_model.Packet.{does}
+use Rattle.vec_clock.specs.trace_model.Row.{content_at}
+use Rattle.vec_clock.proofs.trace_model.CountingLemmas.{nth, nth-below}
+use Rattle.chan_monitor.specs.run_model.Offers.{no_content}
+use Rattle.chan_monitor.specs.run_model.Replay.{done, IsCovered, IsOfferedOn, IsOffered}
 use Rattle.chan_replayer.specs.declared.feed.Feed.{Feed}
 use Rattle.chan_replayer.specs.Feed.{IsFedOn, IsFeed, IsFeedAt, IsUp, kind_of}
 use Rattle.chan_replayer.specs.Laws.{FedRowsReplay}

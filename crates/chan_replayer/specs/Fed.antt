@@ -1,16 +1,16 @@
 -- A shell behind replayers.
 use Rattle.std.specs.Prelude.{◌≡◌, ℕ, ◌^◌, ◌<◌, ◌↔◌, true, if◌then◌else◌, List, Option, None, Some, length, slice_get, slice_index}
-use Rattle.vidi_bits.specs.Number.{has}
-use Rattle.trace_model.specs.declared.channel.Channel.{Channel}
-use Rattle.trace_model.specs.declared.channel.Dir.{Dir}
-use Rattle.trace_model.specs.declared.channel.Dir.TheVariants.{Inward, Outward}
-use Rattle.trace_model.specs.declared.row.Offers.{Offers}
-use Rattle.trace_model.specs.declared.row.Row.{Row}
-use Rattle.trace_model.specs.Row.{content_at, row_before, AreOffers}
-use Rattle.net_design.specs.declared.design.Design.{Design}
-use Rattle.net_design.specs.declared.values.Values.{Values}
-use Rattle.run_model.specs.Offers.{no_content, AreZeroWhileDown}
-use Rattle.run_model.specs.Replay.{done}
+use Rattle.vec_clock.specs.vidi_bits.Number.{has}
+use Rattle.vec_clock.specs.trace_model.declared.channel.Channel.{Channel}
+use Rattle.vec_clock.specs.trace_model.declared.channel.Dir.{Dir}
+use Rattle.vec_clock.specs.trace_model.declared.channel.Dir.TheVariants.{Inward, Outward}
+use Rattle.vec_clock.specs.trace_model.declared.row.Offers.{Offers}
+use Rattle.vec_clock.specs.trace_model.declared.row.Row.{Row}
+use Rattle.vec_clock.specs.trace_model.Row.{content_at, row_before, AreOffers}
+use Rattle.chan_monitor.specs.net_design.declared.design.Design.{Design}
+use Rattle.chan_monitor.specs.net_design.declared.values.Values.{Values}
+use Rattle.chan_monitor.specs.run_model.Offers.{no_content, AreZeroWhileDown}
+use Rattle.chan_monitor.specs.run_model.Replay.{done}
 use Rattle.chan_replayer.specs.declared.feed.Feed.{Feed}
 use Rattle.chan_replayer.specs.Feed.{IsUp}
 

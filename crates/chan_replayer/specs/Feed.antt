@@ -1,18 +1,18 @@
 -- What a feed says of packets, and what is offered under it.
 use Rattle.std.specs.Prelude.{◌≡◌, ℕ, ◌+◌, ◌*◌, ◌^◌, ◌<◌, ◌↔◌, true, if◌then◌else◌, List, Some, length, slice_get, slice_index}
-use Rattle.trace_model.specs.declared.channel.Channel.{Channel}
-use Rattle.trace_model.specs.declared.channel.Dir.{Dir}
-use Rattle.trace_model.specs.declared.channel.Dir.TheVariants.{Inward, Outward}
-use Rattle.trace_model.specs.declared.event.Kind.{Kind}
-use Rattle.trace_model.specs.declared.event.Kind.TheVariants.{Start, End}
-use Rattle.trace_model.specs.declared.packet.Packet.{Packet}
-use Rattle.trace_model.specs.declared.row.Row.{Row}
-use Rattle.trace_model.specs.Clock.{clock, Covers}
-use Rattle.vidi_bits.specs.Number.{has}
-use Rattle.trace_model.specs.Counting.{IsNth}
-use Rattle.trace_model.specs.Packet.{does, count, content_of, Fit}
-use Rattle.trace_model.specs.Row.{all_widths, content_at}
-use Rattle.run_model.specs.Offers.{no_content}
+use Rattle.vec_clock.specs.trace_model.declared.channel.Channel.{Channel}
+use Rattle.vec_clock.specs.trace_model.declared.channel.Dir.{Dir}
+use Rattle.vec_clock.specs.trace_model.declared.channel.Dir.TheVariants.{Inward, Outward}
+use Rattle.vec_clock.specs.trace_model.declared.event.Kind.{Kind}
+use Rattle.vec_clock.specs.trace_model.declared.event.Kind.TheVariants.{Start, End}
+use Rattle.vec_clock.specs.trace_model.declared.packet.Packet.{Packet}
+use Rattle.vec_clock.specs.trace_model.declared.row.Row.{Row}
+use Rattle.vec_clock.specs.trace_model.Clock.{clock, Covers}
+use Rattle.vec_clock.specs.vidi_bits.Number.{has}
+use Rattle.vec_clock.specs.trace_model.Counting.{IsNth}
+use Rattle.vec_clock.specs.trace_model.Packet.{does, count, content_of, Fit}
+use Rattle.vec_clock.specs.trace_model.Row.{all_widths, content_at}
+use Rattle.chan_monitor.specs.run_model.Offers.{no_content}
 use Rattle.chan_replayer.specs.declared.feed.Feed.{Feed}
 
 -- a feed over these channels

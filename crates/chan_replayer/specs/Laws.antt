@@ -1,11 +1,11 @@
 -- What replayers keep of a recording.
 use Rattle.std.specs.Prelude.{List}
-use Rattle.trace_model.specs.declared.packet.Packet.{Packet}
-use Rattle.trace_model.specs.declared.row.Row.{Row}
-use Rattle.net_design.specs.declared.design.Design.{Design}
-use Rattle.net_design.specs.declared.values.Values.{Values}
-use Rattle.chan_map.specs.declared.pins.Map.{Map}
-use Rattle.run_model.specs.Replay.{done, IsReplayRow}
+use Rattle.vec_clock.specs.trace_model.declared.packet.Packet.{Packet}
+use Rattle.vec_clock.specs.trace_model.declared.row.Row.{Row}
+use Rattle.chan_monitor.specs.net_design.declared.design.Design.{Design}
+use Rattle.chan_monitor.specs.net_design.declared.values.Values.{Values}
+use Rattle.chan_monitor.specs.chan_map.declared.pins.Map.{Map}
+use Rattle.chan_monitor.specs.run_model.Replay.{done, IsReplayRow}
 use Rattle.chan_replayer.specs.declared.feed.Feed.{Feed}
 use Rattle.chan_replayer.specs.Feed.{IsFeed}
 use Rattle.chan_replayer.specs.Shell.{IsShown}

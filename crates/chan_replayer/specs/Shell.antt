@@ -1,14 +1,14 @@
 -- What a replayed design promises of a cycle: *IsReplay* of one row.
 use Rattle.std.specs.Prelude.{◌≡◌, ℕ, List, [], ◌∷◌, ◌++◌, Some, length, slice_get}
-use Rattle.trace_model.specs.declared.channel.Channel.{Channel}
-use Rattle.trace_model.specs.declared.row.Row.{Row}
-use Rattle.trace_model.specs.Row.{row_before, IsMarked, IsOver}
-use Rattle.net_design.specs.declared.design.Design.{Design}
-use Rattle.net_design.specs.declared.values.Values.{Values}
-use Rattle.chan_map.specs.declared.pins.Map.{Map}
-use Rattle.run_model.specs.Played.{all_up}
-use Rattle.run_model.specs.Replay.{done}
-use Rattle.run_model.specs.Step.{IsStep}
+use Rattle.vec_clock.specs.trace_model.declared.channel.Channel.{Channel}
+use Rattle.vec_clock.specs.trace_model.declared.row.Row.{Row}
+use Rattle.vec_clock.specs.trace_model.Row.{row_before, IsMarked, IsOver}
+use Rattle.chan_monitor.specs.net_design.declared.design.Design.{Design}
+use Rattle.chan_monitor.specs.net_design.declared.values.Values.{Values}
+use Rattle.chan_monitor.specs.chan_map.declared.pins.Map.{Map}
+use Rattle.chan_monitor.specs.run_model.Played.{all_up}
+use Rattle.chan_monitor.specs.run_model.Replay.{done}
+use Rattle.chan_monitor.specs.run_model.Step.{IsStep}
 use Rattle.chan_replayer.specs.declared.feed.Feed.{Feed}
 use Rattle.chan_replayer.specs.Feed.{IsFedOn}
 

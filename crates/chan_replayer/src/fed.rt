@@ -1,10 +1,10 @@
 //! Replayers round a shell.
 
 ghost use Rattle.std.specs.Prelude.{◌≡◌, ◌≤◌, ◌<◌, ℕ, [], None, IfOk, length, slice_index};
-ghost use Rattle.trace_model.specs.declared.row.Row.{Row as OneRow};
-ghost use Rattle.trace_model.specs.Row.{all_widths};
-ghost use Rattle.net_design.specs.declared.design.Design.{Design};
-ghost use Rattle.net_design.specs.declared.values.Values.{Values};
+ghost use Rattle.vec_clock.specs.trace_model.declared.row.Row.{Row as OneRow};
+ghost use Rattle.vec_clock.specs.trace_model.Row.{all_widths};
+ghost use Rattle.chan_monitor.specs.net_design.declared.design.Design.{Design};
+ghost use Rattle.chan_monitor.specs.net_design.declared.values.Values.{Values};
 ghost use Rattle.chan_replayer.specs.Fed.{IsFedAround, IsFresh};
 ghost use Rattle.chan_replayer.specs.Shell.{IsRunning};
 
@@ -12,11 +12,11 @@ use crate::feed::Feed;
 use crate::offers::fill_offers;
 use crate::replayer::Replayer;
 use crate::shell::ReplayShell;
-use chan_map::Map;
 use chan_monitor::Shell;
+use chan_monitor::chan_map::Map;
 use std::alloc::Global;
-use trace_model::{Offers, Row, row_over};
-use vidi_bits::Memory;
+use vec_clock::trace_model::{Offers, Row, row_over};
+use vec_clock::vidi_bits::Memory;
 
 /// A shell behind replayers, with all gates up. Only `around` takes memory.
 #[derive(Drop)]

@@ -1,6 +1,6 @@
 //! What replayers are fed.
 
-use vidi_bits::{Items, Numbers};
+use vec_clock::vidi_bits::{Items, Numbers};
 
 /// The numbers of clocks.
 pub type Needs = Items<u32>;

@@ -1,17 +1,17 @@
 //! Replayers and monitors round a block.
 
 ghost use Rattle.std.specs.Prelude.{◌≡◌, [], IfOk};
-ghost use Rattle.trace_model.specs.declared.row.Row.{Row};
-ghost use Rattle.run_model.specs.Building.{PortsAreNets};
-ghost use Rattle.run_model.specs.MapOf.{IsMapOf};
+ghost use Rattle.vec_clock.specs.trace_model.declared.row.Row.{Row};
+ghost use Rattle.chan_monitor.specs.run_model.Building.{PortsAreNets};
+ghost use Rattle.chan_monitor.specs.run_model.MapOf.{IsMapOf};
 
 use crate::fed::FedShell;
 use crate::shell::ReplayShell;
-use chan_map::Map;
 use chan_monitor::Machines;
-use net_design::Block;
+use chan_monitor::chan_map::Map;
+use chan_monitor::net_design::Block;
 use std::alloc::Global;
-use vidi_bits::Memory;
+use vec_clock::vidi_bits::Memory;
 
 /// Replayers and monitors round a block, one of each for each channel of the map.
 pub type ReplayMachines<'a, B> = FedShell<'a, Machines<'a, B>>;

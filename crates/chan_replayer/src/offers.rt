@@ -1,17 +1,17 @@
 //! The offers that replayers make of a feed.
 
 ghost use Rattle.std.specs.Prelude.{◌≡◌, ◌<◌, ◌≤◌, ◌+◌, ◌*◌, ◌^◌, ◌↔◌, ℕ, true, IsTrue, if◌then◌else◌, Some, length, replicate, slice_get, slice_index, take, drop};
-ghost use Rattle.vidi_bits.specs.Number.{has};
-ghost use Rattle.trace_model.specs.declared.channel.Channel.{Channel as OneChannel};
-ghost use Rattle.trace_model.specs.Packet.{Fit};
-ghost use Rattle.trace_model.specs.Row.{all_widths, replaced};
-ghost use Rattle.run_model.specs.Building.{joined};
+ghost use Rattle.vec_clock.specs.vidi_bits.Number.{has};
+ghost use Rattle.vec_clock.specs.trace_model.declared.channel.Channel.{Channel as OneChannel};
+ghost use Rattle.vec_clock.specs.trace_model.Packet.{Fit};
+ghost use Rattle.vec_clock.specs.trace_model.Row.{all_widths, replaced};
+ghost use Rattle.chan_monitor.specs.run_model.Building.{joined};
 ghost use Rattle.chan_replayer.specs.Feed.{IsFeedOver, IsUp};
 ghost use Rattle.chan_replayer.specs.Fed.{fed_content, AreFed, AreOffered};
 
 use crate::feed::Feed;
 use crate::replayer::Replayer;
-use trace_model::{Channel, Channels, Dir, Offers, lowest, names, with_bit};
+use vec_clock::trace_model::{Channel, Channels, Dir, Offers, lowest, names, with_bit};
 
 /// The clock of the next event of channel `c`, one number a channel.
 fn needs_of(feed: &Feed, channels: usize, c: usize) -> &[u32]

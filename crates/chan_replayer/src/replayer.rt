@@ -2,13 +2,13 @@
 
 ghost use Rattle.std.specs.Prelude.{◌≡◌, ◌+◌, ◌-◌, ◌<◌, ◌≤◌, ◌^◌, ◌↔◌, ℕ, true, IsTrue, IfOk, length, replicate, slice_index};
 ghost use Rattle.std.specs.Int.{bit_at};
-ghost use Rattle.vidi_bits.specs.Number.{has};
-ghost use Rattle.trace_model.specs.Clock.{Covers};
+ghost use Rattle.vec_clock.specs.vidi_bits.Number.{has};
+ghost use Rattle.vec_clock.specs.trace_model.Clock.{Covers};
 
 use std::alloc::Global;
 use std::marker::Model;
 use vec_clock::Clock;
-use vidi_bits::Memory;
+use vec_clock::vidi_bits::Memory;
 
 /// The replayers of all channels. They let an event come once everything that completed before it in the recording has
 /// completed again. A contract sees them as the number of completions of each channel since the last reset. Only `new` takes

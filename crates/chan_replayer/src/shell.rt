@@ -1,18 +1,18 @@
 //! Designs that replayers drive.
 
 ghost use Rattle.std.specs.Prelude.{◌≡◌, ◌+◌, ◌<◌, ℕ, [], List};
-ghost use Rattle.trace_model.specs.declared.row.Row.{Row};
-ghost use Rattle.trace_model.specs.Row.{IsOver};
-ghost use Rattle.net_design.specs.declared.design.Design.{Design};
-ghost use Rattle.net_design.specs.declared.values.Values.{Values};
-ghost use Rattle.chan_map.specs.declared.pins.Map.{Map};
-ghost use Rattle.run_model.specs.Step.{IsFirst};
+ghost use Rattle.vec_clock.specs.trace_model.declared.row.Row.{Row};
+ghost use Rattle.vec_clock.specs.trace_model.Row.{IsOver};
+ghost use Rattle.chan_monitor.specs.net_design.declared.design.Design.{Design};
+ghost use Rattle.chan_monitor.specs.net_design.declared.values.Values.{Values};
+ghost use Rattle.chan_monitor.specs.chan_map.declared.pins.Map.{Map};
+ghost use Rattle.chan_monitor.specs.run_model.Step.{IsFirst};
 ghost use Rattle.chan_monitor.specs.Shell.{HasPlaces, IsMapped};
 ghost use Rattle.chan_replayer.specs.Feed.{IsFeedOver};
 ghost use Rattle.chan_replayer.specs.Shell.{GoesTo, IsRunning, IsShown};
 
 use crate::feed::Feed;
-use trace_model::Row;
+use vec_clock::trace_model::Row;
 
 /// A design behind replayers and the gates of its channels, all of which are up. It runs cycle by cycle; each cycle is a `drive`
 /// and a `clock`. No call takes memory.

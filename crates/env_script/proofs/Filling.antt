@@ -6,11 +6,11 @@ use Rattle.std.proofs.lemmas.List.{append-nil, length-append, map-append, take_a
 use Rattle.std.proofs.lemmas.List.FromFn.{length-map-range_with_len}
 use Rattle.std.proofs.lemmas.Option.{slice_get_read}
 use Rattle.run_model.proofs.JoinedLaws.{joined-more}
-use Rattle.trace_model.specs.declared.channel.Channel.{Channel}
-use Rattle.trace_model.specs.Packet.{widths_of}
-use Rattle.trace_model.specs.Row.{all_widths, replaced}
-use Rattle.trace_model.proofs.ContentsLemmas.{fit-length}
-use Rattle.trace_model.proofs.RowLemmas.{first_of, first-more, first-within, replaced-more}
+use Rattle.run_model.specs.trace_model.declared.channel.Channel.{Channel}
+use Rattle.run_model.specs.trace_model.Packet.{widths_of}
+use Rattle.run_model.specs.trace_model.Row.{all_widths, replaced}
+use Rattle.run_model.proofs.trace_model.ContentsLemmas.{fit-length}
+use Rattle.run_model.proofs.trace_model.RowLemmas.{first_of, first-more, first-within, replaced-more}
 use Rattle.run_model.specs.Building.{joined}
 use Rattle.run_model.proofs.Contents.{fit-zeros}
 use Rattle.script_text.specs.Offer.{Offer}

@@ -1,7 +1,7 @@
 -- The offers of an environment, and of a script, last.
 use Rattle.std.proofs.Common.{ℕ, List, [], ◌∷◌, ◌++◌}
-use Rattle.trace_model.specs.declared.channel.Channel.{Channel}
-use Rattle.trace_model.specs.declared.row.Row.{Row}
+use Rattle.run_model.specs.trace_model.declared.channel.Channel.{Channel}
+use Rattle.run_model.specs.trace_model.declared.row.Row.{Row}
 use Rattle.run_model.specs.Laws.{OffersFit, OffersStay}
 use Rattle.script_text.specs.Offer.{Offer}
 use Rattle.script_text.proofs.Kept.{all_fit, stays_on}

@@ -4,14 +4,14 @@ use Rattle.std.proofs.Common.{length, get_or, replicate, slice_get, ⊎_elim, re
 use Rattle.std.proofs.lemmas.Bool.{cases_Bool, cond-true, cond-false}
 use Rattle.std.proofs.lemmas.Option.{slice_get_within}
 use Rattle.env_script.proofs.Numbers.{zeros}
-use Rattle.vidi_bits.specs.Number.{has}
-use Rattle.trace_model.specs.declared.channel.Channel.{Channel}
-use Rattle.trace_model.specs.declared.channel.Dir.{Dir}
-use Rattle.trace_model.specs.declared.channel.Dir.TheVariants.{Inward, Outward}
-use Rattle.trace_model.specs.declared.row.Offers.{Offers}
-use Rattle.trace_model.specs.declared.row.Row.{Row}
-use Rattle.trace_model.specs.Packet.{Fit, widths_of}
-use Rattle.trace_model.specs.Row.{content_at, AreOffers}
+use Rattle.run_model.specs.vidi_bits.Number.{has}
+use Rattle.run_model.specs.trace_model.declared.channel.Channel.{Channel}
+use Rattle.run_model.specs.trace_model.declared.channel.Dir.{Dir}
+use Rattle.run_model.specs.trace_model.declared.channel.Dir.TheVariants.{Inward, Outward}
+use Rattle.run_model.specs.trace_model.declared.row.Offers.{Offers}
+use Rattle.run_model.specs.trace_model.declared.row.Row.{Row}
+use Rattle.run_model.specs.trace_model.Packet.{Fit, widths_of}
+use Rattle.run_model.specs.trace_model.Row.{content_at, AreOffers}
 use Rattle.run_model.specs.Offers.{no_content, offered_content, CarriesOn, Carries, AreZeroWhileDown}
 use Rattle.run_model.proofs.Contents.{has-mask, mask-below, fit-joined, content-joined, fit-zeros}
 use Rattle.script_text.specs.Offer.{Offer}

@@ -1,7 +1,7 @@
 -- What follows for the offers of an environment, and for those of a script.
 use Rattle.std.specs.Prelude.{ℕ, List}
-use Rattle.trace_model.specs.declared.channel.Channel.{Channel}
-use Rattle.trace_model.specs.declared.row.Row.{Row}
+use Rattle.run_model.specs.trace_model.declared.channel.Channel.{Channel}
+use Rattle.run_model.specs.trace_model.declared.row.Row.{Row}
 use Rattle.run_model.specs.Laws.{OffersFit, OffersStay}
 use Rattle.script_text.specs.declared.script.Script.{Script}
 use Rattle.script_text.specs.Fits.{FitsChannels}

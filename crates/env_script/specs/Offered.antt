@@ -1,10 +1,10 @@
 -- What an environment offers on its channels, as the offers of a run (AMBA AXI4 IHI 0022, A3.2.1).
 use Rattle.std.specs.Prelude.{◌≡◌, ℕ, true, false, if◌then◌else◌, List, [], ◌∷◌, ◌++◌, Some, length, map, slice_get, slice_index}
 use Rattle.std.specs.List.{range_with_len}
-use Rattle.trace_model.specs.declared.channel.Channel.{Channel}
-use Rattle.trace_model.specs.declared.row.Offers.{Offers}
-use Rattle.trace_model.specs.declared.row.Row.{Row}
-use Rattle.trace_model.specs.Row.{completes}
+use Rattle.run_model.specs.trace_model.declared.channel.Channel.{Channel}
+use Rattle.run_model.specs.trace_model.declared.row.Offers.{Offers}
+use Rattle.run_model.specs.trace_model.declared.row.Row.{Row}
+use Rattle.run_model.specs.trace_model.Row.{completes}
 use Rattle.run_model.specs.Building.{joined, mask_of}
 use Rattle.run_model.specs.Offers.{no_content}
 use Rattle.script_text.specs.Offer.{Offer, FitsOffer}

@@ -1,14 +1,14 @@
 //! Environments.
 
 ghost use Rattle.std.specs.Prelude.{◌≡◌, ◌<◌, ◌+◌, ◌++◌, ◌∷◌, [], ℕ, true, false, List, Some, length, slice_get, slice_index};
-ghost use Rattle.trace_model.specs.declared.channel.Channel.{Channel};
-ghost use Rattle.trace_model.specs.declared.row.Row.{Row};
-ghost use Rattle.trace_model.specs.Packet.{widths_of};
-ghost use Rattle.trace_model.specs.Row.{IsOver, completes};
+ghost use Rattle.run_model.specs.trace_model.declared.channel.Channel.{Channel};
+ghost use Rattle.run_model.specs.trace_model.declared.row.Row.{Row};
+ghost use Rattle.run_model.specs.trace_model.Packet.{widths_of};
+ghost use Rattle.run_model.specs.trace_model.Row.{IsOver, completes};
 ghost use Rattle.script_text.specs.declared.script.TheConstants.{MOST_CYCLES};
 ghost use Rattle.script_text.specs.Offer.{Offer, FitsOffer, Carries, EndsAreCompletions};
 
-use trace_model::Row;
+use run_model::trace_model::Row;
 
 /// An environment of a design. It keeps its plan and stands for the list of rows that were committed, of which a new
 /// one has none.

@@ -12,7 +12,10 @@ mod script_env;
 pub use env::Env;
 pub use laws::{lasting_offers, script_lasts};
 pub use offers::{gather, offers_over};
+pub use run_model;
+pub use run_model::{chan_map, trace_model};
 pub use script_env::ScriptEnv;
+pub use script_text;
 pub use script_text::{
     Drain, Drains, Script, ScriptError, StallError, Stalls, Step, StepLists, Steps, read_script,
     read_stalls,

@@ -1,15 +1,15 @@
 //! Offers, channel by channel.
 
 ghost use Rattle.std.specs.Prelude.{◌≡◌, ◌<◌, ◌+◌, ◌≤◌, length, replicate, slice_get, IfOk};
-ghost use Rattle.trace_model.specs.Packet.{widths_of};
-ghost use Rattle.trace_model.specs.Row.{all_widths, replaced};
+ghost use Rattle.run_model.specs.trace_model.Packet.{widths_of};
+ghost use Rattle.run_model.specs.trace_model.Row.{all_widths, replaced};
 ghost use Rattle.run_model.specs.Building.{joined, mask_of};
 ghost use Rattle.env_script.specs.Offered.{numbers_on, offers_on, port_numbers, AllFit};
 
 use crate::Env;
+use run_model::trace_model::{Channel, Channels, Offers, row_over, with_bit};
+use run_model::vidi_bits::Memory;
 use std::alloc::Global;
-use trace_model::{Channel, Channels, Offers, row_over, with_bit};
-use vidi_bits::Memory;
 
 /// The channels on which a content is offered.
 fn valids<E: Env>(env: &E, channels: usize) -> u128

@@ -10,11 +10,11 @@ ghost use Rattle.script_text.specs.ScriptOffer.{script_offer};
 ghost use Rattle.script_text.specs.Places.{StandsFor, step_at, offer_at};
 
 use crate::env::Env;
-use chan_map::Map;
+use run_model::chan_map::Map;
+use run_model::trace_model::{Channels, Row};
+use run_model::vidi_bits::Memory;
 use script_text::{Place, Script, Step, count_ends, move_on};
 use std::alloc::Global;
-use trace_model::{Channels, Row};
-use vidi_bits::Memory;
 
 /// The environment that plays a script: on each channel its steps one after the other.
 #[derive(Drop)]

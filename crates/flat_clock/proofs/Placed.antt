@@ -1,15 +1,15 @@
 -- The port of the clock.
 use Rattle.std.proofs.Common.{◌≡◌, ℕ, ◌↔◌, List, [], map, refl, sym, ap, ◌∙◌, Option, None, Some, slice_get}
-use Rattle.vlog_tree.specs.Tree.{PortOf, ModuleOf, FileOf}
-use Rattle.vlog_elab.specs.Scope.{scope_with}
-use Rattle.net_design.specs.declared.design.Port.{Port}
-use Rattle.vlog_elab.specs.Instances.{ModuleInstance, instances}
-use Rattle.vlog_elab.specs.Clock.{clock_inputs}
-use Rattle.vlog_elab.specs.Reasons.{Clear}
-use Rattle.vlog_meaning.specs.Names.{Name}
-use Rattle.flat_parts.specs.Nets.{flat_ports}
-use Rattle.flat_parts.specs.Built.{IsClockPort}
-use Rattle.flat_parts.specs.Laws.{IsTop}
+use Rattle.flat_laws.specs.vlog_tree.Tree.{PortOf, ModuleOf, FileOf}
+use Rattle.flat_laws.specs.vlog_elab.Scope.{scope_with}
+use Rattle.flat_laws.specs.net_design.declared.design.Port.{Port}
+use Rattle.flat_laws.specs.vlog_elab.Instances.{ModuleInstance, instances}
+use Rattle.flat_laws.specs.vlog_elab.Clock.{clock_inputs}
+use Rattle.flat_laws.specs.vlog_elab.Reasons.{Clear}
+use Rattle.flat_laws.specs.vlog_meaning.Names.{Name}
+use Rattle.flat_laws.specs.flat_parts.Nets.{flat_ports}
+use Rattle.flat_laws.specs.flat_parts.Built.{IsClockPort}
+use Rattle.flat_laws.specs.flat_parts.Laws.{IsTop}
 use Rattle.flat_laws.proofs.Lists.{in_got}
 use Rattle.flat_laws.proofs.Found.{names_apart}
 use Rattle.flat_laws.proofs.Listed.{first_is_top}

@@ -2,18 +2,18 @@
 -- its place among the ports of the top.
 use Rattle.std.specs.Prelude.{◌≡◌, ℕ, ◌↔◌, List, [], ◌∷◌, position, Option, None, Some, slice_get}
 use Rattle.std.specs.Str.{bytes_eq}
-use Rattle.vlog_tree.specs.Tree.{PortOf, ModuleOf, FileOf}
-use Rattle.vlog_hierarchy.specs.Outlines.{place_of, outlines_of}
-use Rattle.vlog_hierarchy.specs.Clock.{scopes_of, clock_ports, first_port}
-use Rattle.vlog_elab.specs.Scope.{scope_with}
-use Rattle.vlog_elab.specs.Instances.{ModuleInstance, instances}
-use Rattle.vlog_elab.specs.Clock.{clock_inputs}
-use Rattle.vlog_elab.specs.Reasons.{Clear}
-use Rattle.vlog_meaning.specs.Names.{Name}
-use Rattle.vlog_meaning.specs.Settled.{IsClock}
-use Rattle.flat_parts.specs.Nets.{flat_ports}
-use Rattle.flat_parts.specs.Built.{IsClockPort}
-use Rattle.flat_parts.specs.Laws.{IsTop}
+use Rattle.flat_laws.specs.vlog_tree.Tree.{PortOf, ModuleOf, FileOf}
+use Rattle.flat_laws.specs.vlog_hierarchy.Outlines.{place_of, outlines_of}
+use Rattle.flat_laws.specs.vlog_hierarchy.Clock.{scopes_of, clock_ports, first_port}
+use Rattle.flat_laws.specs.vlog_elab.Scope.{scope_with}
+use Rattle.flat_laws.specs.vlog_elab.Instances.{ModuleInstance, instances}
+use Rattle.flat_laws.specs.vlog_elab.Clock.{clock_inputs}
+use Rattle.flat_laws.specs.vlog_elab.Reasons.{Clear}
+use Rattle.flat_laws.specs.vlog_meaning.Names.{Name}
+use Rattle.flat_laws.specs.vlog_meaning.Settled.{IsClock}
+use Rattle.flat_laws.specs.flat_parts.Nets.{flat_ports}
+use Rattle.flat_laws.specs.flat_parts.Built.{IsClockPort}
+use Rattle.flat_laws.specs.flat_parts.Laws.{IsTop}
 
 -- the place among these 1-bit inputs of the one to which the name of the first clocked block is joined
 abbrev pub joined_input : FileOf ℕ → List ℕ → List Name → Option ℕ

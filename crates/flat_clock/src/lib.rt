@@ -7,5 +7,6 @@
 mod laws;
 mod place;
 
+pub use flat_laws;
 pub use laws::clock_is_joined_input;
 pub use place::clock_place;

@@ -3,19 +3,19 @@ use Rattle.std.proofs.Common.{◌≡◌, ℕ, ◌+◌, ◌==◌, ◌||◌, Bool,
 use Rattle.std.proofs.Common.{refl, ap, sym, ◌∙◌, append_assoc}
 use Rattle.std.specs.List.{AllZip, count_by, flat_map, list_any}
 use Rattle.std.proofs.lemmas.List.Sums.{sum_by-append, sum_by-cons}
-use Rattle.net_code.specs.BitMap.{is_among}
-use Rattle.vidi_bits.specs.Findings.{told_if}
-use Rattle.net_design.specs.declared.act.Code.{Code}
-use Rattle.net_design.specs.declared.act.Place.{Place}
-use Rattle.net_design.specs.declared.act.Place.TheVariants.{Bits as PlaceBits, BitsFrom, Word as PlaceWord, WordFrom}
-use Rattle.net_design.specs.declared.design.Driver.{Driver}
-use Rattle.net_design.specs.Bits.{place_writes}
-use Rattle.net_code.specs.Targets.{block_targets, place_net, place_room, nets_named, rooms_named, bit_count}
-use Rattle.net_drive.specs.Drive.{driver_places, wire_places, always_names, block_names, block_count}
-use Rattle.vlog_block.specs.Naming.{always_names as of_block}
-use Rattle.vlog_driver.specs.Sites.{names_at_site}
-use Rattle.vlog_block.specs.Naming.{Naming, place_names}
-use Rattle.vlog_driver.specs.Duties.{Duty, Assigns, Settles, Does}
+use Rattle.flat_parts.specs.net_code.BitMap.{is_among}
+use Rattle.flat_parts.specs.vidi_bits.Findings.{told_if}
+use Rattle.flat_parts.specs.net_design.declared.act.Code.{Code}
+use Rattle.flat_parts.specs.net_design.declared.act.Place.{Place}
+use Rattle.flat_parts.specs.net_design.declared.act.Place.TheVariants.{Bits as PlaceBits, BitsFrom, Word as PlaceWord, WordFrom}
+use Rattle.flat_parts.specs.net_design.declared.design.Driver.{Driver}
+use Rattle.flat_parts.specs.net_design.Bits.{place_writes}
+use Rattle.flat_parts.specs.net_code.Targets.{block_targets, place_net, place_room, nets_named, rooms_named, bit_count}
+use Rattle.flat_parts.specs.net_drive.Drive.{driver_places, wire_places, always_names, block_names, block_count}
+use Rattle.flat_parts.specs.vlog_block.Naming.{always_names as of_block}
+use Rattle.flat_parts.specs.vlog_driver.Sites.{names_at_site}
+use Rattle.flat_parts.specs.vlog_block.Naming.{Naming, place_names}
+use Rattle.flat_parts.specs.vlog_driver.Duties.{Duty, Assigns, Settles, Does}
 use Rattle.flat_parts.specs.Drivers.{ClockedBlock, IsBlockOf}
 use Rattle.flat_drive.specs.Findings.{duty_count, driver_count, settled_names, clocked_names, blocks_name}
 use Rattle.flat_drive.specs.Findings.{is_net, is_room, net_blocks, room_blocks}

@@ -5,17 +5,17 @@ use Rattle.std.specs.List.{list_any}
 use Rattle.std.specs.Str.{bytes_eq}
 use Rattle.std.proofs.lemmas.Slice.Eq.{bytes_eq-Decides}
 use Rattle.std.proofs.lemmas.List.Folds.{list_any-append}
-use Rattle.vidi_bits.proofs.Bools.{or_none}
-use Rattle.vidi_bits.specs.Findings.{told_if}
-use Rattle.vlog_tree.specs.Tree.{PortOf, PortHeadOf, ModuleOf}
-use Rattle.vlog_tree.specs.declared.module.Direction.{Direction}
-use Rattle.vlog_tree.specs.declared.module.Direction.TheVariants.{Input, Output}
-use Rattle.vlog_size.specs.Table.{Named, value_of, added}
-use Rattle.vlog_names.specs.declared.declaration.Declaration.{Declaration}
-use Rattle.vlog_names.specs.Entries.{port_entries, port_as, no_port}
-use Rattle.vlog_names.specs.Ports.{is_input_port, input_after, is_output_port}
-use Rattle.vlog_meaning.specs.Settled.{is_input, input_names}
-use Rattle.vlog_meaning.specs.Names.{Name}
+use Rattle.flat_parts.proofs.vidi_bits.Bools.{or_none}
+use Rattle.flat_parts.specs.vidi_bits.Findings.{told_if}
+use Rattle.flat_parts.specs.vlog_tree.Tree.{PortOf, PortHeadOf, ModuleOf}
+use Rattle.flat_parts.specs.vlog_tree.declared.module.Direction.{Direction}
+use Rattle.flat_parts.specs.vlog_tree.declared.module.Direction.TheVariants.{Input, Output}
+use Rattle.flat_parts.specs.vlog_size.Table.{Named, value_of, added}
+use Rattle.flat_parts.specs.vlog_names.declared.declaration.Declaration.{Declaration}
+use Rattle.flat_parts.specs.vlog_names.Entries.{port_entries, port_as, no_port}
+use Rattle.flat_parts.specs.vlog_names.Ports.{is_input_port, input_after, is_output_port}
+use Rattle.flat_parts.specs.vlog_meaning.Settled.{is_input, input_names}
+use Rattle.flat_parts.specs.vlog_meaning.Names.{Name}
 use Rattle.flat_drive.specs.Marked.{inputs_after, is_listed, IsInputTable}
 
 -- ---- ports

@@ -1,19 +1,19 @@
 -- A finding as an answer.
 use Rattle.std.proofs.Common.{◌≡◌, List, [], ◌∷◌, map, None, Some, refl, sym, ap, subst, ◌∙◌}
 use Rattle.std.proofs.lemmas.Option.{same_Some}
-use Rattle.vidi_bits.specs.Findings.{first}
-use Rattle.net_design.specs.declared.act.Code.{Code}
-use Rattle.net_design.specs.declared.design.Driver.{Driver}
-use Rattle.net_design.specs.declared.design.Net.{Net}
-use Rattle.net_design.specs.declared.design.DesignMemory.{DesignMemory}
-use Rattle.net_drive.specs.declared.findings.NetKind.{NetKind}
-use Rattle.net_drive.specs.declared.findings.Misdriven.{Misdriven}
-use Rattle.net_drive.specs.declared.findings.Misdriven.TheVariants as what
-use Rattle.net_drive.specs.Drive.{drive_faults}
-use Rattle.vlog_elab.specs.declared.error.ElabError.{ElabError}
-use Rattle.vlog_elab.specs.Instances.{ModuleInstance}
-use Rattle.vidi_bits.specs.Findings.{IsFirst}
-use Rattle.vlog_elab.specs.Told.{elab_told}
+use Rattle.flat_parts.specs.vidi_bits.Findings.{first}
+use Rattle.flat_parts.specs.net_design.declared.act.Code.{Code}
+use Rattle.flat_parts.specs.net_design.declared.design.Driver.{Driver}
+use Rattle.flat_parts.specs.net_design.declared.design.Net.{Net}
+use Rattle.flat_parts.specs.net_design.declared.design.DesignMemory.{DesignMemory}
+use Rattle.flat_parts.specs.net_drive.declared.findings.NetKind.{NetKind}
+use Rattle.flat_parts.specs.net_drive.declared.findings.Misdriven.{Misdriven}
+use Rattle.flat_parts.specs.net_drive.declared.findings.Misdriven.TheVariants as what
+use Rattle.flat_parts.specs.net_drive.Drive.{drive_faults}
+use Rattle.flat_parts.specs.vlog_elab.declared.error.ElabError.{ElabError}
+use Rattle.flat_parts.specs.vlog_elab.Instances.{ModuleInstance}
+use Rattle.flat_parts.specs.vidi_bits.Findings.{IsFirst}
+use Rattle.flat_parts.specs.vlog_elab.Told.{elab_told}
 use Rattle.flat_parts.specs.Seats.{seats_of}
 use Rattle.flat_parts.specs.Nets.{flat_nets, flat_memories}
 use Rattle.flat_drive.specs.Kinds.{flat_kinds}

@@ -4,14 +4,14 @@ use Rattle.std.proofs.Common.{Some, None, subst}
 use Rattle.std.proofs.Common.{refl, sym, ap, ◌∙◌, arith}
 use Rattle.std.specs.List.{flat_map}
 use Rattle.std.proofs.lemmas.Bool.{eqb-true}
-use Rattle.vlog_size.specs.declared.scope.ScopeNet.{ScopeNet}
-use Rattle.vlog_size.specs.Table.{Named}
-use Rattle.vlog_elab.specs.Scope.{words_of}
+use Rattle.flat_parts.specs.vlog_size.declared.scope.ScopeNet.{ScopeNet}
+use Rattle.flat_parts.specs.vlog_size.Table.{Named}
+use Rattle.flat_parts.specs.vlog_elab.Scope.{words_of}
 use Rattle.std.proofs.lemmas.Option.{same_Some}
-use Rattle.vlog_elab.specs.Instances.{ModuleInstance}
-use Rattle.vlog_elab.specs.declared.instance.ModuleInstance as code
-use Rattle.vlog_elab.specs.Plain.{plain_instance, plain_instances}
-use Rattle.vlog_names.specs.Ports.{has_reg}
+use Rattle.flat_parts.specs.vlog_elab.Instances.{ModuleInstance}
+use Rattle.flat_parts.specs.vlog_elab.declared.instance.ModuleInstance as code
+use Rattle.flat_parts.specs.vlog_elab.Plain.{plain_instance, plain_instances}
+use Rattle.flat_parts.specs.vlog_names.Ports.{has_reg}
 use Rattle.flat_parts.specs.Seats.{Seat, seats_from, seats_of}
 use Rattle.flat_parts.specs.Marks.{seat_marks, reg_marks}
 use Rattle.flat_drive.specs.Kinds.{has_input, kind_if, kind_of, seat_kinds, flat_kinds}

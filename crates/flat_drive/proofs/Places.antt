@@ -4,12 +4,12 @@ use Rattle.std.proofs.Common.{Some, None, refl, sym, ap, subst, ◌∙◌, arith
 use Rattle.std.specs.List.{flat_map}
 use Rattle.std.proofs.lemmas.List.{drop_all}
 use Rattle.std.proofs.lemmas.Option.{same_Some}
-use Rattle.net_design.proofs.UpdateLaws.{from_here}
-use Rattle.vlog_elab.specs.Instances.{ModuleInstance}
-use Rattle.vlog_elab.specs.declared.instance.ModuleInstance as code
-use Rattle.vlog_elab.specs.Plain.{plain_instance, plain_instances}
-use Rattle.vlog_size.specs.Table.{Named}
-use Rattle.vlog_meaning.specs.Names.{Full}
+use Rattle.flat_parts.proofs.net_design.UpdateLaws.{from_here}
+use Rattle.flat_parts.specs.vlog_elab.Instances.{ModuleInstance}
+use Rattle.flat_parts.specs.vlog_elab.declared.instance.ModuleInstance as code
+use Rattle.flat_parts.specs.vlog_elab.Plain.{plain_instance, plain_instances}
+use Rattle.flat_parts.specs.vlog_size.Table.{Named}
+use Rattle.flat_parts.specs.vlog_meaning.Names.{Full}
 use Rattle.flat_drive.specs.Reasons.{dotted, dotted_all, text_at, instance_nets, instance_memories, net_texts, memory_texts}
 
 pub in_front : (xs ys : List (List ℕ)) (k : ℕ) → k < length xs → text_at (xs ++ ys) k ≡ text_at xs k

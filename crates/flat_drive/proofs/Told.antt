@@ -4,29 +4,29 @@ use Rattle.std.proofs.Common.{◌≡◌, ℕ, zero, suc, ◌+◌, ◌==◌, min,
 use Rattle.std.proofs.Common.{refl, ap, sym, ◌∙◌, append_assoc, arith}
 use Rattle.std.specs.List.{AllZip, flat_map}
 use Rattle.std.proofs.lemmas.List.{map-append, length-map}
-use Rattle.vidi_bits.specs.Findings.{told_if}
-use Rattle.vlog_size.specs.declared.scope.ScopeNet.{ScopeNet}
-use Rattle.vlog_size.specs.declared.scope.ScopeMemory.{ScopeMemory}
-use Rattle.vlog_size.specs.Table.{Named}
-use Rattle.vlog_elab.specs.Scope.{words_of}
-use Rattle.net_design.specs.declared.act.Code.{Code}
-use Rattle.net_design.specs.declared.act.Place.{Place}
-use Rattle.net_design.specs.declared.design.Net.{Net}
-use Rattle.net_design.specs.declared.design.DesignMemory.{DesignMemory}
-use Rattle.net_design.specs.declared.design.Driver.{Driver}
-use Rattle.net_drive.specs.declared.findings.NetKind.{NetKind}
-use Rattle.net_drive.specs.declared.findings.NetKind.TheVariants.{Pin, Wire, Reg}
-use Rattle.net_drive.specs.declared.findings.Misdriven.{Misdriven}
-use Rattle.net_drive.specs.declared.findings.Misdriven.TheVariants as what
-use Rattle.net_code.specs.Targets.{nets_named, rooms_named, bit_count}
-use Rattle.net_drive.specs.Drive.{block_count, bit_faults, reg_faults, kind_faults, kind_at, nets_from, memory_at, wire_places}
-use Rattle.net_drive.specs.Drive.{block_names, memories_from as memories_past, net_faults, memory_faults}
-use Rattle.vlog_block.specs.Naming.{Naming}
-use Rattle.vlog_driver.specs.Duties.{Duty, Does}
-use Rattle.vlog_elab.specs.declared.error.ElabError.{ElabError}
-use Rattle.vlog_elab.specs.declared.error.ElabError.TheVariants as e
-use Rattle.vlog_elab.specs.Instances.{ModuleInstance}
-use Rattle.vlog_meaning.specs.Names.{Full}
+use Rattle.flat_parts.specs.vidi_bits.Findings.{told_if}
+use Rattle.flat_parts.specs.vlog_size.declared.scope.ScopeNet.{ScopeNet}
+use Rattle.flat_parts.specs.vlog_size.declared.scope.ScopeMemory.{ScopeMemory}
+use Rattle.flat_parts.specs.vlog_size.Table.{Named}
+use Rattle.flat_parts.specs.vlog_elab.Scope.{words_of}
+use Rattle.flat_parts.specs.net_design.declared.act.Code.{Code}
+use Rattle.flat_parts.specs.net_design.declared.act.Place.{Place}
+use Rattle.flat_parts.specs.net_design.declared.design.Net.{Net}
+use Rattle.flat_parts.specs.net_design.declared.design.DesignMemory.{DesignMemory}
+use Rattle.flat_parts.specs.net_design.declared.design.Driver.{Driver}
+use Rattle.flat_parts.specs.net_drive.declared.findings.NetKind.{NetKind}
+use Rattle.flat_parts.specs.net_drive.declared.findings.NetKind.TheVariants.{Pin, Wire, Reg}
+use Rattle.flat_parts.specs.net_drive.declared.findings.Misdriven.{Misdriven}
+use Rattle.flat_parts.specs.net_drive.declared.findings.Misdriven.TheVariants as what
+use Rattle.flat_parts.specs.net_code.Targets.{nets_named, rooms_named, bit_count}
+use Rattle.flat_parts.specs.net_drive.Drive.{block_count, bit_faults, reg_faults, kind_faults, kind_at, nets_from, memory_at, wire_places}
+use Rattle.flat_parts.specs.net_drive.Drive.{block_names, memories_from as memories_past, net_faults, memory_faults}
+use Rattle.flat_parts.specs.vlog_block.Naming.{Naming}
+use Rattle.flat_parts.specs.vlog_driver.Duties.{Duty, Does}
+use Rattle.flat_parts.specs.vlog_elab.declared.error.ElabError.{ElabError}
+use Rattle.flat_parts.specs.vlog_elab.declared.error.ElabError.TheVariants as e
+use Rattle.flat_parts.specs.vlog_elab.Instances.{ModuleInstance}
+use Rattle.flat_parts.specs.vlog_meaning.Names.{Full}
 use Rattle.flat_parts.specs.Seats.{Seat, seats_from, seats_of}
 use Rattle.flat_parts.specs.Nets.{net_of, seat_nets, flat_nets, memories_from, seat_memories, flat_memories}
 use Rattle.flat_parts.specs.Drivers.{all_duties, all_blocks, IsBlockOf}

@@ -2,18 +2,18 @@
 -- driver, and a reg or a memory is named by at most one always block.
 use Rattle.std.specs.Prelude.{ℕ, zero, suc, ◌+◌, ◌==◌, min, not, nat_lt, Bool, false, List, [], ◌∷◌, ◌++◌, map}
 use Rattle.std.specs.List.{count_by, flat_map, list_any, sum_by}
-use Rattle.vidi_bits.specs.Findings.{told_if}
-use Rattle.vlog_size.specs.declared.scope.ScopeNet.{ScopeNet}
-use Rattle.vlog_size.specs.declared.scope.ScopeMemory.{ScopeMemory}
-use Rattle.vlog_size.specs.Table.{Named}
-use Rattle.net_drive.specs.declared.findings.NetKind.{NetKind}
-use Rattle.net_drive.specs.declared.findings.NetKind.TheVariants.{Pin, Wire, Reg}
-use Rattle.net_drive.specs.Drive.{pin_count}
-use Rattle.vlog_block.specs.Naming.{Naming, NamesNet, NamesRoom, target_count, always_names}
-use Rattle.vlog_driver.specs.Sites.{count_at, names_at_site}
-use Rattle.vlog_driver.specs.Duties.{Duty, Assigns, Settles}
-use Rattle.vlog_elab.specs.declared.error.ElabError.{ElabError}
-use Rattle.vlog_elab.specs.declared.error.ElabError.TheVariants as e
+use Rattle.flat_parts.specs.vidi_bits.Findings.{told_if}
+use Rattle.flat_parts.specs.vlog_size.declared.scope.ScopeNet.{ScopeNet}
+use Rattle.flat_parts.specs.vlog_size.declared.scope.ScopeMemory.{ScopeMemory}
+use Rattle.flat_parts.specs.vlog_size.Table.{Named}
+use Rattle.flat_parts.specs.net_drive.declared.findings.NetKind.{NetKind}
+use Rattle.flat_parts.specs.net_drive.declared.findings.NetKind.TheVariants.{Pin, Wire, Reg}
+use Rattle.flat_parts.specs.net_drive.Drive.{pin_count}
+use Rattle.flat_parts.specs.vlog_block.Naming.{Naming, NamesNet, NamesRoom, target_count, always_names}
+use Rattle.flat_parts.specs.vlog_driver.Sites.{count_at, names_at_site}
+use Rattle.flat_parts.specs.vlog_driver.Duties.{Duty, Assigns, Settles}
+use Rattle.flat_parts.specs.vlog_elab.declared.error.ElabError.{ElabError}
+use Rattle.flat_parts.specs.vlog_elab.declared.error.ElabError.TheVariants as e
 use Rattle.flat_parts.specs.Seats.{Seat}
 use Rattle.flat_parts.specs.Drivers.{ClockedBlock, all_duties, all_blocks}
 use Rattle.flat_drive.specs.Kinds.{kind_of}

@@ -2,13 +2,13 @@
 use Rattle.std.specs.Prelude.{ℕ, Bool, true, false, ◌==◌, ◌&&◌, List, map}
 use Rattle.std.specs.List.{flat_map, list_any}
 use Rattle.std.specs.Str.{bytes_eq}
-use Rattle.vlog_tree.specs.Tree.{ModuleOf}
-use Rattle.vlog_size.specs.declared.scope.ScopeNet.{ScopeNet}
-use Rattle.vlog_size.specs.Table.{Named}
-use Rattle.net_drive.specs.declared.findings.NetKind.{NetKind}
-use Rattle.net_drive.specs.declared.findings.NetKind.TheVariants.{Pin, Wire, Reg}
-use Rattle.vlog_names.specs.Ports.{has_reg}
-use Rattle.vlog_meaning.specs.Settled.{inputs_of}
+use Rattle.flat_parts.specs.vlog_tree.Tree.{ModuleOf}
+use Rattle.flat_parts.specs.vlog_size.declared.scope.ScopeNet.{ScopeNet}
+use Rattle.flat_parts.specs.vlog_size.Table.{Named}
+use Rattle.flat_parts.specs.net_drive.declared.findings.NetKind.{NetKind}
+use Rattle.flat_parts.specs.net_drive.declared.findings.NetKind.TheVariants.{Pin, Wire, Reg}
+use Rattle.flat_parts.specs.vlog_names.Ports.{has_reg}
+use Rattle.flat_parts.specs.vlog_meaning.Settled.{inputs_of}
 use Rattle.flat_parts.specs.Seats.{Seat}
 
 -- whether a module has an input of this name

@@ -1,10 +1,10 @@
 -- What is found in the flat design is what is found in the instances.
 use Rattle.std.specs.Prelude.{◌≡◌, List}
 use Rattle.std.specs.List.{AllZip}
-use Rattle.net_design.specs.declared.act.Code.{Code}
-use Rattle.net_design.specs.declared.design.Driver.{Driver}
-use Rattle.vlog_driver.specs.Duties.{Does}
-use Rattle.vlog_elab.specs.Instances.{ModuleInstance}
+use Rattle.flat_parts.specs.net_design.declared.act.Code.{Code}
+use Rattle.flat_parts.specs.net_design.declared.design.Driver.{Driver}
+use Rattle.flat_parts.specs.vlog_driver.Duties.{Does}
+use Rattle.flat_parts.specs.vlog_elab.Instances.{ModuleInstance}
 use Rattle.flat_parts.specs.Seats.{seats_of}
 use Rattle.flat_parts.specs.Drivers.{all_duties, all_blocks, IsBlockOf}
 use Rattle.flat_drive.specs.Reasons.{flat_findings}

@@ -1,12 +1,12 @@
 -- The kinds of nets, net by net, where a table has the names of the top's inputs.
 use Rattle.std.specs.Prelude.{◌≡◌, ℕ, ◌+◌, Bool, false, List, [], ◌∷◌, ◌++◌, map, slice_get, Option, None, Some, is_some}
-use Rattle.vidi_bits.specs.Findings.{told_if}
-use Rattle.vlog_tree.specs.Tree.{PortOf, ModuleOf}
-use Rattle.vlog_size.specs.declared.scope.ScopeNet.{ScopeNet}
-use Rattle.vlog_size.specs.Table.{Named, value_of}
-use Rattle.net_drive.specs.declared.findings.NetKind.{NetKind}
-use Rattle.vlog_names.specs.Ports.{input_after}
-use Rattle.vlog_meaning.specs.Names.{Name}
+use Rattle.flat_parts.specs.vidi_bits.Findings.{told_if}
+use Rattle.flat_parts.specs.vlog_tree.Tree.{PortOf, ModuleOf}
+use Rattle.flat_parts.specs.vlog_size.declared.scope.ScopeNet.{ScopeNet}
+use Rattle.flat_parts.specs.vlog_size.Table.{Named, value_of}
+use Rattle.flat_parts.specs.net_drive.declared.findings.NetKind.{NetKind}
+use Rattle.flat_parts.specs.vlog_names.Ports.{input_after}
+use Rattle.flat_parts.specs.vlog_meaning.Names.{Name}
 use Rattle.flat_drive.specs.Kinds.{has_input, kind_if}
 
 -- the names of the inputs among ports, where the port before them is an input or isn't

@@ -1,16 +1,16 @@
 -- E8 as a reason against a design text: the net or memory by its full name, the bit, and the number of drivers.
 use Rattle.std.specs.Prelude.{ℕ, min, List, [], ◌∷◌, ◌++◌, map, slice_get, Option, None, Some}
 use Rattle.std.specs.List.{flat_map}
-use Rattle.vlog_size.specs.Table.{Named}
-use Rattle.net_drive.specs.declared.findings.Misdriven.{Misdriven}
-use Rattle.net_drive.specs.declared.findings.Misdriven.TheVariants as what
-use Rattle.net_design.specs.declared.act.Code.{Code}
-use Rattle.net_design.specs.declared.design.Driver.{Driver}
-use Rattle.net_drive.specs.Drive.{drive_faults}
-use Rattle.vlog_elab.specs.declared.error.ElabError.{ElabError}
-use Rattle.vlog_elab.specs.declared.error.ElabError.TheVariants as e
-use Rattle.vlog_elab.specs.Instances.{ModuleInstance}
-use Rattle.vlog_meaning.specs.Names.{Name, Full}
+use Rattle.flat_parts.specs.vlog_size.Table.{Named}
+use Rattle.flat_parts.specs.net_drive.declared.findings.Misdriven.{Misdriven}
+use Rattle.flat_parts.specs.net_drive.declared.findings.Misdriven.TheVariants as what
+use Rattle.flat_parts.specs.net_design.declared.act.Code.{Code}
+use Rattle.flat_parts.specs.net_design.declared.design.Driver.{Driver}
+use Rattle.flat_parts.specs.net_drive.Drive.{drive_faults}
+use Rattle.flat_parts.specs.vlog_elab.declared.error.ElabError.{ElabError}
+use Rattle.flat_parts.specs.vlog_elab.declared.error.ElabError.TheVariants as e
+use Rattle.flat_parts.specs.vlog_elab.Instances.{ModuleInstance}
+use Rattle.flat_parts.specs.vlog_meaning.Names.{Name, Full}
 use Rattle.flat_parts.specs.Seats.{seats_of}
 use Rattle.flat_parts.specs.Nets.{flat_nets, flat_memories}
 use Rattle.flat_drive.specs.Kinds.{flat_kinds}

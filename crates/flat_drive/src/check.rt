@@ -1,14 +1,14 @@
 //! E8 over the instances of a file.
 
 ghost use Rattle.std.specs.List.{AllZip};
-ghost use Rattle.vlog_driver.specs.Duties.{Does};
+ghost use Rattle.flat_parts.specs.vlog_driver.Duties.{Does};
 ghost use Rattle.flat_parts.specs.Drivers.{all_duties, all_blocks, IsBlockOf};
 ghost use Rattle.flat_drive.specs.Findings.{drive_findings};
 ghost use Rattle.std.specs.Prelude.{◌≡◌, min, IfOk};
-ghost use Rattle.net_drive.specs.declared.findings.Misdriven.{Misdriven};
-ghost use Rattle.vlog_elab.specs.Plain.{plain_instances};
-ghost use Rattle.vidi_bits.specs.Findings.{Judged};
-ghost use Rattle.vlog_elab.specs.Told.{elab_told};
+ghost use Rattle.flat_parts.specs.net_drive.declared.findings.Misdriven.{Misdriven};
+ghost use Rattle.flat_parts.specs.vlog_elab.Plain.{plain_instances};
+ghost use Rattle.flat_parts.specs.vidi_bits.Findings.{Judged};
+ghost use Rattle.flat_parts.specs.vlog_elab.Told.{elab_told};
 ghost use Rattle.flat_parts.specs.Seats.{seats_of};
 ghost use Rattle.flat_parts.specs.Nets.{flat_nets, flat_memories};
 ghost use Rattle.flat_parts.specs.Marks.{reg_marks};
@@ -16,11 +16,11 @@ ghost use Rattle.flat_drive.specs.Reasons.{drivers_told, error_of, flat_findings
 
 use crate::full_names::{memory_name, net_name};
 use crate::pins::kinds;
-use net_design::{Code, DesignMemory, Driver, Net};
-use net_drive::{Misdriven, misdriven};
+use flat_parts::net_design::{Code, DesignMemory, Driver, Net};
+use flat_parts::net_drive::{Misdriven, misdriven};
+use flat_parts::vidi_bits::Memory;
+use flat_parts::vlog_elab::{ElabError, ModuleInstance};
 use std::alloc::Global;
-use vidi_bits::Memory;
-use vlog_elab::{ElabError, ModuleInstance};
 
 /// A number of drivers in 32 bits.
 fn drivers_told(n: u128) -> u32

@@ -1,14 +1,14 @@
 //! Full names as text.
 
 ghost use Rattle.std.specs.Prelude.{◌≡◌, ◌++◌, ◌∷◌, [], IfOk, OnOk};
-ghost use Rattle.vlog_hierarchy.specs.Plain.{plain_path};
-ghost use Rattle.vlog_elab.specs.Plain.{plain_instances};
+ghost use Rattle.flat_parts.specs.vlog_hierarchy.Plain.{plain_path};
+ghost use Rattle.flat_parts.specs.vlog_elab.Plain.{plain_instances};
 ghost use Rattle.flat_drive.specs.Reasons.{dotted, dotted_all, net_texts, memory_texts, text_at};
 
+use flat_parts::vidi_bits::{Items, Memory, Name};
+use flat_parts::vlog_elab::ModuleInstance;
+use flat_parts::vlog_size::Table;
 use std::alloc::Global;
-use vidi_bits::{Items, Memory, Name};
-use vlog_elab::ModuleInstance;
-use vlog_size::Table;
 
 /// The dot between names.
 const DOT: u8 = b'.';

@@ -3,22 +3,22 @@
 ghost use Rattle.std.specs.Prelude.{◌≡◌, ◌++◌, ◌||◌, true, map, IfOk, OnOk};
 ghost use Rattle.std.specs.List.{list_any};
 ghost use Rattle.std.specs.Str.{bytes_eq};
-ghost use Rattle.vidi_bits.specs.Findings.{told_if};
-ghost use Rattle.vlog_tree.specs.Plain.{plain_port, plain_module};
-ghost use Rattle.vlog_elab.specs.Plain.{plain_instances};
-ghost use Rattle.vlog_meaning.specs.Names.{Name};
+ghost use Rattle.flat_parts.specs.vidi_bits.Findings.{told_if};
+ghost use Rattle.flat_parts.specs.vlog_tree.Plain.{plain_port, plain_module};
+ghost use Rattle.flat_parts.specs.vlog_elab.Plain.{plain_instances};
+ghost use Rattle.flat_parts.specs.vlog_meaning.Names.{Name};
 ghost use Rattle.flat_parts.specs.Seats.{seats_of};
 ghost use Rattle.flat_parts.specs.Marks.{reg_marks};
 ghost use Rattle.flat_drive.specs.Kinds.{kind_if, flat_kinds};
 ghost use Rattle.flat_drive.specs.Marked.{IsInputTable, inputs_after, is_listed, is_pin, kinds_from};
 
-use net_drive::NetKind;
+use flat_parts::net_drive::NetKind;
+use flat_parts::vidi_bits::{Items, Memory, copied};
+use flat_parts::vlog_elab::ModuleInstance;
+use flat_parts::vlog_names::input_after;
+use flat_parts::vlog_size::{ScopeNets, Table};
+use flat_parts::vlog_tree::{Module, Port};
 use std::alloc::Global;
-use vidi_bits::{Items, Memory, copied};
-use vlog_elab::ModuleInstance;
-use vlog_names::input_after;
-use vlog_size::{ScopeNets, Table};
-use vlog_tree::{Module, Port};
 
 /// Adds the name of a port that is an input.
 fn add_input(

@@ -3,19 +3,19 @@ use Rattle.std.proofs.Common.{◌≡◌, ℕ, zero, suc, ◌+◌, ◌<◌, ◌�
 use Rattle.std.proofs.Common.{append_assoc, append-nil, Result, Ok, Err, OnOk, Some, slice_get}
 use Rattle.std.specs.List.{AllZip, AllByRecursion, flat_map}
 use Rattle.std.proofs.Math.ListN.{drop_of_length-le}
-use Rattle.vlog_tree.specs.Plain.{plain_item}
-use Rattle.vlog_tree.specs.declared.module.Item.{Item}
-use Rattle.vlog_size.specs.declared.scope.Param.{Param}
-use Rattle.vlog_size.specs.declared.scope.Scope.{Scope}
-use Rattle.vlog_size.specs.Table.{Named}
-use Rattle.vlog_scope.specs.Scope.{after_item}
-use Rattle.net_design.specs.declared.act.Code.{Code}
-use Rattle.net_design.proofs.UpdateLaws.{from_here}
-use Rattle.vlog_meaning.specs.Names.{Full}
-use Rattle.vlog_meaning.specs.Placed.{Placed, placed}
+use Rattle.flat_parts.specs.vlog_tree.Plain.{plain_item}
+use Rattle.flat_parts.specs.vlog_tree.declared.module.Item.{Item}
+use Rattle.flat_parts.specs.vlog_size.declared.scope.Param.{Param}
+use Rattle.flat_parts.specs.vlog_size.declared.scope.Scope.{Scope}
+use Rattle.flat_parts.specs.vlog_size.Table.{Named}
+use Rattle.flat_parts.specs.vlog_scope.Scope.{after_item}
+use Rattle.flat_parts.specs.net_design.declared.act.Code.{Code}
+use Rattle.flat_parts.proofs.net_design.UpdateLaws.{from_here}
+use Rattle.flat_parts.specs.vlog_meaning.Names.{Full}
+use Rattle.flat_parts.specs.vlog_meaning.Placed.{Placed, placed}
 use Rattle.flat_parts.specs.Seats.{Seat}
 use Rattle.flat_parts.specs.Drivers.{ClockedBlock, IsBlockOf}
-use Rattle.net_code.specs.declared.base.Base.{Base}
+use Rattle.flat_parts.specs.net_code.declared.base.Base.{Base}
 use Rattle.flat_drivers.specs.Latches.{placed_latches}
 use Rattle.flat_drivers.specs.Adding.{BlocksMore, placed_in, blocks_in, IsFaultlessPlaced}
 

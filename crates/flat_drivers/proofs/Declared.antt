@@ -4,18 +4,18 @@ use Rattle.std.specs.Prelude.{option_map}
 use Rattle.std.specs.List.{flat_map, AllByRecursion}
 use Rattle.std.proofs.lemmas.Option.{slice_get-map}
 use Rattle.flat_parts.specs.Instances.{IsDeclaredIn}
-use Rattle.vlog_tree.specs.Tree.{InstanceOf, ItemOf, WiresItem, DrivenWiresItem, RegsItem, LocalparamsItem, AssignItem, AlwaysItem}
-use Rattle.vlog_tree.specs.Tree.{InstanceItem, ModuleOf, FileOf}
-use Rattle.vlog_size.specs.declared.scope.Scope.{Scope}
-use Rattle.vlog_size.specs.Names.{Readable}
-use Rattle.vlog_size.specs.Table.{Named}
-use Rattle.vlog_scope.specs.Scope.{readable_at, after_item}
-use Rattle.vlog_names.specs.Entries.{Names, module_entry, modules_of}
-use Rattle.vlog_hierarchy.specs.Outlines.{place_of}
-use Rattle.vlog_elab.specs.Instances.{ModuleInstance, child_of, child_at, item_children, children_from, children, within, top_of, top_at}
-use Rattle.vlog_elab.specs.Instances.{instances}
+use Rattle.flat_parts.specs.vlog_tree.Tree.{InstanceOf, ItemOf, WiresItem, DrivenWiresItem, RegsItem, LocalparamsItem, AssignItem, AlwaysItem}
+use Rattle.flat_parts.specs.vlog_tree.Tree.{InstanceItem, ModuleOf, FileOf}
+use Rattle.flat_parts.specs.vlog_size.declared.scope.Scope.{Scope}
+use Rattle.flat_parts.specs.vlog_size.Names.{Readable}
+use Rattle.flat_parts.specs.vlog_size.Table.{Named}
+use Rattle.flat_parts.specs.vlog_scope.Scope.{readable_at, after_item}
+use Rattle.flat_parts.specs.vlog_names.Entries.{Names, module_entry, modules_of}
+use Rattle.flat_parts.specs.vlog_hierarchy.Outlines.{place_of}
+use Rattle.flat_parts.specs.vlog_elab.Instances.{ModuleInstance, child_of, child_at, item_children, children_from, children, within, top_of, top_at}
+use Rattle.flat_parts.specs.vlog_elab.Instances.{instances}
 use Rattle.flat_drivers.specs.Laws.{InstancesAreDeclared}
-use Rattle.vlog_hierarchy.specs.declared.nodes.TheConstants.{MOST_LEVELS}
+use Rattle.flat_parts.specs.vlog_hierarchy.declared.nodes.TheConstants.{MOST_LEVELS}
 
 -- ---- what holds of each of several lists holds of all
 

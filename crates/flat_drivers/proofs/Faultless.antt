@@ -1,24 +1,24 @@
 -- In an instance of a lawful scope in which nothing is found, nothing is found in what its items are made of.
 use Rattle.std.proofs.Common.{◌≡◌, ℕ, true, List, [], ◌∷◌, ◌++◌, ap, ◌∙◌}
 use Rattle.std.specs.List.{flat_map, AllByRecursion}
-use Rattle.vlog_tree.specs.Tree.{ExprOf, TargetOf, AssignOf, StmtOf, BeginStmt, IfStmt, CaseStmt, AssignStmt, StmtsOf, NoStmts, MoreStmts}
-use Rattle.vlog_tree.specs.Tree.{ArmOf, LabelsArm, DefaultArm, ArmsOf, NoArms, MoreArms, BodyOf, StmtBody, EmptyBody, ElseOf, NoElse, Else}
-use Rattle.vlog_tree.specs.Tree.{ItemOf, WiresItem, DrivenWiresItem, RegsItem, LocalparamsItem, AssignItem, AlwaysItem, InstanceItem}
-use Rattle.vlog_size.specs.declared.scope.Scope.{Scope}
-use Rattle.vlog_size.specs.Names.{Readable, checked, is_lawful_readable, is_lawful_scope}
-use Rattle.vlog_size.specs.Size.{Sizes, sizes_of, sizes_of_target, faults}
-use Rattle.vlog_size.proofs.Alike.{expr_alike, target_alike}
-use Rattle.vlog_size.proofs.Meanings.{scope_lawful}
-use Rattle.vlog_scope.specs.declared.fault.FaultKind.TheVariants.{Constant, Width}
-use Rattle.vlog_scope.specs.Scope.{readable_at, after_item}
-use Rattle.vlog_scope.specs.Faults.{found, expr_faults, assign_faults, assigned_faults, stmt_faults, stmts_faults, body_faults, else_faults}
-use Rattle.vlog_scope.specs.Faults.{arm_faults, arms_faults, item_faults, items_faults, const_faults, width_faults}
-use Rattle.vlog_driver.specs.Faultless.{IsFaultless, IsFaultlessTarget, IsFaultlessStmt, AreFaultlessStmts, IsFaultlessBody}
-use Rattle.vlog_driver.specs.Faultless.{IsFaultlessElse, IsFaultlessArm, AreFaultlessArms}
-use Rattle.vlog_meaning.specs.Placed.{placed, placed_items}
-use Rattle.vlog_driver.specs.Duties.{IsFaultlessAssign}
-use Rattle.vlog_elab.specs.Instances.{ModuleInstance}
-use Rattle.net_code.specs.declared.base.Base.{Base}
+use Rattle.flat_parts.specs.vlog_tree.Tree.{ExprOf, TargetOf, AssignOf, StmtOf, BeginStmt, IfStmt, CaseStmt, AssignStmt, StmtsOf, NoStmts, MoreStmts}
+use Rattle.flat_parts.specs.vlog_tree.Tree.{ArmOf, LabelsArm, DefaultArm, ArmsOf, NoArms, MoreArms, BodyOf, StmtBody, EmptyBody, ElseOf, NoElse, Else}
+use Rattle.flat_parts.specs.vlog_tree.Tree.{ItemOf, WiresItem, DrivenWiresItem, RegsItem, LocalparamsItem, AssignItem, AlwaysItem, InstanceItem}
+use Rattle.flat_parts.specs.vlog_size.declared.scope.Scope.{Scope}
+use Rattle.flat_parts.specs.vlog_size.Names.{Readable, checked, is_lawful_readable, is_lawful_scope}
+use Rattle.flat_parts.specs.vlog_size.Size.{Sizes, sizes_of, sizes_of_target, faults}
+use Rattle.flat_parts.proofs.vlog_size.Alike.{expr_alike, target_alike}
+use Rattle.flat_parts.proofs.vlog_size.Meanings.{scope_lawful}
+use Rattle.flat_parts.specs.vlog_scope.declared.fault.FaultKind.TheVariants.{Constant, Width}
+use Rattle.flat_parts.specs.vlog_scope.Scope.{readable_at, after_item}
+use Rattle.flat_parts.specs.vlog_scope.Faults.{found, expr_faults, assign_faults, assigned_faults, stmt_faults, stmts_faults, body_faults, else_faults}
+use Rattle.flat_parts.specs.vlog_scope.Faults.{arm_faults, arms_faults, item_faults, items_faults, const_faults, width_faults}
+use Rattle.flat_parts.specs.vlog_driver.Faultless.{IsFaultless, IsFaultlessTarget, IsFaultlessStmt, AreFaultlessStmts, IsFaultlessBody}
+use Rattle.flat_parts.specs.vlog_driver.Faultless.{IsFaultlessElse, IsFaultlessArm, AreFaultlessArms}
+use Rattle.flat_parts.specs.vlog_meaning.Placed.{placed, placed_items}
+use Rattle.flat_parts.specs.vlog_driver.Duties.{IsFaultlessAssign}
+use Rattle.flat_parts.specs.vlog_elab.Instances.{ModuleInstance}
+use Rattle.flat_parts.specs.net_code.declared.base.Base.{Base}
 use Rattle.flat_drivers.specs.Adding.{site_from, IsFaultlessItem, IsFaultlessPlaced}
 use Rattle.flat_drivers.proofs.Lawful.{parts_empty, items_empty}
 

@@ -2,27 +2,27 @@
 use Rattle.std.proofs.Common.{◌≡◌, ℕ, zero, suc, true, List, [], ◌∷◌, ◌++◌, Option, None, Some, slice_get, refl, sym, ◌∙◌}
 use Rattle.std.specs.List.{flat_map, AllByRecursion}
 use Rattle.std.proofs.lemmas.Grind.{flat_map-append}
-use Rattle.vidi_bits.proofs.Lists.{none_mapped}
-use Rattle.vlog_tree.specs.Tree.{InstanceOf, ItemOf, WiresItem, DrivenWiresItem, RegsItem, LocalparamsItem, AssignItem, AlwaysItem}
-use Rattle.vlog_tree.specs.Tree.{InstanceItem, ModuleOf}
-use Rattle.vlog_size.specs.declared.scope.Scope.{Scope}
-use Rattle.vlog_size.specs.Names.{params_alone, is_lawful_scope}
-use Rattle.vlog_scope.specs.declared.fault.FaultKind.{FaultKind}
-use Rattle.vlog_scope.specs.declared.fault.FaultKind.TheVariants.{Constant, Width}
-use Rattle.vlog_scope.specs.Scope.{readable_at, after_item}
-use Rattle.vlog_scope.specs.Faults.{override_faults, conn_faults, item_faults, items_faults, ports_faults, parameters_faults, scope_faults}
-use Rattle.vlog_scope.specs.Faults.{const_faults, width_faults}
-use Rattle.vlog_scope.specs.declared.extent.Extent.TheVariants.{NoRange}
-use Rattle.vlog_scope.proofs.LawfulPlaces.{lawful_scope, lawful_declared}
-use Rattle.vlog_hierarchy.specs.Outlines.{place_of}
-use Rattle.vlog_elab.specs.Errors.{of_size}
-use Rattle.vlog_elab.specs.Instances.{ModuleInstance, child_of, child_at, item_children, children_from, children, within, top_of, top_at}
-use Rattle.vlog_elab.specs.Instances.{instances}
-use Rattle.vlog_elab.specs.Reasons.{instance_consts, instance_widths}
+use Rattle.flat_parts.proofs.vidi_bits.Lists.{none_mapped}
+use Rattle.flat_parts.specs.vlog_tree.Tree.{InstanceOf, ItemOf, WiresItem, DrivenWiresItem, RegsItem, LocalparamsItem, AssignItem, AlwaysItem}
+use Rattle.flat_parts.specs.vlog_tree.Tree.{InstanceItem, ModuleOf}
+use Rattle.flat_parts.specs.vlog_size.declared.scope.Scope.{Scope}
+use Rattle.flat_parts.specs.vlog_size.Names.{params_alone, is_lawful_scope}
+use Rattle.flat_parts.specs.vlog_scope.declared.fault.FaultKind.{FaultKind}
+use Rattle.flat_parts.specs.vlog_scope.declared.fault.FaultKind.TheVariants.{Constant, Width}
+use Rattle.flat_parts.specs.vlog_scope.Scope.{readable_at, after_item}
+use Rattle.flat_parts.specs.vlog_scope.Faults.{override_faults, conn_faults, item_faults, items_faults, ports_faults, parameters_faults, scope_faults}
+use Rattle.flat_parts.specs.vlog_scope.Faults.{const_faults, width_faults}
+use Rattle.flat_parts.specs.vlog_scope.declared.extent.Extent.TheVariants.{NoRange}
+use Rattle.flat_parts.proofs.vlog_scope.LawfulPlaces.{lawful_scope, lawful_declared}
+use Rattle.flat_parts.specs.vlog_hierarchy.Outlines.{place_of}
+use Rattle.flat_parts.specs.vlog_elab.Errors.{of_size}
+use Rattle.flat_parts.specs.vlog_elab.Instances.{ModuleInstance, child_of, child_at, item_children, children_from, children, within, top_of, top_at}
+use Rattle.flat_parts.specs.vlog_elab.Instances.{instances}
+use Rattle.flat_parts.specs.vlog_elab.Reasons.{instance_consts, instance_widths}
 use Rattle.flat_drivers.specs.Seated.{IsFaultlessInstance}
 use Rattle.flat_drivers.specs.Laws.{InstancesAreFaultless}
 use Rattle.flat_drivers.proofs.Declared.{both_all}
-use Rattle.vlog_hierarchy.specs.declared.nodes.TheConstants.{MOST_LEVELS}
+use Rattle.flat_parts.specs.vlog_hierarchy.declared.nodes.TheConstants.{MOST_LEVELS}
 
 -- ---- empty lists
 

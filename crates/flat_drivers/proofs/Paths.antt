@@ -3,23 +3,23 @@ use Rattle.std.proofs.Common.{◌≡◌, ◌≢◌, ℕ, zero, suc, ◌+◌, Boo
 use Rattle.std.proofs.Common.{Some, slice_get, take, ap, sym, ◌∙◌, arith, add-one}
 use Rattle.std.specs.Borrow.{Bor}
 use Rattle.std.proofs.lemmas.List.{map-append}
-use Rattle.vlog_hierarchy.specs.Plain.{plain_path}
+use Rattle.flat_parts.specs.vlog_hierarchy.Plain.{plain_path}
 use Rattle.std.specs.List.{flat_map}
 use Rattle.std.proofs.lemmas.Bool.{false_from_ne_true}
 use Rattle.std.proofs.lemmas.Option.{slice_get_within, get_or_from_slice_get}
 use Rattle.flat_parts.specs.Instances.{HaveOwnPaths}
-use Rattle.vidi_bits.proofs.Lists.{some_same}
-use Rattle.vlog_tree.specs.Tree.{InstanceOf}
-use Rattle.vlog_scope.specs.Scope.{words_of}
-use Rattle.vlog_names.specs.Entries.{Names, declared}
-use Rattle.vlog_elab.specs.Instances.{ModuleInstance}
-use Rattle.vlog_meaning.proofs.Paths.{path_same, path_itself}
-use Rattle.vlog_meaning.specs.Names.{Full, same_path}
-use Rattle.vlog_driver.specs.Sites.{Site}
-use Rattle.vlog_driver.specs.Duties.{Duty, conn_duties}
+use Rattle.flat_parts.proofs.vidi_bits.Lists.{some_same}
+use Rattle.flat_parts.specs.vlog_tree.Tree.{InstanceOf}
+use Rattle.flat_parts.specs.vlog_scope.Scope.{words_of}
+use Rattle.flat_parts.specs.vlog_names.Entries.{Names, declared}
+use Rattle.flat_parts.specs.vlog_elab.Instances.{ModuleInstance}
+use Rattle.flat_parts.proofs.vlog_meaning.Paths.{path_same, path_itself}
+use Rattle.flat_parts.specs.vlog_meaning.Names.{Full, same_path}
+use Rattle.flat_parts.specs.vlog_driver.Sites.{Site}
+use Rattle.flat_parts.specs.vlog_driver.Duties.{Duty, conn_duties}
 use Rattle.flat_parts.specs.Seats.{Seat, base_of, seats_from, seats_of, seat_named}
 use Rattle.flat_parts.specs.Drivers.{joined_duties}
-use Rattle.net_code.specs.declared.base.Base.{Base}
+use Rattle.flat_parts.specs.net_code.declared.base.Base.{Base}
 use Rattle.flat_drivers.specs.Adding.{site_from}
 
 -- ---- paths

@@ -6,24 +6,24 @@ use Rattle.std.specs.List.{flat_map, AllByRecursion}
 use Rattle.std.proofs.Math.ListN.{drop_of_length-le}
 use Rattle.std.proofs.lemmas.List.{length-map}
 use Rattle.std.proofs.lemmas.Option.{slice_get-map}
-use Rattle.vlog_tree.specs.Tree.{ItemOf, WiresItem, DrivenWiresItem, RegsItem, LocalparamsItem, AssignItem, AlwaysItem, InstanceItem}
+use Rattle.flat_parts.specs.vlog_tree.Tree.{ItemOf, WiresItem, DrivenWiresItem, RegsItem, LocalparamsItem, AssignItem, AlwaysItem, InstanceItem}
 use Rattle.std.specs.Borrow.{Bor}
-use Rattle.vidi_bits.proofs.Lists.{some_same}
-use Rattle.vlog_tree.specs.declared.module.Item.{Item}
-use Rattle.vlog_tree.specs.Plain.{plain_item}
-use Rattle.vlog_size.specs.declared.scope.Scope.{Scope}
-use Rattle.vlog_hierarchy.specs.Plain.{plain_path}
-use Rattle.vlog_elab.specs.declared.instance.ModuleInstance as code
-use Rattle.vlog_elab.specs.Plain.{plain_instance, plain_instances}
-use Rattle.vlog_scope.specs.Scope.{words_of}
-use Rattle.vlog_elab.specs.Instances.{ModuleInstance}
-use Rattle.vlog_meaning.specs.Placed.{placed, placed_items}
-use Rattle.vlog_driver.specs.Duties.{Duty}
-use Rattle.vlog_driver.specs.Held.{item_duties}
+use Rattle.flat_parts.proofs.vidi_bits.Lists.{some_same}
+use Rattle.flat_parts.specs.vlog_tree.declared.module.Item.{Item}
+use Rattle.flat_parts.specs.vlog_tree.Plain.{plain_item}
+use Rattle.flat_parts.specs.vlog_size.declared.scope.Scope.{Scope}
+use Rattle.flat_parts.specs.vlog_hierarchy.Plain.{plain_path}
+use Rattle.flat_parts.specs.vlog_elab.declared.instance.ModuleInstance as code
+use Rattle.flat_parts.specs.vlog_elab.Plain.{plain_instance, plain_instances}
+use Rattle.flat_parts.specs.vlog_scope.Scope.{words_of}
+use Rattle.flat_parts.specs.vlog_elab.Instances.{ModuleInstance}
+use Rattle.flat_parts.specs.vlog_meaning.Placed.{placed, placed_items}
+use Rattle.flat_parts.specs.vlog_driver.Duties.{Duty}
+use Rattle.flat_parts.specs.vlog_driver.Held.{item_duties}
 use Rattle.flat_parts.specs.Seats.{Seat, base_of, seats_from, seats_of, site_at}
 use Rattle.flat_parts.specs.Drivers.{duties_at, placed_duties, seat_duties, placed_blocks, seat_blocks, all_duties, all_blocks}
 use Rattle.flat_parts.specs.Drivers.{ClockedBlock}
-use Rattle.net_code.specs.declared.base.Base.{Base}
+use Rattle.flat_parts.specs.net_code.declared.base.Base.{Base}
 use Rattle.flat_drivers.specs.Latches.{placed_latches, instance_latches}
 use Rattle.flat_drivers.specs.Seated.{IsFaultlessInstance, AreFaultlessInstances}
 use Rattle.flat_drivers.proofs.Added.{all_at}

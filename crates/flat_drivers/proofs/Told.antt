@@ -1,12 +1,12 @@
 -- First findings.
 use Rattle.std.proofs.Common.{◌≡◌, List, [], ◌++◌, map, ap, sym, subst, ◌∙◌}
-use Rattle.vidi_bits.proofs.FindingLaws.{first_map, is_first_more}
-use Rattle.vlog_latch.specs.declared.error.BlockError.{BlockError}
-use Rattle.vlog_latch.specs.declared.error.BlockError.TheVariants as block
-use Rattle.vlog_latch.specs.Told.{block_told}
-use Rattle.vlog_elab.specs.declared.error.ElabError.{ElabError}
-use Rattle.vidi_bits.specs.Findings.{IsFirst}
-use Rattle.vlog_elab.specs.Told.{elab_told}
+use Rattle.flat_parts.proofs.vidi_bits.FindingLaws.{first_map, is_first_more}
+use Rattle.flat_parts.specs.vlog_latch.declared.error.BlockError.{BlockError}
+use Rattle.flat_parts.specs.vlog_latch.declared.error.BlockError.TheVariants as block
+use Rattle.flat_parts.specs.vlog_latch.Told.{block_told}
+use Rattle.flat_parts.specs.vlog_elab.declared.error.ElabError.{ElabError}
+use Rattle.flat_parts.specs.vidi_bits.Findings.{IsFirst}
+use Rattle.flat_parts.specs.vlog_elab.Told.{elab_told}
 use Rattle.flat_drivers.specs.Latches.{of_block}
 
 pub block_first : (x : BlockError) (fs : List BlockError) → IsFirst block_told fs x → IsFirst elab_told (map of_block fs) (of_block x)

@@ -1,18 +1,18 @@
 -- Drivers and clocked blocks that are added item by item.
 use Rattle.std.specs.Prelude.{ℕ, List, [], ◌∷◌, ◌++◌}
 use Rattle.std.specs.List.{AllZip, AllByRecursion}
-use Rattle.vlog_tree.specs.Tree.{ItemOf, AssignItem, AlwaysItem, InstanceItem}
-use Rattle.vlog_size.specs.declared.scope.Scope.{Scope}
-use Rattle.net_design.specs.declared.act.Code.{Code}
-use Rattle.vlog_meaning.specs.Names.{Full}
-use Rattle.vlog_meaning.specs.Placed.{Placed, names_at}
-use Rattle.vlog_driver.specs.Sites.{Site}
-use Rattle.vlog_driver.specs.Faultless.{IsFaultlessBody}
-use Rattle.vlog_driver.specs.Duties.{Duty, IsFaultlessAssign}
-use Rattle.vlog_driver.specs.Held.{item_duties}
+use Rattle.flat_parts.specs.vlog_tree.Tree.{ItemOf, AssignItem, AlwaysItem, InstanceItem}
+use Rattle.flat_parts.specs.vlog_size.declared.scope.Scope.{Scope}
+use Rattle.flat_parts.specs.net_design.declared.act.Code.{Code}
+use Rattle.flat_parts.specs.vlog_meaning.Names.{Full}
+use Rattle.flat_parts.specs.vlog_meaning.Placed.{Placed, names_at}
+use Rattle.flat_parts.specs.vlog_driver.Sites.{Site}
+use Rattle.flat_parts.specs.vlog_driver.Faultless.{IsFaultlessBody}
+use Rattle.flat_parts.specs.vlog_driver.Duties.{Duty, IsFaultlessAssign}
+use Rattle.flat_parts.specs.vlog_driver.Held.{item_duties}
 use Rattle.flat_parts.specs.Seats.{Seat, seat_named}
 use Rattle.flat_parts.specs.Drivers.{joined_duties, ClockedBlock, IsBlockOf, item_blocks}
-use Rattle.net_code.specs.declared.base.Base.{Base}
+use Rattle.flat_parts.specs.net_code.declared.base.Base.{Base}
 
 -- the clocked blocks of one list are these, and those of another are these and then more
 abbrev pub BlocksMore : List ClockedBlock → List Code → List Code → Type 0

@@ -1,17 +1,17 @@
 -- E9 over instances: each `always @*` of an instance, in text order (this project's profile).
 use Rattle.std.specs.Prelude.{ℕ, List, [], map}
 use Rattle.std.specs.List.{flat_map}
-use Rattle.vlog_tree.specs.Tree.{AlwaysOf, ItemOf, WiresItem, DrivenWiresItem, RegsItem, LocalparamsItem, AssignItem, AlwaysItem}
-use Rattle.vlog_tree.specs.Tree.{InstanceItem}
-use Rattle.vlog_size.specs.declared.scope.Scope.{Scope}
-use Rattle.vlog_size.specs.Names.{Readable}
-use Rattle.vlog_latch.specs.declared.error.BlockError.{BlockError}
-use Rattle.vlog_latch.specs.declared.error.BlockError.TheVariants as block
-use Rattle.vlog_latch.specs.Blocks.{block_latches}
-use Rattle.vlog_meaning.specs.Placed.{Placed, placed_items, names_at}
-use Rattle.vlog_elab.specs.declared.error.ElabError.{ElabError}
-use Rattle.vlog_elab.specs.declared.error.ElabError.TheVariants as e
-use Rattle.vlog_elab.specs.Instances.{ModuleInstance}
+use Rattle.flat_parts.specs.vlog_tree.Tree.{AlwaysOf, ItemOf, WiresItem, DrivenWiresItem, RegsItem, LocalparamsItem, AssignItem, AlwaysItem}
+use Rattle.flat_parts.specs.vlog_tree.Tree.{InstanceItem}
+use Rattle.flat_parts.specs.vlog_size.declared.scope.Scope.{Scope}
+use Rattle.flat_parts.specs.vlog_size.Names.{Readable}
+use Rattle.flat_parts.specs.vlog_latch.declared.error.BlockError.{BlockError}
+use Rattle.flat_parts.specs.vlog_latch.declared.error.BlockError.TheVariants as block
+use Rattle.flat_parts.specs.vlog_latch.Blocks.{block_latches}
+use Rattle.flat_parts.specs.vlog_meaning.Placed.{Placed, placed_items, names_at}
+use Rattle.flat_parts.specs.vlog_elab.declared.error.ElabError.{ElabError}
+use Rattle.flat_parts.specs.vlog_elab.declared.error.ElabError.TheVariants as e
+use Rattle.flat_parts.specs.vlog_elab.Instances.{ModuleInstance}
 
 abbrev pub of_block : BlockError → ElabError
 of_block (block.Latch name line) = e.Latch name line

@@ -2,10 +2,10 @@
 use Rattle.std.specs.Prelude.{◌≡◌, ℕ, List, []}
 use Rattle.std.specs.List.{flat_map}
 use Rattle.flat_parts.specs.Instances.{AreDeclaredIn}
-use Rattle.vlog_tree.specs.Tree.{FileOf}
-use Rattle.vlog_names.specs.Entries.{modules_of}
-use Rattle.vlog_elab.specs.Instances.{instances}
-use Rattle.vlog_elab.specs.Reasons.{instance_consts, instance_widths}
+use Rattle.flat_parts.specs.vlog_tree.Tree.{FileOf}
+use Rattle.flat_parts.specs.vlog_names.Entries.{modules_of}
+use Rattle.flat_parts.specs.vlog_elab.Instances.{instances}
+use Rattle.flat_parts.specs.vlog_elab.Reasons.{instance_consts, instance_widths}
 use Rattle.flat_drivers.specs.Seated.{AreFaultlessInstances}
 
 -- the file's table has what each instance's module declares

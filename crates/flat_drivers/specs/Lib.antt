@@ -2,4 +2,4 @@ pub mod Latches
 pub mod Seated
 pub mod Adding
 pub mod Laws
-pub use Rattle.vlog_driver.specs.Duties
+pub use Rattle.flat_parts.specs.vlog_driver.Duties

@@ -2,10 +2,10 @@
 use Rattle.std.specs.Prelude.{◌≡◌, List, map, true, []}
 use Rattle.std.specs.List.{AllByRecursion}
 use Rattle.flat_parts.specs.Instances.{HaveOwnPaths, AreDeclaredIn}
-use Rattle.vlog_size.specs.Names.{is_lawful_scope}
-use Rattle.vlog_elab.specs.Instances.{ModuleInstance}
-use Rattle.vlog_elab.specs.Plain.{plain_instances}
-use Rattle.vlog_elab.specs.Reasons.{instance_consts, instance_widths}
+use Rattle.flat_parts.specs.vlog_size.Names.{is_lawful_scope}
+use Rattle.flat_parts.specs.vlog_elab.Instances.{ModuleInstance}
+use Rattle.flat_parts.specs.vlog_elab.Plain.{plain_instances}
+use Rattle.flat_parts.specs.vlog_elab.Reasons.{instance_consts, instance_widths}
 use Rattle.flat_parts.specs.Seats.{Seat, base_of, seats_of}
 use Rattle.flat_drivers.specs.declared.flat.Flat.{Flat}
 

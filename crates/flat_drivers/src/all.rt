@@ -3,10 +3,10 @@
 ghost use Rattle.std.specs.Prelude.{◌≡◌, IfOk, OnOk};
 ghost use Rattle.std.specs.List.{flat_map, AllZip};
 ghost use Rattle.flat_parts.specs.Instances.{HaveOwnPaths, AreDeclaredIn};
-ghost use Rattle.vlog_elab.specs.Plain.{plain_instances};
-ghost use Rattle.vidi_bits.specs.Findings.{Judged};
-ghost use Rattle.vlog_elab.specs.Told.{elab_told};
-ghost use Rattle.vlog_driver.specs.Duties.{Does, DoMore};
+ghost use Rattle.flat_parts.specs.vlog_elab.Plain.{plain_instances};
+ghost use Rattle.flat_parts.specs.vidi_bits.Findings.{Judged};
+ghost use Rattle.flat_parts.specs.vlog_elab.Told.{elab_told};
+ghost use Rattle.flat_parts.specs.vlog_driver.Duties.{Does, DoMore};
 ghost use Rattle.flat_parts.specs.Seats.{seats_of};
 ghost use Rattle.flat_parts.specs.Drivers.{seat_duties, seat_blocks, all_duties, all_blocks, IsBlockOf};
 ghost use Rattle.flat_drivers.specs.Latches.{instance_latches};
@@ -16,10 +16,10 @@ ghost use Rattle.flat_drivers.specs.Adding.{BlocksMore};
 use crate::flat::{Flat, FlatCode};
 use crate::seat::add_seat;
 use flat_parts::bases_of;
+use flat_parts::vidi_bits::Items;
+use flat_parts::vlog_elab::{ElabError, ModuleInstance};
+use flat_parts::vlog_names::ModuleTable;
 use std::alloc::Global;
-use vidi_bits::Items;
-use vlog_elab::{ElabError, ModuleInstance};
-use vlog_names::ModuleTable;
 
 /// Adds what all instances make.
 fn add_seats(alloc: Global, flat: &Flat<'_, '_>, out: &mut FlatCode) -> Result<(), ElabError>

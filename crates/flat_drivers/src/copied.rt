@@ -2,9 +2,9 @@
 
 ghost use Rattle.std.specs.Prelude.{◌≡◌, ◌<◌, ◌+◌, length, take, IfOk, OnOk};
 
+use flat_parts::vidi_bits::{Memory, copied};
+use flat_parts::vlog_size::{Scope, Table};
 use std::alloc::Global;
-use vidi_bits::{Memory, copied};
-use vlog_size::{Scope, Table};
 
 /// Adds the entry at this place to a copy that has those before it.
 fn copy_entry<V: Copy + Drop>(

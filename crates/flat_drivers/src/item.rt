@@ -1,16 +1,16 @@
 //! The drivers and clocked blocks that an item adds.
 
 ghost use Rattle.std.specs.Prelude.{◌≡◌, ◌≤◌, [], ◌∷◌, IfOk, OnOk, map};
-ghost use Rattle.vlog_tree.specs.Plain.{plain_item, plain_always, plain_named, plain_assign};
-ghost use Rattle.vlog_hierarchy.specs.Plain.{plain_path};
-ghost use Rattle.vidi_bits.specs.Findings.{Judged};
-ghost use Rattle.vlog_elab.specs.Told.{elab_told};
-ghost use Rattle.vlog_driver.specs.Sites.{site_of};
-ghost use Rattle.vlog_driver.specs.Duties.{DoMore, wire_duty, assign_duty, always_duties};
-ghost use Rattle.net_design.specs.declared.act.Timing.TheVariants.{Nonblocking};
-ghost use Rattle.vlog_driver.specs.Updates.{timing_of};
-ghost use Rattle.vlog_driver.specs.Faultless.{IsFaultlessBody};
-ghost use Rattle.vlog_driver.specs.Drivers.{IsClocked};
+ghost use Rattle.flat_parts.specs.vlog_tree.Plain.{plain_item, plain_always, plain_named, plain_assign};
+ghost use Rattle.flat_parts.specs.vlog_hierarchy.Plain.{plain_path};
+ghost use Rattle.flat_parts.specs.vidi_bits.Findings.{Judged};
+ghost use Rattle.flat_parts.specs.vlog_elab.Told.{elab_told};
+ghost use Rattle.flat_parts.specs.vlog_driver.Sites.{site_of};
+ghost use Rattle.flat_parts.specs.vlog_driver.Duties.{DoMore, wire_duty, assign_duty, always_duties};
+ghost use Rattle.flat_parts.specs.net_design.declared.act.Timing.TheVariants.{Nonblocking};
+ghost use Rattle.flat_parts.specs.vlog_driver.Updates.{timing_of};
+ghost use Rattle.flat_parts.specs.vlog_driver.Faultless.{IsFaultlessBody};
+ghost use Rattle.flat_parts.specs.vlog_driver.Drivers.{IsClocked};
 ghost use Rattle.flat_parts.specs.Drivers.{ClockedBlock, IsBlockOf, event_blocks, item_blocks};
 ghost use Rattle.flat_drivers.specs.Latches.{of_block, always_latches, item_latches};
 ghost use Rattle.flat_drivers.specs.Seated.{IsFlat, seats_in};
@@ -18,13 +18,13 @@ ghost use Rattle.flat_drivers.specs.Adding.{BlocksMore, duties_in, IsFaultlessIt
 
 use crate::child::{add_child, past_child};
 use crate::flat::{Flat, FlatCode};
-use net_design::{Code, Driver};
+use flat_parts::net_design::{Code, Driver};
+use flat_parts::vidi_bits::{Items, Memory, Name};
+use flat_parts::vlog_driver::{Site, add_always, add_assigns, add_wire, clocked_block, wire_fits};
+use flat_parts::vlog_elab::ElabError;
+use flat_parts::vlog_latch::BlockError;
+use flat_parts::vlog_tree::{Always, Assign, Event, Item, NamedValue};
 use std::alloc::Global;
-use vidi_bits::{Items, Memory, Name};
-use vlog_driver::{Site, add_always, add_assigns, add_wire, clocked_block, wire_fits};
-use vlog_elab::ElabError;
-use vlog_latch::BlockError;
-use vlog_tree::{Always, Assign, Event, Item, NamedValue};
 
 fn add_fit_wire(
     alloc: Global,
@@ -65,7 +65,7 @@ fn block_error(error: BlockError) -> ElabError
 }
 
 /// Adds the driver of an `always @*`.
-#[tactic(auto, using(crate::proofs::Told::block_first, vidi_bits::proofs::FindingLaws::none_map))]
+#[tactic(auto, using(crate::proofs::Told::block_first, flat_parts::vidi_bits::proofs::FindingLaws::none_map))]
 fn add_settling(
     alloc: Global,
     site: &Site<'_>,

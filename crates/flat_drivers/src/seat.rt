@@ -2,13 +2,13 @@
 
 ghost use Rattle.std.specs.Prelude.{◌≡◌, ◌<◌, OnOk, Some, map, length, slice_get};
 ghost use Rattle.std.specs.List.{flat_map, AllByRecursion};
-ghost use Rattle.vlog_tree.specs.Plain.{plain_item};
-ghost use Rattle.vlog_hierarchy.specs.Plain.{plain_path};
-ghost use Rattle.vlog_meaning.specs.Placed.{placed};
-ghost use Rattle.vlog_elab.specs.Instances as instances;
-ghost use Rattle.vidi_bits.specs.Findings.{Judged};
-ghost use Rattle.vlog_elab.specs.Told.{elab_told};
-ghost use Rattle.vlog_driver.specs.Duties.{DoMore};
+ghost use Rattle.flat_parts.specs.vlog_tree.Plain.{plain_item};
+ghost use Rattle.flat_parts.specs.vlog_hierarchy.Plain.{plain_path};
+ghost use Rattle.flat_parts.specs.vlog_meaning.Placed.{placed};
+ghost use Rattle.flat_parts.specs.vlog_elab.Instances as instances;
+ghost use Rattle.flat_parts.specs.vidi_bits.Findings.{Judged};
+ghost use Rattle.flat_parts.specs.vlog_elab.Told.{elab_told};
+ghost use Rattle.flat_parts.specs.vlog_driver.Duties.{DoMore};
 ghost use Rattle.flat_parts.specs.Seats.{Seat};
 ghost use Rattle.flat_parts.specs.Drivers.{seat_duties, seat_blocks};
 ghost use Rattle.flat_drivers.specs.Latches.{placed_latches, instance_latches};
@@ -18,14 +18,14 @@ ghost use Rattle.flat_drivers.specs.Adding.{BlocksMore, placed_in, blocks_in, Is
 use crate::copied::copied_scope;
 use crate::flat::{Flat, FlatCode};
 use crate::item::{add_item, past_item};
-use net_code::Base;
+use flat_parts::net_code::Base;
+use flat_parts::vidi_bits::Name;
+use flat_parts::vlog_driver::Site;
+use flat_parts::vlog_elab::ElabError;
+use flat_parts::vlog_scope::declared_after;
+use flat_parts::vlog_size::Scope;
+use flat_parts::vlog_tree::Item;
 use std::alloc::Global;
-use vidi_bits::Name;
-use vlog_driver::Site;
-use vlog_elab::ElabError;
-use vlog_scope::declared_after;
-use vlog_size::Scope;
-use vlog_tree::Item;
 
 /// Adds what an item of an instance makes, before which so many parameters of its scope are declared.
 fn add_placed(

@@ -4,21 +4,21 @@ use Rattle.std.proofs.Common.{refl, ap, sym, ◌∙◌, arith}
 use Rattle.std.specs.List.{flat_map}
 use Rattle.std.proofs.lemmas.List.{append_assoc, length-append, get_or_append_left, get_or-append-add, set-append_left}
 use Rattle.std.proofs.lemmas.List.{set-append_right}
-use Rattle.vlog_size.specs.Names.{Readable}
-use Rattle.vidi_bits.specs.Number.{put_of}
-use Rattle.net_design.specs.declared.values.Target.{Target}
-use Rattle.net_design.specs.declared.values.Target.TheVariants.{Net, Word}
-use Rattle.net_design.specs.declared.values.Update.{Update}
-use Rattle.net_design.specs.declared.values.Values.{Values}
-use Rattle.net_design.specs.Updates.{written_to, apply}
-use Rattle.net_design.proofs.StateLaws.{written_long, applied_long}
-use Rattle.net_design.proofs.UpdateLaws.{apply_both}
-use Rattle.net_code.specs.Moved.{moved_target, moved_update}
-use Rattle.vlog_scope.specs.Scope.{words_of}
-use Rattle.vlog_elab.specs.Instances.{ModuleInstance}
-use Rattle.vlog_meaning.specs.Own.{IsLong, word_total}
-use Rattle.vlog_meaning.specs.Placed.{names_at}
-use Rattle.vlog_meaning.proofs.SameUpdates.{TargetIn, AreIn}
+use Rattle.flat_parts.specs.vlog_size.Names.{Readable}
+use Rattle.flat_parts.specs.vidi_bits.Number.{put_of}
+use Rattle.flat_parts.specs.net_design.declared.values.Target.{Target}
+use Rattle.flat_parts.specs.net_design.declared.values.Target.TheVariants.{Net, Word}
+use Rattle.flat_parts.specs.net_design.declared.values.Update.{Update}
+use Rattle.flat_parts.specs.net_design.declared.values.Values.{Values}
+use Rattle.flat_parts.specs.net_design.Updates.{written_to, apply}
+use Rattle.flat_parts.proofs.net_design.StateLaws.{written_long, applied_long}
+use Rattle.flat_parts.proofs.net_design.UpdateLaws.{apply_both}
+use Rattle.flat_parts.specs.net_code.Moved.{moved_target, moved_update}
+use Rattle.flat_parts.specs.vlog_scope.Scope.{words_of}
+use Rattle.flat_parts.specs.vlog_elab.Instances.{ModuleInstance}
+use Rattle.flat_parts.specs.vlog_meaning.Own.{IsLong, word_total}
+use Rattle.flat_parts.specs.vlog_meaning.Placed.{names_at}
+use Rattle.flat_parts.proofs.vlog_meaning.SameUpdates.{TargetIn, AreIn}
 use Rattle.flat_parts.specs.Seats.{Seat, seats_from}
 
 -- other numbers behind those of v

@@ -3,29 +3,29 @@ use Rattle.std.proofs.Common.{◌≡◌, ℕ, ◌+◌, ◌≤◌, List, [], ◌�
 use Rattle.std.specs.List.{flat_map, AllZip, Contains}
 use Rattle.std.proofs.lemmas.List.{length-map, append-nil}
 use Rattle.std.proofs.lemmas.List.Sums.{sum_by-cons}
-use Rattle.vlog_meaning.proofs.Words.{length-words}
-use Rattle.vlog_tree.specs.Tree.{EventOf, PosedgeEvent, ImplicitEvent, AlwaysOf, ItemOf, WiresItem, DrivenWiresItem}
-use Rattle.vlog_tree.specs.Tree.{RegsItem, LocalparamsItem, AssignItem, AlwaysItem, InstanceItem}
-use Rattle.vlog_size.specs.declared.scope.ScopeMemory.{ScopeMemory}
-use Rattle.vlog_size.specs.declared.scope.Scope.{Scope}
-use Rattle.vlog_size.specs.Names.{Readable}
-use Rattle.vlog_size.specs.Table.{Named}
-use Rattle.net_design.specs.declared.act.Code.{Code}
-use Rattle.net_design.specs.declared.act.Timing.TheVariants.{Nonblocking}
-use Rattle.net_design.specs.declared.values.Update.{Update}
-use Rattle.net_design.specs.declared.values.Values.{Values}
-use Rattle.net_design.specs.Updates.{block_updates}
-use Rattle.net_code.specs.Moved.{moved_update}
-use Rattle.vlog_scope.specs.Scope.{words_of}
-use Rattle.vlog_block.specs.Sources.{words_before}
-use Rattle.vlog_block.specs.Updates.{timing_of, always_updates}
-use Rattle.vlog_elab.specs.Instances.{ModuleInstance}
-use Rattle.vlog_meaning.specs.Names.{Full, numbers_at}
-use Rattle.vlog_meaning.specs.Placed.{Placed, placed_items, names_at}
-use Rattle.vlog_meaning.specs.Next.{event_updates, item_updates, clocked_updates}
-use Rattle.vlog_meaning.proofs.SameHolds.{updated_alike}
-use Rattle.vlog_meaning.proofs.SameUpdates.{AreIn, body_in, both_in}
-use Rattle.vlog_driver.specs.Sites.{numbers_from}
+use Rattle.flat_parts.proofs.vlog_meaning.Words.{length-words}
+use Rattle.flat_parts.specs.vlog_tree.Tree.{EventOf, PosedgeEvent, ImplicitEvent, AlwaysOf, ItemOf, WiresItem, DrivenWiresItem}
+use Rattle.flat_parts.specs.vlog_tree.Tree.{RegsItem, LocalparamsItem, AssignItem, AlwaysItem, InstanceItem}
+use Rattle.flat_parts.specs.vlog_size.declared.scope.ScopeMemory.{ScopeMemory}
+use Rattle.flat_parts.specs.vlog_size.declared.scope.Scope.{Scope}
+use Rattle.flat_parts.specs.vlog_size.Names.{Readable}
+use Rattle.flat_parts.specs.vlog_size.Table.{Named}
+use Rattle.flat_parts.specs.net_design.declared.act.Code.{Code}
+use Rattle.flat_parts.specs.net_design.declared.act.Timing.TheVariants.{Nonblocking}
+use Rattle.flat_parts.specs.net_design.declared.values.Update.{Update}
+use Rattle.flat_parts.specs.net_design.declared.values.Values.{Values}
+use Rattle.flat_parts.specs.net_design.Updates.{block_updates}
+use Rattle.flat_parts.specs.net_code.Moved.{moved_update}
+use Rattle.flat_parts.specs.vlog_scope.Scope.{words_of}
+use Rattle.flat_parts.specs.vlog_block.Sources.{words_before}
+use Rattle.flat_parts.specs.vlog_block.Updates.{timing_of, always_updates}
+use Rattle.flat_parts.specs.vlog_elab.Instances.{ModuleInstance}
+use Rattle.flat_parts.specs.vlog_meaning.Names.{Full, numbers_at}
+use Rattle.flat_parts.specs.vlog_meaning.Placed.{Placed, placed_items, names_at}
+use Rattle.flat_parts.specs.vlog_meaning.Next.{event_updates, item_updates, clocked_updates}
+use Rattle.flat_parts.proofs.vlog_meaning.SameHolds.{updated_alike}
+use Rattle.flat_parts.proofs.vlog_meaning.SameUpdates.{AreIn, body_in, both_in}
+use Rattle.flat_parts.specs.vlog_driver.Sites.{numbers_from}
 use Rattle.flat_parts.specs.Seats.{Seat, seats_of, site_at}
 use Rattle.flat_parts.specs.Drivers.{ClockedBlock, IsBlockOf, event_blocks, item_blocks, placed_blocks, seat_blocks, all_blocks}
 use Rattle.flat_parts.specs.Laws.{numbers_of, SeatsStand}

@@ -5,22 +5,22 @@ use Rattle.std.specs.List.{Contains, All, AllPairs, flat_map}
 use Rattle.std.proofs.lemmas.List.Elements.{All-contains, Contains-append_left, Contains-append_right}
 use Rattle.std.proofs.lemmas.List.Kept.{AllPairs-cons}
 use Rattle.flat_parts.specs.Instances.{HasOtherPath}
-use Rattle.vidi_bits.proofs.Lists.{none_in, head_in, tail_in, cases_in, from_flat}
-use Rattle.vlog_elab.proofs.Added.{deeper}
-use Rattle.vlog_tree.specs.Tree.{InstanceOf, ItemOf, WiresItem, DrivenWiresItem, RegsItem, LocalparamsItem, AssignItem, AlwaysItem}
-use Rattle.vlog_tree.specs.Tree.{InstanceItem, ModuleOf}
-use Rattle.vlog_size.specs.declared.scope.Scope.{Scope}
-use Rattle.vlog_size.specs.Table.{Named}
-use Rattle.vlog_names.specs.declared.declaration.Declaration.TheVariants as d
-use Rattle.vlog_names.specs.Entries.{Names, entry, item_entries, header_entries, declared}
-use Rattle.vlog_names.specs.Different.{Differ, OtherName}
-use Rattle.vlog_scope.specs.Scope.{readable_at, after_item, scope_of}
-use Rattle.vlog_size.specs.declared.scope.Param.{Param}
-use Rattle.vlog_size.specs.Names.{Readable}
-use Rattle.vlog_hierarchy.specs.Outlines.{place_of}
-use Rattle.vlog_elab.specs.Instances.{ModuleInstance, child_of, child_at, item_children, children_from, children, within}
-use Rattle.vlog_meaning.specs.Names.{Name, Full}
-use Rattle.vlog_meaning.specs.Placed.{Placed, placed, placed_items}
+use Rattle.flat_parts.proofs.vidi_bits.Lists.{none_in, head_in, tail_in, cases_in, from_flat}
+use Rattle.flat_parts.proofs.vlog_elab.Added.{deeper}
+use Rattle.flat_parts.specs.vlog_tree.Tree.{InstanceOf, ItemOf, WiresItem, DrivenWiresItem, RegsItem, LocalparamsItem, AssignItem, AlwaysItem}
+use Rattle.flat_parts.specs.vlog_tree.Tree.{InstanceItem, ModuleOf}
+use Rattle.flat_parts.specs.vlog_size.declared.scope.Scope.{Scope}
+use Rattle.flat_parts.specs.vlog_size.Table.{Named}
+use Rattle.flat_parts.specs.vlog_names.declared.declaration.Declaration.TheVariants as d
+use Rattle.flat_parts.specs.vlog_names.Entries.{Names, entry, item_entries, header_entries, declared}
+use Rattle.flat_parts.specs.vlog_names.Different.{Differ, OtherName}
+use Rattle.flat_parts.specs.vlog_scope.Scope.{readable_at, after_item, scope_of}
+use Rattle.flat_parts.specs.vlog_size.declared.scope.Param.{Param}
+use Rattle.flat_parts.specs.vlog_size.Names.{Readable}
+use Rattle.flat_parts.specs.vlog_hierarchy.Outlines.{place_of}
+use Rattle.flat_parts.specs.vlog_elab.Instances.{ModuleInstance, child_of, child_at, item_children, children_from, children, within}
+use Rattle.flat_parts.specs.vlog_meaning.Names.{Name, Full}
+use Rattle.flat_parts.specs.vlog_meaning.Placed.{Placed, placed, placed_items}
 use Rattle.flat_laws.proofs.Lists.{each, no_pairs, pairs_append, pairs_first}
 use Rattle.flat_laws.proofs.Lists.{pairs_rest, pairs_behind, pairs_between}
 use Rattle.flat_laws.proofs.Kids.{Kid, kid_of, instance_at}

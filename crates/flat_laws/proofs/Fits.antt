@@ -6,29 +6,29 @@ use Rattle.std.proofs.lemmas.List.{length-map}
 use Rattle.std.proofs.lemmas.List.Elements.{recursion_from_All}
 use Rattle.std.proofs.lemmas.List.Sums.{AllPass-from_list_all}
 use Rattle.std.proofs.Math.Pow.{pow_mono}
-use Rattle.vidi_bits.proofs.Bools.{left_of, right_of}
-use Rattle.vidi_bits.proofs.Each.{then_so, each_weaker}
-use Rattle.vlog_tree.specs.Tree.{ModuleOf}
-use Rattle.vlog_size.specs.declared.scope.ScopeNet.{ScopeNet}
-use Rattle.vlog_size.specs.declared.scope.ScopeMemory.{ScopeMemory}
-use Rattle.vlog_size.specs.declared.scope.Scope.{Scope}
-use Rattle.vlog_size.specs.Literal.{is_lawful}
-use Rattle.vlog_size.specs.Names.{are_lawful_params, is_lawful_scope}
-use Rattle.vlog_size.specs.Table.{Named}
-use Rattle.vlog_scope.specs.Scope.{words_of}
-use Rattle.net_design.specs.declared.design.Design.{Design}
-use Rattle.net_design.specs.declared.design.Net.{Net}
-use Rattle.net_design.specs.Names.{net_names}
-use Rattle.net_design.specs.Settled.{FitNets}
-use Rattle.net_design.specs.Last.{IsNarrow}
-use Rattle.vlog_elab.specs.Instances.{ModuleInstance}
-use Rattle.vlog_meaning.specs.Names.{Full, words_from}
+use Rattle.flat_parts.proofs.vidi_bits.Bools.{left_of, right_of}
+use Rattle.flat_parts.proofs.vidi_bits.Each.{then_so, each_weaker}
+use Rattle.flat_parts.specs.vlog_tree.Tree.{ModuleOf}
+use Rattle.flat_parts.specs.vlog_size.declared.scope.ScopeNet.{ScopeNet}
+use Rattle.flat_parts.specs.vlog_size.declared.scope.ScopeMemory.{ScopeMemory}
+use Rattle.flat_parts.specs.vlog_size.declared.scope.Scope.{Scope}
+use Rattle.flat_parts.specs.vlog_size.Literal.{is_lawful}
+use Rattle.flat_parts.specs.vlog_size.Names.{are_lawful_params, is_lawful_scope}
+use Rattle.flat_parts.specs.vlog_size.Table.{Named}
+use Rattle.flat_parts.specs.vlog_scope.Scope.{words_of}
+use Rattle.flat_parts.specs.net_design.declared.design.Design.{Design}
+use Rattle.flat_parts.specs.net_design.declared.design.Net.{Net}
+use Rattle.flat_parts.specs.net_design.Names.{net_names}
+use Rattle.flat_parts.specs.net_design.Settled.{FitNets}
+use Rattle.flat_parts.specs.net_design.Last.{IsNarrow}
+use Rattle.flat_parts.specs.vlog_elab.Instances.{ModuleInstance}
+use Rattle.flat_parts.specs.vlog_meaning.Names.{Full, words_from}
 use Rattle.flat_parts.specs.Seats.{seats_from, seats_of}
 use Rattle.flat_parts.specs.Nets.{net_of, seat_nets, flat_nets}
 use Rattle.flat_parts.specs.Meaning.{values_of}
 use Rattle.flat_parts.specs.Laws.{numbers_of}
 use Rattle.flat_laws.proofs.SettledLists.{each_flat, each_map, each_alike, at_each, below_powers, map_flat, map_map}
-use Rattle.net_design.specs.declared.values.Values.{Values}
+use Rattle.flat_parts.specs.net_design.declared.values.Values.{Values}
 
 -- ---- widths in order of the nets
 abbrev pub instance_widths : ModuleInstance → List ℕ

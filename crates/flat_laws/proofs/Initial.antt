@@ -8,21 +8,21 @@ use Rattle.std.proofs.lemmas.List.{length-map}
 use Rattle.std.proofs.lemmas.List.FromFn.{length-enumerate_from}
 use Rattle.std.proofs.lemmas.Nat.Bits.{same_from_bits}
 use Rattle.std.proofs.lemmas.Option.{slice_get-get_or}
-use Rattle.vlog_meaning.proofs.Words.{length-words}
-use Rattle.vlog_tree.specs.Tree.{ModuleOf}
-use Rattle.vlog_size.specs.declared.scope.ScopeNet.{ScopeNet}
-use Rattle.vlog_size.specs.declared.scope.Scope.{Scope}
-use Rattle.vlog_size.specs.Table.{Named}
-use Rattle.net_design.specs.declared.design.DesignMemory.{DesignMemory}
-use Rattle.net_design.specs.declared.design.Design.{Design}
-use Rattle.net_design.specs.declared.values.Values.{Values}
-use Rattle.net_design.specs.Names.{net_names}
-use Rattle.net_design.specs.Settled.{initial, word_count}
-use Rattle.vlog_scope.specs.Scope.{words_of}
-use Rattle.vlog_elab.specs.Instances.{ModuleInstance, instances}
-use Rattle.vlog_meaning.specs.Names.{Full, State, numbers_at}
-use Rattle.vlog_meaning.specs.Settled.{is_held}
-use Rattle.vlog_meaning.specs.Next.{initial_number, IsInitial}
+use Rattle.flat_parts.proofs.vlog_meaning.Words.{length-words}
+use Rattle.flat_parts.specs.vlog_tree.Tree.{ModuleOf}
+use Rattle.flat_parts.specs.vlog_size.declared.scope.ScopeNet.{ScopeNet}
+use Rattle.flat_parts.specs.vlog_size.declared.scope.Scope.{Scope}
+use Rattle.flat_parts.specs.vlog_size.Table.{Named}
+use Rattle.flat_parts.specs.net_design.declared.design.DesignMemory.{DesignMemory}
+use Rattle.flat_parts.specs.net_design.declared.design.Design.{Design}
+use Rattle.flat_parts.specs.net_design.declared.values.Values.{Values}
+use Rattle.flat_parts.specs.net_design.Names.{net_names}
+use Rattle.flat_parts.specs.net_design.Settled.{initial, word_count}
+use Rattle.flat_parts.specs.vlog_scope.Scope.{words_of}
+use Rattle.flat_parts.specs.vlog_elab.Instances.{ModuleInstance, instances}
+use Rattle.flat_parts.specs.vlog_meaning.Names.{Full, State, numbers_at}
+use Rattle.flat_parts.specs.vlog_meaning.Settled.{is_held}
+use Rattle.flat_parts.specs.vlog_meaning.Next.{initial_number, IsInitial}
 use Rattle.flat_parts.specs.Seats.{Seat, seats_of}
 use Rattle.flat_parts.specs.Nets.{flat_nets}
 use Rattle.flat_parts.specs.Built.{IsBuilt}

@@ -3,14 +3,14 @@ use Rattle.std.proofs.Common.{◌≡◌, ℕ, ◌⊎◌, inl, inr, List, [], ◌
 use Rattle.std.proofs.Common.{Option, None, Some, slice_get}
 use Rattle.std.specs.List.{Contains}
 use Rattle.std.proofs.lemmas.List.Elements.{Contains-append_left, Contains-append_right, Contains-append_cases}
-use Rattle.vidi_bits.proofs.Lists.{none_in, head_in, tail_in, cases_in}
-use Rattle.vlog_tree.specs.Tree.{InstanceOf, ItemOf, WiresItem, DrivenWiresItem, RegsItem, LocalparamsItem, AssignItem, AlwaysItem}
-use Rattle.vlog_tree.specs.Tree.{InstanceItem, ModuleOf}
-use Rattle.vlog_size.specs.declared.scope.Scope.{Scope}
-use Rattle.vlog_scope.specs.Scope.{readable_at, after_item, scope_of}
-use Rattle.vlog_hierarchy.specs.Outlines.{place_of}
-use Rattle.vlog_elab.specs.Instances.{ModuleInstance, child_of, child_at, item_children, children_from}
-use Rattle.vlog_meaning.specs.Placed.{Placed, placed}
+use Rattle.flat_parts.proofs.vidi_bits.Lists.{none_in, head_in, tail_in, cases_in}
+use Rattle.flat_parts.specs.vlog_tree.Tree.{InstanceOf, ItemOf, WiresItem, DrivenWiresItem, RegsItem, LocalparamsItem, AssignItem, AlwaysItem}
+use Rattle.flat_parts.specs.vlog_tree.Tree.{InstanceItem, ModuleOf}
+use Rattle.flat_parts.specs.vlog_size.declared.scope.Scope.{Scope}
+use Rattle.flat_parts.specs.vlog_scope.Scope.{readable_at, after_item, scope_of}
+use Rattle.flat_parts.specs.vlog_hierarchy.Outlines.{place_of}
+use Rattle.flat_parts.specs.vlog_elab.Instances.{ModuleInstance, child_of, child_at, item_children, children_from}
+use Rattle.flat_parts.specs.vlog_meaning.Placed.{Placed, placed}
 
 -- an instance as an item, before which the names of the first k parameters stand
 abbrev pub instance_at : ℕ → InstanceOf ℕ → Placed

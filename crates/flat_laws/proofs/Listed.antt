@@ -3,22 +3,22 @@ use Rattle.std.proofs.Common.{◌≡◌, ℕ, suc, ◌<◌, inl, inr, List, [], 
 use Rattle.std.proofs.Common.{arith, append-nil, Option, None, Some, slice_get}
 use Rattle.std.specs.List.{Contains, AllPairs, flat_map}
 use Rattle.flat_parts.specs.Instances.{HasOtherPath}
-use Rattle.vlog_elab.proofs.Added.{deeper}
-use Rattle.vlog_tree.specs.Tree.{ModuleOf, FileOf}
-use Rattle.vlog_size.specs.declared.scope.Scope.{Scope}
-use Rattle.vlog_scope.specs.Scope.{scope_with}
-use Rattle.vlog_hierarchy.specs.Outlines.{place_of}
-use Rattle.vlog_elab.specs.Instances.{ModuleInstance, children, within, top_of, top_at, instances}
-use Rattle.vlog_elab.specs.Reasons.{Clear}
-use Rattle.vlog_elab.proofs.Places.{there}
-use Rattle.vlog_meaning.specs.Names.{Full}
-use Rattle.vlog_meaning.specs.Instances.{Leads, IsAt}
+use Rattle.flat_parts.proofs.vlog_elab.Added.{deeper}
+use Rattle.flat_parts.specs.vlog_tree.Tree.{ModuleOf, FileOf}
+use Rattle.flat_parts.specs.vlog_size.declared.scope.Scope.{Scope}
+use Rattle.flat_parts.specs.vlog_scope.Scope.{scope_with}
+use Rattle.flat_parts.specs.vlog_hierarchy.Outlines.{place_of}
+use Rattle.flat_parts.specs.vlog_elab.Instances.{ModuleInstance, children, within, top_of, top_at, instances}
+use Rattle.flat_parts.specs.vlog_elab.Reasons.{Clear}
+use Rattle.flat_parts.proofs.vlog_elab.Places.{there}
+use Rattle.flat_parts.specs.vlog_meaning.Names.{Full}
+use Rattle.flat_parts.specs.vlog_meaning.Instances.{Leads, IsAt}
 use Rattle.flat_parts.specs.Laws.{IsTop, IsListed, InstancesAreAll, PathsDiffer, FirstIsTop}
 use Rattle.flat_laws.proofs.Lists.{in_got, no_pairs}
 use Rattle.flat_laws.proofs.Within.{Led, led, Reached, reached}
 use Rattle.flat_laws.proofs.Differing.{paths_apart}
 use Rattle.flat_laws.proofs.Found.{modules_apart, names_apart, few}
-use Rattle.vlog_hierarchy.specs.declared.nodes.TheConstants.{MOST_INSTANCES, MOST_LEVELS}
+use Rattle.flat_parts.specs.vlog_hierarchy.declared.nodes.TheConstants.{MOST_INSTANCES, MOST_LEVELS}
 
 -- the instance that the top is
 abbrev pub top_instance : ℕ → ModuleOf ℕ → ModuleInstance

@@ -6,12 +6,12 @@ use Rattle.std.specs.Str.{bytes_eq}
 use Rattle.std.proofs.lemmas.Slice.Eq.{bytes_eq-Decides}
 use Rattle.std.proofs.lemmas.List.Elements.{All-contains}
 use Rattle.std.proofs.lemmas.Bool.{false_from_ne_true}
-use Rattle.vidi_bits.proofs.Lists.{none_in, head_in, tail_in, cases_in}
-use Rattle.vlog_tree.specs.Tree.{ModuleOf}
-use Rattle.vlog_size.specs.Table.{Named}
-use Rattle.vlog_names.specs.Entries.{Names, module_entry}
-use Rattle.vlog_names.specs.Different.{Differ}
-use Rattle.vlog_hierarchy.specs.Outlines.{place_from, place_of}
+use Rattle.flat_parts.proofs.vidi_bits.Lists.{none_in, head_in, tail_in, cases_in}
+use Rattle.flat_parts.specs.vlog_tree.Tree.{ModuleOf}
+use Rattle.flat_parts.specs.vlog_size.Table.{Named}
+use Rattle.flat_parts.specs.vlog_names.Entries.{Names, module_entry}
+use Rattle.flat_parts.specs.vlog_names.Different.{Differ}
+use Rattle.flat_parts.specs.vlog_hierarchy.Outlines.{place_from, place_of}
 use Rattle.flat_laws.proofs.Lists.{pairs_first, pairs_rest}
 
 -- ---- the module at the place of a name

@@ -4,29 +4,29 @@ use Rattle.std.proofs.Common.{is_some, length, refl, ap, sym, subst, ◌∙◌, 
 use Rattle.std.specs.List.{AllByRecursion}
 use Rattle.std.specs.Str.{bytes_eq}
 use Rattle.std.proofs.lemmas.List.{map-append, append-nil}
-use Rattle.vidi_bits.proofs.FindingLaws.{told_none}
-use Rattle.vidi_bits.proofs.Lists.{nil_left, nil_right}
-use Rattle.vidi_bits.proofs.Each.{each_weaker}
-use Rattle.vlog_tree.specs.Tree.{IdentOf, NamedValueOf, RegTailOf, InitTail, MemoryTail, Reg1Of, PortOf}
-use Rattle.vlog_tree.specs.Tree.{ItemOf, WiresItem, DrivenWiresItem, RegsItem, LocalparamsItem, AssignItem, AlwaysItem, InstanceItem}
-use Rattle.vlog_tree.specs.Tree.{ModuleOf}
-use Rattle.vlog_size.specs.declared.scope.ScopeNet.{ScopeNet}
-use Rattle.vlog_size.specs.declared.scope.Scope.{Scope}
-use Rattle.vlog_size.specs.Table.{Named, value_of}
-use Rattle.vlog_names.specs.declared.declaration.Declaration.{Declaration}
-use Rattle.vlog_names.specs.declared.error.NameError.TheVariants as error
-use Rattle.vlog_names.specs.Entries.{Names, entry, parameter_entry, port_as, no_port, port_entries, header_entries}
-use Rattle.vlog_names.specs.Twice.{twice_name, twice_among, twice_items, twice_in}
-use Rattle.vlog_scope.specs.declared.extent.Extent.{Extent}
-use Rattle.vlog_scope.specs.declared.extent.Extent.TheVariants.{NoRange}
-use Rattle.vlog_scope.specs.Extents.{extent_of, port_extent, net_width}
-use Rattle.vlog_scope.specs.Params.{header_params, items_params}
-use Rattle.vlog_scope.specs.Scope.{declared_in, with_net, with_port, with_ports, wire_nets, driven_nets, with_reg, with_regs, with_item}
-use Rattle.vlog_scope.specs.Scope.{with_items, params_scope, scope_with}
-use Rattle.net_design.specs.declared.design.Direction.TheVariants.{Input, Output}
-use Rattle.net_design.specs.Settled.{same_direction, pins_of}
-use Rattle.vlog_meaning.specs.Names.{Name}
-use Rattle.vlog_meaning.specs.Settled.{is_input, input_names}
+use Rattle.flat_parts.proofs.vidi_bits.FindingLaws.{told_none}
+use Rattle.flat_parts.proofs.vidi_bits.Lists.{nil_left, nil_right}
+use Rattle.flat_parts.proofs.vidi_bits.Each.{each_weaker}
+use Rattle.flat_parts.specs.vlog_tree.Tree.{IdentOf, NamedValueOf, RegTailOf, InitTail, MemoryTail, Reg1Of, PortOf}
+use Rattle.flat_parts.specs.vlog_tree.Tree.{ItemOf, WiresItem, DrivenWiresItem, RegsItem, LocalparamsItem, AssignItem, AlwaysItem, InstanceItem}
+use Rattle.flat_parts.specs.vlog_tree.Tree.{ModuleOf}
+use Rattle.flat_parts.specs.vlog_size.declared.scope.ScopeNet.{ScopeNet}
+use Rattle.flat_parts.specs.vlog_size.declared.scope.Scope.{Scope}
+use Rattle.flat_parts.specs.vlog_size.Table.{Named, value_of}
+use Rattle.flat_parts.specs.vlog_names.declared.declaration.Declaration.{Declaration}
+use Rattle.flat_parts.specs.vlog_names.declared.error.NameError.TheVariants as error
+use Rattle.flat_parts.specs.vlog_names.Entries.{Names, entry, parameter_entry, port_as, no_port, port_entries, header_entries}
+use Rattle.flat_parts.specs.vlog_names.Twice.{twice_name, twice_among, twice_items, twice_in}
+use Rattle.flat_parts.specs.vlog_scope.declared.extent.Extent.{Extent}
+use Rattle.flat_parts.specs.vlog_scope.declared.extent.Extent.TheVariants.{NoRange}
+use Rattle.flat_parts.specs.vlog_scope.Extents.{extent_of, port_extent, net_width}
+use Rattle.flat_parts.specs.vlog_scope.Params.{header_params, items_params}
+use Rattle.flat_parts.specs.vlog_scope.Scope.{declared_in, with_net, with_port, with_ports, wire_nets, driven_nets, with_reg, with_regs, with_item}
+use Rattle.flat_parts.specs.vlog_scope.Scope.{with_items, params_scope, scope_with}
+use Rattle.flat_parts.specs.net_design.declared.design.Direction.TheVariants.{Input, Output}
+use Rattle.flat_parts.specs.net_design.Settled.{same_direction, pins_of}
+use Rattle.flat_parts.specs.vlog_meaning.Names.{Name}
+use Rattle.flat_parts.specs.vlog_meaning.Settled.{is_input, input_names}
 use Rattle.flat_parts.specs.Nets.{port_of}
 
 abbrev pub names : {V : Type 0} → List (Named V) → List Name

@@ -4,31 +4,31 @@ use Rattle.std.proofs.Common.{slice_get, append_assoc, true}
 use Rattle.std.specs.List.{All, Contains, flat_map}
 use Rattle.std.proofs.lemmas.List.{map-append}
 use Rattle.std.proofs.lemmas.Option.{slice_get_within, get_or_from_slice_get}
-use Rattle.vidi_bits.proofs.Each.{then_so}
-use Rattle.vlog_tree.specs.Tree.{ModuleOf, FileOf}
-use Rattle.vlog_size.specs.declared.scope.ScopeNet.{ScopeNet}
-use Rattle.vlog_size.specs.declared.scope.Scope.{Scope}
-use Rattle.vlog_size.specs.Names.{is_lawful_scope}
-use Rattle.vlog_size.specs.Table.{Named}
-use Rattle.vlog_names.specs.Entries.{Names, no_port, port_entries}
-use Rattle.vlog_scope.specs.Scope.{scope_with}
-use Rattle.net_design.specs.declared.design.Design.{Design}
-use Rattle.net_design.specs.declared.design.Direction.TheVariants.{Input}
-use Rattle.net_design.specs.declared.design.Driver.{Driver}
-use Rattle.net_design.specs.declared.design.Port.{Port}
-use Rattle.net_design.specs.declared.values.Values.{Values}
-use Rattle.net_design.specs.Last.{IsNarrow}
-use Rattle.net_design.specs.Settled.{pins_of, FitNets}
-use Rattle.net_design.specs.Settled as design
-use Rattle.net_design.specs.Updates.{run}
-use Rattle.vlog_elab.specs.Instances.{ModuleInstance, instances}
-use Rattle.vlog_elab.specs.Reasons.{Clear}
-use Rattle.vlog_meaning.specs.Names.{Name, Full, State}
-use Rattle.vlog_meaning.specs.Instances.{IsAt}
-use Rattle.vlog_meaning.specs.Settled.{inputs_of, IsClock}
-use Rattle.vlog_meaning.specs.Settled as meaning
-use Rattle.vlog_driver.specs.Held.{DutiesHold}
-use Rattle.vlog_driver.proofs.Held.{drivers_do}
+use Rattle.flat_parts.proofs.vidi_bits.Each.{then_so}
+use Rattle.flat_parts.specs.vlog_tree.Tree.{ModuleOf, FileOf}
+use Rattle.flat_parts.specs.vlog_size.declared.scope.ScopeNet.{ScopeNet}
+use Rattle.flat_parts.specs.vlog_size.declared.scope.Scope.{Scope}
+use Rattle.flat_parts.specs.vlog_size.Names.{is_lawful_scope}
+use Rattle.flat_parts.specs.vlog_size.Table.{Named}
+use Rattle.flat_parts.specs.vlog_names.Entries.{Names, no_port, port_entries}
+use Rattle.flat_parts.specs.vlog_scope.Scope.{scope_with}
+use Rattle.flat_parts.specs.net_design.declared.design.Design.{Design}
+use Rattle.flat_parts.specs.net_design.declared.design.Direction.TheVariants.{Input}
+use Rattle.flat_parts.specs.net_design.declared.design.Driver.{Driver}
+use Rattle.flat_parts.specs.net_design.declared.design.Port.{Port}
+use Rattle.flat_parts.specs.net_design.declared.values.Values.{Values}
+use Rattle.flat_parts.specs.net_design.Last.{IsNarrow}
+use Rattle.flat_parts.specs.net_design.Settled.{pins_of, FitNets}
+use Rattle.flat_parts.specs.net_design.Settled as design
+use Rattle.flat_parts.specs.net_design.Updates.{run}
+use Rattle.flat_parts.specs.vlog_elab.Instances.{ModuleInstance, instances}
+use Rattle.flat_parts.specs.vlog_elab.Reasons.{Clear}
+use Rattle.flat_parts.specs.vlog_meaning.Names.{Name, Full, State}
+use Rattle.flat_parts.specs.vlog_meaning.Instances.{IsAt}
+use Rattle.flat_parts.specs.vlog_meaning.Settled.{inputs_of, IsClock}
+use Rattle.flat_parts.specs.vlog_meaning.Settled as meaning
+use Rattle.flat_parts.specs.vlog_driver.Held.{DutiesHold}
+use Rattle.flat_parts.proofs.vlog_driver.Held.{drivers_do}
 use Rattle.flat_parts.specs.Seats.{seats_of}
 use Rattle.flat_parts.specs.Nets.{port_of}
 use Rattle.flat_parts.specs.Drivers.{all_duties}

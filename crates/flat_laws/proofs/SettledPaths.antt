@@ -5,14 +5,14 @@ use Rattle.std.specs.List.{AllByRecursion, AllPairs, Contains}
 use Rattle.std.proofs.lemmas.Bool.{cases_lt}
 use Rattle.std.proofs.lemmas.List.{get_or_default}
 use Rattle.std.proofs.lemmas.List.Elements.{Contains-append_right}
-use Rattle.vidi_bits.proofs.Each.{same_both, nothing}
-use Rattle.vlog_tree.specs.Tree.{InstanceOf, ModuleOf}
-use Rattle.vlog_size.specs.declared.scope.Scope.{Scope}
-use Rattle.vlog_elab.specs.Instances.{ModuleInstance}
-use Rattle.vlog_scope.specs.Scope.{words_of}
-use Rattle.vlog_meaning.proofs.Paths.{path_same, path_itself}
-use Rattle.vlog_meaning.specs.Names.{Full, same_path}
-use Rattle.vlog_meaning.specs.Instances.{IsChild, Leads}
+use Rattle.flat_parts.proofs.vidi_bits.Each.{same_both, nothing}
+use Rattle.flat_parts.specs.vlog_tree.Tree.{InstanceOf, ModuleOf}
+use Rattle.flat_parts.specs.vlog_size.declared.scope.Scope.{Scope}
+use Rattle.flat_parts.specs.vlog_elab.Instances.{ModuleInstance}
+use Rattle.flat_parts.specs.vlog_scope.Scope.{words_of}
+use Rattle.flat_parts.proofs.vlog_meaning.Paths.{path_same, path_itself}
+use Rattle.flat_parts.specs.vlog_meaning.Names.{Full, same_path}
+use Rattle.flat_parts.specs.vlog_meaning.Instances.{IsChild, Leads}
 use Rattle.flat_parts.specs.Seats.{Seat, seats_from, seats_of, seat_named}
 use Rattle.flat_parts.specs.Laws.{IsListed}
 use Rattle.flat_laws.proofs.SettledLists.{members}

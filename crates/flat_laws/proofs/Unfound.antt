@@ -5,30 +5,30 @@ use Rattle.std.specs.List.{AllByRecursion, Contains, flat_map}
 use Rattle.std.specs.Str.{bytes_eq}
 use Rattle.std.proofs.lemmas.List.Elements.{Contains-append_right}
 use Rattle.std.proofs.lemmas.Slice.Eq.{bytes_eq-Decides}
-use Rattle.vidi_bits.proofs.Lists.{nil_left, nil_right}
-use Rattle.vlog_tree.specs.Tree.{InstanceOf, ItemOf, InstanceItem, ModuleOf, FileOf}
-use Rattle.vlog_size.specs.declared.scope.Param.{Param}
-use Rattle.vlog_size.specs.declared.scope.Scope.{Scope}
-use Rattle.vlog_size.specs.Table.{Named, value_of}
-use Rattle.vlog_size.specs.Names.{params_alone, is_lawful_scope}
-use Rattle.vlog_names.specs.Entries.{Names, declared, module_entry, modules_of}
-use Rattle.vlog_names.specs.Unknown.{unknown_parameter, unknown_port, unknown_item, unknown_instance, unknown_in, unknown_module}
-use Rattle.vlog_names.specs.Unknown.{unknown_top, unknown_names}
-use Rattle.vlog_names.specs.Twice.{twice_name, twice_in, twice_modules, twice_names}
-use Rattle.vlog_scope.specs.declared.fault.FaultKind.{FaultKind}
-use Rattle.vlog_scope.specs.declared.fault.FaultKind.TheVariants.{Constant, Width}
-use Rattle.vlog_scope.specs.declared.extent.Extent.TheVariants.{NoRange}
-use Rattle.vlog_scope.specs.Scope.{readable_at, after_item, scope_with}
-use Rattle.vlog_scope.specs.Faults.{parameters_faults, ports_faults, override_faults, conn_faults, item_faults, items_faults, scope_faults}
-use Rattle.vlog_scope.specs.Faults.{const_faults, width_faults}
-use Rattle.vlog_scope.proofs.LawfulPlaces.{lawful_scope, lawful_declared}
-use Rattle.vlog_elab.specs.Errors.{of_name, of_size}
-use Rattle.vlog_elab.specs.Instances.{ModuleInstance, instances}
-use Rattle.vlog_elab.specs.Reasons.{Clear, name_findings, kind_findings, text_findings, instance_consts, instance_widths, word_findings}
-use Rattle.vlog_elab.specs.Reasons.{instance_findings, clock_findings, late_findings, hierarchy_findings, size_findings}
-use Rattle.vlog_meaning.specs.Names.{Full}
-use Rattle.vlog_meaning.specs.Placed.{Placed, placed, placed_items}
-use Rattle.vlog_meaning.specs.Instances.{IsChild, Leads, IsAt}
+use Rattle.flat_parts.proofs.vidi_bits.Lists.{nil_left, nil_right}
+use Rattle.flat_parts.specs.vlog_tree.Tree.{InstanceOf, ItemOf, InstanceItem, ModuleOf, FileOf}
+use Rattle.flat_parts.specs.vlog_size.declared.scope.Param.{Param}
+use Rattle.flat_parts.specs.vlog_size.declared.scope.Scope.{Scope}
+use Rattle.flat_parts.specs.vlog_size.Table.{Named, value_of}
+use Rattle.flat_parts.specs.vlog_size.Names.{params_alone, is_lawful_scope}
+use Rattle.flat_parts.specs.vlog_names.Entries.{Names, declared, module_entry, modules_of}
+use Rattle.flat_parts.specs.vlog_names.Unknown.{unknown_parameter, unknown_port, unknown_item, unknown_instance, unknown_in, unknown_module}
+use Rattle.flat_parts.specs.vlog_names.Unknown.{unknown_top, unknown_names}
+use Rattle.flat_parts.specs.vlog_names.Twice.{twice_name, twice_in, twice_modules, twice_names}
+use Rattle.flat_parts.specs.vlog_scope.declared.fault.FaultKind.{FaultKind}
+use Rattle.flat_parts.specs.vlog_scope.declared.fault.FaultKind.TheVariants.{Constant, Width}
+use Rattle.flat_parts.specs.vlog_scope.declared.extent.Extent.TheVariants.{NoRange}
+use Rattle.flat_parts.specs.vlog_scope.Scope.{readable_at, after_item, scope_with}
+use Rattle.flat_parts.specs.vlog_scope.Faults.{parameters_faults, ports_faults, override_faults, conn_faults, item_faults, items_faults, scope_faults}
+use Rattle.flat_parts.specs.vlog_scope.Faults.{const_faults, width_faults}
+use Rattle.flat_parts.proofs.vlog_scope.LawfulPlaces.{lawful_scope, lawful_declared}
+use Rattle.flat_parts.specs.vlog_elab.Errors.{of_name, of_size}
+use Rattle.flat_parts.specs.vlog_elab.Instances.{ModuleInstance, instances}
+use Rattle.flat_parts.specs.vlog_elab.Reasons.{Clear, name_findings, kind_findings, text_findings, instance_consts, instance_widths, word_findings}
+use Rattle.flat_parts.specs.vlog_elab.Reasons.{instance_findings, clock_findings, late_findings, hierarchy_findings, size_findings}
+use Rattle.flat_parts.specs.vlog_meaning.Names.{Full}
+use Rattle.flat_parts.specs.vlog_meaning.Placed.{Placed, placed, placed_items}
+use Rattle.flat_parts.specs.vlog_meaning.Instances.{IsChild, Leads, IsAt}
 use Rattle.flat_parts.specs.Laws.{IsListed}
 use Rattle.flat_laws.proofs.SettledLists.{members}
 use Rattle.flat_laws.proofs.SettledPaths.{one_further}

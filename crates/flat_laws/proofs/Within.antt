@@ -2,17 +2,17 @@
 use Rattle.std.proofs.Common.{◌≡◌, ℕ, zero, suc, ◌≤◌, ◌⊎◌, inl, inr, List, [], ◌∷◌, ◌++◌, map, length, refl, sym, ap, subst, ◌∙◌}
 use Rattle.std.proofs.Common.{arith, append-nil, append_assoc, Some, slice_get}
 use Rattle.std.specs.List.{Contains, flat_map}
-use Rattle.vidi_bits.proofs.Lists.{none_in, head_in, tail_in, cases_in, in_flat, from_flat}
-use Rattle.vlog_elab.proofs.Added.{deeper}
-use Rattle.vlog_tree.specs.Tree.{InstanceOf, ModuleOf}
-use Rattle.vlog_size.specs.declared.scope.Scope.{Scope}
-use Rattle.vlog_names.specs.Entries.{module_entry}
-use Rattle.vlog_names.specs.Different.{Differ}
-use Rattle.vlog_hierarchy.specs.Outlines.{place_of}
-use Rattle.vlog_elab.specs.Instances.{ModuleInstance, children, within}
-use Rattle.vlog_meaning.specs.Names.{Full}
-use Rattle.vlog_meaning.specs.Placed.{placed_items}
-use Rattle.vlog_meaning.specs.Instances.{IsChild, Leads}
+use Rattle.flat_parts.proofs.vidi_bits.Lists.{none_in, head_in, tail_in, cases_in, in_flat, from_flat}
+use Rattle.flat_parts.proofs.vlog_elab.Added.{deeper}
+use Rattle.flat_parts.specs.vlog_tree.Tree.{InstanceOf, ModuleOf}
+use Rattle.flat_parts.specs.vlog_size.declared.scope.Scope.{Scope}
+use Rattle.flat_parts.specs.vlog_names.Entries.{module_entry}
+use Rattle.flat_parts.specs.vlog_names.Different.{Differ}
+use Rattle.flat_parts.specs.vlog_hierarchy.Outlines.{place_of}
+use Rattle.flat_parts.specs.vlog_elab.Instances.{ModuleInstance, children, within}
+use Rattle.flat_parts.specs.vlog_meaning.Names.{Full}
+use Rattle.flat_parts.specs.vlog_meaning.Placed.{placed_items}
+use Rattle.flat_parts.specs.vlog_meaning.Instances.{IsChild, Leads}
 use Rattle.flat_parts.specs.Laws.{IsListed}
 use Rattle.flat_laws.proofs.Lists.{long_flat}
 use Rattle.flat_laws.proofs.Named.{named_at, place_is}

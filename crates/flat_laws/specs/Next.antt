@@ -1,12 +1,12 @@
 -- The next and the initial state of a flat design that has the parts of a file's instances are those of the file.
 use Rattle.std.specs.Prelude.{◌≡◌, ℕ, ◌↔◌, List}
-use Rattle.vlog_tree.specs.Tree.{ModuleOf, FileOf}
-use Rattle.net_design.specs.declared.design.Design.{Design}
-use Rattle.net_design.specs.Settled as design
-use Rattle.vlog_elab.specs.Instances.{instances}
-use Rattle.vlog_elab.specs.Reasons.{Clear}
-use Rattle.vlog_meaning.specs.Names.{Full, State}
-use Rattle.vlog_meaning.specs.Next.{IsNext, IsInitial}
+use Rattle.flat_parts.specs.vlog_tree.Tree.{ModuleOf, FileOf}
+use Rattle.flat_parts.specs.net_design.declared.design.Design.{Design}
+use Rattle.flat_parts.specs.net_design.Settled as design
+use Rattle.flat_parts.specs.vlog_elab.Instances.{instances}
+use Rattle.flat_parts.specs.vlog_elab.Reasons.{Clear}
+use Rattle.flat_parts.specs.vlog_meaning.Names.{Full, State}
+use Rattle.flat_parts.specs.vlog_meaning.Next.{IsNext, IsInitial}
 use Rattle.flat_parts.specs.Built.{IsBuilt}
 use Rattle.flat_parts.specs.Meaning.{values_of, state_of}
 use Rattle.flat_parts.specs.Laws.{IsTop}

@@ -1,17 +1,17 @@
 -- The flat design that has the parts of a file's instances settles as the file does.
 use Rattle.std.specs.Prelude.{ℕ, ◌<◌, ◌^◌, ◌↔◌, List, [], ◌∷◌, ◌++◌}
 use Rattle.std.specs.List.{AllByRecursion}
-use Rattle.vlog_tree.specs.Tree.{ModuleOf, FileOf}
-use Rattle.vlog_size.specs.declared.scope.ScopeMemory.{ScopeMemory}
-use Rattle.vlog_size.specs.declared.scope.Scope.{Scope}
-use Rattle.vlog_size.specs.Table.{Named}
-use Rattle.net_design.specs.declared.design.Design.{Design}
-use Rattle.net_design.specs.Settled as design
-use Rattle.vlog_elab.specs.Instances.{instances}
-use Rattle.vlog_elab.specs.Reasons.{Clear}
-use Rattle.vlog_meaning.specs.Names.{Full, State}
-use Rattle.vlog_meaning.specs.Instances.{IsAt}
-use Rattle.vlog_meaning.specs.Settled as meaning
+use Rattle.flat_parts.specs.vlog_tree.Tree.{ModuleOf, FileOf}
+use Rattle.flat_parts.specs.vlog_size.declared.scope.ScopeMemory.{ScopeMemory}
+use Rattle.flat_parts.specs.vlog_size.declared.scope.Scope.{Scope}
+use Rattle.flat_parts.specs.vlog_size.Table.{Named}
+use Rattle.flat_parts.specs.net_design.declared.design.Design.{Design}
+use Rattle.flat_parts.specs.net_design.Settled as design
+use Rattle.flat_parts.specs.vlog_elab.Instances.{instances}
+use Rattle.flat_parts.specs.vlog_elab.Reasons.{Clear}
+use Rattle.flat_parts.specs.vlog_meaning.Names.{Full, State}
+use Rattle.flat_parts.specs.vlog_meaning.Instances.{IsAt}
+use Rattle.flat_parts.specs.vlog_meaning.Settled as meaning
 use Rattle.flat_parts.specs.Built.{IsBuilt}
 use Rattle.flat_parts.specs.Meaning.{values_of, state_of, WordsBelow, AreNarrow}
 use Rattle.flat_parts.specs.Laws.{IsTop, InstancesAreAll, PathsDiffer, FirstIsTop, BuiltNumbers, SeatsStand, NetsHaveSeats, HeldAlike}

@@ -4,13 +4,13 @@ use Rattle.std.proofs.Common.{sym, ap, subst, ◌∙◌, arith, get_or, length-a
 use Rattle.std.proofs.lemmas.Bool.{cases_lt}
 use Rattle.std.proofs.lemmas.List.{length-map, take-map, map_more}
 use Rattle.std.specs.Borrow.{Bor}
-use Rattle.net_design.specs.declared.design.Instance.{Instance}
-use Rattle.net_design.specs.Names.{list_at, paths_after, paths, AreAfterParents}
-use Rattle.vlog_hierarchy.specs.Plain.{plain_path}
-use Rattle.vlog_elab.specs.Instances.{ModuleInstance}
-use Rattle.vlog_elab.specs.declared.instance.ModuleInstance as code
-use Rattle.vlog_elab.specs.Plain.{plain_instance, plain_instances}
-use Rattle.vlog_meaning.specs.Names.{Full}
+use Rattle.flat_parts.specs.net_design.declared.design.Instance.{Instance}
+use Rattle.flat_parts.specs.net_design.Names.{list_at, paths_after, paths, AreAfterParents}
+use Rattle.flat_parts.specs.vlog_hierarchy.Plain.{plain_path}
+use Rattle.flat_parts.specs.vlog_elab.Instances.{ModuleInstance}
+use Rattle.flat_parts.specs.vlog_elab.declared.instance.ModuleInstance as code
+use Rattle.flat_parts.specs.vlog_elab.Plain.{plain_instance, plain_instances}
+use Rattle.flat_parts.specs.vlog_meaning.Names.{Full}
 use Rattle.flat_layout.specs.Layout.{AreInstances, paths_of}
 use Rattle.flat_layout.proofs.Lists.{slice_get_left, slice_get_right}
 

@@ -8,32 +8,32 @@ use Rattle.std.proofs.lemmas.List.{same_from_push, map-id}
 use Rattle.std.proofs.lemmas.List.Elements.{All-from_recursion, recursion_from_All}
 use Rattle.std.proofs.lemmas.List.Quantifiers.{all_pairs_push}
 use Rattle.std.proofs.lemmas.Slice.Eq.{bytes_eq-Decides}
-use Rattle.vlog_names.specs.Entries.{entry}
+use Rattle.flat_parts.specs.vlog_names.Entries.{entry}
 use Rattle.flat_parts.specs.Instances.{HasOtherPath}
-use Rattle.vidi_bits.proofs.Each.{each_weaker, each_append}
-use Rattle.vlog_tree.specs.Tree.{IdentOf, NamedValueOf, RegTailOf, InitTail, MemoryTail, Reg1Of, PortOf, InstanceOf}
-use Rattle.vlog_tree.specs.Tree.{ItemOf, WiresItem, DrivenWiresItem, RegsItem, LocalparamsItem, AssignItem, AlwaysItem, InstanceItem}
-use Rattle.vlog_tree.specs.Tree.{ModuleOf, FileOf}
-use Rattle.vlog_size.specs.declared.scope.ScopeNet.{ScopeNet}
-use Rattle.vlog_size.specs.declared.scope.Scope.{Scope}
-use Rattle.vlog_size.specs.Table.{Named, value_of}
-use Rattle.vlog_size.specs.Names.{Readable}
-use Rattle.vlog_size.specs.Size.{Sizes}
-use Rattle.vlog_names.specs.Different.{Differ}
-use Rattle.vlog_hierarchy.specs.Outlines.{place_of}
-use Rattle.vlog_scope.specs.declared.extent.Extent.{Extent}
-use Rattle.vlog_scope.specs.declared.extent.Extent.TheVariants.{NoRange}
-use Rattle.vlog_scope.specs.Extents.{extent_of, port_extent, net_width}
-use Rattle.vlog_scope.specs.Params.{header_params, items_params, overrides_of}
-use Rattle.vlog_scope.specs.Scope.{declared_in, readable_at, after_item, with_net, with_port, with_ports, wire_nets, driven_nets, with_reg}
-use Rattle.vlog_scope.specs.Scope.{with_regs, with_item, with_items, params_scope, scope_with}
-use Rattle.net_design.specs.Names.{net_names}
-use Rattle.vlog_elab.specs.Instances.{ModuleInstance, child_of, child_at, item_children, children_from, children, within, top_of, top_at}
-use Rattle.vlog_elab.specs.Instances.{instances}
-use Rattle.vlog_meaning.specs.Names.{Full}
+use Rattle.flat_parts.proofs.vidi_bits.Each.{each_weaker, each_append}
+use Rattle.flat_parts.specs.vlog_tree.Tree.{IdentOf, NamedValueOf, RegTailOf, InitTail, MemoryTail, Reg1Of, PortOf, InstanceOf}
+use Rattle.flat_parts.specs.vlog_tree.Tree.{ItemOf, WiresItem, DrivenWiresItem, RegsItem, LocalparamsItem, AssignItem, AlwaysItem, InstanceItem}
+use Rattle.flat_parts.specs.vlog_tree.Tree.{ModuleOf, FileOf}
+use Rattle.flat_parts.specs.vlog_size.declared.scope.ScopeNet.{ScopeNet}
+use Rattle.flat_parts.specs.vlog_size.declared.scope.Scope.{Scope}
+use Rattle.flat_parts.specs.vlog_size.Table.{Named, value_of}
+use Rattle.flat_parts.specs.vlog_size.Names.{Readable}
+use Rattle.flat_parts.specs.vlog_size.Size.{Sizes}
+use Rattle.flat_parts.specs.vlog_names.Different.{Differ}
+use Rattle.flat_parts.specs.vlog_hierarchy.Outlines.{place_of}
+use Rattle.flat_parts.specs.vlog_scope.declared.extent.Extent.{Extent}
+use Rattle.flat_parts.specs.vlog_scope.declared.extent.Extent.TheVariants.{NoRange}
+use Rattle.flat_parts.specs.vlog_scope.Extents.{extent_of, port_extent, net_width}
+use Rattle.flat_parts.specs.vlog_scope.Params.{header_params, items_params, overrides_of}
+use Rattle.flat_parts.specs.vlog_scope.Scope.{declared_in, readable_at, after_item, with_net, with_port, with_ports, wire_nets, driven_nets, with_reg}
+use Rattle.flat_parts.specs.vlog_scope.Scope.{with_regs, with_item, with_items, params_scope, scope_with}
+use Rattle.flat_parts.specs.net_design.Names.{net_names}
+use Rattle.flat_parts.specs.vlog_elab.Instances.{ModuleInstance, child_of, child_at, item_children, children_from, children, within, top_of, top_at}
+use Rattle.flat_parts.specs.vlog_elab.Instances.{instances}
+use Rattle.flat_parts.specs.vlog_meaning.Names.{Full}
 use Rattle.flat_parts.specs.Laws.{PathsDiffer, NamesDiffer}
 use Rattle.flat_layout.proofs.Numbers.{built_names}
-use Rattle.vlog_hierarchy.specs.declared.nodes.TheConstants.{MOST_LEVELS}
+use Rattle.flat_parts.specs.vlog_hierarchy.declared.nodes.TheConstants.{MOST_LEVELS}
 
 -- ---- pairs
 

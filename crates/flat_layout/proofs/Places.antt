@@ -5,11 +5,11 @@ use Rattle.std.specs.List.{flat_map, Contains}
 use Rattle.std.proofs.lemmas.Bool.{cases_lt}
 use Rattle.std.proofs.lemmas.List.{length-map}
 use Rattle.std.proofs.lemmas.Option.{slice_get-map}
-use Rattle.vlog_size.specs.declared.scope.ScopeNet.{ScopeNet}
-use Rattle.vlog_size.specs.Table.{Named}
-use Rattle.vlog_scope.specs.Scope.{words_of}
-use Rattle.net_design.specs.declared.design.Net.{Net}
-use Rattle.vlog_elab.specs.Instances.{ModuleInstance}
+use Rattle.flat_parts.specs.vlog_size.declared.scope.ScopeNet.{ScopeNet}
+use Rattle.flat_parts.specs.vlog_size.Table.{Named}
+use Rattle.flat_parts.specs.vlog_scope.Scope.{words_of}
+use Rattle.flat_parts.specs.net_design.declared.design.Net.{Net}
+use Rattle.flat_parts.specs.vlog_elab.Instances.{ModuleInstance}
 use Rattle.flat_parts.specs.Seats.{Seat, seats_from, seats_of}
 use Rattle.flat_parts.specs.Nets.{net_of, seat_nets, flat_nets}
 use Rattle.flat_parts.specs.Laws.{IsNetOf, NetsHaveSeats, NetsHaveOneSeat, NetsAreThose}

@@ -4,8 +4,8 @@ use Rattle.std.proofs.Common.{get_or, length-append}
 use Rattle.std.specs.List.{flat_map, Contains}
 use Rattle.std.proofs.lemmas.Grind.{flat_map-append}
 use Rattle.std.proofs.lemmas.List.{drop_at}
-use Rattle.vlog_scope.specs.Scope.{words_of}
-use Rattle.vlog_elab.specs.Instances.{ModuleInstance}
+use Rattle.flat_parts.specs.vlog_scope.Scope.{words_of}
+use Rattle.flat_parts.specs.vlog_elab.Instances.{ModuleInstance}
 use Rattle.flat_parts.specs.Seats.{Seat, seats_from, seats_of}
 
 -- the numbers of nets and of words of instances

@@ -5,17 +5,17 @@ use Rattle.std.specs.List.{flat_map}
 use Rattle.std.proofs.lemmas.List.{length-map, get_or_append_left}
 use Rattle.std.proofs.lemmas.List.Recursion.{is_sum_by}
 use Rattle.flat_layout.proofs.Counted.{own_length}
-use Rattle.vlog_meaning.proofs.Words.{length-words}
-use Rattle.vlog_size.specs.declared.scope.ScopeMemory.{ScopeMemory}
-use Rattle.vlog_size.specs.declared.scope.ScopeNet.{ScopeNet}
-use Rattle.vlog_size.specs.Table.{Named}
-use Rattle.vlog_scope.specs.Scope.{words_of}
-use Rattle.vlog_block.specs.Sources.{words_before}
-use Rattle.vlog_elab.specs.Instances.{ModuleInstance}
-use Rattle.vlog_meaning.specs.Names.{Full, words_from, numbers_at}
-use Rattle.vlog_meaning.specs.Placed.{names_at}
-use Rattle.vlog_meaning.specs.Own.{word_total}
-use Rattle.vlog_driver.specs.Held.{StandsAt}
+use Rattle.flat_parts.proofs.vlog_meaning.Words.{length-words}
+use Rattle.flat_parts.specs.vlog_size.declared.scope.ScopeMemory.{ScopeMemory}
+use Rattle.flat_parts.specs.vlog_size.declared.scope.ScopeNet.{ScopeNet}
+use Rattle.flat_parts.specs.vlog_size.Table.{Named}
+use Rattle.flat_parts.specs.vlog_scope.Scope.{words_of}
+use Rattle.flat_parts.specs.vlog_block.Sources.{words_before}
+use Rattle.flat_parts.specs.vlog_elab.Instances.{ModuleInstance}
+use Rattle.flat_parts.specs.vlog_meaning.Names.{Full, words_from, numbers_at}
+use Rattle.flat_parts.specs.vlog_meaning.Placed.{names_at}
+use Rattle.flat_parts.specs.vlog_meaning.Own.{word_total}
+use Rattle.flat_parts.specs.vlog_driver.Held.{StandsAt}
 use Rattle.flat_parts.specs.Seats.{Seat, site_at}
 use Rattle.flat_parts.specs.Laws.{numbers_of, SeatsStand}
 use Rattle.flat_layout.proofs.Split.{net_count, word_count, IsBehind, seat_behind, piece_count, left_behind}

@@ -1,9 +1,9 @@
 -- Laws of the flat design's names and of how much there is.
 use Rattle.std.specs.Prelude.{◌≡◌, List, length}
 use Rattle.std.specs.List.{sum_by}
-use Rattle.net_design.specs.declared.design.DesignMemory.{DesignMemory}
-use Rattle.vlog_elab.specs.Instances.{ModuleInstance}
-use Rattle.vlog_elab.specs.Reasons.{word_total}
+use Rattle.flat_parts.specs.net_design.declared.design.DesignMemory.{DesignMemory}
+use Rattle.flat_parts.specs.vlog_elab.Instances.{ModuleInstance}
+use Rattle.flat_parts.specs.vlog_elab.Reasons.{word_total}
 use Rattle.flat_parts.specs.Seats.{seats_of}
 use Rattle.flat_parts.specs.Nets.{flat_nets, flat_memories}
 use Rattle.flat_parts.specs.Laws.{PathsDiffer, NamesDiffer}

@@ -1,15 +1,15 @@
 //! The instances of the flat design.
 
 ghost use Rattle.std.specs.Prelude.{◌≡◌, ◌+◌, ◌-◌, ◌<◌, ◌≤◌, ◌↔◌, ◌++◌, ◌∷◌, [], IsTrue, IfOk, OnOk, length, take, slice_get, Some};
-ghost use Rattle.net_design.specs.Names.{list_at};
-ghost use Rattle.vlog_hierarchy.specs.Plain.{plain_path};
-ghost use Rattle.vlog_elab.specs.Plain.{plain_instances};
+ghost use Rattle.flat_parts.specs.net_design.Names.{list_at};
+ghost use Rattle.flat_parts.specs.vlog_hierarchy.Plain.{plain_path};
+ghost use Rattle.flat_parts.specs.vlog_elab.Plain.{plain_instances};
 ghost use Rattle.flat_layout.specs.Layout.{AreInstances, paths_of};
 
-use net_design::Instance;
+use flat_parts::net_design::Instance;
+use flat_parts::vidi_bits::{Items, Memory, Name, copied};
+use flat_parts::vlog_elab::ModuleInstance;
 use std::alloc::Global;
-use vidi_bits::{Items, Memory, Name, copied};
-use vlog_elab::ModuleInstance;
 
 fn same_name(a: &Name, b: &Name) -> bool
     ensures { IsTrue result ↔ (a.now ≡ b.now) }

@@ -2,17 +2,17 @@
 
 ghost use Rattle.std.specs.Prelude.{◌≡◌, ◌<◌, ◌+◌, ◌++◌, IfOk, OnOk, length, slice_get, Some};
 ghost use Rattle.std.specs.Option.{option_map};
-ghost use Rattle.vlog_scope.specs.Scope.{words_of};
-ghost use Rattle.vlog_elab.specs.Plain.{plain_instances};
+ghost use Rattle.flat_parts.specs.vlog_scope.Scope.{words_of};
+ghost use Rattle.flat_parts.specs.vlog_elab.Plain.{plain_instances};
 ghost use Rattle.flat_parts.specs.Seats.{seats_of};
 ghost use Rattle.flat_parts.specs.Nets.{memories_from, flat_memories};
 ghost use Rattle.flat_layout.specs.Layout.{memory_of};
 
-use net_design::{DesignMemory, Room};
+use flat_parts::net_design::{DesignMemory, Room};
+use flat_parts::vidi_bits::{Items, Memory, copied};
+use flat_parts::vlog_elab::ModuleInstance;
+use flat_parts::vlog_size::ScopeMemories;
 use std::alloc::Global;
-use vidi_bits::{Items, Memory, copied};
-use vlog_elab::ModuleInstance;
-use vlog_size::ScopeMemories;
 
 /// The memory at a place of an instance's memories, whose first word is this word of the design.
 fn memory_at(

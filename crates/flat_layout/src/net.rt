@@ -2,15 +2,15 @@
 
 ghost use Rattle.std.specs.Prelude.{◌≡◌, ◌<◌, ◌++◌, IfOk, OnOk, length, map, slice_get, Some};
 ghost use Rattle.std.specs.Option.{option_map};
-ghost use Rattle.vlog_elab.specs.Plain.{plain_instances};
+ghost use Rattle.flat_parts.specs.vlog_elab.Plain.{plain_instances};
 ghost use Rattle.flat_parts.specs.Seats.{seats_of};
 ghost use Rattle.flat_parts.specs.Nets.{net_of, flat_nets};
 
-use net_design::Net;
+use flat_parts::net_design::Net;
+use flat_parts::vidi_bits::{Items, Memory, copied};
+use flat_parts::vlog_elab::ModuleInstance;
+use flat_parts::vlog_size::ScopeNets;
 use std::alloc::Global;
-use vidi_bits::{Items, Memory, copied};
-use vlog_elab::ModuleInstance;
-use vlog_size::ScopeNets;
 
 /// The net at a place of an instance's nets.
 fn net_at(alloc: Global, number: usize, list: &ScopeNets, place: usize) -> Result<Net, Memory>

@@ -1,0 +1,11 @@
+pub use Rattle.vlog_driver.proofs.net_code as net_code
+pub use Rattle.vlog_driver.proofs.net_design as net_design
+pub use Rattle.vlog_elab.proofs.vidi_bits as vidi_bits
+pub use Rattle.vlog_driver.proofs as vlog_driver
+pub use Rattle.vlog_elab.proofs as vlog_elab
+pub use Rattle.vlog_elab.proofs.vlog_hierarchy as vlog_hierarchy
+pub use Rattle.vlog_driver.proofs.vlog_latch as vlog_latch
+pub use Rattle.vlog_driver.proofs.vlog_meaning as vlog_meaning
+pub use Rattle.vlog_elab.proofs.vlog_names as vlog_names
+pub use Rattle.vlog_elab.proofs.vlog_scope as vlog_scope
+pub use Rattle.vlog_elab.proofs.vlog_size as vlog_size

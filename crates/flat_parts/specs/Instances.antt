@@ -1,8 +1,8 @@
 -- The instances of a file: their paths differ, and a table has what their modules declare.
 use Rattle.std.specs.Prelude.{◌≡◌, ◌≢◌, List, map, slice_get, Some}
 use Rattle.std.specs.List.{AllPairs, AllByRecursion}
-use Rattle.vlog_size.specs.Table.{Named}
-use Rattle.vlog_names.specs.Entries.{Names, declared}
+use Rattle.vlog_elab.specs.vlog_size.Table.{Named}
+use Rattle.vlog_elab.specs.vlog_names.Entries.{Names, declared}
 use Rattle.vlog_elab.specs.Instances.{ModuleInstance}
 
 abbrev pub HasOtherPath : ModuleInstance → ModuleInstance → Type 0

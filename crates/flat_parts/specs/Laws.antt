@@ -3,22 +3,22 @@ use Rattle.std.specs.Prelude.{◌≡◌, ◌≢◌, ℕ, ◌+◌, ◌<◌, ◌�
 use Rattle.std.specs.Prelude.{option_map, Some}
 use Rattle.std.specs.Int.{bit_at}
 use Rattle.std.specs.List.{Contains, AllPairs, flat_map}
-use Rattle.vlog_tree.specs.Tree.{ModuleOf, FileOf}
-use Rattle.vlog_size.specs.declared.scope.ScopeNet.{ScopeNet}
-use Rattle.vlog_size.specs.declared.scope.Scope.{Scope}
-use Rattle.vlog_size.specs.Table.{Named}
+use Rattle.vlog_elab.specs.vlog_tree.Tree.{ModuleOf, FileOf}
+use Rattle.vlog_elab.specs.vlog_size.declared.scope.ScopeNet.{ScopeNet}
+use Rattle.vlog_elab.specs.vlog_size.declared.scope.Scope.{Scope}
+use Rattle.vlog_elab.specs.vlog_size.Table.{Named}
 use Rattle.vlog_elab.specs.Outlines.{place_of}
-use Rattle.vlog_scope.specs.Scope.{scope_with}
-use Rattle.net_design.specs.declared.design.Design.{Design}
-use Rattle.net_design.specs.declared.values.Values.{Values}
-use Rattle.net_design.specs.Names.{net_names}
-use Rattle.net_design.specs.Settled.{held, initial}
+use Rattle.vlog_elab.specs.vlog_scope.Scope.{scope_with}
+use Rattle.vlog_driver.specs.net_design.declared.design.Design.{Design}
+use Rattle.vlog_driver.specs.net_design.declared.values.Values.{Values}
+use Rattle.vlog_driver.specs.net_design.Names.{net_names}
+use Rattle.vlog_driver.specs.net_design.Settled.{held, initial}
 use Rattle.vlog_elab.specs.Instances.{ModuleInstance, instances}
 use Rattle.vlog_elab.specs.Reasons.{Clear}
-use Rattle.vlog_meaning.specs.Names.{Full, numbers_at}
-use Rattle.vlog_meaning.specs.Instances.{IsAt}
-use Rattle.vlog_meaning.specs.Settled.{is_held}
-use Rattle.vlog_meaning.specs.Next.{initial_number}
+use Rattle.vlog_driver.specs.vlog_meaning.Names.{Full, numbers_at}
+use Rattle.vlog_driver.specs.vlog_meaning.Instances.{IsAt}
+use Rattle.vlog_driver.specs.vlog_meaning.Settled.{is_held}
+use Rattle.vlog_driver.specs.vlog_meaning.Next.{initial_number}
 use Rattle.vlog_driver.specs.Held.{StandsAt}
 use Rattle.flat_parts.specs.Seats.{Seat, seats_of, site_at}
 use Rattle.flat_parts.specs.Nets.{net_of, flat_nets}

@@ -1,10 +1,10 @@
 -- Which nets of the flat design are regs, in the order of the nets.
 use Rattle.std.specs.Prelude.{Bool, List, map}
 use Rattle.std.specs.List.{flat_map}
-use Rattle.vlog_size.specs.declared.scope.ScopeNet.{ScopeNet}
-use Rattle.vlog_size.specs.Table.{Named}
+use Rattle.vlog_elab.specs.vlog_size.declared.scope.ScopeNet.{ScopeNet}
+use Rattle.vlog_elab.specs.vlog_size.Table.{Named}
 use Rattle.vlog_elab.specs.Instances.{ModuleInstance}
-use Rattle.vlog_names.specs.Ports.{has_reg}
+use Rattle.vlog_elab.specs.vlog_names.Ports.{has_reg}
 use Rattle.flat_parts.specs.Seats.{Seat}
 
 -- for each net of an instance whether it is a reg

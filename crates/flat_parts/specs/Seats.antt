@@ -1,12 +1,12 @@
 -- Where the instances of a file and its top stand in the flat design: the nets of all instances in preorder and within one in text
 -- order, and the words of their memories likewise (this project's profile).
 use Rattle.std.specs.Prelude.{ℕ, ◌+◌, if◌then◌else◌, List, [], ◌∷◌, length, Option, None, Some}
-use Rattle.vlog_scope.specs.Scope.{words_of}
+use Rattle.vlog_elab.specs.vlog_scope.Scope.{words_of}
 use Rattle.vlog_elab.specs.Instances.{ModuleInstance}
-use Rattle.vlog_meaning.specs.Names.{Full, same_path}
-use Rattle.vlog_meaning.specs.Placed.{names_at}
+use Rattle.vlog_driver.specs.vlog_meaning.Names.{Full, same_path}
+use Rattle.vlog_driver.specs.vlog_meaning.Placed.{names_at}
 use Rattle.vlog_driver.specs.Sites.{Site}
-use Rattle.net_code.specs.declared.base.Base.{Base}
+use Rattle.vlog_driver.specs.net_code.declared.base.Base.{Base}
 
 -- an instance, its number, and where it stands
 pub record Seat : Type 0 where

@@ -3,17 +3,17 @@
 use Rattle.std.specs.Prelude.{◌≡◌, ℕ, ◌+◌, nat_lt, Bool, ◌&&◌, not, if◌then◌else◌, List, [], ◌∷◌, ◌++◌}
 use Rattle.std.specs.Int.{bit_at}
 use Rattle.std.specs.List.{flat_map, list_any}
-use Rattle.vidi_bits.specs.Findings.{told_if}
-use Rattle.vlog_tree.specs.Tree.{ModuleOf}
-use Rattle.vidi_bits.specs.Number.{has}
-use Rattle.vlog_size.specs.declared.scope.ScopeNet.{ScopeNet}
-use Rattle.vlog_size.specs.declared.scope.Scope.{Scope}
-use Rattle.vlog_size.specs.Table.{Named}
-use Rattle.net_design.specs.declared.design.Driver.{Driver}
-use Rattle.net_design.specs.declared.design.Register.{Register}
-use Rattle.net_design.specs.Bits.{named}
-use Rattle.vlog_names.specs.Ports.{has_reg}
-use Rattle.vlog_meaning.specs.Next.{initial_number}
+use Rattle.vlog_elab.specs.vidi_bits.Findings.{told_if}
+use Rattle.vlog_elab.specs.vlog_tree.Tree.{ModuleOf}
+use Rattle.vlog_elab.specs.vidi_bits.Number.{has}
+use Rattle.vlog_elab.specs.vlog_size.declared.scope.ScopeNet.{ScopeNet}
+use Rattle.vlog_elab.specs.vlog_size.declared.scope.Scope.{Scope}
+use Rattle.vlog_elab.specs.vlog_size.Table.{Named}
+use Rattle.vlog_driver.specs.net_design.declared.design.Driver.{Driver}
+use Rattle.vlog_driver.specs.net_design.declared.design.Register.{Register}
+use Rattle.vlog_driver.specs.net_design.Bits.{named}
+use Rattle.vlog_elab.specs.vlog_names.Ports.{has_reg}
+use Rattle.vlog_driver.specs.vlog_meaning.Next.{initial_number}
 use Rattle.flat_parts.specs.Seats.{Seat}
 
 -- a reg: its net, its width in bits and its initial number

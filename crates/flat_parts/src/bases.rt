@@ -1,16 +1,16 @@
 //! Where instances stand in the flat design.
 
 ghost use Rattle.std.specs.Prelude.{◌≡◌, ◌+◌, length, map, IfOk};
-ghost use Rattle.vlog_scope.specs.Scope.{words_of};
+ghost use Rattle.vlog_elab.specs.vlog_scope.Scope.{words_of};
 ghost use Rattle.vlog_elab.specs.Plain.{plain_instances};
 ghost use Rattle.flat_parts.specs.Seats.{base_of, seats_of};
 
-use net_code::Base;
 use std::alloc::Global;
-use vidi_bits::{Items, Memory};
+use vlog_driver::net_code::Base;
 use vlog_elab::ModuleInstance;
-use vlog_scope::words_of;
-use vlog_size::Scope;
+use vlog_elab::vidi_bits::{Items, Memory};
+use vlog_elab::vlog_scope::words_of;
+use vlog_elab::vlog_size::Scope;
 
 /// A sum of 32 bits.
 fn small_sum(a: u32, b: usize) -> Result<u32, Memory>

@@ -1,13 +1,13 @@
 -- A walk over what adds entries to a table.
 use Rattle.std.proofs.Common.{◌≡◌, ℕ, ◌+◌, ◌<◌, List, ◌++◌, length, map, drop, get_or, sym, ap, ◌∙◌}
 use Rattle.std.specs.List.{flat_map}
-use Rattle.vlog_tree.specs.declared.module.Item.{Item}
-use Rattle.vlog_tree.specs.Plain.{plain_item}
-use Rattle.vlog_size.specs.declared.scope.Param.{Param}
-use Rattle.vlog_size.specs.Table.{Named}
-use Rattle.vlog_scope.specs.Scope.{after_item}
-use Rattle.net_design.proofs.UpdateLaws.{from_here}
-use Rattle.vlog_meaning.specs.Placed.{Placed, placed}
+use Rattle.flat_parts.specs.vlog_tree.declared.module.Item.{Item}
+use Rattle.flat_parts.specs.vlog_tree.Plain.{plain_item}
+use Rattle.flat_parts.specs.vlog_size.declared.scope.Param.{Param}
+use Rattle.flat_parts.specs.vlog_size.Table.{Named}
+use Rattle.flat_parts.specs.vlog_scope.Scope.{after_item}
+use Rattle.flat_parts.proofs.net_design.UpdateLaws.{from_here}
+use Rattle.flat_parts.specs.vlog_meaning.Placed.{Placed, placed}
 use Rattle.flat_registers.specs.Tables.{with_entries}
 use Rattle.flat_registers.proofs.Tables.{entries_append}
 

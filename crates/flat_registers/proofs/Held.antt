@@ -7,12 +7,12 @@ use Rattle.std.specs.List.{AllZip}
 use Rattle.std.proofs.lemmas.Bool.{cases_lt, lt-ltb, le-ltb}
 use Rattle.std.proofs.lemmas.Nat.Bits.{bit_at-lt, bit_at_and, bit_at_ones, bit_at_ones_above}
 use Rattle.std.proofs.lemmas.List.{take_more, map-append}
-use Rattle.net_design.specs.declared.design.Driver.{Driver}
-use Rattle.net_design.specs.declared.design.Register.{Register}
-use Rattle.vidi_bits.specs.Number.{has}
-use Rattle.net_code.specs.declared.bit_map.BitMap.{BitMap}
-use Rattle.net_code.specs.BitMap.{mask_of, in_map}
-use Rattle.net_code.proofs.MaskLaws.{has_less}
+use Rattle.flat_parts.specs.net_design.declared.design.Driver.{Driver}
+use Rattle.flat_parts.specs.net_design.declared.design.Register.{Register}
+use Rattle.flat_parts.specs.vidi_bits.Number.{has}
+use Rattle.flat_parts.specs.net_code.declared.bit_map.BitMap.{BitMap}
+use Rattle.flat_parts.specs.net_code.BitMap.{mask_of, in_map}
+use Rattle.flat_parts.proofs.net_code.MaskLaws.{has_less}
 use Rattle.flat_parts.specs.State.{RegPlace, always_writes_bit, IsRegisterOf}
 use Rattle.flat_registers.specs.declared.places.RegNet.{RegNet}
 use Rattle.flat_registers.specs.Places.{plain_place, plain_places, IsWrittenAt}

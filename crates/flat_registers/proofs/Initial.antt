@@ -7,16 +7,16 @@ use Rattle.std.proofs.lemmas.Nat.Bits.{bit_at-zero}
 use Rattle.std.proofs.lemmas.Option.{slice_get_within}
 use Rattle.std.specs.Int.{bit_at}
 use Rattle.std.specs.List.{Contains, AllZip, enumerate_from}
-use Rattle.vidi_bits.proofs.Lists.{head_in, tail_in, none_in, cases_in}
-use Rattle.vlog_size.specs.declared.scope.ScopeNet.{ScopeNet}
-use Rattle.vlog_size.specs.Table.{Named}
-use Rattle.net_design.specs.declared.design.Driver.{Driver}
-use Rattle.net_design.specs.declared.design.Net.{Net}
-use Rattle.net_design.specs.declared.design.Register.{Register}
-use Rattle.net_design.specs.Settled.{initial_number as register_number}
-use Rattle.vlog_names.specs.Ports.{has_reg}
-use Rattle.vlog_meaning.specs.Next.{initial_number}
-use Rattle.vlog_elab.specs.Instances.{ModuleInstance}
+use Rattle.flat_parts.proofs.vidi_bits.Lists.{head_in, tail_in, none_in, cases_in}
+use Rattle.flat_parts.specs.vlog_size.declared.scope.ScopeNet.{ScopeNet}
+use Rattle.flat_parts.specs.vlog_size.Table.{Named}
+use Rattle.flat_parts.specs.net_design.declared.design.Driver.{Driver}
+use Rattle.flat_parts.specs.net_design.declared.design.Net.{Net}
+use Rattle.flat_parts.specs.net_design.declared.design.Register.{Register}
+use Rattle.flat_parts.specs.net_design.Settled.{initial_number as register_number}
+use Rattle.flat_parts.specs.vlog_names.Ports.{has_reg}
+use Rattle.flat_parts.specs.vlog_meaning.Next.{initial_number}
+use Rattle.flat_parts.specs.vlog_elab.Instances.{ModuleInstance}
 use Rattle.flat_parts.specs.Seats.{Seat, seats_of}
 use Rattle.flat_parts.specs.Nets.{net_of, flat_nets}
 use Rattle.flat_parts.specs.State.{RegPlace, all_regs, always_writes_bit, IsRegisterOf}

@@ -1,12 +1,12 @@
 -- Which nets are regs.
 use Rattle.std.proofs.Common.{◌≡◌, ℕ, ◌+◌, ◌++◌, Bool, List, [], ◌∷◌, length, map, drop, slice_get, Some, refl, ap}
 use Rattle.std.specs.List.{flat_map}
-use Rattle.vlog_size.specs.declared.scope.ScopeNet.{ScopeNet}
-use Rattle.vlog_size.specs.Table.{Named, value_of}
-use Rattle.vlog_scope.specs.Scope.{words_of}
-use Rattle.vlog_names.specs.Entries.{Names, declared}
-use Rattle.vlog_names.specs.Ports.{is_reg}
-use Rattle.vlog_elab.specs.Instances.{ModuleInstance}
+use Rattle.flat_parts.specs.vlog_size.declared.scope.ScopeNet.{ScopeNet}
+use Rattle.flat_parts.specs.vlog_size.Table.{Named, value_of}
+use Rattle.flat_parts.specs.vlog_scope.Scope.{words_of}
+use Rattle.flat_parts.specs.vlog_names.Entries.{Names, declared}
+use Rattle.flat_parts.specs.vlog_names.Ports.{is_reg}
+use Rattle.flat_parts.specs.vlog_elab.Instances.{ModuleInstance}
 use Rattle.flat_parts.specs.Seats.{seats_from, seats_of}
 use Rattle.flat_parts.specs.Marks.{instance_marks, seat_marks, reg_marks}
 use Rattle.flat_registers.proofs.Steps.{drop_split}

@@ -1,17 +1,17 @@
 -- The regs of instances, as tables of names tell them.
 use Rattle.std.proofs.Common.{◌≡◌, ℕ, ◌+◌, ◌++◌, List, [], ◌∷◌, length, drop, slice_get, Some, refl, ap, ◌∙◌, arith}
 use Rattle.std.specs.List.{flat_map}
-use Rattle.vidi_bits.specs.Findings.{told_if}
-use Rattle.vlog_tree.specs.Tree.{ModuleOf}
-use Rattle.vlog_size.specs.declared.scope.ScopeNet.{ScopeNet}
-use Rattle.vlog_size.specs.declared.scope.Scope.{Scope}
-use Rattle.vlog_size.specs.Size.{or_zero}
-use Rattle.vlog_size.specs.Table.{Named, value_of}
-use Rattle.vlog_scope.specs.Scope.{words_of}
-use Rattle.vlog_names.specs.Entries.{Names, declared}
-use Rattle.vlog_names.specs.Ports.{is_reg}
-use Rattle.vlog_meaning.specs.Next.{initials}
-use Rattle.vlog_elab.specs.Instances.{ModuleInstance}
+use Rattle.flat_parts.specs.vidi_bits.Findings.{told_if}
+use Rattle.flat_parts.specs.vlog_tree.Tree.{ModuleOf}
+use Rattle.flat_parts.specs.vlog_size.declared.scope.ScopeNet.{ScopeNet}
+use Rattle.flat_parts.specs.vlog_size.declared.scope.Scope.{Scope}
+use Rattle.flat_parts.specs.vlog_size.Size.{or_zero}
+use Rattle.flat_parts.specs.vlog_size.Table.{Named, value_of}
+use Rattle.flat_parts.specs.vlog_scope.Scope.{words_of}
+use Rattle.flat_parts.specs.vlog_names.Entries.{Names, declared}
+use Rattle.flat_parts.specs.vlog_names.Ports.{is_reg}
+use Rattle.flat_parts.specs.vlog_meaning.Next.{initials}
+use Rattle.flat_parts.specs.vlog_elab.Instances.{ModuleInstance}
 use Rattle.flat_parts.specs.Seats.{seats_from, seats_of}
 use Rattle.flat_parts.specs.State.{regs_from, seat_regs, all_regs}
 use Rattle.flat_registers.specs.Tables.{with_entries}

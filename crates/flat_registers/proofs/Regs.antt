@@ -5,19 +5,19 @@ use Rattle.std.proofs.lemmas.Bool.{eqb-true, eq-eqb, and_parts, and_from}
 use Rattle.std.proofs.lemmas.Option.{slice_get_within}
 use Rattle.std.proofs.lemmas.List.Elements.{Contains-append_right}
 use Rattle.std.specs.List.{Contains, list_any}
-use Rattle.vidi_bits.proofs.Bools.{same_test, and_swap}
-use Rattle.vidi_bits.proofs.Lists.{from_flat, in_flat, head_in, none_in, cases_in, some_same}
-use Rattle.vidi_bits.specs.Findings.{told_if}
-use Rattle.vlog_tree.specs.Tree.{ModuleOf}
-use Rattle.vidi_bits.specs.Number.{has}
-use Rattle.vlog_size.specs.declared.scope.ScopeNet.{ScopeNet}
-use Rattle.vlog_size.specs.declared.scope.Scope.{Scope}
-use Rattle.vlog_size.specs.Table.{Named}
-use Rattle.net_design.specs.declared.design.Driver.{Driver}
-use Rattle.net_design.specs.declared.design.Register.{Register}
-use Rattle.vlog_names.specs.Ports.{has_reg}
-use Rattle.vlog_meaning.specs.Next.{initial_number}
-use Rattle.vlog_elab.specs.Instances.{ModuleInstance}
+use Rattle.flat_parts.proofs.vidi_bits.Bools.{same_test, and_swap}
+use Rattle.flat_parts.proofs.vidi_bits.Lists.{from_flat, in_flat, head_in, none_in, cases_in, some_same}
+use Rattle.flat_parts.specs.vidi_bits.Findings.{told_if}
+use Rattle.flat_parts.specs.vlog_tree.Tree.{ModuleOf}
+use Rattle.flat_parts.specs.vidi_bits.Number.{has}
+use Rattle.flat_parts.specs.vlog_size.declared.scope.ScopeNet.{ScopeNet}
+use Rattle.flat_parts.specs.vlog_size.declared.scope.Scope.{Scope}
+use Rattle.flat_parts.specs.vlog_size.Table.{Named}
+use Rattle.flat_parts.specs.net_design.declared.design.Driver.{Driver}
+use Rattle.flat_parts.specs.net_design.declared.design.Register.{Register}
+use Rattle.flat_parts.specs.vlog_names.Ports.{has_reg}
+use Rattle.flat_parts.specs.vlog_meaning.Next.{initial_number}
+use Rattle.flat_parts.specs.vlog_elab.Instances.{ModuleInstance}
 use Rattle.flat_parts.specs.Seats.{Seat, seats_of}
 use Rattle.flat_parts.specs.State.{RegPlace, regs_from, seat_regs, all_regs, always_writes_bit, IsRegisterOf}
 use Rattle.flat_parts.specs.Laws.{NetsHaveOneSeat, HeldAlike}

@@ -3,8 +3,8 @@ use Rattle.std.proofs.Common.{◌≡◌, ℕ, Bool, true, false, List, [], ◌�
 use Rattle.std.proofs.Common.{refl, sym, ap, ◌∙◌, append_assoc, append-nil}
 use Rattle.std.proofs.lemmas.Slice.Eq.{bytes_eq-Decides}
 use Rattle.std.specs.Str.{bytes_eq}
-use Rattle.vidi_bits.specs.Findings.{or_first}
-use Rattle.vlog_size.specs.Table.{Named, value_of, added}
+use Rattle.flat_parts.specs.vidi_bits.Findings.{or_first}
+use Rattle.flat_parts.specs.vlog_size.Table.{Named, value_of, added}
 use Rattle.flat_registers.specs.Tables.{with_entries}
 
 pub entries_append : {V : Type 0} (xs ys zs : List (Named V)) → with_entries xs (ys ++ zs) ≡ with_entries (with_entries xs ys) zs

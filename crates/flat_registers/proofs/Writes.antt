@@ -6,26 +6,26 @@ use Rattle.std.proofs.lemmas.Option.{slice_get_within}
 use Rattle.std.proofs.lemmas.List.Folds.{list_any-append}
 use Rattle.std.specs.List.{Contains, AllZip, list_any}
 use Rattle.std.proofs.Math.Bool.{and-false, or-false}
-use Rattle.vlog_tree.specs.Tree.{IdentOf, ExprOf, TargetOf, EventOf, PosedgeEvent, ImplicitEvent, AlwaysOf, InstanceOf}
-use Rattle.vlog_tree.specs.Tree.{ItemOf, WiresItem, DrivenWiresItem, RegsItem, LocalparamsItem, AssignItem, AlwaysItem, InstanceItem}
-use Rattle.vlog_size.specs.declared.scope.ScopeNet.{ScopeNet}
-use Rattle.vlog_size.specs.Names.{Readable}
-use Rattle.vlog_size.specs.Table.{Named, value_of}
-use Rattle.vlog_names.specs.Entries.{declared}
-use Rattle.net_design.specs.declared.design.Driver.{Driver}
-use Rattle.net_design.specs.Bits.{named}
-use Rattle.vlog_block.specs.Written.{always_writes}
-use Rattle.vlog_latch.specs.Blocks.{is_there}
-use Rattle.vlog_latch.proofs.There.{body_there}
-use Rattle.vlog_names.specs.Ports.{is_output}
-use Rattle.vlog_meaning.specs.Placed.{Placed, placed_items, names_at}
-use Rattle.vlog_meaning.specs.Settled.{event_writes, item_writes}
-use Rattle.vlog_meaning.specs.Items.{target_of}
-use Rattle.vlog_driver.specs.Sites.{Site, bits_at}
-use Rattle.vlog_driver.specs.Duties.{Duty, Assigns, Settles, Does, wire_duty, assign_duty, event_duties, output_duties, join_duties}
-use Rattle.vlog_driver.specs.Duties.{conn_duties}
-use Rattle.vlog_driver.specs.Held.{item_duties}
-use Rattle.vlog_elab.specs.Instances.{ModuleInstance}
+use Rattle.flat_parts.specs.vlog_tree.Tree.{IdentOf, ExprOf, TargetOf, EventOf, PosedgeEvent, ImplicitEvent, AlwaysOf, InstanceOf}
+use Rattle.flat_parts.specs.vlog_tree.Tree.{ItemOf, WiresItem, DrivenWiresItem, RegsItem, LocalparamsItem, AssignItem, AlwaysItem, InstanceItem}
+use Rattle.flat_parts.specs.vlog_size.declared.scope.ScopeNet.{ScopeNet}
+use Rattle.flat_parts.specs.vlog_size.Names.{Readable}
+use Rattle.flat_parts.specs.vlog_size.Table.{Named, value_of}
+use Rattle.flat_parts.specs.vlog_names.Entries.{declared}
+use Rattle.flat_parts.specs.net_design.declared.design.Driver.{Driver}
+use Rattle.flat_parts.specs.net_design.Bits.{named}
+use Rattle.flat_parts.specs.vlog_block.Written.{always_writes}
+use Rattle.flat_parts.specs.vlog_latch.Blocks.{is_there}
+use Rattle.flat_parts.proofs.vlog_latch.There.{body_there}
+use Rattle.flat_parts.specs.vlog_names.Ports.{is_output}
+use Rattle.flat_parts.specs.vlog_meaning.Placed.{Placed, placed_items, names_at}
+use Rattle.flat_parts.specs.vlog_meaning.Settled.{event_writes, item_writes}
+use Rattle.flat_parts.specs.vlog_meaning.Items.{target_of}
+use Rattle.flat_parts.specs.vlog_driver.Sites.{Site, bits_at}
+use Rattle.flat_parts.specs.vlog_driver.Duties.{Duty, Assigns, Settles, Does, wire_duty, assign_duty, event_duties, output_duties, join_duties}
+use Rattle.flat_parts.specs.vlog_driver.Duties.{conn_duties}
+use Rattle.flat_parts.specs.vlog_driver.Held.{item_duties}
+use Rattle.flat_parts.specs.vlog_elab.Instances.{ModuleInstance}
 use Rattle.flat_parts.specs.Seats.{Seat, seats_of, site_at, seat_named}
 use Rattle.flat_parts.specs.Drivers.{joined_duties, child_duties, duties_at, placed_duties, seat_duties, all_duties}
 use Rattle.flat_parts.specs.State.{always_writes_bit}

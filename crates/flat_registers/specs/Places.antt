@@ -1,14 +1,14 @@
 -- The regs of the code as plain data, and as tables of names tell them.
 use Rattle.std.specs.Prelude.{◌≡◌, ℕ, ◌+◌, List, [], ◌∷◌, ◌++◌, length, map}
-use Rattle.vidi_bits.specs.Findings.{told_if}
-use Rattle.vlog_size.specs.declared.scope.ScopeNet.{ScopeNet}
-use Rattle.vlog_size.specs.Size.{or_zero}
-use Rattle.vlog_size.specs.Table.{Named, value_of}
-use Rattle.vlog_names.specs.Entries.{Names}
-use Rattle.vlog_names.specs.Ports.{is_reg}
-use Rattle.vlog_elab.specs.Instances.{ModuleInstance}
-use Rattle.vidi_bits.specs.Number.{has}
-use Rattle.net_design.specs.declared.design.Driver.{Driver}
+use Rattle.flat_parts.specs.vidi_bits.Findings.{told_if}
+use Rattle.flat_parts.specs.vlog_size.declared.scope.ScopeNet.{ScopeNet}
+use Rattle.flat_parts.specs.vlog_size.Size.{or_zero}
+use Rattle.flat_parts.specs.vlog_size.Table.{Named, value_of}
+use Rattle.flat_parts.specs.vlog_names.Entries.{Names}
+use Rattle.flat_parts.specs.vlog_names.Ports.{is_reg}
+use Rattle.flat_parts.specs.vlog_elab.Instances.{ModuleInstance}
+use Rattle.flat_parts.specs.vidi_bits.Number.{has}
+use Rattle.flat_parts.specs.net_design.declared.design.Driver.{Driver}
 use Rattle.flat_parts.specs.State.{RegPlace, regs_from, always_writes_bit}
 use Rattle.flat_registers.specs.declared.places.RegNet.{RegNet}
 

@@ -1,6 +1,6 @@
 -- Tables to which entries are added, each at the end; a name that is there keeps its value.
 use Rattle.std.specs.Prelude.{List, [], ◌∷◌}
-use Rattle.vlog_size.specs.Table.{Named, added}
+use Rattle.flat_parts.specs.vlog_size.Table.{Named, added}
 
 abbrev pub with_entries : {V : Type 0} → List (Named V) → List (Named V) → List (Named V)
 with_entries xs [] = xs

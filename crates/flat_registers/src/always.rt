@@ -1,14 +1,14 @@
 //! The bits that an `always @*` of the design may write.
 
 ghost use Rattle.std.specs.Prelude.{◌≡◌, ℕ, ◌||◌, ◌&&◌, OnOk, IfOk};
-ghost use Rattle.net_design.specs.Bits.{named};
-ghost use Rattle.net_code.specs.BitMap.{in_map};
+ghost use Rattle.flat_parts.specs.net_design.Bits.{named};
+ghost use Rattle.flat_parts.specs.net_code.BitMap.{in_map};
 ghost use Rattle.flat_parts.specs.State.{always_writes_bit};
 
-use net_code::BitMap;
-use net_design::{Driver, Mask};
+use flat_parts::net_code::BitMap;
+use flat_parts::net_design::{Driver, Mask};
+use flat_parts::vidi_bits::Memory;
 use std::alloc::Global;
-use vidi_bits::Memory;
 
 /// Adds the bits that masks name.
 fn add_masks(map: &mut BitMap, masks: &[Mask]) -> Result<(), Memory>

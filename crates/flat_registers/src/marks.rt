@@ -1,19 +1,19 @@
 //! Which nets of the flat design are regs.
 
 ghost use Rattle.std.specs.Prelude.{◌≡◌, ◌<◌, ◌++◌, ◌∷◌, [], OnOk, IfOk, Some, length, map, slice_get};
-ghost use Rattle.vlog_size.specs.declared.scope.ScopeNet.{ScopeNet};
-ghost use Rattle.vlog_size.specs.Table.{Named, value_of};
-ghost use Rattle.vlog_names.specs.Ports.{is_reg};
-ghost use Rattle.vlog_elab.specs.Plain.{plain_instance, plain_instances};
+ghost use Rattle.flat_parts.specs.vlog_size.declared.scope.ScopeNet.{ScopeNet};
+ghost use Rattle.flat_parts.specs.vlog_size.Table.{Named, value_of};
+ghost use Rattle.flat_parts.specs.vlog_names.Ports.{is_reg};
+ghost use Rattle.flat_parts.specs.vlog_elab.Plain.{plain_instance, plain_instances};
 ghost use Rattle.flat_parts.specs.Instances.{IsDeclaredIn, AreDeclaredIn};
 ghost use Rattle.flat_parts.specs.Seats.{seats_of};
 ghost use Rattle.flat_parts.specs.Marks as marks;
 
+use flat_parts::vidi_bits::{Items, Memory};
+use flat_parts::vlog_elab::ModuleInstance;
+use flat_parts::vlog_names::{Declarations, ModuleTable, is_reg};
+use flat_parts::vlog_size::ScopeNets;
 use std::alloc::Global;
-use vidi_bits::{Items, Memory};
-use vlog_elab::ModuleInstance;
-use vlog_names::{Declarations, ModuleTable, is_reg};
-use vlog_size::ScopeNets;
 
 /// Adds whether the net at this place is a reg.
 fn add_mark(

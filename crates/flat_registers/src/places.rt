@@ -1,21 +1,21 @@
 //! The regs of the flat design: their nets, widths and initial numbers.
 
 ghost use Rattle.std.specs.Prelude.{◌≡◌, ◌<◌, ◌+◌, ◌++◌, OnOk, IfOk, Some, length, slice_get};
-ghost use Rattle.vlog_size.specs.declared.scope.ScopeNet.{ScopeNet};
-ghost use Rattle.vlog_size.specs.Table.{Named, value_of};
-ghost use Rattle.vlog_size.specs.Size.{or_zero};
-ghost use Rattle.vlog_elab.specs.Plain.{plain_instance, plain_instances};
+ghost use Rattle.flat_parts.specs.vlog_size.declared.scope.ScopeNet.{ScopeNet};
+ghost use Rattle.flat_parts.specs.vlog_size.Table.{Named, value_of};
+ghost use Rattle.flat_parts.specs.vlog_size.Size.{or_zero};
+ghost use Rattle.flat_parts.specs.vlog_elab.Plain.{plain_instance, plain_instances};
 ghost use Rattle.flat_parts.specs.Instances.{IsDeclaredIn, AreDeclaredIn};
 ghost use Rattle.flat_parts.specs.Seats.{seats_of};
 ghost use Rattle.flat_parts.specs.State.{regs_from, all_regs};
 ghost use Rattle.flat_registers.specs.Places.{plain_places, reg_named, told_reg, told_regs};
 
 use crate::initials::initials_of;
+use flat_parts::vidi_bits::{Items, Memory};
+use flat_parts::vlog_elab::ModuleInstance;
+use flat_parts::vlog_names::{Declarations, ModuleTable, is_reg};
+use flat_parts::vlog_size::{ScopeNets, Table};
 use std::alloc::Global;
-use vidi_bits::{Items, Memory};
-use vlog_elab::ModuleInstance;
-use vlog_names::{Declarations, ModuleTable, is_reg};
-use vlog_size::{ScopeNets, Table};
 
 /// A reg of the flat design.
 #[derive(Clone, Copy)]

@@ -2,9 +2,9 @@
 
 ghost use Rattle.std.specs.Prelude.{◌≡◌, ℕ, List, IfOk};
 ghost use Rattle.std.specs.List.{AllZip};
-ghost use Rattle.net_design.specs.declared.design.Driver.{Driver};
-ghost use Rattle.net_code.specs.BitMap.{in_map};
-ghost use Rattle.vlog_elab.specs.Plain.{plain_instances};
+ghost use Rattle.flat_parts.specs.net_design.declared.design.Driver.{Driver};
+ghost use Rattle.flat_parts.specs.net_code.BitMap.{in_map};
+ghost use Rattle.flat_parts.specs.vlog_elab.Plain.{plain_instances};
 ghost use Rattle.flat_parts.specs.Instances.{AreDeclaredIn};
 ghost use Rattle.flat_parts.specs.Seats.{seats_of};
 ghost use Rattle.flat_parts.specs.State.{all_regs, always_writes_bit, IsRegisterOf};
@@ -12,12 +12,12 @@ ghost use Rattle.flat_registers.specs.Places.{plain_place, plain_places, IsWritt
 
 use crate::always::always_bits;
 use crate::places::{RegNet, reg_nets};
-use net_code::BitMap;
-use net_design::{Driver, Register};
+use flat_parts::net_code::BitMap;
+use flat_parts::net_design::{Driver, Register};
+use flat_parts::vidi_bits::{Items, Memory, ones};
+use flat_parts::vlog_elab::ModuleInstance;
+use flat_parts::vlog_names::ModuleTable;
 use std::alloc::Global;
-use vidi_bits::{Items, Memory, ones};
-use vlog_elab::ModuleInstance;
-use vlog_names::ModuleTable;
 
 /// The register of a reg, of which some `always @*` writes these bits. `Memory` where it hasn't 1 to 128 bits.
 fn register_of(reg: &RegNet, written: u128) -> Result<Register, Memory>

@@ -1,9 +1,9 @@
 //! The bits that code writes and reads.
 
 use crate::build::{Part, Step, Value, code_with_bits};
-use net_design::{Code, Mask, Timing};
+use net_sim::net_design::{Code, Mask, Timing};
+use net_sim::vidi_bits::Items;
 use std::alloc::Global;
-use vidi_bits::Items;
 
 // Nets, and bits of each.
 type Masks = &'static [(usize, u128)];

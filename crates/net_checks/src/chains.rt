@@ -1,11 +1,11 @@
 //! Orders of small graphs and of long chains, and loops.
 
 ghost use Rattle.std.specs.Prelude.{◌<◌, ◌↔◌, IsTrue, All, length};
-ghost use Rattle.net_order.specs.Graph.{IsGraph};
+ghost use Rattle.net_sim.specs.net_order.Graph.{IsGraph};
 
-use net_order::{OrderError, sorted};
+use net_sim::net_order::{OrderError, sorted};
+use net_sim::vidi_bits::Items;
 use std::alloc::Global;
-use vidi_bits::Items;
 
 // Adds a number that reads these. Answers, as all that adds here, whether memory was found.
 fn add_row(alloc: Global, graph: &mut Items<Items<usize>>, reads: &[usize]) -> bool {

@@ -1,6 +1,6 @@
 //! The numbers of operators, by IEEE 1364-2005, clause 5, and by hand.
 
-use vidi_bits::{BinaryOp, UnaryOp, binary, joined, selected, times, unary};
+use net_sim::vidi_bits::{BinaryOp, UnaryOp, binary, joined, selected, times, unary};
 
 // An operator of 8 bits, its operand, and what it makes.
 static ONE_OPERAND: [(UnaryOp, u128, u128); 9] = [

@@ -7,7 +7,7 @@ use Rattle.std.proofs.Math.Bool.{or-false, or_assoc}
 use Rattle.net_design.specs.declared.rhs.Span.{Span}
 use Rattle.net_design.specs.declared.act.Mask.{Mask}
 use Rattle.net_code.specs.declared.bit_map.BitMap.{BitMap}
-use Rattle.vidi_bits.specs.Number.{has}
+use Rattle.net_design.specs.vidi_bits.Number.{has}
 use Rattle.net_design.specs.declared.act.Place.{Place}
 use Rattle.net_design.specs.Bits.{BitSet, named, bits_of, place_reads, place_writes, target_reads, target_writes}
 use Rattle.net_code.specs.BitMap.{mask_of, in_map}

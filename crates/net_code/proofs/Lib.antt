@@ -9,3 +9,5 @@ pub mod RowBits
 pub mod WalkLaws
 pub mod TallyLaws
 pub mod TargetRows
+pub use Rattle.net_design.proofs as net_design
+pub use Rattle.net_design.proofs.vidi_bits as vidi_bits

@@ -4,7 +4,7 @@ use Rattle.std.proofs.Common.{sym, ◌∙◌, arith}
 use Rattle.std.specs.List.{list_any}
 use Rattle.std.proofs.lemmas.Bool.{eqb-true, eq-eqb, leb-true, le-leb, and_parts}
 use Rattle.std.proofs.Math.Bool.{and_assoc}
-use Rattle.vidi_bits.proofs.Bools.{and_none, same_test}
+use Rattle.net_design.proofs.vidi_bits.Bools.{and_none, same_test}
 use Rattle.net_design.specs.declared.rhs.Span.{Span}
 use Rattle.net_design.specs.declared.rhs.Rhs.{Rhs, Number, Bits, Word', Unary', Binary', Choose', Join', Repeat', Select'}
 use Rattle.net_design.specs.declared.act.Place.{Place}
@@ -15,7 +15,7 @@ use Rattle.net_design.specs.declared.act.Act.{more_of-Guard}
 use Rattle.net_design.specs.declared.act.Code.{Code}
 use Rattle.net_design.specs.declared.act.Timing.{Timing}
 use Rattle.net_design.specs.declared.act.Timing.TheVariants.{Blocking, Nonblocking}
-use Rattle.vidi_bits.specs.Number.{has}
+use Rattle.net_design.specs.vidi_bits.Number.{has}
 use Rattle.net_design.specs.Bits.{BitSet, no_bits, bits_of, named, reads, place_reads, place_writes, place_adds, target_reads}
 use Rattle.net_design.specs.Bits.{target_writes, target_adds, Apart, writes, writes_guards, writes_row, adds, adds_guards, adds_row}
 use Rattle.net_design.specs.Bits.{known_after, open_reads, open_reads_guards, open_reads_row}

@@ -16,9 +16,9 @@ use Rattle.net_design.specs.declared.values.Target.{Target}
 use Rattle.net_design.specs.declared.values.Target.TheVariants.{Net, Word as WordTarget}
 use Rattle.net_design.specs.declared.values.Update.{Update}
 use Rattle.net_design.specs.declared.values.Values.{Values}
-use Rattle.vidi_bits.specs.Number.{part_of, put_of, repeated}
+use Rattle.net_design.specs.vidi_bits.Number.{part_of, put_of, repeated}
 use Rattle.net_design.specs.Value.{read, word_at, value}
-use Rattle.vidi_bits.specs.Operators.{unary_number, binary_number}
+use Rattle.net_design.specs.vidi_bits.Operators.{unary_number, binary_number}
 use Rattle.net_design.specs.Updates.{written_to, apply, update, bit_updates, part_updates, word_updates, place_updates, place_width}
 use Rattle.net_design.specs.Updates.{target_width, target_updates, seen, updates, guard_row, act_row, block_updates, run}
 use Rattle.net_code.specs.Moved.{moved_span, moved_room, moved_rhs, moved_place, moved_act, moved_guards, moved_row, from_first}

@@ -5,7 +5,7 @@ use Rattle.std.specs.Option.{unwrap_or}
 use Rattle.std.specs.Ordering.{nat_cmp}
 use Rattle.std.specs.BTreeMap as tree
 use Rattle.net_code.specs.declared.bit_map.BitMap.{BitMap}
-use Rattle.vidi_bits.specs.Number.{has}
+use Rattle.net_design.specs.vidi_bits.Number.{has}
 use Rattle.net_design.specs.Bits.{BitSet}
 
 -- the mask of net m

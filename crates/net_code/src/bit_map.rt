@@ -1,14 +1,14 @@
 //! Sets of bits of nets, as a mask for each net.
 
 ghost use Rattle.std.specs.Prelude.{◌≡◌, ℕ, ◌==◌, ◌&&◌, ◌||◌, not, false, if◌then◌else◌, OnOk, IfOk};
-ghost use Rattle.vidi_bits.specs.Number.{has};
+ghost use Rattle.net_design.specs.vidi_bits.Number.{has};
 ghost use Rattle.net_design.specs.Bits.{named};
 ghost use Rattle.net_code.specs.BitMap.{mask_of, in_map, is_among};
 
 use net_design::Mask;
+use net_design::vidi_bits::{Items, Memory};
 use std::alloc::Global;
 use std::collections::BTreeMap;
-use vidi_bits::{Items, Memory};
 
 /// A set of bits of nets.
 #[derive(Drop)]

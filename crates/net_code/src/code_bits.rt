@@ -5,7 +5,7 @@
 
 ghost use Rattle.std.specs.Prelude.{◌≡◌, ℕ, ◌==◌, ◌&&◌, ◌||◌, ◌+◌, ◌≤◌, not, nat_le, nat_lt, List, [], OnOk, IfOk};
 ghost use Rattle.std.specs.List.{AllByRecursion};
-ghost use Rattle.vidi_bits.specs.Number.{has};
+ghost use Rattle.net_design.specs.vidi_bits.Number.{has};
 ghost use Rattle.net_design.specs.declared.act.Act.{Act};
 ghost use Rattle.net_design.specs.declared.act.Timing.{Timing};
 ghost use Rattle.net_code.specs.declared.code_bits.Found.{Found};
@@ -17,9 +17,9 @@ ghost use Rattle.net_code.specs.BitMap.{in_map};
 ghost use Rattle.net_code.specs.Found.{Reads, Learns, Walks, WalksChoice, Arm, AfterArms, learned, guard_writes, guard_adds, guard_reads};
 
 use crate::bit_map::BitMap;
+use net_design::vidi_bits::{Items, Memory, ones, put};
 use net_design::{Act, Code, Guard, Lhs, Mask, Place, Rhs, Span, Timing, see_branch};
 use std::alloc::Global;
-use vidi_bits::{Items, Memory, ones, put};
 
 /// What a walk found: the bits that statements may write, those that they read, and those that are surely assigned by now.
 #[derive(Drop)]

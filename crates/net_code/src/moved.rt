@@ -9,8 +9,8 @@ ghost use Rattle.net_code.specs.Moved.{IsNear, IsNearBlock, IsNearRhs, AreNearPl
 
 use crate::base::Base;
 use crate::sized::{acts_sized, places_sized, rhs_sized};
+use net_design::vidi_bits::Items;
 use net_design::{Act, Code, Guard, Lhs, Mask, Place, Rhs, Room, Span};
-use vidi_bits::Items;
 
 fn move_span(span: &mut Span, base: Base)
     requires { span.old.net < 2 ^ 32 }

@@ -3,16 +3,16 @@
 ghost use Rattle.std.specs.Prelude.{◌≡◌, ◌≤◌, ◌<◌, ◌↔◌, ◌&&◌, ◌^◌, IsTrue, All};
 ghost use Rattle.std.specs.List.{AllByRecursion};
 ghost use Rattle.net_design.specs.declared.act.Act.{Act};
-ghost use Rattle.vidi_bits.specs.Number.{IsWidth};
+ghost use Rattle.net_design.specs.vidi_bits.Number.{IsWidth};
 ghost use Rattle.net_design.specs.Sized.{IsShort, IsCountable, IsRhs, IsPlace, IsAct, IsBlock, AreGuards, IsSizedBlock};
 ghost use Rattle.net_design.specs.Updates.{target_width};
 ghost use Rattle.net_design.specs.Settled.{IsSized};
 
+use net_design::vidi_bits::Items;
 use net_design::{
     Act, Code, Design, Driver, Guard, Net, Place, Rhs, Room, Span, few_words, place_width,
     see_branch,
 };
-use vidi_bits::Items;
 
 /// Whether a width is 1 to 128.
 pub fn is_width(w: u32) -> bool

@@ -2,14 +2,14 @@
 
 ghost use Rattle.std.specs.Prelude.{◌≡◌, ℕ, ◌==◌, ◌&&◌, ◌||◌, false, OnOk};
 ghost use Rattle.std.specs.List.{list_any};
-ghost use Rattle.vidi_bits.specs.Number.{has};
+ghost use Rattle.net_design.specs.vidi_bits.Number.{has};
 ghost use Rattle.net_design.specs.Bits.{named};
 ghost use Rattle.net_code.specs.BitMap.{in_map, is_among};
 
 use crate::bit_map::BitMap;
 use net_design::Mask;
+use net_design::vidi_bits::Memory;
 use std::alloc::Global;
-use vidi_bits::Memory;
 
 /// What is named at least once, and what at least twice, as bits of nets. Of numbers that are named it is bit 0.
 #[derive(Drop)]

@@ -8,3 +8,4 @@ pub mod Names
 pub mod Lawful
 pub mod Example
 pub mod Pins
+pub use Rattle.vidi_bits.specs as vidi_bits

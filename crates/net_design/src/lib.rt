@@ -30,3 +30,4 @@ pub use laws::{
 pub use parts::{place_width, see_branch};
 pub use rhs::{Rhs, Room, Span};
 pub use values::{Target, Update, Values, number_at};
+pub use vidi_bits;

@@ -3,12 +3,12 @@ use Rattle.std.proofs.Common.{◌≡◌, ℕ, zero, suc, ◌+◌, ◌<◌, ◌�
 use Rattle.std.proofs.Common.{slice_get, ⊎_elim, refl, ap, sym, ◌∙◌, arith}
 use Rattle.std.proofs.lemmas.Bool.{cases_lt, eqb-true, lt-ltb, not-false}
 use Rattle.std.proofs.lemmas.Option.{same_Some}
-use Rattle.vidi_bits.specs.Findings.{told_if}
-use Rattle.net_design.specs.declared.act.Code.{Code}
-use Rattle.net_design.specs.declared.act.Place.{Place}
-use Rattle.net_design.specs.declared.design.Net.{Net}
-use Rattle.net_design.specs.declared.design.DesignMemory.{DesignMemory}
-use Rattle.net_design.specs.declared.design.Driver.{Driver}
+use Rattle.net_code.specs.vidi_bits.Findings.{told_if}
+use Rattle.net_code.specs.net_design.declared.act.Code.{Code}
+use Rattle.net_code.specs.net_design.declared.act.Place.{Place}
+use Rattle.net_code.specs.net_design.declared.design.Net.{Net}
+use Rattle.net_code.specs.net_design.declared.design.DesignMemory.{DesignMemory}
+use Rattle.net_code.specs.net_design.declared.design.Driver.{Driver}
 use Rattle.net_drive.specs.declared.findings.NetKind.{NetKind}
 use Rattle.net_drive.specs.declared.findings.NetKind.TheVariants.{Pin, Wire, Reg}
 use Rattle.net_drive.specs.declared.findings.Misdriven.{Misdriven}
@@ -16,8 +16,8 @@ use Rattle.net_code.specs.Targets.{nets_named, rooms_named, bit_count}
 use Rattle.net_drive.specs.Drive.{block_count, block_names, wire_places, kind_at, kind_faults, bit_faults, nets_from}
 use Rattle.net_drive.specs.Drive.{memory_at, memories_from, net_faults, memory_faults, drive_faults}
 use Rattle.net_drive.specs.Laws.{IsDriven}
-use Rattle.vidi_bits.proofs.Bools.{not_both}
-use Rattle.vidi_bits.proofs.Lists.{nil_left, nil_right}
+use Rattle.net_code.proofs.vidi_bits.Bools.{not_both}
+use Rattle.net_code.proofs.vidi_bits.Lists.{nil_left, nil_right}
 
 told_none : (b : Bool) (x : Misdriven) → told_if b x ≡ [] → b ≡ false
 told_none true x e = absurd (cc)

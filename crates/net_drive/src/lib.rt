@@ -11,4 +11,6 @@ mod targets;
 pub use drive::misdriven;
 pub use findings::{Misdriven, NetKind};
 pub use laws::{none_found_all_driven, none_found_memories_once};
+pub use net_code;
+pub use net_code::vidi_bits;
 pub use targets::named_nets;

@@ -1,8 +1,8 @@
 //! How often places name bits, and always blocks their regs and memories.
 
 ghost use Rattle.std.specs.Prelude.{◌≡◌, ℕ, ◌<◌, ◌≤◌, ◌+◌, ◌&&◌, ◌||◌, nat_le, nat_lt, min, IfOk, OnOk};
-ghost use Rattle.vidi_bits.specs.Number.{has};
-ghost use Rattle.net_design.specs.Bits.{bits_of, place_writes};
+ghost use Rattle.net_code.specs.vidi_bits.Number.{has};
+ghost use Rattle.net_code.specs.net_design.Bits.{bits_of, place_writes};
 ghost use Rattle.net_code.specs.BitMap.{in_map};
 ghost use Rattle.net_code.specs.Tally.{IsLowTally, IsKeyTally};
 ghost use Rattle.net_code.specs.Targets.{plain_places, bit_count};
@@ -10,9 +10,9 @@ ghost use Rattle.net_drive.specs.Drive.{block_count};
 ghost use Rattle.net_drive.specs.Tallied.{span_writes};
 
 use net_code::Tally;
-use net_design::{Place, Span};
+use net_code::net_design::{Place, Span};
+use net_code::vidi_bits::{Items, Memory, ones, put};
 use std::alloc::Global;
-use vidi_bits::{Items, Memory, ones, put};
 
 /// At most 128.
 pub fn capped(width: u32) -> u32

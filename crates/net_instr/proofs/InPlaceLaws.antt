@@ -8,8 +8,8 @@ use Rattle.std.proofs.lemmas.List.{length-map, length-drop, length-set, get_or-s
 use Rattle.std.proofs.lemmas.Grind.{same_number_lists}
 use Rattle.std.proofs.Math.ListN.{get_or-append}
 use Rattle.std.proofs.Math.Seq.{get_or-append_seam}
-use Rattle.vidi_bits.specs.Number.{part_of, put_of, difference, repeated, side_by_side, truth}
-use Rattle.vidi_bits.specs.Operators.{unary_number, binary_number}
+use Rattle.net_design.specs.vidi_bits.Number.{part_of, put_of, difference, repeated, side_by_side, truth}
+use Rattle.net_design.specs.vidi_bits.Operators.{unary_number, binary_number}
 use Rattle.net_instr.specs.declared.instr.Step.{Step}
 use Rattle.net_instr.specs.declared.instr.Step.TheVariants.{Number, Copy, Slice, And, Or, Xor, Add, Subtract, Less, Equal, LogicalNot}
 use Rattle.net_instr.specs.declared.instr.Step.TheVariants.{Unary, Binary, Choose, Join, Repeat, Select, Word}

@@ -2,11 +2,11 @@
 use Rattle.std.proofs.Common.{◌≡◌, ℕ, zero, suc, ◌+◌, ◌≤◌, ◌==◌, ◌&&◌, not, Bool, true, false, if◌then◌else◌}
 use Rattle.std.proofs.Common.{List, [], ◌∷◌, ◌++◌, slice_index, refl, arith}
 use Rattle.std.specs.List.{AllByRecursion}
-use Rattle.vidi_bits.specs.Number.{IsWidth}
-use Rattle.vidi_bits.specs.declared.operators.UnaryOp.{UnaryOp}
-use Rattle.vidi_bits.specs.declared.operators.UnaryOp.TheVariants as unary
-use Rattle.vidi_bits.specs.declared.operators.BinaryOp.{BinaryOp}
-use Rattle.vidi_bits.specs.declared.operators.BinaryOp.TheVariants as binary
+use Rattle.net_design.specs.vidi_bits.Number.{IsWidth}
+use Rattle.net_design.specs.vidi_bits.declared.operators.UnaryOp.{UnaryOp}
+use Rattle.net_design.specs.vidi_bits.declared.operators.UnaryOp.TheVariants as unary
+use Rattle.net_design.specs.vidi_bits.declared.operators.BinaryOp.{BinaryOp}
+use Rattle.net_design.specs.vidi_bits.declared.operators.BinaryOp.TheVariants as binary
 use Rattle.net_design.specs.declared.rhs.Rhs.{Rhs, Number, Bits, Word', Unary', Binary', Choose', Join', Repeat', Select'}
 use Rattle.net_design.specs.declared.act.Place.{Place}
 use Rattle.net_design.specs.declared.act.Place.TheVariants.{Bits as PlaceBits, BitsFrom, Word as PlaceWord, WordFrom}

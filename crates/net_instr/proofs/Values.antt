@@ -4,15 +4,15 @@ use Rattle.std.proofs.Common.{List, [], ◌∷◌, ◌++◌, length, take, slice
 use Rattle.std.proofs.Math.Nat.{div-one, mod-eq_of_lt}
 use Rattle.std.proofs.lemmas.Bool.{eqb-true, ltb-true, and_parts}
 use Rattle.std.proofs.lemmas.List.{get_or-set_same, length-set, take-set-le}
-use Rattle.vidi_bits.specs.Number.{part_of, repeated, side_by_side}
-use Rattle.vidi_bits.specs.Operators.{unary_number, binary_number}
-use Rattle.vidi_bits.specs.declared.operators.UnaryOp.{UnaryOp}
-use Rattle.vidi_bits.specs.declared.operators.UnaryOp.TheVariants.{Negate, Complement, LogicalNot, ReduceAnd, ReduceNand, ReduceOr}
-use Rattle.vidi_bits.specs.declared.operators.UnaryOp.TheVariants.{ReduceNor, ReduceXor, ReduceXnor}
-use Rattle.vidi_bits.specs.declared.operators.BinaryOp.{BinaryOp}
-use Rattle.vidi_bits.specs.declared.operators.BinaryOp.TheVariants.{Add, Subtract, Multiply, And, Or, Xor, Xnor, ShiftLeft}
-use Rattle.vidi_bits.specs.declared.operators.BinaryOp.TheVariants.{ShiftRight, Less, LessEqual, Greater, GreaterEqual, Equal}
-use Rattle.vidi_bits.specs.declared.operators.BinaryOp.TheVariants.{NotEqual, LogicalAnd, LogicalOr}
+use Rattle.net_design.specs.vidi_bits.Number.{part_of, repeated, side_by_side}
+use Rattle.net_design.specs.vidi_bits.Operators.{unary_number, binary_number}
+use Rattle.net_design.specs.vidi_bits.declared.operators.UnaryOp.{UnaryOp}
+use Rattle.net_design.specs.vidi_bits.declared.operators.UnaryOp.TheVariants.{Negate, Complement, LogicalNot, ReduceAnd, ReduceNand, ReduceOr}
+use Rattle.net_design.specs.vidi_bits.declared.operators.UnaryOp.TheVariants.{ReduceNor, ReduceXor, ReduceXnor}
+use Rattle.net_design.specs.vidi_bits.declared.operators.BinaryOp.{BinaryOp}
+use Rattle.net_design.specs.vidi_bits.declared.operators.BinaryOp.TheVariants.{Add, Subtract, Multiply, And, Or, Xor, Xnor, ShiftLeft}
+use Rattle.net_design.specs.vidi_bits.declared.operators.BinaryOp.TheVariants.{ShiftRight, Less, LessEqual, Greater, GreaterEqual, Equal}
+use Rattle.net_design.specs.vidi_bits.declared.operators.BinaryOp.TheVariants.{NotEqual, LogicalAnd, LogicalOr}
 use Rattle.net_design.specs.declared.rhs.Span.{Span}
 use Rattle.net_design.specs.declared.rhs.Room.{Room}
 use Rattle.net_design.specs.declared.rhs.Rhs.{Rhs, Number, Bits, Word', Unary', Binary', Choose', Join', Repeat', Select'}

@@ -5,12 +5,12 @@ use Rattle.std.proofs.Math.Pow.{pow_mono}
 use Rattle.std.proofs.lemmas.Bool.{leb-true, eqb-true, and_parts}
 use Rattle.std.proofs.lemmas.Nat.{or_lt, xor_lt, shr_split}
 use Rattle.std.specs.Int.Bits.{and_lt}
-use Rattle.vidi_bits.specs.Operators.{unary_number, binary_number}
-use Rattle.vidi_bits.specs.declared.operators.UnaryOp.{UnaryOp}
-use Rattle.vidi_bits.specs.declared.operators.UnaryOp.TheVariants as unary
-use Rattle.vidi_bits.specs.declared.operators.BinaryOp.{BinaryOp}
-use Rattle.vidi_bits.specs.declared.operators.BinaryOp.TheVariants as binary
-use Rattle.vidi_bits.proofs.Below.{rest_below, quotient_below, truth_bit, parity_bit, odd_bit, joined_below, complement_below}
+use Rattle.net_design.specs.vidi_bits.Operators.{unary_number, binary_number}
+use Rattle.net_design.specs.vidi_bits.declared.operators.UnaryOp.{UnaryOp}
+use Rattle.net_design.specs.vidi_bits.declared.operators.UnaryOp.TheVariants as unary
+use Rattle.net_design.specs.vidi_bits.declared.operators.BinaryOp.{BinaryOp}
+use Rattle.net_design.specs.vidi_bits.declared.operators.BinaryOp.TheVariants as binary
+use Rattle.net_design.proofs.vidi_bits.Below.{rest_below, quotient_below, truth_bit, parity_bit, odd_bit, joined_below, complement_below}
 use Rattle.net_design.specs.declared.rhs.Rhs.{Rhs, Number, Bits, Word', Unary', Binary', Choose', Join', Repeat', Select'}
 use Rattle.net_design.specs.declared.values.Values.{Values}
 use Rattle.net_design.specs.Value.{value}

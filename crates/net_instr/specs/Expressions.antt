@@ -2,10 +2,10 @@
 -- slot k after the nets. Code is listed from its last instruction to its first.
 use Rattle.std.specs.Prelude.{ℕ, ◌+◌, ◌≤◌, ◌<◌, ◌==◌, ◌&&◌, Bool, false, if◌then◌else◌}
 use Rattle.std.specs.Prelude.{List, [], ◌∷◌, ◌++◌, length, slice_index}
-use Rattle.vidi_bits.specs.declared.operators.UnaryOp.{UnaryOp}
-use Rattle.vidi_bits.specs.declared.operators.UnaryOp.TheVariants.{LogicalNot}
-use Rattle.vidi_bits.specs.declared.operators.BinaryOp.{BinaryOp}
-use Rattle.vidi_bits.specs.declared.operators.BinaryOp.TheVariants.{Add, Subtract, And, Or, Xor, Less, Equal}
+use Rattle.net_design.specs.vidi_bits.declared.operators.UnaryOp.{UnaryOp}
+use Rattle.net_design.specs.vidi_bits.declared.operators.UnaryOp.TheVariants.{LogicalNot}
+use Rattle.net_design.specs.vidi_bits.declared.operators.BinaryOp.{BinaryOp}
+use Rattle.net_design.specs.vidi_bits.declared.operators.BinaryOp.TheVariants.{Add, Subtract, And, Or, Xor, Less, Equal}
 use Rattle.net_design.specs.declared.rhs.Span.{Span}
 use Rattle.net_design.specs.declared.rhs.Room.{Room}
 use Rattle.net_design.specs.declared.rhs.Rhs.{Rhs, Number, Bits, Word', Unary', Binary', Choose', Join', Repeat', Select'}

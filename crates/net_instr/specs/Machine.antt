@@ -2,8 +2,8 @@
 use Rattle.std.specs.Prelude.{ℕ, zero, suc, ◌+◌, ◌-◌, ◌*◌, ◌/◌, ◌%◌, ◌^◌, ◌==◌, ◌≤◌, min, nat_lt, if◌then◌else◌}
 use Rattle.std.specs.Prelude.{◌<◌, bit_and, bit_or, bit_xor, List, [], ◌∷◌, slice_index, slice_set}
 use Rattle.std.specs.List.{AllByRecursion}
-use Rattle.vidi_bits.specs.Number.{IsWidth, part_of, put_of, difference, repeated, side_by_side, truth}
-use Rattle.vidi_bits.specs.Operators.{unary_number, binary_number}
+use Rattle.net_design.specs.vidi_bits.Number.{IsWidth, part_of, put_of, difference, repeated, side_by_side, truth}
+use Rattle.net_design.specs.vidi_bits.Operators.{unary_number, binary_number}
 use Rattle.net_instr.specs.declared.instr.Step.{Step}
 use Rattle.net_instr.specs.declared.instr.Step.TheVariants.{Number, Copy, Slice, And, Or, Xor, Add, Subtract, Less, Equal, LogicalNot}
 use Rattle.net_instr.specs.declared.instr.Step.TheVariants.{Unary, Binary, Choose, Join, Repeat, Select, Word}

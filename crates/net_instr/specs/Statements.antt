@@ -3,10 +3,10 @@
 -- they change the state.
 use Rattle.std.specs.Prelude.{ℕ, ◌+◌, ◌/◌, ◌^◌, ◌==◌, ◌&&◌, not, nat_le, Bool, false, if◌then◌else◌}
 use Rattle.std.specs.Prelude.{List, [], ◌∷◌, ◌++◌, length}
-use Rattle.vidi_bits.specs.declared.operators.UnaryOp.{UnaryOp}
-use Rattle.vidi_bits.specs.declared.operators.UnaryOp.TheVariants.{Negate, Complement}
-use Rattle.vidi_bits.specs.declared.operators.BinaryOp.{BinaryOp}
-use Rattle.vidi_bits.specs.declared.operators.BinaryOp.TheVariants.{Add, Subtract, Multiply, And, Or, Xor, Xnor, ShiftLeft, ShiftRight}
+use Rattle.net_design.specs.vidi_bits.declared.operators.UnaryOp.{UnaryOp}
+use Rattle.net_design.specs.vidi_bits.declared.operators.UnaryOp.TheVariants.{Negate, Complement}
+use Rattle.net_design.specs.vidi_bits.declared.operators.BinaryOp.{BinaryOp}
+use Rattle.net_design.specs.vidi_bits.declared.operators.BinaryOp.TheVariants.{Add, Subtract, Multiply, And, Or, Xor, Xnor, ShiftLeft, ShiftRight}
 use Rattle.net_design.specs.declared.rhs.Rhs.{Rhs, Number, Bits, Word', Unary', Binary', Choose', Join', Repeat', Select'}
 use Rattle.net_design.specs.declared.act.Place.{Place}
 use Rattle.net_design.specs.declared.act.Place.TheVariants.{Bits as PlaceBits, BitsFrom, Word as PlaceWord, WordFrom}

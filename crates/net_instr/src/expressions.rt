@@ -5,8 +5,8 @@ ghost use Rattle.net_instr.specs.Expressions.{unary_step, binary_step, is_whole,
 ghost use Rattle.net_instr.specs.Expressions.{step, taken, below, IsRhsThere, IsThere, HasRoom};
 
 use crate::instr::{Instr, Step};
+use net_design::vidi_bits::{BinaryOp, Items, Memory, UnaryOp};
 use net_design::{Rhs, Room, Span};
-use vidi_bits::{BinaryOp, Items, Memory, UnaryOp};
 
 /// Whether some more slots behind `t` can be named; without that there is no memory for them.
 pub fn more_slots(t: u32) -> Result<(), Memory>

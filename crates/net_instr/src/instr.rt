@@ -1,6 +1,6 @@
 //! Instructions: small steps over one list of numbers, the slots.
 
-use vidi_bits::{BinaryOp, UnaryOp};
+use net_design::vidi_bits::{BinaryOp, UnaryOp};
 
 /// What gives a number, from the numbers of slots. Where no other word stands, a field names a slot; widths are in bits.
 #[derive(Clone, Copy)]

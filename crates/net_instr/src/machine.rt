@@ -1,11 +1,13 @@
 //! The machine that runs instructions.
 
 ghost use Rattle.std.specs.Prelude.{◌≡◌, ◌+◌, ◌/◌, ◌^◌, ◌<◌, ◌≤◌, All, length, slice_index, slice_set, nat_lt, if◌then◌else◌};
-ghost use Rattle.vidi_bits.specs.Number.{IsWidth};
+ghost use Rattle.net_design.specs.vidi_bits.Number.{IsWidth};
 ghost use Rattle.net_instr.specs.Machine.{number_of, put_at, put_from, changed, skips, exec, IsStep, IsInstr};
 
 use crate::instr::{Instr, Step};
-use vidi_bits::{add_w, binary, joined, put, selected, shr_w, slice, sub_w, times, unary};
+use net_design::vidi_bits::{
+    add_w, binary, joined, put, selected, shr_w, slice, sub_w, times, unary,
+};
 
 /// The number of a slot, 0 past the last one.
 fn at(slots: &[u128], i: u32) -> u128

@@ -7,8 +7,8 @@ ghost use Rattle.net_instr.specs.Machine.{exec, IsInstr};
 ghost use Rattle.net_instr.specs.InPlace.{place, through, moved, moved_instr, most_left, IsFree, IsBehind, IsApart, ArePlaces, Follows, IsInPlace};
 
 use crate::instr::{Instr, Step};
+use net_design::vidi_bits::{Items, Memory};
 use std::alloc::Global;
-use vidi_bits::{Items, Memory};
 
 /// Code whose nets are read where their numbers come from.
 #[derive(Drop)]

@@ -18,8 +18,8 @@ ghost use Rattle.net_instr.specs.Statements.{IsPlaceThere, IsActThere, IsBlockTh
 
 use crate::expressions::{is_whole, lower, more_slots, slot, step, take};
 use crate::instr::{Instr, Step};
+use net_design::vidi_bits::{BinaryOp, Items, Memory, UnaryOp, shr_w};
 use net_design::{Act, Guard, Place, Rhs, Room, Span, place_width};
-use vidi_bits::{BinaryOp, Items, Memory, UnaryOp, shr_w};
 
 /// Whether an operator's number has at most `w` bits, whatever its operand has.
 fn unary_within(op: UnaryOp, width: u32, w: u32) -> bool

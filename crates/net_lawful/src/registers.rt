@@ -2,9 +2,9 @@
 
 ghost use Rattle.std.specs.Prelude.{◌≡◌, ℕ, ◌^◌, ◌<◌, ◌↔◌, IsTrue, false, All, IfOk};
 ghost use Rattle.std.specs.Int.{bit_at};
-ghost use Rattle.vidi_bits.specs.Number.{has};
-ghost use Rattle.net_design.specs.Settled.{held, net_width};
-ghost use Rattle.net_design.specs.Lawful.{IsRegister};
+ghost use Rattle.net_code.specs.vidi_bits.Number.{has};
+ghost use Rattle.net_code.specs.net_design.Settled.{held, net_width};
+ghost use Rattle.net_code.specs.net_design.Lawful.{IsRegister};
 ghost use Rattle.net_code.specs.BitMap.{in_map};
 ghost use Rattle.net_lawful.specs.Frame.{IsFramed};
 ghost use Rattle.net_lawful.specs.State.{NetsDiffer, HasState};
@@ -12,9 +12,9 @@ ghost use Rattle.net_lawful.specs.State.{NetsDiffer, HasState};
 use crate::frame::{is_input, net_width};
 use crate::masks::{fits, is_apart, is_within};
 use net_code::BitMap;
-use net_design::{Design, Register};
+use net_code::net_design::{Design, Register};
+use net_code::vidi_bits::Memory;
 use std::alloc::Global;
-use vidi_bits::Memory;
 
 /// Whether a number has no bit but those that are held.
 fn holds(held: u128, number: u128) -> bool

@@ -16,3 +16,5 @@ pub mod Settling
 pub mod Entered
 pub mod OneMap
 pub mod Known
+pub use Rattle.net_design.proofs as net_design
+pub use Rattle.net_design.proofs.vidi_bits as vidi_bits

@@ -5,7 +5,7 @@ use Rattle.std.proofs.Math.Nat.{div-eq_of_lt}
 use Rattle.std.proofs.lemmas.Bool.{cases_lt, eqb-true, eq-eqb}
 use Rattle.std.proofs.lemmas.Nat.{pow_pos, mod_below, shr_split}
 use Rattle.std.proofs.lemmas.Nat.Bits.{bit_at_and, bit_at-lt, same_from_bits}
-use Rattle.vidi_bits.specs.Number.{has}
+use Rattle.net_design.specs.vidi_bits.Number.{has}
 
 pub below_power : (n w : ℕ) → IsTrue (n / 2 ^ w == 0) ↔ (n < 2 ^ w)
 below_power n w = (

@@ -5,7 +5,7 @@ use Rattle.std.proofs.lemmas.Bool.{eqb-true, eq-eqb, and_parts, and_from}
 use Rattle.std.proofs.lemmas.List.Folds.{Any-from_list_any, list_any_at}
 use Rattle.net_design.specs.declared.design.Register.{Register}
 use Rattle.net_design.specs.declared.design.Design.{Design}
-use Rattle.vidi_bits.specs.Number.{has}
+use Rattle.net_design.specs.vidi_bits.Number.{has}
 use Rattle.net_design.specs.Settled.{held}
 
 -- the two lists of numbers have the same bits of a register

@@ -1,12 +1,12 @@
 //! The number of an expression.
 
 ghost use Rattle.std.specs.Prelude.{◌≡◌, ◌+◌, ◌<◌, ◌≤◌, ◌^◌, MatchOption, slice_index};
-ghost use Rattle.vidi_bits.specs.Number.{IsWidth};
+ghost use Rattle.net_design.specs.vidi_bits.Number.{IsWidth};
 ghost use Rattle.net_design.specs.Value.{value, word_at, read};
 ghost use Rattle.net_design.specs.Sized.{IsSizedRhs, IsCountable};
 
+use net_design::vidi_bits::{Numbers, binary, joined, selected, slice, times, unary};
 use net_design::{Rhs, Room, Span, Values, number_at};
-use vidi_bits::{Numbers, binary, joined, selected, slice, times, unary};
 
 pub fn read_bits(span: Span, values: &Values) -> u128
     requires { IsWidth span.width }

@@ -6,19 +6,19 @@ ghost use Rattle.std.specs.Int.{bit_at};
 ghost use Rattle.net_design.specs.declared.design.Net.{Net};
 ghost use Rattle.net_design.specs.declared.design.Direction.TheVariants.{Input, Output};
 ghost use Rattle.net_design.specs.declared.design.Register.{Register};
-ghost use Rattle.vidi_bits.specs.Number.{has};
+ghost use Rattle.net_design.specs.vidi_bits.Number.{has};
 ghost use Rattle.net_design.specs.Sized.{IsSizedBlock};
 ghost use Rattle.net_design.specs.Updates.{apply, block_updates, run};
 ghost use Rattle.net_design.specs.Settled.{IsSized, IsSettled, Keeps, FitNets, net_width, same_direction, pins_of};
 ghost use Rattle.net_design.specs.Settled.{held, next, initial, word_count};
 
 use crate::statement::{acts_updates, apply, copy};
+use net_design::vidi_bits::{Items, Memory, Numbers};
 use net_design::{
     Act, Design, Direction, Net, Port, Register, Timing, Values, count_words, initial_numbers,
     number_at, zeros,
 };
 use std::alloc::Global;
-use vidi_bits::{Items, Memory, Numbers};
 
 /// The width of net `m`, 0 past the last one.
 fn net_width(nets: &Items<Net>, m: usize) -> u32

@@ -3,7 +3,7 @@
 ghost use Rattle.std.specs.Prelude.{◌≡◌, ◌++◌, ◌+◌, ◌≤◌, ◌==◌, not, List, OnOk, IfOk, IfSome, All};
 ghost use Rattle.std.specs.List.{AllByRecursion};
 ghost use Rattle.std.specs.Option.{option_to_list, unwrap_or};
-ghost use Rattle.vidi_bits.specs.Number.{IsWidth};
+ghost use Rattle.net_design.specs.vidi_bits.Number.{IsWidth};
 ghost use Rattle.net_design.specs.Value.{value};
 ghost use Rattle.net_design.specs.Sized.{IsSizedRhs, IsSizedPlace, IsSizedAct, IsSizedBlock, AreSizedGuards};
 ghost use Rattle.net_design.specs.declared.values.Update.{Update};
@@ -11,11 +11,11 @@ ghost use Rattle.net_design.specs.Updates.{written, written_to, apply, bit_updat
 ghost use Rattle.net_design.specs.Updates.{target_width, target_updates, seen, updates, block_updates, guard_updates};
 
 use crate::expression::{value_of, word_in};
+use net_design::vidi_bits::{Items, Memory, Numbers, put, shr_w};
 use net_design::{
     Act, Guard, Place, Rhs, Target, Timing, Update, Values, number_at, place_width, see_branch,
 };
 use std::alloc::Global;
-use vidi_bits::{Items, Memory, Numbers, put, shr_w};
 
 /// A list of updates, in order.
 pub type Updates = Items<Update>;

@@ -14,4 +14,6 @@ mod slots;
 mod start;
 mod table;
 
+pub use net_order;
+pub use net_order::{net_design, vidi_bits};
 pub use sim::Sim;

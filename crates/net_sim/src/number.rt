@@ -3,8 +3,8 @@
 ghost use Rattle.std.specs.Prelude.{◌≡◌, ◌≤◌, length, slice_index};
 ghost use Rattle.net_instr.specs.InPlace.{place, through};
 
-use net_design::number_at;
-use vidi_bits::{Items, Numbers};
+use net_order::net_design::number_at;
+use net_order::vidi_bits::{Items, Numbers};
 
 /// The slot at which slot `i` is read.
 fn place_of_slot(places: &Items<u32>, i: usize) -> usize

@@ -1,19 +1,19 @@
 //! The words on cycles: the order of a design's drivers, its initial state, and what a state settles to.
 
 ghost use Rattle.std.specs.Prelude.{IfOk};
-ghost use Rattle.net_design.specs.Lawful.{IsLawful};
-ghost use Rattle.net_design.specs.Settled.{IsSized};
-ghost use Rattle.net_order.specs.Order.{IsOrder};
+ghost use Rattle.net_sim.specs.net_design.Lawful.{IsLawful};
+ghost use Rattle.net_sim.specs.net_design.Settled.{IsSized};
+ghost use Rattle.net_sim.specs.net_order.Order.{IsOrder};
 
 use crate::designs::print_net;
-use net_design::{Design, Direction, Timing, Values, lawful_is_sized, zeros};
-use net_order::{Order, OrderError, order};
-use net_reference::{after_block, initial_state, is_settled, next_state};
-use report_text::{Draft, Page, print_number, print_numbers};
+use net_sim::net_design::{Design, Direction, Timing, Values, lawful_is_sized, zeros};
+use net_sim::net_order::{Order, OrderError, order};
+use net_sim::vidi_bits::{Items, Name, Numbers};
 use std::alloc::Global;
-use vidi_bits::{Items, Name, Numbers};
-use vidi_io::Shelf;
-use vidi_lines::Line;
+use vlog_words::net_reference::{after_block, initial_state, is_settled, next_state};
+use vlog_words::report_text::{Draft, Page, print_number, print_numbers};
+use vlog_words::vidi_io::Shelf;
+use vlog_words::vidi_lines::Line;
 use vlog_words::{Ended, entry_of, lines_in, number_in};
 
 /// A state, and what is entered at the inputs: the file of a case.
@@ -119,7 +119,7 @@ pub(crate) fn order_of(alloc: Global, design: &Design) -> Result<Order, Ended>
     }
 }
 
-#[tactic(auto, using(net_design::proofs::LawfulCode::driver_sized))]
+#[tactic(auto, using(net_sim::net_design::proofs::LawfulCode::driver_sized))]
 fn run_driver(
     alloc: Global,
     design: &Design,

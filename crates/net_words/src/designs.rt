@@ -1,15 +1,15 @@
 //! Flat designs of design texts, and the full names of what is in them.
 
 ghost use Rattle.std.specs.Prelude.{IfOk};
-ghost use Rattle.net_design.specs.Lawful.{IsLawful};
+ghost use Rattle.net_sim.specs.net_design.Lawful.{IsLawful};
 
-use net_design::{Design, Instance};
-use report_text::{Draft, Page};
+use net_sim::net_design::{Design, Instance};
+use net_sim::vidi_bits::{Items, Memory, Name};
 use std::alloc::Global;
-use vidi_bits::{Items, Memory, Name};
-use vidi_io::Shelf;
 use vlog_design::elaborate;
-use vlog_elab::ElabError;
+use vlog_design::vlog_elab::ElabError;
+use vlog_words::report_text::{Draft, Page};
+use vlog_words::vidi_io::Shelf;
 use vlog_words::{Ended, tree_in};
 
 /// The design that a text means.

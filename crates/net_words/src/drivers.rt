@@ -1,9 +1,9 @@
 //! The words on code: the drivers and the clocked blocks of a design.
 
 use crate::designs::print_net;
-use net_design::{Code, Design, Mask};
-use report_text::{Draft, Page, print_number};
-use vidi_bits::{Items, Name};
+use net_sim::net_design::{Code, Design, Mask};
+use net_sim::vidi_bits::{Items, Name};
+use vlog_words::report_text::{Draft, Page, print_number};
 
 /// `drivers FILE TOP`: for each driver its line, `*` where it is an `always @*`, the bits that it writes, and those that it reads.
 pub(crate) fn print_drivers(design: &Design, paths: &Items<Name>, page: &mut Draft) {

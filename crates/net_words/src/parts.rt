@@ -1,9 +1,9 @@
 //! The words on the nets of a design, and on its ports, clock, registers and memories.
 
 use crate::designs::{print_name, print_net};
-use net_design::{Design, Direction};
-use report_text::{Draft, Page, print_number};
-use vidi_bits::{Items, Name};
+use net_sim::net_design::{Design, Direction};
+use net_sim::vidi_bits::{Items, Name};
+use vlog_words::report_text::{Draft, Page, print_number};
 
 /// `nets FILE TOP`: the full name and the width of each net, a line each.
 pub(crate) fn print_nets(design: &Design, paths: &Items<Name>, page: &mut Draft) {

@@ -1,19 +1,19 @@
 //! The word on runs: nets by name while the simulator runs a design, beside what the definitions give.
 
 ghost use Rattle.std.specs.Prelude.{IfOk, IsTrue};
-ghost use Rattle.net_design.specs.Lawful.{IsLawful};
-ghost use Rattle.net_design.specs.Pins.{FitPins};
+ghost use Rattle.net_sim.specs.net_design.Lawful.{IsLawful};
+ghost use Rattle.net_sim.specs.net_design.Pins.{FitPins};
 
 use crate::cycles::{Cycle, cycle_in, order_of, settled_by_order};
 use crate::designs::{path_at, paths};
-use net_design::{Block, Design, Values, lawful_is_sized, number_at};
-use net_reference::{initial_state, is_settled, next_state};
 use net_sim::Sim;
-use report_text::{Draft, Page, print_number};
+use net_sim::net_design::{Block, Design, Values, lawful_is_sized, number_at};
+use net_sim::vidi_bits::{Items, Memory, Name};
 use std::alloc::Global;
-use vidi_bits::{Items, Memory, Name};
-use vidi_io::{Shelf, Text};
 use vlog_words::Ended;
+use vlog_words::net_reference::{initial_state, is_settled, next_state};
+use vlog_words::report_text::{Draft, Page, print_number};
+use vlog_words::vidi_io::{Shelf, Text};
 
 /// The most cycles of a run.
 const MOST_CYCLES: u32 = 1000;

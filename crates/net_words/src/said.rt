@@ -1,11 +1,11 @@
 //! How a call ends: what is said, and the exit number.
 
 use crate::answers::answer;
-use report_text::{Draft, Word, reason_line};
+use net_sim::vidi_bits::{Bytes, Memory};
 use std::alloc::Global;
-use vidi_bits::{Bytes, Memory};
-use vidi_io::{Failed, Shelf, Sink, Words};
 use vlog_words::Ended;
+use vlog_words::report_text::{Draft, Word, reason_line};
+use vlog_words::vidi_io::{Failed, Shelf, Sink, Words};
 
 /// What is said where no memory was found.
 const NO_MEMORY: &[u8] = b"vidi: out of memory\n";

@@ -1,6 +1,6 @@
 -- Feeds of the stage's channels.
 use Rattle.std.proofs.Common.{ℕ, ◌<◌, [], ◌∷◌, arith, refl}
-use Rattle.chan_replayer.specs.Feed.{IsFeedOver}
+use Rattle.replay_run.specs.chan_replayer.Feed.{IsFeedOver}
 use Rattle.sample_designs.specs.Stage.{stage_channels}
 
 pub feed_over : (more a b c d content : ℕ) → more < 4 → content < 256

@@ -1,25 +1,25 @@
 //! Replays, compared with the rows of the definitions.
 
 ghost use Rattle.std.specs.Prelude.{◌≡◌, ◌<◌, ◌≤◌, ◌^◌, IfSome, length};
-ghost use Rattle.trace_code.specs.Encoding.{Encodes, HasEncoding};
-ghost use Rattle.run_model.specs.Building.{PortsAreNets};
-ghost use Rattle.run_model.specs.MapOf.{IsMapOf};
+ghost use Rattle.replay_run.specs.trace_code.Encoding.{Encodes, HasEncoding};
+ghost use Rattle.run_reference.specs.run_model.Building.{PortsAreNets};
+ghost use Rattle.run_reference.specs.run_model.MapOf.{IsMapOf};
 
 use crate::traces::trace_of;
 use crate::watched::Watched;
-use chan_map::Map;
-use chan_replayer::{ReplayMachines, ReplayShell};
-use net_sim::Sim;
+use replay_run::chan_replayer::{ReplayMachines, ReplayShell};
+use replay_run::trace_code::decode;
 use replay_run::{ReplayOutcome, Replayed, replay};
-use run_model::Held;
-use run_reference::{held, replay_rows, waits};
-use sample_designs::{Sample, Stage, sample_stage};
-use std::alloc::Global;
-use trace_code::decode;
-use trace_model::{
+use run_reference::chan_map::Map;
+use run_reference::run_model::Held;
+use run_reference::trace_model::{
     Channel, Channels, Event, Packet, Row, Rows, Trace, is_over, names, same_channels,
     split_content, unstable,
 };
+use run_reference::{held, replay_rows, waits};
+use sample_designs::net_sim::Sim;
+use sample_designs::{Sample, Stage, sample_stage};
+use std::alloc::Global;
 
 /// The trace of these bytes.
 fn decoded(alloc: Global, bytes: &[u8]) -> Option<Trace>

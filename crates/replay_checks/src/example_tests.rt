@@ -4,7 +4,7 @@ use crate::agreeing::{Seen, see_replay};
 use crate::reference_tests::{holds_second, is_first_of_b};
 use crate::traces::{LAST_END_MISSING, NONE, ONE, ROUND, STARTS, THREE, TWO, trace_of};
 use replay_run::ReplayOutcome;
-use run_model::Held;
+use run_reference::run_model::Held;
 use sample_designs::Sample;
 use std::alloc::Global;
 

@@ -2,15 +2,15 @@
 //! a row are its gates, valids, readies, starts and ends.
 
 ghost use Rattle.std.specs.Prelude.{◌<◌, ◌^◌, length};
-ghost use Rattle.trace_code.specs.Encoding.{HasEncoding};
+ghost use Rattle.replay_run.specs.trace_code.Encoding.{HasEncoding};
 
 use crate::agreeing::{rows_of, trace_with};
 use crate::traces::{BARE, LAST_END_MISSING, THREE, TWO};
-use run_model::Held;
+use run_reference::run_model::Held;
+use run_reference::trace_model::{Event, Kind, Row, Trace};
 use run_reference::{held, waits};
 use sample_designs::{Sample, is_row};
 use std::alloc::Global;
-use trace_model::{Event, Kind, Row, Trace};
 
 /// Whether an event is this one.
 fn is_event(event: Event, channel: usize, kind: Kind, index: u32) -> bool {

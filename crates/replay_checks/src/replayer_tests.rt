@@ -1,21 +1,21 @@
 //! Replayers and monitors round designs of two channels, which are fed by hand.
 
 ghost use Rattle.std.specs.Prelude.{◌≡◌, ◌<◌, ◌≤◌, ◌+◌, IfOk, length};
-ghost use Rattle.run_model.specs.Building.{PortsAreNets};
-ghost use Rattle.run_model.specs.MapOf.{IsMapOf};
-ghost use Rattle.chan_replayer.specs.Feed.{IsFeedOver};
+ghost use Rattle.run_reference.specs.run_model.Building.{PortsAreNets};
+ghost use Rattle.run_reference.specs.run_model.MapOf.{IsMapOf};
+ghost use Rattle.replay_run.specs.chan_replayer.Feed.{IsFeedOver};
 ghost use Rattle.sample_designs.specs.Stage.{stage_channels};
 
 use crate::agreeing::{rows_of, trace_with};
 use crate::traces::{LAST_END_MISSING, THREE};
 use crate::watched::Watched;
-use chan_map::Map;
-use chan_replayer::{Feed, Needs, ReplayMachines, ReplayShell};
-use net_sim::Sim;
+use replay_run::chan_replayer::{Feed, Needs, ReplayMachines, ReplayShell};
+use run_reference::chan_map::Map;
+use run_reference::trace_model::{Row, row_over};
+use run_reference::vidi_bits::{Memory, Numbers};
+use sample_designs::net_sim::Sim;
 use sample_designs::{Sample, Stage, two_channel_stage};
 use std::alloc::Global;
-use trace_model::{Row, row_over};
-use vidi_bits::{Memory, Numbers};
 
 /// What a shell does.
 #[derive(Clone, Copy, Drop)]

@@ -1,8 +1,8 @@
 //! Traces as bytes.
 
+use run_reference::trace_model::names;
 use sample_designs::Sample;
 use std::alloc::Global;
-use trace_model::names;
 
 const TWO_HEADER: &[u8] = b"VIDITRC1\x02\x00\x01a\x01\x08\x01\x01b\x01\x08";
 

@@ -2,8 +2,8 @@
 
 ghost use Rattle.std.specs.Prelude.{◌≡◌};
 
-use chan_replayer::{Feed, ReplayShell};
-use trace_model::Row;
+use replay_run::chan_replayer::{Feed, ReplayShell};
+use run_reference::trace_model::Row;
 
 /// Whether both rows are the same.
 pub(crate) fn are_same(a: &Row, b: &Row) -> bool {

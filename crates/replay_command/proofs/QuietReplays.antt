@@ -1,23 +1,23 @@
 -- The command `replay`: no failed write among its answers, and the same where no read failed.
 use Rattle.std.proofs.Common.{◌≡◌, ℕ, List, Option, inl, inr}
-use Rattle.trace_model.specs.declared.channel.Channel.{Channel}
-use Rattle.trace_model.specs.declared.trace.Trace.{Trace}
-use Rattle.trace_model.specs.Recording.{trace_of}
-use Rattle.chan_map.specs.declared.pins.Map.{Map}
-use Rattle.vidi_io.specs.Shelf.{Files}
+use Rattle.replay_run.specs.trace_model.declared.channel.Channel.{Channel}
+use Rattle.replay_run.specs.trace_model.declared.trace.Trace.{Trace}
+use Rattle.replay_run.specs.trace_model.Recording.{trace_of}
+use Rattle.replay_run.specs.chan_map.declared.pins.Map.{Map}
+use Rattle.trace_commands.specs.vidi_io.Shelf.{Files}
 use Rattle.replay_run.specs.declared.outcome.ReplayOutcome.{ReplayOutcome}
 use Rattle.replay_run.specs.declared.outcome.ReplayOutcome.TheVariants as outcomes
-use Rattle.report_text.specs.declared.reason.Word.TheVariants as words
-use Rattle.report_text.specs.declared.reason.Reason.TheVariants.{OtherChannels}
-use Rattle.vidi_bench.specs.declared.status.Status.{Status}
-use Rattle.vidi_bench.specs.declared.status.Status.TheVariants.{WriteFault, Short, Unstable}
-use Rattle.vidi_bench.specs.Design.{text_limit}
-use Rattle.vidi_bench.specs.Reading.{Reading}
+use Rattle.trace_commands.specs.report_text.declared.reason.Word.TheVariants as words
+use Rattle.trace_commands.specs.report_text.declared.reason.Reason.TheVariants.{OtherChannels}
+use Rattle.trace_commands.specs.vidi_bench.declared.status.Status.{Status}
+use Rattle.trace_commands.specs.vidi_bench.declared.status.Status.TheVariants.{WriteFault, Short, Unstable}
+use Rattle.trace_commands.specs.vidi_bench.Design.{text_limit}
+use Rattle.trace_commands.specs.vidi_bench.Reading.{Reading}
 use Rattle.replay_command.specs.Replays.{RefusedTrace, RefusedReplay, IsUnreplayed, IsReplaySaid, Replays}
 use Rattle.replay_command.specs.Said.{replayed_line}
 use Rattle.trace_commands.specs.Traces.{trace_limit, HasOtherChannels}
-use Rattle.vidi_bench.proofs.Quiet.{Mute, mute-reading, mute-refusal, quiet-reading}
-use Rattle.vidi_bench.proofs.QuietTexts.{mute-wiring}
+use Rattle.trace_commands.proofs.vidi_bench.Quiet.{Mute, mute-reading, mute-refusal, quiet-reading}
+use Rattle.trace_commands.proofs.vidi_bench.QuietTexts.{mute-wiring}
 use Rattle.trace_commands.proofs.QuietTraces.{mute-decoding, mute-verdict}
 
 -- ---- no failed write

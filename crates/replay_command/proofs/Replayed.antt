@@ -1,21 +1,21 @@
 -- From the texts of a replay, and from the replay, to the answer of `replay`.
 use Rattle.std.proofs.Common.{◌≡◌, ℕ, List, Option, Result, Ok, Err, inr, sym, subst, ◌∙◌}
 use Rattle.std.specs.Prelude.{IfOk, IfErr}
-use Rattle.trace_model.specs.declared.trace.Trace.{Trace}
-use Rattle.trace_model.specs.Recording.{trace_of}
-use Rattle.trace_code.specs.Encoding.{Encodes, encode}
-use Rattle.vidi_io.specs.Shelf.{Files}
-use Rattle.vidi_io.proofs.Cut.{cut-knowing}
-use Rattle.vidi_bench.specs.declared.answer.Answer.{Answer}
-use Rattle.vidi_bench.specs.declared.answer.Ended.{Ended}
-use Rattle.vidi_bench.specs.declared.answer.Ended.TheVariants as ends
-use Rattle.vidi_bench.specs.declared.device.Device.{Device}
+use Rattle.replay_run.specs.trace_model.declared.trace.Trace.{Trace}
+use Rattle.replay_run.specs.trace_model.Recording.{trace_of}
+use Rattle.replay_run.specs.trace_code.Encoding.{Encodes, encode}
+use Rattle.trace_commands.specs.vidi_io.Shelf.{Files}
+use Rattle.trace_commands.proofs.vidi_io.Cut.{cut-knowing}
+use Rattle.trace_commands.specs.vidi_bench.declared.answer.Answer.{Answer}
+use Rattle.trace_commands.specs.vidi_bench.declared.answer.Ended.{Ended}
+use Rattle.trace_commands.specs.vidi_bench.declared.answer.Ended.TheVariants as ends
+use Rattle.trace_commands.specs.vidi_bench.declared.device.Device.{Device}
 use Rattle.replay_command.specs.declared.replaying.Replayable.{Replayable}
-use Rattle.vidi_bench.specs.AnswerText.{text_of}
-use Rattle.vidi_bench.specs.Design.{text_limit}
-use Rattle.vidi_bench.specs.Devices.{IsDevice}
-use Rattle.vidi_bench.specs.Ended.{IsStopped, Owes}
-use Rattle.vidi_bench.specs.Reading.{IsRead}
+use Rattle.trace_commands.specs.vidi_bench.AnswerText.{text_of}
+use Rattle.trace_commands.specs.vidi_bench.Design.{text_limit}
+use Rattle.trace_commands.specs.vidi_bench.Devices.{IsDevice}
+use Rattle.trace_commands.specs.vidi_bench.Ended.{IsStopped, Owes}
+use Rattle.trace_commands.specs.vidi_bench.Reading.{IsRead}
 use Rattle.replay_command.specs.Replays.{CutsReplay, IsReplayable, Replays, ReplaysTrace, StopsReplaying}
 use Rattle.trace_commands.specs.Traces.{trace_limit}
 

@@ -1,25 +1,25 @@
 -- What `replay DESIGN MAP TRACE CYCLES OUT` owes: each step of it in its order, and what is left in OUT.
 use Rattle.std.specs.Prelude.{◌≡◌, ℕ, ◌⊎◌, List, Option}
-use Rattle.vidi_io.specs.Shelf.{Files, holding}
-use Rattle.vidi_io.specs.Writing.{IsCutOff}
-use Rattle.trace_model.specs.declared.row.Row.{Row}
-use Rattle.trace_model.specs.declared.trace.Trace.{Trace}
-use Rattle.trace_model.specs.Recording.{trace_of}
-use Rattle.trace_code.specs.Encoding.{Encodes, encode}
-use Rattle.chan_map.specs.declared.pins.Map.{Map}
+use Rattle.trace_commands.specs.vidi_io.Shelf.{Files, holding}
+use Rattle.trace_commands.specs.vidi_io.Writing.{IsCutOff}
+use Rattle.replay_run.specs.trace_model.declared.row.Row.{Row}
+use Rattle.replay_run.specs.trace_model.declared.trace.Trace.{Trace}
+use Rattle.replay_run.specs.trace_model.Recording.{trace_of}
+use Rattle.replay_run.specs.trace_code.Encoding.{Encodes, encode}
+use Rattle.replay_run.specs.chan_map.declared.pins.Map.{Map}
 use Rattle.replay_run.specs.declared.outcome.ReplayOutcome.{ReplayOutcome}
 use Rattle.replay_run.specs.declared.outcome.ReplayOutcome.TheVariants as outcomes
 use Rattle.replay_run.specs.Replaying.{EndsAs}
-use Rattle.report_text.specs.Short.{short_lines}
-use Rattle.report_text.specs.declared.reason.Word.TheVariants as words
-use Rattle.vidi_bench.specs.declared.device.Device.{Device}
-use Rattle.vidi_bench.specs.declared.status.Status.{Status}
-use Rattle.vidi_bench.specs.declared.status.Status.TheVariants.{Short, Unstable}
-use Rattle.vidi_bench.specs.Design.{text_limit}
-use Rattle.vidi_bench.specs.Devices.{IsDevice, Wiring}
-use Rattle.vidi_bench.specs.Reading.{IsRead, Reading}
+use Rattle.trace_commands.specs.report_text.Short.{short_lines}
+use Rattle.trace_commands.specs.report_text.declared.reason.Word.TheVariants as words
+use Rattle.trace_commands.specs.vidi_bench.declared.device.Device.{Device}
+use Rattle.trace_commands.specs.vidi_bench.declared.status.Status.{Status}
+use Rattle.trace_commands.specs.vidi_bench.declared.status.Status.TheVariants.{Short, Unstable}
+use Rattle.trace_commands.specs.vidi_bench.Design.{text_limit}
+use Rattle.trace_commands.specs.vidi_bench.Devices.{IsDevice, Wiring}
+use Rattle.trace_commands.specs.vidi_bench.Reading.{IsRead, Reading}
 use Rattle.replay_command.specs.Said.{replayed_line, unstable_line}
-use Rattle.vidi_bench.specs.Steps.{Ending, IsSaid}
+use Rattle.trace_commands.specs.vidi_bench.Steps.{Ending, IsSaid}
 use Rattle.trace_commands.specs.Traces.{trace_limit, Decoding, HasOtherChannels, IsVerdict}
 
 -- ---- what ends the command before anything is replayed

@@ -1,6 +1,6 @@
 -- *Said*: what `replay` prints (this project's profile). Every line ends with a newline, and numbers are decimal.
 use Rattle.std.specs.Prelude.{ℕ, List, ◌++◌, codes, decimal}
-use Rattle.report_text.specs.Text.{newline}
+use Rattle.trace_commands.specs.report_text.Text.{newline}
 pub use Rattle.run_commands.specs.Said.{unstable_line}
 
 -- `replayed N cycles, no divergence`

@@ -1,45 +1,45 @@
 //! The command `replay`.
 
 ghost use Rattle.std.specs.Prelude.{◌≡◌, ◌≤◌, List, Ok, IfOk, IfErr, length};
-ghost use Rattle.trace_model.specs.declared.row.Row.{Row as OneRow};
-ghost use Rattle.trace_model.specs.declared.trace.Trace.{Trace as OneTrace};
-ghost use Rattle.trace_model.specs.Recording.{trace_of};
-ghost use Rattle.trace_code.specs.Encoding.{Encodes, HasEncoding};
-ghost use Rattle.net_design.specs.Lawful.{IsLawful};
-ghost use Rattle.net_order.specs.Order.{IsOrder};
-ghost use Rattle.run_model.specs.MapOf.{IsMapOf};
+ghost use Rattle.replay_run.specs.trace_model.declared.row.Row.{Row as OneRow};
+ghost use Rattle.replay_run.specs.trace_model.declared.trace.Trace.{Trace as OneTrace};
+ghost use Rattle.replay_run.specs.trace_model.Recording.{trace_of};
+ghost use Rattle.replay_run.specs.trace_code.Encoding.{Encodes, HasEncoding};
+ghost use Rattle.replay_run.specs.net_design.Lawful.{IsLawful};
+ghost use Rattle.run_commands.specs.net_order.Order.{IsOrder};
+ghost use Rattle.replay_run.specs.run_model.MapOf.{IsMapOf};
 ghost use Rattle.replay_run.specs.Replaying.{EndsAs};
-ghost use Rattle.script_text.specs.declared.script.TheConstants.{MOST_CYCLES};
-ghost use Rattle.vidi_io.specs.Cause.{Rose};
-ghost use Rattle.vidi_io.specs.Shelf.{Later};
-ghost use Rattle.vidi_bench.specs.AnswerText.{text_of};
-ghost use Rattle.vidi_bench.specs.Design.{text_limit};
-ghost use Rattle.vidi_bench.specs.Devices.{IsDevice, IsRunnable};
-ghost use Rattle.vidi_bench.specs.Ended.{EndsWith, IsStopped, Owes};
+ghost use Rattle.run_commands.specs.script_text.declared.script.TheConstants.{MOST_CYCLES};
+ghost use Rattle.trace_commands.specs.vidi_io.Cause.{Rose};
+ghost use Rattle.trace_commands.specs.vidi_io.Shelf.{Later};
+ghost use Rattle.trace_commands.specs.vidi_bench.AnswerText.{text_of};
+ghost use Rattle.trace_commands.specs.vidi_bench.Design.{text_limit};
+ghost use Rattle.trace_commands.specs.vidi_bench.Devices.{IsDevice, IsRunnable};
+ghost use Rattle.trace_commands.specs.vidi_bench.Ended.{EndsWith, IsStopped, Owes};
 ghost use Rattle.replay_command.specs.Replays.{CutsReplay, IsReplayable, IsReplaySaid, IsTheReplay, IsUnreplayed};
 ghost use Rattle.replay_command.specs.Replays.{RefusedReplay, RefusedTrace, Replays, ReplaysTrace, StopsReplaying};
 ghost use Rattle.replay_command.specs.Said as said;
-ghost use Rattle.vidi_bench.specs.Steps.{IsSaid};
+ghost use Rattle.trace_commands.specs.vidi_bench.Steps.{IsSaid};
 ghost use Rattle.trace_commands.specs.Traces.{IsVerdict};
 
-use chan_map::Map;
-use chan_replayer::ReplayMachines;
-use net_design::{Block, Design};
-use net_order::Order;
-use net_sim::Sim;
+use replay_run::chan_map::Map;
+use replay_run::chan_replayer::ReplayMachines;
+use replay_run::net_design::{Block, Design};
+use replay_run::trace_code::{CodeError, TRACE_LIMIT, decode};
+use replay_run::trace_model::{Trace, same_channels};
+use replay_run::vidi_bits::{Bytes, Memory};
 use replay_run::{ReplayOutcome, Replayed};
-use report_text::{put, put_number, short_lines};
+use run_commands::net_order::Order;
+use run_commands::net_sim::Sim;
 use run_commands::unstable;
 use std::alloc::Global;
-use trace_code::{CodeError, TRACE_LIMIT, decode};
-use trace_commands::{diverged, trace_of};
-use trace_model::{Trace, same_channels};
-use vidi_bench::{
+use trace_commands::report_text::{put, put_number, short_lines};
+use trace_commands::vidi_bench::{
     Answer, Device, Ended, Reason, Status, TEXT_LIMIT, Word, device_of, read_file, refused,
     with_bytes,
 };
-use vidi_bits::{Bytes, Memory};
-use vidi_io::{Failed, Shelf, write_whole};
+use trace_commands::vidi_io::{Failed, Shelf, write_whole};
+use trace_commands::{diverged, trace_of};
 
 /// What is replayed: a device, and a trace with the bytes that encode it.
 #[derive(Drop)]
@@ -246,7 +246,7 @@ fn verdict(alloc: Global, trace: &Trace, written: &[u8], cycles: u32) -> Result<
         → IsVerdict (said.replayed_line cycles) trace.now u a.status (text_of a.text)) }
 {
     let other = decoded(alloc, written)?;
-    let report = trace_compare::compare(alloc, trace, &other)?;
+    let report = trace_commands::trace_compare::compare(alloc, trace, &other)?;
     if report.is_empty() {
         return whole(alloc, cycles);
     }

@@ -1,20 +1,20 @@
 -- What is answered behind the last cycle, over plain values.
 use Rattle.std.proofs.Common.{◌≡◌, ℕ, ◌+◌, ◌≤◌, List, length, cond, ap, sym, subst, ◌∙◌, arith}
-use Rattle.trace_model.specs.declared.channel.Channel.{Channel}
-use Rattle.trace_model.specs.declared.packet.Packet.{Packet}
-use Rattle.trace_model.specs.declared.row.Row.{Row}
-use Rattle.trace_model.specs.declared.trace.Trace.{Trace}
-use Rattle.trace_model.specs.Channel.{IsTable}
-use Rattle.trace_model.specs.Recording.{trace_of}
-use Rattle.trace_model.specs.Row.{row_before}
-use Rattle.trace_model.specs.Trace.{IsWellFormed}
+use Rattle.trace_code.specs.trace_model.declared.channel.Channel.{Channel}
+use Rattle.trace_code.specs.trace_model.declared.packet.Packet.{Packet}
+use Rattle.trace_code.specs.trace_model.declared.row.Row.{Row}
+use Rattle.trace_code.specs.trace_model.declared.trace.Trace.{Trace}
+use Rattle.trace_code.specs.trace_model.Channel.{IsTable}
+use Rattle.trace_code.specs.trace_model.Recording.{trace_of}
+use Rattle.trace_code.specs.trace_model.Row.{row_before}
+use Rattle.trace_code.specs.trace_model.Trace.{IsWellFormed}
 use Rattle.trace_code.specs.Encoding.{encode, HasEncoding}
-use Rattle.net_design.specs.declared.design.Design.{Design}
-use Rattle.net_design.specs.declared.values.Values.{Values}
-use Rattle.chan_map.specs.declared.pins.Map.{Map}
-use Rattle.run_model.specs.Replay.{done}
-use Rattle.run_model.proofs.Circle.{no-circle}
-use Rattle.run_model.proofs.ReplayLaws.{order-in_the_output, replay-keeps_contents}
+use Rattle.chan_replayer.specs.net_design.declared.design.Design.{Design}
+use Rattle.chan_replayer.specs.net_design.declared.values.Values.{Values}
+use Rattle.chan_replayer.specs.chan_map.declared.pins.Map.{Map}
+use Rattle.chan_replayer.specs.run_model.Replay.{done}
+use Rattle.chan_replayer.proofs.run_model.Circle.{no-circle}
+use Rattle.chan_replayer.proofs.run_model.ReplayLaws.{order-in_the_output, replay-keeps_contents}
 use Rattle.replay_run.specs.declared.outcome.Replayed.{Replayed}
 use Rattle.replay_run.specs.declared.outcome.ReplayOutcome.{ReplayOutcome}
 use Rattle.replay_run.specs.declared.outcome.ReplayOutcome.TheVariants.{Ended, Short, Unstable}

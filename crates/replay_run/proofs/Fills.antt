@@ -8,25 +8,25 @@ use Rattle.std.proofs.lemmas.Bool.{cases_Bool, cases_eq, cases_lt, false≢true}
 use Rattle.std.proofs.lemmas.List.{get_or-set_other, get_or-set_same, length-take-le, take_all, take_more}
 use Rattle.std.proofs.lemmas.Nat.{pow_pos}
 use Rattle.std.proofs.lemmas.Option.{same_Some, slice_get_read, slice_get_within}
-use Rattle.vidi_bits.specs.Number.{has}
-use Rattle.trace_model.specs.declared.channel.Channel.{Channel}
-use Rattle.trace_model.specs.declared.event.Kind.{Kind}
-use Rattle.trace_model.specs.declared.event.Kind.TheVariants.{Start, End}
-use Rattle.trace_model.specs.declared.packet.Packet.{Packet}
-use Rattle.trace_model.specs.declared.trace.Trace.{Trace}
-use Rattle.trace_model.specs.Channel.{IsChannel, IsTable}
-use Rattle.trace_model.specs.Clock.{clock}
-use Rattle.trace_model.specs.Counting.{IsNth}
-use Rattle.trace_model.specs.Packet.{content_of, count, does, widths_of, Fit, IsPacket}
-use Rattle.trace_model.specs.Row.{all_widths, content_at, replaced}
-use Rattle.trace_model.proofs.ContentsLemmas.{content-fits, fit-length}
-use Rattle.trace_model.proofs.CountingLemmas.{nth, nth-below}
-use Rattle.trace_model.proofs.MaskLemmas.{no-bit-from-has}
-use Rattle.trace_model.proofs.RowLemmas.{first_of, first-more, replaced-more}
+use Rattle.trace_code.specs.vidi_bits.Number.{has}
+use Rattle.trace_code.specs.trace_model.declared.channel.Channel.{Channel}
+use Rattle.trace_code.specs.trace_model.declared.event.Kind.{Kind}
+use Rattle.trace_code.specs.trace_model.declared.event.Kind.TheVariants.{Start, End}
+use Rattle.trace_code.specs.trace_model.declared.packet.Packet.{Packet}
+use Rattle.trace_code.specs.trace_model.declared.trace.Trace.{Trace}
+use Rattle.trace_code.specs.trace_model.Channel.{IsChannel, IsTable}
+use Rattle.trace_code.specs.trace_model.Clock.{clock}
+use Rattle.trace_code.specs.trace_model.Counting.{IsNth}
+use Rattle.trace_code.specs.trace_model.Packet.{content_of, count, does, widths_of, Fit, IsPacket}
+use Rattle.trace_code.specs.trace_model.Row.{all_widths, content_at, replaced}
+use Rattle.trace_code.proofs.trace_model.ContentsLemmas.{content-fits, fit-length}
+use Rattle.trace_code.proofs.trace_model.CountingLemmas.{nth, nth-below}
+use Rattle.trace_code.proofs.trace_model.MaskLemmas.{no-bit-from-has}
+use Rattle.trace_code.proofs.trace_model.RowLemmas.{first_of, first-more, replaced-more}
 use Rattle.trace_code.specs.declared.cursor.Cursor.{Cursor}
 use Rattle.trace_code.specs.Stands.{Stands}
-use Rattle.run_model.proofs.Contents.{fit-zeros, has-all}
-use Rattle.run_model.proofs.PinLemmas.{all-at}
+use Rattle.chan_replayer.proofs.run_model.Contents.{fit-zeros, has-all}
+use Rattle.chan_replayer.proofs.run_model.PinLemmas.{all-at}
 use Rattle.chan_replayer.specs.declared.feed.Feed.{Feed}
 use Rattle.chan_replayer.specs.Feed.{kind_of, need_of, IsFeed, IsFeedAt, IsFeedOver}
 use Rattle.replay_run.specs.Behind.{IsBehind}

@@ -2,24 +2,24 @@
 use Rattle.std.proofs.Common.{◌≡◌, ℕ, suc, ◌+◌, ◌<◌, ◌≤◌, min, Bool, true, false, cond, List, [], ◌∷◌, ◌++◌, Some, length, get_or, set, slice_get, ltb, refl, sym, ap, subst, ◌∙◌, arith, ⊎_elim}
 use Rattle.std.specs.Prelude.{◌↔◌}
 use Rattle.std.proofs.lemmas.Bool.{cases_lt, false≢true}
-use Rattle.trace_model.specs.declared.event.Kind.{Kind}
-use Rattle.trace_model.specs.declared.event.Kind.TheVariants.{Start, End}
-use Rattle.trace_model.specs.declared.packet.Packet.{Packet}
-use Rattle.trace_model.specs.declared.row.Row.{Row}
-use Rattle.trace_model.specs.declared.trace.Trace.{Trace}
-use Rattle.trace_model.specs.Packet.{count}
-use Rattle.trace_model.specs.Row.{is_in_flight}
-use Rattle.trace_model.specs.Trace.{Alternates}
-use Rattle.trace_model.proofs.FlightLemmas.{balanced-all}
-use Rattle.trace_model.proofs.CountingLemmas.{slice_get-push}
+use Rattle.trace_code.specs.trace_model.declared.event.Kind.{Kind}
+use Rattle.trace_code.specs.trace_model.declared.event.Kind.TheVariants.{Start, End}
+use Rattle.trace_code.specs.trace_model.declared.packet.Packet.{Packet}
+use Rattle.trace_code.specs.trace_model.declared.row.Row.{Row}
+use Rattle.trace_code.specs.trace_model.declared.trace.Trace.{Trace}
+use Rattle.trace_code.specs.trace_model.Packet.{count}
+use Rattle.trace_code.specs.trace_model.Row.{is_in_flight}
+use Rattle.trace_code.specs.trace_model.Trace.{Alternates}
+use Rattle.trace_code.proofs.trace_model.FlightLemmas.{balanced-all}
+use Rattle.trace_code.proofs.trace_model.CountingLemmas.{slice_get-push}
 use Rattle.trace_code.specs.declared.cursor.Cursor.{Cursor}
 use Rattle.trace_code.specs.Encoding.{Encodes}
 use Rattle.trace_code.specs.Stands.{Stands, WalksOver}
 use Rattle.replay_run.specs.Behind.{AreAt, IsBehind, IsDone}
 use Rattle.std.specs.Int.{bit_at}
 use Rattle.std.proofs.Math.ListN.{length-set}
-use Rattle.vidi_bits.specs.Number.{has}
-use Rattle.trace_model.proofs.MaskLemmas.{bit-from-has, no-bit-from-has}
+use Rattle.trace_code.specs.vidi_bits.Number.{has}
+use Rattle.trace_code.proofs.trace_model.MaskLemmas.{bit-from-has, no-bit-from-has}
 use Rattle.std.proofs.lemmas.Bool.{cases_eq, lt-ltb, le-ltb}
 use Rattle.std.proofs.lemmas.Option.{same_Some, slice_get-get_or, slice_get_read, slice_get_within}
 use Rattle.std.proofs.lemmas.List.{get_or-set_other, get_or-set_same}

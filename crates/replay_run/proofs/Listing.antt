@@ -7,26 +7,26 @@ use Rattle.std.specs.List.{enumerate_from, filter, flat_map}
 use Rattle.std.proofs.lemmas.Bool.{cond-true, cond-false}
 use Rattle.std.proofs.lemmas.List.{append-nil, drop_all, drop_more, length_push}
 use Rattle.std.proofs.lemmas.List.Elements.{filter-append}
-use Rattle.trace_model.specs.declared.channel.Channel.{Channel}
-use Rattle.trace_model.specs.declared.channel.Dir.TheVariants.{Inward, Outward}
-use Rattle.trace_model.specs.declared.event.Event.{Event}
-use Rattle.trace_model.specs.declared.event.Kind.{Kind}
-use Rattle.trace_model.specs.declared.event.Kind.TheVariants.{Start, End}
-use Rattle.trace_model.specs.declared.packet.Packet.{Packet}
-use Rattle.trace_model.specs.declared.row.Row.{Row}
-use Rattle.trace_model.specs.declared.trace.Trace.{Trace}
-use Rattle.trace_model.specs.Clock.{clock}
-use Rattle.trace_model.specs.Counting.{IsNth}
-use Rattle.trace_model.specs.Packet.{count, does}
-use Rattle.trace_model.specs.Recording.{shown}
-use Rattle.trace_model.proofs.CountingLemmas.{nth, nth-below, slice_get-append, slice_get-last, slice_get-push}
+use Rattle.trace_code.specs.trace_model.declared.channel.Channel.{Channel}
+use Rattle.trace_code.specs.trace_model.declared.channel.Dir.TheVariants.{Inward, Outward}
+use Rattle.trace_code.specs.trace_model.declared.event.Event.{Event}
+use Rattle.trace_code.specs.trace_model.declared.event.Kind.{Kind}
+use Rattle.trace_code.specs.trace_model.declared.event.Kind.TheVariants.{Start, End}
+use Rattle.trace_code.specs.trace_model.declared.packet.Packet.{Packet}
+use Rattle.trace_code.specs.trace_model.declared.row.Row.{Row}
+use Rattle.trace_code.specs.trace_model.declared.trace.Trace.{Trace}
+use Rattle.trace_code.specs.trace_model.Clock.{clock}
+use Rattle.trace_code.specs.trace_model.Counting.{IsNth}
+use Rattle.trace_code.specs.trace_model.Packet.{count, does}
+use Rattle.trace_code.specs.trace_model.Recording.{shown}
+use Rattle.trace_code.proofs.trace_model.CountingLemmas.{nth, nth-below, slice_get-append, slice_get-last, slice_get-push}
 use Rattle.trace_code.specs.declared.cursor.Cursor.{Cursor}
 use Rattle.trace_code.specs.Stands.{Stands}
-use Rattle.run_model.specs.declared.held.Await.{Await}
-use Rattle.run_model.specs.declared.held.Held.{Held}
-use Rattle.run_model.specs.Held.{await_on, awaits, controlled, event, flies, held_at, held_event, held_if, is_held, next_event, packet_place, recorded_next}
-use Rattle.run_model.specs.Replay.{done}
-use Rattle.run_model.proofs.EventPlaces.{nth-place, place-is}
+use Rattle.chan_replayer.specs.run_model.declared.held.Await.{Await}
+use Rattle.chan_replayer.specs.run_model.declared.held.Held.{Held}
+use Rattle.chan_replayer.specs.run_model.Held.{await_on, awaits, controlled, event, flies, held_at, held_event, held_if, is_held, next_event, packet_place, recorded_next}
+use Rattle.chan_replayer.specs.run_model.Replay.{done}
+use Rattle.chan_replayer.proofs.run_model.EventPlaces.{nth-place, place-is}
 use Rattle.replay_run.specs.Behind.{IsBehind}
 use Rattle.replay_run.specs.Lists.{AreSpare}
 use Rattle.replay_run.proofs.Forward.{ended-when, more}

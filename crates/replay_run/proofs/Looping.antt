@@ -6,27 +6,27 @@ use Rattle.std.specs.Prelude.{◌↔◌}
 use Rattle.std.proofs.lemmas.Bool.{cases_lt, false≢true}
 use Rattle.std.proofs.lemmas.List.{length_push, take-append-le, take_all}
 use Rattle.std.proofs.lemmas.Nat.Bits.{bit_at-zero}
-use Rattle.vidi_bits.specs.Number.{has}
-use Rattle.trace_model.specs.declared.event.Kind.TheVariants.{Start, End}
-use Rattle.trace_model.specs.declared.packet.Packet.{Packet}
-use Rattle.trace_model.specs.declared.row.Row.{Row}
-use Rattle.trace_model.specs.declared.trace.Trace.{Trace}
-use Rattle.trace_model.specs.declared.channel.Channel.{Channel}
-use Rattle.trace_model.specs.Recording.{row_does, shown}
-use Rattle.trace_model.specs.Row.{flies_after, is_in_flight, row_before, IsOver}
-use Rattle.trace_model.proofs.CountingLemmas.{count-push}
-use Rattle.trace_model.proofs.MaskLemmas.{cond-has}
-use Rattle.trace_model.proofs.RowLaws.{counted}
-use Rattle.net_design.specs.declared.design.Design.{Design}
-use Rattle.net_design.specs.declared.values.Values.{Values}
-use Rattle.chan_map.specs.declared.pins.Map.{Map}
-use Rattle.run_model.specs.Held.{flies}
-use Rattle.run_model.specs.Played.{StopsBefore}
-use Rattle.run_model.specs.Replay.{done, HasEnded, IsGoing, IsReplayRow}
-use Rattle.chan_monitor.specs.Shell.{HasPlaces}
+use Rattle.trace_code.specs.vidi_bits.Number.{has}
+use Rattle.trace_code.specs.trace_model.declared.event.Kind.TheVariants.{Start, End}
+use Rattle.trace_code.specs.trace_model.declared.packet.Packet.{Packet}
+use Rattle.trace_code.specs.trace_model.declared.row.Row.{Row}
+use Rattle.trace_code.specs.trace_model.declared.trace.Trace.{Trace}
+use Rattle.trace_code.specs.trace_model.declared.channel.Channel.{Channel}
+use Rattle.trace_code.specs.trace_model.Recording.{row_does, shown}
+use Rattle.trace_code.specs.trace_model.Row.{flies_after, is_in_flight, row_before, IsOver}
+use Rattle.trace_code.proofs.trace_model.CountingLemmas.{count-push}
+use Rattle.trace_code.proofs.trace_model.MaskLemmas.{cond-has}
+use Rattle.trace_code.proofs.trace_model.RowLaws.{counted}
+use Rattle.chan_replayer.specs.net_design.declared.design.Design.{Design}
+use Rattle.chan_replayer.specs.net_design.declared.values.Values.{Values}
+use Rattle.chan_replayer.specs.chan_map.declared.pins.Map.{Map}
+use Rattle.chan_replayer.specs.run_model.Held.{flies}
+use Rattle.chan_replayer.specs.run_model.Played.{StopsBefore}
+use Rattle.chan_replayer.specs.run_model.Replay.{done, HasEnded, IsGoing, IsReplayRow}
+use Rattle.chan_replayer.specs.chan_monitor.Shell.{HasPlaces}
 use Rattle.chan_replayer.specs.Feed.{IsFeedOver}
-use Rattle.run_model.proofs.ReplayLaws.{replay-keeps}
-use Rattle.run_model.proofs.Stays.{keeps-in-flight}
+use Rattle.chan_replayer.proofs.run_model.ReplayLaws.{replay-keeps}
+use Rattle.chan_replayer.proofs.run_model.Stays.{keeps-in-flight}
 use Rattle.replay_run.specs.Behind.{IsDone}
 use Rattle.replay_run.specs.Output.{longest, HasRoomFor, IsWritten}
 use Rattle.replay_run.specs.Standing.{AreKept, IsLast, Plays, PlaysTo}

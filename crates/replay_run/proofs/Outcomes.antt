@@ -5,23 +5,23 @@ use Rattle.std.proofs.Math.Logic.{∥∥₁_map}
 use Rattle.std.proofs.lemmas.Bool.{cases_lt}
 use Rattle.std.proofs.lemmas.List.{take_at, take-take, length-take-le, length_push}
 use Rattle.std.proofs.lemmas.Option.{same_Some}
-use Rattle.trace_model.specs.declared.event.Kind.TheVariants.{Start, End}
-use Rattle.trace_model.specs.declared.packet.Packet.{Packet}
-use Rattle.trace_model.specs.declared.row.Row.{Row}
-use Rattle.trace_model.specs.Packet.{count}
-use Rattle.trace_model.specs.Recording.{shown}
-use Rattle.trace_model.specs.Row.{row_before}
-use Rattle.trace_model.specs.Stability.{IsLowestUnstable, IsUnstable}
-use Rattle.trace_model.proofs.CountingLemmas.{slice_get-take}
-use Rattle.net_design.specs.declared.design.Design.{Design}
-use Rattle.chan_map.specs.declared.pins.Map.{Map}
-use Rattle.run_model.specs.declared.held.Held.{Held}
-use Rattle.run_model.specs.Held.{held, waits}
-use Rattle.run_model.specs.Played.{AreStable, StopsBefore}
-use Rattle.run_model.specs.Replay.{HasEnded, IsGoing, IsReplay, IsReplayRow}
-use Rattle.run_model.proofs.PlayedLaws.{played-front, row-before_take}
-use Rattle.run_model.proofs.ReplayLaws.{one-replay}
-use Rattle.run_model.proofs.Unstable.{lowest, lowest-one, row-at, stable-next, stops-here}
+use Rattle.trace_code.specs.trace_model.declared.event.Kind.TheVariants.{Start, End}
+use Rattle.trace_code.specs.trace_model.declared.packet.Packet.{Packet}
+use Rattle.trace_code.specs.trace_model.declared.row.Row.{Row}
+use Rattle.trace_code.specs.trace_model.Packet.{count}
+use Rattle.trace_code.specs.trace_model.Recording.{shown}
+use Rattle.trace_code.specs.trace_model.Row.{row_before}
+use Rattle.trace_code.specs.trace_model.Stability.{IsLowestUnstable, IsUnstable}
+use Rattle.trace_code.proofs.trace_model.CountingLemmas.{slice_get-take}
+use Rattle.chan_replayer.specs.net_design.declared.design.Design.{Design}
+use Rattle.chan_replayer.specs.chan_map.declared.pins.Map.{Map}
+use Rattle.chan_replayer.specs.run_model.declared.held.Held.{Held}
+use Rattle.chan_replayer.specs.run_model.Held.{held, waits}
+use Rattle.chan_replayer.specs.run_model.Played.{AreStable, StopsBefore}
+use Rattle.chan_replayer.specs.run_model.Replay.{HasEnded, IsGoing, IsReplay, IsReplayRow}
+use Rattle.chan_replayer.proofs.run_model.PlayedLaws.{played-front, row-before_take}
+use Rattle.chan_replayer.proofs.run_model.ReplayLaws.{one-replay}
+use Rattle.chan_replayer.proofs.run_model.Unstable.{lowest, lowest-one, row-at, stable-next, stops-here}
 use Rattle.replay_run.specs.declared.outcome.ReplayOutcome.{ReplayOutcome}
 use Rattle.replay_run.specs.declared.outcome.ReplayOutcome.TheVariants.{Ended, Short, Unstable}
 use Rattle.replay_run.specs.Laws.{OneOutcome}

@@ -5,21 +5,21 @@ use Rattle.std.proofs.Common.{length, slice_get, refl, ap, sym, subst, ◌∙◌
 use Rattle.std.proofs.lemmas.Bool.{false≢true}
 use Rattle.std.proofs.lemmas.Nat.Bits.{bit_at-zero}
 use Rattle.std.proofs.lemmas.Option.{same_Some}
-use Rattle.trace_model.specs.declared.channel.Channel.{Channel}
-use Rattle.trace_model.specs.declared.packet.Packet.{Packet}
-use Rattle.trace_model.specs.declared.row.Row.{Row}
-use Rattle.vidi_bits.specs.Number.{has}
-use Rattle.trace_model.specs.Row.{completes, row_before}
-use Rattle.trace_model.specs.Stability.{waits, IsLowestUnstable, IsUnstable, IsUnstableAt}
-use Rattle.trace_model.proofs.RowLemmas.{before-last}
-use Rattle.trace_model.proofs.CountingLemmas.{slice_get-append_left, slice_get-last, slice_get-push}
-use Rattle.net_design.specs.declared.design.Design.{Design}
-use Rattle.net_design.specs.declared.values.Values.{Values}
-use Rattle.chan_map.specs.declared.pins.Map.{Map}
-use Rattle.run_model.specs.Played.{AreStable, StopsBefore}
-use Rattle.run_model.specs.Replay.{done, IsReplayRow}
-use Rattle.run_model.specs.Step.{IsFirst, IsStep}
-use Rattle.run_model.proofs.PlayedLaws.{Grown, played-nil, played-push}
+use Rattle.trace_code.specs.trace_model.declared.channel.Channel.{Channel}
+use Rattle.trace_code.specs.trace_model.declared.packet.Packet.{Packet}
+use Rattle.trace_code.specs.trace_model.declared.row.Row.{Row}
+use Rattle.trace_code.specs.vidi_bits.Number.{has}
+use Rattle.trace_code.specs.trace_model.Row.{completes, row_before}
+use Rattle.trace_code.specs.trace_model.Stability.{waits, IsLowestUnstable, IsUnstable, IsUnstableAt}
+use Rattle.trace_code.proofs.trace_model.RowLemmas.{before-last}
+use Rattle.trace_code.proofs.trace_model.CountingLemmas.{slice_get-append_left, slice_get-last, slice_get-push}
+use Rattle.chan_replayer.specs.net_design.declared.design.Design.{Design}
+use Rattle.chan_replayer.specs.net_design.declared.values.Values.{Values}
+use Rattle.chan_replayer.specs.chan_map.declared.pins.Map.{Map}
+use Rattle.chan_replayer.specs.run_model.Played.{AreStable, StopsBefore}
+use Rattle.chan_replayer.specs.run_model.Replay.{done, IsReplayRow}
+use Rattle.chan_replayer.specs.run_model.Step.{IsFirst, IsStep}
+use Rattle.chan_replayer.proofs.run_model.PlayedLaws.{Grown, played-nil, played-push}
 use Rattle.chan_replayer.specs.declared.feed.Feed.{Feed}
 use Rattle.chan_replayer.specs.Feed.{IsFeed}
 use Rattle.chan_replayer.specs.Shell.{GoesTo, IsShown}

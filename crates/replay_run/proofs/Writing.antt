@@ -3,10 +3,10 @@ use Rattle.std.proofs.Common.{◌≡◌, ℕ, suc, ◌+◌, ◌-◌, ◌*◌, �
 use Rattle.std.proofs.Common.{length, drop, map, take, refl, ap, sym, ◌∙◌, arith, append_assoc}
 use Rattle.std.specs.List.{filter, flat_map}
 use Rattle.std.proofs.lemmas.List.{length-map, take_at}
-use Rattle.trace_model.specs.declared.channel.Channel.{Channel}
-use Rattle.trace_model.specs.declared.row.Row.{Row}
-use Rattle.trace_model.specs.Length.{contents_len, head_len, packet_len}
-use Rattle.trace_model.specs.Recording.{has_event, packet_of, packets_of, trace_of}
+use Rattle.trace_code.specs.trace_model.declared.channel.Channel.{Channel}
+use Rattle.trace_code.specs.trace_model.declared.row.Row.{Row}
+use Rattle.trace_code.specs.trace_model.Length.{contents_len, head_len, packet_len}
+use Rattle.trace_code.specs.trace_model.Recording.{has_event, packet_of, packets_of, trace_of}
 use Rattle.trace_code.specs.Encoding.{encode, end_mark, header_bytes, packet_bytes, row_bytes}
 use Rattle.trace_code.proofs.RowBytes.{contents_len-widths, contents-least}
 use Rattle.replay_run.specs.Output.{longest, IsWritten}

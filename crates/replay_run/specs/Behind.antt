@@ -1,12 +1,12 @@
 -- Cursors behind so many completions of each channel.
 use Rattle.std.specs.Prelude.{◌≡◌, ℕ, ◌+◌, ◌≤◌, min, if◌then◌else◌, List, Some, length, slice_get}
-use Rattle.trace_model.specs.declared.event.Kind.{Kind}
-use Rattle.trace_model.specs.declared.event.Kind.TheVariants.{Start, End}
-use Rattle.trace_model.specs.declared.packet.Packet.{Packet}
-use Rattle.trace_model.specs.declared.row.Row.{Row}
-use Rattle.trace_model.specs.declared.trace.Trace.{Trace}
-use Rattle.trace_model.specs.Packet.{count}
-use Rattle.trace_model.specs.Row.{is_in_flight}
+use Rattle.trace_code.specs.trace_model.declared.event.Kind.{Kind}
+use Rattle.trace_code.specs.trace_model.declared.event.Kind.TheVariants.{Start, End}
+use Rattle.trace_code.specs.trace_model.declared.packet.Packet.{Packet}
+use Rattle.trace_code.specs.trace_model.declared.row.Row.{Row}
+use Rattle.trace_code.specs.trace_model.declared.trace.Trace.{Trace}
+use Rattle.trace_code.specs.trace_model.Packet.{count}
+use Rattle.trace_code.specs.trace_model.Row.{is_in_flight}
 use Rattle.trace_code.specs.declared.cursor.Cursor.{Cursor}
 use Rattle.trace_code.specs.Stands.{Stands, WalksOver}
 use Rattle.replay_run.specs.declared.cursors.Cursors.{Cursors}

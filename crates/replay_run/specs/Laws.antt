@@ -1,10 +1,10 @@
 -- What follows from the definitions of a replay's end.
 use Rattle.std.specs.Prelude.{◌≡◌, ℕ, List}
-use Rattle.trace_model.specs.declared.packet.Packet.{Packet}
-use Rattle.trace_model.specs.declared.row.Row.{Row}
-use Rattle.net_design.specs.declared.design.Design.{Design}
-use Rattle.chan_map.specs.declared.pins.Map.{Map}
-use Rattle.run_model.specs.Laws.{ContentsFit, IsReady}
+use Rattle.trace_code.specs.trace_model.declared.packet.Packet.{Packet}
+use Rattle.trace_code.specs.trace_model.declared.row.Row.{Row}
+use Rattle.chan_replayer.specs.net_design.declared.design.Design.{Design}
+use Rattle.chan_replayer.specs.chan_map.declared.pins.Map.{Map}
+use Rattle.chan_replayer.specs.run_model.Laws.{ContentsFit, IsReady}
 use Rattle.replay_run.specs.declared.outcome.ReplayOutcome.{ReplayOutcome}
 use Rattle.replay_run.specs.Replaying.{EndsAs}
 

@@ -1,13 +1,13 @@
 -- What the lists of *End of replay* are made of.
 use Rattle.std.specs.Prelude.{◌≡◌, ℕ, ◌+◌, ◌<◌, ◌≤◌, [], List, Some, if◌then◌else◌, length, slice_get, slice_index, vec_len, vec_capacity}
 use Rattle.std.specs.Global.{Vec}
-use Rattle.trace_model.specs.declared.event.Kind.TheVariants.{Start}
-use Rattle.trace_model.specs.declared.row.Row.{Row}
-use Rattle.trace_model.specs.Recording.{shown}
-use Rattle.trace_model.specs.Row.{is_in_flight}
-use Rattle.run_model.specs.Held.{flies}
-use Rattle.run_model.specs.Replay.{done}
-use Rattle.run_model.specs.declared.held.Await.{Await}
+use Rattle.trace_code.specs.trace_model.declared.event.Kind.TheVariants.{Start}
+use Rattle.trace_code.specs.trace_model.declared.row.Row.{Row}
+use Rattle.trace_code.specs.trace_model.Recording.{shown}
+use Rattle.trace_code.specs.trace_model.Row.{is_in_flight}
+use Rattle.chan_replayer.specs.run_model.Held.{flies}
+use Rattle.chan_replayer.specs.run_model.Replay.{done}
+use Rattle.chan_replayer.specs.run_model.declared.held.Await.{Await}
 use Rattle.replay_run.specs.declared.lists.Lists.{Lists}
 
 -- what is kept of rows over n channels: how many transactions of each have completed, and a row with what is in flight after them

@@ -1,11 +1,11 @@
 -- What is written of a replay's trace, and the room that is left.
 use Rattle.std.specs.Prelude.{◌≡◌, ℕ, ◌+◌, ◌*◌, ◌≤◌, List, ◌++◌, length, sum_by, take}
 use Rattle.std.specs.List.{flat_map}
-use Rattle.trace_model.specs.declared.channel.Channel.{Channel}
-use Rattle.trace_model.specs.declared.row.Row.{Row}
-use Rattle.trace_model.specs.Channel.{content_bytes}
-use Rattle.trace_model.specs.Length.{head_len}
-use Rattle.trace_model.specs.Recording.{packets_of}
+use Rattle.trace_code.specs.trace_model.declared.channel.Channel.{Channel}
+use Rattle.trace_code.specs.trace_model.declared.row.Row.{Row}
+use Rattle.trace_code.specs.trace_model.Channel.{content_bytes}
+use Rattle.trace_code.specs.trace_model.Length.{head_len}
+use Rattle.trace_code.specs.trace_model.Recording.{packets_of}
 use Rattle.trace_code.specs.Encoding.{header_bytes, row_bytes}
 use Rattle.replay_run.specs.declared.output.Output.{Output}
 use Rattle.replay_run.specs.declared.output.TheConstants.{END_LEN}

@@ -1,17 +1,17 @@
 -- What a replay answers: *the replay*, how it ends, and the encoding of its trace.
 use Rattle.std.specs.Prelude.{◌≡◌, ℕ, List, length}
-use Rattle.trace_model.specs.declared.channel.Channel.{Channel}
-use Rattle.trace_model.specs.declared.packet.Packet.{Packet}
-use Rattle.trace_model.specs.declared.row.Row.{Row}
-use Rattle.trace_model.specs.Recording.{packets_of, trace_of}
+use Rattle.trace_code.specs.trace_model.declared.channel.Channel.{Channel}
+use Rattle.trace_code.specs.trace_model.declared.packet.Packet.{Packet}
+use Rattle.trace_code.specs.trace_model.declared.row.Row.{Row}
+use Rattle.trace_code.specs.trace_model.Recording.{packets_of, trace_of}
 use Rattle.trace_code.specs.Encoding.{Encodes}
-use Rattle.net_design.specs.declared.design.Design.{Design}
-use Rattle.net_design.specs.declared.values.Values.{Values}
-use Rattle.chan_map.specs.declared.pins.Map.{Map}
-use Rattle.run_model.specs.Held.{held, waits}
-use Rattle.run_model.specs.Laws.{AreInOrder, ContentsStay, IsFirstOpen, IsFree}
-use Rattle.run_model.specs.Played.{IsDriven}
-use Rattle.run_model.specs.Replay.{IsEndedReplay, IsShortReplay, IsUnstableReplay}
+use Rattle.chan_replayer.specs.net_design.declared.design.Design.{Design}
+use Rattle.chan_replayer.specs.net_design.declared.values.Values.{Values}
+use Rattle.chan_replayer.specs.chan_map.declared.pins.Map.{Map}
+use Rattle.chan_replayer.specs.run_model.Held.{held, waits}
+use Rattle.chan_replayer.specs.run_model.Laws.{AreInOrder, ContentsStay, IsFirstOpen, IsFree}
+use Rattle.chan_replayer.specs.run_model.Played.{IsDriven}
+use Rattle.chan_replayer.specs.run_model.Replay.{IsEndedReplay, IsShortReplay, IsUnstableReplay}
 use Rattle.replay_run.specs.declared.outcome.Replayed.{Replayed}
 use Rattle.replay_run.specs.declared.outcome.ReplayOutcome.{ReplayOutcome}
 use Rattle.replay_run.specs.declared.outcome.ReplayOutcome.TheVariants.{Ended, Short, Unstable}

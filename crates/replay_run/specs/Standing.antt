@@ -1,16 +1,16 @@
 -- Where a replay stands between two cycles.
 use Rattle.std.specs.Prelude.{◌≡◌, ℕ, ◌<◌, List, Option, None, Some, length, slice_index}
-use Rattle.trace_model.specs.declared.channel.Channel.{Channel}
-use Rattle.trace_model.specs.declared.packet.Packet.{Packet}
-use Rattle.trace_model.specs.declared.row.Row.{Row}
-use Rattle.trace_model.specs.Row.{row_before, IsOver}
-use Rattle.net_design.specs.declared.design.Design.{Design}
-use Rattle.net_design.specs.declared.values.Values.{Values}
-use Rattle.chan_map.specs.declared.pins.Map.{Map}
-use Rattle.chan_monitor.specs.Shell.{HasPlaces}
+use Rattle.trace_code.specs.trace_model.declared.channel.Channel.{Channel}
+use Rattle.trace_code.specs.trace_model.declared.packet.Packet.{Packet}
+use Rattle.trace_code.specs.trace_model.declared.row.Row.{Row}
+use Rattle.trace_code.specs.trace_model.Row.{row_before, IsOver}
+use Rattle.chan_replayer.specs.net_design.declared.design.Design.{Design}
+use Rattle.chan_replayer.specs.net_design.declared.values.Values.{Values}
+use Rattle.chan_replayer.specs.chan_map.declared.pins.Map.{Map}
+use Rattle.chan_replayer.specs.chan_monitor.Shell.{HasPlaces}
 use Rattle.chan_replayer.specs.Feed.{IsFeedOver}
-use Rattle.run_model.specs.Played.{AreStable}
-use Rattle.run_model.specs.Replay.{done, IsReplay, IsEndedReplay, IsShortReplay, IsUnstableReplay}
+use Rattle.chan_replayer.specs.run_model.Played.{AreStable}
+use Rattle.chan_replayer.specs.run_model.Replay.{done, IsReplay, IsEndedReplay, IsShortReplay, IsUnstableReplay}
 use Rattle.replay_run.specs.declared.play.Cells.{Cells}
 use Rattle.replay_run.specs.declared.play.Ending.{Ending}
 use Rattle.replay_run.specs.declared.play.Ending.TheVariants.{Ended, Short, Unstable}

@@ -2,17 +2,17 @@
 
 ghost use Rattle.std.specs.Prelude.{◌≡◌, ◌+◌, ◌<◌, ◌↔◌, ℕ, IsTrue, IfOk, length};
 ghost use Rattle.std.specs.Int.{bit_at};
-ghost use Rattle.trace_model.specs.declared.event.Kind.{Kind as OneKind};
-ghost use Rattle.trace_model.specs.declared.trace.Trace.{Trace};
-ghost use Rattle.trace_model.specs.Row.{is_in_flight};
+ghost use Rattle.trace_code.specs.trace_model.declared.event.Kind.{Kind as OneKind};
+ghost use Rattle.trace_code.specs.trace_model.declared.trace.Trace.{Trace};
+ghost use Rattle.trace_code.specs.trace_model.Row.{is_in_flight};
 ghost use Rattle.trace_code.specs.Encoding.{Encodes};
 ghost use Rattle.chan_replayer.specs.Feed.{kind_of};
 ghost use Rattle.replay_run.specs.Behind.{none_yet, AreAt, AreBehind, IsBehind, IsDone};
 
 use std::alloc::Global;
 use trace_code::Cursor;
-use trace_model::{Dir, Kind, Row, names};
-use vidi_bits::Memory;
+use trace_code::trace_model::{Dir, Kind, Row, names};
+use trace_code::vidi_bits::Memory;
 
 /// For each channel of a trace a cursor over its starts and one over its completions, both behind as many transactions. Only
 /// `open` takes memory.

@@ -2,14 +2,14 @@
 
 ghost use Rattle.std.specs.Prelude.{◌≡◌, ◌≢◌, ◌+◌, ◌*◌, ◌<◌, ◌≤◌, ◌↔◌, ◌⊎◌, ℕ, true, false, IsTrue, IfOk, length, slice_get, slice_index, take};
 ghost use Rattle.std.specs.Int.{bit_at};
-ghost use Rattle.vidi_bits.specs.Number.{has};
-ghost use Rattle.trace_model.specs.declared.packet.Packet.{Packet};
-ghost use Rattle.trace_model.specs.declared.trace.Trace.{Trace};
-ghost use Rattle.trace_model.specs.Channel.{IsTable};
-ghost use Rattle.trace_model.specs.Clock.{clock};
-ghost use Rattle.trace_model.specs.Counting.{IsNth};
-ghost use Rattle.trace_model.specs.Packet.{content_of, count, does, widths_of};
-ghost use Rattle.trace_model.specs.Row.{all_widths, replaced};
+ghost use Rattle.trace_code.specs.vidi_bits.Number.{has};
+ghost use Rattle.trace_code.specs.trace_model.declared.packet.Packet.{Packet};
+ghost use Rattle.trace_code.specs.trace_model.declared.trace.Trace.{Trace};
+ghost use Rattle.trace_code.specs.trace_model.Channel.{IsTable};
+ghost use Rattle.trace_code.specs.trace_model.Clock.{clock};
+ghost use Rattle.trace_code.specs.trace_model.Counting.{IsNth};
+ghost use Rattle.trace_code.specs.trace_model.Packet.{content_of, count, does, widths_of};
+ghost use Rattle.trace_code.specs.trace_model.Row.{all_widths, replaced};
 ghost use Rattle.trace_code.specs.Stands.{Stands};
 ghost use Rattle.chan_replayer.specs.Feed.{kind_of, need_of, IsFeed, IsFeedAt, IsFeedOver};
 ghost use Rattle.replay_run.specs.Behind.{none_yet, AreBehind, IsBehind};
@@ -20,8 +20,8 @@ use crate::cursors::{Cursors, cursor_of, kind_of};
 use chan_replayer::{Feed, Needs};
 use std::alloc::Global;
 use trace_code::Cursor;
-use trace_model::{Channel, Channels, Dir, Kind, names, row_over};
-use vidi_bits::{Items, Memory, Numbers};
+use trace_code::trace_model::{Channel, Channels, Dir, Kind, names, row_over};
+use trace_code::vidi_bits::{Items, Memory, Numbers};
 
 /// The mask with the bit of a channel up or down.
 fn with_bit_as(mask: u128, channel: usize, up: bool) -> u128

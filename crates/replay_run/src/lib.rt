@@ -15,8 +15,13 @@ mod play;
 mod replaying;
 mod turn;
 
-pub use chan_replayer::{Feed, Needs, ReplayMachines, ReplayShell};
+pub use chan_replayer;
+pub use chan_replayer::run_model::{Await, Awaits, Held, Helds};
+pub use chan_replayer::{
+    Feed, Needs, ReplayMachines, ReplayShell, chan_map, chan_monitor, net_design, run_model,
+};
 pub use laws::one_outcome;
 pub use outcome::{ReplayOutcome, Replayed};
 pub use replaying::replay;
-pub use run_model::{Await, Awaits, Held, Helds};
+pub use trace_code;
+pub use trace_code::{trace_model, vidi_bits};

@@ -2,26 +2,26 @@
 
 ghost use Rattle.std.specs.Prelude.{◌≡◌, ◌+◌, ◌<◌, ◌≤◌, ◌++◌, [], ℕ, not, List, IfOk, length, slice_index, vec_len, vec_capacity};
 ghost use Rattle.std.specs.List.{filter, flat_map};
-ghost use Rattle.trace_model.specs.declared.event.Event.{Event as OneEvent};
-ghost use Rattle.trace_model.specs.declared.packet.Packet.{Packet};
-ghost use Rattle.trace_model.specs.declared.row.Row.{Row as OneRow};
-ghost use Rattle.trace_model.specs.declared.trace.Trace.{Trace};
-ghost use Rattle.trace_model.specs.Clock.{clock};
-ghost use Rattle.trace_model.specs.Counting.{IsNth};
-ghost use Rattle.trace_model.specs.Packet.{does};
+ghost use Rattle.trace_code.specs.trace_model.declared.event.Event.{Event as OneEvent};
+ghost use Rattle.trace_code.specs.trace_model.declared.packet.Packet.{Packet};
+ghost use Rattle.trace_code.specs.trace_model.declared.row.Row.{Row as OneRow};
+ghost use Rattle.trace_code.specs.trace_model.declared.trace.Trace.{Trace};
+ghost use Rattle.trace_code.specs.trace_model.Clock.{clock};
+ghost use Rattle.trace_code.specs.trace_model.Counting.{IsNth};
+ghost use Rattle.trace_code.specs.trace_model.Packet.{does};
 ghost use Rattle.trace_code.specs.Stands.{Stands};
-ghost use Rattle.run_model.specs.Held.{await_on, awaits, controlled, event, held, held_event, held_if, is_held, next_event, recorded_next, same_event, waits};
-ghost use Rattle.run_model.specs.Replay.{done};
+ghost use Rattle.chan_replayer.specs.run_model.Held.{await_on, awaits, controlled, event, held, held_event, held_if, is_held, next_event, recorded_next, same_event, waits};
+ghost use Rattle.chan_replayer.specs.run_model.Replay.{done};
 ghost use Rattle.replay_run.specs.Behind.{AreBehind, IsBehind};
 ghost use Rattle.replay_run.specs.Lists.{AreSpare, HasRoom, IsKept};
 
 use crate::cursors::{Cursors, cursor_of, is_in_flight};
-use run_model::{Await, Awaits, Held, Helds};
+use chan_replayer::run_model::{Await, Awaits, Held, Helds};
 use std::alloc::Global;
 use trace_code::Cursor;
-use trace_model::{Channel, Channels, Dir, Event, Events, Kind, Row};
-use vec_clock::Clock;
-use vidi_bits::{Items, Memory};
+use trace_code::trace_model::{Channel, Channels, Dir, Event, Events, Kind, Row};
+use trace_code::vec_clock::Clock;
+use trace_code::vidi_bits::{Items, Memory};
 
 /// Room for the lists of *End of replay*. Only `new` takes memory.
 #[derive(Drop)]

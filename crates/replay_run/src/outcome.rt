@@ -1,8 +1,8 @@
 //! What a replay answers.
 
-use run_model::Helds;
-use trace_model::Events;
-use vidi_bits::Bytes;
+use chan_replayer::run_model::Helds;
+use trace_code::trace_model::Events;
+use trace_code::vidi_bits::Bytes;
 
 /// How a replay ends.
 #[derive(Drop)]

@@ -1,20 +1,20 @@
 //! The trace that a replay writes.
 
 ghost use Rattle.std.specs.Prelude.{◌≡◌, ◌+◌, ◌-◌, ◌^◌, ◌≤◌, ◌<◌, ◌++◌, ◌∷◌, [], ℕ, List, IfOk, if◌then◌else◌, length, take};
-ghost use Rattle.trace_model.specs.declared.packet.TheConstants.{LONGEST_PACKET};
-ghost use Rattle.trace_model.specs.declared.channel.Channel.{Channel as OneChannel};
-ghost use Rattle.trace_model.specs.declared.row.Row.{Row as OneRow};
-ghost use Rattle.trace_model.specs.Channel.{content_bytes, IsTable};
-ghost use Rattle.trace_model.specs.Recording.{has_event, trace_of};
-ghost use Rattle.trace_model.specs.Row.{IsOver};
+ghost use Rattle.trace_code.specs.trace_model.declared.packet.TheConstants.{LONGEST_PACKET};
+ghost use Rattle.trace_code.specs.trace_model.declared.channel.Channel.{Channel as OneChannel};
+ghost use Rattle.trace_code.specs.trace_model.declared.row.Row.{Row as OneRow};
+ghost use Rattle.trace_code.specs.trace_model.Channel.{content_bytes, IsTable};
+ghost use Rattle.trace_code.specs.trace_model.Recording.{has_event, trace_of};
+ghost use Rattle.trace_code.specs.trace_model.Row.{IsOver};
 ghost use Rattle.trace_code.specs.Encoding.{encode, end_mark, row_bytes};
 ghost use Rattle.replay_run.specs.declared.output.TheConstants.{END_LEN};
 ghost use Rattle.replay_run.specs.Output.{longest, HasRoomFor, IsWritten};
 
 use std::alloc::Global;
+use trace_code::trace_model::{Channel, Channels, Row};
+use trace_code::vidi_bits::{Bytes, Items, Memory};
 use trace_code::{end_mark, header_bytes, write_packet};
-use trace_model::{Channel, Channels, Row};
-use vidi_bits::{Bytes, Items, Memory};
 
 /// The bytes of an encoded trace's end.
 const END_LEN: usize = 5;

@@ -1,13 +1,13 @@
 //! The cycles of a replay.
 
 ghost use Rattle.std.specs.Prelude.{◌≡◌, ◌+◌, ◌≤◌, ◌<◌, ◌++◌, ◌∷◌, [], ℕ, List, length};
-ghost use Rattle.trace_model.specs.declared.row.Row.{Row as OneRow};
-ghost use Rattle.trace_model.specs.declared.trace.Trace.{Trace};
-ghost use Rattle.trace_model.specs.Channel.{IsTable};
-ghost use Rattle.net_design.specs.declared.design.Design.{Design};
-ghost use Rattle.net_design.specs.declared.values.Values.{Values};
+ghost use Rattle.trace_code.specs.trace_model.declared.row.Row.{Row as OneRow};
+ghost use Rattle.trace_code.specs.trace_model.declared.trace.Trace.{Trace};
+ghost use Rattle.trace_code.specs.trace_model.Channel.{IsTable};
+ghost use Rattle.chan_replayer.specs.net_design.declared.design.Design.{Design};
+ghost use Rattle.chan_replayer.specs.net_design.declared.values.Values.{Values};
 ghost use Rattle.chan_replayer.specs.Feed.{IsFeed};
-ghost use Rattle.run_model.specs.Replay.{done};
+ghost use Rattle.chan_replayer.specs.run_model.Replay.{done};
 ghost use Rattle.replay_run.specs.Behind.{none_yet, AreBehind};
 ghost use Rattle.replay_run.specs.Standing.{AreKept, Plays, PlaysTo};
 
@@ -15,10 +15,10 @@ use crate::cursors::Cursors;
 use crate::feeding::follow;
 use crate::output::Output;
 use crate::turn::play_cycle;
-use chan_map::Map;
+use chan_replayer::chan_map::Map;
 use chan_replayer::{Feed, ReplayShell};
-use trace_model::{Channels, Row};
-use vec_clock::Clock;
+use trace_code::trace_model::{Channels, Row};
+use trace_code::vec_clock::Clock;
 
 /// What a replay keeps from its opening on.
 #[derive(Drop)]

@@ -1,16 +1,16 @@
 //! The replay.
 
 ghost use Rattle.std.specs.Prelude.{◌≡◌, ◌≤◌, [], ℕ, List, IfOk, OnErr, length};
-ghost use Rattle.trace_model.specs.declared.row.Row.{Row as OneRow};
-ghost use Rattle.trace_model.specs.declared.trace.Trace.{Trace};
-ghost use Rattle.trace_model.specs.Channel.{IsTable};
-ghost use Rattle.trace_model.specs.Row.{IsOver};
+ghost use Rattle.trace_code.specs.trace_model.declared.row.Row.{Row as OneRow};
+ghost use Rattle.trace_code.specs.trace_model.declared.trace.Trace.{Trace};
+ghost use Rattle.trace_code.specs.trace_model.Channel.{IsTable};
+ghost use Rattle.trace_code.specs.trace_model.Row.{IsOver};
 ghost use Rattle.trace_code.specs.Encoding.{Encodes};
-ghost use Rattle.net_design.specs.declared.design.Design.{Design};
-ghost use Rattle.net_design.specs.declared.values.Values.{Values};
-ghost use Rattle.chan_map.specs.declared.pins.Map.{Map as OneMap};
+ghost use Rattle.chan_replayer.specs.net_design.declared.design.Design.{Design};
+ghost use Rattle.chan_replayer.specs.net_design.declared.values.Values.{Values};
+ghost use Rattle.chan_replayer.specs.chan_map.declared.pins.Map.{Map as OneMap};
 ghost use Rattle.chan_replayer.specs.Feed.{IsFeed};
-ghost use Rattle.run_model.specs.Replay.{done};
+ghost use Rattle.chan_replayer.specs.run_model.Replay.{done};
 ghost use Rattle.replay_run.specs.Behind.{none_yet, AreBehind};
 ghost use Rattle.replay_run.specs.Lists.{HasRoom, IsKept};
 ghost use Rattle.replay_run.specs.Replaying.{EndsAs, IsReplayed};
@@ -22,12 +22,12 @@ use crate::lists::{Lists, held_and_waits};
 use crate::outcome::{ReplayOutcome, Replayed};
 use crate::output::Output;
 use crate::play::{Cells, Ending, play};
-use chan_map::Map;
 use chan_replayer::ReplayShell;
+use chan_replayer::chan_map::Map;
 use std::alloc::Global;
-use trace_model::{Channels, Row, row_over};
-use vec_clock::Clock;
-use vidi_bits::Memory;
+use trace_code::trace_model::{Channels, Row, row_over};
+use trace_code::vec_clock::Clock;
+use trace_code::vidi_bits::Memory;
 
 /// A row in which nothing is up.
 #[tactic(auto, using(crate::proofs::Silent::silent_over))]

@@ -1,20 +1,20 @@
 //! A cycle of a replay.
 
 ghost use Rattle.std.specs.Prelude.{◌≡◌, ◌+◌, ◌<◌, ◌++◌, ◌∷◌, [], ℕ, List, None, Some};
-ghost use Rattle.trace_model.specs.declared.packet.Packet.{Packet};
-ghost use Rattle.trace_model.specs.declared.row.Row.{Row as OneRow};
-ghost use Rattle.trace_model.specs.Row.{IsOver};
-ghost use Rattle.net_design.specs.declared.design.Design.{Design};
-ghost use Rattle.chan_monitor.specs.Shell.{HasPlaces};
+ghost use Rattle.trace_code.specs.trace_model.declared.packet.Packet.{Packet};
+ghost use Rattle.trace_code.specs.trace_model.declared.row.Row.{Row as OneRow};
+ghost use Rattle.trace_code.specs.trace_model.Row.{IsOver};
+ghost use Rattle.chan_replayer.specs.net_design.declared.design.Design.{Design};
+ghost use Rattle.chan_replayer.specs.chan_monitor.Shell.{HasPlaces};
 ghost use Rattle.chan_replayer.specs.Feed.{IsFeed, IsFeedOver};
-ghost use Rattle.run_model.specs.Played.{StopsBefore};
-ghost use Rattle.run_model.specs.Replay.{done, IsReplayRow};
+ghost use Rattle.chan_replayer.specs.run_model.Played.{StopsBefore};
+ghost use Rattle.chan_replayer.specs.run_model.Replay.{done, IsReplayRow};
 ghost use Rattle.replay_run.specs.Standing.{Plays};
 
-use chan_map::Map;
+use chan_replayer::chan_map::Map;
 use chan_replayer::{Feed, ReplayShell};
 use std::mem::swap;
-use trace_model::{Row, unstable};
+use trace_code::trace_model::{Row, unstable};
 
 /// A cycle under this feed. Gives the lowest channel on which its row is unstable, and then the cycle isn't committed; else its row
 /// becomes the last one.

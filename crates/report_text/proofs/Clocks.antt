@@ -5,11 +5,11 @@ use Rattle.std.proofs.lemmas.List.Sums.{count_by-le-length}
 use Rattle.std.proofs.lemmas.List.FromFn.{fill_by_all, get_or-map-range_with_len, length-map-range_with_len}
 use Rattle.std.specs.Int.{bit_at}
 use Rattle.std.specs.List.{range_with_len}
-use Rattle.trace_model.specs.declared.event.Kind.TheVariants.{End}
-use Rattle.trace_model.specs.declared.packet.Packet.{Packet}
-use Rattle.trace_model.specs.Packet.{does}
-use Rattle.trace_model.specs.Clock.{clock}
-use Rattle.trace_model.proofs.FlightLemmas.{count-end-suc}
+use Rattle.run_model.specs.trace_model.declared.event.Kind.TheVariants.{End}
+use Rattle.run_model.specs.trace_model.declared.packet.Packet.{Packet}
+use Rattle.run_model.specs.trace_model.Packet.{does}
+use Rattle.run_model.specs.trace_model.Clock.{clock}
+use Rattle.run_model.proofs.trace_model.FlightLemmas.{count-end-suc}
 
 -- before the first packet nothing has completed
 pub clock-first : (packets : List Packet) (n : ℕ) (xs : List ℕ) → length xs ≡ n → ((k : ℕ) → k < n → get_or xs k 0 ≡ 0) → xs

@@ -4,11 +4,11 @@ use Rattle.std.proofs.Common.{decimal, sym, ap, ◌∙◌, arith}
 use Rattle.std.proofs.lemmas.List.{take_more, append-nil, length-take-le, take-append-drop}
 use Rattle.std.proofs.lemmas.List.Concat.{flat_map-append}
 use Rattle.std.specs.List.{flat_map, enumerate_from}
-use Rattle.vidi_bits.specs.Number.{has}
-use Rattle.trace_model.proofs.ContentsLemmas.{content-there, enumerate-append}
-use Rattle.trace_model.specs.declared.channel.Channel.{Channel}
-use Rattle.trace_model.specs.declared.packet.Packet.{Packet}
-use Rattle.trace_model.specs.Packet.{widths_under}
+use Rattle.vidi_io.specs.vidi_bits.Number.{has}
+use Rattle.run_model.proofs.trace_model.ContentsLemmas.{content-there, enumerate-append}
+use Rattle.run_model.specs.trace_model.declared.channel.Channel.{Channel}
+use Rattle.run_model.specs.trace_model.declared.packet.Packet.{Packet}
+use Rattle.run_model.specs.trace_model.Packet.{widths_under}
 use Rattle.report_text.specs.Text.{spaced}
 use Rattle.report_text.specs.Trace.{start_line}
 

@@ -1,9 +1,9 @@
 -- The lines of one packet.
 use Rattle.std.proofs.Common.{◌≡◌, ℕ, List, ◌++◌, length, map, codes, ap, ◌∙◌}
 use Rattle.std.specs.List.{range_with_len}
-use Rattle.trace_model.specs.declared.channel.Channel.{Channel}
-use Rattle.trace_model.specs.declared.packet.Packet.{Packet}
-use Rattle.trace_model.specs.Clock.{clock}
+use Rattle.run_model.specs.trace_model.declared.channel.Channel.{Channel}
+use Rattle.run_model.specs.trace_model.declared.packet.Packet.{Packet}
+use Rattle.run_model.specs.trace_model.Clock.{clock}
 use Rattle.report_text.specs.Text.{spaced, newline}
 use Rattle.report_text.specs.Trace.{clock_text, start_lines, end_lines, packet_lines}
 

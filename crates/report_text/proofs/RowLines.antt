@@ -4,11 +4,11 @@ use Rattle.std.proofs.Common.{slice_get, codes, decimal, refl, sym, ap, ◌∙�
 use Rattle.std.proofs.lemmas.List.{take_more, drop-drop, append-nil, length-append}
 use Rattle.std.proofs.lemmas.Option.{slice_get_read}
 use Rattle.std.proofs.lemmas.List.Concat.{flat_map-append}
-use Rattle.vidi_bits.specs.Number.{has}
-use Rattle.trace_model.specs.declared.channel.Channel.{Channel}
-use Rattle.trace_model.specs.declared.row.Row.{Row}
-use Rattle.trace_model.specs.Packet.{widths_of}
-use Rattle.trace_model.specs.Row.{all_widths, content_at}
+use Rattle.vidi_io.specs.vidi_bits.Number.{has}
+use Rattle.run_model.specs.trace_model.declared.channel.Channel.{Channel}
+use Rattle.run_model.specs.trace_model.declared.row.Row.{Row}
+use Rattle.run_model.specs.trace_model.Packet.{widths_of}
+use Rattle.run_model.specs.trace_model.Row.{all_widths, content_at}
 use Rattle.report_text.specs.Text.{newline, spaced}
 use Rattle.report_text.specs.Rows.{row_start}
 

@@ -1,10 +1,10 @@
 -- The text of a replay that is short, computed on examples.
 use Rattle.std.proofs.Common.{◌≡◌, ℕ, List, [], ◌∷◌, ◌++◌, codes, refl}
 use Rattle.std.specs.Fmt.{digits}
-use Rattle.trace_model.specs.declared.channel.Channel.{Channel}
-use Rattle.trace_model.specs.declared.channel.Dir.TheVariants.{Inward, Outward}
-use Rattle.trace_model.specs.declared.event.Kind.{Kind}
-use Rattle.trace_model.specs.declared.event.Kind.TheVariants.{Start, End}
+use Rattle.run_model.specs.trace_model.declared.channel.Channel.{Channel}
+use Rattle.run_model.specs.trace_model.declared.channel.Dir.TheVariants.{Inward, Outward}
+use Rattle.run_model.specs.trace_model.declared.event.Kind.{Kind}
+use Rattle.run_model.specs.trace_model.declared.event.Kind.TheVariants.{Start, End}
 use Rattle.run_model.specs.declared.held.Await.{Await}
 use Rattle.run_model.specs.Held.{event}
 use Rattle.report_text.specs.Short.{short_lines}

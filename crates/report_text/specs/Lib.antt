@@ -8,3 +8,5 @@ pub mod Printing
 pub mod PrintingLaws
 pub mod Rows
 pub mod Short
+pub use Rattle.trace_compare.specs as trace_compare
+pub use Rattle.vidi_io.specs as vidi_io

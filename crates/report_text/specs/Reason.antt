@@ -4,8 +4,8 @@ use Rattle.report_text.specs.declared.reason.Word.{Word}
 use Rattle.report_text.specs.declared.reason.Word.TheVariants as words
 use Rattle.vlog_elab.specs.declared.error.Big.{Big}
 use Rattle.vlog_elab.specs.declared.error.Big.TheVariants.{Instances, Nets, Words}
-use Rattle.chan_map.specs.declared.error.MapLimit.{MapLimit}
-use Rattle.chan_map.specs.declared.error.MapLimit.TheVariants.{Channels, Ports, Bytes}
+use Rattle.run_model.specs.chan_map.declared.error.MapLimit.{MapLimit}
+use Rattle.run_model.specs.chan_map.declared.error.MapLimit.TheVariants.{Channels, Ports, Bytes}
 use Rattle.report_text.specs.declared.reason.Reason.{Reason}
 use Rattle.report_text.specs.declared.reason.Reason.TheVariants as reasons
 use Rattle.report_text.specs.Text.{newline, spaced}

@@ -1,7 +1,7 @@
 -- The lines of findings (this project's profile). Every line ends with a newline, and numbers are decimal.
 use Rattle.std.specs.Prelude.{ℕ, List, [], ◌++◌, Option, Some, None, slice_get, codes, decimal}
 use Rattle.std.specs.List.{flat_map}
-use Rattle.trace_model.specs.declared.channel.Channel.{Channel}
+use Rattle.run_model.specs.trace_model.declared.channel.Channel.{Channel}
 use Rattle.trace_compare.specs.declared.report.Finding.{Finding}
 use Rattle.trace_compare.specs.declared.report.What.{What}
 use Rattle.trace_compare.specs.declared.report.What.TheVariants.{Differs, MissingStart, ExtraStart, MissingEnd, ExtraEnd}

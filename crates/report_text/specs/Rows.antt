@@ -1,10 +1,10 @@
 -- The lines of the rows of a run (this project's profile): its starts and ends, cycle by cycle.
 use Rattle.std.specs.Prelude.{ℕ, List, [], ◌++◌, codes, decimal, if◌then◌else◌}
 use Rattle.std.specs.List.{flat_map, enumerate_from}
-use Rattle.vidi_bits.specs.Number.{has}
-use Rattle.trace_model.specs.declared.channel.Channel.{Channel}
-use Rattle.trace_model.specs.declared.row.Row.{Row}
-use Rattle.trace_model.specs.Row.{content_at}
+use Rattle.vidi_io.specs.vidi_bits.Number.{has}
+use Rattle.run_model.specs.trace_model.declared.channel.Channel.{Channel}
+use Rattle.run_model.specs.trace_model.declared.row.Row.{Row}
+use Rattle.run_model.specs.trace_model.Row.{content_at}
 use Rattle.report_text.specs.Text.{newline, spaced}
 
 -- `T start CH V ..` for each channel that starts in cycle T, with its content in the row

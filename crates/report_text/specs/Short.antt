@@ -1,10 +1,10 @@
 -- The lines of a replay that is short (this project's profile). Every line ends with a newline, and numbers are decimal.
 use Rattle.std.specs.Prelude.{ℕ, List, ◌++◌, codes, decimal}
 use Rattle.std.specs.List.{flat_map}
-use Rattle.trace_model.specs.declared.channel.Channel.{Channel}
-use Rattle.trace_model.specs.declared.event.Event.{Event}
-use Rattle.trace_model.specs.declared.event.Kind.{Kind}
-use Rattle.trace_model.specs.declared.event.Kind.TheVariants.{Start, End}
+use Rattle.run_model.specs.trace_model.declared.channel.Channel.{Channel}
+use Rattle.run_model.specs.trace_model.declared.event.Event.{Event}
+use Rattle.run_model.specs.trace_model.declared.event.Kind.{Kind}
+use Rattle.run_model.specs.trace_model.declared.event.Kind.TheVariants.{Start, End}
 use Rattle.run_model.specs.declared.held.Await.{Await}
 use Rattle.run_model.specs.declared.held.Held.{Held}
 use Rattle.report_text.specs.Report.{name_of}

@@ -1,14 +1,14 @@
 -- The lines of a trace (this project's profile).
 use Rattle.std.specs.Prelude.{ℕ, List, [], ◌++◌, length, map, codes, decimal, if◌then◌else◌}
 use Rattle.std.specs.List.{flat_map, enumerate_from, range_with_len}
-use Rattle.vidi_bits.specs.Number.{has}
-use Rattle.trace_model.specs.declared.channel.Channel.{Channel}
-use Rattle.trace_model.specs.declared.channel.Dir.{Dir}
-use Rattle.trace_model.specs.declared.channel.Dir.TheVariants.{Inward, Outward}
-use Rattle.trace_model.specs.declared.packet.Packet.{Packet}
-use Rattle.trace_model.specs.declared.trace.Trace.{Trace}
-use Rattle.trace_model.specs.Packet.{content_of}
-use Rattle.trace_model.specs.Clock.{clock}
+use Rattle.vidi_io.specs.vidi_bits.Number.{has}
+use Rattle.run_model.specs.trace_model.declared.channel.Channel.{Channel}
+use Rattle.run_model.specs.trace_model.declared.channel.Dir.{Dir}
+use Rattle.run_model.specs.trace_model.declared.channel.Dir.TheVariants.{Inward, Outward}
+use Rattle.run_model.specs.trace_model.declared.packet.Packet.{Packet}
+use Rattle.run_model.specs.trace_model.declared.trace.Trace.{Trace}
+use Rattle.run_model.specs.trace_model.Packet.{content_of}
+use Rattle.run_model.specs.trace_model.Clock.{clock}
 use Rattle.report_text.specs.Text.{newline, spaced}
 
 abbrev pub direction_text : Dir → List ℕ

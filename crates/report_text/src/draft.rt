@@ -4,7 +4,7 @@ ghost use Rattle.std.specs.Prelude.{◌≡◌, false, ◌++◌, IfOk};
 
 use crate::page::Page;
 use std::alloc::Global;
-use vidi_bits::{Bytes, Memory};
+use vidi_io::vidi_bits::{Bytes, Memory};
 
 /// A page in memory, which grows. It is lost where no memory is found.
 #[derive(Drop)]

@@ -3,7 +3,7 @@
 ghost use Rattle.std.specs.Prelude.{◌≤◌, length};
 
 use std::alloc::Global;
-use vidi_bits::Memory;
+use vidi_io::vidi_bits::Memory;
 
 /// How many bytes are gathered for one push.
 pub const PAD_BYTES: usize = 65_536;

@@ -5,10 +5,10 @@ ghost use Rattle.report_text.specs.Reason as said;
 ghost use Rattle.report_text.specs.Text.{spaced};
 
 use crate::text::{put, put_number, put_numbers};
-use chan_map::MapLimit;
 use itoa::Integer;
+use run_model::chan_map::MapLimit;
 use std::alloc::Global;
-use vidi_bits::{Bytes, Items, Memory, Name};
+use vidi_io::vidi_bits::{Bytes, Items, Memory, Name};
 use vlog_elab::Big;
 
 /// A file among a command's words.

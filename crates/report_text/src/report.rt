@@ -4,10 +4,10 @@ ghost use Rattle.std.specs.Prelude.{◌≡◌, ◌++◌, OnOk, IfOk, codes};
 ghost use Rattle.report_text.specs.Report as said;
 
 use crate::text::{put, put_number};
+use run_model::trace_model::{Channel, Channels};
 use std::alloc::Global;
 use trace_compare::{Finding, Report, What};
-use trace_model::{Channel, Channels};
-use vidi_bits::{Bytes, Memory};
+use vidi_io::vidi_bits::{Bytes, Memory};
 
 /// The lines of findings on these channels, one each.
 pub fn report_lines(alloc: Global, report: &Report, channels: &Channels) -> Result<Bytes, Memory>

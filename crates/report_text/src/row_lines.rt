@@ -13,9 +13,9 @@ use crate::pad::{PAD_BYTES, Pad};
 use crate::page::{Page, print_number, print_numbers};
 use crate::printer::Printer;
 use crate::trace_text::print_end;
+use run_model::trace_model::{Channel, Channels, Row, Rows, names, split_content};
 use std::alloc::Global;
-use trace_model::{Channel, Channels, Row, Rows, names, split_content};
-use vidi_bits::{Bytes, Memory};
+use vidi_io::vidi_bits::{Bytes, Memory};
 use vidi_io::{Failed, Sink};
 
 /// The lines that `run` prints of its rows, without the last line.

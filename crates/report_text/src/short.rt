@@ -6,10 +6,10 @@ ghost use Rattle.report_text.specs.Short as said;
 
 use crate::report::name_of;
 use crate::text::{put, put_number};
+use run_model::trace_model::{Channel, Channels, Event, Events, Kind};
 use run_model::{Await, Held, Helds};
 use std::alloc::Global;
-use trace_model::{Channel, Channels, Event, Events, Kind};
-use vidi_bits::{Bytes, Memory};
+use vidi_io::vidi_bits::{Bytes, Memory};
 
 /// The lines of a replay that is short after so many cycles: what it holds back with what that awaits, and what it waits for.
 pub fn short_lines(

@@ -11,9 +11,9 @@ use crate::draft::Draft;
 use crate::pad::{PAD_BYTES, Pad};
 use crate::printer::Printer;
 use crate::trace_text::print_trace;
+use run_model::trace_model::Trace;
 use std::alloc::Global;
-use trace_model::Trace;
-use vidi_bits::{Bytes, Memory};
+use vidi_io::vidi_bits::{Bytes, Memory};
 use vidi_io::{Failed, Sink};
 
 /// How many bytes the text of a clock of so many channels has at most.

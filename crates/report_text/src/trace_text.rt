@@ -12,7 +12,7 @@ ghost use Rattle.report_text.specs.Trace as said;
 use crate::pad::Pad;
 use crate::page::{Page, print_number, print_numbers};
 use itoa::Buffer;
-use trace_model::{Channel, Dir, Packet, Trace, names, split_content};
+use run_model::trace_model::{Channel, Dir, Packet, Trace, names, split_content};
 
 /// Prints the lines of a trace. `completed` counts each channel's completions so far, and `clock` holds the text of
 /// a packet's clock: for each channel a space and at most 20 digits.

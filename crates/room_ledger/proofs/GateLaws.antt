@@ -5,7 +5,7 @@ use Rattle.std.specs.Prelude.{IsSomeAnd}
 use Rattle.std.proofs.lemmas.Bool.{cases_Bool, cases_lt, false≢true}
 use Rattle.std.proofs.lemmas.List.{length-take-le}
 use Rattle.std.proofs.lemmas.Option.{slice_get_cases}
-use Rattle.vidi_bits.specs.Number.{has}
+use Rattle.trace_model.specs.vidi_bits.Number.{has}
 use Rattle.trace_model.specs.declared.row.Row.{Row}
 use Rattle.trace_model.specs.Length.{head_len}
 use Rattle.trace_model.specs.Row.{is_in_flight}

@@ -8,3 +8,4 @@ pub mod Following
 pub mod Existence
 pub mod Books
 mod Examples
+pub use Rattle.trace_model.proofs.vidi_bits as vidi_bits

@@ -4,7 +4,7 @@ use Rattle.std.proofs.Common.{length, take, slice_get, bit_or, leb, refl, ap, sy
 use Rattle.std.proofs.lemmas.Bool.{cases_Bool, cases_eq}
 use Rattle.std.proofs.lemmas.Option.{same_Some}
 use Rattle.std.proofs.Math.Bool.{or-false}
-use Rattle.vidi_bits.specs.Number.{has}
+use Rattle.trace_model.specs.vidi_bits.Number.{has}
 use Rattle.room_ledger.specs.Reservation.{whole}
 use Rattle.room_ledger.specs.Raising.{raise}
 use Rattle.room_ledger.proofs.Masks.{has-or, has-pow_same, has-pow_other}

@@ -1,7 +1,7 @@
 -- *Gates*: the bytes used and the gates in each row, added up anew from the rows before it (this project's profile).
 use Rattle.std.specs.Prelude.{◌≡◌, ℕ, zero, suc, ◌+◌, ◌-◌, ◌^◌, ◌&&◌, Bool}
 use Rattle.std.specs.Prelude.{not, List, Option, Some, None, min, length, slice_get, IsSomeAnd}
-use Rattle.vidi_bits.specs.Number.{has}
+use Rattle.trace_model.specs.vidi_bits.Number.{has}
 use Rattle.trace_model.specs.declared.row.Row.{Row}
 use Rattle.trace_model.specs.Row.{completes, is_in_flight}
 use Rattle.room_ledger.specs.Reservation.{event_len, AreRaised}

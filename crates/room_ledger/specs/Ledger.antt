@@ -1,6 +1,6 @@
 -- What a `Room` stands for, and what its calls make of it.
 use Rattle.std.specs.Prelude.{◌≡◌, ℕ, ◌+◌, ◌^◌, ◌<◌, ◌≤◌, ◌&&◌, ◌||◌, true, false, not, List, length}
-use Rattle.vidi_bits.specs.Number.{has}
+use Rattle.trace_model.specs.vidi_bits.Number.{has}
 use Rattle.room_ledger.specs.Reservation.{need, reserved, event_len, AreRaised}
 use Rattle.room_ledger.specs.Gates.{all_up}
 

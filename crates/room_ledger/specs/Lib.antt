@@ -4,3 +4,5 @@ pub mod Raising
 pub mod Ledger
 pub mod Laws
 pub mod Refusal
+pub use Rattle.trace_model.specs as trace_model
+pub use Rattle.trace_model.specs.vidi_bits as vidi_bits

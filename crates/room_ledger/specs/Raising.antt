@@ -1,6 +1,6 @@
 -- Which gates go up, in the manner of the code: one channel after the other, with the sum so far.
 use Rattle.std.specs.Prelude.{ℕ, ◌+◌, ◌^◌, ◌&&◌, not, List, [], ◌∷◌, bit_or, nat_le, if◌then◌else◌}
-use Rattle.vidi_bits.specs.Number.{has}
+use Rattle.trace_model.specs.vidi_bits.Number.{has}
 use Rattle.room_ledger.specs.Reservation.{whole}
 
 -- the gates after those from channel c on, whose sizes these are, were taken in order; `claimed` is what is used and reserved before

@@ -2,7 +2,7 @@
 use Rattle.std.specs.Prelude.{◌≡◌, ℕ, ◌+◌, ◌*◌, ◌≤◌, ◌==◌, ◌&&◌, Bool, true}
 use Rattle.std.specs.Prelude.{false, not, List, Some, length, take, slice_get, nat_le, sum_by, if◌then◌else◌}
 use Rattle.std.specs.List.{enumerate_from}
-use Rattle.vidi_bits.specs.Number.{has}
+use Rattle.trace_model.specs.vidi_bits.Number.{has}
 use Rattle.trace_model.specs.Length.{head_len}
 
 -- R_c: a packet of the start with the content, and one of the end; `head` is H, the length of a packet without contents

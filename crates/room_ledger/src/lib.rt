@@ -15,3 +15,5 @@ pub use laws::{
     all_stay_up, down_only_while_bytes_wait, one_set_of_gates, room_keeps_gates, same_length,
 };
 pub use room::Room;
+pub use trace_model;
+pub use trace_model::vidi_bits;

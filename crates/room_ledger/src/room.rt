@@ -2,7 +2,7 @@
 
 ghost use Rattle.room_ledger.specs.declared.room.TheConstants.{MOST_CONTENT_BYTES};
 ghost use Rattle.std.specs.Prelude.{◌≡◌, ◌<◌, ◌≤◌, ◌^◌, ◌↔◌, IsTrue, IfOk, IfErr, length, map, sum_by};
-ghost use Rattle.vidi_bits.specs.Number.{has};
+ghost use Rattle.trace_model.specs.vidi_bits.Number.{has};
 ghost use Rattle.trace_model.specs.Channel.{content_bytes};
 ghost use Rattle.room_ledger.specs.Reservation.{need, event_len};
 ghost use Rattle.room_ledger.specs.Gates.{drained, left};

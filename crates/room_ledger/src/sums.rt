@@ -3,7 +3,7 @@
 ghost use Rattle.room_ledger.specs.declared.room.TheConstants.{MOST_CONTENT_BYTES};
 ghost use Rattle.std.specs.Prelude.{◌≡◌, ◌<◌, ◌≤◌, ◌^◌, IfOk, IfErr, length, map, sum_by, if◌then◌else◌};
 ghost use Rattle.std.specs.List.{enumerate_from};
-ghost use Rattle.vidi_bits.specs.Number.{has};
+ghost use Rattle.trace_model.specs.vidi_bits.Number.{has};
 ghost use Rattle.trace_model.specs.Channel.{content_bytes};
 ghost use Rattle.trace_model.specs.Length.{head_len};
 ghost use Rattle.room_ledger.specs.Reservation.{whole, reservation, sizes_under, event_len};

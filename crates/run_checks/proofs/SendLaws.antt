@@ -1,11 +1,11 @@
 -- Offers of a content on the stage's inward channel.
 use Rattle.std.proofs.Common.{◌≡◌, ℕ, zero, suc, ◌<◌, List, [], ◌∷◌, All, refl, ap, ◌∙◌, arith}
 use Rattle.std.proofs.lemmas.Option.{same_Some}
-use Rattle.run_model.specs.Offers.{AreZeroWhileDown}
-use Rattle.trace_model.specs.declared.channel.Channel.{Channel}
-use Rattle.trace_model.specs.declared.channel.Dir.TheVariants.{Inward, Outward}
-use Rattle.trace_model.specs.declared.row.Offers.{Offers}
-use Rattle.trace_model.specs.Row.{AreOffers}
+use Rattle.run_reference.specs.run_model.Offers.{AreZeroWhileDown}
+use Rattle.run_reference.specs.trace_model.declared.channel.Channel.{Channel}
+use Rattle.run_reference.specs.trace_model.declared.channel.Dir.TheVariants.{Inward, Outward}
+use Rattle.run_reference.specs.trace_model.declared.row.Offers.{Offers}
+use Rattle.run_reference.specs.trace_model.Row.{AreOffers}
 use Rattle.sample_designs.specs.Stage.{stage_channels}
 use Rattle.run_checks.specs.Given.{IsSend}
 

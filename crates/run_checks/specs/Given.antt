@@ -1,7 +1,7 @@
 -- What the environment of a design of two channels offers in a cycle.
-use Rattle.trace_model.specs.declared.row.Offers.{Offers}
-use Rattle.trace_model.specs.Row.{AreOffers}
-use Rattle.run_model.specs.Offers.{AreZeroWhileDown}
+use Rattle.run_reference.specs.trace_model.declared.row.Offers.{Offers}
+use Rattle.run_reference.specs.trace_model.Row.{AreOffers}
+use Rattle.run_reference.specs.run_model.Offers.{AreZeroWhileDown}
 use Rattle.sample_designs.specs.Stage.{stage_channels}
 
 -- offers that a run and a shell of a stage take

@@ -1,13 +1,13 @@
 -- A shell in the middle of a run.
 use Rattle.std.specs.Prelude.{Option}
-use Rattle.trace_model.specs.declared.row.Offers.{Offers}
-use Rattle.trace_model.specs.declared.row.Row.{Row}
-use Rattle.trace_model.specs.Row.{IsMarked, IsOver}
-use Rattle.net_design.specs.declared.design.Design.{Design}
-use Rattle.net_design.specs.declared.values.Values.{Values}
-use Rattle.chan_map.specs.declared.pins.Map.{Map}
-use Rattle.run_model.specs.Offers.{Carries}
-use Rattle.run_model.specs.Step.{IsStep}
+use Rattle.run_reference.specs.trace_model.declared.row.Offers.{Offers}
+use Rattle.run_reference.specs.trace_model.declared.row.Row.{Row}
+use Rattle.run_reference.specs.trace_model.Row.{IsMarked, IsOver}
+use Rattle.chan_monitor.specs.net_design.declared.design.Design.{Design}
+use Rattle.chan_monitor.specs.net_design.declared.values.Values.{Values}
+use Rattle.run_reference.specs.chan_map.declared.pins.Map.{Map}
+use Rattle.run_reference.specs.run_model.Offers.{Carries}
+use Rattle.run_reference.specs.run_model.Step.{IsStep}
 
 -- a cycle with this row leads from state s to the state `after`, in which the shell runs on
 pub record IsTurn (runs : Design → Values → Option Row

@@ -1,14 +1,14 @@
 //! What the tests offer.
 
 ghost use Rattle.std.specs.Prelude.{◌≡◌, ◌<◌, All, IfOk, length};
-ghost use Rattle.run_model.specs.Offers.{AreZeroWhileDown};
-ghost use Rattle.trace_model.specs.Row.{AreOffers};
+ghost use Rattle.run_reference.specs.run_model.Offers.{AreZeroWhileDown};
+ghost use Rattle.run_reference.specs.trace_model.Row.{AreOffers};
 ghost use Rattle.run_checks.specs.Given.{IsSend};
 ghost use Rattle.sample_designs.specs.Stage.{stage_channels};
 
+use run_reference::trace_model::Offers;
+use run_reference::vidi_bits::{Items, Memory, Numbers};
 use std::alloc::Global;
-use trace_model::Offers;
-use vidi_bits::{Items, Memory, Numbers};
 
 /// `a` offers this content, and `b` is taken.
 #[tactic(auto, using(crate::proofs::SendLaws::send_up))]

@@ -12,3 +12,6 @@ pub use sends::is_two_sends;
 mod given;
 #[cfg(test)]
 mod run_tests;
+
+pub use sample_designs;
+pub use sample_designs::net_sim;

@@ -1,20 +1,20 @@
 //! Runs of a shell, cycle by cycle.
 
 ghost use Rattle.std.specs.Prelude.{◌≡◌, ◌<◌, ◌^◌, Option, All, length, IfOk};
-ghost use Rattle.run_model.specs.Offers.{AreZeroWhileDown};
-ghost use Rattle.trace_model.specs.declared.row.Row.{Row as OneRow};
-ghost use Rattle.trace_model.specs.Row.{AreOffers};
-ghost use Rattle.net_design.specs.declared.design.Design.{Design};
-ghost use Rattle.net_design.specs.declared.values.Values.{Values};
-ghost use Rattle.run_model.specs.Laws.{GatesOf};
-ghost use Rattle.run_model.specs.Run.{IsRun};
+ghost use Rattle.run_reference.specs.run_model.Offers.{AreZeroWhileDown};
+ghost use Rattle.run_reference.specs.trace_model.declared.row.Row.{Row as OneRow};
+ghost use Rattle.run_reference.specs.trace_model.Row.{AreOffers};
+ghost use Rattle.chan_monitor.specs.net_design.declared.design.Design.{Design};
+ghost use Rattle.chan_monitor.specs.net_design.declared.values.Values.{Values};
+ghost use Rattle.run_reference.specs.run_model.Laws.{GatesOf};
+ghost use Rattle.run_reference.specs.run_model.Run.{IsRun};
 ghost use Rattle.run_reference.specs.Given.{offers_by, gates_by};
 ghost use Rattle.run_checks.specs.Playing.{IsTurn};
 
 use chan_monitor::Shell;
+use run_reference::trace_model::{Channels, Offers, Row, Rows, row_over};
+use run_reference::vidi_bits::Memory;
 use std::alloc::Global;
-use trace_model::{Channels, Offers, Row, Rows, row_over};
-use vidi_bits::Memory;
 
 /// One cycle of a shell, and its row.
 pub(crate) fn cycle<S: Shell>(

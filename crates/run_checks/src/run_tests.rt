@@ -2,24 +2,24 @@
 //! its gates, valids, readies, starts and ends.
 
 ghost use Rattle.std.specs.Prelude.{◌≡◌, ◌<◌, ◌^◌, All, IfOk, length};
-ghost use Rattle.trace_model.specs.Row.{AreOffers};
-ghost use Rattle.run_model.specs.Building.{PortsAreNets};
-ghost use Rattle.run_model.specs.MapOf.{IsMapOf};
+ghost use Rattle.run_reference.specs.trace_model.Row.{AreOffers};
+ghost use Rattle.run_reference.specs.run_model.Building.{PortsAreNets};
+ghost use Rattle.run_reference.specs.run_model.MapOf.{IsMapOf};
 ghost use Rattle.sample_designs.specs.Stage.{flick_channels, stage_channels};
 
 use crate::given::two_sends;
 use crate::play::play_shell;
 use crate::sends::is_two_sends;
-use chan_map::Map;
 use chan_monitor::{Machines, Shell};
-use net_sim::Sim;
+use run_reference::chan_map::Map;
 use run_reference::run_rows;
+use run_reference::trace_model::{Channels, Offers, Row, Rows};
+use run_reference::vidi_bits::{Items, Memory, Numbers};
+use sample_designs::net_sim::Sim;
 use sample_designs::{
     Sample, Stage, flick_channels, is_row, sample_stage, stage_channels, two_channel_stage,
 };
 use std::alloc::Global;
-use trace_model::{Channels, Offers, Row, Rows};
-use vidi_bits::{Items, Memory, Numbers};
 
 /// All gates are up.
 const OPEN: [u128; 6] = [3, 3, 3, 3, 3, 3];

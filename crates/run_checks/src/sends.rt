@@ -1,7 +1,7 @@
 //! Rows that tests of several crates want.
 
+use run_reference::trace_model::Row;
 use sample_designs::is_row;
-use trace_model::Row;
 
 /// The rows of the register stage with all gates up: `a` completes in rows 0 and 2, and `b` in rows 1 and 3. In row 1 the stage is
 /// full, so the second content is offered again.

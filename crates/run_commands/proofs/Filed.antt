@@ -4,17 +4,17 @@ use Rattle.std.proofs.Common.{inl, inr, refl, sym, ap, subst, ◌∙◌, arith}
 use Rattle.std.proofs.lemmas.Option.{same_Some}
 use Rattle.std.specs.Prelude.{IfOk, IfErr, IfSome}
 use Rattle.std.specs.Io.KnownBytes.{append_known}
-use Rattle.trace_model.specs.declared.row.Row.{Row}
-use Rattle.trace_model.specs.declared.trace.Trace.{Trace}
-use Rattle.trace_model.specs.Recording.{trace_of}
-use Rattle.trace_code.specs.Encoding.{encode}
-use Rattle.net_design.specs.declared.design.Design.{Design}
-use Rattle.net_design.specs.declared.values.Values.{Values}
-use Rattle.net_design.specs.Lawful.{IsLawful}
-use Rattle.vidi_io.specs.Shelf.{Files, Later, appended, holding, emptied}
-use Rattle.vidi_io.specs.ShelfSink.{bytes_written, IsOver}
-use Rattle.vidi_io.specs.Sink.{Frame}
-use Rattle.vidi_io.proofs.Started.{appended-holding, ok-pushed, written-started}
+use Rattle.bench_run.specs.trace_model.declared.row.Row.{Row}
+use Rattle.bench_run.specs.trace_model.declared.trace.Trace.{Trace}
+use Rattle.bench_run.specs.trace_model.Recording.{trace_of}
+use Rattle.vidi_recorder.specs.trace_code.Encoding.{encode}
+use Rattle.net_sim.specs.net_design.declared.design.Design.{Design}
+use Rattle.net_sim.specs.net_design.declared.values.Values.{Values}
+use Rattle.net_sim.specs.net_design.Lawful.{IsLawful}
+use Rattle.vidi_recorder.specs.vidi_io.Shelf.{Files, Later, appended, holding, emptied}
+use Rattle.vidi_recorder.specs.vidi_io.ShelfSink.{bytes_written, IsOver}
+use Rattle.vidi_recorder.specs.vidi_io.Sink.{Frame}
+use Rattle.vidi_recorder.proofs.vidi_io.Started.{appended-holding, ok-pushed, written-started}
 use Rattle.vidi_recorder.specs.declared.error.Outcome.{Outcome}
 use Rattle.vidi_recorder.specs.declared.error.Outcome.TheVariants as outcomes
 use Rattle.vidi_recorder.specs.declared.error.RecordError.{RecordError}

@@ -1,9 +1,9 @@
 -- Names of channels are short.
 use Rattle.std.proofs.Common.{◌≡◌, ℕ, ◌≤◌, List, [], ◌∷◌, Option, None, Some, length, slice_get, refl, arith}
-use Rattle.run_model.proofs.PinLemmas.{all-at}
-use Rattle.trace_model.specs.declared.channel.Channel.{Channel}
-use Rattle.trace_model.specs.Channel.{IsName, IsChannel, IsTable}
-use Rattle.report_text.specs.Report.{its_name, name_of}
+use Rattle.bench_run.proofs.run_model.PinLemmas.{all-at}
+use Rattle.bench_run.specs.trace_model.declared.channel.Channel.{Channel}
+use Rattle.bench_run.specs.trace_model.Channel.{IsName, IsChannel, IsTable}
+use Rattle.vidi_bench.specs.report_text.Report.{its_name, name_of}
 
 name_short : (name : List ℕ) → IsName name → length name ≤ 64
 name_short [] is = absurd is

@@ -1,22 +1,22 @@
 -- The commands on designs: no failed write among their answers, and the same where no read failed.
 use Rattle.std.proofs.Common.{◌≡◌, ℕ, List, Option, None, Some, Ok, inl, inr, length}
-use Rattle.trace_model.specs.declared.channel.Channel.{Channel}
-use Rattle.trace_model.specs.declared.row.Row.{Row}
-use Rattle.trace_model.specs.Recording.{packets_of}
-use Rattle.net_design.specs.declared.design.Design.{Design}
-use Rattle.vlog_design.specs.Design.{file_counts}
-use Rattle.chan_map.specs.declared.pins.Map.{Map}
-use Rattle.room_ledger.specs.Reservation.{need}
-use Rattle.script_text.specs.declared.script.Script.{Script}
-use Rattle.script_text.specs.declared.stalls.Stalls.{Stalls}
-use Rattle.script_text.specs.Reasons.{read_lines}
-use Rattle.script_text.specs.Stalls.{ReadsStalls}
+use Rattle.bench_run.specs.trace_model.declared.channel.Channel.{Channel}
+use Rattle.bench_run.specs.trace_model.declared.row.Row.{Row}
+use Rattle.bench_run.specs.trace_model.Recording.{packets_of}
+use Rattle.net_sim.specs.net_design.declared.design.Design.{Design}
+use Rattle.vidi_bench.specs.vlog_design.Design.{file_counts}
+use Rattle.bench_run.specs.chan_map.declared.pins.Map.{Map}
+use Rattle.vidi_recorder.specs.room_ledger.Reservation.{need}
+use Rattle.bench_run.specs.script_text.declared.script.Script.{Script}
+use Rattle.bench_run.specs.script_text.declared.stalls.Stalls.{Stalls}
+use Rattle.bench_run.specs.script_text.Reasons.{read_lines}
+use Rattle.bench_run.specs.script_text.Stalls.{ReadsStalls}
 use Rattle.bench_run.specs.declared.plain.Spot.{Spot}
-use Rattle.vidi_io.specs.Shelf.{Files}
+use Rattle.vidi_recorder.specs.vidi_io.Shelf.{Files}
 use Rattle.vidi_recorder.specs.Course.{sizes_of}
-use Rattle.report_text.specs.declared.reason.Word.TheVariants as words
-use Rattle.report_text.specs.declared.reason.Reason.TheVariants.{StallLine, TooSmall}
-use Rattle.report_text.specs.Rows.{run_text}
+use Rattle.vidi_bench.specs.report_text.declared.reason.Word.TheVariants as words
+use Rattle.vidi_bench.specs.report_text.declared.reason.Reason.TheVariants.{StallLine, TooSmall}
+use Rattle.vidi_bench.specs.report_text.Rows.{run_text}
 use Rattle.vidi_bench.specs.declared.bench.Bench.{Bench}
 use Rattle.vidi_bench.specs.declared.status.Status.{Status}
 use Rattle.vidi_bench.specs.declared.status.Status.TheVariants.{Done, WriteFault, Unstable}

@@ -1,8 +1,8 @@
 -- From a recording into a file to the answer of `record`.
 use Rattle.std.proofs.Common.{◌≡◌, ℕ, List, Option, None, Some, Result, Ok, Err, length, inl, inr, sym, ap, subst, ◌∙◌}
 use Rattle.std.specs.Prelude.{IfOk, IfErr}
-use Rattle.script_text.specs.declared.stalls.Stalls.{Stalls}
-use Rattle.vidi_io.specs.Shelf.{Files}
+use Rattle.bench_run.specs.script_text.declared.stalls.Stalls.{Stalls}
+use Rattle.vidi_recorder.specs.vidi_io.Shelf.{Files}
 use Rattle.vidi_recorder.specs.declared.error.Outcome.{Outcome}
 use Rattle.vidi_recorder.specs.declared.error.Outcome.TheVariants as outcomes
 use Rattle.vidi_recorder.specs.Course.{Course}

@@ -1,10 +1,10 @@
 -- From the files of a command to what their texts say.
 use Rattle.std.proofs.Common.{ℕ, List, Option, Result, Ok, Err, ◌≤◌, inl, inr}
 use Rattle.std.specs.Prelude.{IfOk}
-use Rattle.room_ledger.specs.Reservation.{need}
-use Rattle.script_text.specs.Reasons.{read_lines}
-use Rattle.script_text.specs.Stalls.{ReadsStalls}
-use Rattle.vidi_io.specs.Shelf.{Files}
+use Rattle.vidi_recorder.specs.room_ledger.Reservation.{need}
+use Rattle.bench_run.specs.script_text.Reasons.{read_lines}
+use Rattle.bench_run.specs.script_text.Stalls.{ReadsStalls}
+use Rattle.vidi_recorder.specs.vidi_io.Shelf.{Files}
 use Rattle.vidi_recorder.specs.Course.{sizes_of}
 use Rattle.vidi_bench.specs.declared.answer.Ended.{Ended}
 use Rattle.run_commands.specs.declared.recording.Planned.{Planned}

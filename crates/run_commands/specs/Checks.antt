@@ -1,8 +1,8 @@
 -- What `check DESIGN TOP` owes.
 use Rattle.std.specs.Prelude.{ℕ, List, Option}
-use Rattle.vidi_io.specs.Shelf.{Files}
-use Rattle.vlog_design.specs.Design.{file_counts}
-use Rattle.report_text.specs.declared.reason.Word.TheVariants as words
+use Rattle.vidi_recorder.specs.vidi_io.Shelf.{Files}
+use Rattle.vidi_bench.specs.vlog_design.Design.{file_counts}
+use Rattle.vidi_bench.specs.report_text.declared.reason.Word.TheVariants as words
 use Rattle.vidi_bench.specs.declared.status.Status.TheVariants.{Done}
 use Rattle.vidi_bench.specs.Design.{text_limit, Building, Spelling}
 use Rattle.vidi_bench.specs.Reading.{Reading}

@@ -3,3 +3,7 @@ pub mod Recorded
 pub mod Records
 pub mod Runs
 pub mod Said
+pub use Rattle.bench_run.specs as bench_run
+pub use Rattle.net_sim.specs.net_order as net_order
+pub use Rattle.bench_run.specs.script_text as script_text
+pub use Rattle.vidi_recorder.specs as vidi_recorder

@@ -1,9 +1,9 @@
 -- What a recording into a file leaves, by its outcome, and what is said of it.
 use Rattle.std.specs.Prelude.{◌≡◌, ℕ, List, Option, None, Some, length}
-use Rattle.vidi_io.specs.Shelf.{Files}
-use Rattle.trace_model.specs.declared.channel.Channel.{Channel}
-use Rattle.trace_model.specs.declared.row.Row.{Row}
-use Rattle.trace_model.specs.Recording.{packets_of}
+use Rattle.vidi_recorder.specs.vidi_io.Shelf.{Files}
+use Rattle.bench_run.specs.trace_model.declared.channel.Channel.{Channel}
+use Rattle.bench_run.specs.trace_model.declared.row.Row.{Row}
+use Rattle.bench_run.specs.trace_model.Recording.{packets_of}
 use Rattle.vidi_recorder.specs.declared.error.Outcome.{Outcome}
 use Rattle.vidi_recorder.specs.declared.error.Outcome.TheVariants as outcomes
 use Rattle.vidi_recorder.specs.declared.error.RecordError.{RecordError}

@@ -1,20 +1,20 @@
 -- What `record DESIGN MAP SCRIPT STALLS TRACE` owes: each step of it in its order, and what is left in TRACE.
 use Rattle.std.specs.Prelude.{◌≡◌, ℕ, ◌<◌, ◌≤◌, ◌⊎◌, List, Option, None, Some, Ok, Err, length}
-use Rattle.vidi_io.specs.Shelf.{Files, holding}
-use Rattle.trace_model.specs.declared.channel.Channel.{Channel}
-use Rattle.trace_model.specs.declared.row.Row.{Row}
-use Rattle.trace_model.specs.Recording.{packets_of, trace_of}
-use Rattle.trace_code.specs.Encoding.{encode}
-use Rattle.room_ledger.specs.Reservation.{need}
-use Rattle.script_text.specs.declared.error.StallError.TheVariants as errors
-use Rattle.script_text.specs.declared.stalls.Stalls.{Stalls}
-use Rattle.script_text.specs.Reasons.{read_lines}
-use Rattle.script_text.specs.Stalls.{ReadsStalls}
-use Rattle.script_text.specs.ScriptOffer.{script_offer}
+use Rattle.vidi_recorder.specs.vidi_io.Shelf.{Files, holding}
+use Rattle.bench_run.specs.trace_model.declared.channel.Channel.{Channel}
+use Rattle.bench_run.specs.trace_model.declared.row.Row.{Row}
+use Rattle.bench_run.specs.trace_model.Recording.{packets_of, trace_of}
+use Rattle.vidi_recorder.specs.trace_code.Encoding.{encode}
+use Rattle.vidi_recorder.specs.room_ledger.Reservation.{need}
+use Rattle.bench_run.specs.script_text.declared.error.StallError.TheVariants as errors
+use Rattle.bench_run.specs.script_text.declared.stalls.Stalls.{Stalls}
+use Rattle.bench_run.specs.script_text.Reasons.{read_lines}
+use Rattle.bench_run.specs.script_text.Stalls.{ReadsStalls}
+use Rattle.bench_run.specs.script_text.ScriptOffer.{script_offer}
 use Rattle.vidi_recorder.specs.Course.{Course, course, sizes_of, IsRunOf, IsTheRunOf}
 use Rattle.vidi_recorder.specs.Recording.{IsFrontOfTheRun}
-use Rattle.report_text.specs.declared.reason.Word.TheVariants as words
-use Rattle.report_text.specs.declared.reason.Reason.TheVariants.{StallLine, TooSmall}
+use Rattle.vidi_bench.specs.report_text.declared.reason.Word.TheVariants as words
+use Rattle.vidi_bench.specs.report_text.declared.reason.Reason.TheVariants.{StallLine, TooSmall}
 use Rattle.vidi_bench.specs.declared.bench.Bench.{Bench}
 use Rattle.vidi_bench.specs.declared.status.Status.{Status}
 use Rattle.vidi_bench.specs.declared.status.Status.TheVariants.{Done, Unstable}

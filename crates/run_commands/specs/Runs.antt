@@ -1,15 +1,15 @@
 -- What `run DESIGN MAP SCRIPT` owes: each step of it in its order.
 use Rattle.std.specs.Prelude.{ℕ, List, Option, None, Some, length}
-use Rattle.vidi_io.specs.Shelf.{Files}
-use Rattle.trace_model.specs.declared.row.Row.{Row}
-use Rattle.net_design.specs.declared.design.Design.{Design}
-use Rattle.chan_map.specs.declared.pins.Map.{Map}
-use Rattle.script_text.specs.declared.script.Script.{Script}
-use Rattle.script_text.specs.ScriptOffer.{script_offer}
+use Rattle.vidi_recorder.specs.vidi_io.Shelf.{Files}
+use Rattle.bench_run.specs.trace_model.declared.row.Row.{Row}
+use Rattle.net_sim.specs.net_design.declared.design.Design.{Design}
+use Rattle.bench_run.specs.chan_map.declared.pins.Map.{Map}
+use Rattle.bench_run.specs.script_text.declared.script.Script.{Script}
+use Rattle.bench_run.specs.script_text.ScriptOffer.{script_offer}
 use Rattle.bench_run.specs.declared.plain.PlainRun.{PlainRun}
 use Rattle.bench_run.specs.declared.plain.Spot.{Spot}
 use Rattle.bench_run.specs.Plain.{IsPlainRun}
-use Rattle.report_text.specs.Rows.{run_text}
+use Rattle.vidi_bench.specs.report_text.Rows.{run_text}
 use Rattle.vidi_bench.specs.declared.bench.Bench.{Bench}
 use Rattle.vidi_bench.specs.declared.status.Status.TheVariants.{Done, Unstable}
 use Rattle.vidi_bench.specs.Steps.{Ending, IsSaid, Step}

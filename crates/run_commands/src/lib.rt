@@ -8,5 +8,8 @@ mod running;
 
 pub use checking::check;
 pub use line::unstable;
+pub use net_sim;
+pub use net_sim::net_order;
 pub use recording::{Planned, plan_texts, record, record_sim};
 pub use running::run;
+pub use vidi_recorder;

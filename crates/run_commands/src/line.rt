@@ -2,18 +2,18 @@
 
 ghost use Rattle.run_commands.specs.declared.line.TheConstants.{LINE_BYTES};
 ghost use Rattle.std.specs.Prelude.{◌≡◌, ◌≤◌, ◌+◌, ◌++◌, [], IfOk, decimal};
-ghost use Rattle.trace_model.specs.Channel.{IsTable};
-ghost use Rattle.report_text.specs.Pad.{shown, left};
+ghost use Rattle.bench_run.specs.trace_model.Channel.{IsTable};
+ghost use Rattle.vidi_bench.specs.report_text.Pad.{shown, left};
 ghost use Rattle.vidi_bench.specs.AnswerText.{text_of};
 ghost use Rattle.vidi_bench.specs.Steps.{IsSaid};
 ghost use Rattle.run_commands.specs.Said as said;
 
+use bench_run::trace_model::Channels;
 use itoa::Buffer;
-use report_text::Pad;
+use net_sim::vidi_bits::Memory;
 use std::alloc::Global;
-use trace_model::Channels;
+use vidi_bench::report_text::Pad;
 use vidi_bench::{Answer, AnswerText, Status};
-use vidi_bits::Memory;
 
 /// Room for the longest of these lines, in bytes.
 pub const LINE_BYTES: usize = 256;

@@ -2,24 +2,24 @@
 
 ghost use Rattle.run_commands.specs.declared.line.TheConstants.{LINE_BYTES};
 ghost use Rattle.std.specs.Prelude.{◌≡◌, ◌≤◌, [], Option, Ok, IfOk, IfErr, length};
-ghost use Rattle.trace_model.specs.declared.row.Row.{Row as OneRow};
-ghost use Rattle.trace_model.specs.Channel.{IsTable};
-ghost use Rattle.net_design.specs.declared.values.Values.{Values};
-ghost use Rattle.net_design.specs.Lawful.{IsLawful};
-ghost use Rattle.net_order.specs.Order.{IsOrder};
-ghost use Rattle.run_model.specs.MapOf.{IsMapOf};
-ghost use Rattle.script_text.specs.declared.script.TheConstants.{MOST_CYCLES};
-ghost use Rattle.script_text.specs.Fits.{FitsChannels};
-ghost use Rattle.script_text.specs.ScriptOffer.{script_offer};
-ghost use Rattle.room_ledger.specs.Ledger.{fresh};
-ghost use Rattle.room_ledger.specs.Reservation.{need};
-ghost use Rattle.script_text.specs.Reasons.{read_lines};
-ghost use Rattle.script_text.specs.Stalls.{ReadsStalls};
-ghost use Rattle.vidi_io.specs.Cause.{Rose};
-ghost use Rattle.vidi_io.specs.Shelf.{Later};
+ghost use Rattle.bench_run.specs.trace_model.declared.row.Row.{Row as OneRow};
+ghost use Rattle.bench_run.specs.trace_model.Channel.{IsTable};
+ghost use Rattle.net_sim.specs.net_design.declared.values.Values.{Values};
+ghost use Rattle.net_sim.specs.net_design.Lawful.{IsLawful};
+ghost use Rattle.net_sim.specs.net_order.Order.{IsOrder};
+ghost use Rattle.bench_run.specs.run_model.MapOf.{IsMapOf};
+ghost use Rattle.bench_run.specs.script_text.declared.script.TheConstants.{MOST_CYCLES};
+ghost use Rattle.bench_run.specs.script_text.Fits.{FitsChannels};
+ghost use Rattle.bench_run.specs.script_text.ScriptOffer.{script_offer};
+ghost use Rattle.vidi_recorder.specs.room_ledger.Ledger.{fresh};
+ghost use Rattle.vidi_recorder.specs.room_ledger.Reservation.{need};
+ghost use Rattle.bench_run.specs.script_text.Reasons.{read_lines};
+ghost use Rattle.bench_run.specs.script_text.Stalls.{ReadsStalls};
+ghost use Rattle.vidi_recorder.specs.vidi_io.Cause.{Rose};
+ghost use Rattle.vidi_recorder.specs.vidi_io.Shelf.{Later};
 ghost use Rattle.vidi_recorder.specs.Course.{course, sizes_of};
 ghost use Rattle.vidi_recorder.specs.Recording.{FailsFor};
-ghost use Rattle.report_text.specs.Pad.{shown, left};
+ghost use Rattle.vidi_bench.specs.report_text.Pad.{shown, left};
 ghost use Rattle.vidi_bench.specs.AnswerText.{text_of};
 ghost use Rattle.vidi_bench.specs.Benches.{AreWithin, IsBench, IsPlayable};
 ghost use Rattle.vidi_bench.specs.Design.{text_limit};
@@ -29,22 +29,22 @@ ghost use Rattle.run_commands.specs.Records.{Records, RecordsRun, RefusedPlanned
 ghost use Rattle.run_commands.specs.Recorded.{FileEnds, FileFails, IsOutcome};
 
 use crate::line::{LINE_BYTES, recorded_line, unstable_line, with_line};
-use chan_map::Map;
-use chan_monitor::{Machines, Shell};
-use env_script::{Env, ScriptEnv, StallError, Stalls, read_stalls};
-use net_design::{Block, Design};
-use net_order::Order;
+use bench_run::chan_map::Map;
+use bench_run::chan_monitor::{Machines, Shell};
+use bench_run::env_script::{Env, ScriptEnv, StallError, Stalls, read_stalls};
+use bench_run::script_text::Script;
+use bench_run::trace_model::Channels;
 use net_sim::Sim;
-use report_text::Pad;
-use room_ledger::{Room, RoomError};
-use script_text::Script;
+use net_sim::net_design::{Block, Design};
+use net_sim::net_order::Order;
 use std::alloc::Global;
-use trace_model::Channels;
+use vidi_bench::report_text::Pad;
 use vidi_bench::{
     Answer, Bench, Device, Ended, Reason, Status, TEXT_LIMIT, Texts, Word, bench_of, read_file,
     read_texts, refused,
 };
-use vidi_io::{Shelf, ShelfSink};
+use vidi_recorder::room_ledger::{Room, RoomError};
+use vidi_recorder::vidi_io::{Shelf, ShelfSink};
 use vidi_recorder::{Outcome, RecordError, record_run};
 
 /// What is recorded: a design with its map and script, a plan of stalls, and a store for it.

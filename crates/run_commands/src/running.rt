@@ -1,16 +1,16 @@
 //! The command `run`.
 
 ghost use Rattle.std.specs.Prelude.{◌≡◌, IfOk, length};
-ghost use Rattle.vidi_io.specs.Cause.{Rose};
-ghost use Rattle.vidi_io.specs.Shelf.{Later};
-ghost use Rattle.trace_model.specs.Channel.{IsTable};
-ghost use Rattle.net_design.specs.Lawful.{IsLawful};
-ghost use Rattle.net_order.specs.Order.{IsOrder};
-ghost use Rattle.run_model.specs.MapOf.{IsMapOf};
-ghost use Rattle.script_text.specs.Fits.{FitsChannels};
-ghost use Rattle.script_text.specs.ScriptOffer.{script_offer};
+ghost use Rattle.vidi_recorder.specs.vidi_io.Cause.{Rose};
+ghost use Rattle.vidi_recorder.specs.vidi_io.Shelf.{Later};
+ghost use Rattle.bench_run.specs.trace_model.Channel.{IsTable};
+ghost use Rattle.net_sim.specs.net_design.Lawful.{IsLawful};
+ghost use Rattle.net_sim.specs.net_order.Order.{IsOrder};
+ghost use Rattle.bench_run.specs.run_model.MapOf.{IsMapOf};
+ghost use Rattle.bench_run.specs.script_text.Fits.{FitsChannels};
+ghost use Rattle.bench_run.specs.script_text.ScriptOffer.{script_offer};
 ghost use Rattle.bench_run.specs.Plain.{IsPlainRun};
-ghost use Rattle.report_text.specs.Rows.{run_text};
+ghost use Rattle.vidi_bench.specs.report_text.Rows.{run_text};
 ghost use Rattle.vidi_bench.specs.AnswerText.{text_of};
 ghost use Rattle.vidi_bench.specs.Benches.{IsPlayable};
 ghost use Rattle.vidi_bench.specs.Ended.{IsAnswered};
@@ -19,20 +19,20 @@ ghost use Rattle.run_commands.specs.Said as said;
 ghost use Rattle.vidi_bench.specs.Steps.{IsSaid};
 
 use crate::line::{LINE_BYTES, unstable_line};
+use bench_run::chan_map::Map;
+use bench_run::env_script::ScriptEnv;
+use bench_run::script_text::Script;
+use bench_run::trace_model::{Channels, Rows};
 use bench_run::{PlainRun, Spot, run_plain};
-use chan_map::Map;
-use env_script::ScriptEnv;
-use net_design::{Block, Design};
-use net_order::Order;
 use net_sim::Sim;
-use report_text::{Pad, RunLines, put, put_number};
-use script_text::Script;
+use net_sim::net_design::{Block, Design};
+use net_sim::net_order::Order;
+use net_sim::vidi_bits::{Bytes, Memory};
 use std::alloc::Global;
 use std::mem::replace;
-use trace_model::{Channels, Rows};
+use vidi_bench::report_text::{Pad, RunLines, put, put_number};
 use vidi_bench::{Answer, AnswerText, Bench, Device, Ended, Status, bench_of, read_texts};
-use vidi_bits::{Bytes, Memory};
-use vidi_io::Shelf;
+use vidi_recorder::vidi_io::Shelf;
 
 /// What `run` is answered.
 pub fn run<S: Shelf>(

@@ -2,14 +2,14 @@
 use Rattle.std.proofs.Common.{◌≡◌, ℕ, ◌<◌, ◌&&◌, not, List, ◌++◌, Option, None, Some, Result, Ok, Err, take, length, refl, ap, sym, subst, ◌∙◌}
 use Rattle.std.specs.Prelude.{count_by, slice_get, IfSome}
 use Rattle.std.specs.List.{flat_map}
-use Rattle.vidi_bits.proofs.Each.{each_weaker, zip-on}
-use Rattle.vidi_bits.specs.Findings.{told_if}
-use Rattle.trace_model.specs.declared.channel.Channel.{Channel as Row}
-use Rattle.net_design.specs.declared.design.Port.{Port}
-use Rattle.net_design.specs.declared.design.Direction.{Direction}
-use Rattle.net_design.specs.declared.design.Direction.TheVariants.{Input, Output}
-use Rattle.net_design.specs.declared.design.Design.{Design}
-use Rattle.net_design.specs.Settled.{same_direction}
+use Rattle.chan_map.proofs.vidi_bits.Each.{each_weaker, zip-on}
+use Rattle.chan_map.specs.vidi_bits.Findings.{told_if}
+use Rattle.chan_map.specs.trace_model.declared.channel.Channel.{Channel as Row}
+use Rattle.chan_map.specs.net_design.declared.design.Port.{Port}
+use Rattle.chan_map.specs.net_design.declared.design.Direction.{Direction}
+use Rattle.chan_map.specs.net_design.declared.design.Direction.TheVariants.{Input, Output}
+use Rattle.chan_map.specs.net_design.declared.design.Design.{Design}
+use Rattle.chan_map.specs.net_design.Settled.{same_direction}
 use Rattle.chan_map.specs.declared.error.MapError.{MapError}
 use Rattle.chan_map.specs.declared.error.MapError.TheVariants as E
 use Rattle.chan_map.specs.declared.text.MapText.{MapText}
@@ -25,7 +25,7 @@ use Rattle.chan_map.specs.declared.map_text.MapLine.{MapLine}
 use Rattle.chan_map.specs.Ports.{socket_named, source_side, sink_side, times, is_own_clock, is_clock_of, is_bit, is_tied, is_pin}
 use Rattle.chan_map.specs.Ports.{channel_fits, line_fits}
 use Rattle.chan_map.specs.Reasons.{cover_from, limit_faults, all_names}
-use Rattle.vidi_bits.specs.Findings.{IsFirst}
+use Rattle.chan_map.specs.vidi_bits.Findings.{IsFirst}
 use Rattle.chan_map.specs.Told.{map_told}
 use Rattle.chan_map.specs.Bound.{pin_named, rows_of, plugs_of, ties_of, resets_of, map_faults, IsPin, IsPlug, IsTie, IsBound, BindsMap}
 use Rattle.run_model.specs.Alike.{AreAlike}

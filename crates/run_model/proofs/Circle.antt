@@ -7,21 +7,21 @@ use Rattle.std.proofs.lemmas.Bool.{cases_Bool, cases_lt, and_parts, false≢true
 use Rattle.std.proofs.lemmas.List.{take_all}
 use Rattle.std.proofs.lemmas.List.Elements.{All-nil, All-cons, All-append, All-head, All-tail}
 use Rattle.std.proofs.lemmas.Option.{get_or_from_slice_get, slice_get_within, same_Some}
-use Rattle.vidi_bits.specs.Number.{has}
-use Rattle.trace_model.specs.declared.channel.Channel.{Channel}
-use Rattle.trace_model.specs.declared.event.Event.{Event}
-use Rattle.trace_model.specs.declared.event.Kind.{Kind}
-use Rattle.trace_model.specs.declared.event.Kind.TheVariants.{Start, End}
-use Rattle.trace_model.specs.declared.packet.Packet.{Packet}
-use Rattle.trace_model.specs.declared.row.Row.{Row}
-use Rattle.trace_model.specs.Clock.{clock}
-use Rattle.trace_model.specs.Counting.{IsNth}
-use Rattle.trace_model.specs.Packet.{does, count}
-use Rattle.trace_model.specs.Recording.{shown}
-use Rattle.trace_model.specs.Trace.{Alternates}
-use Rattle.trace_model.proofs.CountingLemmas.{count-suc, count-suc_yes, count-suc_no}
-use Rattle.trace_model.proofs.FlightLemmas.{balanced}
-use Rattle.trace_model.proofs.RowLaws.{counted}
+use Rattle.chan_map.specs.vidi_bits.Number.{has}
+use Rattle.chan_map.specs.trace_model.declared.channel.Channel.{Channel}
+use Rattle.chan_map.specs.trace_model.declared.event.Event.{Event}
+use Rattle.chan_map.specs.trace_model.declared.event.Kind.{Kind}
+use Rattle.chan_map.specs.trace_model.declared.event.Kind.TheVariants.{Start, End}
+use Rattle.chan_map.specs.trace_model.declared.packet.Packet.{Packet}
+use Rattle.chan_map.specs.trace_model.declared.row.Row.{Row}
+use Rattle.chan_map.specs.trace_model.Clock.{clock}
+use Rattle.chan_map.specs.trace_model.Counting.{IsNth}
+use Rattle.chan_map.specs.trace_model.Packet.{does, count}
+use Rattle.chan_map.specs.trace_model.Recording.{shown}
+use Rattle.chan_map.specs.trace_model.Trace.{Alternates}
+use Rattle.chan_map.proofs.trace_model.CountingLemmas.{count-suc, count-suc_yes, count-suc_no}
+use Rattle.chan_map.proofs.trace_model.FlightLemmas.{balanced}
+use Rattle.chan_map.proofs.trace_model.RowLaws.{counted}
 use Rattle.run_model.specs.declared.held.Await.{Await}
 use Rattle.run_model.specs.declared.held.Held.{Held}
 use Rattle.run_model.specs.Held.{packet_place, places_from, flies, awaits, controlled}

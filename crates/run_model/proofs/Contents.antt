@@ -6,13 +6,13 @@ use Rattle.std.proofs.lemmas.Bool.{cases_lt, eqb-true, eqb-false, eq-eqb}
 use Rattle.std.proofs.lemmas.List.{length-append, take-append-drop, take_at, drop_at, drop-drop, nil_from_length}
 use Rattle.std.proofs.lemmas.Nat.Bits.{bit_at_ones, bit_at_cat_low, bit_at_cat_high, bit_at-lt, same_from_bits}
 use Rattle.std.proofs.lemmas.Nat.{pow_pos}
-use Rattle.vidi_bits.specs.Number.{has}
-use Rattle.vidi_bits.proofs.BitLemmas.{has-above}
-use Rattle.trace_model.specs.declared.channel.Channel.{Channel}
-use Rattle.trace_model.specs.Packet.{Fit, widths_of}
-use Rattle.trace_model.specs.Row.{all_widths, content_at}
+use Rattle.chan_map.specs.vidi_bits.Number.{has}
+use Rattle.chan_map.proofs.vidi_bits.BitLemmas.{has-above}
+use Rattle.chan_map.specs.trace_model.declared.channel.Channel.{Channel}
+use Rattle.chan_map.specs.trace_model.Packet.{Fit, widths_of}
+use Rattle.chan_map.specs.trace_model.Row.{all_widths, content_at}
 use Rattle.run_model.specs.Building.{mask_of, joined}
-use Rattle.trace_model.proofs.ContentsLemmas.{fit-append, fit-front, fit-length, fit-rest}
+use Rattle.chan_map.proofs.trace_model.ContentsLemmas.{fit-append, fit-front, fit-length, fit-rest}
 
 -- ---- masks
 

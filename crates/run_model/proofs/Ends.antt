@@ -3,13 +3,13 @@ use Rattle.std.proofs.Common.{◌≡◌, ℕ, ◌<◌, ◌≤◌, List, [], ◌�
 use Rattle.std.proofs.Common.{refl, ap, sym, subst, ◌∙◌, arith, ⊎_elim}
 use Rattle.std.proofs.lemmas.Bool.{cases_lt}
 use Rattle.std.proofs.lemmas.List.{take_at, length-take-le, length_push}
-use Rattle.trace_model.specs.declared.channel.Channel.{Channel}
-use Rattle.trace_model.specs.declared.row.Offers.{Offers}
-use Rattle.trace_model.specs.declared.row.Row.{Row}
-use Rattle.trace_model.specs.Row.{row_before, AreRows}
-use Rattle.trace_model.specs.Stability.{IsLowestUnstable}
-use Rattle.trace_model.proofs.CountingLemmas.{slice_get-take}
-use Rattle.net_design.specs.declared.design.Design.{Design}
+use Rattle.chan_map.specs.trace_model.declared.channel.Channel.{Channel}
+use Rattle.chan_map.specs.trace_model.declared.row.Offers.{Offers}
+use Rattle.chan_map.specs.trace_model.declared.row.Row.{Row}
+use Rattle.chan_map.specs.trace_model.Row.{row_before, AreRows}
+use Rattle.chan_map.specs.trace_model.Stability.{IsLowestUnstable}
+use Rattle.chan_map.proofs.trace_model.CountingLemmas.{slice_get-take}
+use Rattle.chan_map.specs.net_design.declared.design.Design.{Design}
 use Rattle.chan_map.specs.declared.pins.Map.{Map}
 use Rattle.run_model.specs.Laws.{IsReady, GatesOf}
 use Rattle.run_model.specs.Played.{AreStable, StopsBefore}

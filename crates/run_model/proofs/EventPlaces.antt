@@ -4,13 +4,13 @@ use Rattle.std.proofs.Common.{length, take, slice_get, count_by, inl, inr, ⊎_e
 use Rattle.std.specs.List.{filter, flat_map, enumerate_from}
 use Rattle.std.proofs.lemmas.Bool.{cases_lt, false≢true, le-ltb, cond-false}
 use Rattle.std.proofs.lemmas.Option.{same_Some, slice_get_within}
-use Rattle.trace_model.specs.declared.channel.Channel.{Channel}
-use Rattle.trace_model.specs.declared.event.Kind.{Kind}
-use Rattle.trace_model.specs.declared.packet.Packet.{Packet}
-use Rattle.trace_model.specs.Clock.{clock, Covers}
-use Rattle.trace_model.specs.Counting.{IsNth}
-use Rattle.trace_model.specs.Packet.{does, count}
-use Rattle.trace_model.proofs.CountingLemmas.{count-cons, nth, nth-below, nth-unique}
+use Rattle.chan_map.specs.trace_model.declared.channel.Channel.{Channel}
+use Rattle.chan_map.specs.trace_model.declared.event.Kind.{Kind}
+use Rattle.chan_map.specs.trace_model.declared.packet.Packet.{Packet}
+use Rattle.chan_map.specs.trace_model.Clock.{clock, Covers}
+use Rattle.chan_map.specs.trace_model.Counting.{IsNth}
+use Rattle.chan_map.specs.trace_model.Packet.{does, count}
+use Rattle.chan_map.proofs.trace_model.CountingLemmas.{count-cons, nth, nth-below, nth-unique}
 use Rattle.run_model.specs.Held.{places_from, await_on}
 use Rattle.run_model.specs.Replay.{IsCovered}
 

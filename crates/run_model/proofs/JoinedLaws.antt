@@ -1,9 +1,9 @@
 -- What is joined of each channel's part.
 use Rattle.std.proofs.Common.{◌≡◌, ℕ, suc, ◌+◌, List, [], ◌∷◌, ◌++◌, length, append_assoc, ap, sym, ◌∙◌, arith, ◌<◌, take, get_or}
 use Rattle.std.proofs.lemmas.List.{append-nil, length-take-le}
-use Rattle.trace_model.proofs.CountingLemmas.{take-more_read}
+use Rattle.chan_map.proofs.trace_model.CountingLemmas.{take-more_read}
 use Rattle.run_model.specs.Building.{joined}
-use Rattle.trace_model.specs.declared.channel.Channel.{Channel}
+use Rattle.chan_map.specs.trace_model.declared.channel.Channel.{Channel}
 
 pub joined-push : (f : ℕ → List ℕ) (k : ℕ) (xs : List Channel) (x : Channel) → joined f k (xs ++ x ∷ []) ≡ joined f k xs ++ f (k + length xs)
 joined-push f k [] x = append-nil (f k) ∙ ap f (let z : k ≡ k + 0 = omega arith in z)

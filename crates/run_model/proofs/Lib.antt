@@ -15,3 +15,6 @@ pub mod Played
 pub mod Unstable
 pub mod Ends
 pub mod Stops
+pub use Rattle.chan_map.proofs.net_design as net_design
+pub use Rattle.chan_map.proofs.trace_model as trace_model
+pub use Rattle.chan_map.proofs.vidi_bits as vidi_bits

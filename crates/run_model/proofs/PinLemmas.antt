@@ -11,19 +11,19 @@ use Rattle.std.proofs.lemmas.List.FromFn.{length-map-range_with_len, get_or-map-
 use Rattle.std.proofs.lemmas.List.Sums.{sum_by-append}
 use Rattle.std.proofs.lemmas.Option.{get_or_from_slice_get, slice_get_within, slice_get-get_or}
 use Rattle.std.proofs.lemmas.Nat.{pow_pos}
-use Rattle.vidi_bits.specs.Number.{truth, has}
-use Rattle.trace_model.specs.declared.channel.Channel.{Channel}
-use Rattle.trace_model.specs.declared.channel.Dir.{Dir}
-use Rattle.trace_model.specs.declared.channel.Dir.TheVariants.{Inward, Outward}
-use Rattle.trace_model.specs.declared.row.Row.{Row}
-use Rattle.trace_model.specs.Row.{content_at, sink_valid}
-use Rattle.trace_model.proofs.CountingLemmas.{count-cons, nth, nth-below}
-use Rattle.net_design.specs.declared.design.Port.{Port}
-use Rattle.net_design.specs.declared.design.Direction.{Direction}
-use Rattle.net_design.specs.declared.design.Direction.TheVariants.{Input, Output}
-use Rattle.net_design.specs.declared.design.Design.{Design}
-use Rattle.net_design.specs.Settled.{same_direction, pins_of}
-use Rattle.net_design.specs.Pins.{output_count, is_clock, port_limits, input_limits}
+use Rattle.chan_map.specs.vidi_bits.Number.{truth, has}
+use Rattle.chan_map.specs.trace_model.declared.channel.Channel.{Channel}
+use Rattle.chan_map.specs.trace_model.declared.channel.Dir.{Dir}
+use Rattle.chan_map.specs.trace_model.declared.channel.Dir.TheVariants.{Inward, Outward}
+use Rattle.chan_map.specs.trace_model.declared.row.Row.{Row}
+use Rattle.chan_map.specs.trace_model.Row.{content_at, sink_valid}
+use Rattle.chan_map.proofs.trace_model.CountingLemmas.{count-cons, nth, nth-below}
+use Rattle.chan_map.specs.net_design.declared.design.Port.{Port}
+use Rattle.chan_map.specs.net_design.declared.design.Direction.{Direction}
+use Rattle.chan_map.specs.net_design.declared.design.Direction.TheVariants.{Input, Output}
+use Rattle.chan_map.specs.net_design.declared.design.Design.{Design}
+use Rattle.chan_map.specs.net_design.Settled.{same_direction, pins_of}
+use Rattle.chan_map.specs.net_design.Pins.{output_count, is_clock, port_limits, input_limits}
 use Rattle.chan_map.specs.declared.pins.Map.{Map}
 use Rattle.chan_map.specs.declared.pins.Pin.{Pin}
 use Rattle.chan_map.specs.declared.pins.Plug.{Plug}

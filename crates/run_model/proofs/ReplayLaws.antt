@@ -7,25 +7,25 @@ use Rattle.std.proofs.lemmas.Bool.{cases_Bool, cases_lt, and_parts, false≢true
 use Rattle.std.proofs.lemmas.List.{length-map}
 use Rattle.std.proofs.lemmas.List.Sums.{length-filter}
 use Rattle.std.proofs.lemmas.Option.{slice_get_within, same_Some}
-use Rattle.vidi_bits.specs.Number.{has}
-use Rattle.vidi_bits.proofs.BitLemmas.{has-above}
-use Rattle.trace_model.specs.declared.channel.Channel.{Channel}
-use Rattle.trace_model.specs.declared.channel.Dir.{Dir}
-use Rattle.trace_model.specs.declared.channel.Dir.TheVariants.{Inward, Outward}
-use Rattle.trace_model.specs.declared.event.Kind.{Kind}
-use Rattle.trace_model.specs.declared.event.Kind.TheVariants.{Start, End}
-use Rattle.trace_model.specs.declared.packet.Packet.{Packet}
-use Rattle.trace_model.specs.declared.row.Offers.{Offers}
-use Rattle.trace_model.specs.declared.row.Row.{Row}
-use Rattle.trace_model.specs.Clock.{clock, Covers}
-use Rattle.trace_model.specs.Counting.{IsNth}
-use Rattle.trace_model.specs.Packet.{does, count, content_of, Fit, IsPacket}
-use Rattle.trace_model.specs.Recording.{row_does, shown, has_event, packet_of, packets_of, recorded}
-use Rattle.trace_model.specs.Row.{content_at, sink_valid, is_in_flight, flies_after, row_before, AreOffers, AreRows}
-use Rattle.trace_model.proofs.ContentsLemmas.{content-fits}
-use Rattle.trace_model.proofs.CountingLemmas.{count-suc_no, count-mono, nth, nth-unique}
-use Rattle.trace_model.proofs.RowLaws.{counted, recorded-once, same-counts, does-same}
-use Rattle.net_design.specs.declared.design.Design.{Design}
+use Rattle.chan_map.specs.vidi_bits.Number.{has}
+use Rattle.chan_map.proofs.vidi_bits.BitLemmas.{has-above}
+use Rattle.chan_map.specs.trace_model.declared.channel.Channel.{Channel}
+use Rattle.chan_map.specs.trace_model.declared.channel.Dir.{Dir}
+use Rattle.chan_map.specs.trace_model.declared.channel.Dir.TheVariants.{Inward, Outward}
+use Rattle.chan_map.specs.trace_model.declared.event.Kind.{Kind}
+use Rattle.chan_map.specs.trace_model.declared.event.Kind.TheVariants.{Start, End}
+use Rattle.chan_map.specs.trace_model.declared.packet.Packet.{Packet}
+use Rattle.chan_map.specs.trace_model.declared.row.Offers.{Offers}
+use Rattle.chan_map.specs.trace_model.declared.row.Row.{Row}
+use Rattle.chan_map.specs.trace_model.Clock.{clock, Covers}
+use Rattle.chan_map.specs.trace_model.Counting.{IsNth}
+use Rattle.chan_map.specs.trace_model.Packet.{does, count, content_of, Fit, IsPacket}
+use Rattle.chan_map.specs.trace_model.Recording.{row_does, shown, has_event, packet_of, packets_of, recorded}
+use Rattle.chan_map.specs.trace_model.Row.{content_at, sink_valid, is_in_flight, flies_after, row_before, AreOffers, AreRows}
+use Rattle.chan_map.proofs.trace_model.ContentsLemmas.{content-fits}
+use Rattle.chan_map.proofs.trace_model.CountingLemmas.{count-suc_no, count-mono, nth, nth-unique}
+use Rattle.chan_map.proofs.trace_model.RowLaws.{counted, recorded-once, same-counts, does-same}
+use Rattle.chan_map.specs.net_design.declared.design.Design.{Design}
 use Rattle.chan_map.specs.declared.pins.Map.{Map}
 use Rattle.run_model.specs.Building.{mask_of, joined}
 use Rattle.run_model.specs.Laws.{OneReplay, ContentsFit, ReplayKeepsContents, controls, IsInOrder, AreInOrder, OrderInTheOutput}

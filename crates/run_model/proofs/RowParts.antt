@@ -8,18 +8,18 @@ use Rattle.std.proofs.lemmas.Bool.{false≢true, cases_lt}
 use Rattle.std.proofs.lemmas.List.{get_or_past}
 use Rattle.std.proofs.lemmas.Option.{slice_get_within, slice_get_cases}
 use Rattle.std.proofs.lemmas.Nat.{pow_pos}
-use Rattle.vidi_bits.specs.Number.{truth, has}
-use Rattle.vidi_bits.proofs.BitLemmas.{has-above}
-use Rattle.trace_model.specs.declared.channel.Channel.{Channel}
-use Rattle.trace_model.specs.declared.channel.Dir.{Dir}
-use Rattle.trace_model.specs.declared.channel.Dir.TheVariants.{Inward, Outward}
-use Rattle.trace_model.specs.declared.row.Offers.{Offers}
-use Rattle.trace_model.specs.declared.row.Row.{Row}
-use Rattle.trace_model.specs.Packet.{Fit, widths_of}
-use Rattle.trace_model.specs.Row.{all_widths, content_at, sink_valid, flies_after, IsOver, AreOffers, IsMarked}
-use Rattle.trace_model.proofs.ContentsLemmas.{fit-length, fit-at}
-use Rattle.net_design.specs.declared.design.Direction.TheVariants.{Output}
-use Rattle.net_design.specs.declared.design.Design.{Design}
+use Rattle.chan_map.specs.vidi_bits.Number.{truth, has}
+use Rattle.chan_map.proofs.vidi_bits.BitLemmas.{has-above}
+use Rattle.chan_map.specs.trace_model.declared.channel.Channel.{Channel}
+use Rattle.chan_map.specs.trace_model.declared.channel.Dir.{Dir}
+use Rattle.chan_map.specs.trace_model.declared.channel.Dir.TheVariants.{Inward, Outward}
+use Rattle.chan_map.specs.trace_model.declared.row.Offers.{Offers}
+use Rattle.chan_map.specs.trace_model.declared.row.Row.{Row}
+use Rattle.chan_map.specs.trace_model.Packet.{Fit, widths_of}
+use Rattle.chan_map.specs.trace_model.Row.{all_widths, content_at, sink_valid, flies_after, IsOver, AreOffers, IsMarked}
+use Rattle.chan_map.proofs.trace_model.ContentsLemmas.{fit-length, fit-at}
+use Rattle.chan_map.specs.net_design.declared.design.Direction.TheVariants.{Output}
+use Rattle.chan_map.specs.net_design.declared.design.Design.{Design}
 use Rattle.chan_map.specs.declared.pins.Map.{Map}
 use Rattle.chan_map.specs.declared.pins.Pin.{Pin}
 use Rattle.chan_map.specs.declared.pins.Plug.{Plug}

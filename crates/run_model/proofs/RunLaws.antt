@@ -2,17 +2,17 @@
 use Rattle.std.proofs.Common.{◌≡◌, ℕ, zero, suc, ◌<◌, ◌^◌, true, false, List, [], ◌∷◌}
 use Rattle.std.proofs.Common.{◌++◌, Some, length, take, slice_get, ap, sym, subst, ◌∙◌}
 use Rattle.std.proofs.lemmas.Bool.{cond-true}
-use Rattle.vidi_bits.specs.Number.{has}
-use Rattle.trace_model.specs.declared.channel.Channel.{Channel}
-use Rattle.trace_model.specs.declared.channel.Dir.{Dir}
-use Rattle.trace_model.specs.declared.channel.Dir.TheVariants.{Inward, Outward}
-use Rattle.trace_model.specs.declared.row.Offers.{Offers}
-use Rattle.trace_model.specs.declared.row.Row.{Row}
-use Rattle.trace_model.specs.Row.{content_at, completes, is_in_flight, row_before, AreRows}
-use Rattle.trace_model.specs.Recording.{trace_of}
-use Rattle.trace_model.specs.Trace.{IsWellFormed}
-use Rattle.trace_model.proofs.CountingLemmas.{take-suc_get}
-use Rattle.net_design.specs.declared.design.Design.{Design}
+use Rattle.chan_map.specs.vidi_bits.Number.{has}
+use Rattle.chan_map.specs.trace_model.declared.channel.Channel.{Channel}
+use Rattle.chan_map.specs.trace_model.declared.channel.Dir.{Dir}
+use Rattle.chan_map.specs.trace_model.declared.channel.Dir.TheVariants.{Inward, Outward}
+use Rattle.chan_map.specs.trace_model.declared.row.Offers.{Offers}
+use Rattle.chan_map.specs.trace_model.declared.row.Row.{Row}
+use Rattle.chan_map.specs.trace_model.Row.{content_at, completes, is_in_flight, row_before, AreRows}
+use Rattle.chan_map.specs.trace_model.Recording.{trace_of}
+use Rattle.chan_map.specs.trace_model.Trace.{IsWellFormed}
+use Rattle.chan_map.proofs.trace_model.CountingLemmas.{take-suc_get}
+use Rattle.chan_map.specs.net_design.declared.design.Design.{Design}
 use Rattle.chan_map.specs.declared.pins.Map.{Map}
 use Rattle.run_model.specs.Laws.{IsReady, GatesOf, OffersFit, OneOfLength, OffersStay, GatesStay, ContentsStay, RunKeepsContents}
 use Rattle.run_model.specs.Offers.{CarriesOn, Carries, offered_content}
@@ -21,7 +21,7 @@ use Rattle.run_model.specs.Run.{IsRun, IsRunRow}
 use Rattle.run_model.proofs.PlayedLaws.{Determines, Allows, one-list_of_rows, some-list, rows-front}
 use Rattle.run_model.proofs.RowParts.{carried}
 use Rattle.run_model.proofs.Stays.{KeepsContents, keeps-from, keeps-in-flight, contents-stay, flight-parts}
-use Rattle.trace_model.proofs.RowLaws.{well-formed}
+use Rattle.chan_map.proofs.trace_model.RowLaws.{well-formed}
 
 -- ---- exactly one list of n rows
 -- after these rows exactly one set of gates may be up, and it is of these channels

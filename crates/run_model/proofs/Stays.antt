@@ -5,20 +5,20 @@ use Rattle.std.specs.Str.{bytes_eq}
 use Rattle.std.proofs.lemmas.Bool.{cases_Bool, cases_lt, and_parts, and_from, false≢true}
 use Rattle.std.proofs.lemmas.Option.{slice_get_within, same_Some}
 use Rattle.std.proofs.lemmas.Slice.Eq.{bytes_eq-Decides}
-use Rattle.vidi_bits.specs.Number.{has}
-use Rattle.vidi_bits.proofs.BitLemmas.{has-above}
-use Rattle.trace_model.specs.declared.channel.Channel.{Channel}
-use Rattle.trace_model.specs.declared.channel.Dir.{Dir}
-use Rattle.trace_model.specs.declared.channel.Dir.TheVariants.{Inward, Outward}
-use Rattle.trace_model.specs.declared.event.Kind.TheVariants.{Start}
-use Rattle.trace_model.specs.declared.row.Row.{Row}
-use Rattle.trace_model.specs.Counting.{IsNth}
-use Rattle.trace_model.specs.Laws.{KeepsInFlight}
-use Rattle.trace_model.specs.Recording.{row_does, IsTransaction}
-use Rattle.trace_model.specs.Row.{content_at, sink_valid, completes, is_in_flight, flies_after, row_before, AreRows}
-use Rattle.trace_model.specs.Stability.{waits, IsUnstable}
-use Rattle.trace_model.proofs.CountingLemmas.{count-suc_yes, count-suc_no, nth-unique}
-use Rattle.trace_model.proofs.RowLaws.{counted}
+use Rattle.chan_map.specs.vidi_bits.Number.{has}
+use Rattle.chan_map.proofs.vidi_bits.BitLemmas.{has-above}
+use Rattle.chan_map.specs.trace_model.declared.channel.Channel.{Channel}
+use Rattle.chan_map.specs.trace_model.declared.channel.Dir.{Dir}
+use Rattle.chan_map.specs.trace_model.declared.channel.Dir.TheVariants.{Inward, Outward}
+use Rattle.chan_map.specs.trace_model.declared.event.Kind.TheVariants.{Start}
+use Rattle.chan_map.specs.trace_model.declared.row.Row.{Row}
+use Rattle.chan_map.specs.trace_model.Counting.{IsNth}
+use Rattle.chan_map.specs.trace_model.Laws.{KeepsInFlight}
+use Rattle.chan_map.specs.trace_model.Recording.{row_does, IsTransaction}
+use Rattle.chan_map.specs.trace_model.Row.{content_at, sink_valid, completes, is_in_flight, flies_after, row_before, AreRows}
+use Rattle.chan_map.specs.trace_model.Stability.{waits, IsUnstable}
+use Rattle.chan_map.proofs.trace_model.CountingLemmas.{count-suc_yes, count-suc_no, nth-unique}
+use Rattle.chan_map.proofs.trace_model.RowLaws.{counted}
 use Rattle.run_model.specs.Laws.{ContentsStay}
 use Rattle.run_model.specs.Played.{AreStable}
 use Rattle.run_model.proofs.RowParts.{channel-at}

@@ -6,15 +6,15 @@ use Rattle.std.proofs.lemmas.Bool.{cases_Bool, cases_lt, false≢true}
 use Rattle.std.proofs.lemmas.List.{length-take-le, take_all}
 use Rattle.std.proofs.lemmas.Option.{slice_get_within, same_Some}
 use Rattle.std.proofs.lemmas.Slice.Eq.{bytes_eq-Decides}
-use Rattle.vidi_bits.specs.Number.{has}
-use Rattle.trace_model.specs.declared.channel.Channel.{Channel}
-use Rattle.trace_model.specs.declared.channel.Dir.{Dir}
-use Rattle.trace_model.specs.declared.channel.Dir.TheVariants.{Inward, Outward}
-use Rattle.trace_model.specs.declared.row.Row.{Row}
-use Rattle.trace_model.specs.Row.{content_at, row_before}
-use Rattle.trace_model.specs.Stability.{waits as waits_on, IsLowestUnstable, IsUnstable}
-use Rattle.trace_model.proofs.CountingLemmas.{slice_get-last, slice_get-take, take-suc_get}
-use Rattle.net_design.specs.declared.design.Design.{Design}
+use Rattle.chan_map.specs.vidi_bits.Number.{has}
+use Rattle.chan_map.specs.trace_model.declared.channel.Channel.{Channel}
+use Rattle.chan_map.specs.trace_model.declared.channel.Dir.{Dir}
+use Rattle.chan_map.specs.trace_model.declared.channel.Dir.TheVariants.{Inward, Outward}
+use Rattle.chan_map.specs.trace_model.declared.row.Row.{Row}
+use Rattle.chan_map.specs.trace_model.Row.{content_at, row_before}
+use Rattle.chan_map.specs.trace_model.Stability.{waits as waits_on, IsLowestUnstable, IsUnstable}
+use Rattle.chan_map.proofs.trace_model.CountingLemmas.{slice_get-last, slice_get-take, take-suc_get}
+use Rattle.chan_map.specs.net_design.declared.design.Design.{Design}
 use Rattle.chan_map.specs.declared.pins.Map.{Map}
 use Rattle.run_model.specs.Played.{AreStable, IsPlayed, StopsBefore}
 use Rattle.run_model.proofs.PlayedLaws.{played-front, row-before_take}

@@ -1,9 +1,9 @@
 -- What follows for maps and runs of designs that are alike, and that a run ends in one way.
 use Rattle.std.specs.Prelude.{◌≡◌, ℕ, ◌↔◌, List, Option, Result}
-use Rattle.trace_model.specs.declared.row.Offers.{Offers}
-use Rattle.trace_model.specs.declared.row.Row.{Row}
-use Rattle.net_design.specs.declared.design.Design.{Design}
-use Rattle.net_design.specs.Lawful.{IsLawful}
+use Rattle.chan_map.specs.trace_model.declared.row.Offers.{Offers}
+use Rattle.chan_map.specs.trace_model.declared.row.Row.{Row}
+use Rattle.chan_map.specs.net_design.declared.design.Design.{Design}
+use Rattle.chan_map.specs.net_design.Lawful.{IsLawful}
 use Rattle.chan_map.specs.declared.error.MapError.{MapError}
 use Rattle.chan_map.specs.declared.text.MapText.{MapText}
 use Rattle.chan_map.specs.declared.pins.Map.{Map}

@@ -1,17 +1,17 @@
 -- Pins and rows in the manner of the code: each as a function of what it is made of.
 use Rattle.std.specs.Prelude.{◌≡◌, ℕ, zero, suc, ◌+◌, ◌*◌, ◌<◌, ◌≤◌, ◌^◌, ◌==◌, ◌&&◌, not, Bool, false, if◌then◌else◌, List, [], ◌∷◌, ◌++◌}
 use Rattle.std.specs.Prelude.{Option, Some, None, length, map, slice_get, slice_index}
-use Rattle.vidi_bits.specs.Number.{has}
-use Rattle.trace_model.specs.declared.channel.Channel.{Channel}
-use Rattle.trace_model.specs.declared.channel.Dir.{Dir}
-use Rattle.trace_model.specs.declared.channel.Dir.TheVariants.{Inward, Outward}
-use Rattle.trace_model.specs.declared.row.Offers.{Offers}
-use Rattle.trace_model.specs.declared.row.Row.{Row}
-use Rattle.trace_model.specs.Row.{content_at, sink_valid, flies_after}
-use Rattle.net_design.specs.declared.design.Port.{Port}
-use Rattle.net_design.specs.declared.design.Direction.TheVariants.{Output}
-use Rattle.net_design.specs.declared.design.Design.{Design}
-use Rattle.net_design.specs.Settled.{net_width}
+use Rattle.chan_map.specs.vidi_bits.Number.{has}
+use Rattle.chan_map.specs.trace_model.declared.channel.Channel.{Channel}
+use Rattle.chan_map.specs.trace_model.declared.channel.Dir.{Dir}
+use Rattle.chan_map.specs.trace_model.declared.channel.Dir.TheVariants.{Inward, Outward}
+use Rattle.chan_map.specs.trace_model.declared.row.Offers.{Offers}
+use Rattle.chan_map.specs.trace_model.declared.row.Row.{Row}
+use Rattle.chan_map.specs.trace_model.Row.{content_at, sink_valid, flies_after}
+use Rattle.chan_map.specs.net_design.declared.design.Port.{Port}
+use Rattle.chan_map.specs.net_design.declared.design.Direction.TheVariants.{Output}
+use Rattle.chan_map.specs.net_design.declared.design.Design.{Design}
+use Rattle.chan_map.specs.net_design.Settled.{net_width}
 use Rattle.chan_map.specs.declared.pins.Map.{Map}
 use Rattle.chan_map.specs.declared.pins.Pin.{Pin}
 use Rattle.chan_map.specs.declared.pins.Plug.{Plug}

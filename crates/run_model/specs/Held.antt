@@ -2,18 +2,18 @@
 use Rattle.std.specs.Prelude.{ℕ, ◌+◌, ◌==◌, ◌&&◌, nat_lt, Bool, true, false, not, if◌then◌else◌, List, [], ◌∷◌, Option, Some, None}
 use Rattle.std.specs.Prelude.{length, slice_get, is_some}
 use Rattle.std.specs.List.{enumerate_from, filter, flat_map, list_any}
-use Rattle.trace_model.specs.declared.channel.Channel.{Channel}
-use Rattle.trace_model.specs.declared.channel.Dir.{Dir}
-use Rattle.trace_model.specs.declared.channel.Dir.TheVariants.{Inward, Outward}
-use Rattle.trace_model.specs.declared.event.Event.{Event}
-use Rattle.trace_model.specs.declared.event.Kind.{Kind}
-use Rattle.trace_model.specs.declared.event.Kind.TheVariants.{Start, End}
-use Rattle.trace_model.specs.declared.packet.Packet.{Packet}
-use Rattle.trace_model.specs.declared.row.Row.{Row}
-use Rattle.trace_model.specs.Clock.{clock}
-use Rattle.trace_model.specs.Packet.{does}
-use Rattle.trace_model.specs.Recording.{shown}
-use Rattle.trace_model.specs.Row.{flies_after, row_before}
+use Rattle.chan_map.specs.trace_model.declared.channel.Channel.{Channel}
+use Rattle.chan_map.specs.trace_model.declared.channel.Dir.{Dir}
+use Rattle.chan_map.specs.trace_model.declared.channel.Dir.TheVariants.{Inward, Outward}
+use Rattle.chan_map.specs.trace_model.declared.event.Event.{Event}
+use Rattle.chan_map.specs.trace_model.declared.event.Kind.{Kind}
+use Rattle.chan_map.specs.trace_model.declared.event.Kind.TheVariants.{Start, End}
+use Rattle.chan_map.specs.trace_model.declared.packet.Packet.{Packet}
+use Rattle.chan_map.specs.trace_model.declared.row.Row.{Row}
+use Rattle.chan_map.specs.trace_model.Clock.{clock}
+use Rattle.chan_map.specs.trace_model.Packet.{does}
+use Rattle.chan_map.specs.trace_model.Recording.{shown}
+use Rattle.chan_map.specs.trace_model.Row.{flies_after, row_before}
 use Rattle.run_model.specs.declared.held.Await.{Await}
 use Rattle.run_model.specs.declared.held.Held.{Held}
 use Rattle.run_model.specs.Replay.{done}

@@ -1,25 +1,25 @@
 -- What follows from the definitions of runs and replays.
 use Rattle.std.specs.Prelude.{◌≡◌, ℕ, ◌<◌, ◌^◌, Bool, true, false, List, [], ◌∷◌, ◌++◌, Option, Some, All, Contains, Ok}
 use Rattle.std.specs.Prelude.{length, take, slice_get}
-use Rattle.vidi_bits.specs.Number.{has}
-use Rattle.trace_model.specs.declared.channel.Channel.{Channel}
-use Rattle.trace_model.specs.declared.channel.Dir.{Dir}
-use Rattle.trace_model.specs.declared.channel.Dir.TheVariants.{Inward, Outward}
-use Rattle.trace_model.specs.declared.event.Event.{Event}
-use Rattle.trace_model.specs.declared.event.Kind.{Kind}
-use Rattle.trace_model.specs.declared.event.Kind.TheVariants.{Start, End}
-use Rattle.trace_model.specs.declared.packet.Packet.{Packet}
-use Rattle.trace_model.specs.declared.row.Offers.{Offers}
-use Rattle.trace_model.specs.declared.row.Row.{Row}
-use Rattle.trace_model.specs.Clock.{clock, Covers}
-use Rattle.trace_model.specs.Counting.{IsNth}
-use Rattle.trace_model.specs.Packet.{does, count, content_of, IsPacket}
-use Rattle.trace_model.specs.Recording.{packets_of, recorded, shown, trace_of, IsTransaction}
-use Rattle.trace_model.specs.Row.{content_at, completes, AreOffers, AreRows}
-use Rattle.trace_model.specs.Trace.{IsWellFormed}
-use Rattle.net_design.specs.declared.design.Design.{Design}
-use Rattle.net_design.specs.Lawful.{IsLawful}
-use Rattle.net_design.specs.Pins.{HasOneMap}
+use Rattle.chan_map.specs.vidi_bits.Number.{has}
+use Rattle.chan_map.specs.trace_model.declared.channel.Channel.{Channel}
+use Rattle.chan_map.specs.trace_model.declared.channel.Dir.{Dir}
+use Rattle.chan_map.specs.trace_model.declared.channel.Dir.TheVariants.{Inward, Outward}
+use Rattle.chan_map.specs.trace_model.declared.event.Event.{Event}
+use Rattle.chan_map.specs.trace_model.declared.event.Kind.{Kind}
+use Rattle.chan_map.specs.trace_model.declared.event.Kind.TheVariants.{Start, End}
+use Rattle.chan_map.specs.trace_model.declared.packet.Packet.{Packet}
+use Rattle.chan_map.specs.trace_model.declared.row.Offers.{Offers}
+use Rattle.chan_map.specs.trace_model.declared.row.Row.{Row}
+use Rattle.chan_map.specs.trace_model.Clock.{clock, Covers}
+use Rattle.chan_map.specs.trace_model.Counting.{IsNth}
+use Rattle.chan_map.specs.trace_model.Packet.{does, count, content_of, IsPacket}
+use Rattle.chan_map.specs.trace_model.Recording.{packets_of, recorded, shown, trace_of, IsTransaction}
+use Rattle.chan_map.specs.trace_model.Row.{content_at, completes, AreOffers, AreRows}
+use Rattle.chan_map.specs.trace_model.Trace.{IsWellFormed}
+use Rattle.chan_map.specs.net_design.declared.design.Design.{Design}
+use Rattle.chan_map.specs.net_design.Lawful.{IsLawful}
+use Rattle.chan_map.specs.net_design.Pins.{HasOneMap}
 use Rattle.chan_map.specs.declared.pins.Map.{Map}
 use Rattle.chan_map.specs.declared.text.MapText.{MapText}
 use Rattle.chan_map.specs.Bound.{BindsMap}

@@ -1,13 +1,13 @@
 -- The environment's part of a row: what it offers.
 use Rattle.std.specs.Prelude.{◌≡◌, ℕ, if◌then◌else◌, List, Some, length, replicate, slice_get, false}
-use Rattle.vidi_bits.specs.Number.{has}
-use Rattle.trace_model.specs.declared.channel.Channel.{Channel}
-use Rattle.trace_model.specs.declared.channel.Dir.{Dir}
-use Rattle.trace_model.specs.declared.channel.Dir.TheVariants.{Inward, Outward}
-use Rattle.trace_model.specs.declared.row.Offers.{Offers}
-use Rattle.trace_model.specs.declared.row.Row.{Row}
-use Rattle.trace_model.specs.Packet.{widths_of}
-use Rattle.trace_model.specs.Row.{content_at}
+use Rattle.chan_map.specs.vidi_bits.Number.{has}
+use Rattle.chan_map.specs.trace_model.declared.channel.Channel.{Channel}
+use Rattle.chan_map.specs.trace_model.declared.channel.Dir.{Dir}
+use Rattle.chan_map.specs.trace_model.declared.channel.Dir.TheVariants.{Inward, Outward}
+use Rattle.chan_map.specs.trace_model.declared.row.Offers.{Offers}
+use Rattle.chan_map.specs.trace_model.declared.row.Row.{Row}
+use Rattle.chan_map.specs.trace_model.Packet.{widths_of}
+use Rattle.chan_map.specs.trace_model.Row.{content_at}
 
 -- the content of channel c while its source has valid down: 0 for each port
 abbrev pub no_content : List Channel → ℕ → List ℕ

@@ -2,14 +2,14 @@
 use Rattle.std.specs.Prelude.{◌≡◌, ℕ, ◌+◌, ◌&&◌, Bool, not, if◌then◌else◌, List, [], ◌∷◌, ◌++◌, All, map, slice_index}
 use Rattle.std.specs.List.{enumerate_from}
 use Rattle.std.specs.Option.{option_to_list}
-use Rattle.vidi_bits.specs.Number.{truth, has}
-use Rattle.trace_model.specs.declared.channel.Channel.{Channel}
-use Rattle.trace_model.specs.declared.channel.Dir.{Dir}
-use Rattle.trace_model.specs.declared.channel.Dir.TheVariants.{Inward, Outward}
-use Rattle.trace_model.specs.declared.row.Row.{Row}
-use Rattle.trace_model.specs.Row.{content_at, sink_valid}
-use Rattle.net_design.specs.declared.design.Design.{Design}
-use Rattle.net_design.specs.Pins.{FitPins}
+use Rattle.chan_map.specs.vidi_bits.Number.{truth, has}
+use Rattle.chan_map.specs.trace_model.declared.channel.Channel.{Channel}
+use Rattle.chan_map.specs.trace_model.declared.channel.Dir.{Dir}
+use Rattle.chan_map.specs.trace_model.declared.channel.Dir.TheVariants.{Inward, Outward}
+use Rattle.chan_map.specs.trace_model.declared.row.Row.{Row}
+use Rattle.chan_map.specs.trace_model.Row.{content_at, sink_valid}
+use Rattle.chan_map.specs.net_design.declared.design.Design.{Design}
+use Rattle.chan_map.specs.net_design.Pins.{FitPins}
 use Rattle.chan_map.specs.declared.pins.Map.{Map}
 use Rattle.chan_map.specs.declared.pins.Pin.{Pin}
 use Rattle.chan_map.specs.declared.pins.Plug.{Plug}

@@ -1,11 +1,11 @@
 -- The design's part of runs and replays: rows that a design shows one after the other, from s_0 on.
 use Rattle.std.specs.Prelude.{◌≡◌, ℕ, suc, ◌-◌, ◌^◌, ◌++◌, ◌∷◌, [], List, Some, length, take, slice_get}
-use Rattle.trace_model.specs.declared.channel.Channel.{Channel}
-use Rattle.trace_model.specs.declared.row.Row.{Row}
-use Rattle.trace_model.specs.Row.{AreRows, row_before}
-use Rattle.trace_model.specs.Stability.{IsUnstable, IsUnstableAt}
-use Rattle.net_design.specs.declared.design.Design.{Design}
-use Rattle.net_design.specs.declared.values.Values.{Values}
+use Rattle.chan_map.specs.trace_model.declared.channel.Channel.{Channel}
+use Rattle.chan_map.specs.trace_model.declared.row.Row.{Row}
+use Rattle.chan_map.specs.trace_model.Row.{AreRows, row_before}
+use Rattle.chan_map.specs.trace_model.Stability.{IsUnstable, IsUnstableAt}
+use Rattle.chan_map.specs.net_design.declared.design.Design.{Design}
+use Rattle.chan_map.specs.net_design.declared.values.Values.{Values}
 use Rattle.chan_map.specs.declared.pins.Map.{Map}
 use Rattle.run_model.specs.Step.{IsFirst, IsStep}
 

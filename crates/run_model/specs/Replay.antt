@@ -1,19 +1,19 @@
 -- *IsReplay*: which recorded events a replay lets come, and the replay of n cycles.
 use Rattle.std.specs.Prelude.{◌≡◌, ℕ, ◌<◌, ◌≤◌, ◌↔◌, true, false, List, Some, length, take, slice_get}
-use Rattle.vidi_bits.specs.Number.{has}
-use Rattle.trace_model.specs.declared.channel.Channel.{Channel}
-use Rattle.trace_model.specs.declared.channel.Dir.{Dir}
-use Rattle.trace_model.specs.declared.channel.Dir.TheVariants.{Inward, Outward}
-use Rattle.trace_model.specs.declared.event.Kind.{Kind}
-use Rattle.trace_model.specs.declared.event.Kind.TheVariants.{Start, End}
-use Rattle.trace_model.specs.declared.packet.Packet.{Packet}
-use Rattle.trace_model.specs.declared.row.Row.{Row}
-use Rattle.trace_model.specs.Clock.{clock, Covers}
-use Rattle.trace_model.specs.Counting.{IsNth}
-use Rattle.trace_model.specs.Packet.{does, count, content_of}
-use Rattle.trace_model.specs.Recording.{shown}
-use Rattle.trace_model.specs.Row.{content_at}
-use Rattle.net_design.specs.declared.design.Design.{Design}
+use Rattle.chan_map.specs.vidi_bits.Number.{has}
+use Rattle.chan_map.specs.trace_model.declared.channel.Channel.{Channel}
+use Rattle.chan_map.specs.trace_model.declared.channel.Dir.{Dir}
+use Rattle.chan_map.specs.trace_model.declared.channel.Dir.TheVariants.{Inward, Outward}
+use Rattle.chan_map.specs.trace_model.declared.event.Kind.{Kind}
+use Rattle.chan_map.specs.trace_model.declared.event.Kind.TheVariants.{Start, End}
+use Rattle.chan_map.specs.trace_model.declared.packet.Packet.{Packet}
+use Rattle.chan_map.specs.trace_model.declared.row.Row.{Row}
+use Rattle.chan_map.specs.trace_model.Clock.{clock, Covers}
+use Rattle.chan_map.specs.trace_model.Counting.{IsNth}
+use Rattle.chan_map.specs.trace_model.Packet.{does, count, content_of}
+use Rattle.chan_map.specs.trace_model.Recording.{shown}
+use Rattle.chan_map.specs.trace_model.Row.{content_at}
+use Rattle.chan_map.specs.net_design.declared.design.Design.{Design}
 use Rattle.chan_map.specs.declared.pins.Map.{Map}
 use Rattle.run_model.specs.Offers.{no_content}
 use Rattle.run_model.specs.Played.{IsPlayed, AreStable, StopsBefore, all_up}

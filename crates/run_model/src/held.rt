@@ -1,7 +1,7 @@
 //! Events that a replay holds back, and what they wait for.
 
-use trace_model::Event;
-use vidi_bits::Items;
+use chan_map::trace_model::Event;
+use chan_map::vidi_bits::Items;
 
 /// A channel with fewer completions than an event asks for.
 #[derive(Clone, Copy, PartialEq, Eq)]

@@ -1,6 +1,6 @@
 //! Numbers at input pins.
 
-use vidi_bits::Items;
+use chan_map::vidi_bits::Items;
 
 /// An input pin, by its place among the input ports, with the number that is entered at it.
 #[derive(Clone, Copy)]

@@ -4,16 +4,16 @@ use Rattle.std.proofs.Common.{drop, get_or, slice_get, ap, sym, subst, ◌∙◌
 use Rattle.std.specs.List.{AllZip}
 use Rattle.std.proofs.lemmas.List.{drop_more}
 use Rattle.std.proofs.lemmas.Option.{same_Some}
-use Rattle.trace_model.specs.declared.channel.Channel.{Channel}
-use Rattle.trace_model.specs.declared.channel.Dir.TheVariants.{Inward, Outward}
-use Rattle.net_design.specs.declared.design.Design.{Design}
-use Rattle.net_design.specs.declared.design.Direction.TheVariants.{Output}
-use Rattle.net_design.specs.Pins.{output_count}
-use Rattle.chan_map.specs.declared.pins.Map.{Map}
-use Rattle.chan_map.specs.declared.pins.Pin.{Pin}
-use Rattle.chan_map.specs.declared.pins.Plug.{Plug}
-use Rattle.chan_map.specs.Bound.{IsPin, IsPlug}
-use Rattle.chan_map.specs.Ports.{source_side, sink_side}
+use Rattle.run_model.specs.trace_model.declared.channel.Channel.{Channel}
+use Rattle.run_model.specs.trace_model.declared.channel.Dir.TheVariants.{Inward, Outward}
+use Rattle.run_model.specs.net_design.declared.design.Design.{Design}
+use Rattle.run_model.specs.net_design.declared.design.Direction.TheVariants.{Output}
+use Rattle.run_model.specs.net_design.Pins.{output_count}
+use Rattle.run_model.specs.chan_map.declared.pins.Map.{Map}
+use Rattle.run_model.specs.chan_map.declared.pins.Pin.{Pin}
+use Rattle.run_model.specs.chan_map.declared.pins.Plug.{Plug}
+use Rattle.run_model.specs.chan_map.Bound.{IsPin, IsPlug}
+use Rattle.run_model.specs.chan_map.Ports.{source_side, sink_side}
 use Rattle.run_model.specs.Building.{joined}
 use Rattle.run_model.specs.MapOf.{IsMapOf}
 use Rattle.run_model.proofs.PinLemmas.{output-below}

@@ -5,26 +5,26 @@ use Rattle.std.specs.Prelude.{is_some}
 use Rattle.std.specs.List.{enumerate_from, flat_map}
 use Rattle.std.proofs.lemmas.Bool.{cases_lt, false≢true, cond-true, cond-false, lt-ltb}
 use Rattle.std.proofs.lemmas.Option.{slice_get_within, same_Some}
-use Rattle.vidi_bits.specs.Number.{has}
-use Rattle.trace_model.specs.declared.channel.Channel.{Channel}
-use Rattle.trace_model.specs.declared.channel.Dir.{Dir}
-use Rattle.trace_model.specs.declared.channel.Dir.TheVariants.{Inward, Outward}
-use Rattle.trace_model.specs.declared.event.Event.{Event}
-use Rattle.trace_model.specs.declared.event.Kind.{Kind}
-use Rattle.trace_model.specs.declared.event.Kind.TheVariants.{Start, End}
-use Rattle.trace_model.specs.declared.packet.Packet.{Packet}
-use Rattle.trace_model.specs.declared.row.Offers.{Offers}
-use Rattle.trace_model.specs.declared.row.Row.{Row}
-use Rattle.trace_model.specs.Clock.{clock, Covers}
-use Rattle.trace_model.specs.Counting.{IsNth}
-use Rattle.trace_model.specs.Packet.{does, content_of, Fit, IsPacket}
-use Rattle.trace_model.specs.Row.{row_before, AreOffers}
-use Rattle.trace_model.proofs.ContentsLemmas.{content-fits}
-use Rattle.trace_model.proofs.CountingLemmas.{nth-unique}
-use Rattle.net_design.specs.declared.design.Design.{Design}
-use Rattle.net_design.specs.declared.values.Values.{Values}
-use Rattle.chan_map.specs.declared.pins.Map.{Map}
-use Rattle.vidi_bits.specs.Findings.{is_nil}
+use Rattle.run_model.specs.vidi_bits.Number.{has}
+use Rattle.run_model.specs.trace_model.declared.channel.Channel.{Channel}
+use Rattle.run_model.specs.trace_model.declared.channel.Dir.{Dir}
+use Rattle.run_model.specs.trace_model.declared.channel.Dir.TheVariants.{Inward, Outward}
+use Rattle.run_model.specs.trace_model.declared.event.Event.{Event}
+use Rattle.run_model.specs.trace_model.declared.event.Kind.{Kind}
+use Rattle.run_model.specs.trace_model.declared.event.Kind.TheVariants.{Start, End}
+use Rattle.run_model.specs.trace_model.declared.packet.Packet.{Packet}
+use Rattle.run_model.specs.trace_model.declared.row.Offers.{Offers}
+use Rattle.run_model.specs.trace_model.declared.row.Row.{Row}
+use Rattle.run_model.specs.trace_model.Clock.{clock, Covers}
+use Rattle.run_model.specs.trace_model.Counting.{IsNth}
+use Rattle.run_model.specs.trace_model.Packet.{does, content_of, Fit, IsPacket}
+use Rattle.run_model.specs.trace_model.Row.{row_before, AreOffers}
+use Rattle.run_model.proofs.trace_model.ContentsLemmas.{content-fits}
+use Rattle.run_model.proofs.trace_model.CountingLemmas.{nth-unique}
+use Rattle.run_model.specs.net_design.declared.design.Design.{Design}
+use Rattle.run_model.specs.net_design.declared.values.Values.{Values}
+use Rattle.run_model.specs.chan_map.declared.pins.Map.{Map}
+use Rattle.run_model.specs.vidi_bits.Findings.{is_nil}
 use Rattle.run_model.specs.declared.held.Await.{Await}
 use Rattle.run_model.specs.Held.{await_on, awaits, event, packet_place}
 use Rattle.run_model.specs.Laws.{ContentsFit}

@@ -7,18 +7,18 @@ use Rattle.std.proofs.lemmas.List.{append-nil, length-append, drop_more, drop_al
 use Rattle.std.proofs.lemmas.List.Concat.{flat_map-append}
 use Rattle.std.proofs.lemmas.List.Elements.{All-head, All-tail}
 use Rattle.std.proofs.lemmas.List.FromFn.{map-range_with_len_more}
-use Rattle.vidi_bits.specs.Number.{has}
-use Rattle.trace_model.specs.declared.channel.Channel.{Channel}
-use Rattle.trace_model.specs.declared.row.Row.{Row}
-use Rattle.trace_model.specs.Channel.{IsChannel, IsTable}
-use Rattle.trace_model.specs.Packet.{widths_of, widths_under}
-use Rattle.trace_model.proofs.ContentsLemmas.{widths-suc}
-use Rattle.trace_model.specs.Row.{all_widths}
-use Rattle.trace_model.proofs.CountingLemmas.{take-suc_get}
-use Rattle.chan_map.specs.declared.pins.Plug.{Plug}
+use Rattle.run_model.specs.vidi_bits.Number.{has}
+use Rattle.run_model.specs.trace_model.declared.channel.Channel.{Channel}
+use Rattle.run_model.specs.trace_model.declared.row.Row.{Row}
+use Rattle.run_model.specs.trace_model.Channel.{IsChannel, IsTable}
+use Rattle.run_model.specs.trace_model.Packet.{widths_of, widths_under}
+use Rattle.run_model.proofs.trace_model.ContentsLemmas.{widths-suc}
+use Rattle.run_model.specs.trace_model.Row.{all_widths}
+use Rattle.run_model.proofs.trace_model.CountingLemmas.{take-suc_get}
+use Rattle.run_model.specs.chan_map.declared.pins.Plug.{Plug}
 use Rattle.run_model.specs.declared.pins.PinNumber.{PinNumber}
-use Rattle.net_design.specs.declared.design.Design.{Design}
-use Rattle.chan_map.specs.declared.pins.Map.{Map}
+use Rattle.run_model.specs.net_design.declared.design.Design.{Design}
+use Rattle.run_model.specs.chan_map.declared.pins.Map.{Map}
 use Rattle.run_model.specs.Building.{number_for, AreSmall}
 use Rattle.run_model.specs.MapOf.{IsMapOf}
 use Rattle.run_model.specs.Pins.{plug_inputs, inputs_from, entered, ArePins}

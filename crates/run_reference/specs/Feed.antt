@@ -1,15 +1,15 @@
 -- What a replay offers after its rows, in the manner of the code.
 use Rattle.std.specs.Prelude.{ℕ, ◌&&◌, Bool, not, if◌then◌else◌, List, Option, Some, None, length, slice_get, is_some}
-use Rattle.trace_model.specs.declared.channel.Channel.{Channel}
-use Rattle.trace_model.specs.declared.event.Event.{Event}
-use Rattle.trace_model.specs.declared.event.Kind.{Kind}
-use Rattle.trace_model.specs.declared.event.Kind.TheVariants.{Start, End}
-use Rattle.trace_model.specs.declared.packet.Packet.{Packet}
-use Rattle.trace_model.specs.declared.row.Offers.{Offers}
-use Rattle.trace_model.specs.declared.row.Row.{Row}
-use Rattle.trace_model.specs.Clock.{clock}
-use Rattle.trace_model.specs.Packet.{content_of}
-use Rattle.vidi_bits.specs.Findings.{is_nil}
+use Rattle.run_model.specs.trace_model.declared.channel.Channel.{Channel}
+use Rattle.run_model.specs.trace_model.declared.event.Event.{Event}
+use Rattle.run_model.specs.trace_model.declared.event.Kind.{Kind}
+use Rattle.run_model.specs.trace_model.declared.event.Kind.TheVariants.{Start, End}
+use Rattle.run_model.specs.trace_model.declared.packet.Packet.{Packet}
+use Rattle.run_model.specs.trace_model.declared.row.Offers.{Offers}
+use Rattle.run_model.specs.trace_model.declared.row.Row.{Row}
+use Rattle.run_model.specs.trace_model.Clock.{clock}
+use Rattle.run_model.specs.trace_model.Packet.{content_of}
+use Rattle.run_model.specs.vidi_bits.Findings.{is_nil}
 use Rattle.run_model.specs.Building.{mask_of, joined}
 use Rattle.run_model.specs.declared.held.Held.{Held}
 use Rattle.run_model.specs.Held.{awaits, event, is_held, packet_place}

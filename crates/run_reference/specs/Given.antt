@@ -1,7 +1,7 @@
 -- Offers and gates that are given cycle by cycle.
 use Rattle.std.specs.Prelude.{ℕ, List, [], length, slice_get, slice_index, unwrap_or}
-use Rattle.trace_model.specs.declared.row.Offers.{Offers}
-use Rattle.trace_model.specs.declared.row.Row.{Row}
+use Rattle.run_model.specs.trace_model.declared.row.Offers.{Offers}
+use Rattle.run_model.specs.trace_model.declared.row.Row.{Row}
 
 abbrev pub no_offers : Offers
 no_offers = record { valids = 0; readies = 0; contents = [] }

@@ -13,4 +13,6 @@ mod waiting;
 
 pub use play::run_rows;
 pub use replay::replay_rows;
+pub use run_model;
+pub use run_model::{chan_map, trace_model, vidi_bits};
 pub use waiting::{held, waits};

@@ -3,21 +3,21 @@
 ghost use Rattle.std.specs.Prelude.{◌≡◌, ◌<◌, ◌≤◌, ◌++◌, ◌∷◌, [], ℕ, List, map, take, drop, length, slice_get, slice_index, IfOk, OnOk};
 ghost use Rattle.std.specs.List.{enumerate_from, range_with_len};
 ghost use Rattle.std.specs.Option.{option_to_list};
-ghost use Rattle.vidi_bits.specs.Number.{truth};
-ghost use Rattle.trace_model.specs.Channel.{IsTable};
-ghost use Rattle.trace_model.specs.Packet.{widths_of};
-ghost use Rattle.trace_model.specs.Row.{all_widths, content_at, sink_valid};
-ghost use Rattle.net_design.specs.declared.design.Design.{Design};
-ghost use Rattle.chan_map.specs.declared.pins.Pin.{Pin};
+ghost use Rattle.run_model.specs.vidi_bits.Number.{truth};
+ghost use Rattle.run_model.specs.trace_model.Channel.{IsTable};
+ghost use Rattle.run_model.specs.trace_model.Packet.{widths_of};
+ghost use Rattle.run_model.specs.trace_model.Row.{all_widths, content_at, sink_valid};
+ghost use Rattle.run_model.specs.net_design.declared.design.Design.{Design};
+ghost use Rattle.run_model.specs.chan_map.declared.pins.Pin.{Pin};
 ghost use Rattle.run_model.specs.Building.{number_for, AreSmall};
 ghost use Rattle.run_model.specs.MapOf.{IsMapOf};
 ghost use Rattle.run_model.specs.Pins.{pin_number, shown_number, plug_inputs, inputs_from, reset_input, tie_input, entered, ArePins};
 
-use chan_map::{Map, Plug, Reset, Tie};
+use run_model::chan_map::{Map, Plug, Reset, Tie};
+use run_model::trace_model::{Channel, Dir, Row, names};
+use run_model::vidi_bits::{Memory, Numbers};
 use run_model::{PinNumber, PinNumbers};
 use std::alloc::Global;
-use trace_model::{Channel, Dir, Row, names};
-use vidi_bits::{Memory, Numbers};
 
 /// How many ports channel `c` has, 0 where there is none.
 pub fn port_count(channels: &[Channel], c: usize) -> usize

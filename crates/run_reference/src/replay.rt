@@ -1,10 +1,10 @@
 //! Replays of a block, cycle by cycle.
 
 ghost use Rattle.std.specs.Prelude.{◌≡◌, ◌<◌, ◌≤◌, ◌^◌, ◌++◌, if◌then◌else◌, All, take, length, slice_get, IfOk, OnOk};
-ghost use Rattle.vidi_bits.specs.Number.{has};
-ghost use Rattle.trace_model.specs.Channel.{IsTable};
-ghost use Rattle.trace_model.specs.Packet.{IsPacket, widths_of, widths_under};
-ghost use Rattle.trace_model.specs.declared.event.Kind.TheVariants.{Start};
+ghost use Rattle.run_model.specs.vidi_bits.Number.{has};
+ghost use Rattle.run_model.specs.trace_model.Channel.{IsTable};
+ghost use Rattle.run_model.specs.trace_model.Packet.{IsPacket, widths_of, widths_under};
+ghost use Rattle.run_model.specs.trace_model.declared.event.Kind.TheVariants.{Start};
 ghost use Rattle.run_model.specs.Building.{PortsAreNets, mask_of, joined};
 ghost use Rattle.run_model.specs.MapOf.{IsMapOf};
 ghost use Rattle.run_model.specs.Played.{all_up};
@@ -15,11 +15,13 @@ use crate::pins::{first_place, port_count};
 use crate::play::{reset, step};
 use crate::row::{part, push_all};
 use crate::waiting::{awaits, packet_place, shown};
-use chan_map::Map;
-use net_design::Block;
+use run_model::chan_map::Map;
+use run_model::net_design::Block;
+use run_model::trace_model::{
+    Channel, Event, Kind, Offers, Packet, Row, Rows, names, push_zeros, with_bit,
+};
+use run_model::vidi_bits::{Memory, Numbers};
 use std::alloc::Global;
-use trace_model::{Channel, Event, Kind, Offers, Packet, Row, Rows, names, push_zeros, with_bit};
-use vidi_bits::{Memory, Numbers};
 
 /// The place of the packet in which the next start, or completion, of channel `c` is recorded, where the completions in the rows cover
 /// its clock.

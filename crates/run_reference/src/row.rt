@@ -3,12 +3,12 @@
 ghost use Rattle.std.specs.Prelude.{◌≡◌, ◌<◌, ◌+◌, ◌*◌, ◌≤◌, ◌&&◌, ◌++◌, map, take, drop, length};
 ghost use Rattle.std.specs.Prelude.{slice_index, IfOk, OnOk};
 ghost use Rattle.std.specs.List.{AllZip};
-ghost use Rattle.trace_model.specs.Channel.{IsTable};
-ghost use Rattle.trace_model.specs.Row.{is_in_flight, row_before};
-ghost use Rattle.net_design.specs.Pins.{outputs};
-ghost use Rattle.chan_map.specs.declared.pins.Pin.{Pin};
-ghost use Rattle.chan_map.specs.Bound.{IsPin, IsPlug};
-ghost use Rattle.net_design.specs.declared.design.Direction.TheVariants.{Output};
+ghost use Rattle.run_model.specs.trace_model.Channel.{IsTable};
+ghost use Rattle.run_model.specs.trace_model.Row.{is_in_flight, row_before};
+ghost use Rattle.run_model.specs.net_design.Pins.{outputs};
+ghost use Rattle.run_model.specs.chan_map.declared.pins.Pin.{Pin};
+ghost use Rattle.run_model.specs.chan_map.Bound.{IsPin, IsPlug};
+ghost use Rattle.run_model.specs.net_design.declared.design.Direction.TheVariants.{Output};
 ghost use Rattle.run_model.specs.Building.{mask_of, valid_on, ready_on, valid_at, ready_at};
 ghost use Rattle.run_model.specs.Building.{content_here, joined, starts_of, ends_of, row_of};
 ghost use Rattle.run_model.specs.Held.{flies};
@@ -16,11 +16,11 @@ ghost use Rattle.run_model.specs.MapOf.{IsMapOf};
 ghost use Rattle.run_model.specs.Offers.{offered_content};
 
 use crate::pins::{first_place, port_count, sink_valid};
-use chan_map::{Map, Pin, Plug};
-use net_design::Block;
+use run_model::chan_map::{Map, Pin, Plug};
+use run_model::net_design::Block;
+use run_model::trace_model::{Channel, Dir, Offers, Row, names, push_zeros, with_bit};
+use run_model::vidi_bits::{Memory, Numbers};
 use std::alloc::Global;
-use trace_model::{Channel, Dir, Offers, Row, names, push_zeros, with_bit};
-use vidi_bits::{Memory, Numbers};
 
 fn all_three(a: bool, b: bool, c: bool) -> bool
     ensures { result ≡ ((a && b) && c) }

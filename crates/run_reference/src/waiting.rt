@@ -3,19 +3,19 @@
 ghost use Rattle.std.specs.Prelude.{◌≡◌, ◌+◌, ◌<◌, ◌^◌, ◌++◌, ◌∷◌, [], ℕ, if◌then◌else◌, List, length, slice_get, IfOk, OnOk, IsTrue};
 ghost use Rattle.std.specs.List.{enumerate_from, flat_map};
 ghost use Rattle.std.specs.Option.{option_to_list};
-ghost use Rattle.trace_model.specs.Clock.{clock};
-ghost use Rattle.trace_model.specs.Packet.{does};
-ghost use Rattle.trace_model.specs.Recording.{row_does, shown};
+ghost use Rattle.run_model.specs.trace_model.Clock.{clock};
+ghost use Rattle.run_model.specs.trace_model.Packet.{does};
+ghost use Rattle.run_model.specs.trace_model.Recording.{row_does, shown};
 ghost use Rattle.run_model.specs.Held.{await_on, awaits, controlled, event, held, held_event, held_if, is_held, next_event, packet_place};
 ghost use Rattle.run_model.specs.Held.{places_from, recorded_next, same_event, waits};
 ghost use Rattle.run_model.specs.Replay.{done};
 ghost use Rattle.run_reference.specs.Feed.{is_waiting};
 
 use crate::row::flies;
+use run_model::trace_model::{Channel, Dir, Event, Events, Kind, Packet, Row, names};
+use run_model::vidi_bits::Memory;
 use run_model::{Await, Awaits, Held, Helds};
 use std::alloc::Global;
-use trace_model::{Channel, Dir, Event, Events, Kind, Packet, Row, names};
-use vidi_bits::Memory;
 
 /// Whether a packet has an event of this kind on channel `c`.
 fn does(packet: &Packet, kind: Kind, c: usize) -> bool

@@ -1,18 +1,18 @@
 -- The command `sample`: no failed write among its answers.
 use Rattle.std.proofs.Common.{◌≡◌, ℕ, List, Some, length, inl, inr}
-use Rattle.trace_model.specs.declared.trace.Trace.{Trace}
-use Rattle.trace_model.specs.Recording.{trace_of}
+use Rattle.sample_gen.specs.trace_model.declared.trace.Trace.{Trace}
+use Rattle.sample_gen.specs.trace_model.Recording.{trace_of}
 use Rattle.sample_gen.specs.declared.files.Sample.{Sample}
 use Rattle.sample_gen.specs.Sample.{sample}
-use Rattle.replay_run.specs.declared.outcome.ReplayOutcome.{ReplayOutcome}
-use Rattle.replay_run.specs.declared.outcome.ReplayOutcome.TheVariants as outcomes
+use Rattle.replay_command.specs.replay_run.declared.outcome.ReplayOutcome.{ReplayOutcome}
+use Rattle.replay_command.specs.replay_run.declared.outcome.ReplayOutcome.TheVariants as outcomes
 use Rattle.sample_command.specs.declared.sampling.Figures.{Figures}
-use Rattle.vidi_bench.specs.declared.status.Status.TheVariants.{Done, Diverged, WriteFault}
+use Rattle.replay_command.specs.vidi_bench.declared.status.Status.TheVariants.{Done, Diverged, WriteFault}
 use Rattle.sample_command.specs.Said.{sample_line}
 use Rattle.sample_command.specs.Samples.{figures, sample_cycles, IsSampleSaid, IsSampleVerdict, IsTraced, IsUntraced, Samples, SamplesFiles, SamplesReplay}
-use Rattle.vidi_bench.proofs.Quiet.{Mute, mute-said, mute-step, done-goes}
+use Rattle.replay_command.proofs.vidi_bench.Quiet.{Mute, mute-said, mute-step, done-goes}
 use Rattle.replay_command.proofs.QuietReplays.{mute-refused_replay, mute-replay_said}
-use Rattle.run_commands.proofs.QuietTexts.{mute-planned, mute-recorded}
+use Rattle.replay_command.proofs.run_commands.QuietTexts.{mute-planned, mute-recorded}
 
 mute-untraced : (design map script stalls : List ℕ) → Mute (IsUntraced design map script stalls)
 mute-untraced design map script stalls x (inl refused) = mute-planned design map script stalls x refused

@@ -10,7 +10,7 @@ use Rattle.sample_gen.specs.Design.{design}
 use Rattle.sample_gen.specs.Sequence.{drawn}
 use Rattle.sample_gen.specs.Sample.{capacity, cycles, drain_line, map_text, script, sample, send_line, stages, stalls}
 use Rattle.sample_gen.proofs.Taken.{each_in}
-use Rattle.vidi_bench.specs.Design.{text_limit}
+use Rattle.replay_command.specs.vidi_bench.Design.{text_limit}
 use Rattle.sample_command.specs.Sampled.{AreShort}
 
 -- ---- lines of a number

@@ -4,27 +4,27 @@ use Rattle.std.specs.Prelude.{IfOk, IsSome, IsSomeAnd, codes}
 use Rattle.std.specs.Cmp.Lexicographic.{nat_list_cmp_total}
 use Rattle.std.specs.FinMap.{get, insert, get-insert}
 use Rattle.std.proofs.lemmas.Map.Text.{is_eq-slice_cmp}
-use Rattle.vidi_bits.proofs.Lists.{bytes_eq-self, some_same}
-use Rattle.trace_model.specs.Recording.{trace_of}
-use Rattle.trace_code.specs.Encoding.{encode}
-use Rattle.room_ledger.specs.Reservation.{need}
-use Rattle.script_text.specs.declared.stalls.Stalls.{Stalls}
-use Rattle.script_text.specs.Reasons.{read_lines}
-use Rattle.script_text.specs.Stalls.{ReadsStalls}
-use Rattle.vidi_io.specs.declared.mem_shelf.MemShelf.{MemShelf}
-use Rattle.vidi_io.specs.Entries.{files_of}
-use Rattle.vidi_io.specs.MemShelf.{entries}
-use Rattle.vidi_io.specs.Shelf.{Files, holding}
-use Rattle.vidi_recorder.specs.declared.error.Outcome.TheVariants as outcomes
-use Rattle.vidi_recorder.specs.Course.{Course, sizes_of}
-use Rattle.vidi_bench.specs.declared.answer.Ended.{Ended}
-use Rattle.vidi_bench.specs.declared.bench.Bench.{Bench}
-use Rattle.vidi_bench.specs.Benches.{IsBench}
-use Rattle.run_commands.specs.Recorded.{FileEnds}
-use Rattle.run_commands.specs.Records.{course_of}
+use Rattle.sample_gen.proofs.vidi_bits.Lists.{bytes_eq-self, some_same}
+use Rattle.sample_gen.specs.trace_model.Recording.{trace_of}
+use Rattle.replay_command.specs.trace_code.Encoding.{encode}
+use Rattle.sample_gen.specs.room_ledger.Reservation.{need}
+use Rattle.sample_gen.specs.script_text.declared.stalls.Stalls.{Stalls}
+use Rattle.sample_gen.specs.script_text.Reasons.{read_lines}
+use Rattle.sample_gen.specs.script_text.Stalls.{ReadsStalls}
+use Rattle.replay_command.specs.vidi_io.declared.mem_shelf.MemShelf.{MemShelf}
+use Rattle.replay_command.specs.vidi_io.Entries.{files_of}
+use Rattle.replay_command.specs.vidi_io.MemShelf.{entries}
+use Rattle.replay_command.specs.vidi_io.Shelf.{Files, holding}
+use Rattle.replay_command.specs.vidi_recorder.declared.error.Outcome.TheVariants as outcomes
+use Rattle.replay_command.specs.vidi_recorder.Course.{Course, sizes_of}
+use Rattle.replay_command.specs.vidi_bench.declared.answer.Ended.{Ended}
+use Rattle.replay_command.specs.vidi_bench.declared.bench.Bench.{Bench}
+use Rattle.replay_command.specs.vidi_bench.Benches.{IsBench}
+use Rattle.replay_command.specs.run_commands.Recorded.{FileEnds}
+use Rattle.replay_command.specs.run_commands.Records.{course_of}
 use Rattle.sample_command.specs.Sampled.{trace_on, HasTrace, IsTraceOf, IsUnstable}
 use Rattle.sample_command.specs.Samples.{IsTraced, IsUntraced}
-use Rattle.vidi_bench.proofs.Chain.{Implies}
+use Rattle.replay_command.proofs.vidi_bench.Chain.{Implies}
 
 -- ---- the file on the shelf
 get-held : (m : Files) (name bytes : List ℕ) → get (insert m name bytes) name ≡ Some bytes

@@ -1,17 +1,17 @@
 -- The files of a sample, and what a recording on a shelf in memory gives.
 use Rattle.std.specs.Prelude.{◌≡◌, ℕ, ◌≤◌, List, Option, None, Some, IsSomeAnd, codes, length}
 use Rattle.std.specs.FinMap.{get}
-use Rattle.trace_model.specs.declared.row.Row.{Row}
-use Rattle.trace_model.specs.Recording.{trace_of}
-use Rattle.trace_code.specs.Encoding.{encode}
-use Rattle.vidi_io.specs.declared.mem_shelf.MemShelf.{MemShelf}
-use Rattle.vidi_io.specs.Entries.{files_of}
-use Rattle.vidi_io.specs.MemShelf.{entries}
+use Rattle.sample_gen.specs.trace_model.declared.row.Row.{Row}
+use Rattle.sample_gen.specs.trace_model.Recording.{trace_of}
+use Rattle.replay_command.specs.trace_code.Encoding.{encode}
+use Rattle.replay_command.specs.vidi_io.declared.mem_shelf.MemShelf.{MemShelf}
+use Rattle.replay_command.specs.vidi_io.Entries.{files_of}
+use Rattle.replay_command.specs.vidi_io.MemShelf.{entries}
 use Rattle.sample_gen.specs.declared.files.Sample.{Sample}
-use Rattle.vidi_recorder.specs.Course.{Course, IsTheRunOf}
-use Rattle.vidi_bench.specs.Design.{text_limit}
-use Rattle.run_commands.specs.Records.{IsRecorded}
-use Rattle.vidi_bench.specs.Steps.{Ending}
+use Rattle.replay_command.specs.vidi_recorder.Course.{Course, IsTheRunOf}
+use Rattle.replay_command.specs.vidi_bench.Design.{text_limit}
+use Rattle.replay_command.specs.run_commands.Records.{IsRecorded}
+use Rattle.replay_command.specs.vidi_bench.Steps.{Ending}
 
 -- no text is longer than its limit
 pub record AreShort (x : Sample) : Type 0 where

@@ -1,30 +1,30 @@
 -- What `sample NUMBER` owes: the files of the sample are recorded, and the trace is replayed on them, all in memory.
 use Rattle.std.specs.Prelude.{◌≡◌, ◌≢◌, ℕ, ◌≤◌, ◌⊎◌, List, [], ◌++◌, Option, None, Some, Ok, length}
-use Rattle.trace_model.specs.declared.row.Row.{Row}
-use Rattle.trace_model.specs.declared.trace.Trace.{Trace}
-use Rattle.trace_model.specs.Recording.{trace_of}
-use Rattle.trace_code.specs.Encoding.{Encodes, encode}
-use Rattle.trace_compare.specs.Findings.{findings}
-use Rattle.room_ledger.specs.Reservation.{need}
-use Rattle.script_text.specs.declared.script.TheConstants.{MOST_CYCLES}
-use Rattle.script_text.specs.declared.stalls.Stalls.{Stalls}
-use Rattle.script_text.specs.Reasons.{read_lines}
-use Rattle.script_text.specs.Stalls.{ReadsStalls}
-use Rattle.vidi_recorder.specs.Course.{sizes_of, IsTheRunOf}
-use Rattle.replay_run.specs.declared.outcome.ReplayOutcome.{ReplayOutcome}
-use Rattle.replay_run.specs.declared.outcome.ReplayOutcome.TheVariants as outcomes
+use Rattle.sample_gen.specs.trace_model.declared.row.Row.{Row}
+use Rattle.sample_gen.specs.trace_model.declared.trace.Trace.{Trace}
+use Rattle.sample_gen.specs.trace_model.Recording.{trace_of}
+use Rattle.replay_command.specs.trace_code.Encoding.{Encodes, encode}
+use Rattle.replay_command.specs.trace_compare.Findings.{findings}
+use Rattle.sample_gen.specs.room_ledger.Reservation.{need}
+use Rattle.sample_gen.specs.script_text.declared.script.TheConstants.{MOST_CYCLES}
+use Rattle.sample_gen.specs.script_text.declared.stalls.Stalls.{Stalls}
+use Rattle.sample_gen.specs.script_text.Reasons.{read_lines}
+use Rattle.sample_gen.specs.script_text.Stalls.{ReadsStalls}
+use Rattle.replay_command.specs.vidi_recorder.Course.{sizes_of, IsTheRunOf}
+use Rattle.replay_command.specs.replay_run.declared.outcome.ReplayOutcome.{ReplayOutcome}
+use Rattle.replay_command.specs.replay_run.declared.outcome.ReplayOutcome.TheVariants as outcomes
 use Rattle.sample_gen.specs.declared.files.Sample.{Sample}
 use Rattle.sample_gen.specs.Sample.{sample}
-use Rattle.vidi_bench.specs.declared.bench.Bench.{Bench}
-use Rattle.vidi_bench.specs.declared.device.Device.{Device}
+use Rattle.replay_command.specs.vidi_bench.declared.bench.Bench.{Bench}
+use Rattle.replay_command.specs.vidi_bench.declared.device.Device.{Device}
 use Rattle.sample_command.specs.declared.sampling.Figures.{Figures}
-use Rattle.vidi_bench.specs.declared.status.Status.TheVariants.{Done, Diverged}
-use Rattle.vidi_bench.specs.Benches.{IsBench}
-use Rattle.vidi_bench.specs.Devices.{IsDevice}
-use Rattle.run_commands.specs.Records.{course_of, IsRecorded, RefusedPlanned}
+use Rattle.replay_command.specs.vidi_bench.declared.status.Status.TheVariants.{Done, Diverged}
+use Rattle.replay_command.specs.vidi_bench.Benches.{IsBench}
+use Rattle.replay_command.specs.vidi_bench.Devices.{IsDevice}
+use Rattle.replay_command.specs.run_commands.Records.{course_of, IsRecorded, RefusedPlanned}
 use Rattle.replay_command.specs.Replays.{IsReplaySaid, IsTheReplay, RefusedReplay}
 use Rattle.sample_command.specs.Said.{diverged_text, sample_line}
-use Rattle.vidi_bench.specs.Steps.{Ending, IsSaid, Step}
+use Rattle.replay_command.specs.vidi_bench.Steps.{Ending, IsSaid, Step}
 
 -- for at most so many cycles a sample is replayed
 abbrev pub sample_cycles : ℕ

@@ -1,37 +1,39 @@
 //! The command `sample`.
 
 ghost use Rattle.std.specs.Prelude.{◌≡◌, ◌≤◌, ◌++◌, Some, IsSome, IfOk, IfErr, OnOk, length};
-ghost use Rattle.trace_model.specs.declared.trace.Trace.{Trace as OneTrace};
-ghost use Rattle.trace_code.specs.Encoding.{Encodes, HasEncoding};
-ghost use Rattle.room_ledger.specs.Ledger.{fresh};
+ghost use Rattle.sample_gen.specs.trace_model.declared.trace.Trace.{Trace as OneTrace};
+ghost use Rattle.replay_command.specs.trace_code.Encoding.{Encodes, HasEncoding};
+ghost use Rattle.sample_gen.specs.room_ledger.Ledger.{fresh};
 ghost use Rattle.sample_gen.specs.declared.generate.TheConstants.{LARGEST};
-ghost use Rattle.vidi_recorder.specs.Course.{sizes_of};
-ghost use Rattle.vidi_bench.specs.AnswerText.{text_of};
-ghost use Rattle.vidi_bench.specs.Benches.{AreWithin, IsPlayable};
-ghost use Rattle.vidi_bench.specs.Design.{text_limit};
-ghost use Rattle.vidi_bench.specs.Devices.{IsRunnable};
-ghost use Rattle.vidi_bench.specs.Ended.{EndsWith, IsAnswered};
-ghost use Rattle.run_commands.specs.Records.{course_of};
+ghost use Rattle.replay_command.specs.vidi_recorder.Course.{sizes_of};
+ghost use Rattle.replay_command.specs.vidi_bench.AnswerText.{text_of};
+ghost use Rattle.replay_command.specs.vidi_bench.Benches.{AreWithin, IsPlayable};
+ghost use Rattle.replay_command.specs.vidi_bench.Design.{text_limit};
+ghost use Rattle.replay_command.specs.vidi_bench.Devices.{IsRunnable};
+ghost use Rattle.replay_command.specs.vidi_bench.Ended.{EndsWith, IsAnswered};
+ghost use Rattle.replay_command.specs.run_commands.Records.{course_of};
 ghost use Rattle.sample_command.specs.Said as said;
 ghost use Rattle.sample_command.specs.Sampled as on_shelf;
 ghost use Rattle.sample_command.specs.Sampled.{AreShort, HasTrace, IsTraceOf, IsUnstable};
 ghost use Rattle.sample_command.specs.Samples.{IsSampleReplay, IsSampleSaid, IsSampleVerdict, IsTraced, IsUntraced, Samples, SamplesFiles, SamplesReplay};
-ghost use Rattle.vidi_bench.specs.Steps.{IsSaid};
+ghost use Rattle.replay_command.specs.vidi_bench.Steps.{IsSaid};
 
+use replay_command::replay_run::{ReplayOutcome, Replayed};
+use replay_command::report_text::{put, put_number};
+use replay_command::run_commands::{Planned, plan_texts, record_sim, unstable};
+use replay_command::trace_commands::diverged_text;
+use replay_command::trace_compare::Report;
+use replay_command::vidi_bench::{
+    Answer, Bench, Device, Ended, Status, Texts, device_of, with_bytes,
+};
+use replay_command::vidi_io::{Fails, MemShelf};
+use replay_command::vidi_recorder::Outcome;
 use replay_command::{decoded, played, trace_over};
-use replay_run::{ReplayOutcome, Replayed};
-use report_text::{put, put_number};
-use run_commands::{Planned, plan_texts, record_sim, unstable};
 use sample_gen::Sample;
-use script_text::MOST_CYCLES;
+use sample_gen::script_text::MOST_CYCLES;
+use sample_gen::trace_model::{Channels, Trace};
+use sample_gen::vidi_bits::{Bytes, Memory};
 use std::alloc::Global;
-use trace_commands::diverged_text;
-use trace_compare::Report;
-use trace_model::{Channels, Trace};
-use vidi_bench::{Answer, Bench, Device, Ended, Status, Texts, device_of, with_bytes};
-use vidi_bits::{Bytes, Memory};
-use vidi_io::{Fails, MemShelf};
-use vidi_recorder::Outcome;
 
 /// For how many cycles a sample is replayed at most.
 const SAMPLE_CYCLES: u32 = MOST_CYCLES as u32;
@@ -201,7 +203,7 @@ fn verdict(
         → IsSampleVerdict (said.sample_line figures (length trace.now.packets) cycles) trace.now u a.status (text_of a.text)) }
 {
     let other = decoded(alloc, written)?;
-    let report = trace_compare::compare(alloc, trace, &other)?;
+    let report = replay_command::trace_compare::compare(alloc, trace, &other)?;
     let line = sample_line(alloc, figures, trace.packets.len(), cycles)?;
     if report.is_empty() {
         return Ok(with_bytes(Status::Done, Bytes::from_vec(line)));

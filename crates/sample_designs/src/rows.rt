@@ -1,6 +1,6 @@
 //! How rows are compared.
 
-use trace_model::Row;
+use run_model::trace_model::Row;
 
 /// Whether a row has these gates, valids, readies, starts and ends, and these contents.
 pub fn is_row(row: &Row, masks: [u128; 5], contents: &[u128]) -> bool {

@@ -1,23 +1,23 @@
 //! The designs, ready to run.
 
 ghost use Rattle.std.specs.Prelude.{◌≡◌, ◌++◌, ◌∷◌, [], IfOk, IfSome, OnOk};
-ghost use Rattle.net_design.specs.Lawful.{IsLawful};
+ghost use Rattle.net_sim.specs.net_design.Lawful.{IsLawful};
 ghost use Rattle.run_model.specs.Building.{PortsAreNets};
 ghost use Rattle.run_model.specs.MapOf.{IsMapOf};
 ghost use Rattle.sample_designs.specs.Stage.{flick_channels, stage_channels};
 
 use crate::texts::{Sample, texts_of};
-use chan_map::{Map, MapText, bind_map, lawful_ports_have_widths, read_map};
-use net_design::Design;
-use net_order::order;
 use net_sim::Sim;
+use net_sim::net_design::Design;
+use net_sim::net_order::order;
+use net_sim::vidi_bits::{Bytes, Memory};
 use run_model::bound_is_map_of;
+use run_model::chan_map::{Map, MapText, bind_map, lawful_ports_have_widths, read_map};
+use run_model::trace_model::{Channel, Channels, Dir, same_channels};
 use std::alloc::Global;
-use trace_model::{Channel, Channels, Dir, same_channels};
-use vidi_bits::{Bytes, Memory};
 use vlog_design::elaborate;
-use vlog_lex::lex;
 use vlog_parse::parse;
+use vlog_parse::vlog_lex::lex;
 
 /// The most bytes that a text may have.
 const LONGEST_TEXT: usize = 4_194_304;

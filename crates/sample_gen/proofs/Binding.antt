@@ -1,7 +1,7 @@
 -- The map is bound to each pipe.
 use Rattle.std.proofs.Common.{refl}
-use Rattle.vidi_lines.specs.Lines.{file_lines, words_between}
-use Rattle.chan_map.specs.Forms.{keyword_of, form_of}
+use Rattle.script_text.specs.vidi_lines.Lines.{file_lines, words_between}
+use Rattle.script_text.specs.chan_map.Forms.{keyword_of, form_of}
 use Rattle.sample_gen.specs.Accepted.{MapIsBound}
 
 pub map_bound : MapIsBound

@@ -5,9 +5,9 @@ use Rattle.std.specs.Prelude.{codes, decimal}
 use Rattle.std.specs.Fmt.{digits}
 use Rattle.std.specs.List.{flat_map, list_all, range_with_len, prefix_len}
 use Rattle.std.proofs.lemmas.Bool.{and_parts, false≢true}
-use Rattle.vidi_bits.specs.Findings.{told_if}
-use Rattle.vidi_lines.specs.declared.lines.Line.{Line}
-use Rattle.vidi_lines.specs.Lines.{line_unless_bad, is_bad, words_between}
+use Rattle.room_ledger.specs.vidi_bits.Findings.{told_if}
+use Rattle.script_text.specs.vidi_lines.declared.lines.Line.{Line}
+use Rattle.script_text.specs.vidi_lines.Lines.{line_unless_bad, is_bad, words_between}
 use Rattle.script_text.specs.Used.{is_blank}
 use Rattle.script_text.specs.Reasons.{read_lines}
 use Rattle.script_text.specs.Stalls.{capacity_in, is_drain, drain_faults, plan_behind, plan_from, plan_faults}

@@ -5,10 +5,10 @@ use Rattle.std.specs.Prelude.{codes, decimal}
 use Rattle.std.specs.Fmt.{digits}
 use Rattle.std.specs.List.{flat_map, list_all, range_with_len, prefix_len}
 use Rattle.std.proofs.lemmas.Bool.{and_parts, false≢true}
-use Rattle.trace_model.specs.Channel.{between}
-use Rattle.vidi_bits.specs.Findings.{told_if}
-use Rattle.vidi_lines.specs.declared.lines.Line.{Line}
-use Rattle.vidi_lines.specs.Lines.{file_lines, line_unless_bad, is_bad, words_between}
+use Rattle.room_ledger.specs.trace_model.Channel.{between}
+use Rattle.room_ledger.specs.vidi_bits.Findings.{told_if}
+use Rattle.script_text.specs.vidi_lines.declared.lines.Line.{Line}
+use Rattle.script_text.specs.vidi_lines.Lines.{file_lines, line_unless_bad, is_bad, words_between}
 use Rattle.script_text.specs.declared.script.TheConstants.{MOST_CYCLES}
 use Rattle.script_text.specs.declared.said.StepLine.{StepLine}
 use Rattle.script_text.specs.declared.error.ScriptError.{ScriptError}

@@ -1,15 +1,15 @@
 -- No finding stands against a sample's files.
 use Rattle.std.specs.Prelude.{◌≡◌, ℕ, ◌≤◌, false, List, [], ◌∷◌, map, codes, Some}
-use Rattle.vidi_bits.specs.Findings.{is_nil}
-use Rattle.trace_model.specs.declared.channel.Channel.{Channel}
-use Rattle.trace_model.specs.declared.channel.Dir.TheVariants.{Inward, Outward}
-use Rattle.trace_model.specs.Channel.{content_bytes}
-use Rattle.net_design.specs.declared.design.Direction.{Direction}
-use Rattle.net_design.specs.declared.design.Direction.TheVariants.{Input, Output}
-use Rattle.net_design.specs.declared.design.Port.{Port}
-use Rattle.net_design.specs.declared.design.Design.{Design}
-use Rattle.chan_map.specs.Text.{text_faults, all_said, map_lines}
-use Rattle.chan_map.specs.Bound.{map_faults, table_of}
+use Rattle.room_ledger.specs.vidi_bits.Findings.{is_nil}
+use Rattle.room_ledger.specs.trace_model.declared.channel.Channel.{Channel}
+use Rattle.room_ledger.specs.trace_model.declared.channel.Dir.TheVariants.{Inward, Outward}
+use Rattle.room_ledger.specs.trace_model.Channel.{content_bytes}
+use Rattle.script_text.specs.net_design.declared.design.Direction.{Direction}
+use Rattle.script_text.specs.net_design.declared.design.Direction.TheVariants.{Input, Output}
+use Rattle.script_text.specs.net_design.declared.design.Port.{Port}
+use Rattle.script_text.specs.net_design.declared.design.Design.{Design}
+use Rattle.script_text.specs.chan_map.Text.{text_faults, all_said, map_lines}
+use Rattle.script_text.specs.chan_map.Bound.{map_faults, table_of}
 use Rattle.room_ledger.specs.Reservation.{need}
 use Rattle.script_text.specs.Reasons.{read_lines, script_faults}
 use Rattle.script_text.specs.Stalls.{plan_faults}

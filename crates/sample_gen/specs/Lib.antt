@@ -3,3 +3,6 @@ pub mod Design
 pub mod Joint
 pub mod Sample
 pub mod Accepted
+pub use Rattle.room_ledger.specs as room_ledger
+pub use Rattle.script_text.specs as script_text
+pub use Rattle.room_ledger.specs.trace_model as trace_model

@@ -7,8 +7,8 @@ ghost use Rattle.sample_gen.specs.Joint.{joint_text};
 ghost use Rattle.sample_gen.specs.Sample.{map_text};
 
 use crate::joint::Joint;
+use room_ledger::vidi_bits::{Bytes, Memory};
 use std::alloc::Global;
-use vidi_bits::{Bytes, Memory};
 
 /// A register with a valid and a ready on both sides.
 const PASS: &str = "module pass(input clk, input a_v, output a_r, input [7:0] a_d,

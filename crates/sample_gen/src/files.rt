@@ -1,6 +1,6 @@
 //! All files of a sample.
 
-use vidi_bits::Bytes;
+use room_ledger::vidi_bits::Bytes;
 
 /// The texts of a sample's files, and what its line tells of them.
 #[derive(Drop)]

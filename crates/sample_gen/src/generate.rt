@@ -8,8 +8,8 @@ use crate::design::{design, map};
 use crate::files::Sample;
 use crate::script::{script, stalls};
 use crate::sequence::Sequence;
+use room_ledger::vidi_bits::Memory;
 use std::alloc::Global;
-use vidi_bits::Memory;
 
 /// The largest number of a sample.
 pub const LARGEST: u32 = 6_000;

@@ -6,8 +6,8 @@ ghost use Rattle.sample_gen.specs.Sample as said;
 ghost use Rattle.sample_gen.specs.Sequence.{state, drawn};
 
 use crate::sequence::Sequence;
+use room_ledger::vidi_bits::{Bytes, Memory};
 use std::alloc::Global;
-use vidi_bits::{Bytes, Memory};
 
 /// The script of so many cycles that sends so many of the sequence's numbers, and takes all.
 pub(crate) fn script(

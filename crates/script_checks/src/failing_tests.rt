@@ -1,21 +1,21 @@
 //! Recordings whose push fails: the run goes on while its bytes drain, so the environment stands for no row where the first push fails.
 
 ghost use Rattle.std.specs.Prelude.{◌≡◌, ◌<◌, [], length};
-ghost use Rattle.trace_model.specs.Channel.{IsTable};
-ghost use Rattle.room_ledger.specs.Ledger.{fresh};
-ghost use Rattle.run_model.specs.Building.{PortsAreNets};
-ghost use Rattle.run_model.specs.MapOf.{IsMapOf};
+ghost use Rattle.bench_run.specs.trace_model.Channel.{IsTable};
+ghost use Rattle.vidi_recorder.specs.room_ledger.Ledger.{fresh};
+ghost use Rattle.bench_run.specs.run_model.Building.{PortsAreNets};
+ghost use Rattle.bench_run.specs.run_model.MapOf.{IsMapOf};
 ghost use Rattle.vidi_recorder.specs.Course.{sizes_of};
 
-use chan_map::Map;
-use chan_monitor::{Machines, Shell};
-use env_script::{Env, ScriptEnv, Stalls, read_script, read_stalls};
-use net_sim::Sim;
-use room_ledger::Room;
-use sample_designs::{Sample, Stage, two_channel_stage};
+use bench_run::chan_map::Map;
+use bench_run::chan_monitor::{Machines, Shell};
+use bench_run::env_script::{Env, ScriptEnv, Stalls, read_script, read_stalls};
+use bench_run::vidi_bits::Numbers;
+use run_checks::net_sim::Sim;
+use run_checks::sample_designs::{Sample, Stage, two_channel_stage};
 use std::alloc::Global;
-use vidi_bits::Numbers;
-use vidi_io::MemSink;
+use vidi_recorder::room_ledger::Room;
+use vidi_recorder::vidi_io::MemSink;
 use vidi_recorder::{RecordError, record_run};
 
 /// Two contents are offered, the first one from row 1 on. The register stage takes that one, and then no more.

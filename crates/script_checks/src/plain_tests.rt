@@ -1,19 +1,19 @@
 //! Rows of plain runs under scripts, with all masks: gates, valids, readies, starts and ends.
 
 ghost use Rattle.std.specs.Prelude.{◌<◌, ◌^◌, length};
-ghost use Rattle.run_model.specs.Building.{PortsAreNets};
-ghost use Rattle.run_model.specs.MapOf.{IsMapOf};
-ghost use Rattle.script_text.specs.Fits.{FitsChannels};
+ghost use Rattle.bench_run.specs.run_model.Building.{PortsAreNets};
+ghost use Rattle.bench_run.specs.run_model.MapOf.{IsMapOf};
+ghost use Rattle.bench_run.specs.script_text.Fits.{FitsChannels};
 
+use bench_run::chan_map::Map;
+use bench_run::env_script::{Script, ScriptEnv, read_script};
+use bench_run::trace_model::Channels;
+use bench_run::vidi_bits::Memory;
 use bench_run::{PlainRun, Spot, run_plain};
-use chan_map::Map;
-use env_script::{Script, ScriptEnv, read_script};
-use net_sim::Sim;
 use run_checks::is_two_sends;
-use sample_designs::{Sample, flick_channels, is_row, sample_stage, stage_channels};
+use run_checks::net_sim::Sim;
+use run_checks::sample_designs::{Sample, flick_channels, is_row, sample_stage, stage_channels};
 use std::alloc::Global;
-use trace_model::Channels;
-use vidi_bits::Memory;
 
 /// It isn't taken in row 1, so row 2 is unstable.
 fn is_cut(run: &PlainRun) -> bool {

@@ -1,8 +1,8 @@
 -- The definitions on worked plans and texts, found by hand.
 use Rattle.std.specs.Prelude.{◌≡◌, ℕ, List, [], ◌∷◌, ◌++◌, map, codes, Option, Some, None, refl}
-use Rattle.trace_model.specs.declared.channel.Channel.{Channel}
-use Rattle.trace_model.proofs.Examples.{pass}
-use Rattle.vidi_lines.specs.Lines.{file_lines, is_bad, words_between}
+use Rattle.chan_map.specs.trace_model.declared.channel.Channel.{Channel}
+use Rattle.chan_map.proofs.trace_model.Examples.{pass}
+use Rattle.chan_map.specs.vidi_lines.Lines.{file_lines, is_bad, words_between}
 use Rattle.script_text.specs.declared.error.ScriptError.{ScriptError}
 use Rattle.script_text.specs.declared.error.ScriptError.TheVariants as E
 use Rattle.script_text.specs.declared.stalls.Drain.{Drain}
@@ -10,7 +10,7 @@ use Rattle.script_text.specs.Forms.{keyword_of}
 use Rattle.script_text.specs.Plan.{allowance_at}
 use Rattle.script_text.specs.Reasons.{read_lines, script_faults}
 use Rattle.script_text.specs.Stalls.{plan_faults}
-use Rattle.vidi_bits.specs.Findings.{first}
+use Rattle.chan_map.specs.vidi_bits.Findings.{first}
 
 -- `drain 3 2`, `drain all 1`
 abbrev plan : List Drain

@@ -3,10 +3,10 @@ use Rattle.std.proofs.Common.{◌≡◌, ◌⊎◌, ℕ, ◌+◌, ◌<◌, List,
 use Rattle.std.proofs.Common.{subst, ◌∙◌, codes}
 use Rattle.std.proofs.lemmas.List.{ext_get_or}
 use Rattle.std.specs.List.{prefix_len}
-use Rattle.vidi_bits.proofs.Lists.{some_same}
-use Rattle.vidi_bits.specs.Findings.{first}
-use Rattle.vidi_lines.specs.declared.lines.Line.{Line as LineOf}
-use Rattle.trace_model.specs.declared.channel.Channel.{Channel as ChannelOf}
+use Rattle.chan_map.proofs.vidi_bits.Lists.{some_same}
+use Rattle.chan_map.specs.vidi_bits.Findings.{first}
+use Rattle.chan_map.specs.vidi_lines.declared.lines.Line.{Line as LineOf}
+use Rattle.chan_map.specs.trace_model.declared.channel.Channel.{Channel as ChannelOf}
 use Rattle.script_text.specs.declared.error.ScriptError.{ScriptError}
 use Rattle.script_text.specs.declared.error.ScriptError.TheVariants.{Line, Channel, Number, Memory}
 use Rattle.script_text.specs.declared.error.StallError.{StallError}
@@ -17,11 +17,11 @@ use Rattle.script_text.specs.declared.stalls.Stalls.{Stalls}
 use Rattle.script_text.specs.Used.{is_blank, number_in}
 use Rattle.script_text.specs.Reasons.{script_faults}
 use Rattle.script_text.specs.Reads.{IsScript, SaysBehind, SaysFrom, Says, ReadsScript}
-use Rattle.vidi_bits.specs.Findings.{IsFirst}
+use Rattle.chan_map.specs.vidi_bits.Findings.{IsFirst}
 use Rattle.script_text.specs.Told.{script_told}
 use Rattle.script_text.specs.Stalls.{plan_faults, PlansFrom, ReadsStalls}
 use Rattle.script_text.specs.OneReading.{SamePlan, OneScript, OnePlan}
-use Rattle.vidi_bits.proofs.OneAnswer.{one-answer}
+use Rattle.chan_map.proofs.vidi_bits.OneAnswer.{one-answer}
 
 -- ---- scripts
 same-script : (channels : List ChannelOf) (cycles : ℕ) (lines : List StepLine) (a b : Script) → IsScript channels cycles lines a

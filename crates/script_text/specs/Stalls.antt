@@ -4,10 +4,10 @@ use Rattle.std.specs.Prelude.{Option, Some, None, Result, Ok, Err}
 use Rattle.std.specs.List.{prefix_len}
 use Rattle.std.specs.Str.{bytes_eq}
 use Rattle.std.specs.Option.{option_to_list}
-use Rattle.trace_model.specs.Channel.{between}
-use Rattle.vidi_bits.specs.Findings.{first, told_if}
-use Rattle.vidi_lines.specs.declared.lines.Line.{Line}
-use Rattle.vidi_lines.specs.Number.{number_of}
+use Rattle.chan_map.specs.trace_model.Channel.{between}
+use Rattle.chan_map.specs.vidi_bits.Findings.{first, told_if}
+use Rattle.chan_map.specs.vidi_lines.declared.lines.Line.{Line}
+use Rattle.chan_map.specs.vidi_lines.Number.{number_of}
 use Rattle.script_text.specs.declared.script.TheConstants.{MOST_CYCLES}
 use Rattle.script_text.specs.declared.error.StallError.{StallError}
 use Rattle.script_text.specs.declared.error.StallError.TheVariants as E

@@ -1,9 +1,9 @@
 -- The lines of a file that have words, and the first of them (this project's profile).
 use Rattle.std.specs.Prelude.{ℕ, Bool, false, List, [], ◌∷◌, Option, Some, None, if◌then◌else◌}
 use Rattle.std.specs.Str.{bytes_eq}
-use Rattle.vidi_bits.specs.Findings.{is_nil}
-use Rattle.vidi_lines.specs.declared.lines.Line.{Line}
-use Rattle.vidi_lines.specs.Number.{number_of}
+use Rattle.chan_map.specs.vidi_bits.Findings.{is_nil}
+use Rattle.chan_map.specs.vidi_lines.declared.lines.Line.{Line}
+use Rattle.chan_map.specs.vidi_lines.Number.{number_of}
 
 -- a line without words; a bad line, which is None, isn't one
 abbrev pub is_blank : Option Line → Bool

@@ -2,8 +2,8 @@
 
 ghost use Rattle.std.specs.Prelude.{◌≡◌};
 
+use chan_map::vidi_bits::Memory;
 use thiserror::Error;
-use vidi_bits::Memory;
 
 /// Why a script is refused. Lines are counted from 1.
 #[derive(Clone, Copy, Debug, PartialEq, Eq, Error)]

@@ -1,7 +1,7 @@
 //! What is gathered of a script's lines.
 
 ghost use Rattle.std.specs.Prelude.{◌≡◌, ◌<◌, ◌++◌, ◌∷◌, [], ℕ, true, not, List, length, slice_set, slice_index_or, IfOk, OnOk};
-ghost use Rattle.vidi_bits.specs.Findings.{first, or_first, told_if};
+ghost use Rattle.chan_map.specs.vidi_bits.Findings.{first, or_first, told_if};
 ghost use Rattle.script_text.specs.declared.said.StepLine.{StepLine};
 ghost use Rattle.script_text.specs.Reasons.{is_small};
 ghost use Rattle.script_text.specs.Steps.{step_for};
@@ -12,10 +12,10 @@ use crate::forms::line_of;
 use crate::lawful::{fits_numbers, made, names_channels};
 use crate::said::StepLine;
 use crate::script::{Step, StepLists, Steps};
+use chan_map::trace_model::Channel;
+use chan_map::vidi_bits::Memory;
+use chan_map::vidi_lines::Line;
 use std::alloc::Global;
-use trace_model::Channel;
-use vidi_bits::Memory;
-use vidi_lines::Line;
 
 /// What is gathered of the lines of a script.
 #[derive(Drop)]

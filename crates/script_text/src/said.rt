@@ -1,6 +1,6 @@
 //! What a line of a script says.
 
-use vidi_bits::{Items, Numbers};
+use chan_map::vidi_bits::{Items, Numbers};
 
 /// What a line says behind its channel's name. A channel is given by its number in the map, `None` where the map has
 /// none of that name.

@@ -2,7 +2,7 @@
 
 ghost use Rattle.std.specs.Prelude.{◌≡◌};
 
-use vidi_bits::{Items, Numbers};
+use chan_map::vidi_bits::{Items, Numbers};
 
 /// The most cycles that a script or a stall plan says (this project's profile): of a run, of a wait and of a drain.
 pub const MOST_CYCLES: u128 = 50_000;

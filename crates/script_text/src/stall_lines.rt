@@ -9,9 +9,9 @@ use crate::lawful::between;
 use crate::script::MOST_CYCLES;
 use crate::stalls::{Drain, Drains};
 use crate::used::{is_blank, is_word, number_in};
+use chan_map::vidi_bits::Name;
+use chan_map::vidi_lines::{Line, number};
 use std::alloc::Global;
-use vidi_bits::Name;
-use vidi_lines::{Line, number};
 
 /// The number of a line `capacity N`, where it is 1 to 16,777,216.
 pub fn capacity_in(line: &Option<Line>) -> Option<u32>

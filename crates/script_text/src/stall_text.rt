@@ -9,9 +9,9 @@ use crate::error::StallError;
 use crate::stall_lines::{capacity_in, read_drains};
 use crate::stalls::{Drain, Stalls};
 use crate::used::blank_lines;
+use chan_map::vidi_bits::Memory;
+use chan_map::vidi_lines::each_line;
 use std::alloc::Global;
-use vidi_bits::Memory;
-use vidi_lines::each_line;
 
 /// How many cycles lie before and in each line.
 fn ends_of(alloc: Global, drains: &[Drain]) -> Result<Vec<u64>, Memory>

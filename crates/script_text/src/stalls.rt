@@ -4,7 +4,7 @@ ghost use Rattle.std.specs.Prelude.{◌≡◌};
 ghost use Rattle.std.specs.Option.{option_copied};
 ghost use Rattle.script_text.specs.Plan.{allowance_in, allowance_at, AreSome, ends_from};
 
-use vidi_bits::Items;
+use chan_map::vidi_bits::Items;
 
 /// A line of a plan: how many bytes may drain in each of its cycles, `None` for all, and how many cycles it is for.
 #[derive(Clone, Copy, Drop)]

@@ -3,11 +3,11 @@
 ghost use Rattle.std.specs.Prelude.{◌≡◌, ◌≤◌, length};
 ghost use Rattle.std.specs.List.{prefix_len};
 ghost use Rattle.std.specs.Str.{bytes_eq};
-ghost use Rattle.vidi_bits.specs.Findings.{is_nil};
+ghost use Rattle.chan_map.specs.vidi_bits.Findings.{is_nil};
 ghost use Rattle.script_text.specs.Used.{is_blank, number_after, number_in};
 
-use vidi_bits::Name;
-use vidi_lines::{Line, Names, number};
+use chan_map::vidi_bits::Name;
+use chan_map::vidi_lines::{Line, Names, number};
 
 fn has_none(words: &Names) -> bool
     ensures { result ≡ is_nil words.now }

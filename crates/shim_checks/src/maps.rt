@@ -1,9 +1,9 @@
 //! Maps that are made by hand.
 
-use chan_map::{Map, Pin, Pins, Plug, Reset, Tie};
+use shim_gen::chan_map::{Map, Pin, Pins, Plug, Reset, Tie};
+use shim_gen::trace_model::{Channel, Dir};
 use std::alloc::Global;
-use trace_model::{Channel, Dir};
-use vidi_bits::{Items, Memory, copied};
+use vlog_print::vidi_bits::{Items, Memory, copied};
 
 fn pin(alloc: Global, name: &str) -> Result<Pin, Memory> {
     let name = copied(alloc, name.as_bytes())?;

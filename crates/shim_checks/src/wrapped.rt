@@ -2,15 +2,15 @@
 
 use crate::maps::{held_map, stage_map};
 use crate::texts::{HELD, STAGE, WRAPPED_HELD, WRAPPED_STAGE};
-use chan_map::Map;
+use shim_gen::chan_map::Map;
 use shim_gen::{WrapError, monitor_tree, replayer_tree, wrap};
 use std::alloc::Global;
 use std::test::Fail;
-use vidi_bits::Bytes;
-use vlog_lex::lex;
-use vlog_parse::parse;
+use vlog_print::vidi_bits::Bytes;
+use vlog_print::vlog_lex::lex;
+use vlog_print::vlog_parse::parse;
+use vlog_print::vlog_tree::File;
 use vlog_print::{good_shape, print};
-use vlog_tree::File;
 
 fn file_of(alloc: Global, text: &[u8]) -> Result<File, Fail> {
     if text.len() > 10_000 {

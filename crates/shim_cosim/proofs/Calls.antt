@@ -3,26 +3,26 @@ use Rattle.std.proofs.Common.{◌≡◌, ℕ, ◌+◌, ◌<◌, ◌^◌, true, f
 use Rattle.std.proofs.Common.{refl, sym, ap, subst, ◌∙◌, arith}
 use Rattle.std.specs.Prelude.{MatchOption}
 use Rattle.std.specs.List.{refill}
-use Rattle.vlog_tree.specs.Tree.{FileOf}
-use Rattle.net_design.specs.declared.design.Design.{Design}
-use Rattle.net_design.specs.declared.values.Values.{Values}
-use Rattle.net_design.specs.Lawful.{IsState}
-use Rattle.net_design.specs.Pins.{outputs}
-use Rattle.net_design.specs.Settled.{IsSettled, initial}
-use Rattle.trace_model.specs.declared.channel.Channel.{Channel}
-use Rattle.trace_model.specs.declared.row.Offers.{Offers}
-use Rattle.trace_model.specs.declared.row.Row.{Row}
-use Rattle.trace_model.specs.Row.{AreOffers}
-use Rattle.chan_map.specs.declared.pins.Map.{Map}
-use Rattle.chan_map.specs.declared.pins.Reset.{Reset}
-use Rattle.run_model.specs.Offers.{AreZeroWhileDown}
-use Rattle.run_model.specs.Step.{IsAfter, IsFirst}
-use Rattle.chan_monitor.specs.Entering.{offered}
-use Rattle.chan_monitor.specs.Shell.{IsRunning, IsShown}
-use Rattle.chan_monitor.proofs.RowOfCycle.{refill-is}
+use Rattle.vlog_design.specs.vlog_tree.Tree.{FileOf}
+use Rattle.net_sim.specs.net_design.declared.design.Design.{Design}
+use Rattle.net_sim.specs.net_design.declared.values.Values.{Values}
+use Rattle.net_sim.specs.net_design.Lawful.{IsState}
+use Rattle.net_sim.specs.net_design.Pins.{outputs}
+use Rattle.net_sim.specs.net_design.Settled.{IsSettled, initial}
+use Rattle.replay_run.specs.trace_model.declared.channel.Channel.{Channel}
+use Rattle.replay_run.specs.trace_model.declared.row.Offers.{Offers}
+use Rattle.replay_run.specs.trace_model.declared.row.Row.{Row}
+use Rattle.replay_run.specs.trace_model.Row.{AreOffers}
+use Rattle.replay_run.specs.chan_map.declared.pins.Map.{Map}
+use Rattle.replay_run.specs.chan_map.declared.pins.Reset.{Reset}
+use Rattle.replay_run.specs.run_model.Offers.{AreZeroWhileDown}
+use Rattle.replay_run.specs.run_model.Step.{IsAfter, IsFirst}
+use Rattle.replay_run.specs.chan_monitor.Entering.{offered}
+use Rattle.replay_run.specs.chan_monitor.Shell.{IsRunning, IsShown}
+use Rattle.replay_run.proofs.chan_monitor.RowOfCycle.{refill-is}
 use Rattle.std.proofs.lemmas.List.{length-take-le, take_at}
-use Rattle.shim_trees.specs.RecordTop.{record_name}
-use Rattle.shim_trees.specs.Wrapped.{ports_in, module_named}
+use Rattle.shim_gen.specs.shim_trees.RecordTop.{record_name}
+use Rattle.shim_gen.specs.shim_trees.Wrapped.{ports_in, module_named}
 use Rattle.shim_cosim.specs.Top.{IsTopDesign, IsWrapOf}
 use Rattle.shim_cosim.specs.Held.{held_inputs}
 use Rattle.shim_cosim.specs.Recorded.{inputs_count, row_inputs, IsMadeRow}

@@ -6,19 +6,19 @@ use Rattle.std.proofs.lemmas.List.{take_all, take_at}
 use Rattle.std.proofs.lemmas.List.Sums.{sum_by_push, sum_by-cons, sum_by-take-le}
 use Rattle.std.proofs.lemmas.Option.{slice_get_read}
 use Rattle.std.specs.List.{sum_by}
-use Rattle.trace_model.specs.declared.channel.Channel.{Channel}
-use Rattle.trace_model.specs.declared.channel.Dir.{Dir}
-use Rattle.trace_model.specs.declared.channel.Dir.TheVariants.{Inward, Outward}
-use Rattle.trace_model.specs.declared.row.Offers.{Offers}
-use Rattle.trace_model.specs.declared.row.Row.{Row}
-use Rattle.trace_model.specs.Packet.{Fit}
-use Rattle.trace_model.specs.Row.{all_widths, content_at, replaced}
-use Rattle.trace_model.proofs.ContentsLemmas.{fit-length}
-use Rattle.trace_model.proofs.CountingLemmas.{take-more_read}
-use Rattle.trace_model.proofs.RowLemmas.{first_of, first-more, first-within, content-read, replaced-none, replaced-more}
-use Rattle.run_model.specs.Building.{joined}
-use Rattle.run_model.proofs.JoinedLaws.{joined-more}
-use Rattle.shim_trees.specs.Pieces.{each_some, upto}
+use Rattle.replay_run.specs.trace_model.declared.channel.Channel.{Channel}
+use Rattle.replay_run.specs.trace_model.declared.channel.Dir.{Dir}
+use Rattle.replay_run.specs.trace_model.declared.channel.Dir.TheVariants.{Inward, Outward}
+use Rattle.replay_run.specs.trace_model.declared.row.Offers.{Offers}
+use Rattle.replay_run.specs.trace_model.declared.row.Row.{Row}
+use Rattle.replay_run.specs.trace_model.Packet.{Fit}
+use Rattle.replay_run.specs.trace_model.Row.{all_widths, content_at, replaced}
+use Rattle.replay_run.proofs.trace_model.ContentsLemmas.{fit-length}
+use Rattle.replay_run.proofs.trace_model.CountingLemmas.{take-more_read}
+use Rattle.replay_run.proofs.trace_model.RowLemmas.{first_of, first-more, first-within, content-read, replaced-none, replaced-more}
+use Rattle.replay_run.specs.run_model.Building.{joined}
+use Rattle.replay_run.proofs.run_model.JoinedLaws.{joined-more}
+use Rattle.shim_gen.specs.shim_trees.Pieces.{each_some, upto}
 use Rattle.shim_cosim.specs.declared.recorded.Spot.{Spot}
 use Rattle.shim_cosim.specs.Recorded.{entered_inputs, channel_inputs, side_count, input_count, inputs_count, content_count, output_count}
 use Rattle.shim_cosim.specs.Recorded.{outputs_count, spot_place, spot_in, seat, is_raised, chosen_on, is_chosen, chosen_in, made_on, made_in}

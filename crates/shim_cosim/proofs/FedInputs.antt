@@ -7,16 +7,16 @@ use Rattle.std.proofs.lemmas.List.{append-nil, length-append, length-take-le, le
 use Rattle.std.proofs.lemmas.List.{get_or-take, get_or-drop, replicate-append-replicate}
 use Rattle.std.proofs.lemmas.List.Sums.{sum_by_push, sum_by-take-le}
 use Rattle.std.proofs.Math.Nat.{mul-le-mul_left}
-use Rattle.vidi_bits.specs.Number.{truth, has}
-use Rattle.trace_model.specs.declared.channel.Channel.{Channel}
-use Rattle.trace_model.specs.declared.channel.Dir.{Dir}
-use Rattle.trace_model.specs.declared.channel.Dir.TheVariants.{Inward, Outward}
-use Rattle.trace_model.specs.Row.{content_at, replaced}
-use Rattle.trace_model.proofs.CountingLemmas.{take-more_read}
-use Rattle.trace_model.proofs.RowLemmas.{first_of, first-within, content-read, rest-more, replaced-none, replaced-more}
-use Rattle.chan_replayer.specs.declared.feed.Feed.{Feed}
-use Rattle.chan_replayer.specs.Feed.{need_of, IsFeedOver}
-use Rattle.shim_trees.specs.Pieces.{each_some}
+use Rattle.net_sim.specs.vidi_bits.Number.{truth, has}
+use Rattle.replay_run.specs.trace_model.declared.channel.Channel.{Channel}
+use Rattle.replay_run.specs.trace_model.declared.channel.Dir.{Dir}
+use Rattle.replay_run.specs.trace_model.declared.channel.Dir.TheVariants.{Inward, Outward}
+use Rattle.replay_run.specs.trace_model.Row.{content_at, replaced}
+use Rattle.replay_run.proofs.trace_model.CountingLemmas.{take-more_read}
+use Rattle.replay_run.proofs.trace_model.RowLemmas.{first_of, first-within, content-read, rest-more, replaced-none, replaced-more}
+use Rattle.replay_run.specs.chan_replayer.declared.feed.Feed.{Feed}
+use Rattle.replay_run.specs.chan_replayer.Feed.{need_of, IsFeedOver}
+use Rattle.shim_gen.specs.shim_trees.Pieces.{each_some}
 use Rattle.shim_cosim.specs.Rewrapped.{if_inward, channel_inputs, feed_inputs, input_count, inputs_count, AreSmallNeeds}
 
 -- ---- pieces of a front of a list

@@ -7,23 +7,23 @@ use Rattle.std.proofs.lemmas.List.Elements.{recursion_from_All}
 use Rattle.std.proofs.lemmas.Option.{slice_get_within, get_or_from_slice_get}
 use Rattle.std.proofs.Math.Nat.{mul-le-mul_left}
 use Rattle.std.proofs.lemmas.List.{length-append, length-take-le, length-drop, get_or-take, get_or-drop, append-nil}
-use Rattle.vidi_bits.specs.Number.{IsWidth, truth, has}
-use Rattle.net_design.specs.declared.design.Direction.TheVariants.{Input}
-use Rattle.net_design.specs.declared.design.Port.{Port}
-use Rattle.vlog_meaning.specs.Names.{Name, Full}
-use Rattle.trace_model.specs.declared.channel.Channel.{Channel}
-use Rattle.trace_model.specs.declared.channel.Dir.{Dir}
-use Rattle.trace_model.specs.declared.channel.Dir.TheVariants.{Inward, Outward}
-use Rattle.trace_model.specs.Packet.{Fit}
-use Rattle.trace_model.specs.Row.{content_at}
-use Rattle.trace_model.proofs.ContentsLemmas.{fit-length}
-use Rattle.trace_model.specs.Channel.{IsChannel, IsTable}
-use Rattle.run_model.proofs.Contents.{content-fits}
-use Rattle.run_model.proofs.PinLemmas.{all-at}
-use Rattle.chan_replayer.specs.declared.feed.Feed.{Feed}
-use Rattle.chan_replayer.specs.Feed.{need_of, IsFeedOver}
-use Rattle.shim_trees.specs.Pieces.{numbered, numbered_twice, each, each_some, upto, input, output}
-use Rattle.shim_trees.specs.ReplayTop.{fed_ports, shown_ports, replay_ports}
+use Rattle.net_sim.specs.vidi_bits.Number.{IsWidth, truth, has}
+use Rattle.net_sim.specs.net_design.declared.design.Direction.TheVariants.{Input}
+use Rattle.net_sim.specs.net_design.declared.design.Port.{Port}
+use Rattle.shim_step.specs.vlog_meaning.Names.{Name, Full}
+use Rattle.replay_run.specs.trace_model.declared.channel.Channel.{Channel}
+use Rattle.replay_run.specs.trace_model.declared.channel.Dir.{Dir}
+use Rattle.replay_run.specs.trace_model.declared.channel.Dir.TheVariants.{Inward, Outward}
+use Rattle.replay_run.specs.trace_model.Packet.{Fit}
+use Rattle.replay_run.specs.trace_model.Row.{content_at}
+use Rattle.replay_run.proofs.trace_model.ContentsLemmas.{fit-length}
+use Rattle.replay_run.specs.trace_model.Channel.{IsChannel, IsTable}
+use Rattle.replay_run.proofs.run_model.Contents.{content-fits}
+use Rattle.replay_run.proofs.run_model.PinLemmas.{all-at}
+use Rattle.replay_run.specs.chan_replayer.declared.feed.Feed.{Feed}
+use Rattle.replay_run.specs.chan_replayer.Feed.{need_of, IsFeedOver}
+use Rattle.shim_gen.specs.shim_trees.Pieces.{numbered, numbered_twice, each, each_some, upto, input, output}
+use Rattle.shim_gen.specs.shim_trees.ReplayTop.{fed_ports, shown_ports, replay_ports}
 use Rattle.shim_step.specs.Ports.{HasFedContent}
 use Rattle.shim_step.proofs.Stand.{one_bit}
 use Rattle.shim_cosim.specs.Rewrapped.{if_inward, channel_inputs, feed_inputs, AreSmallNeeds}

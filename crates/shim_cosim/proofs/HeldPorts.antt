@@ -5,26 +5,26 @@ use Rattle.std.specs.Prelude.{codes, IfSome}
 use Rattle.std.specs.List.{flat_map, AllZip, AllByRecursion}
 use Rattle.std.specs.Option.{option_to_list}
 use Rattle.std.specs.Str.{bytes_eq}
-use Rattle.vidi_bits.specs.Number.{IsWidth, truth}
-use Rattle.vlog_tree.specs.Tree.{PortOf, ModuleOf, FileOf}
-use Rattle.vlog_size.specs.Table.{Named, value_of}
-use Rattle.vlog_names.specs.Entries.{no_port, port_entries}
-use Rattle.vlog_scope.specs.Scope.{scope_with}
-use Rattle.vlog_meaning.specs.Names.{Name, Full}
-use Rattle.net_design.specs.declared.design.Direction.TheVariants.{Input, Output}
-use Rattle.net_design.specs.declared.design.Port.{Port}
-use Rattle.net_design.specs.declared.design.Design.{Design}
-use Rattle.flat_parts.specs.Nets.{port_of}
-use Rattle.chan_map.specs.declared.pins.Map.{Map}
-use Rattle.chan_map.specs.declared.pins.Pin.{Pin}
-use Rattle.chan_map.specs.declared.pins.Reset.{Reset}
-use Rattle.chan_map.specs.declared.pins.Tie.{Tie}
-use Rattle.chan_map.specs.Bound.{IsPin, IsTie}
-use Rattle.run_model.specs.Pins.{reset_input}
-use Rattle.shim_trees.specs.Links.{tied, tied_input, tied_port, tied_link, tied_ports, held, reset_width, tie_width, channel_links, link}
-use Rattle.shim_trees.specs.Pieces.{each_some}
-use Rattle.trace_model.specs.declared.channel.Channel.{Channel}
-use Rattle.shim_design.proofs.Elements.{Has, has_left, has_right, has_map, mapped, found, Apart, apart_front}
+use Rattle.net_sim.specs.vidi_bits.Number.{IsWidth, truth}
+use Rattle.vlog_design.specs.vlog_tree.Tree.{PortOf, ModuleOf, FileOf}
+use Rattle.vlog_design.specs.vlog_size.Table.{Named, value_of}
+use Rattle.vlog_design.specs.vlog_names.Entries.{no_port, port_entries}
+use Rattle.shim_step.specs.vlog_scope.Scope.{scope_with}
+use Rattle.shim_step.specs.vlog_meaning.Names.{Name, Full}
+use Rattle.net_sim.specs.net_design.declared.design.Direction.TheVariants.{Input, Output}
+use Rattle.net_sim.specs.net_design.declared.design.Port.{Port}
+use Rattle.net_sim.specs.net_design.declared.design.Design.{Design}
+use Rattle.vlog_design.specs.flat_parts.Nets.{port_of}
+use Rattle.replay_run.specs.chan_map.declared.pins.Map.{Map}
+use Rattle.replay_run.specs.chan_map.declared.pins.Pin.{Pin}
+use Rattle.replay_run.specs.chan_map.declared.pins.Reset.{Reset}
+use Rattle.replay_run.specs.chan_map.declared.pins.Tie.{Tie}
+use Rattle.replay_run.specs.chan_map.Bound.{IsPin, IsTie}
+use Rattle.replay_run.specs.run_model.Pins.{reset_input}
+use Rattle.shim_gen.specs.shim_trees.Links.{tied, tied_input, tied_port, tied_link, tied_ports, held, reset_width, tie_width, channel_links, link}
+use Rattle.shim_gen.specs.shim_trees.Pieces.{each_some}
+use Rattle.replay_run.specs.trace_model.declared.channel.Channel.{Channel}
+use Rattle.shim_step.proofs.shim_design.Elements.{Has, has_left, has_right, has_map, mapped, found, Apart, apart_front}
 use Rattle.shim_step.specs.Wrapped.{IsWrapped}
 use Rattle.shim_step.specs.Ports.{HasHeld}
 use Rattle.shim_step.proofs.Dut.{behind}

@@ -2,7 +2,7 @@
 use Rattle.std.proofs.Common.{◌≡◌, ℕ, zero, suc, ◌+◌, ◌<◌, List, [], ◌∷◌, ◌++◌, map, length, Some, refl, ap, ◌∙◌, subst, arith}
 use Rattle.std.proofs.Common.{slice_get, get_or}
 use Rattle.std.specs.List.{AllZip}
-use Rattle.shim_trees.specs.Pieces.{each, each_some, upto}
+use Rattle.shim_gen.specs.shim_trees.Pieces.{each, each_some, upto}
 use Rattle.shim_cosim.proofs.Zips.{zip_append}
 
 -- ---- us many on each side

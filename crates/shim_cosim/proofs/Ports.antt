@@ -2,32 +2,32 @@
 use Rattle.std.proofs.Common.{◌≡◌, ℕ, List, [], ◌∷◌, ◌++◌, map, Option, Some, None, inl, inr, refl, sym, ap, ◌∙◌, subst}
 use Rattle.std.specs.List.{AllByRecursion}
 use Rattle.std.proofs.lemmas.List.{map-append}
-use Rattle.vidi_bits.specs.Number.{IsWidth}
-use Rattle.vlog_tree.specs.declared.module.Direction.{Direction as TreeDirection}
-use Rattle.vlog_tree.specs.declared.module.Direction.TheVariants as tree
-use Rattle.vlog_tree.specs.Tree.{PortHeadOf, PortOf, ModuleOf}
-use Rattle.vlog_size.specs.declared.scope.Scope.{Scope}
-use Rattle.vlog_size.specs.Table.{value_of}
-use Rattle.vlog_names.specs.declared.declaration.Declaration.{Declaration}
-use Rattle.vlog_names.specs.Entries.{entry, port_as, no_port, port_entries}
-use Rattle.vlog_scope.specs.Extents.{net_width}
-use Rattle.vlog_scope.specs.Scope.{scope_with}
-use Rattle.vlog_meaning.specs.Names.{Name, Full}
-use Rattle.vlog_meaning.specs.Next as next
-use Rattle.net_design.specs.declared.design.Direction.{Direction}
-use Rattle.net_design.specs.declared.design.Direction.TheVariants.{Input, Output}
-use Rattle.net_design.specs.declared.design.Net.{Net}
-use Rattle.net_design.specs.declared.design.Port.{Port}
-use Rattle.net_design.specs.declared.design.Design.{Design}
-use Rattle.net_design.specs.Lawful.{IsLawful}
-use Rattle.net_design.specs.Names.{list_at, paths}
-use Rattle.net_design.specs.Settled.{pins_of}
-use Rattle.flat_parts.specs.Meaning.{values_of}
-use Rattle.flat_parts.specs.Nets.{port_of, flat_ports}
-use Rattle.shim_trees.specs.Pieces.{range_of}
-use Rattle.shim_design.specs.Plain.{net_named, extent, nets_of, IsPlain}
-use Rattle.shim_design.proofs.Elements.{Has, found}
-use Rattle.shim_design.proofs.Standing.{port_net, plain_nets_differ, plain_scope}
+use Rattle.net_sim.specs.vidi_bits.Number.{IsWidth}
+use Rattle.vlog_design.specs.vlog_tree.declared.module.Direction.{Direction as TreeDirection}
+use Rattle.vlog_design.specs.vlog_tree.declared.module.Direction.TheVariants as tree
+use Rattle.vlog_design.specs.vlog_tree.Tree.{PortHeadOf, PortOf, ModuleOf}
+use Rattle.vlog_design.specs.vlog_size.declared.scope.Scope.{Scope}
+use Rattle.vlog_design.specs.vlog_size.Table.{value_of}
+use Rattle.vlog_design.specs.vlog_names.declared.declaration.Declaration.{Declaration}
+use Rattle.vlog_design.specs.vlog_names.Entries.{entry, port_as, no_port, port_entries}
+use Rattle.shim_step.specs.vlog_scope.Extents.{net_width}
+use Rattle.shim_step.specs.vlog_scope.Scope.{scope_with}
+use Rattle.shim_step.specs.vlog_meaning.Names.{Name, Full}
+use Rattle.shim_step.specs.vlog_meaning.Next as next
+use Rattle.net_sim.specs.net_design.declared.design.Direction.{Direction}
+use Rattle.net_sim.specs.net_design.declared.design.Direction.TheVariants.{Input, Output}
+use Rattle.net_sim.specs.net_design.declared.design.Net.{Net}
+use Rattle.net_sim.specs.net_design.declared.design.Port.{Port}
+use Rattle.net_sim.specs.net_design.declared.design.Design.{Design}
+use Rattle.net_sim.specs.net_design.Lawful.{IsLawful}
+use Rattle.net_sim.specs.net_design.Names.{list_at, paths}
+use Rattle.net_sim.specs.net_design.Settled.{pins_of}
+use Rattle.vlog_design.specs.flat_parts.Meaning.{values_of}
+use Rattle.vlog_design.specs.flat_parts.Nets.{port_of, flat_ports}
+use Rattle.shim_gen.specs.shim_trees.Pieces.{range_of}
+use Rattle.shim_step.specs.shim_design.Plain.{net_named, extent, nets_of, IsPlain}
+use Rattle.shim_step.proofs.shim_design.Elements.{Has, found}
+use Rattle.shim_step.proofs.shim_design.Standing.{port_net, plain_nets_differ, plain_scope}
 use Rattle.shim_step.proofs.Texts.{range_width}
 use Rattle.shim_cosim.proofs.Zips.{ways_of, ways_append, first_path, named_from}
 

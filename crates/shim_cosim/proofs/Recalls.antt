@@ -3,20 +3,20 @@ use Rattle.std.proofs.Common.{◌≡◌, ℕ, ◌+◌, ◌≤◌, List, [], ◌+
 use Rattle.std.specs.Prelude.{MatchOption}
 use Rattle.std.specs.List.{refill}
 use Rattle.std.proofs.lemmas.List.{length-take-le, take_at}
-use Rattle.net_design.specs.declared.design.Design.{Design}
-use Rattle.net_design.specs.declared.values.Values.{Values}
-use Rattle.net_design.specs.Lawful.{IsState}
-use Rattle.net_design.specs.Pins.{outputs}
-use Rattle.net_design.specs.Settled.{IsSettled, initial}
-use Rattle.trace_model.specs.declared.row.Row.{Row}
-use Rattle.trace_model.specs.Row.{IsOver}
-use Rattle.chan_map.specs.declared.pins.Map.{Map}
-use Rattle.chan_map.specs.declared.pins.Reset.{Reset}
-use Rattle.run_model.specs.Step.{IsAfter, IsFirst}
-use Rattle.chan_monitor.proofs.RowOfCycle.{refill-is}
-use Rattle.chan_replayer.specs.declared.feed.Feed.{Feed}
-use Rattle.chan_replayer.specs.Feed.{IsFeedOver}
-use Rattle.chan_replayer.specs.Shell.{IsRunning, IsShown}
+use Rattle.net_sim.specs.net_design.declared.design.Design.{Design}
+use Rattle.net_sim.specs.net_design.declared.values.Values.{Values}
+use Rattle.net_sim.specs.net_design.Lawful.{IsState}
+use Rattle.net_sim.specs.net_design.Pins.{outputs}
+use Rattle.net_sim.specs.net_design.Settled.{IsSettled, initial}
+use Rattle.replay_run.specs.trace_model.declared.row.Row.{Row}
+use Rattle.replay_run.specs.trace_model.Row.{IsOver}
+use Rattle.replay_run.specs.chan_map.declared.pins.Map.{Map}
+use Rattle.replay_run.specs.chan_map.declared.pins.Reset.{Reset}
+use Rattle.replay_run.specs.run_model.Step.{IsAfter, IsFirst}
+use Rattle.replay_run.proofs.chan_monitor.RowOfCycle.{refill-is}
+use Rattle.replay_run.specs.chan_replayer.declared.feed.Feed.{Feed}
+use Rattle.replay_run.specs.chan_replayer.Feed.{IsFeedOver}
+use Rattle.replay_run.specs.chan_replayer.Shell.{IsRunning, IsShown}
 use Rattle.shim_cosim.specs.Rewrapped.{inputs_count, feed_inputs, replay_row, flight_of}
 use Rattle.shim_cosim.specs.Replaying.{IsReplaying, IsReplayed}
 use Rattle.shim_cosim.proofs.Rerun.{driven_on, running_on, shown, known_over, reset_on, running_again}

@@ -4,44 +4,44 @@ use Rattle.std.proofs.Common.{Option, Some, None, refl, sym, ap, ◌∙◌, subs
 use Rattle.std.specs.Prelude.{codes, MatchOption}
 use Rattle.std.specs.List.{range_with_len}
 use Rattle.std.proofs.lemmas.List.{ext_get_or}
-use Rattle.vidi_bits.specs.Number.{truth, has}
-use Rattle.vlog_tree.specs.Tree.{ModuleOf, FileOf}
-use Rattle.vlog_meaning.specs.Names.{Full, State}
-use Rattle.vlog_meaning.specs.Next.{IsNext, IsInitial}
-use Rattle.net_design.specs.declared.design.Design.{Design}
-use Rattle.net_design.specs.declared.values.Values.{Values}
-use Rattle.net_design.specs.Lawful.{IsLawful, IsState}
-use Rattle.net_design.specs.Pins.{input_limits, outputs}
-use Rattle.net_design.specs.Settled as design
-use Rattle.net_design.proofs.StateLaws.{initial_state, next_state}
-use Rattle.flat_parts.specs.Meaning.{state_of}
-use Rattle.trace_model.specs.declared.channel.Channel.{Channel}
-use Rattle.trace_model.specs.declared.channel.Dir.{Dir}
-use Rattle.trace_model.specs.declared.channel.Dir.TheVariants.{Inward, Outward}
-use Rattle.trace_model.specs.declared.row.Offers.{Offers}
-use Rattle.trace_model.specs.declared.row.Row.{Row}
-use Rattle.trace_model.specs.Packet.{Fit}
-use Rattle.trace_model.specs.Row.{content_at, AreOffers, IsOver}
-use Rattle.trace_model.proofs.ContentsLemmas.{fit-length}
-use Rattle.chan_map.specs.declared.pins.Map.{Map}
-use Rattle.chan_map.specs.declared.pins.Reset.{Reset}
-use Rattle.run_model.specs.Building.{mask_of, joined, number_for}
-use Rattle.run_model.specs.Offers.{AreZeroWhileDown, CarriesOn}
-use Rattle.run_model.specs.Pins.{silent, entered, ArePins}
-use Rattle.run_model.specs.Step as run
-use Rattle.run_model.specs.Step.{IsAfter, IsFirst, IsStep}
-use Rattle.run_model.proofs.Contents.{mask-below, has-mask, same-masks_below, fit-joined, content-joined, content-fits, same-contents}
-use Rattle.run_model.proofs.PinLemmas.{are-pins, one-list}
-use Rattle.run_model.proofs.PlayedLaws.{silent-small}
-use Rattle.run_model.proofs.RowParts.{channel-at}
-use Rattle.chan_monitor.specs.Entering.{offered}
-use Rattle.chan_monitor.specs.Shell.{IsShown}
-use Rattle.chan_monitor.proofs.Filling.{offered-is}
-use Rattle.chan_monitor.proofs.RowOfCycle.{first-none, first-some}
-use Rattle.shim_trees.specs.Pieces.{numbered, each_some, upto}
-use Rattle.shim_trees.specs.RecordTop.{record_ports, record_name, record_top}
-use Rattle.shim_trees.specs.Wrapped.{wrapped}
-use Rattle.shim_design.specs.Part.{pins_below}
+use Rattle.net_sim.specs.vidi_bits.Number.{truth, has}
+use Rattle.vlog_design.specs.vlog_tree.Tree.{ModuleOf, FileOf}
+use Rattle.shim_step.specs.vlog_meaning.Names.{Full, State}
+use Rattle.shim_step.specs.vlog_meaning.Next.{IsNext, IsInitial}
+use Rattle.net_sim.specs.net_design.declared.design.Design.{Design}
+use Rattle.net_sim.specs.net_design.declared.values.Values.{Values}
+use Rattle.net_sim.specs.net_design.Lawful.{IsLawful, IsState}
+use Rattle.net_sim.specs.net_design.Pins.{input_limits, outputs}
+use Rattle.net_sim.specs.net_design.Settled as design
+use Rattle.net_sim.proofs.net_design.StateLaws.{initial_state, next_state}
+use Rattle.vlog_design.specs.flat_parts.Meaning.{state_of}
+use Rattle.replay_run.specs.trace_model.declared.channel.Channel.{Channel}
+use Rattle.replay_run.specs.trace_model.declared.channel.Dir.{Dir}
+use Rattle.replay_run.specs.trace_model.declared.channel.Dir.TheVariants.{Inward, Outward}
+use Rattle.replay_run.specs.trace_model.declared.row.Offers.{Offers}
+use Rattle.replay_run.specs.trace_model.declared.row.Row.{Row}
+use Rattle.replay_run.specs.trace_model.Packet.{Fit}
+use Rattle.replay_run.specs.trace_model.Row.{content_at, AreOffers, IsOver}
+use Rattle.replay_run.proofs.trace_model.ContentsLemmas.{fit-length}
+use Rattle.replay_run.specs.chan_map.declared.pins.Map.{Map}
+use Rattle.replay_run.specs.chan_map.declared.pins.Reset.{Reset}
+use Rattle.replay_run.specs.run_model.Building.{mask_of, joined, number_for}
+use Rattle.replay_run.specs.run_model.Offers.{AreZeroWhileDown, CarriesOn}
+use Rattle.replay_run.specs.run_model.Pins.{silent, entered, ArePins}
+use Rattle.replay_run.specs.run_model.Step as run
+use Rattle.replay_run.specs.run_model.Step.{IsAfter, IsFirst, IsStep}
+use Rattle.replay_run.proofs.run_model.Contents.{mask-below, has-mask, same-masks_below, fit-joined, content-joined, content-fits, same-contents}
+use Rattle.replay_run.proofs.run_model.PinLemmas.{are-pins, one-list}
+use Rattle.replay_run.proofs.run_model.PlayedLaws.{silent-small}
+use Rattle.replay_run.proofs.run_model.RowParts.{channel-at}
+use Rattle.replay_run.specs.chan_monitor.Entering.{offered}
+use Rattle.replay_run.specs.chan_monitor.Shell.{IsShown}
+use Rattle.replay_run.proofs.chan_monitor.Filling.{offered-is}
+use Rattle.replay_run.proofs.chan_monitor.RowOfCycle.{first-none, first-some}
+use Rattle.shim_gen.specs.shim_trees.Pieces.{numbered, each_some, upto}
+use Rattle.shim_gen.specs.shim_trees.RecordTop.{record_ports, record_name, record_top}
+use Rattle.shim_gen.specs.shim_trees.Wrapped.{wrapped}
+use Rattle.shim_step.specs.shim_design.Part.{pins_below}
 use Rattle.shim_step.specs.Wrapped.{DUT, Flies}
 use Rattle.shim_step.specs.Ports.{HasContent, ShowsContent}
 use Rattle.shim_step.specs.Recording.{own_state, Records}

@@ -5,19 +5,19 @@ use Rattle.std.specs.Prelude.{codes}
 use Rattle.std.specs.List.{AllZip, AllByRecursion}
 use Rattle.std.proofs.lemmas.List.{map-append, length-map, length-append}
 use Rattle.std.proofs.lemmas.List.Sums.{sum_by-cons}
-use Rattle.vidi_bits.specs.Number.{IsWidth, truth}
-use Rattle.vlog_tree.specs.Tree.{PortOf}
-use Rattle.vlog_meaning.specs.Names.{Name, Full}
-use Rattle.net_design.specs.declared.design.Direction.TheVariants.{Input, Output}
-use Rattle.net_design.specs.declared.design.Port.{Port}
-use Rattle.trace_model.specs.declared.channel.Channel.{Channel}
-use Rattle.trace_model.specs.declared.channel.Dir.{Dir}
-use Rattle.trace_model.specs.declared.channel.Dir.TheVariants.{Inward, Outward}
-use Rattle.trace_model.specs.declared.row.Row.{Row}
-use Rattle.trace_model.specs.Packet.{Fit}
-use Rattle.trace_model.specs.Row.{content_at}
-use Rattle.shim_trees.specs.Pieces.{numbered, numbered_twice, each, each_some, port, input, output, source_side, sink_side}
-use Rattle.shim_trees.specs.RecordTop.{record_ports}
+use Rattle.net_sim.specs.vidi_bits.Number.{IsWidth, truth}
+use Rattle.vlog_design.specs.vlog_tree.Tree.{PortOf}
+use Rattle.shim_step.specs.vlog_meaning.Names.{Name, Full}
+use Rattle.net_sim.specs.net_design.declared.design.Direction.TheVariants.{Input, Output}
+use Rattle.net_sim.specs.net_design.declared.design.Port.{Port}
+use Rattle.replay_run.specs.trace_model.declared.channel.Channel.{Channel}
+use Rattle.replay_run.specs.trace_model.declared.channel.Dir.{Dir}
+use Rattle.replay_run.specs.trace_model.declared.channel.Dir.TheVariants.{Inward, Outward}
+use Rattle.replay_run.specs.trace_model.declared.row.Row.{Row}
+use Rattle.replay_run.specs.trace_model.Packet.{Fit}
+use Rattle.replay_run.specs.trace_model.Row.{content_at}
+use Rattle.shim_gen.specs.shim_trees.Pieces.{numbered, numbered_twice, each, each_some, port, input, output, source_side, sink_side}
+use Rattle.shim_gen.specs.shim_trees.RecordTop.{record_ports}
 use Rattle.shim_cosim.specs.Recorded.{entered_inputs, channel_inputs, content_count, output_count, outputs_count}
 use Rattle.shim_cosim.proofs.HeldPorts.{truth_below}
 use Rattle.shim_cosim.proofs.Ports.{side, side_append, flat_width, IsHeaded}

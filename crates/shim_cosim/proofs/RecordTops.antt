@@ -7,43 +7,43 @@ use Rattle.std.proofs.lemmas.Bool.{ne_eqb}
 use Rattle.std.proofs.lemmas.List.{length-append}
 use Rattle.std.proofs.lemmas.List.Sums.{sum_by-cons}
 use Rattle.std.proofs.lemmas.Nat.{pow_pos}
-use Rattle.vidi_bits.specs.Number.{IsWidth}
-use Rattle.vidi_bits.proofs.Each.{each_append}
-use Rattle.vlog_tree.specs.Tree.{PortOf, ConnOf, ItemOf, PosedgeEvent, ModuleOf, FileOf}
-use Rattle.vlog_elab.specs.Instances.{instances}
-use Rattle.vlog_scope.specs.Scope.{scope_with}
-use Rattle.vlog_size.specs.declared.scope.Scope.{Scope}
-use Rattle.vlog_meaning.specs.Names.{Name, Full, State}
-use Rattle.vlog_meaning.specs.Placed.{placed, placed_items}
-use Rattle.vlog_meaning.specs.Settled.{inputs_of, Joins, Waits, IsClock}
-use Rattle.net_design.specs.declared.design.Direction.TheVariants.{Input, Output}
-use Rattle.net_design.specs.declared.design.Port.{Port}
-use Rattle.net_design.specs.declared.design.Design.{Design}
-use Rattle.net_design.specs.declared.values.Values.{Values}
-use Rattle.net_design.specs.Lawful.{IsLawful, IsState}
-use Rattle.net_design.specs.Pins.{is_clock, outputs, FitPins}
-use Rattle.net_design.specs.Settled as design
-use Rattle.net_design.specs.Settled.{pins_of}
-use Rattle.flat_parts.specs.Built.{IsBuilt}
-use Rattle.flat_parts.specs.Laws.{IsTop}
-use Rattle.flat_parts.specs.Meaning.{values_of, state_of, Means}
-use Rattle.trace_model.specs.declared.channel.Channel.{Channel}
-use Rattle.trace_model.specs.declared.channel.Dir.{Dir}
-use Rattle.trace_model.specs.declared.channel.Dir.TheVariants.{Inward, Outward}
-use Rattle.trace_model.specs.declared.row.Offers.{Offers}
-use Rattle.trace_model.specs.Row.{content_at, AreOffers}
-use Rattle.chan_map.specs.declared.pins.Map.{Map}
-use Rattle.run_model.proofs.Contents.{content-fits}
-use Rattle.run_model.proofs.RowParts.{channel-at}
-use Rattle.chan_monitor.specs.Entering.{offered}
-use Rattle.shim_trees.specs.Pieces.{numbered, ident, net, not_net, both, next, at_clock, each, each_some, conn, gated_content}
-use Rattle.shim_trees.specs.Links.{held, tied_ports}
-use Rattle.shim_trees.specs.Monitor.{monitor, gates, events}
-use Rattle.shim_trees.specs.RecordTop.{record_ports, record_name, record_top, monitor_conns}
-use Rattle.shim_trees.specs.Wrapped.{wrapped}
-use Rattle.shim_design.specs.Plain.{IsPlain}
-use Rattle.shim_design.proofs.Elements.{has_right, has_contains}
-use Rattle.shim_design.proofs.Standing.{plain_scope, has_placed}
+use Rattle.net_sim.specs.vidi_bits.Number.{IsWidth}
+use Rattle.net_sim.proofs.vidi_bits.Each.{each_append}
+use Rattle.vlog_design.specs.vlog_tree.Tree.{PortOf, ConnOf, ItemOf, PosedgeEvent, ModuleOf, FileOf}
+use Rattle.vlog_design.specs.vlog_elab.Instances.{instances}
+use Rattle.shim_step.specs.vlog_scope.Scope.{scope_with}
+use Rattle.vlog_design.specs.vlog_size.declared.scope.Scope.{Scope}
+use Rattle.shim_step.specs.vlog_meaning.Names.{Name, Full, State}
+use Rattle.shim_step.specs.vlog_meaning.Placed.{placed, placed_items}
+use Rattle.shim_step.specs.vlog_meaning.Settled.{inputs_of, Joins, Waits, IsClock}
+use Rattle.net_sim.specs.net_design.declared.design.Direction.TheVariants.{Input, Output}
+use Rattle.net_sim.specs.net_design.declared.design.Port.{Port}
+use Rattle.net_sim.specs.net_design.declared.design.Design.{Design}
+use Rattle.net_sim.specs.net_design.declared.values.Values.{Values}
+use Rattle.net_sim.specs.net_design.Lawful.{IsLawful, IsState}
+use Rattle.net_sim.specs.net_design.Pins.{is_clock, outputs, FitPins}
+use Rattle.net_sim.specs.net_design.Settled as design
+use Rattle.net_sim.specs.net_design.Settled.{pins_of}
+use Rattle.vlog_design.specs.flat_parts.Built.{IsBuilt}
+use Rattle.vlog_design.specs.flat_parts.Laws.{IsTop}
+use Rattle.vlog_design.specs.flat_parts.Meaning.{values_of, state_of, Means}
+use Rattle.replay_run.specs.trace_model.declared.channel.Channel.{Channel}
+use Rattle.replay_run.specs.trace_model.declared.channel.Dir.{Dir}
+use Rattle.replay_run.specs.trace_model.declared.channel.Dir.TheVariants.{Inward, Outward}
+use Rattle.replay_run.specs.trace_model.declared.row.Offers.{Offers}
+use Rattle.replay_run.specs.trace_model.Row.{content_at, AreOffers}
+use Rattle.replay_run.specs.chan_map.declared.pins.Map.{Map}
+use Rattle.replay_run.proofs.run_model.Contents.{content-fits}
+use Rattle.replay_run.proofs.run_model.RowParts.{channel-at}
+use Rattle.replay_run.specs.chan_monitor.Entering.{offered}
+use Rattle.shim_gen.specs.shim_trees.Pieces.{numbered, ident, net, not_net, both, next, at_clock, each, each_some, conn, gated_content}
+use Rattle.shim_gen.specs.shim_trees.Links.{held, tied_ports}
+use Rattle.shim_gen.specs.shim_trees.Monitor.{monitor, gates, events}
+use Rattle.shim_gen.specs.shim_trees.RecordTop.{record_ports, record_name, record_top, monitor_conns}
+use Rattle.shim_gen.specs.shim_trees.Wrapped.{wrapped}
+use Rattle.shim_step.specs.shim_design.Plain.{IsPlain}
+use Rattle.shim_step.proofs.shim_design.Elements.{has_right, has_contains}
+use Rattle.shim_step.proofs.shim_design.Standing.{plain_scope, has_placed}
 use Rattle.shim_step.specs.Wrapped.{IsWrapped}
 use Rattle.shim_step.specs.Ports.{HasHeld, HasOffer, HasOffers, HasReset}
 use Rattle.shim_step.specs.Recording.{IsCycleOf}

@@ -4,22 +4,22 @@ use Rattle.std.proofs.Common.{subst, arith, inl, length, slice_get}
 use Rattle.std.specs.Prelude.{codes}
 use Rattle.std.specs.List.{Contains}
 use Rattle.std.proofs.lemmas.Bool.{ne_eqb}
-use Rattle.vlog_tree.specs.Tree.{BeginStmt, ConnOf, ItemOf, ModuleOf, FileOf}
-use Rattle.vlog_scope.specs.Scope.{scope_with}
-use Rattle.vlog_size.specs.declared.scope.Scope.{Scope}
-use Rattle.vlog_meaning.specs.Placed.{placed, placed_items}
-use Rattle.vlog_meaning.specs.Settled.{IsClock, Waits, inputs_of}
-use Rattle.net_design.specs.declared.design.Design.{Design}
-use Rattle.net_design.specs.Pins.{is_clock}
-use Rattle.trace_model.specs.declared.channel.Channel.{Channel}
-use Rattle.chan_map.specs.declared.pins.Map.{Map}
-use Rattle.run_model.proofs.RowParts.{channel-at}
-use Rattle.shim_trees.specs.Pieces.{numbered, upto, reg, at_clock, conn}
-use Rattle.shim_trees.specs.Replayer.{counting, shown_items, replayer}
-use Rattle.shim_trees.specs.ReplayTop.{replay_top, replayer_conns}
-use Rattle.shim_design.specs.Plain.{IsPlain}
-use Rattle.shim_design.proofs.Elements.{Has, has_right, has_contains}
-use Rattle.shim_design.proofs.Standing.{has_placed, plain_scope}
+use Rattle.vlog_design.specs.vlog_tree.Tree.{BeginStmt, ConnOf, ItemOf, ModuleOf, FileOf}
+use Rattle.shim_step.specs.vlog_scope.Scope.{scope_with}
+use Rattle.vlog_design.specs.vlog_size.declared.scope.Scope.{Scope}
+use Rattle.shim_step.specs.vlog_meaning.Placed.{placed, placed_items}
+use Rattle.shim_step.specs.vlog_meaning.Settled.{IsClock, Waits, inputs_of}
+use Rattle.net_sim.specs.net_design.declared.design.Design.{Design}
+use Rattle.net_sim.specs.net_design.Pins.{is_clock}
+use Rattle.replay_run.specs.trace_model.declared.channel.Channel.{Channel}
+use Rattle.replay_run.specs.chan_map.declared.pins.Map.{Map}
+use Rattle.replay_run.proofs.run_model.RowParts.{channel-at}
+use Rattle.shim_gen.specs.shim_trees.Pieces.{numbered, upto, reg, at_clock, conn}
+use Rattle.shim_gen.specs.shim_trees.Replayer.{counting, shown_items, replayer}
+use Rattle.shim_gen.specs.shim_trees.ReplayTop.{replay_top, replayer_conns}
+use Rattle.shim_step.specs.shim_design.Plain.{IsPlain}
+use Rattle.shim_step.proofs.shim_design.Elements.{Has, has_right, has_contains}
+use Rattle.shim_step.proofs.shim_design.Standing.{has_placed, plain_scope}
 use Rattle.shim_step.specs.Wrapped.{IsWrapped}
 use Rattle.shim_step.proofs.Files as files
 use Rattle.shim_step.proofs.Stand.{I, child_of}

@@ -5,48 +5,48 @@ use Rattle.std.specs.Prelude.{codes, count_by, MatchOption}
 use Rattle.std.specs.List.{AllZip, AllByRecursion, Contains, flat_map, range_with_len}
 use Rattle.std.proofs.lemmas.List.{length-append, length-map}
 use Rattle.std.proofs.lemmas.Nat.{pow_pos}
-use Rattle.vidi_bits.specs.Number.{has}
-use Rattle.vidi_bits.proofs.Each.{each_append}
-use Rattle.vlog_tree.specs.Tree.{PortOf, ModuleOf, FileOf}
-use Rattle.vlog_scope.specs.Scope.{scope_with}
-use Rattle.vlog_meaning.specs.Names.{Full, State}
-use Rattle.vlog_meaning.specs.Next.{IsNext}
-use Rattle.vlog_meaning.specs.Settled as meaning
-use Rattle.net_design.specs.declared.design.Design.{Design}
-use Rattle.net_design.specs.declared.design.Direction.{Direction}
-use Rattle.net_design.specs.declared.design.Direction.TheVariants.{Input, Output}
-use Rattle.net_design.specs.declared.design.Port.{Port}
-use Rattle.net_design.specs.declared.values.Values.{Values}
-use Rattle.net_design.specs.Lawful.{IsState}
-use Rattle.net_design.specs.Pins.{outputs, input_limits, FitPins}
-use Rattle.net_design.specs.Pins as pins
-use Rattle.net_design.specs.Settled.{initial, next, pins_of, same_direction, IsSettled}
-use Rattle.net_design.proofs.StateLaws.{initial_state, next_state}
-use Rattle.flat_parts.specs.Meaning.{state_of}
-use Rattle.flat_parts.specs.Nets.{flat_ports}
-use Rattle.trace_model.specs.declared.channel.Channel.{Channel}
-use Rattle.trace_model.specs.declared.channel.Dir.{Dir}
-use Rattle.trace_model.specs.declared.channel.Dir.TheVariants.{Inward, Outward}
-use Rattle.trace_model.specs.declared.row.Row.{Row}
-use Rattle.trace_model.specs.Row.{row_before, flies_after}
-use Rattle.trace_model.proofs.CountingLemmas.{count-cons}
-use Rattle.chan_map.specs.declared.pins.Map.{Map}
-use Rattle.chan_map.specs.declared.pins.Reset.{Reset}
-use Rattle.run_model.specs.Building.{number_for}
-use Rattle.run_model.specs.Pins.{entered, silent, ArePins}
-use Rattle.run_model.specs.Step as run
-use Rattle.run_model.specs.Step.{IsStep, IsAfter, IsAfterReset, IsFirst}
-use Rattle.run_model.proofs.PinLemmas.{are-pins, one-list}
-use Rattle.run_model.proofs.PlayedLaws.{silent-small}
-use Rattle.chan_replayer.specs.declared.feed.Feed.{Feed}
-use Rattle.chan_replayer.specs.Feed.{IsFeedOver}
-use Rattle.chan_replayer.specs.Shell.{IsShown}
-use Rattle.shim_trees.specs.Pieces.{numbered, numbered_twice, each_some, input}
-use Rattle.shim_trees.specs.Links.{held, tied_ports}
-use Rattle.shim_trees.specs.ReplayTop.{fed_ports, shown_ports, replay_ports, replay_name, replay_top}
-use Rattle.shim_trees.specs.Wrapped.{wrapped}
-use Rattle.shim_design.specs.Part.{pins_below}
-use Rattle.shim_design.proofs.Elements.{Has}
+use Rattle.net_sim.specs.vidi_bits.Number.{has}
+use Rattle.net_sim.proofs.vidi_bits.Each.{each_append}
+use Rattle.vlog_design.specs.vlog_tree.Tree.{PortOf, ModuleOf, FileOf}
+use Rattle.shim_step.specs.vlog_scope.Scope.{scope_with}
+use Rattle.shim_step.specs.vlog_meaning.Names.{Full, State}
+use Rattle.shim_step.specs.vlog_meaning.Next.{IsNext}
+use Rattle.shim_step.specs.vlog_meaning.Settled as meaning
+use Rattle.net_sim.specs.net_design.declared.design.Design.{Design}
+use Rattle.net_sim.specs.net_design.declared.design.Direction.{Direction}
+use Rattle.net_sim.specs.net_design.declared.design.Direction.TheVariants.{Input, Output}
+use Rattle.net_sim.specs.net_design.declared.design.Port.{Port}
+use Rattle.net_sim.specs.net_design.declared.values.Values.{Values}
+use Rattle.net_sim.specs.net_design.Lawful.{IsState}
+use Rattle.net_sim.specs.net_design.Pins.{outputs, input_limits, FitPins}
+use Rattle.net_sim.specs.net_design.Pins as pins
+use Rattle.net_sim.specs.net_design.Settled.{initial, next, pins_of, same_direction, IsSettled}
+use Rattle.net_sim.proofs.net_design.StateLaws.{initial_state, next_state}
+use Rattle.vlog_design.specs.flat_parts.Meaning.{state_of}
+use Rattle.vlog_design.specs.flat_parts.Nets.{flat_ports}
+use Rattle.replay_run.specs.trace_model.declared.channel.Channel.{Channel}
+use Rattle.replay_run.specs.trace_model.declared.channel.Dir.{Dir}
+use Rattle.replay_run.specs.trace_model.declared.channel.Dir.TheVariants.{Inward, Outward}
+use Rattle.replay_run.specs.trace_model.declared.row.Row.{Row}
+use Rattle.replay_run.specs.trace_model.Row.{row_before, flies_after}
+use Rattle.replay_run.proofs.trace_model.CountingLemmas.{count-cons}
+use Rattle.replay_run.specs.chan_map.declared.pins.Map.{Map}
+use Rattle.replay_run.specs.chan_map.declared.pins.Reset.{Reset}
+use Rattle.replay_run.specs.run_model.Building.{number_for}
+use Rattle.replay_run.specs.run_model.Pins.{entered, silent, ArePins}
+use Rattle.replay_run.specs.run_model.Step as run
+use Rattle.replay_run.specs.run_model.Step.{IsStep, IsAfter, IsAfterReset, IsFirst}
+use Rattle.replay_run.proofs.run_model.PinLemmas.{are-pins, one-list}
+use Rattle.replay_run.proofs.run_model.PlayedLaws.{silent-small}
+use Rattle.replay_run.specs.chan_replayer.declared.feed.Feed.{Feed}
+use Rattle.replay_run.specs.chan_replayer.Feed.{IsFeedOver}
+use Rattle.replay_run.specs.chan_replayer.Shell.{IsShown}
+use Rattle.shim_gen.specs.shim_trees.Pieces.{numbered, numbered_twice, each_some, input}
+use Rattle.shim_gen.specs.shim_trees.Links.{held, tied_ports}
+use Rattle.shim_gen.specs.shim_trees.ReplayTop.{fed_ports, shown_ports, replay_ports, replay_name, replay_top}
+use Rattle.shim_gen.specs.shim_trees.Wrapped.{wrapped}
+use Rattle.shim_step.specs.shim_design.Part.{pins_below}
+use Rattle.shim_step.proofs.shim_design.Elements.{Has}
 use Rattle.shim_step.specs.Wrapped.{IsWrapped, DUT, Counts}
 use Rattle.shim_step.specs.Ports.{HasFeed, HasNoFeed}
 use Rattle.shim_step.specs.Recording.{own_state, IsCycleOf}

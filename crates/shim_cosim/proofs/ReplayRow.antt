@@ -6,29 +6,29 @@ use Rattle.std.specs.List.{sum_by}
 use Rattle.std.proofs.lemmas.List.{length-map, length-append, map-append, length-drop, length-take-le, get_or-take, get_or-drop, ext_get_or}
 use Rattle.std.proofs.lemmas.List.Sums.{sum_by-cons}
 use Rattle.std.proofs.lemmas.Option.{slice_get_within, get_or_from_slice_get}
-use Rattle.vidi_bits.specs.Number.{truth, has}
-use Rattle.vidi_bits.proofs.BitLemmas.{has-above}
-use Rattle.net_design.specs.declared.design.Direction.TheVariants.{Output}
-use Rattle.net_design.specs.declared.design.Port.{Port}
-use Rattle.vlog_meaning.specs.Names.{Full}
-use Rattle.trace_model.specs.declared.channel.Channel.{Channel}
-use Rattle.trace_model.specs.declared.channel.Dir.{Dir}
-use Rattle.trace_model.specs.declared.channel.Dir.TheVariants.{Inward, Outward}
-use Rattle.trace_model.specs.declared.row.Row.{Row}
-use Rattle.trace_model.specs.Packet.{Fit}
-use Rattle.trace_model.specs.Row.{content_at, completes, flies_after, row_before, IsOver, IsMarked}
-use Rattle.trace_model.proofs.ContentsLemmas.{fit-length}
-use Rattle.run_model.specs.Building.{mask_of}
-use Rattle.run_model.specs.Offers.{no_content}
-use Rattle.run_model.specs.Played.{all_up}
-use Rattle.run_model.specs.Replay.{done}
-use Rattle.run_model.proofs.Contents.{has-all, content-fits, content-joined, fit-joined, same-contents}
-use Rattle.run_model.proofs.RowParts.{channel-at}
-use Rattle.chan_map.specs.declared.pins.Map.{Map}
-use Rattle.chan_replayer.specs.declared.feed.Feed.{Feed}
-use Rattle.chan_replayer.specs.Feed.{IsFedOn}
-use Rattle.shim_trees.specs.Pieces.{numbered, numbered_twice, each, each_some, upto, input, output}
-use Rattle.shim_trees.specs.ReplayTop.{fed_ports, shown_ports, replay_ports}
+use Rattle.net_sim.specs.vidi_bits.Number.{truth, has}
+use Rattle.net_sim.proofs.vidi_bits.BitLemmas.{has-above}
+use Rattle.net_sim.specs.net_design.declared.design.Direction.TheVariants.{Output}
+use Rattle.net_sim.specs.net_design.declared.design.Port.{Port}
+use Rattle.shim_step.specs.vlog_meaning.Names.{Full}
+use Rattle.replay_run.specs.trace_model.declared.channel.Channel.{Channel}
+use Rattle.replay_run.specs.trace_model.declared.channel.Dir.{Dir}
+use Rattle.replay_run.specs.trace_model.declared.channel.Dir.TheVariants.{Inward, Outward}
+use Rattle.replay_run.specs.trace_model.declared.row.Row.{Row}
+use Rattle.replay_run.specs.trace_model.Packet.{Fit}
+use Rattle.replay_run.specs.trace_model.Row.{content_at, completes, flies_after, row_before, IsOver, IsMarked}
+use Rattle.replay_run.proofs.trace_model.ContentsLemmas.{fit-length}
+use Rattle.replay_run.specs.run_model.Building.{mask_of}
+use Rattle.replay_run.specs.run_model.Offers.{no_content}
+use Rattle.replay_run.specs.run_model.Played.{all_up}
+use Rattle.replay_run.specs.run_model.Replay.{done}
+use Rattle.replay_run.proofs.run_model.Contents.{has-all, content-fits, content-joined, fit-joined, same-contents}
+use Rattle.replay_run.proofs.run_model.RowParts.{channel-at}
+use Rattle.replay_run.specs.chan_map.declared.pins.Map.{Map}
+use Rattle.replay_run.specs.chan_replayer.declared.feed.Feed.{Feed}
+use Rattle.replay_run.specs.chan_replayer.Feed.{IsFedOn}
+use Rattle.shim_gen.specs.shim_trees.Pieces.{numbered, numbered_twice, each, each_some, upto, input, output}
+use Rattle.shim_gen.specs.shim_trees.ReplayTop.{fed_ports, shown_ports, replay_ports}
 use Rattle.shim_step.specs.Ports.{HasContent, content_base, ShowsReplay}
 use Rattle.shim_cosim.specs.declared.shown_row.Signal.TheVariants.{Valid, Ready, Pop}
 use Rattle.shim_cosim.specs.Rewrapped.{if_outward, output_count, outputs_count, seat, is_raised, content_on, content_of, contents_of, replay_row}

@@ -9,33 +9,33 @@ use Rattle.std.proofs.Props.{props}
 use Rattle.std.proofs.lemmas.Bool.{cases_lt}
 use Rattle.std.proofs.lemmas.List.{length_push, length-take-le, length-append, length-replicate, take_at, take-append-le, take_all}
 use Rattle.std.proofs.lemmas.Option.{same_Some}
-use Rattle.vidi_bits.specs.Number.{has}
-use Rattle.vidi_bits.proofs.BitLemmas.{has-above}
-use Rattle.vlog_tree.specs.Tree.{ModuleOf, FileOf}
-use Rattle.net_design.specs.declared.design.Design.{Design}
-use Rattle.net_design.specs.declared.values.Values.{Values}
-use Rattle.net_design.specs.Lawful.{IsState}
-use Rattle.net_design.specs.Pins.{outputs, FitPins}
-use Rattle.net_design.specs.Pins as pins
-use Rattle.net_design.specs.Settled.{initial, next, IsSettled}
-use Rattle.trace_model.specs.declared.channel.Channel.{Channel}
-use Rattle.trace_model.specs.declared.row.Row.{Row}
-use Rattle.trace_model.specs.Row.{row_before, flies_after, is_in_flight, IsOver}
-use Rattle.trace_model.proofs.ContentsLemmas.{fit_prop}
-use Rattle.trace_model.proofs.RowLemmas.{before-last}
-use Rattle.net_order.proofs.OneMap.{has_one_map}
-use Rattle.flat_laws.proofs.Found.{no_twice}
-use Rattle.chan_map.specs.declared.pins.Map.{Map}
-use Rattle.run_model.specs.Played.{all_up}
-use Rattle.run_model.specs.Step.{IsAfter, IsFirst, IsStep}
-use Rattle.run_model.proofs.PlayedLaws.{ports-are_nets}
-use Rattle.run_model.proofs.Contents.{has-all, has-mask, mask-below}
-use Rattle.chan_replayer.specs.declared.feed.Feed.{Feed}
-use Rattle.chan_replayer.specs.Feed.{IsFeedOver}
-use Rattle.chan_replayer.specs.Shell.{GoesTo, IsRunning, IsShown}
-use Rattle.flat_parts.specs.Meaning.{state_of}
-use Rattle.shim_trees.specs.ReplayTop.{replay_name}
-use Rattle.shim_trees.specs.Wrapped.{shims, ports_in, module_named, wrapped}
+use Rattle.net_sim.specs.vidi_bits.Number.{has}
+use Rattle.net_sim.proofs.vidi_bits.BitLemmas.{has-above}
+use Rattle.vlog_design.specs.vlog_tree.Tree.{ModuleOf, FileOf}
+use Rattle.net_sim.specs.net_design.declared.design.Design.{Design}
+use Rattle.net_sim.specs.net_design.declared.values.Values.{Values}
+use Rattle.net_sim.specs.net_design.Lawful.{IsState}
+use Rattle.net_sim.specs.net_design.Pins.{outputs, FitPins}
+use Rattle.net_sim.specs.net_design.Pins as pins
+use Rattle.net_sim.specs.net_design.Settled.{initial, next, IsSettled}
+use Rattle.replay_run.specs.trace_model.declared.channel.Channel.{Channel}
+use Rattle.replay_run.specs.trace_model.declared.row.Row.{Row}
+use Rattle.replay_run.specs.trace_model.Row.{row_before, flies_after, is_in_flight, IsOver}
+use Rattle.replay_run.proofs.trace_model.ContentsLemmas.{fit_prop}
+use Rattle.replay_run.proofs.trace_model.RowLemmas.{before-last}
+use Rattle.net_sim.proofs.net_order.OneMap.{has_one_map}
+use Rattle.vlog_design.proofs.flat_laws.Found.{no_twice}
+use Rattle.replay_run.specs.chan_map.declared.pins.Map.{Map}
+use Rattle.replay_run.specs.run_model.Played.{all_up}
+use Rattle.replay_run.specs.run_model.Step.{IsAfter, IsFirst, IsStep}
+use Rattle.replay_run.proofs.run_model.PlayedLaws.{ports-are_nets}
+use Rattle.replay_run.proofs.run_model.Contents.{has-all, has-mask, mask-below}
+use Rattle.replay_run.specs.chan_replayer.declared.feed.Feed.{Feed}
+use Rattle.replay_run.specs.chan_replayer.Feed.{IsFeedOver}
+use Rattle.replay_run.specs.chan_replayer.Shell.{GoesTo, IsRunning, IsShown}
+use Rattle.vlog_design.specs.flat_parts.Meaning.{state_of}
+use Rattle.shim_gen.specs.shim_trees.ReplayTop.{replay_name}
+use Rattle.shim_gen.specs.shim_trees.Wrapped.{shims, ports_in, module_named, wrapped}
 use Rattle.shim_step.specs.Wrapped.{IsWrapped, Counts}
 use Rattle.shim_step.proofs.Files.{top_first}
 use Rattle.shim_step.specs.Recording.{own_state}

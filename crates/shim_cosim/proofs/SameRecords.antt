@@ -1,16 +1,16 @@
 -- Recordings of one design are one.
 use Rattle.std.proofs.Common.{◌≡◌, ℕ, List, length, Option, None, Some, refl, sym, ap, ◌∙◌}
 use Rattle.std.specs.Io.KnownBytes.{append_known}
-use Rattle.trace_model.specs.declared.row.Row.{Row}
-use Rattle.trace_model.specs.Recording.{packets_of, trace_of}
-use Rattle.trace_code.specs.Encoding.{encode}
-use Rattle.net_design.specs.declared.design.Design.{Design}
-use Rattle.net_design.specs.declared.values.Values.{Values}
+use Rattle.replay_run.specs.trace_model.declared.row.Row.{Row}
+use Rattle.replay_run.specs.trace_model.Recording.{packets_of, trace_of}
+use Rattle.replay_run.specs.trace_code.Encoding.{encode}
+use Rattle.net_sim.specs.net_design.declared.design.Design.{Design}
+use Rattle.net_sim.specs.net_design.declared.values.Values.{Values}
 use Rattle.vidi_recorder.specs.declared.error.Outcome.{Outcome}
 use Rattle.vidi_recorder.specs.declared.error.Outcome.TheVariants.{Whole, Unstable}
 use Rattle.vidi_recorder.specs.Course.{Course, course, IsTheRunOf}
 use Rattle.vidi_recorder.specs.Recording.{EndsWith, IsRecorded}
-use Rattle.run_model.specs.Laws.{OneThatEnds}
+use Rattle.replay_run.specs.run_model.Laws.{OneThatEnds}
 use Rattle.vidi_recorder.proofs.Runs.{one-recorded}
 use Rattle.shim_cosim.specs.Records.{RecordsAlike}
 

@@ -1,10 +1,10 @@
 -- Replays of one design are one.
 use Rattle.std.proofs.Common.{◌≡◌, List, sym, ◌∙◌, subst}
-use Rattle.trace_model.specs.declared.row.Row.{Row}
-use Rattle.trace_model.specs.Recording.{trace_of}
-use Rattle.trace_code.specs.Encoding.{Encodes}
-use Rattle.net_design.specs.declared.design.Design.{Design}
-use Rattle.net_design.specs.declared.values.Values.{Values}
+use Rattle.replay_run.specs.trace_model.declared.row.Row.{Row}
+use Rattle.replay_run.specs.trace_model.Recording.{trace_of}
+use Rattle.replay_run.specs.trace_code.Encoding.{Encodes}
+use Rattle.net_sim.specs.net_design.declared.design.Design.{Design}
+use Rattle.net_sim.specs.net_design.declared.values.Values.{Values}
 use Rattle.replay_run.proofs.Outcomes.{one-outcome}
 use Rattle.shim_cosim.specs.Replays.{ReplaysAlike}
 

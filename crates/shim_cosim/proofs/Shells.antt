@@ -7,33 +7,33 @@ use Rattle.std.specs.Str.{bytes_eq}
 use Rattle.std.proofs.Math.Logic.{∥∥₁_elim, ∥∥₁_map}
 use Rattle.std.proofs.Props.{props}
 use Rattle.std.proofs.lemmas.List.{length-append, length-map, length-replicate, length-take-le, take_at}
-use Rattle.vlog_tree.specs.Tree.{ModuleOf, FileOf}
-use Rattle.net_design.specs.declared.design.Port.{Port}
-use Rattle.net_design.specs.declared.design.Direction.{Direction}
-use Rattle.net_design.specs.declared.design.Direction.TheVariants.{Output}
-use Rattle.net_design.specs.declared.design.Design.{Design}
-use Rattle.net_design.specs.declared.values.Values.{Values}
-use Rattle.net_design.specs.Lawful.{IsState}
-use Rattle.net_design.specs.Pins.{output_count as design_count, outputs, FitPins}
-use Rattle.net_design.specs.Settled as design
-use Rattle.net_design.specs.Settled.{same_direction}
-use Rattle.net_order.proofs.OneMap.{has_one_map}
-use Rattle.flat_laws.proofs.Found.{no_twice}
-use Rattle.trace_model.specs.declared.row.Offers.{Offers}
-use Rattle.trace_model.specs.declared.row.Row.{Row}
-use Rattle.trace_model.specs.Row.{AreOffers}
-use Rattle.trace_model.proofs.CountingLemmas.{count-cons}
-use Rattle.chan_map.specs.declared.pins.Map.{Map}
-use Rattle.chan_map.specs.declared.pins.Reset.{Reset}
-use Rattle.run_model.specs.Step.{IsAfter, IsFirst, IsStep}
-use Rattle.run_model.proofs.PlayedLaws.{ports-are_nets}
-use Rattle.run_model.specs.Offers.{AreZeroWhileDown}
-use Rattle.chan_monitor.specs.Entering.{offered}
-use Rattle.chan_monitor.specs.Shell.{IsRunning}
-use Rattle.shim_trees.specs.Pieces.{each_some}
-use Rattle.shim_trees.specs.Links.{held, tied_ports}
-use Rattle.shim_trees.specs.RecordTop.{record_name, record_ports}
-use Rattle.shim_trees.specs.Wrapped.{shims, ports_in, module_named, wrapped}
+use Rattle.vlog_design.specs.vlog_tree.Tree.{ModuleOf, FileOf}
+use Rattle.net_sim.specs.net_design.declared.design.Port.{Port}
+use Rattle.net_sim.specs.net_design.declared.design.Direction.{Direction}
+use Rattle.net_sim.specs.net_design.declared.design.Direction.TheVariants.{Output}
+use Rattle.net_sim.specs.net_design.declared.design.Design.{Design}
+use Rattle.net_sim.specs.net_design.declared.values.Values.{Values}
+use Rattle.net_sim.specs.net_design.Lawful.{IsState}
+use Rattle.net_sim.specs.net_design.Pins.{output_count as design_count, outputs, FitPins}
+use Rattle.net_sim.specs.net_design.Settled as design
+use Rattle.net_sim.specs.net_design.Settled.{same_direction}
+use Rattle.net_sim.proofs.net_order.OneMap.{has_one_map}
+use Rattle.vlog_design.proofs.flat_laws.Found.{no_twice}
+use Rattle.replay_run.specs.trace_model.declared.row.Offers.{Offers}
+use Rattle.replay_run.specs.trace_model.declared.row.Row.{Row}
+use Rattle.replay_run.specs.trace_model.Row.{AreOffers}
+use Rattle.replay_run.proofs.trace_model.CountingLemmas.{count-cons}
+use Rattle.replay_run.specs.chan_map.declared.pins.Map.{Map}
+use Rattle.replay_run.specs.chan_map.declared.pins.Reset.{Reset}
+use Rattle.replay_run.specs.run_model.Step.{IsAfter, IsFirst, IsStep}
+use Rattle.replay_run.proofs.run_model.PlayedLaws.{ports-are_nets}
+use Rattle.replay_run.specs.run_model.Offers.{AreZeroWhileDown}
+use Rattle.replay_run.specs.chan_monitor.Entering.{offered}
+use Rattle.replay_run.specs.chan_monitor.Shell.{IsRunning}
+use Rattle.shim_gen.specs.shim_trees.Pieces.{each_some}
+use Rattle.shim_gen.specs.shim_trees.Links.{held, tied_ports}
+use Rattle.shim_gen.specs.shim_trees.RecordTop.{record_name, record_ports}
+use Rattle.shim_gen.specs.shim_trees.Wrapped.{shims, ports_in, module_named, wrapped}
 use Rattle.shim_step.specs.Wrapped.{IsWrapped}
 use Rattle.shim_step.proofs.Files.{top_first}
 use Rattle.shim_cosim.specs.Held.{held_inputs, AreHeldPins}

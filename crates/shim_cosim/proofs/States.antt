@@ -9,25 +9,25 @@ use Rattle.std.proofs.lemmas.Bool.Decides.{nat_tests}
 use Rattle.std.proofs.lemmas.List.Elements.{recursion_from_All}
 use Rattle.std.proofs.lemmas.Nat.{pow_pos}
 use Rattle.std.proofs.Math.Nat.{pow-le-pow_right}
-use Rattle.vlog_tree.specs.Tree.{ModuleOf, FileOf}
-use Rattle.vlog_elab.specs.Instances.{instances}
-use Rattle.vlog_elab.specs.Reasons.{Clear}
-use Rattle.vlog_size.specs.declared.scope.ScopeMemory.{ScopeMemory}
-use Rattle.vlog_size.specs.Table.{Named}
-use Rattle.net_design.specs.declared.design.DesignMemory.{DesignMemory}
-use Rattle.net_design.specs.declared.design.Design.{Design}
-use Rattle.net_design.specs.declared.values.Values.{Values}
-use Rattle.net_design.specs.Lawful.{IsLawful, IsState}
-use Rattle.net_design.specs.Settled.{word_count}
-use Rattle.vlog_meaning.specs.Names.{Full, State, words_from}
-use Rattle.flat_parts.specs.Built.{IsBuilt}
-use Rattle.flat_parts.specs.Laws.{IsTop}
-use Rattle.flat_parts.specs.Meaning.{memory_words, values_of, state_of, AreNarrow}
-use Rattle.shim_design.specs.Maps.{IsListOf}
-use Rattle.vidi_bits.specs.Number.{IsWidth}
-use Rattle.shim_design.proofs.Elements.{Has, has_contains, all_members, at_member}
-use Rattle.shim_design.proofs.Maps.{lists_are_maps}
-use Rattle.shim_design.proofs.Memories.{memories_differ}
+use Rattle.vlog_design.specs.vlog_tree.Tree.{ModuleOf, FileOf}
+use Rattle.vlog_design.specs.vlog_elab.Instances.{instances}
+use Rattle.vlog_design.specs.vlog_elab.Reasons.{Clear}
+use Rattle.vlog_design.specs.vlog_size.declared.scope.ScopeMemory.{ScopeMemory}
+use Rattle.vlog_design.specs.vlog_size.Table.{Named}
+use Rattle.net_sim.specs.net_design.declared.design.DesignMemory.{DesignMemory}
+use Rattle.net_sim.specs.net_design.declared.design.Design.{Design}
+use Rattle.net_sim.specs.net_design.declared.values.Values.{Values}
+use Rattle.net_sim.specs.net_design.Lawful.{IsLawful, IsState}
+use Rattle.net_sim.specs.net_design.Settled.{word_count}
+use Rattle.shim_step.specs.vlog_meaning.Names.{Full, State, words_from}
+use Rattle.vlog_design.specs.flat_parts.Built.{IsBuilt}
+use Rattle.vlog_design.specs.flat_parts.Laws.{IsTop}
+use Rattle.vlog_design.specs.flat_parts.Meaning.{memory_words, values_of, state_of, AreNarrow}
+use Rattle.shim_step.specs.shim_design.Maps.{IsListOf}
+use Rattle.net_sim.specs.vidi_bits.Number.{IsWidth}
+use Rattle.shim_step.proofs.shim_design.Elements.{Has, has_contains, all_members, at_member}
+use Rattle.shim_step.proofs.shim_design.Maps.{lists_are_maps}
+use Rattle.shim_step.proofs.shim_design.Memories.{memories_differ}
 
 -- ---- numbers of at most 128 bits
 abbrev clamp_by : Bool → ℕ → ℕ

@@ -2,12 +2,12 @@
 use Rattle.std.specs.Prelude.{◌≡◌, ℕ, ◌+◌, Bool, true, false, List, ◌∷◌, ◌++◌, map, take, length, replicate}
 use Rattle.std.specs.List.{flat_map}
 use Rattle.std.specs.Option.{option_to_list}
-use Rattle.vlog_tree.specs.Tree.{PortOf}
-use Rattle.vlog_size.specs.Table.{Named, value_of}
-use Rattle.chan_map.specs.declared.pins.Map.{Map}
-use Rattle.chan_map.specs.declared.pins.Reset.{Reset}
-use Rattle.chan_map.specs.declared.pins.Tie.{Tie}
-use Rattle.run_model.specs.Pins.{reset_input}
+use Rattle.vlog_design.specs.vlog_tree.Tree.{PortOf}
+use Rattle.vlog_design.specs.vlog_size.Table.{Named, value_of}
+use Rattle.replay_run.specs.chan_map.declared.pins.Map.{Map}
+use Rattle.replay_run.specs.chan_map.declared.pins.Reset.{Reset}
+use Rattle.replay_run.specs.chan_map.declared.pins.Tie.{Tie}
+use Rattle.replay_run.specs.run_model.Pins.{reset_input}
 
 -- the numbers of the reset, in a reset cycle or in another one, and of the ties, by name
 abbrev pub reset_number : Bool → Reset → Named ℕ

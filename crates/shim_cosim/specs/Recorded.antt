@@ -2,15 +2,15 @@
 use Rattle.std.specs.Prelude.{◌≡◌, ℕ, ◌+◌, ◌==◌, Bool, false, List, [], ◌∷◌, Option, None, Some, length, take, slice_get}
 use Rattle.std.specs.Prelude.{slice_index}
 use Rattle.std.specs.List.{sum_by}
-use Rattle.vidi_bits.specs.Number.{truth, has}
-use Rattle.trace_model.specs.declared.channel.Channel.{Channel}
-use Rattle.trace_model.specs.declared.channel.Dir.{Dir}
-use Rattle.trace_model.specs.declared.channel.Dir.TheVariants.{Inward, Outward}
-use Rattle.trace_model.specs.declared.row.Offers.{Offers}
-use Rattle.trace_model.specs.declared.row.Row.{Row}
-use Rattle.trace_model.specs.Row.{content_at}
-use Rattle.run_model.specs.Building.{mask_of, joined}
-use Rattle.shim_trees.specs.Pieces.{each_some, upto}
+use Rattle.net_sim.specs.vidi_bits.Number.{truth, has}
+use Rattle.replay_run.specs.trace_model.declared.channel.Channel.{Channel}
+use Rattle.replay_run.specs.trace_model.declared.channel.Dir.{Dir}
+use Rattle.replay_run.specs.trace_model.declared.channel.Dir.TheVariants.{Inward, Outward}
+use Rattle.replay_run.specs.trace_model.declared.row.Offers.{Offers}
+use Rattle.replay_run.specs.trace_model.declared.row.Row.{Row}
+use Rattle.replay_run.specs.trace_model.Row.{content_at}
+use Rattle.replay_run.specs.run_model.Building.{mask_of, joined}
+use Rattle.shim_gen.specs.shim_trees.Pieces.{each_some, upto}
 use Rattle.shim_cosim.specs.declared.recorded.Spot.{Spot}
 use Rattle.shim_cosim.specs.declared.recorded.Spot.TheVariants.{Side, Start, Stop}
 

@@ -1,19 +1,19 @@
 -- A wrapped design that runs as a shell.
 use Rattle.std.specs.Prelude.{◌≡◌, ℕ, ◌<◌, ◌^◌, List, ◌++◌, Option, length, take}
-use Rattle.vlog_tree.specs.Tree.{ModuleOf, FileOf}
-use Rattle.net_design.specs.declared.design.Design.{Design}
-use Rattle.net_design.specs.declared.values.Values.{Values}
-use Rattle.net_design.specs.Pins.{outputs}
-use Rattle.net_design.specs.Settled.{IsSettled}
-use Rattle.vlog_meaning.specs.Names.{Full, State}
-use Rattle.flat_parts.specs.Meaning.{state_of}
-use Rattle.trace_model.specs.declared.row.Row.{Row}
-use Rattle.trace_model.specs.declared.row.Offers.{Offers}
-use Rattle.trace_model.specs.Row.{AreOffers}
-use Rattle.chan_map.specs.declared.pins.Map.{Map}
-use Rattle.run_model.specs.Offers.{AreZeroWhileDown}
-use Rattle.chan_monitor.specs.Entering.{offered}
-use Rattle.shim_trees.specs.RecordTop.{record_name}
+use Rattle.vlog_design.specs.vlog_tree.Tree.{ModuleOf, FileOf}
+use Rattle.net_sim.specs.net_design.declared.design.Design.{Design}
+use Rattle.net_sim.specs.net_design.declared.values.Values.{Values}
+use Rattle.net_sim.specs.net_design.Pins.{outputs}
+use Rattle.net_sim.specs.net_design.Settled.{IsSettled}
+use Rattle.shim_step.specs.vlog_meaning.Names.{Full, State}
+use Rattle.vlog_design.specs.flat_parts.Meaning.{state_of}
+use Rattle.replay_run.specs.trace_model.declared.row.Row.{Row}
+use Rattle.replay_run.specs.trace_model.declared.row.Offers.{Offers}
+use Rattle.replay_run.specs.trace_model.Row.{AreOffers}
+use Rattle.replay_run.specs.chan_map.declared.pins.Map.{Map}
+use Rattle.replay_run.specs.run_model.Offers.{AreZeroWhileDown}
+use Rattle.replay_run.specs.chan_monitor.Entering.{offered}
+use Rattle.shim_gen.specs.shim_trees.RecordTop.{record_name}
 use Rattle.shim_step.specs.Wrapped.{Flies}
 use Rattle.shim_step.specs.Recording.{own_state}
 use Rattle.shim_cosim.specs.Top.{IsRound}

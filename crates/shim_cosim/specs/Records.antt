@@ -1,13 +1,13 @@
 -- Recordings of one design through two shells.
 use Rattle.std.specs.Prelude.{◌≡◌, ℕ, List, Option}
-use Rattle.trace_model.specs.declared.row.Row.{Row}
-use Rattle.net_design.specs.declared.design.Design.{Design}
-use Rattle.net_design.specs.declared.values.Values.{Values}
-use Rattle.chan_map.specs.declared.pins.Map.{Map}
-use Rattle.run_model.specs.Laws.{IsReady}
-use Rattle.script_text.specs.declared.stalls.Stalls.{Stalls}
-use Rattle.script_text.specs.Offer.{Offer}
-use Rattle.env_script.specs.Offered.{AreLasting}
+use Rattle.replay_run.specs.trace_model.declared.row.Row.{Row}
+use Rattle.net_sim.specs.net_design.declared.design.Design.{Design}
+use Rattle.net_sim.specs.net_design.declared.values.Values.{Values}
+use Rattle.replay_run.specs.chan_map.declared.pins.Map.{Map}
+use Rattle.replay_run.specs.run_model.Laws.{IsReady}
+use Rattle.vidi_recorder.specs.script_text.declared.stalls.Stalls.{Stalls}
+use Rattle.vidi_recorder.specs.script_text.Offer.{Offer}
+use Rattle.vidi_recorder.specs.env_script.Offered.{AreLasting}
 use Rattle.vidi_recorder.specs.declared.error.Outcome.{Outcome}
 use Rattle.vidi_recorder.specs.Course.{course}
 use Rattle.vidi_recorder.specs.Recording.{EndsWith}

@@ -1,19 +1,19 @@
 -- A wrapped design that runs as a shell behind its replayers.
 use Rattle.std.specs.Prelude.{◌≡◌, ℕ, ◌^◌, ◌<◌, List, ◌++◌, Option, Some, take, length}
-use Rattle.vidi_bits.specs.Number.{has}
-use Rattle.vlog_tree.specs.Tree.{ModuleOf, FileOf}
-use Rattle.net_design.specs.declared.design.Design.{Design}
-use Rattle.net_design.specs.declared.values.Values.{Values}
-use Rattle.net_design.specs.Pins.{outputs}
-use Rattle.net_design.specs.Settled.{IsSettled}
-use Rattle.vlog_meaning.specs.Names.{Full, State}
-use Rattle.flat_parts.specs.Meaning.{state_of}
-use Rattle.trace_model.specs.declared.row.Row.{Row}
-use Rattle.trace_model.specs.Row.{row_before, flies_after}
-use Rattle.chan_map.specs.declared.pins.Map.{Map}
-use Rattle.chan_replayer.specs.declared.feed.Feed.{Feed}
-use Rattle.chan_replayer.specs.Feed.{IsFeedOver}
-use Rattle.shim_trees.specs.ReplayTop.{replay_name}
+use Rattle.net_sim.specs.vidi_bits.Number.{has}
+use Rattle.vlog_design.specs.vlog_tree.Tree.{ModuleOf, FileOf}
+use Rattle.net_sim.specs.net_design.declared.design.Design.{Design}
+use Rattle.net_sim.specs.net_design.declared.values.Values.{Values}
+use Rattle.net_sim.specs.net_design.Pins.{outputs}
+use Rattle.net_sim.specs.net_design.Settled.{IsSettled}
+use Rattle.shim_step.specs.vlog_meaning.Names.{Full, State}
+use Rattle.vlog_design.specs.flat_parts.Meaning.{state_of}
+use Rattle.replay_run.specs.trace_model.declared.row.Row.{Row}
+use Rattle.replay_run.specs.trace_model.Row.{row_before, flies_after}
+use Rattle.replay_run.specs.chan_map.declared.pins.Map.{Map}
+use Rattle.replay_run.specs.chan_replayer.declared.feed.Feed.{Feed}
+use Rattle.replay_run.specs.chan_replayer.Feed.{IsFeedOver}
+use Rattle.shim_gen.specs.shim_trees.ReplayTop.{replay_name}
 use Rattle.shim_step.specs.Wrapped.{Counts}
 use Rattle.shim_step.specs.Recording.{own_state}
 use Rattle.shim_cosim.specs.Top.{IsRound}

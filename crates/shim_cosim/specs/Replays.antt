@@ -1,11 +1,11 @@
 -- Replays of one design by two shells.
 use Rattle.std.specs.Prelude.{◌≡◌, ℕ, List}
-use Rattle.trace_model.specs.declared.packet.Packet.{Packet}
-use Rattle.trace_model.specs.declared.row.Row.{Row}
-use Rattle.net_design.specs.declared.design.Design.{Design}
-use Rattle.net_design.specs.declared.values.Values.{Values}
-use Rattle.chan_map.specs.declared.pins.Map.{Map}
-use Rattle.run_model.specs.Laws.{ContentsFit, IsReady}
+use Rattle.replay_run.specs.trace_model.declared.packet.Packet.{Packet}
+use Rattle.replay_run.specs.trace_model.declared.row.Row.{Row}
+use Rattle.net_sim.specs.net_design.declared.design.Design.{Design}
+use Rattle.net_sim.specs.net_design.declared.values.Values.{Values}
+use Rattle.replay_run.specs.chan_map.declared.pins.Map.{Map}
+use Rattle.replay_run.specs.run_model.Laws.{ContentsFit, IsReady}
 use Rattle.replay_run.specs.declared.outcome.Replayed.{Replayed}
 use Rattle.replay_run.specs.Replaying.{IsReplayed}
 

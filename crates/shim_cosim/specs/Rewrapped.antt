@@ -2,18 +2,18 @@
 use Rattle.std.specs.Prelude.{ℕ, ◌+◌, ◌*◌, ◌^◌, ◌<◌, ◌==◌, ◌&&◌, not, Bool, if◌then◌else◌, List, [], ◌∷◌, ◌++◌, Option, None, Some, length, take, drop}
 use Rattle.std.specs.Prelude.{slice_get, slice_index, replicate}
 use Rattle.std.specs.List.{sum_by}
-use Rattle.vidi_bits.specs.Number.{truth, has}
-use Rattle.trace_model.specs.declared.channel.Channel.{Channel}
-use Rattle.trace_model.specs.declared.channel.Dir.{Dir}
-use Rattle.trace_model.specs.declared.channel.Dir.TheVariants.{Inward, Outward}
-use Rattle.trace_model.specs.declared.row.Row.{Row}
-use Rattle.trace_model.specs.Row.{content_at, replaced}
-use Rattle.run_model.specs.Building.{mask_of, joined}
-use Rattle.run_model.specs.Offers.{no_content}
-use Rattle.run_model.specs.Played.{all_up}
-use Rattle.chan_replayer.specs.declared.feed.Feed.{Feed}
-use Rattle.chan_replayer.specs.Feed.{need_of}
-use Rattle.shim_trees.specs.Pieces.{each_some}
+use Rattle.net_sim.specs.vidi_bits.Number.{truth, has}
+use Rattle.replay_run.specs.trace_model.declared.channel.Channel.{Channel}
+use Rattle.replay_run.specs.trace_model.declared.channel.Dir.{Dir}
+use Rattle.replay_run.specs.trace_model.declared.channel.Dir.TheVariants.{Inward, Outward}
+use Rattle.replay_run.specs.trace_model.declared.row.Row.{Row}
+use Rattle.replay_run.specs.trace_model.Row.{content_at, replaced}
+use Rattle.replay_run.specs.run_model.Building.{mask_of, joined}
+use Rattle.replay_run.specs.run_model.Offers.{no_content}
+use Rattle.replay_run.specs.run_model.Played.{all_up}
+use Rattle.replay_run.specs.chan_replayer.declared.feed.Feed.{Feed}
+use Rattle.replay_run.specs.chan_replayer.Feed.{need_of}
+use Rattle.shim_gen.specs.shim_trees.Pieces.{each_some}
 use Rattle.shim_cosim.specs.declared.shown_row.Signal.{Signal}
 use Rattle.shim_cosim.specs.declared.shown_row.Signal.TheVariants.{Valid, Ready, Pop}
 

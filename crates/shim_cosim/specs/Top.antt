@@ -1,19 +1,19 @@
 -- The flat design of a wrapped file with one of its tops, and the first reason that holds of it (this project's profile).
 use Rattle.std.specs.Prelude.{◌≡◌, ℕ, ◌⊎◌, List, Option, Some, MatchOption, slice_index}
-use Rattle.vlog_tree.specs.Tree.{ModuleOf, FileOf}
-use Rattle.vlog_elab.specs.declared.error.ElabError.{ElabError}
-use Rattle.vlog_elab.specs.Errors.{number_of}
+use Rattle.vlog_design.specs.vlog_tree.Tree.{ModuleOf, FileOf}
+use Rattle.vlog_design.specs.vlog_elab.declared.error.ElabError.{ElabError}
+use Rattle.vlog_design.specs.vlog_elab.Errors.{number_of}
 use Rattle.vlog_design.specs.Design.{IsDesignOf}
 use Rattle.vlog_design.specs.Reasons.{Clear, Refused}
-use Rattle.net_design.specs.declared.design.Design.{Design}
-use Rattle.net_design.specs.declared.values.Values.{Values}
-use Rattle.net_design.specs.Settled.{IsSettled}
-use Rattle.net_order.specs.Order.{IsOrder, IsLoop}
+use Rattle.net_sim.specs.net_design.declared.design.Design.{Design}
+use Rattle.net_sim.specs.net_design.declared.values.Values.{Values}
+use Rattle.net_sim.specs.net_design.Settled.{IsSettled}
+use Rattle.net_sim.specs.net_order.Order.{IsOrder, IsLoop}
 use Rattle.net_sim.specs.Names.{IsCalled}
-use Rattle.chan_map.specs.declared.pins.Map.{Map}
-use Rattle.run_model.specs.MapOf.{IsMapOf}
-use Rattle.chan_monitor.specs.Shell.{IsMapped}
-use Rattle.shim_trees.specs.Wrapped.{wrapped}
+use Rattle.replay_run.specs.chan_map.declared.pins.Map.{Map}
+use Rattle.replay_run.specs.run_model.MapOf.{IsMapOf}
+use Rattle.replay_run.specs.chan_monitor.Shell.{IsMapped}
+use Rattle.shim_gen.specs.shim_trees.Wrapped.{wrapped}
 use Rattle.shim_step.specs.Wrapped.{IsWrapped}
 use Rattle.shim_cosim.specs.declared.error.CosimError.{CosimError}
 use Rattle.shim_cosim.specs.declared.error.CosimError.TheVariants as errors

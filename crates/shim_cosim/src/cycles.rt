@@ -2,7 +2,7 @@
 
 ghost use Rattle.std.specs.Prelude.{◌≡◌, MatchOption};
 
-use chan_map::Reset;
+use replay_run::chan_map::Reset;
 
 /// For how many cycles the reset is active: 0 where there is none.
 pub(crate) fn cycles_of(reset: &Option<Reset>) -> u32

@@ -2,8 +2,8 @@
 
 ghost use Rattle.std.specs.Prelude.{◌≡◌};
 
+use net_sim::vidi_bits::Memory;
 use std::alloc::AllocError;
-use vidi_bits::Memory;
 
 /// Why a wrapped file doesn't run as one flat design.
 #[derive(Drop)]

@@ -1,15 +1,15 @@
 //! The numbers of a feed at the inputs of the top that replays.
 
 ghost use Rattle.std.specs.Prelude.{◌≡◌, ℕ, ◌<◌, ◌≤◌, ◌+◌, ◌*◌, ◌^◌, ◌++◌, ◌∷◌, OnOk, length, replicate, slice_index, take, drop};
-ghost use Rattle.vidi_bits.specs.Number.{truth, has};
-ghost use Rattle.trace_model.specs.Row.{replaced};
-ghost use Rattle.chan_replayer.specs.Feed.{IsFeedOver};
+ghost use Rattle.net_sim.specs.vidi_bits.Number.{truth, has};
+ghost use Rattle.replay_run.specs.trace_model.Row.{replaced};
+ghost use Rattle.replay_run.specs.chan_replayer.Feed.{IsFeedOver};
 ghost use Rattle.shim_cosim.specs.Rewrapped as spec;
 ghost use Rattle.shim_cosim.specs.Rewrapped.{AreSmallNeeds};
 
-use chan_replayer::Feed;
-use trace_model::{Channel, Dir, names, push_zeros, split_content};
-use vidi_bits::{Memory, Numbers};
+use net_sim::vidi_bits::{Memory, Numbers};
+use replay_run::chan_replayer::Feed;
+use replay_run::trace_model::{Channel, Dir, names, push_zeros, split_content};
 
 /// Adds a zero for each input of a channel of `channels`.
 fn push_channel(pins: &mut Numbers, channels: usize, channel: &Channel) -> Result<(), Memory>

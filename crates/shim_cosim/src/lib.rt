@@ -19,7 +19,17 @@ mod top;
 mod wrapped;
 
 pub use error::CosimError;
+pub use net_sim;
+pub use net_sim::{net_design, net_order};
 pub use records::records_alike;
+pub use replay_run;
+pub use replay_run::{chan_map, chan_monitor, chan_replayer, run_model, trace_code, trace_model};
 pub use replays::replays_alike;
 pub use rewrapped::{RerunShell, Rewrapped};
+pub use shim_gen;
+pub use shim_gen::vidi_lines;
+pub use vidi_recorder;
+pub use vidi_recorder::{env_script, room_ledger, script_text};
+pub use vlog_design;
+pub use vlog_design::vlog_elab;
 pub use wrapped::{RecordShell, Wrapped};

@@ -2,8 +2,8 @@
 
 ghost use Rattle.shim_cosim.specs.Records.{RecordsAlike};
 
-use chan_monitor::Shell;
-use env_script::Env;
+use replay_run::chan_monitor::Shell;
+use vidi_recorder::env_script::Env;
 
 /// Whatever design both shells run, two recordings that come to their end, one through each, answer the same, and their sinks tell the same
 /// bytes. So `record_run` over `Wrapped` makes the bytes that it makes over monitors round the design: what `Wrapped::new` gives runs each accepted design of which

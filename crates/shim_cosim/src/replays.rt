@@ -2,7 +2,7 @@
 
 ghost use Rattle.shim_cosim.specs.Replays.{ReplaysAlike};
 
-use chan_replayer::ReplayShell;
+use replay_run::chan_replayer::ReplayShell;
 
 /// Whatever design both shells run, a replay of recorded packets by either of them answers the same, with the same bytes. So `replay` over
 /// `Rewrapped` makes the bytes that it makes over replayers and monitors round the design: what `Rewrapped::new` gives runs each accepted

@@ -4,10 +4,10 @@ use Rattle.std.proofs.Common.{refl, sym, ap, ◌∙◌, arith, take-append-drop,
 use Rattle.std.specs.List.{flat_map, sum_by}
 use Rattle.std.proofs.lemmas.List.{length-map}
 use Rattle.std.proofs.lemmas.List.Sums.{sum_by-cons}
-use Rattle.net_design.specs.declared.design.DesignMemory.{DesignMemory}
-use Rattle.net_design.specs.Names.{net_names, list_at, paths}
-use Rattle.vlog_meaning.specs.Names.{Full, words_from}
-use Rattle.flat_parts.specs.Meaning.{memory_words}
+use Rattle.flat_laws.specs.net_design.declared.design.DesignMemory.{DesignMemory}
+use Rattle.flat_laws.specs.net_design.Names.{net_names, list_at, paths}
+use Rattle.flat_laws.specs.vlog_meaning.Names.{Full, words_from}
+use Rattle.flat_laws.specs.flat_parts.Meaning.{memory_words}
 use Rattle.shim_design.specs.Maps.{memory_names, ListsAreMaps}
 use Rattle.shim_design.proofs.Beside.{beside, all_beside, pieces, pieces_long, words_are}
 use Rattle.shim_design.proofs.Elements.{distinct_from}

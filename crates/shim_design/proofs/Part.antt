@@ -1,16 +1,16 @@
 -- The part of a map below an instance.
 use Rattle.std.proofs.Common.{◌≡◌, ℕ, List, [], ◌∷◌, refl}
 use Rattle.std.specs.List.{AllByRecursion}
-use Rattle.vlog_tree.specs.Tree.{InstanceOf, ModuleOf, ItemOf, WiresItem, DrivenWiresItem, RegsItem, LocalparamsItem, AssignItem}
-use Rattle.vlog_tree.specs.Tree.{AlwaysItem, InstanceItem}
-use Rattle.vlog_size.specs.declared.scope.Scope.{Scope}
-use Rattle.vlog_scope.specs.Scope.{scope_with}
-use Rattle.vlog_meaning.specs.Names.{Name, Full, State}
-use Rattle.vlog_meaning.specs.Placed.{Placed, placed_items}
-use Rattle.vlog_meaning.specs.Instances.{IsChild, Leads, IsAt}
-use Rattle.vlog_meaning.specs.Items.{HoldsAt, ItemHolds}
-use Rattle.vlog_meaning.specs.Settled.{IsSettled, IsClock}
-use Rattle.vlog_meaning.specs.Next.{IsNext, IsInitial}
+use Rattle.flat_laws.specs.vlog_tree.Tree.{InstanceOf, ModuleOf, ItemOf, WiresItem, DrivenWiresItem, RegsItem, LocalparamsItem, AssignItem}
+use Rattle.flat_laws.specs.vlog_tree.Tree.{AlwaysItem, InstanceItem}
+use Rattle.flat_laws.specs.vlog_size.declared.scope.Scope.{Scope}
+use Rattle.flat_laws.specs.vlog_scope.Scope.{scope_with}
+use Rattle.flat_laws.specs.vlog_meaning.Names.{Name, Full, State}
+use Rattle.flat_laws.specs.vlog_meaning.Placed.{Placed, placed_items}
+use Rattle.flat_laws.specs.vlog_meaning.Instances.{IsChild, Leads, IsAt}
+use Rattle.flat_laws.specs.vlog_meaning.Items.{HoldsAt, ItemHolds}
+use Rattle.flat_laws.specs.vlog_meaning.Settled.{IsSettled, IsClock}
+use Rattle.flat_laws.specs.vlog_meaning.Next.{IsNext, IsInitial}
 use Rattle.shim_design.specs.Part.{under, part, pins_below, Extends, HasPart, PartIsSettled, PartIsNext, PartIsInitial}
 
 module _ (file more : List (ModuleOf ℕ)) (keep : Extends file more) where

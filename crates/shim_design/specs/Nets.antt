@@ -1,20 +1,20 @@
 -- *A net by its name*: a name that is a net of an instance, with its number; what reading, assigning and joining whole nets asks.
 use Rattle.std.specs.Prelude.{◌≡◌, ℕ, ◌<◌, ◌≤◌, ◌^◌, ◌%◌, max, true, List, [], ◌∷◌, ◌++◌, length, slice_index, None, Some}
 use Rattle.std.specs.List.{Contains, AllByRecursion}
-use Rattle.vlog_tree.specs.Tree.{IdentOf, ExprOf, ConnOf, InstanceOf, ModuleOf}
-use Rattle.vlog_size.specs.declared.scope.ScopeNet.{ScopeNet}
-use Rattle.vlog_size.specs.Names.{Readable}
-use Rattle.vlog_size.specs.Table.{Named, value_of, place_of}
-use Rattle.vlog_names.specs.Ports.{has_reg}
-use Rattle.vlog_scope.specs.Scope.{scope_with}
-use Rattle.net_design.specs.declared.values.Values.{Values}
-use Rattle.vlog_block.specs.Value.{value, width_of}
-use Rattle.vlog_meaning.specs.Names.{Full, State, numbers_at}
-use Rattle.vlog_meaning.specs.Placed.{names_at}
-use Rattle.vlog_meaning.specs.Instances.{IsAt}
-use Rattle.vlog_meaning.specs.Items.{IsAssigned, ConnsHold, whole, read}
-use Rattle.vlog_meaning.specs.Settled.{IsSettled}
-use Rattle.vlog_meaning.specs.Next.{IsInitial}
+use Rattle.flat_laws.specs.vlog_tree.Tree.{IdentOf, ExprOf, ConnOf, InstanceOf, ModuleOf}
+use Rattle.flat_laws.specs.vlog_size.declared.scope.ScopeNet.{ScopeNet}
+use Rattle.flat_laws.specs.vlog_size.Names.{Readable}
+use Rattle.flat_laws.specs.vlog_size.Table.{Named, value_of, place_of}
+use Rattle.flat_laws.specs.vlog_names.Ports.{has_reg}
+use Rattle.flat_laws.specs.vlog_scope.Scope.{scope_with}
+use Rattle.flat_laws.specs.net_design.declared.values.Values.{Values}
+use Rattle.flat_laws.specs.vlog_block.Value.{value, width_of}
+use Rattle.flat_laws.specs.vlog_meaning.Names.{Full, State, numbers_at}
+use Rattle.flat_laws.specs.vlog_meaning.Placed.{names_at}
+use Rattle.flat_laws.specs.vlog_meaning.Instances.{IsAt}
+use Rattle.flat_laws.specs.vlog_meaning.Items.{IsAssigned, ConnsHold, whole, read}
+use Rattle.flat_laws.specs.vlog_meaning.Settled.{IsSettled}
+use Rattle.flat_laws.specs.vlog_meaning.Next.{IsInitial}
 use Rattle.shim_design.specs.Plain.{nets_of, IsPlain, IsClockedItem, HasNoInits}
 
 -- the name is a net of w bits that has the number x in v

@@ -1,12 +1,12 @@
 -- *An instance means its module*: the part of a map below an instance of the top, in which no parameter is overridden.
 use Rattle.std.specs.Prelude.{◌≡◌, ℕ, List, [], ◌∷◌, map}
 use Rattle.std.specs.List.{Contains}
-use Rattle.vlog_tree.specs.Tree.{InstanceOf, ModuleOf}
-use Rattle.vlog_scope.specs.Scope.{scope_with}
-use Rattle.vlog_meaning.specs.Names.{Name, Full, State}
-use Rattle.vlog_meaning.specs.Instances.{IsChild}
-use Rattle.vlog_meaning.specs.Settled.{IsSettled, IsClock, inputs_of}
-use Rattle.vlog_meaning.specs.Next.{IsNext, IsInitial}
+use Rattle.flat_laws.specs.vlog_tree.Tree.{InstanceOf, ModuleOf}
+use Rattle.flat_laws.specs.vlog_scope.Scope.{scope_with}
+use Rattle.flat_laws.specs.vlog_meaning.Names.{Name, Full, State}
+use Rattle.flat_laws.specs.vlog_meaning.Instances.{IsChild}
+use Rattle.flat_laws.specs.vlog_meaning.Settled.{IsSettled, IsClock, inputs_of}
+use Rattle.flat_laws.specs.vlog_meaning.Next.{IsNext, IsInitial}
 
 -- what a map of full names has below the instance x
 abbrev pub under : {X : Type 0} → Name → (Full → X) → Full → X

@@ -5,10 +5,10 @@ use Rattle.std.specs.Prelude.{codes}
 use Rattle.std.specs.List.{flat_map}
 use Rattle.std.specs.Str.{bytes_eq}
 use Rattle.std.proofs.lemmas.Slice.Eq.{bytes_eq-Decides}
-use Rattle.vidi_bits.specs.Findings.{or_first}
-use Rattle.vlog_tree.specs.Tree.{PortOf, ConnOf}
-use Rattle.vlog_size.specs.Table.{Named, value_of, added}
-use Rattle.chan_map.specs.declared.pins.Map.{Map}
+use Rattle.vlog_copy.specs.vidi_bits.Findings.{or_first}
+use Rattle.shim_trees.specs.vlog_tree.Tree.{PortOf, ConnOf}
+use Rattle.shim_trees.specs.vlog_size.Table.{Named, value_of, added}
+use Rattle.shim_trees.specs.chan_map.declared.pins.Map.{Map}
 use Rattle.shim_trees.specs.Pieces.{Name, ident, net, instance, each_some}
 use Rattle.shim_trees.specs.Links.{held, tied_input, tied_port, tied_ports, dut_conn, dut}
 use Rattle.shim_gen.specs.Tables.{with_entries}

@@ -1,6 +1,6 @@
 -- Tables to which entries are added one after the other.
 use Rattle.std.specs.Prelude.{List, [], ◌∷◌}
-use Rattle.vlog_size.specs.Table.{Named, added}
+use Rattle.shim_trees.specs.vlog_size.Table.{Named, added}
 
 -- an entry counts only where none of its name stands before it
 abbrev pub with_entries : {V : Type 0} → List (Named V) → List (Named V) → List (Named V)

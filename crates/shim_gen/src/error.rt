@@ -2,7 +2,7 @@
 
 ghost use Rattle.std.specs.Prelude.{◌≡◌};
 
-use vidi_bits::{Memory, Name};
+use vlog_copy::vidi_bits::{Memory, Name};
 
 /// Why a design isn't wrapped.
 #[derive(Drop)]

@@ -21,4 +21,6 @@ mod wrapping;
 pub use error::WrapError;
 pub use monitor::monitor_tree;
 pub use replayer::replayer_tree;
+pub use shim_trees;
+pub use shim_trees::{chan_map, trace_model, vidi_lines};
 pub use wrapping::{ports_of, wrap};

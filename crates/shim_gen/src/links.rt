@@ -2,20 +2,20 @@
 
 ghost use Rattle.std.specs.Prelude.{◌≡◌, [], ◌∷◌, IfOk, OnOk, map, slice_get};
 ghost use Rattle.std.specs.Option.{option_copied, option_to_list};
-ghost use Rattle.chan_map.specs.declared.pins.Tie.{Tie as TieRecord};
-ghost use Rattle.chan_map.specs.declared.pins.Reset.{Reset as ResetRecord};
-ghost use Rattle.trace_model.specs.declared.channel.Channel.{Channel as ChannelRecord};
+ghost use Rattle.shim_trees.specs.chan_map.declared.pins.Tie.{Tie as TieRecord};
+ghost use Rattle.shim_trees.specs.chan_map.declared.pins.Reset.{Reset as ResetRecord};
+ghost use Rattle.shim_trees.specs.trace_model.declared.channel.Channel.{Channel as ChannelRecord};
 ghost use Rattle.shim_trees.specs.Pieces as pieces;
 ghost use Rattle.shim_trees.specs.Links as spec;
 ghost use Rattle.shim_gen.specs.Labels.{text, text_at};
 ghost use Rattle.shim_gen.specs.Tables.{with_entries};
 
 use crate::names::{Label, name_of};
-use chan_map::{Map, Pin, Plug, Plugs, Reset, Tie};
+use shim_trees::chan_map::{Map, Pin, Plug, Plugs, Reset, Tie};
+use shim_trees::trace_model::{Channel, Dir};
+use shim_trees::vlog_size::Table;
 use std::alloc::Global;
-use trace_model::{Channel, Dir};
-use vidi_bits::{Memory, Name, copied};
-use vlog_size::Table;
+use vlog_copy::vidi_bits::{Memory, Name, copied};
 
 /// Adds the net that a pin is joined to, by the pin's name.
 fn add_link(alloc: Global, nets: &mut Table<Name>, pin: &Pin, label: Label) -> Result<(), Memory>

@@ -6,7 +6,7 @@ ghost use Rattle.shim_trees.specs.Links as links;
 ghost use Rattle.shim_gen.specs.Labels.{text, text_at};
 
 use std::alloc::Global;
-use vidi_bits::{Items, Memory, Name, copied};
+use vlog_copy::vidi_bits::{Items, Memory, Name, copied};
 
 /// A name that is to be made.
 #[derive(Clone, Copy)]

@@ -1,20 +1,20 @@
 //! Why the words of a case have no text.
 
-use chan_map::MapError;
-use net_order::OrderError;
-use room_ledger::RoomError;
-use script_text::{ScriptError, StallError};
+use report_text::vidi_io::ReadError;
 use shim_cosim::CosimError;
-use shim_gen::WrapError;
+use shim_cosim::chan_map::MapError;
+use shim_cosim::net_order::OrderError;
+use shim_cosim::room_ledger::RoomError;
+use shim_cosim::script_text::{ScriptError, StallError};
+use shim_cosim::shim_gen::WrapError;
+use shim_cosim::trace_code::CodeError;
+use shim_cosim::vidi_lines::LineError;
+use shim_cosim::vidi_recorder::RecordError;
+use shim_cosim::vlog_elab::ElabError;
 use std::alloc::{AllocError, AllocFailed};
-use trace_code::CodeError;
-use vidi_bits::Memory;
-use vidi_io::ReadError;
-use vidi_lines::LineError;
-use vidi_recorder::RecordError;
-use vlog_elab::ElabError;
-use vlog_lex::LexError;
 use vlog_parse::ParseError;
+use vlog_parse::vidi_bits::Memory;
+use vlog_parse::vlog_lex::LexError;
 
 /// Why the words of a case have no text.
 #[derive(Drop)]

@@ -14,5 +14,12 @@ pub use ended::Ended;
 pub use plans::{Plan, plan_in, recorded};
 pub use records::record;
 pub use replays::replay;
+pub use report_text;
+pub use report_text::vidi_io;
+pub use shim_cosim;
+pub use shim_cosim::{
+    chan_map, chan_monitor, chan_replayer, env_script, net_design, net_sim, trace_model, vidi_lines,
+};
 pub use stages::{Stage, stage_in};
 pub use texts::{cycles_of, lines_in, put_net};
+pub use vlog_parse::{vidi_bits, vlog_tree};

@@ -1,10 +1,10 @@
 //! How replays end, as text.
 
-use replay_run::ReplayOutcome;
 use report_text::{put, put_number};
-use run_model::{Await, Held};
-use trace_model::{Event, Kind};
-use vidi_bits::Memory;
+use shim_cosim::replay_run::ReplayOutcome;
+use shim_cosim::run_model::{Await, Held};
+use shim_cosim::trace_model::{Event, Kind};
+use vlog_parse::vidi_bits::Memory;
 
 /// `ended CYCLES `, `unstable CHANNEL CYCLE `, or `short ` with what is held back, with what it awaits, and what is waited for
 pub(crate) fn put_outcome(text: &mut Vec<u8>, outcome: &ReplayOutcome) -> Result<(), Memory> {

@@ -1,23 +1,23 @@
 //! Plans of recordings, and recordings by a shell.
 
 ghost use Rattle.std.specs.Prelude.{◌≡◌, ◌≤◌, [], IfOk, length};
-ghost use Rattle.trace_model.specs.Channel.{IsTable};
-ghost use Rattle.script_text.specs.declared.script.TheConstants.{MOST_CYCLES};
-ghost use Rattle.script_text.specs.Fits.{FitsChannels};
-ghost use Rattle.room_ledger.specs.Ledger.{fresh};
-ghost use Rattle.vidi_recorder.specs.Course.{sizes_of};
+ghost use Rattle.shim_cosim.specs.trace_model.Channel.{IsTable};
+ghost use Rattle.shim_cosim.specs.script_text.declared.script.TheConstants.{MOST_CYCLES};
+ghost use Rattle.shim_cosim.specs.script_text.Fits.{FitsChannels};
+ghost use Rattle.shim_cosim.specs.room_ledger.Ledger.{fresh};
+ghost use Rattle.shim_cosim.specs.vidi_recorder.Course.{sizes_of};
 
 use crate::ended::Ended;
 use crate::texts::bytes_in;
-use chan_map::Map;
-use chan_monitor::Shell;
-use env_script::{Env, ScriptEnv, read_script, read_stalls};
-use room_ledger::Room;
-use script_text::{Script, Stalls};
+use report_text::vidi_io::{MemSink, Shelf};
+use shim_cosim::chan_map::Map;
+use shim_cosim::chan_monitor::Shell;
+use shim_cosim::env_script::{Env, ScriptEnv, read_script, read_stalls};
+use shim_cosim::room_ledger::Room;
+use shim_cosim::script_text::{Script, Stalls};
+use shim_cosim::trace_model::Channels;
+use shim_cosim::vidi_recorder::{Outcome, record_run};
 use std::alloc::Global;
-use trace_model::Channels;
-use vidi_io::{MemSink, Shelf};
-use vidi_recorder::{Outcome, record_run};
 
 /// A script and a plan of stalls.
 #[derive(Drop)]

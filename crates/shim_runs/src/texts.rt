@@ -4,10 +4,10 @@ ghost use Rattle.std.specs.Prelude.{◌≤◌, IfOk, length};
 
 use crate::ended::Ended;
 use report_text::put;
+use report_text::vidi_io::{Shelf, Text, read_whole};
+use shim_cosim::vidi_lines::{Lines, lines_of};
 use std::alloc::Global;
-use vidi_bits::{Bytes, Memory};
-use vidi_io::{Shelf, Text, read_whole};
-use vidi_lines::{Lines, lines_of};
+use vlog_parse::vidi_bits::{Bytes, Memory};
 
 /// The longest file of a case, in bytes.
 const TEXT_LIMIT: u64 = 4_194_304;

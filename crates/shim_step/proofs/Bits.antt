@@ -4,16 +4,16 @@ use Rattle.std.proofs.Common.{refl, ap, ◌∙◌}
 use Rattle.std.specs.Prelude.{max, bit_and, codes}
 use Rattle.std.specs.Fmt.{decimal}
 use Rattle.std.proofs.Math.Nat.{mod-eq_of_lt, zero-mod}
-use Rattle.vidi_bits.specs.Number.{truth}
-use Rattle.vlog_tree.specs.Tree.{ChoiceExpr}
-use Rattle.vlog_tree.specs.declared.expr.NumberKind.TheVariants.{Based}
-use Rattle.vlog_tree.specs.Tree.{ExprOf}
-use Rattle.vlog_size.specs.Names.{Readable}
-use Rattle.vlog_size.specs.Size.{or_zero}
-use Rattle.vlog_size.specs.Literal.{literal_number}
-use Rattle.net_design.specs.declared.values.Values.{Values}
-use Rattle.vlog_block.specs.Value.{value, width_of}
-use Rattle.vlog_meaning.specs.Items.{AssignHolds}
+use Rattle.net_order.specs.vidi_bits.Number.{truth}
+use Rattle.shim_trees.specs.vlog_tree.Tree.{ChoiceExpr}
+use Rattle.shim_trees.specs.vlog_tree.declared.expr.NumberKind.TheVariants.{Based}
+use Rattle.shim_trees.specs.vlog_tree.Tree.{ExprOf}
+use Rattle.shim_trees.specs.vlog_size.Names.{Readable}
+use Rattle.shim_trees.specs.vlog_size.Size.{or_zero}
+use Rattle.shim_trees.specs.vlog_size.Literal.{literal_number}
+use Rattle.net_order.specs.net_design.declared.values.Values.{Values}
+use Rattle.shim_design.specs.vlog_block.Value.{value, width_of}
+use Rattle.shim_design.specs.vlog_meaning.Items.{AssignHolds}
 use Rattle.shim_trees.specs.Pieces.{Name, ident, net, target, both, not_net, zero_of}
 use Rattle.shim_design.specs.Nets.{IsNet}
 use Rattle.shim_design.proofs.Whole.{read_width, read_number, assigned}

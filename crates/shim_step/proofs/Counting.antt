@@ -7,18 +7,18 @@ use Rattle.std.proofs.Math.Nat.{mod-eq_of_lt, div-eq_of_lt, mod-one}
 use Rattle.std.proofs.lemmas.Bool.{cases_lt, and_parts, and_from}
 use Rattle.std.proofs.lemmas.Bool.Decides.{nat_tests}
 use Rattle.std.proofs.Math.ListN.{length-set}
-use Rattle.vidi_bits.specs.Number.{put_of, truth}
-use Rattle.vlog_tree.specs.declared.expr.BinaryOp.TheVariants.{GreaterOrEqual, Plus}
-use Rattle.vlog_tree.specs.Tree.{ExprOf, BinaryExpr}
-use Rattle.vlog_size.specs.Names.{Readable}
-use Rattle.net_design.specs.declared.act.Timing.TheVariants.{Nonblocking}
-use Rattle.net_design.specs.declared.values.Target.TheVariants as targets
-use Rattle.net_design.specs.declared.values.Update.{Update}
-use Rattle.net_design.specs.declared.values.Values.{Values}
-use Rattle.net_design.specs.Updates.{apply, update, written_to}
-use Rattle.vlog_block.specs.Value.{value, width_of}
-use Rattle.vlog_block.specs.Targets.{target_width, target_updates}
-use Rattle.vlog_block.specs.Updates.{stmts_updates}
+use Rattle.net_order.specs.vidi_bits.Number.{put_of, truth}
+use Rattle.shim_trees.specs.vlog_tree.declared.expr.BinaryOp.TheVariants.{GreaterOrEqual, Plus}
+use Rattle.shim_trees.specs.vlog_tree.Tree.{ExprOf, BinaryExpr}
+use Rattle.shim_trees.specs.vlog_size.Names.{Readable}
+use Rattle.net_order.specs.net_design.declared.act.Timing.TheVariants.{Nonblocking}
+use Rattle.net_order.specs.net_design.declared.values.Target.TheVariants as targets
+use Rattle.net_order.specs.net_design.declared.values.Update.{Update}
+use Rattle.net_order.specs.net_design.declared.values.Values.{Values}
+use Rattle.net_order.specs.net_design.Updates.{apply, update, written_to}
+use Rattle.shim_design.specs.vlog_block.Value.{value, width_of}
+use Rattle.shim_design.specs.vlog_block.Targets.{target_width, target_updates}
+use Rattle.shim_design.specs.vlog_block.Updates.{stmts_updates}
 use Rattle.shim_trees.specs.Pieces.{numbered, ident, net, target, both}
 use Rattle.shim_trees.specs.Replayer.{covers, covering, counting}
 use Rattle.shim_design.specs.Nets.{IsNet}

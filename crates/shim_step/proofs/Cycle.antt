@@ -5,35 +5,35 @@ use Rattle.std.specs.Prelude.{codes}
 use Rattle.std.specs.List.{AllZip}
 use Rattle.std.proofs.lemmas.List.{length-map}
 use Rattle.std.proofs.lemmas.Nat.{pow_pos}
-use Rattle.vidi_bits.specs.Number.{truth, has}
-use Rattle.vlog_tree.specs.Tree.{ModuleOf, FileOf}
-use Rattle.net_design.specs.declared.design.Design.{Design}
-use Rattle.net_design.specs.declared.design.Direction.TheVariants.{Output}
-use Rattle.net_design.specs.declared.values.Values.{Values}
-use Rattle.net_design.specs.Names.{net_names}
-use Rattle.net_design.specs.Pins.{outputs}
-use Rattle.net_design.specs.Settled as design
-use Rattle.vlog_meaning.specs.Names.{Name, Full, State}
-use Rattle.vlog_meaning.specs.Next.{IsNext, IsInitial}
-use Rattle.vlog_meaning.specs.Settled.{IsSettled}
-use Rattle.flat_parts.specs.Meaning.{values_of, AreNarrow}
-use Rattle.trace_model.specs.declared.channel.Channel.{Channel}
-use Rattle.trace_model.specs.declared.channel.Dir.{Dir}
-use Rattle.trace_model.specs.declared.row.Offers.{Offers}
-use Rattle.trace_model.specs.declared.row.Row.{Row}
-use Rattle.trace_model.specs.Row.{sink_valid, AreOffers, IsMarked, IsOver}
-use Rattle.chan_map.specs.declared.pins.Map.{Map}
-use Rattle.chan_map.specs.declared.pins.Pin.{Pin}
-use Rattle.chan_map.specs.declared.pins.Plug.{Plug}
-use Rattle.chan_map.specs.Bound.{IsPin}
-use Rattle.run_model.specs.Building.{row_of, FitOutputs}
-use Rattle.run_model.specs.Offers.{Carries}
-use Rattle.run_model.specs.Pins.{silent, ArePins}
-use Rattle.run_model.specs.Step.{IsStep, ShowsPlug}
-use Rattle.vidi_bits.proofs.BitLemmas.{has-above}
-use Rattle.run_model.proofs.PlayedLaws.{row-step, fit-outputs, ports-are_nets}
-use Rattle.run_model.proofs.RowParts.{row-over, row-marked, row-shows, row-carries, small-row, has-plug, HasPlug}
-use Rattle.chan_monitor.specs.Shell.{IsShown}
+use Rattle.net_order.specs.vidi_bits.Number.{truth, has}
+use Rattle.shim_trees.specs.vlog_tree.Tree.{ModuleOf, FileOf}
+use Rattle.net_order.specs.net_design.declared.design.Design.{Design}
+use Rattle.net_order.specs.net_design.declared.design.Direction.TheVariants.{Output}
+use Rattle.net_order.specs.net_design.declared.values.Values.{Values}
+use Rattle.net_order.specs.net_design.Names.{net_names}
+use Rattle.net_order.specs.net_design.Pins.{outputs}
+use Rattle.net_order.specs.net_design.Settled as design
+use Rattle.shim_design.specs.vlog_meaning.Names.{Name, Full, State}
+use Rattle.shim_design.specs.vlog_meaning.Next.{IsNext, IsInitial}
+use Rattle.shim_design.specs.vlog_meaning.Settled.{IsSettled}
+use Rattle.shim_design.specs.flat_parts.Meaning.{values_of, AreNarrow}
+use Rattle.chan_replayer.specs.trace_model.declared.channel.Channel.{Channel}
+use Rattle.chan_replayer.specs.trace_model.declared.channel.Dir.{Dir}
+use Rattle.chan_replayer.specs.trace_model.declared.row.Offers.{Offers}
+use Rattle.chan_replayer.specs.trace_model.declared.row.Row.{Row}
+use Rattle.chan_replayer.specs.trace_model.Row.{sink_valid, AreOffers, IsMarked, IsOver}
+use Rattle.chan_replayer.specs.chan_map.declared.pins.Map.{Map}
+use Rattle.chan_replayer.specs.chan_map.declared.pins.Pin.{Pin}
+use Rattle.chan_replayer.specs.chan_map.declared.pins.Plug.{Plug}
+use Rattle.chan_replayer.specs.chan_map.Bound.{IsPin}
+use Rattle.chan_replayer.specs.run_model.Building.{row_of, FitOutputs}
+use Rattle.chan_replayer.specs.run_model.Offers.{Carries}
+use Rattle.chan_replayer.specs.run_model.Pins.{silent, ArePins}
+use Rattle.chan_replayer.specs.run_model.Step.{IsStep, ShowsPlug}
+use Rattle.net_order.proofs.vidi_bits.BitLemmas.{has-above}
+use Rattle.chan_replayer.proofs.run_model.PlayedLaws.{row-step, fit-outputs, ports-are_nets}
+use Rattle.chan_replayer.proofs.run_model.RowParts.{row-over, row-marked, row-shows, row-carries, small-row, has-plug, HasPlug}
+use Rattle.chan_replayer.specs.chan_monitor.Shell.{IsShown}
 use Rattle.shim_trees.specs.Links.{link, links, plug_links}
 use Rattle.shim_design.specs.Part.{under, part, pins_below}
 use Rattle.shim_design.proofs.Part.{part_is_next, part_is_initial}

@@ -3,22 +3,22 @@ use Rattle.std.proofs.Common.{◌≡◌, ℕ, zero, suc, ◌<◌, ◌^◌, List,
 use Rattle.std.proofs.Common.{slice_get}
 use Rattle.std.specs.Prelude.{option_map}
 use Rattle.std.specs.List.{AllByRecursion, Contains}
-use Rattle.vlog_tree.specs.Tree.{PortOf, ConnOf, ModuleOf}
-use Rattle.vlog_size.specs.declared.scope.ScopeNet.{ScopeNet}
-use Rattle.vlog_size.specs.declared.scope.Scope.{Scope}
-use Rattle.vlog_size.specs.Table.{Named, value_of}
-use Rattle.vlog_names.specs.declared.declaration.Declaration.{Declaration}
-use Rattle.vlog_names.specs.Entries.{no_port, port_as, port_entries, declared}
-use Rattle.vlog_names.specs.Twice.{twice_in}
-use Rattle.vlog_scope.specs.Scope.{scope_with}
-use Rattle.net_design.specs.declared.design.Port.{Port}
-use Rattle.vlog_meaning.specs.Names.{Full, State, numbers_at}
-use Rattle.vlog_meaning.specs.Placed.{names_at}
-use Rattle.vlog_meaning.specs.Instances.{IsAt}
-use Rattle.vlog_meaning.specs.Settled.{IsSettled}
-use Rattle.vlog_meaning.specs.Next.{net_width}
-use Rattle.flat_parts.specs.Nets.{flat_ports, port_of}
-use Rattle.flat_laws.proofs.Ports.{ports_first}
+use Rattle.shim_trees.specs.vlog_tree.Tree.{PortOf, ConnOf, ModuleOf}
+use Rattle.shim_trees.specs.vlog_size.declared.scope.ScopeNet.{ScopeNet}
+use Rattle.shim_trees.specs.vlog_size.declared.scope.Scope.{Scope}
+use Rattle.shim_trees.specs.vlog_size.Table.{Named, value_of}
+use Rattle.shim_design.specs.vlog_names.declared.declaration.Declaration.{Declaration}
+use Rattle.shim_design.specs.vlog_names.Entries.{no_port, port_as, port_entries, declared}
+use Rattle.shim_design.specs.vlog_names.Twice.{twice_in}
+use Rattle.shim_design.specs.vlog_scope.Scope.{scope_with}
+use Rattle.net_order.specs.net_design.declared.design.Port.{Port}
+use Rattle.shim_design.specs.vlog_meaning.Names.{Full, State, numbers_at}
+use Rattle.shim_design.specs.vlog_meaning.Placed.{names_at}
+use Rattle.shim_design.specs.vlog_meaning.Instances.{IsAt}
+use Rattle.shim_design.specs.vlog_meaning.Settled.{IsSettled}
+use Rattle.shim_design.specs.vlog_meaning.Next.{net_width}
+use Rattle.shim_design.specs.flat_parts.Nets.{flat_ports, port_of}
+use Rattle.shim_design.proofs.flat_laws.Ports.{ports_first}
 use Rattle.shim_trees.specs.Pieces.{Name, ident, net, conn}
 use Rattle.shim_trees.specs.Links.{dut, dut_conn}
 use Rattle.shim_design.specs.Plain.{IsPlain}

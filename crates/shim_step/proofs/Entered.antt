@@ -7,39 +7,39 @@ use Rattle.std.specs.Option.{option_to_list}
 use Rattle.std.proofs.lemmas.List.{length-map, append-nil}
 use Rattle.std.proofs.lemmas.List.Elements.{All-from_recursion}
 use Rattle.std.proofs.lemmas.List.{ext_get_or}
-use Rattle.vlog_tree.specs.Tree.{ModuleOf}
-use Rattle.vlog_size.specs.Table.{Named, value_of}
-use Rattle.vlog_names.specs.Entries.{Names, no_port, port_entries}
-use Rattle.vlog_names.specs.declared.declaration.Declaration.{Declaration}
-use Rattle.vlog_scope.specs.Scope.{scope_with}
-use Rattle.net_design.specs.declared.design.Design.{Design}
-use Rattle.net_design.specs.declared.design.Port.{Port}
-use Rattle.net_design.specs.declared.design.Direction.TheVariants.{Input, Output}
-use Rattle.net_design.specs.Settled.{same_direction, pins_of}
-use Rattle.net_design.specs.Pins.{input_limits}
-use Rattle.vlog_meaning.specs.Names.{Full, State}
-use Rattle.vlog_meaning.specs.Settled.{IsSettled, inputs_of}
-use Rattle.flat_parts.specs.Nets.{flat_ports, port_of}
-use Rattle.trace_model.specs.declared.channel.Channel.{Channel}
-use Rattle.trace_model.specs.declared.channel.Dir.{Dir}
-use Rattle.trace_model.specs.declared.channel.Dir.TheVariants.{Inward, Outward}
-use Rattle.trace_model.specs.declared.row.Row.{Row}
-use Rattle.vidi_bits.specs.Number.{truth, has}
-use Rattle.trace_model.proofs.CountingLemmas.{count-cons}
-use Rattle.trace_model.specs.Row.{content_at, sink_valid}
-use Rattle.chan_map.specs.declared.pins.Map.{Map}
-use Rattle.chan_map.specs.declared.pins.Pin.{Pin}
-use Rattle.chan_map.specs.declared.pins.Plug.{Plug}
-use Rattle.chan_map.specs.declared.pins.Reset.{Reset}
-use Rattle.chan_map.specs.declared.pins.Tie.{Tie}
-use Rattle.chan_map.specs.Bound.{IsPin, IsPlug, IsTie}
-use Rattle.run_model.specs.declared.pins.PinNumber.{PinNumber}
-use Rattle.run_model.specs.Building.{AreSmall, number_for}
-use Rattle.run_model.specs.MapOf.{IsMapOf}
-use Rattle.run_model.specs.Pins.{pin_number, shown_number, reset_input, tie_input, plug_inputs, inputs_from, entered, ArePins}
-use Rattle.run_model.proofs.PinLemmas.{pin-at, ways, input-count, stands, are-pins, all-at}
-use Rattle.vidi_bits.proofs.Each.{each_append}
-use Rattle.flat_laws.proofs.Ports.{pins_are, port_number}
+use Rattle.shim_trees.specs.vlog_tree.Tree.{ModuleOf}
+use Rattle.shim_trees.specs.vlog_size.Table.{Named, value_of}
+use Rattle.shim_design.specs.vlog_names.Entries.{Names, no_port, port_entries}
+use Rattle.shim_design.specs.vlog_names.declared.declaration.Declaration.{Declaration}
+use Rattle.shim_design.specs.vlog_scope.Scope.{scope_with}
+use Rattle.net_order.specs.net_design.declared.design.Design.{Design}
+use Rattle.net_order.specs.net_design.declared.design.Port.{Port}
+use Rattle.net_order.specs.net_design.declared.design.Direction.TheVariants.{Input, Output}
+use Rattle.net_order.specs.net_design.Settled.{same_direction, pins_of}
+use Rattle.net_order.specs.net_design.Pins.{input_limits}
+use Rattle.shim_design.specs.vlog_meaning.Names.{Full, State}
+use Rattle.shim_design.specs.vlog_meaning.Settled.{IsSettled, inputs_of}
+use Rattle.shim_design.specs.flat_parts.Nets.{flat_ports, port_of}
+use Rattle.chan_replayer.specs.trace_model.declared.channel.Channel.{Channel}
+use Rattle.chan_replayer.specs.trace_model.declared.channel.Dir.{Dir}
+use Rattle.chan_replayer.specs.trace_model.declared.channel.Dir.TheVariants.{Inward, Outward}
+use Rattle.chan_replayer.specs.trace_model.declared.row.Row.{Row}
+use Rattle.net_order.specs.vidi_bits.Number.{truth, has}
+use Rattle.chan_replayer.proofs.trace_model.CountingLemmas.{count-cons}
+use Rattle.chan_replayer.specs.trace_model.Row.{content_at, sink_valid}
+use Rattle.chan_replayer.specs.chan_map.declared.pins.Map.{Map}
+use Rattle.chan_replayer.specs.chan_map.declared.pins.Pin.{Pin}
+use Rattle.chan_replayer.specs.chan_map.declared.pins.Plug.{Plug}
+use Rattle.chan_replayer.specs.chan_map.declared.pins.Reset.{Reset}
+use Rattle.chan_replayer.specs.chan_map.declared.pins.Tie.{Tie}
+use Rattle.chan_replayer.specs.chan_map.Bound.{IsPin, IsPlug, IsTie}
+use Rattle.chan_replayer.specs.run_model.declared.pins.PinNumber.{PinNumber}
+use Rattle.chan_replayer.specs.run_model.Building.{AreSmall, number_for}
+use Rattle.chan_replayer.specs.run_model.MapOf.{IsMapOf}
+use Rattle.chan_replayer.specs.run_model.Pins.{pin_number, shown_number, reset_input, tie_input, plug_inputs, inputs_from, entered, ArePins}
+use Rattle.chan_replayer.proofs.run_model.PinLemmas.{pin-at, ways, input-count, stands, are-pins, all-at}
+use Rattle.net_order.proofs.vidi_bits.Each.{each_append}
+use Rattle.shim_design.proofs.flat_laws.Ports.{pins_are, port_number}
 use Rattle.shim_trees.specs.Pieces.{Name}
 use Rattle.shim_design.specs.Part.{pins_below}
 use Rattle.shim_design.proofs.Elements.{Mapped, mapped, get_map}

@@ -4,18 +4,18 @@ use Rattle.std.proofs.Common.{Some, refl, sym, ap, ◌∙◌, subst, arith, inl,
 use Rattle.std.specs.List.{find}
 use Rattle.std.specs.Str.{bytes_eq}
 use Rattle.std.proofs.lemmas.Slice.Eq.{bytes_eq-Decides}
-use Rattle.vidi_bits.proofs.Lists.{nil_left, nil_right}
-use Rattle.vlog_tree.specs.Tree.{ModuleOf, FileOf}
-use Rattle.vlog_size.specs.Table.{Named}
-use Rattle.vlog_hierarchy.specs.Outlines.{place_from}
-use Rattle.vlog_names.specs.Entries.{Names, declared, module_entry, modules_of}
-use Rattle.vlog_names.specs.Twice.{twice_name, twice_in, twice_modules, twice_names}
-use Rattle.vlog_names.specs.Different.{Differ}
-use Rattle.vlog_names.proofs.Different.{modules_differ, names_differ}
-use Rattle.trace_model.specs.declared.channel.Channel.{Channel}
-use Rattle.chan_map.specs.declared.pins.Map.{Map}
-use Rattle.net_design.specs.declared.design.Design.{Design}
-use Rattle.flat_parts.specs.Laws.{IsTop}
+use Rattle.net_order.proofs.vidi_bits.Lists.{nil_left, nil_right}
+use Rattle.shim_trees.specs.vlog_tree.Tree.{ModuleOf, FileOf}
+use Rattle.shim_trees.specs.vlog_size.Table.{Named}
+use Rattle.shim_design.specs.vlog_hierarchy.Outlines.{place_from}
+use Rattle.shim_design.specs.vlog_names.Entries.{Names, declared, module_entry, modules_of}
+use Rattle.shim_design.specs.vlog_names.Twice.{twice_name, twice_in, twice_modules, twice_names}
+use Rattle.shim_design.specs.vlog_names.Different.{Differ}
+use Rattle.shim_design.proofs.vlog_names.Different.{modules_differ, names_differ}
+use Rattle.chan_replayer.specs.trace_model.declared.channel.Channel.{Channel}
+use Rattle.chan_replayer.specs.chan_map.declared.pins.Map.{Map}
+use Rattle.net_order.specs.net_design.declared.design.Design.{Design}
+use Rattle.shim_design.specs.flat_parts.Laws.{IsTop}
 use Rattle.shim_trees.specs.Pieces.{Name, each_some}
 use Rattle.shim_trees.specs.Monitor.{monitor}
 use Rattle.shim_trees.specs.Replayer.{replayer}

@@ -5,28 +5,28 @@ use Rattle.std.specs.Prelude.{codes, count_by}
 use Rattle.std.specs.List.{AllByRecursion, AllZip}
 use Rattle.std.specs.Option.{option_to_list}
 use Rattle.std.proofs.lemmas.List.{map-append}
-use Rattle.vidi_bits.proofs.Each.{each_append}
-use Rattle.vlog_size.specs.Table.{Named, value_of}
-use Rattle.net_design.specs.declared.design.Design.{Design}
-use Rattle.net_design.specs.declared.design.Direction.{Direction}
-use Rattle.net_design.specs.declared.design.Direction.TheVariants.{Input}
-use Rattle.net_design.specs.declared.design.Port.{Port}
-use Rattle.net_design.specs.Settled.{same_direction}
-use Rattle.trace_model.specs.declared.channel.Channel.{Channel}
-use Rattle.trace_model.specs.declared.channel.Dir.{Dir}
-use Rattle.trace_model.specs.declared.channel.Dir.TheVariants.{Inward, Outward}
-use Rattle.chan_map.specs.declared.pins.Map.{Map}
-use Rattle.chan_map.specs.declared.pins.Pin.{Pin}
-use Rattle.chan_map.specs.declared.pins.Plug.{Plug}
-use Rattle.chan_map.specs.declared.pins.Reset.{Reset}
-use Rattle.chan_map.specs.declared.pins.Tie.{Tie}
-use Rattle.chan_map.specs.Ports.{source_side, sink_side}
-use Rattle.chan_map.specs.Bound.{IsPin, IsPlug, IsTie}
-use Rattle.chan_map.specs.Places.{places, plug_places, plugs_places}
-use Rattle.run_model.specs.MapOf.{IsMapOf}
+use Rattle.net_order.proofs.vidi_bits.Each.{each_append}
+use Rattle.shim_trees.specs.vlog_size.Table.{Named, value_of}
+use Rattle.net_order.specs.net_design.declared.design.Design.{Design}
+use Rattle.net_order.specs.net_design.declared.design.Direction.{Direction}
+use Rattle.net_order.specs.net_design.declared.design.Direction.TheVariants.{Input}
+use Rattle.net_order.specs.net_design.declared.design.Port.{Port}
+use Rattle.net_order.specs.net_design.Settled.{same_direction}
+use Rattle.chan_replayer.specs.trace_model.declared.channel.Channel.{Channel}
+use Rattle.chan_replayer.specs.trace_model.declared.channel.Dir.{Dir}
+use Rattle.chan_replayer.specs.trace_model.declared.channel.Dir.TheVariants.{Inward, Outward}
+use Rattle.chan_replayer.specs.chan_map.declared.pins.Map.{Map}
+use Rattle.chan_replayer.specs.chan_map.declared.pins.Pin.{Pin}
+use Rattle.chan_replayer.specs.chan_map.declared.pins.Plug.{Plug}
+use Rattle.chan_replayer.specs.chan_map.declared.pins.Reset.{Reset}
+use Rattle.chan_replayer.specs.chan_map.declared.pins.Tie.{Tie}
+use Rattle.chan_replayer.specs.chan_map.Ports.{source_side, sink_side}
+use Rattle.chan_replayer.specs.chan_map.Bound.{IsPin, IsPlug, IsTie}
+use Rattle.chan_replayer.specs.chan_map.Places.{places, plug_places, plugs_places}
+use Rattle.chan_replayer.specs.run_model.MapOf.{IsMapOf}
 use Rattle.shim_trees.specs.Pieces.{Name, each, each_some, numbered_twice}
 use Rattle.shim_trees.specs.Links.{link, tied_link, plug_links, channel_links, links, reset_width, tie_width, held}
-use Rattle.flat_laws.proofs.SettledLists.{map_map}
+use Rattle.shim_design.proofs.flat_laws.SettledLists.{map_map}
 use Rattle.shim_design.proofs.Elements.{Distinct, distinct_from, distinct_front, Has, has_left, has_right, has_map, found, Apart}
 use Rattle.shim_step.proofs.Lists.{has_some, in_option}
 

@@ -4,22 +4,22 @@ use Rattle.std.proofs.Common.{List, [], ◌∷◌, ◌++◌, Some, refl, ap, ◌
 use Rattle.std.specs.Prelude.{codes, max, bit_and}
 use Rattle.std.specs.List.{AllByRecursion}
 use Rattle.std.proofs.lemmas.List.{get_or-set_same}
-use Rattle.vidi_bits.specs.Number.{IsWidth, truth, put_of}
-use Rattle.vidi_bits.proofs.Each.{each_append}
-use Rattle.vlog_tree.specs.Tree.{PortOf, ItemOf, ModuleOf, ExprOf}
-use Rattle.vlog_tree.specs.declared.module.Direction.TheVariants.{Input}
-use Rattle.vlog_size.specs.Names.{Readable}
-use Rattle.vlog_names.specs.declared.declaration.Shape.TheVariants.{Scalar}
-use Rattle.vlog_names.specs.Entries.{declared}
-use Rattle.vlog_names.specs.Ports.{has_reg}
-use Rattle.vlog_names.specs.Different.{Differ}
-use Rattle.net_design.specs.declared.values.Target.TheVariants as targets
-use Rattle.net_design.specs.declared.values.Values.{Values}
-use Rattle.net_design.specs.Updates.{update}
-use Rattle.vlog_block.specs.Value.{value, width_of}
-use Rattle.vlog_block.specs.Targets.{target_width, target_updates}
-use Rattle.vlog_meaning.specs.Names.{Full, State}
-use Rattle.vlog_meaning.specs.Next.{IsNext, clocked_updates}
+use Rattle.net_order.specs.vidi_bits.Number.{IsWidth, truth, put_of}
+use Rattle.net_order.proofs.vidi_bits.Each.{each_append}
+use Rattle.shim_trees.specs.vlog_tree.Tree.{PortOf, ItemOf, ModuleOf, ExprOf}
+use Rattle.shim_trees.specs.vlog_tree.declared.module.Direction.TheVariants.{Input}
+use Rattle.shim_trees.specs.vlog_size.Names.{Readable}
+use Rattle.shim_design.specs.vlog_names.declared.declaration.Shape.TheVariants.{Scalar}
+use Rattle.shim_design.specs.vlog_names.Entries.{declared}
+use Rattle.shim_design.specs.vlog_names.Ports.{has_reg}
+use Rattle.shim_design.specs.vlog_names.Different.{Differ}
+use Rattle.net_order.specs.net_design.declared.values.Target.TheVariants as targets
+use Rattle.net_order.specs.net_design.declared.values.Values.{Values}
+use Rattle.net_order.specs.net_design.Updates.{update}
+use Rattle.shim_design.specs.vlog_block.Value.{value, width_of}
+use Rattle.shim_design.specs.vlog_block.Targets.{target_width, target_updates}
+use Rattle.shim_design.specs.vlog_meaning.Names.{Full, State}
+use Rattle.shim_design.specs.vlog_meaning.Next.{IsNext, clocked_updates}
 use Rattle.shim_trees.specs.Pieces.{Name, ident, net, not_net, both, target, each, numbered, input, output, reg, gated_content}
 use Rattle.shim_trees.specs.Monitor.{monitor, monitor_ports, monitor_items, gates, events}
 use Rattle.shim_design.specs.Plain.{IsPlain, IsPlainItem, IsClockedItem, nets_of}

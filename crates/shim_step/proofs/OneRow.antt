@@ -1,24 +1,24 @@
 -- What monitors or replayers round a design fill in a cycle is one row.
 use Rattle.std.proofs.Common.{◌≡◌, ◌↔◌, ℕ, Bool, true, false, cond, List, length, Option, refl, ap, sym, subst, ◌∙◌}
 use Rattle.std.proofs.lemmas.Bool.{false≢true}
-use Rattle.vidi_bits.specs.Number.{has}
-use Rattle.trace_model.specs.declared.channel.Channel.{Channel}
-use Rattle.trace_model.specs.declared.channel.Dir.{Dir}
-use Rattle.trace_model.specs.declared.channel.Dir.TheVariants.{Inward, Outward}
-use Rattle.trace_model.specs.declared.row.Row.{Row}
-use Rattle.trace_model.specs.Row.{content_at, row_before, IsOver, IsMarked}
-use Rattle.net_design.specs.declared.design.Design.{Design}
-use Rattle.net_design.specs.declared.values.Values.{Values}
-use Rattle.net_design.specs.Pins.{outputs}
-use Rattle.net_design.specs.Settled.{IsSettled}
+use Rattle.net_order.specs.vidi_bits.Number.{has}
+use Rattle.chan_replayer.specs.trace_model.declared.channel.Channel.{Channel}
+use Rattle.chan_replayer.specs.trace_model.declared.channel.Dir.{Dir}
+use Rattle.chan_replayer.specs.trace_model.declared.channel.Dir.TheVariants.{Inward, Outward}
+use Rattle.chan_replayer.specs.trace_model.declared.row.Row.{Row}
+use Rattle.chan_replayer.specs.trace_model.Row.{content_at, row_before, IsOver, IsMarked}
+use Rattle.net_order.specs.net_design.declared.design.Design.{Design}
+use Rattle.net_order.specs.net_design.declared.values.Values.{Values}
+use Rattle.net_order.specs.net_design.Pins.{outputs}
+use Rattle.net_order.specs.net_design.Settled.{IsSettled}
 use Rattle.net_order.proofs.OneMap.{only_map}
-use Rattle.chan_map.specs.declared.pins.Map.{Map}
-use Rattle.run_model.specs.MapOf.{IsMapOf}
-use Rattle.run_model.specs.Offers.{no_content}
-use Rattle.run_model.specs.Replay.{done}
-use Rattle.run_model.specs.Step.{IsStep, Shows}
-use Rattle.run_model.proofs.PinLemmas.{one-list}
-use Rattle.run_model.proofs.RowParts.{AgreeOn, Agree, entered-same, one-row, carried}
+use Rattle.chan_replayer.specs.chan_map.declared.pins.Map.{Map}
+use Rattle.chan_replayer.specs.run_model.MapOf.{IsMapOf}
+use Rattle.chan_replayer.specs.run_model.Offers.{no_content}
+use Rattle.chan_replayer.specs.run_model.Replay.{done}
+use Rattle.chan_replayer.specs.run_model.Step.{IsStep, Shows}
+use Rattle.chan_replayer.proofs.run_model.PinLemmas.{one-list}
+use Rattle.chan_replayer.proofs.run_model.RowParts.{AgreeOn, Agree, entered-same, one-row, carried}
 use Rattle.chan_replayer.specs.declared.feed.Feed.{Feed}
 use Rattle.chan_replayer.specs.Feed.{IsUp, IsFedOn}
 use Rattle.shim_step.specs.Recording.{Records}

@@ -3,21 +3,21 @@ use Rattle.std.proofs.Common.{◌≡◌, ℕ, zero, suc, ◌==◌, Bool, ◌&&�
 use Rattle.std.proofs.Common.{Some, refl, sym, ap, ◌∙◌, subst, arith, inl, inr, slice_get}
 use Rattle.std.specs.Prelude.{codes}
 use Rattle.std.specs.List.{AllByRecursion, AllZip}
-use Rattle.vidi_bits.specs.Number.{IsWidth, truth}
-use Rattle.vidi_bits.proofs.Each.{each_append}
-use Rattle.vlog_tree.specs.Tree.{PortOf, ConnOf, ItemOf, ModuleOf, FileOf}
-use Rattle.net_design.specs.declared.design.Design.{Design}
-use Rattle.net_design.specs.declared.design.Direction.{Direction}
-use Rattle.vlog_meaning.specs.Names.{Full, State}
-use Rattle.vlog_meaning.specs.Next.{IsNext}
-use Rattle.vlog_meaning.specs.Settled.{IsSettled}
-use Rattle.trace_model.specs.declared.channel.Channel.{Channel}
-use Rattle.trace_model.specs.declared.channel.Dir.{Dir}
-use Rattle.trace_model.specs.declared.channel.Dir.TheVariants.{Inward, Outward}
-use Rattle.chan_map.specs.declared.pins.Map.{Map}
-use Rattle.chan_map.specs.declared.pins.Pin.{Pin}
-use Rattle.chan_map.specs.Bound.{IsPin}
-use Rattle.run_model.proofs.RowParts.{has-plug}
+use Rattle.net_order.specs.vidi_bits.Number.{IsWidth, truth}
+use Rattle.net_order.proofs.vidi_bits.Each.{each_append}
+use Rattle.shim_trees.specs.vlog_tree.Tree.{PortOf, ConnOf, ItemOf, ModuleOf, FileOf}
+use Rattle.net_order.specs.net_design.declared.design.Design.{Design}
+use Rattle.net_order.specs.net_design.declared.design.Direction.{Direction}
+use Rattle.shim_design.specs.vlog_meaning.Names.{Full, State}
+use Rattle.shim_design.specs.vlog_meaning.Next.{IsNext}
+use Rattle.shim_design.specs.vlog_meaning.Settled.{IsSettled}
+use Rattle.chan_replayer.specs.trace_model.declared.channel.Channel.{Channel}
+use Rattle.chan_replayer.specs.trace_model.declared.channel.Dir.{Dir}
+use Rattle.chan_replayer.specs.trace_model.declared.channel.Dir.TheVariants.{Inward, Outward}
+use Rattle.chan_replayer.specs.chan_map.declared.pins.Map.{Map}
+use Rattle.chan_replayer.specs.chan_map.declared.pins.Pin.{Pin}
+use Rattle.chan_replayer.specs.chan_map.Bound.{IsPin}
+use Rattle.chan_replayer.proofs.run_model.RowParts.{has-plug}
 use Rattle.shim_trees.specs.Pieces.{Name, numbered, numbered_twice, each, each_some, input, output, port, source_side, sink_side, wire, conn}
 use Rattle.shim_trees.specs.Links.{record_links, dut, content_wires, tied_ports}
 use Rattle.shim_trees.specs.Monitor.{monitor}

@@ -2,29 +2,29 @@
 use Rattle.std.proofs.Common.{◌≡◌, ℕ, ◌<◌, ◌^◌, ◌==◌, ◌&&◌, Bool, true, false, if◌then◌else◌, List, [], ◌∷◌, length}
 use Rattle.std.proofs.Common.{Option, Some, refl, sym, ap, ◌∙◌, subst, arith, slice_get, get_or, inl, inr}
 use Rattle.std.specs.Prelude.{codes, slice_index}
-use Rattle.vidi_bits.specs.Number.{truth, has}
-use Rattle.vlog_tree.specs.Tree.{ModuleOf, FileOf}
-use Rattle.net_design.specs.declared.design.Design.{Design}
-use Rattle.net_design.specs.declared.design.Direction.TheVariants.{Output}
-use Rattle.net_design.specs.Pins.{outputs}
-use Rattle.vlog_meaning.specs.Names.{Name, Full, State}
-use Rattle.vlog_meaning.specs.Settled.{IsSettled}
-use Rattle.flat_parts.specs.Meaning.{AreNarrow}
-use Rattle.trace_model.specs.declared.channel.Channel.{Channel}
-use Rattle.trace_model.specs.declared.channel.Dir.{Dir}
-use Rattle.trace_model.specs.declared.channel.Dir.TheVariants.{Inward, Outward}
-use Rattle.trace_model.specs.declared.row.Offers.{Offers}
-use Rattle.trace_model.specs.declared.row.Row.{Row}
-use Rattle.trace_model.specs.Row.{content_at, sink_valid, flies_after, AreOffers}
-use Rattle.chan_map.specs.declared.pins.Map.{Map}
-use Rattle.chan_map.specs.declared.pins.Pin.{Pin}
-use Rattle.chan_map.specs.declared.pins.Plug.{Plug}
-use Rattle.chan_map.specs.Bound.{IsPin, IsPlug}
-use Rattle.run_model.specs.Building.{row_of}
-use Rattle.run_model.specs.Offers.{CarriesOn, no_content}
-use Rattle.run_model.specs.Pins.{shown_number}
-use Rattle.run_model.specs.Step.{ShowsPlug}
-use Rattle.run_model.proofs.RowParts.{row-carries}
+use Rattle.net_order.specs.vidi_bits.Number.{truth, has}
+use Rattle.shim_trees.specs.vlog_tree.Tree.{ModuleOf, FileOf}
+use Rattle.net_order.specs.net_design.declared.design.Design.{Design}
+use Rattle.net_order.specs.net_design.declared.design.Direction.TheVariants.{Output}
+use Rattle.net_order.specs.net_design.Pins.{outputs}
+use Rattle.shim_design.specs.vlog_meaning.Names.{Name, Full, State}
+use Rattle.shim_design.specs.vlog_meaning.Settled.{IsSettled}
+use Rattle.shim_design.specs.flat_parts.Meaning.{AreNarrow}
+use Rattle.chan_replayer.specs.trace_model.declared.channel.Channel.{Channel}
+use Rattle.chan_replayer.specs.trace_model.declared.channel.Dir.{Dir}
+use Rattle.chan_replayer.specs.trace_model.declared.channel.Dir.TheVariants.{Inward, Outward}
+use Rattle.chan_replayer.specs.trace_model.declared.row.Offers.{Offers}
+use Rattle.chan_replayer.specs.trace_model.declared.row.Row.{Row}
+use Rattle.chan_replayer.specs.trace_model.Row.{content_at, sink_valid, flies_after, AreOffers}
+use Rattle.chan_replayer.specs.chan_map.declared.pins.Map.{Map}
+use Rattle.chan_replayer.specs.chan_map.declared.pins.Pin.{Pin}
+use Rattle.chan_replayer.specs.chan_map.declared.pins.Plug.{Plug}
+use Rattle.chan_replayer.specs.chan_map.Bound.{IsPin, IsPlug}
+use Rattle.chan_replayer.specs.run_model.Building.{row_of}
+use Rattle.chan_replayer.specs.run_model.Offers.{CarriesOn, no_content}
+use Rattle.chan_replayer.specs.run_model.Pins.{shown_number}
+use Rattle.chan_replayer.specs.run_model.Step.{ShowsPlug}
+use Rattle.chan_replayer.proofs.run_model.RowParts.{row-carries}
 use Rattle.shim_trees.specs.Pieces.{numbered, numbered_twice}
 use Rattle.shim_trees.specs.Links.{link, record_links}
 use Rattle.shim_trees.specs.RecordTop.{record_name, record_top}

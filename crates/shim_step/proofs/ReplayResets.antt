@@ -3,25 +3,25 @@ use Rattle.std.proofs.Common.{◌≡◌, ℕ, ◌+◌, ◌<◌, ◌^◌, ◌==�
 use Rattle.std.proofs.Common.{None, Some, refl, sym, ap, ◌∙◌, subst, arith, slice_get, inl, inr}
 use Rattle.std.specs.Prelude.{codes}
 use Rattle.std.specs.List.{AllByRecursion}
-use Rattle.vidi_bits.specs.Number.{truth}
-use Rattle.vidi_bits.proofs.Each.{each_append}
-use Rattle.vlog_tree.specs.Tree.{PortOf, ModuleOf, FileOf}
-use Rattle.net_design.specs.declared.design.Design.{Design}
-use Rattle.net_design.specs.Settled as design
-use Rattle.vlog_meaning.specs.Names.{Full, State}
-use Rattle.vlog_meaning.specs.Next.{IsNext, IsInitial}
-use Rattle.vlog_meaning.specs.Settled.{IsSettled}
-use Rattle.flat_parts.specs.Meaning.{AreNarrow}
-use Rattle.trace_model.specs.declared.channel.Channel.{Channel}
-use Rattle.trace_model.specs.declared.channel.Dir.{Dir}
-use Rattle.trace_model.specs.declared.channel.Dir.TheVariants.{Inward, Outward}
-use Rattle.trace_model.specs.Row.{content_at}
-use Rattle.chan_map.specs.declared.pins.Map.{Map}
-use Rattle.chan_map.specs.declared.pins.Plug.{Plug}
-use Rattle.run_model.specs.Pins.{shown_number, silent, ArePins}
-use Rattle.run_model.specs.Step as run
-use Rattle.run_model.proofs.RowParts.{channel-at}
-use Rattle.chan_monitor.proofs.Held.{silent-small}
+use Rattle.net_order.specs.vidi_bits.Number.{truth}
+use Rattle.net_order.proofs.vidi_bits.Each.{each_append}
+use Rattle.shim_trees.specs.vlog_tree.Tree.{PortOf, ModuleOf, FileOf}
+use Rattle.net_order.specs.net_design.declared.design.Design.{Design}
+use Rattle.net_order.specs.net_design.Settled as design
+use Rattle.shim_design.specs.vlog_meaning.Names.{Full, State}
+use Rattle.shim_design.specs.vlog_meaning.Next.{IsNext, IsInitial}
+use Rattle.shim_design.specs.vlog_meaning.Settled.{IsSettled}
+use Rattle.shim_design.specs.flat_parts.Meaning.{AreNarrow}
+use Rattle.chan_replayer.specs.trace_model.declared.channel.Channel.{Channel}
+use Rattle.chan_replayer.specs.trace_model.declared.channel.Dir.{Dir}
+use Rattle.chan_replayer.specs.trace_model.declared.channel.Dir.TheVariants.{Inward, Outward}
+use Rattle.chan_replayer.specs.trace_model.Row.{content_at}
+use Rattle.chan_replayer.specs.chan_map.declared.pins.Map.{Map}
+use Rattle.chan_replayer.specs.chan_map.declared.pins.Plug.{Plug}
+use Rattle.chan_replayer.specs.run_model.Pins.{shown_number, silent, ArePins}
+use Rattle.chan_replayer.specs.run_model.Step as run
+use Rattle.chan_replayer.proofs.run_model.RowParts.{channel-at}
+use Rattle.chan_replayer.proofs.chan_monitor.Held.{silent-small}
 use Rattle.shim_trees.specs.Pieces.{numbered, numbered_twice, each, upto, reg, gated_content, input, output}
 use Rattle.shim_trees.specs.Links.{link, replay_links}
 use Rattle.shim_trees.specs.Replayer.{replayer, side_ports, shown_items}

@@ -5,25 +5,25 @@ use Rattle.std.specs.Prelude.{codes, max}
 use Rattle.std.specs.Fmt.{decimal}
 use Rattle.std.specs.List.{AllByRecursion, position_or_len}
 use Rattle.std.specs.Str.{bytes_eq}
-use Rattle.vlog_size.specs.Literal.{digits_from}
+use Rattle.shim_trees.specs.vlog_size.Literal.{digits_from}
 use Rattle.std.proofs.Math.Nat.{mod-eq_of_lt}
-use Rattle.vidi_bits.specs.Number.{IsWidth, truth, put_of}
-use Rattle.vidi_bits.proofs.Each.{each_append}
-use Rattle.vlog_tree.specs.Tree.{PortOf, ItemOf, ModuleOf, ExprOf, BeginStmt}
-use Rattle.vlog_size.specs.declared.scope.ScopeNet.{ScopeNet}
-use Rattle.vlog_size.specs.Table.{Named, place_of}
-use Rattle.vlog_names.specs.declared.declaration.Shape.TheVariants.{Vector}
-use Rattle.vlog_names.specs.Entries.{declared}
-use Rattle.vlog_names.specs.Ports.{has_reg}
-use Rattle.vlog_names.specs.Different.{Differ}
-use Rattle.net_design.specs.declared.act.Timing.TheVariants.{Nonblocking}
-use Rattle.vlog_block.specs.Value.{width_of}
-use Rattle.vlog_block.specs.Updates.{stmts_updates}
-use Rattle.vlog_meaning.specs.Names.{Full, State}
-use Rattle.vlog_meaning.specs.Next.{IsNext, clocked_updates}
-use Rattle.trace_model.specs.declared.channel.Channel.{Channel}
-use Rattle.trace_model.specs.declared.channel.Dir.{Dir}
-use Rattle.trace_model.specs.declared.channel.Dir.TheVariants.{Inward, Outward}
+use Rattle.net_order.specs.vidi_bits.Number.{IsWidth, truth, put_of}
+use Rattle.net_order.proofs.vidi_bits.Each.{each_append}
+use Rattle.shim_trees.specs.vlog_tree.Tree.{PortOf, ItemOf, ModuleOf, ExprOf, BeginStmt}
+use Rattle.shim_trees.specs.vlog_size.declared.scope.ScopeNet.{ScopeNet}
+use Rattle.shim_trees.specs.vlog_size.Table.{Named, place_of}
+use Rattle.shim_design.specs.vlog_names.declared.declaration.Shape.TheVariants.{Vector}
+use Rattle.shim_design.specs.vlog_names.Entries.{declared}
+use Rattle.shim_design.specs.vlog_names.Ports.{has_reg}
+use Rattle.shim_design.specs.vlog_names.Different.{Differ}
+use Rattle.net_order.specs.net_design.declared.act.Timing.TheVariants.{Nonblocking}
+use Rattle.shim_design.specs.vlog_block.Value.{width_of}
+use Rattle.shim_design.specs.vlog_block.Updates.{stmts_updates}
+use Rattle.shim_design.specs.vlog_meaning.Names.{Full, State}
+use Rattle.shim_design.specs.vlog_meaning.Next.{IsNext, clocked_updates}
+use Rattle.chan_replayer.specs.trace_model.declared.channel.Channel.{Channel}
+use Rattle.chan_replayer.specs.trace_model.declared.channel.Dir.{Dir}
+use Rattle.chan_replayer.specs.trace_model.declared.channel.Dir.TheVariants.{Inward, Outward}
 use Rattle.shim_trees.specs.Pieces.{Name, ident, net, both, each, upto, numbered, input, output, reg, assign, at_clock, gated_content}
 use Rattle.shim_trees.specs.Replayer.{side_ports, covering, counting, shown_items, replayer}
 use Rattle.shim_design.specs.Plain.{IsPlain, IsPlainItem, IsClockedItem, nets_of}

@@ -6,33 +6,33 @@ use Rattle.std.specs.List.{AllByRecursion, flat_map}
 use Rattle.std.proofs.lemmas.List.{get_or-map}
 use Rattle.std.proofs.lemmas.Option.{get_or_from_slice_get, slice_get_within}
 use Rattle.std.proofs.lemmas.List.Elements.{recursion_from_All}
-use Rattle.vidi_bits.specs.Number.{IsWidth}
-use Rattle.vidi_bits.proofs.Lists.{some_same}
-use Rattle.vlog_tree.specs.Tree.{PortOf, ModuleOf, FileOf}
-use Rattle.vlog_tree.specs.declared.module.Direction.TheVariants as tree
-use Rattle.vlog_size.specs.Table.{Named, value_of}
-use Rattle.vlog_names.specs.declared.declaration.Declaration.{Declaration}
-use Rattle.vlog_names.specs.Entries.{no_port, port_entries, header_entries, parameter_entry, item_entries, declared}
-use Rattle.vlog_scope.specs.Scope.{scope_with}
-use Rattle.net_design.specs.declared.design.Design.{Design}
-use Rattle.net_design.specs.declared.design.Direction.TheVariants.{Input}
-use Rattle.net_design.specs.declared.design.Instance.{Instance}
-use Rattle.net_design.specs.declared.design.Net.{Net}
-use Rattle.net_design.specs.declared.design.Port.{Port}
-use Rattle.net_design.specs.Names.{list_at, paths, paths_after, net_names}
-use Rattle.net_design.specs.Settled as design
-use Rattle.vlog_meaning.specs.Names.{Name, Full, State}
-use Rattle.vlog_meaning.specs.Settled.{IsSettled, IsClock, inputs_of}
-use Rattle.flat_parts.specs.Meaning.{values_of, state_of, AreNarrow}
-use Rattle.flat_parts.specs.Nets.{port_of, flat_ports}
-use Rattle.chan_map.specs.declared.pins.Map.{Map}
-use Rattle.chan_map.specs.declared.pins.Pin.{Pin}
-use Rattle.chan_map.specs.declared.pins.Reset.{Reset}
-use Rattle.chan_map.specs.declared.pins.Tie.{Tie}
-use Rattle.chan_map.specs.Bound.{IsPin, IsTie}
-use Rattle.run_model.specs.Pins.{reset_input}
-use Rattle.run_model.proofs.RowParts.{channel-at}
-use Rattle.flat_laws.proofs.Ports.{inputs_placed}
+use Rattle.net_order.specs.vidi_bits.Number.{IsWidth}
+use Rattle.net_order.proofs.vidi_bits.Lists.{some_same}
+use Rattle.shim_trees.specs.vlog_tree.Tree.{PortOf, ModuleOf, FileOf}
+use Rattle.shim_trees.specs.vlog_tree.declared.module.Direction.TheVariants as tree
+use Rattle.shim_trees.specs.vlog_size.Table.{Named, value_of}
+use Rattle.shim_design.specs.vlog_names.declared.declaration.Declaration.{Declaration}
+use Rattle.shim_design.specs.vlog_names.Entries.{no_port, port_entries, header_entries, parameter_entry, item_entries, declared}
+use Rattle.shim_design.specs.vlog_scope.Scope.{scope_with}
+use Rattle.net_order.specs.net_design.declared.design.Design.{Design}
+use Rattle.net_order.specs.net_design.declared.design.Direction.TheVariants.{Input}
+use Rattle.net_order.specs.net_design.declared.design.Instance.{Instance}
+use Rattle.net_order.specs.net_design.declared.design.Net.{Net}
+use Rattle.net_order.specs.net_design.declared.design.Port.{Port}
+use Rattle.net_order.specs.net_design.Names.{list_at, paths, paths_after, net_names}
+use Rattle.net_order.specs.net_design.Settled as design
+use Rattle.shim_design.specs.vlog_meaning.Names.{Name, Full, State}
+use Rattle.shim_design.specs.vlog_meaning.Settled.{IsSettled, IsClock, inputs_of}
+use Rattle.shim_design.specs.flat_parts.Meaning.{values_of, state_of, AreNarrow}
+use Rattle.shim_design.specs.flat_parts.Nets.{port_of, flat_ports}
+use Rattle.chan_replayer.specs.chan_map.declared.pins.Map.{Map}
+use Rattle.chan_replayer.specs.chan_map.declared.pins.Pin.{Pin}
+use Rattle.chan_replayer.specs.chan_map.declared.pins.Reset.{Reset}
+use Rattle.chan_replayer.specs.chan_map.declared.pins.Tie.{Tie}
+use Rattle.chan_replayer.specs.chan_map.Bound.{IsPin, IsTie}
+use Rattle.chan_replayer.specs.run_model.Pins.{reset_input}
+use Rattle.chan_replayer.proofs.run_model.RowParts.{channel-at}
+use Rattle.shim_design.proofs.flat_laws.Ports.{inputs_placed}
 use Rattle.shim_trees.specs.Pieces.{input}
 use Rattle.shim_trees.specs.Links.{link, tied, tied_link, links, held, tied_input, tied_port, tied_ports, reset_width, tie_width}
 use Rattle.shim_design.specs.Part.{under, part, pins_below, IsPart}
@@ -119,7 +119,7 @@ module _ {f : FileOf ℕ} {a : Map} {m : ModuleOf ℕ} {d : Design} (w : IsWrapp
       (at_member (λ (x : Net). IsWidth x.width × (x.instance < length d.instances)) d.nets n
       (recursion_from_All (λ (x : Net). IsWidth x.width × (x.instance < length d.instances)) d.nets w.lawful.nets) (in_slice d.nets k n at)).0
 
-  pub pin_width : (way : Rattle.net_design.specs.declared.design.Direction.Direction) (width : ℕ) (pin : Pin) → IsPin d way width pin → IsWidth width
+  pub pin_width : (way : Rattle.net_order.specs.net_design.declared.design.Direction.Direction) (width : ℕ) (pin : Pin) → IsPin d way width pin → IsWidth width
   pin_width way width pin p =
       let few = w.lawful.ports in
       let l = slice_get_within d.ports p.port p.p p.at in

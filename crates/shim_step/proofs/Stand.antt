@@ -3,19 +3,19 @@ use Rattle.std.proofs.Common.{◌≡◌, ℕ, zero, suc, ◌<◌, ◌≤◌, ◌
 use Rattle.std.proofs.Common.{refl, subst, arith, inl}
 use Rattle.std.specs.Prelude.{codes}
 use Rattle.std.specs.List.{Contains}
-use Rattle.vidi_bits.specs.Number.{IsWidth, truth}
-use Rattle.vlog_tree.specs.declared.module.Direction.{Direction}
-use Rattle.vlog_tree.specs.Tree.{ConnOf, InstanceOf, InstanceItem, ItemOf, ModuleOf}
-use Rattle.vlog_size.specs.declared.scope.Scope.{Scope}
-use Rattle.vlog_size.specs.Names.{Readable}
-use Rattle.vlog_scope.specs.Extents.{net_width}
-use Rattle.vlog_scope.specs.Scope.{scope_with}
-use Rattle.net_design.specs.declared.values.Values.{Values}
-use Rattle.vlog_meaning.specs.Names.{Full, State, numbers_at}
-use Rattle.vlog_meaning.specs.Placed.{names_at}
-use Rattle.vlog_meaning.specs.Instances.{IsChild, IsAt}
-use Rattle.vlog_meaning.specs.Items.{HoldsAt, ConnsHold}
-use Rattle.vlog_meaning.specs.Settled.{IsSettled}
+use Rattle.net_order.specs.vidi_bits.Number.{IsWidth, truth}
+use Rattle.shim_trees.specs.vlog_tree.declared.module.Direction.{Direction}
+use Rattle.shim_trees.specs.vlog_tree.Tree.{ConnOf, InstanceOf, InstanceItem, ItemOf, ModuleOf}
+use Rattle.shim_trees.specs.vlog_size.declared.scope.Scope.{Scope}
+use Rattle.shim_trees.specs.vlog_size.Names.{Readable}
+use Rattle.shim_design.specs.vlog_scope.Extents.{net_width}
+use Rattle.shim_design.specs.vlog_scope.Scope.{scope_with}
+use Rattle.net_order.specs.net_design.declared.values.Values.{Values}
+use Rattle.shim_design.specs.vlog_meaning.Names.{Full, State, numbers_at}
+use Rattle.shim_design.specs.vlog_meaning.Placed.{names_at}
+use Rattle.shim_design.specs.vlog_meaning.Instances.{IsChild, IsAt}
+use Rattle.shim_design.specs.vlog_meaning.Items.{HoldsAt, ConnsHold}
+use Rattle.shim_design.specs.vlog_meaning.Settled.{IsSettled}
 use Rattle.shim_trees.specs.Pieces.{Name, ident, net, not_net, both, range_of, port, wire, reg, assign, gated_content, conn, instance, numbered}
 use Rattle.shim_design.specs.Plain.{net_named, extent, nets_of, IsPlain}
 use Rattle.shim_design.specs.Nets.{IsNet, IsJoint}

@@ -7,12 +7,12 @@ use Rattle.std.specs.Fmt.{decimal}
 use Rattle.std.proofs.lemmas.Fmt.{decimal_by_steps}
 use Rattle.std.proofs.lemmas.Bool.Decides.{nat_tests}
 use Rattle.std.proofs.Math.Nat.{zero-mod}
-use Rattle.vidi_bits.proofs.Each.{each_append}
-use Rattle.vidi_bits.specs.Number.{IsWidth}
-use Rattle.vlog_tree.specs.declared.expr.NumberKind.TheVariants.{Decimal, Based}
-use Rattle.vlog_size.specs.Literal.{digit, digits_from, is_quote, after_quote, literal_number, literal_width, is_lawful}
-use Rattle.vlog_size.specs.Size.{or_zero, number, of_number}
-use Rattle.vlog_scope.specs.Extents.{net_width, bits_of, counted, MOST}
+use Rattle.net_order.proofs.vidi_bits.Each.{each_append}
+use Rattle.net_order.specs.vidi_bits.Number.{IsWidth}
+use Rattle.shim_trees.specs.vlog_tree.declared.expr.NumberKind.TheVariants.{Decimal, Based}
+use Rattle.shim_trees.specs.vlog_size.Literal.{digit, digits_from, is_quote, after_quote, literal_number, literal_width, is_lawful}
+use Rattle.shim_trees.specs.vlog_size.Size.{or_zero, number, of_number}
+use Rattle.shim_design.specs.vlog_scope.Extents.{net_width, bits_of, counted, MOST}
 use Rattle.shim_design.specs.Plain.{extent}
 use Rattle.shim_trees.specs.Pieces.{range_of}
 use Rattle.shim_trees.specs.Pieces as pieces

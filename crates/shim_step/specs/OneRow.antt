@@ -1,19 +1,19 @@
 -- What monitors or replayers round a design fill in a cycle is one row, and it is the one that stands on the ports of the top.
 use Rattle.std.specs.Prelude.{◌≡◌, ℕ, ◌≤◌, ◌<◌, ◌^◌, List, length, Option}
-use Rattle.vlog_tree.specs.Tree.{ModuleOf, FileOf}
-use Rattle.net_design.specs.declared.design.Design.{Design}
-use Rattle.net_design.specs.declared.values.Values.{Values}
-use Rattle.net_design.specs.Lawful.{IsLawful, IsState}
-use Rattle.net_design.specs.Pins.{FitPins, HasOneMap}
-use Rattle.net_design.specs.Settled as design
+use Rattle.shim_trees.specs.vlog_tree.Tree.{ModuleOf, FileOf}
+use Rattle.net_order.specs.net_design.declared.design.Design.{Design}
+use Rattle.net_order.specs.net_design.declared.values.Values.{Values}
+use Rattle.net_order.specs.net_design.Lawful.{IsLawful, IsState}
+use Rattle.net_order.specs.net_design.Pins.{FitPins, HasOneMap}
+use Rattle.net_order.specs.net_design.Settled as design
 use Rattle.net_order.specs.Order.{IsOrder}
-use Rattle.vlog_meaning.specs.Names.{Full, State}
-use Rattle.trace_model.specs.declared.row.Offers.{Offers}
-use Rattle.trace_model.specs.declared.row.Row.{Row}
-use Rattle.trace_model.specs.Row.{AreOffers}
-use Rattle.chan_map.specs.declared.pins.Map.{Map}
-use Rattle.run_model.specs.MapOf.{IsMapOf}
-use Rattle.chan_monitor.specs.Shell as monitors
+use Rattle.shim_design.specs.vlog_meaning.Names.{Full, State}
+use Rattle.chan_replayer.specs.trace_model.declared.row.Offers.{Offers}
+use Rattle.chan_replayer.specs.trace_model.declared.row.Row.{Row}
+use Rattle.chan_replayer.specs.trace_model.Row.{AreOffers}
+use Rattle.chan_replayer.specs.chan_map.declared.pins.Map.{Map}
+use Rattle.chan_replayer.specs.run_model.MapOf.{IsMapOf}
+use Rattle.chan_replayer.specs.chan_monitor.Shell as monitors
 use Rattle.chan_replayer.specs.declared.feed.Feed.{Feed}
 use Rattle.chan_replayer.specs.Feed.{IsFeedOver}
 use Rattle.chan_replayer.specs.Shell as replayers

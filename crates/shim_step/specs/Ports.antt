@@ -1,18 +1,18 @@
 -- What stands on the ports of the tops, in a map of full names.
 use Rattle.std.specs.Prelude.{◌≡◌, ℕ, ◌<◌, Bool, true, false, List, [], ◌∷◌, codes, length, Some, IfSome, slice_get, slice_index}
 use Rattle.std.specs.List.{AllByRecursion}
-use Rattle.vidi_bits.specs.Number.{truth, has}
-use Rattle.vlog_meaning.specs.Names.{Name, Full}
-use Rattle.trace_model.specs.declared.channel.Channel.{Channel}
-use Rattle.trace_model.specs.declared.channel.Dir.{Dir}
-use Rattle.trace_model.specs.declared.channel.Dir.TheVariants.{Inward, Outward}
-use Rattle.trace_model.specs.declared.row.Offers.{Offers}
-use Rattle.trace_model.specs.declared.row.Row.{Row}
-use Rattle.trace_model.specs.Row.{content_at, completes}
-use Rattle.chan_map.specs.declared.pins.Map.{Map}
-use Rattle.chan_map.specs.declared.pins.Reset.{Reset}
-use Rattle.chan_map.specs.declared.pins.Tie.{Tie}
-use Rattle.run_model.specs.Pins.{reset_input}
+use Rattle.net_order.specs.vidi_bits.Number.{truth, has}
+use Rattle.shim_design.specs.vlog_meaning.Names.{Name, Full}
+use Rattle.chan_replayer.specs.trace_model.declared.channel.Channel.{Channel}
+use Rattle.chan_replayer.specs.trace_model.declared.channel.Dir.{Dir}
+use Rattle.chan_replayer.specs.trace_model.declared.channel.Dir.TheVariants.{Inward, Outward}
+use Rattle.chan_replayer.specs.trace_model.declared.row.Offers.{Offers}
+use Rattle.chan_replayer.specs.trace_model.declared.row.Row.{Row}
+use Rattle.chan_replayer.specs.trace_model.Row.{content_at, completes}
+use Rattle.chan_replayer.specs.chan_map.declared.pins.Map.{Map}
+use Rattle.chan_replayer.specs.chan_map.declared.pins.Reset.{Reset}
+use Rattle.chan_replayer.specs.chan_map.declared.pins.Tie.{Tie}
+use Rattle.chan_replayer.specs.run_model.Pins.{reset_input}
 use Rattle.chan_replayer.specs.declared.feed.Feed.{Feed}
 use Rattle.chan_replayer.specs.Feed.{need_of}
 use Rattle.shim_trees.specs.Pieces.{numbered, numbered_twice}

@@ -1,22 +1,22 @@
 -- Lock step of `vidi_record_top`: in each cycle it does what monitors round the design do.
 use Rattle.std.specs.Prelude.{◌≡◌, ℕ, ◌<◌, ◌^◌, true, List, length, Option, None, Some}
-use Rattle.vlog_tree.specs.Tree.{ModuleOf, FileOf}
-use Rattle.net_design.specs.declared.design.Design.{Design}
-use Rattle.net_design.specs.declared.values.Values.{Values}
-use Rattle.net_design.specs.Settled.{initial}
-use Rattle.vlog_meaning.specs.Names.{Full, State}
-use Rattle.vlog_meaning.specs.Settled.{IsSettled}
-use Rattle.vlog_meaning.specs.Next.{IsNext, IsInitial}
-use Rattle.flat_parts.specs.Laws.{IsTop}
-use Rattle.flat_parts.specs.Meaning.{state_of, AreNarrow}
-use Rattle.trace_model.specs.declared.row.Offers.{Offers}
-use Rattle.trace_model.specs.declared.row.Row.{Row}
-use Rattle.trace_model.specs.Row.{AreOffers}
-use Rattle.chan_map.specs.declared.pins.Map.{Map}
-use Rattle.run_model.specs.Pins.{silent, ArePins}
-use Rattle.run_model.specs.Step as run
-use Rattle.run_model.specs.Step.{IsStep}
-use Rattle.chan_monitor.specs.Shell.{IsShown}
+use Rattle.shim_trees.specs.vlog_tree.Tree.{ModuleOf, FileOf}
+use Rattle.net_order.specs.net_design.declared.design.Design.{Design}
+use Rattle.net_order.specs.net_design.declared.values.Values.{Values}
+use Rattle.net_order.specs.net_design.Settled.{initial}
+use Rattle.shim_design.specs.vlog_meaning.Names.{Full, State}
+use Rattle.shim_design.specs.vlog_meaning.Settled.{IsSettled}
+use Rattle.shim_design.specs.vlog_meaning.Next.{IsNext, IsInitial}
+use Rattle.shim_design.specs.flat_parts.Laws.{IsTop}
+use Rattle.shim_design.specs.flat_parts.Meaning.{state_of, AreNarrow}
+use Rattle.chan_replayer.specs.trace_model.declared.row.Offers.{Offers}
+use Rattle.chan_replayer.specs.trace_model.declared.row.Row.{Row}
+use Rattle.chan_replayer.specs.trace_model.Row.{AreOffers}
+use Rattle.chan_replayer.specs.chan_map.declared.pins.Map.{Map}
+use Rattle.chan_replayer.specs.run_model.Pins.{silent, ArePins}
+use Rattle.chan_replayer.specs.run_model.Step as run
+use Rattle.chan_replayer.specs.run_model.Step.{IsStep}
+use Rattle.chan_replayer.specs.chan_monitor.Shell.{IsShown}
 use Rattle.shim_trees.specs.RecordTop.{record_name}
 use Rattle.shim_trees.specs.Wrapped.{wrapped}
 use Rattle.shim_design.specs.Part.{part, pins_below}

@@ -1,21 +1,21 @@
 -- A design, a map of it and the wrapped file, and the state of the shims in it.
 use Rattle.std.specs.Prelude.{◌≡◌, ℕ, ◌<◌, List, [], ◌∷◌, codes, length, Option, Some, slice_get}
-use Rattle.vidi_bits.specs.Number.{truth}
-use Rattle.vlog_tree.specs.Tree.{ModuleOf, FileOf}
-use Rattle.vlog_names.specs.Twice.{twice_names}
-use Rattle.net_design.specs.declared.design.Design.{Design}
-use Rattle.net_design.specs.Lawful.{IsLawful}
-use Rattle.vlog_meaning.specs.Names.{Name, Full, State}
-use Rattle.flat_parts.specs.Built.{IsBuilt}
-use Rattle.flat_parts.specs.Meaning.{Means}
-use Rattle.flat_parts.specs.Laws.{IsTop}
-use Rattle.vlog_elab.specs.Instances.{instances}
-use Rattle.trace_model.specs.declared.channel.Channel.{Channel}
-use Rattle.trace_model.specs.declared.row.Row.{Row}
-use Rattle.trace_model.specs.Row.{flies_after}
-use Rattle.chan_map.specs.declared.pins.Map.{Map}
-use Rattle.run_model.specs.MapOf.{IsMapOf}
-use Rattle.run_model.specs.Replay.{done}
+use Rattle.net_order.specs.vidi_bits.Number.{truth}
+use Rattle.shim_trees.specs.vlog_tree.Tree.{ModuleOf, FileOf}
+use Rattle.shim_design.specs.vlog_names.Twice.{twice_names}
+use Rattle.net_order.specs.net_design.declared.design.Design.{Design}
+use Rattle.net_order.specs.net_design.Lawful.{IsLawful}
+use Rattle.shim_design.specs.vlog_meaning.Names.{Name, Full, State}
+use Rattle.shim_design.specs.flat_parts.Built.{IsBuilt}
+use Rattle.shim_design.specs.flat_parts.Meaning.{Means}
+use Rattle.shim_design.specs.flat_parts.Laws.{IsTop}
+use Rattle.shim_design.specs.vlog_elab.Instances.{instances}
+use Rattle.chan_replayer.specs.trace_model.declared.channel.Channel.{Channel}
+use Rattle.chan_replayer.specs.trace_model.declared.row.Row.{Row}
+use Rattle.chan_replayer.specs.trace_model.Row.{flies_after}
+use Rattle.chan_replayer.specs.chan_map.declared.pins.Map.{Map}
+use Rattle.chan_replayer.specs.run_model.MapOf.{IsMapOf}
+use Rattle.chan_replayer.specs.run_model.Replay.{done}
 use Rattle.shim_trees.specs.Pieces.{numbered}
 use Rattle.shim_trees.specs.Wrapped.{wrapped}
 

@@ -6,14 +6,14 @@ use Rattle.std.specs.List.{AllByRecursion}
 use Rattle.std.specs.Option.{option_to_list}
 use Rattle.std.specs.Str.{bytes_eq}
 use Rattle.std.proofs.lemmas.Slice.Eq.{bytes_eq-Decides}
-use Rattle.vidi_bits.proofs.Each.{each_append}
+use Rattle.vlog_size.proofs.vidi_bits.Each.{each_append}
 use Rattle.vlog_size.specs.Table.{Named, value_of}
-use Rattle.vlog_tree.specs.declared.expr.BinaryOp.TheVariants.{Plus}
-use Rattle.vlog_tree.specs.Tree.{ExprOf, BinaryExpr, BeginStmt, PortOf}
-use Rattle.vlog_tree.specs.Shape.{level, IsGoodName, IsGoodExpr, IsGoodOption, AreGoodStmts, IsGoodPort, IsGoodConn, IsGoodItem, IsGoodModule}
-use Rattle.trace_model.specs.declared.channel.Channel.{Channel}
-use Rattle.trace_model.specs.declared.channel.Dir.{Dir}
-use Rattle.trace_model.specs.declared.channel.Dir.TheVariants.{Inward, Outward}
+use Rattle.vlog_size.specs.vlog_tree.declared.expr.BinaryOp.TheVariants.{Plus}
+use Rattle.vlog_size.specs.vlog_tree.Tree.{ExprOf, BinaryExpr, BeginStmt, PortOf}
+use Rattle.vlog_size.specs.vlog_tree.Shape.{level, IsGoodName, IsGoodExpr, IsGoodOption, AreGoodStmts, IsGoodPort, IsGoodConn, IsGoodItem, IsGoodModule}
+use Rattle.chan_map.specs.trace_model.declared.channel.Channel.{Channel}
+use Rattle.chan_map.specs.trace_model.declared.channel.Dir.{Dir}
+use Rattle.chan_map.specs.trace_model.declared.channel.Dir.TheVariants.{Inward, Outward}
 use Rattle.chan_map.specs.declared.pins.Map.{Map}
 use Rattle.chan_map.specs.declared.pins.Pin.{Pin}
 use Rattle.chan_map.specs.declared.pins.Plug.{Plug}

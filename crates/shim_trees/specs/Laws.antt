@@ -1,10 +1,10 @@
 -- What holds of wrapped trees.
 use Rattle.std.specs.Prelude.{◌≡◌, ℕ, ◌≤◌, true, is_some, length}
 use Rattle.std.specs.List.{AllZip, AllByRecursion}
-use Rattle.vlog_tree.specs.Tree.{FileOf}
-use Rattle.vlog_tree.specs.Shape.{IsGood}
-use Rattle.trace_model.specs.declared.channel.Channel.{Channel}
-use Rattle.trace_model.specs.Channel.{IsTable}
+use Rattle.vlog_size.specs.vlog_tree.Tree.{FileOf}
+use Rattle.vlog_size.specs.vlog_tree.Shape.{IsGood}
+use Rattle.chan_map.specs.trace_model.declared.channel.Channel.{Channel}
+use Rattle.chan_map.specs.trace_model.Channel.{IsTable}
 use Rattle.chan_map.specs.declared.pins.Map.{Map}
 use Rattle.chan_map.specs.declared.pins.Plug.{Plug}
 use Rattle.chan_map.specs.declared.pins.Tie.{Tie}

@@ -1,9 +1,9 @@
 -- `vidi_record_top`: the design behind the monitors of its channels (this project's profile).
 use Rattle.std.specs.Prelude.{ℕ, List, [], ◌∷◌, ◌++◌, codes}
-use Rattle.vlog_tree.specs.Tree.{PortOf, ConnOf, ItemOf, ModuleOf}
-use Rattle.trace_model.specs.declared.channel.Channel.{Channel}
-use Rattle.trace_model.specs.declared.channel.Dir.{Dir}
-use Rattle.trace_model.specs.declared.channel.Dir.TheVariants.{Inward, Outward}
+use Rattle.vlog_size.specs.vlog_tree.Tree.{PortOf, ConnOf, ItemOf, ModuleOf}
+use Rattle.chan_map.specs.trace_model.declared.channel.Channel.{Channel}
+use Rattle.chan_map.specs.trace_model.declared.channel.Dir.{Dir}
+use Rattle.chan_map.specs.trace_model.declared.channel.Dir.TheVariants.{Inward, Outward}
 use Rattle.chan_map.specs.declared.pins.Map.{Map}
 use Rattle.shim_trees.specs.Pieces.{numbered, numbered_twice, each, each_some, port, input, output, source_side, sink_side, wire, conn}
 use Rattle.shim_trees.specs.Pieces.{unjoined, instance}

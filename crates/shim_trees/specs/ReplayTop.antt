@@ -1,9 +1,9 @@
 -- `vidi_replay_top`: the design between the replayers of its channels (this project's profile).
 use Rattle.std.specs.Prelude.{ℕ, List, [], ◌∷◌, ◌++◌, codes, length}
-use Rattle.vlog_tree.specs.Tree.{PortOf, ConnOf, ItemOf, ModuleOf}
-use Rattle.trace_model.specs.declared.channel.Channel.{Channel}
-use Rattle.trace_model.specs.declared.channel.Dir.{Dir}
-use Rattle.trace_model.specs.declared.channel.Dir.TheVariants.{Inward, Outward}
+use Rattle.vlog_size.specs.vlog_tree.Tree.{PortOf, ConnOf, ItemOf, ModuleOf}
+use Rattle.chan_map.specs.trace_model.declared.channel.Channel.{Channel}
+use Rattle.chan_map.specs.trace_model.declared.channel.Dir.{Dir}
+use Rattle.chan_map.specs.trace_model.declared.channel.Dir.TheVariants.{Inward, Outward}
 use Rattle.chan_map.specs.declared.pins.Map.{Map}
 use Rattle.shim_trees.specs.Pieces.{numbered, numbered_twice, each, each_some, upto, input, output, conn, instance}
 use Rattle.shim_trees.specs.Links.{replay_links, tied_ports, dut, content_wires}

@@ -7,22 +7,22 @@ use Rattle.std.proofs.lemmas.Bool.{cases_Bool, cond-true, cond-false}
 use Rattle.std.proofs.lemmas.Grind.{flat_map-append}
 use Rattle.std.proofs.lemmas.List.{append-nil}
 use Rattle.std.proofs.lemmas.Option.{slice_get_read}
-use Rattle.vidi_bits.specs.Number.{has}
-use Rattle.trace_model.specs.declared.channel.Channel.{Channel}
-use Rattle.trace_model.specs.declared.row.Offers.{Offers}
-use Rattle.trace_model.specs.declared.row.Row.{Row}
-use Rattle.trace_model.specs.Packet.{Fit, widths_of}
-use Rattle.trace_model.specs.Row.{all_widths, content_at, AreOffers}
-use Rattle.trace_model.proofs.ContentsLemmas.{fit-length}
-use Rattle.trace_model.proofs.CountingLemmas.{take-suc_get}
-use Rattle.run_model.specs.Building.{joined}
-use Rattle.run_model.specs.Offers.{no_content, AreZeroWhileDown}
-use Rattle.run_model.proofs.Contents.{content-fits, content-joined, fit-joined, fit-zeros}
-use Rattle.net_design.specs.declared.design.Design.{Design}
-use Rattle.net_design.specs.declared.values.Values.{Values}
-use Rattle.chan_map.specs.declared.pins.Map.{Map}
-use Rattle.chan_monitor.specs.Shell.{HasPlaces, IsRunning, IsShown}
-use Rattle.chan_replayer.specs.Fed.{fed_content}
+use Rattle.shim_runs.specs.vidi_bits.Number.{has}
+use Rattle.shim_runs.specs.trace_model.declared.channel.Channel.{Channel}
+use Rattle.shim_runs.specs.trace_model.declared.row.Offers.{Offers}
+use Rattle.shim_runs.specs.trace_model.declared.row.Row.{Row}
+use Rattle.shim_runs.specs.trace_model.Packet.{Fit, widths_of}
+use Rattle.shim_runs.specs.trace_model.Row.{all_widths, content_at, AreOffers}
+use Rattle.shim_runs.proofs.trace_model.ContentsLemmas.{fit-length}
+use Rattle.shim_runs.proofs.trace_model.CountingLemmas.{take-suc_get}
+use Rattle.shim_runs.specs.run_model.Building.{joined}
+use Rattle.shim_runs.specs.run_model.Offers.{no_content, AreZeroWhileDown}
+use Rattle.shim_runs.proofs.run_model.Contents.{content-fits, content-joined, fit-joined, fit-zeros}
+use Rattle.shim_runs.specs.net_design.declared.design.Design.{Design}
+use Rattle.shim_runs.specs.net_design.declared.values.Values.{Values}
+use Rattle.shim_runs.specs.chan_map.declared.pins.Map.{Map}
+use Rattle.shim_runs.specs.chan_monitor.Shell.{HasPlaces, IsRunning, IsShown}
+use Rattle.shim_runs.specs.chan_replayer.Fed.{fed_content}
 
 -- one channel more
 pub widths-more : (channels : List Channel) (n : ℕ) (x : Channel) → n < length channels → x ≡ get_or channels n x

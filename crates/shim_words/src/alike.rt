@@ -2,11 +2,11 @@
 
 ghost use Rattle.std.specs.Prelude.{◌≤◌, IfOk};
 
-use report_text::{put, put_number};
+use shim_runs::report_text::{put, put_number};
+use shim_runs::trace_model::Row;
+use shim_runs::vidi_io::Text;
 use shim_runs::{Ended, cycles_of};
 use std::alloc::Global;
-use trace_model::Row;
-use vidi_io::Text;
 
 /// How long shells are compared, and which seed begins what they are given.
 #[derive(Clone, Copy, Drop)]

@@ -4,9 +4,9 @@ use crate::fed_nets::fed_nets;
 use crate::fed_rows::fed_rows;
 use crate::nets::nets;
 use crate::rows::rows;
+use shim_runs::vidi_io::{Shelf, Text};
 use shim_runs::{Ended, record, replay};
 use std::alloc::Global;
-use vidi_io::{Shelf, Text};
 
 /// The text that these words ask for.
 pub(crate) fn answer<S: Shelf>(

@@ -1,17 +1,17 @@
 //! Offers, gates and feeds that look random, and are the same each time.
 
 ghost use Rattle.std.specs.Prelude.{◌≡◌, ◌≤◌, ◌<◌, ◌*◌, ◌^◌, IfOk, length};
-ghost use Rattle.trace_model.specs.Packet.{Fit};
-ghost use Rattle.trace_model.specs.Row.{all_widths, replaced, AreOffers};
-ghost use Rattle.run_model.specs.Building.{joined};
-ghost use Rattle.run_model.specs.Offers.{AreZeroWhileDown};
-ghost use Rattle.chan_replayer.specs.Fed.{fed_content};
-ghost use Rattle.chan_replayer.specs.Feed.{IsFeedOver};
+ghost use Rattle.shim_runs.specs.trace_model.Packet.{Fit};
+ghost use Rattle.shim_runs.specs.trace_model.Row.{all_widths, replaced, AreOffers};
+ghost use Rattle.shim_runs.specs.run_model.Building.{joined};
+ghost use Rattle.shim_runs.specs.run_model.Offers.{AreZeroWhileDown};
+ghost use Rattle.shim_runs.specs.chan_replayer.Fed.{fed_content};
+ghost use Rattle.shim_runs.specs.chan_replayer.Feed.{IsFeedOver};
 
-use chan_replayer::{Feed, clear_contents};
+use shim_runs::chan_replayer::{Feed, clear_contents};
+use shim_runs::trace_model::{Channel, Channels, Offers, names};
+use shim_runs::vidi_bits::{Bytes, Items, Memory, trim};
 use std::alloc::Global;
-use trace_model::{Channel, Channels, Offers, names};
-use vidi_bits::{Bytes, Items, Memory, trim};
 
 /// A sequence of numbers, another for each seed (splitmix64).
 #[derive(Drop)]

@@ -1,14 +1,14 @@
 //! Feeds of replayers as lines of a file: `more N needs N .. contents N ..`.
 
 ghost use Rattle.std.specs.Prelude.{◌≤◌, IfOk, length};
-ghost use Rattle.chan_replayer.specs.Feed.{IsFeedOver};
+ghost use Rattle.shim_runs.specs.chan_replayer.Feed.{IsFeedOver};
 
-use chan_replayer::{Feed, Needs};
 use shim_runs::Ended;
+use shim_runs::chan_replayer::{Feed, Needs};
+use shim_runs::trace_model::{Channels, Row, is_over};
+use shim_runs::vidi_bits::{Items, Name, Numbers};
+use shim_runs::vidi_lines::{Line, number};
 use std::alloc::Global;
-use trace_model::{Channels, Row, is_over};
-use vidi_bits::{Items, Name, Numbers};
-use vidi_lines::{Line, number};
 
 /// The numbers behind this word, up to the next word that is none.
 fn numbers_behind(alloc: Global, words: &[Name], mark: &[u8]) -> Result<Numbers, Ended> {

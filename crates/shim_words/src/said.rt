@@ -1,11 +1,11 @@
 //! How a call ends: what is said, and the exit number.
 
 use crate::answers::answer;
-use report_text::{put, put_number};
 use shim_runs::Ended;
+use shim_runs::report_text::{put, put_number};
+use shim_runs::vidi_bits::Memory;
+use shim_runs::vidi_io::{Failed, Shelf, Sink, Words};
 use std::alloc::Global;
-use vidi_bits::Memory;
-use vidi_io::{Failed, Shelf, Sink, Words};
 
 /// What is said where no memory was found.
 const NO_MEMORY: &[u8] = b"vidi: out of memory\n";

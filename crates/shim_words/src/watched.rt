@@ -1,13 +1,13 @@
 //! Wrapped designs whose nets are read.
 
-ghost use Rattle.trace_model.specs.declared.row.Row.{Row as OneRow};
+ghost use Rattle.shim_runs.specs.trace_model.declared.row.Row.{Row as OneRow};
 
-use chan_monitor::Shell;
-use net_sim::Sim;
-use shim_cosim::{RecordShell, Wrapped};
-use trace_model::{Offers, Row};
-use vidi_bits::Items;
-use vidi_io::Text;
+use shim_runs::chan_monitor::Shell;
+use shim_runs::net_sim::Sim;
+use shim_runs::shim_cosim::{RecordShell, Wrapped};
+use shim_runs::trace_model::{Offers, Row};
+use shim_runs::vidi_bits::Items;
+use shim_runs::vidi_io::Text;
 
 /// A wrapped design whose nets are read in each cycle.
 #[derive(Drop)]

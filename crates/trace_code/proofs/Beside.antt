@@ -4,13 +4,13 @@ use Rattle.std.specs.List.{flat_map}
 use Rattle.std.proofs.lemmas.Bool.{cases_lt}
 use Rattle.std.proofs.lemmas.List.{length-append}
 use Rattle.std.proofs.lemmas.Option.{same_Some}
-use Rattle.trace_model.specs.declared.channel.Channel.{Channel}
-use Rattle.trace_model.specs.declared.event.Kind.{Kind}
-use Rattle.trace_model.specs.declared.packet.Packet.{Packet}
-use Rattle.trace_model.specs.declared.trace.Trace.{Trace}
-use Rattle.trace_model.specs.Counting.{IsNth}
-use Rattle.trace_model.specs.Packet.{does}
-use Rattle.trace_model.proofs.CountingLemmas.{nth-within}
+use Rattle.vec_clock.specs.trace_model.declared.channel.Channel.{Channel}
+use Rattle.vec_clock.specs.trace_model.declared.event.Kind.{Kind}
+use Rattle.vec_clock.specs.trace_model.declared.packet.Packet.{Packet}
+use Rattle.vec_clock.specs.trace_model.declared.trace.Trace.{Trace}
+use Rattle.vec_clock.specs.trace_model.Counting.{IsNth}
+use Rattle.vec_clock.specs.trace_model.Packet.{does}
+use Rattle.vec_clock.proofs.trace_model.CountingLemmas.{nth-within}
 use Rattle.trace_code.specs.Encoding.{packet_bytes, end_mark}
 use Rattle.trace_code.specs.Standing.{StandsAt, bytes_from}
 use Rattle.trace_code.proofs.Walking.{place-is}

@@ -7,18 +7,18 @@ use Rattle.std.proofs.lemmas.List.{append-nil, length-append, length-drop, lengt
 use Rattle.std.proofs.lemmas.List.Sums.{sum_by-cons, sum_by-take-le}
 use Rattle.std.proofs.lemmas.Option.{get_or_from_slice_get, same_Some, slice_get_within}
 use Rattle.std.proofs.lemmas.List.Elements.{All-from_get_or, All-get_or}
-use Rattle.trace_model.specs.declared.channel.Channel.{Channel}
-use Rattle.trace_model.specs.declared.event.Kind.{Kind}
-use Rattle.trace_model.specs.declared.event.Kind.TheVariants.{Start}
-use Rattle.trace_model.specs.declared.packet.Packet.{Packet}
-use Rattle.trace_model.specs.declared.trace.Trace.{Trace}
-use Rattle.trace_model.specs.Channel.{byte_count, content_bytes, IsChannel}
-use Rattle.vidi_bits.specs.Number.{has}
-use Rattle.trace_model.specs.Counting.{IsNth}
-use Rattle.trace_model.specs.Length.{mask_len, contents_len}
-use Rattle.trace_model.specs.Packet.{content_of, count, does, widths_of, widths_under, Fit, IsPacket}
-use Rattle.trace_model.proofs.CountingLemmas.{nth-unique}
-use Rattle.trace_model.proofs.ContentsLemmas.{content-fits, fit-at, fit-length, widths-front, widths-suc}
+use Rattle.vec_clock.specs.trace_model.declared.channel.Channel.{Channel}
+use Rattle.vec_clock.specs.trace_model.declared.event.Kind.{Kind}
+use Rattle.vec_clock.specs.trace_model.declared.event.Kind.TheVariants.{Start}
+use Rattle.vec_clock.specs.trace_model.declared.packet.Packet.{Packet}
+use Rattle.vec_clock.specs.trace_model.declared.trace.Trace.{Trace}
+use Rattle.vec_clock.specs.trace_model.Channel.{byte_count, content_bytes, IsChannel}
+use Rattle.vec_clock.specs.vidi_bits.Number.{has}
+use Rattle.vec_clock.specs.trace_model.Counting.{IsNth}
+use Rattle.vec_clock.specs.trace_model.Length.{mask_len, contents_len}
+use Rattle.vec_clock.specs.trace_model.Packet.{content_of, count, does, widths_of, widths_under, Fit, IsPacket}
+use Rattle.vec_clock.proofs.trace_model.CountingLemmas.{nth-unique}
+use Rattle.vec_clock.proofs.trace_model.ContentsLemmas.{content-fits, fit-at, fit-length, widths-front, widths-suc}
 use Rattle.trace_code.specs.Encoding.{number_bytes}
 use Rattle.trace_code.specs.PacketReading.{high_value}
 use Rattle.trace_code.proofs.NumberLaws.{number_again}

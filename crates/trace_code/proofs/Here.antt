@@ -7,12 +7,12 @@ use Rattle.std.proofs.lemmas.Bool.{ltb-false}
 use Rattle.std.proofs.lemmas.List.{length-drop, drop_all}
 use Rattle.std.proofs.lemmas.List.Elements.{All-get_or}
 use Rattle.std.proofs.lemmas.Option.{cond_some, same_Some, slice_get_cases, slice_get-get_or}
-use Rattle.trace_model.specs.declared.channel.Channel.{Channel}
-use Rattle.trace_model.specs.declared.packet.Packet.{Packet}
-use Rattle.trace_model.specs.declared.trace.Trace.{Trace}
-use Rattle.trace_model.specs.Length.{mask_len, contents_len}
-use Rattle.trace_model.specs.Packet.{widths_under, IsPacket}
-use Rattle.trace_model.proofs.ContentsLemmas.{fit-length}
+use Rattle.vec_clock.specs.trace_model.declared.channel.Channel.{Channel}
+use Rattle.vec_clock.specs.trace_model.declared.packet.Packet.{Packet}
+use Rattle.vec_clock.specs.trace_model.declared.trace.Trace.{Trace}
+use Rattle.vec_clock.specs.trace_model.Length.{mask_len, contents_len}
+use Rattle.vec_clock.specs.trace_model.Packet.{widths_under, IsPacket}
+use Rattle.vec_clock.proofs.trace_model.ContentsLemmas.{fit-length}
 use Rattle.trace_code.specs.Encoding.{packet_bytes, mask_bytes, number_bytes, end_mark}
 use Rattle.trace_code.specs.PacketReading.{low_value, sized_at}
 use Rattle.trace_code.proofs.NumberLaws.{mask_again, refused}

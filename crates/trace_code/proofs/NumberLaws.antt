@@ -12,9 +12,9 @@ use Rattle.std.proofs.lemmas.Bool.{cases_lt, ltb-true, ltb-false, lt-ltb, le-ltb
 use Rattle.std.proofs.lemmas.Option.{cond_some}
 use Rattle.std.proofs.lemmas.List.{take_at, drop_at, take-append-drop, length-append, length-take, drop_more, get_or-drop, get_or-take}
 use Rattle.std.proofs.lemmas.List.{get_or_past, get_or_default, take_all, drop_all, append-nil}
-use Rattle.trace_model.specs.Channel.{byte_count}
-use Rattle.trace_model.specs.Length.{mask_len}
-use Rattle.trace_model.proofs.CountingLemmas.{take-more_read}
+use Rattle.vec_clock.specs.trace_model.Channel.{byte_count}
+use Rattle.vec_clock.specs.trace_model.Length.{mask_len}
+use Rattle.vec_clock.proofs.trace_model.CountingLemmas.{take-more_read}
 use Rattle.trace_code.specs.Encoding.{mask_bytes}
 use Rattle.trace_code.specs.Writing.{overwritten}
 use Rattle.trace_code.specs.PacketReading.{low_value, high_value, sized_at, mask_at, number_at}

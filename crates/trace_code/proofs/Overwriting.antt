@@ -5,8 +5,8 @@ use Rattle.std.specs.Int.{byte_at, bytes_high_first, bytes_low_first}
 use Rattle.std.proofs.Math.Seq.{drop-drop}
 use Rattle.std.proofs.lemmas.List.{length-append, length-take-le, take_at, take_all, drop_at, take-append-drop, drop_more}
 use Rattle.std.proofs.lemmas.List.Sums.{sum_by-cons}
-use Rattle.trace_model.specs.Channel.{byte_count}
-use Rattle.trace_model.specs.Length.{mask_len}
+use Rattle.vec_clock.specs.trace_model.Channel.{byte_count}
+use Rattle.vec_clock.specs.trace_model.Length.{mask_len}
 use Rattle.trace_code.specs.Encoding.{mask_bytes, number_bytes}
 use Rattle.trace_code.specs.Writing.{overwritten}
 use Rattle.trace_code.proofs.NumberLaws.{length-high}

@@ -5,13 +5,13 @@ use Rattle.std.specs.List.{flat_map, AllByRecursion}
 use Rattle.std.proofs.lemmas.List.{append-nil, get_or_at, length-append, flat_map_more}
 use Rattle.std.proofs.lemmas.List.Elements.{recursion_from_All}
 use Rattle.std.proofs.lemmas.Option.{same_Some}
-use Rattle.trace_model.specs.declared.channel.Channel.{Channel}
-use Rattle.trace_model.specs.declared.packet.Packet.{Packet}
-use Rattle.trace_model.specs.declared.trace.Trace.{Trace}
-use Rattle.trace_model.specs.Channel.{IsTable}
-use Rattle.trace_model.specs.Packet.{IsPacket}
-use Rattle.trace_model.specs.Trace.{Alternates}
-use Rattle.trace_model.proofs.FlightLemmas.{alternates-front}
+use Rattle.vec_clock.specs.trace_model.declared.channel.Channel.{Channel}
+use Rattle.vec_clock.specs.trace_model.declared.packet.Packet.{Packet}
+use Rattle.vec_clock.specs.trace_model.declared.trace.Trace.{Trace}
+use Rattle.vec_clock.specs.trace_model.Channel.{IsTable}
+use Rattle.vec_clock.specs.trace_model.Packet.{IsPacket}
+use Rattle.vec_clock.specs.trace_model.Trace.{Alternates}
+use Rattle.vec_clock.proofs.trace_model.FlightLemmas.{alternates-front}
 use Rattle.trace_code.specs.declared.error.CodeError.TheVariants.{BadTrace, Memory}
 use Rattle.trace_code.specs.Encoding.{header_bytes, packet_bytes, end_mark, encode, Encodes}
 use Rattle.trace_code.specs.Reading.{header_at, AreChannels}

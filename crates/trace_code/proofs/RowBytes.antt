@@ -9,18 +9,18 @@ use Rattle.std.proofs.lemmas.List.{append-nil, length-append, length-take-le, ta
 use Rattle.std.proofs.lemmas.List.Concat.{flat_map-append}
 use Rattle.std.proofs.lemmas.List.Sums.{sum_by-cons, sum_by-append}
 use Rattle.std.proofs.lemmas.Nat.Bits.{bit_at_ones, bit_at_above}
-use Rattle.vidi_bits.specs.Number.{has}
-use Rattle.trace_model.specs.declared.channel.Channel.{Channel}
-use Rattle.trace_model.specs.Channel.{byte_count, content_bytes}
-use Rattle.trace_model.specs.declared.packet.Packet.{Packet}
-use Rattle.trace_model.specs.declared.row.Row.{Row}
-use Rattle.trace_model.specs.Length.{mask_len, head_len, contents_len, packet_len}
-use Rattle.trace_model.specs.Packet.{Fit, widths_under}
-use Rattle.trace_model.specs.Recording.{has_event, packet_of, contents_under}
-use Rattle.trace_model.specs.Row.{all_widths, content_at}
-use Rattle.trace_model.proofs.CountingLemmas.{take-more_read}
-use Rattle.trace_model.proofs.ContentsLemmas.{fit-length}
-use Rattle.trace_model.proofs.RowLaws.{content-behind, taken_of}
+use Rattle.vec_clock.specs.vidi_bits.Number.{has}
+use Rattle.vec_clock.specs.trace_model.declared.channel.Channel.{Channel}
+use Rattle.vec_clock.specs.trace_model.Channel.{byte_count, content_bytes}
+use Rattle.vec_clock.specs.trace_model.declared.packet.Packet.{Packet}
+use Rattle.vec_clock.specs.trace_model.declared.row.Row.{Row}
+use Rattle.vec_clock.specs.trace_model.Length.{mask_len, head_len, contents_len, packet_len}
+use Rattle.vec_clock.specs.trace_model.Packet.{Fit, widths_under}
+use Rattle.vec_clock.specs.trace_model.Recording.{has_event, packet_of, contents_under}
+use Rattle.vec_clock.specs.trace_model.Row.{all_widths, content_at}
+use Rattle.vec_clock.proofs.trace_model.CountingLemmas.{take-more_read}
+use Rattle.vec_clock.proofs.trace_model.ContentsLemmas.{fit-length}
+use Rattle.vec_clock.proofs.trace_model.RowLaws.{content-behind, taken_of}
 use Rattle.trace_code.specs.Encoding.{mask_bytes, number_bytes, packet_bytes, row_bytes}
 use Rattle.trace_code.specs.Writing.{overwritten, picked, events_bytes}
 use Rattle.trace_code.proofs.NumberLaws.{length-low}

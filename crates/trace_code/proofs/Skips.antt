@@ -5,11 +5,11 @@ use Rattle.std.specs.List.{flat_map}
 use Rattle.std.proofs.lemmas.List.{length-append, take_at}
 use Rattle.std.proofs.lemmas.List.Elements.{All-push}
 use Rattle.std.proofs.lemmas.Option.{same_Some, none-some}
-use Rattle.trace_model.specs.declared.channel.Channel.{Channel}
-use Rattle.trace_model.specs.declared.packet.Packet.{Packet}
-use Rattle.trace_model.specs.Channel.{IsTable}
-use Rattle.trace_model.specs.Packet.{IsPacket}
-use Rattle.trace_model.specs.Trace.{Alternates, InFlight}
+use Rattle.vec_clock.specs.trace_model.declared.channel.Channel.{Channel}
+use Rattle.vec_clock.specs.trace_model.declared.packet.Packet.{Packet}
+use Rattle.vec_clock.specs.trace_model.Channel.{IsTable}
+use Rattle.vec_clock.specs.trace_model.Packet.{IsPacket}
+use Rattle.vec_clock.specs.trace_model.Trace.{Alternates, InFlight}
 use Rattle.trace_code.specs.declared.salvaging.Whole.{Whole}
 use Rattle.trace_code.specs.Encoding.{header_bytes, packet_bytes, end_mark}
 use Rattle.trace_code.specs.PacketReading.{numbers_at, packet_at, AreAll}

@@ -10,10 +10,10 @@ use Rattle.std.proofs.lemmas.List.{take_at, drop_at, take-append-drop, length-ap
 use Rattle.std.proofs.lemmas.List.Elements.{All-from_recursion, recursion_from_All}
 use Rattle.std.proofs.lemmas.List.Sums.{AllPass-from_list_all, list_all-from_AllPass}
 use Rattle.std.proofs.lemmas.Slice.Eq.{bytes_eq-Decides}
-use Rattle.trace_model.specs.declared.channel.Channel.{Channel}
-use Rattle.trace_model.specs.declared.channel.Dir.{Dir}
-use Rattle.trace_model.specs.declared.channel.Dir.TheVariants.{Inward, Outward}
-use Rattle.trace_model.specs.Channel.{is_letter_or_digit, IsName, IsChannel}
+use Rattle.vec_clock.specs.trace_model.declared.channel.Channel.{Channel}
+use Rattle.vec_clock.specs.trace_model.declared.channel.Dir.{Dir}
+use Rattle.vec_clock.specs.trace_model.declared.channel.Dir.TheVariants.{Inward, Outward}
+use Rattle.vec_clock.specs.trace_model.Channel.{is_letter_or_digit, IsName, IsChannel}
 use Rattle.trace_code.specs.declared.error.CodeError.{CodeError}
 use Rattle.trace_code.specs.declared.error.CodeError.TheVariants.{BadTrace, Memory}
 use Rattle.trace_code.specs.Encoding.{magic, direction_byte, channel_bytes, header_bytes}

@@ -2,8 +2,8 @@
 use Rattle.std.proofs.Common.{◌≡◌, ℕ, zero, suc, ◌+◌, ◌<◌, ◌≤◌, List, [], ◌∷◌, Some, length, get_or, slice_get, sum_by, refl, ap, sym}
 use Rattle.std.proofs.Common.{◌≢◌, ◌∙◌, arith, add-zero, zero-add, cond, eqb}
 use Rattle.std.specs.Int.{bit_at}
-use Rattle.vidi_bits.specs.Number.{has}
-use Rattle.trace_model.specs.Mask.{IsLowest}
+use Rattle.vec_clock.specs.vidi_bits.Number.{has}
+use Rattle.vec_clock.specs.trace_model.Mask.{IsLowest}
 use Rattle.trace_code.specs.Heads.{sizes_under}
 use Rattle.std.specs.List.{enumerate_from}
 use Rattle.std.proofs.lemmas.List.Sums.{sum_by-cons}

@@ -9,18 +9,18 @@ use Rattle.std.proofs.lemmas.Bool.{cases_lt, eq-eqb, eqb-true, false≢true}
 use Rattle.std.proofs.lemmas.List.{length-append, length-drop, length-map, take_all}
 use Rattle.std.proofs.lemmas.Option.{same_Some}
 use Rattle.std.proofs.lemmas.List.Sums.{sum_by-cons}
-use Rattle.trace_model.specs.declared.channel.Channel.{Channel}
-use Rattle.trace_model.specs.declared.event.Kind.{Kind}
-use Rattle.trace_model.specs.declared.event.Kind.TheVariants.{Start, End}
-use Rattle.trace_model.specs.declared.packet.Packet.{Packet}
-use Rattle.trace_model.specs.declared.trace.Trace.{Trace}
-use Rattle.trace_model.specs.Channel.{content_bytes}
-use Rattle.trace_model.specs.Clock.{clock as clock_of}
-use Rattle.vidi_bits.specs.Number.{has}
-use Rattle.trace_model.specs.Counting.{IsNth}
-use Rattle.trace_model.specs.Length.{mask_len, contents_len}
-use Rattle.trace_model.specs.Packet.{widths_under, does, count}
-use Rattle.trace_model.proofs.CountingLemmas.{count-suc_no, nth-unique, nth-below, nth-count}
+use Rattle.vec_clock.specs.trace_model.declared.channel.Channel.{Channel}
+use Rattle.vec_clock.specs.trace_model.declared.event.Kind.{Kind}
+use Rattle.vec_clock.specs.trace_model.declared.event.Kind.TheVariants.{Start, End}
+use Rattle.vec_clock.specs.trace_model.declared.packet.Packet.{Packet}
+use Rattle.vec_clock.specs.trace_model.declared.trace.Trace.{Trace}
+use Rattle.vec_clock.specs.trace_model.Channel.{content_bytes}
+use Rattle.vec_clock.specs.trace_model.Clock.{clock as clock_of}
+use Rattle.vec_clock.specs.vidi_bits.Number.{has}
+use Rattle.vec_clock.specs.trace_model.Counting.{IsNth}
+use Rattle.vec_clock.specs.trace_model.Length.{mask_len, contents_len}
+use Rattle.vec_clock.specs.trace_model.Packet.{widths_under, does, count}
+use Rattle.vec_clock.proofs.trace_model.CountingLemmas.{count-suc_no, nth-unique, nth-below, nth-count}
 use Rattle.trace_code.specs.Encoding.{number_bytes, HasEncoding}
 use Rattle.trace_code.specs.PacketReading.{low_value}
 use Rattle.trace_code.proofs.RowBytes.{contents_len-widths, contents-least}

@@ -6,7 +6,7 @@ use Rattle.std.specs.Int.Bits.{bit_and}
 use Rattle.std.proofs.Math.Nat.{add-mul-mod_self_left, mod-eq_of_lt, mul-div_cancel_left, mul_assoc, pow-le-pow_right}
 use Rattle.std.proofs.lemmas.Nat.{and_mask}
 use Rattle.std.proofs.lemmas.List.{drop-take, length-take-le, take-take, take_all}
-use Rattle.trace_model.specs.Length.{mask_len}
+use Rattle.vec_clock.specs.trace_model.Length.{mask_len}
 use Rattle.trace_code.specs.PacketReading.{low_value}
 use Rattle.trace_code.specs.Heads.{AreMasks, IsWord}
 use Rattle.trace_code.proofs.NumberLaws.{IsBytes, IsBytes-drop, IsBytes-rest, IsBytes-take, eights, some_unit}

@@ -6,17 +6,17 @@
 use Rattle.std.specs.Prelude.{◌≡◌, ℕ, ◌<◌, ◌^◌, List, [], ◌∷◌, ◌++◌, length, codes, if◌then◌else◌}
 use Rattle.std.specs.List.{flat_map, zip}
 use Rattle.std.specs.Int.{bytes_high_first, bytes_low_first}
-use Rattle.trace_model.specs.declared.channel.Channel.{Channel}
-use Rattle.trace_model.specs.declared.channel.Dir.{Dir}
-use Rattle.trace_model.specs.declared.channel.Dir.TheVariants.{Inward, Outward}
-use Rattle.trace_model.specs.declared.packet.Packet.{Packet}
-use Rattle.trace_model.specs.declared.row.Row.{Row}
-use Rattle.trace_model.specs.declared.trace.Trace.{Trace}
-use Rattle.trace_model.specs.Channel.{byte_count, IsTable}
-use Rattle.trace_model.specs.Length.{mask_len}
-use Rattle.trace_model.specs.Packet.{widths_under}
-use Rattle.trace_model.specs.Recording.{has_event, packet_of}
-use Rattle.trace_model.specs.Trace.{IsWellFormed}
+use Rattle.vec_clock.specs.trace_model.declared.channel.Channel.{Channel}
+use Rattle.vec_clock.specs.trace_model.declared.channel.Dir.{Dir}
+use Rattle.vec_clock.specs.trace_model.declared.channel.Dir.TheVariants.{Inward, Outward}
+use Rattle.vec_clock.specs.trace_model.declared.packet.Packet.{Packet}
+use Rattle.vec_clock.specs.trace_model.declared.row.Row.{Row}
+use Rattle.vec_clock.specs.trace_model.declared.trace.Trace.{Trace}
+use Rattle.vec_clock.specs.trace_model.Channel.{byte_count, IsTable}
+use Rattle.vec_clock.specs.trace_model.Length.{mask_len}
+use Rattle.vec_clock.specs.trace_model.Packet.{widths_under}
+use Rattle.vec_clock.specs.trace_model.Recording.{has_event, packet_of}
+use Rattle.vec_clock.specs.trace_model.Trace.{IsWellFormed}
 
 abbrev pub magic : List ℕ
 magic = codes "VIDITRC1"

@@ -1,10 +1,10 @@
 -- The head of a packet.
 use Rattle.std.specs.Prelude.{◌≡◌, ℕ, ◌+◌, ◌-◌, ◌*◌, ◌^◌, ◌<◌, List, take, drop, sum_by, if◌then◌else◌}
 use Rattle.std.specs.List.{enumerate_from}
-use Rattle.vidi_bits.specs.Number.{has}
-use Rattle.trace_model.specs.declared.event.Kind.{Kind}
-use Rattle.trace_model.specs.declared.event.Kind.TheVariants.{Start, End}
-use Rattle.trace_model.specs.Length.{mask_len}
+use Rattle.vec_clock.specs.vidi_bits.Number.{has}
+use Rattle.vec_clock.specs.trace_model.declared.event.Kind.{Kind}
+use Rattle.vec_clock.specs.trace_model.declared.event.Kind.TheVariants.{Start, End}
+use Rattle.vec_clock.specs.trace_model.Length.{mask_len}
 use Rattle.trace_code.specs.PacketReading.{low_value}
 
 -- of channels with these content bytes, the content bytes of those that a mask names

@@ -9,3 +9,5 @@ pub mod Tallied
 pub mod Heads
 pub mod Standing
 pub mod Stands
+pub use Rattle.vec_clock.specs.trace_model as trace_model
+pub use Rattle.vec_clock.specs.vidi_bits as vidi_bits

@@ -2,12 +2,12 @@
 use Rattle.std.specs.Prelude.{◌≡◌, ◌≢◌, ℕ, ◌+◌, ◌*◌, ◌^◌, ◌==◌, ◌&&◌, List, [], ◌∷◌, ◌++◌, length, take, drop, Option, Some, None, nat_lt}
 use Rattle.std.specs.Prelude.{if◌then◌else◌, All}
 use Rattle.std.specs.List.{flat_map, fold}
-use Rattle.trace_model.specs.declared.channel.Channel.{Channel}
-use Rattle.trace_model.specs.declared.packet.Packet.{Packet}
-use Rattle.trace_model.specs.Channel.{byte_count}
-use Rattle.trace_model.specs.Packet.{IsPacket, widths_under}
-use Rattle.trace_model.specs.Trace.{Alternates}
-use Rattle.trace_model.specs.Length.{mask_len}
+use Rattle.vec_clock.specs.trace_model.declared.channel.Channel.{Channel}
+use Rattle.vec_clock.specs.trace_model.declared.packet.Packet.{Packet}
+use Rattle.vec_clock.specs.trace_model.Channel.{byte_count}
+use Rattle.vec_clock.specs.trace_model.Packet.{IsPacket, widths_under}
+use Rattle.vec_clock.specs.trace_model.Trace.{Alternates}
+use Rattle.vec_clock.specs.trace_model.Length.{mask_len}
 use Rattle.trace_code.specs.Encoding.{packet_bytes}
 use Rattle.trace_code.specs.Reading.{◌>>=◌}
 

@@ -1,7 +1,7 @@
 -- What `salvage` answers for these bytes: what is whole of a trace that was cut off.
 use Rattle.std.specs.Prelude.{◌≡◌, ℕ, ◌+◌, ◌≤◌, ◌⊎◌, List, ◌++◌, length, take, Result, Ok, Err}
 use Rattle.std.specs.List.{flat_map}
-use Rattle.trace_model.specs.declared.trace.Trace.{Trace}
+use Rattle.vec_clock.specs.trace_model.declared.trace.Trace.{Trace}
 use Rattle.trace_code.specs.declared.error.CodeError.{CodeError}
 use Rattle.trace_code.specs.declared.error.CodeError.TheVariants.{BadTrace, Memory}
 use Rattle.trace_code.specs.declared.salvaging.Whole.{Whole}

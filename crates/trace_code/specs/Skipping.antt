@@ -1,9 +1,9 @@
 -- Passing over the packets of a trace, in the manner of `PacketReading`.
 use Rattle.std.specs.Prelude.{◌≡◌, ℕ, List, [], ◌∷◌, ◌++◌, Option, Some, None}
-use Rattle.trace_model.specs.declared.channel.Channel.{Channel}
-use Rattle.trace_model.specs.declared.packet.Packet.{Packet}
-use Rattle.trace_model.specs.Packet.{IsPacket}
-use Rattle.trace_model.specs.Trace.{Alternates, InFlight}
+use Rattle.vec_clock.specs.trace_model.declared.channel.Channel.{Channel}
+use Rattle.vec_clock.specs.trace_model.declared.packet.Packet.{Packet}
+use Rattle.vec_clock.specs.trace_model.Packet.{IsPacket}
+use Rattle.vec_clock.specs.trace_model.Trace.{Alternates, InFlight}
 use Rattle.trace_code.specs.Encoding.{packet_bytes}
 
 -- What a function returned, completed by what it didn't keep, is what reading gives.

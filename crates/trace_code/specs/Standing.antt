@@ -1,12 +1,12 @@
 -- Where a reader stands among the packets of a trace.
 use Rattle.std.specs.Prelude.{◌≡◌, ℕ, ◌<◌, ◌≤◌, List, ◌++◌, length, drop, take, map}
 use Rattle.std.specs.List.{flat_map}
-use Rattle.trace_model.specs.declared.event.Kind.{Kind}
-use Rattle.trace_model.specs.declared.packet.Packet.{Packet}
-use Rattle.trace_model.specs.declared.trace.Trace.{Trace}
-use Rattle.trace_model.specs.Channel.{content_bytes}
-use Rattle.trace_model.specs.Counting.{IsNth}
-use Rattle.trace_model.specs.Packet.{does, count}
+use Rattle.vec_clock.specs.trace_model.declared.event.Kind.{Kind}
+use Rattle.vec_clock.specs.trace_model.declared.packet.Packet.{Packet}
+use Rattle.vec_clock.specs.trace_model.declared.trace.Trace.{Trace}
+use Rattle.vec_clock.specs.trace_model.Channel.{content_bytes}
+use Rattle.vec_clock.specs.trace_model.Counting.{IsNth}
+use Rattle.vec_clock.specs.trace_model.Packet.{does, count}
 use Rattle.vec_clock.specs.Counts.{clock_counts}
 use Rattle.trace_code.specs.Encoding.{HasEncoding, packet_bytes, end_mark}
 use Rattle.trace_code.specs.Heads.{AreMasks}

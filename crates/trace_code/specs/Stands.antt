@@ -1,8 +1,8 @@
 -- What a cursor stands for.
 use Rattle.std.specs.Prelude.{◌≡◌, ℕ, ◌+◌, ◌*◌, ◌<◌, Some, slice_get, length, drop, take}
-use Rattle.trace_model.specs.declared.channel.Channel.{Channel}
-use Rattle.trace_model.specs.declared.event.Kind.{Kind}
-use Rattle.trace_model.specs.declared.trace.Trace.{Trace}
+use Rattle.vec_clock.specs.trace_model.declared.channel.Channel.{Channel}
+use Rattle.vec_clock.specs.trace_model.declared.event.Kind.{Kind}
+use Rattle.vec_clock.specs.trace_model.declared.trace.Trace.{Trace}
 use Rattle.trace_code.specs.declared.cursor.Cursor.{Cursor}
 use Rattle.trace_code.specs.Heads.{sizes_under, AreMasks}
 use Rattle.trace_code.specs.Standing.{StandsAt}

@@ -1,8 +1,8 @@
 -- Writing at a place of a buffer, in the manner of the code.
 use Rattle.std.specs.Prelude.{ℕ, ◌+◌, List, [], ◌∷◌, ◌++◌, length, take, drop, if◌then◌else◌}
-use Rattle.vidi_bits.specs.Number.{has}
-use Rattle.trace_model.specs.declared.channel.Channel.{Channel}
-use Rattle.trace_model.specs.Packet.{widths_under}
+use Rattle.vec_clock.specs.vidi_bits.Number.{has}
+use Rattle.vec_clock.specs.trace_model.declared.channel.Channel.{Channel}
+use Rattle.vec_clock.specs.trace_model.Packet.{widths_under}
 use Rattle.trace_code.specs.Encoding.{mask_bytes, number_bytes}
 
 -- the bytes with a piece written over them from a place on; the others stay

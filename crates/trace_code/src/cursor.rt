@@ -1,11 +1,11 @@
 //! Cursors over the events of a trace.
 
 ghost use Rattle.std.specs.Prelude.{◌≡◌, ◌↔◌, IsTrue, IfOk, ℕ, ◌+◌, ◌<◌, ◌≤◌, slice_get, slice_index, length};
-ghost use Rattle.trace_model.specs.declared.packet.Packet.{Packet};
-ghost use Rattle.trace_model.specs.declared.trace.Trace.{Trace};
-ghost use Rattle.trace_model.specs.Clock.{clock as clock_of};
-ghost use Rattle.trace_model.specs.Counting.{IsNth};
-ghost use Rattle.trace_model.specs.Packet.{content_of, count, does, widths_of};
+ghost use Rattle.vec_clock.specs.trace_model.declared.packet.Packet.{Packet};
+ghost use Rattle.vec_clock.specs.trace_model.declared.trace.Trace.{Trace};
+ghost use Rattle.vec_clock.specs.trace_model.Clock.{clock as clock_of};
+ghost use Rattle.vec_clock.specs.trace_model.Counting.{IsNth};
+ghost use Rattle.vec_clock.specs.trace_model.Packet.{content_of, count, does, widths_of};
 ghost use Rattle.trace_code.specs.Encoding.{Encodes, HasEncoding};
 ghost use Rattle.trace_code.specs.Standing.{bytes_from};
 ghost use Rattle.trace_code.specs.Stands.{WalksOver, Stands};
@@ -17,8 +17,8 @@ use crate::number::mask_len;
 use crate::tally::Tally;
 use crate::walk::{is_end, number_of, seek, sizes_of, skip};
 use std::alloc::Global;
-use trace_model::{Channels, Kind};
-use vidi_bits::{Bytes, Memory, copied};
+use vec_clock::trace_model::{Channels, Kind};
+use vec_clock::vidi_bits::{Bytes, Memory, copied};
 
 /// The channels of an encoded trace, and the bytes of its packets and of its end.
 fn parts_of(alloc: Global, bytes: &[u8]) -> Result<(Channels, &[u8]), Memory>

@@ -2,11 +2,11 @@
 
 ghost use Rattle.std.specs.Prelude.{◌≡◌, ◌≢◌, ℕ, ◌<◌, ◌≤◌, ◌^◌, ◌↔◌, IsTrue, List, [], ◌∷◌, ◌++◌, length, All, IfOk, IfSome, IfNone};
 ghost use Rattle.std.specs.Prelude.{MatchResult};
-ghost use Rattle.trace_model.specs.declared.packet.Packet.{Packet};
-ghost use Rattle.trace_model.specs.declared.trace.Trace.{Trace};
-ghost use Rattle.trace_model.specs.Channel.{IsChannel};
-ghost use Rattle.trace_model.specs.Packet.{IsPacket};
-ghost use Rattle.trace_model.specs.Trace.{Alternates, InFlight};
+ghost use Rattle.vec_clock.specs.trace_model.declared.packet.Packet.{Packet};
+ghost use Rattle.vec_clock.specs.trace_model.declared.trace.Trace.{Trace};
+ghost use Rattle.vec_clock.specs.trace_model.Channel.{IsChannel};
+ghost use Rattle.vec_clock.specs.trace_model.Packet.{IsPacket};
+ghost use Rattle.vec_clock.specs.trace_model.Trace.{Alternates, InFlight};
 ghost use Rattle.trace_code.specs.Encoding.{Encodes, packet_bytes, end_mark};
 ghost use Rattle.trace_code.specs.Decoding.{Decodes};
 ghost use Rattle.trace_code.specs.PacketReading.{AreAll};
@@ -16,8 +16,8 @@ use crate::error::CodeError;
 use crate::header::read_header;
 use crate::packets::read_packet;
 use std::alloc::Global;
-use trace_model::{Channel, Packet, Packets, Trace, in_flight_after};
-use vidi_bits::{Items, Memory};
+use vec_clock::trace_model::{Channel, Packet, Packets, Trace, in_flight_after};
+use vec_clock::vidi_bits::{Items, Memory};
 
 /// The bytes of the longest trace file that is read (this project's profile).
 pub const TRACE_LIMIT: u64 = 67_108_864;

@@ -2,16 +2,16 @@
 
 ghost use Rattle.std.specs.Prelude.{◌≡◌, ◌+◌, ◌≤◌, ◌++◌, length, All, OnOk, IfOk, sum_by};
 ghost use Rattle.std.specs.List.{flat_map};
-ghost use Rattle.trace_model.specs.Channel.{IsChannel, IsTable, content_bytes};
-ghost use Rattle.trace_model.specs.Length.{head_len};
-ghost use Rattle.trace_model.specs.Packet.{IsPacket};
+ghost use Rattle.vec_clock.specs.trace_model.Channel.{IsChannel, IsTable, content_bytes};
+ghost use Rattle.vec_clock.specs.trace_model.Length.{head_len};
+ghost use Rattle.vec_clock.specs.trace_model.Packet.{IsPacket};
 ghost use Rattle.trace_code.specs.Encoding.{direction_byte, channel_bytes, header_bytes, packet_bytes, end_mark, encode, HasEncoding};
 
 use crate::header::{MAGIC, contents_len};
 use crate::writing::write_events;
 use std::alloc::Global;
-use trace_model::{Channel, Channels, Dir, Packet, Trace};
-use vidi_bits::{Bytes, Items, Memory};
+use vec_clock::trace_model::{Channel, Channels, Dir, Packet, Trace};
+use vec_clock::vidi_bits::{Bytes, Items, Memory};
 
 /// The byte of a direction.
 fn direction_byte(dir: Dir) -> u8

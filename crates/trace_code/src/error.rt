@@ -4,7 +4,7 @@ ghost use Rattle.std.specs.Prelude.{◌≡◌};
 
 use std::alloc::{AllocError, AllocFailed};
 use thiserror::Error;
-use vidi_bits::Memory;
+use vec_clock::vidi_bits::Memory;
 
 /// Why bytes give no trace.
 #[derive(Clone, Copy, Debug, PartialEq, Eq, Error)]

@@ -1,13 +1,13 @@
 //! The head of a packet: its masks, and what they say of its length.
 
 ghost use Rattle.std.specs.Prelude.{◌≡◌, IsTrue, ◌≤◌, ◌<◌, ◌+◌, ◌*◌, ◌^◌, ℕ, length, drop, take};
-ghost use Rattle.vidi_bits.specs.Number.{has};
-ghost use Rattle.trace_model.specs.Length.{mask_len};
+ghost use Rattle.vec_clock.specs.vidi_bits.Number.{has};
+ghost use Rattle.vec_clock.specs.trace_model.Length.{mask_len};
 ghost use Rattle.trace_code.specs.Heads.{mask_of, sizes_under, AreMasks, IsWord};
 
 use crate::number::{low_first, mask_len};
-use trace_model::{Kind, lowest, names};
-use vidi_bits::{join, ones};
+use vec_clock::trace_model::{Kind, lowest, names};
+use vec_clock::vidi_bits::{join, ones};
 
 /// The most packets that are looked at ahead.
 const MOST_AHEAD: u32 = 32;

@@ -2,8 +2,8 @@
 
 ghost use Rattle.std.specs.Prelude.{◌≡◌, ℕ, ◌≤◌, ◌⊎◌, ◌≢◌, ◌↔◌, IsTrue, List, ◌++◌, length, All, sum_by, IfOk, IfErr, MatchResult, option_map};
 ghost use Rattle.std.specs.List.{AllPairs, list_all, Any};
-ghost use Rattle.trace_model.specs.declared.channel.Channel.{Channel};
-ghost use Rattle.trace_model.specs.Channel.{IsTable, content_bytes};
+ghost use Rattle.vec_clock.specs.trace_model.declared.channel.Channel.{Channel};
+ghost use Rattle.vec_clock.specs.trace_model.Channel.{IsTable, content_bytes};
 ghost use Rattle.trace_code.specs.Encoding.{header_bytes};
 ghost use Rattle.trace_code.specs.Reading.{Gives, magic_at, dir_at, counted_at, is_width, is_name, are_widths, name_at, widths_at};
 ghost use Rattle.trace_code.specs.Reading.{channel_at, channels_at, count_at, header_at, AreChannels};
@@ -11,8 +11,8 @@ ghost use Rattle.trace_code.specs.Reading.{channel_at, channels_at, count_at, he
 use crate::error::{CodeError, FAULT};
 use crate::number::numbers_len;
 use std::alloc::Global;
-use trace_model::{Channel, Channels, Dir, are_letters_or_digits, is_letter};
-use vidi_bits::{Bytes, Items, Name, copied};
+use vec_clock::trace_model::{Channel, Channels, Dir, are_letters_or_digits, is_letter};
+use vec_clock::vidi_bits::{Bytes, Items, Name, copied};
 
 /// The first bytes of a trace of version 1.
 pub(crate) const MAGIC: [u8; 8] = *b"VIDITRC1";

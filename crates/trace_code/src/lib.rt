@@ -24,4 +24,6 @@ pub use encoding::{encode, end_mark, header_bytes};
 pub use error::CodeError;
 pub use laws::{front_is_salvaged, one_place, one_reading, one_salvage, reads_back};
 pub use salvaging::{Whole, salvage, salvage_front};
+pub use vec_clock;
+pub use vec_clock::{trace_model, vidi_bits};
 pub use writing::write_packet;

@@ -1,12 +1,12 @@
 //! Reading the masks and the numbers of a packet.
 
 ghost use Rattle.std.specs.Prelude.{◌≡◌, ◌^◌, ◌≤◌, length, sum_by, option_map};
-ghost use Rattle.trace_model.specs.Channel.{byte_count};
-ghost use Rattle.trace_model.specs.Length.{mask_len};
+ghost use Rattle.vec_clock.specs.trace_model.Channel.{byte_count};
+ghost use Rattle.vec_clock.specs.trace_model.Length.{mask_len};
 ghost use Rattle.trace_code.specs.PacketReading.{low_value, high_value, mask_at, number_at};
 
 use crate::writing::write_at;
-use trace_model::fits;
+use vec_clock::trace_model::fits;
 
 /// The bytes that hold a number of this width in bits.
 pub(crate) fn byte_count(width: u8) -> usize

@@ -1,9 +1,9 @@
 //! Reading one packet of a trace.
 
 ghost use Rattle.std.specs.Prelude.{◌≡◌, ℕ, ◌≤◌, ◌⊎◌, List, [], ◌++◌, length, All, IfOk, IfErr, MatchResult, option_map, if◌then◌else◌};
-ghost use Rattle.trace_model.specs.declared.packet.Packet.{Packet};
-ghost use Rattle.trace_model.specs.Packet.{widths_under, IsPacket};
-ghost use Rattle.trace_model.specs.Channel.{IsChannel};
+ghost use Rattle.vec_clock.specs.trace_model.declared.packet.Packet.{Packet};
+ghost use Rattle.vec_clock.specs.trace_model.Packet.{widths_under, IsPacket};
+ghost use Rattle.vec_clock.specs.trace_model.Channel.{IsChannel};
 ghost use Rattle.trace_code.specs.Encoding.{packet_bytes};
 ghost use Rattle.trace_code.specs.Reading.{Gives, with_front};
 ghost use Rattle.trace_code.specs.PacketReading.{numbers_at, tag_at, masks_at, packet_at};
@@ -11,8 +11,8 @@ ghost use Rattle.trace_code.specs.PacketReading.{numbers_at, tag_at, masks_at, p
 use crate::error::{CodeError, FAULT};
 use crate::number::{read_mask, read_number};
 use std::alloc::Global;
-use trace_model::{Channel, Packet, names};
-use vidi_bits::{Items, Numbers};
+use vec_clock::trace_model::{Channel, Packet, names};
+use vec_clock::vidi_bits::{Items, Numbers};
 
 /// Reads a number of each width, and adds them to those before.
 fn read_content<'a>(

@@ -8,7 +8,7 @@ use crate::error::CodeError;
 use crate::header::read_header;
 use crate::skipping::skip_packets;
 use std::alloc::Global;
-use trace_model::Trace;
+use vec_clock::trace_model::Trace;
 
 /// The trace of the header and of the longest list of whole lawful packets behind it. `BadTrace { at: 0 }`
 /// exactly where the bytes begin with no whole lawful header.

@@ -1,17 +1,17 @@
 //! Passing over the packets of a trace: as reading them, but no content is kept.
 
 ghost use Rattle.std.specs.Prelude.{◌≡◌, ◌≢◌, ℕ, ◌≤◌, List, [], ◌∷◌, ◌++◌, length, All, IfSome, IfNone, if◌then◌else◌};
-ghost use Rattle.trace_model.specs.declared.packet.Packet.{Packet};
-ghost use Rattle.trace_model.specs.Channel.{IsChannel};
-ghost use Rattle.trace_model.specs.Packet.{widths_under, IsPacket};
-ghost use Rattle.trace_model.specs.Trace.{Alternates, InFlight};
+ghost use Rattle.vec_clock.specs.trace_model.declared.packet.Packet.{Packet};
+ghost use Rattle.vec_clock.specs.trace_model.Channel.{IsChannel};
+ghost use Rattle.vec_clock.specs.trace_model.Packet.{widths_under, IsPacket};
+ghost use Rattle.vec_clock.specs.trace_model.Trace.{Alternates, InFlight};
 ghost use Rattle.trace_code.specs.Encoding.{packet_bytes};
 ghost use Rattle.trace_code.specs.PacketReading.{number_at, numbers_at, packet_at, AreAll};
 ghost use Rattle.trace_code.specs.Skipping.{Passes, packet_with, Follows};
 
 use crate::number::{byte_count, read_number};
 use crate::packets::{read_masks, read_tag};
-use trace_model::{Channel, in_flight_after, names};
+use vec_clock::trace_model::{Channel, in_flight_after, names};
 
 /// The bytes after a number of this width, which isn't looked at where it may be any number of its bytes.
 #[tactic(auto, unfolding(crate::specs::PacketReading::sized_at))]

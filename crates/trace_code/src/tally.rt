@@ -2,13 +2,13 @@
 
 ghost use Rattle.std.specs.Prelude.{◌≡◌, ◌+◌, ◌-◌, ◌*◌, ◌<◌, ◌≤◌, ◌^◌, ℕ, true, IfOk, length, replicate, slice_index};
 ghost use Rattle.std.specs.Int.{bit_at};
-ghost use Rattle.vidi_bits.specs.Number.{has};
+ghost use Rattle.vec_clock.specs.vidi_bits.Number.{has};
 ghost use Rattle.trace_code.specs.Tallied.{tallied};
 
 use std::alloc::Global;
-use trace_model::names;
 use vec_clock::Clock;
-use vidi_bits::Memory;
+use vec_clock::trace_model::names;
+use vec_clock::vidi_bits::Memory;
 
 /// How many transactions of each channel have completed. Packets that complete the same channels, one behind the other, are
 /// counted as one number. Only `new` takes memory.

@@ -2,10 +2,10 @@
 
 ghost use Rattle.std.specs.Prelude.{◌≡◌, ◌↔◌, IsTrue, ℕ, ◌+◌, ◌*◌, ◌^◌, ◌<◌, ◌≤◌, Some, slice_get, slice_index, length, take, drop, map};
 ghost use Rattle.std.specs.Prelude.{All, IfOk, sum_by};
-ghost use Rattle.trace_model.specs.declared.packet.Packet.{Packet};
-ghost use Rattle.trace_model.specs.declared.trace.Trace.{Trace};
-ghost use Rattle.trace_model.specs.Channel.{byte_count, content_bytes, IsChannel};
-ghost use Rattle.trace_model.specs.Packet.{count, does};
+ghost use Rattle.vec_clock.specs.trace_model.declared.packet.Packet.{Packet};
+ghost use Rattle.vec_clock.specs.trace_model.declared.trace.Trace.{Trace};
+ghost use Rattle.vec_clock.specs.trace_model.Channel.{byte_count, content_bytes, IsChannel};
+ghost use Rattle.vec_clock.specs.trace_model.Packet.{count, does};
 ghost use Rattle.trace_code.specs.PacketReading.{high_value};
 ghost use Rattle.trace_code.specs.Heads.{AreMasks};
 ghost use Rattle.trace_code.specs.Standing.{IsAt, StandsAt};
@@ -16,8 +16,8 @@ use crate::header::content_len;
 use crate::number::{byte_count, high_first, numbers_len};
 use crate::tally::Tally;
 use std::alloc::Global;
-use trace_model::{Channel, Kind};
-use vidi_bits::Memory;
+use vec_clock::trace_model::{Channel, Kind};
+use vec_clock::vidi_bits::Memory;
 
 /// The content bytes of each channel.
 pub(crate) fn sizes_of(alloc: Global, channels: &[Channel]) -> Result<Vec<u32>, Memory>

@@ -2,17 +2,17 @@
 
 ghost use Rattle.std.specs.Prelude.{◌≡◌, ℕ, true, ◌+◌, ◌*◌, ◌≤◌, ◌^◌, ◌<◌, [], ◌∷◌, ◌++◌, length, drop, All, sum_by, if◌then◌else◌};
 ghost use Rattle.std.specs.Int.{bytes_high_first};
-ghost use Rattle.vidi_bits.specs.Number.{has};
-ghost use Rattle.trace_model.specs.Channel.{byte_count, content_bytes, IsChannel, IsTable};
-ghost use Rattle.trace_model.specs.Length.{head_len, packet_len};
-ghost use Rattle.trace_model.specs.Packet.{widths_under};
-ghost use Rattle.trace_model.specs.Recording.{has_event};
-ghost use Rattle.trace_model.specs.Row.{IsOver};
+ghost use Rattle.vec_clock.specs.vidi_bits.Number.{has};
+ghost use Rattle.vec_clock.specs.trace_model.Channel.{byte_count, content_bytes, IsChannel, IsTable};
+ghost use Rattle.vec_clock.specs.trace_model.Length.{head_len, packet_len};
+ghost use Rattle.vec_clock.specs.trace_model.Packet.{widths_under};
+ghost use Rattle.vec_clock.specs.trace_model.Recording.{has_event};
+ghost use Rattle.vec_clock.specs.trace_model.Row.{IsOver};
 ghost use Rattle.trace_code.specs.Encoding.{mask_bytes, number_bytes, row_bytes};
 ghost use Rattle.trace_code.specs.Writing.{overwritten, picked, events_bytes};
 
 use crate::number::byte_count;
-use trace_model::{Channel, Channels, Row, names};
+use vec_clock::trace_model::{Channel, Channels, Row, names};
 
 /// Writes a piece at a place of the buffer, and gives the place after it.
 pub(crate) fn write_at(buf: &mut [u8], at: usize, piece: &[u8]) -> usize

@@ -1,13 +1,13 @@
 //! Worked traces, byte by byte.
 
 ghost use Rattle.std.specs.Prelude.{IfSome};
-ghost use Rattle.trace_model.specs.Channel.{IsTable};
+ghost use Rattle.trace_code.specs.trace_model.Channel.{IsTable};
 ghost use Rattle.trace_code.specs.Encoding.{HasEncoding};
 
 use std::alloc::Global;
+use trace_code::trace_model::{Channels, Row, Trace, is_over};
 use trace_code::{decode, encode, end_mark, header_bytes, write_packet};
-use trace_model::{Channels, Row, Trace, is_over};
-use vidi_bits::Numbers;
+use trace_store::vidi_bits::Numbers;
 
 // VIDITRC1, two channels: a inward and b outward, each with one port of 8 bits.
 pub(crate) const PASS: [u8; 19] = [

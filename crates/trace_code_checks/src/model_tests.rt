@@ -2,8 +2,8 @@
 
 use crate::bytes_tests::{Events, NO_SEND, PASS, decoded};
 use std::alloc::Global;
-use trace_model::{Packet, Packets, Trace, well_formed};
-use vidi_bits::Numbers;
+use trace_code::trace_model::{Packet, Packets, Trace, well_formed};
+use trace_store::vidi_bits::Numbers;
 
 /// Whether there is memory for a packet of these events.
 fn is_added(alloc: Global, packets: &mut Packets, events: &Events) -> bool {

@@ -1,11 +1,11 @@
 //! Gates and capacities of small tables.
 
-ghost use Rattle.trace_model.specs.Channel.{IsTable};
+ghost use Rattle.trace_code.specs.trace_model.Channel.{IsTable};
 
 use crate::bytes_tests::{NO_SEND, PASS, decoded};
 use room_ledger::{Room, RoomError};
 use std::alloc::Global;
-use trace_model::Channels;
+use trace_code::trace_model::Channels;
 
 /// A cycle: its starts, its ends, the packet's length, the gates afterwards, the bytes used.
 type Cycle = (u128, u128, u32, u128, u32);

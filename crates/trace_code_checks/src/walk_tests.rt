@@ -1,14 +1,14 @@
 //! Cursors over worked traces, whose events and clocks were read off by hand.
 
 ghost use Rattle.std.specs.Prelude.{◌≡◌, ℕ, ◌<◌};
-ghost use Rattle.trace_model.specs.Packet.{count};
+ghost use Rattle.trace_code.specs.trace_model.Packet.{count};
 ghost use Rattle.trace_code.specs.Encoding.{Encodes};
 ghost use Rattle.trace_code.specs.Stands.{Stands, WalksOver};
 
 use crate::bytes_tests::{NO_SEND, ONE_SEND, PASS, REGS, ROUND, TWO_SENDS, joined};
 use std::alloc::Global;
+use trace_code::trace_model::{Kind, Packet, Trace, names};
 use trace_code::{Cursor, decode};
-use trace_model::{Kind, Packet, Trace, names};
 
 /// An event: its clock, and the content of a start.
 type Event<'a> = (&'a [u32], &'a [u128]);

@@ -1,11 +1,11 @@
 -- The commands on traces: no failed write among their answers, and the same where no read failed.
 use Rattle.std.proofs.Common.{◌≡◌, ℕ, List, Option, inl, inr}
-use Rattle.trace_model.specs.declared.trace.Trace.{Trace}
+use Rattle.trace_code.specs.trace_model.declared.trace.Trace.{Trace}
 use Rattle.trace_code.specs.Encoding.{Encodes}
-use Rattle.vidi_io.specs.Shelf.{Files}
-use Rattle.report_text.specs.declared.reason.Word.{Word}
-use Rattle.report_text.specs.declared.reason.Word.TheVariants as words
-use Rattle.report_text.specs.declared.reason.Reason.TheVariants.{BadTrace, OtherChannels}
+use Rattle.vidi_bench.specs.vidi_io.Shelf.{Files}
+use Rattle.vidi_bench.specs.report_text.declared.reason.Word.{Word}
+use Rattle.vidi_bench.specs.report_text.declared.reason.Word.TheVariants as words
+use Rattle.vidi_bench.specs.report_text.declared.reason.Reason.TheVariants.{BadTrace, OtherChannels}
 use Rattle.vidi_bench.specs.declared.status.Status.{Status}
 use Rattle.vidi_bench.specs.declared.status.Status.TheVariants.{Done, WriteFault, Diverged}
 use Rattle.vidi_bench.specs.Reading.{Reading}

@@ -4,9 +4,9 @@ use Rattle.std.specs.Prelude.{IfOk, IfErr, take}
 use Rattle.trace_code.specs.declared.salvaging.Whole.{Whole}
 use Rattle.trace_code.specs.Encoding.{end_mark}
 use Rattle.trace_code.specs.Salvage.{SalvagesFront}
-use Rattle.vidi_io.specs.Shelf.{Files, holding}
-use Rattle.vidi_io.specs.Writing.{IsCutOff}
-use Rattle.vidi_io.proofs.Cut.{cut-knowing}
+use Rattle.vidi_bench.specs.vidi_io.Shelf.{Files, holding}
+use Rattle.vidi_bench.specs.vidi_io.Writing.{IsCutOff}
+use Rattle.vidi_bench.proofs.vidi_io.Cut.{cut-knowing}
 use Rattle.vidi_bench.specs.declared.answer.Answer.{Answer}
 use Rattle.vidi_bench.specs.declared.answer.Ended.{Ended}
 use Rattle.vidi_bench.specs.declared.answer.Ended.TheVariants as ends

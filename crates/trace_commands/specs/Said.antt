@@ -1,10 +1,10 @@
 -- *Said*: what the commands on traces print (this project's profile). Every line ends with a newline, and numbers are decimal.
 use Rattle.std.specs.Prelude.{ℕ, List, ◌++◌, codes, decimal}
-use Rattle.trace_model.specs.declared.channel.Channel.{Channel}
-use Rattle.trace_compare.specs.declared.report.Finding.{Finding}
-use Rattle.report_text.specs.Report.{report_lines}
-use Rattle.report_text.specs.Text.{newline}
-pub use Rattle.report_text.specs.Trace.{dump_text}
+use Rattle.trace_code.specs.trace_model.declared.channel.Channel.{Channel}
+use Rattle.vidi_bench.specs.trace_compare.declared.report.Finding.{Finding}
+use Rattle.vidi_bench.specs.report_text.Report.{report_lines}
+use Rattle.vidi_bench.specs.report_text.Text.{newline}
+pub use Rattle.vidi_bench.specs.report_text.Trace.{dump_text}
 
 -- what `compare` prints of two traces: no divergence, or the findings and that they diverged
 abbrev pub no_divergence_line : List ℕ

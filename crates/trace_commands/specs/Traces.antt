@@ -1,16 +1,16 @@
 -- What the commands on traces owe: each step of them in its order.
 use Rattle.std.specs.Prelude.{◌≡◌, ◌≢◌, ℕ, ◌⊎◌, List, [], Option, Ok, length, take, slice_get}
-use Rattle.trace_model.specs.declared.channel.Channel.{Channel}
-use Rattle.trace_model.specs.declared.trace.Trace.{Trace}
+use Rattle.trace_code.specs.trace_model.declared.channel.Channel.{Channel}
+use Rattle.trace_code.specs.trace_model.declared.trace.Trace.{Trace}
 use Rattle.trace_code.specs.Decoding.{IsFaultAt, HasNoHeader}
 use Rattle.trace_code.specs.Encoding.{Encodes, encode}
 use Rattle.trace_code.specs.Salvage.{Salvages}
-use Rattle.trace_compare.specs.Findings.{findings}
-use Rattle.vidi_io.specs.Shelf.{Files, holding}
-use Rattle.vidi_io.specs.Writing.{IsCutOff}
-use Rattle.report_text.specs.declared.reason.Word.{Word}
-use Rattle.report_text.specs.declared.reason.Word.TheVariants as words
-use Rattle.report_text.specs.declared.reason.Reason.TheVariants.{BadTrace, OtherChannels}
+use Rattle.vidi_bench.specs.trace_compare.Findings.{findings}
+use Rattle.vidi_bench.specs.vidi_io.Shelf.{Files, holding}
+use Rattle.vidi_bench.specs.vidi_io.Writing.{IsCutOff}
+use Rattle.vidi_bench.specs.report_text.declared.reason.Word.{Word}
+use Rattle.vidi_bench.specs.report_text.declared.reason.Word.TheVariants as words
+use Rattle.vidi_bench.specs.report_text.declared.reason.Reason.TheVariants.{BadTrace, OtherChannels}
 use Rattle.trace_code.specs.declared.decoding.TheConstants.{TRACE_LIMIT}
 use Rattle.vidi_bench.specs.declared.status.Status.{Status}
 use Rattle.vidi_bench.specs.declared.status.Status.TheVariants.{Done, Diverged}

@@ -2,8 +2,8 @@
 
 ghost use Rattle.std.specs.Prelude.{◌≡◌, IfOk};
 ghost use Rattle.trace_code.specs.Encoding.{HasEncoding};
-ghost use Rattle.vidi_io.specs.Cause.{Rose};
-ghost use Rattle.vidi_io.specs.Shelf.{Later};
+ghost use Rattle.vidi_bench.specs.vidi_io.Cause.{Rose};
+ghost use Rattle.vidi_bench.specs.vidi_io.Shelf.{Later};
 ghost use Rattle.vidi_bench.specs.AnswerText.{text_of};
 ghost use Rattle.vidi_bench.specs.Ended.{IsAnswered};
 ghost use Rattle.trace_commands.specs.Said as said;
@@ -11,14 +11,14 @@ ghost use Rattle.vidi_bench.specs.Steps.{IsSaid};
 ghost use Rattle.trace_commands.specs.Traces.{Compared, ComparedFiles, Compares, IsVerdict};
 
 use crate::dumping::trace_of;
-use report_text::{put, report_lines};
 use std::alloc::Global;
 use trace_code::TRACE_LIMIT;
-use trace_compare::Report;
-use trace_model::{Channels, Trace, same_channels};
+use trace_code::trace_model::{Channels, Trace, same_channels};
+use trace_code::vidi_bits::{Bytes, Memory};
+use vidi_bench::report_text::{put, report_lines};
+use vidi_bench::trace_compare::Report;
+use vidi_bench::vidi_io::Shelf;
 use vidi_bench::{Answer, Ended, Reason, Status, Word, read_file, refused, with_bytes};
-use vidi_bits::{Bytes, Memory};
-use vidi_io::Shelf;
 
 /// What `compare` is answered.
 pub fn compare<S: Shelf>(
@@ -63,7 +63,7 @@ fn verdict(alloc: Global, trace: &Trace, other: &Trace) -> Result<Answer, Memory
     requires same { trace.now.channels ≡ other.now.channels }
     ensures { IfOk result (λ a. IsVerdict said.no_divergence_line trace.now other.now a.status (text_of a.text)) }
 {
-    let report = trace_compare::compare(alloc, trace, other)?;
+    let report = vidi_bench::trace_compare::compare(alloc, trace, other)?;
     if report.is_empty() {
         return no_divergence(alloc);
     }

@@ -2,21 +2,21 @@
 
 ghost use Rattle.std.specs.Prelude.{◌≡◌, IfOk, IfErr};
 ghost use Rattle.trace_code.specs.Encoding.{Encodes};
-ghost use Rattle.vidi_io.specs.Cause.{Rose};
-ghost use Rattle.vidi_io.specs.Shelf.{Later};
+ghost use Rattle.vidi_bench.specs.vidi_io.Cause.{Rose};
+ghost use Rattle.vidi_bench.specs.vidi_io.Shelf.{Later};
 ghost use Rattle.vidi_bench.specs.AnswerText.{text_of};
 ghost use Rattle.vidi_bench.specs.Ended.{EndsWith, IsAnswered};
 ghost use Rattle.trace_commands.specs.Said as said;
 ghost use Rattle.vidi_bench.specs.Steps.{IsSaid};
 ghost use Rattle.trace_commands.specs.Traces.{Dumps, IsNoTrace};
 
-use report_text::TraceLines;
 use std::alloc::Global;
+use trace_code::trace_model::Trace;
+use trace_code::vidi_bits::Memory;
 use trace_code::{CodeError, TRACE_LIMIT, decode};
-use trace_model::Trace;
+use vidi_bench::report_text::TraceLines;
+use vidi_bench::vidi_io::Shelf;
 use vidi_bench::{Answer, AnswerText, Ended, Reason, Status, Word, read_file, refused};
-use vidi_bits::Memory;
-use vidi_io::Shelf;
 
 /// What `dump` is answered.
 pub fn dump<S: Shelf>(alloc: Global, trace: &str, shelf: &mut S) -> Result<Answer, Ended>

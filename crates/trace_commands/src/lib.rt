@@ -8,3 +8,5 @@ mod salvaging;
 pub use comparing::{compare, diverged, diverged_text};
 pub use dumping::{dump, trace_of};
 pub use salvaging::salvage;
+pub use vidi_bench;
+pub use vidi_bench::{report_text, trace_compare, vidi_io};

@@ -8,10 +8,10 @@ use Rattle.std.proofs.lemmas.List.{drop_more, drop_all, get_or_default, append-n
 use Rattle.std.proofs.lemmas.List.Elements.{All-filter, All-map}
 use Rattle.std.proofs.lemmas.List.FromFn.{length-enumerate_from, get_or-enumerate_from}
 use Rattle.std.proofs.lemmas.List.Sums.{length-filter, count_by-le-length}
-use Rattle.trace_model.specs.declared.event.Kind.{Kind}
-use Rattle.trace_model.specs.declared.packet.Packet.{Packet}
-use Rattle.trace_model.specs.Packet.{does, count}
-use Rattle.trace_model.proofs.CountingLemmas.{count-cons}
+use Rattle.vec_clock.specs.trace_model.declared.event.Kind.{Kind}
+use Rattle.vec_clock.specs.trace_model.declared.packet.Packet.{Packet}
+use Rattle.vec_clock.specs.trace_model.Packet.{does, count}
+use Rattle.vec_clock.proofs.trace_model.CountingLemmas.{count-cons}
 use Rattle.trace_compare.specs.Findings.{events_from}
 use Rattle.trace_compare.specs.Walking.{places}
 

@@ -7,11 +7,11 @@ use Rattle.std.specs.Int.{bit_at}
 use Rattle.std.proofs.lemmas.Bool.{cases_lt, false≢true}
 use Rattle.std.proofs.lemmas.List.{get_or_at, get_or_append_left, length-append}
 use Rattle.std.proofs.lemmas.Option.{slice_get_read}
-use Rattle.trace_model.specs.declared.event.Kind.TheVariants.{End}
-use Rattle.trace_model.specs.declared.packet.Packet.{Packet}
-use Rattle.trace_model.specs.Packet.{does}
-use Rattle.trace_model.specs.Clock.{clock, Covers}
-use Rattle.trace_model.proofs.CountingLemmas.{count-mono}
+use Rattle.vec_clock.specs.trace_model.declared.event.Kind.TheVariants.{End}
+use Rattle.vec_clock.specs.trace_model.declared.packet.Packet.{Packet}
+use Rattle.vec_clock.specs.trace_model.Packet.{does}
+use Rattle.vec_clock.specs.trace_model.Clock.{clock, Covers}
+use Rattle.vec_clock.proofs.trace_model.CountingLemmas.{count-mono}
 use Rattle.vec_clock.specs.Counts.{clock_counts}
 use Rattle.vec_clock.proofs.Counting.{counts-at, counts-long, counts-on, counts-small}
 use Rattle.trace_compare.specs.Walking.{IsCovering, AreCovering}

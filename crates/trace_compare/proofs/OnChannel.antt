@@ -1,10 +1,10 @@
 -- The findings on a channel, by the places of its events.
 use Rattle.std.proofs.Common.{◌≡◌, ℕ, List, ◌++◌, length, ap, ◌∙◌}
-use Rattle.trace_model.specs.declared.channel.Channel.{Channel}
-use Rattle.trace_model.specs.declared.event.Kind.{Kind}
-use Rattle.trace_model.specs.declared.event.Kind.TheVariants.{Start, End}
-use Rattle.trace_model.specs.declared.packet.Packet.{Packet}
-use Rattle.trace_model.specs.Packet.{count}
+use Rattle.vec_clock.specs.trace_model.declared.channel.Channel.{Channel}
+use Rattle.vec_clock.specs.trace_model.declared.event.Kind.{Kind}
+use Rattle.vec_clock.specs.trace_model.declared.event.Kind.TheVariants.{Start, End}
+use Rattle.vec_clock.specs.trace_model.declared.packet.Packet.{Packet}
+use Rattle.vec_clock.specs.trace_model.Packet.{count}
 use Rattle.trace_compare.specs.declared.report.Finding.{Finding}
 use Rattle.trace_compare.specs.Findings.{different, only_one, early_ones, findings_on}
 use Rattle.trace_compare.specs.Walking.{places, AreCovering, only_of, early_of, early_at}

@@ -7,12 +7,12 @@ use Rattle.std.proofs.lemmas.List.{length-map, get_or-map, get_or_default, take_
 use Rattle.std.proofs.lemmas.List.Elements.{recursion_from_All}
 use Rattle.std.proofs.lemmas.Slice.Zip.{length-zip, get_or-zip}
 use lib.Pointwise.{pointwise}
-use Rattle.trace_model.specs.declared.channel.Channel.{Channel}
-use Rattle.trace_model.specs.declared.event.Kind.{Kind}
-use Rattle.trace_model.specs.declared.event.Kind.TheVariants.{Start}
-use Rattle.trace_model.specs.declared.packet.Packet.{Packet}
-use Rattle.trace_model.specs.Packet.{content_of}
-use Rattle.trace_model.proofs.CountingLemmas.{take-more_read}
+use Rattle.vec_clock.specs.trace_model.declared.channel.Channel.{Channel}
+use Rattle.vec_clock.specs.trace_model.declared.event.Kind.{Kind}
+use Rattle.vec_clock.specs.trace_model.declared.event.Kind.TheVariants.{Start}
+use Rattle.vec_clock.specs.trace_model.declared.packet.Packet.{Packet}
+use Rattle.vec_clock.specs.trace_model.Packet.{content_of}
+use Rattle.vec_clock.proofs.trace_model.CountingLemmas.{take-more_read}
 use Rattle.trace_compare.specs.declared.tally.Tally.{Tally}
 use Rattle.trace_compare.specs.Findings.{events_from, differs, differing, is_early, early_marks}
 use Rattle.trace_compare.specs.Tally.{IsTally}

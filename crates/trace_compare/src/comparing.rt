@@ -1,7 +1,7 @@
 //! The findings of two traces, channel by channel.
 
 ghost use Rattle.std.specs.Prelude.{◌≡◌, ◌^◌, ◌<◌, ◌≤◌, ◌++◌, All, IfOk, OnOk, length};
-ghost use Rattle.trace_model.specs.declared.event.Kind.TheVariants.{Start, End};
+ghost use Rattle.vec_clock.specs.trace_model.declared.event.Kind.TheVariants.{Start, End};
 ghost use Rattle.trace_compare.specs.Findings as spec;
 ghost use Rattle.trace_compare.specs.Walking.{AreCovering, early_at, early_of, only_of, places};
 
@@ -10,8 +10,8 @@ use crate::pairs::{different_starts, early_events};
 use crate::places::Places;
 use crate::report::{Finding, Report, What, early, extra, missing, push_if};
 use std::alloc::Global;
-use trace_model::{Kind, Trace};
-use vidi_bits::{Items, Memory};
+use vec_clock::trace_model::{Kind, Trace};
+use vec_clock::vidi_bits::{Items, Memory};
 
 /// Adds the first start of the channel in both whose contents are unequal. `in_a` and `in_b` have the places of its
 /// starts.

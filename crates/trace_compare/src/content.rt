@@ -1,9 +1,9 @@
 //! The content of a channel in a packet.
 
 ghost use Rattle.std.specs.Prelude.{◌≡◌, ◌<◌, [], length, drop, if◌then◌else◌};
-ghost use Rattle.trace_model.specs.Packet.{content_of};
+ghost use Rattle.vec_clock.specs.trace_model.Packet.{content_of};
 
-use trace_model::{Channel, Packet, names, split_content};
+use vec_clock::trace_model::{Channel, Packet, names, split_content};
 
 /// The contents after those of a channel, which has none where it doesn't start.
 fn behind<'a>(starts: bool, channel: &Channel, contents: &'a [u128]) -> &'a [u128]

@@ -1,14 +1,14 @@
 //! Which packets' clocks cover which, with two clocks that are carried along.
 
 ghost use Rattle.std.specs.Prelude.{◌≡◌, ℕ, ◌^◌, ◌<◌, ◌≤◌, IfOk, length, slice_index};
-ghost use Rattle.trace_model.specs.Clock.{clock, Covers};
+ghost use Rattle.vec_clock.specs.trace_model.Clock.{clock, Covers};
 ghost use Rattle.vec_clock.specs.Counts.{clock_counts};
 ghost use Rattle.trace_compare.specs.Walking.{AreCovering};
 
 use std::alloc::Global;
-use trace_model::Packet;
 use vec_clock::Clock;
-use vidi_bits::Memory;
+use vec_clock::trace_model::Packet;
+use vec_clock::vidi_bits::Memory;
 
 /// The place, from `from` on, of the first packet whose clock covers `other`, the number of packets where there
 /// is none. The clock of the packet at `from` is carried on to it.

@@ -6,7 +6,7 @@ ghost use Rattle.trace_compare.specs.Walking.{differing_at, early_at};
 
 use crate::content::content;
 use crate::tally::Tally;
-use trace_model::{Channel, Packet};
+use vec_clock::trace_model::{Channel, Packet};
 
 /// The starts of the channel at these places, of which those with unequal contents are marked.
 pub(crate) fn different_starts(

@@ -1,12 +1,12 @@
 //! Where the events of a channel stand.
 
 ghost use Rattle.std.specs.Prelude.{◌≡◌, [], ◌∷◌, ◌++◌, OnOk, if◌then◌else◌};
-ghost use Rattle.trace_model.specs.declared.event.Kind.TheVariants.{Start, End};
+ghost use Rattle.vec_clock.specs.trace_model.declared.event.Kind.TheVariants.{Start, End};
 ghost use Rattle.trace_compare.specs.Walking.{places};
 
 use std::alloc::Global;
-use trace_model::{Packet, names};
-use vidi_bits::Memory;
+use vec_clock::trace_model::{Packet, names};
+use vec_clock::vidi_bits::Memory;
 
 /// The places of the packets that have a start, and of those that have an end, of a channel.
 #[derive(Drop)]

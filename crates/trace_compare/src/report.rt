@@ -3,8 +3,8 @@
 ghost use Rattle.std.specs.Prelude.{◌≡◌, [], ◌∷◌, ◌++◌, OnOk, if◌then◌else◌};
 ghost use Rattle.trace_compare.specs.Findings.{missing, extra, early};
 
-use trace_model::Kind;
-use vidi_bits::{Items, Memory};
+use vec_clock::trace_model::Kind;
+use vec_clock::vidi_bits::{Items, Memory};
 
 /// How the second of two traces is unlike the first.
 #[derive(Clone, Copy, PartialEq, Eq)]

@@ -5,3 +5,4 @@ pub mod ContentsLemmas
 pub mod RowLemmas
 pub mod RowLaws
 pub mod Examples
+pub use Rattle.vidi_bits.proofs as vidi_bits

@@ -9,3 +9,4 @@ pub mod Row
 pub mod Recording
 pub mod Stability
 pub mod Laws
+pub use Rattle.vidi_bits.specs as vidi_bits

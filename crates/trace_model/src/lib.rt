@@ -34,3 +34,4 @@ pub use row::{Offers, Row, Rows, push_zeros, row_over};
 pub use stability::unstable;
 pub use table::same_channels;
 pub use trace::Trace;
+pub use vidi_bits;

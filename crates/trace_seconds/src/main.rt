@@ -10,8 +10,8 @@ use std::env;
 use std::process::ExitCode;
 use std::rt::Clock;
 use std::time::Instant;
+use trace_code::trace_model::{Kind, Trace};
 use trace_code::{CodeError, Cursor, TRACE_LIMIT, decode, encode};
-use trace_model::{Kind, Trace};
 use vidi_io::{HostShelf, read_whole};
 
 /// What was measured of one file, in microseconds.

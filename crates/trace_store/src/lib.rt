@@ -4,3 +4,4 @@
 mod store;
 
 pub use store::Store;
+pub use vidi_bits;

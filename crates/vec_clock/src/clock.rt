@@ -3,13 +3,13 @@
 ghost use Rattle.std.specs.Prelude.{◌≡◌, ℕ, ◌+◌, ◌-◌, ◌*◌, ◌^◌, ◌<◌, ◌≤◌, ◌↔◌, true, IsTrue, IfOk, MatchOption, length, replicate};
 ghost use Rattle.std.specs.Prelude.{slice_index, slice_set};
 ghost use Rattle.std.specs.Int.{bit_at};
-ghost use Rattle.vidi_bits.specs.Number.{has};
+ghost use Rattle.trace_model.specs.vidi_bits.Number.{has};
 ghost use Rattle.trace_model.specs.Clock.{Covers};
 
 use std::alloc::Global;
 use std::marker::Model;
 use trace_model::lowest;
-use vidi_bits::Memory;
+use trace_model::vidi_bits::Memory;
 
 /// How many transactions of each channel have completed. A contract sees it as the list of these numbers,
 /// one a channel. Only `new` takes memory.

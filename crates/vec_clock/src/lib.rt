@@ -7,3 +7,5 @@
 mod clock;
 
 pub use clock::Clock;
+pub use trace_model;
+pub use trace_model::vidi_bits;

@@ -6,9 +6,9 @@ use std::env;
 use std::io::ErrorKind;
 use std::process::ExitCode;
 use std::rt::Env;
-use vidi_bits::Memory;
+use vidi_commands::vidi_bits::Memory;
+use vidi_commands::vidi_io::{HostShelf, HostSink, Text, Words};
 use vidi_commands::{Status, vidi};
-use vidi_io::{HostShelf, HostSink, Text, Words};
 
 fn main(rt: HostRuntime) -> ExitCode {
     let status = match words_after_name(&rt) {

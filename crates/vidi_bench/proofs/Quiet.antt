@@ -1,6 +1,6 @@
 -- Steps of commands: none of their answers a failed write, and the same where no read failed.
 use Rattle.std.proofs.Common.{◌≡◌, ◌≢◌, ℕ, List, Option, inl, inr, sym}
-use Rattle.vidi_io.specs.Shelf.{Files}
+use Rattle.report_text.specs.vidi_io.Shelf.{Files}
 use Rattle.report_text.specs.declared.reason.Word.{Word}
 use Rattle.report_text.specs.declared.reason.Reason.{Reason}
 use Rattle.report_text.specs.declared.reason.Reason.TheVariants.{TooLong}

@@ -1,15 +1,15 @@
 -- The texts of a design, a map and a script: no failed write among the answers of their steps, and the same where no read failed.
 use Rattle.std.proofs.Common.{◌≡◌, ℕ, List, Option, Ok, inl, inr, map}
-use Rattle.vlog_lex.specs.declared.token.Token.{Token}
-use Rattle.vlog_lex.specs.Reading.{HasTokens}
-use Rattle.vlog_tree.specs.Tree.{FileOf}
-use Rattle.net_design.specs.declared.design.Design.{Design}
-use Rattle.net_order.specs.Order.{IsOrder}
-use Rattle.chan_map.specs.declared.text.MapText.{MapText}
-use Rattle.chan_map.specs.declared.pins.Map.{Map}
-use Rattle.chan_map.specs.Text.{ReadsMap}
-use Rattle.chan_map.specs.Bound.{BindsMap}
-use Rattle.vidi_io.specs.Shelf.{Files}
+use Rattle.vlog_parse.specs.vlog_lex.declared.token.Token.{Token}
+use Rattle.vlog_parse.specs.vlog_lex.Reading.{HasTokens}
+use Rattle.vlog_parse.specs.vlog_tree.Tree.{FileOf}
+use Rattle.vlog_design.specs.net_design.declared.design.Design.{Design}
+use Rattle.vlog_design.specs.net_order.Order.{IsOrder}
+use Rattle.env_script.specs.chan_map.declared.text.MapText.{MapText}
+use Rattle.env_script.specs.chan_map.declared.pins.Map.{Map}
+use Rattle.env_script.specs.chan_map.Text.{ReadsMap}
+use Rattle.env_script.specs.chan_map.Bound.{BindsMap}
+use Rattle.report_text.specs.vidi_io.Shelf.{Files}
 use Rattle.report_text.specs.declared.reason.Word.TheVariants as words
 use Rattle.report_text.specs.declared.reason.Reason.TheVariants.{Word, Deep, Item, Loop}
 use Rattle.vidi_bench.specs.Benches.{IsNoScript, RefusedTexts, ReadTexts}

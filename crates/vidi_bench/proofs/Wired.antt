@@ -1,11 +1,11 @@
 -- The steps of a design and a map: what they say together, and what ends a command that goes on with it.
 use Rattle.std.proofs.Common.{ℕ, List, Result, Ok, Err, inl, inr}
 use Rattle.std.specs.Prelude.{IfOk}
-use Rattle.vlog_tree.specs.Tree.{FileOf}
-use Rattle.chan_map.specs.declared.text.MapText.{MapText}
-use Rattle.chan_map.specs.declared.pins.Map.{Map}
-use Rattle.chan_map.specs.Text.{ReadsMap}
-use Rattle.chan_map.specs.Bound.{BindsMap}
+use Rattle.vlog_parse.specs.vlog_tree.Tree.{FileOf}
+use Rattle.env_script.specs.chan_map.declared.text.MapText.{MapText}
+use Rattle.env_script.specs.chan_map.declared.pins.Map.{Map}
+use Rattle.env_script.specs.chan_map.Text.{ReadsMap}
+use Rattle.env_script.specs.chan_map.Bound.{BindsMap}
 use Rattle.vidi_bench.specs.declared.answer.Ended.{Ended}
 use Rattle.vidi_bench.specs.declared.device.Device.{Device}
 use Rattle.vidi_bench.specs.Design.{IsAccepted, Spells}

@@ -1,12 +1,12 @@
 -- What the texts of a design, a map and a script say together, or the first reason for which they are refused.
 use Rattle.std.specs.Prelude.{◌≡◌, ℕ, ◌≤◌, List, Option, None, Some, Ok, Err, length}
-use Rattle.vidi_io.specs.Shelf.{Files}
-use Rattle.chan_map.specs.declared.pins.Map.{Map}
-use Rattle.script_text.specs.declared.error.ScriptError.{ScriptError}
-use Rattle.script_text.specs.declared.error.ScriptError.TheVariants as errors
-use Rattle.script_text.specs.Reasons.{read_lines}
-use Rattle.script_text.specs.Fits.{FitsChannels}
-use Rattle.script_text.specs.Reads.{ReadsScript}
+use Rattle.report_text.specs.vidi_io.Shelf.{Files}
+use Rattle.env_script.specs.chan_map.declared.pins.Map.{Map}
+use Rattle.env_script.specs.script_text.declared.error.ScriptError.{ScriptError}
+use Rattle.env_script.specs.script_text.declared.error.ScriptError.TheVariants as errors
+use Rattle.env_script.specs.script_text.Reasons.{read_lines}
+use Rattle.env_script.specs.script_text.Fits.{FitsChannels}
+use Rattle.env_script.specs.script_text.Reads.{ReadsScript}
 use Rattle.report_text.specs.declared.reason.Word.TheVariants as words
 use Rattle.report_text.specs.declared.reason.Reason.{Reason}
 use Rattle.report_text.specs.declared.reason.Reason.TheVariants as reasons

@@ -1,17 +1,17 @@
 -- What the texts of a design and a map say together, or the first reason for which they are refused.
 use Rattle.std.specs.Prelude.{◌≡◌, ℕ, List, Option, None, Some, Ok, Err}
-use Rattle.vlog_tree.specs.Tree.{FileOf}
-use Rattle.trace_model.specs.Channel.{IsTable}
-use Rattle.net_design.specs.declared.design.Design.{Design}
-use Rattle.net_design.specs.Lawful.{IsLawful}
-use Rattle.net_order.specs.Order.{IsOrder}
-use Rattle.chan_map.specs.declared.error.MapError.{MapError}
-use Rattle.chan_map.specs.declared.error.MapError.TheVariants as errors
-use Rattle.chan_map.specs.declared.text.MapText.{MapText}
-use Rattle.chan_map.specs.declared.pins.Map.{Map}
-use Rattle.chan_map.specs.Text.{ReadsMap}
-use Rattle.chan_map.specs.Bound.{BindsMap}
-use Rattle.run_model.specs.MapOf.{IsMapOf}
+use Rattle.vlog_parse.specs.vlog_tree.Tree.{FileOf}
+use Rattle.env_script.specs.trace_model.Channel.{IsTable}
+use Rattle.vlog_design.specs.net_design.declared.design.Design.{Design}
+use Rattle.vlog_design.specs.net_design.Lawful.{IsLawful}
+use Rattle.vlog_design.specs.net_order.Order.{IsOrder}
+use Rattle.env_script.specs.chan_map.declared.error.MapError.{MapError}
+use Rattle.env_script.specs.chan_map.declared.error.MapError.TheVariants as errors
+use Rattle.env_script.specs.chan_map.declared.text.MapText.{MapText}
+use Rattle.env_script.specs.chan_map.declared.pins.Map.{Map}
+use Rattle.env_script.specs.chan_map.Text.{ReadsMap}
+use Rattle.env_script.specs.chan_map.Bound.{BindsMap}
+use Rattle.env_script.specs.run_model.MapOf.{IsMapOf}
 use Rattle.report_text.specs.declared.reason.Word.TheVariants as words
 use Rattle.report_text.specs.declared.reason.Reason.{Reason}
 use Rattle.report_text.specs.declared.reason.Reason.TheVariants as reasons

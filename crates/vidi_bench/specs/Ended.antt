@@ -1,6 +1,6 @@
 -- What ends a command before its answer, and what a command gives.
 use Rattle.std.specs.Prelude.{◌≡◌, ℕ, List, Option, Result, Ok, Err}
-use Rattle.vidi_io.specs.Shelf.{Files}
+use Rattle.report_text.specs.vidi_io.Shelf.{Files}
 use Rattle.vidi_bench.specs.declared.answer.Answer.{Answer}
 use Rattle.vidi_bench.specs.declared.answer.Ended.{Ended}
 use Rattle.vidi_bench.specs.declared.answer.Ended.TheVariants.{Refused, WriteFault, Memory}

@@ -1,7 +1,7 @@
 -- How the files of a command are read, where ReadFailed says of which names a read has failed.
 use Rattle.std.specs.Prelude.{◌≡◌, ℕ, ◌<◌, ◌≤◌, ◌⊎◌, List, Option, None, IfSome, IsSomeAnd, length}
 use Rattle.std.specs.FinMap.{get}
-use Rattle.vidi_io.specs.Shelf.{Files}
+use Rattle.report_text.specs.vidi_io.Shelf.{Files}
 use Rattle.report_text.specs.declared.reason.Word.{Word}
 use Rattle.report_text.specs.declared.reason.Reason.TheVariants.{TooLong}
 use Rattle.report_text.specs.Reason.{read_fault_line}

@@ -1,7 +1,7 @@
 -- The answers for a file that could not be read.
 use Rattle.std.specs.Prelude.{◌≡◌, ℕ, List}
-use Rattle.vidi_io.specs.declared.reading.ReadError.{ReadError}
-use Rattle.vidi_io.specs.declared.reading.ReadError.TheVariants as errors
+use Rattle.report_text.specs.vidi_io.declared.reading.ReadError.{ReadError}
+use Rattle.report_text.specs.vidi_io.declared.reading.ReadError.TheVariants as errors
 use Rattle.report_text.specs.declared.reason.Word.{Word}
 use Rattle.report_text.specs.declared.reason.Reason.TheVariants.{TooLong}
 use Rattle.vidi_bench.specs.declared.status.Status.{Status}

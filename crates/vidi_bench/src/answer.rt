@@ -2,17 +2,17 @@
 
 ghost use Rattle.std.specs.Prelude.{◌≡◌, OnOk, OnErr, IfOk};
 ghost use Rattle.std.specs.Io.KnownBytes.{append_known};
-ghost use Rattle.vidi_io.specs.Cause.{HasCause};
-ghost use Rattle.vidi_io.specs.Sink.{AppendsSome, Frame};
+ghost use Rattle.report_text.specs.vidi_io.Cause.{HasCause};
+ghost use Rattle.report_text.specs.vidi_io.Sink.{AppendsSome, Frame};
 ghost use Rattle.vidi_bench.specs.AnswerText.{text_of};
 ghost use Rattle.report_text.specs.Reason.{reason_line};
 ghost use Rattle.vidi_bench.specs.Usage.{usage_line};
 
 use crate::status::{Reason, Status, Word};
+use report_text::vidi_io::{Failed, Sink};
 use report_text::{Pad, RunLines, TraceLines, reason_line};
 use std::alloc::Global;
-use vidi_bits::{Bytes, Memory};
-use vidi_io::{Failed, Sink};
+use vlog_parse::vidi_bits::{Bytes, Memory};
 
 /// A text that is still to be said, with all memory that saying it takes.
 #[derive(Drop)]

@@ -1,10 +1,10 @@
 //! What the files of a design, a map and a script say together.
 
 ghost use Rattle.std.specs.Prelude.{◌≡◌, ◌≤◌, IfOk, IfErr, Ok, length};
-ghost use Rattle.script_text.specs.Reasons.{read_lines};
-ghost use Rattle.script_text.specs.Reads.{ReadsScript};
-ghost use Rattle.vidi_io.specs.Cause.{Rose};
-ghost use Rattle.vidi_io.specs.Shelf.{Later};
+ghost use Rattle.env_script.specs.script_text.Reasons.{read_lines};
+ghost use Rattle.env_script.specs.script_text.Reads.{ReadsScript};
+ghost use Rattle.report_text.specs.vidi_io.Cause.{Rose};
+ghost use Rattle.report_text.specs.vidi_io.Shelf.{Later};
 ghost use Rattle.vidi_bench.specs.AnswerText.{text_of};
 ghost use Rattle.vidi_bench.specs.Benches as spec;
 ghost use Rattle.vidi_bench.specs.Benches.{AreWithin, IsBench, IsNoScript, IsPlayable, IsScriptRefusal, ReadTexts, RefusedTexts};
@@ -17,12 +17,12 @@ use crate::answer::{Answer, Ended, refused};
 use crate::device::{Device, device_of};
 use crate::read::{TEXT_LIMIT, read_file};
 use crate::status::{Reason, Word};
-use chan_map::Map;
+use env_script::chan_map::Map;
+use env_script::script_text::Script;
 use env_script::{ScriptError, read_script};
-use script_text::Script;
+use report_text::vidi_io::Shelf;
 use std::alloc::Global;
-use vidi_bits::{Bytes, Memory};
-use vidi_io::Shelf;
+use vlog_parse::vidi_bits::{Bytes, Memory};
 
 /// The texts of a design, a map and a script.
 #[derive(Drop)]

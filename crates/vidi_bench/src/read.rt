@@ -1,8 +1,8 @@
 //! Reading the files of a command.
 
 ghost use Rattle.std.specs.Prelude.{◌≡◌, ◌≤◌, IfOk, IfErr, length};
-ghost use Rattle.vidi_io.specs.Cause.{Rose};
-ghost use Rattle.vidi_io.specs.Shelf.{Later};
+ghost use Rattle.report_text.specs.vidi_io.Cause.{Rose};
+ghost use Rattle.report_text.specs.vidi_io.Shelf.{Later};
 ghost use Rattle.vidi_bench.specs.AnswerText.{text_of};
 ghost use Rattle.vidi_bench.specs.Ended.{EndsWith};
 ghost use Rattle.vidi_bench.specs.Reading.{IsRead, IsUnread};
@@ -12,9 +12,9 @@ ghost use Rattle.vidi_bench.specs.Unfetched.{IsUnfetched};
 use crate::answer::{Answer, Ended, refused, with_bytes};
 use crate::status::{Reason, Status, Word};
 use report_text::read_fault_line;
+use report_text::vidi_io::{ReadError, Shelf, read_whole};
 use std::alloc::Global;
-use vidi_bits::{Bytes, Memory};
-use vidi_io::{ReadError, Shelf, read_whole};
+use vlog_parse::vidi_bits::{Bytes, Memory};
 
 /// The longest text of a design, a map, a script or a plan of stalls, in bytes.
 pub const TEXT_LIMIT: u64 = 4_194_304;

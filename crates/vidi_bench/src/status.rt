@@ -3,9 +3,9 @@
 ghost use Rattle.std.specs.Prelude.{◌≡◌};
 ghost use Rattle.vidi_bench.specs.Exit as exit;
 
+use env_script::run_model::Helds;
+use env_script::trace_model::Events;
 pub use report_text::{Reason, Word};
-use run_model::Helds;
-use trace_model::Events;
 
 /// What a call of `vidi` answers.
 #[derive(Drop)]

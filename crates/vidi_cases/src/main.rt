@@ -2,11 +2,11 @@
 //! designs. docs/CASES.md has the words.
 #![tactic(auto)]
 
+use case_player::vidi_io::{MemShelf, MemSink, Words};
 use case_player::{Caller, play_program};
 use std::alloc::Global;
 use std::process::ExitCode;
 use vidi_commands::vidi;
-use vidi_io::{MemShelf, MemSink, Words};
 
 /// What answers the words of a case. The folder of its case file says which of the three it is.
 struct Answerer;

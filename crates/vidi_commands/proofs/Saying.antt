@@ -1,14 +1,14 @@
 -- From what was earned and what was said to the answer of a call.
 use Rattle.std.proofs.Common.{◌≡◌, ◌≢◌, ℕ, List, Option, inl, inr, sym, subst, refl}
 use Rattle.std.specs.Io.KnownBytes.{append_known}
-use Rattle.vidi_io.specs.Shelf.{Files}
-use Rattle.vidi_bench.specs.declared.status.Status.{Status}
-use Rattle.vidi_bench.specs.declared.status.Status.TheVariants.{Done, Usage, ReadFault, WriteFault, Refused, Unstable, Short, Diverged, Memory}
+use Rattle.wrap_command.specs.vidi_io.Shelf.{Files}
+use Rattle.wrap_command.specs.vidi_bench.declared.status.Status.{Status}
+use Rattle.wrap_command.specs.vidi_bench.declared.status.Status.TheVariants.{Done, Usage, ReadFault, WriteFault, Refused, Unstable, Short, Diverged, Memory}
 use Rattle.vidi_commands.specs.Command.{Command, Dump, Check, Run, Record, Replay, Compare, Salvage, Wrap, Sample}
 use Rattle.vidi_commands.specs.Answer.{Does, Earns, Answers, Says}
-use Rattle.trace_commands.proofs.QuietTraces.{mute-dumps, mute-compares, mute-saves, quiet-dumps, quiet-compares, quiet-saves}
-use Rattle.run_commands.proofs.QuietTexts.{mute-checks, mute-runs, mute-records, quiet-checks, quiet-runs, quiet-records}
-use Rattle.replay_command.proofs.QuietReplays.{mute-replays, quiet-replays}
+use Rattle.sample_command.proofs.trace_commands.QuietTraces.{mute-dumps, mute-compares, mute-saves, quiet-dumps, quiet-compares, quiet-saves}
+use Rattle.sample_command.proofs.run_commands.QuietTexts.{mute-checks, mute-runs, mute-records, quiet-checks, quiet-runs, quiet-records}
+use Rattle.sample_command.proofs.replay_command.QuietReplays.{mute-replays, quiet-replays}
 use Rattle.sample_command.proofs.QuietSamples.{mute-samples}
 use Rattle.wrap_command.proofs.QuietWraps.{mute-wraps, quiet-wraps}
 

@@ -1,17 +1,17 @@
 -- What a call of `vidi` owes: each answer with its cause and its text.
 use Rattle.std.specs.Prelude.{◌≡◌, ℕ, ◌⊎◌, List, Option}
 use Rattle.std.specs.Io.KnownBytes.{append_known}
-use Rattle.vidi_io.specs.Shelf.{Files}
-use Rattle.vidi_io.specs.Sink.{AppendsSome}
-use Rattle.vidi_bench.specs.declared.status.Status.{Status}
-use Rattle.vidi_bench.specs.declared.status.Status.TheVariants.{Usage, WriteFault, Memory}
+use Rattle.wrap_command.specs.vidi_io.Shelf.{Files}
+use Rattle.wrap_command.specs.vidi_io.Sink.{AppendsSome}
+use Rattle.wrap_command.specs.vidi_bench.declared.status.Status.{Status}
+use Rattle.wrap_command.specs.vidi_bench.declared.status.Status.TheVariants.{Usage, WriteFault, Memory}
 use Rattle.vidi_commands.specs.Command.{Command, Dump, Check, Run, Record, Replay, Compare, Salvage, Wrap, Sample, IsGiven}
-use Rattle.vidi_bench.specs.Steps.{IsSaid}
-use Rattle.trace_commands.specs.Traces.{Dumps, Compares, Saves, StopsSaving}
-use Rattle.run_commands.specs.Checks.{Checks}
-use Rattle.run_commands.specs.Runs.{Runs}
-use Rattle.run_commands.specs.Records.{Records, StopsRecording}
-use Rattle.replay_command.specs.Replays.{Replays, StopsReplaying}
+use Rattle.wrap_command.specs.vidi_bench.Steps.{IsSaid}
+use Rattle.sample_command.specs.trace_commands.Traces.{Dumps, Compares, Saves, StopsSaving}
+use Rattle.sample_command.specs.run_commands.Checks.{Checks}
+use Rattle.sample_command.specs.run_commands.Runs.{Runs}
+use Rattle.sample_command.specs.run_commands.Records.{Records, StopsRecording}
+use Rattle.sample_command.specs.replay_command.Replays.{Replays, StopsReplaying}
 use Rattle.wrap_command.specs.Wraps.{Wraps, StopsWrapping}
 use Rattle.sample_command.specs.Samples.{Samples}
 use Rattle.vidi_commands.specs.Said.{usage_line, memory_line}

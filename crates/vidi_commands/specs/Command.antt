@@ -1,8 +1,8 @@
 -- The commands, and the words that give them (this project's profile).
 use Rattle.std.specs.Prelude.{◌≡◌, ◌≢◌, ℕ, ◌≤◌, List, [], ◌∷◌, Some, codes}
-use Rattle.vidi_lines.specs.Number.{number_of}
-use Rattle.sample_gen.specs.declared.generate.TheConstants.{LARGEST}
-use Rattle.script_text.specs.declared.script.TheConstants.{MOST_CYCLES}
+use Rattle.wrap_command.specs.vidi_lines.Number.{number_of}
+use Rattle.sample_command.specs.sample_gen.declared.generate.TheConstants.{LARGEST}
+use Rattle.sample_command.specs.script_text.declared.script.TheConstants.{MOST_CYCLES}
 use Rattle.vidi_commands.specs.declared.command.Command as declared
 use Rattle.vidi_commands.specs.declared.command.Command.TheVariants as variants
 

@@ -3,10 +3,10 @@
 ghost use Rattle.std.specs.Prelude.{ℕ, [], ◌∷◌, MatchOption, codes};
 ghost use Rattle.vidi_commands.specs.Command as spec;
 
-use sample_gen::LARGEST;
-use script_text::MOST_CYCLES;
-use vidi_io::Words;
-use vidi_lines::number;
+use sample_command::sample_gen::LARGEST;
+use sample_command::script_text::MOST_CYCLES;
+use wrap_command::vidi_io::Words;
+use wrap_command::vidi_lines::number;
 
 /// A command with its parts.
 #[derive(Clone, Copy)]

@@ -4,5 +4,9 @@
 mod command;
 mod top;
 
+pub use sample_command::{replay_run, script_text, trace_code};
 pub use top::vidi;
-pub use vidi_bench::{Reason, Status, Word};
+pub use wrap_command::vidi_bench::{Reason, Status, Word};
+pub use wrap_command::{
+    chan_map, net_order, run_model, vidi_bits, vidi_io, vlog_design, vlog_lex, vlog_parse,
+};

@@ -1,22 +1,22 @@
 //! The one public call.
 
 ghost use Rattle.std.specs.Prelude.{◌≡◌, ℕ, ◌≤◌, ◌⊎◌, List};
-ghost use Rattle.vidi_io.specs.Cause.{Rose};
-ghost use Rattle.vidi_io.specs.Shelf.{Later};
-ghost use Rattle.vidi_io.specs.Sink.{Frame};
+ghost use Rattle.wrap_command.specs.vidi_io.Cause.{Rose};
+ghost use Rattle.wrap_command.specs.vidi_io.Shelf.{Later};
+ghost use Rattle.wrap_command.specs.vidi_io.Sink.{Frame};
 ghost use Rattle.vidi_commands.specs.Answer.{Answers, Earns, Says, Stops};
-ghost use Rattle.vidi_bench.specs.AnswerText.{text_of};
-ghost use Rattle.vidi_bench.specs.Ended.{Owes};
+ghost use Rattle.wrap_command.specs.vidi_bench.AnswerText.{text_of};
+ghost use Rattle.wrap_command.specs.vidi_bench.Ended.{Owes};
 ghost use Rattle.vidi_commands.specs.Said as said;
 
 use crate::command::Command;
-use replay_command::replay;
-use run_commands::{check, record, run};
+use sample_command::replay_command::replay;
+use sample_command::run_commands::{check, record, run};
 use sample_command::sample;
+use sample_command::trace_commands::{compare, dump, salvage};
 use std::alloc::Global;
-use trace_commands::{compare, dump, salvage};
-use vidi_bench::{Answer, Ended, Status, usage};
-use vidi_io::{Failed, Shelf, Sink, Words};
+use wrap_command::vidi_bench::{Answer, Ended, Status, usage};
+use wrap_command::vidi_io::{Failed, Shelf, Sink, Words};
 use wrap_command::wrap;
 
 /// Does what the words ask for: reads and writes files of the shelf, and says its text to `out`.

@@ -10,3 +10,4 @@ pub mod MemSink
 pub mod FixedSink
 pub mod ShelfSink
 pub mod Writing
+pub use Rattle.vidi_bits.specs as vidi_bits

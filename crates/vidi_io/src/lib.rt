@@ -27,5 +27,6 @@ pub use reading::{ReadError, read_whole};
 pub use shelf::{FetchError, Shelf};
 pub use shelf_sink::ShelfSink;
 pub use sink::{Failed, Sink};
+pub use vidi_bits;
 pub use words::{Text, Words};
 pub use writing::write_whole;

@@ -1,7 +1,7 @@
 //! Lists, and each whole-number call, with ample memory.
 
 use std::alloc::Global;
-use vidi_bits::{
+use vidi_lines::vidi_bits::{
     Bytes, Items, Name, Numbers, add_w, copied, join, mul_w, put, shl_w, shr_w, slice, sub_w, trim,
 };
 

@@ -2,11 +2,11 @@
 //! is reported.
 
 use crate::tests::failing_sink;
+use case_player::vidi_io::{Fails, MemShelf, MemSink, Shelf, Sink, Text, Words};
 use case_player::{Caller, PlayError, play_files, play_text};
 use std::alloc::Global;
 use std::process::Abort;
-use vidi_bits::{Memory, Numbers};
-use vidi_io::{Fails, MemShelf, MemSink, Shelf, Sink, Text, Words};
+use vidi_lines::vidi_bits::{Memory, Numbers};
 
 /// Says each word's file where there is one, adds `.` to the file `out`, and answers 1 where there is a word.
 struct Echo;

@@ -1,13 +1,13 @@
 //! Shelves, sinks and readings with ample memory and with failing calls.
 
-use std::alloc::Global;
-use std::rt::{Env, Files};
-use std::{env, fs, process};
-use vidi_bits::{Bytes, Memory, Numbers};
-use vidi_io::{
+use case_player::vidi_io::{
     Fail, FailCall, Fails, FetchError, FixedSink, HostShelf, HostSink, MemShelf, MemSink,
     ReadError, Shelf, ShelfSink, Sink, Text, read_whole,
 };
+use std::alloc::Global;
+use std::rt::{Env, Files};
+use std::{env, fs, process};
+use vidi_lines::vidi_bits::{Bytes, Memory, Numbers};
 
 fn is_copied(alloc: Global, text: &str) -> bool {
     match Text::from_str(alloc, text) {

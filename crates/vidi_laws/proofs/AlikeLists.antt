@@ -1,7 +1,7 @@
 -- What two lists have in common whose elements stand for the same things, one for one.
 use Rattle.std.proofs.Common.{◌≡◌, zero, suc, Bool, ◌||◌, List, [], ◌∷◌, ◌++◌, refl, arith}
 use Rattle.std.specs.List.{All, AllZip, flat_map, list_any}
-use Rattle.vidi_bits.specs.Findings.{is_nil}
+use Rattle.vidi_commands.specs.vidi_bits.Findings.{is_nil}
 
 module _ {A B : Type 0} (R : A → B → Type 0) where
   -- some element passes a test

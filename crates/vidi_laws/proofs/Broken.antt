@@ -4,22 +4,22 @@ use Rattle.std.specs.FinMap.{get}
 use Rattle.std.specs.List.{flat_map}
 use Rattle.std.proofs.lemmas.List.{length-take, length-take-le, length-append, take_at}
 use Rattle.std.proofs.lemmas.List.Elements.{All-take}
-use Rattle.trace_model.specs.declared.packet.Packet.{Packet}
-use Rattle.trace_model.specs.declared.trace.Trace.{Trace}
-use Rattle.trace_model.specs.Packet.{IsPacket}
-use Rattle.trace_model.proofs.FlightLemmas.{alternates-take}
-use Rattle.trace_model.specs.Recording.{trace_of}
-use Rattle.trace_code.specs.declared.error.CodeError.{CodeError}
-use Rattle.trace_code.specs.declared.error.CodeError.TheVariants as errors
-use Rattle.trace_code.specs.Decoding.{HasNoHeader}
-use Rattle.trace_code.specs.Encoding.{HasEncoding, encode, end_mark, header_bytes, packet_bytes}
-use Rattle.trace_code.specs.Salvage.{front, FrontIsSalvaged, LieWhole, Salvages}
-use Rattle.vidi_io.specs.Shelf.{Files, holding}
-use Rattle.report_text.specs.declared.reason.Word.TheVariants as words
-use Rattle.vidi_bench.specs.declared.status.Status.{Status}
-use Rattle.vidi_bench.specs.Reading.{IsRead}
+use Rattle.vidi_commands.specs.trace_model.declared.packet.Packet.{Packet}
+use Rattle.vidi_commands.specs.trace_model.declared.trace.Trace.{Trace}
+use Rattle.vidi_commands.specs.trace_model.Packet.{IsPacket}
+use Rattle.vidi_commands.proofs.trace_model.FlightLemmas.{alternates-take}
+use Rattle.vidi_commands.specs.trace_model.Recording.{trace_of}
+use Rattle.vidi_commands.specs.trace_code.declared.error.CodeError.{CodeError}
+use Rattle.vidi_commands.specs.trace_code.declared.error.CodeError.TheVariants as errors
+use Rattle.vidi_commands.specs.trace_code.Decoding.{HasNoHeader}
+use Rattle.vidi_commands.specs.trace_code.Encoding.{HasEncoding, encode, end_mark, header_bytes, packet_bytes}
+use Rattle.vidi_commands.specs.trace_code.Salvage.{front, FrontIsSalvaged, LieWhole, Salvages}
+use Rattle.vidi_commands.specs.vidi_io.Shelf.{Files, holding}
+use Rattle.vidi_commands.specs.report_text.declared.reason.Word.TheVariants as words
+use Rattle.vidi_commands.specs.vidi_bench.declared.status.Status.{Status}
+use Rattle.vidi_commands.specs.vidi_bench.Reading.{IsRead}
 use Rattle.vidi_commands.specs.Said.{salvaged_line}
-use Rattle.trace_commands.specs.Traces.{trace_limit, IsHeaderless, Saves}
+use Rattle.vidi_commands.specs.trace_commands.Traces.{trace_limit, IsHeaderless, Saves}
 use Rattle.vidi_laws.specs.Headline.{BrokenRecordingIsSalvaged, IsBrokenOff, KeepsWhole, SalvagedTraceIsReplayable}
 use Rattle.vidi_laws.proofs.Headline.{read-there, recorded-short, replayable-there, run-kept}
 use Rattle.vidi_laws.proofs.OneEnding.{one-read, reading-apart}

@@ -1,22 +1,22 @@
 -- What holds of every replay, said of the three files.
 use Rattle.std.proofs.Common.{ℕ, ◌≤◌, List, [], ◌∷◌, ◌++◌, length, refl, subst, arith}
 use Rattle.std.proofs.lemmas.List.{take_at}
-use Rattle.trace_model.specs.declared.channel.Channel.{Channel}
-use Rattle.trace_model.specs.declared.packet.Packet.{Packet}
-use Rattle.trace_model.specs.declared.row.Row.{Row}
-use Rattle.trace_model.specs.Recording.{packets_of}
-use Rattle.trace_model.specs.Trace.{IsWellFormed}
-use Rattle.net_design.specs.declared.design.Design.{Design}
-use Rattle.chan_map.specs.declared.pins.Map.{Map}
-use Rattle.run_model.specs.Played.{AreStable}
-use Rattle.run_model.specs.Replay.{IsReplay, IsReplayRow}
-use Rattle.run_model.proofs.Circle.{no-circle}
-use Rattle.run_model.proofs.PlayedLaws.{played-front}
-use Rattle.run_model.proofs.ReplayLaws.{order-in_the_output, replay-keeps_contents}
-use Rattle.replay_run.specs.declared.outcome.ReplayOutcome.{ReplayOutcome}
-use Rattle.replay_run.specs.declared.outcome.ReplayOutcome.TheVariants.{Ended, Short, Unstable}
-use Rattle.replay_run.specs.Replaying.{EndsAs, GoesInNoCircle}
-use Rattle.replay_run.proofs.Writing.{packets-few}
+use Rattle.vidi_commands.specs.trace_model.declared.channel.Channel.{Channel}
+use Rattle.vidi_commands.specs.trace_model.declared.packet.Packet.{Packet}
+use Rattle.vidi_commands.specs.trace_model.declared.row.Row.{Row}
+use Rattle.vidi_commands.specs.trace_model.Recording.{packets_of}
+use Rattle.vidi_commands.specs.trace_model.Trace.{IsWellFormed}
+use Rattle.vidi_commands.specs.net_design.declared.design.Design.{Design}
+use Rattle.vidi_commands.specs.chan_map.declared.pins.Map.{Map}
+use Rattle.vidi_commands.specs.run_model.Played.{AreStable}
+use Rattle.vidi_commands.specs.run_model.Replay.{IsReplay, IsReplayRow}
+use Rattle.vidi_commands.proofs.run_model.Circle.{no-circle}
+use Rattle.vidi_commands.proofs.run_model.PlayedLaws.{played-front}
+use Rattle.vidi_commands.proofs.run_model.ReplayLaws.{order-in_the_output, replay-keeps_contents}
+use Rattle.vidi_commands.specs.replay_run.declared.outcome.ReplayOutcome.{ReplayOutcome}
+use Rattle.vidi_commands.specs.replay_run.declared.outcome.ReplayOutcome.TheVariants.{Ended, Short, Unstable}
+use Rattle.vidi_commands.specs.replay_run.Replaying.{EndsAs, GoesInNoCircle}
+use Rattle.vidi_commands.proofs.replay_run.Writing.{packets-few}
 use Rattle.vidi_laws.specs.Headline.{AreNamed, ReplayIsFaithful}
 use Rattle.vidi_laws.proofs.KeptOrder.{findings-keep}
 

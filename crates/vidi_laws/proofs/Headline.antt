@@ -2,24 +2,24 @@
 use Rattle.std.proofs.Common.{◌≡◌, ◌≤◌, ℕ, List, Option, Some, length, refl, sym, subst, arith}
 use Rattle.std.specs.Prelude.{IsSomeAnd}
 use Rattle.std.specs.FinMap.{get}
-use Rattle.vidi_io.specs.Shelf.{Files}
-use Rattle.trace_model.specs.Recording.{trace_of}
-use Rattle.trace_model.specs.declared.trace.Trace.{Trace}
-use Rattle.trace_code.specs.Encoding.{encode, HasEncoding}
-use Rattle.script_text.specs.declared.script.TheConstants.{MOST_CYCLES}
-use Rattle.script_text.specs.ScriptOffer.{script_offer}
-use Rattle.script_text.specs.declared.stalls.Stalls.{Stalls}
-use Rattle.env_script.proofs.Lasting.{script-lasts}
-use Rattle.bench_run.proofs.PlainLaws.{plain-keeps, plain-of}
-use Rattle.vidi_recorder.proofs.Kept.{drained-plain, no-hidden_gate}
-use Rattle.vidi_recorder.proofs.Runs.{the-run}
-use Rattle.vidi_recorder.proofs.ScriptKept.{script-kept, full-drains}
-use Rattle.vidi_recorder.proofs.Short.{trace-short}
-use Rattle.vidi_bench.specs.Reading.{IsRead}
-use Rattle.vidi_bench.specs.declared.bench.Bench.{Bench}
-use Rattle.run_commands.specs.Records.{course_of, IsPlanned}
-use Rattle.replay_command.specs.Replays.{IsReplayable}
-use Rattle.trace_commands.specs.Traces.{trace_limit}
+use Rattle.vidi_commands.specs.vidi_io.Shelf.{Files}
+use Rattle.vidi_commands.specs.trace_model.Recording.{trace_of}
+use Rattle.vidi_commands.specs.trace_model.declared.trace.Trace.{Trace}
+use Rattle.vidi_commands.specs.trace_code.Encoding.{encode, HasEncoding}
+use Rattle.vidi_commands.specs.script_text.declared.script.TheConstants.{MOST_CYCLES}
+use Rattle.vidi_commands.specs.script_text.ScriptOffer.{script_offer}
+use Rattle.vidi_commands.specs.script_text.declared.stalls.Stalls.{Stalls}
+use Rattle.vidi_commands.proofs.env_script.Lasting.{script-lasts}
+use Rattle.vidi_commands.proofs.bench_run.PlainLaws.{plain-keeps, plain-of}
+use Rattle.vidi_commands.proofs.vidi_recorder.Kept.{drained-plain, no-hidden_gate}
+use Rattle.vidi_commands.proofs.vidi_recorder.Runs.{the-run}
+use Rattle.vidi_commands.proofs.vidi_recorder.ScriptKept.{script-kept, full-drains}
+use Rattle.vidi_commands.proofs.vidi_recorder.Short.{trace-short}
+use Rattle.vidi_commands.specs.vidi_bench.Reading.{IsRead}
+use Rattle.vidi_commands.specs.vidi_bench.declared.bench.Bench.{Bench}
+use Rattle.vidi_commands.specs.run_commands.Records.{course_of, IsPlanned}
+use Rattle.vidi_commands.specs.replay_command.Replays.{IsReplayable}
+use Rattle.vidi_commands.specs.trace_commands.Traces.{trace_limit}
 use Rattle.vidi_laws.specs.Headline.{RecordedRunIsKept, RecordedTraceIsReplayable, RecordedTraceIsShort, DrainedRecordingIsTheRun, WidePlanDrains}
 use Rattle.vidi_laws.specs.Headline.{RecordingHidesNoGate, PrintedRunKeepsContents}
 

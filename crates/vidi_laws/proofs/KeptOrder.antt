@@ -9,23 +9,23 @@ use Rattle.std.proofs.lemmas.List.Elements.{All-nil, All-cons, All-append}
 use Rattle.std.proofs.lemmas.List.Folds.{list_any_none}
 use Rattle.std.proofs.lemmas.List.FromFn.{length-range_with_len, get_or-range_with_len}
 use lib.Pointwise.{pointwise}
-use Rattle.vidi_bits.proofs.Lists.{some_same}
-use Rattle.trace_model.specs.declared.channel.Channel.{Channel}
-use Rattle.trace_model.specs.declared.channel.Dir.{Dir}
-use Rattle.trace_model.specs.declared.channel.Dir.TheVariants.{Inward, Outward}
-use Rattle.trace_model.specs.declared.event.Kind.{Kind}
-use Rattle.trace_model.specs.declared.event.Kind.TheVariants.{Start, End}
-use Rattle.trace_model.specs.declared.packet.Packet.{Packet}
-use Rattle.trace_model.specs.Clock.{clock, Covers}
-use Rattle.trace_model.specs.Counting.{IsNth}
-use Rattle.trace_model.specs.Packet.{content_of, count, does}
-use Rattle.trace_model.proofs.CountingLemmas.{count-cons, nth, nth-below, nth-unique}
-use Rattle.trace_compare.specs.declared.report.Finding.{Finding}
-use Rattle.trace_compare.specs.declared.report.What.{What}
-use Rattle.trace_compare.specs.declared.report.What.TheVariants.{Differs}
-use Rattle.trace_compare.specs.Findings.{different, differing, differs, early, early_marks, early_ones, events_from, extra, findings_on}
-use Rattle.trace_compare.specs.Findings.{found, in_both, is_early, marked, missing, only_one}
-use Rattle.run_model.specs.Laws.{controls, AreInOrder}
+use Rattle.vidi_commands.proofs.vidi_bits.Lists.{some_same}
+use Rattle.vidi_commands.specs.trace_model.declared.channel.Channel.{Channel}
+use Rattle.vidi_commands.specs.trace_model.declared.channel.Dir.{Dir}
+use Rattle.vidi_commands.specs.trace_model.declared.channel.Dir.TheVariants.{Inward, Outward}
+use Rattle.vidi_commands.specs.trace_model.declared.event.Kind.{Kind}
+use Rattle.vidi_commands.specs.trace_model.declared.event.Kind.TheVariants.{Start, End}
+use Rattle.vidi_commands.specs.trace_model.declared.packet.Packet.{Packet}
+use Rattle.vidi_commands.specs.trace_model.Clock.{clock, Covers}
+use Rattle.vidi_commands.specs.trace_model.Counting.{IsNth}
+use Rattle.vidi_commands.specs.trace_model.Packet.{content_of, count, does}
+use Rattle.vidi_commands.proofs.trace_model.CountingLemmas.{count-cons, nth, nth-below, nth-unique}
+use Rattle.vidi_commands.specs.trace_compare.declared.report.Finding.{Finding}
+use Rattle.vidi_commands.specs.trace_compare.declared.report.What.{What}
+use Rattle.vidi_commands.specs.trace_compare.declared.report.What.TheVariants.{Differs}
+use Rattle.vidi_commands.specs.trace_compare.Findings.{different, differing, differs, early, early_marks, early_ones, events_from, extra, findings_on}
+use Rattle.vidi_commands.specs.trace_compare.Findings.{found, in_both, is_early, marked, missing, only_one}
+use Rattle.vidi_commands.specs.run_model.Laws.{controls, AreInOrder}
 use Rattle.vidi_laws.specs.Headline.{breaks_order, KeepsOrder}
 
 -- ---- the events of a channel, each with its place

@@ -1,11 +1,11 @@
 -- Of a shelf that tells its files, with no failed read, two answers that are earned are one.
 use Rattle.std.proofs.Common.{◌≡◌, ℕ, List, [], ◌∷◌, Option, Some, length, get_or, inl, inr, sym, ap, subst, ◌∙◌, arith, codes}
-use Rattle.vidi_bits.proofs.Lists.{some_same}
-use Rattle.vidi_lines.specs.Number.{number_of}
-use Rattle.trace_code.specs.Decoding.{OnePlace, OneReading}
-use Rattle.trace_code.specs.Salvage.{OneSalvage}
-use Rattle.vidi_io.specs.Shelf.{Files}
-use Rattle.vidi_bench.specs.declared.status.Status.{Status}
+use Rattle.vidi_commands.proofs.vidi_bits.Lists.{some_same}
+use Rattle.vidi_commands.specs.vidi_lines.Number.{number_of}
+use Rattle.vidi_commands.specs.trace_code.Decoding.{OnePlace, OneReading}
+use Rattle.vidi_commands.specs.trace_code.Salvage.{OneSalvage}
+use Rattle.vidi_commands.specs.vidi_io.Shelf.{Files}
+use Rattle.vidi_commands.specs.vidi_bench.declared.status.Status.{Status}
 use Rattle.vidi_commands.specs.Command.{Command, Dump, Check, Run, Record, Replay, Compare, Salvage, Wrap, Sample, IsGiven}
 use Rattle.vidi_commands.specs.Answer.{Does}
 use Rattle.vidi_laws.specs.OneAnswer.{OneAnswer}

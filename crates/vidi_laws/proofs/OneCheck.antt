@@ -1,32 +1,32 @@
 -- The text of a design, and its design: one answer; and so of `check`.
 use Rattle.std.proofs.Common.{◌≡◌, ◌⊎◌, ℕ, List, None, Some, inl, inr, sym, ap, subst, ◌∙◌, map}
-use Rattle.vlog_lex.specs.declared.token.Token.{Token}
-use Rattle.vlog_lex.specs.Reading.{HasTokens, OneReading, OneStuckLine, ReadOrStuck}
-use Rattle.vlog_tree.specs.Tree.{FileOf}
-use Rattle.vlog_tree.specs.Lines.{bare}
-use Rattle.vlog_parse.specs.Marks.{all_marked}
-use Rattle.vlog_parse.specs.Depth.{OneDepth}
-use Rattle.vlog_parse.specs.Parsing.{LinedFilesAreFiles, OneLinedFile}
-use Rattle.vlog_parse.specs.Units.{OneItemLine}
-use Rattle.net_design.specs.declared.design.Design.{Design}
-use Rattle.net_order.specs.Order.{IsOrder}
-use Rattle.vlog_design.specs.Design.{IsDesignOf, file_counts}
-use Rattle.vlog_design.specs.Laws.{LoopsAlike}
-use Rattle.vlog_elab.specs.declared.error.ElabError.{ElabError}
-use Rattle.vlog_elab.specs.declared.error.ElabError.TheVariants.{Memory}
-use Rattle.vidi_io.specs.Shelf.{Files}
-use Rattle.report_text.specs.declared.reason.Word.TheVariants as words
-use Rattle.report_text.specs.declared.reason.Reason.{Reason}
-use Rattle.report_text.specs.declared.reason.Reason.TheVariants.{Word, Deep, Item, Loop}
-use Rattle.report_text.specs.Reason.{reason_line}
-use Rattle.vidi_bench.specs.declared.status.Status.{Status}
-use Rattle.vidi_bench.specs.declared.status.Status.TheVariants.{Done, Refused}
-use Rattle.vidi_bench.specs.Steps.{Ending, IsRefusal, IsSaid, Step}
-use Rattle.vidi_bench.specs.Design.{text_limit, reason_of, line_of, IsNoWord, IsTooDeep, IsNoFile, IsFile, IsNoTree, IsNoText, Spells}
-use Rattle.vidi_bench.specs.Design.{IsRefusedFile, IsAccepted, IsLooped, Building, Spelling}
-use Rattle.run_commands.specs.Checks.{Checked, Checks}
+use Rattle.vidi_commands.specs.vlog_lex.declared.token.Token.{Token}
+use Rattle.vidi_commands.specs.vlog_lex.Reading.{HasTokens, OneReading, OneStuckLine, ReadOrStuck}
+use Rattle.vidi_commands.specs.vlog_tree.Tree.{FileOf}
+use Rattle.vidi_commands.specs.vlog_tree.Lines.{bare}
+use Rattle.vidi_commands.specs.vlog_parse.Marks.{all_marked}
+use Rattle.vidi_commands.specs.vlog_parse.Depth.{OneDepth}
+use Rattle.vidi_commands.specs.vlog_parse.Parsing.{LinedFilesAreFiles, OneLinedFile}
+use Rattle.vidi_commands.specs.vlog_parse.Units.{OneItemLine}
+use Rattle.vidi_commands.specs.net_design.declared.design.Design.{Design}
+use Rattle.vidi_commands.specs.net_order.Order.{IsOrder}
+use Rattle.vidi_commands.specs.vlog_design.Design.{IsDesignOf, file_counts}
+use Rattle.vidi_commands.specs.vlog_design.Laws.{LoopsAlike}
+use Rattle.vidi_commands.specs.vlog_elab.declared.error.ElabError.{ElabError}
+use Rattle.vidi_commands.specs.vlog_elab.declared.error.ElabError.TheVariants.{Memory}
+use Rattle.vidi_commands.specs.vidi_io.Shelf.{Files}
+use Rattle.vidi_commands.specs.report_text.declared.reason.Word.TheVariants as words
+use Rattle.vidi_commands.specs.report_text.declared.reason.Reason.{Reason}
+use Rattle.vidi_commands.specs.report_text.declared.reason.Reason.TheVariants.{Word, Deep, Item, Loop}
+use Rattle.vidi_commands.specs.report_text.Reason.{reason_line}
+use Rattle.vidi_commands.specs.vidi_bench.declared.status.Status.{Status}
+use Rattle.vidi_commands.specs.vidi_bench.declared.status.Status.TheVariants.{Done, Refused}
+use Rattle.vidi_commands.specs.vidi_bench.Steps.{Ending, IsRefusal, IsSaid, Step}
+use Rattle.vidi_commands.specs.vidi_bench.Design.{text_limit, reason_of, line_of, IsNoWord, IsTooDeep, IsNoFile, IsFile, IsNoTree, IsNoText, Spells}
+use Rattle.vidi_commands.specs.vidi_bench.Design.{IsRefusedFile, IsAccepted, IsLooped, Building, Spelling}
+use Rattle.vidi_commands.specs.run_commands.Checks.{Checked, Checks}
 use Rattle.vidi_laws.specs.OneAnswer.{NamesLoop}
-use Rattle.run_commands.specs.Said.{check_text}
+use Rattle.vidi_commands.specs.run_commands.Said.{check_text}
 use Rattle.vidi_laws.proofs.OneEnding.{Same, Meet, Apart, One, OneBy, one-said, one-step-by, step-meets, one-reading-by}
 use Rattle.vidi_laws.proofs.OneRefusal.{one_refusal, refused_clear}
 

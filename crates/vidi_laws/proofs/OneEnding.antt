@@ -1,14 +1,14 @@
 -- Steps of commands: one answer each.
 use Rattle.std.proofs.Common.{◌≡◌, ℕ, ◌<◌, List, Some, length, inl, inr, sym, ap, subst, ◌∙◌, arith}
 use Rattle.std.specs.FinMap.{get}
-use Rattle.vidi_io.specs.Shelf.{Files}
-use Rattle.report_text.specs.declared.reason.Word.{Word}
-use Rattle.report_text.specs.declared.reason.Reason.TheVariants.{TooLong}
-use Rattle.vidi_bench.specs.declared.status.Status.{Status}
-use Rattle.vidi_bench.specs.declared.status.Status.TheVariants.{ReadFault, Refused}
-use Rattle.report_text.specs.Reason.{reason_line, read_fault_line}
-use Rattle.vidi_bench.specs.Steps.{Ending, IsSaid, Step}
-use Rattle.vidi_bench.specs.Reading.{IsUnread, IsRead, Reading}
+use Rattle.vidi_commands.specs.vidi_io.Shelf.{Files}
+use Rattle.vidi_commands.specs.report_text.declared.reason.Word.{Word}
+use Rattle.vidi_commands.specs.report_text.declared.reason.Reason.TheVariants.{TooLong}
+use Rattle.vidi_commands.specs.vidi_bench.declared.status.Status.{Status}
+use Rattle.vidi_commands.specs.vidi_bench.declared.status.Status.TheVariants.{ReadFault, Refused}
+use Rattle.vidi_commands.specs.report_text.Reason.{reason_line, read_fault_line}
+use Rattle.vidi_commands.specs.vidi_bench.Steps.{Ending, IsSaid, Step}
+use Rattle.vidi_commands.specs.vidi_bench.Reading.{IsUnread, IsRead, Reading}
 use Rattle.vidi_laws.proofs.Told.{both, there}
 
 -- ---- what two answers have in common

@@ -2,19 +2,19 @@
 use Rattle.std.proofs.Common.{◌≡◌, ℕ, ◌<◌, ◌⊎◌, List, [], Option, None, Some, inl, inr, refl, sym, ap, ◌∙◌, map, ⊎_elim}
 use Rattle.std.specs.Prelude.{slice_get}
 use Rattle.std.proofs.lemmas.Bool.{cases_order}
-use Rattle.vidi_bits.specs.Findings.{first}
-use Rattle.vlog_tree.specs.Tree.{ModuleOf, FileOf}
-use Rattle.vlog_elab.specs.Outlines.{Outline, place_of, outlines_of}
-use Rattle.vlog_elab.specs.Nested.{IsNestedAnswer}
-use Rattle.vlog_elab.specs.declared.error.ElabError.{ElabError}
-use Rattle.vlog_elab.specs.declared.error.ElabError.TheVariants.{Twice, Unknown, Kind, Nested, TooBig, Const, Width, Clock, Latch, Drive}
-use Rattle.vlog_elab.specs.declared.error.ElabError.TheVariants.{Memory}
-use Rattle.vidi_bits.specs.Findings.{IsFirst}
-use Rattle.vlog_elab.specs.Told.{elab_told}
-use Rattle.vlog_elab.specs.Reasons.{Then, IsNestedName, IsNotNested, NestedFinding, RefusedLater, ClearLater}
-use Rattle.vlog_elab.specs.Reasons.{text_findings, size_findings}
-use Rattle.vlog_elab.specs.Reasons as elab
-use Rattle.vlog_design.specs.Reasons.{Refused, Clear, code_findings}
+use Rattle.vidi_commands.specs.vidi_bits.Findings.{first}
+use Rattle.vidi_commands.specs.vlog_tree.Tree.{ModuleOf, FileOf}
+use Rattle.vidi_commands.specs.vlog_elab.Outlines.{Outline, place_of, outlines_of}
+use Rattle.vidi_commands.specs.vlog_elab.Nested.{IsNestedAnswer}
+use Rattle.vidi_commands.specs.vlog_elab.declared.error.ElabError.{ElabError}
+use Rattle.vidi_commands.specs.vlog_elab.declared.error.ElabError.TheVariants.{Twice, Unknown, Kind, Nested, TooBig, Const, Width, Clock, Latch, Drive}
+use Rattle.vidi_commands.specs.vlog_elab.declared.error.ElabError.TheVariants.{Memory}
+use Rattle.vidi_commands.specs.vidi_bits.Findings.{IsFirst}
+use Rattle.vidi_commands.specs.vlog_elab.Told.{elab_told}
+use Rattle.vidi_commands.specs.vlog_elab.Reasons.{Then, IsNestedName, IsNotNested, NestedFinding, RefusedLater, ClearLater}
+use Rattle.vidi_commands.specs.vlog_elab.Reasons.{text_findings, size_findings}
+use Rattle.vidi_commands.specs.vlog_elab.Reasons as elab
+use Rattle.vidi_commands.specs.vlog_design.Reasons.{Refused, Clear, code_findings}
 
 -- the same reason, unless memory was wanting
 abbrev pub Agree : ElabError → ElabError → Type 0

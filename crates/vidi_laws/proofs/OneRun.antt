@@ -1,15 +1,15 @@
 -- The runs and the replay of accepted files exist, and are one.
 use Rattle.std.proofs.Common.{ℕ, List}
-use Rattle.run_model.specs.Laws.{IsReady}
-use Rattle.run_model.proofs.MapLaws.{bound-is_map_of}
-use Rattle.net_order.proofs.OneMap.{has_one_map}
-use Rattle.script_text.specs.ScriptOffer.{script_offer}
-use Rattle.env_script.proofs.Lasting.{script-lasts}
-use Rattle.bench_run.proofs.PlainLaws.{one-plain_run}
-use Rattle.replay_run.proofs.Outcomes.{one-outcome}
-use Rattle.vidi_recorder.proofs.ScriptKept.{one-script_run}
-use Rattle.vidi_bench.specs.declared.device.Device.{Device}
-use Rattle.vidi_bench.specs.Devices.{IsDevice}
+use Rattle.vidi_commands.specs.run_model.Laws.{IsReady}
+use Rattle.vidi_commands.proofs.run_model.MapLaws.{bound-is_map_of}
+use Rattle.vidi_commands.proofs.net_order.OneMap.{has_one_map}
+use Rattle.vidi_commands.specs.script_text.ScriptOffer.{script_offer}
+use Rattle.vidi_commands.proofs.env_script.Lasting.{script-lasts}
+use Rattle.vidi_commands.proofs.bench_run.PlainLaws.{one-plain_run}
+use Rattle.vidi_commands.proofs.replay_run.Outcomes.{one-outcome}
+use Rattle.vidi_commands.proofs.vidi_recorder.ScriptKept.{one-script_run}
+use Rattle.vidi_commands.specs.vidi_bench.declared.device.Device.{Device}
+use Rattle.vidi_commands.specs.vidi_bench.Devices.{IsDevice}
 use Rattle.vidi_laws.specs.OneRun.{OneRecording, OnePrintedRun, OneReplayOfFiles}
 use Rattle.vidi_laws.proofs.SameReplay.{fits}
 

@@ -1,20 +1,20 @@
 -- `salvage`: one answer with one set of files.
 use Rattle.std.proofs.Common.{◌≡◌, ◌⊎◌, ℕ, List, ◌++◌, Option, Some, Result, Ok, Err, length, inl, inr, ⊎_elim, sym, ap, subst, ◌∙◌}
 use Rattle.std.specs.List.{flat_map}
-use Rattle.trace_model.specs.declared.trace.Trace.{Trace}
-use Rattle.trace_code.specs.declared.error.CodeError.{CodeError}
-use Rattle.trace_code.specs.declared.error.CodeError.TheVariants as errors
-use Rattle.trace_code.specs.Encoding.{packet_bytes, encode}
-use Rattle.trace_code.specs.Decoding.{HasNoHeader}
-use Rattle.trace_code.specs.Salvage.{Salvages, OneSalvage}
-use Rattle.vidi_io.specs.Shelf.{Files, holding}
-use Rattle.report_text.specs.declared.reason.Word.TheVariants as words
-use Rattle.report_text.specs.declared.reason.Reason.TheVariants.{BadTrace}
-use Rattle.vidi_bench.specs.declared.status.Status.{Status}
-use Rattle.vidi_bench.specs.declared.status.Status.TheVariants.{Refused}
-use Rattle.report_text.specs.Reason.{reason_line}
+use Rattle.vidi_commands.specs.trace_model.declared.trace.Trace.{Trace}
+use Rattle.vidi_commands.specs.trace_code.declared.error.CodeError.{CodeError}
+use Rattle.vidi_commands.specs.trace_code.declared.error.CodeError.TheVariants as errors
+use Rattle.vidi_commands.specs.trace_code.Encoding.{packet_bytes, encode}
+use Rattle.vidi_commands.specs.trace_code.Decoding.{HasNoHeader}
+use Rattle.vidi_commands.specs.trace_code.Salvage.{Salvages, OneSalvage}
+use Rattle.vidi_commands.specs.vidi_io.Shelf.{Files, holding}
+use Rattle.vidi_commands.specs.report_text.declared.reason.Word.TheVariants as words
+use Rattle.vidi_commands.specs.report_text.declared.reason.Reason.TheVariants.{BadTrace}
+use Rattle.vidi_commands.specs.vidi_bench.declared.status.Status.{Status}
+use Rattle.vidi_commands.specs.vidi_bench.declared.status.Status.TheVariants.{Refused}
+use Rattle.vidi_commands.specs.report_text.Reason.{reason_line}
 use Rattle.vidi_commands.specs.Said.{salvaged_line}
-use Rattle.trace_commands.specs.Traces.{trace_limit, IsUnsaved, IsWhole, Saves}
+use Rattle.vidi_commands.specs.trace_commands.Traces.{trace_limit, IsUnsaved, IsWhole, Saves}
 use Rattle.vidi_laws.proofs.OneEnding.{One, one-said, one-unread, unread-read, one-read}
 
 one-unsaved : (trace : List ℕ) (files : Files) → One (IsUnsaved trace (Some files) (λ _. ⊥))

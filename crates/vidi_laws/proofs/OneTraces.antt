@@ -1,22 +1,22 @@
 -- `dump` and `compare`: one answer.
 use Rattle.std.proofs.Common.{◌≡◌, ◌≢◌, ◌⊎◌, ℕ, ◌<◌, List, Some, take, slice_get, inl, inr, ⊎_elim, sym, ap, subst, ◌∙◌}
 use Rattle.std.proofs.lemmas.Bool.{cases_order}
-use Rattle.trace_model.specs.declared.channel.Channel.{Channel}
-use Rattle.trace_model.specs.declared.trace.Trace.{Trace}
-use Rattle.trace_model.proofs.CountingLemmas.{slice_get-take}
-use Rattle.trace_code.specs.Encoding.{Encodes}
-use Rattle.trace_code.specs.Decoding.{OnePlace, OneReading}
-use Rattle.trace_compare.specs.Findings.{findings}
-use Rattle.vidi_io.specs.Shelf.{Files}
-use Rattle.report_text.specs.declared.reason.Word.{Word}
-use Rattle.report_text.specs.declared.reason.Word.TheVariants as words
-use Rattle.report_text.specs.declared.reason.Reason.TheVariants.{BadTrace, OtherChannels}
-use Rattle.vidi_bench.specs.declared.status.Status.TheVariants.{Done, Refused, Diverged}
-use Rattle.report_text.specs.Reason.{reason_line}
-use Rattle.vidi_bench.specs.Reading.{Reading}
+use Rattle.vidi_commands.specs.trace_model.declared.channel.Channel.{Channel}
+use Rattle.vidi_commands.specs.trace_model.declared.trace.Trace.{Trace}
+use Rattle.vidi_commands.proofs.trace_model.CountingLemmas.{slice_get-take}
+use Rattle.vidi_commands.specs.trace_code.Encoding.{Encodes}
+use Rattle.vidi_commands.specs.trace_code.Decoding.{OnePlace, OneReading}
+use Rattle.vidi_commands.specs.trace_compare.Findings.{findings}
+use Rattle.vidi_commands.specs.vidi_io.Shelf.{Files}
+use Rattle.vidi_commands.specs.report_text.declared.reason.Word.{Word}
+use Rattle.vidi_commands.specs.report_text.declared.reason.Word.TheVariants as words
+use Rattle.vidi_commands.specs.report_text.declared.reason.Reason.TheVariants.{BadTrace, OtherChannels}
+use Rattle.vidi_commands.specs.vidi_bench.declared.status.Status.TheVariants.{Done, Refused, Diverged}
+use Rattle.vidi_commands.specs.report_text.Reason.{reason_line}
+use Rattle.vidi_commands.specs.vidi_bench.Reading.{Reading}
 use Rattle.vidi_commands.specs.Said.{dump_text, no_divergence_line, diverged_text}
-use Rattle.vidi_bench.specs.Steps.{Ending, IsRefusal, IsSaid}
-use Rattle.trace_commands.specs.Traces.{trace_limit, IsNoTrace, Decoding, Dumps, HasOtherChannels, IsVerdict, Compared, ComparedFiles, Compares}
+use Rattle.vidi_commands.specs.vidi_bench.Steps.{Ending, IsRefusal, IsSaid}
+use Rattle.vidi_commands.specs.trace_commands.Traces.{trace_limit, IsNoTrace, Decoding, Dumps, HasOtherChannels, IsVerdict, Compared, ComparedFiles, Compares}
 use Rattle.vidi_laws.proofs.OneEnding.{Same, One, one-said, one-step-by, one-reading}
 
 -- two tables have one first difference

@@ -1,13 +1,13 @@
 -- What is read of a wrapped design is the tree that was printed.
 use Rattle.std.proofs.Common.{◌≡◌, ℕ, List, sym, subst, ◌∙◌}
-use Rattle.vlog_lex.specs.declared.token.Token.{Token}
-use Rattle.vlog_lex.specs.Reading.{OneReading}
-use Rattle.vlog_tree.specs.Tree.{FileOf}
-use Rattle.vlog_tree.specs.Lines.{bare}
-use Rattle.vlog_parse.specs.Parsing.{IsFileOf, LinedFilesAreFiles, OneFile}
-use Rattle.shim_trees.specs.Wrapped.{wrapped}
-use Rattle.vidi_bench.specs.Design.{Spells}
-use Rattle.wrap_command.specs.Shims.{file_text, IsReadAs}
+use Rattle.vidi_commands.specs.vlog_lex.declared.token.Token.{Token}
+use Rattle.vidi_commands.specs.vlog_lex.Reading.{OneReading}
+use Rattle.vidi_commands.specs.vlog_tree.Tree.{FileOf}
+use Rattle.vidi_commands.specs.vlog_tree.Lines.{bare}
+use Rattle.vidi_commands.specs.vlog_parse.Parsing.{IsFileOf, LinedFilesAreFiles, OneFile}
+use Rattle.vidi_commands.specs.shim_trees.Wrapped.{wrapped}
+use Rattle.vidi_commands.specs.vidi_bench.Design.{Spells}
+use Rattle.vidi_commands.specs.wrap_command.Shims.{file_text, IsReadAs}
 use Rattle.vidi_laws.specs.Headline.{WrappedIsReadBack}
 
 same-tree : OneReading → OneFile → LinedFilesAreFiles → (text : List ℕ) (w g : FileOf ℕ) → IsReadAs text w → Spells text g

@@ -1,25 +1,25 @@
 -- What three texts say together is one, or the reason for which they are refused.
 use Rattle.std.proofs.Common.{◌≡◌, ◌⊎◌, ℕ, List, None, Some, Ok, Err, inl, inr, sym, ap, subst, ◌∙◌}
-use Rattle.vidi_bits.proofs.Lists.{some_same}
-use Rattle.chan_map.specs.declared.pins.Map.{Map}
-use Rattle.script_text.specs.declared.error.ScriptError.{ScriptError}
-use Rattle.script_text.specs.declared.error.ScriptError.TheVariants as errors
-use Rattle.script_text.specs.declared.script.Script.{Script}
-use Rattle.script_text.specs.Reasons.{read_lines}
-use Rattle.script_text.specs.Reads.{ReadsScript}
-use Rattle.script_text.specs.OneReading.{OnePlan, OneScript}
-use Rattle.run_model.specs.AlikeLaws.{OneEnd, RunsAlike}
-use Rattle.vidi_io.specs.Shelf.{Files}
-use Rattle.report_text.specs.declared.reason.Word.TheVariants as words
-use Rattle.report_text.specs.declared.reason.Reason.{Reason}
-use Rattle.report_text.specs.Reason.{reason_line}
-use Rattle.vidi_bench.specs.declared.bench.Bench.{Bench}
-use Rattle.vidi_bench.specs.declared.status.Status.{Status}
-use Rattle.vidi_bench.specs.declared.status.Status.TheVariants.{Refused}
-use Rattle.vidi_bench.specs.Steps.{Ending, IsRefusal}
-use Rattle.vidi_bench.specs.Reading.{IsRead, Reading}
-use Rattle.vidi_bench.specs.Design.{text_limit}
-use Rattle.vidi_bench.specs.Benches.{script_reason, IsScriptRefusal, IsNoScript, ReadTexts, RefusedTexts, IsBench}
+use Rattle.vidi_commands.proofs.vidi_bits.Lists.{some_same}
+use Rattle.vidi_commands.specs.chan_map.declared.pins.Map.{Map}
+use Rattle.vidi_commands.specs.script_text.declared.error.ScriptError.{ScriptError}
+use Rattle.vidi_commands.specs.script_text.declared.error.ScriptError.TheVariants as errors
+use Rattle.vidi_commands.specs.script_text.declared.script.Script.{Script}
+use Rattle.vidi_commands.specs.script_text.Reasons.{read_lines}
+use Rattle.vidi_commands.specs.script_text.Reads.{ReadsScript}
+use Rattle.vidi_commands.specs.script_text.OneReading.{OnePlan, OneScript}
+use Rattle.vidi_commands.specs.run_model.AlikeLaws.{OneEnd, RunsAlike}
+use Rattle.vidi_commands.specs.vidi_io.Shelf.{Files}
+use Rattle.vidi_commands.specs.report_text.declared.reason.Word.TheVariants as words
+use Rattle.vidi_commands.specs.report_text.declared.reason.Reason.{Reason}
+use Rattle.vidi_commands.specs.report_text.Reason.{reason_line}
+use Rattle.vidi_commands.specs.vidi_bench.declared.bench.Bench.{Bench}
+use Rattle.vidi_commands.specs.vidi_bench.declared.status.Status.{Status}
+use Rattle.vidi_commands.specs.vidi_bench.declared.status.Status.TheVariants.{Refused}
+use Rattle.vidi_commands.specs.vidi_bench.Steps.{Ending, IsRefusal}
+use Rattle.vidi_commands.specs.vidi_bench.Reading.{IsRead, Reading}
+use Rattle.vidi_commands.specs.vidi_bench.Design.{text_limit}
+use Rattle.vidi_commands.specs.vidi_bench.Benches.{script_reason, IsScriptRefusal, IsNoScript, ReadTexts, RefusedTexts, IsBench}
 use Rattle.vidi_laws.proofs.OneEnding.{Same, Meet, Apart, One, OneBy, one-said, one-reading-by, reading-apart}
 use Rattle.vidi_laws.proofs.OneCheck.{Alike, alike}
 use Rattle.vidi_laws.proofs.SameDevice.{DeviceLaws, SameDevice, one-wiring, same-device, wiring-apart}

@@ -1,36 +1,36 @@
 -- What the texts of a design and a map say together is one, or the reason for which they are refused.
 use Rattle.std.proofs.Common.{◌≡◌, ◌⊎◌, ℕ, List, None, Some, Ok, Err, inl, inr, sym, ap, subst, ◌∙◌}
 use Rattle.std.specs.Prelude.{slice_get}
-use Rattle.vidi_bits.proofs.Lists.{some_same}
-use Rattle.vlog_tree.specs.Tree.{FileOf, ModuleOf}
-use Rattle.net_design.specs.declared.design.Design.{Design}
-use Rattle.net_design.specs.Lawful.{IsLawful}
-use Rattle.net_design.specs.Pins.{HasOneMap}
-use Rattle.net_order.specs.Order.{IsOrder}
-use Rattle.chan_map.specs.declared.error.MapError.{MapError}
-use Rattle.chan_map.specs.declared.error.MapError.TheVariants as errors
-use Rattle.chan_map.specs.declared.text.MapText.{MapText}
-use Rattle.chan_map.specs.declared.pins.Map.{Map}
-use Rattle.chan_map.specs.Text.{ReadsMap}
-use Rattle.chan_map.specs.Bound.{BindsMap}
-use Rattle.chan_map.specs.Laws.{OneBinding, OneMapText}
-use Rattle.run_model.specs.Laws.{BoundIsMapOf, IsReady}
-use Rattle.vlog_elab.specs.Instances.{instances}
-use Rattle.vlog_design.specs.Design.{IsDesignOf}
-use Rattle.flat_parts.specs.Built.{IsBuilt}
-use Rattle.flat_parts.specs.Laws.{IsTop}
-use Rattle.run_model.specs.Alike.{AreAlike}
-use Rattle.run_model.specs.AlikeLaws.{MapsAlike}
+use Rattle.vidi_commands.proofs.vidi_bits.Lists.{some_same}
+use Rattle.vidi_commands.specs.vlog_tree.Tree.{FileOf, ModuleOf}
+use Rattle.vidi_commands.specs.net_design.declared.design.Design.{Design}
+use Rattle.vidi_commands.specs.net_design.Lawful.{IsLawful}
+use Rattle.vidi_commands.specs.net_design.Pins.{HasOneMap}
+use Rattle.vidi_commands.specs.net_order.Order.{IsOrder}
+use Rattle.vidi_commands.specs.chan_map.declared.error.MapError.{MapError}
+use Rattle.vidi_commands.specs.chan_map.declared.error.MapError.TheVariants as errors
+use Rattle.vidi_commands.specs.chan_map.declared.text.MapText.{MapText}
+use Rattle.vidi_commands.specs.chan_map.declared.pins.Map.{Map}
+use Rattle.vidi_commands.specs.chan_map.Text.{ReadsMap}
+use Rattle.vidi_commands.specs.chan_map.Bound.{BindsMap}
+use Rattle.vidi_commands.specs.chan_map.Laws.{OneBinding, OneMapText}
+use Rattle.vidi_commands.specs.run_model.Laws.{BoundIsMapOf, IsReady}
+use Rattle.vidi_commands.specs.vlog_elab.Instances.{instances}
+use Rattle.vidi_commands.specs.vlog_design.Design.{IsDesignOf}
+use Rattle.vidi_commands.specs.flat_parts.Built.{IsBuilt}
+use Rattle.vidi_commands.specs.flat_parts.Laws.{IsTop}
+use Rattle.vidi_commands.specs.run_model.Alike.{AreAlike}
+use Rattle.vidi_commands.specs.run_model.AlikeLaws.{MapsAlike}
 use Rattle.vidi_laws.specs.Alike.{BuiltAlike}
-use Rattle.report_text.specs.declared.reason.Word.TheVariants as words
-use Rattle.report_text.specs.declared.reason.Reason.{Reason}
-use Rattle.report_text.specs.Reason.{reason_line}
-use Rattle.vidi_bench.specs.declared.device.Device.{Device}
-use Rattle.vidi_bench.specs.declared.status.Status.{Status}
-use Rattle.vidi_bench.specs.declared.status.Status.TheVariants.{Refused}
-use Rattle.vidi_bench.specs.Steps.{Ending, IsRefusal}
-use Rattle.vidi_bench.specs.Design.{IsAccepted, Building}
-use Rattle.vidi_bench.specs.Devices.{map_reason, Binding, IsDevice, IsMapRefusal, IsNoMap, IsUnbound, Mapping, Wiring}
+use Rattle.vidi_commands.specs.report_text.declared.reason.Word.TheVariants as words
+use Rattle.vidi_commands.specs.report_text.declared.reason.Reason.{Reason}
+use Rattle.vidi_commands.specs.report_text.Reason.{reason_line}
+use Rattle.vidi_commands.specs.vidi_bench.declared.device.Device.{Device}
+use Rattle.vidi_commands.specs.vidi_bench.declared.status.Status.{Status}
+use Rattle.vidi_commands.specs.vidi_bench.declared.status.Status.TheVariants.{Refused}
+use Rattle.vidi_commands.specs.vidi_bench.Steps.{Ending, IsRefusal}
+use Rattle.vidi_commands.specs.vidi_bench.Design.{IsAccepted, Building}
+use Rattle.vidi_commands.specs.vidi_bench.Devices.{map_reason, Binding, IsDevice, IsMapRefusal, IsNoMap, IsUnbound, Mapping, Wiring}
 use Rattle.vidi_laws.proofs.OneEnding.{Same, Meet, Apart, One, OneBy, one-said, one-step-by, step-meets}
 use Rattle.vidi_laws.proofs.OneCheck.{TextLaws, Alike, alike, one-spelled, text-apart, one-spelling, file-apart, looped-apart, one-building}
 

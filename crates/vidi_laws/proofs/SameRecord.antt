@@ -1,39 +1,39 @@
 -- `record`: one answer, which leaves one trace.
 use Rattle.std.proofs.Common.{◌≡◌, ℕ, ◌≤◌, List, Option, None, Some, Ok, Err, inl, inr, length, sym, ap, subst, ◌∙◌, arith}
-use Rattle.trace_model.specs.declared.channel.Channel.{Channel}
-use Rattle.trace_model.specs.declared.row.Row.{Row}
-use Rattle.trace_model.specs.Recording.{packets_of, trace_of}
-use Rattle.trace_code.specs.Encoding.{encode}
-use Rattle.chan_map.specs.declared.pins.Map.{Map}
-use Rattle.room_ledger.specs.Gates.{Plan}
-use Rattle.room_ledger.specs.Reservation.{need}
-use Rattle.room_ledger.proofs.GateLaws.{one-set}
-use Rattle.run_model.proofs.Ends.{one-end_of}
-use Rattle.run_model.proofs.Played.{the-runs_alike}
-use Rattle.script_text.specs.declared.error.StallError.TheVariants as stall_errors
-use Rattle.script_text.specs.declared.script.Script.{Script}
-use Rattle.script_text.specs.declared.stalls.Stalls.{Stalls}
-use Rattle.script_text.specs.Plan.{allowance_at}
-use Rattle.script_text.specs.Reasons.{read_lines}
-use Rattle.script_text.specs.Stalls.{ReadsStalls}
-use Rattle.script_text.specs.ScriptOffer.{script_offer}
-use Rattle.env_script.specs.Offered.{offers_after}
-use Rattle.script_text.specs.OneReading.{SamePlan}
-use Rattle.vidi_io.specs.Shelf.{Files, holding}
-use Rattle.vidi_recorder.specs.Course.{Course, GatesUnder, course, plan_of, sizes_of, IsTheRunOf}
-use Rattle.report_text.specs.declared.reason.Word.TheVariants as words
-use Rattle.report_text.specs.declared.reason.Reason.TheVariants.{StallLine, TooSmall}
-use Rattle.report_text.specs.Reason.{reason_line}
-use Rattle.vidi_bench.specs.declared.bench.Bench.{Bench}
-use Rattle.vidi_bench.specs.declared.status.Status.{Status}
-use Rattle.vidi_bench.specs.declared.status.Status.TheVariants.{Done, Refused, Unstable}
-use Rattle.vidi_bench.specs.Steps.{IsRefusal}
-use Rattle.vidi_bench.specs.Reading.{Reading}
-use Rattle.vidi_bench.specs.Benches.{RefusedTexts, IsBench}
-use Rattle.vidi_bench.specs.Design.{text_limit}
-use Rattle.run_commands.specs.Records.{IsNoPlan, IsTooSmall, RefusedPlan, RefusedPlanned}
-use Rattle.run_commands.specs.Records.{IsUnrecorded, IsPlanned, IsRecorded, RecordsRun, Records, course_of}
-use Rattle.run_commands.specs.Said.{recorded_line, unstable_line}
+use Rattle.vidi_commands.specs.trace_model.declared.channel.Channel.{Channel}
+use Rattle.vidi_commands.specs.trace_model.declared.row.Row.{Row}
+use Rattle.vidi_commands.specs.trace_model.Recording.{packets_of, trace_of}
+use Rattle.vidi_commands.specs.trace_code.Encoding.{encode}
+use Rattle.vidi_commands.specs.chan_map.declared.pins.Map.{Map}
+use Rattle.vidi_commands.specs.room_ledger.Gates.{Plan}
+use Rattle.vidi_commands.specs.room_ledger.Reservation.{need}
+use Rattle.vidi_commands.proofs.room_ledger.GateLaws.{one-set}
+use Rattle.vidi_commands.proofs.run_model.Ends.{one-end_of}
+use Rattle.vidi_commands.proofs.run_model.Played.{the-runs_alike}
+use Rattle.vidi_commands.specs.script_text.declared.error.StallError.TheVariants as stall_errors
+use Rattle.vidi_commands.specs.script_text.declared.script.Script.{Script}
+use Rattle.vidi_commands.specs.script_text.declared.stalls.Stalls.{Stalls}
+use Rattle.vidi_commands.specs.script_text.Plan.{allowance_at}
+use Rattle.vidi_commands.specs.script_text.Reasons.{read_lines}
+use Rattle.vidi_commands.specs.script_text.Stalls.{ReadsStalls}
+use Rattle.vidi_commands.specs.script_text.ScriptOffer.{script_offer}
+use Rattle.vidi_commands.specs.env_script.Offered.{offers_after}
+use Rattle.vidi_commands.specs.script_text.OneReading.{SamePlan}
+use Rattle.vidi_commands.specs.vidi_io.Shelf.{Files, holding}
+use Rattle.vidi_commands.specs.vidi_recorder.Course.{Course, GatesUnder, course, plan_of, sizes_of, IsTheRunOf}
+use Rattle.vidi_commands.specs.report_text.declared.reason.Word.TheVariants as words
+use Rattle.vidi_commands.specs.report_text.declared.reason.Reason.TheVariants.{StallLine, TooSmall}
+use Rattle.vidi_commands.specs.report_text.Reason.{reason_line}
+use Rattle.vidi_commands.specs.vidi_bench.declared.bench.Bench.{Bench}
+use Rattle.vidi_commands.specs.vidi_bench.declared.status.Status.{Status}
+use Rattle.vidi_commands.specs.vidi_bench.declared.status.Status.TheVariants.{Done, Refused, Unstable}
+use Rattle.vidi_commands.specs.vidi_bench.Steps.{IsRefusal}
+use Rattle.vidi_commands.specs.vidi_bench.Reading.{Reading}
+use Rattle.vidi_commands.specs.vidi_bench.Benches.{RefusedTexts, IsBench}
+use Rattle.vidi_commands.specs.vidi_bench.Design.{text_limit}
+use Rattle.vidi_commands.specs.run_commands.Records.{IsNoPlan, IsTooSmall, RefusedPlan, RefusedPlanned}
+use Rattle.vidi_commands.specs.run_commands.Records.{IsUnrecorded, IsPlanned, IsRecorded, RecordsRun, Records, course_of}
+use Rattle.vidi_commands.specs.run_commands.Said.{recorded_line, unstable_line}
 use Rattle.vidi_laws.proofs.OneEnding.{Same, Meet, Apart, One, OneBy, one-said, one-read, one-reading-by, reading-apart, step-meets}
 use Rattle.vidi_laws.proofs.OneCheck.{Alike, alike}
 use Rattle.vidi_laws.proofs.SameBench.{BenchLaws, SameBench, one-texts, texts-apart, one-refused_texts, texts-refused, same-bench}

@@ -1,37 +1,37 @@
 -- `replay`: one answer, which leaves one trace.
 use Rattle.std.proofs.Common.{◌≡◌, ℕ, List, Option, Some, inl, inr, ◌++◌, ◌∷◌, [], sym, ap, subst, ◌∙◌}
 use Rattle.std.specs.Prelude.{slice_get}
-use Rattle.trace_model.specs.declared.channel.Channel.{Channel}
-use Rattle.trace_model.specs.declared.packet.Packet.{Packet}
-use Rattle.trace_model.specs.declared.row.Row.{Row}
-use Rattle.trace_model.specs.declared.trace.Trace.{Trace}
-use Rattle.trace_model.specs.Recording.{trace_of}
-use Rattle.trace_code.specs.Decoding.{OnePlace, OneReading}
-use Rattle.trace_code.specs.Encoding.{encode, Encodes}
-use Rattle.net_design.specs.declared.design.Design.{Design}
-use Rattle.net_design.specs.Lawful.{IsLawful}
-use Rattle.chan_map.specs.declared.pins.Map.{Map}
-use Rattle.run_model.specs.Alike.{AreAlike}
-use Rattle.run_model.specs.AlikeLaws.{DrivenAlike}
-use Rattle.run_model.specs.Laws.{ContentsFit}
-use Rattle.run_model.specs.Played.{IsPlayed}
-use Rattle.run_model.specs.Replay.{IsReplayRow}
-use Rattle.replay_run.specs.declared.outcome.ReplayOutcome.{ReplayOutcome}
-use Rattle.replay_run.specs.declared.outcome.ReplayOutcome.TheVariants as outcomes
-use Rattle.replay_run.specs.Laws.{OneOutcome}
-use Rattle.replay_run.specs.Replaying.{EndsAs}
-use Rattle.vidi_io.specs.Shelf.{Files, holding}
-use Rattle.report_text.specs.Short.{short_lines}
-use Rattle.report_text.specs.declared.reason.Word.TheVariants as words
-use Rattle.vidi_bench.specs.declared.device.Device.{Device}
-use Rattle.vidi_bench.specs.declared.status.Status.{Status}
-use Rattle.vidi_bench.specs.declared.status.Status.TheVariants.{Short, Unstable}
-use Rattle.vidi_bench.specs.Design.{text_limit}
-use Rattle.vidi_bench.specs.Devices.{IsDevice}
-use Rattle.vidi_bench.specs.Reading.{Reading}
-use Rattle.replay_command.specs.Replays.{IsReplayable, IsReplaySaid, IsUnreplayed, RefusedReplay, RefusedTrace, Replays, ReplaysTrace}
-use Rattle.replay_command.specs.Said.{replayed_line, unstable_line}
-use Rattle.trace_commands.specs.Traces.{trace_limit, HasOtherChannels}
+use Rattle.vidi_commands.specs.trace_model.declared.channel.Channel.{Channel}
+use Rattle.vidi_commands.specs.trace_model.declared.packet.Packet.{Packet}
+use Rattle.vidi_commands.specs.trace_model.declared.row.Row.{Row}
+use Rattle.vidi_commands.specs.trace_model.declared.trace.Trace.{Trace}
+use Rattle.vidi_commands.specs.trace_model.Recording.{trace_of}
+use Rattle.vidi_commands.specs.trace_code.Decoding.{OnePlace, OneReading}
+use Rattle.vidi_commands.specs.trace_code.Encoding.{encode, Encodes}
+use Rattle.vidi_commands.specs.net_design.declared.design.Design.{Design}
+use Rattle.vidi_commands.specs.net_design.Lawful.{IsLawful}
+use Rattle.vidi_commands.specs.chan_map.declared.pins.Map.{Map}
+use Rattle.vidi_commands.specs.run_model.Alike.{AreAlike}
+use Rattle.vidi_commands.specs.run_model.AlikeLaws.{DrivenAlike}
+use Rattle.vidi_commands.specs.run_model.Laws.{ContentsFit}
+use Rattle.vidi_commands.specs.run_model.Played.{IsPlayed}
+use Rattle.vidi_commands.specs.run_model.Replay.{IsReplayRow}
+use Rattle.vidi_commands.specs.replay_run.declared.outcome.ReplayOutcome.{ReplayOutcome}
+use Rattle.vidi_commands.specs.replay_run.declared.outcome.ReplayOutcome.TheVariants as outcomes
+use Rattle.vidi_commands.specs.replay_run.Laws.{OneOutcome}
+use Rattle.vidi_commands.specs.replay_run.Replaying.{EndsAs}
+use Rattle.vidi_commands.specs.vidi_io.Shelf.{Files, holding}
+use Rattle.vidi_commands.specs.report_text.Short.{short_lines}
+use Rattle.vidi_commands.specs.report_text.declared.reason.Word.TheVariants as words
+use Rattle.vidi_commands.specs.vidi_bench.declared.device.Device.{Device}
+use Rattle.vidi_commands.specs.vidi_bench.declared.status.Status.{Status}
+use Rattle.vidi_commands.specs.vidi_bench.declared.status.Status.TheVariants.{Short, Unstable}
+use Rattle.vidi_commands.specs.vidi_bench.Design.{text_limit}
+use Rattle.vidi_commands.specs.vidi_bench.Devices.{IsDevice}
+use Rattle.vidi_commands.specs.vidi_bench.Reading.{Reading}
+use Rattle.vidi_commands.specs.replay_command.Replays.{IsReplayable, IsReplaySaid, IsUnreplayed, RefusedReplay, RefusedTrace, Replays, ReplaysTrace}
+use Rattle.vidi_commands.specs.replay_command.Said.{replayed_line, unstable_line}
+use Rattle.vidi_commands.specs.trace_commands.Traces.{trace_limit, HasOtherChannels}
 use Rattle.vidi_laws.proofs.OneEnding.{One, OneBy, one-said, one-read, one-reading-by, reading-apart}
 use Rattle.vidi_laws.proofs.OneCheck.{Alike, alike}
 use Rattle.vidi_laws.proofs.OneTraces.{one-decoding, one-other, one-verdict}

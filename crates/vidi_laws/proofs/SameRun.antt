@@ -1,21 +1,21 @@
 -- `run`: one answer.
 use Rattle.std.proofs.Common.{◌≡◌, ℕ, List, Option, None, Some, length, sym, subst, ◌∙◌}
 use Rattle.std.specs.Prelude.{IfSome}
-use Rattle.trace_model.specs.declared.row.Row.{Row}
-use Rattle.chan_map.specs.declared.pins.Map.{Map}
-use Rattle.run_model.specs.Played.{all_up}
-use Rattle.script_text.specs.declared.script.Script.{Script}
-use Rattle.script_text.specs.ScriptOffer.{script_offer}
-use Rattle.bench_run.specs.declared.plain.Spot.{Spot}
-use Rattle.env_script.specs.Offered.{offers_after}
-use Rattle.bench_run.specs.Plain.{channel_of}
-use Rattle.vidi_io.specs.Shelf.{Files}
-use Rattle.report_text.specs.Rows.{run_text}
-use Rattle.vidi_bench.specs.declared.bench.Bench.{Bench}
-use Rattle.vidi_bench.specs.declared.status.Status.TheVariants.{Done, Unstable}
-use Rattle.vidi_bench.specs.Benches.{RefusedTexts, IsBench}
-use Rattle.run_commands.specs.Runs.{IsEnded, IsPlayed, RunTexts, Runs}
-use Rattle.run_commands.specs.Said.{cycles_line, unstable_line}
+use Rattle.vidi_commands.specs.trace_model.declared.row.Row.{Row}
+use Rattle.vidi_commands.specs.chan_map.declared.pins.Map.{Map}
+use Rattle.vidi_commands.specs.run_model.Played.{all_up}
+use Rattle.vidi_commands.specs.script_text.declared.script.Script.{Script}
+use Rattle.vidi_commands.specs.script_text.ScriptOffer.{script_offer}
+use Rattle.vidi_commands.specs.bench_run.declared.plain.Spot.{Spot}
+use Rattle.vidi_commands.specs.env_script.Offered.{offers_after}
+use Rattle.vidi_commands.specs.bench_run.Plain.{channel_of}
+use Rattle.vidi_commands.specs.vidi_io.Shelf.{Files}
+use Rattle.vidi_commands.specs.report_text.Rows.{run_text}
+use Rattle.vidi_commands.specs.vidi_bench.declared.bench.Bench.{Bench}
+use Rattle.vidi_commands.specs.vidi_bench.declared.status.Status.TheVariants.{Done, Unstable}
+use Rattle.vidi_commands.specs.vidi_bench.Benches.{RefusedTexts, IsBench}
+use Rattle.vidi_commands.specs.run_commands.Runs.{IsEnded, IsPlayed, RunTexts, Runs}
+use Rattle.vidi_commands.specs.run_commands.Said.{cycles_line, unstable_line}
 use Rattle.vidi_laws.proofs.OneEnding.{Same, Meet, OneBy, one-said, step-meets}
 use Rattle.vidi_laws.proofs.OneCheck.{Alike, alike}
 use Rattle.vidi_laws.proofs.SameBench.{BenchLaws, SameBench, one-texts, one-refused_texts, texts-refused, same-bench}

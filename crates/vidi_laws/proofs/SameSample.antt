@@ -1,26 +1,26 @@
 -- `sample`: one answer.
 use Rattle.std.proofs.Common.{◌≡◌, ℕ, List, ◌++◌, Option, None, Some, length, inl, inr, sym, ap, subst, ◌∙◌}
-use Rattle.trace_model.specs.declared.row.Row.{Row}
-use Rattle.trace_model.specs.declared.trace.Trace.{Trace}
-use Rattle.trace_model.specs.Recording.{trace_of}
-use Rattle.trace_code.specs.Encoding.{encode}
-use Rattle.trace_compare.specs.Findings.{findings}
-use Rattle.chan_map.specs.declared.pins.Map.{Map}
-use Rattle.replay_run.specs.declared.outcome.ReplayOutcome.{ReplayOutcome}
-use Rattle.replay_run.specs.declared.outcome.ReplayOutcome.TheVariants as outcomes
-use Rattle.sample_gen.specs.declared.files.Sample.{Sample}
-use Rattle.sample_gen.specs.Sample.{sample}
-use Rattle.script_text.specs.declared.stalls.Stalls.{Stalls}
-use Rattle.vidi_recorder.specs.Course.{Course, IsTheRunOf}
-use Rattle.vidi_bench.specs.declared.bench.Bench.{Bench}
-use Rattle.vidi_bench.specs.declared.device.Device.{Device}
-use Rattle.sample_command.specs.declared.sampling.Figures.{Figures}
-use Rattle.vidi_bench.specs.declared.status.Status.{Status}
-use Rattle.vidi_bench.specs.declared.status.Status.TheVariants.{Done, Diverged}
-use Rattle.run_commands.specs.Records.{IsRecorded}
-use Rattle.sample_command.specs.Said.{diverged_text, sample_line}
-use Rattle.sample_command.specs.Samples.{figures, sample_cycles, IsReplayableTexts, IsRunOfTexts, IsSampleReplay, IsSampleSaid, IsSampleVerdict}
-use Rattle.sample_command.specs.Samples.{IsTraced, IsUntraced, Samples, SamplesFiles, SamplesReplay}
+use Rattle.vidi_commands.specs.trace_model.declared.row.Row.{Row}
+use Rattle.vidi_commands.specs.trace_model.declared.trace.Trace.{Trace}
+use Rattle.vidi_commands.specs.trace_model.Recording.{trace_of}
+use Rattle.vidi_commands.specs.trace_code.Encoding.{encode}
+use Rattle.vidi_commands.specs.trace_compare.Findings.{findings}
+use Rattle.vidi_commands.specs.chan_map.declared.pins.Map.{Map}
+use Rattle.vidi_commands.specs.replay_run.declared.outcome.ReplayOutcome.{ReplayOutcome}
+use Rattle.vidi_commands.specs.replay_run.declared.outcome.ReplayOutcome.TheVariants as outcomes
+use Rattle.vidi_commands.specs.sample_gen.declared.files.Sample.{Sample}
+use Rattle.vidi_commands.specs.sample_gen.Sample.{sample}
+use Rattle.vidi_commands.specs.script_text.declared.stalls.Stalls.{Stalls}
+use Rattle.vidi_commands.specs.vidi_recorder.Course.{Course, IsTheRunOf}
+use Rattle.vidi_commands.specs.vidi_bench.declared.bench.Bench.{Bench}
+use Rattle.vidi_commands.specs.vidi_bench.declared.device.Device.{Device}
+use Rattle.vidi_commands.specs.sample_command.declared.sampling.Figures.{Figures}
+use Rattle.vidi_commands.specs.vidi_bench.declared.status.Status.{Status}
+use Rattle.vidi_commands.specs.vidi_bench.declared.status.Status.TheVariants.{Done, Diverged}
+use Rattle.vidi_commands.specs.run_commands.Records.{IsRecorded}
+use Rattle.vidi_commands.specs.sample_command.Said.{diverged_text, sample_line}
+use Rattle.vidi_commands.specs.sample_command.Samples.{figures, sample_cycles, IsReplayableTexts, IsRunOfTexts, IsSampleReplay, IsSampleSaid, IsSampleVerdict}
+use Rattle.vidi_commands.specs.sample_command.Samples.{IsTraced, IsUntraced, Samples, SamplesFiles, SamplesReplay}
 use Rattle.vidi_laws.proofs.OneEnding.{Apart, One, OneBy, one-said, one-step-by}
 use Rattle.vidi_laws.proofs.OneCheck.{Alike, alike}
 use Rattle.vidi_laws.proofs.SameBench.{BenchLaws, same-bench}

@@ -1,32 +1,32 @@
 -- `wrap`: one answer, which leaves one text.
 use Rattle.std.proofs.Common.{◌≡◌, ℕ, ◌≤◌, List, [], Option, None, Some, length, inl, inr, sym, ap, subst, ◌∙◌, arith}
-use Rattle.vidi_bits.specs.Findings.{first}
-use Rattle.vidi_bits.proofs.Lists.{some_same}
-use Rattle.vlog_tree.specs.Tree.{FileOf}
-use Rattle.vlog_tree.specs.Spelling.{toks}
-use Rattle.vlog_parse.specs.Marks.{all_marked}
-use Rattle.vlog_elab.specs.declared.error.ElabError.{ElabError}
-use Rattle.vlog_elab.specs.declared.error.ElabError.TheVariants.{Memory}
-use Rattle.chan_map.specs.declared.pins.Map.{Map}
-use Rattle.shim_trees.specs.RecordTop.{record_name}
-use Rattle.shim_trees.specs.ReplayTop.{replay_name}
-use Rattle.shim_trees.specs.Wrapped.{reserved_names, wrapped}
-use Rattle.vidi_io.specs.Shelf.{Files}
-use Rattle.report_text.specs.declared.reason.Word.TheVariants as words
-use Rattle.report_text.specs.declared.reason.Reason.TheVariants as reasons
-use Rattle.report_text.specs.Reason.{reason_line}
-use Rattle.vidi_bench.specs.declared.device.Device.{Device}
-use Rattle.vidi_bench.specs.declared.status.Status.{Status}
-use Rattle.vidi_bench.specs.declared.status.Status.TheVariants.{Done, Refused}
-use Rattle.vidi_bench.specs.Design.{text_limit}
-use Rattle.vidi_bench.specs.Devices.{IsDevice, Mapping}
-use Rattle.vidi_bench.specs.Reading.{Reading}
+use Rattle.vidi_commands.specs.vidi_bits.Findings.{first}
+use Rattle.vidi_commands.proofs.vidi_bits.Lists.{some_same}
+use Rattle.vidi_commands.specs.vlog_tree.Tree.{FileOf}
+use Rattle.vidi_commands.specs.vlog_tree.Spelling.{toks}
+use Rattle.vidi_commands.specs.vlog_parse.Marks.{all_marked}
+use Rattle.vidi_commands.specs.vlog_elab.declared.error.ElabError.{ElabError}
+use Rattle.vidi_commands.specs.vlog_elab.declared.error.ElabError.TheVariants.{Memory}
+use Rattle.vidi_commands.specs.chan_map.declared.pins.Map.{Map}
+use Rattle.vidi_commands.specs.shim_trees.RecordTop.{record_name}
+use Rattle.vidi_commands.specs.shim_trees.ReplayTop.{replay_name}
+use Rattle.vidi_commands.specs.shim_trees.Wrapped.{reserved_names, wrapped}
+use Rattle.vidi_commands.specs.vidi_io.Shelf.{Files}
+use Rattle.vidi_commands.specs.report_text.declared.reason.Word.TheVariants as words
+use Rattle.vidi_commands.specs.report_text.declared.reason.Reason.TheVariants as reasons
+use Rattle.vidi_commands.specs.report_text.Reason.{reason_line}
+use Rattle.vidi_commands.specs.vidi_bench.declared.device.Device.{Device}
+use Rattle.vidi_commands.specs.vidi_bench.declared.status.Status.{Status}
+use Rattle.vidi_commands.specs.vidi_bench.declared.status.Status.TheVariants.{Done, Refused}
+use Rattle.vidi_commands.specs.vidi_bench.Design.{text_limit}
+use Rattle.vidi_commands.specs.vidi_bench.Devices.{IsDevice, Mapping}
+use Rattle.vidi_commands.specs.vidi_bench.Reading.{Reading}
 use Rattle.vidi_commands.specs.Said.{wrapped_line}
-use Rattle.vlog_elab.specs.Errors.{number_of}
-use Rattle.wrap_command.specs.Shims.{file_text, IsClearTop, IsClearTree, IsDeepTree, IsFaulty}
-use Rattle.wrap_command.specs.Shims.{IsFaultyTop, IsFaultyTree, IsRefusedTop, IsUnwrapped, IsWrapped}
-use Rattle.vidi_bench.specs.Steps.{IsRefusal}
-use Rattle.wrap_command.specs.Wraps.{IsUnwritten, IsWrappable, IsWrapping, RefusedWrap, Wraps, WrapsFile}
+use Rattle.vidi_commands.specs.vlog_elab.Errors.{number_of}
+use Rattle.vidi_commands.specs.wrap_command.Shims.{file_text, IsClearTop, IsClearTree, IsDeepTree, IsFaulty}
+use Rattle.vidi_commands.specs.wrap_command.Shims.{IsFaultyTop, IsFaultyTree, IsRefusedTop, IsUnwrapped, IsWrapped}
+use Rattle.vidi_commands.specs.vidi_bench.Steps.{IsRefusal}
+use Rattle.vidi_commands.specs.wrap_command.Wraps.{IsUnwritten, IsWrappable, IsWrapping, RefusedWrap, Wraps, WrapsFile}
 use Rattle.vidi_laws.proofs.OneEnding.{One, OneBy, one-said, one-read, one-reading-by, reading-apart}
 use Rattle.vidi_laws.proofs.OneCheck.{TextLaws, Alike, alike, one-spelled, one-spelling, text-apart}
 use Rattle.vidi_laws.proofs.OneRefusal.{one_refusal, refused_clear}

@@ -2,53 +2,53 @@
 -- replay, and what is read of a wrapped design.
 use Rattle.std.specs.Prelude.{◌≡◌, ℕ, ◌<◌, ◌≤◌, Bool, true, false, List, ◌++◌, Option, Some, All, length, slice_get}
 use Rattle.std.specs.FinMap.{get}
-use Rattle.vidi_bits.specs.Number.{has}
-use Rattle.vidi_io.specs.Shelf.{Files, holding}
-use Rattle.vlog_tree.specs.Tree.{FileOf}
-use Rattle.vlog_tree.specs.Lines.{bare}
-use Rattle.trace_model.specs.declared.channel.Channel.{Channel}
-use Rattle.trace_model.specs.declared.channel.Dir.{Dir}
-use Rattle.trace_model.specs.declared.channel.Dir.TheVariants.{Inward, Outward}
-use Rattle.trace_model.specs.declared.packet.Packet.{Packet}
-use Rattle.trace_model.specs.declared.row.Row.{Row}
-use Rattle.trace_model.specs.declared.trace.Trace.{Trace}
-use Rattle.trace_model.specs.Recording.{packets_of, trace_of}
-use Rattle.trace_code.specs.Encoding.{HasEncoding, encode, header_bytes}
-use Rattle.trace_code.specs.Salvage.{front, LieWhole}
-use Rattle.trace_compare.specs.declared.report.Finding.{Finding}
-use Rattle.trace_compare.specs.declared.report.What.{What}
-use Rattle.trace_compare.specs.declared.report.What.TheVariants.{Differs, ExtraStart, ExtraEnd, EarlyStart, EarlyEnd}
-use Rattle.trace_compare.specs.Findings.{findings}
-use Rattle.run_model.specs.Held.{held, waits}
-use Rattle.run_model.specs.Laws.{AreInOrder, ContentsStay}
-use Rattle.replay_run.specs.declared.outcome.ReplayOutcome.{ReplayOutcome}
-use Rattle.replay_run.specs.declared.outcome.ReplayOutcome.TheVariants.{Ended, Short, Unstable}
-use Rattle.replay_run.specs.Replaying.{GoesInNoCircle}
-use Rattle.chan_map.specs.declared.pins.Map.{Map}
-use Rattle.shim_trees.specs.Wrapped.{wrapped}
-use Rattle.script_text.specs.declared.script.TheConstants.{MOST_CYCLES}
-use Rattle.script_text.specs.ScriptOffer.{script_offer}
-use Rattle.script_text.specs.declared.stalls.Stalls.{Stalls}
-use Rattle.room_ledger.specs.Gates.{used_at}
-use Rattle.room_ledger.specs.Laws.{EverythingDrains}
-use Rattle.bench_run.specs.declared.plain.PlainRun.{PlainRun}
-use Rattle.bench_run.specs.Plain.{spot_behind, IsPlainRun}
-use Rattle.vidi_recorder.specs.Course.{plan_of, sizes_of, IsRunOf, IsTheRunOf}
-use Rattle.vidi_recorder.specs.Laws.{IsKept}
-use Rattle.vidi_recorder.specs.ScriptLaws.{DrainsAll}
-use Rattle.vidi_bench.specs.declared.bench.Bench.{Bench}
-use Rattle.vidi_bench.specs.declared.device.Device.{Device}
-use Rattle.vidi_bench.specs.Benches.{IsBench}
-use Rattle.vidi_bench.specs.Design.{Spells}
-use Rattle.vidi_bench.specs.declared.status.Status.{Status}
-use Rattle.vidi_bench.specs.declared.status.Status.TheVariants.{Done}
-use Rattle.vidi_bench.specs.Steps.{IsSaid}
-use Rattle.run_commands.specs.Records.{course_of, IsPlanned}
-use Rattle.replay_command.specs.Replays.{IsReplayable, IsTheReplay}
-use Rattle.wrap_command.specs.Shims.{file_text}
+use Rattle.vidi_commands.specs.vidi_bits.Number.{has}
+use Rattle.vidi_commands.specs.vidi_io.Shelf.{Files, holding}
+use Rattle.vidi_commands.specs.vlog_tree.Tree.{FileOf}
+use Rattle.vidi_commands.specs.vlog_tree.Lines.{bare}
+use Rattle.vidi_commands.specs.trace_model.declared.channel.Channel.{Channel}
+use Rattle.vidi_commands.specs.trace_model.declared.channel.Dir.{Dir}
+use Rattle.vidi_commands.specs.trace_model.declared.channel.Dir.TheVariants.{Inward, Outward}
+use Rattle.vidi_commands.specs.trace_model.declared.packet.Packet.{Packet}
+use Rattle.vidi_commands.specs.trace_model.declared.row.Row.{Row}
+use Rattle.vidi_commands.specs.trace_model.declared.trace.Trace.{Trace}
+use Rattle.vidi_commands.specs.trace_model.Recording.{packets_of, trace_of}
+use Rattle.vidi_commands.specs.trace_code.Encoding.{HasEncoding, encode, header_bytes}
+use Rattle.vidi_commands.specs.trace_code.Salvage.{front, LieWhole}
+use Rattle.vidi_commands.specs.trace_compare.declared.report.Finding.{Finding}
+use Rattle.vidi_commands.specs.trace_compare.declared.report.What.{What}
+use Rattle.vidi_commands.specs.trace_compare.declared.report.What.TheVariants.{Differs, ExtraStart, ExtraEnd, EarlyStart, EarlyEnd}
+use Rattle.vidi_commands.specs.trace_compare.Findings.{findings}
+use Rattle.vidi_commands.specs.run_model.Held.{held, waits}
+use Rattle.vidi_commands.specs.run_model.Laws.{AreInOrder, ContentsStay}
+use Rattle.vidi_commands.specs.replay_run.declared.outcome.ReplayOutcome.{ReplayOutcome}
+use Rattle.vidi_commands.specs.replay_run.declared.outcome.ReplayOutcome.TheVariants.{Ended, Short, Unstable}
+use Rattle.vidi_commands.specs.replay_run.Replaying.{GoesInNoCircle}
+use Rattle.vidi_commands.specs.chan_map.declared.pins.Map.{Map}
+use Rattle.vidi_commands.specs.shim_trees.Wrapped.{wrapped}
+use Rattle.vidi_commands.specs.script_text.declared.script.TheConstants.{MOST_CYCLES}
+use Rattle.vidi_commands.specs.script_text.ScriptOffer.{script_offer}
+use Rattle.vidi_commands.specs.script_text.declared.stalls.Stalls.{Stalls}
+use Rattle.vidi_commands.specs.room_ledger.Gates.{used_at}
+use Rattle.vidi_commands.specs.room_ledger.Laws.{EverythingDrains}
+use Rattle.vidi_commands.specs.bench_run.declared.plain.PlainRun.{PlainRun}
+use Rattle.vidi_commands.specs.bench_run.Plain.{spot_behind, IsPlainRun}
+use Rattle.vidi_commands.specs.vidi_recorder.Course.{plan_of, sizes_of, IsRunOf, IsTheRunOf}
+use Rattle.vidi_commands.specs.vidi_recorder.Laws.{IsKept}
+use Rattle.vidi_commands.specs.vidi_recorder.ScriptLaws.{DrainsAll}
+use Rattle.vidi_commands.specs.vidi_bench.declared.bench.Bench.{Bench}
+use Rattle.vidi_commands.specs.vidi_bench.declared.device.Device.{Device}
+use Rattle.vidi_commands.specs.vidi_bench.Benches.{IsBench}
+use Rattle.vidi_commands.specs.vidi_bench.Design.{Spells}
+use Rattle.vidi_commands.specs.vidi_bench.declared.status.Status.{Status}
+use Rattle.vidi_commands.specs.vidi_bench.declared.status.Status.TheVariants.{Done}
+use Rattle.vidi_commands.specs.vidi_bench.Steps.{IsSaid}
+use Rattle.vidi_commands.specs.run_commands.Records.{course_of, IsPlanned}
+use Rattle.vidi_commands.specs.replay_command.Replays.{IsReplayable, IsTheReplay}
+use Rattle.vidi_commands.specs.wrap_command.Shims.{file_text}
 use Rattle.vidi_commands.specs.Said.{salvaged_line}
-use Rattle.trace_commands.specs.Traces.{trace_limit, Saves}
-use Rattle.wrap_command.specs.Wraps.{IsWrappable}
+use Rattle.vidi_commands.specs.trace_commands.Traces.{trace_limit, Saves}
+use Rattle.vidi_commands.specs.wrap_command.Wraps.{IsWrappable}
 
 -- Whatever the accepted design, script and store stalls, the trace of the run holds each channel's started and completed transactions,
 -- with contents, once and in order, and has an encoding.

@@ -1,20 +1,20 @@
 -- The runs and the replay of accepted files exist, and are one.
 use Rattle.std.specs.Prelude.{◌≡◌, ℕ, List, Option}
-use Rattle.vidi_io.specs.Shelf.{Files}
-use Rattle.trace_model.specs.declared.row.Row.{Row}
-use Rattle.trace_model.specs.declared.trace.Trace.{Trace}
-use Rattle.run_model.specs.Laws.{OneOfLength, OneThatEnds}
-use Rattle.replay_run.specs.declared.outcome.ReplayOutcome.{ReplayOutcome}
-use Rattle.script_text.specs.ScriptOffer.{script_offer}
-use Rattle.script_text.specs.declared.stalls.Stalls.{Stalls}
-use Rattle.bench_run.specs.Laws.{OneAnswerOf}
-use Rattle.bench_run.specs.Plain.{IsRunAllUp}
-use Rattle.vidi_recorder.specs.Course.{IsRunOf, IsTheRunOf}
-use Rattle.vidi_bench.specs.declared.bench.Bench.{Bench}
-use Rattle.vidi_bench.specs.declared.device.Device.{Device}
-use Rattle.vidi_bench.specs.Benches.{IsBench}
-use Rattle.run_commands.specs.Records.{course_of, IsPlanned}
-use Rattle.replay_command.specs.Replays.{IsReplayable, IsTheReplay}
+use Rattle.vidi_commands.specs.vidi_io.Shelf.{Files}
+use Rattle.vidi_commands.specs.trace_model.declared.row.Row.{Row}
+use Rattle.vidi_commands.specs.trace_model.declared.trace.Trace.{Trace}
+use Rattle.vidi_commands.specs.run_model.Laws.{OneOfLength, OneThatEnds}
+use Rattle.vidi_commands.specs.replay_run.declared.outcome.ReplayOutcome.{ReplayOutcome}
+use Rattle.vidi_commands.specs.script_text.ScriptOffer.{script_offer}
+use Rattle.vidi_commands.specs.script_text.declared.stalls.Stalls.{Stalls}
+use Rattle.vidi_commands.specs.bench_run.Laws.{OneAnswerOf}
+use Rattle.vidi_commands.specs.bench_run.Plain.{IsRunAllUp}
+use Rattle.vidi_commands.specs.vidi_recorder.Course.{IsRunOf, IsTheRunOf}
+use Rattle.vidi_commands.specs.vidi_bench.declared.bench.Bench.{Bench}
+use Rattle.vidi_commands.specs.vidi_bench.declared.device.Device.{Device}
+use Rattle.vidi_commands.specs.vidi_bench.Benches.{IsBench}
+use Rattle.vidi_commands.specs.run_commands.Records.{course_of, IsPlanned}
+use Rattle.vidi_commands.specs.replay_command.Replays.{IsReplayable, IsTheReplay}
 
 -- for each n exactly one list of n rows is a run that `record` may play, and exactly one list is *the run*, which ends in one way
 abbrev pub OneRecording : Type 0

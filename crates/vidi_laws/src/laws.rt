@@ -4,12 +4,12 @@ ghost use Rattle.vidi_laws.specs.Alike.{BuiltAlike};
 ghost use Rattle.vidi_laws.specs.Headline.{DrainedRecordingIsTheRun, RecordedRunIsKept, ReplayIsFaithful, WrappedIsReadBack};
 ghost use Rattle.vidi_laws.specs.OneAnswer.{OneAnswer};
 
-use chan_map::{one_binding, one_map_text};
-use net_order::one_settled_map;
-use replay_run::one_outcome;
-use run_model::{bound_is_map_of, driven_alike, maps_alike, one_end, runs_alike};
-use script_text::{one_plan, one_script};
-use trace_code::{one_place, one_reading, one_salvage};
+use vidi_commands::chan_map::{one_binding, one_map_text};
+use vidi_commands::net_order::one_settled_map;
+use vidi_commands::replay_run::one_outcome;
+use vidi_commands::run_model::{bound_is_map_of, driven_alike, maps_alike, one_end, runs_alike};
+use vidi_commands::script_text::{one_plan, one_script};
+use vidi_commands::trace_code::{one_place, one_reading, one_salvage};
 
 /// Lawful designs that have the parts of one file's instances are alike.
 pub fn built_alike()
@@ -24,14 +24,14 @@ pub fn one_answer()
     one_reading();
     one_place();
     one_salvage();
-    vlog_lex::one_reading();
-    vlog_lex::read_or_stuck();
-    vlog_lex::one_stuck_line();
-    vlog_parse::one_lined_file();
-    vlog_parse::lined_files_are_files();
-    vlog_parse::one_item_line();
-    vlog_parse::one_depth();
-    vlog_design::loops_alike();
+    vidi_commands::vlog_lex::one_reading();
+    vidi_commands::vlog_lex::read_or_stuck();
+    vidi_commands::vlog_lex::one_stuck_line();
+    vidi_commands::vlog_parse::one_lined_file();
+    vidi_commands::vlog_parse::lined_files_are_files();
+    vidi_commands::vlog_parse::one_item_line();
+    vidi_commands::vlog_parse::one_depth();
+    vidi_commands::vlog_design::loops_alike();
     built_alike();
     maps_alike();
     driven_alike();
@@ -68,7 +68,7 @@ pub fn replay_is_faithful()
 pub fn wrapped_is_read_back()
     ensures { WrappedIsReadBack }
 {
-    vlog_lex::one_reading();
-    vlog_parse::one_file();
-    vlog_parse::lined_files_are_files()
+    vidi_commands::vlog_lex::one_reading();
+    vidi_commands::vlog_parse::one_file();
+    vidi_commands::vlog_parse::lined_files_are_files()
 }

@@ -3,7 +3,7 @@
 ghost use Rattle.vidi_laws.specs.Headline.{BrokenRecordingIsSalvaged, PrintedRunKeepsContents, RecordedTraceIsReplayable, RecordedTraceIsShort, RecordingHidesNoGate, SalvagedTraceIsReplayable, WidePlanDrains};
 ghost use Rattle.vidi_laws.specs.OneRun.{OnePrintedRun, OneRecording, OneReplayOfFiles};
 
-use trace_code::front_is_salvaged;
+use vidi_commands::trace_code::front_is_salvaged;
 
 /// For accepted files there is exactly one run of each number of rows behind the store, and exactly one run that `record` writes.
 pub fn one_recording()

@@ -1,2 +1,3 @@
 pub mod Lines
 pub mod Number
+pub use Rattle.vidi_bits.specs as vidi_bits

@@ -11,3 +11,4 @@ mod numeral;
 pub use error::LineError;
 pub use lines::{Line, Lines, Names, ReadLines, each_line, lines_of};
 pub use numeral::number;
+pub use vidi_bits;

@@ -1,16 +1,16 @@
 -- What a recording leaves, by how it ends.
 use Rattle.std.proofs.Common.{◌≡◌, ℕ, ◌≤◌, List, ◌++◌, Option, Some, None, inl, inr, length, sym, subst, arith}
 use Rattle.std.specs.Io.KnownBytes.{append_known}
-use Rattle.trace_model.specs.declared.row.Row.{Row}
-use Rattle.trace_model.specs.Channel.{IsTable}
+use Rattle.trace_code.specs.trace_model.declared.row.Row.{Row}
+use Rattle.trace_code.specs.trace_model.Channel.{IsTable}
 use Rattle.trace_code.specs.Encoding.{end_mark}
-use Rattle.net_design.specs.declared.design.Design.{Design}
-use Rattle.net_design.specs.declared.values.Values.{Values}
-use Rattle.run_model.specs.Laws.{OffersFit}
-use Rattle.run_model.specs.Played.{AreStable}
+use Rattle.chan_monitor.specs.net_design.declared.design.Design.{Design}
+use Rattle.chan_monitor.specs.net_design.declared.values.Values.{Values}
+use Rattle.env_script.specs.run_model.Laws.{OffersFit}
+use Rattle.env_script.specs.run_model.Played.{AreStable}
 use Rattle.room_ledger.specs.Ledger.{Ledger}
 use Rattle.chan_monitor.specs.Shell.{IsMapped}
-use Rattle.script_text.specs.declared.script.TheConstants.{MOST_CYCLES}
+use Rattle.env_script.specs.script_text.declared.script.TheConstants.{MOST_CYCLES}
 use Rattle.vidi_io.specs.Sink.{AppendsSome}
 use Rattle.vidi_recorder.specs.declared.error.Outcome.{Outcome}
 use Rattle.vidi_recorder.specs.declared.error.Outcome.TheVariants.{Whole, Unstable}

@@ -6,13 +6,13 @@ use Rattle.std.specs.Io.KnownBytes.{append_known}
 use Rattle.std.proofs.lemmas.Bool.{cases_Bool}
 use Rattle.std.proofs.lemmas.List.{append-nil, length-append, length-take-le, length_push, take-append-drop}
 use Rattle.std.proofs.lemmas.List.Concat.{flat_map-append}
-use Rattle.trace_model.specs.declared.channel.Channel.{Channel}
-use Rattle.trace_model.specs.declared.row.Row.{Row}
-use Rattle.trace_model.specs.Channel.{IsTable}
-use Rattle.trace_model.specs.Recording.{has_event, packet_of, packets_of, trace_of}
-use Rattle.trace_model.specs.Row.{row_before, IsOver}
-use Rattle.trace_model.proofs.CountingLemmas.{slice_get-last, slice_get-append_left}
-use Rattle.trace_model.proofs.RowLaws.{row-adds}
+use Rattle.trace_code.specs.trace_model.declared.channel.Channel.{Channel}
+use Rattle.trace_code.specs.trace_model.declared.row.Row.{Row}
+use Rattle.trace_code.specs.trace_model.Channel.{IsTable}
+use Rattle.trace_code.specs.trace_model.Recording.{has_event, packet_of, packets_of, trace_of}
+use Rattle.trace_code.specs.trace_model.Row.{row_before, IsOver}
+use Rattle.trace_code.proofs.trace_model.CountingLemmas.{slice_get-last, slice_get-append_left}
+use Rattle.trace_code.proofs.trace_model.RowLaws.{row-adds}
 use Rattle.trace_code.specs.Encoding.{encode, end_mark, header_bytes, row_bytes}
 use Rattle.trace_code.proofs.RowBytes.{row-length, no-row-packet}
 use Rattle.room_ledger.specs.Gates.{Plan, drained, left, row_len, used_at}

@@ -6,19 +6,19 @@ use Rattle.std.proofs.lemmas.Bool.{cases_Bool, and_from}
 use Rattle.std.proofs.lemmas.List.{take-append-drop, length-take-le, length-map, length_push}
 use Rattle.std.proofs.lemmas.Option.{slice_get_within, same_Some}
 use Rattle.std.proofs.lemmas.Nat.{pow_pos}
-use Rattle.vidi_bits.specs.Number.{has}
-use Rattle.trace_model.specs.declared.channel.Channel.{Channel}
-use Rattle.trace_model.specs.declared.event.Kind.TheVariants.{End}
-use Rattle.trace_model.specs.declared.row.Row.{Row}
-use Rattle.trace_model.specs.Channel.{content_bytes}
-use Rattle.trace_model.specs.Recording.{has_event, packet_of, packets_of, row_does}
-use Rattle.trace_model.specs.Row.{completes, is_in_flight}
-use Rattle.trace_model.proofs.CountingLemmas.{count-cons, slice_get-last}
-use Rattle.trace_model.proofs.RowLaws.{recorded-once, same-counts}
-use Rattle.run_model.specs.Played.{all_up}
-use Rattle.run_model.specs.Run.{AllUp, IsRun}
-use Rattle.run_model.proofs.Contents.{has-all, same-masks_below}
-use Rattle.run_model.proofs.RunLaws.{StayUp, run-keeps, kept}
+use Rattle.vidi_io.specs.vidi_bits.Number.{has}
+use Rattle.trace_code.specs.trace_model.declared.channel.Channel.{Channel}
+use Rattle.trace_code.specs.trace_model.declared.event.Kind.TheVariants.{End}
+use Rattle.trace_code.specs.trace_model.declared.row.Row.{Row}
+use Rattle.trace_code.specs.trace_model.Channel.{content_bytes}
+use Rattle.trace_code.specs.trace_model.Recording.{has_event, packet_of, packets_of, row_does}
+use Rattle.trace_code.specs.trace_model.Row.{completes, is_in_flight}
+use Rattle.trace_code.proofs.trace_model.CountingLemmas.{count-cons, slice_get-last}
+use Rattle.trace_code.proofs.trace_model.RowLaws.{recorded-once, same-counts}
+use Rattle.env_script.specs.run_model.Played.{all_up}
+use Rattle.env_script.specs.run_model.Run.{AllUp, IsRun}
+use Rattle.env_script.proofs.run_model.Contents.{has-all, same-masks_below}
+use Rattle.env_script.proofs.run_model.RunLaws.{StayUp, run-keeps, kept}
 use Rattle.room_ledger.specs.Gates.{Plan, used_at, keeps, AreGates}
 use Rattle.room_ledger.specs.Reservation.{need, AreRaised}
 use Rattle.room_ledger.proofs.Following.{used-front}

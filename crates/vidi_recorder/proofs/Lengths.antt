@@ -3,11 +3,11 @@ use Rattle.std.proofs.Common.{◌≡◌, ℕ, ◌+◌, ◌≤◌, ◌&&◌, ◌=
 use Rattle.std.proofs.Common.{length, map, sum_by, ap, sym, ◌∙◌, arith}
 use Rattle.std.proofs.lemmas.List.{length-map}
 use Rattle.std.proofs.lemmas.List.Sums.{sum_by-cons}
-use Rattle.trace_model.specs.declared.packet.TheConstants.{LONGEST_PACKET}
-use Rattle.trace_model.specs.declared.channel.Channel.{Channel}
-use Rattle.trace_model.specs.Channel.{content_bytes, IsTable}
-use Rattle.trace_model.specs.declared.row.Row.{Row}
-use Rattle.trace_model.specs.Length.{contents_len, head_len, packet_len}
+use Rattle.trace_code.specs.trace_model.declared.packet.TheConstants.{LONGEST_PACKET}
+use Rattle.trace_code.specs.trace_model.declared.channel.Channel.{Channel}
+use Rattle.trace_code.specs.trace_model.Channel.{content_bytes, IsTable}
+use Rattle.trace_code.specs.trace_model.declared.row.Row.{Row}
+use Rattle.trace_code.specs.trace_model.Length.{contents_len, head_len, packet_len}
 use Rattle.trace_code.proofs.RowBytes.{contents_len-widths, contents-least}
 use Rattle.room_ledger.specs.Gates.{row_len}
 use Rattle.room_ledger.specs.Ledger.{Ledger, claimed, Emitted}

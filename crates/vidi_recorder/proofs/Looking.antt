@@ -2,17 +2,17 @@
 use Rattle.std.proofs.Common.{◌≡◌, ℕ, List, Option, length, subst, sym}
 use Rattle.std.proofs.Math.Logic.{∥∥₁_elim}
 use Rattle.std.proofs.Props.{props}
-use Rattle.run_model.specs.Offers.{AreZeroWhileDown}
-use Rattle.trace_model.specs.declared.channel.Channel.{Channel}
-use Rattle.trace_model.specs.declared.row.Offers.{Offers}
-use Rattle.trace_model.specs.declared.row.Row.{Row}
-use Rattle.trace_model.specs.Row.{all_widths, AreOffers, IsOver}
-use Rattle.trace_model.proofs.ContentsLemmas.{fit-length, fit_prop}
-use Rattle.net_design.specs.declared.design.Design.{Design}
-use Rattle.net_design.specs.declared.values.Values.{Values}
-use Rattle.chan_map.specs.declared.pins.Map.{Map}
-use Rattle.run_model.specs.Offers as Rows
-use Rattle.script_text.specs.Offer.{Offer, Carries, EndsAreCompletions}
+use Rattle.env_script.specs.run_model.Offers.{AreZeroWhileDown}
+use Rattle.trace_code.specs.trace_model.declared.channel.Channel.{Channel}
+use Rattle.trace_code.specs.trace_model.declared.row.Offers.{Offers}
+use Rattle.trace_code.specs.trace_model.declared.row.Row.{Row}
+use Rattle.trace_code.specs.trace_model.Row.{all_widths, AreOffers, IsOver}
+use Rattle.trace_code.proofs.trace_model.ContentsLemmas.{fit-length, fit_prop}
+use Rattle.chan_monitor.specs.net_design.declared.design.Design.{Design}
+use Rattle.chan_monitor.specs.net_design.declared.values.Values.{Values}
+use Rattle.env_script.specs.chan_map.declared.pins.Map.{Map}
+use Rattle.env_script.specs.run_model.Offers as Rows
+use Rattle.env_script.specs.script_text.Offer.{Offer, Carries, EndsAreCompletions}
 use Rattle.chan_monitor.specs.Shell.{IsRunning, IsShown}
 use Rattle.env_script.specs.Offered.{offers_on, AllFit}
 use Rattle.env_script.proofs.OfferLaws.{are-offers, are-zero, carries-each}

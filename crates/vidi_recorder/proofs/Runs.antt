@@ -7,24 +7,24 @@ use Rattle.std.proofs.Math.Logic.{∥∥₁_map}
 use Rattle.std.proofs.lemmas.List.{take-append-drop, length-map, length-take-le, length_push}
 use Rattle.std.proofs.lemmas.List.Concat.{flat_map-append}
 use Rattle.std.proofs.lemmas.Nat.{pow_pos}
-use Rattle.vidi_bits.specs.Number.{has}
-use Rattle.vidi_bits.proofs.BitLemmas.{fits_by_bits}
-use Rattle.trace_model.specs.declared.channel.Channel.{Channel}
-use Rattle.trace_model.specs.declared.row.Row.{Row}
-use Rattle.trace_model.specs.Recording.{has_event, packet_of, packets_of, trace_of}
-use Rattle.trace_model.specs.Channel.{content_bytes}
-use Rattle.trace_model.specs.Row.{is_in_flight, row_before}
-use Rattle.trace_model.proofs.MaskLemmas.{no-bit-from-has}
-use Rattle.trace_model.proofs.CountingLemmas.{slice_get-take}
+use Rattle.vidi_io.specs.vidi_bits.Number.{has}
+use Rattle.vidi_io.proofs.vidi_bits.BitLemmas.{fits_by_bits}
+use Rattle.trace_code.specs.trace_model.declared.channel.Channel.{Channel}
+use Rattle.trace_code.specs.trace_model.declared.row.Row.{Row}
+use Rattle.trace_code.specs.trace_model.Recording.{has_event, packet_of, packets_of, trace_of}
+use Rattle.trace_code.specs.trace_model.Channel.{content_bytes}
+use Rattle.trace_code.specs.trace_model.Row.{is_in_flight, row_before}
+use Rattle.trace_code.proofs.trace_model.MaskLemmas.{no-bit-from-has}
+use Rattle.trace_code.proofs.trace_model.CountingLemmas.{slice_get-take}
 use Rattle.trace_code.specs.Encoding.{encode, end_mark, header_bytes, packet_bytes, row_bytes}
-use Rattle.net_design.specs.Lawful.{IsLawful}
-use Rattle.run_model.specs.Laws.{IsReady, OffersFit, OneOfLength, OneThatEnds}
-use Rattle.run_model.specs.Played.{AreStable}
-use Rattle.run_model.proofs.Ends.{the-run as run-parts}
-use Rattle.run_model.proofs.PlayedLaws.{Determines, one-list_of_rows, row-before_take, played-front}
-use Rattle.run_model.proofs.RowParts.{carried}
-use Rattle.run_model.proofs.RunLaws.{one-of_length, GatesAreFixed}
-use Rattle.run_model.proofs.Stops.{one-that_ends}
+use Rattle.chan_monitor.specs.net_design.Lawful.{IsLawful}
+use Rattle.env_script.specs.run_model.Laws.{IsReady, OffersFit, OneOfLength, OneThatEnds}
+use Rattle.env_script.specs.run_model.Played.{AreStable}
+use Rattle.env_script.proofs.run_model.Ends.{the-run as run-parts}
+use Rattle.env_script.proofs.run_model.PlayedLaws.{Determines, one-list_of_rows, row-before_take, played-front}
+use Rattle.env_script.proofs.run_model.RowParts.{carried}
+use Rattle.env_script.proofs.run_model.RunLaws.{one-of_length, GatesAreFixed}
+use Rattle.env_script.proofs.run_model.Stops.{one-that_ends}
 use Rattle.room_ledger.specs.Gates.{Plan, used_at, keeps, AreGates}
 use Rattle.room_ledger.specs.Reservation.{AreRaised}
 use Rattle.room_ledger.proofs.Existence.{has-gates}

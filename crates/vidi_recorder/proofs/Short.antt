@@ -4,16 +4,16 @@ use Rattle.std.proofs.Common.{refl, ap, arith}
 use Rattle.std.specs.List.{All, flat_map}
 use Rattle.std.proofs.lemmas.List.{length-append}
 use Rattle.std.proofs.lemmas.List.Elements.{All-head, All-tail}
-use Rattle.trace_model.specs.declared.packet.TheConstants.{LONGEST_PACKET}
-use Rattle.trace_model.specs.declared.channel.Channel.{Channel}
-use Rattle.trace_model.specs.declared.row.Row.{Row}
-use Rattle.trace_model.specs.Channel.{IsChannel, IsName, IsTable}
-use Rattle.trace_model.specs.Recording.{packets_of, trace_of}
-use Rattle.trace_model.specs.Row.{AreRows, IsOver}
+use Rattle.trace_code.specs.trace_model.declared.packet.TheConstants.{LONGEST_PACKET}
+use Rattle.trace_code.specs.trace_model.declared.channel.Channel.{Channel}
+use Rattle.trace_code.specs.trace_model.declared.row.Row.{Row}
+use Rattle.trace_code.specs.trace_model.Channel.{IsChannel, IsName, IsTable}
+use Rattle.trace_code.specs.trace_model.Recording.{packets_of, trace_of}
+use Rattle.trace_code.specs.trace_model.Row.{AreRows, IsOver}
 use Rattle.trace_code.specs.declared.decoding.TheConstants.{TRACE_LIMIT}
 use Rattle.trace_code.specs.Encoding.{channel_bytes, encode, end_mark, header_bytes, row_bytes}
 use Rattle.room_ledger.proofs.Following.{same-len}
-use Rattle.script_text.specs.declared.script.TheConstants.{MOST_CYCLES}
+use Rattle.env_script.specs.script_text.declared.script.TheConstants.{MOST_CYCLES}
 use Rattle.vidi_recorder.specs.Standing.{body}
 use Rattle.vidi_recorder.proofs.Going.{bytes-len}
 use Rattle.vidi_recorder.proofs.Lengths.{longest, packet-most}

@@ -1,10 +1,10 @@
 -- A row in which nothing is up is one over its channels.
 use Rattle.std.proofs.Common.{◌≡◌, List, length, replicate, refl, subst, sym}
 use Rattle.std.proofs.lemmas.Nat.{pow_pos}
-use Rattle.trace_model.specs.declared.channel.Channel.{Channel}
-use Rattle.trace_model.specs.declared.row.Row.{Row}
-use Rattle.trace_model.specs.Row.{all_widths, IsOver}
-use Rattle.run_model.proofs.Contents.{fit-zeros}
+use Rattle.trace_code.specs.trace_model.declared.channel.Channel.{Channel}
+use Rattle.trace_code.specs.trace_model.declared.row.Row.{Row}
+use Rattle.trace_code.specs.trace_model.Row.{all_widths, IsOver}
+use Rattle.env_script.proofs.run_model.Contents.{fit-zeros}
 
 abbrev pub silent : List Channel → Row
 silent channels = record {

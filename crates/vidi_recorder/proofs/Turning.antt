@@ -4,24 +4,24 @@ use Rattle.std.proofs.Common.{Some, None}
 use Rattle.std.proofs.Common.{length, slice_get, refl, ap, sym, subst, ◌∙◌, arith, ⊎_elim}
 use Rattle.std.proofs.lemmas.Bool.{false≢true}
 use Rattle.std.proofs.lemmas.Option.{same_Some}
-use Rattle.trace_model.specs.declared.channel.Channel.{Channel}
-use Rattle.trace_model.specs.declared.row.Offers.{Offers}
-use Rattle.trace_model.specs.declared.row.Row.{Row}
-use Rattle.trace_model.specs.Row.{completes, flies_after, row_before, sink_valid, IsMarked, IsOver}
-use Rattle.trace_model.specs.Stability.{waits, IsLowestUnstable, IsUnstable, IsUnstableAt}
-use Rattle.trace_model.proofs.CountingLemmas.{slice_get-append_left, slice_get-last, slice_get-push}
+use Rattle.trace_code.specs.trace_model.declared.channel.Channel.{Channel}
+use Rattle.trace_code.specs.trace_model.declared.row.Offers.{Offers}
+use Rattle.trace_code.specs.trace_model.declared.row.Row.{Row}
+use Rattle.trace_code.specs.trace_model.Row.{completes, flies_after, row_before, sink_valid, IsMarked, IsOver}
+use Rattle.trace_code.specs.trace_model.Stability.{waits, IsLowestUnstable, IsUnstable, IsUnstableAt}
+use Rattle.trace_code.proofs.trace_model.CountingLemmas.{slice_get-append_left, slice_get-last, slice_get-push}
 use Rattle.std.proofs.lemmas.Nat.Bits.{bit_at-zero}
-use Rattle.trace_model.proofs.RowLemmas.{before-last}
-use Rattle.vidi_bits.specs.Number.{has}
-use Rattle.net_design.specs.declared.design.Design.{Design}
-use Rattle.net_design.specs.declared.values.Values.{Values}
-use Rattle.chan_map.specs.declared.pins.Map.{Map}
-use Rattle.run_model.specs.Played.{AreStable}
-use Rattle.run_model.specs.Laws.{OffersStay}
-use Rattle.run_model.specs.Offers.{Carries}
-use Rattle.run_model.specs.Step.{IsFirst, IsStep}
-use Rattle.run_model.proofs.PlayedLaws.{Grown, played-nil, played-push}
-use Rattle.run_model.proofs.RunLaws.{run-keeps}
+use Rattle.trace_code.proofs.trace_model.RowLemmas.{before-last}
+use Rattle.vidi_io.specs.vidi_bits.Number.{has}
+use Rattle.chan_monitor.specs.net_design.declared.design.Design.{Design}
+use Rattle.chan_monitor.specs.net_design.declared.values.Values.{Values}
+use Rattle.env_script.specs.chan_map.declared.pins.Map.{Map}
+use Rattle.env_script.specs.run_model.Played.{AreStable}
+use Rattle.env_script.specs.run_model.Laws.{OffersStay}
+use Rattle.env_script.specs.run_model.Offers.{Carries}
+use Rattle.env_script.specs.run_model.Step.{IsFirst, IsStep}
+use Rattle.env_script.proofs.run_model.PlayedLaws.{Grown, played-nil, played-push}
+use Rattle.env_script.proofs.run_model.RunLaws.{run-keeps}
 use Rattle.room_ledger.specs.Laws.{MayFollow, StandsAfter}
 use Rattle.room_ledger.specs.Ledger.{Ledger}
 use Rattle.chan_monitor.specs.Shell.{IsShown}

@@ -6,24 +6,24 @@ use Rattle.std.proofs.lemmas.List.{length-append, length-take-le}
 use Rattle.std.specs.Io.KnownBytes.{append_known}
 use Rattle.std.proofs.Math.Logic.{∥∥₁_elim}
 use Rattle.std.proofs.Props.{props}
-use Rattle.trace_model.specs.declared.channel.Channel.{Channel}
-use Rattle.trace_model.specs.declared.row.Offers.{Offers}
-use Rattle.trace_model.specs.declared.row.Row.{Row}
-use Rattle.trace_model.specs.Recording.{has_event}
-use Rattle.trace_model.specs.Row.{all_widths, completes, flies_after, row_before, sink_valid, IsOver}
-use Rattle.trace_model.specs.Stability.{IsLowestUnstable}
-use Rattle.trace_model.proofs.ContentsLemmas.{fit-length}
-use Rattle.net_design.specs.declared.design.Design.{Design}
-use Rattle.net_design.specs.declared.values.Values.{Values}
-use Rattle.chan_map.specs.declared.pins.Map.{Map}
-use Rattle.run_model.specs.Played.{AreStable, StopsBefore}
-use Rattle.run_model.specs.Step.{IsStep}
+use Rattle.trace_code.specs.trace_model.declared.channel.Channel.{Channel}
+use Rattle.trace_code.specs.trace_model.declared.row.Offers.{Offers}
+use Rattle.trace_code.specs.trace_model.declared.row.Row.{Row}
+use Rattle.trace_code.specs.trace_model.Recording.{has_event}
+use Rattle.trace_code.specs.trace_model.Row.{all_widths, completes, flies_after, row_before, sink_valid, IsOver}
+use Rattle.trace_code.specs.trace_model.Stability.{IsLowestUnstable}
+use Rattle.trace_code.proofs.trace_model.ContentsLemmas.{fit-length}
+use Rattle.chan_monitor.specs.net_design.declared.design.Design.{Design}
+use Rattle.chan_monitor.specs.net_design.declared.values.Values.{Values}
+use Rattle.env_script.specs.chan_map.declared.pins.Map.{Map}
+use Rattle.env_script.specs.run_model.Played.{AreStable, StopsBefore}
+use Rattle.env_script.specs.run_model.Step.{IsStep}
 use Rattle.room_ledger.specs.Gates.{Plan, drained, left}
 use Rattle.room_ledger.specs.Laws.{MayFollow, StandsAfter}
 use Rattle.room_ledger.specs.Ledger.{Ledger, MayEmit, Regranted}
 use Rattle.room_ledger.proofs.Following.{keeps-gates}
-use Rattle.script_text.specs.declared.stalls.Stalls.{Stalls}
-use Rattle.script_text.specs.Offer.{Offer, FitsOffer}
+use Rattle.env_script.specs.script_text.declared.stalls.Stalls.{Stalls}
+use Rattle.env_script.specs.script_text.Offer.{Offer, FitsOffer}
 use Rattle.chan_monitor.specs.Shell.{IsShown}
 use Rattle.env_script.specs.Offered.{offers_after, offers_on, AllFit, AreLasting}
 use Rattle.env_script.proofs.Lasting.{offers-stay}

@@ -1,16 +1,16 @@
 -- The run that is recorded: of a design, under what an environment offers and a plan of stalls (this project's profile).
 use Rattle.std.specs.Prelude.{ℕ, ◌+◌, zero, suc, List, Option, length, map, slice_get}
-use Rattle.trace_model.specs.declared.channel.Channel.{Channel}
-use Rattle.trace_model.specs.declared.row.Offers.{Offers}
-use Rattle.trace_model.specs.declared.row.Row.{Row}
-use Rattle.trace_model.specs.Channel.{content_bytes}
-use Rattle.net_design.specs.declared.design.Design.{Design}
-use Rattle.chan_map.specs.declared.pins.Map.{Map}
-use Rattle.run_model.specs.Run.{IsRun, IsRunRow, IsTheRun}
+use Rattle.trace_code.specs.trace_model.declared.channel.Channel.{Channel}
+use Rattle.trace_code.specs.trace_model.declared.row.Offers.{Offers}
+use Rattle.trace_code.specs.trace_model.declared.row.Row.{Row}
+use Rattle.trace_code.specs.trace_model.Channel.{content_bytes}
+use Rattle.chan_monitor.specs.net_design.declared.design.Design.{Design}
+use Rattle.env_script.specs.chan_map.declared.pins.Map.{Map}
+use Rattle.env_script.specs.run_model.Run.{IsRun, IsRunRow, IsTheRun}
 use Rattle.room_ledger.specs.Gates.{Plan, drained, row_len, used_at, AreGates}
-use Rattle.script_text.specs.declared.stalls.Stalls.{Stalls}
-use Rattle.script_text.specs.Plan.{allowance_at}
-use Rattle.script_text.specs.Offer.{Offer}
+use Rattle.env_script.specs.script_text.declared.stalls.Stalls.{Stalls}
+use Rattle.env_script.specs.script_text.Plan.{allowance_at}
+use Rattle.env_script.specs.script_text.Offer.{Offer}
 use Rattle.env_script.specs.Offered.{offers_after}
 
 -- a design with its map, what is offered after a list of rows, the plan of stalls, and the number of cycles

@@ -1,23 +1,23 @@
 -- What a recording holds of a run, and what gates do to it.
 use Rattle.std.specs.Prelude.{◌≡◌, ℕ, ◌<◌, ◌≤◌, ◌^◌, false, List, Option, Some, length, slice_get, count_by}
-use Rattle.vidi_bits.specs.Number.{has}
-use Rattle.trace_model.specs.declared.channel.Channel.{Channel}
-use Rattle.trace_model.specs.declared.event.Kind.TheVariants.{End}
-use Rattle.trace_model.specs.declared.row.Row.{Row}
-use Rattle.trace_model.specs.Channel.{IsTable}
-use Rattle.trace_model.specs.Packet.{count}
-use Rattle.trace_model.specs.Recording.{packets_of, recorded, trace_of, transactions}
-use Rattle.trace_model.specs.Row.{completes}
+use Rattle.vidi_io.specs.vidi_bits.Number.{has}
+use Rattle.trace_code.specs.trace_model.declared.channel.Channel.{Channel}
+use Rattle.trace_code.specs.trace_model.declared.event.Kind.TheVariants.{End}
+use Rattle.trace_code.specs.trace_model.declared.row.Row.{Row}
+use Rattle.trace_code.specs.trace_model.Channel.{IsTable}
+use Rattle.trace_code.specs.trace_model.Packet.{count}
+use Rattle.trace_code.specs.trace_model.Recording.{packets_of, recorded, trace_of, transactions}
+use Rattle.trace_code.specs.trace_model.Row.{completes}
 use Rattle.trace_code.specs.Encoding.{HasEncoding}
-use Rattle.net_design.specs.declared.design.Design.{Design}
-use Rattle.chan_map.specs.declared.pins.Map.{Map}
-use Rattle.run_model.specs.Laws.{ContentsStay, IsReady, OneOfLength, OneThatEnds}
-use Rattle.run_model.specs.Run.{AllUp, IsTheRun}
+use Rattle.chan_monitor.specs.net_design.declared.design.Design.{Design}
+use Rattle.env_script.specs.chan_map.declared.pins.Map.{Map}
+use Rattle.env_script.specs.run_model.Laws.{ContentsStay, IsReady, OneOfLength, OneThatEnds}
+use Rattle.env_script.specs.run_model.Run.{AllUp, IsTheRun}
 use Rattle.room_ledger.specs.Gates.{used_at}
 use Rattle.room_ledger.specs.Laws.{EverythingDrains}
 use Rattle.room_ledger.specs.Reservation.{need}
-use Rattle.script_text.specs.declared.stalls.Stalls.{Stalls}
-use Rattle.script_text.specs.Offer.{Offer}
+use Rattle.env_script.specs.script_text.declared.stalls.Stalls.{Stalls}
+use Rattle.env_script.specs.script_text.Offer.{Offer}
 use Rattle.env_script.specs.Offered.{AreLasting}
 use Rattle.vidi_recorder.specs.Course.{Course, course, sizes_of, IsRunOf, IsTheRunOf}
 

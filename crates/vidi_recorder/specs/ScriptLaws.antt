@@ -1,18 +1,18 @@
 -- That a script's run is one, what its recording holds, and plans under which everything drains.
 use Rattle.std.specs.Prelude.{◌≡◌, ℕ, ◌≤◌, List, Option, None, Some, slice_get}
-use Rattle.trace_model.specs.declared.channel.Channel.{Channel}
-use Rattle.trace_model.specs.declared.row.Row.{Row}
-use Rattle.trace_model.specs.Channel.{IsTable}
-use Rattle.net_design.specs.declared.design.Design.{Design}
-use Rattle.chan_map.specs.declared.pins.Map.{Map}
-use Rattle.run_model.specs.Laws.{IsReady, OneOfLength, OneThatEnds}
+use Rattle.trace_code.specs.trace_model.declared.channel.Channel.{Channel}
+use Rattle.trace_code.specs.trace_model.declared.row.Row.{Row}
+use Rattle.trace_code.specs.trace_model.Channel.{IsTable}
+use Rattle.chan_monitor.specs.net_design.declared.design.Design.{Design}
+use Rattle.env_script.specs.chan_map.declared.pins.Map.{Map}
+use Rattle.env_script.specs.run_model.Laws.{IsReady, OneOfLength, OneThatEnds}
 use Rattle.room_ledger.specs.Laws.{EverythingDrains}
 use Rattle.room_ledger.specs.Reservation.{need}
-use Rattle.script_text.specs.declared.script.Script.{Script}
-use Rattle.script_text.specs.declared.stalls.Drain.{Drain}
-use Rattle.script_text.specs.declared.stalls.Stalls.{Stalls}
-use Rattle.script_text.specs.Fits.{FitsChannels}
-use Rattle.script_text.specs.ScriptOffer.{script_offer}
+use Rattle.env_script.specs.script_text.declared.script.Script.{Script}
+use Rattle.env_script.specs.script_text.declared.stalls.Drain.{Drain}
+use Rattle.env_script.specs.script_text.declared.stalls.Stalls.{Stalls}
+use Rattle.env_script.specs.script_text.Fits.{FitsChannels}
+use Rattle.env_script.specs.script_text.ScriptOffer.{script_offer}
 use Rattle.vidi_recorder.specs.Course.{Course, course, plan_of, sizes_of, IsRunOf, IsTheRunOf}
 use Rattle.vidi_recorder.specs.Laws.{IsKept}
 

@@ -2,19 +2,19 @@
 use Rattle.std.specs.Prelude.{◌≡◌, ℕ, ◌+◌, ◌-◌, ◌<◌, ◌≤◌, List, ◌++◌, Option, None, Some, length}
 use Rattle.std.specs.Io.KnownBytes.{append_known}
 use Rattle.std.specs.List.{flat_map}
-use Rattle.trace_model.specs.declared.channel.Channel.{Channel}
-use Rattle.trace_model.specs.declared.row.Offers.{Offers}
-use Rattle.trace_model.specs.declared.row.Row.{Row}
-use Rattle.trace_model.specs.Recording.{packets_of}
-use Rattle.trace_model.specs.Row.{all_widths, row_before, IsOver}
+use Rattle.trace_code.specs.trace_model.declared.channel.Channel.{Channel}
+use Rattle.trace_code.specs.trace_model.declared.row.Offers.{Offers}
+use Rattle.trace_code.specs.trace_model.declared.row.Row.{Row}
+use Rattle.trace_code.specs.trace_model.Recording.{packets_of}
+use Rattle.trace_code.specs.trace_model.Row.{all_widths, row_before, IsOver}
 use Rattle.trace_code.specs.Encoding.{header_bytes, row_bytes}
-use Rattle.net_design.specs.declared.design.Design.{Design}
-use Rattle.net_design.specs.declared.values.Values.{Values}
+use Rattle.chan_monitor.specs.net_design.declared.design.Design.{Design}
+use Rattle.chan_monitor.specs.net_design.declared.values.Values.{Values}
 use Rattle.chan_monitor.specs.Shell.{HasPlaces}
 use Rattle.room_ledger.specs.Gates.{Plan}
 use Rattle.room_ledger.specs.Laws.{StandsAfter}
 use Rattle.room_ledger.specs.Ledger.{Ledger}
-use Rattle.run_model.specs.Played.{AreStable}
+use Rattle.env_script.specs.run_model.Played.{AreStable}
 use Rattle.vidi_recorder.specs.declared.error.Outcome.{Outcome}
 use Rattle.vidi_recorder.specs.declared.error.Outcome.TheVariants.{Whole, Unstable}
 use Rattle.vidi_recorder.specs.Course.{Course, IsRunOf, IsTheRunOf, drained_before, sizes_of}

@@ -2,8 +2,8 @@
 
 ghost use Rattle.std.specs.Prelude.{◌≡◌, [], length, IfOk};
 ghost use Rattle.circular_buffer.specs.Buffer.{buffer};
-ghost use Rattle.trace_model.specs.Channel.{IsTable};
-ghost use Rattle.trace_model.specs.Row.{all_widths, IsOver};
+ghost use Rattle.trace_code.specs.trace_model.Channel.{IsTable};
+ghost use Rattle.trace_code.specs.trace_model.Row.{all_widths, IsOver};
 ghost use Rattle.trace_code.specs.Encoding.{header_bytes};
 ghost use Rattle.chan_monitor.specs.Shell.{HasPlaces};
 
@@ -11,9 +11,9 @@ use env_script::offers_over;
 use room_ledger::Room;
 use std::alloc::Global;
 use trace_code::header_bytes;
-use trace_model::{Channels, Offers, Row, row_over};
+use trace_code::trace_model::{Channels, Offers, Row, row_over};
 use trace_store::Store;
-use vidi_bits::{Bytes, Memory};
+use vidi_io::vidi_bits::{Bytes, Memory};
 
 /// What a recording holds from its opening on.
 #[derive(Drop)]

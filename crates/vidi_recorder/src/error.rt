@@ -4,8 +4,8 @@ ghost use Rattle.std.specs.Prelude.{◌≡◌};
 
 use std::alloc::{AllocError, AllocFailed};
 use thiserror::Error;
-use vidi_bits::Memory;
 use vidi_io::Failed;
+use vidi_io::vidi_bits::Memory;
 
 /// Why a recording was cut off.
 #[derive(Clone, Copy, Debug, PartialEq, Eq, Error)]

@@ -13,7 +13,11 @@ mod script_laws;
 mod steps;
 mod turn;
 
+pub use env_script;
+pub use env_script::script_text;
 pub use error::{Outcome, RecordError};
 pub use laws::{drained_run_is_plain, no_hidden_gate, one_recorded_run, the_run_is_kept};
 pub use record::record_run;
+pub use room_ledger;
 pub use script_laws::{full_plan_drains, one_script_run, script_run_is_kept};
+pub use vidi_io;

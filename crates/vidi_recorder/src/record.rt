@@ -2,29 +2,29 @@
 
 ghost use Rattle.std.specs.Prelude.{◌≡◌, ◌≤◌, ℕ, [], List, Err, Option, IfOk, IfErr, OnErr, length};
 ghost use Rattle.circular_buffer.specs.Buffer.{buffer};
-ghost use Rattle.trace_model.specs.declared.row.Row.{Row as OneRow};
-ghost use Rattle.trace_model.specs.Channel.{IsTable};
+ghost use Rattle.trace_code.specs.trace_model.declared.row.Row.{Row as OneRow};
+ghost use Rattle.trace_code.specs.trace_model.Channel.{IsTable};
 ghost use Rattle.trace_code.specs.Encoding.{header_bytes};
-ghost use Rattle.net_design.specs.declared.design.Design.{Design};
-ghost use Rattle.net_design.specs.declared.values.Values.{Values};
+ghost use Rattle.chan_monitor.specs.net_design.declared.design.Design.{Design};
+ghost use Rattle.chan_monitor.specs.net_design.declared.values.Values.{Values};
 ghost use Rattle.room_ledger.specs.Ledger.{fresh};
 ghost use Rattle.vidi_io.specs.Cause.{HasCause};
 ghost use Rattle.vidi_io.specs.Sink.{Frame};
 ghost use Rattle.vidi_recorder.specs.Course.{course, plan_of, sizes_of};
 ghost use Rattle.vidi_recorder.specs.Recording.{EndsWith, FailsFor, FailsWith, IsCutOff};
 ghost use Rattle.vidi_recorder.specs.Standing.{Going, HasSizes, Reached, RunsTo};
-ghost use Rattle.script_text.specs.declared.script.TheConstants.{MOST_CYCLES};
+ghost use Rattle.env_script.specs.script_text.declared.script.TheConstants.{MOST_CYCLES};
 
 use crate::cells::{Cells, open};
 use crate::error::{Outcome, RecordError};
 use crate::steps::close;
 use crate::turn::turn;
-use chan_map::Map;
 use chan_monitor::Shell;
+use env_script::chan_map::Map;
 use env_script::{Env, Stalls};
 use room_ledger::Room;
 use std::alloc::Global;
-use trace_model::LONGEST_PACKET;
+use trace_code::trace_model::LONGEST_PACKET;
 use vidi_io::{Failed, Sink};
 
 /// Resets the shell, pushes the header and goes through the cycles of the run. The rest and the end mark aren't pushed yet.

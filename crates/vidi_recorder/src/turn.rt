@@ -1,24 +1,24 @@
 //! A cycle.
 
 ghost use Rattle.std.specs.Prelude.{◌≡◌, ◌<◌, ◌++◌, ◌∷◌, [], ℕ, List, Option, None, Some, length, IfOk, OnErr};
-ghost use Rattle.trace_model.specs.declared.packet.TheConstants.{LONGEST_PACKET};
-ghost use Rattle.trace_model.specs.declared.row.Row.{Row as OneRow};
-ghost use Rattle.trace_model.specs.Channel.{IsTable};
-ghost use Rattle.net_design.specs.declared.design.Design.{Design};
-ghost use Rattle.run_model.specs.Played.{AreStable, StopsBefore};
+ghost use Rattle.trace_code.specs.trace_model.declared.packet.TheConstants.{LONGEST_PACKET};
+ghost use Rattle.trace_code.specs.trace_model.declared.row.Row.{Row as OneRow};
+ghost use Rattle.trace_code.specs.trace_model.Channel.{IsTable};
+ghost use Rattle.chan_monitor.specs.net_design.declared.design.Design.{Design};
+ghost use Rattle.env_script.specs.run_model.Played.{AreStable, StopsBefore};
 ghost use Rattle.vidi_io.specs.Cause.{HasCause};
 ghost use Rattle.vidi_io.specs.Sink.{Frame};
 ghost use Rattle.vidi_recorder.specs.Course.{course, plan_of, rule_of};
 ghost use Rattle.vidi_recorder.specs.Standing.{Cut, HasSizes, Reached, StandsAt};
-ghost use Rattle.script_text.specs.declared.script.TheConstants.{MOST_CYCLES};
+ghost use Rattle.env_script.specs.script_text.declared.script.TheConstants.{MOST_CYCLES};
 
 use crate::cells::Cells;
 use crate::steps::{give, keep, look};
-use chan_map::Map;
 use chan_monitor::Shell;
+use env_script::chan_map::Map;
 use env_script::{Env, Stalls};
 use std::mem::swap;
-use trace_model::unstable;
+use trace_code::trace_model::unstable;
 use vidi_io::{Failed, Sink};
 
 /// A cycle, behind the rows of those before it. Gives the lowest channel on which its row is unstable, and then the cycle isn't

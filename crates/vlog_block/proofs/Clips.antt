@@ -4,7 +4,7 @@ use Rattle.std.proofs.Math.Pow.{mod-mod-pow, pow_mono}
 use Rattle.std.proofs.Math.Nat.{div-one, mod-lt, mod-eq_of_lt, div-eq_of_lt}
 use Rattle.std.proofs.lemmas.Nat.{mod-pow-add, div-mul-add, pow_pos}
 use Rattle.std.proofs.lemmas.Bool.{cases_lt}
-use Rattle.vidi_bits.specs.Number.{part_of}
+use Rattle.vlog_size.specs.vidi_bits.Number.{part_of}
 
 -- the bits of x from bit i on, of its j + i lowest bits
 shifted : (x j i : ℕ) → x % 2 ^ (j + i) / 2 ^ i ≡ x / 2 ^ i % 2 ^ j

@@ -4,13 +4,13 @@
 use crate::build::{assign_itself, if_of};
 use crate::unspelled::scope;
 use std::alloc::{AllocError, Global};
-use vidi_bits::Memory;
-use vlog_block::{block_code, is_faultless};
+use vlog_latch::vlog_block::{block_code, is_faultless};
+use vlog_latch::vlog_size::Scope;
 use vlog_latch::{BlockError, bind_block};
-use vlog_lex::{Tokens, lex};
-use vlog_parse::{ParseError, parse};
-use vlog_size::Scope;
-use vlog_tree::{Always, Body, Event};
+use vlog_print::vidi_bits::Memory;
+use vlog_print::vlog_lex::{Tokens, lex};
+use vlog_print::vlog_parse::{ParseError, parse};
+use vlog_print::vlog_tree::{Always, Body, Event};
 
 fn put(out: &mut Vec<u8>, text: &[u8]) -> Result<(), AllocError> {
     out.extend_from_slice(text)

@@ -2,9 +2,9 @@
 
 use crate::build::{assign_itself, boxed, ident, if_of, net, net_expr, one, operand_alone};
 use std::alloc::Global;
-use vidi_bits::{Items, Memory, copied};
 use vlog_print::good_shape;
-use vlog_tree::{
+use vlog_print::vidi_bits::{Items, Memory, copied};
+use vlog_print::vlog_tree::{
     Always, Arm, Assign, BinaryOp, Body, Event, Expr, File, Item, Module, Number, NumberKind,
     Operand, Parameter, Port, Ref, Sel, Stmt, Target, begin, case, concat, concat_target,
 };

@@ -2,7 +2,7 @@
 
 use TokenKind::{Based, Decimal, Identifier, Other, Reserved};
 use std::alloc::Global;
-use vlog_lex::{LexError, Token, TokenKind, Tokens, is_token, lex};
+use vlog_print::vlog_lex::{LexError, Token, TokenKind, Tokens, is_token, lex};
 
 const PASS: &str = "\
 module pass(input clk, input a_v, output a_r, input [7:0] a_d,

@@ -4,7 +4,7 @@ ghost use Rattle.std.specs.Prelude.{◌≡◌, IfOk, map};
 ghost use Rattle.vlog_tree.specs.Plain.{plain_ident, plain_number, plain_expr, plain_prim, plain_unary, plain_ref, plain_sel};
 
 use std::alloc::Global;
-use vidi_bits::{Items, Memory, copied};
+use vlog_tree::vidi_bits::{Items, Memory, copied};
 use vlog_tree::{
     Expr, Exprs, Ident, Number, Operand, Ref, Sel, Unary, concat, repeat, see_concat, see_repeat,
 };

@@ -7,3 +7,4 @@ mod module;
 mod stmt;
 
 pub use module::{copy_module, copy_port};
+pub use vlog_tree::vidi_bits;

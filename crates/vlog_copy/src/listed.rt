@@ -3,7 +3,7 @@
 ghost use Rattle.std.specs.Prelude.{◌≡◌, IfOk, map, option_map};
 
 use std::alloc::Global;
-use vidi_bits::{Items, Memory};
+use vlog_tree::vidi_bits::{Items, Memory};
 
 /// A part of a tree that stands in lists.
 pub trait Part {

@@ -11,7 +11,7 @@ use crate::expr::{copy_boxed, copy_expr, copy_ident};
 use crate::listed::{Part, copy_all, copy_some};
 use crate::stmt::{copy_body, copy_target};
 use std::alloc::Global;
-use vidi_bits::{Memory, copied};
+use vlog_tree::vidi_bits::{Memory, copied};
 use vlog_tree::{
     Always, Assign, Conn, Event, Expr, Ident, Instance, Item, Module, NamedValue, Parameter,
     ParameterHead, Port, PortHead, Range, Reg1, RegTail,

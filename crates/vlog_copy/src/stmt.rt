@@ -6,7 +6,7 @@ ghost use Rattle.vlog_tree.specs.Tree.{AssignStmt};
 
 use crate::expr::{copy_boxed, copy_expr, copy_exprs, copy_ref};
 use std::alloc::Global;
-use vidi_bits::{Items, Memory};
+use vlog_tree::vidi_bits::{Items, Memory};
 use vlog_tree::{
     Arm, Arms, AssignOp, Body, Expr, Stmt, Stmts, Target, Targets, begin, case, concat_target,
     see_begin, see_case, see_concat_target,

@@ -1,19 +1,19 @@
 -- The design with the parts of a file's instances.
 use Rattle.std.proofs.Common.{◌≡◌, ℕ, ◌↔◌, List, [], Option, Some, sym, subst, ◌∙◌}
 use Rattle.std.specs.List.{AllZip}
-use Rattle.vlog_tree.specs.Tree.{ModuleOf, FileOf}
-use Rattle.vlog_elab.specs.Scope.{scope_with}
-use Rattle.vlog_elab.specs.Instances.{ModuleInstance, instances}
-use Rattle.vlog_elab.specs.Reasons as elab
-use Rattle.net_design.specs.declared.design.Port.{Port}
-use Rattle.net_design.specs.declared.design.Design.{Design}
-use Rattle.flat_parts.specs.Seats.{seats_of}
-use Rattle.flat_parts.specs.Nets.{flat_ports}
-use Rattle.flat_parts.specs.State.{all_regs, IsRegisterOf}
+use Rattle.flat_drive.specs.vlog_tree.Tree.{ModuleOf, FileOf}
+use Rattle.flat_drive.specs.vlog_elab.Scope.{scope_with}
+use Rattle.flat_drive.specs.vlog_elab.Instances.{ModuleInstance, instances}
+use Rattle.flat_drive.specs.vlog_elab.Reasons as elab
+use Rattle.net_order.specs.net_design.declared.design.Port.{Port}
+use Rattle.net_order.specs.net_design.declared.design.Design.{Design}
+use Rattle.flat_drive.specs.flat_parts.Seats.{seats_of}
+use Rattle.flat_drive.specs.flat_parts.Nets.{flat_ports}
+use Rattle.flat_drive.specs.flat_parts.State.{all_regs, IsRegisterOf}
 use Rattle.flat_drivers.specs.Duties.{Does}
-use Rattle.flat_parts.specs.Drivers.{all_duties, all_blocks, IsBlockOf}
-use Rattle.flat_parts.specs.Built.{IsBuilt, IsClockPort}
-use Rattle.flat_parts.specs.Laws.{IsTop, FirstIsTop}
+use Rattle.flat_drive.specs.flat_parts.Drivers.{all_duties, all_blocks, IsBlockOf}
+use Rattle.flat_drive.specs.flat_parts.Built.{IsBuilt, IsClockPort}
+use Rattle.flat_drive.specs.flat_parts.Laws.{IsTop, FirstIsTop}
 use Rattle.flat_layout.specs.Layout.{AreInstances}
 use Rattle.vlog_design.specs.declared.code.Checked.{Checked}
 use Rattle.vlog_design.specs.Parts.{AreParts, FirstPorts}

@@ -1,11 +1,11 @@
 -- What no reason against a file says of its instances.
 use Rattle.std.proofs.Common.{◌≡◌, ℕ, List, [], ◌∷◌, ◌++◌, refl}
 use Rattle.std.specs.List.{flat_map}
-use Rattle.vlog_tree.specs.Tree.{FileOf}
-use Rattle.vlog_elab.specs.declared.error.ElabError.{ElabError}
-use Rattle.vlog_elab.specs.Instances.{ModuleInstance, instances}
-use Rattle.vlog_elab.specs.Reasons as elab
-use Rattle.vlog_elab.specs.Reasons.{instance_consts, instance_widths, word_findings, instance_findings, late_findings, size_findings}
+use Rattle.flat_drive.specs.vlog_tree.Tree.{FileOf}
+use Rattle.flat_drive.specs.vlog_elab.declared.error.ElabError.{ElabError}
+use Rattle.flat_drive.specs.vlog_elab.Instances.{ModuleInstance, instances}
+use Rattle.flat_drive.specs.vlog_elab.Reasons as elab
+use Rattle.flat_drive.specs.vlog_elab.Reasons.{instance_consts, instance_widths, word_findings, instance_findings, late_findings, size_findings}
 
 left-none : (xs ys : List ElabError) → xs ++ ys ≡ [] → xs ≡ []
 left-none [] ys e = refl

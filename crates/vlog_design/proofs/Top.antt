@@ -2,22 +2,22 @@
 use Rattle.std.proofs.Common.{◌≡◌, ◌≤◌, ◌+◌, ℕ, suc, Bool, true, false, if◌then◌else◌, List, [], ◌∷◌, length, map, Some, slice_get}
 use Rattle.std.proofs.Common.{refl, ap, ◌∙◌, is_none, bytes_eq, arith}
 use Rattle.std.specs.List.{flat_map}
-use Rattle.vlog_tree.specs.Tree.{ModuleOf, FileOf}
-use Rattle.vidi_bits.proofs.FindingLaws.{told_none}
-use Rattle.vidi_bits.proofs.Lists.{nil_left, nil_right}
-use Rattle.vlog_size.specs.Table.{value_of}
-use Rattle.vlog_names.specs.declared.error.NameError.TheVariants as e
-use Rattle.vlog_names.specs.Entries.{declared, module_entry, modules_of}
-use Rattle.vlog_names.specs.Twice.{twice_names}
-use Rattle.vlog_names.specs.Unknown.{unknown_module, unknown_top, unknown_names}
-use Rattle.vlog_hierarchy.specs.Outlines.{place_from}
-use Rattle.flat_laws.proofs.Found.{no_names}
-use Rattle.vlog_elab.specs.Scope.{scope_with}
-use Rattle.vlog_elab.specs.Instances.{ModuleInstance, instances}
-use Rattle.vlog_elab.specs.Reasons as elab
-use Rattle.net_design.specs.declared.design.Port.{Port}
-use Rattle.flat_parts.specs.Nets.{flat_ports}
-use Rattle.flat_parts.specs.Laws.{IsTop, FirstIsTop}
+use Rattle.flat_drive.specs.vlog_tree.Tree.{ModuleOf, FileOf}
+use Rattle.net_order.proofs.vidi_bits.FindingLaws.{told_none}
+use Rattle.net_order.proofs.vidi_bits.Lists.{nil_left, nil_right}
+use Rattle.flat_drive.specs.vlog_size.Table.{value_of}
+use Rattle.flat_drive.specs.vlog_names.declared.error.NameError.TheVariants as e
+use Rattle.flat_drive.specs.vlog_names.Entries.{declared, module_entry, modules_of}
+use Rattle.flat_drive.specs.vlog_names.Twice.{twice_names}
+use Rattle.flat_drive.specs.vlog_names.Unknown.{unknown_module, unknown_top, unknown_names}
+use Rattle.flat_drive.specs.vlog_hierarchy.Outlines.{place_from}
+use Rattle.flat_clock.proofs.flat_laws.Found.{no_names}
+use Rattle.flat_drive.specs.vlog_elab.Scope.{scope_with}
+use Rattle.flat_drive.specs.vlog_elab.Instances.{ModuleInstance, instances}
+use Rattle.flat_drive.specs.vlog_elab.Reasons as elab
+use Rattle.net_order.specs.net_design.declared.design.Port.{Port}
+use Rattle.flat_drive.specs.flat_parts.Nets.{flat_ports}
+use Rattle.flat_drive.specs.flat_parts.Laws.{IsTop, FirstIsTop}
 use Rattle.vlog_design.specs.Parts.{FirstPorts, HasTop}
 
 -- a module of this name stands in the list, which begins at place k

@@ -1,17 +1,17 @@
 -- The flat design of a file and its top.
 use Rattle.std.specs.Prelude.{ℕ, List, length}
 use Rattle.std.specs.List.{sum_by}
-use Rattle.vlog_tree.specs.Tree.{ModuleOf, FileOf}
-use Rattle.net_design.specs.declared.design.Counts.{Counts}
-use Rattle.net_design.specs.declared.design.Design.{Design}
-use Rattle.net_design.specs.Lawful.{IsLawful}
-use Rattle.vlog_elab.specs.Instances.{ModuleInstance, instances}
-use Rattle.vlog_elab.specs.Reasons.{word_total}
-use Rattle.flat_parts.specs.Seats.{Seat, seats_of}
-use Rattle.flat_parts.specs.Drivers.{all_duties, all_blocks}
-use Rattle.flat_parts.specs.Built.{IsBuilt}
-use Rattle.flat_parts.specs.Meaning.{Means}
-use Rattle.flat_parts.specs.Laws.{IsTop}
+use Rattle.flat_drive.specs.vlog_tree.Tree.{ModuleOf, FileOf}
+use Rattle.net_order.specs.net_design.declared.design.Counts.{Counts}
+use Rattle.net_order.specs.net_design.declared.design.Design.{Design}
+use Rattle.net_order.specs.net_design.Lawful.{IsLawful}
+use Rattle.flat_drive.specs.vlog_elab.Instances.{ModuleInstance, instances}
+use Rattle.flat_drive.specs.vlog_elab.Reasons.{word_total}
+use Rattle.flat_drive.specs.flat_parts.Seats.{Seat, seats_of}
+use Rattle.flat_drive.specs.flat_parts.Drivers.{all_duties, all_blocks}
+use Rattle.flat_drive.specs.flat_parts.Built.{IsBuilt}
+use Rattle.flat_drive.specs.flat_parts.Meaning.{Means}
+use Rattle.flat_drive.specs.flat_parts.Laws.{IsTop}
 
 -- a lawful design with the parts of the file's instances, which means what the file means
 pub record IsDesignOf (file : FileOf ℕ) (name : List ℕ) (d : Design) : Type 0 where

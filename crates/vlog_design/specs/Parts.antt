@@ -1,14 +1,14 @@
 -- What is known of the parts of the flat design of instances while it is made.
 use Rattle.std.specs.Prelude.{◌≡◌, ℕ, List, [], ◌∷◌}
 use Rattle.std.specs.List.{AllZip}
-use Rattle.vlog_tree.specs.Tree.{ModuleOf, FileOf}
-use Rattle.vlog_elab.specs.Instances.{ModuleInstance}
-use Rattle.net_design.specs.declared.design.Port.{Port}
+use Rattle.flat_drive.specs.vlog_tree.Tree.{ModuleOf, FileOf}
+use Rattle.flat_drive.specs.vlog_elab.Instances.{ModuleInstance}
+use Rattle.net_order.specs.net_design.declared.design.Port.{Port}
 use Rattle.flat_drivers.specs.Duties.{Does}
-use Rattle.flat_parts.specs.Seats.{seats_of}
-use Rattle.flat_parts.specs.Nets.{flat_nets, flat_memories, flat_ports}
-use Rattle.flat_parts.specs.Laws.{IsTop}
-use Rattle.flat_parts.specs.Drivers.{all_duties, all_blocks, IsBlockOf}
+use Rattle.flat_drive.specs.flat_parts.Seats.{seats_of}
+use Rattle.flat_drive.specs.flat_parts.Nets.{flat_nets, flat_memories, flat_ports}
+use Rattle.flat_drive.specs.flat_parts.Laws.{IsTop}
+use Rattle.flat_drive.specs.flat_parts.Drivers.{all_duties, all_blocks, IsBlockOf}
 use Rattle.vlog_design.specs.declared.code.Checked.{Checked}
 
 pub record AreParts (is : List ModuleInstance) (p : Checked) : Type 0 where

@@ -2,14 +2,14 @@
 -- profile).
 use Rattle.std.specs.Prelude.{◌≡◌, ℕ, List, [], ◌++◌}
 use Rattle.std.specs.List.{flat_map}
-use Rattle.vlog_tree.specs.Tree.{FileOf}
-use Rattle.vlog_elab.specs.declared.error.ElabError.{ElabError}
-use Rattle.vlog_elab.specs.Instances.{ModuleInstance, instances}
-use Rattle.vidi_bits.specs.Findings.{IsFirst}
-use Rattle.vlog_elab.specs.Told.{elab_told}
-use Rattle.vlog_elab.specs.Reasons as elab
-use Rattle.vlog_elab.specs.Reasons.{Then}
-use Rattle.flat_parts.specs.Seats.{seats_of}
+use Rattle.flat_drive.specs.vlog_tree.Tree.{FileOf}
+use Rattle.flat_drive.specs.vlog_elab.declared.error.ElabError.{ElabError}
+use Rattle.flat_drive.specs.vlog_elab.Instances.{ModuleInstance, instances}
+use Rattle.net_order.specs.vidi_bits.Findings.{IsFirst}
+use Rattle.flat_drive.specs.vlog_elab.Told.{elab_told}
+use Rattle.flat_drive.specs.vlog_elab.Reasons as elab
+use Rattle.flat_drive.specs.vlog_elab.Reasons.{Then}
+use Rattle.flat_drive.specs.flat_parts.Seats.{seats_of}
 use Rattle.flat_drivers.specs.Latches.{instance_latches}
 use Rattle.flat_drive.specs.Findings.{drive_findings}
 

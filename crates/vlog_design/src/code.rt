@@ -2,28 +2,28 @@
 
 ghost use Rattle.std.specs.Prelude.{◌≡◌, AllPairs, IfOk};
 ghost use Rattle.std.specs.List.{AllZip, flat_map};
-ghost use Rattle.flat_parts.specs.Instances.{HaveOwnPaths, AreDeclaredIn};
-ghost use Rattle.vlog_elab.specs.Plain.{plain_instances};
-ghost use Rattle.vidi_bits.specs.Findings.{Judged};
-ghost use Rattle.vlog_elab.specs.Told.{elab_told};
+ghost use Rattle.flat_drive.specs.flat_parts.Instances.{HaveOwnPaths, AreDeclaredIn};
+ghost use Rattle.flat_drive.specs.vlog_elab.Plain.{plain_instances};
+ghost use Rattle.net_order.specs.vidi_bits.Findings.{Judged};
+ghost use Rattle.flat_drive.specs.vlog_elab.Told.{elab_told};
 ghost use Rattle.flat_drivers.specs.Duties.{Does};
-ghost use Rattle.flat_parts.specs.Seats.{seats_of};
-ghost use Rattle.flat_parts.specs.Nets.{flat_nets, flat_memories};
-ghost use Rattle.flat_parts.specs.Drivers.{all_duties, all_blocks, IsBlockOf};
+ghost use Rattle.flat_drive.specs.flat_parts.Seats.{seats_of};
+ghost use Rattle.flat_drive.specs.flat_parts.Nets.{flat_nets, flat_memories};
+ghost use Rattle.flat_drive.specs.flat_parts.Drivers.{all_duties, all_blocks, IsBlockOf};
 ghost use Rattle.flat_drivers.specs.Seated.{AreFaultlessInstances};
 ghost use Rattle.flat_drive.specs.Findings.{drive_findings};
 ghost use Rattle.vlog_design.specs.Parts.{AreParts};
 ghost use Rattle.vlog_design.specs.Reasons.{code_findings_of};
 
 use flat_drive::check_drive;
+use flat_drive::vlog_elab::{ElabError, ModuleInstance};
+use flat_drive::vlog_names::ModuleTable;
 use flat_drivers::{FlatCode, drivers_of};
 use flat_layout::{memories, nets};
 use flat_registers::reg_marks;
-use net_design::{Code, DesignMemory, Driver, Net};
+use net_order::net_design::{Code, DesignMemory, Driver, Net};
+use net_order::vidi_bits::Items;
 use std::alloc::Global;
-use vidi_bits::Items;
-use vlog_elab::{ElabError, ModuleInstance};
-use vlog_names::ModuleTable;
 
 /// Nets and memories of the flat design, and what drives them.
 #[derive(Drop)]

@@ -5,15 +5,15 @@ use Rattle.std.proofs.Common.{ap, subst, arith, refl, sym, ◌∙◌}
 use Rattle.std.specs.List.{Contains, flat_map}
 use Rattle.std.proofs.lemmas.List.{drop_all}
 use Rattle.std.proofs.lemmas.Option.{slice_get_cases, slice_get-map, slice_get_read}
-use Rattle.vidi_bits.proofs.Lists.{none_in, nil_left}
-use Rattle.vidi_bits.proofs.FindingLaws.{first_map, is_first_more}
-use Rattle.vidi_bits.specs.Findings.{first}
-use Rattle.vlog_tree.specs.Tree.{ModuleOf}
-use Rattle.vlog_tree.specs.declared.module.Module.{Module}
-use Rattle.vlog_tree.specs.Plain.{plain_module}
-use Rattle.vlog_names.specs.declared.error.NameError.{NameError}
-use Rattle.vlog_names.specs.declared.error.NameError.TheVariants as name
-use Rattle.vlog_names.specs.Told.{name_told}
+use Rattle.vlog_hierarchy.proofs.vidi_bits.Lists.{none_in, nil_left}
+use Rattle.vlog_hierarchy.proofs.vidi_bits.FindingLaws.{first_map, is_first_more}
+use Rattle.vlog_hierarchy.specs.vidi_bits.Findings.{first}
+use Rattle.vlog_hierarchy.specs.vlog_tree.Tree.{ModuleOf}
+use Rattle.vlog_hierarchy.specs.vlog_tree.declared.module.Module.{Module}
+use Rattle.vlog_hierarchy.specs.vlog_tree.Plain.{plain_module}
+use Rattle.vlog_kinds.specs.vlog_names.declared.error.NameError.{NameError}
+use Rattle.vlog_kinds.specs.vlog_names.declared.error.NameError.TheVariants as name
+use Rattle.vlog_kinds.specs.vlog_names.Told.{name_told}
 use Rattle.vlog_kinds.specs.declared.error.KindError.{KindError}
 use Rattle.vlog_hierarchy.specs.declared.error.HierarchyError.{HierarchyError}
 use Rattle.vlog_hierarchy.specs.declared.error.HierarchyError.TheVariants as hierarchy
@@ -21,15 +21,15 @@ use Rattle.vlog_hierarchy.specs.Told.{hierarchy_told}
 use Rattle.vlog_hierarchy.specs.Outlines.{Child, Outline, children_in, outlines_of}
 use Rattle.vlog_hierarchy.specs.Nested.{Below, direct, through, IsNestedAnswer}
 use Rattle.vlog_hierarchy.proofs.Closed.{long_outlines}
-use Rattle.vlog_size.specs.declared.error.SizeError.{SizeError}
-use Rattle.vlog_size.specs.declared.error.SizeError.TheVariants as size
+use Rattle.vlog_hierarchy.specs.vlog_size.declared.error.SizeError.{SizeError}
+use Rattle.vlog_hierarchy.specs.vlog_size.declared.error.SizeError.TheVariants as size
 use Rattle.vlog_elab.specs.Errors.{of_name, of_line, of_kind, of_hierarchy, of_size}
 use Rattle.vlog_elab.specs.declared.error.ElabError.{ElabError}
 use Rattle.vlog_elab.specs.declared.instance.ModuleInstance as code
 use Rattle.vlog_elab.specs.Instances.{ModuleInstance}
 use Rattle.vlog_elab.specs.Plain.{plain_instance, plain_instances}
 use Rattle.vlog_elab.specs.Reasons.{word_total}
-use Rattle.vidi_bits.specs.Findings.{IsFirst}
+use Rattle.vlog_hierarchy.specs.vidi_bits.Findings.{IsFirst}
 use Rattle.vlog_elab.specs.Told.{elab_told}
 
 pub name_first : (x : NameError) (fs : List NameError) → IsFirst name_told fs x → IsFirst elab_told (map of_name fs) (of_name x)

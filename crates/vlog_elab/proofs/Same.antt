@@ -5,10 +5,10 @@ use Rattle.std.specs.List.{flat_map}
 use Rattle.std.proofs.lemmas.List.{map-append}
 use Rattle.std.proofs.lemmas.Grind.{flat_map-append}
 use Rattle.std.proofs.lemmas.Option.{slice_get-map}
-use Rattle.vlog_tree.specs.Tree.{InstanceOf, ItemOf, WiresItem, DrivenWiresItem, RegsItem, LocalparamsItem, AssignItem, AlwaysItem}
-use Rattle.vlog_tree.specs.Tree.{InstanceItem, ModuleOf, FileOf}
-use Rattle.vlog_size.specs.declared.scope.Scope.{Scope}
-use Rattle.vlog_size.specs.Names.{Readable}
+use Rattle.vlog_hierarchy.specs.vlog_tree.Tree.{InstanceOf, ItemOf, WiresItem, DrivenWiresItem, RegsItem, LocalparamsItem, AssignItem, AlwaysItem}
+use Rattle.vlog_hierarchy.specs.vlog_tree.Tree.{InstanceItem, ModuleOf, FileOf}
+use Rattle.vlog_hierarchy.specs.vlog_size.declared.scope.Scope.{Scope}
+use Rattle.vlog_hierarchy.specs.vlog_size.Names.{Readable}
 use Rattle.vlog_scope.specs.Scope.{readable_at, after_item, scope_of, scope_with}
 use Rattle.vlog_hierarchy.specs.Outlines.{Child, Outline, place_of, outline_of, outlines_of, children_of, children_in, children_at}
 use Rattle.vlog_hierarchy.specs.Outlines as outlines

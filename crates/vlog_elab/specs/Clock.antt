@@ -1,11 +1,11 @@
 -- The ports to which clocks may be joined: the input ports of the top that are one bit wide (IEEE 1364-2005, 12.3; this project's
 -- profile).
 use Rattle.std.specs.Prelude.{ℕ, nat_eq, Bool, false, ◌&&◌, List, [], ◌∷◌, ◌++◌, Option, None, Some}
-use Rattle.vidi_bits.specs.Findings.{told_if}
-use Rattle.vlog_tree.specs.Tree.{PortOf}
-use Rattle.vlog_size.specs.declared.scope.ScopeNet.{ScopeNet}
-use Rattle.vlog_size.specs.Table.{Named, value_of}
-use Rattle.vlog_names.specs.Ports.{input_after}
+use Rattle.vlog_hierarchy.specs.vidi_bits.Findings.{told_if}
+use Rattle.vlog_hierarchy.specs.vlog_tree.Tree.{PortOf}
+use Rattle.vlog_hierarchy.specs.vlog_size.declared.scope.ScopeNet.{ScopeNet}
+use Rattle.vlog_hierarchy.specs.vlog_size.Table.{Named, value_of}
+use Rattle.vlog_kinds.specs.vlog_names.Ports.{input_after}
 use Rattle.vlog_elab.specs.Instances.{ModuleInstance}
 
 abbrev pub is_one_bit : Option ScopeNet → Bool

@@ -1,14 +1,14 @@
 -- The findings of the crates below as reasons why a design text is refused.
 use Rattle.std.specs.Prelude.{ℕ, Option, None, Some}
-use Rattle.vlog_names.specs.declared.error.NameError.{NameError}
-use Rattle.vlog_names.specs.declared.error.NameError.TheVariants as name
+use Rattle.vlog_kinds.specs.vlog_names.declared.error.NameError.{NameError}
+use Rattle.vlog_kinds.specs.vlog_names.declared.error.NameError.TheVariants as name
 use Rattle.vlog_kinds.specs.declared.error.KindError.{KindError}
 use Rattle.vlog_hierarchy.specs.declared.error.HierarchyError.{HierarchyError}
 use Rattle.vlog_hierarchy.specs.declared.error.HierarchyError.TheVariants as hierarchy
 use Rattle.vlog_hierarchy.specs.declared.error.HierarchyLimit.{HierarchyLimit}
 use Rattle.vlog_hierarchy.specs.declared.error.HierarchyLimit.TheVariants as limit
-use Rattle.vlog_size.specs.declared.error.SizeError.{SizeError}
-use Rattle.vlog_size.specs.declared.error.SizeError.TheVariants as size
+use Rattle.vlog_hierarchy.specs.vlog_size.declared.error.SizeError.{SizeError}
+use Rattle.vlog_hierarchy.specs.vlog_size.declared.error.SizeError.TheVariants as size
 use Rattle.vlog_elab.specs.declared.error.Big.{Big}
 use Rattle.vlog_elab.specs.declared.error.Big.TheVariants as big
 use Rattle.vlog_elab.specs.declared.error.ElabError.{ElabError}

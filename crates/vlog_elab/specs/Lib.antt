@@ -8,3 +8,9 @@ pub mod Reasons
 pub use Rattle.vlog_hierarchy.specs.Outlines
 pub use Rattle.vlog_scope.specs.Scope
 pub use Rattle.vlog_hierarchy.specs.Nested
+pub use Rattle.vlog_hierarchy.specs.vidi_bits as vidi_bits
+pub use Rattle.vlog_hierarchy.specs as vlog_hierarchy
+pub use Rattle.vlog_kinds.specs.vlog_names as vlog_names
+pub use Rattle.vlog_scope.specs as vlog_scope
+pub use Rattle.vlog_hierarchy.specs.vlog_size as vlog_size
+pub use Rattle.vlog_hierarchy.specs.vlog_tree as vlog_tree

@@ -2,10 +2,10 @@
 -- of all its findings, in the order in which they are answered.
 use Rattle.std.specs.Prelude.{◌≡◌, ◌⊎◌, ℕ, nat_lt, List, [], ◌++◌, map, length, slice_get, None, Some}
 use Rattle.std.specs.List.{flat_map, sum_by}
-use Rattle.vidi_bits.specs.Findings.{told_if}
-use Rattle.vlog_tree.specs.Tree.{ModuleOf, FileOf}
-use Rattle.vlog_names.specs.Twice.{twice_names}
-use Rattle.vlog_names.specs.Unknown.{unknown_names}
+use Rattle.vlog_hierarchy.specs.vidi_bits.Findings.{told_if}
+use Rattle.vlog_hierarchy.specs.vlog_tree.Tree.{ModuleOf, FileOf}
+use Rattle.vlog_kinds.specs.vlog_names.Twice.{twice_names}
+use Rattle.vlog_kinds.specs.vlog_names.Unknown.{unknown_names}
 use Rattle.vlog_kinds.specs.Uses.{wrong_uses}
 use Rattle.vlog_hierarchy.specs.Outlines.{Outline, place_of, outlines_of}
 use Rattle.vlog_hierarchy.specs.Nested.{IsNestedAnswer}
@@ -19,7 +19,7 @@ use Rattle.vlog_elab.specs.declared.error.ElabError.TheVariants as e
 use Rattle.vlog_elab.specs.Errors.{of_name, of_line, of_hierarchy, of_size}
 use Rattle.vlog_elab.specs.Instances.{ModuleInstance, instances}
 use Rattle.vlog_elab.specs.Clock.{clock_inputs}
-use Rattle.vidi_bits.specs.Findings.{IsFirst}
+use Rattle.vlog_hierarchy.specs.vidi_bits.Findings.{IsFirst}
 use Rattle.vlog_elab.specs.Told.{elab_told}
 
 -- ---- over the file

@@ -1,24 +1,24 @@
 //! E13: one clock, which is an input of the top.
 
 ghost use Rattle.std.specs.Prelude.{◌≡◌, ◌&&◌, ◌++◌, false, map, IfOk, OnOk};
-ghost use Rattle.vidi_bits.specs.Findings.{told_if};
-ghost use Rattle.vlog_tree.specs.Plain.{plain, plain_port};
-ghost use Rattle.vlog_size.specs.Table.{value_of};
+ghost use Rattle.vlog_hierarchy.specs.vidi_bits.Findings.{told_if};
+ghost use Rattle.vlog_hierarchy.specs.vlog_tree.Plain.{plain, plain_port};
+ghost use Rattle.vlog_hierarchy.specs.vlog_size.Table.{value_of};
 ghost use Rattle.vlog_hierarchy.specs.Plain.{plain_path};
 ghost use Rattle.vlog_elab.specs.Clock as clock;
 ghost use Rattle.vlog_elab.specs.Plain.{plain_instances};
 ghost use Rattle.vlog_elab.specs.Reasons.{clock_faults_of, clock_findings};
-ghost use Rattle.vidi_bits.specs.Findings.{Judged};
+ghost use Rattle.vlog_hierarchy.specs.vidi_bits.Findings.{Judged};
 ghost use Rattle.vlog_elab.specs.Told.{elab_told};
 
 use crate::error::ElabError;
 use crate::instance::ModuleInstance;
 use std::alloc::Global;
-use vidi_bits::{Items, Memory, Name};
 use vlog_hierarchy::check_clock;
-use vlog_names::input_after;
-use vlog_size::ScopeNets;
-use vlog_tree::{File, Port};
+use vlog_hierarchy::vidi_bits::{Items, Memory, Name};
+use vlog_hierarchy::vlog_size::ScopeNets;
+use vlog_hierarchy::vlog_tree::{File, Port};
+use vlog_kinds::vlog_names::input_after;
 
 fn is_one_bit(nets: &ScopeNets, name: &[u8]) -> bool
     ensures { result ≡ clock.is_one_bit (value_of nets.now name.now) }
@@ -81,7 +81,7 @@ pub fn clock_inputs<'a>(
 }
 
 /// E13, where the top has these input ports of one bit.
-#[tactic(auto, using(crate::proofs::Firsts::hierarchy_first, vidi_bits::proofs::FindingLaws::none_map))]
+#[tactic(auto, using(crate::proofs::Firsts::hierarchy_first, vlog_hierarchy::vidi_bits::proofs::FindingLaws::none_map))]
 fn clock_checked(alloc: Global, file: &File, top: &[u8], inputs: &[&Name]) -> Result<(), ElabError>
     ensures { Judged elab_told result (clock_faults_of (plain file.now) top.now (plain_path inputs.now)) }
 {

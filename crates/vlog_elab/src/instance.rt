@@ -1,9 +1,9 @@
 //! The instances of a design, each with its scope.
 
-use vidi_bits::{Items, Name};
-use vlog_names::ModuleTable;
-use vlog_size::Scope;
-use vlog_tree::Module;
+use vlog_hierarchy::vidi_bits::{Items, Name};
+use vlog_hierarchy::vlog_size::Scope;
+use vlog_hierarchy::vlog_tree::Module;
+use vlog_kinds::vlog_names::ModuleTable;
 
 /// An instance of the design.
 #[derive(Drop)]

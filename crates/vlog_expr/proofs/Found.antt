@@ -5,8 +5,8 @@ use Rattle.std.proofs.lemmas.Bool.Decides.{nat_tests}
 use Rattle.std.specs.Str.{bytes_eq}
 use Rattle.std.proofs.lemmas.Bool.{and_parts}
 use Rattle.std.proofs.lemmas.Slice.Eq.{bytes_eq-Decides}
-use Rattle.vlog_lex.specs.declared.token.TokenKind.{TokenKind}
-use Rattle.vlog_lex.specs.declared.token.TokenKind.TheVariants.{Identifier, Reserved, Decimal, Based, Other}
+use Rattle.vlog_tree.specs.vlog_lex.declared.token.TokenKind.{TokenKind}
+use Rattle.vlog_tree.specs.vlog_lex.declared.token.TokenKind.TheVariants.{Identifier, Reserved, Decimal, Based, Other}
 use Rattle.vlog_tree.specs.declared.expr.UnaryOp.{UnaryOp}
 use Rattle.vlog_tree.specs.declared.expr.UnaryOp.TheVariants as unary
 use Rattle.vlog_tree.specs.declared.expr.BinaryOp.{BinaryOp}

@@ -1,7 +1,7 @@
 -- One lawful token more.
 use Rattle.std.proofs.Common.{◌≡◌, ◌<◌, ◌+◌, ℕ, get_or, take, List, [], ◌∷◌, ◌++◌, length, sym, ap, subst, ◌∙◌}
 use Rattle.std.proofs.lemmas.List.{map-append, take_more}
-use Rattle.vlog_lex.specs.declared.token.Token.{Token}
+use Rattle.vlog_tree.specs.vlog_lex.declared.token.Token.{Token}
 use Rattle.vlog_expr.specs.Marks.{TokenOf, Toks, marked, all_marked, IsLawfulText, AreLawful}
 
 lawful_push : (ws : Toks ℕ) (x : TokenOf ℕ) → AreLawful ws → IsLawfulText x.kind x.text → AreLawful (ws ++ x ∷ [])

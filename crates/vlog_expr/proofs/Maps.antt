@@ -1,6 +1,6 @@
 -- Lists as plain data, one item longer.
 use Rattle.std.proofs.Common.{◌≡◌, List, [], ◌∷◌, ◌++◌, refl, ap, map, length, suc}
-use Rattle.vlog_lex.specs.declared.token.Token.{Token}
+use Rattle.vlog_tree.specs.vlog_lex.declared.token.Token.{Token}
 use Rattle.vlog_expr.specs.Marks.{all_marked}
 use Rattle.vlog_tree.specs.Plain.{plain_expr, plain_target}
 use Rattle.vlog_tree.specs.declared.expr.Expr.{Expr}

@@ -1,9 +1,9 @@
 -- The whole list of tokens as one expression.
 use Rattle.std.proofs.Common.{◌≡◌, ℕ, suc, List, [], ◌∷◌, ◌++◌, Option, None, Some, Result, Ok, Err, IfOk, MatchResult, map, length, refl}
 use Rattle.std.proofs.Common.{ap, sym, ◌∙◌, subst, arith}
-use Rattle.vlog_lex.specs.declared.token.Token.{Token}
-use Rattle.vlog_lex.specs.declared.token.TokenKind.TheVariants.{Identifier}
-use Rattle.vlog_lex.specs.Lexeme.{IsToken}
+use Rattle.vlog_tree.specs.vlog_lex.declared.token.Token.{Token}
+use Rattle.vlog_tree.specs.vlog_lex.declared.token.TokenKind.TheVariants.{Identifier}
+use Rattle.vlog_tree.specs.vlog_lex.Lexeme.{IsToken}
 use Rattle.vlog_tree.specs.declared.expr.Expr.{Expr}
 use Rattle.vlog_tree.specs.declared.expr.NumberKind.{NumberKind}
 use Rattle.vlog_tree.specs.declared.expr.NumberKind.TheVariants as number

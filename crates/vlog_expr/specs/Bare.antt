@@ -1,6 +1,6 @@
 -- Tokens, expressions and targets without their lines.
 use Rattle.std.specs.Prelude.{List, map}
-use Rattle.vlog_lex.specs.declared.token.Token.{Token}
+use Rattle.vlog_tree.specs.vlog_lex.declared.token.Token.{Token}
 use Rattle.vlog_tree.specs.Tree.{IdentOf, NumberOf, SignOf, ExprOf, PrimOf, RefOf, SelOf, ExprsOf, TargetOf, TargetsOf}
 use Rattle.vlog_tree.specs.Lines.{no_mark, map_ident, map_number, map_sign, map_expr, map_prim, map_ref, map_sel}
 use Rattle.vlog_tree.specs.Lines.{map_exprs, map_target, map_targets}

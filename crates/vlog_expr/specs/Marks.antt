@@ -1,10 +1,10 @@
 -- Tokens with a mark in the place of their lines, and the words that stand at their front.
 use Rattle.std.specs.Prelude.{◌≡◌, if◌then◌else◌, ℕ, Bool, true, false, List, [], ◌∷◌, ◌&&◌, Option, None, Some, map}
 use Rattle.std.specs.Str.{bytes_eq}
-use Rattle.vlog_lex.specs.declared.token.Token.{Token}
-use Rattle.vlog_lex.specs.declared.token.TokenKind.{TokenKind}
-use Rattle.vlog_lex.specs.declared.token.TokenKind.TheVariants.{Identifier, Reserved, Decimal, Based, Other}
-use Rattle.vlog_lex.specs.Lexeme.{IsToken}
+use Rattle.vlog_tree.specs.vlog_lex.declared.token.Token.{Token}
+use Rattle.vlog_tree.specs.vlog_lex.declared.token.TokenKind.{TokenKind}
+use Rattle.vlog_tree.specs.vlog_lex.declared.token.TokenKind.TheVariants.{Identifier, Reserved, Decimal, Based, Other}
+use Rattle.vlog_tree.specs.vlog_lex.Lexeme.{IsToken}
 use Rattle.vlog_tree.specs.declared.expr.NumberKind.{NumberKind}
 use Rattle.vlog_tree.specs.declared.expr.NumberKind.TheVariants as number
 use Rattle.vlog_tree.specs.declared.expr.UnaryOp.{UnaryOp}

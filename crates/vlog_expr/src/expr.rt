@@ -11,8 +11,8 @@ ghost use Rattle.vlog_expr.specs.Given.{Gives};
 use crate::front::{Parsed, after, binary_front, expect, name_of, number_front, sign_front};
 use crate::unread::Unread;
 use std::alloc::Global;
-use vidi_bits::copied;
-use vlog_lex::Token;
+use vlog_tree::vidi_bits::copied;
+use vlog_tree::vlog_lex::Token;
 use vlog_tree::{
     BinaryOp, Expr, Exprs, Ident, Number, Operand, Ref, Sel, Terminal, Unary, concat, repeat,
 };

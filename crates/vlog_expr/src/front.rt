@@ -8,8 +8,8 @@ ghost use Rattle.vlog_expr.specs.Given.{Gives};
 
 use crate::unread::Unread;
 use std::alloc::Global;
-use vidi_bits::copied;
-use vlog_lex::{Token, TokenKind};
+use vlog_tree::vidi_bits::copied;
+use vlog_tree::vlog_lex::{Token, TokenKind};
 use vlog_tree::{BinaryOp, Ident, NumberKind, Sign, Terminal, UnaryOp, level_of};
 
 /// What was read, and the tokens behind it.

@@ -4,7 +4,7 @@ ghost use Rattle.std.specs.Prelude.{◌≡◌, ◌≤◌, ◌↔◌, IsTrue, len
 ghost use Rattle.vlog_expr.specs.Marks.{IsLawfulText, all_marked, AreLawful};
 ghost use Rattle.vlog_expr.specs.Lawful.{IsUnlawful};
 
-use vlog_lex::{Token, TokenKind, is_token};
+use vlog_tree::vlog_lex::{Token, TokenKind, is_token};
 
 /// Whether the token, where it is a name or a number, is a lawful one.
 fn is_lawful(token: &Token) -> bool

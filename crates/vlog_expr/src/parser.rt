@@ -16,8 +16,8 @@ use crate::expr::expr_of;
 use crate::lawful::are_lawful;
 use crate::unread::Unread;
 use std::alloc::Global;
-use vlog_lex::Token;
 use vlog_tree::Expr;
+use vlog_tree::vlog_lex::Token;
 
 /// Fuel enough for each tree that the tokens could spell.
 pub fn fuel_for(tokens: &[Token]) -> usize

@@ -10,7 +10,7 @@ use crate::expr::ref_of;
 use crate::front::{Parsed, after, expect};
 use crate::unread::Unread;
 use std::alloc::Global;
-use vlog_lex::Token;
+use vlog_tree::vlog_lex::Token;
 use vlog_tree::{Target, Targets, Terminal, concat_target};
 
 /// What an assignment writes.

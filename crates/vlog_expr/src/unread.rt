@@ -3,7 +3,7 @@
 ghost use Rattle.std.specs.Prelude.{◌≡◌};
 
 use std::alloc::{AllocError, AllocFailed};
-use vidi_bits::Memory;
+use vlog_tree::vidi_bits::Memory;
 
 /// Why a reader read nothing.
 #[derive(Clone, Copy, PartialEq, Eq)]

@@ -1,7 +1,7 @@
 -- The instances of a design in preorder (IEEE 1364-2005, 12.5; this project's profile), and E12 of instances and nets.
 use Rattle.std.specs.Prelude.{ℕ, zero, suc, ◌+◌, ◌<◌, nat_lt, List, [], ◌∷◌, ◌++◌, length, Option, None, Some}
 use Rattle.std.specs.List.{flat_map, sum_by}
-use Rattle.vidi_bits.specs.Findings.{told_if}
+use Rattle.vlog_size.specs.vidi_bits.Findings.{told_if}
 use Rattle.vlog_hierarchy.specs.declared.error.HierarchyError.{HierarchyError}
 use Rattle.vlog_hierarchy.specs.declared.error.HierarchyError.TheVariants as e
 use Rattle.vlog_hierarchy.specs.declared.error.HierarchyLimit.TheVariants.{Instances, Nets}

@@ -1,7 +1,7 @@
 -- The modules found on a walk, as a list and as a mark for each module.
 use Rattle.std.specs.Prelude.{ℕ, ◌<◌, ◌++◌, not, Bool, true, false, List, [], ◌∷◌, map, length, slice_index_or, slice_set}
 use Rattle.std.specs.List.{Contains}
-use Rattle.vidi_bits.specs.Findings.{told_if}
+use Rattle.vlog_size.specs.vidi_bits.Findings.{told_if}
 use Rattle.vlog_hierarchy.specs.declared.outline.Child.{Child}
 use Rattle.vlog_hierarchy.specs.Outlines.{Outline}
 use Rattle.vlog_hierarchy.specs.Nested.{kids}

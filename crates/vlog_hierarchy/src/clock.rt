@@ -2,14 +2,14 @@
 
 ghost use Rattle.std.specs.Prelude.{◌≡◌, ◌++◌, map, length, option_map, IfOk, OnOk};
 ghost use Rattle.std.specs.List.{flat_map};
-ghost use Rattle.vlog_tree.specs.Plain.{plain, plain_expr, plain_event, plain_conn, plain_named, plain_assign, plain_always, plain_item};
-ghost use Rattle.vlog_tree.specs.Plain.{plain_module};
+ghost use Rattle.vlog_size.specs.vlog_tree.Plain.{plain, plain_expr, plain_event, plain_conn, plain_named, plain_assign, plain_always, plain_item};
+ghost use Rattle.vlog_size.specs.vlog_tree.Plain.{plain_module};
 ghost use Rattle.vlog_hierarchy.specs.Outlines.{outlines_of, place_of};
 ghost use Rattle.vlog_hierarchy.specs.Plain.{plain_path};
 ghost use Rattle.vlog_hierarchy.specs.Clock.{event_ports, item_ports, scope_ports, clock_ports, first_port, same_port, marked, clock_marks};
 ghost use Rattle.vlog_hierarchy.specs.Clock.{event_faults, body_faults, value_faults, conn_faults, wire_faults, assign_faults};
 ghost use Rattle.vlog_hierarchy.specs.Clock.{item_faults, items_at, scope_faults, clock_faults, scopes_of};
-ghost use Rattle.vidi_bits.specs.Findings.{Judged};
+ghost use Rattle.vlog_size.specs.vidi_bits.Findings.{Judged};
 ghost use Rattle.vlog_hierarchy.specs.Told.{hierarchy_told};
 
 use crate::error::HierarchyError;
@@ -19,9 +19,9 @@ use crate::places::{index_of, place_named};
 use crate::reads::{check_body, check_expr, check_target};
 use crate::scopes::{Scope, plain_name, port_of, scopes_of};
 use std::alloc::Global;
-use vidi_bits::{Items, Memory, Name};
 use vlog_size::Table;
-use vlog_tree::{Always, Assign, Conn, Event, Expr, File, Item, Module, NamedValue};
+use vlog_size::vidi_bits::{Items, Memory, Name};
+use vlog_size::vlog_tree::{Always, Assign, Conn, Event, Expr, File, Item, Module, NamedValue};
 
 /// For each clocked block the port to which its name is joined.
 pub type ClockPorts = Items<Option<usize>>;

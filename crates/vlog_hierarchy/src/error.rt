@@ -2,7 +2,7 @@
 
 ghost use Rattle.std.specs.Prelude.{◌≡◌};
 
-use vidi_bits::Memory;
+use vlog_size::vidi_bits::Memory;
 
 /// A limit on a design's hierarchy.
 #[derive(Clone, Copy, Debug, PartialEq, Eq)]

@@ -3,7 +3,7 @@
 ghost use Rattle.std.specs.Prelude.{◌≡◌, false, replicate, IfOk};
 
 use std::alloc::Global;
-use vidi_bits::{Items, Memory};
+use vlog_size::vidi_bits::{Items, Memory};
 
 /// As many times `false`.
 pub fn unmarked(alloc: Global, n: usize) -> Result<Items<bool>, Memory>

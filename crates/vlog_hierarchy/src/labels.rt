@@ -9,7 +9,7 @@ ghost use Rattle.vlog_hierarchy.specs.Labels.{label_of, HoldsAbove, NeverFall, K
 
 use crate::outline::{Child, Outline};
 use std::alloc::Global;
-use vidi_bits::{Items, Memory};
+use vlog_size::vidi_bits::{Items, Memory};
 
 /// A module on the way from where a search began.
 #[derive(Clone, Copy)]

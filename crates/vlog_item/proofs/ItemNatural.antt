@@ -1,17 +1,17 @@
 -- Without lines the reader reads the same items, without their lines.
 use Rattle.std.proofs.Common.{◌≡◌, if◌then◌else◌, ℕ, Bool, true, false, Option, None, Some, [], ◌∷◌, map, option_map}
 use Rattle.std.proofs.Common.{refl}
-use Rattle.vlog_tree.specs.declared.terminal.Terminal.TheVariants as t
-use Rattle.vlog_tree.specs.Tree.{IdentOf, RangeOf}
-use Rattle.vlog_expr.specs.Marks.{Toks, is_name, name_front}
-use Rattle.vlog_expr.specs.Bare.{forget_all, bare_ident, bare_expr}
+use Rattle.vlog_stmt.specs.vlog_tree.declared.terminal.Terminal.TheVariants as t
+use Rattle.vlog_stmt.specs.vlog_tree.Tree.{IdentOf, RangeOf}
+use Rattle.vlog_stmt.specs.vlog_expr.Marks.{Toks, is_name, name_front}
+use Rattle.vlog_stmt.specs.vlog_expr.Bare.{forget_all, bare_ident, bare_expr}
 use Rattle.vlog_item.specs.BareItem.{bare_range, bare_named, bare_tail, bare_reg, bare_assign, bare_event, bare_item}
 use Rattle.vlog_item.specs.BareItem.{bare_conn}
 use Rattle.vlog_item.specs.ItemReader.{range_at, range_front, init_front}
 use Rattle.vlog_item.specs.ItemReader.{named_at, tail_front, reg_at, assign_at, names_at, driven_at}
 use Rattle.vlog_item.specs.ItemReader.{wires_at, regs_at, localparams_at, assigns_at, paren_event_at, event_at, always_at, value_at}
 use Rattle.vlog_item.specs.ItemReader.{conn_at, parameter_conns_front, conns_at, instance_at, named_item_at, other_item_at, item_at}
-use Rattle.vlog_expr.specs.Laws.{seen}
+use Rattle.vlog_stmt.specs.vlog_expr.Laws.{seen}
 use Rattle.vlog_item.specs.Laws.{ItemLinesDontCount}
 use Rattle.vlog_stmt.proofs.Steps.{Same, same, both_step, both_or, same_after, same_expr}
 use Rattle.vlog_stmt.proofs.ListNatural.{more_same, some_same}

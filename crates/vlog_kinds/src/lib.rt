@@ -16,3 +16,4 @@ mod targets;
 
 pub use check::check_kinds;
 pub use error::KindError;
+pub use vlog_names;

@@ -1,16 +1,16 @@
 -- The first net at which E9 holds, by a code's masks and targets.
 use Rattle.std.proofs.Common.{◌≡◌, ℕ, ◌&&◌, ◌||◌, not, Bool, false, List, length, ap, sym, subst, ◌∙◌}
-use Rattle.net_code.proofs.MaskLaws.{same_sets}
+use Rattle.net_drive.proofs.net_code.MaskLaws.{same_sets}
 use mathlib.Core.Path.{fun_ext}
-use Rattle.vlog_size.specs.declared.scope.ScopeNet.{ScopeNet}
-use Rattle.vlog_size.specs.Table.{Named}
-use Rattle.net_design.specs.declared.act.Code.{Code}
-use Rattle.net_design.specs.declared.act.Mask.{Mask}
-use Rattle.net_design.specs.declared.act.Place.{Place}
-use Rattle.net_design.specs.Bits.{BitSet, named, block_adds}
-use Rattle.net_code.specs.declared.bit_map.BitMap.{BitMap}
-use Rattle.net_code.specs.BitMap.{in_map}
-use Rattle.net_code.specs.Targets.{nets_named, block_targets}
+use Rattle.vlog_block.specs.vlog_size.declared.scope.ScopeNet.{ScopeNet}
+use Rattle.vlog_block.specs.vlog_size.Table.{Named}
+use Rattle.vlog_block.specs.net_design.declared.act.Code.{Code}
+use Rattle.vlog_block.specs.net_design.declared.act.Mask.{Mask}
+use Rattle.vlog_block.specs.net_design.declared.act.Place.{Place}
+use Rattle.vlog_block.specs.net_design.Bits.{BitSet, named, block_adds}
+use Rattle.net_drive.specs.net_code.declared.bit_map.BitMap.{BitMap}
+use Rattle.net_drive.specs.net_code.BitMap.{in_map}
+use Rattle.net_drive.specs.net_code.Targets.{nets_named, block_targets}
 use Rattle.vlog_block.specs.Naming.{Naming, place_names, code_names}
 use Rattle.vlog_latch.specs.Latch.{some_bit, is_latched}
 use Rattle.vlog_latch.specs.Blocks.{code_latched}

@@ -1,9 +1,9 @@
 -- The findings of a block, and the first net at which E9 holds.
 use Rattle.std.proofs.Common.{◌≡◌, ℕ, zero, suc, ◌+◌, ◌<◌, ◌≤◌, Bool, true, false, List, [], ◌∷◌, ◌++◌, map, length, slice_get, Some, None}
 use Rattle.std.proofs.Common.{refl, ap, sym, ◌∙◌, arith}
-use Rattle.vidi_bits.specs.Findings.{first, told_if}
-use Rattle.vlog_size.specs.declared.scope.ScopeNet.{ScopeNet}
-use Rattle.vlog_size.specs.Table.{Named}
+use Rattle.net_drive.specs.vidi_bits.Findings.{first, told_if}
+use Rattle.vlog_block.specs.vlog_size.declared.scope.ScopeNet.{ScopeNet}
+use Rattle.vlog_block.specs.vlog_size.Table.{Named}
 use Rattle.vlog_latch.specs.declared.error.BlockError.TheVariants as error
 use Rattle.vlog_latch.specs.Latch.{latches_from}
 use Rattle.vlog_latch.specs.Masks.{IsLeast}

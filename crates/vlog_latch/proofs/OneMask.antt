@@ -4,15 +4,15 @@ use Rattle.std.proofs.Common.{refl, ap, sym, subst, ◌∙◌, arith}
 use Rattle.std.specs.List.{list_any, flat_map}
 use Rattle.std.proofs.lemmas.Bool.{eqb-true, eq-eqb}
 use Rattle.std.proofs.lemmas.Nat.{and_le_l}
-use Rattle.vidi_bits.specs.Number.{has}
-use Rattle.net_design.specs.declared.act.Mask.{Mask}
-use Rattle.net_design.specs.declared.act.Place.{Place}
-use Rattle.net_design.specs.declared.act.Place.TheVariants.{Bits as PlaceBits, BitsFrom, Word as PlaceWord, WordFrom}
-use Rattle.net_design.specs.Bits.{BitSet, named}
-use Rattle.net_code.specs.declared.bit_map.BitMap.{BitMap}
-use Rattle.net_code.specs.BitMap.{mask_of, in_map, is_among}
-use Rattle.net_code.specs.Targets.{place_net, nets_named}
-use Rattle.net_code.proofs.MaskLaws.{has_less}
+use Rattle.net_drive.specs.vidi_bits.Number.{has}
+use Rattle.vlog_block.specs.net_design.declared.act.Mask.{Mask}
+use Rattle.vlog_block.specs.net_design.declared.act.Place.{Place}
+use Rattle.vlog_block.specs.net_design.declared.act.Place.TheVariants.{Bits as PlaceBits, BitsFrom, Word as PlaceWord, WordFrom}
+use Rattle.vlog_block.specs.net_design.Bits.{BitSet, named}
+use Rattle.net_drive.specs.net_code.declared.bit_map.BitMap.{BitMap}
+use Rattle.net_drive.specs.net_code.BitMap.{mask_of, in_map, is_among}
+use Rattle.net_drive.specs.net_code.Targets.{place_net, nets_named}
+use Rattle.net_drive.proofs.net_code.MaskLaws.{has_less}
 use Rattle.vlog_block.specs.Naming.{place_names}
 use Rattle.vlog_latch.specs.Latch.{some_bit, is_net, is_named}
 use Rattle.vlog_latch.specs.Masks.{is_missed, is_read}

@@ -1,6 +1,6 @@
 -- The findings of the examples.
 use Rattle.std.proofs.Common.{◌≡◌, [], ◌∷◌, refl}
-use Rattle.vlog_size.specs.Size.{number}
+use Rattle.vlog_block.specs.vlog_size.Size.{number}
 use Rattle.vlog_latch.specs.declared.error.BlockError.TheVariants.{Latch}
 use Rattle.vlog_latch.specs.Latch.{some_bit, is_latched}
 use Rattle.vlog_latch.specs.Blocks.{block_latches}

@@ -5,7 +5,7 @@ use Rattle.std.specs.Int.{bit_at}
 use Rattle.std.proofs.lemmas.Bool.{cases_lt, eqb-true, eq-eqb, false_from_ne_true}
 use Rattle.std.proofs.lemmas.Nat.Bits.{bit_at-zero, bit_at-lt, bit_at_above, same_from_bits}
 use mathlib.Core.Path.{fun_ext}
-use Rattle.vidi_bits.specs.Number.{has}
+use Rattle.net_drive.specs.vidi_bits.Number.{has}
 use Rattle.vlog_latch.specs.Latch.{any_below, some_bit}
 
 -- ---- the first n bits

@@ -2,10 +2,10 @@
 -- of a name that it writes where not all read bits are surely assigned before.
 use Rattle.std.specs.Prelude.{ℕ, zero, suc, Bool, false, ◌&&◌, ◌||◌, ◌==◌, not, List, [], ◌∷◌, ◌++◌}
 use Rattle.std.specs.List.{list_any}
-use Rattle.vidi_bits.specs.Findings.{told_if}
-use Rattle.vlog_size.specs.declared.scope.ScopeNet.{ScopeNet}
-use Rattle.vlog_size.specs.Table.{Named}
-use Rattle.net_design.specs.Bits.{BitSet}
+use Rattle.net_drive.specs.vidi_bits.Findings.{told_if}
+use Rattle.vlog_block.specs.vlog_size.declared.scope.ScopeNet.{ScopeNet}
+use Rattle.vlog_block.specs.vlog_size.Table.{Named}
+use Rattle.vlog_block.specs.net_design.Bits.{BitSet}
 use Rattle.vlog_block.specs.Naming.{Naming, NamesNet, NamesRoom}
 use Rattle.vlog_latch.specs.declared.error.BlockError.{BlockError}
 use Rattle.vlog_latch.specs.declared.error.BlockError.TheVariants as error

@@ -2,7 +2,7 @@
 
 ghost use Rattle.std.specs.Prelude.{◌≡◌};
 
-use vidi_bits::{Memory, Name};
+use net_drive::vidi_bits::{Memory, Name};
 
 /// Why an always block is refused.
 #[derive(Drop)]

@@ -16,3 +16,7 @@ pub use laws::{
     latches_shown, no_latch_is_whole, no_latch_means, written_bits_are_there,
     written_nets_are_named,
 };
+pub use net_drive;
+pub use net_drive::{net_code, vidi_bits};
+pub use vlog_block;
+pub use vlog_block::{net_design, vlog_size, vlog_tree};

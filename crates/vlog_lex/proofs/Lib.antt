@@ -7,3 +7,4 @@ pub mod Gaps
 pub mod Apart
 pub mod Readings
 pub mod Sample
+pub use Rattle.vidi_bits.proofs as vidi_bits

@@ -15,3 +15,4 @@ mod words;
 pub use error::LexError;
 pub use lexer::{is_token, lex, one_reading, one_stuck_line, read_or_stuck};
 pub use token::{Token, TokenKind, Tokens};
+pub use vidi_bits;

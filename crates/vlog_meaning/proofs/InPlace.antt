@@ -4,13 +4,13 @@ use Rattle.std.proofs.Common.{List, [], ◌∷◌, length, Option, Some, None, r
 use Rattle.std.specs.List.{position_or_len}
 use Rattle.std.specs.Str.{bytes_eq}
 use Rattle.std.proofs.lemmas.Bool.{lt-ltb}
-use Rattle.vidi_bits.proofs.Lists.{some_same}
-use Rattle.vlog_size.specs.declared.scope.Param.{Param}
-use Rattle.vlog_size.specs.declared.scope.ScopeNet.{ScopeNet}
-use Rattle.vlog_size.specs.declared.scope.ScopeMemory.{ScopeMemory}
-use Rattle.vlog_size.specs.Names.{Readable}
-use Rattle.vlog_size.specs.Size.{or_zero}
-use Rattle.vlog_size.specs.Table.{Named, value_of, place_of}
+use Rattle.vlog_names.proofs.vidi_bits.Lists.{some_same}
+use Rattle.vlog_names.specs.vlog_size.declared.scope.Param.{Param}
+use Rattle.vlog_names.specs.vlog_size.declared.scope.ScopeNet.{ScopeNet}
+use Rattle.vlog_names.specs.vlog_size.declared.scope.ScopeMemory.{ScopeMemory}
+use Rattle.vlog_names.specs.vlog_size.Names.{Readable}
+use Rattle.vlog_names.specs.vlog_size.Size.{or_zero}
+use Rattle.vlog_names.specs.vlog_size.Table.{Named, value_of, place_of}
 use Rattle.vlog_block.specs.declared.source.Source.{Source}
 use Rattle.vlog_block.specs.declared.source.Source.TheVariants.{Net, Memory, Nothing}
 use Rattle.vlog_block.specs.Sources.{source_of, words_before, or_constant, or_source, net_source, memory_source, memory_named}

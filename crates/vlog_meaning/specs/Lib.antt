@@ -6,3 +6,4 @@ pub mod Settled
 pub mod Next
 pub mod Own
 pub mod Examples
+pub use Rattle.vlog_names.specs as vlog_names

@@ -2,11 +2,11 @@
 use Rattle.std.specs.Prelude.{ℕ, zero, suc, List, [], ◌∷◌, ◌++◌, map, Bool, true, false, ◌&&◌}
 use Rattle.std.specs.List.{flat_map}
 use Rattle.std.specs.Str.{bytes_eq}
-use Rattle.vlog_size.specs.declared.scope.ScopeNet.{ScopeNet}
-use Rattle.vlog_size.specs.declared.scope.ScopeMemory.{ScopeMemory}
-use Rattle.vlog_size.specs.declared.scope.Scope.{Scope}
-use Rattle.vlog_size.specs.Table.{Named}
-use Rattle.net_design.specs.declared.values.Values.{Values}
+use Rattle.vlog_names.specs.vlog_size.declared.scope.ScopeNet.{ScopeNet}
+use Rattle.vlog_names.specs.vlog_size.declared.scope.ScopeMemory.{ScopeMemory}
+use Rattle.vlog_names.specs.vlog_size.declared.scope.Scope.{Scope}
+use Rattle.vlog_names.specs.vlog_size.Table.{Named}
+use Rattle.vlog_block.specs.net_design.declared.values.Values.{Values}
 
 abbrev pub Name : Type 0
 Name = List ℕ

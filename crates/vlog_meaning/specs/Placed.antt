@@ -1,10 +1,10 @@
 -- The items of a module instance, each with what may be read there.
 use Rattle.std.specs.Prelude.{ℕ, List, [], ◌∷◌}
-use Rattle.vlog_tree.specs.Tree.{ItemOf, ModuleOf}
-use Rattle.vlog_size.specs.declared.scope.Param.{Param}
-use Rattle.vlog_size.specs.declared.scope.Scope.{Scope}
-use Rattle.vlog_size.specs.Table.{Named}
-use Rattle.vlog_size.specs.Names.{Readable}
+use Rattle.vlog_names.specs.vlog_tree.Tree.{ItemOf, ModuleOf}
+use Rattle.vlog_names.specs.vlog_size.declared.scope.Param.{Param}
+use Rattle.vlog_names.specs.vlog_size.declared.scope.Scope.{Scope}
+use Rattle.vlog_names.specs.vlog_size.Table.{Named}
+use Rattle.vlog_names.specs.vlog_size.Names.{Readable}
 use Rattle.vlog_scope.specs.Scope.{after_item}
 use Rattle.vlog_block.specs.Sources.{names_of}
 

@@ -3,12 +3,12 @@ use Rattle.std.specs.Prelude.{◌≡◌, ℕ, ◌^◌, ◌<◌, Bool, true, fals
 use Rattle.std.specs.Prelude.{Some}
 use Rattle.std.specs.Int.{bit_at}
 use Rattle.std.specs.List.{Contains, AllByRecursion, list_any}
-use Rattle.vlog_tree.specs.Tree.{IdentOf, EventOf, PosedgeEvent, ImplicitEvent, AlwaysOf, ConnOf, InstanceOf}
-use Rattle.vlog_tree.specs.Tree.{ItemOf, AlwaysItem, ModuleOf}
-use Rattle.vlog_size.specs.declared.scope.ScopeNet.{ScopeNet}
-use Rattle.vlog_size.specs.declared.scope.Scope.{Scope}
-use Rattle.vlog_size.specs.Table.{Named}
-use Rattle.vlog_size.specs.Names.{Readable}
+use Rattle.vlog_names.specs.vlog_tree.Tree.{IdentOf, EventOf, PosedgeEvent, ImplicitEvent, AlwaysOf, ConnOf, InstanceOf}
+use Rattle.vlog_names.specs.vlog_tree.Tree.{ItemOf, AlwaysItem, ModuleOf}
+use Rattle.vlog_names.specs.vlog_size.declared.scope.ScopeNet.{ScopeNet}
+use Rattle.vlog_names.specs.vlog_size.declared.scope.Scope.{Scope}
+use Rattle.vlog_names.specs.vlog_size.Table.{Named}
+use Rattle.vlog_names.specs.vlog_size.Names.{Readable}
 use Rattle.vlog_names.specs.declared.declaration.Declaration.{Declaration}
 use Rattle.vlog_names.specs.declared.declaration.Declaration.TheVariants as d
 use Rattle.vlog_names.specs.Entries.{Names, port_entries, no_port}

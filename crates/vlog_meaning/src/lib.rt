@@ -9,3 +9,4 @@
 mod laws;
 
 pub use laws::{meaning_shown, own_numbers_decide};
+pub use vlog_names;

@@ -2,3 +2,4 @@ pub mod Different
 pub mod Examples
 pub mod Places
 pub mod Twice
+pub use Rattle.vlog_size.proofs.vidi_bits as vidi_bits

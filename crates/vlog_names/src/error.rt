@@ -3,7 +3,7 @@
 ghost use Rattle.std.specs.Prelude.{◌≡◌};
 
 use std::alloc::{AllocError, AllocFailed};
-use vidi_bits::{Memory, Name};
+use vlog_size::vidi_bits::{Memory, Name};
 
 /// Why the names of a design text are refused.
 #[derive(Drop)]

@@ -2,18 +2,18 @@
 
 ghost use Rattle.std.specs.Prelude.{◌≡◌, ◌++◌, ◌∷◌, [], List, ℕ, map, is_some, OnOk, slice_get};
 ghost use Rattle.std.specs.Option.{option_copied, option_map};
-ghost use Rattle.vlog_tree.specs.Tree.{ModuleOf};
+ghost use Rattle.vlog_size.specs.vlog_tree.Tree.{ModuleOf};
 ghost use Rattle.vlog_size.specs.Table.{value_of};
 ghost use Rattle.vlog_names.specs.Entries.{entry, declared, module_entry};
 ghost use Rattle.vlog_names.specs.Twice.{twice_name};
-ghost use Rattle.vidi_bits.specs.Findings.{Judged};
+ghost use Rattle.vlog_size.specs.vidi_bits.Findings.{Judged};
 ghost use Rattle.vlog_names.specs.Told.{name_told};
 
 use crate::declaration::{Declarations, ModuleTable};
 use crate::error::NameError;
 use std::alloc::Global;
-use vidi_bits::{Name, copied};
 use vlog_size::Table;
+use vlog_size::vidi_bits::{Name, copied};
 
 /// Whether the table has the name.
 fn is_there<V>(table: &Table<V>, name: &[u8]) -> bool

@@ -6,8 +6,8 @@ use Rattle.std.proofs.lemmas.Bool.{cases_lt, cases_order, false≢true}
 use Rattle.std.proofs.lemmas.List.{append-nil, append_assoc, length-append, map-append, take_more, drop_more, take-append-drop}
 use Rattle.std.proofs.lemmas.List.Elements.{All-nil, All-push, All-pop}
 use Rattle.std.proofs.lemmas.List.Sums.{sum_by_push}
-use Rattle.vlog_lex.specs.declared.token.Token.{Token}
-use Rattle.vlog_expr.specs.Marks.{TokenOf, Toks, marked, all_marked}
+use Rattle.vlog_item.specs.vlog_lex.declared.token.Token.{Token}
+use Rattle.vlog_item.specs.vlog_expr.Marks.{TokenOf, Toks, marked, all_marked}
 use Rattle.vlog_parse.specs.Depth.{is_word, open_at, open_behind, is_cut, HaveNoCut, is_else, IsNoAlways, Passes, IsDeep, IsFirstDeep}
 use Rattle.vlog_parse.specs.Depth.{IsShallow}
 

@@ -3,25 +3,25 @@ use Rattle.std.proofs.Common.{◌≡◌, ℕ, ◌+◌, ◌≤◌, Option, Some, 
 use Rattle.std.proofs.Common.{map}
 use Rattle.std.proofs.Common.{arith}
 use Rattle.std.specs.Prelude.{IfOk, MatchResult, option_map}
-use Rattle.vidi_bits.proofs.Lists.{some_same}
-use Rattle.vlog_lex.specs.declared.token.Token.{Token}
-use Rattle.vlog_tree.specs.declared.module.File.{File}
-use Rattle.vlog_tree.specs.Words.{WordOf, NameWord, Fixed, NameAt, NumberAt, FixedAt, token_of, tokens_of, map_word}
-use Rattle.vlog_tree.specs.Tree.{FileOf}
-use Rattle.vlog_tree.specs.Plain.{plain}
-use Rattle.vlog_tree.specs.Lines.{no_mark, bare}
-use Rattle.vlog_tree.specs.Spelling.{toks, file_words}
-use Rattle.vlog_tree.specs.Shape.{IsGood}
-use Rattle.vlog_tree.proofs.Marks.{file_mapped, toks_bare}
-use Rattle.vlog_expr.specs.declared.unread.Unread.{Unread}
-use Rattle.vlog_expr.specs.declared.unread.Unread.TheVariants as unread
-use Rattle.vlog_expr.specs.Marks.{TokenOf, Toks, spelled, spell, IsWord, AreWords, all_marked, AreLawful}
-use Rattle.vlog_expr.specs.Bare.{forget, forget_all, without_lines}
-use Rattle.vlog_expr.specs.Reader.{fuel_for}
+use Rattle.vlog_item.proofs.vidi_bits.Lists.{some_same}
+use Rattle.vlog_item.specs.vlog_lex.declared.token.Token.{Token}
+use Rattle.vlog_item.specs.vlog_tree.declared.module.File.{File}
+use Rattle.vlog_item.specs.vlog_tree.Words.{WordOf, NameWord, Fixed, NameAt, NumberAt, FixedAt, token_of, tokens_of, map_word}
+use Rattle.vlog_item.specs.vlog_tree.Tree.{FileOf}
+use Rattle.vlog_item.specs.vlog_tree.Plain.{plain}
+use Rattle.vlog_item.specs.vlog_tree.Lines.{no_mark, bare}
+use Rattle.vlog_item.specs.vlog_tree.Spelling.{toks, file_words}
+use Rattle.vlog_item.specs.vlog_tree.Shape.{IsGood}
+use Rattle.vlog_item.proofs.vlog_tree.Marks.{file_mapped, toks_bare}
+use Rattle.vlog_item.specs.vlog_expr.declared.unread.Unread.{Unread}
+use Rattle.vlog_item.specs.vlog_expr.declared.unread.Unread.TheVariants as unread
+use Rattle.vlog_item.specs.vlog_expr.Marks.{TokenOf, Toks, spelled, spell, IsWord, AreWords, all_marked, AreLawful}
+use Rattle.vlog_item.specs.vlog_expr.Bare.{forget, forget_all, without_lines}
+use Rattle.vlog_item.specs.vlog_expr.Reader.{fuel_for}
 use Rattle.vlog_parse.specs.FileReader.{file_at, file_of}
-use Rattle.vlog_expr.specs.Laws.{Holds}
-use Rattle.vlog_expr.specs.Given.{Gives}
-use Rattle.vlog_expr.proofs.Whole.{words_tokens, spell_lawful, none_some}
+use Rattle.vlog_item.specs.vlog_expr.Laws.{Holds}
+use Rattle.vlog_item.specs.vlog_expr.Given.{Gives}
+use Rattle.vlog_item.proofs.vlog_expr.Whole.{words_tokens, spell_lawful, none_some}
 use Rattle.vlog_parse.specs.Parsing.{IsFileOf, IsLinedFileOf, OneFile, OneLinedFile, LinedFilesAreFiles}
 use Rattle.vlog_parse.proofs.FileSpelled.{file_read}
 use Rattle.vlog_parse.proofs.FileNatural.{file_natural}

@@ -1,25 +1,25 @@
 -- Without lines the reader reads the same files, without their lines.
 use Rattle.std.proofs.Common.{◌≡◌, ℕ, zero, suc, Option, None, Some, List, [], ◌∷◌, ◌++◌, map, option_map}
 use Rattle.std.proofs.Common.{refl, ap, ◌∙◌}
-use Rattle.vlog_tree.specs.Lines.{bare}
-use Rattle.vlog_tree.specs.declared.module.Direction.{Direction}
-use Rattle.vlog_tree.specs.declared.terminal.Terminal.TheVariants as t
-use Rattle.vlog_tree.specs.Tree.{PortHeadOf, PortOf, ParameterHeadOf, ParameterOf, ItemOf, ModuleOf}
-use Rattle.vlog_expr.specs.Marks.{Toks}
-use Rattle.vlog_expr.specs.Bare.{forget, forget_all}
+use Rattle.vlog_item.specs.vlog_tree.Lines.{bare}
+use Rattle.vlog_item.specs.vlog_tree.declared.module.Direction.{Direction}
+use Rattle.vlog_item.specs.vlog_tree.declared.terminal.Terminal.TheVariants as t
+use Rattle.vlog_item.specs.vlog_tree.Tree.{PortHeadOf, PortOf, ParameterHeadOf, ParameterOf, ItemOf, ModuleOf}
+use Rattle.vlog_item.specs.vlog_expr.Marks.{Toks}
+use Rattle.vlog_item.specs.vlog_expr.Bare.{forget, forget_all}
 use Rattle.vlog_parse.specs.BareFile.{bare_head, bare_port}
 use Rattle.vlog_item.specs.BareItem.{bare_item}
 use Rattle.vlog_parse.specs.BareFile.{bare_module, bare_parameter_head, bare_parameter}
-use Rattle.vlog_expr.specs.Reader.{◌>>=◌, Read}
+use Rattle.vlog_item.specs.vlog_expr.Reader.{◌>>=◌, Read}
 use Rattle.vlog_parse.specs.FileReader.{input_at, output_at, direction_front, head_front, port_at}
 use Rattle.vlog_parse.specs.FileReader.{where_given, first_port_at, ports_at}
 use Rattle.vlog_parse.specs.FileReader.{items_at, parameter_head_front, parameter_at, first_parameter_at, parameters_front, header_at}
 use Rattle.vlog_parse.specs.FileReader.{module_at, modules_at}
-use Rattle.vlog_expr.specs.Laws.{seen}
+use Rattle.vlog_item.specs.vlog_expr.Laws.{seen}
 use Rattle.vlog_parse.specs.FileLaws.{FileLinesDontCount}
-use Rattle.vlog_expr.proofs.Natural.{U}
-use Rattle.vlog_stmt.proofs.Steps.{Same, same, both_step, both_or, same_after, same_expr}
-use Rattle.vlog_stmt.proofs.ListNatural.{map_snoc, longer, more_same}
+use Rattle.vlog_item.proofs.vlog_expr.Natural.{U}
+use Rattle.vlog_item.proofs.vlog_stmt.Steps.{Same, same, both_step, both_or, same_after, same_expr}
+use Rattle.vlog_item.proofs.vlog_stmt.ListNatural.{map_snoc, longer, more_same}
 use Rattle.vlog_item.proofs.ItemNatural.{init_same, item_same, name_same, ranges_same}
 
 abbrev pub bare_header : {A : Type 0} → List ℕ × List (ParameterOf A) × List (PortOf A) → List ℕ × List (ParameterOf U) × List (PortOf U)

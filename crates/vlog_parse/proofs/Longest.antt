@@ -4,22 +4,22 @@ use Rattle.std.proofs.Common.{◌++◌, length, map, take, drop, codes, refl, sy
 use Rattle.std.specs.List.{AllByRecursion, flat_map}
 use Rattle.std.proofs.lemmas.List.{map-append, take-append-drop, length-drop}
 use Rattle.std.proofs.Math.Seq.{take-length}
-use Rattle.vlog_lex.proofs.Sample.{name_a}
-use Rattle.vlog_lex.specs.declared.token.Token.{Token}
-use Rattle.vlog_lex.specs.declared.token.TokenKind.{TokenKind}
-use Rattle.vlog_lex.specs.declared.token.TokenKind.TheVariants.{Identifier, Reserved, Decimal, Based, Other}
-use Rattle.vlog_tree.specs.declared.terminal.Terminal.TheVariants as t
-use Rattle.vlog_tree.specs.Words.{WordOf, NameWord, Fixed}
-use Rattle.vlog_tree.specs.Tree.{ParameterOf, PortOf, ItemOf, AlwaysItem, ModuleOf}
-use Rattle.vlog_tree.specs.Spelling.{with_commas, in_row, hash_words, parameter_words, port_words}
-use Rattle.vlog_tree.specs.Shape.{IsGoodName, IsFirstHeaded, IsGoodParameter, IsFirstDirected, IsGoodPort, IsGoodItem, IsGoodModule}
-use Rattle.vlog_tree.specs.Shape.{AreSomeGood}
-use Rattle.vlog_expr.specs.Marks.{TokenOf, Toks, marked, all_marked, spelled, spell, AreWords, IsLawfulText, AreLawful, is_terminal}
-use Rattle.vlog_expr.specs.Marks.{after}
-use Rattle.vlog_expr.specs.Lawful.{IsUnlawful}
-use Rattle.vlog_expr.specs.Bare.{forget, forget_all}
-use Rattle.vlog_expr.specs.Reader.{◌>>=◌, found_or, Read, fuel_for}
-use Rattle.vlog_expr.specs.Laws.{Holds, seen}
+use Rattle.vlog_item.proofs.vlog_lex.Sample.{name_a}
+use Rattle.vlog_item.specs.vlog_lex.declared.token.Token.{Token}
+use Rattle.vlog_item.specs.vlog_lex.declared.token.TokenKind.{TokenKind}
+use Rattle.vlog_item.specs.vlog_lex.declared.token.TokenKind.TheVariants.{Identifier, Reserved, Decimal, Based, Other}
+use Rattle.vlog_item.specs.vlog_tree.declared.terminal.Terminal.TheVariants as t
+use Rattle.vlog_item.specs.vlog_tree.Words.{WordOf, NameWord, Fixed}
+use Rattle.vlog_item.specs.vlog_tree.Tree.{ParameterOf, PortOf, ItemOf, AlwaysItem, ModuleOf}
+use Rattle.vlog_item.specs.vlog_tree.Spelling.{with_commas, in_row, hash_words, parameter_words, port_words}
+use Rattle.vlog_item.specs.vlog_tree.Shape.{IsGoodName, IsFirstHeaded, IsGoodParameter, IsFirstDirected, IsGoodPort, IsGoodItem, IsGoodModule}
+use Rattle.vlog_item.specs.vlog_tree.Shape.{AreSomeGood}
+use Rattle.vlog_item.specs.vlog_expr.Marks.{TokenOf, Toks, marked, all_marked, spelled, spell, AreWords, IsLawfulText, AreLawful, is_terminal}
+use Rattle.vlog_item.specs.vlog_expr.Marks.{after}
+use Rattle.vlog_item.specs.vlog_expr.Lawful.{IsUnlawful}
+use Rattle.vlog_item.specs.vlog_expr.Bare.{forget, forget_all}
+use Rattle.vlog_item.specs.vlog_expr.Reader.{◌>>=◌, found_or, Read, fuel_for}
+use Rattle.vlog_item.specs.vlog_expr.Laws.{Holds, seen}
 use Rattle.vlog_item.specs.BareItem.{bare_item}
 use Rattle.vlog_parse.specs.FileReader.{header_at}
 use Rattle.vlog_item.specs.ItemReader.{item_at}
@@ -27,13 +27,13 @@ use Rattle.vlog_parse.specs.UnitReader.{whole_item, unit_at, read_or, behind_uni
 use Rattle.vlog_parse.specs.Units.{UnitOf, Header, ItemUnit, Endmodule, module_units, unit_words, IsWhole, AreWhole, BeginWith}
 use Rattle.vlog_parse.specs.Units.{AreLongest}
 use Rattle.vlog_parse.specs.Units.{line_or, last_line, first_line, IsItemLine, OneItemLine}
-use Rattle.vlog_expr.proofs.Spelled.{U, spell_append}
-use Rattle.vlog_expr.proofs.Found.{From, again}
-use Rattle.vlog_expr.proofs.Maps.{marked_length}
-use Rattle.vlog_expr.proofs.Natural.{over_bind, over_found, after_natural}
-use Rattle.vlog_expr.proofs.Whole.{AreLawfulWords, lawful_append, spell_lawful, length_forget}
-use Rattle.vlog_stmt.proofs.Sure.{Sure, nothing, sure, next, either, after_found}
-use Rattle.vlog_stmt.proofs.Steps.{step, skipped}
+use Rattle.vlog_item.proofs.vlog_expr.Spelled.{U, spell_append}
+use Rattle.vlog_item.proofs.vlog_expr.Found.{From, again}
+use Rattle.vlog_item.proofs.vlog_expr.Maps.{marked_length}
+use Rattle.vlog_item.proofs.vlog_expr.Natural.{over_bind, over_found, after_natural}
+use Rattle.vlog_item.proofs.vlog_expr.Whole.{AreLawfulWords, lawful_append, spell_lawful, length_forget}
+use Rattle.vlog_item.proofs.vlog_stmt.Sure.{Sure, nothing, sure, next, either, after_found}
+use Rattle.vlog_item.proofs.vlog_stmt.Steps.{step, skipped}
 use Rattle.vlog_item.proofs.ItemFound.{item_found}
 use Rattle.vlog_parse.proofs.FileFound.{header_found}
 use Rattle.vlog_item.proofs.ItemSpelled.{item_read, no_endmodule, some_item}

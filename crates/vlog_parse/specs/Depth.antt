@@ -2,8 +2,8 @@
 use Rattle.std.specs.Prelude.{◌≡◌, if◌then◌else◌, ℕ, zero, suc, ◌≤◌, ◌<◌, leb, Bool, true, false, ◌&&◌, ◌||◌, ◌⊎◌, List, [], ◌∷◌, ◌++◌, All}
 use Rattle.std.specs.Prelude.{codes, count_by, length, nat_lt}
 use Rattle.std.specs.Str.{bytes_eq}
-use Rattle.vlog_lex.specs.declared.token.TokenKind.TheVariants.{Reserved, Other}
-use Rattle.vlog_expr.specs.Marks.{TokenOf, Toks, same_kind}
+use Rattle.vlog_item.specs.vlog_lex.declared.token.TokenKind.TheVariants.{Reserved, Other}
+use Rattle.vlog_item.specs.vlog_expr.Marks.{TokenOf, Toks, same_kind}
 
 abbrev pub is_word : {A : Type 0} → List ℕ → TokenOf A → Bool
 is_word text x = same_kind x.kind Reserved && bytes_eq x.text text

@@ -1,11 +1,11 @@
 //! The limits of nesting and length.
 
 ghost use Rattle.std.specs.Prelude.{◌≡◌, if◌then◌else◌, suc, ℕ, ◌≤◌, ◌<◌, ◌-◌, ◌^◌, ◌↔◌, true, IsTrue, Some, None, codes};
-ghost use Rattle.vlog_expr.specs.Marks.{marked, all_marked};
+ghost use Rattle.vlog_item.specs.vlog_expr.Marks.{marked, all_marked};
 ghost use Rattle.vlog_parse.specs.Depth.{is_word, is_symbol, opens, closes, open_at, is_cut, is_else, IsDeep, IsShallow};
 ghost use Rattle.vlog_parse.specs.Depth.{outside_at, overruns};
 
-use vlog_lex::{Token, TokenKind};
+use vlog_item::vlog_lex::{Token, TokenKind};
 
 const MOST_OPEN: usize = 32;
 

@@ -1,29 +1,29 @@
 //! Whole lists of tokens as one file.
 
 ghost use Rattle.std.specs.Prelude.{◌≡◌, ℕ, Err, IfOk, IfErr, MatchResult};
-ghost use Rattle.vlog_tree.specs.Tree.{FileOf};
-ghost use Rattle.vlog_tree.specs.Plain.{plain};
-ghost use Rattle.vlog_tree.specs.Lines.{bare};
+ghost use Rattle.vlog_item.specs.vlog_tree.Tree.{FileOf};
+ghost use Rattle.vlog_item.specs.vlog_tree.Plain.{plain};
+ghost use Rattle.vlog_item.specs.vlog_tree.Lines.{bare};
 ghost use Rattle.vlog_parse.specs.declared.error.ParseError.TheVariants as variants;
-ghost use Rattle.vlog_expr.specs.declared.unread.Unread.{Unread};
-ghost use Rattle.vlog_expr.specs.Marks.{all_marked};
+ghost use Rattle.vlog_item.specs.vlog_expr.declared.unread.Unread.{Unread};
+ghost use Rattle.vlog_item.specs.vlog_expr.Marks.{all_marked};
 ghost use Rattle.vlog_parse.specs.FileReader.{file_of};
 ghost use Rattle.vlog_parse.specs.Depth.{IsDeep, IsShallow};
 ghost use Rattle.vlog_parse.specs.Parsing.{IsFileOf, IsLinedFileOf, Refuses};
-ghost use Rattle.vlog_expr.specs.Given.{Gives};
+ghost use Rattle.vlog_item.specs.vlog_expr.Given.{Gives};
 
 use crate::depth::{deep_line, overruns};
 use crate::error::ParseError;
 use crate::module::file_of;
 use crate::units::item_line;
 use std::alloc::Global;
-use vidi_bits::Memory;
-use vlog_expr::{Unread, are_lawful, fuel_for};
-use vlog_lex::{Token, Tokens};
-use vlog_tree::File;
+use vlog_item::vidi_bits::Memory;
+use vlog_item::vlog_expr::{Unread, are_lawful, fuel_for};
+use vlog_item::vlog_lex::{Token, Tokens};
+use vlog_item::vlog_tree::File;
 
 /// The file of all the tokens, whose names and numbers aren't looked at.
-#[tactic(auto, using(vlog_expr::proofs::Maps::marked_length), unfolding(crate::specs::FileReader::file_of))]
+#[tactic(auto, using(vlog_item::vlog_expr::proofs::Maps::marked_length), unfolding(crate::specs::FileReader::file_of))]
 fn whole_file(alloc: Global, tokens: &[Token]) -> Result<File, Unread>
     ensures { Gives plain result (file_of (all_marked tokens.now)) }
 {

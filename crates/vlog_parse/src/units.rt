@@ -1,20 +1,20 @@
 //! The whole units of a design text.
 
 ghost use Rattle.std.specs.Prelude.{◌≡◌, ◌↔◌, false, IsTrue, Some, IfOk, option_map};
-ghost use Rattle.vlog_tree.specs.Plain.{plain_item};
-ghost use Rattle.vlog_expr.specs.Marks.{all_marked};
-ghost use Rattle.vlog_expr.specs.Given.{Gives};
+ghost use Rattle.vlog_item.specs.vlog_tree.Plain.{plain_item};
+ghost use Rattle.vlog_item.specs.vlog_expr.Marks.{all_marked};
+ghost use Rattle.vlog_item.specs.vlog_expr.Given.{Gives};
 ghost use Rattle.vlog_item.specs.ItemReader.{item_at};
 ghost use Rattle.vlog_parse.specs.UnitReader.{whole_item, behind_header, behind_item, unit_at, behind_units};
 ghost use Rattle.vlog_parse.specs.Units.{line_or, last_line, IsItemLine};
 
 use crate::module::header_of;
 use std::alloc::Global;
-use vidi_bits::Memory;
-use vlog_expr::{Parsed, Unread, after, fuel_for, lawful_len};
 use vlog_item::item_of;
-use vlog_lex::Token;
-use vlog_tree::{Item, Terminal};
+use vlog_item::vidi_bits::Memory;
+use vlog_item::vlog_expr::{Parsed, Unread, after, fuel_for, lawful_len};
+use vlog_item::vlog_lex::Token;
+use vlog_item::vlog_tree::{Item, Terminal};
 
 /// Whether no `else` follows the item, where it is an `always`.
 fn is_whole(item: &Item, rest: &[Token]) -> bool

@@ -2,18 +2,18 @@
 use Rattle.std.proofs.Common.{◌≡◌, ℕ, Bool, true, false, ◌&&◌, List, [], ◌∷◌, refl}
 use Rattle.std.specs.List.{AllByRecursion, list_all}
 use Rattle.std.proofs.lemmas.Bool.{and_parts}
-use Rattle.vlog_lex.specs.declared.token.Token.{Token}
-use Rattle.vlog_lex.specs.Words.{is_reserved, is_symbol}
-use Rattle.vlog_lex.specs.Lexeme.{begins_name, continues_name, IsName, IsToken}
-use Rattle.vlog_tree.specs.declared.terminal.Terminal.{Terminal}
-use Rattle.vlog_tree.specs.declared.terminal.Terminal.TheVariants as t
-use Rattle.vlog_tree.specs.Words.{WordOf, NameWord, Fixed, NameAt, NumberAt, FixedAt, token_of, tokens_of, terminal_kind, terminal_text}
-use Rattle.vlog_tree.specs.Tree.{FileOf}
-use Rattle.vlog_tree.specs.Spelling.{toks, file_words}
-use Rattle.vlog_tree.specs.Shape.{IsGood}
-use Rattle.vlog_expr.proofs.Whole.{IsLawfulWord, AreLawfulWords}
+use Rattle.vlog_parse.specs.vlog_lex.declared.token.Token.{Token}
+use Rattle.vlog_parse.specs.vlog_lex.Words.{is_reserved, is_symbol}
+use Rattle.vlog_parse.specs.vlog_lex.Lexeme.{begins_name, continues_name, IsName, IsToken}
+use Rattle.vlog_parse.specs.vlog_tree.declared.terminal.Terminal.{Terminal}
+use Rattle.vlog_parse.specs.vlog_tree.declared.terminal.Terminal.TheVariants as t
+use Rattle.vlog_parse.specs.vlog_tree.Words.{WordOf, NameWord, Fixed, NameAt, NumberAt, FixedAt, token_of, tokens_of, terminal_kind, terminal_text}
+use Rattle.vlog_parse.specs.vlog_tree.Tree.{FileOf}
+use Rattle.vlog_parse.specs.vlog_tree.Spelling.{toks, file_words}
+use Rattle.vlog_parse.specs.vlog_tree.Shape.{IsGood}
+use Rattle.vlog_parse.proofs.vlog_expr.Whole.{IsLawfulWord, AreLawfulWords}
 use Rattle.vlog_parse.proofs.FileWhole.{file_lawful}
-use Rattle.vlog_lex.proofs.Solid.{list_test}
+use Rattle.vlog_parse.proofs.vlog_lex.Solid.{list_test}
 
 abbrev pub AreTokens : List Token → Type 0
 AreTokens ts = AllByRecursion (λ (t : Token). IsToken t.kind t.text) ts

@@ -1,19 +1,19 @@
 -- The printed text of lawful tokens has these tokens, so that of a tree of good shape has the tree's.
 use Rattle.std.proofs.Common.{◌≡◌, ℕ, ◌+◌, Bool, true, false, if◌then◌else◌, List, [], ◌∷◌, inl, refl, ap, ◌∙◌, append_assoc}
-use Rattle.vlog_lex.specs.declared.token.Token.{Token}
-use Rattle.vlog_lex.specs.declared.token.TokenKind.{TokenKind}
-use Rattle.vlog_lex.specs.Lexeme.{IsToken, IsLongest}
-use Rattle.vlog_lex.specs.Words.{is_among}
-use Rattle.vlog_lex.specs.Gap.{IsGap}
-use Rattle.vlog_lex.specs.Reading.{Piece, Gap, Lexeme, Leads, newlines, tokens_of}
-use Rattle.vlog_lex.proofs.Spans.{before_stop}
-use Rattle.vlog_tree.specs.Words.{WordOf, NameWord, Fixed, NameAt, NumberAt, FixedAt, token_of}
-use Rattle.vlog_tree.specs.Words as words
-use Rattle.vlog_tree.specs.Spelling.{toks, file_words}
-use Rattle.vlog_expr.specs.Bare.{without_lines}
+use Rattle.vlog_parse.specs.vlog_lex.declared.token.Token.{Token}
+use Rattle.vlog_parse.specs.vlog_lex.declared.token.TokenKind.{TokenKind}
+use Rattle.vlog_parse.specs.vlog_lex.Lexeme.{IsToken, IsLongest}
+use Rattle.vlog_parse.specs.vlog_lex.Words.{is_among}
+use Rattle.vlog_parse.specs.vlog_lex.Gap.{IsGap}
+use Rattle.vlog_parse.specs.vlog_lex.Reading.{Piece, Gap, Lexeme, Leads, newlines, tokens_of}
+use Rattle.vlog_parse.proofs.vlog_lex.Spans.{before_stop}
+use Rattle.vlog_parse.specs.vlog_tree.Words.{WordOf, NameWord, Fixed, NameAt, NumberAt, FixedAt, token_of}
+use Rattle.vlog_parse.specs.vlog_tree.Words as words
+use Rattle.vlog_parse.specs.vlog_tree.Spelling.{toks, file_words}
+use Rattle.vlog_parse.specs.vlog_expr.Bare.{without_lines}
 use Rattle.vlog_print.specs.Printed.{line_ends, gap_behind, printed, PrintedIsSpelled}
 use Rattle.vlog_print.proofs.GoodWords.{AreTokens, good_tokens}
-use Rattle.vlog_lex.proofs.Solid.{is_solid, token_solid}
+use Rattle.vlog_parse.proofs.vlog_lex.Solid.{is_solid, token_solid}
 
 -- the byte behind a token is white, and of no token
 gap_if : (b : Bool) (rest : List ℕ) → IsGap ((if b then 10 else 32) ∷ []) rest

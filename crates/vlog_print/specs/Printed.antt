@@ -1,15 +1,15 @@
 -- The printed text of a tree: its tokens, each with a blank behind it, or with a newline where a line ends.
 use Rattle.std.specs.Prelude.{◌≡◌, ℕ, if◌then◌else◌, List, [], ◌∷◌, ◌++◌, codes}
 use Rattle.std.specs.List.{flat_map}
-use Rattle.vlog_lex.specs.declared.token.Token.{Token}
-use Rattle.vlog_lex.specs.Words.{is_among}
-use Rattle.vlog_lex.specs.Reading.{HasTokens}
-use Rattle.vlog_tree.specs.Tree.{FileOf}
-use Rattle.vlog_tree.specs.Spelling.{toks}
-use Rattle.vlog_tree.specs.Shape.{IsGood}
-use Rattle.vlog_tree.specs.Lines.{bare}
-use Rattle.vlog_expr.specs.Marks.{all_marked}
-use Rattle.vlog_expr.specs.Bare.{without_lines}
+use Rattle.vlog_parse.specs.vlog_lex.declared.token.Token.{Token}
+use Rattle.vlog_parse.specs.vlog_lex.Words.{is_among}
+use Rattle.vlog_parse.specs.vlog_lex.Reading.{HasTokens}
+use Rattle.vlog_parse.specs.vlog_tree.Tree.{FileOf}
+use Rattle.vlog_parse.specs.vlog_tree.Spelling.{toks}
+use Rattle.vlog_parse.specs.vlog_tree.Shape.{IsGood}
+use Rattle.vlog_parse.specs.vlog_tree.Lines.{bare}
+use Rattle.vlog_parse.specs.vlog_expr.Marks.{all_marked}
+use Rattle.vlog_parse.specs.vlog_expr.Bare.{without_lines}
 use Rattle.vlog_parse.specs.Depth.{IsShallow}
 use Rattle.vlog_parse.specs.Parsing.{IsFileOf}
 

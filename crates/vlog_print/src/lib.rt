@@ -14,3 +14,5 @@ pub use laws::{printed_is_read, printed_is_spelled};
 pub use printing::print;
 pub use shape::good_shape;
 pub use spelling::tokens_of;
+pub use vlog_parse;
+pub use vlog_parse::{vidi_bits, vlog_expr, vlog_lex, vlog_tree};

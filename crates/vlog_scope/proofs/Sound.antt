@@ -2,12 +2,12 @@
 use Rattle.std.proofs.Common.{◌≡◌, ◌<◌, ◌^◌, ◌+◌, ℕ, Bool, true, false, ◌&&◌, not, nat_lt, nat_le, min, if◌then◌else◌, []}
 use Rattle.std.proofs.Common.{Option, None, Some, is_some, option_map, refl, ap, sym, ◌∙◌, arith}
 use Rattle.std.proofs.lemmas.Bool.{not-false, and_from}
-use Rattle.vidi_bits.proofs.Bools.{left_of}
-use Rattle.vidi_bits.proofs.FindingLaws.{told_none}
-use Rattle.vidi_bits.proofs.Lists.{nil_left, nil_right}
-use Rattle.vidi_bits.specs.Findings.{told_if}
-use Rattle.vidi_bits.specs.Number.{IsWidth}
-use Rattle.vlog_tree.specs.Tree.{ExprOf, IdentOf, RangeOf}
+use Rattle.vlog_size.proofs.vidi_bits.Bools.{left_of}
+use Rattle.vlog_size.proofs.vidi_bits.FindingLaws.{told_none}
+use Rattle.vlog_size.proofs.vidi_bits.Lists.{nil_left, nil_right}
+use Rattle.vlog_size.specs.vidi_bits.Findings.{told_if}
+use Rattle.vlog_size.specs.vidi_bits.Number.{IsWidth}
+use Rattle.vlog_size.specs.vlog_tree.Tree.{ExprOf, IdentOf, RangeOf}
 use Rattle.vlog_size.specs.declared.error.SizeError.TheVariants as error
 use Rattle.vlog_size.specs.declared.scope.Const.{Const}
 use Rattle.vlog_size.specs.declared.scope.Const.TheVariants as const

@@ -8,7 +8,7 @@ use Rattle.vlog_size.specs.declared.error.SizeError.{SizeError}
 use Rattle.vlog_size.specs.declared.error.SizeError.TheVariants as error
 use Rattle.vlog_size.specs.declared.names.Meaning.{Meaning}
 use Rattle.vlog_size.specs.declared.names.Meaning.TheVariants.{Parameter, Place, Undeclared}
-use Rattle.vidi_bits.specs.Findings.{told_if}
+use Rattle.vlog_tree.specs.vidi_bits.Findings.{told_if}
 use Rattle.vlog_size.specs.Names.{Readable, fixed, checked, meaning_of, is_lawful_readable}
 use Rattle.vlog_size.specs.Size.{Sizes, sizes_of, sizes_of_prim, sizes_of_ref, sizes_of_index, sizes_of_last, sizes_of_sel, sizes_of_all}
 use Rattle.vlog_size.specs.Size.{sizes_of_target, sizes_of_targets, of_sign, of_binary, of_choice, of_paren, of_concat, of_repeat, of_ref}

@@ -1,9 +1,9 @@
 -- Where names are checked, an expression without a fault has a lawful width, and a number where it stands in a constant position.
 use Rattle.std.proofs.Common.{◌≡◌, ℕ, Bool, true, false, ◌&&◌, ◌||◌, not, Option, None, Some, List, [], ◌∷◌, ◌++◌, refl}
 use Rattle.std.proofs.lemmas.Bool.{not-false, and_from}
-use Rattle.vidi_bits.proofs.Bools.{never}
-use Rattle.vidi_bits.proofs.FindingLaws.{told_none}
-use Rattle.vidi_bits.proofs.Lists.{nil_left, nil_right}
+use Rattle.vlog_tree.proofs.vidi_bits.Bools.{never}
+use Rattle.vlog_tree.proofs.vidi_bits.FindingLaws.{told_none}
+use Rattle.vlog_tree.proofs.vidi_bits.Lists.{nil_left, nil_right}
 use Rattle.vlog_tree.specs.Tree.{ExprOf, UnaryExpr, BinaryExpr, ChoiceExpr, ExprsOf, NoExprs, MoreExprs}
 use Rattle.vlog_tree.specs.Tree.{PrimOf, NumberPrim, RefPrim, ParenPrim, ConcatPrim, RepeatPrim, RefOf, RefWith}
 use Rattle.vlog_tree.specs.Tree.{LastOf, NoLast, Last, SelOf, IndexSel, PartSel, IndexedSel}
@@ -14,7 +14,7 @@ use Rattle.vlog_size.specs.declared.scope.Param.{Param}
 use Rattle.vlog_size.specs.declared.names.Meaning.{Meaning}
 use Rattle.vlog_size.specs.declared.names.Meaning.TheVariants.{Parameter, Place, Undeclared}
 use Rattle.vlog_size.specs.Table.{value_of}
-use Rattle.vidi_bits.specs.Findings.{told_if}
+use Rattle.vlog_tree.specs.vidi_bits.Findings.{told_if}
 use Rattle.vlog_size.specs.Literal.{is_lawful}
 use Rattle.vlog_size.specs.Operators.{is_wide}
 use Rattle.vlog_size.specs.Names.{Readable, fixed, checked, or_meaning, meaning_of}

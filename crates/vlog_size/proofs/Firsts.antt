@@ -1,6 +1,6 @@
 -- The first finding of two lists.
 use Rattle.std.proofs.Common.{◌≡◌, Option, None, Some, List, [], ◌∷◌, ◌++◌, refl, sym, ap, ◌∙◌}
-use Rattle.vidi_bits.specs.Findings.{first, or_first}
+use Rattle.vlog_tree.specs.vidi_bits.Findings.{first, or_first}
 
 pub first_append : {A : Type 0} → (xs ys : List A) → first (xs ++ ys) ≡ or_first (first xs) (first ys)
 first_append [] ys = refl

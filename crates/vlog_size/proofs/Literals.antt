@@ -2,13 +2,13 @@
 use Rattle.std.proofs.Common.{◌≡◌, ℕ, ◌%◌, ◌^◌, ◌≤◌, Bool, true, false, ◌&&◌, ◌||◌, not, if◌then◌else◌, Option, None, Some, is_none}
 use Rattle.std.proofs.Common.{List, refl, arith}
 use Rattle.std.proofs.Math.Pow.{pow_mono}
-use Rattle.vidi_bits.proofs.FindingLaws.{told_none}
-use Rattle.vidi_bits.proofs.Below.{rest_below}
+use Rattle.vlog_tree.proofs.vidi_bits.FindingLaws.{told_none}
+use Rattle.vlog_tree.proofs.vidi_bits.Below.{rest_below}
 use Rattle.vlog_tree.specs.declared.expr.NumberKind.{NumberKind}
 use Rattle.vlog_tree.specs.declared.expr.NumberKind.TheVariants.{Decimal, Based}
 use Rattle.vlog_tree.specs.Tree.{NumberOf}
 use Rattle.vlog_size.specs.declared.error.SizeError.TheVariants as error
-use Rattle.vidi_bits.specs.Limits.{below_top}
+use Rattle.vlog_tree.specs.vidi_bits.Limits.{below_top}
 use Rattle.vlog_size.specs.Literal.{is_lawful, literal_width, literal_number, spelled_number, trimmed, is_bad_literal}
 use Rattle.vlog_size.specs.Literal.{digits_from}
 use Rattle.vlog_size.specs.Operators.{in_range}

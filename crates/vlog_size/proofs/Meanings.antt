@@ -5,7 +5,7 @@ use Rattle.std.proofs.Math.Pow.{pow_mono}
 use Rattle.std.specs.List.{list_all}
 use Rattle.std.specs.Str.{bytes_eq}
 use Rattle.std.proofs.lemmas.Bool.{and_from}
-use Rattle.vidi_bits.proofs.Bools.{left_of, right_of}
+use Rattle.vlog_tree.proofs.vidi_bits.Bools.{left_of, right_of}
 use Rattle.vlog_size.specs.declared.scope.Const.{Const}
 use Rattle.vlog_size.specs.declared.scope.Const.TheVariants as const
 use Rattle.vlog_size.specs.declared.scope.Param.{Param}
@@ -15,13 +15,13 @@ use Rattle.vlog_size.specs.declared.scope.Scope.{Scope}
 use Rattle.vlog_size.specs.declared.names.Meaning.{Meaning}
 use Rattle.vlog_size.specs.declared.names.Meaning.TheVariants.{Parameter, Place, Undeclared}
 use Rattle.vlog_size.specs.Table.{Named, value_of}
-use Rattle.vidi_bits.specs.Findings.{or_first}
+use Rattle.vlog_tree.specs.vidi_bits.Findings.{or_first}
 use Rattle.vlog_size.specs.Literal.{is_lawful}
 use Rattle.vlog_size.specs.Operators.{in_range}
 use Rattle.vlog_size.specs.Names.{Readable, readable_of, fixed, net_meaning, memory_meaning, or_undeclared, place_meaning, or_meaning}
 use Rattle.vlog_size.specs.Names.{meaning_of}
 use Rattle.vlog_size.specs.Names.{is_lawful_const, are_lawful_params, are_lawful_places, is_lawful_readable, is_lawful_scope}
-use Rattle.vidi_bits.proofs.Below.{rest_below}
+use Rattle.vlog_tree.proofs.vidi_bits.Below.{rest_below}
 use Rattle.vlog_size.specs.Size.{of_param, const_width, is_plain_const, const_number, is_past}
 use Rattle.vlog_size.proofs.Fits.{Below, below_none, below_some, wider}
 use Rattle.vlog_size.proofs.Sized.{IsSized}

@@ -2,8 +2,8 @@
 use Rattle.std.proofs.Common.{◌≡◌, ℕ, ◌+◌, ◌*◌, ◌≤◌, ◌<◌, ◌^◌, Bool, true, false, ◌==◌, List, [], ◌∷◌, if◌then◌else◌, arith, None, Some}
 use Rattle.std.proofs.Common.{refl, drop, length, get_or, sym, ap, ◌∙◌, suc, ◌≢◌, drop-cons}
 use Rattle.std.proofs.lemmas.List.{drop_all}
-use Rattle.vidi_bits.proofs.ArithmeticLemmas.{shifted_grows}
-use Rattle.vidi_bits.specs.Limits.{below_top}
+use Rattle.vlog_tree.proofs.vidi_bits.ArithmeticLemmas.{shifted_grows}
+use Rattle.vlog_tree.specs.vidi_bits.Limits.{below_top}
 use Rattle.vlog_size.specs.Literal.{digit, digits_from}
 
 pub step_grows : (base n d : ℕ) (t : Bool) → 1 ≤ base → n ≤ (if t then n else n * base + d)

@@ -2,7 +2,7 @@
 use Rattle.std.proofs.Common.{◌≡◌, ℕ, zero, suc, ◌*◌, ◌≤◌, ◌<◌, ◌^◌, Bool, true, false, ◌&&◌, not, nat_le, min, if◌then◌else◌, List, length}
 use Rattle.std.proofs.Common.{Option, None, Some, refl, ap, sym, ◌∙◌, arith}
 use Rattle.std.proofs.Math.Nat.{mul-le-mul, mul-le-mul_right}
-use Rattle.vidi_bits.specs.Findings.{first, told_if}
+use Rattle.vlog_tree.specs.vidi_bits.Findings.{first, told_if}
 use Rattle.vlog_size.specs.declared.error.SizeError.TheVariants as error
 use Rattle.vlog_size.specs.Limits.{TOP}
 use Rattle.vlog_size.specs.Literal.{is_lawful}

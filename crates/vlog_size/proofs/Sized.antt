@@ -2,16 +2,16 @@
 use Rattle.std.proofs.Common.{◌≡◌, ◌≤◌, ℕ, Bool, true, false, ◌&&◌, ◌||◌, not, max, if◌then◌else◌, Option, None, Some, is_none, [], ◌++◌, refl}
 use Rattle.std.proofs.Common.{◌==◌, arith}
 use Rattle.std.proofs.lemmas.Bool.{and_from}
-use Rattle.vidi_bits.proofs.Bools.{never, left_of, right_of}
-use Rattle.vidi_bits.proofs.FindingLaws.{told_none, both_nil}
-use Rattle.vidi_bits.proofs.Lists.{nil_left, nil_right}
-use Rattle.vidi_bits.specs.Number.{IsWidth}
+use Rattle.vlog_tree.proofs.vidi_bits.Bools.{never, left_of, right_of}
+use Rattle.vlog_tree.proofs.vidi_bits.FindingLaws.{told_none, both_nil}
+use Rattle.vlog_tree.proofs.vidi_bits.Lists.{nil_left, nil_right}
+use Rattle.vlog_tree.specs.vidi_bits.Number.{IsWidth}
 use Rattle.vlog_size.specs.declared.error.SizeError.TheVariants as error
 use Rattle.vlog_size.specs.declared.operators.Kind.{Kind}
 use Rattle.vlog_size.specs.declared.operators.Kind.TheVariants.{Sum, Comparison, Logic, Shift}
 use Rattle.vlog_tree.specs.declared.expr.BinaryOp.{BinaryOp}
 use Rattle.vlog_tree.specs.declared.expr.UnaryOp.{UnaryOp}
-use Rattle.vidi_bits.specs.Findings.{told_if}
+use Rattle.vlog_tree.specs.vidi_bits.Findings.{told_if}
 use Rattle.vlog_size.specs.Literal.{is_lawful}
 use Rattle.vlog_size.specs.Operators.{kind_of, is_plain_op, is_wide, whole_value, binary_value, unary_value}
 use Rattle.vlog_size.specs.Size.{Sizes, own, own_width, at_width, number, is_sound, of_one, of_two, binary_width, operated, compared}

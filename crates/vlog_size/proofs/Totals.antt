@@ -3,10 +3,10 @@ use Rattle.std.proofs.Common.{◌≡◌, ℕ, ◌+◌, ◌*◌, ◌≤◌, ◌<�
 use Rattle.std.proofs.Common.{sym, ◌∙◌}
 use Rattle.vlog_size.specs.declared.error.SizeError.TheVariants as error
 use Rattle.std.proofs.lemmas.Grind.{common_steps}
-use Rattle.vidi_bits.proofs.Bools.{left_of, right_of}
+use Rattle.vlog_tree.proofs.vidi_bits.Bools.{left_of, right_of}
 use Rattle.vlog_size.specs.Limits.{TOP}
 use Rattle.vlog_size.specs.Literal.{is_lawful}
-use Rattle.vidi_bits.specs.Findings.{first, told_if}
+use Rattle.vlog_tree.specs.vidi_bits.Findings.{first, told_if}
 use Rattle.vlog_size.specs.Size.{Sizes, has_width, all_lawful, total_width, sum_fault}
 
 one_lawful : (p : Sizes) (rest : Bool) → (has_width p && rest) ≡ true → p.width ≤ 128

@@ -11,7 +11,7 @@ use Rattle.vlog_size.specs.declared.evaluated.Gathered.{Gathered}
 use Rattle.vlog_size.specs.declared.operators.Kind.{Kind}
 use Rattle.vlog_size.specs.declared.operators.Kind.TheVariants.{Sum, Comparison, Logic, Shift}
 use Rattle.vlog_size.specs.Literal.{is_lawful}
-use Rattle.vidi_bits.specs.Findings.{first, or_first}
+use Rattle.vlog_tree.specs.vidi_bits.Findings.{first, or_first}
 use Rattle.vlog_size.specs.Limits.{TOP}
 use Rattle.vlog_size.specs.Size.{Sizes, number, Bracket, part_width, part_const_faults, part_fault, part_width_faults}
 use Rattle.vlog_size.specs.Size.{at_width, joined, all_constant, all_lawful, total_width, parts_const_faults, parts_width_faults}

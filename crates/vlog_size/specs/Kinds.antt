@@ -5,7 +5,7 @@ use Rattle.vlog_tree.specs.Tree.{ExprOf, UnaryExpr, BinaryExpr, ChoiceExpr, Prim
 use Rattle.vlog_tree.specs.Tree.{RepeatPrim, RefOf}
 use Rattle.vlog_tree.specs.Tree.{RefWith, IndexOf, NoIndex, Index, LastOf, NoLast, Last, SelOf, IndexSel, PartSel, IndexedSel, ExprsOf}
 use Rattle.vlog_tree.specs.Tree.{NoExprs, MoreExprs}
-use Rattle.vidi_bits.specs.Findings.{told_if}
+use Rattle.vlog_tree.specs.vidi_bits.Findings.{told_if}
 
 -- what a name is declared as; the words of a memory are scalars or vectors
 pub data Class : Type 0 where

@@ -4,8 +4,8 @@ use Rattle.std.specs.Prelude.{◌∷◌, Option, Some, None, is_none}
 use Rattle.std.specs.List.{before_first, after_first}
 use Rattle.vlog_tree.specs.declared.expr.NumberKind.{NumberKind}
 use Rattle.vlog_tree.specs.declared.expr.NumberKind.TheVariants.{Decimal, Based}
-use Rattle.vidi_bits.specs.Findings.{is_nil}
-use Rattle.vidi_bits.specs.Limits.{below_top}
+use Rattle.vlog_tree.specs.vidi_bits.Findings.{is_nil}
+use Rattle.vlog_tree.specs.vidi_bits.Limits.{below_top}
 
 -- `0` to `9`, `A` to `F`, `a` to `f`
 abbrev pub digit : ℕ → ℕ

@@ -10,11 +10,11 @@ use Rattle.vlog_tree.specs.declared.expr.BinaryOp.TheVariants.{LogicalOr, Logica
 use Rattle.vlog_tree.specs.declared.expr.BinaryOp.TheVariants.{Equal, NotEqual, Less, LessOrEqual, Greater, GreaterOrEqual}
 use Rattle.vlog_tree.specs.declared.expr.BinaryOp.TheVariants.{ShiftLeft, ShiftRight, ArithmeticShiftLeft, ArithmeticShiftRight}
 use Rattle.vlog_tree.specs.declared.expr.BinaryOp.TheVariants.{Plus, Minus, Times}
-use Rattle.vidi_bits.specs.declared.operators.UnaryOp as flat_unary
-use Rattle.vidi_bits.specs.declared.operators.UnaryOp.TheVariants as flat_unaries
-use Rattle.vidi_bits.specs.declared.operators.BinaryOp as flat_binary
-use Rattle.vidi_bits.specs.declared.operators.BinaryOp.TheVariants as flat_binaries
-use Rattle.vidi_bits.specs.Operators as numbers
+use Rattle.vlog_tree.specs.vidi_bits.declared.operators.UnaryOp as flat_unary
+use Rattle.vlog_tree.specs.vidi_bits.declared.operators.UnaryOp.TheVariants as flat_unaries
+use Rattle.vlog_tree.specs.vidi_bits.declared.operators.BinaryOp as flat_binary
+use Rattle.vlog_tree.specs.vidi_bits.declared.operators.BinaryOp.TheVariants as flat_binaries
+use Rattle.vlog_tree.specs.vidi_bits.Operators as numbers
 
 -- how an operator takes the widths of its operands
 abbrev pub kind_of : BinaryOp → Kind

@@ -16,7 +16,7 @@ use Rattle.vlog_size.specs.declared.error.SizeError.{SizeError}
 use Rattle.vlog_size.specs.declared.error.SizeError.TheVariants as error
 use Rattle.vlog_size.specs.declared.scope.Const.{Const}
 use Rattle.vlog_size.specs.declared.scope.Const.TheVariants as const
-use Rattle.vidi_bits.specs.Findings.{first, told_if}
+use Rattle.vlog_tree.specs.vidi_bits.Findings.{first, told_if}
 use Rattle.vlog_size.specs.Literal.{is_lawful, literal_width, literal_number, is_bad_literal, is_unsized_literal, digits_from}
 use Rattle.vlog_size.specs.declared.names.Meaning.{Meaning}
 use Rattle.vlog_size.specs.declared.names.Meaning.TheVariants.{Parameter, Place, Undeclared}
@@ -24,7 +24,7 @@ use Rattle.vlog_size.specs.declared.operators.Kind.{Kind}
 use Rattle.vlog_size.specs.declared.operators.Kind.TheVariants.{Sum, Comparison, Logic, Shift}
 use Rattle.vlog_size.specs.Names.{Readable, meaning_of, fixed}
 use Rattle.vlog_size.specs.Operators.{kind_of, in_range, whole_value, is_plain_op, is_plain_shift, binary_value, is_wide, unary_value}
-use Rattle.vidi_bits.specs.Number.{side_by_side, repeated}
+use Rattle.vlog_tree.specs.vidi_bits.Number.{side_by_side, repeated}
 
 -- what is said of an expression
 pub record Sizes : Type 0 where

@@ -2,7 +2,7 @@
 
 ghost use Rattle.std.specs.Prelude.{◌≡◌, ◌<◌, ◌^◌, true, Some, IfOk, if◌then◌else◌};
 ghost use Rattle.vlog_tree.specs.Plain.{plain_expr, plain_target};
-ghost use Rattle.vidi_bits.specs.Findings.{Judged};
+ghost use Rattle.vlog_tree.specs.vidi_bits.Findings.{Judged};
 ghost use Rattle.vlog_size.specs.Literal.{is_lawful};
 ghost use Rattle.vlog_size.specs.Names.{readable_of, params_alone, checked, is_lawful_const};
 ghost use Rattle.vlog_size.specs.Size.{Sizes, sizes_of, sizes_of_target, faults, constant_at, constant_of};

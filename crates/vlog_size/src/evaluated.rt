@@ -2,7 +2,7 @@
 
 ghost use Rattle.std.specs.Prelude.{◌≡◌, ◌≤◌, ◌+◌, ◌&&◌, ◌||◌, not, nat_le, [], ◌∷◌, ℕ, List, max, true, Some, None};
 ghost use Rattle.std.specs.Prelude.{if◌then◌else◌};
-ghost use Rattle.vidi_bits.specs.Number.{IsWidth, side_by_side};
+ghost use Rattle.vlog_tree.specs.vidi_bits.Number.{IsWidth, side_by_side};
 ghost use Rattle.vlog_tree.specs.Plain.{plain_number, plain_ref};
 ghost use Rattle.vlog_size.specs.Literal.{is_lawful};
 ghost use Rattle.vlog_size.specs.Names.{readable_in};
@@ -287,7 +287,7 @@ fn repeated_number(count: Option<u32>, width: u128, number: Option<u128>) -> Opt
     let number = number?;
     let product = u128::from(count).checked_mul(width);
     let _whole = lawful_width(product?)?;
-    Some(vidi_bits::times(count, number, width as u32))
+    Some(vlog_tree::vidi_bits::times(count, number, width as u32))
 }
 
 /// What is said of these parts, so many times.

@@ -2,7 +2,7 @@
 
 ghost use Rattle.std.specs.Prelude.{◌≡◌, ◌<◌, ◌^◌, [], ◌∷◌, ℕ, List, min, length, ◌&&◌, not, Some};
 ghost use Rattle.vlog_tree.specs.Tree.{NumberOf};
-ghost use Rattle.vidi_bits.specs.Findings.{first, told_if, or_first};
+ghost use Rattle.vlog_tree.specs.vidi_bits.Findings.{first, told_if, or_first};
 ghost use Rattle.vlog_size.specs.Literal.{is_lawful, literal_width, is_unsized_literal, spelled_number};
 ghost use Rattle.vlog_size.specs.Size.{Sizes, of_number, of_param, of_read, of_sign, of_binary, of_choice, of_paren, of_concat};
 ghost use Rattle.vlog_size.specs.Size.{is_decimal, is_plain_const, decimal_value, is_bad_operator, is_out, of_two, number};
@@ -506,7 +506,7 @@ pub fn no_parts() -> Parts
 }
 
 /// The parts with one more.
-#[tactic(auto, using(crate::proofs::Firsts::first_append, crate::proofs::Firsts::or_first_assoc, vidi_bits::proofs::Bools::and_grouped))]
+#[tactic(auto, using(crate::proofs::Firsts::first_append, crate::proofs::Firsts::or_first_assoc, vlog_tree::vidi_bits::proofs::Bools::and_grouped))]
 pub fn with_part(parts: &Parts, part: &Facts) -> Parts
     ensures { (P : Sizes) (rest all : List Sizes) → ShowsRest parts.now (P ∷ rest) all → Shows part.now P → ShowsRest result rest all }
 {

@@ -1,7 +1,7 @@
 //! What holds of expressions without a fault, as contracts of functions that do nothing.
 
 ghost use Rattle.std.specs.Prelude.{◌≡◌, ◌<◌, ◌^◌, ℕ, true, [], Some};
-ghost use Rattle.vidi_bits.specs.Number.{IsWidth};
+ghost use Rattle.vlog_tree.specs.vidi_bits.Number.{IsWidth};
 ghost use Rattle.vlog_tree.specs.Tree.{ExprOf, TargetOf};
 ghost use Rattle.vlog_size.specs.declared.scope.Const.{Const};
 ghost use Rattle.vlog_size.specs.Literal.{is_lawful};

@@ -1,7 +1,7 @@
 //! The widths and the numbers of literals (IEEE 1364-2005, 3.5.1).
 
 ghost use Rattle.std.specs.Prelude.{◌≡◌, ◌≤◌, ◌+◌, ◌*◌, ◌<◌, ◌^◌, length};
-ghost use Rattle.vidi_bits.specs.Limits.{below_top};
+ghost use Rattle.vlog_tree.specs.vidi_bits.Limits.{below_top};
 ghost use Rattle.vlog_size.specs.Literal.{digit, base_of, digits_from, based_number, size_of};
 ghost use Rattle.vlog_size.specs.Literal.{literal_width, is_unsized_literal, spelled_number, literal_number, is_lawful, is_quote};
 ghost use Rattle.vlog_size.specs.Literal.{is_bad_literal};
@@ -10,8 +10,8 @@ ghost use Rattle.std.specs.List.{position_or_len};
 ghost use Rattle.std.specs.Prelude.{min, List, ℕ};
 ghost use Rattle.vlog_tree.specs.declared.expr.NumberKind.TheVariants.{Based};
 
-use vidi_bits::trim;
 use vlog_tree::NumberKind;
+use vlog_tree::vidi_bits::trim;
 
 /// The number that a digit stands for.
 fn digit(b: u8) -> u8

@@ -1,13 +1,12 @@
 //! The operators of the trees: their kinds, what they stand for, and their numbers.
 
 ghost use Rattle.std.specs.Prelude.{◌≡◌, ◌*◌, ◌^◌};
-ghost use Rattle.vidi_bits.specs.Number.{IsWidth};
+ghost use Rattle.vlog_tree.specs.vidi_bits.Number.{IsWidth};
 ghost use Rattle.vlog_size.specs.Operators.{kind_of, in_range, whole_value, is_plain_op, is_plain_shift, is_wide};
 ghost use Rattle.vlog_size.specs.Operators.{operator_of, unary_operator_of, binary_value, unary_value};
 
-use vidi_bits as operators;
-use vidi_bits::{binary, shl_w, shr_w, unary};
-use vlog_tree::{BinaryOp, UnaryOp};
+use vlog_tree::vidi_bits::{binary, shl_w, shr_w, unary};
+use vlog_tree::{BinaryOp, UnaryOp, vidi_bits as operators};
 
 /// The kinds of binary operators.
 #[derive(Clone, Copy)]

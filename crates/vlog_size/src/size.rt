@@ -2,7 +2,7 @@
 
 ghost use Rattle.std.specs.Prelude.{◌≡◌, ℕ, List, [], ◌∷◌, Some, None};
 ghost use Rattle.vlog_size.specs.declared.error.SizeError.TheVariants as error;
-ghost use Rattle.vidi_bits.specs.Number.{IsWidth};
+ghost use Rattle.vlog_tree.specs.vidi_bits.Number.{IsWidth};
 ghost use Rattle.vlog_tree.specs.Plain.{plain_expr, plain_prim, plain_unary, plain_ref, plain_sel, plain_exprs};
 ghost use Rattle.vlog_tree.specs.Plain.{plain_target, plain_targets};
 ghost use Rattle.vlog_size.specs.Names.{readable_in, meaning_of, fixed};
@@ -26,7 +26,7 @@ use crate::facts::{
 use crate::length::{Side, other_side, shorter_side};
 use crate::names::{Meaning, View, fixed, meaning_of};
 use crate::operators::{Kind, kind_of};
-use vidi_bits::trim;
+use vlog_tree::vidi_bits::trim;
 use vlog_tree::{
     Expr, Operand, Ref, Sel, Target, Unary, see_concat, see_concat_target, see_repeat,
 };

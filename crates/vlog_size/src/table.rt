@@ -7,7 +7,7 @@ ghost use Rattle.vlog_size.specs.Table.{Named, value_of, place_of, added};
 use indexmap::IndexMap;
 use std::alloc::Global;
 use std::marker::Model;
-use vidi_bits::{Memory, Name};
+use vlog_tree::vidi_bits::{Memory, Name};
 
 /// Values by name, which contracts see as the list of the names and values in the order in which
 /// they were added.

@@ -1,7 +1,7 @@
 //! Widths and numbers of constants.
 
 ghost use Rattle.std.specs.Prelude.{◌≡◌, ◌≤◌, ◌+◌, ◌%◌, ◌^◌, Some, None, if◌then◌else◌, IfSome, ℕ};
-ghost use Rattle.vidi_bits.specs.Number.{IsWidth, side_by_side};
+ghost use Rattle.vlog_tree.specs.vidi_bits.Number.{IsWidth, side_by_side};
 ghost use Rattle.vlog_size.specs.Literal.{is_lawful};
 ghost use Rattle.vlog_tree.specs.Plain.{plain_ref};
 ghost use Rattle.vlog_size.specs.Names.{readable_in};
@@ -11,8 +11,8 @@ use crate::literal::is_lawful;
 use crate::names::{Meaning, View, meaning_of};
 use crate::operators::Kind;
 use crate::scope::Const;
-use vidi_bits::trim;
 use vlog_tree::Ref;
+use vlog_tree::vidi_bits::trim;
 
 /// A constant's width. A plain one is 32 bits wide.
 pub fn const_width(value: Const) -> u32
@@ -86,6 +86,6 @@ pub fn join_part(before: u32, v: u32, high: u128, low: u128) -> u128
     if before == 0 {
         trim(low, v)
     } else {
-        vidi_bits::joined(high, low, before, v)
+        vlog_tree::vidi_bits::joined(high, low, before, v)
     }
 }

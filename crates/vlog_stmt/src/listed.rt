@@ -6,10 +6,10 @@ ghost use Rattle.vlog_expr.specs.Reader.{Read, more_at, some_at};
 ghost use Rattle.vlog_expr.specs.Given.{Gives};
 
 use std::alloc::Global;
-use vidi_bits::Items;
+use vlog_expr::vidi_bits::Items;
+use vlog_expr::vlog_lex::Token;
+use vlog_expr::vlog_tree::Terminal;
 use vlog_expr::{Parsed, Unread, after};
-use vlog_lex::Token;
-use vlog_tree::Terminal;
 
 /// The reader of what stands in one kind of list with commas.
 pub trait ListReader<T> {

@@ -1,6 +1,6 @@
 //! Expressions as trees (IEEE 1364-2005, 5 and A.8).
 
-use vidi_bits::{Items, Name};
+use vlog_lex::vidi_bits::{Items, Name};
 
 /// A name where it is used or declared (the grammar's `id`).
 #[derive(Drop)]

@@ -33,3 +33,5 @@ pub use module::{
 };
 pub use stmt::{Arm, Arms, AssignOp, Body, MOST_NESTED, Stmt, Stmts, Target, Targets};
 pub use terminal::Terminal;
+pub use vlog_lex;
+pub use vlog_lex::vidi_bits;

@@ -2,7 +2,7 @@
 
 use crate::expr::{Expr, Ident};
 use crate::stmt::{Body, Target};
-use vidi_bits::{Items, Name};
+use vlog_lex::vidi_bits::{Items, Name};
 
 /// A design text: its modules, in their order.
 pub struct File {

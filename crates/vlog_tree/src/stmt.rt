@@ -1,7 +1,7 @@
 //! Targets and statements as trees (IEEE 1364-2005, A.6 and A.8.5).
 
 use crate::expr::{Expr, Exprs, Ref};
-use vidi_bits::Items;
+use vlog_lex::vidi_bits::Items;
 
 /// The statements within one another that the stack has room for. The limits of a design text allow more, of which want of memory is
 /// answered.

@@ -10,8 +10,8 @@ use crate::names::{Names, names_in};
 use crate::notes::Noted;
 use crate::tables::entry_of;
 use report_text::Draft;
+use report_text::vidi_io::{Shelf, Text};
 use std::alloc::Global;
-use vidi_io::{Shelf, Text};
 
 /// What a word asks for.
 #[derive(Clone, Copy)]

@@ -1,15 +1,15 @@
 //! Why the words of a case have no text.
 
 use report_text::Reason;
+use report_text::vidi_io::ReadError;
+use report_text::vidi_lines::LineError;
 use std::alloc::{AllocError, AllocFailed};
-use vidi_bits::Memory;
-use vidi_io::ReadError;
-use vidi_lines::LineError;
-use vlog_expr::Unread;
 use vlog_latch::BlockError;
-use vlog_lex::LexError;
-use vlog_parse::ParseError;
-use vlog_size::SizeError;
+use vlog_latch::vlog_size::SizeError;
+use vlog_print::vidi_bits::Memory;
+use vlog_print::vlog_expr::Unread;
+use vlog_print::vlog_lex::LexError;
+use vlog_print::vlog_parse::ParseError;
 
 /// Why the words of a case have no text.
 #[derive(Drop)]

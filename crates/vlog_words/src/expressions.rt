@@ -1,21 +1,21 @@
 //! The words on expressions and targets: their widths, faults and numbers.
 
 ghost use Rattle.std.specs.Prelude.{IfOk};
-ghost use Rattle.vidi_bits.specs.Number.{IsWidth};
+ghost use Rattle.vlog_print.specs.vidi_bits.Number.{IsWidth};
 
 use crate::ended::Ended;
 use crate::names::Names;
 use crate::texts::{expression_of, target_of_words};
 use net_reference::value_of;
+use report_text::vidi_io::Text;
 use report_text::{Draft, Page, print_number};
 use std::alloc::Global;
-use vidi_io::Text;
-use vlog_block::bind_expr;
-use vlog_size::{
+use vlog_latch::vlog_block::bind_expr;
+use vlog_latch::vlog_size::{
     Const, Facts, Numbered, Scope, assigned_number, constant, facts_of, fixed, numbered,
     target_facts, target_width, whole_view, width,
 };
-use vlog_tree::{Expr, Target};
+use vlog_print::vlog_tree::{Expr, Target};
 
 /// What a word asks for of an expression.
 #[derive(Clone, Copy)]

@@ -17,5 +17,8 @@ mod texts;
 
 pub use answers::answer;
 pub use ended::Ended;
+pub use net_reference;
+pub use report_text;
+pub use report_text::{vidi_io, vidi_lines};
 pub use tables::entry_of;
 pub use texts::{lines_in, number_in, tree_in};

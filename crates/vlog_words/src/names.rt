@@ -3,12 +3,12 @@
 use crate::ended::Ended;
 use crate::tables::entry_of;
 use crate::texts::{lines_in, number_in};
-use net_design::Values;
+use net_reference::net_design::Values;
+use report_text::vidi_io::Shelf;
+use report_text::vidi_lines::Line;
 use std::alloc::Global;
-use vidi_bits::{Items, Name, copied};
-use vidi_io::Shelf;
-use vidi_lines::Line;
-use vlog_size::{Const, Param, Scope, ScopeMemory, ScopeNet, Table};
+use vlog_latch::vlog_size::{Const, Param, Scope, ScopeMemory, ScopeNet, Table};
+use vlog_print::vidi_bits::{Items, Name, copied};
 
 /// The most words of a memory.
 const MOST_WORDS: u32 = 65_536;

@@ -3,23 +3,23 @@ use Rattle.std.proofs.Common.{◌≡◌, ℕ, ◌≤◌, ◌+◌, Bool, true, fa
 use Rattle.std.proofs.Common.{suc, refl, ap, sym, subst, arith}
 use Rattle.std.specs.List.{AllZip, AllByRecursion}
 use Rattle.std.specs.Str.{bytes_eq}
-use Rattle.vlog_tree.specs.Shape.{IsGood}
-use Rattle.vidi_bits.specs.Number.{IsWidth}
-use Rattle.vlog_tree.specs.Tree.{FileOf, ModuleOf}
-use Rattle.vlog_hierarchy.specs.Outlines.{place_from}
-use Rattle.trace_model.specs.declared.channel.Channel.{Channel}
-use Rattle.net_design.specs.declared.design.Design.{Design}
-use Rattle.net_design.specs.declared.design.Port.{Port}
-use Rattle.net_design.specs.Lawful.{IsLawful}
-use Rattle.run_model.proofs.PinLemmas.{all-at}
-use Rattle.chan_map.specs.declared.pins.Map.{Map}
-use Rattle.chan_map.specs.declared.pins.Plug.{Plug}
-use Rattle.chan_map.specs.declared.pins.Tie.{Tie}
-use Rattle.chan_map.specs.declared.text.MapText.{MapText}
-use Rattle.chan_map.specs.Bound.{IsPlug, IsTie}
-use Rattle.chan_map.specs.Ports.{HaveWidths}
-use Rattle.shim_trees.specs.Laws.{IsMapIn}
-use Rattle.shim_trees.specs.Wrapped.{module_named}
+use Rattle.vlog_print.specs.vlog_tree.Shape.{IsGood}
+use Rattle.vlog_print.specs.vidi_bits.Number.{IsWidth}
+use Rattle.vlog_print.specs.vlog_tree.Tree.{FileOf, ModuleOf}
+use Rattle.vidi_bench.specs.vlog_hierarchy.Outlines.{place_from}
+use Rattle.shim_gen.specs.trace_model.declared.channel.Channel.{Channel}
+use Rattle.vidi_bench.specs.net_design.declared.design.Design.{Design}
+use Rattle.vidi_bench.specs.net_design.declared.design.Port.{Port}
+use Rattle.vidi_bench.specs.net_design.Lawful.{IsLawful}
+use Rattle.vidi_bench.proofs.run_model.PinLemmas.{all-at}
+use Rattle.shim_gen.specs.chan_map.declared.pins.Map.{Map}
+use Rattle.shim_gen.specs.chan_map.declared.pins.Plug.{Plug}
+use Rattle.shim_gen.specs.chan_map.declared.pins.Tie.{Tie}
+use Rattle.shim_gen.specs.chan_map.declared.text.MapText.{MapText}
+use Rattle.shim_gen.specs.chan_map.Bound.{IsPlug, IsTie}
+use Rattle.shim_gen.specs.chan_map.Ports.{HaveWidths}
+use Rattle.shim_gen.specs.shim_trees.Laws.{IsMapIn}
+use Rattle.shim_gen.specs.shim_trees.Wrapped.{module_named}
 use Rattle.vidi_bench.specs.Design.{Spells}
 use Rattle.wrap_command.specs.Wraps.{IsFitted}
 

@@ -1,17 +1,17 @@
 -- The command `wrap`: no failed write among its answers, and the same where no read failed.
 use Rattle.std.proofs.Common.{ℕ, List, Option, length, inl, inr}
-use Rattle.vlog_tree.specs.Tree.{FileOf}
-use Rattle.chan_map.specs.declared.pins.Map.{Map}
-use Rattle.chan_map.specs.declared.text.MapText.{MapText}
-use Rattle.chan_map.specs.Bound.{BindsMap}
-use Rattle.chan_map.specs.Text.{ReadsMap}
+use Rattle.vlog_print.specs.vlog_tree.Tree.{FileOf}
+use Rattle.shim_gen.specs.chan_map.declared.pins.Map.{Map}
+use Rattle.shim_gen.specs.chan_map.declared.text.MapText.{MapText}
+use Rattle.shim_gen.specs.chan_map.Bound.{BindsMap}
+use Rattle.shim_gen.specs.chan_map.Text.{ReadsMap}
 use Rattle.std.specs.Prelude.{Ok}
-use Rattle.vidi_io.specs.Shelf.{Files}
-use Rattle.shim_trees.specs.RecordTop.{record_name}
-use Rattle.shim_trees.specs.ReplayTop.{replay_name}
-use Rattle.shim_trees.specs.Wrapped.{wrapped}
-use Rattle.report_text.specs.declared.reason.Word.TheVariants as words
-use Rattle.report_text.specs.declared.reason.Reason.TheVariants as reasons
+use Rattle.vidi_bench.specs.vidi_io.Shelf.{Files}
+use Rattle.shim_gen.specs.shim_trees.RecordTop.{record_name}
+use Rattle.shim_gen.specs.shim_trees.ReplayTop.{replay_name}
+use Rattle.shim_gen.specs.shim_trees.Wrapped.{wrapped}
+use Rattle.vidi_bench.specs.report_text.declared.reason.Word.TheVariants as words
+use Rattle.vidi_bench.specs.report_text.declared.reason.Reason.TheVariants as reasons
 use Rattle.vidi_bench.specs.declared.status.Status.{Status}
 use Rattle.vidi_bench.specs.declared.status.Status.TheVariants.{Done, WriteFault}
 use Rattle.vidi_bench.specs.Design.{text_limit, Building}

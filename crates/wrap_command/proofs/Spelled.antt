@@ -1,19 +1,19 @@
 -- A tree of good shape whose tokens pass no limit is, lines aside, the file of its own tokens.
 use Rattle.std.proofs.Common.{◌≡◌, ℕ, ◌≤◌, List, [], ◌∷◌, Result, Ok, Err, length, map, inl, inr, refl, sym, ap, subst, ◌∙◌}
 use Rattle.std.specs.Prelude.{IfOk}
-use Rattle.vlog_lex.specs.declared.token.Token.{Token}
-use Rattle.vlog_tree.specs.Tree.{FileOf}
-use Rattle.vlog_tree.specs.Lines.{bare}
-use Rattle.vlog_tree.specs.Shape.{IsGood}
-use Rattle.vlog_tree.specs.Spelling.{toks}
-use Rattle.vlog_tree.proofs.Marks.{toks_bare}
-use Rattle.vlog_parse.specs.Marks.{all_marked}
-use Rattle.vlog_parse.specs.Depth.{IsShallow}
-use Rattle.vlog_parse.specs.Parsing.{IsFileOf, Refuses}
-use Rattle.vlog_parse.specs.declared.error.ParseError.TheVariants.{Item}
+use Rattle.vlog_print.specs.vlog_lex.declared.token.Token.{Token}
+use Rattle.vlog_print.specs.vlog_tree.Tree.{FileOf}
+use Rattle.vlog_print.specs.vlog_tree.Lines.{bare}
+use Rattle.vlog_print.specs.vlog_tree.Shape.{IsGood}
+use Rattle.vlog_print.specs.vlog_tree.Spelling.{toks}
+use Rattle.vlog_print.proofs.vlog_tree.Marks.{toks_bare}
+use Rattle.vlog_print.specs.vlog_parse.Marks.{all_marked}
+use Rattle.vlog_print.specs.vlog_parse.Depth.{IsShallow}
+use Rattle.vlog_print.specs.vlog_parse.Parsing.{IsFileOf, Refuses}
+use Rattle.vlog_print.specs.vlog_parse.declared.error.ParseError.TheVariants.{Item}
 use Rattle.vlog_print.specs.Printed.{IsTextOf, PrintedIsRead, PrintedIsSpelled}
-use Rattle.chan_map.specs.declared.pins.Map.{Map}
-use Rattle.shim_trees.specs.Wrapped.{reserved_names, wrapped}
+use Rattle.shim_gen.specs.chan_map.declared.pins.Map.{Map}
+use Rattle.shim_gen.specs.shim_trees.Wrapped.{reserved_names, wrapped}
 use Rattle.vidi_bench.specs.declared.answer.Ended.{Ended}
 use Rattle.vidi_bench.specs.Design.{text_limit}
 use Rattle.wrap_command.specs.Shims.{file_text, IsClearTree, IsFaultyTree, IsLong, IsReadAs, IsUnwrapped, IsWrapped}

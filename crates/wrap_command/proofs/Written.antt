@@ -1,14 +1,14 @@
 -- From the texts of a design and a map, and from the wrapped tree, to the answer of `wrap`.
 use Rattle.std.proofs.Common.{◌≡◌, ℕ, List, Option, Result, Ok, Err, length, inl, inr, ap, subst, ◌∙◌}
 use Rattle.std.specs.Prelude.{IfOk, IfErr}
-use Rattle.vlog_tree.specs.Tree.{FileOf}
-use Rattle.vidi_io.specs.Shelf.{Files, holding}
-use Rattle.vidi_io.specs.Writing.{IsCutOff}
-use Rattle.vidi_io.proofs.Cut.{cut-knowing}
-use Rattle.chan_map.specs.declared.pins.Map.{Map}
-use Rattle.chan_map.specs.declared.text.MapText.{MapText}
-use Rattle.chan_map.specs.Text.{ReadsMap}
-use Rattle.shim_trees.specs.Wrapped.{wrapped}
+use Rattle.vlog_print.specs.vlog_tree.Tree.{FileOf}
+use Rattle.vidi_bench.specs.vidi_io.Shelf.{Files, holding}
+use Rattle.vidi_bench.specs.vidi_io.Writing.{IsCutOff}
+use Rattle.vidi_bench.proofs.vidi_io.Cut.{cut-knowing}
+use Rattle.shim_gen.specs.chan_map.declared.pins.Map.{Map}
+use Rattle.shim_gen.specs.chan_map.declared.text.MapText.{MapText}
+use Rattle.shim_gen.specs.chan_map.Text.{ReadsMap}
+use Rattle.shim_gen.specs.shim_trees.Wrapped.{wrapped}
 use Rattle.vidi_bench.specs.declared.answer.Answer.{Answer}
 use Rattle.vidi_bench.specs.declared.answer.Ended.{Ended}
 use Rattle.vidi_bench.specs.declared.answer.Ended.TheVariants as ends

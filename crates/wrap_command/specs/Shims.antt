@@ -1,27 +1,27 @@
 -- Why a file and the map of its design can't be wrapped: a name that is kept for shims, a reason that holds of the wrapped tree, or its
 -- length (this project's profile).
 use Rattle.std.specs.Prelude.{◌≡◌, ℕ, ◌≤◌, ◌<◌, ◌⊎◌, List, [], Some, length}
-use Rattle.vidi_bits.specs.Findings.{first}
-use Rattle.vlog_lex.specs.declared.token.Token.{Token}
-use Rattle.vlog_lex.specs.Reading.{HasTokens}
-use Rattle.vlog_tree.specs.Tree.{FileOf}
-use Rattle.vlog_tree.specs.Lines.{bare}
-use Rattle.vlog_tree.specs.Spelling.{toks}
-use Rattle.vlog_parse.specs.Marks.{all_marked}
-use Rattle.vlog_parse.specs.Depth.{IsDeep, IsShallow}
-use Rattle.vlog_parse.specs.Parsing.{IsFileOf}
+use Rattle.vlog_print.specs.vidi_bits.Findings.{first}
+use Rattle.vlog_print.specs.vlog_lex.declared.token.Token.{Token}
+use Rattle.vlog_print.specs.vlog_lex.Reading.{HasTokens}
+use Rattle.vlog_print.specs.vlog_tree.Tree.{FileOf}
+use Rattle.vlog_print.specs.vlog_tree.Lines.{bare}
+use Rattle.vlog_print.specs.vlog_tree.Spelling.{toks}
+use Rattle.vlog_print.specs.vlog_parse.Marks.{all_marked}
+use Rattle.vlog_print.specs.vlog_parse.Depth.{IsDeep, IsShallow}
+use Rattle.vlog_print.specs.vlog_parse.Parsing.{IsFileOf}
 use Rattle.vlog_print.specs.Printed.{printed}
-use Rattle.vlog_elab.specs.declared.error.ElabError.{ElabError}
-use Rattle.vlog_elab.specs.Errors.{number_of}
-use Rattle.vlog_design.specs.Reasons.{Refused}
-use Rattle.net_design.specs.declared.design.Design.{Design}
-use Rattle.net_order.specs.Order.{IsOrder, IsLoop}
-use Rattle.chan_map.specs.declared.pins.Map.{Map}
-use Rattle.shim_trees.specs.RecordTop.{record_name}
-use Rattle.shim_trees.specs.ReplayTop.{replay_name}
-use Rattle.shim_trees.specs.Wrapped.{reserved_names, wrapped}
-use Rattle.report_text.specs.declared.reason.Word.TheVariants as words
-use Rattle.report_text.specs.declared.reason.Reason.TheVariants as reasons
+use Rattle.vidi_bench.specs.vlog_elab.declared.error.ElabError.{ElabError}
+use Rattle.vidi_bench.specs.vlog_elab.Errors.{number_of}
+use Rattle.vidi_bench.specs.vlog_design.Reasons.{Refused}
+use Rattle.vidi_bench.specs.net_design.declared.design.Design.{Design}
+use Rattle.vidi_bench.specs.net_order.Order.{IsOrder, IsLoop}
+use Rattle.shim_gen.specs.chan_map.declared.pins.Map.{Map}
+use Rattle.shim_gen.specs.shim_trees.RecordTop.{record_name}
+use Rattle.shim_gen.specs.shim_trees.ReplayTop.{replay_name}
+use Rattle.shim_gen.specs.shim_trees.Wrapped.{reserved_names, wrapped}
+use Rattle.vidi_bench.specs.report_text.declared.reason.Word.TheVariants as words
+use Rattle.vidi_bench.specs.report_text.declared.reason.Reason.TheVariants as reasons
 use Rattle.vidi_bench.specs.Design.{text_limit, IsAccepted}
 use Rattle.vidi_bench.specs.Steps.{Ending, IsRefusal}
 

@@ -1,16 +1,16 @@
 -- What `wrap DESIGN MAP OUT` owes: each step of it in its order, and what is left in OUT.
 use Rattle.std.specs.Prelude.{◌≡◌, ℕ, ◌⊎◌, List, Option, Ok, length}
-use Rattle.vidi_io.specs.Shelf.{Files, holding}
-use Rattle.vidi_io.specs.Writing.{IsCutOff}
-use Rattle.vlog_tree.specs.Tree.{FileOf}
-use Rattle.net_design.specs.declared.design.Design.{Design}
-use Rattle.net_order.specs.Order.{IsOrder}
-use Rattle.chan_map.specs.declared.text.MapText.{MapText}
-use Rattle.chan_map.specs.declared.pins.Map.{Map}
-use Rattle.chan_map.specs.Text.{ReadsMap}
-use Rattle.chan_map.specs.Bound.{BindsMap}
-use Rattle.shim_trees.specs.Wrapped.{wrapped}
-use Rattle.report_text.specs.declared.reason.Word.TheVariants as words
+use Rattle.vidi_bench.specs.vidi_io.Shelf.{Files, holding}
+use Rattle.vidi_bench.specs.vidi_io.Writing.{IsCutOff}
+use Rattle.vlog_print.specs.vlog_tree.Tree.{FileOf}
+use Rattle.vidi_bench.specs.net_design.declared.design.Design.{Design}
+use Rattle.vidi_bench.specs.net_order.Order.{IsOrder}
+use Rattle.shim_gen.specs.chan_map.declared.text.MapText.{MapText}
+use Rattle.shim_gen.specs.chan_map.declared.pins.Map.{Map}
+use Rattle.shim_gen.specs.chan_map.Text.{ReadsMap}
+use Rattle.shim_gen.specs.chan_map.Bound.{BindsMap}
+use Rattle.shim_gen.specs.shim_trees.Wrapped.{wrapped}
+use Rattle.vidi_bench.specs.report_text.declared.reason.Word.TheVariants as words
 use Rattle.vidi_bench.specs.declared.status.Status.{Status}
 use Rattle.vidi_bench.specs.declared.status.Status.TheVariants.{Done}
 use Rattle.vidi_bench.specs.Design.{text_limit, IsAccepted, Spelling, Spells}

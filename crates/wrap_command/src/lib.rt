@@ -4,4 +4,8 @@
 mod shims;
 mod wrapping;
 
+pub use shim_gen::{chan_map, vidi_lines};
+pub use vidi_bench;
+pub use vidi_bench::{net_order, run_model, vidi_io, vlog_design};
+pub use vlog_print::{vidi_bits, vlog_lex, vlog_parse};
 pub use wrapping::wrap;

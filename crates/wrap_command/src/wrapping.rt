@@ -1,11 +1,11 @@
 //! The command `wrap`.
 
 ghost use Rattle.std.specs.Prelude.{◌≡◌, ◌≤◌, Ok, IfOk, IfErr, length};
-ghost use Rattle.vidi_io.specs.Cause.{Rose};
-ghost use Rattle.vidi_io.specs.Shelf.{Later, holding};
-ghost use Rattle.vidi_io.specs.Writing.{IsCutOff};
-ghost use Rattle.vlog_tree.specs.Plain.{plain};
-ghost use Rattle.shim_trees.specs.Laws.{IsMapIn};
+ghost use Rattle.vidi_bench.specs.vidi_io.Cause.{Rose};
+ghost use Rattle.vidi_bench.specs.vidi_io.Shelf.{Later, holding};
+ghost use Rattle.vidi_bench.specs.vidi_io.Writing.{IsCutOff};
+ghost use Rattle.vlog_print.specs.vlog_tree.Plain.{plain};
+ghost use Rattle.shim_gen.specs.shim_trees.Laws.{IsMapIn};
 ghost use Rattle.vidi_bench.specs.AnswerText.{text_of};
 ghost use Rattle.vidi_bench.specs.Design.{text_limit, Building};
 ghost use Rattle.vidi_bench.specs.Devices.{Binding};
@@ -15,16 +15,16 @@ ghost use Rattle.vidi_bench.specs.Steps.{IsSaid, Never};
 ghost use Rattle.wrap_command.specs.Wraps.{IsFitted, IsPlanned, IsPlannedTexts, IsUnwritten, RefusedWrap, StopsWrapping, Wraps};
 
 use crate::shims::wrapped_text;
-use chan_map::{Map, MapText, lawful_ports_have_widths};
-use report_text::{put, put_number};
+use shim_gen::chan_map::{Map, MapText, lawful_ports_have_widths};
 use std::alloc::Global;
+use vidi_bench::report_text::{put, put_number};
+use vidi_bench::vidi_io::{Failed, Shelf, write_whole};
 use vidi_bench::{
     Answer, Device, Ended, Status, TEXT_LIMIT, Word, built, file_of, map_text_of, read_file,
     with_bytes,
 };
-use vidi_bits::{Bytes, Memory};
-use vidi_io::{Failed, Shelf, write_whole};
-use vlog_tree::File;
+use vlog_print::vidi_bits::{Bytes, Memory};
+use vlog_print::vlog_tree::File;
 
 /// What is written: the text of a wrapped design, and how many channels its map has.
 #[derive(Drop)]

@@ -1,5 +1,5 @@
 use Rattle.std.proofs.Common.{◌+◌}
-use Rattle.trace_model.specs.Packet.{count}
+use Rattle.trace_code.specs.trace_model.Packet.{count}
 use Rattle.trace_seconds.proofs.Ends.{goes-on}
 use Rattle.trace_seconds.proofs.steps_of.Goals as goal
 

@@ -1,10 +1,10 @@
 use Rattle.std.proofs.Common.{ℕ, List, length, ap, sym, subst, ◌∙◌}
-use Rattle.run_model.specs.Offers.{AreZeroWhileDown}
-use Rattle.trace_model.specs.declared.channel.Channel.{Channel}
-use Rattle.trace_model.specs.declared.row.Offers.{Offers}
-use Rattle.trace_model.specs.Row.{all_widths, AreOffers}
-use Rattle.trace_model.proofs.ContentsLemmas.{fit-length}
-use Rattle.run_model.specs.Played.{all_up}
+use Rattle.chan_monitor.specs.run_model.Offers.{AreZeroWhileDown}
+use Rattle.env_script.specs.trace_model.declared.channel.Channel.{Channel}
+use Rattle.env_script.specs.trace_model.declared.row.Offers.{Offers}
+use Rattle.env_script.specs.trace_model.Row.{all_widths, AreOffers}
+use Rattle.env_script.proofs.trace_model.ContentsLemmas.{fit-length}
+use Rattle.chan_monitor.specs.run_model.Played.{all_up}
 use Rattle.chan_monitor.specs.Shell.{IsShown}
 use Rattle.env_script.specs.Offered.{offers_on, AllFit}
 use Rattle.env_script.proofs.OfferLaws.{are-offers, are-zero}

@@ -1,12 +1,12 @@
 use Rattle.std.proofs.Common.{◌+◌, ◌++◌, ◌∷◌, [], Option, None, Some, List, length, refl, ap, sym, subst, ◌∙◌, arith}
 use Rattle.std.proofs.lemmas.List.{length-replicate, length_push}
-use Rattle.vidi_bits.proofs.Results.{on_err}
-use Rattle.trace_model.specs.declared.channel.Channel.{Channel}
-use Rattle.trace_model.specs.declared.row.Offers.{Offers}
-use Rattle.trace_model.specs.declared.row.Row.{Row}
-use Rattle.trace_model.specs.Row.{row_before, IsOver}
-use Rattle.net_design.specs.declared.design.Design.{Design}
-use Rattle.net_design.specs.declared.values.Values.{Values}
+use Rattle.chan_monitor.proofs.vidi_bits.Results.{on_err}
+use Rattle.env_script.specs.trace_model.declared.channel.Channel.{Channel}
+use Rattle.env_script.specs.trace_model.declared.row.Offers.{Offers}
+use Rattle.env_script.specs.trace_model.declared.row.Row.{Row}
+use Rattle.env_script.specs.trace_model.Row.{row_before, IsOver}
+use Rattle.chan_monitor.specs.net_design.declared.design.Design.{Design}
+use Rattle.chan_monitor.specs.net_design.declared.values.Values.{Values}
 use Rattle.bench_run.specs.Plain.{IsBreak, StandsWithin}
 use Rattle.bench_run.proofs.Growing.{breaks, carries-now, ends, fits-now, goes-on, going-first, going-on, offers-now, rows-over}
 use Rattle.bench_run.proofs.Growing.{shown-of, stands-within}

@@ -1,7 +1,7 @@
 use Rattle.std.proofs.Common.{◌≡◌, ◌≤◌, ℕ, List, take, drop, nat_eq}
 use Rattle.std.specs.Prelude.{count_by}
 use Rattle.std.specs.Cmp.Lexicographic.{pointwise}
-use Rattle.vidi_bits.specs.Findings.{or_first}
+use Rattle.vidi_lines.specs.vidi_bits.Findings.{or_first}
 use Rattle.indexmap.specs.IndexMap.{get_by}
 use Rattle.net_design.specs.declared.design.Port.{Port}
 use Rattle.net_design.specs.declared.design.Direction.TheVariants.{Input, Output}

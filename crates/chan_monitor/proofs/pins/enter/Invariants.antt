@@ -1,5 +1,5 @@
 use Rattle.std.proofs.Common.{◌≡◌, drop, take, length}
-use Rattle.trace_model.specs.Row.{all_widths}
+use Rattle.run_model.specs.trace_model.Row.{all_widths}
 use Rattle.run_model.specs.Pins.{inputs_from}
 use Rattle.chan_monitor.specs.Entering.{write, offered}
 use Rattle.chan_monitor.proofs.pins.enter.Given as goal

@@ -1,6 +1,6 @@
 use Rattle.std.proofs.Common.{◌≡◌, ℕ, drop, map}
 use Rattle.std.specs.List.{enumerate_from}
-use Rattle.chan_map.specs.declared.pins.Pin.{Pin}
+use Rattle.run_model.specs.chan_map.declared.pins.Pin.{Pin}
 use Rattle.run_model.specs.Pins.{pin_number, shown_number}
 use Rattle.chan_monitor.specs.Entering.{write, content_inputs}
 use Rattle.chan_monitor.proofs.pins.enter_contents.Given as goal

@@ -1,5 +1,5 @@
 use Rattle.std.proofs.Common.{◌≡◌, ℕ, ◌<◌, false, slice_index_or}
-use Rattle.vidi_bits.specs.Number.{has}
+use Rattle.run_model.specs.vidi_bits.Number.{has}
 use Rattle.chan_monitor.specs.Passing.{stays}
 use Rattle.chan_monitor.proofs.rows.commit.Given as goal
 

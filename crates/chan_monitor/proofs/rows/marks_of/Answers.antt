@@ -1,5 +1,5 @@
 use Rattle.std.proofs.Common.{◌<◌, ◌^◌, ◌&&◌, false, not, slice_index_or, subst, sym}
-use Rattle.vidi_bits.specs.Number.{has}
+use Rattle.run_model.specs.vidi_bits.Number.{has}
 use Rattle.run_model.proofs.Contents.{mask-below, mask-more}
 use Rattle.chan_monitor.proofs.Filling.{start-is, end-is}
 use Rattle.chan_monitor.proofs.rows.marks_of.Goals as goal

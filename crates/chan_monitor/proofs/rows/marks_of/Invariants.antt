@@ -1,5 +1,5 @@
 use Rattle.std.proofs.Common.{◌≡◌, ◌&&◌, false, not, slice_index_or}
-use Rattle.vidi_bits.specs.Number.{has}
+use Rattle.run_model.specs.vidi_bits.Number.{has}
 use Rattle.run_model.specs.Building.{ends_of, mask_of}
 use Rattle.chan_monitor.proofs.rows.marks_of.Given as goal
 

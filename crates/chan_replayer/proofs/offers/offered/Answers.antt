@@ -1,7 +1,7 @@
 use Rattle.std.proofs.Common.{◌≡◌, ℕ, true, get_or, length, sym, subst}
 use Rattle.std.specs.Prelude.{◌↔◌}
-use Rattle.trace_model.specs.declared.channel.Channel.{Channel}
-use Rattle.trace_model.specs.declared.channel.Dir.TheVariants.{Inward, Outward}
+use Rattle.vec_clock.specs.trace_model.declared.channel.Channel.{Channel}
+use Rattle.vec_clock.specs.trace_model.declared.channel.Dir.TheVariants.{Inward, Outward}
 use Rattle.chan_replayer.specs.Feed.{IsUp}
 use Rattle.chan_replayer.proofs.FedOffers.{all-marked, marked-more, marked-none, named-there, up-of}
 use Rattle.chan_replayer.proofs.offers.offered.Goals as goal

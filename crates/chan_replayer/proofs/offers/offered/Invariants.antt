@@ -1,5 +1,5 @@
 use Rattle.std.proofs.Common.{get_or, length}
-use Rattle.trace_model.specs.declared.channel.Dir.TheVariants.{Inward, Outward}
+use Rattle.vec_clock.specs.trace_model.declared.channel.Dir.TheVariants.{Inward, Outward}
 use Rattle.chan_replayer.specs.Feed.{IsUp}
 use Rattle.chan_replayer.proofs.FedOffers.{AreMarked}
 use Rattle.chan_replayer.proofs.offers.offered.Given as goal

@@ -1,5 +1,5 @@
 use Rattle.std.proofs.Common.{◌≡◌}
-use Rattle.trace_model.specs.Row.{replaced}
+use Rattle.run_model.specs.trace_model.Row.{replaced}
 use Rattle.env_script.specs.Offered.{port_numbers}
 use Rattle.env_script.proofs.offers.fill_content.Given as goal
 

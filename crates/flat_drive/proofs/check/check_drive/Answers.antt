@@ -1,8 +1,8 @@
 use Rattle.std.proofs.Common.{List, sym, subst, ◌∙◌}
-use Rattle.vlog_elab.specs.declared.error.ElabError.{ElabError}
-use Rattle.vlog_elab.specs.Plain.{plain_instances}
-use Rattle.vidi_bits.specs.Findings.{IsFirst}
-use Rattle.vlog_elab.specs.Told.{elab_told}
+use Rattle.flat_parts.specs.vlog_elab.declared.error.ElabError.{ElabError}
+use Rattle.flat_parts.specs.vlog_elab.Plain.{plain_instances}
+use Rattle.flat_parts.specs.vidi_bits.Findings.{IsFirst}
+use Rattle.flat_parts.specs.vlog_elab.Told.{elab_told}
 use Rattle.flat_drive.proofs.Judging.{found, not_found}
 use Rattle.flat_drive.proofs.Told.{all_told}
 use Rattle.flat_drive.proofs.check.check_drive.Goals as goal

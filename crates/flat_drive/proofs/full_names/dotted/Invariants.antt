@@ -1,5 +1,5 @@
 use Rattle.std.proofs.Common.{◌≡◌, ◌++◌, drop}
-use Rattle.vlog_hierarchy.specs.Plain.{plain_path}
+use Rattle.flat_parts.specs.vlog_hierarchy.Plain.{plain_path}
 use Rattle.flat_drive.specs.Reasons.{dotted}
 use Rattle.flat_drive.proofs.full_names.dotted.Given as goal
 

@@ -1,7 +1,7 @@
 use Rattle.std.proofs.Common.{◌≡◌, sym, ap, ◌∙◌}
 use Rattle.std.proofs.lemmas.Result.{IfOk-weaker}
-use Rattle.vlog_hierarchy.specs.Plain.{plain_path}
-use Rattle.vlog_elab.specs.Plain.{plain_instances}
+use Rattle.flat_parts.specs.vlog_hierarchy.Plain.{plain_path}
+use Rattle.flat_parts.specs.vlog_elab.Plain.{plain_instances}
 use Rattle.flat_drive.specs.Reasons.{dotted_all, instance_memories, memory_texts, text_at}
 use Rattle.flat_drive.proofs.Places.{text_here, text_later, text_none, long, all_memory_texts}
 use Rattle.flat_drive.proofs.full_names.memory_name.Goals as goal

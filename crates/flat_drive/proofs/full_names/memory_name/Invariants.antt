@@ -1,6 +1,6 @@
 use Rattle.std.proofs.Common.{◌≡◌, drop}
 use Rattle.std.specs.List.{flat_map}
-use Rattle.vlog_elab.specs.Plain.{plain_instances}
+use Rattle.flat_parts.specs.vlog_elab.Plain.{plain_instances}
 use Rattle.flat_drive.specs.Reasons.{instance_memories, text_at}
 use Rattle.flat_drive.proofs.full_names.memory_name.Given as goal
 

@@ -1,8 +1,8 @@
 use Rattle.std.proofs.Common.{true, ◌||◌, sym, ap, ◌∙◌}
 use Rattle.std.specs.List.{list_any}
 use Rattle.std.specs.Str.{bytes_eq}
-use Rattle.vidi_bits.specs.Findings.{told_if}
-use Rattle.vlog_size.specs.Table.{added}
+use Rattle.flat_parts.specs.vidi_bits.Findings.{told_if}
+use Rattle.flat_parts.specs.vlog_size.Table.{added}
 use Rattle.flat_drive.specs.Marked.{is_listed}
 use Rattle.flat_drive.proofs.Inputs.{one_added}
 use Rattle.flat_drive.proofs.pins.add_input.Goals as goal

@@ -1,6 +1,6 @@
 use Rattle.std.proofs.Common.{◌≡◌, ap, ◌∙◌}
 use Rattle.std.proofs.lemmas.Result.{IfOk-weaker}
-use Rattle.vlog_elab.specs.Plain.{plain_instances}
+use Rattle.flat_parts.specs.vlog_elab.Plain.{plain_instances}
 use Rattle.flat_parts.specs.Seats.{seats_of}
 use Rattle.flat_drive.specs.Kinds.{flat_kinds}
 use Rattle.flat_drive.specs.Marked.{is_pin, kinds_from}

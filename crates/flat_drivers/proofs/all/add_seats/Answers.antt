@@ -2,8 +2,8 @@ use Rattle.std.proofs.Common.{drop, sym, ◌+◌, ◌<◌, length, subst, arith}
 use Rattle.std.specs.List.{flat_map}
 use Rattle.std.proofs.lemmas.List.{length-map}
 use Rattle.std.proofs.lemmas.Result.{err_from_is_err_and}
-use Rattle.vlog_elab.specs.Plain.{plain_instance}
-use Rattle.vlog_driver.specs.Duties.{Does}
+use Rattle.flat_parts.specs.vlog_elab.Plain.{plain_instance}
+use Rattle.flat_parts.specs.vlog_driver.Duties.{Does}
 use Rattle.flat_parts.specs.Drivers.{seat_duties, seat_blocks, IsBlockOf}
 use Rattle.flat_drivers.specs.Latches.{instance_latches}
 use Rattle.flat_drivers.specs.Seated.{instances_in, seats_in}

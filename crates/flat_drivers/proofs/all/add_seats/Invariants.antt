@@ -1,6 +1,6 @@
 use Rattle.std.proofs.Common.{◌≡◌, drop}
 use Rattle.std.specs.List.{flat_map}
-use Rattle.vlog_driver.specs.Duties.{Does}
+use Rattle.flat_parts.specs.vlog_driver.Duties.{Does}
 use Rattle.flat_parts.specs.Drivers.{seat_duties, seat_blocks, IsBlockOf}
 use Rattle.flat_drivers.specs.Latches.{instance_latches}
 use Rattle.flat_drivers.specs.Seated.{instances_in, seats_in}

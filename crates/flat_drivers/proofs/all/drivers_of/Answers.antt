@@ -1,7 +1,7 @@
 use Rattle.std.proofs.Common.{[], sym, subst}
 use Rattle.std.specs.List.{AllZip}
-use Rattle.vlog_elab.specs.Plain.{plain_instances}
-use Rattle.vlog_driver.specs.Duties.{Does}
+use Rattle.flat_parts.specs.vlog_elab.Plain.{plain_instances}
+use Rattle.flat_parts.specs.vlog_driver.Duties.{Does}
 use Rattle.flat_parts.specs.Drivers.{IsBlockOf}
 use Rattle.flat_drivers.proofs.Seats.{duties_all, blocks_all}
 use Rattle.flat_drivers.proofs.all.drivers_of.Goals as goal

@@ -5,18 +5,18 @@ use Rattle.std.specs.List.{flat_map}
 use Rattle.std.proofs.lemmas.List.{length-map}
 use Rattle.std.proofs.lemmas.Option.{slice_get-map, slice_get_read}
 use Rattle.flat_parts.specs.Instances.{IsDeclaredIn}
-use Rattle.vidi_bits.proofs.Lists.{some_same}
-use Rattle.vlog_tree.specs.Plain as tree
-use Rattle.vlog_hierarchy.specs.Plain.{plain_path}
-use Rattle.vlog_elab.specs.Plain.{plain_instance, plain_instances}
-use Rattle.vlog_driver.specs.Sites.{site_of}
-use Rattle.vlog_driver.specs.Duties.{DoMore, conn_duties}
+use Rattle.flat_parts.proofs.vidi_bits.Lists.{some_same}
+use Rattle.flat_parts.specs.vlog_tree.Plain as tree
+use Rattle.flat_parts.specs.vlog_hierarchy.Plain.{plain_path}
+use Rattle.flat_parts.specs.vlog_elab.Plain.{plain_instance, plain_instances}
+use Rattle.flat_parts.specs.vlog_driver.Sites.{site_of}
+use Rattle.flat_parts.specs.vlog_driver.Duties.{DoMore, conn_duties}
 use Rattle.flat_drivers.specs.Seated.{instances_in}
 use Rattle.flat_drivers.specs.Adding.{site_from}
 use Rattle.flat_drivers.proofs.Added.{all_at}
 use Rattle.flat_drivers.proofs.Paths.{joined_is}
 use Rattle.flat_drivers.proofs.Seats.{base_there}
-use Rattle.vlog_names.specs.Entries.{declared}
+use Rattle.flat_parts.specs.vlog_names.Entries.{declared}
 use Rattle.flat_drivers.proofs.child.add_child.Goals as goal
 
 pub returns : goal.returns

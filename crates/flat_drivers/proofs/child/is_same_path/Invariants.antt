@@ -1,5 +1,5 @@
 use Rattle.std.proofs.Common.{◌≡◌, take}
-use Rattle.vlog_hierarchy.specs.Plain.{plain_path}
+use Rattle.flat_parts.specs.vlog_hierarchy.Plain.{plain_path}
 use Rattle.flat_drivers.proofs.child.is_same_path.Given as goal
 
 abbrev pub invariant-loop-k : goal.invariant-loop-k

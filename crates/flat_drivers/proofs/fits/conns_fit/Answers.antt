@@ -1,6 +1,6 @@
-use Rattle.vlog_tree.specs.Plain.{plain_conn}
-use Rattle.vlog_driver.specs.Sites.{site_of}
-use Rattle.vlog_driver.specs.Duties.{IsFaultlessConn}
+use Rattle.flat_parts.specs.vlog_tree.Plain.{plain_conn}
+use Rattle.flat_parts.specs.vlog_driver.Sites.{site_of}
+use Rattle.flat_parts.specs.vlog_driver.Duties.{IsFaultlessConn}
 use Rattle.flat_drivers.proofs.Added.{left_first}
 use Rattle.flat_drivers.proofs.fits.conns_fit.Goals as goal
 

@@ -1,8 +1,8 @@
 use Rattle.std.proofs.Common.{map, drop, ◌+◌, ap, [], ◌∷◌}
-use Rattle.vlog_tree.specs.Plain.{plain_named}
-use Rattle.net_design.proofs.UpdateLaws.{from_here}
-use Rattle.vlog_driver.specs.Sites.{site_of}
-use Rattle.vlog_driver.specs.Duties.{Does, wire_duty}
+use Rattle.flat_parts.specs.vlog_tree.Plain.{plain_named}
+use Rattle.flat_parts.proofs.net_design.UpdateLaws.{from_here}
+use Rattle.flat_parts.specs.vlog_driver.Sites.{site_of}
+use Rattle.flat_parts.specs.vlog_driver.Duties.{Does, wire_duty}
 use Rattle.flat_drivers.proofs.Added.{code_next}
 use Rattle.flat_drivers.proofs.item.add_wires.Goals as goal
 

@@ -1,7 +1,7 @@
 use Rattle.std.proofs.Common.{map, drop}
-use Rattle.vlog_tree.specs.Plain.{plain_named}
-use Rattle.vlog_driver.specs.Sites.{site_of}
-use Rattle.vlog_driver.specs.Duties.{Does, wire_duty}
+use Rattle.flat_parts.specs.vlog_tree.Plain.{plain_named}
+use Rattle.flat_parts.specs.vlog_driver.Sites.{site_of}
+use Rattle.flat_parts.specs.vlog_driver.Duties.{Does, wire_duty}
 use Rattle.flat_drivers.proofs.Added.{Going}
 use Rattle.flat_drivers.proofs.item.add_wires.Given as goal
 

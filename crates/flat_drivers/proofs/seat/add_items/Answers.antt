@@ -1,11 +1,11 @@
 use Rattle.std.proofs.Common.{◌≡◌, map, drop, ap, sym, subst, ◌∙◌, ◌+◌, arith, refl}
 use Rattle.std.specs.List.{flat_map}
-use Rattle.vlog_tree.specs.Plain.{plain_item}
-use Rattle.vlog_hierarchy.specs.Plain.{plain_path}
-use Rattle.vlog_size.specs.declared.scope.Scope.{Scope}
-use Rattle.vlog_scope.specs.Scope.{after_item}
-use Rattle.vlog_meaning.specs.Placed.{Placed, placed}
-use Rattle.vlog_driver.specs.Duties.{Does, DoMore}
+use Rattle.flat_parts.specs.vlog_tree.Plain.{plain_item}
+use Rattle.flat_parts.specs.vlog_hierarchy.Plain.{plain_path}
+use Rattle.flat_parts.specs.vlog_size.declared.scope.Scope.{Scope}
+use Rattle.flat_parts.specs.vlog_scope.Scope.{after_item}
+use Rattle.flat_parts.specs.vlog_meaning.Placed.{Placed, placed}
+use Rattle.flat_parts.specs.vlog_driver.Duties.{Does, DoMore}
 use Rattle.flat_parts.specs.Drivers.{IsBlockOf}
 use Rattle.flat_drivers.specs.Latches.{placed_latches}
 use Rattle.flat_drivers.specs.Seated.{seats_in}

@@ -1,10 +1,10 @@
 use Rattle.std.proofs.Common.{◌≡◌, ◌<◌, subst, sym, refl, length, OnOk, Some, slice_get, get_or, false, true}
 use Rattle.std.proofs.lemmas.List.{length-map}
 use Rattle.std.proofs.lemmas.Option.{slice_get_read, slice_get-get_or}
-use Rattle.vidi_bits.specs.Findings.{Judged}
-use Rattle.vlog_elab.specs.Told.{elab_told}
-use Rattle.vlog_elab.specs.Plain.{plain_instance, plain_instances}
-use Rattle.vlog_driver.specs.Duties.{DoMore}
+use Rattle.flat_parts.specs.vidi_bits.Findings.{Judged}
+use Rattle.flat_parts.specs.vlog_elab.Told.{elab_told}
+use Rattle.flat_parts.specs.vlog_elab.Plain.{plain_instance, plain_instances}
+use Rattle.flat_parts.specs.vlog_driver.Duties.{DoMore}
 use Rattle.flat_drivers.specs.Adding.{BlocksMore}
 use Rattle.flat_drivers.proofs.Seats.{base_there, clean_seat, latches_seat, duties_seat, blocks_seat}
 use Rattle.flat_drivers.proofs.seat.add_seat.Goals as goal

@@ -1,5 +1,5 @@
 use Rattle.std.proofs.Common.{◌≡◌, take}
-use Rattle.vlog_hierarchy.specs.Plain.{plain_path}
+use Rattle.flat_parts.specs.vlog_hierarchy.Plain.{plain_path}
 use Rattle.flat_layout.proofs.instance.begins_with.Given as goal
 
 abbrev pub invariant-loop-place : goal.invariant-loop-place

@@ -1,5 +1,5 @@
 use Rattle.std.proofs.Common.{take}
-use Rattle.vlog_elab.specs.Plain.{plain_instances}
+use Rattle.flat_parts.specs.vlog_elab.Plain.{plain_instances}
 use Rattle.flat_layout.specs.Layout.{AreInstances}
 use Rattle.flat_layout.proofs.instance.instances.Given as goal
 

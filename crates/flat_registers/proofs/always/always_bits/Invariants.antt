@@ -1,5 +1,5 @@
 use Rattle.std.proofs.Common.{◌≡◌, ℕ, ◌||◌, drop}
-use Rattle.net_code.specs.BitMap.{in_map}
+use Rattle.flat_parts.specs.net_code.BitMap.{in_map}
 use Rattle.flat_parts.specs.State.{always_writes_bit}
 use Rattle.flat_registers.proofs.always.always_bits.Given as goal
 

@@ -1,7 +1,7 @@
 use Rattle.std.proofs.Common.{◌<◌, ◌++◌, [], ◌∷◌, length, drop, arith}
-use Rattle.vlog_size.specs.declared.scope.ScopeNet.{ScopeNet}
-use Rattle.vlog_size.specs.Table.{Named, value_of}
-use Rattle.vlog_names.specs.Ports.{is_reg}
+use Rattle.flat_parts.specs.vlog_size.declared.scope.ScopeNet.{ScopeNet}
+use Rattle.flat_parts.specs.vlog_size.Table.{Named, value_of}
+use Rattle.flat_parts.specs.vlog_names.Ports.{is_reg}
 use Rattle.flat_registers.proofs.Steps.{step_left, net_at, is_at}
 use Rattle.flat_registers.proofs.MarkLaws.{marks_in, marks_split}
 use Rattle.flat_registers.proofs.marks.add_marks.Goals as goal

@@ -1,7 +1,7 @@
 use Rattle.std.proofs.Common.{ap, sym, ◌∙◌, drop}
 use Rattle.std.proofs.Math.ListN.{drop_of_length-le}
 use Rattle.std.specs.List.{flat_map}
-use Rattle.vlog_elab.specs.Plain.{plain_instance, plain_instances}
+use Rattle.flat_parts.specs.vlog_elab.Plain.{plain_instance, plain_instances}
 use Rattle.flat_parts.specs.Instances.{IsDeclaredIn}
 use Rattle.flat_parts.specs.Marks.{instance_marks}
 use Rattle.flat_registers.proofs.Steps.{plain_at, flat_step, done_by}

@@ -1,6 +1,6 @@
 use Rattle.std.proofs.Common.{◌≡◌, ◌++◌, drop}
 use Rattle.std.specs.List.{flat_map}
-use Rattle.vlog_elab.specs.Plain.{plain_instances}
+use Rattle.flat_parts.specs.vlog_elab.Plain.{plain_instances}
 use Rattle.flat_parts.specs.Marks.{instance_marks}
 use Rattle.flat_registers.proofs.marks.reg_marks.Given as goal
 

@@ -1,6 +1,6 @@
 use Rattle.std.proofs.Common.{◌≡◌, ◌++◌, ◌∙◌, OnOk, subst}
-use Rattle.vidi_bits.proofs.Lists.{some_same}
-use Rattle.vlog_elab.specs.Plain.{plain_instance}
+use Rattle.flat_parts.proofs.vidi_bits.Lists.{some_same}
+use Rattle.flat_parts.specs.vlog_elab.Plain.{plain_instance}
 use Rattle.flat_registers.specs.Places.{plain_places}
 use Rattle.flat_registers.proofs.PlaceLaws.{told_alike}
 use Rattle.flat_registers.proofs.places.add_instance.Goals as goal

@@ -1,6 +1,6 @@
 use Rattle.std.proofs.Common.{ap, sym, ◌∙◌, drop}
 use Rattle.std.proofs.Math.ListN.{drop_of_length-le}
-use Rattle.vlog_elab.specs.Plain.{plain_instance, plain_instances}
+use Rattle.flat_parts.specs.vlog_elab.Plain.{plain_instance, plain_instances}
 use Rattle.flat_parts.specs.Instances.{IsDeclaredIn}
 use Rattle.flat_registers.specs.Places.{plain_places, regs_of}
 use Rattle.flat_registers.proofs.Steps.{plain_at, done_by}

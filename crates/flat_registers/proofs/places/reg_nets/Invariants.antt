@@ -1,5 +1,5 @@
 use Rattle.std.proofs.Common.{◌≡◌, ◌++◌, drop}
-use Rattle.vlog_elab.specs.Plain.{plain_instances}
+use Rattle.flat_parts.specs.vlog_elab.Plain.{plain_instances}
 use Rattle.flat_registers.specs.Places.{plain_places, regs_of}
 use Rattle.flat_registers.proofs.places.reg_nets.Given as goal
 

@@ -1,5 +1,5 @@
 use Rattle.std.proofs.Common.{ap, ◌∙◌}
-use Rattle.vidi_bits.specs.Number.{has, put_of}
+use Rattle.net_design.specs.vidi_bits.Number.{has, put_of}
 use Rattle.net_code.proofs.MaskLaws.{has_span}
 use Rattle.net_code.proofs.code_bits.span_mask.Goals as goal
 

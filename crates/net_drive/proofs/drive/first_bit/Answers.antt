@@ -1,8 +1,8 @@
 use Rattle.std.proofs.Common.{◌≡◌, ◌+◌, ◌==◌, ◌<◌, Some, ap, sym, ◌∙◌, arith}
 use Rattle.std.proofs.lemmas.Bool.{not-false, not-true}
 use Rattle.net_code.proofs.MaskLaws.{net_is}
-use Rattle.vidi_bits.specs.Findings.{first}
-use Rattle.vidi_bits.specs.Number.{has, truth}
+use Rattle.net_code.specs.vidi_bits.Findings.{first}
+use Rattle.net_code.specs.vidi_bits.Number.{has, truth}
 use Rattle.net_drive.specs.declared.findings.Misdriven.{Misdriven}
 use Rattle.net_code.specs.Targets.{plain_places, bit_count}
 use Rattle.net_drive.specs.Drive.{bit_faults}

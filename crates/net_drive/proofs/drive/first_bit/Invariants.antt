@@ -1,6 +1,6 @@
 use Rattle.std.proofs.Common.{◌≡◌, ◌-◌}
-use Rattle.vidi_bits.specs.Findings.{first}
-use Rattle.vidi_bits.specs.Number.{truth}
+use Rattle.net_code.specs.vidi_bits.Findings.{first}
+use Rattle.net_code.specs.vidi_bits.Number.{truth}
 use Rattle.net_code.specs.Targets.{plain_places}
 use Rattle.net_drive.specs.Drive.{bit_faults}
 use Rattle.net_drive.proofs.drive.first_bit.Given as goal

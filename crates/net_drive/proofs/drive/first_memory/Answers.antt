@@ -1,5 +1,5 @@
 use Rattle.std.proofs.Common.{◌+◌, drop, ap, sym, ◌∙◌}
-use Rattle.vidi_bits.specs.Findings.{first}
+use Rattle.net_code.specs.vidi_bits.Findings.{first}
 use Rattle.net_drive.specs.Drive.{memory_at, memories_from}
 use Rattle.net_drive.proofs.Exact.{found_first, not_found, memories_split}
 use Rattle.net_drive.proofs.drive.first_memory.Goals as goal

@@ -1,5 +1,5 @@
 use Rattle.std.proofs.Common.{ap, ◌∙◌}
-use Rattle.vidi_bits.specs.Number.{has, put_of}
+use Rattle.net_code.specs.vidi_bits.Number.{has, put_of}
 use Rattle.net_drive.proofs.Tallies.{no_width, wide_span}
 use Rattle.net_drive.proofs.tally.bits_from.Goals as goal
 

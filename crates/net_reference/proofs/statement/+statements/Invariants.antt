@@ -1,5 +1,5 @@
 use Rattle.std.proofs.Common.{◌≡◌, List, ◌++◌, All, drop}
-use Rattle.vidi_bits.specs.Number.{IsWidth}
+use Rattle.net_design.specs.vidi_bits.Number.{IsWidth}
 use Rattle.net_design.specs.Sized.{IsSizedBlock, AreSizedGuards}
 use Rattle.net_design.specs.declared.values.Update.{Update}
 use Rattle.net_design.specs.Updates.{block_updates, guard_updates}

@@ -1,5 +1,5 @@
 use Rattle.std.proofs.Common.{◌≡◌, ◌++◌, All, take}
-use Rattle.vidi_bits.specs.Number.{IsWidth}
+use Rattle.net_design.specs.vidi_bits.Number.{IsWidth}
 use Rattle.net_design.specs.declared.values.Update.{Update}
 use Rattle.net_reference.proofs.statement.append.Given as goal
 

@@ -1,6 +1,6 @@
 use Rattle.std.proofs.Common.{◌≡◌, ◌++◌, All, drop}
 use Rattle.std.specs.List.{AllByRecursion}
-use Rattle.vidi_bits.specs.Number.{IsWidth}
+use Rattle.net_design.specs.vidi_bits.Number.{IsWidth}
 use Rattle.net_design.specs.Sized.{IsSizedPlace}
 use Rattle.net_design.specs.declared.act.Place.{Place}
 use Rattle.net_design.specs.declared.values.Update.{Update}

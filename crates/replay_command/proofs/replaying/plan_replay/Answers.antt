@@ -1,14 +1,14 @@
 use Rattle.std.proofs.Common.{◌≡◌, ℕ, List, inl, inr, ◌∙◌}
 use Rattle.std.specs.Prelude.{IfOk, IfErr}
-use Rattle.vidi_io.specs.Cause.{Rose}
-use Rattle.report_text.specs.declared.reason.Word.TheVariants as words
-use Rattle.vidi_bench.specs.Design.{text_limit}
-use Rattle.vidi_bench.specs.Devices.{IsDevice}
-use Rattle.vidi_bench.specs.Ended.{EndsWith}
-use Rattle.vidi_bench.specs.Reading.{IsUnread}
+use Rattle.trace_commands.specs.vidi_io.Cause.{Rose}
+use Rattle.trace_commands.specs.report_text.declared.reason.Word.TheVariants as words
+use Rattle.trace_commands.specs.vidi_bench.Design.{text_limit}
+use Rattle.trace_commands.specs.vidi_bench.Devices.{IsDevice}
+use Rattle.trace_commands.specs.vidi_bench.Ended.{EndsWith}
+use Rattle.trace_commands.specs.vidi_bench.Reading.{IsUnread}
 use Rattle.replay_command.specs.Replays.{IsUnreplayed, RefusedReplay}
 use Rattle.trace_commands.specs.Traces.{trace_limit}
-use Rattle.vidi_bench.proofs.Chain.{all-as, passed-as, read-as, rose-since, unread-as}
+use Rattle.trace_commands.proofs.vidi_bench.Chain.{all-as, passed-as, read-as, rose-since, unread-as}
 use Rattle.replay_command.proofs.Replayed.{bytes-encode, replayable-said}
 use Rattle.replay_command.proofs.replaying.plan_replay.Goals as goal
 

@@ -1,6 +1,6 @@
 use Rattle.std.proofs.Common.{◌≡◌, ℕ, List, sym, subst}
-use Rattle.trace_model.specs.Recording.{trace_of}
-use Rattle.trace_code.specs.Encoding.{Encodes}
+use Rattle.replay_run.specs.trace_model.Recording.{trace_of}
+use Rattle.replay_run.specs.trace_code.Encoding.{Encodes}
 use Rattle.replay_command.proofs.replaying.replayed.Goals as goal
 
 pub told-requires-clause-written : goal.told-requires-clause-written

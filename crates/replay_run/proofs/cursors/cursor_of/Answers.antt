@@ -1,6 +1,6 @@
 use Rattle.std.proofs.Common.{◌<◌, length, sym, subst, arith}
-use Rattle.trace_model.specs.declared.event.Kind.{Kind}
-use Rattle.trace_model.specs.declared.event.Kind.TheVariants.{Start, End}
+use Rattle.trace_code.specs.trace_model.declared.event.Kind.{Kind}
+use Rattle.trace_code.specs.trace_model.declared.event.Kind.TheVariants.{Start, End}
 use Rattle.replay_run.specs.Behind.{IsBehind}
 use Rattle.replay_run.proofs.Forward.{cursor-there}
 use Rattle.replay_run.proofs.cursors.cursor_of.Goals as goal

@@ -1,5 +1,5 @@
 use Rattle.std.proofs.Common.{min}
-use Rattle.trace_model.specs.Packet.{count}
+use Rattle.trace_code.specs.trace_model.Packet.{count}
 use Rattle.replay_run.proofs.Forward.{may-step, more, next, ended-when}
 use Rattle.replay_run.proofs.cursors.forward.Goals as goal
 

@@ -1,6 +1,6 @@
 use Rattle.std.proofs.Common.{ℕ}
-use Rattle.trace_model.specs.declared.event.Kind.{Kind}
-use Rattle.trace_model.specs.declared.trace.Trace.{Trace}
+use Rattle.trace_code.specs.trace_model.declared.event.Kind.{Kind}
+use Rattle.trace_code.specs.trace_model.declared.trace.Trace.{Trace}
 use Rattle.replay_run.specs.Behind.{AreAt}
 use Rattle.replay_run.proofs.Forward.{moved}
 use Rattle.replay_run.proofs.cursors.forward_all.Given as goal

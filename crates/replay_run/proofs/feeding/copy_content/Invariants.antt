@@ -1,11 +1,11 @@
 use Rattle.std.proofs.Common.{◌≡◌, ℕ, length, take}
 use Rattle.std.specs.Prelude.{slice_get}
-use Rattle.trace_model.specs.declared.event.Kind.TheVariants.{Start}
-use Rattle.trace_model.specs.declared.packet.Packet.{Packet}
-use Rattle.trace_model.specs.declared.trace.Trace.{Trace}
-use Rattle.trace_model.specs.Counting.{IsNth}
-use Rattle.trace_model.specs.Packet.{content_of, does, widths_of}
-use Rattle.trace_model.specs.Row.{replaced}
+use Rattle.trace_code.specs.trace_model.declared.event.Kind.TheVariants.{Start}
+use Rattle.trace_code.specs.trace_model.declared.packet.Packet.{Packet}
+use Rattle.trace_code.specs.trace_model.declared.trace.Trace.{Trace}
+use Rattle.trace_code.specs.trace_model.Counting.{IsNth}
+use Rattle.trace_code.specs.trace_model.Packet.{content_of, does, widths_of}
+use Rattle.trace_code.specs.trace_model.Row.{replaced}
 use Rattle.trace_code.specs.Stands.{Stands}
 use Rattle.replay_run.proofs.feeding.copy_content.Given as goal
 

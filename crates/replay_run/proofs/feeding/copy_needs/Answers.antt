@@ -1,5 +1,5 @@
 use Rattle.std.proofs.Common.{◌<◌, ◌+◌, length, arith}
-use Rattle.trace_model.specs.Clock.{clock}
+use Rattle.trace_code.specs.trace_model.Clock.{clock}
 use Rattle.replay_run.proofs.Fills.{needs-here, needs-others}
 use Rattle.replay_run.proofs.feeding.copy_needs.Goals as goal
 

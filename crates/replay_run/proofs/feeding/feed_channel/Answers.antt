@@ -1,6 +1,6 @@
 use Rattle.std.proofs.Common.{◌<◌, length, sym, subst, arith, ap, ◌∙◌}
-use Rattle.trace_model.specs.declared.channel.Dir.{Dir}
-use Rattle.trace_model.specs.declared.event.Kind.{Kind}
+use Rattle.trace_code.specs.trace_model.declared.channel.Dir.{Dir}
+use Rattle.trace_code.specs.trace_model.declared.event.Kind.{Kind}
 use Rattle.chan_replayer.specs.Feed.{kind_of, IsFeedAt}
 use Rattle.replay_run.specs.Behind.{IsBehind}
 use Rattle.replay_run.proofs.feeding.feed_channel.Goals as goal

@@ -1,7 +1,7 @@
 use Rattle.std.proofs.Common.{◌≡◌, true, min, length, refl, ap, sym}
-use Rattle.trace_model.specs.declared.event.Kind.TheVariants.{End}
-use Rattle.trace_model.specs.declared.trace.Trace.{Trace}
-use Rattle.trace_model.specs.Packet.{count}
+use Rattle.trace_code.specs.trace_model.declared.event.Kind.TheVariants.{End}
+use Rattle.trace_code.specs.trace_model.declared.trace.Trace.{Trace}
+use Rattle.trace_code.specs.trace_model.Packet.{count}
 use Rattle.replay_run.specs.Feeding.{IsClockBefore}
 use Rattle.replay_run.proofs.Fills.{IsEventFed, end-here, event-others, event-over}
 use Rattle.replay_run.proofs.feeding.feed_end.Goals as goal

@@ -1,5 +1,5 @@
 use Rattle.std.proofs.Common.{ap, not, ◌∙◌}
-use Rattle.trace_model.specs.Packet.{count}
+use Rattle.trace_code.specs.trace_model.Packet.{count}
 use Rattle.replay_run.proofs.Fills.{none-there, there-not, there-yes}
 use Rattle.replay_run.proofs.feeding.feed_event.Goals as goal
 

@@ -1,5 +1,5 @@
 use Rattle.std.proofs.Common.{◌≡◌, ◌*◌, length, ap, ◌∙◌, arith}
-use Rattle.trace_model.specs.declared.row.Row.{Row}
+use Rattle.trace_code.specs.trace_model.declared.row.Row.{Row}
 use Rattle.replay_run.proofs.Fills.{zero-feed}
 use Rattle.replay_run.proofs.feeding.feed_over.Goals as goal
 

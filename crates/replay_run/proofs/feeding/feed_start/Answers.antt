@@ -1,9 +1,9 @@
 use Rattle.std.proofs.Common.{◌≡◌, true, min, length, refl, ap, sym, ◌∙◌}
 use Rattle.std.proofs.lemmas.Option.{slice_get_read}
-use Rattle.trace_model.specs.declared.channel.Channel.{Channel}
-use Rattle.trace_model.specs.declared.event.Kind.TheVariants.{Start}
-use Rattle.trace_model.specs.declared.trace.Trace.{Trace}
-use Rattle.trace_model.specs.Packet.{count}
+use Rattle.trace_code.specs.trace_model.declared.channel.Channel.{Channel}
+use Rattle.trace_code.specs.trace_model.declared.event.Kind.TheVariants.{Start}
+use Rattle.trace_code.specs.trace_model.declared.trace.Trace.{Trace}
+use Rattle.trace_code.specs.trace_model.Packet.{count}
 use Rattle.replay_run.specs.Feeding.{IsClockBefore}
 use Rattle.replay_run.proofs.Fills.{IsEventFed, event-others, event-over, none-here, own-ports, start-here, start-others, start-over, start-room}
 use Rattle.replay_run.proofs.feeding.feed_start.Goals as goal

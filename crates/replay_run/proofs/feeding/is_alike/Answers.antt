@@ -1,6 +1,6 @@
 use Rattle.std.proofs.Common.{◌<◌, ◌-◌, length, refl, ap, sym, subst, ◌∙◌, arith}
 use Rattle.std.proofs.lemmas.Option.{slice_get_read}
-use Rattle.trace_model.specs.declared.event.Kind.{Kind}
+use Rattle.trace_code.specs.trace_model.declared.event.Kind.{Kind}
 use Rattle.chan_replayer.specs.Feed.{kind_of}
 use Rattle.replay_run.specs.Behind.{IsBehind}
 use Rattle.replay_run.proofs.Fills.{clock-before}

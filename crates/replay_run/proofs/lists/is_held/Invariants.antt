@@ -1,5 +1,5 @@
 use Rattle.std.proofs.Common.{◌≡◌, drop}
-use Rattle.run_model.specs.Held.{is_held}
+use Rattle.chan_replayer.specs.run_model.Held.{is_held}
 use Rattle.replay_run.proofs.lists.is_held.Given as goal
 
 abbrev pub invariant-loop-held : goal.invariant-loop-held

@@ -1,13 +1,13 @@
 use Rattle.std.proofs.Common.{◌≡◌, ◌≤◌, ◌+◌, ◌-◌, ◌++◌, ℕ, drop, length}
 use Rattle.std.specs.Prelude.{slice_index, vec_len, vec_capacity}
 use Rattle.std.specs.List.{enumerate_from, flat_map}
-use Rattle.trace_model.specs.declared.channel.Channel.{Channel}
-use Rattle.trace_model.specs.declared.packet.Packet.{Packet}
-use Rattle.trace_model.specs.declared.trace.Trace.{Trace}
-use Rattle.trace_model.specs.Clock.{clock}
-use Rattle.trace_model.specs.Counting.{IsNth}
-use Rattle.trace_model.specs.Packet.{does}
-use Rattle.run_model.specs.Held.{await_on, awaits}
+use Rattle.trace_code.specs.trace_model.declared.channel.Channel.{Channel}
+use Rattle.trace_code.specs.trace_model.declared.packet.Packet.{Packet}
+use Rattle.trace_code.specs.trace_model.declared.trace.Trace.{Trace}
+use Rattle.trace_code.specs.trace_model.Clock.{clock}
+use Rattle.trace_code.specs.trace_model.Counting.{IsNth}
+use Rattle.trace_code.specs.trace_model.Packet.{does}
+use Rattle.chan_replayer.specs.run_model.Held.{await_on, awaits}
 use Rattle.trace_code.specs.Stands.{Stands}
 use Rattle.replay_run.proofs.lists.list_awaits.Given as goal
 

@@ -1,9 +1,9 @@
 use Rattle.std.proofs.Common.{List, ℕ, ◌<◌, not, length, sym, ap, subst, ◌∙◌, arith}
 use Rattle.std.specs.List.{enumerate_from, filter, flat_map}
-use Rattle.trace_model.specs.declared.channel.Channel.{Channel}
-use Rattle.trace_model.specs.declared.event.Event.{Event}
-use Rattle.run_model.specs.declared.held.Held.{Held}
-use Rattle.run_model.specs.Held.{is_held, recorded_next}
+use Rattle.trace_code.specs.trace_model.declared.channel.Channel.{Channel}
+use Rattle.trace_code.specs.trace_model.declared.event.Event.{Event}
+use Rattle.chan_replayer.specs.run_model.declared.held.Held.{Held}
+use Rattle.chan_replayer.specs.run_model.Held.{is_held, recorded_next}
 use Rattle.replay_run.specs.Lists.{IsKept}
 use Rattle.replay_run.proofs.Listing.{waits_on, waits-each, walk-done, walk-on}
 use Rattle.replay_run.proofs.lists.list_waits.Goals as goal

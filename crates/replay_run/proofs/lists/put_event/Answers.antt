@@ -1,10 +1,10 @@
 use Rattle.std.proofs.Common.{List, ◌<◌, ◌++◌, min, length, sym, ap, subst, ◌∙◌}
 use Rattle.std.specs.Prelude.{slice_index}
-use Rattle.trace_model.specs.declared.channel.Channel.{Channel}
-use Rattle.trace_model.specs.Clock.{clock}
-use Rattle.trace_model.specs.Packet.{count}
-use Rattle.run_model.specs.Held.{awaits, event}
-use Rattle.run_model.specs.Replay.{done}
+use Rattle.trace_code.specs.trace_model.declared.channel.Channel.{Channel}
+use Rattle.trace_code.specs.trace_model.Clock.{clock}
+use Rattle.trace_code.specs.trace_model.Packet.{count}
+use Rattle.chan_replayer.specs.run_model.Held.{awaits, event}
+use Rattle.chan_replayer.specs.run_model.Replay.{done}
 use Rattle.replay_run.proofs.Listing.{event-past, event-put}
 use Rattle.replay_run.proofs.lists.put_event.Goals as goal
 

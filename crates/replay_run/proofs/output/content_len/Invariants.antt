@@ -1,5 +1,5 @@
 use Rattle.std.proofs.Common.{◌≡◌, take, sum_by}
-use Rattle.trace_model.specs.Channel.{byte_count}
+use Rattle.trace_code.specs.trace_model.Channel.{byte_count}
 use Rattle.replay_run.proofs.output.content_len.Given as goal
 
 abbrev pub invariant-loop-width : goal.invariant-loop-width

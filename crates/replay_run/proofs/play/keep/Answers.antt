@@ -1,6 +1,6 @@
 use Rattle.std.proofs.Common.{ℕ, refl, subst, arith}
 use Rattle.chan_replayer.specs.Feed.{IsFeed}
-use Rattle.run_model.specs.Replay.{done}
+use Rattle.chan_replayer.specs.run_model.Replay.{done}
 use Rattle.replay_run.specs.Behind.{AreBehind}
 use Rattle.replay_run.proofs.Looping.{done-push}
 use Rattle.replay_run.proofs.Writing.{packets-few}

@@ -1,7 +1,7 @@
 use Rattle.std.proofs.Common.{◌≡◌, ◌+◌, ◌-◌, [], ◌∷◌, ◌++◌, refl, ap, sym, subst, ◌∙◌, arith, length}
 use Rattle.std.proofs.lemmas.List.{length_push}
-use Rattle.trace_model.specs.declared.row.Row.{Row}
-use Rattle.run_model.specs.Replay.{done}
+use Rattle.trace_code.specs.trace_model.declared.row.Row.{Row}
+use Rattle.chan_replayer.specs.run_model.Replay.{done}
 use Rattle.replay_run.specs.Standing.{Plays}
 use Rattle.replay_run.proofs.Looping.{ends-ended, ends-short, ends-unstable, goes-on, going-push, kept-cells, kept-less}
 use Rattle.replay_run.proofs.Turning.{first}

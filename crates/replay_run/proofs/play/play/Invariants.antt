@@ -1,10 +1,10 @@
 use Rattle.std.proofs.Common.{◌≡◌, ◌-◌, ◌≤◌, List, length}
-use Rattle.trace_model.specs.declared.row.Row.{Row}
-use Rattle.trace_model.specs.declared.trace.Trace.{Trace}
-use Rattle.net_design.specs.declared.design.Design.{Design}
-use Rattle.net_design.specs.declared.values.Values.{Values}
+use Rattle.trace_code.specs.trace_model.declared.row.Row.{Row}
+use Rattle.trace_code.specs.trace_model.declared.trace.Trace.{Trace}
+use Rattle.chan_replayer.specs.net_design.declared.design.Design.{Design}
+use Rattle.chan_replayer.specs.net_design.declared.values.Values.{Values}
 use Rattle.chan_replayer.specs.Feed.{IsFeed}
-use Rattle.run_model.specs.Replay.{done, IsGoing}
+use Rattle.chan_replayer.specs.run_model.Replay.{done, IsGoing}
 use Rattle.replay_run.specs.Behind.{none_yet, AreBehind}
 use Rattle.replay_run.specs.Standing.{AreKept, Plays}
 use Rattle.replay_run.proofs.play.play.Given as goal

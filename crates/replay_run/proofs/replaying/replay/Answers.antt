@@ -1,5 +1,5 @@
 use Rattle.std.proofs.Common.{◌≡◌, refl, ap, sym, ◌∙◌, length}
-use Rattle.trace_model.specs.declared.trace.Trace.{Trace}
+use Rattle.trace_code.specs.trace_model.declared.trace.Trace.{Trace}
 use Rattle.trace_code.proofs.Readings as readings
 use Rattle.replay_run.proofs.Answering.{kept-rows, replayed}
 use Rattle.replay_run.proofs.replaying.replay.Goals as goal

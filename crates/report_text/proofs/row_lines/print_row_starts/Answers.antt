@@ -1,6 +1,6 @@
 use Rattle.std.proofs.Common.{Bool, List, ℕ, [], ◌++◌, cond, codes, decimal, subst}
-use Rattle.vidi_bits.specs.Number.{has}
-use Rattle.trace_model.specs.declared.channel.Channel.{Channel}
+use Rattle.vidi_io.specs.vidi_bits.Number.{has}
+use Rattle.run_model.specs.trace_model.declared.channel.Channel.{Channel}
 use Rattle.report_text.specs.Rows.{row_start}
 use Rattle.report_text.specs.Text.{newline, spaced}
 use Rattle.report_text.proofs.Lines.{more_on}

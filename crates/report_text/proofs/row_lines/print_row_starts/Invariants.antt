@@ -1,8 +1,8 @@
 use Rattle.std.proofs.Common.{◌≡◌, ℕ, take, drop, length, cond, []}
 use Rattle.std.specs.List.{flat_map, enumerate_from}
-use Rattle.vidi_bits.specs.Number.{has}
-use Rattle.trace_model.specs.declared.channel.Channel.{Channel}
-use Rattle.trace_model.specs.Row.{all_widths}
+use Rattle.vidi_io.specs.vidi_bits.Number.{has}
+use Rattle.run_model.specs.trace_model.declared.channel.Channel.{Channel}
+use Rattle.run_model.specs.trace_model.Row.{all_widths}
 use Rattle.report_text.specs.Rows.{row_start}
 use Rattle.report_text.proofs.row_lines.print_row_starts.Given as goal
 

@@ -2,7 +2,7 @@ use Rattle.std.proofs.Common.{◌≡◌, ◌<◌, ◌≤◌, ◌+◌, ◌*◌, L
 use Rattle.std.proofs.lemmas.List.{get_or-replicate, length-replicate}
 use Rattle.std.proofs.lemmas.Option.{slice_get_read}
 use Rattle.std.specs.List.{flat_map, enumerate_from}
-use Rattle.trace_model.specs.declared.packet.Packet.{Packet}
+use Rattle.run_model.specs.trace_model.declared.packet.Packet.{Packet}
 use Rattle.report_text.specs.Pad.{room}
 use Rattle.report_text.specs.Trace.{packet_lines}
 use Rattle.report_text.proofs.Clocks.{clock-first, clock-small, clock-on}

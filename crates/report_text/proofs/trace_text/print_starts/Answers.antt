@@ -1,7 +1,7 @@
 use Rattle.std.proofs.Common.{Bool, List, ℕ, [], ◌++◌, length, take, drop, cond, codes, decimal, ap, subst, ◌∙◌}
-use Rattle.trace_model.proofs.ContentsLemmas.{rest-on}
-use Rattle.vidi_bits.specs.Number.{has}
-use Rattle.trace_model.specs.declared.channel.Channel.{Channel}
+use Rattle.run_model.proofs.trace_model.ContentsLemmas.{rest-on}
+use Rattle.vidi_io.specs.vidi_bits.Number.{has}
+use Rattle.run_model.specs.trace_model.declared.channel.Channel.{Channel}
 use Rattle.report_text.specs.Text.{spaced}
 use Rattle.report_text.specs.Trace.{start_line}
 use Rattle.report_text.proofs.Lines.{more_on, start-there}

@@ -1,8 +1,8 @@
 use Rattle.std.proofs.Common.{◌≡◌, ℕ, take, drop, length, cond, []}
 use Rattle.std.specs.List.{flat_map, enumerate_from}
-use Rattle.vidi_bits.specs.Number.{has}
-use Rattle.trace_model.specs.declared.channel.Channel.{Channel}
-use Rattle.trace_model.specs.Packet.{widths_under}
+use Rattle.vidi_io.specs.vidi_bits.Number.{has}
+use Rattle.run_model.specs.trace_model.declared.channel.Channel.{Channel}
+use Rattle.run_model.specs.trace_model.Packet.{widths_under}
 use Rattle.report_text.specs.Trace.{start_line}
 use Rattle.report_text.proofs.trace_text.print_starts.Given as goal
 

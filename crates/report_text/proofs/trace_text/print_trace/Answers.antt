@@ -1,5 +1,5 @@
 use Rattle.std.proofs.Common.{List, ℕ, subst}
-use Rattle.trace_model.specs.declared.channel.Channel.{Channel}
+use Rattle.run_model.specs.trace_model.declared.channel.Channel.{Channel}
 use Rattle.report_text.specs.Trace.{channel_lines, packets_line}
 use Rattle.report_text.proofs.trace_text.print_trace.Goals as goal
 

@@ -1,5 +1,5 @@
 use Rattle.std.proofs.Common.{◌≡◌, ℕ, cond, get_or, sym, ap, ◌∙◌, arith}
-use Rattle.vidi_bits.specs.Number.{has}
+use Rattle.trace_model.specs.vidi_bits.Number.{has}
 use Rattle.room_ledger.proofs.Totals.{total-read, total-within}
 use Rattle.room_ledger.proofs.sums.contents_len.Goals as goal
 use Rattle.room_ledger.proofs.sums.contents_len.Goals.{then-names, else-names}

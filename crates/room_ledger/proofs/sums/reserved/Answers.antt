@@ -1,5 +1,5 @@
 use Rattle.std.proofs.Common.{◌≡◌, ℕ, get_or, arith, rules}
-use Rattle.vidi_bits.specs.Number.{has}
+use Rattle.trace_model.specs.vidi_bits.Number.{has}
 use Rattle.room_ledger.specs.Reservation.{reservation}
 use Rattle.room_ledger.proofs.Totals.{total-read, total-within}
 use Rattle.room_ledger.proofs.Reserving.{reserved-need}

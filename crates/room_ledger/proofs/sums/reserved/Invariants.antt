@@ -1,5 +1,5 @@
 use Rattle.std.proofs.Common.{◌≡◌, take}
-use Rattle.vidi_bits.specs.Number.{has}
+use Rattle.trace_model.specs.vidi_bits.Number.{has}
 use Rattle.room_ledger.specs.Reservation.{reservation}
 use Rattle.room_ledger.proofs.Totals.{total}
 use Rattle.room_ledger.proofs.sums.reserved.Given as goal

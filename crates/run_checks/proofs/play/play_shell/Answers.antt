@@ -1,11 +1,11 @@
 use Rattle.std.proofs.Common.{List, ◌+◌, length, slice_index, refl, ap, sym, subst, ◌∙◌}
 use Rattle.std.proofs.lemmas.List.{length_push}
 use Rattle.std.proofs.lemmas.Option.{slice_get_read}
-use Rattle.trace_model.specs.declared.row.Row.{Row}
-use Rattle.trace_model.specs.Row.{row_before}
-use Rattle.run_model.specs.Laws.{GatesOf}
-use Rattle.run_model.specs.Run.{IsRunRow}
-use Rattle.run_model.proofs.PlayedLaws.{Grown, played-nil}
+use Rattle.run_reference.specs.trace_model.declared.row.Row.{Row}
+use Rattle.run_reference.specs.trace_model.Row.{row_before}
+use Rattle.run_reference.specs.run_model.Laws.{GatesOf}
+use Rattle.run_reference.specs.run_model.Run.{IsRunRow}
+use Rattle.run_reference.proofs.run_model.PlayedLaws.{Grown, played-nil}
 use Rattle.run_reference.specs.Given.{offers_by, gates_by}
 use Rattle.run_reference.proofs.StepLemmas.{offer-here}
 use Rattle.run_checks.proofs.Growing.{turned}

@@ -1,5 +1,5 @@
 use Rattle.std.proofs.Common.{ℕ, List, inr}
-use Rattle.vidi_io.specs.Cause.{Rose}
+use Rattle.vidi_recorder.specs.vidi_io.Cause.{Rose}
 use Rattle.run_commands.specs.Checks.{Checked, Checks}
 use Rattle.vidi_bench.specs.Ended.{IsAnswered}
 use Rattle.vidi_bench.proofs.Chain.{all-answered}

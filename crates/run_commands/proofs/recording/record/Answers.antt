@@ -1,5 +1,5 @@
 use Rattle.std.proofs.Common.{◌≡◌, ℕ, List, inl, ◌∙◌}
-use Rattle.vidi_io.specs.Cause.{Rose}
+use Rattle.vidi_recorder.specs.vidi_io.Cause.{Rose}
 use Rattle.run_commands.specs.Records.{IsUnrecorded, Records, StopsRecording}
 use Rattle.vidi_bench.proofs.Chain.{passed-owed, rose-since}
 use Rattle.run_commands.proofs.Recorded.{recorded-owed}

@@ -1,5 +1,5 @@
 use Rattle.std.proofs.Common.{ℕ, List, inl, inr}
-use Rattle.vidi_io.specs.Cause.{Rose}
+use Rattle.vidi_recorder.specs.vidi_io.Cause.{Rose}
 use Rattle.vidi_bench.specs.Benches.{ReadTexts, RefusedTexts}
 use Rattle.run_commands.specs.Runs.{Runs, RunTexts}
 use Rattle.vidi_bench.specs.Steps.{Never}

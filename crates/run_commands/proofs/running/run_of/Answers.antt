@@ -1,6 +1,6 @@
 use Rattle.std.proofs.Common.{subst, sym}
-use Rattle.net_design.specs.declared.design.Design.{Design}
-use Rattle.run_model.specs.MapOf.{IsMapOf}
+use Rattle.net_sim.specs.net_design.declared.design.Design.{Design}
+use Rattle.bench_run.specs.run_model.MapOf.{IsMapOf}
 use Rattle.run_commands.proofs.running.run_of.Goals as goal
 
 pub run_block-requires-clause-mapped : goal.run_block-requires-clause-mapped

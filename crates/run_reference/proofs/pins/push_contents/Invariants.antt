@@ -1,6 +1,6 @@
 use Rattle.std.proofs.Common.{◌≡◌, ◌++◌, ℕ, map, take, drop}
 use Rattle.std.specs.List.{enumerate_from}
-use Rattle.chan_map.specs.declared.pins.Pin.{Pin}
+use Rattle.run_model.specs.chan_map.declared.pins.Pin.{Pin}
 use Rattle.run_model.specs.Pins.{pin_number, shown_number}
 use Rattle.run_reference.proofs.pins.push_contents.Given as goal
 

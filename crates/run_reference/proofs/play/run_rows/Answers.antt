@@ -1,8 +1,8 @@
 use Rattle.std.proofs.Common.{List, length, slice_index, ◌+◌, refl, ap, sym, subst, ◌∙◌}
 use Rattle.std.proofs.lemmas.List.{length_push}
 use Rattle.std.proofs.lemmas.Option.{slice_get_read}
-use Rattle.trace_model.specs.declared.row.Row.{Row}
-use Rattle.trace_model.specs.Row.{row_before, IsMarked}
+use Rattle.run_model.specs.trace_model.declared.row.Row.{Row}
+use Rattle.run_model.specs.trace_model.Row.{row_before, IsMarked}
 use Rattle.run_model.specs.Laws.{GatesOf}
 use Rattle.run_model.specs.Run.{IsRunRow}
 use Rattle.run_model.specs.Step.{IsStep}

@@ -1,6 +1,6 @@
 use Rattle.std.proofs.Common.{false, List, ℕ, sym, subst, length}
-use Rattle.trace_model.specs.declared.row.Row.{Row}
-use Rattle.trace_model.specs.Row.{row_before}
+use Rattle.run_model.specs.trace_model.declared.row.Row.{Row}
+use Rattle.run_model.specs.trace_model.Row.{row_before}
 use Rattle.run_model.specs.Building.{AreSmall}
 use Rattle.run_model.specs.Pins.{ArePins}
 use Rattle.run_reference.proofs.StepLemmas.{asked, asked-small, plugs-length, settles, stepped}

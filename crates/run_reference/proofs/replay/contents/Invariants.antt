@@ -1,5 +1,5 @@
 use Rattle.std.proofs.Common.{◌≡◌, ◌++◌, drop}
-use Rattle.trace_model.specs.declared.event.Kind.TheVariants.{Start}
+use Rattle.run_model.specs.trace_model.declared.event.Kind.TheVariants.{Start}
 use Rattle.run_model.specs.Building.{joined}
 use Rattle.run_reference.specs.Feed.{content_in, covered_place}
 use Rattle.run_reference.proofs.replay.contents.Given as goal

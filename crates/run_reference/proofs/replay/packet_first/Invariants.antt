@@ -1,5 +1,5 @@
 use Rattle.std.proofs.Common.{◌≡◌, ◌≤◌, ◌*◌, length, take}
-use Rattle.trace_model.specs.Packet.{widths_under}
+use Rattle.run_model.specs.trace_model.Packet.{widths_under}
 use Rattle.run_reference.proofs.replay.packet_first.Given as goal
 
 abbrev pub invariant-loop-i : goal.invariant-loop-i

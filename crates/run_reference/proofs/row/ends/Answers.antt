@@ -1,5 +1,5 @@
 use Rattle.std.proofs.Common.{ℕ, ◌<◌, ◌^◌, ◌&&◌, sym, subst}
-use Rattle.vidi_bits.specs.Number.{has}
+use Rattle.run_model.specs.vidi_bits.Number.{has}
 use Rattle.run_model.proofs.Contents.{mask-below}
 use Rattle.run_reference.proofs.row.ends.Goals as goal
 

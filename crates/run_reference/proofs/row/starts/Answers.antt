@@ -1,6 +1,6 @@
 use Rattle.std.proofs.Common.{ℕ, ◌<◌, ◌^◌, ◌&&◌, not, length, sym, subst}
-use Rattle.vidi_bits.specs.Number.{has}
-use Rattle.trace_model.specs.Row.{flies_after, row_before}
+use Rattle.run_model.specs.vidi_bits.Number.{has}
+use Rattle.run_model.specs.trace_model.Row.{flies_after, row_before}
 use Rattle.run_model.proofs.Contents.{mask-below}
 use Rattle.run_reference.proofs.row.starts.Goals as goal
 

@@ -1,5 +1,5 @@
 use Rattle.std.proofs.Common.{◌≡◌, length}
-use Rattle.trace_model.specs.Row.{row_before}
+use Rattle.run_model.specs.trace_model.Row.{row_before}
 use Rattle.run_model.specs.Building.{starts_of}
 use Rattle.run_reference.proofs.row.starts.Given as goal
 

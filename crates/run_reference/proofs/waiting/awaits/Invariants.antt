@@ -1,7 +1,7 @@
 use Rattle.std.proofs.Common.{◌≡◌, ◌++◌, ℕ, drop}
 use Rattle.std.specs.List.{enumerate_from, flat_map}
-use Rattle.trace_model.specs.declared.channel.Channel.{Channel}
-use Rattle.trace_model.specs.Clock.{clock}
+use Rattle.run_model.specs.trace_model.declared.channel.Channel.{Channel}
+use Rattle.run_model.specs.trace_model.Clock.{clock}
 use Rattle.run_model.specs.Held.{await_on, awaits}
 use Rattle.run_model.specs.Replay.{done}
 use Rattle.run_reference.proofs.waiting.awaits.Given as goal

@@ -1,6 +1,6 @@
 use Rattle.std.proofs.Common.{◌≡◌, ◌≤◌, take}
-use Rattle.trace_model.specs.declared.event.Kind.TheVariants.{End}
-use Rattle.trace_model.specs.Packet.{count}
+use Rattle.run_model.specs.trace_model.declared.event.Kind.TheVariants.{End}
+use Rattle.run_model.specs.trace_model.Packet.{count}
 use Rattle.run_reference.proofs.waiting.clock.Given as goal
 
 abbrev pub invariant-loop-packet : goal.invariant-loop-packet

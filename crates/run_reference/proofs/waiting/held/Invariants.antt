@@ -1,6 +1,6 @@
 use Rattle.std.proofs.Common.{◌≡◌, ◌++◌, ℕ, drop}
 use Rattle.std.specs.List.{enumerate_from, flat_map}
-use Rattle.trace_model.specs.declared.channel.Channel.{Channel}
+use Rattle.run_model.specs.trace_model.declared.channel.Channel.{Channel}
 use Rattle.run_model.specs.Held.{controlled, held, held_event}
 use Rattle.run_reference.proofs.waiting.held.Given as goal
 

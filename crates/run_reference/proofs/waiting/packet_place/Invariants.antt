@@ -1,6 +1,6 @@
 use Rattle.std.proofs.Common.{◌≡◌, drop}
 use Rattle.std.specs.Prelude.{slice_get}
-use Rattle.trace_model.specs.Packet.{does}
+use Rattle.run_model.specs.trace_model.Packet.{does}
 use Rattle.run_model.specs.Held.{packet_place, places_from}
 use Rattle.run_reference.proofs.waiting.packet_place.Given as goal
 

@@ -1,5 +1,5 @@
 use Rattle.std.proofs.Common.{◌≡◌, ◌≤◌, take}
-use Rattle.trace_model.specs.Recording.{shown}
+use Rattle.run_model.specs.trace_model.Recording.{shown}
 use Rattle.run_reference.proofs.waiting.shown.Given as goal
 
 abbrev pub invariant-loop-row : goal.invariant-loop-row

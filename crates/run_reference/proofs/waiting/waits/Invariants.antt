@@ -1,7 +1,7 @@
 use Rattle.std.proofs.Common.{◌≡◌, ◌++◌, ℕ, drop, not}
 use Rattle.std.specs.List.{enumerate_from, filter, flat_map}
-use Rattle.trace_model.specs.declared.channel.Channel.{Channel}
-use Rattle.trace_model.specs.declared.event.Event.{Event}
+use Rattle.run_model.specs.trace_model.declared.channel.Channel.{Channel}
+use Rattle.run_model.specs.trace_model.declared.event.Event.{Event}
 use Rattle.run_model.specs.Held.{held, is_held, recorded_next, waits}
 use Rattle.run_reference.proofs.waiting.waits.Given as goal
 

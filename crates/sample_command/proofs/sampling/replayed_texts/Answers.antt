@@ -1,11 +1,11 @@
 use Rattle.std.proofs.Common.{inl, inr}
-use Rattle.vidi_bench.specs.Devices.{IsDevice, Wiring}
-use Rattle.vidi_bench.specs.Ended.{EndsWith}
+use Rattle.replay_command.specs.vidi_bench.Devices.{IsDevice, Wiring}
+use Rattle.replay_command.specs.vidi_bench.Ended.{EndsWith}
 use Rattle.replay_command.specs.Replays.{RefusedTrace}
 use Rattle.sample_command.specs.Samples.{SamplesReplay}
-use Rattle.vidi_bench.specs.Steps.{Never}
-use Rattle.vidi_bench.proofs.Chain.{answered-as}
-use Rattle.vidi_bench.proofs.Wired.{never-wired, wired-then}
+use Rattle.replay_command.specs.vidi_bench.Steps.{Never}
+use Rattle.replay_command.proofs.vidi_bench.Chain.{answered-as}
+use Rattle.replay_command.proofs.vidi_bench.Wired.{never-wired, wired-then}
 use Rattle.sample_command.proofs.sampling.replayed_texts.Goals as goal
 
 pub returns-in_err-device : goal.returns-in_err-device

@@ -1,6 +1,6 @@
 use Rattle.std.proofs.Common.{sym, subst}
 use Rattle.sample_gen.specs.declared.files.Sample.{Sample}
-use Rattle.vidi_bench.specs.Ended.{IsAnswered}
+use Rattle.replay_command.specs.vidi_bench.Ended.{IsAnswered}
 use Rattle.sample_command.specs.Sampled.{AreShort}
 use Rattle.sample_command.specs.Samples.{SamplesFiles}
 use Rattle.sample_command.proofs.SampleTexts.{texts_short}

@@ -1,8 +1,8 @@
 use Rattle.std.proofs.Common.{inl}
-use Rattle.run_commands.specs.Records.{course_of, RefusedPlanned}
+use Rattle.replay_command.specs.run_commands.Records.{course_of, RefusedPlanned}
 use Rattle.sample_command.specs.Sampled.{IsUnstable}
 use Rattle.sample_command.specs.Samples.{IsUntraced}
-use Rattle.vidi_bench.proofs.Chain.{all-as, passed-as}
+use Rattle.replay_command.proofs.vidi_bench.Chain.{all-as, passed-as}
 use Rattle.sample_command.proofs.Sampled.{traced-all, unstable-texts}
 use Rattle.sample_command.proofs.sampling.traced.Goals as goal
 

@@ -1,10 +1,10 @@
 use Rattle.std.proofs.Common.{◌≡◌, ◌∙◌, sym, ap, subst, Option, Some, None, Result, Ok, Err, IfOk, List, []}
 use Rattle.std.specs.Result.{result_ok}
-use Rattle.trace_model.specs.declared.channel.Channel.{Channel}
-use Rattle.script_text.specs.declared.script.Script.{Script}
-use Rattle.script_text.specs.Places.{StandsFor}
-use Rattle.env_script.specs.declared.script_env.ScriptEnv.{ScriptEnv}
-use Rattle.room_ledger.specs.Ledger.{fresh}
+use Rattle.bench_run.specs.trace_model.declared.channel.Channel.{Channel}
+use Rattle.bench_run.specs.script_text.declared.script.Script.{Script}
+use Rattle.bench_run.specs.script_text.Places.{StandsFor}
+use Rattle.bench_run.specs.env_script.declared.script_env.ScriptEnv.{ScriptEnv}
+use Rattle.vidi_recorder.specs.room_ledger.Ledger.{fresh}
 use Rattle.vidi_recorder.specs.Course.{sizes_of}
 use Rattle.script_checks.proofs.failing_tests.sends_after.Goals as goal
 

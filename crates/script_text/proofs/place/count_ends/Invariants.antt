@@ -1,5 +1,5 @@
 use Rattle.std.proofs.Common.{◌≡◌, ◌+◌, ◌<◌, ◌≤◌, ℕ, get_or, cond}
-use Rattle.vidi_bits.specs.Number.{has}
+use Rattle.chan_map.specs.vidi_bits.Number.{has}
 use Rattle.script_text.proofs.place.count_ends.Given as goal
 
 abbrev pub invariant-loop-c : goal.invariant-loop-c

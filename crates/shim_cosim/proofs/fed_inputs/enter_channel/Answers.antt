@@ -1,7 +1,7 @@
 use Rattle.std.proofs.Common.{◌≡◌, ◌*◌, ◌∙◌, Bool, true, false, refl, ap, drop, set, take}
 use mir.Val.{bool_byte}
-use Rattle.vidi_bits.specs.Number.{truth, has}
-use Rattle.trace_model.specs.Row.{replaced}
+use Rattle.net_sim.specs.vidi_bits.Number.{truth, has}
+use Rattle.replay_run.specs.trace_model.Row.{replaced}
 use Rattle.shim_cosim.specs.Rewrapped.{if_inward}
 use Rattle.shim_cosim.proofs.FedInputs.{channel_entered, clock_long}
 use Rattle.shim_cosim.proofs.fed_inputs.enter_channel.Goals as goal

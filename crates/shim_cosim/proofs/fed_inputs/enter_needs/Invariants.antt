@@ -1,5 +1,5 @@
 use Rattle.std.proofs.Common.{◌≡◌, take}
-use Rattle.trace_model.specs.Row.{replaced}
+use Rattle.replay_run.specs.trace_model.Row.{replaced}
 use Rattle.shim_cosim.proofs.fed_inputs.enter_needs.Given as goal
 
 abbrev pub invariant-loop-j : goal.invariant-loop-j

@@ -1,5 +1,5 @@
 use Rattle.std.proofs.Common.{◌≡◌}
-use Rattle.run_model.specs.Building.{mask_of}
+use Rattle.replay_run.specs.run_model.Building.{mask_of}
 use Rattle.shim_cosim.specs.Recorded.{is_chosen}
 use Rattle.shim_cosim.proofs.recorded.chosen.Given as goal
 

@@ -1,6 +1,6 @@
 use Rattle.std.proofs.Common.{◌≡◌, drop}
-use Rattle.trace_model.proofs.RowLemmas.{first_of}
-use Rattle.chan_monitor.specs.Entering.{offered}
+use Rattle.replay_run.proofs.trace_model.RowLemmas.{first_of}
+use Rattle.replay_run.specs.chan_monitor.Entering.{offered}
 use Rattle.shim_cosim.proofs.Entering.{AreEntered}
 use Rattle.shim_cosim.proofs.recorded.enter.Given as goal
 

@@ -1,8 +1,8 @@
 use Rattle.std.proofs.Common.{arith, refl}
-use Rattle.net_design.specs.Pins.{outputs}
-use Rattle.trace_model.specs.Row.{all_widths}
-use Rattle.trace_model.proofs.ContentsLemmas.{fit-length}
-use Rattle.trace_model.proofs.RowLemmas.{first-within}
+use Rattle.net_sim.specs.net_design.Pins.{outputs}
+use Rattle.replay_run.specs.trace_model.Row.{all_widths}
+use Rattle.replay_run.proofs.trace_model.ContentsLemmas.{fit-length}
+use Rattle.replay_run.proofs.trace_model.RowLemmas.{first-within}
 use Rattle.shim_cosim.proofs.Entering.{count-most, fill-more}
 use Rattle.shim_cosim.proofs.recorded.fill.Goals as goal
 

@@ -1,5 +1,5 @@
 use Rattle.std.proofs.Common.{◌++◌, List, ap, subst, take, ◌∙◌}
-use Rattle.trace_model.specs.declared.channel.Channel.{Channel}
+use Rattle.replay_run.specs.trace_model.declared.channel.Channel.{Channel}
 use Rattle.shim_cosim.specs.Rewrapped.{feed_inputs, AreSmallNeeds}
 use Rattle.shim_cosim.proofs.rewrapped.settle_feed.Goals as goal
 

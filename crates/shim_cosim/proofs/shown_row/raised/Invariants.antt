@@ -1,5 +1,5 @@
 use Rattle.std.proofs.Common.{◌≡◌, drop}
-use Rattle.run_model.specs.Building.{mask_of}
+use Rattle.replay_run.specs.run_model.Building.{mask_of}
 use Rattle.shim_cosim.specs.Rewrapped.{is_raised, seat}
 use Rattle.shim_cosim.proofs.shown_row.raised.Given as goal
 

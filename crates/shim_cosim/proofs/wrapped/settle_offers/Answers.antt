@@ -1,6 +1,6 @@
 use Rattle.std.proofs.Common.{◌∙◌, ◌++◌, List, ap, take}
-use Rattle.trace_model.specs.declared.channel.Channel.{Channel}
-use Rattle.chan_monitor.specs.Entering.{offered}
+use Rattle.replay_run.specs.trace_model.declared.channel.Channel.{Channel}
+use Rattle.replay_run.specs.chan_monitor.Entering.{offered}
 use Rattle.shim_cosim.specs.Recorded.{row_inputs}
 use Rattle.shim_cosim.proofs.wrapped.settle_offers.Goals as goal
 

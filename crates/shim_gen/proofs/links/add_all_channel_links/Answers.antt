@@ -1,6 +1,6 @@
 use Rattle.std.proofs.Common.{ℕ, Option, slice_get, ap, sym, ◌∙◌}
-use Rattle.trace_model.specs.declared.channel.Channel.{Channel}
-use Rattle.chan_map.specs.declared.pins.Plug.{Plug}
+use Rattle.shim_trees.specs.trace_model.declared.channel.Channel.{Channel}
+use Rattle.shim_trees.specs.chan_map.declared.pins.Plug.{Plug}
 use Rattle.shim_trees.specs.Pieces.{each_some}
 use Rattle.shim_trees.specs.Links.{channel_links}
 use Rattle.shim_gen.specs.Tables.{with_entries}

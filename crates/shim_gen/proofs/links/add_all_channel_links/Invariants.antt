@@ -1,5 +1,5 @@
 use Rattle.std.proofs.Common.{◌≡◌, drop, slice_get}
-use Rattle.trace_model.specs.declared.channel.Channel.{Channel}
+use Rattle.shim_trees.specs.trace_model.declared.channel.Channel.{Channel}
 use Rattle.shim_trees.specs.Pieces.{each_some}
 use Rattle.shim_trees.specs.Links.{channel_links}
 use Rattle.shim_gen.specs.Tables.{with_entries}

@@ -1,5 +1,5 @@
 use Rattle.std.proofs.Common.{◌≡◌, drop, map}
-use Rattle.chan_map.specs.declared.pins.Tie.{Tie}
+use Rattle.shim_trees.specs.chan_map.declared.pins.Tie.{Tie}
 use Rattle.shim_trees.specs.Links.{tied_link}
 use Rattle.shim_gen.specs.Tables.{with_entries}
 use Rattle.shim_gen.proofs.links.add_tie_links.Given as goal

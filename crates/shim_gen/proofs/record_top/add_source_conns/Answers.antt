@@ -1,7 +1,7 @@
 use Rattle.std.proofs.Common.{map}
 use Rattle.std.specs.Prelude.{codes}
-use Rattle.vlog_tree.specs.Plain.{plain_conn}
-use Rattle.trace_model.specs.declared.channel.Dir.TheVariants.{Inward, Outward}
+use Rattle.shim_trees.specs.vlog_tree.Plain.{plain_conn}
+use Rattle.shim_trees.specs.trace_model.declared.channel.Dir.TheVariants.{Inward, Outward}
 use Rattle.shim_trees.specs.Pieces.{numbered, each, conn}
 use Rattle.shim_trees.specs.RecordTop.{source_ready, source_content}
 use Rattle.shim_gen.proofs.Pushed.{on_ok, four_before}

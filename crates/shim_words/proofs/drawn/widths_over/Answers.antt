@@ -1,5 +1,5 @@
 use Rattle.std.proofs.Common.{ℕ, List, ◌++◌, ap, sym, take, ◌∙◌}
-use Rattle.trace_model.specs.Row.{all_widths}
+use Rattle.shim_runs.specs.trace_model.Row.{all_widths}
 use Rattle.shim_words.proofs.DrawnLaws.{widths-more}
 use Rattle.shim_words.proofs.drawn.widths_over.Goals as goal
 

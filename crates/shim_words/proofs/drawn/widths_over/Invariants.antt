@@ -1,5 +1,5 @@
 use Rattle.std.proofs.Common.{◌≡◌, take}
-use Rattle.trace_model.specs.Row.{all_widths}
+use Rattle.shim_runs.specs.trace_model.Row.{all_widths}
 use Rattle.shim_words.proofs.drawn.widths_over.Given as goal
 
 abbrev pub invariant-loop-channel : goal.invariant-loop-channel

@@ -1,6 +1,6 @@
 use Rattle.std.proofs.Common.{◌≡◌, ◌≤◌, ◌*◌, length}
-use Rattle.trace_model.specs.Row.{all_widths}
-use Rattle.chan_monitor.specs.Shell.{HasPlaces}
+use Rattle.shim_runs.specs.trace_model.Row.{all_widths}
+use Rattle.shim_runs.specs.chan_monitor.Shell.{HasPlaces}
 use Rattle.shim_words.proofs.fed_rows.differ_at.Given as goal
 
 abbrev pub invariant-loop-at : goal.invariant-loop-at

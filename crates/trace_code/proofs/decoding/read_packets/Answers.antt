@@ -1,8 +1,8 @@
 use Rattle.std.proofs.Common.{All, List, subst, sym}
 use Rattle.std.proofs.lemmas.List.Elements.{All-push}
-use Rattle.trace_model.specs.declared.packet.Packet.{Packet}
-use Rattle.trace_model.specs.Packet.{IsPacket}
-use Rattle.trace_model.specs.Trace.{Alternates, InFlight}
+use Rattle.vec_clock.specs.trace_model.declared.packet.Packet.{Packet}
+use Rattle.vec_clock.specs.trace_model.Packet.{IsPacket}
+use Rattle.vec_clock.specs.trace_model.Trace.{Alternates, InFlight}
 use Rattle.trace_code.proofs.Readings.{parts-push}
 use Rattle.trace_code.proofs.decoding.read_packets.Goals as goal
 

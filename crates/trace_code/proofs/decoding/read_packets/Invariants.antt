@@ -1,7 +1,7 @@
 use Rattle.std.proofs.Common.{◌≡◌, ◌++◌, All, length}
 use Rattle.std.specs.List.{flat_map}
-use Rattle.trace_model.specs.Packet.{IsPacket}
-use Rattle.trace_model.specs.Trace.{Alternates, InFlight}
+use Rattle.vec_clock.specs.trace_model.Packet.{IsPacket}
+use Rattle.vec_clock.specs.trace_model.Trace.{Alternates, InFlight}
 use Rattle.trace_code.specs.Encoding.{packet_bytes}
 use Rattle.trace_code.proofs.decoding.read_packets.Given as goal
 

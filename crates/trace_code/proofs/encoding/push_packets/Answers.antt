@@ -1,5 +1,5 @@
 use Rattle.std.proofs.Common.{subst, sym, arith}
-use Rattle.trace_model.specs.Packet.{IsPacket}
+use Rattle.vec_clock.specs.trace_model.Packet.{IsPacket}
 use Rattle.trace_code.proofs.RowBytes.{contents-least, packet-pushed}
 use Rattle.trace_code.proofs.encoding.push_packets.Goals as goal
 

@@ -1,5 +1,5 @@
 use Rattle.std.proofs.Common.{◌≡◌, ◌≤◌, ◌*◌, take, sum_by}
-use Rattle.trace_model.specs.Channel.{content_bytes}
+use Rattle.vec_clock.specs.trace_model.Channel.{content_bytes}
 use Rattle.trace_code.proofs.header.contents_len.Given as goal
 
 abbrev pub invariant-loop-channel : goal.invariant-loop-channel

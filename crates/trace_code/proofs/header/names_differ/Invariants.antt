@@ -1,6 +1,6 @@
 use Rattle.std.proofs.Common.{◌≢◌, take}
 use Rattle.std.specs.List.{AllPairs}
-use Rattle.trace_model.specs.declared.channel.Channel.{Channel}
+use Rattle.vec_clock.specs.trace_model.declared.channel.Channel.{Channel}
 use Rattle.trace_code.proofs.header.names_differ.Given as goal
 
 abbrev pub invariant-loop-i : goal.invariant-loop-i

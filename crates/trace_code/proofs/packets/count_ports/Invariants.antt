@@ -1,5 +1,5 @@
 use Rattle.std.proofs.Common.{◌≡◌, ◌≤◌, ◌+◌, ◌*◌, drop, length}
-use Rattle.trace_model.specs.Packet.{widths_under}
+use Rattle.vec_clock.specs.trace_model.Packet.{widths_under}
 use Rattle.trace_code.proofs.PacketLoop.{widths_from}
 use Rattle.trace_code.proofs.packets.count_ports.Given as goal
 

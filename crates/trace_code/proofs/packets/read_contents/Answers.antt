@@ -1,5 +1,5 @@
 use Rattle.std.proofs.lemmas.Result.{err_from_is_err_and}
-use Rattle.trace_model.specs.Packet.{widths_under}
+use Rattle.vec_clock.specs.trace_model.Packet.{widths_under}
 use Rattle.trace_code.specs.PacketReading.{numbers_at}
 use Rattle.trace_code.proofs.PacketLoop.{start_goes_on, start_ends, start_is_done}
 use Rattle.trace_code.proofs.packets.read_contents.Goals as goal

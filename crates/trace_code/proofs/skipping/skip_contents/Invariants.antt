@@ -1,5 +1,5 @@
 use Rattle.std.proofs.Common.{◌≡◌, List, ℕ, drop}
-use Rattle.trace_model.specs.Packet.{widths_under}
+use Rattle.vec_clock.specs.trace_model.Packet.{widths_under}
 use Rattle.trace_code.specs.Reading.{with_front}
 use Rattle.trace_code.specs.PacketReading.{numbers_at}
 use Rattle.trace_code.proofs.PacketLoop.{widths_from}

@@ -1,5 +1,5 @@
 use Rattle.std.proofs.Common.{refl, ap, arith}
-use Rattle.trace_model.specs.declared.packet.Packet.{Packet}
+use Rattle.vec_clock.specs.trace_model.declared.packet.Packet.{Packet}
 use Rattle.trace_code.specs.Skipping.{packet_with}
 use Rattle.trace_code.proofs.PacketLaws.{packet_takes}
 use Rattle.trace_code.proofs.Skips.{none-stands, none-other}

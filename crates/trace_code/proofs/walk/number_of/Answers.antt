@@ -1,7 +1,7 @@
 use Rattle.std.proofs.Common.{arith, ap, length}
 use Rattle.std.proofs.lemmas.List.{length-drop}
 use Rattle.std.proofs.lemmas.List.Sums.{sum_by_more_le}
-use Rattle.trace_model.specs.Channel.{byte_count}
+use Rattle.vec_clock.specs.trace_model.Channel.{byte_count}
 use Rattle.trace_code.proofs.walk.number_of.Goals as goal
 
 pub split_at-requires-2 : goal.split_at-requires-2

@@ -1,6 +1,6 @@
 use Rattle.std.proofs.Common.{◌≡◌, ℕ, ◌+◌, List, length, take, refl, subst, sym, ap, ◌∙◌, arith}
-use Rattle.trace_model.specs.Length.{mask_len}
-use Rattle.trace_model.specs.Packet.{count}
+use Rattle.vec_clock.specs.trace_model.Length.{mask_len}
+use Rattle.vec_clock.specs.trace_model.Packet.{count}
 use Rattle.trace_code.specs.Heads.{AreMasks}
 use Rattle.trace_code.specs.Standing.{IsAt}
 use Rattle.trace_code.specs.Tallied.{tallied}

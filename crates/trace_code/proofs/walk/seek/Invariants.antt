@@ -1,6 +1,6 @@
 use Rattle.std.proofs.Common.{◌≡◌, ℕ, ◌+◌, take, length}
-use Rattle.trace_model.specs.declared.trace.Trace.{Trace}
-use Rattle.trace_model.specs.Packet.{count}
+use Rattle.vec_clock.specs.trace_model.declared.trace.Trace.{Trace}
+use Rattle.vec_clock.specs.trace_model.Packet.{count}
 use Rattle.trace_code.specs.Standing.{IsAt}
 use Rattle.trace_code.specs.Tallied.{tallied}
 use Rattle.trace_code.proofs.walk.seek.Given as goal

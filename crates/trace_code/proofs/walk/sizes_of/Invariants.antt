@@ -1,5 +1,5 @@
 use Rattle.std.proofs.Common.{◌≡◌, map, take}
-use Rattle.trace_model.specs.Channel.{content_bytes}
+use Rattle.vec_clock.specs.trace_model.Channel.{content_bytes}
 use Rattle.trace_code.proofs.walk.sizes_of.Given as goal
 
 abbrev pub invariant-loop-channel : goal.invariant-loop-channel

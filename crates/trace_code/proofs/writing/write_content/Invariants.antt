@@ -1,5 +1,5 @@
 use Rattle.std.proofs.Common.{◌≡◌, ◌+◌, ◌≤◌, length, drop, sum_by}
-use Rattle.trace_model.specs.Channel.{byte_count}
+use Rattle.vec_clock.specs.trace_model.Channel.{byte_count}
 use Rattle.trace_code.specs.Encoding.{number_bytes}
 use Rattle.trace_code.specs.Writing.{overwritten}
 use Rattle.trace_code.proofs.writing.write_content.Given as goal

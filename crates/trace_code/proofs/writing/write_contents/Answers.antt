@@ -1,6 +1,6 @@
 use Rattle.std.proofs.Common.{◌≡◌, true, false, ◌∙◌, sym, ⊎_elim, arith}
 use Rattle.std.proofs.lemmas.Bool.{cases_Bool, false≢true}
-use Rattle.vidi_bits.specs.Number.{has}
+use Rattle.vec_clock.specs.vidi_bits.Number.{has}
 use Rattle.trace_code.proofs.Picking.{skipped, written}
 use Rattle.trace_code.proofs.writing.write_contents.Goals as goal
 

@@ -1,6 +1,6 @@
 use Rattle.std.proofs.Common.{◌≡◌, ◌+◌, ◌≤◌, length, drop, sum_by}
-use Rattle.trace_model.specs.Channel.{byte_count}
-use Rattle.trace_model.specs.Packet.{widths_under}
+use Rattle.vec_clock.specs.trace_model.Channel.{byte_count}
+use Rattle.vec_clock.specs.trace_model.Packet.{widths_under}
 use Rattle.trace_code.specs.Encoding.{number_bytes}
 use Rattle.trace_code.specs.Writing.{overwritten, picked}
 use Rattle.trace_code.proofs.PacketLoop.{widths_from}

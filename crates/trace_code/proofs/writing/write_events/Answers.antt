@@ -1,6 +1,6 @@
 use Rattle.std.proofs.Common.{length, ◌∙◌, arith}
-use Rattle.trace_model.specs.Length.{mask_len}
-use Rattle.trace_model.specs.Packet.{widths_under}
+use Rattle.vec_clock.specs.trace_model.Length.{mask_len}
+use Rattle.vec_clock.specs.trace_model.Packet.{widths_under}
 use Rattle.trace_code.specs.Encoding.{number_bytes}
 use Rattle.trace_code.specs.Writing.{picked}
 use Rattle.trace_code.proofs.NumberLaws.{length-low}

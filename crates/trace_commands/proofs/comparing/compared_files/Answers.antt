@@ -1,5 +1,5 @@
 use Rattle.std.proofs.Common.{inl, inr}
-use Rattle.report_text.specs.declared.reason.Word.TheVariants as words
+use Rattle.vidi_bench.specs.report_text.declared.reason.Word.TheVariants as words
 use Rattle.trace_commands.specs.Traces.{ComparedFiles, IsNoTrace}
 use Rattle.vidi_bench.proofs.Chain.{answered-as}
 use Rattle.trace_commands.proofs.comparing.compared_files.Goals as goal

@@ -1,6 +1,6 @@
 use Rattle.std.proofs.Common.{ℕ, List, inl, inr}
-use Rattle.vidi_io.specs.Cause.{Rose}
-use Rattle.report_text.specs.declared.reason.Word.TheVariants as words
+use Rattle.vidi_bench.specs.vidi_io.Cause.{Rose}
+use Rattle.vidi_bench.specs.report_text.declared.reason.Word.TheVariants as words
 use Rattle.vidi_bench.specs.Ended.{EndsWith}
 use Rattle.trace_commands.specs.Traces.{Dumps, IsNoTrace}
 use Rattle.vidi_bench.proofs.Chain.{answered-as}

@@ -1,6 +1,6 @@
 use Rattle.std.proofs.Common.{◌≡◌, ◌++◌, ◌∙◌, List, ℕ, Bool, length, ap, subst, arith}
 use Rattle.std.specs.Prelude.{OnOk}
-use Rattle.trace_model.specs.declared.event.Kind.TheVariants.{Start}
+use Rattle.vec_clock.specs.trace_model.declared.event.Kind.TheVariants.{Start}
 use Rattle.trace_compare.specs.declared.report.Finding.{Finding}
 use Rattle.trace_compare.specs.declared.report.What.TheVariants.{Differs}
 use Rattle.trace_compare.specs.Findings.{differing}

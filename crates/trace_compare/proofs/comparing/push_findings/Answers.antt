@@ -1,6 +1,6 @@
 use Rattle.std.proofs.Common.{◌≡◌, ◌++◌, ◌∙◌, List, ℕ, length, refl, ap, subst, arith}
 use Rattle.std.specs.Prelude.{OnOk}
-use Rattle.trace_model.specs.declared.event.Kind.TheVariants.{Start, End}
+use Rattle.vec_clock.specs.trace_model.declared.event.Kind.TheVariants.{Start, End}
 use Rattle.trace_compare.specs.declared.report.Finding.{Finding}
 use Rattle.trace_compare.specs.Findings.{different}
 use Rattle.trace_compare.specs.Walking.{only_of, early_of, early_at}

@@ -1,6 +1,6 @@
 use Rattle.std.proofs.Common.{◌≡◌, [], length, take, drop, cond, ap, ◌∙◌, arith}
-use Rattle.trace_model.proofs.ContentsLemmas.{content-there, rest-on}
-use Rattle.trace_model.specs.Packet.{widths_under}
+use Rattle.vec_clock.proofs.trace_model.ContentsLemmas.{content-there, rest-on}
+use Rattle.vec_clock.specs.trace_model.Packet.{widths_under}
 use Rattle.trace_compare.proofs.content.content.Goals as goal
 
 pub loop-c-preserved : goal.loop-c-preserved

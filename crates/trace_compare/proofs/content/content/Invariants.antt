@@ -1,5 +1,5 @@
 use Rattle.std.proofs.Common.{◌≡◌, take, drop, length}
-use Rattle.trace_model.specs.Packet.{widths_under}
+use Rattle.vec_clock.specs.trace_model.Packet.{widths_under}
 use Rattle.trace_compare.proofs.content.content.Given as goal
 
 abbrev pub invariant-loop-c : goal.invariant-loop-c

@@ -1,6 +1,6 @@
 use Rattle.std.proofs.Common.{◌≡◌, ℕ, ◌+◌, length, get_or, sym, ap, ◌∙◌, arith}
 use Rattle.std.specs.Int.{bit_at}
-use Rattle.trace_model.specs.declared.packet.Packet.{Packet}
+use Rattle.vec_clock.specs.trace_model.declared.packet.Packet.{Packet}
 use Rattle.vec_clock.specs.Counts.{clock_counts}
 use Rattle.vec_clock.proofs.Counting.{counts-long}
 use Rattle.trace_compare.proofs.FirstCovers.{clock-small, clock-on, covers-clock, none-on}

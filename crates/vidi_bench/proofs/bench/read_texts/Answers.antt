@@ -1,5 +1,5 @@
 use Rattle.std.proofs.Common.{ℕ, List, inl, inr, ◌∙◌}
-use Rattle.vidi_io.specs.Cause.{Rose}
+use Rattle.report_text.specs.vidi_io.Cause.{Rose}
 use Rattle.report_text.specs.declared.reason.Word.TheVariants as words
 use Rattle.vidi_bench.specs.Benches.{ReadTexts}
 use Rattle.vidi_bench.specs.Design.{text_limit}

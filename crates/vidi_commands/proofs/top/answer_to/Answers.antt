@@ -1,15 +1,15 @@
 use Rattle.std.proofs.Common.{◌≡◌, ℕ, List, inr, refl}
-use Rattle.vidi_io.specs.Cause.{Rose}
+use Rattle.wrap_command.specs.vidi_io.Cause.{Rose}
 use Rattle.vidi_commands.specs.Answer.{Earns, Stops}
-use Rattle.run_commands.specs.Checks.{Checks}
+use Rattle.sample_command.specs.run_commands.Checks.{Checks}
 use Rattle.vidi_commands.specs.Command.{Check, Compare, Dump, IsGiven, Record, Replay, Run, Salvage, Sample, Wrap}
-use Rattle.run_commands.specs.Records.{Records, StopsRecording}
-use Rattle.replay_command.specs.Replays.{Replays, StopsReplaying}
-use Rattle.run_commands.specs.Runs.{Runs}
+use Rattle.sample_command.specs.run_commands.Records.{Records, StopsRecording}
+use Rattle.sample_command.specs.replay_command.Replays.{Replays, StopsReplaying}
+use Rattle.sample_command.specs.run_commands.Runs.{Runs}
 use Rattle.sample_command.specs.Samples.{Samples}
-use Rattle.trace_commands.specs.Traces.{Compares, Dumps, Saves, StopsSaving}
+use Rattle.sample_command.specs.trace_commands.Traces.{Compares, Dumps, Saves, StopsSaving}
 use Rattle.wrap_command.specs.Wraps.{StopsWrapping, Wraps}
-use Rattle.vidi_bench.proofs.Chain.{owed, owed-as}
+use Rattle.wrap_command.proofs.vidi_bench.Chain.{owed, owed-as}
 use Rattle.vidi_commands.proofs.top.answer_to.Goals as goal
 
 pub returns-in-Some-Dump-clause-owed : goal.returns-in-Some-Dump-clause-owed

@@ -1,6 +1,6 @@
 use Rattle.std.proofs.Common.{inl, inr, refl}
 use Rattle.vidi_commands.specs.Answer.{Stops}
-use Rattle.vidi_bench.specs.AnswerText.{text_of}
+use Rattle.wrap_command.specs.vidi_bench.AnswerText.{text_of}
 use Rattle.vidi_commands.proofs.Saying.{said, quietly}
 use Rattle.vidi_commands.proofs.top.vidi.Goals as goal
 

@@ -1,12 +1,12 @@
 use Rattle.std.proofs.Common.{ℕ, ◌+◌, [], ◌∷◌, ◌++◌, refl, ap, sym, subst, ◌∙◌, arith}
 use Rattle.std.proofs.lemmas.List.{length_push}
 use Rattle.std.proofs.Math.Logic.{∥∥₁_map}
-use Rattle.vidi_bits.proofs.Results.{on_err}
+use Rattle.vidi_io.proofs.vidi_bits.Results.{on_err}
 use Rattle.circular_buffer.specs.Buffer.{Buffer}
-use Rattle.net_design.specs.declared.design.Design.{Design}
+use Rattle.chan_monitor.specs.net_design.declared.design.Design.{Design}
 use Rattle.chan_monitor.specs.Shell.{IsMapped, IsRunning}
 use Rattle.env_script.proofs.Lasting.{offers-fit}
-use Rattle.run_model.specs.Played.{StopsBefore}
+use Rattle.env_script.specs.run_model.Played.{StopsBefore}
 use Rattle.vidi_recorder.specs.Course.{course, plan_of, rule_of}
 use Rattle.vidi_recorder.specs.Standing.{Going, Reached}
 use Rattle.vidi_recorder.proofs.Ends.{cut-before}

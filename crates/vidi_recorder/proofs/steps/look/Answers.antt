@@ -1,5 +1,5 @@
 use Rattle.std.proofs.Common.{subst}
-use Rattle.trace_model.specs.declared.row.Offers.{Offers}
+use Rattle.trace_code.specs.trace_model.declared.row.Offers.{Offers}
 use Rattle.chan_monitor.specs.Shell.{IsShown}
 use Rattle.vidi_recorder.proofs.Looking.{drive-offers, drive-zeros, looked, offers-long}
 use Rattle.vidi_recorder.proofs.steps.look.Goals as goal

@@ -1,21 +1,21 @@
 use Rattle.std.proofs.Common.{ℕ, ◌+◌, ◌<◌, ◌^◌, List, [], ◌∷◌, ◌++◌, Option, length, ap, sym, subst, ◌∙◌, arith}
 use Rattle.std.proofs.lemmas.List.{length-map}
-use Rattle.vidi_bits.proofs.Results.{on_err}
+use Rattle.vidi_io.proofs.vidi_bits.Results.{on_err}
 use Rattle.circular_buffer.specs.Buffer.{Buffer}
-use Rattle.trace_model.specs.declared.channel.Channel.{Channel}
-use Rattle.trace_model.specs.declared.row.Row.{Row}
-use Rattle.trace_model.specs.Channel.{content_bytes}
-use Rattle.trace_model.specs.Recording.{has_event}
-use Rattle.trace_model.specs.Row.{all_widths, row_before, IsOver}
-use Rattle.trace_model.proofs.ContentsLemmas.{fit-length}
-use Rattle.trace_model.specs.Stability.{IsLowestUnstable}
-use Rattle.net_design.specs.declared.design.Design.{Design}
-use Rattle.net_design.specs.declared.values.Values.{Values}
-use Rattle.chan_map.specs.declared.pins.Map.{Map}
-use Rattle.script_text.specs.Offer.{Carries}
+use Rattle.trace_code.specs.trace_model.declared.channel.Channel.{Channel}
+use Rattle.trace_code.specs.trace_model.declared.row.Row.{Row}
+use Rattle.trace_code.specs.trace_model.Channel.{content_bytes}
+use Rattle.trace_code.specs.trace_model.Recording.{has_event}
+use Rattle.trace_code.specs.trace_model.Row.{all_widths, row_before, IsOver}
+use Rattle.trace_code.proofs.trace_model.ContentsLemmas.{fit-length}
+use Rattle.trace_code.specs.trace_model.Stability.{IsLowestUnstable}
+use Rattle.chan_monitor.specs.net_design.declared.design.Design.{Design}
+use Rattle.chan_monitor.specs.net_design.declared.values.Values.{Values}
+use Rattle.env_script.specs.chan_map.declared.pins.Map.{Map}
+use Rattle.env_script.specs.script_text.Offer.{Carries}
 use Rattle.chan_monitor.specs.Shell.{IsShown}
 use Rattle.env_script.specs.Offered.{offers_on}
-use Rattle.script_text.specs.Plan.{allowance_at}
+use Rattle.env_script.specs.script_text.Plan.{allowance_at}
 use Rattle.vidi_recorder.specs.Course.{course, plan_of, sizes_of}
 use Rattle.vidi_recorder.specs.Standing.{Cut, Reached}
 use Rattle.vidi_recorder.proofs.Going.{Cycle, mixed-long}

@@ -1,11 +1,11 @@
 use Rattle.std.proofs.Common.{◌≡◌, ℕ, List, subst, sym}
-use Rattle.flat_parts.specs.Instances.{HaveOwnPaths, AreDeclaredIn}
-use Rattle.vlog_tree.specs.Tree.{FileOf}
-use Rattle.vlog_tree.specs.Plain.{plain}
-use Rattle.vlog_size.specs.Table.{Named}
-use Rattle.vlog_names.specs.Entries.{Names, modules_of}
-use Rattle.vlog_elab.specs.Instances.{ModuleInstance, instances}
-use Rattle.vlog_elab.specs.Plain.{plain_instances}
+use Rattle.flat_drive.specs.flat_parts.Instances.{HaveOwnPaths, AreDeclaredIn}
+use Rattle.flat_drive.specs.vlog_tree.Tree.{FileOf}
+use Rattle.flat_drive.specs.vlog_tree.Plain.{plain}
+use Rattle.flat_drive.specs.vlog_size.Table.{Named}
+use Rattle.flat_drive.specs.vlog_names.Entries.{Names, modules_of}
+use Rattle.flat_drive.specs.vlog_elab.Instances.{ModuleInstance, instances}
+use Rattle.flat_drive.specs.vlog_elab.Plain.{plain_instances}
 use Rattle.flat_drivers.specs.Seated.{AreFaultlessInstances}
 use Rattle.vlog_design.proofs.Found.{no-consts, no-widths}
 use Rattle.vlog_design.proofs.whole.designed.Goals as goal

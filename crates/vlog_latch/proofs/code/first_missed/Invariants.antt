@@ -1,5 +1,5 @@
 use Rattle.std.proofs.Common.{◌≡◌, drop}
-use Rattle.net_code.specs.BitMap.{in_map}
+use Rattle.net_drive.specs.net_code.BitMap.{in_map}
 use Rattle.vlog_latch.specs.Masks.{least_missed}
 use Rattle.vlog_latch.proofs.code.first_missed.Given as goal
 

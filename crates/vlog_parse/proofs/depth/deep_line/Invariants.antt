@@ -1,5 +1,5 @@
 use Rattle.std.proofs.Common.{take}
-use Rattle.vlog_expr.specs.Marks.{all_marked}
+use Rattle.vlog_item.specs.vlog_expr.Marks.{all_marked}
 use Rattle.vlog_parse.proofs.DepthLemmas.{Counts}
 use Rattle.vlog_parse.proofs.depth.deep_line.Given as goal
 

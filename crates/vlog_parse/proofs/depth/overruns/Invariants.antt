@@ -1,5 +1,5 @@
 use Rattle.std.proofs.Common.{◌≡◌, ◌≤◌, drop}
-use Rattle.vlog_expr.specs.Marks.{all_marked}
+use Rattle.vlog_item.specs.vlog_expr.Marks.{all_marked}
 use Rattle.vlog_parse.specs.Depth.{overruns}
 use Rattle.vlog_parse.proofs.depth.overruns.Given as goal
 

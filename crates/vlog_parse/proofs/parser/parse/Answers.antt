@@ -1,7 +1,7 @@
 use Rattle.std.proofs.Common.{ℕ, List, ◌≡◌, sym, ap, subst, Some, Err, ◌∙◌}
-use Rattle.vlog_lex.specs.declared.token.Token.{Token}
+use Rattle.vlog_item.specs.vlog_lex.declared.token.Token.{Token}
 use Rattle.vlog_parse.specs.declared.error.ParseError.TheVariants.{Deep}
-use Rattle.vlog_expr.specs.Marks.{all_marked}
+use Rattle.vlog_item.specs.vlog_expr.Marks.{all_marked}
 use Rattle.vlog_parse.specs.Depth.{IsDeep}
 use Rattle.vlog_parse.proofs.parser.parse.Goals as goal
 

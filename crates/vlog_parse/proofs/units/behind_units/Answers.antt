@@ -1,5 +1,5 @@
 use Rattle.std.proofs.Common.{rules, arith, ◌≡◌, ◌-◌, Some, None, sym, ◌∙◌}
-use Rattle.vlog_expr.specs.Marks.{all_marked}
+use Rattle.vlog_item.specs.vlog_expr.Marks.{all_marked}
 use Rattle.vlog_parse.specs.UnitReader.{unit_at}
 use Rattle.vlog_parse.proofs.Longest.{units_turn, units_stop}
 use Rattle.vlog_parse.proofs.units.behind_units.Goals as goal

@@ -1,5 +1,5 @@
 use Rattle.std.proofs.Common.{◌≡◌, ◌≤◌, false}
-use Rattle.vlog_expr.specs.Marks.{all_marked}
+use Rattle.vlog_item.specs.vlog_expr.Marks.{all_marked}
 use Rattle.vlog_parse.specs.UnitReader.{behind_units}
 use Rattle.vlog_parse.proofs.units.behind_units.Given as goal
 

@@ -2,7 +2,7 @@ use Rattle.std.proofs.Common.{◌≡◌, ◌≤◌, ◌+◌, ◌-◌, ◌^◌, �
 use Rattle.std.specs.Prelude.{min}
 use Rattle.std.proofs.lemmas.List.{drop_all}
 use Rattle.std.proofs.Math.Nat.{min-eq_left}
-use Rattle.vlog_lex.specs.declared.token.Token.{Token}
+use Rattle.vlog_parse.specs.vlog_lex.declared.token.Token.{Token}
 use Rattle.vlog_print.specs.Printed.{printed}
 use Rattle.vlog_print.proofs.printing.room_for.Goals as goal
 

@@ -1,7 +1,7 @@
 use Rattle.std.proofs.Common.{◌≡◌, ◌∙◌, ◌++◌, ◌&&◌, ap, sym, refl, ℕ, Bool, Option}
 use Rattle.std.proofs.Math.Bool.{and-true}
 use Rattle.vlog_size.specs.Size.{too_large, times, total_width, count_fault, all_lawful, parts_const_faults, parts_width_faults}
-use Rattle.vidi_bits.specs.Findings.{first}
+use Rattle.vlog_tree.specs.vidi_bits.Findings.{first}
 use Rattle.vlog_size.proofs.Firsts.{first_both, or_none}
 use Rattle.vlog_size.proofs.Repeats.{many_capped}
 use Rattle.vlog_size.proofs.facts.repeat_facts.Goals as goal

@@ -1,6 +1,6 @@
 use Rattle.std.proofs.Common.{◌∙◌, ap, Bool}
 use Rattle.vlog_size.specs.declared.error.SizeError.TheVariants as error
-use Rattle.vidi_bits.specs.Findings.{first, told_if}
+use Rattle.vlog_tree.specs.vidi_bits.Findings.{first, told_if}
 use Rattle.vlog_size.proofs.Totals.{sum_told}
 use Rattle.vlog_size.proofs.facts.sum_fault.Goals as goal
 

@@ -1,6 +1,6 @@
 use Rattle.std.proofs.Common.{◌<◌, ◌^◌, ◌∙◌, ap, Bool, arith}
 use Rattle.vlog_size.specs.declared.error.SizeError.TheVariants as error
-use Rattle.vidi_bits.specs.Findings.{first, told_if}
+use Rattle.vlog_tree.specs.vidi_bits.Findings.{first, told_if}
 use Rattle.vlog_size.proofs.Repeats.{count_told}
 use Rattle.vlog_size.proofs.facts.wrong_count.Goals as goal
 

@@ -1,7 +1,7 @@
 use Rattle.std.proofs.Common.{inl, inr}
-use Rattle.vlog_tree.specs.Plain.{plain}
-use Rattle.shim_trees.specs.RecordTop.{record_name}
-use Rattle.shim_trees.specs.ReplayTop.{replay_name}
+use Rattle.vlog_print.specs.vlog_tree.Plain.{plain}
+use Rattle.shim_gen.specs.shim_trees.RecordTop.{record_name}
+use Rattle.shim_gen.specs.shim_trees.ReplayTop.{replay_name}
 use Rattle.wrap_command.specs.Shims.{IsDeepTree, IsFaultyTop, IsFaultyTree}
 use Rattle.vidi_bench.proofs.Chain.{all-as, passed-as}
 use Rattle.wrap_command.proofs.shims.check_tree.Goals as goal

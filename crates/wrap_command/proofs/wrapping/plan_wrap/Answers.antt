@@ -1,7 +1,7 @@
 use Rattle.std.proofs.Common.{ℕ, List, inl, inr}
 use Rattle.std.specs.Prelude.{IfOk, IfErr}
-use Rattle.vidi_io.specs.Cause.{Rose}
-use Rattle.report_text.specs.declared.reason.Word.TheVariants as words
+use Rattle.vidi_bench.specs.vidi_io.Cause.{Rose}
+use Rattle.vidi_bench.specs.report_text.declared.reason.Word.TheVariants as words
 use Rattle.vidi_bench.specs.Design.{text_limit}
 use Rattle.vidi_bench.specs.Ended.{EndsWith}
 use Rattle.vidi_bench.specs.Reading.{IsUnread}

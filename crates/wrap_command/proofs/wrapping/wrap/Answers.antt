@@ -1,5 +1,5 @@
 use Rattle.std.proofs.Common.{◌≡◌, ℕ, List, inl, ◌∙◌}
-use Rattle.vidi_io.specs.Cause.{Rose}
+use Rattle.vidi_bench.specs.vidi_io.Cause.{Rose}
 use Rattle.wrap_command.specs.Wraps.{IsUnwritten, StopsWrapping, Wraps}
 use Rattle.vidi_bench.proofs.Chain.{passed-owed, rose-since}
 use Rattle.wrap_command.proofs.Written.{written-owed}

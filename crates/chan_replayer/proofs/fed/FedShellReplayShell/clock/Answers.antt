@@ -1,5 +1,5 @@
 use Rattle.std.proofs.Common.{length}
-use Rattle.trace_model.specs.Row.{row_before}
+use Rattle.vec_clock.specs.trace_model.Row.{row_before}
 use Rattle.chan_replayer.proofs.Feeding.{next, running-next}
 use Rattle.chan_replayer.proofs.fed.FedShellReplayShell.clock.Goals as goal
 

@@ -1,5 +1,5 @@
 use Rattle.std.proofs.Common.{◌+◌, drop, ap, sym, ◌∙◌}
-use Rattle.vidi_bits.specs.Findings.{first}
+use Rattle.net_code.specs.vidi_bits.Findings.{first}
 use Rattle.net_drive.specs.declared.findings.NetKind.{NetKind}
 use Rattle.net_code.specs.Targets.{plain_places}
 use Rattle.net_drive.specs.Drive.{kind_faults, kind_at, nets_from}

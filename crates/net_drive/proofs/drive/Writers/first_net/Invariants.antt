@@ -1,5 +1,5 @@
 use Rattle.std.proofs.Common.{◌≡◌, drop}
-use Rattle.vidi_bits.specs.Findings.{first}
+use Rattle.net_code.specs.vidi_bits.Findings.{first}
 use Rattle.net_code.specs.Targets.{plain_places}
 use Rattle.net_drive.specs.Drive.{nets_from}
 use Rattle.net_drive.proofs.drive.Writers.first_net.Given as goal

@@ -1,4 +1,4 @@
-use Rattle.trace_model.specs.declared.event.Kind.TheVariants.{Start, End}
+use Rattle.trace_code.specs.trace_model.declared.event.Kind.TheVariants.{Start, End}
 use Rattle.replay_run.proofs.cursors.Cursors.advance.Goals as goal
 
 pub returns : goal.returns

@@ -1,5 +1,5 @@
 use Rattle.std.proofs.Common.{ℕ, ◌<◌}
-use Rattle.trace_model.specs.declared.trace.Trace.{Trace}
+use Rattle.trace_code.specs.trace_model.declared.trace.Trace.{Trace}
 use Rattle.replay_run.specs.Behind.{AreBehind, IsDone}
 use Rattle.replay_run.proofs.cursors.Cursors.has_ended.Given as goal
 

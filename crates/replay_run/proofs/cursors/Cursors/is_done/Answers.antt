@@ -1,7 +1,7 @@
 use Rattle.std.proofs.Common.{min, sym, ◌∙◌, arith}
 use Rattle.std.proofs.lemmas.Bool.{false≢true}
-use Rattle.trace_model.specs.declared.event.Kind.TheVariants.{Start, End}
-use Rattle.trace_model.specs.Packet.{count}
+use Rattle.trace_code.specs.trace_model.declared.event.Kind.TheVariants.{Start, End}
+use Rattle.trace_code.specs.trace_model.Packet.{count}
 use Rattle.replay_run.proofs.Forward.{cursor-there, done-flying, done-idle, ended-when}
 use Rattle.replay_run.proofs.cursors.Cursors.is_done.Goals as goal
 

@@ -1,6 +1,6 @@
 use Rattle.std.proofs.Common.{◌≤◌, ◌++◌, length, take, refl, ap, sym, subst, ◌∙◌}
-use Rattle.net_design.specs.Pins.{output_count}
-use Rattle.chan_monitor.specs.Entering.{offered}
+use Rattle.net_sim.specs.net_design.Pins.{output_count}
+use Rattle.replay_run.specs.chan_monitor.Entering.{offered}
 use Rattle.shim_cosim.specs.Recorded.{row_inputs, outputs_count}
 use Rattle.shim_cosim.proofs.Calls as calls
 use Rattle.shim_cosim.proofs.Shells.{known_long, known_places, known_small, known_few, known_fit}

@@ -1,10 +1,10 @@
 use Rattle.std.proofs.Common.{ℕ, List, get_or, ◌≡◌, ◌+◌, ◌*◌, ◌≤◌, ◌<◌, length, take, drop, ap, sym, subst, ◌∙◌, All, sum_by}
-use Rattle.trace_model.specs.declared.event.Kind.{Kind}
-use Rattle.trace_model.specs.declared.event.Kind.TheVariants.{Start}
-use Rattle.trace_model.specs.Channel.{byte_count}
-use Rattle.trace_model.specs.Length.{mask_len}
-use Rattle.trace_model.specs.Packet.{count, does}
-use Rattle.trace_model.proofs.CountingLemmas.{nth-below}
+use Rattle.vec_clock.specs.trace_model.declared.event.Kind.{Kind}
+use Rattle.vec_clock.specs.trace_model.declared.event.Kind.TheVariants.{Start}
+use Rattle.vec_clock.specs.trace_model.Channel.{byte_count}
+use Rattle.vec_clock.specs.trace_model.Length.{mask_len}
+use Rattle.vec_clock.specs.trace_model.Packet.{count, does}
+use Rattle.vec_clock.proofs.trace_model.CountingLemmas.{nth-below}
 use Rattle.trace_code.specs.PacketReading.{high_value}
 use Rattle.trace_code.specs.Tallied.{tallied}
 use Rattle.trace_code.proofs.Content.{at-start, below-within, channel-of, content-is, port-there, small-widths}

@@ -1,5 +1,5 @@
 use Rattle.std.proofs.Common.{◌<◌, length, subst, List}
-use Rattle.trace_model.specs.declared.channel.Channel.{Channel}
+use Rattle.vec_clock.specs.trace_model.declared.channel.Channel.{Channel}
 use Rattle.trace_code.proofs.cursor.Cursor.new.Goals as goal
 
 pub open-requires-clause-trace : goal.open-requires-clause-trace

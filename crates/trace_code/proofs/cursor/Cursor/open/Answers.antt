@@ -1,7 +1,7 @@
 use Rattle.std.proofs.Common.{List, Some, length, map, replicate, slice_get, refl, ap, sym, subst, ◌∙◌, ◌≡◌, ◌<◌, arith}
 use Rattle.std.proofs.lemmas.Option.{slice_get_read}
-use Rattle.trace_model.specs.declared.channel.Channel.{Channel}
-use Rattle.trace_model.specs.Channel.{content_bytes}
+use Rattle.vec_clock.specs.trace_model.declared.channel.Channel.{Channel}
+use Rattle.vec_clock.specs.trace_model.Channel.{content_bytes}
 use Rattle.trace_code.specs.Tallied.{tallied}
 use Rattle.trace_code.proofs.Content.{small-front}
 use Rattle.trace_code.proofs.Walking.{first-at, sizes-long, small-contents}

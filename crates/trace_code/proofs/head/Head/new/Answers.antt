@@ -1,5 +1,5 @@
 use Rattle.std.proofs.Common.{◌≡◌, ℕ, ◌+◌, ◌*◌, ◌≤◌, List, length, ap, subst, ◌∙◌, arith}
-use Rattle.trace_model.specs.Length.{mask_len}
+use Rattle.vec_clock.specs.trace_model.Length.{mask_len}
 use Rattle.trace_code.specs.Heads.{sizes_under, IsWord}
 use Rattle.trace_code.proofs.Words.{no-word}
 use Rattle.trace_code.proofs.head.Head.new.Goals as goal

@@ -1,6 +1,6 @@
 use Rattle.std.proofs.Common.{◌≡◌, ℕ, ◌+◌, ◌-◌, ◌*◌, ◌^◌, ◌≤◌, List, length, take, drop, sym, ap, subst, ◌∙◌, arith}
 use Rattle.std.proofs.lemmas.List.{length-drop, take_all}
-use Rattle.trace_model.specs.Length.{mask_len}
+use Rattle.vec_clock.specs.trace_model.Length.{mask_len}
 use Rattle.trace_code.specs.Heads.{sizes_under, IsWord}
 use Rattle.trace_code.proofs.NumberLaws.{IsBytes-drop}
 use Rattle.trace_code.proofs.Words.{front-small, joined-word, joins}

@@ -1,5 +1,5 @@
 use Rattle.std.proofs.Common.{◌≡◌, ◌++◌, drop, map}
-use Rattle.trace_model.specs.declared.event.Kind.TheVariants.{Start, End}
+use Rattle.vec_clock.specs.trace_model.declared.event.Kind.TheVariants.{Start, End}
 use Rattle.trace_compare.specs.Findings.{events_from}
 use Rattle.trace_compare.specs.Walking.{places}
 use Rattle.trace_compare.proofs.EventPlaces.{place}
