@@ -4,13 +4,13 @@ use Rattle.std.proofs.Common.{⊎_elim, refl, ap, sym}
 use Rattle.std.proofs.Common.{subst, ◌∙◌, arith, Result, Ok, Err}
 use Rattle.std.specs.Prelude.{OnErr}
 use Rattle.std.proofs.lemmas.Option.{same_Some}
-use Rattle.env_script.proofs.trace_model.RowLemmas.{before-last}
+use Rattle.env_script.proofs.trace_model_lemmas.RowLemmas.{before-last}
 use Rattle.env_script.specs.trace_model.declared.channel.Channel.{Channel}
 use Rattle.env_script.specs.trace_model.declared.row.Offers.{Offers}
 use Rattle.env_script.specs.trace_model.declared.row.Row.{Row}
 use Rattle.env_script.specs.trace_model.Row.{row_before, IsOver}
 use Rattle.env_script.specs.trace_model.Stability.{IsUnstable, IsUnstableAt}
-use Rattle.env_script.proofs.trace_model.CountingLemmas.{slice_get-append_left, slice_get-last, slice_get-push}
+use Rattle.env_script.proofs.trace_model_lemmas.CountingLemmas.{slice_get-append_left, slice_get-last, slice_get-push}
 use Rattle.chan_monitor.specs.net_design.declared.design.Design.{Design}
 use Rattle.chan_monitor.specs.net_design.declared.values.Values.{Values}
 use Rattle.chan_monitor.specs.chan_map.declared.pins.Map.{Map}
@@ -18,7 +18,7 @@ use Rattle.chan_monitor.specs.run_model.Offers.{Carries as RunCarries}
 use Rattle.chan_monitor.specs.run_model.Played.{all_up, AreStable}
 use Rattle.chan_monitor.specs.run_model.Run.{AllUp, IsRunRow}
 use Rattle.chan_monitor.specs.run_model.Step.{IsFirst, IsStep}
-use Rattle.chan_monitor.proofs.run_model.PlayedLaws.{Grown, played-nil, played-push}
+use Rattle.chan_monitor.proofs.run_model_lemmas.PlayedLaws.{Grown, played-nil, played-push}
 use Rattle.env_script.specs.script_text.Offer.{Offer, Carries, FitsOffer}
 use Rattle.chan_monitor.specs.Shell.{IsShown}
 use Rattle.env_script.specs.Offered.{offers_after, offers_on, AllFit}

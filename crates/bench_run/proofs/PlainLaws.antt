@@ -7,10 +7,10 @@ use Rattle.env_script.specs.trace_model.declared.channel.Channel.{Channel}
 use Rattle.env_script.specs.trace_model.declared.row.Row.{Row}
 use Rattle.chan_monitor.specs.run_model.Played.{all_up}
 use Rattle.chan_monitor.specs.run_model.Run.{AllUp, IsTheRun}
-use Rattle.chan_monitor.proofs.run_model.Ends.{the-run}
-use Rattle.chan_monitor.proofs.run_model.ReplayLaws.{all-up-below}
-use Rattle.chan_monitor.proofs.run_model.RunLaws.{kept, one-of_length, run-keeps, GatesAreFixed, StayUp}
-use Rattle.chan_monitor.proofs.run_model.Stops.{one-that_ends}
+use Rattle.chan_monitor.proofs.run_model_lemmas.Ends.{the-run}
+use Rattle.chan_monitor.proofs.run_model_lemmas.ReplayLaws.{all-up-below}
+use Rattle.chan_monitor.proofs.run_model_lemmas.RunLaws.{kept, one-of_length, run-keeps, GatesAreFixed, StayUp}
+use Rattle.chan_monitor.proofs.run_model_lemmas.Stops.{one-that_ends}
 use Rattle.chan_monitor.specs.net_design.declared.design.Design.{Design}
 use Rattle.chan_monitor.specs.chan_map.declared.pins.Map.{Map}
 use Rattle.env_script.specs.script_text.Offer.{Offer}

@@ -3,7 +3,7 @@ use Rattle.std.proofs.Common.{◌≡◌, ℕ, ◌≤◌, List, [], ◌∷◌, �
 use Rattle.std.specs.Prelude.{count_by}
 use Rattle.std.specs.Option.{option_to_list}
 use Rattle.std.specs.List.{flat_map}
-use Rattle.vidi_lines.proofs.vidi_bits.Bools.{left_of}
+use Rattle.vidi_lines.proofs.vidi_bits_lemmas.Bools.{left_of}
 use Rattle.net_design.specs.declared.design.Design.{Design}
 use Rattle.net_design.specs.declared.design.Direction.TheVariants.{Input}
 use Rattle.chan_map.specs.declared.map_text.MapLine.{MapLine}

@@ -6,7 +6,7 @@ use Rattle.std.specs.List.{flat_map, list_all, list_any}
 use Rattle.std.specs.Option.{option_to_list}
 use Rattle.std.proofs.lemmas.Bool.{cases_lt, or_right}
 use Rattle.std.proofs.lemmas.List.Sums.{sum_by-append}
-use Rattle.vidi_lines.proofs.vidi_bits.Bools.{left_of, right_of}
+use Rattle.vidi_lines.proofs.vidi_bits_lemmas.Bools.{left_of, right_of}
 use Rattle.trace_model.proofs.RowLaws.{flag}
 use Rattle.trace_model.specs.declared.channel.Channel.{Channel as Row}
 use Rattle.net_design.specs.declared.design.Port.{Port}

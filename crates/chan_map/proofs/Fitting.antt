@@ -4,8 +4,8 @@ use Rattle.std.proofs.Common.{length, refl, ap, subst, ◌∙◌, arith}
 use Rattle.std.specs.Prelude.{IfSome}
 use Rattle.std.specs.List.{flat_map, list_all, AllZip, AllByRecursion}
 use Rattle.std.proofs.lemmas.Bool.{eqb-true}
-use Rattle.vidi_lines.proofs.vidi_bits.Bools.{left_of, right_of}
-use Rattle.vidi_lines.proofs.vidi_bits.Each.{each_append}
+use Rattle.vidi_lines.proofs.vidi_bits_lemmas.Bools.{left_of, right_of}
+use Rattle.vidi_lines.proofs.vidi_bits_lemmas.Each.{each_append}
 use Rattle.vidi_lines.specs.vidi_bits.Findings.{told_if}
 use Rattle.net_design.specs.declared.design.Port.{Port}
 use Rattle.net_design.specs.declared.design.Direction.{Direction}

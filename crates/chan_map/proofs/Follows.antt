@@ -4,7 +4,7 @@ use Rattle.std.specs.List.{list_all}
 use Rattle.chan_map.specs.declared.map_text.Entry.{Entry}
 use Rattle.std.proofs.lemmas.List.{map-append}
 use Rattle.std.proofs.lemmas.Bool.{and_from}
-use Rattle.vidi_lines.proofs.vidi_bits.Bools.{left_of, right_of}
+use Rattle.vidi_lines.proofs.vidi_bits_lemmas.Bools.{left_of, right_of}
 use Rattle.chan_map.specs.declared.map_text.MapLine.{MapLine}
 use Rattle.chan_map.specs.Seen.{AreLawful}
 use Rattle.chan_map.specs.Follow.{entries, may_follow, follow, is_named}

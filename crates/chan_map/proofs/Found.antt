@@ -8,7 +8,7 @@ use Rattle.std.proofs.lemmas.Option.{slice_get_cases, get_or_from_slice_get, sli
 use Rattle.std.proofs.lemmas.Slice.Eq.{bytes_eq-Decides}
 use borrow.Author.Tests.{ltb-true}
 use Rattle.std.proofs.lemmas.Bool.{eqb-true}
-use Rattle.vidi_lines.proofs.vidi_bits.Bools.{left_of, right_of}
+use Rattle.vidi_lines.proofs.vidi_bits_lemmas.Bools.{left_of, right_of}
 use Rattle.vidi_lines.specs.vidi_bits.Number.{IsWidth}
 use Rattle.net_design.specs.declared.design.Port.{Port}
 use Rattle.net_design.specs.declared.design.Direction.{Direction}

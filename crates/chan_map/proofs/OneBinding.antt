@@ -12,7 +12,7 @@ use Rattle.vidi_lines.specs.vidi_bits.Findings.{IsFirst}
 use Rattle.chan_map.specs.Told.{map_told}
 use Rattle.chan_map.specs.Bound.{map_faults, IsBound, BindsMap}
 use Rattle.chan_map.specs.Laws.{OneBinding}
-use Rattle.vidi_lines.proofs.vidi_bits.OneAnswer.{one-answer}
+use Rattle.vidi_lines.proofs.vidi_bits_lemmas.OneAnswer.{one-answer}
 
 same-reset : (a b : Option Reset) → option_to_list a ≡ option_to_list b → a ≡ b
 same-reset None None e = refl

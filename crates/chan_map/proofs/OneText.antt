@@ -10,7 +10,7 @@ use Rattle.chan_map.specs.declared.text.MapText.{MapText}
 use Rattle.chan_map.specs.Follow.{entries, clock_name, top_name, follow, is_named}
 use Rattle.chan_map.specs.Text.{text_faults, IsText, IsFirstLine, ReadsMap}
 use Rattle.chan_map.specs.Laws.{OneMapText}
-use Rattle.vidi_lines.proofs.vidi_bits.OneAnswer.{one-answer}
+use Rattle.vidi_lines.proofs.vidi_bits_lemmas.OneAnswer.{one-answer}
 
 same-one : (a b : List ℕ) → a ∷ [] ≡ b ∷ [] → a ≡ b
 same-one a b e = cc

@@ -12,8 +12,8 @@ use Rattle.std.proofs.lemmas.List.Elements.{All-from_recursion}
 use Rattle.std.proofs.lemmas.List.Sums.{AllPass-from_list_all}
 use Rattle.std.proofs.lemmas.List.Quantifiers.{all_pairs_push}
 use Rattle.std.proofs.lemmas.Slice.Eq.{bytes_eq-Decides}
-use Rattle.vidi_lines.proofs.vidi_bits.Bools.{left_of, right_of}
-use Rattle.vidi_lines.proofs.vidi_bits.Each.{each_append}
+use Rattle.vidi_lines.proofs.vidi_bits_lemmas.Bools.{left_of, right_of}
+use Rattle.vidi_lines.proofs.vidi_bits_lemmas.Each.{each_append}
 use Rattle.vidi_lines.specs.vidi_bits.Findings.{is_nil, told_if}
 use Rattle.trace_model.specs.declared.channel.Channel.{Channel as Row}
 use Rattle.trace_model.specs.Channel.{is_letter, is_letter_or_digit, IsName, IsChannel, IsTable}

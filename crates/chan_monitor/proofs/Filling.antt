@@ -12,9 +12,9 @@ use Rattle.run_model.specs.trace_model.declared.channel.Dir.TheVariants.{Inward,
 use Rattle.run_model.specs.trace_model.declared.row.Offers.{Offers}
 use Rattle.run_model.specs.trace_model.Packet.{Fit}
 use Rattle.run_model.specs.trace_model.Row.{all_widths, content_at, replaced}
-use Rattle.run_model.proofs.trace_model.CountingLemmas.{take-more_read}
-use Rattle.run_model.proofs.trace_model.ContentsLemmas.{fit-length}
-use Rattle.run_model.proofs.trace_model.RowLemmas.{first_of, first-more, first-within, content-read, replaced-more}
+use Rattle.run_model.proofs.trace_model_lemmas.CountingLemmas.{take-more_read}
+use Rattle.run_model.proofs.trace_model_lemmas.ContentsLemmas.{fit-length}
+use Rattle.run_model.proofs.trace_model_lemmas.RowLemmas.{first_of, first-more, first-within, content-read, replaced-more}
 use Rattle.run_model.specs.chan_map.declared.pins.Pin.{Pin}
 use Rattle.run_model.specs.chan_map.declared.pins.Plug.{Plug}
 use Rattle.run_model.specs.Building.{at_plug, content_on, joined, mask_of}

@@ -12,14 +12,14 @@ use Rattle.std.proofs.lemmas.List.FromFn.{length-enumerate_from}
 use Rattle.std.proofs.lemmas.Option.{slice_get-get_or, same_Some, IfSome_then}
 use Rattle.std.proofs.lemmas.Nat.{pow_pos}
 use Rattle.run_model.specs.vidi_bits.Number.{truth, has}
-use Rattle.run_model.proofs.vidi_bits.BitLemmas.{has-above}
+use Rattle.run_model.proofs.vidi_bits_lemmas.BitLemmas.{has-above}
 use Rattle.run_model.specs.trace_model.declared.channel.Channel.{Channel}
 use Rattle.run_model.specs.trace_model.declared.channel.Dir.{Dir}
 use Rattle.run_model.specs.trace_model.declared.channel.Dir.TheVariants.{Inward, Outward}
 use Rattle.run_model.specs.trace_model.declared.row.Offers.{Offers}
 use Rattle.run_model.specs.trace_model.declared.row.Row.{Row}
 use Rattle.run_model.specs.trace_model.Row.{content_at, sink_valid, AreOffers}
-use Rattle.run_model.proofs.trace_model.CountingLemmas.{count-cons, nth-below}
+use Rattle.run_model.proofs.trace_model_lemmas.CountingLemmas.{count-cons, nth-below}
 use Rattle.run_model.specs.net_design.declared.design.Port.{Port}
 use Rattle.run_model.specs.net_design.declared.design.Direction.{Direction}
 use Rattle.run_model.specs.net_design.declared.design.Direction.TheVariants.{Input, Output}

@@ -5,14 +5,14 @@ use Rattle.std.proofs.Math.Logic.{∥∥₁_elim, ∥∥₁_map}
 use Rattle.std.proofs.Props.{props}
 use Rattle.std.specs.List.{refill, AllZip, AllByRecursion}
 use Rattle.std.specs.Option.{IfSome}
-use Rattle.run_model.proofs.net_design.OneProof.{one_prop}
+use Rattle.run_model.proofs.net_design_lemmas.OneProof.{one_prop}
 use Rattle.run_model.specs.vidi_bits.Number.{has}
 use Rattle.run_model.specs.trace_model.declared.channel.Channel.{Channel}
 use Rattle.run_model.specs.trace_model.declared.row.Row.{Row}
 use Rattle.run_model.specs.trace_model.Channel.{IsTable, IsChannel, IsName}
 use Rattle.run_model.specs.trace_model.Counting.{IsNth}
 use Rattle.run_model.specs.trace_model.Row.{is_in_flight}
-use Rattle.run_model.proofs.trace_model.CountingLemmas.{nth, nth-below, nth-unique}
+use Rattle.run_model.proofs.trace_model_lemmas.CountingLemmas.{nth, nth-below, nth-unique}
 use Rattle.run_model.specs.net_design.declared.design.Port.{Port}
 use Rattle.run_model.specs.net_design.declared.design.Direction.{Direction}
 use Rattle.run_model.specs.net_design.declared.design.Direction.TheVariants.{Input}

@@ -11,7 +11,7 @@ use Rattle.run_model.specs.trace_model.declared.channel.Dir.TheVariants.{Inward,
 use Rattle.run_model.specs.trace_model.declared.row.Offers.{Offers}
 use Rattle.run_model.specs.trace_model.declared.row.Row.{Row}
 use Rattle.run_model.specs.trace_model.Row.{content_at}
-use Rattle.run_model.proofs.trace_model.CountingLemmas.{count-cons}
+use Rattle.run_model.proofs.trace_model_lemmas.CountingLemmas.{count-cons}
 use Rattle.run_model.specs.chan_map.declared.pins.Plug.{Plug}
 use Rattle.run_model.specs.declared.pins.PinNumber.{PinNumber}
 use Rattle.run_model.specs.Pins.{inward_inputs, plug_inputs, inputs_from}
@@ -20,7 +20,7 @@ use Rattle.chan_monitor.specs.declared.monitor.Passed.{Passed}
 use Rattle.chan_monitor.specs.Passing.{passed}
 use Rattle.std.proofs.lemmas.Option.{slice_get_read}
 use Rattle.run_model.specs.vidi_bits.Number.{has}
-use Rattle.run_model.proofs.trace_model.RowLemmas.{first_of, content-read}
+use Rattle.run_model.proofs.trace_model_lemmas.RowLemmas.{first_of, content-read}
 use Rattle.chan_monitor.specs.Entering.{write, passed_inputs, offered, ArePlugsWithin, IsPlugWithin}
 
 -- ---- one step of a loop, and its end

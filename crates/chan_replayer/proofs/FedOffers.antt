@@ -20,13 +20,13 @@ use Rattle.vec_clock.specs.trace_model.Clock.{Covers}
 use Rattle.vec_clock.specs.trace_model.Packet.{Fit, widths_of}
 use Rattle.vec_clock.specs.trace_model.Row.{all_widths, content_at, replaced}
 use Rattle.vec_clock.specs.trace_model.Mask.{IsLowest}
-use Rattle.vec_clock.proofs.trace_model.MaskLemmas.{bit-from-has}
-use Rattle.vec_clock.proofs.trace_model.ContentsLemmas.{fit-length}
-use Rattle.vec_clock.proofs.trace_model.RowLemmas.{first_of, first-more, first-within, content-read}
+use Rattle.vec_clock.proofs.trace_model_lemmas.MaskLemmas.{bit-from-has}
+use Rattle.vec_clock.proofs.trace_model_lemmas.ContentsLemmas.{fit-length}
+use Rattle.vec_clock.proofs.trace_model_lemmas.RowLemmas.{first_of, first-more, first-within, content-read}
 use Rattle.chan_monitor.specs.run_model.Building.{joined}
 use Rattle.chan_monitor.specs.run_model.Offers.{no_content}
-use Rattle.chan_monitor.proofs.run_model.Contents.{content-fits, content-joined, fit-joined, fit-zeros}
-use Rattle.chan_monitor.proofs.run_model.JoinedLaws.{joined-more}
+use Rattle.chan_monitor.proofs.run_model_lemmas.Contents.{content-fits, content-joined, fit-joined, fit-zeros}
+use Rattle.chan_monitor.proofs.run_model_lemmas.JoinedLaws.{joined-more}
 use Rattle.chan_replayer.specs.declared.feed.Feed.{Feed}
 use Rattle.chan_replayer.specs.Feed.{need_of, IsFeedOver, IsUp}
 use Rattle.chan_replayer.specs.Fed.{fed_content, AreFed, AreOffered}

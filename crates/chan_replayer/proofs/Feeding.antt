@@ -17,10 +17,10 @@ use Rattle.vec_clock.specs.trace_model.declared.row.Row.{Row}
 use Rattle.vec_clock.specs.vidi_bits.Number.{has}
 use Rattle.vec_clock.specs.trace_model.Recording.{row_does}
 use Rattle.vec_clock.specs.trace_model.Row.{content_at, row_before, IsOver}
-use Rattle.vec_clock.proofs.trace_model.CountingLemmas.{count-push}
-use Rattle.vec_clock.proofs.trace_model.ContentsLemmas.{fit_prop}
-use Rattle.vec_clock.proofs.trace_model.RowLemmas.{before-last}
-use Rattle.vec_clock.proofs.trace_model.MaskLemmas.{cond-has}
+use Rattle.vec_clock.proofs.trace_model_lemmas.CountingLemmas.{count-push}
+use Rattle.vec_clock.proofs.trace_model_lemmas.ContentsLemmas.{fit_prop}
+use Rattle.vec_clock.proofs.trace_model_lemmas.RowLemmas.{before-last}
+use Rattle.vec_clock.proofs.trace_model_lemmas.MaskLemmas.{cond-has}
 use Rattle.chan_monitor.specs.net_design.declared.design.Design.{Design}
 use Rattle.chan_monitor.specs.net_design.declared.values.Values.{Values}
 use Rattle.chan_monitor.specs.chan_map.declared.pins.Map.{Map}

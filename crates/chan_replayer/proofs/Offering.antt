@@ -12,7 +12,7 @@ use Rattle.vec_clock.specs.trace_model.declared.row.Row.{Row}
 use Rattle.vec_clock.specs.vidi_bits.Number.{has}
 use Rattle.vec_clock.specs.trace_model.Packet.{does}
 use Rattle.vec_clock.specs.trace_model.Row.{content_at}
-use Rattle.vec_clock.proofs.trace_model.CountingLemmas.{nth, nth-below}
+use Rattle.vec_clock.proofs.trace_model_lemmas.CountingLemmas.{nth, nth-below}
 use Rattle.chan_monitor.specs.run_model.Offers.{no_content}
 use Rattle.chan_monitor.specs.run_model.Replay.{done, IsCovered, IsOfferedOn, IsOffered}
 use Rattle.chan_replayer.specs.declared.feed.Feed.{Feed}

@@ -9,8 +9,8 @@ use Rattle.run_model.proofs.JoinedLaws.{joined-more}
 use Rattle.run_model.specs.trace_model.declared.channel.Channel.{Channel}
 use Rattle.run_model.specs.trace_model.Packet.{widths_of}
 use Rattle.run_model.specs.trace_model.Row.{all_widths, replaced}
-use Rattle.run_model.proofs.trace_model.ContentsLemmas.{fit-length}
-use Rattle.run_model.proofs.trace_model.RowLemmas.{first_of, first-more, first-within, replaced-more}
+use Rattle.run_model.proofs.trace_model_lemmas.ContentsLemmas.{fit-length}
+use Rattle.run_model.proofs.trace_model_lemmas.RowLemmas.{first_of, first-more, first-within, replaced-more}
 use Rattle.run_model.specs.Building.{joined}
 use Rattle.run_model.proofs.Contents.{fit-zeros}
 use Rattle.script_text.specs.Offer.{Offer}

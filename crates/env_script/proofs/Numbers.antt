@@ -6,7 +6,7 @@ use Rattle.std.specs.List.{range_with_len}
 use Rattle.std.proofs.lemmas.Bool.{cases_Bool, cond-true, cond-false}
 use Rattle.run_model.specs.trace_model.declared.channel.Channel.{Channel}
 use Rattle.run_model.specs.trace_model.Packet.{widths_of}
-use Rattle.run_model.proofs.trace_model.ContentsLemmas.{fit-length}
+use Rattle.run_model.proofs.trace_model_lemmas.ContentsLemmas.{fit-length}
 use Rattle.run_model.specs.Offers.{no_content}
 use Rattle.script_text.specs.Offer.{Offer}
 use Rattle.env_script.specs.Offered.{numbers_on, port_numbers, AllFit}

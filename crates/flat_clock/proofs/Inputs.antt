@@ -7,8 +7,8 @@ use Rattle.std.proofs.lemmas.Slice.Eq.{bytes_eq-Decides}
 use Rattle.std.proofs.lemmas.List.Elements.{Contains-append_cases, All-contains}
 use Rattle.std.proofs.lemmas.Iterator.Adapters.{position_from-zero}
 use Rattle.std.proofs.lemmas.Bool.{false_from_ne_true}
-use Rattle.flat_laws.proofs.vidi_bits.Lists.{none_in, head_in, tail_in, cases_in}
-use Rattle.flat_laws.proofs.vidi_bits.Bools.{left_of}
+use Rattle.flat_laws.proofs.vidi_bits_lemmas.Lists.{none_in, head_in, tail_in, cases_in}
+use Rattle.flat_laws.proofs.vidi_bits_lemmas.Bools.{left_of}
 use Rattle.flat_laws.specs.vidi_bits.Findings.{told_if}
 use Rattle.flat_laws.specs.vlog_tree.declared.module.Direction.{Direction}
 use Rattle.flat_laws.specs.vlog_tree.declared.module.Direction.TheVariants.{Input, Output}

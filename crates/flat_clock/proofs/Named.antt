@@ -4,8 +4,8 @@ use Rattle.std.proofs.Common.{◌∙◌, arith, Option, None, Some, slice_get, B
 use Rattle.std.specs.List.{Contains, flat_map}
 use Rattle.std.proofs.lemmas.List.{length-map}
 use Rattle.std.proofs.lemmas.Bool.{not-false}
-use Rattle.flat_laws.proofs.vidi_bits.FindingLaws.{told_none}
-use Rattle.flat_laws.proofs.vidi_bits.Lists.{none_in, cases_in, from_flat, nil_left, nil_right, none_mapped}
+use Rattle.flat_laws.proofs.vidi_bits_lemmas.FindingLaws.{told_none}
+use Rattle.flat_laws.proofs.vidi_bits_lemmas.Lists.{none_in, cases_in, from_flat, nil_left, nil_right, none_mapped}
 use Rattle.flat_laws.specs.vlog_tree.Tree.{IdentOf, EventOf, PosedgeEvent, ImplicitEvent, AlwaysOf, InstanceOf, ItemOf, WiresItem, DrivenWiresItem}
 use Rattle.flat_laws.specs.vlog_tree.Tree.{RegsItem, LocalparamsItem, AssignItem, AlwaysItem, InstanceItem, ModuleOf, FileOf}
 use Rattle.flat_laws.specs.vlog_size.Table.{Named, value_of}
@@ -20,12 +20,12 @@ use Rattle.flat_laws.specs.vlog_hierarchy.Nodes.{Node, nodes_of}
 use Rattle.flat_laws.specs.vlog_hierarchy.Clock.{scopes, scopes_of, ports_from, items_in, items_at, event_ports, item_ports, scope_ports, clock_ports}
 use Rattle.flat_laws.specs.vlog_hierarchy.Clock.{first_port, same_port, clock_marks, event_faults, body_faults, item_faults, scope_faults}
 use Rattle.flat_laws.specs.vlog_hierarchy.Clock.{clock_faults}
-use Rattle.flat_laws.proofs.vlog_hierarchy.Scoped.{same_places}
+use Rattle.flat_laws.proofs.vlog_hierarchy_lemmas.Scoped.{same_places}
 use Rattle.flat_laws.specs.vlog_elab.Errors.{of_hierarchy}
 use Rattle.flat_laws.specs.vlog_elab.Instances.{ModuleInstance, instances, node_of}
 use Rattle.flat_laws.specs.vlog_elab.Clock.{clock_inputs}
 use Rattle.flat_laws.specs.vlog_elab.Reasons.{Clear, hierarchy_findings, instance_findings, clock_findings, late_findings, size_findings}
-use Rattle.flat_laws.proofs.vlog_elab.Same.{same_nodes}
+use Rattle.flat_laws.proofs.vlog_elab_lemmas.Same.{same_nodes}
 use Rattle.flat_laws.specs.vlog_meaning.Names.{Name, Full}
 use Rattle.flat_laws.specs.vlog_meaning.Settled.{inputs_of, Joins, Waits, IsClock}
 use Rattle.flat_laws.specs.flat_parts.Laws.{IsTop}

@@ -6,9 +6,9 @@ use Rattle.std.specs.Str.{bytes_eq}
 use Rattle.std.proofs.lemmas.Slice.Eq.{bytes_eq-Decides}
 use Rattle.std.proofs.lemmas.List.Elements.{Contains-append_left, Contains-push}
 use Rattle.std.proofs.lemmas.Bool.{false_from_ne_true}
-use Rattle.flat_laws.proofs.vidi_bits.FindingLaws.{told_none}
+use Rattle.flat_laws.proofs.vidi_bits_lemmas.FindingLaws.{told_none}
 use Rattle.flat_laws.specs.vidi_bits.Findings.{or_first}
-use Rattle.flat_laws.proofs.vidi_bits.Lists.{bytes_eq-self, none_in, head_in, tail_in, cases_in, nil_left, nil_right}
+use Rattle.flat_laws.proofs.vidi_bits_lemmas.Lists.{bytes_eq-self, none_in, head_in, tail_in, cases_in, nil_left, nil_right}
 use Rattle.flat_laws.specs.vlog_tree.Tree.{IdentOf, ExprOf, UnaryExpr, BinaryExpr, ChoiceExpr, NumberPrim, RefPrim, ParenPrim, ConcatPrim}
 use Rattle.flat_laws.specs.vlog_tree.Tree.{RepeatPrim, RefWith, NoIndex, Index, NoLast, Last, ConnOf, InstanceOf}
 use Rattle.flat_laws.specs.vlog_size.Table.{Named, value_of, added}

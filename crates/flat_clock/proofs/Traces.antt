@@ -2,7 +2,7 @@
 use Rattle.std.proofs.Common.{◌≡◌, ℕ, zero, suc, ◌≤◌, ◌⊎◌, inl, inr, List, [], ◌∷◌, map, length, refl, sym, ap, subst, ◌∙◌}
 use Rattle.std.proofs.Common.{arith, Option, Some, slice_get}
 use Rattle.std.specs.List.{Contains, flat_map}
-use Rattle.flat_laws.proofs.vidi_bits.Lists.{none_in, head_in, tail_in, cases_in, in_flat, from_flat}
+use Rattle.flat_laws.proofs.vidi_bits_lemmas.Lists.{none_in, head_in, tail_in, cases_in, in_flat, from_flat}
 use Rattle.flat_laws.specs.vlog_tree.Tree.{InstanceOf, InstanceItem, ModuleOf}
 use Rattle.flat_laws.specs.vlog_size.Table.{Named, value_of}
 use Rattle.flat_laws.specs.vlog_size.declared.scope.Scope.{Scope}
@@ -12,8 +12,8 @@ use Rattle.flat_laws.specs.vlog_names.Twice.{twice_connected}
 use Rattle.flat_laws.specs.vlog_hierarchy.declared.scopes.Scope as hierarchy
 use Rattle.flat_laws.specs.vlog_hierarchy.Outlines.{Child, outlines_of, children_at}
 use Rattle.flat_laws.specs.vlog_hierarchy.Clock.{scopes, child_scopes, child_joined}
-use Rattle.flat_laws.proofs.vlog_hierarchy.Scoped.{no_deeper, deeper}
-use Rattle.flat_laws.proofs.vlog_elab.Places.{there}
+use Rattle.flat_laws.proofs.vlog_hierarchy_lemmas.Scoped.{no_deeper, deeper}
+use Rattle.flat_laws.proofs.vlog_elab_lemmas.Places.{there}
 use Rattle.flat_laws.specs.vlog_meaning.Names.{Name, Full}
 use Rattle.flat_laws.specs.vlog_meaning.Settled.{Joins}
 use Rattle.flat_laws.proofs.Lists.{long_flat, in_got}

@@ -5,7 +5,7 @@ use Rattle.std.specs.List.{list_any}
 use Rattle.std.specs.Str.{bytes_eq}
 use Rattle.std.proofs.lemmas.Slice.Eq.{bytes_eq-Decides}
 use Rattle.std.proofs.lemmas.List.Folds.{list_any-append}
-use Rattle.flat_parts.proofs.vidi_bits.Bools.{or_none}
+use Rattle.flat_parts.proofs.vidi_bits_lemmas.Bools.{or_none}
 use Rattle.flat_parts.specs.vidi_bits.Findings.{told_if}
 use Rattle.flat_parts.specs.vlog_tree.Tree.{PortOf, PortHeadOf, ModuleOf}
 use Rattle.flat_parts.specs.vlog_tree.declared.module.Direction.{Direction}

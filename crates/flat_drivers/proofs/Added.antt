@@ -10,7 +10,7 @@ use Rattle.flat_parts.specs.vlog_size.declared.scope.Scope.{Scope}
 use Rattle.flat_parts.specs.vlog_size.Table.{Named}
 use Rattle.flat_parts.specs.vlog_scope.Scope.{after_item}
 use Rattle.flat_parts.specs.net_design.declared.act.Code.{Code}
-use Rattle.flat_parts.proofs.net_design.UpdateLaws.{from_here}
+use Rattle.flat_parts.proofs.net_design_lemmas.UpdateLaws.{from_here}
 use Rattle.flat_parts.specs.vlog_meaning.Names.{Full}
 use Rattle.flat_parts.specs.vlog_meaning.Placed.{Placed, placed}
 use Rattle.flat_parts.specs.Seats.{Seat}

@@ -1,7 +1,7 @@
 -- A copy of a table, entry by entry.
 use Rattle.std.proofs.Common.{◌≡◌, ◌≢◌, ℕ, zero, suc, ◌+◌, Bool, true, false, if◌then◌else◌, List, [], ◌∷◌, ◌++◌, map, take, length}
 use Rattle.std.proofs.Common.{Some, slice_get, is_some, refl, ap, sym, subst, ◌∙◌, add-one}
-use Rattle.flat_parts.proofs.vidi_bits.Lists.{some_same}
+use Rattle.flat_parts.proofs.vidi_bits_lemmas.Lists.{some_same}
 use Rattle.flat_parts.specs.vlog_size.Table.{Named, value_of, added}
 
 module _ {V : Type 0} where

@@ -7,8 +7,8 @@ use Rattle.flat_parts.specs.vlog_tree.Tree.{ItemOf, WiresItem, DrivenWiresItem, 
 use Rattle.flat_parts.specs.vlog_size.declared.scope.Scope.{Scope}
 use Rattle.flat_parts.specs.vlog_size.Names.{Readable, checked, is_lawful_readable, is_lawful_scope}
 use Rattle.flat_parts.specs.vlog_size.Size.{Sizes, sizes_of, sizes_of_target, faults}
-use Rattle.flat_parts.proofs.vlog_size.Alike.{expr_alike, target_alike}
-use Rattle.flat_parts.proofs.vlog_size.Meanings.{scope_lawful}
+use Rattle.flat_parts.proofs.vlog_size_lemmas.Alike.{expr_alike, target_alike}
+use Rattle.flat_parts.proofs.vlog_size_lemmas.Meanings.{scope_lawful}
 use Rattle.flat_parts.specs.vlog_scope.declared.fault.FaultKind.TheVariants.{Constant, Width}
 use Rattle.flat_parts.specs.vlog_scope.Scope.{readable_at, after_item}
 use Rattle.flat_parts.specs.vlog_scope.Faults.{found, expr_faults, assign_faults, assigned_faults, stmt_faults, stmts_faults, body_faults, else_faults}

@@ -2,7 +2,7 @@
 use Rattle.std.proofs.Common.{◌≡◌, ℕ, zero, suc, true, List, [], ◌∷◌, ◌++◌, Option, None, Some, slice_get, refl, sym, ◌∙◌}
 use Rattle.std.specs.List.{flat_map, AllByRecursion}
 use Rattle.std.proofs.lemmas.Grind.{flat_map-append}
-use Rattle.flat_parts.proofs.vidi_bits.Lists.{none_mapped}
+use Rattle.flat_parts.proofs.vidi_bits_lemmas.Lists.{none_mapped}
 use Rattle.flat_parts.specs.vlog_tree.Tree.{InstanceOf, ItemOf, WiresItem, DrivenWiresItem, RegsItem, LocalparamsItem, AssignItem, AlwaysItem}
 use Rattle.flat_parts.specs.vlog_tree.Tree.{InstanceItem, ModuleOf}
 use Rattle.flat_parts.specs.vlog_size.declared.scope.Scope.{Scope}
@@ -13,7 +13,7 @@ use Rattle.flat_parts.specs.vlog_scope.Scope.{readable_at, after_item}
 use Rattle.flat_parts.specs.vlog_scope.Faults.{override_faults, conn_faults, item_faults, items_faults, ports_faults, parameters_faults, scope_faults}
 use Rattle.flat_parts.specs.vlog_scope.Faults.{const_faults, width_faults}
 use Rattle.flat_parts.specs.vlog_scope.declared.extent.Extent.TheVariants.{NoRange}
-use Rattle.flat_parts.proofs.vlog_scope.LawfulPlaces.{lawful_scope, lawful_declared}
+use Rattle.flat_parts.proofs.vlog_scope_lemmas.LawfulPlaces.{lawful_scope, lawful_declared}
 use Rattle.flat_parts.specs.vlog_hierarchy.Outlines.{place_of}
 use Rattle.flat_parts.specs.vlog_elab.Errors.{of_size}
 use Rattle.flat_parts.specs.vlog_elab.Instances.{ModuleInstance, child_of, child_at, item_children, children_from, children, within, top_of, top_at}

@@ -8,12 +8,12 @@ use Rattle.std.specs.List.{flat_map}
 use Rattle.std.proofs.lemmas.Bool.{false_from_ne_true}
 use Rattle.std.proofs.lemmas.Option.{slice_get_within, get_or_from_slice_get}
 use Rattle.flat_parts.specs.Instances.{HaveOwnPaths}
-use Rattle.flat_parts.proofs.vidi_bits.Lists.{some_same}
+use Rattle.flat_parts.proofs.vidi_bits_lemmas.Lists.{some_same}
 use Rattle.flat_parts.specs.vlog_tree.Tree.{InstanceOf}
 use Rattle.flat_parts.specs.vlog_scope.Scope.{words_of}
 use Rattle.flat_parts.specs.vlog_names.Entries.{Names, declared}
 use Rattle.flat_parts.specs.vlog_elab.Instances.{ModuleInstance}
-use Rattle.flat_parts.proofs.vlog_meaning.Paths.{path_same, path_itself}
+use Rattle.flat_parts.proofs.vlog_meaning_lemmas.Paths.{path_same, path_itself}
 use Rattle.flat_parts.specs.vlog_meaning.Names.{Full, same_path}
 use Rattle.flat_parts.specs.vlog_driver.Sites.{Site}
 use Rattle.flat_parts.specs.vlog_driver.Duties.{Duty, conn_duties}

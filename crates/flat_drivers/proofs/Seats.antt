@@ -8,7 +8,7 @@ use Rattle.std.proofs.lemmas.List.{length-map}
 use Rattle.std.proofs.lemmas.Option.{slice_get-map}
 use Rattle.flat_parts.specs.vlog_tree.Tree.{ItemOf, WiresItem, DrivenWiresItem, RegsItem, LocalparamsItem, AssignItem, AlwaysItem, InstanceItem}
 use Rattle.std.specs.Borrow.{Bor}
-use Rattle.flat_parts.proofs.vidi_bits.Lists.{some_same}
+use Rattle.flat_parts.proofs.vidi_bits_lemmas.Lists.{some_same}
 use Rattle.flat_parts.specs.vlog_tree.declared.module.Item.{Item}
 use Rattle.flat_parts.specs.vlog_tree.Plain.{plain_item}
 use Rattle.flat_parts.specs.vlog_size.declared.scope.Scope.{Scope}

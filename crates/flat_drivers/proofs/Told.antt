@@ -1,6 +1,6 @@
 -- First findings.
 use Rattle.std.proofs.Common.{◌≡◌, List, [], ◌++◌, map, ap, sym, subst, ◌∙◌}
-use Rattle.flat_parts.proofs.vidi_bits.FindingLaws.{first_map, is_first_more}
+use Rattle.flat_parts.proofs.vidi_bits_lemmas.FindingLaws.{first_map, is_first_more}
 use Rattle.flat_parts.specs.vlog_latch.declared.error.BlockError.{BlockError}
 use Rattle.flat_parts.specs.vlog_latch.declared.error.BlockError.TheVariants as block
 use Rattle.flat_parts.specs.vlog_latch.Told.{block_told}

@@ -11,14 +11,14 @@ use Rattle.flat_parts.specs.net_design.declared.values.Target.TheVariants.{Net, 
 use Rattle.flat_parts.specs.net_design.declared.values.Update.{Update}
 use Rattle.flat_parts.specs.net_design.declared.values.Values.{Values}
 use Rattle.flat_parts.specs.net_design.Updates.{written_to, apply}
-use Rattle.flat_parts.proofs.net_design.StateLaws.{written_long, applied_long}
-use Rattle.flat_parts.proofs.net_design.UpdateLaws.{apply_both}
+use Rattle.flat_parts.proofs.net_design_lemmas.StateLaws.{written_long, applied_long}
+use Rattle.flat_parts.proofs.net_design_lemmas.UpdateLaws.{apply_both}
 use Rattle.flat_parts.specs.net_code.Moved.{moved_target, moved_update}
 use Rattle.flat_parts.specs.vlog_scope.Scope.{words_of}
 use Rattle.flat_parts.specs.vlog_elab.Instances.{ModuleInstance}
 use Rattle.flat_parts.specs.vlog_meaning.Own.{IsLong, word_total}
 use Rattle.flat_parts.specs.vlog_meaning.Placed.{names_at}
-use Rattle.flat_parts.proofs.vlog_meaning.SameUpdates.{TargetIn, AreIn}
+use Rattle.flat_parts.proofs.vlog_meaning_lemmas.SameUpdates.{TargetIn, AreIn}
 use Rattle.flat_parts.specs.Seats.{Seat, seats_from}
 
 -- other numbers behind those of v

@@ -3,7 +3,7 @@ use Rattle.std.proofs.Common.{◌≡◌, ℕ, ◌+◌, ◌≤◌, List, [], ◌�
 use Rattle.std.specs.List.{flat_map, AllZip, Contains}
 use Rattle.std.proofs.lemmas.List.{length-map, append-nil}
 use Rattle.std.proofs.lemmas.List.Sums.{sum_by-cons}
-use Rattle.flat_parts.proofs.vlog_meaning.Words.{length-words}
+use Rattle.flat_parts.proofs.vlog_meaning_lemmas.Words.{length-words}
 use Rattle.flat_parts.specs.vlog_tree.Tree.{EventOf, PosedgeEvent, ImplicitEvent, AlwaysOf, ItemOf, WiresItem, DrivenWiresItem}
 use Rattle.flat_parts.specs.vlog_tree.Tree.{RegsItem, LocalparamsItem, AssignItem, AlwaysItem, InstanceItem}
 use Rattle.flat_parts.specs.vlog_size.declared.scope.ScopeMemory.{ScopeMemory}
@@ -23,8 +23,8 @@ use Rattle.flat_parts.specs.vlog_elab.Instances.{ModuleInstance}
 use Rattle.flat_parts.specs.vlog_meaning.Names.{Full, numbers_at}
 use Rattle.flat_parts.specs.vlog_meaning.Placed.{Placed, placed_items, names_at}
 use Rattle.flat_parts.specs.vlog_meaning.Next.{event_updates, item_updates, clocked_updates}
-use Rattle.flat_parts.proofs.vlog_meaning.SameHolds.{updated_alike}
-use Rattle.flat_parts.proofs.vlog_meaning.SameUpdates.{AreIn, body_in, both_in}
+use Rattle.flat_parts.proofs.vlog_meaning_lemmas.SameHolds.{updated_alike}
+use Rattle.flat_parts.proofs.vlog_meaning_lemmas.SameUpdates.{AreIn, body_in, both_in}
 use Rattle.flat_parts.specs.vlog_driver.Sites.{numbers_from}
 use Rattle.flat_parts.specs.Seats.{Seat, seats_of, site_at}
 use Rattle.flat_parts.specs.Drivers.{ClockedBlock, IsBlockOf, event_blocks, item_blocks, placed_blocks, seat_blocks, all_blocks}

@@ -5,8 +5,8 @@ use Rattle.std.specs.List.{Contains, All, AllPairs, flat_map}
 use Rattle.std.proofs.lemmas.List.Elements.{All-contains, Contains-append_left, Contains-append_right}
 use Rattle.std.proofs.lemmas.List.Kept.{AllPairs-cons}
 use Rattle.flat_parts.specs.Instances.{HasOtherPath}
-use Rattle.flat_parts.proofs.vidi_bits.Lists.{none_in, head_in, tail_in, cases_in, from_flat}
-use Rattle.flat_parts.proofs.vlog_elab.Added.{deeper}
+use Rattle.flat_parts.proofs.vidi_bits_lemmas.Lists.{none_in, head_in, tail_in, cases_in, from_flat}
+use Rattle.flat_parts.proofs.vlog_elab_lemmas.Added.{deeper}
 use Rattle.flat_parts.specs.vlog_tree.Tree.{InstanceOf, ItemOf, WiresItem, DrivenWiresItem, RegsItem, LocalparamsItem, AssignItem, AlwaysItem}
 use Rattle.flat_parts.specs.vlog_tree.Tree.{InstanceItem, ModuleOf}
 use Rattle.flat_parts.specs.vlog_size.declared.scope.Scope.{Scope}

@@ -6,8 +6,8 @@ use Rattle.std.proofs.lemmas.List.{length-map}
 use Rattle.std.proofs.lemmas.List.Elements.{recursion_from_All}
 use Rattle.std.proofs.lemmas.List.Sums.{AllPass-from_list_all}
 use Rattle.std.proofs.Math.Pow.{pow_mono}
-use Rattle.flat_parts.proofs.vidi_bits.Bools.{left_of, right_of}
-use Rattle.flat_parts.proofs.vidi_bits.Each.{then_so, each_weaker}
+use Rattle.flat_parts.proofs.vidi_bits_lemmas.Bools.{left_of, right_of}
+use Rattle.flat_parts.proofs.vidi_bits_lemmas.Each.{then_so, each_weaker}
 use Rattle.flat_parts.specs.vlog_tree.Tree.{ModuleOf}
 use Rattle.flat_parts.specs.vlog_size.declared.scope.ScopeNet.{ScopeNet}
 use Rattle.flat_parts.specs.vlog_size.declared.scope.ScopeMemory.{ScopeMemory}

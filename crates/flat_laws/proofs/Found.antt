@@ -3,14 +3,14 @@ use Rattle.std.proofs.Common.{◌≡◌, ℕ, ◌≤◌, nat_lt, false, List, []
 use Rattle.std.proofs.lemmas.List.{length-map}
 use Rattle.std.proofs.lemmas.List.Elements.{All-contains, All-from_recursion}
 use Rattle.std.specs.List.{Contains}
-use Rattle.flat_parts.proofs.vidi_bits.FindingLaws.{told_none}
-use Rattle.flat_parts.proofs.vidi_bits.Lists.{nil_left, none_mapped}
+use Rattle.flat_parts.proofs.vidi_bits_lemmas.FindingLaws.{told_none}
+use Rattle.flat_parts.proofs.vidi_bits_lemmas.Lists.{nil_left, none_mapped}
 use Rattle.flat_parts.specs.vlog_tree.Tree.{ModuleOf, FileOf}
 use Rattle.flat_parts.specs.vlog_names.Entries.{module_entry, modules_of, declared}
 use Rattle.flat_parts.specs.vlog_names.Different.{Differ}
 use Rattle.flat_parts.specs.vlog_names.Twice.{twice_names}
 use Rattle.flat_parts.specs.vlog_names.Unknown.{unknown_names}
-use Rattle.flat_parts.proofs.vlog_names.Different.{modules_differ, names_differ}
+use Rattle.flat_parts.proofs.vlog_names_lemmas.Different.{modules_differ, names_differ}
 use Rattle.flat_parts.specs.vlog_hierarchy.declared.error.HierarchyError.TheVariants as e
 use Rattle.flat_parts.specs.vlog_hierarchy.declared.error.HierarchyLimit.TheVariants.{Instances}
 use Rattle.flat_parts.specs.vlog_hierarchy.Outlines.{place_of, outlines_of}
@@ -18,7 +18,7 @@ use Rattle.flat_parts.specs.vlog_hierarchy.Nodes.{Node, nodes_of, count_faults, 
 use Rattle.flat_parts.specs.vlog_elab.Errors.{of_name, of_hierarchy}
 use Rattle.flat_parts.specs.vlog_elab.Instances.{instances, node_of}
 use Rattle.flat_parts.specs.vlog_elab.Reasons.{Clear, name_findings, kind_findings, text_findings, hierarchy_findings, late_findings, size_findings}
-use Rattle.flat_parts.proofs.vlog_elab.Same.{same_nodes}
+use Rattle.flat_parts.proofs.vlog_elab_lemmas.Same.{same_nodes}
 use Rattle.flat_parts.specs.vlog_hierarchy.declared.nodes.TheConstants.{MOST_INSTANCES}
 
 -- E3 finds nothing, and E4 neither

@@ -8,7 +8,7 @@ use Rattle.std.proofs.lemmas.List.{length-map}
 use Rattle.std.proofs.lemmas.List.FromFn.{length-enumerate_from}
 use Rattle.std.proofs.lemmas.Nat.Bits.{same_from_bits}
 use Rattle.std.proofs.lemmas.Option.{slice_get-get_or}
-use Rattle.flat_parts.proofs.vlog_meaning.Words.{length-words}
+use Rattle.flat_parts.proofs.vlog_meaning_lemmas.Words.{length-words}
 use Rattle.flat_parts.specs.vlog_tree.Tree.{ModuleOf}
 use Rattle.flat_parts.specs.vlog_size.declared.scope.ScopeNet.{ScopeNet}
 use Rattle.flat_parts.specs.vlog_size.declared.scope.Scope.{Scope}

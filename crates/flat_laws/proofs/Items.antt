@@ -1,7 +1,7 @@
 -- The duties of the drivers hold exactly where the items of all instances do.
 use Rattle.std.proofs.Common.{◌≡◌, ◌≢◌, ℕ, ◌↔◌, List, [], ◌∷◌, ◌++◌, Some, refl, ap, sym, subst, ◌∙◌}
 use Rattle.std.specs.List.{AllByRecursion, AllPairs, Contains}
-use Rattle.flat_parts.proofs.vidi_bits.Each.{then_so}
+use Rattle.flat_parts.proofs.vidi_bits_lemmas.Each.{then_so}
 use Rattle.flat_parts.specs.vlog_tree.Tree.{InstanceOf, ItemOf, WiresItem, DrivenWiresItem, RegsItem, LocalparamsItem, AssignItem, AlwaysItem}
 use Rattle.flat_parts.specs.vlog_tree.Tree.{InstanceItem, ModuleOf}
 use Rattle.flat_parts.specs.vlog_size.declared.scope.Scope.{Scope}
@@ -12,7 +12,7 @@ use Rattle.flat_parts.specs.vlog_meaning.Placed.{Placed, placed_items, names_at}
 use Rattle.flat_parts.specs.vlog_meaning.Instances.{IsChild, IsAt}
 use Rattle.flat_parts.specs.vlog_meaning.Items.{ConnsHold, HoldsAt, ItemHolds}
 use Rattle.flat_parts.specs.vlog_driver.Held.{DutyHolds, DutiesHold, IsNoInstance, StandsAt, item_duties}
-use Rattle.flat_parts.proofs.vlog_driver.Held.{items_are, conns_are}
+use Rattle.flat_parts.proofs.vlog_driver_lemmas.Held.{items_are, conns_are}
 use Rattle.flat_parts.specs.Seats.{Seat, seats_of, site_at, seat_named}
 use Rattle.flat_parts.specs.Drivers.{joined_duties, duties_at, placed_duties, seat_duties, all_duties}
 use Rattle.flat_parts.specs.Laws.{IsListed, numbers_of}

@@ -19,8 +19,8 @@ pub mod Clocked
 pub mod Instances
 pub mod Next
 pub mod Initial
-pub use Rattle.flat_parts.proofs.vidi_bits as vidi_bits
-pub use Rattle.flat_parts.proofs.vlog_elab as vlog_elab
-pub use Rattle.flat_parts.proofs.vlog_hierarchy as vlog_hierarchy
-pub use Rattle.flat_parts.proofs.vlog_meaning as vlog_meaning
-pub use Rattle.flat_parts.proofs.vlog_names as vlog_names
+pub use Rattle.flat_parts.proofs.vidi_bits_lemmas as vidi_bits_lemmas
+pub use Rattle.flat_parts.proofs.vlog_elab_lemmas as vlog_elab_lemmas
+pub use Rattle.flat_parts.proofs.vlog_hierarchy_lemmas as vlog_hierarchy_lemmas
+pub use Rattle.flat_parts.proofs.vlog_meaning_lemmas as vlog_meaning_lemmas
+pub use Rattle.flat_parts.proofs.vlog_names_lemmas as vlog_names_lemmas

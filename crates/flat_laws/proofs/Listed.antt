@@ -3,14 +3,14 @@ use Rattle.std.proofs.Common.{◌≡◌, ℕ, suc, ◌<◌, inl, inr, List, [], 
 use Rattle.std.proofs.Common.{arith, append-nil, Option, None, Some, slice_get}
 use Rattle.std.specs.List.{Contains, AllPairs, flat_map}
 use Rattle.flat_parts.specs.Instances.{HasOtherPath}
-use Rattle.flat_parts.proofs.vlog_elab.Added.{deeper}
+use Rattle.flat_parts.proofs.vlog_elab_lemmas.Added.{deeper}
 use Rattle.flat_parts.specs.vlog_tree.Tree.{ModuleOf, FileOf}
 use Rattle.flat_parts.specs.vlog_size.declared.scope.Scope.{Scope}
 use Rattle.flat_parts.specs.vlog_scope.Scope.{scope_with}
 use Rattle.flat_parts.specs.vlog_hierarchy.Outlines.{place_of}
 use Rattle.flat_parts.specs.vlog_elab.Instances.{ModuleInstance, children, within, top_of, top_at, instances}
 use Rattle.flat_parts.specs.vlog_elab.Reasons.{Clear}
-use Rattle.flat_parts.proofs.vlog_elab.Places.{there}
+use Rattle.flat_parts.proofs.vlog_elab_lemmas.Places.{there}
 use Rattle.flat_parts.specs.vlog_meaning.Names.{Full}
 use Rattle.flat_parts.specs.vlog_meaning.Instances.{Leads, IsAt}
 use Rattle.flat_parts.specs.Laws.{IsTop, IsListed, InstancesAreAll, PathsDiffer, FirstIsTop}

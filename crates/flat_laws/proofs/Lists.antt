@@ -4,7 +4,7 @@ use Rattle.std.proofs.Common.{refl, ap, subst, arith, length-append, None, Some,
 use Rattle.std.specs.List.{Contains, All, AllPairs, flat_map}
 use Rattle.std.proofs.lemmas.List.Elements.{Contains-append_left, Contains-append_right, Contains-append_cases, All-contains}
 use Rattle.std.proofs.lemmas.List.Kept.{AllPairs-cons}
-use Rattle.flat_parts.proofs.vidi_bits.Lists.{head_in, tail_in, none_in, cases_in}
+use Rattle.flat_parts.proofs.vidi_bits_lemmas.Lists.{head_in, tail_in, none_in, cases_in}
 
 -- ---- elements
 

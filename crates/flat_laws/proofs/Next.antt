@@ -7,7 +7,7 @@ use Rattle.flat_parts.specs.net_design.declared.design.Design.{Design}
 use Rattle.flat_parts.specs.net_design.declared.values.Values.{Values}
 use Rattle.flat_parts.specs.net_design.Updates.{apply}
 use Rattle.flat_parts.specs.net_design.Settled.{clocked, next}
-use Rattle.flat_parts.proofs.net_design.StateLaws.{applied_long}
+use Rattle.flat_parts.proofs.net_design_lemmas.StateLaws.{applied_long}
 use Rattle.flat_parts.specs.vlog_elab.Instances.{ModuleInstance, instances}
 use Rattle.flat_parts.specs.vlog_meaning.Names.{Full, State, numbers_at}
 use Rattle.flat_parts.specs.vlog_meaning.Next.{clocked_updates, IsNext}

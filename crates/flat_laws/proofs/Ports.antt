@@ -4,9 +4,9 @@ use Rattle.std.proofs.Common.{is_some, length, refl, ap, sym, subst, ◌∙◌, 
 use Rattle.std.specs.List.{AllByRecursion}
 use Rattle.std.specs.Str.{bytes_eq}
 use Rattle.std.proofs.lemmas.List.{map-append, append-nil}
-use Rattle.flat_parts.proofs.vidi_bits.FindingLaws.{told_none}
-use Rattle.flat_parts.proofs.vidi_bits.Lists.{nil_left, nil_right}
-use Rattle.flat_parts.proofs.vidi_bits.Each.{each_weaker}
+use Rattle.flat_parts.proofs.vidi_bits_lemmas.FindingLaws.{told_none}
+use Rattle.flat_parts.proofs.vidi_bits_lemmas.Lists.{nil_left, nil_right}
+use Rattle.flat_parts.proofs.vidi_bits_lemmas.Each.{each_weaker}
 use Rattle.flat_parts.specs.vlog_tree.Tree.{IdentOf, NamedValueOf, RegTailOf, InitTail, MemoryTail, Reg1Of, PortOf}
 use Rattle.flat_parts.specs.vlog_tree.Tree.{ItemOf, WiresItem, DrivenWiresItem, RegsItem, LocalparamsItem, AssignItem, AlwaysItem, InstanceItem}
 use Rattle.flat_parts.specs.vlog_tree.Tree.{ModuleOf}

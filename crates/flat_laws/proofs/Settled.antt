@@ -4,7 +4,7 @@ use Rattle.std.proofs.Common.{slice_get, append_assoc, true}
 use Rattle.std.specs.List.{All, Contains, flat_map}
 use Rattle.std.proofs.lemmas.List.{map-append}
 use Rattle.std.proofs.lemmas.Option.{slice_get_within, get_or_from_slice_get}
-use Rattle.flat_parts.proofs.vidi_bits.Each.{then_so}
+use Rattle.flat_parts.proofs.vidi_bits_lemmas.Each.{then_so}
 use Rattle.flat_parts.specs.vlog_tree.Tree.{ModuleOf, FileOf}
 use Rattle.flat_parts.specs.vlog_size.declared.scope.ScopeNet.{ScopeNet}
 use Rattle.flat_parts.specs.vlog_size.declared.scope.Scope.{Scope}
@@ -28,7 +28,7 @@ use Rattle.flat_parts.specs.vlog_meaning.Instances.{IsAt}
 use Rattle.flat_parts.specs.vlog_meaning.Settled.{inputs_of, IsClock}
 use Rattle.flat_parts.specs.vlog_meaning.Settled as meaning
 use Rattle.flat_parts.specs.vlog_driver.Held.{DutiesHold}
-use Rattle.flat_parts.proofs.vlog_driver.Held.{drivers_do}
+use Rattle.flat_parts.proofs.vlog_driver_lemmas.Held.{drivers_do}
 use Rattle.flat_parts.specs.Seats.{seats_of}
 use Rattle.flat_parts.specs.Nets.{port_of}
 use Rattle.flat_parts.specs.Drivers.{all_duties}

@@ -3,7 +3,7 @@ use Rattle.std.proofs.Common.{◌≡◌, ℕ, zero, suc, ◌<◌, ◌^◌, ◌�
 use Rattle.std.specs.List.{AllByRecursion, All, Contains, flat_map}
 use Rattle.std.proofs.lemmas.List.{map-append, append-nil}
 use Rattle.std.proofs.lemmas.List.Elements.{All-from_recursion, recursion_from_All, All-weaker, All-contains, All-contains_itself}
-use Rattle.flat_parts.proofs.vidi_bits.Each.{same_both, nothing, then_so, split}
+use Rattle.flat_parts.proofs.vidi_bits_lemmas.Each.{same_both, nothing, then_so, split}
 
 -- ---- equivalences
 

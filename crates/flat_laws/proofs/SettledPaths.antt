@@ -5,12 +5,12 @@ use Rattle.std.specs.List.{AllByRecursion, AllPairs, Contains}
 use Rattle.std.proofs.lemmas.Bool.{cases_lt}
 use Rattle.std.proofs.lemmas.List.{get_or_default}
 use Rattle.std.proofs.lemmas.List.Elements.{Contains-append_right}
-use Rattle.flat_parts.proofs.vidi_bits.Each.{same_both, nothing}
+use Rattle.flat_parts.proofs.vidi_bits_lemmas.Each.{same_both, nothing}
 use Rattle.flat_parts.specs.vlog_tree.Tree.{InstanceOf, ModuleOf}
 use Rattle.flat_parts.specs.vlog_size.declared.scope.Scope.{Scope}
 use Rattle.flat_parts.specs.vlog_elab.Instances.{ModuleInstance}
 use Rattle.flat_parts.specs.vlog_scope.Scope.{words_of}
-use Rattle.flat_parts.proofs.vlog_meaning.Paths.{path_same, path_itself}
+use Rattle.flat_parts.proofs.vlog_meaning_lemmas.Paths.{path_same, path_itself}
 use Rattle.flat_parts.specs.vlog_meaning.Names.{Full, same_path}
 use Rattle.flat_parts.specs.vlog_meaning.Instances.{IsChild, Leads}
 use Rattle.flat_parts.specs.Seats.{Seat, seats_from, seats_of, seat_named}

@@ -5,7 +5,7 @@ use Rattle.std.specs.List.{AllByRecursion, Contains, flat_map}
 use Rattle.std.specs.Str.{bytes_eq}
 use Rattle.std.proofs.lemmas.List.Elements.{Contains-append_right}
 use Rattle.std.proofs.lemmas.Slice.Eq.{bytes_eq-Decides}
-use Rattle.flat_parts.proofs.vidi_bits.Lists.{nil_left, nil_right}
+use Rattle.flat_parts.proofs.vidi_bits_lemmas.Lists.{nil_left, nil_right}
 use Rattle.flat_parts.specs.vlog_tree.Tree.{InstanceOf, ItemOf, InstanceItem, ModuleOf, FileOf}
 use Rattle.flat_parts.specs.vlog_size.declared.scope.Param.{Param}
 use Rattle.flat_parts.specs.vlog_size.declared.scope.Scope.{Scope}
@@ -21,7 +21,7 @@ use Rattle.flat_parts.specs.vlog_scope.declared.extent.Extent.TheVariants.{NoRan
 use Rattle.flat_parts.specs.vlog_scope.Scope.{readable_at, after_item, scope_with}
 use Rattle.flat_parts.specs.vlog_scope.Faults.{parameters_faults, ports_faults, override_faults, conn_faults, item_faults, items_faults, scope_faults}
 use Rattle.flat_parts.specs.vlog_scope.Faults.{const_faults, width_faults}
-use Rattle.flat_parts.proofs.vlog_scope.LawfulPlaces.{lawful_scope, lawful_declared}
+use Rattle.flat_parts.proofs.vlog_scope_lemmas.LawfulPlaces.{lawful_scope, lawful_declared}
 use Rattle.flat_parts.specs.vlog_elab.Errors.{of_name, of_size}
 use Rattle.flat_parts.specs.vlog_elab.Instances.{ModuleInstance, instances}
 use Rattle.flat_parts.specs.vlog_elab.Reasons.{Clear, name_findings, kind_findings, text_findings, instance_consts, instance_widths, word_findings}

@@ -10,7 +10,7 @@ use Rattle.std.proofs.lemmas.List.Quantifiers.{all_pairs_push}
 use Rattle.std.proofs.lemmas.Slice.Eq.{bytes_eq-Decides}
 use Rattle.flat_parts.specs.vlog_names.Entries.{entry}
 use Rattle.flat_parts.specs.Instances.{HasOtherPath}
-use Rattle.flat_parts.proofs.vidi_bits.Each.{each_weaker, each_append}
+use Rattle.flat_parts.proofs.vidi_bits_lemmas.Each.{each_weaker, each_append}
 use Rattle.flat_parts.specs.vlog_tree.Tree.{IdentOf, NamedValueOf, RegTailOf, InitTail, MemoryTail, Reg1Of, PortOf, InstanceOf}
 use Rattle.flat_parts.specs.vlog_tree.Tree.{ItemOf, WiresItem, DrivenWiresItem, RegsItem, LocalparamsItem, AssignItem, AlwaysItem, InstanceItem}
 use Rattle.flat_parts.specs.vlog_tree.Tree.{ModuleOf, FileOf}

@@ -5,7 +5,7 @@ use Rattle.std.specs.List.{flat_map}
 use Rattle.std.proofs.lemmas.List.{length-map, get_or_append_left}
 use Rattle.std.proofs.lemmas.List.Recursion.{is_sum_by}
 use Rattle.flat_layout.proofs.Counted.{own_length}
-use Rattle.flat_parts.proofs.vlog_meaning.Words.{length-words}
+use Rattle.flat_parts.proofs.vlog_meaning_lemmas.Words.{length-words}
 use Rattle.flat_parts.specs.vlog_size.declared.scope.ScopeMemory.{ScopeMemory}
 use Rattle.flat_parts.specs.vlog_size.declared.scope.ScopeNet.{ScopeNet}
 use Rattle.flat_parts.specs.vlog_size.Table.{Named}

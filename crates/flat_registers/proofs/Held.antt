@@ -12,7 +12,7 @@ use Rattle.flat_parts.specs.net_design.declared.design.Register.{Register}
 use Rattle.flat_parts.specs.vidi_bits.Number.{has}
 use Rattle.flat_parts.specs.net_code.declared.bit_map.BitMap.{BitMap}
 use Rattle.flat_parts.specs.net_code.BitMap.{mask_of, in_map}
-use Rattle.flat_parts.proofs.net_code.MaskLaws.{has_less}
+use Rattle.flat_parts.proofs.net_code_lemmas.MaskLaws.{has_less}
 use Rattle.flat_parts.specs.State.{RegPlace, always_writes_bit, IsRegisterOf}
 use Rattle.flat_registers.specs.declared.places.RegNet.{RegNet}
 use Rattle.flat_registers.specs.Places.{plain_place, plain_places, IsWrittenAt}

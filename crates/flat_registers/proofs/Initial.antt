@@ -7,7 +7,7 @@ use Rattle.std.proofs.lemmas.Nat.Bits.{bit_at-zero}
 use Rattle.std.proofs.lemmas.Option.{slice_get_within}
 use Rattle.std.specs.Int.{bit_at}
 use Rattle.std.specs.List.{Contains, AllZip, enumerate_from}
-use Rattle.flat_parts.proofs.vidi_bits.Lists.{head_in, tail_in, none_in, cases_in}
+use Rattle.flat_parts.proofs.vidi_bits_lemmas.Lists.{head_in, tail_in, none_in, cases_in}
 use Rattle.flat_parts.specs.vlog_size.declared.scope.ScopeNet.{ScopeNet}
 use Rattle.flat_parts.specs.vlog_size.Table.{Named}
 use Rattle.flat_parts.specs.net_design.declared.design.Driver.{Driver}

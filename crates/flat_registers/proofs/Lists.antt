@@ -3,8 +3,8 @@ use Rattle.std.proofs.Common.{◌≡◌, ◌&&◌, ◌||◌, Bool, true, false, 
 use Rattle.std.proofs.Common.{refl, ap, ◌∙◌}
 use Rattle.std.specs.List.{Contains, AllZip, list_any, flat_map}
 use Rattle.std.proofs.lemmas.List.Folds.{list_any-append, list_any_at}
-use Rattle.flat_parts.proofs.vidi_bits.Lists.{head_in, tail_in}
-use Rattle.flat_parts.proofs.vidi_bits.Bools.{same_test}
+use Rattle.flat_parts.proofs.vidi_bits_lemmas.Lists.{head_in, tail_in}
+use Rattle.flat_parts.proofs.vidi_bits_lemmas.Bools.{same_test}
 
 -- ---- tests
 

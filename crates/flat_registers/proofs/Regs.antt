@@ -5,8 +5,8 @@ use Rattle.std.proofs.lemmas.Bool.{eqb-true, eq-eqb, and_parts, and_from}
 use Rattle.std.proofs.lemmas.Option.{slice_get_within}
 use Rattle.std.proofs.lemmas.List.Elements.{Contains-append_right}
 use Rattle.std.specs.List.{Contains, list_any}
-use Rattle.flat_parts.proofs.vidi_bits.Bools.{same_test, and_swap}
-use Rattle.flat_parts.proofs.vidi_bits.Lists.{from_flat, in_flat, head_in, none_in, cases_in, some_same}
+use Rattle.flat_parts.proofs.vidi_bits_lemmas.Bools.{same_test, and_swap}
+use Rattle.flat_parts.proofs.vidi_bits_lemmas.Lists.{from_flat, in_flat, head_in, none_in, cases_in, some_same}
 use Rattle.flat_parts.specs.vidi_bits.Findings.{told_if}
 use Rattle.flat_parts.specs.vlog_tree.Tree.{ModuleOf}
 use Rattle.flat_parts.specs.vidi_bits.Number.{has}

@@ -16,7 +16,7 @@ use Rattle.flat_parts.specs.net_design.declared.design.Driver.{Driver}
 use Rattle.flat_parts.specs.net_design.Bits.{named}
 use Rattle.flat_parts.specs.vlog_block.Written.{always_writes}
 use Rattle.flat_parts.specs.vlog_latch.Blocks.{is_there}
-use Rattle.flat_parts.proofs.vlog_latch.There.{body_there}
+use Rattle.flat_parts.proofs.vlog_latch_lemmas.There.{body_there}
 use Rattle.flat_parts.specs.vlog_names.Ports.{is_output}
 use Rattle.flat_parts.specs.vlog_meaning.Placed.{Placed, placed_items, names_at}
 use Rattle.flat_parts.specs.vlog_meaning.Settled.{event_writes, item_writes}

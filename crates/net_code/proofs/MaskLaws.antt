@@ -14,8 +14,8 @@ use Rattle.std.proofs.lemmas.Bool.{cases_lt, leb-true, le-leb, ltb-true, lt-ltb,
 use Rattle.std.proofs.lemmas.List.Folds.{list_any-append}
 use Rattle.std.proofs.lemmas.Nat.Bits.{bit_at-zero, bit_at-lt, bit_at_and, bit_at_or, bit_at_not, bit_at_above, bit_at_ones}
 use mathlib.Core.Path.{fun_ext}
-use Rattle.net_design.proofs.vidi_bits.Bools.{and_none, or_none, and_true, same_test}
-use Rattle.net_design.proofs.vidi_bits.BitLemmas.{bit_at-mod_above, bit_at-put_below, bit_at-put_inside, bit_at-put_above}
+use Rattle.net_design.proofs.vidi_bits_lemmas.Bools.{and_none, or_none, and_true, same_test}
+use Rattle.net_design.proofs.vidi_bits_lemmas.BitLemmas.{bit_at-mod_above, bit_at-put_below, bit_at-put_inside, bit_at-put_above}
 use Rattle.net_design.specs.declared.act.Mask.{Mask}
 use Rattle.net_code.specs.declared.bit_map.BitMap.{BitMap}
 use Rattle.net_design.specs.vidi_bits.Number.{has, put_of}

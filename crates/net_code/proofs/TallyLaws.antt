@@ -5,7 +5,7 @@ use Rattle.std.specs.List.{count_by, list_any}
 use Rattle.std.proofs.lemmas.Bool.{ltb-true, lt-ltb, eqb-true}
 use Rattle.std.proofs.lemmas.List.Sums.{count_by_more_yes, count_by_more_no}
 use Rattle.std.proofs.Math.Bool.{or-true, or-false}
-use Rattle.net_design.proofs.vidi_bits.Bools.{and_none, same_test}
+use Rattle.net_design.proofs.vidi_bits_lemmas.Bools.{and_none, same_test}
 use Rattle.net_design.specs.vidi_bits.Number.{has}
 use Rattle.net_code.specs.declared.bit_map.BitMap.{BitMap}
 use Rattle.net_code.specs.BitMap.{mask_of, in_map, is_among}

@@ -5,7 +5,7 @@ use Rattle.std.proofs.lemmas.List.{take_more, drop_more}
 use Rattle.std.proofs.lemmas.List.Folds.{list_any-append}
 use Rattle.std.proofs.Math.Bool.{or_assoc}
 use Rattle.net_code.proofs.MaskLaws.{same_sets}
-use Rattle.net_design.proofs.vidi_bits.Bools.{or_none, and_true, and_assoc}
+use Rattle.net_design.proofs.vidi_bits_lemmas.Bools.{or_none, and_true, and_assoc}
 use Rattle.net_design.specs.Sized.{AreSizedGuards}
 use Rattle.net_design.specs.declared.act.Act.{Act}
 use Rattle.net_design.specs.declared.act.Code.{Code}

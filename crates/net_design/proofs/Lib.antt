@@ -9,4 +9,4 @@ pub mod StateLaws
 pub mod LastLaws
 pub mod OneProof
 mod InitialLaws
-pub use Rattle.vidi_bits.proofs as vidi_bits
+pub use Rattle.vidi_bits.proofs as vidi_bits_lemmas

@@ -3,7 +3,7 @@ use Rattle.std.proofs.Common.{◌≡◌, ℕ, zero, suc, ◌+◌, ◌-◌, ◌<�
 use Rattle.std.proofs.Common.{List, [], ◌∷◌, ◌++◌, Option, Some, None, is_some, drop, drop-cons, get_or, length, refl, ap, sym, ◌∙◌, arith}
 use Rattle.std.proofs.lemmas.Bool.{lt-ltb, eqb-true, false_from_ne_true}
 use Rattle.net_code.specs.Targets.{bit_count}
-use Rattle.net_code.proofs.vidi_bits.Bools.{not_both}
+use Rattle.net_code.proofs.vidi_bits_lemmas.Bools.{not_both}
 use Rattle.net_code.specs.vidi_bits.Findings.{first, told_if}
 use Rattle.net_code.specs.vidi_bits.Number.{truth}
 use Rattle.net_code.specs.net_design.declared.act.Place.{Place}

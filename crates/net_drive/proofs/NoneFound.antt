@@ -16,8 +16,8 @@ use Rattle.net_code.specs.Targets.{nets_named, rooms_named, bit_count}
 use Rattle.net_drive.specs.Drive.{block_count, block_names, wire_places, kind_at, kind_faults, bit_faults, nets_from}
 use Rattle.net_drive.specs.Drive.{memory_at, memories_from, net_faults, memory_faults, drive_faults}
 use Rattle.net_drive.specs.Laws.{IsDriven}
-use Rattle.net_code.proofs.vidi_bits.Bools.{not_both}
-use Rattle.net_code.proofs.vidi_bits.Lists.{nil_left, nil_right}
+use Rattle.net_code.proofs.vidi_bits_lemmas.Bools.{not_both}
+use Rattle.net_code.proofs.vidi_bits_lemmas.Lists.{nil_left, nil_right}
 
 told_none : (b : Bool) (x : Misdriven) → told_if b x ≡ [] → b ≡ false
 told_none true x e = absurd (cc)

@@ -6,8 +6,8 @@ use Rattle.std.specs.List.{count_by}
 use Rattle.std.proofs.lemmas.Bool.{cases_lt, leb-true, le-leb, ltb-true, lt-ltb, false_from_ne_true}
 use Rattle.std.proofs.lemmas.List.Sums.{sum_by-cons}
 use Rattle.std.proofs.lemmas.Nat.Bits.{bit_at-zero, bit_at_ones}
-use Rattle.net_code.proofs.vidi_bits.Bools.{same_test}
-use Rattle.net_code.proofs.vidi_bits.BitLemmas.{bit_at-put_below, bit_at-put_inside, bit_at-put_above}
+use Rattle.net_code.proofs.vidi_bits_lemmas.Bools.{same_test}
+use Rattle.net_code.proofs.vidi_bits_lemmas.BitLemmas.{bit_at-put_below, bit_at-put_inside, bit_at-put_above}
 use Rattle.net_code.specs.vidi_bits.Number.{has, put_of}
 use Rattle.net_code.specs.net_design.declared.act.Place.{Place}
 use Rattle.net_code.specs.net_design.Bits.{place_writes}

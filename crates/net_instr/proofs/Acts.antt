@@ -4,7 +4,7 @@ use Rattle.std.proofs.Common.{List, [], ◌∷◌, ◌++◌, append-nil, length,
 use Rattle.std.specs.List.{AllByRecursion}
 use Rattle.std.proofs.Math.Nat.{div-one, mod-eq_of_lt}
 use Rattle.std.proofs.lemmas.Bool.{eqb-true, and_parts}
-use Rattle.net_design.proofs.vidi_bits.Bools.{not_both}
+use Rattle.net_design.proofs.vidi_bits_lemmas.Bools.{not_both}
 use Rattle.net_design.specs.vidi_bits.Number.{put_of}
 use Rattle.net_design.specs.declared.rhs.Span.{Span}
 use Rattle.net_design.specs.declared.rhs.Rhs.{Rhs}

@@ -7,7 +7,7 @@ use Rattle.std.proofs.Math.Nat.{mod-eq_of_lt, div-eq_of_lt}
 use Rattle.std.proofs.Math.Seq.{take-set-lt}
 use Rattle.std.proofs.lemmas.List.{get_or-set_other, get_or-drop, length-set, take-set-le, drop-set-lt, drop-set-add}
 use Rattle.std.proofs.lemmas.Nat.{pow_pos, mod_below}
-use Rattle.net_design.proofs.vidi_bits.BitLemmas.{put_fits}
+use Rattle.net_design.proofs.vidi_bits_lemmas.BitLemmas.{put_fits}
 use Rattle.net_design.specs.vidi_bits.Number.{put_of}
 use Rattle.net_design.specs.declared.act.Timing.{Timing}
 use Rattle.net_design.specs.declared.act.Timing.TheVariants.{Blocking, Nonblocking}

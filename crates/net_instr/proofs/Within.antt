@@ -10,7 +10,7 @@ use Rattle.net_design.specs.vidi_bits.declared.operators.UnaryOp.{UnaryOp}
 use Rattle.net_design.specs.vidi_bits.declared.operators.UnaryOp.TheVariants as unary
 use Rattle.net_design.specs.vidi_bits.declared.operators.BinaryOp.{BinaryOp}
 use Rattle.net_design.specs.vidi_bits.declared.operators.BinaryOp.TheVariants as binary
-use Rattle.net_design.proofs.vidi_bits.Below.{rest_below, quotient_below, truth_bit, parity_bit, odd_bit, joined_below, complement_below}
+use Rattle.net_design.proofs.vidi_bits_lemmas.Below.{rest_below, quotient_below, truth_bit, parity_bit, odd_bit, joined_below, complement_below}
 use Rattle.net_design.specs.declared.rhs.Rhs.{Rhs, Number, Bits, Word', Unary', Binary', Choose', Join', Repeat', Select'}
 use Rattle.net_design.specs.declared.values.Values.{Values}
 use Rattle.net_design.specs.Value.{value}

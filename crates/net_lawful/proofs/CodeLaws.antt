@@ -18,7 +18,7 @@ use Rattle.net_code.specs.net_design.Bits.{BitSet, HasBits, named}
 use Rattle.net_code.specs.net_design.Sized.{IsShort, IsCountable, IsSizedBlock}
 use Rattle.net_code.specs.net_design.Settled.{net_width, word_count}
 use Rattle.net_code.specs.net_design.Lawful.{IsInRange, is_span, is_room}
-use Rattle.net_code.proofs.net_design.LawfulCode.{block_more, slice_get-at}
+use Rattle.net_code.proofs.net_design_lemmas.LawfulCode.{block_more, slice_get-at}
 use Rattle.net_code.specs.declared.bit_map.BitMap.{BitMap}
 use Rattle.net_code.specs.BitMap.{in_map}
 use Rattle.net_lawful.specs.declared.rooms.Rooms.{Rooms}

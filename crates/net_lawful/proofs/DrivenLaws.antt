@@ -7,8 +7,8 @@ use Rattle.std.proofs.lemmas.List.Folds.{Any-from_list_any}
 use Rattle.std.proofs.lemmas.Nat.Bits.{bit_at_ones, bit_at_ones_above}
 use Rattle.std.proofs.lemmas.Option.{slice_get_past}
 use Rattle.net_code.specs.Tally.{IsTally}
-use Rattle.net_code.proofs.net_design.LawfulCode.{width_past}
-use Rattle.net_code.proofs.vidi_bits.Bools.{not_both}
+use Rattle.net_code.proofs.net_design_lemmas.LawfulCode.{width_past}
+use Rattle.net_code.proofs.vidi_bits_lemmas.Bools.{not_both}
 use Rattle.net_code.specs.net_design.declared.design.Driver.{Driver}
 use Rattle.net_code.specs.net_design.declared.design.Net.{Net}
 use Rattle.net_code.specs.net_design.declared.design.Register.{Register}

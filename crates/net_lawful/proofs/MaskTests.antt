@@ -7,7 +7,7 @@ use Rattle.std.proofs.lemmas.Bool.{cases_lt, eqb-true, eq-eqb, false_from_ne_tru
 use Rattle.std.proofs.lemmas.List.Folds.{Any-from_list_any, list_any_at}
 use Rattle.std.proofs.lemmas.Nat.{pow_pos, mod_below, shr_split}
 use Rattle.std.proofs.lemmas.Nat.Bits.{bit_at-lt, same_from_bits}
-use Rattle.net_code.proofs.vidi_bits.Bools.{not_both, same_test}
+use Rattle.net_code.proofs.vidi_bits_lemmas.Bools.{not_both, same_test}
 use Rattle.net_code.specs.net_design.declared.act.Mask.{Mask}
 use Rattle.net_code.specs.vidi_bits.Number.{has}
 use Rattle.net_code.specs.net_design.Bits.{named}

@@ -4,7 +4,7 @@ use Rattle.std.proofs.Common.{refl, ap, sym, subst, ◌∙◌, arith}
 use Rattle.std.specs.List.{AllByRecursion}
 use Rattle.std.proofs.lemmas.Bool.{eqb-true, eq-eqb, or_right, false_from_ne_true, and_parts, and_from, or_parts, or_left, or_from}
 use Rattle.std.proofs.lemmas.List.{drop_more}
-use Rattle.net_code.proofs.vidi_bits.Bools.{not_both}
+use Rattle.net_code.proofs.vidi_bits_lemmas.Bools.{not_both}
 use Rattle.net_code.specs.net_design.declared.act.Act.{Act, Set, Read, Branch'}
 use Rattle.net_code.specs.net_design.declared.act.Mask.{Mask}
 use Rattle.net_code.specs.net_design.declared.act.Place.{Place}

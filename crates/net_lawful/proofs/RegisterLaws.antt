@@ -7,8 +7,8 @@ use Rattle.std.proofs.lemmas.Bool.{cases_lt, eqb-true, eq-eqb}
 use Rattle.std.proofs.lemmas.List.{get_or-take, get_or_default, length-take-le}
 use Rattle.std.proofs.lemmas.List.Folds.{Any-from_list_any, list_any_at, list_any_more}
 use Rattle.std.proofs.lemmas.Nat.Bits.{bit_at-lt, bit_at_above}
-use Rattle.net_code.proofs.vidi_bits.Bools.{not_both}
-use Rattle.net_code.proofs.net_design.LawfulCode.{width_at}
+use Rattle.net_code.proofs.vidi_bits_lemmas.Bools.{not_both}
+use Rattle.net_code.proofs.net_design_lemmas.LawfulCode.{width_at}
 use Rattle.net_code.specs.net_design.declared.design.Register.{Register}
 use Rattle.net_code.specs.net_design.declared.design.Design.{Design}
 use Rattle.net_code.specs.vidi_bits.Number.{has}

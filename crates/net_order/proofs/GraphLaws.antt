@@ -4,7 +4,7 @@ use Rattle.std.proofs.Common.{Result, Ok, Err, IfOk, IfErr, ⊎_elim, refl, ap, 
 use Rattle.std.specs.List.{Contains}
 use Rattle.std.proofs.lemmas.Bool.{cases_lt, eqb-true, eq-eqb, and_parts, and_from}
 use Rattle.std.proofs.lemmas.List.Folds.{Any-from_list_any, list_any_at}
-use Rattle.net_design.proofs.vidi_bits.Lists.{none_in}
+use Rattle.net_design.proofs.vidi_bits_lemmas.Lists.{none_in}
 use Rattle.net_design.specs.declared.act.Mask.{Mask}
 use Rattle.net_design.specs.declared.design.Driver.{Driver}
 use Rattle.net_design.specs.declared.design.Design.{Design}

@@ -10,7 +10,7 @@ use Rattle.std.proofs.lemmas.List.{get_or_past, get_or-set_same}
 use Rattle.std.proofs.lemmas.List.Folds.{list_any-append}
 use Rattle.std.proofs.lemmas.Nat.{pow_pos, mod_below}
 use Rattle.std.proofs.lemmas.Nat.Bits.{same_from_bits_below, bit_at_above}
-use Rattle.net_design.proofs.vidi_bits.BitLemmas.{bit_at-part, bit_at-put_inside}
+use Rattle.net_design.proofs.vidi_bits_lemmas.BitLemmas.{bit_at-part, bit_at-put_inside}
 use Rattle.net_design.specs.declared.rhs.Span.{Span}
 use Rattle.net_design.specs.declared.rhs.Rhs.{Rhs, Number, Bits, Word', Unary', Binary', Choose', Join', Repeat', Select'}
 use Rattle.net_design.specs.declared.act.Place.{Place}

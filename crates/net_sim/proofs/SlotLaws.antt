@@ -19,7 +19,7 @@ use Rattle.net_order.specs.net_design.Updates.{block_updates}
 use Rattle.net_order.specs.net_design.Settled.{word_count, clocked}
 use Rattle.net_order.specs.net_design.Lawful.{IsLawful, IsState, IsInRange, is_span, is_room}
 use Rattle.net_order.specs.net_design.Pins.{FitPins}
-use Rattle.net_order.proofs.net_design.LawfulCode.{net_width_le, block_more, room_within, span_within}
+use Rattle.net_order.proofs.net_design_lemmas.LawfulCode.{net_width_le, block_more, room_within, span_within}
 use Rattle.net_order.specs.Run.{enters, entered, acts_of, run_all, start}
 use Rattle.net_order.proofs.OneMap.{start_fits}
 use Rattle.net_instr.specs.declared.instr.Instr.{Instr}

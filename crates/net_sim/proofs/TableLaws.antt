@@ -8,7 +8,7 @@ use Rattle.net_order.specs.net_design.declared.design.Instance.{Instance}
 use Rattle.net_order.specs.net_design.declared.design.Net.{Net}
 use Rattle.net_order.specs.net_design.declared.design.Design.{Design}
 use Rattle.net_order.specs.net_design.Names.{list_at, paths, AreAfterParents}
-use Rattle.net_order.proofs.net_design.LawfulCode.{slice_get-at}
+use Rattle.net_order.proofs.net_design_lemmas.LawfulCode.{slice_get-at}
 use Rattle.std.proofs.lemmas.Option.{slice_get_within}
 use Rattle.net_sim.specs.Names.{dotted, IsCalled}
 use Rattle.net_sim.specs.Table.{hash_from, path_hash, name_hash, ArePaths, IsTable}

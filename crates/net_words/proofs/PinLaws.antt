@@ -11,7 +11,7 @@ use Rattle.net_sim.specs.net_design.declared.values.Values.{Values}
 use Rattle.net_sim.specs.net_design.Settled.{same_direction, pins_of, net_width, IsSettled}
 use Rattle.net_sim.specs.net_design.Lawful.{IsLawful}
 use Rattle.net_sim.specs.net_design.Pins.{FitPins, is_clock, port_limits}
-use Rattle.net_sim.proofs.net_order.Entered.{limits_long, limit_at}
+use Rattle.net_sim.proofs.net_order_lemmas.Entered.{limits_long, limit_at}
 
 -- ---- what is below limits at the ports is so at the inputs
 below_step : (b : Bool) (j x y : ℕ) (xs ys : List ℕ) → x < y

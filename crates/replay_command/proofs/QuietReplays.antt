@@ -16,8 +16,8 @@ use Rattle.trace_commands.specs.vidi_bench.Reading.{Reading}
 use Rattle.replay_command.specs.Replays.{RefusedTrace, RefusedReplay, IsUnreplayed, IsReplaySaid, Replays}
 use Rattle.replay_command.specs.Said.{replayed_line}
 use Rattle.trace_commands.specs.Traces.{trace_limit, HasOtherChannels}
-use Rattle.trace_commands.proofs.vidi_bench.Quiet.{Mute, mute-reading, mute-refusal, quiet-reading}
-use Rattle.trace_commands.proofs.vidi_bench.QuietTexts.{mute-wiring}
+use Rattle.trace_commands.proofs.vidi_bench_lemmas.Quiet.{Mute, mute-reading, mute-refusal, quiet-reading}
+use Rattle.trace_commands.proofs.vidi_bench_lemmas.QuietTexts.{mute-wiring}
 use Rattle.trace_commands.proofs.QuietTraces.{mute-decoding, mute-verdict}
 
 -- ---- no failed write

@@ -5,7 +5,7 @@ use Rattle.replay_run.specs.trace_model.declared.trace.Trace.{Trace}
 use Rattle.replay_run.specs.trace_model.Recording.{trace_of}
 use Rattle.replay_run.specs.trace_code.Encoding.{Encodes, encode}
 use Rattle.trace_commands.specs.vidi_io.Shelf.{Files}
-use Rattle.trace_commands.proofs.vidi_io.Cut.{cut-knowing}
+use Rattle.trace_commands.proofs.vidi_io_lemmas.Cut.{cut-knowing}
 use Rattle.trace_commands.specs.vidi_bench.declared.answer.Answer.{Answer}
 use Rattle.trace_commands.specs.vidi_bench.declared.answer.Ended.{Ended}
 use Rattle.trace_commands.specs.vidi_bench.declared.answer.Ended.TheVariants as ends

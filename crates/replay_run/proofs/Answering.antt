@@ -13,8 +13,8 @@ use Rattle.chan_replayer.specs.net_design.declared.design.Design.{Design}
 use Rattle.chan_replayer.specs.net_design.declared.values.Values.{Values}
 use Rattle.chan_replayer.specs.chan_map.declared.pins.Map.{Map}
 use Rattle.chan_replayer.specs.run_model.Replay.{done}
-use Rattle.chan_replayer.proofs.run_model.Circle.{no-circle}
-use Rattle.chan_replayer.proofs.run_model.ReplayLaws.{order-in_the_output, replay-keeps_contents}
+use Rattle.chan_replayer.proofs.run_model_lemmas.Circle.{no-circle}
+use Rattle.chan_replayer.proofs.run_model_lemmas.ReplayLaws.{order-in_the_output, replay-keeps_contents}
 use Rattle.replay_run.specs.declared.outcome.Replayed.{Replayed}
 use Rattle.replay_run.specs.declared.outcome.ReplayOutcome.{ReplayOutcome}
 use Rattle.replay_run.specs.declared.outcome.ReplayOutcome.TheVariants.{Ended, Short, Unstable}

@@ -19,14 +19,14 @@ use Rattle.trace_code.specs.trace_model.Clock.{clock}
 use Rattle.trace_code.specs.trace_model.Counting.{IsNth}
 use Rattle.trace_code.specs.trace_model.Packet.{content_of, count, does, widths_of, Fit, IsPacket}
 use Rattle.trace_code.specs.trace_model.Row.{all_widths, content_at, replaced}
-use Rattle.trace_code.proofs.trace_model.ContentsLemmas.{content-fits, fit-length}
-use Rattle.trace_code.proofs.trace_model.CountingLemmas.{nth, nth-below}
-use Rattle.trace_code.proofs.trace_model.MaskLemmas.{no-bit-from-has}
-use Rattle.trace_code.proofs.trace_model.RowLemmas.{first_of, first-more, replaced-more}
+use Rattle.trace_code.proofs.trace_model_lemmas.ContentsLemmas.{content-fits, fit-length}
+use Rattle.trace_code.proofs.trace_model_lemmas.CountingLemmas.{nth, nth-below}
+use Rattle.trace_code.proofs.trace_model_lemmas.MaskLemmas.{no-bit-from-has}
+use Rattle.trace_code.proofs.trace_model_lemmas.RowLemmas.{first_of, first-more, replaced-more}
 use Rattle.trace_code.specs.declared.cursor.Cursor.{Cursor}
 use Rattle.trace_code.specs.Stands.{Stands}
-use Rattle.chan_replayer.proofs.run_model.Contents.{fit-zeros, has-all}
-use Rattle.chan_replayer.proofs.run_model.PinLemmas.{all-at}
+use Rattle.chan_replayer.proofs.run_model_lemmas.Contents.{fit-zeros, has-all}
+use Rattle.chan_replayer.proofs.run_model_lemmas.PinLemmas.{all-at}
 use Rattle.chan_replayer.specs.declared.feed.Feed.{Feed}
 use Rattle.chan_replayer.specs.Feed.{kind_of, need_of, IsFeed, IsFeedAt, IsFeedOver}
 use Rattle.replay_run.specs.Behind.{IsBehind}

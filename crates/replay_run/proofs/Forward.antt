@@ -10,8 +10,8 @@ use Rattle.trace_code.specs.trace_model.declared.trace.Trace.{Trace}
 use Rattle.trace_code.specs.trace_model.Packet.{count}
 use Rattle.trace_code.specs.trace_model.Row.{is_in_flight}
 use Rattle.trace_code.specs.trace_model.Trace.{Alternates}
-use Rattle.trace_code.proofs.trace_model.FlightLemmas.{balanced-all}
-use Rattle.trace_code.proofs.trace_model.CountingLemmas.{slice_get-push}
+use Rattle.trace_code.proofs.trace_model_lemmas.FlightLemmas.{balanced-all}
+use Rattle.trace_code.proofs.trace_model_lemmas.CountingLemmas.{slice_get-push}
 use Rattle.trace_code.specs.declared.cursor.Cursor.{Cursor}
 use Rattle.trace_code.specs.Encoding.{Encodes}
 use Rattle.trace_code.specs.Stands.{Stands, WalksOver}
@@ -19,7 +19,7 @@ use Rattle.replay_run.specs.Behind.{AreAt, IsBehind, IsDone}
 use Rattle.std.specs.Int.{bit_at}
 use Rattle.std.proofs.Math.ListN.{length-set}
 use Rattle.trace_code.specs.vidi_bits.Number.{has}
-use Rattle.trace_code.proofs.trace_model.MaskLemmas.{bit-from-has, no-bit-from-has}
+use Rattle.trace_code.proofs.trace_model_lemmas.MaskLemmas.{bit-from-has, no-bit-from-has}
 use Rattle.std.proofs.lemmas.Bool.{cases_eq, lt-ltb, le-ltb}
 use Rattle.std.proofs.lemmas.Option.{same_Some, slice_get-get_or, slice_get_read, slice_get_within}
 use Rattle.std.proofs.lemmas.List.{get_or-set_other, get_or-set_same}

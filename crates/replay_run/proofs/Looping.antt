@@ -14,9 +14,9 @@ use Rattle.trace_code.specs.trace_model.declared.trace.Trace.{Trace}
 use Rattle.trace_code.specs.trace_model.declared.channel.Channel.{Channel}
 use Rattle.trace_code.specs.trace_model.Recording.{row_does, shown}
 use Rattle.trace_code.specs.trace_model.Row.{flies_after, is_in_flight, row_before, IsOver}
-use Rattle.trace_code.proofs.trace_model.CountingLemmas.{count-push}
-use Rattle.trace_code.proofs.trace_model.MaskLemmas.{cond-has}
-use Rattle.trace_code.proofs.trace_model.RowLaws.{counted}
+use Rattle.trace_code.proofs.trace_model_lemmas.CountingLemmas.{count-push}
+use Rattle.trace_code.proofs.trace_model_lemmas.MaskLemmas.{cond-has}
+use Rattle.trace_code.proofs.trace_model_lemmas.RowLaws.{counted}
 use Rattle.chan_replayer.specs.net_design.declared.design.Design.{Design}
 use Rattle.chan_replayer.specs.net_design.declared.values.Values.{Values}
 use Rattle.chan_replayer.specs.chan_map.declared.pins.Map.{Map}
@@ -25,8 +25,8 @@ use Rattle.chan_replayer.specs.run_model.Played.{StopsBefore}
 use Rattle.chan_replayer.specs.run_model.Replay.{done, HasEnded, IsGoing, IsReplayRow}
 use Rattle.chan_replayer.specs.chan_monitor.Shell.{HasPlaces}
 use Rattle.chan_replayer.specs.Feed.{IsFeedOver}
-use Rattle.chan_replayer.proofs.run_model.ReplayLaws.{replay-keeps}
-use Rattle.chan_replayer.proofs.run_model.Stays.{keeps-in-flight}
+use Rattle.chan_replayer.proofs.run_model_lemmas.ReplayLaws.{replay-keeps}
+use Rattle.chan_replayer.proofs.run_model_lemmas.Stays.{keeps-in-flight}
 use Rattle.replay_run.specs.Behind.{IsDone}
 use Rattle.replay_run.specs.Output.{longest, HasRoomFor, IsWritten}
 use Rattle.replay_run.specs.Standing.{AreKept, IsLast, Plays, PlaysTo}

@@ -12,13 +12,13 @@ use Rattle.std.proofs.lemmas.List.Concat.{flat_map-append}
 use Rattle.std.proofs.lemmas.Nat.Bits.{bit_at_set_same, bit_at_set_other, bit_at_clear_same, bit_at_clear_other, bit_at_above}
 use Rattle.std.proofs.lemmas.Option.{slice_get_within, get_or_from_slice_get, same_Some}
 use Rattle.trace_code.specs.vidi_bits.Number.{has}
-use Rattle.trace_code.proofs.vidi_bits.BitLemmas.{fits_by_bits, has-above, hasn't-from-bit}
+use Rattle.trace_code.proofs.vidi_bits_lemmas.BitLemmas.{fits_by_bits, has-above, hasn't-from-bit}
 use Rattle.trace_code.specs.trace_model.declared.channel.Channel.{Channel}
 use Rattle.trace_code.specs.trace_model.Packet.{Fit, widths_of}
 use Rattle.trace_code.specs.trace_model.Row.{all_widths, content_at, replaced}
-use Rattle.trace_code.proofs.trace_model.ContentsLemmas.{fit-append, fit-front, fit-rest, fit-length}
-use Rattle.trace_code.proofs.trace_model.MaskLemmas.{has-from-bit, no-bit-from-has}
-use Rattle.trace_code.proofs.trace_model.RowLemmas.{first_of, first-more}
+use Rattle.trace_code.proofs.trace_model_lemmas.ContentsLemmas.{fit-append, fit-front, fit-rest, fit-length}
+use Rattle.trace_code.proofs.trace_model_lemmas.MaskLemmas.{has-from-bit, no-bit-from-has}
+use Rattle.trace_code.proofs.trace_model_lemmas.RowLemmas.{first_of, first-more}
 
 -- ---- a bit
 pub bit-put : (mask c : ℕ) → c < 128 → has (bit_or mask (1 * 2 ^ c % 2 ^ 128)) c ≡ true

@@ -11,15 +11,15 @@ use Rattle.trace_code.specs.trace_model.declared.row.Row.{Row}
 use Rattle.trace_code.specs.vidi_bits.Number.{has}
 use Rattle.trace_code.specs.trace_model.Row.{completes, row_before}
 use Rattle.trace_code.specs.trace_model.Stability.{waits, IsLowestUnstable, IsUnstable, IsUnstableAt}
-use Rattle.trace_code.proofs.trace_model.RowLemmas.{before-last}
-use Rattle.trace_code.proofs.trace_model.CountingLemmas.{slice_get-append_left, slice_get-last, slice_get-push}
+use Rattle.trace_code.proofs.trace_model_lemmas.RowLemmas.{before-last}
+use Rattle.trace_code.proofs.trace_model_lemmas.CountingLemmas.{slice_get-append_left, slice_get-last, slice_get-push}
 use Rattle.chan_replayer.specs.net_design.declared.design.Design.{Design}
 use Rattle.chan_replayer.specs.net_design.declared.values.Values.{Values}
 use Rattle.chan_replayer.specs.chan_map.declared.pins.Map.{Map}
 use Rattle.chan_replayer.specs.run_model.Played.{AreStable, StopsBefore}
 use Rattle.chan_replayer.specs.run_model.Replay.{done, IsReplayRow}
 use Rattle.chan_replayer.specs.run_model.Step.{IsFirst, IsStep}
-use Rattle.chan_replayer.proofs.run_model.PlayedLaws.{Grown, played-nil, played-push}
+use Rattle.chan_replayer.proofs.run_model_lemmas.PlayedLaws.{Grown, played-nil, played-push}
 use Rattle.chan_replayer.specs.declared.feed.Feed.{Feed}
 use Rattle.chan_replayer.specs.Feed.{IsFeed}
 use Rattle.chan_replayer.specs.Shell.{GoesTo, IsShown}

@@ -9,7 +9,7 @@ use Rattle.run_model.specs.trace_model.declared.event.Kind.TheVariants.{End}
 use Rattle.run_model.specs.trace_model.declared.packet.Packet.{Packet}
 use Rattle.run_model.specs.trace_model.Packet.{does}
 use Rattle.run_model.specs.trace_model.Clock.{clock}
-use Rattle.run_model.proofs.trace_model.FlightLemmas.{count-end-suc}
+use Rattle.run_model.proofs.trace_model_lemmas.FlightLemmas.{count-end-suc}
 
 -- before the first packet nothing has completed
 pub clock-first : (packets : List Packet) (n : ℕ) (xs : List ℕ) → length xs ≡ n → ((k : ℕ) → k < n → get_or xs k 0 ≡ 0) → xs

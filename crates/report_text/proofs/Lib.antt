@@ -4,4 +4,4 @@ pub mod Packets
 pub mod Printed
 pub mod RowLines
 mod ShortExamples
-pub use Rattle.vidi_io.proofs as vidi_io
+pub use Rattle.vidi_io.proofs as vidi_io_lemmas

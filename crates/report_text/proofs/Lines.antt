@@ -5,7 +5,7 @@ use Rattle.std.proofs.lemmas.List.{take_more, append-nil, length-take-le, take-a
 use Rattle.std.proofs.lemmas.List.Concat.{flat_map-append}
 use Rattle.std.specs.List.{flat_map, enumerate_from}
 use Rattle.vidi_io.specs.vidi_bits.Number.{has}
-use Rattle.run_model.proofs.trace_model.ContentsLemmas.{content-there, enumerate-append}
+use Rattle.run_model.proofs.trace_model_lemmas.ContentsLemmas.{content-there, enumerate-append}
 use Rattle.run_model.specs.trace_model.declared.channel.Channel.{Channel}
 use Rattle.run_model.specs.trace_model.declared.packet.Packet.{Packet}
 use Rattle.run_model.specs.trace_model.Packet.{widths_under}

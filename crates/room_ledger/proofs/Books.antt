@@ -8,8 +8,8 @@ use Rattle.std.proofs.lemmas.Nat.{and_le_l, or_lt, pow_pos, mod_below}
 use Rattle.std.proofs.lemmas.Nat.Bits.{same_from_bits, ones_shr}
 use Rattle.std.proofs.lemmas.List.{length-map}
 use Rattle.trace_model.specs.vidi_bits.Number.{has}
-use Rattle.trace_model.proofs.vidi_bits.Bools.{and_not_false}
-use Rattle.trace_model.proofs.vidi_bits.BitLemmas.{bit_at-mod, bit_at-mod_above, has-above}
+use Rattle.trace_model.proofs.vidi_bits_lemmas.Bools.{and_not_false}
+use Rattle.trace_model.proofs.vidi_bits_lemmas.BitLemmas.{bit_at-mod, bit_at-mod_above, has-above}
 use Rattle.trace_model.specs.declared.channel.Channel.{Channel}
 use Rattle.trace_model.specs.Channel.{content_bytes}
 use Rattle.trace_model.specs.Length.{head_len}

@@ -9,7 +9,7 @@ use Rattle.std.proofs.lemmas.Nat.{and_le_l}
 use Rattle.std.proofs.lemmas.Nat.Bits.{bit_at_xor, bit_at_ones}
 use Rattle.std.proofs.lemmas.Option.{slice_get_cases}
 use Rattle.trace_model.specs.vidi_bits.Number.{has}
-use Rattle.trace_model.proofs.vidi_bits.BitLemmas.{has-above}
+use Rattle.trace_model.proofs.vidi_bits_lemmas.BitLemmas.{has-above}
 use Rattle.trace_model.specs.declared.row.Row.{Row}
 use Rattle.trace_model.specs.Length.{head_len}
 use Rattle.trace_model.specs.Row.{completes, is_in_flight}

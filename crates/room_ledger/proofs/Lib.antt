@@ -8,4 +8,4 @@ pub mod Following
 pub mod Existence
 pub mod Books
 mod Examples
-pub use Rattle.trace_model.proofs.vidi_bits as vidi_bits
+pub use Rattle.trace_model.proofs.vidi_bits_lemmas as vidi_bits_lemmas

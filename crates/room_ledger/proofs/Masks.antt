@@ -6,7 +6,7 @@ use Rattle.std.proofs.lemmas.Bool.{eqb-true, eqb-false}
 use Rattle.std.proofs.lemmas.Nat.Bits.{bit_at_and, bit_at_or, bit_at-zero, bit_at-lt, bit_at-pow_same, bit_at-pow_other}
 use Rattle.std.proofs.lemmas.Nat.Bits.{bit_at_ones, bit_at_ones_above, same_from_bits}
 use Rattle.trace_model.specs.vidi_bits.Number.{has}
-use Rattle.trace_model.proofs.vidi_bits.BitLemmas.{hasn't-from-bit}
+use Rattle.trace_model.proofs.vidi_bits_lemmas.BitLemmas.{hasn't-from-bit}
 use Rattle.trace_model.proofs.MaskLemmas.{has-from-bit, bit_at-without}
 
 -- a bit is 0 or 1, so a test of it tells it

@@ -5,7 +5,7 @@ use Rattle.std.proofs.lemmas.List.{take_all}
 use Rattle.std.proofs.lemmas.List.Sums.{sum_by-cons}
 use Rattle.std.proofs.lemmas.Option.{same_Some, slice_get_cases}
 use Rattle.trace_model.specs.vidi_bits.Number.{has}
-use Rattle.trace_model.proofs.vidi_bits.BitLemmas.{has-above}
+use Rattle.trace_model.proofs.vidi_bits_lemmas.BitLemmas.{has-above}
 use Rattle.trace_model.specs.Length.{head_len}
 use Rattle.room_ledger.specs.Reservation.{whole, reservation, reserved, AreRaised}
 use Rattle.room_ledger.proofs.Totals.{total, total-cons, total-more}

@@ -1,6 +1,6 @@
 -- A run of a shell, one row longer.
 use Rattle.std.proofs.Common.{◌≡◌, ℕ, List, [], ◌∷◌, ◌++◌, Option, Some, length, sym, subst}
-use Rattle.run_reference.proofs.trace_model.RowLemmas.{before-last}
+use Rattle.run_reference.proofs.trace_model_lemmas.RowLemmas.{before-last}
 use Rattle.run_reference.specs.trace_model.declared.row.Offers.{Offers}
 use Rattle.run_reference.specs.trace_model.declared.row.Row.{Row}
 use Rattle.run_reference.specs.trace_model.Row.{row_before}
@@ -9,7 +9,7 @@ use Rattle.chan_monitor.specs.net_design.declared.values.Values.{Values}
 use Rattle.run_reference.specs.chan_map.declared.pins.Map.{Map}
 use Rattle.run_reference.specs.run_model.Laws.{GatesOf}
 use Rattle.run_reference.specs.run_model.Run.{IsRunRow}
-use Rattle.run_reference.proofs.run_model.PlayedLaws.{Grown}
+use Rattle.run_reference.proofs.run_model_lemmas.PlayedLaws.{Grown}
 use Rattle.run_reference.specs.Given.{offers_by, gates_by}
 use Rattle.run_reference.proofs.StepLemmas.{run-grow}
 use Rattle.run_checks.specs.Playing.{IsTurn}

@@ -14,7 +14,7 @@ use Rattle.net_sim.specs.net_design.Lawful.{IsLawful}
 use Rattle.vidi_recorder.specs.vidi_io.Shelf.{Files, Later, appended, holding, emptied}
 use Rattle.vidi_recorder.specs.vidi_io.ShelfSink.{bytes_written, IsOver}
 use Rattle.vidi_recorder.specs.vidi_io.Sink.{Frame}
-use Rattle.vidi_recorder.proofs.vidi_io.Started.{appended-holding, ok-pushed, written-started}
+use Rattle.vidi_recorder.proofs.vidi_io_lemmas.Started.{appended-holding, ok-pushed, written-started}
 use Rattle.vidi_recorder.specs.declared.error.Outcome.{Outcome}
 use Rattle.vidi_recorder.specs.declared.error.Outcome.TheVariants as outcomes
 use Rattle.vidi_recorder.specs.declared.error.RecordError.{RecordError}

@@ -1,6 +1,6 @@
 -- Names of channels are short.
 use Rattle.std.proofs.Common.{◌≡◌, ℕ, ◌≤◌, List, [], ◌∷◌, Option, None, Some, length, slice_get, refl, arith}
-use Rattle.bench_run.proofs.run_model.PinLemmas.{all-at}
+use Rattle.bench_run.proofs.run_model_lemmas.PinLemmas.{all-at}
 use Rattle.bench_run.specs.trace_model.declared.channel.Channel.{Channel}
 use Rattle.bench_run.specs.trace_model.Channel.{IsName, IsChannel, IsTable}
 use Rattle.vidi_bench.specs.report_text.Report.{its_name, name_of}

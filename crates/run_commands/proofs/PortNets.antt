@@ -2,7 +2,7 @@
 use Rattle.net_sim.specs.net_design.declared.design.Design.{Design}
 use Rattle.net_sim.specs.net_design.Lawful.{IsLawful}
 use Rattle.bench_run.specs.run_model.Building.{PortsAreNets}
-use Rattle.bench_run.proofs.run_model.PlayedLaws.{ports-are_nets}
+use Rattle.bench_run.proofs.run_model_lemmas.PlayedLaws.{ports-are_nets}
 
 pub port_nets : (d : Design) → IsLawful d → PortsAreNets d
 port_nets = ports-are_nets

@@ -2,7 +2,7 @@
 use Rattle.std.proofs.Common.{◌≡◌, ℕ, ◌<◌, ◌&&◌, not, List, ◌++◌, Option, None, Some, Result, Ok, Err, take, length, refl, ap, sym, subst, ◌∙◌}
 use Rattle.std.specs.Prelude.{count_by, slice_get, IfSome}
 use Rattle.std.specs.List.{flat_map}
-use Rattle.chan_map.proofs.vidi_bits.Each.{each_weaker, zip-on}
+use Rattle.chan_map.proofs.vidi_bits_lemmas.Each.{each_weaker, zip-on}
 use Rattle.chan_map.specs.vidi_bits.Findings.{told_if}
 use Rattle.chan_map.specs.trace_model.declared.channel.Channel.{Channel as Row}
 use Rattle.chan_map.specs.net_design.declared.design.Port.{Port}

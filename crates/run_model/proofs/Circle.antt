@@ -19,9 +19,9 @@ use Rattle.chan_map.specs.trace_model.Counting.{IsNth}
 use Rattle.chan_map.specs.trace_model.Packet.{does, count}
 use Rattle.chan_map.specs.trace_model.Recording.{shown}
 use Rattle.chan_map.specs.trace_model.Trace.{Alternates}
-use Rattle.chan_map.proofs.trace_model.CountingLemmas.{count-suc, count-suc_yes, count-suc_no}
-use Rattle.chan_map.proofs.trace_model.FlightLemmas.{balanced}
-use Rattle.chan_map.proofs.trace_model.RowLaws.{counted}
+use Rattle.chan_map.proofs.trace_model_lemmas.CountingLemmas.{count-suc, count-suc_yes, count-suc_no}
+use Rattle.chan_map.proofs.trace_model_lemmas.FlightLemmas.{balanced}
+use Rattle.chan_map.proofs.trace_model_lemmas.RowLaws.{counted}
 use Rattle.run_model.specs.declared.held.Await.{Await}
 use Rattle.run_model.specs.declared.held.Held.{Held}
 use Rattle.run_model.specs.Held.{packet_place, places_from, flies, awaits, controlled}

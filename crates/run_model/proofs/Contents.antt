@@ -7,12 +7,12 @@ use Rattle.std.proofs.lemmas.List.{length-append, take-append-drop, take_at, dro
 use Rattle.std.proofs.lemmas.Nat.Bits.{bit_at_ones, bit_at_cat_low, bit_at_cat_high, bit_at-lt, same_from_bits}
 use Rattle.std.proofs.lemmas.Nat.{pow_pos}
 use Rattle.chan_map.specs.vidi_bits.Number.{has}
-use Rattle.chan_map.proofs.vidi_bits.BitLemmas.{has-above}
+use Rattle.chan_map.proofs.vidi_bits_lemmas.BitLemmas.{has-above}
 use Rattle.chan_map.specs.trace_model.declared.channel.Channel.{Channel}
 use Rattle.chan_map.specs.trace_model.Packet.{Fit, widths_of}
 use Rattle.chan_map.specs.trace_model.Row.{all_widths, content_at}
 use Rattle.run_model.specs.Building.{mask_of, joined}
-use Rattle.chan_map.proofs.trace_model.ContentsLemmas.{fit-append, fit-front, fit-length, fit-rest}
+use Rattle.chan_map.proofs.trace_model_lemmas.ContentsLemmas.{fit-append, fit-front, fit-length, fit-rest}
 
 -- ---- masks
 

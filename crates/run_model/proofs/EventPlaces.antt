@@ -10,7 +10,7 @@ use Rattle.chan_map.specs.trace_model.declared.packet.Packet.{Packet}
 use Rattle.chan_map.specs.trace_model.Clock.{clock, Covers}
 use Rattle.chan_map.specs.trace_model.Counting.{IsNth}
 use Rattle.chan_map.specs.trace_model.Packet.{does, count}
-use Rattle.chan_map.proofs.trace_model.CountingLemmas.{count-cons, nth, nth-below, nth-unique}
+use Rattle.chan_map.proofs.trace_model_lemmas.CountingLemmas.{count-cons, nth, nth-below, nth-unique}
 use Rattle.run_model.specs.Held.{places_from, await_on}
 use Rattle.run_model.specs.Replay.{IsCovered}
 

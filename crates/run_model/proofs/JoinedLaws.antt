@@ -1,7 +1,7 @@
 -- What is joined of each channel's part.
 use Rattle.std.proofs.Common.{◌≡◌, ℕ, suc, ◌+◌, List, [], ◌∷◌, ◌++◌, length, append_assoc, ap, sym, ◌∙◌, arith, ◌<◌, take, get_or}
 use Rattle.std.proofs.lemmas.List.{append-nil, length-take-le}
-use Rattle.chan_map.proofs.trace_model.CountingLemmas.{take-more_read}
+use Rattle.chan_map.proofs.trace_model_lemmas.CountingLemmas.{take-more_read}
 use Rattle.run_model.specs.Building.{joined}
 use Rattle.chan_map.specs.trace_model.declared.channel.Channel.{Channel}
 

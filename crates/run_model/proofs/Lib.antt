@@ -15,6 +15,6 @@ pub mod Played
 pub mod Unstable
 pub mod Ends
 pub mod Stops
-pub use Rattle.chan_map.proofs.net_design as net_design
-pub use Rattle.chan_map.proofs.trace_model as trace_model
-pub use Rattle.chan_map.proofs.vidi_bits as vidi_bits
+pub use Rattle.chan_map.proofs.net_design_lemmas as net_design_lemmas
+pub use Rattle.chan_map.proofs.trace_model_lemmas as trace_model_lemmas
+pub use Rattle.chan_map.proofs.vidi_bits_lemmas as vidi_bits_lemmas

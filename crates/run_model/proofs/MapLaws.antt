@@ -2,7 +2,7 @@
 use Rattle.std.proofs.Common.{◌≡◌, ℕ, ◌==◌, true, List, Option, Some, None, take}
 use Rattle.std.proofs.Common.{count_by, refl, ap, sym, ◌∙◌}
 use Rattle.std.proofs.lemmas.Bool.{false≢true, and_parts, eqb-true}
-use Rattle.chan_map.proofs.trace_model.CountingLemmas.{nth-unique}
+use Rattle.chan_map.proofs.trace_model_lemmas.CountingLemmas.{nth-unique}
 use Rattle.chan_map.specs.net_design.declared.design.Port.{Port}
 use Rattle.chan_map.specs.net_design.declared.design.Direction.{Direction}
 use Rattle.chan_map.specs.net_design.declared.design.Direction.TheVariants.{Input}

@@ -17,7 +17,7 @@ use Rattle.chan_map.specs.trace_model.declared.channel.Dir.{Dir}
 use Rattle.chan_map.specs.trace_model.declared.channel.Dir.TheVariants.{Inward, Outward}
 use Rattle.chan_map.specs.trace_model.declared.row.Row.{Row}
 use Rattle.chan_map.specs.trace_model.Row.{content_at, sink_valid}
-use Rattle.chan_map.proofs.trace_model.CountingLemmas.{count-cons, nth, nth-below}
+use Rattle.chan_map.proofs.trace_model_lemmas.CountingLemmas.{count-cons, nth, nth-below}
 use Rattle.chan_map.specs.net_design.declared.design.Port.{Port}
 use Rattle.chan_map.specs.net_design.declared.design.Direction.{Direction}
 use Rattle.chan_map.specs.net_design.declared.design.Direction.TheVariants.{Input, Output}

@@ -12,7 +12,7 @@ use Rattle.chan_map.specs.net_design.declared.values.Values.{Values}
 use Rattle.chan_map.specs.net_design.Settled.{pins_of, initial, next}
 use Rattle.chan_map.specs.net_design.Lawful.{IsLawful, IsState}
 use Rattle.chan_map.specs.net_design.Pins.{is_clock, input_limits}
-use Rattle.chan_map.proofs.net_design.StateLaws.{initial_state, next_state}
+use Rattle.chan_map.proofs.net_design_lemmas.StateLaws.{initial_state, next_state}
 use Rattle.chan_map.specs.declared.pins.Map.{Map}
 use Rattle.chan_map.specs.declared.pins.Reset.{Reset}
 use Rattle.run_model.specs.Laws.{GatesOf}

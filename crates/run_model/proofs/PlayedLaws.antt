@@ -8,12 +8,12 @@ use Rattle.std.proofs.lemmas.List.{take_all, take_at, take-append-le, length_pus
 use Rattle.std.proofs.lemmas.Option.{get_or_from_slice_get, slice_get_within}
 use Rattle.std.proofs.lemmas.Nat.{pow_pos}
 use Rattle.chan_map.specs.vidi_bits.Number.{has}
-use Rattle.chan_map.proofs.vidi_bits.BitLemmas.{has-above}
+use Rattle.chan_map.proofs.vidi_bits_lemmas.BitLemmas.{has-above}
 use Rattle.chan_map.specs.trace_model.declared.channel.Channel.{Channel}
 use Rattle.chan_map.specs.trace_model.declared.row.Offers.{Offers}
 use Rattle.chan_map.specs.trace_model.declared.row.Row.{Row}
 use Rattle.chan_map.specs.trace_model.Row.{content_at, sink_valid, row_before, IsOver, AreOffers, IsMarked, AreRows}
-use Rattle.chan_map.proofs.trace_model.CountingLemmas.{slice_get-push, slice_get-append_left, slice_get-take, take-suc_get}
+use Rattle.chan_map.proofs.trace_model_lemmas.CountingLemmas.{slice_get-push, slice_get-append_left, slice_get-take, take-suc_get}
 use Rattle.chan_map.specs.net_design.declared.design.Net.{Net}
 use Rattle.chan_map.specs.net_design.declared.design.Direction.TheVariants.{Output}
 use Rattle.chan_map.specs.net_design.declared.design.Design.{Design}
@@ -21,7 +21,7 @@ use Rattle.chan_map.specs.net_design.declared.values.Values.{Values}
 use Rattle.chan_map.specs.net_design.Settled.{FitNets, IsSettled, initial, next}
 use Rattle.chan_map.specs.net_design.Lawful.{IsLawful, IsState}
 use Rattle.chan_map.specs.net_design.Pins.{FitPins, HasOneMap, input_limits, outputs}
-use Rattle.chan_map.proofs.net_design.StateLaws.{initial_state, next_state}
+use Rattle.chan_map.proofs.net_design_lemmas.StateLaws.{initial_state, next_state}
 use Rattle.chan_map.specs.declared.pins.Map.{Map}
 use Rattle.chan_map.specs.declared.pins.Reset.{Reset}
 use Rattle.run_model.specs.Building.{row_of, number_for, FitOutputs, AreSmall, PortsAreNets}

@@ -8,7 +8,7 @@ use Rattle.std.proofs.lemmas.List.{length-map}
 use Rattle.std.proofs.lemmas.List.Sums.{length-filter}
 use Rattle.std.proofs.lemmas.Option.{slice_get_within, same_Some}
 use Rattle.chan_map.specs.vidi_bits.Number.{has}
-use Rattle.chan_map.proofs.vidi_bits.BitLemmas.{has-above}
+use Rattle.chan_map.proofs.vidi_bits_lemmas.BitLemmas.{has-above}
 use Rattle.chan_map.specs.trace_model.declared.channel.Channel.{Channel}
 use Rattle.chan_map.specs.trace_model.declared.channel.Dir.{Dir}
 use Rattle.chan_map.specs.trace_model.declared.channel.Dir.TheVariants.{Inward, Outward}
@@ -22,9 +22,9 @@ use Rattle.chan_map.specs.trace_model.Counting.{IsNth}
 use Rattle.chan_map.specs.trace_model.Packet.{does, count, content_of, Fit, IsPacket}
 use Rattle.chan_map.specs.trace_model.Recording.{row_does, shown, has_event, packet_of, packets_of, recorded}
 use Rattle.chan_map.specs.trace_model.Row.{content_at, sink_valid, is_in_flight, flies_after, row_before, AreOffers, AreRows}
-use Rattle.chan_map.proofs.trace_model.ContentsLemmas.{content-fits}
-use Rattle.chan_map.proofs.trace_model.CountingLemmas.{count-suc_no, count-mono, nth, nth-unique}
-use Rattle.chan_map.proofs.trace_model.RowLaws.{counted, recorded-once, same-counts, does-same}
+use Rattle.chan_map.proofs.trace_model_lemmas.ContentsLemmas.{content-fits}
+use Rattle.chan_map.proofs.trace_model_lemmas.CountingLemmas.{count-suc_no, count-mono, nth, nth-unique}
+use Rattle.chan_map.proofs.trace_model_lemmas.RowLaws.{counted, recorded-once, same-counts, does-same}
 use Rattle.chan_map.specs.net_design.declared.design.Design.{Design}
 use Rattle.chan_map.specs.declared.pins.Map.{Map}
 use Rattle.run_model.specs.Building.{mask_of, joined}

@@ -9,7 +9,7 @@ use Rattle.std.proofs.lemmas.List.{get_or_past}
 use Rattle.std.proofs.lemmas.Option.{slice_get_within, slice_get_cases}
 use Rattle.std.proofs.lemmas.Nat.{pow_pos}
 use Rattle.chan_map.specs.vidi_bits.Number.{truth, has}
-use Rattle.chan_map.proofs.vidi_bits.BitLemmas.{has-above}
+use Rattle.chan_map.proofs.vidi_bits_lemmas.BitLemmas.{has-above}
 use Rattle.chan_map.specs.trace_model.declared.channel.Channel.{Channel}
 use Rattle.chan_map.specs.trace_model.declared.channel.Dir.{Dir}
 use Rattle.chan_map.specs.trace_model.declared.channel.Dir.TheVariants.{Inward, Outward}
@@ -17,7 +17,7 @@ use Rattle.chan_map.specs.trace_model.declared.row.Offers.{Offers}
 use Rattle.chan_map.specs.trace_model.declared.row.Row.{Row}
 use Rattle.chan_map.specs.trace_model.Packet.{Fit, widths_of}
 use Rattle.chan_map.specs.trace_model.Row.{all_widths, content_at, sink_valid, flies_after, IsOver, AreOffers, IsMarked}
-use Rattle.chan_map.proofs.trace_model.ContentsLemmas.{fit-length, fit-at}
+use Rattle.chan_map.proofs.trace_model_lemmas.ContentsLemmas.{fit-length, fit-at}
 use Rattle.chan_map.specs.net_design.declared.design.Direction.TheVariants.{Output}
 use Rattle.chan_map.specs.net_design.declared.design.Design.{Design}
 use Rattle.chan_map.specs.declared.pins.Map.{Map}

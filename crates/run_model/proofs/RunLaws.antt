@@ -11,7 +11,7 @@ use Rattle.chan_map.specs.trace_model.declared.row.Row.{Row}
 use Rattle.chan_map.specs.trace_model.Row.{content_at, completes, is_in_flight, row_before, AreRows}
 use Rattle.chan_map.specs.trace_model.Recording.{trace_of}
 use Rattle.chan_map.specs.trace_model.Trace.{IsWellFormed}
-use Rattle.chan_map.proofs.trace_model.CountingLemmas.{take-suc_get}
+use Rattle.chan_map.proofs.trace_model_lemmas.CountingLemmas.{take-suc_get}
 use Rattle.chan_map.specs.net_design.declared.design.Design.{Design}
 use Rattle.chan_map.specs.declared.pins.Map.{Map}
 use Rattle.run_model.specs.Laws.{IsReady, GatesOf, OffersFit, OneOfLength, OffersStay, GatesStay, ContentsStay, RunKeepsContents}
@@ -21,7 +21,7 @@ use Rattle.run_model.specs.Run.{IsRun, IsRunRow}
 use Rattle.run_model.proofs.PlayedLaws.{Determines, Allows, one-list_of_rows, some-list, rows-front}
 use Rattle.run_model.proofs.RowParts.{carried}
 use Rattle.run_model.proofs.Stays.{KeepsContents, keeps-from, keeps-in-flight, contents-stay, flight-parts}
-use Rattle.chan_map.proofs.trace_model.RowLaws.{well-formed}
+use Rattle.chan_map.proofs.trace_model_lemmas.RowLaws.{well-formed}
 
 -- ---- exactly one list of n rows
 -- after these rows exactly one set of gates may be up, and it is of these channels

@@ -6,7 +6,7 @@ use Rattle.std.proofs.lemmas.Bool.{cases_Bool, cases_lt, and_parts, and_from, fa
 use Rattle.std.proofs.lemmas.Option.{slice_get_within, same_Some}
 use Rattle.std.proofs.lemmas.Slice.Eq.{bytes_eq-Decides}
 use Rattle.chan_map.specs.vidi_bits.Number.{has}
-use Rattle.chan_map.proofs.vidi_bits.BitLemmas.{has-above}
+use Rattle.chan_map.proofs.vidi_bits_lemmas.BitLemmas.{has-above}
 use Rattle.chan_map.specs.trace_model.declared.channel.Channel.{Channel}
 use Rattle.chan_map.specs.trace_model.declared.channel.Dir.{Dir}
 use Rattle.chan_map.specs.trace_model.declared.channel.Dir.TheVariants.{Inward, Outward}
@@ -17,8 +17,8 @@ use Rattle.chan_map.specs.trace_model.Laws.{KeepsInFlight}
 use Rattle.chan_map.specs.trace_model.Recording.{row_does, IsTransaction}
 use Rattle.chan_map.specs.trace_model.Row.{content_at, sink_valid, completes, is_in_flight, flies_after, row_before, AreRows}
 use Rattle.chan_map.specs.trace_model.Stability.{waits, IsUnstable}
-use Rattle.chan_map.proofs.trace_model.CountingLemmas.{count-suc_yes, count-suc_no, nth-unique}
-use Rattle.chan_map.proofs.trace_model.RowLaws.{counted}
+use Rattle.chan_map.proofs.trace_model_lemmas.CountingLemmas.{count-suc_yes, count-suc_no, nth-unique}
+use Rattle.chan_map.proofs.trace_model_lemmas.RowLaws.{counted}
 use Rattle.run_model.specs.Laws.{ContentsStay}
 use Rattle.run_model.specs.Played.{AreStable}
 use Rattle.run_model.proofs.RowParts.{channel-at}

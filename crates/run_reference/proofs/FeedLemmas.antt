@@ -19,8 +19,8 @@ use Rattle.run_model.specs.trace_model.Clock.{clock, Covers}
 use Rattle.run_model.specs.trace_model.Counting.{IsNth}
 use Rattle.run_model.specs.trace_model.Packet.{does, content_of, Fit, IsPacket}
 use Rattle.run_model.specs.trace_model.Row.{row_before, AreOffers}
-use Rattle.run_model.proofs.trace_model.ContentsLemmas.{content-fits}
-use Rattle.run_model.proofs.trace_model.CountingLemmas.{nth-unique}
+use Rattle.run_model.proofs.trace_model_lemmas.ContentsLemmas.{content-fits}
+use Rattle.run_model.proofs.trace_model_lemmas.CountingLemmas.{nth-unique}
 use Rattle.run_model.specs.net_design.declared.design.Design.{Design}
 use Rattle.run_model.specs.net_design.declared.values.Values.{Values}
 use Rattle.run_model.specs.chan_map.declared.pins.Map.{Map}

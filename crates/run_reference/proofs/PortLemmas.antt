@@ -12,9 +12,9 @@ use Rattle.run_model.specs.trace_model.declared.channel.Channel.{Channel}
 use Rattle.run_model.specs.trace_model.declared.row.Row.{Row}
 use Rattle.run_model.specs.trace_model.Channel.{IsChannel, IsTable}
 use Rattle.run_model.specs.trace_model.Packet.{widths_of, widths_under}
-use Rattle.run_model.proofs.trace_model.ContentsLemmas.{widths-suc}
+use Rattle.run_model.proofs.trace_model_lemmas.ContentsLemmas.{widths-suc}
 use Rattle.run_model.specs.trace_model.Row.{all_widths}
-use Rattle.run_model.proofs.trace_model.CountingLemmas.{take-suc_get}
+use Rattle.run_model.proofs.trace_model_lemmas.CountingLemmas.{take-suc_get}
 use Rattle.run_model.specs.chan_map.declared.pins.Plug.{Plug}
 use Rattle.run_model.specs.declared.pins.PinNumber.{PinNumber}
 use Rattle.run_model.specs.net_design.declared.design.Design.{Design}

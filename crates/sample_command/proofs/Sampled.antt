@@ -4,7 +4,7 @@ use Rattle.std.specs.Prelude.{IfOk, IsSome, IsSomeAnd, codes}
 use Rattle.std.specs.Cmp.Lexicographic.{nat_list_cmp_total}
 use Rattle.std.specs.FinMap.{get, insert, get-insert}
 use Rattle.std.proofs.lemmas.Map.Text.{is_eq-slice_cmp}
-use Rattle.sample_gen.proofs.vidi_bits.Lists.{bytes_eq-self, some_same}
+use Rattle.sample_gen.proofs.vidi_bits_lemmas.Lists.{bytes_eq-self, some_same}
 use Rattle.sample_gen.specs.trace_model.Recording.{trace_of}
 use Rattle.replay_command.specs.trace_code.Encoding.{encode}
 use Rattle.sample_gen.specs.room_ledger.Reservation.{need}
@@ -24,7 +24,7 @@ use Rattle.replay_command.specs.run_commands.Recorded.{FileEnds}
 use Rattle.replay_command.specs.run_commands.Records.{course_of}
 use Rattle.sample_command.specs.Sampled.{trace_on, HasTrace, IsTraceOf, IsUnstable}
 use Rattle.sample_command.specs.Samples.{IsTraced, IsUntraced}
-use Rattle.replay_command.proofs.vidi_bench.Chain.{Implies}
+use Rattle.replay_command.proofs.vidi_bench_lemmas.Chain.{Implies}
 
 -- ---- the file on the shelf
 get-held : (m : Files) (name bytes : List ℕ) → get (insert m name bytes) name ≡ Some bytes

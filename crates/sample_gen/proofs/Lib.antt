@@ -5,5 +5,5 @@ pub mod Taken
 pub mod Plans
 pub mod Scripts
 pub mod Binding
-pub use Rattle.room_ledger.proofs as room_ledger
-pub use Rattle.room_ledger.proofs.vidi_bits as vidi_bits
+pub use Rattle.room_ledger.proofs as room_ledger_lemmas
+pub use Rattle.room_ledger.proofs.vidi_bits_lemmas as vidi_bits_lemmas

@@ -5,7 +5,7 @@ use Rattle.std.specs.Prelude.{count_by}
 use Rattle.std.proofs.lemmas.Bool.{cases_lt}
 use Rattle.std.proofs.lemmas.List.{take-take, take-append-drop, take-append-le, take_all}
 use Rattle.std.proofs.lemmas.List.Sums.{sum_by-append}
-use Rattle.chan_map.proofs.trace_model.RowLaws.{flag}
+use Rattle.chan_map.proofs.trace_model_lemmas.RowLaws.{flag}
 use Rattle.chan_map.specs.trace_model.declared.row.Row.{Row}
 use Rattle.chan_map.specs.trace_model.Row.{completes}
 use Rattle.script_text.specs.declared.script.Step.{Step}

@@ -10,7 +10,7 @@ use Rattle.std.proofs.lemmas.List.{drop_more}
 use Rattle.std.proofs.lemmas.Option.{slice_get_within}
 use Rattle.std.proofs.lemmas.Bool.{and_from, and_right}
 use Rattle.chan_map.specs.trace_model.Channel.{between}
-use Rattle.chan_map.proofs.vidi_bits.Bools.{left_of, right_of}
+use Rattle.chan_map.proofs.vidi_bits_lemmas.Bools.{left_of, right_of}
 use Rattle.chan_map.specs.trace_model.declared.channel.Channel.{Channel}
 use Rattle.chan_map.specs.trace_model.declared.channel.Dir.{Dir}
 use Rattle.chan_map.specs.trace_model.declared.channel.Dir.TheVariants.{Inward, Outward}

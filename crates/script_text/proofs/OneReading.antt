@@ -3,7 +3,7 @@ use Rattle.std.proofs.Common.{◌≡◌, ◌⊎◌, ℕ, ◌+◌, ◌<◌, List,
 use Rattle.std.proofs.Common.{subst, ◌∙◌, codes}
 use Rattle.std.proofs.lemmas.List.{ext_get_or}
 use Rattle.std.specs.List.{prefix_len}
-use Rattle.chan_map.proofs.vidi_bits.Lists.{some_same}
+use Rattle.chan_map.proofs.vidi_bits_lemmas.Lists.{some_same}
 use Rattle.chan_map.specs.vidi_bits.Findings.{first}
 use Rattle.chan_map.specs.vidi_lines.declared.lines.Line.{Line as LineOf}
 use Rattle.chan_map.specs.trace_model.declared.channel.Channel.{Channel as ChannelOf}
@@ -21,7 +21,7 @@ use Rattle.chan_map.specs.vidi_bits.Findings.{IsFirst}
 use Rattle.script_text.specs.Told.{script_told}
 use Rattle.script_text.specs.Stalls.{plan_faults, PlansFrom, ReadsStalls}
 use Rattle.script_text.specs.OneReading.{SamePlan, OneScript, OnePlan}
-use Rattle.chan_map.proofs.vidi_bits.OneAnswer.{one-answer}
+use Rattle.chan_map.proofs.vidi_bits_lemmas.OneAnswer.{one-answer}
 
 -- ---- scripts
 same-script : (channels : List ChannelOf) (cycles : ℕ) (lines : List StepLine) (a b : Script) → IsScript channels cycles lines a

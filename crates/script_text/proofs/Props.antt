@@ -1,7 +1,7 @@
 -- That a step fits a channel has one proof at most.
 use Rattle.std.proofs.Common.{List, []}
 use Rattle.std.proofs.Props.{props}
-use Rattle.chan_map.proofs.trace_model.ContentsLemmas.{fit_prop}
+use Rattle.chan_map.proofs.trace_model_lemmas.ContentsLemmas.{fit_prop}
 use Rattle.chan_map.specs.trace_model.declared.channel.Channel.{Channel}
 use Rattle.script_text.specs.declared.script.Step.{Step}
 use Rattle.script_text.specs.declared.script.Step.TheVariants.{Send, Take, TakeAll, Wait, After}

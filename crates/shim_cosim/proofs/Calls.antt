@@ -19,7 +19,7 @@ use Rattle.replay_run.specs.run_model.Offers.{AreZeroWhileDown}
 use Rattle.replay_run.specs.run_model.Step.{IsAfter, IsFirst}
 use Rattle.replay_run.specs.chan_monitor.Entering.{offered}
 use Rattle.replay_run.specs.chan_monitor.Shell.{IsRunning, IsShown}
-use Rattle.replay_run.proofs.chan_monitor.RowOfCycle.{refill-is}
+use Rattle.replay_run.proofs.chan_monitor_lemmas.RowOfCycle.{refill-is}
 use Rattle.std.proofs.lemmas.List.{length-take-le, take_at}
 use Rattle.shim_gen.specs.shim_trees.RecordTop.{record_name}
 use Rattle.shim_gen.specs.shim_trees.Wrapped.{ports_in, module_named}

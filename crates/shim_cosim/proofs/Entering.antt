@@ -13,11 +13,11 @@ use Rattle.replay_run.specs.trace_model.declared.row.Offers.{Offers}
 use Rattle.replay_run.specs.trace_model.declared.row.Row.{Row}
 use Rattle.replay_run.specs.trace_model.Packet.{Fit}
 use Rattle.replay_run.specs.trace_model.Row.{all_widths, content_at, replaced}
-use Rattle.replay_run.proofs.trace_model.ContentsLemmas.{fit-length}
-use Rattle.replay_run.proofs.trace_model.CountingLemmas.{take-more_read}
-use Rattle.replay_run.proofs.trace_model.RowLemmas.{first_of, first-more, first-within, content-read, replaced-none, replaced-more}
+use Rattle.replay_run.proofs.trace_model_lemmas.ContentsLemmas.{fit-length}
+use Rattle.replay_run.proofs.trace_model_lemmas.CountingLemmas.{take-more_read}
+use Rattle.replay_run.proofs.trace_model_lemmas.RowLemmas.{first_of, first-more, first-within, content-read, replaced-none, replaced-more}
 use Rattle.replay_run.specs.run_model.Building.{joined}
-use Rattle.replay_run.proofs.run_model.JoinedLaws.{joined-more}
+use Rattle.replay_run.proofs.run_model_lemmas.JoinedLaws.{joined-more}
 use Rattle.shim_gen.specs.shim_trees.Pieces.{each_some, upto}
 use Rattle.shim_cosim.specs.declared.recorded.Spot.{Spot}
 use Rattle.shim_cosim.specs.Recorded.{entered_inputs, channel_inputs, side_count, input_count, inputs_count, content_count, output_count}

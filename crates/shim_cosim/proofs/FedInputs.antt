@@ -12,8 +12,8 @@ use Rattle.replay_run.specs.trace_model.declared.channel.Channel.{Channel}
 use Rattle.replay_run.specs.trace_model.declared.channel.Dir.{Dir}
 use Rattle.replay_run.specs.trace_model.declared.channel.Dir.TheVariants.{Inward, Outward}
 use Rattle.replay_run.specs.trace_model.Row.{content_at, replaced}
-use Rattle.replay_run.proofs.trace_model.CountingLemmas.{take-more_read}
-use Rattle.replay_run.proofs.trace_model.RowLemmas.{first_of, first-within, content-read, rest-more, replaced-none, replaced-more}
+use Rattle.replay_run.proofs.trace_model_lemmas.CountingLemmas.{take-more_read}
+use Rattle.replay_run.proofs.trace_model_lemmas.RowLemmas.{first_of, first-within, content-read, rest-more, replaced-none, replaced-more}
 use Rattle.replay_run.specs.chan_replayer.declared.feed.Feed.{Feed}
 use Rattle.replay_run.specs.chan_replayer.Feed.{need_of, IsFeedOver}
 use Rattle.shim_gen.specs.shim_trees.Pieces.{each_some}

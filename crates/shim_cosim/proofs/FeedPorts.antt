@@ -16,10 +16,10 @@ use Rattle.replay_run.specs.trace_model.declared.channel.Dir.{Dir}
 use Rattle.replay_run.specs.trace_model.declared.channel.Dir.TheVariants.{Inward, Outward}
 use Rattle.replay_run.specs.trace_model.Packet.{Fit}
 use Rattle.replay_run.specs.trace_model.Row.{content_at}
-use Rattle.replay_run.proofs.trace_model.ContentsLemmas.{fit-length}
+use Rattle.replay_run.proofs.trace_model_lemmas.ContentsLemmas.{fit-length}
 use Rattle.replay_run.specs.trace_model.Channel.{IsChannel, IsTable}
-use Rattle.replay_run.proofs.run_model.Contents.{content-fits}
-use Rattle.replay_run.proofs.run_model.PinLemmas.{all-at}
+use Rattle.replay_run.proofs.run_model_lemmas.Contents.{content-fits}
+use Rattle.replay_run.proofs.run_model_lemmas.PinLemmas.{all-at}
 use Rattle.replay_run.specs.chan_replayer.declared.feed.Feed.{Feed}
 use Rattle.replay_run.specs.chan_replayer.Feed.{need_of, IsFeedOver}
 use Rattle.shim_gen.specs.shim_trees.Pieces.{numbered, numbered_twice, each, each_some, upto, input, output}

@@ -13,7 +13,7 @@ use Rattle.replay_run.specs.trace_model.Row.{IsOver}
 use Rattle.replay_run.specs.chan_map.declared.pins.Map.{Map}
 use Rattle.replay_run.specs.chan_map.declared.pins.Reset.{Reset}
 use Rattle.replay_run.specs.run_model.Step.{IsAfter, IsFirst}
-use Rattle.replay_run.proofs.chan_monitor.RowOfCycle.{refill-is}
+use Rattle.replay_run.proofs.chan_monitor_lemmas.RowOfCycle.{refill-is}
 use Rattle.replay_run.specs.chan_replayer.declared.feed.Feed.{Feed}
 use Rattle.replay_run.specs.chan_replayer.Feed.{IsFeedOver}
 use Rattle.replay_run.specs.chan_replayer.Shell.{IsRunning, IsShown}

@@ -13,7 +13,7 @@ use Rattle.net_sim.specs.net_design.declared.values.Values.{Values}
 use Rattle.net_sim.specs.net_design.Lawful.{IsLawful, IsState}
 use Rattle.net_sim.specs.net_design.Pins.{input_limits, outputs}
 use Rattle.net_sim.specs.net_design.Settled as design
-use Rattle.net_sim.proofs.net_design.StateLaws.{initial_state, next_state}
+use Rattle.net_sim.proofs.net_design_lemmas.StateLaws.{initial_state, next_state}
 use Rattle.vlog_design.specs.flat_parts.Meaning.{state_of}
 use Rattle.replay_run.specs.trace_model.declared.channel.Channel.{Channel}
 use Rattle.replay_run.specs.trace_model.declared.channel.Dir.{Dir}
@@ -22,7 +22,7 @@ use Rattle.replay_run.specs.trace_model.declared.row.Offers.{Offers}
 use Rattle.replay_run.specs.trace_model.declared.row.Row.{Row}
 use Rattle.replay_run.specs.trace_model.Packet.{Fit}
 use Rattle.replay_run.specs.trace_model.Row.{content_at, AreOffers, IsOver}
-use Rattle.replay_run.proofs.trace_model.ContentsLemmas.{fit-length}
+use Rattle.replay_run.proofs.trace_model_lemmas.ContentsLemmas.{fit-length}
 use Rattle.replay_run.specs.chan_map.declared.pins.Map.{Map}
 use Rattle.replay_run.specs.chan_map.declared.pins.Reset.{Reset}
 use Rattle.replay_run.specs.run_model.Building.{mask_of, joined, number_for}
@@ -30,14 +30,14 @@ use Rattle.replay_run.specs.run_model.Offers.{AreZeroWhileDown, CarriesOn}
 use Rattle.replay_run.specs.run_model.Pins.{silent, entered, ArePins}
 use Rattle.replay_run.specs.run_model.Step as run
 use Rattle.replay_run.specs.run_model.Step.{IsAfter, IsFirst, IsStep}
-use Rattle.replay_run.proofs.run_model.Contents.{mask-below, has-mask, same-masks_below, fit-joined, content-joined, content-fits, same-contents}
-use Rattle.replay_run.proofs.run_model.PinLemmas.{are-pins, one-list}
-use Rattle.replay_run.proofs.run_model.PlayedLaws.{silent-small}
-use Rattle.replay_run.proofs.run_model.RowParts.{channel-at}
+use Rattle.replay_run.proofs.run_model_lemmas.Contents.{mask-below, has-mask, same-masks_below, fit-joined, content-joined, content-fits, same-contents}
+use Rattle.replay_run.proofs.run_model_lemmas.PinLemmas.{are-pins, one-list}
+use Rattle.replay_run.proofs.run_model_lemmas.PlayedLaws.{silent-small}
+use Rattle.replay_run.proofs.run_model_lemmas.RowParts.{channel-at}
 use Rattle.replay_run.specs.chan_monitor.Entering.{offered}
 use Rattle.replay_run.specs.chan_monitor.Shell.{IsShown}
-use Rattle.replay_run.proofs.chan_monitor.Filling.{offered-is}
-use Rattle.replay_run.proofs.chan_monitor.RowOfCycle.{first-none, first-some}
+use Rattle.replay_run.proofs.chan_monitor_lemmas.Filling.{offered-is}
+use Rattle.replay_run.proofs.chan_monitor_lemmas.RowOfCycle.{first-none, first-some}
 use Rattle.shim_gen.specs.shim_trees.Pieces.{numbered, each_some, upto}
 use Rattle.shim_gen.specs.shim_trees.RecordTop.{record_ports, record_name, record_top}
 use Rattle.shim_gen.specs.shim_trees.Wrapped.{wrapped}

@@ -8,7 +8,7 @@ use Rattle.std.proofs.lemmas.List.{length-append}
 use Rattle.std.proofs.lemmas.List.Sums.{sum_by-cons}
 use Rattle.std.proofs.lemmas.Nat.{pow_pos}
 use Rattle.net_sim.specs.vidi_bits.Number.{IsWidth}
-use Rattle.net_sim.proofs.vidi_bits.Each.{each_append}
+use Rattle.net_sim.proofs.vidi_bits_lemmas.Each.{each_append}
 use Rattle.vlog_design.specs.vlog_tree.Tree.{PortOf, ConnOf, ItemOf, PosedgeEvent, ModuleOf, FileOf}
 use Rattle.vlog_design.specs.vlog_elab.Instances.{instances}
 use Rattle.shim_step.specs.vlog_scope.Scope.{scope_with}
@@ -33,8 +33,8 @@ use Rattle.replay_run.specs.trace_model.declared.channel.Dir.TheVariants.{Inward
 use Rattle.replay_run.specs.trace_model.declared.row.Offers.{Offers}
 use Rattle.replay_run.specs.trace_model.Row.{content_at, AreOffers}
 use Rattle.replay_run.specs.chan_map.declared.pins.Map.{Map}
-use Rattle.replay_run.proofs.run_model.Contents.{content-fits}
-use Rattle.replay_run.proofs.run_model.RowParts.{channel-at}
+use Rattle.replay_run.proofs.run_model_lemmas.Contents.{content-fits}
+use Rattle.replay_run.proofs.run_model_lemmas.RowParts.{channel-at}
 use Rattle.replay_run.specs.chan_monitor.Entering.{offered}
 use Rattle.shim_gen.specs.shim_trees.Pieces.{numbered, ident, net, not_net, both, next, at_clock, each, each_some, conn, gated_content}
 use Rattle.shim_gen.specs.shim_trees.Links.{held, tied_ports}
@@ -42,8 +42,8 @@ use Rattle.shim_gen.specs.shim_trees.Monitor.{monitor, gates, events}
 use Rattle.shim_gen.specs.shim_trees.RecordTop.{record_ports, record_name, record_top, monitor_conns}
 use Rattle.shim_gen.specs.shim_trees.Wrapped.{wrapped}
 use Rattle.shim_step.specs.shim_design.Plain.{IsPlain}
-use Rattle.shim_step.proofs.shim_design.Elements.{has_right, has_contains}
-use Rattle.shim_step.proofs.shim_design.Standing.{plain_scope, has_placed}
+use Rattle.shim_step.proofs.shim_design_lemmas.Elements.{has_right, has_contains}
+use Rattle.shim_step.proofs.shim_design_lemmas.Standing.{plain_scope, has_placed}
 use Rattle.shim_step.specs.Wrapped.{IsWrapped}
 use Rattle.shim_step.specs.Ports.{HasHeld, HasOffer, HasOffers, HasReset}
 use Rattle.shim_step.specs.Recording.{IsCycleOf}

@@ -6,7 +6,7 @@ use Rattle.std.specs.List.{AllZip, AllByRecursion, Contains, flat_map, range_wit
 use Rattle.std.proofs.lemmas.List.{length-append, length-map}
 use Rattle.std.proofs.lemmas.Nat.{pow_pos}
 use Rattle.net_sim.specs.vidi_bits.Number.{has}
-use Rattle.net_sim.proofs.vidi_bits.Each.{each_append}
+use Rattle.net_sim.proofs.vidi_bits_lemmas.Each.{each_append}
 use Rattle.vlog_design.specs.vlog_tree.Tree.{PortOf, ModuleOf, FileOf}
 use Rattle.shim_step.specs.vlog_scope.Scope.{scope_with}
 use Rattle.shim_step.specs.vlog_meaning.Names.{Full, State}
@@ -21,7 +21,7 @@ use Rattle.net_sim.specs.net_design.Lawful.{IsState}
 use Rattle.net_sim.specs.net_design.Pins.{outputs, input_limits, FitPins}
 use Rattle.net_sim.specs.net_design.Pins as pins
 use Rattle.net_sim.specs.net_design.Settled.{initial, next, pins_of, same_direction, IsSettled}
-use Rattle.net_sim.proofs.net_design.StateLaws.{initial_state, next_state}
+use Rattle.net_sim.proofs.net_design_lemmas.StateLaws.{initial_state, next_state}
 use Rattle.vlog_design.specs.flat_parts.Meaning.{state_of}
 use Rattle.vlog_design.specs.flat_parts.Nets.{flat_ports}
 use Rattle.replay_run.specs.trace_model.declared.channel.Channel.{Channel}
@@ -29,15 +29,15 @@ use Rattle.replay_run.specs.trace_model.declared.channel.Dir.{Dir}
 use Rattle.replay_run.specs.trace_model.declared.channel.Dir.TheVariants.{Inward, Outward}
 use Rattle.replay_run.specs.trace_model.declared.row.Row.{Row}
 use Rattle.replay_run.specs.trace_model.Row.{row_before, flies_after}
-use Rattle.replay_run.proofs.trace_model.CountingLemmas.{count-cons}
+use Rattle.replay_run.proofs.trace_model_lemmas.CountingLemmas.{count-cons}
 use Rattle.replay_run.specs.chan_map.declared.pins.Map.{Map}
 use Rattle.replay_run.specs.chan_map.declared.pins.Reset.{Reset}
 use Rattle.replay_run.specs.run_model.Building.{number_for}
 use Rattle.replay_run.specs.run_model.Pins.{entered, silent, ArePins}
 use Rattle.replay_run.specs.run_model.Step as run
 use Rattle.replay_run.specs.run_model.Step.{IsStep, IsAfter, IsAfterReset, IsFirst}
-use Rattle.replay_run.proofs.run_model.PinLemmas.{are-pins, one-list}
-use Rattle.replay_run.proofs.run_model.PlayedLaws.{silent-small}
+use Rattle.replay_run.proofs.run_model_lemmas.PinLemmas.{are-pins, one-list}
+use Rattle.replay_run.proofs.run_model_lemmas.PlayedLaws.{silent-small}
 use Rattle.replay_run.specs.chan_replayer.declared.feed.Feed.{Feed}
 use Rattle.replay_run.specs.chan_replayer.Feed.{IsFeedOver}
 use Rattle.replay_run.specs.chan_replayer.Shell.{IsShown}
@@ -46,7 +46,7 @@ use Rattle.shim_gen.specs.shim_trees.Links.{held, tied_ports}
 use Rattle.shim_gen.specs.shim_trees.ReplayTop.{fed_ports, shown_ports, replay_ports, replay_name, replay_top}
 use Rattle.shim_gen.specs.shim_trees.Wrapped.{wrapped}
 use Rattle.shim_step.specs.shim_design.Part.{pins_below}
-use Rattle.shim_step.proofs.shim_design.Elements.{Has}
+use Rattle.shim_step.proofs.shim_design_lemmas.Elements.{Has}
 use Rattle.shim_step.specs.Wrapped.{IsWrapped, DUT, Counts}
 use Rattle.shim_step.specs.Ports.{HasFeed, HasNoFeed}
 use Rattle.shim_step.specs.Recording.{own_state, IsCycleOf}

@@ -7,7 +7,7 @@ use Rattle.std.proofs.lemmas.List.{length-map, length-append, map-append, length
 use Rattle.std.proofs.lemmas.List.Sums.{sum_by-cons}
 use Rattle.std.proofs.lemmas.Option.{slice_get_within, get_or_from_slice_get}
 use Rattle.net_sim.specs.vidi_bits.Number.{truth, has}
-use Rattle.net_sim.proofs.vidi_bits.BitLemmas.{has-above}
+use Rattle.net_sim.proofs.vidi_bits_lemmas.BitLemmas.{has-above}
 use Rattle.net_sim.specs.net_design.declared.design.Direction.TheVariants.{Output}
 use Rattle.net_sim.specs.net_design.declared.design.Port.{Port}
 use Rattle.shim_step.specs.vlog_meaning.Names.{Full}
@@ -17,13 +17,13 @@ use Rattle.replay_run.specs.trace_model.declared.channel.Dir.TheVariants.{Inward
 use Rattle.replay_run.specs.trace_model.declared.row.Row.{Row}
 use Rattle.replay_run.specs.trace_model.Packet.{Fit}
 use Rattle.replay_run.specs.trace_model.Row.{content_at, completes, flies_after, row_before, IsOver, IsMarked}
-use Rattle.replay_run.proofs.trace_model.ContentsLemmas.{fit-length}
+use Rattle.replay_run.proofs.trace_model_lemmas.ContentsLemmas.{fit-length}
 use Rattle.replay_run.specs.run_model.Building.{mask_of}
 use Rattle.replay_run.specs.run_model.Offers.{no_content}
 use Rattle.replay_run.specs.run_model.Played.{all_up}
 use Rattle.replay_run.specs.run_model.Replay.{done}
-use Rattle.replay_run.proofs.run_model.Contents.{has-all, content-fits, content-joined, fit-joined, same-contents}
-use Rattle.replay_run.proofs.run_model.RowParts.{channel-at}
+use Rattle.replay_run.proofs.run_model_lemmas.Contents.{has-all, content-fits, content-joined, fit-joined, same-contents}
+use Rattle.replay_run.proofs.run_model_lemmas.RowParts.{channel-at}
 use Rattle.replay_run.specs.chan_map.declared.pins.Map.{Map}
 use Rattle.replay_run.specs.chan_replayer.declared.feed.Feed.{Feed}
 use Rattle.replay_run.specs.chan_replayer.Feed.{IsFedOn}

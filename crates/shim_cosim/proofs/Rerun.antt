@@ -10,7 +10,7 @@ use Rattle.std.proofs.lemmas.Bool.{cases_lt}
 use Rattle.std.proofs.lemmas.List.{length_push, length-take-le, length-append, length-replicate, take_at, take-append-le, take_all}
 use Rattle.std.proofs.lemmas.Option.{same_Some}
 use Rattle.net_sim.specs.vidi_bits.Number.{has}
-use Rattle.net_sim.proofs.vidi_bits.BitLemmas.{has-above}
+use Rattle.net_sim.proofs.vidi_bits_lemmas.BitLemmas.{has-above}
 use Rattle.vlog_design.specs.vlog_tree.Tree.{ModuleOf, FileOf}
 use Rattle.net_sim.specs.net_design.declared.design.Design.{Design}
 use Rattle.net_sim.specs.net_design.declared.values.Values.{Values}
@@ -21,15 +21,15 @@ use Rattle.net_sim.specs.net_design.Settled.{initial, next, IsSettled}
 use Rattle.replay_run.specs.trace_model.declared.channel.Channel.{Channel}
 use Rattle.replay_run.specs.trace_model.declared.row.Row.{Row}
 use Rattle.replay_run.specs.trace_model.Row.{row_before, flies_after, is_in_flight, IsOver}
-use Rattle.replay_run.proofs.trace_model.ContentsLemmas.{fit_prop}
-use Rattle.replay_run.proofs.trace_model.RowLemmas.{before-last}
-use Rattle.net_sim.proofs.net_order.OneMap.{has_one_map}
-use Rattle.vlog_design.proofs.flat_laws.Found.{no_twice}
+use Rattle.replay_run.proofs.trace_model_lemmas.ContentsLemmas.{fit_prop}
+use Rattle.replay_run.proofs.trace_model_lemmas.RowLemmas.{before-last}
+use Rattle.net_sim.proofs.net_order_lemmas.OneMap.{has_one_map}
+use Rattle.vlog_design.proofs.flat_laws_lemmas.Found.{no_twice}
 use Rattle.replay_run.specs.chan_map.declared.pins.Map.{Map}
 use Rattle.replay_run.specs.run_model.Played.{all_up}
 use Rattle.replay_run.specs.run_model.Step.{IsAfter, IsFirst, IsStep}
-use Rattle.replay_run.proofs.run_model.PlayedLaws.{ports-are_nets}
-use Rattle.replay_run.proofs.run_model.Contents.{has-all, has-mask, mask-below}
+use Rattle.replay_run.proofs.run_model_lemmas.PlayedLaws.{ports-are_nets}
+use Rattle.replay_run.proofs.run_model_lemmas.Contents.{has-all, has-mask, mask-below}
 use Rattle.replay_run.specs.chan_replayer.declared.feed.Feed.{Feed}
 use Rattle.replay_run.specs.chan_replayer.Feed.{IsFeedOver}
 use Rattle.replay_run.specs.chan_replayer.Shell.{GoesTo, IsRunning, IsShown}

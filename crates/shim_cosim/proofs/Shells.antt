@@ -17,16 +17,16 @@ use Rattle.net_sim.specs.net_design.Lawful.{IsState}
 use Rattle.net_sim.specs.net_design.Pins.{output_count as design_count, outputs, FitPins}
 use Rattle.net_sim.specs.net_design.Settled as design
 use Rattle.net_sim.specs.net_design.Settled.{same_direction}
-use Rattle.net_sim.proofs.net_order.OneMap.{has_one_map}
-use Rattle.vlog_design.proofs.flat_laws.Found.{no_twice}
+use Rattle.net_sim.proofs.net_order_lemmas.OneMap.{has_one_map}
+use Rattle.vlog_design.proofs.flat_laws_lemmas.Found.{no_twice}
 use Rattle.replay_run.specs.trace_model.declared.row.Offers.{Offers}
 use Rattle.replay_run.specs.trace_model.declared.row.Row.{Row}
 use Rattle.replay_run.specs.trace_model.Row.{AreOffers}
-use Rattle.replay_run.proofs.trace_model.CountingLemmas.{count-cons}
+use Rattle.replay_run.proofs.trace_model_lemmas.CountingLemmas.{count-cons}
 use Rattle.replay_run.specs.chan_map.declared.pins.Map.{Map}
 use Rattle.replay_run.specs.chan_map.declared.pins.Reset.{Reset}
 use Rattle.replay_run.specs.run_model.Step.{IsAfter, IsFirst, IsStep}
-use Rattle.replay_run.proofs.run_model.PlayedLaws.{ports-are_nets}
+use Rattle.replay_run.proofs.run_model_lemmas.PlayedLaws.{ports-are_nets}
 use Rattle.replay_run.specs.run_model.Offers.{AreZeroWhileDown}
 use Rattle.replay_run.specs.chan_monitor.Entering.{offered}
 use Rattle.replay_run.specs.chan_monitor.Shell.{IsRunning}

@@ -9,20 +9,20 @@ use Rattle.std.proofs.lemmas.List.{append-nil, length-append, length-replicate, 
 use Rattle.std.proofs.lemmas.List.{drop_all, get_or-take, get_or-drop, take-append-drop}
 use Rattle.std.proofs.lemmas.Option.{slice_get_read}
 use Rattle.net_sim.specs.vidi_bits.Number.{has}
-use Rattle.net_sim.proofs.vidi_bits.BitLemmas.{has-above}
+use Rattle.net_sim.proofs.vidi_bits_lemmas.BitLemmas.{has-above}
 use Rattle.replay_run.specs.trace_model.declared.channel.Channel.{Channel}
 use Rattle.replay_run.specs.trace_model.declared.channel.Dir.{Dir}
 use Rattle.replay_run.specs.trace_model.declared.channel.Dir.TheVariants.{Inward, Outward}
 use Rattle.replay_run.specs.trace_model.declared.row.Row.{Row}
 use Rattle.replay_run.specs.trace_model.Packet.{Fit, widths_of}
 use Rattle.replay_run.specs.trace_model.Row.{all_widths, content_at, replaced}
-use Rattle.replay_run.proofs.trace_model.ContentsLemmas.{fit-length}
-use Rattle.replay_run.proofs.trace_model.MaskLemmas.{bit-from-has, no-bit-from-has, bit_at-without}
-use Rattle.replay_run.proofs.trace_model.RowLemmas.{first_of, first-more, first-within, content-read}
+use Rattle.replay_run.proofs.trace_model_lemmas.ContentsLemmas.{fit-length}
+use Rattle.replay_run.proofs.trace_model_lemmas.MaskLemmas.{bit-from-has, no-bit-from-has, bit_at-without}
+use Rattle.replay_run.proofs.trace_model_lemmas.RowLemmas.{first_of, first-more, first-within, content-read}
 use Rattle.replay_run.specs.run_model.Building.{mask_of, joined}
 use Rattle.replay_run.specs.run_model.Offers.{no_content}
-use Rattle.replay_run.proofs.run_model.Contents.{mask-more, mask-below, has-mask, same-masks}
-use Rattle.replay_run.proofs.run_model.JoinedLaws.{joined-more}
+use Rattle.replay_run.proofs.run_model_lemmas.Contents.{mask-more, mask-below, has-mask, same-masks}
+use Rattle.replay_run.proofs.run_model_lemmas.JoinedLaws.{joined-more}
 use Rattle.shim_cosim.specs.declared.shown_row.Signal.{Signal}
 use Rattle.shim_cosim.specs.Rewrapped.{if_outward, output_count, outputs_count, seat, place_of, is_raised, content_on, content_of, contents_of, filled}
 use Rattle.shim_cosim.specs.Rewrapped.{flight_of}

@@ -6,7 +6,7 @@ use Rattle.std.specs.Str.{bytes_eq}
 use Rattle.std.proofs.lemmas.List.{same_from_push, map-append}
 use Rattle.std.proofs.lemmas.List.Elements.{All-from_recursion, recursion_from_All}
 use Rattle.std.proofs.lemmas.Slice.Eq.{bytes_eq-Decides}
-use Rattle.flat_laws.proofs.vidi_bits.Each.{each_weaker, each_append}
+use Rattle.flat_laws.proofs.vidi_bits_lemmas.Each.{each_weaker, each_append}
 use Rattle.flat_laws.specs.vlog_tree.Tree.{RegTailOf, InitTail, MemoryTail, Reg1Of, PortOf, ItemOf, WiresItem, DrivenWiresItem, RegsItem, LocalparamsItem}
 use Rattle.flat_laws.specs.vlog_tree.Tree.{AssignItem, AlwaysItem, InstanceItem, ModuleOf}
 use Rattle.flat_laws.specs.vlog_size.declared.scope.ScopeMemory.{ScopeMemory}

@@ -4,7 +4,7 @@ use Rattle.std.proofs.Common.{Option, None, Some, is_some, refl, sym, ap, ◌∙
 use Rattle.std.specs.List.{flat_map, AllByRecursion, position_or_len}
 use Rattle.std.specs.Str.{bytes_eq}
 use Rattle.std.proofs.lemmas.List.{length-map}
-use Rattle.flat_laws.proofs.vidi_bits.Lists.{bytes_eq-self}
+use Rattle.flat_laws.proofs.vidi_bits_lemmas.Lists.{bytes_eq-self}
 use Rattle.flat_laws.specs.vlog_tree.Tree.{NamedValueOf, RegTailOf, InitTail, MemoryTail, Reg1Of, PortOf, ItemOf, WiresItem, ParameterOf}
 use Rattle.flat_laws.specs.vlog_tree.Tree.{DrivenWiresItem, RegsItem, LocalparamsItem, AssignItem, AlwaysItem, InstanceItem, ModuleOf}
 use Rattle.flat_laws.specs.vlog_size.declared.scope.Param.{Param}

@@ -3,4 +3,4 @@ pub mod Joined
 pub mod Pushed
 pub mod Tables
 pub mod Upto
-pub use Rattle.shim_trees.proofs.trace_model as trace_model
+pub use Rattle.shim_trees.proofs.trace_model_lemmas as trace_model_lemmas

@@ -1,4 +1,4 @@
 mod Wraps
-pub use Rattle.shim_cosim.proofs.chan_monitor as chan_monitor
-pub use Rattle.shim_cosim.proofs.run_model as run_model
-pub use Rattle.shim_cosim.proofs.trace_model as trace_model
+pub use Rattle.shim_cosim.proofs.chan_monitor_lemmas as chan_monitor_lemmas
+pub use Rattle.shim_cosim.proofs.run_model_lemmas as run_model_lemmas
+pub use Rattle.shim_cosim.proofs.trace_model_lemmas as trace_model_lemmas

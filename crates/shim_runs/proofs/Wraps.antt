@@ -2,7 +2,7 @@
 use Rattle.shim_cosim.specs.net_design.declared.design.Design.{Design}
 use Rattle.shim_cosim.specs.net_design.Lawful.{IsLawful}
 use Rattle.shim_cosim.specs.run_model.Building.{PortsAreNets}
-use Rattle.shim_cosim.proofs.run_model.PlayedLaws.{ports-are_nets}
+use Rattle.shim_cosim.proofs.run_model_lemmas.PlayedLaws.{ports-are_nets}
 
 pub nets_of : (d : Design) → IsLawful d → PortsAreNets d
 nets_of d l = ports-are_nets d l

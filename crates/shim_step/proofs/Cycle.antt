@@ -30,9 +30,9 @@ use Rattle.chan_replayer.specs.run_model.Building.{row_of, FitOutputs}
 use Rattle.chan_replayer.specs.run_model.Offers.{Carries}
 use Rattle.chan_replayer.specs.run_model.Pins.{silent, ArePins}
 use Rattle.chan_replayer.specs.run_model.Step.{IsStep, ShowsPlug}
-use Rattle.net_order.proofs.vidi_bits.BitLemmas.{has-above}
-use Rattle.chan_replayer.proofs.run_model.PlayedLaws.{row-step, fit-outputs, ports-are_nets}
-use Rattle.chan_replayer.proofs.run_model.RowParts.{row-over, row-marked, row-shows, row-carries, small-row, has-plug, HasPlug}
+use Rattle.net_order.proofs.vidi_bits_lemmas.BitLemmas.{has-above}
+use Rattle.chan_replayer.proofs.run_model_lemmas.PlayedLaws.{row-step, fit-outputs, ports-are_nets}
+use Rattle.chan_replayer.proofs.run_model_lemmas.RowParts.{row-over, row-marked, row-shows, row-carries, small-row, has-plug, HasPlug}
 use Rattle.chan_replayer.specs.chan_monitor.Shell.{IsShown}
 use Rattle.shim_trees.specs.Links.{link, links, plug_links}
 use Rattle.shim_design.specs.Part.{under, part, pins_below}

@@ -25,7 +25,7 @@ use Rattle.chan_replayer.specs.trace_model.declared.channel.Dir.{Dir}
 use Rattle.chan_replayer.specs.trace_model.declared.channel.Dir.TheVariants.{Inward, Outward}
 use Rattle.chan_replayer.specs.trace_model.declared.row.Row.{Row}
 use Rattle.net_order.specs.vidi_bits.Number.{truth, has}
-use Rattle.chan_replayer.proofs.trace_model.CountingLemmas.{count-cons}
+use Rattle.chan_replayer.proofs.trace_model_lemmas.CountingLemmas.{count-cons}
 use Rattle.chan_replayer.specs.trace_model.Row.{content_at, sink_valid}
 use Rattle.chan_replayer.specs.chan_map.declared.pins.Map.{Map}
 use Rattle.chan_replayer.specs.chan_map.declared.pins.Pin.{Pin}
@@ -37,9 +37,9 @@ use Rattle.chan_replayer.specs.run_model.declared.pins.PinNumber.{PinNumber}
 use Rattle.chan_replayer.specs.run_model.Building.{AreSmall, number_for}
 use Rattle.chan_replayer.specs.run_model.MapOf.{IsMapOf}
 use Rattle.chan_replayer.specs.run_model.Pins.{pin_number, shown_number, reset_input, tie_input, plug_inputs, inputs_from, entered, ArePins}
-use Rattle.chan_replayer.proofs.run_model.PinLemmas.{pin-at, ways, input-count, stands, are-pins, all-at}
-use Rattle.net_order.proofs.vidi_bits.Each.{each_append}
-use Rattle.shim_design.proofs.flat_laws.Ports.{pins_are, port_number}
+use Rattle.chan_replayer.proofs.run_model_lemmas.PinLemmas.{pin-at, ways, input-count, stands, are-pins, all-at}
+use Rattle.net_order.proofs.vidi_bits_lemmas.Each.{each_append}
+use Rattle.shim_design.proofs.flat_laws_lemmas.Ports.{pins_are, port_number}
 use Rattle.shim_trees.specs.Pieces.{Name}
 use Rattle.shim_design.specs.Part.{pins_below}
 use Rattle.shim_design.proofs.Elements.{Mapped, mapped, get_map}

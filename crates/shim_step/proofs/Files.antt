@@ -4,14 +4,14 @@ use Rattle.std.proofs.Common.{Some, refl, sym, ap, ◌∙◌, subst, arith, inl,
 use Rattle.std.specs.List.{find}
 use Rattle.std.specs.Str.{bytes_eq}
 use Rattle.std.proofs.lemmas.Slice.Eq.{bytes_eq-Decides}
-use Rattle.net_order.proofs.vidi_bits.Lists.{nil_left, nil_right}
+use Rattle.net_order.proofs.vidi_bits_lemmas.Lists.{nil_left, nil_right}
 use Rattle.shim_trees.specs.vlog_tree.Tree.{ModuleOf, FileOf}
 use Rattle.shim_trees.specs.vlog_size.Table.{Named}
 use Rattle.shim_design.specs.vlog_hierarchy.Outlines.{place_from}
 use Rattle.shim_design.specs.vlog_names.Entries.{Names, declared, module_entry, modules_of}
 use Rattle.shim_design.specs.vlog_names.Twice.{twice_name, twice_in, twice_modules, twice_names}
 use Rattle.shim_design.specs.vlog_names.Different.{Differ}
-use Rattle.shim_design.proofs.vlog_names.Different.{modules_differ, names_differ}
+use Rattle.shim_design.proofs.vlog_names_lemmas.Different.{modules_differ, names_differ}
 use Rattle.chan_replayer.specs.trace_model.declared.channel.Channel.{Channel}
 use Rattle.chan_replayer.specs.chan_map.declared.pins.Map.{Map}
 use Rattle.net_order.specs.net_design.declared.design.Design.{Design}

@@ -19,4 +19,4 @@ pub mod Replaying
 pub mod RecordResets
 pub mod ReplayResets
 pub mod OneRow
-pub use Rattle.shim_design.proofs as shim_design
+pub use Rattle.shim_design.proofs as shim_design_lemmas

@@ -5,7 +5,7 @@ use Rattle.std.specs.Prelude.{codes, max, bit_and}
 use Rattle.std.specs.List.{AllByRecursion}
 use Rattle.std.proofs.lemmas.List.{get_or-set_same}
 use Rattle.net_order.specs.vidi_bits.Number.{IsWidth, truth, put_of}
-use Rattle.net_order.proofs.vidi_bits.Each.{each_append}
+use Rattle.net_order.proofs.vidi_bits_lemmas.Each.{each_append}
 use Rattle.shim_trees.specs.vlog_tree.Tree.{PortOf, ItemOf, ModuleOf, ExprOf}
 use Rattle.shim_trees.specs.vlog_tree.declared.module.Direction.TheVariants.{Input}
 use Rattle.shim_trees.specs.vlog_size.Names.{Readable}

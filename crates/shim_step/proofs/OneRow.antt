@@ -17,8 +17,8 @@ use Rattle.chan_replayer.specs.run_model.MapOf.{IsMapOf}
 use Rattle.chan_replayer.specs.run_model.Offers.{no_content}
 use Rattle.chan_replayer.specs.run_model.Replay.{done}
 use Rattle.chan_replayer.specs.run_model.Step.{IsStep, Shows}
-use Rattle.chan_replayer.proofs.run_model.PinLemmas.{one-list}
-use Rattle.chan_replayer.proofs.run_model.RowParts.{AgreeOn, Agree, entered-same, one-row, carried}
+use Rattle.chan_replayer.proofs.run_model_lemmas.PinLemmas.{one-list}
+use Rattle.chan_replayer.proofs.run_model_lemmas.RowParts.{AgreeOn, Agree, entered-same, one-row, carried}
 use Rattle.chan_replayer.specs.declared.feed.Feed.{Feed}
 use Rattle.chan_replayer.specs.Feed.{IsUp, IsFedOn}
 use Rattle.shim_step.specs.Recording.{Records}

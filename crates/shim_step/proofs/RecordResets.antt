@@ -3,7 +3,7 @@ use Rattle.std.proofs.Common.{◌≡◌, ℕ, ◌==◌, ◌&&◌, Bool, true, fa
 use Rattle.std.proofs.Common.{Option, None, Some, refl, sym, ap, ◌∙◌, subst, arith, slice_get, inl, inr}
 use Rattle.std.specs.Prelude.{codes}
 use Rattle.net_order.specs.vidi_bits.Number.{truth}
-use Rattle.net_order.proofs.vidi_bits.Each.{each_append}
+use Rattle.net_order.proofs.vidi_bits_lemmas.Each.{each_append}
 use Rattle.shim_trees.specs.vlog_tree.Tree.{PortOf, ModuleOf, FileOf}
 use Rattle.net_order.specs.net_design.declared.design.Design.{Design}
 use Rattle.net_order.specs.net_design.Settled as design
@@ -20,7 +20,7 @@ use Rattle.chan_replayer.specs.chan_map.declared.pins.Map.{Map}
 use Rattle.chan_replayer.specs.chan_map.declared.pins.Plug.{Plug}
 use Rattle.chan_replayer.specs.run_model.Pins.{shown_number, silent, ArePins}
 use Rattle.chan_replayer.specs.run_model.Step as run
-use Rattle.chan_replayer.proofs.chan_monitor.Held.{silent-small}
+use Rattle.chan_replayer.proofs.chan_monitor_lemmas.Held.{silent-small}
 use Rattle.shim_trees.specs.Pieces.{numbered, numbered_twice, each, gated_content, input, output}
 use Rattle.shim_trees.specs.Links.{link, record_links}
 use Rattle.shim_trees.specs.Monitor.{monitor, events}

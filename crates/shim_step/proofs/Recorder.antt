@@ -4,7 +4,7 @@ use Rattle.std.proofs.Common.{Some, refl, sym, ap, ◌∙◌, subst, arith, inl,
 use Rattle.std.specs.Prelude.{codes}
 use Rattle.std.specs.List.{AllByRecursion, AllZip}
 use Rattle.net_order.specs.vidi_bits.Number.{IsWidth, truth}
-use Rattle.net_order.proofs.vidi_bits.Each.{each_append}
+use Rattle.net_order.proofs.vidi_bits_lemmas.Each.{each_append}
 use Rattle.shim_trees.specs.vlog_tree.Tree.{PortOf, ConnOf, ItemOf, ModuleOf, FileOf}
 use Rattle.net_order.specs.net_design.declared.design.Design.{Design}
 use Rattle.net_order.specs.net_design.declared.design.Direction.{Direction}
@@ -17,7 +17,7 @@ use Rattle.chan_replayer.specs.trace_model.declared.channel.Dir.TheVariants.{Inw
 use Rattle.chan_replayer.specs.chan_map.declared.pins.Map.{Map}
 use Rattle.chan_replayer.specs.chan_map.declared.pins.Pin.{Pin}
 use Rattle.chan_replayer.specs.chan_map.Bound.{IsPin}
-use Rattle.chan_replayer.proofs.run_model.RowParts.{has-plug}
+use Rattle.chan_replayer.proofs.run_model_lemmas.RowParts.{has-plug}
 use Rattle.shim_trees.specs.Pieces.{Name, numbered, numbered_twice, each, each_some, input, output, port, source_side, sink_side, wire, conn}
 use Rattle.shim_trees.specs.Links.{record_links, dut, content_wires, tied_ports}
 use Rattle.shim_trees.specs.Monitor.{monitor}

@@ -24,7 +24,7 @@ use Rattle.chan_replayer.specs.run_model.Building.{row_of}
 use Rattle.chan_replayer.specs.run_model.Offers.{CarriesOn, no_content}
 use Rattle.chan_replayer.specs.run_model.Pins.{shown_number}
 use Rattle.chan_replayer.specs.run_model.Step.{ShowsPlug}
-use Rattle.chan_replayer.proofs.run_model.RowParts.{row-carries}
+use Rattle.chan_replayer.proofs.run_model_lemmas.RowParts.{row-carries}
 use Rattle.shim_trees.specs.Pieces.{numbered, numbered_twice}
 use Rattle.shim_trees.specs.Links.{link, record_links}
 use Rattle.shim_trees.specs.RecordTop.{record_name, record_top}

@@ -4,7 +4,7 @@ use Rattle.std.proofs.Common.{Some, refl, sym, ap, ◌∙◌, subst, arith, inl,
 use Rattle.std.specs.Prelude.{codes}
 use Rattle.std.specs.List.{AllByRecursion}
 use Rattle.net_order.specs.vidi_bits.Number.{truth}
-use Rattle.net_order.proofs.vidi_bits.Each.{each_append}
+use Rattle.net_order.proofs.vidi_bits_lemmas.Each.{each_append}
 use Rattle.shim_trees.specs.vlog_tree.Tree.{PortOf, ConnOf, ItemOf, ModuleOf, FileOf}
 use Rattle.net_order.specs.net_design.declared.design.Design.{Design}
 use Rattle.shim_design.specs.vlog_meaning.Names.{Full, State}
@@ -14,7 +14,7 @@ use Rattle.chan_replayer.specs.trace_model.declared.channel.Channel.{Channel}
 use Rattle.chan_replayer.specs.trace_model.declared.channel.Dir.{Dir}
 use Rattle.chan_replayer.specs.trace_model.declared.channel.Dir.TheVariants.{Inward, Outward}
 use Rattle.chan_replayer.specs.chan_map.declared.pins.Map.{Map}
-use Rattle.chan_replayer.proofs.run_model.RowParts.{channel-at}
+use Rattle.chan_replayer.proofs.run_model_lemmas.RowParts.{channel-at}
 use Rattle.shim_trees.specs.Pieces.{Name, numbered, numbered_twice, each, each_some, upto, input, output, wire, conn}
 use Rattle.shim_trees.specs.Links.{replay_links, dut, content_wires, tied_ports}
 use Rattle.shim_trees.specs.Replayer.{replayer}

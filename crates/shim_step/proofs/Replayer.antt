@@ -8,7 +8,7 @@ use Rattle.std.specs.Str.{bytes_eq}
 use Rattle.shim_trees.specs.vlog_size.Literal.{digits_from}
 use Rattle.std.proofs.Math.Nat.{mod-eq_of_lt}
 use Rattle.net_order.specs.vidi_bits.Number.{IsWidth, truth, put_of}
-use Rattle.net_order.proofs.vidi_bits.Each.{each_append}
+use Rattle.net_order.proofs.vidi_bits_lemmas.Each.{each_append}
 use Rattle.shim_trees.specs.vlog_tree.Tree.{PortOf, ItemOf, ModuleOf, ExprOf, BeginStmt}
 use Rattle.shim_trees.specs.vlog_size.declared.scope.ScopeNet.{ScopeNet}
 use Rattle.shim_trees.specs.vlog_size.Table.{Named, place_of}

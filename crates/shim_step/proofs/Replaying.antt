@@ -21,7 +21,7 @@ use Rattle.chan_replayer.specs.trace_model.declared.row.Offers.{Offers}
 use Rattle.chan_replayer.specs.trace_model.declared.row.Row.{Row}
 use Rattle.chan_replayer.specs.trace_model.Recording.{row_does}
 use Rattle.chan_replayer.specs.trace_model.Row.{content_at, completes, row_before, AreOffers}
-use Rattle.chan_replayer.proofs.trace_model.CountingLemmas.{count-push}
+use Rattle.chan_replayer.proofs.trace_model_lemmas.CountingLemmas.{count-push}
 use Rattle.chan_replayer.specs.chan_map.declared.pins.Map.{Map}
 use Rattle.chan_replayer.specs.chan_map.declared.pins.Pin.{Pin}
 use Rattle.chan_replayer.specs.chan_map.declared.pins.Plug.{Plug}
@@ -32,8 +32,8 @@ use Rattle.chan_replayer.specs.run_model.Pins.{shown_number}
 use Rattle.chan_replayer.specs.run_model.Played.{all_up}
 use Rattle.chan_replayer.specs.run_model.Replay.{done}
 use Rattle.chan_replayer.specs.run_model.Step.{ShowsPlug}
-use Rattle.chan_replayer.proofs.run_model.Contents.{has-all, has-mask, mask-below}
-use Rattle.chan_replayer.proofs.run_model.RowParts.{row-carries, channel-at}
+use Rattle.chan_replayer.proofs.run_model_lemmas.Contents.{has-all, has-mask, mask-below}
+use Rattle.chan_replayer.proofs.run_model_lemmas.RowParts.{row-carries, channel-at}
 use Rattle.chan_replayer.specs.declared.feed.Feed.{Feed}
 use Rattle.chan_replayer.specs.Feed.{need_of, IsFeedOver, IsFedOn, IsUp}
 use Rattle.shim_trees.specs.Pieces.{numbered, numbered_twice}

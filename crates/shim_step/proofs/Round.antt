@@ -7,7 +7,7 @@ use Rattle.std.proofs.lemmas.List.{get_or-map}
 use Rattle.std.proofs.lemmas.Option.{get_or_from_slice_get, slice_get_within}
 use Rattle.std.proofs.lemmas.List.Elements.{recursion_from_All}
 use Rattle.net_order.specs.vidi_bits.Number.{IsWidth}
-use Rattle.net_order.proofs.vidi_bits.Lists.{some_same}
+use Rattle.net_order.proofs.vidi_bits_lemmas.Lists.{some_same}
 use Rattle.shim_trees.specs.vlog_tree.Tree.{PortOf, ModuleOf, FileOf}
 use Rattle.shim_trees.specs.vlog_tree.declared.module.Direction.TheVariants as tree
 use Rattle.shim_trees.specs.vlog_size.Table.{Named, value_of}
@@ -31,8 +31,8 @@ use Rattle.chan_replayer.specs.chan_map.declared.pins.Reset.{Reset}
 use Rattle.chan_replayer.specs.chan_map.declared.pins.Tie.{Tie}
 use Rattle.chan_replayer.specs.chan_map.Bound.{IsPin, IsTie}
 use Rattle.chan_replayer.specs.run_model.Pins.{reset_input}
-use Rattle.chan_replayer.proofs.run_model.RowParts.{channel-at}
-use Rattle.shim_design.proofs.flat_laws.Ports.{inputs_placed}
+use Rattle.chan_replayer.proofs.run_model_lemmas.RowParts.{channel-at}
+use Rattle.shim_design.proofs.flat_laws_lemmas.Ports.{inputs_placed}
 use Rattle.shim_trees.specs.Pieces.{input}
 use Rattle.shim_trees.specs.Links.{link, tied, tied_link, links, held, tied_input, tied_port, tied_ports, reset_width, tie_width}
 use Rattle.shim_design.specs.Part.{under, part, pins_below, IsPart}

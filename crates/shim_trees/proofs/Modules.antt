@@ -6,7 +6,7 @@ use Rattle.std.specs.List.{AllByRecursion}
 use Rattle.std.specs.Option.{option_to_list}
 use Rattle.std.specs.Str.{bytes_eq}
 use Rattle.std.proofs.lemmas.Slice.Eq.{bytes_eq-Decides}
-use Rattle.vlog_size.proofs.vidi_bits.Each.{each_append}
+use Rattle.vlog_size.proofs.vidi_bits_lemmas.Each.{each_append}
 use Rattle.vlog_size.specs.Table.{Named, value_of}
 use Rattle.vlog_size.specs.vlog_tree.declared.expr.BinaryOp.TheVariants.{Plus}
 use Rattle.vlog_size.specs.vlog_tree.Tree.{ExprOf, BinaryExpr, BeginStmt, PortOf}

@@ -8,13 +8,13 @@ use Rattle.std.specs.Char.{is_ascii_digit}
 use Rattle.std.proofs.lemmas.Bool.{and_parts, or_left, false≢true}
 use Rattle.std.proofs.lemmas.Bool.Decides.{nat_tests}
 use Rattle.std.proofs.lemmas.Fmt.{decimal_by_steps, decimal_nonempty}
-use Rattle.vlog_size.proofs.vidi_bits.Each.{each_weaker, each_append}
+use Rattle.vlog_size.proofs.vidi_bits_lemmas.Each.{each_weaker, each_append}
 use Rattle.vlog_size.specs.vlog_lex.Span.{Each}
 use Rattle.vlog_size.specs.vlog_lex.Words.{reserved_words, is_reserved, is_among}
 use Rattle.vlog_size.specs.vlog_lex.Lexeme.{begins_name, continues_name, is_digit_of, continues_digits, IsName, IsDecimal, IsToken}
 use Rattle.vlog_size.specs.vlog_lex.declared.token.TokenKind.TheVariants.{Decimal, Based}
-use Rattle.vlog_size.proofs.vlog_lex.Spans.{run_each}
-use Rattle.vlog_size.proofs.vlog_lex.Longest.{holds_among}
+use Rattle.vlog_size.proofs.vlog_lex_lemmas.Spans.{run_each}
+use Rattle.vlog_size.proofs.vlog_lex_lemmas.Longest.{holds_among}
 use Rattle.vlog_size.specs.vlog_tree.Shape.{IsGoodName}
 use Rattle.shim_trees.specs.Pieces.{numbered, numbered_twice}
 use Rattle.shim_trees.specs.Links.{tied}

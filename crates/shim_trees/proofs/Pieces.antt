@@ -3,8 +3,8 @@ use Rattle.std.proofs.Common.{◌≡◌, ℕ, zero, suc, ◌+◌, ◌-◌, ◌<�
 use Rattle.std.proofs.Common.{None, Some, refl, subst, arith, length, slice_get}
 use Rattle.std.specs.Prelude.{codes}
 use Rattle.std.specs.List.{AllByRecursion, flat_map}
-use Rattle.vlog_size.proofs.vidi_bits.Lists.{some_same}
-use Rattle.vlog_size.proofs.vidi_bits.Each.{each_append}
+use Rattle.vlog_size.proofs.vidi_bits_lemmas.Lists.{some_same}
+use Rattle.vlog_size.proofs.vidi_bits_lemmas.Each.{each_append}
 use Rattle.vlog_size.specs.vlog_tree.Tree.{ExprOf, StmtOf, ConnOf}
 use Rattle.vlog_size.specs.vlog_tree.Shape.{level, IsGoodName, IsGoodExpr, IsGoodTarget, IsGoodStmt, IsGoodRange, IsGoodOption, IsGoodPort, IsGoodConn}
 use Rattle.vlog_size.specs.vlog_tree.Shape.{IsGoodItem}

@@ -13,11 +13,11 @@ use Rattle.shim_runs.specs.trace_model.declared.row.Offers.{Offers}
 use Rattle.shim_runs.specs.trace_model.declared.row.Row.{Row}
 use Rattle.shim_runs.specs.trace_model.Packet.{Fit, widths_of}
 use Rattle.shim_runs.specs.trace_model.Row.{all_widths, content_at, AreOffers}
-use Rattle.shim_runs.proofs.trace_model.ContentsLemmas.{fit-length}
-use Rattle.shim_runs.proofs.trace_model.CountingLemmas.{take-suc_get}
+use Rattle.shim_runs.proofs.trace_model_lemmas.ContentsLemmas.{fit-length}
+use Rattle.shim_runs.proofs.trace_model_lemmas.CountingLemmas.{take-suc_get}
 use Rattle.shim_runs.specs.run_model.Building.{joined}
 use Rattle.shim_runs.specs.run_model.Offers.{no_content, AreZeroWhileDown}
-use Rattle.shim_runs.proofs.run_model.Contents.{content-fits, content-joined, fit-joined, fit-zeros}
+use Rattle.shim_runs.proofs.run_model_lemmas.Contents.{content-fits, content-joined, fit-joined, fit-zeros}
 use Rattle.shim_runs.specs.net_design.declared.design.Design.{Design}
 use Rattle.shim_runs.specs.net_design.declared.values.Values.{Values}
 use Rattle.shim_runs.specs.chan_map.declared.pins.Map.{Map}

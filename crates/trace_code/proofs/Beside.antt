@@ -10,7 +10,7 @@ use Rattle.vec_clock.specs.trace_model.declared.packet.Packet.{Packet}
 use Rattle.vec_clock.specs.trace_model.declared.trace.Trace.{Trace}
 use Rattle.vec_clock.specs.trace_model.Counting.{IsNth}
 use Rattle.vec_clock.specs.trace_model.Packet.{does}
-use Rattle.vec_clock.proofs.trace_model.CountingLemmas.{nth-within}
+use Rattle.vec_clock.proofs.trace_model_lemmas.CountingLemmas.{nth-within}
 use Rattle.trace_code.specs.Encoding.{packet_bytes, end_mark}
 use Rattle.trace_code.specs.Standing.{StandsAt, bytes_from}
 use Rattle.trace_code.proofs.Walking.{place-is}

@@ -17,8 +17,8 @@ use Rattle.vec_clock.specs.vidi_bits.Number.{has}
 use Rattle.vec_clock.specs.trace_model.Counting.{IsNth}
 use Rattle.vec_clock.specs.trace_model.Length.{mask_len, contents_len}
 use Rattle.vec_clock.specs.trace_model.Packet.{content_of, count, does, widths_of, widths_under, Fit, IsPacket}
-use Rattle.vec_clock.proofs.trace_model.CountingLemmas.{nth-unique}
-use Rattle.vec_clock.proofs.trace_model.ContentsLemmas.{content-fits, fit-at, fit-length, widths-front, widths-suc}
+use Rattle.vec_clock.proofs.trace_model_lemmas.CountingLemmas.{nth-unique}
+use Rattle.vec_clock.proofs.trace_model_lemmas.ContentsLemmas.{content-fits, fit-at, fit-length, widths-front, widths-suc}
 use Rattle.trace_code.specs.Encoding.{number_bytes}
 use Rattle.trace_code.specs.PacketReading.{high_value}
 use Rattle.trace_code.proofs.NumberLaws.{number_again}

@@ -6,7 +6,7 @@ use Rattle.vec_clock.specs.trace_model.declared.channel.Channel.{Channel}
 use Rattle.vec_clock.specs.trace_model.declared.channel.Dir.TheVariants.{Inward, Outward}
 use Rattle.vec_clock.specs.trace_model.declared.packet.Packet.{Packet}
 use Rattle.vec_clock.specs.trace_model.declared.trace.Trace.{Trace}
-use Rattle.vec_clock.proofs.trace_model.Examples.{pass}
+use Rattle.vec_clock.proofs.trace_model_lemmas.Examples.{pass}
 use Rattle.trace_code.specs.Encoding.{encode, packet_bytes}
 
 packet : ℕ → ℕ → List ℕ → Packet

@@ -9,7 +9,7 @@ use Rattle.vec_clock.specs.trace_model.declared.channel.Channel.{Channel}
 use Rattle.vec_clock.specs.trace_model.declared.packet.Packet.{Packet}
 use Rattle.vec_clock.specs.trace_model.declared.trace.Trace.{Trace}
 use Rattle.vec_clock.specs.trace_model.Packet.{IsPacket}
-use Rattle.vec_clock.proofs.trace_model.FlightLemmas.{alternates-take}
+use Rattle.vec_clock.proofs.trace_model_lemmas.FlightLemmas.{alternates-take}
 use Rattle.trace_code.specs.declared.error.CodeError.{CodeError}
 use Rattle.trace_code.specs.declared.error.CodeError.TheVariants.{BadTrace, Memory}
 use Rattle.trace_code.specs.Encoding.{header_bytes, packet_bytes, end_mark, encode, HasEncoding}

@@ -12,7 +12,7 @@ use Rattle.vec_clock.specs.trace_model.declared.packet.Packet.{Packet}
 use Rattle.vec_clock.specs.trace_model.declared.trace.Trace.{Trace}
 use Rattle.vec_clock.specs.trace_model.Length.{mask_len, contents_len}
 use Rattle.vec_clock.specs.trace_model.Packet.{widths_under, IsPacket}
-use Rattle.vec_clock.proofs.trace_model.ContentsLemmas.{fit-length}
+use Rattle.vec_clock.proofs.trace_model_lemmas.ContentsLemmas.{fit-length}
 use Rattle.trace_code.specs.Encoding.{packet_bytes, mask_bytes, number_bytes, end_mark}
 use Rattle.trace_code.specs.PacketReading.{low_value, sized_at}
 use Rattle.trace_code.proofs.NumberLaws.{mask_again, refused}

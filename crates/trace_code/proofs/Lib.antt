@@ -20,5 +20,5 @@ pub mod Ahead
 pub mod Walking
 pub mod Content
 pub mod Beside
-pub use Rattle.vec_clock.proofs.trace_model as trace_model
-pub use Rattle.vec_clock.proofs.vidi_bits as vidi_bits
+pub use Rattle.vec_clock.proofs.trace_model_lemmas as trace_model_lemmas
+pub use Rattle.vec_clock.proofs.vidi_bits_lemmas as vidi_bits_lemmas

@@ -14,7 +14,7 @@ use Rattle.std.proofs.lemmas.List.{take_at, drop_at, take-append-drop, length-ap
 use Rattle.std.proofs.lemmas.List.{get_or_past, get_or_default, take_all, drop_all, append-nil}
 use Rattle.vec_clock.specs.trace_model.Channel.{byte_count}
 use Rattle.vec_clock.specs.trace_model.Length.{mask_len}
-use Rattle.vec_clock.proofs.trace_model.CountingLemmas.{take-more_read}
+use Rattle.vec_clock.proofs.trace_model_lemmas.CountingLemmas.{take-more_read}
 use Rattle.trace_code.specs.Encoding.{mask_bytes}
 use Rattle.trace_code.specs.Writing.{overwritten}
 use Rattle.trace_code.specs.PacketReading.{low_value, high_value, sized_at, mask_at, number_at}

@@ -11,7 +11,7 @@ use Rattle.vec_clock.specs.trace_model.declared.trace.Trace.{Trace}
 use Rattle.vec_clock.specs.trace_model.Channel.{IsTable}
 use Rattle.vec_clock.specs.trace_model.Packet.{IsPacket}
 use Rattle.vec_clock.specs.trace_model.Trace.{Alternates}
-use Rattle.vec_clock.proofs.trace_model.FlightLemmas.{alternates-front}
+use Rattle.vec_clock.proofs.trace_model_lemmas.FlightLemmas.{alternates-front}
 use Rattle.trace_code.specs.declared.error.CodeError.TheVariants.{BadTrace, Memory}
 use Rattle.trace_code.specs.Encoding.{header_bytes, packet_bytes, end_mark, encode, Encodes}
 use Rattle.trace_code.specs.Reading.{header_at, AreChannels}

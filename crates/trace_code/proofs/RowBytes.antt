@@ -18,9 +18,9 @@ use Rattle.vec_clock.specs.trace_model.Length.{mask_len, head_len, contents_len,
 use Rattle.vec_clock.specs.trace_model.Packet.{Fit, widths_under}
 use Rattle.vec_clock.specs.trace_model.Recording.{has_event, packet_of, contents_under}
 use Rattle.vec_clock.specs.trace_model.Row.{all_widths, content_at}
-use Rattle.vec_clock.proofs.trace_model.CountingLemmas.{take-more_read}
-use Rattle.vec_clock.proofs.trace_model.ContentsLemmas.{fit-length}
-use Rattle.vec_clock.proofs.trace_model.RowLaws.{content-behind, taken_of}
+use Rattle.vec_clock.proofs.trace_model_lemmas.CountingLemmas.{take-more_read}
+use Rattle.vec_clock.proofs.trace_model_lemmas.ContentsLemmas.{fit-length}
+use Rattle.vec_clock.proofs.trace_model_lemmas.RowLaws.{content-behind, taken_of}
 use Rattle.trace_code.specs.Encoding.{mask_bytes, number_bytes, packet_bytes, row_bytes}
 use Rattle.trace_code.specs.Writing.{overwritten, picked, events_bytes}
 use Rattle.trace_code.proofs.NumberLaws.{length-low}

@@ -5,7 +5,7 @@ use Rattle.std.proofs.lemmas.List.FromFn.{fill_by_all, get_or-map-range_with_len
 use Rattle.std.proofs.lemmas.Nat.Bits.{bit_at_above}
 use Rattle.std.specs.Int.{bit_at}
 use Rattle.vec_clock.specs.vidi_bits.Number.{has}
-use Rattle.vec_clock.proofs.trace_model.MaskLemmas.{bit-from-has, no-bit-from-has, some-bit}
+use Rattle.vec_clock.proofs.trace_model_lemmas.MaskLemmas.{bit-from-has, no-bit-from-has, some-bit}
 use Rattle.trace_code.specs.Tallied.{tallied}
 
 pub tallied-long : (counts : List ℕ) (ends times : ℕ) → length (tallied counts ends times) ≡ length counts

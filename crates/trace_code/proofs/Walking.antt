@@ -20,7 +20,7 @@ use Rattle.vec_clock.specs.vidi_bits.Number.{has}
 use Rattle.vec_clock.specs.trace_model.Counting.{IsNth}
 use Rattle.vec_clock.specs.trace_model.Length.{mask_len, contents_len}
 use Rattle.vec_clock.specs.trace_model.Packet.{widths_under, does, count}
-use Rattle.vec_clock.proofs.trace_model.CountingLemmas.{count-suc_no, nth-unique, nth-below, nth-count}
+use Rattle.vec_clock.proofs.trace_model_lemmas.CountingLemmas.{count-suc_no, nth-unique, nth-below, nth-count}
 use Rattle.trace_code.specs.Encoding.{number_bytes, HasEncoding}
 use Rattle.trace_code.specs.PacketReading.{low_value}
 use Rattle.trace_code.proofs.RowBytes.{contents_len-widths, contents-least}

@@ -6,7 +6,7 @@ use Rattle.trace_code.specs.Encoding.{end_mark}
 use Rattle.trace_code.specs.Salvage.{SalvagesFront}
 use Rattle.vidi_bench.specs.vidi_io.Shelf.{Files, holding}
 use Rattle.vidi_bench.specs.vidi_io.Writing.{IsCutOff}
-use Rattle.vidi_bench.proofs.vidi_io.Cut.{cut-knowing}
+use Rattle.vidi_bench.proofs.vidi_io_lemmas.Cut.{cut-knowing}
 use Rattle.vidi_bench.specs.declared.answer.Answer.{Answer}
 use Rattle.vidi_bench.specs.declared.answer.Ended.{Ended}
 use Rattle.vidi_bench.specs.declared.answer.Ended.TheVariants as ends

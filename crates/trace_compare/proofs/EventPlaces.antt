@@ -11,7 +11,7 @@ use Rattle.std.proofs.lemmas.List.Sums.{length-filter, count_by-le-length}
 use Rattle.vec_clock.specs.trace_model.declared.event.Kind.{Kind}
 use Rattle.vec_clock.specs.trace_model.declared.packet.Packet.{Packet}
 use Rattle.vec_clock.specs.trace_model.Packet.{does, count}
-use Rattle.vec_clock.proofs.trace_model.CountingLemmas.{count-cons}
+use Rattle.vec_clock.proofs.trace_model_lemmas.CountingLemmas.{count-cons}
 use Rattle.trace_compare.specs.Findings.{events_from}
 use Rattle.trace_compare.specs.Walking.{places}
 

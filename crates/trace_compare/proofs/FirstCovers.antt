@@ -11,7 +11,7 @@ use Rattle.vec_clock.specs.trace_model.declared.event.Kind.TheVariants.{End}
 use Rattle.vec_clock.specs.trace_model.declared.packet.Packet.{Packet}
 use Rattle.vec_clock.specs.trace_model.Packet.{does}
 use Rattle.vec_clock.specs.trace_model.Clock.{clock, Covers}
-use Rattle.vec_clock.proofs.trace_model.CountingLemmas.{count-mono}
+use Rattle.vec_clock.proofs.trace_model_lemmas.CountingLemmas.{count-mono}
 use Rattle.vec_clock.specs.Counts.{clock_counts}
 use Rattle.vec_clock.proofs.Counting.{counts-at, counts-long, counts-on, counts-small}
 use Rattle.trace_compare.specs.Walking.{IsCovering, AreCovering}

@@ -12,7 +12,7 @@ use Rattle.vec_clock.specs.trace_model.declared.event.Kind.{Kind}
 use Rattle.vec_clock.specs.trace_model.declared.event.Kind.TheVariants.{Start}
 use Rattle.vec_clock.specs.trace_model.declared.packet.Packet.{Packet}
 use Rattle.vec_clock.specs.trace_model.Packet.{content_of}
-use Rattle.vec_clock.proofs.trace_model.CountingLemmas.{take-more_read}
+use Rattle.vec_clock.proofs.trace_model_lemmas.CountingLemmas.{take-more_read}
 use Rattle.trace_compare.specs.declared.tally.Tally.{Tally}
 use Rattle.trace_compare.specs.Findings.{events_from, differs, differing, is_early, early_marks}
 use Rattle.trace_compare.specs.Tally.{IsTally}

@@ -2,7 +2,7 @@
 use Rattle.std.proofs.Common.{◌≡◌, ℕ, ◌+◌, ◌<◌, ◌≤◌, Bool, true, false, cond, List, [], ◌∷◌, ◌++◌, length, refl, sym, ap, ◌∙◌, arith}
 use Rattle.std.proofs.lemmas.List.Sums.{count_by-le-length, prefix_len-le-length}
 use Rattle.std.specs.Prelude.{not, nat_lt}
-use Rattle.vec_clock.proofs.trace_model.CountingLemmas.{count-push, count-cons}
+use Rattle.vec_clock.proofs.trace_model_lemmas.CountingLemmas.{count-push, count-cons}
 use Rattle.trace_compare.specs.declared.tally.Tally.{Tally}
 use Rattle.trace_compare.specs.declared.report.What.{What}
 use Rattle.trace_compare.specs.Findings.{found, marked, first_marked}

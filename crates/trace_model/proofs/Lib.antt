@@ -5,4 +5,4 @@ pub mod ContentsLemmas
 pub mod RowLemmas
 pub mod RowLaws
 pub mod Examples
-pub use Rattle.vidi_bits.proofs as vidi_bits
+pub use Rattle.vidi_bits.proofs as vidi_bits_lemmas

@@ -3,8 +3,8 @@ pub mod Quiet
 pub mod QuietTexts
 pub mod Wired
 pub mod DriverLines
-pub use Rattle.env_script.proofs as env_script
-pub use Rattle.vlog_design.proofs.net_design as net_design
-pub use Rattle.vlog_design.proofs.net_order as net_order
-pub use Rattle.env_script.proofs.run_model as run_model
-pub use Rattle.report_text.proofs.vidi_io as vidi_io
+pub use Rattle.env_script.proofs as env_script_lemmas
+pub use Rattle.vlog_design.proofs.net_design_lemmas as net_design_lemmas
+pub use Rattle.vlog_design.proofs.net_order_lemmas as net_order_lemmas
+pub use Rattle.env_script.proofs.run_model_lemmas as run_model_lemmas
+pub use Rattle.report_text.proofs.vidi_io_lemmas as vidi_io_lemmas

@@ -1,12 +1,12 @@
 pub mod WordLists
 pub mod Saying
-pub use Rattle.sample_command.proofs.bench_run as bench_run
-pub use Rattle.wrap_command.proofs.env_script as env_script
-pub use Rattle.wrap_command.proofs.net_design as net_design
-pub use Rattle.wrap_command.proofs.net_order as net_order
-pub use Rattle.sample_command.proofs.replay_run as replay_run
-pub use Rattle.sample_command.proofs.room_ledger as room_ledger
-pub use Rattle.wrap_command.proofs.run_model as run_model
-pub use Rattle.wrap_command.proofs.trace_model as trace_model
-pub use Rattle.wrap_command.proofs.vidi_bits as vidi_bits
-pub use Rattle.sample_command.proofs.vidi_recorder as vidi_recorder
+pub use Rattle.sample_command.proofs.bench_run_lemmas as bench_run_lemmas
+pub use Rattle.wrap_command.proofs.env_script_lemmas as env_script_lemmas
+pub use Rattle.wrap_command.proofs.net_design_lemmas as net_design_lemmas
+pub use Rattle.wrap_command.proofs.net_order_lemmas as net_order_lemmas
+pub use Rattle.sample_command.proofs.replay_run_lemmas as replay_run_lemmas
+pub use Rattle.sample_command.proofs.room_ledger_lemmas as room_ledger_lemmas
+pub use Rattle.wrap_command.proofs.run_model_lemmas as run_model_lemmas
+pub use Rattle.wrap_command.proofs.trace_model_lemmas as trace_model_lemmas
+pub use Rattle.wrap_command.proofs.vidi_bits_lemmas as vidi_bits_lemmas
+pub use Rattle.sample_command.proofs.vidi_recorder_lemmas as vidi_recorder_lemmas

@@ -6,9 +6,9 @@ use Rattle.wrap_command.specs.vidi_bench.declared.status.Status.{Status}
 use Rattle.wrap_command.specs.vidi_bench.declared.status.Status.TheVariants.{Done, Usage, ReadFault, WriteFault, Refused, Unstable, Short, Diverged, Memory}
 use Rattle.vidi_commands.specs.Command.{Command, Dump, Check, Run, Record, Replay, Compare, Salvage, Wrap, Sample}
 use Rattle.vidi_commands.specs.Answer.{Does, Earns, Answers, Says}
-use Rattle.sample_command.proofs.trace_commands.QuietTraces.{mute-dumps, mute-compares, mute-saves, quiet-dumps, quiet-compares, quiet-saves}
-use Rattle.sample_command.proofs.run_commands.QuietTexts.{mute-checks, mute-runs, mute-records, quiet-checks, quiet-runs, quiet-records}
-use Rattle.sample_command.proofs.replay_command.QuietReplays.{mute-replays, quiet-replays}
+use Rattle.sample_command.proofs.trace_commands_lemmas.QuietTraces.{mute-dumps, mute-compares, mute-saves, quiet-dumps, quiet-compares, quiet-saves}
+use Rattle.sample_command.proofs.run_commands_lemmas.QuietTexts.{mute-checks, mute-runs, mute-records, quiet-checks, quiet-runs, quiet-records}
+use Rattle.sample_command.proofs.replay_command_lemmas.QuietReplays.{mute-replays, quiet-replays}
 use Rattle.sample_command.proofs.QuietSamples.{mute-samples}
 use Rattle.wrap_command.proofs.QuietWraps.{mute-wraps, quiet-wraps}
 

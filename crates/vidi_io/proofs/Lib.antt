@@ -4,4 +4,4 @@ pub mod Started
 pub mod Sent
 pub mod Whole
 pub mod Cut
-pub use Rattle.vidi_bits.proofs as vidi_bits
+pub use Rattle.vidi_bits.proofs as vidi_bits_lemmas

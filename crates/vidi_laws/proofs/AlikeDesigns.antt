@@ -2,7 +2,7 @@
 use Rattle.std.proofs.Common.{◌≡◌, ℕ, ◌<◌, ◌^◌, ◌==◌, ◌&&◌, List, Option, None, Some, map, length, replicate, slice_index, refl, ap, sym}
 use Rattle.std.proofs.Common.{subst, ◌∙◌}
 use Rattle.std.specs.List.{AllZip, Contains, enumerate_from, sum_by}
-use Rattle.vidi_commands.proofs.vidi_bits.Each.{zip-on}
+use Rattle.vidi_commands.proofs.vidi_bits_lemmas.Each.{zip-on}
 use Rattle.vidi_commands.specs.vlog_tree.Tree.{ModuleOf}
 use Rattle.vidi_commands.specs.net_design.declared.act.Code.{Code}
 use Rattle.vidi_commands.specs.net_design.declared.act.Timing.TheVariants.{Nonblocking}

@@ -12,7 +12,7 @@ use Rattle.vidi_commands.specs.net_design.declared.values.Values.{Values}
 use Rattle.vidi_commands.specs.net_design.Last.{IsNarrow}
 use Rattle.vidi_commands.specs.net_design.Settled.{net_width, word_count, Keeps, room_length}
 use Rattle.vidi_commands.specs.net_design.Lawful.{IsLawful, IsState}
-use Rattle.vidi_commands.proofs.net_design.LawfulCode.{net_width_le}
+use Rattle.vidi_commands.proofs.net_design_lemmas.LawfulCode.{net_width_le}
 
 fits-128 : (x w : ℕ) → x < 2 ^ w → w ≤ 128 → x < 2 ^ 128
 fits-128 x w l h = let most : 2 ^ w ≤ 2 ^ 128 = pow_mono {i = w} {j = 128} h in omega (arith, most, l)

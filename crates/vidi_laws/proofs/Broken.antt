@@ -7,7 +7,7 @@ use Rattle.std.proofs.lemmas.List.Elements.{All-take}
 use Rattle.vidi_commands.specs.trace_model.declared.packet.Packet.{Packet}
 use Rattle.vidi_commands.specs.trace_model.declared.trace.Trace.{Trace}
 use Rattle.vidi_commands.specs.trace_model.Packet.{IsPacket}
-use Rattle.vidi_commands.proofs.trace_model.FlightLemmas.{alternates-take}
+use Rattle.vidi_commands.proofs.trace_model_lemmas.FlightLemmas.{alternates-take}
 use Rattle.vidi_commands.specs.trace_model.Recording.{trace_of}
 use Rattle.vidi_commands.specs.trace_code.declared.error.CodeError.{CodeError}
 use Rattle.vidi_commands.specs.trace_code.declared.error.CodeError.TheVariants as errors

@@ -10,13 +10,13 @@ use Rattle.vidi_commands.specs.net_design.declared.design.Design.{Design}
 use Rattle.vidi_commands.specs.chan_map.declared.pins.Map.{Map}
 use Rattle.vidi_commands.specs.run_model.Played.{AreStable}
 use Rattle.vidi_commands.specs.run_model.Replay.{IsReplay, IsReplayRow}
-use Rattle.vidi_commands.proofs.run_model.Circle.{no-circle}
-use Rattle.vidi_commands.proofs.run_model.PlayedLaws.{played-front}
-use Rattle.vidi_commands.proofs.run_model.ReplayLaws.{order-in_the_output, replay-keeps_contents}
+use Rattle.vidi_commands.proofs.run_model_lemmas.Circle.{no-circle}
+use Rattle.vidi_commands.proofs.run_model_lemmas.PlayedLaws.{played-front}
+use Rattle.vidi_commands.proofs.run_model_lemmas.ReplayLaws.{order-in_the_output, replay-keeps_contents}
 use Rattle.vidi_commands.specs.replay_run.declared.outcome.ReplayOutcome.{ReplayOutcome}
 use Rattle.vidi_commands.specs.replay_run.declared.outcome.ReplayOutcome.TheVariants.{Ended, Short, Unstable}
 use Rattle.vidi_commands.specs.replay_run.Replaying.{EndsAs, GoesInNoCircle}
-use Rattle.vidi_commands.proofs.replay_run.Writing.{packets-few}
+use Rattle.vidi_commands.proofs.replay_run_lemmas.Writing.{packets-few}
 use Rattle.vidi_laws.specs.Headline.{AreNamed, ReplayIsFaithful}
 use Rattle.vidi_laws.proofs.KeptOrder.{findings-keep}
 

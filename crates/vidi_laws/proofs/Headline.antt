@@ -9,12 +9,12 @@ use Rattle.vidi_commands.specs.trace_code.Encoding.{encode, HasEncoding}
 use Rattle.vidi_commands.specs.script_text.declared.script.TheConstants.{MOST_CYCLES}
 use Rattle.vidi_commands.specs.script_text.ScriptOffer.{script_offer}
 use Rattle.vidi_commands.specs.script_text.declared.stalls.Stalls.{Stalls}
-use Rattle.vidi_commands.proofs.env_script.Lasting.{script-lasts}
-use Rattle.vidi_commands.proofs.bench_run.PlainLaws.{plain-keeps, plain-of}
-use Rattle.vidi_commands.proofs.vidi_recorder.Kept.{drained-plain, no-hidden_gate}
-use Rattle.vidi_commands.proofs.vidi_recorder.Runs.{the-run}
-use Rattle.vidi_commands.proofs.vidi_recorder.ScriptKept.{script-kept, full-drains}
-use Rattle.vidi_commands.proofs.vidi_recorder.Short.{trace-short}
+use Rattle.vidi_commands.proofs.env_script_lemmas.Lasting.{script-lasts}
+use Rattle.vidi_commands.proofs.bench_run_lemmas.PlainLaws.{plain-keeps, plain-of}
+use Rattle.vidi_commands.proofs.vidi_recorder_lemmas.Kept.{drained-plain, no-hidden_gate}
+use Rattle.vidi_commands.proofs.vidi_recorder_lemmas.Runs.{the-run}
+use Rattle.vidi_commands.proofs.vidi_recorder_lemmas.ScriptKept.{script-kept, full-drains}
+use Rattle.vidi_commands.proofs.vidi_recorder_lemmas.Short.{trace-short}
 use Rattle.vidi_commands.specs.vidi_bench.Reading.{IsRead}
 use Rattle.vidi_commands.specs.vidi_bench.declared.bench.Bench.{Bench}
 use Rattle.vidi_commands.specs.run_commands.Records.{course_of, IsPlanned}

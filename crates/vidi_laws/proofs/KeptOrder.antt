@@ -9,7 +9,7 @@ use Rattle.std.proofs.lemmas.List.Elements.{All-nil, All-cons, All-append}
 use Rattle.std.proofs.lemmas.List.Folds.{list_any_none}
 use Rattle.std.proofs.lemmas.List.FromFn.{length-range_with_len, get_or-range_with_len}
 use lib.Pointwise.{pointwise}
-use Rattle.vidi_commands.proofs.vidi_bits.Lists.{some_same}
+use Rattle.vidi_commands.proofs.vidi_bits_lemmas.Lists.{some_same}
 use Rattle.vidi_commands.specs.trace_model.declared.channel.Channel.{Channel}
 use Rattle.vidi_commands.specs.trace_model.declared.channel.Dir.{Dir}
 use Rattle.vidi_commands.specs.trace_model.declared.channel.Dir.TheVariants.{Inward, Outward}
@@ -19,7 +19,7 @@ use Rattle.vidi_commands.specs.trace_model.declared.packet.Packet.{Packet}
 use Rattle.vidi_commands.specs.trace_model.Clock.{clock, Covers}
 use Rattle.vidi_commands.specs.trace_model.Counting.{IsNth}
 use Rattle.vidi_commands.specs.trace_model.Packet.{content_of, count, does}
-use Rattle.vidi_commands.proofs.trace_model.CountingLemmas.{count-cons, nth, nth-below, nth-unique}
+use Rattle.vidi_commands.proofs.trace_model_lemmas.CountingLemmas.{count-cons, nth, nth-below, nth-unique}
 use Rattle.vidi_commands.specs.trace_compare.declared.report.Finding.{Finding}
 use Rattle.vidi_commands.specs.trace_compare.declared.report.What.{What}
 use Rattle.vidi_commands.specs.trace_compare.declared.report.What.TheVariants.{Differs}

@@ -1,6 +1,6 @@
 -- Of a shelf that tells its files, with no failed read, two answers that are earned are one.
 use Rattle.std.proofs.Common.{◌≡◌, ℕ, List, [], ◌∷◌, Option, Some, length, get_or, inl, inr, sym, ap, subst, ◌∙◌, arith, codes}
-use Rattle.vidi_commands.proofs.vidi_bits.Lists.{some_same}
+use Rattle.vidi_commands.proofs.vidi_bits_lemmas.Lists.{some_same}
 use Rattle.vidi_commands.specs.vidi_lines.Number.{number_of}
 use Rattle.vidi_commands.specs.trace_code.Decoding.{OnePlace, OneReading}
 use Rattle.vidi_commands.specs.trace_code.Salvage.{OneSalvage}

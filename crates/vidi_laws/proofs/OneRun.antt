@@ -1,13 +1,13 @@
 -- The runs and the replay of accepted files exist, and are one.
 use Rattle.std.proofs.Common.{ℕ, List}
 use Rattle.vidi_commands.specs.run_model.Laws.{IsReady}
-use Rattle.vidi_commands.proofs.run_model.MapLaws.{bound-is_map_of}
-use Rattle.vidi_commands.proofs.net_order.OneMap.{has_one_map}
+use Rattle.vidi_commands.proofs.run_model_lemmas.MapLaws.{bound-is_map_of}
+use Rattle.vidi_commands.proofs.net_order_lemmas.OneMap.{has_one_map}
 use Rattle.vidi_commands.specs.script_text.ScriptOffer.{script_offer}
-use Rattle.vidi_commands.proofs.env_script.Lasting.{script-lasts}
-use Rattle.vidi_commands.proofs.bench_run.PlainLaws.{one-plain_run}
-use Rattle.vidi_commands.proofs.replay_run.Outcomes.{one-outcome}
-use Rattle.vidi_commands.proofs.vidi_recorder.ScriptKept.{one-script_run}
+use Rattle.vidi_commands.proofs.env_script_lemmas.Lasting.{script-lasts}
+use Rattle.vidi_commands.proofs.bench_run_lemmas.PlainLaws.{one-plain_run}
+use Rattle.vidi_commands.proofs.replay_run_lemmas.Outcomes.{one-outcome}
+use Rattle.vidi_commands.proofs.vidi_recorder_lemmas.ScriptKept.{one-script_run}
 use Rattle.vidi_commands.specs.vidi_bench.declared.device.Device.{Device}
 use Rattle.vidi_commands.specs.vidi_bench.Devices.{IsDevice}
 use Rattle.vidi_laws.specs.OneRun.{OneRecording, OnePrintedRun, OneReplayOfFiles}

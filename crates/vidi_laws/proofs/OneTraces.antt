@@ -3,7 +3,7 @@ use Rattle.std.proofs.Common.{◌≡◌, ◌≢◌, ◌⊎◌, ℕ, ◌<◌, Lis
 use Rattle.std.proofs.lemmas.Bool.{cases_order}
 use Rattle.vidi_commands.specs.trace_model.declared.channel.Channel.{Channel}
 use Rattle.vidi_commands.specs.trace_model.declared.trace.Trace.{Trace}
-use Rattle.vidi_commands.proofs.trace_model.CountingLemmas.{slice_get-take}
+use Rattle.vidi_commands.proofs.trace_model_lemmas.CountingLemmas.{slice_get-take}
 use Rattle.vidi_commands.specs.trace_code.Encoding.{Encodes}
 use Rattle.vidi_commands.specs.trace_code.Decoding.{OnePlace, OneReading}
 use Rattle.vidi_commands.specs.trace_compare.Findings.{findings}

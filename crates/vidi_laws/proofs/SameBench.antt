@@ -1,6 +1,6 @@
 -- What three texts say together is one, or the reason for which they are refused.
 use Rattle.std.proofs.Common.{◌≡◌, ◌⊎◌, ℕ, List, None, Some, Ok, Err, inl, inr, sym, ap, subst, ◌∙◌}
-use Rattle.vidi_commands.proofs.vidi_bits.Lists.{some_same}
+use Rattle.vidi_commands.proofs.vidi_bits_lemmas.Lists.{some_same}
 use Rattle.vidi_commands.specs.chan_map.declared.pins.Map.{Map}
 use Rattle.vidi_commands.specs.script_text.declared.error.ScriptError.{ScriptError}
 use Rattle.vidi_commands.specs.script_text.declared.error.ScriptError.TheVariants as errors

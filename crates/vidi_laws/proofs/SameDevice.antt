@@ -1,7 +1,7 @@
 -- What the texts of a design and a map say together is one, or the reason for which they are refused.
 use Rattle.std.proofs.Common.{◌≡◌, ◌⊎◌, ℕ, List, None, Some, Ok, Err, inl, inr, sym, ap, subst, ◌∙◌}
 use Rattle.std.specs.Prelude.{slice_get}
-use Rattle.vidi_commands.proofs.vidi_bits.Lists.{some_same}
+use Rattle.vidi_commands.proofs.vidi_bits_lemmas.Lists.{some_same}
 use Rattle.vidi_commands.specs.vlog_tree.Tree.{FileOf, ModuleOf}
 use Rattle.vidi_commands.specs.net_design.declared.design.Design.{Design}
 use Rattle.vidi_commands.specs.net_design.Lawful.{IsLawful}

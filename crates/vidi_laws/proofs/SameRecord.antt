@@ -7,9 +7,9 @@ use Rattle.vidi_commands.specs.trace_code.Encoding.{encode}
 use Rattle.vidi_commands.specs.chan_map.declared.pins.Map.{Map}
 use Rattle.vidi_commands.specs.room_ledger.Gates.{Plan}
 use Rattle.vidi_commands.specs.room_ledger.Reservation.{need}
-use Rattle.vidi_commands.proofs.room_ledger.GateLaws.{one-set}
-use Rattle.vidi_commands.proofs.run_model.Ends.{one-end_of}
-use Rattle.vidi_commands.proofs.run_model.Played.{the-runs_alike}
+use Rattle.vidi_commands.proofs.room_ledger_lemmas.GateLaws.{one-set}
+use Rattle.vidi_commands.proofs.run_model_lemmas.Ends.{one-end_of}
+use Rattle.vidi_commands.proofs.run_model_lemmas.Played.{the-runs_alike}
 use Rattle.vidi_commands.specs.script_text.declared.error.StallError.TheVariants as stall_errors
 use Rattle.vidi_commands.specs.script_text.declared.script.Script.{Script}
 use Rattle.vidi_commands.specs.script_text.declared.stalls.Stalls.{Stalls}

@@ -1,7 +1,7 @@
 -- `wrap`: one answer, which leaves one text.
 use Rattle.std.proofs.Common.{◌≡◌, ℕ, ◌≤◌, List, [], Option, None, Some, length, inl, inr, sym, ap, subst, ◌∙◌, arith}
 use Rattle.vidi_commands.specs.vidi_bits.Findings.{first}
-use Rattle.vidi_commands.proofs.vidi_bits.Lists.{some_same}
+use Rattle.vidi_commands.proofs.vidi_bits_lemmas.Lists.{some_same}
 use Rattle.vidi_commands.specs.vlog_tree.Tree.{FileOf}
 use Rattle.vidi_commands.specs.vlog_tree.Spelling.{toks}
 use Rattle.vidi_commands.specs.vlog_parse.Marks.{all_marked}

@@ -1,4 +1,4 @@
 pub mod Digits
 pub mod Parts
 mod Examples
-pub use Rattle.vidi_bits.proofs as vidi_bits
+pub use Rattle.vidi_bits.proofs as vidi_bits_lemmas

@@ -11,8 +11,8 @@ use Rattle.trace_code.specs.trace_model.declared.row.Row.{Row}
 use Rattle.trace_code.specs.trace_model.Channel.{IsTable}
 use Rattle.trace_code.specs.trace_model.Recording.{has_event, packet_of, packets_of, trace_of}
 use Rattle.trace_code.specs.trace_model.Row.{row_before, IsOver}
-use Rattle.trace_code.proofs.trace_model.CountingLemmas.{slice_get-last, slice_get-append_left}
-use Rattle.trace_code.proofs.trace_model.RowLaws.{row-adds}
+use Rattle.trace_code.proofs.trace_model_lemmas.CountingLemmas.{slice_get-last, slice_get-append_left}
+use Rattle.trace_code.proofs.trace_model_lemmas.RowLaws.{row-adds}
 use Rattle.trace_code.specs.Encoding.{encode, end_mark, header_bytes, row_bytes}
 use Rattle.trace_code.proofs.RowBytes.{row-length, no-row-packet}
 use Rattle.room_ledger.specs.Gates.{Plan, drained, left, row_len, used_at}

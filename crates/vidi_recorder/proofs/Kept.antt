@@ -13,12 +13,12 @@ use Rattle.trace_code.specs.trace_model.declared.row.Row.{Row}
 use Rattle.trace_code.specs.trace_model.Channel.{content_bytes}
 use Rattle.trace_code.specs.trace_model.Recording.{has_event, packet_of, packets_of, row_does}
 use Rattle.trace_code.specs.trace_model.Row.{completes, is_in_flight}
-use Rattle.trace_code.proofs.trace_model.CountingLemmas.{count-cons, slice_get-last}
-use Rattle.trace_code.proofs.trace_model.RowLaws.{recorded-once, same-counts}
+use Rattle.trace_code.proofs.trace_model_lemmas.CountingLemmas.{count-cons, slice_get-last}
+use Rattle.trace_code.proofs.trace_model_lemmas.RowLaws.{recorded-once, same-counts}
 use Rattle.env_script.specs.run_model.Played.{all_up}
 use Rattle.env_script.specs.run_model.Run.{AllUp, IsRun}
-use Rattle.env_script.proofs.run_model.Contents.{has-all, same-masks_below}
-use Rattle.env_script.proofs.run_model.RunLaws.{StayUp, run-keeps, kept}
+use Rattle.env_script.proofs.run_model_lemmas.Contents.{has-all, same-masks_below}
+use Rattle.env_script.proofs.run_model_lemmas.RunLaws.{StayUp, run-keeps, kept}
 use Rattle.room_ledger.specs.Gates.{Plan, used_at, keeps, AreGates}
 use Rattle.room_ledger.specs.Reservation.{need, AreRaised}
 use Rattle.room_ledger.proofs.Following.{used-front}

@@ -10,4 +10,4 @@ pub mod Short
 pub mod Ends
 pub mod Turns
 pub mod ScriptKept
-pub use Rattle.vidi_io.proofs as vidi_io
+pub use Rattle.vidi_io.proofs as vidi_io_lemmas

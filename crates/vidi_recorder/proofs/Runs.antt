@@ -8,23 +8,23 @@ use Rattle.std.proofs.lemmas.List.{take-append-drop, length-map, length-take-le,
 use Rattle.std.proofs.lemmas.List.Concat.{flat_map-append}
 use Rattle.std.proofs.lemmas.Nat.{pow_pos}
 use Rattle.vidi_io.specs.vidi_bits.Number.{has}
-use Rattle.vidi_io.proofs.vidi_bits.BitLemmas.{fits_by_bits}
+use Rattle.vidi_io.proofs.vidi_bits_lemmas.BitLemmas.{fits_by_bits}
 use Rattle.trace_code.specs.trace_model.declared.channel.Channel.{Channel}
 use Rattle.trace_code.specs.trace_model.declared.row.Row.{Row}
 use Rattle.trace_code.specs.trace_model.Recording.{has_event, packet_of, packets_of, trace_of}
 use Rattle.trace_code.specs.trace_model.Channel.{content_bytes}
 use Rattle.trace_code.specs.trace_model.Row.{is_in_flight, row_before}
-use Rattle.trace_code.proofs.trace_model.MaskLemmas.{no-bit-from-has}
-use Rattle.trace_code.proofs.trace_model.CountingLemmas.{slice_get-take}
+use Rattle.trace_code.proofs.trace_model_lemmas.MaskLemmas.{no-bit-from-has}
+use Rattle.trace_code.proofs.trace_model_lemmas.CountingLemmas.{slice_get-take}
 use Rattle.trace_code.specs.Encoding.{encode, end_mark, header_bytes, packet_bytes, row_bytes}
 use Rattle.chan_monitor.specs.net_design.Lawful.{IsLawful}
 use Rattle.env_script.specs.run_model.Laws.{IsReady, OffersFit, OneOfLength, OneThatEnds}
 use Rattle.env_script.specs.run_model.Played.{AreStable}
-use Rattle.env_script.proofs.run_model.Ends.{the-run as run-parts}
-use Rattle.env_script.proofs.run_model.PlayedLaws.{Determines, one-list_of_rows, row-before_take, played-front}
-use Rattle.env_script.proofs.run_model.RowParts.{carried}
-use Rattle.env_script.proofs.run_model.RunLaws.{one-of_length, GatesAreFixed}
-use Rattle.env_script.proofs.run_model.Stops.{one-that_ends}
+use Rattle.env_script.proofs.run_model_lemmas.Ends.{the-run as run-parts}
+use Rattle.env_script.proofs.run_model_lemmas.PlayedLaws.{Determines, one-list_of_rows, row-before_take, played-front}
+use Rattle.env_script.proofs.run_model_lemmas.RowParts.{carried}
+use Rattle.env_script.proofs.run_model_lemmas.RunLaws.{one-of_length, GatesAreFixed}
+use Rattle.env_script.proofs.run_model_lemmas.Stops.{one-that_ends}
 use Rattle.room_ledger.specs.Gates.{Plan, used_at, keeps, AreGates}
 use Rattle.room_ledger.specs.Reservation.{AreRaised}
 use Rattle.room_ledger.proofs.Existence.{has-gates}

@@ -4,7 +4,7 @@ use Rattle.std.proofs.lemmas.Nat.{pow_pos}
 use Rattle.trace_code.specs.trace_model.declared.channel.Channel.{Channel}
 use Rattle.trace_code.specs.trace_model.declared.row.Row.{Row}
 use Rattle.trace_code.specs.trace_model.Row.{all_widths, IsOver}
-use Rattle.env_script.proofs.run_model.Contents.{fit-zeros}
+use Rattle.env_script.proofs.run_model_lemmas.Contents.{fit-zeros}
 
 abbrev pub silent : List Channel → Row
 silent channels = record {

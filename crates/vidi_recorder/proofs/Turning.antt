@@ -9,9 +9,9 @@ use Rattle.trace_code.specs.trace_model.declared.row.Offers.{Offers}
 use Rattle.trace_code.specs.trace_model.declared.row.Row.{Row}
 use Rattle.trace_code.specs.trace_model.Row.{completes, flies_after, row_before, sink_valid, IsMarked, IsOver}
 use Rattle.trace_code.specs.trace_model.Stability.{waits, IsLowestUnstable, IsUnstable, IsUnstableAt}
-use Rattle.trace_code.proofs.trace_model.CountingLemmas.{slice_get-append_left, slice_get-last, slice_get-push}
+use Rattle.trace_code.proofs.trace_model_lemmas.CountingLemmas.{slice_get-append_left, slice_get-last, slice_get-push}
 use Rattle.std.proofs.lemmas.Nat.Bits.{bit_at-zero}
-use Rattle.trace_code.proofs.trace_model.RowLemmas.{before-last}
+use Rattle.trace_code.proofs.trace_model_lemmas.RowLemmas.{before-last}
 use Rattle.vidi_io.specs.vidi_bits.Number.{has}
 use Rattle.chan_monitor.specs.net_design.declared.design.Design.{Design}
 use Rattle.chan_monitor.specs.net_design.declared.values.Values.{Values}
@@ -20,8 +20,8 @@ use Rattle.env_script.specs.run_model.Played.{AreStable}
 use Rattle.env_script.specs.run_model.Laws.{OffersStay}
 use Rattle.env_script.specs.run_model.Offers.{Carries}
 use Rattle.env_script.specs.run_model.Step.{IsFirst, IsStep}
-use Rattle.env_script.proofs.run_model.PlayedLaws.{Grown, played-nil, played-push}
-use Rattle.env_script.proofs.run_model.RunLaws.{run-keeps}
+use Rattle.env_script.proofs.run_model_lemmas.PlayedLaws.{Grown, played-nil, played-push}
+use Rattle.env_script.proofs.run_model_lemmas.RunLaws.{run-keeps}
 use Rattle.room_ledger.specs.Laws.{MayFollow, StandsAfter}
 use Rattle.room_ledger.specs.Ledger.{Ledger}
 use Rattle.chan_monitor.specs.Shell.{IsShown}

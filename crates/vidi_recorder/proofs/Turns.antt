@@ -12,7 +12,7 @@ use Rattle.trace_code.specs.trace_model.declared.row.Row.{Row}
 use Rattle.trace_code.specs.trace_model.Recording.{has_event}
 use Rattle.trace_code.specs.trace_model.Row.{all_widths, completes, flies_after, row_before, sink_valid, IsOver}
 use Rattle.trace_code.specs.trace_model.Stability.{IsLowestUnstable}
-use Rattle.trace_code.proofs.trace_model.ContentsLemmas.{fit-length}
+use Rattle.trace_code.proofs.trace_model_lemmas.ContentsLemmas.{fit-length}
 use Rattle.chan_monitor.specs.net_design.declared.design.Design.{Design}
 use Rattle.chan_monitor.specs.net_design.declared.values.Values.{Values}
 use Rattle.env_script.specs.chan_map.declared.pins.Map.{Map}

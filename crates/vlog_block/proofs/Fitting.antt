@@ -4,8 +4,8 @@ use Rattle.std.proofs.Common.{option_map}
 use Rattle.std.proofs.Common.{List, [], ◌++◌, refl, subst, arith}
 use Rattle.std.proofs.Math.Nat.{mul-zero, zero-mul, one-mul, mul-le-mul_right, le-mul_of_pos_right}
 use Rattle.std.proofs.lemmas.Bool.{not-false}
-use Rattle.vlog_size.proofs.vidi_bits.FindingLaws.{told_none}
-use Rattle.vlog_size.proofs.vidi_bits.Lists.{nil_left, nil_right}
+use Rattle.vlog_size.proofs.vidi_bits_lemmas.FindingLaws.{told_none}
+use Rattle.vlog_size.proofs.vidi_bits_lemmas.Lists.{nil_left, nil_right}
 use Rattle.vlog_size.specs.vlog_tree.Tree.{ExprOf, UnaryExpr, BinaryExpr, ChoiceExpr, ExprsOf, NoExprs, MoreExprs}
 use Rattle.vlog_size.specs.vlog_tree.Tree.{PrimOf, NumberPrim, RefPrim, ParenPrim, ConcatPrim, RepeatPrim, RefOf, RefWith, IndexOf}
 use Rattle.vlog_size.specs.vlog_tree.Tree.{NoIndex, Index}

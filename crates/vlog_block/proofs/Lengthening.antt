@@ -21,7 +21,7 @@ use Rattle.vlog_block.specs.Written.{labels_read, arm_labels_read, arm_open, arm
 use Rattle.std.proofs.Common.{append_assoc}
 use Rattle.std.proofs.lemmas.List.{append-nil}
 use Rattle.std.proofs.Math.Bool.{or_assoc}
-use Rattle.vlog_size.proofs.vidi_bits.Bools.{or_none, and_assoc, and_true}
+use Rattle.vlog_size.proofs.vidi_bits_lemmas.Bools.{or_none, and_assoc, and_true}
 use Rattle.net_code.specs.Targets.{block_targets, guard_targets}
 use Rattle.vlog_block.specs.Naming.{place_names, code_names, guard_names}
 use Rattle.vlog_block.proofs.Names.{guards_append}

@@ -26,7 +26,7 @@ use Rattle.net_code.specs.net_design.Value as values
 use Rattle.net_code.specs.net_design.Updates as code
 use Rattle.net_code.specs.net_design.Bits as bits
 use Rattle.net_code.specs.net_design.Bits.{BitSet, no_bits, known_after}
-use Rattle.net_code.proofs.net_design.UpdateLaws.{from_here}
+use Rattle.net_code.proofs.net_design_lemmas.UpdateLaws.{from_here}
 use Rattle.net_code.specs.net_design.Sized.{IsSizedRhs, IsSizedBlock, AreSizedGuards}
 use Rattle.net_code.specs.Found.{guard_writes, guard_adds, guard_reads}
 use Rattle.vlog_block.specs.Sources.{names_of}
@@ -39,8 +39,8 @@ use Rattle.vlog_block.specs.Written.{body_writes, default_writes, arms_write, bo
 use Rattle.vlog_block.specs.Written.{body_open, default_open, arms_open, labels_read, target_reads, target_writes, target_adds}
 use Rattle.std.proofs.lemmas.List.{append-nil}
 use Rattle.std.proofs.Math.Bool.{or_assoc}
-use Rattle.net_code.proofs.net_design.Rows.{choice}
-use Rattle.vlog_size.proofs.vidi_bits.Bools.{or_none, and_true}
+use Rattle.net_code.proofs.net_design_lemmas.Rows.{choice}
+use Rattle.vlog_size.proofs.vidi_bits_lemmas.Bools.{or_none, and_true}
 use Rattle.net_code.specs.Targets.{block_targets, guard_targets}
 use Rattle.vlog_block.specs.Naming.{place_names, code_names, guard_names, target_names, body_names, default_names, arms_names}
 use Rattle.vlog_block.specs.Faultless.{IsFaultless, IsFaultlessArm, AreFaultlessArms}

@@ -19,7 +19,7 @@ use Rattle.flat_drive.specs.flat_parts.Built.{IsBuilt}
 use Rattle.flat_drive.specs.flat_parts.Laws.{IsTop, InstancesAreAll, PathsDiffer, FirstIsTop, BuiltNumbers, SeatsStand, NetsHaveSeats}
 use Rattle.flat_drive.specs.flat_parts.Laws.{NetsHaveOneSeat, NetsAreThose, NamesDiffer, HeldAlike, InitialAlike}
 use Rattle.flat_clock.specs.flat_laws.Settled.{SettledByLaws}
-use Rattle.flat_clock.proofs.flat_laws.SettledLists.{all_each}
+use Rattle.flat_clock.proofs.flat_laws_lemmas.SettledLists.{all_each}
 use Rattle.flat_clock.specs.flat_laws.Next.{NextAlike, InitialStateAlike}
 use Rattle.vlog_design.specs.Design.{IsDesignOf}
 use Rattle.vlog_design.specs.Parts.{HasTop}

@@ -3,15 +3,15 @@ use Rattle.std.proofs.Common.{◌≡◌, ◌≤◌, ◌+◌, ℕ, suc, Bool, tru
 use Rattle.std.proofs.Common.{refl, ap, ◌∙◌, is_none, bytes_eq, arith}
 use Rattle.std.specs.List.{flat_map}
 use Rattle.flat_drive.specs.vlog_tree.Tree.{ModuleOf, FileOf}
-use Rattle.net_order.proofs.vidi_bits.FindingLaws.{told_none}
-use Rattle.net_order.proofs.vidi_bits.Lists.{nil_left, nil_right}
+use Rattle.net_order.proofs.vidi_bits_lemmas.FindingLaws.{told_none}
+use Rattle.net_order.proofs.vidi_bits_lemmas.Lists.{nil_left, nil_right}
 use Rattle.flat_drive.specs.vlog_size.Table.{value_of}
 use Rattle.flat_drive.specs.vlog_names.declared.error.NameError.TheVariants as e
 use Rattle.flat_drive.specs.vlog_names.Entries.{declared, module_entry, modules_of}
 use Rattle.flat_drive.specs.vlog_names.Twice.{twice_names}
 use Rattle.flat_drive.specs.vlog_names.Unknown.{unknown_module, unknown_top, unknown_names}
 use Rattle.flat_drive.specs.vlog_hierarchy.Outlines.{place_from}
-use Rattle.flat_clock.proofs.flat_laws.Found.{no_names}
+use Rattle.flat_clock.proofs.flat_laws_lemmas.Found.{no_names}
 use Rattle.flat_drive.specs.vlog_elab.Scope.{scope_with}
 use Rattle.flat_drive.specs.vlog_elab.Instances.{ModuleInstance, instances}
 use Rattle.flat_drive.specs.vlog_elab.Reasons as elab

@@ -7,7 +7,7 @@ use Rattle.vlog_latch.specs.vlog_tree.Tree as tree
 use Rattle.vlog_latch.specs.vlog_tree.Plain.{plain_expr, plain_exprs, plain_target, plain_targets}
 use Rattle.vlog_latch.specs.vlog_tree.declared.expr.Expr.{Expr}
 use Rattle.vlog_latch.specs.vlog_tree.declared.stmt.Target.{Target}
-use Rattle.vlog_latch.proofs.net_design.UpdateLaws.{from_here}
+use Rattle.vlog_latch.proofs.net_design_lemmas.UpdateLaws.{from_here}
 use Rattle.vlog_meaning.specs.Items.{both_parts, target_of, targets_of}
 
 -- these targets before those of what is left, where all that is left has the form of targets

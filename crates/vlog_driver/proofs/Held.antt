@@ -1,7 +1,7 @@
 -- The drivers of an item hold exactly where the item holds.
 use Rattle.std.proofs.Common.{◌≡◌, ℕ, ◌↔◌, Bool, true, false, List, [], ◌∷◌, map, Option, Some, None, refl, subst}
 use Rattle.std.specs.List.{flat_map, AllByRecursion}
-use Rattle.vlog_latch.proofs.vidi_bits.Each.{same_both, nothing, then_so, split}
+use Rattle.vlog_latch.proofs.vidi_bits_lemmas.Each.{same_both, nothing, then_so, split}
 use Rattle.vlog_latch.specs.vlog_tree.Tree.{IdentOf, ExprOf, TargetOf, EventOf, PosedgeEvent, ImplicitEvent, AlwaysOf}
 use Rattle.vlog_latch.specs.vlog_tree.Tree.{ConnOf}
 use Rattle.vlog_latch.specs.vlog_tree.Tree.{ItemOf, WiresItem, DrivenWiresItem, RegsItem, LocalparamsItem, AssignItem, AlwaysItem, InstanceItem}

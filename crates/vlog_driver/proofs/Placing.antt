@@ -17,10 +17,10 @@ use Rattle.vlog_latch.specs.net_design.Updates.{apply, target_updates, block_upd
 use Rattle.vlog_latch.specs.net_design.Bits.{BitSet, named, reads, target_reads, target_writes, target_adds, block_writes, block_adds, block_reads}
 use Rattle.vlog_latch.specs.net_design.Bits.{HasBits}
 use Rattle.vlog_latch.specs.net_design.Last.{HasLast, IsNarrow}
-use Rattle.vlog_latch.proofs.net_design.LastLaws.{last_updates}
+use Rattle.vlog_latch.proofs.net_design_lemmas.LastLaws.{last_updates}
 use Rattle.vlog_latch.specs.net_code.Moved.{moved_rhs, moved_place, moved_act, moved_update, moved_bits, moved, from_first}
-use Rattle.vlog_latch.proofs.net_code.MovedValues.{value_moved, block_moved, fixed_moved}
-use Rattle.vlog_latch.proofs.net_code.MovedBits.{named_moved, reads_moved, block_writes_moved, block_adds_moved, block_open_moved, bits_moved}
+use Rattle.vlog_latch.proofs.net_code_lemmas.MovedValues.{value_moved, block_moved, fixed_moved}
+use Rattle.vlog_latch.proofs.net_code_lemmas.MovedBits.{named_moved, reads_moved, block_writes_moved, block_adds_moved, block_open_moved, bits_moved}
 
 module _ (net word : ℕ) where
   narrow_from : (v : Values) → IsNarrow v → IsNarrow (from_first net word v)

@@ -5,8 +5,8 @@ use Rattle.std.proofs.Common.{ap, subst, arith, refl, sym, ◌∙◌}
 use Rattle.std.specs.List.{Contains, flat_map}
 use Rattle.std.proofs.lemmas.List.{drop_all}
 use Rattle.std.proofs.lemmas.Option.{slice_get_cases, slice_get-map, slice_get_read}
-use Rattle.vlog_hierarchy.proofs.vidi_bits.Lists.{none_in, nil_left}
-use Rattle.vlog_hierarchy.proofs.vidi_bits.FindingLaws.{first_map, is_first_more}
+use Rattle.vlog_hierarchy.proofs.vidi_bits_lemmas.Lists.{none_in, nil_left}
+use Rattle.vlog_hierarchy.proofs.vidi_bits_lemmas.FindingLaws.{first_map, is_first_more}
 use Rattle.vlog_hierarchy.specs.vidi_bits.Findings.{first}
 use Rattle.vlog_hierarchy.specs.vlog_tree.Tree.{ModuleOf}
 use Rattle.vlog_hierarchy.specs.vlog_tree.declared.module.Module.{Module}

@@ -9,6 +9,6 @@ pub mod TargetNatural
 pub mod TargetSpelled
 pub mod Turns
 pub mod Whole
-pub use Rattle.vlog_tree.proofs.vidi_bits as vidi_bits
-pub use Rattle.vlog_tree.proofs.vlog_lex as vlog_lex
-pub use Rattle.vlog_tree.proofs as vlog_tree
+pub use Rattle.vlog_tree.proofs.vidi_bits_lemmas as vidi_bits_lemmas
+pub use Rattle.vlog_tree.proofs.vlog_lex_lemmas as vlog_lex_lemmas
+pub use Rattle.vlog_tree.proofs as vlog_tree_lemmas

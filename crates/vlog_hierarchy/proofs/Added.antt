@@ -4,7 +4,7 @@ use Rattle.std.proofs.Common.{sym, ap, subst}
 use Rattle.std.proofs.Common.{◌∙◌, arith, drop-cons, append_assoc}
 use Rattle.std.specs.List.{Contains}
 use Rattle.std.proofs.lemmas.List.{length-set}
-use Rattle.vlog_size.proofs.vidi_bits.Lists.{head_in, tail_in}
+use Rattle.vlog_size.proofs.vidi_bits_lemmas.Lists.{head_in, tail_in}
 use Rattle.vlog_size.specs.vidi_bits.Findings.{told_if}
 use Rattle.vlog_hierarchy.specs.declared.outline.Child.{Child}
 use Rattle.vlog_hierarchy.specs.Reach.{child_places, is_marked, marked_all, fresh, AreBelow}

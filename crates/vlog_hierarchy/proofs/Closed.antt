@@ -7,7 +7,7 @@ use Rattle.std.specs.Str.{bytes_eq}
 use Rattle.std.proofs.lemmas.List.{map-append, length-map}
 use Rattle.std.proofs.lemmas.List.Elements.{Contains-append_cases}
 use Rattle.std.proofs.lemmas.Option.{slice_get-map, slice_get_read}
-use Rattle.vlog_size.proofs.vidi_bits.Lists.{none_in}
+use Rattle.vlog_size.proofs.vidi_bits_lemmas.Lists.{none_in}
 use Rattle.vlog_size.specs.vlog_tree.Tree.{InstanceOf, ItemOf, WiresItem, DrivenWiresItem, RegsItem, LocalparamsItem, AssignItem, AlwaysItem}
 use Rattle.vlog_size.specs.vlog_tree.Tree.{InstanceItem}
 use Rattle.vlog_size.specs.vlog_tree.Tree.{ModuleOf}

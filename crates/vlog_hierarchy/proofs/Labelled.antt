@@ -6,7 +6,7 @@ use Rattle.std.proofs.lemmas.List.{length-map}
 use Rattle.std.proofs.lemmas.List.Elements.{All-contains, All-contains_itself, All-map, All-weaker}
 use Rattle.std.proofs.lemmas.Bool.{cases_lt}
 use Rattle.std.proofs.lemmas.Option.{slice_get_past}
-use Rattle.vlog_size.proofs.vidi_bits.Lists.{none_in, tail_in}
+use Rattle.vlog_size.proofs.vidi_bits_lemmas.Lists.{none_in, tail_in}
 use Rattle.vlog_hierarchy.specs.declared.outline.Child as child
 use Rattle.vlog_hierarchy.specs.declared.outline.Outline as outline
 use Rattle.vlog_hierarchy.specs.Outlines.{Child, Outline, children_in}

@@ -9,5 +9,5 @@ pub mod Marks
 pub mod PlaceLaws
 pub mod Reaching
 pub mod Scoped
-pub use Rattle.vlog_size.proofs.vidi_bits as vidi_bits
-pub use Rattle.vlog_size.proofs as vlog_size
+pub use Rattle.vlog_size.proofs.vidi_bits_lemmas as vidi_bits_lemmas
+pub use Rattle.vlog_size.proofs as vlog_size_lemmas

@@ -8,7 +8,7 @@ use Rattle.std.proofs.lemmas.List.{get_or-set_same, get_or-set_other, take_all, 
 use Rattle.std.proofs.lemmas.List.{length-replicate}
 use Rattle.std.proofs.lemmas.List.Elements.{Contains-append_left, Contains-append_right, Contains-append_cases, Contains-push_cases}
 use Rattle.std.proofs.lemmas.List.Sums.{sum_by-set, sum_by-cons, count_by-le-length}
-use Rattle.vlog_size.proofs.vidi_bits.Lists.{head_in, tail_in, none_in, cases_in}
+use Rattle.vlog_size.proofs.vidi_bits_lemmas.Lists.{head_in, tail_in, none_in, cases_in}
 use Rattle.vlog_size.specs.vidi_bits.Findings.{told_if}
 use Rattle.vlog_hierarchy.specs.Outlines.{Outline}
 use Rattle.vlog_hierarchy.specs.Nested.{kids, Below, direct, through}

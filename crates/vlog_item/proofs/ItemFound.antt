@@ -18,7 +18,7 @@ use Rattle.vlog_stmt.specs.vlog_expr.Marks.{Toks, AreWords, IsLawfulText, AreLaw
 use Rattle.vlog_item.specs.ItemReader.{range_at, range_front, init_front}
 use Rattle.vlog_item.specs.ItemReader.{named_at, reg_at, assign_at, names_at, driven_at, wires_at}
 use Rattle.vlog_item.specs.ItemReader.{regs_at, assigns_at, event_at, always_at, item_at}
-use Rattle.vlog_stmt.proofs.vlog_expr.Found.{From, again}
+use Rattle.vlog_stmt.proofs.vlog_expr_lemmas.Found.{From, again}
 use Rattle.vlog_stmt.proofs.Sure.{Sure, nothing, sure, next, either, ◌▹◌, start, after_found, after_at_found}
 use Rattle.vlog_stmt.proofs.Sure.{expr_found, target_found}
 use Rattle.vlog_stmt.proofs.ListFound.{AreLed, led_good, alone, At, more_found, some_found}

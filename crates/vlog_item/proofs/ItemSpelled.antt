@@ -24,8 +24,8 @@ use Rattle.vlog_item.specs.ItemReader.{parameter_conns_front}
 use Rattle.vlog_item.specs.ItemReader.{conns_at}
 use Rattle.vlog_stmt.specs.vlog_expr.Reader.{some_at}
 use Rattle.vlog_item.specs.Laws.{IsWholeItem}
-use Rattle.vlog_stmt.proofs.vlog_expr.Spelled.{spell_append, ends_bracket, ends_colon, ends_paren, expr_read}
-use Rattle.vlog_stmt.proofs.vlog_expr.TargetSpelled.{target_read}
+use Rattle.vlog_stmt.proofs.vlog_expr_lemmas.Spelled.{spell_append, ends_bracket, ends_colon, ends_paren, expr_read}
+use Rattle.vlog_stmt.proofs.vlog_expr_lemmas.TargetSpelled.{target_read}
 use Rattle.vlog_stmt.proofs.Steps.{step, skipped}
 use Rattle.vlog_stmt.proofs.Starts.{expr_start, close_start}
 use Rattle.vlog_stmt.proofs.ListSpelled.{semicolon, paren, Parts, parts_semicolon, parts_paren, parts_more, ReadsOne, more_read}

@@ -1,8 +1,8 @@
 pub mod ItemFound
 pub mod ItemNatural
 pub mod ItemSpelled
-pub use Rattle.vlog_stmt.proofs.vidi_bits as vidi_bits
-pub use Rattle.vlog_stmt.proofs.vlog_expr as vlog_expr
-pub use Rattle.vlog_stmt.proofs.vlog_lex as vlog_lex
-pub use Rattle.vlog_stmt.proofs as vlog_stmt
-pub use Rattle.vlog_stmt.proofs.vlog_tree as vlog_tree
+pub use Rattle.vlog_stmt.proofs.vidi_bits_lemmas as vidi_bits_lemmas
+pub use Rattle.vlog_stmt.proofs.vlog_expr_lemmas as vlog_expr_lemmas
+pub use Rattle.vlog_stmt.proofs.vlog_lex_lemmas as vlog_lex_lemmas
+pub use Rattle.vlog_stmt.proofs as vlog_stmt_lemmas
+pub use Rattle.vlog_stmt.proofs.vlog_tree_lemmas as vlog_tree_lemmas

@@ -1,6 +1,6 @@
 -- The first net at which E9 holds, by a code's masks and targets.
 use Rattle.std.proofs.Common.{◌≡◌, ℕ, ◌&&◌, ◌||◌, not, Bool, false, List, length, ap, sym, subst, ◌∙◌}
-use Rattle.net_drive.proofs.net_code.MaskLaws.{same_sets}
+use Rattle.net_drive.proofs.net_code_lemmas.MaskLaws.{same_sets}
 use mathlib.Core.Path.{fun_ext}
 use Rattle.vlog_block.specs.vlog_size.declared.scope.ScopeNet.{ScopeNet}
 use Rattle.vlog_block.specs.vlog_size.Table.{Named}

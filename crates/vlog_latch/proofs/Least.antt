@@ -3,7 +3,7 @@ use Rattle.std.proofs.Common.{◌≡◌, ℕ, ◌<◌, ◌≤◌, ◌==◌, nat_
 use Rattle.std.proofs.Common.{refl, ap, sym, subst, ◌∙◌, arith}
 use Rattle.std.proofs.lemmas.Bool.{eqb-true, eq-eqb, ltb-true, lt-ltb, or_from, false_from_ne_true}
 use Rattle.std.proofs.Math.Bool.{or-true, or_assoc}
-use Rattle.net_drive.proofs.vidi_bits.Bools.{and_none, left_of, or_none}
+use Rattle.net_drive.proofs.vidi_bits_lemmas.Bools.{and_none, left_of, or_none}
 use mathlib.Core.Path.{fun_ext}
 use Rattle.vlog_block.specs.net_design.declared.act.Mask.{Mask}
 use Rattle.vlog_block.specs.net_design.Bits.{BitSet}

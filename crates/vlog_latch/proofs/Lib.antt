@@ -7,6 +7,6 @@ pub mod There
 pub mod Targets
 pub mod Means
 pub mod Shown
-pub use Rattle.net_drive.proofs.net_code as net_code
-pub use Rattle.vlog_block.proofs.net_design as net_design
-pub use Rattle.net_drive.proofs.vidi_bits as vidi_bits
+pub use Rattle.net_drive.proofs.net_code_lemmas as net_code_lemmas
+pub use Rattle.vlog_block.proofs.net_design_lemmas as net_design_lemmas
+pub use Rattle.net_drive.proofs.vidi_bits_lemmas as vidi_bits_lemmas

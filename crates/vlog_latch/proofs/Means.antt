@@ -3,7 +3,7 @@ use Rattle.std.proofs.Common.{◌≡◌, ℕ, zero, suc, ◌+◌, ◌<◌, ◌&&
 use Rattle.std.proofs.Common.{refl, ap, sym, ◌∙◌}
 use Rattle.std.proofs.Common.{arith}
 use Rattle.std.proofs.lemmas.Bool.{and_right, or_from, or_parts}
-use Rattle.net_drive.proofs.vidi_bits.Bools.{and_not_false}
+use Rattle.net_drive.proofs.vidi_bits_lemmas.Bools.{and_not_false}
 use Rattle.net_drive.specs.vidi_bits.Findings.{told_if}
 use Rattle.vlog_block.specs.vlog_size.declared.scope.ScopeNet.{ScopeNet}
 use Rattle.vlog_block.specs.vlog_size.Table.{Named}

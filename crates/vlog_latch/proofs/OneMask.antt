@@ -12,7 +12,7 @@ use Rattle.vlog_block.specs.net_design.Bits.{BitSet, named}
 use Rattle.net_drive.specs.net_code.declared.bit_map.BitMap.{BitMap}
 use Rattle.net_drive.specs.net_code.BitMap.{mask_of, in_map, is_among}
 use Rattle.net_drive.specs.net_code.Targets.{place_net, nets_named}
-use Rattle.net_drive.proofs.net_code.MaskLaws.{has_less}
+use Rattle.net_drive.proofs.net_code_lemmas.MaskLaws.{has_less}
 use Rattle.vlog_block.specs.Naming.{place_names}
 use Rattle.vlog_latch.specs.Latch.{some_bit, is_net, is_named}
 use Rattle.vlog_latch.specs.Masks.{is_missed, is_read}

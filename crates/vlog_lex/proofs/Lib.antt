@@ -7,4 +7,4 @@ pub mod Gaps
 pub mod Apart
 pub mod Readings
 pub mod Sample
-pub use Rattle.vidi_bits.proofs as vidi_bits
+pub use Rattle.vidi_bits.proofs as vidi_bits_lemmas

@@ -4,7 +4,7 @@ use Rattle.std.proofs.Common.{List, [], ◌∷◌, length, Option, Some, None, r
 use Rattle.std.specs.List.{position_or_len}
 use Rattle.std.specs.Str.{bytes_eq}
 use Rattle.std.proofs.lemmas.Bool.{lt-ltb}
-use Rattle.vlog_names.proofs.vidi_bits.Lists.{some_same}
+use Rattle.vlog_names.proofs.vidi_bits_lemmas.Lists.{some_same}
 use Rattle.vlog_names.specs.vlog_size.declared.scope.Param.{Param}
 use Rattle.vlog_names.specs.vlog_size.declared.scope.ScopeNet.{ScopeNet}
 use Rattle.vlog_names.specs.vlog_size.declared.scope.ScopeMemory.{ScopeMemory}

@@ -3,7 +3,7 @@ use Rattle.std.proofs.Common.{◌≡◌, true, [], ◌∷◌, refl, ap, ◌∙�
 use Rattle.std.proofs.lemmas.Bool.{and_from}
 use Rattle.std.proofs.lemmas.Slice.Eq.{bytes_eq-Decides}
 use Rattle.std.specs.Str.{bytes_eq}
-use Rattle.vlog_names.proofs.vidi_bits.Bools.{left_of, right_of}
+use Rattle.vlog_names.proofs.vidi_bits_lemmas.Bools.{left_of, right_of}
 use Rattle.vlog_meaning.specs.Names.{Full, same_path}
 
 pub path_same : (xs ys : Full) → same_path xs ys ≡ true → xs ≡ ys

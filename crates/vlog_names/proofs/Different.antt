@@ -6,8 +6,8 @@ use Rattle.std.proofs.lemmas.List.Quantifiers.{all_pairs_push}
 use Rattle.std.proofs.lemmas.Slice.Eq.{bytes_eq-Decides}
 use Rattle.std.specs.List.{flat_map, AllByRecursion}
 use Rattle.std.specs.Str.{bytes_eq}
-use Rattle.vlog_size.proofs.vidi_bits.FindingLaws.{told_none}
-use Rattle.vlog_size.proofs.vidi_bits.Lists.{nil_left, nil_right}
+use Rattle.vlog_size.proofs.vidi_bits_lemmas.FindingLaws.{told_none}
+use Rattle.vlog_size.proofs.vidi_bits_lemmas.Lists.{nil_left, nil_right}
 use Rattle.vlog_size.specs.vlog_tree.Tree.{ItemOf, WiresItem, DrivenWiresItem, RegsItem, LocalparamsItem, AssignItem, AlwaysItem, InstanceItem}
 use Rattle.vlog_size.specs.vlog_tree.Tree.{ModuleOf}
 use Rattle.vlog_size.specs.vlog_tree.Tree.{FileOf}

@@ -2,4 +2,4 @@ pub mod Different
 pub mod Examples
 pub mod Places
 pub mod Twice
-pub use Rattle.vlog_size.proofs.vidi_bits as vidi_bits
+pub use Rattle.vlog_size.proofs.vidi_bits_lemmas as vidi_bits_lemmas

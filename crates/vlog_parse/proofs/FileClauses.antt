@@ -3,7 +3,7 @@ use Rattle.std.proofs.Common.{◌≡◌, ℕ, ◌+◌, ◌≤◌, Option, Some, 
 use Rattle.std.proofs.Common.{map}
 use Rattle.std.proofs.Common.{arith}
 use Rattle.std.specs.Prelude.{IfOk, MatchResult, option_map}
-use Rattle.vlog_item.proofs.vidi_bits.Lists.{some_same}
+use Rattle.vlog_item.proofs.vidi_bits_lemmas.Lists.{some_same}
 use Rattle.vlog_item.specs.vlog_lex.declared.token.Token.{Token}
 use Rattle.vlog_item.specs.vlog_tree.declared.module.File.{File}
 use Rattle.vlog_item.specs.vlog_tree.Words.{WordOf, NameWord, Fixed, NameAt, NumberAt, FixedAt, token_of, tokens_of, map_word}
@@ -12,7 +12,7 @@ use Rattle.vlog_item.specs.vlog_tree.Plain.{plain}
 use Rattle.vlog_item.specs.vlog_tree.Lines.{no_mark, bare}
 use Rattle.vlog_item.specs.vlog_tree.Spelling.{toks, file_words}
 use Rattle.vlog_item.specs.vlog_tree.Shape.{IsGood}
-use Rattle.vlog_item.proofs.vlog_tree.Marks.{file_mapped, toks_bare}
+use Rattle.vlog_item.proofs.vlog_tree_lemmas.Marks.{file_mapped, toks_bare}
 use Rattle.vlog_item.specs.vlog_expr.declared.unread.Unread.{Unread}
 use Rattle.vlog_item.specs.vlog_expr.declared.unread.Unread.TheVariants as unread
 use Rattle.vlog_item.specs.vlog_expr.Marks.{TokenOf, Toks, spelled, spell, IsWord, AreWords, all_marked, AreLawful}
@@ -21,7 +21,7 @@ use Rattle.vlog_item.specs.vlog_expr.Reader.{fuel_for}
 use Rattle.vlog_parse.specs.FileReader.{file_at, file_of}
 use Rattle.vlog_item.specs.vlog_expr.Laws.{Holds}
 use Rattle.vlog_item.specs.vlog_expr.Given.{Gives}
-use Rattle.vlog_item.proofs.vlog_expr.Whole.{words_tokens, spell_lawful, none_some}
+use Rattle.vlog_item.proofs.vlog_expr_lemmas.Whole.{words_tokens, spell_lawful, none_some}
 use Rattle.vlog_parse.specs.Parsing.{IsFileOf, IsLinedFileOf, OneFile, OneLinedFile, LinedFilesAreFiles}
 use Rattle.vlog_parse.proofs.FileSpelled.{file_read}
 use Rattle.vlog_parse.proofs.FileNatural.{file_natural}

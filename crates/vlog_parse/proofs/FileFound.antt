@@ -19,10 +19,10 @@ use Rattle.vlog_parse.specs.FileReader.{first_port_at, ports_at}
 use Rattle.vlog_parse.specs.FileReader.{items_at, header_at, module_at, modules_at}
 use Rattle.vlog_parse.specs.FileReader.{file_at}
 use Rattle.vlog_parse.specs.FileLaws.{ReadFilesAreSpelled}
-use Rattle.vlog_item.proofs.vlog_expr.Found.{From, again}
-use Rattle.vlog_item.proofs.vlog_stmt.Sure.{Sure, nothing, sure, next, either, ◌▹◌, some_none, start, after_found}
-use Rattle.vlog_item.proofs.vlog_stmt.Sure.{expr_found}
-use Rattle.vlog_item.proofs.vlog_stmt.ListFound.{AreLed, all_snoc, some_snoc, row_snoc, alone, At, more_found}
+use Rattle.vlog_item.proofs.vlog_expr_lemmas.Found.{From, again}
+use Rattle.vlog_item.proofs.vlog_stmt_lemmas.Sure.{Sure, nothing, sure, next, either, ◌▹◌, some_none, start, after_found}
+use Rattle.vlog_item.proofs.vlog_stmt_lemmas.Sure.{expr_found}
+use Rattle.vlog_item.proofs.vlog_stmt_lemmas.ListFound.{AreLed, all_snoc, some_snoc, row_snoc, alone, At, more_found}
 use Rattle.vlog_item.specs.vlog_tree.Tree.{ParameterHeadOf, ParameterOf}
 use Rattle.vlog_item.specs.vlog_tree.Spelling.{parameter_head_words, parameter_words, hash_words}
 use Rattle.vlog_item.specs.vlog_tree.Shape.{IsGoodParameterHead, IsGoodParameter, IsFirstHeaded}

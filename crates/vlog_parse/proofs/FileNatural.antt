@@ -17,9 +17,9 @@ use Rattle.vlog_parse.specs.FileReader.{items_at, parameter_head_front, paramete
 use Rattle.vlog_parse.specs.FileReader.{module_at, modules_at}
 use Rattle.vlog_item.specs.vlog_expr.Laws.{seen}
 use Rattle.vlog_parse.specs.FileLaws.{FileLinesDontCount}
-use Rattle.vlog_item.proofs.vlog_expr.Natural.{U}
-use Rattle.vlog_item.proofs.vlog_stmt.Steps.{Same, same, both_step, both_or, same_after, same_expr}
-use Rattle.vlog_item.proofs.vlog_stmt.ListNatural.{map_snoc, longer, more_same}
+use Rattle.vlog_item.proofs.vlog_expr_lemmas.Natural.{U}
+use Rattle.vlog_item.proofs.vlog_stmt_lemmas.Steps.{Same, same, both_step, both_or, same_after, same_expr}
+use Rattle.vlog_item.proofs.vlog_stmt_lemmas.ListNatural.{map_snoc, longer, more_same}
 use Rattle.vlog_item.proofs.ItemNatural.{init_same, item_same, name_same, ranges_same}
 
 abbrev pub bare_header : {A : Type 0} → List ℕ × List (ParameterOf A) × List (PortOf A) → List ℕ × List (ParameterOf U) × List (PortOf U)

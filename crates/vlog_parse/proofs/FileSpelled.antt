@@ -26,9 +26,9 @@ use Rattle.vlog_parse.specs.FileReader.{direction_front, head_front, port_at, wh
 use Rattle.vlog_parse.specs.FileReader.{ports_at}
 use Rattle.vlog_parse.specs.FileReader.{parameter_head_front, parameter_at, first_parameter_at, parameters_front}
 use Rattle.vlog_parse.specs.FileReader.{items_at, header_at, module_at, modules_at, file_at}
-use Rattle.vlog_item.proofs.vlog_expr.Spelled.{spell_append, expr_read}
-use Rattle.vlog_item.proofs.vlog_stmt.Steps.{step, taken, skipped}
-use Rattle.vlog_item.proofs.vlog_stmt.ListSpelled.{semicolon, paren, parts_paren, parts_more, ReadsOne, more_read}
+use Rattle.vlog_item.proofs.vlog_expr_lemmas.Spelled.{spell_append, expr_read}
+use Rattle.vlog_item.proofs.vlog_stmt_lemmas.Steps.{step, taken, skipped}
+use Rattle.vlog_item.proofs.vlog_stmt_lemmas.ListSpelled.{semicolon, paren, parts_paren, parts_more, ReadsOne, more_read}
 use Rattle.vlog_item.proofs.ItemSpelled.{init_read, item_read, no_else, no_endmodule, ranges_read, some_item, whole_before}
 
 module _ (A : Type 0) (blank : A) where

@@ -4,7 +4,7 @@ use Rattle.std.proofs.Common.{◌∙◌, subst}
 use Rattle.std.proofs.Common.{arith}
 use Rattle.std.specs.List.{AllByRecursion}
 use Rattle.vlog_item.specs.vlog_tree.Lines.{bare}
-use Rattle.vlog_item.proofs.vidi_bits.Lists.{some_same}
+use Rattle.vlog_item.proofs.vidi_bits_lemmas.Lists.{some_same}
 use Rattle.vlog_item.specs.vlog_lex.declared.token.Token.{Token}
 use Rattle.vlog_item.specs.vlog_tree.declared.module.Direction.{Direction}
 use Rattle.vlog_item.specs.vlog_tree.declared.module.Direction.TheVariants as direction
@@ -32,10 +32,10 @@ use Rattle.vlog_parse.specs.FileReader.{file_at, file_of}
 use Rattle.vlog_item.specs.vlog_expr.Laws.{Holds}
 use Rattle.vlog_parse.specs.FileLaws.{FilesAreRead, FileLinesDontCount}
 use Rattle.vlog_parse.specs.Parsing.{IsLinedFileOf}
-use Rattle.vlog_item.proofs.vlog_expr.Spelled.{U}
+use Rattle.vlog_item.proofs.vlog_expr_lemmas.Spelled.{U}
 use Rattle.vlog_parse.proofs.FileFound.{file_spelled}
-use Rattle.vlog_item.proofs.vlog_expr.Whole.{tokens_spelled, AreLawfulWords, lawful_append, spell_lawful, forget_lawful, expr_lawful}
-use Rattle.vlog_item.proofs.vlog_expr.Whole.{ref_lawful, length_spell, length_forget, none_some}
+use Rattle.vlog_item.proofs.vlog_expr_lemmas.Whole.{tokens_spelled, AreLawfulWords, lawful_append, spell_lawful, forget_lawful, expr_lawful}
+use Rattle.vlog_item.proofs.vlog_expr_lemmas.Whole.{ref_lawful, length_spell, length_forget, none_some}
 use Rattle.vlog_item.specs.vlog_tree.Tree.{CaseStmt, ArmOf, LabelsArm, DefaultArm, ArmsOf, NoArms, MoreArms, ParameterHeadOf, ParameterOf}
 use Rattle.vlog_item.specs.vlog_tree.Tree.{MemoryTail}
 use Rattle.vlog_item.specs.vlog_tree.Tree.{ImplicitEvent, ConnOf, InstanceOf, LocalparamsItem, InstanceItem}

@@ -4,7 +4,7 @@ use Rattle.std.proofs.Common.{◌++◌, length, map, take, drop, codes, refl, sy
 use Rattle.std.specs.List.{AllByRecursion, flat_map}
 use Rattle.std.proofs.lemmas.List.{map-append, take-append-drop, length-drop}
 use Rattle.std.proofs.Math.Seq.{take-length}
-use Rattle.vlog_item.proofs.vlog_lex.Sample.{name_a}
+use Rattle.vlog_item.proofs.vlog_lex_lemmas.Sample.{name_a}
 use Rattle.vlog_item.specs.vlog_lex.declared.token.Token.{Token}
 use Rattle.vlog_item.specs.vlog_lex.declared.token.TokenKind.{TokenKind}
 use Rattle.vlog_item.specs.vlog_lex.declared.token.TokenKind.TheVariants.{Identifier, Reserved, Decimal, Based, Other}
@@ -27,13 +27,13 @@ use Rattle.vlog_parse.specs.UnitReader.{whole_item, unit_at, read_or, behind_uni
 use Rattle.vlog_parse.specs.Units.{UnitOf, Header, ItemUnit, Endmodule, module_units, unit_words, IsWhole, AreWhole, BeginWith}
 use Rattle.vlog_parse.specs.Units.{AreLongest}
 use Rattle.vlog_parse.specs.Units.{line_or, last_line, first_line, IsItemLine, OneItemLine}
-use Rattle.vlog_item.proofs.vlog_expr.Spelled.{U, spell_append}
-use Rattle.vlog_item.proofs.vlog_expr.Found.{From, again}
-use Rattle.vlog_item.proofs.vlog_expr.Maps.{marked_length}
-use Rattle.vlog_item.proofs.vlog_expr.Natural.{over_bind, over_found, after_natural}
-use Rattle.vlog_item.proofs.vlog_expr.Whole.{AreLawfulWords, lawful_append, spell_lawful, length_forget}
-use Rattle.vlog_item.proofs.vlog_stmt.Sure.{Sure, nothing, sure, next, either, after_found}
-use Rattle.vlog_item.proofs.vlog_stmt.Steps.{step, skipped}
+use Rattle.vlog_item.proofs.vlog_expr_lemmas.Spelled.{U, spell_append}
+use Rattle.vlog_item.proofs.vlog_expr_lemmas.Found.{From, again}
+use Rattle.vlog_item.proofs.vlog_expr_lemmas.Maps.{marked_length}
+use Rattle.vlog_item.proofs.vlog_expr_lemmas.Natural.{over_bind, over_found, after_natural}
+use Rattle.vlog_item.proofs.vlog_expr_lemmas.Whole.{AreLawfulWords, lawful_append, spell_lawful, length_forget}
+use Rattle.vlog_item.proofs.vlog_stmt_lemmas.Sure.{Sure, nothing, sure, next, either, after_found}
+use Rattle.vlog_item.proofs.vlog_stmt_lemmas.Steps.{step, skipped}
 use Rattle.vlog_item.proofs.ItemFound.{item_found}
 use Rattle.vlog_parse.proofs.FileFound.{header_found}
 use Rattle.vlog_item.proofs.ItemSpelled.{item_read, no_endmodule, some_item}

@@ -3,7 +3,7 @@ use Rattle.std.proofs.Common.{◌≡◌, List, [], ◌∷◌, ◌++◌, map}
 use Rattle.vlog_item.specs.vlog_tree.Plain.{plain_item, plain_module}
 use Rattle.vlog_item.specs.vlog_tree.declared.module.Item.{Item}
 use Rattle.vlog_item.specs.vlog_tree.declared.module.Module.{Module}
-use Rattle.vlog_item.proofs.vlog_expr.Maps.{map_snoc}
+use Rattle.vlog_item.proofs.vlog_expr_lemmas.Maps.{map_snoc}
 
 pub items_snoc : (xs : List Item) (x : Item) → map plain_item (xs ++ x ∷ []) ≡ map plain_item xs ++ plain_item x ∷ []
 items_snoc = map_snoc plain_item

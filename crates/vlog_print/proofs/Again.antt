@@ -9,7 +9,7 @@ use Rattle.vlog_parse.specs.vlog_tree.Tree.{FileOf}
 use Rattle.vlog_parse.specs.vlog_tree.Lines.{bare}
 use Rattle.vlog_parse.specs.vlog_tree.Spelling.{toks, file_words}
 use Rattle.vlog_parse.specs.vlog_tree.Shape.{IsGood}
-use Rattle.vlog_parse.proofs.vlog_tree.Marks.{toks_bare}
+use Rattle.vlog_parse.proofs.vlog_tree_lemmas.Marks.{toks_bare}
 use Rattle.vlog_parse.specs.vlog_expr.Marks.{TokenOf, Toks, marked, all_marked, spelled, AreWords}
 use Rattle.vlog_parse.specs.vlog_expr.Bare.{without_lines}
 use Rattle.vlog_parse.specs.Depth.{open_at, open_behind, HaveNoCut, is_else, IsNoAlways, IsOpenTooDeep, EndsLongRun, IsElseTooMany, Passes}

@@ -11,9 +11,9 @@ use Rattle.vlog_parse.specs.vlog_tree.Words.{WordOf, NameWord, Fixed, NameAt, Nu
 use Rattle.vlog_parse.specs.vlog_tree.Tree.{FileOf}
 use Rattle.vlog_parse.specs.vlog_tree.Spelling.{toks, file_words}
 use Rattle.vlog_parse.specs.vlog_tree.Shape.{IsGood}
-use Rattle.vlog_parse.proofs.vlog_expr.Whole.{IsLawfulWord, AreLawfulWords}
+use Rattle.vlog_parse.proofs.vlog_expr_lemmas.Whole.{IsLawfulWord, AreLawfulWords}
 use Rattle.vlog_parse.proofs.FileWhole.{file_lawful}
-use Rattle.vlog_parse.proofs.vlog_lex.Solid.{list_test}
+use Rattle.vlog_parse.proofs.vlog_lex_lemmas.Solid.{list_test}
 
 abbrev pub AreTokens : List Token → Type 0
 AreTokens ts = AllByRecursion (λ (t : Token). IsToken t.kind t.text) ts

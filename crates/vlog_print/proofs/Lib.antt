@@ -1,5 +1,5 @@
 pub mod Again
 pub mod GoodWords
 pub mod Printed
-pub use Rattle.vlog_parse.proofs.vidi_bits as vidi_bits
-pub use Rattle.vlog_parse.proofs.vlog_tree as vlog_tree
+pub use Rattle.vlog_parse.proofs.vidi_bits_lemmas as vidi_bits_lemmas
+pub use Rattle.vlog_parse.proofs.vlog_tree_lemmas as vlog_tree_lemmas

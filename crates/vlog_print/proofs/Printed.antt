@@ -6,14 +6,14 @@ use Rattle.vlog_parse.specs.vlog_lex.Lexeme.{IsToken, IsLongest}
 use Rattle.vlog_parse.specs.vlog_lex.Words.{is_among}
 use Rattle.vlog_parse.specs.vlog_lex.Gap.{IsGap}
 use Rattle.vlog_parse.specs.vlog_lex.Reading.{Piece, Gap, Lexeme, Leads, newlines, tokens_of}
-use Rattle.vlog_parse.proofs.vlog_lex.Spans.{before_stop}
+use Rattle.vlog_parse.proofs.vlog_lex_lemmas.Spans.{before_stop}
 use Rattle.vlog_parse.specs.vlog_tree.Words.{WordOf, NameWord, Fixed, NameAt, NumberAt, FixedAt, token_of}
 use Rattle.vlog_parse.specs.vlog_tree.Words as words
 use Rattle.vlog_parse.specs.vlog_tree.Spelling.{toks, file_words}
 use Rattle.vlog_parse.specs.vlog_expr.Bare.{without_lines}
 use Rattle.vlog_print.specs.Printed.{line_ends, gap_behind, printed, PrintedIsSpelled}
 use Rattle.vlog_print.proofs.GoodWords.{AreTokens, good_tokens}
-use Rattle.vlog_parse.proofs.vlog_lex.Solid.{is_solid, token_solid}
+use Rattle.vlog_parse.proofs.vlog_lex_lemmas.Solid.{is_solid, token_solid}
 
 -- the byte behind a token is white, and of no token
 gap_if : (b : Bool) (rest : List ℕ) → IsGap ((if b then 10 else 32) ∷ []) rest

@@ -4,7 +4,7 @@ use Rattle.std.specs.Prelude.{Result, Ok, Err, true, false}
 use Rattle.std.specs.Result.{is_ok}
 use Rattle.std.specs.List.{flat_map}
 use Rattle.vlog_size.specs.vidi_bits.Findings.{told_if, first, Judged}
-use Rattle.vlog_size.proofs.vidi_bits.Lists.{nil_left, nil_right}
+use Rattle.vlog_size.proofs.vidi_bits_lemmas.Lists.{nil_left, nil_right}
 use Rattle.vlog_size.specs.vlog_tree.Tree.{ExprOf, TargetOf, IdentOf, RangeOf, NamedValueOf, RegTailOf, InitTail, MemoryTail, Reg1Of}
 use Rattle.vlog_size.specs.vlog_tree.Tree.{AssignOf, ConnOf, InstanceOf}
 use Rattle.vlog_size.specs.vlog_tree.Tree.{StmtOf, BeginStmt, IfStmt, CaseStmt, AssignStmt, ArmOf, LabelsArm, DefaultArm, ArmsOf, NoArms, MoreArms}

@@ -5,8 +5,8 @@ use Rattle.std.proofs.Common.{zero, suc, refl, ap, sym, ◌∙◌, subst}
 use Rattle.std.specs.List.{list_all, flat_map}
 use Rattle.std.specs.Str.{bytes_eq}
 use Rattle.std.proofs.lemmas.Bool.{and_from}
-use Rattle.vlog_size.proofs.vidi_bits.Bools.{left_of, right_of}
-use Rattle.vlog_size.proofs.vidi_bits.Lists.{nil_left, nil_right}
+use Rattle.vlog_size.proofs.vidi_bits_lemmas.Bools.{left_of, right_of}
+use Rattle.vlog_size.proofs.vidi_bits_lemmas.Lists.{nil_left, nil_right}
 use Rattle.vlog_size.specs.vlog_tree.Tree.{ExprOf, ConnOf, RangeOf, ParameterHeadOf, ParameterOf, NamedValueOf, ItemOf, WiresItem, DrivenWiresItem}
 use Rattle.vlog_size.specs.vlog_tree.Tree.{RegsItem, LocalparamsItem, AssignItem, AlwaysItem, InstanceItem}
 use Rattle.vlog_size.specs.declared.scope.Param.{Param}

@@ -2,8 +2,8 @@
 use Rattle.std.proofs.Common.{◌≡◌, ℕ, Bool, true, ◌&&◌, List, [], ◌∷◌, ◌++◌, take, length, Option, None, Some, refl, ap, sym, ◌∙◌}
 use Rattle.std.specs.List.{list_all, flat_map}
 use Rattle.std.proofs.lemmas.Bool.{and_from}
-use Rattle.vlog_size.proofs.vidi_bits.Bools.{left_of}
-use Rattle.vlog_size.proofs.vidi_bits.Lists.{nil_left, nil_right}
+use Rattle.vlog_size.proofs.vidi_bits_lemmas.Bools.{left_of}
+use Rattle.vlog_size.proofs.vidi_bits_lemmas.Lists.{nil_left, nil_right}
 use Rattle.vlog_size.specs.vlog_tree.Tree.{ConnOf, IdentOf, RangeOf, PortHeadOf, PortOf, NamedValueOf, RegTailOf, InitTail, MemoryTail, Reg1Of}
 use Rattle.vlog_size.specs.vlog_tree.Tree.{ItemOf, WiresItem, DrivenWiresItem, RegsItem, LocalparamsItem, AssignItem, AlwaysItem}
 use Rattle.vlog_size.specs.vlog_tree.Tree.{InstanceItem, ModuleOf}

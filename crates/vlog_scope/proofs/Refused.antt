@@ -1,6 +1,6 @@
 -- A port or a parameter at which something is found, behind those in which nothing is.
 use Rattle.std.proofs.Common.{◌≡◌, ℕ, ◌<◌, suc, List, ◌∷◌, length, drop, map, get_or, drop-cons, Some, ap, sym, ◌∙◌}
-use Rattle.vlog_size.proofs.vidi_bits.FindingLaws.{first_more}
+use Rattle.vlog_size.proofs.vidi_bits_lemmas.FindingLaws.{first_more}
 use Rattle.vlog_size.specs.vidi_bits.Findings.{first}
 use Rattle.vlog_size.specs.vlog_tree.declared.module.Port.{Port}
 use Rattle.vlog_size.specs.vlog_tree.declared.module.Parameter.{Parameter}

@@ -2,9 +2,9 @@
 use Rattle.std.proofs.Common.{◌≡◌, ◌<◌, ◌^◌, ◌+◌, ℕ, Bool, true, false, ◌&&◌, not, nat_lt, nat_le, min, if◌then◌else◌, []}
 use Rattle.std.proofs.Common.{Option, None, Some, is_some, option_map, refl, ap, sym, ◌∙◌, arith}
 use Rattle.std.proofs.lemmas.Bool.{not-false, and_from}
-use Rattle.vlog_size.proofs.vidi_bits.Bools.{left_of}
-use Rattle.vlog_size.proofs.vidi_bits.FindingLaws.{told_none}
-use Rattle.vlog_size.proofs.vidi_bits.Lists.{nil_left, nil_right}
+use Rattle.vlog_size.proofs.vidi_bits_lemmas.Bools.{left_of}
+use Rattle.vlog_size.proofs.vidi_bits_lemmas.FindingLaws.{told_none}
+use Rattle.vlog_size.proofs.vidi_bits_lemmas.Lists.{nil_left, nil_right}
 use Rattle.vlog_size.specs.vidi_bits.Findings.{told_if}
 use Rattle.vlog_size.specs.vidi_bits.Number.{IsWidth}
 use Rattle.vlog_size.specs.vlog_tree.Tree.{ExprOf, IdentOf, RangeOf}

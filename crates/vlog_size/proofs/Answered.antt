@@ -3,9 +3,9 @@ use Rattle.std.proofs.Common.{◌≡◌, ℕ, ◌+◌, ◌-◌, ◌*◌, ◌/◌
 use Rattle.std.proofs.Common.{true≢false, if◌then◌else◌}
 use Rattle.std.specs.Prelude.{IsSome}
 use Rattle.std.proofs.Common.{Option, None, Some, is_none, List, [], refl, ap, sym, ◌∙◌, subst, option_map, arith}
-use Rattle.vlog_tree.proofs.vidi_bits.Bools.{left_of}
-use Rattle.vlog_tree.proofs.vidi_bits.FindingLaws.{both_nil}
-use Rattle.vlog_tree.proofs.vidi_bits.Lists.{nil_left, nil_right}
+use Rattle.vlog_tree.proofs.vidi_bits_lemmas.Bools.{left_of}
+use Rattle.vlog_tree.proofs.vidi_bits_lemmas.FindingLaws.{both_nil}
+use Rattle.vlog_tree.proofs.vidi_bits_lemmas.Lists.{nil_left, nil_right}
 use Rattle.vlog_tree.specs.declared.expr.NumberKind.{NumberKind}
 use Rattle.vlog_tree.specs.declared.expr.NumberKind.TheVariants.{Decimal, Based}
 use Rattle.vlog_tree.specs.declared.expr.BinaryOp.{BinaryOp}
@@ -22,7 +22,7 @@ use Rattle.vlog_size.specs.Size.{own_width, at_width}
 use Rattle.vlog_size.specs.Size.{is_sound, faults, decimal_value, const_number, of_two, chosen_value, chosen_whole, constant_at}
 use Rattle.vlog_size.specs.Size.{constant_of, of_one, assigned_width, wide_number, assigned_number, Bracket}
 use Rattle.vlog_tree.specs.vidi_bits.Number.{IsWidth}
-use Rattle.vlog_tree.proofs.vidi_bits.Below.{rest_below}
+use Rattle.vlog_tree.proofs.vidi_bits_lemmas.Below.{rest_below}
 use Rattle.vlog_size.specs.Limits.{TOP}
 use Rattle.vlog_size.specs.Facts.{ShowsNumber}
 use Rattle.vlog_size.specs.declared.facts.Numbered.{Numbered}

@@ -1,9 +1,9 @@
 -- Where names are checked, an expression without a fault has a lawful width, and a number where it stands in a constant position.
 use Rattle.std.proofs.Common.{◌≡◌, ℕ, Bool, true, false, ◌&&◌, ◌||◌, not, Option, None, Some, List, [], ◌∷◌, ◌++◌, refl}
 use Rattle.std.proofs.lemmas.Bool.{not-false, and_from}
-use Rattle.vlog_tree.proofs.vidi_bits.Bools.{never}
-use Rattle.vlog_tree.proofs.vidi_bits.FindingLaws.{told_none}
-use Rattle.vlog_tree.proofs.vidi_bits.Lists.{nil_left, nil_right}
+use Rattle.vlog_tree.proofs.vidi_bits_lemmas.Bools.{never}
+use Rattle.vlog_tree.proofs.vidi_bits_lemmas.FindingLaws.{told_none}
+use Rattle.vlog_tree.proofs.vidi_bits_lemmas.Lists.{nil_left, nil_right}
 use Rattle.vlog_tree.specs.Tree.{ExprOf, UnaryExpr, BinaryExpr, ChoiceExpr, ExprsOf, NoExprs, MoreExprs}
 use Rattle.vlog_tree.specs.Tree.{PrimOf, NumberPrim, RefPrim, ParenPrim, ConcatPrim, RepeatPrim, RefOf, RefWith}
 use Rattle.vlog_tree.specs.Tree.{LastOf, NoLast, Last, SelOf, IndexSel, PartSel, IndexedSel}

@@ -5,7 +5,7 @@ use Rattle.std.proofs.Math.Pow.{pow_mono}
 use Rattle.std.proofs.lemmas.Grind.{common_steps}
 use Rattle.std.proofs.lemmas.Nat.{mod_low}
 use Rattle.vlog_tree.specs.vidi_bits.Number.{IsWidth, side_by_side}
-use Rattle.vlog_tree.proofs.vidi_bits.Below.{unary_below, binary_below, joined_below, rest_below, quotient_below, truth_bit, parity_bit, odd_bit}
+use Rattle.vlog_tree.proofs.vidi_bits_lemmas.Below.{unary_below, binary_below, joined_below, rest_below, quotient_below, truth_bit, parity_bit, odd_bit}
 use Rattle.vlog_tree.specs.vidi_bits.declared.operators.UnaryOp.TheVariants as flat
 use Rattle.vlog_tree.specs.declared.expr.UnaryOp.{UnaryOp}
 use Rattle.vlog_tree.specs.declared.expr.UnaryOp.TheVariants as unary

@@ -17,5 +17,5 @@ pub mod Sized
 pub mod Tables
 pub mod Totals
 pub mod WidthExamples
-pub use Rattle.vlog_tree.proofs.vidi_bits as vidi_bits
-pub use Rattle.vlog_tree.proofs.vlog_lex as vlog_lex
+pub use Rattle.vlog_tree.proofs.vidi_bits_lemmas as vidi_bits_lemmas
+pub use Rattle.vlog_tree.proofs.vlog_lex_lemmas as vlog_lex_lemmas

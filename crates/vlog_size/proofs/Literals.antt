@@ -2,8 +2,8 @@
 use Rattle.std.proofs.Common.{◌≡◌, ℕ, ◌%◌, ◌^◌, ◌≤◌, Bool, true, false, ◌&&◌, ◌||◌, not, if◌then◌else◌, Option, None, Some, is_none}
 use Rattle.std.proofs.Common.{List, refl, arith}
 use Rattle.std.proofs.Math.Pow.{pow_mono}
-use Rattle.vlog_tree.proofs.vidi_bits.FindingLaws.{told_none}
-use Rattle.vlog_tree.proofs.vidi_bits.Below.{rest_below}
+use Rattle.vlog_tree.proofs.vidi_bits_lemmas.FindingLaws.{told_none}
+use Rattle.vlog_tree.proofs.vidi_bits_lemmas.Below.{rest_below}
 use Rattle.vlog_tree.specs.declared.expr.NumberKind.{NumberKind}
 use Rattle.vlog_tree.specs.declared.expr.NumberKind.TheVariants.{Decimal, Based}
 use Rattle.vlog_tree.specs.Tree.{NumberOf}

@@ -5,7 +5,7 @@ use Rattle.std.proofs.Math.Pow.{pow_mono}
 use Rattle.std.specs.List.{list_all}
 use Rattle.std.specs.Str.{bytes_eq}
 use Rattle.std.proofs.lemmas.Bool.{and_from}
-use Rattle.vlog_tree.proofs.vidi_bits.Bools.{left_of, right_of}
+use Rattle.vlog_tree.proofs.vidi_bits_lemmas.Bools.{left_of, right_of}
 use Rattle.vlog_size.specs.declared.scope.Const.{Const}
 use Rattle.vlog_size.specs.declared.scope.Const.TheVariants as const
 use Rattle.vlog_size.specs.declared.scope.Param.{Param}
@@ -21,7 +21,7 @@ use Rattle.vlog_size.specs.Operators.{in_range}
 use Rattle.vlog_size.specs.Names.{Readable, readable_of, fixed, net_meaning, memory_meaning, or_undeclared, place_meaning, or_meaning}
 use Rattle.vlog_size.specs.Names.{meaning_of}
 use Rattle.vlog_size.specs.Names.{is_lawful_const, are_lawful_params, are_lawful_places, is_lawful_readable, is_lawful_scope}
-use Rattle.vlog_tree.proofs.vidi_bits.Below.{rest_below}
+use Rattle.vlog_tree.proofs.vidi_bits_lemmas.Below.{rest_below}
 use Rattle.vlog_size.specs.Size.{of_param, const_width, is_plain_const, const_number, is_past}
 use Rattle.vlog_size.proofs.Fits.{Below, below_none, below_some, wider}
 use Rattle.vlog_size.proofs.Sized.{IsSized}

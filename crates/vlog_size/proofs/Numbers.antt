@@ -2,7 +2,7 @@
 use Rattle.std.proofs.Common.{◌≡◌, ℕ, ◌+◌, ◌*◌, ◌≤◌, ◌<◌, ◌^◌, Bool, true, false, ◌==◌, List, [], ◌∷◌, if◌then◌else◌, arith, None, Some}
 use Rattle.std.proofs.Common.{refl, drop, length, get_or, sym, ap, ◌∙◌, suc, ◌≢◌, drop-cons}
 use Rattle.std.proofs.lemmas.List.{drop_all}
-use Rattle.vlog_tree.proofs.vidi_bits.ArithmeticLemmas.{shifted_grows}
+use Rattle.vlog_tree.proofs.vidi_bits_lemmas.ArithmeticLemmas.{shifted_grows}
 use Rattle.vlog_tree.specs.vidi_bits.Limits.{below_top}
 use Rattle.vlog_size.specs.Literal.{digit, digits_from}
 

@@ -3,9 +3,9 @@ use Rattle.std.proofs.Common.{◌*◌, ◌%◌, ◌^◌, ◌<◌, zero, suc, add
 use Rattle.std.proofs.Common.{◌≡◌, ◌≤◌, ◌+◌, arith, ℕ, Bool, true, false, ◌&&◌, not, if◌then◌else◌, Option, None, Some, is_none}
 use Rattle.std.proofs.Common.{List, [], ◌∷◌, ◌++◌, refl}
 use Rattle.std.proofs.lemmas.Bool.{and_from}
-use Rattle.vlog_tree.proofs.vidi_bits.Bools.{never, left_of, right_of, and_not_false}
-use Rattle.vlog_tree.proofs.vidi_bits.FindingLaws.{told_none}
-use Rattle.vlog_tree.proofs.vidi_bits.Lists.{nil_left, nil_right}
+use Rattle.vlog_tree.proofs.vidi_bits_lemmas.Bools.{never, left_of, right_of, and_not_false}
+use Rattle.vlog_tree.proofs.vidi_bits_lemmas.FindingLaws.{told_none}
+use Rattle.vlog_tree.proofs.vidi_bits_lemmas.Lists.{nil_left, nil_right}
 use Rattle.vlog_size.specs.declared.error.SizeError.TheVariants as error
 use Rattle.vlog_size.specs.Literal.{is_lawful}
 use Rattle.vlog_size.specs.Size.{Sizes, has_width, own_width, number, reaches, all_constant, all_lawful, total_width, sum_fault, unsized_part}
@@ -15,7 +15,7 @@ use Rattle.vlog_size.specs.Size.{of_concat, Bracket, NoBracket, Bit, Part, Index
 use Rattle.vlog_size.specs.Size.{part_width_faults, outside, too_large, wrong_order, is_wrong_order, is_wrong_part, bounds_width, or_zero}
 use Rattle.vlog_size.proofs.Lists.{bounds_lawful}
 use Rattle.vlog_tree.specs.vidi_bits.Number.{side_by_side, repeated}
-use Rattle.vlog_tree.proofs.vidi_bits.NumberLemmas.{repeated_fits}
+use Rattle.vlog_tree.proofs.vidi_bits_lemmas.NumberLemmas.{repeated_fits}
 use Rattle.vlog_size.proofs.Repeats.{lawful_unit}
 use Rattle.vlog_size.proofs.Fits.{Below, below_none, below_some, wider, joined_fits}
 use Rattle.vlog_size.proofs.Sized.{IsSized, Sized, sized_width, two_there, number_there}

@@ -3,7 +3,7 @@ use Rattle.std.proofs.Common.{◌≡◌, ℕ, ◌+◌, ◌≤◌, ◌<◌, Bool,
 use Rattle.std.proofs.Common.{Option, None, Some, List, ◌∷◌, refl, ap, sym, ◌∙◌, arith}
 use Rattle.std.proofs.lemmas.Grind.{common_steps}
 use Rattle.std.proofs.lemmas.Bool.{and_from}
-use Rattle.vlog_tree.proofs.vidi_bits.Bools.{never}
+use Rattle.vlog_tree.proofs.vidi_bits_lemmas.Bools.{never}
 use Rattle.vlog_tree.specs.vidi_bits.Number.{side_by_side}
 use Rattle.vlog_tree.specs.declared.expr.BinaryOp.{BinaryOp}
 use Rattle.vlog_tree.specs.declared.expr.UnaryOp.{UnaryOp}

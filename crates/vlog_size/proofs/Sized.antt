@@ -2,9 +2,9 @@
 use Rattle.std.proofs.Common.{◌≡◌, ◌≤◌, ℕ, Bool, true, false, ◌&&◌, ◌||◌, not, max, if◌then◌else◌, Option, None, Some, is_none, [], ◌++◌, refl}
 use Rattle.std.proofs.Common.{◌==◌, arith}
 use Rattle.std.proofs.lemmas.Bool.{and_from}
-use Rattle.vlog_tree.proofs.vidi_bits.Bools.{never, left_of, right_of}
-use Rattle.vlog_tree.proofs.vidi_bits.FindingLaws.{told_none, both_nil}
-use Rattle.vlog_tree.proofs.vidi_bits.Lists.{nil_left, nil_right}
+use Rattle.vlog_tree.proofs.vidi_bits_lemmas.Bools.{never, left_of, right_of}
+use Rattle.vlog_tree.proofs.vidi_bits_lemmas.FindingLaws.{told_none, both_nil}
+use Rattle.vlog_tree.proofs.vidi_bits_lemmas.Lists.{nil_left, nil_right}
 use Rattle.vlog_tree.specs.vidi_bits.Number.{IsWidth}
 use Rattle.vlog_size.specs.declared.error.SizeError.TheVariants as error
 use Rattle.vlog_size.specs.declared.operators.Kind.{Kind}

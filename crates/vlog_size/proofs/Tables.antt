@@ -8,7 +8,7 @@ use Rattle.std.specs.Global.{Vec}
 use Rattle.std.specs.Str.{bytes_eq}
 use Rattle.std.specs.Map.{lookup, keys_of}
 use Rattle.std.specs.Cmp.Lexicographic.{pointwise}
-use Rattle.vlog_tree.proofs.vidi_bits.Lists.{some_same}
+use Rattle.vlog_tree.proofs.vidi_bits_lemmas.Lists.{some_same}
 use Rattle.indexmap.specs.IndexMap.{insert_entry}
 use Rattle.vlog_size.specs.Table.{Named, named, value_of, place_of, added}
 

@@ -3,7 +3,7 @@ use Rattle.std.proofs.Common.{◌≡◌, ℕ, ◌+◌, ◌*◌, ◌≤◌, ◌<�
 use Rattle.std.proofs.Common.{sym, ◌∙◌}
 use Rattle.vlog_size.specs.declared.error.SizeError.TheVariants as error
 use Rattle.std.proofs.lemmas.Grind.{common_steps}
-use Rattle.vlog_tree.proofs.vidi_bits.Bools.{left_of, right_of}
+use Rattle.vlog_tree.proofs.vidi_bits_lemmas.Bools.{left_of, right_of}
 use Rattle.vlog_size.specs.Limits.{TOP}
 use Rattle.vlog_size.specs.Literal.{is_lawful}
 use Rattle.vlog_tree.specs.vidi_bits.Findings.{first, told_if}

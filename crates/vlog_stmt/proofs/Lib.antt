@@ -9,7 +9,7 @@ pub mod StmtNatural
 pub mod StmtSpelled
 pub mod Sure
 pub mod Turns
-pub use Rattle.vlog_expr.proofs.vidi_bits as vidi_bits
-pub use Rattle.vlog_expr.proofs as vlog_expr
-pub use Rattle.vlog_expr.proofs.vlog_lex as vlog_lex
-pub use Rattle.vlog_expr.proofs.vlog_tree as vlog_tree
+pub use Rattle.vlog_expr.proofs.vidi_bits_lemmas as vidi_bits_lemmas
+pub use Rattle.vlog_expr.proofs as vlog_expr_lemmas
+pub use Rattle.vlog_expr.proofs.vlog_lex_lemmas as vlog_lex_lemmas
+pub use Rattle.vlog_expr.proofs.vlog_tree_lemmas as vlog_tree_lemmas

@@ -1,4 +1,4 @@
 pub mod Marks
 pub mod Rows
-pub use Rattle.vlog_lex.proofs.vidi_bits as vidi_bits
-pub use Rattle.vlog_lex.proofs as vlog_lex
+pub use Rattle.vlog_lex.proofs.vidi_bits_lemmas as vidi_bits_lemmas
+pub use Rattle.vlog_lex.proofs as vlog_lex_lemmas

@@ -11,7 +11,7 @@ use Rattle.shim_gen.specs.trace_model.declared.channel.Channel.{Channel}
 use Rattle.vidi_bench.specs.net_design.declared.design.Design.{Design}
 use Rattle.vidi_bench.specs.net_design.declared.design.Port.{Port}
 use Rattle.vidi_bench.specs.net_design.Lawful.{IsLawful}
-use Rattle.vidi_bench.proofs.run_model.PinLemmas.{all-at}
+use Rattle.vidi_bench.proofs.run_model_lemmas.PinLemmas.{all-at}
 use Rattle.shim_gen.specs.chan_map.declared.pins.Map.{Map}
 use Rattle.shim_gen.specs.chan_map.declared.pins.Plug.{Plug}
 use Rattle.shim_gen.specs.chan_map.declared.pins.Tie.{Tie}

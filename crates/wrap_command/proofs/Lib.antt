@@ -2,10 +2,10 @@ pub mod Spelled
 pub mod Fitted
 pub mod Written
 pub mod QuietWraps
-pub use Rattle.vidi_bench.proofs.env_script as env_script
-pub use Rattle.vidi_bench.proofs.net_design as net_design
-pub use Rattle.vidi_bench.proofs.net_order as net_order
-pub use Rattle.vidi_bench.proofs.run_model as run_model
-pub use Rattle.shim_gen.proofs.trace_model as trace_model
-pub use Rattle.vidi_bench.proofs as vidi_bench
-pub use Rattle.vlog_print.proofs.vidi_bits as vidi_bits
+pub use Rattle.vidi_bench.proofs.env_script_lemmas as env_script_lemmas
+pub use Rattle.vidi_bench.proofs.net_design_lemmas as net_design_lemmas
+pub use Rattle.vidi_bench.proofs.net_order_lemmas as net_order_lemmas
+pub use Rattle.vidi_bench.proofs.run_model_lemmas as run_model_lemmas
+pub use Rattle.shim_gen.proofs.trace_model_lemmas as trace_model_lemmas
+pub use Rattle.vidi_bench.proofs as vidi_bench_lemmas
+pub use Rattle.vlog_print.proofs.vidi_bits_lemmas as vidi_bits_lemmas

@@ -6,7 +6,7 @@ use Rattle.vlog_print.specs.vlog_tree.Tree.{FileOf}
 use Rattle.vlog_print.specs.vlog_tree.Lines.{bare}
 use Rattle.vlog_print.specs.vlog_tree.Shape.{IsGood}
 use Rattle.vlog_print.specs.vlog_tree.Spelling.{toks}
-use Rattle.vlog_print.proofs.vlog_tree.Marks.{toks_bare}
+use Rattle.vlog_print.proofs.vlog_tree_lemmas.Marks.{toks_bare}
 use Rattle.vlog_print.specs.vlog_parse.Marks.{all_marked}
 use Rattle.vlog_print.specs.vlog_parse.Depth.{IsShallow}
 use Rattle.vlog_print.specs.vlog_parse.Parsing.{IsFileOf, Refuses}

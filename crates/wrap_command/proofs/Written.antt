@@ -4,7 +4,7 @@ use Rattle.std.specs.Prelude.{IfOk, IfErr}
 use Rattle.vlog_print.specs.vlog_tree.Tree.{FileOf}
 use Rattle.vidi_bench.specs.vidi_io.Shelf.{Files, holding}
 use Rattle.vidi_bench.specs.vidi_io.Writing.{IsCutOff}
-use Rattle.vidi_bench.proofs.vidi_io.Cut.{cut-knowing}
+use Rattle.vidi_bench.proofs.vidi_io_lemmas.Cut.{cut-knowing}
 use Rattle.shim_gen.specs.chan_map.declared.pins.Map.{Map}
 use Rattle.shim_gen.specs.chan_map.declared.text.MapText.{MapText}
 use Rattle.shim_gen.specs.chan_map.Text.{ReadsMap}

@@ -3,7 +3,7 @@ use Rattle.chan_monitor.specs.run_model.Offers.{AreZeroWhileDown}
 use Rattle.env_script.specs.trace_model.declared.channel.Channel.{Channel}
 use Rattle.env_script.specs.trace_model.declared.row.Offers.{Offers}
 use Rattle.env_script.specs.trace_model.Row.{all_widths, AreOffers}
-use Rattle.env_script.proofs.trace_model.ContentsLemmas.{fit-length}
+use Rattle.env_script.proofs.trace_model_lemmas.ContentsLemmas.{fit-length}
 use Rattle.chan_monitor.specs.run_model.Played.{all_up}
 use Rattle.chan_monitor.specs.Shell.{IsShown}
 use Rattle.env_script.specs.Offered.{offers_on, AllFit}

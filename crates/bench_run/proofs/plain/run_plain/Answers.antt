@@ -1,7 +1,7 @@
 use Rattle.std.proofs.Common.{◌≡◌, ◌⊎◌, inl, inr, None, refl, ap, sym, subst, ◌∙◌}
 use Rattle.std.proofs.lemmas.Option.{same_Some}
 use Rattle.std.proofs.lemmas.Result.{IfOk-weaker}
-use Rattle.chan_monitor.proofs.vidi_bits.Results.{on_err}
+use Rattle.chan_monitor.proofs.vidi_bits_lemmas.Results.{on_err}
 use Rattle.chan_monitor.specs.chan_map.declared.pins.Map.{Map}
 use Rattle.chan_monitor.specs.Around.{IsAround}
 use Rattle.bench_run.specs.Plain.{IsPlainRun, StandsWithin}

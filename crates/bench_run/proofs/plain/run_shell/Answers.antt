@@ -1,6 +1,6 @@
 use Rattle.std.proofs.Common.{◌+◌, ◌++◌, ◌∷◌, [], Option, None, Some, List, length, refl, ap, sym, subst, ◌∙◌, arith}
 use Rattle.std.proofs.lemmas.List.{length-replicate, length_push}
-use Rattle.chan_monitor.proofs.vidi_bits.Results.{on_err}
+use Rattle.chan_monitor.proofs.vidi_bits_lemmas.Results.{on_err}
 use Rattle.env_script.specs.trace_model.declared.channel.Channel.{Channel}
 use Rattle.env_script.specs.trace_model.declared.row.Offers.{Offers}
 use Rattle.env_script.specs.trace_model.declared.row.Row.{Row}

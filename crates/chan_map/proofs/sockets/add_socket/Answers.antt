@@ -1,5 +1,5 @@
 use Rattle.std.proofs.Common.{sym, ◌∙◌}
-use Rattle.vidi_lines.proofs.vidi_bits.Lists.{no_some}
+use Rattle.vidi_lines.proofs.vidi_bits_lemmas.Lists.{no_some}
 use Rattle.chan_map.proofs.Table.{grown}
 use Rattle.chan_map.proofs.sockets.add_socket.Goals as goal
 

@@ -1,5 +1,5 @@
 use Rattle.std.proofs.Common.{subst, sym, ◌∙◌, arith}
-use Rattle.run_model.proofs.trace_model.RowLemmas.{room-left, rest-more}
+use Rattle.run_model.proofs.trace_model_lemmas.RowLemmas.{room-left, rest-more}
 use Rattle.chan_monitor.specs.Entering.{IsPlugWithin}
 use Rattle.chan_monitor.proofs.Writing.{enter-more, plug-within, split-is}
 use Rattle.chan_monitor.proofs.pins.enter.Goals as goal

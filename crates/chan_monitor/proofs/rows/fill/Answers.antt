@@ -1,8 +1,8 @@
 use Rattle.std.proofs.Common.{arith}
 use Rattle.run_model.specs.net_design.Pins.{outputs}
-use Rattle.run_model.proofs.trace_model.ContentsLemmas.{fit-length}
+use Rattle.run_model.proofs.trace_model_lemmas.ContentsLemmas.{fit-length}
 use Rattle.run_model.specs.trace_model.Row.{all_widths}
-use Rattle.run_model.proofs.trace_model.RowLemmas.{first-within}
+use Rattle.run_model.proofs.trace_model_lemmas.RowLemmas.{first-within}
 use Rattle.chan_monitor.proofs.Filling.{fill-more, plug-shown}
 use Rattle.chan_monitor.proofs.rows.fill.Goals as goal
 

@@ -1,5 +1,5 @@
 use Rattle.std.proofs.Common.{refl}
-use Rattle.run_model.proofs.trace_model.RowLemmas.{replaced-none}
+use Rattle.run_model.proofs.trace_model_lemmas.RowLemmas.{replaced-none}
 use Rattle.env_script.proofs.Filling.{port-written}
 use Rattle.env_script.proofs.offers.fill_content.Goals as goal
 

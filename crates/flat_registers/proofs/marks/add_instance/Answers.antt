@@ -1,5 +1,5 @@
 use Rattle.std.proofs.Common.{◌≡◌, ◌++◌, ◌∙◌, OnOk, subst}
-use Rattle.flat_parts.proofs.vidi_bits.Lists.{some_same}
+use Rattle.flat_parts.proofs.vidi_bits_lemmas.Lists.{some_same}
 use Rattle.flat_parts.specs.vlog_elab.Plain.{plain_instance}
 use Rattle.flat_registers.proofs.MarkLaws.{marks_alike}
 use Rattle.flat_registers.proofs.marks.add_instance.Goals as goal

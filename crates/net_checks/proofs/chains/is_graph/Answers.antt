@@ -1,4 +1,4 @@
-use Rattle.net_sim.proofs.net_order.GraphTest.{all_below_in}
+use Rattle.net_sim.proofs.net_order_lemmas.GraphTest.{all_below_in}
 use Rattle.net_checks.proofs.chains.is_graph.Goals as goal
 
 pub returns : goal.returns

@@ -1,5 +1,5 @@
 use Rattle.std.proofs.Common.{refl, arith}
-use Rattle.net_code.proofs.vidi_bits.Bools.{not_both}
+use Rattle.net_code.proofs.vidi_bits_lemmas.Bools.{not_both}
 use Rattle.net_lawful.specs.Driven.{IsNetDriven}
 use Rattle.net_lawful.proofs.DrivenLaws.{all_nets, next_below}
 use Rattle.net_lawful.proofs.driven.nets_driven.Goals as goal

@@ -1,6 +1,6 @@
 use Rattle.std.proofs.Common.{◌≡◌, ℕ, ◌<◌, ◌≤◌, ◌++◌, ◌∷◌, [], List, ap, sym, ◌∙◌, arith}
 use Rattle.std.proofs.lemmas.List.{append_cancel_right}
-use Rattle.net_order.proofs.net_design.LawfulCode.{slice_get-at}
+use Rattle.net_order.proofs.net_design_lemmas.LawfulCode.{slice_get-at}
 use Rattle.net_order.specs.net_design.Names.{list_at, paths}
 use Rattle.net_sim.specs.Names.{dotted}
 use Rattle.net_sim.proofs.NameLaws.{top_path, path_text, empty_from, empty_by}

@@ -8,7 +8,7 @@ use Rattle.trace_commands.specs.vidi_bench.Ended.{EndsWith}
 use Rattle.trace_commands.specs.vidi_bench.Reading.{IsUnread}
 use Rattle.replay_command.specs.Replays.{IsUnreplayed, RefusedReplay}
 use Rattle.trace_commands.specs.Traces.{trace_limit}
-use Rattle.trace_commands.proofs.vidi_bench.Chain.{all-as, passed-as, read-as, rose-since, unread-as}
+use Rattle.trace_commands.proofs.vidi_bench_lemmas.Chain.{all-as, passed-as, read-as, rose-since, unread-as}
 use Rattle.replay_command.proofs.Replayed.{bytes-encode, replayable-said}
 use Rattle.replay_command.proofs.replaying.plan_replay.Goals as goal
 

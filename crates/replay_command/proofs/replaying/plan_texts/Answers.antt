@@ -2,8 +2,8 @@ use Rattle.trace_commands.specs.vidi_bench.Devices.{Wiring}
 use Rattle.trace_commands.specs.vidi_bench.Ended.{EndsWith}
 use Rattle.replay_command.specs.Replays.{RefusedReplay, RefusedTrace}
 use Rattle.trace_commands.specs.vidi_bench.Steps.{Never}
-use Rattle.trace_commands.proofs.vidi_bench.Chain.{passed-as}
-use Rattle.trace_commands.proofs.vidi_bench.Wired.{never-wired, wired-then}
+use Rattle.trace_commands.proofs.vidi_bench_lemmas.Chain.{passed-as}
+use Rattle.trace_commands.proofs.vidi_bench_lemmas.Wired.{never-wired, wired-then}
 use Rattle.replay_command.proofs.replaying.plan_texts.Goals as goal
 
 pub returns-in_err-device-clause-refused : goal.returns-in_err-device-clause-refused

@@ -1,7 +1,7 @@
 use Rattle.std.proofs.Common.{◌≡◌, ℕ, List, inl, ◌∙◌}
 use Rattle.trace_commands.specs.vidi_io.Cause.{Rose}
 use Rattle.replay_command.specs.Replays.{IsUnreplayed, Replays, StopsReplaying}
-use Rattle.trace_commands.proofs.vidi_bench.Chain.{passed-owed, rose-since}
+use Rattle.trace_commands.proofs.vidi_bench_lemmas.Chain.{passed-owed, rose-since}
 use Rattle.replay_command.proofs.Replayed.{replayed-owed}
 use Rattle.replay_command.proofs.replaying.replay.Goals as goal
 

@@ -1,5 +1,5 @@
 use Rattle.std.proofs.Common.{refl, arith}
-use Rattle.trace_code.proofs.trace_model.RowLemmas.{replaced-none}
+use Rattle.trace_code.proofs.trace_model_lemmas.RowLemmas.{replaced-none}
 use Rattle.replay_run.proofs.Fills.{content-more, content-whole}
 use Rattle.replay_run.proofs.feeding.copy_content.Goals as goal
 

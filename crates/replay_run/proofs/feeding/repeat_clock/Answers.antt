@@ -1,6 +1,6 @@
 use Rattle.std.proofs.Common.{◌≡◌, ◌≤◌, ℕ, ◌+◌, ◌-◌, ◌*◌, length, get_or, ap, ◌∙◌, arith}
 use Rattle.std.proofs.Math.Nat.{mul-le-mul_left}
-use Rattle.chan_replayer.proofs.chan_monitor.RowOfCycle.{refill-is}
+use Rattle.chan_replayer.proofs.chan_monitor_lemmas.RowOfCycle.{refill-is}
 use Rattle.chan_replayer.proofs.FedOffers.{clock-within}
 use Rattle.replay_run.proofs.Fills.{apart}
 use Rattle.replay_run.proofs.feeding.repeat_clock.Goals as goal

@@ -1,5 +1,5 @@
 use Rattle.std.proofs.Common.{◌+◌, ◌*◌, length, get_or, ap, ◌∙◌, arith}
-use Rattle.chan_replayer.proofs.chan_monitor.RowOfCycle.{refill-is}
+use Rattle.chan_replayer.proofs.chan_monitor_lemmas.RowOfCycle.{refill-is}
 use Rattle.chan_replayer.proofs.FedOffers.{clock-within}
 use Rattle.replay_run.proofs.Fills.{apart}
 use Rattle.replay_run.proofs.feeding.write_needs.Goals as goal

@@ -2,7 +2,7 @@ use Rattle.std.proofs.Common.{ℕ, Option, length, ap, sym, subst, ◌∙◌}
 use Rattle.trace_code.specs.trace_model.declared.row.Row.{Row}
 use Rattle.trace_code.specs.trace_model.Row.{all_widths, IsOver}
 use Rattle.trace_code.specs.trace_model.Stability.{IsLowestUnstable}
-use Rattle.trace_code.proofs.trace_model.ContentsLemmas.{fit-length}
+use Rattle.trace_code.proofs.trace_model_lemmas.ContentsLemmas.{fit-length}
 use Rattle.chan_replayer.specs.chan_map.declared.pins.Map.{Map}
 use Rattle.replay_run.proofs.Turning.{next, stops}
 use Rattle.replay_run.proofs.turn.play_cycle.Goals as goal

@@ -1,5 +1,5 @@
 use Rattle.std.proofs.Common.{Bool, List, ℕ, [], ◌++◌, length, take, drop, cond, codes, decimal, ap, subst, ◌∙◌}
-use Rattle.run_model.proofs.trace_model.ContentsLemmas.{rest-on}
+use Rattle.run_model.proofs.trace_model_lemmas.ContentsLemmas.{rest-on}
 use Rattle.vidi_io.specs.vidi_bits.Number.{has}
 use Rattle.run_model.specs.trace_model.declared.channel.Channel.{Channel}
 use Rattle.report_text.specs.Text.{spaced}

@@ -5,7 +5,7 @@ use Rattle.run_reference.specs.trace_model.declared.row.Row.{Row}
 use Rattle.run_reference.specs.trace_model.Row.{row_before}
 use Rattle.run_reference.specs.run_model.Laws.{GatesOf}
 use Rattle.run_reference.specs.run_model.Run.{IsRunRow}
-use Rattle.run_reference.proofs.run_model.PlayedLaws.{Grown, played-nil}
+use Rattle.run_reference.proofs.run_model_lemmas.PlayedLaws.{Grown, played-nil}
 use Rattle.run_reference.specs.Given.{offers_by, gates_by}
 use Rattle.run_reference.proofs.StepLemmas.{offer-here}
 use Rattle.run_checks.proofs.Growing.{turned}

@@ -5,7 +5,7 @@ use Rattle.chan_monitor.specs.net_design.declared.design.Design.{Design}
 use Rattle.chan_monitor.specs.net_design.declared.values.Values.{Values}
 use Rattle.run_reference.specs.run_model.Laws.{GatesOf}
 use Rattle.run_reference.specs.run_model.Run.{IsRunRow}
-use Rattle.run_reference.proofs.run_model.PlayedLaws.{Grown}
+use Rattle.run_reference.proofs.run_model_lemmas.PlayedLaws.{Grown}
 use Rattle.run_reference.specs.Given.{offers_by, gates_by}
 use Rattle.run_checks.proofs.play.play_shell.Given as goal
 

@@ -4,8 +4,8 @@ use Rattle.replay_command.specs.vidi_bench.Ended.{EndsWith}
 use Rattle.replay_command.specs.Replays.{RefusedTrace}
 use Rattle.sample_command.specs.Samples.{SamplesReplay}
 use Rattle.replay_command.specs.vidi_bench.Steps.{Never}
-use Rattle.replay_command.proofs.vidi_bench.Chain.{answered-as}
-use Rattle.replay_command.proofs.vidi_bench.Wired.{never-wired, wired-then}
+use Rattle.replay_command.proofs.vidi_bench_lemmas.Chain.{answered-as}
+use Rattle.replay_command.proofs.vidi_bench_lemmas.Wired.{never-wired, wired-then}
 use Rattle.sample_command.proofs.sampling.replayed_texts.Goals as goal
 
 pub returns-in_err-device : goal.returns-in_err-device

@@ -2,7 +2,7 @@ use Rattle.std.proofs.Common.{inl, inr}
 use Rattle.replay_command.specs.vidi_bench.Ended.{EndsWith}
 use Rattle.sample_command.specs.Sampled.{trace_on, HasTrace}
 use Rattle.sample_command.specs.Samples.{figures, IsTraced, IsUntraced, SamplesFiles, SamplesReplay}
-use Rattle.replay_command.proofs.vidi_bench.Chain.{all-answered, answered-as}
+use Rattle.replay_command.proofs.vidi_bench_lemmas.Chain.{all-answered, answered-as}
 use Rattle.sample_command.proofs.Sampled.{some-at, some-there}
 use Rattle.sample_command.proofs.sampling.sampled.Goals as goal
 

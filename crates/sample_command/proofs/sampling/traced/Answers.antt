@@ -2,7 +2,7 @@ use Rattle.std.proofs.Common.{inl}
 use Rattle.replay_command.specs.run_commands.Records.{course_of, RefusedPlanned}
 use Rattle.sample_command.specs.Sampled.{IsUnstable}
 use Rattle.sample_command.specs.Samples.{IsUntraced}
-use Rattle.replay_command.proofs.vidi_bench.Chain.{all-as, passed-as}
+use Rattle.replay_command.proofs.vidi_bench_lemmas.Chain.{all-as, passed-as}
 use Rattle.sample_command.proofs.Sampled.{traced-all, unstable-texts}
 use Rattle.sample_command.proofs.sampling.traced.Goals as goal
 

@@ -1,5 +1,5 @@
 use Rattle.std.proofs.Common.{◌<◌, ◌^◌, subst, sym, ◌∙◌}
-use Rattle.replay_run.proofs.run_model.Contents.{mask-below, mask-more}
+use Rattle.replay_run.proofs.run_model_lemmas.Contents.{mask-below, mask-more}
 use Rattle.shim_cosim.specs.Recorded.{is_chosen}
 use Rattle.shim_cosim.proofs.Entering.{chosen-is}
 use Rattle.shim_cosim.proofs.recorded.chosen.Goals as goal

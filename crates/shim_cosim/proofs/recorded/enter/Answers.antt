@@ -1,7 +1,7 @@
 use Rattle.std.proofs.Common.{◌∙◌, arith}
-use Rattle.replay_run.proofs.trace_model.RowLemmas.{room-left, rest-more}
+use Rattle.replay_run.proofs.trace_model_lemmas.RowLemmas.{room-left, rest-more}
 use Rattle.replay_run.specs.chan_monitor.Entering.{offered}
-use Rattle.replay_run.proofs.chan_monitor.Writing.{split-is}
+use Rattle.replay_run.proofs.chan_monitor_lemmas.Writing.{split-is}
 use Rattle.shim_cosim.specs.Recorded.{input_count}
 use Rattle.shim_cosim.proofs.Entering.{counted-within, enter-more}
 use Rattle.shim_cosim.proofs.recorded.enter.Goals as goal

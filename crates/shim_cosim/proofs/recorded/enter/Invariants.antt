@@ -1,5 +1,5 @@
 use Rattle.std.proofs.Common.{◌≡◌, drop}
-use Rattle.replay_run.proofs.trace_model.RowLemmas.{first_of}
+use Rattle.replay_run.proofs.trace_model_lemmas.RowLemmas.{first_of}
 use Rattle.replay_run.specs.chan_monitor.Entering.{offered}
 use Rattle.shim_cosim.proofs.Entering.{AreEntered}
 use Rattle.shim_cosim.proofs.recorded.enter.Given as goal

@@ -1,8 +1,8 @@
 use Rattle.std.proofs.Common.{arith, refl}
 use Rattle.net_sim.specs.net_design.Pins.{outputs}
 use Rattle.replay_run.specs.trace_model.Row.{all_widths}
-use Rattle.replay_run.proofs.trace_model.ContentsLemmas.{fit-length}
-use Rattle.replay_run.proofs.trace_model.RowLemmas.{first-within}
+use Rattle.replay_run.proofs.trace_model_lemmas.ContentsLemmas.{fit-length}
+use Rattle.replay_run.proofs.trace_model_lemmas.RowLemmas.{first-within}
 use Rattle.shim_cosim.proofs.Entering.{count-most, fill-more}
 use Rattle.shim_cosim.proofs.recorded.fill.Goals as goal
 

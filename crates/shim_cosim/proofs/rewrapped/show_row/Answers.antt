@@ -1,7 +1,7 @@
 use Rattle.std.proofs.Common.{◌<◌, ◌^◌, List, ap, length, subst, sym}
 use Rattle.replay_run.specs.trace_model.declared.channel.Channel.{Channel}
 use Rattle.replay_run.specs.trace_model.declared.row.Row.{Row}
-use Rattle.replay_run.proofs.run_model.Contents.{mask-below}
+use Rattle.replay_run.proofs.run_model_lemmas.Contents.{mask-below}
 use Rattle.shim_cosim.specs.declared.shown_row.Signal.TheVariants.{Valid}
 use Rattle.shim_cosim.specs.Rewrapped.{is_raised}
 use Rattle.shim_cosim.proofs.ShownRow.{flight_is}

@@ -1,6 +1,6 @@
 use Rattle.std.proofs.Common.{◌+◌, ◌∙◌, ap, arith, drop, length, take}
 use Rattle.replay_run.specs.trace_model.Row.{all_widths}
-use Rattle.replay_run.proofs.trace_model.ContentsLemmas.{fit-length}
+use Rattle.replay_run.proofs.trace_model_lemmas.ContentsLemmas.{fit-length}
 use Rattle.shim_cosim.specs.Rewrapped.{filled}
 use Rattle.shim_cosim.proofs.ShownRow.{filled_more, room}
 use Rattle.shim_cosim.proofs.shown_row.fill_contents.Goals as goal

@@ -1,7 +1,7 @@
 use Rattle.std.proofs.Common.{◌∙◌, ap, length, refl}
 use Rattle.replay_run.specs.run_model.Building.{mask_of}
-use Rattle.replay_run.proofs.chan_monitor.RowOfCycle.{refill-is}
-use Rattle.replay_run.proofs.chan_replayer.Feeding.{all-gates}
+use Rattle.replay_run.proofs.chan_monitor_lemmas.RowOfCycle.{refill-is}
+use Rattle.replay_run.proofs.chan_replayer_lemmas.Feeding.{all-gates}
 use Rattle.shim_cosim.specs.declared.shown_row.Signal.TheVariants.{Valid}
 use Rattle.shim_cosim.specs.Rewrapped.{contents_of, is_raised}
 use Rattle.shim_cosim.proofs.ShownRow.{starts_are}

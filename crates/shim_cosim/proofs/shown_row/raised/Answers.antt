@@ -1,5 +1,5 @@
 use Rattle.std.proofs.Common.{◌<◌, ◌^◌, arith, subst, sym}
-use Rattle.replay_run.proofs.run_model.Contents.{mask-below}
+use Rattle.replay_run.proofs.run_model_lemmas.Contents.{mask-below}
 use Rattle.shim_cosim.proofs.ShownRow.{outputs_within}
 use Rattle.shim_cosim.proofs.shown_row.raised.Goals as goal
 

@@ -1,5 +1,5 @@
 use Rattle.std.proofs.Common.{◌<◌, length, arith}
-use Rattle.shim_runs.proofs.trace_model.ContentsLemmas.{fit-from_places}
+use Rattle.shim_runs.proofs.trace_model_lemmas.ContentsLemmas.{fit-from_places}
 use Rattle.shim_words.proofs.drawn.draw_contents.Goals as goal
 
 pub returns : goal.returns

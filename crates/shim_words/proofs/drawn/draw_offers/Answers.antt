@@ -1,5 +1,5 @@
 use Rattle.std.proofs.Common.{length, ap, ◌∙◌}
-use Rattle.shim_runs.proofs.chan_monitor.RowOfCycle.{refill-is}
+use Rattle.shim_runs.proofs.chan_monitor_lemmas.RowOfCycle.{refill-is}
 use Rattle.shim_words.proofs.DrawnLaws.{cleared}
 use Rattle.shim_words.proofs.drawn.draw_offers.Goals as goal
 

@@ -1,5 +1,5 @@
 use Rattle.std.proofs.Common.{◌≡◌, [], length, take, drop, cond, ap, ◌∙◌, arith}
-use Rattle.vec_clock.proofs.trace_model.ContentsLemmas.{content-there, rest-on}
+use Rattle.vec_clock.proofs.trace_model_lemmas.ContentsLemmas.{content-there, rest-on}
 use Rattle.vec_clock.specs.trace_model.Packet.{widths_under}
 use Rattle.trace_compare.proofs.content.content.Goals as goal
 

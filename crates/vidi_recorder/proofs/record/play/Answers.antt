@@ -1,7 +1,7 @@
 use Rattle.std.proofs.Common.{ℕ, ◌+◌, [], ◌∷◌, ◌++◌, refl, ap, sym, subst, ◌∙◌, arith}
 use Rattle.std.proofs.lemmas.List.{length_push}
 use Rattle.std.proofs.Math.Logic.{∥∥₁_map}
-use Rattle.vidi_io.proofs.vidi_bits.Results.{on_err}
+use Rattle.vidi_io.proofs.vidi_bits_lemmas.Results.{on_err}
 use Rattle.circular_buffer.specs.Buffer.{Buffer}
 use Rattle.chan_monitor.specs.net_design.declared.design.Design.{Design}
 use Rattle.chan_monitor.specs.Shell.{IsMapped, IsRunning}

@@ -1,6 +1,6 @@
 use Rattle.std.proofs.Common.{subst}
 use Rattle.std.proofs.lemmas.Result.{on_err_weaker}
-use Rattle.vidi_io.proofs.vidi_bits.Results.{on_err}
+use Rattle.vidi_io.proofs.vidi_bits_lemmas.Results.{on_err}
 use Rattle.trace_code.specs.Encoding.{end_mark}
 use Rattle.vidi_io.specs.Sink.{AppendsSome}
 use Rattle.vidi_recorder.proofs.Pushing.{some-back, some-front, told-whole, whole-front}

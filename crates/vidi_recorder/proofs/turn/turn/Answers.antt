@@ -1,13 +1,13 @@
 use Rattle.std.proofs.Common.{ℕ, ◌+◌, ◌<◌, ◌^◌, List, [], ◌∷◌, ◌++◌, Option, length, ap, sym, subst, ◌∙◌, arith}
 use Rattle.std.proofs.lemmas.List.{length-map}
-use Rattle.vidi_io.proofs.vidi_bits.Results.{on_err}
+use Rattle.vidi_io.proofs.vidi_bits_lemmas.Results.{on_err}
 use Rattle.circular_buffer.specs.Buffer.{Buffer}
 use Rattle.trace_code.specs.trace_model.declared.channel.Channel.{Channel}
 use Rattle.trace_code.specs.trace_model.declared.row.Row.{Row}
 use Rattle.trace_code.specs.trace_model.Channel.{content_bytes}
 use Rattle.trace_code.specs.trace_model.Recording.{has_event}
 use Rattle.trace_code.specs.trace_model.Row.{all_widths, row_before, IsOver}
-use Rattle.trace_code.proofs.trace_model.ContentsLemmas.{fit-length}
+use Rattle.trace_code.proofs.trace_model_lemmas.ContentsLemmas.{fit-length}
 use Rattle.trace_code.specs.trace_model.Stability.{IsLowestUnstable}
 use Rattle.chan_monitor.specs.net_design.declared.design.Design.{Design}
 use Rattle.chan_monitor.specs.net_design.declared.values.Values.{Values}

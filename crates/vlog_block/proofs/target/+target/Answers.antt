@@ -5,7 +5,7 @@ use Rattle.vlog_size.specs.vlog_tree.Tree.{MoreTargets}
 use Rattle.vlog_size.specs.vlog_tree.Plain.{plain_target, plain_targets}
 use Rattle.net_code.specs.net_design.Updates as places
 use Rattle.net_code.specs.net_design.Bits as bits
-use Rattle.net_code.proofs.net_design.UpdateLaws.{from_here}
+use Rattle.net_code.proofs.net_design_lemmas.UpdateLaws.{from_here}
 use Rattle.vlog_block.specs.Sources.{names_of}
 use Rattle.vlog_block.specs.Fit.{AreFitTargets}
 use Rattle.vlog_block.specs.Targets.{targets_width, targets_updates}

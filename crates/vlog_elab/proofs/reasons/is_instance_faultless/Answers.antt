@@ -1,5 +1,5 @@
-use Rattle.vlog_hierarchy.proofs.vidi_bits.FindingLaws.{none_map}
-use Rattle.vlog_hierarchy.proofs.vidi_bits.Lists.{none_mapped}
+use Rattle.vlog_hierarchy.proofs.vidi_bits_lemmas.FindingLaws.{none_map}
+use Rattle.vlog_hierarchy.proofs.vidi_bits_lemmas.Lists.{none_mapped}
 use Rattle.vlog_scope.specs.Faults.{const_faults, width_faults}
 use Rattle.vlog_elab.specs.Errors.{of_size}
 use Rattle.vlog_elab.specs.Plain.{plain_instance}

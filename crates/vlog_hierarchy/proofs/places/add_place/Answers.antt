@@ -1,5 +1,5 @@
 use Rattle.std.proofs.Common.{sym, ◌∙◌}
-use Rattle.vlog_size.proofs.vidi_bits.Lists.{no_some}
+use Rattle.vlog_size.proofs.vidi_bits_lemmas.Lists.{no_some}
 use Rattle.vlog_hierarchy.proofs.PlaceLaws.{grown}
 use Rattle.vlog_hierarchy.proofs.places.add_place.Goals as goal
 

@@ -1,5 +1,5 @@
 use Rattle.std.proofs.Common.{◌∙◌, ap}
-use Rattle.vlog_tree.proofs.vidi_bits.Bools.{left_of, right_of}
+use Rattle.vlog_tree.proofs.vidi_bits_lemmas.Bools.{left_of, right_of}
 use Rattle.vlog_size.specs.Operators.{kind_of}
 use Rattle.vlog_size.specs.Size.{of_binary}
 use Rattle.vlog_size.specs.Facts.{operated_width}

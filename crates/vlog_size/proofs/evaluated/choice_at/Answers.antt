@@ -1,5 +1,5 @@
 use Rattle.std.proofs.Common.{◌&&◌}
-use Rattle.vlog_tree.proofs.vidi_bits.Bools.{left_of, right_of}
+use Rattle.vlog_tree.proofs.vidi_bits_lemmas.Bools.{left_of, right_of}
 use Rattle.vlog_size.specs.Size.{of_choice}
 use Rattle.vlog_size.proofs.Reaches.{choice_same}
 use Rattle.vlog_size.proofs.evaluated.choice_at.Goals as goal

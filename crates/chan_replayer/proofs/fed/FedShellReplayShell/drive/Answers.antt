@@ -1,6 +1,6 @@
 use Rattle.std.proofs.Common.{◌-◌, ◌/◌, ◌^◌, ◌<◌, ◌∙◌, length, subst, sym}
 use Rattle.vec_clock.specs.trace_model.Row.{all_widths, row_before}
-use Rattle.vec_clock.proofs.trace_model.ContentsLemmas.{fit-length}
+use Rattle.vec_clock.proofs.trace_model_lemmas.ContentsLemmas.{fit-length}
 use Rattle.chan_monitor.specs.chan_map.declared.pins.Map.{Map}
 use Rattle.chan_replayer.proofs.Feeding.{all-gates, gates-below, over, running-shown, shown}
 use Rattle.chan_replayer.proofs.fed.FedShellReplayShell.drive.Goals as goal

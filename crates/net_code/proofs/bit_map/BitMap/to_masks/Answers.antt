@@ -4,7 +4,7 @@ use Rattle.std.specs.BTreeMap.{keys}
 use Rattle.std.specs.Map.Iter.{deref_pair}
 use Rattle.std.proofs.lemmas.Map.Iter.{rest_all}
 use Rattle.std.proofs.lemmas.Map.Keys.{IsDistinct-from_sorted}
-use Rattle.net_design.proofs.vidi_bits.Bools.{or_none}
+use Rattle.net_design.proofs.vidi_bits_lemmas.Bools.{or_none}
 use Rattle.net_design.specs.Bits.{named}
 use Rattle.net_code.proofs.MaskLaws.{named_entries, map_named}
 use Rattle.net_code.proofs.bit_map.BitMap.to_masks.Goals as goal

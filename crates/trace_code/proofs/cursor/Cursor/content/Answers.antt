@@ -4,7 +4,7 @@ use Rattle.vec_clock.specs.trace_model.declared.event.Kind.TheVariants.{Start}
 use Rattle.vec_clock.specs.trace_model.Channel.{byte_count}
 use Rattle.vec_clock.specs.trace_model.Length.{mask_len}
 use Rattle.vec_clock.specs.trace_model.Packet.{count, does}
-use Rattle.vec_clock.proofs.trace_model.CountingLemmas.{nth-below}
+use Rattle.vec_clock.proofs.trace_model_lemmas.CountingLemmas.{nth-below}
 use Rattle.trace_code.specs.PacketReading.{high_value}
 use Rattle.trace_code.specs.Tallied.{tallied}
 use Rattle.trace_code.proofs.Content.{at-start, below-within, channel-of, content-is, port-there, small-widths}

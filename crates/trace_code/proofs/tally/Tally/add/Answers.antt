@@ -1,6 +1,6 @@
 use Rattle.std.proofs.Common.{◌≡◌, ◌+◌, ◌*◌, ap, ◌∙◌, arith, get_or, length, subst}
 use Rattle.std.specs.Int.{bit_at}
-use Rattle.vec_clock.proofs.trace_model.MaskLemmas.{has-from-bit}
+use Rattle.vec_clock.proofs.trace_model_lemmas.MaskLemmas.{has-from-bit}
 use Rattle.trace_code.specs.Tallied.{tallied}
 use Rattle.trace_code.proofs.Tallying.{once-more, some-ends, tallied-at}
 use Rattle.trace_code.proofs.tally.Tally.add.Goals as goal
