@@ -6,3 +6,4 @@ pub mod Copies
 pub mod Declared
 pub mod Lawful
 pub mod Faultless
+mod Passed

@@ -65,7 +65,7 @@ fn block_error(error: BlockError) -> ElabError
 }
 
 /// Adds the driver of an `always @*`.
-#[tactic(auto, using(crate::proofs::Told::block_first, flat_parts::vidi_bits::proofs::FindingLaws::none_map))]
+#[tactic(auto, using(crate::proofs::Told::block_first, crate::proofs::Passed::none_map))]
 fn add_settling(
     alloc: Global,
     site: &Site<'_>,

@@ -1,1 +1,2 @@
 mod PinLaws
+mod Passed

@@ -119,7 +119,7 @@ pub(crate) fn order_of(alloc: Global, design: &Design) -> Result<Order, Ended>
     }
 }
 
-#[tactic(auto, using(net_sim::net_design::proofs::LawfulCode::driver_sized))]
+#[tactic(auto, using(crate::proofs::Passed::driver_sized))]
 fn run_driver(
     alloc: Global,
     design: &Design,

@@ -2,6 +2,7 @@ pub mod Added
 pub mod Firsts
 pub mod Places
 pub mod Same
+mod Passed
 pub use Rattle.vlog_hierarchy.proofs.vidi_bits_lemmas as vidi_bits_lemmas
 pub use Rattle.vlog_hierarchy.proofs as vlog_hierarchy_lemmas
 pub use Rattle.vlog_kinds.proofs.vlog_names_lemmas as vlog_names_lemmas

@@ -64,7 +64,7 @@ fn instances_in<'a>(
 }
 
 /// The instances of a file, of which `table` has the modules, and its top.
-#[tactic(auto, unfolding(crate::specs::Instances::instances, vlog_kinds::vlog_names::specs::Entries::modules_of))]
+#[tactic(auto, unfolding(crate::specs::Instances::instances, crate::specs::Instances::modules_of))]
 pub fn all_instances<'a>(
     alloc: Global,
     table: &ModuleTable,

@@ -81,7 +81,7 @@ pub fn clock_inputs<'a>(
 }
 
 /// E13, where the top has these input ports of one bit.
-#[tactic(auto, using(crate::proofs::Firsts::hierarchy_first, vlog_hierarchy::vidi_bits::proofs::FindingLaws::none_map))]
+#[tactic(auto, using(crate::proofs::Firsts::hierarchy_first, crate::proofs::Passed::none_map))]
 fn clock_checked(alloc: Global, file: &File, top: &[u8], inputs: &[&Name]) -> Result<(), ElabError>
     ensures { Judged elab_told result (clock_faults_of (plain file.now) top.now (plain_path inputs.now)) }
 {

@@ -29,7 +29,7 @@ use vlog_scope::{const_fault, is_faultless, width_fault, words_of};
 const MOST_WORDS: usize = 1_048_576;
 
 /// E3, then E4.
-#[tactic(auto, unfolding(crate::specs::Reasons::name_findings), using(crate::proofs::Firsts::name_first, vlog_hierarchy::vidi_bits::proofs::FindingLaws::none_map))]
+#[tactic(auto, unfolding(crate::specs::Reasons::name_findings), using(crate::proofs::Firsts::name_first, crate::proofs::Passed::none_map))]
 fn named(alloc: Global, file: &File, top: &[u8]) -> Result<ModuleTable, ElabError>
     ensures told { Judged elab_told result (reasons.name_findings (plain file.now) top.now) }
     ensures modules { IfOk result (λ t. t ≡ modules_of (plain file.now)) }
@@ -38,7 +38,7 @@ fn named(alloc: Global, file: &File, top: &[u8]) -> Result<ModuleTable, ElabErro
 }
 
 /// E7.
-#[tactic(auto, unfolding(crate::specs::Reasons::kind_findings), using(crate::proofs::Firsts::kind_first, vlog_hierarchy::vidi_bits::proofs::FindingLaws::none_map))]
+#[tactic(auto, unfolding(crate::specs::Reasons::kind_findings), using(crate::proofs::Firsts::kind_first, crate::proofs::Passed::none_map))]
 fn of_right_kinds(modules: &ModuleTable, file: &File) -> Result<(), ElabError>
     requires { modules.now ≡ modules_of (plain file.now) }
     ensures { Judged elab_told result (reasons.kind_findings (plain file.now)) }
@@ -82,7 +82,7 @@ fn not_nested(alloc: Global, file: &File, top: &[u8]) -> Result<(), ElabError>
 }
 
 /// The instances that E12 counts, where there aren't too many instances or nets.
-#[tactic(auto, using(crate::proofs::Firsts::hierarchy_first, vlog_hierarchy::vidi_bits::proofs::FindingLaws::none_map))]
+#[tactic(auto, using(crate::proofs::Firsts::hierarchy_first, crate::proofs::Passed::none_map))]
 fn counted_nodes<'a>(alloc: Global, file: &'a File, top: &[u8]) -> Result<Nodes<'a>, ElabError>
     ensures told { Judged elab_told result (reasons.node_findings (outlines_of (plain file.now).modules)
         (nodes_of (outlines_of (plain file.now).modules) (place_of (plain file.now).modules top.now))) }
@@ -119,7 +119,7 @@ fn counted(alloc: Global, file: &File, top: &[u8]) -> Result<Numbers, ElabError>
 }
 
 /// E5 of an instance.
-#[tactic(auto, unfolding(crate::specs::Reasons::instance_consts), using(crate::proofs::Firsts::size_first, vlog_hierarchy::vidi_bits::proofs::FindingLaws::none_map))]
+#[tactic(auto, unfolding(crate::specs::Reasons::instance_consts), using(crate::proofs::Firsts::size_first, crate::proofs::Passed::none_map))]
 fn instance_consts(instance: &ModuleInstance<'_>) -> Result<(), ElabError>
     ensures { Judged elab_told result (reasons.instance_consts (plain_instance instance.now)) }
 {
@@ -127,7 +127,7 @@ fn instance_consts(instance: &ModuleInstance<'_>) -> Result<(), ElabError>
 }
 
 /// E6 of an instance.
-#[tactic(auto, unfolding(crate::specs::Reasons::instance_widths), using(crate::proofs::Firsts::size_first, vlog_hierarchy::vidi_bits::proofs::FindingLaws::none_map))]
+#[tactic(auto, unfolding(crate::specs::Reasons::instance_widths), using(crate::proofs::Firsts::size_first, crate::proofs::Passed::none_map))]
 fn instance_widths(instance: &ModuleInstance<'_>) -> Result<(), ElabError>
     ensures { Judged elab_told result (reasons.instance_widths (plain_instance instance.now)) }
 {
@@ -155,7 +155,7 @@ fn lawful_widths(list: &[ModuleInstance<'_>]) -> Result<(), ElabError>
 }
 
 /// Whether neither E5 nor E6 is found in the instance.
-#[tactic(auto, unfolding(crate::specs::Reasons::instance_consts, crate::specs::Reasons::instance_widths), using(vlog_hierarchy::vidi_bits::proofs::FindingLaws::none_map))]
+#[tactic(auto, unfolding(crate::specs::Reasons::instance_consts, crate::specs::Reasons::instance_widths), using(crate::proofs::Passed::none_map))]
 fn is_instance_faultless(instance: &ModuleInstance<'_>) -> bool
     ensures { IsTrue result ↔ ((reasons.instance_consts (plain_instance instance.now) ≡ [])
         × (reasons.instance_widths (plain_instance instance.now) ≡ [])) }

@@ -23,7 +23,7 @@ use vlog_item::vlog_lex::{Token, Tokens};
 use vlog_item::vlog_tree::File;
 
 /// The file of all the tokens, whose names and numbers aren't looked at.
-#[tactic(auto, using(vlog_item::vlog_expr::proofs::Maps::marked_length), unfolding(crate::specs::FileReader::file_of))]
+#[tactic(auto, using(crate::proofs::Passed::marked_length), unfolding(crate::specs::FileReader::file_of))]
 fn whole_file(alloc: Global, tokens: &[Token]) -> Result<File, Unread>
     ensures { Gives plain result (file_of (all_marked tokens.now)) }
 {

@@ -7,3 +7,4 @@ pub mod Sound
 pub mod LawfulParams
 pub mod LawfulPlaces
 pub mod EitherFaults
+mod Passed

@@ -19,7 +19,7 @@ use vlog_size::{
 };
 
 /// What may be read where the names of the first `declared` parameters of the scope stand before.
-#[tactic(auto, using(vlog_size::vidi_bits::proofs::Lists::take_whole))]
+#[tactic(auto, using(crate::proofs::Passed::take_whole))]
 pub fn view_at(scope: &Scope, declared: usize) -> View<'_>
     ensures { readable_in result ≡ scopes.readable_at scope.now declared }
 {

@@ -17,5 +17,6 @@ pub mod Sized
 pub mod Tables
 pub mod Totals
 pub mod WidthExamples
+mod Passed
 pub use Rattle.vlog_tree.proofs.vidi_bits_lemmas as vidi_bits_lemmas
 pub use Rattle.vlog_tree.proofs.vlog_lex_lemmas as vlog_lex_lemmas

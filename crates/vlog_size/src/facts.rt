@@ -506,7 +506,7 @@ pub fn no_parts() -> Parts
 }
 
 /// The parts with one more.
-#[tactic(auto, using(crate::proofs::Firsts::first_append, crate::proofs::Firsts::or_first_assoc, vlog_tree::vidi_bits::proofs::Bools::and_grouped))]
+#[tactic(auto, using(crate::proofs::Firsts::first_append, crate::proofs::Firsts::or_first_assoc, crate::proofs::Passed::and_grouped))]
 pub fn with_part(parts: &Parts, part: &Facts) -> Parts
     ensures { (P : Sizes) (rest all : List Sizes) → ShowsRest parts.now (P ∷ rest) all → Shows part.now P → ShowsRest result rest all }
 {

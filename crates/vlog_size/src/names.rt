@@ -92,7 +92,7 @@ pub fn checked<'a>(view: &View<'a>) -> View<'a>
 }
 
 /// The names of a scope, which aren't checked.
-#[tactic(auto, using(vlog_tree::vidi_bits::proofs::Lists::take_whole))]
+#[tactic(auto, using(crate::proofs::Passed::take_whole))]
 pub fn whole_view(scope: &Scope) -> View<'_>
     ensures { readable_in result ≡ readable_of scope.now }
 {
@@ -106,7 +106,7 @@ pub fn whole_view(scope: &Scope) -> View<'_>
 }
 
 /// The names of parameters alone, which aren't checked.
-#[tactic(auto, using(vlog_tree::vidi_bits::proofs::Lists::take_whole))]
+#[tactic(auto, using(crate::proofs::Passed::take_whole))]
 pub fn params_view(params: &Params) -> View<'_>
     ensures { readable_in result ≡ params_alone params.now }
 {

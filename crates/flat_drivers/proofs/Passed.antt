@@ -1,0 +1,2 @@
+-- Lemmas of crates below that functions of this crate name for their goals.
+pub use Rattle.flat_parts.proofs.vidi_bits_lemmas.FindingLaws.{none_map}
