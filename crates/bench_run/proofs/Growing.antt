@@ -11,8 +11,8 @@ use Rattle.env_script.specs.trace_model.declared.row.Row.{Row}
 use Rattle.env_script.specs.trace_model.Row.{row_before, IsOver}
 use Rattle.env_script.specs.trace_model.Stability.{IsUnstable, IsUnstableAt}
 use Rattle.env_script.proofs.trace_model_lemmas.CountingLemmas.{slice_get-append_left, slice_get-last, slice_get-push}
-use Rattle.chan_monitor.specs.net_design.declared.design.Design.{Design}
-use Rattle.chan_monitor.specs.net_design.declared.values.Values.{Values}
+use Rattle.net_design.specs.declared.design.Design.{Design}
+use Rattle.net_design.specs.declared.values.Values.{Values}
 use Rattle.chan_monitor.specs.chan_map.declared.pins.Map.{Map}
 use Rattle.chan_monitor.specs.run_model.Offers.{Carries as RunCarries}
 use Rattle.chan_monitor.specs.run_model.Played.{all_up, AreStable}

@@ -11,7 +11,7 @@ use Rattle.chan_monitor.proofs.run_model_lemmas.Ends.{the-run}
 use Rattle.chan_monitor.proofs.run_model_lemmas.ReplayLaws.{all-up-below}
 use Rattle.chan_monitor.proofs.run_model_lemmas.RunLaws.{kept, one-of_length, run-keeps, GatesAreFixed, StayUp}
 use Rattle.chan_monitor.proofs.run_model_lemmas.Stops.{one-that_ends}
-use Rattle.chan_monitor.specs.net_design.declared.design.Design.{Design}
+use Rattle.net_design.specs.declared.design.Design.{Design}
 use Rattle.chan_monitor.specs.chan_map.declared.pins.Map.{Map}
 use Rattle.env_script.specs.script_text.Offer.{Offer}
 use Rattle.env_script.specs.Offered.{offers_after}

@@ -1,7 +1,7 @@
 -- What follows for plain runs.
 use Rattle.std.specs.Prelude.{◌≡◌, ℕ, List}
 use Rattle.env_script.specs.trace_model.declared.row.Row.{Row}
-use Rattle.chan_monitor.specs.net_design.declared.design.Design.{Design}
+use Rattle.net_design.specs.declared.design.Design.{Design}
 use Rattle.chan_monitor.specs.chan_map.declared.pins.Map.{Map}
 use Rattle.chan_monitor.specs.run_model.Laws.{ContentsStay, IsReady, OneOfLength}
 use Rattle.env_script.specs.script_text.Offer.{Offer}

@@ -2,7 +2,7 @@
 
 ghost use Rattle.std.specs.Prelude.{◌≡◌, Some};
 
-use chan_monitor::net_design::Block;
+use net_design::Block;
 
 /// A block that is borrowed, as a block.
 #[derive(Drop)]

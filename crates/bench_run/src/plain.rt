@@ -4,8 +4,8 @@ ghost use Rattle.std.specs.Prelude.{◌≡◌, ◌<◌, ◌≤◌, ◌-◌, ◌^
 ghost use Rattle.std.specs.Option.{option_copied};
 ghost use Rattle.env_script.specs.trace_model.declared.row.Row.{Row as OneRow};
 ghost use Rattle.env_script.specs.trace_model.Row.{all_widths, row_before, IsOver};
-ghost use Rattle.chan_monitor.specs.net_design.declared.design.Design.{Design};
-ghost use Rattle.chan_monitor.specs.net_design.declared.values.Values.{Values};
+ghost use Rattle.net_design.specs.declared.design.Design.{Design};
+ghost use Rattle.net_design.specs.declared.values.Values.{Values};
 ghost use Rattle.chan_monitor.specs.run_model.Building.{PortsAreNets};
 ghost use Rattle.chan_monitor.specs.run_model.MapOf.{IsMapOf};
 ghost use Rattle.chan_monitor.specs.run_model.Played.{all_up};
@@ -16,11 +16,11 @@ ghost use Rattle.env_script.specs.script_text.declared.script.TheConstants.{MOST
 
 use crate::lent::Lent;
 use chan_monitor::chan_map::Map;
-use chan_monitor::net_design::Block;
 use chan_monitor::vidi_bits::{Items, Memory};
 use chan_monitor::{Machines, Shell};
 use env_script::trace_model::{Channels, Offers, Row, Rows, unstable};
 use env_script::{Env, gather, offers_over};
+use net_design::Block;
 use std::alloc::Global;
 
 /// A channel in a cycle.

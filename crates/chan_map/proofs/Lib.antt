@@ -10,6 +10,5 @@ pub mod Covered
 pub mod Bounds
 pub mod OneText
 pub mod OneBinding
-pub use Rattle.net_design.proofs as net_design_lemmas
 pub use Rattle.trace_model.proofs as trace_model_lemmas
 pub use Rattle.vidi_lines.proofs.vidi_bits_lemmas as vidi_bits_lemmas

@@ -11,7 +11,6 @@ pub mod Parts
 pub mod Places
 pub mod Told
 pub mod Laws
-pub use Rattle.net_design.specs as net_design
 pub use Rattle.trace_model.specs as trace_model
 pub use Rattle.vidi_lines.specs.vidi_bits as vidi_bits
 pub use Rattle.vidi_lines.specs as vidi_lines

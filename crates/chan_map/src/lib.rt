@@ -24,7 +24,6 @@ pub use binding::bind_map;
 pub use error::{MapError, MapLimit};
 pub use laws::{have_widths, lawful_ports_have_widths, one_binding, one_map_text};
 pub use map_text::{ChannelLine, Entry, MapLine, MapLines};
-pub use net_design;
 pub use pins::{Map, Pin, Pins, Plug, Plugs, Reset, Tie, Ties};
 pub use reading::read_map;
 pub use text::MapText;

@@ -20,12 +20,12 @@ use Rattle.run_model.specs.trace_model.declared.row.Offers.{Offers}
 use Rattle.run_model.specs.trace_model.declared.row.Row.{Row}
 use Rattle.run_model.specs.trace_model.Row.{content_at, sink_valid, AreOffers}
 use Rattle.run_model.proofs.trace_model_lemmas.CountingLemmas.{count-cons, nth-below}
-use Rattle.run_model.specs.net_design.declared.design.Port.{Port}
-use Rattle.run_model.specs.net_design.declared.design.Direction.{Direction}
-use Rattle.run_model.specs.net_design.declared.design.Direction.TheVariants.{Input, Output}
-use Rattle.run_model.specs.net_design.declared.design.Design.{Design}
-use Rattle.run_model.specs.net_design.Pins.{input_limits, output_count}
-use Rattle.run_model.specs.net_design.Settled.{same_direction}
+use Rattle.net_design.specs.declared.design.Port.{Port}
+use Rattle.net_design.specs.declared.design.Direction.{Direction}
+use Rattle.net_design.specs.declared.design.Direction.TheVariants.{Input, Output}
+use Rattle.net_design.specs.declared.design.Design.{Design}
+use Rattle.net_design.specs.Pins.{input_limits, output_count}
+use Rattle.net_design.specs.Settled.{same_direction}
 use Rattle.run_model.specs.chan_map.declared.pins.Map.{Map}
 use Rattle.run_model.specs.chan_map.declared.pins.Pin.{Pin}
 use Rattle.run_model.specs.chan_map.declared.pins.Plug.{Plug}

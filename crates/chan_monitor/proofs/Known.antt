@@ -5,7 +5,7 @@ use Rattle.std.proofs.Math.Logic.{∥∥₁_elim, ∥∥₁_map}
 use Rattle.std.proofs.Props.{props}
 use Rattle.std.specs.List.{refill, AllZip, AllByRecursion}
 use Rattle.std.specs.Option.{IfSome}
-use Rattle.run_model.proofs.net_design_lemmas.OneProof.{one_prop}
+use Rattle.net_design.proofs.OneProof.{one_prop}
 use Rattle.run_model.specs.vidi_bits.Number.{has}
 use Rattle.run_model.specs.trace_model.declared.channel.Channel.{Channel}
 use Rattle.run_model.specs.trace_model.declared.row.Row.{Row}
@@ -13,13 +13,13 @@ use Rattle.run_model.specs.trace_model.Channel.{IsTable, IsChannel, IsName}
 use Rattle.run_model.specs.trace_model.Counting.{IsNth}
 use Rattle.run_model.specs.trace_model.Row.{is_in_flight}
 use Rattle.run_model.proofs.trace_model_lemmas.CountingLemmas.{nth, nth-below, nth-unique}
-use Rattle.run_model.specs.net_design.declared.design.Port.{Port}
-use Rattle.run_model.specs.net_design.declared.design.Direction.{Direction}
-use Rattle.run_model.specs.net_design.declared.design.Direction.TheVariants.{Input}
-use Rattle.run_model.specs.net_design.declared.design.Design.{Design}
-use Rattle.run_model.specs.net_design.declared.values.Values.{Values}
-use Rattle.run_model.specs.net_design.Pins.{HasOneMap}
-use Rattle.run_model.specs.net_design.Settled.{same_direction}
+use Rattle.net_design.specs.declared.design.Port.{Port}
+use Rattle.net_design.specs.declared.design.Direction.{Direction}
+use Rattle.net_design.specs.declared.design.Direction.TheVariants.{Input}
+use Rattle.net_design.specs.declared.design.Design.{Design}
+use Rattle.net_design.specs.declared.values.Values.{Values}
+use Rattle.net_design.specs.Pins.{HasOneMap}
+use Rattle.net_design.specs.Settled.{same_direction}
 use Rattle.run_model.specs.chan_map.declared.pins.Map.{Map}
 use Rattle.run_model.specs.chan_map.declared.pins.Pin.{Pin}
 use Rattle.run_model.specs.chan_map.declared.pins.Plug.{Plug}

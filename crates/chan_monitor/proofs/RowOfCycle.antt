@@ -11,10 +11,10 @@ use Rattle.run_model.specs.trace_model.declared.channel.Dir.TheVariants.{Inward,
 use Rattle.run_model.specs.trace_model.declared.row.Offers.{Offers}
 use Rattle.run_model.specs.trace_model.declared.row.Row.{Row}
 use Rattle.run_model.specs.trace_model.Row.{flies_after, AreOffers}
-use Rattle.run_model.specs.net_design.declared.design.Design.{Design}
-use Rattle.run_model.specs.net_design.declared.values.Values.{Values}
-use Rattle.run_model.specs.net_design.Pins.{outputs}
-use Rattle.run_model.specs.net_design.Settled.{IsSettled, initial, next}
+use Rattle.net_design.specs.declared.design.Design.{Design}
+use Rattle.net_design.specs.declared.values.Values.{Values}
+use Rattle.net_design.specs.Pins.{outputs}
+use Rattle.net_design.specs.Settled.{IsSettled, initial, next}
 use Rattle.run_model.specs.chan_map.declared.pins.Map.{Map}
 use Rattle.run_model.specs.chan_map.declared.pins.Reset.{Reset}
 use Rattle.run_model.specs.Building.{content_here, ends_of, joined, mask_of, ready_at, row_of, starts_of, valid_at}

@@ -2,10 +2,10 @@
 use Rattle.std.specs.Prelude.{◌≡◌, ℕ, ◌<◌, ◌∷◌, Bool, false, List, Option, Some, All, length, slice_index, slice_index_or}
 use Rattle.run_model.specs.trace_model.declared.row.Row.{Row}
 use Rattle.run_model.specs.trace_model.Row.{flies_after}
-use Rattle.run_model.specs.net_design.declared.design.Design.{Design}
-use Rattle.run_model.specs.net_design.declared.values.Values.{Values}
-use Rattle.run_model.specs.net_design.Pins.{input_limits, outputs}
-use Rattle.run_model.specs.net_design.Settled.{IsSettled}
+use Rattle.net_design.specs.declared.design.Design.{Design}
+use Rattle.net_design.specs.declared.values.Values.{Values}
+use Rattle.net_design.specs.Pins.{input_limits, outputs}
+use Rattle.net_design.specs.Settled.{IsSettled}
 use Rattle.run_model.specs.chan_map.declared.pins.Map.{Map}
 use Rattle.run_model.specs.declared.pins.PinNumber.{PinNumber}
 use Rattle.run_model.specs.Pins.{pin_number, ArePins}

@@ -4,10 +4,10 @@ use Rattle.run_model.specs.trace_model.declared.channel.Channel.{Channel}
 use Rattle.run_model.specs.trace_model.declared.row.Offers.{Offers}
 use Rattle.run_model.specs.trace_model.declared.row.Row.{Row}
 use Rattle.run_model.specs.trace_model.Row.{all_widths, IsMarked, IsOver}
-use Rattle.run_model.specs.net_design.declared.design.Design.{Design}
-use Rattle.run_model.specs.net_design.declared.values.Values.{Values}
+use Rattle.net_design.specs.declared.design.Design.{Design}
+use Rattle.net_design.specs.declared.values.Values.{Values}
 use Rattle.run_model.specs.chan_map.declared.pins.Map.{Map}
-use Rattle.run_model.specs.net_design.Pins.{HasOneMap}
+use Rattle.net_design.specs.Pins.{HasOneMap}
 use Rattle.run_model.specs.Building.{PortsAreNets}
 use Rattle.run_model.specs.MapOf.{IsMapOf}
 use Rattle.run_model.specs.Offers.{Carries}

@@ -16,5 +16,5 @@ pub use machines::Machines;
 pub use monitor::{Monitor, Passed};
 pub use pins::reset_value;
 pub use run_model;
-pub use run_model::{chan_map, net_design, vidi_bits};
+pub use run_model::{chan_map, vidi_bits};
 pub use shell::Shell;

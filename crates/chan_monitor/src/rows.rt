@@ -5,15 +5,15 @@ ghost use Rattle.std.specs.Prelude.{length, slice_get, slice_index_or};
 ghost use Rattle.run_model.specs.Offers.{AreZeroWhileDown};
 ghost use Rattle.run_model.specs.vidi_bits.Number.{has};
 ghost use Rattle.run_model.specs.trace_model.Row.{all_widths, AreOffers, replaced};
-ghost use Rattle.run_model.specs.net_design.Pins.{output_count, outputs};
+ghost use Rattle.net_design.specs.Pins.{output_count, outputs};
 ghost use Rattle.run_model.specs.chan_map.declared.pins.Pin.{Pin as OnePin};
 ghost use Rattle.run_model.specs.Building.{at_plug, content_on, ends_of, joined, mask_of, ready_on, valid_on};
 ghost use Rattle.chan_monitor.specs.Passing.{stays};
 ghost use Rattle.chan_monitor.specs.Showing.{filled, read, IsPlugShown, ArePlugsShown};
 
 use crate::monitor::Monitor;
+use net_design::Block;
 use run_model::chan_map::{Pin, Plug};
-use run_model::net_design::Block;
 use run_model::trace_model::{Channel, Dir, Offers, names, with_bit};
 
 /// The masks of a row: the gates, and valid and ready on their own sides of them.

@@ -21,8 +21,8 @@ use Rattle.vec_clock.proofs.trace_model_lemmas.CountingLemmas.{count-push}
 use Rattle.vec_clock.proofs.trace_model_lemmas.ContentsLemmas.{fit_prop}
 use Rattle.vec_clock.proofs.trace_model_lemmas.RowLemmas.{before-last}
 use Rattle.vec_clock.proofs.trace_model_lemmas.MaskLemmas.{cond-has}
-use Rattle.chan_monitor.specs.net_design.declared.design.Design.{Design}
-use Rattle.chan_monitor.specs.net_design.declared.values.Values.{Values}
+use Rattle.net_design.specs.declared.design.Design.{Design}
+use Rattle.net_design.specs.declared.values.Values.{Values}
 use Rattle.chan_monitor.specs.chan_map.declared.pins.Map.{Map}
 use Rattle.chan_monitor.specs.Shell as shells
 use Rattle.chan_monitor.specs.run_model.Offers.{no_content, CarriesOn}

@@ -7,8 +7,8 @@ use Rattle.vec_clock.specs.trace_model.declared.channel.Dir.TheVariants.{Inward,
 use Rattle.vec_clock.specs.trace_model.declared.row.Offers.{Offers}
 use Rattle.vec_clock.specs.trace_model.declared.row.Row.{Row}
 use Rattle.vec_clock.specs.trace_model.Row.{content_at, row_before, AreOffers}
-use Rattle.chan_monitor.specs.net_design.declared.design.Design.{Design}
-use Rattle.chan_monitor.specs.net_design.declared.values.Values.{Values}
+use Rattle.net_design.specs.declared.design.Design.{Design}
+use Rattle.net_design.specs.declared.values.Values.{Values}
 use Rattle.chan_monitor.specs.run_model.Offers.{no_content, AreZeroWhileDown}
 use Rattle.chan_monitor.specs.run_model.Replay.{done}
 use Rattle.chan_replayer.specs.declared.feed.Feed.{Feed}

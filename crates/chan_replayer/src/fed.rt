@@ -3,8 +3,8 @@
 ghost use Rattle.std.specs.Prelude.{◌≡◌, ◌≤◌, ◌<◌, ℕ, [], None, IfOk, length, slice_index};
 ghost use Rattle.vec_clock.specs.trace_model.declared.row.Row.{Row as OneRow};
 ghost use Rattle.vec_clock.specs.trace_model.Row.{all_widths};
-ghost use Rattle.chan_monitor.specs.net_design.declared.design.Design.{Design};
-ghost use Rattle.chan_monitor.specs.net_design.declared.values.Values.{Values};
+ghost use Rattle.net_design.specs.declared.design.Design.{Design};
+ghost use Rattle.net_design.specs.declared.values.Values.{Values};
 ghost use Rattle.chan_replayer.specs.Fed.{IsFedAround, IsFresh};
 ghost use Rattle.chan_replayer.specs.Shell.{IsRunning};
 

@@ -14,7 +14,7 @@ mod replayer;
 mod shell;
 
 pub use chan_monitor;
-pub use chan_monitor::{chan_map, net_design, run_model};
+pub use chan_monitor::{chan_map, run_model};
 pub use fed::FedShell;
 pub use feed::{Feed, Needs};
 pub use laws::fed_rows_replay;

@@ -9,7 +9,7 @@ use crate::fed::FedShell;
 use crate::shell::ReplayShell;
 use chan_monitor::Machines;
 use chan_monitor::chan_map::Map;
-use chan_monitor::net_design::Block;
+use net_design::Block;
 use std::alloc::Global;
 use vec_clock::vidi_bits::Memory;
 

@@ -3,8 +3,8 @@
 ghost use Rattle.std.specs.Prelude.{◌≡◌, ◌+◌, ◌<◌, ℕ, [], List};
 ghost use Rattle.vec_clock.specs.trace_model.declared.row.Row.{Row};
 ghost use Rattle.vec_clock.specs.trace_model.Row.{IsOver};
-ghost use Rattle.chan_monitor.specs.net_design.declared.design.Design.{Design};
-ghost use Rattle.chan_monitor.specs.net_design.declared.values.Values.{Values};
+ghost use Rattle.net_design.specs.declared.design.Design.{Design};
+ghost use Rattle.net_design.specs.declared.values.Values.{Values};
 ghost use Rattle.chan_monitor.specs.chan_map.declared.pins.Map.{Map};
 ghost use Rattle.chan_monitor.specs.run_model.Step.{IsFirst};
 ghost use Rattle.chan_monitor.specs.Shell.{HasPlaces, IsMapped};

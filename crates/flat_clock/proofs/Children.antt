@@ -4,8 +4,8 @@ use Rattle.std.proofs.Common.{Option, None, Some, slice_get, option_map}
 use Rattle.std.specs.List.{Contains, flat_map}
 use Rattle.std.proofs.lemmas.Option.{slice_get-map}
 use Rattle.flat_laws.proofs.vidi_bits_lemmas.Lists.{none_in, head_in, tail_in, cases_in, in_flat, from_flat}
-use Rattle.flat_laws.specs.vlog_tree.Tree.{InstanceOf, ItemOf, WiresItem, DrivenWiresItem, RegsItem, LocalparamsItem, AssignItem, AlwaysItem}
-use Rattle.flat_laws.specs.vlog_tree.Tree.{InstanceItem, ModuleOf}
+use Rattle.vlog_tree.specs.Tree.{InstanceOf, ItemOf, WiresItem, DrivenWiresItem, RegsItem, LocalparamsItem, AssignItem, AlwaysItem}
+use Rattle.vlog_tree.specs.Tree.{InstanceItem, ModuleOf}
 use Rattle.flat_laws.specs.vlog_size.Table.{Named}
 use Rattle.flat_laws.specs.vlog_size.declared.scope.Param.{Param}
 use Rattle.flat_laws.specs.vlog_size.declared.scope.Scope.{Scope}

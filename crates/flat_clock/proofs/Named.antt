@@ -6,8 +6,8 @@ use Rattle.std.proofs.lemmas.List.{length-map}
 use Rattle.std.proofs.lemmas.Bool.{not-false}
 use Rattle.flat_laws.proofs.vidi_bits_lemmas.FindingLaws.{told_none}
 use Rattle.flat_laws.proofs.vidi_bits_lemmas.Lists.{none_in, cases_in, from_flat, nil_left, nil_right, none_mapped}
-use Rattle.flat_laws.specs.vlog_tree.Tree.{IdentOf, EventOf, PosedgeEvent, ImplicitEvent, AlwaysOf, InstanceOf, ItemOf, WiresItem, DrivenWiresItem}
-use Rattle.flat_laws.specs.vlog_tree.Tree.{RegsItem, LocalparamsItem, AssignItem, AlwaysItem, InstanceItem, ModuleOf, FileOf}
+use Rattle.vlog_tree.specs.Tree.{IdentOf, EventOf, PosedgeEvent, ImplicitEvent, AlwaysOf, InstanceOf, ItemOf, WiresItem, DrivenWiresItem}
+use Rattle.vlog_tree.specs.Tree.{RegsItem, LocalparamsItem, AssignItem, AlwaysItem, InstanceItem, ModuleOf, FileOf}
 use Rattle.flat_laws.specs.vlog_size.Table.{Named, value_of}
 use Rattle.flat_laws.specs.vlog_size.declared.scope.Scope.{Scope}
 use Rattle.flat_laws.specs.vlog_elab.Scope.{scope_with}

@@ -1,8 +1,8 @@
 -- The port of the clock.
 use Rattle.std.proofs.Common.{◌≡◌, ℕ, ◌↔◌, List, [], map, refl, sym, ap, ◌∙◌, Option, None, Some, slice_get}
-use Rattle.flat_laws.specs.vlog_tree.Tree.{PortOf, ModuleOf, FileOf}
+use Rattle.vlog_tree.specs.Tree.{PortOf, ModuleOf, FileOf}
 use Rattle.flat_laws.specs.vlog_elab.Scope.{scope_with}
-use Rattle.flat_laws.specs.net_design.declared.design.Port.{Port}
+use Rattle.net_design.specs.declared.design.Port.{Port}
 use Rattle.flat_laws.specs.vlog_elab.Instances.{ModuleInstance, instances}
 use Rattle.flat_laws.specs.vlog_elab.Clock.{clock_inputs}
 use Rattle.flat_laws.specs.vlog_elab.Reasons.{Clear}

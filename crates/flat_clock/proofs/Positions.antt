@@ -6,9 +6,9 @@ use Rattle.std.proofs.lemmas.Option.{slice_get-map, slice_get_read}
 use Rattle.std.specs.List.{position_from}
 use Rattle.std.specs.Str.{bytes_eq}
 use Rattle.std.proofs.lemmas.Iterator.Adapters.{position_from-zero}
-use Rattle.flat_laws.specs.vlog_tree.Tree.{PortOf}
-use Rattle.flat_laws.specs.vlog_tree.Plain.{plain_port}
-use Rattle.flat_laws.specs.vlog_tree.declared.module.Port.{Port}
+use Rattle.vlog_tree.specs.Tree.{PortOf}
+use Rattle.vlog_tree.specs.Plain.{plain_port}
+use Rattle.vlog_tree.specs.declared.module.Port.{Port}
 use Rattle.flat_laws.specs.vlog_hierarchy.Plain.{plain_path}
 use Rattle.flat_clock.specs.Clock.{name_at, port_named}
 

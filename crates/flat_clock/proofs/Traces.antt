@@ -3,7 +3,7 @@ use Rattle.std.proofs.Common.{◌≡◌, ℕ, zero, suc, ◌≤◌, ◌⊎◌, i
 use Rattle.std.proofs.Common.{arith, Option, Some, slice_get}
 use Rattle.std.specs.List.{Contains, flat_map}
 use Rattle.flat_laws.proofs.vidi_bits_lemmas.Lists.{none_in, head_in, tail_in, cases_in, in_flat, from_flat}
-use Rattle.flat_laws.specs.vlog_tree.Tree.{InstanceOf, InstanceItem, ModuleOf}
+use Rattle.vlog_tree.specs.Tree.{InstanceOf, InstanceItem, ModuleOf}
 use Rattle.flat_laws.specs.vlog_size.Table.{Named, value_of}
 use Rattle.flat_laws.specs.vlog_size.declared.scope.Scope.{Scope}
 use Rattle.flat_laws.specs.vlog_names.Entries.{module_entry}

@@ -2,7 +2,7 @@
 -- its place among the ports of the top.
 use Rattle.std.specs.Prelude.{◌≡◌, ℕ, ◌↔◌, List, [], ◌∷◌, position, Option, None, Some, slice_get}
 use Rattle.std.specs.Str.{bytes_eq}
-use Rattle.flat_laws.specs.vlog_tree.Tree.{PortOf, ModuleOf, FileOf}
+use Rattle.vlog_tree.specs.Tree.{PortOf, ModuleOf, FileOf}
 use Rattle.flat_laws.specs.vlog_hierarchy.Outlines.{place_of, outlines_of}
 use Rattle.flat_laws.specs.vlog_hierarchy.Clock.{scopes_of, clock_ports, first_port}
 use Rattle.flat_laws.specs.vlog_elab.Scope.{scope_with}

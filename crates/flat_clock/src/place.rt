@@ -2,8 +2,8 @@
 
 ghost use Rattle.std.specs.Prelude.{◌≡◌, ℕ, ◌↔◌, [], map, position, IfOk, Some};
 ghost use Rattle.std.specs.Str.{bytes_eq};
-ghost use Rattle.flat_laws.specs.vlog_tree.Tree.{ModuleOf};
-ghost use Rattle.flat_laws.specs.vlog_tree.Plain.{plain, plain_port};
+ghost use Rattle.vlog_tree.specs.Tree.{ModuleOf};
+ghost use Rattle.vlog_tree.specs.Plain.{plain, plain_port};
 ghost use Rattle.flat_laws.specs.vlog_hierarchy.Plain.{plain_path};
 ghost use Rattle.flat_laws.specs.vlog_elab.Scope.{scope_with};
 ghost use Rattle.flat_laws.specs.vlog_elab.Instances.{instances};
@@ -17,8 +17,8 @@ ghost use Rattle.flat_clock.specs.Clock.{name_at, port_named, place_in};
 use flat_laws::vidi_bits::{Memory, Name};
 use flat_laws::vlog_elab::{ModuleInstance, clock_inputs};
 use flat_laws::vlog_hierarchy::clock_port;
-use flat_laws::vlog_tree::{File, Port};
 use std::alloc::Global;
+use vlog_tree::{File, Port};
 
 /// The place of the first port of this name.
 fn port_named(ports: &[Port], name: &[u8]) -> Option<usize>

@@ -5,11 +5,11 @@ use Rattle.std.specs.List.{AllZip, count_by, flat_map, list_any}
 use Rattle.std.proofs.lemmas.List.Sums.{sum_by-append, sum_by-cons}
 use Rattle.flat_parts.specs.net_code.BitMap.{is_among}
 use Rattle.flat_parts.specs.vidi_bits.Findings.{told_if}
-use Rattle.flat_parts.specs.net_design.declared.act.Code.{Code}
-use Rattle.flat_parts.specs.net_design.declared.act.Place.{Place}
-use Rattle.flat_parts.specs.net_design.declared.act.Place.TheVariants.{Bits as PlaceBits, BitsFrom, Word as PlaceWord, WordFrom}
-use Rattle.flat_parts.specs.net_design.declared.design.Driver.{Driver}
-use Rattle.flat_parts.specs.net_design.Bits.{place_writes}
+use Rattle.net_design.specs.declared.act.Code.{Code}
+use Rattle.net_design.specs.declared.act.Place.{Place}
+use Rattle.net_design.specs.declared.act.Place.TheVariants.{Bits as PlaceBits, BitsFrom, Word as PlaceWord, WordFrom}
+use Rattle.net_design.specs.declared.design.Driver.{Driver}
+use Rattle.net_design.specs.Bits.{place_writes}
 use Rattle.flat_parts.specs.net_code.Targets.{block_targets, place_net, place_room, nets_named, rooms_named, bit_count}
 use Rattle.flat_parts.specs.net_drive.Drive.{driver_places, wire_places, always_names, block_names, block_count}
 use Rattle.flat_parts.specs.vlog_block.Naming.{always_names as of_block}

@@ -7,9 +7,9 @@ use Rattle.std.proofs.lemmas.Slice.Eq.{bytes_eq-Decides}
 use Rattle.std.proofs.lemmas.List.Folds.{list_any-append}
 use Rattle.flat_parts.proofs.vidi_bits_lemmas.Bools.{or_none}
 use Rattle.flat_parts.specs.vidi_bits.Findings.{told_if}
-use Rattle.flat_parts.specs.vlog_tree.Tree.{PortOf, PortHeadOf, ModuleOf}
-use Rattle.flat_parts.specs.vlog_tree.declared.module.Direction.{Direction}
-use Rattle.flat_parts.specs.vlog_tree.declared.module.Direction.TheVariants.{Input, Output}
+use Rattle.vlog_tree.specs.Tree.{PortOf, PortHeadOf, ModuleOf}
+use Rattle.vlog_tree.specs.declared.module.Direction.{Direction}
+use Rattle.vlog_tree.specs.declared.module.Direction.TheVariants.{Input, Output}
 use Rattle.flat_parts.specs.vlog_size.Table.{Named, value_of, added}
 use Rattle.flat_parts.specs.vlog_names.declared.declaration.Declaration.{Declaration}
 use Rattle.flat_parts.specs.vlog_names.Entries.{port_entries, port_as, no_port}

@@ -2,10 +2,10 @@
 use Rattle.std.proofs.Common.{◌≡◌, List, [], ◌∷◌, map, None, Some, refl, sym, ap, subst, ◌∙◌}
 use Rattle.std.proofs.lemmas.Option.{same_Some}
 use Rattle.flat_parts.specs.vidi_bits.Findings.{first}
-use Rattle.flat_parts.specs.net_design.declared.act.Code.{Code}
-use Rattle.flat_parts.specs.net_design.declared.design.Driver.{Driver}
-use Rattle.flat_parts.specs.net_design.declared.design.Net.{Net}
-use Rattle.flat_parts.specs.net_design.declared.design.DesignMemory.{DesignMemory}
+use Rattle.net_design.specs.declared.act.Code.{Code}
+use Rattle.net_design.specs.declared.design.Driver.{Driver}
+use Rattle.net_design.specs.declared.design.Net.{Net}
+use Rattle.net_design.specs.declared.design.DesignMemory.{DesignMemory}
 use Rattle.flat_parts.specs.net_drive.declared.findings.NetKind.{NetKind}
 use Rattle.flat_parts.specs.net_drive.declared.findings.Misdriven.{Misdriven}
 use Rattle.flat_parts.specs.net_drive.declared.findings.Misdriven.TheVariants as what

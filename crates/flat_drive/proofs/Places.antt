@@ -4,7 +4,7 @@ use Rattle.std.proofs.Common.{Some, None, refl, sym, ap, subst, ◌∙◌, arith
 use Rattle.std.specs.List.{flat_map}
 use Rattle.std.proofs.lemmas.List.{drop_all}
 use Rattle.std.proofs.lemmas.Option.{same_Some}
-use Rattle.flat_parts.proofs.net_design_lemmas.UpdateLaws.{from_here}
+use Rattle.net_design.proofs.UpdateLaws.{from_here}
 use Rattle.flat_parts.specs.vlog_elab.Instances.{ModuleInstance}
 use Rattle.flat_parts.specs.vlog_elab.declared.instance.ModuleInstance as code
 use Rattle.flat_parts.specs.vlog_elab.Plain.{plain_instance, plain_instances}

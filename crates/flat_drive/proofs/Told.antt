@@ -9,11 +9,11 @@ use Rattle.flat_parts.specs.vlog_size.declared.scope.ScopeNet.{ScopeNet}
 use Rattle.flat_parts.specs.vlog_size.declared.scope.ScopeMemory.{ScopeMemory}
 use Rattle.flat_parts.specs.vlog_size.Table.{Named}
 use Rattle.flat_parts.specs.vlog_elab.Scope.{words_of}
-use Rattle.flat_parts.specs.net_design.declared.act.Code.{Code}
-use Rattle.flat_parts.specs.net_design.declared.act.Place.{Place}
-use Rattle.flat_parts.specs.net_design.declared.design.Net.{Net}
-use Rattle.flat_parts.specs.net_design.declared.design.DesignMemory.{DesignMemory}
-use Rattle.flat_parts.specs.net_design.declared.design.Driver.{Driver}
+use Rattle.net_design.specs.declared.act.Code.{Code}
+use Rattle.net_design.specs.declared.act.Place.{Place}
+use Rattle.net_design.specs.declared.design.Net.{Net}
+use Rattle.net_design.specs.declared.design.DesignMemory.{DesignMemory}
+use Rattle.net_design.specs.declared.design.Driver.{Driver}
 use Rattle.flat_parts.specs.net_drive.declared.findings.NetKind.{NetKind}
 use Rattle.flat_parts.specs.net_drive.declared.findings.NetKind.TheVariants.{Pin, Wire, Reg}
 use Rattle.flat_parts.specs.net_drive.declared.findings.Misdriven.{Misdriven}

@@ -1,8 +1,8 @@
 -- What is found in the flat design is what is found in the instances.
 use Rattle.std.specs.Prelude.{◌≡◌, List}
 use Rattle.std.specs.List.{AllZip}
-use Rattle.flat_parts.specs.net_design.declared.act.Code.{Code}
-use Rattle.flat_parts.specs.net_design.declared.design.Driver.{Driver}
+use Rattle.net_design.specs.declared.act.Code.{Code}
+use Rattle.net_design.specs.declared.design.Driver.{Driver}
 use Rattle.flat_parts.specs.vlog_driver.Duties.{Does}
 use Rattle.flat_parts.specs.vlog_elab.Instances.{ModuleInstance}
 use Rattle.flat_parts.specs.Seats.{seats_of}

@@ -9,4 +9,3 @@ pub use Rattle.flat_parts.specs.vlog_elab as vlog_elab
 pub use Rattle.flat_parts.specs.vlog_hierarchy as vlog_hierarchy
 pub use Rattle.flat_parts.specs.vlog_names as vlog_names
 pub use Rattle.flat_parts.specs.vlog_size as vlog_size
-pub use Rattle.flat_parts.specs.vlog_tree as vlog_tree

@@ -1,7 +1,7 @@
 -- The kinds of nets, net by net, where a table has the names of the top's inputs.
 use Rattle.std.specs.Prelude.{◌≡◌, ℕ, ◌+◌, Bool, false, List, [], ◌∷◌, ◌++◌, map, slice_get, Option, None, Some, is_some}
 use Rattle.flat_parts.specs.vidi_bits.Findings.{told_if}
-use Rattle.flat_parts.specs.vlog_tree.Tree.{PortOf, ModuleOf}
+use Rattle.vlog_tree.specs.Tree.{PortOf, ModuleOf}
 use Rattle.flat_parts.specs.vlog_size.declared.scope.ScopeNet.{ScopeNet}
 use Rattle.flat_parts.specs.vlog_size.Table.{Named, value_of}
 use Rattle.flat_parts.specs.net_drive.declared.findings.NetKind.{NetKind}

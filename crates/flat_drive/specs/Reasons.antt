@@ -4,8 +4,8 @@ use Rattle.std.specs.List.{flat_map}
 use Rattle.flat_parts.specs.vlog_size.Table.{Named}
 use Rattle.flat_parts.specs.net_drive.declared.findings.Misdriven.{Misdriven}
 use Rattle.flat_parts.specs.net_drive.declared.findings.Misdriven.TheVariants as what
-use Rattle.flat_parts.specs.net_design.declared.act.Code.{Code}
-use Rattle.flat_parts.specs.net_design.declared.design.Driver.{Driver}
+use Rattle.net_design.specs.declared.act.Code.{Code}
+use Rattle.net_design.specs.declared.design.Driver.{Driver}
 use Rattle.flat_parts.specs.net_drive.Drive.{drive_faults}
 use Rattle.flat_parts.specs.vlog_elab.declared.error.ElabError.{ElabError}
 use Rattle.flat_parts.specs.vlog_elab.declared.error.ElabError.TheVariants as e

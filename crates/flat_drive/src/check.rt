@@ -16,10 +16,10 @@ ghost use Rattle.flat_drive.specs.Reasons.{drivers_told, error_of, flat_findings
 
 use crate::full_names::{memory_name, net_name};
 use crate::pins::kinds;
-use flat_parts::net_design::{Code, DesignMemory, Driver, Net};
 use flat_parts::net_drive::{Misdriven, misdriven};
 use flat_parts::vidi_bits::Memory;
 use flat_parts::vlog_elab::{ElabError, ModuleInstance};
+use net_design::{Code, DesignMemory, Driver, Net};
 use std::alloc::Global;
 
 /// A number of drivers in 32 bits.

@@ -10,6 +10,6 @@ mod laws;
 mod pins;
 
 pub use check::check_drive;
-pub use flat_parts::{vlog_elab, vlog_names, vlog_size, vlog_tree};
+pub use flat_parts::{vlog_elab, vlog_names, vlog_size};
 pub use laws::findings_are_the_files;
 pub use pins::kinds;

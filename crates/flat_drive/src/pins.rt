@@ -4,7 +4,7 @@ ghost use Rattle.std.specs.Prelude.{◌≡◌, ◌++◌, ◌||◌, true, map, If
 ghost use Rattle.std.specs.List.{list_any};
 ghost use Rattle.std.specs.Str.{bytes_eq};
 ghost use Rattle.flat_parts.specs.vidi_bits.Findings.{told_if};
-ghost use Rattle.flat_parts.specs.vlog_tree.Plain.{plain_port, plain_module};
+ghost use Rattle.vlog_tree.specs.Plain.{plain_port, plain_module};
 ghost use Rattle.flat_parts.specs.vlog_elab.Plain.{plain_instances};
 ghost use Rattle.flat_parts.specs.vlog_meaning.Names.{Name};
 ghost use Rattle.flat_parts.specs.Seats.{seats_of};
@@ -17,8 +17,8 @@ use flat_parts::vidi_bits::{Items, Memory, copied};
 use flat_parts::vlog_elab::ModuleInstance;
 use flat_parts::vlog_names::input_after;
 use flat_parts::vlog_size::{ScopeNets, Table};
-use flat_parts::vlog_tree::{Module, Port};
 use std::alloc::Global;
+use vlog_tree::{Module, Port};
 
 /// Adds the name of a port that is an input.
 fn add_input(

@@ -3,14 +3,14 @@ use Rattle.std.proofs.Common.{◌≡◌, ℕ, zero, suc, ◌+◌, ◌<◌, ◌�
 use Rattle.std.proofs.Common.{append_assoc, append-nil, Result, Ok, Err, OnOk, Some, slice_get}
 use Rattle.std.specs.List.{AllZip, AllByRecursion, flat_map}
 use Rattle.std.proofs.Math.ListN.{drop_of_length-le}
-use Rattle.flat_parts.specs.vlog_tree.Plain.{plain_item}
-use Rattle.flat_parts.specs.vlog_tree.declared.module.Item.{Item}
+use Rattle.vlog_tree.specs.Plain.{plain_item}
+use Rattle.vlog_tree.specs.declared.module.Item.{Item}
 use Rattle.flat_parts.specs.vlog_size.declared.scope.Param.{Param}
 use Rattle.flat_parts.specs.vlog_size.declared.scope.Scope.{Scope}
 use Rattle.flat_parts.specs.vlog_size.Table.{Named}
 use Rattle.flat_parts.specs.vlog_scope.Scope.{after_item}
-use Rattle.flat_parts.specs.net_design.declared.act.Code.{Code}
-use Rattle.flat_parts.proofs.net_design_lemmas.UpdateLaws.{from_here}
+use Rattle.net_design.specs.declared.act.Code.{Code}
+use Rattle.net_design.proofs.UpdateLaws.{from_here}
 use Rattle.flat_parts.specs.vlog_meaning.Names.{Full}
 use Rattle.flat_parts.specs.vlog_meaning.Placed.{Placed, placed}
 use Rattle.flat_parts.specs.Seats.{Seat}

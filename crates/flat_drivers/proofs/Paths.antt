@@ -9,7 +9,7 @@ use Rattle.std.proofs.lemmas.Bool.{false_from_ne_true}
 use Rattle.std.proofs.lemmas.Option.{slice_get_within, get_or_from_slice_get}
 use Rattle.flat_parts.specs.Instances.{HaveOwnPaths}
 use Rattle.flat_parts.proofs.vidi_bits_lemmas.Lists.{some_same}
-use Rattle.flat_parts.specs.vlog_tree.Tree.{InstanceOf}
+use Rattle.vlog_tree.specs.Tree.{InstanceOf}
 use Rattle.flat_parts.specs.vlog_scope.Scope.{words_of}
 use Rattle.flat_parts.specs.vlog_names.Entries.{Names, declared}
 use Rattle.flat_parts.specs.vlog_elab.Instances.{ModuleInstance}

@@ -6,11 +6,11 @@ use Rattle.std.specs.List.{flat_map, AllByRecursion}
 use Rattle.std.proofs.Math.ListN.{drop_of_length-le}
 use Rattle.std.proofs.lemmas.List.{length-map}
 use Rattle.std.proofs.lemmas.Option.{slice_get-map}
-use Rattle.flat_parts.specs.vlog_tree.Tree.{ItemOf, WiresItem, DrivenWiresItem, RegsItem, LocalparamsItem, AssignItem, AlwaysItem, InstanceItem}
+use Rattle.vlog_tree.specs.Tree.{ItemOf, WiresItem, DrivenWiresItem, RegsItem, LocalparamsItem, AssignItem, AlwaysItem, InstanceItem}
 use Rattle.std.specs.Borrow.{Bor}
 use Rattle.flat_parts.proofs.vidi_bits_lemmas.Lists.{some_same}
-use Rattle.flat_parts.specs.vlog_tree.declared.module.Item.{Item}
-use Rattle.flat_parts.specs.vlog_tree.Plain.{plain_item}
+use Rattle.vlog_tree.specs.declared.module.Item.{Item}
+use Rattle.vlog_tree.specs.Plain.{plain_item}
 use Rattle.flat_parts.specs.vlog_size.declared.scope.Scope.{Scope}
 use Rattle.flat_parts.specs.vlog_hierarchy.Plain.{plain_path}
 use Rattle.flat_parts.specs.vlog_elab.declared.instance.ModuleInstance as code

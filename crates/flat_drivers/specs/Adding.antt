@@ -1,9 +1,9 @@
 -- Drivers and clocked blocks that are added item by item.
 use Rattle.std.specs.Prelude.{ℕ, List, [], ◌∷◌, ◌++◌}
 use Rattle.std.specs.List.{AllZip, AllByRecursion}
-use Rattle.flat_parts.specs.vlog_tree.Tree.{ItemOf, AssignItem, AlwaysItem, InstanceItem}
+use Rattle.vlog_tree.specs.Tree.{ItemOf, AssignItem, AlwaysItem, InstanceItem}
 use Rattle.flat_parts.specs.vlog_size.declared.scope.Scope.{Scope}
-use Rattle.flat_parts.specs.net_design.declared.act.Code.{Code}
+use Rattle.net_design.specs.declared.act.Code.{Code}
 use Rattle.flat_parts.specs.vlog_meaning.Names.{Full}
 use Rattle.flat_parts.specs.vlog_meaning.Placed.{Placed, names_at}
 use Rattle.flat_parts.specs.vlog_driver.Sites.{Site}

@@ -1,8 +1,8 @@
 -- E9 over instances: each `always @*` of an instance, in text order (this project's profile).
 use Rattle.std.specs.Prelude.{ℕ, List, [], map}
 use Rattle.std.specs.List.{flat_map}
-use Rattle.flat_parts.specs.vlog_tree.Tree.{AlwaysOf, ItemOf, WiresItem, DrivenWiresItem, RegsItem, LocalparamsItem, AssignItem, AlwaysItem}
-use Rattle.flat_parts.specs.vlog_tree.Tree.{InstanceItem}
+use Rattle.vlog_tree.specs.Tree.{AlwaysOf, ItemOf, WiresItem, DrivenWiresItem, RegsItem, LocalparamsItem, AssignItem, AlwaysItem}
+use Rattle.vlog_tree.specs.Tree.{InstanceItem}
 use Rattle.flat_parts.specs.vlog_size.declared.scope.Scope.{Scope}
 use Rattle.flat_parts.specs.vlog_size.Names.{Readable}
 use Rattle.flat_parts.specs.vlog_latch.declared.error.BlockError.{BlockError}

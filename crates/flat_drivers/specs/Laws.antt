@@ -2,7 +2,7 @@
 use Rattle.std.specs.Prelude.{◌≡◌, ℕ, List, []}
 use Rattle.std.specs.List.{flat_map}
 use Rattle.flat_parts.specs.Instances.{AreDeclaredIn}
-use Rattle.flat_parts.specs.vlog_tree.Tree.{FileOf}
+use Rattle.vlog_tree.specs.Tree.{FileOf}
 use Rattle.flat_parts.specs.vlog_names.Entries.{modules_of}
 use Rattle.flat_parts.specs.vlog_elab.Instances.{instances}
 use Rattle.flat_parts.specs.vlog_elab.Reasons.{instance_consts, instance_widths}

@@ -2,7 +2,7 @@
 
 ghost use Rattle.std.specs.Prelude.{◌≡◌, ◌≤◌, ◌++◌, ◌∷◌, [], IsTrue, IfOk, OnOk, map};
 ghost use Rattle.std.specs.List.{flat_map};
-ghost use Rattle.flat_parts.specs.vlog_tree.Plain.{plain_instance, plain_conn};
+ghost use Rattle.vlog_tree.specs.Plain.{plain_instance, plain_conn};
 ghost use Rattle.flat_parts.specs.vlog_hierarchy.Plain.{plain_path};
 ghost use Rattle.flat_parts.specs.vlog_driver.Sites.{site_of};
 ghost use Rattle.flat_parts.specs.vlog_driver.Duties.{DoMore, conn_duties};
@@ -12,12 +12,12 @@ ghost use Rattle.flat_drivers.specs.Seated.{IsFlat, seats_in};
 
 use crate::fits::conns_fit;
 use crate::flat::Flat;
-use flat_parts::net_design::Driver;
 use flat_parts::vidi_bits::{Items, Memory, Name};
 use flat_parts::vlog_driver::{Site, add_conns};
 use flat_parts::vlog_names::Declarations;
-use flat_parts::vlog_tree::{Conn, Instance};
+use net_design::Driver;
 use std::alloc::Global;
+use vlog_tree::{Conn, Instance};
 
 fn is_same_name(a: &Name, b: &Name) -> bool
     ensures { IsTrue result → a.now ≡ b.now }

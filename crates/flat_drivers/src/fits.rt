@@ -2,7 +2,7 @@
 
 ghost use Rattle.std.specs.Prelude.{IsTrue, IfOk, Some, true, false, map};
 ghost use Rattle.std.specs.List.{AllByRecursion};
-ghost use Rattle.flat_parts.specs.vlog_tree.Plain.{plain_ident, plain_expr, plain_conn};
+ghost use Rattle.vlog_tree.specs.Plain.{plain_ident, plain_expr, plain_conn};
 ghost use Rattle.flat_parts.specs.vlog_meaning.Items.{target_of};
 ghost use Rattle.flat_parts.specs.vlog_driver.Sites.{site_of};
 ghost use Rattle.flat_parts.specs.vlog_driver.Duties.{IsFaultlessForm, IsFaultlessJoin, IsFaultlessConn};
@@ -10,8 +10,8 @@ ghost use Rattle.flat_parts.specs.vlog_driver.Duties.{IsFaultlessForm, IsFaultle
 use flat_parts::vidi_bits::Memory;
 use flat_parts::vlog_driver::{Site, expr_fits, net_fits, read_fits, target_fits, target_form};
 use flat_parts::vlog_names::{Declarations, is_output};
-use flat_parts::vlog_tree::{Conn, Expr, Ident};
 use std::alloc::Global;
+use vlog_tree::{Conn, Expr, Ident};
 
 /// Of the target that an expression has the form of, where it has one.
 fn form_fits(alloc: Global, site: &Site<'_>, e: &Expr) -> Result<bool, Memory>

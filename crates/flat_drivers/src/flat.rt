@@ -1,10 +1,10 @@
 //! The instances with the places where they stand, and the code that they make.
 
 use flat_parts::net_code::Base;
-use flat_parts::net_design::{Code, Driver};
 use flat_parts::vidi_bits::Items;
 use flat_parts::vlog_elab::ModuleInstance;
 use flat_parts::vlog_names::ModuleTable;
+use net_design::{Code, Driver};
 
 /// All instances, what the modules of the file declare, and where the instances stand.
 #[derive(Clone, Copy)]

@@ -1,13 +1,13 @@
 //! The drivers and clocked blocks that an item adds.
 
 ghost use Rattle.std.specs.Prelude.{◌≡◌, ◌≤◌, [], ◌∷◌, IfOk, OnOk, map};
-ghost use Rattle.flat_parts.specs.vlog_tree.Plain.{plain_item, plain_always, plain_named, plain_assign};
+ghost use Rattle.vlog_tree.specs.Plain.{plain_item, plain_always, plain_named, plain_assign};
 ghost use Rattle.flat_parts.specs.vlog_hierarchy.Plain.{plain_path};
 ghost use Rattle.flat_parts.specs.vidi_bits.Findings.{Judged};
 ghost use Rattle.flat_parts.specs.vlog_elab.Told.{elab_told};
 ghost use Rattle.flat_parts.specs.vlog_driver.Sites.{site_of};
 ghost use Rattle.flat_parts.specs.vlog_driver.Duties.{DoMore, wire_duty, assign_duty, always_duties};
-ghost use Rattle.flat_parts.specs.net_design.declared.act.Timing.TheVariants.{Nonblocking};
+ghost use Rattle.net_design.specs.declared.act.Timing.TheVariants.{Nonblocking};
 ghost use Rattle.flat_parts.specs.vlog_driver.Updates.{timing_of};
 ghost use Rattle.flat_parts.specs.vlog_driver.Faultless.{IsFaultlessBody};
 ghost use Rattle.flat_parts.specs.vlog_driver.Drivers.{IsClocked};
@@ -18,13 +18,13 @@ ghost use Rattle.flat_drivers.specs.Adding.{BlocksMore, duties_in, IsFaultlessIt
 
 use crate::child::{add_child, past_child};
 use crate::flat::{Flat, FlatCode};
-use flat_parts::net_design::{Code, Driver};
 use flat_parts::vidi_bits::{Items, Memory, Name};
 use flat_parts::vlog_driver::{Site, add_always, add_assigns, add_wire, clocked_block, wire_fits};
 use flat_parts::vlog_elab::ElabError;
 use flat_parts::vlog_latch::BlockError;
-use flat_parts::vlog_tree::{Always, Assign, Event, Item, NamedValue};
+use net_design::{Code, Driver};
 use std::alloc::Global;
+use vlog_tree::{Always, Assign, Event, Item, NamedValue};
 
 fn add_fit_wire(
     alloc: Global,

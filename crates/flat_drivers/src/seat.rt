@@ -2,7 +2,7 @@
 
 ghost use Rattle.std.specs.Prelude.{◌≡◌, ◌<◌, OnOk, Some, map, length, slice_get};
 ghost use Rattle.std.specs.List.{flat_map, AllByRecursion};
-ghost use Rattle.flat_parts.specs.vlog_tree.Plain.{plain_item};
+ghost use Rattle.vlog_tree.specs.Plain.{plain_item};
 ghost use Rattle.flat_parts.specs.vlog_hierarchy.Plain.{plain_path};
 ghost use Rattle.flat_parts.specs.vlog_meaning.Placed.{placed};
 ghost use Rattle.flat_parts.specs.vlog_elab.Instances as instances;
@@ -24,8 +24,8 @@ use flat_parts::vlog_driver::Site;
 use flat_parts::vlog_elab::ElabError;
 use flat_parts::vlog_scope::declared_after;
 use flat_parts::vlog_size::Scope;
-use flat_parts::vlog_tree::Item;
 use std::alloc::Global;
+use vlog_tree::Item;
 
 /// Adds what an item of an instance makes, before which so many parameters of its scope are declared.
 fn add_placed(

@@ -6,13 +6,13 @@ use Rattle.std.proofs.lemmas.List.{append_assoc, length-append, get_or_append_le
 use Rattle.std.proofs.lemmas.List.{set-append_right}
 use Rattle.flat_parts.specs.vlog_size.Names.{Readable}
 use Rattle.flat_parts.specs.vidi_bits.Number.{put_of}
-use Rattle.flat_parts.specs.net_design.declared.values.Target.{Target}
-use Rattle.flat_parts.specs.net_design.declared.values.Target.TheVariants.{Net, Word}
-use Rattle.flat_parts.specs.net_design.declared.values.Update.{Update}
-use Rattle.flat_parts.specs.net_design.declared.values.Values.{Values}
-use Rattle.flat_parts.specs.net_design.Updates.{written_to, apply}
-use Rattle.flat_parts.proofs.net_design_lemmas.StateLaws.{written_long, applied_long}
-use Rattle.flat_parts.proofs.net_design_lemmas.UpdateLaws.{apply_both}
+use Rattle.net_design.specs.declared.values.Target.{Target}
+use Rattle.net_design.specs.declared.values.Target.TheVariants.{Net, Word}
+use Rattle.net_design.specs.declared.values.Update.{Update}
+use Rattle.net_design.specs.declared.values.Values.{Values}
+use Rattle.net_design.specs.Updates.{written_to, apply}
+use Rattle.net_design.proofs.StateLaws.{written_long, applied_long}
+use Rattle.net_design.proofs.UpdateLaws.{apply_both}
 use Rattle.flat_parts.specs.net_code.Moved.{moved_target, moved_update}
 use Rattle.flat_parts.specs.vlog_scope.Scope.{words_of}
 use Rattle.flat_parts.specs.vlog_elab.Instances.{ModuleInstance}

@@ -8,7 +8,7 @@ use Rattle.std.proofs.lemmas.List.Sums.{AllPass-from_list_all}
 use Rattle.std.proofs.Math.Pow.{pow_mono}
 use Rattle.flat_parts.proofs.vidi_bits_lemmas.Bools.{left_of, right_of}
 use Rattle.flat_parts.proofs.vidi_bits_lemmas.Each.{then_so, each_weaker}
-use Rattle.flat_parts.specs.vlog_tree.Tree.{ModuleOf}
+use Rattle.vlog_tree.specs.Tree.{ModuleOf}
 use Rattle.flat_parts.specs.vlog_size.declared.scope.ScopeNet.{ScopeNet}
 use Rattle.flat_parts.specs.vlog_size.declared.scope.ScopeMemory.{ScopeMemory}
 use Rattle.flat_parts.specs.vlog_size.declared.scope.Scope.{Scope}
@@ -16,11 +16,11 @@ use Rattle.flat_parts.specs.vlog_size.Literal.{is_lawful}
 use Rattle.flat_parts.specs.vlog_size.Names.{are_lawful_params, is_lawful_scope}
 use Rattle.flat_parts.specs.vlog_size.Table.{Named}
 use Rattle.flat_parts.specs.vlog_scope.Scope.{words_of}
-use Rattle.flat_parts.specs.net_design.declared.design.Design.{Design}
-use Rattle.flat_parts.specs.net_design.declared.design.Net.{Net}
-use Rattle.flat_parts.specs.net_design.Names.{net_names}
-use Rattle.flat_parts.specs.net_design.Settled.{FitNets}
-use Rattle.flat_parts.specs.net_design.Last.{IsNarrow}
+use Rattle.net_design.specs.declared.design.Design.{Design}
+use Rattle.net_design.specs.declared.design.Net.{Net}
+use Rattle.net_design.specs.Names.{net_names}
+use Rattle.net_design.specs.Settled.{FitNets}
+use Rattle.net_design.specs.Last.{IsNarrow}
 use Rattle.flat_parts.specs.vlog_elab.Instances.{ModuleInstance}
 use Rattle.flat_parts.specs.vlog_meaning.Names.{Full, words_from}
 use Rattle.flat_parts.specs.Seats.{seats_from, seats_of}
@@ -28,7 +28,7 @@ use Rattle.flat_parts.specs.Nets.{net_of, seat_nets, flat_nets}
 use Rattle.flat_parts.specs.Meaning.{values_of}
 use Rattle.flat_parts.specs.Laws.{numbers_of}
 use Rattle.flat_laws.proofs.SettledLists.{each_flat, each_map, each_alike, at_each, below_powers, map_flat, map_map}
-use Rattle.flat_parts.specs.net_design.declared.values.Values.{Values}
+use Rattle.net_design.specs.declared.values.Values.{Values}
 
 -- ---- widths in order of the nets
 abbrev pub instance_widths : ModuleInstance → List ℕ

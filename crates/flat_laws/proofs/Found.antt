@@ -5,7 +5,7 @@ use Rattle.std.proofs.lemmas.List.Elements.{All-contains, All-from_recursion}
 use Rattle.std.specs.List.{Contains}
 use Rattle.flat_parts.proofs.vidi_bits_lemmas.FindingLaws.{told_none}
 use Rattle.flat_parts.proofs.vidi_bits_lemmas.Lists.{nil_left, none_mapped}
-use Rattle.flat_parts.specs.vlog_tree.Tree.{ModuleOf, FileOf}
+use Rattle.vlog_tree.specs.Tree.{ModuleOf, FileOf}
 use Rattle.flat_parts.specs.vlog_names.Entries.{module_entry, modules_of, declared}
 use Rattle.flat_parts.specs.vlog_names.Different.{Differ}
 use Rattle.flat_parts.specs.vlog_names.Twice.{twice_names}

@@ -4,8 +4,8 @@ use Rattle.std.proofs.Common.{Option, None, Some, slice_get}
 use Rattle.std.specs.List.{Contains}
 use Rattle.std.proofs.lemmas.List.Elements.{Contains-append_left, Contains-append_right, Contains-append_cases}
 use Rattle.flat_parts.proofs.vidi_bits_lemmas.Lists.{none_in, head_in, tail_in, cases_in}
-use Rattle.flat_parts.specs.vlog_tree.Tree.{InstanceOf, ItemOf, WiresItem, DrivenWiresItem, RegsItem, LocalparamsItem, AssignItem, AlwaysItem}
-use Rattle.flat_parts.specs.vlog_tree.Tree.{InstanceItem, ModuleOf}
+use Rattle.vlog_tree.specs.Tree.{InstanceOf, ItemOf, WiresItem, DrivenWiresItem, RegsItem, LocalparamsItem, AssignItem, AlwaysItem}
+use Rattle.vlog_tree.specs.Tree.{InstanceItem, ModuleOf}
 use Rattle.flat_parts.specs.vlog_size.declared.scope.Scope.{Scope}
 use Rattle.flat_parts.specs.vlog_scope.Scope.{readable_at, after_item, scope_of}
 use Rattle.flat_parts.specs.vlog_hierarchy.Outlines.{place_of}

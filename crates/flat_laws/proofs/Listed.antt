@@ -4,7 +4,7 @@ use Rattle.std.proofs.Common.{arith, append-nil, Option, None, Some, slice_get}
 use Rattle.std.specs.List.{Contains, AllPairs, flat_map}
 use Rattle.flat_parts.specs.Instances.{HasOtherPath}
 use Rattle.flat_parts.proofs.vlog_elab_lemmas.Added.{deeper}
-use Rattle.flat_parts.specs.vlog_tree.Tree.{ModuleOf, FileOf}
+use Rattle.vlog_tree.specs.Tree.{ModuleOf, FileOf}
 use Rattle.flat_parts.specs.vlog_size.declared.scope.Scope.{Scope}
 use Rattle.flat_parts.specs.vlog_scope.Scope.{scope_with}
 use Rattle.flat_parts.specs.vlog_hierarchy.Outlines.{place_of}

@@ -1,13 +1,13 @@
 -- The next state of the design is the file's.
 use Rattle.std.proofs.Common.{◌≡◌, ℕ, List, length, refl, ap, sym, ◌∙◌}
 use Rattle.std.specs.List.{Contains}
-use Rattle.flat_parts.specs.vlog_tree.Tree.{ModuleOf}
+use Rattle.vlog_tree.specs.Tree.{ModuleOf}
 use Rattle.flat_parts.specs.vlog_size.declared.scope.Scope.{Scope}
-use Rattle.flat_parts.specs.net_design.declared.design.Design.{Design}
-use Rattle.flat_parts.specs.net_design.declared.values.Values.{Values}
-use Rattle.flat_parts.specs.net_design.Updates.{apply}
-use Rattle.flat_parts.specs.net_design.Settled.{clocked, next}
-use Rattle.flat_parts.proofs.net_design_lemmas.StateLaws.{applied_long}
+use Rattle.net_design.specs.declared.design.Design.{Design}
+use Rattle.net_design.specs.declared.values.Values.{Values}
+use Rattle.net_design.specs.Updates.{apply}
+use Rattle.net_design.specs.Settled.{clocked, next}
+use Rattle.net_design.proofs.StateLaws.{applied_long}
 use Rattle.flat_parts.specs.vlog_elab.Instances.{ModuleInstance, instances}
 use Rattle.flat_parts.specs.vlog_meaning.Names.{Full, State, numbers_at}
 use Rattle.flat_parts.specs.vlog_meaning.Next.{clocked_updates, IsNext}

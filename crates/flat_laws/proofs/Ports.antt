@@ -7,9 +7,9 @@ use Rattle.std.proofs.lemmas.List.{map-append, append-nil}
 use Rattle.flat_parts.proofs.vidi_bits_lemmas.FindingLaws.{told_none}
 use Rattle.flat_parts.proofs.vidi_bits_lemmas.Lists.{nil_left, nil_right}
 use Rattle.flat_parts.proofs.vidi_bits_lemmas.Each.{each_weaker}
-use Rattle.flat_parts.specs.vlog_tree.Tree.{IdentOf, NamedValueOf, RegTailOf, InitTail, MemoryTail, Reg1Of, PortOf}
-use Rattle.flat_parts.specs.vlog_tree.Tree.{ItemOf, WiresItem, DrivenWiresItem, RegsItem, LocalparamsItem, AssignItem, AlwaysItem, InstanceItem}
-use Rattle.flat_parts.specs.vlog_tree.Tree.{ModuleOf}
+use Rattle.vlog_tree.specs.Tree.{IdentOf, NamedValueOf, RegTailOf, InitTail, MemoryTail, Reg1Of, PortOf}
+use Rattle.vlog_tree.specs.Tree.{ItemOf, WiresItem, DrivenWiresItem, RegsItem, LocalparamsItem, AssignItem, AlwaysItem, InstanceItem}
+use Rattle.vlog_tree.specs.Tree.{ModuleOf}
 use Rattle.flat_parts.specs.vlog_size.declared.scope.ScopeNet.{ScopeNet}
 use Rattle.flat_parts.specs.vlog_size.declared.scope.Scope.{Scope}
 use Rattle.flat_parts.specs.vlog_size.Table.{Named, value_of}
@@ -23,8 +23,8 @@ use Rattle.flat_parts.specs.vlog_scope.Extents.{extent_of, port_extent, net_widt
 use Rattle.flat_parts.specs.vlog_scope.Params.{header_params, items_params}
 use Rattle.flat_parts.specs.vlog_scope.Scope.{declared_in, with_net, with_port, with_ports, wire_nets, driven_nets, with_reg, with_regs, with_item}
 use Rattle.flat_parts.specs.vlog_scope.Scope.{with_items, params_scope, scope_with}
-use Rattle.flat_parts.specs.net_design.declared.design.Direction.TheVariants.{Input, Output}
-use Rattle.flat_parts.specs.net_design.Settled.{same_direction, pins_of}
+use Rattle.net_design.specs.declared.design.Direction.TheVariants.{Input, Output}
+use Rattle.net_design.specs.Settled.{same_direction, pins_of}
 use Rattle.flat_parts.specs.vlog_meaning.Names.{Name}
 use Rattle.flat_parts.specs.vlog_meaning.Settled.{is_input, input_names}
 use Rattle.flat_parts.specs.Nets.{port_of}

@@ -5,22 +5,22 @@ use Rattle.std.specs.List.{All, Contains, flat_map}
 use Rattle.std.proofs.lemmas.List.{map-append}
 use Rattle.std.proofs.lemmas.Option.{slice_get_within, get_or_from_slice_get}
 use Rattle.flat_parts.proofs.vidi_bits_lemmas.Each.{then_so}
-use Rattle.flat_parts.specs.vlog_tree.Tree.{ModuleOf, FileOf}
+use Rattle.vlog_tree.specs.Tree.{ModuleOf, FileOf}
 use Rattle.flat_parts.specs.vlog_size.declared.scope.ScopeNet.{ScopeNet}
 use Rattle.flat_parts.specs.vlog_size.declared.scope.Scope.{Scope}
 use Rattle.flat_parts.specs.vlog_size.Names.{is_lawful_scope}
 use Rattle.flat_parts.specs.vlog_size.Table.{Named}
 use Rattle.flat_parts.specs.vlog_names.Entries.{Names, no_port, port_entries}
 use Rattle.flat_parts.specs.vlog_scope.Scope.{scope_with}
-use Rattle.flat_parts.specs.net_design.declared.design.Design.{Design}
-use Rattle.flat_parts.specs.net_design.declared.design.Direction.TheVariants.{Input}
-use Rattle.flat_parts.specs.net_design.declared.design.Driver.{Driver}
-use Rattle.flat_parts.specs.net_design.declared.design.Port.{Port}
-use Rattle.flat_parts.specs.net_design.declared.values.Values.{Values}
-use Rattle.flat_parts.specs.net_design.Last.{IsNarrow}
-use Rattle.flat_parts.specs.net_design.Settled.{pins_of, FitNets}
-use Rattle.flat_parts.specs.net_design.Settled as design
-use Rattle.flat_parts.specs.net_design.Updates.{run}
+use Rattle.net_design.specs.declared.design.Design.{Design}
+use Rattle.net_design.specs.declared.design.Direction.TheVariants.{Input}
+use Rattle.net_design.specs.declared.design.Driver.{Driver}
+use Rattle.net_design.specs.declared.design.Port.{Port}
+use Rattle.net_design.specs.declared.values.Values.{Values}
+use Rattle.net_design.specs.Last.{IsNarrow}
+use Rattle.net_design.specs.Settled.{pins_of, FitNets}
+use Rattle.net_design.specs.Settled as design
+use Rattle.net_design.specs.Updates.{run}
 use Rattle.flat_parts.specs.vlog_elab.Instances.{ModuleInstance, instances}
 use Rattle.flat_parts.specs.vlog_elab.Reasons.{Clear}
 use Rattle.flat_parts.specs.vlog_meaning.Names.{Name, Full, State}

@@ -6,7 +6,7 @@ use Rattle.std.proofs.lemmas.Bool.{cases_lt}
 use Rattle.std.proofs.lemmas.List.{get_or_default}
 use Rattle.std.proofs.lemmas.List.Elements.{Contains-append_right}
 use Rattle.flat_parts.proofs.vidi_bits_lemmas.Each.{same_both, nothing}
-use Rattle.flat_parts.specs.vlog_tree.Tree.{InstanceOf, ModuleOf}
+use Rattle.vlog_tree.specs.Tree.{InstanceOf, ModuleOf}
 use Rattle.flat_parts.specs.vlog_size.declared.scope.Scope.{Scope}
 use Rattle.flat_parts.specs.vlog_elab.Instances.{ModuleInstance}
 use Rattle.flat_parts.specs.vlog_scope.Scope.{words_of}

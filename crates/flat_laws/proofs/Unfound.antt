@@ -6,7 +6,7 @@ use Rattle.std.specs.Str.{bytes_eq}
 use Rattle.std.proofs.lemmas.List.Elements.{Contains-append_right}
 use Rattle.std.proofs.lemmas.Slice.Eq.{bytes_eq-Decides}
 use Rattle.flat_parts.proofs.vidi_bits_lemmas.Lists.{nil_left, nil_right}
-use Rattle.flat_parts.specs.vlog_tree.Tree.{InstanceOf, ItemOf, InstanceItem, ModuleOf, FileOf}
+use Rattle.vlog_tree.specs.Tree.{InstanceOf, ItemOf, InstanceItem, ModuleOf, FileOf}
 use Rattle.flat_parts.specs.vlog_size.declared.scope.Param.{Param}
 use Rattle.flat_parts.specs.vlog_size.declared.scope.Scope.{Scope}
 use Rattle.flat_parts.specs.vlog_size.Table.{Named, value_of}

@@ -4,7 +4,7 @@ use Rattle.std.proofs.Common.{arith, append-nil, append_assoc, Some, slice_get}
 use Rattle.std.specs.List.{Contains, flat_map}
 use Rattle.flat_parts.proofs.vidi_bits_lemmas.Lists.{none_in, head_in, tail_in, cases_in, in_flat, from_flat}
 use Rattle.flat_parts.proofs.vlog_elab_lemmas.Added.{deeper}
-use Rattle.flat_parts.specs.vlog_tree.Tree.{InstanceOf, ModuleOf}
+use Rattle.vlog_tree.specs.Tree.{InstanceOf, ModuleOf}
 use Rattle.flat_parts.specs.vlog_size.declared.scope.Scope.{Scope}
 use Rattle.flat_parts.specs.vlog_names.Entries.{module_entry}
 use Rattle.flat_parts.specs.vlog_names.Different.{Differ}

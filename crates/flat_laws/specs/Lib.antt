@@ -1,7 +1,6 @@
 pub mod Settled
 pub mod Next
 pub use Rattle.flat_parts.specs as flat_parts
-pub use Rattle.flat_parts.specs.net_design as net_design
 pub use Rattle.flat_parts.specs.vidi_bits as vidi_bits
 pub use Rattle.flat_parts.specs.vlog_block as vlog_block
 pub use Rattle.flat_parts.specs.vlog_elab as vlog_elab
@@ -10,4 +9,3 @@ pub use Rattle.flat_parts.specs.vlog_meaning as vlog_meaning
 pub use Rattle.flat_parts.specs.vlog_names as vlog_names
 pub use Rattle.flat_parts.specs.vlog_scope as vlog_scope
 pub use Rattle.flat_parts.specs.vlog_size as vlog_size
-pub use Rattle.flat_parts.specs.vlog_tree as vlog_tree

@@ -1,8 +1,8 @@
 -- The next and the initial state of a flat design that has the parts of a file's instances are those of the file.
 use Rattle.std.specs.Prelude.{◌≡◌, ℕ, ◌↔◌, List}
-use Rattle.flat_parts.specs.vlog_tree.Tree.{ModuleOf, FileOf}
-use Rattle.flat_parts.specs.net_design.declared.design.Design.{Design}
-use Rattle.flat_parts.specs.net_design.Settled as design
+use Rattle.vlog_tree.specs.Tree.{ModuleOf, FileOf}
+use Rattle.net_design.specs.declared.design.Design.{Design}
+use Rattle.net_design.specs.Settled as design
 use Rattle.flat_parts.specs.vlog_elab.Instances.{instances}
 use Rattle.flat_parts.specs.vlog_elab.Reasons.{Clear}
 use Rattle.flat_parts.specs.vlog_meaning.Names.{Full, State}

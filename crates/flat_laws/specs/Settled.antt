@@ -1,12 +1,12 @@
 -- The flat design that has the parts of a file's instances settles as the file does.
 use Rattle.std.specs.Prelude.{ℕ, ◌<◌, ◌^◌, ◌↔◌, List, [], ◌∷◌, ◌++◌}
 use Rattle.std.specs.List.{AllByRecursion}
-use Rattle.flat_parts.specs.vlog_tree.Tree.{ModuleOf, FileOf}
+use Rattle.vlog_tree.specs.Tree.{ModuleOf, FileOf}
 use Rattle.flat_parts.specs.vlog_size.declared.scope.ScopeMemory.{ScopeMemory}
 use Rattle.flat_parts.specs.vlog_size.declared.scope.Scope.{Scope}
 use Rattle.flat_parts.specs.vlog_size.Table.{Named}
-use Rattle.flat_parts.specs.net_design.declared.design.Design.{Design}
-use Rattle.flat_parts.specs.net_design.Settled as design
+use Rattle.net_design.specs.declared.design.Design.{Design}
+use Rattle.net_design.specs.Settled as design
 use Rattle.flat_parts.specs.vlog_elab.Instances.{instances}
 use Rattle.flat_parts.specs.vlog_elab.Reasons.{Clear}
 use Rattle.flat_parts.specs.vlog_meaning.Names.{Full, State}

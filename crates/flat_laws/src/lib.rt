@@ -7,5 +7,5 @@
 
 mod laws;
 
-pub use flat_parts::{vidi_bits, vlog_elab, vlog_hierarchy, vlog_tree};
+pub use flat_parts::{vidi_bits, vlog_elab, vlog_hierarchy};
 pub use laws::{instances_are_paths, settled_alike, state_alike};

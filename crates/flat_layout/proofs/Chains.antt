@@ -4,8 +4,8 @@ use Rattle.std.proofs.Common.{sym, ap, subst, ◌∙◌, arith, get_or, length-a
 use Rattle.std.proofs.lemmas.Bool.{cases_lt}
 use Rattle.std.proofs.lemmas.List.{length-map, take-map, map_more}
 use Rattle.std.specs.Borrow.{Bor}
-use Rattle.flat_parts.specs.net_design.declared.design.Instance.{Instance}
-use Rattle.flat_parts.specs.net_design.Names.{list_at, paths_after, paths, AreAfterParents}
+use Rattle.net_design.specs.declared.design.Instance.{Instance}
+use Rattle.net_design.specs.Names.{list_at, paths_after, paths, AreAfterParents}
 use Rattle.flat_parts.specs.vlog_hierarchy.Plain.{plain_path}
 use Rattle.flat_parts.specs.vlog_elab.Instances.{ModuleInstance}
 use Rattle.flat_parts.specs.vlog_elab.declared.instance.ModuleInstance as code

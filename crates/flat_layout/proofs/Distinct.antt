@@ -11,9 +11,9 @@ use Rattle.std.proofs.lemmas.Slice.Eq.{bytes_eq-Decides}
 use Rattle.flat_parts.specs.vlog_names.Entries.{entry}
 use Rattle.flat_parts.specs.Instances.{HasOtherPath}
 use Rattle.flat_parts.proofs.vidi_bits_lemmas.Each.{each_weaker, each_append}
-use Rattle.flat_parts.specs.vlog_tree.Tree.{IdentOf, NamedValueOf, RegTailOf, InitTail, MemoryTail, Reg1Of, PortOf, InstanceOf}
-use Rattle.flat_parts.specs.vlog_tree.Tree.{ItemOf, WiresItem, DrivenWiresItem, RegsItem, LocalparamsItem, AssignItem, AlwaysItem, InstanceItem}
-use Rattle.flat_parts.specs.vlog_tree.Tree.{ModuleOf, FileOf}
+use Rattle.vlog_tree.specs.Tree.{IdentOf, NamedValueOf, RegTailOf, InitTail, MemoryTail, Reg1Of, PortOf, InstanceOf}
+use Rattle.vlog_tree.specs.Tree.{ItemOf, WiresItem, DrivenWiresItem, RegsItem, LocalparamsItem, AssignItem, AlwaysItem, InstanceItem}
+use Rattle.vlog_tree.specs.Tree.{ModuleOf, FileOf}
 use Rattle.flat_parts.specs.vlog_size.declared.scope.ScopeNet.{ScopeNet}
 use Rattle.flat_parts.specs.vlog_size.declared.scope.Scope.{Scope}
 use Rattle.flat_parts.specs.vlog_size.Table.{Named, value_of}
@@ -27,7 +27,7 @@ use Rattle.flat_parts.specs.vlog_scope.Extents.{extent_of, port_extent, net_widt
 use Rattle.flat_parts.specs.vlog_scope.Params.{header_params, items_params, overrides_of}
 use Rattle.flat_parts.specs.vlog_scope.Scope.{declared_in, readable_at, after_item, with_net, with_port, with_ports, wire_nets, driven_nets, with_reg}
 use Rattle.flat_parts.specs.vlog_scope.Scope.{with_regs, with_item, with_items, params_scope, scope_with}
-use Rattle.flat_parts.specs.net_design.Names.{net_names}
+use Rattle.net_design.specs.Names.{net_names}
 use Rattle.flat_parts.specs.vlog_elab.Instances.{ModuleInstance, child_of, child_at, item_children, children_from, children, within, top_of, top_at}
 use Rattle.flat_parts.specs.vlog_elab.Instances.{instances}
 use Rattle.flat_parts.specs.vlog_meaning.Names.{Full}

@@ -10,8 +10,8 @@ use Rattle.flat_parts.specs.vlog_size.declared.scope.ScopeNet.{ScopeNet}
 use Rattle.flat_parts.specs.vlog_size.declared.scope.ScopeMemory.{ScopeMemory}
 use Rattle.flat_parts.specs.vlog_size.Table.{Named}
 use Rattle.flat_parts.specs.vlog_scope.Scope.{words_of}
-use Rattle.flat_parts.specs.net_design.declared.design.DesignMemory.{DesignMemory}
-use Rattle.flat_parts.specs.net_design.declared.design.Net.{Net}
+use Rattle.net_design.specs.declared.design.DesignMemory.{DesignMemory}
+use Rattle.net_design.specs.declared.design.Net.{Net}
 use Rattle.flat_parts.specs.vlog_elab.Instances.{ModuleInstance}
 use Rattle.flat_parts.specs.vlog_elab.declared.instance.ModuleInstance as code
 use Rattle.flat_parts.specs.vlog_elab.Plain.{plain_instances}

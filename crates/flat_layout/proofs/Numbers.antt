@@ -3,16 +3,16 @@ use Rattle.std.proofs.Common.{◌≡◌, ℕ, suc, ◌+◌, List, [], ◌∷◌,
 use Rattle.std.specs.List.{flat_map}
 use Rattle.std.proofs.lemmas.Grind.{flat_map-append}
 use Rattle.std.proofs.lemmas.List.{map-append}
-use Rattle.flat_parts.specs.vlog_tree.Tree.{ModuleOf}
+use Rattle.vlog_tree.specs.Tree.{ModuleOf}
 use Rattle.flat_parts.specs.vlog_size.declared.scope.ScopeMemory.{ScopeMemory}
 use Rattle.flat_parts.specs.vlog_size.declared.scope.ScopeNet.{ScopeNet}
 use Rattle.flat_parts.specs.vlog_size.Table.{Named}
 use Rattle.flat_parts.specs.vlog_scope.Scope.{words_of}
-use Rattle.flat_parts.specs.net_design.declared.design.DesignMemory.{DesignMemory}
-use Rattle.flat_parts.specs.net_design.declared.design.Design.{Design}
-use Rattle.flat_parts.specs.net_design.declared.design.Net.{Net}
-use Rattle.flat_parts.specs.net_design.declared.values.Values.{Values}
-use Rattle.flat_parts.specs.net_design.Names.{list_at, paths, net_names}
+use Rattle.net_design.specs.declared.design.DesignMemory.{DesignMemory}
+use Rattle.net_design.specs.declared.design.Design.{Design}
+use Rattle.net_design.specs.declared.design.Net.{Net}
+use Rattle.net_design.specs.declared.values.Values.{Values}
+use Rattle.net_design.specs.Names.{list_at, paths, net_names}
 use Rattle.flat_parts.specs.vlog_elab.Instances.{ModuleInstance}
 use Rattle.flat_parts.specs.vlog_meaning.Names.{Full, words_from}
 use Rattle.flat_parts.specs.Seats.{seats_from, seats_of}

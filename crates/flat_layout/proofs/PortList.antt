@@ -1,20 +1,20 @@
 -- The ports in a row, each behind the direction of the one before.
 use Rattle.std.proofs.Common.{◌≡◌, ℕ, List, [], ◌∷◌, ◌++◌, ◌≤◌, map, length, drop, refl, sym, ap, ◌∙◌, Option, None, Some}
 use Rattle.std.proofs.lemmas.List.{append-nil, drop_all}
-use Rattle.flat_parts.specs.vlog_tree.Tree.{PortHeadOf, PortOf}
-use Rattle.flat_parts.specs.vlog_tree.declared.module.Direction as head
-use Rattle.flat_parts.specs.vlog_tree.declared.module.Direction.TheVariants as heads
-use Rattle.flat_parts.specs.vlog_tree.declared.module.Port as code
-use Rattle.flat_parts.specs.vlog_tree.Plain.{plain_port}
+use Rattle.vlog_tree.specs.Tree.{PortHeadOf, PortOf}
+use Rattle.vlog_tree.specs.declared.module.Direction as head
+use Rattle.vlog_tree.specs.declared.module.Direction.TheVariants as heads
+use Rattle.vlog_tree.specs.declared.module.Port as code
+use Rattle.vlog_tree.specs.Plain.{plain_port}
 use Rattle.flat_parts.specs.vlog_size.Table.{value_of}
 use Rattle.flat_parts.specs.vlog_size.declared.scope.Scope.{Scope}
 use Rattle.flat_parts.specs.vlog_names.declared.declaration.Declaration.{Declaration}
 use Rattle.flat_parts.specs.vlog_names.declared.declaration.Declaration.TheVariants as d
 use Rattle.flat_parts.specs.vlog_names.declared.declaration.Shape.{Shape}
 use Rattle.flat_parts.specs.vlog_names.Entries.{entry, no_port, port_as, port_entries, shape_of}
-use Rattle.flat_parts.specs.net_design.declared.design.Port.{Port}
-use Rattle.flat_parts.specs.net_design.declared.design.Direction.{Direction}
-use Rattle.flat_parts.specs.net_design.declared.design.Direction.TheVariants.{Input}
+use Rattle.net_design.specs.declared.design.Port.{Port}
+use Rattle.net_design.specs.declared.design.Direction.{Direction}
+use Rattle.net_design.specs.declared.design.Direction.TheVariants.{Input}
 use Rattle.flat_parts.specs.vlog_meaning.Next.{net_width}
 use Rattle.flat_parts.specs.Nets.{direction_of, port_of}
 use Rattle.flat_layout.specs.Layout.{seen, direction_after}

@@ -1,7 +1,7 @@
 -- Laws of the flat design's names and of how much there is.
 use Rattle.std.specs.Prelude.{◌≡◌, List, length}
 use Rattle.std.specs.List.{sum_by}
-use Rattle.flat_parts.specs.net_design.declared.design.DesignMemory.{DesignMemory}
+use Rattle.net_design.specs.declared.design.DesignMemory.{DesignMemory}
 use Rattle.flat_parts.specs.vlog_elab.Instances.{ModuleInstance}
 use Rattle.flat_parts.specs.vlog_elab.Reasons.{word_total}
 use Rattle.flat_parts.specs.Seats.{seats_of}

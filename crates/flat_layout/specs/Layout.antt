@@ -2,14 +2,14 @@
 use Rattle.std.specs.Prelude.{◌≡◌, ℕ, ◌<◌, ◌≤◌, List, map, length, slice_get, Some, Option, None}
 use Rattle.flat_parts.specs.vlog_size.declared.scope.ScopeMemory.{ScopeMemory}
 use Rattle.flat_parts.specs.vlog_size.Table.{Named}
-use Rattle.flat_parts.specs.vlog_tree.Tree.{PortHeadOf}
-use Rattle.flat_parts.specs.vlog_tree.declared.module.Direction as head
-use Rattle.flat_parts.specs.vlog_tree.declared.module.Direction.TheVariants as heads
-use Rattle.flat_parts.specs.net_design.declared.design.Instance.{Instance}
-use Rattle.flat_parts.specs.net_design.declared.design.DesignMemory.{DesignMemory}
-use Rattle.flat_parts.specs.net_design.declared.design.Direction.{Direction}
-use Rattle.flat_parts.specs.net_design.declared.design.Direction.TheVariants.{Input, Output}
-use Rattle.flat_parts.specs.net_design.Names.{paths}
+use Rattle.vlog_tree.specs.Tree.{PortHeadOf}
+use Rattle.vlog_tree.specs.declared.module.Direction as head
+use Rattle.vlog_tree.specs.declared.module.Direction.TheVariants as heads
+use Rattle.net_design.specs.declared.design.Instance.{Instance}
+use Rattle.net_design.specs.declared.design.DesignMemory.{DesignMemory}
+use Rattle.net_design.specs.declared.design.Direction.{Direction}
+use Rattle.net_design.specs.declared.design.Direction.TheVariants.{Input, Output}
+use Rattle.net_design.specs.Names.{paths}
 use Rattle.flat_parts.specs.vlog_elab.Instances.{ModuleInstance}
 
 -- ---- instances

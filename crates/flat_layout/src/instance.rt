@@ -1,14 +1,14 @@
 //! The instances of the flat design.
 
 ghost use Rattle.std.specs.Prelude.{◌≡◌, ◌+◌, ◌-◌, ◌<◌, ◌≤◌, ◌↔◌, ◌++◌, ◌∷◌, [], IsTrue, IfOk, OnOk, length, take, slice_get, Some};
-ghost use Rattle.flat_parts.specs.net_design.Names.{list_at};
+ghost use Rattle.net_design.specs.Names.{list_at};
 ghost use Rattle.flat_parts.specs.vlog_hierarchy.Plain.{plain_path};
 ghost use Rattle.flat_parts.specs.vlog_elab.Plain.{plain_instances};
 ghost use Rattle.flat_layout.specs.Layout.{AreInstances, paths_of};
 
-use flat_parts::net_design::Instance;
 use flat_parts::vidi_bits::{Items, Memory, Name, copied};
 use flat_parts::vlog_elab::ModuleInstance;
+use net_design::Instance;
 use std::alloc::Global;
 
 fn same_name(a: &Name, b: &Name) -> bool

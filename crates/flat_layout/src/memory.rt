@@ -8,10 +8,10 @@ ghost use Rattle.flat_parts.specs.Seats.{seats_of};
 ghost use Rattle.flat_parts.specs.Nets.{memories_from, flat_memories};
 ghost use Rattle.flat_layout.specs.Layout.{memory_of};
 
-use flat_parts::net_design::{DesignMemory, Room};
 use flat_parts::vidi_bits::{Items, Memory, copied};
 use flat_parts::vlog_elab::ModuleInstance;
 use flat_parts::vlog_size::ScopeMemories;
+use net_design::{DesignMemory, Room};
 use std::alloc::Global;
 
 /// The memory at a place of an instance's memories, whose first word is this word of the design.

@@ -6,10 +6,10 @@ ghost use Rattle.flat_parts.specs.vlog_elab.Plain.{plain_instances};
 ghost use Rattle.flat_parts.specs.Seats.{seats_of};
 ghost use Rattle.flat_parts.specs.Nets.{net_of, flat_nets};
 
-use flat_parts::net_design::Net;
 use flat_parts::vidi_bits::{Items, Memory, copied};
 use flat_parts::vlog_elab::ModuleInstance;
 use flat_parts::vlog_size::ScopeNets;
+use net_design::Net;
 use std::alloc::Global;
 
 /// The net at a place of an instance's nets.

@@ -1,17 +1,17 @@
 //! The ports of the flat design.
 
 ghost use Rattle.std.specs.Prelude.{◌≡◌, IfOk, option_map};
-ghost use Rattle.flat_parts.specs.vlog_tree.Plain.{plain_head, plain_module, plain_port};
+ghost use Rattle.vlog_tree.specs.Plain.{plain_head, plain_module, plain_port};
 ghost use Rattle.flat_parts.specs.vlog_size.Table.{value_of};
 ghost use Rattle.flat_parts.specs.vlog_meaning.Next as meaning;
 ghost use Rattle.flat_parts.specs.Nets.{flat_ports};
 ghost use Rattle.flat_layout.specs.Layout.{seen, direction_after};
 
-use flat_parts::net_design::{Direction, Port};
 use flat_parts::vidi_bits::{Items, Memory, copied};
 use flat_parts::vlog_size::{Scope, ScopeNets};
-use flat_parts::vlog_tree::{Direction as Written, Module, PortHead};
+use net_design::{Direction, Port};
 use std::alloc::Global;
+use vlog_tree::{Direction as Written, Module, PortHead};
 
 fn seen(direction: Written) -> Direction
     ensures { result ≡ seen direction }

@@ -1,5 +1,4 @@
 pub use Rattle.vlog_driver.proofs.net_code_lemmas as net_code_lemmas
-pub use Rattle.vlog_driver.proofs.net_design_lemmas as net_design_lemmas
 pub use Rattle.vlog_elab.proofs.vidi_bits_lemmas as vidi_bits_lemmas
 pub use Rattle.vlog_driver.proofs as vlog_driver_lemmas
 pub use Rattle.vlog_elab.proofs as vlog_elab_lemmas

@@ -1,11 +1,11 @@
 -- The flat design that has the parts of a file's instances.
 use Rattle.std.specs.Prelude.{◌≡◌, ℕ, ◌↔◌, Some, List, [], map, slice_get}
 use Rattle.std.specs.List.{AllZip}
-use Rattle.vlog_elab.specs.vlog_tree.Tree.{ModuleOf}
+use Rattle.vlog_tree.specs.Tree.{ModuleOf}
 use Rattle.vlog_elab.specs.vlog_scope.Scope.{scope_with}
-use Rattle.vlog_driver.specs.net_design.declared.design.Port.{Port}
-use Rattle.vlog_driver.specs.net_design.declared.design.Design.{Design}
-use Rattle.vlog_driver.specs.net_design.Names.{paths}
+use Rattle.net_design.specs.declared.design.Port.{Port}
+use Rattle.net_design.specs.declared.design.Design.{Design}
+use Rattle.net_design.specs.Names.{paths}
 use Rattle.vlog_elab.specs.Instances.{ModuleInstance}
 use Rattle.vlog_driver.specs.vlog_meaning.Names.{Name}
 use Rattle.vlog_driver.specs.vlog_meaning.Settled.{IsClock}

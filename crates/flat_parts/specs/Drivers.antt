@@ -2,10 +2,10 @@
 -- (this project's profile).
 use Rattle.std.specs.Prelude.{ℕ, List, [], ◌∷◌, ◌++◌, Option, None, Some}
 use Rattle.std.specs.List.{flat_map}
-use Rattle.vlog_elab.specs.vlog_tree.Tree.{EventOf, PosedgeEvent, ImplicitEvent, AlwaysOf, InstanceOf, ItemOf, WiresItem, DrivenWiresItem}
-use Rattle.vlog_elab.specs.vlog_tree.Tree.{RegsItem, LocalparamsItem, AssignItem, AlwaysItem, InstanceItem}
+use Rattle.vlog_tree.specs.Tree.{EventOf, PosedgeEvent, ImplicitEvent, AlwaysOf, InstanceOf, ItemOf, WiresItem, DrivenWiresItem}
+use Rattle.vlog_tree.specs.Tree.{RegsItem, LocalparamsItem, AssignItem, AlwaysItem, InstanceItem}
 use Rattle.vlog_elab.specs.vlog_names.Entries.{declared}
-use Rattle.vlog_driver.specs.net_design.declared.act.Code.{Code}
+use Rattle.net_design.specs.declared.act.Code.{Code}
 use Rattle.vlog_driver.specs.vlog_meaning.Placed.{Placed, placed_items}
 use Rattle.vlog_driver.specs.Sites.{Site}
 use Rattle.vlog_driver.specs.Drivers.{IsClocked}

@@ -3,16 +3,16 @@ use Rattle.std.specs.Prelude.{◌≡◌, ◌≢◌, ℕ, ◌+◌, ◌<◌, ◌�
 use Rattle.std.specs.Prelude.{option_map, Some}
 use Rattle.std.specs.Int.{bit_at}
 use Rattle.std.specs.List.{Contains, AllPairs, flat_map}
-use Rattle.vlog_elab.specs.vlog_tree.Tree.{ModuleOf, FileOf}
+use Rattle.vlog_tree.specs.Tree.{ModuleOf, FileOf}
 use Rattle.vlog_elab.specs.vlog_size.declared.scope.ScopeNet.{ScopeNet}
 use Rattle.vlog_elab.specs.vlog_size.declared.scope.Scope.{Scope}
 use Rattle.vlog_elab.specs.vlog_size.Table.{Named}
 use Rattle.vlog_elab.specs.Outlines.{place_of}
 use Rattle.vlog_elab.specs.vlog_scope.Scope.{scope_with}
-use Rattle.vlog_driver.specs.net_design.declared.design.Design.{Design}
-use Rattle.vlog_driver.specs.net_design.declared.values.Values.{Values}
-use Rattle.vlog_driver.specs.net_design.Names.{net_names}
-use Rattle.vlog_driver.specs.net_design.Settled.{held, initial}
+use Rattle.net_design.specs.declared.design.Design.{Design}
+use Rattle.net_design.specs.declared.values.Values.{Values}
+use Rattle.net_design.specs.Names.{net_names}
+use Rattle.net_design.specs.Settled.{held, initial}
 use Rattle.vlog_elab.specs.Instances.{ModuleInstance, instances}
 use Rattle.vlog_elab.specs.Reasons.{Clear}
 use Rattle.vlog_driver.specs.vlog_meaning.Names.{Full, numbers_at}

@@ -8,7 +8,6 @@ pub mod Built
 pub mod Meaning
 pub mod Laws
 pub use Rattle.vlog_driver.specs.net_code as net_code
-pub use Rattle.vlog_driver.specs.net_design as net_design
 pub use Rattle.vlog_driver.specs.net_drive as net_drive
 pub use Rattle.vlog_elab.specs.vidi_bits as vidi_bits
 pub use Rattle.vlog_driver.specs.vlog_block as vlog_block
@@ -20,4 +19,3 @@ pub use Rattle.vlog_driver.specs.vlog_meaning as vlog_meaning
 pub use Rattle.vlog_elab.specs.vlog_names as vlog_names
 pub use Rattle.vlog_elab.specs.vlog_scope as vlog_scope
 pub use Rattle.vlog_elab.specs.vlog_size as vlog_size
-pub use Rattle.vlog_elab.specs.vlog_tree as vlog_tree

@@ -2,15 +2,15 @@
 -- the design, and so for the next state and the initial one.
 use Rattle.std.specs.Prelude.{◌≡◌, ℕ, ◌<◌, ◌^◌, ◌↔◌, List, [], ◌∷◌, ◌++◌, map}
 use Rattle.std.specs.List.{flat_map, AllByRecursion}
-use Rattle.vlog_elab.specs.vlog_tree.Tree.{ModuleOf}
+use Rattle.vlog_tree.specs.Tree.{ModuleOf}
 use Rattle.vlog_elab.specs.vlog_size.declared.scope.ScopeMemory.{ScopeMemory}
 use Rattle.vlog_elab.specs.vlog_size.declared.scope.Scope.{Scope}
 use Rattle.vlog_elab.specs.vlog_size.Table.{Named}
-use Rattle.vlog_driver.specs.net_design.declared.design.DesignMemory.{DesignMemory}
-use Rattle.vlog_driver.specs.net_design.declared.design.Design.{Design}
-use Rattle.vlog_driver.specs.net_design.declared.values.Values.{Values}
-use Rattle.vlog_driver.specs.net_design.Names.{list_at, paths, net_names}
-use Rattle.vlog_driver.specs.net_design.Settled as design
+use Rattle.net_design.specs.declared.design.DesignMemory.{DesignMemory}
+use Rattle.net_design.specs.declared.design.Design.{Design}
+use Rattle.net_design.specs.declared.values.Values.{Values}
+use Rattle.net_design.specs.Names.{list_at, paths, net_names}
+use Rattle.net_design.specs.Settled as design
 use Rattle.vlog_driver.specs.vlog_meaning.Names.{Full, State, words_from}
 use Rattle.vlog_driver.specs.vlog_meaning.Instances.{IsAt}
 use Rattle.vlog_driver.specs.vlog_meaning.Settled as file

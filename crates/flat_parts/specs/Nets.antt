@@ -1,7 +1,7 @@
 -- The nets, memories and ports of the flat design (IEEE 1364-2005, 4.2, 4.9 and 12.3; this project's profile).
 use Rattle.std.specs.Prelude.{ℕ, ◌+◌, if◌then◌else◌, List, [], ◌∷◌, map}
 use Rattle.std.specs.List.{flat_map}
-use Rattle.vlog_elab.specs.vlog_tree.Tree.{ModuleOf}
+use Rattle.vlog_tree.specs.Tree.{ModuleOf}
 use Rattle.vlog_elab.specs.vlog_size.declared.scope.ScopeNet.{ScopeNet}
 use Rattle.vlog_elab.specs.vlog_size.declared.scope.ScopeMemory.{ScopeMemory}
 use Rattle.vlog_elab.specs.vlog_size.declared.scope.Scope.{Scope}
@@ -9,11 +9,11 @@ use Rattle.vlog_elab.specs.vlog_size.Table.{Named, value_of}
 use Rattle.vlog_elab.specs.vlog_names.declared.declaration.Declaration.{Declaration}
 use Rattle.vlog_elab.specs.vlog_names.declared.declaration.Declaration.TheVariants as d
 use Rattle.vlog_elab.specs.vlog_names.Entries.{port_entries, no_port}
-use Rattle.vlog_driver.specs.net_design.declared.design.Net.{Net}
-use Rattle.vlog_driver.specs.net_design.declared.design.DesignMemory.{DesignMemory}
-use Rattle.vlog_driver.specs.net_design.declared.design.Port.{Port}
-use Rattle.vlog_driver.specs.net_design.declared.design.Direction.{Direction}
-use Rattle.vlog_driver.specs.net_design.declared.design.Direction.TheVariants.{Input, Output}
+use Rattle.net_design.specs.declared.design.Net.{Net}
+use Rattle.net_design.specs.declared.design.DesignMemory.{DesignMemory}
+use Rattle.net_design.specs.declared.design.Port.{Port}
+use Rattle.net_design.specs.declared.design.Direction.{Direction}
+use Rattle.net_design.specs.declared.design.Direction.TheVariants.{Input, Output}
 use Rattle.vlog_driver.specs.vlog_meaning.Settled.{is_input}
 use Rattle.vlog_driver.specs.vlog_meaning.Next.{net_width}
 use Rattle.flat_parts.specs.Seats.{Seat}

@@ -4,14 +4,14 @@ use Rattle.std.specs.Prelude.{◌≡◌, ℕ, ◌+◌, nat_lt, Bool, ◌&&◌, n
 use Rattle.std.specs.Int.{bit_at}
 use Rattle.std.specs.List.{flat_map, list_any}
 use Rattle.vlog_elab.specs.vidi_bits.Findings.{told_if}
-use Rattle.vlog_elab.specs.vlog_tree.Tree.{ModuleOf}
+use Rattle.vlog_tree.specs.Tree.{ModuleOf}
 use Rattle.vlog_elab.specs.vidi_bits.Number.{has}
 use Rattle.vlog_elab.specs.vlog_size.declared.scope.ScopeNet.{ScopeNet}
 use Rattle.vlog_elab.specs.vlog_size.declared.scope.Scope.{Scope}
 use Rattle.vlog_elab.specs.vlog_size.Table.{Named}
-use Rattle.vlog_driver.specs.net_design.declared.design.Driver.{Driver}
-use Rattle.vlog_driver.specs.net_design.declared.design.Register.{Register}
-use Rattle.vlog_driver.specs.net_design.Bits.{named}
+use Rattle.net_design.specs.declared.design.Driver.{Driver}
+use Rattle.net_design.specs.declared.design.Register.{Register}
+use Rattle.net_design.specs.Bits.{named}
 use Rattle.vlog_elab.specs.vlog_names.Ports.{has_reg}
 use Rattle.vlog_driver.specs.vlog_meaning.Next.{initial_number}
 use Rattle.flat_parts.specs.Seats.{Seat}

@@ -9,6 +9,6 @@ mod bases;
 
 pub use bases::bases_of;
 pub use vlog_driver;
-pub use vlog_driver::{net_code, net_design, net_drive, vlog_latch};
+pub use vlog_driver::{net_code, net_drive, vlog_latch};
 pub use vlog_elab;
-pub use vlog_elab::{vidi_bits, vlog_hierarchy, vlog_names, vlog_scope, vlog_size, vlog_tree};
+pub use vlog_elab::{vidi_bits, vlog_hierarchy, vlog_names, vlog_scope, vlog_size};

@@ -1,12 +1,12 @@
 -- A walk over what adds entries to a table.
 use Rattle.std.proofs.Common.{◌≡◌, ℕ, ◌+◌, ◌<◌, List, ◌++◌, length, map, drop, get_or, sym, ap, ◌∙◌}
 use Rattle.std.specs.List.{flat_map}
-use Rattle.flat_parts.specs.vlog_tree.declared.module.Item.{Item}
-use Rattle.flat_parts.specs.vlog_tree.Plain.{plain_item}
+use Rattle.vlog_tree.specs.declared.module.Item.{Item}
+use Rattle.vlog_tree.specs.Plain.{plain_item}
 use Rattle.flat_parts.specs.vlog_size.declared.scope.Param.{Param}
 use Rattle.flat_parts.specs.vlog_size.Table.{Named}
 use Rattle.flat_parts.specs.vlog_scope.Scope.{after_item}
-use Rattle.flat_parts.proofs.net_design_lemmas.UpdateLaws.{from_here}
+use Rattle.net_design.proofs.UpdateLaws.{from_here}
 use Rattle.flat_parts.specs.vlog_meaning.Placed.{Placed, placed}
 use Rattle.flat_registers.specs.Tables.{with_entries}
 use Rattle.flat_registers.proofs.Tables.{entries_append}

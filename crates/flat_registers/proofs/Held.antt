@@ -7,8 +7,8 @@ use Rattle.std.specs.List.{AllZip}
 use Rattle.std.proofs.lemmas.Bool.{cases_lt, lt-ltb, le-ltb}
 use Rattle.std.proofs.lemmas.Nat.Bits.{bit_at-lt, bit_at_and, bit_at_ones, bit_at_ones_above}
 use Rattle.std.proofs.lemmas.List.{take_more, map-append}
-use Rattle.flat_parts.specs.net_design.declared.design.Driver.{Driver}
-use Rattle.flat_parts.specs.net_design.declared.design.Register.{Register}
+use Rattle.net_design.specs.declared.design.Driver.{Driver}
+use Rattle.net_design.specs.declared.design.Register.{Register}
 use Rattle.flat_parts.specs.vidi_bits.Number.{has}
 use Rattle.flat_parts.specs.net_code.declared.bit_map.BitMap.{BitMap}
 use Rattle.flat_parts.specs.net_code.BitMap.{mask_of, in_map}

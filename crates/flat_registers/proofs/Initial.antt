@@ -10,10 +10,10 @@ use Rattle.std.specs.List.{Contains, AllZip, enumerate_from}
 use Rattle.flat_parts.proofs.vidi_bits_lemmas.Lists.{head_in, tail_in, none_in, cases_in}
 use Rattle.flat_parts.specs.vlog_size.declared.scope.ScopeNet.{ScopeNet}
 use Rattle.flat_parts.specs.vlog_size.Table.{Named}
-use Rattle.flat_parts.specs.net_design.declared.design.Driver.{Driver}
-use Rattle.flat_parts.specs.net_design.declared.design.Net.{Net}
-use Rattle.flat_parts.specs.net_design.declared.design.Register.{Register}
-use Rattle.flat_parts.specs.net_design.Settled.{initial_number as register_number}
+use Rattle.net_design.specs.declared.design.Driver.{Driver}
+use Rattle.net_design.specs.declared.design.Net.{Net}
+use Rattle.net_design.specs.declared.design.Register.{Register}
+use Rattle.net_design.specs.Settled.{initial_number as register_number}
 use Rattle.flat_parts.specs.vlog_names.Ports.{has_reg}
 use Rattle.flat_parts.specs.vlog_meaning.Next.{initial_number}
 use Rattle.flat_parts.specs.vlog_elab.Instances.{ModuleInstance}

@@ -2,7 +2,7 @@
 use Rattle.std.proofs.Common.{◌≡◌, ℕ, ◌+◌, ◌++◌, List, [], ◌∷◌, length, drop, slice_get, Some, refl, ap, ◌∙◌, arith}
 use Rattle.std.specs.List.{flat_map}
 use Rattle.flat_parts.specs.vidi_bits.Findings.{told_if}
-use Rattle.flat_parts.specs.vlog_tree.Tree.{ModuleOf}
+use Rattle.vlog_tree.specs.Tree.{ModuleOf}
 use Rattle.flat_parts.specs.vlog_size.declared.scope.ScopeNet.{ScopeNet}
 use Rattle.flat_parts.specs.vlog_size.declared.scope.Scope.{Scope}
 use Rattle.flat_parts.specs.vlog_size.Size.{or_zero}

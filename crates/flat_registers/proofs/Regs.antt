@@ -8,13 +8,13 @@ use Rattle.std.specs.List.{Contains, list_any}
 use Rattle.flat_parts.proofs.vidi_bits_lemmas.Bools.{same_test, and_swap}
 use Rattle.flat_parts.proofs.vidi_bits_lemmas.Lists.{from_flat, in_flat, head_in, none_in, cases_in, some_same}
 use Rattle.flat_parts.specs.vidi_bits.Findings.{told_if}
-use Rattle.flat_parts.specs.vlog_tree.Tree.{ModuleOf}
+use Rattle.vlog_tree.specs.Tree.{ModuleOf}
 use Rattle.flat_parts.specs.vidi_bits.Number.{has}
 use Rattle.flat_parts.specs.vlog_size.declared.scope.ScopeNet.{ScopeNet}
 use Rattle.flat_parts.specs.vlog_size.declared.scope.Scope.{Scope}
 use Rattle.flat_parts.specs.vlog_size.Table.{Named}
-use Rattle.flat_parts.specs.net_design.declared.design.Driver.{Driver}
-use Rattle.flat_parts.specs.net_design.declared.design.Register.{Register}
+use Rattle.net_design.specs.declared.design.Driver.{Driver}
+use Rattle.net_design.specs.declared.design.Register.{Register}
 use Rattle.flat_parts.specs.vlog_names.Ports.{has_reg}
 use Rattle.flat_parts.specs.vlog_meaning.Next.{initial_number}
 use Rattle.flat_parts.specs.vlog_elab.Instances.{ModuleInstance}

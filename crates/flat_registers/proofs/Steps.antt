@@ -6,7 +6,7 @@ use Rattle.std.specs.List.{flat_map, AllByRecursion}
 use Rattle.flat_parts.proofs.vidi_bits_lemmas.Lists.{some_same}
 use Rattle.flat_parts.specs.vlog_size.declared.scope.ScopeNet.{ScopeNet}
 use Rattle.flat_parts.specs.vlog_size.Table.{Named}
-use Rattle.flat_parts.proofs.net_design_lemmas.UpdateLaws.{from_here}
+use Rattle.net_design.proofs.UpdateLaws.{from_here}
 
 pub drop_split : {X : Type 0} (xs : List X) (j : ℕ) (x : X) → slice_get xs j ≡ Some x → drop j xs ≡ x ∷ drop (j + 1) xs
 drop_split [] j x h = absurd (cc)

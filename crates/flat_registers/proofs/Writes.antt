@@ -6,14 +6,14 @@ use Rattle.std.proofs.lemmas.Option.{slice_get_within}
 use Rattle.std.proofs.lemmas.List.Folds.{list_any-append}
 use Rattle.std.specs.List.{Contains, AllZip, list_any}
 use Rattle.std.proofs.Math.Bool.{and-false, or-false}
-use Rattle.flat_parts.specs.vlog_tree.Tree.{IdentOf, ExprOf, TargetOf, EventOf, PosedgeEvent, ImplicitEvent, AlwaysOf, InstanceOf}
-use Rattle.flat_parts.specs.vlog_tree.Tree.{ItemOf, WiresItem, DrivenWiresItem, RegsItem, LocalparamsItem, AssignItem, AlwaysItem, InstanceItem}
+use Rattle.vlog_tree.specs.Tree.{IdentOf, ExprOf, TargetOf, EventOf, PosedgeEvent, ImplicitEvent, AlwaysOf, InstanceOf}
+use Rattle.vlog_tree.specs.Tree.{ItemOf, WiresItem, DrivenWiresItem, RegsItem, LocalparamsItem, AssignItem, AlwaysItem, InstanceItem}
 use Rattle.flat_parts.specs.vlog_size.declared.scope.ScopeNet.{ScopeNet}
 use Rattle.flat_parts.specs.vlog_size.Names.{Readable}
 use Rattle.flat_parts.specs.vlog_size.Table.{Named, value_of}
 use Rattle.flat_parts.specs.vlog_names.Entries.{declared}
-use Rattle.flat_parts.specs.net_design.declared.design.Driver.{Driver}
-use Rattle.flat_parts.specs.net_design.Bits.{named}
+use Rattle.net_design.specs.declared.design.Driver.{Driver}
+use Rattle.net_design.specs.Bits.{named}
 use Rattle.flat_parts.specs.vlog_block.Written.{always_writes}
 use Rattle.flat_parts.specs.vlog_latch.Blocks.{is_there}
 use Rattle.flat_parts.proofs.vlog_latch_lemmas.There.{body_there}

@@ -8,7 +8,7 @@ use Rattle.flat_parts.specs.vlog_names.Entries.{Names}
 use Rattle.flat_parts.specs.vlog_names.Ports.{is_reg}
 use Rattle.flat_parts.specs.vlog_elab.Instances.{ModuleInstance}
 use Rattle.flat_parts.specs.vidi_bits.Number.{has}
-use Rattle.flat_parts.specs.net_design.declared.design.Driver.{Driver}
+use Rattle.net_design.specs.declared.design.Driver.{Driver}
 use Rattle.flat_parts.specs.State.{RegPlace, regs_from, always_writes_bit}
 use Rattle.flat_registers.specs.declared.places.RegNet.{RegNet}
 

@@ -1,13 +1,13 @@
 //! The bits that an `always @*` of the design may write.
 
 ghost use Rattle.std.specs.Prelude.{◌≡◌, ℕ, ◌||◌, ◌&&◌, OnOk, IfOk};
-ghost use Rattle.flat_parts.specs.net_design.Bits.{named};
+ghost use Rattle.net_design.specs.Bits.{named};
 ghost use Rattle.flat_parts.specs.net_code.BitMap.{in_map};
 ghost use Rattle.flat_parts.specs.State.{always_writes_bit};
 
 use flat_parts::net_code::BitMap;
-use flat_parts::net_design::{Driver, Mask};
 use flat_parts::vidi_bits::Memory;
+use net_design::{Driver, Mask};
 use std::alloc::Global;
 
 /// Adds the bits that masks name.

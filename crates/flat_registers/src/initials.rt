@@ -2,8 +2,8 @@
 
 ghost use Rattle.std.specs.Prelude.{◌≡◌, ℕ, ◌∷◌, [], OnOk, IfOk, map};
 ghost use Rattle.std.specs.List.{flat_map};
-ghost use Rattle.flat_parts.specs.vlog_tree.Tree.{PortOf, Reg1Of};
-ghost use Rattle.flat_parts.specs.vlog_tree.Plain.{plain_module, plain_item, plain_ident, plain_expr, plain_port, plain_reg};
+ghost use Rattle.vlog_tree.specs.Tree.{PortOf, Reg1Of};
+ghost use Rattle.vlog_tree.specs.Plain.{plain_module, plain_item, plain_ident, plain_expr, plain_port, plain_reg};
 ghost use Rattle.flat_parts.specs.vlog_size.Table.{added, value_of};
 ghost use Rattle.flat_parts.specs.vlog_meaning.Placed.{Placed, placed, names_at};
 ghost use Rattle.flat_parts.specs.vlog_meaning.Next.{net_width, initial_at, port_initials, reg_initials, item_initials, initials};
@@ -12,8 +12,8 @@ ghost use Rattle.flat_registers.specs.Tables.{with_entries};
 use flat_parts::vidi_bits::{Memory, Name, copied};
 use flat_parts::vlog_scope::{declared_after, view_at};
 use flat_parts::vlog_size::{Scope, Table, assigned_number, checked, fixed};
-use flat_parts::vlog_tree::{Expr, Ident, Item, Module, Port, Reg1, RegTail};
 use std::alloc::Global;
+use vlog_tree::{Expr, Ident, Item, Module, Port, Reg1, RegTail};
 
 /// The width of the net of this name, 0 where there is none.
 fn net_width(scope: &Scope, name: &[u8]) -> u32

@@ -2,7 +2,7 @@
 
 ghost use Rattle.std.specs.Prelude.{◌≡◌, ℕ, List, IfOk};
 ghost use Rattle.std.specs.List.{AllZip};
-ghost use Rattle.flat_parts.specs.net_design.declared.design.Driver.{Driver};
+ghost use Rattle.net_design.specs.declared.design.Driver.{Driver};
 ghost use Rattle.flat_parts.specs.net_code.BitMap.{in_map};
 ghost use Rattle.flat_parts.specs.vlog_elab.Plain.{plain_instances};
 ghost use Rattle.flat_parts.specs.Instances.{AreDeclaredIn};
@@ -13,10 +13,10 @@ ghost use Rattle.flat_registers.specs.Places.{plain_place, plain_places, IsWritt
 use crate::always::always_bits;
 use crate::places::{RegNet, reg_nets};
 use flat_parts::net_code::BitMap;
-use flat_parts::net_design::{Driver, Register};
 use flat_parts::vidi_bits::{Items, Memory, ones};
 use flat_parts::vlog_elab::ModuleInstance;
 use flat_parts::vlog_names::ModuleTable;
+use net_design::{Driver, Register};
 use std::alloc::Global;
 
 /// The register of a reg, of which some `always @*` writes these bits. `Memory` where it hasn't 1 to 128 bits.

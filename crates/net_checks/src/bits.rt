@@ -1,7 +1,7 @@
 //! The bits that code writes and reads.
 
 use crate::build::{Part, Step, Value, code_with_bits};
-use net_sim::net_design::{Code, Mask, Timing};
+use net_design::{Code, Mask, Timing};
 use net_sim::vidi_bits::Items;
 use std::alloc::Global;
 

@@ -4,13 +4,13 @@
 //! let go of on the way.
 
 ghost use Rattle.std.specs.Prelude.{◌≡◌, [], IfSome};
-ghost use Rattle.net_sim.specs.net_design.Bits.{HasBits};
+ghost use Rattle.net_design.specs.Bits.{HasBits};
 
-use net_drive::net_code::{code_of, is_sized_block};
-use net_sim::net_design::{
+use net_design::{
     Act, Code, Design, DesignMemory, Direction, Driver, Guard, Instance, Lhs, Net, Place, Port,
     Register, Rhs, Room, Span, Timing, Values,
 };
+use net_drive::net_code::{code_of, is_sized_block};
 use net_sim::vidi_bits::{BinaryOp, Items, Numbers, UnaryOp};
 use std::alloc::Global;
 use std::boxed::Box;

@@ -1,9 +1,9 @@
 //! Initial states, next states, output pins and counts.
 
 use crate::build::{BIT_IN, NOTHING, Part, Plan, Step, Value, design_of, values};
+use net_design::{Design, Direction, Register, Values};
 use net_drive::net_code::is_sized;
 use net_reference::{initial_state, next_state, output_pins};
-use net_sim::net_design::{Design, Direction, Register, Values};
 use std::alloc::Global;
 
 // Numbers of nets and of words.

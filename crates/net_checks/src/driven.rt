@@ -1,8 +1,8 @@
 //! Designs' parts whose nets and memories are driven wrongly, and what is found in them.
 
 use crate::build::{Part, Step, Value, add_block, add_driver, add_memories, add_nets, nothing};
+use net_design::{Design, Driver};
 use net_drive::{Misdriven, NetKind, misdriven};
-use net_sim::net_design::{Design, Driver};
 use net_sim::vidi_bits::Items;
 use std::alloc::Global;
 

@@ -1,10 +1,10 @@
 //! The lawful design that `net_design` shows (its `specs/Example`), made in memory. What adds a part answers whether memory was found.
 
 ghost use Rattle.std.specs.Prelude.{◌≡◌, ◌++◌, ◌∷◌, [], IsTrue, IfSome, MatchOption, Some};
-ghost use Rattle.net_sim.specs.net_design.declared.design.Direction.TheVariants.{Input, Output};
-ghost use Rattle.net_sim.specs.net_design.Example.{net_of, port_of, pair, both_bits, four_words, copies, stores, assigned, combined, example};
+ghost use Rattle.net_design.specs.declared.design.Direction.TheVariants.{Input, Output};
+ghost use Rattle.net_design.specs.Example.{net_of, port_of, pair, both_bits, four_words, copies, stores, assigned, combined, example};
 
-use net_sim::net_design::{
+use net_design::{
     Act, Code, Design, DesignMemory, Direction, Driver, Instance, Mask, Net, Place, Port, Register,
     Rhs, Room, Span,
 };

@@ -1,14 +1,14 @@
 //! A bit is an input's, or held by the state, or written by one driver: tried on designs of a top that has one net of one bit, y.
 
 ghost use Rattle.std.specs.Prelude.{[], ◌≡◌, All, IsTrue, IfSome};
-ghost use Rattle.net_sim.specs.net_design.declared.act.Timing.TheVariants.{Blocking};
-ghost use Rattle.net_sim.specs.net_design.Bits.{HasBits};
+ghost use Rattle.net_design.specs.declared.act.Timing.TheVariants.{Blocking};
+ghost use Rattle.net_design.specs.Bits.{HasBits};
 
 use crate::build::{
     BIT_IN, Part, Step, Value, add_nets, add_ports, add_registers, add_top, code_with_bits, nothing,
 };
+use net_design::{Design, Direction, Driver, Register, Timing};
 use net_lawful::is_lawful;
-use net_sim::net_design::{Design, Direction, Driver, Register, Timing};
 use net_sim::vidi_bits::Items;
 use std::alloc::Global;
 

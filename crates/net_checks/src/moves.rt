@@ -1,10 +1,10 @@
 //! Code of an instance, moved to its first places.
 
 use crate::build::{Part, Step, Value, add_places, code_with_bits, word};
+use net_design::{Act, Code, Lhs, Place, Rhs, Timing};
 use net_drive::net_code::{
     Base, code_is_near, expression_is_near, move_code, move_expression, move_target, target_is_near,
 };
-use net_sim::net_design::{Act, Code, Lhs, Place, Rhs, Timing};
 use net_sim::vidi_bits::Items;
 use std::alloc::Global;
 

@@ -1,9 +1,9 @@
 //! Settled maps, tried by all values of small designs.
 
 use crate::build::{BIT_IN, NOTHING, Part, Plan, Step, Value, design_of, values};
+use net_design::{Design, Direction, Values};
 use net_drive::net_code::is_sized;
 use net_reference::is_settled;
-use net_sim::net_design::{Design, Direction, Values};
 use net_sim::vidi_bits::BinaryOp;
 use std::alloc::Global;
 

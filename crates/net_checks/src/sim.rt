@@ -3,11 +3,11 @@
 //! `assign y = t` stands before the `always @*` that gives t the number of q; q becomes d at each clock, and is 2 at first.
 
 ghost use Rattle.std.specs.Prelude.{◌≡◌, ◌<◌, IfSome};
-ghost use Rattle.net_sim.specs.net_design.Example.{example};
+ghost use Rattle.net_design.specs.Example.{example};
 
 use crate::example::example;
+use net_design::{Block, Design, lawful_design_shown};
 use net_sim::Sim;
-use net_sim::net_design::{Block, Design, lawful_design_shown};
 use net_sim::net_order::order;
 use std::alloc::Global;
 

@@ -9,5 +9,4 @@ pub mod RowBits
 pub mod WalkLaws
 pub mod TallyLaws
 pub mod TargetRows
-pub use Rattle.net_design.proofs as net_design_lemmas
 pub use Rattle.net_design.proofs.vidi_bits_lemmas as vidi_bits_lemmas

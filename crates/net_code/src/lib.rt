@@ -24,7 +24,6 @@ pub use move_laws::{
 pub use moved::{
     code_is_near, expression_is_near, move_code, move_expression, move_target, target_is_near,
 };
-pub use net_design;
 pub use net_design::vidi_bits;
 pub use sized::{is_narrow, is_sized, is_sized_block, is_width};
 pub use tally::Tally;

@@ -6,11 +6,11 @@ use Rattle.net_code.specs.Targets.{bit_count}
 use Rattle.net_code.proofs.vidi_bits_lemmas.Bools.{not_both}
 use Rattle.net_code.specs.vidi_bits.Findings.{first, told_if}
 use Rattle.net_code.specs.vidi_bits.Number.{truth}
-use Rattle.net_code.specs.net_design.declared.act.Place.{Place}
+use Rattle.net_design.specs.declared.act.Place.{Place}
 use Rattle.net_drive.specs.declared.findings.Misdriven.{Misdriven}
 use Rattle.net_drive.specs.declared.findings.Misdriven.TheVariants as what
-use Rattle.net_code.specs.net_design.declared.design.Net.{Net}
-use Rattle.net_code.specs.net_design.declared.design.DesignMemory.{DesignMemory}
+use Rattle.net_design.specs.declared.design.Net.{Net}
+use Rattle.net_design.specs.declared.design.DesignMemory.{DesignMemory}
 use Rattle.net_drive.specs.declared.findings.NetKind.{NetKind}
 use Rattle.net_drive.specs.Drive.{bit_faults, kind_faults, kind_at, nets_from, memory_at, memories_from}
 use Rattle.net_drive.specs.Tallied.{exact}

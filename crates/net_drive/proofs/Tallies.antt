@@ -9,8 +9,8 @@ use Rattle.std.proofs.lemmas.Nat.Bits.{bit_at-zero, bit_at_ones}
 use Rattle.net_code.proofs.vidi_bits_lemmas.Bools.{same_test}
 use Rattle.net_code.proofs.vidi_bits_lemmas.BitLemmas.{bit_at-put_below, bit_at-put_inside, bit_at-put_above}
 use Rattle.net_code.specs.vidi_bits.Number.{has, put_of}
-use Rattle.net_code.specs.net_design.declared.act.Place.{Place}
-use Rattle.net_code.specs.net_design.Bits.{place_writes}
+use Rattle.net_design.specs.declared.act.Place.{Place}
+use Rattle.net_design.specs.Bits.{place_writes}
 use Rattle.net_code.proofs.MaskLaws.{has_zero}
 use Rattle.net_code.specs.Targets.{plain_places, bit_count}
 

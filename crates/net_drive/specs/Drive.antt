@@ -4,11 +4,11 @@ use Rattle.std.specs.Prelude.{ℕ, zero, suc, ◌+◌, ◌==◌, min, not, nat_l
 use Rattle.std.specs.Prelude.{if◌then◌else◌}
 use Rattle.std.specs.List.{count_by, flat_map}
 use Rattle.net_code.specs.vidi_bits.Findings.{told_if}
-use Rattle.net_code.specs.net_design.declared.act.Place.{Place}
-use Rattle.net_code.specs.net_design.declared.act.Code.{Code}
-use Rattle.net_code.specs.net_design.declared.design.Net.{Net}
-use Rattle.net_code.specs.net_design.declared.design.DesignMemory.{DesignMemory}
-use Rattle.net_code.specs.net_design.declared.design.Driver.{Driver}
+use Rattle.net_design.specs.declared.act.Place.{Place}
+use Rattle.net_design.specs.declared.act.Code.{Code}
+use Rattle.net_design.specs.declared.design.Net.{Net}
+use Rattle.net_design.specs.declared.design.DesignMemory.{DesignMemory}
+use Rattle.net_design.specs.declared.design.Driver.{Driver}
 use Rattle.net_drive.specs.declared.findings.NetKind.{NetKind}
 use Rattle.net_drive.specs.declared.findings.NetKind.TheVariants.{Pin, Wire, Reg}
 use Rattle.net_drive.specs.declared.findings.Misdriven.{Misdriven}

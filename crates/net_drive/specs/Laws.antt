@@ -1,10 +1,10 @@
 -- What holds where nothing is found.
 use Rattle.std.specs.Prelude.{◌≡◌, ℕ, ◌<◌, ◌≤◌, min, List, [], Some, slice_get}
-use Rattle.net_code.specs.net_design.declared.act.Code.{Code}
-use Rattle.net_code.specs.net_design.declared.act.Place.{Place}
-use Rattle.net_code.specs.net_design.declared.design.Net.{Net}
-use Rattle.net_code.specs.net_design.declared.design.DesignMemory.{DesignMemory}
-use Rattle.net_code.specs.net_design.declared.design.Driver.{Driver}
+use Rattle.net_design.specs.declared.act.Code.{Code}
+use Rattle.net_design.specs.declared.act.Place.{Place}
+use Rattle.net_design.specs.declared.design.Net.{Net}
+use Rattle.net_design.specs.declared.design.DesignMemory.{DesignMemory}
+use Rattle.net_design.specs.declared.design.Driver.{Driver}
 use Rattle.net_drive.specs.declared.findings.NetKind.{NetKind}
 use Rattle.net_drive.specs.declared.findings.NetKind.TheVariants.{Pin, Wire, Reg}
 use Rattle.net_code.specs.Targets.{nets_named, rooms_named, bit_count}

@@ -1,7 +1,7 @@
 -- Bits that spans have, and those that have exactly one driver.
 use Rattle.std.specs.Prelude.{not, ◌&&◌, Bool, true, false, Option, None, Some}
-use Rattle.net_code.specs.net_design.declared.rhs.Span.{Span}
-use Rattle.net_code.specs.net_design.Bits.{BitSet, bits_of}
+use Rattle.net_design.specs.declared.rhs.Span.{Span}
+use Rattle.net_design.specs.Bits.{BitSet, bits_of}
 
 -- the bits of a span that may not be there
 abbrev pub span_writes : Option Span → BitSet

@@ -6,8 +6,8 @@ ghost use Rattle.net_code.specs.Targets.{block_targets, nets_named, rooms_named,
 ghost use Rattle.net_drive.specs.Drive.{driver_places, wire_places, always_names, block_names};
 
 use crate::targets::{add_targets, nets_named, rooms_named};
-use net_code::net_design::{Code, Driver, Place};
 use net_code::vidi_bits::{Items, Memory};
+use net_design::{Code, Driver, Place};
 use std::alloc::Global;
 
 /// For each always block the nets that it names as targets, and the first words of the memories.

@@ -4,7 +4,7 @@ ghost use Rattle.std.specs.Prelude.{◌≡◌, ◌++◌, List, ℕ, ◌+◌, ◌
 ghost use Rattle.net_code.specs.Tally.{IsLowTally, IsKeyTally};
 ghost use Rattle.net_code.specs.vidi_bits.Findings.{first};
 ghost use Rattle.net_code.specs.vidi_bits.Number.{has, truth};
-ghost use Rattle.net_code.specs.net_design.Bits.{bits_of, place_writes};
+ghost use Rattle.net_design.specs.Bits.{bits_of, place_writes};
 ghost use Rattle.net_code.specs.BitMap.{in_map, is_among};
 ghost use Rattle.net_drive.specs.declared.findings.Misdriven.{Misdriven};
 ghost use Rattle.net_code.specs.Targets.{plain_places, nets_named, rooms_named, bit_count};
@@ -16,8 +16,8 @@ use crate::blocks::{named_by, wire_places};
 use crate::findings::{Misdriven, NetKind};
 use crate::tally::{capped, net_span, tally_blocks, tally_places};
 use net_code::Tally;
-use net_code::net_design::{Code, DesignMemory, Driver, Net, Place, Span};
 use net_code::vidi_bits::{Items, Memory, slice};
+use net_design::{Code, DesignMemory, Driver, Net, Place, Span};
 use std::alloc::Global;
 
 /// Bit `k` of a number.

@@ -2,7 +2,7 @@
 
 ghost use Rattle.std.specs.Prelude.{◌≡◌, ℕ, ◌<◌, ◌≤◌, ◌+◌, ◌&&◌, ◌||◌, nat_le, nat_lt, min, IfOk, OnOk};
 ghost use Rattle.net_code.specs.vidi_bits.Number.{has};
-ghost use Rattle.net_code.specs.net_design.Bits.{bits_of, place_writes};
+ghost use Rattle.net_design.specs.Bits.{bits_of, place_writes};
 ghost use Rattle.net_code.specs.BitMap.{in_map};
 ghost use Rattle.net_code.specs.Tally.{IsLowTally, IsKeyTally};
 ghost use Rattle.net_code.specs.Targets.{plain_places, bit_count};
@@ -10,8 +10,8 @@ ghost use Rattle.net_drive.specs.Drive.{block_count};
 ghost use Rattle.net_drive.specs.Tallied.{span_writes};
 
 use net_code::Tally;
-use net_code::net_design::{Place, Span};
 use net_code::vidi_bits::{Items, Memory, ones, put};
+use net_design::{Place, Span};
 use std::alloc::Global;
 
 /// At most 128.

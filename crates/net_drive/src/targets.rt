@@ -1,12 +1,12 @@
 //! The places that statements name as targets.
 
 ghost use Rattle.std.specs.Prelude.{◌≡◌, ◌++◌, [], ◌∷◌, map, IfOk, OnOk};
-ghost use Rattle.net_code.specs.net_design.declared.act.Act.{Act};
+ghost use Rattle.net_design.specs.declared.act.Act.{Act};
 ghost use Rattle.net_code.specs.Targets.{targets, block_targets, guard_targets, plain_places};
 ghost use Rattle.net_code.specs.Targets.{place_net, place_room, nets_named, rooms_named};
 
-use net_code::net_design::{Act, Guard, Place};
 use net_code::vidi_bits::{Items, Memory};
+use net_design::{Act, Guard, Place};
 use std::alloc::Global;
 
 /// The targets of a choice, over its lists.

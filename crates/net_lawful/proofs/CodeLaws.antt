@@ -5,20 +5,20 @@ use Rattle.std.specs.List.{sum_by}
 use Rattle.std.proofs.lemmas.Bool.{leb-true, ltb-true, eqb-true, and_parts}
 use Rattle.std.proofs.lemmas.List.Folds.{Any-from_list_any}
 use Rattle.std.proofs.lemmas.List.Sums.{sum_by_more_le}
-use Rattle.net_code.specs.net_design.declared.rhs.Span.{Span}
-use Rattle.net_code.specs.net_design.declared.rhs.Room.{Room}
-use Rattle.net_code.specs.net_design.declared.act.Act.{Act}
-use Rattle.net_code.specs.net_design.declared.act.Code.{Code}
-use Rattle.net_code.specs.net_design.declared.act.Mask.{Mask}
-use Rattle.net_code.specs.net_design.declared.act.Timing.TheVariants.{Blocking, Nonblocking}
-use Rattle.net_code.specs.net_design.declared.design.Driver.{Driver}
-use Rattle.net_code.specs.net_design.declared.design.DesignMemory.{DesignMemory}
-use Rattle.net_code.specs.net_design.declared.design.Design.{Design}
-use Rattle.net_code.specs.net_design.Bits.{BitSet, HasBits, named}
-use Rattle.net_code.specs.net_design.Sized.{IsShort, IsCountable, IsSizedBlock}
-use Rattle.net_code.specs.net_design.Settled.{net_width, word_count}
-use Rattle.net_code.specs.net_design.Lawful.{IsInRange, is_span, is_room}
-use Rattle.net_code.proofs.net_design_lemmas.LawfulCode.{block_more, slice_get-at}
+use Rattle.net_design.specs.declared.rhs.Span.{Span}
+use Rattle.net_design.specs.declared.rhs.Room.{Room}
+use Rattle.net_design.specs.declared.act.Act.{Act}
+use Rattle.net_design.specs.declared.act.Code.{Code}
+use Rattle.net_design.specs.declared.act.Mask.{Mask}
+use Rattle.net_design.specs.declared.act.Timing.TheVariants.{Blocking, Nonblocking}
+use Rattle.net_design.specs.declared.design.Driver.{Driver}
+use Rattle.net_design.specs.declared.design.DesignMemory.{DesignMemory}
+use Rattle.net_design.specs.declared.design.Design.{Design}
+use Rattle.net_design.specs.Bits.{BitSet, HasBits, named}
+use Rattle.net_design.specs.Sized.{IsShort, IsCountable, IsSizedBlock}
+use Rattle.net_design.specs.Settled.{net_width, word_count}
+use Rattle.net_design.specs.Lawful.{IsInRange, is_span, is_room}
+use Rattle.net_design.proofs.LawfulCode.{block_more, slice_get-at}
 use Rattle.net_code.specs.declared.bit_map.BitMap.{BitMap}
 use Rattle.net_code.specs.BitMap.{in_map}
 use Rattle.net_lawful.specs.declared.rooms.Rooms.{Rooms}

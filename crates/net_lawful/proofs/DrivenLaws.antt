@@ -7,16 +7,16 @@ use Rattle.std.proofs.lemmas.List.Folds.{Any-from_list_any}
 use Rattle.std.proofs.lemmas.Nat.Bits.{bit_at_ones, bit_at_ones_above}
 use Rattle.std.proofs.lemmas.Option.{slice_get_past}
 use Rattle.net_code.specs.Tally.{IsTally}
-use Rattle.net_code.proofs.net_design_lemmas.LawfulCode.{width_past}
+use Rattle.net_design.proofs.LawfulCode.{width_past}
 use Rattle.net_code.proofs.vidi_bits_lemmas.Bools.{not_both}
-use Rattle.net_code.specs.net_design.declared.design.Driver.{Driver}
-use Rattle.net_code.specs.net_design.declared.design.Net.{Net}
-use Rattle.net_code.specs.net_design.declared.design.Register.{Register}
-use Rattle.net_code.specs.net_design.declared.design.Design.{Design}
+use Rattle.net_design.specs.declared.design.Driver.{Driver}
+use Rattle.net_design.specs.declared.design.Net.{Net}
+use Rattle.net_design.specs.declared.design.Register.{Register}
+use Rattle.net_design.specs.declared.design.Design.{Design}
 use Rattle.net_code.specs.vidi_bits.Number.{has}
-use Rattle.net_code.specs.net_design.Bits.{named}
-use Rattle.net_code.specs.net_design.Settled.{held, net_width}
-use Rattle.net_code.specs.net_design.Lawful.{is_input, is_input_port}
+use Rattle.net_design.specs.Bits.{named}
+use Rattle.net_design.specs.Settled.{held, net_width}
+use Rattle.net_design.specs.Lawful.{is_input, is_input_port}
 use Rattle.net_code.specs.BitMap.{in_map}
 use Rattle.net_code.proofs.MaskLaws.{has_less, has_zero}
 use Rattle.net_code.specs.declared.tally.Tally.{Tally}

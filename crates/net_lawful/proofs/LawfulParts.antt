@@ -1,9 +1,9 @@
 -- A lawful design, part by part.
 use Rattle.std.proofs.Common.{◌≢◌, ℕ, List}
 use Rattle.std.specs.List.{AllPairs}
-use Rattle.net_code.specs.net_design.declared.design.Design.{Design}
-use Rattle.net_code.specs.net_design.Lawful.{IsLawful}
-use Rattle.net_code.specs.net_design.Names.{net_names}
+use Rattle.net_design.specs.declared.design.Design.{Design}
+use Rattle.net_design.specs.Lawful.{IsLawful}
+use Rattle.net_design.specs.Names.{net_names}
 use Rattle.net_lawful.specs.Frame.{IsFramed}
 use Rattle.net_lawful.specs.State.{HasState}
 use Rattle.net_lawful.specs.Coded.{HasCode}

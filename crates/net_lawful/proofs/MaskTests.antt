@@ -8,9 +8,9 @@ use Rattle.std.proofs.lemmas.List.Folds.{Any-from_list_any, list_any_at}
 use Rattle.std.proofs.lemmas.Nat.{pow_pos, mod_below, shr_split}
 use Rattle.std.proofs.lemmas.Nat.Bits.{bit_at-lt, same_from_bits}
 use Rattle.net_code.proofs.vidi_bits_lemmas.Bools.{not_both, same_test}
-use Rattle.net_code.specs.net_design.declared.act.Mask.{Mask}
+use Rattle.net_design.specs.declared.act.Mask.{Mask}
 use Rattle.net_code.specs.vidi_bits.Number.{has}
-use Rattle.net_code.specs.net_design.Bits.{named}
+use Rattle.net_design.specs.Bits.{named}
 use Rattle.net_code.specs.declared.bit_map.BitMap.{BitMap}
 use Rattle.net_code.specs.BitMap.{in_map}
 use Rattle.net_code.proofs.MaskLaws.{has_and, has_zero}

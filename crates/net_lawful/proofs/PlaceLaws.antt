@@ -5,13 +5,13 @@ use Rattle.std.specs.List.{AllByRecursion}
 use Rattle.std.proofs.lemmas.Bool.{eqb-true, eq-eqb, or_right, false_from_ne_true, and_parts, and_from, or_parts, or_left, or_from}
 use Rattle.std.proofs.lemmas.List.{drop_more}
 use Rattle.net_code.proofs.vidi_bits_lemmas.Bools.{not_both}
-use Rattle.net_code.specs.net_design.declared.act.Act.{Act, Set, Read, Branch'}
-use Rattle.net_code.specs.net_design.declared.act.Mask.{Mask}
-use Rattle.net_code.specs.net_design.declared.act.Place.{Place}
+use Rattle.net_design.specs.declared.act.Act.{Act, Set, Read, Branch'}
+use Rattle.net_design.specs.declared.act.Mask.{Mask}
+use Rattle.net_design.specs.declared.act.Place.{Place}
 use Rattle.net_code.specs.vidi_bits.Number.{has}
-use Rattle.net_code.specs.net_design.Sized.{IsSizedPlace}
-use Rattle.net_code.specs.net_design.Bits.{BitSet, place_writes, target_writes, Apart}
-use Rattle.net_code.specs.net_design.Lawful.{IsEquation}
+use Rattle.net_design.specs.Sized.{IsSizedPlace}
+use Rattle.net_design.specs.Bits.{BitSet, place_writes, target_writes, Apart}
+use Rattle.net_design.specs.Lawful.{IsEquation}
 use Rattle.net_code.specs.declared.bit_map.BitMap.{BitMap}
 use Rattle.net_code.specs.BitMap.{in_map}
 use Rattle.net_code.proofs.MaskLaws.{has_zero}

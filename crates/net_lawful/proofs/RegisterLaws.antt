@@ -8,11 +8,11 @@ use Rattle.std.proofs.lemmas.List.{get_or-take, get_or_default, length-take-le}
 use Rattle.std.proofs.lemmas.List.Folds.{Any-from_list_any, list_any_at, list_any_more}
 use Rattle.std.proofs.lemmas.Nat.Bits.{bit_at-lt, bit_at_above}
 use Rattle.net_code.proofs.vidi_bits_lemmas.Bools.{not_both}
-use Rattle.net_code.proofs.net_design_lemmas.LawfulCode.{width_at}
-use Rattle.net_code.specs.net_design.declared.design.Register.{Register}
-use Rattle.net_code.specs.net_design.declared.design.Design.{Design}
+use Rattle.net_design.proofs.LawfulCode.{width_at}
+use Rattle.net_design.specs.declared.design.Register.{Register}
+use Rattle.net_design.specs.declared.design.Design.{Design}
 use Rattle.net_code.specs.vidi_bits.Number.{has}
-use Rattle.net_code.specs.net_design.Settled.{net_width}
+use Rattle.net_design.specs.Settled.{net_width}
 use Rattle.net_code.specs.declared.bit_map.BitMap.{BitMap}
 use Rattle.net_code.specs.BitMap.{in_map}
 use Rattle.net_lawful.specs.Frame.{IsFramed}

@@ -11,11 +11,11 @@ use Rattle.std.proofs.lemmas.Option.{get_or_from_slice_get}
 use Rattle.std.proofs.lemmas.List.{get_or-take, take-take, length-take-le}
 use Rattle.std.proofs.lemmas.List.Folds.{Any-from_list_any, list_any_more}
 use Rattle.std.proofs.lemmas.List.Sums.{sum_by_more, sum_by_more_le}
-use Rattle.net_code.specs.net_design.Settled.{room_length}
+use Rattle.net_design.specs.Settled.{room_length}
 use Rattle.net_code.proofs.vidi_bits_lemmas.Bools.{or_none}
-use Rattle.net_code.specs.net_design.declared.rhs.Room.{Room}
-use Rattle.net_code.specs.net_design.declared.design.DesignMemory.{DesignMemory}
-use Rattle.net_code.proofs.net_design_lemmas.LawfulCode.{slice_get-at}
+use Rattle.net_design.specs.declared.rhs.Room.{Room}
+use Rattle.net_design.specs.declared.design.DesignMemory.{DesignMemory}
+use Rattle.net_design.proofs.LawfulCode.{slice_get-at}
 use Rattle.net_lawful.specs.declared.rooms.Rooms.{Rooms}
 use Rattle.net_lawful.specs.Frame.{HaveRooms}
 use Rattle.net_lawful.specs.Rooms.{extent_at, extent_of, has_room, is_extent, is_room_of}

@@ -1,12 +1,12 @@
 -- Whether a choice writes words of memories, over its lists.
 use Rattle.std.proofs.Common.{◌≡◌, ◌||◌, List, refl, ap, sym, ◌∙◌}
-use Rattle.net_code.specs.net_design.declared.act.Guard.{Guard}
-use Rattle.net_code.specs.net_design.declared.act.Act.{Act, Row_of-Act, end_of-Act, more_of-Act, Row_of-Guard, end_of-Guard, more_of-Guard}
-use Rattle.net_code.specs.net_design.declared.act.Act.{items-the_row-Act, items_shown-the_row-Act-0, items_hidden-the_row-Act-0, items-the_row-Guard}
-use Rattle.net_code.specs.net_design.declared.act.Act.{items_hidden-the_row-Guard-1}
-use Rattle.net_code.specs.net_design.declared.act.Act.TheVariants.{Branch}
-use Rattle.net_code.specs.net_design.declared.act.Act.TheBlock.{hidden-the_row-Act-0, hidden-the_row-Guard-1, shown-the_row-Act-0}
-use Rattle.net_code.specs.net_design.Bits.{writes_words, guards_write_words, row_writes_words, block_writes_words}
+use Rattle.net_design.specs.declared.act.Guard.{Guard}
+use Rattle.net_design.specs.declared.act.Act.{Act, Row_of-Act, end_of-Act, more_of-Act, Row_of-Guard, end_of-Guard, more_of-Guard}
+use Rattle.net_design.specs.declared.act.Act.{items-the_row-Act, items_shown-the_row-Act-0, items_hidden-the_row-Act-0, items-the_row-Guard}
+use Rattle.net_design.specs.declared.act.Act.{items_hidden-the_row-Guard-1}
+use Rattle.net_design.specs.declared.act.Act.TheVariants.{Branch}
+use Rattle.net_design.specs.declared.act.Act.TheBlock.{hidden-the_row-Act-0, hidden-the_row-Guard-1, shown-the_row-Act-0}
+use Rattle.net_design.specs.Bits.{writes_words, guards_write_words, row_writes_words, block_writes_words}
 use Rattle.net_lawful.specs.Words.{guards_write}
 
 of_row : {n : _} → (row : Row_of-Act n) → row_writes_words row ≡ block_writes_words (items-the_row-Act n row)

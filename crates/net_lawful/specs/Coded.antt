@@ -1,13 +1,13 @@
 -- The clauses of lawful designs that speak of code.
 use Rattle.std.specs.Prelude.{◌≡◌, ℕ, true, false, All}
-use Rattle.net_code.specs.net_design.declared.rhs.Room.{Room}
-use Rattle.net_code.specs.net_design.declared.act.Code.{Code}
-use Rattle.net_code.specs.net_design.declared.act.Timing.TheVariants.{Blocking, Nonblocking}
-use Rattle.net_code.specs.net_design.declared.design.Driver.{Driver}
-use Rattle.net_code.specs.net_design.declared.design.Design.{Design}
-use Rattle.net_code.specs.net_design.Bits.{named, block_adds, HasBits}
-use Rattle.net_code.specs.net_design.Settled.{held}
-use Rattle.net_code.specs.net_design.Lawful.{is_room, IsEquation, IsDriver, IsClocked}
+use Rattle.net_design.specs.declared.rhs.Room.{Room}
+use Rattle.net_design.specs.declared.act.Code.{Code}
+use Rattle.net_design.specs.declared.act.Timing.TheVariants.{Blocking, Nonblocking}
+use Rattle.net_design.specs.declared.design.Driver.{Driver}
+use Rattle.net_design.specs.declared.design.Design.{Design}
+use Rattle.net_design.specs.Bits.{named, block_adds, HasBits}
+use Rattle.net_design.specs.Settled.{held}
+use Rattle.net_design.specs.Lawful.{is_room, IsEquation, IsDriver, IsClocked}
 use Rattle.net_code.specs.declared.bit_map.BitMap.{BitMap}
 use Rattle.net_code.specs.BitMap.{in_map}
 use Rattle.net_lawful.specs.declared.rooms.Rooms.{Rooms}

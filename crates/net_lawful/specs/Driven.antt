@@ -1,12 +1,12 @@
 -- Who writes each bit of each net.
 use Rattle.std.specs.Prelude.{◌≡◌, ℕ, ◌<◌, ◌⊎◌, Bool, true, false, List}
 use Rattle.std.specs.List.{count_by}
-use Rattle.net_code.specs.net_design.declared.design.Driver.{Driver}
-use Rattle.net_code.specs.net_design.declared.design.Design.{Design}
+use Rattle.net_design.specs.declared.design.Driver.{Driver}
+use Rattle.net_design.specs.declared.design.Design.{Design}
 use Rattle.net_code.specs.vidi_bits.Number.{has}
-use Rattle.net_code.specs.net_design.Bits.{named}
-use Rattle.net_code.specs.net_design.Settled.{held}
-use Rattle.net_code.specs.net_design.Lawful.{IsBit, is_input}
+use Rattle.net_design.specs.Bits.{named}
+use Rattle.net_design.specs.Settled.{held}
+use Rattle.net_design.specs.Lawful.{IsBit, is_input}
 
 -- how many drivers write bit k of net m
 abbrev pub writers : List Driver → ℕ → ℕ → ℕ

@@ -1,14 +1,14 @@
 -- The clauses of lawful designs that speak of instances, nets, memories, ports and the clock (this project's profile).
 use Rattle.std.specs.Prelude.{◌≡◌, ℕ, ◌<◌, ◌≤◌, true, List, take, length, slice_get, All, Some}
 use Rattle.std.specs.List.{sum_by}
-use Rattle.net_code.specs.net_design.declared.design.Net.{Net}
-use Rattle.net_code.specs.net_design.declared.design.DesignMemory.{DesignMemory}
-use Rattle.net_code.specs.net_design.declared.design.Port.{Port}
-use Rattle.net_code.specs.net_design.declared.design.Design.{Design}
+use Rattle.net_design.specs.declared.design.Net.{Net}
+use Rattle.net_design.specs.declared.design.DesignMemory.{DesignMemory}
+use Rattle.net_design.specs.declared.design.Port.{Port}
+use Rattle.net_design.specs.declared.design.Design.{Design}
 use Rattle.net_code.specs.vidi_bits.Number.{IsWidth}
-use Rattle.net_code.specs.net_design.Names.{AreAfterParents}
-use Rattle.net_code.specs.net_design.Settled.{net_width}
-use Rattle.net_code.specs.net_design.Lawful.{AreSmall, counts, is_input}
+use Rattle.net_design.specs.Names.{AreAfterParents}
+use Rattle.net_design.specs.Settled.{net_width}
+use Rattle.net_design.specs.Lawful.{AreSmall, counts, is_input}
 
 -- nets of one of n instances
 abbrev pub AreNets : ℕ → List Net → Type 0

@@ -1,6 +1,6 @@
 -- Masks and sets of bits, compared.
 use Rattle.std.specs.Prelude.{◌≡◌, ℕ, Bool, true}
-use Rattle.net_code.specs.net_design.declared.act.Mask.{Mask}
+use Rattle.net_design.specs.declared.act.Mask.{Mask}
 use Rattle.net_code.specs.vidi_bits.Number.{has}
 use Rattle.net_code.specs.declared.bit_map.BitMap.{BitMap}
 use Rattle.net_code.specs.BitMap.{in_map}

@@ -2,16 +2,16 @@
 use Rattle.std.specs.Prelude.{ℕ, ◌==◌, ◌&&◌, nat_le, Bool, false, IsTrue, List, Option, None, Some}
 use Rattle.std.specs.Ordering.{nat_cmp}
 use Rattle.std.specs.BTreeMap as tree
-use Rattle.net_code.specs.net_design.declared.rhs.Span.{Span}
-use Rattle.net_code.specs.net_design.declared.rhs.Room.{Room}
-use Rattle.net_code.specs.net_design.declared.rhs.Rhs.{Rhs}
-use Rattle.net_code.specs.net_design.declared.act.Place.{Place}
-use Rattle.net_code.specs.net_design.declared.act.Guard.{Guard}
-use Rattle.net_code.specs.net_design.declared.act.Act.{Act}
-use Rattle.net_code.specs.net_design.declared.design.DesignMemory.{DesignMemory}
-use Rattle.net_code.specs.net_design.declared.design.Design.{Design}
-use Rattle.net_code.specs.net_design.Sized.{IsRhs, IsPlace, IsAct, IsBlock, AreGuards}
-use Rattle.net_code.specs.net_design.Lawful.{is_span}
+use Rattle.net_design.specs.declared.rhs.Span.{Span}
+use Rattle.net_design.specs.declared.rhs.Room.{Room}
+use Rattle.net_design.specs.declared.rhs.Rhs.{Rhs}
+use Rattle.net_design.specs.declared.act.Place.{Place}
+use Rattle.net_design.specs.declared.act.Guard.{Guard}
+use Rattle.net_design.specs.declared.act.Act.{Act}
+use Rattle.net_design.specs.declared.design.DesignMemory.{DesignMemory}
+use Rattle.net_design.specs.declared.design.Design.{Design}
+use Rattle.net_design.specs.Sized.{IsRhs, IsPlace, IsAct, IsBlock, AreGuards}
+use Rattle.net_design.specs.Lawful.{is_span}
 use Rattle.net_lawful.specs.declared.rooms.Extent.{Extent}
 use Rattle.net_lawful.specs.declared.rooms.Rooms.{Rooms}
 

@@ -1,9 +1,9 @@
 -- The clauses of lawful designs that speak of registers.
 use Rattle.std.specs.Prelude.{◌≢◌, List, All}
 use Rattle.std.specs.List.{AllPairs}
-use Rattle.net_code.specs.net_design.declared.design.Register.{Register}
-use Rattle.net_code.specs.net_design.declared.design.Design.{Design}
-use Rattle.net_code.specs.net_design.Lawful.{IsRegister}
+use Rattle.net_design.specs.declared.design.Register.{Register}
+use Rattle.net_design.specs.declared.design.Design.{Design}
+use Rattle.net_design.specs.Lawful.{IsRegister}
 
 -- no two are the same net
 abbrev pub NetsDiffer : List Register → Type 0

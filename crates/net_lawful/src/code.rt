@@ -1,10 +1,10 @@
 //! Drivers and clocked blocks.
 
 ghost use Rattle.std.specs.Prelude.{◌≡◌, ◌↔◌, IsTrue, All, IfOk};
-ghost use Rattle.net_code.specs.net_design.declared.act.Timing.TheVariants.{Blocking, Nonblocking};
-ghost use Rattle.net_code.specs.net_design.Sized.{IsSizedBlock};
-ghost use Rattle.net_code.specs.net_design.Bits.{HasBits};
-ghost use Rattle.net_code.specs.net_design.Lawful.{IsInRange, IsDriver, IsClocked};
+ghost use Rattle.net_design.specs.declared.act.Timing.TheVariants.{Blocking, Nonblocking};
+ghost use Rattle.net_design.specs.Sized.{IsSizedBlock};
+ghost use Rattle.net_design.specs.Bits.{HasBits};
+ghost use Rattle.net_design.specs.Lawful.{IsInRange, IsDriver, IsClocked};
 ghost use Rattle.net_lawful.specs.Frame.{IsFramed};
 ghost use Rattle.net_lawful.specs.Coded.{AreRooms, IsHeld, IsWhole, IsOwn, IsProper, HaveBits, HasCode};
 
@@ -13,9 +13,9 @@ use crate::places::is_equation;
 use crate::range::acts_in;
 use crate::rooms::{Rooms, design_rooms};
 use crate::words::acts_write;
-use net_code::net_design::{Act, Code, Design, Driver};
 use net_code::vidi_bits::{Items, Memory};
 use net_code::{BitMap, surely_assigned};
+use net_design::{Act, Code, Design, Driver};
 use std::alloc::Global;
 
 /// Whether all that statements name is there, with widths of 1 to 128.

@@ -9,9 +9,9 @@ ghost use Rattle.net_lawful.specs.Driven.{writers, RestDriven, AreDriven, IsNetD
 
 use crate::frame::{is_input, net_width};
 use crate::masks::{is_apart, is_within};
-use net_code::net_design::{Design, Driver};
 use net_code::vidi_bits::{Memory, ones};
 use net_code::{BitMap, Tally};
+use net_design::{Design, Driver};
 use std::alloc::Global;
 
 /// How often drivers write each bit.

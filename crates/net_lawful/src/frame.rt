@@ -2,15 +2,15 @@
 
 ghost use Rattle.std.specs.Prelude.{◌≡◌, ℕ, ◌^◌, ◌<◌, ◌≤◌, ◌↔◌, IsTrue, length, slice_index, slice_get, map};
 ghost use Rattle.std.specs.List.{sum_by};
-ghost use Rattle.net_code.specs.net_design.declared.design.Net.{Net};
-ghost use Rattle.net_code.specs.net_design.declared.design.DesignMemory.{DesignMemory};
-ghost use Rattle.net_code.specs.net_design.Names.{AreAfterParents};
-ghost use Rattle.net_code.specs.net_design.Settled.{net_width, word_count};
-ghost use Rattle.net_code.specs.net_design.Lawful.{AreSmall, counts, is_input, is_input_port};
+ghost use Rattle.net_design.specs.declared.design.Net.{Net};
+ghost use Rattle.net_design.specs.declared.design.DesignMemory.{DesignMemory};
+ghost use Rattle.net_design.specs.Names.{AreAfterParents};
+ghost use Rattle.net_design.specs.Settled.{net_width, word_count};
+ghost use Rattle.net_design.specs.Lawful.{AreSmall, counts, is_input, is_input_port};
 ghost use Rattle.net_lawful.specs.Frame.{AreNets, AreMemories, HaveRooms, IsPortNet, HavePortNets, HasClock, IsFramed};
 
 use net_code::is_width;
-use net_code::net_design::{Design, DesignMemory, Direction, Instance, Net, Port};
+use net_design::{Design, DesignMemory, Direction, Instance, Net, Port};
 
 /// The width of net `m`, 0 past the last one.
 pub fn net_width(design: &Design, m: usize) -> u32

@@ -2,10 +2,10 @@
 
 ghost use Rattle.std.specs.Prelude.{◌≡◌, ◌≢◌, ◌↔◌, ℕ, List, true, IsTrue, All, IfOk};
 ghost use Rattle.std.specs.List.{AllPairs};
-ghost use Rattle.net_code.specs.net_design.declared.act.Timing.TheVariants.{Blocking, Nonblocking};
-ghost use Rattle.net_code.specs.net_design.Bits.{HasBits};
-ghost use Rattle.net_code.specs.net_design.Lawful.{IsLawful};
-ghost use Rattle.net_code.specs.net_design.Names.{net_names};
+ghost use Rattle.net_design.specs.declared.act.Timing.TheVariants.{Blocking, Nonblocking};
+ghost use Rattle.net_design.specs.Bits.{HasBits};
+ghost use Rattle.net_design.specs.Lawful.{IsLawful};
+ghost use Rattle.net_design.specs.Names.{net_names};
 ghost use Rattle.net_lawful.specs.Frame.{IsFramed};
 ghost use Rattle.net_lawful.specs.State.{HasState};
 ghost use Rattle.net_lawful.specs.Coded.{HaveBits, HasCode};
@@ -15,8 +15,8 @@ use crate::code::has_code;
 use crate::driven::is_driven;
 use crate::frame::is_framed;
 use crate::registers::{has_state, held_bits};
-use net_code::net_design::Design;
 use net_code::vidi_bits::Memory;
+use net_design::Design;
 use std::alloc::Global;
 
 /// Whether all code is lawful, and each bit of a net is given once.

@@ -2,12 +2,12 @@
 
 ghost use Rattle.std.specs.Prelude.{◌≡◌, ℕ, ◌<◌, ◌≤◌, ◌↔◌, ◌^◌, IsTrue, true, false, All};
 ghost use Rattle.net_code.specs.vidi_bits.Number.{has};
-ghost use Rattle.net_code.specs.net_design.Bits.{named};
+ghost use Rattle.net_design.specs.Bits.{named};
 ghost use Rattle.net_code.specs.BitMap.{in_map};
 ghost use Rattle.net_lawful.specs.Masks.{MaskIs};
 
 use net_code::BitMap;
-use net_code::net_design::Mask;
+use net_design::Mask;
 
 /// Whether a number has at most `width` bits.
 #[tactic(auto, using(crate::proofs::MaskTests::below_power))]

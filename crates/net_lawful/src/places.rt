@@ -3,15 +3,15 @@
 ghost use Rattle.std.specs.Prelude.{◌≡◌, ℕ, ◌+◌, ◌≤◌, ◌==◌, ◌&&◌, ◌||◌, ◌↔◌, IsTrue, true, false, [], ◌∷◌, OnOk, IfOk};
 ghost use Rattle.std.specs.List.{AllByRecursion};
 ghost use Rattle.net_code.specs.vidi_bits.Number.{has};
-ghost use Rattle.net_code.specs.net_design.Sized.{IsSizedPlace, IsSizedAct, IsSizedBlock};
-ghost use Rattle.net_code.specs.net_design.Bits.{bits_of, place_writes, Apart};
-ghost use Rattle.net_code.specs.net_design.Lawful.{IsEquation};
+ghost use Rattle.net_design.specs.Sized.{IsSizedPlace, IsSizedAct, IsSizedBlock};
+ghost use Rattle.net_design.specs.Bits.{bits_of, place_writes, Apart};
+ghost use Rattle.net_design.specs.Lawful.{IsEquation};
 ghost use Rattle.net_code.specs.BitMap.{in_map};
 
 use crate::masks::mask_apart;
-use net_code::net_design::{Act, Mask, Place, Span};
 use net_code::vidi_bits::{Items, Memory};
 use net_code::{BitMap, span_mask};
+use net_design::{Act, Mask, Place, Span};
 use std::alloc::Global;
 
 /// The bits of a span.

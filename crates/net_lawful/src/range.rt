@@ -2,15 +2,15 @@
 
 ghost use Rattle.std.specs.Prelude.{◌≡◌, ◌↔◌, IsTrue};
 ghost use Rattle.std.specs.List.{AllByRecursion};
-ghost use Rattle.net_code.specs.net_design.declared.act.Act.{Act};
-ghost use Rattle.net_code.specs.net_design.Lawful.{is_span};
+ghost use Rattle.net_design.specs.declared.act.Act.{Act};
+ghost use Rattle.net_design.specs.Lawful.{is_span};
 ghost use Rattle.net_lawful.specs.Rooms.{has_room, IsSpan, IsRoom, IsRhsIn, IsPlaceIn, IsActIn, IsBlockIn, AreGuardsIn};
 
 use crate::frame::net_width;
 use crate::rooms::Rooms;
-use net_code::net_design::{Act, Design, Guard, Place, Rhs, Span};
 use net_code::vidi_bits::Items;
 use net_code::{is_narrow, is_width};
+use net_design::{Act, Design, Guard, Place, Rhs, Span};
 
 /// Whether a span names bits of a net that is there.
 fn is_span(design: &Design, span: Span) -> bool

@@ -3,8 +3,8 @@
 ghost use Rattle.std.specs.Prelude.{◌≡◌, ℕ, ◌^◌, ◌<◌, ◌↔◌, IsTrue, false, All, IfOk};
 ghost use Rattle.std.specs.Int.{bit_at};
 ghost use Rattle.net_code.specs.vidi_bits.Number.{has};
-ghost use Rattle.net_code.specs.net_design.Settled.{held, net_width};
-ghost use Rattle.net_code.specs.net_design.Lawful.{IsRegister};
+ghost use Rattle.net_design.specs.Settled.{held, net_width};
+ghost use Rattle.net_design.specs.Lawful.{IsRegister};
 ghost use Rattle.net_code.specs.BitMap.{in_map};
 ghost use Rattle.net_lawful.specs.Frame.{IsFramed};
 ghost use Rattle.net_lawful.specs.State.{NetsDiffer, HasState};
@@ -12,8 +12,8 @@ ghost use Rattle.net_lawful.specs.State.{NetsDiffer, HasState};
 use crate::frame::{is_input, net_width};
 use crate::masks::{fits, is_apart, is_within};
 use net_code::BitMap;
-use net_code::net_design::{Design, Register};
 use net_code::vidi_bits::Memory;
+use net_design::{Design, Register};
 use std::alloc::Global;
 
 /// Whether a number has no bit but those that are held.

@@ -2,14 +2,14 @@
 
 ghost use Rattle.std.specs.Prelude.{◌≡◌, ℕ, ◌==◌, ◌≤◌, ◌↔◌, if◌then◌else◌, All, Some, IsTrue, false, OnOk, IfOk};
 ghost use Rattle.std.specs.List.{list_any};
-ghost use Rattle.net_code.specs.net_design.declared.rhs.Room.{Room};
-ghost use Rattle.net_code.specs.net_design.declared.design.DesignMemory.{DesignMemory};
+ghost use Rattle.net_design.specs.declared.rhs.Room.{Room};
+ghost use Rattle.net_design.specs.declared.design.DesignMemory.{DesignMemory};
 ghost use Rattle.net_lawful.specs.Frame.{HaveRooms, IsFramed};
 ghost use Rattle.net_lawful.specs.Coded.{AreRooms};
 ghost use Rattle.net_lawful.specs.Rooms.{extent_at, extent_of, has_room, is_room_of};
 
-use net_code::net_design::{Design, DesignMemory, Room};
 use net_code::vidi_bits::Memory;
+use net_design::{Design, DesignMemory, Room};
 use std::alloc::Global;
 use std::collections::BTreeMap;
 

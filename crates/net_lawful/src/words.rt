@@ -2,12 +2,12 @@
 
 ghost use Rattle.std.specs.Prelude.{◌≡◌, ◌||◌};
 ghost use Rattle.std.specs.List.{list_any};
-ghost use Rattle.net_code.specs.net_design.declared.act.Act.{Act};
-ghost use Rattle.net_code.specs.net_design.Bits.{place_is_word, writes_words, block_writes_words};
+ghost use Rattle.net_design.specs.declared.act.Act.{Act};
+ghost use Rattle.net_design.specs.Bits.{place_is_word, writes_words, block_writes_words};
 ghost use Rattle.net_lawful.specs.Words.{guards_write};
 
-use net_code::net_design::{Act, Guard, Place};
 use net_code::vidi_bits::Items;
+use net_design::{Act, Guard, Place};
 
 fn is_word(place: &Place) -> bool
     ensures { result ≡ place_is_word place.now }

@@ -16,5 +16,4 @@ pub mod Settling
 pub mod Entered
 pub mod OneMap
 pub mod Known
-pub use Rattle.net_design.proofs as net_design_lemmas
 pub use Rattle.net_design.proofs.vidi_bits_lemmas as vidi_bits_lemmas

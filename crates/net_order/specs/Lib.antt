@@ -6,5 +6,4 @@ pub mod Steps
 pub mod Index
 pub mod Reading
 pub mod Run
-pub use Rattle.net_design.specs as net_design
 pub use Rattle.net_design.specs.vidi_bits as vidi_bits

@@ -9,5 +9,4 @@ mod reference;
 mod statement;
 
 pub use expression::value_of;
-pub use net_design;
 pub use reference::{after_block, initial_state, is_settled, next_state, output_pins};

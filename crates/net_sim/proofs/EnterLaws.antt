@@ -2,8 +2,8 @@
 use Rattle.std.proofs.Common.{◌≡◌, ℕ, zero, suc, ◌+◌, ◌<◌, Bool, true, false, List, [], ◌∷◌, ◌++◌, length, get_or, take, drop}
 use Rattle.std.proofs.Common.{slice_index, slice_set, if◌then◌else◌, refl, ap, sym, ◌∙◌, append_assoc, arith}
 use Rattle.std.proofs.lemmas.List.{take_more_set, drop-drop, drop-set-lt}
-use Rattle.net_order.specs.net_design.declared.design.Port.{Port}
-use Rattle.net_order.proofs.net_design_lemmas.UpdateLaws.{from_here}
+use Rattle.net_design.specs.declared.design.Port.{Port}
+use Rattle.net_design.proofs.UpdateLaws.{from_here}
 use Rattle.net_order.specs.Run.{enters, entered}
 
 index_drop : (xs : List ℕ) (j : ℕ) → slice_index (drop j xs) 0 ≡ slice_index xs j

@@ -7,6 +7,5 @@ pub mod NameLaws
 pub mod LoadLaws
 pub mod TableLaws
 pub mod SeenLaws
-pub use Rattle.net_order.proofs.net_design_lemmas as net_design_lemmas
 pub use Rattle.net_order.proofs as net_order_lemmas
 pub use Rattle.net_order.proofs.vidi_bits_lemmas as vidi_bits_lemmas

@@ -6,11 +6,11 @@ use Rattle.std.proofs.lemmas.List.{length-map, take-take, get_or-take, get_or-re
 use Rattle.std.specs.List.{refill}
 use Rattle.std.proofs.lemmas.List.{take-append-le, take_all}
 use Rattle.std.proofs.lemmas.Nat.{pow_pos}
-use Rattle.net_order.specs.net_design.declared.design.Net.{Net}
-use Rattle.net_order.specs.net_design.declared.design.Design.{Design}
-use Rattle.net_order.specs.net_design.declared.values.Values.{Values}
-use Rattle.net_order.specs.net_design.Settled.{word_count, initial}
-use Rattle.net_order.specs.net_design.Lawful.{IsLawful, IsState}
+use Rattle.net_design.specs.declared.design.Net.{Net}
+use Rattle.net_design.specs.declared.design.Design.{Design}
+use Rattle.net_design.specs.declared.values.Values.{Values}
+use Rattle.net_design.specs.Settled.{word_count, initial}
+use Rattle.net_design.specs.Lawful.{IsLawful, IsState}
 use Rattle.net_instr.specs.Layout.{view, IsReady, Fits}
 use Rattle.net_instr.proofs.Views.{view_by}
 use Rattle.net_order.proofs.Known.{known_initial}

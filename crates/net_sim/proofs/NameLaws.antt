@@ -7,11 +7,11 @@ use Rattle.std.proofs.Math.Seq.{drop-append_seam}
 use Rattle.std.proofs.lemmas.Bool.{cases_lt, eqb-true, eq-eqb, and_parts, and_from}
 use Rattle.std.proofs.lemmas.List.{take-append-drop, append_cancel_right}
 use Rattle.net_order.proofs.vidi_bits_lemmas.Bools.{not_both}
-use Rattle.net_order.specs.net_design.declared.design.Instance.{Instance}
-use Rattle.net_order.specs.net_design.declared.design.Net.{Net}
-use Rattle.net_order.specs.net_design.Names.{list_at, paths, paths_after, AreAfterParents}
+use Rattle.net_design.specs.declared.design.Instance.{Instance}
+use Rattle.net_design.specs.declared.design.Net.{Net}
+use Rattle.net_design.specs.Names.{list_at, paths, paths_after, AreAfterParents}
 use Rattle.net_sim.specs.Names.{dotted, full_name, IsCalled}
-use Rattle.net_order.proofs.net_design_lemmas.LawfulCode.{slice_get-at}
+use Rattle.net_design.proofs.LawfulCode.{slice_get-at}
 
 -- ---- equal lists
 same_pointwise : (xs ys : List ℕ) → pointwise nat_eq xs ys ≡ true → xs ≡ ys

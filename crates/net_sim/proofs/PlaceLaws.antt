@@ -6,12 +6,12 @@ use Rattle.std.proofs.lemmas.List.{get_or-replicate, length-replicate}
 use Rattle.std.proofs.lemmas.List.Sums.{sum_by-cons}
 use Rattle.std.proofs.lemmas.Nat.{pow_pos}
 use Rattle.net_order.proofs.Entered.{limits_long}
-use Rattle.net_order.specs.net_design.declared.design.Port.{Port}
-use Rattle.net_order.specs.net_design.declared.design.Direction.{Direction}
-use Rattle.net_order.specs.net_design.declared.design.Direction.TheVariants.{Input}
-use Rattle.net_order.specs.net_design.declared.design.Design.{Design}
-use Rattle.net_order.specs.net_design.Settled.{same_direction, pins_of}
-use Rattle.net_order.specs.net_design.Pins.{FitPins, is_clock, port_limits, input_limits}
+use Rattle.net_design.specs.declared.design.Port.{Port}
+use Rattle.net_design.specs.declared.design.Direction.{Direction}
+use Rattle.net_design.specs.declared.design.Direction.TheVariants.{Input}
+use Rattle.net_design.specs.declared.design.Design.{Design}
+use Rattle.net_design.specs.Settled.{same_direction, pins_of}
+use Rattle.net_design.specs.Pins.{FitPins, is_clock, port_limits, input_limits}
 use Rattle.net_sim.specs.Places.{port_places}
 
 -- ---- how many there are

@@ -8,9 +8,9 @@ use Rattle.std.proofs.lemmas.List.{length-drop, length-map, length-take-le, leng
 use Rattle.std.proofs.lemmas.List.{get_or-drop, get_or-take, get_or-replicate}
 use Rattle.std.proofs.lemmas.Grind.{same_number_lists}
 use Rattle.net_order.proofs.Entered.{entered_long}
-use Rattle.net_order.specs.net_design.declared.design.Net.{Net}
-use Rattle.net_order.specs.net_design.declared.design.Port.{Port}
-use Rattle.net_order.specs.net_design.declared.design.Design.{Design}
+use Rattle.net_design.specs.declared.design.Net.{Net}
+use Rattle.net_design.specs.declared.design.Port.{Port}
+use Rattle.net_design.specs.declared.design.Design.{Design}
 use Rattle.net_order.specs.Run.{entered}
 use Rattle.net_instr.specs.declared.instr.Instr.{Instr}
 use Rattle.net_instr.specs.Machine.{exec, IsInstr}

@@ -4,12 +4,12 @@ use Rattle.std.proofs.Common.{◌≡◌, ℕ, List, [], All}
 use Rattle.std.proofs.Common.{length, reverse, ap, sym, subst, ◌∙◌}
 use Rattle.std.proofs.Math.Logic.{∥∥₁_elim}
 use Rattle.std.proofs.Props.{props}
-use Rattle.net_order.specs.net_design.declared.act.Timing.TheVariants.{Nonblocking}
-use Rattle.net_order.specs.net_design.declared.design.Design.{Design}
-use Rattle.net_order.specs.net_design.declared.values.Values.{Values}
-use Rattle.net_order.specs.net_design.Settled.{IsSettled, word_count, clocked, next}
-use Rattle.net_order.specs.net_design.Lawful.{IsLawful, IsState}
-use Rattle.net_order.specs.net_design.Pins.{FitPins}
+use Rattle.net_design.specs.declared.act.Timing.TheVariants.{Nonblocking}
+use Rattle.net_design.specs.declared.design.Design.{Design}
+use Rattle.net_design.specs.declared.values.Values.{Values}
+use Rattle.net_design.specs.Settled.{IsSettled, word_count, clocked, next}
+use Rattle.net_design.specs.Lawful.{IsLawful, IsState}
+use Rattle.net_design.specs.Pins.{FitPins}
 use Rattle.net_order.specs.Order.{IsOrder}
 use Rattle.net_order.specs.Run.{entered, settled_by}
 use Rattle.net_order.proofs.Known.{known_settled, known_only, known_next}

@@ -6,20 +6,20 @@ use Rattle.std.specs.List.{flat_map}
 use Rattle.std.proofs.Math.Seq.{drop-append_seam}
 use Rattle.std.proofs.lemmas.List.{length-take-le, take-append-le, take-take, length-map, length-drop}
 use Rattle.net_order.proofs.Entered.{entered_long}
-use Rattle.net_order.specs.net_design.declared.act.Act.{Act}
-use Rattle.net_order.specs.net_design.declared.act.Code.{Code}
-use Rattle.net_order.specs.net_design.declared.act.Timing.TheVariants.{Blocking, Nonblocking}
-use Rattle.net_order.specs.net_design.declared.design.Net.{Net}
-use Rattle.net_order.specs.net_design.declared.design.Port.{Port}
-use Rattle.net_order.specs.net_design.declared.design.Driver.{Driver}
-use Rattle.net_order.specs.net_design.declared.design.Design.{Design}
-use Rattle.net_order.specs.net_design.declared.values.Update.{Update}
-use Rattle.net_order.specs.net_design.declared.values.Values.{Values}
-use Rattle.net_order.specs.net_design.Updates.{block_updates}
-use Rattle.net_order.specs.net_design.Settled.{word_count, clocked}
-use Rattle.net_order.specs.net_design.Lawful.{IsLawful, IsState, IsInRange, is_span, is_room}
-use Rattle.net_order.specs.net_design.Pins.{FitPins}
-use Rattle.net_order.proofs.net_design_lemmas.LawfulCode.{net_width_le, block_more, room_within, span_within}
+use Rattle.net_design.specs.declared.act.Act.{Act}
+use Rattle.net_design.specs.declared.act.Code.{Code}
+use Rattle.net_design.specs.declared.act.Timing.TheVariants.{Blocking, Nonblocking}
+use Rattle.net_design.specs.declared.design.Net.{Net}
+use Rattle.net_design.specs.declared.design.Port.{Port}
+use Rattle.net_design.specs.declared.design.Driver.{Driver}
+use Rattle.net_design.specs.declared.design.Design.{Design}
+use Rattle.net_design.specs.declared.values.Update.{Update}
+use Rattle.net_design.specs.declared.values.Values.{Values}
+use Rattle.net_design.specs.Updates.{block_updates}
+use Rattle.net_design.specs.Settled.{word_count, clocked}
+use Rattle.net_design.specs.Lawful.{IsLawful, IsState, IsInRange, is_span, is_room}
+use Rattle.net_design.specs.Pins.{FitPins}
+use Rattle.net_design.proofs.LawfulCode.{net_width_le, block_more, room_within, span_within}
 use Rattle.net_order.specs.Run.{enters, entered, acts_of, run_all, start}
 use Rattle.net_order.proofs.OneMap.{start_fits}
 use Rattle.net_instr.specs.declared.instr.Instr.{Instr}

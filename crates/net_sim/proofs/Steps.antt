@@ -1,8 +1,8 @@
 -- Drivers and clocked blocks, one after the other.
 use Rattle.std.proofs.Common.{◌≡◌, ℕ, zero, suc, ◌-◌, ◌<◌, ◌≤◌, List, [], ◌∷◌, ◌++◌, length, get_or, drop}
 use Rattle.std.proofs.Common.{ap, sym, ◌∙◌, append_assoc, arith}
-use Rattle.net_order.specs.net_design.declared.act.Code.{Code}
-use Rattle.net_order.specs.net_design.declared.design.Driver.{Driver}
+use Rattle.net_design.specs.declared.act.Code.{Code}
+use Rattle.net_design.specs.declared.design.Driver.{Driver}
 use Rattle.net_order.specs.Run.{acts_of}
 use Rattle.net_instr.specs.declared.instr.Instr.{Instr}
 use Rattle.net_instr.specs.Layout.{span}

@@ -4,11 +4,11 @@ use Rattle.std.proofs.Common.{Option, Some, None, is_some, length, length-append
 use Rattle.std.specs.Map.{lookup}
 use Rattle.std.proofs.lemmas.Bool.{cases_lt, eqb-true, eq-eqb}
 use Rattle.indexmap.specs.IndexMap.{insert_entry}
-use Rattle.net_order.specs.net_design.declared.design.Instance.{Instance}
-use Rattle.net_order.specs.net_design.declared.design.Net.{Net}
-use Rattle.net_order.specs.net_design.declared.design.Design.{Design}
-use Rattle.net_order.specs.net_design.Names.{list_at, paths, AreAfterParents}
-use Rattle.net_order.proofs.net_design_lemmas.LawfulCode.{slice_get-at}
+use Rattle.net_design.specs.declared.design.Instance.{Instance}
+use Rattle.net_design.specs.declared.design.Net.{Net}
+use Rattle.net_design.specs.declared.design.Design.{Design}
+use Rattle.net_design.specs.Names.{list_at, paths, AreAfterParents}
+use Rattle.net_design.proofs.LawfulCode.{slice_get-at}
 use Rattle.std.proofs.lemmas.Option.{slice_get_within}
 use Rattle.net_sim.specs.Names.{dotted, IsCalled}
 use Rattle.net_sim.specs.Table.{hash_from, path_hash, name_hash, ArePaths, IsTable}

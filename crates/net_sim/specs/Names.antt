@@ -1,8 +1,8 @@
 -- Full names as text: an instance path and a name, joined by dots (IEEE 1364-2005, 12.5, with the top's own name left out).
 use Rattle.std.specs.Prelude.{◌≡◌, ℕ, List, [], ◌∷◌, ◌++◌, Some, slice_get}
-use Rattle.net_order.specs.net_design.declared.design.Instance.{Instance}
-use Rattle.net_order.specs.net_design.declared.design.Net.{Net}
-use Rattle.net_order.specs.net_design.Names.{list_at, paths}
+use Rattle.net_design.specs.declared.design.Instance.{Instance}
+use Rattle.net_design.specs.declared.design.Net.{Net}
+use Rattle.net_design.specs.Names.{list_at, paths}
 
 -- the names of a path, each with a dot behind it
 abbrev pub dotted : List (List ℕ) → List ℕ

@@ -1,8 +1,8 @@
 -- The places of the ports of one direction.
 use Rattle.std.specs.Prelude.{ℕ, ◌+◌, List, [], ◌∷◌, if◌then◌else◌}
-use Rattle.net_order.specs.net_design.declared.design.Port.{Port}
-use Rattle.net_order.specs.net_design.declared.design.Direction.{Direction}
-use Rattle.net_order.specs.net_design.Settled.{same_direction}
+use Rattle.net_design.specs.declared.design.Port.{Port}
+use Rattle.net_design.specs.declared.design.Direction.{Direction}
+use Rattle.net_design.specs.Settled.{same_direction}
 
 -- in port order, where the first port has place k
 abbrev pub port_places : Direction → ℕ → List Port → List ℕ

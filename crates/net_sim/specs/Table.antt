@@ -1,9 +1,9 @@
 -- A table of nets by name: numbers made of full names, and beside each the place of a net whose name gives it.
 use Rattle.std.specs.Prelude.{◌≡◌, ℕ, ◌+◌, ◌*◌, ◌%◌, ◌^◌, ◌<◌, nat_eq, true, Some, is_some, List, [], ◌∷◌, length, slice_index, slice_get}
 use Rattle.std.specs.Map.{lookup}
-use Rattle.net_order.specs.net_design.declared.design.Instance.{Instance}
-use Rattle.net_order.specs.net_design.declared.design.Net.{Net}
-use Rattle.net_order.specs.net_design.Names.{list_at, paths}
+use Rattle.net_design.specs.declared.design.Instance.{Instance}
+use Rattle.net_design.specs.declared.design.Net.{Net}
+use Rattle.net_design.specs.Names.{list_at, paths}
 use Rattle.net_sim.specs.Names.{dotted, full_name}
 
 -- the number of a text, which goes on from one

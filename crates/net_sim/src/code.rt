@@ -5,12 +5,12 @@ ghost use Rattle.net_instr.specs.Machine.{AreBelow};
 ghost use Rattle.net_instr.specs.Layout.{base};
 ghost use Rattle.net_instr.specs.InPlace.{IsInPlace};
 ghost use Rattle.net_instr.specs.Statements.{IsBlockThere};
-ghost use Rattle.net_order.specs.net_design.Lawful.{IsLawful};
+ghost use Rattle.net_design.specs.Lawful.{IsLawful};
 ghost use Rattle.net_order.specs.Order.{IsOrder};
 ghost use Rattle.net_sim.specs.Slots.{span_of, drivers_code, blocks_code, settling_code, clocking_code};
 
+use net_design::{Code, Design, Driver, Net, count_words};
 use net_instr::{InPlace, Instr, in_place, push_acts, slots_of};
-use net_order::net_design::{Code, Design, Driver, Net, count_words};
 use net_order::vidi_bits::{Items, Memory};
 use std::alloc::Global;
 

@@ -15,5 +15,5 @@ mod start;
 mod table;
 
 pub use net_order;
-pub use net_order::{net_design, vidi_bits};
+pub use net_order::vidi_bits;
 pub use sim::Sim;

@@ -1,12 +1,12 @@
 //! Nets by full name.
 
 ghost use Rattle.std.specs.Prelude.{◌≡◌, ℕ, ◌<◌, ◌↔◌, List, [], ◌∷◌, ◌++◌, All, IsTrue, MatchOption, length};
-ghost use Rattle.net_order.specs.net_design.Names.{list_at, paths, AreAfterParents};
+ghost use Rattle.net_design.specs.Names.{list_at, paths, AreAfterParents};
 ghost use Rattle.net_sim.specs.Names.{dotted, full_name, IsCalled};
 ghost use Rattle.net_sim.specs.Table.{IsTable};
 
 use crate::table::{Table, place_of};
-use net_order::net_design::{Instance, Net};
+use net_design::{Instance, Net};
 
 /// What stands before the last part of a text, where it ends in that.
 #[tactic(auto, using(crate::proofs::NameLaws::front_none, crate::proofs::NameLaws::front_some))]

@@ -3,7 +3,7 @@
 ghost use Rattle.std.specs.Prelude.{◌≡◌, ◌≤◌, length, slice_index};
 ghost use Rattle.net_instr.specs.InPlace.{place, through};
 
-use net_order::net_design::number_at;
+use net_design::number_at;
 use net_order::vidi_bits::{Items, Numbers};
 
 /// The slot at which slot `i` is read.

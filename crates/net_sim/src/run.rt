@@ -3,7 +3,7 @@
 ghost use Rattle.std.specs.Prelude.{◌≡◌, ◌≤◌, ◌<◌, ◌+◌, ◌^◌, length, slice_index, slice_set, if◌then◌else◌};
 ghost use Rattle.net_order.specs.Run.{enters, entered};
 
-use net_order::net_design::{Direction, Port};
+use net_design::{Direction, Port};
 use net_order::vidi_bits::Numbers;
 
 /// Number `i` of some pins, 0 past the last one.

@@ -1,10 +1,10 @@
 //! A design that runs.
 
 ghost use Rattle.std.specs.Prelude.{◌≡◌, ℕ, ◌+◌, ◌<◌, ◌≤◌, ◌++◌, List, None, IsTrue, IfOk, MatchOption, length, slice_index, reverse};
-ghost use Rattle.net_order.specs.net_design.declared.design.Direction.TheVariants.{Output};
-ghost use Rattle.net_order.specs.net_design.Settled.{initial, word_count};
-ghost use Rattle.net_order.specs.net_design.Lawful.{IsLawful, IsState};
-ghost use Rattle.net_order.specs.net_design.Pins.{FitPins, no_pins};
+ghost use Rattle.net_design.specs.declared.design.Direction.TheVariants.{Output};
+ghost use Rattle.net_design.specs.Settled.{initial, word_count};
+ghost use Rattle.net_design.specs.Lawful.{IsLawful, IsState};
+ghost use Rattle.net_design.specs.Pins.{FitPins, no_pins};
 ghost use Rattle.net_order.specs.Order.{IsOrder};
 ghost use Rattle.net_order.specs.Run.{settled_by};
 ghost use Rattle.net_instr.specs.Machine.{AreBelow};
@@ -22,9 +22,9 @@ use crate::run::copy_numbers;
 use crate::slots::{first_slots, load_slots, run_slots, settle_again, settle_slots};
 use crate::start::{clear, first_numbers, places_of, zero_pins};
 use crate::table::{Table, table_of};
+use net_design::{Block, Design, Direction};
 use net_instr::Instr;
 use net_order::Order;
-use net_order::net_design::{Block, Design, Direction};
 use net_order::vidi_bits::{Items, Memory, Numbers};
 use std::alloc::Global;
 

@@ -6,8 +6,8 @@ ghost use Rattle.net_instr.specs.Machine.{exec, IsInstr};
 ghost use Rattle.net_sim.specs.Slots.{copied};
 
 use crate::run::enter;
+use net_design::{Port, zeros};
 use net_instr::{Instr, run_code};
-use net_order::net_design::{Port, zeros};
 use net_order::vidi_bits::{Memory, Numbers};
 use std::alloc::Global;
 

@@ -1,11 +1,11 @@
 //! What a simulator begins with.
 
 ghost use Rattle.std.specs.Prelude.{◌≡◌, ◌+◌, ◌<◌, ◌^◌, ◌++◌, ◌∷◌, [], OnOk, IfOk, length, replicate, if◌then◌else◌};
-ghost use Rattle.net_order.specs.net_design.Settled.{initial, same_direction, word_count};
-ghost use Rattle.net_order.specs.net_design.declared.design.Direction.TheVariants.{Input};
+ghost use Rattle.net_design.specs.Settled.{initial, same_direction, word_count};
+ghost use Rattle.net_design.specs.declared.design.Direction.TheVariants.{Input};
 ghost use Rattle.net_sim.specs.Places.{port_places};
 
-use net_order::net_design::{Design, Direction, Port, count_words, initial_numbers, zeros};
+use net_design::{Design, Direction, Port, count_words, initial_numbers, zeros};
 use net_order::vidi_bits::{Items, Memory, Numbers};
 use std::alloc::Global;
 

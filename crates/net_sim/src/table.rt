@@ -2,12 +2,12 @@
 
 ghost use Rattle.std.specs.Prelude.{◌≡◌, ◌<◌, ◌≤◌, ◌==◌, ◌∷◌, [], nat_eq, All, IfOk, OnOk, length, slice_index, if◌then◌else◌};
 ghost use Rattle.std.specs.Map.{lookup};
-ghost use Rattle.net_order.specs.net_design.Names.{AreAfterParents};
+ghost use Rattle.net_design.specs.Names.{AreAfterParents};
 ghost use Rattle.indexmap.specs.IndexMap.{insert_entry};
 ghost use Rattle.net_sim.specs.Table.{hash_from, ArePaths, IsTable};
 
 use indexmap::IndexMap;
-use net_order::net_design::{Instance, Net};
+use net_design::{Instance, Net};
 use net_order::vidi_bits::{Items, Memory};
 use std::alloc::Global;
 

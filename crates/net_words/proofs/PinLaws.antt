@@ -3,14 +3,14 @@ use Rattle.std.proofs.Common.{◌≡◌, ℕ, zero, suc, ◌+◌, ◌^◌, ◌<�
 use Rattle.std.proofs.Common.{slice_get, slice_index, if◌then◌else◌, refl, ap, sym, subst, ◌∙◌, arith}
 use Rattle.std.proofs.lemmas.Bool.{eqb-true, cases_Bool}
 use Rattle.std.proofs.lemmas.Option.{slice_get-get_or}
-use Rattle.net_sim.specs.net_design.declared.design.Net.{Net}
-use Rattle.net_sim.specs.net_design.declared.design.Port.{Port}
-use Rattle.net_sim.specs.net_design.declared.design.Direction.TheVariants.{Input}
-use Rattle.net_sim.specs.net_design.declared.design.Design.{Design}
-use Rattle.net_sim.specs.net_design.declared.values.Values.{Values}
-use Rattle.net_sim.specs.net_design.Settled.{same_direction, pins_of, net_width, IsSettled}
-use Rattle.net_sim.specs.net_design.Lawful.{IsLawful}
-use Rattle.net_sim.specs.net_design.Pins.{FitPins, is_clock, port_limits}
+use Rattle.net_design.specs.declared.design.Net.{Net}
+use Rattle.net_design.specs.declared.design.Port.{Port}
+use Rattle.net_design.specs.declared.design.Direction.TheVariants.{Input}
+use Rattle.net_design.specs.declared.design.Design.{Design}
+use Rattle.net_design.specs.declared.values.Values.{Values}
+use Rattle.net_design.specs.Settled.{same_direction, pins_of, net_width, IsSettled}
+use Rattle.net_design.specs.Lawful.{IsLawful}
+use Rattle.net_design.specs.Pins.{FitPins, is_clock, port_limits}
 use Rattle.net_sim.proofs.net_order_lemmas.Entered.{limits_long, limit_at}
 
 -- ---- what is below limits at the ports is so at the inputs

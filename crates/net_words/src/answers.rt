@@ -1,13 +1,13 @@
 //! What the words of a case are answered.
 
-ghost use Rattle.net_sim.specs.net_design.Lawful.{IsLawful};
+ghost use Rattle.net_design.specs.Lawful.{IsLawful};
 
 use crate::cycles::{print_order, print_settled, print_start};
 use crate::designs::{design_in, paths};
 use crate::drivers::{print_blocks, print_drivers};
 use crate::parts::{print_nets, print_parts};
 use crate::runs::print_run;
-use net_sim::net_design::Design;
+use net_design::Design;
 use std::alloc::Global;
 use vlog_words::report_text::Draft;
 use vlog_words::vidi_io::{Shelf, Text};

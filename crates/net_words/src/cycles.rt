@@ -1,12 +1,12 @@
 //! The words on cycles: the order of a design's drivers, its initial state, and what a state settles to.
 
 ghost use Rattle.std.specs.Prelude.{IfOk};
-ghost use Rattle.net_sim.specs.net_design.Lawful.{IsLawful};
-ghost use Rattle.net_sim.specs.net_design.Settled.{IsSized};
+ghost use Rattle.net_design.specs.Lawful.{IsLawful};
+ghost use Rattle.net_design.specs.Settled.{IsSized};
 ghost use Rattle.net_sim.specs.net_order.Order.{IsOrder};
 
 use crate::designs::print_net;
-use net_sim::net_design::{Design, Direction, Timing, Values, lawful_is_sized, zeros};
+use net_design::{Design, Direction, Timing, Values, lawful_is_sized, zeros};
 use net_sim::net_order::{Order, OrderError, order};
 use net_sim::vidi_bits::{Items, Name, Numbers};
 use std::alloc::Global;

@@ -1,9 +1,9 @@
 //! Flat designs of design texts, and the full names of what is in them.
 
 ghost use Rattle.std.specs.Prelude.{IfOk};
-ghost use Rattle.net_sim.specs.net_design.Lawful.{IsLawful};
+ghost use Rattle.net_design.specs.Lawful.{IsLawful};
 
-use net_sim::net_design::{Design, Instance};
+use net_design::{Design, Instance};
 use net_sim::vidi_bits::{Items, Memory, Name};
 use std::alloc::Global;
 use vlog_design::elaborate;

@@ -1,7 +1,7 @@
 //! The words on code: the drivers and the clocked blocks of a design.
 
 use crate::designs::print_net;
-use net_sim::net_design::{Code, Design, Mask};
+use net_design::{Code, Design, Mask};
 use net_sim::vidi_bits::{Items, Name};
 use vlog_words::report_text::{Draft, Page, print_number};
 

@@ -1,7 +1,7 @@
 //! The words on the nets of a design, and on its ports, clock, registers and memories.
 
 use crate::designs::{print_name, print_net};
-use net_sim::net_design::{Design, Direction};
+use net_design::{Design, Direction};
 use net_sim::vidi_bits::{Items, Name};
 use vlog_words::report_text::{Draft, Page, print_number};
 

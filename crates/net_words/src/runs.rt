@@ -1,13 +1,13 @@
 //! The word on runs: nets by name while the simulator runs a design, beside what the definitions give.
 
 ghost use Rattle.std.specs.Prelude.{IfOk, IsTrue};
-ghost use Rattle.net_sim.specs.net_design.Lawful.{IsLawful};
-ghost use Rattle.net_sim.specs.net_design.Pins.{FitPins};
+ghost use Rattle.net_design.specs.Lawful.{IsLawful};
+ghost use Rattle.net_design.specs.Pins.{FitPins};
 
 use crate::cycles::{Cycle, cycle_in, order_of, settled_by_order};
 use crate::designs::{path_at, paths};
+use net_design::{Block, Design, Values, lawful_is_sized, number_at};
 use net_sim::Sim;
-use net_sim::net_design::{Block, Design, Values, lawful_is_sized, number_at};
 use net_sim::vidi_bits::{Items, Memory, Name};
 use std::alloc::Global;
 use vlog_words::Ended;

@@ -9,8 +9,8 @@ use Rattle.trace_code.specs.trace_model.Recording.{trace_of}
 use Rattle.trace_code.specs.trace_model.Row.{row_before}
 use Rattle.trace_code.specs.trace_model.Trace.{IsWellFormed}
 use Rattle.trace_code.specs.Encoding.{encode, HasEncoding}
-use Rattle.chan_replayer.specs.net_design.declared.design.Design.{Design}
-use Rattle.chan_replayer.specs.net_design.declared.values.Values.{Values}
+use Rattle.net_design.specs.declared.design.Design.{Design}
+use Rattle.net_design.specs.declared.values.Values.{Values}
 use Rattle.chan_replayer.specs.chan_map.declared.pins.Map.{Map}
 use Rattle.chan_replayer.specs.run_model.Replay.{done}
 use Rattle.chan_replayer.proofs.run_model_lemmas.Circle.{no-circle}

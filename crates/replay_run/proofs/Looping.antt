@@ -17,8 +17,8 @@ use Rattle.trace_code.specs.trace_model.Row.{flies_after, is_in_flight, row_befo
 use Rattle.trace_code.proofs.trace_model_lemmas.CountingLemmas.{count-push}
 use Rattle.trace_code.proofs.trace_model_lemmas.MaskLemmas.{cond-has}
 use Rattle.trace_code.proofs.trace_model_lemmas.RowLaws.{counted}
-use Rattle.chan_replayer.specs.net_design.declared.design.Design.{Design}
-use Rattle.chan_replayer.specs.net_design.declared.values.Values.{Values}
+use Rattle.net_design.specs.declared.design.Design.{Design}
+use Rattle.net_design.specs.declared.values.Values.{Values}
 use Rattle.chan_replayer.specs.chan_map.declared.pins.Map.{Map}
 use Rattle.chan_replayer.specs.run_model.Held.{flies}
 use Rattle.chan_replayer.specs.run_model.Played.{StopsBefore}

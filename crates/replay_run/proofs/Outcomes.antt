@@ -13,7 +13,7 @@ use Rattle.trace_code.specs.trace_model.Recording.{shown}
 use Rattle.trace_code.specs.trace_model.Row.{row_before}
 use Rattle.trace_code.specs.trace_model.Stability.{IsLowestUnstable, IsUnstable}
 use Rattle.trace_code.proofs.trace_model_lemmas.CountingLemmas.{slice_get-take}
-use Rattle.chan_replayer.specs.net_design.declared.design.Design.{Design}
+use Rattle.net_design.specs.declared.design.Design.{Design}
 use Rattle.chan_replayer.specs.chan_map.declared.pins.Map.{Map}
 use Rattle.chan_replayer.specs.run_model.declared.held.Held.{Held}
 use Rattle.chan_replayer.specs.run_model.Held.{held, waits}

@@ -13,8 +13,8 @@ use Rattle.trace_code.specs.trace_model.Row.{completes, row_before}
 use Rattle.trace_code.specs.trace_model.Stability.{waits, IsLowestUnstable, IsUnstable, IsUnstableAt}
 use Rattle.trace_code.proofs.trace_model_lemmas.RowLemmas.{before-last}
 use Rattle.trace_code.proofs.trace_model_lemmas.CountingLemmas.{slice_get-append_left, slice_get-last, slice_get-push}
-use Rattle.chan_replayer.specs.net_design.declared.design.Design.{Design}
-use Rattle.chan_replayer.specs.net_design.declared.values.Values.{Values}
+use Rattle.net_design.specs.declared.design.Design.{Design}
+use Rattle.net_design.specs.declared.values.Values.{Values}
 use Rattle.chan_replayer.specs.chan_map.declared.pins.Map.{Map}
 use Rattle.chan_replayer.specs.run_model.Played.{AreStable, StopsBefore}
 use Rattle.chan_replayer.specs.run_model.Replay.{done, IsReplayRow}

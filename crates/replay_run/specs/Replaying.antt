@@ -5,8 +5,8 @@ use Rattle.trace_code.specs.trace_model.declared.packet.Packet.{Packet}
 use Rattle.trace_code.specs.trace_model.declared.row.Row.{Row}
 use Rattle.trace_code.specs.trace_model.Recording.{packets_of, trace_of}
 use Rattle.trace_code.specs.Encoding.{Encodes}
-use Rattle.chan_replayer.specs.net_design.declared.design.Design.{Design}
-use Rattle.chan_replayer.specs.net_design.declared.values.Values.{Values}
+use Rattle.net_design.specs.declared.design.Design.{Design}
+use Rattle.net_design.specs.declared.values.Values.{Values}
 use Rattle.chan_replayer.specs.chan_map.declared.pins.Map.{Map}
 use Rattle.chan_replayer.specs.run_model.Held.{held, waits}
 use Rattle.chan_replayer.specs.run_model.Laws.{AreInOrder, ContentsStay, IsFirstOpen, IsFree}

@@ -4,8 +4,8 @@ use Rattle.trace_code.specs.trace_model.declared.channel.Channel.{Channel}
 use Rattle.trace_code.specs.trace_model.declared.packet.Packet.{Packet}
 use Rattle.trace_code.specs.trace_model.declared.row.Row.{Row}
 use Rattle.trace_code.specs.trace_model.Row.{row_before, IsOver}
-use Rattle.chan_replayer.specs.net_design.declared.design.Design.{Design}
-use Rattle.chan_replayer.specs.net_design.declared.values.Values.{Values}
+use Rattle.net_design.specs.declared.design.Design.{Design}
+use Rattle.net_design.specs.declared.values.Values.{Values}
 use Rattle.chan_replayer.specs.chan_map.declared.pins.Map.{Map}
 use Rattle.chan_replayer.specs.chan_monitor.Shell.{HasPlaces}
 use Rattle.chan_replayer.specs.Feed.{IsFeedOver}

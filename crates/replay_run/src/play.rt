@@ -4,8 +4,8 @@ ghost use Rattle.std.specs.Prelude.{◌≡◌, ◌+◌, ◌≤◌, ◌<◌, ◌+
 ghost use Rattle.trace_code.specs.trace_model.declared.row.Row.{Row as OneRow};
 ghost use Rattle.trace_code.specs.trace_model.declared.trace.Trace.{Trace};
 ghost use Rattle.trace_code.specs.trace_model.Channel.{IsTable};
-ghost use Rattle.chan_replayer.specs.net_design.declared.design.Design.{Design};
-ghost use Rattle.chan_replayer.specs.net_design.declared.values.Values.{Values};
+ghost use Rattle.net_design.specs.declared.design.Design.{Design};
+ghost use Rattle.net_design.specs.declared.values.Values.{Values};
 ghost use Rattle.chan_replayer.specs.Feed.{IsFeed};
 ghost use Rattle.chan_replayer.specs.run_model.Replay.{done};
 ghost use Rattle.replay_run.specs.Behind.{none_yet, AreBehind};

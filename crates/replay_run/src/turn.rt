@@ -4,7 +4,7 @@ ghost use Rattle.std.specs.Prelude.{◌≡◌, ◌+◌, ◌<◌, ◌++◌, ◌�
 ghost use Rattle.trace_code.specs.trace_model.declared.packet.Packet.{Packet};
 ghost use Rattle.trace_code.specs.trace_model.declared.row.Row.{Row as OneRow};
 ghost use Rattle.trace_code.specs.trace_model.Row.{IsOver};
-ghost use Rattle.chan_replayer.specs.net_design.declared.design.Design.{Design};
+ghost use Rattle.net_design.specs.declared.design.Design.{Design};
 ghost use Rattle.chan_replayer.specs.chan_monitor.Shell.{HasPlaces};
 ghost use Rattle.chan_replayer.specs.Feed.{IsFeed, IsFeedOver};
 ghost use Rattle.chan_replayer.specs.run_model.Played.{StopsBefore};

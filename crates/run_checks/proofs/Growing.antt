@@ -4,8 +4,8 @@ use Rattle.run_reference.proofs.trace_model_lemmas.RowLemmas.{before-last}
 use Rattle.run_reference.specs.trace_model.declared.row.Offers.{Offers}
 use Rattle.run_reference.specs.trace_model.declared.row.Row.{Row}
 use Rattle.run_reference.specs.trace_model.Row.{row_before}
-use Rattle.chan_monitor.specs.net_design.declared.design.Design.{Design}
-use Rattle.chan_monitor.specs.net_design.declared.values.Values.{Values}
+use Rattle.net_design.specs.declared.design.Design.{Design}
+use Rattle.net_design.specs.declared.values.Values.{Values}
 use Rattle.run_reference.specs.chan_map.declared.pins.Map.{Map}
 use Rattle.run_reference.specs.run_model.Laws.{GatesOf}
 use Rattle.run_reference.specs.run_model.Run.{IsRunRow}

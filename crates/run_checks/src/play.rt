@@ -4,8 +4,8 @@ ghost use Rattle.std.specs.Prelude.{◌≡◌, ◌<◌, ◌^◌, Option, All, le
 ghost use Rattle.run_reference.specs.run_model.Offers.{AreZeroWhileDown};
 ghost use Rattle.run_reference.specs.trace_model.declared.row.Row.{Row as OneRow};
 ghost use Rattle.run_reference.specs.trace_model.Row.{AreOffers};
-ghost use Rattle.chan_monitor.specs.net_design.declared.design.Design.{Design};
-ghost use Rattle.chan_monitor.specs.net_design.declared.values.Values.{Values};
+ghost use Rattle.net_design.specs.declared.design.Design.{Design};
+ghost use Rattle.net_design.specs.declared.values.Values.{Values};
 ghost use Rattle.run_reference.specs.run_model.Laws.{GatesOf};
 ghost use Rattle.run_reference.specs.run_model.Run.{IsRun};
 ghost use Rattle.run_reference.specs.Given.{offers_by, gates_by};

@@ -8,9 +8,9 @@ use Rattle.bench_run.specs.trace_model.declared.row.Row.{Row}
 use Rattle.bench_run.specs.trace_model.declared.trace.Trace.{Trace}
 use Rattle.bench_run.specs.trace_model.Recording.{trace_of}
 use Rattle.vidi_recorder.specs.trace_code.Encoding.{encode}
-use Rattle.net_sim.specs.net_design.declared.design.Design.{Design}
-use Rattle.net_sim.specs.net_design.declared.values.Values.{Values}
-use Rattle.net_sim.specs.net_design.Lawful.{IsLawful}
+use Rattle.net_design.specs.declared.design.Design.{Design}
+use Rattle.net_design.specs.declared.values.Values.{Values}
+use Rattle.net_design.specs.Lawful.{IsLawful}
 use Rattle.vidi_recorder.specs.vidi_io.Shelf.{Files, Later, appended, holding, emptied}
 use Rattle.vidi_recorder.specs.vidi_io.ShelfSink.{bytes_written, IsOver}
 use Rattle.vidi_recorder.specs.vidi_io.Sink.{Frame}

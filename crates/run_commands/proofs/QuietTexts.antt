@@ -3,7 +3,7 @@ use Rattle.std.proofs.Common.{◌≡◌, ℕ, List, Option, None, Some, Ok, inl,
 use Rattle.bench_run.specs.trace_model.declared.channel.Channel.{Channel}
 use Rattle.bench_run.specs.trace_model.declared.row.Row.{Row}
 use Rattle.bench_run.specs.trace_model.Recording.{packets_of}
-use Rattle.net_sim.specs.net_design.declared.design.Design.{Design}
+use Rattle.net_design.specs.declared.design.Design.{Design}
 use Rattle.vidi_bench.specs.vlog_design.Design.{file_counts}
 use Rattle.bench_run.specs.chan_map.declared.pins.Map.{Map}
 use Rattle.vidi_recorder.specs.room_ledger.Reservation.{need}

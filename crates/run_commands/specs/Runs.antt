@@ -2,7 +2,7 @@
 use Rattle.std.specs.Prelude.{ℕ, List, Option, None, Some, length}
 use Rattle.vidi_recorder.specs.vidi_io.Shelf.{Files}
 use Rattle.bench_run.specs.trace_model.declared.row.Row.{Row}
-use Rattle.net_sim.specs.net_design.declared.design.Design.{Design}
+use Rattle.net_design.specs.declared.design.Design.{Design}
 use Rattle.bench_run.specs.chan_map.declared.pins.Map.{Map}
 use Rattle.bench_run.specs.script_text.declared.script.Script.{Script}
 use Rattle.bench_run.specs.script_text.ScriptOffer.{script_offer}

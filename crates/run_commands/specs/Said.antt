@@ -3,8 +3,8 @@ use Rattle.std.specs.Prelude.{ℕ, List, ◌++◌, length, codes, decimal}
 use Rattle.std.specs.List.{sum_by}
 use Rattle.bench_run.specs.trace_model.declared.channel.Channel.{Channel}
 use Rattle.vidi_bench.specs.report_text.Text.{newline}
-use Rattle.vidi_bench.specs.vlog_tree.Tree.{ModuleOf, FileOf}
-use Rattle.net_sim.specs.net_design.declared.design.Counts.{Counts}
+use Rattle.vlog_tree.specs.Tree.{ModuleOf, FileOf}
+use Rattle.net_design.specs.declared.design.Counts.{Counts}
 pub use Rattle.vidi_bench.specs.report_text.Report.{name_of}
 
 -- the items of all modules

@@ -3,7 +3,7 @@
 ghost use Rattle.std.specs.Prelude.{◌≡◌, ◌≤◌, ◌++◌, IfOk, OnOk, length};
 ghost use Rattle.vidi_recorder.specs.vidi_io.Cause.{Rose};
 ghost use Rattle.vidi_recorder.specs.vidi_io.Shelf.{Later};
-ghost use Rattle.vidi_bench.specs.vlog_tree.Plain.{plain};
+ghost use Rattle.vlog_tree.specs.Plain.{plain};
 ghost use Rattle.vidi_bench.specs.AnswerText.{text_of};
 ghost use Rattle.run_commands.specs.Checks.{Checked, Checks};
 ghost use Rattle.vidi_bench.specs.Design.{text_limit};
@@ -11,15 +11,15 @@ ghost use Rattle.vidi_bench.specs.Ended.{IsAnswered};
 ghost use Rattle.run_commands.specs.Said as said;
 ghost use Rattle.vidi_bench.specs.Steps.{IsSaid};
 
-use net_sim::net_design::Counts;
+use net_design::Counts;
 use net_sim::vidi_bits::{Bytes, Memory};
 use std::alloc::Global;
 use vidi_bench::report_text::{put, put_number};
-use vidi_bench::vlog_tree::File;
 use vidi_bench::{
     Answer, Ended, Status, TEXT_LIMIT, Word, design_of, file_of, order_of, read_file, with_bytes,
 };
 use vidi_recorder::vidi_io::Shelf;
+use vlog_tree::File;
 
 /// What `check` is answered.
 pub fn check<S: Shelf>(

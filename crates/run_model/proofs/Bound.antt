@@ -5,11 +5,11 @@ use Rattle.std.specs.List.{flat_map}
 use Rattle.chan_map.proofs.vidi_bits_lemmas.Each.{each_weaker, zip-on}
 use Rattle.chan_map.specs.vidi_bits.Findings.{told_if}
 use Rattle.chan_map.specs.trace_model.declared.channel.Channel.{Channel as Row}
-use Rattle.chan_map.specs.net_design.declared.design.Port.{Port}
-use Rattle.chan_map.specs.net_design.declared.design.Direction.{Direction}
-use Rattle.chan_map.specs.net_design.declared.design.Direction.TheVariants.{Input, Output}
-use Rattle.chan_map.specs.net_design.declared.design.Design.{Design}
-use Rattle.chan_map.specs.net_design.Settled.{same_direction}
+use Rattle.net_design.specs.declared.design.Port.{Port}
+use Rattle.net_design.specs.declared.design.Direction.{Direction}
+use Rattle.net_design.specs.declared.design.Direction.TheVariants.{Input, Output}
+use Rattle.net_design.specs.declared.design.Design.{Design}
+use Rattle.net_design.specs.Settled.{same_direction}
 use Rattle.chan_map.specs.declared.error.MapError.{MapError}
 use Rattle.chan_map.specs.declared.error.MapError.TheVariants as E
 use Rattle.chan_map.specs.declared.text.MapText.{MapText}

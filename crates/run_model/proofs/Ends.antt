@@ -9,7 +9,7 @@ use Rattle.chan_map.specs.trace_model.declared.row.Row.{Row}
 use Rattle.chan_map.specs.trace_model.Row.{row_before, AreRows}
 use Rattle.chan_map.specs.trace_model.Stability.{IsLowestUnstable}
 use Rattle.chan_map.proofs.trace_model_lemmas.CountingLemmas.{slice_get-take}
-use Rattle.chan_map.specs.net_design.declared.design.Design.{Design}
+use Rattle.net_design.specs.declared.design.Design.{Design}
 use Rattle.chan_map.specs.declared.pins.Map.{Map}
 use Rattle.run_model.specs.Laws.{IsReady, GatesOf}
 use Rattle.run_model.specs.Played.{AreStable, StopsBefore}

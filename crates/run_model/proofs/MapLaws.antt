@@ -3,11 +3,11 @@ use Rattle.std.proofs.Common.{◌≡◌, ℕ, ◌==◌, true, List, Option, Some
 use Rattle.std.proofs.Common.{count_by, refl, ap, sym, ◌∙◌}
 use Rattle.std.proofs.lemmas.Bool.{false≢true, and_parts, eqb-true}
 use Rattle.chan_map.proofs.trace_model_lemmas.CountingLemmas.{nth-unique}
-use Rattle.chan_map.specs.net_design.declared.design.Port.{Port}
-use Rattle.chan_map.specs.net_design.declared.design.Direction.{Direction}
-use Rattle.chan_map.specs.net_design.declared.design.Direction.TheVariants.{Input}
-use Rattle.chan_map.specs.net_design.declared.design.Design.{Design}
-use Rattle.chan_map.specs.net_design.Settled.{same_direction}
+use Rattle.net_design.specs.declared.design.Port.{Port}
+use Rattle.net_design.specs.declared.design.Direction.{Direction}
+use Rattle.net_design.specs.declared.design.Direction.TheVariants.{Input}
+use Rattle.net_design.specs.declared.design.Design.{Design}
+use Rattle.net_design.specs.Settled.{same_direction}
 use Rattle.chan_map.specs.declared.pins.Pin.{Pin}
 use Rattle.chan_map.specs.declared.sockets.Socket.{Socket}
 use Rattle.chan_map.specs.Bound.{place_of, pin_named, IsPin}

@@ -18,12 +18,12 @@ use Rattle.chan_map.specs.trace_model.declared.channel.Dir.TheVariants.{Inward, 
 use Rattle.chan_map.specs.trace_model.declared.row.Row.{Row}
 use Rattle.chan_map.specs.trace_model.Row.{content_at, sink_valid}
 use Rattle.chan_map.proofs.trace_model_lemmas.CountingLemmas.{count-cons, nth, nth-below}
-use Rattle.chan_map.specs.net_design.declared.design.Port.{Port}
-use Rattle.chan_map.specs.net_design.declared.design.Direction.{Direction}
-use Rattle.chan_map.specs.net_design.declared.design.Direction.TheVariants.{Input, Output}
-use Rattle.chan_map.specs.net_design.declared.design.Design.{Design}
-use Rattle.chan_map.specs.net_design.Settled.{same_direction, pins_of}
-use Rattle.chan_map.specs.net_design.Pins.{output_count, is_clock, port_limits, input_limits}
+use Rattle.net_design.specs.declared.design.Port.{Port}
+use Rattle.net_design.specs.declared.design.Direction.{Direction}
+use Rattle.net_design.specs.declared.design.Direction.TheVariants.{Input, Output}
+use Rattle.net_design.specs.declared.design.Design.{Design}
+use Rattle.net_design.specs.Settled.{same_direction, pins_of}
+use Rattle.net_design.specs.Pins.{output_count, is_clock, port_limits, input_limits}
 use Rattle.chan_map.specs.declared.pins.Map.{Map}
 use Rattle.chan_map.specs.declared.pins.Pin.{Pin}
 use Rattle.chan_map.specs.declared.pins.Plug.{Plug}

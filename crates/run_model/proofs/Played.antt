@@ -5,14 +5,14 @@ use Rattle.std.specs.List.{enumerate_from}
 use Rattle.std.proofs.lemmas.Option.{slice_get_within}
 use Rattle.chan_map.specs.trace_model.declared.row.Offers.{Offers}
 use Rattle.chan_map.specs.trace_model.declared.row.Row.{Row}
-use Rattle.chan_map.specs.net_design.declared.design.Port.{Port}
-use Rattle.chan_map.specs.net_design.declared.design.Direction.TheVariants.{Input, Output}
-use Rattle.chan_map.specs.net_design.declared.design.Design.{Design}
-use Rattle.chan_map.specs.net_design.declared.values.Values.{Values}
-use Rattle.chan_map.specs.net_design.Settled.{pins_of, initial, next}
-use Rattle.chan_map.specs.net_design.Lawful.{IsLawful, IsState}
-use Rattle.chan_map.specs.net_design.Pins.{is_clock, input_limits}
-use Rattle.chan_map.proofs.net_design_lemmas.StateLaws.{initial_state, next_state}
+use Rattle.net_design.specs.declared.design.Port.{Port}
+use Rattle.net_design.specs.declared.design.Direction.TheVariants.{Input, Output}
+use Rattle.net_design.specs.declared.design.Design.{Design}
+use Rattle.net_design.specs.declared.values.Values.{Values}
+use Rattle.net_design.specs.Settled.{pins_of, initial, next}
+use Rattle.net_design.specs.Lawful.{IsLawful, IsState}
+use Rattle.net_design.specs.Pins.{is_clock, input_limits}
+use Rattle.net_design.proofs.StateLaws.{initial_state, next_state}
 use Rattle.chan_map.specs.declared.pins.Map.{Map}
 use Rattle.chan_map.specs.declared.pins.Reset.{Reset}
 use Rattle.run_model.specs.Laws.{GatesOf}

@@ -14,14 +14,14 @@ use Rattle.chan_map.specs.trace_model.declared.row.Offers.{Offers}
 use Rattle.chan_map.specs.trace_model.declared.row.Row.{Row}
 use Rattle.chan_map.specs.trace_model.Row.{content_at, sink_valid, row_before, IsOver, AreOffers, IsMarked, AreRows}
 use Rattle.chan_map.proofs.trace_model_lemmas.CountingLemmas.{slice_get-push, slice_get-append_left, slice_get-take, take-suc_get}
-use Rattle.chan_map.specs.net_design.declared.design.Net.{Net}
-use Rattle.chan_map.specs.net_design.declared.design.Direction.TheVariants.{Output}
-use Rattle.chan_map.specs.net_design.declared.design.Design.{Design}
-use Rattle.chan_map.specs.net_design.declared.values.Values.{Values}
-use Rattle.chan_map.specs.net_design.Settled.{FitNets, IsSettled, initial, next}
-use Rattle.chan_map.specs.net_design.Lawful.{IsLawful, IsState}
-use Rattle.chan_map.specs.net_design.Pins.{FitPins, HasOneMap, input_limits, outputs}
-use Rattle.chan_map.proofs.net_design_lemmas.StateLaws.{initial_state, next_state}
+use Rattle.net_design.specs.declared.design.Net.{Net}
+use Rattle.net_design.specs.declared.design.Direction.TheVariants.{Output}
+use Rattle.net_design.specs.declared.design.Design.{Design}
+use Rattle.net_design.specs.declared.values.Values.{Values}
+use Rattle.net_design.specs.Settled.{FitNets, IsSettled, initial, next}
+use Rattle.net_design.specs.Lawful.{IsLawful, IsState}
+use Rattle.net_design.specs.Pins.{FitPins, HasOneMap, input_limits, outputs}
+use Rattle.net_design.proofs.StateLaws.{initial_state, next_state}
 use Rattle.chan_map.specs.declared.pins.Map.{Map}
 use Rattle.chan_map.specs.declared.pins.Reset.{Reset}
 use Rattle.run_model.specs.Building.{row_of, number_for, FitOutputs, AreSmall, PortsAreNets}

@@ -25,7 +25,7 @@ use Rattle.chan_map.specs.trace_model.Row.{content_at, sink_valid, is_in_flight,
 use Rattle.chan_map.proofs.trace_model_lemmas.ContentsLemmas.{content-fits}
 use Rattle.chan_map.proofs.trace_model_lemmas.CountingLemmas.{count-suc_no, count-mono, nth, nth-unique}
 use Rattle.chan_map.proofs.trace_model_lemmas.RowLaws.{counted, recorded-once, same-counts, does-same}
-use Rattle.chan_map.specs.net_design.declared.design.Design.{Design}
+use Rattle.net_design.specs.declared.design.Design.{Design}
 use Rattle.chan_map.specs.declared.pins.Map.{Map}
 use Rattle.run_model.specs.Building.{mask_of, joined}
 use Rattle.run_model.specs.Laws.{OneReplay, ContentsFit, ReplayKeepsContents, controls, IsInOrder, AreInOrder, OrderInTheOutput}

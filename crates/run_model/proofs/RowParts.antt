@@ -18,8 +18,8 @@ use Rattle.chan_map.specs.trace_model.declared.row.Row.{Row}
 use Rattle.chan_map.specs.trace_model.Packet.{Fit, widths_of}
 use Rattle.chan_map.specs.trace_model.Row.{all_widths, content_at, sink_valid, flies_after, IsOver, AreOffers, IsMarked}
 use Rattle.chan_map.proofs.trace_model_lemmas.ContentsLemmas.{fit-length, fit-at}
-use Rattle.chan_map.specs.net_design.declared.design.Direction.TheVariants.{Output}
-use Rattle.chan_map.specs.net_design.declared.design.Design.{Design}
+use Rattle.net_design.specs.declared.design.Direction.TheVariants.{Output}
+use Rattle.net_design.specs.declared.design.Design.{Design}
 use Rattle.chan_map.specs.declared.pins.Map.{Map}
 use Rattle.chan_map.specs.declared.pins.Pin.{Pin}
 use Rattle.chan_map.specs.declared.pins.Plug.{Plug}

@@ -12,7 +12,7 @@ use Rattle.chan_map.specs.trace_model.Row.{content_at, completes, is_in_flight, 
 use Rattle.chan_map.specs.trace_model.Recording.{trace_of}
 use Rattle.chan_map.specs.trace_model.Trace.{IsWellFormed}
 use Rattle.chan_map.proofs.trace_model_lemmas.CountingLemmas.{take-suc_get}
-use Rattle.chan_map.specs.net_design.declared.design.Design.{Design}
+use Rattle.net_design.specs.declared.design.Design.{Design}
 use Rattle.chan_map.specs.declared.pins.Map.{Map}
 use Rattle.run_model.specs.Laws.{IsReady, GatesOf, OffersFit, OneOfLength, OffersStay, GatesStay, ContentsStay, RunKeepsContents}
 use Rattle.run_model.specs.Offers.{CarriesOn, Carries, offered_content}

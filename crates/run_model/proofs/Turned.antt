@@ -1,6 +1,6 @@
 -- What is alike is so both ways.
 use Rattle.std.proofs.Common.{sym}
-use Rattle.chan_map.specs.net_design.declared.design.Design.{Design}
+use Rattle.net_design.specs.declared.design.Design.{Design}
 use Rattle.run_model.specs.Alike.{AreAlike}
 
 pub turned : (d e : Design) → AreAlike d e → AreAlike e d

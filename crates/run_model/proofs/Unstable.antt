@@ -14,7 +14,7 @@ use Rattle.chan_map.specs.trace_model.declared.row.Row.{Row}
 use Rattle.chan_map.specs.trace_model.Row.{content_at, row_before}
 use Rattle.chan_map.specs.trace_model.Stability.{waits as waits_on, IsLowestUnstable, IsUnstable}
 use Rattle.chan_map.proofs.trace_model_lemmas.CountingLemmas.{slice_get-last, slice_get-take, take-suc_get}
-use Rattle.chan_map.specs.net_design.declared.design.Design.{Design}
+use Rattle.net_design.specs.declared.design.Design.{Design}
 use Rattle.chan_map.specs.declared.pins.Map.{Map}
 use Rattle.run_model.specs.Played.{AreStable, IsPlayed, StopsBefore}
 use Rattle.run_model.proofs.PlayedLaws.{played-front, row-before_take}

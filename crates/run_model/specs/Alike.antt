@@ -1,10 +1,10 @@
 -- Designs that no map and no run can tell apart.
 use Rattle.std.specs.Prelude.{◌≡◌, ℕ, ◌↔◌, List}
 use Rattle.chan_map.specs.vidi_bits.Findings.{is_nil}
-use Rattle.chan_map.specs.net_design.declared.design.Design.{Design}
-use Rattle.chan_map.specs.net_design.declared.values.Values.{Values}
-use Rattle.chan_map.specs.net_design.Settled.{IsSettled, initial, next}
-use Rattle.chan_map.specs.net_design.Lawful.{IsState}
+use Rattle.net_design.specs.declared.design.Design.{Design}
+use Rattle.net_design.specs.declared.values.Values.{Values}
+use Rattle.net_design.specs.Settled.{IsSettled, initial, next}
+use Rattle.net_design.specs.Lawful.{IsState}
 use Rattle.chan_map.specs.Ports.{is_read}
 
 -- They have the same ports and the same clock, both have clocked blocks or neither, and the same ports are read by drivers. They have

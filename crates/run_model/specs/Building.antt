@@ -8,10 +8,10 @@ use Rattle.chan_map.specs.trace_model.declared.channel.Dir.TheVariants.{Inward, 
 use Rattle.chan_map.specs.trace_model.declared.row.Offers.{Offers}
 use Rattle.chan_map.specs.trace_model.declared.row.Row.{Row}
 use Rattle.chan_map.specs.trace_model.Row.{content_at, sink_valid, flies_after}
-use Rattle.chan_map.specs.net_design.declared.design.Port.{Port}
-use Rattle.chan_map.specs.net_design.declared.design.Direction.TheVariants.{Output}
-use Rattle.chan_map.specs.net_design.declared.design.Design.{Design}
-use Rattle.chan_map.specs.net_design.Settled.{net_width}
+use Rattle.net_design.specs.declared.design.Port.{Port}
+use Rattle.net_design.specs.declared.design.Direction.TheVariants.{Output}
+use Rattle.net_design.specs.declared.design.Design.{Design}
+use Rattle.net_design.specs.Settled.{net_width}
 use Rattle.chan_map.specs.declared.pins.Map.{Map}
 use Rattle.chan_map.specs.declared.pins.Pin.{Pin}
 use Rattle.chan_map.specs.declared.pins.Plug.{Plug}

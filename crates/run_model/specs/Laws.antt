@@ -17,9 +17,9 @@ use Rattle.chan_map.specs.trace_model.Packet.{does, count, content_of, IsPacket}
 use Rattle.chan_map.specs.trace_model.Recording.{packets_of, recorded, shown, trace_of, IsTransaction}
 use Rattle.chan_map.specs.trace_model.Row.{content_at, completes, AreOffers, AreRows}
 use Rattle.chan_map.specs.trace_model.Trace.{IsWellFormed}
-use Rattle.chan_map.specs.net_design.declared.design.Design.{Design}
-use Rattle.chan_map.specs.net_design.Lawful.{IsLawful}
-use Rattle.chan_map.specs.net_design.Pins.{HasOneMap}
+use Rattle.net_design.specs.declared.design.Design.{Design}
+use Rattle.net_design.specs.Lawful.{IsLawful}
+use Rattle.net_design.specs.Pins.{HasOneMap}
 use Rattle.chan_map.specs.declared.pins.Map.{Map}
 use Rattle.chan_map.specs.declared.text.MapText.{MapText}
 use Rattle.chan_map.specs.Bound.{BindsMap}

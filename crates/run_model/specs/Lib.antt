@@ -11,6 +11,5 @@ pub mod Building
 pub mod Alike
 pub mod AlikeLaws
 pub use Rattle.chan_map.specs as chan_map
-pub use Rattle.chan_map.specs.net_design as net_design
 pub use Rattle.chan_map.specs.trace_model as trace_model
 pub use Rattle.chan_map.specs.vidi_bits as vidi_bits

@@ -4,8 +4,8 @@ use Rattle.chan_map.specs.trace_model.declared.channel.Channel.{Channel}
 use Rattle.chan_map.specs.trace_model.declared.row.Row.{Row}
 use Rattle.chan_map.specs.trace_model.Row.{AreRows, row_before}
 use Rattle.chan_map.specs.trace_model.Stability.{IsUnstable, IsUnstableAt}
-use Rattle.chan_map.specs.net_design.declared.design.Design.{Design}
-use Rattle.chan_map.specs.net_design.declared.values.Values.{Values}
+use Rattle.net_design.specs.declared.design.Design.{Design}
+use Rattle.net_design.specs.declared.values.Values.{Values}
 use Rattle.chan_map.specs.declared.pins.Map.{Map}
 use Rattle.run_model.specs.Step.{IsFirst, IsStep}
 

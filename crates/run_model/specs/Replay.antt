@@ -13,7 +13,7 @@ use Rattle.chan_map.specs.trace_model.Counting.{IsNth}
 use Rattle.chan_map.specs.trace_model.Packet.{does, count, content_of}
 use Rattle.chan_map.specs.trace_model.Recording.{shown}
 use Rattle.chan_map.specs.trace_model.Row.{content_at}
-use Rattle.chan_map.specs.net_design.declared.design.Design.{Design}
+use Rattle.net_design.specs.declared.design.Design.{Design}
 use Rattle.chan_map.specs.declared.pins.Map.{Map}
 use Rattle.run_model.specs.Offers.{no_content}
 use Rattle.run_model.specs.Played.{IsPlayed, AreStable, StopsBefore, all_up}

@@ -13,7 +13,7 @@ mod pins;
 
 pub use alike::{driven_alike, maps_alike, one_end, runs_alike};
 pub use chan_map;
-pub use chan_map::{net_design, trace_model, vidi_bits, vidi_lines};
+pub use chan_map::{trace_model, vidi_bits, vidi_lines};
 pub use held::{Await, Awaits, Held, Helds};
 pub use laws::{
     bound_is_map_of, no_circle, one_replay, one_run, order_in_the_output, replay_keeps_contents,

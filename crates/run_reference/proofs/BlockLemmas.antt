@@ -6,9 +6,9 @@ use Rattle.std.proofs.lemmas.List.{drop_more}
 use Rattle.std.proofs.lemmas.Option.{same_Some}
 use Rattle.run_model.specs.trace_model.declared.channel.Channel.{Channel}
 use Rattle.run_model.specs.trace_model.declared.channel.Dir.TheVariants.{Inward, Outward}
-use Rattle.run_model.specs.net_design.declared.design.Design.{Design}
-use Rattle.run_model.specs.net_design.declared.design.Direction.TheVariants.{Output}
-use Rattle.run_model.specs.net_design.Pins.{output_count}
+use Rattle.net_design.specs.declared.design.Design.{Design}
+use Rattle.net_design.specs.declared.design.Direction.TheVariants.{Output}
+use Rattle.net_design.specs.Pins.{output_count}
 use Rattle.run_model.specs.chan_map.declared.pins.Map.{Map}
 use Rattle.run_model.specs.chan_map.declared.pins.Pin.{Pin}
 use Rattle.run_model.specs.chan_map.declared.pins.Plug.{Plug}

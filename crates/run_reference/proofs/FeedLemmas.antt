@@ -21,8 +21,8 @@ use Rattle.run_model.specs.trace_model.Packet.{does, content_of, Fit, IsPacket}
 use Rattle.run_model.specs.trace_model.Row.{row_before, AreOffers}
 use Rattle.run_model.proofs.trace_model_lemmas.ContentsLemmas.{content-fits}
 use Rattle.run_model.proofs.trace_model_lemmas.CountingLemmas.{nth-unique}
-use Rattle.run_model.specs.net_design.declared.design.Design.{Design}
-use Rattle.run_model.specs.net_design.declared.values.Values.{Values}
+use Rattle.net_design.specs.declared.design.Design.{Design}
+use Rattle.net_design.specs.declared.values.Values.{Values}
 use Rattle.run_model.specs.chan_map.declared.pins.Map.{Map}
 use Rattle.run_model.specs.vidi_bits.Findings.{is_nil}
 use Rattle.run_model.specs.declared.held.Await.{Await}

@@ -17,7 +17,7 @@ use Rattle.run_model.specs.trace_model.Row.{all_widths}
 use Rattle.run_model.proofs.trace_model_lemmas.CountingLemmas.{take-suc_get}
 use Rattle.run_model.specs.chan_map.declared.pins.Plug.{Plug}
 use Rattle.run_model.specs.declared.pins.PinNumber.{PinNumber}
-use Rattle.run_model.specs.net_design.declared.design.Design.{Design}
+use Rattle.net_design.specs.declared.design.Design.{Design}
 use Rattle.run_model.specs.chan_map.declared.pins.Map.{Map}
 use Rattle.run_model.specs.Building.{number_for, AreSmall}
 use Rattle.run_model.specs.MapOf.{IsMapOf}

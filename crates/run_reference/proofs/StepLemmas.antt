@@ -12,10 +12,10 @@ use Rattle.run_model.specs.trace_model.declared.channel.Dir.TheVariants.{Inward,
 use Rattle.run_model.specs.trace_model.declared.row.Offers.{Offers}
 use Rattle.run_model.specs.trace_model.declared.row.Row.{Row}
 use Rattle.run_model.specs.trace_model.Row.{content_at, sink_valid, row_before, AreOffers, IsOver, IsMarked}
-use Rattle.run_model.specs.net_design.declared.design.Design.{Design}
-use Rattle.run_model.specs.net_design.declared.values.Values.{Values}
-use Rattle.run_model.specs.net_design.Settled.{IsSettled, next}
-use Rattle.run_model.specs.net_design.Pins.{FitPins, outputs}
+use Rattle.net_design.specs.declared.design.Design.{Design}
+use Rattle.net_design.specs.declared.values.Values.{Values}
+use Rattle.net_design.specs.Settled.{IsSettled, next}
+use Rattle.net_design.specs.Pins.{FitPins, outputs}
 use Rattle.run_model.specs.chan_map.declared.pins.Map.{Map}
 use Rattle.run_model.specs.chan_map.declared.pins.Plug.{Plug}
 use Rattle.run_model.specs.chan_map.Bound.{IsPlug}

@@ -7,7 +7,7 @@ ghost use Rattle.run_model.specs.vidi_bits.Number.{truth};
 ghost use Rattle.run_model.specs.trace_model.Channel.{IsTable};
 ghost use Rattle.run_model.specs.trace_model.Packet.{widths_of};
 ghost use Rattle.run_model.specs.trace_model.Row.{all_widths, content_at, sink_valid};
-ghost use Rattle.run_model.specs.net_design.declared.design.Design.{Design};
+ghost use Rattle.net_design.specs.declared.design.Design.{Design};
 ghost use Rattle.run_model.specs.chan_map.declared.pins.Pin.{Pin};
 ghost use Rattle.run_model.specs.Building.{number_for, AreSmall};
 ghost use Rattle.run_model.specs.MapOf.{IsMapOf};

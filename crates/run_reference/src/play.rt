@@ -2,7 +2,7 @@
 
 ghost use Rattle.std.specs.Prelude.{◌≡◌, ◌<◌, ◌^◌, ℕ, [], All, length, IfOk, OnOk};
 ghost use Rattle.run_model.specs.trace_model.Row.{row_before, AreOffers, IsOver, IsMarked};
-ghost use Rattle.run_model.specs.net_design.Pins.{FitPins};
+ghost use Rattle.net_design.specs.Pins.{FitPins};
 ghost use Rattle.run_model.specs.Building.{PortsAreNets};
 ghost use Rattle.run_model.specs.Laws.{GatesOf};
 ghost use Rattle.run_model.specs.MapOf.{IsMapOf};
@@ -14,8 +14,8 @@ ghost use Rattle.run_reference.specs.Given.{offers_by, gates_by};
 
 use crate::pins::input_pins;
 use crate::row::shown_row;
+use net_design::Block;
 use run_model::chan_map::Map;
-use run_model::net_design::Block;
 use run_model::trace_model::{Offers, Row, Rows};
 use run_model::vidi_bits::{Memory, Numbers};
 use std::alloc::Global;

@@ -15,8 +15,8 @@ use crate::pins::{first_place, port_count};
 use crate::play::{reset, step};
 use crate::row::{part, push_all};
 use crate::waiting::{awaits, packet_place, shown};
+use net_design::Block;
 use run_model::chan_map::Map;
-use run_model::net_design::Block;
 use run_model::trace_model::{
     Channel, Event, Kind, Offers, Packet, Row, Rows, names, push_zeros, with_bit,
 };

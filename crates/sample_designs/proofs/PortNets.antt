@@ -1,6 +1,6 @@
 -- In a lawful design port k is net k.
-use Rattle.net_sim.specs.net_design.declared.design.Design.{Design}
-use Rattle.net_sim.specs.net_design.Lawful.{IsLawful}
+use Rattle.net_design.specs.declared.design.Design.{Design}
+use Rattle.net_design.specs.Lawful.{IsLawful}
 use Rattle.run_model.specs.Building.{PortsAreNets}
 use Rattle.run_model.proofs.PlayedLaws.{ports-are_nets}
 

@@ -1,14 +1,14 @@
 //! The designs, ready to run.
 
 ghost use Rattle.std.specs.Prelude.{◌≡◌, ◌++◌, ◌∷◌, [], IfOk, IfSome, OnOk};
-ghost use Rattle.net_sim.specs.net_design.Lawful.{IsLawful};
+ghost use Rattle.net_design.specs.Lawful.{IsLawful};
 ghost use Rattle.run_model.specs.Building.{PortsAreNets};
 ghost use Rattle.run_model.specs.MapOf.{IsMapOf};
 ghost use Rattle.sample_designs.specs.Stage.{flick_channels, stage_channels};
 
 use crate::texts::{Sample, texts_of};
+use net_design::Design;
 use net_sim::Sim;
-use net_sim::net_design::Design;
 use net_sim::net_order::order;
 use net_sim::vidi_bits::{Bytes, Memory};
 use run_model::bound_is_map_of;

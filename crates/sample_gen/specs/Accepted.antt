@@ -4,10 +4,10 @@ use Rattle.room_ledger.specs.vidi_bits.Findings.{is_nil}
 use Rattle.room_ledger.specs.trace_model.declared.channel.Channel.{Channel}
 use Rattle.room_ledger.specs.trace_model.declared.channel.Dir.TheVariants.{Inward, Outward}
 use Rattle.room_ledger.specs.trace_model.Channel.{content_bytes}
-use Rattle.script_text.specs.net_design.declared.design.Direction.{Direction}
-use Rattle.script_text.specs.net_design.declared.design.Direction.TheVariants.{Input, Output}
-use Rattle.script_text.specs.net_design.declared.design.Port.{Port}
-use Rattle.script_text.specs.net_design.declared.design.Design.{Design}
+use Rattle.net_design.specs.declared.design.Direction.{Direction}
+use Rattle.net_design.specs.declared.design.Direction.TheVariants.{Input, Output}
+use Rattle.net_design.specs.declared.design.Port.{Port}
+use Rattle.net_design.specs.declared.design.Design.{Design}
 use Rattle.script_text.specs.chan_map.Text.{text_faults, all_said, map_lines}
 use Rattle.script_text.specs.chan_map.Bound.{map_faults, table_of}
 use Rattle.room_ledger.specs.Reservation.{need}

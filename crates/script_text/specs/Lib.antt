@@ -13,5 +13,4 @@ pub mod Places
 pub mod Laws
 pub mod OneReading
 pub use Rattle.chan_map.specs as chan_map
-pub use Rattle.chan_map.specs.net_design as net_design
 pub use Rattle.chan_map.specs.vidi_lines as vidi_lines

@@ -9,8 +9,8 @@ use std::test::Fail;
 use vlog_print::vidi_bits::Bytes;
 use vlog_print::vlog_lex::lex;
 use vlog_print::vlog_parse::parse;
-use vlog_print::vlog_tree::File;
 use vlog_print::{good_shape, print};
+use vlog_tree::File;
 
 fn file_of(alloc: Global, text: &[u8]) -> Result<File, Fail> {
     if text.len() > 10_000 {

@@ -3,12 +3,12 @@ use Rattle.std.proofs.Common.{◌≡◌, ℕ, ◌+◌, ◌<◌, ◌^◌, true, f
 use Rattle.std.proofs.Common.{refl, sym, ap, subst, ◌∙◌, arith}
 use Rattle.std.specs.Prelude.{MatchOption}
 use Rattle.std.specs.List.{refill}
-use Rattle.vlog_design.specs.vlog_tree.Tree.{FileOf}
-use Rattle.net_sim.specs.net_design.declared.design.Design.{Design}
-use Rattle.net_sim.specs.net_design.declared.values.Values.{Values}
-use Rattle.net_sim.specs.net_design.Lawful.{IsState}
-use Rattle.net_sim.specs.net_design.Pins.{outputs}
-use Rattle.net_sim.specs.net_design.Settled.{IsSettled, initial}
+use Rattle.vlog_tree.specs.Tree.{FileOf}
+use Rattle.net_design.specs.declared.design.Design.{Design}
+use Rattle.net_design.specs.declared.values.Values.{Values}
+use Rattle.net_design.specs.Lawful.{IsState}
+use Rattle.net_design.specs.Pins.{outputs}
+use Rattle.net_design.specs.Settled.{IsSettled, initial}
 use Rattle.replay_run.specs.trace_model.declared.channel.Channel.{Channel}
 use Rattle.replay_run.specs.trace_model.declared.row.Offers.{Offers}
 use Rattle.replay_run.specs.trace_model.declared.row.Row.{Row}

@@ -8,8 +8,8 @@ use Rattle.std.proofs.lemmas.Option.{slice_get_within, get_or_from_slice_get}
 use Rattle.std.proofs.Math.Nat.{mul-le-mul_left}
 use Rattle.std.proofs.lemmas.List.{length-append, length-take-le, length-drop, get_or-take, get_or-drop, append-nil}
 use Rattle.net_sim.specs.vidi_bits.Number.{IsWidth, truth, has}
-use Rattle.net_sim.specs.net_design.declared.design.Direction.TheVariants.{Input}
-use Rattle.net_sim.specs.net_design.declared.design.Port.{Port}
+use Rattle.net_design.specs.declared.design.Direction.TheVariants.{Input}
+use Rattle.net_design.specs.declared.design.Port.{Port}
 use Rattle.shim_step.specs.vlog_meaning.Names.{Name, Full}
 use Rattle.replay_run.specs.trace_model.declared.channel.Channel.{Channel}
 use Rattle.replay_run.specs.trace_model.declared.channel.Dir.{Dir}

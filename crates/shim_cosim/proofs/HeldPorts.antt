@@ -6,14 +6,14 @@ use Rattle.std.specs.List.{flat_map, AllZip, AllByRecursion}
 use Rattle.std.specs.Option.{option_to_list}
 use Rattle.std.specs.Str.{bytes_eq}
 use Rattle.net_sim.specs.vidi_bits.Number.{IsWidth, truth}
-use Rattle.vlog_design.specs.vlog_tree.Tree.{PortOf, ModuleOf, FileOf}
+use Rattle.vlog_tree.specs.Tree.{PortOf, ModuleOf, FileOf}
 use Rattle.vlog_design.specs.vlog_size.Table.{Named, value_of}
 use Rattle.vlog_design.specs.vlog_names.Entries.{no_port, port_entries}
 use Rattle.shim_step.specs.vlog_scope.Scope.{scope_with}
 use Rattle.shim_step.specs.vlog_meaning.Names.{Name, Full}
-use Rattle.net_sim.specs.net_design.declared.design.Direction.TheVariants.{Input, Output}
-use Rattle.net_sim.specs.net_design.declared.design.Port.{Port}
-use Rattle.net_sim.specs.net_design.declared.design.Design.{Design}
+use Rattle.net_design.specs.declared.design.Direction.TheVariants.{Input, Output}
+use Rattle.net_design.specs.declared.design.Port.{Port}
+use Rattle.net_design.specs.declared.design.Design.{Design}
 use Rattle.vlog_design.specs.flat_parts.Nets.{port_of}
 use Rattle.replay_run.specs.chan_map.declared.pins.Map.{Map}
 use Rattle.replay_run.specs.chan_map.declared.pins.Pin.{Pin}

@@ -3,9 +3,9 @@ use Rattle.std.proofs.Common.{◌≡◌, ℕ, List, [], ◌∷◌, ◌++◌, map
 use Rattle.std.specs.List.{AllByRecursion}
 use Rattle.std.proofs.lemmas.List.{map-append}
 use Rattle.net_sim.specs.vidi_bits.Number.{IsWidth}
-use Rattle.vlog_design.specs.vlog_tree.declared.module.Direction.{Direction as TreeDirection}
-use Rattle.vlog_design.specs.vlog_tree.declared.module.Direction.TheVariants as tree
-use Rattle.vlog_design.specs.vlog_tree.Tree.{PortHeadOf, PortOf, ModuleOf}
+use Rattle.vlog_tree.specs.declared.module.Direction.{Direction as TreeDirection}
+use Rattle.vlog_tree.specs.declared.module.Direction.TheVariants as tree
+use Rattle.vlog_tree.specs.Tree.{PortHeadOf, PortOf, ModuleOf}
 use Rattle.vlog_design.specs.vlog_size.declared.scope.Scope.{Scope}
 use Rattle.vlog_design.specs.vlog_size.Table.{value_of}
 use Rattle.vlog_design.specs.vlog_names.declared.declaration.Declaration.{Declaration}
@@ -14,14 +14,14 @@ use Rattle.shim_step.specs.vlog_scope.Extents.{net_width}
 use Rattle.shim_step.specs.vlog_scope.Scope.{scope_with}
 use Rattle.shim_step.specs.vlog_meaning.Names.{Name, Full}
 use Rattle.shim_step.specs.vlog_meaning.Next as next
-use Rattle.net_sim.specs.net_design.declared.design.Direction.{Direction}
-use Rattle.net_sim.specs.net_design.declared.design.Direction.TheVariants.{Input, Output}
-use Rattle.net_sim.specs.net_design.declared.design.Net.{Net}
-use Rattle.net_sim.specs.net_design.declared.design.Port.{Port}
-use Rattle.net_sim.specs.net_design.declared.design.Design.{Design}
-use Rattle.net_sim.specs.net_design.Lawful.{IsLawful}
-use Rattle.net_sim.specs.net_design.Names.{list_at, paths}
-use Rattle.net_sim.specs.net_design.Settled.{pins_of}
+use Rattle.net_design.specs.declared.design.Direction.{Direction}
+use Rattle.net_design.specs.declared.design.Direction.TheVariants.{Input, Output}
+use Rattle.net_design.specs.declared.design.Net.{Net}
+use Rattle.net_design.specs.declared.design.Port.{Port}
+use Rattle.net_design.specs.declared.design.Design.{Design}
+use Rattle.net_design.specs.Lawful.{IsLawful}
+use Rattle.net_design.specs.Names.{list_at, paths}
+use Rattle.net_design.specs.Settled.{pins_of}
 use Rattle.vlog_design.specs.flat_parts.Meaning.{values_of}
 use Rattle.vlog_design.specs.flat_parts.Nets.{port_of, flat_ports}
 use Rattle.shim_gen.specs.shim_trees.Pieces.{range_of}

@@ -3,11 +3,11 @@ use Rattle.std.proofs.Common.{◌≡◌, ℕ, ◌+◌, ◌≤◌, List, [], ◌+
 use Rattle.std.specs.Prelude.{MatchOption}
 use Rattle.std.specs.List.{refill}
 use Rattle.std.proofs.lemmas.List.{length-take-le, take_at}
-use Rattle.net_sim.specs.net_design.declared.design.Design.{Design}
-use Rattle.net_sim.specs.net_design.declared.values.Values.{Values}
-use Rattle.net_sim.specs.net_design.Lawful.{IsState}
-use Rattle.net_sim.specs.net_design.Pins.{outputs}
-use Rattle.net_sim.specs.net_design.Settled.{IsSettled, initial}
+use Rattle.net_design.specs.declared.design.Design.{Design}
+use Rattle.net_design.specs.declared.values.Values.{Values}
+use Rattle.net_design.specs.Lawful.{IsState}
+use Rattle.net_design.specs.Pins.{outputs}
+use Rattle.net_design.specs.Settled.{IsSettled, initial}
 use Rattle.replay_run.specs.trace_model.declared.row.Row.{Row}
 use Rattle.replay_run.specs.trace_model.Row.{IsOver}
 use Rattle.replay_run.specs.chan_map.declared.pins.Map.{Map}

@@ -5,15 +5,15 @@ use Rattle.std.specs.Prelude.{codes, MatchOption}
 use Rattle.std.specs.List.{range_with_len}
 use Rattle.std.proofs.lemmas.List.{ext_get_or}
 use Rattle.net_sim.specs.vidi_bits.Number.{truth, has}
-use Rattle.vlog_design.specs.vlog_tree.Tree.{ModuleOf, FileOf}
+use Rattle.vlog_tree.specs.Tree.{ModuleOf, FileOf}
 use Rattle.shim_step.specs.vlog_meaning.Names.{Full, State}
 use Rattle.shim_step.specs.vlog_meaning.Next.{IsNext, IsInitial}
-use Rattle.net_sim.specs.net_design.declared.design.Design.{Design}
-use Rattle.net_sim.specs.net_design.declared.values.Values.{Values}
-use Rattle.net_sim.specs.net_design.Lawful.{IsLawful, IsState}
-use Rattle.net_sim.specs.net_design.Pins.{input_limits, outputs}
-use Rattle.net_sim.specs.net_design.Settled as design
-use Rattle.net_sim.proofs.net_design_lemmas.StateLaws.{initial_state, next_state}
+use Rattle.net_design.specs.declared.design.Design.{Design}
+use Rattle.net_design.specs.declared.values.Values.{Values}
+use Rattle.net_design.specs.Lawful.{IsLawful, IsState}
+use Rattle.net_design.specs.Pins.{input_limits, outputs}
+use Rattle.net_design.specs.Settled as design
+use Rattle.net_design.proofs.StateLaws.{initial_state, next_state}
 use Rattle.vlog_design.specs.flat_parts.Meaning.{state_of}
 use Rattle.replay_run.specs.trace_model.declared.channel.Channel.{Channel}
 use Rattle.replay_run.specs.trace_model.declared.channel.Dir.{Dir}

@@ -9,21 +9,21 @@ use Rattle.std.proofs.lemmas.List.Sums.{sum_by-cons}
 use Rattle.std.proofs.lemmas.Nat.{pow_pos}
 use Rattle.net_sim.specs.vidi_bits.Number.{IsWidth}
 use Rattle.net_sim.proofs.vidi_bits_lemmas.Each.{each_append}
-use Rattle.vlog_design.specs.vlog_tree.Tree.{PortOf, ConnOf, ItemOf, PosedgeEvent, ModuleOf, FileOf}
+use Rattle.vlog_tree.specs.Tree.{PortOf, ConnOf, ItemOf, PosedgeEvent, ModuleOf, FileOf}
 use Rattle.vlog_design.specs.vlog_elab.Instances.{instances}
 use Rattle.shim_step.specs.vlog_scope.Scope.{scope_with}
 use Rattle.vlog_design.specs.vlog_size.declared.scope.Scope.{Scope}
 use Rattle.shim_step.specs.vlog_meaning.Names.{Name, Full, State}
 use Rattle.shim_step.specs.vlog_meaning.Placed.{placed, placed_items}
 use Rattle.shim_step.specs.vlog_meaning.Settled.{inputs_of, Joins, Waits, IsClock}
-use Rattle.net_sim.specs.net_design.declared.design.Direction.TheVariants.{Input, Output}
-use Rattle.net_sim.specs.net_design.declared.design.Port.{Port}
-use Rattle.net_sim.specs.net_design.declared.design.Design.{Design}
-use Rattle.net_sim.specs.net_design.declared.values.Values.{Values}
-use Rattle.net_sim.specs.net_design.Lawful.{IsLawful, IsState}
-use Rattle.net_sim.specs.net_design.Pins.{is_clock, outputs, FitPins}
-use Rattle.net_sim.specs.net_design.Settled as design
-use Rattle.net_sim.specs.net_design.Settled.{pins_of}
+use Rattle.net_design.specs.declared.design.Direction.TheVariants.{Input, Output}
+use Rattle.net_design.specs.declared.design.Port.{Port}
+use Rattle.net_design.specs.declared.design.Design.{Design}
+use Rattle.net_design.specs.declared.values.Values.{Values}
+use Rattle.net_design.specs.Lawful.{IsLawful, IsState}
+use Rattle.net_design.specs.Pins.{is_clock, outputs, FitPins}
+use Rattle.net_design.specs.Settled as design
+use Rattle.net_design.specs.Settled.{pins_of}
 use Rattle.vlog_design.specs.flat_parts.Built.{IsBuilt}
 use Rattle.vlog_design.specs.flat_parts.Laws.{IsTop}
 use Rattle.vlog_design.specs.flat_parts.Meaning.{values_of, state_of, Means}

@@ -4,13 +4,13 @@ use Rattle.std.proofs.Common.{subst, arith, inl, length, slice_get}
 use Rattle.std.specs.Prelude.{codes}
 use Rattle.std.specs.List.{Contains}
 use Rattle.std.proofs.lemmas.Bool.{ne_eqb}
-use Rattle.vlog_design.specs.vlog_tree.Tree.{BeginStmt, ConnOf, ItemOf, ModuleOf, FileOf}
+use Rattle.vlog_tree.specs.Tree.{BeginStmt, ConnOf, ItemOf, ModuleOf, FileOf}
 use Rattle.shim_step.specs.vlog_scope.Scope.{scope_with}
 use Rattle.vlog_design.specs.vlog_size.declared.scope.Scope.{Scope}
 use Rattle.shim_step.specs.vlog_meaning.Placed.{placed, placed_items}
 use Rattle.shim_step.specs.vlog_meaning.Settled.{IsClock, Waits, inputs_of}
-use Rattle.net_sim.specs.net_design.declared.design.Design.{Design}
-use Rattle.net_sim.specs.net_design.Pins.{is_clock}
+use Rattle.net_design.specs.declared.design.Design.{Design}
+use Rattle.net_design.specs.Pins.{is_clock}
 use Rattle.replay_run.specs.trace_model.declared.channel.Channel.{Channel}
 use Rattle.replay_run.specs.chan_map.declared.pins.Map.{Map}
 use Rattle.replay_run.proofs.run_model_lemmas.RowParts.{channel-at}

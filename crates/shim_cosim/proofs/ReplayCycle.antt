@@ -7,21 +7,21 @@ use Rattle.std.proofs.lemmas.List.{length-append, length-map}
 use Rattle.std.proofs.lemmas.Nat.{pow_pos}
 use Rattle.net_sim.specs.vidi_bits.Number.{has}
 use Rattle.net_sim.proofs.vidi_bits_lemmas.Each.{each_append}
-use Rattle.vlog_design.specs.vlog_tree.Tree.{PortOf, ModuleOf, FileOf}
+use Rattle.vlog_tree.specs.Tree.{PortOf, ModuleOf, FileOf}
 use Rattle.shim_step.specs.vlog_scope.Scope.{scope_with}
 use Rattle.shim_step.specs.vlog_meaning.Names.{Full, State}
 use Rattle.shim_step.specs.vlog_meaning.Next.{IsNext}
 use Rattle.shim_step.specs.vlog_meaning.Settled as meaning
-use Rattle.net_sim.specs.net_design.declared.design.Design.{Design}
-use Rattle.net_sim.specs.net_design.declared.design.Direction.{Direction}
-use Rattle.net_sim.specs.net_design.declared.design.Direction.TheVariants.{Input, Output}
-use Rattle.net_sim.specs.net_design.declared.design.Port.{Port}
-use Rattle.net_sim.specs.net_design.declared.values.Values.{Values}
-use Rattle.net_sim.specs.net_design.Lawful.{IsState}
-use Rattle.net_sim.specs.net_design.Pins.{outputs, input_limits, FitPins}
-use Rattle.net_sim.specs.net_design.Pins as pins
-use Rattle.net_sim.specs.net_design.Settled.{initial, next, pins_of, same_direction, IsSettled}
-use Rattle.net_sim.proofs.net_design_lemmas.StateLaws.{initial_state, next_state}
+use Rattle.net_design.specs.declared.design.Design.{Design}
+use Rattle.net_design.specs.declared.design.Direction.{Direction}
+use Rattle.net_design.specs.declared.design.Direction.TheVariants.{Input, Output}
+use Rattle.net_design.specs.declared.design.Port.{Port}
+use Rattle.net_design.specs.declared.values.Values.{Values}
+use Rattle.net_design.specs.Lawful.{IsState}
+use Rattle.net_design.specs.Pins.{outputs, input_limits, FitPins}
+use Rattle.net_design.specs.Pins as pins
+use Rattle.net_design.specs.Settled.{initial, next, pins_of, same_direction, IsSettled}
+use Rattle.net_design.proofs.StateLaws.{initial_state, next_state}
 use Rattle.vlog_design.specs.flat_parts.Meaning.{state_of}
 use Rattle.vlog_design.specs.flat_parts.Nets.{flat_ports}
 use Rattle.replay_run.specs.trace_model.declared.channel.Channel.{Channel}

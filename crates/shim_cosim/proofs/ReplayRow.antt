@@ -8,8 +8,8 @@ use Rattle.std.proofs.lemmas.List.Sums.{sum_by-cons}
 use Rattle.std.proofs.lemmas.Option.{slice_get_within, get_or_from_slice_get}
 use Rattle.net_sim.specs.vidi_bits.Number.{truth, has}
 use Rattle.net_sim.proofs.vidi_bits_lemmas.BitLemmas.{has-above}
-use Rattle.net_sim.specs.net_design.declared.design.Direction.TheVariants.{Output}
-use Rattle.net_sim.specs.net_design.declared.design.Port.{Port}
+use Rattle.net_design.specs.declared.design.Direction.TheVariants.{Output}
+use Rattle.net_design.specs.declared.design.Port.{Port}
 use Rattle.shim_step.specs.vlog_meaning.Names.{Full}
 use Rattle.replay_run.specs.trace_model.declared.channel.Channel.{Channel}
 use Rattle.replay_run.specs.trace_model.declared.channel.Dir.{Dir}

@@ -11,13 +11,13 @@ use Rattle.std.proofs.lemmas.List.{length_push, length-take-le, length-append, l
 use Rattle.std.proofs.lemmas.Option.{same_Some}
 use Rattle.net_sim.specs.vidi_bits.Number.{has}
 use Rattle.net_sim.proofs.vidi_bits_lemmas.BitLemmas.{has-above}
-use Rattle.vlog_design.specs.vlog_tree.Tree.{ModuleOf, FileOf}
-use Rattle.net_sim.specs.net_design.declared.design.Design.{Design}
-use Rattle.net_sim.specs.net_design.declared.values.Values.{Values}
-use Rattle.net_sim.specs.net_design.Lawful.{IsState}
-use Rattle.net_sim.specs.net_design.Pins.{outputs, FitPins}
-use Rattle.net_sim.specs.net_design.Pins as pins
-use Rattle.net_sim.specs.net_design.Settled.{initial, next, IsSettled}
+use Rattle.vlog_tree.specs.Tree.{ModuleOf, FileOf}
+use Rattle.net_design.specs.declared.design.Design.{Design}
+use Rattle.net_design.specs.declared.values.Values.{Values}
+use Rattle.net_design.specs.Lawful.{IsState}
+use Rattle.net_design.specs.Pins.{outputs, FitPins}
+use Rattle.net_design.specs.Pins as pins
+use Rattle.net_design.specs.Settled.{initial, next, IsSettled}
 use Rattle.replay_run.specs.trace_model.declared.channel.Channel.{Channel}
 use Rattle.replay_run.specs.trace_model.declared.row.Row.{Row}
 use Rattle.replay_run.specs.trace_model.Row.{row_before, flies_after, is_in_flight, IsOver}

@@ -7,16 +7,16 @@ use Rattle.std.specs.Str.{bytes_eq}
 use Rattle.std.proofs.Math.Logic.{∥∥₁_elim, ∥∥₁_map}
 use Rattle.std.proofs.Props.{props}
 use Rattle.std.proofs.lemmas.List.{length-append, length-map, length-replicate, length-take-le, take_at}
-use Rattle.vlog_design.specs.vlog_tree.Tree.{ModuleOf, FileOf}
-use Rattle.net_sim.specs.net_design.declared.design.Port.{Port}
-use Rattle.net_sim.specs.net_design.declared.design.Direction.{Direction}
-use Rattle.net_sim.specs.net_design.declared.design.Direction.TheVariants.{Output}
-use Rattle.net_sim.specs.net_design.declared.design.Design.{Design}
-use Rattle.net_sim.specs.net_design.declared.values.Values.{Values}
-use Rattle.net_sim.specs.net_design.Lawful.{IsState}
-use Rattle.net_sim.specs.net_design.Pins.{output_count as design_count, outputs, FitPins}
-use Rattle.net_sim.specs.net_design.Settled as design
-use Rattle.net_sim.specs.net_design.Settled.{same_direction}
+use Rattle.vlog_tree.specs.Tree.{ModuleOf, FileOf}
+use Rattle.net_design.specs.declared.design.Port.{Port}
+use Rattle.net_design.specs.declared.design.Direction.{Direction}
+use Rattle.net_design.specs.declared.design.Direction.TheVariants.{Output}
+use Rattle.net_design.specs.declared.design.Design.{Design}
+use Rattle.net_design.specs.declared.values.Values.{Values}
+use Rattle.net_design.specs.Lawful.{IsState}
+use Rattle.net_design.specs.Pins.{output_count as design_count, outputs, FitPins}
+use Rattle.net_design.specs.Settled as design
+use Rattle.net_design.specs.Settled.{same_direction}
 use Rattle.net_sim.proofs.net_order_lemmas.OneMap.{has_one_map}
 use Rattle.vlog_design.proofs.flat_laws_lemmas.Found.{no_twice}
 use Rattle.replay_run.specs.trace_model.declared.row.Offers.{Offers}

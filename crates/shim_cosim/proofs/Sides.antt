@@ -1,7 +1,7 @@
 -- The flat ports of one direction among generated ports.
 use Rattle.std.proofs.Common.{◌≡◌, ℕ, zero, suc, ◌+◌, List, [], ◌∷◌, refl, ap}
-use Rattle.net_sim.specs.net_design.declared.design.Direction.TheVariants.{Input, Output}
-use Rattle.net_sim.specs.net_design.declared.design.Port.{Port}
+use Rattle.net_design.specs.declared.design.Direction.TheVariants.{Input, Output}
+use Rattle.net_design.specs.declared.design.Port.{Port}
 use Rattle.shim_gen.specs.shim_trees.Pieces.{Name, each, upto, input, output}
 use Rattle.shim_cosim.proofs.Ports.{flat, side}
 

@@ -9,16 +9,16 @@ use Rattle.std.proofs.lemmas.Bool.Decides.{nat_tests}
 use Rattle.std.proofs.lemmas.List.Elements.{recursion_from_All}
 use Rattle.std.proofs.lemmas.Nat.{pow_pos}
 use Rattle.std.proofs.Math.Nat.{pow-le-pow_right}
-use Rattle.vlog_design.specs.vlog_tree.Tree.{ModuleOf, FileOf}
+use Rattle.vlog_tree.specs.Tree.{ModuleOf, FileOf}
 use Rattle.vlog_design.specs.vlog_elab.Instances.{instances}
 use Rattle.vlog_design.specs.vlog_elab.Reasons.{Clear}
 use Rattle.vlog_design.specs.vlog_size.declared.scope.ScopeMemory.{ScopeMemory}
 use Rattle.vlog_design.specs.vlog_size.Table.{Named}
-use Rattle.net_sim.specs.net_design.declared.design.DesignMemory.{DesignMemory}
-use Rattle.net_sim.specs.net_design.declared.design.Design.{Design}
-use Rattle.net_sim.specs.net_design.declared.values.Values.{Values}
-use Rattle.net_sim.specs.net_design.Lawful.{IsLawful, IsState}
-use Rattle.net_sim.specs.net_design.Settled.{word_count}
+use Rattle.net_design.specs.declared.design.DesignMemory.{DesignMemory}
+use Rattle.net_design.specs.declared.design.Design.{Design}
+use Rattle.net_design.specs.declared.values.Values.{Values}
+use Rattle.net_design.specs.Lawful.{IsLawful, IsState}
+use Rattle.net_design.specs.Settled.{word_count}
 use Rattle.shim_step.specs.vlog_meaning.Names.{Full, State, words_from}
 use Rattle.vlog_design.specs.flat_parts.Built.{IsBuilt}
 use Rattle.vlog_design.specs.flat_parts.Laws.{IsTop}

@@ -3,7 +3,7 @@ use Rattle.std.proofs.Common.{◌≡◌, ℕ, Bool, List, [], ◌∷◌, ◌++�
 use Rattle.std.proofs.Common.{refl, ap, ◌∙◌}
 use Rattle.std.specs.List.{flat_map}
 use Rattle.std.specs.Option.{option_to_list}
-use Rattle.vlog_design.specs.vlog_tree.Tree.{PortOf}
+use Rattle.vlog_tree.specs.Tree.{PortOf}
 use Rattle.vlog_design.specs.vlog_size.Table.{Named}
 use Rattle.replay_run.specs.chan_map.declared.pins.Map.{Map}
 use Rattle.shim_gen.specs.Tables.{with_entries}

@@ -3,15 +3,15 @@ use Rattle.std.proofs.Common.{◌≡◌, ℕ, zero, suc, ◌+◌, ◌<◌, ◌�
 use Rattle.std.proofs.Common.{Option, Some, get_or, slice_get, refl, sym, ap, ◌∙◌, subst, arith}
 use Rattle.std.specs.List.{AllZip, enumerate_from}
 use Rattle.std.proofs.lemmas.Nat.{pow_pos}
-use Rattle.net_sim.specs.net_design.declared.design.Direction.{Direction}
-use Rattle.net_sim.specs.net_design.declared.design.Direction.TheVariants.{Input}
-use Rattle.net_sim.specs.net_design.declared.design.Instance.{Instance}
-use Rattle.net_sim.specs.net_design.declared.design.Net.{Net}
-use Rattle.net_sim.specs.net_design.declared.design.Port.{Port}
-use Rattle.net_sim.specs.net_design.declared.design.Design.{Design}
-use Rattle.net_sim.specs.net_design.Names.{list_at, paths, paths_after}
-use Rattle.net_sim.specs.net_design.Pins.{is_clock, input_limits, FitPins}
-use Rattle.net_sim.specs.net_design.Settled.{same_direction, pins_of}
+use Rattle.net_design.specs.declared.design.Direction.{Direction}
+use Rattle.net_design.specs.declared.design.Direction.TheVariants.{Input}
+use Rattle.net_design.specs.declared.design.Instance.{Instance}
+use Rattle.net_design.specs.declared.design.Net.{Net}
+use Rattle.net_design.specs.declared.design.Port.{Port}
+use Rattle.net_design.specs.declared.design.Design.{Design}
+use Rattle.net_design.specs.Names.{list_at, paths, paths_after}
+use Rattle.net_design.specs.Pins.{is_clock, input_limits, FitPins}
+use Rattle.net_design.specs.Settled.{same_direction, pins_of}
 
 abbrev pub Name : Type 0
 Name = List ℕ

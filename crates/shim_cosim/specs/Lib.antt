@@ -9,7 +9,6 @@ pub mod Replays
 pub use Rattle.replay_run.specs.chan_map as chan_map
 pub use Rattle.replay_run.specs.chan_monitor as chan_monitor
 pub use Rattle.replay_run.specs.chan_replayer as chan_replayer
-pub use Rattle.net_sim.specs.net_design as net_design
 pub use Rattle.net_sim.specs.net_order as net_order
 pub use Rattle.vidi_recorder.specs.room_ledger as room_ledger
 pub use Rattle.replay_run.specs.run_model as run_model

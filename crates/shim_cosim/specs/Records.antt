@@ -1,8 +1,8 @@
 -- Recordings of one design through two shells.
 use Rattle.std.specs.Prelude.{◌≡◌, ℕ, List, Option}
 use Rattle.replay_run.specs.trace_model.declared.row.Row.{Row}
-use Rattle.net_sim.specs.net_design.declared.design.Design.{Design}
-use Rattle.net_sim.specs.net_design.declared.values.Values.{Values}
+use Rattle.net_design.specs.declared.design.Design.{Design}
+use Rattle.net_design.specs.declared.values.Values.{Values}
 use Rattle.replay_run.specs.chan_map.declared.pins.Map.{Map}
 use Rattle.replay_run.specs.run_model.Laws.{IsReady}
 use Rattle.vidi_recorder.specs.script_text.declared.stalls.Stalls.{Stalls}

@@ -1,11 +1,11 @@
 -- A wrapped design that runs as a shell behind its replayers.
 use Rattle.std.specs.Prelude.{◌≡◌, ℕ, ◌^◌, ◌<◌, List, ◌++◌, Option, Some, take, length}
 use Rattle.net_sim.specs.vidi_bits.Number.{has}
-use Rattle.vlog_design.specs.vlog_tree.Tree.{ModuleOf, FileOf}
-use Rattle.net_sim.specs.net_design.declared.design.Design.{Design}
-use Rattle.net_sim.specs.net_design.declared.values.Values.{Values}
-use Rattle.net_sim.specs.net_design.Pins.{outputs}
-use Rattle.net_sim.specs.net_design.Settled.{IsSettled}
+use Rattle.vlog_tree.specs.Tree.{ModuleOf, FileOf}
+use Rattle.net_design.specs.declared.design.Design.{Design}
+use Rattle.net_design.specs.declared.values.Values.{Values}
+use Rattle.net_design.specs.Pins.{outputs}
+use Rattle.net_design.specs.Settled.{IsSettled}
 use Rattle.shim_step.specs.vlog_meaning.Names.{Full, State}
 use Rattle.vlog_design.specs.flat_parts.Meaning.{state_of}
 use Rattle.replay_run.specs.trace_model.declared.row.Row.{Row}

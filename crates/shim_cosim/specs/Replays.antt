@@ -2,8 +2,8 @@
 use Rattle.std.specs.Prelude.{◌≡◌, ℕ, List}
 use Rattle.replay_run.specs.trace_model.declared.packet.Packet.{Packet}
 use Rattle.replay_run.specs.trace_model.declared.row.Row.{Row}
-use Rattle.net_sim.specs.net_design.declared.design.Design.{Design}
-use Rattle.net_sim.specs.net_design.declared.values.Values.{Values}
+use Rattle.net_design.specs.declared.design.Design.{Design}
+use Rattle.net_design.specs.declared.values.Values.{Values}
 use Rattle.replay_run.specs.chan_map.declared.pins.Map.{Map}
 use Rattle.replay_run.specs.run_model.Laws.{ContentsFit, IsReady}
 use Rattle.replay_run.specs.declared.outcome.Replayed.{Replayed}

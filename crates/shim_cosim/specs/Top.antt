@@ -1,13 +1,13 @@
 -- The flat design of a wrapped file with one of its tops, and the first reason that holds of it (this project's profile).
 use Rattle.std.specs.Prelude.{◌≡◌, ℕ, ◌⊎◌, List, Option, Some, MatchOption, slice_index}
-use Rattle.vlog_design.specs.vlog_tree.Tree.{ModuleOf, FileOf}
+use Rattle.vlog_tree.specs.Tree.{ModuleOf, FileOf}
 use Rattle.vlog_design.specs.vlog_elab.declared.error.ElabError.{ElabError}
 use Rattle.vlog_design.specs.vlog_elab.Errors.{number_of}
 use Rattle.vlog_design.specs.Design.{IsDesignOf}
 use Rattle.vlog_design.specs.Reasons.{Clear, Refused}
-use Rattle.net_sim.specs.net_design.declared.design.Design.{Design}
-use Rattle.net_sim.specs.net_design.declared.values.Values.{Values}
-use Rattle.net_sim.specs.net_design.Settled.{IsSettled}
+use Rattle.net_design.specs.declared.design.Design.{Design}
+use Rattle.net_design.specs.declared.values.Values.{Values}
+use Rattle.net_design.specs.Settled.{IsSettled}
 use Rattle.net_sim.specs.net_order.Order.{IsOrder, IsLoop}
 use Rattle.net_sim.specs.Names.{IsCalled}
 use Rattle.replay_run.specs.chan_map.declared.pins.Map.{Map}

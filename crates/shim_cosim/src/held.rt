@@ -3,7 +3,7 @@
 ghost use Rattle.std.specs.Prelude.{◌≡◌, ◌++◌, [], not, if◌then◌else◌, IfOk, OnOk, map};
 ghost use Rattle.std.specs.List.{flat_map};
 ghost use Rattle.std.specs.Option.{option_to_list};
-ghost use Rattle.vlog_design.specs.vlog_tree.Plain.{plain, plain_port};
+ghost use Rattle.vlog_tree.specs.Plain.{plain, plain_port};
 ghost use Rattle.shim_gen.specs.shim_trees.Wrapped.{ports_in, module_named};
 ghost use Rattle.shim_gen.specs.Tables.{with_entries};
 ghost use Rattle.shim_cosim.specs.Held as spec;
@@ -14,7 +14,7 @@ use replay_run::chan_monitor::reset_value;
 use shim_gen::ports_of;
 use std::alloc::Global;
 use vlog_design::vlog_size::Table;
-use vlog_design::vlog_tree::{File, Port};
+use vlog_tree::{File, Port};
 
 /// Adds the number of the reset, where there is one.
 fn add_reset(

@@ -20,7 +20,7 @@ mod wrapped;
 
 pub use error::CosimError;
 pub use net_sim;
-pub use net_sim::{net_design, net_order};
+pub use net_sim::net_order;
 pub use records::records_alike;
 pub use replay_run;
 pub use replay_run::{chan_map, chan_monitor, chan_replayer, run_model, trace_code, trace_model};

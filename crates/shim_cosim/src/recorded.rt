@@ -3,8 +3,8 @@
 ghost use Rattle.std.specs.Prelude.{◌≡◌, ◌+◌, ◌≤◌, ◌<◌, ◌^◌, ◌++◌, OnOk, length, take, replicate, slice_index};
 ghost use Rattle.replay_run.specs.trace_model.Packet.{Fit};
 ghost use Rattle.replay_run.specs.trace_model.Row.{all_widths, replaced};
-ghost use Rattle.net_sim.specs.net_design.Pins as design;
-ghost use Rattle.net_sim.specs.net_design.Pins.{outputs};
+ghost use Rattle.net_design.specs.Pins as design;
+ghost use Rattle.net_design.specs.Pins.{outputs};
 ghost use Rattle.replay_run.specs.run_model.Building.{joined, mask_of};
 ghost use Rattle.replay_run.specs.chan_monitor.Entering.{offered};
 ghost use Rattle.replay_run.specs.chan_monitor.Shell.{HasPlaces};
@@ -12,7 +12,7 @@ ghost use Rattle.shim_gen.specs.shim_trees.Pieces.{upto};
 ghost use Rattle.shim_cosim.specs.Recorded as spec;
 ghost use Rattle.shim_cosim.specs.Recorded.{made_content, is_raised, is_chosen, inputs_count, outputs_count, row_inputs, IsMadeRow};
 
-use net_sim::net_design::Block;
+use net_design::Block;
 use net_sim::vidi_bits::{Memory, Numbers};
 use replay_run::trace_model::{Channel, Dir, Offers, Row, names, push_zeros, with_bit};
 

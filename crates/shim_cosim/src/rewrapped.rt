@@ -2,11 +2,11 @@
 
 ghost use Rattle.std.specs.Prelude.{◌≡◌, ◌+◌, ◌++◌, ◌≤◌, ℕ, List, [], IfOk, MatchResult, length, take};
 ghost use Rattle.replay_run.specs.trace_model.declared.row.Row.{Row as OneRow};
-ghost use Rattle.vlog_design.specs.vlog_tree.Tree.{FileOf};
-ghost use Rattle.vlog_design.specs.vlog_tree.Plain.{plain};
-ghost use Rattle.net_sim.specs.net_design.declared.design.Design.{Design};
-ghost use Rattle.net_sim.specs.net_design.Pins.{output_count, outputs, FitPins};
-ghost use Rattle.net_sim.specs.net_design.Settled.{initial, IsSettled};
+ghost use Rattle.vlog_tree.specs.Tree.{FileOf};
+ghost use Rattle.vlog_tree.specs.Plain.{plain};
+ghost use Rattle.net_design.specs.declared.design.Design.{Design};
+ghost use Rattle.net_design.specs.Pins.{output_count, outputs, FitPins};
+ghost use Rattle.net_design.specs.Settled.{initial, IsSettled};
 ghost use Rattle.replay_run.specs.chan_monitor.Shell.{HasPlaces};
 ghost use Rattle.replay_run.specs.chan_replayer.Feed.{IsFeedOver};
 ghost use Rattle.replay_run.specs.chan_replayer.Shell.{IsRunning};
@@ -21,14 +21,14 @@ use crate::held::held_pins;
 use crate::shown_row::{fill_row, read_outputs, without, zero_outputs};
 use crate::top::sim_of;
 use crate::wrapped::restart;
+use net_design::Block;
 use net_sim::Sim;
-use net_sim::net_design::Block;
 use net_sim::vidi_bits::Numbers;
 use replay_run::chan_map::Map;
 use replay_run::chan_replayer::{Feed, ReplayShell};
 use replay_run::trace_model::Row;
 use std::alloc::Global;
-use vlog_design::vlog_tree::File;
+use vlog_tree::File;
 
 /// A block of a wrapped file's flat design with the top that replays, as a shell: the replayers are in the design, and which channels are
 /// in flight is kept beside.

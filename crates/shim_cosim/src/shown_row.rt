@@ -4,13 +4,13 @@ ghost use Rattle.std.specs.Prelude.{◌≡◌, ℕ, ◌<◌, ◌≤◌, ◌+◌,
 ghost use Rattle.net_sim.specs.vidi_bits.Number.{has};
 ghost use Rattle.replay_run.specs.trace_model.Packet.{Fit};
 ghost use Rattle.replay_run.specs.trace_model.Row.{all_widths, replaced};
-ghost use Rattle.net_sim.specs.net_design.Pins.{output_count, outputs};
+ghost use Rattle.net_design.specs.Pins.{output_count, outputs};
 ghost use Rattle.replay_run.specs.run_model.Building.{mask_of};
 ghost use Rattle.replay_run.specs.chan_monitor.Shell.{HasPlaces};
 ghost use Rattle.replay_run.specs.chan_replayer.Feed.{IsFeedOver};
 ghost use Rattle.shim_cosim.specs.Rewrapped as spec;
 
-use net_sim::net_design::Block;
+use net_design::Block;
 use net_sim::vidi_bits::{Items, Memory, Numbers};
 use replay_run::chan_replayer::{Feed, clear_content};
 use replay_run::trace_model::{Channel, Dir, Row, names, push_zeros, with_bit};

@@ -1,20 +1,20 @@
 //! The flat design of a wrapped file with one of its tops, ready to run.
 
 ghost use Rattle.std.specs.Prelude.{◌≡◌, IfOk, MatchResult};
-ghost use Rattle.vlog_design.specs.vlog_tree.Plain.{plain};
-ghost use Rattle.net_sim.specs.net_design.Settled.{initial};
-ghost use Rattle.net_sim.specs.net_design.Lawful.{IsLawful};
+ghost use Rattle.vlog_tree.specs.Plain.{plain};
+ghost use Rattle.net_design.specs.Settled.{initial};
+ghost use Rattle.net_design.specs.Lawful.{IsLawful};
 ghost use Rattle.net_sim.specs.net_order.Order.{IsOrder, IsLoop};
 ghost use Rattle.shim_cosim.specs.Top as spec;
 ghost use Rattle.shim_cosim.specs.Top.{IsClearDesign, IsTopDesign, IsTopError};
 
 use crate::error::CosimError;
+use net_design::{Block, Design};
 use net_sim::Sim;
-use net_sim::net_design::{Block, Design};
 use net_sim::net_order::{Order, OrderError, order};
 use std::alloc::Global;
 use vlog_design::elaborate;
-use vlog_design::vlog_tree::File;
+use vlog_tree::File;
 
 /// The design of a file and its top, of which none of E3 to E9 and E11 to E13 holds.
 fn design_of(alloc: Global, file: &File, top: &[u8]) -> Result<Design, CosimError>

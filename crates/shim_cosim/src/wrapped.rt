@@ -3,11 +3,11 @@
 ghost use Rattle.std.specs.Prelude.{◌≡◌, ◌+◌, ◌++◌, ◌<◌, ◌≤◌, ◌^◌, ℕ, List, None, IfOk, MatchOption, MatchResult, length, take};
 ghost use Rattle.replay_run.specs.trace_model.declared.row.Row.{Row as OneRow};
 ghost use Rattle.replay_run.specs.trace_model.Row.{AreOffers};
-ghost use Rattle.vlog_design.specs.vlog_tree.Tree.{FileOf};
-ghost use Rattle.vlog_design.specs.vlog_tree.Plain.{plain};
-ghost use Rattle.net_sim.specs.net_design.declared.design.Design.{Design};
-ghost use Rattle.net_sim.specs.net_design.Pins.{output_count, outputs, FitPins};
-ghost use Rattle.net_sim.specs.net_design.Settled.{initial, IsSettled};
+ghost use Rattle.vlog_tree.specs.Tree.{FileOf};
+ghost use Rattle.vlog_tree.specs.Plain.{plain};
+ghost use Rattle.net_design.specs.declared.design.Design.{Design};
+ghost use Rattle.net_design.specs.Pins.{output_count, outputs, FitPins};
+ghost use Rattle.net_design.specs.Settled.{initial, IsSettled};
 ghost use Rattle.replay_run.specs.run_model.Step.{IsAfter};
 ghost use Rattle.replay_run.specs.chan_map.declared.pins.Reset.{Reset as OneReset};
 ghost use Rattle.replay_run.specs.chan_monitor.Entering.{offered};
@@ -22,14 +22,14 @@ use crate::error::CosimError;
 use crate::held::held_pins;
 use crate::recorded::{enter, push_channels, show};
 use crate::top::sim_of;
+use net_design::Block;
 use net_sim::Sim;
-use net_sim::net_design::Block;
 use net_sim::vidi_bits::Numbers;
 use replay_run::chan_map::Map;
 use replay_run::chan_monitor::{Shell, run_cycles};
 use replay_run::trace_model::{Offers, Row};
 use std::alloc::Global;
-use vlog_design::vlog_tree::File;
+use vlog_tree::File;
 
 /// A block of a wrapped file's flat design with the top that records, as a shell: the monitors are in the design.
 #[derive(Drop)]

@@ -2,9 +2,9 @@
 use Rattle.std.proofs.Common.{◌≡◌, ◌≢◌, ℕ, true, false, List, [], ◌∷◌, ◌++◌, map}
 use Rattle.std.proofs.Common.{Some, refl, sym, ap, ◌∙◌, subst, inl, inr}
 use Rattle.std.specs.List.{flat_map, AllByRecursion, list_any}
-use Rattle.flat_laws.specs.vlog_tree.Tree.{IdentOf, NamedValueOf, Reg1Of, PortOf, PortHeadOf, ItemOf, WiresItem}
-use Rattle.flat_laws.specs.vlog_tree.Tree.{DrivenWiresItem, RegsItem, LocalparamsItem, AssignItem, AlwaysItem, InstanceItem, ModuleOf, ParameterOf}
-use Rattle.flat_laws.specs.vlog_tree.Tree.{EventOf, PosedgeEvent, ImplicitEvent, AlwaysOf}
+use Rattle.vlog_tree.specs.Tree.{IdentOf, NamedValueOf, Reg1Of, PortOf, PortHeadOf, ItemOf, WiresItem}
+use Rattle.vlog_tree.specs.Tree.{DrivenWiresItem, RegsItem, LocalparamsItem, AssignItem, AlwaysItem, InstanceItem, ModuleOf, ParameterOf}
+use Rattle.vlog_tree.specs.Tree.{EventOf, PosedgeEvent, ImplicitEvent, AlwaysOf}
 use Rattle.flat_laws.specs.vlog_size.declared.scope.ScopeNet.{ScopeNet}
 use Rattle.flat_laws.specs.vlog_size.declared.scope.Scope.{Scope}
 use Rattle.flat_laws.specs.vlog_size.declared.scope.Param.{Param}

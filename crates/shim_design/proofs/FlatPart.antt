@@ -1,6 +1,6 @@
 -- The part of a flat design below an instance.
 use Rattle.std.proofs.Common.{ℕ, List, ◌∷◌}
-use Rattle.flat_laws.specs.vlog_tree.Tree.{ModuleOf}
+use Rattle.vlog_tree.specs.Tree.{ModuleOf}
 use Rattle.flat_laws.specs.vlog_meaning.Names.{Name, Full}
 use Rattle.flat_laws.specs.flat_parts.Meaning.{AreNarrow}
 use Rattle.shim_design.specs.Part.{under, part, pins_below, IsPart}

@@ -4,8 +4,8 @@ use Rattle.std.proofs.Common.{None, Some, refl, sym, ap, ◌∙◌, subst, slice
 use Rattle.std.specs.Int.{bit_at}
 use Rattle.std.specs.List.{AllByRecursion, flat_map}
 use Rattle.std.proofs.lemmas.Nat.Bits.{same_from_bits, bit_at-zero}
-use Rattle.flat_laws.specs.vlog_tree.Tree.{Reg1Of, PortOf, ItemOf, WiresItem, DrivenWiresItem, RegsItem, LocalparamsItem}
-use Rattle.flat_laws.specs.vlog_tree.Tree.{AssignItem, AlwaysItem, InstanceItem, ModuleOf}
+use Rattle.vlog_tree.specs.Tree.{Reg1Of, PortOf, ItemOf, WiresItem, DrivenWiresItem, RegsItem, LocalparamsItem}
+use Rattle.vlog_tree.specs.Tree.{AssignItem, AlwaysItem, InstanceItem, ModuleOf}
 use Rattle.flat_laws.specs.vlog_size.declared.scope.Param.{Param}
 use Rattle.flat_laws.specs.vlog_size.declared.scope.Scope.{Scope}
 use Rattle.flat_laws.specs.vlog_size.Names.{Readable}

@@ -4,8 +4,8 @@ use Rattle.std.proofs.Common.{refl, sym, ap, ◌∙◌, arith, take-append-drop,
 use Rattle.std.specs.List.{flat_map, sum_by}
 use Rattle.std.proofs.lemmas.List.{length-map}
 use Rattle.std.proofs.lemmas.List.Sums.{sum_by-cons}
-use Rattle.flat_laws.specs.net_design.declared.design.DesignMemory.{DesignMemory}
-use Rattle.flat_laws.specs.net_design.Names.{net_names, list_at, paths}
+use Rattle.net_design.specs.declared.design.DesignMemory.{DesignMemory}
+use Rattle.net_design.specs.Names.{net_names, list_at, paths}
 use Rattle.flat_laws.specs.vlog_meaning.Names.{Full, words_from}
 use Rattle.flat_laws.specs.flat_parts.Meaning.{memory_words}
 use Rattle.shim_design.specs.Maps.{memory_names, ListsAreMaps}

@@ -7,8 +7,8 @@ use Rattle.std.proofs.lemmas.List.{same_from_push, map-append}
 use Rattle.std.proofs.lemmas.List.Elements.{All-from_recursion, recursion_from_All}
 use Rattle.std.proofs.lemmas.Slice.Eq.{bytes_eq-Decides}
 use Rattle.flat_laws.proofs.vidi_bits_lemmas.Each.{each_weaker, each_append}
-use Rattle.flat_laws.specs.vlog_tree.Tree.{RegTailOf, InitTail, MemoryTail, Reg1Of, PortOf, ItemOf, WiresItem, DrivenWiresItem, RegsItem, LocalparamsItem}
-use Rattle.flat_laws.specs.vlog_tree.Tree.{AssignItem, AlwaysItem, InstanceItem, ModuleOf}
+use Rattle.vlog_tree.specs.Tree.{RegTailOf, InitTail, MemoryTail, Reg1Of, PortOf, ItemOf, WiresItem, DrivenWiresItem, RegsItem, LocalparamsItem}
+use Rattle.vlog_tree.specs.Tree.{AssignItem, AlwaysItem, InstanceItem, ModuleOf}
 use Rattle.flat_laws.specs.vlog_size.declared.scope.ScopeMemory.{ScopeMemory}
 use Rattle.flat_laws.specs.vlog_size.declared.scope.Scope.{Scope}
 use Rattle.flat_laws.specs.vlog_size.Size.{Sizes}
@@ -19,9 +19,9 @@ use Rattle.flat_laws.specs.vlog_scope.Extents.{extent_of, port_extent, net_width
 use Rattle.flat_laws.specs.vlog_scope.Params.{header_params, items_params, overrides_of}
 use Rattle.flat_laws.specs.vlog_scope.Scope.{declared_in, readable_at, with_port, with_ports, with_memory, with_reg, with_regs, with_item, with_items}
 use Rattle.flat_laws.specs.vlog_scope.Scope.{params_scope, scope_with, words_of}
-use Rattle.flat_laws.specs.net_design.declared.design.DesignMemory.{DesignMemory}
-use Rattle.flat_laws.specs.net_design.declared.design.Design.{Design}
-use Rattle.flat_laws.specs.net_design.Names.{list_at}
+use Rattle.net_design.specs.declared.design.DesignMemory.{DesignMemory}
+use Rattle.net_design.specs.declared.design.Design.{Design}
+use Rattle.net_design.specs.Names.{list_at}
 use Rattle.flat_laws.specs.vlog_elab.Instances.{ModuleInstance, instances}
 use Rattle.flat_laws.specs.vlog_meaning.Names.{Full}
 use Rattle.flat_laws.specs.vlog_meaning.Instances.{Leads}

@@ -1,8 +1,8 @@
 -- The part of a map below an instance.
 use Rattle.std.proofs.Common.{◌≡◌, ℕ, List, [], ◌∷◌, refl}
 use Rattle.std.specs.List.{AllByRecursion}
-use Rattle.flat_laws.specs.vlog_tree.Tree.{InstanceOf, ModuleOf, ItemOf, WiresItem, DrivenWiresItem, RegsItem, LocalparamsItem, AssignItem}
-use Rattle.flat_laws.specs.vlog_tree.Tree.{AlwaysItem, InstanceItem}
+use Rattle.vlog_tree.specs.Tree.{InstanceOf, ModuleOf, ItemOf, WiresItem, DrivenWiresItem, RegsItem, LocalparamsItem, AssignItem}
+use Rattle.vlog_tree.specs.Tree.{AlwaysItem, InstanceItem}
 use Rattle.flat_laws.specs.vlog_size.declared.scope.Scope.{Scope}
 use Rattle.flat_laws.specs.vlog_scope.Scope.{scope_with}
 use Rattle.flat_laws.specs.vlog_meaning.Names.{Name, Full, State}

@@ -5,8 +5,8 @@ use Rattle.std.specs.List.{flat_map, AllByRecursion, position_or_len}
 use Rattle.std.specs.Str.{bytes_eq}
 use Rattle.std.proofs.lemmas.List.{length-map}
 use Rattle.flat_laws.proofs.vidi_bits_lemmas.Lists.{bytes_eq-self}
-use Rattle.flat_laws.specs.vlog_tree.Tree.{NamedValueOf, RegTailOf, InitTail, MemoryTail, Reg1Of, PortOf, ItemOf, WiresItem, ParameterOf}
-use Rattle.flat_laws.specs.vlog_tree.Tree.{DrivenWiresItem, RegsItem, LocalparamsItem, AssignItem, AlwaysItem, InstanceItem, ModuleOf}
+use Rattle.vlog_tree.specs.Tree.{NamedValueOf, RegTailOf, InitTail, MemoryTail, Reg1Of, PortOf, ItemOf, WiresItem, ParameterOf}
+use Rattle.vlog_tree.specs.Tree.{DrivenWiresItem, RegsItem, LocalparamsItem, AssignItem, AlwaysItem, InstanceItem, ModuleOf}
 use Rattle.flat_laws.specs.vlog_size.declared.scope.Param.{Param}
 use Rattle.flat_laws.specs.vlog_size.declared.scope.ScopeNet.{ScopeNet}
 use Rattle.flat_laws.specs.vlog_size.declared.scope.Scope.{Scope}

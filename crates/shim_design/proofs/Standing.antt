@@ -7,8 +7,8 @@ use Rattle.std.proofs.lemmas.List.{length-map, get_or-map}
 use Rattle.std.proofs.lemmas.Nat.{pow_pos, mod_below, shr_split}
 use Rattle.std.proofs.lemmas.Nat.Bits.{bit_at_cat_low, same_from_bits_below}
 use Rattle.std.proofs.lemmas.Option.{get_or_from_slice_get}
-use Rattle.flat_laws.specs.vlog_tree.Tree.{PortOf, PortHeadOf, ConnOf, InstanceOf, ItemOf, WiresItem, DrivenWiresItem, RegsItem, LocalparamsItem}
-use Rattle.flat_laws.specs.vlog_tree.Tree.{AssignItem, AlwaysItem, InstanceItem, ModuleOf}
+use Rattle.vlog_tree.specs.Tree.{PortOf, PortHeadOf, ConnOf, InstanceOf, ItemOf, WiresItem, DrivenWiresItem, RegsItem, LocalparamsItem}
+use Rattle.vlog_tree.specs.Tree.{AssignItem, AlwaysItem, InstanceItem, ModuleOf}
 use Rattle.flat_laws.specs.vlog_size.declared.scope.ScopeNet.{ScopeNet}
 use Rattle.flat_laws.specs.vlog_size.declared.scope.Scope.{Scope}
 use Rattle.flat_laws.specs.vlog_size.Names.{Readable, params_alone}
@@ -19,8 +19,8 @@ use Rattle.flat_laws.specs.vlog_scope.declared.extent.Extent.{Extent}
 use Rattle.flat_laws.specs.vlog_scope.declared.extent.Extent.TheVariants.{NoRange}
 use Rattle.flat_laws.specs.vlog_scope.Extents.{port_extent}
 use Rattle.flat_laws.specs.vlog_scope.Scope.{scope_with, scope_of, readable_at, after_item}
-use Rattle.flat_laws.specs.net_design.declared.values.Values.{Values}
-use Rattle.flat_laws.specs.net_design.Updates.{apply}
+use Rattle.net_design.specs.declared.values.Values.{Values}
+use Rattle.net_design.specs.Updates.{apply}
 use Rattle.flat_laws.specs.vlog_meaning.Names.{Full, State, numbers_at}
 use Rattle.flat_laws.specs.vlog_meaning.Placed.{placed, placed_items, names_at}
 use Rattle.flat_laws.specs.vlog_meaning.Instances.{IsChild, IsAt}

@@ -6,17 +6,17 @@ use Rattle.std.specs.Int.{bit_at}
 use Rattle.std.proofs.Math.Nat.{div-one, mod-eq_of_lt}
 use Rattle.std.proofs.lemmas.Nat.{pow_pos, mod_below, shr_split}
 use Rattle.std.proofs.lemmas.Nat.Bits.{bit_at_cat_low}
-use Rattle.flat_laws.specs.net_design.Updates.{part_updates}
+use Rattle.net_design.specs.Updates.{part_updates}
 use Rattle.std.proofs.lemmas.Nat.Bits.{same_from_bits_below}
 use Rattle.std.proofs.lemmas.Bool.Decides.{nat_tests}
-use Rattle.flat_laws.specs.vlog_tree.Tree.{IdentOf, ExprOf, NoLast}
+use Rattle.vlog_tree.specs.Tree.{IdentOf, ExprOf, NoLast}
 use Rattle.flat_laws.specs.vlog_size.declared.names.Meaning.{Meaning}
 use Rattle.flat_laws.specs.vlog_size.declared.names.Meaning.TheVariants.{Place}
 use Rattle.flat_laws.specs.vlog_size.Names.{Readable, meaning_of}
 use Rattle.flat_laws.specs.vlog_size.Size.{of_ref, NoBracket}
-use Rattle.flat_laws.specs.net_design.declared.values.Values.{Values}
-use Rattle.flat_laws.specs.net_design.declared.values.Target.TheVariants as targets
-use Rattle.flat_laws.specs.net_design.Last.{HasLast, last_bit}
+use Rattle.net_design.specs.declared.values.Values.{Values}
+use Rattle.net_design.specs.declared.values.Target.TheVariants as targets
+use Rattle.net_design.specs.Last.{HasLast, last_bit}
 use Rattle.flat_laws.specs.vlog_block.declared.source.Source.{Source}
 use Rattle.flat_laws.specs.vlog_block.declared.source.Source.TheVariants.{Net}
 use Rattle.flat_laws.specs.vlog_block.Sources.{source_of}

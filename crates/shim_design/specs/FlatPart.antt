@@ -1,8 +1,8 @@
 -- The part of a flat design below an instance of its top, against the flat design of the instance's module.
 use Rattle.std.specs.Prelude.{◌≡◌, ℕ, List, [], ◌∷◌}
-use Rattle.flat_laws.specs.vlog_tree.Tree.{ModuleOf}
-use Rattle.flat_laws.specs.net_design.declared.design.Design.{Design}
-use Rattle.flat_laws.specs.net_design.Settled as design
+use Rattle.vlog_tree.specs.Tree.{ModuleOf}
+use Rattle.net_design.specs.declared.design.Design.{Design}
+use Rattle.net_design.specs.Settled as design
 use Rattle.flat_laws.specs.vlog_meaning.Names.{Name, Full, State}
 use Rattle.flat_laws.specs.vlog_meaning.Settled.{IsClock}
 use Rattle.flat_laws.specs.flat_parts.Meaning.{values_of, state_of, AreNarrow, Means}

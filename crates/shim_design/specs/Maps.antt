@@ -1,12 +1,12 @@
 -- Each list of numbers of a design's nets and words is the list of a map from full names to numbers.
 use Rattle.std.specs.Prelude.{◌≡◌, ◌≢◌, ℕ, List, [], ◌∷◌, ◌++◌, map, length}
 use Rattle.std.specs.List.{AllPairs}
-use Rattle.flat_laws.specs.net_design.declared.design.DesignMemory.{DesignMemory}
-use Rattle.flat_laws.specs.net_design.declared.design.Design.{Design}
-use Rattle.flat_laws.specs.net_design.declared.values.Values.{Values}
-use Rattle.flat_laws.specs.net_design.Names.{net_names, list_at, paths}
-use Rattle.flat_laws.specs.net_design.Settled.{word_count}
-use Rattle.flat_laws.specs.vlog_tree.Tree.{ModuleOf, FileOf}
+use Rattle.net_design.specs.declared.design.DesignMemory.{DesignMemory}
+use Rattle.net_design.specs.declared.design.Design.{Design}
+use Rattle.net_design.specs.declared.values.Values.{Values}
+use Rattle.net_design.specs.Names.{net_names, list_at, paths}
+use Rattle.net_design.specs.Settled.{word_count}
+use Rattle.vlog_tree.specs.Tree.{ModuleOf, FileOf}
 use Rattle.flat_laws.specs.vlog_elab.Instances.{instances}
 use Rattle.flat_laws.specs.vlog_elab.Reasons.{Clear}
 use Rattle.flat_laws.specs.vlog_meaning.Names.{Full}

@@ -1,13 +1,13 @@
 -- *A net by its name*: a name that is a net of an instance, with its number; what reading, assigning and joining whole nets asks.
 use Rattle.std.specs.Prelude.{◌≡◌, ℕ, ◌<◌, ◌≤◌, ◌^◌, ◌%◌, max, true, List, [], ◌∷◌, ◌++◌, length, slice_index, None, Some}
 use Rattle.std.specs.List.{Contains, AllByRecursion}
-use Rattle.flat_laws.specs.vlog_tree.Tree.{IdentOf, ExprOf, ConnOf, InstanceOf, ModuleOf}
+use Rattle.vlog_tree.specs.Tree.{IdentOf, ExprOf, ConnOf, InstanceOf, ModuleOf}
 use Rattle.flat_laws.specs.vlog_size.declared.scope.ScopeNet.{ScopeNet}
 use Rattle.flat_laws.specs.vlog_size.Names.{Readable}
 use Rattle.flat_laws.specs.vlog_size.Table.{Named, value_of, place_of}
 use Rattle.flat_laws.specs.vlog_names.Ports.{has_reg}
 use Rattle.flat_laws.specs.vlog_scope.Scope.{scope_with}
-use Rattle.flat_laws.specs.net_design.declared.values.Values.{Values}
+use Rattle.net_design.specs.declared.values.Values.{Values}
 use Rattle.flat_laws.specs.vlog_block.Value.{value, width_of}
 use Rattle.flat_laws.specs.vlog_meaning.Names.{Full, State, numbers_at}
 use Rattle.flat_laws.specs.vlog_meaning.Placed.{names_at}

@@ -1,7 +1,7 @@
 -- *An instance means its module*: the part of a map below an instance of the top, in which no parameter is overridden.
 use Rattle.std.specs.Prelude.{◌≡◌, ℕ, List, [], ◌∷◌, map}
 use Rattle.std.specs.List.{Contains}
-use Rattle.flat_laws.specs.vlog_tree.Tree.{InstanceOf, ModuleOf}
+use Rattle.vlog_tree.specs.Tree.{InstanceOf, ModuleOf}
 use Rattle.flat_laws.specs.vlog_scope.Scope.{scope_with}
 use Rattle.flat_laws.specs.vlog_meaning.Names.{Name, Full, State}
 use Rattle.flat_laws.specs.vlog_meaning.Instances.{IsChild}

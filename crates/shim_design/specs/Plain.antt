@@ -1,8 +1,8 @@
 -- Modules without parameters, local parameters and memories, and the nets of their instances, in text order (IEEE 1364-2005, 12.1 and 12.3).
 use Rattle.std.specs.Prelude.{ℕ, List, [], ◌∷◌, ◌++◌, map, Option, None, Some, ◌≡◌}
 use Rattle.std.specs.List.{flat_map, AllByRecursion}
-use Rattle.flat_laws.specs.vlog_tree.Tree.{IdentOf, RangeOf, NamedValueOf, RegTailOf, InitTail, MemoryTail, Reg1Of, PortOf, EventOf, PosedgeEvent}
-use Rattle.flat_laws.specs.vlog_tree.Tree.{ImplicitEvent, ItemOf, WiresItem, DrivenWiresItem, RegsItem, LocalparamsItem, AlwaysItem, ModuleOf}
+use Rattle.vlog_tree.specs.Tree.{IdentOf, RangeOf, NamedValueOf, RegTailOf, InitTail, MemoryTail, Reg1Of, PortOf, EventOf, PosedgeEvent}
+use Rattle.vlog_tree.specs.Tree.{ImplicitEvent, ItemOf, WiresItem, DrivenWiresItem, RegsItem, LocalparamsItem, AlwaysItem, ModuleOf}
 use Rattle.flat_laws.specs.vlog_size.declared.scope.ScopeNet.{ScopeNet}
 use Rattle.flat_laws.specs.vlog_size.Table.{Named}
 use Rattle.flat_laws.specs.vlog_size.Names.{params_alone}

@@ -2,7 +2,7 @@
 use Rattle.std.proofs.Common.{◌≡◌, ℕ, List, [], ◌∷◌, ◌++◌, Option, length, sym, ap, ◌∙◌}
 use Rattle.std.proofs.lemmas.List.{append-nil}
 use Rattle.std.specs.Borrow.{Bor}
-use Rattle.shim_trees.specs.vlog_tree.Tree.{ExprOf, ConnOf}
+use Rattle.vlog_tree.specs.Tree.{ExprOf, ConnOf}
 use Rattle.shim_trees.specs.Pieces.{Name, ident, each, upto}
 use Rattle.shim_gen.specs.declared.names.Label.{Label}
 use Rattle.shim_gen.specs.declared.conns.ConnRow.TheVariants as conns

@@ -6,7 +6,7 @@ use Rattle.std.specs.List.{flat_map}
 use Rattle.std.specs.Str.{bytes_eq}
 use Rattle.std.proofs.lemmas.Slice.Eq.{bytes_eq-Decides}
 use Rattle.vlog_copy.specs.vidi_bits.Findings.{or_first}
-use Rattle.shim_trees.specs.vlog_tree.Tree.{PortOf, ConnOf}
+use Rattle.vlog_tree.specs.Tree.{PortOf, ConnOf}
 use Rattle.shim_trees.specs.vlog_size.Table.{Named, value_of, added}
 use Rattle.shim_trees.specs.chan_map.declared.pins.Map.{Map}
 use Rattle.shim_trees.specs.Pieces.{Name, ident, net, instance, each_some}

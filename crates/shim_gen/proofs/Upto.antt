@@ -1,6 +1,6 @@
 -- Loops that add one piece for each number.
 use Rattle.std.proofs.Common.{◌≡◌, ℕ, zero, suc, ◌+◌, ◌-◌, ◌<◌, List, [], ◌∷◌, ◌++◌, length, refl, ap, ◌∙◌, append_assoc, arith}
-use Rattle.shim_trees.specs.vlog_tree.Tree.{ExprOf, MoreStmts, stmts_of}
+use Rattle.vlog_tree.specs.Tree.{ExprOf, MoreStmts, stmts_of}
 use Rattle.shim_trees.specs.Pieces.{each, upto, both}
 use Rattle.shim_trees.specs.Replayer.{covers, covering, counting}
 use Rattle.shim_gen.specs.Counting.{counted}

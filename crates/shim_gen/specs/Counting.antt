@@ -1,7 +1,7 @@
 -- A counter's statement.
 use Rattle.std.specs.Prelude.{ℕ, codes}
-use Rattle.shim_trees.specs.vlog_tree.declared.expr.BinaryOp.TheVariants.{Plus}
-use Rattle.shim_trees.specs.vlog_tree.Tree.{StmtOf, BinaryExpr}
+use Rattle.vlog_tree.specs.declared.expr.BinaryOp.TheVariants.{Plus}
+use Rattle.vlog_tree.specs.Tree.{StmtOf, BinaryExpr}
 use Rattle.shim_trees.specs.Pieces.{numbered, net, next}
 
 -- `c0 <= c0 + d0 ;`, where 0 is j

@@ -1,8 +1,8 @@
 -- What the code's labels stand for, and nets of these names.
 use Rattle.std.specs.Prelude.{ℕ, Option, option_map}
-use Rattle.shim_trees.specs.vlog_tree.declared.expr.Sign.{Sign}
-use Rattle.shim_trees.specs.vlog_tree.Plain.{plain_sign}
-use Rattle.shim_trees.specs.vlog_tree.Tree.{ExprOf, UnaryExpr, RefPrim, RefWith, NoIndex, NoLast}
+use Rattle.vlog_tree.specs.declared.expr.Sign.{Sign}
+use Rattle.vlog_tree.specs.Plain.{plain_sign}
+use Rattle.vlog_tree.specs.Tree.{ExprOf, UnaryExpr, RefPrim, RefWith, NoIndex, NoLast}
 use Rattle.shim_gen.specs.declared.names.Label.{Label}
 use Rattle.shim_gen.specs.declared.names.Label.TheVariants as label
 use Rattle.shim_trees.specs.Pieces.{Name, numbered, numbered_twice, ident}

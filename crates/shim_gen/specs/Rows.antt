@@ -1,6 +1,6 @@
 -- What the code's rows of ports, items and connections stand for.
 use Rattle.std.specs.Prelude.{ℕ, List, [], ◌∷◌, ◌++◌, Option, option_map}
-use Rattle.shim_trees.specs.vlog_tree.Tree.{ExprOf, PortOf, ConnOf, ItemOf}
+use Rattle.vlog_tree.specs.Tree.{ExprOf, PortOf, ConnOf, ItemOf}
 use Rattle.shim_trees.specs.Pieces.{ident, net, not_net, both, port, wire, reg, assign, next, at_clock, gated_content, each, upto}
 use Rattle.shim_gen.specs.Labels.{text, text_at}
 use Rattle.shim_gen.specs.declared.names.Label.{Label}

@@ -1,15 +1,15 @@
 //! Connections of shims' instances.
 
 ghost use Rattle.std.specs.Prelude.{◌≡◌, ◌++◌, [], ◌∷◌, IfOk, OnOk, map, option_map};
-ghost use Rattle.shim_trees.specs.vlog_tree.Plain.{plain_expr, plain_conn};
+ghost use Rattle.vlog_tree.specs.Plain.{plain_expr, plain_conn};
 ghost use Rattle.shim_trees.specs.Pieces as pieces;
 ghost use Rattle.shim_gen.specs.Rows as spec;
 
 use crate::exprs::{ident, net};
 use crate::names::{Label, name_of};
-use shim_trees::vlog_tree::{Conn, Conns, Expr};
 use std::alloc::Global;
 use vlog_copy::vidi_bits::Memory;
+use vlog_tree::{Conn, Conns, Expr};
 
 /// Connections that stand beside each other: those of ports to nets, or to nothing.
 #[derive(Clone, Copy)]

@@ -2,7 +2,7 @@
 
 ghost use Rattle.std.specs.Prelude.{◌≡◌, ◌++◌, [], ◌∷◌, OnOk, map};
 ghost use Rattle.std.specs.List.{flat_map};
-ghost use Rattle.shim_trees.specs.vlog_tree.Plain.{plain_port, plain_conn, plain_item};
+ghost use Rattle.vlog_tree.specs.Plain.{plain_port, plain_conn, plain_item};
 ghost use Rattle.shim_trees.specs.Links as spec;
 
 use crate::conns::add_conn;
@@ -12,9 +12,9 @@ use crate::names::{Label, name_of};
 use crate::ports::{INPUT, add_port};
 use shim_trees::chan_map::Map;
 use shim_trees::vlog_size::Table;
-use shim_trees::vlog_tree::{Conns, Item, Port, Ports};
 use std::alloc::Global;
 use vlog_copy::vidi_bits::{Items, Memory, Name, copied};
+use vlog_tree::{Conns, Item, Port, Ports};
 
 /// Adds the input for a port of the design, where it is the reset or a tie.
 fn add_tied_port(

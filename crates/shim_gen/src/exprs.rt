@@ -2,17 +2,17 @@
 
 ghost use Rattle.std.specs.Fmt.{decimal};
 ghost use Rattle.std.specs.Prelude.{◌≡◌, IfOk, None, option_map};
-ghost use Rattle.shim_trees.specs.vlog_tree.Plain.{plain_ident, plain_ref, plain_expr, plain_range, plain_target};
-ghost use Rattle.shim_trees.specs.vlog_tree.Tree.{UnaryExpr, BinaryExpr, NumberPrim, RefWith, NoIndex, NoLast};
+ghost use Rattle.vlog_tree.specs.Plain.{plain_ident, plain_ref, plain_expr, plain_range, plain_target};
+ghost use Rattle.vlog_tree.specs.Tree.{UnaryExpr, BinaryExpr, NumberPrim, RefWith, NoIndex, NoLast};
 ghost use Rattle.shim_trees.specs.Pieces as pieces;
 ghost use Rattle.shim_gen.specs.Labels.{text, signed};
 
 use crate::names::{Label, name_of};
-use shim_trees::vlog_tree::{
-    BinaryOp, Expr, Ident, Number, NumberKind, Operand, Range, Ref, Sign, Target, Unary, UnaryOp,
-};
 use std::alloc::Global;
 use vlog_copy::vidi_bits::{Items, Memory, Name};
+use vlog_tree::{
+    BinaryOp, Expr, Ident, Number, NumberKind, Operand, Range, Ref, Sign, Target, Unary, UnaryOp,
+};
 
 /// `~`
 pub const NOT: Option<Sign> = Some(Sign {

@@ -1,19 +1,19 @@
 //! Items of shims.
 
 ghost use Rattle.std.specs.Prelude.{◌≡◌, ◌++◌, [], ◌∷◌, IfOk, OnOk, map, codes};
-ghost use Rattle.shim_trees.specs.vlog_tree.Plain.{plain_expr, plain_stmt, plain_conn, plain_item};
-ghost use Rattle.shim_trees.specs.vlog_tree.Tree.{ChoiceExpr};
+ghost use Rattle.vlog_tree.specs.Plain.{plain_expr, plain_stmt, plain_conn, plain_item};
+ghost use Rattle.vlog_tree.specs.Tree.{ChoiceExpr};
 ghost use Rattle.shim_trees.specs.Pieces as pieces;
 ghost use Rattle.shim_gen.specs.Labels.{text, text_at, signed};
 ghost use Rattle.shim_gen.specs.Rows.{items_of};
 
 use crate::exprs::{NOT, boxed_net, boxed_zero, ident, pair, range_of, target};
 use crate::names::{Label, name_of};
-use shim_trees::vlog_tree::{
-    Always, Assign, AssignOp, BinaryOp, Body, Conns, Event, Expr, Instance, Item, Reg1, Sign, Stmt,
-};
 use std::alloc::Global;
 use vlog_copy::vidi_bits::{Items, Memory, Name};
+use vlog_tree::{
+    Always, Assign, AssignOp, BinaryOp, Body, Conns, Event, Expr, Instance, Item, Reg1, Sign, Stmt,
+};
 
 /// Items that stand beside each other.
 #[derive(Clone, Copy)]

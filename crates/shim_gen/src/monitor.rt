@@ -1,16 +1,16 @@
 //! The monitor of a channel.
 
 ghost use Rattle.std.specs.Prelude.{◌≡◌, ◌++◌, IfOk, OnOk, map};
-ghost use Rattle.shim_trees.specs.vlog_tree.Plain.{plain_port, plain_item, plain_module};
+ghost use Rattle.vlog_tree.specs.Plain.{plain_port, plain_item, plain_module};
 ghost use Rattle.shim_trees.specs.Monitor as spec;
 
 use crate::items::{self, ItemRow};
 use crate::names::{Label, name_of};
 use crate::ports::{self, INPUT, OUTPUT, PortRow};
 use shim_trees::trace_model::Channel;
-use shim_trees::vlog_tree::{Item, Module, Ports};
 use std::alloc::Global;
 use vlog_copy::vidi_bits::{Items, Memory};
+use vlog_tree::{Item, Module, Ports};
 
 /// Adds the ports.
 fn add_ports(alloc: Global, ports: &mut Ports, widths: &[u8]) -> Result<(), Memory>

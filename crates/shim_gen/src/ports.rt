@@ -1,7 +1,7 @@
 //! Ports of shims.
 
 ghost use Rattle.std.specs.Prelude.{◌≡◌, ◌++◌, [], ◌∷◌, OnOk, map};
-ghost use Rattle.shim_trees.specs.vlog_tree.Plain.{plain_port};
+ghost use Rattle.vlog_tree.specs.Plain.{plain_port};
 ghost use Rattle.shim_trees.specs.Pieces as pieces;
 ghost use Rattle.shim_gen.specs.Labels.{text, text_at};
 ghost use Rattle.shim_gen.specs.Rows.{ports_of};
@@ -9,9 +9,9 @@ ghost use Rattle.shim_gen.specs.Rows.{ports_of};
 use crate::exprs::{ident, range_of};
 use crate::names::{Label, name_of};
 use shim_trees::trace_model::Dir;
-use shim_trees::vlog_tree::{Direction, Port, PortHead, Ports};
 use std::alloc::Global;
 use vlog_copy::vidi_bits::Memory;
+use vlog_tree::{Direction, Port, PortHead, Ports};
 
 /// `input`
 pub const INPUT: Direction = Direction::Input { wire: false };

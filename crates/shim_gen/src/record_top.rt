@@ -1,7 +1,7 @@
 //! The top that records.
 
 ghost use Rattle.std.specs.Prelude.{◌≡◌, ◌++◌, [], ◌∷◌, IfOk, OnOk, map};
-ghost use Rattle.shim_trees.specs.vlog_tree.Plain.{plain_port, plain_conn, plain_item, plain_module};
+ghost use Rattle.vlog_tree.specs.Plain.{plain_port, plain_conn, plain_item, plain_module};
 ghost use Rattle.shim_trees.specs.Pieces as pieces;
 ghost use Rattle.shim_trees.specs.RecordTop as spec;
 
@@ -12,9 +12,9 @@ use crate::names::{Label, name_of};
 use crate::ports::{self, INPUT, OUTPUT, PortRow, sink_side, source_side};
 use shim_trees::chan_map::Map;
 use shim_trees::trace_model::{Channel, Dir};
-use shim_trees::vlog_tree::{Conns, Item, Module, Port, Ports};
 use std::alloc::Global;
 use vlog_copy::vidi_bits::{Items, Memory};
+use vlog_tree::{Conns, Item, Module, Port, Ports};
 
 /// Adds the ports of channel n.
 fn add_channel_ports(

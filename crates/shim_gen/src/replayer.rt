@@ -2,8 +2,8 @@
 
 ghost use Rattle.std.specs.Prelude.{◌≡◌, ◌<◌, ◌++◌, [], ◌∷◌, Some, IfOk, OnOk, map, length, codes, slice_get};
 ghost use Rattle.shim_trees.specs.trace_model.declared.channel.Channel.{Channel as ChannelRecord};
-ghost use Rattle.shim_trees.specs.vlog_tree.Plain.{plain_expr, plain_stmt, plain_port, plain_item, plain_module};
-ghost use Rattle.shim_trees.specs.vlog_tree.Tree.{BeginStmt};
+ghost use Rattle.vlog_tree.specs.Plain.{plain_expr, plain_stmt, plain_port, plain_item, plain_module};
+ghost use Rattle.vlog_tree.specs.Tree.{BeginStmt};
 ghost use Rattle.shim_trees.specs.Pieces as pieces;
 ghost use Rattle.shim_trees.specs.Replayer as spec;
 ghost use Rattle.shim_gen.specs.Counting.{counted};
@@ -13,9 +13,9 @@ use crate::items::{self, ItemRow, add_assign, add_at_clock, add_reg, next};
 use crate::names::{Label, name_of};
 use crate::ports::{self, INPUT, OUTPUT, PortRow};
 use shim_trees::trace_model::{Channel, Channels, Dir};
-use shim_trees::vlog_tree::{BinaryOp, Expr, Item, Module, Operand, Ports, Stmts, Unary, begin};
 use std::alloc::Global;
 use vlog_copy::vidi_bits::{Items, Memory};
+use vlog_tree::{BinaryOp, Expr, Item, Module, Operand, Ports, Stmts, Unary, begin};
 
 /// The width in bits of a replayer's counters, and of what they are compared with.
 pub(crate) const COUNTER_WIDTH: u32 = 32;

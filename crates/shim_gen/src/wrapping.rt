@@ -3,7 +3,7 @@
 ghost use Rattle.std.specs.Prelude.{◌≡◌, ◌++◌, [], ◌∷◌, IfOk, OnOk, map, length};
 ghost use Rattle.std.specs.Str.{bytes_eq};
 ghost use Rattle.vlog_copy.specs.vidi_bits.Findings.{Judged};
-ghost use Rattle.shim_trees.specs.vlog_tree.Plain.{plain, plain_port, plain_module};
+ghost use Rattle.vlog_tree.specs.Plain.{plain, plain_port, plain_module};
 ghost use Rattle.shim_trees.specs.Pieces as pieces;
 ghost use Rattle.shim_trees.specs.RecordTop as recording;
 ghost use Rattle.shim_trees.specs.ReplayTop as replaying;
@@ -17,10 +17,10 @@ use crate::replay_top::replay_top;
 use crate::replayer::replayer_of;
 use shim_trees::chan_map::Map;
 use shim_trees::trace_model::Channel;
-use shim_trees::vlog_tree::{File, Module, Modules, Port};
 use std::alloc::Global;
 use vlog_copy::copy_module;
 use vlog_copy::vidi_bits::{Items, Memory, copied};
+use vlog_tree::{File, Module, Modules, Port};
 
 /// Whether a name is kept for shims.
 fn is_reserved(name: &[u8]) -> bool

@@ -1,6 +1,6 @@
 -- Designs that run: their ports are nets, and their wrapped files are those of them.
-use Rattle.shim_cosim.specs.net_design.declared.design.Design.{Design}
-use Rattle.shim_cosim.specs.net_design.Lawful.{IsLawful}
+use Rattle.net_design.specs.declared.design.Design.{Design}
+use Rattle.net_design.specs.Lawful.{IsLawful}
 use Rattle.shim_cosim.specs.run_model.Building.{PortsAreNets}
 use Rattle.shim_cosim.proofs.run_model_lemmas.PlayedLaws.{ports-are_nets}
 

@@ -1,9 +1,9 @@
 //! The word on recordings.
 
 ghost use Rattle.std.specs.Prelude.{◌≡◌, ℕ};
-ghost use Rattle.vlog_parse.specs.vlog_tree.Tree.{FileOf};
-ghost use Rattle.vlog_parse.specs.vlog_tree.Plain.{plain};
-ghost use Rattle.shim_cosim.specs.net_design.declared.design.Design.{Design as OneDesign};
+ghost use Rattle.vlog_tree.specs.Tree.{FileOf};
+ghost use Rattle.vlog_tree.specs.Plain.{plain};
+ghost use Rattle.net_design.specs.declared.design.Design.{Design as OneDesign};
 ghost use Rattle.shim_cosim.specs.trace_model.Channel.{IsTable};
 ghost use Rattle.shim_cosim.specs.run_model.Building.{PortsAreNets};
 ghost use Rattle.shim_cosim.specs.run_model.MapOf.{IsMapOf};
@@ -14,16 +14,16 @@ use crate::ended::Ended;
 use crate::plans::{Plan, plan_in, recorded};
 use crate::stages::{Stage, stage_in};
 use crate::texts::put_bytes;
+use net_design::Block;
 use report_text::vidi_io::{MemSink, Shelf, Text};
 use report_text::{put, put_number};
 use shim_cosim::Wrapped;
 use shim_cosim::chan_map::Map;
 use shim_cosim::chan_monitor::{Machines, Shell};
-use shim_cosim::net_design::Block;
 use shim_cosim::vidi_recorder::Outcome;
 use std::alloc::Global;
 use vlog_parse::vidi_bits::{Memory, Numbers};
-use vlog_parse::vlog_tree::File;
+use vlog_tree::File;
 
 /// `record DESIGN MAP SCRIPT STALLS`: two lines, how the recording ends and its bytes: by monitors round the design, and by the wrapped
 /// design.

@@ -1,9 +1,9 @@
 //! The word on replays.
 
 ghost use Rattle.std.specs.Prelude.{◌≡◌, ◌≤◌, ℕ, IfOk};
-ghost use Rattle.vlog_parse.specs.vlog_tree.Tree.{FileOf};
-ghost use Rattle.vlog_parse.specs.vlog_tree.Plain.{plain};
-ghost use Rattle.shim_cosim.specs.net_design.declared.design.Design.{Design as OneDesign};
+ghost use Rattle.vlog_tree.specs.Tree.{FileOf};
+ghost use Rattle.vlog_tree.specs.Plain.{plain};
+ghost use Rattle.net_design.specs.declared.design.Design.{Design as OneDesign};
 ghost use Rattle.shim_cosim.specs.trace_model.declared.trace.Trace.{Trace as OneTrace};
 ghost use Rattle.shim_cosim.specs.trace_code.Encoding.{Encodes};
 ghost use Rattle.shim_cosim.specs.run_model.Building.{PortsAreNets};
@@ -14,16 +14,16 @@ use crate::ended::Ended;
 use crate::outcomes::put_outcome;
 use crate::stages::{Stage, stage_in};
 use crate::texts::{bytes_in, cycles_of, put_bytes};
+use net_design::Block;
 use report_text::put;
 use report_text::vidi_io::{Shelf, Text};
 use shim_cosim::Rewrapped;
 use shim_cosim::chan_map::Map;
 use shim_cosim::chan_replayer::{ReplayMachines, ReplayShell};
-use shim_cosim::net_design::Block;
 use shim_cosim::trace_code::decode;
 use shim_cosim::trace_model::{Trace, same_channels};
 use std::alloc::Global;
-use vlog_parse::vlog_tree::File;
+use vlog_tree::File;
 
 /// `replay DESIGN MAP TRACE CYCLES`: two lines, how the replay ends and the bytes of its trace: by replayers and monitors round the
 /// design, and by the wrapped design.

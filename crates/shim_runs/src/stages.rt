@@ -1,10 +1,10 @@
 //! Designs with their maps and their wrapped files, ready to run.
 
 ghost use Rattle.std.specs.Prelude.{◌≡◌, ◌≤◌, ℕ, List, IfOk, length};
-ghost use Rattle.vlog_parse.specs.vlog_tree.Tree.{FileOf};
-ghost use Rattle.vlog_parse.specs.vlog_tree.Plain.{plain};
-ghost use Rattle.shim_cosim.specs.net_design.declared.design.Design.{Design as OneDesign};
-ghost use Rattle.shim_cosim.specs.net_design.Lawful.{IsLawful};
+ghost use Rattle.vlog_tree.specs.Tree.{FileOf};
+ghost use Rattle.vlog_tree.specs.Plain.{plain};
+ghost use Rattle.net_design.specs.declared.design.Design.{Design as OneDesign};
+ghost use Rattle.net_design.specs.Lawful.{IsLawful};
 ghost use Rattle.shim_cosim.specs.net_order.Order.{IsOrder};
 ghost use Rattle.shim_cosim.specs.run_model.Building.{PortsAreNets};
 ghost use Rattle.shim_cosim.specs.run_model.MapOf.{IsMapOf};
@@ -13,9 +13,9 @@ ghost use Rattle.shim_cosim.specs.Top.{IsWrapOf};
 
 use crate::ended::Ended;
 use crate::texts::bytes_in;
+use net_design::Design;
 use report_text::vidi_io::Shelf;
 use shim_cosim::chan_map::{Map, MapText, bind_map, lawful_ports_have_widths, read_map};
-use shim_cosim::net_design::Design;
 use shim_cosim::net_order::order;
 use shim_cosim::net_sim::Sim;
 use shim_cosim::run_model::bound_is_map_of;
@@ -24,7 +24,7 @@ use shim_cosim::vlog_design::elaborate;
 use std::alloc::Global;
 use vlog_parse::parse;
 use vlog_parse::vlog_lex::lex;
-use vlog_parse::vlog_tree::File;
+use vlog_tree::File;
 
 /// A design that runs, its map, and the wrapped file.
 #[derive(Drop)]

@@ -5,13 +5,13 @@ use Rattle.std.specs.Prelude.{max, bit_and, codes}
 use Rattle.std.specs.Fmt.{decimal}
 use Rattle.std.proofs.Math.Nat.{mod-eq_of_lt, zero-mod}
 use Rattle.net_order.specs.vidi_bits.Number.{truth}
-use Rattle.shim_trees.specs.vlog_tree.Tree.{ChoiceExpr}
-use Rattle.shim_trees.specs.vlog_tree.declared.expr.NumberKind.TheVariants.{Based}
-use Rattle.shim_trees.specs.vlog_tree.Tree.{ExprOf}
+use Rattle.vlog_tree.specs.Tree.{ChoiceExpr}
+use Rattle.vlog_tree.specs.declared.expr.NumberKind.TheVariants.{Based}
+use Rattle.vlog_tree.specs.Tree.{ExprOf}
 use Rattle.shim_trees.specs.vlog_size.Names.{Readable}
 use Rattle.shim_trees.specs.vlog_size.Size.{or_zero}
 use Rattle.shim_trees.specs.vlog_size.Literal.{literal_number}
-use Rattle.net_order.specs.net_design.declared.values.Values.{Values}
+use Rattle.net_design.specs.declared.values.Values.{Values}
 use Rattle.shim_design.specs.vlog_block.Value.{value, width_of}
 use Rattle.shim_design.specs.vlog_meaning.Items.{AssignHolds}
 use Rattle.shim_trees.specs.Pieces.{Name, ident, net, target, both, not_net, zero_of}

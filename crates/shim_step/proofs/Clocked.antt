@@ -3,16 +3,16 @@ use Rattle.std.proofs.Common.{◌≡◌, ℕ, ◌-◌, ◌<◌, true}
 use Rattle.std.proofs.Common.{List, [], ◌∷◌, ◌++◌, None, Some, refl, sym, ap, ◌∙◌, subst, arith, length, get_or, map, nat_lt, min}
 use Rattle.std.specs.List.{AllByRecursion, flat_map}
 use Rattle.std.proofs.lemmas.List.{length-map}
-use Rattle.shim_trees.specs.vlog_tree.Tree.{ItemOf, WiresItem, DrivenWiresItem, RegsItem, LocalparamsItem, AssignItem, AlwaysItem, InstanceItem, ModuleOf}
-use Rattle.shim_trees.specs.vlog_tree.Tree.{NoLast}
+use Rattle.vlog_tree.specs.Tree.{ItemOf, WiresItem, DrivenWiresItem, RegsItem, LocalparamsItem, AssignItem, AlwaysItem, InstanceItem, ModuleOf}
+use Rattle.vlog_tree.specs.Tree.{NoLast}
 use Rattle.shim_trees.specs.vlog_size.declared.scope.ScopeNet.{ScopeNet}
 use Rattle.shim_trees.specs.vlog_size.declared.scope.Scope.{Scope}
 use Rattle.shim_trees.specs.vlog_size.Names.{Readable}
 use Rattle.shim_trees.specs.vlog_size.Table.{Named, place_of}
-use Rattle.net_order.specs.net_design.declared.values.Target.TheVariants as targets
-use Rattle.net_order.specs.net_design.declared.values.Update.{Update}
-use Rattle.net_order.specs.net_design.declared.values.Values.{Values}
-use Rattle.net_order.specs.net_design.Updates.{apply, update}
+use Rattle.net_design.specs.declared.values.Target.TheVariants as targets
+use Rattle.net_design.specs.declared.values.Update.{Update}
+use Rattle.net_design.specs.declared.values.Values.{Values}
+use Rattle.net_design.specs.Updates.{apply, update}
 use Rattle.shim_design.specs.vlog_block.Targets.{target_updates, source_updates}
 use Rattle.shim_design.specs.vlog_block.declared.source.Source.{Source}
 use Rattle.shim_design.specs.vlog_meaning.Names.{Full, State, numbers_at}

@@ -8,14 +8,14 @@ use Rattle.std.proofs.lemmas.Bool.{cases_lt, and_parts, and_from}
 use Rattle.std.proofs.lemmas.Bool.Decides.{nat_tests}
 use Rattle.std.proofs.Math.ListN.{length-set}
 use Rattle.net_order.specs.vidi_bits.Number.{put_of, truth}
-use Rattle.shim_trees.specs.vlog_tree.declared.expr.BinaryOp.TheVariants.{GreaterOrEqual, Plus}
-use Rattle.shim_trees.specs.vlog_tree.Tree.{ExprOf, BinaryExpr}
+use Rattle.vlog_tree.specs.declared.expr.BinaryOp.TheVariants.{GreaterOrEqual, Plus}
+use Rattle.vlog_tree.specs.Tree.{ExprOf, BinaryExpr}
 use Rattle.shim_trees.specs.vlog_size.Names.{Readable}
-use Rattle.net_order.specs.net_design.declared.act.Timing.TheVariants.{Nonblocking}
-use Rattle.net_order.specs.net_design.declared.values.Target.TheVariants as targets
-use Rattle.net_order.specs.net_design.declared.values.Update.{Update}
-use Rattle.net_order.specs.net_design.declared.values.Values.{Values}
-use Rattle.net_order.specs.net_design.Updates.{apply, update, written_to}
+use Rattle.net_design.specs.declared.act.Timing.TheVariants.{Nonblocking}
+use Rattle.net_design.specs.declared.values.Target.TheVariants as targets
+use Rattle.net_design.specs.declared.values.Update.{Update}
+use Rattle.net_design.specs.declared.values.Values.{Values}
+use Rattle.net_design.specs.Updates.{apply, update, written_to}
 use Rattle.shim_design.specs.vlog_block.Value.{value, width_of}
 use Rattle.shim_design.specs.vlog_block.Targets.{target_width, target_updates}
 use Rattle.shim_design.specs.vlog_block.Updates.{stmts_updates}

@@ -6,13 +6,13 @@ use Rattle.std.specs.List.{AllZip}
 use Rattle.std.proofs.lemmas.List.{length-map}
 use Rattle.std.proofs.lemmas.Nat.{pow_pos}
 use Rattle.net_order.specs.vidi_bits.Number.{truth, has}
-use Rattle.shim_trees.specs.vlog_tree.Tree.{ModuleOf, FileOf}
-use Rattle.net_order.specs.net_design.declared.design.Design.{Design}
-use Rattle.net_order.specs.net_design.declared.design.Direction.TheVariants.{Output}
-use Rattle.net_order.specs.net_design.declared.values.Values.{Values}
-use Rattle.net_order.specs.net_design.Names.{net_names}
-use Rattle.net_order.specs.net_design.Pins.{outputs}
-use Rattle.net_order.specs.net_design.Settled as design
+use Rattle.vlog_tree.specs.Tree.{ModuleOf, FileOf}
+use Rattle.net_design.specs.declared.design.Design.{Design}
+use Rattle.net_design.specs.declared.design.Direction.TheVariants.{Output}
+use Rattle.net_design.specs.declared.values.Values.{Values}
+use Rattle.net_design.specs.Names.{net_names}
+use Rattle.net_design.specs.Pins.{outputs}
+use Rattle.net_design.specs.Settled as design
 use Rattle.shim_design.specs.vlog_meaning.Names.{Name, Full, State}
 use Rattle.shim_design.specs.vlog_meaning.Next.{IsNext, IsInitial}
 use Rattle.shim_design.specs.vlog_meaning.Settled.{IsSettled}

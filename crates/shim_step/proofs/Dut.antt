@@ -3,7 +3,7 @@ use Rattle.std.proofs.Common.{◌≡◌, ℕ, zero, suc, ◌<◌, ◌^◌, List,
 use Rattle.std.proofs.Common.{slice_get}
 use Rattle.std.specs.Prelude.{option_map}
 use Rattle.std.specs.List.{AllByRecursion, Contains}
-use Rattle.shim_trees.specs.vlog_tree.Tree.{PortOf, ConnOf, ModuleOf}
+use Rattle.vlog_tree.specs.Tree.{PortOf, ConnOf, ModuleOf}
 use Rattle.shim_trees.specs.vlog_size.declared.scope.ScopeNet.{ScopeNet}
 use Rattle.shim_trees.specs.vlog_size.declared.scope.Scope.{Scope}
 use Rattle.shim_trees.specs.vlog_size.Table.{Named, value_of}
@@ -11,7 +11,7 @@ use Rattle.shim_design.specs.vlog_names.declared.declaration.Declaration.{Declar
 use Rattle.shim_design.specs.vlog_names.Entries.{no_port, port_as, port_entries, declared}
 use Rattle.shim_design.specs.vlog_names.Twice.{twice_in}
 use Rattle.shim_design.specs.vlog_scope.Scope.{scope_with}
-use Rattle.net_order.specs.net_design.declared.design.Port.{Port}
+use Rattle.net_design.specs.declared.design.Port.{Port}
 use Rattle.shim_design.specs.vlog_meaning.Names.{Full, State, numbers_at}
 use Rattle.shim_design.specs.vlog_meaning.Placed.{names_at}
 use Rattle.shim_design.specs.vlog_meaning.Instances.{IsAt}

@@ -7,16 +7,16 @@ use Rattle.std.specs.Option.{option_to_list}
 use Rattle.std.proofs.lemmas.List.{length-map, append-nil}
 use Rattle.std.proofs.lemmas.List.Elements.{All-from_recursion}
 use Rattle.std.proofs.lemmas.List.{ext_get_or}
-use Rattle.shim_trees.specs.vlog_tree.Tree.{ModuleOf}
+use Rattle.vlog_tree.specs.Tree.{ModuleOf}
 use Rattle.shim_trees.specs.vlog_size.Table.{Named, value_of}
 use Rattle.shim_design.specs.vlog_names.Entries.{Names, no_port, port_entries}
 use Rattle.shim_design.specs.vlog_names.declared.declaration.Declaration.{Declaration}
 use Rattle.shim_design.specs.vlog_scope.Scope.{scope_with}
-use Rattle.net_order.specs.net_design.declared.design.Design.{Design}
-use Rattle.net_order.specs.net_design.declared.design.Port.{Port}
-use Rattle.net_order.specs.net_design.declared.design.Direction.TheVariants.{Input, Output}
-use Rattle.net_order.specs.net_design.Settled.{same_direction, pins_of}
-use Rattle.net_order.specs.net_design.Pins.{input_limits}
+use Rattle.net_design.specs.declared.design.Design.{Design}
+use Rattle.net_design.specs.declared.design.Port.{Port}
+use Rattle.net_design.specs.declared.design.Direction.TheVariants.{Input, Output}
+use Rattle.net_design.specs.Settled.{same_direction, pins_of}
+use Rattle.net_design.specs.Pins.{input_limits}
 use Rattle.shim_design.specs.vlog_meaning.Names.{Full, State}
 use Rattle.shim_design.specs.vlog_meaning.Settled.{IsSettled, inputs_of}
 use Rattle.shim_design.specs.flat_parts.Nets.{flat_ports, port_of}

@@ -5,7 +5,7 @@ use Rattle.std.specs.List.{find}
 use Rattle.std.specs.Str.{bytes_eq}
 use Rattle.std.proofs.lemmas.Slice.Eq.{bytes_eq-Decides}
 use Rattle.net_order.proofs.vidi_bits_lemmas.Lists.{nil_left, nil_right}
-use Rattle.shim_trees.specs.vlog_tree.Tree.{ModuleOf, FileOf}
+use Rattle.vlog_tree.specs.Tree.{ModuleOf, FileOf}
 use Rattle.shim_trees.specs.vlog_size.Table.{Named}
 use Rattle.shim_design.specs.vlog_hierarchy.Outlines.{place_from}
 use Rattle.shim_design.specs.vlog_names.Entries.{Names, declared, module_entry, modules_of}
@@ -14,7 +14,7 @@ use Rattle.shim_design.specs.vlog_names.Different.{Differ}
 use Rattle.shim_design.proofs.vlog_names_lemmas.Different.{modules_differ, names_differ}
 use Rattle.chan_replayer.specs.trace_model.declared.channel.Channel.{Channel}
 use Rattle.chan_replayer.specs.chan_map.declared.pins.Map.{Map}
-use Rattle.net_order.specs.net_design.declared.design.Design.{Design}
+use Rattle.net_design.specs.declared.design.Design.{Design}
 use Rattle.shim_design.specs.flat_parts.Laws.{IsTop}
 use Rattle.shim_trees.specs.Pieces.{Name, each_some}
 use Rattle.shim_trees.specs.Monitor.{monitor}

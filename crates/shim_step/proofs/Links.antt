@@ -7,11 +7,11 @@ use Rattle.std.specs.Option.{option_to_list}
 use Rattle.std.proofs.lemmas.List.{map-append}
 use Rattle.net_order.proofs.vidi_bits_lemmas.Each.{each_append}
 use Rattle.shim_trees.specs.vlog_size.Table.{Named, value_of}
-use Rattle.net_order.specs.net_design.declared.design.Design.{Design}
-use Rattle.net_order.specs.net_design.declared.design.Direction.{Direction}
-use Rattle.net_order.specs.net_design.declared.design.Direction.TheVariants.{Input}
-use Rattle.net_order.specs.net_design.declared.design.Port.{Port}
-use Rattle.net_order.specs.net_design.Settled.{same_direction}
+use Rattle.net_design.specs.declared.design.Design.{Design}
+use Rattle.net_design.specs.declared.design.Direction.{Direction}
+use Rattle.net_design.specs.declared.design.Direction.TheVariants.{Input}
+use Rattle.net_design.specs.declared.design.Port.{Port}
+use Rattle.net_design.specs.Settled.{same_direction}
 use Rattle.chan_replayer.specs.trace_model.declared.channel.Channel.{Channel}
 use Rattle.chan_replayer.specs.trace_model.declared.channel.Dir.{Dir}
 use Rattle.chan_replayer.specs.trace_model.declared.channel.Dir.TheVariants.{Inward, Outward}

@@ -6,16 +6,16 @@ use Rattle.std.specs.List.{AllByRecursion}
 use Rattle.std.proofs.lemmas.List.{get_or-set_same}
 use Rattle.net_order.specs.vidi_bits.Number.{IsWidth, truth, put_of}
 use Rattle.net_order.proofs.vidi_bits_lemmas.Each.{each_append}
-use Rattle.shim_trees.specs.vlog_tree.Tree.{PortOf, ItemOf, ModuleOf, ExprOf}
-use Rattle.shim_trees.specs.vlog_tree.declared.module.Direction.TheVariants.{Input}
+use Rattle.vlog_tree.specs.Tree.{PortOf, ItemOf, ModuleOf, ExprOf}
+use Rattle.vlog_tree.specs.declared.module.Direction.TheVariants.{Input}
 use Rattle.shim_trees.specs.vlog_size.Names.{Readable}
 use Rattle.shim_design.specs.vlog_names.declared.declaration.Shape.TheVariants.{Scalar}
 use Rattle.shim_design.specs.vlog_names.Entries.{declared}
 use Rattle.shim_design.specs.vlog_names.Ports.{has_reg}
 use Rattle.shim_design.specs.vlog_names.Different.{Differ}
-use Rattle.net_order.specs.net_design.declared.values.Target.TheVariants as targets
-use Rattle.net_order.specs.net_design.declared.values.Values.{Values}
-use Rattle.net_order.specs.net_design.Updates.{update}
+use Rattle.net_design.specs.declared.values.Target.TheVariants as targets
+use Rattle.net_design.specs.declared.values.Values.{Values}
+use Rattle.net_design.specs.Updates.{update}
 use Rattle.shim_design.specs.vlog_block.Value.{value, width_of}
 use Rattle.shim_design.specs.vlog_block.Targets.{target_width, target_updates}
 use Rattle.shim_design.specs.vlog_meaning.Names.{Full, State}

@@ -7,10 +7,10 @@ use Rattle.chan_replayer.specs.trace_model.declared.channel.Dir.{Dir}
 use Rattle.chan_replayer.specs.trace_model.declared.channel.Dir.TheVariants.{Inward, Outward}
 use Rattle.chan_replayer.specs.trace_model.declared.row.Row.{Row}
 use Rattle.chan_replayer.specs.trace_model.Row.{content_at, row_before, IsOver, IsMarked}
-use Rattle.net_order.specs.net_design.declared.design.Design.{Design}
-use Rattle.net_order.specs.net_design.declared.values.Values.{Values}
-use Rattle.net_order.specs.net_design.Pins.{outputs}
-use Rattle.net_order.specs.net_design.Settled.{IsSettled}
+use Rattle.net_design.specs.declared.design.Design.{Design}
+use Rattle.net_design.specs.declared.values.Values.{Values}
+use Rattle.net_design.specs.Pins.{outputs}
+use Rattle.net_design.specs.Settled.{IsSettled}
 use Rattle.net_order.proofs.OneMap.{only_map}
 use Rattle.chan_replayer.specs.chan_map.declared.pins.Map.{Map}
 use Rattle.chan_replayer.specs.run_model.MapOf.{IsMapOf}

@@ -5,9 +5,9 @@ use Rattle.std.specs.Prelude.{codes}
 use Rattle.std.specs.List.{AllByRecursion, AllZip}
 use Rattle.net_order.specs.vidi_bits.Number.{IsWidth, truth}
 use Rattle.net_order.proofs.vidi_bits_lemmas.Each.{each_append}
-use Rattle.shim_trees.specs.vlog_tree.Tree.{PortOf, ConnOf, ItemOf, ModuleOf, FileOf}
-use Rattle.net_order.specs.net_design.declared.design.Design.{Design}
-use Rattle.net_order.specs.net_design.declared.design.Direction.{Direction}
+use Rattle.vlog_tree.specs.Tree.{PortOf, ConnOf, ItemOf, ModuleOf, FileOf}
+use Rattle.net_design.specs.declared.design.Design.{Design}
+use Rattle.net_design.specs.declared.design.Direction.{Direction}
 use Rattle.shim_design.specs.vlog_meaning.Names.{Full, State}
 use Rattle.shim_design.specs.vlog_meaning.Next.{IsNext}
 use Rattle.shim_design.specs.vlog_meaning.Settled.{IsSettled}

@@ -5,9 +5,9 @@ use Rattle.std.specs.Prelude.{codes}
 use Rattle.std.specs.List.{AllByRecursion}
 use Rattle.net_order.specs.vidi_bits.Number.{truth}
 use Rattle.net_order.proofs.vidi_bits_lemmas.Each.{each_append}
-use Rattle.shim_trees.specs.vlog_tree.Tree.{PortOf, ModuleOf, FileOf}
-use Rattle.net_order.specs.net_design.declared.design.Design.{Design}
-use Rattle.net_order.specs.net_design.Settled as design
+use Rattle.vlog_tree.specs.Tree.{PortOf, ModuleOf, FileOf}
+use Rattle.net_design.specs.declared.design.Design.{Design}
+use Rattle.net_design.specs.Settled as design
 use Rattle.shim_design.specs.vlog_meaning.Names.{Full, State}
 use Rattle.shim_design.specs.vlog_meaning.Next.{IsNext, IsInitial}
 use Rattle.shim_design.specs.vlog_meaning.Settled.{IsSettled}

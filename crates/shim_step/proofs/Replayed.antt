@@ -5,8 +5,8 @@ use Rattle.std.specs.Prelude.{codes}
 use Rattle.std.specs.List.{AllByRecursion}
 use Rattle.net_order.specs.vidi_bits.Number.{truth}
 use Rattle.net_order.proofs.vidi_bits_lemmas.Each.{each_append}
-use Rattle.shim_trees.specs.vlog_tree.Tree.{PortOf, ConnOf, ItemOf, ModuleOf, FileOf}
-use Rattle.net_order.specs.net_design.declared.design.Design.{Design}
+use Rattle.vlog_tree.specs.Tree.{PortOf, ConnOf, ItemOf, ModuleOf, FileOf}
+use Rattle.net_design.specs.declared.design.Design.{Design}
 use Rattle.shim_design.specs.vlog_meaning.Names.{Full, State}
 use Rattle.shim_design.specs.vlog_meaning.Next.{IsNext}
 use Rattle.shim_design.specs.vlog_meaning.Settled.{IsSettled}

@@ -9,14 +9,14 @@ use Rattle.shim_trees.specs.vlog_size.Literal.{digits_from}
 use Rattle.std.proofs.Math.Nat.{mod-eq_of_lt}
 use Rattle.net_order.specs.vidi_bits.Number.{IsWidth, truth, put_of}
 use Rattle.net_order.proofs.vidi_bits_lemmas.Each.{each_append}
-use Rattle.shim_trees.specs.vlog_tree.Tree.{PortOf, ItemOf, ModuleOf, ExprOf, BeginStmt}
+use Rattle.vlog_tree.specs.Tree.{PortOf, ItemOf, ModuleOf, ExprOf, BeginStmt}
 use Rattle.shim_trees.specs.vlog_size.declared.scope.ScopeNet.{ScopeNet}
 use Rattle.shim_trees.specs.vlog_size.Table.{Named, place_of}
 use Rattle.shim_design.specs.vlog_names.declared.declaration.Shape.TheVariants.{Vector}
 use Rattle.shim_design.specs.vlog_names.Entries.{declared}
 use Rattle.shim_design.specs.vlog_names.Ports.{has_reg}
 use Rattle.shim_design.specs.vlog_names.Different.{Differ}
-use Rattle.net_order.specs.net_design.declared.act.Timing.TheVariants.{Nonblocking}
+use Rattle.net_design.specs.declared.act.Timing.TheVariants.{Nonblocking}
 use Rattle.shim_design.specs.vlog_block.Value.{width_of}
 use Rattle.shim_design.specs.vlog_block.Updates.{stmts_updates}
 use Rattle.shim_design.specs.vlog_meaning.Names.{Full, State}

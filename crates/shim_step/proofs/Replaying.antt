@@ -6,10 +6,10 @@ use Rattle.std.proofs.lemmas.List.Sums.{count_by-le-length}
 use Rattle.std.proofs.lemmas.Nat.{pow_pos}
 use Rattle.std.proofs.lemmas.Option.{slice_get_within}
 use Rattle.net_order.specs.vidi_bits.Number.{truth, has}
-use Rattle.shim_trees.specs.vlog_tree.Tree.{ModuleOf, FileOf}
-use Rattle.net_order.specs.net_design.declared.design.Design.{Design}
-use Rattle.net_order.specs.net_design.declared.design.Direction.TheVariants.{Output}
-use Rattle.net_order.specs.net_design.Pins.{outputs}
+use Rattle.vlog_tree.specs.Tree.{ModuleOf, FileOf}
+use Rattle.net_design.specs.declared.design.Design.{Design}
+use Rattle.net_design.specs.declared.design.Direction.TheVariants.{Output}
+use Rattle.net_design.specs.Pins.{outputs}
 use Rattle.shim_design.specs.vlog_meaning.Names.{Name, Full, State}
 use Rattle.shim_design.specs.vlog_meaning.Settled.{IsSettled}
 use Rattle.shim_design.specs.flat_parts.Meaning.{AreNarrow}

@@ -8,19 +8,19 @@ use Rattle.std.proofs.lemmas.Option.{get_or_from_slice_get, slice_get_within}
 use Rattle.std.proofs.lemmas.List.Elements.{recursion_from_All}
 use Rattle.net_order.specs.vidi_bits.Number.{IsWidth}
 use Rattle.net_order.proofs.vidi_bits_lemmas.Lists.{some_same}
-use Rattle.shim_trees.specs.vlog_tree.Tree.{PortOf, ModuleOf, FileOf}
-use Rattle.shim_trees.specs.vlog_tree.declared.module.Direction.TheVariants as tree
+use Rattle.vlog_tree.specs.Tree.{PortOf, ModuleOf, FileOf}
+use Rattle.vlog_tree.specs.declared.module.Direction.TheVariants as tree
 use Rattle.shim_trees.specs.vlog_size.Table.{Named, value_of}
 use Rattle.shim_design.specs.vlog_names.declared.declaration.Declaration.{Declaration}
 use Rattle.shim_design.specs.vlog_names.Entries.{no_port, port_entries, header_entries, parameter_entry, item_entries, declared}
 use Rattle.shim_design.specs.vlog_scope.Scope.{scope_with}
-use Rattle.net_order.specs.net_design.declared.design.Design.{Design}
-use Rattle.net_order.specs.net_design.declared.design.Direction.TheVariants.{Input}
-use Rattle.net_order.specs.net_design.declared.design.Instance.{Instance}
-use Rattle.net_order.specs.net_design.declared.design.Net.{Net}
-use Rattle.net_order.specs.net_design.declared.design.Port.{Port}
-use Rattle.net_order.specs.net_design.Names.{list_at, paths, paths_after, net_names}
-use Rattle.net_order.specs.net_design.Settled as design
+use Rattle.net_design.specs.declared.design.Design.{Design}
+use Rattle.net_design.specs.declared.design.Direction.TheVariants.{Input}
+use Rattle.net_design.specs.declared.design.Instance.{Instance}
+use Rattle.net_design.specs.declared.design.Net.{Net}
+use Rattle.net_design.specs.declared.design.Port.{Port}
+use Rattle.net_design.specs.Names.{list_at, paths, paths_after, net_names}
+use Rattle.net_design.specs.Settled as design
 use Rattle.shim_design.specs.vlog_meaning.Names.{Name, Full, State}
 use Rattle.shim_design.specs.vlog_meaning.Settled.{IsSettled, IsClock, inputs_of}
 use Rattle.shim_design.specs.flat_parts.Meaning.{values_of, state_of, AreNarrow}
@@ -119,7 +119,7 @@ module _ {f : FileOf ℕ} {a : Map} {m : ModuleOf ℕ} {d : Design} (w : IsWrapp
       (at_member (λ (x : Net). IsWidth x.width × (x.instance < length d.instances)) d.nets n
       (recursion_from_All (λ (x : Net). IsWidth x.width × (x.instance < length d.instances)) d.nets w.lawful.nets) (in_slice d.nets k n at)).0
 
-  pub pin_width : (way : Rattle.net_order.specs.net_design.declared.design.Direction.Direction) (width : ℕ) (pin : Pin) → IsPin d way width pin → IsWidth width
+  pub pin_width : (way : Rattle.net_design.specs.declared.design.Direction.Direction) (width : ℕ) (pin : Pin) → IsPin d way width pin → IsWidth width
   pin_width way width pin p =
       let few = w.lawful.ports in
       let l = slice_get_within d.ports p.port p.p p.at in

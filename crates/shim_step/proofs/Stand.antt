@@ -4,13 +4,13 @@ use Rattle.std.proofs.Common.{refl, subst, arith, inl}
 use Rattle.std.specs.Prelude.{codes}
 use Rattle.std.specs.List.{Contains}
 use Rattle.net_order.specs.vidi_bits.Number.{IsWidth, truth}
-use Rattle.shim_trees.specs.vlog_tree.declared.module.Direction.{Direction}
-use Rattle.shim_trees.specs.vlog_tree.Tree.{ConnOf, InstanceOf, InstanceItem, ItemOf, ModuleOf}
+use Rattle.vlog_tree.specs.declared.module.Direction.{Direction}
+use Rattle.vlog_tree.specs.Tree.{ConnOf, InstanceOf, InstanceItem, ItemOf, ModuleOf}
 use Rattle.shim_trees.specs.vlog_size.declared.scope.Scope.{Scope}
 use Rattle.shim_trees.specs.vlog_size.Names.{Readable}
 use Rattle.shim_design.specs.vlog_scope.Extents.{net_width}
 use Rattle.shim_design.specs.vlog_scope.Scope.{scope_with}
-use Rattle.net_order.specs.net_design.declared.values.Values.{Values}
+use Rattle.net_design.specs.declared.values.Values.{Values}
 use Rattle.shim_design.specs.vlog_meaning.Names.{Full, State, numbers_at}
 use Rattle.shim_design.specs.vlog_meaning.Placed.{names_at}
 use Rattle.shim_design.specs.vlog_meaning.Instances.{IsChild, IsAt}

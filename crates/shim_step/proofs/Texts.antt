@@ -9,7 +9,7 @@ use Rattle.std.proofs.lemmas.Bool.Decides.{nat_tests}
 use Rattle.std.proofs.Math.Nat.{zero-mod}
 use Rattle.net_order.proofs.vidi_bits_lemmas.Each.{each_append}
 use Rattle.net_order.specs.vidi_bits.Number.{IsWidth}
-use Rattle.shim_trees.specs.vlog_tree.declared.expr.NumberKind.TheVariants.{Decimal, Based}
+use Rattle.vlog_tree.specs.declared.expr.NumberKind.TheVariants.{Decimal, Based}
 use Rattle.shim_trees.specs.vlog_size.Literal.{digit, digits_from, is_quote, after_quote, literal_number, literal_width, is_lawful}
 use Rattle.shim_trees.specs.vlog_size.Size.{or_zero, number, of_number}
 use Rattle.shim_design.specs.vlog_scope.Extents.{net_width, bits_of, counted, MOST}

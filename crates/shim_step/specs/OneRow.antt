@@ -1,11 +1,11 @@
 -- What monitors or replayers round a design fill in a cycle is one row, and it is the one that stands on the ports of the top.
 use Rattle.std.specs.Prelude.{◌≡◌, ℕ, ◌≤◌, ◌<◌, ◌^◌, List, length, Option}
-use Rattle.shim_trees.specs.vlog_tree.Tree.{ModuleOf, FileOf}
-use Rattle.net_order.specs.net_design.declared.design.Design.{Design}
-use Rattle.net_order.specs.net_design.declared.values.Values.{Values}
-use Rattle.net_order.specs.net_design.Lawful.{IsLawful, IsState}
-use Rattle.net_order.specs.net_design.Pins.{FitPins, HasOneMap}
-use Rattle.net_order.specs.net_design.Settled as design
+use Rattle.vlog_tree.specs.Tree.{ModuleOf, FileOf}
+use Rattle.net_design.specs.declared.design.Design.{Design}
+use Rattle.net_design.specs.declared.values.Values.{Values}
+use Rattle.net_design.specs.Lawful.{IsLawful, IsState}
+use Rattle.net_design.specs.Pins.{FitPins, HasOneMap}
+use Rattle.net_design.specs.Settled as design
 use Rattle.net_order.specs.Order.{IsOrder}
 use Rattle.shim_design.specs.vlog_meaning.Names.{Full, State}
 use Rattle.chan_replayer.specs.trace_model.declared.row.Offers.{Offers}

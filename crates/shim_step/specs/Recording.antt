@@ -1,9 +1,9 @@
 -- Lock step of `vidi_record_top`: in each cycle it does what monitors round the design do.
 use Rattle.std.specs.Prelude.{◌≡◌, ℕ, ◌<◌, ◌^◌, true, List, length, Option, None, Some}
-use Rattle.shim_trees.specs.vlog_tree.Tree.{ModuleOf, FileOf}
-use Rattle.net_order.specs.net_design.declared.design.Design.{Design}
-use Rattle.net_order.specs.net_design.declared.values.Values.{Values}
-use Rattle.net_order.specs.net_design.Settled.{initial}
+use Rattle.vlog_tree.specs.Tree.{ModuleOf, FileOf}
+use Rattle.net_design.specs.declared.design.Design.{Design}
+use Rattle.net_design.specs.declared.values.Values.{Values}
+use Rattle.net_design.specs.Settled.{initial}
 use Rattle.shim_design.specs.vlog_meaning.Names.{Full, State}
 use Rattle.shim_design.specs.vlog_meaning.Settled.{IsSettled}
 use Rattle.shim_design.specs.vlog_meaning.Next.{IsNext, IsInitial}

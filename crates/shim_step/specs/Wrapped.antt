@@ -1,10 +1,10 @@
 -- A design, a map of it and the wrapped file, and the state of the shims in it.
 use Rattle.std.specs.Prelude.{◌≡◌, ℕ, ◌<◌, List, [], ◌∷◌, codes, length, Option, Some, slice_get}
 use Rattle.net_order.specs.vidi_bits.Number.{truth}
-use Rattle.shim_trees.specs.vlog_tree.Tree.{ModuleOf, FileOf}
+use Rattle.vlog_tree.specs.Tree.{ModuleOf, FileOf}
 use Rattle.shim_design.specs.vlog_names.Twice.{twice_names}
-use Rattle.net_order.specs.net_design.declared.design.Design.{Design}
-use Rattle.net_order.specs.net_design.Lawful.{IsLawful}
+use Rattle.net_design.specs.declared.design.Design.{Design}
+use Rattle.net_design.specs.Lawful.{IsLawful}
 use Rattle.shim_design.specs.vlog_meaning.Names.{Name, Full, State}
 use Rattle.shim_design.specs.flat_parts.Built.{IsBuilt}
 use Rattle.shim_design.specs.flat_parts.Meaning.{Means}

@@ -8,9 +8,9 @@ use Rattle.std.specs.Str.{bytes_eq}
 use Rattle.std.proofs.lemmas.Slice.Eq.{bytes_eq-Decides}
 use Rattle.vlog_size.proofs.vidi_bits_lemmas.Each.{each_append}
 use Rattle.vlog_size.specs.Table.{Named, value_of}
-use Rattle.vlog_size.specs.vlog_tree.declared.expr.BinaryOp.TheVariants.{Plus}
-use Rattle.vlog_size.specs.vlog_tree.Tree.{ExprOf, BinaryExpr, BeginStmt, PortOf}
-use Rattle.vlog_size.specs.vlog_tree.Shape.{level, IsGoodName, IsGoodExpr, IsGoodOption, AreGoodStmts, IsGoodPort, IsGoodConn, IsGoodItem, IsGoodModule}
+use Rattle.vlog_tree.specs.declared.expr.BinaryOp.TheVariants.{Plus}
+use Rattle.vlog_tree.specs.Tree.{ExprOf, BinaryExpr, BeginStmt, PortOf}
+use Rattle.vlog_tree.specs.Shape.{level, IsGoodName, IsGoodExpr, IsGoodOption, AreGoodStmts, IsGoodPort, IsGoodConn, IsGoodItem, IsGoodModule}
 use Rattle.chan_map.specs.trace_model.declared.channel.Channel.{Channel}
 use Rattle.chan_map.specs.trace_model.declared.channel.Dir.{Dir}
 use Rattle.chan_map.specs.trace_model.declared.channel.Dir.TheVariants.{Inward, Outward}

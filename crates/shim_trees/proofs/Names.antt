@@ -15,7 +15,7 @@ use Rattle.vlog_size.specs.vlog_lex.Lexeme.{begins_name, continues_name, is_digi
 use Rattle.vlog_size.specs.vlog_lex.declared.token.TokenKind.TheVariants.{Decimal, Based}
 use Rattle.vlog_size.proofs.vlog_lex_lemmas.Spans.{run_each}
 use Rattle.vlog_size.proofs.vlog_lex_lemmas.Longest.{holds_among}
-use Rattle.vlog_size.specs.vlog_tree.Shape.{IsGoodName}
+use Rattle.vlog_tree.specs.Shape.{IsGoodName}
 use Rattle.shim_trees.specs.Pieces.{numbered, numbered_twice}
 use Rattle.shim_trees.specs.Links.{tied}
 

@@ -5,9 +5,9 @@ use Rattle.std.specs.Prelude.{codes}
 use Rattle.std.specs.List.{AllByRecursion, flat_map}
 use Rattle.vlog_size.proofs.vidi_bits_lemmas.Lists.{some_same}
 use Rattle.vlog_size.proofs.vidi_bits_lemmas.Each.{each_append}
-use Rattle.vlog_size.specs.vlog_tree.Tree.{ExprOf, StmtOf, ConnOf}
-use Rattle.vlog_size.specs.vlog_tree.Shape.{level, IsGoodName, IsGoodExpr, IsGoodTarget, IsGoodStmt, IsGoodRange, IsGoodOption, IsGoodPort, IsGoodConn}
-use Rattle.vlog_size.specs.vlog_tree.Shape.{IsGoodItem}
+use Rattle.vlog_tree.specs.Tree.{ExprOf, StmtOf, ConnOf}
+use Rattle.vlog_tree.specs.Shape.{level, IsGoodName, IsGoodExpr, IsGoodTarget, IsGoodStmt, IsGoodRange, IsGoodOption, IsGoodPort, IsGoodConn}
+use Rattle.vlog_tree.specs.Shape.{IsGoodItem}
 use Rattle.shim_trees.specs.Pieces.{Name, each, each_some, upto, numbered, net, not_net, number, both, range_of, output, wire, reg, target}
 use Rattle.shim_trees.specs.Pieces.{assign, next, at_clock, gated_content, conn, unjoined, instance}
 use Rattle.shim_trees.proofs.Names.{fixed_name, letter_name, number_token, zero_token}

@@ -6,8 +6,8 @@ use Rattle.std.proofs.lemmas.Slice.Eq.{bytes_eq-Decides}
 use Rattle.std.proofs.lemmas.Bool.{false≢true}
 use Rattle.std.proofs.lemmas.List.Elements.{recursion_from_All}
 use Rattle.vlog_size.proofs.vidi_bits_lemmas.Each.{each_weaker, each_append}
-use Rattle.vlog_size.specs.vlog_tree.Tree.{PortOf, ModuleOf, FileOf}
-use Rattle.vlog_size.specs.vlog_tree.Shape.{IsGoodName, IsGoodPort, IsGoodModule, AreSomeGood, IsGood}
+use Rattle.vlog_tree.specs.Tree.{PortOf, ModuleOf, FileOf}
+use Rattle.vlog_tree.specs.Shape.{IsGoodName, IsGoodPort, IsGoodModule, AreSomeGood, IsGood}
 use Rattle.chan_map.specs.trace_model.declared.channel.Channel.{Channel}
 use Rattle.chan_map.specs.trace_model.Channel.{IsChannel}
 use Rattle.chan_map.specs.declared.pins.Map.{Map}

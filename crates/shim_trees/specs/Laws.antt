@@ -1,8 +1,8 @@
 -- What holds of wrapped trees.
 use Rattle.std.specs.Prelude.{◌≡◌, ℕ, ◌≤◌, true, is_some, length}
 use Rattle.std.specs.List.{AllZip, AllByRecursion}
-use Rattle.vlog_size.specs.vlog_tree.Tree.{FileOf}
-use Rattle.vlog_size.specs.vlog_tree.Shape.{IsGood}
+use Rattle.vlog_tree.specs.Tree.{FileOf}
+use Rattle.vlog_tree.specs.Shape.{IsGood}
 use Rattle.chan_map.specs.trace_model.declared.channel.Channel.{Channel}
 use Rattle.chan_map.specs.trace_model.Channel.{IsTable}
 use Rattle.chan_map.specs.declared.pins.Map.{Map}

@@ -10,4 +10,3 @@ pub use Rattle.chan_map.specs as chan_map
 pub use Rattle.chan_map.specs.trace_model as trace_model
 pub use Rattle.chan_map.specs.vidi_lines as vidi_lines
 pub use Rattle.vlog_size.specs as vlog_size
-pub use Rattle.vlog_size.specs.vlog_tree as vlog_tree

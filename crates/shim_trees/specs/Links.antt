@@ -3,7 +3,7 @@ use Rattle.std.specs.Prelude.{ℕ, List, [], ◌∷◌, ◌++◌, map, codes, Op
 use Rattle.std.specs.List.{flat_map}
 use Rattle.std.specs.Option.{option_to_list}
 use Rattle.vlog_size.specs.Table.{Named, value_of}
-use Rattle.vlog_size.specs.vlog_tree.Tree.{PortOf, ConnOf, ItemOf}
+use Rattle.vlog_tree.specs.Tree.{PortOf, ConnOf, ItemOf}
 use Rattle.chan_map.specs.trace_model.declared.channel.Channel.{Channel}
 use Rattle.chan_map.specs.trace_model.declared.channel.Dir.{Dir}
 use Rattle.chan_map.specs.trace_model.declared.channel.Dir.TheVariants.{Inward, Outward}

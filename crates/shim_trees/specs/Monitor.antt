@@ -1,7 +1,7 @@
 -- The monitor of a channel: it holds valid and ready back while the gate is shut, shows content 0 behind it, and tells starts and
 -- completions (AMBA AXI4, A3.2.1: a transfer takes place where VALID and READY are up; gates are this project's profile).
 use Rattle.std.specs.Prelude.{ℕ, List, [], ◌∷◌, ◌++◌, codes}
-use Rattle.vlog_size.specs.vlog_tree.Tree.{PortOf, ItemOf, ModuleOf}
+use Rattle.vlog_tree.specs.Tree.{PortOf, ItemOf, ModuleOf}
 use Rattle.shim_trees.specs.Pieces.{numbered, each, net, not_net, both, input, output, reg, assign, next, at_clock, gated_content}
 
 -- `s` is the source's side, `k` the sink's

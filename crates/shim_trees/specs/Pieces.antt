@@ -3,15 +3,15 @@ use Rattle.std.specs.Prelude.{ℕ, zero, suc, ◌+◌, ◌-◌, ◌==◌, false,
 use Rattle.std.specs.Fmt.{decimal}
 use Rattle.chan_map.specs.trace_model.declared.channel.Dir.{Dir}
 use Rattle.chan_map.specs.trace_model.declared.channel.Dir.TheVariants.{Inward, Outward}
-use Rattle.vlog_size.specs.vlog_tree.declared.expr.NumberKind.TheVariants.{Decimal, Based}
-use Rattle.vlog_size.specs.vlog_tree.declared.expr.UnaryOp.TheVariants.{BitNot}
-use Rattle.vlog_size.specs.vlog_tree.declared.expr.BinaryOp.TheVariants.{And}
-use Rattle.vlog_size.specs.vlog_tree.declared.stmt.AssignOp.TheVariants.{Nonblocking}
-use Rattle.vlog_size.specs.vlog_tree.declared.module.Direction.{Direction}
-use Rattle.vlog_size.specs.vlog_tree.declared.module.Direction.TheVariants.{Input, Output}
-use Rattle.vlog_size.specs.vlog_tree.Tree.{IdentOf, ExprOf, UnaryExpr, BinaryExpr, ChoiceExpr, NumberPrim, RefPrim, RefWith, NoIndex, NoLast, TargetOf}
-use Rattle.vlog_size.specs.vlog_tree.Tree.{RefTarget, StmtOf, AssignStmt, StmtBody, RangeOf, PortOf, PosedgeEvent, ConnOf, ItemOf, WiresItem, RegsItem}
-use Rattle.vlog_size.specs.vlog_tree.Tree.{AssignItem, AlwaysItem, InstanceItem}
+use Rattle.vlog_tree.specs.declared.expr.NumberKind.TheVariants.{Decimal, Based}
+use Rattle.vlog_tree.specs.declared.expr.UnaryOp.TheVariants.{BitNot}
+use Rattle.vlog_tree.specs.declared.expr.BinaryOp.TheVariants.{And}
+use Rattle.vlog_tree.specs.declared.stmt.AssignOp.TheVariants.{Nonblocking}
+use Rattle.vlog_tree.specs.declared.module.Direction.{Direction}
+use Rattle.vlog_tree.specs.declared.module.Direction.TheVariants.{Input, Output}
+use Rattle.vlog_tree.specs.Tree.{IdentOf, ExprOf, UnaryExpr, BinaryExpr, ChoiceExpr, NumberPrim, RefPrim, RefWith, NoIndex, NoLast, TargetOf}
+use Rattle.vlog_tree.specs.Tree.{RefTarget, StmtOf, AssignStmt, StmtBody, RangeOf, PortOf, PosedgeEvent, ConnOf, ItemOf, WiresItem, RegsItem}
+use Rattle.vlog_tree.specs.Tree.{AssignItem, AlwaysItem, InstanceItem}
 
 abbrev pub Name : Type 0
 Name = List ℕ

@@ -1,6 +1,6 @@
 -- `vidi_record_top`: the design behind the monitors of its channels (this project's profile).
 use Rattle.std.specs.Prelude.{ℕ, List, [], ◌∷◌, ◌++◌, codes}
-use Rattle.vlog_size.specs.vlog_tree.Tree.{PortOf, ConnOf, ItemOf, ModuleOf}
+use Rattle.vlog_tree.specs.Tree.{PortOf, ConnOf, ItemOf, ModuleOf}
 use Rattle.chan_map.specs.trace_model.declared.channel.Channel.{Channel}
 use Rattle.chan_map.specs.trace_model.declared.channel.Dir.{Dir}
 use Rattle.chan_map.specs.trace_model.declared.channel.Dir.TheVariants.{Inward, Outward}

@@ -1,6 +1,6 @@
 -- `vidi_replay_top`: the design between the replayers of its channels (this project's profile).
 use Rattle.std.specs.Prelude.{ℕ, List, [], ◌∷◌, ◌++◌, codes, length}
-use Rattle.vlog_size.specs.vlog_tree.Tree.{PortOf, ConnOf, ItemOf, ModuleOf}
+use Rattle.vlog_tree.specs.Tree.{PortOf, ConnOf, ItemOf, ModuleOf}
 use Rattle.chan_map.specs.trace_model.declared.channel.Channel.{Channel}
 use Rattle.chan_map.specs.trace_model.declared.channel.Dir.{Dir}
 use Rattle.chan_map.specs.trace_model.declared.channel.Dir.TheVariants.{Inward, Outward}

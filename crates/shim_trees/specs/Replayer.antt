@@ -4,8 +4,8 @@ use Rattle.std.specs.Prelude.{ℕ, zero, suc, ◌+◌, List, [], ◌∷◌, ◌+
 use Rattle.chan_map.specs.trace_model.declared.channel.Channel.{Channel}
 use Rattle.chan_map.specs.trace_model.declared.channel.Dir.{Dir}
 use Rattle.chan_map.specs.trace_model.declared.channel.Dir.TheVariants.{Inward, Outward}
-use Rattle.vlog_size.specs.vlog_tree.declared.expr.BinaryOp.TheVariants.{GreaterOrEqual, Plus}
-use Rattle.vlog_size.specs.vlog_tree.Tree.{ExprOf, UnaryExpr, BinaryExpr, ParenPrim, BeginStmt, StmtsOf, NoStmts, MoreStmts, PortOf, ItemOf, ModuleOf}
+use Rattle.vlog_tree.specs.declared.expr.BinaryOp.TheVariants.{GreaterOrEqual, Plus}
+use Rattle.vlog_tree.specs.Tree.{ExprOf, UnaryExpr, BinaryExpr, ParenPrim, BeginStmt, StmtsOf, NoStmts, MoreStmts, PortOf, ItemOf, ModuleOf}
 use Rattle.shim_trees.specs.Pieces.{numbered, each, upto, net, both, input, output, reg, assign, next, at_clock, gated_content}
 
 -- `n` is what is waited for, `d` whether a channel completes now; `s` is the source's side, `k` the sink's

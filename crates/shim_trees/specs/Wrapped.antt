@@ -2,7 +2,7 @@
 use Rattle.std.specs.Prelude.{ℕ, Bool, List, [], ◌∷◌, ◌++◌, map, codes, length, nat_eq, Option, None, Some}
 use Rattle.std.specs.List.{filter, find, starts_with}
 use Rattle.std.specs.Str.{bytes_eq}
-use Rattle.vlog_size.specs.vlog_tree.Tree.{PortOf, ModuleOf, FileOf}
+use Rattle.vlog_tree.specs.Tree.{PortOf, ModuleOf, FileOf}
 use Rattle.chan_map.specs.trace_model.declared.channel.Channel.{Channel}
 use Rattle.chan_map.specs.declared.pins.Map.{Map}
 use Rattle.shim_trees.specs.Pieces.{Name, each_some}

@@ -11,4 +11,3 @@ pub use chan_map;
 pub use chan_map::{trace_model, vidi_lines};
 pub use laws::wrapped_is_good;
 pub use vlog_size;
-pub use vlog_size::vlog_tree;

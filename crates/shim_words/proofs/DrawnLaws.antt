@@ -18,8 +18,8 @@ use Rattle.shim_runs.proofs.trace_model_lemmas.CountingLemmas.{take-suc_get}
 use Rattle.shim_runs.specs.run_model.Building.{joined}
 use Rattle.shim_runs.specs.run_model.Offers.{no_content, AreZeroWhileDown}
 use Rattle.shim_runs.proofs.run_model_lemmas.Contents.{content-fits, content-joined, fit-joined, fit-zeros}
-use Rattle.shim_runs.specs.net_design.declared.design.Design.{Design}
-use Rattle.shim_runs.specs.net_design.declared.values.Values.{Values}
+use Rattle.net_design.specs.declared.design.Design.{Design}
+use Rattle.net_design.specs.declared.values.Values.{Values}
 use Rattle.shim_runs.specs.chan_map.declared.pins.Map.{Map}
 use Rattle.shim_runs.specs.chan_monitor.Shell.{HasPlaces, IsRunning, IsShown}
 use Rattle.shim_runs.specs.chan_replayer.Fed.{fed_content}

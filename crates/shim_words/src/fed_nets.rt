@@ -1,9 +1,9 @@
 //! The word on the nets of a wrapped design under feeds.
 
 ghost use Rattle.std.specs.Prelude.{◌≡◌, ◌<◌, ◌≤◌, ◌+◌, ℕ, OnOk, length};
-ghost use Rattle.shim_runs.specs.vlog_tree.Tree.{FileOf};
-ghost use Rattle.shim_runs.specs.vlog_tree.Plain.{plain};
-ghost use Rattle.shim_runs.specs.net_design.declared.design.Design.{Design as OneDesign};
+ghost use Rattle.vlog_tree.specs.Tree.{FileOf};
+ghost use Rattle.vlog_tree.specs.Plain.{plain};
+ghost use Rattle.net_design.specs.declared.design.Design.{Design as OneDesign};
 ghost use Rattle.shim_runs.specs.trace_model.declared.row.Row.{Row as OneRow};
 ghost use Rattle.shim_runs.specs.trace_model.Channel.{IsTable};
 ghost use Rattle.shim_runs.specs.shim_cosim.Top.{IsWrapOf};
@@ -16,9 +16,9 @@ use shim_runs::shim_cosim::{RerunShell, Rewrapped};
 use shim_runs::trace_model::row_over;
 use shim_runs::vidi_io::{Shelf, Text};
 use shim_runs::vidi_lines::Line;
-use shim_runs::vlog_tree::File;
 use shim_runs::{Ended, Stage, lines_in, put_net, stage_in};
 use std::alloc::Global;
+use vlog_tree::File;
 
 /// `fed_nets DESIGN MAP FEEDS NAME..`: the settled numbers of these nets of the wrapped design, by full name, in the last cycle under
 /// these feeds.

@@ -1,9 +1,9 @@
 //! The word on the nets of a recording.
 
 ghost use Rattle.std.specs.Prelude.{◌≡◌, ◌<◌, ℕ};
-ghost use Rattle.shim_runs.specs.vlog_tree.Tree.{FileOf};
-ghost use Rattle.shim_runs.specs.vlog_tree.Plain.{plain};
-ghost use Rattle.shim_runs.specs.net_design.declared.design.Design.{Design as OneDesign};
+ghost use Rattle.vlog_tree.specs.Tree.{FileOf};
+ghost use Rattle.vlog_tree.specs.Plain.{plain};
+ghost use Rattle.net_design.specs.declared.design.Design.{Design as OneDesign};
 ghost use Rattle.shim_runs.specs.trace_model.Channel.{IsTable};
 ghost use Rattle.shim_runs.specs.script_text.Fits.{FitsChannels};
 ghost use Rattle.shim_runs.specs.shim_cosim.Top.{IsWrapOf};
@@ -14,9 +14,9 @@ use shim_runs::chan_monitor::Shell;
 use shim_runs::shim_cosim::Wrapped;
 use shim_runs::vidi_bits::{Items, Memory, Numbers};
 use shim_runs::vidi_io::{MemSink, Shelf, Text};
-use shim_runs::vlog_tree::File;
 use shim_runs::{Ended, Plan, Stage, cycles_of, plan_in, put_net, recorded, stage_in};
 use std::alloc::Global;
+use vlog_tree::File;
 
 /// `nets DESIGN MAP SCRIPT STALLS CYCLE NAME..`: the settled numbers of these nets of the wrapped design, by full name, in this cycle of
 /// the recording.

@@ -1,10 +1,10 @@
 //! The word on rows: a wrapped design beside monitors round the design itself, or round another one.
 
 ghost use Rattle.std.specs.Prelude.{◌≡◌, ◌≤◌, ◌<◌, ◌^◌, ℕ, length};
-ghost use Rattle.shim_runs.specs.vlog_tree.Tree.{FileOf};
-ghost use Rattle.shim_runs.specs.vlog_tree.Plain.{plain};
+ghost use Rattle.vlog_tree.specs.Tree.{FileOf};
+ghost use Rattle.vlog_tree.specs.Plain.{plain};
 ghost use Rattle.shim_runs.specs.trace_model.Row.{AreOffers};
-ghost use Rattle.shim_runs.specs.net_design.declared.design.Design.{Design as OneDesign};
+ghost use Rattle.net_design.specs.declared.design.Design.{Design as OneDesign};
 ghost use Rattle.shim_runs.specs.trace_model.Channel.{IsTable};
 ghost use Rattle.shim_runs.specs.run_model.Building.{PortsAreNets};
 ghost use Rattle.shim_runs.specs.run_model.MapOf.{IsMapOf};
@@ -14,17 +14,17 @@ ghost use Rattle.shim_runs.specs.shim_cosim.Top.{IsWrapOf};
 
 use crate::alike::{Course, are_same, course_of, other_of, said};
 use crate::drawn::{Sequence, draw_offers, widths_over};
+use net_design::Block;
 use shim_runs::chan_map::Map;
 use shim_runs::chan_monitor::{Machines, Shell};
 use shim_runs::env_script::offers_over;
-use shim_runs::net_design::Block;
 use shim_runs::shim_cosim::Wrapped;
 use shim_runs::trace_model::{Channels, Offers, Row, row_over, same_channels};
 use shim_runs::vidi_bits::Memory;
 use shim_runs::vidi_io::{Shelf, Text};
-use shim_runs::vlog_tree::File;
 use shim_runs::{Ended, Stage, stage_in};
 use std::alloc::Global;
+use vlog_tree::File;
 
 /// `rows DESIGN MAP SEED CYCLES [OTHER]`: whether the wrapped design, or that of another file, has the rows of monitors round the design,
 /// under offers and gates that are drawn.

@@ -1,7 +1,7 @@
 -- The lines of drivers.
 use Rattle.std.proofs.Common.{◌≡◌, ℕ, ◌≤◌, List, length, ap}
 use Rattle.std.proofs.lemmas.Option.{slice_get_past}
-use Rattle.vlog_design.specs.net_design.declared.design.Driver.{Driver}
+use Rattle.net_design.specs.declared.design.Driver.{Driver}
 use Rattle.vidi_bench.specs.Design.{line_in, line_of}
 
 pub past_line : (drivers : List Driver) (k : ℕ) → length drivers ≤ k → line_of drivers k ≡ 0

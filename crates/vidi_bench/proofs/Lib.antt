@@ -4,7 +4,6 @@ pub mod QuietTexts
 pub mod Wired
 pub mod DriverLines
 pub use Rattle.env_script.proofs as env_script_lemmas
-pub use Rattle.vlog_design.proofs.net_design_lemmas as net_design_lemmas
 pub use Rattle.vlog_design.proofs.net_order_lemmas as net_order_lemmas
 pub use Rattle.env_script.proofs.run_model_lemmas as run_model_lemmas
 pub use Rattle.report_text.proofs.vidi_io_lemmas as vidi_io_lemmas

@@ -2,8 +2,8 @@
 use Rattle.std.proofs.Common.{◌≡◌, ℕ, List, Option, Ok, inl, inr, map}
 use Rattle.vlog_parse.specs.vlog_lex.declared.token.Token.{Token}
 use Rattle.vlog_parse.specs.vlog_lex.Reading.{HasTokens}
-use Rattle.vlog_parse.specs.vlog_tree.Tree.{FileOf}
-use Rattle.vlog_design.specs.net_design.declared.design.Design.{Design}
+use Rattle.vlog_tree.specs.Tree.{FileOf}
+use Rattle.net_design.specs.declared.design.Design.{Design}
 use Rattle.vlog_design.specs.net_order.Order.{IsOrder}
 use Rattle.env_script.specs.chan_map.declared.text.MapText.{MapText}
 use Rattle.env_script.specs.chan_map.declared.pins.Map.{Map}

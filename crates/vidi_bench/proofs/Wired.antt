@@ -1,7 +1,7 @@
 -- The steps of a design and a map: what they say together, and what ends a command that goes on with it.
 use Rattle.std.proofs.Common.{ℕ, List, Result, Ok, Err, inl, inr}
 use Rattle.std.specs.Prelude.{IfOk}
-use Rattle.vlog_parse.specs.vlog_tree.Tree.{FileOf}
+use Rattle.vlog_tree.specs.Tree.{FileOf}
 use Rattle.env_script.specs.chan_map.declared.text.MapText.{MapText}
 use Rattle.env_script.specs.chan_map.declared.pins.Map.{Map}
 use Rattle.env_script.specs.chan_map.Text.{ReadsMap}

@@ -2,15 +2,15 @@
 use Rattle.std.specs.Prelude.{◌≡◌, ℕ, ◌⊎◌, List, Option, None, Some, map, slice_get}
 use Rattle.vlog_parse.specs.vlog_lex.declared.token.Token.{Token}
 use Rattle.vlog_parse.specs.vlog_lex.Reading.{HasTokens, IsStuckOn}
-use Rattle.vlog_parse.specs.vlog_tree.Tree.{FileOf}
+use Rattle.vlog_tree.specs.Tree.{FileOf}
 use Rattle.vlog_parse.specs.Marks.{all_marked}
 use Rattle.vlog_parse.specs.Depth.{IsDeep, IsShallow}
 use Rattle.vlog_parse.specs.Parsing.{IsFileOf, IsLinedFileOf}
 use Rattle.vlog_parse.specs.Units.{IsItemLine}
 use Rattle.vlog_design.specs.vlog_elab.declared.error.ElabError.{ElabError}
 use Rattle.vlog_design.specs.vlog_elab.declared.error.ElabError.TheVariants as errors
-use Rattle.vlog_design.specs.net_design.declared.design.Design.{Design}
-use Rattle.vlog_design.specs.net_design.declared.design.Driver.{Driver}
+use Rattle.net_design.specs.declared.design.Design.{Design}
+use Rattle.net_design.specs.declared.design.Driver.{Driver}
 use Rattle.vlog_design.specs.net_order.Order.{IsOrder, IsLoop}
 use Rattle.vlog_design.specs.Design.{IsDesignOf}
 use Rattle.vlog_design.specs.Reasons.{Clear, Refused}

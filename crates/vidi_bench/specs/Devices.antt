@@ -1,9 +1,9 @@
 -- What the texts of a design and a map say together, or the first reason for which they are refused.
 use Rattle.std.specs.Prelude.{◌≡◌, ℕ, List, Option, None, Some, Ok, Err}
-use Rattle.vlog_parse.specs.vlog_tree.Tree.{FileOf}
+use Rattle.vlog_tree.specs.Tree.{FileOf}
 use Rattle.env_script.specs.trace_model.Channel.{IsTable}
-use Rattle.vlog_design.specs.net_design.declared.design.Design.{Design}
-use Rattle.vlog_design.specs.net_design.Lawful.{IsLawful}
+use Rattle.net_design.specs.declared.design.Design.{Design}
+use Rattle.net_design.specs.Lawful.{IsLawful}
 use Rattle.vlog_design.specs.net_order.Order.{IsOrder}
 use Rattle.env_script.specs.chan_map.declared.error.MapError.{MapError}
 use Rattle.env_script.specs.chan_map.declared.error.MapError.TheVariants as errors

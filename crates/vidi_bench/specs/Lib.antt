@@ -10,7 +10,6 @@ pub mod Unfetched
 pub mod Usage
 pub use Rattle.env_script.specs as env_script
 pub use Rattle.vlog_design.specs.flat_parts as flat_parts
-pub use Rattle.vlog_design.specs.net_design as net_design
 pub use Rattle.vlog_design.specs.net_order as net_order
 pub use Rattle.report_text.specs as report_text
 pub use Rattle.env_script.specs.run_model as run_model
@@ -20,4 +19,3 @@ pub use Rattle.vlog_design.specs as vlog_design
 pub use Rattle.vlog_design.specs.vlog_driver as vlog_driver
 pub use Rattle.vlog_design.specs.vlog_elab as vlog_elab
 pub use Rattle.vlog_design.specs.vlog_hierarchy as vlog_hierarchy
-pub use Rattle.vlog_parse.specs.vlog_tree as vlog_tree

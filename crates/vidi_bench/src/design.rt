@@ -1,9 +1,9 @@
 //! What the text of a design says: its tree, the design of a top, and an order of its drivers.
 
 ghost use Rattle.std.specs.Prelude.{◌≡◌, ◌≤◌, IfOk, IfErr, length, map};
-ghost use Rattle.vlog_parse.specs.vlog_tree.Plain.{plain};
+ghost use Rattle.vlog_tree.specs.Plain.{plain};
 ghost use Rattle.vlog_design.specs.Design.{file_counts};
-ghost use Rattle.vlog_design.specs.net_design.Lawful.{IsLawful, counts};
+ghost use Rattle.net_design.specs.Lawful.{IsLawful, counts};
 ghost use Rattle.vlog_design.specs.net_order.Order.{IsOrder};
 ghost use Rattle.vidi_bench.specs.AnswerText.{text_of};
 ghost use Rattle.vidi_bench.specs.Design as spec;
@@ -12,15 +12,15 @@ ghost use Rattle.vidi_bench.specs.Ended.{EndsWith};
 
 use crate::answer::{Answer, Ended, refused};
 use crate::status::{Reason, Word};
+use net_design::Design;
 use std::alloc::Global;
 use vlog_design::elaborate;
-use vlog_design::net_design::Design;
 use vlog_design::net_order::{Order, OrderError, order};
 use vlog_design::vlog_elab::ElabError;
 use vlog_parse::vidi_bits::{Items, Memory};
 use vlog_parse::vlog_lex::{LexError, Tokens, lex};
-use vlog_parse::vlog_tree::File;
 use vlog_parse::{ParseError, parse};
+use vlog_tree::File;
 
 /// The tree of a text.
 pub fn file_of(alloc: Global, text: &[u8]) -> Result<File, Ended>

@@ -1,8 +1,8 @@
 //! What the texts of a design and a map say together.
 
 ghost use Rattle.std.specs.Prelude.{◌≡◌, ◌≤◌, IfOk, IfErr, Ok, length};
-ghost use Rattle.vlog_parse.specs.vlog_tree.Plain.{plain};
-ghost use Rattle.vlog_design.specs.net_design.Lawful.{IsLawful};
+ghost use Rattle.vlog_tree.specs.Plain.{plain};
+ghost use Rattle.net_design.specs.Lawful.{IsLawful};
 ghost use Rattle.env_script.specs.chan_map.Text.{ReadsMap};
 ghost use Rattle.env_script.specs.chan_map.Bound.{BindsMap};
 ghost use Rattle.vidi_bench.specs.AnswerText.{text_of};
@@ -17,11 +17,11 @@ use crate::design::{design_of, file_of, order_of};
 use crate::status::{Reason, Word};
 use env_script::chan_map::{Map, MapError, MapText, bind_map, lawful_ports_have_widths, read_map};
 use env_script::run_model::bound_is_map_of;
+use net_design::Design;
 use std::alloc::Global;
-use vlog_design::net_design::Design;
 use vlog_design::net_order::Order;
 use vlog_parse::vidi_bits::Memory;
-use vlog_parse::vlog_tree::File;
+use vlog_tree::File;
 
 /// A design with an order of its drivers, and the map bound to it.
 #[derive(Drop)]

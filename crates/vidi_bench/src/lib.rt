@@ -18,5 +18,4 @@ pub use report_text;
 pub use report_text::{trace_compare, vidi_io};
 pub use status::{Reason, Status, Word};
 pub use vlog_design;
-pub use vlog_design::{net_design, net_order, vlog_elab};
-pub use vlog_parse::vlog_tree;
+pub use vlog_design::{net_order, vlog_elab};

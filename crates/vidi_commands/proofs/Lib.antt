@@ -2,7 +2,6 @@ pub mod WordLists
 pub mod Saying
 pub use Rattle.sample_command.proofs.bench_run_lemmas as bench_run_lemmas
 pub use Rattle.wrap_command.proofs.env_script_lemmas as env_script_lemmas
-pub use Rattle.wrap_command.proofs.net_design_lemmas as net_design_lemmas
 pub use Rattle.wrap_command.proofs.net_order_lemmas as net_order_lemmas
 pub use Rattle.sample_command.proofs.replay_run_lemmas as replay_run_lemmas
 pub use Rattle.sample_command.proofs.room_ledger_lemmas as room_ledger_lemmas

@@ -5,7 +5,6 @@ pub use Rattle.sample_command.specs.bench_run as bench_run
 pub use Rattle.wrap_command.specs.chan_map as chan_map
 pub use Rattle.wrap_command.specs.env_script as env_script
 pub use Rattle.wrap_command.specs.flat_parts as flat_parts
-pub use Rattle.wrap_command.specs.net_design as net_design
 pub use Rattle.wrap_command.specs.net_order as net_order
 pub use Rattle.sample_command.specs.replay_command as replay_command
 pub use Rattle.sample_command.specs.replay_run as replay_run
@@ -31,5 +30,4 @@ pub use Rattle.wrap_command.specs.vlog_driver as vlog_driver
 pub use Rattle.wrap_command.specs.vlog_elab as vlog_elab
 pub use Rattle.wrap_command.specs.vlog_lex as vlog_lex
 pub use Rattle.wrap_command.specs.vlog_parse as vlog_parse
-pub use Rattle.wrap_command.specs.vlog_tree as vlog_tree
 pub use Rattle.wrap_command.specs as wrap_command

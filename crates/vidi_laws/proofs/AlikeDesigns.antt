@@ -3,22 +3,22 @@ use Rattle.std.proofs.Common.{◌≡◌, ℕ, ◌<◌, ◌^◌, ◌==◌, ◌&&�
 use Rattle.std.proofs.Common.{subst, ◌∙◌}
 use Rattle.std.specs.List.{AllZip, Contains, enumerate_from, sum_by}
 use Rattle.vidi_commands.proofs.vidi_bits_lemmas.Each.{zip-on}
-use Rattle.vidi_commands.specs.vlog_tree.Tree.{ModuleOf}
-use Rattle.vidi_commands.specs.net_design.declared.act.Code.{Code}
-use Rattle.vidi_commands.specs.net_design.declared.act.Timing.TheVariants.{Nonblocking}
-use Rattle.vidi_commands.specs.net_design.declared.design.DesignMemory.{DesignMemory}
-use Rattle.vidi_commands.specs.net_design.declared.design.Direction.TheVariants.{Input}
-use Rattle.vidi_commands.specs.net_design.declared.design.Driver.{Driver}
-use Rattle.vidi_commands.specs.net_design.declared.design.Net.{Net}
-use Rattle.vidi_commands.specs.net_design.declared.design.Port.{Port}
-use Rattle.vidi_commands.specs.net_design.declared.design.Register.{Register}
-use Rattle.vidi_commands.specs.net_design.declared.design.Design.{Design}
-use Rattle.vidi_commands.specs.net_design.declared.values.Update.{Update}
-use Rattle.vidi_commands.specs.net_design.declared.values.Values.{Values}
-use Rattle.vidi_commands.specs.net_design.Bits.{named}
-use Rattle.vidi_commands.specs.net_design.Lawful.{IsLawful, IsState}
-use Rattle.vidi_commands.specs.net_design.Settled.{clocked, held, initial, initial_number, pins_of, word_count, FitNets, IsSettled}
-use Rattle.vidi_commands.specs.net_design.Updates.{apply, block_updates, run}
+use Rattle.vlog_tree.specs.Tree.{ModuleOf}
+use Rattle.net_design.specs.declared.act.Code.{Code}
+use Rattle.net_design.specs.declared.act.Timing.TheVariants.{Nonblocking}
+use Rattle.net_design.specs.declared.design.DesignMemory.{DesignMemory}
+use Rattle.net_design.specs.declared.design.Direction.TheVariants.{Input}
+use Rattle.net_design.specs.declared.design.Driver.{Driver}
+use Rattle.net_design.specs.declared.design.Net.{Net}
+use Rattle.net_design.specs.declared.design.Port.{Port}
+use Rattle.net_design.specs.declared.design.Register.{Register}
+use Rattle.net_design.specs.declared.design.Design.{Design}
+use Rattle.net_design.specs.declared.values.Update.{Update}
+use Rattle.net_design.specs.declared.values.Values.{Values}
+use Rattle.net_design.specs.Bits.{named}
+use Rattle.net_design.specs.Lawful.{IsLawful, IsState}
+use Rattle.net_design.specs.Settled.{clocked, held, initial, initial_number, pins_of, word_count, FitNets, IsSettled}
+use Rattle.net_design.specs.Updates.{apply, block_updates, run}
 use Rattle.vidi_commands.specs.vidi_bits.Number.{has}
 use Rattle.vidi_commands.specs.chan_map.Ports.{is_read}
 use Rattle.vidi_commands.specs.vlog_elab.Instances.{ModuleInstance}

@@ -6,13 +6,13 @@ use Rattle.std.proofs.lemmas.Bool.{cases_lt}
 use Rattle.std.proofs.lemmas.List.{get_or_past}
 use Rattle.std.proofs.lemmas.List.Sums.{sum_by-cons}
 use Rattle.std.proofs.lemmas.Option.{get_or_from_slice_get, slice_get_within}
-use Rattle.vidi_commands.specs.net_design.declared.design.DesignMemory.{DesignMemory}
-use Rattle.vidi_commands.specs.net_design.declared.design.Design.{Design}
-use Rattle.vidi_commands.specs.net_design.declared.values.Values.{Values}
-use Rattle.vidi_commands.specs.net_design.Last.{IsNarrow}
-use Rattle.vidi_commands.specs.net_design.Settled.{net_width, word_count, Keeps, room_length}
-use Rattle.vidi_commands.specs.net_design.Lawful.{IsLawful, IsState}
-use Rattle.vidi_commands.proofs.net_design_lemmas.LawfulCode.{net_width_le}
+use Rattle.net_design.specs.declared.design.DesignMemory.{DesignMemory}
+use Rattle.net_design.specs.declared.design.Design.{Design}
+use Rattle.net_design.specs.declared.values.Values.{Values}
+use Rattle.net_design.specs.Last.{IsNarrow}
+use Rattle.net_design.specs.Settled.{net_width, word_count, Keeps, room_length}
+use Rattle.net_design.specs.Lawful.{IsLawful, IsState}
+use Rattle.net_design.proofs.LawfulCode.{net_width_le}
 
 fits-128 : (x w : ℕ) → x < 2 ^ w → w ≤ 128 → x < 2 ^ 128
 fits-128 x w l h = let most : 2 ^ w ≤ 2 ^ 128 = pow_mono {i = w} {j = 128} h in omega (arith, most, l)

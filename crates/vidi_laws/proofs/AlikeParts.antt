@@ -3,15 +3,15 @@ use Rattle.std.proofs.Common.{◌≡◌, ℕ, ◌==◌, ◌&&◌, not, nat_lt, B
 use Rattle.std.specs.Int.{bit_at}
 use Rattle.std.specs.List.{AllZip}
 use Rattle.std.proofs.lemmas.Nat.Bits.{same_from_bits}
-use Rattle.vidi_commands.specs.net_design.declared.act.Code.{Code}
-use Rattle.vidi_commands.specs.net_design.declared.act.Timing.TheVariants.{Nonblocking}
-use Rattle.vidi_commands.specs.net_design.declared.design.Driver.{Driver}
-use Rattle.vidi_commands.specs.net_design.declared.design.Register.{Register}
-use Rattle.vidi_commands.specs.net_design.declared.values.Values.{Values}
-use Rattle.vidi_commands.specs.net_design.Bits.{named}
-use Rattle.vidi_commands.specs.net_design.Last.{IsNarrow}
-use Rattle.vidi_commands.specs.net_design.Settled.{initial_number}
-use Rattle.vidi_commands.specs.net_design.Updates.{block_updates, run}
+use Rattle.net_design.specs.declared.act.Code.{Code}
+use Rattle.net_design.specs.declared.act.Timing.TheVariants.{Nonblocking}
+use Rattle.net_design.specs.declared.design.Driver.{Driver}
+use Rattle.net_design.specs.declared.design.Register.{Register}
+use Rattle.net_design.specs.declared.values.Values.{Values}
+use Rattle.net_design.specs.Bits.{named}
+use Rattle.net_design.specs.Last.{IsNarrow}
+use Rattle.net_design.specs.Settled.{initial_number}
+use Rattle.net_design.specs.Updates.{block_updates, run}
 use Rattle.vidi_commands.specs.vidi_bits.Number.{has}
 use Rattle.vidi_commands.specs.vlog_driver.Duties.{Duty, Assigns, Settles, Does}
 use Rattle.vidi_commands.specs.flat_parts.Drivers.{ClockedBlock, IsBlockOf}

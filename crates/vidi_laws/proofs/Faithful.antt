@@ -6,7 +6,7 @@ use Rattle.vidi_commands.specs.trace_model.declared.packet.Packet.{Packet}
 use Rattle.vidi_commands.specs.trace_model.declared.row.Row.{Row}
 use Rattle.vidi_commands.specs.trace_model.Recording.{packets_of}
 use Rattle.vidi_commands.specs.trace_model.Trace.{IsWellFormed}
-use Rattle.vidi_commands.specs.net_design.declared.design.Design.{Design}
+use Rattle.net_design.specs.declared.design.Design.{Design}
 use Rattle.vidi_commands.specs.chan_map.declared.pins.Map.{Map}
 use Rattle.vidi_commands.specs.run_model.Played.{AreStable}
 use Rattle.vidi_commands.specs.run_model.Replay.{IsReplay, IsReplayRow}

@@ -2,13 +2,13 @@
 use Rattle.std.proofs.Common.{◌≡◌, ◌⊎◌, ℕ, List, None, Some, inl, inr, sym, ap, subst, ◌∙◌, map}
 use Rattle.vidi_commands.specs.vlog_lex.declared.token.Token.{Token}
 use Rattle.vidi_commands.specs.vlog_lex.Reading.{HasTokens, OneReading, OneStuckLine, ReadOrStuck}
-use Rattle.vidi_commands.specs.vlog_tree.Tree.{FileOf}
-use Rattle.vidi_commands.specs.vlog_tree.Lines.{bare}
+use Rattle.vlog_tree.specs.Tree.{FileOf}
+use Rattle.vlog_tree.specs.Lines.{bare}
 use Rattle.vidi_commands.specs.vlog_parse.Marks.{all_marked}
 use Rattle.vidi_commands.specs.vlog_parse.Depth.{OneDepth}
 use Rattle.vidi_commands.specs.vlog_parse.Parsing.{LinedFilesAreFiles, OneLinedFile}
 use Rattle.vidi_commands.specs.vlog_parse.Units.{OneItemLine}
-use Rattle.vidi_commands.specs.net_design.declared.design.Design.{Design}
+use Rattle.net_design.specs.declared.design.Design.{Design}
 use Rattle.vidi_commands.specs.net_order.Order.{IsOrder}
 use Rattle.vidi_commands.specs.vlog_design.Design.{IsDesignOf, file_counts}
 use Rattle.vidi_commands.specs.vlog_design.Laws.{LoopsAlike}

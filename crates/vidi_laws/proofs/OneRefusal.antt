@@ -3,7 +3,7 @@ use Rattle.std.proofs.Common.{◌≡◌, ℕ, ◌<◌, ◌⊎◌, List, [], Opti
 use Rattle.std.specs.Prelude.{slice_get}
 use Rattle.std.proofs.lemmas.Bool.{cases_order}
 use Rattle.vidi_commands.specs.vidi_bits.Findings.{first}
-use Rattle.vidi_commands.specs.vlog_tree.Tree.{ModuleOf, FileOf}
+use Rattle.vlog_tree.specs.Tree.{ModuleOf, FileOf}
 use Rattle.vidi_commands.specs.vlog_elab.Outlines.{Outline, place_of, outlines_of}
 use Rattle.vidi_commands.specs.vlog_elab.Nested.{IsNestedAnswer}
 use Rattle.vidi_commands.specs.vlog_elab.declared.error.ElabError.{ElabError}

@@ -2,8 +2,8 @@
 use Rattle.std.proofs.Common.{◌≡◌, ℕ, List, sym, subst, ◌∙◌}
 use Rattle.vidi_commands.specs.vlog_lex.declared.token.Token.{Token}
 use Rattle.vidi_commands.specs.vlog_lex.Reading.{OneReading}
-use Rattle.vidi_commands.specs.vlog_tree.Tree.{FileOf}
-use Rattle.vidi_commands.specs.vlog_tree.Lines.{bare}
+use Rattle.vlog_tree.specs.Tree.{FileOf}
+use Rattle.vlog_tree.specs.Lines.{bare}
 use Rattle.vidi_commands.specs.vlog_parse.Parsing.{IsFileOf, LinedFilesAreFiles, OneFile}
 use Rattle.vidi_commands.specs.shim_trees.Wrapped.{wrapped}
 use Rattle.vidi_commands.specs.vidi_bench.Design.{Spells}

@@ -2,10 +2,10 @@
 use Rattle.std.proofs.Common.{◌≡◌, ◌⊎◌, ℕ, List, None, Some, Ok, Err, inl, inr, sym, ap, subst, ◌∙◌}
 use Rattle.std.specs.Prelude.{slice_get}
 use Rattle.vidi_commands.proofs.vidi_bits_lemmas.Lists.{some_same}
-use Rattle.vidi_commands.specs.vlog_tree.Tree.{FileOf, ModuleOf}
-use Rattle.vidi_commands.specs.net_design.declared.design.Design.{Design}
-use Rattle.vidi_commands.specs.net_design.Lawful.{IsLawful}
-use Rattle.vidi_commands.specs.net_design.Pins.{HasOneMap}
+use Rattle.vlog_tree.specs.Tree.{FileOf, ModuleOf}
+use Rattle.net_design.specs.declared.design.Design.{Design}
+use Rattle.net_design.specs.Lawful.{IsLawful}
+use Rattle.net_design.specs.Pins.{HasOneMap}
 use Rattle.vidi_commands.specs.net_order.Order.{IsOrder}
 use Rattle.vidi_commands.specs.chan_map.declared.error.MapError.{MapError}
 use Rattle.vidi_commands.specs.chan_map.declared.error.MapError.TheVariants as errors

@@ -8,8 +8,8 @@ use Rattle.vidi_commands.specs.trace_model.declared.trace.Trace.{Trace}
 use Rattle.vidi_commands.specs.trace_model.Recording.{trace_of}
 use Rattle.vidi_commands.specs.trace_code.Decoding.{OnePlace, OneReading}
 use Rattle.vidi_commands.specs.trace_code.Encoding.{encode, Encodes}
-use Rattle.vidi_commands.specs.net_design.declared.design.Design.{Design}
-use Rattle.vidi_commands.specs.net_design.Lawful.{IsLawful}
+use Rattle.net_design.specs.declared.design.Design.{Design}
+use Rattle.net_design.specs.Lawful.{IsLawful}
 use Rattle.vidi_commands.specs.chan_map.declared.pins.Map.{Map}
 use Rattle.vidi_commands.specs.run_model.Alike.{AreAlike}
 use Rattle.vidi_commands.specs.run_model.AlikeLaws.{DrivenAlike}

@@ -2,8 +2,8 @@
 use Rattle.std.proofs.Common.{◌≡◌, ℕ, ◌≤◌, List, [], Option, None, Some, length, inl, inr, sym, ap, subst, ◌∙◌, arith}
 use Rattle.vidi_commands.specs.vidi_bits.Findings.{first}
 use Rattle.vidi_commands.proofs.vidi_bits_lemmas.Lists.{some_same}
-use Rattle.vidi_commands.specs.vlog_tree.Tree.{FileOf}
-use Rattle.vidi_commands.specs.vlog_tree.Spelling.{toks}
+use Rattle.vlog_tree.specs.Tree.{FileOf}
+use Rattle.vlog_tree.specs.Spelling.{toks}
 use Rattle.vidi_commands.specs.vlog_parse.Marks.{all_marked}
 use Rattle.vidi_commands.specs.vlog_elab.declared.error.ElabError.{ElabError}
 use Rattle.vidi_commands.specs.vlog_elab.declared.error.ElabError.TheVariants.{Memory}

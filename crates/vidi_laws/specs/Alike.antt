@@ -1,8 +1,8 @@
 -- Two flat designs of one file.
 use Rattle.std.specs.Prelude.{ℕ, List}
-use Rattle.vidi_commands.specs.vlog_tree.Tree.{ModuleOf}
-use Rattle.vidi_commands.specs.net_design.declared.design.Design.{Design}
-use Rattle.vidi_commands.specs.net_design.Lawful.{IsLawful}
+use Rattle.vlog_tree.specs.Tree.{ModuleOf}
+use Rattle.net_design.specs.declared.design.Design.{Design}
+use Rattle.net_design.specs.Lawful.{IsLawful}
 use Rattle.vidi_commands.specs.vlog_elab.Instances.{ModuleInstance}
 use Rattle.vidi_commands.specs.flat_parts.Built.{IsBuilt}
 use Rattle.vidi_commands.specs.run_model.Alike.{AreAlike}

@@ -4,8 +4,8 @@ use Rattle.std.specs.Prelude.{◌≡◌, ℕ, ◌<◌, ◌≤◌, Bool, true, fa
 use Rattle.std.specs.FinMap.{get}
 use Rattle.vidi_commands.specs.vidi_bits.Number.{has}
 use Rattle.vidi_commands.specs.vidi_io.Shelf.{Files, holding}
-use Rattle.vidi_commands.specs.vlog_tree.Tree.{FileOf}
-use Rattle.vidi_commands.specs.vlog_tree.Lines.{bare}
+use Rattle.vlog_tree.specs.Tree.{FileOf}
+use Rattle.vlog_tree.specs.Lines.{bare}
 use Rattle.vidi_commands.specs.trace_model.declared.channel.Channel.{Channel}
 use Rattle.vidi_commands.specs.trace_model.declared.channel.Dir.{Dir}
 use Rattle.vidi_commands.specs.trace_model.declared.channel.Dir.TheVariants.{Inward, Outward}

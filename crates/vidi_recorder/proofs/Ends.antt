@@ -4,8 +4,8 @@ use Rattle.std.specs.Io.KnownBytes.{append_known}
 use Rattle.trace_code.specs.trace_model.declared.row.Row.{Row}
 use Rattle.trace_code.specs.trace_model.Channel.{IsTable}
 use Rattle.trace_code.specs.Encoding.{end_mark}
-use Rattle.chan_monitor.specs.net_design.declared.design.Design.{Design}
-use Rattle.chan_monitor.specs.net_design.declared.values.Values.{Values}
+use Rattle.net_design.specs.declared.design.Design.{Design}
+use Rattle.net_design.specs.declared.values.Values.{Values}
 use Rattle.env_script.specs.run_model.Laws.{OffersFit}
 use Rattle.env_script.specs.run_model.Played.{AreStable}
 use Rattle.room_ledger.specs.Ledger.{Ledger}

@@ -8,8 +8,8 @@ use Rattle.trace_code.specs.trace_model.declared.row.Offers.{Offers}
 use Rattle.trace_code.specs.trace_model.declared.row.Row.{Row}
 use Rattle.trace_code.specs.trace_model.Row.{all_widths, AreOffers, IsOver}
 use Rattle.trace_code.proofs.trace_model_lemmas.ContentsLemmas.{fit-length, fit_prop}
-use Rattle.chan_monitor.specs.net_design.declared.design.Design.{Design}
-use Rattle.chan_monitor.specs.net_design.declared.values.Values.{Values}
+use Rattle.net_design.specs.declared.design.Design.{Design}
+use Rattle.net_design.specs.declared.values.Values.{Values}
 use Rattle.env_script.specs.chan_map.declared.pins.Map.{Map}
 use Rattle.env_script.specs.run_model.Offers as Rows
 use Rattle.env_script.specs.script_text.Offer.{Offer, Carries, EndsAreCompletions}

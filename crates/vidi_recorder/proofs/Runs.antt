@@ -17,7 +17,7 @@ use Rattle.trace_code.specs.trace_model.Row.{is_in_flight, row_before}
 use Rattle.trace_code.proofs.trace_model_lemmas.MaskLemmas.{no-bit-from-has}
 use Rattle.trace_code.proofs.trace_model_lemmas.CountingLemmas.{slice_get-take}
 use Rattle.trace_code.specs.Encoding.{encode, end_mark, header_bytes, packet_bytes, row_bytes}
-use Rattle.chan_monitor.specs.net_design.Lawful.{IsLawful}
+use Rattle.net_design.specs.Lawful.{IsLawful}
 use Rattle.env_script.specs.run_model.Laws.{IsReady, OffersFit, OneOfLength, OneThatEnds}
 use Rattle.env_script.specs.run_model.Played.{AreStable}
 use Rattle.env_script.proofs.run_model_lemmas.Ends.{the-run as run-parts}

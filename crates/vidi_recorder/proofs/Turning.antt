@@ -13,8 +13,8 @@ use Rattle.trace_code.proofs.trace_model_lemmas.CountingLemmas.{slice_get-append
 use Rattle.std.proofs.lemmas.Nat.Bits.{bit_at-zero}
 use Rattle.trace_code.proofs.trace_model_lemmas.RowLemmas.{before-last}
 use Rattle.vidi_io.specs.vidi_bits.Number.{has}
-use Rattle.chan_monitor.specs.net_design.declared.design.Design.{Design}
-use Rattle.chan_monitor.specs.net_design.declared.values.Values.{Values}
+use Rattle.net_design.specs.declared.design.Design.{Design}
+use Rattle.net_design.specs.declared.values.Values.{Values}
 use Rattle.env_script.specs.chan_map.declared.pins.Map.{Map}
 use Rattle.env_script.specs.run_model.Played.{AreStable}
 use Rattle.env_script.specs.run_model.Laws.{OffersStay}

@@ -13,8 +13,8 @@ use Rattle.trace_code.specs.trace_model.Recording.{has_event}
 use Rattle.trace_code.specs.trace_model.Row.{all_widths, completes, flies_after, row_before, sink_valid, IsOver}
 use Rattle.trace_code.specs.trace_model.Stability.{IsLowestUnstable}
 use Rattle.trace_code.proofs.trace_model_lemmas.ContentsLemmas.{fit-length}
-use Rattle.chan_monitor.specs.net_design.declared.design.Design.{Design}
-use Rattle.chan_monitor.specs.net_design.declared.values.Values.{Values}
+use Rattle.net_design.specs.declared.design.Design.{Design}
+use Rattle.net_design.specs.declared.values.Values.{Values}
 use Rattle.env_script.specs.chan_map.declared.pins.Map.{Map}
 use Rattle.env_script.specs.run_model.Played.{AreStable, StopsBefore}
 use Rattle.env_script.specs.run_model.Step.{IsStep}

@@ -4,7 +4,7 @@ use Rattle.trace_code.specs.trace_model.declared.channel.Channel.{Channel}
 use Rattle.trace_code.specs.trace_model.declared.row.Offers.{Offers}
 use Rattle.trace_code.specs.trace_model.declared.row.Row.{Row}
 use Rattle.trace_code.specs.trace_model.Channel.{content_bytes}
-use Rattle.chan_monitor.specs.net_design.declared.design.Design.{Design}
+use Rattle.net_design.specs.declared.design.Design.{Design}
 use Rattle.env_script.specs.chan_map.declared.pins.Map.{Map}
 use Rattle.env_script.specs.run_model.Run.{IsRun, IsRunRow, IsTheRun}
 use Rattle.room_ledger.specs.Gates.{Plan, drained, row_len, used_at, AreGates}

@@ -9,7 +9,7 @@ use Rattle.trace_code.specs.trace_model.Packet.{count}
 use Rattle.trace_code.specs.trace_model.Recording.{packets_of, recorded, trace_of, transactions}
 use Rattle.trace_code.specs.trace_model.Row.{completes}
 use Rattle.trace_code.specs.Encoding.{HasEncoding}
-use Rattle.chan_monitor.specs.net_design.declared.design.Design.{Design}
+use Rattle.net_design.specs.declared.design.Design.{Design}
 use Rattle.env_script.specs.chan_map.declared.pins.Map.{Map}
 use Rattle.env_script.specs.run_model.Laws.{ContentsStay, IsReady, OneOfLength, OneThatEnds}
 use Rattle.env_script.specs.run_model.Run.{AllUp, IsTheRun}

@@ -5,9 +5,9 @@ use Rattle.trace_code.specs.trace_model.declared.row.Row.{Row}
 use Rattle.trace_code.specs.trace_model.Recording.{packets_of, trace_of}
 use Rattle.trace_code.specs.declared.decoding.TheConstants.{TRACE_LIMIT}
 use Rattle.trace_code.specs.Encoding.{encode, header_bytes}
-use Rattle.chan_monitor.specs.net_design.declared.design.Design.{Design}
-use Rattle.chan_monitor.specs.net_design.declared.values.Values.{Values}
-use Rattle.chan_monitor.specs.net_design.Lawful.{IsLawful}
+use Rattle.net_design.specs.declared.design.Design.{Design}
+use Rattle.net_design.specs.declared.values.Values.{Values}
+use Rattle.net_design.specs.Lawful.{IsLawful}
 use Rattle.vidi_io.specs.Cause.{Rose}
 use Rattle.vidi_recorder.specs.declared.error.Outcome.{Outcome}
 use Rattle.vidi_recorder.specs.declared.error.Outcome.TheVariants.{Whole, Unstable}

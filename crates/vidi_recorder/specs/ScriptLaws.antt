@@ -3,7 +3,7 @@ use Rattle.std.specs.Prelude.{◌≡◌, ℕ, ◌≤◌, List, Option, None, Som
 use Rattle.trace_code.specs.trace_model.declared.channel.Channel.{Channel}
 use Rattle.trace_code.specs.trace_model.declared.row.Row.{Row}
 use Rattle.trace_code.specs.trace_model.Channel.{IsTable}
-use Rattle.chan_monitor.specs.net_design.declared.design.Design.{Design}
+use Rattle.net_design.specs.declared.design.Design.{Design}
 use Rattle.env_script.specs.chan_map.declared.pins.Map.{Map}
 use Rattle.env_script.specs.run_model.Laws.{IsReady, OneOfLength, OneThatEnds}
 use Rattle.room_ledger.specs.Laws.{EverythingDrains}

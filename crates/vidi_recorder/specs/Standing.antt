@@ -8,8 +8,8 @@ use Rattle.trace_code.specs.trace_model.declared.row.Row.{Row}
 use Rattle.trace_code.specs.trace_model.Recording.{packets_of}
 use Rattle.trace_code.specs.trace_model.Row.{all_widths, row_before, IsOver}
 use Rattle.trace_code.specs.Encoding.{header_bytes, row_bytes}
-use Rattle.chan_monitor.specs.net_design.declared.design.Design.{Design}
-use Rattle.chan_monitor.specs.net_design.declared.values.Values.{Values}
+use Rattle.net_design.specs.declared.design.Design.{Design}
+use Rattle.net_design.specs.declared.values.Values.{Values}
 use Rattle.chan_monitor.specs.Shell.{HasPlaces}
 use Rattle.room_ledger.specs.Gates.{Plan}
 use Rattle.room_ledger.specs.Laws.{StandsAfter}

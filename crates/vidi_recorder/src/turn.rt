@@ -4,7 +4,7 @@ ghost use Rattle.std.specs.Prelude.{◌≡◌, ◌<◌, ◌++◌, ◌∷◌, [],
 ghost use Rattle.trace_code.specs.trace_model.declared.packet.TheConstants.{LONGEST_PACKET};
 ghost use Rattle.trace_code.specs.trace_model.declared.row.Row.{Row as OneRow};
 ghost use Rattle.trace_code.specs.trace_model.Channel.{IsTable};
-ghost use Rattle.chan_monitor.specs.net_design.declared.design.Design.{Design};
+ghost use Rattle.net_design.specs.declared.design.Design.{Design};
 ghost use Rattle.env_script.specs.run_model.Played.{AreStable, StopsBefore};
 ghost use Rattle.vidi_io.specs.Cause.{HasCause};
 ghost use Rattle.vidi_io.specs.Sink.{Frame};

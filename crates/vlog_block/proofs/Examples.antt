@@ -1,15 +1,15 @@
 -- What statements change, computed on examples.
 use Rattle.std.proofs.Common.{◌≡◌, ℕ, true, List, [], ◌∷◌, None, refl}
-use Rattle.vlog_size.specs.vlog_tree.declared.expr.NumberKind.TheVariants.{Decimal}
-use Rattle.vlog_size.specs.vlog_tree.declared.stmt.AssignOp.TheVariants as sign
-use Rattle.vlog_size.specs.vlog_tree.Tree.{ExprOf, UnaryExpr, NumberPrim, RefPrim, RefOf, RefWith, NoIndex, LastOf, NoLast, Last, IndexSel, PartSel}
-use Rattle.vlog_size.specs.vlog_tree.Tree.{TargetOf, RefTarget, ConcatTarget, targets_of, StmtOf, AssignStmt, stmts_of}
+use Rattle.vlog_tree.specs.declared.expr.NumberKind.TheVariants.{Decimal}
+use Rattle.vlog_tree.specs.declared.stmt.AssignOp.TheVariants as sign
+use Rattle.vlog_tree.specs.Tree.{ExprOf, UnaryExpr, NumberPrim, RefPrim, RefOf, RefWith, NoIndex, LastOf, NoLast, Last, IndexSel, PartSel}
+use Rattle.vlog_tree.specs.Tree.{TargetOf, RefTarget, ConcatTarget, targets_of, StmtOf, AssignStmt, stmts_of}
 use Rattle.vlog_size.specs.Names.{Readable}
 use Rattle.vlog_size.specs.Size.{number}
-use Rattle.net_code.specs.net_design.declared.act.Timing.TheVariants.{Blocking, Nonblocking}
-use Rattle.net_code.specs.net_design.declared.values.Values.{Values}
-use Rattle.net_code.specs.net_design.declared.values.Target.TheVariants.{Net}
-use Rattle.net_code.specs.net_design.Updates.{apply, update}
+use Rattle.net_design.specs.declared.act.Timing.TheVariants.{Blocking, Nonblocking}
+use Rattle.net_design.specs.declared.values.Values.{Values}
+use Rattle.net_design.specs.declared.values.Target.TheVariants.{Net}
+use Rattle.net_design.specs.Updates.{apply, update}
 use Rattle.vlog_block.specs.Updates.{stmt_updates, stmts_updates}
 
 -- the nets a, b and x of 4, 4 and 8 bits, and their numbers

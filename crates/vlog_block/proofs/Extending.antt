@@ -6,19 +6,19 @@ use Rattle.std.proofs.lemmas.List.{append-nil}
 use Rattle.std.proofs.lemmas.List.Folds.{list_any-append}
 use Rattle.std.proofs.Math.Bool.{or_assoc}
 use Rattle.vlog_size.proofs.vidi_bits_lemmas.Bools.{or_none}
-use Rattle.net_code.specs.net_design.declared.act.Act.{Act}
-use Rattle.net_code.specs.net_design.declared.act.Act.TheVariants.{Branch}
-use Rattle.net_code.specs.net_design.declared.act.Guard.{Guard}
-use Rattle.net_code.specs.net_design.declared.act.Timing.{Timing}
-use Rattle.net_code.specs.net_design.declared.act.Timing.TheVariants.{Blocking, Nonblocking}
-use Rattle.net_code.specs.net_design.declared.values.Values.{Values}
-use Rattle.net_code.specs.net_design.declared.values.Update.{Update}
-use Rattle.net_code.specs.net_design.Updates as code
-use Rattle.net_code.specs.net_design.Bits as bits
-use Rattle.net_code.specs.net_design.Bits.{BitSet, no_bits, known_after}
-use Rattle.net_code.specs.net_design.Sized.{IsSizedAct, IsSizedBlock, AreSizedGuards, IsShort, IsCountable}
-use Rattle.net_code.proofs.net_design_lemmas.UpdateLaws.{apply_both, two_blocks}
-use Rattle.net_code.proofs.net_design_lemmas.Rows.{updates_branch, branch_sized}
+use Rattle.net_design.specs.declared.act.Act.{Act}
+use Rattle.net_design.specs.declared.act.Act.TheVariants.{Branch}
+use Rattle.net_design.specs.declared.act.Guard.{Guard}
+use Rattle.net_design.specs.declared.act.Timing.{Timing}
+use Rattle.net_design.specs.declared.act.Timing.TheVariants.{Blocking, Nonblocking}
+use Rattle.net_design.specs.declared.values.Values.{Values}
+use Rattle.net_design.specs.declared.values.Update.{Update}
+use Rattle.net_design.specs.Updates as code
+use Rattle.net_design.specs.Bits as bits
+use Rattle.net_design.specs.Bits.{BitSet, no_bits, known_after}
+use Rattle.net_design.specs.Sized.{IsSizedAct, IsSizedBlock, AreSizedGuards, IsShort, IsCountable}
+use Rattle.net_design.proofs.UpdateLaws.{apply_both, two_blocks}
+use Rattle.net_design.proofs.Rows.{updates_branch, branch_sized}
 use Rattle.net_code.proofs.RowBits.{branch_writes, branch_adds, branch_open}
 use Rattle.net_code.specs.Targets.{targets, block_targets}
 use Rattle.net_code.proofs.TargetRows.{branch_targets}

@@ -6,13 +6,13 @@ use Rattle.std.proofs.Math.Nat.{mul-zero, zero-mul, one-mul, mul-le-mul_right, l
 use Rattle.std.proofs.lemmas.Bool.{not-false}
 use Rattle.vlog_size.proofs.vidi_bits_lemmas.FindingLaws.{told_none}
 use Rattle.vlog_size.proofs.vidi_bits_lemmas.Lists.{nil_left, nil_right}
-use Rattle.vlog_size.specs.vlog_tree.Tree.{ExprOf, UnaryExpr, BinaryExpr, ChoiceExpr, ExprsOf, NoExprs, MoreExprs}
-use Rattle.vlog_size.specs.vlog_tree.Tree.{PrimOf, NumberPrim, RefPrim, ParenPrim, ConcatPrim, RepeatPrim, RefOf, RefWith, IndexOf}
-use Rattle.vlog_size.specs.vlog_tree.Tree.{NoIndex, Index}
-use Rattle.vlog_size.specs.vlog_tree.Tree.{LastOf, NoLast, Last, SelOf, IndexSel, PartSel, IndexedSel}
+use Rattle.vlog_tree.specs.Tree.{ExprOf, UnaryExpr, BinaryExpr, ChoiceExpr, ExprsOf, NoExprs, MoreExprs}
+use Rattle.vlog_tree.specs.Tree.{PrimOf, NumberPrim, RefPrim, ParenPrim, ConcatPrim, RepeatPrim, RefOf, RefWith, IndexOf}
+use Rattle.vlog_tree.specs.Tree.{NoIndex, Index}
+use Rattle.vlog_tree.specs.Tree.{LastOf, NoLast, Last, SelOf, IndexSel, PartSel, IndexedSel}
 use Rattle.vlog_size.specs.vidi_bits.Findings.{told_if, or_first}
 use Rattle.vlog_size.specs.vidi_bits.Number.{IsWidth}
-use Rattle.vlog_size.specs.vlog_tree.Tree.{TargetOf, RefTarget, ConcatTarget, TargetsOf, NoTargets, MoreTargets}
+use Rattle.vlog_tree.specs.Tree.{TargetOf, RefTarget, ConcatTarget, TargetsOf, NoTargets, MoreTargets}
 use Rattle.vlog_size.specs.declared.error.SizeError.{SizeError}
 use Rattle.vlog_size.specs.declared.error.SizeError.TheVariants as error
 use Rattle.vlog_size.specs.declared.scope.Param.{Param}

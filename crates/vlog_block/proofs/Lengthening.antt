@@ -2,17 +2,17 @@
 use Rattle.std.proofs.Common.{◌≡◌, ℕ, ◌==◌, ◌&&◌, ◌||◌, not, Bool, true, false, List, [], ◌∷◌, ◌++◌, if◌then◌else◌, refl, ap, sym, ◌∙◌}
 use Rattle.std.specs.List.{list_any}
 use Rattle.std.proofs.lemmas.List.Folds.{list_any-append}
-use Rattle.vlog_size.specs.vlog_tree.Tree.{ExprOf, ArmOf, LabelsArm, ArmsOf, MoreArms, BodyOf}
+use Rattle.vlog_tree.specs.Tree.{ExprOf, ArmOf, LabelsArm, ArmsOf, MoreArms, BodyOf}
 use Rattle.vlog_size.specs.Names.{Readable}
-use Rattle.net_code.specs.net_design.declared.act.Guard.{Guard}
-use Rattle.net_code.specs.net_design.declared.act.Timing.{Timing}
-use Rattle.net_code.specs.net_design.declared.values.Values.{Values}
-use Rattle.net_code.specs.net_design.declared.values.Update.{Update}
-use Rattle.net_code.specs.net_design.Updates as code
-use Rattle.net_code.specs.net_design.Value as values
-use Rattle.net_code.specs.net_design.Bits as bits
-use Rattle.net_code.specs.net_design.Bits.{BitSet}
-use Rattle.net_code.specs.net_design.Sized.{IsSizedRhs, IsSizedBlock, AreSizedGuards}
+use Rattle.net_design.specs.declared.act.Guard.{Guard}
+use Rattle.net_design.specs.declared.act.Timing.{Timing}
+use Rattle.net_design.specs.declared.values.Values.{Values}
+use Rattle.net_design.specs.declared.values.Update.{Update}
+use Rattle.net_design.specs.Updates as code
+use Rattle.net_design.specs.Value as values
+use Rattle.net_design.specs.Bits as bits
+use Rattle.net_design.specs.Bits.{BitSet}
+use Rattle.net_design.specs.Sized.{IsSizedRhs, IsSizedBlock, AreSizedGuards}
 use Rattle.net_code.specs.Found.{guard_writes, guard_adds, guard_reads}
 use Rattle.vlog_block.specs.Value.{value}
 use Rattle.vlog_block.specs.Bits.{reads}

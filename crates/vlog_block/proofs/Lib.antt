@@ -10,4 +10,3 @@ pub mod Lengthening
 pub mod Statements
 mod Examples
 pub mod Labels
-pub use Rattle.net_code.proofs.net_design_lemmas as net_design_lemmas

@@ -4,9 +4,9 @@ use Rattle.std.proofs.lemmas.List.Sums.{sum_by-append, sum_by-cons}
 use Rattle.std.specs.List.{count_by, flat_map}
 use Rattle.std.proofs.lemmas.Grind.{flat_map-append}
 use Rattle.vlog_size.specs.vidi_bits.Number.{truth}
-use Rattle.net_code.specs.net_design.declared.act.Act.{Act}
-use Rattle.net_code.specs.net_design.declared.act.Guard.{Guard}
-use Rattle.net_code.specs.net_design.declared.act.Place.{Place}
+use Rattle.net_design.specs.declared.act.Act.{Act}
+use Rattle.net_design.specs.declared.act.Guard.{Guard}
+use Rattle.net_design.specs.declared.act.Place.{Place}
 use Rattle.net_code.specs.Targets.{targets, block_targets, guard_targets}
 use Rattle.vlog_block.specs.Naming.{place_name, place_names, code_names, guard_names}
 

@@ -8,12 +8,12 @@ use Rattle.std.proofs.lemmas.List.{append-nil}
 use Rattle.std.proofs.lemmas.List.Sums.{sum_by-cons}
 use Rattle.std.proofs.lemmas.List.Folds.{list_any-append}
 use Rattle.std.proofs.Math.Bool.{or-false}
-use Rattle.vlog_size.specs.vlog_tree.Tree.{TargetOf, TargetsOf, MoreTargets}
+use Rattle.vlog_tree.specs.Tree.{TargetOf, TargetsOf, MoreTargets}
 use Rattle.vlog_size.specs.Names.{Readable}
 use Rattle.vlog_size.specs.Size.{Sizes, sizes_of_target, sizes_of_targets}
-use Rattle.net_code.specs.net_design.declared.act.Place.{Place}
-use Rattle.net_code.specs.net_design.declared.values.Values.{Values}
-use Rattle.net_code.specs.net_design.Updates as places
+use Rattle.net_design.specs.declared.act.Place.{Place}
+use Rattle.net_design.specs.declared.values.Values.{Values}
+use Rattle.net_design.specs.Updates as places
 use Rattle.vlog_block.specs.Targets.{target_width, targets_width, target_updates, targets_updates}
 
 -- the bits of a number from bit a + b on

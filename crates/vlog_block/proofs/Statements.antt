@@ -5,29 +5,29 @@ use Rattle.std.proofs.Common.{drop, if◌then◌else◌, refl, ap, sym, subst, �
 use Rattle.std.specs.List.{list_any, AllByRecursion}
 use Rattle.std.proofs.lemmas.List.{drop_all}
 use Rattle.vlog_size.specs.vidi_bits.Number.{IsWidth}
-use Rattle.vlog_size.specs.vlog_tree.declared.expr.Expr.{Expr}
-use Rattle.vlog_size.specs.vlog_tree.declared.stmt.Stmt.{Stmt}
-use Rattle.vlog_size.specs.vlog_tree.declared.stmt.Arm.{Arm}
-use Rattle.vlog_size.specs.vlog_tree.Plain.{plain_expr, plain_stmt, plain_stmts, plain_arm, plain_arms}
-use Rattle.vlog_size.specs.vlog_tree.Tree.{ExprOf, IfStmt, CaseStmt, BodyOf, StmtBody, EmptyBody, ElseOf, NoElse, Else, StmtOf}
-use Rattle.vlog_size.specs.vlog_tree.Tree.{ArmOf, LabelsArm, DefaultArm, ArmsOf, NoArms}
-use Rattle.vlog_size.specs.vlog_tree.Tree.{MoreArms, AssignStmt, TargetOf}
-use Rattle.vlog_size.specs.vlog_tree.declared.stmt.AssignOp.{AssignOp}
+use Rattle.vlog_tree.specs.declared.expr.Expr.{Expr}
+use Rattle.vlog_tree.specs.declared.stmt.Stmt.{Stmt}
+use Rattle.vlog_tree.specs.declared.stmt.Arm.{Arm}
+use Rattle.vlog_tree.specs.Plain.{plain_expr, plain_stmt, plain_stmts, plain_arm, plain_arms}
+use Rattle.vlog_tree.specs.Tree.{ExprOf, IfStmt, CaseStmt, BodyOf, StmtBody, EmptyBody, ElseOf, NoElse, Else, StmtOf}
+use Rattle.vlog_tree.specs.Tree.{ArmOf, LabelsArm, DefaultArm, ArmsOf, NoArms}
+use Rattle.vlog_tree.specs.Tree.{MoreArms, AssignStmt, TargetOf}
+use Rattle.vlog_tree.specs.declared.stmt.AssignOp.{AssignOp}
 use Rattle.vlog_size.specs.Names.{Readable}
 use Rattle.vlog_size.specs.declared.scope.Scope.{Scope}
-use Rattle.net_code.specs.net_design.declared.act.Act.{Act}
-use Rattle.net_code.specs.net_design.declared.act.Act.TheVariants.{Set, Read}
-use Rattle.net_code.specs.net_design.declared.act.Place.{Place}
-use Rattle.net_code.specs.net_design.declared.act.Guard.{Guard}
-use Rattle.net_code.specs.net_design.declared.act.Timing.{Timing}
-use Rattle.net_code.specs.net_design.declared.rhs.Rhs.{Rhs}
-use Rattle.net_code.specs.net_design.declared.values.Values.{Values}
-use Rattle.net_code.specs.net_design.Value as values
-use Rattle.net_code.specs.net_design.Updates as code
-use Rattle.net_code.specs.net_design.Bits as bits
-use Rattle.net_code.specs.net_design.Bits.{BitSet, no_bits, known_after}
-use Rattle.net_code.proofs.net_design_lemmas.UpdateLaws.{from_here}
-use Rattle.net_code.specs.net_design.Sized.{IsSizedRhs, IsSizedBlock, AreSizedGuards}
+use Rattle.net_design.specs.declared.act.Act.{Act}
+use Rattle.net_design.specs.declared.act.Act.TheVariants.{Set, Read}
+use Rattle.net_design.specs.declared.act.Place.{Place}
+use Rattle.net_design.specs.declared.act.Guard.{Guard}
+use Rattle.net_design.specs.declared.act.Timing.{Timing}
+use Rattle.net_design.specs.declared.rhs.Rhs.{Rhs}
+use Rattle.net_design.specs.declared.values.Values.{Values}
+use Rattle.net_design.specs.Value as values
+use Rattle.net_design.specs.Updates as code
+use Rattle.net_design.specs.Bits as bits
+use Rattle.net_design.specs.Bits.{BitSet, no_bits, known_after}
+use Rattle.net_design.proofs.UpdateLaws.{from_here}
+use Rattle.net_design.specs.Sized.{IsSizedRhs, IsSizedBlock, AreSizedGuards}
 use Rattle.net_code.specs.Found.{guard_writes, guard_adds, guard_reads}
 use Rattle.vlog_block.specs.Sources.{names_of}
 use Rattle.vlog_block.specs.Value.{value, width_of}
@@ -39,7 +39,7 @@ use Rattle.vlog_block.specs.Written.{body_writes, default_writes, arms_write, bo
 use Rattle.vlog_block.specs.Written.{body_open, default_open, arms_open, labels_read, target_reads, target_writes, target_adds}
 use Rattle.std.proofs.lemmas.List.{append-nil}
 use Rattle.std.proofs.Math.Bool.{or_assoc}
-use Rattle.net_code.proofs.net_design_lemmas.Rows.{choice}
+use Rattle.net_design.proofs.Rows.{choice}
 use Rattle.vlog_size.proofs.vidi_bits_lemmas.Bools.{or_none, and_true}
 use Rattle.net_code.specs.Targets.{block_targets, guard_targets}
 use Rattle.vlog_block.specs.Naming.{place_names, code_names, guard_names, target_names, body_names, default_names, arms_names}

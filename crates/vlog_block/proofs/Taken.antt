@@ -1,6 +1,6 @@
 -- A name with its brackets takes as many bits of the number as it is wide.
 use Rattle.std.proofs.Common.{◌≡◌, ℕ, ◌+◌, ◌-◌, ◌≤◌, Option, None, Some, option_map, List, refl, arith}
-use Rattle.vlog_size.specs.vlog_tree.Tree.{RefWith, IdentOf, IndexOf, NoIndex, Index, LastOf, NoLast, Last, IndexSel, PartSel, IndexedSel, RefTarget}
+use Rattle.vlog_tree.specs.Tree.{RefWith, IdentOf, IndexOf, NoIndex, Index, LastOf, NoLast, Last, IndexSel, PartSel, IndexedSel, RefTarget}
 use Rattle.vlog_size.specs.vidi_bits.Findings.{or_first}
 use Rattle.vlog_size.specs.vidi_bits.Number.{IsWidth}
 use Rattle.vlog_size.specs.declared.scope.Param.{Param}

@@ -1,14 +1,14 @@
 -- The bits of nets that an expression reads (this project's profile): a select of a net at a constant place reads its bits that are in
 -- range, any other the whole net, and what its place reads. Words of memories are no bits of nets, and a constant index reads nothing.
 use Rattle.std.specs.Prelude.{ℕ, ◌+◌, Bool, ◌&&◌, ◌||◌, not, false, nat_le, nat_lt, Option, None, Some}
-use Rattle.vlog_size.specs.vlog_tree.Tree.{ExprOf, UnaryExpr, BinaryExpr, ChoiceExpr, ExprsOf, NoExprs, MoreExprs}
-use Rattle.vlog_size.specs.vlog_tree.Tree.{PrimOf, NumberPrim, RefPrim, ParenPrim, ConcatPrim, RepeatPrim, RefOf, RefWith, IndexOf}
-use Rattle.vlog_size.specs.vlog_tree.Tree.{NoIndex, Index}
-use Rattle.vlog_size.specs.vlog_tree.Tree.{LastOf, NoLast, Last, IndexSel, PartSel, IndexedSel}
+use Rattle.vlog_tree.specs.Tree.{ExprOf, UnaryExpr, BinaryExpr, ChoiceExpr, ExprsOf, NoExprs, MoreExprs}
+use Rattle.vlog_tree.specs.Tree.{PrimOf, NumberPrim, RefPrim, ParenPrim, ConcatPrim, RepeatPrim, RefOf, RefWith, IndexOf}
+use Rattle.vlog_tree.specs.Tree.{NoIndex, Index}
+use Rattle.vlog_tree.specs.Tree.{LastOf, NoLast, Last, IndexSel, PartSel, IndexedSel}
 use Rattle.vlog_size.specs.Names.{Readable}
 use Rattle.vlog_size.specs.Size.{sizes_of}
-use Rattle.net_code.specs.net_design.declared.rhs.Span.{Span}
-use Rattle.net_code.specs.net_design.Bits.{BitSet, bits_of}
+use Rattle.net_design.specs.declared.rhs.Span.{Span}
+use Rattle.net_design.specs.Bits.{BitSet, bits_of}
 use Rattle.vlog_block.specs.declared.source.Source.{Source}
 use Rattle.vlog_block.specs.declared.source.Source.TheVariants.{Net, Memory}
 use Rattle.vlog_block.specs.Sources.{source_of}

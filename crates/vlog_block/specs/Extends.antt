@@ -1,16 +1,16 @@
 -- Statements and guards of code to which others were added, with what these do (clauses of private functions).
 use Rattle.std.specs.Prelude.{◌≡◌, ℕ, ◌≤◌, Bool, ◌&&◌, ◌||◌, not, true, false, List, [], ◌∷◌, ◌++◌, if◌then◌else◌}
 use Rattle.std.specs.List.{AllByRecursion}
-use Rattle.vlog_size.specs.vlog_tree.Tree.{ExprOf, StmtOf, StmtsOf, ArmOf, LabelsArm, DefaultArm, ArmsOf, NoArms, MoreArms, BodyOf, ElseOf}
+use Rattle.vlog_tree.specs.Tree.{ExprOf, StmtOf, StmtsOf, ArmOf, LabelsArm, DefaultArm, ArmsOf, NoArms, MoreArms, BodyOf, ElseOf}
 use Rattle.vlog_size.specs.Names.{Readable}
-use Rattle.net_code.specs.net_design.declared.act.Act.{Act}
-use Rattle.net_code.specs.net_design.declared.act.Guard.{Guard}
-use Rattle.net_code.specs.net_design.declared.act.Timing.{Timing}
-use Rattle.net_code.specs.net_design.declared.values.Values.{Values}
-use Rattle.net_code.specs.net_design.declared.values.Update.{Update}
-use Rattle.net_code.specs.net_design.Updates.{seen, block_updates, guard_updates}
-use Rattle.net_code.specs.net_design.Bits.{BitSet, no_bits, known_after, block_writes, block_adds, block_open_reads}
-use Rattle.net_code.specs.net_design.Sized.{IsSizedBlock, AreSizedGuards}
+use Rattle.net_design.specs.declared.act.Act.{Act}
+use Rattle.net_design.specs.declared.act.Guard.{Guard}
+use Rattle.net_design.specs.declared.act.Timing.{Timing}
+use Rattle.net_design.specs.declared.values.Values.{Values}
+use Rattle.net_design.specs.declared.values.Update.{Update}
+use Rattle.net_design.specs.Updates.{seen, block_updates, guard_updates}
+use Rattle.net_design.specs.Bits.{BitSet, no_bits, known_after, block_writes, block_adds, block_open_reads}
+use Rattle.net_design.specs.Sized.{IsSizedBlock, AreSizedGuards}
 use Rattle.net_code.specs.Found.{guard_writes, guard_adds, guard_reads}
 use Rattle.vlog_block.specs.Value.{value, width_of}
 use Rattle.vlog_block.specs.Bits.{reads}

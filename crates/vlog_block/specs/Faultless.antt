@@ -1,8 +1,8 @@
 -- Statements in whose expressions and targets nothing is found (this project's profile: no E4, E5 or E6).
 use Rattle.std.specs.Prelude.{◌≡◌, ℕ, []}
 use Rattle.std.specs.List.{AllByRecursion}
-use Rattle.vlog_size.specs.vlog_tree.Tree.{ExprOf, TargetOf, StmtOf, BeginStmt, IfStmt, CaseStmt, AssignStmt, StmtsOf, NoStmts, MoreStmts}
-use Rattle.vlog_size.specs.vlog_tree.Tree.{ArmOf, LabelsArm, DefaultArm, ArmsOf, NoArms, MoreArms, BodyOf, StmtBody, EmptyBody, ElseOf, NoElse, Else}
+use Rattle.vlog_tree.specs.Tree.{ExprOf, TargetOf, StmtOf, BeginStmt, IfStmt, CaseStmt, AssignStmt, StmtsOf, NoStmts, MoreStmts}
+use Rattle.vlog_tree.specs.Tree.{ArmOf, LabelsArm, DefaultArm, ArmsOf, NoArms, MoreArms, BodyOf, StmtBody, EmptyBody, ElseOf, NoElse, Else}
 use Rattle.vlog_size.specs.Names.{Readable}
 use Rattle.vlog_size.specs.Size.{sizes_of, sizes_of_target, faults}
 

@@ -1,10 +1,10 @@
 -- Expressions and targets whose parts have lawful widths, 1 to 128 bits.
 use Rattle.std.specs.Prelude.{ℕ, ◌≤◌, ◌*◌, None, Some}
-use Rattle.vlog_size.specs.vlog_tree.Tree.{ExprOf, UnaryExpr, BinaryExpr, ChoiceExpr, ExprsOf, NoExprs, MoreExprs}
-use Rattle.vlog_size.specs.vlog_tree.Tree.{PrimOf, NumberPrim, RefPrim, ParenPrim, ConcatPrim, RepeatPrim, RefOf, RefWith, IndexOf}
-use Rattle.vlog_size.specs.vlog_tree.Tree.{NoIndex, Index}
-use Rattle.vlog_size.specs.vlog_tree.Tree.{LastOf, NoLast, Last, SelOf, IndexSel, PartSel, IndexedSel}
-use Rattle.vlog_size.specs.vlog_tree.Tree.{TargetOf, RefTarget, ConcatTarget, TargetsOf, NoTargets, MoreTargets}
+use Rattle.vlog_tree.specs.Tree.{ExprOf, UnaryExpr, BinaryExpr, ChoiceExpr, ExprsOf, NoExprs, MoreExprs}
+use Rattle.vlog_tree.specs.Tree.{PrimOf, NumberPrim, RefPrim, ParenPrim, ConcatPrim, RepeatPrim, RefOf, RefWith, IndexOf}
+use Rattle.vlog_tree.specs.Tree.{NoIndex, Index}
+use Rattle.vlog_tree.specs.Tree.{LastOf, NoLast, Last, SelOf, IndexSel, PartSel, IndexedSel}
+use Rattle.vlog_tree.specs.Tree.{TargetOf, RefTarget, ConcatTarget, TargetsOf, NoTargets, MoreTargets}
 use Rattle.vlog_size.specs.Names.{Readable}
 use Rattle.vlog_size.specs.Size.{sizes_of_all, total_width}
 use Rattle.vlog_size.specs.vidi_bits.Number.{IsWidth}

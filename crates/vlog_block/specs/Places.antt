@@ -1,6 +1,6 @@
 -- The places of selects that are constants.
 use Rattle.std.specs.Prelude.{ℕ, if◌then◌else◌, Option, None, Some}
-use Rattle.vlog_size.specs.vlog_tree.Tree.{ExprOf, SelOf, IndexSel, PartSel, IndexedSel}
+use Rattle.vlog_tree.specs.Tree.{ExprOf, SelOf, IndexSel, PartSel, IndexedSel}
 use Rattle.vlog_size.specs.Names.{Readable}
 use Rattle.vlog_size.specs.Size.{sizes_of, number, or_zero}
 use Rattle.vlog_block.specs.Value.{bound}

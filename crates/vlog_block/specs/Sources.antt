@@ -8,7 +8,7 @@ use Rattle.vlog_size.specs.declared.scope.Scope.{Scope}
 use Rattle.vlog_size.specs.Table.{Named, value_of, place_of}
 use Rattle.vlog_size.specs.Names.{Readable, readable_of, checked}
 use Rattle.vlog_size.specs.Size.{or_zero}
-use Rattle.net_code.specs.net_design.Sized.{IsCountable}
+use Rattle.net_design.specs.Sized.{IsCountable}
 use Rattle.vlog_block.specs.declared.source.Source.{Source}
 use Rattle.vlog_block.specs.declared.source.Source.TheVariants.{Constant, Net, Memory, Nothing}
 

@@ -1,16 +1,16 @@
 -- *Targets*: what an assignment to a target of the trees changes (IEEE 1364-2005, 5.2 and 9.2; this project's profile), as a list of
 -- updates from the target's first part to its last. v has the numbers at which indexes are read.
 use Rattle.std.specs.Prelude.{ℕ, ◌/◌, ◌^◌, List, [], ◌++◌, Option, None, Some}
-use Rattle.vlog_size.specs.vlog_tree.Tree.{RefOf, RefWith, IndexOf, NoIndex, Index, LastOf, NoLast, Last, IndexSel}
-use Rattle.vlog_size.specs.vlog_tree.Tree.{TargetOf, RefTarget, ConcatTarget, TargetsOf, NoTargets, MoreTargets}
+use Rattle.vlog_tree.specs.Tree.{RefOf, RefWith, IndexOf, NoIndex, Index, LastOf, NoLast, Last, IndexSel}
+use Rattle.vlog_tree.specs.Tree.{TargetOf, RefTarget, ConcatTarget, TargetsOf, NoTargets, MoreTargets}
 use Rattle.vlog_size.specs.Names.{Readable}
 use Rattle.vlog_size.specs.Size.{sizes_of_target, sizes_of_targets, total_width, const_width}
-use Rattle.net_code.specs.net_design.declared.rhs.Room.{Room}
-use Rattle.net_code.specs.net_design.declared.values.Values.{Values}
-use Rattle.net_code.specs.net_design.declared.values.Target as design
-use Rattle.net_code.specs.net_design.declared.values.Target.TheVariants as designs
-use Rattle.net_code.specs.net_design.declared.values.Update.{Update}
-use Rattle.net_code.specs.net_design.Updates.{part_updates, word_updates}
+use Rattle.net_design.specs.declared.rhs.Room.{Room}
+use Rattle.net_design.specs.declared.values.Values.{Values}
+use Rattle.net_design.specs.declared.values.Target as design
+use Rattle.net_design.specs.declared.values.Target.TheVariants as designs
+use Rattle.net_design.specs.declared.values.Update.{Update}
+use Rattle.net_design.specs.Updates.{part_updates, word_updates}
 use Rattle.vlog_block.specs.declared.source.Source.{Source}
 use Rattle.vlog_block.specs.declared.source.Source.TheVariants.{Constant, Net, Memory, Nothing}
 use Rattle.vlog_block.specs.Sources.{source_of}

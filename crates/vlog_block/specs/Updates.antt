@@ -2,15 +2,15 @@
 -- 9.4 conditions, 9.5 cases, 9.8 blocks; this project's profile). v has the numbers of the scope's nets and words.
 use Rattle.std.specs.Prelude.{ℕ, max, ◌==◌, Bool, List, [], ◌∷◌, ◌++◌, if◌then◌else◌}
 use Rattle.std.specs.List.{list_any}
-use Rattle.vlog_size.specs.vlog_tree.Tree.{ExprOf, TargetOf, StmtOf, BeginStmt, IfStmt, CaseStmt, AssignStmt, StmtsOf, NoStmts, MoreStmts}
-use Rattle.vlog_size.specs.vlog_tree.Tree.{ArmOf, LabelsArm, DefaultArm, ArmsOf, NoArms, MoreArms, BodyOf, StmtBody, EmptyBody, ElseOf, NoElse, Else}
-use Rattle.vlog_size.specs.vlog_tree.Tree.{EventOf, PosedgeEvent, ImplicitEvent, AlwaysOf}
+use Rattle.vlog_tree.specs.Tree.{ExprOf, TargetOf, StmtOf, BeginStmt, IfStmt, CaseStmt, AssignStmt, StmtsOf, NoStmts, MoreStmts}
+use Rattle.vlog_tree.specs.Tree.{ArmOf, LabelsArm, DefaultArm, ArmsOf, NoArms, MoreArms, BodyOf, StmtBody, EmptyBody, ElseOf, NoElse, Else}
+use Rattle.vlog_tree.specs.Tree.{EventOf, PosedgeEvent, ImplicitEvent, AlwaysOf}
 use Rattle.vlog_size.specs.Names.{Readable}
-use Rattle.net_code.specs.net_design.declared.act.Timing.{Timing}
-use Rattle.net_code.specs.net_design.declared.act.Timing.TheVariants.{Blocking, Nonblocking}
-use Rattle.net_code.specs.net_design.declared.values.Values.{Values}
-use Rattle.net_code.specs.net_design.declared.values.Update.{Update}
-use Rattle.net_code.specs.net_design.Updates.{seen}
+use Rattle.net_design.specs.declared.act.Timing.{Timing}
+use Rattle.net_design.specs.declared.act.Timing.TheVariants.{Blocking, Nonblocking}
+use Rattle.net_design.specs.declared.values.Values.{Values}
+use Rattle.net_design.specs.declared.values.Update.{Update}
+use Rattle.net_design.specs.Updates.{seen}
 use Rattle.vlog_block.specs.Value.{value, width_of}
 use Rattle.vlog_block.specs.Targets.{target_width, target_updates}
 

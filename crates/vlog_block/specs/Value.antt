@@ -2,12 +2,12 @@
 -- everything is unsigned, there is neither x nor z, and a select out of range reads 0). v has the numbers of the scope's nets and of
 -- the words of its memories, by their places.
 use Rattle.std.specs.Prelude.{ℕ, ◌+◌, ◌-◌, max, ◌==◌, if◌then◌else◌, Option, None, Some}
-use Rattle.vlog_size.specs.vlog_tree.Tree.{ExprOf, UnaryExpr, BinaryExpr, ChoiceExpr, ExprsOf, NoExprs, MoreExprs}
-use Rattle.vlog_size.specs.vlog_tree.Tree.{PrimOf, NumberPrim, RefPrim, ParenPrim, ConcatPrim, RepeatPrim, RefOf, RefWith, IndexOf}
-use Rattle.vlog_size.specs.vlog_tree.Tree.{NoIndex, Index}
-use Rattle.vlog_size.specs.vlog_tree.Tree.{LastOf, NoLast, Last, SelOf, IndexSel, PartSel, IndexedSel}
-use Rattle.vlog_size.specs.vlog_tree.declared.expr.UnaryOp.{UnaryOp}
-use Rattle.vlog_size.specs.vlog_tree.declared.expr.BinaryOp.{BinaryOp}
+use Rattle.vlog_tree.specs.Tree.{ExprOf, UnaryExpr, BinaryExpr, ChoiceExpr, ExprsOf, NoExprs, MoreExprs}
+use Rattle.vlog_tree.specs.Tree.{PrimOf, NumberPrim, RefPrim, ParenPrim, ConcatPrim, RepeatPrim, RefOf, RefWith, IndexOf}
+use Rattle.vlog_tree.specs.Tree.{NoIndex, Index}
+use Rattle.vlog_tree.specs.Tree.{LastOf, NoLast, Last, SelOf, IndexSel, PartSel, IndexedSel}
+use Rattle.vlog_tree.specs.declared.expr.UnaryOp.{UnaryOp}
+use Rattle.vlog_tree.specs.declared.expr.BinaryOp.{BinaryOp}
 use Rattle.vlog_size.specs.declared.operators.Kind.{Kind}
 use Rattle.vlog_size.specs.declared.operators.Kind.TheVariants.{Sum, Comparison, Logic, Shift}
 use Rattle.vlog_size.specs.Names.{Readable, fixed}
@@ -15,9 +15,9 @@ use Rattle.vlog_size.specs.Literal.{literal_number}
 use Rattle.vlog_size.specs.Operators.{kind_of, is_wide, unary_value, binary_value}
 use Rattle.vlog_size.specs.Size.{sizes_of, sizes_of_all, sizes_of_prim, total_width, number, or_zero, const_number}
 use Rattle.vlog_size.specs.vidi_bits.Number.{part_of, side_by_side, repeated}
-use Rattle.net_code.specs.net_design.declared.rhs.Room.{Room}
-use Rattle.net_code.specs.net_design.declared.values.Values.{Values}
-use Rattle.net_code.specs.net_design.Value.{read, word_at}
+use Rattle.net_design.specs.declared.rhs.Room.{Room}
+use Rattle.net_design.specs.declared.values.Values.{Values}
+use Rattle.net_design.specs.Value.{read, word_at}
 use Rattle.vlog_block.specs.declared.source.Source.{Source}
 use Rattle.vlog_block.specs.declared.source.Source.TheVariants.{Constant, Net, Memory, Nothing}
 use Rattle.vlog_block.specs.Sources.{source_of}

@@ -3,15 +3,15 @@
 -- Words of memories are no bits of nets. An `if` without `else` and a `case` without `default` have an empty arm.
 use Rattle.std.specs.Prelude.{ℕ, Bool, ◌&&◌, ◌||◌, not, true, false, Option, None, Some}
 use Rattle.std.specs.List.{list_any}
-use Rattle.vlog_size.specs.vlog_tree.Tree.{RefWith, IndexOf, NoIndex, Index, LastOf, NoLast, Last}
-use Rattle.vlog_size.specs.vlog_tree.Tree.{ExprOf, TargetOf, RefTarget, ConcatTarget, TargetsOf, NoTargets, MoreTargets}
-use Rattle.vlog_size.specs.vlog_tree.Tree.{StmtOf, BeginStmt, IfStmt, CaseStmt, AssignStmt, StmtsOf, NoStmts, MoreStmts}
-use Rattle.vlog_size.specs.vlog_tree.Tree.{ArmOf, LabelsArm, DefaultArm, ArmsOf, NoArms, MoreArms, BodyOf, StmtBody, EmptyBody, ElseOf, NoElse, Else}
-use Rattle.vlog_size.specs.vlog_tree.Tree.{AlwaysOf}
+use Rattle.vlog_tree.specs.Tree.{RefWith, IndexOf, NoIndex, Index, LastOf, NoLast, Last}
+use Rattle.vlog_tree.specs.Tree.{ExprOf, TargetOf, RefTarget, ConcatTarget, TargetsOf, NoTargets, MoreTargets}
+use Rattle.vlog_tree.specs.Tree.{StmtOf, BeginStmt, IfStmt, CaseStmt, AssignStmt, StmtsOf, NoStmts, MoreStmts}
+use Rattle.vlog_tree.specs.Tree.{ArmOf, LabelsArm, DefaultArm, ArmsOf, NoArms, MoreArms, BodyOf, StmtBody, EmptyBody, ElseOf, NoElse, Else}
+use Rattle.vlog_tree.specs.Tree.{AlwaysOf}
 use Rattle.vlog_size.specs.Names.{Readable}
-use Rattle.net_code.specs.net_design.declared.rhs.Span.{Span}
-use Rattle.net_code.specs.net_design.declared.act.Timing.{Timing}
-use Rattle.net_code.specs.net_design.Bits.{BitSet, bits_of, no_bits, known_after}
+use Rattle.net_design.specs.declared.rhs.Span.{Span}
+use Rattle.net_design.specs.declared.act.Timing.{Timing}
+use Rattle.net_design.specs.Bits.{BitSet, bits_of, no_bits, known_after}
 use Rattle.vlog_block.specs.declared.source.Source.{Source}
 use Rattle.vlog_block.specs.declared.source.Source.TheVariants.{Net, Memory}
 use Rattle.vlog_block.specs.Sources.{source_of}

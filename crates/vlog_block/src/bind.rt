@@ -2,16 +2,16 @@
 
 ghost use Rattle.std.specs.Prelude.{◌≡◌, ℕ, ◌≤◌, ◌+◌, ◌-◌, ◌<◌, ◌^◌, ◌||◌, true, false, [], IfOk, IfSome, Some};
 ghost use Rattle.vlog_size.specs.vidi_bits.Number.{IsWidth, part_of, side_by_side};
-ghost use Rattle.vlog_size.specs.vlog_tree.Tree.{Last, Index};
-ghost use Rattle.vlog_size.specs.vlog_tree.Plain.{plain_expr, plain_prim, plain_unary, plain_ref, plain_sel, plain_index, plain_last, plain_exprs};
-ghost use Rattle.vlog_size.specs.vlog_tree.declared.expr.Ref.{back-Ref-index, back-Ref-sel};
+ghost use Rattle.vlog_tree.specs.Tree.{Last, Index};
+ghost use Rattle.vlog_tree.specs.Plain.{plain_expr, plain_prim, plain_unary, plain_ref, plain_sel, plain_index, plain_last, plain_exprs};
+ghost use Rattle.vlog_tree.specs.declared.expr.Ref.{back-Ref-index, back-Ref-sel};
 ghost use Rattle.vlog_size.specs.Names.{Readable};
 ghost use Rattle.vlog_size.specs.Operators.{kind_of, binary_value};
 ghost use Rattle.vlog_size.specs.Size.{sizes_of, faults, sizes_of_all, total_width};
-ghost use Rattle.net_code.specs.net_design.declared.values.Values.{Values};
-ghost use Rattle.net_code.specs.net_design.Value as code;
-ghost use Rattle.net_code.specs.net_design.Bits as bits;
-ghost use Rattle.net_code.specs.net_design.Sized.{IsSizedRhs, IsCountable};
+ghost use Rattle.net_design.specs.declared.values.Values.{Values};
+ghost use Rattle.net_design.specs.Value as code;
+ghost use Rattle.net_design.specs.Bits as bits;
+ghost use Rattle.net_design.specs.Sized.{IsSizedRhs, IsCountable};
 ghost use Rattle.vlog_block.specs.declared.source.Source.TheVariants.{Memory as MemorySource};
 ghost use Rattle.vlog_block.specs.Sources.{names_of, IsSource};
 ghost use Rattle.vlog_block.specs.Bits.{reads, prim_reads, parts_read, index_reads, last_reads, part_reads, source_reads};
@@ -27,17 +27,15 @@ use crate::makers::{
     unary_code, word_code,
 };
 use crate::source::{Source, source_of};
-use net_code::net_design::{Rhs, Room, Span};
+use net_design::{Rhs, Room, Span};
 use std::alloc::Global;
 use std::boxed::Box;
 use vlog_size::vidi_bits::Memory;
-use vlog_size::vlog_tree::{
-    BinaryOp, Expr, Operand, Ref, Sel, Unary, UnaryOp, see_concat, see_repeat,
-};
 use vlog_size::{
     Kind, Scope, checked, const_number, facts_of, fixed, is_wide, kind_of, literal_number,
     numbered, prim_facts, whole_view,
 };
+use vlog_tree::{BinaryOp, Expr, Operand, Ref, Sel, Unary, UnaryOp, see_concat, see_repeat};
 
 /// Whether the expression is a comparison, `&&` or `||`, which has 1 bit whatever its operands have.
 fn is_truth(e: &Expr) -> bool

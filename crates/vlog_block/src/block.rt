@@ -3,17 +3,17 @@
 ghost use Rattle.std.specs.Prelude.{◌≡◌, ℕ, ◌≤◌, ◌==◌, ◌||◌, not, [], IfOk, OnOk, map};
 ghost use Rattle.std.specs.List.{list_any, AllByRecursion};
 ghost use Rattle.vlog_size.specs.vidi_bits.Number.{IsWidth};
-ghost use Rattle.vlog_size.specs.vlog_tree.Plain.{plain_expr, plain_target, plain_stmt, plain_stmts, plain_body, plain_arm, plain_arms};
-ghost use Rattle.vlog_size.specs.vlog_tree.Plain.{plain_event, plain_always};
-ghost use Rattle.vlog_size.specs.vlog_tree.Tree.{AssignStmt, CaseStmt};
-ghost use Rattle.vlog_size.specs.vlog_tree.declared.stmt.AssignOp.{AssignOp};
-ghost use Rattle.net_code.specs.net_design.declared.act.Timing.{Timing};
-ghost use Rattle.net_code.specs.net_design.declared.values.Values.{Values};
-ghost use Rattle.net_code.specs.net_design.Value as code;
-ghost use Rattle.net_code.specs.net_design.Bits as bits;
-ghost use Rattle.net_code.specs.net_design.Updates.{block_updates};
-ghost use Rattle.net_code.specs.net_design.Bits.{BitSet, named, block_writes, block_adds, block_open_reads, HasBits};
-ghost use Rattle.net_code.specs.net_design.Sized.{IsSizedRhs, IsSizedBlock, AreSizedGuards};
+ghost use Rattle.vlog_tree.specs.Plain.{plain_expr, plain_target, plain_stmt, plain_stmts, plain_body, plain_arm, plain_arms};
+ghost use Rattle.vlog_tree.specs.Plain.{plain_event, plain_always};
+ghost use Rattle.vlog_tree.specs.Tree.{AssignStmt, CaseStmt};
+ghost use Rattle.vlog_tree.specs.declared.stmt.AssignOp.{AssignOp};
+ghost use Rattle.net_design.specs.declared.act.Timing.{Timing};
+ghost use Rattle.net_design.specs.declared.values.Values.{Values};
+ghost use Rattle.net_design.specs.Value as code;
+ghost use Rattle.net_design.specs.Bits as bits;
+ghost use Rattle.net_design.specs.Updates.{block_updates};
+ghost use Rattle.net_design.specs.Bits.{BitSet, named, block_writes, block_adds, block_open_reads, HasBits};
+ghost use Rattle.net_design.specs.Sized.{IsSizedRhs, IsSizedBlock, AreSizedGuards};
 ghost use Rattle.vlog_block.specs.Sources.{names_of};
 ghost use Rattle.vlog_block.specs.Value.{value, width_of};
 ghost use Rattle.vlog_block.specs.Bits.{reads};
@@ -31,12 +31,12 @@ use crate::bind::{bind_expr, boxed_expr, own_width};
 use crate::makers::{binary_code, number};
 use crate::target::{bind_target, target_width};
 use net_code::code_of;
-use net_code::net_design::{Act, Code, Guard, Rhs, Timing};
+use net_design::{Act, Code, Guard, Rhs, Timing};
 use std::alloc::Global;
 use std::boxed::Box;
 use vlog_size::Scope;
 use vlog_size::vidi_bits::{Items, Memory};
-use vlog_size::vlog_tree::{
+use vlog_tree::{
     Always, Arm, BinaryOp, Body, Event, Expr, MOST_NESTED, Stmt, Target, see_begin, see_case,
 };
 

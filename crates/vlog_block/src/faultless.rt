@@ -2,14 +2,14 @@
 
 ghost use Rattle.std.specs.Prelude.{◌≡◌, ◌↔◌, IsTrue, map};
 ghost use Rattle.std.specs.List.{AllByRecursion};
-ghost use Rattle.vlog_size.specs.vlog_tree.Plain.{plain_expr, plain_target, plain_stmt, plain_stmts, plain_body, plain_arm, plain_arms};
-ghost use Rattle.vlog_size.specs.vlog_tree.Plain.{plain_always};
+ghost use Rattle.vlog_tree.specs.Plain.{plain_expr, plain_target, plain_stmt, plain_stmts, plain_body, plain_arm, plain_arms};
+ghost use Rattle.vlog_tree.specs.Plain.{plain_always};
 ghost use Rattle.vlog_block.specs.Sources.{names_of};
 ghost use Rattle.vlog_block.specs.Faultless.{IsFaultless, IsFaultlessTarget, IsFaultlessStmt, AreFaultlessStmts, IsFaultlessBody};
 ghost use Rattle.vlog_block.specs.Faultless.{IsFaultlessArm, AreFaultlessArms};
 
-use vlog_size::vlog_tree::{Always, Arm, Body, Expr, Stmt, Target, see_begin, see_case};
 use vlog_size::{Scope, target_width, width};
+use vlog_tree::{Always, Arm, Body, Expr, Stmt, Target, see_begin, see_case};
 
 fn is_faultless_expr(scope: &Scope, e: &Expr) -> bool
     ensures { IsTrue result ↔ IsFaultless (names_of scope.now) (plain_expr e.now) }

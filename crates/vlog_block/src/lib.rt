@@ -15,7 +15,5 @@ mod target;
 pub use bind::bind_expr;
 pub use block::block_code;
 pub use faultless::is_faultless;
-pub use net_code::net_design;
 pub use target::bind_target;
 pub use vlog_size;
-pub use vlog_size::vlog_tree;

@@ -3,19 +3,19 @@
 ghost use Rattle.std.specs.Prelude.{◌≡◌, ℕ, false, ◌||◌, ◌≤◌, ◌<◌, ◌+◌, ◌^◌, IfOk, if◌then◌else◌, ◌==◌};
 ghost use Rattle.vlog_size.specs.vidi_bits.Number.{IsWidth, part_of, side_by_side, repeated};
 ghost use Rattle.vlog_size.specs.Operators.{unary_value, binary_value};
-ghost use Rattle.net_code.specs.net_design.declared.values.Values.{Values};
-ghost use Rattle.net_code.specs.net_design.Value.{value, read, word_at};
-ghost use Rattle.net_code.specs.net_design.Bits as bits;
-ghost use Rattle.net_code.specs.net_design.Sized.{IsSizedRhs, IsCountable};
+ghost use Rattle.net_design.specs.declared.values.Values.{Values};
+ghost use Rattle.net_design.specs.Value.{value, read, word_at};
+ghost use Rattle.net_design.specs.Bits as bits;
+ghost use Rattle.net_design.specs.Sized.{IsSizedRhs, IsCountable};
 ghost use Rattle.vlog_block.specs.Bits.{bits_from};
 ghost use Rattle.vlog_block.specs.Fit.{IsRepeated};
 
-use net_code::net_design::{Rhs, Room, Span};
+use net_design::{Rhs, Room, Span};
 use std::alloc::Global;
 use std::boxed::Box;
 use vlog_size::vidi_bits::Memory;
-use vlog_size::vlog_tree::{BinaryOp, UnaryOp};
 use vlog_size::{operator_of, unary_operator_of};
+use vlog_tree::{BinaryOp, UnaryOp};
 
 /// A constant.
 pub fn number(alloc: Global, n: u128) -> Result<Box<Rhs>, Memory>

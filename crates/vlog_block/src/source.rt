@@ -1,10 +1,10 @@
 //! What the names of a scope are in code.
 
 ghost use Rattle.std.specs.Prelude.{◌≡◌, ◌<◌, ◌+◌, ◌^◌, IfOk, IfSome};
-ghost use Rattle.net_code.specs.net_design.Sized.{IsCountable};
+ghost use Rattle.net_design.specs.Sized.{IsCountable};
 ghost use Rattle.vlog_block.specs.Sources.{names_of, source_of, memory_named, words_before, IsSource};
 
-use net_code::net_design::{Room, Span};
+use net_design::{Room, Span};
 use vlog_size::vidi_bits::Memory;
 use vlog_size::{Const, Scope, ScopeMemories};
 

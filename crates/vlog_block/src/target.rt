@@ -5,17 +5,17 @@ ghost use Rattle.std.specs.Prelude.{Bool, false, nat_le, nat_lt, [], IfOk, OnOk,
 ghost use Rattle.std.specs.List.{AllByRecursion};
 ghost use Rattle.net_code.specs.Targets.{bit_count};
 ghost use Rattle.vlog_size.specs.vidi_bits.Number.{IsWidth, truth};
-ghost use Rattle.vlog_size.specs.vlog_tree.Tree.{RefTarget, Index, Last};
-ghost use Rattle.vlog_size.specs.vlog_tree.Plain.{plain_expr, plain_target, plain_targets, plain_ref, plain_sel, plain_index, plain_last};
-ghost use Rattle.vlog_size.specs.vlog_tree.declared.expr.Ref.{back-Ref-index, back-Ref-sel};
+ghost use Rattle.vlog_tree.specs.Tree.{RefTarget, Index, Last};
+ghost use Rattle.vlog_tree.specs.Plain.{plain_expr, plain_target, plain_targets, plain_ref, plain_sel, plain_index, plain_last};
+ghost use Rattle.vlog_tree.specs.declared.expr.Ref.{back-Ref-index, back-Ref-sel};
 ghost use Rattle.vlog_size.specs.Size.{sizes_of_target, faults};
-ghost use Rattle.net_code.specs.net_design.declared.values.Values.{Values};
-ghost use Rattle.net_code.specs.net_design.declared.values.Target as design;
-ghost use Rattle.net_code.specs.net_design.declared.values.Target.TheVariants as designs;
-ghost use Rattle.net_code.specs.net_design.Value as code;
-ghost use Rattle.net_code.specs.net_design.Updates as places;
-ghost use Rattle.net_code.specs.net_design.Bits as bits;
-ghost use Rattle.net_code.specs.net_design.Sized.{IsSizedRhs, IsSizedPlace, IsCountable};
+ghost use Rattle.net_design.specs.declared.values.Values.{Values};
+ghost use Rattle.net_design.specs.declared.values.Target as design;
+ghost use Rattle.net_design.specs.declared.values.Target.TheVariants as designs;
+ghost use Rattle.net_design.specs.Value as code;
+ghost use Rattle.net_design.specs.Updates as places;
+ghost use Rattle.net_design.specs.Bits as bits;
+ghost use Rattle.net_design.specs.Sized.{IsSizedRhs, IsSizedPlace, IsCountable};
 ghost use Rattle.vlog_block.specs.declared.source.Source.TheVariants.{Memory as MemorySource};
 ghost use Rattle.vlog_block.specs.Sources.{names_of, IsSource};
 ghost use Rattle.vlog_block.specs.Fit.{IsFit, IsFitWith, IsFitRef, IsFitIndex, IsFitLast, IsFitSel, IsFitTarget, AreFitTargets};
@@ -31,12 +31,12 @@ ghost use Rattle.vlog_block.specs.Naming.{target_names, targets_names, target_co
 
 use crate::bind::{Part, bound_index, bound_sel};
 use crate::source::{Source, source_of};
-use net_code::net_design::{Lhs, Place, Rhs, Room, Span};
+use net_design::{Lhs, Place, Rhs, Room, Span};
 use std::alloc::Global;
 use std::boxed::Box;
 use vlog_size::vidi_bits::{Items, Memory};
-use vlog_size::vlog_tree::{Expr, Ref, Sel, Target, see_concat_target};
 use vlog_size::{Scope, checked, target_facts, whole_view};
+use vlog_tree::{Expr, Ref, Sel, Target, see_concat_target};
 
 // ---- places
 

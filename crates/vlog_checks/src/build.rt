@@ -2,7 +2,7 @@
 
 use std::alloc::Global;
 use vlog_print::vidi_bits::{Items, Memory, copied};
-use vlog_print::vlog_tree::{AssignOp, Body, Expr, Ident, Operand, Ref, Stmt, Target, Unary};
+use vlog_tree::{AssignOp, Body, Expr, Ident, Operand, Ref, Stmt, Target, Unary};
 
 pub fn ident(alloc: Global, text: &str) -> Result<Ident, Memory> {
     let name = copied(alloc, text.as_bytes())?;

@@ -10,7 +10,7 @@ use vlog_latch::{BlockError, bind_block};
 use vlog_print::vidi_bits::Memory;
 use vlog_print::vlog_lex::{Tokens, lex};
 use vlog_print::vlog_parse::{ParseError, parse};
-use vlog_print::vlog_tree::{Always, Body, Event};
+use vlog_tree::{Always, Body, Event};
 
 fn put(out: &mut Vec<u8>, text: &[u8]) -> Result<(), AllocError> {
     out.extend_from_slice(text)

@@ -4,7 +4,7 @@ use crate::build::{assign_itself, boxed, ident, if_of, net, net_expr, one, opera
 use std::alloc::Global;
 use vlog_print::good_shape;
 use vlog_print::vidi_bits::{Items, Memory, copied};
-use vlog_print::vlog_tree::{
+use vlog_tree::{
     Always, Arm, Assign, BinaryOp, Body, Event, Expr, File, Item, Module, Number, NumberKind,
     Operand, Parameter, Port, Ref, Sel, Stmt, Target, begin, case, concat, concat_target,
 };

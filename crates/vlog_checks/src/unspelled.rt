@@ -4,7 +4,7 @@ use crate::build::operand_alone;
 use std::alloc::Global;
 use vlog_latch::vlog_size::{Scope, ScopeNet, SizeError, Table, fixed, numbered, whole_view};
 use vlog_print::vidi_bits::{Items, Memory, copied};
-use vlog_print::vlog_tree::{Expr, Operand};
+use vlog_tree::{Expr, Operand};
 
 /// A scope with the net s alone, of 1 bit.
 pub fn scope(alloc: Global) -> Result<Scope, Memory> {

@@ -1,12 +1,12 @@
 -- The design with the parts of a file's instances.
 use Rattle.std.proofs.Common.{◌≡◌, ℕ, ◌↔◌, List, [], Option, Some, sym, subst, ◌∙◌}
 use Rattle.std.specs.List.{AllZip}
-use Rattle.flat_drive.specs.vlog_tree.Tree.{ModuleOf, FileOf}
+use Rattle.vlog_tree.specs.Tree.{ModuleOf, FileOf}
 use Rattle.flat_drive.specs.vlog_elab.Scope.{scope_with}
 use Rattle.flat_drive.specs.vlog_elab.Instances.{ModuleInstance, instances}
 use Rattle.flat_drive.specs.vlog_elab.Reasons as elab
-use Rattle.net_order.specs.net_design.declared.design.Port.{Port}
-use Rattle.net_order.specs.net_design.declared.design.Design.{Design}
+use Rattle.net_design.specs.declared.design.Port.{Port}
+use Rattle.net_design.specs.declared.design.Design.{Design}
 use Rattle.flat_drive.specs.flat_parts.Seats.{seats_of}
 use Rattle.flat_drive.specs.flat_parts.Nets.{flat_ports}
 use Rattle.flat_drive.specs.flat_parts.State.{all_regs, IsRegisterOf}

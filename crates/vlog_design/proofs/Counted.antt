@@ -4,15 +4,15 @@ use Rattle.std.proofs.Common.{Result, Ok, Err}
 use Rattle.std.proofs.lemmas.List.{length-map}
 use Rattle.std.specs.Prelude.{IfOk}
 use Rattle.std.specs.List.{AllZip, sum_by}
-use Rattle.flat_drive.specs.vlog_tree.Tree.{FileOf}
+use Rattle.vlog_tree.specs.Tree.{FileOf}
 use Rattle.flat_drive.specs.vlog_elab.Instances.{ModuleInstance, instances}
 use Rattle.flat_drive.specs.vlog_elab.Reasons.{word_total}
-use Rattle.net_order.specs.net_design.declared.design.Instance.{Instance}
-use Rattle.net_order.specs.net_design.declared.design.DesignMemory.{DesignMemory}
-use Rattle.net_order.specs.net_design.declared.design.Design.{Design}
-use Rattle.net_order.specs.net_design.Names.{list_at, paths_after, paths}
-use Rattle.net_order.specs.net_design.Settled.{word_count}
-use Rattle.net_order.specs.net_design.Lawful.{counts}
+use Rattle.net_design.specs.declared.design.Instance.{Instance}
+use Rattle.net_design.specs.declared.design.DesignMemory.{DesignMemory}
+use Rattle.net_design.specs.declared.design.Design.{Design}
+use Rattle.net_design.specs.Names.{list_at, paths_after, paths}
+use Rattle.net_design.specs.Settled.{word_count}
+use Rattle.net_design.specs.Lawful.{counts}
 use Rattle.flat_drivers.specs.Duties.{Does}
 use Rattle.flat_drive.specs.flat_parts.Seats.{seats_of}
 use Rattle.flat_drive.specs.flat_parts.Drivers.{all_duties, all_blocks, IsBlockOf}

@@ -1,7 +1,7 @@
 -- What no reason against a file says of its instances.
 use Rattle.std.proofs.Common.{◌≡◌, ℕ, List, [], ◌∷◌, ◌++◌, refl}
 use Rattle.std.specs.List.{flat_map}
-use Rattle.flat_drive.specs.vlog_tree.Tree.{FileOf}
+use Rattle.vlog_tree.specs.Tree.{FileOf}
 use Rattle.flat_drive.specs.vlog_elab.declared.error.ElabError.{ElabError}
 use Rattle.flat_drive.specs.vlog_elab.Instances.{ModuleInstance, instances}
 use Rattle.flat_drive.specs.vlog_elab.Reasons as elab

@@ -2,16 +2,16 @@
 use Rattle.std.proofs.Common.{◌≢◌, ℕ, List, [], ◌∷◌}
 use Rattle.std.specs.Prelude.{All, AllPairs}
 use Rattle.std.specs.List.{AllZip, AllByRecursion}
-use Rattle.flat_drive.specs.vlog_tree.Tree.{ModuleOf, FileOf}
+use Rattle.vlog_tree.specs.Tree.{ModuleOf, FileOf}
 use Rattle.flat_drive.specs.vlog_elab.Instances.{instances}
 use Rattle.flat_drive.specs.vlog_elab.Reasons as elab
-use Rattle.net_order.specs.net_design.declared.act.Code.{Code}
-use Rattle.net_order.specs.net_design.declared.act.Timing.TheVariants.{Blocking, Nonblocking}
-use Rattle.net_order.specs.net_design.declared.design.Driver.{Driver}
-use Rattle.net_order.specs.net_design.declared.design.Design.{Design}
-use Rattle.net_order.specs.net_design.Bits.{HasBits}
-use Rattle.net_order.specs.net_design.Names.{net_names}
-use Rattle.net_order.specs.net_design.Lawful.{IsLawful}
+use Rattle.net_design.specs.declared.act.Code.{Code}
+use Rattle.net_design.specs.declared.act.Timing.TheVariants.{Blocking, Nonblocking}
+use Rattle.net_design.specs.declared.design.Driver.{Driver}
+use Rattle.net_design.specs.declared.design.Design.{Design}
+use Rattle.net_design.specs.Bits.{HasBits}
+use Rattle.net_design.specs.Names.{net_names}
+use Rattle.net_design.specs.Lawful.{IsLawful}
 use Rattle.flat_drivers.specs.Duties.{Duty, Assigns, Settles, Does}
 use Rattle.flat_drive.specs.flat_parts.Seats.{seats_of}
 use Rattle.flat_drive.specs.flat_parts.Drivers.{ClockedBlock, IsBlockOf, all_duties, all_blocks}

@@ -5,5 +5,4 @@ pub mod Found
 pub mod Joined
 pub mod Counted
 pub use Rattle.flat_clock.proofs.flat_laws_lemmas as flat_laws_lemmas
-pub use Rattle.net_order.proofs.net_design_lemmas as net_design_lemmas
 pub use Rattle.net_order.proofs as net_order_lemmas

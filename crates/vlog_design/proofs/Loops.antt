@@ -1,10 +1,10 @@
 -- Designs of one file read and write the same bits, driver by driver.
 use Rattle.std.proofs.Common.{◌≡◌, ℕ, zero, suc, List, [], ◌∷◌, refl, sym, ◌∙◌}
 use Rattle.std.specs.List.{AllZip}
-use Rattle.flat_drive.specs.vlog_tree.Tree.{FileOf}
-use Rattle.net_order.specs.net_design.declared.design.Design.{Design}
-use Rattle.net_order.specs.net_design.declared.design.Driver.{Driver}
-use Rattle.net_order.specs.net_design.Bits.{named}
+use Rattle.vlog_tree.specs.Tree.{FileOf}
+use Rattle.net_design.specs.declared.design.Design.{Design}
+use Rattle.net_design.specs.declared.design.Driver.{Driver}
+use Rattle.net_design.specs.Bits.{named}
 use Rattle.net_order.specs.Order.{reads_of, writes_of, Reads, last_of, Chain, IsLoopBy, IsOrder, IsLoop}
 use Rattle.flat_drivers.specs.Duties.{Duty, Assigns, Settles, Does}
 use Rattle.vlog_design.specs.Design.{IsDesignOf}

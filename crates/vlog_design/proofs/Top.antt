@@ -2,7 +2,7 @@
 use Rattle.std.proofs.Common.{◌≡◌, ◌≤◌, ◌+◌, ℕ, suc, Bool, true, false, if◌then◌else◌, List, [], ◌∷◌, length, map, Some, slice_get}
 use Rattle.std.proofs.Common.{refl, ap, ◌∙◌, is_none, bytes_eq, arith}
 use Rattle.std.specs.List.{flat_map}
-use Rattle.flat_drive.specs.vlog_tree.Tree.{ModuleOf, FileOf}
+use Rattle.vlog_tree.specs.Tree.{ModuleOf, FileOf}
 use Rattle.net_order.proofs.vidi_bits_lemmas.FindingLaws.{told_none}
 use Rattle.net_order.proofs.vidi_bits_lemmas.Lists.{nil_left, nil_right}
 use Rattle.flat_drive.specs.vlog_size.Table.{value_of}
@@ -15,7 +15,7 @@ use Rattle.flat_clock.proofs.flat_laws_lemmas.Found.{no_names}
 use Rattle.flat_drive.specs.vlog_elab.Scope.{scope_with}
 use Rattle.flat_drive.specs.vlog_elab.Instances.{ModuleInstance, instances}
 use Rattle.flat_drive.specs.vlog_elab.Reasons as elab
-use Rattle.net_order.specs.net_design.declared.design.Port.{Port}
+use Rattle.net_design.specs.declared.design.Port.{Port}
 use Rattle.flat_drive.specs.flat_parts.Nets.{flat_ports}
 use Rattle.flat_drive.specs.flat_parts.Laws.{IsTop, FirstIsTop}
 use Rattle.vlog_design.specs.Parts.{FirstPorts, HasTop}

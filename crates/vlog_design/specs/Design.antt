@@ -1,10 +1,10 @@
 -- The flat design of a file and its top.
 use Rattle.std.specs.Prelude.{ℕ, List, length}
 use Rattle.std.specs.List.{sum_by}
-use Rattle.flat_drive.specs.vlog_tree.Tree.{ModuleOf, FileOf}
-use Rattle.net_order.specs.net_design.declared.design.Counts.{Counts}
-use Rattle.net_order.specs.net_design.declared.design.Design.{Design}
-use Rattle.net_order.specs.net_design.Lawful.{IsLawful}
+use Rattle.vlog_tree.specs.Tree.{ModuleOf, FileOf}
+use Rattle.net_design.specs.declared.design.Counts.{Counts}
+use Rattle.net_design.specs.declared.design.Design.{Design}
+use Rattle.net_design.specs.Lawful.{IsLawful}
 use Rattle.flat_drive.specs.vlog_elab.Instances.{ModuleInstance, instances}
 use Rattle.flat_drive.specs.vlog_elab.Reasons.{word_total}
 use Rattle.flat_drive.specs.flat_parts.Seats.{Seat, seats_of}

@@ -1,7 +1,7 @@
 -- Laws of the design of a file.
 use Rattle.std.specs.Prelude.{ℕ, List}
-use Rattle.flat_drive.specs.vlog_tree.Tree.{FileOf}
-use Rattle.net_order.specs.net_design.declared.design.Design.{Design}
+use Rattle.vlog_tree.specs.Tree.{FileOf}
+use Rattle.net_design.specs.declared.design.Design.{Design}
 use Rattle.net_order.specs.Order.{IsOrder, IsLoop}
 use Rattle.vlog_design.specs.Design.{IsDesignOf}
 

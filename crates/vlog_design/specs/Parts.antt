@@ -1,9 +1,9 @@
 -- What is known of the parts of the flat design of instances while it is made.
 use Rattle.std.specs.Prelude.{◌≡◌, ℕ, List, [], ◌∷◌}
 use Rattle.std.specs.List.{AllZip}
-use Rattle.flat_drive.specs.vlog_tree.Tree.{ModuleOf, FileOf}
+use Rattle.vlog_tree.specs.Tree.{ModuleOf, FileOf}
 use Rattle.flat_drive.specs.vlog_elab.Instances.{ModuleInstance}
-use Rattle.net_order.specs.net_design.declared.design.Port.{Port}
+use Rattle.net_design.specs.declared.design.Port.{Port}
 use Rattle.flat_drivers.specs.Duties.{Does}
 use Rattle.flat_drive.specs.flat_parts.Seats.{seats_of}
 use Rattle.flat_drive.specs.flat_parts.Nets.{flat_nets, flat_memories, flat_ports}

@@ -2,7 +2,7 @@
 -- profile).
 use Rattle.std.specs.Prelude.{◌≡◌, ℕ, List, [], ◌++◌}
 use Rattle.std.specs.List.{flat_map}
-use Rattle.flat_drive.specs.vlog_tree.Tree.{FileOf}
+use Rattle.vlog_tree.specs.Tree.{FileOf}
 use Rattle.flat_drive.specs.vlog_elab.declared.error.ElabError.{ElabError}
 use Rattle.flat_drive.specs.vlog_elab.Instances.{ModuleInstance, instances}
 use Rattle.net_order.specs.vidi_bits.Findings.{IsFirst}

@@ -21,7 +21,7 @@ use flat_drive::vlog_names::ModuleTable;
 use flat_drivers::{FlatCode, drivers_of};
 use flat_layout::{memories, nets};
 use flat_registers::reg_marks;
-use net_order::net_design::{Code, DesignMemory, Driver, Net};
+use net_design::{Code, DesignMemory, Driver, Net};
 use net_order::vidi_bits::Items;
 use std::alloc::Global;
 

@@ -1,12 +1,12 @@
 //! The flat design of instances.
 
 ghost use Rattle.std.specs.Prelude.{◌≡◌, ◌≢◌, ◌≤◌, ℕ, List, IfOk, All, AllPairs, length};
-ghost use Rattle.flat_drive.specs.vlog_tree.Tree.{ModuleOf};
-ghost use Rattle.flat_drive.specs.vlog_tree.Plain.{plain};
+ghost use Rattle.vlog_tree.specs.Tree.{ModuleOf};
+ghost use Rattle.vlog_tree.specs.Plain.{plain};
 ghost use Rattle.flat_drive.specs.vlog_elab.Instances.{instances};
 ghost use Rattle.flat_drive.specs.vlog_elab.Plain.{plain_instances};
 ghost use Rattle.flat_drive.specs.vlog_elab.Reasons as elab;
-ghost use Rattle.net_order.specs.net_design.Lawful.{IsLawful};
+ghost use Rattle.net_design.specs.Lawful.{IsLawful};
 ghost use Rattle.flat_drive.specs.flat_parts.Instances.{AreDeclaredIn};
 ghost use Rattle.flat_drive.specs.flat_parts.Built.{IsBuilt};
 ghost use Rattle.flat_drive.specs.flat_parts.Laws.{IsTop};
@@ -18,13 +18,13 @@ use flat_clock::clock_place;
 use flat_clock::flat_laws::{instances_are_paths, settled_alike, state_alike};
 use flat_drive::vlog_elab::ModuleInstance;
 use flat_drive::vlog_names::ModuleTable;
-use flat_drive::vlog_tree::File;
 use flat_layout::{built_numbers, instances, names_differ, nets_have_seats, ports, seats_stand};
 use flat_registers::{registers, registers_are_state};
+use net_design::{Design, Port};
 use net_lawful::is_lawful;
-use net_order::net_design::{Design, Port};
 use net_order::vidi_bits::{Items, Memory};
 use std::alloc::Global;
+use vlog_tree::File;
 
 /// The ports of the top, which is the first instance.
 fn top_ports(alloc: Global, list: &[ModuleInstance<'_>]) -> Result<Items<Port>, Memory>

@@ -8,8 +8,7 @@ mod design;
 mod laws;
 mod whole;
 
-pub use flat_drive::{vlog_elab, vlog_size, vlog_tree};
+pub use flat_drive::{vlog_elab, vlog_size};
 pub use laws::loops_alike;
 pub use net_order;
-pub use net_order::net_design;
 pub use whole::elaborate;

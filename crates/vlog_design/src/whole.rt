@@ -1,14 +1,14 @@
 //! The flat design of a file and its top, or the first reason against it.
 
 ghost use Rattle.std.specs.Prelude.{◌≡◌, IfOk, MatchResult};
-ghost use Rattle.flat_drive.specs.vlog_tree.Plain.{plain};
+ghost use Rattle.vlog_tree.specs.Plain.{plain};
 ghost use Rattle.flat_drive.specs.vlog_names.Entries.{modules_of};
 ghost use Rattle.flat_drive.specs.vlog_elab.Instances.{instances};
 ghost use Rattle.flat_drive.specs.vlog_elab.Plain.{plain_instances};
 ghost use Rattle.flat_drive.specs.vlog_elab.Reasons as elab;
 ghost use Rattle.net_order.specs.vidi_bits.Findings.{Judged};
 ghost use Rattle.flat_drive.specs.vlog_elab.Told.{elab_told};
-ghost use Rattle.net_order.specs.net_design.Lawful.{counts};
+ghost use Rattle.net_design.specs.Lawful.{counts};
 ghost use Rattle.vlog_design.specs.Design.{IsDesignOf, file_counts};
 ghost use Rattle.vlog_design.specs.Reasons.{Refused, Clear, code_findings};
 
@@ -17,11 +17,11 @@ use crate::design::design_of;
 use flat_clock::flat_laws::instances_are_paths;
 use flat_drive::vlog_elab::{ElabError, ModuleInstance, instances_of};
 use flat_drive::vlog_names::ModuleTable;
-use flat_drive::vlog_tree::File;
 use flat_drivers::{instances_are_declared, instances_are_faultless};
 use flat_layout::parts_are_counted;
-use net_order::net_design::Design;
+use net_design::Design;
 use std::alloc::Global;
+use vlog_tree::File;
 
 /// The flat design of these instances, where E9 and E8 find nothing.
 #[tactic(auto, unfolding(crate::specs::Reasons::code_findings))]

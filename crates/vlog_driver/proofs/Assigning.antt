@@ -3,18 +3,18 @@ use Rattle.std.proofs.Common.{◌≡◌, ℕ, max, ◌↔◌, ◌||◌, false, L
 use Rattle.std.proofs.Common.{subst, ◌∙◌}
 use Rattle.std.proofs.Math.Bool.{or-false, and-true}
 use Rattle.vlog_latch.specs.net_code.Targets.{bit_count}
-use Rattle.vlog_latch.specs.vlog_tree.Tree.{ExprOf, TargetOf}
-use Rattle.vlog_latch.specs.net_design.declared.act.Place.{Place}
-use Rattle.vlog_latch.specs.net_design.declared.act.Act.{Set}
-use Rattle.vlog_latch.specs.net_design.declared.act.Timing.TheVariants.{Blocking}
-use Rattle.vlog_latch.specs.net_design.declared.design.Driver.{Driver}
-use Rattle.vlog_latch.specs.net_design.declared.rhs.Rhs.{Rhs}
-use Rattle.vlog_latch.specs.net_design.declared.values.Values.{Values}
-use Rattle.vlog_latch.specs.net_design.Value as code
-use Rattle.vlog_latch.specs.net_design.Updates.{run}
-use Rattle.vlog_latch.specs.net_design.Bits as bits
-use Rattle.vlog_latch.specs.net_design.Bits.{block_writes, block_adds, block_reads, HasBits}
-use Rattle.vlog_latch.specs.net_design.Last.{HasLast, IsNarrow}
+use Rattle.vlog_tree.specs.Tree.{ExprOf, TargetOf}
+use Rattle.net_design.specs.declared.act.Place.{Place}
+use Rattle.net_design.specs.declared.act.Act.{Set}
+use Rattle.net_design.specs.declared.act.Timing.TheVariants.{Blocking}
+use Rattle.net_design.specs.declared.design.Driver.{Driver}
+use Rattle.net_design.specs.declared.rhs.Rhs.{Rhs}
+use Rattle.net_design.specs.declared.values.Values.{Values}
+use Rattle.net_design.specs.Value as code
+use Rattle.net_design.specs.Updates.{run}
+use Rattle.net_design.specs.Bits as bits
+use Rattle.net_design.specs.Bits.{block_writes, block_adds, block_reads, HasBits}
+use Rattle.net_design.specs.Last.{HasLast, IsNarrow}
 use Rattle.vlog_latch.specs.vlog_block.Value.{value, width_of}
 use Rattle.vlog_latch.specs.vlog_block.Targets.{target_width, target_updates}
 use Rattle.vlog_latch.specs.vlog_block.Bits.{reads}

@@ -2,12 +2,12 @@
 use Rattle.std.proofs.Common.{◌≡◌, ℕ, ◌+◌, ◌<◌, ◌≤◌, List, [], ◌∷◌, ◌++◌, map, length, drop, get_or, Option, Some, None, refl, ap, sym, ◌∙◌}
 use Rattle.std.proofs.Math.ListN.{drop_of_length-le}
 use Rattle.std.proofs.lemmas.List.{map-append}
-use Rattle.vlog_latch.specs.vlog_tree.Tree.{ExprOf, TargetOf, TargetsOf, NoTargets, MoreTargets}
-use Rattle.vlog_latch.specs.vlog_tree.Tree as tree
-use Rattle.vlog_latch.specs.vlog_tree.Plain.{plain_expr, plain_exprs, plain_target, plain_targets}
-use Rattle.vlog_latch.specs.vlog_tree.declared.expr.Expr.{Expr}
-use Rattle.vlog_latch.specs.vlog_tree.declared.stmt.Target.{Target}
-use Rattle.vlog_latch.proofs.net_design_lemmas.UpdateLaws.{from_here}
+use Rattle.vlog_tree.specs.Tree.{ExprOf, TargetOf, TargetsOf, NoTargets, MoreTargets}
+use Rattle.vlog_tree.specs.Tree as tree
+use Rattle.vlog_tree.specs.Plain.{plain_expr, plain_exprs, plain_target, plain_targets}
+use Rattle.vlog_tree.specs.declared.expr.Expr.{Expr}
+use Rattle.vlog_tree.specs.declared.stmt.Target.{Target}
+use Rattle.net_design.proofs.UpdateLaws.{from_here}
 use Rattle.vlog_meaning.specs.Items.{both_parts, target_of, targets_of}
 
 -- these targets before those of what is left, where all that is left has the form of targets

@@ -2,18 +2,18 @@
 use Rattle.std.proofs.Common.{◌≡◌, ℕ, ◌↔◌, Bool, true, false, List, [], ◌∷◌, map, Option, Some, None, refl, subst}
 use Rattle.std.specs.List.{flat_map, AllByRecursion}
 use Rattle.vlog_latch.proofs.vidi_bits_lemmas.Each.{same_both, nothing, then_so, split}
-use Rattle.vlog_latch.specs.vlog_tree.Tree.{IdentOf, ExprOf, TargetOf, EventOf, PosedgeEvent, ImplicitEvent, AlwaysOf}
-use Rattle.vlog_latch.specs.vlog_tree.Tree.{ConnOf}
-use Rattle.vlog_latch.specs.vlog_tree.Tree.{ItemOf, WiresItem, DrivenWiresItem, RegsItem, LocalparamsItem, AssignItem, AlwaysItem, InstanceItem}
-use Rattle.vlog_latch.specs.vlog_tree.Tree.{ModuleOf}
+use Rattle.vlog_tree.specs.Tree.{IdentOf, ExprOf, TargetOf, EventOf, PosedgeEvent, ImplicitEvent, AlwaysOf}
+use Rattle.vlog_tree.specs.Tree.{ConnOf}
+use Rattle.vlog_tree.specs.Tree.{ItemOf, WiresItem, DrivenWiresItem, RegsItem, LocalparamsItem, AssignItem, AlwaysItem, InstanceItem}
+use Rattle.vlog_tree.specs.Tree.{ModuleOf}
 use Rattle.vlog_latch.specs.vlog_size.declared.scope.Scope.{Scope}
 use Rattle.vlog_latch.specs.vlog_size.Table.{value_of}
 use Rattle.vlog_meaning.specs.vlog_names.Entries.{declared}
 use Rattle.vlog_meaning.specs.vlog_names.Ports.{is_output}
-use Rattle.vlog_latch.specs.net_design.declared.design.Driver.{Driver}
-use Rattle.vlog_latch.specs.net_design.declared.values.Values.{Values}
-use Rattle.vlog_latch.specs.net_design.Updates.{run}
-use Rattle.vlog_latch.specs.net_design.Last.{IsNarrow}
+use Rattle.net_design.specs.declared.design.Driver.{Driver}
+use Rattle.net_design.specs.declared.values.Values.{Values}
+use Rattle.net_design.specs.Updates.{run}
+use Rattle.net_design.specs.Last.{IsNarrow}
 use Rattle.vlog_meaning.specs.Names.{Full, numbers_at}
 use Rattle.vlog_meaning.specs.Placed.{names_at}
 use Rattle.vlog_meaning.specs.Items.{IsAssigned, AssignHolds, WireHolds, EventHolds, JoinHolds, ConnHolds, HoldsAt, target_of, whole, read}

@@ -5,6 +5,5 @@ pub mod More
 pub mod Held
 pub mod Namings
 pub use Rattle.vlog_latch.proofs.net_code_lemmas as net_code_lemmas
-pub use Rattle.vlog_latch.proofs.net_design_lemmas as net_design_lemmas
 pub use Rattle.vlog_latch.proofs as vlog_latch_lemmas
 pub use Rattle.vlog_meaning.proofs as vlog_meaning_lemmas

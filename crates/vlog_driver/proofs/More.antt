@@ -3,8 +3,8 @@ use Rattle.std.proofs.Common.{◌≡◌, ℕ, ◌+◌, ◌<◌, List, [], ◌∷
 use Rattle.std.proofs.Common.{append_assoc, Result, Ok, Err, OnOk}
 use Rattle.std.specs.List.{AllZip, AllByRecursion}
 use Rattle.std.proofs.lemmas.List.{append-nil}
-use Rattle.vlog_latch.specs.net_design.declared.design.Driver.{Driver}
-use Rattle.vlog_latch.proofs.net_design_lemmas.UpdateLaws.{from_here}
+use Rattle.net_design.specs.declared.design.Driver.{Driver}
+use Rattle.net_design.proofs.UpdateLaws.{from_here}
 use Rattle.vlog_driver.specs.Duties.{Duty, Does, DoMore}
 
 zip_more : (xs : List Duty) (ys : List Driver) (x : Duty) (y : Driver) → AllZip Does xs ys → Does x y

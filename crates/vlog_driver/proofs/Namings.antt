@@ -6,13 +6,13 @@ use Rattle.std.specs.List.{count_by, flat_map}
 use Rattle.std.proofs.lemmas.List.{map-append, append-nil}
 use Rattle.std.proofs.lemmas.List.Sums.{sum_by-cons}
 use Rattle.std.proofs.Math.Bool.{or-false}
-use Rattle.vlog_latch.specs.net_design.declared.act.Place.{Place}
-use Rattle.vlog_latch.specs.net_design.declared.act.Place.TheVariants.{Bits as PlaceBits, BitsFrom, Word as PlaceWord, WordFrom}
-use Rattle.vlog_latch.specs.net_design.declared.act.Act.{Act, Set, Read, Branch', Row_of-Act, end_of-Act, more_of-Act, Row_of-Guard, end_of-Guard}
-use Rattle.vlog_latch.specs.net_design.declared.act.Act.{more_of-Guard}
-use Rattle.vlog_latch.specs.net_design.declared.act.Code.{Code}
-use Rattle.vlog_latch.specs.net_design.declared.rhs.Rhs.{Rhs}
-use Rattle.vlog_latch.specs.net_design.Bits.{place_writes}
+use Rattle.net_design.specs.declared.act.Place.{Place}
+use Rattle.net_design.specs.declared.act.Place.TheVariants.{Bits as PlaceBits, BitsFrom, Word as PlaceWord, WordFrom}
+use Rattle.net_design.specs.declared.act.Act.{Act, Set, Read, Branch', Row_of-Act, end_of-Act, more_of-Act, Row_of-Guard, end_of-Guard}
+use Rattle.net_design.specs.declared.act.Act.{more_of-Guard}
+use Rattle.net_design.specs.declared.act.Code.{Code}
+use Rattle.net_design.specs.declared.rhs.Rhs.{Rhs}
+use Rattle.net_design.specs.Bits.{place_writes}
 use Rattle.vlog_latch.specs.net_code.Moved.{moved_place, moved_act, moved_guards, moved_row, moved}
 use Rattle.vlog_latch.specs.net_code.Targets.{targets, guard_row_targets, row_targets, block_targets, bit_count}
 use Rattle.vlog_latch.specs.vlog_block.Naming.{Naming, place_name, place_names, code_names}

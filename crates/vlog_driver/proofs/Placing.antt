@@ -4,20 +4,20 @@ use Rattle.std.proofs.Common.{◌∷◌, ◌++◌, map}
 use Rattle.std.proofs.Common.{ap, sym, subst, ◌∙◌}
 use Rattle.std.proofs.lemmas.List.{get_or-drop, append-nil}
 use Rattle.std.proofs.Math.Bool.{or-false, and-true}
-use Rattle.vlog_latch.specs.net_design.declared.act.Place.{Place}
-use Rattle.vlog_latch.specs.net_design.declared.act.Act.{Act, Set}
-use Rattle.vlog_latch.specs.net_design.declared.act.Code.{Code}
-use Rattle.vlog_latch.specs.net_design.declared.act.Timing.{Timing}
-use Rattle.vlog_latch.specs.net_design.declared.act.Timing.TheVariants.{Blocking}
-use Rattle.vlog_latch.specs.net_design.declared.rhs.Rhs.{Rhs, Number}
-use Rattle.vlog_latch.specs.net_design.declared.values.Update.{Update}
-use Rattle.vlog_latch.specs.net_design.declared.values.Values.{Values}
-use Rattle.vlog_latch.specs.net_design.Value.{value}
-use Rattle.vlog_latch.specs.net_design.Updates.{apply, target_updates, block_updates, run}
-use Rattle.vlog_latch.specs.net_design.Bits.{BitSet, named, reads, target_reads, target_writes, target_adds, block_writes, block_adds, block_reads}
-use Rattle.vlog_latch.specs.net_design.Bits.{HasBits}
-use Rattle.vlog_latch.specs.net_design.Last.{HasLast, IsNarrow}
-use Rattle.vlog_latch.proofs.net_design_lemmas.LastLaws.{last_updates}
+use Rattle.net_design.specs.declared.act.Place.{Place}
+use Rattle.net_design.specs.declared.act.Act.{Act, Set}
+use Rattle.net_design.specs.declared.act.Code.{Code}
+use Rattle.net_design.specs.declared.act.Timing.{Timing}
+use Rattle.net_design.specs.declared.act.Timing.TheVariants.{Blocking}
+use Rattle.net_design.specs.declared.rhs.Rhs.{Rhs, Number}
+use Rattle.net_design.specs.declared.values.Update.{Update}
+use Rattle.net_design.specs.declared.values.Values.{Values}
+use Rattle.net_design.specs.Value.{value}
+use Rattle.net_design.specs.Updates.{apply, target_updates, block_updates, run}
+use Rattle.net_design.specs.Bits.{BitSet, named, reads, target_reads, target_writes, target_adds, block_writes, block_adds, block_reads}
+use Rattle.net_design.specs.Bits.{HasBits}
+use Rattle.net_design.specs.Last.{HasLast, IsNarrow}
+use Rattle.net_design.proofs.LastLaws.{last_updates}
 use Rattle.vlog_latch.specs.net_code.Moved.{moved_rhs, moved_place, moved_act, moved_update, moved_bits, moved, from_first}
 use Rattle.vlog_latch.proofs.net_code_lemmas.MovedValues.{value_moved, block_moved, fixed_moved}
 use Rattle.vlog_latch.proofs.net_code_lemmas.MovedBits.{named_moved, reads_moved, block_writes_moved, block_adds_moved, block_open_moved, bits_moved}

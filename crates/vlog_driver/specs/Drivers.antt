@@ -1,15 +1,15 @@
 -- What drivers and clocked blocks of the flat design have to say of the items that they stand for (IEEE 1364-2005,
 -- 6.1, 9.7.5, 9.9.2, 12.3).
 use Rattle.std.specs.Prelude.{◌≡◌, ℕ, ◌↔◌, ◌||◌, true, false, List, [], ◌∷◌, map}
-use Rattle.vlog_latch.specs.vlog_tree.Tree.{ExprOf, TargetOf, AlwaysOf}
-use Rattle.vlog_latch.specs.net_design.declared.act.Act.{Act, Set}
-use Rattle.vlog_latch.specs.net_design.declared.act.Code.{Code}
-use Rattle.vlog_latch.specs.net_design.declared.act.Timing.TheVariants.{Blocking, Nonblocking}
-use Rattle.vlog_latch.specs.net_design.declared.design.Driver.{Driver}
-use Rattle.vlog_latch.specs.net_design.declared.values.Values.{Values}
-use Rattle.vlog_latch.specs.net_design.Updates.{block_updates, run}
-use Rattle.vlog_latch.specs.net_design.Bits.{named, block_adds, HasBits}
-use Rattle.vlog_latch.specs.net_design.Last.{HasLast, IsNarrow}
+use Rattle.vlog_tree.specs.Tree.{ExprOf, TargetOf, AlwaysOf}
+use Rattle.net_design.specs.declared.act.Act.{Act, Set}
+use Rattle.net_design.specs.declared.act.Code.{Code}
+use Rattle.net_design.specs.declared.act.Timing.TheVariants.{Blocking, Nonblocking}
+use Rattle.net_design.specs.declared.design.Driver.{Driver}
+use Rattle.net_design.specs.declared.values.Values.{Values}
+use Rattle.net_design.specs.Updates.{block_updates, run}
+use Rattle.net_design.specs.Bits.{named, block_adds, HasBits}
+use Rattle.net_design.specs.Last.{HasLast, IsNarrow}
 use Rattle.vlog_latch.specs.net_code.Moved.{moved_update}
 use Rattle.vlog_latch.specs.vlog_block.Bits.{reads}
 use Rattle.vlog_latch.specs.vlog_block.Updates.{always_updates}

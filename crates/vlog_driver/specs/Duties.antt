@@ -2,12 +2,12 @@
 -- parent (this project's profile).
 use Rattle.std.specs.Prelude.{ℕ, Bool, true, false, List, [], ◌∷◌, ◌++◌, Option, None, Some}
 use Rattle.std.specs.List.{AllZip}
-use Rattle.vlog_latch.specs.vlog_tree.Tree.{IdentOf, ExprOf, TargetOf, NamedValueOf, AssignOf, EventOf, PosedgeEvent, ImplicitEvent, AlwaysOf, ConnOf}
-use Rattle.vlog_latch.specs.vlog_tree.Lines.{target_line}
+use Rattle.vlog_tree.specs.Tree.{IdentOf, ExprOf, TargetOf, NamedValueOf, AssignOf, EventOf, PosedgeEvent, ImplicitEvent, AlwaysOf, ConnOf}
+use Rattle.vlog_tree.specs.Lines.{target_line}
 use Rattle.vlog_latch.specs.vlog_size.Table.{value_of}
 use Rattle.vlog_meaning.specs.vlog_names.Entries.{Names}
 use Rattle.vlog_meaning.specs.vlog_names.Ports.{is_output}
-use Rattle.vlog_latch.specs.net_design.declared.design.Driver.{Driver}
+use Rattle.net_design.specs.declared.design.Driver.{Driver}
 use Rattle.vlog_latch.specs.vlog_block.Faultless.{IsFaultless, IsFaultlessTarget}
 use Rattle.vlog_meaning.specs.Items.{whole, read, target_of}
 use Rattle.vlog_driver.specs.Sites.{Site}

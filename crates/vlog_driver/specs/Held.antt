@@ -1,14 +1,14 @@
 -- That the drivers of an item hold exactly where the item holds.
 use Rattle.std.specs.Prelude.{◌≡◌, ℕ, ◌↔◌, List, [], map}
 use Rattle.std.specs.List.{flat_map, AllZip, AllByRecursion}
-use Rattle.vlog_latch.specs.vlog_tree.Tree.{InstanceOf, ItemOf, WiresItem, DrivenWiresItem, RegsItem, LocalparamsItem, AssignItem, AlwaysItem}
-use Rattle.vlog_latch.specs.vlog_tree.Tree.{InstanceItem, ModuleOf}
+use Rattle.vlog_tree.specs.Tree.{InstanceOf, ItemOf, WiresItem, DrivenWiresItem, RegsItem, LocalparamsItem, AssignItem, AlwaysItem}
+use Rattle.vlog_tree.specs.Tree.{InstanceItem, ModuleOf}
 use Rattle.vlog_latch.specs.vlog_size.declared.scope.Scope.{Scope}
 use Rattle.vlog_meaning.specs.vlog_names.Entries.{declared}
-use Rattle.vlog_latch.specs.net_design.declared.design.Driver.{Driver}
-use Rattle.vlog_latch.specs.net_design.declared.values.Values.{Values}
-use Rattle.vlog_latch.specs.net_design.Updates.{run}
-use Rattle.vlog_latch.specs.net_design.Last.{HasLast, IsNarrow}
+use Rattle.net_design.specs.declared.design.Driver.{Driver}
+use Rattle.net_design.specs.declared.values.Values.{Values}
+use Rattle.net_design.specs.Updates.{run}
+use Rattle.net_design.specs.Last.{HasLast, IsNarrow}
 use Rattle.vlog_latch.specs.vlog_block.Updates.{always_updates}
 use Rattle.vlog_meaning.specs.Names.{Full, numbers_at}
 use Rattle.vlog_meaning.specs.Placed.{names_at}

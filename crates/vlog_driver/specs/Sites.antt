@@ -1,8 +1,8 @@
 -- Where the code of an instance stands in the flat design.
 use Rattle.std.specs.Prelude.{ℕ, ◌+◌, ◌-◌, nat_le, if◌then◌else◌, List, map}
 use Rattle.vlog_latch.specs.vlog_size.Names.{Readable}
-use Rattle.vlog_latch.specs.net_design.declared.values.Values.{Values}
-use Rattle.vlog_latch.specs.net_design.Bits.{BitSet}
+use Rattle.net_design.specs.declared.values.Values.{Values}
+use Rattle.net_design.specs.Bits.{BitSet}
 use Rattle.vlog_latch.specs.net_code.declared.base.Base.{Base}
 use Rattle.vlog_latch.specs.net_code.Moved.{from_first, moved_bits}
 use Rattle.vlog_latch.specs.vlog_block.Sources.{names_of}

@@ -2,10 +2,10 @@
 
 ghost use Rattle.std.specs.Prelude.{◌≡◌, false, [], ◌∷◌, IfOk, OnOk, map};
 ghost use Rattle.std.specs.List.{AllByRecursion};
-ghost use Rattle.vlog_latch.specs.vlog_tree.Plain.{plain_expr, plain_target, plain_assign};
-ghost use Rattle.vlog_latch.specs.net_design.declared.act.Act.{Set};
-ghost use Rattle.vlog_latch.specs.net_design.declared.act.Timing.TheVariants as timing;
-ghost use Rattle.vlog_latch.specs.net_design.Bits.{HasBits};
+ghost use Rattle.vlog_tree.specs.Plain.{plain_expr, plain_target, plain_assign};
+ghost use Rattle.net_design.specs.declared.act.Act.{Set};
+ghost use Rattle.net_design.specs.declared.act.Timing.TheVariants as timing;
+ghost use Rattle.net_design.specs.Bits.{HasBits};
 ghost use Rattle.vlog_latch.specs.vlog_block.Faultless.{IsFaultless, IsFaultlessTarget};
 ghost use Rattle.vlog_driver.specs.Sites.{site_of};
 ghost use Rattle.vlog_driver.specs.Drivers.{IsAssignment};
@@ -13,11 +13,11 @@ ghost use Rattle.vlog_driver.specs.Duties.{Duty, DoMore, Does, assign_duty, IsFa
 
 use crate::placed::{own_target_width, own_width, placed_target, placed_value};
 use crate::site::Site;
+use net_design::{Act, Driver, Lhs, Rhs, Timing};
 use std::alloc::Global;
 use vlog_latch::net_code::{code_of, is_sized_block};
-use vlog_latch::net_design::{Act, Driver, Lhs, Rhs, Timing};
 use vlog_latch::vidi_bits::{Items, Memory};
-use vlog_latch::vlog_tree::{Assign, Expr, Target, target_line};
+use vlog_tree::{Assign, Expr, Target, target_line};
 
 /// A driver that is one assignment.
 fn set_driver(alloc: Global, line: u32, target: Lhs, value: Rhs) -> Result<Driver, Memory>

@@ -1,8 +1,8 @@
 //! Always blocks as drivers and clocked blocks.
 
 ghost use Rattle.std.specs.Prelude.{◌≡◌, [], ◌∷◌, IfOk, OnOk};
-ghost use Rattle.vlog_latch.specs.vlog_tree.Plain.{plain_always};
-ghost use Rattle.vlog_latch.specs.net_design.declared.act.Timing.TheVariants.{Blocking, Nonblocking};
+ghost use Rattle.vlog_tree.specs.Plain.{plain_always};
+ghost use Rattle.net_design.specs.declared.act.Timing.TheVariants.{Blocking, Nonblocking};
 ghost use Rattle.vlog_latch.specs.vlog_block.Faultless.{IsFaultlessBody};
 ghost use Rattle.vlog_latch.specs.vlog_block.Updates.{timing_of};
 ghost use Rattle.vlog_latch.specs.vidi_bits.Findings.{Judged};
@@ -15,11 +15,11 @@ ghost use Rattle.vlog_driver.specs.Duties.{DoMore, always_duties};
 use crate::assign::push_driver;
 use crate::placed::placed_block;
 use crate::site::Site;
+use net_design::{Code, Driver};
 use std::alloc::Global;
 use vlog_latch::BlockError;
-use vlog_latch::net_design::{Code, Driver};
 use vlog_latch::vidi_bits::{Items, Memory};
-use vlog_latch::vlog_tree::{Always, Event};
+use vlog_tree::{Always, Event};
 
 /// The driver that an `always @*` is, on the line of `always`.
 fn always_driver(alloc: Global, site: &Site<'_>, block: &Always) -> Result<Driver, BlockError>

@@ -1,15 +1,15 @@
 //! Copies of expressions, and the targets that expressions have the form of.
 
 ghost use Rattle.std.specs.Prelude.{◌≡◌, IfOk, OnOk, IfSome, option_map, map};
-ghost use Rattle.vlog_latch.specs.vlog_tree.Plain.{plain_expr, plain_exprs, plain_prim, plain_ref, plain_sel, plain_unary, plain_target};
-ghost use Rattle.vlog_latch.specs.vlog_tree.Plain.{plain_targets, plain_ident, plain_number, plain_index, plain_last};
-ghost use Rattle.vlog_latch.specs.vlog_tree.declared.expr.Ref.{back-Ref-index, back-Ref-sel};
+ghost use Rattle.vlog_tree.specs.Plain.{plain_expr, plain_exprs, plain_prim, plain_ref, plain_sel, plain_unary, plain_target};
+ghost use Rattle.vlog_tree.specs.Plain.{plain_targets, plain_ident, plain_number, plain_index, plain_last};
+ghost use Rattle.vlog_tree.specs.declared.expr.Ref.{back-Ref-index, back-Ref-sel};
 ghost use Rattle.vlog_meaning.specs.Items.{target_of, target_of_prim, targets_of};
 
 use std::alloc::Global;
 use std::boxed::Box;
 use vlog_latch::vidi_bits::{Items, Memory, copied};
-use vlog_latch::vlog_tree::{
+use vlog_tree::{
     Expr, Exprs, Ident, Number, Operand, Ref, Sel, Target, Targets, Unary, concat, concat_target,
     repeat, see_concat, see_repeat,
 };

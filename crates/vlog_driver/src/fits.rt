@@ -1,7 +1,7 @@
 //! Tests of what is made a driver that always succeed where E4, E5 and E6 find nothing.
 
 ghost use Rattle.std.specs.Prelude.{IsTrue, IfOk};
-ghost use Rattle.vlog_latch.specs.vlog_tree.Plain.{plain_ident, plain_expr, plain_target, plain_named};
+ghost use Rattle.vlog_tree.specs.Plain.{plain_ident, plain_expr, plain_target, plain_named};
 ghost use Rattle.vlog_latch.specs.vlog_block.Faultless.{IsFaultless, IsFaultlessTarget};
 ghost use Rattle.vlog_meaning.specs.Items.{whole, read};
 ghost use Rattle.vlog_driver.specs.Sites.{site_of};
@@ -12,7 +12,7 @@ use crate::whole::{whole_read, whole_target};
 use std::alloc::Global;
 use vlog_latch::vidi_bits::Memory;
 use vlog_latch::vlog_size::{target_width, width};
-use vlog_latch::vlog_tree::{Expr, Ident, NamedValue, Target};
+use vlog_tree::{Expr, Ident, NamedValue, Target};
 
 /// Whether nothing is found in an expression of an instance; it is so where E4, E5 and E6 find nothing.
 pub fn expr_fits(site: &Site<'_>, e: &Expr) -> bool

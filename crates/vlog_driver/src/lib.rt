@@ -23,5 +23,5 @@ pub use fits::{expr_fits, net_fits, read_fits, target_fits, wire_fits};
 pub use laws::drivers_are_items;
 pub use site::Site;
 pub use vlog_latch;
-pub use vlog_latch::{net_code, net_design, net_drive};
+pub use vlog_latch::{net_code, net_drive};
 pub use whole::{add_input, add_output, add_wire, whole_target};

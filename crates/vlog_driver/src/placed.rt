@@ -2,17 +2,17 @@
 
 ghost use Rattle.std.specs.Prelude.{◌≡◌, ℕ, ◌≤◌, ◌↔◌, [], ◌∷◌, IfOk, map};
 ghost use Rattle.vlog_latch.specs.net_code.Targets.{bit_count};
-ghost use Rattle.vlog_latch.specs.vlog_tree.Plain.{plain_expr, plain_target, plain_always};
-ghost use Rattle.vlog_latch.specs.net_design.declared.act.Act.{Set};
-ghost use Rattle.vlog_latch.specs.net_design.declared.act.Timing.{Timing};
-ghost use Rattle.vlog_latch.specs.net_design.declared.rhs.Rhs.{Rhs};
-ghost use Rattle.vlog_latch.specs.net_design.declared.values.Values.{Values};
-ghost use Rattle.vlog_latch.specs.net_design.Value as code;
-ghost use Rattle.vlog_latch.specs.net_design.Bits as bits;
-ghost use Rattle.vlog_latch.specs.net_design.Bits.{named, block_adds, HasBits};
-ghost use Rattle.vlog_latch.specs.net_design.Updates.{block_updates, run};
-ghost use Rattle.vlog_latch.specs.net_design.Last.{HasLast, IsNarrow};
-ghost use Rattle.vlog_latch.specs.net_design.declared.act.Timing.TheVariants.{Blocking};
+ghost use Rattle.vlog_tree.specs.Plain.{plain_expr, plain_target, plain_always};
+ghost use Rattle.net_design.specs.declared.act.Act.{Set};
+ghost use Rattle.net_design.specs.declared.act.Timing.{Timing};
+ghost use Rattle.net_design.specs.declared.rhs.Rhs.{Rhs};
+ghost use Rattle.net_design.specs.declared.values.Values.{Values};
+ghost use Rattle.net_design.specs.Value as code;
+ghost use Rattle.net_design.specs.Bits as bits;
+ghost use Rattle.net_design.specs.Bits.{named, block_adds, HasBits};
+ghost use Rattle.net_design.specs.Updates.{block_updates, run};
+ghost use Rattle.net_design.specs.Last.{HasLast, IsNarrow};
+ghost use Rattle.net_design.specs.declared.act.Timing.TheVariants.{Blocking};
 ghost use Rattle.vlog_latch.specs.net_code.Moved.{moved_update};
 ghost use Rattle.vlog_latch.specs.vlog_block.Value.{value, width_of};
 ghost use Rattle.vlog_latch.specs.vlog_block.Targets as targets;
@@ -27,16 +27,16 @@ ghost use Rattle.vlog_latch.specs.Blocks.{block_latches};
 ghost use Rattle.vlog_driver.specs.Sites.{site_of, numbers_from, bits_at, count_at, names_at_site};
 
 use crate::site::Site;
+use net_design::{Code, Lhs, Rhs};
 use std::alloc::Global;
 use vlog_latch::net_code::{
     code_is_near, expression_is_near, move_code, move_expression, move_target, target_is_near,
 };
-use vlog_latch::net_design::{Code, Lhs, Rhs};
 use vlog_latch::vidi_bits::Memory;
 use vlog_latch::vlog_block::{bind_expr, bind_target};
 use vlog_latch::vlog_size::{target_width, width};
-use vlog_latch::vlog_tree::{Always, Expr, Target};
 use vlog_latch::{BlockError, bind_block};
+use vlog_tree::{Always, Expr, Target};
 
 /// The width of an expression in which nothing is found.
 pub fn own_width(site: &Site<'_>, e: &Expr) -> u32

@@ -2,7 +2,7 @@
 
 ghost use Rattle.std.specs.Prelude.{◌≡◌, [], ◌∷◌, Some, IfOk, OnOk, map};
 ghost use Rattle.std.specs.List.{AllByRecursion};
-ghost use Rattle.vlog_latch.specs.vlog_tree.Plain.{plain_ident, plain_expr, plain_target, plain_named, plain_conn};
+ghost use Rattle.vlog_tree.specs.Plain.{plain_ident, plain_expr, plain_target, plain_named, plain_conn};
 ghost use Rattle.vlog_latch.specs.vlog_block.Faultless.{IsFaultless, IsFaultlessTarget};
 ghost use Rattle.vlog_meaning.specs.Items.{whole, read, target_of};
 ghost use Rattle.vlog_driver.specs.Sites.{site_of};
@@ -10,10 +10,10 @@ ghost use Rattle.vlog_driver.specs.Duties.{DoMore, wire_duty, IsFaultlessWire, i
 
 use crate::assign::{assignment, push_driver};
 use crate::site::Site;
+use net_design::Driver;
 use std::alloc::Global;
-use vlog_latch::net_design::Driver;
 use vlog_latch::vidi_bits::{Items, Memory, copied};
-use vlog_latch::vlog_tree::{Conn, Expr, Ident, NamedValue, Operand, Ref, Target, Unary};
+use vlog_tree::{Conn, Expr, Ident, NamedValue, Operand, Ref, Target, Unary};
 
 /// A whole net as a target.
 pub fn whole_target(alloc: Global, id: &Ident) -> Result<Target, Memory>

@@ -6,10 +6,10 @@ use Rattle.std.specs.List.{flat_map}
 use Rattle.std.proofs.lemmas.Grind.{flat_map-append}
 use Rattle.std.proofs.lemmas.List.{length-map, drop_all}
 use Rattle.std.proofs.lemmas.Option.{slice_get-map}
-use Rattle.vlog_hierarchy.specs.vlog_tree.Tree.{InstanceOf, ItemOf, WiresItem, DrivenWiresItem, RegsItem, LocalparamsItem, AssignItem, AlwaysItem}
-use Rattle.vlog_hierarchy.specs.vlog_tree.Tree.{InstanceItem, ModuleOf}
-use Rattle.vlog_hierarchy.specs.vlog_tree.declared.module.Item.{Item}
-use Rattle.vlog_hierarchy.specs.vlog_tree.Plain.{plain_item}
+use Rattle.vlog_tree.specs.Tree.{InstanceOf, ItemOf, WiresItem, DrivenWiresItem, RegsItem, LocalparamsItem, AssignItem, AlwaysItem}
+use Rattle.vlog_tree.specs.Tree.{InstanceItem, ModuleOf}
+use Rattle.vlog_tree.specs.declared.module.Item.{Item}
+use Rattle.vlog_tree.specs.Plain.{plain_item}
 use Rattle.vlog_hierarchy.specs.vlog_size.Names.{Readable}
 use Rattle.vlog_scope.specs.Scope.{readable_at}
 use Rattle.vlog_hierarchy.specs.Outlines.{place_of}

@@ -8,9 +8,9 @@ use Rattle.std.proofs.lemmas.Option.{slice_get_cases, slice_get-map, slice_get_r
 use Rattle.vlog_hierarchy.proofs.vidi_bits_lemmas.Lists.{none_in, nil_left}
 use Rattle.vlog_hierarchy.proofs.vidi_bits_lemmas.FindingLaws.{first_map, is_first_more}
 use Rattle.vlog_hierarchy.specs.vidi_bits.Findings.{first}
-use Rattle.vlog_hierarchy.specs.vlog_tree.Tree.{ModuleOf}
-use Rattle.vlog_hierarchy.specs.vlog_tree.declared.module.Module.{Module}
-use Rattle.vlog_hierarchy.specs.vlog_tree.Plain.{plain_module}
+use Rattle.vlog_tree.specs.Tree.{ModuleOf}
+use Rattle.vlog_tree.specs.declared.module.Module.{Module}
+use Rattle.vlog_tree.specs.Plain.{plain_module}
 use Rattle.vlog_kinds.specs.vlog_names.declared.error.NameError.{NameError}
 use Rattle.vlog_kinds.specs.vlog_names.declared.error.NameError.TheVariants as name
 use Rattle.vlog_kinds.specs.vlog_names.Told.{name_told}

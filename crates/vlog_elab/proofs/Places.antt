@@ -5,7 +5,7 @@ use Rattle.std.specs.List.{position_from}
 use Rattle.std.specs.Str.{bytes_eq}
 use Rattle.std.proofs.lemmas.Iterator.Adapters.{position_from-zero}
 use Rattle.std.proofs.lemmas.Option.{slice_get-get_or, slice_get_cases}
-use Rattle.vlog_hierarchy.specs.vlog_tree.Tree.{ModuleOf}
+use Rattle.vlog_tree.specs.Tree.{ModuleOf}
 use Rattle.vlog_hierarchy.specs.vlog_size.Table.{Named}
 use Rattle.vlog_hierarchy.specs.vlog_size.Table as table
 use Rattle.vlog_kinds.specs.vlog_names.Entries.{Names, module_entry}

@@ -5,8 +5,8 @@ use Rattle.std.specs.List.{flat_map}
 use Rattle.std.proofs.lemmas.List.{map-append}
 use Rattle.std.proofs.lemmas.Grind.{flat_map-append}
 use Rattle.std.proofs.lemmas.Option.{slice_get-map}
-use Rattle.vlog_hierarchy.specs.vlog_tree.Tree.{InstanceOf, ItemOf, WiresItem, DrivenWiresItem, RegsItem, LocalparamsItem, AssignItem, AlwaysItem}
-use Rattle.vlog_hierarchy.specs.vlog_tree.Tree.{InstanceItem, ModuleOf, FileOf}
+use Rattle.vlog_tree.specs.Tree.{InstanceOf, ItemOf, WiresItem, DrivenWiresItem, RegsItem, LocalparamsItem, AssignItem, AlwaysItem}
+use Rattle.vlog_tree.specs.Tree.{InstanceItem, ModuleOf, FileOf}
 use Rattle.vlog_hierarchy.specs.vlog_size.declared.scope.Scope.{Scope}
 use Rattle.vlog_hierarchy.specs.vlog_size.Names.{Readable}
 use Rattle.vlog_scope.specs.Scope.{readable_at, after_item, scope_of, scope_with}

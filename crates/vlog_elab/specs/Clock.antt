@@ -2,7 +2,7 @@
 -- profile).
 use Rattle.std.specs.Prelude.{ℕ, nat_eq, Bool, false, ◌&&◌, List, [], ◌∷◌, ◌++◌, Option, None, Some}
 use Rattle.vlog_hierarchy.specs.vidi_bits.Findings.{told_if}
-use Rattle.vlog_hierarchy.specs.vlog_tree.Tree.{PortOf}
+use Rattle.vlog_tree.specs.Tree.{PortOf}
 use Rattle.vlog_hierarchy.specs.vlog_size.declared.scope.ScopeNet.{ScopeNet}
 use Rattle.vlog_hierarchy.specs.vlog_size.Table.{Named, value_of}
 use Rattle.vlog_kinds.specs.vlog_names.Ports.{input_after}

@@ -1,6 +1,6 @@
 -- The instances in an instance that may be there or not.
 use Rattle.std.specs.Prelude.{ℕ, List, [], Option, None, Some}
-use Rattle.vlog_hierarchy.specs.vlog_tree.Tree.{ItemOf, ModuleOf}
+use Rattle.vlog_tree.specs.Tree.{ItemOf, ModuleOf}
 use Rattle.vlog_scope.specs.Scope.{readable_at, after_item}
 use Rattle.vlog_elab.specs.Instances.{ModuleInstance, item_children, children_from, children}
 

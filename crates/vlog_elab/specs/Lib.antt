@@ -13,4 +13,3 @@ pub use Rattle.vlog_hierarchy.specs as vlog_hierarchy
 pub use Rattle.vlog_kinds.specs.vlog_names as vlog_names
 pub use Rattle.vlog_scope.specs as vlog_scope
 pub use Rattle.vlog_hierarchy.specs.vlog_size as vlog_size
-pub use Rattle.vlog_hierarchy.specs.vlog_tree as vlog_tree

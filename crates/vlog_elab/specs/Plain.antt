@@ -1,9 +1,9 @@
 -- The instances of the code as plain data, without pointers.
 use Rattle.std.specs.Prelude.{◌≡◌, ℕ, List, [], ◌∷◌, map, Option, None, Some}
 use Rattle.std.specs.Borrow.{Bor}
-use Rattle.vlog_hierarchy.specs.vlog_tree.Tree.{ModuleOf, FileOf}
-use Rattle.vlog_hierarchy.specs.vlog_tree.Plain.{plain_module}
-use Rattle.vlog_hierarchy.specs.vlog_tree.declared.module.Module.{Module}
+use Rattle.vlog_tree.specs.Tree.{ModuleOf, FileOf}
+use Rattle.vlog_tree.specs.Plain.{plain_module}
+use Rattle.vlog_tree.specs.declared.module.Module.{Module}
 use Rattle.vlog_kinds.specs.vlog_names.Entries.{module_entry}
 use Rattle.vlog_hierarchy.specs.Plain.{plain_path}
 use Rattle.vlog_hierarchy.specs.Outlines.{outlines_of}

@@ -3,7 +3,7 @@
 use Rattle.std.specs.Prelude.{◌≡◌, ◌⊎◌, ℕ, nat_lt, List, [], ◌++◌, map, length, slice_get, None, Some}
 use Rattle.std.specs.List.{flat_map, sum_by}
 use Rattle.vlog_hierarchy.specs.vidi_bits.Findings.{told_if}
-use Rattle.vlog_hierarchy.specs.vlog_tree.Tree.{ModuleOf, FileOf}
+use Rattle.vlog_tree.specs.Tree.{ModuleOf, FileOf}
 use Rattle.vlog_kinds.specs.vlog_names.Twice.{twice_names}
 use Rattle.vlog_kinds.specs.vlog_names.Unknown.{unknown_names}
 use Rattle.vlog_kinds.specs.Uses.{wrong_uses}

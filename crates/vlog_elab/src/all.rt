@@ -3,7 +3,7 @@
 ghost use Rattle.vlog_hierarchy.specs.declared.nodes.TheConstants.{MOST_LEVELS};
 ghost use Rattle.std.specs.Prelude.{◌≡◌, IfOk, OnOk, [], map};
 ghost use Rattle.std.specs.List.{flat_map};
-ghost use Rattle.vlog_hierarchy.specs.vlog_tree.Plain.{plain, plain_module};
+ghost use Rattle.vlog_tree.specs.Plain.{plain, plain_module};
 ghost use Rattle.vlog_kinds.specs.vlog_names.Entries.{modules_of};
 ghost use Rattle.vlog_hierarchy.specs.Outlines.{place_of};
 ghost use Rattle.vlog_elab.specs.Instances as instances;
@@ -15,9 +15,9 @@ use crate::modules::{Modules, module_at, place_named};
 use std::alloc::Global;
 use vlog_hierarchy::MOST_LEVELS;
 use vlog_hierarchy::vidi_bits::{Items, Memory};
-use vlog_hierarchy::vlog_tree::{File, Module};
 use vlog_kinds::vlog_names::ModuleTable;
 use vlog_scope::top_scope;
+use vlog_tree::{File, Module};
 
 /// Adds the instance that the top is.
 fn add_top<'a>(

@@ -1,7 +1,7 @@
 //! The instances that stand in an instance.
 
 ghost use Rattle.std.specs.Prelude.{◌≡◌, ◌++◌, ◌∷◌, [], map, slice_get, IfOk, OnOk, Some};
-ghost use Rattle.vlog_hierarchy.specs.vlog_tree.Plain.{plain_instance, plain_item, plain_module};
+ghost use Rattle.vlog_tree.specs.Plain.{plain_instance, plain_item, plain_module};
 ghost use Rattle.vlog_hierarchy.specs.Plain.{plain_path};
 ghost use Rattle.vlog_hierarchy.specs.Outlines.{place_of};
 ghost use Rattle.vlog_scope.specs.Scope.{readable_at};
@@ -12,8 +12,8 @@ use crate::instance::ModuleInstance;
 use crate::modules::{Modules, module_at, place_named};
 use std::alloc::Global;
 use vlog_hierarchy::vidi_bits::{Items, Memory, Name};
-use vlog_hierarchy::vlog_tree::{Instance, Item, Module};
 use vlog_scope::{declared_after, scope_of, view_at};
+use vlog_tree::{Instance, Item, Module};
 
 /// A path with one more name.
 fn longer_path<'a>(

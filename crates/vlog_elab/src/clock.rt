@@ -2,7 +2,7 @@
 
 ghost use Rattle.std.specs.Prelude.{◌≡◌, ◌&&◌, ◌++◌, false, map, IfOk, OnOk};
 ghost use Rattle.vlog_hierarchy.specs.vidi_bits.Findings.{told_if};
-ghost use Rattle.vlog_hierarchy.specs.vlog_tree.Plain.{plain, plain_port};
+ghost use Rattle.vlog_tree.specs.Plain.{plain, plain_port};
 ghost use Rattle.vlog_hierarchy.specs.vlog_size.Table.{value_of};
 ghost use Rattle.vlog_hierarchy.specs.Plain.{plain_path};
 ghost use Rattle.vlog_elab.specs.Clock as clock;
@@ -17,8 +17,8 @@ use std::alloc::Global;
 use vlog_hierarchy::check_clock;
 use vlog_hierarchy::vidi_bits::{Items, Memory, Name};
 use vlog_hierarchy::vlog_size::ScopeNets;
-use vlog_hierarchy::vlog_tree::{File, Port};
 use vlog_kinds::vlog_names::input_after;
+use vlog_tree::{File, Port};
 
 fn is_one_bit(nets: &ScopeNets, name: &[u8]) -> bool
     ensures { result ≡ clock.is_one_bit (value_of nets.now name.now) }

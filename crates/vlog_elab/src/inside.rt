@@ -2,7 +2,7 @@
 
 ghost use Rattle.std.specs.Prelude.{◌≡◌, ◌<◌, ◌++◌, map, length, slice_get, OnOk};
 ghost use Rattle.std.specs.List.{flat_map};
-ghost use Rattle.vlog_hierarchy.specs.vlog_tree.Plain.{plain_item};
+ghost use Rattle.vlog_tree.specs.Plain.{plain_item};
 ghost use Rattle.vlog_elab.specs.Instances.{within};
 ghost use Rattle.vlog_elab.specs.Inside as inside;
 ghost use Rattle.vlog_elab.specs.Plain.{trees_in, listed, plain_instances, IsTable};
@@ -12,8 +12,8 @@ use crate::instance::ModuleInstance;
 use crate::modules::Modules;
 use std::alloc::Global;
 use vlog_hierarchy::vidi_bits::{Items, Memory};
-use vlog_hierarchy::vlog_tree::Item;
 use vlog_scope::declared_after;
+use vlog_tree::Item;
 
 /// Adds an instance, where there is one.
 fn add_listed<'a>(

@@ -1,7 +1,7 @@
 //! Laws of the definitions.
 
 ghost use Rattle.std.specs.Prelude.{◌≡◌, ℕ, List, map};
-ghost use Rattle.vlog_hierarchy.specs.vlog_tree.Tree.{FileOf};
+ghost use Rattle.vlog_tree.specs.Tree.{FileOf};
 ghost use Rattle.vlog_hierarchy.specs.Outlines.{outlines_of, place_of};
 ghost use Rattle.vlog_hierarchy.specs.Nodes.{nodes_of};
 ghost use Rattle.vlog_elab.specs.Instances.{instances, node_of};

@@ -21,6 +21,6 @@ pub use instance::{ModuleInstance, ModuleInstances};
 pub use laws::instances_are_nodes;
 pub use reasons::instances_of;
 pub use vlog_hierarchy;
-pub use vlog_hierarchy::{vidi_bits, vlog_size, vlog_tree};
+pub use vlog_hierarchy::{vidi_bits, vlog_size};
 pub use vlog_kinds::vlog_names;
 pub use vlog_scope;

@@ -1,12 +1,12 @@
 //! The modules of a file by name and by place.
 
 ghost use Rattle.std.specs.Prelude.{◌≡◌, map, option_map, slice_get};
-ghost use Rattle.vlog_hierarchy.specs.vlog_tree.Plain.{plain_module};
+ghost use Rattle.vlog_tree.specs.Plain.{plain_module};
 ghost use Rattle.vlog_hierarchy.specs.Outlines.{place_of};
 ghost use Rattle.vlog_elab.specs.Plain.{plain_borrowed, IsTable};
 
-use vlog_hierarchy::vlog_tree::Module;
 use vlog_kinds::vlog_names::ModuleTable;
+use vlog_tree::Module;
 
 /// The modules of a file, and what each declares by name.
 #[derive(Clone, Copy)]

@@ -2,8 +2,8 @@
 
 ghost use Rattle.std.specs.Prelude.{◌≡◌, ◌<◌, ◌^◌, ◌-◌, ◌↔◌, ℕ, [], map, min, length, slice_get, IfOk, IsTrue, MatchResult, Some};
 ghost use Rattle.std.specs.List.{flat_map};
-ghost use Rattle.vlog_hierarchy.specs.vlog_tree.Tree.{ModuleOf};
-ghost use Rattle.vlog_hierarchy.specs.vlog_tree.Plain.{plain, plain_module};
+ghost use Rattle.vlog_tree.specs.Tree.{ModuleOf};
+ghost use Rattle.vlog_tree.specs.Plain.{plain, plain_module};
 ghost use Rattle.vlog_kinds.specs.vlog_names.Entries.{modules_of};
 ghost use Rattle.vlog_hierarchy.specs.Outlines.{outlines_of, place_of};
 ghost use Rattle.vlog_hierarchy.specs.Nodes.{nodes_of, firsts, net_total};
@@ -19,11 +19,11 @@ use crate::error::{Big, ElabError};
 use crate::instance::{ModuleInstance, ModuleInstances};
 use std::alloc::Global;
 use vlog_hierarchy::vidi_bits::{Items, Memory, Name, copied};
-use vlog_hierarchy::vlog_tree::File;
 use vlog_hierarchy::{Nodes, nested};
 use vlog_kinds::check_kinds;
 use vlog_kinds::vlog_names::{ModuleTable, check_names};
 use vlog_scope::{const_fault, is_faultless, width_fault, words_of};
+use vlog_tree::File;
 
 /// The most words of memories.
 const MOST_WORDS: usize = 1_048_576;

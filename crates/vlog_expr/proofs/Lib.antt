@@ -11,4 +11,3 @@ pub mod Turns
 pub mod Whole
 pub use Rattle.vlog_tree.proofs.vidi_bits_lemmas as vidi_bits_lemmas
 pub use Rattle.vlog_tree.proofs.vlog_lex_lemmas as vlog_lex_lemmas
-pub use Rattle.vlog_tree.proofs as vlog_tree_lemmas

@@ -6,4 +6,3 @@ pub mod Marks
 pub mod Reader
 pub use Rattle.vlog_tree.specs.vidi_bits as vidi_bits
 pub use Rattle.vlog_tree.specs.vlog_lex as vlog_lex
-pub use Rattle.vlog_tree.specs as vlog_tree

@@ -21,5 +21,4 @@ pub use laws::{lines_dont_count, one_expr, read_is_spelled, spelled_is_read};
 pub use parser::{fuel_for, parse_expression};
 pub use target::target_of;
 pub use unread::Unread;
-pub use vlog_tree;
 pub use vlog_tree::{vidi_bits, vlog_lex};

@@ -1,8 +1,8 @@
 -- E13's definitions on a top with the ports c and d, a clocked block of c, and an instance with c joined to its k.
 use Rattle.std.proofs.Common.{◌≡◌, ℕ, List, [], ◌∷◌, None, Some, refl}
 use Rattle.vlog_size.specs.Table.{Named}
-use Rattle.vlog_size.specs.vlog_tree.Tree.{ExprOf, UnaryExpr, RefPrim, ParenPrim, RefWith, NoIndex, NoLast, ConnOf, InstanceOf, ItemOf, ModuleOf}
-use Rattle.vlog_size.specs.vlog_tree.Tree.{AlwaysItem, InstanceItem, PosedgeEvent, EmptyBody}
+use Rattle.vlog_tree.specs.Tree.{ExprOf, UnaryExpr, RefPrim, ParenPrim, RefWith, NoIndex, NoLast, ConnOf, InstanceOf, ItemOf, ModuleOf}
+use Rattle.vlog_tree.specs.Tree.{AlwaysItem, InstanceItem, PosedgeEvent, EmptyBody}
 use Rattle.vlog_hierarchy.specs.declared.error.HierarchyError.TheVariants as error
 use Rattle.vlog_hierarchy.specs.declared.scopes.Scope.{Scope}
 use Rattle.vlog_hierarchy.specs.Outlines.{Outline}

@@ -8,9 +8,9 @@ use Rattle.std.proofs.lemmas.List.{map-append, length-map}
 use Rattle.std.proofs.lemmas.List.Elements.{Contains-append_cases}
 use Rattle.std.proofs.lemmas.Option.{slice_get-map, slice_get_read}
 use Rattle.vlog_size.proofs.vidi_bits_lemmas.Lists.{none_in}
-use Rattle.vlog_size.specs.vlog_tree.Tree.{InstanceOf, ItemOf, WiresItem, DrivenWiresItem, RegsItem, LocalparamsItem, AssignItem, AlwaysItem}
-use Rattle.vlog_size.specs.vlog_tree.Tree.{InstanceItem}
-use Rattle.vlog_size.specs.vlog_tree.Tree.{ModuleOf}
+use Rattle.vlog_tree.specs.Tree.{InstanceOf, ItemOf, WiresItem, DrivenWiresItem, RegsItem, LocalparamsItem, AssignItem, AlwaysItem}
+use Rattle.vlog_tree.specs.Tree.{InstanceItem}
+use Rattle.vlog_tree.specs.Tree.{ModuleOf}
 use Rattle.vlog_hierarchy.specs.declared.outline.Child as child
 use Rattle.vlog_hierarchy.specs.declared.outline.Outline as outline
 use Rattle.vlog_hierarchy.specs.Outlines.{Child, Outline, place_from, place_of, child_at, item_children, children_of, outline_of}

@@ -1,6 +1,6 @@
 -- The definitions on a top with two instances of one module.
 use Rattle.std.proofs.Common.{◌≡◌, ℕ, List, [], ◌∷◌, refl}
-use Rattle.vlog_size.specs.vlog_tree.Tree.{InstanceOf}
+use Rattle.vlog_tree.specs.Tree.{InstanceOf}
 use Rattle.vlog_hierarchy.specs.Outlines.{Child, Outline}
 use Rattle.vlog_hierarchy.specs.Nodes.{Node, nodes, firsts, net_total}
 

@@ -7,8 +7,8 @@ use Rattle.std.specs.Str.{bytes_eq}
 use Rattle.indexmap.specs.IndexMap.{IndexMap, get, get_by, insert_entry}
 use Rattle.indexmap.proofs.CallerLemmas.{insert_entry-new}
 use Rattle.vlog_size.specs.vidi_bits.Findings.{or_first}
-use Rattle.vlog_size.specs.vlog_tree.Plain.{plain_module}
-use Rattle.vlog_size.specs.vlog_tree.declared.module.Module.{Module}
+use Rattle.vlog_tree.specs.Plain.{plain_module}
+use Rattle.vlog_tree.specs.declared.module.Module.{Module}
 use Rattle.vlog_hierarchy.specs.Outlines.{place_from}
 
 abbrev Key : Type 0

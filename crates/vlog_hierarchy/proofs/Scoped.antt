@@ -6,7 +6,7 @@ use Rattle.std.specs.List.{flat_map}
 use Rattle.std.proofs.lemmas.List.{map-append}
 use Rattle.std.proofs.lemmas.Option.{slice_get-map}
 use Rattle.vlog_size.specs.Table.{Named}
-use Rattle.vlog_size.specs.vlog_tree.Plain.{plain_instance}
+use Rattle.vlog_tree.specs.Plain.{plain_instance}
 use Rattle.vlog_hierarchy.specs.declared.outline.Child as child
 use Rattle.vlog_hierarchy.specs.declared.outline.Outline as outline
 use Rattle.vlog_hierarchy.specs.Plain.{plain_child, plain_outline, plain_outlines}

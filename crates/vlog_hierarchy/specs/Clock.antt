@@ -3,17 +3,17 @@ use Rattle.std.specs.Prelude.{ℕ, zero, suc, ◌+◌, ◌==◌, not, Bool, true
 use Rattle.std.specs.Prelude.{is_some, slice_get, slice_set}
 use Rattle.std.specs.List.{flat_map, list_any}
 use Rattle.vlog_size.specs.vidi_bits.Findings.{told_if}
-use Rattle.vlog_size.specs.vlog_tree.Tree.{IdentOf, ExprOf, UnaryExpr, BinaryExpr, ChoiceExpr, PrimOf, NumberPrim, RefPrim, ParenPrim, ConcatPrim}
-use Rattle.vlog_size.specs.vlog_tree.Tree.{RepeatPrim}
-use Rattle.vlog_size.specs.vlog_tree.Tree.{RefOf, RefWith, IndexOf, NoIndex, Index, LastOf, NoLast, Last, SelOf, IndexSel, PartSel, IndexedSel}
-use Rattle.vlog_size.specs.vlog_tree.Tree.{ExprsOf}
-use Rattle.vlog_size.specs.vlog_tree.Tree.{NoExprs, MoreExprs, TargetOf, RefTarget, ConcatTarget, TargetsOf, NoTargets, MoreTargets, StmtOf}
-use Rattle.vlog_size.specs.vlog_tree.Tree.{BeginStmt}
-use Rattle.vlog_size.specs.vlog_tree.Tree.{IfStmt, CaseStmt, AssignStmt, BodyOf, StmtBody, EmptyBody, ElseOf, NoElse, Else, StmtsOf, NoStmts}
-use Rattle.vlog_size.specs.vlog_tree.Tree.{MoreStmts}
-use Rattle.vlog_size.specs.vlog_tree.Tree.{ArmOf, LabelsArm, DefaultArm, ArmsOf, NoArms, MoreArms, NamedValueOf, AssignOf, EventOf, PosedgeEvent}
-use Rattle.vlog_size.specs.vlog_tree.Tree.{ImplicitEvent, ConnOf, InstanceOf, ItemOf, WiresItem, DrivenWiresItem, RegsItem, LocalparamsItem}
-use Rattle.vlog_size.specs.vlog_tree.Tree.{AssignItem, AlwaysItem, InstanceItem, ModuleOf}
+use Rattle.vlog_tree.specs.Tree.{IdentOf, ExprOf, UnaryExpr, BinaryExpr, ChoiceExpr, PrimOf, NumberPrim, RefPrim, ParenPrim, ConcatPrim}
+use Rattle.vlog_tree.specs.Tree.{RepeatPrim}
+use Rattle.vlog_tree.specs.Tree.{RefOf, RefWith, IndexOf, NoIndex, Index, LastOf, NoLast, Last, SelOf, IndexSel, PartSel, IndexedSel}
+use Rattle.vlog_tree.specs.Tree.{ExprsOf}
+use Rattle.vlog_tree.specs.Tree.{NoExprs, MoreExprs, TargetOf, RefTarget, ConcatTarget, TargetsOf, NoTargets, MoreTargets, StmtOf}
+use Rattle.vlog_tree.specs.Tree.{BeginStmt}
+use Rattle.vlog_tree.specs.Tree.{IfStmt, CaseStmt, AssignStmt, BodyOf, StmtBody, EmptyBody, ElseOf, NoElse, Else, StmtsOf, NoStmts}
+use Rattle.vlog_tree.specs.Tree.{MoreStmts}
+use Rattle.vlog_tree.specs.Tree.{ArmOf, LabelsArm, DefaultArm, ArmsOf, NoArms, MoreArms, NamedValueOf, AssignOf, EventOf, PosedgeEvent}
+use Rattle.vlog_tree.specs.Tree.{ImplicitEvent, ConnOf, InstanceOf, ItemOf, WiresItem, DrivenWiresItem, RegsItem, LocalparamsItem}
+use Rattle.vlog_tree.specs.Tree.{AssignItem, AlwaysItem, InstanceItem, ModuleOf}
 use Rattle.vlog_hierarchy.specs.declared.error.HierarchyError.{HierarchyError}
 use Rattle.vlog_hierarchy.specs.declared.error.HierarchyError.TheVariants as error
 use Rattle.vlog_hierarchy.specs.declared.scopes.Scope.{Scope}

@@ -10,4 +10,3 @@ pub mod Plain
 pub mod Reach
 pub use Rattle.vlog_size.specs.vidi_bits as vidi_bits
 pub use Rattle.vlog_size.specs as vlog_size
-pub use Rattle.vlog_size.specs.vlog_tree as vlog_tree

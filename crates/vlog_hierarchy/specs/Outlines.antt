@@ -2,8 +2,8 @@
 use Rattle.std.specs.Prelude.{ℕ, ◌+◌, Bool, true, false, List, [], ◌∷◌, map, length, Option, None, Some, if◌then◌else◌, slice_get}
 use Rattle.std.specs.List.{flat_map, sum_by}
 use Rattle.std.specs.Str.{bytes_eq}
-use Rattle.vlog_size.specs.vlog_tree.Tree.{RegTailOf, InitTail, MemoryTail, Reg1Of, InstanceOf, ItemOf, WiresItem, DrivenWiresItem, RegsItem}
-use Rattle.vlog_size.specs.vlog_tree.Tree.{LocalparamsItem, AssignItem, AlwaysItem, InstanceItem, ModuleOf}
+use Rattle.vlog_tree.specs.Tree.{RegTailOf, InitTail, MemoryTail, Reg1Of, InstanceOf, ItemOf, WiresItem, DrivenWiresItem, RegsItem}
+use Rattle.vlog_tree.specs.Tree.{LocalparamsItem, AssignItem, AlwaysItem, InstanceItem, ModuleOf}
 
 -- an instance whose module is declared, and that module's place in the file, counted from 0
 pub record Child : Type 0 where

@@ -2,7 +2,7 @@
 use Rattle.std.specs.Prelude.{◌≡◌, ℕ, nat_eq, List, map}
 use Rattle.std.specs.Cmp.Lexicographic.{pointwise}
 use Rattle.indexmap.specs.IndexMap.{get_by}
-use Rattle.vlog_size.specs.vlog_tree.Plain.{plain_module}
+use Rattle.vlog_tree.specs.Plain.{plain_module}
 use Rattle.vlog_hierarchy.specs.Outlines.{place_of}
 use Rattle.vlog_hierarchy.specs.declared.places.Index.{Index}
 

@@ -1,7 +1,7 @@
 -- Outlines and instances of the code as plain data, without pointers.
 use Rattle.std.specs.Prelude.{ℕ, List, map}
 use Rattle.std.specs.Borrow.{Bor}
-use Rattle.vlog_size.specs.vlog_tree.Plain.{plain_instance}
+use Rattle.vlog_tree.specs.Plain.{plain_instance}
 use Rattle.vlog_hierarchy.specs.Outlines.{Child, Outline}
 use Rattle.vlog_hierarchy.specs.Nodes.{Node}
 use Rattle.vlog_hierarchy.specs.declared.outline.Child as child

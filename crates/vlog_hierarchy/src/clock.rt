@@ -2,8 +2,8 @@
 
 ghost use Rattle.std.specs.Prelude.{◌≡◌, ◌++◌, map, length, option_map, IfOk, OnOk};
 ghost use Rattle.std.specs.List.{flat_map};
-ghost use Rattle.vlog_size.specs.vlog_tree.Plain.{plain, plain_expr, plain_event, plain_conn, plain_named, plain_assign, plain_always, plain_item};
-ghost use Rattle.vlog_size.specs.vlog_tree.Plain.{plain_module};
+ghost use Rattle.vlog_tree.specs.Plain.{plain, plain_expr, plain_event, plain_conn, plain_named, plain_assign, plain_always, plain_item};
+ghost use Rattle.vlog_tree.specs.Plain.{plain_module};
 ghost use Rattle.vlog_hierarchy.specs.Outlines.{outlines_of, place_of};
 ghost use Rattle.vlog_hierarchy.specs.Plain.{plain_path};
 ghost use Rattle.vlog_hierarchy.specs.Clock.{event_ports, item_ports, scope_ports, clock_ports, first_port, same_port, marked, clock_marks};
@@ -21,7 +21,7 @@ use crate::scopes::{Scope, plain_name, port_of, scopes_of};
 use std::alloc::Global;
 use vlog_size::Table;
 use vlog_size::vidi_bits::{Items, Memory, Name};
-use vlog_size::vlog_tree::{Always, Assign, Conn, Event, Expr, File, Item, Module, NamedValue};
+use vlog_tree::{Always, Assign, Conn, Event, Expr, File, Item, Module, NamedValue};
 
 /// For each clocked block the port to which its name is joined.
 pub type ClockPorts = Items<Option<usize>>;

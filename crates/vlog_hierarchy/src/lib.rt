@@ -21,5 +21,5 @@ pub use laws::{clocks_are_of_all_nodes, more_levels_change_nothing};
 pub use nodes::{MOST_LEVELS, Node, Nodes, nodes_of};
 pub use port::clock_port;
 pub use vlog_size;
-pub use vlog_size::{vidi_bits, vlog_tree};
+pub use vlog_size::vidi_bits;
 pub use walk::nested;

@@ -3,7 +3,7 @@
 ghost use Rattle.vlog_hierarchy.specs.declared.nodes.TheConstants.{MOST_INSTANCES, MOST_NETS};
 ghost use Rattle.std.specs.Prelude.{◌≡◌, ◌≤◌, ◌<◌, ◌+◌, ◌++◌, [], ◌∷◌, List, map, IfOk, OnOk, IfErr, length};
 ghost use Rattle.std.specs.List.{flat_map};
-ghost use Rattle.vlog_size.specs.vlog_tree.Plain.{plain};
+ghost use Rattle.vlog_tree.specs.Plain.{plain};
 ghost use Rattle.vlog_hierarchy.specs.Outlines.{outlines_of, place_of, nets_at, children_at};
 ghost use Rattle.vlog_hierarchy.specs.Plain.{plain_child, plain_outlines, plain_node, plain_nodes, plain_path};
 ghost use Rattle.vlog_hierarchy.specs.Nodes.{nodes, child_nodes, nodes_of, net_total, firsts, count_faults, net_faults, size_faults};
@@ -16,7 +16,7 @@ use crate::outline::{Child, Outline, outlines};
 use crate::places::{index_of, place_named};
 use std::alloc::Global;
 use vlog_size::vidi_bits::{Items, Memory, Name};
-use vlog_size::vlog_tree::File;
+use vlog_tree::File;
 
 /// The most instances of a design.
 pub const MOST_INSTANCES: usize = 4_096;

@@ -2,7 +2,7 @@
 
 ghost use Rattle.std.specs.Prelude.{◌≡◌, ◌≤◌, ◌^◌, ◌++◌, map, IfOk, OnOk};
 ghost use Rattle.std.specs.List.{sum_by};
-ghost use Rattle.vlog_size.specs.vlog_tree.Plain.{plain_item, plain_reg, plain_instance, plain_module};
+ghost use Rattle.vlog_tree.specs.Plain.{plain_item, plain_reg, plain_instance, plain_module};
 ghost use Rattle.vlog_hierarchy.specs.Outlines.{reg_nets, item_nets, net_count, child_at, item_children, children_of, outline_of};
 ghost use Rattle.vlog_hierarchy.specs.Outlines.{outlines_of, place_of};
 ghost use Rattle.vlog_hierarchy.specs.Plain.{plain_child, plain_outline, plain_outlines};
@@ -11,7 +11,7 @@ ghost use Rattle.vlog_hierarchy.specs.Places.{IsIndex};
 use crate::places::{Index, place_named};
 use std::alloc::Global;
 use vlog_size::vidi_bits::{Items, Memory};
-use vlog_size::vlog_tree::{Instance, Item, Module, Reg1, RegTail};
+use vlog_tree::{Instance, Item, Module, Reg1, RegTail};
 
 /// An instance whose module is declared.
 #[derive(Clone, Copy)]

@@ -5,14 +5,14 @@ ghost use Rattle.std.specs.Cmp.Lexicographic.{pointwise};
 ghost use Rattle.std.specs.Str.{bytes_eq};
 ghost use Rattle.indexmap.specs.IndexMap.{get_by};
 ghost use Rattle.vlog_size.specs.vidi_bits.Findings.{or_first};
-ghost use Rattle.vlog_size.specs.vlog_tree.Plain.{plain_module};
+ghost use Rattle.vlog_tree.specs.Plain.{plain_module};
 ghost use Rattle.vlog_hierarchy.specs.Outlines.{place_of};
 ghost use Rattle.vlog_hierarchy.specs.Places.{IsIndex};
 
 use indexmap::IndexMap;
 use std::alloc::Global;
 use vlog_size::vidi_bits::Memory;
-use vlog_size::vlog_tree::Module;
+use vlog_tree::Module;
 
 /// The place of the first module of each name, counted from 0.
 pub type Places = IndexMap<Vec<u8>, usize>;

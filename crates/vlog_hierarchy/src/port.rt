@@ -1,7 +1,7 @@
 //! The clock, as a port of the top.
 
 ghost use Rattle.std.specs.Prelude.{◌≡◌, IfOk};
-ghost use Rattle.vlog_size.specs.vlog_tree.Plain.{plain};
+ghost use Rattle.vlog_tree.specs.Plain.{plain};
 ghost use Rattle.vlog_hierarchy.specs.Outlines.{outlines_of, place_of};
 ghost use Rattle.vlog_hierarchy.specs.Plain.{plain_path};
 ghost use Rattle.vlog_hierarchy.specs.Clock.{clock_ports, first_port, scopes_of};
@@ -12,7 +12,7 @@ use crate::places::{index_of, place_named};
 use crate::scopes::scopes_of;
 use std::alloc::Global;
 use vlog_size::vidi_bits::{Memory, Name};
-use vlog_size::vlog_tree::File;
+use vlog_tree::File;
 
 /// Of a top whose 1-bit input ports are these: the place among them, counted from 0, of the one to which the name of the first clocked
 /// block is joined, by plain names through ports; `None` where there is no clocked block, its name isn't joined to one, or the top isn't

@@ -3,8 +3,8 @@
 ghost use Rattle.std.specs.Prelude.{◌≡◌, map, option_map};
 ghost use Rattle.std.specs.List.{flat_map};
 ghost use Rattle.vlog_size.specs.Table.{value_of};
-ghost use Rattle.vlog_size.specs.vlog_tree.Plain.{plain_ident, plain_expr, plain_prim, plain_unary, plain_ref, plain_sel, plain_exprs};
-ghost use Rattle.vlog_size.specs.vlog_tree.Plain.{plain_target, plain_targets, plain_stmt, plain_stmts, plain_body, plain_arm, plain_arms};
+ghost use Rattle.vlog_tree.specs.Plain.{plain_ident, plain_expr, plain_prim, plain_unary, plain_ref, plain_sel, plain_exprs};
+ghost use Rattle.vlog_tree.specs.Plain.{plain_target, plain_targets, plain_stmt, plain_stmts, plain_body, plain_arm, plain_arms};
 ghost use Rattle.vlog_hierarchy.specs.Reach.{is_marked};
 ghost use Rattle.vlog_hierarchy.specs.Clock.{is_clock, name_faults, expr_faults, prim_faults, ref_faults, sel_faults, exprs_faults};
 ghost use Rattle.vlog_hierarchy.specs.Clock.{written_faults, target_faults, targets_faults, stmt_faults, stmts_faults, body_faults};
@@ -15,7 +15,7 @@ ghost use Rattle.vlog_hierarchy.specs.Told.{hierarchy_told};
 use crate::error::HierarchyError;
 use crate::scopes::port_of;
 use vlog_size::Table;
-use vlog_size::vlog_tree::{
+use vlog_tree::{
     Arm, Body, Expr, Ident, Operand, Ref, Sel, Stmt, Target, Unary, see_begin, see_case,
     see_concat, see_concat_target, see_repeat,
 };

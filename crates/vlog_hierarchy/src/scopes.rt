@@ -4,7 +4,7 @@ ghost use Rattle.std.specs.Prelude.{◌≡◌, ◌<◌, [], ◌∷◌, ◌++◌,
 ghost use Rattle.std.specs.Option.{option_copied};
 ghost use Rattle.std.specs.List.{flat_map};
 ghost use Rattle.vlog_size.specs.Table.{value_of};
-ghost use Rattle.vlog_size.specs.vlog_tree.Plain.{plain_expr, plain_unary, plain_ref, plain_conn, plain_instance};
+ghost use Rattle.vlog_tree.specs.Plain.{plain_expr, plain_unary, plain_ref, plain_conn, plain_instance};
 ghost use Rattle.vlog_hierarchy.specs.Outlines.{children_at};
 ghost use Rattle.vlog_hierarchy.specs.Plain.{plain_child, plain_outlines, plain_path};
 ghost use Rattle.vlog_hierarchy.specs.Clock.{ports_from, ref_name, plain_name, port_of_value, conn_joined, child_joined};
@@ -15,7 +15,7 @@ use crate::outline::{Child, Outline};
 use std::alloc::Global;
 use vlog_size::Table;
 use vlog_size::vidi_bits::{Items, Memory, Name, copied};
-use vlog_size::vlog_tree::{Conn, Expr, Instance, Operand, Ref, Unary, see_concat, see_repeat};
+use vlog_tree::{Conn, Expr, Instance, Operand, Ref, Unary, see_concat, see_repeat};
 
 /// An instance.
 #[derive(Drop)]

@@ -3,7 +3,7 @@
 ghost use Rattle.std.specs.Prelude.{◌≡◌, ◌<◌, ◌++◌, ◌↔◌, ℕ, Bool, true, not, List, map, Option, Some, None, IfOk, OnOk};
 ghost use Rattle.std.specs.Prelude.{length, slice_set};
 ghost use Rattle.vlog_size.specs.vidi_bits.Findings.{told_if};
-ghost use Rattle.vlog_size.specs.vlog_tree.Plain.{plain};
+ghost use Rattle.vlog_tree.specs.Plain.{plain};
 ghost use Rattle.vlog_hierarchy.specs.Outlines.{outlines_of, place_of};
 ghost use Rattle.vlog_hierarchy.specs.Plain.{plain_outlines};
 ghost use Rattle.vlog_hierarchy.specs.Nested.{kids, Below, IsNested, IsFirstNested, IsNestedAnswer};
@@ -16,7 +16,7 @@ use crate::outline::{Child, Outline, outlines};
 use crate::places::{index_of, place_named};
 use std::alloc::Global;
 use vlog_size::vidi_bits::{Items, Memory};
-use vlog_size::vlog_tree::File;
+use vlog_tree::File;
 
 /// The modules found below a module.
 #[derive(Drop)]

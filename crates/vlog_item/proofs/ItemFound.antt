@@ -4,13 +4,13 @@ use Rattle.std.proofs.Common.{append_assoc}
 use Rattle.std.specs.List.{AllByRecursion}
 use Rattle.vlog_stmt.specs.vlog_lex.declared.token.TokenKind.{TokenKind}
 use Rattle.vlog_stmt.specs.vlog_lex.declared.token.TokenKind.TheVariants.{Identifier, Reserved, Decimal, Based, Other}
-use Rattle.vlog_stmt.specs.vlog_tree.declared.terminal.Terminal.TheVariants as t
-use Rattle.vlog_stmt.specs.vlog_tree.Words.{WordOf, Fixed, FixedAt}
-use Rattle.vlog_stmt.specs.vlog_tree.Tree.{IdentOf, RangeOf, NamedValueOf, Reg1Of, AssignOf, ItemOf}
-use Rattle.vlog_stmt.specs.vlog_tree.Spelling.{ident_words, with_commas, range_words, optional}
-use Rattle.vlog_stmt.specs.vlog_tree.Spelling.{init_words, named_words, reg_words, assign_words, event_words, item_words}
-use Rattle.vlog_stmt.specs.vlog_tree.Shape.{IsGoodExpr, IsGoodOption, IsGoodRange, IsGoodIdent}
-use Rattle.vlog_stmt.specs.vlog_tree.Shape.{IsGoodNamed, IsGoodReg, IsGoodAssign, IsGoodEvent, IsGoodItem}
+use Rattle.vlog_tree.specs.declared.terminal.Terminal.TheVariants as t
+use Rattle.vlog_tree.specs.Words.{WordOf, Fixed, FixedAt}
+use Rattle.vlog_tree.specs.Tree.{IdentOf, RangeOf, NamedValueOf, Reg1Of, AssignOf, ItemOf}
+use Rattle.vlog_tree.specs.Spelling.{ident_words, with_commas, range_words, optional}
+use Rattle.vlog_tree.specs.Spelling.{init_words, named_words, reg_words, assign_words, event_words, item_words}
+use Rattle.vlog_tree.specs.Shape.{IsGoodExpr, IsGoodOption, IsGoodRange, IsGoodIdent}
+use Rattle.vlog_tree.specs.Shape.{IsGoodNamed, IsGoodReg, IsGoodAssign, IsGoodEvent, IsGoodItem}
 use Rattle.vlog_stmt.specs.vlog_expr.Laws.{Holds}
 use Rattle.vlog_item.specs.Laws.{ReadItemsAreSpelled}
 use Rattle.vlog_stmt.specs.vlog_expr.Reader.{Read}
@@ -23,9 +23,9 @@ use Rattle.vlog_stmt.proofs.Sure.{Sure, nothing, sure, next, either, ◌▹◌, 
 use Rattle.vlog_stmt.proofs.Sure.{expr_found, target_found}
 use Rattle.vlog_stmt.proofs.ListFound.{AreLed, led_good, alone, At, more_found, some_found}
 use Rattle.vlog_stmt.proofs.StmtFound.{body_found}
-use Rattle.vlog_stmt.specs.vlog_tree.Tree.{ConnOf, ExprOf, EventOf}
-use Rattle.vlog_stmt.specs.vlog_tree.Spelling.{tail_words, hash_words, expr_words, conn_words}
-use Rattle.vlog_stmt.specs.vlog_tree.Shape.{IsGoodTail, IsGoodConn}
+use Rattle.vlog_tree.specs.Tree.{ConnOf, ExprOf, EventOf}
+use Rattle.vlog_tree.specs.Spelling.{tail_words, hash_words, expr_words, conn_words}
+use Rattle.vlog_tree.specs.Shape.{IsGoodTail, IsGoodConn}
 use Rattle.vlog_item.specs.ItemReader.{tail_front, localparams_at, paren_event_at, value_at, conn_at, parameter_conns_front, conns_at}
 use Rattle.vlog_item.specs.ItemReader.{instance_at, named_item_at, other_item_at}
 

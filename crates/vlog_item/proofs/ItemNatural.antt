@@ -1,8 +1,8 @@
 -- Without lines the reader reads the same items, without their lines.
 use Rattle.std.proofs.Common.{◌≡◌, if◌then◌else◌, ℕ, Bool, true, false, Option, None, Some, [], ◌∷◌, map, option_map}
 use Rattle.std.proofs.Common.{refl}
-use Rattle.vlog_stmt.specs.vlog_tree.declared.terminal.Terminal.TheVariants as t
-use Rattle.vlog_stmt.specs.vlog_tree.Tree.{IdentOf, RangeOf}
+use Rattle.vlog_tree.specs.declared.terminal.Terminal.TheVariants as t
+use Rattle.vlog_tree.specs.Tree.{IdentOf, RangeOf}
 use Rattle.vlog_stmt.specs.vlog_expr.Marks.{Toks, is_name, name_front}
 use Rattle.vlog_stmt.specs.vlog_expr.Bare.{forget_all, bare_ident, bare_expr}
 use Rattle.vlog_item.specs.BareItem.{bare_range, bare_named, bare_tail, bare_reg, bare_assign, bare_event, bare_item}

@@ -3,20 +3,20 @@ use Rattle.std.proofs.Common.{◌≡◌, ℕ, ◌<◌, ◌≤◌, true, false, O
 use Rattle.std.proofs.Common.{ap}
 use Rattle.std.proofs.Common.{◌∙◌, arith, length-append}
 use Rattle.std.specs.List.{AllByRecursion}
-use Rattle.vlog_stmt.specs.vlog_tree.declared.terminal.Terminal.TheVariants as t
-use Rattle.vlog_stmt.specs.vlog_tree.Words.{WordOf, Fixed, NameAt}
-use Rattle.vlog_stmt.specs.vlog_tree.Tree.{IdentOf, ExprOf, BodyOf, RangeOf, NamedValueOf, RegTailOf, InitTail, Reg1Of}
-use Rattle.vlog_stmt.specs.vlog_tree.Tree.{AssignOf, EventOf, PosedgeEvent, ItemOf, WiresItem, DrivenWiresItem, RegsItem, AssignItem, AlwaysItem}
-use Rattle.vlog_stmt.specs.vlog_tree.Spelling.{ident_words, expr_words, target_words, after_commas, with_commas, range_words, optional}
-use Rattle.vlog_stmt.specs.vlog_tree.Spelling.{init_words, named_words, reg_words, assign_words}
-use Rattle.vlog_stmt.specs.vlog_tree.Spelling.{item_words}
-use Rattle.vlog_stmt.specs.vlog_tree.Shape.{IsGoodExpr, IsGoodBody, IsGoodOption, IsGoodRange, IsGoodIdent}
-use Rattle.vlog_stmt.specs.vlog_tree.Shape.{IsGoodNamed, IsGoodTail, IsGoodReg, IsGoodAssign, IsGoodItem}
+use Rattle.vlog_tree.specs.declared.terminal.Terminal.TheVariants as t
+use Rattle.vlog_tree.specs.Words.{WordOf, Fixed, NameAt}
+use Rattle.vlog_tree.specs.Tree.{IdentOf, ExprOf, BodyOf, RangeOf, NamedValueOf, RegTailOf, InitTail, Reg1Of}
+use Rattle.vlog_tree.specs.Tree.{AssignOf, EventOf, PosedgeEvent, ItemOf, WiresItem, DrivenWiresItem, RegsItem, AssignItem, AlwaysItem}
+use Rattle.vlog_tree.specs.Spelling.{ident_words, expr_words, target_words, after_commas, with_commas, range_words, optional}
+use Rattle.vlog_tree.specs.Spelling.{init_words, named_words, reg_words, assign_words}
+use Rattle.vlog_tree.specs.Spelling.{item_words}
+use Rattle.vlog_tree.specs.Shape.{IsGoodExpr, IsGoodBody, IsGoodOption, IsGoodRange, IsGoodIdent}
+use Rattle.vlog_tree.specs.Shape.{IsGoodNamed, IsGoodTail, IsGoodReg, IsGoodAssign, IsGoodItem}
 use Rattle.vlog_stmt.specs.vlog_expr.Marks.{Toks, spelled, spell, after, name_front}
-use Rattle.vlog_stmt.specs.vlog_tree.Tree.{MemoryTail, ImplicitEvent, ConnOf, InstanceOf, LocalparamsItem}
-use Rattle.vlog_stmt.specs.vlog_tree.Tree.{InstanceItem}
-use Rattle.vlog_stmt.specs.vlog_tree.Spelling.{tail_words, hash_words, conn_words}
-use Rattle.vlog_stmt.specs.vlog_tree.Shape.{IsGoodConn, IsGoodInstance}
+use Rattle.vlog_tree.specs.Tree.{MemoryTail, ImplicitEvent, ConnOf, InstanceOf, LocalparamsItem}
+use Rattle.vlog_tree.specs.Tree.{InstanceItem}
+use Rattle.vlog_tree.specs.Spelling.{tail_words, hash_words, conn_words}
+use Rattle.vlog_tree.specs.Shape.{IsGoodConn, IsGoodInstance}
 use Rattle.vlog_stmt.specs.vlog_expr.Reader.{expr_at, target_at, fuel_for}
 use Rattle.vlog_item.specs.ItemReader.{range_at, range_front, init_front}
 use Rattle.vlog_item.specs.ItemReader.{named_at, tail_front, reg_at, assign_at, item_at, value_at, conn_at}

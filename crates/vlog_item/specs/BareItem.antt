@@ -1,8 +1,8 @@
 -- Items without their lines.
-use Rattle.vlog_stmt.specs.vlog_tree.Tree.{RangeOf, NamedValueOf, RegTailOf, Reg1Of, AssignOf, EventOf, ItemOf}
-use Rattle.vlog_stmt.specs.vlog_tree.Tree.{ConnOf}
-use Rattle.vlog_stmt.specs.vlog_tree.Lines.{no_mark, map_range, map_named, map_tail, map_reg, map_assign, map_event, map_item}
-use Rattle.vlog_stmt.specs.vlog_tree.Lines.{map_conn}
+use Rattle.vlog_tree.specs.Tree.{RangeOf, NamedValueOf, RegTailOf, Reg1Of, AssignOf, EventOf, ItemOf}
+use Rattle.vlog_tree.specs.Tree.{ConnOf}
+use Rattle.vlog_tree.specs.Lines.{no_mark, map_range, map_named, map_tail, map_reg, map_assign, map_event, map_item}
+use Rattle.vlog_tree.specs.Lines.{map_conn}
 
 abbrev pub bare_range : {A : Type 0} → RangeOf A → RangeOf (Unit {0})
 bare_range x = map_range no_mark x

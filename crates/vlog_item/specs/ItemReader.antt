@@ -1,10 +1,10 @@
 -- The reader of items, rule by rule of the grammar, with fuel for the expressions and statements in them.
 use Rattle.std.specs.Prelude.{ℕ, true, false, List, [], ◌∷◌, Option, None, Some}
-use Rattle.vlog_stmt.specs.vlog_tree.declared.terminal.Terminal.TheVariants as t
-use Rattle.vlog_stmt.specs.vlog_tree.Tree.{IdentOf, ExprOf, RangeOf, NamedValueOf, InitTail, Reg1Of, AssignOf, EventOf}
-use Rattle.vlog_stmt.specs.vlog_tree.Tree.{PosedgeEvent, ItemOf, WiresItem, DrivenWiresItem, RegsItem, AssignItem, AlwaysItem}
-use Rattle.vlog_stmt.specs.vlog_tree.Tree.{MemoryTail, RegTailOf, ImplicitEvent, ConnOf, LocalparamsItem}
-use Rattle.vlog_stmt.specs.vlog_tree.Tree.{InstanceItem}
+use Rattle.vlog_tree.specs.declared.terminal.Terminal.TheVariants as t
+use Rattle.vlog_tree.specs.Tree.{IdentOf, ExprOf, RangeOf, NamedValueOf, InitTail, Reg1Of, AssignOf, EventOf}
+use Rattle.vlog_tree.specs.Tree.{PosedgeEvent, ItemOf, WiresItem, DrivenWiresItem, RegsItem, AssignItem, AlwaysItem}
+use Rattle.vlog_tree.specs.Tree.{MemoryTail, RegTailOf, ImplicitEvent, ConnOf, LocalparamsItem}
+use Rattle.vlog_tree.specs.Tree.{InstanceItem}
 use Rattle.vlog_stmt.specs.vlog_expr.Marks.{Toks, after, name_front}
 use Rattle.vlog_stmt.specs.vlog_expr.Reader.{◌>>=◌, found_or, Read, expr_at, target_at, more_at, some_at}
 use Rattle.vlog_stmt.specs.StmtReader.{body_at}

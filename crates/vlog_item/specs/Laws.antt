@@ -1,9 +1,9 @@
 -- What the reader of items means: what is spelled is read, and what is read is spelled.
 use Rattle.std.specs.Prelude.{◌≡◌, ◌≤◌, ℕ, None, Some, length}
-use Rattle.vlog_stmt.specs.vlog_tree.declared.terminal.Terminal.TheVariants as t
-use Rattle.vlog_stmt.specs.vlog_tree.Tree.{AlwaysItem, ItemOf}
-use Rattle.vlog_stmt.specs.vlog_tree.Spelling.{item_words}
-use Rattle.vlog_stmt.specs.vlog_tree.Shape.{IsGoodItem}
+use Rattle.vlog_tree.specs.declared.terminal.Terminal.TheVariants as t
+use Rattle.vlog_tree.specs.Tree.{AlwaysItem, ItemOf}
+use Rattle.vlog_tree.specs.Spelling.{item_words}
+use Rattle.vlog_tree.specs.Shape.{IsGoodItem}
 use Rattle.vlog_stmt.specs.vlog_expr.Marks.{Toks, spell, AreWords, AreLawful, after}
 use Rattle.vlog_stmt.specs.vlog_expr.Bare.{forget_all}
 use Rattle.vlog_stmt.specs.vlog_expr.Reader.{fuel_for}

@@ -1,8 +1,8 @@
 //! The reader of instances.
 
 ghost use Rattle.std.specs.Prelude.{ℕ, map, option_map};
-ghost use Rattle.vlog_stmt.specs.vlog_tree.Tree.{ConnOf};
-ghost use Rattle.vlog_stmt.specs.vlog_tree.Plain.{plain_ident, plain_expr, plain_conn, plain_item};
+ghost use Rattle.vlog_tree.specs.Tree.{ConnOf};
+ghost use Rattle.vlog_tree.specs.Plain.{plain_ident, plain_expr, plain_conn, plain_item};
 ghost use Rattle.vlog_stmt.specs.vlog_expr.Marks.{all_marked};
 ghost use Rattle.vlog_stmt.specs.vlog_expr.Given.{Gives};
 ghost use Rattle.vlog_item.specs.ItemReader.{value_at, conn_at, parameter_conns_front, conns_at, instance_at, named_item_at};
@@ -10,8 +10,8 @@ ghost use Rattle.vlog_item.specs.ItemReader.{value_at, conn_at, parameter_conns_
 use std::alloc::Global;
 use vlog_stmt::vlog_expr::{Parsed, after, expect, expr_of, name_of};
 use vlog_stmt::vlog_lex::Token;
-use vlog_stmt::vlog_tree::{Conn, Conns, Expr, Ident, Instance, Item, Terminal};
 use vlog_stmt::{ListReader, some_of};
+use vlog_tree::{Conn, Conns, Expr, Ident, Instance, Item, Terminal};
 
 /// The expression that may stand before `)`, and `)`.
 fn value_of(alloc: Global, tokens: &[Token], fuel: usize) -> Parsed<'_, Option<Expr>>

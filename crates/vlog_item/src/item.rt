@@ -1,27 +1,27 @@
 //! The reader of items.
 
 ghost use Rattle.std.specs.Prelude.{◌≡◌, ℕ, option_map, Some};
-ghost use Rattle.vlog_stmt.specs.vlog_tree.Tree.{IdentOf, NamedValueOf, Reg1Of, AssignOf};
-ghost use Rattle.vlog_stmt.specs.vlog_tree.Plain.{plain_ident, plain_expr, plain_range, plain_named, plain_reg, plain_assign, plain_event};
-ghost use Rattle.vlog_stmt.specs.vlog_tree.Plain.{plain_item};
+ghost use Rattle.vlog_tree.specs.Tree.{IdentOf, NamedValueOf, Reg1Of, AssignOf};
+ghost use Rattle.vlog_tree.specs.Plain.{plain_ident, plain_expr, plain_range, plain_named, plain_reg, plain_assign, plain_event};
+ghost use Rattle.vlog_tree.specs.Plain.{plain_item};
 ghost use Rattle.vlog_stmt.specs.vlog_expr.Marks.{all_marked, name_front};
 ghost use Rattle.vlog_item.specs.ItemReader.{range_at, range_front, init_front, named_at, reg_at, assign_at, names_at, driven_at};
 ghost use Rattle.vlog_item.specs.ItemReader.{wires_at};
 ghost use Rattle.vlog_item.specs.ItemReader.{regs_at, assigns_at, event_at, always_at, item_at, tail_front, localparams_at};
 ghost use Rattle.vlog_item.specs.ItemReader.{paren_event_at};
 ghost use Rattle.vlog_item.specs.ItemReader.{other_item_at};
-ghost use Rattle.vlog_stmt.specs.vlog_tree.Plain.{plain_tail};
+ghost use Rattle.vlog_tree.specs.Plain.{plain_tail};
 ghost use Rattle.vlog_stmt.specs.vlog_expr.Given.{Gives};
 
 use crate::instance::named_item_of;
 use std::alloc::Global;
 use vlog_stmt::vlog_expr::{Parsed, after, expect, expr_of, name_of, target_of};
 use vlog_stmt::vlog_lex::Token;
-use vlog_stmt::vlog_tree::{
+use vlog_stmt::{ListReader, body_of, more_of, some_of};
+use vlog_tree::{
     Always, Assign, Event, Expr, Ident, Idents, Item, MOST_NESTED, NamedValue, NamedValues, Range,
     Reg1, RegTail, Terminal,
 };
-use vlog_stmt::{ListReader, body_of, more_of, some_of};
 
 /// The bounds behind `[`, and `]`.
 fn range_of(alloc: Global, tokens: &[Token], fuel: usize) -> Parsed<'_, Box<Range>>

@@ -12,4 +12,4 @@ mod laws;
 pub use item::{init_front, item_of, range_front, unboxed};
 pub use laws::{lines_dont_count, read_is_spelled, spelled_is_read};
 pub use vlog_stmt;
-pub use vlog_stmt::{vidi_bits, vlog_expr, vlog_lex, vlog_tree};
+pub use vlog_stmt::{vidi_bits, vlog_expr, vlog_lex};

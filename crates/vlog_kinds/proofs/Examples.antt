@@ -1,11 +1,11 @@
 -- Names and assignments of a wrong kind, computed on an example.
 use Rattle.std.proofs.Common.{◌≡◌, ℕ, false, None, Some, [], ◌∷◌, refl}
-use Rattle.vlog_names.specs.vlog_tree.declared.expr.NumberKind.TheVariants.{Decimal}
-use Rattle.vlog_names.specs.vlog_tree.declared.module.Direction.{Direction}
-use Rattle.vlog_names.specs.vlog_tree.declared.module.Direction.TheVariants.{Input, Output}
-use Rattle.vlog_names.specs.vlog_tree.declared.stmt.AssignOp.TheVariants.{Blocking}
-use Rattle.vlog_names.specs.vlog_tree.Tree.{IdentOf, ExprOf, UnaryExpr, NumberPrim, RefPrim, RefOf, RefWith, NoIndex, LastOf, NoLast, Last, IndexSel}
-use Rattle.vlog_names.specs.vlog_tree.Tree.{RefTarget, PortOf, ItemOf, AssignItem, AlwaysItem, PosedgeEvent, StmtBody, AssignStmt}
+use Rattle.vlog_tree.specs.declared.expr.NumberKind.TheVariants.{Decimal}
+use Rattle.vlog_tree.specs.declared.module.Direction.{Direction}
+use Rattle.vlog_tree.specs.declared.module.Direction.TheVariants.{Input, Output}
+use Rattle.vlog_tree.specs.declared.stmt.AssignOp.TheVariants.{Blocking}
+use Rattle.vlog_tree.specs.Tree.{IdentOf, ExprOf, UnaryExpr, NumberPrim, RefPrim, RefOf, RefWith, NoIndex, LastOf, NoLast, Last, IndexSel}
+use Rattle.vlog_tree.specs.Tree.{RefTarget, PortOf, ItemOf, AssignItem, AlwaysItem, PosedgeEvent, StmtBody, AssignStmt}
 use Rattle.vlog_names.specs.Entries.{declared, modules_of}
 use Rattle.vlog_kinds.specs.Selects.{place_at}
 use Rattle.vlog_kinds.specs.Uses.{wrong_uses, in_module, in_module_with, in_expr, in_ref}

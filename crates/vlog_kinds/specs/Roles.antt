@@ -1,10 +1,10 @@
 -- What a declared name may be used for (IEEE 1364-2005, 4.2 and 6; this project's profile). Of a name that isn't declared
 -- E4 speaks, and nothing is found here.
 use Rattle.std.specs.Prelude.{Bool, true, false, not, [], Option, None, Some}
-use Rattle.vlog_names.specs.vlog_tree.declared.module.Direction.{Direction}
-use Rattle.vlog_names.specs.vlog_tree.declared.module.Direction.TheVariants.{Input, Output}
-use Rattle.vlog_names.specs.vlog_tree.declared.stmt.AssignOp.{AssignOp}
-use Rattle.vlog_names.specs.vlog_tree.declared.stmt.AssignOp.TheVariants.{Blocking, Nonblocking}
+use Rattle.vlog_tree.specs.declared.module.Direction.{Direction}
+use Rattle.vlog_tree.specs.declared.module.Direction.TheVariants.{Input, Output}
+use Rattle.vlog_tree.specs.declared.stmt.AssignOp.{AssignOp}
+use Rattle.vlog_tree.specs.declared.stmt.AssignOp.TheVariants.{Blocking, Nonblocking}
 use Rattle.vlog_names.specs.declared.declaration.Declaration.{Declaration}
 use Rattle.vlog_names.specs.declared.declaration.Declaration.TheVariants as d
 use Rattle.vlog_names.specs.Ports.{is_reg_word, is_reg_port}

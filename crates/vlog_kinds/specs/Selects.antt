@@ -2,9 +2,9 @@
 -- profile).
 use Rattle.std.specs.Prelude.{ℕ, Bool, true, false, ◌&&◌, List, None, Some}
 use Rattle.vlog_names.specs.vidi_bits.Findings.{is_nil, told_if}
-use Rattle.vlog_names.specs.vlog_tree.Tree.{ExprOf, UnaryExpr, BinaryExpr, ChoiceExpr, PrimOf, NumberPrim, RefPrim, ParenPrim, ConcatPrim}
-use Rattle.vlog_names.specs.vlog_tree.Tree.{RefOf, RefWith, IndexOf, NoIndex, Index, LastOf, NoLast, Last, SelOf, IndexSel, PartSel, IndexedSel}
-use Rattle.vlog_names.specs.vlog_tree.Tree.{RepeatPrim, ExprsOf, NoExprs, MoreExprs}
+use Rattle.vlog_tree.specs.Tree.{ExprOf, UnaryExpr, BinaryExpr, ChoiceExpr, PrimOf, NumberPrim, RefPrim, ParenPrim, ConcatPrim}
+use Rattle.vlog_tree.specs.Tree.{RefOf, RefWith, IndexOf, NoIndex, Index, LastOf, NoLast, Last, SelOf, IndexSel, PartSel, IndexedSel}
+use Rattle.vlog_tree.specs.Tree.{RepeatPrim, ExprsOf, NoExprs, MoreExprs}
 use Rattle.vlog_names.specs.Table.{value_of}
 use Rattle.vlog_names.specs.Kinds.{at_names, wrong_kind, is_wrong_use}
 use Rattle.vlog_names.specs.declared.declaration.Shape.{Shape}

@@ -4,14 +4,14 @@ use Rattle.std.specs.Prelude.{ℕ, Bool, true, false, ◌&&◌, ◌||◌, not, L
 use Rattle.std.specs.Prelude.{if◌then◌else◌}
 use Rattle.std.specs.List.{flat_map}
 use Rattle.vlog_names.specs.vidi_bits.Findings.{told_if}
-use Rattle.vlog_names.specs.vlog_tree.Tree.{ExprOf, RefOf, RefWith, RangeOf, ParameterHeadOf, ParameterOf, PortHeadOf, PortOf}
-use Rattle.vlog_names.specs.vlog_tree.Tree.{NamedValueOf, RegTailOf, InitTail, MemoryTail, Reg1Of, TargetOf, RefTarget, ConcatTarget, TargetsOf}
-use Rattle.vlog_names.specs.vlog_tree.Tree.{NoTargets, MoreTargets, StmtOf, BeginStmt, IfStmt, CaseStmt, AssignStmt, BodyOf, StmtBody, EmptyBody}
-use Rattle.vlog_names.specs.vlog_tree.Tree.{ElseOf, NoElse, Else, ArmOf, LabelsArm, DefaultArm, ArmsOf, NoArms, MoreArms, StmtsOf, NoStmts}
-use Rattle.vlog_names.specs.vlog_tree.Tree.{MoreStmts, AssignOf, EventOf, PosedgeEvent, ImplicitEvent, AlwaysOf, ConnOf, InstanceOf, ItemOf}
-use Rattle.vlog_names.specs.vlog_tree.Tree.{WiresItem, DrivenWiresItem, RegsItem, LocalparamsItem, AssignItem, AlwaysItem, InstanceItem, ModuleOf}
-use Rattle.vlog_names.specs.vlog_tree.Tree.{FileOf}
-use Rattle.vlog_names.specs.vlog_tree.Lines.{target_line}
+use Rattle.vlog_tree.specs.Tree.{ExprOf, RefOf, RefWith, RangeOf, ParameterHeadOf, ParameterOf, PortHeadOf, PortOf}
+use Rattle.vlog_tree.specs.Tree.{NamedValueOf, RegTailOf, InitTail, MemoryTail, Reg1Of, TargetOf, RefTarget, ConcatTarget, TargetsOf}
+use Rattle.vlog_tree.specs.Tree.{NoTargets, MoreTargets, StmtOf, BeginStmt, IfStmt, CaseStmt, AssignStmt, BodyOf, StmtBody, EmptyBody}
+use Rattle.vlog_tree.specs.Tree.{ElseOf, NoElse, Else, ArmOf, LabelsArm, DefaultArm, ArmsOf, NoArms, MoreArms, StmtsOf, NoStmts}
+use Rattle.vlog_tree.specs.Tree.{MoreStmts, AssignOf, EventOf, PosedgeEvent, ImplicitEvent, AlwaysOf, ConnOf, InstanceOf, ItemOf}
+use Rattle.vlog_tree.specs.Tree.{WiresItem, DrivenWiresItem, RegsItem, LocalparamsItem, AssignItem, AlwaysItem, InstanceItem, ModuleOf}
+use Rattle.vlog_tree.specs.Tree.{FileOf}
+use Rattle.vlog_tree.specs.Lines.{target_line}
 use Rattle.vlog_names.specs.Table.{Named, value_of}
 use Rattle.vlog_names.specs.Kinds.{wrong_kinds, wrong_kind, at_names_of_ref}
 use Rattle.vlog_names.specs.Entries.{Names, class_in, declared, modules_of}

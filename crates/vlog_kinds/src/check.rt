@@ -2,7 +2,7 @@
 
 ghost use Rattle.std.specs.Prelude.{◌≡◌, map};
 ghost use Rattle.std.specs.List.{flat_map};
-ghost use Rattle.vlog_names.specs.vlog_tree.Plain.{plain, plain_module};
+ghost use Rattle.vlog_tree.specs.Plain.{plain, plain_module};
 ghost use Rattle.vlog_names.specs.Entries.{declared, modules_of, module_entry};
 ghost use Rattle.vlog_names.specs.vidi_bits.Findings.{Judged};
 ghost use Rattle.vlog_kinds.specs.Told.{kind_told};
@@ -10,8 +10,8 @@ ghost use Rattle.vlog_kinds.specs.Uses.{in_module_with, in_module, wrong_uses};
 
 use crate::error::KindError;
 use crate::items::{check_items, check_parameters, check_ports};
-use vlog_names::vlog_tree::{File, Module};
 use vlog_names::{Declarations, ModuleTable, names_at};
+use vlog_tree::{File, Module};
 
 /// A module that declares `names`.
 #[tactic(auto, unfolding(crate::specs::Uses::in_module_with))]

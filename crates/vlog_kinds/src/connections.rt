@@ -2,7 +2,7 @@
 
 ghost use Rattle.std.specs.Prelude.{map, option_map};
 ghost use Rattle.std.specs.List.{flat_map};
-ghost use Rattle.vlog_names.specs.vlog_tree.Plain.{plain_conn, plain_expr, plain_instance};
+ghost use Rattle.vlog_tree.specs.Plain.{plain_conn, plain_expr, plain_instance};
 ghost use Rattle.vlog_names.specs.vidi_bits.Findings.{Judged};
 ghost use Rattle.vlog_kinds.specs.Told.{kind_told};
 ghost use Rattle.vlog_kinds.specs.Uses.{in_parameter_conn, in_output, in_port_conn, in_connected, in_port_conns, in_instance};
@@ -10,8 +10,8 @@ ghost use Rattle.vlog_kinds.specs.Uses.{in_parameter_conn, in_output, in_port_co
 use crate::error::KindError;
 use crate::expressions::{check_expr, check_value, refuse_if};
 use crate::targets::is_wire_target;
-use vlog_names::vlog_tree::{Conn, Expr, Instance};
 use vlog_names::{Declarations, ModuleTable, is_output};
+use vlog_tree::{Conn, Expr, Instance};
 
 fn check_parameter_conns(names: &Declarations, conns: &[Conn]) -> Result<(), KindError>
     ensures { Judged kind_told result (flat_map (in_parameter_conn names.now) (map plain_conn conns.now)) }

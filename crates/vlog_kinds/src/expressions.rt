@@ -3,8 +3,8 @@
 ghost use Rattle.std.specs.Prelude.{◌≡◌, ℕ, map, option_map};
 ghost use Rattle.std.specs.List.{flat_map};
 ghost use Rattle.vlog_names.specs.vidi_bits.Findings.{told_if};
-ghost use Rattle.vlog_names.specs.vlog_tree.Tree.{ExprOf, LastOf, NoIndex, Index, NoLast, Last};
-ghost use Rattle.vlog_names.specs.vlog_tree.Plain.{plain_ident, plain_expr, plain_prim, plain_unary, plain_ref, plain_sel, plain_exprs, plain_range};
+ghost use Rattle.vlog_tree.specs.Tree.{ExprOf, LastOf, NoIndex, Index, NoLast, Last};
+ghost use Rattle.vlog_tree.specs.Plain.{plain_ident, plain_expr, plain_prim, plain_unary, plain_ref, plain_sel, plain_exprs, plain_range};
 ghost use Rattle.vlog_names.specs.Kinds.{at_names, at_names_of_prim, at_names_of_ref, at_names_of_sel, at_names_of_all, is_wrong_kind};
 ghost use Rattle.vlog_names.specs.Entries.{class_of};
 ghost use Rattle.vlog_names.specs.vidi_bits.Findings.{Judged};
@@ -15,8 +15,8 @@ ghost use Rattle.vlog_kinds.specs.Uses.{in_expr, in_ref, in_value, in_bounds, in
 use crate::error::KindError;
 use crate::roles::is_place;
 use crate::sought::Sought;
-use vlog_names::vlog_tree::{Expr, Operand, Range, Ref, Sel, Unary, see_concat, see_repeat};
 use vlog_names::{Declaration, Declarations, Shape};
+use vlog_tree::{Expr, Operand, Range, Ref, Sel, Unary, see_concat, see_repeat};
 
 /// Refuses the line where the test holds.
 pub fn refuse_if(test: bool, line: u32) -> Result<(), KindError>

@@ -2,8 +2,8 @@
 
 ghost use Rattle.std.specs.Prelude.{◌≡◌, map, option_map};
 ghost use Rattle.std.specs.List.{flat_map};
-ghost use Rattle.vlog_names.specs.vlog_tree.Plain.{plain_parameter, plain_parameter_head, plain_port, plain_head, plain_named, plain_reg};
-ghost use Rattle.vlog_names.specs.vlog_tree.Plain.{plain_tail, plain_assign, plain_event, plain_always, plain_item};
+ghost use Rattle.vlog_tree.specs.Plain.{plain_parameter, plain_parameter_head, plain_port, plain_head, plain_named, plain_reg};
+ghost use Rattle.vlog_tree.specs.Plain.{plain_tail, plain_assign, plain_event, plain_always, plain_item};
 ghost use Rattle.vlog_names.specs.vidi_bits.Findings.{Judged};
 ghost use Rattle.vlog_kinds.specs.Told.{kind_told};
 ghost use Rattle.vlog_kinds.specs.Uses.{in_parameter_head, in_parameter, in_port_head, in_port, wrong_init, in_named, in_tail, in_reg};
@@ -15,11 +15,11 @@ use crate::expressions::{check_bounds, check_expr, check_range, check_value, ref
 use crate::roles::{is_memory, is_output_reg};
 use crate::statements::check_body;
 use crate::targets::check_driven_target;
-use vlog_names::vlog_tree::{
+use vlog_names::{Declarations, ModuleTable};
+use vlog_tree::{
     Always, Assign, Event, Item, NamedValue, Parameter, ParameterHead, Port, PortHead, Reg1,
     RegTail,
 };
-use vlog_names::{Declarations, ModuleTable};
 
 fn check_parameter_head(names: &Declarations, head: &Option<ParameterHead>) -> Result<(), KindError>
     ensures { Judged kind_told result (in_parameter_head names.now (option_map plain_parameter_head head.now)) }

@@ -1,12 +1,12 @@
 //! What a declared name may be used for.
 
 ghost use Rattle.std.specs.Prelude.{◌≡◌};
-ghost use Rattle.vlog_names.specs.vlog_tree.Plain.{plain_ident};
+ghost use Rattle.vlog_tree.specs.Plain.{plain_ident};
 ghost use Rattle.vlog_names.specs.Table.{value_of};
 ghost use Rattle.vlog_kinds.specs.Roles.{is_wire_port, is_wire, is_stored, is_place, is_memory, is_output_reg, is_wrong_sign};
 
-use vlog_names::vlog_tree::{AssignOp, Direction, Ident, NetKind};
 use vlog_names::{Declaration, Declarations, is_reg_port};
+use vlog_tree::{AssignOp, Direction, Ident, NetKind};
 
 fn is_wire_port(direction: Direction) -> bool
     ensures { result ≡ is_wire_port direction }

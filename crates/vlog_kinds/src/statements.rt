@@ -1,7 +1,7 @@
 //! Statements of always blocks.
 
 ghost use Rattle.std.specs.Prelude.{◌≡◌, false};
-ghost use Rattle.vlog_names.specs.vlog_tree.Plain.{plain_stmt, plain_stmts, plain_body, plain_arm, plain_arms};
+ghost use Rattle.vlog_tree.specs.Plain.{plain_stmt, plain_stmts, plain_body, plain_arm, plain_arms};
 ghost use Rattle.vlog_names.specs.vidi_bits.Findings.{Judged};
 ghost use Rattle.vlog_kinds.specs.Told.{kind_told};
 ghost use Rattle.vlog_kinds.specs.Uses.{second_default, is_default, in_stmt, in_stmts, in_body, in_arm, in_arms};
@@ -11,7 +11,7 @@ use crate::expressions::{check_expr, check_labels, refuse_if};
 use crate::roles::is_wrong_sign;
 use crate::targets::check_stored_target;
 use vlog_names::Declarations;
-use vlog_names::vlog_tree::{Arm, Body, Stmt, see_begin, see_case, target_line};
+use vlog_tree::{Arm, Body, Stmt, see_begin, see_case, target_line};
 
 /// Refuses a `default` behind another one.
 fn check_default(seen: bool, arm: &Arm) -> Result<(), KindError>

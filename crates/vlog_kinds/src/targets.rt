@@ -1,8 +1,8 @@
 //! Targets that can't be written where they stand.
 
 ghost use Rattle.std.specs.Prelude.{◌≡◌};
-ghost use Rattle.vlog_names.specs.vlog_tree.Plain.{plain_expr, plain_prim, plain_unary, plain_ref, plain_sel, plain_exprs, plain_target};
-ghost use Rattle.vlog_names.specs.vlog_tree.Plain.{plain_targets};
+ghost use Rattle.vlog_tree.specs.Plain.{plain_expr, plain_prim, plain_unary, plain_ref, plain_sel, plain_exprs, plain_target};
+ghost use Rattle.vlog_tree.specs.Plain.{plain_targets};
 ghost use Rattle.vlog_names.specs.vidi_bits.Findings.{Judged};
 ghost use Rattle.vlog_kinds.specs.Told.{kind_told};
 ghost use Rattle.vlog_kinds.specs.Selects.{is_constant_sel, drives_wire, is_wire_target, is_wire_prim, are_wire_targets};
@@ -12,7 +12,7 @@ use crate::error::KindError;
 use crate::expressions::{check_ref, is_constant, refuse_if};
 use crate::roles::{is_stored, is_wire};
 use vlog_names::Declarations;
-use vlog_names::vlog_tree::{
+use vlog_tree::{
     Expr, Operand, Ref, Sel, Target, Unary, see_concat, see_concat_target, see_repeat,
 };
 

@@ -4,10 +4,10 @@ use Rattle.net_drive.proofs.net_code_lemmas.MaskLaws.{same_sets}
 use mathlib.Core.Path.{fun_ext}
 use Rattle.vlog_block.specs.vlog_size.declared.scope.ScopeNet.{ScopeNet}
 use Rattle.vlog_block.specs.vlog_size.Table.{Named}
-use Rattle.vlog_block.specs.net_design.declared.act.Code.{Code}
-use Rattle.vlog_block.specs.net_design.declared.act.Mask.{Mask}
-use Rattle.vlog_block.specs.net_design.declared.act.Place.{Place}
-use Rattle.vlog_block.specs.net_design.Bits.{BitSet, named, block_adds}
+use Rattle.net_design.specs.declared.act.Code.{Code}
+use Rattle.net_design.specs.declared.act.Mask.{Mask}
+use Rattle.net_design.specs.declared.act.Place.{Place}
+use Rattle.net_design.specs.Bits.{BitSet, named, block_adds}
 use Rattle.net_drive.specs.net_code.declared.bit_map.BitMap.{BitMap}
 use Rattle.net_drive.specs.net_code.BitMap.{in_map}
 use Rattle.net_drive.specs.net_code.Targets.{nets_named, block_targets}

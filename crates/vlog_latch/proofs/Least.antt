@@ -5,8 +5,8 @@ use Rattle.std.proofs.lemmas.Bool.{eqb-true, eq-eqb, ltb-true, lt-ltb, or_from, 
 use Rattle.std.proofs.Math.Bool.{or-true, or_assoc}
 use Rattle.net_drive.proofs.vidi_bits_lemmas.Bools.{and_none, left_of, or_none}
 use mathlib.Core.Path.{fun_ext}
-use Rattle.vlog_block.specs.net_design.declared.act.Mask.{Mask}
-use Rattle.vlog_block.specs.net_design.Bits.{BitSet}
+use Rattle.net_design.specs.declared.act.Mask.{Mask}
+use Rattle.net_design.specs.Bits.{BitSet}
 use Rattle.vlog_latch.specs.Masks.{is_missed, is_read, lesser, least_missed, least_read, IsLeast}
 use Rattle.vlog_latch.proofs.OneMask.{any_missed, any_read}
 

@@ -8,5 +8,4 @@ pub mod Targets
 pub mod Means
 pub mod Shown
 pub use Rattle.net_drive.proofs.net_code_lemmas as net_code_lemmas
-pub use Rattle.vlog_block.proofs.net_design_lemmas as net_design_lemmas
 pub use Rattle.net_drive.proofs.vidi_bits_lemmas as vidi_bits_lemmas

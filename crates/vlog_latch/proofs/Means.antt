@@ -7,10 +7,10 @@ use Rattle.net_drive.proofs.vidi_bits_lemmas.Bools.{and_not_false}
 use Rattle.net_drive.specs.vidi_bits.Findings.{told_if}
 use Rattle.vlog_block.specs.vlog_size.declared.scope.ScopeNet.{ScopeNet}
 use Rattle.vlog_block.specs.vlog_size.Table.{Named}
-use Rattle.vlog_block.specs.net_design.declared.act.Code.{Code}
-use Rattle.vlog_block.specs.net_design.declared.act.Timing.TheVariants.{Blocking}
-use Rattle.vlog_block.specs.net_design.Bits.{BitSet, named, block_adds}
-use Rattle.vlog_block.specs.vlog_tree.Tree.{EventOf, PosedgeEvent, ImplicitEvent, AlwaysOf}
+use Rattle.net_design.specs.declared.act.Code.{Code}
+use Rattle.net_design.specs.declared.act.Timing.TheVariants.{Blocking}
+use Rattle.net_design.specs.Bits.{BitSet, named, block_adds}
+use Rattle.vlog_tree.specs.Tree.{EventOf, PosedgeEvent, ImplicitEvent, AlwaysOf}
 use Rattle.vlog_block.specs.vlog_size.Names.{Readable, is_lawful_readable}
 use Rattle.vlog_block.specs.Updates.{timing_of}
 use Rattle.vlog_block.specs.Written.{always_writes, always_adds, always_reads}

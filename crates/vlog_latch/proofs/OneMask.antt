@@ -5,10 +5,10 @@ use Rattle.std.specs.List.{list_any, flat_map}
 use Rattle.std.proofs.lemmas.Bool.{eqb-true, eq-eqb}
 use Rattle.std.proofs.lemmas.Nat.{and_le_l}
 use Rattle.net_drive.specs.vidi_bits.Number.{has}
-use Rattle.vlog_block.specs.net_design.declared.act.Mask.{Mask}
-use Rattle.vlog_block.specs.net_design.declared.act.Place.{Place}
-use Rattle.vlog_block.specs.net_design.declared.act.Place.TheVariants.{Bits as PlaceBits, BitsFrom, Word as PlaceWord, WordFrom}
-use Rattle.vlog_block.specs.net_design.Bits.{BitSet, named}
+use Rattle.net_design.specs.declared.act.Mask.{Mask}
+use Rattle.net_design.specs.declared.act.Place.{Place}
+use Rattle.net_design.specs.declared.act.Place.TheVariants.{Bits as PlaceBits, BitsFrom, Word as PlaceWord, WordFrom}
+use Rattle.net_design.specs.Bits.{BitSet, named}
 use Rattle.net_drive.specs.net_code.declared.bit_map.BitMap.{BitMap}
 use Rattle.net_drive.specs.net_code.BitMap.{mask_of, in_map, is_among}
 use Rattle.net_drive.specs.net_code.Targets.{place_net, nets_named}

@@ -5,9 +5,9 @@ use Rattle.std.proofs.Common.{List, [], ◌∷◌, length, Option, Some, None, r
 use Rattle.std.specs.List.{position_or_len, list_all}
 use Rattle.std.specs.Str.{bytes_eq}
 use Rattle.std.proofs.lemmas.Bool.{eqb-true, ltb-true, lt-ltb, leb-true, and_parts}
-use Rattle.vlog_block.specs.vlog_tree.Tree.{LastOf, NoLast, Last, RefWith, TargetOf, RefTarget, ConcatTarget, TargetsOf, NoTargets, MoreTargets}
-use Rattle.vlog_block.specs.vlog_tree.Tree.{StmtOf, BeginStmt, IfStmt, CaseStmt, AssignStmt, StmtsOf, NoStmts, MoreStmts}
-use Rattle.vlog_block.specs.vlog_tree.Tree.{LabelsArm, DefaultArm, ArmsOf, NoArms, MoreArms, BodyOf, StmtBody, EmptyBody, ElseOf, NoElse, Else}
+use Rattle.vlog_tree.specs.Tree.{LastOf, NoLast, Last, RefWith, TargetOf, RefTarget, ConcatTarget, TargetsOf, NoTargets, MoreTargets}
+use Rattle.vlog_tree.specs.Tree.{StmtOf, BeginStmt, IfStmt, CaseStmt, AssignStmt, StmtsOf, NoStmts, MoreStmts}
+use Rattle.vlog_tree.specs.Tree.{LabelsArm, DefaultArm, ArmsOf, NoArms, MoreArms, BodyOf, StmtBody, EmptyBody, ElseOf, NoElse, Else}
 use Rattle.vlog_block.specs.vlog_size.declared.scope.Param.{Param}
 use Rattle.vlog_block.specs.vlog_size.declared.scope.ScopeNet.{ScopeNet}
 use Rattle.vlog_block.specs.vlog_size.declared.scope.ScopeMemory.{ScopeMemory}
@@ -15,8 +15,8 @@ use Rattle.vlog_block.specs.vlog_size.Literal.{is_lawful}
 use Rattle.vlog_block.specs.vlog_size.Names.{Readable, is_lawful_readable, are_lawful_params, are_lawful_places}
 use Rattle.vlog_block.specs.vlog_size.Size.{or_zero}
 use Rattle.vlog_block.specs.vlog_size.Table.{Named, value_of, place_of}
-use Rattle.vlog_block.specs.net_design.declared.rhs.Span.{Span}
-use Rattle.vlog_block.specs.net_design.Bits.{bits_of}
+use Rattle.net_design.specs.declared.rhs.Span.{Span}
+use Rattle.net_design.specs.Bits.{bits_of}
 use Rattle.vlog_block.specs.Sources.{or_constant, or_source, net_source, memory_source, memory_named}
 use Rattle.vlog_block.specs.declared.source.Source.TheVariants.{Nothing}
 use Rattle.vlog_block.specs.Value.{picked}

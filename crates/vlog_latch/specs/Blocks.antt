@@ -1,11 +1,11 @@
 -- E9 of an always block of the trees, and what its code has to say of its bits.
 use Rattle.std.specs.Prelude.{◌≡◌, ℕ, zero, suc, nat_lt, Bool, false, List, [], ◌∷◌}
-use Rattle.vlog_block.specs.vlog_tree.Tree.{EventOf, PosedgeEvent, ImplicitEvent, AlwaysOf}
+use Rattle.vlog_tree.specs.Tree.{EventOf, PosedgeEvent, ImplicitEvent, AlwaysOf}
 use Rattle.vlog_block.specs.vlog_size.declared.scope.ScopeNet.{ScopeNet}
 use Rattle.vlog_block.specs.vlog_size.Table.{Named}
 use Rattle.vlog_block.specs.vlog_size.Names.{Readable}
-use Rattle.vlog_block.specs.net_design.declared.act.Code.{Code}
-use Rattle.vlog_block.specs.net_design.Bits.{BitSet, named, block_adds}
+use Rattle.net_design.specs.declared.act.Code.{Code}
+use Rattle.net_design.specs.Bits.{BitSet, named, block_adds}
 use Rattle.vlog_block.specs.Written.{always_writes, always_adds, always_reads}
 use Rattle.vlog_block.specs.Naming.{code_names, always_names}
 use Rattle.vlog_latch.specs.declared.error.BlockError.{BlockError}

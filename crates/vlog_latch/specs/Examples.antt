@@ -1,10 +1,10 @@
 -- Blocks in a scope with the nets s and z of 1 bit and y of 2 bits, declared in the order s, y, z. Each `always` stands on line 2.
 use Rattle.std.specs.Prelude.{ℕ, false, true, List, [], ◌∷◌, None}
-use Rattle.vlog_block.specs.vlog_tree.declared.expr.NumberKind.TheVariants.{Decimal}
-use Rattle.vlog_block.specs.vlog_tree.declared.stmt.AssignOp.TheVariants.{Blocking}
-use Rattle.vlog_block.specs.vlog_tree.Tree.{ExprOf, UnaryExpr, NumberPrim, RefPrim, RefOf, RefWith, NoIndex, LastOf, NoLast, Last, IndexSel, IndexedSel}
-use Rattle.vlog_block.specs.vlog_tree.Tree.{RefTarget, StmtOf, BeginStmt, IfStmt, CaseStmt, AssignStmt, StmtBody, NoElse, Else}
-use Rattle.vlog_block.specs.vlog_tree.Tree.{ArmOf, LabelsArm, DefaultArm, arms_of, stmts_of, ImplicitEvent, AlwaysOf}
+use Rattle.vlog_tree.specs.declared.expr.NumberKind.TheVariants.{Decimal}
+use Rattle.vlog_tree.specs.declared.stmt.AssignOp.TheVariants.{Blocking}
+use Rattle.vlog_tree.specs.Tree.{ExprOf, UnaryExpr, NumberPrim, RefPrim, RefOf, RefWith, NoIndex, LastOf, NoLast, Last, IndexSel, IndexedSel}
+use Rattle.vlog_tree.specs.Tree.{RefTarget, StmtOf, BeginStmt, IfStmt, CaseStmt, AssignStmt, StmtBody, NoElse, Else}
+use Rattle.vlog_tree.specs.Tree.{ArmOf, LabelsArm, DefaultArm, arms_of, stmts_of, ImplicitEvent, AlwaysOf}
 use Rattle.vlog_block.specs.vlog_size.Names.{Readable}
 
 abbrev pub scope : Readable

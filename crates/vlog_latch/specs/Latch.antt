@@ -5,7 +5,7 @@ use Rattle.std.specs.List.{list_any}
 use Rattle.net_drive.specs.vidi_bits.Findings.{told_if}
 use Rattle.vlog_block.specs.vlog_size.declared.scope.ScopeNet.{ScopeNet}
 use Rattle.vlog_block.specs.vlog_size.Table.{Named}
-use Rattle.vlog_block.specs.net_design.Bits.{BitSet}
+use Rattle.net_design.specs.Bits.{BitSet}
 use Rattle.vlog_block.specs.Naming.{Naming, NamesNet, NamesRoom}
 use Rattle.vlog_latch.specs.declared.error.BlockError.{BlockError}
 use Rattle.vlog_latch.specs.declared.error.BlockError.TheVariants as error

@@ -1,8 +1,8 @@
 -- Masks of bits that are written and nets that are named as targets, one after the other, and the first net at which E9 holds.
 use Rattle.std.specs.Prelude.{◌≡◌, ℕ, ◌<◌, ◌≤◌, nat_lt, Bool, true, false, ◌&&◌, not, List, [], ◌∷◌, if◌then◌else◌}
 use Rattle.net_drive.specs.vidi_bits.Number.{has}
-use Rattle.vlog_block.specs.net_design.declared.act.Mask.{Mask}
-use Rattle.vlog_block.specs.net_design.Bits.{BitSet}
+use Rattle.net_design.specs.declared.act.Mask.{Mask}
+use Rattle.net_design.specs.Bits.{BitSet}
 use Rattle.vlog_latch.specs.Latch.{some_bit}
 
 -- whether some of the bits of a net aren't surely assigned

@@ -1,12 +1,12 @@
 //! Always blocks as code whose bits are surely assigned.
 
 ghost use Rattle.std.specs.Prelude.{◌≡◌, ℕ, IfOk};
-ghost use Rattle.vlog_block.specs.vlog_tree.Plain.{plain_always};
-ghost use Rattle.vlog_block.specs.net_design.declared.act.Timing.{Timing};
-ghost use Rattle.vlog_block.specs.net_design.declared.values.Values.{Values};
-ghost use Rattle.vlog_block.specs.net_design.Updates.{block_updates};
-ghost use Rattle.vlog_block.specs.net_design.Bits.{BitSet, named, block_adds, block_open_reads, HasBits};
-ghost use Rattle.vlog_block.specs.net_design.Sized.{IsSizedBlock};
+ghost use Rattle.vlog_tree.specs.Plain.{plain_always};
+ghost use Rattle.net_design.specs.declared.act.Timing.{Timing};
+ghost use Rattle.net_design.specs.declared.values.Values.{Values};
+ghost use Rattle.net_design.specs.Updates.{block_updates};
+ghost use Rattle.net_design.specs.Bits.{BitSet, named, block_adds, block_open_reads, HasBits};
+ghost use Rattle.net_design.specs.Sized.{IsSizedBlock};
 ghost use Rattle.vlog_block.specs.Sources.{names_of};
 ghost use Rattle.vlog_block.specs.Faultless.{IsFaultlessBody};
 ghost use Rattle.vlog_block.specs.Updates.{timing_of, body_updates};
@@ -18,11 +18,11 @@ ghost use Rattle.vlog_latch.specs.Blocks.{block_latches};
 
 use crate::code::latch;
 use crate::error::BlockError;
+use net_design::Code;
 use std::alloc::Global;
 use vlog_block::block_code;
-use vlog_block::net_design::Code;
 use vlog_block::vlog_size::Scope;
-use vlog_block::vlog_tree::Always;
+use vlog_tree::Always;
 
 /// The code of an always block (IEEE 1364-2005, clause 9; this project's profile): for all numbers of the scope's nets and words its
 /// updates are those of the text, and so are the bits that it may write, those that it surely assigns, and those that it reads.

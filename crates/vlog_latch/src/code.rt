@@ -1,9 +1,9 @@
 //! Whether a block's code leaves bits as they are on some path.
 
 ghost use Rattle.std.specs.Prelude.{◌≡◌, ℕ, List, length, IfOk};
-ghost use Rattle.vlog_block.specs.vlog_tree.Plain.{plain_always};
-ghost use Rattle.vlog_block.specs.net_design.Sized.{IsSizedBlock};
-ghost use Rattle.vlog_block.specs.net_design.Bits.{BitSet, named, block_adds};
+ghost use Rattle.vlog_tree.specs.Plain.{plain_always};
+ghost use Rattle.net_design.specs.Sized.{IsSizedBlock};
+ghost use Rattle.net_design.specs.Bits.{BitSet, named, block_adds};
 ghost use Rattle.net_drive.specs.net_code.BitMap.{in_map};
 ghost use Rattle.vlog_block.specs.Sources.{names_of};
 ghost use Rattle.vlog_block.specs.Naming.{Naming, code_names};
@@ -14,13 +14,13 @@ ghost use Rattle.vlog_latch.specs.Blocks.{block_latches, code_latched, IsCodeOf}
 ghost use Rattle.vlog_latch.specs.Masks.{is_missed, is_read, lesser, least_missed, least_read, IsLeast};
 
 use crate::error::BlockError;
+use net_design::{Code, Mask};
 use net_drive::named_nets;
 use net_drive::net_code::{BitMap, surely_assigned};
 use net_drive::vidi_bits::{Memory, copied};
 use std::alloc::Global;
-use vlog_block::net_design::{Code, Mask};
 use vlog_block::vlog_size::Scope;
-use vlog_block::vlog_tree::{Always, Event};
+use vlog_tree::{Always, Event};
 
 /// Whether some of these bits of a net aren't surely assigned.
 fn is_missed(net: usize, bits: u128, sure: &BitMap) -> bool

@@ -1,13 +1,13 @@
 //! Laws of the definitions, as contracts of functions that do nothing.
 
 ghost use Rattle.std.specs.Prelude.{◌≡◌, ℕ, ◌<◌, true, false, List, [], ◌∷◌, length};
-ghost use Rattle.vlog_block.specs.vlog_tree.Tree.{AlwaysOf};
+ghost use Rattle.vlog_tree.specs.Tree.{AlwaysOf};
 ghost use Rattle.vlog_block.specs.vlog_size.Names.{Readable, is_lawful_readable};
 ghost use Rattle.vlog_block.specs.vlog_size.declared.scope.ScopeNet.{ScopeNet};
 ghost use Rattle.vlog_block.specs.vlog_size.Table.{Named};
-ghost use Rattle.vlog_block.specs.net_design.declared.act.Code.{Code};
-ghost use Rattle.vlog_block.specs.net_design.declared.act.Timing.TheVariants.{Blocking};
-ghost use Rattle.vlog_block.specs.net_design.Bits.{BitSet, named, block_adds};
+ghost use Rattle.net_design.specs.declared.act.Code.{Code};
+ghost use Rattle.net_design.specs.declared.act.Timing.TheVariants.{Blocking};
+ghost use Rattle.net_design.specs.Bits.{BitSet, named, block_adds};
 ghost use Rattle.vlog_block.specs.Updates.{timing_of};
 ghost use Rattle.vlog_block.specs.Written.{always_writes};
 ghost use Rattle.vlog_block.specs.Naming.{Naming, always_names};

@@ -19,4 +19,4 @@ pub use laws::{
 pub use net_drive;
 pub use net_drive::{net_code, vidi_bits};
 pub use vlog_block;
-pub use vlog_block::{net_design, vlog_size, vlog_tree};
+pub use vlog_block::vlog_size;

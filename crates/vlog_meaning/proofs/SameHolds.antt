@@ -4,13 +4,13 @@ use Rattle.std.proofs.Common.{Option, Some, None, refl, ap, sym, subst, ◌∙�
 use Rattle.std.specs.Int.{bit_at}
 use Rattle.std.specs.Option.{option_or}
 use Rattle.std.proofs.lemmas.Bool.{eqb-true, and_parts}
-use Rattle.vlog_names.specs.vlog_tree.Tree.{ExprOf, TargetOf, AlwaysOf}
+use Rattle.vlog_tree.specs.Tree.{ExprOf, TargetOf, AlwaysOf}
 use Rattle.vlog_names.specs.vlog_size.Names.{Readable}
-use Rattle.vlog_block.specs.net_design.declared.values.Target as design
-use Rattle.vlog_block.specs.net_design.declared.values.Target.TheVariants as designs
-use Rattle.vlog_block.specs.net_design.declared.values.Update.{Update}
-use Rattle.vlog_block.specs.net_design.declared.values.Values.{Values}
-use Rattle.vlog_block.specs.net_design.Last.{same_target, touches, last_bit, bit_of, IsThere, HasLast}
+use Rattle.net_design.specs.declared.values.Target as design
+use Rattle.net_design.specs.declared.values.Target.TheVariants as designs
+use Rattle.net_design.specs.declared.values.Update.{Update}
+use Rattle.net_design.specs.declared.values.Values.{Values}
+use Rattle.net_design.specs.Last.{same_target, touches, last_bit, bit_of, IsThere, HasLast}
 use Rattle.vlog_block.specs.Value.{value, width_of}
 use Rattle.vlog_block.specs.Targets.{target_width, target_updates}
 use Rattle.vlog_block.specs.Updates.{timing_of, always_updates}

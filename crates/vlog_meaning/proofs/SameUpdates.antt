@@ -4,20 +4,20 @@ use Rattle.std.proofs.Common.{List, [], ◌∷◌, ◌++◌, length, slice_index
 use Rattle.std.specs.List.{AllByRecursion}
 use Rattle.std.proofs.lemmas.Bool.{ltb-true}
 use Rattle.std.proofs.lemmas.List.{length-set}
-use Rattle.vlog_names.specs.vlog_tree.Tree.{ExprOf, RefWith, LastOf, NoLast, Last, IndexSel, PartSel, IndexedSel}
-use Rattle.vlog_names.specs.vlog_tree.Tree.{TargetOf, RefTarget, ConcatTarget, TargetsOf, NoTargets, MoreTargets}
-use Rattle.vlog_names.specs.vlog_tree.Tree.{StmtOf, BeginStmt, IfStmt, CaseStmt, AssignStmt, StmtsOf, NoStmts, MoreStmts}
-use Rattle.vlog_names.specs.vlog_tree.Tree.{LabelsArm, DefaultArm, ArmsOf, NoArms, MoreArms, BodyOf, StmtBody, EmptyBody, ElseOf, NoElse, Else}
+use Rattle.vlog_tree.specs.Tree.{ExprOf, RefWith, LastOf, NoLast, Last, IndexSel, PartSel, IndexedSel}
+use Rattle.vlog_tree.specs.Tree.{TargetOf, RefTarget, ConcatTarget, TargetsOf, NoTargets, MoreTargets}
+use Rattle.vlog_tree.specs.Tree.{StmtOf, BeginStmt, IfStmt, CaseStmt, AssignStmt, StmtsOf, NoStmts, MoreStmts}
+use Rattle.vlog_tree.specs.Tree.{LabelsArm, DefaultArm, ArmsOf, NoArms, MoreArms, BodyOf, StmtBody, EmptyBody, ElseOf, NoElse, Else}
 use Rattle.vlog_names.specs.vlog_size.Names.{Readable}
 use Rattle.vlog_names.specs.vidi_bits.Number.{put_of}
-use Rattle.vlog_block.specs.net_design.declared.act.Timing.{Timing}
-use Rattle.vlog_block.specs.net_design.declared.act.Timing.TheVariants.{Blocking, Nonblocking}
-use Rattle.vlog_block.specs.net_design.declared.rhs.Room.{Room}
-use Rattle.vlog_block.specs.net_design.declared.values.Target as design
-use Rattle.vlog_block.specs.net_design.declared.values.Target.TheVariants as designs
-use Rattle.vlog_block.specs.net_design.declared.values.Update.{Update}
-use Rattle.vlog_block.specs.net_design.declared.values.Values.{Values}
-use Rattle.vlog_block.specs.net_design.Updates.{written_to, apply, update, word_updates, seen}
+use Rattle.net_design.specs.declared.act.Timing.{Timing}
+use Rattle.net_design.specs.declared.act.Timing.TheVariants.{Blocking, Nonblocking}
+use Rattle.net_design.specs.declared.rhs.Room.{Room}
+use Rattle.net_design.specs.declared.values.Target as design
+use Rattle.net_design.specs.declared.values.Target.TheVariants as designs
+use Rattle.net_design.specs.declared.values.Update.{Update}
+use Rattle.net_design.specs.declared.values.Values.{Values}
+use Rattle.net_design.specs.Updates.{written_to, apply, update, word_updates, seen}
 use Rattle.vlog_block.specs.declared.source.Source.{Source}
 use Rattle.vlog_block.specs.declared.source.Source.TheVariants.{Constant, Net, Memory, Nothing}
 use Rattle.vlog_block.specs.Sources.{source_of}

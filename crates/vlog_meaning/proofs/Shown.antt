@@ -1,7 +1,7 @@
 -- The definitions on the example.
 use Rattle.std.proofs.Common.{◌≡◌, true, false, [], ◌∷◌, refl}
-use Rattle.vlog_block.specs.net_design.declared.values.Target.TheVariants.{Net}
-use Rattle.vlog_block.specs.net_design.Updates.{update}
+use Rattle.net_design.specs.declared.values.Target.TheVariants.{Net}
+use Rattle.net_design.specs.Updates.{update}
 use Rattle.vlog_names.specs.vlog_size.Size.{number, assigned_number}
 use Rattle.vlog_names.specs.Entries.{declared}
 use Rattle.vlog_meaning.specs.Items.{whole, read}

@@ -6,21 +6,21 @@
 --     leaf u(.c(c), .a(x[0]), .y(z[0]));  leaf w(.c(c), .a(x[1]), .y(z[1]));
 --   endmodule
 use Rattle.std.specs.Prelude.{ℕ, max, false, List, [], ◌∷◌, Option, None, Some, if◌then◌else◌}
-use Rattle.vlog_names.specs.vlog_tree.declared.expr.NumberKind.TheVariants.{Decimal}
-use Rattle.vlog_names.specs.vlog_tree.declared.expr.BinaryOp.TheVariants.{Xor}
-use Rattle.vlog_names.specs.vlog_tree.declared.stmt.AssignOp.TheVariants.{Nonblocking}
-use Rattle.vlog_names.specs.vlog_tree.declared.module.Direction.{Direction}
-use Rattle.vlog_names.specs.vlog_tree.declared.module.Direction.TheVariants.{Input, Output}
-use Rattle.vlog_names.specs.vlog_tree.declared.module.NetKind.TheVariants.{Reg}
-use Rattle.vlog_names.specs.vlog_tree.Tree.{IdentOf, ExprOf, UnaryExpr, BinaryExpr, NumberPrim, RefPrim, RefWith, NoIndex, Last, IndexSel, RangeOf}
-use Rattle.vlog_names.specs.vlog_tree.Tree.{AssignStmt, StmtBody, PosedgeEvent, PortOf, ConnOf, InstanceOf, AssignItem, AlwaysItem, InstanceItem}
-use Rattle.vlog_names.specs.vlog_tree.Tree.{ModuleOf, TargetOf, RefTarget}
+use Rattle.vlog_tree.specs.declared.expr.NumberKind.TheVariants.{Decimal}
+use Rattle.vlog_tree.specs.declared.expr.BinaryOp.TheVariants.{Xor}
+use Rattle.vlog_tree.specs.declared.stmt.AssignOp.TheVariants.{Nonblocking}
+use Rattle.vlog_tree.specs.declared.module.Direction.{Direction}
+use Rattle.vlog_tree.specs.declared.module.Direction.TheVariants.{Input, Output}
+use Rattle.vlog_tree.specs.declared.module.NetKind.TheVariants.{Reg}
+use Rattle.vlog_tree.specs.Tree.{IdentOf, ExprOf, UnaryExpr, BinaryExpr, NumberPrim, RefPrim, RefWith, NoIndex, Last, IndexSel, RangeOf}
+use Rattle.vlog_tree.specs.Tree.{AssignStmt, StmtBody, PosedgeEvent, PortOf, ConnOf, InstanceOf, AssignItem, AlwaysItem, InstanceItem}
+use Rattle.vlog_tree.specs.Tree.{ModuleOf, TargetOf, RefTarget}
 use Rattle.vlog_names.specs.vlog_size.declared.scope.ScopeNet.{ScopeNet}
 use Rattle.vlog_names.specs.vlog_size.declared.scope.Scope.{Scope}
 use Rattle.vlog_names.specs.vlog_size.Table.{Named}
 use Rattle.vlog_scope.specs.Scope.{readable_at, scope_with, scope_of}
-use Rattle.vlog_block.specs.net_design.declared.values.Values.{Values}
-use Rattle.vlog_block.specs.net_design.Updates.{apply}
+use Rattle.net_design.specs.declared.values.Values.{Values}
+use Rattle.net_design.specs.Updates.{apply}
 use Rattle.vlog_block.specs.Value.{value, width_of}
 use Rattle.vlog_block.specs.Targets.{target_width, target_updates}
 use Rattle.vlog_meaning.specs.Names.{Full, State, numbers_at, same_path}

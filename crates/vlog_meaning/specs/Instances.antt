@@ -1,7 +1,7 @@
 -- The instances of a file and top as paths (IEEE 1364-2005, 12.1 and 12.5).
 use Rattle.std.specs.Prelude.{◌≡◌, ℕ, List, [], ◌∷◌}
 use Rattle.std.specs.List.{Contains}
-use Rattle.vlog_names.specs.vlog_tree.Tree.{InstanceOf, InstanceItem, ModuleOf}
+use Rattle.vlog_tree.specs.Tree.{InstanceOf, InstanceItem, ModuleOf}
 use Rattle.vlog_names.specs.vlog_size.declared.scope.Scope.{Scope}
 use Rattle.vlog_scope.specs.Scope.{readable_at, scope_with, scope_of}
 use Rattle.vlog_meaning.specs.Names.{Full}

@@ -2,17 +2,17 @@
 -- the equations of *Settled map*.
 use Rattle.std.specs.Prelude.{◌≡◌, ℕ, max, Bool, true, false, List, [], ◌∷◌, ◌++◌, Option, None, Some, option_map}
 use Rattle.std.specs.List.{Contains, AllByRecursion}
-use Rattle.vlog_names.specs.vlog_tree.Tree.{IdentOf, ExprOf, UnaryExpr, BinaryExpr, ChoiceExpr, PrimOf, NumberPrim, RefPrim, ParenPrim, ConcatPrim}
-use Rattle.vlog_names.specs.vlog_tree.Tree.{RepeatPrim, RefWith, NoIndex, NoLast, ExprsOf, NoExprs, MoreExprs}
-use Rattle.vlog_names.specs.vlog_tree.Tree.{TargetOf, RefTarget, ConcatTarget, TargetsOf, NoTargets, MoreTargets}
-use Rattle.vlog_names.specs.vlog_tree.Tree.{NamedValueOf, AssignOf, EventOf, PosedgeEvent, ImplicitEvent, AlwaysOf, ConnOf, InstanceOf}
-use Rattle.vlog_names.specs.vlog_tree.Tree.{ItemOf, WiresItem, DrivenWiresItem, RegsItem, LocalparamsItem, AssignItem, AlwaysItem, InstanceItem}
-use Rattle.vlog_names.specs.vlog_tree.Tree.{ModuleOf}
+use Rattle.vlog_tree.specs.Tree.{IdentOf, ExprOf, UnaryExpr, BinaryExpr, ChoiceExpr, PrimOf, NumberPrim, RefPrim, ParenPrim, ConcatPrim}
+use Rattle.vlog_tree.specs.Tree.{RepeatPrim, RefWith, NoIndex, NoLast, ExprsOf, NoExprs, MoreExprs}
+use Rattle.vlog_tree.specs.Tree.{TargetOf, RefTarget, ConcatTarget, TargetsOf, NoTargets, MoreTargets}
+use Rattle.vlog_tree.specs.Tree.{NamedValueOf, AssignOf, EventOf, PosedgeEvent, ImplicitEvent, AlwaysOf, ConnOf, InstanceOf}
+use Rattle.vlog_tree.specs.Tree.{ItemOf, WiresItem, DrivenWiresItem, RegsItem, LocalparamsItem, AssignItem, AlwaysItem, InstanceItem}
+use Rattle.vlog_tree.specs.Tree.{ModuleOf}
 use Rattle.vlog_names.specs.vlog_size.declared.scope.Scope.{Scope}
 use Rattle.vlog_names.specs.vlog_size.Names.{Readable}
 use Rattle.vlog_scope.specs.Scope.{readable_at, scope_of}
-use Rattle.vlog_block.specs.net_design.declared.values.Values.{Values}
-use Rattle.vlog_block.specs.net_design.Last.{HasLast}
+use Rattle.net_design.specs.declared.values.Values.{Values}
+use Rattle.net_design.specs.Last.{HasLast}
 use Rattle.vlog_block.specs.Value.{value, width_of}
 use Rattle.vlog_block.specs.Targets.{target_width, target_updates}
 use Rattle.vlog_block.specs.Updates.{always_updates}

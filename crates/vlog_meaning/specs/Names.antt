@@ -6,7 +6,7 @@ use Rattle.vlog_names.specs.vlog_size.declared.scope.ScopeNet.{ScopeNet}
 use Rattle.vlog_names.specs.vlog_size.declared.scope.ScopeMemory.{ScopeMemory}
 use Rattle.vlog_names.specs.vlog_size.declared.scope.Scope.{Scope}
 use Rattle.vlog_names.specs.vlog_size.Table.{Named}
-use Rattle.vlog_block.specs.net_design.declared.values.Values.{Values}
+use Rattle.net_design.specs.declared.values.Values.{Values}
 
 abbrev pub Name : Type 0
 Name = List ℕ

@@ -3,8 +3,8 @@
 use Rattle.std.specs.Prelude.{◌≡◌, ℕ, nat_lt, ◌&&◌, if◌then◌else◌, List, [], ◌∷◌, ◌++◌, slice_get, replicate, Option, None, Some}
 use Rattle.std.specs.Int.{bit_at}
 use Rattle.std.specs.List.{flat_map}
-use Rattle.vlog_names.specs.vlog_tree.Tree.{IdentOf, ExprOf, RegTailOf, InitTail, MemoryTail, Reg1Of, PortOf, EventOf, PosedgeEvent, ImplicitEvent}
-use Rattle.vlog_names.specs.vlog_tree.Tree.{AlwaysOf, ItemOf, RegsItem, AlwaysItem, ModuleOf}
+use Rattle.vlog_tree.specs.Tree.{IdentOf, ExprOf, RegTailOf, InitTail, MemoryTail, Reg1Of, PortOf, EventOf, PosedgeEvent, ImplicitEvent}
+use Rattle.vlog_tree.specs.Tree.{AlwaysOf, ItemOf, RegsItem, AlwaysItem, ModuleOf}
 use Rattle.vlog_names.specs.vlog_size.declared.scope.ScopeNet.{ScopeNet}
 use Rattle.vlog_names.specs.vlog_size.declared.scope.Scope.{Scope}
 use Rattle.vlog_names.specs.vlog_size.Table.{Named, value_of}
@@ -12,9 +12,9 @@ use Rattle.vlog_names.specs.vlog_size.Names.{Readable}
 use Rattle.vlog_names.specs.vlog_size.Size.{or_zero, assigned_number}
 use Rattle.vlog_scope.specs.Extents.{constant_sizes}
 use Rattle.vlog_scope.specs.Scope.{words_of}
-use Rattle.vlog_block.specs.net_design.declared.values.Update.{Update}
-use Rattle.vlog_block.specs.net_design.declared.values.Values.{Values}
-use Rattle.vlog_block.specs.net_design.Updates.{apply}
+use Rattle.net_design.specs.declared.values.Update.{Update}
+use Rattle.net_design.specs.declared.values.Values.{Values}
+use Rattle.net_design.specs.Updates.{apply}
 use Rattle.vlog_block.specs.Updates.{always_updates}
 use Rattle.vlog_meaning.specs.Names.{Name, Full, State, numbers_at}
 use Rattle.vlog_meaning.specs.Placed.{Placed, placed_items, names_at}

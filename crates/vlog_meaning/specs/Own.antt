@@ -1,9 +1,9 @@
 -- That an instance's items look at its own numbers alone.
 use Rattle.std.specs.Prelude.{◌≡◌, ℕ, ◌<◌, ◌≤◌, ◌↔◌, length, slice_index}
-use Rattle.vlog_names.specs.vlog_tree.Tree.{ExprOf, TargetOf, AlwaysOf}
+use Rattle.vlog_tree.specs.Tree.{ExprOf, TargetOf, AlwaysOf}
 use Rattle.vlog_names.specs.vlog_size.Names.{Readable}
-use Rattle.vlog_block.specs.net_design.declared.values.Values.{Values}
-use Rattle.vlog_block.specs.net_design.Last.{HasLast}
+use Rattle.net_design.specs.declared.values.Values.{Values}
+use Rattle.net_design.specs.Last.{HasLast}
 use Rattle.vlog_block.specs.Sources.{words_before}
 use Rattle.vlog_block.specs.Updates.{always_updates}
 use Rattle.vlog_meaning.specs.Items.{IsAssigned}

@@ -1,6 +1,6 @@
 -- The items of a module instance, each with what may be read there.
 use Rattle.std.specs.Prelude.{ℕ, List, [], ◌∷◌}
-use Rattle.vlog_names.specs.vlog_tree.Tree.{ItemOf, ModuleOf}
+use Rattle.vlog_tree.specs.Tree.{ItemOf, ModuleOf}
 use Rattle.vlog_names.specs.vlog_size.declared.scope.Param.{Param}
 use Rattle.vlog_names.specs.vlog_size.declared.scope.Scope.{Scope}
 use Rattle.vlog_names.specs.vlog_size.Table.{Named}

@@ -3,8 +3,8 @@ use Rattle.std.specs.Prelude.{◌≡◌, ℕ, ◌^◌, ◌<◌, Bool, true, fals
 use Rattle.std.specs.Prelude.{Some}
 use Rattle.std.specs.Int.{bit_at}
 use Rattle.std.specs.List.{Contains, AllByRecursion, list_any}
-use Rattle.vlog_names.specs.vlog_tree.Tree.{IdentOf, EventOf, PosedgeEvent, ImplicitEvent, AlwaysOf, ConnOf, InstanceOf}
-use Rattle.vlog_names.specs.vlog_tree.Tree.{ItemOf, AlwaysItem, ModuleOf}
+use Rattle.vlog_tree.specs.Tree.{IdentOf, EventOf, PosedgeEvent, ImplicitEvent, AlwaysOf, ConnOf, InstanceOf}
+use Rattle.vlog_tree.specs.Tree.{ItemOf, AlwaysItem, ModuleOf}
 use Rattle.vlog_names.specs.vlog_size.declared.scope.ScopeNet.{ScopeNet}
 use Rattle.vlog_names.specs.vlog_size.declared.scope.Scope.{Scope}
 use Rattle.vlog_names.specs.vlog_size.Table.{Named}

@@ -1,8 +1,8 @@
 //! Laws of the definitions, as contracts of functions that do nothing.
 
 ghost use Rattle.std.specs.Prelude.{◌≡◌, true, false, [], ◌∷◌};
-ghost use Rattle.vlog_block.specs.net_design.declared.values.Target.TheVariants.{Net};
-ghost use Rattle.vlog_block.specs.net_design.Updates.{update};
+ghost use Rattle.net_design.specs.declared.values.Target.TheVariants.{Net};
+ghost use Rattle.net_design.specs.Updates.{update};
 ghost use Rattle.vlog_meaning.specs.Items.{whole, read};
 ghost use Rattle.vlog_names.specs.Ports.{has_output};
 ghost use Rattle.vlog_meaning.specs.Settled.{is_held, inputs_of};

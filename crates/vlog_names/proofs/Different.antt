@@ -8,9 +8,9 @@ use Rattle.std.specs.List.{flat_map, AllByRecursion}
 use Rattle.std.specs.Str.{bytes_eq}
 use Rattle.vlog_size.proofs.vidi_bits_lemmas.FindingLaws.{told_none}
 use Rattle.vlog_size.proofs.vidi_bits_lemmas.Lists.{nil_left, nil_right}
-use Rattle.vlog_size.specs.vlog_tree.Tree.{ItemOf, WiresItem, DrivenWiresItem, RegsItem, LocalparamsItem, AssignItem, AlwaysItem, InstanceItem}
-use Rattle.vlog_size.specs.vlog_tree.Tree.{ModuleOf}
-use Rattle.vlog_size.specs.vlog_tree.Tree.{FileOf}
+use Rattle.vlog_tree.specs.Tree.{ItemOf, WiresItem, DrivenWiresItem, RegsItem, LocalparamsItem, AssignItem, AlwaysItem, InstanceItem}
+use Rattle.vlog_tree.specs.Tree.{ModuleOf}
+use Rattle.vlog_tree.specs.Tree.{FileOf}
 use Rattle.vlog_size.specs.Table.{Named, value_of}
 use Rattle.vlog_names.specs.Entries.{Names, item_entries, header_entries, declared, module_entry, modules_of}
 use Rattle.vlog_names.specs.Twice.{twice_name, twice_among, twice_connected, twice_item, twice_items, twice_in, twice_modules, twice_names}

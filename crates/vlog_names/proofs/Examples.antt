@@ -1,8 +1,8 @@
 -- Names that stand twice or aren't declared, computed on examples.
 use Rattle.std.proofs.Common.{◌≡◌, ℕ, false, None, Some, [], ◌∷◌, refl}
-use Rattle.vlog_size.specs.vlog_tree.declared.module.Direction.TheVariants.{Input}
-use Rattle.vlog_size.specs.vlog_tree.Tree.{IdentOf, ExprOf, UnaryExpr, RefPrim, RefWith, NoIndex, NoLast, RefTarget, PortOf, WiresItem}
-use Rattle.vlog_size.specs.vlog_tree.Tree.{AssignItem, InstanceItem, ConnOf, ModuleOf}
+use Rattle.vlog_tree.specs.declared.module.Direction.TheVariants.{Input}
+use Rattle.vlog_tree.specs.Tree.{IdentOf, ExprOf, UnaryExpr, RefPrim, RefWith, NoIndex, NoLast, RefTarget, PortOf, WiresItem}
+use Rattle.vlog_tree.specs.Tree.{AssignItem, InstanceItem, ConnOf, ModuleOf}
 use Rattle.vlog_names.specs.declared.error.NameError.TheVariants as e
 use Rattle.vlog_names.specs.Entries.{declared, modules_of}
 use Rattle.vlog_names.specs.Twice.{twice_names, twice_in}

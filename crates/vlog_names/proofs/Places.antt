@@ -2,9 +2,9 @@
 use Rattle.std.proofs.Common.{◌≡◌, ℕ, ◌<◌, List, map, length, get_or, Option, None, Some, slice_get, refl, ap, ◌∙◌}
 use Rattle.std.specs.Option.{option_map}
 use Rattle.std.proofs.lemmas.Option.{slice_get-map, slice_get_read}
-use Rattle.vlog_size.specs.vlog_tree.declared.module.Module.{Module}
-use Rattle.vlog_size.specs.vlog_tree.Plain.{plain_module}
-use Rattle.vlog_size.specs.vlog_tree.Tree.{ModuleOf}
+use Rattle.vlog_tree.specs.declared.module.Module.{Module}
+use Rattle.vlog_tree.specs.Plain.{plain_module}
+use Rattle.vlog_tree.specs.Tree.{ModuleOf}
 use Rattle.vlog_size.specs.Table.{Named}
 use Rattle.vlog_names.specs.Entries.{Names, declared, module_entry}
 

@@ -2,10 +2,10 @@
 -- parameters, ports, nets, memories, instances and local parameters share one name space.
 use Rattle.std.specs.Prelude.{ℕ, false, List, [], ◌∷◌, ◌++◌, map, Option, None, Some, option_map}
 use Rattle.std.specs.List.{flat_map}
-use Rattle.vlog_size.specs.vlog_tree.declared.module.Direction.TheVariants as direction
-use Rattle.vlog_size.specs.vlog_tree.Tree.{IdentOf, RangeOf, ParameterOf, PortHeadOf, PortOf, NamedValueOf, Reg1Of, RegTailOf, InitTail}
-use Rattle.vlog_size.specs.vlog_tree.Tree.{MemoryTail, ItemOf, WiresItem, DrivenWiresItem, RegsItem, LocalparamsItem, AssignItem, AlwaysItem}
-use Rattle.vlog_size.specs.vlog_tree.Tree.{InstanceItem, ModuleOf, FileOf}
+use Rattle.vlog_tree.specs.declared.module.Direction.TheVariants as direction
+use Rattle.vlog_tree.specs.Tree.{IdentOf, RangeOf, ParameterOf, PortHeadOf, PortOf, NamedValueOf, Reg1Of, RegTailOf, InitTail}
+use Rattle.vlog_tree.specs.Tree.{MemoryTail, ItemOf, WiresItem, DrivenWiresItem, RegsItem, LocalparamsItem, AssignItem, AlwaysItem}
+use Rattle.vlog_tree.specs.Tree.{InstanceItem, ModuleOf, FileOf}
 use Rattle.vlog_size.specs.Table.{Named, value_of}
 use Rattle.vlog_size.specs.Kinds.{Class, IsParameter, IsScalar, IsVector, IsScalarMemory, IsVectorMemory, IsInstance}
 use Rattle.vlog_names.specs.declared.declaration.Shape.{Shape}

@@ -8,4 +8,3 @@ pub use Rattle.vlog_size.specs.Kinds
 pub use Rattle.vlog_size.specs.Table
 pub use Rattle.vlog_size.specs.vidi_bits as vidi_bits
 pub use Rattle.vlog_size.specs as vlog_size
-pub use Rattle.vlog_size.specs.vlog_tree as vlog_tree

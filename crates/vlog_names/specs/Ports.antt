@@ -1,10 +1,10 @@
 -- What a module declares a name as (IEEE 1364-2005, 4.2.2 and 12.3.3).
 use Rattle.std.specs.Prelude.{ℕ, Bool, true, false, List, Option, None, Some}
-use Rattle.vlog_size.specs.vlog_tree.Tree.{PortHeadOf, ModuleOf}
-use Rattle.vlog_size.specs.vlog_tree.declared.module.Direction.{Direction}
-use Rattle.vlog_size.specs.vlog_tree.declared.module.Direction.TheVariants.{Input, Output}
-use Rattle.vlog_size.specs.vlog_tree.declared.module.NetKind.{NetKind}
-use Rattle.vlog_size.specs.vlog_tree.declared.module.NetKind.TheVariants.{Wire, Reg}
+use Rattle.vlog_tree.specs.Tree.{PortHeadOf, ModuleOf}
+use Rattle.vlog_tree.specs.declared.module.Direction.{Direction}
+use Rattle.vlog_tree.specs.declared.module.Direction.TheVariants.{Input, Output}
+use Rattle.vlog_tree.specs.declared.module.NetKind.{NetKind}
+use Rattle.vlog_tree.specs.declared.module.NetKind.TheVariants.{Wire, Reg}
 use Rattle.vlog_size.specs.Table.{value_of}
 use Rattle.vlog_names.specs.declared.declaration.Declaration.{Declaration}
 use Rattle.vlog_names.specs.declared.declaration.Declaration.TheVariants as d

@@ -1,7 +1,7 @@
 -- E3: the names that stand twice, each at its second standing, in text order (this project's profile).
 use Rattle.std.specs.Prelude.{ℕ, List, [], ◌∷◌, ◌++◌, map, is_some}
 use Rattle.vlog_size.specs.vidi_bits.Findings.{told_if}
-use Rattle.vlog_size.specs.vlog_tree.Tree.{ConnOf, ItemOf, InstanceItem, ModuleOf, FileOf}
+use Rattle.vlog_tree.specs.Tree.{ConnOf, ItemOf, InstanceItem, ModuleOf, FileOf}
 use Rattle.vlog_size.specs.Table.{Named, value_of}
 use Rattle.vlog_names.specs.Entries.{Names, entry, item_entries, header_entries, module_entry}
 use Rattle.vlog_names.specs.declared.error.NameError.{NameError}

@@ -2,7 +2,7 @@
 
 ghost use Rattle.std.specs.Prelude.{◌≡◌, ◌++◌, map, IfOk};
 ghost use Rattle.std.specs.List.{flat_map};
-ghost use Rattle.vlog_size.specs.vlog_tree.Plain.{plain, plain_module};
+ghost use Rattle.vlog_tree.specs.Plain.{plain, plain_module};
 ghost use Rattle.vlog_names.specs.Entries.{declared, modules_of, module_entry};
 ghost use Rattle.vlog_names.specs.Twice.{twice_names};
 ghost use Rattle.vlog_names.specs.Unknown.{unknown_in, unknown_module, unknown_top, unknown_names};
@@ -16,7 +16,7 @@ use crate::items::{known_items, known_parameters, known_ports};
 use crate::table::names_at;
 use std::alloc::Global;
 use vlog_size::vidi_bits::copied;
-use vlog_size::vlog_tree::{File, Module};
+use vlog_tree::{File, Module};
 
 /// A module that declares `names`.
 #[tactic(auto, unfolding(crate::specs::Unknown::unknown_in))]

@@ -3,7 +3,7 @@
 ghost use Rattle.std.specs.Prelude.{◌≡◌, not, map};
 ghost use Rattle.std.specs.List.{flat_map};
 ghost use Rattle.vlog_size.specs.vidi_bits.Findings.{told_if};
-ghost use Rattle.vlog_size.specs.vlog_tree.Plain.{plain_conn, plain_instance};
+ghost use Rattle.vlog_tree.specs.Plain.{plain_conn, plain_instance};
 ghost use Rattle.vlog_size.specs.Table.{value_of};
 ghost use Rattle.vlog_names.specs.Unknown.{is_parameter, is_port, unknown_parameter_conn, unknown_port_conn, unknown_instance};
 ghost use Rattle.vlog_size.specs.vidi_bits.Findings.{Judged};
@@ -15,7 +15,7 @@ use crate::error::NameError;
 use crate::expressions::known_value;
 use std::alloc::Global;
 use vlog_size::vidi_bits::{Name, copied};
-use vlog_size::vlog_tree::{Conn, Instance};
+use vlog_tree::{Conn, Instance};
 
 /// Refuses a name that isn't declared as what is asked for.
 fn known_if(alloc: Global, is_known: bool, name: &Name) -> Result<(), NameError>

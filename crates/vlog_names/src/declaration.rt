@@ -4,7 +4,7 @@ ghost use Rattle.std.specs.Prelude.{◌≡◌, Some};
 ghost use Rattle.vlog_names.specs.Ports.{is_output_port, is_reg_word, is_reg_port, is_output, is_reg};
 
 use vlog_size::Table;
-use vlog_size::vlog_tree::{Direction, NetKind};
+use vlog_tree::{Direction, NetKind};
 
 /// Whether a net, or a memory's word, is declared with a range (IEEE 1364-2005, 4.3).
 #[derive(Clone, Copy, Debug, PartialEq, Eq)]

@@ -2,9 +2,9 @@
 
 ghost use Rattle.std.specs.Prelude.{◌≡◌, ◌++◌, ◌∷◌, [], OnOk, IfOk, map, option_map};
 ghost use Rattle.std.specs.List.{flat_map};
-ghost use Rattle.vlog_size.specs.vlog_tree.Plain.{plain, plain_module, plain_item, plain_instance, plain_conn, plain_ident, plain_named};
-ghost use Rattle.vlog_size.specs.vlog_tree.Tree.{InstanceItem};
-ghost use Rattle.vlog_size.specs.vlog_tree.Plain.{plain_parameter, plain_port, plain_head, plain_reg, plain_tail, plain_range};
+ghost use Rattle.vlog_tree.specs.Plain.{plain, plain_module, plain_item, plain_instance, plain_conn, plain_ident, plain_named};
+ghost use Rattle.vlog_tree.specs.Tree.{InstanceItem};
+ghost use Rattle.vlog_tree.specs.Plain.{plain_parameter, plain_port, plain_head, plain_reg, plain_tail, plain_range};
 ghost use Rattle.vlog_names.specs.Entries.{shape_of, port_as, no_port, reg_as, parameter_entry, port_entries, ident_entry};
 ghost use Rattle.vlog_names.specs.Entries.{value_entry, reg_entry, item_entries, declared, modules_of, header_entries, module_entry};
 ghost use Rattle.vlog_names.specs.Twice.{twice_name, twice_among, twice_connected, twice_item, twice_items, twice_in, twice_names};
@@ -17,7 +17,7 @@ use crate::table::{check_new, declare};
 use std::alloc::Global;
 use vlog_size::Table;
 use vlog_size::vidi_bits::copied;
-use vlog_size::vlog_tree::{
+use vlog_tree::{
     Conn, Direction, File, Ident, Instance, Item, Module, NamedValue, Parameter, Port, PortHead,
     Range, Reg1, RegTail,
 };

@@ -2,7 +2,7 @@
 
 ghost use Rattle.std.specs.Prelude.{◌≡◌, map, option_map};
 ghost use Rattle.std.specs.List.{flat_map};
-ghost use Rattle.vlog_size.specs.vlog_tree.Plain.{plain_ident, plain_expr, plain_prim, plain_unary, plain_ref, plain_sel, plain_exprs, plain_range};
+ghost use Rattle.vlog_tree.specs.Plain.{plain_ident, plain_expr, plain_prim, plain_unary, plain_ref, plain_sel, plain_exprs, plain_range};
 ghost use Rattle.vlog_size.specs.Kinds.{at_names, at_names_of_prim, at_names_of_ref, at_names_of_sel, at_names_of_all};
 ghost use Rattle.vlog_names.specs.Unknown.{unknown_ident, unknown_at, unknown_expr, unknown_value, unknown_bounds, unknown_range};
 ghost use Rattle.vlog_size.specs.vidi_bits.Findings.{Judged};
@@ -12,7 +12,7 @@ use crate::declaration::Declarations;
 use crate::error::NameError;
 use std::alloc::Global;
 use vlog_size::vidi_bits::copied;
-use vlog_size::vlog_tree::{Expr, Ident, Operand, Range, Ref, Sel, Unary, see_concat, see_repeat};
+use vlog_tree::{Expr, Ident, Operand, Range, Ref, Sel, Unary, see_concat, see_repeat};
 
 /// Refuses a used name that isn't declared.
 pub fn known(alloc: Global, names: &Declarations, ident: &Ident) -> Result<(), NameError>

@@ -2,8 +2,8 @@
 
 ghost use Rattle.std.specs.Prelude.{◌≡◌, map, option_map};
 ghost use Rattle.std.specs.List.{flat_map};
-ghost use Rattle.vlog_size.specs.vlog_tree.Plain.{plain_parameter, plain_parameter_head, plain_port, plain_head, plain_named, plain_reg};
-ghost use Rattle.vlog_size.specs.vlog_tree.Plain.{plain_tail, plain_assign, plain_event, plain_always, plain_item};
+ghost use Rattle.vlog_tree.specs.Plain.{plain_parameter, plain_parameter_head, plain_port, plain_head, plain_named, plain_reg};
+ghost use Rattle.vlog_tree.specs.Plain.{plain_tail, plain_assign, plain_event, plain_always, plain_item};
 ghost use Rattle.vlog_names.specs.Unknown.{unknown_parameter_head, unknown_parameter, unknown_port_head, unknown_port, unknown_named};
 ghost use Rattle.vlog_names.specs.Unknown.{unknown_tail, unknown_reg, unknown_assign, unknown_event, unknown_always, unknown_item};
 ghost use Rattle.vlog_size.specs.vidi_bits.Findings.{Judged};
@@ -15,7 +15,7 @@ use crate::error::NameError;
 use crate::expressions::{known, known_bounds, known_expr, known_range, known_value};
 use crate::statements::{known_body, known_target};
 use std::alloc::Global;
-use vlog_size::vlog_tree::{
+use vlog_tree::{
     Always, Assign, Event, Item, NamedValue, Parameter, ParameterHead, Port, PortHead, Reg1,
     RegTail,
 };

@@ -2,7 +2,7 @@
 
 ghost use Rattle.std.specs.Prelude.{◌≡◌, ℕ, []};
 ghost use Rattle.std.specs.List.{AllByRecursion};
-ghost use Rattle.vlog_size.specs.vlog_tree.Tree.{ModuleOf, FileOf};
+ghost use Rattle.vlog_tree.specs.Tree.{ModuleOf, FileOf};
 ghost use Rattle.vlog_names.specs.Entries.{declared, modules_of};
 ghost use Rattle.vlog_names.specs.Twice.{twice_names};
 ghost use Rattle.vlog_names.specs.Different.{Differ};

@@ -23,4 +23,3 @@ pub use error::NameError;
 pub use laws::names_are_different;
 pub use ports::{input_after, is_output, is_reg};
 pub use table::names_at;
-pub use vlog_size::vlog_tree;

@@ -1,12 +1,12 @@
 //! The ports and regs of a module by their names.
 
 ghost use Rattle.std.specs.Prelude.{◌≡◌, option_map};
-ghost use Rattle.vlog_size.specs.vlog_tree.Plain.{plain_ident, plain_head};
+ghost use Rattle.vlog_tree.specs.Plain.{plain_ident, plain_head};
 ghost use Rattle.vlog_size.specs.Table.{value_of};
 ghost use Rattle.vlog_names.specs.Ports.{is_input_port, input_after, is_output, is_reg};
 
 use crate::declaration::Declarations;
-use vlog_size::vlog_tree::{Direction, Ident, PortHead};
+use vlog_tree::{Direction, Ident, PortHead};
 
 fn is_input_port(direction: Direction) -> bool
     ensures { result ≡ is_input_port direction }

@@ -1,7 +1,7 @@
 //! Names in targets and statements that aren't declared.
 
 ghost use Rattle.std.specs.Prelude.{◌≡◌};
-ghost use Rattle.vlog_size.specs.vlog_tree.Plain.{plain_target, plain_targets, plain_stmt, plain_stmts, plain_body, plain_arm, plain_arms};
+ghost use Rattle.vlog_tree.specs.Plain.{plain_target, plain_targets, plain_stmt, plain_stmts, plain_body, plain_arm, plain_arms};
 ghost use Rattle.vlog_names.specs.Unknown.{unknown_target, unknown_targets, unknown_stmt, unknown_stmts, unknown_body, unknown_arm};
 ghost use Rattle.vlog_names.specs.Unknown.{unknown_arms};
 ghost use Rattle.vlog_size.specs.vidi_bits.Findings.{Judged};
@@ -11,7 +11,7 @@ use crate::declaration::Declarations;
 use crate::error::NameError;
 use crate::expressions::{known_expr, known_labels, known_ref};
 use std::alloc::Global;
-use vlog_size::vlog_tree::{Arm, Body, Stmt, Target, see_begin, see_case, see_concat_target};
+use vlog_tree::{Arm, Body, Stmt, Target, see_begin, see_case, see_concat_target};
 
 #[cycle(known_targets)]
 pub fn known_target(alloc: Global, names: &Declarations, target: &Target) -> Result<(), NameError>

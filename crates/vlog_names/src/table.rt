@@ -2,7 +2,7 @@
 
 ghost use Rattle.std.specs.Prelude.{◌≡◌, ◌++◌, ◌∷◌, [], List, ℕ, map, is_some, OnOk, slice_get};
 ghost use Rattle.std.specs.Option.{option_copied, option_map};
-ghost use Rattle.vlog_size.specs.vlog_tree.Tree.{ModuleOf};
+ghost use Rattle.vlog_tree.specs.Tree.{ModuleOf};
 ghost use Rattle.vlog_size.specs.Table.{value_of};
 ghost use Rattle.vlog_names.specs.Entries.{entry, declared, module_entry};
 ghost use Rattle.vlog_names.specs.Twice.{twice_name};

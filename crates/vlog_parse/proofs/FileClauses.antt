@@ -5,14 +5,14 @@ use Rattle.std.proofs.Common.{arith}
 use Rattle.std.specs.Prelude.{IfOk, MatchResult, option_map}
 use Rattle.vlog_item.proofs.vidi_bits_lemmas.Lists.{some_same}
 use Rattle.vlog_item.specs.vlog_lex.declared.token.Token.{Token}
-use Rattle.vlog_item.specs.vlog_tree.declared.module.File.{File}
-use Rattle.vlog_item.specs.vlog_tree.Words.{WordOf, NameWord, Fixed, NameAt, NumberAt, FixedAt, token_of, tokens_of, map_word}
-use Rattle.vlog_item.specs.vlog_tree.Tree.{FileOf}
-use Rattle.vlog_item.specs.vlog_tree.Plain.{plain}
-use Rattle.vlog_item.specs.vlog_tree.Lines.{no_mark, bare}
-use Rattle.vlog_item.specs.vlog_tree.Spelling.{toks, file_words}
-use Rattle.vlog_item.specs.vlog_tree.Shape.{IsGood}
-use Rattle.vlog_item.proofs.vlog_tree_lemmas.Marks.{file_mapped, toks_bare}
+use Rattle.vlog_tree.specs.declared.module.File.{File}
+use Rattle.vlog_tree.specs.Words.{WordOf, NameWord, Fixed, NameAt, NumberAt, FixedAt, token_of, tokens_of, map_word}
+use Rattle.vlog_tree.specs.Tree.{FileOf}
+use Rattle.vlog_tree.specs.Plain.{plain}
+use Rattle.vlog_tree.specs.Lines.{no_mark, bare}
+use Rattle.vlog_tree.specs.Spelling.{toks, file_words}
+use Rattle.vlog_tree.specs.Shape.{IsGood}
+use Rattle.vlog_tree.proofs.Marks.{file_mapped, toks_bare}
 use Rattle.vlog_item.specs.vlog_expr.declared.unread.Unread.{Unread}
 use Rattle.vlog_item.specs.vlog_expr.declared.unread.Unread.TheVariants as unread
 use Rattle.vlog_item.specs.vlog_expr.Marks.{TokenOf, Toks, spelled, spell, IsWord, AreWords, all_marked, AreLawful}

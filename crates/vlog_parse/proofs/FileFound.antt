@@ -4,15 +4,15 @@ use Rattle.std.proofs.Common.{append_assoc}
 use Rattle.std.specs.List.{AllByRecursion}
 use Rattle.vlog_item.specs.vlog_lex.declared.token.TokenKind.{TokenKind}
 use Rattle.vlog_item.specs.vlog_lex.declared.token.TokenKind.TheVariants.{Identifier, Reserved, Decimal, Based, Other}
-use Rattle.vlog_item.specs.vlog_tree.declared.module.Direction.{Direction}
-use Rattle.vlog_item.specs.vlog_tree.declared.terminal.Terminal.TheVariants as t
-use Rattle.vlog_item.specs.vlog_tree.Words.{WordOf, NameWord, Fixed}
-use Rattle.vlog_item.specs.vlog_tree.Tree.{IdentOf, PortHeadOf, PortOf, ItemOf, ModuleOf, FileOf}
-use Rattle.vlog_item.specs.vlog_tree.Spelling.{with_commas, in_row, optional, direction_words, head_words}
-use Rattle.vlog_item.specs.vlog_tree.Spelling.{port_words, item_words, module_words}
-use Rattle.vlog_item.specs.vlog_tree.Spelling.{file_words}
-use Rattle.vlog_item.specs.vlog_tree.Shape.{IsGoodName, IsGoodOption, IsGoodHead, IsGoodPort, IsFirstDirected}
-use Rattle.vlog_item.specs.vlog_tree.Shape.{AreSomeGood, IsGoodItem, IsGoodModule, IsGood}
+use Rattle.vlog_tree.specs.declared.module.Direction.{Direction}
+use Rattle.vlog_tree.specs.declared.terminal.Terminal.TheVariants as t
+use Rattle.vlog_tree.specs.Words.{WordOf, NameWord, Fixed}
+use Rattle.vlog_tree.specs.Tree.{IdentOf, PortHeadOf, PortOf, ItemOf, ModuleOf, FileOf}
+use Rattle.vlog_tree.specs.Spelling.{with_commas, in_row, optional, direction_words, head_words}
+use Rattle.vlog_tree.specs.Spelling.{port_words, item_words, module_words}
+use Rattle.vlog_tree.specs.Spelling.{file_words}
+use Rattle.vlog_tree.specs.Shape.{IsGoodName, IsGoodOption, IsGoodHead, IsGoodPort, IsFirstDirected}
+use Rattle.vlog_tree.specs.Shape.{AreSomeGood, IsGoodItem, IsGoodModule, IsGood}
 use Rattle.vlog_item.specs.vlog_expr.Marks.{Toks, AreWords, IsLawfulText, AreLawful, is_name, name_front}
 use Rattle.vlog_parse.specs.FileReader.{input_at, output_at, direction_front, head_front, port_at}
 use Rattle.vlog_parse.specs.FileReader.{first_port_at, ports_at}
@@ -23,9 +23,9 @@ use Rattle.vlog_item.proofs.vlog_expr_lemmas.Found.{From, again}
 use Rattle.vlog_item.proofs.vlog_stmt_lemmas.Sure.{Sure, nothing, sure, next, either, ◌▹◌, some_none, start, after_found}
 use Rattle.vlog_item.proofs.vlog_stmt_lemmas.Sure.{expr_found}
 use Rattle.vlog_item.proofs.vlog_stmt_lemmas.ListFound.{AreLed, all_snoc, some_snoc, row_snoc, alone, At, more_found}
-use Rattle.vlog_item.specs.vlog_tree.Tree.{ParameterHeadOf, ParameterOf}
-use Rattle.vlog_item.specs.vlog_tree.Spelling.{parameter_head_words, parameter_words, hash_words}
-use Rattle.vlog_item.specs.vlog_tree.Shape.{IsGoodParameterHead, IsGoodParameter, IsFirstHeaded}
+use Rattle.vlog_tree.specs.Tree.{ParameterHeadOf, ParameterOf}
+use Rattle.vlog_tree.specs.Spelling.{parameter_head_words, parameter_words, hash_words}
+use Rattle.vlog_tree.specs.Shape.{IsGoodParameterHead, IsGoodParameter, IsFirstHeaded}
 use Rattle.vlog_parse.specs.FileReader.{parameter_head_front, parameter_at}
 use Rattle.vlog_parse.specs.FileReader.{first_parameter_at, parameters_front, where_given}
 use Rattle.vlog_item.proofs.ItemFound.{init_found, item_found, name_found, ranges_found}

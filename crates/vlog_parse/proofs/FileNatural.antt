@@ -1,10 +1,10 @@
 -- Without lines the reader reads the same files, without their lines.
 use Rattle.std.proofs.Common.{◌≡◌, ℕ, zero, suc, Option, None, Some, List, [], ◌∷◌, ◌++◌, map, option_map}
 use Rattle.std.proofs.Common.{refl, ap, ◌∙◌}
-use Rattle.vlog_item.specs.vlog_tree.Lines.{bare}
-use Rattle.vlog_item.specs.vlog_tree.declared.module.Direction.{Direction}
-use Rattle.vlog_item.specs.vlog_tree.declared.terminal.Terminal.TheVariants as t
-use Rattle.vlog_item.specs.vlog_tree.Tree.{PortHeadOf, PortOf, ParameterHeadOf, ParameterOf, ItemOf, ModuleOf}
+use Rattle.vlog_tree.specs.Lines.{bare}
+use Rattle.vlog_tree.specs.declared.module.Direction.{Direction}
+use Rattle.vlog_tree.specs.declared.terminal.Terminal.TheVariants as t
+use Rattle.vlog_tree.specs.Tree.{PortHeadOf, PortOf, ParameterHeadOf, ParameterOf, ItemOf, ModuleOf}
 use Rattle.vlog_item.specs.vlog_expr.Marks.{Toks}
 use Rattle.vlog_item.specs.vlog_expr.Bare.{forget, forget_all}
 use Rattle.vlog_parse.specs.BareFile.{bare_head, bare_port}

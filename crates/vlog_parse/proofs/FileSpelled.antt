@@ -3,24 +3,24 @@ use Rattle.std.proofs.Common.{◌≡◌, ◌≢◌, ℕ, zero, suc, ◌<◌, ◌
 use Rattle.std.proofs.Common.{ap}
 use Rattle.std.proofs.Common.{◌∙◌, arith, append_assoc, append-nil, length-append}
 use Rattle.std.specs.List.{AllByRecursion}
-use Rattle.vlog_item.specs.vlog_tree.declared.module.Direction.{Direction}
-use Rattle.vlog_item.specs.vlog_tree.declared.module.Direction.TheVariants as direction
-use Rattle.vlog_item.specs.vlog_tree.declared.module.NetKind.TheVariants as kind
-use Rattle.vlog_item.specs.vlog_tree.declared.terminal.Terminal.TheVariants as t
-use Rattle.vlog_item.specs.vlog_tree.Words.{WordOf, NameWord, Fixed, NameAt}
-use Rattle.vlog_item.specs.vlog_tree.Tree.{RangeOf, PortHeadOf, PortOf}
-use Rattle.vlog_item.specs.vlog_tree.Tree.{ItemOf}
-use Rattle.vlog_item.specs.vlog_tree.Tree.{ModuleOf, FileOf}
-use Rattle.vlog_item.specs.vlog_tree.Spelling.{expr_words, after_commas, with_commas, in_row, range_words, optional}
-use Rattle.vlog_item.specs.vlog_tree.Spelling.{direction_words, head_words, init_words, port_words}
-use Rattle.vlog_item.specs.vlog_tree.Spelling.{item_words}
-use Rattle.vlog_item.specs.vlog_tree.Spelling.{module_words, file_words}
-use Rattle.vlog_item.specs.vlog_tree.Shape.{IsGoodOption, IsGoodHead, IsGoodPort, IsFirstDirected}
-use Rattle.vlog_item.specs.vlog_tree.Shape.{AreSomeGood, IsGoodItem, IsGoodModule, IsGood}
+use Rattle.vlog_tree.specs.declared.module.Direction.{Direction}
+use Rattle.vlog_tree.specs.declared.module.Direction.TheVariants as direction
+use Rattle.vlog_tree.specs.declared.module.NetKind.TheVariants as kind
+use Rattle.vlog_tree.specs.declared.terminal.Terminal.TheVariants as t
+use Rattle.vlog_tree.specs.Words.{WordOf, NameWord, Fixed, NameAt}
+use Rattle.vlog_tree.specs.Tree.{RangeOf, PortHeadOf, PortOf}
+use Rattle.vlog_tree.specs.Tree.{ItemOf}
+use Rattle.vlog_tree.specs.Tree.{ModuleOf, FileOf}
+use Rattle.vlog_tree.specs.Spelling.{expr_words, after_commas, with_commas, in_row, range_words, optional}
+use Rattle.vlog_tree.specs.Spelling.{direction_words, head_words, init_words, port_words}
+use Rattle.vlog_tree.specs.Spelling.{item_words}
+use Rattle.vlog_tree.specs.Spelling.{module_words, file_words}
+use Rattle.vlog_tree.specs.Shape.{IsGoodOption, IsGoodHead, IsGoodPort, IsFirstDirected}
+use Rattle.vlog_tree.specs.Shape.{AreSomeGood, IsGoodItem, IsGoodModule, IsGood}
 use Rattle.vlog_item.specs.vlog_expr.Marks.{Toks, spelled, spell, after}
-use Rattle.vlog_item.specs.vlog_tree.Tree.{ParameterHeadOf, ParameterOf}
-use Rattle.vlog_item.specs.vlog_tree.Spelling.{parameter_head_words, parameter_words, hash_words}
-use Rattle.vlog_item.specs.vlog_tree.Shape.{IsGoodParameterHead, IsGoodParameter, IsFirstHeaded}
+use Rattle.vlog_tree.specs.Tree.{ParameterHeadOf, ParameterOf}
+use Rattle.vlog_tree.specs.Spelling.{parameter_head_words, parameter_words, hash_words}
+use Rattle.vlog_tree.specs.Shape.{IsGoodParameterHead, IsGoodParameter, IsFirstHeaded}
 use Rattle.vlog_item.specs.vlog_expr.Reader.{◌>>=◌, Read, fuel_for}
 use Rattle.vlog_parse.specs.FileReader.{direction_front, head_front, port_at, where_given}
 use Rattle.vlog_parse.specs.FileReader.{ports_at}

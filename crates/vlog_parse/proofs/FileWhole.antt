@@ -3,28 +3,28 @@ use Rattle.std.proofs.Common.{◌≡◌, ℕ, true, false, List, [], ◌∷◌, 
 use Rattle.std.proofs.Common.{◌∙◌, subst}
 use Rattle.std.proofs.Common.{arith}
 use Rattle.std.specs.List.{AllByRecursion}
-use Rattle.vlog_item.specs.vlog_tree.Lines.{bare}
+use Rattle.vlog_tree.specs.Lines.{bare}
 use Rattle.vlog_item.proofs.vidi_bits_lemmas.Lists.{some_same}
 use Rattle.vlog_item.specs.vlog_lex.declared.token.Token.{Token}
-use Rattle.vlog_item.specs.vlog_tree.declared.module.Direction.{Direction}
-use Rattle.vlog_item.specs.vlog_tree.declared.module.Direction.TheVariants as direction
-use Rattle.vlog_item.specs.vlog_tree.declared.module.NetKind.TheVariants as kind
-use Rattle.vlog_item.specs.vlog_tree.declared.terminal.Terminal.TheVariants as t
-use Rattle.vlog_item.specs.vlog_tree.Words.{WordOf, Fixed, NameAt, tokens_of}
-use Rattle.vlog_item.specs.vlog_tree.Tree.{IdentOf, ExprOf, RangeOf, PortHeadOf, PortOf, NamedValueOf, RegTailOf, InitTail, Reg1Of, AssignOf}
-use Rattle.vlog_item.specs.vlog_tree.Tree.{EventOf}
-use Rattle.vlog_item.specs.vlog_tree.Tree.{PosedgeEvent, ItemOf, WiresItem, DrivenWiresItem, RegsItem, AssignItem, AlwaysItem, ModuleOf, FileOf}
-use Rattle.vlog_item.specs.vlog_tree.Tree.{TargetOf, RefTarget, ConcatTarget, TargetsOf, NoTargets, MoreTargets, StmtOf, BeginStmt, IfStmt}
-use Rattle.vlog_item.specs.vlog_tree.Tree.{AssignStmt, BodyOf, StmtBody, EmptyBody, ElseOf, NoElse, Else, StmtsOf, NoStmts, MoreStmts}
-use Rattle.vlog_item.specs.vlog_tree.Spelling.{assign_terminal, ident_words, expr_words, target_words, targets_words, more_targets_words}
-use Rattle.vlog_item.specs.vlog_tree.Spelling.{stmt_words}
-use Rattle.vlog_item.specs.vlog_tree.Spelling.{body_words, else_words, stmts_words, after_commas, with_commas, in_row, range_words, optional}
-use Rattle.vlog_item.specs.vlog_tree.Spelling.{direction_words, head_words, init_words, port_words, named_words, tail_words, reg_words}
-use Rattle.vlog_item.specs.vlog_tree.Spelling.{assign_words}
-use Rattle.vlog_item.specs.vlog_tree.Spelling.{event_words, item_words, module_words, file_words}
-use Rattle.vlog_item.specs.vlog_tree.Shape.{IsGoodExpr, IsGoodTarget, AreGoodTargets, AreAllGoodTargets, IsGoodStmt, IsGoodBody, IsGoodElse}
-use Rattle.vlog_item.specs.vlog_tree.Shape.{AreGoodStmts, IsGoodOption, IsGoodRange, IsGoodHead, IsGoodPort, IsGoodIdent, IsGoodNamed, IsGoodTail}
-use Rattle.vlog_item.specs.vlog_tree.Shape.{IsGoodReg, IsGoodAssign, IsGoodEvent, AreSomeGood, IsGoodItem, IsGoodModule, IsGood}
+use Rattle.vlog_tree.specs.declared.module.Direction.{Direction}
+use Rattle.vlog_tree.specs.declared.module.Direction.TheVariants as direction
+use Rattle.vlog_tree.specs.declared.module.NetKind.TheVariants as kind
+use Rattle.vlog_tree.specs.declared.terminal.Terminal.TheVariants as t
+use Rattle.vlog_tree.specs.Words.{WordOf, Fixed, NameAt, tokens_of}
+use Rattle.vlog_tree.specs.Tree.{IdentOf, ExprOf, RangeOf, PortHeadOf, PortOf, NamedValueOf, RegTailOf, InitTail, Reg1Of, AssignOf}
+use Rattle.vlog_tree.specs.Tree.{EventOf}
+use Rattle.vlog_tree.specs.Tree.{PosedgeEvent, ItemOf, WiresItem, DrivenWiresItem, RegsItem, AssignItem, AlwaysItem, ModuleOf, FileOf}
+use Rattle.vlog_tree.specs.Tree.{TargetOf, RefTarget, ConcatTarget, TargetsOf, NoTargets, MoreTargets, StmtOf, BeginStmt, IfStmt}
+use Rattle.vlog_tree.specs.Tree.{AssignStmt, BodyOf, StmtBody, EmptyBody, ElseOf, NoElse, Else, StmtsOf, NoStmts, MoreStmts}
+use Rattle.vlog_tree.specs.Spelling.{assign_terminal, ident_words, expr_words, target_words, targets_words, more_targets_words}
+use Rattle.vlog_tree.specs.Spelling.{stmt_words}
+use Rattle.vlog_tree.specs.Spelling.{body_words, else_words, stmts_words, after_commas, with_commas, in_row, range_words, optional}
+use Rattle.vlog_tree.specs.Spelling.{direction_words, head_words, init_words, port_words, named_words, tail_words, reg_words}
+use Rattle.vlog_tree.specs.Spelling.{assign_words}
+use Rattle.vlog_tree.specs.Spelling.{event_words, item_words, module_words, file_words}
+use Rattle.vlog_tree.specs.Shape.{IsGoodExpr, IsGoodTarget, AreGoodTargets, AreAllGoodTargets, IsGoodStmt, IsGoodBody, IsGoodElse}
+use Rattle.vlog_tree.specs.Shape.{AreGoodStmts, IsGoodOption, IsGoodRange, IsGoodHead, IsGoodPort, IsGoodIdent, IsGoodNamed, IsGoodTail}
+use Rattle.vlog_tree.specs.Shape.{IsGoodReg, IsGoodAssign, IsGoodEvent, AreSomeGood, IsGoodItem, IsGoodModule, IsGood}
 use Rattle.vlog_item.specs.vlog_expr.Marks.{Toks, spell, AreWords, all_marked, AreLawful}
 use Rattle.vlog_item.specs.vlog_expr.Bare.{forget_all, without_lines}
 use Rattle.vlog_item.specs.vlog_expr.Reader.{fuel_for}
@@ -36,13 +36,13 @@ use Rattle.vlog_item.proofs.vlog_expr_lemmas.Spelled.{U}
 use Rattle.vlog_parse.proofs.FileFound.{file_spelled}
 use Rattle.vlog_item.proofs.vlog_expr_lemmas.Whole.{tokens_spelled, AreLawfulWords, lawful_append, spell_lawful, forget_lawful, expr_lawful}
 use Rattle.vlog_item.proofs.vlog_expr_lemmas.Whole.{ref_lawful, length_spell, length_forget, none_some}
-use Rattle.vlog_item.specs.vlog_tree.Tree.{CaseStmt, ArmOf, LabelsArm, DefaultArm, ArmsOf, NoArms, MoreArms, ParameterHeadOf, ParameterOf}
-use Rattle.vlog_item.specs.vlog_tree.Tree.{MemoryTail}
-use Rattle.vlog_item.specs.vlog_tree.Tree.{ImplicitEvent, ConnOf, InstanceOf, LocalparamsItem, InstanceItem}
-use Rattle.vlog_item.specs.vlog_tree.Spelling.{arm_words, arms_words, parameter_head_words, parameter_words, hash_words, conn_words}
-use Rattle.vlog_item.specs.vlog_tree.Spelling.{instance_words}
-use Rattle.vlog_item.specs.vlog_tree.Shape.{IsGoodArm, AreGoodArms, AreAllGoodArms, IsGoodParameterHead, IsGoodParameter, IsGoodConn}
-use Rattle.vlog_item.specs.vlog_tree.Shape.{IsGoodInstance}
+use Rattle.vlog_tree.specs.Tree.{CaseStmt, ArmOf, LabelsArm, DefaultArm, ArmsOf, NoArms, MoreArms, ParameterHeadOf, ParameterOf}
+use Rattle.vlog_tree.specs.Tree.{MemoryTail}
+use Rattle.vlog_tree.specs.Tree.{ImplicitEvent, ConnOf, InstanceOf, LocalparamsItem, InstanceItem}
+use Rattle.vlog_tree.specs.Spelling.{arm_words, arms_words, parameter_head_words, parameter_words, hash_words, conn_words}
+use Rattle.vlog_tree.specs.Spelling.{instance_words}
+use Rattle.vlog_tree.specs.Shape.{IsGoodArm, AreGoodArms, AreAllGoodArms, IsGoodParameterHead, IsGoodParameter, IsGoodConn}
+use Rattle.vlog_tree.specs.Shape.{IsGoodInstance}
 
 module _ (A : Type 0) where
   mutual

@@ -13,4 +13,3 @@ mod Passed
 pub use Rattle.vlog_item.proofs.vidi_bits_lemmas as vidi_bits_lemmas
 pub use Rattle.vlog_item.proofs.vlog_expr_lemmas as vlog_expr_lemmas
 pub use Rattle.vlog_item.proofs.vlog_lex_lemmas as vlog_lex_lemmas
-pub use Rattle.vlog_item.proofs.vlog_tree_lemmas as vlog_tree_lemmas

@@ -8,12 +8,12 @@ use Rattle.vlog_item.proofs.vlog_lex_lemmas.Sample.{name_a}
 use Rattle.vlog_item.specs.vlog_lex.declared.token.Token.{Token}
 use Rattle.vlog_item.specs.vlog_lex.declared.token.TokenKind.{TokenKind}
 use Rattle.vlog_item.specs.vlog_lex.declared.token.TokenKind.TheVariants.{Identifier, Reserved, Decimal, Based, Other}
-use Rattle.vlog_item.specs.vlog_tree.declared.terminal.Terminal.TheVariants as t
-use Rattle.vlog_item.specs.vlog_tree.Words.{WordOf, NameWord, Fixed}
-use Rattle.vlog_item.specs.vlog_tree.Tree.{ParameterOf, PortOf, ItemOf, AlwaysItem, ModuleOf}
-use Rattle.vlog_item.specs.vlog_tree.Spelling.{with_commas, in_row, hash_words, parameter_words, port_words}
-use Rattle.vlog_item.specs.vlog_tree.Shape.{IsGoodName, IsFirstHeaded, IsGoodParameter, IsFirstDirected, IsGoodPort, IsGoodItem, IsGoodModule}
-use Rattle.vlog_item.specs.vlog_tree.Shape.{AreSomeGood}
+use Rattle.vlog_tree.specs.declared.terminal.Terminal.TheVariants as t
+use Rattle.vlog_tree.specs.Words.{WordOf, NameWord, Fixed}
+use Rattle.vlog_tree.specs.Tree.{ParameterOf, PortOf, ItemOf, AlwaysItem, ModuleOf}
+use Rattle.vlog_tree.specs.Spelling.{with_commas, in_row, hash_words, parameter_words, port_words}
+use Rattle.vlog_tree.specs.Shape.{IsGoodName, IsFirstHeaded, IsGoodParameter, IsFirstDirected, IsGoodPort, IsGoodItem, IsGoodModule}
+use Rattle.vlog_tree.specs.Shape.{AreSomeGood}
 use Rattle.vlog_item.specs.vlog_expr.Marks.{TokenOf, Toks, marked, all_marked, spelled, spell, AreWords, IsLawfulText, AreLawful, is_terminal}
 use Rattle.vlog_item.specs.vlog_expr.Marks.{after}
 use Rattle.vlog_item.specs.vlog_expr.Lawful.{IsUnlawful}

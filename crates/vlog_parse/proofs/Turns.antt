@@ -1,7 +1,7 @@
 -- One turn of each loop of the reader of files.
 use Rattle.std.proofs.Common.{◌≡◌, ◌≢◌, ℕ, suc, length, refl, Option, None, Some, List, [], ◌∷◌, ◌++◌, ap, ◌∙◌}
-use Rattle.vlog_item.specs.vlog_tree.declared.terminal.Terminal.TheVariants as t
-use Rattle.vlog_item.specs.vlog_tree.Tree.{ItemOf, ModuleOf}
+use Rattle.vlog_tree.specs.declared.terminal.Terminal.TheVariants as t
+use Rattle.vlog_tree.specs.Tree.{ItemOf, ModuleOf}
 use Rattle.vlog_item.specs.vlog_lex.declared.token.Token.{Token}
 use Rattle.vlog_item.specs.vlog_expr.Marks.{Toks, after, all_marked}
 use Rattle.vlog_item.specs.vlog_expr.Reader.{◌>>=◌, found_or, Read}

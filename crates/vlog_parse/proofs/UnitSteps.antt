@@ -1,7 +1,7 @@
 -- A unit from what stands behind its header or its item.
 use Rattle.std.proofs.Common.{◌≡◌, ℕ, Bool, true, false, Option, None, Some, refl, ap, ◌∙◌}
-use Rattle.vlog_item.specs.vlog_tree.Tree.{ItemOf}
-use Rattle.vlog_item.specs.vlog_tree.declared.terminal.Terminal.TheVariants as t
+use Rattle.vlog_tree.specs.Tree.{ItemOf}
+use Rattle.vlog_tree.specs.declared.terminal.Terminal.TheVariants as t
 use Rattle.vlog_item.specs.vlog_expr.Marks.{Toks, after}
 use Rattle.vlog_item.specs.vlog_expr.Reader.{◌>>=◌, found_or}
 use Rattle.vlog_parse.specs.FileReader.{header_at}

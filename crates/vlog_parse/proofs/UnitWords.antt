@@ -1,10 +1,10 @@
 -- The units of a file are its words.
 use Rattle.std.proofs.Common.{◌≡◌, List, [], ◌∷◌, ◌++◌, refl, sym, ap, ◌∙◌, append_assoc, map}
 use Rattle.std.specs.List.{flat_map}
-use Rattle.vlog_item.specs.vlog_tree.declared.terminal.Terminal.TheVariants as t
-use Rattle.vlog_item.specs.vlog_tree.Words.{WordOf, NameWord, Fixed}
-use Rattle.vlog_item.specs.vlog_tree.Tree.{ItemOf, ModuleOf}
-use Rattle.vlog_item.specs.vlog_tree.Spelling.{with_commas, in_row, hash_words, parameter_words, port_words, item_words, module_words}
+use Rattle.vlog_tree.specs.declared.terminal.Terminal.TheVariants as t
+use Rattle.vlog_tree.specs.Words.{WordOf, NameWord, Fixed}
+use Rattle.vlog_tree.specs.Tree.{ItemOf, ModuleOf}
+use Rattle.vlog_tree.specs.Spelling.{with_commas, in_row, hash_words, parameter_words, port_words, item_words, module_words}
 use Rattle.vlog_parse.specs.Units.{UnitOf, ItemUnit, Endmodule, module_units, unit_words, UnitsAreSpelled}
 
 abbrev U : Type 0

@@ -1,8 +1,8 @@
 -- Modules and files without their lines.
-use Rattle.vlog_item.specs.vlog_tree.Tree.{PortHeadOf, PortOf, ModuleOf}
-use Rattle.vlog_item.specs.vlog_tree.Tree.{ParameterHeadOf, ParameterOf}
-use Rattle.vlog_item.specs.vlog_tree.Lines.{no_mark, map_head, map_port}
-use Rattle.vlog_item.specs.vlog_tree.Lines.{map_module, map_parameter_head, map_parameter}
+use Rattle.vlog_tree.specs.Tree.{PortHeadOf, PortOf, ModuleOf}
+use Rattle.vlog_tree.specs.Tree.{ParameterHeadOf, ParameterOf}
+use Rattle.vlog_tree.specs.Lines.{no_mark, map_head, map_port}
+use Rattle.vlog_tree.specs.Lines.{map_module, map_parameter_head, map_parameter}
 
 abbrev pub bare_parameter_head : {A : Type 0} → ParameterHeadOf A → ParameterHeadOf (Unit {0})
 bare_parameter_head x = map_parameter_head no_mark x

@@ -1,9 +1,9 @@
 -- What the reader of files means: what is spelled is read, and what is read is spelled.
 use Rattle.std.specs.Prelude.{◌≡◌, ◌≤◌, ℕ, Some, length, option_map, []}
-use Rattle.vlog_item.specs.vlog_tree.Lines.{bare}
-use Rattle.vlog_item.specs.vlog_tree.Tree.{FileOf}
-use Rattle.vlog_item.specs.vlog_tree.Spelling.{file_words}
-use Rattle.vlog_item.specs.vlog_tree.Shape.{IsGood}
+use Rattle.vlog_tree.specs.Lines.{bare}
+use Rattle.vlog_tree.specs.Tree.{FileOf}
+use Rattle.vlog_tree.specs.Spelling.{file_words}
+use Rattle.vlog_tree.specs.Shape.{IsGood}
 use Rattle.vlog_item.specs.vlog_expr.Marks.{Toks, spell, AreWords, AreLawful}
 use Rattle.vlog_item.specs.vlog_expr.Bare.{forget_all}
 use Rattle.vlog_item.specs.vlog_expr.Reader.{fuel_for}

@@ -1,12 +1,12 @@
 -- The reader of modules and files, rule by rule of the grammar, with fuel for the items in them.
 use Rattle.std.specs.Prelude.{ℕ, zero, suc, true, false, List, [], ◌∷◌, ◌++◌, Option, None, Some, length}
-use Rattle.vlog_item.specs.vlog_tree.declared.module.Direction.{Direction}
-use Rattle.vlog_item.specs.vlog_tree.declared.module.Direction.TheVariants as direction
-use Rattle.vlog_item.specs.vlog_tree.declared.module.NetKind.TheVariants as kind
-use Rattle.vlog_item.specs.vlog_tree.declared.terminal.Terminal.TheVariants as t
-use Rattle.vlog_item.specs.vlog_tree.Tree.{PortHeadOf, PortOf}
-use Rattle.vlog_item.specs.vlog_tree.Tree.{ItemOf, ModuleOf, FileOf}
-use Rattle.vlog_item.specs.vlog_tree.Tree.{ParameterHeadOf, ParameterOf}
+use Rattle.vlog_tree.specs.declared.module.Direction.{Direction}
+use Rattle.vlog_tree.specs.declared.module.Direction.TheVariants as direction
+use Rattle.vlog_tree.specs.declared.module.NetKind.TheVariants as kind
+use Rattle.vlog_tree.specs.declared.terminal.Terminal.TheVariants as t
+use Rattle.vlog_tree.specs.Tree.{PortHeadOf, PortOf}
+use Rattle.vlog_tree.specs.Tree.{ItemOf, ModuleOf, FileOf}
+use Rattle.vlog_tree.specs.Tree.{ParameterHeadOf, ParameterOf}
 use Rattle.vlog_item.specs.vlog_expr.Marks.{Toks, after, name_front}
 use Rattle.vlog_item.specs.vlog_expr.Reader.{◌>>=◌, found_or, Read, expr_at, fuel_for, more_at}
 use Rattle.vlog_item.specs.ItemReader.{range_front, init_front, item_at}

@@ -9,4 +9,3 @@ pub use Rattle.vlog_item.specs.vlog_expr.Marks
 pub use Rattle.vlog_item.specs.vidi_bits as vidi_bits
 pub use Rattle.vlog_item.specs.vlog_expr as vlog_expr
 pub use Rattle.vlog_item.specs.vlog_lex as vlog_lex
-pub use Rattle.vlog_item.specs.vlog_tree as vlog_tree

@@ -1,10 +1,10 @@
 -- What `parse` owes: the file of good shape that the tokens spell, or the reason why there is none.
 use Rattle.std.specs.Prelude.{◌≡◌, ℕ, List, []}
 use Rattle.vlog_item.specs.vlog_lex.declared.token.Token.{Token}
-use Rattle.vlog_item.specs.vlog_tree.Tree.{FileOf}
-use Rattle.vlog_item.specs.vlog_tree.Lines.{bare}
-use Rattle.vlog_item.specs.vlog_tree.Spelling.{toks, file_words}
-use Rattle.vlog_item.specs.vlog_tree.Shape.{IsGood}
+use Rattle.vlog_tree.specs.Tree.{FileOf}
+use Rattle.vlog_tree.specs.Lines.{bare}
+use Rattle.vlog_tree.specs.Spelling.{toks, file_words}
+use Rattle.vlog_tree.specs.Shape.{IsGood}
 use Rattle.vlog_parse.specs.declared.error.ParseError.{ParseError}
 use Rattle.vlog_parse.specs.declared.error.ParseError.TheVariants.{Deep, Item, Memory}
 use Rattle.vlog_item.specs.vlog_expr.Marks.{all_marked, AreWords}

@@ -1,7 +1,7 @@
 -- The reader of whole units, one after the other.
 use Rattle.std.specs.Prelude.{ℕ, zero, suc, Bool, true, false, Option, None, Some}
-use Rattle.vlog_item.specs.vlog_tree.declared.terminal.Terminal.TheVariants as t
-use Rattle.vlog_item.specs.vlog_tree.Tree.{ItemOf, AlwaysItem}
+use Rattle.vlog_tree.specs.declared.terminal.Terminal.TheVariants as t
+use Rattle.vlog_tree.specs.Tree.{ItemOf, AlwaysItem}
 use Rattle.vlog_item.specs.vlog_expr.Marks.{Toks, after}
 use Rattle.vlog_item.specs.vlog_expr.Reader.{◌>>=◌, found_or, Read}
 use Rattle.vlog_parse.specs.FileReader.{header_at}

@@ -1,11 +1,11 @@
 -- The whole units of a design text: a module's header up to its `;`, an item, and `endmodule`.
 use Rattle.std.specs.Prelude.{◌≡◌, ◌≤◌, ◌-◌, ℕ, List, [], ◌∷◌, ◌++◌, length, drop, map}
 use Rattle.std.specs.List.{flat_map}
-use Rattle.vlog_item.specs.vlog_tree.declared.terminal.Terminal.TheVariants as t
-use Rattle.vlog_item.specs.vlog_tree.Words.{WordOf, NameWord, Fixed}
-use Rattle.vlog_item.specs.vlog_tree.Tree.{ParameterOf, PortOf, ItemOf, ModuleOf, FileOf}
-use Rattle.vlog_item.specs.vlog_tree.Spelling.{with_commas, in_row, hash_words, parameter_words, port_words, item_words, file_words}
-use Rattle.vlog_item.specs.vlog_tree.Shape.{IsGood}
+use Rattle.vlog_tree.specs.declared.terminal.Terminal.TheVariants as t
+use Rattle.vlog_tree.specs.Words.{WordOf, NameWord, Fixed}
+use Rattle.vlog_tree.specs.Tree.{ParameterOf, PortOf, ItemOf, ModuleOf, FileOf}
+use Rattle.vlog_tree.specs.Spelling.{with_commas, in_row, hash_words, parameter_words, port_words, item_words, file_words}
+use Rattle.vlog_tree.specs.Shape.{IsGood}
 use Rattle.vlog_item.specs.vlog_expr.Marks.{Toks, spell}
 use Rattle.vlog_item.specs.vlog_expr.Bare.{forget_all}
 use Rattle.vlog_item.specs.Laws.{IsWholeItem}

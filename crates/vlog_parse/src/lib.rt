@@ -20,4 +20,4 @@ pub use laws::{
     read_is_spelled, spelled_is_read, units_are_spelled,
 };
 pub use parser::parse;
-pub use vlog_item::{vidi_bits, vlog_expr, vlog_lex, vlog_tree};
+pub use vlog_item::{vidi_bits, vlog_expr, vlog_lex};

@@ -1,8 +1,8 @@
 //! The reader of modules and files.
 
 ghost use Rattle.std.specs.Prelude.{◌≡◌, ℕ, Some, [], map, option_map};
-ghost use Rattle.vlog_item.specs.vlog_tree.Tree.{PortOf};
-ghost use Rattle.vlog_item.specs.vlog_tree.Plain.{plain_parameter, plain_head, plain_port, plain_item, plain_module, plain};
+ghost use Rattle.vlog_tree.specs.Tree.{PortOf};
+ghost use Rattle.vlog_tree.specs.Plain.{plain_parameter, plain_head, plain_port, plain_item, plain_module, plain};
 ghost use Rattle.vlog_item.specs.vlog_expr.Marks.{all_marked};
 ghost use Rattle.vlog_parse.specs.FileReader.{input_at, output_at, direction_front, head_front, port_at, first_port_at, ports_at, items_at};
 ghost use Rattle.vlog_parse.specs.FileReader.{header_at, module_at, modules_at, file_at};
@@ -14,10 +14,10 @@ use vlog_item::vidi_bits::{Items, Name};
 use vlog_item::vlog_expr::{Parsed, Unread, after, expect, name_of};
 use vlog_item::vlog_lex::Token;
 use vlog_item::vlog_stmt::{ListReader, more_of};
-use vlog_item::vlog_tree::{
+use vlog_item::{init_front, item_of, range_front, unboxed};
+use vlog_tree::{
     Direction, File, Item, Module, Modules, NetKind, Parameters, Port, PortHead, Ports, Terminal,
 };
-use vlog_item::{init_front, item_of, range_front, unboxed};
 
 /// The word that may stand behind `input`.
 fn input_of(tokens: &[Token]) -> (Direction, &[Token])

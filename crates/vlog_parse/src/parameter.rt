@@ -1,8 +1,8 @@
 //! The reader of the parameters of a module's header.
 
 ghost use Rattle.std.specs.Prelude.{◌≡◌, ℕ, map, option_map};
-ghost use Rattle.vlog_item.specs.vlog_tree.Tree.{ParameterOf};
-ghost use Rattle.vlog_item.specs.vlog_tree.Plain.{plain_parameter_head, plain_parameter};
+ghost use Rattle.vlog_tree.specs.Tree.{ParameterOf};
+ghost use Rattle.vlog_tree.specs.Plain.{plain_parameter_head, plain_parameter};
 ghost use Rattle.vlog_item.specs.vlog_expr.Marks.{all_marked};
 ghost use Rattle.vlog_item.specs.vlog_expr.Given.{Gives};
 ghost use Rattle.vlog_parse.specs.FileReader.{parameter_head_front, parameter_at, first_parameter_at, parameters_front};
@@ -11,8 +11,8 @@ use std::alloc::Global;
 use vlog_item::vlog_expr::{Parsed, Unread, after, expect, expr_of, name_of};
 use vlog_item::vlog_lex::Token;
 use vlog_item::vlog_stmt::{ListReader, more_of};
-use vlog_item::vlog_tree::{Parameter, ParameterHead, Parameters, Terminal};
 use vlog_item::{range_front, unboxed};
+use vlog_tree::{Parameter, ParameterHead, Parameters, Terminal};
 
 /// The word `parameter` and its range, where that word stands at the front.
 fn parameter_head_front(

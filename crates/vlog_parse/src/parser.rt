@@ -1,9 +1,9 @@
 //! Whole lists of tokens as one file.
 
 ghost use Rattle.std.specs.Prelude.{◌≡◌, ℕ, Err, IfOk, IfErr, MatchResult};
-ghost use Rattle.vlog_item.specs.vlog_tree.Tree.{FileOf};
-ghost use Rattle.vlog_item.specs.vlog_tree.Plain.{plain};
-ghost use Rattle.vlog_item.specs.vlog_tree.Lines.{bare};
+ghost use Rattle.vlog_tree.specs.Tree.{FileOf};
+ghost use Rattle.vlog_tree.specs.Plain.{plain};
+ghost use Rattle.vlog_tree.specs.Lines.{bare};
 ghost use Rattle.vlog_parse.specs.declared.error.ParseError.TheVariants as variants;
 ghost use Rattle.vlog_item.specs.vlog_expr.declared.unread.Unread.{Unread};
 ghost use Rattle.vlog_item.specs.vlog_expr.Marks.{all_marked};
@@ -20,7 +20,7 @@ use std::alloc::Global;
 use vlog_item::vidi_bits::Memory;
 use vlog_item::vlog_expr::{Unread, are_lawful, fuel_for};
 use vlog_item::vlog_lex::{Token, Tokens};
-use vlog_item::vlog_tree::File;
+use vlog_tree::File;
 
 /// The file of all the tokens, whose names and numbers aren't looked at.
 #[tactic(auto, using(crate::proofs::Passed::marked_length), unfolding(crate::specs::FileReader::file_of))]

@@ -1,7 +1,7 @@
 //! The whole units of a design text.
 
 ghost use Rattle.std.specs.Prelude.{◌≡◌, ◌↔◌, false, IsTrue, Some, IfOk, option_map};
-ghost use Rattle.vlog_item.specs.vlog_tree.Plain.{plain_item};
+ghost use Rattle.vlog_tree.specs.Plain.{plain_item};
 ghost use Rattle.vlog_item.specs.vlog_expr.Marks.{all_marked};
 ghost use Rattle.vlog_item.specs.vlog_expr.Given.{Gives};
 ghost use Rattle.vlog_item.specs.ItemReader.{item_at};
@@ -14,7 +14,7 @@ use vlog_item::item_of;
 use vlog_item::vidi_bits::Memory;
 use vlog_item::vlog_expr::{Parsed, Unread, after, fuel_for, lawful_len};
 use vlog_item::vlog_lex::Token;
-use vlog_item::vlog_tree::{Item, Terminal};
+use vlog_tree::{Item, Terminal};
 
 /// Whether no `else` follows the item, where it is an `always`.
 fn is_whole(item: &Item, rest: &[Token]) -> bool

@@ -4,12 +4,12 @@ use Rattle.std.proofs.lemmas.List.{map-append, length-map}
 use Rattle.std.proofs.lemmas.List.Elements.{All-map}
 use Rattle.std.proofs.lemmas.List.Sums.{sum_by-cons}
 use Rattle.vlog_parse.specs.vlog_lex.declared.token.Token.{Token}
-use Rattle.vlog_parse.specs.vlog_tree.Words.{WordOf, NameWord, Fixed, NameAt, NumberAt, FixedAt}
-use Rattle.vlog_parse.specs.vlog_tree.Tree.{FileOf}
-use Rattle.vlog_parse.specs.vlog_tree.Lines.{bare}
-use Rattle.vlog_parse.specs.vlog_tree.Spelling.{toks, file_words}
-use Rattle.vlog_parse.specs.vlog_tree.Shape.{IsGood}
-use Rattle.vlog_parse.proofs.vlog_tree_lemmas.Marks.{toks_bare}
+use Rattle.vlog_tree.specs.Words.{WordOf, NameWord, Fixed, NameAt, NumberAt, FixedAt}
+use Rattle.vlog_tree.specs.Tree.{FileOf}
+use Rattle.vlog_tree.specs.Lines.{bare}
+use Rattle.vlog_tree.specs.Spelling.{toks, file_words}
+use Rattle.vlog_tree.specs.Shape.{IsGood}
+use Rattle.vlog_tree.proofs.Marks.{toks_bare}
 use Rattle.vlog_parse.specs.vlog_expr.Marks.{TokenOf, Toks, marked, all_marked, spelled, AreWords}
 use Rattle.vlog_parse.specs.vlog_expr.Bare.{without_lines}
 use Rattle.vlog_parse.specs.Depth.{open_at, open_behind, HaveNoCut, is_else, IsNoAlways, IsOpenTooDeep, EndsLongRun, IsElseTooMany, Passes}

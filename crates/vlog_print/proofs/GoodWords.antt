@@ -5,12 +5,12 @@ use Rattle.std.proofs.lemmas.Bool.{and_parts}
 use Rattle.vlog_parse.specs.vlog_lex.declared.token.Token.{Token}
 use Rattle.vlog_parse.specs.vlog_lex.Words.{is_reserved, is_symbol}
 use Rattle.vlog_parse.specs.vlog_lex.Lexeme.{begins_name, continues_name, IsName, IsToken}
-use Rattle.vlog_parse.specs.vlog_tree.declared.terminal.Terminal.{Terminal}
-use Rattle.vlog_parse.specs.vlog_tree.declared.terminal.Terminal.TheVariants as t
-use Rattle.vlog_parse.specs.vlog_tree.Words.{WordOf, NameWord, Fixed, NameAt, NumberAt, FixedAt, token_of, tokens_of, terminal_kind, terminal_text}
-use Rattle.vlog_parse.specs.vlog_tree.Tree.{FileOf}
-use Rattle.vlog_parse.specs.vlog_tree.Spelling.{toks, file_words}
-use Rattle.vlog_parse.specs.vlog_tree.Shape.{IsGood}
+use Rattle.vlog_tree.specs.declared.terminal.Terminal.{Terminal}
+use Rattle.vlog_tree.specs.declared.terminal.Terminal.TheVariants as t
+use Rattle.vlog_tree.specs.Words.{WordOf, NameWord, Fixed, NameAt, NumberAt, FixedAt, token_of, tokens_of, terminal_kind, terminal_text}
+use Rattle.vlog_tree.specs.Tree.{FileOf}
+use Rattle.vlog_tree.specs.Spelling.{toks, file_words}
+use Rattle.vlog_tree.specs.Shape.{IsGood}
 use Rattle.vlog_parse.proofs.vlog_expr_lemmas.Whole.{IsLawfulWord, AreLawfulWords}
 use Rattle.vlog_parse.proofs.FileWhole.{file_lawful}
 use Rattle.vlog_parse.proofs.vlog_lex_lemmas.Solid.{list_test}

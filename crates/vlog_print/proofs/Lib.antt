@@ -2,4 +2,3 @@ pub mod Again
 pub mod GoodWords
 pub mod Printed
 pub use Rattle.vlog_parse.proofs.vidi_bits_lemmas as vidi_bits_lemmas
-pub use Rattle.vlog_parse.proofs.vlog_tree_lemmas as vlog_tree_lemmas

@@ -7,9 +7,9 @@ use Rattle.vlog_parse.specs.vlog_lex.Words.{is_among}
 use Rattle.vlog_parse.specs.vlog_lex.Gap.{IsGap}
 use Rattle.vlog_parse.specs.vlog_lex.Reading.{Piece, Gap, Lexeme, Leads, newlines, tokens_of}
 use Rattle.vlog_parse.proofs.vlog_lex_lemmas.Spans.{before_stop}
-use Rattle.vlog_parse.specs.vlog_tree.Words.{WordOf, NameWord, Fixed, NameAt, NumberAt, FixedAt, token_of}
-use Rattle.vlog_parse.specs.vlog_tree.Words as words
-use Rattle.vlog_parse.specs.vlog_tree.Spelling.{toks, file_words}
+use Rattle.vlog_tree.specs.Words.{WordOf, NameWord, Fixed, NameAt, NumberAt, FixedAt, token_of}
+use Rattle.vlog_tree.specs.Words as words
+use Rattle.vlog_tree.specs.Spelling.{toks, file_words}
 use Rattle.vlog_parse.specs.vlog_expr.Bare.{without_lines}
 use Rattle.vlog_print.specs.Printed.{line_ends, gap_behind, printed, PrintedIsSpelled}
 use Rattle.vlog_print.proofs.GoodWords.{AreTokens, good_tokens}

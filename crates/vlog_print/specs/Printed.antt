@@ -4,10 +4,10 @@ use Rattle.std.specs.List.{flat_map}
 use Rattle.vlog_parse.specs.vlog_lex.declared.token.Token.{Token}
 use Rattle.vlog_parse.specs.vlog_lex.Words.{is_among}
 use Rattle.vlog_parse.specs.vlog_lex.Reading.{HasTokens}
-use Rattle.vlog_parse.specs.vlog_tree.Tree.{FileOf}
-use Rattle.vlog_parse.specs.vlog_tree.Spelling.{toks}
-use Rattle.vlog_parse.specs.vlog_tree.Shape.{IsGood}
-use Rattle.vlog_parse.specs.vlog_tree.Lines.{bare}
+use Rattle.vlog_tree.specs.Tree.{FileOf}
+use Rattle.vlog_tree.specs.Spelling.{toks}
+use Rattle.vlog_tree.specs.Shape.{IsGood}
+use Rattle.vlog_tree.specs.Lines.{bare}
 use Rattle.vlog_parse.specs.vlog_expr.Marks.{all_marked}
 use Rattle.vlog_parse.specs.vlog_expr.Bare.{without_lines}
 use Rattle.vlog_parse.specs.Depth.{IsShallow}

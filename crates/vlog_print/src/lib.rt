@@ -15,4 +15,4 @@ pub use printing::print;
 pub use shape::good_shape;
 pub use spelling::tokens_of;
 pub use vlog_parse;
-pub use vlog_parse::{vidi_bits, vlog_expr, vlog_lex, vlog_tree};
+pub use vlog_parse::{vidi_bits, vlog_expr, vlog_lex};

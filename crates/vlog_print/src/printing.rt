@@ -1,9 +1,9 @@
 //! Trees printed as text.
 
 ghost use Rattle.std.specs.Prelude.{◌≡◌, ◌^◌, ◌-◌, [], ◌∷◌, ◌++◌, IfOk, OnOk, length, min};
-ghost use Rattle.vlog_parse.specs.vlog_tree.Plain.{plain};
-ghost use Rattle.vlog_parse.specs.vlog_tree.Shape.{IsGood};
-ghost use Rattle.vlog_parse.specs.vlog_tree.Spelling.{toks};
+ghost use Rattle.vlog_tree.specs.Plain.{plain};
+ghost use Rattle.vlog_tree.specs.Shape.{IsGood};
+ghost use Rattle.vlog_tree.specs.Spelling.{toks};
 ghost use Rattle.vlog_parse.specs.vlog_lex.Words.{is_among};
 ghost use Rattle.vlog_print.specs.Printed.{line_ends, gap_behind, printed, IsTextOf};
 
@@ -12,7 +12,7 @@ use crate::spelling::tokens_of;
 use std::alloc::Global;
 use vlog_parse::vidi_bits::{Bytes, Items, Memory};
 use vlog_parse::vlog_lex::Token;
-use vlog_parse::vlog_tree::File;
+use vlog_tree::File;
 
 /// Whether a line ends behind a token.
 fn ends_line(text: &[u8]) -> bool

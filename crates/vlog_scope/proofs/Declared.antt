@@ -10,8 +10,8 @@ use Rattle.std.specs.Str.{bytes_eq}
 use Rattle.vlog_size.specs.Table.{Named, value_of, place_of, added}
 use Rattle.vlog_size.specs.Size.{Sizes}
 use Rattle.vlog_size.specs.declared.scope.Param.{Param}
-use Rattle.vlog_size.specs.vlog_tree.Tree.{ParameterOf, NamedValueOf, ItemOf, WiresItem, DrivenWiresItem, RegsItem, LocalparamsItem, AssignItem}
-use Rattle.vlog_size.specs.vlog_tree.Tree.{AlwaysItem, InstanceItem}
+use Rattle.vlog_tree.specs.Tree.{ParameterOf, NamedValueOf, ItemOf, WiresItem, DrivenWiresItem, RegsItem, LocalparamsItem, AssignItem}
+use Rattle.vlog_tree.specs.Tree.{AlwaysItem, InstanceItem}
 use Rattle.vlog_scope.specs.declared.extent.Extent.{Extent}
 use Rattle.vlog_scope.specs.Params.{header_params, local_params, item_params, items_params, with_param, given_or}
 use Rattle.vlog_scope.specs.Extents.{constant_sizes, parameter_extent}

@@ -7,8 +7,8 @@ use Rattle.std.specs.Str.{bytes_eq}
 use Rattle.std.proofs.lemmas.Bool.{and_from}
 use Rattle.vlog_size.proofs.vidi_bits_lemmas.Bools.{left_of, right_of}
 use Rattle.vlog_size.proofs.vidi_bits_lemmas.Lists.{nil_left, nil_right}
-use Rattle.vlog_size.specs.vlog_tree.Tree.{ExprOf, ConnOf, RangeOf, ParameterHeadOf, ParameterOf, NamedValueOf, ItemOf, WiresItem, DrivenWiresItem}
-use Rattle.vlog_size.specs.vlog_tree.Tree.{RegsItem, LocalparamsItem, AssignItem, AlwaysItem, InstanceItem}
+use Rattle.vlog_tree.specs.Tree.{ExprOf, ConnOf, RangeOf, ParameterHeadOf, ParameterOf, NamedValueOf, ItemOf, WiresItem, DrivenWiresItem}
+use Rattle.vlog_tree.specs.Tree.{RegsItem, LocalparamsItem, AssignItem, AlwaysItem, InstanceItem}
 use Rattle.vlog_size.specs.declared.scope.Param.{Param}
 use Rattle.vlog_size.specs.declared.scope.Scope.{Scope}
 use Rattle.vlog_size.specs.Table.{Named, value_of, added}

@@ -4,9 +4,9 @@ use Rattle.std.specs.List.{list_all, flat_map}
 use Rattle.std.proofs.lemmas.Bool.{and_from}
 use Rattle.vlog_size.proofs.vidi_bits_lemmas.Bools.{left_of}
 use Rattle.vlog_size.proofs.vidi_bits_lemmas.Lists.{nil_left, nil_right}
-use Rattle.vlog_size.specs.vlog_tree.Tree.{ConnOf, IdentOf, RangeOf, PortHeadOf, PortOf, NamedValueOf, RegTailOf, InitTail, MemoryTail, Reg1Of}
-use Rattle.vlog_size.specs.vlog_tree.Tree.{ItemOf, WiresItem, DrivenWiresItem, RegsItem, LocalparamsItem, AssignItem, AlwaysItem}
-use Rattle.vlog_size.specs.vlog_tree.Tree.{InstanceItem, ModuleOf}
+use Rattle.vlog_tree.specs.Tree.{ConnOf, IdentOf, RangeOf, PortHeadOf, PortOf, NamedValueOf, RegTailOf, InitTail, MemoryTail, Reg1Of}
+use Rattle.vlog_tree.specs.Tree.{ItemOf, WiresItem, DrivenWiresItem, RegsItem, LocalparamsItem, AssignItem, AlwaysItem}
+use Rattle.vlog_tree.specs.Tree.{InstanceItem, ModuleOf}
 use Rattle.vlog_size.specs.declared.scope.Param.{Param}
 use Rattle.vlog_size.specs.declared.scope.ScopeNet.{ScopeNet}
 use Rattle.vlog_size.specs.declared.scope.ScopeMemory.{ScopeMemory}

@@ -1,8 +1,8 @@
 -- The overrides that the code keeps, and the constants of expressions.
 use Rattle.std.proofs.Common.{◌≡◌, ℕ, Bool, true, List, Option, Some, None, option_map, ap, ◌∙◌, if◌then◌else◌}
 use Rattle.std.specs.Borrow.{Bor}
-use Rattle.vlog_size.specs.vlog_tree.declared.expr.Expr.{Expr}
-use Rattle.vlog_size.specs.vlog_tree.Plain.{plain_expr}
+use Rattle.vlog_tree.specs.declared.expr.Expr.{Expr}
+use Rattle.vlog_tree.specs.Plain.{plain_expr}
 use Rattle.vlog_size.specs.Table.{Named, value_of, added}
 use Rattle.vlog_size.specs.Names.{Readable}
 use Rattle.vlog_size.specs.Size.{Sizes, sizes_of, number, is_sound, own}

@@ -2,9 +2,9 @@
 use Rattle.std.proofs.Common.{◌≡◌, ℕ, ◌<◌, suc, List, ◌∷◌, length, drop, map, get_or, drop-cons, Some, ap, sym, ◌∙◌}
 use Rattle.vlog_size.proofs.vidi_bits_lemmas.FindingLaws.{first_more}
 use Rattle.vlog_size.specs.vidi_bits.Findings.{first}
-use Rattle.vlog_size.specs.vlog_tree.declared.module.Port.{Port}
-use Rattle.vlog_size.specs.vlog_tree.declared.module.Parameter.{Parameter}
-use Rattle.vlog_size.specs.vlog_tree.Plain.{plain_port, plain_parameter}
+use Rattle.vlog_tree.specs.declared.module.Port.{Port}
+use Rattle.vlog_tree.specs.declared.module.Parameter.{Parameter}
+use Rattle.vlog_tree.specs.Plain.{plain_port, plain_parameter}
 use Rattle.vlog_size.specs.declared.error.SizeError.{SizeError}
 use Rattle.vlog_size.specs.declared.scope.Scope.{Scope}
 use Rattle.vlog_size.specs.Names.{Readable}

@@ -7,7 +7,7 @@ use Rattle.vlog_size.proofs.vidi_bits_lemmas.FindingLaws.{told_none}
 use Rattle.vlog_size.proofs.vidi_bits_lemmas.Lists.{nil_left, nil_right}
 use Rattle.vlog_size.specs.vidi_bits.Findings.{told_if}
 use Rattle.vlog_size.specs.vidi_bits.Number.{IsWidth}
-use Rattle.vlog_size.specs.vlog_tree.Tree.{ExprOf, IdentOf, RangeOf}
+use Rattle.vlog_tree.specs.Tree.{ExprOf, IdentOf, RangeOf}
 use Rattle.vlog_size.specs.declared.error.SizeError.TheVariants as error
 use Rattle.vlog_size.specs.declared.scope.Const.{Const}
 use Rattle.vlog_size.specs.declared.scope.Const.TheVariants as const

@@ -1,6 +1,6 @@
 -- What ranges make of the names that they stand before, and of memories (IEEE 1364-2005, 4.3, 4.9.3; this project's profile).
 use Rattle.std.specs.Prelude.{ℕ, ◌+◌, ◌==◌, ◌&&◌, nat_lt, if◌then◌else◌, Option, Some, None}
-use Rattle.vlog_size.specs.vlog_tree.Tree.{ExprOf, RangeOf, ParameterHeadOf, PortHeadOf}
+use Rattle.vlog_tree.specs.Tree.{ExprOf, RangeOf, ParameterHeadOf, PortHeadOf}
 use Rattle.vlog_size.specs.Names.{Readable, fixed}
 use Rattle.vlog_size.specs.Size.{Sizes, sizes_of, number}
 use Rattle.vlog_scope.specs.declared.extent.Extent.{Extent}

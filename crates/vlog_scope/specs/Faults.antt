@@ -2,12 +2,12 @@
 use Rattle.std.specs.Prelude.{ℕ, not, List, [], ◌∷◌, ◌++◌, Option, Some, None}
 use Rattle.std.specs.List.{flat_map}
 use Rattle.vlog_size.specs.vidi_bits.Findings.{told_if}
-use Rattle.vlog_size.specs.vlog_tree.Tree.{ExprOf, TargetOf, IdentOf, RangeOf, NamedValueOf, RegTailOf, InitTail, MemoryTail, Reg1Of}
-use Rattle.vlog_size.specs.vlog_tree.Tree.{AssignOf, ConnOf, InstanceOf}
-use Rattle.vlog_size.specs.vlog_tree.Tree.{StmtOf, BeginStmt, IfStmt, CaseStmt, AssignStmt, ArmOf, LabelsArm, DefaultArm, ArmsOf, NoArms, MoreArms}
-use Rattle.vlog_size.specs.vlog_tree.Tree.{BodyOf, StmtBody, EmptyBody, ElseOf, NoElse, Else, StmtsOf, NoStmts, MoreStmts}
-use Rattle.vlog_size.specs.vlog_tree.Tree.{ItemOf, WiresItem, DrivenWiresItem, RegsItem, LocalparamsItem, AssignItem, AlwaysItem, InstanceItem}
-use Rattle.vlog_size.specs.vlog_tree.Tree.{ParameterHeadOf, ParameterOf, PortHeadOf, PortOf, ModuleOf}
+use Rattle.vlog_tree.specs.Tree.{ExprOf, TargetOf, IdentOf, RangeOf, NamedValueOf, RegTailOf, InitTail, MemoryTail, Reg1Of}
+use Rattle.vlog_tree.specs.Tree.{AssignOf, ConnOf, InstanceOf}
+use Rattle.vlog_tree.specs.Tree.{StmtOf, BeginStmt, IfStmt, CaseStmt, AssignStmt, ArmOf, LabelsArm, DefaultArm, ArmsOf, NoArms, MoreArms}
+use Rattle.vlog_tree.specs.Tree.{BodyOf, StmtBody, EmptyBody, ElseOf, NoElse, Else, StmtsOf, NoStmts, MoreStmts}
+use Rattle.vlog_tree.specs.Tree.{ItemOf, WiresItem, DrivenWiresItem, RegsItem, LocalparamsItem, AssignItem, AlwaysItem, InstanceItem}
+use Rattle.vlog_tree.specs.Tree.{ParameterHeadOf, ParameterOf, PortHeadOf, PortOf, ModuleOf}
 use Rattle.vlog_size.specs.declared.error.SizeError.{SizeError}
 use Rattle.vlog_size.specs.declared.error.SizeError.TheVariants as error
 use Rattle.vlog_size.specs.declared.scope.Scope.{Scope}

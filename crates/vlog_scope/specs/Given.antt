@@ -1,8 +1,8 @@
 -- What the code keeps of an instance's connections of parameters.
 use Rattle.std.specs.Prelude.{List, map}
 use Rattle.std.specs.Borrow.{Bor}
-use Rattle.vlog_size.specs.vlog_tree.declared.expr.Expr.{Expr}
-use Rattle.vlog_size.specs.vlog_tree.Plain.{plain_expr}
+use Rattle.vlog_tree.specs.declared.expr.Expr.{Expr}
+use Rattle.vlog_tree.specs.Plain.{plain_expr}
 use Rattle.vlog_size.specs.Table.{Named}
 use Rattle.vlog_size.specs.Names.{Readable, readable_in}
 use Rattle.vlog_size.specs.Size.{Sizes, sizes_of}

@@ -1,7 +1,7 @@
 -- The parameters of a module instance (IEEE 1364-2005, 12.2 and 4.10; this project's profile): each is made by the connection of its
 -- name where the instance has one, else by its own expression in the parameters before it.
 use Rattle.std.specs.Prelude.{ℕ, min, if◌then◌else◌, List, [], ◌∷◌, Option, Some, None, is_some}
-use Rattle.vlog_size.specs.vlog_tree.Tree.{ExprOf, ConnOf, ParameterOf, NamedValueOf, ItemOf, LocalparamsItem}
+use Rattle.vlog_tree.specs.Tree.{ExprOf, ConnOf, ParameterOf, NamedValueOf, ItemOf, LocalparamsItem}
 use Rattle.vlog_size.specs.declared.scope.Const.TheVariants as const
 use Rattle.vlog_size.specs.declared.scope.Param.{Param}
 use Rattle.vlog_size.specs.Table.{Named, value_of, added}

@@ -1,8 +1,8 @@
 -- The scope of a module instance: its parameters, nets and memories in text order (IEEE 1364-2005, 4.2, 4.9, 4.10, 12.3; this project's profile).
 use Rattle.std.specs.Prelude.{ℕ, ◌+◌, max, List, [], ◌∷◌, length, take, map, slice_get, Option, Some, None}
 use Rattle.std.specs.List.{sum_by}
-use Rattle.vlog_size.specs.vlog_tree.Tree.{IdentOf, NamedValueOf, RegTailOf, InitTail, MemoryTail, Reg1Of, PortOf, ItemOf}
-use Rattle.vlog_size.specs.vlog_tree.Tree.{WiresItem, DrivenWiresItem, RegsItem, LocalparamsItem, ModuleOf, ConnOf}
+use Rattle.vlog_tree.specs.Tree.{IdentOf, NamedValueOf, RegTailOf, InitTail, MemoryTail, Reg1Of, PortOf, ItemOf}
+use Rattle.vlog_tree.specs.Tree.{WiresItem, DrivenWiresItem, RegsItem, LocalparamsItem, ModuleOf, ConnOf}
 use Rattle.vlog_size.specs.declared.scope.Param.{Param}
 use Rattle.vlog_size.specs.declared.scope.ScopeNet.{ScopeNet}
 use Rattle.vlog_size.specs.declared.scope.ScopeMemory.{ScopeMemory}

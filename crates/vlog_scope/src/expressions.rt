@@ -3,7 +3,7 @@
 ghost use Rattle.std.specs.Prelude.{◌≡◌, List, map, option_map, Some};
 ghost use Rattle.std.specs.List.{flat_map};
 ghost use Rattle.vlog_size.specs.vidi_bits.Findings.{first, Judged};
-ghost use Rattle.vlog_size.specs.vlog_tree.Plain.{plain_ident, plain_expr, plain_target, plain_range, plain_assign};
+ghost use Rattle.vlog_tree.specs.Plain.{plain_ident, plain_expr, plain_target, plain_range, plain_assign};
 ghost use Rattle.vlog_size.specs.declared.error.SizeError.{SizeError};
 ghost use Rattle.vlog_size.specs.Names.{readable_in};
 ghost use Rattle.vlog_size.specs.Size.{Sizes, sizes_of, sizes_of_target, too_large};
@@ -12,8 +12,8 @@ ghost use Rattle.vlog_scope.specs.Faults as faults;
 
 use crate::extent::Extent;
 use crate::fault::FaultKind;
-use vlog_size::vlog_tree::{Assign, Expr, Ident, Range, Target};
 use vlog_size::{Facts, SizeError, View, facts_of, fixed, numbered, target_facts, too_large};
+use vlog_tree::{Assign, Expr, Ident, Range, Target};
 
 /// The finding as an error.
 fn tell(fault: Option<SizeError>) -> Result<(), SizeError>

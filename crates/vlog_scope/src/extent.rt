@@ -1,12 +1,12 @@
 //! What ranges make of the names that they stand before.
 
 ghost use Rattle.std.specs.Prelude.{◌≡◌, option_map};
-ghost use Rattle.vlog_size.specs.vlog_tree.Plain.{plain_range, plain_parameter_head, plain_head};
+ghost use Rattle.vlog_tree.specs.Plain.{plain_range, plain_parameter_head, plain_head};
 ghost use Rattle.vlog_size.specs.Names.{readable_in};
 ghost use Rattle.vlog_scope.specs.Extents as extents;
 
-use vlog_size::vlog_tree::{ParameterHead, PortHead, Range};
 use vlog_size::{View, fixed, numbered};
+use vlog_tree::{ParameterHead, PortHead, Range};
 
 /// What a range makes of a name that is declared behind it.
 #[derive(Clone, Copy, PartialEq, Eq)]

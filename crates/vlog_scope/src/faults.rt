@@ -2,7 +2,7 @@
 
 ghost use Rattle.std.specs.Prelude.{◌≡◌, ◌↔◌, [], map, option_map, IsTrue, Some};
 ghost use Rattle.vlog_size.specs.vidi_bits.Findings.{Judged};
-ghost use Rattle.vlog_size.specs.vlog_tree.Plain.{plain_parameter_head, plain_parameter, plain_head, plain_port, plain_module};
+ghost use Rattle.vlog_tree.specs.Plain.{plain_parameter_head, plain_parameter, plain_head, plain_port, plain_module};
 ghost use Rattle.vlog_size.specs.Names.{readable_in};
 ghost use Rattle.vlog_scope.specs.Faults as faults;
 ghost use Rattle.vlog_scope.specs.declared.extent.Extent.TheVariants.{NoRange};
@@ -12,8 +12,8 @@ use crate::extent::{Extent, parameter_extent, port_extent};
 use crate::fault::FaultKind;
 use crate::items::items_fault;
 use crate::scope::{after_name, view_at};
-use vlog_size::vlog_tree::{Module, Parameter, ParameterHead, Port, PortHead};
 use vlog_size::{Scope, SizeError, View};
+use vlog_tree::{Module, Parameter, ParameterHead, Port, PortHead};
 
 /// The fault of the range behind the word `parameter`.
 fn parameter_head_fault(

@@ -3,9 +3,9 @@
 ghost use Rattle.std.specs.Prelude.{◌≡◌, map, option_map, Some};
 ghost use Rattle.std.specs.List.{flat_map};
 ghost use Rattle.vlog_size.specs.vidi_bits.Findings.{Judged};
-ghost use Rattle.vlog_size.specs.vlog_tree.Plain.{plain_expr, plain_range, plain_tail, plain_named, plain_reg, plain_assign};
-ghost use Rattle.vlog_size.specs.vlog_tree.Plain.{plain_conn, plain_instance};
-ghost use Rattle.vlog_size.specs.vlog_tree.Plain.{plain_item};
+ghost use Rattle.vlog_tree.specs.Plain.{plain_expr, plain_range, plain_tail, plain_named, plain_reg, plain_assign};
+ghost use Rattle.vlog_tree.specs.Plain.{plain_conn, plain_instance};
+ghost use Rattle.vlog_tree.specs.Plain.{plain_item};
 ghost use Rattle.vlog_size.specs.Names.{readable_in};
 ghost use Rattle.vlog_scope.specs.Faults as faults;
 
@@ -17,8 +17,8 @@ use crate::extent::{Extent, extent_of};
 use crate::fault::FaultKind;
 use crate::scope::{after_name, declared_after, view_at};
 use crate::statements::body_fault;
-use vlog_size::vlog_tree::{Assign, Conn, Instance, Item, NamedValue, Reg1, RegTail};
 use vlog_size::{Scope, SizeError, View};
+use vlog_tree::{Assign, Conn, Instance, Item, NamedValue, Reg1, RegTail};
 
 /// The fault of each wire behind a range.
 fn driven_fault(

@@ -2,7 +2,7 @@
 
 ghost use Rattle.std.specs.Prelude.{◌≡◌, ℕ, List, [], true};
 ghost use Rattle.std.specs.List.{flat_map};
-ghost use Rattle.vlog_size.specs.vlog_tree.Tree.{ConnOf, ModuleOf};
+ghost use Rattle.vlog_tree.specs.Tree.{ConnOf, ModuleOf};
 ghost use Rattle.vlog_size.specs.Names.{Readable, are_lawful_params, is_lawful_scope};
 ghost use Rattle.vlog_scope.specs.declared.fault.FaultKind.TheVariants.{Constant, Width};
 ghost use Rattle.vlog_scope.specs.Scope.{scope_of, readable_at};

@@ -1,7 +1,7 @@
 //! The parameters of a module instance.
 
 ghost use Rattle.std.specs.Prelude.{◌≡◌, OnOk, IfOk, map, option_map, min};
-ghost use Rattle.vlog_size.specs.vlog_tree.Plain.{plain_expr, plain_range, plain_conn, plain_parameter, plain_named, plain_item};
+ghost use Rattle.vlog_tree.specs.Plain.{plain_expr, plain_range, plain_conn, plain_parameter, plain_named, plain_item};
 ghost use Rattle.vlog_scope.specs.declared.extent.Extent.TheVariants.{NoRange};
 ghost use Rattle.vlog_size.specs.Names.{Readable, readable_in, params_alone, fixed};
 ghost use Rattle.vlog_size.specs.Size.{Sizes, sizes_of, number, or_zero, constant_at};
@@ -14,11 +14,11 @@ ghost use Rattle.vlog_scope.specs.Given.{sizes_in, given_in};
 use crate::extent::{Extent, MOST, extent_of, parameter_extent};
 use std::alloc::Global;
 use vlog_size::vidi_bits::{Memory, copied};
-use vlog_size::vlog_tree::{Conn, Expr, Item, NamedValue, Parameter};
 use vlog_size::{
     Const, Facts, Numbered, Param, Params, Table, View, assigned_number, fixed, numbered,
     params_view,
 };
+use vlog_tree::{Conn, Expr, Item, NamedValue, Parameter};
 
 /// The connections of an instance's parameters, by name.
 #[derive(Drop)]

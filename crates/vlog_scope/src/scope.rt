@@ -1,8 +1,8 @@
 //! The scope of a module instance.
 
 ghost use Rattle.std.specs.Prelude.{◌≡◌, ◌+◌, ◌-◌, ◌^◌, OnOk, IfOk, [], map, min, option_map, take, length};
-ghost use Rattle.vlog_size.specs.vlog_tree.Plain.{plain_ident, plain_range, plain_conn, plain_port, plain_named, plain_reg, plain_tail};
-ghost use Rattle.vlog_size.specs.vlog_tree.Plain.{plain_item, plain_module};
+ghost use Rattle.vlog_tree.specs.Plain.{plain_ident, plain_range, plain_conn, plain_port, plain_named, plain_reg, plain_tail};
+ghost use Rattle.vlog_tree.specs.Plain.{plain_item, plain_module};
 ghost use Rattle.vlog_size.specs.Names.{readable_in, params_alone};
 ghost use Rattle.vlog_scope.specs.Extents.{extent_of, port_extent};
 ghost use Rattle.vlog_scope.specs.Scope as scopes;
@@ -13,10 +13,10 @@ use crate::parameters;
 use crate::parameters::{add_parameters, overrides_of};
 use std::alloc::Global;
 use vlog_size::vidi_bits::{Memory, copied};
-use vlog_size::vlog_tree::{Conn, Ident, Item, Module, NamedValue, Port, Range, Reg1, RegTail};
 use vlog_size::{
     Params, Scope, ScopeMemories, ScopeMemory, ScopeNet, ScopeNets, Table, View, params_view,
 };
+use vlog_tree::{Conn, Ident, Item, Module, NamedValue, Port, Range, Reg1, RegTail};
 
 /// What may be read where the names of the first `declared` parameters of the scope stand before.
 #[tactic(auto, using(crate::proofs::Passed::take_whole))]

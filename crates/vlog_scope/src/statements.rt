@@ -2,14 +2,14 @@
 
 ghost use Rattle.std.specs.Prelude.{◌≡◌, Some};
 ghost use Rattle.vlog_size.specs.vidi_bits.Findings.{Judged};
-ghost use Rattle.vlog_size.specs.vlog_tree.Plain.{plain_stmt, plain_stmts, plain_body, plain_arm, plain_arms};
+ghost use Rattle.vlog_tree.specs.Plain.{plain_stmt, plain_stmts, plain_body, plain_arm, plain_arms};
 ghost use Rattle.vlog_size.specs.Names.{readable_in};
 ghost use Rattle.vlog_scope.specs.Faults as faults;
 
 use crate::expressions::{assign_fault, expr_fault, exprs_fault};
 use crate::fault::FaultKind;
-use vlog_size::vlog_tree::{Arm, Body, Stmt, see_begin, see_case};
 use vlog_size::{SizeError, View};
+use vlog_tree::{Arm, Body, Stmt, see_begin, see_case};
 
 #[cycle(statements)]
 fn stmt_fault(kind: FaultKind, view: &View<'_>, stmt: &Stmt) -> Result<(), SizeError>

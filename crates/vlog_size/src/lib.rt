@@ -27,5 +27,4 @@ pub use scope::{Const, Param, Params, Scope, ScopeMemories, ScopeMemory, ScopeNe
 pub use size::{assigned_number, facts_of, numbered, prim_facts, target_facts};
 pub use table::Table;
 pub use value::const_number;
-pub use vlog_tree;
 pub use vlog_tree::vidi_bits;

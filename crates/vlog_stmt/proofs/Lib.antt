@@ -12,4 +12,3 @@ pub mod Turns
 pub use Rattle.vlog_expr.proofs.vidi_bits_lemmas as vidi_bits_lemmas
 pub use Rattle.vlog_expr.proofs as vlog_expr_lemmas
 pub use Rattle.vlog_expr.proofs.vlog_lex_lemmas as vlog_lex_lemmas
-pub use Rattle.vlog_expr.proofs.vlog_tree_lemmas as vlog_tree_lemmas

@@ -1,10 +1,10 @@
 -- What is read is of good shape and spelled so: lists.
 use Rattle.std.proofs.Common.{◌≡◌, ℕ, zero, suc, List, [], ◌∷◌, ◌++◌, sym, ap, ◌∙◌, append_assoc, append-nil}
 use Rattle.std.specs.List.{AllByRecursion}
-use Rattle.vlog_expr.specs.vlog_tree.declared.terminal.Terminal.TheVariants as t
-use Rattle.vlog_expr.specs.vlog_tree.Words.{WordOf, Fixed}
-use Rattle.vlog_expr.specs.vlog_tree.Spelling.{after_commas, with_commas, in_row}
-use Rattle.vlog_expr.specs.vlog_tree.Shape.{AreSomeGood}
+use Rattle.vlog_tree.specs.declared.terminal.Terminal.TheVariants as t
+use Rattle.vlog_tree.specs.Words.{WordOf, Fixed}
+use Rattle.vlog_tree.specs.Spelling.{after_commas, with_commas, in_row}
+use Rattle.vlog_tree.specs.Shape.{AreSomeGood}
 use Rattle.vlog_expr.specs.Marks.{Toks, AreLawful}
 use Rattle.vlog_expr.specs.Reader.{Read, more_at, some_at}
 use Rattle.vlog_expr.proofs.Found.{From, again}

@@ -1,6 +1,6 @@
 -- Without lines the reader reads the same lists, without their lines.
 use Rattle.std.proofs.Common.{◌≡◌, ℕ, zero, suc, List, [], ◌∷◌, ◌++◌, map, refl, ap, ◌∙◌}
-use Rattle.vlog_expr.specs.vlog_tree.declared.terminal.Terminal.TheVariants as t
+use Rattle.vlog_tree.specs.declared.terminal.Terminal.TheVariants as t
 use Rattle.vlog_expr.specs.Marks.{Toks}
 use Rattle.vlog_expr.specs.Bare.{forget_all}
 use Rattle.vlog_expr.specs.Reader.{Read, more_at, some_at}

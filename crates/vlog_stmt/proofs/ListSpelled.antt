@@ -2,10 +2,10 @@
 use Rattle.std.proofs.Common.{◌≡◌, ℕ, zero, suc, ◌<◌, ◌≤◌, None, Some, List, [], ◌∷◌, ◌++◌, length, sym, refl, ap, ◌∙◌, arith}
 use Rattle.std.proofs.Common.{append_assoc, append-nil, length-append}
 use Rattle.std.specs.List.{AllByRecursion}
-use Rattle.vlog_expr.specs.vlog_tree.declared.terminal.Terminal.TheVariants as t
-use Rattle.vlog_expr.specs.vlog_tree.Words.{WordOf, Fixed}
-use Rattle.vlog_expr.specs.vlog_tree.Spelling.{expr_words, after_commas, with_commas}
-use Rattle.vlog_expr.specs.vlog_tree.Shape.{IsGoodExpr, AreSomeGood}
+use Rattle.vlog_tree.specs.declared.terminal.Terminal.TheVariants as t
+use Rattle.vlog_tree.specs.Words.{WordOf, Fixed}
+use Rattle.vlog_tree.specs.Spelling.{expr_words, after_commas, with_commas}
+use Rattle.vlog_tree.specs.Shape.{IsGoodExpr, AreSomeGood}
 use Rattle.vlog_expr.specs.Marks.{Toks, spelled, spell, after}
 use Rattle.vlog_expr.specs.Reader.{Read, expr_at, fuel_for, more_at, some_at}
 use Rattle.vlog_expr.specs.Laws.{Ends}

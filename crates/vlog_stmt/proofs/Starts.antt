@@ -3,16 +3,16 @@ use Rattle.std.proofs.Common.{◌≡◌, if◌then◌else◌, ℕ, Bool, false, 
 use Rattle.std.specs.Str.{bytes_eq}
 use Rattle.vlog_expr.specs.vlog_lex.declared.token.TokenKind.{TokenKind}
 use Rattle.vlog_expr.specs.vlog_lex.declared.token.TokenKind.TheVariants.{Reserved}
-use Rattle.vlog_expr.specs.vlog_tree.declared.expr.NumberKind.{NumberKind}
-use Rattle.vlog_expr.specs.vlog_tree.declared.expr.NumberKind.TheVariants as number
-use Rattle.vlog_expr.specs.vlog_tree.declared.expr.UnaryOp.{UnaryOp}
-use Rattle.vlog_expr.specs.vlog_tree.declared.expr.UnaryOp.TheVariants as unary
-use Rattle.vlog_expr.specs.vlog_tree.declared.terminal.Terminal.{Terminal}
-use Rattle.vlog_expr.specs.vlog_tree.declared.terminal.Terminal.TheVariants as t
-use Rattle.vlog_expr.specs.vlog_tree.Words.{Fixed, NameAt, NumberAt, FixedAt, number_kind, terminal_kind, terminal_text}
-use Rattle.vlog_expr.specs.vlog_tree.Tree.{ExprOf, UnaryExpr, BinaryExpr, ChoiceExpr, PrimOf, NumberPrim, RefPrim, ParenPrim, ConcatPrim}
-use Rattle.vlog_expr.specs.vlog_tree.Tree.{RepeatPrim, RefWith}
-use Rattle.vlog_expr.specs.vlog_tree.Spelling.{unary_terminal, binary_terminal, expr_words, prim_words, index_words, last_words, exprs_words}
+use Rattle.vlog_tree.specs.declared.expr.NumberKind.{NumberKind}
+use Rattle.vlog_tree.specs.declared.expr.NumberKind.TheVariants as number
+use Rattle.vlog_tree.specs.declared.expr.UnaryOp.{UnaryOp}
+use Rattle.vlog_tree.specs.declared.expr.UnaryOp.TheVariants as unary
+use Rattle.vlog_tree.specs.declared.terminal.Terminal.{Terminal}
+use Rattle.vlog_tree.specs.declared.terminal.Terminal.TheVariants as t
+use Rattle.vlog_tree.specs.Words.{Fixed, NameAt, NumberAt, FixedAt, number_kind, terminal_kind, terminal_text}
+use Rattle.vlog_tree.specs.Tree.{ExprOf, UnaryExpr, BinaryExpr, ChoiceExpr, PrimOf, NumberPrim, RefPrim, ParenPrim, ConcatPrim}
+use Rattle.vlog_tree.specs.Tree.{RepeatPrim, RefWith}
+use Rattle.vlog_tree.specs.Spelling.{unary_terminal, binary_terminal, expr_words, prim_words, index_words, last_words, exprs_words}
 use Rattle.vlog_expr.specs.Marks.{TokenOf, Toks, spelled, spell, same_kind, after}
 use Rattle.vlog_expr.proofs.Spelled.{spell_append}
 use Rattle.vlog_expr.proofs.Found.{unary_kind}

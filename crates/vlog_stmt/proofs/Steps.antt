@@ -1,7 +1,7 @@
 -- One step of a reader on lists: the checker finds the rest of the reader by itself.
 use Rattle.std.proofs.Common.{◌≡◌, ℕ, Option, None, Some, ap, ◌∙◌}
-use Rattle.vlog_expr.specs.vlog_tree.declared.terminal.Terminal.{Terminal}
-use Rattle.vlog_expr.specs.vlog_tree.Lines.{no_mark}
+use Rattle.vlog_tree.specs.declared.terminal.Terminal.{Terminal}
+use Rattle.vlog_tree.specs.Lines.{no_mark}
 use Rattle.vlog_expr.specs.Marks.{Toks, after}
 use Rattle.vlog_expr.specs.Bare.{forget_all, bare_expr}
 use Rattle.vlog_expr.specs.Reader.{◌>>=◌, found_or, Read, expr_at}

@@ -2,20 +2,20 @@
 use Rattle.std.proofs.Common.{◌≡◌, ◌≢◌, ℕ, zero, suc, Bool, true, Option, None, Some, List, [], ◌∷◌, ◌++◌, sym, ap, ◌∙◌}
 use Rattle.std.proofs.Common.{append_assoc, append-nil}
 use Rattle.std.proofs.lemmas.Bool.{false_from_ne_true}
-use Rattle.vlog_expr.specs.vlog_tree.declared.terminal.Terminal.TheVariants as t
-use Rattle.vlog_expr.specs.vlog_tree.declared.stmt.AssignOp.{AssignOp}
-use Rattle.vlog_expr.specs.vlog_tree.Words.{WordOf, Fixed}
-use Rattle.vlog_expr.specs.vlog_tree.Tree.{StmtOf, BodyOf, ElseOf, NoElse, Else, stmts_of}
-use Rattle.vlog_expr.specs.vlog_tree.Spelling.{assign_terminal, stmt_words, body_words, else_words, stmts_words}
-use Rattle.vlog_expr.specs.vlog_tree.Shape.{is_open, is_open_body, is_open_else, IsShut, IsGoodStmt, IsGoodBody, IsGoodElse}
-use Rattle.vlog_expr.specs.vlog_tree.Shape.{AreGoodStmts}
+use Rattle.vlog_tree.specs.declared.terminal.Terminal.TheVariants as t
+use Rattle.vlog_tree.specs.declared.stmt.AssignOp.{AssignOp}
+use Rattle.vlog_tree.specs.Words.{WordOf, Fixed}
+use Rattle.vlog_tree.specs.Tree.{StmtOf, BodyOf, ElseOf, NoElse, Else, stmts_of}
+use Rattle.vlog_tree.specs.Spelling.{assign_terminal, stmt_words, body_words, else_words, stmts_words}
+use Rattle.vlog_tree.specs.Shape.{is_open, is_open_body, is_open_else, IsShut, IsGoodStmt, IsGoodBody, IsGoodElse}
+use Rattle.vlog_tree.specs.Shape.{AreGoodStmts}
 use Rattle.vlog_expr.specs.Marks.{Toks, AreWords, AreLawful, after}
 use Rattle.vlog_expr.specs.Reader.{expr_at}
 use Rattle.vlog_stmt.specs.StmtReader.{assign_op_at, assign_stmt_at, stmt_at, if_at, body_at, else_at, stmts_at, colon_front, case_at}
 use Rattle.vlog_stmt.specs.StmtReader.{arm_at, arms_at}
-use Rattle.vlog_expr.specs.vlog_tree.Tree.{ExprOf, ArmOf, arms_of}
-use Rattle.vlog_expr.specs.vlog_tree.Spelling.{expr_words, colon_words, arm_words, arms_words}
-use Rattle.vlog_expr.specs.vlog_tree.Shape.{IsGoodExpr, IsGoodArm, AreGoodArms, AreAllGoodArms}
+use Rattle.vlog_tree.specs.Tree.{ExprOf, ArmOf, arms_of}
+use Rattle.vlog_tree.specs.Spelling.{expr_words, colon_words, arm_words, arms_words}
+use Rattle.vlog_tree.specs.Shape.{IsGoodExpr, IsGoodArm, AreGoodArms, AreAllGoodArms}
 use Rattle.vlog_expr.specs.Laws.{Holds}
 use Rattle.vlog_stmt.specs.Laws.{ReadBodiesAreSpelled}
 use Rattle.vlog_expr.proofs.Found.{From, again}

@@ -1,8 +1,8 @@
 -- Without lines the reader reads the same statements, without their lines.
 use Rattle.std.proofs.Common.{◌≡◌, ℕ, zero, suc, Bool, Some, List, [], ◌∷◌, ◌++◌, map, refl, ap}
-use Rattle.vlog_expr.specs.vlog_tree.declared.stmt.AssignOp.{AssignOp}
-use Rattle.vlog_expr.specs.vlog_tree.declared.terminal.Terminal.TheVariants as t
-use Rattle.vlog_expr.specs.vlog_tree.Tree.{StmtOf, BeginStmt, CaseStmt, StmtsOf, MoreStmts, stmts_of, ArmOf, ArmsOf, MoreArms, arms_of}
+use Rattle.vlog_tree.specs.declared.stmt.AssignOp.{AssignOp}
+use Rattle.vlog_tree.specs.declared.terminal.Terminal.TheVariants as t
+use Rattle.vlog_tree.specs.Tree.{StmtOf, BeginStmt, CaseStmt, StmtsOf, MoreStmts, stmts_of, ArmOf, ArmsOf, MoreArms, arms_of}
 use Rattle.vlog_expr.specs.Marks.{Toks}
 use Rattle.vlog_expr.specs.Bare.{forget_all, bare_expr, bare_target}
 use Rattle.vlog_expr.specs.Reader.{expr_at, target_at}

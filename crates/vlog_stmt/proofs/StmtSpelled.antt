@@ -3,21 +3,21 @@ use Rattle.std.proofs.Common.{◌≡◌, ℕ, zero, suc, ◌+◌, ◌<◌, ◌�
 use Rattle.std.proofs.Common.{refl, ap, ◌∙◌}
 use Rattle.std.proofs.Common.{arith, append_assoc, append-nil, length-append}
 use Rattle.std.proofs.lemmas.Bool.{true≢false}
-use Rattle.vlog_expr.specs.vlog_tree.declared.stmt.AssignOp.{AssignOp}
-use Rattle.vlog_expr.specs.vlog_tree.declared.stmt.AssignOp.TheVariants as assign
-use Rattle.vlog_expr.specs.vlog_tree.declared.terminal.Terminal.TheVariants as t
-use Rattle.vlog_expr.specs.vlog_tree.Words.{WordOf, Fixed}
-use Rattle.vlog_expr.specs.vlog_tree.Tree.{ExprOf, RefWith, TargetOf, RefTarget, ConcatTarget, StmtOf, BeginStmt, IfStmt, AssignStmt, BodyOf}
-use Rattle.vlog_expr.specs.vlog_tree.Tree.{StmtBody, EmptyBody, ElseOf, NoElse, Else, StmtsOf, NoStmts, MoreStmts, stmts_of}
-use Rattle.vlog_expr.specs.vlog_tree.Spelling.{assign_terminal, expr_words, target_words, stmt_words, body_words, else_words, stmts_words}
-use Rattle.vlog_expr.specs.vlog_tree.Shape.{IsGoodExpr, IsGoodTarget, is_open, is_open_body, is_open_else, IsShut, IsGoodStmt, IsGoodBody}
-use Rattle.vlog_expr.specs.vlog_tree.Shape.{IsGoodElse}
-use Rattle.vlog_expr.specs.vlog_tree.Shape.{AreGoodStmts}
+use Rattle.vlog_tree.specs.declared.stmt.AssignOp.{AssignOp}
+use Rattle.vlog_tree.specs.declared.stmt.AssignOp.TheVariants as assign
+use Rattle.vlog_tree.specs.declared.terminal.Terminal.TheVariants as t
+use Rattle.vlog_tree.specs.Words.{WordOf, Fixed}
+use Rattle.vlog_tree.specs.Tree.{ExprOf, RefWith, TargetOf, RefTarget, ConcatTarget, StmtOf, BeginStmt, IfStmt, AssignStmt, BodyOf}
+use Rattle.vlog_tree.specs.Tree.{StmtBody, EmptyBody, ElseOf, NoElse, Else, StmtsOf, NoStmts, MoreStmts, stmts_of}
+use Rattle.vlog_tree.specs.Spelling.{assign_terminal, expr_words, target_words, stmt_words, body_words, else_words, stmts_words}
+use Rattle.vlog_tree.specs.Shape.{IsGoodExpr, IsGoodTarget, is_open, is_open_body, is_open_else, IsShut, IsGoodStmt, IsGoodBody}
+use Rattle.vlog_tree.specs.Shape.{IsGoodElse}
+use Rattle.vlog_tree.specs.Shape.{AreGoodStmts}
 use Rattle.vlog_expr.specs.Marks.{Toks, spelled, spell, after}
-use Rattle.vlog_expr.specs.vlog_tree.declared.terminal.Terminal.{Terminal}
-use Rattle.vlog_expr.specs.vlog_tree.Tree.{CaseStmt, ArmOf, LabelsArm, DefaultArm, ArmsOf, NoArms, MoreArms, arms_of}
-use Rattle.vlog_expr.specs.vlog_tree.Spelling.{arm_words, arms_words, after_commas, with_commas}
-use Rattle.vlog_expr.specs.vlog_tree.Shape.{AreSomeGood, IsGoodArm, AreAllGoodArms}
+use Rattle.vlog_tree.specs.declared.terminal.Terminal.{Terminal}
+use Rattle.vlog_tree.specs.Tree.{CaseStmt, ArmOf, LabelsArm, DefaultArm, ArmsOf, NoArms, MoreArms, arms_of}
+use Rattle.vlog_tree.specs.Spelling.{arm_words, arms_words, after_commas, with_commas}
+use Rattle.vlog_tree.specs.Shape.{AreSomeGood, IsGoodArm, AreAllGoodArms}
 use Rattle.vlog_expr.specs.Reader.{expr_at, target_at, some_at, fuel_for}
 use Rattle.vlog_stmt.specs.StmtReader.{assign_op_at, assign_stmt_at, stmt_at, body_at, else_at, stmts_at, arm_at, arms_at}
 use Rattle.vlog_expr.proofs.Spelled.{size, spell_append, ends_paren, expr_read}

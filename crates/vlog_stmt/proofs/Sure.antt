@@ -1,7 +1,7 @@
 -- What is surely so of what is read, step by step.
 use Rattle.std.proofs.Common.{◌≡◌, ℕ, true, false, Option, None, Some, List, [], ◌++◌, refl}
-use Rattle.vlog_expr.specs.vlog_tree.declared.terminal.Terminal.{Terminal}
-use Rattle.vlog_expr.specs.vlog_tree.Words.{WordOf}
+use Rattle.vlog_tree.specs.declared.terminal.Terminal.{Terminal}
+use Rattle.vlog_tree.specs.Words.{WordOf}
 use Rattle.vlog_expr.specs.Marks.{Toks, AreLawful, after}
 use Rattle.vlog_expr.specs.Reader.{◌>>=◌, found_or, expr_at, target_at}
 use Rattle.vlog_expr.specs.Laws.{Holds}

@@ -1,7 +1,7 @@
 -- One turn of each loop of the reader of statements.
 use Rattle.std.proofs.Common.{◌≡◌, ℕ, suc, Option, None, Some, List, [], ◌∷◌, ◌++◌, ap, ◌∙◌}
-use Rattle.vlog_expr.specs.vlog_tree.declared.terminal.Terminal.TheVariants as t
-use Rattle.vlog_expr.specs.vlog_tree.Tree.{StmtOf, ArmOf}
+use Rattle.vlog_tree.specs.declared.terminal.Terminal.TheVariants as t
+use Rattle.vlog_tree.specs.Tree.{StmtOf, ArmOf}
 use Rattle.vlog_expr.specs.Marks.{Toks, after}
 use Rattle.vlog_expr.specs.Reader.{◌>>=◌, found_or, Read}
 use Rattle.vlog_stmt.specs.StmtReader.{stmt_at, stmts_at, arm_at, arms_at}

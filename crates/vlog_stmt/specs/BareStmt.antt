@@ -1,6 +1,6 @@
 -- Statements without their lines.
-use Rattle.vlog_expr.specs.vlog_tree.Tree.{StmtOf, BodyOf, ElseOf, StmtsOf, ArmOf, ArmsOf}
-use Rattle.vlog_expr.specs.vlog_tree.Lines.{no_mark, map_stmt, map_body, map_else, map_stmts, map_arm, map_arms}
+use Rattle.vlog_tree.specs.Tree.{StmtOf, BodyOf, ElseOf, StmtsOf, ArmOf, ArmsOf}
+use Rattle.vlog_tree.specs.Lines.{no_mark, map_stmt, map_body, map_else, map_stmts, map_arm, map_arms}
 
 abbrev pub bare_stmt : {A : Type 0} → StmtOf A → StmtOf (Unit {0})
 bare_stmt x = map_stmt no_mark x

@@ -1,9 +1,9 @@
 -- What the reader of statements means: what is spelled is read, and what is read is spelled.
 use Rattle.std.specs.Prelude.{◌≡◌, ◌≤◌, ℕ, None, Some, length, true}
-use Rattle.vlog_expr.specs.vlog_tree.declared.terminal.Terminal.TheVariants as t
-use Rattle.vlog_expr.specs.vlog_tree.Tree.{BodyOf}
-use Rattle.vlog_expr.specs.vlog_tree.Spelling.{body_words}
-use Rattle.vlog_expr.specs.vlog_tree.Shape.{IsGoodBody, is_open_body}
+use Rattle.vlog_tree.specs.declared.terminal.Terminal.TheVariants as t
+use Rattle.vlog_tree.specs.Tree.{BodyOf}
+use Rattle.vlog_tree.specs.Spelling.{body_words}
+use Rattle.vlog_tree.specs.Shape.{IsGoodBody, is_open_body}
 use Rattle.vlog_expr.specs.Marks.{Toks, spell, AreWords, AreLawful, after}
 use Rattle.vlog_expr.specs.Bare.{forget_all}
 use Rattle.vlog_expr.specs.Reader.{fuel_for}

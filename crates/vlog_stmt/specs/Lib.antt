@@ -4,4 +4,3 @@ pub mod StmtReader
 pub use Rattle.vlog_expr.specs.vidi_bits as vidi_bits
 pub use Rattle.vlog_expr.specs as vlog_expr
 pub use Rattle.vlog_expr.specs.vlog_lex as vlog_lex
-pub use Rattle.vlog_expr.specs.vlog_tree as vlog_tree

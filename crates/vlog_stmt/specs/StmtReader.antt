@@ -1,10 +1,10 @@
 -- The reader of statements, rule by rule of the grammar. Each call has one less of fuel than its caller.
 use Rattle.std.specs.Prelude.{ℕ, zero, suc, Bool, true, false, List, [], ◌∷◌, ◌++◌, None, Some}
-use Rattle.vlog_expr.specs.vlog_tree.declared.stmt.AssignOp.{AssignOp}
-use Rattle.vlog_expr.specs.vlog_tree.declared.stmt.AssignOp.TheVariants as assign
-use Rattle.vlog_expr.specs.vlog_tree.declared.terminal.Terminal.TheVariants as t
-use Rattle.vlog_expr.specs.vlog_tree.Tree.{StmtOf, BeginStmt, IfStmt, AssignStmt, BodyOf, StmtBody, EmptyBody, ElseOf, NoElse, Else, stmts_of}
-use Rattle.vlog_expr.specs.vlog_tree.Tree.{CaseStmt, ArmOf, LabelsArm, DefaultArm, arms_of}
+use Rattle.vlog_tree.specs.declared.stmt.AssignOp.{AssignOp}
+use Rattle.vlog_tree.specs.declared.stmt.AssignOp.TheVariants as assign
+use Rattle.vlog_tree.specs.declared.terminal.Terminal.TheVariants as t
+use Rattle.vlog_tree.specs.Tree.{StmtOf, BeginStmt, IfStmt, AssignStmt, BodyOf, StmtBody, EmptyBody, ElseOf, NoElse, Else, stmts_of}
+use Rattle.vlog_tree.specs.Tree.{CaseStmt, ArmOf, LabelsArm, DefaultArm, arms_of}
 use Rattle.vlog_expr.specs.Marks.{Toks, after}
 use Rattle.vlog_expr.specs.Reader.{◌>>=◌, found_or, Read, expr_at, target_at, some_at}
 

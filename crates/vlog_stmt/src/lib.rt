@@ -14,4 +14,4 @@ pub use laws::{lines_dont_count, read_is_spelled, spelled_is_read};
 pub use listed::{ListReader, more_of, some_of};
 pub use stmt::body_of;
 pub use vlog_expr;
-pub use vlog_expr::{vidi_bits, vlog_lex, vlog_tree};
+pub use vlog_expr::{vidi_bits, vlog_lex};

@@ -8,8 +8,8 @@ ghost use Rattle.vlog_expr.specs.Given.{Gives};
 use std::alloc::Global;
 use vlog_expr::vidi_bits::Items;
 use vlog_expr::vlog_lex::Token;
-use vlog_expr::vlog_tree::Terminal;
 use vlog_expr::{Parsed, Unread, after};
+use vlog_tree::Terminal;
 
 /// The reader of what stands in one kind of list with commas.
 pub trait ListReader<T> {

@@ -1,8 +1,8 @@
 //! The reader of statements.
 
 ghost use Rattle.std.specs.Prelude.{◌≡◌, ◌≤◌, ℕ, Some, [], ◌∷◌, map};
-ghost use Rattle.vlog_expr.specs.vlog_tree.Tree.{ExprOf, StmtOf, IfStmt, CaseStmt, arms_of};
-ghost use Rattle.vlog_expr.specs.vlog_tree.Plain.{plain_expr, plain_stmt, plain_body, plain_arm};
+ghost use Rattle.vlog_tree.specs.Tree.{ExprOf, StmtOf, IfStmt, CaseStmt, arms_of};
+ghost use Rattle.vlog_tree.specs.Plain.{plain_expr, plain_stmt, plain_body, plain_arm};
 ghost use Rattle.vlog_expr.specs.Marks.{Toks, all_marked};
 ghost use Rattle.vlog_expr.specs.Reader.{◌>>=◌ as bind, expr_at};
 ghost use Rattle.vlog_stmt.specs.StmtReader.{assign_op_at, assign_stmt_at, stmt_at, if_at, body_at, else_at, stmts_at};
@@ -12,8 +12,8 @@ ghost use Rattle.vlog_expr.specs.Given.{Gives};
 use crate::listed::{ListReader, some_of};
 use std::alloc::Global;
 use vlog_expr::vlog_lex::Token;
-use vlog_expr::vlog_tree::{Arm, Arms, AssignOp, Body, Expr, Stmt, Stmts, Terminal, begin, case};
 use vlog_expr::{Parsed, Unread, after, expect, expr_of, target_of};
+use vlog_tree::{Arm, Arms, AssignOp, Body, Expr, Stmt, Stmts, Terminal, begin, case};
 
 /// The sign of a procedural assignment.
 fn assign_op(tokens: &[Token]) -> Parsed<'_, AssignOp>

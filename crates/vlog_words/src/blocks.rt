@@ -3,14 +3,14 @@
 use crate::ended::Ended;
 use crate::names::{Names, WordPlace};
 use crate::texts::{print_block_text, tree_of};
+use net_design::{Timing, Values};
 use net_reference::after_block;
-use net_reference::net_design::{Timing, Values};
 use report_text::vidi_io::{Shelf, Text};
 use report_text::{Draft, Page, print_number};
 use std::alloc::Global;
 use vlog_latch::bind_block;
 use vlog_latch::vlog_block::{block_code, is_faultless};
-use vlog_print::vlog_tree::{Always, Event, File, Item};
+use vlog_tree::{Always, Event, File, Item};
 
 /// What a word asks for of a block.
 #[derive(Clone, Copy)]

@@ -2,7 +2,7 @@
 //! the first of two brackets as `<..>` and the last one as `[..]`.
 
 use crate::notes::Notes;
-use vlog_print::vlog_tree::{BinaryOp, Expr, Operand, Ref, Sel, Unary, UnaryOp};
+use vlog_tree::{BinaryOp, Expr, Operand, Ref, Sel, Unary, UnaryOp};
 
 /// Notes an expression.
 #[cycle(expr)]

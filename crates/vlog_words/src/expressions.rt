@@ -15,7 +15,7 @@ use vlog_latch::vlog_size::{
     Const, Facts, Numbered, Scope, assigned_number, constant, facts_of, fixed, numbered,
     target_facts, target_width, whole_view, width,
 };
-use vlog_print::vlog_tree::{Expr, Target};
+use vlog_tree::{Expr, Target};
 
 /// What a word asks for of an expression.
 #[derive(Clone, Copy)]

@@ -3,7 +3,7 @@
 use crate::expr_notes::note_expr;
 use crate::notes::Notes;
 use crate::stmt_notes::{note_body, note_target};
-use vlog_print::vlog_tree::{
+use vlog_tree::{
     Always, Assign, Conn, Direction, Event, Expr, File, Ident, Instance, Item, Module, NamedValue,
     NetKind, Parameter, Port, Range, Reg1, RegTail,
 };

@@ -1,7 +1,7 @@
 //! The words on trees.
 
-ghost use Rattle.vlog_print.specs.vlog_tree.Plain.{plain};
-ghost use Rattle.vlog_print.specs.vlog_tree.Shape.{IsGood};
+ghost use Rattle.vlog_tree.specs.Plain.{plain};
+ghost use Rattle.vlog_tree.specs.Shape.{IsGood};
 
 use crate::ended::Ended;
 use crate::expr_notes::note_expr;
@@ -13,8 +13,8 @@ use report_text::{Draft, Page};
 use std::alloc::Global;
 use vlog_print::vidi_bits::Memory;
 use vlog_print::vlog_lex::Token;
-use vlog_print::vlog_tree::{Expr, File};
 use vlog_print::{print, tokens_of};
+use vlog_tree::{Expr, File};
 
 /// What a word asks for of a file.
 #[derive(Clone, Copy)]

@@ -3,7 +3,7 @@
 use crate::ended::Ended;
 use crate::tables::entry_of;
 use crate::texts::{lines_in, number_in};
-use net_reference::net_design::Values;
+use net_design::Values;
 use report_text::vidi_io::Shelf;
 use report_text::vidi_lines::Line;
 use std::alloc::Global;

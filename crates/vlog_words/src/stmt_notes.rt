@@ -3,7 +3,7 @@
 
 use crate::expr_notes::{note_expr, note_exprs, note_ref};
 use crate::notes::Notes;
-use vlog_print::vlog_tree::{Arm, AssignOp, Body, Stmt, Target};
+use vlog_tree::{Arm, AssignOp, Body, Stmt, Target};
 
 /// Notes a target, which has no signs.
 #[cycle(target)]

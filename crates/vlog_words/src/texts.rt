@@ -1,8 +1,8 @@
 //! The Verilog texts of a case, and what is read of them.
 
 ghost use Rattle.std.specs.Prelude.{IfOk};
-ghost use Rattle.vlog_print.specs.vlog_tree.Plain.{plain};
-ghost use Rattle.vlog_print.specs.vlog_tree.Shape.{IsGood};
+ghost use Rattle.vlog_tree.specs.Plain.{plain};
+ghost use Rattle.vlog_tree.specs.Shape.{IsGood};
 
 use crate::ended::Ended;
 use report_text::vidi_io::{Shelf, Text, read_whole};
@@ -13,7 +13,7 @@ use vlog_print::vidi_bits::Name;
 use vlog_print::vlog_expr::{Unread, fuel_for, parse_expression, target_of};
 use vlog_print::vlog_lex::{Tokens, lex};
 use vlog_print::vlog_parse::parse;
-use vlog_print::vlog_tree::{Expr, File, Target};
+use vlog_tree::{Expr, File, Target};
 
 /// The longest file of a case, in bytes.
 const TEXT_LIMIT: u64 = 4_194_304;

@@ -3,14 +3,14 @@ use Rattle.std.proofs.Common.{◌≡◌, ℕ, ◌≤◌, ◌+◌, Bool, true, fa
 use Rattle.std.proofs.Common.{suc, refl, ap, sym, subst, arith}
 use Rattle.std.specs.List.{AllZip, AllByRecursion}
 use Rattle.std.specs.Str.{bytes_eq}
-use Rattle.vlog_print.specs.vlog_tree.Shape.{IsGood}
+use Rattle.vlog_tree.specs.Shape.{IsGood}
 use Rattle.vlog_print.specs.vidi_bits.Number.{IsWidth}
-use Rattle.vlog_print.specs.vlog_tree.Tree.{FileOf, ModuleOf}
+use Rattle.vlog_tree.specs.Tree.{FileOf, ModuleOf}
 use Rattle.vidi_bench.specs.vlog_hierarchy.Outlines.{place_from}
 use Rattle.shim_gen.specs.trace_model.declared.channel.Channel.{Channel}
-use Rattle.vidi_bench.specs.net_design.declared.design.Design.{Design}
-use Rattle.vidi_bench.specs.net_design.declared.design.Port.{Port}
-use Rattle.vidi_bench.specs.net_design.Lawful.{IsLawful}
+use Rattle.net_design.specs.declared.design.Design.{Design}
+use Rattle.net_design.specs.declared.design.Port.{Port}
+use Rattle.net_design.specs.Lawful.{IsLawful}
 use Rattle.vidi_bench.proofs.run_model_lemmas.PinLemmas.{all-at}
 use Rattle.shim_gen.specs.chan_map.declared.pins.Map.{Map}
 use Rattle.shim_gen.specs.chan_map.declared.pins.Plug.{Plug}

@@ -1,6 +1,6 @@
 -- The command `wrap`: no failed write among its answers, and the same where no read failed.
 use Rattle.std.proofs.Common.{ℕ, List, Option, length, inl, inr}
-use Rattle.vlog_print.specs.vlog_tree.Tree.{FileOf}
+use Rattle.vlog_tree.specs.Tree.{FileOf}
 use Rattle.shim_gen.specs.chan_map.declared.pins.Map.{Map}
 use Rattle.shim_gen.specs.chan_map.declared.text.MapText.{MapText}
 use Rattle.shim_gen.specs.chan_map.Bound.{BindsMap}

@@ -2,11 +2,11 @@
 use Rattle.std.proofs.Common.{◌≡◌, ℕ, ◌≤◌, List, [], ◌∷◌, Result, Ok, Err, length, map, inl, inr, refl, sym, ap, subst, ◌∙◌}
 use Rattle.std.specs.Prelude.{IfOk}
 use Rattle.vlog_print.specs.vlog_lex.declared.token.Token.{Token}
-use Rattle.vlog_print.specs.vlog_tree.Tree.{FileOf}
-use Rattle.vlog_print.specs.vlog_tree.Lines.{bare}
-use Rattle.vlog_print.specs.vlog_tree.Shape.{IsGood}
-use Rattle.vlog_print.specs.vlog_tree.Spelling.{toks}
-use Rattle.vlog_print.proofs.vlog_tree_lemmas.Marks.{toks_bare}
+use Rattle.vlog_tree.specs.Tree.{FileOf}
+use Rattle.vlog_tree.specs.Lines.{bare}
+use Rattle.vlog_tree.specs.Shape.{IsGood}
+use Rattle.vlog_tree.specs.Spelling.{toks}
+use Rattle.vlog_tree.proofs.Marks.{toks_bare}
 use Rattle.vlog_print.specs.vlog_parse.Marks.{all_marked}
 use Rattle.vlog_print.specs.vlog_parse.Depth.{IsShallow}
 use Rattle.vlog_print.specs.vlog_parse.Parsing.{IsFileOf, Refuses}

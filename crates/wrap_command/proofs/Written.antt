@@ -1,7 +1,7 @@
 -- From the texts of a design and a map, and from the wrapped tree, to the answer of `wrap`.
 use Rattle.std.proofs.Common.{◌≡◌, ℕ, List, Option, Result, Ok, Err, length, inl, inr, ap, subst, ◌∙◌}
 use Rattle.std.specs.Prelude.{IfOk, IfErr}
-use Rattle.vlog_print.specs.vlog_tree.Tree.{FileOf}
+use Rattle.vlog_tree.specs.Tree.{FileOf}
 use Rattle.vidi_bench.specs.vidi_io.Shelf.{Files, holding}
 use Rattle.vidi_bench.specs.vidi_io.Writing.{IsCutOff}
 use Rattle.vidi_bench.proofs.vidi_io_lemmas.Cut.{cut-knowing}

@@ -4,7 +4,6 @@ pub mod Wraps
 pub use Rattle.shim_gen.specs.chan_map as chan_map
 pub use Rattle.vidi_bench.specs.env_script as env_script
 pub use Rattle.vidi_bench.specs.flat_parts as flat_parts
-pub use Rattle.vidi_bench.specs.net_design as net_design
 pub use Rattle.vidi_bench.specs.net_order as net_order
 pub use Rattle.vidi_bench.specs.report_text as report_text
 pub use Rattle.vidi_bench.specs.run_model as run_model
@@ -19,4 +18,3 @@ pub use Rattle.vidi_bench.specs.vlog_driver as vlog_driver
 pub use Rattle.vidi_bench.specs.vlog_elab as vlog_elab
 pub use Rattle.vlog_print.specs.vlog_lex as vlog_lex
 pub use Rattle.vlog_print.specs.vlog_parse as vlog_parse
-pub use Rattle.vlog_print.specs.vlog_tree as vlog_tree

@@ -4,9 +4,9 @@ use Rattle.std.specs.Prelude.{◌≡◌, ℕ, ◌≤◌, ◌<◌, ◌⊎◌, Lis
 use Rattle.vlog_print.specs.vidi_bits.Findings.{first}
 use Rattle.vlog_print.specs.vlog_lex.declared.token.Token.{Token}
 use Rattle.vlog_print.specs.vlog_lex.Reading.{HasTokens}
-use Rattle.vlog_print.specs.vlog_tree.Tree.{FileOf}
-use Rattle.vlog_print.specs.vlog_tree.Lines.{bare}
-use Rattle.vlog_print.specs.vlog_tree.Spelling.{toks}
+use Rattle.vlog_tree.specs.Tree.{FileOf}
+use Rattle.vlog_tree.specs.Lines.{bare}
+use Rattle.vlog_tree.specs.Spelling.{toks}
 use Rattle.vlog_print.specs.vlog_parse.Marks.{all_marked}
 use Rattle.vlog_print.specs.vlog_parse.Depth.{IsDeep, IsShallow}
 use Rattle.vlog_print.specs.vlog_parse.Parsing.{IsFileOf}
@@ -14,7 +14,7 @@ use Rattle.vlog_print.specs.Printed.{printed}
 use Rattle.vidi_bench.specs.vlog_elab.declared.error.ElabError.{ElabError}
 use Rattle.vidi_bench.specs.vlog_elab.Errors.{number_of}
 use Rattle.vidi_bench.specs.vlog_design.Reasons.{Refused}
-use Rattle.vidi_bench.specs.net_design.declared.design.Design.{Design}
+use Rattle.net_design.specs.declared.design.Design.{Design}
 use Rattle.vidi_bench.specs.net_order.Order.{IsOrder, IsLoop}
 use Rattle.shim_gen.specs.chan_map.declared.pins.Map.{Map}
 use Rattle.shim_gen.specs.shim_trees.RecordTop.{record_name}

@@ -2,8 +2,8 @@
 use Rattle.std.specs.Prelude.{◌≡◌, ℕ, ◌⊎◌, List, Option, Ok, length}
 use Rattle.vidi_bench.specs.vidi_io.Shelf.{Files, holding}
 use Rattle.vidi_bench.specs.vidi_io.Writing.{IsCutOff}
-use Rattle.vlog_print.specs.vlog_tree.Tree.{FileOf}
-use Rattle.vidi_bench.specs.net_design.declared.design.Design.{Design}
+use Rattle.vlog_tree.specs.Tree.{FileOf}
+use Rattle.net_design.specs.declared.design.Design.{Design}
 use Rattle.vidi_bench.specs.net_order.Order.{IsOrder}
 use Rattle.shim_gen.specs.chan_map.declared.text.MapText.{MapText}
 use Rattle.shim_gen.specs.chan_map.declared.pins.Map.{Map}

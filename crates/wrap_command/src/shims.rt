@@ -1,15 +1,15 @@
 //! A design with the shims of a map round it: its tree, the reasons that hold of it, and its text.
 
 ghost use Rattle.std.specs.Prelude.{◌≡◌, ℕ, ◌≤◌, List, [], IfOk, IfErr, length};
-ghost use Rattle.vidi_bench.specs.net_design.Lawful.{IsLawful};
+ghost use Rattle.net_design.specs.Lawful.{IsLawful};
 ghost use Rattle.vidi_bench.specs.net_order.Order.{IsOrder};
 ghost use Rattle.shim_gen.specs.shim_trees.Laws.{IsMapIn};
 ghost use Rattle.shim_gen.specs.shim_trees.Wrapped.{reserved_names, wrapped};
 ghost use Rattle.vlog_print.specs.vlog_parse.Marks.{all_marked};
 ghost use Rattle.vlog_print.specs.vlog_parse.Depth.{IsShallow};
-ghost use Rattle.vlog_print.specs.vlog_tree.Plain.{plain};
-ghost use Rattle.vlog_print.specs.vlog_tree.Shape.{IsGood};
-ghost use Rattle.vlog_print.specs.vlog_tree.Spelling.{toks};
+ghost use Rattle.vlog_tree.specs.Plain.{plain};
+ghost use Rattle.vlog_tree.specs.Shape.{IsGood};
+ghost use Rattle.vlog_tree.specs.Spelling.{toks};
 ghost use Rattle.vidi_bench.specs.AnswerText.{text_of};
 ghost use Rattle.vidi_bench.specs.Design.{text_limit, IsAccepted};
 ghost use Rattle.vidi_bench.specs.Ended.{EndsWith};
@@ -17,19 +17,19 @@ ghost use Rattle.wrap_command.specs.Shims.{file_text};
 ghost use Rattle.wrap_command.specs.Shims.{IsClearTop, IsClearTree, IsDeepTree, IsFaulty, IsFaultyAs, IsFaultyTop, IsFaultyTree};
 ghost use Rattle.wrap_command.specs.Shims.{IsLong, IsLoopedTop, IsRefusedTop, IsReserved, IsUnwrapped, IsWrapped};
 
+use net_design::Design;
 use shim_gen::chan_map::Map;
 use shim_gen::shim_trees::wrapped_is_good;
 use shim_gen::{WrapError, wrap};
 use std::alloc::Global;
-use vidi_bench::net_design::Design;
 use vidi_bench::net_order::{OrderError, order};
 use vidi_bench::vlog_design::elaborate;
 use vidi_bench::vlog_elab::ElabError;
 use vidi_bench::{Answer, Ended, Reason, TEXT_LIMIT, Word, refused};
 use vlog_print::vidi_bits::{Bytes, Memory};
 use vlog_print::vlog_parse::{ParseError, parse};
-use vlog_print::vlog_tree::File;
 use vlog_print::{print, printed_is_read, printed_is_spelled, tokens_of};
+use vlog_tree::File;
 
 /// The text of a file with the shims of a map round its top, or the first reason for which they aren't wrapped: a name that is kept for
 /// shims, then a reason that holds of the wrapped tree, then the length of its text.

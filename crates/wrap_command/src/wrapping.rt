@@ -4,7 +4,7 @@ ghost use Rattle.std.specs.Prelude.{◌≡◌, ◌≤◌, Ok, IfOk, IfErr, lengt
 ghost use Rattle.vidi_bench.specs.vidi_io.Cause.{Rose};
 ghost use Rattle.vidi_bench.specs.vidi_io.Shelf.{Later, holding};
 ghost use Rattle.vidi_bench.specs.vidi_io.Writing.{IsCutOff};
-ghost use Rattle.vlog_print.specs.vlog_tree.Plain.{plain};
+ghost use Rattle.vlog_tree.specs.Plain.{plain};
 ghost use Rattle.shim_gen.specs.shim_trees.Laws.{IsMapIn};
 ghost use Rattle.vidi_bench.specs.AnswerText.{text_of};
 ghost use Rattle.vidi_bench.specs.Design.{text_limit, Building};
@@ -24,7 +24,7 @@ use vidi_bench::{
     with_bytes,
 };
 use vlog_print::vidi_bits::{Bytes, Memory};
-use vlog_print::vlog_tree::File;
+use vlog_tree::File;
 
 /// What is written: the text of a wrapped design, and how many channels its map has.
 #[derive(Drop)]

@@ -1,11 +1,11 @@
 //! Good shape of expressions.
 
 ghost use Rattle.std.specs.Prelude.{◌≡◌, ◌↔◌, IsTrue};
-ghost use Rattle.vlog_parse.specs.vlog_tree.Plain.{plain_expr, plain_prim, plain_unary, plain_ref, plain_sel, plain_exprs};
-ghost use Rattle.vlog_parse.specs.vlog_tree.Shape.{level, IsGoodExpr, IsGoodPrim, IsGoodRef, IsGoodSel, AreGoodExprs};
+ghost use Rattle.vlog_tree.specs.Plain.{plain_expr, plain_prim, plain_unary, plain_ref, plain_sel, plain_exprs};
+ghost use Rattle.vlog_tree.specs.Shape.{level, IsGoodExpr, IsGoodPrim, IsGoodRef, IsGoodSel, AreGoodExprs};
 
 use crate::shape::token::{good_name, good_number};
-use vlog_parse::vlog_tree::{Expr, Operand, Ref, Sel, Unary, level_of, see_concat, see_repeat};
+use vlog_tree::{Expr, Operand, Ref, Sel, Unary, level_of, see_concat, see_repeat};
 
 /// The level of an expression: 0 for `?:`, that of its operator for a binary one, and else 11.
 fn level(e: &Expr) -> u32

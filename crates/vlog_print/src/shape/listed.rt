@@ -2,12 +2,12 @@
 
 ghost use Rattle.std.specs.Prelude.{◌↔◌, ℕ, IsTrue, map};
 ghost use Rattle.std.specs.List.{AllByRecursion};
-ghost use Rattle.vlog_parse.specs.vlog_tree.Tree.{ExprOf};
-ghost use Rattle.vlog_parse.specs.vlog_tree.Plain.{plain_expr};
-ghost use Rattle.vlog_parse.specs.vlog_tree.Shape.{AreSomeGood, IsGoodExpr};
+ghost use Rattle.vlog_tree.specs.Tree.{ExprOf};
+ghost use Rattle.vlog_tree.specs.Plain.{plain_expr};
+ghost use Rattle.vlog_tree.specs.Shape.{AreSomeGood, IsGoodExpr};
 
 use crate::shape::expr::good_expr;
-use vlog_parse::vlog_tree::Expr;
+use vlog_tree::Expr;
 
 /// A part of a tree that stands in lists.
 pub trait Shaped {

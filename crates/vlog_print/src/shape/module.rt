@@ -1,20 +1,20 @@
 //! Good shape of files, modules, ports and items.
 
 ghost use Rattle.std.specs.Prelude.{◌↔◌, ℕ, IsTrue, option_map, map};
-ghost use Rattle.vlog_parse.specs.vlog_tree.Tree.{IdentOf, ParameterOf, PortOf, NamedValueOf, Reg1Of, AssignOf, ConnOf, ItemOf, ModuleOf};
-ghost use Rattle.vlog_parse.specs.vlog_tree.Plain.{plain_ident, plain_range, plain_head, plain_port, plain_named, plain_tail, plain_reg, plain_assign};
-ghost use Rattle.vlog_parse.specs.vlog_tree.Plain.{plain_event, plain_always, plain_item, plain_module, plain, plain_expr, plain_parameter_head};
-ghost use Rattle.vlog_parse.specs.vlog_tree.Plain.{plain_parameter, plain_conn, plain_instance};
-ghost use Rattle.vlog_parse.specs.vlog_tree.Shape.{IsGoodOption, IsGoodExpr, IsGoodIdent, IsGoodRange, IsGoodHead, IsGoodPort};
-ghost use Rattle.vlog_parse.specs.vlog_tree.Shape.{IsFirstDirected, IsGoodNamed, IsGoodTail, IsGoodReg, IsGoodAssign, IsGoodEvent, IsGoodAlways};
-ghost use Rattle.vlog_parse.specs.vlog_tree.Shape.{IsGoodItem, IsGoodModule, IsGood, IsGoodParameterHead, IsGoodParameter, IsFirstHeaded};
-ghost use Rattle.vlog_parse.specs.vlog_tree.Shape.{IsGoodConn, IsGoodInstance};
+ghost use Rattle.vlog_tree.specs.Tree.{IdentOf, ParameterOf, PortOf, NamedValueOf, Reg1Of, AssignOf, ConnOf, ItemOf, ModuleOf};
+ghost use Rattle.vlog_tree.specs.Plain.{plain_ident, plain_range, plain_head, plain_port, plain_named, plain_tail, plain_reg, plain_assign};
+ghost use Rattle.vlog_tree.specs.Plain.{plain_event, plain_always, plain_item, plain_module, plain, plain_expr, plain_parameter_head};
+ghost use Rattle.vlog_tree.specs.Plain.{plain_parameter, plain_conn, plain_instance};
+ghost use Rattle.vlog_tree.specs.Shape.{IsGoodOption, IsGoodExpr, IsGoodIdent, IsGoodRange, IsGoodHead, IsGoodPort};
+ghost use Rattle.vlog_tree.specs.Shape.{IsFirstDirected, IsGoodNamed, IsGoodTail, IsGoodReg, IsGoodAssign, IsGoodEvent, IsGoodAlways};
+ghost use Rattle.vlog_tree.specs.Shape.{IsGoodItem, IsGoodModule, IsGood, IsGoodParameterHead, IsGoodParameter, IsFirstHeaded};
+ghost use Rattle.vlog_tree.specs.Shape.{IsGoodConn, IsGoodInstance};
 
 use crate::shape::expr::good_expr;
 use crate::shape::listed::{Shaped, each_good, some_good};
 use crate::shape::stmt::{good_body, good_target};
 use crate::shape::token::good_name;
-use vlog_parse::vlog_tree::{
+use vlog_tree::{
     Always, Assign, Conn, Event, Expr, File, Ident, Instance, Item, Module, NamedValue, Parameter,
     ParameterHead, Port, PortHead, Range, Reg1, RegTail,
 };

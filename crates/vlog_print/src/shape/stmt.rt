@@ -1,13 +1,13 @@
 //! Good shape of targets, statements and blocks.
 
 ghost use Rattle.std.specs.Prelude.{◌≡◌, ◌↔◌, IsTrue};
-ghost use Rattle.vlog_parse.specs.vlog_tree.Plain.{plain_target, plain_targets, plain_stmt, plain_stmts, plain_body, plain_arm, plain_arms};
-ghost use Rattle.vlog_parse.specs.vlog_tree.Shape.{IsGoodTarget, AreGoodTargets, is_open, is_open_body, IsGoodStmt, AreGoodStmts, IsGoodBody};
-ghost use Rattle.vlog_parse.specs.vlog_tree.Shape.{IsGoodArm, AreGoodArms};
+ghost use Rattle.vlog_tree.specs.Plain.{plain_target, plain_targets, plain_stmt, plain_stmts, plain_body, plain_arm, plain_arms};
+ghost use Rattle.vlog_tree.specs.Shape.{IsGoodTarget, AreGoodTargets, is_open, is_open_body, IsGoodStmt, AreGoodStmts, IsGoodBody};
+ghost use Rattle.vlog_tree.specs.Shape.{IsGoodArm, AreGoodArms};
 
 use crate::shape::expr::{good_expr, good_ref};
 use crate::shape::listed::some_good;
-use vlog_parse::vlog_tree::{Arm, Body, Stmt, Target, see_begin, see_case, see_concat_target};
+use vlog_tree::{Arm, Body, Stmt, Target, see_begin, see_case, see_concat_target};
 
 #[cycle(good_targets)]
 pub fn good_target(target: &Target) -> bool

@@ -2,12 +2,12 @@
 
 ghost use Rattle.std.specs.Prelude.{◌↔◌, IsTrue};
 ghost use Rattle.vlog_parse.specs.vlog_lex.Lexeme.{IsToken};
-ghost use Rattle.vlog_parse.specs.vlog_tree.Shape.{IsGoodName};
-ghost use Rattle.vlog_parse.specs.vlog_tree.Words.{number_kind};
+ghost use Rattle.vlog_tree.specs.Shape.{IsGoodName};
+ghost use Rattle.vlog_tree.specs.Words.{number_kind};
 
 use vlog_parse::vidi_bits::Name;
 use vlog_parse::vlog_lex::{TokenKind, is_token};
-use vlog_parse::vlog_tree::{Number, NumberKind};
+use vlog_tree::{Number, NumberKind};
 
 /// Whether the name is an identifier and no reserved word.
 pub fn good_name(name: &Name) -> bool

@@ -1,16 +1,16 @@
 //! Expressions spelled as tokens.
 
 ghost use Rattle.std.specs.Prelude.{◌≡◌, [], ◌++◌, OnOk, option_map};
-ghost use Rattle.vlog_parse.specs.vlog_tree.Words.{tokens_of};
-ghost use Rattle.vlog_parse.specs.vlog_tree.Plain.{plain_sign, plain_expr, plain_prim, plain_unary, plain_ref, plain_sel, plain_exprs};
-ghost use Rattle.vlog_parse.specs.vlog_tree.Spelling.{unary_terminal, binary_terminal, sign_words, expr_words, prim_words, ref_words, sel_words};
-ghost use Rattle.vlog_parse.specs.vlog_tree.Spelling.{exprs_words};
+ghost use Rattle.vlog_tree.specs.Words.{tokens_of};
+ghost use Rattle.vlog_tree.specs.Plain.{plain_sign, plain_expr, plain_prim, plain_unary, plain_ref, plain_sel, plain_exprs};
+ghost use Rattle.vlog_tree.specs.Spelling.{unary_terminal, binary_terminal, sign_words, expr_words, prim_words, ref_words, sel_words};
+ghost use Rattle.vlog_tree.specs.Spelling.{exprs_words};
 
 use crate::spelling::token::{put_fixed, put_name, put_number, put_two};
 use std::alloc::Global;
 use vlog_parse::vidi_bits::Memory;
 use vlog_parse::vlog_lex::Tokens;
-use vlog_parse::vlog_tree::{
+use vlog_tree::{
     BinaryOp, Expr, Operand, Ref, Sel, Sign, Terminal, Unary, UnaryOp, see_concat, see_repeat,
 };
 

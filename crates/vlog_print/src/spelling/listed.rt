@@ -1,17 +1,17 @@
 //! The parts of lists spelled as tokens.
 
 ghost use Rattle.std.specs.Prelude.{◌≡◌, ℕ, List, ◌++◌, OnOk, map};
-ghost use Rattle.vlog_parse.specs.vlog_tree.Tree.{ExprOf};
-ghost use Rattle.vlog_parse.specs.vlog_tree.Words.{WordOf, tokens_of};
-ghost use Rattle.vlog_parse.specs.vlog_tree.Plain.{plain_expr};
-ghost use Rattle.vlog_parse.specs.vlog_tree.Spelling.{with_commas, in_row, hash_words, expr_words};
+ghost use Rattle.vlog_tree.specs.Tree.{ExprOf};
+ghost use Rattle.vlog_tree.specs.Words.{WordOf, tokens_of};
+ghost use Rattle.vlog_tree.specs.Plain.{plain_expr};
+ghost use Rattle.vlog_tree.specs.Spelling.{with_commas, in_row, hash_words, expr_words};
 
 use crate::spelling::expr::push_expr;
 use crate::spelling::token::{put_fixed, put_two};
 use std::alloc::Global;
 use vlog_parse::vidi_bits::Memory;
 use vlog_parse::vlog_lex::Tokens;
-use vlog_parse::vlog_tree::{Expr, Terminal};
+use vlog_tree::{Expr, Terminal};
 
 /// A part of a tree that stands in lists.
 pub trait Spelled {

@@ -1,16 +1,16 @@
 //! Files, modules, ports and items spelled as tokens.
 
 ghost use Rattle.std.specs.Prelude.{◌≡◌, ℕ, [], ◌∷◌, ◌++◌, OnOk, IfOk, option_map, map};
-ghost use Rattle.vlog_parse.specs.vlog_tree.Tree.{IdentOf, ParameterOf, PortOf, NamedValueOf, Reg1Of, AssignOf, ConnOf, ItemOf, ModuleOf};
-ghost use Rattle.vlog_parse.specs.vlog_tree.Words.{NameWord, Fixed, tokens_of};
-ghost use Rattle.vlog_parse.specs.vlog_tree.declared.terminal.Terminal.TheVariants as t;
-ghost use Rattle.vlog_parse.specs.vlog_tree.Plain.{plain_ident, plain_range, plain_head, plain_port, plain_named, plain_reg, plain_assign};
-ghost use Rattle.vlog_parse.specs.vlog_tree.Plain.{plain_event, plain_always, plain_item, plain_module, plain, plain_expr, plain_parameter_head};
-ghost use Rattle.vlog_parse.specs.vlog_tree.Plain.{plain_parameter, plain_conn, plain_instance};
-ghost use Rattle.vlog_parse.specs.vlog_tree.Spelling.{optional, with_commas, in_row, ident_words, range_words, direction_words, head_words};
-ghost use Rattle.vlog_parse.specs.vlog_tree.Spelling.{init_words, port_words, named_words, reg_words, assign_words, event_words};
-ghost use Rattle.vlog_parse.specs.vlog_tree.Spelling.{always_words, item_words, module_words, toks, parameter_head_words, parameter_words, hash_words};
-ghost use Rattle.vlog_parse.specs.vlog_tree.Spelling.{conn_words, instance_words};
+ghost use Rattle.vlog_tree.specs.Tree.{IdentOf, ParameterOf, PortOf, NamedValueOf, Reg1Of, AssignOf, ConnOf, ItemOf, ModuleOf};
+ghost use Rattle.vlog_tree.specs.Words.{NameWord, Fixed, tokens_of};
+ghost use Rattle.vlog_tree.specs.declared.terminal.Terminal.TheVariants as t;
+ghost use Rattle.vlog_tree.specs.Plain.{plain_ident, plain_range, plain_head, plain_port, plain_named, plain_reg, plain_assign};
+ghost use Rattle.vlog_tree.specs.Plain.{plain_event, plain_always, plain_item, plain_module, plain, plain_expr, plain_parameter_head};
+ghost use Rattle.vlog_tree.specs.Plain.{plain_parameter, plain_conn, plain_instance};
+ghost use Rattle.vlog_tree.specs.Spelling.{optional, with_commas, in_row, ident_words, range_words, direction_words, head_words};
+ghost use Rattle.vlog_tree.specs.Spelling.{init_words, port_words, named_words, reg_words, assign_words, event_words};
+ghost use Rattle.vlog_tree.specs.Spelling.{always_words, item_words, module_words, toks, parameter_head_words, parameter_words, hash_words};
+ghost use Rattle.vlog_tree.specs.Spelling.{conn_words, instance_words};
 
 use crate::spelling::expr::push_expr;
 use crate::spelling::listed::{Spelled, push_hash, push_in_row, push_with_commas};
@@ -19,7 +19,7 @@ use crate::spelling::token::{put_fixed, put_name, put_two};
 use std::alloc::Global;
 use vlog_parse::vidi_bits::Memory;
 use vlog_parse::vlog_lex::Tokens;
-use vlog_parse::vlog_tree::{
+use vlog_tree::{
     Always, Assign, Conn, Direction, Event, Expr, File, Ident, Instance, Item, Module, NamedValue,
     NetKind, Parameter, ParameterHead, Port, PortHead, Range, Reg1, RegTail, Terminal,
 };

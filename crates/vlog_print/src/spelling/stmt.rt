@@ -1,13 +1,13 @@
 //! Targets, statements and blocks spelled as tokens.
 
 ghost use Rattle.std.specs.Prelude.{◌≡◌, ℕ, [], ◌∷◌, ◌++◌, OnOk};
-ghost use Rattle.vlog_parse.specs.vlog_tree.Tree.{AssignStmt};
-ghost use Rattle.vlog_parse.specs.vlog_tree.Words.{Fixed, tokens_of};
-ghost use Rattle.vlog_parse.specs.vlog_tree.declared.terminal.Terminal.TheVariants as t;
-ghost use Rattle.vlog_parse.specs.vlog_tree.Plain.{plain_expr, plain_target, plain_targets, plain_stmt, plain_stmts, plain_body, plain_arm};
-ghost use Rattle.vlog_parse.specs.vlog_tree.Plain.{plain_arms};
-ghost use Rattle.vlog_parse.specs.vlog_tree.Spelling.{assign_terminal, expr_words, target_words, targets_words, stmt_words, stmts_words, body_words};
-ghost use Rattle.vlog_parse.specs.vlog_tree.Spelling.{colon_words, arm_words, arms_words};
+ghost use Rattle.vlog_tree.specs.Tree.{AssignStmt};
+ghost use Rattle.vlog_tree.specs.Words.{Fixed, tokens_of};
+ghost use Rattle.vlog_tree.specs.declared.terminal.Terminal.TheVariants as t;
+ghost use Rattle.vlog_tree.specs.Plain.{plain_expr, plain_target, plain_targets, plain_stmt, plain_stmts, plain_body, plain_arm};
+ghost use Rattle.vlog_tree.specs.Plain.{plain_arms};
+ghost use Rattle.vlog_tree.specs.Spelling.{assign_terminal, expr_words, target_words, targets_words, stmt_words, stmts_words, body_words};
+ghost use Rattle.vlog_tree.specs.Spelling.{colon_words, arm_words, arms_words};
 
 use crate::spelling::expr::{push_expr, push_ref};
 use crate::spelling::listed::push_with_commas;
@@ -15,7 +15,7 @@ use crate::spelling::token::{put_fixed, put_two};
 use std::alloc::Global;
 use vlog_parse::vidi_bits::Memory;
 use vlog_parse::vlog_lex::Tokens;
-use vlog_parse::vlog_tree::{
+use vlog_tree::{
     Arm, AssignOp, Body, Expr, Stmt, Target, Terminal, see_begin, see_case, see_concat_target,
 };
 

@@ -1,12 +1,12 @@
 //! Single tokens written behind others.
 
 ghost use Rattle.std.specs.Prelude.{◌≡◌, ℕ, [], ◌∷◌, ◌++◌, OnOk};
-ghost use Rattle.vlog_parse.specs.vlog_tree.Words.{NameWord, Fixed, NumberAt, number_kind, tokens_of};
+ghost use Rattle.vlog_tree.specs.Words.{NameWord, Fixed, NumberAt, number_kind, tokens_of};
 
 use std::alloc::Global;
 use vlog_parse::vidi_bits::{Memory, Name, copied};
 use vlog_parse::vlog_lex::{Token, TokenKind, Tokens};
-use vlog_parse::vlog_tree::{Number, NumberKind, Terminal};
+use vlog_tree::{Number, NumberKind, Terminal};
 
 /// Adds a token with a copy of this text and with line 0.
 fn put(alloc: Global, out: &mut Tokens, kind: TokenKind, text: &[u8]) -> Result<(), Memory>

@@ -5,8 +5,8 @@ use Rattle.env_script.specs.trace_model.declared.channel.Channel.{Channel}
 use Rattle.env_script.specs.trace_model.declared.row.Offers.{Offers}
 use Rattle.env_script.specs.trace_model.declared.row.Row.{Row}
 use Rattle.env_script.specs.trace_model.Row.{row_before, IsOver}
-use Rattle.chan_monitor.specs.net_design.declared.design.Design.{Design}
-use Rattle.chan_monitor.specs.net_design.declared.values.Values.{Values}
+use Rattle.net_design.specs.declared.design.Design.{Design}
+use Rattle.net_design.specs.declared.values.Values.{Values}
 use Rattle.bench_run.specs.Plain.{IsBreak, StandsWithin}
 use Rattle.bench_run.proofs.Growing.{breaks, carries-now, ends, fits-now, goes-on, going-first, going-on, offers-now, rows-over}
 use Rattle.bench_run.proofs.Growing.{shown-of, stands-within}

@@ -1,5 +1,5 @@
 use Rattle.std.proofs.Common.{refl, ◌∙◌}
-use Rattle.run_model.specs.net_design.Pins.{outputs}
+use Rattle.net_design.specs.Pins.{outputs}
 use Rattle.chan_monitor.proofs.Held.{plugs-shown}
 use Rattle.chan_monitor.proofs.RowOfCycle.{refill-is, row-is}
 use Rattle.chan_monitor.proofs.cycles.show.Goals as goal

@@ -1,5 +1,5 @@
 use Rattle.std.proofs.Common.{arith}
-use Rattle.run_model.specs.net_design.Pins.{outputs}
+use Rattle.net_design.specs.Pins.{outputs}
 use Rattle.run_model.proofs.trace_model_lemmas.ContentsLemmas.{fit-length}
 use Rattle.run_model.specs.trace_model.Row.{all_widths}
 use Rattle.run_model.proofs.trace_model_lemmas.RowLemmas.{first-within}

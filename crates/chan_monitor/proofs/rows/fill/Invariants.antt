@@ -1,4 +1,4 @@
-use Rattle.run_model.specs.net_design.Pins.{outputs}
+use Rattle.net_design.specs.Pins.{outputs}
 use Rattle.chan_monitor.proofs.Filling.{AreFilled}
 use Rattle.chan_monitor.proofs.rows.fill.Given as goal
 

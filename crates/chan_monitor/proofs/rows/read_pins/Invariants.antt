@@ -1,6 +1,6 @@
 use Rattle.std.proofs.Common.{◌≡◌, take}
 use Rattle.run_model.specs.trace_model.Row.{replaced}
-use Rattle.run_model.specs.net_design.Pins.{outputs}
+use Rattle.net_design.specs.Pins.{outputs}
 use Rattle.chan_monitor.specs.Showing.{read}
 use Rattle.chan_monitor.proofs.rows.read_pins.Given as goal
 

@@ -1,5 +1,5 @@
 use Rattle.std.proofs.Common.{◌<◌, ◌^◌, subst, sym}
-use Rattle.run_model.specs.net_design.Pins.{outputs}
+use Rattle.net_design.specs.Pins.{outputs}
 use Rattle.run_model.specs.Building.{valid_on}
 use Rattle.run_model.proofs.Contents.{mask-below}
 use Rattle.chan_monitor.proofs.Filling.{mask-next}

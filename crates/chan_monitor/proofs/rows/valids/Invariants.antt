@@ -1,5 +1,5 @@
 use Rattle.std.proofs.Common.{◌≡◌, false, slice_get}
-use Rattle.run_model.specs.net_design.Pins.{outputs}
+use Rattle.net_design.specs.Pins.{outputs}
 use Rattle.run_model.specs.Building.{at_plug, mask_of, valid_on}
 use Rattle.chan_monitor.proofs.rows.valids.Given as goal
 

@@ -1,5 +1,5 @@
 use Rattle.std.proofs.Common.{rules, ◌≡◌}
-use Rattle.flat_laws.specs.vlog_tree.Plain.{plain}
+use Rattle.vlog_tree.specs.Plain.{plain}
 use Rattle.flat_laws.specs.vlog_hierarchy.Plain.{plain_path}
 use Rattle.flat_laws.specs.vlog_elab.Plain.{plain_instances}
 use Rattle.flat_laws.specs.vlog_elab.Clock.{clock_inputs}

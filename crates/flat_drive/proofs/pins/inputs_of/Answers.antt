@@ -2,8 +2,8 @@ use Rattle.std.proofs.Common.{◌≡◌, List, true, map, ap, ◌∙◌}
 use Rattle.std.proofs.lemmas.Result.{IfOk-weaker}
 use Rattle.std.specs.List.{list_any}
 use Rattle.std.specs.Str.{bytes_eq}
-use Rattle.flat_parts.specs.vlog_tree.Plain.{plain_port, plain_module}
-use Rattle.flat_parts.specs.vlog_tree.declared.module.Port.{Port}
+use Rattle.vlog_tree.specs.Plain.{plain_port, plain_module}
+use Rattle.vlog_tree.specs.declared.module.Port.{Port}
 use Rattle.flat_parts.specs.vlog_meaning.Names.{Name}
 use Rattle.flat_drive.specs.Marked.{IsInputTable, inputs_after, is_listed}
 use Rattle.flat_drive.proofs.Inputs.{table_right}

@@ -6,7 +6,7 @@ use Rattle.std.proofs.lemmas.List.{length-map}
 use Rattle.std.proofs.lemmas.Option.{slice_get-map, slice_get_read}
 use Rattle.flat_parts.specs.Instances.{IsDeclaredIn}
 use Rattle.flat_parts.proofs.vidi_bits_lemmas.Lists.{some_same}
-use Rattle.flat_parts.specs.vlog_tree.Plain as tree
+use Rattle.vlog_tree.specs.Plain as tree
 use Rattle.flat_parts.specs.vlog_hierarchy.Plain.{plain_path}
 use Rattle.flat_parts.specs.vlog_elab.Plain.{plain_instance, plain_instances}
 use Rattle.flat_parts.specs.vlog_driver.Sites.{site_of}

@@ -1,4 +1,4 @@
-use Rattle.flat_parts.specs.vlog_tree.Plain.{plain_conn}
+use Rattle.vlog_tree.specs.Plain.{plain_conn}
 use Rattle.flat_parts.specs.vlog_driver.Sites.{site_of}
 use Rattle.flat_parts.specs.vlog_driver.Duties.{IsFaultlessConn}
 use Rattle.flat_drivers.proofs.Added.{left_first}

@@ -1,6 +1,6 @@
 use Rattle.std.proofs.Common.{map, drop}
 use Rattle.std.specs.List.{AllByRecursion}
-use Rattle.flat_parts.specs.vlog_tree.Plain.{plain_conn}
+use Rattle.vlog_tree.specs.Plain.{plain_conn}
 use Rattle.flat_parts.specs.vlog_driver.Sites.{site_of}
 use Rattle.flat_parts.specs.vlog_driver.Duties.{IsFaultlessConn}
 use Rattle.flat_drivers.proofs.fits.conns_fit.Given as goal

@@ -1,6 +1,6 @@
 use Rattle.std.proofs.Common.{map, drop, ◌+◌, ap, [], ◌∷◌}
-use Rattle.flat_parts.specs.vlog_tree.Plain.{plain_named}
-use Rattle.flat_parts.proofs.net_design_lemmas.UpdateLaws.{from_here}
+use Rattle.vlog_tree.specs.Plain.{plain_named}
+use Rattle.net_design.proofs.UpdateLaws.{from_here}
 use Rattle.flat_parts.specs.vlog_driver.Sites.{site_of}
 use Rattle.flat_parts.specs.vlog_driver.Duties.{Does, wire_duty}
 use Rattle.flat_drivers.proofs.Added.{code_next}

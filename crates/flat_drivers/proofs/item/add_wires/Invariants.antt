@@ -1,5 +1,5 @@
 use Rattle.std.proofs.Common.{map, drop}
-use Rattle.flat_parts.specs.vlog_tree.Plain.{plain_named}
+use Rattle.vlog_tree.specs.Plain.{plain_named}
 use Rattle.flat_parts.specs.vlog_driver.Sites.{site_of}
 use Rattle.flat_parts.specs.vlog_driver.Duties.{Does, wire_duty}
 use Rattle.flat_drivers.proofs.Added.{Going}

@@ -1,6 +1,6 @@
 use Rattle.std.proofs.Common.{◌≡◌, map, drop}
 use Rattle.std.specs.List.{flat_map, AllByRecursion}
-use Rattle.flat_parts.specs.vlog_tree.Plain.{plain_item}
+use Rattle.vlog_tree.specs.Plain.{plain_item}
 use Rattle.flat_parts.specs.vlog_hierarchy.Plain.{plain_path}
 use Rattle.flat_parts.specs.vlog_meaning.Placed.{placed}
 use Rattle.flat_parts.specs.vlog_driver.Duties.{Does}

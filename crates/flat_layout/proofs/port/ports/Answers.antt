@@ -1,5 +1,5 @@
 use Rattle.std.proofs.Common.{List, length, ap, arith}
-use Rattle.flat_parts.specs.vlog_tree.declared.module.Port.{Port}
+use Rattle.vlog_tree.specs.declared.module.Port.{Port}
 use Rattle.flat_layout.proofs.PortList.{all_ports}
 use Rattle.flat_layout.proofs.port.ports.Goals as goal
 

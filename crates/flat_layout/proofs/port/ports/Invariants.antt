@@ -1,6 +1,6 @@
 use Rattle.std.proofs.Common.{◌≡◌, ◌++◌, drop, map}
-use Rattle.flat_parts.specs.vlog_tree.Plain.{plain_port}
-use Rattle.flat_parts.specs.net_design.declared.design.Direction.TheVariants.{Input}
+use Rattle.vlog_tree.specs.Plain.{plain_port}
+use Rattle.net_design.specs.declared.design.Direction.TheVariants.{Input}
 use Rattle.flat_layout.proofs.PortList.{ports_behind}
 use Rattle.flat_layout.proofs.port.ports.Given as goal
 

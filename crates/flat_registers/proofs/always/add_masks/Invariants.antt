@@ -1,5 +1,5 @@
 use Rattle.std.proofs.Common.{◌≡◌, ℕ, ◌||◌, drop}
-use Rattle.flat_parts.specs.net_design.Bits.{named}
+use Rattle.net_design.specs.Bits.{named}
 use Rattle.flat_parts.specs.net_code.BitMap.{in_map}
 use Rattle.flat_registers.proofs.always.add_masks.Given as goal
 

@@ -1,6 +1,6 @@
 use Rattle.std.proofs.Common.{map}
 use Rattle.std.specs.List.{flat_map}
-use Rattle.flat_parts.specs.vlog_tree.Plain.{plain_item}
+use Rattle.vlog_tree.specs.Plain.{plain_item}
 use Rattle.flat_parts.specs.vlog_meaning.Placed.{Placed, placed, names_at}
 use Rattle.flat_parts.specs.vlog_meaning.Next.{item_initials}
 use Rattle.flat_registers.specs.Tables.{with_entries}

@@ -1,7 +1,7 @@
 use Rattle.std.proofs.Common.{ℕ, map}
 use Rattle.std.specs.List.{flat_map}
-use Rattle.flat_parts.specs.vlog_tree.Tree.{PortOf}
-use Rattle.flat_parts.specs.vlog_tree.Plain.{plain_port}
+use Rattle.vlog_tree.specs.Tree.{PortOf}
+use Rattle.vlog_tree.specs.Plain.{plain_port}
 use Rattle.flat_parts.specs.vlog_meaning.Placed.{names_at}
 use Rattle.flat_parts.specs.vlog_meaning.Next.{port_initials}
 use Rattle.flat_registers.specs.Tables.{with_entries}

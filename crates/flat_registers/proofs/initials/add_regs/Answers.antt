@@ -1,7 +1,7 @@
 use Rattle.std.proofs.Common.{ℕ, map}
 use Rattle.std.specs.List.{flat_map}
-use Rattle.flat_parts.specs.vlog_tree.Tree.{Reg1Of}
-use Rattle.flat_parts.specs.vlog_tree.Plain.{plain_reg}
+use Rattle.vlog_tree.specs.Tree.{Reg1Of}
+use Rattle.vlog_tree.specs.Plain.{plain_reg}
 use Rattle.flat_parts.specs.vlog_meaning.Placed.{names_at}
 use Rattle.flat_parts.specs.vlog_meaning.Next.{reg_initials}
 use Rattle.flat_registers.specs.Tables.{with_entries}

@@ -1,6 +1,6 @@
 use Rattle.std.proofs.Common.{◌≡◌, ℕ, List, take}
 use Rattle.std.specs.List.{AllZip}
-use Rattle.flat_parts.specs.net_design.declared.design.Driver.{Driver}
+use Rattle.net_design.specs.declared.design.Driver.{Driver}
 use Rattle.flat_parts.specs.net_code.BitMap.{in_map}
 use Rattle.flat_parts.specs.State.{always_writes_bit, IsRegisterOf}
 use Rattle.flat_registers.specs.Places.{plain_places}

@@ -1,7 +1,7 @@
 use Rattle.std.proofs.Common.{All}
-use Rattle.net_sim.specs.net_design.declared.act.Timing.TheVariants.{Blocking}
-use Rattle.net_sim.specs.net_design.declared.design.Driver.{Driver}
-use Rattle.net_sim.specs.net_design.Bits.{HasBits}
+use Rattle.net_design.specs.declared.act.Timing.TheVariants.{Blocking}
+use Rattle.net_design.specs.declared.design.Driver.{Driver}
+use Rattle.net_design.specs.Bits.{HasBits}
 use Rattle.net_checks.proofs.lawful.add_constants.Given as goal
 
 abbrev pub invariant-loop-i : goal.invariant-loop-i

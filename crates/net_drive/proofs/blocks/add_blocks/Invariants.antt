@@ -1,5 +1,5 @@
 use Rattle.std.proofs.Common.{◌≡◌, ◌++◌, map, drop}
-use Rattle.net_code.specs.net_design.declared.act.Code.{Code}
+use Rattle.net_design.specs.declared.act.Code.{Code}
 use Rattle.net_code.specs.Targets.{block_targets, nets_named, rooms_named}
 use Rattle.net_drive.proofs.blocks.add_blocks.Given as goal
 

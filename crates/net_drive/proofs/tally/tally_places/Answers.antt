@@ -2,8 +2,8 @@ use Rattle.std.proofs.Common.{◌≡◌, List, take, nat_lt, ap, ◌∙◌, arit
 use Rattle.std.specs.Borrow.{Bor}
 use Rattle.std.proofs.lemmas.List.{take_all}
 use Rattle.net_code.proofs.TallyLaws.{next_once, next_more}
-use Rattle.net_code.specs.net_design.declared.act.Place.{Place}
-use Rattle.net_code.specs.net_design.Bits.{place_writes}
+use Rattle.net_design.specs.declared.act.Place.{Place}
+use Rattle.net_design.specs.Bits.{place_writes}
 use Rattle.net_code.specs.BitMap.{in_map}
 use Rattle.net_drive.proofs.Tallies.{lent_count, lent_counted}
 use Rattle.net_drive.proofs.tally.tally_places.Goals as goal

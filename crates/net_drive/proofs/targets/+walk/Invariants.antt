@@ -1,6 +1,6 @@
 use Rattle.std.proofs.Common.{◌≡◌, ◌++◌, drop}
 use Rattle.std.specs.List.{flat_map}
-use Rattle.net_code.specs.net_design.declared.act.Guard.{Guard}
+use Rattle.net_design.specs.declared.act.Guard.{Guard}
 use Rattle.net_code.specs.Targets.{targets, block_targets, plain_places}
 use Rattle.net_drive.proofs.targets.+walk.Given as goal
 

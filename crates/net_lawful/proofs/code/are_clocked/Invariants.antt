@@ -1,6 +1,6 @@
 use Rattle.std.proofs.Common.{ℕ, ◌<◌, slice_index_or}
-use Rattle.net_code.specs.net_design.declared.act.Code.{Code}
-use Rattle.net_code.specs.net_design.Lawful.{IsClocked}
+use Rattle.net_design.specs.declared.act.Code.{Code}
+use Rattle.net_design.specs.Lawful.{IsClocked}
 use Rattle.net_lawful.proofs.code.are_clocked.Given as goal
 
 abbrev pub invariant-loop-code : goal.invariant-loop-code

@@ -1,6 +1,6 @@
 use Rattle.std.proofs.Common.{ℕ, ◌<◌, slice_index_or}
-use Rattle.net_code.specs.net_design.declared.design.Driver.{Driver}
-use Rattle.net_code.specs.net_design.Lawful.{IsDriver}
+use Rattle.net_design.specs.declared.design.Driver.{Driver}
+use Rattle.net_design.specs.Lawful.{IsDriver}
 use Rattle.net_lawful.proofs.code.are_drivers.Given as goal
 
 abbrev pub invariant-loop-driver : goal.invariant-loop-driver

@@ -1,6 +1,6 @@
 use Rattle.std.proofs.Common.{◌≡◌, List, take, nat_lt, ap, ◌∙◌, arith}
 use Rattle.std.proofs.lemmas.List.{take_all}
-use Rattle.net_code.specs.net_design.declared.design.Driver.{Driver}
+use Rattle.net_design.specs.declared.design.Driver.{Driver}
 use Rattle.net_lawful.specs.Driven.{writers}
 use Rattle.net_lawful.proofs.driven.tally_of.Goals as goal
 

@@ -1,5 +1,5 @@
 use Rattle.std.proofs.Common.{◌≡◌, ℕ, ◌<◌, ◌≤◌, Some, slice_get}
-use Rattle.net_code.specs.net_design.declared.design.Instance.{Instance}
+use Rattle.net_design.specs.declared.design.Instance.{Instance}
 use Rattle.net_lawful.proofs.frame.have_parents.Given as goal
 
 abbrev pub invariant-loop-i : goal.invariant-loop-i

@@ -1,6 +1,6 @@
 use Rattle.std.proofs.Common.{◌≡◌, ℕ, ◌<◌, Some, slice_get}
-use Rattle.net_code.specs.net_design.declared.design.Port.{Port}
-use Rattle.net_code.specs.net_design.declared.design.Net.{Net}
+use Rattle.net_design.specs.declared.design.Port.{Port}
+use Rattle.net_design.specs.declared.design.Net.{Net}
 use Rattle.net_lawful.specs.Frame.{IsPortNet}
 use Rattle.net_lawful.proofs.frame.have_port_nets.Given as goal
 

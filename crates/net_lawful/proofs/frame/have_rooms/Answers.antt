@@ -1,5 +1,5 @@
 use Rattle.std.proofs.Common.{ap, ◌∙◌}
-use Rattle.net_code.specs.net_design.declared.design.DesignMemory.{DesignMemory}
+use Rattle.net_design.specs.declared.design.DesignMemory.{DesignMemory}
 use Rattle.net_lawful.proofs.RoomLaws.{words_more, room_more}
 use Rattle.net_lawful.proofs.frame.have_rooms.Goals as goal
 

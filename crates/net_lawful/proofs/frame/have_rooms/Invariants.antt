@@ -1,6 +1,6 @@
 use Rattle.std.proofs.Common.{◌≡◌, ℕ, ◌<◌, Some, slice_get, take}
 use Rattle.std.specs.List.{sum_by}
-use Rattle.net_code.specs.net_design.declared.design.DesignMemory.{DesignMemory}
+use Rattle.net_design.specs.declared.design.DesignMemory.{DesignMemory}
 use Rattle.net_lawful.proofs.frame.have_rooms.Given as goal
 
 abbrev pub invariant-loop-i : goal.invariant-loop-i

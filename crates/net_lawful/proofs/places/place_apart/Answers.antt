@@ -1,4 +1,4 @@
-use Rattle.net_code.specs.net_design.Bits.{place_writes}
+use Rattle.net_design.specs.Bits.{place_writes}
 use Rattle.net_lawful.proofs.PlaceLaws.{mask_meets}
 use Rattle.net_lawful.proofs.places.place_apart.Goals as goal
 

@@ -1,8 +1,8 @@
 use Rattle.std.proofs.Common.{◌↔◌, drop}
 use Rattle.std.specs.List.{AllByRecursion}
-use Rattle.net_code.specs.net_design.declared.act.Place.{Place}
-use Rattle.net_code.specs.net_design.Sized.{IsSizedPlace}
-use Rattle.net_code.specs.net_design.Bits.{Apart}
+use Rattle.net_design.specs.declared.act.Place.{Place}
+use Rattle.net_design.specs.Sized.{IsSizedPlace}
+use Rattle.net_design.specs.Bits.{Apart}
 use Rattle.net_lawful.proofs.PlaceLaws.{IsLeft}
 use Rattle.net_lawful.proofs.places.places_apart.Given as goal
 

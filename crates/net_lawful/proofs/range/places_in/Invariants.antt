@@ -1,6 +1,6 @@
 use Rattle.std.proofs.Common.{◌↔◌, drop}
 use Rattle.std.specs.List.{AllByRecursion}
-use Rattle.net_code.specs.net_design.declared.act.Place.{Place}
+use Rattle.net_design.specs.declared.act.Place.{Place}
 use Rattle.net_lawful.specs.Rooms.{IsPlaceIn}
 use Rattle.net_lawful.proofs.range.places_in.Given as goal
 

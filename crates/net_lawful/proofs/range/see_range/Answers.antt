@@ -1,7 +1,7 @@
 use Rattle.std.proofs.Common.{subst, sym}
-use Rattle.net_code.specs.net_design.declared.act.Act.{Act}
+use Rattle.net_design.specs.declared.act.Act.{Act}
 use Rattle.net_lawful.specs.Rooms.{IsSpan, IsRoom, IsActIn}
-use Rattle.net_code.proofs.net_design_lemmas.Rows.{sized_branch, branch_sized}
+use Rattle.net_design.proofs.Rows.{sized_branch, branch_sized}
 use Rattle.net_lawful.proofs.range.see_range.Goals as goal
 
 pub returns : goal.returns

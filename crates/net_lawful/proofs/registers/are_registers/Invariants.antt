@@ -1,6 +1,6 @@
 use Rattle.std.proofs.Common.{ℕ, ◌<◌, slice_index_or}
-use Rattle.net_code.specs.net_design.declared.design.Register.{Register}
-use Rattle.net_code.specs.net_design.Lawful.{IsRegister}
+use Rattle.net_design.specs.declared.design.Register.{Register}
+use Rattle.net_design.specs.Lawful.{IsRegister}
 use Rattle.net_lawful.proofs.registers.are_registers.Given as goal
 
 abbrev pub invariant-loop-register : goal.invariant-loop-register

@@ -1,8 +1,8 @@
 use Rattle.std.proofs.Common.{◌≡◌, ℕ, ◌==◌, ◌&&◌, ◌||◌, drop}
 use Rattle.std.specs.List.{list_any}
-use Rattle.net_code.specs.net_design.declared.design.Register.{Register}
+use Rattle.net_design.specs.declared.design.Register.{Register}
 use Rattle.net_code.specs.vidi_bits.Number.{has}
-use Rattle.net_code.specs.net_design.Settled.{held}
+use Rattle.net_design.specs.Settled.{held}
 use Rattle.net_code.specs.BitMap.{in_map}
 use Rattle.net_lawful.proofs.registers.held_bits.Given as goal
 

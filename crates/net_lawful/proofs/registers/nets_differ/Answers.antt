@@ -1,7 +1,7 @@
 use Rattle.std.proofs.Common.{◌≡◌, slice_index_or, refl}
 use Rattle.std.proofs.lemmas.List.{get_or_default}
 use Rattle.net_code.proofs.vidi_bits_lemmas.Bools.{not_both}
-use Rattle.net_code.specs.net_design.declared.design.Register.{Register}
+use Rattle.net_design.specs.declared.design.Register.{Register}
 use Rattle.net_lawful.proofs.RegisterLaws.{seen_before, seen_more, differ_more, not_new}
 use Rattle.net_lawful.proofs.registers.nets_differ.Goals as goal
 

@@ -1,6 +1,6 @@
 use Rattle.std.proofs.Common.{◌≡◌, ◌≢◌, ℕ, ◌<◌, ◌==◌, take, slice_index_or}
 use Rattle.std.specs.List.{list_any}
-use Rattle.net_code.specs.net_design.declared.design.Register.{Register}
+use Rattle.net_design.specs.declared.design.Register.{Register}
 use Rattle.net_code.specs.BitMap.{in_map}
 use Rattle.net_lawful.proofs.registers.nets_differ.Given as goal
 

@@ -1,6 +1,6 @@
 use Rattle.std.proofs.Common.{◌≡◌, ℕ, take}
 use Rattle.std.specs.List.{list_any}
-use Rattle.net_code.specs.net_design.declared.rhs.Room.{Room}
+use Rattle.net_design.specs.declared.rhs.Room.{Room}
 use Rattle.net_lawful.specs.Rooms.{has_room, is_room_of}
 use Rattle.net_lawful.proofs.rooms.rooms_of.Given as goal
 

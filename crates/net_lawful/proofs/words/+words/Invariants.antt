@@ -1,5 +1,5 @@
 use Rattle.std.proofs.Common.{◌≡◌, drop}
-use Rattle.net_code.specs.net_design.Bits.{block_writes_words}
+use Rattle.net_design.specs.Bits.{block_writes_words}
 use Rattle.net_lawful.specs.Words.{guards_write}
 use Rattle.net_lawful.proofs.words.+words.Given as goal
 

@@ -1,5 +1,5 @@
 use Rattle.std.proofs.Common.{ap, ◌∙◌}
-use Rattle.net_code.specs.net_design.Bits.{writes_words}
+use Rattle.net_design.specs.Bits.{writes_words}
 use Rattle.net_lawful.proofs.WordRows.{branch_words}
 use Rattle.net_lawful.proofs.words.see_words.Goals as goal
 

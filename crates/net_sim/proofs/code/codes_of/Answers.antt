@@ -1,7 +1,7 @@
 use Rattle.std.proofs.Common.{ℕ, List, All, map, ap, sym, subst, ◌∙◌}
-use Rattle.net_order.specs.net_design.declared.act.Code.{Code}
-use Rattle.net_order.specs.net_design.declared.design.Driver.{Driver}
-use Rattle.net_order.specs.net_design.declared.design.Net.{Net}
+use Rattle.net_design.specs.declared.act.Code.{Code}
+use Rattle.net_design.specs.declared.design.Driver.{Driver}
+use Rattle.net_design.specs.declared.design.Net.{Net}
 use Rattle.net_order.proofs.Known.{known_below}
 use Rattle.net_instr.specs.Statements.{IsBlockThere}
 use Rattle.net_sim.specs.Slots.{widths_of}

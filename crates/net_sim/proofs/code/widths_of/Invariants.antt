@@ -1,5 +1,5 @@
 use Rattle.std.proofs.Common.{◌≡◌, ◌++◌, drop, map}
-use Rattle.net_order.specs.net_design.declared.design.Net.{Net}
+use Rattle.net_design.specs.declared.design.Net.{Net}
 use Rattle.net_sim.proofs.code.widths_of.Given as goal
 
 abbrev pub invariant-loop-net : goal.invariant-loop-net

@@ -1,7 +1,7 @@
 use Rattle.std.proofs.Common.{◌≡◌, ℕ, ◌<◌, ◌≤◌, ◌++◌, ◌∷◌, [], List, ap, sym, ◌∙◌, arith}
 use Rattle.std.proofs.lemmas.List.{append_cancel_right}
-use Rattle.net_order.proofs.net_design_lemmas.LawfulCode.{slice_get-at}
-use Rattle.net_order.specs.net_design.Names.{list_at, paths}
+use Rattle.net_design.proofs.LawfulCode.{slice_get-at}
+use Rattle.net_design.specs.Names.{list_at, paths}
 use Rattle.net_sim.specs.Names.{dotted}
 use Rattle.net_sim.proofs.NameLaws.{top_path, path_text, empty_from, empty_by}
 use Rattle.net_sim.proofs.names.+is_path.Goals as goal

@@ -1,5 +1,5 @@
 use Rattle.std.proofs.Common.{◌≡◌, ℕ, ◌<◌, List, length, ap, sym, subst, ◌∙◌, arith}
-use Rattle.net_order.proofs.net_design_lemmas.LawfulCode.{slice_get-at}
+use Rattle.net_design.proofs.LawfulCode.{slice_get-at}
 use Rattle.net_sim.specs.Table.{ArePaths}
 use Rattle.net_sim.proofs.TableLaws.{one_path, more_paths}
 use Rattle.net_sim.proofs.table.path_hashes.Goals as goal

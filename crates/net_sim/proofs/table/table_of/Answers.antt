@@ -1,6 +1,6 @@
 use Rattle.std.proofs.Common.{ℕ, ◌<◌, List, nat_eq, length, slice_index, ap, sym, subst, ◌∙◌}
 use Rattle.indexmap.specs.IndexMap.{insert_entry}
-use Rattle.net_order.specs.net_design.declared.design.Net.{Net}
+use Rattle.net_design.specs.declared.design.Net.{Net}
 use Rattle.net_sim.specs.Table.{hash_from}
 use Rattle.net_sim.proofs.TableLaws.{more_table}
 use Rattle.net_sim.proofs.table.table_of.Goals as goal

@@ -1,4 +1,4 @@
-use Rattle.net_sim.specs.net_design.Pins.{FitPins}
+use Rattle.net_design.specs.Pins.{FitPins}
 use Rattle.net_words.proofs.runs.run_cycles.Given as goal
 
 abbrev pub invariant-loop : goal.invariant-loop

@@ -1,8 +1,8 @@
 use Rattle.std.proofs.Common.{◌≡◌, ◌-◌, ◌≤◌, List, length}
 use Rattle.trace_code.specs.trace_model.declared.row.Row.{Row}
 use Rattle.trace_code.specs.trace_model.declared.trace.Trace.{Trace}
-use Rattle.chan_replayer.specs.net_design.declared.design.Design.{Design}
-use Rattle.chan_replayer.specs.net_design.declared.values.Values.{Values}
+use Rattle.net_design.specs.declared.design.Design.{Design}
+use Rattle.net_design.specs.declared.values.Values.{Values}
 use Rattle.chan_replayer.specs.Feed.{IsFeed}
 use Rattle.chan_replayer.specs.run_model.Replay.{done, IsGoing}
 use Rattle.replay_run.specs.Behind.{none_yet, AreBehind}

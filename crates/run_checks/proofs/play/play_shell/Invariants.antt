@@ -1,8 +1,8 @@
 use Rattle.std.proofs.Common.{◌≡◌, Option, length}
 use Rattle.run_reference.specs.trace_model.declared.row.Row.{Row}
 use Rattle.run_reference.specs.trace_model.Row.{row_before}
-use Rattle.chan_monitor.specs.net_design.declared.design.Design.{Design}
-use Rattle.chan_monitor.specs.net_design.declared.values.Values.{Values}
+use Rattle.net_design.specs.declared.design.Design.{Design}
+use Rattle.net_design.specs.declared.values.Values.{Values}
 use Rattle.run_reference.specs.run_model.Laws.{GatesOf}
 use Rattle.run_reference.specs.run_model.Run.{IsRunRow}
 use Rattle.run_reference.proofs.run_model_lemmas.PlayedLaws.{Grown}

@@ -1,9 +1,9 @@
 use Rattle.std.proofs.Common.{inl, inr, ap, ◌∙◌}
 use Rattle.vidi_bench.specs.vlog_design.Design.{file_counts}
-use Rattle.net_sim.specs.net_design.declared.design.Counts.{Counts}
-use Rattle.net_sim.specs.net_design.Lawful.{counts}
+use Rattle.net_design.specs.declared.design.Counts.{Counts}
+use Rattle.net_design.specs.Lawful.{counts}
 use Rattle.std.specs.Prelude.{◌≡◌}
-use Rattle.vidi_bench.specs.vlog_tree.Plain.{plain}
+use Rattle.vlog_tree.specs.Plain.{plain}
 use Rattle.run_commands.specs.Checks.{Checked}
 use Rattle.vidi_bench.specs.Design.{IsAccepted, IsLooped, IsRefusedFile}
 use Rattle.vidi_bench.specs.Ended.{EndsWith}

@@ -1,6 +1,6 @@
 use Rattle.std.proofs.Common.{◌≡◌, ℕ, ◌+◌, ◌*◌, ◌≤◌, List, length, drop}
 use Rattle.std.specs.List.{sum_by}
-use Rattle.vidi_bench.specs.vlog_tree.declared.module.Module.{Module}
+use Rattle.vlog_tree.specs.declared.module.Module.{Module}
 use Rattle.run_commands.proofs.checking.items.Given as goal
 
 abbrev count : List Module → ℕ

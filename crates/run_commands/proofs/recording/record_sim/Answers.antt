@@ -1,5 +1,5 @@
 use Rattle.std.proofs.Common.{◌≡◌, subst}
-use Rattle.net_sim.specs.net_design.declared.design.Design.{Design}
+use Rattle.net_design.specs.declared.design.Design.{Design}
 use Rattle.bench_run.specs.script_text.ScriptOffer.{script_offer}
 use Rattle.vidi_recorder.specs.Course.{course}
 use Rattle.run_commands.specs.Recorded.{FileEnds, FileFails}

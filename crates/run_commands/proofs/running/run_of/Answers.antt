@@ -1,5 +1,5 @@
 use Rattle.std.proofs.Common.{subst, sym}
-use Rattle.net_sim.specs.net_design.declared.design.Design.{Design}
+use Rattle.net_design.specs.declared.design.Design.{Design}
 use Rattle.bench_run.specs.run_model.MapOf.{IsMapOf}
 use Rattle.run_commands.proofs.running.run_of.Goals as goal
 

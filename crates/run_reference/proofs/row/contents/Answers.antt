@@ -1,5 +1,5 @@
 use Rattle.std.proofs.Common.{◌++◌, ap, sym, ◌∙◌, append_assoc, drop, ◌+◌, arith}
-use Rattle.run_model.specs.net_design.Pins.{outputs}
+use Rattle.net_design.specs.Pins.{outputs}
 use Rattle.run_model.specs.Building.{content_here, joined}
 use Rattle.run_reference.proofs.BlockLemmas.{joined-more}
 use Rattle.run_reference.proofs.row.contents.Goals as goal

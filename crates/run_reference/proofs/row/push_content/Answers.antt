@@ -1,6 +1,6 @@
 use Rattle.std.proofs.Common.{List, sym, subst}
 use Rattle.std.specs.List.{AllZip}
-use Rattle.run_model.specs.net_design.declared.design.Direction.TheVariants.{Output}
+use Rattle.net_design.specs.declared.design.Direction.TheVariants.{Output}
 use Rattle.run_model.specs.chan_map.declared.pins.Pin.{Pin}
 use Rattle.run_model.specs.chan_map.Bound.{IsPin}
 use Rattle.run_reference.proofs.BlockLemmas.{plug-is, content-pins}

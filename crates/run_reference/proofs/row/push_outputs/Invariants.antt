@@ -1,5 +1,5 @@
 use Rattle.std.proofs.Common.{◌≡◌, ◌++◌, map, drop, slice_index}
-use Rattle.run_model.specs.net_design.Pins.{outputs}
+use Rattle.net_design.specs.Pins.{outputs}
 use Rattle.run_model.specs.chan_map.declared.pins.Pin.{Pin}
 use Rattle.run_reference.proofs.row.push_outputs.Given as goal
 

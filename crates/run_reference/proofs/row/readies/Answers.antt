@@ -1,5 +1,5 @@
 use Rattle.std.proofs.Common.{ℕ, ◌<◌, ◌^◌, sym, subst}
-use Rattle.run_model.specs.net_design.Pins.{outputs}
+use Rattle.net_design.specs.Pins.{outputs}
 use Rattle.run_model.specs.Building.{ready_at}
 use Rattle.run_model.proofs.Contents.{mask-below}
 use Rattle.run_reference.proofs.row.readies.Goals as goal

@@ -1,6 +1,6 @@
 use Rattle.std.proofs.Common.{◌∙◌, ◌++◌, ◌∷◌, [], List, ℕ, ap, map}
-use Rattle.vlog_design.specs.vlog_tree.declared.module.Module.{Module}
-use Rattle.vlog_design.specs.vlog_tree.Plain.{plain_module}
+use Rattle.vlog_tree.specs.declared.module.Module.{Module}
+use Rattle.vlog_tree.specs.Plain.{plain_module}
 use Rattle.shim_gen.specs.shim_trees.Wrapped.{ports_in, module_named}
 use Rattle.shim_cosim.proofs.Tables.{held_are}
 use Rattle.shim_cosim.proofs.held.held_pins.Goals as goal

@@ -1,6 +1,6 @@
 use Rattle.std.proofs.Common.{◌≡◌, ◌++◌, drop, map}
 use Rattle.std.specs.List.{flat_map}
-use Rattle.vlog_design.specs.vlog_tree.Plain.{plain_port}
+use Rattle.vlog_tree.specs.Plain.{plain_port}
 use Rattle.shim_cosim.specs.Held.{held_number}
 use Rattle.shim_cosim.proofs.held.push_all_held.Given as goal
 

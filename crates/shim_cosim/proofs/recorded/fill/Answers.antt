@@ -1,5 +1,5 @@
 use Rattle.std.proofs.Common.{arith, refl}
-use Rattle.net_sim.specs.net_design.Pins.{outputs}
+use Rattle.net_design.specs.Pins.{outputs}
 use Rattle.replay_run.specs.trace_model.Row.{all_widths}
 use Rattle.replay_run.proofs.trace_model_lemmas.ContentsLemmas.{fit-length}
 use Rattle.replay_run.proofs.trace_model_lemmas.RowLemmas.{first-within}

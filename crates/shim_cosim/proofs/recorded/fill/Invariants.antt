@@ -1,4 +1,4 @@
-use Rattle.net_sim.specs.net_design.Pins.{outputs}
+use Rattle.net_design.specs.Pins.{outputs}
 use Rattle.shim_cosim.proofs.Entering.{AreFilled}
 use Rattle.shim_cosim.proofs.recorded.fill.Given as goal
 

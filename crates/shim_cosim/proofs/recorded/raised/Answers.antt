@@ -1,5 +1,5 @@
 use Rattle.std.proofs.Common.{◌+◌, ◌<◌, ◌^◌, ◌==◌, ap, subst, sym, ◌∙◌, arith}
-use Rattle.net_sim.specs.net_design.Pins.{outputs}
+use Rattle.net_design.specs.Pins.{outputs}
 use Rattle.replay_run.proofs.run_model_lemmas.Contents.{mask-below, mask-more}
 use Rattle.shim_cosim.specs.Recorded.{output_count, is_raised}
 use Rattle.shim_cosim.proofs.Entering.{counted-within, counted-more, raised-is}

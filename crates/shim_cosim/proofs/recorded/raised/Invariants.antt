@@ -1,5 +1,5 @@
 use Rattle.std.proofs.Common.{◌≡◌}
-use Rattle.net_sim.specs.net_design.Pins.{outputs}
+use Rattle.net_design.specs.Pins.{outputs}
 use Rattle.replay_run.specs.run_model.Building.{mask_of}
 use Rattle.shim_cosim.specs.Recorded.{is_raised, seat}
 use Rattle.shim_cosim.proofs.recorded.raised.Given as goal

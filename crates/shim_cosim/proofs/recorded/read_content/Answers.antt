@@ -1,5 +1,5 @@
 use Rattle.std.proofs.Common.{refl, arith}
-use Rattle.net_sim.specs.net_design.Pins.{outputs}
+use Rattle.net_design.specs.Pins.{outputs}
 use Rattle.shim_cosim.proofs.Entering.{read-more}
 use Rattle.shim_cosim.proofs.recorded.read_content.Goals as goal
 

@@ -1,5 +1,5 @@
 use Rattle.std.proofs.Common.{◌≡◌, get_or}
-use Rattle.net_sim.specs.net_design.Pins.{outputs}
+use Rattle.net_design.specs.Pins.{outputs}
 use Rattle.replay_run.specs.trace_model.Row.{replaced}
 use Rattle.shim_gen.specs.shim_trees.Pieces.{upto}
 use Rattle.shim_cosim.proofs.recorded.read_content.Given as goal

@@ -1,5 +1,5 @@
 use Rattle.std.proofs.Common.{◌≡◌, take}
-use Rattle.net_sim.specs.net_design.Pins.{outputs}
+use Rattle.net_design.specs.Pins.{outputs}
 use Rattle.shim_cosim.proofs.shown_row.read_outputs.Given as goal
 
 abbrev pub invariant-loop-port : goal.invariant-loop-port

@@ -1,5 +1,5 @@
 use Rattle.std.proofs.Common.{map}
-use Rattle.shim_trees.specs.vlog_tree.Plain.{plain_conn}
+use Rattle.vlog_tree.specs.Plain.{plain_conn}
 use Rattle.shim_gen.proofs.Joined.{each_row}
 use Rattle.shim_gen.proofs.Pushed.{on_ok}
 use Rattle.shim_gen.proofs.conns.add_row.Goals as goal

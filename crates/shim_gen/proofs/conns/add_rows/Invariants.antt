@@ -1,5 +1,5 @@
 use Rattle.std.proofs.Common.{◌≡◌, ◌++◌, drop, map}
-use Rattle.shim_trees.specs.vlog_tree.Plain.{plain_conn}
+use Rattle.vlog_tree.specs.Plain.{plain_conn}
 use Rattle.shim_gen.specs.Rows.{conns_of}
 use Rattle.shim_gen.proofs.conns.add_rows.Given as goal
 

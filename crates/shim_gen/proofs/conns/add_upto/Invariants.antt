@@ -1,5 +1,5 @@
 use Rattle.std.proofs.Common.{◌≡◌, ◌-◌, ◌++◌, map}
-use Rattle.shim_trees.specs.vlog_tree.Plain.{plain_conn}
+use Rattle.vlog_tree.specs.Plain.{plain_conn}
 use Rattle.shim_trees.specs.Pieces.{upto}
 use Rattle.shim_gen.specs.Rows.{conn_at}
 use Rattle.shim_gen.proofs.conns.add_upto.Given as goal

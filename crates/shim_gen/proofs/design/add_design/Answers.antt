@@ -1,5 +1,5 @@
 use Rattle.std.proofs.Common.{map}
-use Rattle.shim_trees.specs.vlog_tree.Plain.{plain_port}
+use Rattle.vlog_tree.specs.Plain.{plain_port}
 use Rattle.shim_trees.specs.Links.{links}
 use Rattle.shim_gen.proofs.Tables.{dut_by_table}
 use Rattle.shim_gen.proofs.design.add_design.Goals as goal

@@ -1,5 +1,5 @@
 use Rattle.std.proofs.Common.{◌≡◌, ◌++◌, drop, map}
-use Rattle.shim_trees.specs.vlog_tree.Plain.{plain_port, plain_conn}
+use Rattle.vlog_tree.specs.Plain.{plain_port, plain_conn}
 use Rattle.shim_trees.specs.Links.{dut_conn}
 use Rattle.shim_gen.proofs.design.add_design_conns.Given as goal
 

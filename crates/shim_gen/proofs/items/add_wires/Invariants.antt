@@ -1,5 +1,5 @@
 use Rattle.std.proofs.Common.{◌≡◌, ◌++◌, drop, map}
-use Rattle.shim_trees.specs.vlog_tree.Plain.{plain_item}
+use Rattle.vlog_tree.specs.Plain.{plain_item}
 use Rattle.shim_trees.specs.Pieces.{each, wire}
 use Rattle.shim_gen.specs.Labels.{text_at}
 use Rattle.shim_gen.proofs.items.add_wires.Given as goal

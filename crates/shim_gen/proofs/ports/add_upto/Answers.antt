@@ -1,5 +1,5 @@
 use Rattle.std.proofs.Common.{ℕ, List, ◌++◌, [], ◌∷◌, map, ap, ◌∙◌}
-use Rattle.shim_trees.specs.vlog_tree.Plain.{plain_port}
+use Rattle.vlog_tree.specs.Plain.{plain_port}
 use Rattle.shim_trees.specs.Pieces.{upto, port}
 use Rattle.shim_gen.specs.Labels.{text_at}
 use Rattle.shim_gen.proofs.Upto.{upto_pushed}

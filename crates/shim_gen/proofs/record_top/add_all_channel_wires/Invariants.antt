@@ -1,5 +1,5 @@
 use Rattle.std.proofs.Common.{◌≡◌, ◌++◌, drop, map}
-use Rattle.shim_trees.specs.vlog_tree.Plain.{plain_item}
+use Rattle.vlog_tree.specs.Plain.{plain_item}
 use Rattle.shim_trees.specs.Pieces.{each_some}
 use Rattle.shim_trees.specs.RecordTop.{record_wires}
 use Rattle.shim_gen.proofs.record_top.add_all_channel_wires.Given as goal

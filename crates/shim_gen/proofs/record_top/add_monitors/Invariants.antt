@@ -1,5 +1,5 @@
 use Rattle.std.proofs.Common.{◌≡◌, ◌++◌, drop, map}
-use Rattle.shim_trees.specs.vlog_tree.Plain.{plain_item}
+use Rattle.vlog_tree.specs.Plain.{plain_item}
 use Rattle.shim_trees.specs.Pieces.{each}
 use Rattle.shim_trees.specs.RecordTop.{monitor_item}
 use Rattle.shim_gen.proofs.record_top.add_monitors.Given as goal

@@ -1,6 +1,6 @@
 use Rattle.std.proofs.Common.{map}
 use Rattle.std.specs.Prelude.{codes}
-use Rattle.shim_trees.specs.vlog_tree.Plain.{plain_conn}
+use Rattle.vlog_tree.specs.Plain.{plain_conn}
 use Rattle.shim_trees.specs.trace_model.declared.channel.Dir.TheVariants.{Inward, Outward}
 use Rattle.shim_trees.specs.Pieces.{numbered, each, conn}
 use Rattle.shim_trees.specs.RecordTop.{source_ready, source_content}

@@ -1,5 +1,5 @@
 use Rattle.std.proofs.Common.{◌≡◌, ◌++◌, drop, map, length}
-use Rattle.shim_trees.specs.vlog_tree.Plain.{plain_port}
+use Rattle.vlog_tree.specs.Plain.{plain_port}
 use Rattle.shim_trees.specs.Pieces.{each_some}
 use Rattle.shim_trees.specs.ReplayTop.{replay_ports}
 use Rattle.shim_gen.proofs.replay_top.add_all_channel_ports.Given as goal

@@ -1,7 +1,7 @@
 use Rattle.std.proofs.Common.{◌≡◌, ℕ, List, ◌++◌, [], ◌∷◌, map, ap, ◌∙◌}
 use Rattle.std.specs.Prelude.{codes}
-use Rattle.shim_trees.specs.vlog_tree.Plain.{plain_conn}
-use Rattle.shim_trees.specs.vlog_tree.Tree.{ConnOf}
+use Rattle.vlog_tree.specs.Plain.{plain_conn}
+use Rattle.vlog_tree.specs.Tree.{ConnOf}
 use Rattle.shim_trees.specs.Pieces.{upto, numbered, numbered_twice, conn}
 use Rattle.shim_trees.specs.ReplayTop.{side_conns}
 use Rattle.shim_gen.proofs.Pushed.{before, on_ok, two_before}

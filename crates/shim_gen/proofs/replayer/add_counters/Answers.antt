@@ -1,6 +1,6 @@
 use Rattle.std.proofs.Common.{ℕ, ◌++◌, map}
 use Rattle.std.specs.Prelude.{codes}
-use Rattle.shim_trees.specs.vlog_tree.Plain.{plain_item}
+use Rattle.vlog_tree.specs.Plain.{plain_item}
 use Rattle.shim_trees.specs.Pieces.{upto, reg, numbered}
 use Rattle.shim_gen.proofs.Upto.{upto_pushed}
 use Rattle.shim_gen.proofs.replayer.add_counters.Goals as goal

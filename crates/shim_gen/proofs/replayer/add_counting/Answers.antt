@@ -1,6 +1,6 @@
 use Rattle.std.proofs.Common.{◌++◌, map, ap, ◌∙◌}
-use Rattle.shim_trees.specs.vlog_tree.Plain.{plain_stmt}
-use Rattle.shim_trees.specs.vlog_tree.Tree.{BeginStmt, stmts_of}
+use Rattle.vlog_tree.specs.Plain.{plain_stmt}
+use Rattle.vlog_tree.specs.Tree.{BeginStmt, stmts_of}
 use Rattle.shim_trees.specs.Pieces.{upto}
 use Rattle.shim_gen.specs.Counting.{counted}
 use Rattle.shim_gen.proofs.Upto.{counting_is}

@@ -1,5 +1,5 @@
 use Rattle.std.proofs.Common.{◌≡◌, ◌-◌, ◌++◌, map}
-use Rattle.shim_trees.specs.vlog_tree.Plain.{plain_stmt}
+use Rattle.vlog_tree.specs.Plain.{plain_stmt}
 use Rattle.shim_trees.specs.Pieces.{upto}
 use Rattle.shim_gen.specs.Counting.{counted}
 use Rattle.shim_gen.proofs.replayer.add_counts.Given as goal

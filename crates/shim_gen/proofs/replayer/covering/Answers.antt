@@ -1,5 +1,5 @@
 use Rattle.std.specs.Prelude.{codes}
-use Rattle.shim_trees.specs.vlog_tree.Plain.{plain_expr}
+use Rattle.vlog_tree.specs.Plain.{plain_expr}
 use Rattle.shim_trees.specs.Pieces.{net}
 use Rattle.shim_trees.specs.Replayer.{covering}
 use Rattle.shim_gen.proofs.Upto.{covering_on}

@@ -1,5 +1,5 @@
 use Rattle.std.proofs.Common.{◌≡◌, ◌++◌, drop, map}
-use Rattle.shim_trees.specs.vlog_tree.Plain.{plain_module}
+use Rattle.vlog_tree.specs.Plain.{plain_module}
 use Rattle.shim_gen.proofs.wrapping.add_copies.Given as goal
 
 abbrev pub invariant-loop-module : goal.invariant-loop-module

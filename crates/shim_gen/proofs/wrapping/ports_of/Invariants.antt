@@ -1,5 +1,5 @@
 use Rattle.std.proofs.Common.{◌≡◌, drop, map}
-use Rattle.shim_trees.specs.vlog_tree.Plain.{plain_module}
+use Rattle.vlog_tree.specs.Plain.{plain_module}
 use Rattle.shim_trees.specs.Wrapped.{module_named}
 use Rattle.shim_gen.proofs.wrapping.ports_of.Given as goal
 

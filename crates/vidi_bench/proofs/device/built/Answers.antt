@@ -1,5 +1,5 @@
 use Rattle.std.proofs.Common.{inl, inr}
-use Rattle.vlog_parse.specs.vlog_tree.Plain.{plain}
+use Rattle.vlog_tree.specs.Plain.{plain}
 use Rattle.vidi_bench.specs.Design.{Building, IsAccepted, IsLooped, IsRefusedFile}
 use Rattle.vidi_bench.specs.Devices.{Binding, IsUnbound}
 use Rattle.vidi_bench.specs.Ended.{EndsWith}

@@ -1,5 +1,5 @@
 use Rattle.std.proofs.Common.{inl, inr}
-use Rattle.vlog_parse.specs.vlog_tree.Plain.{plain}
+use Rattle.vlog_tree.specs.Plain.{plain}
 use Rattle.vidi_bench.specs.Design.{Building, IsNoText}
 use Rattle.vidi_bench.specs.Devices.{Binding, IsNoMap, Wiring}
 use Rattle.vidi_bench.specs.Steps.{Never}

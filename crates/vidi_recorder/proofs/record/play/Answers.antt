@@ -3,7 +3,7 @@ use Rattle.std.proofs.lemmas.List.{length_push}
 use Rattle.std.proofs.Math.Logic.{∥∥₁_map}
 use Rattle.vidi_io.proofs.vidi_bits_lemmas.Results.{on_err}
 use Rattle.circular_buffer.specs.Buffer.{Buffer}
-use Rattle.chan_monitor.specs.net_design.declared.design.Design.{Design}
+use Rattle.net_design.specs.declared.design.Design.{Design}
 use Rattle.chan_monitor.specs.Shell.{IsMapped, IsRunning}
 use Rattle.env_script.proofs.Lasting.{offers-fit}
 use Rattle.env_script.specs.run_model.Played.{StopsBefore}

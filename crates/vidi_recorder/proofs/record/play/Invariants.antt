@@ -1,7 +1,7 @@
 use Rattle.std.proofs.Common.{◌≡◌, ◌≤◌, List, Option, length}
 use Rattle.trace_code.specs.trace_model.declared.row.Row.{Row}
-use Rattle.chan_monitor.specs.net_design.declared.design.Design.{Design}
-use Rattle.chan_monitor.specs.net_design.declared.values.Values.{Values}
+use Rattle.net_design.specs.declared.design.Design.{Design}
+use Rattle.net_design.specs.declared.values.Values.{Values}
 use Rattle.vidi_io.specs.Sink.{Frame}
 use Rattle.vidi_recorder.specs.Course.{course, plan_of}
 use Rattle.vidi_recorder.specs.Standing.{HasSizes, Reached, StandsAt}

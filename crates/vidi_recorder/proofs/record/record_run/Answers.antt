@@ -1,8 +1,8 @@
 use Rattle.std.proofs.Common.{◌≡◌, Option, Result, Err, IfErr, subst, sym}
 use Rattle.std.proofs.lemmas.Result.{err_from_is_err_and}
 use Rattle.trace_code.specs.trace_model.declared.row.Row.{Row}
-use Rattle.chan_monitor.specs.net_design.declared.design.Design.{Design}
-use Rattle.chan_monitor.specs.net_design.declared.values.Values.{Values}
+use Rattle.net_design.specs.declared.design.Design.{Design}
+use Rattle.net_design.specs.declared.values.Values.{Values}
 use Rattle.chan_monitor.specs.Shell.{IsMapped}
 use Rattle.vidi_recorder.specs.declared.error.RecordError.{RecordError}
 use Rattle.vidi_recorder.specs.declared.error.RecordError.TheVariants.{WriteFault}

@@ -9,8 +9,8 @@ use Rattle.trace_code.specs.trace_model.Recording.{has_event}
 use Rattle.trace_code.specs.trace_model.Row.{all_widths, row_before, IsOver}
 use Rattle.trace_code.proofs.trace_model_lemmas.ContentsLemmas.{fit-length}
 use Rattle.trace_code.specs.trace_model.Stability.{IsLowestUnstable}
-use Rattle.chan_monitor.specs.net_design.declared.design.Design.{Design}
-use Rattle.chan_monitor.specs.net_design.declared.values.Values.{Values}
+use Rattle.net_design.specs.declared.design.Design.{Design}
+use Rattle.net_design.specs.declared.values.Values.{Values}
 use Rattle.env_script.specs.chan_map.declared.pins.Map.{Map}
 use Rattle.env_script.specs.script_text.Offer.{Carries}
 use Rattle.chan_monitor.specs.Shell.{IsShown}

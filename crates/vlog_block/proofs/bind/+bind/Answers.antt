@@ -1,8 +1,8 @@
 use Rattle.std.proofs.Common.{◌≡◌, ℕ, ap, ◌∙◌}
 use Rattle.std.proofs.lemmas.Result.{IfOk-weaker}
-use Rattle.vlog_size.specs.vlog_tree.Plain.{plain_ref, plain_index, plain_last}
-use Rattle.vlog_size.specs.vlog_tree.declared.expr.Ref.{back-Ref-index, back-Ref-sel}
-use Rattle.net_code.specs.net_design.Bits as bits
+use Rattle.vlog_tree.specs.Plain.{plain_ref, plain_index, plain_last}
+use Rattle.vlog_tree.specs.declared.expr.Ref.{back-Ref-index, back-Ref-sel}
+use Rattle.net_design.specs.Bits as bits
 use Rattle.vlog_block.specs.declared.source.Source.{Source}
 use Rattle.vlog_block.specs.Sources.{names_of, source_of}
 use Rattle.vlog_block.specs.Bits.{source_reads, ref_reads, index_reads, last_reads}

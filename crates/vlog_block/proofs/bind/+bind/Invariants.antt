@@ -1,11 +1,11 @@
 use Rattle.std.proofs.Common.{◌≡◌, ℕ, ◌+◌, ◌≤◌, drop}
-use Rattle.vlog_size.specs.vlog_tree.Plain.{plain_exprs}
+use Rattle.vlog_tree.specs.Plain.{plain_exprs}
 use Rattle.vlog_size.specs.Size.{sizes_of_all, total_width}
 use Rattle.vlog_size.specs.vidi_bits.Number.{IsWidth}
-use Rattle.net_code.specs.net_design.declared.values.Values.{Values}
-use Rattle.net_code.specs.net_design.Value as code
-use Rattle.net_code.specs.net_design.Bits as bits
-use Rattle.net_code.specs.net_design.Sized.{IsSizedRhs}
+use Rattle.net_design.specs.declared.values.Values.{Values}
+use Rattle.net_design.specs.Value as code
+use Rattle.net_design.specs.Bits as bits
+use Rattle.net_design.specs.Sized.{IsSizedRhs}
 use Rattle.vlog_block.specs.Sources.{names_of}
 use Rattle.vlog_block.specs.Fit.{AreFit}
 use Rattle.vlog_block.specs.Value.{joined_onto}

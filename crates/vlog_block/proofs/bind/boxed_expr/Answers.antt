@@ -1,4 +1,4 @@
-use Rattle.vlog_size.specs.vlog_tree.Plain.{plain_expr}
+use Rattle.vlog_tree.specs.Plain.{plain_expr}
 use Rattle.vlog_block.proofs.Fitting.{wide_enough}
 use Rattle.vlog_block.proofs.bind.boxed_expr.Goals as goal
 

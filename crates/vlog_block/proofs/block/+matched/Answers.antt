@@ -1,5 +1,5 @@
 use Rattle.std.proofs.Common.{arith}
-use Rattle.vlog_size.specs.vlog_tree.Plain.{plain_expr}
+use Rattle.vlog_tree.specs.Plain.{plain_expr}
 use Rattle.vlog_block.specs.Sources.{names_of}
 use Rattle.vlog_block.specs.Extends.{IsNarrow}
 use Rattle.vlog_block.proofs.Labels.{all_front, all_back, half_below, half_more}

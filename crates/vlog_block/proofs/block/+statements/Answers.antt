@@ -1,10 +1,10 @@
 use Rattle.std.proofs.Common.{rules, ◌≡◌, ℕ, List, drop, map, ap, sym, subst, ◌∙◌}
 use Rattle.std.proofs.lemmas.Result.{on_ok_weaker}
-use Rattle.vlog_size.specs.vlog_tree.Tree.{StmtOf, AssignStmt, BeginStmt, IfStmt, CaseStmt, NoElse, Else, LabelsArm, DefaultArm}
-use Rattle.vlog_size.specs.vlog_tree.Plain.{plain_expr, plain_target, plain_stmt, plain_stmts, plain_body, plain_arm, plain_arms}
-use Rattle.vlog_size.specs.vlog_tree.declared.stmt.Stmt.{Stmt}
-use Rattle.vlog_size.specs.vlog_tree.declared.stmt.Arm.{Arm}
-use Rattle.net_code.proofs.net_design_lemmas.UpdateLaws.{from_here}
+use Rattle.vlog_tree.specs.Tree.{StmtOf, AssignStmt, BeginStmt, IfStmt, CaseStmt, NoElse, Else, LabelsArm, DefaultArm}
+use Rattle.vlog_tree.specs.Plain.{plain_expr, plain_target, plain_stmt, plain_stmts, plain_body, plain_arm, plain_arms}
+use Rattle.vlog_tree.specs.declared.stmt.Stmt.{Stmt}
+use Rattle.vlog_tree.specs.declared.stmt.Arm.{Arm}
+use Rattle.net_design.proofs.UpdateLaws.{from_here}
 use Rattle.vlog_block.specs.Sources.{names_of}
 use Rattle.vlog_block.specs.Faultless.{IsFaultlessStmt, AreFaultlessStmts, AreFaultlessArms}
 use Rattle.vlog_block.specs.Extends.{Extends, doing_body, doing_default}

@@ -1,7 +1,7 @@
 use Rattle.std.proofs.Common.{◌≡◌, List, drop}
-use Rattle.vlog_size.specs.vlog_tree.Plain.{plain_expr, plain_stmts, plain_arms}
-use Rattle.net_code.specs.net_design.declared.act.Act.{Act}
-use Rattle.net_code.specs.net_design.declared.act.Guard.{Guard}
+use Rattle.vlog_tree.specs.Plain.{plain_expr, plain_stmts, plain_arms}
+use Rattle.net_design.specs.declared.act.Act.{Act}
+use Rattle.net_design.specs.declared.act.Guard.{Guard}
 use Rattle.vlog_block.specs.Sources.{names_of}
 use Rattle.vlog_block.specs.Faultless.{AreFaultlessStmts, AreFaultlessArms}
 use Rattle.vlog_block.specs.Extends.{Extends, Lengthens, doing_stmts, doing_default, choosing_arms, AreNarrowArms}

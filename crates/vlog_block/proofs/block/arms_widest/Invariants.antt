@@ -1,5 +1,5 @@
 use Rattle.std.proofs.Common.{◌≡◌, drop}
-use Rattle.vlog_size.specs.vlog_tree.Plain.{plain_arms}
+use Rattle.vlog_tree.specs.Plain.{plain_arms}
 use Rattle.vlog_block.specs.Sources.{names_of}
 use Rattle.vlog_block.specs.Updates.{arms_widest}
 use Rattle.vlog_block.specs.Faultless.{AreFaultlessArms}

@@ -1,10 +1,10 @@
 use Rattle.std.proofs.Common.{List, ap, sym, subst, ◌∙◌}
-use Rattle.vlog_size.specs.vlog_tree.Plain.{plain_always}
-use Rattle.net_code.specs.net_design.declared.act.Act.{Act}
-use Rattle.net_code.specs.net_design.declared.act.Timing.{Timing}
-use Rattle.net_code.specs.net_design.Updates.{block_updates}
-use Rattle.net_code.specs.net_design.Bits.{no_bits, block_writes, block_adds, block_open_reads, HasBits}
-use Rattle.net_code.specs.net_design.Sized.{IsSizedBlock}
+use Rattle.vlog_tree.specs.Plain.{plain_always}
+use Rattle.net_design.specs.declared.act.Act.{Act}
+use Rattle.net_design.specs.declared.act.Timing.{Timing}
+use Rattle.net_design.specs.Updates.{block_updates}
+use Rattle.net_design.specs.Bits.{no_bits, block_writes, block_adds, block_open_reads, HasBits}
+use Rattle.net_design.specs.Sized.{IsSizedBlock}
 use Rattle.vlog_block.specs.Sources.{names_of}
 use Rattle.vlog_block.specs.Written.{body_open}
 use Rattle.vlog_block.specs.Naming.{code_names}

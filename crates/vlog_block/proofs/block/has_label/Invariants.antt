@@ -1,5 +1,5 @@
 use Rattle.std.proofs.Common.{◌≡◌, drop}
-use Rattle.vlog_size.specs.vlog_tree.Plain.{plain_arms}
+use Rattle.vlog_tree.specs.Plain.{plain_arms}
 use Rattle.vlog_block.specs.Extends.{has_label}
 use Rattle.vlog_block.proofs.block.has_label.Given as goal
 

@@ -1,6 +1,6 @@
 use Rattle.std.proofs.Common.{List, sym, subst}
 use Rattle.std.proofs.lemmas.Result.{on_ok_weaker}
-use Rattle.net_code.specs.net_design.declared.act.Act.{Act}
+use Rattle.net_design.specs.declared.act.Act.{Act}
 use Rattle.vlog_block.specs.Extends.{Extends, doing_branch}
 use Rattle.vlog_block.proofs.Extending.{extends_branch}
 use Rattle.vlog_block.proofs.block.push_branch.Goals as goal

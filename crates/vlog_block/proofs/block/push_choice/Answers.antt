@@ -1,6 +1,6 @@
 use Rattle.std.proofs.Common.{sym, ◌∙◌}
 use Rattle.std.proofs.lemmas.Result.{on_ok_weaker}
-use Rattle.vlog_size.specs.vlog_tree.Plain.{plain_expr, plain_arms}
+use Rattle.vlog_tree.specs.Plain.{plain_expr, plain_arms}
 use Rattle.vlog_block.specs.Sources.{names_of}
 use Rattle.vlog_block.proofs.Statements.{case_made, unlabelled_made}
 use Rattle.vlog_block.proofs.block.push_choice.Goals as goal

@@ -1,8 +1,8 @@
 use Rattle.std.proofs.Common.{◌++◌, ◌∷◌, [], List, ap, sym, subst, ◌∙◌}
 use Rattle.std.proofs.lemmas.Result.{on_ok_weaker}
-use Rattle.vlog_size.specs.vlog_tree.Plain.{plain_expr}
-use Rattle.net_code.specs.net_design.declared.act.Guard.{Guard}
-use Rattle.net_code.specs.net_design.Sized.{AreSizedGuards}
+use Rattle.vlog_tree.specs.Plain.{plain_expr}
+use Rattle.net_design.specs.declared.act.Guard.{Guard}
+use Rattle.net_design.specs.Sized.{AreSizedGuards}
 use Rattle.vlog_block.specs.Sources.{names_of}
 use Rattle.vlog_block.specs.Value.{value}
 use Rattle.vlog_block.specs.Extends.{Extends, doing_branch, doing_if}

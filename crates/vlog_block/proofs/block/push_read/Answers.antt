@@ -1,8 +1,8 @@
 use Rattle.std.proofs.Common.{◌++◌, ◌∷◌, [], List, sym, subst}
 use Rattle.std.proofs.lemmas.Result.{on_ok_weaker}
-use Rattle.vlog_size.specs.vlog_tree.Plain.{plain_expr}
-use Rattle.net_code.specs.net_design.declared.act.Act.{Act}
-use Rattle.net_code.specs.net_design.declared.act.Act.TheVariants.{Read}
+use Rattle.vlog_tree.specs.Plain.{plain_expr}
+use Rattle.net_design.specs.declared.act.Act.{Act}
+use Rattle.net_design.specs.declared.act.Act.TheVariants.{Read}
 use Rattle.vlog_block.specs.Sources.{names_of}
 use Rattle.vlog_block.specs.Extends.{Extends, doing_read}
 use Rattle.vlog_block.proofs.Extending.{extends_one, extends_same, doing_act}

@@ -1,11 +1,11 @@
 use Rattle.std.proofs.Common.{rules, ◌≡◌, ◌≤◌, ◌++◌, ◌∷◌, [], List, ap, sym, subst, ◌∙◌}
 use Rattle.std.proofs.lemmas.Result.{on_ok_weaker}
-use Rattle.vlog_size.specs.vlog_tree.Tree.{AssignStmt}
-use Rattle.vlog_size.specs.vlog_tree.Plain.{plain_expr, plain_target}
-use Rattle.vlog_size.specs.vlog_tree.declared.stmt.AssignOp.{AssignOp}
-use Rattle.net_code.specs.net_design.declared.act.Act.{Act}
-use Rattle.net_code.specs.net_design.declared.act.Act.TheVariants.{Set}
-use Rattle.net_code.specs.net_design.Updates as code
+use Rattle.vlog_tree.specs.Tree.{AssignStmt}
+use Rattle.vlog_tree.specs.Plain.{plain_expr, plain_target}
+use Rattle.vlog_tree.specs.declared.stmt.AssignOp.{AssignOp}
+use Rattle.net_design.specs.declared.act.Act.{Act}
+use Rattle.net_design.specs.declared.act.Act.TheVariants.{Set}
+use Rattle.net_design.specs.Updates as code
 use Rattle.vlog_block.specs.Sources.{names_of}
 use Rattle.vlog_block.specs.Value.{value}
 use Rattle.vlog_block.specs.Updates.{assigned_width}

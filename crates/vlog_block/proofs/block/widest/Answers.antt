@@ -1,4 +1,4 @@
-use Rattle.vlog_size.specs.vlog_tree.Plain.{plain_expr}
+use Rattle.vlog_tree.specs.Plain.{plain_expr}
 use Rattle.vlog_block.specs.Sources.{names_of}
 use Rattle.vlog_block.proofs.Fitting.{faultless_width}
 use Rattle.vlog_block.proofs.Statements.{first_faultless}

@@ -1,5 +1,5 @@
 use Rattle.std.proofs.Common.{◌↔◌, drop}
-use Rattle.vlog_size.specs.vlog_tree.Plain.{plain_stmts, plain_arms}
+use Rattle.vlog_tree.specs.Plain.{plain_stmts, plain_arms}
 use Rattle.vlog_block.specs.Sources.{names_of}
 use Rattle.vlog_block.specs.Faultless.{AreFaultlessStmts, AreFaultlessArms}
 use Rattle.vlog_block.proofs.faultless.+faultless.Given as goal

@@ -1,6 +1,6 @@
 use Rattle.std.proofs.Common.{◌↔◌, map, drop}
 use Rattle.std.specs.List.{AllByRecursion}
-use Rattle.vlog_size.specs.vlog_tree.Plain.{plain_expr}
+use Rattle.vlog_tree.specs.Plain.{plain_expr}
 use Rattle.vlog_block.specs.Sources.{names_of}
 use Rattle.vlog_block.specs.Faultless.{IsFaultless}
 use Rattle.vlog_block.proofs.faultless.are_faultless_exprs.Given as goal

@@ -1,11 +1,11 @@
 use Rattle.std.proofs.Common.{◌≡◌, ◌+◌, ◌/◌, ◌^◌, ◌||◌, ◌++◌, drop, append_assoc, ap, sym, subst, ◌∙◌}
 use Rattle.std.proofs.Math.Bool.{or_assoc}
 use Rattle.net_code.specs.Targets.{bit_count}
-use Rattle.vlog_size.specs.vlog_tree.Tree.{MoreTargets}
-use Rattle.vlog_size.specs.vlog_tree.Plain.{plain_target, plain_targets}
-use Rattle.net_code.specs.net_design.Updates as places
-use Rattle.net_code.specs.net_design.Bits as bits
-use Rattle.net_code.proofs.net_design_lemmas.UpdateLaws.{from_here}
+use Rattle.vlog_tree.specs.Tree.{MoreTargets}
+use Rattle.vlog_tree.specs.Plain.{plain_target, plain_targets}
+use Rattle.net_design.specs.Updates as places
+use Rattle.net_design.specs.Bits as bits
+use Rattle.net_design.proofs.UpdateLaws.{from_here}
 use Rattle.vlog_block.specs.Sources.{names_of}
 use Rattle.vlog_block.specs.Fit.{AreFitTargets}
 use Rattle.vlog_block.specs.Targets.{targets_width, targets_updates}

@@ -1,11 +1,11 @@
 use Rattle.std.proofs.Common.{◌≡◌, ℕ, ◌+◌, ◌/◌, ◌^◌, ◌||◌, ◌++◌, drop}
 use Rattle.std.specs.List.{AllByRecursion}
 use Rattle.net_code.specs.Targets.{bit_count}
-use Rattle.vlog_size.specs.vlog_tree.Plain.{plain_targets}
-use Rattle.net_code.specs.net_design.declared.values.Values.{Values}
-use Rattle.net_code.specs.net_design.Updates as places
-use Rattle.net_code.specs.net_design.Bits as bits
-use Rattle.net_code.specs.net_design.Sized.{IsSizedPlace}
+use Rattle.vlog_tree.specs.Plain.{plain_targets}
+use Rattle.net_design.specs.declared.values.Values.{Values}
+use Rattle.net_design.specs.Updates as places
+use Rattle.net_design.specs.Bits as bits
+use Rattle.net_design.specs.Sized.{IsSizedPlace}
 use Rattle.vlog_block.specs.Sources.{names_of}
 use Rattle.vlog_block.specs.Fit.{AreFitTargets}
 use Rattle.vlog_block.specs.Targets.{targets_width, targets_updates}

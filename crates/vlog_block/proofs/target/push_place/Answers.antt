@@ -2,10 +2,10 @@ use Rattle.std.proofs.Common.{ap, List, [], ◌∷◌, ◌∙◌, subst, sym}
 use Rattle.std.specs.List.{AllByRecursion}
 use Rattle.std.proofs.lemmas.Result.{on_ok_weaker}
 use Rattle.net_code.specs.Targets.{bit_count}
-use Rattle.net_code.specs.net_design.declared.act.Place.{Place}
-use Rattle.net_code.specs.net_design.Updates as places
-use Rattle.net_code.specs.net_design.Bits as bits
-use Rattle.net_code.specs.net_design.Sized.{IsSizedPlace}
+use Rattle.net_design.specs.declared.act.Place.{Place}
+use Rattle.net_design.specs.Updates as places
+use Rattle.net_design.specs.Bits as bits
+use Rattle.net_design.specs.Sized.{IsSizedPlace}
 use Rattle.vlog_block.specs.Naming.{place_names}
 use Rattle.vlog_block.proofs.Names.{names_append, count_end}
 use Rattle.vlog_block.proofs.Places.{updates_end, width_end, any_end, all_end}

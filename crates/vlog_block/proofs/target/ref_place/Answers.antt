@@ -1,10 +1,10 @@
 use Rattle.std.proofs.Common.{◌≡◌, ℕ, [], ◌∷◌, ap, ◌∙◌}
 use Rattle.std.proofs.lemmas.Result.{IfOk-weaker}
-use Rattle.vlog_size.specs.vlog_tree.Plain.{plain_ref, plain_index, plain_last}
-use Rattle.vlog_size.specs.vlog_tree.declared.expr.Ref.{back-Ref-index, back-Ref-sel}
-use Rattle.net_code.specs.net_design.declared.values.Values.{Values}
-use Rattle.net_code.specs.net_design.Updates as places
-use Rattle.net_code.specs.net_design.Bits as bits
+use Rattle.vlog_tree.specs.Plain.{plain_ref, plain_index, plain_last}
+use Rattle.vlog_tree.specs.declared.expr.Ref.{back-Ref-index, back-Ref-sel}
+use Rattle.net_design.specs.declared.values.Values.{Values}
+use Rattle.net_design.specs.Updates as places
+use Rattle.net_design.specs.Bits as bits
 use Rattle.vlog_block.specs.declared.source.Source.{Source}
 use Rattle.vlog_block.specs.Sources.{names_of, source_of}
 use Rattle.vlog_block.specs.Value.{first_index, lowest}

@@ -1,9 +1,9 @@
 use Rattle.std.proofs.Common.{◌≤◌, List, length, refl, sym, ap, subst, ◌∙◌}
 use Rattle.std.proofs.lemmas.List.{length-map}
 use Rattle.std.specs.List.{AllZip}
-use Rattle.flat_drive.specs.vlog_tree.Plain.{plain}
+use Rattle.vlog_tree.specs.Plain.{plain}
 use Rattle.flat_drive.specs.vlog_elab.Plain.{plain_instance, plain_instances}
-use Rattle.net_order.specs.net_design.declared.design.Driver.{Driver}
+use Rattle.net_design.specs.declared.design.Driver.{Driver}
 use Rattle.flat_drive.specs.flat_parts.Seats.{seats_of}
 use Rattle.flat_drive.specs.flat_parts.State.{all_regs, IsRegisterOf}
 use Rattle.vlog_design.proofs.Top.{has-top, some-instance}

@@ -1,4 +1,4 @@
-use Rattle.flat_drive.specs.vlog_tree.Plain.{plain}
+use Rattle.vlog_tree.specs.Plain.{plain}
 use Rattle.vlog_design.proofs.Joined.{own-drivers, own-blocks, whole}
 use Rattle.vlog_design.proofs.design.design_of.Goals as goal
 

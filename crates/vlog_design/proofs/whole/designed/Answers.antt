@@ -1,7 +1,7 @@
 use Rattle.std.proofs.Common.{◌≡◌, ℕ, List, subst, sym}
 use Rattle.flat_drive.specs.flat_parts.Instances.{HaveOwnPaths, AreDeclaredIn}
-use Rattle.flat_drive.specs.vlog_tree.Tree.{FileOf}
-use Rattle.flat_drive.specs.vlog_tree.Plain.{plain}
+use Rattle.vlog_tree.specs.Tree.{FileOf}
+use Rattle.vlog_tree.specs.Plain.{plain}
 use Rattle.flat_drive.specs.vlog_size.Table.{Named}
 use Rattle.flat_drive.specs.vlog_names.Entries.{Names, modules_of}
 use Rattle.flat_drive.specs.vlog_elab.Instances.{ModuleInstance, instances}

@@ -1,4 +1,4 @@
-use Rattle.flat_drive.specs.vlog_tree.Plain.{plain}
+use Rattle.vlog_tree.specs.Plain.{plain}
 use Rattle.vlog_design.proofs.Counted.{counted-ok}
 use Rattle.vlog_design.proofs.whole.elaborate.Goals as goal
 

@@ -1,6 +1,6 @@
 use Rattle.std.proofs.Common.{map, drop}
 use Rattle.std.specs.List.{AllByRecursion}
-use Rattle.vlog_latch.specs.vlog_tree.Plain.{plain_assign}
+use Rattle.vlog_tree.specs.Plain.{plain_assign}
 use Rattle.vlog_driver.specs.Sites.{site_of}
 use Rattle.vlog_driver.specs.Duties.{assign_duty, IsFaultlessAssign}
 use Rattle.vlog_driver.proofs.More.{Going}

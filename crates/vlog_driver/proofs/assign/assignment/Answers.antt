@@ -1,5 +1,5 @@
 use Rattle.std.proofs.Common.{max, ap, ◌∙◌}
-use Rattle.vlog_latch.specs.vlog_tree.Plain.{plain_expr, plain_target}
+use Rattle.vlog_tree.specs.Plain.{plain_expr, plain_target}
 use Rattle.vlog_latch.specs.vlog_block.Sources.{names_of}
 use Rattle.vlog_latch.specs.vlog_block.Targets.{target_width}
 use Rattle.vlog_driver.specs.Sites.{site_of}

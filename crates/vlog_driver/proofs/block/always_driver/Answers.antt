@@ -1,8 +1,8 @@
 use Rattle.std.proofs.Common.{◌≡◌, ◌↔◌, refl, sym, subst}
-use Rattle.vlog_latch.specs.vlog_tree.Plain.{plain_always}
-use Rattle.vlog_latch.specs.net_design.Updates.{run}
-use Rattle.vlog_latch.specs.net_design.Bits.{HasBits}
-use Rattle.vlog_latch.specs.net_design.Last.{HasLast}
+use Rattle.vlog_tree.specs.Plain.{plain_always}
+use Rattle.net_design.specs.Updates.{run}
+use Rattle.net_design.specs.Bits.{HasBits}
+use Rattle.net_design.specs.Last.{HasLast}
 use Rattle.vlog_latch.specs.vlog_block.Updates.{body_updates}
 use Rattle.vlog_driver.specs.Sites.{site_of, numbers_from}
 use Rattle.vlog_driver.proofs.block.always_driver.Goals as goal

@@ -1,6 +1,6 @@
 use Rattle.std.proofs.Common.{map, drop}
 use Rattle.std.specs.List.{AllByRecursion, flat_map}
-use Rattle.vlog_latch.specs.vlog_tree.Plain.{plain_conn}
+use Rattle.vlog_tree.specs.Plain.{plain_conn}
 use Rattle.vlog_driver.specs.Sites.{site_of}
 use Rattle.vlog_driver.specs.Duties.{conn_duties, IsFaultlessConn}
 use Rattle.vlog_driver.proofs.More.{Going}

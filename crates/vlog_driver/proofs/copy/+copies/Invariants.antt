@@ -1,5 +1,5 @@
 use Rattle.std.proofs.Common.{◌≡◌, ◌++◌, map, drop}
-use Rattle.vlog_latch.specs.vlog_tree.Plain.{plain_expr}
+use Rattle.vlog_tree.specs.Plain.{plain_expr}
 use Rattle.vlog_driver.proofs.copy.+copies.Given as goal
 
 abbrev pub invariant-copied_exprs-loop-e : goal.invariant-copied_exprs-loop-e

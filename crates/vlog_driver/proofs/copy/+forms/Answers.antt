@@ -1,5 +1,5 @@
 use Rattle.std.proofs.Common.{map, arith}
-use Rattle.vlog_latch.specs.vlog_tree.Plain.{plain_target}
+use Rattle.vlog_tree.specs.Plain.{plain_target}
 use Rattle.vlog_driver.proofs.Forms.{form_next, form_none, form_done}
 use Rattle.vlog_driver.proofs.copy.+forms.Goals as goal
 

@@ -1,4 +1,4 @@
-use Rattle.vlog_latch.specs.vlog_tree.Plain.{plain_always}
+use Rattle.vlog_tree.specs.Plain.{plain_always}
 use Rattle.vlog_latch.specs.vlog_block.Sources.{names_of}
 use Rattle.vlog_latch.specs.vlog_block.Updates.{timing_of, body_updates}
 use Rattle.vlog_latch.specs.vlog_block.Written.{always_writes, always_adds, always_reads}

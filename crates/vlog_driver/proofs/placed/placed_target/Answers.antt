@@ -1,4 +1,4 @@
-use Rattle.vlog_latch.specs.vlog_tree.Plain.{plain_target}
+use Rattle.vlog_tree.specs.Plain.{plain_target}
 use Rattle.vlog_latch.specs.vlog_block.Sources.{names_of}
 use Rattle.vlog_latch.specs.vlog_block.Targets.{target_updates}
 use Rattle.vlog_latch.specs.vlog_block.Written.{target_writes, target_adds, target_reads}

@@ -1,4 +1,4 @@
-use Rattle.vlog_latch.specs.vlog_tree.Plain.{plain_expr}
+use Rattle.vlog_tree.specs.Plain.{plain_expr}
 use Rattle.vlog_latch.specs.vlog_block.Sources.{names_of}
 use Rattle.vlog_latch.specs.vlog_block.Value.{value}
 use Rattle.vlog_latch.specs.vlog_block.Bits.{reads}

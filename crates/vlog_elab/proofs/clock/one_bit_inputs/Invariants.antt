@@ -1,5 +1,5 @@
 use Rattle.std.proofs.Common.{◌≡◌, ◌++◌, false, map, drop}
-use Rattle.vlog_hierarchy.specs.vlog_tree.Plain.{plain_port}
+use Rattle.vlog_tree.specs.Plain.{plain_port}
 use Rattle.vlog_hierarchy.specs.Plain.{plain_path}
 use Rattle.vlog_elab.specs.Clock.{one_bit_inputs}
 use Rattle.vlog_elab.proofs.clock.one_bit_inputs.Given as goal

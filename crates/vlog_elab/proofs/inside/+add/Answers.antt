@@ -2,7 +2,7 @@ use Rattle.std.proofs.Common.{List, map, ap, sym, ◌∙◌, ◌++◌, ◌-◌, 
 use Rattle.std.specs.List.{flat_map}
 use Rattle.std.proofs.lemmas.List.{length-map}
 use Rattle.std.proofs.lemmas.Result.{on_ok_weaker}
-use Rattle.vlog_hierarchy.specs.vlog_tree.Plain.{plain_item}
+use Rattle.vlog_tree.specs.Plain.{plain_item}
 use Rattle.vlog_elab.specs.Instances.{within}
 use Rattle.vlog_elab.specs.Inside.{children_at}
 use Rattle.vlog_elab.specs.Plain.{trees_in, plain_instance, plain_instances}

@@ -1,7 +1,7 @@
 use Rattle.std.proofs.Common.{◌+◌, ◌*◌, ◌++◌, map, drop}
 use Rattle.std.specs.Prelude.{slice_get}
 use Rattle.std.specs.List.{flat_map}
-use Rattle.vlog_hierarchy.specs.vlog_tree.Plain.{plain_item}
+use Rattle.vlog_tree.specs.Plain.{plain_item}
 use Rattle.vlog_elab.specs.Instances.{within}
 use Rattle.vlog_elab.specs.Inside.{children_past}
 use Rattle.vlog_elab.specs.Plain.{trees_in, plain_instances}

@@ -1,5 +1,5 @@
 use Rattle.std.proofs.lemmas.Result.{on_ok_weaker}
-use Rattle.vlog_hierarchy.specs.vlog_tree.Plain.{plain_item}
+use Rattle.vlog_tree.specs.Plain.{plain_item}
 use Rattle.vlog_elab.specs.Plain.{trees_in, listed, plain_instances}
 use Rattle.vlog_elab.proofs.Added.{no_child, child_here}
 use Rattle.vlog_elab.proofs.inside.add_child.Goals as goal

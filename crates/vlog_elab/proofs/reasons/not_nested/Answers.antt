@@ -1,6 +1,6 @@
 use Rattle.std.proofs.Common.{ℕ, map, subst, arith, Option}
 use Rattle.std.proofs.lemmas.List.{length-map}
-use Rattle.vlog_hierarchy.specs.vlog_tree.Plain.{plain_module}
+use Rattle.vlog_tree.specs.Plain.{plain_module}
 use Rattle.vlog_hierarchy.specs.Outlines.{place_of, outlines_of}
 use Rattle.vlog_hierarchy.specs.Nested.{IsNestedAnswer}
 use Rattle.vlog_elab.proofs.Firsts.{nested_there}

@@ -1,6 +1,6 @@
 use Rattle.std.proofs.Common.{◌≡◌, ◌++◌, map, drop}
 use Rattle.std.specs.List.{flat_map}
-use Rattle.vlog_size.specs.vlog_tree.Plain.{plain_item}
+use Rattle.vlog_tree.specs.Plain.{plain_item}
 use Rattle.vlog_hierarchy.specs.Clock.{item_ports}
 use Rattle.vlog_hierarchy.proofs.clock.add_scope_ports.Given as goal
 

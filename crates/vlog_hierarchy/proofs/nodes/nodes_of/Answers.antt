@@ -1,6 +1,6 @@
 use Rattle.std.proofs.Common.{◌≡◌, List, map, ap, ◌∙◌}
-use Rattle.vlog_size.specs.vlog_tree.Plain.{plain_module}
-use Rattle.vlog_size.specs.vlog_tree.declared.module.Module.{Module}
+use Rattle.vlog_tree.specs.Plain.{plain_module}
+use Rattle.vlog_tree.specs.declared.module.Module.{Module}
 use Rattle.vlog_hierarchy.specs.declared.nodes.Node as node
 use Rattle.vlog_hierarchy.specs.Outlines.{Outline, outlines_of}
 use Rattle.vlog_hierarchy.specs.Plain.{plain_outlines, plain_nodes}

@@ -1,6 +1,6 @@
 use Rattle.std.proofs.Common.{◌≡◌, ◌++◌, map, drop}
 use Rattle.std.specs.List.{flat_map}
-use Rattle.vlog_size.specs.vlog_tree.Plain.{plain_item, plain_module}
+use Rattle.vlog_tree.specs.Plain.{plain_item, plain_module}
 use Rattle.vlog_hierarchy.specs.Outlines.{item_children}
 use Rattle.vlog_hierarchy.specs.Plain.{plain_child}
 use Rattle.vlog_hierarchy.proofs.outline.children_of.Given as goal

@@ -1,6 +1,6 @@
 use Rattle.std.proofs.Common.{◌≡◌, ◌≤◌, ◌+◌, ◌*◌, ◌^◌, map, drop, length}
 use Rattle.std.specs.List.{sum_by}
-use Rattle.vlog_size.specs.vlog_tree.Plain.{plain_item}
+use Rattle.vlog_tree.specs.Plain.{plain_item}
 use Rattle.vlog_hierarchy.specs.Outlines.{item_nets}
 use Rattle.vlog_hierarchy.proofs.outline.net_count.Given as goal
 

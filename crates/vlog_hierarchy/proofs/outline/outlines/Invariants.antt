@@ -1,5 +1,5 @@
 use Rattle.std.proofs.Common.{◌≡◌, ◌++◌, map, drop}
-use Rattle.vlog_size.specs.vlog_tree.Plain.{plain_module}
+use Rattle.vlog_tree.specs.Plain.{plain_module}
 use Rattle.vlog_hierarchy.specs.Outlines.{outline_of}
 use Rattle.vlog_hierarchy.specs.Plain.{plain_outline}
 use Rattle.vlog_hierarchy.proofs.outline.outlines.Given as goal

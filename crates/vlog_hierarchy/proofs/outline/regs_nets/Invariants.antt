@@ -1,6 +1,6 @@
 use Rattle.std.proofs.Common.{◌≡◌, ◌≤◌, ◌+◌, map, drop}
 use Rattle.std.specs.List.{sum_by}
-use Rattle.vlog_size.specs.vlog_tree.Plain.{plain_reg}
+use Rattle.vlog_tree.specs.Plain.{plain_reg}
 use Rattle.vlog_hierarchy.specs.Outlines.{reg_nets}
 use Rattle.vlog_hierarchy.proofs.outline.regs_nets.Given as goal
 

@@ -2,7 +2,7 @@ use Rattle.std.proofs.Common.{◌≡◌, ℕ, nat_eq, List, map, drop}
 use Rattle.std.specs.Cmp.Lexicographic.{pointwise}
 use Rattle.indexmap.specs.IndexMap.{get_by}
 use Rattle.vlog_size.specs.vidi_bits.Findings.{or_first}
-use Rattle.vlog_size.specs.vlog_tree.Plain.{plain_module}
+use Rattle.vlog_tree.specs.Plain.{plain_module}
 use Rattle.vlog_hierarchy.specs.Outlines.{place_from, place_of}
 use Rattle.vlog_hierarchy.proofs.places.places_of.Given as goal
 

@@ -1,5 +1,5 @@
 use Rattle.std.proofs.Common.{◌≡◌, drop}
-use Rattle.vlog_size.specs.vlog_tree.Plain.{plain_exprs}
+use Rattle.vlog_tree.specs.Plain.{plain_exprs}
 use Rattle.vlog_hierarchy.specs.Clock.{exprs_faults}
 use Rattle.vlog_hierarchy.proofs.reads.+exprs.Given as goal
 

@@ -1,5 +1,5 @@
 use Rattle.std.proofs.Common.{◌≡◌, drop}
-use Rattle.vlog_size.specs.vlog_tree.Plain.{plain_stmts, plain_arms}
+use Rattle.vlog_tree.specs.Plain.{plain_stmts, plain_arms}
 use Rattle.vlog_hierarchy.specs.Clock.{stmts_faults, arms_faults}
 use Rattle.vlog_hierarchy.proofs.reads.+stmts.Given as goal
 

@@ -1,5 +1,5 @@
 use Rattle.std.proofs.Common.{◌≡◌, drop}
-use Rattle.vlog_size.specs.vlog_tree.Plain.{plain_targets}
+use Rattle.vlog_tree.specs.Plain.{plain_targets}
 use Rattle.vlog_hierarchy.specs.Clock.{targets_faults}
 use Rattle.vlog_hierarchy.proofs.reads.+targets.Given as goal
 

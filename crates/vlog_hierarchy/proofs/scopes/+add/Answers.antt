@@ -1,6 +1,6 @@
 use Rattle.std.proofs.Common.{◌≡◌, None, List, refl, ap, ◌∙◌, slice_get}
 use Rattle.std.proofs.lemmas.Option.{slice_get_past}
-use Rattle.vlog_size.specs.vlog_tree.Plain.{plain_instance}
+use Rattle.vlog_tree.specs.Plain.{plain_instance}
 use Rattle.vlog_hierarchy.specs.declared.scopes.Scope.{Scope}
 use Rattle.vlog_hierarchy.specs.Outlines.{children_at}
 use Rattle.vlog_hierarchy.specs.Plain.{plain_outlines}

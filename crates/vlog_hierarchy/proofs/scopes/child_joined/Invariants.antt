@@ -1,5 +1,5 @@
 use Rattle.std.proofs.Common.{◌≡◌, [], map, drop}
-use Rattle.vlog_size.specs.vlog_tree.Plain.{plain_conn}
+use Rattle.vlog_tree.specs.Plain.{plain_conn}
 use Rattle.vlog_hierarchy.specs.Clock.{conns_joined}
 use Rattle.vlog_hierarchy.proofs.scopes.child_joined.Given as goal
 

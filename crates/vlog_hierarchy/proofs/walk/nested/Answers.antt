@@ -1,6 +1,6 @@
 use Rattle.std.proofs.Common.{◌≡◌, List, map, length, ap, sym, subst, ◌∙◌, arith}
 use Rattle.std.proofs.lemmas.List.{length-map}
-use Rattle.vlog_size.specs.vlog_tree.Plain.{plain_module}
+use Rattle.vlog_tree.specs.Plain.{plain_module}
 use Rattle.vlog_hierarchy.specs.Outlines.{Outline, outlines_of}
 use Rattle.vlog_hierarchy.specs.Plain.{plain_outline, plain_outlines}
 use Rattle.vlog_hierarchy.specs.Reach.{IsClosed}

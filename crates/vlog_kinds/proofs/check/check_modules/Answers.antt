@@ -1,5 +1,5 @@
 use Rattle.std.proofs.Common.{map}
-use Rattle.vlog_names.specs.vlog_tree.Plain.{plain_module}
+use Rattle.vlog_tree.specs.Plain.{plain_module}
 use Rattle.vlog_names.proofs.Places.{declares}
 use Rattle.vlog_kinds.proofs.check.check_modules.Goals as goal
 

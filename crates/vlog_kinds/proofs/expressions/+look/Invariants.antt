@@ -1,5 +1,5 @@
 use Rattle.std.proofs.Common.{◌≡◌, drop}
-use Rattle.vlog_names.specs.vlog_tree.Plain.{plain_exprs}
+use Rattle.vlog_tree.specs.Plain.{plain_exprs}
 use Rattle.vlog_names.specs.Kinds.{at_names_of_all}
 use Rattle.vlog_kinds.specs.Selects.{sought_at}
 use Rattle.vlog_kinds.proofs.expressions.+look.Given as goal

@@ -1,5 +1,5 @@
 use Rattle.std.proofs.Common.{◌≡◌, drop, false}
-use Rattle.vlog_names.specs.vlog_tree.Plain.{plain_stmts, plain_arms}
+use Rattle.vlog_tree.specs.Plain.{plain_stmts, plain_arms}
 use Rattle.vlog_kinds.specs.Uses.{in_stmts, in_arms}
 use Rattle.vlog_kinds.proofs.statements.+check_stmts.Given as goal
 

@@ -1,5 +1,5 @@
 use Rattle.std.proofs.Common.{◌≡◌, drop}
-use Rattle.vlog_names.specs.vlog_tree.Plain.{plain_targets}
+use Rattle.vlog_tree.specs.Plain.{plain_targets}
 use Rattle.vlog_kinds.specs.Uses.{in_all_stored}
 use Rattle.vlog_kinds.proofs.targets.+stored.Given as goal
 

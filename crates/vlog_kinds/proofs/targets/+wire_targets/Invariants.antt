@@ -1,5 +1,5 @@
 use Rattle.std.proofs.Common.{◌≡◌, drop}
-use Rattle.vlog_names.specs.vlog_tree.Plain.{plain_exprs}
+use Rattle.vlog_tree.specs.Plain.{plain_exprs}
 use Rattle.vlog_kinds.specs.Selects.{are_wire_targets}
 use Rattle.vlog_kinds.proofs.targets.+wire_targets.Given as goal
 

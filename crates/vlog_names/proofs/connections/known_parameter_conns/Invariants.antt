@@ -1,6 +1,6 @@
 use Rattle.std.proofs.Common.{◌≡◌, drop, map}
 use Rattle.std.specs.List.{flat_map}
-use Rattle.vlog_size.specs.vlog_tree.Plain.{plain_conn}
+use Rattle.vlog_tree.specs.Plain.{plain_conn}
 use Rattle.vlog_names.specs.Unknown.{unknown_parameter_conn}
 use Rattle.vlog_names.proofs.connections.known_parameter_conns.Given as goal
 

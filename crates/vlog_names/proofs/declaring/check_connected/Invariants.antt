@@ -1,5 +1,5 @@
 use Rattle.std.proofs.Common.{◌≡◌, drop, map}
-use Rattle.vlog_size.specs.vlog_tree.Plain.{plain_conn}
+use Rattle.vlog_tree.specs.Plain.{plain_conn}
 use Rattle.vlog_names.specs.Twice.{twice_among, twice_connected, conn_entry}
 use Rattle.vlog_names.proofs.declaring.check_connected.Given as goal
 

@@ -1,6 +1,6 @@
 use Rattle.std.proofs.Common.{◌≡◌, ◌++◌, drop, map}
 use Rattle.std.specs.List.{flat_map}
-use Rattle.vlog_size.specs.vlog_tree.Plain.{plain_item}
+use Rattle.vlog_tree.specs.Plain.{plain_item}
 use Rattle.vlog_names.specs.Entries.{item_entries}
 use Rattle.vlog_names.specs.Twice.{twice_items}
 use Rattle.vlog_names.proofs.declaring.declare_items.Given as goal

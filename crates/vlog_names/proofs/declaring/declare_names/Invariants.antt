@@ -1,5 +1,5 @@
 use Rattle.std.proofs.Common.{◌≡◌, ◌++◌, drop, map}
-use Rattle.vlog_size.specs.vlog_tree.Plain.{plain_ident}
+use Rattle.vlog_tree.specs.Plain.{plain_ident}
 use Rattle.vlog_names.specs.Entries.{ident_entry}
 use Rattle.vlog_names.specs.Twice.{twice_among}
 use Rattle.vlog_names.proofs.declaring.declare_names.Given as goal

@@ -1,5 +1,5 @@
 use Rattle.std.proofs.Common.{◌≡◌, ◌++◌, drop, map}
-use Rattle.vlog_size.specs.vlog_tree.Plain.{plain_port}
+use Rattle.vlog_tree.specs.Plain.{plain_port}
 use Rattle.vlog_names.specs.Entries.{port_entries, no_port}
 use Rattle.vlog_names.specs.Twice.{twice_among}
 use Rattle.vlog_names.proofs.declaring.declare_ports.Given as goal

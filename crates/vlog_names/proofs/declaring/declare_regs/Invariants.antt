@@ -1,5 +1,5 @@
 use Rattle.std.proofs.Common.{◌≡◌, ◌++◌, drop, map}
-use Rattle.vlog_size.specs.vlog_tree.Plain.{plain_reg}
+use Rattle.vlog_tree.specs.Plain.{plain_reg}
 use Rattle.vlog_names.specs.Entries.{reg_entry}
 use Rattle.vlog_names.specs.Twice.{twice_among}
 use Rattle.vlog_names.proofs.declaring.declare_regs.Given as goal

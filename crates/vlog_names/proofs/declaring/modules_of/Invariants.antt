@@ -1,5 +1,5 @@
 use Rattle.std.proofs.Common.{◌≡◌, ◌++◌, [], drop, map}
-use Rattle.vlog_size.specs.vlog_tree.Plain.{plain_module}
+use Rattle.vlog_tree.specs.Plain.{plain_module}
 use Rattle.vlog_names.specs.Entries.{module_entry}
 use Rattle.vlog_names.specs.Twice.{twice_modules}
 use Rattle.vlog_names.proofs.declaring.modules_of.Given as goal

@@ -1,5 +1,5 @@
 use Rattle.std.proofs.Common.{◌≡◌, drop}
-use Rattle.vlog_size.specs.vlog_tree.Plain.{plain_exprs}
+use Rattle.vlog_tree.specs.Plain.{plain_exprs}
 use Rattle.vlog_size.specs.Kinds.{at_names_of_all}
 use Rattle.vlog_names.specs.Unknown.{unknown_at}
 use Rattle.vlog_names.proofs.expressions.+known.Given as goal

@@ -1,6 +1,6 @@
 use Rattle.std.proofs.Common.{◌≡◌, drop, map}
 use Rattle.std.specs.List.{flat_map}
-use Rattle.vlog_size.specs.vlog_tree.Plain.{plain_expr}
+use Rattle.vlog_tree.specs.Plain.{plain_expr}
 use Rattle.vlog_names.specs.Unknown.{unknown_expr}
 use Rattle.vlog_names.proofs.expressions.known_labels.Given as goal
 

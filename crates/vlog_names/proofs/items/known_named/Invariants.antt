@@ -1,6 +1,6 @@
 use Rattle.std.proofs.Common.{◌≡◌, drop, map}
 use Rattle.std.specs.List.{flat_map}
-use Rattle.vlog_size.specs.vlog_tree.Plain.{plain_named}
+use Rattle.vlog_tree.specs.Plain.{plain_named}
 use Rattle.vlog_names.specs.Unknown.{unknown_named}
 use Rattle.vlog_names.proofs.items.known_named.Given as goal
 

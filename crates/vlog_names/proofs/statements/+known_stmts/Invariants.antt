@@ -1,5 +1,5 @@
 use Rattle.std.proofs.Common.{◌≡◌, drop}
-use Rattle.vlog_size.specs.vlog_tree.Plain.{plain_stmts, plain_arms}
+use Rattle.vlog_tree.specs.Plain.{plain_stmts, plain_arms}
 use Rattle.vlog_names.specs.Unknown.{unknown_stmts, unknown_arms}
 use Rattle.vlog_names.proofs.statements.+known_stmts.Given as goal
 

@@ -1,5 +1,5 @@
 use Rattle.std.proofs.Common.{◌≡◌, drop}
-use Rattle.vlog_size.specs.vlog_tree.Plain.{plain_targets}
+use Rattle.vlog_tree.specs.Plain.{plain_targets}
 use Rattle.vlog_names.specs.Unknown.{unknown_targets}
 use Rattle.vlog_names.proofs.statements.+known_targets.Given as goal
 

@@ -1,7 +1,7 @@
 use Rattle.std.proofs.Common.{rules, arith, ◌-◌, List, map, sym, ap, ◌∙◌}
-use Rattle.vlog_item.specs.vlog_tree.declared.module.Item.{Item}
-use Rattle.vlog_item.specs.vlog_tree.Tree.{ItemOf}
-use Rattle.vlog_item.specs.vlog_tree.Plain.{plain_item}
+use Rattle.vlog_tree.specs.declared.module.Item.{Item}
+use Rattle.vlog_tree.specs.Tree.{ItemOf}
+use Rattle.vlog_tree.specs.Plain.{plain_item}
 use Rattle.vlog_item.specs.vlog_expr.Marks.{all_marked}
 use Rattle.vlog_parse.specs.FileReader.{items_at}
 use Rattle.vlog_parse.proofs.Maps.{items_snoc}

@@ -1,5 +1,5 @@
 use Rattle.std.proofs.Common.{◌≡◌, ◌≤◌, [], map}
-use Rattle.vlog_item.specs.vlog_tree.Plain.{plain_item}
+use Rattle.vlog_tree.specs.Plain.{plain_item}
 use Rattle.vlog_item.specs.vlog_expr.Marks.{all_marked}
 use Rattle.vlog_parse.specs.FileReader.{items_at}
 use Rattle.vlog_parse.proofs.module.items_of.Given as goal

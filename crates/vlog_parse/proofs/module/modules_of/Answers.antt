@@ -1,7 +1,7 @@
 use Rattle.std.proofs.Common.{rules, arith, ◌-◌, List, map, sym, ap, ◌∙◌}
-use Rattle.vlog_item.specs.vlog_tree.declared.module.Module.{Module}
-use Rattle.vlog_item.specs.vlog_tree.Tree.{ModuleOf}
-use Rattle.vlog_item.specs.vlog_tree.Plain.{plain_module}
+use Rattle.vlog_tree.specs.declared.module.Module.{Module}
+use Rattle.vlog_tree.specs.Tree.{ModuleOf}
+use Rattle.vlog_tree.specs.Plain.{plain_module}
 use Rattle.vlog_item.specs.vlog_expr.Marks.{all_marked}
 use Rattle.vlog_parse.specs.FileReader.{modules_at}
 use Rattle.vlog_parse.proofs.Maps.{modules_snoc}

@@ -1,7 +1,7 @@
 use Rattle.std.proofs.Common.{◌≡◌, Result, Ok, Err, subst, sym, ◌∙◌}
 use Rattle.std.specs.Prelude.{IfOk}
-use Rattle.vlog_parse.specs.vlog_tree.Plain.{plain}
-use Rattle.vlog_parse.specs.vlog_tree.Spelling.{toks}
+use Rattle.vlog_tree.specs.Plain.{plain}
+use Rattle.vlog_tree.specs.Spelling.{toks}
 use Rattle.vlog_print.specs.Printed.{printed, IsTextOf}
 use Rattle.vlog_print.proofs.printing.print.Goals as goal
 

@@ -1,5 +1,5 @@
 use Rattle.std.proofs.Common.{sym, ◌∙◌}
-use Rattle.vlog_size.specs.vlog_tree.Plain.{plain_module}
+use Rattle.vlog_tree.specs.Plain.{plain_module}
 use Rattle.vlog_scope.proofs.EitherFaults.{ok_then, ok_where}
 use Rattle.vlog_scope.proofs.faults.is_faultless.Goals as goal
 

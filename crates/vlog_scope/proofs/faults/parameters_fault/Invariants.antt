@@ -1,5 +1,5 @@
 use Rattle.std.proofs.Common.{◌≡◌, drop, map}
-use Rattle.vlog_size.specs.vlog_tree.Plain.{plain_parameter}
+use Rattle.vlog_tree.specs.Plain.{plain_parameter}
 use Rattle.vlog_scope.specs.Faults.{parameters_faults}
 use Rattle.vlog_scope.proofs.faults.parameters_fault.Given as goal
 

@@ -1,5 +1,5 @@
 use Rattle.std.proofs.Common.{◌≡◌, drop, map}
-use Rattle.vlog_size.specs.vlog_tree.Plain.{plain_port}
+use Rattle.vlog_tree.specs.Plain.{plain_port}
 use Rattle.vlog_size.specs.Names.{readable_in}
 use Rattle.vlog_scope.specs.Faults.{ports_faults}
 use Rattle.vlog_scope.proofs.faults.ports_fault.Given as goal

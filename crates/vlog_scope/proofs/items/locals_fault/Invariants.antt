@@ -1,5 +1,5 @@
 use Rattle.std.proofs.Common.{◌≡◌, drop, map}
-use Rattle.vlog_size.specs.vlog_tree.Plain.{plain_named}
+use Rattle.vlog_tree.specs.Plain.{plain_named}
 use Rattle.vlog_scope.specs.Faults.{local_faults}
 use Rattle.vlog_scope.proofs.items.locals_fault.Given as goal
 

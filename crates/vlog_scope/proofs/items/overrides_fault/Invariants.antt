@@ -1,6 +1,6 @@
 use Rattle.std.proofs.Common.{◌≡◌, drop, map}
 use Rattle.std.specs.List.{flat_map}
-use Rattle.vlog_size.specs.vlog_tree.Plain.{plain_conn}
+use Rattle.vlog_tree.specs.Plain.{plain_conn}
 use Rattle.vlog_size.specs.Names.{readable_in}
 use Rattle.vlog_scope.specs.Faults.{override_faults}
 use Rattle.vlog_scope.proofs.items.overrides_fault.Given as goal

@@ -1,6 +1,6 @@
 use Rattle.std.proofs.Common.{◌≡◌, drop, map}
 use Rattle.std.specs.List.{flat_map}
-use Rattle.vlog_size.specs.vlog_tree.Plain.{plain_reg}
+use Rattle.vlog_tree.specs.Plain.{plain_reg}
 use Rattle.vlog_size.specs.Names.{readable_in}
 use Rattle.vlog_scope.specs.Faults.{reg_faults}
 use Rattle.vlog_scope.proofs.items.regs_fault.Given as goal

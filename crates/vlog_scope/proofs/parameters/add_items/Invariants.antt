@@ -1,5 +1,5 @@
 use Rattle.std.proofs.Common.{◌≡◌, drop, map}
-use Rattle.vlog_size.specs.vlog_tree.Plain.{plain_item}
+use Rattle.vlog_tree.specs.Plain.{plain_item}
 use Rattle.vlog_scope.specs.Params.{items_params}
 use Rattle.vlog_scope.proofs.parameters.add_items.Given as goal
 

@@ -1,5 +1,5 @@
 use Rattle.std.proofs.Common.{◌≡◌, drop, map}
-use Rattle.vlog_size.specs.vlog_tree.Plain.{plain_named}
+use Rattle.vlog_tree.specs.Plain.{plain_named}
 use Rattle.vlog_scope.specs.Params.{local_params}
 use Rattle.vlog_scope.proofs.parameters.add_locals.Given as goal
 

@@ -1,5 +1,5 @@
 use Rattle.std.proofs.Common.{◌≡◌, drop, map}
-use Rattle.vlog_size.specs.vlog_tree.Plain.{plain_parameter}
+use Rattle.vlog_tree.specs.Plain.{plain_parameter}
 use Rattle.vlog_scope.specs.Params.{header_params}
 use Rattle.vlog_scope.specs.Given.{given_in}
 use Rattle.vlog_scope.proofs.parameters.add_parameters.Given as goal

@@ -1,5 +1,5 @@
 use Rattle.std.proofs.Common.{◌≡◌, drop, map, []}
-use Rattle.vlog_size.specs.vlog_tree.Plain.{plain_conn}
+use Rattle.vlog_tree.specs.Plain.{plain_conn}
 use Rattle.vlog_size.specs.Names.{Readable, fixed}
 use Rattle.vlog_scope.specs.Params.{overrides_after}
 use Rattle.vlog_scope.specs.Given.{sizes_in}

@@ -1,5 +1,5 @@
 use Rattle.std.proofs.Common.{◌≡◌, drop, map}
-use Rattle.vlog_size.specs.vlog_tree.Plain.{plain_named}
+use Rattle.vlog_tree.specs.Plain.{plain_named}
 use Rattle.vlog_scope.specs.Scope.{after_names}
 use Rattle.vlog_scope.proofs.scope.after_names.Given as goal
 

@@ -1,5 +1,5 @@
 use Rattle.std.proofs.Common.{◌≡◌, drop}
-use Rattle.vlog_size.specs.vlog_tree.Plain.{plain_stmts, plain_arms}
+use Rattle.vlog_tree.specs.Plain.{plain_stmts, plain_arms}
 use Rattle.vlog_size.specs.Names.{readable_in}
 use Rattle.vlog_scope.specs.Faults.{stmts_faults, arms_faults}
 use Rattle.vlog_scope.proofs.statements.+statements.Given as goal

@@ -1,8 +1,8 @@
 use Rattle.std.proofs.Common.{rules, arith, ◌-◌, List, map, sym, ap, ◌∙◌}
-use Rattle.vlog_expr.specs.vlog_tree.declared.stmt.Stmt.{Stmt}
-use Rattle.vlog_expr.specs.vlog_tree.declared.stmt.Arm.{Arm}
-use Rattle.vlog_expr.specs.vlog_tree.Tree.{StmtOf, ArmOf}
-use Rattle.vlog_expr.specs.vlog_tree.Plain.{plain_stmt, plain_arm}
+use Rattle.vlog_tree.specs.declared.stmt.Stmt.{Stmt}
+use Rattle.vlog_tree.specs.declared.stmt.Arm.{Arm}
+use Rattle.vlog_tree.specs.Tree.{StmtOf, ArmOf}
+use Rattle.vlog_tree.specs.Plain.{plain_stmt, plain_arm}
 use Rattle.vlog_expr.specs.Marks.{all_marked}
 use Rattle.vlog_stmt.specs.StmtReader.{stmts_at, arms_at}
 use Rattle.vlog_stmt.proofs.Maps.{stmts_snoc, arms_snoc}

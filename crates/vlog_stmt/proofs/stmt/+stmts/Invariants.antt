@@ -1,5 +1,5 @@
 use Rattle.std.proofs.Common.{◌≡◌, ◌≤◌, ◌+◌, ◌*◌, [], map}
-use Rattle.vlog_expr.specs.vlog_tree.Plain.{plain_stmt, plain_arm}
+use Rattle.vlog_tree.specs.Plain.{plain_stmt, plain_arm}
 use Rattle.vlog_expr.specs.Marks.{all_marked}
 use Rattle.vlog_stmt.specs.StmtReader.{stmts_at, arms_at}
 use Rattle.vlog_stmt.proofs.stmt.+stmts.Given as goal

@@ -1,5 +1,5 @@
-use Rattle.vlog_print.specs.vlog_tree.Plain.{plain}
-use Rattle.vlog_print.specs.vlog_tree.Spelling.{toks}
+use Rattle.vlog_tree.specs.Plain.{plain}
+use Rattle.vlog_tree.specs.Spelling.{toks}
 use Rattle.vlog_print.specs.vlog_parse.Parsing.{Refuses}
 use Rattle.vlog_print.specs.vlog_parse.declared.error.ParseError.TheVariants.{Item}
 use Rattle.wrap_command.proofs.Spelled.{never_item}

@@ -1,5 +1,5 @@
 use Rattle.std.proofs.Common.{inl, inr}
-use Rattle.vlog_print.specs.vlog_tree.Plain.{plain}
+use Rattle.vlog_tree.specs.Plain.{plain}
 use Rattle.wrap_command.specs.Shims.{IsFaultyTop, IsLoopedTop, IsRefusedTop}
 use Rattle.vidi_bench.proofs.Chain.{all-as, passed-as}
 use Rattle.wrap_command.proofs.shims.check_top.Goals as goal

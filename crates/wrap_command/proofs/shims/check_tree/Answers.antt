@@ -1,5 +1,5 @@
 use Rattle.std.proofs.Common.{inl, inr}
-use Rattle.vlog_print.specs.vlog_tree.Plain.{plain}
+use Rattle.vlog_tree.specs.Plain.{plain}
 use Rattle.shim_gen.specs.shim_trees.RecordTop.{record_name}
 use Rattle.shim_gen.specs.shim_trees.ReplayTop.{replay_name}
 use Rattle.wrap_command.specs.Shims.{IsDeepTree, IsFaultyTop, IsFaultyTree}

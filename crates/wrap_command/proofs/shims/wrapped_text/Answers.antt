@@ -1,5 +1,5 @@
 use Rattle.std.proofs.Common.{inl}
-use Rattle.vlog_print.specs.vlog_tree.Plain.{plain}
+use Rattle.vlog_tree.specs.Plain.{plain}
 use Rattle.wrap_command.specs.Shims.{IsFaultyTree, IsLong, IsReserved, IsUnwrapped}
 use Rattle.vidi_bench.proofs.Chain.{all-as, passed-as}
 use Rattle.wrap_command.proofs.Spelled.{faulty-unwrapped, long-unwrapped, text-said, wrapped-ok}

@@ -1,7 +1,7 @@
 use Rattle.std.proofs.Common.{ℕ, sym, subst}
-use Rattle.vlog_print.specs.vlog_tree.Plain.{plain}
-use Rattle.vlog_print.specs.vlog_tree.Shape.{IsGood}
-use Rattle.vlog_print.specs.vlog_tree.Tree.{FileOf}
+use Rattle.vlog_tree.specs.Plain.{plain}
+use Rattle.vlog_tree.specs.Shape.{IsGood}
+use Rattle.vlog_tree.specs.Tree.{FileOf}
 use Rattle.wrap_command.proofs.shims.wrapped_tree.Goals as goal
 
 pub returns-in-Ok-clause-good : goal.returns-in-Ok-clause-good

@@ -1,4 +1,4 @@
-use Rattle.vlog_print.specs.vlog_tree.Plain.{plain}
+use Rattle.vlog_tree.specs.Plain.{plain}
 use Rattle.vidi_bench.specs.Design.{Building}
 use Rattle.vidi_bench.specs.Devices.{Binding}
 use Rattle.vidi_bench.specs.Steps.{Never}

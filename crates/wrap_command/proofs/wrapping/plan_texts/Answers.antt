@@ -1,5 +1,5 @@
 use Rattle.std.proofs.Common.{inl, inr}
-use Rattle.vlog_print.specs.vlog_tree.Plain.{plain}
+use Rattle.vlog_tree.specs.Plain.{plain}
 use Rattle.vidi_bench.specs.Design.{Building, IsNoText}
 use Rattle.vidi_bench.specs.Devices.{Binding, IsNoMap}
 use Rattle.wrap_command.specs.Shims.{IsUnwrapped}

@@ -1,5 +1,5 @@
 use Rattle.std.proofs.Common.{Some, length, ap, sym, subst, ◌∙◌}
-use Rattle.run_model.specs.net_design.declared.design.Design.{Design}
+use Rattle.net_design.specs.declared.design.Design.{Design}
 use Rattle.run_model.specs.MapOf.{IsMapOf}
 use Rattle.chan_monitor.specs.Around.{AreHeld, AreMonitors}
 use Rattle.chan_monitor.proofs.Known.{around-driven, flying, known-held, known-many, known-ready, monitored, runs-on}

@@ -1,10 +1,10 @@
 use Rattle.std.proofs.Common.{◌<◌, List, All, length, sym, subst, ◌∙◌, arith}
 use Rattle.std.proofs.lemmas.List.{length-map}
 use Rattle.std.proofs.lemmas.Option.{slice_get_within}
-use Rattle.net_order.specs.net_design.Names.{AreAfterParents}
-use Rattle.net_order.specs.net_design.declared.design.Instance.{Instance}
-use Rattle.net_order.specs.net_design.declared.design.Net.{Net}
-use Rattle.net_order.specs.net_design.Settled.{word_count}
+use Rattle.net_design.specs.Names.{AreAfterParents}
+use Rattle.net_design.specs.declared.design.Instance.{Instance}
+use Rattle.net_design.specs.declared.design.Net.{Net}
+use Rattle.net_design.specs.Settled.{word_count}
 use Rattle.net_order.proofs.Known.{known_parents, known_instances}
 use Rattle.net_instr.proofs.Views.{net_at}
 use Rattle.net_instr.specs.InPlace.{through}

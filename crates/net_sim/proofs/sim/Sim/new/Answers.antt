@@ -1,15 +1,15 @@
 use Rattle.std.proofs.Common.{◌≡◌, ℕ, ◌<◌, List, All, take, drop, reverse, replicate, length, ap, sym, subst, ◌∙◌, arith}
-use Rattle.net_order.specs.net_design.declared.design.Instance.{Instance}
-use Rattle.net_order.specs.net_design.declared.design.Net.{Net}
-use Rattle.net_order.specs.net_design.declared.design.Port.{Port}
-use Rattle.net_order.specs.net_design.declared.design.Direction.TheVariants.{Input, Output}
+use Rattle.net_design.specs.declared.design.Instance.{Instance}
+use Rattle.net_design.specs.declared.design.Net.{Net}
+use Rattle.net_design.specs.declared.design.Port.{Port}
+use Rattle.net_design.specs.declared.design.Direction.TheVariants.{Input, Output}
 use Rattle.net_instr.specs.Machine.{AreBelow}
 use Rattle.net_sim.specs.Places.{port_places}
 use Rattle.net_sim.specs.Slots.{settling_code, clocking_code, span_of}
 use Rattle.net_order.proofs.Known.{known_parents, known_instances}
 use Rattle.net_sim.proofs.TableLaws.{table_named}
 use Rattle.std.proofs.lemmas.List.{length-replicate}
-use Rattle.net_order.specs.net_design.Names.{AreAfterParents}
+use Rattle.net_design.specs.Names.{AreAfterParents}
 use Rattle.net_instr.specs.InPlace.{through, IsInPlace}
 use Rattle.net_instr.proofs.InPlaceLaws.{seen_long}
 use Rattle.net_sim.proofs.SeenLaws.{few_places, seen_state, seen_front, seen_zeros}

@@ -1,8 +1,8 @@
 use Rattle.std.proofs.Common.{ℕ, ◌<◌, List, length, slice_index, ap, sym, ◌∙◌, refl, arith}
 use Rattle.std.proofs.lemmas.List.{length-map, length-take-le}
-use Rattle.net_order.specs.net_design.declared.design.Net.{Net}
-use Rattle.net_order.specs.net_design.declared.design.Direction.TheVariants.{Output}
-use Rattle.net_order.specs.net_design.Settled.{word_count}
+use Rattle.net_design.specs.declared.design.Net.{Net}
+use Rattle.net_design.specs.declared.design.Direction.TheVariants.{Output}
+use Rattle.net_design.specs.Settled.{word_count}
 use Rattle.net_order.proofs.Known.{known_ports}
 use Rattle.net_instr.proofs.Views.{net_at}
 use Rattle.net_sim.specs.Places.{port_places}

@@ -1,5 +1,5 @@
 use Rattle.std.proofs.Common.{ℕ, List, All, refl, ap, sym, subst, ◌∙◌, arith}
-use Rattle.net_order.specs.net_design.Pins.{FitPins}
+use Rattle.net_design.specs.Pins.{FitPins}
 use Rattle.net_order.specs.Run.{settled_by}
 use Rattle.net_instr.specs.declared.instr.Instr.{Instr}
 use Rattle.net_instr.specs.Machine.{IsInstr}

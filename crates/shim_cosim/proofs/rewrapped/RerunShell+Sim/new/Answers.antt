@@ -1,6 +1,6 @@
 use Rattle.std.proofs.Common.{[], arith, length, ap, ◌∙◌, ℕ}
 use Rattle.std.proofs.lemmas.List.{length-replicate}
-use Rattle.net_sim.specs.net_design.Settled.{initial}
+use Rattle.net_design.specs.Settled.{initial}
 use Rattle.shim_cosim.specs.Rewrapped.{outputs_count}
 use Rattle.shim_cosim.proofs.Rerun.{new_runs}
 use Rattle.shim_cosim.proofs.rewrapped.RerunShell+Sim.new.Goals as goal

@@ -1,6 +1,6 @@
 use Rattle.std.proofs.Common.{◌≡◌, ◌++◌, length, take, ap, ◌∙◌}
-use Rattle.net_sim.specs.net_design.declared.design.Design.{Design}
-use Rattle.net_sim.specs.net_design.Pins.{outputs, output_count}
+use Rattle.net_design.specs.declared.design.Design.{Design}
+use Rattle.net_design.specs.Pins.{outputs, output_count}
 use Rattle.replay_run.proofs.chan_monitor_lemmas.RowOfCycle.{refill-is}
 use Rattle.shim_cosim.specs.Rewrapped.{feed_inputs}
 use Rattle.shim_cosim.proofs.Recalls as calls

@@ -1,5 +1,5 @@
 use Rattle.std.proofs.Common.{arith, subst, sym}
-use Rattle.net_sim.specs.net_design.Pins.{FitPins}
+use Rattle.net_design.specs.Pins.{FitPins}
 use Rattle.shim_cosim.proofs.Recalls as calls
 use Rattle.shim_cosim.proofs.Rerun.{known_resets}
 use Rattle.shim_cosim.proofs.rewrapped.RerunShellReplayShell.reset.Goals as goal

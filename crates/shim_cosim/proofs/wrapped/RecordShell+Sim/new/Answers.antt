@@ -1,5 +1,5 @@
 use Rattle.std.proofs.Common.{None}
-use Rattle.net_sim.specs.net_design.Settled.{initial}
+use Rattle.net_design.specs.Settled.{initial}
 use Rattle.shim_cosim.proofs.Calls.{new_runs}
 use Rattle.shim_cosim.proofs.wrapped.RecordShell+Sim.new.Goals as goal
 

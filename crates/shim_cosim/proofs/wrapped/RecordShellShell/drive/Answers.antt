@@ -1,5 +1,5 @@
 use Rattle.std.proofs.Common.{◌≤◌, ◌++◌, length, take, refl, ap, sym, subst, ◌∙◌}
-use Rattle.net_sim.specs.net_design.Pins.{output_count}
+use Rattle.net_design.specs.Pins.{output_count}
 use Rattle.replay_run.specs.chan_monitor.Entering.{offered}
 use Rattle.shim_cosim.specs.Recorded.{row_inputs, outputs_count}
 use Rattle.shim_cosim.proofs.Calls as calls

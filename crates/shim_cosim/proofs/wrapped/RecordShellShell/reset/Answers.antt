@@ -1,5 +1,5 @@
 use Rattle.std.proofs.Common.{None, subst, sym}
-use Rattle.net_sim.specs.net_design.Pins.{FitPins}
+use Rattle.net_design.specs.Pins.{FitPins}
 use Rattle.shim_cosim.proofs.Calls as calls
 use Rattle.shim_cosim.proofs.Shells.{known_reset, runs_on}
 use Rattle.shim_cosim.specs.Recording.{IsRecording}

@@ -1,6 +1,6 @@
 use Rattle.std.proofs.Common.{◌↔◌, drop}
-use Rattle.vlog_parse.specs.vlog_tree.Plain.{plain_exprs}
-use Rattle.vlog_parse.specs.vlog_tree.Shape.{AreAllGoodExprs}
+use Rattle.vlog_tree.specs.Plain.{plain_exprs}
+use Rattle.vlog_tree.specs.Shape.{AreAllGoodExprs}
 use Rattle.vlog_print.proofs.shape.expr.+good.Given as goal
 
 abbrev pub invariant-good_exprs-loop-e : goal.invariant-good_exprs-loop-e

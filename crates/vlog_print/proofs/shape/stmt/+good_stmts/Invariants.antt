@@ -1,6 +1,6 @@
 use Rattle.std.proofs.Common.{◌↔◌, drop}
-use Rattle.vlog_parse.specs.vlog_tree.Plain.{plain_stmts, plain_arms}
-use Rattle.vlog_parse.specs.vlog_tree.Shape.{AreGoodStmts, AreAllGoodArms}
+use Rattle.vlog_tree.specs.Plain.{plain_stmts, plain_arms}
+use Rattle.vlog_tree.specs.Shape.{AreGoodStmts, AreAllGoodArms}
 use Rattle.vlog_print.proofs.shape.stmt.+good_stmts.Given as goal
 
 abbrev pub invariant-good_arms-loop-arm : goal.invariant-good_arms-loop-arm

@@ -1,7 +1,7 @@
 use Rattle.std.proofs.Common.{◌≡◌, ◌++◌, drop}
-use Rattle.vlog_parse.specs.vlog_tree.Words.{tokens_of}
-use Rattle.vlog_parse.specs.vlog_tree.Plain.{plain_exprs}
-use Rattle.vlog_parse.specs.vlog_tree.Spelling.{more_exprs_words}
+use Rattle.vlog_tree.specs.Words.{tokens_of}
+use Rattle.vlog_tree.specs.Plain.{plain_exprs}
+use Rattle.vlog_tree.specs.Spelling.{more_exprs_words}
 use Rattle.vlog_print.proofs.spelling.expr.+push.Given as goal
 
 abbrev pub invariant-push_exprs-loop-e : goal.invariant-push_exprs-loop-e

@@ -1,6 +1,6 @@
 use Rattle.std.proofs.Common.{◌≡◌, ◌++◌, drop, map}
-use Rattle.vlog_parse.specs.vlog_tree.Words.{tokens_of}
-use Rattle.vlog_parse.specs.vlog_tree.Spelling.{after_commas}
+use Rattle.vlog_tree.specs.Words.{tokens_of}
+use Rattle.vlog_tree.specs.Spelling.{after_commas}
 use Rattle.vlog_print.proofs.spelling.listed.push_with_commas.Given as goal
 
 abbrev pub invariant-loop-part : goal.invariant-loop-part

@@ -1,7 +1,7 @@
 use Rattle.std.proofs.Common.{◌≡◌, ◌++◌, drop}
-use Rattle.vlog_parse.specs.vlog_tree.Words.{tokens_of}
-use Rattle.vlog_parse.specs.vlog_tree.Plain.{plain_stmts, plain_arms}
-use Rattle.vlog_parse.specs.vlog_tree.Spelling.{stmts_words, arms_words}
+use Rattle.vlog_tree.specs.Words.{tokens_of}
+use Rattle.vlog_tree.specs.Plain.{plain_stmts, plain_arms}
+use Rattle.vlog_tree.specs.Spelling.{stmts_words, arms_words}
 use Rattle.vlog_print.proofs.spelling.stmt.+push_stmts.Given as goal
 
 abbrev pub invariant-push_arms-loop-arm : goal.invariant-push_arms-loop-arm

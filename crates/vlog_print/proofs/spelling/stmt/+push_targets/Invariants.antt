@@ -1,7 +1,7 @@
 use Rattle.std.proofs.Common.{◌≡◌, ◌++◌, drop}
-use Rattle.vlog_parse.specs.vlog_tree.Words.{tokens_of}
-use Rattle.vlog_parse.specs.vlog_tree.Plain.{plain_targets}
-use Rattle.vlog_parse.specs.vlog_tree.Spelling.{more_targets_words}
+use Rattle.vlog_tree.specs.Words.{tokens_of}
+use Rattle.vlog_tree.specs.Plain.{plain_targets}
+use Rattle.vlog_tree.specs.Spelling.{more_targets_words}
 use Rattle.vlog_print.proofs.spelling.stmt.+push_targets.Given as goal
 
 abbrev pub invariant-push_targets-loop-target : goal.invariant-push_targets-loop-target
