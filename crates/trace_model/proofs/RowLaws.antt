@@ -13,7 +13,7 @@ use Rattle.std.proofs.lemmas.Option.{slice_get_cases, slice_get_within}
 use Rattle.vidi_bits.specs.Number.{has}
 use Rattle.trace_model.specs.declared.channel.Channel.{Channel}
 use Rattle.trace_model.specs.declared.event.Kind.{Kind}
-use Rattle.trace_model.specs.declared.event.Kind.TheVariants.{Start, End}
+use Rattle.trace_model.specs.declared.event.Kind.TheVariants.{Start, End, Reset}
 use Rattle.trace_model.specs.declared.packet.Packet.{Packet}
 use Rattle.trace_model.specs.declared.row.Row.{Row}
 use Rattle.trace_model.specs.Laws.{RecordedOnce, RowAddsItsPacket, KeepsInFlight, RowsAreWellFormed, StartsWaitForEnds}
@@ -58,10 +58,12 @@ no-event starts ends h = cases (eqb starts 0) (eqb ends 0) h (eqb-true starts 0)
 quiet : (kind : Kind) (c : ℕ) (row : Row) → has_event row ≡ false → row_does kind c row ≡ false
 quiet Start c row h = ap (λ m. has m c) (no-event row.starts row.ends h).0 ∙ has-none c
 quiet End c row h = ap (λ m. has m c) (no-event row.starts row.ends h).1 ∙ has-none c
+quiet Reset c row h = refl
 
 pub does-same : (kind : Kind) (c : ℕ) (channels : List Channel) (row : Row) → does kind c (packet_of channels row) ≡ row_does kind c row
 does-same Start c channels row = refl
 does-same End c channels row = refl
+does-same Reset c channels row = refl
 
 -- packets have as many as their rows
 pub same-counts : (kind : Kind) (c : ℕ) (channels : List Channel) (rows : List Row) → count kind c (packets_of channels rows)
@@ -198,6 +200,7 @@ fit-from mask cs numbers front (d ∷ ds) back n e l f =
 
 is-packet : (channels : List Channel) (row : Row) → IsOver channels row → has_event row ≡ true → IsPacket channels (packet_of channels row)
 is-packet channels row over h = record {
+  plain = (refl, refl);
   event = event-of row.starts row.ends h;
   starts = over.starts;
   ends = over.ends;
