@@ -1,11 +1,12 @@
 -- Lengths of packets, and sums over the channels, each with its number.
-use Rattle.std.proofs.Common.{◌≡◌, ℕ, ◌+◌, ◌<◌, ◌≤◌, List, [], ◌∷◌, length, sum_by, refl, arith}
+use Rattle.std.proofs.Common.{◌≡◌, ℕ, ◌+◌, ◌<◌, ◌≤◌, ◌*◌, List, [], ◌∷◌, All, length, sum_by, refl, arith}
 use Rattle.std.specs.List.{enumerate_from}
 use Rattle.std.proofs.lemmas.List.Sums.{sum_by-cons}
+use Rattle.std.proofs.lemmas.List.Elements.{All-head, All-tail}
 use Rattle.trace_model.specs.declared.channel.Channel.{Channel}
-use Rattle.trace_model.specs.declared.packet.TheConstants.{LONGEST_PACKET}
-use Rattle.trace_model.specs.Channel.{IsTable}
-use Rattle.trace_model.specs.Length.{longest_packet}
+use Rattle.trace_model.specs.declared.packet.TheConstants.{LONGEST_PACKET, MOST_CHANNELS, MOST_CONTENT_BYTES}
+use Rattle.trace_model.specs.Channel.{byte_count, content_bytes, IsChannel, IsTable}
+use Rattle.trace_model.specs.Length.{head_len, longest_packet}
 
 -- the sum of f over the channels from channel n on, whose sizes these are
 abbrev pub total : (ℕ × ℕ → ℕ) → ℕ → List ℕ → ℕ
@@ -24,9 +25,31 @@ total-same f g n (size ∷ sizes) h =
     let here : f (n, size) ≡ g (n, size) = h n size (omega arith) (omega arith) in
     rw (total-cons f n size sizes, total-cons g n size sizes) (omega arith)
 
+widths-most : (widths : List ℕ) → All (λ w. (1 ≤ w) × (w ≤ 128)) widths → sum_by byte_count widths ≤ 16 * length widths
+widths-most [] each = omega arith
+widths-most (w ∷ ws) each =
+    let rest = widths-most ws (All-tail (λ n. (1 ≤ n) × (n ≤ 128)) w ws each) in
+    let here = (All-head (λ n. (1 ≤ n) × (n ≤ 128)) w ws each).1 in
+    rw (sum_by-cons byte_count w ws) (omega (arith, rest, here))
+
+-- a channel has 16 ports of 16 bytes at most
+pub content-most : (channel : Channel) → IsChannel channel → content_bytes channel ≤ 256
+content-most channel is = let bytes = widths-most channel.widths is.widths in let ports = is.ports in omega (arith, bytes, ports)
+
+pub contents-most : (channels : List Channel) → All IsChannel channels → sum_by content_bytes channels ≤ 256 * length channels
+contents-most [] each = omega arith
+contents-most (c ∷ cs) each =
+    let rest = contents-most cs (All-tail IsChannel c cs each) in
+    let here = content-most c (All-head IsChannel c cs each) in
+    rw (sum_by-cons content_bytes c cs) (omega (arith, rest, here))
+
+longest-is : LONGEST_PACKET ≡ head_len MOST_CHANNELS + MOST_CONTENT_BYTES
+longest-is = refl
+
 -- a lawful table's packets are no longer than the longest
 pub longest : (channels : List Channel) → IsTable channels → longest_packet channels ≤ LONGEST_PACKET
 longest channels table =
+    let all = longest-is in
     let few = table.few in
     let content = table.content in
-    omega (arith, few, content)
+    omega (arith, all, few, content)

@@ -25,7 +25,10 @@ fn fits_masks(p: &Packet, channels: usize) -> bool
 fn is_packet(p: &Packet, channels: &Channels) -> bool
     ensures { IsTrue result ↔ IsPacket channels.now p.now }
 {
-    if p.gap != 0 || p.reset || p.starts == 0 && p.ends == 0 {
+    if p.gap != 0 || p.reset {
+        return false;
+    }
+    if p.starts == 0 && p.ends == 0 {
         return false;
     }
     if !fits_masks(p, channels.len()) {
