@@ -35,6 +35,10 @@ abbrev pub content_of : List Channel → Packet → ℕ → List ℕ
 content_of channels p c = take (length (widths_of (slice_get channels c)))
     (drop (length (widths_under p.starts (take c channels))) p.contents)
 
+-- the packet of these starts and ends, with no gap
+abbrev pub plain_packet : ℕ → ℕ → List ℕ → Packet
+plain_packet starts ends contents = record { gap = 0; reset = false; starts = starts; ends = ends; contents = contents }
+
 -- a packet over these channels: it has no gap, is no reset and has an event, its masks name channels of the table, and each start has one
 -- number a port that fits it
 pub record IsPacket (channels : List Channel) (p : Packet) : Type 0 where

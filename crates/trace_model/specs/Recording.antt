@@ -9,7 +9,7 @@ use Rattle.trace_model.specs.declared.packet.Packet.{Packet}
 use Rattle.trace_model.specs.declared.row.Row.{Row}
 use Rattle.trace_model.specs.declared.trace.Trace.{Trace}
 use Rattle.trace_model.specs.Counting.{IsNth}
-use Rattle.trace_model.specs.Packet.{does, content_of}
+use Rattle.trace_model.specs.Packet.{does, content_of, plain_packet}
 use Rattle.trace_model.specs.Row.{content_at}
 
 -- whether a row has a start, or an end, of channel c; a reset before it is none of its events
@@ -43,13 +43,7 @@ contents_under mask channels contents = flat_map (λ (c : ℕ × Channel). if ha
 
 -- the packet of a row, with no gap: its starts with their contents, and its ends
 abbrev pub packet_of : List Channel → Row → Packet
-packet_of channels row = record {
-  gap = 0;
-  reset = false;
-  starts = row.starts;
-  ends = row.ends;
-  contents = contents_under row.starts channels row.contents;
-}
+packet_of channels row = plain_packet row.starts row.ends (contents_under row.starts channels row.contents)
 
 -- one packet for each row with an event, in order
 abbrev pub packets_of : List Channel → List Row → List Packet
