@@ -4,5 +4,6 @@ pub mod FlightLemmas
 pub mod ContentsLemmas
 pub mod RowLemmas
 pub mod RowLaws
+pub mod LengthLemmas
 pub mod Examples
 pub use Rattle.vidi_bits.proofs as vidi_bits_lemmas

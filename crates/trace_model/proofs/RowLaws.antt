@@ -13,11 +13,11 @@ use Rattle.std.proofs.lemmas.Option.{slice_get_cases, slice_get_within}
 use Rattle.vidi_bits.specs.Number.{has}
 use Rattle.trace_model.specs.declared.channel.Channel.{Channel}
 use Rattle.trace_model.specs.declared.event.Kind.{Kind}
-use Rattle.trace_model.specs.declared.event.Kind.TheVariants.{Start, End}
+use Rattle.trace_model.specs.declared.event.Kind.TheVariants.{Start, End, Reset}
 use Rattle.trace_model.specs.declared.packet.Packet.{Packet}
 use Rattle.trace_model.specs.declared.row.Row.{Row}
 use Rattle.trace_model.specs.Laws.{RecordedOnce, RowAddsItsPacket, KeepsInFlight, RowsAreWellFormed, StartsWaitForEnds}
-use Rattle.trace_model.specs.Packet.{does, count, content_of, widths_of, widths_under, Fit, IsPacket}
+use Rattle.trace_model.specs.Packet.{does, count, content_of, widths_of, widths_under, plain_packet, Fit, IsPacket}
 use Rattle.trace_model.specs.Recording.{row_does, shown, has_event, contents_under, packet_of, packets_of, recorded, transactions}
 use Rattle.trace_model.specs.Row.{all_widths, content_at, sink_valid, completes, is_in_flight, row_before, flies_after, IsOver, IsMarked}
 use Rattle.trace_model.specs.Row.{AreRows}
@@ -43,7 +43,7 @@ row-adds channels rows row =
 abbrev pub flag : Bool → ℕ
 flag b = cond b 1 0
 
-has-none : (c : ℕ) → has 0 c ≡ false
+pub has-none : (c : ℕ) → has 0 c ≡ false
 has-none c = ap (λ n. eqb n 1) (bit_at-zero c)
 
 no-event : (starts ends : ℕ) → not (eqb starts 0 && eqb ends 0) ≡ false → (starts ≡ 0) × (ends ≡ 0)
@@ -58,10 +58,12 @@ no-event starts ends h = cases (eqb starts 0) (eqb ends 0) h (eqb-true starts 0)
 quiet : (kind : Kind) (c : ℕ) (row : Row) → has_event row ≡ false → row_does kind c row ≡ false
 quiet Start c row h = ap (λ m. has m c) (no-event row.starts row.ends h).0 ∙ has-none c
 quiet End c row h = ap (λ m. has m c) (no-event row.starts row.ends h).1 ∙ has-none c
+quiet Reset c row h = refl
 
 pub does-same : (kind : Kind) (c : ℕ) (channels : List Channel) (row : Row) → does kind c (packet_of channels row) ≡ row_does kind c row
 does-same Start c channels row = refl
 does-same End c channels row = refl
+does-same Reset c channels row = refl
 
 -- packets have as many as their rows
 pub same-counts : (kind : Kind) (c : ℕ) (channels : List Channel) (rows : List Row) → count kind c (packets_of channels rows)
@@ -198,11 +200,20 @@ fit-from mask cs numbers front (d ∷ ds) back n e l f =
 
 is-packet : (channels : List Channel) (row : Row) → IsOver channels row → has_event row ≡ true → IsPacket channels (packet_of channels row)
 is-packet channels row over h = record {
+  plain = (refl, refl);
   event = event-of row.starts row.ends h;
   starts = over.starts;
   ends = over.ends;
   contents = fit-from row.starts channels row.contents [] channels [] 0 (sym (append-nil channels)) refl over.contents;
 }
+
+-- a packet is that of its events
+pub plain-is : (channels : List Channel) (p : Packet) → IsPacket channels p → plain_packet p.starts p.ends p.contents ≡ p
+plain-is channels p is = same p.gap p.reset is.plain.0 is.plain.1
+  where
+    same : (gap : ℕ) (reset : Bool) → gap ≡ 0 → reset ≡ false → plain_packet p.starts p.ends p.contents
+        ≡ record { gap = gap; reset = reset; starts = p.starts; ends = p.ends; contents = p.contents }
+    same gap reset g r = λ i. record { gap = (sym g) i; reset = (sym r) i; starts = p.starts; ends = p.ends; contents = p.contents }
 
 -- ---- the trace of each front
 record Good (channels : List Channel) (ps : List Packet) : Type 0 where

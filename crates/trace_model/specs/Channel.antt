@@ -2,6 +2,7 @@
 use Rattle.std.specs.Prelude.{◌≢◌, ℕ, ◌+◌, ◌/◌, ◌≤◌, ◌==◌, ◌||◌, ◌&&◌, Bool, IsTrue, List, [], ◌∷◌, length, nat_le, All, sum_by}
 use Rattle.std.specs.List.{AllPairs}
 use Rattle.trace_model.specs.declared.channel.Channel.{Channel}
+use Rattle.trace_model.specs.declared.packet.TheConstants.{MOST_CHANNELS, MOST_CONTENT_BYTES}
 
 -- the bytes that hold a number of this width in bits: the width over 8, rounded up
 abbrev pub byte_count : ℕ → ℕ
@@ -33,10 +34,10 @@ pub record IsChannel (c : Channel) : Type 0 where
   pub ports : length c.widths ≤ 16
   pub widths : All (λ w. (1 ≤ w) × (w ≤ 128)) c.widths
 
--- a lawful table: 1 to 32 channels, whose names differ, with at most 1,024 content bytes in all
+-- a lawful table: at least one channel and no more than the most, whose names differ, with no more content bytes in all than the most
 pub record IsTable (channels : List Channel) : Type 0 where
   pub some : 1 ≤ length channels
-  pub few : length channels ≤ 32
+  pub few : length channels ≤ MOST_CHANNELS
   pub each : All IsChannel channels
   pub differ : AllPairs (λ (a b : Channel). a.name ≢ b.name) channels
-  pub content : sum_by content_bytes channels ≤ 1024
+  pub content : sum_by content_bytes channels ≤ MOST_CONTENT_BYTES

@@ -17,6 +17,14 @@ head_len n = 1 + 2 * mask_len n
 abbrev pub contents_len : ℕ → List Channel → ℕ
 contents_len mask channels = sum_by (λ (c : ℕ × Channel). if has mask c.0 then content_bytes c.1 else 0) (enumerate_from 0 channels)
 
+-- out of the content bytes of all channels, those of the channels that a mask names, added up
+abbrev pub sizes_under : ℕ → List ℕ → ℕ
+sizes_under mask sizes = sum_by (λ (c : ℕ × ℕ). if has mask c.0 then c.1 else 0) (enumerate_from 0 sizes)
+
+-- the bytes of the longest packet of these channels, in which all of them start
+abbrev pub longest_packet : List Channel → ℕ
+longest_packet channels = head_len (length channels) + sum_by content_bytes channels
+
 -- the bytes of the packet of these starts and ends; none where there is no event
 abbrev pub packet_len : List Channel → ℕ → ℕ → ℕ
 packet_len channels starts ends = if starts == 0 && ends == 0 then 0 else head_len (length channels) + contents_len starts channels

@@ -1,17 +1,18 @@
 -- What one packet records: the starts and the ends of a cycle, and the contents of the starts.
-use Rattle.std.specs.Prelude.{◌≢◌, ℕ, ◌<◌, ◌^◌, ◌⊎◌, Bool, List, [], Option, Some, None, take, drop, length, slice_get, count_by}
+use Rattle.std.specs.Prelude.{◌≡◌, ◌≢◌, ℕ, ◌<◌, ◌^◌, ◌⊎◌, Bool, false, List, [], Option, Some, None, take, drop, length, slice_get, count_by}
 use Rattle.std.specs.Prelude.{if◌then◌else◌}
 use Rattle.std.specs.List.{AllZip, flat_map, enumerate_from}
 use Rattle.vidi_bits.specs.Number.{has}
 use Rattle.trace_model.specs.declared.channel.Channel.{Channel}
 use Rattle.trace_model.specs.declared.event.Kind.{Kind}
-use Rattle.trace_model.specs.declared.event.Kind.TheVariants.{Start, End}
+use Rattle.trace_model.specs.declared.event.Kind.TheVariants.{Start, End, Reset}
 use Rattle.trace_model.specs.declared.packet.Packet.{Packet}
 
--- whether a packet has a start, or an end, of channel c
+-- whether a packet has a start, or an end, of channel c; or whether it is a reset, which is no channel's
 abbrev pub does : Kind → ℕ → Packet → Bool
 does Start c p = has p.starts c
 does End c p = has p.ends c
+does Reset c p = p.reset
 
 -- how many of these packets have one
 abbrev pub count : Kind → ℕ → List Packet → ℕ
@@ -34,8 +35,14 @@ abbrev pub content_of : List Channel → Packet → ℕ → List ℕ
 content_of channels p c = take (length (widths_of (slice_get channels c)))
     (drop (length (widths_under p.starts (take c channels))) p.contents)
 
--- a packet over these channels: it has an event, its masks name channels of the table, and each start has one number a port that fits it
+-- the packet of these starts and ends, with no gap
+abbrev pub plain_packet : ℕ → ℕ → List ℕ → Packet
+plain_packet starts ends contents = record { gap = 0; reset = false; starts = starts; ends = ends; contents = contents }
+
+-- a packet over these channels: it has no gap, is no reset and has an event, its masks name channels of the table, and each start has one
+-- number a port that fits it
 pub record IsPacket (channels : List Channel) (p : Packet) : Type 0 where
+  pub plain : (p.gap ≡ 0) × (p.reset ≡ false)
   pub event : (p.starts ≢ 0) ⊎ (p.ends ≢ 0)
   pub starts : p.starts < 2 ^ length channels
   pub ends : p.ends < 2 ^ length channels

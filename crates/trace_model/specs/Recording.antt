@@ -1,21 +1,22 @@
 -- *Transactions* and *Trace of rows*: what happened on the channels, and what is recorded of it.
-use Rattle.std.specs.Prelude.{ℕ, ◌==◌, ◌&&◌, Bool, not, List, [], map, count_by, if◌then◌else◌}
+use Rattle.std.specs.Prelude.{ℕ, ◌==◌, ◌&&◌, Bool, false, not, List, [], map, count_by, if◌then◌else◌}
 use Rattle.std.specs.List.{flat_map, filter, enumerate_from}
 use Rattle.vidi_bits.specs.Number.{has}
 use Rattle.trace_model.specs.declared.channel.Channel.{Channel}
 use Rattle.trace_model.specs.declared.event.Kind.{Kind}
-use Rattle.trace_model.specs.declared.event.Kind.TheVariants.{Start, End}
+use Rattle.trace_model.specs.declared.event.Kind.TheVariants.{Start, End, Reset}
 use Rattle.trace_model.specs.declared.packet.Packet.{Packet}
 use Rattle.trace_model.specs.declared.row.Row.{Row}
 use Rattle.trace_model.specs.declared.trace.Trace.{Trace}
 use Rattle.trace_model.specs.Counting.{IsNth}
-use Rattle.trace_model.specs.Packet.{does, content_of}
+use Rattle.trace_model.specs.Packet.{does, content_of, plain_packet}
 use Rattle.trace_model.specs.Row.{content_at}
 
--- whether a row has a start, or an end, of channel c
+-- whether a row has a start, or an end, of channel c; a reset before it is none of its events
 abbrev pub row_does : Kind → ℕ → Row → Bool
 row_does Start c row = has row.starts c
 row_does End c row = has row.ends c
+row_does Reset c row = false
 
 -- how many of these rows have one
 abbrev pub shown : Kind → ℕ → List Row → ℕ
@@ -40,9 +41,9 @@ abbrev pub contents_under : ℕ → List Channel → List ℕ → List ℕ
 contents_under mask channels contents = flat_map (λ (c : ℕ × Channel). if has mask c.0 then content_at channels contents c.0 else [])
     (enumerate_from 0 channels)
 
--- the packet of a row: its starts with their contents, and its ends
+-- the packet of a row, with no gap: its starts with their contents, and its ends
 abbrev pub packet_of : List Channel → Row → Packet
-packet_of channels row = record { starts = row.starts; ends = row.ends; contents = contents_under row.starts channels row.contents }
+packet_of channels row = plain_packet row.starts row.ends (contents_under row.starts channels row.contents)
 
 -- one packet for each row with an event, in order
 abbrev pub packets_of : List Channel → List Row → List Packet

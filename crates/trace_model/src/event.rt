@@ -2,11 +2,13 @@
 
 use vidi_bits::Items;
 
-/// Whether an event is the start or the completion of a transaction.
+/// Whether an event is the start or the completion of a transaction, or a reset, which no packet has today.
 #[derive(Clone, Copy, Debug, PartialEq, Eq)]
 pub enum Kind {
     Start,
     End,
+    /// The design was reset in mid-run.
+    Reset,
 }
 
 /// The `index`-th start or completion of a channel, counted from 0.
@@ -15,6 +17,8 @@ pub struct Event {
     pub channel: usize,
     pub kind: Kind,
     pub index: u32,
+    /// How many resets came before it: 0 today.
+    pub epoch: u32,
 }
 
 /// A list of events.

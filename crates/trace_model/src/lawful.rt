@@ -19,11 +19,15 @@ fn fits_masks(p: &Packet, channels: usize) -> bool
     fits(p.starts, channels) && fits(p.ends, channels)
 }
 
-/// Whether a packet is one over these channels: it has an event, its masks name channels of the
-/// table, and it has one number for each port of the channels that start, which fits its width.
+/// Whether a packet is one over these channels: it has no gap, is no reset and has an event, its masks
+/// name channels of the table, and it has one number for each port of the channels that start, which
+/// fits its width.
 fn is_packet(p: &Packet, channels: &Channels) -> bool
     ensures { IsTrue result ↔ IsPacket channels.now p.now }
 {
+    if p.gap != 0 || p.reset {
+        return false;
+    }
     if p.starts == 0 && p.ends == 0 {
         return false;
     }

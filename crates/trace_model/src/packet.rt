@@ -2,13 +2,29 @@
 
 use vidi_bits::{Items, Numbers};
 
-/// The bytes of the longest packet of a table's channels (this project's profile): a byte, the masks of 32 channels' starts
-/// and ends, and 1,024 bytes of contents.
-pub const LONGEST_PACKET: usize = 1 + 2 * 4 + 1024;
+/// The most channels of a table (this project's profile).
+pub const MOST_CHANNELS: usize = 32;
+
+/// The most bytes of the contents of a table's channels together (this project's profile).
+pub const MOST_CONTENT_BYTES: usize = 1_024;
+
+/// The most cycles of a run (this project's profile).
+pub const MOST_CYCLES: u32 = 50_000;
+
+/// The least number of cycles that no gap has (this project's profile): a gap is written in two bytes.
+pub const GAP_LIMIT: u32 = 65_536;
+
+/// The bytes of the longest packet of a table's channels (this project's profile): a byte, the masks of the most channels' starts
+/// and ends, and the most contents.
+pub const LONGEST_PACKET: usize = 1 + 2 * ((MOST_CHANNELS + 7) / 8) + MOST_CONTENT_BYTES;
 
 /// The events of one cycle: bit c of a mask is channel c.
 #[derive(Debug, Drop)]
 pub struct Packet {
+    /// The cycles between the end of the packet before, or the first cycle, and this one: 0 in each packet today.
+    pub gap: u32,
+    /// The design was reset, and there are no events: false in each packet today.
+    pub reset: bool,
     /// The channels that start.
     pub starts: u128,
     /// The channels that complete.

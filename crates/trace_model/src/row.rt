@@ -1,6 +1,6 @@
 //! Rows: what all channels show in one cycle.
 
-ghost use Rattle.std.specs.Prelude.{◌≡◌, ◌++◌, length, replicate, IfOk, OnOk};
+ghost use Rattle.std.specs.Prelude.{◌≡◌, ◌++◌, false, length, replicate, IfOk, OnOk};
 ghost use Rattle.trace_model.specs.Row.{all_widths};
 
 use crate::channel::{Channel, Channels};
@@ -23,6 +23,8 @@ pub struct Offers {
 /// of the sink, each on its own side of the gate.
 #[derive(Drop)]
 pub struct Row {
+    /// Whether the design was reset before this row: false in each row today.
+    pub fresh: bool,
     /// The channels whose gate is up.
     pub gates: u128,
     /// The channels whose source has valid up.
@@ -64,6 +66,7 @@ fn zeros_over(alloc: Global, channels: &[Channel]) -> Result<Numbers, Memory>
 /// A row with a place for each port's number, in which nothing is up: to be driven.
 pub fn row_over(alloc: Global, channels: &Channels) -> Result<Row, Memory>
     ensures { IfOk result (λ row. row ≡ record {
+      fresh = false;
       gates = 0;
       valids = 0;
       readies = 0;
@@ -74,6 +77,7 @@ pub fn row_over(alloc: Global, channels: &Channels) -> Result<Row, Memory>
 {
     let contents = zeros_over(alloc, channels.as_slice())?;
     Ok(Row {
+        fresh: false,
         gates: 0,
         valids: 0,
         readies: 0,
