@@ -34,7 +34,7 @@ module _ (d : Design) (m : Map) (offers : List Row → Offers) (gates : List Row
     one-end_of d m ready offers gates (λ before are. (one before are).only) n,
   )
 
-plan-fixes : (channels : List Channel) (plan : List Row → ℕ) → GatesFit channels plan → GatesAreFixed channels (GatesOf plan)
+pub plan-fixes : (channels : List Channel) (plan : List Row → ℕ) → GatesFit channels plan → GatesAreFixed channels (GatesOf plan)
 plan-fixes channels plan fit before are = record { mask = plan before; is = refl; below = fit before are; only = λ a b x y. x ∙ sym y }
 
 pub one-run : OneRun

@@ -17,6 +17,7 @@ use Rattle.chan_map.proofs.trace_model_lemmas.CountingLemmas.{slice_get-last, sl
 use Rattle.net_design.specs.declared.design.Design.{Design}
 use Rattle.chan_map.specs.declared.pins.Map.{Map}
 use Rattle.run_model.specs.Played.{AreStable, IsPlayed, StopsBefore}
+use Rattle.run_model.proofs.Deciding.{Least, NoneBelow, least-or-none}
 use Rattle.run_model.proofs.PlayedLaws.{played-front, row-before_take}
 
 -- ---- the lowest unstable channel
@@ -58,31 +59,11 @@ module _ (channels : List Channel) (before now : Row) where
       none-some x e = cc
   breaks-or-not c (Some x) at = ⊎_elim (λ dir. broken-or-not c x at dir) (λ none. inr none) (outward-or-not c x at x.dir refl)
 
-  -- among the first n channels
-  record Lowest (n : ℕ) : Type 0 where
-    channel : ℕ
-    breaks : Breaks channel
-    least : (d : ℕ) → d < channel → Breaks d → ⊥
-
-  search-to : (n : ℕ) → Lowest n ⊎ ((d : ℕ) → d < n → Breaks d → ⊥)
-  search-to zero = inr (λ d l. absurd (omega (arith, l)))
-  search-to (suc n) = ⊎_elim
-      (λ (low : Lowest n). inl (record { channel = low.channel; breaks = low.breaks; least = low.least }))
-      (λ (none : (d : ℕ) → d < n → Breaks d → ⊥). ⊎_elim
-      (λ (b : Breaks n). inl (record { channel = n; breaks = b; least = none }))
-      (λ (stays : Breaks n → ⊥). inr (λ d l. ⊎_elim
-      (λ (less : d < n). none d less)
-      (λ (most : n ≤ d). subst (λ k. Breaks k → ⊥) (let e : n ≡ d = omega (arith, l, most) in e) stays)
-      (cases_lt d n)))
-      (breaks-or-not n (slice_get channels n) refl))
-      (search-to n)
-
   pub lowest : (o : Option ℕ) × IsLowestUnstable channels before now o
   lowest = ⊎_elim
-      (λ (low : Lowest (length channels)). (Some low.channel, (low.breaks, low.least)))
-      (λ (none : (d : ℕ) → d < length channels → Breaks d → ⊥).
-      (None, λ c u. none c (slice_get_within channels c u.channel u.at) u))
-      (search-to (length channels))
+      (λ (low : Least Breaks (length channels)). (Some low.number, (low.passes, low.least)))
+      (λ (none : NoneBelow Breaks (length channels)). (None, λ c u. none c (slice_get_within channels c u.channel u.at) u))
+      (least-or-none Breaks (λ c. breaks-or-not c (slice_get channels c) refl) (length channels))
 
 pub lowest-one : (channels : List Channel) (before now : Row) (c d : ℕ) → IsLowestUnstable channels before now (Some c)
     → IsLowestUnstable channels before now (Some d) → c ≡ d
