@@ -16,6 +16,7 @@ use Rattle.vidi_lines.proofs.vidi_bits_lemmas.Bools.{left_of, right_of}
 use Rattle.vidi_lines.proofs.vidi_bits_lemmas.Each.{each_append}
 use Rattle.vidi_lines.specs.vidi_bits.Findings.{is_nil, told_if}
 use Rattle.trace_model.specs.declared.channel.Channel.{Channel as Row}
+use Rattle.trace_model.specs.declared.packet.TheConstants.{MOST_CHANNELS}
 use Rattle.trace_model.specs.Channel.{is_letter, is_letter_or_digit, IsName, IsChannel, IsTable}
 use Rattle.vidi_lines.specs.vidi_bits.Number.{IsWidth}
 use Rattle.net_design.specs.declared.design.Direction.{Direction}
@@ -199,7 +200,7 @@ pub table_is : (d : Design) → HaveWidths d.ports → (lines : List MapLine) �
     → limit_faults (table_of d lines) ≡ [] → IsTable (table_of d lines)
 table_is d widths lines fits follows named none =
     let table = table_of d lines in
-    let count : nat_le 1 (length table) && nat_le (length table) 32 ≡ true = told_none _ _ (no_left (count_faults table) _ none) in
+    let count : nat_le 1 (length table) && nat_le (length table) MOST_CHANNELS ≡ true = told_none _ _ (no_left (count_faults table) _ none) in
     let others : width_faults table ++ byte_faults table ≡ [] = no_right (count_faults table) _ none in
     record {
       some = leb-true _ _ (left_of _ _ count);

@@ -3,6 +3,7 @@ use Rattle.std.specs.Prelude.{ℕ, ◌+◌, ◌-◌, ◌^◌, ◌==◌, ◌&&◌
 use Rattle.std.specs.Prelude.{length, sum_by}
 use Rattle.std.specs.List.{flat_map}
 use Rattle.trace_model.specs.declared.channel.Channel.{Channel as Row}
+use Rattle.trace_model.specs.declared.packet.TheConstants.{MOST_CHANNELS, MOST_CONTENT_BYTES}
 use Rattle.trace_model.specs.Channel.{content_bytes}
 use Rattle.net_design.specs.declared.design.Port.{Port}
 use Rattle.net_design.specs.declared.design.Design.{Design}
@@ -34,15 +35,15 @@ cover_from ports words k (p ∷ rest) =
 abbrev pub cover_faults : Design → List MapLine → List MapError
 cover_faults d lines = cover_from d.ports (all_names lines) 0 d.ports
 
--- M4: the number of channels, a channel with more than 16 ports, the content bytes of all
+-- M4: the number of channels, a channel with more than 16 ports, the content bytes of all (limits of a lawful table)
 abbrev pub count_faults : List Row → List MapError
-count_faults table = told_if (not (nat_le 1 (length table) && nat_le (length table) 32)) (E.Limit Channels (capped (length table)))
+count_faults table = told_if (not (nat_le 1 (length table) && nat_le (length table) MOST_CHANNELS)) (E.Limit Channels (capped (length table)))
 
 abbrev pub width_faults : List Row → List MapError
 width_faults table = flat_map (λ (c : Row). told_if (nat_lt 16 (length c.widths)) (E.Limit Ports (capped (length c.widths)))) table
 
 abbrev pub byte_faults : List Row → List MapError
-byte_faults table = told_if (nat_lt 1024 (sum_by content_bytes table)) (E.Limit Bytes (capped (sum_by content_bytes table)))
+byte_faults table = told_if (nat_lt MOST_CONTENT_BYTES (sum_by content_bytes table)) (E.Limit Bytes (capped (sum_by content_bytes table)))
 
 abbrev pub limit_faults : List Row → List MapError
 limit_faults table = count_faults table ++ (width_faults table ++ byte_faults table)

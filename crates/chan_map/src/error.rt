@@ -9,11 +9,11 @@ use vidi_lines::vidi_bits::{Memory, Name};
 /// A limit of a map.
 #[derive(Clone, Copy, PartialEq, Eq)]
 pub enum MapLimit {
-    /// The number of channels, 1 to 32.
+    /// The number of channels, 1 to `MOST_CHANNELS`.
     Channels,
     /// The number of content ports of a channel, at most 16.
     Ports,
-    /// The number of content bytes of all channels, at most 1,024.
+    /// The number of content bytes of all channels, at most `MOST_CONTENT_BYTES`.
     Bytes,
 }
 

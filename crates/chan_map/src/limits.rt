@@ -7,7 +7,7 @@ ghost use Rattle.vidi_lines.specs.vidi_bits.Findings.{Judged};
 ghost use Rattle.chan_map.specs.Told.{map_told};
 
 use crate::error::{MapError, MapLimit};
-use trace_model::Channel;
+use trace_model::{Channel, MOST_CHANNELS, MOST_CONTENT_BYTES};
 
 /// A count, up to the end of its type.
 fn capped(n: usize) -> u32
@@ -16,7 +16,7 @@ fn capped(n: usize) -> u32
     u32::try_from(n).unwrap_or(u32::MAX)
 }
 
-/// The bytes of a channel's content.
+/// The bytes of a channel's content, up to the end of their type.
 fn content_bytes(c: &Channel) -> u32
     ensures { result ≡ capped (content_bytes c.now) }
 {
@@ -27,7 +27,7 @@ fn content_bytes(c: &Channel) -> u32
     total
 }
 
-/// The bytes of the contents of all channels.
+/// The bytes of the contents of all channels, up to the end of their type.
 fn all_bytes(channels: &[Channel]) -> u32
     ensures { result ≡ capped (sum_by content_bytes channels.now) }
 {
@@ -42,7 +42,7 @@ fn check_count(channels: &[Channel]) -> Result<(), MapError>
     ensures { Judged map_told result (count_faults channels.now) }
 {
     let n = channels.len();
-    if n < 1 || n > 32 {
+    if n < 1 || n > MOST_CHANNELS {
         return Err(MapError::Limit {
             what: MapLimit::Channels,
             got: capped(n),
@@ -70,7 +70,7 @@ fn check_bytes(channels: &[Channel]) -> Result<(), MapError>
     ensures { Judged map_told result (byte_faults channels.now) }
 {
     let got = all_bytes(channels);
-    if got > 1024 {
+    if got as usize > MOST_CONTENT_BYTES {
         return Err(MapError::Limit {
             what: MapLimit::Bytes,
             got,
