@@ -11,14 +11,14 @@ use Rattle.chan_map.specs.vidi_bits.Number.{has}
 use Rattle.chan_map.specs.trace_model.declared.channel.Channel.{Channel}
 use Rattle.chan_map.specs.trace_model.declared.event.Event.{Event}
 use Rattle.chan_map.specs.trace_model.declared.event.Kind.{Kind}
-use Rattle.chan_map.specs.trace_model.declared.event.Kind.TheVariants.{Start, End}
+use Rattle.chan_map.specs.trace_model.declared.event.Kind.TheVariants.{Start, End, Reset}
 use Rattle.chan_map.specs.trace_model.declared.packet.Packet.{Packet}
 use Rattle.chan_map.specs.trace_model.declared.row.Row.{Row}
 use Rattle.chan_map.specs.trace_model.Clock.{clock}
 use Rattle.chan_map.specs.trace_model.Counting.{IsNth}
-use Rattle.chan_map.specs.trace_model.Packet.{does, count}
+use Rattle.chan_map.specs.trace_model.Packet.{does, count, IsPacket}
 use Rattle.chan_map.specs.trace_model.Recording.{shown}
-use Rattle.chan_map.specs.trace_model.Trace.{Alternates}
+use Rattle.chan_map.specs.trace_model.Trace.{IsWellFormed}
 use Rattle.chan_map.proofs.trace_model_lemmas.CountingLemmas.{count-suc, count-suc_yes, count-suc_no}
 use Rattle.chan_map.proofs.trace_model_lemmas.FlightLemmas.{balanced}
 use Rattle.chan_map.proofs.trace_model_lemmas.RowLaws.{counted}
@@ -30,6 +30,7 @@ use Rattle.run_model.specs.Held.{recorded_next, same_kind, same_event, is_held, 
 use Rattle.run_model.specs.Laws.{IsShown, IsFirstOpen, IsIn, IsFree, NoCircle}
 use Rattle.run_model.specs.Replay.{done, HasEnded}
 use Rattle.run_model.proofs.EventPlaces.{awaits-none, nth-place}
+use Rattle.run_model.proofs.PinLemmas.{all-at}
 use Rattle.run_model.proofs.ReplayLaws.{replay-keeps}
 use Rattle.run_model.proofs.RowParts.{channel-at}
 use Rattle.run_model.proofs.Stays.{keeps-in-flight, flying-flag}
@@ -110,15 +111,20 @@ module _ (n : ℕ) (packets : List Packet) (rows : List Row) (p : ℕ) (packet :
       (λ (f : does kind c packet ≡ false). inl (λ e. absurd (false≢true (sym f ∙ e))))
       (cases_Bool (does kind c packet))
 
-  both : (c : ℕ) → (does Start c packet ≡ true → count Start c (take p packets) < shown Start c rows)
-      → (does End c packet ≡ true → count End c (take p packets) < shown End c rows) → ShownOn packets rows p packet c
-  both c s e Start h = s h
-  both c s e End h = e h
+  all-kinds : (c : ℕ) → (does Start c packet ≡ true → count Start c (take p packets) < shown Start c rows)
+      → (does End c packet ≡ true → count End c (take p packets) < shown End c rows)
+      → (does Reset c packet ≡ true → count Reset c (take p packets) < shown Reset c rows) → ShownOn packets rows p packet c
+  all-kinds c s e r Start h = s h
+  all-kinds c s e r End h = e h
+  all-kinds c s e r Reset h = r h
 
   on-channel : (c : ℕ) → c < n → ShownOn packets rows p packet c ⊎ Late n packets rows p packet
   on-channel c l = ⊎_elim
       (λ (s : does Start c packet ≡ true → count Start c (take p packets) < shown Start c rows). ⊎_elim
-      (λ (e : does End c packet ≡ true → count End c (take p packets) < shown End c rows). inl (both c s e))
+      (λ (e : does End c packet ≡ true → count End c (take p packets) < shown End c rows). ⊎_elim
+      (λ (r : does Reset c packet ≡ true → count Reset c (take p packets) < shown Reset c rows). inl (all-kinds c s e r))
+      (λ (late : Late n packets rows p packet). inr late)
+      (one Reset c l))
       (λ (late : Late n packets rows p packet). inr late)
       (one End c l))
       (λ (late : Late n packets rows p packet). inr late)
@@ -227,7 +233,8 @@ module _ (channels : List Channel) (packets : List Packet) (rows : List Row) (p 
 
   same-event-is : (a b : Event) → same_event a b ≡ true → packet_place packets a ≡ packet_place packets b
   same-event-is a b h =
-      let x = and_parts (a.channel == b.channel) (same_kind a.kind b.kind && (a.index == b.index)) h in
+      let e = and_parts (a.epoch == b.epoch) ((a.channel == b.channel) && (same_kind a.kind b.kind && (a.index == b.index))) h in
+      let x = and_parts (a.channel == b.channel) (same_kind a.kind b.kind && (a.index == b.index)) e.1 in
       let y = and_parts (same_kind a.kind b.kind) (a.index == b.index) x.1 in
       let c = eqb-true a.channel b.channel x.0 in
       let i = eqb-true a.index b.index y.1 in
@@ -238,9 +245,9 @@ module _ (channels : List Channel) (packets : List Packet) (rows : List Row) (p 
     where
       kinds : (a b : Kind) → same_kind a b ≡ true → a ≡ b
       kinds Start Start h = refl
-      kinds Start End h = absurd (false≢true h)
-      kinds End Start h = absurd (false≢true h)
       kinds End End h = refl
+      kinds Reset Reset h = refl
+      kinds a b h = absurd (false≢true h)
 
   not-held : (e : Event) → IsIn packets p e → is_held (held channels packets rows) e ≡ false
   not-held e in-p = any-none (λ (h : Held). same_event h.event e) (held channels packets rows) (λ k d l.
@@ -274,8 +281,8 @@ bit-of : (b : Bool) → 0 < cond {A = ℕ} b 1 0 → b ≡ true
 bit-of true l = refl
 bit-of false l = absurd (omega arith)
 
-module _ (channels : List Channel) (packets : List Packet) (rows : List Row) (alternate : Alternates packets) (p : ℕ)
-    (first : IsFirstOpen (length channels) packets rows p)
+module _ (channels : List Channel) (packets : List Packet) (rows : List Row) (well : IsWellFormed
+    (record { channels = channels; packets = packets })) (p : ℕ) (first : IsFirstOpen (length channels) packets rows p)
     (balance : (c : ℕ) → shown Start c rows ≡ shown End c rows + cond (flies rows c) 1 0) where
   start-in : (c : ℕ) (packet : Packet) → slice_get packets p ≡ Some packet → has packet.starts c ≡ true → flies rows c ≡ false
       → shown Start c rows ≡ count Start c (take p packets) → IsIn packets p (next_event rows c)
@@ -297,7 +304,7 @@ module _ (channels : List Channel) (packets : List Packet) (rows : List Row) (al
       let w = first.within in
       let s = enough (length channels) packets rows p (omega arith) first.before Start c l in
       let e = enough (length channels) packets rows p (omega arith) first.before End c l in
-      let even = alternate.starts p c packet at starts in
+      let even = well.alternate.starts p c packet at starts in
       let b = balance c in
       start-in c packet at starts
       (⊎_elim (λ (t : flies rows c ≡ true). (let one = in-flight-bit (flies rows c) t in absurd (omega (arith, s, e, even, b, late, one))))
@@ -312,13 +319,15 @@ module _ (channels : List Channel) (packets : List Packet) (rows : List Row) (al
       (λ (t : flies rows c ≡ true). end-in c packet at ends t (omega (arith, e, late)))
       (λ (f : flies rows c ≡ false).
       (let none = flying-flag (flies rows c) (ap not f) in
-      let odd = alternate.ends p c packet at ends in
-      let bal = balanced packets alternate c p in
+      let odd = well.alternate.ends p c packet at ends in
+      let bal = balanced packets well.alternate c p in
       let least = bal.least in
       let more = count-suc (does Start c) packets p packet at in
       let bit : 0 < cond {A = ℕ} (has packet.starts c) 1 0 = omega (arith, s, e, b, none, odd, least, more, late) in
       start-in c packet at (bit-of (has packet.starts c) bit) f (omega (arith, s, e, b, none, least, late))))
       (cases_Bool (flies rows c))
+  late-in Reset c packet l at resets late =
+      absurd (false≢true (sym (all-at (IsPacket channels) packets p packet well.packets at).plain.1 ∙ resets))
 
 pub no-circle : NoCircle
 no-circle d m packets rows well replay stable open-end = (
@@ -332,7 +341,7 @@ no-circle d m packets rows well replay stable open-end = (
       subst (λ rs. shown Start c rs ≡ shown End c rs + cond (flies rows c) 1 0) (take_all (length rows) rows (omega arith))
       (counted m.channels rows replay.marked keeps (length rows) (omega arith) c) in
       waiting m.channels packets rows p first late.is.c late.is.within
-      (late-in m.channels packets rows well.alternate p first balance late.is.kind late.is.c late.packet late.is.within late.at
+      (late-in m.channels packets rows well p first balance late.is.kind late.is.c late.packet late.is.within late.at
       late.is.has-it
       late.is.late)),
 )

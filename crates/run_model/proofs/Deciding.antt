@@ -6,7 +6,8 @@ use Rattle.std.proofs.lemmas.Option.{same_Some}
 use Rattle.chan_map.specs.trace_model.declared.channel.Channel.{Channel}
 use Rattle.chan_map.specs.trace_model.declared.channel.Dir.{Dir}
 use Rattle.chan_map.specs.trace_model.declared.channel.Dir.TheVariants.{Inward, Outward}
-use Rattle.chan_map.specs.trace_model.declared.event.Kind.TheVariants.{Start, End}
+use Rattle.chan_map.specs.trace_model.declared.event.Kind.{Kind}
+use Rattle.chan_map.specs.trace_model.declared.event.Kind.TheVariants.{Start, End, Reset}
 use Rattle.chan_map.specs.trace_model.declared.packet.Packet.{Packet}
 use Rattle.chan_map.specs.trace_model.declared.row.Row.{Row}
 use Rattle.chan_map.specs.trace_model.Clock.{Covers}
@@ -55,16 +56,20 @@ both-or-not (inl a) (inl b) = inl (a, b)
 both-or-not (inl a) (inr none) = inr (λ h. none h.1)
 both-or-not (inr none) b = inr (λ h. none h.0)
 
+abbrev HasAll : ℕ → List Packet → List Row → Kind → Type 0
+HasAll n packets rows kind = Covers n (λ c. shown kind c rows) (λ c. count kind c packets)
+
 pub ended-or-not : (n : ℕ) (packets : List Packet) (rows : List Row) → Decides (HasEnded n packets rows)
-ended-or-not n packets rows = ⊎_elim (λ h. inl (each h)) (λ none. inr (λ h. none (h Start, h End)))
-    (both-or-not
-    (covers-or-not n (λ c. shown Start c rows) (λ c. count Start c packets))
-    (covers-or-not n (λ c. shown End c rows) (λ c. count End c packets)))
+ended-or-not n packets rows = ⊎_elim (λ h. inl (each h.0 h.1.0 h.1.1)) (λ none. inr (λ h. none (h Start, (h End, h Reset))))
+    (both-or-not (of-kind Start) (both-or-not (of-kind End) (of-kind Reset)))
   where
-    each : Covers n (λ c. shown Start c rows) (λ c. count Start c packets) × Covers n (λ c. shown End c rows) (λ c. count End c packets)
-        → HasEnded n packets rows
-    each h Start = h.0
-    each h End = h.1
+    of-kind : (kind : Kind) → Decides (HasAll n packets rows kind)
+    of-kind kind = covers-or-not n (λ c. shown kind c rows) (λ c. count kind c packets)
+
+    each : HasAll n packets rows Start → HasAll n packets rows End → HasAll n packets rows Reset → HasEnded n packets rows
+    each s e r Start = s
+    each s e r End = e
+    each s e r Reset = r
 
 -- ---- whether an epoch is done
 at-each : (P : ℕ → Channel → Type 0) → ((c : ℕ) (x : Channel) → Decides (P c x)) → (channels : List Channel)

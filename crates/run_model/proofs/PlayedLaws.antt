@@ -100,7 +100,7 @@ rows-front channels rows k are t row at =
     within (x ∷ xs) (suc k) (suc t) row at = let l = within xs k t row at in omega arith
 
 -- ---- at most one list
--- the rule fixes the environment's part of a row and its gates
+-- the rule fixes the environment's part of a row, its gates and whether a reset came
 abbrev pub Determines : List Channel → (List Row → Row → Type 0) → Type 0
 Determines channels rule = (before : List Row) (a b : Row) → AreRows channels before → IsOver channels a → IsOver channels b
     → rule before a → rule before b → Agree channels a b
@@ -239,13 +239,13 @@ fit-outputs d are v fit width pin is =
     (subst (λ w. get_or v.nets is.port 0 < 2 ^ w) (are.widths is.port is.p is.at ∙ is.width_is) below)
 
 -- ---- at least one list
--- after these rows the rule allows the rows with some offers and gates
+-- after these rows the rule allows the rows with some offers and gates, before which no reset came
 pub record Allows (channels : List Channel) (rule : List Row → Row → Type 0) (before : List Row) : Type 0 where
   pub offers : Offers
   pub gates : ℕ
   pub are : AreOffers channels offers
   pub below : gates < 2 ^ length channels
-  pub allows : (row : Row) → IsOver channels row → Carries channels offers row → row.gates ≡ gates → rule before row
+  pub allows : (row : Row) → IsOver channels row → Carries channels offers row → row.gates ≡ gates → row.fresh ≡ false → rule before row
 
 record Lists (d : Design) (m : Map) (rule : List Row → Row → Type 0) (n : ℕ) : Type 0 where
   rows : List Row
@@ -288,7 +288,7 @@ row-step d m are-nets is before offers are gates l s pins v entered-is settled =
     let fits = fit-outputs d are-nets v settled.keeps.fit in
     let first = row_of m before offers gates [] in
     let row = row_of m before offers gates (outputs d v) in
-    let agree : Agree m.channels first row = carried m.channels offers first row refl
+    let agree : Agree m.channels first row = carried m.channels offers first row refl refl
     (row-carries d m is before offers are gates [] (no-outputs d)) (row-carries d m is before offers are gates (outputs d v) fits) in
     record {
       pins = pins;
@@ -324,7 +324,7 @@ module _ (d : Design) (m : Map) (law : IsLawful d) (one : HasOneMap d) (is : IsM
       let over = row-over d m is before w.offers w.are w.gates w.below (outputs d v.0) fits in
       let step = row-step d m (ports-are_nets d law) is before w.offers w.are w.gates w.below s pins v.0 are v.1 in
       let g = played-push d m rule x.rows row (next d v.0 s) x.played
-      (w.allows row over (row-carries d m is before w.offers w.are w.gates (outputs d v.0) fits) refl) over
+      (w.allows row over (row-carries d m is before w.offers w.are w.gates (outputs d v.0) fits) refl refl) over
       (row-marked m before w.offers w.gates (outputs d v.0)) step in
       record {
         rows = x.rows ++ row ∷ [];

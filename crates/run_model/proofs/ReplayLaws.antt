@@ -13,7 +13,7 @@ use Rattle.chan_map.specs.trace_model.declared.channel.Channel.{Channel}
 use Rattle.chan_map.specs.trace_model.declared.channel.Dir.{Dir}
 use Rattle.chan_map.specs.trace_model.declared.channel.Dir.TheVariants.{Inward, Outward}
 use Rattle.chan_map.specs.trace_model.declared.event.Kind.{Kind}
-use Rattle.chan_map.specs.trace_model.declared.event.Kind.TheVariants.{Start, End}
+use Rattle.chan_map.specs.trace_model.declared.event.Kind.TheVariants.{Start, End, Reset}
 use Rattle.chan_map.specs.trace_model.declared.packet.Packet.{Packet}
 use Rattle.chan_map.specs.trace_model.declared.row.Offers.{Offers}
 use Rattle.chan_map.specs.trace_model.declared.row.Row.{Row}
@@ -61,6 +61,7 @@ agree-on channels packets have a b c Outward x y = same-tests (has a.readies c) 
 
 replay-determines : (channels : List Channel) (packets : List Packet) → Determines channels (IsReplayRow channels packets)
 replay-determines channels packets before a b are oa ob ra rb = record {
+  fresh = ra.2 ∙ sym rb.2;
   gates = ra.1 ∙ sym rb.1;
   on = λ c x at. agree-on channels packets (done before) a b c x.dir (ra.0 c x at) (rb.0 c x at);
 }
@@ -163,7 +164,8 @@ replay-allows channels packets fit before are = record {
   gates = all_up channels;
   are = offers-over channels packets (done before) fit;
   below = all-up-below (length channels);
-  allows = λ row over carries g. (λ c x at. offered-on channels packets (done before) fit row c x.dir x at (carries c x at), g);
+  allows = λ row over carries g fresh.
+      (λ c x at. offered-on channels packets (done before) fit row c x.dir x at (carries c x at), g, fresh);
 }
 
 pub one-replay : OneReplay
@@ -361,6 +363,8 @@ module _ (d : Design) (m : Map) (packets : List Packet) (rows : List Row) (repla
       }
   in-order Start Outward c j p x packet there dir h is = absurd (false≢true h)
   in-order End Inward c j p x packet there dir h is = absurd (false≢true h)
+  in-order Reset Inward c j p x packet there dir h is = absurd (false≢true h)
+  in-order Reset Outward c j p x packet there dir h is = absurd (false≢true h)
   in-order End Outward c j p x packet there dir h is =
       let f = from-row m.channels rows p packet is.at in
       let r = nth-row m.channels rows End c j p packet f is in

@@ -12,7 +12,7 @@ use Rattle.chan_map.specs.trace_model.declared.row.Row.{Row}
 use Rattle.chan_map.specs.trace_model.Packet.{count, does}
 use Rattle.chan_map.specs.trace_model.Row.{AreRows, IsOver}
 use Rattle.chan_map.proofs.trace_model_lemmas.CountingLemmas.{nth-below}
-use Rattle.chan_map.specs.net_design.declared.design.Design.{Design}
+use Rattle.net_design.specs.declared.design.Design.{Design}
 use Rattle.chan_map.specs.declared.pins.Map.{Map}
 use Rattle.run_model.specs.Held.{awaits}
 use Rattle.run_model.specs.Laws.{ContentsFit, IsFirstOpen, IsReady, OffersFit, OneOfLength}

@@ -83,6 +83,7 @@ row_of m before offers gates out =
     let valids = mask_of (valid_at m offers out) n in
     let readies = mask_of (ready_at m offers out) n in
     record {
+      fresh = false;
       gates = gates;
       valids = valids;
       readies = readies;

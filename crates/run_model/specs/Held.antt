@@ -7,7 +7,7 @@ use Rattle.chan_map.specs.trace_model.declared.channel.Dir.{Dir}
 use Rattle.chan_map.specs.trace_model.declared.channel.Dir.TheVariants.{Inward, Outward}
 use Rattle.chan_map.specs.trace_model.declared.event.Event.{Event}
 use Rattle.chan_map.specs.trace_model.declared.event.Kind.{Kind}
-use Rattle.chan_map.specs.trace_model.declared.event.Kind.TheVariants.{Start, End}
+use Rattle.chan_map.specs.trace_model.declared.event.Kind.TheVariants.{Start, End, Reset}
 use Rattle.chan_map.specs.trace_model.declared.packet.Packet.{Packet}
 use Rattle.chan_map.specs.trace_model.declared.row.Row.{Row}
 use Rattle.chan_map.specs.trace_model.Clock.{clock}
@@ -24,7 +24,7 @@ places_from test k [] = []
 places_from test k (x ∷ xs) = if test x then k ∷ places_from test (k + 1) xs else places_from test (k + 1) xs
 
 abbrev pub event : ℕ → Kind → ℕ → Event
-event channel kind index = record { channel = channel; kind = kind; index = index }
+event channel kind index = record { channel = channel; kind = kind; index = index; epoch = 0 }
 
 -- the number of the packet in which an event is recorded
 abbrev pub packet_place : List Packet → Event → Option ℕ
@@ -75,12 +75,12 @@ recorded_next packets rows c = if is_some (packet_place packets (next_event rows
 
 abbrev pub same_kind : Kind → Kind → Bool
 same_kind Start Start = true
-same_kind Start End = false
-same_kind End Start = false
 same_kind End End = true
+same_kind Reset Reset = true
+same_kind a b = false
 
 abbrev pub same_event : Event → Event → Bool
-same_event a b = (a.channel == b.channel) && (same_kind a.kind b.kind && (a.index == b.index))
+same_event a b = (a.epoch == b.epoch) && ((a.channel == b.channel) && (same_kind a.kind b.kind && (a.index == b.index)))
 
 abbrev pub is_held : List Held → Event → Bool
 is_held helds e = list_any (λ (h : Held). same_event h.event e) helds

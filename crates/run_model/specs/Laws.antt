@@ -109,9 +109,9 @@ ReplayKeepsContents = (d : Design) (m : Map) (packets : List Packet) (rows : Lis
 -- the events that the replayers control: the starts of an inward channel, the completions of an outward one
 abbrev pub controls : Dir → Kind → Bool
 controls Inward Start = true
-controls Inward End = false
-controls Outward Start = false
 controls Outward End = true
+controls Inward kind = false
+controls Outward kind = false
 
 -- event j of this kind on channel c, in packet p of the output, is recorded, in packet `place`; its clock covers the recorded one,
 -- and a start has the recorded content

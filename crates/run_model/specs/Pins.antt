@@ -1,5 +1,5 @@
 -- What a cycle enters at the input pins of the top, by the row that the channels show (this project's profile).
-use Rattle.std.specs.Prelude.{◌≡◌, ℕ, ◌+◌, ◌&&◌, Bool, not, if◌then◌else◌, List, [], ◌∷◌, ◌++◌, All, map, slice_index}
+use Rattle.std.specs.Prelude.{◌≡◌, ℕ, ◌+◌, ◌&&◌, Bool, not, if◌then◌else◌, List, [], ◌∷◌, ◌++◌, All, map, slice_index, false}
 use Rattle.std.specs.List.{enumerate_from}
 use Rattle.std.specs.Option.{option_to_list}
 use Rattle.chan_map.specs.vidi_bits.Number.{truth, has}
@@ -59,4 +59,4 @@ pub record ArePins (d : Design) (m : Map) (resets : Bool) (row : Row) (pins : Li
 
 -- a row of which nothing is up
 abbrev pub silent : Row
-silent = record { gates = 0; valids = 0; readies = 0; contents = []; starts = 0; ends = 0 }
+silent = record { fresh = false; gates = 0; valids = 0; readies = 0; contents = []; starts = 0; ends = 0 }

@@ -1,7 +1,8 @@
 -- The design's part of runs and replays: rows that a design shows one after the other, from s_0 on.
-use Rattle.std.specs.Prelude.{◌≡◌, ℕ, suc, ◌-◌, ◌^◌, ◌++◌, ◌∷◌, [], List, Some, length, take, slice_get}
+use Rattle.std.specs.Prelude.{◌≡◌, ℕ, suc, ◌++◌, ◌∷◌, [], List, Some, length, take, slice_get}
 use Rattle.chan_map.specs.trace_model.declared.channel.Channel.{Channel}
 use Rattle.chan_map.specs.trace_model.declared.row.Row.{Row}
+use Rattle.chan_map.specs.trace_model.Mask
 use Rattle.chan_map.specs.trace_model.Row.{AreRows, row_before}
 use Rattle.chan_map.specs.trace_model.Stability.{IsUnstable, IsUnstableAt}
 use Rattle.net_design.specs.declared.design.Design.{Design}
@@ -23,7 +24,7 @@ pub record IsPlayed (d : Design) (m : Map) (rule : List Row → Row → Type 0) 
 
 -- all gates of the channels
 abbrev pub all_up : List Channel → ℕ
-all_up channels = 2 ^ length channels - 1
+all_up channels = Mask.all_up (length channels)
 
 -- no row of these is unstable
 abbrev pub AreStable : List Channel → List Row → Type 0

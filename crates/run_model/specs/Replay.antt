@@ -44,9 +44,10 @@ abbrev pub IsOffered : List Channel → List Packet → (ℕ → ℕ) → Row �
 IsOffered channels packets have row = (c : ℕ) (channel : Channel) → slice_get channels c ≡ Some channel
     → IsOfferedOn channels packets have row c channel.dir
 
--- a row of a replay: all gates are up, and it has what is offered after the rows before it
+-- a row of a replay: it has what is offered after the rows before it, all gates are up, and no reset came
 abbrev pub IsReplayRow : List Channel → List Packet → List Row → Row → Type 0
-IsReplayRow channels packets before row = IsOffered channels packets (done before) row × (row.gates ≡ all_up channels)
+IsReplayRow channels packets before row =
+    IsOffered channels packets (done before) row × (row.gates ≡ all_up channels) × (row.fresh ≡ false)
 
 abbrev pub IsReplay : Design → Map → List Packet → List Row → Type 0
 IsReplay d m packets rows = IsPlayed d m (IsReplayRow m.channels packets) rows

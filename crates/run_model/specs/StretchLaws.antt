@@ -9,7 +9,7 @@ use Rattle.chan_map.specs.trace_model.Packet.{count}
 use Rattle.chan_map.specs.trace_model.Recording.{packets_of, trace_of}
 use Rattle.chan_map.specs.trace_model.Row.{IsOver}
 use Rattle.chan_map.specs.trace_model.Trace.{IsWellFormed}
-use Rattle.chan_map.specs.net_design.declared.design.Design.{Design}
+use Rattle.net_design.specs.declared.design.Design.{Design}
 use Rattle.chan_map.specs.declared.pins.Map.{Map}
 use Rattle.run_model.specs.Held.{awaits}
 use Rattle.run_model.specs.Laws.{AreInOrder, ContentsFit, ContentsStay, GatesFit, GatesOf, GatesStay, IsFirstOpen, IsFree, IsReady}

@@ -1,6 +1,6 @@
 -- Rows in stretches, each from one reset in mid-run to the next (this project's profile). A reset brings the design back to s_0, and then
 -- nothing is in flight and nothing has completed. So the rows of a stretch are a run or a replay as without resets, and a design's rows
--- are those of its stretches, one after the other.
+-- are those of its stretches, one after the other. Where they are cut is said by the list of stretches alone: today no row is fresh.
 use Rattle.std.specs.Prelude.{◌≡◌, ℕ, suc, ◌<◌, ◌≤◌, Bool, true, List, [], ◌∷◌, ◌++◌, Some, drop, length, slice_get, sum_by, take}
 use Rattle.chan_map.specs.trace_model.declared.channel.Channel.{Channel}
 use Rattle.chan_map.specs.trace_model.declared.channel.Dir.TheVariants.{Inward}
@@ -10,7 +10,7 @@ use Rattle.chan_map.specs.trace_model.declared.row.Offers.{Offers}
 use Rattle.chan_map.specs.trace_model.declared.row.Row.{Row}
 use Rattle.chan_map.specs.trace_model.Packet.{count}
 use Rattle.chan_map.specs.trace_model.Recording.{shown}
-use Rattle.chan_map.specs.net_design.declared.design.Design.{Design}
+use Rattle.net_design.specs.declared.design.Design.{Design}
 use Rattle.chan_map.specs.declared.pins.Map.{Map}
 use Rattle.run_model.specs.Replay.{IsReplay, done}
 use Rattle.run_model.specs.Run.{IsRun}
