@@ -1,28 +1,30 @@
 -- What the calls of a `Room` do to its ledger, and that it stays sound.
-use Rattle.std.proofs.Common.{◌≡◌, ◌≢◌, ◌↔◌, ℕ, ◌+◌, ◌-◌, ◌*◌, ◌/◌, ◌%◌, ◌<◌, ◌≤◌, ◌^◌, ◌&&◌, ◌||◌, ◌==◌, Bool, IsTrue, true, false, not}
-use Rattle.std.proofs.Common.{cond, map, List, [], ◌∷◌, length, bit_and, bit_or, sum_by, refl, ap, sym, subst, ◌∙◌, ⊎_elim, arith}
+use Rattle.std.proofs.Common.{◌≡◌, ◌≢◌, ◌↔◌, ℕ, ◌+◌, ◌-◌, ◌*◌, ◌%◌, ◌<◌, ◌≤◌, ◌^◌, ◌&&◌, ◌||◌, ◌==◌, Bool, IsTrue, true, false, not}
+use Rattle.std.proofs.Common.{cond, map, List, [], ◌∷◌, length, bit_and, bit_or, sum_by, leb, refl, ap, sym, subst, ◌∙◌, ⊎_elim, arith}
+use Rattle.std.proofs.Common.{leb-true, le-leb}
 use Rattle.std.proofs.Math.Nat.{pow-le-pow_right}
 use Rattle.std.proofs.lemmas.Bool.{cases_Bool, cases_eq, cases_lt, false≢true, eqb-true, eq-eqb, or_right, and_from}
 use Rattle.std.proofs.lemmas.List.Sums.{sum_by-cons}
 use Rattle.std.proofs.lemmas.Nat.{and_le_l, or_lt, pow_pos, mod_below}
-use Rattle.std.proofs.lemmas.Nat.Bits.{same_from_bits, ones_shr}
+use Rattle.std.proofs.lemmas.Nat.Bits.{same_from_bits}
 use Rattle.std.proofs.lemmas.List.{length-map}
 use Rattle.trace_model.specs.vidi_bits.Number.{has}
 use Rattle.trace_model.proofs.vidi_bits_lemmas.Bools.{and_not_false}
 use Rattle.trace_model.proofs.vidi_bits_lemmas.BitLemmas.{bit_at-mod, bit_at-mod_above, has-above}
 use Rattle.trace_model.specs.declared.channel.Channel.{Channel}
 use Rattle.trace_model.specs.Channel.{content_bytes}
-use Rattle.trace_model.specs.Length.{head_len}
+use Rattle.trace_model.specs.Length.{head_len, sizes_under}
 use Rattle.trace_model.proofs.MaskLemmas.{some-bit, has-from-bit, no-bit-from-has}
-use Rattle.room_ledger.specs.Reservation.{whole, need, reservation, reserved, event_len, sizes_under}
-use Rattle.room_ledger.specs.Gates.{all_up}
+use Rattle.trace_model.specs.Mask.{all_up}
+use Rattle.room_ledger.specs.Reservation.{whole, need, least, reservation, reserved, event_len, reset_len, permit_room}
 use Rattle.room_ledger.specs.Raising.{raise}
-use Rattle.room_ledger.specs.Ledger.{Ledger, ledger, fresh, claimed, IsSound, MayEmit, Emitted, Regranted}
+use Rattle.room_ledger.specs.Ledger.{Ledger, ledger, empty, claimed, may_reset, permit_after, IsSound, MayEmit, Emitted, IsReset, Regranted}
 use Rattle.room_ledger.proofs.Masks.{same-masks, has-or, has-without, has-zero}
-use Rattle.room_ledger.proofs.Totals.{total}
+use Rattle.trace_model.proofs.LengthLemmas.{total}
+use Rattle.room_ledger.proofs.Totals.{total-le}
 use Rattle.room_ledger.proofs.Emission.{IsLawful, packet-fits, pays-all}
 use Rattle.room_ledger.proofs.Raising.{raised-from}
-use Rattle.room_ledger.proofs.Reserving.{reserved-need, raised-reserved, raised-within, are-raised}
+use Rattle.room_ledger.proofs.Reserving.{none-room, least-is, reserved-need, raised-reserved, raised-within, are-raised}
 
 -- ---- emit
 abbrev up-after : Ledger → ℕ → ℕ → Bool
@@ -72,7 +74,8 @@ some-event starts ends ls le h = ⊎_elim
 
 event-cases : (l : Ledger) (starts ends : ℕ) → IsSound l → MayEmit l starts ends → (none : Bool) → (starts == 0 && ends == 0) ≡ none
     → (none ≡ false → (c : ℕ) × ((has starts c || has ends c) ≡ true))
-    → l.used + event_len l.sizes starts ends + reserved l.sizes (up-after l ends) (flies-after l starts ends) ≤ l.capacity
+    → l.used + event_len l.sizes starts ends + permit_room l.resets l.permit + reserved l.sizes (up-after l ends) (flies-after l starts ends)
+    ≤ l.capacity
 event-cases l starts ends sound may true e some =
     let len : event_len l.sizes starts ends ≡ 0 = ap (λ b. cond b 0 (head_len (length l.sizes) + sizes_under starts l.sizes)) e in
     let pays = pays-all (head_len (length l.sizes)) (has l.gates) (has l.flying) (has starts) (has ends) (lawful l starts ends sound may) 0
@@ -92,7 +95,8 @@ event-cases l starts ends sound may false e some =
 
 -- the packet and what is reserved afterwards are within what was reserved
 pub emit-fits : (l : Ledger) (starts ends : ℕ) → starts < 2 ^ 128 → ends < 2 ^ 128 → IsSound l → MayEmit l starts ends
-    → l.used + event_len l.sizes starts ends + reserved l.sizes (up-after l ends) (flies-after l starts ends) ≤ l.capacity
+    → l.used + event_len l.sizes starts ends + permit_room l.resets l.permit + reserved l.sizes (up-after l ends) (flies-after l starts ends)
+    ≤ l.capacity
 emit-fits l starts ends ls le sound may = event-cases l starts ends sound may (starts == 0 && ends == 0) refl
     (λ h. some-event starts ends ls le h)
 
@@ -117,15 +121,17 @@ flying-fits l sound = below-from-bits l.flying 128 (λ c m. ⊎_elim
 
 -- the ledger that the code makes
 abbrev pub emitted : Ledger → ℕ → ℕ → Ledger
-emitted l starts ends = ledger l.sizes l.capacity (l.used + event_len l.sizes starts ends) (bit_and l.gates (2 ^ 128 - 1 - ends))
-    (bit_and (bit_or l.flying starts) (2 ^ 128 - 1 - ends))
+emitted l starts ends = ledger l.sizes l.resets l.capacity (l.used + event_len l.sizes starts ends) l.permit
+    (bit_and l.gates (2 ^ 128 - 1 - ends)) (bit_and (bit_or l.flying starts) (2 ^ 128 - 1 - ends))
 
 pub emit-next : (l : Ledger) (starts ends : ℕ) → starts < 2 ^ 128 → ends < 2 ^ 128 → IsSound l
     → Emitted l starts ends (emitted l starts ends)
 emit-next l starts ends ls le sound = record {
   sizes = refl;
+  resets = refl;
   capacity = refl;
   used = refl;
+  permit = refl;
   gates = has-without l.gates ends (gates-fit l sound) le;
   flying = λ c. has-without (bit_or l.flying starts) ends (or_lt 128 l.flying starts (flying-fits l sound) ls) le c
       ∙ ap (λ b. b && not (has ends c)) (has-or l.flying starts c);
@@ -137,9 +143,9 @@ emit-room l starts ends ls le sound may =
     let next = emit-next l starts ends ls le sound in
     let up : up-after l ends ≡ has (bit_and l.gates (2 ^ 128 - 1 - ends)) = λ i c. sym (next.gates c) i in
     let flies : flies-after l starts ends ≡ has (bit_and (bit_or l.flying starts) (2 ^ 128 - 1 - ends)) = λ i c. sym (next.flying c) i in
-    subst (λ (f : ℕ → Bool). l.used + event_len l.sizes starts ends + reserved l.sizes (has (bit_and l.gates (2 ^ 128 - 1 - ends))) f ≤
-    l.capacity) flies
-    (subst (λ (g : ℕ → Bool). l.used + event_len l.sizes starts ends + reserved l.sizes g (flies-after l starts ends) ≤ l.capacity) up
+    let used = l.used + event_len l.sizes starts ends + permit_room l.resets l.permit in
+    subst (λ (f : ℕ → Bool). used + reserved l.sizes (has (bit_and l.gates (2 ^ 128 - 1 - ends))) f ≤ l.capacity) flies
+    (subst (λ (g : ℕ → Bool). used + reserved l.sizes g (flies-after l starts ends) ≤ l.capacity) up
     (emit-fits l starts ends ls le sound may))
 
 and-right : (a b : Bool) → (a && b) ≡ true → b ≡ true
@@ -168,31 +174,140 @@ emit-sound l starts ends ls le sound may =
           (sym (next.flying c) ∙ h);
     }
 
--- ---- regrant
--- the gates that the code makes
-abbrev pub regranted : Ledger → ℕ
-regranted l = raise (head_len (length l.sizes)) l.capacity l.sizes 0 (claimed l) l.gates
+-- ---- reset
+-- a channel whose gate falls reserves no more, and one that isn't in flight any more has lost its gate
+one-less : (head size : ℕ) (g f : Bool) → cond (g && not f) (cond false head (2 * head + size)) 0 ≤ cond g (cond f head (2 * head + size)) 0
+one-less head size true true = omega arith
+one-less head size true false = omega arith
+one-less head size false f = omega arith
 
-pub regrant-next : (l : Ledger) → IsSound l → Regranted l (ledger l.sizes l.capacity l.used (regranted l) l.flying)
-regrant-next l sound = record {
+permit-is : (resets permit : Bool) → (resets && permit) ≡ true → permit_room resets permit ≡ reset_len
+permit-is resets permit h = ap (λ b. cond b reset_len 0) h
+
+-- the ledger that the code makes
+abbrev pub after-reset : Ledger → Ledger
+after-reset l = ledger l.sizes l.resets l.capacity (l.used + reset_len) false (bit_and l.gates (2 ^ 128 - 1 - l.flying)) 0
+
+pub reset-next : (l : Ledger) → IsSound l → IsReset l (after-reset l)
+reset-next l sound = record {
   sizes = refl;
+  resets = refl;
   capacity = refl;
   used = refl;
+  permit = refl;
+  gates = has-without l.gates l.flying (gates-fit l sound) (flying-fits l sound);
   flying = refl;
-  gates = are-raised l.capacity l.used l.sizes l.gates (regranted l) (has l.flying) sound.gates
-      (raised-from (head_len (length l.sizes)) l.capacity l.sizes 0 (claimed l) l.gates);
 }
 
-pub regrant-room : (l : Ledger) → IsSound l → claimed (ledger l.sizes l.capacity l.used (regranted l) l.flying) ≤ l.capacity
+-- the packet of a reset was reserved
+pub reset-fits : (l : Ledger) → IsSound l → may_reset l ≡ true → l.used + reset_len ≤ l.capacity
+reset-fits l sound may = let room = sound.room in let three = permit-is l.resets l.permit may in omega arith
+
+reset-reserves : (l : Ledger) → IsSound l
+    → reserved l.sizes (has (bit_and l.gates (2 ^ 128 - 1 - l.flying))) (has 0) ≤ reserved l.sizes (has l.gates) (has l.flying)
+reset-reserves l sound =
+    let head = head_len (length l.sizes) in
+    let gates = (reset-next l sound).gates in
+    total-le (reservation head (has (bit_and l.gates (2 ^ 128 - 1 - l.flying))) (has 0)) (reservation head (has l.gates) (has l.flying)) 0
+    l.sizes
+    (λ c size. subst (λ g. cond g (cond (has 0 c) head (2 * head + size)) 0
+    ≤ cond (has l.gates c) (cond (has l.flying c) head (2 * head + size)) 0) (sym (gates c))
+    (subst (λ f. cond (has l.gates c && not (has l.flying c)) (cond f head (2 * head + size)) 0
+    ≤ cond (has l.gates c) (cond (has l.flying c) head (2 * head + size)) 0) (sym (has-zero c))
+    (one-less head size (has l.gates c) (has l.flying c))))
+
+pub reset-room : (l : Ledger) → IsSound l → may_reset l ≡ true → claimed (after-reset l) ≤ l.capacity
+reset-room l sound may =
+    let room = sound.room in
+    let three = permit-is l.resets l.permit may in
+    let none = none-room l.resets in
+    let less = reset-reserves l sound in
+    omega arith
+
+pub reset-sound : (l : Ledger) → IsSound l → may_reset l ≡ true → IsSound (after-reset l)
+reset-sound l sound may = record {
+  some = sound.some;
+  few = sound.few;
+  whole = sound.whole;
+  room = reset-room l sound may;
+  gates = omega (arith, and_le_l l.gates (2 ^ 128 - 1 - l.flying), sound.gates);
+  flying = λ c h. absurd (false≢true (sym (has-zero c) ∙ h));
+}
+
+-- ---- regrant
+-- the ledger once the permit was decided, which comes first
+abbrev pub with-permit : Ledger → Ledger
+with-permit l = record l { permit = permit_after l }
+
+raised-permit : (used taken capacity : ℕ) (resets p : Bool) → used + permit_room resets p + taken ≤ capacity
+    → used + permit_room resets (p || leb (used + permit_room resets p + taken + permit_room resets true) capacity) + taken ≤ capacity
+raised-permit used taken capacity resets true l = l
+raised-permit used taken capacity resets false l = by (leb (used + permit_room resets false + taken + permit_room resets true) capacity) refl
+  where
+    by : (b : Bool) → leb (used + permit_room resets false + taken + permit_room resets true) capacity ≡ b
+        → used + permit_room resets b + taken ≤ capacity
+    by true h = let fits = leb-true (used + permit_room resets false + taken + permit_room resets true) capacity h in omega arith
+    by false h = l
+
+permit-sound : (l : Ledger) → IsSound l → IsSound (with-permit l)
+permit-sound l sound = record {
+  some = sound.some;
+  few = sound.few;
+  whole = sound.whole;
+  room = raised-permit l.used (reserved l.sizes (has l.gates) (has l.flying)) l.capacity l.resets l.permit sound.room;
+  gates = sound.gates;
+  flying = sound.flying;
+}
+
+-- the permit that the code makes: one that is up has its room
+same-test : (a b c d : ℕ) → (a ≤ b → c ≤ d) → (c ≤ d → a ≤ b) → leb a b ≡ leb c d
+same-test a b c d there back = by (leb a b) (leb c d) refl refl
+  where
+    by : (x y : Bool) → leb a b ≡ x → leb c d ≡ y → x ≡ y
+    by true true h k = refl
+    by true false h k = sym (le-leb c d (there (leb-true a b h))) ∙ k
+    by false true h k = sym h ∙ le-leb a b (back (leb-true c d k))
+    by false false h k = refl
+
+permit-same : (used taken capacity : ℕ) (resets p : Bool) → used + permit_room resets p + taken ≤ capacity
+    → leb (permit_room resets true) (capacity - (used + taken))
+    ≡ (p || leb (used + permit_room resets p + taken + permit_room resets true) capacity)
+permit-same used taken capacity resets true l = le-leb (permit_room resets true) (capacity - (used + taken)) (omega arith)
+permit-same used taken capacity resets false l =
+    let none = none-room resets in
+    same-test (permit_room resets true) (capacity - (used + taken)) (used + permit_room resets false + taken + permit_room resets true)
+    capacity (λ h. omega arith) (λ h. omega arith)
+
+-- the gates that the code makes
+abbrev pub regranted : Ledger → ℕ
+regranted l = raise (head_len (length l.sizes)) l.capacity l.sizes 0 (claimed (with-permit l)) l.gates
+
+abbrev pub after-regrant : Ledger → Ledger
+after-regrant l = record (with-permit l) { gates = regranted l }
+
+pub regrant-next : (l : Ledger) → IsSound l → Regranted l (after-regrant l)
+regrant-next l sound = record {
+  sizes = refl;
+  resets = refl;
+  capacity = refl;
+  used = refl;
+  permit = refl;
+  flying = refl;
+  gates = are-raised l.capacity (l.used + permit_room l.resets (permit_after l)) l.sizes l.gates (regranted l) (has l.flying) sound.gates
+      (raised-from (head_len (length l.sizes)) l.capacity l.sizes 0 (claimed (with-permit l)) l.gates);
+}
+
+pub regrant-room : (l : Ledger) → IsSound l → claimed (after-regrant l) ≤ l.capacity
 regrant-room l sound =
-    let is = raised-from (head_len (length l.sizes)) l.capacity l.sizes 0 (claimed l) l.gates in
-    let within = raised-within (head_len (length l.sizes)) l.capacity l.sizes (claimed l) l.gates (regranted l) is sound.room in
+    let is = raised-from (head_len (length l.sizes)) l.capacity l.sizes 0 (claimed (with-permit l)) l.gates in
+    let fits = (permit-sound l sound).room in
+    let within = raised-within (head_len (length l.sizes)) l.capacity l.sizes (claimed (with-permit l)) l.gates (regranted l) is fits in
     let sum = raised-reserved (head_len (length l.sizes)) (has l.gates) (has l.flying) (has (regranted l)) is.stay sound.flying 0 l.sizes in
     omega arith
 
-pub regrant-sound : (l : Ledger) → IsSound l → IsSound (ledger l.sizes l.capacity l.used (regranted l) l.flying)
+pub regrant-sound : (l : Ledger) → IsSound l → IsSound (after-regrant l)
 regrant-sound l sound =
-    let is = raised-from (head_len (length l.sizes)) l.capacity l.sizes 0 (claimed l) l.gates in
+    let is = raised-from (head_len (length l.sizes)) l.capacity l.sizes 0 (claimed (with-permit l)) l.gates in
     let next = regrant-next l sound in
     record {
       some = sound.some;
@@ -204,13 +319,18 @@ regrant-sound l sound =
     }
 
 -- ---- new
-pub fresh-sound : (sizes : List ℕ) (capacity : ℕ) → 1 ≤ length sizes → length sizes ≤ 128 → need sizes ≤ capacity
-    → IsSound (fresh sizes capacity)
-fresh-sound sizes capacity some few fits = record {
+pub empty-sound : (sizes : List ℕ) (resets : Bool) (capacity : ℕ) → 1 ≤ length sizes → length sizes ≤ 128 → least sizes resets ≤ capacity
+    → IsSound (empty sizes resets capacity)
+empty-sound sizes resets capacity some few fits = record {
   some = some;
   few = few;
   whole = fits;
-  room = omega (arith, reserved-need (head_len (length sizes)) (has (all_up sizes)) (has 0) 0 sizes);
+  room = omega (
+    arith,
+    fits,
+    least-is sizes resets,
+    reserved-need (head_len (length sizes)) (has (all_up (length sizes))) (has 0) 0 sizes,
+  );
   gates = omega (arith, pow_pos (length sizes));
   flying = λ c h. absurd (false≢true (sym (has-zero c) ∙ h));
 }
@@ -223,7 +343,7 @@ need-is head (c ∷ cs) =
     rw (sum_by-cons (whole head) (content_bytes c) (map content_bytes cs), sum_by-cons content_bytes c cs) (omega arith)
 
 pub need-small : (head : ℕ) (channels : List Channel) → head ≤ 64 → length channels ≤ 128 → sum_by content_bytes channels ≤ 2048
-    → sum_by (whole head) (map content_bytes channels) < 2 ^ 32
+    → sum_by (whole head) (map content_bytes channels) < 2 ^ 16
 need-small head channels h few content =
     let sum = need-is head channels in
     let product : length channels * (2 * head) ≤ 128 * (2 * 64) = grind arith in
@@ -233,40 +353,45 @@ need-small head channels h few content =
 head-small : (n : ℕ) → n ≤ 128 → head_len n ≤ 64
 head-small n l = omega arith
 
-pub need-fits : (channels : List Channel) (sizes slice : List ℕ) (len head : ℕ) → sizes ≡ map content_bytes channels → slice ≡ sizes → len
-    ≡ length sizes → head ≡ head_len len
-    → length channels ≤ 128 → sum_by content_bytes channels ≤ 2048 → sum_by (whole head) slice < 2 ^ 32
-need-fits channels sizes slice len head s v n h few content =
-    let count : len ≡ length channels = n ∙ ap length s ∙ length-map channels content_bytes in
-    let small = head-small len (omega arith) in
-    rw (v, s) (need-small head channels (omega arith) few content)
-
-pub need-within : (sizes slice : List ℕ) (len head needed capacity : ℕ) → slice ≡ sizes → len ≡ length sizes → head ≡ head_len len → needed
-    ≡ sum_by (whole head) slice → needed ≤ capacity
-    → need sizes ≤ capacity
-need-within sizes slice len head needed capacity v n h e l =
-    let same : sum_by (whole head) slice ≡ need sizes = ap (λ (xs : List ℕ). sum_by (whole head) xs) v
-    ∙ ap (λ k. sum_by (whole k) sizes) (h ∙ ap head_len n) in
+pub need-fits : (channels : List Channel) (sizes slice : List ℕ) → sizes ≡ map content_bytes channels → slice ≡ sizes
+    → length channels ≤ 128 → sum_by content_bytes channels ≤ 2048 → need slice + reset_len < 2 ^ 32
+need-fits channels sizes slice s v few content =
+    let count : length slice ≡ length channels = ap length (v ∙ s) ∙ length-map channels content_bytes in
+    let small = head-small (length slice) (omega arith) in
+    let same : need slice ≡ sum_by (whole (head_len (length slice))) (map content_bytes channels) =
+    ap (λ (xs : List ℕ). sum_by (whole (head_len (length slice))) xs) (v ∙ s) in
+    let low = need-small (head_len (length slice)) channels small few content in
     omega arith
 
-pub mask-is : (sizes : List ℕ) (len : ℕ) → len ≡ length sizes → length sizes ≤ 128 → (2 ^ 128 - 1) / 2 ^ (128 - len) ≡ all_up sizes
-mask-is sizes len e few =
-    let back : 128 - (128 - len) ≡ length sizes = omega arith in
-    ones_shr 128 (128 - len) (omega arith) ∙ ap (λ n. 2 ^ n - 1) back
-
 -- what the code's sums come to
-pub raised-is : (l : Ledger) (up head taken : ℕ) (slice : List ℕ) → slice ≡ l.sizes → head ≡ head_len (length slice)
-    → taken ≡ total (reservation head (has l.gates) (has l.flying)) 0 slice → up ≡ raise head l.capacity slice 0 (l.used + taken) l.gates
-    → up ≡ regranted l
-raised-is l up head taken slice s h t u =
+taken-is : (l : Ledger) (head taken : ℕ) (slice : List ℕ) → slice ≡ l.sizes → head ≡ head_len (length slice)
+    → taken ≡ total (reservation head (has l.gates) (has l.flying)) 0 slice → taken ≡ reserved l.sizes (has l.gates) (has l.flying)
+taken-is l head taken slice s h t =
     let all : head ≡ head_len (length l.sizes) = h ∙ ap (λ (xs : List ℕ). head_len (length xs)) s in
-    let sum : taken ≡ reserved l.sizes (has l.gates) (has l.flying) =
     t ∙ ap (λ (xs : List ℕ). total (reservation head (has l.gates) (has l.flying)) 0 xs) s
-    ∙ ap (λ k. total (reservation k (has l.gates) (has l.flying)) 0 l.sizes) all in
-    u
-    ∙ ap (λ n. raise head l.capacity slice 0 (l.used + n) l.gates) sum
-    ∙ ap (λ (xs : List ℕ). raise head l.capacity xs 0 (claimed l) l.gates) s
-    ∙ ap (λ k. raise k l.capacity l.sizes 0 (claimed l) l.gates) all
+    ∙ ap (λ k. total (reservation k (has l.gates) (has l.flying)) 0 l.sizes) all
+
+pub regrant-is : (l : Ledger) (up : Bool) (gates head taken most more : ℕ) (slice : List ℕ) → IsSound l → slice ≡ l.sizes
+    → head ≡ head_len (length slice) → taken ≡ total (reservation head (has l.gates) (has l.flying)) 0 slice
+    → most ≡ permit_room l.resets true → up ≡ leb most (l.capacity - (l.used + taken)) → more ≡ permit_room l.resets up
+    → gates ≡ raise head l.capacity slice 0 (l.used + taken + more) l.gates
+    → ledger l.sizes l.resets l.capacity l.used up gates l.flying ≡ after-regrant l
+regrant-is l up gates head taken most more slice sound s h t m u r g =
+    let all : head ≡ head_len (length l.sizes) = h ∙ ap (λ (xs : List ℕ). head_len (length xs)) s in
+    let sum = taken-is l head taken slice s h t in
+    let permit : up ≡ permit_after l = u
+    ∙ ap (λ n. leb n (l.capacity - (l.used + taken))) m
+    ∙ ap (λ n. leb (permit_room l.resets true) (l.capacity - (l.used + n))) sum
+    ∙ permit-same l.used (reserved l.sizes (has l.gates) (has l.flying)) l.capacity l.resets l.permit sound.room in
+    let room : more ≡ permit_room l.resets (permit_after l) = r ∙ ap (permit_room l.resets) permit in
+    let same : l.used + taken + more ≡ claimed (with-permit l) = omega arith in
+    let mask : gates ≡ regranted l =
+    g
+    ∙ ap (λ n. raise head l.capacity slice 0 n l.gates) same
+    ∙ ap (λ (xs : List ℕ). raise head l.capacity xs 0 (claimed (with-permit l)) l.gates) s
+    ∙ ap (λ k. raise k l.capacity l.sizes 0 (claimed (with-permit l)) l.gates) all in
+    ap (λ p. ledger l.sizes l.resets l.capacity l.used p gates l.flying) permit
+    ∙ ap (λ m. ledger l.sizes l.resets l.capacity l.used (permit_after l) m l.flying) mask
 
 -- ---- fits
 -- one mask names no channel that another doesn't

@@ -3,7 +3,7 @@ use Rattle.std.proofs.Common.{◌≡◌, ℕ, ◌+◌, ◌*◌, ◌<◌, ◌≤�
 use Rattle.std.proofs.Common.{arith}
 use Rattle.std.proofs.lemmas.Bool.{cases_eq}
 use Rattle.room_ledger.specs.Reservation.{reservation}
-use Rattle.room_ledger.proofs.Totals.{total, total-cons}
+use Rattle.trace_model.proofs.LengthLemmas.{total, total-cons}
 
 -- one channel, which has its gate up, is in flight, starts and ends, or not: what it reserves afterwards, its content where it
 -- starts, and H for each of its events, are at most what it reserved

@@ -2,36 +2,33 @@
 use Rattle.std.proofs.Common.{◌≡◌, ℕ, zero, suc, ◌+◌, ◌<◌, ◌≤◌, ◌&&◌, Bool, true, false, not, cond, List, Option, Some, None, length, take}
 use Rattle.std.proofs.Common.{get_or, slice_get, leb, refl, ap, sym, subst, ◌∙◌, ⊎_elim, arith, le-leb}
 use Rattle.std.specs.Prelude.{IsSomeAnd}
-use Rattle.std.proofs.lemmas.Bool.{cases_Bool, cases_lt, false≢true}
+use Rattle.std.proofs.lemmas.Bool.{cases_Bool, cases_lt, false≢true, or_right}
 use Rattle.std.proofs.lemmas.List.{length-take-le}
 use Rattle.std.proofs.lemmas.Option.{slice_get_cases}
 use Rattle.trace_model.specs.vidi_bits.Number.{has}
 use Rattle.trace_model.specs.declared.row.Row.{Row}
 use Rattle.trace_model.specs.Length.{head_len}
 use Rattle.trace_model.specs.Row.{is_in_flight}
-use Rattle.room_ledger.specs.Reservation.{whole, need, reserved, raised_below, AreRaised}
-use Rattle.room_ledger.specs.Gates.{Plan, used_at, all_up, keeps, AreGates}
+use Rattle.trace_model.specs.Mask.{all_up}
+use Rattle.room_ledger.specs.Reservation.{whole, need, least, reserved, raised_below, permit_room, AreRaised}
+use Rattle.room_ledger.specs.Gates.{Plan, fresh_at, used_at, permit_at, charged_at, keeps, kept_room, AreGates}
 use Rattle.room_ledger.specs.Laws.{EverythingDrains}
 use Rattle.room_ledger.proofs.Masks.{has-all, has-all_above, same-masks}
-use Rattle.room_ledger.proofs.Totals.{total-same}
+use Rattle.trace_model.proofs.LengthLemmas.{total-same}
 use Rattle.room_ledger.proofs.Raising.{newly}
-use Rattle.room_ledger.proofs.Reserving.{all-need}
+use Rattle.room_ledger.proofs.Reserving.{permit-le, least-is, all-need, reserved-need}
 
 -- ---- down only while bytes wait
--- where all R_c fit, a gate that is down has bytes before it
-raised-down : (sizes : List ℕ) (capacity used : ℕ) (kept flies up : ℕ → Bool) → AreRaised sizes capacity used kept flies up
-    → need sizes ≤ capacity
-    → (c size : ℕ) → slice_get sizes c ≡ Some size → up c ≡ false → 0 < used
-raised-down sizes capacity used kept flies up is fits c size at down = ⊎_elim
-    (λ (k : kept c ≡ true). absurd (false≢true (sym down ∙ is.stay c k)))
-    (λ (k : kept c ≡ false). ⊎_elim
-    (λ (l : 0 < used). l)
-    (λ (l : used ≤ 0).
+-- where all R_c fit beside what is used, all gates are up
+raised-up : (sizes : List ℕ) (capacity used : ℕ) (kept flies up : ℕ → Bool) → AreRaised sizes capacity used kept flies up
+    → need sizes + used ≤ capacity → (c size : ℕ) → slice_get sizes c ≡ Some size → up c ≡ true
+raised-up sizes capacity used kept flies up is fits c size at = ⊎_elim
+    (λ (k : kept c ≡ true). is.stay c k)
+    (λ (k : kept c ≡ false).
     let sum = all-need (head_len (length sizes)) kept flies up 0 sizes c size at (ap kept (omega arith) ∙ k) in
     let room : used + reserved sizes kept flies + raised_below sizes kept up c
     + whole (head_len (length sizes)) size ≤ capacity = omega arith in
-    absurd (false≢true (sym down ∙ is.raised c size at k ∙ le-leb _ _ room)))
-    (cases_lt 0 used))
+    is.raised c size at k ∙ le-leb _ _ room)
     (cases_Bool (kept c))
 
 channel-at : (sizes : List ℕ) (c : ℕ) → c < length sizes → (size : ℕ) × (slice_get sizes c ≡ Some size)
@@ -45,42 +42,74 @@ pub some-row : (P : Row → Type 0) (o : Option Row) → IsSomeAnd o P → (row 
 some-row P None h = absurd h
 some-row P (Some row) h = (row, refl, h)
 
-pub down-waits : (sizes : List ℕ) (plan : Plan) (rows : List Row) (t gates c : ℕ) → need sizes ≤ plan.capacity
-    → AreGates sizes plan rows t gates → c < length sizes → has gates c ≡ false
-    → 0 < used_at sizes plan rows t
-down-waits sizes plan rows zero gates c fits is l down =
+pub down-waits : (sizes : List ℕ) (plan : Plan) (rows : List Row) (t : ℕ) (fresh : Bool) (gates c : ℕ)
+    → least sizes plan.resets ≤ plan.capacity → AreGates sizes plan rows t fresh gates → c < length sizes → has gates c ≡ false
+    → 0 < used_at sizes plan rows t fresh
+down-waits sizes plan rows zero fresh gates c fits is l down =
     absurd (false≢true (sym down ∙ ap (λ g. has g c) is ∙ has-all (length sizes) c l))
-down-waits sizes plan rows (suc t) gates c fits is l down =
-    let before = some-row (λ row. AreRaised sizes plan.capacity (used_at sizes plan rows (suc t)) (keeps row) (is_in_flight row)
-    (has gates)) (slice_get rows t) is in
+down-waits sizes plan rows (suc t) fresh gates c fits is l down =
+    let used = used_at sizes plan rows (suc t) fresh in
+    let permit = permit_at sizes plan rows (suc t) fresh in
+    let charged = charged_at sizes plan rows (suc t) fresh in
+    let before = some-row (λ row. AreRaised sizes plan.capacity charged (keeps row fresh) (is_in_flight row) (has gates)) (slice_get rows t)
+    is in
     let channel = channel-at sizes c l in
-    raised-down sizes plan.capacity (used_at sizes plan rows (suc t)) (keeps before.0) (is_in_flight before.0) (has gates) before.2 fits c
-    channel.0 channel.1 down
+    ⊎_elim
+    (λ (some : 0 < used). some)
+    (λ (none : used ≤ 0).
+    let less = permit-le plan.resets permit in
+    let sum = least-is sizes plan.resets in
+    let room : need sizes + (used + permit_room plan.resets permit) ≤ plan.capacity = omega arith in
+    absurd (false≢true (sym down
+    ∙ raised-up sizes plan.capacity charged (keeps before.0 fresh) (is_in_flight before.0) (has gates) before.2 room c channel.0 channel.1)))
+    (cases_lt 0 used)
+
+-- what is kept behind a row needs no more than all channels do
+kept-need : (sizes : List ℕ) (row : Option Row) (fresh : Bool) → kept_room sizes row fresh ≤ need sizes
+kept-need sizes None fresh = omega arith
+kept-need sizes (Some row) fresh = reserved-need (head_len (length sizes)) (keeps row fresh) (is_in_flight row) 0 sizes
+
+pub permit-waits : (sizes : List ℕ) (plan : Plan) (rows : List Row) (t : ℕ) (fresh : Bool) → least sizes plan.resets ≤ plan.capacity
+    → permit_at sizes plan rows t fresh ≡ false → 0 < used_at sizes plan rows t fresh
+permit-waits sizes plan rows zero fresh fits down = absurd (cc)
+permit-waits sizes plan rows (suc t) fresh fits down =
+    let used = used_at sizes plan rows (suc t) fresh in
+    let room = used + kept_room sizes (slice_get rows t) fresh + permit_room plan.resets true in
+    ⊎_elim
+    (λ (some : 0 < used). some)
+    (λ (none : used ≤ 0).
+    let kept = kept-need sizes (slice_get rows t) fresh in
+    let sum = least-is sizes plan.resets in
+    let enough : room ≤ plan.capacity = omega arith in
+    absurd (false≢true (sym down ∙ or_right (permit_at sizes plan rows t (fresh_at rows t) && not fresh) (leb room plan.capacity)
+    (le-leb room plan.capacity enough))))
+    (cases_lt 0 used)
 
 -- ---- all stay up
-pub none-left : (sizes : List ℕ) (plan : Plan) (rows : List Row) → EverythingDrains sizes plan rows → (t : ℕ) → used_at sizes plan rows t ≡ 0
+pub none-left : (sizes : List ℕ) (plan : Plan) (rows : List Row) → EverythingDrains sizes plan rows → (t : ℕ)
+    → used_at sizes plan rows t (fresh_at rows t) ≡ 0
 none-left sizes plan rows drains zero = refl
 none-left sizes plan rows drains (suc t) = drains t
 
-no-more : (sizes : List ℕ) (plan : Plan) (rows : List Row) (t gates : ℕ) → AreGates sizes plan rows t gates → (c : ℕ) → length sizes ≤ c
-    → has gates c ≡ false
-no-more sizes plan rows zero gates is c l = ap (λ g. has g c) is ∙ has-all_above (length sizes) c l
-no-more sizes plan rows (suc t) gates is c l =
-    let before = some-row (λ row. AreRaised sizes plan.capacity (used_at sizes plan rows (suc t)) (keeps row) (is_in_flight row)
-    (has gates)) (slice_get rows t) is in
+no-more : (sizes : List ℕ) (plan : Plan) (rows : List Row) (t : ℕ) (fresh : Bool) (gates : ℕ) → AreGates sizes plan rows t fresh gates
+    → (c : ℕ) → length sizes ≤ c → has gates c ≡ false
+no-more sizes plan rows zero fresh gates is c l = ap (λ g. has g c) is ∙ has-all_above (length sizes) c l
+no-more sizes plan rows (suc t) fresh gates is c l =
+    let before = some-row (λ row. AreRaised sizes plan.capacity (charged_at sizes plan rows (suc t) fresh) (keeps row fresh)
+    (is_in_flight row) (has gates)) (slice_get rows t) is in
     before.2.channels c l
 
-pub stay-up : (sizes : List ℕ) (plan : Plan) (rows : List Row) (t gates : ℕ) → need sizes ≤ plan.capacity → EverythingDrains sizes plan rows
-    → AreGates sizes plan rows t gates → gates ≡ all_up sizes
-stay-up sizes plan rows t gates fits drains is = same-masks gates (all_up sizes) (λ c. ⊎_elim
+pub stay-up : (sizes : List ℕ) (plan : Plan) (rows : List Row) (t gates : ℕ) → least sizes plan.resets ≤ plan.capacity
+    → EverythingDrains sizes plan rows → AreGates sizes plan rows t (fresh_at rows t) gates → gates ≡ all_up (length sizes)
+stay-up sizes plan rows t gates fits drains is = same-masks gates (all_up (length sizes)) (λ c. ⊎_elim
     (λ (l : c < length sizes). ⊎_elim
     (λ (up : has gates c ≡ true). up ∙ sym (has-all (length sizes) c l))
     (λ (down : has gates c ≡ false).
-    let some = down-waits sizes plan rows t gates c fits is l down in
+    let some = down-waits sizes plan rows t (fresh_at rows t) gates c fits is l down in
     let none = none-left sizes plan rows drains t in
     absurd (omega arith))
     (cases_Bool (has gates c)))
-    (λ (l : length sizes ≤ c). no-more sizes plan rows t gates is c l ∙ sym (has-all_above (length sizes) c l))
+    (λ (l : length sizes ≤ c). no-more sizes plan rows t (fresh_at rows t) gates is c l ∙ sym (has-all_above (length sizes) c l))
     (cases_lt c (length sizes)))
 
 -- ---- one set of gates
@@ -121,13 +150,12 @@ pub same-raised : (sizes : List ℕ) (capacity used : ℕ) (kept flies : ℕ →
 same-raised sizes capacity used kept flies a b is too = same-masks a b
     (λ c. same-front sizes capacity used kept flies (has a) (has b) is too (suc c) c (omega arith))
 
-pub one-set : (sizes : List ℕ) (plan : Plan) (rows : List Row) (t a b : ℕ) → AreGates sizes plan rows t a → AreGates sizes plan rows t b → a
-    ≡ b
-one-set sizes plan rows zero a b is too = is ∙ sym too
-one-set sizes plan rows (suc t) a b is too =
-    let used = used_at sizes plan rows (suc t) in
-    let first = some-row (λ row. AreRaised sizes plan.capacity used (keeps row) (is_in_flight row) (has a)) (slice_get rows t) is in
-    let here : IsSomeAnd (Some first.0) (λ row. AreRaised sizes plan.capacity used (keeps row) (is_in_flight row) (has b)) =
-    subst (λ (o : Option Row). IsSomeAnd o (λ row. AreRaised sizes plan.capacity used (keeps row) (is_in_flight row) (has b))) first.1 too
-    in
-    same-raised sizes plan.capacity used (keeps first.0) (is_in_flight first.0) a b first.2 here
+pub one-set : (sizes : List ℕ) (plan : Plan) (rows : List Row) (t : ℕ) (fresh : Bool) (a b : ℕ) → AreGates sizes plan rows t fresh a
+    → AreGates sizes plan rows t fresh b → a ≡ b
+one-set sizes plan rows zero fresh a b is too = is ∙ sym too
+one-set sizes plan rows (suc t) fresh a b is too =
+    let used = charged_at sizes plan rows (suc t) fresh in
+    let raised = λ (gates : ℕ) (row : Row). AreRaised sizes plan.capacity used (keeps row fresh) (is_in_flight row) (has gates) in
+    let first = some-row (raised a) (slice_get rows t) is in
+    let here : IsSomeAnd (Some first.0) (raised b) = subst (λ (o : Option Row). IsSomeAnd o (raised b)) first.1 too in
+    same-raised sizes plan.capacity used (keeps first.0 fresh) (is_in_flight first.0) a b first.2 here

@@ -8,7 +8,7 @@ use Rattle.trace_model.specs.vidi_bits.Number.{has}
 use Rattle.room_ledger.specs.Reservation.{whole}
 use Rattle.room_ledger.specs.Raising.{raise}
 use Rattle.room_ledger.proofs.Masks.{has-or, has-pow_same, has-pow_other}
-use Rattle.room_ledger.proofs.Totals.{total, total-cons, total-same}
+use Rattle.trace_model.proofs.LengthLemmas.{total, total-cons, total-same}
 
 -- the R_d of the gates that `up` has and `kept` hasn't
 abbrev pub newly : ℕ → (ℕ → Bool) → (ℕ → Bool) → ℕ × ℕ → ℕ

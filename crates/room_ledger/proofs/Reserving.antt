@@ -7,9 +7,24 @@ use Rattle.std.proofs.lemmas.Option.{same_Some, slice_get_cases}
 use Rattle.trace_model.specs.vidi_bits.Number.{has}
 use Rattle.trace_model.proofs.vidi_bits_lemmas.BitLemmas.{has-above}
 use Rattle.trace_model.specs.Length.{head_len}
-use Rattle.room_ledger.specs.Reservation.{whole, reservation, reserved, AreRaised}
-use Rattle.room_ledger.proofs.Totals.{total, total-cons, total-more}
+use Rattle.room_ledger.specs.Reservation.{whole, need, least, reservation, reserved, raised_below, permit_room, AreRaised}
+use Rattle.trace_model.proofs.LengthLemmas.{total, total-cons, total-same}
+use Rattle.room_ledger.proofs.Totals.{total-more}
 use Rattle.room_ledger.proofs.Raising.{newly, RaisedFrom}
+
+-- ---- the permit
+pub none-room : (resets : Bool) → permit_room resets false ≡ 0
+none-room true = refl
+none-room false = refl
+
+pub permit-le : (resets permit : Bool) → permit_room resets permit ≤ permit_room resets true
+permit-le true true = omega arith
+permit-le true false = omega arith
+permit-le false permit = omega arith
+
+pub least-is : (sizes : List ℕ) (resets : Bool) → least sizes resets ≡ need sizes + permit_room resets true
+least-is sizes true = refl
+least-is sizes false = omega arith
 
 -- ---- at most the sum of all R_c
 one-reservation : (head size : ℕ) (g f : Bool) → cond g (cond f head (2 * head + size)) 0 ≤ 2 * head + size
@@ -114,6 +129,29 @@ pub raised-within : (head capacity : ℕ) (sizes : List ℕ) (claimed gates up :
 raised-within head capacity sizes claimed gates up is l =
     let all = raised-front head capacity sizes claimed gates up is l (length sizes) (omega arith) in
     rw (take_all (length sizes) sizes (omega arith)) at all
+
+-- ---- for two that agree on the flight of the kept channels
+one-alike : (head size : ℕ) (g f o : Bool) → (g ≡ true → f ≡ o) → cond g (cond f head (2 * head + size)) 0
+    ≡ cond g (cond o head (2 * head + size)) 0
+one-alike head size true f o h = ap (λ b. cond b head (2 * head + size)) (h refl)
+one-alike head size false f o h = refl
+
+pub reserved-alike : (sizes : List ℕ) (kept flies other : ℕ → Bool) → ((c : ℕ) → kept c ≡ true → flies c ≡ other c)
+    → reserved sizes kept flies ≡ reserved sizes kept other
+reserved-alike sizes kept flies other h =
+    let head = head_len (length sizes) in
+    total-same (reservation head kept flies) (reservation head kept other) 0 sizes
+    (λ c size l m. one-alike head size (kept c) (flies c) (other c) (h c))
+
+pub raised-alike : (sizes : List ℕ) (capacity used : ℕ) (kept flies other up : ℕ → Bool) → ((c : ℕ) → kept c ≡ true → flies c ≡ other c)
+    → AreRaised sizes capacity used kept flies up → AreRaised sizes capacity used kept other up
+raised-alike sizes capacity used kept flies other up h is = record {
+  channels = is.channels;
+  stay = is.stay;
+  raised = λ c size at down. is.raised c size at down
+      ∙ ap (λ n. leb (used + n + raised_below sizes kept up c + whole (head_len (length sizes)) size) capacity)
+      (reserved-alike sizes kept flies other h);
+}
 
 -- ---- as *Gates* says it
 pub are-raised : (capacity used : ℕ) (sizes : List ℕ) (gates up : ℕ) (flies : ℕ → Bool) → gates < 2 ^ length sizes

@@ -2,8 +2,7 @@
 use Rattle.std.specs.Prelude.{◌≡◌, ℕ, ◌+◌, ◌*◌, ◌≤◌, ◌==◌, ◌&&◌, Bool, true}
 use Rattle.std.specs.Prelude.{false, not, List, Some, length, take, slice_get, nat_le, sum_by, if◌then◌else◌}
 use Rattle.std.specs.List.{enumerate_from}
-use Rattle.trace_model.specs.vidi_bits.Number.{has}
-use Rattle.trace_model.specs.Length.{head_len}
+use Rattle.trace_model.specs.Length.{head_len, sizes_under}
 
 -- R_c: a packet of the start with the content, and one of the end; `head` is H, the length of a packet without contents
 abbrev pub whole : ℕ → ℕ → ℕ
@@ -13,9 +12,17 @@ whole head size = 2 * head + size
 abbrev pub need : List ℕ → ℕ
 need sizes = sum_by (whole (head_len (length sizes))) sizes
 
--- out of the sizes, those of the channels that a mask names, added up
-abbrev pub sizes_under : ℕ → List ℕ → ℕ
-sizes_under mask sizes = sum_by (λ (c : ℕ × ℕ). if has mask c.0 then c.1 else 0) (enumerate_from 0 sizes)
+-- the bytes of the packet of a reset
+abbrev pub reset_len : ℕ
+reset_len = 3
+
+-- what the permit to reset reserves: those bytes, where there may be resets and it is up
+abbrev pub permit_room : Bool → Bool → ℕ
+permit_room resets permit = if resets && permit then reset_len else 0
+
+-- the least capacity: the sum of all R_c, and where there may be resets the room of a permit
+abbrev pub least : List ℕ → Bool → ℕ
+least sizes resets = if resets then need sizes + reset_len else need sizes
 
 -- the length of the packet of these starts and ends: H and b_c of each start; 0 where there is no event
 abbrev pub event_len : List ℕ → ℕ → ℕ → ℕ

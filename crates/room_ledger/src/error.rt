@@ -8,7 +8,7 @@ use thiserror::Error;
 /// Why there is no room.
 #[derive(Clone, Copy, Debug, PartialEq, Eq, Error)]
 pub enum RoomError {
-    /// The capacity that was given is below what all channels need together, in bytes.
+    /// The capacity that was given is below what all channels, and a permit to reset, need together, in bytes.
     #[error("too small: {need} bytes are needed, {given} are given")]
     TooSmall { need: u32, given: u32 },
     #[error("out of memory")]

@@ -1,8 +1,9 @@
 //! Laws of the definitions.
 
-ghost use Rattle.room_ledger.specs.Laws.{RoomKeepsGates, DownOnlyWhileBytesWait, AllStayUp, OneSetOfGates, SameLength};
+ghost use Rattle.room_ledger.specs.Laws.{RoomKeepsGates, DownOnlyWhileBytesWait, PermitDownOnlyWhileBytesWait};
+ghost use Rattle.room_ledger.specs.Laws.{AllStayUp, OneSetOfGates, SameLength};
 
-/// Over every list of rows, `emit`, `drain` and `regrant` after each row keep the room at *Gates*.
+/// Over every list of rows, `emit`, `reset` before each fresh row, `drain` and `regrant` after each row keep the room at *Gates*.
 pub fn room_keeps_gates()
     ensures { RoomKeepsGates }
 {}
@@ -10,6 +11,11 @@ pub fn room_keeps_gates()
 /// A gate is down only while bytes wait in the store.
 pub fn down_only_while_bytes_wait()
     ensures { DownOnlyWhileBytesWait }
+{}
+
+/// The permit to reset is down only while bytes wait in the store.
+pub fn permit_down_only_while_bytes_wait()
+    ensures { PermitDownOnlyWhileBytesWait }
 {}
 
 /// Where everything drains in each cycle, all gates stay up.

@@ -12,7 +12,8 @@ mod sums;
 
 pub use error::RoomError;
 pub use laws::{
-    all_stay_up, down_only_while_bytes_wait, one_set_of_gates, room_keeps_gates, same_length,
+    all_stay_up, down_only_while_bytes_wait, one_set_of_gates, permit_down_only_while_bytes_wait,
+    room_keeps_gates, same_length,
 };
 pub use room::Room;
 pub use trace_model;

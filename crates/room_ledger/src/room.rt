@@ -1,33 +1,38 @@
 //! The ledger of the store's bytes and of what the channels have reserved.
 
-ghost use Rattle.room_ledger.specs.declared.room.TheConstants.{MOST_CONTENT_BYTES};
-ghost use Rattle.std.specs.Prelude.{◌≡◌, ◌<◌, ◌≤◌, ◌^◌, ◌↔◌, IsTrue, IfOk, IfErr, length, map, sum_by};
+ghost use Rattle.room_ledger.specs.declared.room.TheConstants.{ROOM_CONTENT_BYTES};
+ghost use Rattle.std.specs.Prelude.{◌≡◌, ◌<◌, ◌≤◌, ◌^◌, ◌↔◌, IsTrue, true, IfOk, IfErr, length, map, sum_by};
 ghost use Rattle.trace_model.specs.vidi_bits.Number.{has};
 ghost use Rattle.trace_model.specs.Channel.{content_bytes};
-ghost use Rattle.room_ledger.specs.Reservation.{need, event_len};
+ghost use Rattle.room_ledger.specs.Reservation.{least, event_len, reset_len};
 ghost use Rattle.room_ledger.specs.Gates.{drained, left};
-ghost use Rattle.room_ledger.specs.Ledger.{fresh, claimed, MayEmit, Emitted, Regranted};
+ghost use Rattle.room_ledger.specs.Ledger.{empty, claimed, may_reset, MayEmit, Emitted, IsReset, Regranted};
 ghost use Rattle.room_ledger.specs.Refusal.{Refuses};
 
 use crate::error::RoomError;
-use crate::sums::{event_len, head_len, need, raised, reserved, sizes_of};
+use crate::sums::{RESET_LEN, event_len, head_of, least, permit_room, raised, reserved, sizes_of};
 use std::alloc::Global;
 use std::marker::Model;
-use trace_model::{Channels, names};
+use trace_model::{Channels, all_up, names};
 
-/// The most content bytes of all channels together.
-pub const MOST_CONTENT_BYTES: u32 = 2_048;
+/// The most content bytes of all channels of a room together, at least as many as those of a table.
+pub const ROOM_CONTENT_BYTES: u32 = 2_048;
 
-/// How many bytes of the store are used, and which channels have their gate up, so that whatever they
-/// start can still be put. In each cycle come `emit`, `drain` and `regrant`, in this order. A contract sees
-/// it as a `Ledger`. Waiting bytes and reservations together are never more than the capacity. Only `new`
-/// takes memory.
+/// How many bytes of the store are used, which channels have their gate up, and whether there is a permit to
+/// reset the design, so that whatever they start, and the packet of a reset, can still be put. In each cycle
+/// come `emit`, `reset` where the design is reset behind the cycle, `drain` and `regrant`, in this order. A
+/// contract sees it as a `Ledger`. Waiting bytes and reservations together are never more than the capacity.
+/// Only `new` takes memory.
 #[derive(Drop)]
 pub struct Room {
     /// The content bytes of each channel.
     sizes: Vec<u32>,
+    /// Whether there may be resets.
+    resets: bool,
     capacity: u32,
     used: u32,
+    /// Whether there is a permit to reset.
+    permit: bool,
     /// The channels whose gate is up.
     gates: u128,
     /// The channels in flight.
@@ -39,36 +44,44 @@ impl Model for Room {
 
     ghost Value = { Ledger };
 
-    ghost view = { λ r. ledger r.sizes.items r.capacity r.used r.gates r.flying };
+    ghost view = { λ r. ledger r.sizes.items r.resets r.capacity r.used r.permit r.gates r.flying };
 
-    ghost invariant = { λ r. IsSound (ledger r.sizes.items r.capacity r.used r.gates r.flying) };
+    ghost invariant = { λ r. IsSound (ledger r.sizes.items r.resets r.capacity r.used r.permit r.gates r.flying) };
 }
 
 impl Room {
-    /// An empty store of `capacity` bytes, with all gates up. The channels are 1 to 128 with at most 2,048
-    /// content bytes in all. `TooSmall` exactly where the capacity is below what all channels need together.
-    pub fn new(alloc: Global, channels: &Channels, capacity: u32) -> Result<Room, RoomError>
+    /// An empty store of `capacity` bytes, with all gates and the permit up. The channels are 1 to 128 with at
+    /// most 2,048 content bytes in all. `TooSmall` exactly where the capacity is below what all channels need
+    /// together, and 3 bytes more where there may be resets.
+    pub fn new(
+        alloc: Global,
+        channels: &Channels,
+        resets: bool,
+        capacity: u32,
+    ) -> Result<Room, RoomError>
         requires some { 1 ≤ length channels.now }
         requires few { length channels.now ≤ 128 }
-        requires content { sum_by content_bytes channels.now ≤ MOST_CONTENT_BYTES }
-        ensures made { IfOk result (λ room. (room ≡ fresh (map content_bytes channels.now) capacity)
-            × (need (map content_bytes channels.now) ≤ capacity)) }
+        requires content { sum_by content_bytes channels.now ≤ ROOM_CONTENT_BYTES }
+        ensures made { IfOk result (λ room. (room ≡ empty (map content_bytes channels.now) resets capacity)
+            × (least (map content_bytes channels.now) resets ≤ capacity)) }
         ensures room { IfOk result (λ room. claimed room ≤ room.capacity) }
-        ensures refused { IfErr result (Refuses (map content_bytes channels.now) capacity) }
+        ensures refused { IfErr result (Refuses (map content_bytes channels.now) resets capacity) }
     {
         let sizes = sizes_of(alloc, channels.as_slice())?;
-        let need = need(sizes.as_slice(), head_len(sizes.len()));
+        let need = least(sizes.as_slice(), resets);
         if capacity < need {
             return Err(RoomError::TooSmall {
                 need,
                 given: capacity,
             });
         }
-        let gates = u128::MAX >> (128 - sizes.len());
+        let gates = all_up(sizes.len());
         Ok(Room {
             sizes,
+            resets,
             capacity,
             used: 0,
+            permit: true,
             gates,
             flying: 0,
         })
@@ -90,6 +103,28 @@ impl Room {
         len
     }
 
+    /// Whether the design may be reset behind this cycle.
+    pub fn may_reset(&self) -> bool
+        ensures { result ≡ may_reset self.now }
+    {
+        self.resets && self.permit
+    }
+
+    /// Takes a reset of the design behind a cycle into the books, and gives the length of its packet in bytes: `may_reset` tests
+    /// that it may be. The permit goes, and so do the gates of the channels in flight, of which there are none then.
+    pub fn reset(&mut self) -> u32
+        requires { may_reset self.old ≡ true }
+        ensures len { result ≡ reset_len }
+        ensures next { IsReset self.old self.new }
+        ensures room { claimed self.new ≤ self.new.capacity }
+    {
+        self.used += RESET_LEN;
+        self.permit = false;
+        self.gates &= !self.flying;
+        self.flying = 0;
+        RESET_LEN
+    }
+
     /// Takes out the bytes that drain, and gives their number: at most the allowance, None for all.
     pub fn drain(&mut self, allowance: Option<u32>) -> u32
         ensures bytes { result ≡ drained allowance self.old.used }
@@ -104,14 +139,18 @@ impl Room {
         bytes
     }
 
-    /// Takes each gate that is down, in channel order, and puts it up where there is room for its channel.
+    /// Puts the permit up where there is room for it. Then takes each gate that is down, in channel order, and puts it up where there is
+    /// room for its channel.
     pub fn regrant(&mut self)
         ensures next { Regranted self.old self.new }
         ensures room { claimed self.new ≤ self.new.capacity }
     {
         let sizes = self.sizes.as_slice();
-        let head = head_len(sizes.len());
+        let head = head_of(sizes);
         let claimed = self.used + reserved(sizes, head, self.gates, self.flying);
+        // A permit that is up has its room.
+        self.permit = permit_room(self.resets, true) <= self.capacity - claimed;
+        let claimed = claimed + permit_room(self.resets, self.permit);
         self.gates = raised(sizes, head, self.capacity, claimed, self.gates);
     }
 

@@ -1,53 +1,44 @@
 //! Sums over the channels, whose content bytes are `sizes`.
 
-ghost use Rattle.room_ledger.specs.declared.room.TheConstants.{MOST_CONTENT_BYTES};
-ghost use Rattle.std.specs.Prelude.{◌≡◌, ◌<◌, ◌≤◌, ◌^◌, IfOk, IfErr, length, map, sum_by, if◌then◌else◌};
+ghost use Rattle.room_ledger.specs.declared.room.TheConstants.{ROOM_CONTENT_BYTES};
+ghost use Rattle.std.specs.Prelude.{◌≡◌, ◌+◌, ◌<◌, ◌≤◌, ◌^◌, IfOk, IfErr, length, map, sum_by, if◌then◌else◌};
 ghost use Rattle.std.specs.List.{enumerate_from};
 ghost use Rattle.trace_model.specs.vidi_bits.Number.{has};
 ghost use Rattle.trace_model.specs.Channel.{content_bytes};
-ghost use Rattle.trace_model.specs.Length.{head_len};
-ghost use Rattle.room_ledger.specs.Reservation.{whole, reservation, sizes_under, event_len};
+ghost use Rattle.trace_model.specs.Length.{head_len, sizes_under};
+ghost use Rattle.room_ledger.specs.Reservation.{whole, need, least, reservation, event_len, reset_len, permit_room};
 ghost use Rattle.room_ledger.specs.Raising.{raise};
 
 use crate::error::RoomError;
 use std::alloc::Global;
-use trace_model::{Channel, names};
+use trace_model::{Channel, content_len, head_len, names};
 
-/// The length in bytes of a packet of this many channels without contents.
-pub(crate) fn head_len(channels: usize) -> u32
-    requires { channels ≤ 128 }
-    ensures { result ≡ head_len channels }
-{
-    1 + 2 * (channels.div_ceil(8) as u32)
-}
+/// The bytes of the packet of a reset.
+pub(crate) const RESET_LEN: u32 = 3;
 
-/// The bytes of a channel's content.
-fn content_len(channel: &Channel) -> u32
-    requires { content_bytes channel.now ≤ MOST_CONTENT_BYTES }
-    ensures { result ≡ content_bytes channel.now }
+/// The length in bytes of a packet of these channels without contents.
+pub(crate) fn head_of(sizes: &[u32]) -> u32
+    requires { length sizes.now ≤ 128 }
+    ensures { result ≡ head_len (length sizes.now) }
 {
-    let mut total = 0;
-    for width in channel.widths.as_slice() {
-        total += u32::from(width.div_ceil(8));
-    }
-    total
+    head_len(sizes.len()) as u32
 }
 
 /// The content bytes of each channel.
 pub(crate) fn sizes_of(alloc: Global, channels: &[Channel]) -> Result<Vec<u32>, RoomError>
-    requires { sum_by content_bytes channels.now ≤ MOST_CONTENT_BYTES }
+    requires { sum_by content_bytes channels.now ≤ ROOM_CONTENT_BYTES }
     ensures sizes { IfOk result (λ sizes. sizes.items ≡ map content_bytes channels.now) }
     ensures memory { IfErr result (λ e. e ≡ RoomError.Memory) }
 {
     let mut sizes = Vec::new(alloc);
     for channel in channels {
-        sizes.push(content_len(channel))?;
+        sizes.push(content_len(channel) as u32)?;
     }
     Ok(sizes)
 }
 
 /// The room that all channels need together.
-pub(crate) fn need(sizes: &[u32], head: u32) -> u32
+fn need(sizes: &[u32], head: u32) -> u32
     requires few { head ≤ 64 }
     requires small { sum_by (whole head) sizes.now < 2 ^ 32 }
     ensures { result ≡ sum_by (whole head) sizes.now }
@@ -57,6 +48,23 @@ pub(crate) fn need(sizes: &[u32], head: u32) -> u32
         total += 2 * head + *size;
     }
     total
+}
+
+/// The least capacity: what all channels need together, and the room of a permit where there may be resets.
+pub(crate) fn least(sizes: &[u32], resets: bool) -> u32
+    requires few { length sizes.now ≤ 128 }
+    requires small { need sizes.now + reset_len < 2 ^ 32 }
+    ensures { result ≡ least sizes.now resets }
+{
+    let need = need(sizes, head_of(sizes));
+    if resets { need + RESET_LEN } else { need }
+}
+
+/// What the permit to reset reserves.
+pub(crate) fn permit_room(resets: bool, permit: bool) -> u32
+    ensures { result ≡ permit_room resets permit }
+{
+    if resets && permit { RESET_LEN } else { 0 }
 }
 
 /// The bytes of the contents of the channels that start.
@@ -80,7 +88,7 @@ pub(crate) fn event_len(sizes: &[u32], starts: u128, ends: u128) -> u32
     if starts == 0 && ends == 0 {
         return 0;
     }
-    head_len(sizes.len()) + contents_len(sizes, starts)
+    head_of(sizes) + contents_len(sizes, starts)
 }
 
 /// What one channel reserves, by whether its gate is up and whether it is in flight.

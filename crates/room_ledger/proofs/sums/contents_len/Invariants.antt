@@ -1,5 +1,5 @@
 use Rattle.std.proofs.Common.{◌≡◌, take}
-use Rattle.room_ledger.specs.Reservation.{sizes_under}
+use Rattle.trace_model.specs.Length.{sizes_under}
 use Rattle.room_ledger.proofs.sums.contents_len.Given as goal
 
 abbrev pub invariant-loop-c : goal.invariant-loop-c

@@ -1,7 +1,7 @@
 use Rattle.std.proofs.Common.{◌≡◌, take}
 use Rattle.trace_model.specs.vidi_bits.Number.{has}
 use Rattle.room_ledger.specs.Reservation.{reservation}
-use Rattle.room_ledger.proofs.Totals.{total}
+use Rattle.trace_model.proofs.LengthLemmas.{total}
 use Rattle.room_ledger.proofs.sums.reserved.Given as goal
 
 abbrev pub invariant-loop-c : goal.invariant-loop-c

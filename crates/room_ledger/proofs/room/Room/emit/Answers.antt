@@ -7,14 +7,16 @@ use Rattle.room_ledger.proofs.room.Room.emit.Goals as goal
 
 pub event_len-len-requires-clause-small : goal.event_len-len-requires-clause-small
 event_len-len-requires-clause-small c =
-    let l = ledger c.self.inside.sizes.items c.self.inside.capacity c.self.inside.used c.self.inside.gates c.self.inside.flying in
+    let l = ledger c.self.inside.sizes.items c.self.inside.resets c.self.inside.capacity c.self.inside.used c.self.inside.permit c.self.inside.gates
+    c.self.inside.flying in
     let may : MayEmit l c.args.starts c.args.ends = rw c.self.view_is c.requires in
     let fits = emit-fits l c.args.starts c.args.ends (Fits-lt-pow c.ranges.starts) (Fits-lt-pow c.ranges.ends) c.self.invariant may in
     rw c.as_slice.ensures.value (omega arith)
 
 pub overflow_add-self : goal.overflow_add-self
 overflow_add-self c =
-    let l = ledger c.self.inside.sizes.items c.self.inside.capacity c.self.inside.used c.self.inside.gates c.self.inside.flying in
+    let l = ledger c.self.inside.sizes.items c.self.inside.resets c.self.inside.capacity c.self.inside.used c.self.inside.permit c.self.inside.gates
+    c.self.inside.flying in
     let may : MayEmit l c.args.starts c.args.ends = rw c.self.view_is c.requires in
     let fits = emit-fits l c.args.starts c.args.ends (Fits-lt-pow c.ranges.starts) (Fits-lt-pow c.ranges.ends) c.self.invariant may in
     let len : c.event_len-len.result ≡ event_len c.self.inside.sizes.items c.args.starts c.args.ends = c.event_len-len.ensures
@@ -23,7 +25,8 @@ overflow_add-self c =
 
 pub invariant_of-self : goal.invariant_of-self
 invariant_of-self c =
-    let l = ledger c.self.inside.sizes.items c.self.inside.capacity c.self.inside.used c.self.inside.gates c.self.inside.flying in
+    let l = ledger c.self.inside.sizes.items c.self.inside.resets c.self.inside.capacity c.self.inside.used c.self.inside.permit c.self.inside.gates
+    c.self.inside.flying in
     let may : MayEmit l c.args.starts c.args.ends = rw c.self.view_is c.requires in
     let len : c.event_len-len.result ≡ event_len c.self.inside.sizes.items c.args.starts c.args.ends = c.event_len-len.ensures
     ∙ ap (λ (s : List ℕ). event_len s c.args.starts c.args.ends) c.as_slice.ensures.value in
@@ -31,7 +34,8 @@ invariant_of-self c =
 
 pub returns-clause-next : goal.returns-clause-next
 returns-clause-next c =
-    let l = ledger c.self.inside.sizes.items c.self.inside.capacity c.self.inside.used c.self.inside.gates c.self.inside.flying in
+    let l = ledger c.self.inside.sizes.items c.self.inside.resets c.self.inside.capacity c.self.inside.used c.self.inside.permit c.self.inside.gates
+    c.self.inside.flying in
     let len : c.event_len-len.result ≡ event_len c.self.inside.sizes.items c.args.starts c.args.ends = c.event_len-len.ensures
     ∙ ap (λ (s : List ℕ). event_len s c.args.starts c.args.ends) c.as_slice.ensures.value in
     rw (← c.self.view_is, len) (emit-next l c.args.starts c.args.ends (Fits-lt-pow c.ranges.starts) (Fits-lt-pow c.ranges.ends)
@@ -39,7 +43,8 @@ returns-clause-next c =
 
 pub returns-clause-room : goal.returns-clause-room
 returns-clause-room c =
-    let l = ledger c.self.inside.sizes.items c.self.inside.capacity c.self.inside.used c.self.inside.gates c.self.inside.flying in
+    let l = ledger c.self.inside.sizes.items c.self.inside.resets c.self.inside.capacity c.self.inside.used c.self.inside.permit c.self.inside.gates
+    c.self.inside.flying in
     let may : MayEmit l c.args.starts c.args.ends = rw c.self.view_is c.requires in
     let len : c.event_len-len.result ≡ event_len c.self.inside.sizes.items c.args.starts c.args.ends = c.event_len-len.ensures
     ∙ ap (λ (s : List ℕ). event_len s c.args.starts c.args.ends) c.as_slice.ensures.value in
