@@ -28,18 +28,18 @@ pub used-front : (sizes : List ℕ) (plan : Plan) (rows more : List Row) (t : �
 used-front sizes plan rows more zero fresh l = refl
 used-front sizes plan rows more (suc t) fresh l =
     let here : slice_get (rows ++ more) t ≡ slice_get rows t = slice_get-append_left rows more t (omega arith) in
-    let before = used-front sizes plan rows more t (fresh_at rows t) (omega arith) in
-    ap (λ (o : Option Row). left (plan.allowance t) (used_at sizes plan (rows ++ more) t (is_fresh o) + put_len sizes o fresh)) here
+    let before = used-front sizes plan rows more t (fresh_at plan rows t) (omega arith) in
+    ap (λ (o : Option Row). left (plan.allowance t) (used_at sizes plan (rows ++ more) t (plan.resets && is_fresh o) + put_len sizes o fresh)) here
     ∙ ap (λ used. left (plan.allowance t) (used + put_len sizes (slice_get rows t) fresh)) before
 
 used-push : (sizes : List ℕ) (plan : Plan) (rows : List Row) (row : Row) (next : Bool)
     → used_at sizes plan (rows ++ row ∷ []) (suc (length rows)) next ≡ left (plan.allowance (length rows))
-    (used_at sizes plan rows (length rows) row.fresh + put_len sizes (Some row) next)
+    (used_at sizes plan rows (length rows) (plan.resets && row.fresh) + put_len sizes (Some row) next)
 used-push sizes plan rows row next =
-    ap (λ (o : Option Row). left (plan.allowance (length rows)) (used_at sizes plan (rows ++ row ∷ []) (length rows) (is_fresh o)
+    ap (λ (o : Option Row). left (plan.allowance (length rows)) (used_at sizes plan (rows ++ row ∷ []) (length rows) (plan.resets && is_fresh o)
     + put_len sizes o next)) (slice_get-last rows row)
     ∙ ap (λ used. left (plan.allowance (length rows)) (used + put_len sizes (Some row) next))
-    (used-front sizes plan rows (row ∷ []) (length rows) row.fresh (omega arith))
+    (used-front sizes plan rows (row ∷ []) (length rows) (plan.resets && row.fresh) (omega arith))
 
 -- ---- the permit too
 pub permit-front : (sizes : List ℕ) (plan : Plan) (rows more : List Row) (t : ℕ) (fresh : Bool) → t ≤ length rows
@@ -47,29 +47,29 @@ pub permit-front : (sizes : List ℕ) (plan : Plan) (rows more : List Row) (t : 
 permit-front sizes plan rows more zero fresh l = refl
 permit-front sizes plan rows more (suc t) fresh l =
     let here : slice_get (rows ++ more) t ≡ slice_get rows t = slice_get-append_left rows more t (omega arith) in
-    let before = permit-front sizes plan rows more t (fresh_at rows t) (omega arith) in
+    let before = permit-front sizes plan rows more t (fresh_at plan rows t) (omega arith) in
     let used = used-front sizes plan rows more (suc t) fresh l in
     let room = permit_room plan.resets true in
-    ap (λ (o : Option Row). (permit_at sizes plan (rows ++ more) t (is_fresh o) && not fresh)
+    ap (λ (o : Option Row). (permit_at sizes plan (rows ++ more) t (plan.resets && is_fresh o) && not fresh)
     || leb (used_at sizes plan (rows ++ more) (suc t) fresh + kept_room sizes o fresh + room) plan.capacity) here
-    ∙ ap (λ n. (permit_at sizes plan (rows ++ more) t (fresh_at rows t) && not fresh)
+    ∙ ap (λ n. (permit_at sizes plan (rows ++ more) t (fresh_at plan rows t) && not fresh)
     || leb (n + kept_room sizes (slice_get rows t) fresh + room) plan.capacity) used
     ∙ ap (λ p. (p && not fresh) || leb (used_at sizes plan rows (suc t) fresh + kept_room sizes (slice_get rows t) fresh + room)
     plan.capacity) before
 
 permit-push : (sizes : List ℕ) (plan : Plan) (rows : List Row) (row : Row) (next : Bool)
     → permit_at sizes plan (rows ++ row ∷ []) (suc (length rows)) next
-    ≡ ((permit_at sizes plan rows (length rows) row.fresh && not next)
+    ≡ ((permit_at sizes plan rows (length rows) (plan.resets && row.fresh) && not next)
     || leb (used_at sizes plan (rows ++ row ∷ []) (suc (length rows)) next + reserved sizes (keeps row next) (is_in_flight row)
     + permit_room plan.resets true) plan.capacity)
 permit-push sizes plan rows row next =
     let all = rows ++ row ∷ [] in
     let used = used_at sizes plan all (suc (length rows)) next in
     let room = permit_room plan.resets true in
-    ap (λ (o : Option Row). (permit_at sizes plan all (length rows) (is_fresh o) && not next)
+    ap (λ (o : Option Row). (permit_at sizes plan all (length rows) (plan.resets && is_fresh o) && not next)
     || leb (used + kept_room sizes o next + room) plan.capacity) (slice_get-last rows row)
     ∙ ap (λ p. (p && not next) || leb (used + reserved sizes (keeps row next) (is_in_flight row) + room) plan.capacity)
-    (permit-front sizes plan rows (row ∷ []) (length rows) row.fresh (omega arith))
+    (permit-front sizes plan rows (row ∷ []) (length rows) (plan.resets && row.fresh) (omega arith))
 
 charged-front : (sizes : List ℕ) (plan : Plan) (rows more : List Row) (t : ℕ) (fresh : Bool) → t ≤ length rows
     → charged_at sizes plan (rows ++ more) t fresh ≡ charged_at sizes plan rows t fresh
@@ -121,8 +121,8 @@ record IsBehind (sizes : List ℕ) (plan : Plan) (rows : List Row) (row : Row) (
   pub channels : mid.sizes ≡ sizes
   pub resets : mid.resets ≡ plan.resets
   pub capacity : mid.capacity ≡ plan.capacity
-  pub used : mid.used ≡ used_at sizes plan rows (length rows) row.fresh + put_len sizes (Some row) next
-  pub permit : mid.permit ≡ (permit_at sizes plan rows (length rows) row.fresh && not next)
+  pub used : mid.used ≡ used_at sizes plan rows (length rows) (plan.resets && row.fresh) + put_len sizes (Some row) next
+  pub permit : mid.permit ≡ (permit_at sizes plan rows (length rows) (plan.resets && row.fresh) && not next)
   pub gates : (c : ℕ) → has mid.gates c ≡ keeps row next c
   pub flying : (c : ℕ) → has mid.flying c ≡ (is_in_flight row c && not next)
 
@@ -144,7 +144,8 @@ same-permit false resets used taken capacity =
     ap (λ n. leb n capacity) same
 
 module _ (sizes : List ℕ) (plan : Plan) (rows : List Row) (row : Row) (next : Bool) (mid new : Ledger)
-    (behind : IsBehind sizes plan rows row next mid) (again : Regranted (after_drain plan rows mid) new) where
+    (turns : next ≡ true → plan.resets ≡ true) (behind : IsBehind sizes plan rows row next mid)
+    (again : Regranted (after_drain plan rows mid) new) where
   longer : length (rows ++ row ∷ []) ≡ suc (length rows)
   longer = omega (arith, length-append rows (row ∷ []))
 
@@ -169,14 +170,14 @@ module _ (sizes : List ℕ) (plan : Plan) (rows : List Row) (row : Row) (next : 
       again.permit
       ∙ same-permit mid.permit mid.resets used reserves mid.capacity
       ∙ ap (λ p. p || leb (used + reserves + permit_room mid.resets true) mid.capacity) behind.permit
-      ∙ ap (λ n. (permit_at sizes plan rows (length rows) row.fresh && not next)
+      ∙ ap (λ n. (permit_at sizes plan rows (length rows) (plan.resets && row.fresh) && not next)
       || leb (n + reserves + permit_room mid.resets true) mid.capacity) used-after
-      ∙ ap (λ n. (permit_at sizes plan rows (length rows) row.fresh && not next)
+      ∙ ap (λ n. (permit_at sizes plan rows (length rows) (plan.resets && row.fresh) && not next)
       || leb (used_at sizes plan (rows ++ row ∷ []) (suc (length rows)) next + n + permit_room mid.resets true) mid.capacity) taken
-      ∙ ap (λ r. (permit_at sizes plan rows (length rows) row.fresh && not next)
+      ∙ ap (λ r. (permit_at sizes plan rows (length rows) (plan.resets && row.fresh) && not next)
       || leb (used_at sizes plan (rows ++ row ∷ []) (suc (length rows)) next + reserved sizes (keeps row next) (is_in_flight row)
       + permit_room r true) mid.capacity) behind.resets
-      ∙ ap (λ n. (permit_at sizes plan rows (length rows) row.fresh && not next)
+      ∙ ap (λ n. (permit_at sizes plan rows (length rows) (plan.resets && row.fresh) && not next)
       || leb (used_at sizes plan (rows ++ row ∷ []) (suc (length rows)) next + reserved sizes (keeps row next) (is_in_flight row)
       + permit_room plan.resets true) n) behind.capacity
       ∙ sym (permit-push sizes plan rows row next)
@@ -205,6 +206,7 @@ module _ (sizes : List ℕ) (plan : Plan) (rows : List Row) (row : Row) (next : 
         channels = again.sizes ∙ behind.channels;
         resets = again.resets ∙ behind.resets;
         capacity = again.capacity ∙ behind.capacity;
+        turns = turns;
         used = again.used ∙ used-after ∙ ap (λ t. used_at sizes plan all t next) (sym longer);
         permit = permit-next ∙ ap (λ t. permit_at sizes plan all t next) (sym longer);
         gates = subst (λ (t : ℕ). AreGates sizes plan all t next new.gates) (sym longer)
@@ -223,6 +225,9 @@ module _ (sizes : List ℕ) (plan : Plan) (rows : List Row) (fresh : Bool) (row 
   abbrev before : Option Row
   before = before_next rows fresh
 
+  mark : fresh ≡ (plan.resets && row.fresh)
+  mark = sym follows.mark ∙ ap (λ r. r && row.fresh) stands.resets
+
   module _ (emitted : Ledger) (is : Emitted l row.starts row.ends emitted) where
     gate-kept : (c : ℕ) → has emitted.gates c ≡ (has row.gates c && not (completes row c))
     gate-kept c =
@@ -238,14 +243,14 @@ module _ (sizes : List ℕ) (plan : Plan) (rows : List Row) (fresh : Bool) (row 
         ∙ ap (λ e. (flies_after before c || (sink_valid row c && not (flies_after before c))) && not e) (follows.marked.ends c)
         ∙ flight (flies_after before c) (sink_valid row c) (completes row c) (follows.stays c)
 
-    used-emitted : emitted.used ≡ used_at sizes plan rows (length rows) row.fresh + event_len sizes row.starts row.ends
+    used-emitted : emitted.used ≡ used_at sizes plan rows (length rows) (plan.resets && row.fresh) + event_len sizes row.starts row.ends
     used-emitted =
         is.used ∙ ap (λ n. n + event_len l.sizes row.starts row.ends) stands.used
         ∙ ap (λ s. used_at sizes plan rows (length rows) fresh + event_len s row.starts row.ends) stands.channels
-        ∙ ap (λ f. used_at sizes plan rows (length rows) f + event_len sizes row.starts row.ends) (sym follows.mark)
+        ∙ ap (λ f. used_at sizes plan rows (length rows) f + event_len sizes row.starts row.ends) mark
 
-    permit-emitted : emitted.permit ≡ permit_at sizes plan rows (length rows) row.fresh
-    permit-emitted = is.permit ∙ stands.permit ∙ ap (permit_at sizes plan rows (length rows)) (sym follows.mark)
+    permit-emitted : emitted.permit ≡ permit_at sizes plan rows (length rows) (plan.resets && row.fresh)
+    permit-emitted = is.permit ∙ stands.permit ∙ ap (permit_at sizes plan rows (length rows)) mark
 
     behind-emitted : IsBehind sizes plan rows row false emitted
     behind-emitted = record {
@@ -253,7 +258,7 @@ module _ (sizes : List ℕ) (plan : Plan) (rows : List Row) (fresh : Bool) (row 
       resets = is.resets ∙ stands.resets;
       capacity = is.capacity ∙ stands.capacity;
       used = used-emitted;
-      permit = permit-emitted ∙ sym (and-true (permit_at sizes plan rows (length rows) row.fresh));
+      permit = permit-emitted ∙ sym (and-true (permit_at sizes plan rows (length rows) (plan.resets && row.fresh)));
       gates = gate-kept;
       flying = λ c. flies c ∙ sym (and-true (is_in_flight row c));
     }
@@ -272,8 +277,8 @@ module _ (sizes : List ℕ) (plan : Plan) (rows : List Row) (fresh : Bool) (row 
       resets = done.resets ∙ is.resets ∙ stands.resets;
       capacity = done.capacity ∙ is.capacity ∙ stands.capacity;
       used = done.used ∙ ap (λ n. n + reset_len) used-emitted
-          ∙ add_assoc (used_at sizes plan rows (length rows) row.fresh) (event_len sizes row.starts row.ends) reset_len;
-      permit = done.permit ∙ sym (and-false (permit_at sizes plan rows (length rows) row.fresh));
+          ∙ add_assoc (used_at sizes plan rows (length rows) (plan.resets && row.fresh)) (event_len sizes row.starts row.ends) reset_len;
+      permit = done.permit ∙ sym (and-false (permit_at sizes plan rows (length rows) (plan.resets && row.fresh)));
       gates = λ c.
           done.gates c
           ∙ ap (λ g. g && not (has emitted.flying c)) (gate-kept c)
@@ -336,6 +341,10 @@ shown-stays : (f s g : Bool) → (f ≡ true → g ≡ true) → f ≡ true → 
 shown-stays true s g up h = up refl
 shown-stays false s g up h = absurd (cc)
 
+left-true : (a b : Bool) → (a && b) ≡ true → a ≡ true
+left-true true b h = refl
+left-true false b h = absurd (cc)
+
 shown : (sizes : List ℕ) (plan : Plan) (rows : List Row) (fresh : Bool) (l : Ledger) (starts ends : ℕ)
     → StandsAfter sizes plan rows fresh l → MayEmit l starts ends
     → (row : Row) × (row.starts ≡ starts) × (row.ends ≡ ends) × MayFollow l fresh (before_next rows fresh) row
@@ -357,7 +366,7 @@ shown sizes plan rows fresh l starts ends stands may =
       refl,
       refl,
       record {
-        mark = refl;
+        mark = mark fresh (λ t. stands.resets ∙ stands.turns t);
         gates = refl;
         marked = record {
           starts = λ c.
@@ -371,6 +380,10 @@ shown sizes plan rows fresh l starts ends stands may =
         stays = λ c h. valid c ∙ shown-stays (has l.flying c) (has starts c) (has l.gates c) (up c) (stands.flying c ∙ h);
       },
     )
+  where
+    mark : (fresh : Bool) → (fresh ≡ true → l.resets ≡ true) → (l.resets && fresh) ≡ fresh
+    mark true h = ap (λ r. r && true) (h refl)
+    mark false h = and-false l.resets
 
 pub keeps-gates : (sizes : List ℕ) (plan : Plan) → KeepsGates sizes plan
 keeps-gates sizes plan = record {
@@ -378,6 +391,7 @@ keeps-gates sizes plan = record {
     channels = refl;
     resets = refl;
     capacity = refl;
+    turns = λ e. absurd (cc);
     used = refl;
     permit = refl;
     gates = refl;
@@ -388,9 +402,10 @@ keeps-gates sizes plan = record {
   permit = λ rows fresh l emitted starts ends stands is.
       ap (λ r. r && emitted.permit) (is.resets ∙ stands.resets) ∙ ap (λ p. plan.resets && p) (is.permit ∙ stands.permit);
   next = λ rows fresh row l emitted new stands follows is again.
-      stands-next sizes plan rows row false emitted new (behind-emitted sizes plan rows fresh row l stands follows emitted is) again;
-  reset = λ rows fresh row l emitted reset new stands follows is done again.
-      stands-next sizes plan rows row true reset new (behind-reset sizes plan rows fresh row l stands follows emitted is reset done) again;
+      stands-next sizes plan rows row false emitted new (λ e. absurd (cc)) (behind-emitted sizes plan rows fresh row l stands follows emitted is) again;
+  reset = λ rows fresh row l emitted reset new stands follows is may done again.
+      stands-next sizes plan rows row true reset new
+      (λ e. sym (is.resets ∙ stands.resets) ∙ left-true emitted.resets emitted.permit may) (behind-reset sizes plan rows fresh row l stands follows emitted is reset done) again;
 }
 
 -- ---- the length of a packet

@@ -81,13 +81,13 @@ permit-waits sizes plan rows (suc t) fresh fits down =
     let kept = kept-need sizes (slice_get rows t) fresh in
     let sum = least-is sizes plan.resets in
     let enough : room ≤ plan.capacity = omega arith in
-    absurd (false≢true (sym down ∙ or_right (permit_at sizes plan rows t (fresh_at rows t) && not fresh) (leb room plan.capacity)
+    absurd (false≢true (sym down ∙ or_right (permit_at sizes plan rows t (fresh_at plan rows t) && not fresh) (leb room plan.capacity)
     (le-leb room plan.capacity enough))))
     (cases_lt 0 used)
 
 -- ---- all stay up
 pub none-left : (sizes : List ℕ) (plan : Plan) (rows : List Row) → EverythingDrains sizes plan rows → (t : ℕ)
-    → used_at sizes plan rows t (fresh_at rows t) ≡ 0
+    → used_at sizes plan rows t (fresh_at plan rows t) ≡ 0
 none-left sizes plan rows drains zero = refl
 none-left sizes plan rows drains (suc t) = drains t
 
@@ -100,16 +100,16 @@ no-more sizes plan rows (suc t) fresh gates is c l =
     before.2.channels c l
 
 pub stay-up : (sizes : List ℕ) (plan : Plan) (rows : List Row) (t gates : ℕ) → least sizes plan.resets ≤ plan.capacity
-    → EverythingDrains sizes plan rows → AreGates sizes plan rows t (fresh_at rows t) gates → gates ≡ all_up (length sizes)
+    → EverythingDrains sizes plan rows → AreGates sizes plan rows t (fresh_at plan rows t) gates → gates ≡ all_up (length sizes)
 stay-up sizes plan rows t gates fits drains is = same-masks gates (all_up (length sizes)) (λ c. ⊎_elim
     (λ (l : c < length sizes). ⊎_elim
     (λ (up : has gates c ≡ true). up ∙ sym (has-all (length sizes) c l))
     (λ (down : has gates c ≡ false).
-    let some = down-waits sizes plan rows t (fresh_at rows t) gates c fits is l down in
+    let some = down-waits sizes plan rows t (fresh_at plan rows t) gates c fits is l down in
     let none = none-left sizes plan rows drains t in
     absurd (omega arith))
     (cases_Bool (has gates c)))
-    (λ (l : length sizes ≤ c). no-more sizes plan rows t (fresh_at rows t) gates is c l ∙ sym (has-all_above (length sizes) c l))
+    (λ (l : length sizes ≤ c). no-more sizes plan rows t (fresh_at plan rows t) gates is c l ∙ sym (has-all_above (length sizes) c l))
     (cases_lt c (length sizes)))
 
 -- ---- one set of gates

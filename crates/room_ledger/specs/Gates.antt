@@ -27,13 +27,14 @@ abbrev pub row_len : List ℕ → Option Row → ℕ
 row_len sizes None = 0
 row_len sizes (Some row) = event_len sizes row.starts row.ends
 
--- whether row t is fresh: the design was reset before it
+-- whether a row is fresh: the design was reset before it
 abbrev pub is_fresh : Option Row → Bool
 is_fresh None = false
 is_fresh (Some row) = row.fresh
 
-abbrev pub fresh_at : List Row → ℕ → Bool
-fresh_at rows t = is_fresh (slice_get rows t)
+-- whether row t is; where there may be no resets none is
+abbrev pub fresh_at : Plan → List Row → ℕ → Bool
+fresh_at plan rows t = plan.resets && is_fresh (slice_get rows t)
 
 -- the bytes that are put after a row: those of its packet, and before a fresh row those of the reset's
 abbrev pub put_len : List ℕ → Option Row → Bool → ℕ
@@ -43,7 +44,7 @@ put_len sizes row fresh = if fresh then row_len sizes row + reset_len else row_l
 abbrev pub used_at : List ℕ → Plan → List Row → ℕ → Bool → ℕ
 used_at sizes plan rows zero fresh = 0
 used_at sizes plan rows (suc t) fresh = left (plan.allowance t)
-    (used_at sizes plan rows t (fresh_at rows t) + put_len sizes (slice_get rows t) fresh)
+    (used_at sizes plan rows t (fresh_at plan rows t) + put_len sizes (slice_get rows t) fresh)
 
 -- a gate is kept where it was up and its channel didn't complete, but not that of a channel in flight before a fresh row
 abbrev pub keeps : Row → Bool → ℕ → Bool
@@ -58,7 +59,7 @@ kept_room sizes (Some row) fresh = reserved sizes (keeps row fresh) (is_in_fligh
 -- the bytes used, all kept reservations and the room of a permit add up to at most the capacity
 abbrev pub permit_at : List ℕ → Plan → List Row → ℕ → Bool → Bool
 permit_at sizes plan rows zero fresh = true
-permit_at sizes plan rows (suc t) fresh = (permit_at sizes plan rows t (fresh_at rows t) && not fresh)
+permit_at sizes plan rows (suc t) fresh = (permit_at sizes plan rows t (fresh_at plan rows t) && not fresh)
     || nat_le (used_at sizes plan rows (suc t) fresh + kept_room sizes (slice_get rows t) fresh + permit_room plan.resets true) plan.capacity
 
 -- the bytes in the store in row t, and what its permit reserves

@@ -16,11 +16,13 @@ use Rattle.room_ledger.specs.Ledger.{Ledger, MayEmit, Emitted, IsReset, Regrante
 abbrev pub before_next : List Row → Bool → Option Row
 before_next rows fresh = if fresh then None else row_before rows (length rows)
 
--- the ledger is *Gates*'s after these rows, where the next one is fresh or isn't: its bytes used, its permit and its gates are those of that row
+-- the ledger is *Gates*'s after these rows, where the next one is fresh, as it can be where there may be resets, or isn't: its bytes used, its
+-- permit and its gates are those of that row
 pub record StandsAfter (sizes : List ℕ) (plan : Plan) (rows : List Row) (fresh : Bool) (l : Ledger) : Type 0 where
   pub channels : l.sizes ≡ sizes
   pub resets : l.resets ≡ plan.resets
   pub capacity : l.capacity ≡ plan.capacity
+  pub turns : fresh ≡ true → plan.resets ≡ true
   pub used : l.used ≡ used_at sizes plan rows (length rows) fresh
   pub permit : l.permit ≡ permit_at sizes plan rows (length rows) fresh
   pub gates : AreGates sizes plan rows (length rows) fresh l.gates
@@ -29,7 +31,7 @@ pub record StandsAfter (sizes : List ℕ) (plan : Plan) (rows : List Row) (fresh
 -- a row that may come next, fresh or not: its gates are the ledger's, its starts and ends are those of *Row*, and what is in flight keeps its
 -- valid
 pub record MayFollow (l : Ledger) (fresh : Bool) (before : Option Row) (row : Row) : Type 0 where
-  pub mark : row.fresh ≡ fresh
+  pub mark : (l.resets && row.fresh) ≡ fresh
   pub gates : row.gates ≡ l.gates
   pub marked : IsMarked before row
   pub stays : (c : ℕ) → flies_after before c ≡ true → sink_valid row c ≡ true
@@ -39,8 +41,8 @@ abbrev pub after_drain : Plan → List Row → Ledger → Ledger
 after_drain plan rows l = record l { used = left (plan.allowance (length rows)) l.used }
 
 -- Over every list of rows, `emit`, `reset` before each row that is fresh, `drain` and `regrant` after each of them keep the ledger at *Gates*.
--- Each row's `emit` is lawful, each lawful `emit` is that of a row, and the design may be reset exactly where *Gates* has the permit and there
--- may be resets.
+-- Each row's `emit` is lawful, each lawful `emit` is that of a row, and `reset` is lawful exactly where there may be resets and *Gates* has the
+-- permit.
 pub record KeepsGates (sizes : List ℕ) (plan : Plan) : Type 0 where
   pub first : StandsAfter sizes plan [] false (empty sizes plan.resets plan.capacity)
   pub lawful : (rows : List Row) (fresh : Bool) (row : Row) (l : Ledger) → StandsAfter sizes plan rows fresh l
@@ -53,8 +55,9 @@ pub record KeepsGates (sizes : List ℕ) (plan : Plan) : Type 0 where
       → MayFollow l fresh (before_next rows fresh) row → Emitted l row.starts row.ends emitted
       → Regranted (after_drain plan rows emitted) new → StandsAfter sizes plan (rows ++ row ∷ []) false new
   pub reset : (rows : List Row) (fresh : Bool) (row : Row) (l emitted reset new : Ledger) → StandsAfter sizes plan rows fresh l
-      → MayFollow l fresh (before_next rows fresh) row → Emitted l row.starts row.ends emitted → IsReset emitted reset
-      → Regranted (after_drain plan rows reset) new → StandsAfter sizes plan (rows ++ row ∷ []) true new
+      → MayFollow l fresh (before_next rows fresh) row → Emitted l row.starts row.ends emitted
+      → may_reset emitted ≡ true → IsReset emitted reset → Regranted (after_drain plan rows reset) new
+      → StandsAfter sizes plan (rows ++ row ∷ []) true new
 
 abbrev pub RoomKeepsGates : Type 0
 RoomKeepsGates = (sizes : List ℕ) (plan : Plan) → KeepsGates sizes plan
@@ -72,12 +75,12 @@ PermitDownOnlyWhileBytesWait = (sizes : List ℕ) (plan : Plan) (rows : List Row
 
 -- after each row everything drains
 abbrev pub EverythingDrains : List ℕ → Plan → List Row → Type 0
-EverythingDrains sizes plan rows = (t : ℕ) → used_at sizes plan rows (suc t) (fresh_at rows (suc t)) ≡ 0
+EverythingDrains sizes plan rows = (t : ℕ) → used_at sizes plan rows (suc t) (fresh_at plan rows (suc t)) ≡ 0
 
 -- where everything drains in each cycle, all gates stay up
 abbrev pub AllStayUp : Type 0
 AllStayUp = (sizes : List ℕ) (plan : Plan) (rows : List Row) (t gates : ℕ) → least sizes plan.resets ≤ plan.capacity
-    → EverythingDrains sizes plan rows → AreGates sizes plan rows t (fresh_at rows t) gates → gates ≡ all_up (length sizes)
+    → EverythingDrains sizes plan rows → AreGates sizes plan rows t (fresh_at plan rows t) gates → gates ≡ all_up (length sizes)
 
 -- each row has exactly one set of gates, where the gates of the rows are those of channels
 abbrev pub OneSetOfGates : Type 0
