@@ -1,5 +1,5 @@
 -- That a step fits a channel has one proof at most.
-use Rattle.std.proofs.Common.{List, []}
+use Rattle.std.proofs.Common.{List}
 use Rattle.std.proofs.Props.{props}
 use Rattle.trace_model.proofs.ContentsLemmas.{fit_prop}
 use Rattle.trace_model.specs.declared.channel.Channel.{Channel}

@@ -7,8 +7,8 @@ ghost use Rattle.script_text.specs.Reasons.{channel_at, suits, names_channels, f
 ghost use Rattle.script_text.specs.Steps.{made};
 
 use crate::said::{Said, StepLine};
-use crate::script::{MOST_CYCLES, Step};
-use trace_model::{Channel, Dir, fits};
+use crate::script::Step;
+use chan_map::trace_model::{Channel, Dir, MOST_CYCLES, fits};
 
 /// Whether a number is in a range, its ends with it.
 pub fn between(low: u128, high: u128, n: u128) -> bool
@@ -86,7 +86,7 @@ fn is_small(said: &Said) -> bool
 {
     match said {
         Said::Take { count } | Said::After { count, .. } => between(1, 4_294_967_295, *count),
-        Said::Wait { cycles } => between(1, MOST_CYCLES, *cycles),
+        Said::Wait { cycles } => between(1, u128::from(MOST_CYCLES), *cycles),
         _ => true,
     }
 }

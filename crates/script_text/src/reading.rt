@@ -9,9 +9,10 @@ ghost use Rattle.script_text.specs.Reads.{Gathers, IsGathered, Finishes, ReadsSc
 use crate::error::ScriptError;
 use crate::gathered::Gathered;
 use crate::lawful::between;
-use crate::script::{MOST_CYCLES, Script};
+use crate::script::Script;
 use crate::used::{blank_lines, number_in};
 use chan_map::Map;
+use chan_map::trace_model::{Channel, MOST_CYCLES};
 use chan_map::vidi_lines::{Line, each_line};
 use std::alloc::Global;
 use trace_model::Channel;
@@ -48,7 +49,7 @@ fn finished(line: u32, cycles: u128, gathered: Gathered) -> Result<Script, Scrip
     if let Some(line) = channel {
         return Err(ScriptError::Channel { line });
     }
-    if !between(1, MOST_CYCLES, cycles) {
+    if !between(1, u128::from(MOST_CYCLES), cycles) {
         return Err(ScriptError::Number { line });
     }
     if let Some(line) = number {
