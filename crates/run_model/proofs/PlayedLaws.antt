@@ -1,5 +1,5 @@
 -- Rows that a design shows under a rule: exactly one list of n rows.
-use Rattle.std.proofs.Common.{◌≡◌, ℕ, zero, suc, ◌<◌, ◌≤◌, ◌^◌, ◌&&◌, true, false, cond, ltb, List, [], ◌∷◌, ◌++◌, Option}
+use Rattle.std.proofs.Common.{Bool, ◌≡◌, ℕ, zero, suc, ◌<◌, ◌≤◌, ◌^◌, ◌&&◌, true, false, cond, ltb, List, [], ◌∷◌, ◌++◌, Option}
 use Rattle.std.proofs.Common.{Some, None, All, length, take, map, get_or, slice_get, slice_index, ⊎_elim, refl, ap, sym, subst, ◌∙◌, arith}
 use Rattle.std.specs.List.{range_with_len}
 use mathlib.Core.Logic.{∥∥₁_elim, ∥∥₁_map, ∥∥₁_prop}
@@ -239,13 +239,14 @@ fit-outputs d are v fit width pin is =
     (subst (λ w. get_or v.nets is.port 0 < 2 ^ w) (are.widths is.port is.p is.at ∙ is.width_is) below)
 
 -- ---- at least one list
--- after these rows the rule allows the rows with some offers and gates, before which no reset came
+-- after these rows the rule allows the rows with some offers, gates and mark
 pub record Allows (channels : List Channel) (rule : List Row → Row → Type 0) (before : List Row) : Type 0 where
   pub offers : Offers
   pub gates : ℕ
+  pub fresh : Bool
   pub are : AreOffers channels offers
   pub below : gates < 2 ^ length channels
-  pub allows : (row : Row) → IsOver channels row → Carries channels offers row → row.gates ≡ gates → row.fresh ≡ false → rule before row
+  pub allows : (row : Row) → IsOver channels row → Carries channels offers row → row.gates ≡ gates → row.fresh ≡ fresh → rule before row
 
 record Lists (d : Design) (m : Map) (rule : List Row → Row → Type 0) (n : ℕ) : Type 0 where
   rows : List Row
@@ -280,16 +281,16 @@ no-outputs : (d : Design) → FitOutputs d []
 no-outputs d width pin is = pow_pos width
 
 -- the next row, and the state after it, by its settled map
-pub row-step : (d : Design) (m : Map) → PortsAreNets d → IsMapOf d m → (before : Option Row) (offers : Offers) → AreOffers m.channels offers
+pub row-step : (d : Design) (m : Map) → PortsAreNets d → IsMapOf d m → (fresh : Bool) (before : Option Row) (offers : Offers) → AreOffers m.channels offers
     → (gates : ℕ) → gates < 2 ^ length m.channels → (s : Values) (pins : List ℕ) (v : Values)
-    → ArePins d m false (row_of m before offers gates []) pins → IsSettled d s pins v
-    → IsStep d m s (row_of m before offers gates (outputs d v)) (next d v s)
-row-step d m are-nets is before offers are gates l s pins v entered-is settled =
+    → ArePins d m false (row_of m fresh before offers gates []) pins → IsSettled d s pins v
+    → IsStep d m s (row_of m fresh before offers gates (outputs d v)) (next d v s)
+row-step d m are-nets is fresh before offers are gates l s pins v entered-is settled =
     let fits = fit-outputs d are-nets v settled.keeps.fit in
-    let first = row_of m before offers gates [] in
-    let row = row_of m before offers gates (outputs d v) in
+    let first = row_of m fresh before offers gates [] in
+    let row = row_of m fresh before offers gates (outputs d v) in
     let agree : Agree m.channels first row = carried m.channels offers first row refl refl
-    (row-carries d m is before offers are gates [] (no-outputs d)) (row-carries d m is before offers are gates (outputs d v) fits) in
+    (row-carries d m is fresh before offers are gates [] (no-outputs d)) (row-carries d m is fresh before offers are gates (outputs d v) fits) in
     record {
       pins = pins;
       v = v;
@@ -298,16 +299,16 @@ row-step d m are-nets is before offers are gates l s pins v entered-is settled =
         numbers = subst (λ es. All (λ e. slice_index pins e.place ≡ e.number) es) (entered-same m false first row agree) entered-is.numbers;
       };
       settled = settled;
-      shown = row-shows d m is before offers are gates (outputs d v) fits;
+      shown = row-shows d m is fresh before offers are gates (outputs d v) fits;
       next = refl;
     }
 
-pub first-pins : (d : Design) (m : Map) → IsMapOf d m → (before : Option Row) (offers : Offers) → AreOffers m.channels offers
+pub first-pins : (d : Design) (m : Map) → IsMapOf d m → (fresh : Bool) (before : Option Row) (offers : Offers) → AreOffers m.channels offers
     → (gates : ℕ) → gates < 2 ^ length m.channels
-    → ArePins d m false (row_of m before offers gates [])
-    (map (number_for (entered m false (row_of m before offers gates []))) (range_with_len 0 (length (input_limits d))))
-first-pins d m is before offers are gates l = are-pins d m is false (row_of m before offers gates [])
-    (small-row m.channels (row_of m before offers gates []) (row-over d m is before offers are gates l [] (no-outputs d)))
+    → ArePins d m false (row_of m fresh before offers gates [])
+    (map (number_for (entered m false (row_of m fresh before offers gates []))) (range_with_len 0 (length (input_limits d))))
+first-pins d m is fresh before offers are gates l = are-pins d m is false (row_of m fresh before offers gates [])
+    (small-row m.channels (row_of m fresh before offers gates []) (row-over d m is fresh before offers are gates l [] (no-outputs d)))
 
 module _ (d : Design) (m : Map) (law : IsLawful d) (one : HasOneMap d) (is : IsMapOf d m) (rule : List Row → Row → Type 0)
     (allowed : (before : List Row) → AreRows m.channels before → Allows m.channels rule before) where
@@ -316,16 +317,16 @@ module _ (d : Design) (m : Map) (law : IsLawful d) (one : HasOneMap d) (is : IsM
       let before = row_before x.rows (length x.rows) in
       let w = allowed x.rows x.played.marked in
       let s = x.played.driven.state (length x.rows) in
-      let pins = map (number_for (entered m false (row_of m before w.offers w.gates []))) (range_with_len 0 (length (input_limits d))) in
-      let are = first-pins d m is before w.offers w.are w.gates w.below in
+      let pins = map (number_for (entered m false (row_of m w.fresh before w.offers w.gates []))) (range_with_len 0 (length (input_limits d))) in
+      let are = first-pins d m is w.fresh before w.offers w.are w.gates w.below in
       ∥∥₁_map {B = Lists d m rule (suc n)} (one.some s pins x.lawful are.fit) (λ (v : (v : Values) × IsSettled d s pins v).
       (let fits = fit-outputs d (ports-are_nets d law) v.0 v.1.keeps.fit in
-      let row = row_of m before w.offers w.gates (outputs d v.0) in
-      let over = row-over d m is before w.offers w.are w.gates w.below (outputs d v.0) fits in
-      let step = row-step d m (ports-are_nets d law) is before w.offers w.are w.gates w.below s pins v.0 are v.1 in
+      let row = row_of m w.fresh before w.offers w.gates (outputs d v.0) in
+      let over = row-over d m is w.fresh before w.offers w.are w.gates w.below (outputs d v.0) fits in
+      let step = row-step d m (ports-are_nets d law) is w.fresh before w.offers w.are w.gates w.below s pins v.0 are v.1 in
       let g = played-push d m rule x.rows row (next d v.0 s) x.played
-      (w.allows row over (row-carries d m is before w.offers w.are w.gates (outputs d v.0) fits) refl refl) over
-      (row-marked m before w.offers w.gates (outputs d v.0)) step in
+      (w.allows row over (row-carries d m is w.fresh before w.offers w.are w.gates (outputs d v.0) fits) refl refl) over
+      (row-marked m w.fresh before w.offers w.gates (outputs d v.0)) step in
       record {
         rows = x.rows ++ row ∷ [];
         long = let l = x.long in omega (arith, length_push x.rows row, l);

@@ -162,6 +162,7 @@ replay-allows : (channels : List Channel) (packets : List Packet) → ContentsFi
 replay-allows channels packets fit before are = record {
   offers = offers_of channels packets (done before);
   gates = all_up channels;
+  fresh = false;
   are = offers-over channels packets (done before) fit;
   below = all-up-below (length channels);
   allows = λ row over carries g fresh.

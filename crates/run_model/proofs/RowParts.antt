@@ -189,9 +189,9 @@ content-here-fits d m is offers are out fits c x at =
     (content-fits m.channels offers.contents are.contents c x at) (no-content-fits m.channels c x at)) p.is.contents)
 
 -- it is over the channels, marked, shows the outputs and carries the offers
-pub row-over : (d : Design) (m : Map) → IsMapOf d m → (before : Option Row) (offers : Offers) → AreOffers m.channels offers → (gates : ℕ)
-    → gates < 2 ^ length m.channels → (out : List ℕ) → FitOutputs d out → IsOver m.channels (row_of m before offers gates out)
-row-over d m is before offers are gates l out fits = record {
+pub row-over : (d : Design) (m : Map) → IsMapOf d m → (fresh : Bool) (before : Option Row) (offers : Offers) → AreOffers m.channels offers → (gates : ℕ)
+    → gates < 2 ^ length m.channels → (out : List ℕ) → FitOutputs d out → IsOver m.channels (row_of m fresh before offers gates out)
+row-over d m is fresh before offers are gates l out fits = record {
   gates = l;
   valids = mask-below (valid_at m offers out) (length m.channels);
   readies = mask-below (ready_at m offers out) (length m.channels);
@@ -213,9 +213,9 @@ mask-is n f past c = ⊎_elim
     (λ (l : n ≤ c). has-above (mask_of f n) n c (mask-below f n) l ∙ sym (past c l))
     (cases_lt c n)
 
-pub row-marked : (m : Map) (before : Option Row) (offers : Offers) (gates : ℕ) (out : List ℕ)
-    → IsMarked before (row_of m before offers gates out)
-row-marked m before offers gates out =
+pub row-marked : (m : Map) (fresh : Bool) (before : Option Row) (offers : Offers) (gates : ℕ) (out : List ℕ)
+    → IsMarked before (row_of m fresh before offers gates out)
+row-marked m fresh before offers gates out =
     let n = length m.channels in
     let valids = mask_of (valid_at m offers out) n in
     let readies = mask_of (ready_at m offers out) n in
@@ -233,11 +233,11 @@ record AtChannel (m : Map) (offers : Offers) (out : List ℕ) (row : Row) (c : �
   ready : has row.readies c ≡ ready_on offers out c dir plug
   content : content_at m.channels row.contents c ≡ content_on m.channels offers out c dir plug
 
-at-channel : (d : Design) (m : Map) → IsMapOf d m → (before : Option Row) (offers : Offers) → AreOffers m.channels offers → (gates : ℕ)
+at-channel : (d : Design) (m : Map) → IsMapOf d m → (fresh : Bool) (before : Option Row) (offers : Offers) → AreOffers m.channels offers → (gates : ℕ)
     → (out : List ℕ) → FitOutputs d out → (c : ℕ) (x : Channel) (plug : Plug) → slice_get m.channels c ≡ Some x
     → slice_get m.plugs c ≡ Some plug
-    → AtChannel m offers out (row_of m before offers gates out) c x.dir plug
-at-channel d m is before offers are gates out fits c x plug at there =
+    → AtChannel m offers out (row_of m fresh before offers gates out) c x.dir plug
+at-channel d m is fresh before offers are gates out fits c x plug at there =
     let n = length m.channels in
     let l = slice_get_within m.channels c x at in
     record {
@@ -260,17 +260,17 @@ carries-on : (m : Map) (offers : Offers) (out : List ℕ) (row : Row) (c : ℕ) 
 carries-on m offers out row c Inward plug a = (a.valid, a.content)
 carries-on m offers out row c Outward plug a = a.ready
 
-pub row-shows : (d : Design) (m : Map) → IsMapOf d m → (before : Option Row) (offers : Offers) → AreOffers m.channels offers → (gates : ℕ)
-    → (out : List ℕ) → FitOutputs d out → Shows out m (row_of m before offers gates out)
-row-shows d m is before offers are gates out fits c x plug at there = shows-on m offers out (row_of m before offers gates out) c x.dir plug
-    (at-channel d m is before offers are gates out fits c x plug at there)
+pub row-shows : (d : Design) (m : Map) → IsMapOf d m → (fresh : Bool) (before : Option Row) (offers : Offers) → AreOffers m.channels offers → (gates : ℕ)
+    → (out : List ℕ) → FitOutputs d out → Shows out m (row_of m fresh before offers gates out)
+row-shows d m is fresh before offers are gates out fits c x plug at there = shows-on m offers out (row_of m fresh before offers gates out) c x.dir plug
+    (at-channel d m is fresh before offers are gates out fits c x plug at there)
 
-pub row-carries : (d : Design) (m : Map) → IsMapOf d m → (before : Option Row) (offers : Offers) → AreOffers m.channels offers → (gates : ℕ)
-    → (out : List ℕ) → FitOutputs d out → Carries m.channels offers (row_of m before offers gates out)
-row-carries d m is before offers are gates out fits c x at =
+pub row-carries : (d : Design) (m : Map) → IsMapOf d m → (fresh : Bool) (before : Option Row) (offers : Offers) → AreOffers m.channels offers → (gates : ℕ)
+    → (out : List ℕ) → FitOutputs d out → Carries m.channels offers (row_of m fresh before offers gates out)
+row-carries d m is fresh before offers are gates out fits c x at =
     let p = has-plug d m is c x at in
-    carries-on m offers out (row_of m before offers gates out) c x.dir p.plug
-    (at-channel d m is before offers are gates out fits c x p.plug at p.at)
+    carries-on m offers out (row_of m fresh before offers gates out) c x.dir p.plug
+    (at-channel d m is fresh before offers are gates out fits c x p.plug at p.at)
 
 -- the contents of a row over the channels are small enough for their pins
 small-cond : (b : Bool) (x limit : ℕ) → x < limit → 0 < limit → cond b x 0 < limit

@@ -45,6 +45,7 @@ run-allows : (channels : List Channel) (offers : List Row → Offers) → Offers
 run-allows channels offers fit gates one before are = record {
   offers = offers before;
   gates = (one before are).mask;
+  fresh = false;
   are = fit before are;
   below = (one before are).below;
   allows = λ row over carries g fresh. (carries, subst (gates before) (sym g) (one before are).is, fresh);
