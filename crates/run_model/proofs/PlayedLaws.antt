@@ -71,13 +71,13 @@ state-step d m law s row a st x = subst (IsState d) (sym x.next) (next_state d l
 
 -- rows of one state that agree are one, and so are the states after them
 one-step : (d : Design) (m : Map) → HasOneMap d → IsMapOf d m → (s : Values) → IsState d s → (before : Option Row) (a b : Row)
-    (na nb : Values) → IsOver m.channels a → IsOver m.channels b → IsMarked before a → IsMarked before b → Agree m.channels a b
-    → IsStep d m s a na → IsStep d m s b nb → (a ≡ b) × (na ≡ nb)
-one-step d m one is s st before a b na nb oa ob ma mb agree x y =
+    (na nb : Values) → IsOver m.channels a → IsOver m.channels b → IsMarked before a → IsMarked before b → a.fresh ≡ b.fresh
+    → Agree m.channels a b → IsStep d m s a na → IsStep d m s b nb → (a ≡ b) × (na ≡ nb)
+one-step d m one is s st before a b na nb oa ob ma mb fresh agree x y =
     let pins : x.pins ≡ y.pins = one-list d m is false a b (entered-same m false a b agree) x.pins y.pins x.entered y.entered in
     let map-is : x.v ≡ y.v = one.only s x.pins x.v y.v st x.entered.fit x.settled (subst (λ p. IsSettled d s p y.v)
     (sym pins) y.settled) in (
-      one-row d m is (outputs d x.v) before a b oa ob ma mb agree x.shown (subst (λ v. Shows (outputs d v) m b) (sym map-is) y.shown),
+      one-row d m is (outputs d x.v) before a b oa ob ma mb fresh agree x.shown (subst (λ v. Shows (outputs d v) m b) (sym map-is) y.shown),
       x.next ∙ ap (λ v. next d v s) map-is ∙ sym y.next,
     )
 
@@ -103,7 +103,7 @@ rows-front channels rows k are t row at =
 -- the rule fixes the environment's part of a row, its gates and whether a reset came
 abbrev pub Determines : List Channel → (List Row → Row → Type 0) → Type 0
 Determines channels rule = (before : List Row) (a b : Row) → AreRows channels before → IsOver channels a → IsOver channels b
-    → rule before a → rule before b → Agree channels a b
+    → rule before a → rule before b → (a.fresh ≡ b.fresh) × Agree channels a b
 
 record Same (d : Design) (m : Map) (a b : List Row) (da : IsDriven d m a) (db : IsDriven d m b) (k : ℕ) : Type 0 where
   rows : take k a ≡ take k b
@@ -120,12 +120,12 @@ module _ (d : Design) (m : Map) (law : IsLawful d) (one : HasOneMap d) (is : IsM
   same-suc : (k : ℕ) (x y : Row) → slice_get a k ≡ Some x → slice_get b k ≡ Some y → Same d m a b pa.driven pb.driven k
       → Same d m a b pa.driven pb.driven (suc k)
   same-suc k x y ax by s =
-      let agree : Agree m.channels x y = determines (take k a) x y (rows-front m.channels a k pa.marked) (pa.marked k x ax).0
+      let agree : (x.fresh ≡ y.fresh) × Agree m.channels x y = determines (take k a) x y (rows-front m.channels a k pa.marked) (pa.marked k x ax).0
       (pb.marked k y by).0
       (pa.ruled k x ax) (subst (λ rs. rule rs y) (sym s.rows) (pb.ruled k y by)) in
       let mark : IsMarked (row_before a k) y = subst (λ o. IsMarked o y) (sym (before-same a b k s.rows)) (pb.marked k y by).1 in
       let r = one-step d m one is (pa.driven.state k) s.lawful (row_before a k) x y (pa.driven.state (suc k)) (pb.driven.state (suc k))
-      (pa.marked k x ax).0 (pb.marked k y by).0 (pa.marked k x ax).1 mark agree (pa.driven.steps k x ax)
+      (pa.marked k x ax).0 (pb.marked k y by).0 (pa.marked k x ax).1 mark agree.0 agree.1 (pa.driven.steps k x ax)
       (subst (λ u. IsStep d m u y (pb.driven.state (suc k))) (sym s.state) (pb.driven.steps k y by)) in
       record {
         rows = take-suc_get a k x ax ∙ ap (λ rs. rs ++ x ∷ []) s.rows ∙ ap (λ z. take k b ++ z ∷ []) r.0 ∙ sym (take-suc_get b k y by);
@@ -289,7 +289,7 @@ row-step d m are-nets is fresh before offers are gates l s pins v entered-is set
     let fits = fit-outputs d are-nets v settled.keeps.fit in
     let first = row_of m fresh before offers gates [] in
     let row = row_of m fresh before offers gates (outputs d v) in
-    let agree : Agree m.channels first row = carried m.channels offers first row refl refl
+    let agree : Agree m.channels first row = carried m.channels offers first row refl
     (row-carries d m is fresh before offers are gates [] (no-outputs d)) (row-carries d m is fresh before offers are gates (outputs d v) fits) in
     record {
       pins = pins;

@@ -34,13 +34,12 @@ use Rattle.run_model.proofs.Contents.{content-joined, content-fits, fit-zeros}
 use Rattle.run_model.specs.Building.{AreSmall, FitOutputs, at_plug, content_here, content_on, mask_of, ready_at, ready_on, row_of}
 use Rattle.run_model.specs.Building.{valid_at, valid_on}
 
--- ---- rows that agree on the environment's part, the gates and whether a reset came
+-- ---- rows that agree on the environment's part and the gates
 abbrev pub AgreeOn : List Channel → Row → Row → ℕ → Dir → Type 0
 AgreeOn channels a b c Inward = (has a.valids c ≡ has b.valids c) × (content_at channels a.contents c ≡ content_at channels b.contents c)
 AgreeOn channels a b c Outward = has a.readies c ≡ has b.readies c
 
 pub record Agree (channels : List Channel) (a b : Row) : Type 0 where
-  pub fresh : a.fresh ≡ b.fresh
   pub gates : a.gates ≡ b.gates
   pub on : (c : ℕ) (x : Channel) → slice_get channels c ≡ Some x → AgreeOn channels a b c x.dir
 
@@ -93,7 +92,7 @@ channel-at xs c l = ⊎_elim
     (λ (w : (length xs ≤ c) × (slice_get xs c ≡ None)). absurd (omega (arith, w.0)))
     (slice_get_cases xs c).1
 
--- ---- two rows that agree and show the same outputs are one
+-- ---- two rows that agree, show the same outputs and have one mark are one
 record Parts (channels : List Channel) (a b : Row) (c : ℕ) : Type 0 where
   valid : has a.valids c ≡ has b.valids c
   ready : has a.readies c ≡ has b.readies c
@@ -126,8 +125,9 @@ row-same a b f g v r k s e =
     λ i. record { fresh = f i; gates = g i; valids = v i; readies = r i; contents = k i; starts = s i; ends = e i }
 
 pub one-row : (d : Design) (m : Map) → IsMapOf d m → (out : List ℕ) (before : Option Row) (a b : Row) → IsOver m.channels a
-    → IsOver m.channels b → IsMarked before a → IsMarked before b → Agree m.channels a b → Shows out m a → Shows out m b → a ≡ b
-one-row d m is out before a b oa ob ma mb agree sa sb =
+    → IsOver m.channels b → IsMarked before a → IsMarked before b → a.fresh ≡ b.fresh → Agree m.channels a b → Shows out m a → Shows out m b
+    → a ≡ b
+one-row d m is out before a b oa ob ma mb fresh agree sa sb =
     let n = length m.channels in
     let each : (c : ℕ) → c < n → Parts m.channels a b c = λ c l.
     (let x = channel-at m.channels c l in parts d m is out a b agree sa sb c x.0 x.1)
@@ -137,19 +137,18 @@ one-row d m is out before a b oa ob ma mb agree sa sb =
     let k : a.contents ≡ b.contents = same-contents m.channels a.contents b.contents oa.contents ob.contents
     (λ c x at. (parts d m is out a b agree sa sb c x at).content) in
     let mark = marks before a b agree.gates v r ma mb in
-    row-same a b agree.fresh agree.gates v r k (same-masks_below n a.starts b.starts oa.starts ob.starts (λ c l. mark.0 c))
+    row-same a b fresh agree.gates v r k (same-masks_below n a.starts b.starts oa.starts ob.starts (λ c l. mark.0 c))
     (same-masks_below n a.ends b.ends oa.ends ob.ends (λ c l. mark.1 c))
 
--- two rows with the same offers, gates and mark agree
+-- two rows with the same offers and gates agree
 carried-on : (channels : List Channel) (offers : Offers) (a b : Row) (c : ℕ) (dir : Dir) → CarriesOn channels offers a c dir
     → CarriesOn channels offers b c dir → AgreeOn channels a b c dir
 carried-on channels offers a b c Inward x y = (x.0 ∙ sym y.0, x.1 ∙ sym y.1)
 carried-on channels offers a b c Outward x y = x ∙ sym y
 
-pub carried : (channels : List Channel) (offers : Offers) (a b : Row) → a.fresh ≡ b.fresh → a.gates ≡ b.gates → Carries channels offers a
+pub carried : (channels : List Channel) (offers : Offers) (a b : Row) → a.gates ≡ b.gates → Carries channels offers a
     → Carries channels offers b → Agree channels a b
-carried channels offers a b f g x y =
-    record { fresh = f; gates = g; on = λ c z at. carried-on channels offers a b c z.dir (x c z at) (y c z at) }
+carried channels offers a b g x y = record { gates = g; on = λ c z at. carried-on channels offers a b c z.dir (x c z at) (y c z at) }
 
 -- ---- the row of given offers, gates and outputs
 map-fits : (d : Design) (out : List ℕ) → FitOutputs d out → (widths : List ℕ) (pins : List Pin)
