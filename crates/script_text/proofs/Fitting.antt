@@ -16,7 +16,7 @@ use Rattle.trace_model.specs.declared.channel.Dir.{Dir}
 use Rattle.trace_model.specs.declared.channel.Dir.TheVariants.{Inward, Outward}
 use Rattle.trace_model.specs.Packet.{Fit}
 use Rattle.chan_map.specs.vidi_bits.Findings.{first, told_if}
-use Rattle.chan_map.specs.trace_model.declared.packet.TheConstants.{MOST_CYCLES}
+use Rattle.trace_model.specs.declared.packet.TheConstants.{MOST_CYCLES}
 use Rattle.script_text.specs.declared.error.ScriptError.{ScriptError}
 use Rattle.script_text.specs.declared.error.ScriptError.TheVariants as E
 use Rattle.script_text.specs.declared.gathered.Gathered.{Gathered}

@@ -10,7 +10,7 @@ use Rattle.trace_model.specs.declared.channel.Dir.TheVariants.{Inward, Outward}
 use Rattle.chan_map.specs.vidi_bits.Findings.{is_nil, told_if}
 use Rattle.chan_map.specs.vidi_lines.declared.lines.Line.{Line}
 use Rattle.chan_map.specs.vidi_lines.Lines.{file_lines, line_unless_bad}
-use Rattle.chan_map.specs.trace_model.declared.packet.TheConstants.{MOST_CYCLES}
+use Rattle.trace_model.specs.declared.packet.TheConstants.{MOST_CYCLES}
 use Rattle.script_text.specs.declared.error.ScriptError.{ScriptError}
 use Rattle.script_text.specs.declared.error.ScriptError.TheVariants as E
 use Rattle.script_text.specs.declared.said.Said.{Said}

@@ -8,7 +8,7 @@ use Rattle.trace_model.specs.Channel.{between}
 use Rattle.chan_map.specs.vidi_bits.Findings.{first, told_if}
 use Rattle.chan_map.specs.vidi_lines.declared.lines.Line.{Line}
 use Rattle.chan_map.specs.vidi_lines.Number.{number_of}
-use Rattle.chan_map.specs.trace_model.declared.packet.TheConstants.{MOST_CYCLES}
+use Rattle.trace_model.specs.declared.packet.TheConstants.{MOST_CYCLES}
 use Rattle.script_text.specs.declared.error.StallError.{StallError}
 use Rattle.script_text.specs.declared.error.StallError.TheVariants as E
 use Rattle.script_text.specs.declared.stalls.Drain.{Drain}

@@ -8,7 +8,7 @@ ghost use Rattle.script_text.specs.Steps.{made};
 
 use crate::said::{Said, StepLine};
 use crate::script::Step;
-use chan_map::trace_model::{Channel, Dir, MOST_CYCLES, fits};
+use trace_model::{Channel, Dir, MOST_CYCLES, fits};
 
 /// Whether a number is in a range, its ends with it.
 pub fn between(low: u128, high: u128, n: u128) -> bool

@@ -1,5 +1,5 @@
 use Rattle.std.proofs.Common.{refl, ap, sym, ◌∙◌}
-use Rattle.chan_map.specs.trace_model.Channel.{between}
+use Rattle.trace_model.specs.Channel.{between}
 use Rattle.script_text.proofs.Fitting.{script_made}
 use Rattle.script_text.proofs.reading.finished.Goals as goal
 
