@@ -71,7 +71,8 @@ pub trait Env {
     ghost fits: { (env : Self) (rows : List Row) (c : ℕ) (channel : Channel) → slice_get (channels env) c ≡ Some channel
         → FitsOffer channel (offer (plan env) rows c) };
 
-    /// A valid and its content stay until a row completes the channel (AMBA AXI4 IHI 0022, A3.2.1).
-    ghost stays: { (env : Self) (rows : List Row) (row : Row) (c : ℕ) → (offer (plan env) rows c).valid ≡ true
+    /// A valid and its content stay until a row completes the channel (AMBA AXI4 IHI 0022, A3.2.1), as long as rows carry what is offered.
+    ghost stays: { (env : Self) (rows : List Row) (row : Row) (c : ℕ) → Carries (channels env) (offer (plan env) rows) row
+        → (offer (plan env) rows c).valid ≡ true
         → completes row c ≡ false → offer (plan env) (rows ++ row ∷ []) c ≡ offer (plan env) rows c };
 }
