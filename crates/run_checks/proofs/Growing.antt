@@ -25,7 +25,7 @@ turned runs d m at offers gates rows new now offer g row same grown turn o k gat
     let t : IsTurn runs d m now (row_before rows (length rows)) (Some row) offer row =
     subst (λ (n : Map). IsTurn runs d n now (row_before rows (length rows)) (Some row) offer row) same turn in
     let more = run-grow d m offers gates rows now grown offer g row t.after o k
-    (record { over = t.over; marked = t.marked; carried = t.carries; step = t.step }) gates-are in (
+    (record { over = t.over; marked = t.marked; fresh = t.fresh; carried = t.carries; step = t.step }) gates-are in (
       t.after,
       subst (λ (rs : List Row). Grown d m (IsRunRow m.channels (offers_by offers) (GatesOf (gates_by gates))) rs t.after) (sym e) more,
       subst (λ (rs : List Row). runs d t.after (row_before rs (length rs))) (sym e)

@@ -9,6 +9,7 @@ use Rattle.net_design.specs.Lawful.{IsState}
 use Rattle.net_design.specs.Pins.{outputs}
 use Rattle.net_design.specs.Settled.{IsSettled, initial}
 use Rattle.replay_run.specs.trace_model.declared.row.Row.{Row}
+use Rattle.replay_run.specs.trace_model.declared.packet.TheConstants.{MOST_CYCLES}
 use Rattle.replay_run.specs.trace_model.Row.{IsOver}
 use Rattle.replay_run.specs.chan_map.declared.pins.Map.{Map}
 use Rattle.replay_run.specs.chan_map.declared.pins.Reset.{Reset}
@@ -47,7 +48,7 @@ module _ (whole e : Design) (state u : Values) (a : Map) (first : ℕ) (pins len
       (all ∙ made ∙ ap (λ ps. take first ps ++ xs) is) (ap length all ∙ n) known
 
 pub row_shown : (whole e : Design) (state : Values) (a : Map) (first : ℕ) (pins lent now resets : List ℕ) (flight cycles : ℕ) (d : Design)
-    (s : Values) (rows : List Row) → cycles ≤ 50000 → IsState whole state → lent ≡ pins → e ≡ whole → (v : Values)
+    (s : Values) (rows : List Row) → cycles ≤ MOST_CYCLES → IsState whole state → lent ≡ pins → e ≡ whole → (v : Values)
     → IsSettled whole state now v → (feed : Feed) → IsFeedOver a.channels feed → now ≡ take first lent ++ feed_inputs a.channels feed
     → (row : Row) → row ≡ replay_row a.channels flight feed (outputs e v)
     → IsReplaying whole state a first pins resets flight cycles d s rows → IsShown d a s rows feed row
@@ -56,7 +57,7 @@ row_shown whole e state a first pins lent now resets flight cycles d s rows few 
     (shown on few is feed over (made ∙ ap (λ ps. take first ps ++ feed_inputs a.channels feed) same) settled)
 
 pub row_over : (whole e : Design) (state : Values) (a : Map) (first : ℕ) (pins lent now resets : List ℕ) (flight cycles : ℕ)
-    → cycles ≤ 50000 → IsState whole state → lent ≡ pins → e ≡ whole → (v : Values)
+    → cycles ≤ MOST_CYCLES → IsState whole state → lent ≡ pins → e ≡ whole → (v : Values)
     → IsSettled whole state now v → (feed : Feed) → IsFeedOver a.channels feed → now ≡ take first lent ++ feed_inputs a.channels feed
     → (row : Row) → row ≡ replay_row a.channels flight feed (outputs e v)
     → ∥ IsRunning (IsReplaying whole state a first pins resets flight cycles) ∥₁ → IsOver a.channels row

@@ -213,7 +213,9 @@ module _ {f : FileOf ℕ} {a : Map} {d : Design} {top : ModuleOf ℕ} {s : State
   pub is_filled : row ≡ filled
   is_filled =
       let same_gates : row.gates ≡ filled.gates = made.gates_are ∙ sym records.shown.gates_are in
+      let same_fresh : row.fresh ≡ filled.fresh = made.fresh ∙ sym records.shown.fresh in
       λ i. record {
+        fresh = same_fresh i;
         gates = same_gates i;
         valids = same_valids i;
         readies = same_readies i;

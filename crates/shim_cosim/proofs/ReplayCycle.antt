@@ -28,6 +28,7 @@ use Rattle.replay_run.specs.trace_model.declared.channel.Channel.{Channel}
 use Rattle.replay_run.specs.trace_model.declared.channel.Dir.{Dir}
 use Rattle.replay_run.specs.trace_model.declared.channel.Dir.TheVariants.{Inward, Outward}
 use Rattle.replay_run.specs.trace_model.declared.row.Row.{Row}
+use Rattle.replay_run.specs.trace_model.declared.packet.TheConstants.{MOST_CYCLES}
 use Rattle.replay_run.specs.trace_model.Row.{row_before, flies_after}
 use Rattle.replay_run.proofs.trace_model_lemmas.CountingLemmas.{count-cons}
 use Rattle.replay_run.specs.chan_map.declared.pins.Map.{Map}
@@ -299,7 +300,7 @@ module _ {file : FileOf ℕ} {a : Map} {tree : ModuleOf ℕ} {d whole : Design} 
   -- ---- the design inside, under a feed
   module _ {state v : Values} {inputs : List ℕ} (full : State) (narrow : (name : Full) (k : ℕ) → full.words name k < 2 ^ 128)
       (state_is : state_of whole full ≡ state) (is_state : IsState whole state) (settled : IsSettled whole state inputs v)
-      (rows : List Row) (few : length rows ≤ 50000) (counts : Counts a rows full) (feed : Feed) (over : IsFeedOver a.channels feed)
+      (rows : List Row) (few : length rows ≤ MOST_CYCLES) (counts : Counts a rows full) (feed : Feed) (over : IsFeedOver a.channels feed)
       (entered_is : inputs ≡ held_inputs a false tree.ports ++ feed_inputs a.channels feed) (flight : ℕ)
       (flies : (c : ℕ) → has flight c ≡ flies_after (row_before rows (length rows)) c) where
     found : (row : Row) × Replays file a d round.top.design.top full (nets full narrow state_is is_state settled) rows feed row
@@ -311,7 +312,7 @@ module _ {file : FileOf ℕ} {a : Map} {tree : ModuleOf ℕ} {d whole : Design} 
     row_same : replay_row a.channels flight feed (outputs whole v) ≡ found.0
     row_same =
         row_is a (nets full narrow state_is is_state settled) (outputs whole v) (outputs_are full narrow state_is is_state settled) flight feed rows
-        found.0 found.1.shown.over found.1.shown.marked found.1.shown.gates_are found.1.shown.fed found.1.ports flies
+        found.0 found.1.shown.over found.1.shown.marked found.1.shown.fresh found.1.shown.gates_are found.1.shown.fed found.1.ports flies
 
     pub shown : IsShown d a (own_state d full) rows feed (replay_row a.channels flight feed (outputs whole v))
     shown = subst (λ (r : Row). IsShown d a (own_state d full) rows feed r) (sym row_same) found.1.shown

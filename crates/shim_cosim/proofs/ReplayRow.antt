@@ -175,7 +175,8 @@ and_up true g e = e
 and_up false g e = refl
 
 module _ (a : Map) (v : Full → ℕ) (out : List ℕ) (are : AreOutputs a.channels v out) (flight : ℕ) (feed : Feed) (rows : List Row) (row : Row)
-    (over : IsOver a.channels row) (marked : IsMarked (row_before rows (length rows)) row) (gates : row.gates ≡ all_up a.channels)
+    (over : IsOver a.channels row) (marked : IsMarked (row_before rows (length rows)) row) (fresh : row.fresh ≡ false)
+    (gates : row.gates ≡ all_up a.channels)
     (fed : (c : ℕ) (x : Channel) → slice_get a.channels c ≡ Some x → IsFedOn a.channels feed (done rows) row c x.dir)
     (ports : ShowsReplay a row v) (flies : (c : ℕ) → has flight c ≡ flies_after (row_before rows (length rows)) c) where
   abbrev n : ℕ
@@ -274,6 +275,7 @@ module _ (a : Map) (v : Full → ℕ) (out : List ℕ) (are : AreOutputs a.chann
   pub row_is : replay_row a.channels flight feed out ≡ row
   row_is =
       λ i. record {
+        fresh = (sym fresh) i;
         gates = (sym gates) i;
         valids = (sym valids_are) i;
         readies = (sym readies_are) i;

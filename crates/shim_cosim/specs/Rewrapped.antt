@@ -1,5 +1,5 @@
 -- The inputs and the outputs of `vidi_replay_top`, in port order, channel by channel, and the row that stands on its outputs.
-use Rattle.std.specs.Prelude.{ℕ, ◌+◌, ◌*◌, ◌^◌, ◌<◌, ◌==◌, ◌&&◌, not, Bool, if◌then◌else◌, List, [], ◌∷◌, ◌++◌, Option, None, Some, length, take, drop}
+use Rattle.std.specs.Prelude.{ℕ, ◌+◌, ◌*◌, ◌^◌, ◌<◌, ◌==◌, ◌&&◌, not, Bool, false, if◌then◌else◌, List, [], ◌∷◌, ◌++◌, Option, None, Some, length, take, drop}
 use Rattle.std.specs.Prelude.{slice_get, slice_index, replicate}
 use Rattle.std.specs.List.{sum_by}
 use Rattle.net_sim.specs.vidi_bits.Number.{truth, has}
@@ -97,6 +97,7 @@ replay_row channels flight feed out =
     let n = length channels in
     let valids = mask_of (is_raised channels out Valid) n in
     record {
+      fresh = false;
       gates = all_up channels;
       valids = valids;
       readies = mask_of (is_raised channels out Ready) n;

@@ -214,6 +214,7 @@ pub(crate) fn show<B: Block>(
 {
     let side = raised(block, channels, Spot::Side);
     fill(block, channels, offers, row.contents.as_mut_slice());
+    row.fresh = false;
     row.gates = gates;
     row.valids = chosen(channels, offers.valids, side);
     row.readies = chosen(channels, side, offers.readies);

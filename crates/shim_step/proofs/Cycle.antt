@@ -168,6 +168,7 @@ module _ {f : FileOf ℕ} {a : Map} {m : ModuleOf ℕ} {d : Design} (w : IsWrapp
       over = row-over d a w.mapped before offers are gates below (outputs d inner) fits;
       marked = marked;
       carries = carried;
+      fresh = refl;
       gates_are = refl;
       after = design.next d inner (own_state d s);
       step = step;

@@ -47,7 +47,7 @@ one_of_state d a is s once before x y nx ny ox oy mx my agree sx sy =
 pub one_recorded_row : OneRecordedRow
 one_recorded_row d a is s once before offers gates x y ix iy =
     one_of_state d a is s once before x y ix.after iy.after ix.over iy.over ix.marked iy.marked
-    (carried a.channels offers x y (ix.gates_are ∙ sym iy.gates_are) ix.carries iy.carries) ix.step iy.step
+    (carried a.channels offers x y (ix.fresh ∙ sym iy.fresh) (ix.gates_are ∙ sym iy.gates_are) ix.carries iy.carries) ix.step iy.step
 
 -- ---- under one feed
 same_tests : (b c : Bool) (P : Type 0) → ((b ≡ true) ↔ P) → ((c ≡ true) ↔ P) → b ≡ c
@@ -68,6 +68,7 @@ fed_alike channels feed have x y c Outward p q = same_tests (has x.readies c) (h
 pub one_replayed_row : OneReplayedRow
 one_replayed_row d a is s once rows feed x y ix iy =
     let agree : Agree a.channels x y = record {
+      fresh = ix.fresh ∙ sym iy.fresh;
       gates = ix.gates_are ∙ sym iy.gates_are;
       on = λ c z at. fed_alike a.channels feed (done rows) x y c z.dir (ix.fed c z at) (iy.fed c z at);
     } in

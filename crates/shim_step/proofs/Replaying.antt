@@ -17,6 +17,7 @@ use Rattle.chan_replayer.specs.trace_model.declared.channel.Channel.{Channel}
 use Rattle.chan_replayer.specs.trace_model.declared.channel.Dir.{Dir}
 use Rattle.chan_replayer.specs.trace_model.declared.channel.Dir.TheVariants.{Inward, Outward}
 use Rattle.chan_replayer.specs.trace_model.declared.event.Kind.TheVariants.{End}
+use Rattle.chan_replayer.specs.trace_model.declared.packet.TheConstants.{MOST_CYCLES}
 use Rattle.chan_replayer.specs.trace_model.declared.row.Offers.{Offers}
 use Rattle.chan_replayer.specs.trace_model.declared.row.Row.{Row}
 use Rattle.chan_replayer.specs.trace_model.Recording.{row_does}
@@ -43,7 +44,7 @@ use Rattle.shim_trees.specs.Wrapped.{wrapped}
 use Rattle.shim_design.proofs.Elements.{Has}
 use Rattle.shim_step.specs.Wrapped.{IsWrapped, Counts, counter_name}
 use Rattle.shim_step.specs.Ports.{HasContent, HasFedContent, HasFeed, content_base}
-use Rattle.shim_step.specs.Replaying.{MOST_CYCLES, Replays, ReplaysRows}
+use Rattle.shim_step.specs.Replaying.{Replays, ReplaysRows}
 use Rattle.shim_step.proofs.Lists.{has_each}
 use Rattle.shim_step.proofs.Files as files
 use Rattle.shim_step.proofs.Stand.{HasNet}
@@ -289,6 +290,7 @@ module _ {f : FileOf ℕ} {a : Map} {m : ModuleOf ℕ} {d : Design} (w : IsWrapp
             over = is.over;
             marked = marked;
             fed = λ c x at. fed_on c x at x.dir refl (carried_here c x at);
+            fresh = refl;
             gates_are = refl;
             after = is.after;
             step = is.step;

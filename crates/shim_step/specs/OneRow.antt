@@ -9,6 +9,7 @@ use Rattle.net_design.specs.Settled as design
 use Rattle.net_order.specs.Order.{IsOrder}
 use Rattle.shim_design.specs.vlog_meaning.Names.{Full, State}
 use Rattle.chan_replayer.specs.trace_model.declared.row.Offers.{Offers}
+use Rattle.chan_replayer.specs.trace_model.declared.packet.TheConstants.{MOST_CYCLES}
 use Rattle.chan_replayer.specs.trace_model.declared.row.Row.{Row}
 use Rattle.chan_replayer.specs.trace_model.Row.{AreOffers}
 use Rattle.chan_replayer.specs.chan_map.declared.pins.Map.{Map}
@@ -23,7 +24,7 @@ use Rattle.shim_trees.specs.Wrapped.{wrapped}
 use Rattle.shim_step.specs.Wrapped.{IsWrapped, Flies, Counts}
 use Rattle.shim_step.specs.Ports.{HasOffers, HasFeed}
 use Rattle.shim_step.specs.Recording.{own_state, IsCycleOf, Records}
-use Rattle.shim_step.specs.Replaying.{MOST_CYCLES, Replays}
+use Rattle.shim_step.specs.Replaying.{Replays}
 
 -- ---- in state s the design settles in at most one way
 abbrev pub SettlesOnce : Design → Values → Type 0

@@ -107,7 +107,7 @@ plain : (w : Course) (rows : List Row) → need (sizes_of w.bound.channels) ≤ 
 plain w rows fits run none = record {
   marked = run.marked;
   driven = run.driven;
-  ruled = λ t row at. ((run.ruled t row at).0, up t row at);
+  ruled = λ t row at. ((run.ruled t row at).0, up t row at, (run.ruled t row at).2);
 }
   where
     up : (t : ℕ) (row : Row) → slice_get rows t ≡ Some row → row.gates ≡ all_up w.bound.channels

@@ -3,7 +3,7 @@ use Rattle.std.proofs.Common.{◌≡◌, ℕ, zero, suc, ◌+◌, ◌≤◌, ◌
 use Rattle.std.proofs.Common.{refl, arith}
 use Rattle.std.specs.Prelude.{replicate}
 use Rattle.room_ledger.specs.Gates.{left, row_len, used_at}
-use Rattle.env_script.specs.script_text.declared.script.TheConstants.{MOST_CYCLES}
+use Rattle.trace_code.specs.trace_model.declared.packet.TheConstants.{MOST_CYCLES}
 use Rattle.env_script.specs.script_text.declared.stalls.Drain.{Drain}
 use Rattle.env_script.specs.script_text.Plan.{allowances, allowance_at}
 use Rattle.env_script.specs.script_text.ScriptOffer.{script_offer}

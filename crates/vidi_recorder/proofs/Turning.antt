@@ -95,6 +95,7 @@ pub ruled-row : (w : Course) (rows : List Row) (l : Ledger) (now : Values) (befo
 ruled-row w rows l now before offers gates row stands g o is = (
   subst (λ (os : Offers). Carries w.bound.channels os row) o is.carries,
   subst (GatesUnder w.bound.channels w.plan rows) (sym (is.gates_are ∙ g)) stands.gates,
+  is.fresh,
 )
 
 pub follows-row : (w : Course) (rows : List Row) (l : Ledger) (row : Row) → OffersStay w.bound.channels w.offers

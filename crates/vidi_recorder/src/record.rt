@@ -13,7 +13,7 @@ ghost use Rattle.vidi_io.specs.Sink.{Frame};
 ghost use Rattle.vidi_recorder.specs.Course.{course, plan_of, sizes_of};
 ghost use Rattle.vidi_recorder.specs.Recording.{EndsWith, FailsFor, FailsWith, IsCutOff};
 ghost use Rattle.vidi_recorder.specs.Standing.{Going, HasSizes, Reached, RunsTo};
-ghost use Rattle.env_script.specs.script_text.declared.script.TheConstants.{MOST_CYCLES};
+ghost use Rattle.trace_code.specs.trace_model.declared.packet.TheConstants.{MOST_CYCLES};
 
 use crate::cells::{Cells, open};
 use crate::error::{Outcome, RecordError};

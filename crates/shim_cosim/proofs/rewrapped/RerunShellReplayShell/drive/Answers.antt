@@ -4,7 +4,7 @@ use Rattle.net_design.specs.Pins.{outputs, output_count}
 use Rattle.replay_run.proofs.chan_monitor_lemmas.RowOfCycle.{refill-is}
 use Rattle.shim_cosim.specs.Rewrapped.{feed_inputs}
 use Rattle.shim_cosim.proofs.Recalls as calls
-use Rattle.shim_cosim.proofs.Rerun.{known_few, known_fit, known_long, known_many, known_shown, known_some}
+use Rattle.shim_cosim.proofs.Rerun.{known_few, known_fit, known_long, known_many, known_shown}
 use Rattle.shim_cosim.proofs.rewrapped.RerunShellReplayShell.drive.Goals as goal
 
 pub settle_feed-requires-clause-few : goal.settle_feed-requires-clause-few
@@ -24,11 +24,6 @@ settle_feed-requires-clause-fit g c ps small e =
     known_fit (g.B.Block.design s.block) (g.B.Block.state s.block) s.map.now s.first s.pins s.resets s.flight s.cycles s.running
     c.args.feed.now c.requires.feed small ps
     (e ∙ ap (λ xs. take s.first xs ++ feed_inputs s.map.now.channels c.args.feed.now) c.as_mut_slice.ensures.value)
-
-pub show_row-next-requires-clause-some : goal.show_row-next-requires-clause-some
-show_row-next-requires-clause-some g c =
-    let s = c.args.self.now in
-    known_some (g.B.Block.design s.block) (g.B.Block.state s.block) s.map.now s.first s.pins s.resets s.flight s.cycles s.running
 
 pub show_row-next-requires-clause-few : goal.show_row-next-requires-clause-few
 show_row-next-requires-clause-few g c =
