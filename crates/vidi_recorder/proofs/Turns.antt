@@ -53,7 +53,7 @@ fits-now channels offer current rows lasts now c x at = subst (FitsOffer x) (sym
 module _ (m given : Map) (offer : List Row → ℕ → Offer) (stalls : Stalls) (cycles : ℕ) (runs : Design → Values → Option Row → Type 0)
     (current : ℕ → Offer) (gates : ℕ) (rows : List Row) (row last : Row) (room : Ledger) (same : given ≡ m)
     (lasts : AreLasting m.channels offer) (now : (c : ℕ) → current c ≡ offer rows c)
-    (stands : StandsAfter (sizes_of m.channels) (plan_of stalls) rows room) (up : gates ≡ room.gates)
+    (stands : StandsAfter (sizes_of m.channels) (plan_of stalls) rows false room) (up : gates ≡ room.gates)
     (stable : AreStable m.channels rows) (is : IsLast (row_before rows (length rows)) last)
     (shown : (d : Design) (s : Values) (before : Option Row) → runs d s before
     → IsShown d given s before (offers_on m.channels current) gates row) where
@@ -69,7 +69,7 @@ module _ (m given : Map) (offer : List Row → ℕ → Offer) (stalls : Stalls) 
       (shown d q.0 (row_before rows (length rows)) q.2)
 
   follows-one : IsLowestUnstable m.channels last row None → ((d : Design) × Reached (course d m offer stalls cycles) runs rows)
-      → MayFollow room (row_before rows (length rows)) row
+      → MayFollow room false (row_before rows (length rows)) row
   follows-one none (d, r) =
       let w = course d m offer stalls cycles in
       let q = runs-of w runs rows r in
@@ -78,12 +78,12 @@ module _ (m given : Map) (offer : List Row → ℕ → Offer) (stalls : Stalls) 
 
   pub follows : IsLowestUnstable m.channels last row None
       → ∥ ((d : Design) × Reached (course d m offer stalls cycles) runs rows) ∥₁
-      → MayFollow room (row_before rows (length rows)) row
+      → MayFollow room false (row_before rows (length rows)) row
   follows none some = ∥∥₁_elim some (hlevel props) (follows-one none)
 
   pub may : IsLowestUnstable m.channels last row None → ∥ ((d : Design) × Reached (course d m offer stalls cycles) runs rows) ∥₁
       → MayEmit room row.starts row.ends
-  may none some = (keeps-gates (sizes_of m.channels) (plan_of stalls)).lawful rows row room stands (follows none some)
+  may none some = (keeps-gates (sizes_of m.channels) (plan_of stalls)).lawful rows false row room stands (follows none some)
 
   pub clocked : (after_runs : Design → Values → Option Row → Type 0) (n : Map) (d : Design) → n ≡ m
       → ((s : Values) → runs d s (row_before rows (length rows))
@@ -182,10 +182,11 @@ sizes-next channels capacity store_capacity old_capacity put_capacity used mid_u
     }
 
 -- what may follow rows may follow all rows behind which the books are the same
-pub follows-also : (sizes : List ℕ) (plan : Plan) (rows others : List Row) (row : Row) (room : Ledger) → StandsAfter sizes plan rows room
-    → StandsAfter sizes plan others room → MayFollow room (row_before rows (length rows)) row
-    → MayFollow room (row_before others (length others)) row
+pub follows-also : (sizes : List ℕ) (plan : Plan) (rows others : List Row) (row : Row) (room : Ledger) → StandsAfter sizes plan rows false room
+    → StandsAfter sizes plan others false room → MayFollow room false (row_before rows (length rows)) row
+    → MayFollow room false (row_before others (length others)) row
 follows-also sizes plan rows others row room a b f = record {
+  mark = f.mark;
   gates = f.gates;
   marked = record {
     starts = λ c. f.marked.starts c ∙ ap (λ x. sink_valid row c && not x) (same c);
