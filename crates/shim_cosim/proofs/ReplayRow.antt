@@ -175,8 +175,7 @@ and_up true g e = e
 and_up false g e = refl
 
 module _ (a : Map) (v : Full → ℕ) (out : List ℕ) (are : AreOutputs a.channels v out) (flight : ℕ) (feed : Feed) (rows : List Row) (row : Row)
-    (over : IsOver a.channels row) (marked : IsMarked (row_before rows (length rows)) row) (fresh : row.fresh ≡ false)
-    (gates : row.gates ≡ all_up a.channels)
+    (over : IsOver a.channels row) (marked : IsMarked (row_before rows (length rows)) row) (gates : row.gates ≡ all_up a.channels)
     (fed : (c : ℕ) (x : Channel) → slice_get a.channels c ≡ Some x → IsFedOn a.channels feed (done rows) row c x.dir)
     (ports : ShowsReplay a row v) (flies : (c : ℕ) → has flight c ≡ flies_after (row_before rows (length rows)) c) where
   abbrev n : ℕ
@@ -272,10 +271,10 @@ module _ (a : Map) (v : Full → ℕ) (out : List ℕ) (are : AreOutputs a.chann
       sym (here_is c x at)
       ∙ sym (content-joined (λ c. content_of a.channels valids feed.contents out c (slice_get a.channels c)) a.channels fits c x at))
 
-  pub row_is : replay_row a.channels flight feed out ≡ row
+  pub row_is : replay_row a.channels row.fresh flight feed out ≡ row
   row_is =
       λ i. record {
-        fresh = (sym fresh) i;
+        fresh = row.fresh;
         gates = (sym gates) i;
         valids = (sym valids_are) i;
         readies = (sym readies_are) i;

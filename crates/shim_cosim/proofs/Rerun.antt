@@ -92,19 +92,19 @@ module _ {whole : Design} {state : Values} {a : Map} {first : ℕ} {now resets :
   entered_is : inputs ≡ held_inputs a false is.tree.ports ++ feed_inputs a.channels feed
   entered_is = entered ∙ ap (λ ys. ys ++ feed_inputs a.channels feed) is.held.held
 
-  pub shown : IsShown d a s rows feed (replay_row a.channels flight feed (outputs whole v))
-  shown =
-      subst (λ (t : Values). IsShown d a t rows feed (replay_row a.channels flight feed (outputs whole v))) is.own
-      (cycle.shown is.round is.full is.narrow is.state_is is_state settled rows short is.counts feed over entered_is flight is.flies)
+  pub shown : (fresh : Bool) → IsShown d a s rows feed (replay_row a.channels fresh flight feed (outputs whole v))
+  shown fresh =
+      subst (λ (t : Values). IsShown d a t rows feed (replay_row a.channels fresh flight feed (outputs whole v))) is.own
+      (cycle.shown is.round is.full is.narrow is.state_is is_state settled rows short is.counts feed over entered_is flight is.flies fresh)
 
 pub known_over : (whole : Design) (state : Values) (a : Map) (first : ℕ) (now resets : List ℕ) (flight cycles : ℕ)
     → ∥ IsRunning (IsReplaying whole state a first now resets flight cycles) ∥₁ → cycles ≤ MOST_CYCLES → IsState whole state
     → (inputs : List ℕ) (v : Values)
     (feed : Feed) → IsFeedOver a.channels feed → inputs ≡ take first now ++ feed_inputs a.channels feed → IsSettled whole state inputs v
-    → IsOver a.channels (replay_row a.channels flight feed (outputs whole v))
-known_over whole state a first now resets flight cycles known few is_state inputs v feed over entered settled =
-    ∥∥₁_elim known (over_prop a (replay_row a.channels flight feed (outputs whole v)))
-    (λ (r : IsRunning (IsReplaying whole state a first now resets flight cycles)). (shown r.3 few is_state feed over entered settled).over)
+    → (fresh : Bool) → IsOver a.channels (replay_row a.channels fresh flight feed (outputs whole v))
+known_over whole state a first now resets flight cycles known few is_state inputs v feed over entered settled fresh =
+    ∥∥₁_elim known (over_prop a (replay_row a.channels fresh flight feed (outputs whole v)))
+    (λ (r : IsRunning (IsReplaying whole state a first now resets flight cycles)). (shown r.3 few is_state feed over entered settled fresh).over)
 
 -- ---- a cycle that is driven
 pub refill_is : {X : Type 0} (xs ys : List X) → length ys ≡ length xs → refill (length xs) xs ys ≡ ys
@@ -179,13 +179,12 @@ pub clocked_on : (whole later : Design) (state after v : Values) (inputs : List 
     → GoesTo (λ e t us. IsReplaying later after a first now resets new more e t us) d a s rows row
 clocked_on whole later state after v inputs a first now resets flight cycles new more last row e few is_state driven l n m d s rows is =
     let feed = driven.feed in
-    let made = replay_row a.channels flight feed (outputs whole v) in
     let entered = entered_is is few is_state feed driven.over driven.entered driven.settled in
     let goes = cycle.goes_on is.round is.full is.narrow is.state_is is_state driven.settled in
     let step = cycle.stepped is.round is.full is.narrow is.state_is is_state driven.settled rows
-    (short is few is_state feed driven.over driven.entered driven.settled) is.counts feed driven.over entered flight is.flies in
+    (short is few is_state feed driven.over driven.entered driven.settled) is.counts feed driven.over entered flight is.flies row.fresh in
     let row_shown : IsShown d a s rows feed row =
-    subst (λ (r : Row). IsShown d a s rows feed r) (sym driven.shows) (shown is few is_state feed driven.over driven.entered driven.settled) in
+    subst (λ (r : Row). IsShown d a s rows feed r) (sym driven.shows) (shown is few is_state feed driven.over driven.entered driven.settled row.fresh) in
     let so : IsStep d a s row (own_state d goes.full) =
     subst (λ (t : Values). IsStep d a t row (own_state d goes.full)) is.own
     (subst (λ (r : Row). IsStep d a (own_state d is.full) r (own_state d goes.full)) (sym driven.shows) step.0) in

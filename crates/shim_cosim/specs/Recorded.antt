@@ -111,9 +111,8 @@ made_in channels offers out c (Some x) = made_on channels offers out c x x.dir
 abbrev pub made_content : List Channel → Offers → List ℕ → ℕ → List ℕ
 made_content channels offers out c = made_in channels offers out c (slice_get channels c)
 
--- the row of these offers and gates, where the outputs have these numbers; no reset came before it
+-- the row of these offers and gates, where the outputs have these numbers
 pub record IsMadeRow (channels : List Channel) (offers : Offers) (gates : ℕ) (out : List ℕ) (row : Row) : Type 0 where
-  pub fresh : row.fresh ≡ false
   pub gates_are : row.gates ≡ gates
   pub valids : row.valids ≡ mask_of (is_chosen channels offers.valids (side_mask channels out)) (length channels)
   pub readies : row.readies ≡ mask_of (is_chosen channels (side_mask channels out) offers.readies) (length channels)

@@ -92,7 +92,7 @@ fn show_row<B: Block>(
     requires many { output_count (B.design block.now) ≡ outputs_count map.now.channels }
     requires shown { length (outputs (B.design block.now) (B.shown block.now)) ≡ outputs_count map.now.channels }
     requires places { HasPlaces map.now.channels row.old }
-    ensures row { row.new ≡ replay_row map.now.channels flight feed.now (outputs (B.design block.now) (B.shown block.now)) }
+    ensures row { row.new ≡ replay_row map.now.channels row.old.fresh flight feed.now (outputs (B.design block.now) (B.shown block.now)) }
     ensures next { result ≡ flight_of (length map.now.channels) row.new }
 {
     read_outputs(block, numbers);

@@ -161,12 +161,11 @@ pub(crate) fn fill_row(
     requires feed { IsFeedOver channels.now feed.now }
     requires long { length outputs.now ≡ spec.outputs_count channels.now }
     requires places { HasPlaces channels.now row.old }
-    ensures { row.new ≡ spec.replay_row channels.now flight feed.now outputs.now }
+    ensures { row.new ≡ spec.replay_row channels.now row.old.fresh flight feed.now outputs.now }
 {
     let valids = raised(channels, outputs, Signal::Valid);
     let fed = feed.contents.as_slice();
     fill_contents(channels, valids, fed, outputs, row.contents.as_mut_slice());
-    row.fresh = false;
     row.gates = all_up(channels.len());
     row.valids = valids;
     row.readies = raised(channels, outputs, Signal::Ready);

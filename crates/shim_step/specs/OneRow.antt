@@ -38,17 +38,17 @@ StatesSettleOnce = (d : Design) → HasOneMap d → (s : Values) → IsState d s
 abbrev pub OrderedSettleOnce : Type 0
 OrderedSettleOnce = (d : Design) (order : List ℕ) → IsLawful d → IsOrder d order → (s : Values) → SettlesOnce d s
 
--- ---- one row
+-- ---- one row of each mark
 -- that monitors fill, for these offers and gates
 abbrev pub OneRecordedRow : Type 0
 OneRecordedRow = (d : Design) (a : Map) → IsMapOf d a → (s : Values) → SettlesOnce d s
     → (before : Option Row) (offers : Offers) (gates : ℕ) (x y : Row)
-    → monitors.IsShown d a s before offers gates x → monitors.IsShown d a s before offers gates y → x ≡ y
+    → x.fresh ≡ y.fresh → monitors.IsShown d a s before offers gates x → monitors.IsShown d a s before offers gates y → x ≡ y
 
 -- that replayers fill, under this feed
 abbrev pub OneReplayedRow : Type 0
 OneReplayedRow = (d : Design) (a : Map) → IsMapOf d a → (s : Values) → SettlesOnce d s → (rows : List Row) (feed : Feed) (x y : Row)
-    → replayers.IsShown d a s rows feed x → replayers.IsShown d a s rows feed y → x ≡ y
+    → x.fresh ≡ y.fresh → replayers.IsShown d a s rows feed x → replayers.IsShown d a s rows feed y → x ≡ y
 
 -- ---- on the ports
 -- whatever row monitors fill, the top that records shows it

@@ -1,5 +1,5 @@
 -- Lock step of `vidi_replay_top`: in each cycle it does what replayers round the design do.
-use Rattle.std.specs.Prelude.{◌≡◌, ℕ, ◌≤◌, true, List, [], ◌∷◌, ◌++◌, length}
+use Rattle.std.specs.Prelude.{◌≡◌, ℕ, ◌≤◌, Bool, true, List, [], ◌∷◌, ◌++◌, length}
 use Rattle.vlog_tree.specs.Tree.{ModuleOf, FileOf}
 use Rattle.net_design.specs.declared.design.Design.{Design}
 use Rattle.net_design.specs.Settled.{initial}
@@ -31,13 +31,13 @@ pub record Replays (f : FileOf ℕ) (a : Map) (d : Design) (top : ModuleOf ℕ) 
   pub next : (after : State) → IsNext (wrapped f a).modules top s v after
       → IsStep d a (own_state d s) row (own_state d after) × Counts a (rows ++ row ∷ []) after
 
--- for all feeds there is such a row, after at most so many others that the 32 bits of a counter hold the completions
+-- for all feeds there is such a row, with either mark, after at most so many others that the 32 bits of a counter hold the completions
 abbrev pub ReplaysRows : Type 0
 ReplaysRows = (f : FileOf ℕ) (a : Map) (m : ModuleOf ℕ) (d : Design) → IsWrapped f a m d
     → (top : ModuleOf ℕ) (s : State) (pins : List ℕ) (v : Full → ℕ) → IsCycleOf (wrapped f a) replay_name top s pins v
     → (rows : List Row) → length rows ≤ MOST_CYCLES → Counts a rows s
     → (feed : Feed) → IsFeedOver a.channels feed → HasFeed a feed v
-    → (row : Row) × Replays f a d top s v rows feed row
+    → (fresh : Bool) → (row : Row) × (row.fresh ≡ fresh) × Replays f a d top s v rows feed row
 
 -- in a reset cycle the design's pins are those of one, and afterwards nothing is counted
 abbrev pub ReplaysResets : Type 0

@@ -40,8 +40,8 @@ use Rattle.vidi_recorder.specs.Recording.{IsFrontOfTheRun}
 
 determines : (w : Course) → Determines w.bound.channels (rule_of w)
 determines w before a b are oa ob ra rb =
-    carried w.bound.channels (w.offers before) a b (ra.2 ∙ sym rb.2)
-    (one-set (sizes_of w.bound.channels) w.plan before (length before) false a.gates b.gates ra.1 rb.1) ra.0 rb.0
+    let gates = one-set (sizes_of w.bound.channels) w.plan before (length before) false a.gates b.gates ra.1 rb.1 in
+    (ra.2 ∙ sym rb.2, carried w.bound.channels (w.offers before) a b gates ra.0 rb.0)
 
 -- ---- what holds of the run
 pub the-run : (w : Course) (all : List Row) (stop : Option ℕ) → IsTheRunOf w all stop

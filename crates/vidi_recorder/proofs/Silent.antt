@@ -35,5 +35,6 @@ pub silent_over : (channels : List Channel) (row : Row) → row ≡ record {
   contents = replicate (length (all_widths channels)) 0;
   starts = 0;
   ends = 0;
-} → (row.valids ≡ 0) × IsOver channels row
-silent_over channels row e = subst (λ (r : Row). (r.valids ≡ 0) × IsOver channels r) (sym e) (refl, over-silent channels)
+} → (row.valids ≡ 0) × IsOver channels row × (row.fresh ≡ false)
+silent_over channels row e = subst (λ (r : Row). (r.valids ≡ 0) × IsOver channels r × (r.fresh ≡ false)) (sym e)
+    (refl, over-silent channels, refl)

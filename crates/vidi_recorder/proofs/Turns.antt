@@ -56,7 +56,7 @@ module _ (m given : Map) (offer : List Row → ℕ → Offer) (stalls : Stalls) 
     (stands : StandsAfter (sizes_of m.channels) (plan_of stalls) rows false room) (up : gates ≡ room.gates)
     (stable : AreStable m.channels rows) (is : IsLast (row_before rows (length rows)) last)
     (shown : (d : Design) (s : Values) (before : Option Row) → runs d s before
-    → IsShown d given s before (offers_on m.channels current) gates row) where
+    → IsShown d given s before (offers_on m.channels current) gates row) (unmarked : row.fresh ≡ false) where
   here : offers_on m.channels current ≡ offers_after m.channels offer rows
   here = ap (offers_on m.channels) (λ i c. now c i)
 
@@ -65,7 +65,7 @@ module _ (m given : Map) (offer : List Row → ℕ → Offer) (stalls : Stalls) 
   run-with d r =
       let w = course d m offer stalls cycles in
       let q = runs-of w runs rows r in
-      run-more w rows row room runs given (offers_on m.channels current) gates same stands up here q
+      run-more w rows row room runs given (offers_on m.channels current) gates same stands up here unmarked q
       (shown d q.0 (row_before rows (length rows)) q.2)
 
   follows-one : IsLowestUnstable m.channels last row None → ((d : Design) × Reached (course d m offer stalls cycles) runs rows)
@@ -74,7 +74,7 @@ module _ (m given : Map) (offer : List Row → ℕ → Offer) (stalls : Stalls) 
       let w = course d m offer stalls cycles in
       let q = runs-of w runs rows r in
       step-follows w rows row last room runs given (offers_on m.channels current) gates (offers-stay m.channels offer lasts) same stands up
-      here stable is none q (shown d q.0 (row_before rows (length rows)) q.2)
+      here unmarked stable is none q (shown d q.0 (row_before rows (length rows)) q.2)
 
   pub follows : IsLowestUnstable m.channels last row None
       → ∥ ((d : Design) × Reached (course d m offer stalls cycles) runs rows) ∥₁
@@ -93,7 +93,7 @@ module _ (m given : Map) (offer : List Row → ℕ → Offer) (stalls : Stalls) 
       let w = course d m offer stalls cycles in
       let q = runs-of w runs rows r in
       reached-of w after_runs (rows ++ row ∷ [])
-      (runs-more w rows row room runs after_runs given n (offers_on m.channels current) gates same e stands up here q
+      (runs-more w rows row room runs after_runs given n (offers_on m.channels current) gates same e stands up here unmarked q
       (shown d q.0 (row_before rows (length rows)) q.2) (next q.0 q.2))
 
   pub stops : (c : ℕ) → IsLowestUnstable m.channels last row (Some c) → (d : Design)
@@ -169,9 +169,9 @@ pub sizes-next : (channels : List Channel) (capacity store_capacity old_capacity
     (offers : Offers) (row last shown old_last : Row) (allowance : Option ℕ) → old_capacity ≡ capacity → put_capacity ≡ old_capacity
     → store_capacity ≡ put_capacity → mid_used ≤ capacity → used ≡ left allowance mid_used → length old_out ≡ capacity
     → length out ≡ length old_out → length offers.contents ≡ length (all_widths channels) → row ≡ old_last → last ≡ shown
-    → IsOver channels old_last → IsOver channels shown → HasSizes channels capacity store_capacity used out offers row last
+    → IsOver channels old_last → IsOver channels shown → old_last.fresh ≡ false → shown.fresh ≡ false → HasSizes channels capacity store_capacity used out offers row last
 sizes-next channels capacity store_capacity old_capacity put_capacity used mid_used out old_out offers row last shown old_last allowance
-    o p s w u old same os r l over_last over_shown =
+    o p s w u old same os r l over_last over_shown none_last none_shown =
     record {
       store = s ∙ p ∙ o;
       waits = omega (arith, w, u);
@@ -179,6 +179,7 @@ sizes-next channels capacity store_capacity old_capacity put_capacity used mid_u
       offers_len = os;
       places = ap (λ (q : Row). length q.contents) r ∙ sym (fit-length (all_widths channels) old_last.contents over_last.contents);
       over = subst (IsOver channels) (sym l) over_shown;
+      fresh = (ap (λ (q : Row). q.fresh) r ∙ none_last, ap (λ (q : Row). q.fresh) l ∙ none_shown);
     }
 
 -- what may follow rows may follow all rows behind which the books are the same

@@ -57,7 +57,7 @@ pub record StandsAt (channels : List Channel) (plan : Plan) (first : Option (Lis
   pub last_is : IsLast (row_before rows (length rows)) last
   pub going : Going channels plan first rows room items told packets
 
--- the memory of a recording has the sizes that its calls ask for
+-- the memory of a recording has the sizes that its calls ask for, and no row is fresh
 pub record HasSizes (channels : List Channel) (capacity store_capacity used : ℕ) (out : List ℕ) (offers : Offers) (row last : Row)
     : Type 0 where
   pub store : store_capacity ≡ capacity
@@ -66,6 +66,7 @@ pub record HasSizes (channels : List Channel) (capacity store_capacity used : �
   pub offers_len : length offers.contents ≡ length (all_widths channels)
   pub places : HasPlaces channels row
   pub over : IsOver channels last
+  pub fresh : (row.fresh ≡ false) × (last.fresh ≡ false)
 
 -- the rows are a run's, and the shell goes on behind them
 abbrev pub Reached : Course → (Design → Values → Option Row → Type 0) → List Row → Type 0

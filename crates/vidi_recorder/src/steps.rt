@@ -49,6 +49,7 @@ pub(crate) fn look<S: Shell, E: Env>(
     ensures carries { Carries channels.now (E.current env.now) row.new }
     ensures ends { EndsAreCompletions row.new }
     ensures gates { row.new.gates ≡ gates }
+    ensures fresh { row.new.fresh ≡ row.old.fresh }
     ensures offers { length offers.new.contents ≡ length (all_widths channels.now) }
     ensures driven { S.driven shell.new row.new }
     ensures map { S.map shell.new ≡ S.map shell.old }

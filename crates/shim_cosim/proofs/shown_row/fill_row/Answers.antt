@@ -1,4 +1,4 @@
-use Rattle.std.proofs.Common.{◌∙◌, ap, false, length}
+use Rattle.std.proofs.Common.{◌∙◌, ap, length}
 use Rattle.replay_run.specs.run_model.Building.{mask_of}
 use Rattle.replay_run.proofs.chan_monitor_lemmas.RowOfCycle.{refill-is}
 use Rattle.shim_cosim.specs.declared.shown_row.Signal.TheVariants.{Valid}
@@ -17,7 +17,7 @@ returns c =
     let starts = starts_are (length channels) c.args.flight c.raised-valids.result c.without-row.result (is_raised channels out Valid)
     c.raised-valids.ensures c.without-row.ensures in
     λ i. record {
-      fresh = false;
+      fresh = c.args.row.now.fresh;
       gates = c.all_up.ensures i;
       valids = c.raised-valids.ensures i;
       readies = c.raised-row.ensures i;
