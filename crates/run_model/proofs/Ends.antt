@@ -42,7 +42,7 @@ module _ (d : Design) (m : Map) (ready : IsReady d m) (offers : List Row → Off
 
   determines : Determines m.channels (IsRunRow m.channels offers gates)
   determines before a b are oa ob ra rb =
-      carried m.channels (offers before) a b (ra.2 ∙ sym rb.2) (fix before are a.gates b.gates ra.1 rb.1) ra.0 rb.0
+      (ra.2 ∙ sym rb.2, carried m.channels (offers before) a b (fix before are a.gates b.gates ra.1 rb.1) ra.0 rb.0)
 
   same-rows : (a b : List Row) → Runs a → Runs b → length a ≡ length b → a ≡ b
   same-rows a b ra rb e =

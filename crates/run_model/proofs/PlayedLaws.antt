@@ -1,5 +1,5 @@
 -- Rows that a design shows under a rule: exactly one list of n rows.
-use Rattle.std.proofs.Common.{◌≡◌, ℕ, zero, suc, ◌<◌, ◌≤◌, ◌^◌, ◌&&◌, true, false, cond, ltb, List, [], ◌∷◌, ◌++◌, Option}
+use Rattle.std.proofs.Common.{Bool, ◌≡◌, ℕ, zero, suc, ◌<◌, ◌≤◌, ◌^◌, ◌&&◌, true, false, cond, ltb, List, [], ◌∷◌, ◌++◌, Option}
 use Rattle.std.proofs.Common.{Some, None, All, length, take, map, get_or, slice_get, slice_index, ⊎_elim, refl, ap, sym, subst, ◌∙◌, arith}
 use Rattle.std.specs.List.{range_with_len}
 use mathlib.Core.Logic.{∥∥₁_elim, ∥∥₁_map, ∥∥₁_prop}
@@ -71,13 +71,13 @@ state-step d m law s row a st x = subst (IsState d) (sym x.next) (next_state d l
 
 -- rows of one state that agree are one, and so are the states after them
 one-step : (d : Design) (m : Map) → HasOneMap d → IsMapOf d m → (s : Values) → IsState d s → (before : Option Row) (a b : Row)
-    (na nb : Values) → IsOver m.channels a → IsOver m.channels b → IsMarked before a → IsMarked before b → Agree m.channels a b
-    → IsStep d m s a na → IsStep d m s b nb → (a ≡ b) × (na ≡ nb)
-one-step d m one is s st before a b na nb oa ob ma mb agree x y =
+    (na nb : Values) → IsOver m.channels a → IsOver m.channels b → IsMarked before a → IsMarked before b → a.fresh ≡ b.fresh
+    → Agree m.channels a b → IsStep d m s a na → IsStep d m s b nb → (a ≡ b) × (na ≡ nb)
+one-step d m one is s st before a b na nb oa ob ma mb fresh agree x y =
     let pins : x.pins ≡ y.pins = one-list d m is false a b (entered-same m false a b agree) x.pins y.pins x.entered y.entered in
     let map-is : x.v ≡ y.v = one.only s x.pins x.v y.v st x.entered.fit x.settled (subst (λ p. IsSettled d s p y.v)
     (sym pins) y.settled) in (
-      one-row d m is (outputs d x.v) before a b oa ob ma mb agree x.shown (subst (λ v. Shows (outputs d v) m b) (sym map-is) y.shown),
+      one-row d m is (outputs d x.v) before a b oa ob ma mb fresh agree x.shown (subst (λ v. Shows (outputs d v) m b) (sym map-is) y.shown),
       x.next ∙ ap (λ v. next d v s) map-is ∙ sym y.next,
     )
 
@@ -103,7 +103,7 @@ rows-front channels rows k are t row at =
 -- the rule fixes the environment's part of a row, its gates and whether a reset came
 abbrev pub Determines : List Channel → (List Row → Row → Type 0) → Type 0
 Determines channels rule = (before : List Row) (a b : Row) → AreRows channels before → IsOver channels a → IsOver channels b
-    → rule before a → rule before b → Agree channels a b
+    → rule before a → rule before b → (a.fresh ≡ b.fresh) × Agree channels a b
 
 record Same (d : Design) (m : Map) (a b : List Row) (da : IsDriven d m a) (db : IsDriven d m b) (k : ℕ) : Type 0 where
   rows : take k a ≡ take k b
@@ -120,12 +120,12 @@ module _ (d : Design) (m : Map) (law : IsLawful d) (one : HasOneMap d) (is : IsM
   same-suc : (k : ℕ) (x y : Row) → slice_get a k ≡ Some x → slice_get b k ≡ Some y → Same d m a b pa.driven pb.driven k
       → Same d m a b pa.driven pb.driven (suc k)
   same-suc k x y ax by s =
-      let agree : Agree m.channels x y = determines (take k a) x y (rows-front m.channels a k pa.marked) (pa.marked k x ax).0
+      let agree : (x.fresh ≡ y.fresh) × Agree m.channels x y = determines (take k a) x y (rows-front m.channels a k pa.marked) (pa.marked k x ax).0
       (pb.marked k y by).0
       (pa.ruled k x ax) (subst (λ rs. rule rs y) (sym s.rows) (pb.ruled k y by)) in
       let mark : IsMarked (row_before a k) y = subst (λ o. IsMarked o y) (sym (before-same a b k s.rows)) (pb.marked k y by).1 in
       let r = one-step d m one is (pa.driven.state k) s.lawful (row_before a k) x y (pa.driven.state (suc k)) (pb.driven.state (suc k))
-      (pa.marked k x ax).0 (pb.marked k y by).0 (pa.marked k x ax).1 mark agree (pa.driven.steps k x ax)
+      (pa.marked k x ax).0 (pb.marked k y by).0 (pa.marked k x ax).1 mark agree.0 agree.1 (pa.driven.steps k x ax)
       (subst (λ u. IsStep d m u y (pb.driven.state (suc k))) (sym s.state) (pb.driven.steps k y by)) in
       record {
         rows = take-suc_get a k x ax ∙ ap (λ rs. rs ++ x ∷ []) s.rows ∙ ap (λ z. take k b ++ z ∷ []) r.0 ∙ sym (take-suc_get b k y by);
@@ -239,13 +239,14 @@ fit-outputs d are v fit width pin is =
     (subst (λ w. get_or v.nets is.port 0 < 2 ^ w) (are.widths is.port is.p is.at ∙ is.width_is) below)
 
 -- ---- at least one list
--- after these rows the rule allows the rows with some offers and gates, before which no reset came
+-- after these rows the rule allows the rows with some offers, gates and mark
 pub record Allows (channels : List Channel) (rule : List Row → Row → Type 0) (before : List Row) : Type 0 where
   pub offers : Offers
   pub gates : ℕ
+  pub fresh : Bool
   pub are : AreOffers channels offers
   pub below : gates < 2 ^ length channels
-  pub allows : (row : Row) → IsOver channels row → Carries channels offers row → row.gates ≡ gates → row.fresh ≡ false → rule before row
+  pub allows : (row : Row) → IsOver channels row → Carries channels offers row → row.gates ≡ gates → row.fresh ≡ fresh → rule before row
 
 record Lists (d : Design) (m : Map) (rule : List Row → Row → Type 0) (n : ℕ) : Type 0 where
   rows : List Row
@@ -280,16 +281,16 @@ no-outputs : (d : Design) → FitOutputs d []
 no-outputs d width pin is = pow_pos width
 
 -- the next row, and the state after it, by its settled map
-pub row-step : (d : Design) (m : Map) → PortsAreNets d → IsMapOf d m → (before : Option Row) (offers : Offers) → AreOffers m.channels offers
+pub row-step : (d : Design) (m : Map) → PortsAreNets d → IsMapOf d m → (fresh : Bool) (before : Option Row) (offers : Offers) → AreOffers m.channels offers
     → (gates : ℕ) → gates < 2 ^ length m.channels → (s : Values) (pins : List ℕ) (v : Values)
-    → ArePins d m false (row_of m before offers gates []) pins → IsSettled d s pins v
-    → IsStep d m s (row_of m before offers gates (outputs d v)) (next d v s)
-row-step d m are-nets is before offers are gates l s pins v entered-is settled =
+    → ArePins d m false (row_of m fresh before offers gates []) pins → IsSettled d s pins v
+    → IsStep d m s (row_of m fresh before offers gates (outputs d v)) (next d v s)
+row-step d m are-nets is fresh before offers are gates l s pins v entered-is settled =
     let fits = fit-outputs d are-nets v settled.keeps.fit in
-    let first = row_of m before offers gates [] in
-    let row = row_of m before offers gates (outputs d v) in
-    let agree : Agree m.channels first row = carried m.channels offers first row refl refl
-    (row-carries d m is before offers are gates [] (no-outputs d)) (row-carries d m is before offers are gates (outputs d v) fits) in
+    let first = row_of m fresh before offers gates [] in
+    let row = row_of m fresh before offers gates (outputs d v) in
+    let agree : Agree m.channels first row = carried m.channels offers first row refl
+    (row-carries d m is fresh before offers are gates [] (no-outputs d)) (row-carries d m is fresh before offers are gates (outputs d v) fits) in
     record {
       pins = pins;
       v = v;
@@ -298,16 +299,16 @@ row-step d m are-nets is before offers are gates l s pins v entered-is settled =
         numbers = subst (λ es. All (λ e. slice_index pins e.place ≡ e.number) es) (entered-same m false first row agree) entered-is.numbers;
       };
       settled = settled;
-      shown = row-shows d m is before offers are gates (outputs d v) fits;
+      shown = row-shows d m is fresh before offers are gates (outputs d v) fits;
       next = refl;
     }
 
-pub first-pins : (d : Design) (m : Map) → IsMapOf d m → (before : Option Row) (offers : Offers) → AreOffers m.channels offers
+pub first-pins : (d : Design) (m : Map) → IsMapOf d m → (fresh : Bool) (before : Option Row) (offers : Offers) → AreOffers m.channels offers
     → (gates : ℕ) → gates < 2 ^ length m.channels
-    → ArePins d m false (row_of m before offers gates [])
-    (map (number_for (entered m false (row_of m before offers gates []))) (range_with_len 0 (length (input_limits d))))
-first-pins d m is before offers are gates l = are-pins d m is false (row_of m before offers gates [])
-    (small-row m.channels (row_of m before offers gates []) (row-over d m is before offers are gates l [] (no-outputs d)))
+    → ArePins d m false (row_of m fresh before offers gates [])
+    (map (number_for (entered m false (row_of m fresh before offers gates []))) (range_with_len 0 (length (input_limits d))))
+first-pins d m is fresh before offers are gates l = are-pins d m is false (row_of m fresh before offers gates [])
+    (small-row m.channels (row_of m fresh before offers gates []) (row-over d m is fresh before offers are gates l [] (no-outputs d)))
 
 module _ (d : Design) (m : Map) (law : IsLawful d) (one : HasOneMap d) (is : IsMapOf d m) (rule : List Row → Row → Type 0)
     (allowed : (before : List Row) → AreRows m.channels before → Allows m.channels rule before) where
@@ -316,16 +317,16 @@ module _ (d : Design) (m : Map) (law : IsLawful d) (one : HasOneMap d) (is : IsM
       let before = row_before x.rows (length x.rows) in
       let w = allowed x.rows x.played.marked in
       let s = x.played.driven.state (length x.rows) in
-      let pins = map (number_for (entered m false (row_of m before w.offers w.gates []))) (range_with_len 0 (length (input_limits d))) in
-      let are = first-pins d m is before w.offers w.are w.gates w.below in
+      let pins = map (number_for (entered m false (row_of m w.fresh before w.offers w.gates []))) (range_with_len 0 (length (input_limits d))) in
+      let are = first-pins d m is w.fresh before w.offers w.are w.gates w.below in
       ∥∥₁_map {B = Lists d m rule (suc n)} (one.some s pins x.lawful are.fit) (λ (v : (v : Values) × IsSettled d s pins v).
       (let fits = fit-outputs d (ports-are_nets d law) v.0 v.1.keeps.fit in
-      let row = row_of m before w.offers w.gates (outputs d v.0) in
-      let over = row-over d m is before w.offers w.are w.gates w.below (outputs d v.0) fits in
-      let step = row-step d m (ports-are_nets d law) is before w.offers w.are w.gates w.below s pins v.0 are v.1 in
+      let row = row_of m w.fresh before w.offers w.gates (outputs d v.0) in
+      let over = row-over d m is w.fresh before w.offers w.are w.gates w.below (outputs d v.0) fits in
+      let step = row-step d m (ports-are_nets d law) is w.fresh before w.offers w.are w.gates w.below s pins v.0 are v.1 in
       let g = played-push d m rule x.rows row (next d v.0 s) x.played
-      (w.allows row over (row-carries d m is before w.offers w.are w.gates (outputs d v.0) fits) refl refl) over
-      (row-marked m before w.offers w.gates (outputs d v.0)) step in
+      (w.allows row over (row-carries d m is w.fresh before w.offers w.are w.gates (outputs d v.0) fits) refl refl) over
+      (row-marked m w.fresh before w.offers w.gates (outputs d v.0)) step in
       record {
         rows = x.rows ++ row ∷ [];
         long = let l = x.long in omega (arith, length_push x.rows row, l);

@@ -60,11 +60,13 @@ agree-on channels packets have a b c Inward x y =
 agree-on channels packets have a b c Outward x y = same-tests (has a.readies c) (has b.readies c) _ x y
 
 replay-determines : (channels : List Channel) (packets : List Packet) → Determines channels (IsReplayRow channels packets)
-replay-determines channels packets before a b are oa ob ra rb = record {
-  fresh = ra.2 ∙ sym rb.2;
-  gates = ra.1 ∙ sym rb.1;
-  on = λ c x at. agree-on channels packets (done before) a b c x.dir (ra.0 c x at) (rb.0 c x at);
-}
+replay-determines channels packets before a b are oa ob ra rb = (
+  ra.2 ∙ sym rb.2,
+  record {
+    gates = ra.1 ∙ sym rb.1;
+    on = λ c x at. agree-on channels packets (done before) a b c x.dir (ra.0 c x at) (rb.0 c x at);
+  },
+)
 
 -- ---- at least one
 abbrev yes_or : {P : Type 0} → P ⊎ (P → ⊥) → Bool
@@ -162,6 +164,7 @@ replay-allows : (channels : List Channel) (packets : List Packet) → ContentsFi
 replay-allows channels packets fit before are = record {
   offers = offers_of channels packets (done before);
   gates = all_up channels;
+  fresh = false;
   are = offers-over channels packets (done before) fit;
   below = all-up-below (length channels);
   allows = λ row over carries g fresh.

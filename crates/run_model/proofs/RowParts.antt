@@ -34,13 +34,12 @@ use Rattle.run_model.proofs.Contents.{content-joined, content-fits, fit-zeros}
 use Rattle.run_model.specs.Building.{AreSmall, FitOutputs, at_plug, content_here, content_on, mask_of, ready_at, ready_on, row_of}
 use Rattle.run_model.specs.Building.{valid_at, valid_on}
 
--- ---- rows that agree on the environment's part, the gates and whether a reset came
+-- ---- rows that agree on the environment's part and the gates
 abbrev pub AgreeOn : List Channel → Row → Row → ℕ → Dir → Type 0
 AgreeOn channels a b c Inward = (has a.valids c ≡ has b.valids c) × (content_at channels a.contents c ≡ content_at channels b.contents c)
 AgreeOn channels a b c Outward = has a.readies c ≡ has b.readies c
 
 pub record Agree (channels : List Channel) (a b : Row) : Type 0 where
-  pub fresh : a.fresh ≡ b.fresh
   pub gates : a.gates ≡ b.gates
   pub on : (c : ℕ) (x : Channel) → slice_get channels c ≡ Some x → AgreeOn channels a b c x.dir
 
@@ -93,7 +92,7 @@ channel-at xs c l = ⊎_elim
     (λ (w : (length xs ≤ c) × (slice_get xs c ≡ None)). absurd (omega (arith, w.0)))
     (slice_get_cases xs c).1
 
--- ---- two rows that agree and show the same outputs are one
+-- ---- two rows that agree, show the same outputs and have one mark are one
 record Parts (channels : List Channel) (a b : Row) (c : ℕ) : Type 0 where
   valid : has a.valids c ≡ has b.valids c
   ready : has a.readies c ≡ has b.readies c
@@ -126,8 +125,9 @@ row-same a b f g v r k s e =
     λ i. record { fresh = f i; gates = g i; valids = v i; readies = r i; contents = k i; starts = s i; ends = e i }
 
 pub one-row : (d : Design) (m : Map) → IsMapOf d m → (out : List ℕ) (before : Option Row) (a b : Row) → IsOver m.channels a
-    → IsOver m.channels b → IsMarked before a → IsMarked before b → Agree m.channels a b → Shows out m a → Shows out m b → a ≡ b
-one-row d m is out before a b oa ob ma mb agree sa sb =
+    → IsOver m.channels b → IsMarked before a → IsMarked before b → a.fresh ≡ b.fresh → Agree m.channels a b → Shows out m a → Shows out m b
+    → a ≡ b
+one-row d m is out before a b oa ob ma mb fresh agree sa sb =
     let n = length m.channels in
     let each : (c : ℕ) → c < n → Parts m.channels a b c = λ c l.
     (let x = channel-at m.channels c l in parts d m is out a b agree sa sb c x.0 x.1)
@@ -137,19 +137,18 @@ one-row d m is out before a b oa ob ma mb agree sa sb =
     let k : a.contents ≡ b.contents = same-contents m.channels a.contents b.contents oa.contents ob.contents
     (λ c x at. (parts d m is out a b agree sa sb c x at).content) in
     let mark = marks before a b agree.gates v r ma mb in
-    row-same a b agree.fresh agree.gates v r k (same-masks_below n a.starts b.starts oa.starts ob.starts (λ c l. mark.0 c))
+    row-same a b fresh agree.gates v r k (same-masks_below n a.starts b.starts oa.starts ob.starts (λ c l. mark.0 c))
     (same-masks_below n a.ends b.ends oa.ends ob.ends (λ c l. mark.1 c))
 
--- two rows with the same offers, gates and mark agree
+-- two rows with the same offers and gates agree
 carried-on : (channels : List Channel) (offers : Offers) (a b : Row) (c : ℕ) (dir : Dir) → CarriesOn channels offers a c dir
     → CarriesOn channels offers b c dir → AgreeOn channels a b c dir
 carried-on channels offers a b c Inward x y = (x.0 ∙ sym y.0, x.1 ∙ sym y.1)
 carried-on channels offers a b c Outward x y = x ∙ sym y
 
-pub carried : (channels : List Channel) (offers : Offers) (a b : Row) → a.fresh ≡ b.fresh → a.gates ≡ b.gates → Carries channels offers a
+pub carried : (channels : List Channel) (offers : Offers) (a b : Row) → a.gates ≡ b.gates → Carries channels offers a
     → Carries channels offers b → Agree channels a b
-carried channels offers a b f g x y =
-    record { fresh = f; gates = g; on = λ c z at. carried-on channels offers a b c z.dir (x c z at) (y c z at) }
+carried channels offers a b g x y = record { gates = g; on = λ c z at. carried-on channels offers a b c z.dir (x c z at) (y c z at) }
 
 -- ---- the row of given offers, gates and outputs
 map-fits : (d : Design) (out : List ℕ) → FitOutputs d out → (widths : List ℕ) (pins : List Pin)
@@ -189,9 +188,9 @@ content-here-fits d m is offers are out fits c x at =
     (content-fits m.channels offers.contents are.contents c x at) (no-content-fits m.channels c x at)) p.is.contents)
 
 -- it is over the channels, marked, shows the outputs and carries the offers
-pub row-over : (d : Design) (m : Map) → IsMapOf d m → (before : Option Row) (offers : Offers) → AreOffers m.channels offers → (gates : ℕ)
-    → gates < 2 ^ length m.channels → (out : List ℕ) → FitOutputs d out → IsOver m.channels (row_of m before offers gates out)
-row-over d m is before offers are gates l out fits = record {
+pub row-over : (d : Design) (m : Map) → IsMapOf d m → (fresh : Bool) (before : Option Row) (offers : Offers) → AreOffers m.channels offers → (gates : ℕ)
+    → gates < 2 ^ length m.channels → (out : List ℕ) → FitOutputs d out → IsOver m.channels (row_of m fresh before offers gates out)
+row-over d m is fresh before offers are gates l out fits = record {
   gates = l;
   valids = mask-below (valid_at m offers out) (length m.channels);
   readies = mask-below (ready_at m offers out) (length m.channels);
@@ -213,9 +212,9 @@ mask-is n f past c = ⊎_elim
     (λ (l : n ≤ c). has-above (mask_of f n) n c (mask-below f n) l ∙ sym (past c l))
     (cases_lt c n)
 
-pub row-marked : (m : Map) (before : Option Row) (offers : Offers) (gates : ℕ) (out : List ℕ)
-    → IsMarked before (row_of m before offers gates out)
-row-marked m before offers gates out =
+pub row-marked : (m : Map) (fresh : Bool) (before : Option Row) (offers : Offers) (gates : ℕ) (out : List ℕ)
+    → IsMarked before (row_of m fresh before offers gates out)
+row-marked m fresh before offers gates out =
     let n = length m.channels in
     let valids = mask_of (valid_at m offers out) n in
     let readies = mask_of (ready_at m offers out) n in
@@ -233,11 +232,11 @@ record AtChannel (m : Map) (offers : Offers) (out : List ℕ) (row : Row) (c : �
   ready : has row.readies c ≡ ready_on offers out c dir plug
   content : content_at m.channels row.contents c ≡ content_on m.channels offers out c dir plug
 
-at-channel : (d : Design) (m : Map) → IsMapOf d m → (before : Option Row) (offers : Offers) → AreOffers m.channels offers → (gates : ℕ)
+at-channel : (d : Design) (m : Map) → IsMapOf d m → (fresh : Bool) (before : Option Row) (offers : Offers) → AreOffers m.channels offers → (gates : ℕ)
     → (out : List ℕ) → FitOutputs d out → (c : ℕ) (x : Channel) (plug : Plug) → slice_get m.channels c ≡ Some x
     → slice_get m.plugs c ≡ Some plug
-    → AtChannel m offers out (row_of m before offers gates out) c x.dir plug
-at-channel d m is before offers are gates out fits c x plug at there =
+    → AtChannel m offers out (row_of m fresh before offers gates out) c x.dir plug
+at-channel d m is fresh before offers are gates out fits c x plug at there =
     let n = length m.channels in
     let l = slice_get_within m.channels c x at in
     record {
@@ -260,17 +259,17 @@ carries-on : (m : Map) (offers : Offers) (out : List ℕ) (row : Row) (c : ℕ) 
 carries-on m offers out row c Inward plug a = (a.valid, a.content)
 carries-on m offers out row c Outward plug a = a.ready
 
-pub row-shows : (d : Design) (m : Map) → IsMapOf d m → (before : Option Row) (offers : Offers) → AreOffers m.channels offers → (gates : ℕ)
-    → (out : List ℕ) → FitOutputs d out → Shows out m (row_of m before offers gates out)
-row-shows d m is before offers are gates out fits c x plug at there = shows-on m offers out (row_of m before offers gates out) c x.dir plug
-    (at-channel d m is before offers are gates out fits c x plug at there)
+pub row-shows : (d : Design) (m : Map) → IsMapOf d m → (fresh : Bool) (before : Option Row) (offers : Offers) → AreOffers m.channels offers → (gates : ℕ)
+    → (out : List ℕ) → FitOutputs d out → Shows out m (row_of m fresh before offers gates out)
+row-shows d m is fresh before offers are gates out fits c x plug at there = shows-on m offers out (row_of m fresh before offers gates out) c x.dir plug
+    (at-channel d m is fresh before offers are gates out fits c x plug at there)
 
-pub row-carries : (d : Design) (m : Map) → IsMapOf d m → (before : Option Row) (offers : Offers) → AreOffers m.channels offers → (gates : ℕ)
-    → (out : List ℕ) → FitOutputs d out → Carries m.channels offers (row_of m before offers gates out)
-row-carries d m is before offers are gates out fits c x at =
+pub row-carries : (d : Design) (m : Map) → IsMapOf d m → (fresh : Bool) (before : Option Row) (offers : Offers) → AreOffers m.channels offers → (gates : ℕ)
+    → (out : List ℕ) → FitOutputs d out → Carries m.channels offers (row_of m fresh before offers gates out)
+row-carries d m is fresh before offers are gates out fits c x at =
     let p = has-plug d m is c x at in
-    carries-on m offers out (row_of m before offers gates out) c x.dir p.plug
-    (at-channel d m is before offers are gates out fits c x p.plug at p.at)
+    carries-on m offers out (row_of m fresh before offers gates out) c x.dir p.plug
+    (at-channel d m is fresh before offers are gates out fits c x p.plug at p.at)
 
 -- the contents of a row over the channels are small enough for their pins
 small-cond : (b : Bool) (x limit : ℕ) → x < limit → 0 < limit → cond b x 0 < limit

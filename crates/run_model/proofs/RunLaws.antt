@@ -38,13 +38,14 @@ GatesAreFixed channels gates = (before : List Row) → AreRows channels before �
 run-determines : (channels : List Channel) (offers : List Row → Offers) (gates : List Row → ℕ → Type 0) → GatesAreFixed channels gates
     → Determines channels (IsRunRow channels offers gates)
 run-determines channels offers gates one before a b are oa ob ra rb =
-    carried channels (offers before) a b (ra.2 ∙ sym rb.2) ((one before are).only a.gates b.gates ra.1 rb.1) ra.0 rb.0
+    (ra.2 ∙ sym rb.2, carried channels (offers before) a b ((one before are).only a.gates b.gates ra.1 rb.1) ra.0 rb.0)
 
 run-allows : (channels : List Channel) (offers : List Row → Offers) → OffersFit channels offers → (gates : List Row → ℕ → Type 0)
     → GatesAreFixed channels gates → (before : List Row) → AreRows channels before → Allows channels (IsRunRow channels offers gates) before
 run-allows channels offers fit gates one before are = record {
   offers = offers before;
   gates = (one before are).mask;
+  fresh = false;
   are = fit before are;
   below = (one before are).below;
   allows = λ row over carries g fresh. (carries, subst (gates before) (sym g) (one before are).is, fresh);

@@ -77,13 +77,13 @@ starts_of n before valids gates = mask_of (λ c. (has valids c && has gates c) &
 abbrev pub ends_of : ℕ → ℕ → ℕ → ℕ → ℕ
 ends_of n valids gates readies = mask_of (λ c. (has valids c && has gates c) && has readies c) n
 
-abbrev pub row_of : Map → Option Row → Offers → ℕ → List ℕ → Row
-row_of m before offers gates out =
+abbrev pub row_of : Map → Bool → Option Row → Offers → ℕ → List ℕ → Row
+row_of m fresh before offers gates out =
     let n = length m.channels in
     let valids = mask_of (valid_at m offers out) n in
     let readies = mask_of (ready_at m offers out) n in
     record {
-      fresh = false;
+      fresh = fresh;
       gates = gates;
       valids = valids;
       readies = readies;

@@ -1,6 +1,6 @@
 -- *Script offer* on worked examples: what is offered in each cycle, found by hand.
 use Rattle.std.specs.Prelude.{◌≡◌, ℕ, ◌+◌, true, false, List, [], ◌∷◌, map, take, refl}
-use Rattle.chan_map.specs.trace_model.declared.row.Row.{Row}
+use Rattle.trace_model.specs.declared.row.Row.{Row}
 use Rattle.script_text.specs.declared.script.Step.{Step}
 use Rattle.script_text.specs.declared.script.Step.TheVariants.{Send, Take, TakeAll, Wait, After}
 use Rattle.script_text.specs.declared.script.Script.{Script}
@@ -9,11 +9,11 @@ use Rattle.script_text.specs.ScriptOffer.{script_offer}
 
 -- a row with all gates up, in which the channels of `valids` show valid and those of `readies` ready
 abbrev row : ℕ → ℕ → Row
-row valids readies = record { gates = 31; valids = valids; readies = readies; contents = []; starts = 0; ends = 0 }
+row valids readies = record { fresh = false; gates = 31; valids = valids; readies = readies; contents = []; starts = 0; ends = 0 }
 
 -- the same with all gates down
 abbrev shut : ℕ → ℕ → Row
-shut valids readies = record { gates = 0; valids = valids; readies = readies; contents = []; starts = 0; ends = 0 }
+shut valids readies = record { fresh = false; gates = 0; valids = valids; readies = readies; contents = []; starts = 0; ends = 0 }
 
 abbrev script : List (List Step) → Script
 script steps = record { cycles = 6; steps = steps }

@@ -1,9 +1,9 @@
 -- A script fits channels: what a script that was read keeps (this project's profile).
 use Rattle.std.specs.Prelude.{◌≡◌, ℕ, ◌≤◌, ◌<◌, List, [], Some, length, slice_get, slice_index_or}
-use Rattle.chan_map.specs.trace_model.declared.channel.Channel.{Channel}
-use Rattle.chan_map.specs.trace_model.declared.channel.Dir.TheVariants.{Inward, Outward}
-use Rattle.chan_map.specs.trace_model.Packet.{Fit}
-use Rattle.script_text.specs.declared.script.TheConstants.{MOST_CYCLES}
+use Rattle.trace_model.specs.declared.channel.Channel.{Channel}
+use Rattle.trace_model.specs.declared.channel.Dir.TheVariants.{Inward, Outward}
+use Rattle.trace_model.specs.Packet.{Fit}
+use Rattle.trace_model.specs.declared.packet.TheConstants.{MOST_CYCLES}
 use Rattle.script_text.specs.declared.script.Step.{Step}
 use Rattle.script_text.specs.declared.script.Step.TheVariants.{Send, Take, TakeAll, Wait, After}
 use Rattle.script_text.specs.declared.script.Script.{Script}
@@ -20,7 +20,7 @@ StepFits channels channel TakeAll = channel.dir ≡ Outward
 StepFits channels channel (Wait cycles) = (1 ≤ cycles) × (cycles ≤ MOST_CYCLES)
 StepFits channels channel (After other count) = (other < length channels) × (1 ≤ count)
 
--- there is a list of steps for each channel, and each step of it fits; the cycles are 1 to 50,000
+-- there is a list of steps for each channel, and each step of it fits; the cycles are 1 to the most
 pub record FitsChannels (channels : List Channel) (script : Script) : Type 0 where
   pub lists : length script.steps ≡ length channels
   pub some : 1 ≤ script.cycles

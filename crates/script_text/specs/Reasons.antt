@@ -3,14 +3,14 @@ use Rattle.std.specs.Prelude.{ℕ, ◌+◌, ◌^◌, ◌||◌, ◌&&◌, not, Bo
 use Rattle.std.specs.Prelude.{◌++◌, map, drop, slice_get, codes, Option, Some, None}
 use Rattle.std.specs.List.{flat_map, prefix_len}
 use Rattle.std.specs.Option.{option_to_list}
-use Rattle.chan_map.specs.trace_model.Channel.{between}
-use Rattle.chan_map.specs.trace_model.declared.channel.Channel.{Channel}
-use Rattle.chan_map.specs.trace_model.declared.channel.Dir.{Dir}
-use Rattle.chan_map.specs.trace_model.declared.channel.Dir.TheVariants.{Inward, Outward}
+use Rattle.trace_model.specs.Channel.{between}
+use Rattle.trace_model.specs.declared.channel.Channel.{Channel}
+use Rattle.trace_model.specs.declared.channel.Dir.{Dir}
+use Rattle.trace_model.specs.declared.channel.Dir.TheVariants.{Inward, Outward}
 use Rattle.chan_map.specs.vidi_bits.Findings.{is_nil, told_if}
 use Rattle.chan_map.specs.vidi_lines.declared.lines.Line.{Line}
 use Rattle.chan_map.specs.vidi_lines.Lines.{file_lines, line_unless_bad}
-use Rattle.script_text.specs.declared.script.TheConstants.{MOST_CYCLES}
+use Rattle.trace_model.specs.declared.packet.TheConstants.{MOST_CYCLES}
 use Rattle.script_text.specs.declared.error.ScriptError.{ScriptError}
 use Rattle.script_text.specs.declared.error.ScriptError.TheVariants as E
 use Rattle.script_text.specs.declared.said.Said.{Said}
@@ -68,8 +68,8 @@ names_channels channels l = suits_channel channels (channel_at channels l.channe
 abbrev pub channel_faults : List Channel → List StepLine → List ℕ
 channel_faults channels lines = flat_map (λ (l : StepLine). told_if (not (names_channels channels l)) l.line) lines
 
--- ---- S3: `wait` not 1 to 50,000, `take` and `after` not 1 to 4,294,967,295, a `send` whose numbers aren't as many as the content ports or
--- don't fit them
+-- ---- S3: `wait` not 1 to the most cycles of a run, `take` and `after` not 1 to 4,294,967,295, a `send` whose numbers aren't as many as the
+-- content ports or don't fit them
 
 abbrev pub is_small : Said → Bool
 is_small (Send content) = true
@@ -103,7 +103,7 @@ number_faults channels lines = flat_map (λ (l : StepLine). told_if (not (fits_n
 
 -- ---- the three steps over a whole script
 
--- S2 and then S3, where the line with number n says `cycles N` and the lines behind it say this; N is 1 to 50,000
+-- S2 and then S3, where the line with number n says `cycles N` and the lines behind it say this; N is 1 to the most
 abbrev pub later_faults : List Channel → ℕ → ℕ → List StepLine → List ScriptError
 later_faults channels n cycles lines = map (λ (m : ℕ). E.Channel m) (channel_faults channels lines)
     ++ map (λ (m : ℕ). E.Number m) (told_if (not (between 1 MOST_CYCLES cycles)) n ++ number_faults channels lines)

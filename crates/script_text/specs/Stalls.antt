@@ -4,11 +4,11 @@ use Rattle.std.specs.Prelude.{Option, Some, None, Result, Ok, Err}
 use Rattle.std.specs.List.{prefix_len}
 use Rattle.std.specs.Str.{bytes_eq}
 use Rattle.std.specs.Option.{option_to_list}
-use Rattle.chan_map.specs.trace_model.Channel.{between}
+use Rattle.trace_model.specs.Channel.{between}
 use Rattle.chan_map.specs.vidi_bits.Findings.{first, told_if}
 use Rattle.chan_map.specs.vidi_lines.declared.lines.Line.{Line}
 use Rattle.chan_map.specs.vidi_lines.Number.{number_of}
-use Rattle.script_text.specs.declared.script.TheConstants.{MOST_CYCLES}
+use Rattle.trace_model.specs.declared.packet.TheConstants.{MOST_CYCLES}
 use Rattle.script_text.specs.declared.error.StallError.{StallError}
 use Rattle.script_text.specs.declared.error.StallError.TheVariants as E
 use Rattle.script_text.specs.declared.stalls.Drain.{Drain}
@@ -32,7 +32,7 @@ amount_under (Some n) = if nat_le n 16777216 then Some (Some n) else None
 abbrev pub amount_of : List ℕ → Option (Option ℕ)
 amount_of word = if bytes_eq word (codes "all") then Some None else amount_under (number_of word)
 
--- a number of cycles, 1 to 50,000
+-- a number of cycles, 1 to the most of a run
 abbrev pub cycles_of : List ℕ → Option ℕ
 cycles_of word = kept_if (between 1 MOST_CYCLES) (number_of word)
 

@@ -26,6 +26,6 @@ pub use laws::{reach_is_as_said, the_greatest_decides};
 pub use place::{Place, count_ends, move_on};
 pub use reading::read_script;
 pub use readings::{one_plan, one_script};
-pub use script::{MOST_CYCLES, Script, Step, StepLists, Steps};
+pub use script::{Script, Step, StepLists, Steps};
 pub use stall_text::read_stalls;
 pub use stalls::{Drain, Drains, Stalls};

@@ -1,7 +1,7 @@
 //! Reads a script.
 
 ghost use Rattle.std.specs.Prelude.{◌≡◌, ◌+◌, ◌<◌, ◌^◌, length, List};
-ghost use Rattle.chan_map.specs.trace_model.declared.channel.Channel.{Channel};
+ghost use Rattle.trace_model.specs.declared.channel.Channel.{Channel};
 ghost use Rattle.script_text.specs.declared.said.StepLine.{StepLine};
 ghost use Rattle.script_text.specs.Reasons.{read_lines};
 ghost use Rattle.script_text.specs.Reads.{Gathers, IsGathered, Finishes, ReadsScript};
@@ -9,12 +9,12 @@ ghost use Rattle.script_text.specs.Reads.{Gathers, IsGathered, Finishes, ReadsSc
 use crate::error::ScriptError;
 use crate::gathered::Gathered;
 use crate::lawful::between;
-use crate::script::{MOST_CYCLES, Script};
+use crate::script::Script;
 use crate::used::{blank_lines, number_in};
 use chan_map::Map;
-use chan_map::trace_model::Channel;
 use chan_map::vidi_lines::{Line, each_line};
 use std::alloc::Global;
+use trace_model::{Channel, Channel, MOST_CYCLES};
 
 /// Gathers what lines say, the first having this number.
 fn gathered(
@@ -48,7 +48,7 @@ fn finished(line: u32, cycles: u128, gathered: Gathered) -> Result<Script, Scrip
     if let Some(line) = channel {
         return Err(ScriptError::Channel { line });
     }
-    if !between(1, MOST_CYCLES, cycles) {
+    if !between(1, u128::from(MOST_CYCLES), cycles) {
         return Err(ScriptError::Number { line });
     }
     if let Some(line) = number {

@@ -4,9 +4,6 @@ ghost use Rattle.std.specs.Prelude.{◌≡◌};
 
 use chan_map::vidi_bits::{Items, Numbers};
 
-/// The most cycles that a script or a stall plan says (this project's profile): of a run, of a wait and of a drain.
-pub const MOST_CYCLES: u128 = 50_000;
-
 /// A step of a channel's environment.
 #[derive(Drop)]
 pub enum Step {
@@ -36,7 +33,7 @@ pub struct Script {
 }
 
 impl Script {
-    /// The number of cycles, 1 to 50,000.
+    /// The number of cycles, 1 to `MOST_CYCLES`.
     pub fn cycles(&self) -> u32
         ensures { result ≡ self.now.cycles }
     {

@@ -6,12 +6,12 @@ ghost use Rattle.script_text.specs.Stalls.{capacity_in, amount_of, cycles_of, dr
 
 use crate::error::StallError;
 use crate::lawful::between;
-use crate::script::MOST_CYCLES;
 use crate::stalls::{Drain, Drains};
 use crate::used::{is_blank, is_word, number_in};
 use chan_map::vidi_bits::Name;
 use chan_map::vidi_lines::{Line, number};
 use std::alloc::Global;
+use trace_model::MOST_CYCLES;
 
 /// The number of a line `capacity N`, where it is 1 to 16,777,216.
 pub fn capacity_in(line: &Option<Line>) -> Option<u32>
@@ -40,13 +40,13 @@ fn amount_of(word: &[u8]) -> Option<Option<u32>>
     }
 }
 
-/// How many cycles a word says, where it is 1 to 50,000.
+/// How many cycles a word says, where it is 1 to `MOST_CYCLES`.
 fn cycles_of(word: &[u8]) -> Option<u32>
     ensures said { result ≡ cycles_of word.now }
     ensures some { IfSome result (λ n. 1 ≤ n) }
 {
     let n = number(word)?;
-    if between(1, MOST_CYCLES, n) {
+    if between(1, u128::from(MOST_CYCLES), n) {
         Some(n as u32)
     } else {
         None

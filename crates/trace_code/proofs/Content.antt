@@ -15,7 +15,7 @@ use Rattle.vec_clock.specs.trace_model.declared.trace.Trace.{Trace}
 use Rattle.vec_clock.specs.trace_model.Channel.{byte_count, content_bytes, IsChannel}
 use Rattle.vec_clock.specs.vidi_bits.Number.{has}
 use Rattle.vec_clock.specs.trace_model.Counting.{IsNth}
-use Rattle.vec_clock.specs.trace_model.Length.{mask_len, contents_len}
+use Rattle.vec_clock.specs.trace_model.Length.{mask_len, contents_len, sizes_under}
 use Rattle.vec_clock.specs.trace_model.Packet.{content_of, count, does, widths_of, widths_under, Fit, IsPacket}
 use Rattle.vec_clock.proofs.trace_model_lemmas.CountingLemmas.{nth-unique}
 use Rattle.vec_clock.proofs.trace_model_lemmas.ContentsLemmas.{content-fits, fit-at, fit-length, widths-front, widths-suc}
@@ -24,7 +24,6 @@ use Rattle.trace_code.specs.PacketReading.{high_value}
 use Rattle.trace_code.proofs.NumberLaws.{number_again}
 use Rattle.trace_code.proofs.Picking.{number_bytes-append, number_bytes-length}
 use Rattle.trace_code.proofs.RowBytes.{contents_len-widths, contents-least}
-use Rattle.trace_code.specs.Heads.{sizes_under}
 use Rattle.trace_code.specs.declared.cursor.Cursor.{Cursor}
 use Rattle.trace_code.specs.Standing.{IsAt, StandsAt, bytes_from}
 use Rattle.trace_code.specs.Stands.{IsOf}

@@ -5,12 +5,13 @@ use Rattle.std.specs.List.{flat_map}
 use Rattle.vec_clock.specs.trace_model.declared.channel.Channel.{Channel}
 use Rattle.vec_clock.specs.trace_model.declared.channel.Dir.TheVariants.{Inward, Outward}
 use Rattle.vec_clock.specs.trace_model.declared.packet.Packet.{Packet}
+use Rattle.vec_clock.specs.trace_model.Packet.{plain_packet}
 use Rattle.vec_clock.specs.trace_model.declared.trace.Trace.{Trace}
 use Rattle.vec_clock.proofs.trace_model_lemmas.Examples.{pass}
 use Rattle.trace_code.specs.Encoding.{encode, packet_bytes}
 
 packet : ℕ → ℕ → List ℕ → Packet
-packet starts ends contents = record { starts = starts; ends = ends; contents = contents }
+packet starts ends contents = plain_packet starts ends contents
 
 trace : List Packet → Trace
 trace packets = record { channels = pass; packets = packets }

@@ -8,7 +8,8 @@ use Rattle.std.proofs.lemmas.Option.{same_Some, none-some, cond_some}
 use Rattle.vec_clock.specs.trace_model.declared.channel.Channel.{Channel}
 use Rattle.vec_clock.specs.trace_model.declared.packet.Packet.{Packet}
 use Rattle.vec_clock.specs.trace_model.Channel.{byte_count}
-use Rattle.vec_clock.specs.trace_model.Packet.{IsPacket, widths_under, Fit}
+use Rattle.vec_clock.specs.trace_model.Packet.{plain_packet, IsPacket, widths_under, Fit}
+use Rattle.vec_clock.proofs.trace_model_lemmas.RowLaws.{plain-is}
 use Rattle.trace_code.specs.declared.error.CodeError.{CodeError}
 use Rattle.trace_code.specs.declared.error.CodeError.TheVariants.{BadTrace, Memory}
 use Rattle.trace_code.specs.Encoding.{mask_bytes, number_bytes, packet_bytes}
@@ -113,12 +114,12 @@ unfolding packet_at
 packet_takes cs bytes x fits e =
     let n = length cs in
     let a = bind_some (tag_at bytes) (λ rest. masks_at n rest >>= λ masks. numbers_at (widths_under masks.0 cs) masks.2
-    >>= λ contents. Some (record { starts = masks.0; ends = masks.1; contents = contents.0 }, contents.1)) x e in
+    >>= λ contents. Some (plain_packet masks.0 masks.1 contents.0, contents.1)) x e in
     let b = bind_some (masks_at n a.0) (λ masks. numbers_at (widths_under masks.0 cs) masks.2
-    >>= λ contents. Some (record { starts = masks.0; ends = masks.1; contents = contents.0 }, contents.1)) x a.2 in
+    >>= λ contents. Some (plain_packet masks.0 masks.1 contents.0, contents.1)) x a.2 in
     let d = bind_some (numbers_at (widths_under b.0.0 cs) b.0.2) (λ contents. Some
-    (record { starts = b.0.0; ends = b.0.1; contents = contents.0 }, contents.1)) x b.2 in
-    let made : Packet × List ℕ = (record { starts = b.0.0; ends = b.0.1; contents = d.0.0 }, d.0.1) in
+    (plain_packet b.0.0 b.0.1 contents.0, contents.1)) x b.2 in
+    let made : Packet × List ℕ = (plain_packet b.0.0 b.0.1 d.0.0, d.0.1) in
     let first : bytes ≡ 1 ∷ a.0 = tag_takes bytes a.0 a.1 in
     let second = masks_take n a.0 b.0 (IsBytes-rest 1 a.0 (subst IsBytes first fits)) b.1 in
     let third = numbers_take (widths_under b.0.0 cs) b.0.2 d.0 second.parts.rest_fits d.1 in
@@ -128,7 +129,7 @@ packet_takes cs bytes x fits e =
     second.parts.parts ∙ append_assoc masks ends b.0.2 ∙ ap (λ (t : List ℕ). masks ++ (ends ++ t)) third.0.parts in
     let whole : bytes ≡ packet_bytes cs made.0 ++ made.1 = first ∙ ap (λ (t : List ℕ). 1 ∷ t) inner ∙ sym (regroup cs made.0 made.1) in
     subst (λ (y : Packet × List ℕ). IsPacket cs y.0 × (bytes ≡ packet_bytes cs y.0 ++ y.1)) (same_Some made x d.2)
-    (record { event = second.event; starts = second.starts; ends = second.ends; contents = third.1 }, whole)
+    (record { plain = (refl, refl); event = second.event; starts = second.starts; ends = second.ends; contents = third.1 }, whole)
 
 pub packet_again : (cs : List Channel) (p : Packet) (rest : List ℕ) → IsPacket cs p → packet_at cs (packet_bytes cs p ++ rest)
     ≡ Some (p, rest)
@@ -141,7 +142,7 @@ packet_again cs p rest h =
       masks_again (length cs) p.starts p.ends
           numbers h.starts h.ends h.event,
       numbers_again (widths_under p.starts cs) p.contents rest h.contents,
-    ) refl
+    ) (ap (λ (q : Packet). Some (q, rest)) (plain-is cs p h))
 
 -- ---- what reading gives, as clauses say it
 

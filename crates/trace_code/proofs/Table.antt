@@ -13,6 +13,7 @@ use Rattle.std.proofs.lemmas.Slice.Eq.{bytes_eq-Decides}
 use Rattle.vec_clock.specs.trace_model.declared.channel.Channel.{Channel}
 use Rattle.vec_clock.specs.trace_model.declared.channel.Dir.{Dir}
 use Rattle.vec_clock.specs.trace_model.declared.channel.Dir.TheVariants.{Inward, Outward}
+use Rattle.vec_clock.specs.trace_model.declared.packet.TheConstants.{MOST_CHANNELS}
 use Rattle.vec_clock.specs.trace_model.Channel.{is_letter_or_digit, IsName, IsChannel}
 use Rattle.trace_code.specs.declared.error.CodeError.{CodeError}
 use Rattle.trace_code.specs.declared.error.CodeError.TheVariants.{BadTrace, Memory}
@@ -194,17 +195,17 @@ channels_again (c ∷ cs) rest h =
 
 -- ---- the header
 
-count_takes : (bytes : List ℕ) (n : ℕ) (rest : List ℕ) → count_at bytes ≡ Some (n, rest) → (bytes ≡ n ∷ rest) × (1 ≤ n) × (n ≤ 32)
+count_takes : (bytes : List ℕ) (n : ℕ) (rest : List ℕ) → count_at bytes ≡ Some (n, rest) → (bytes ≡ n ∷ rest) × (1 ≤ n) × (n ≤ MOST_CHANNELS)
 unfolding count_at
 count_takes [] n rest e = absurd cc
 count_takes (m ∷ bytes) n rest e =
     let g = cond_some _ (m, bytes) (n, rest) e in
     let within = and_parts _ _ g.0 in
-    subst (λ (p : ℕ × List ℕ). (m ∷ bytes ≡ p.0 ∷ p.1) × (1 ≤ p.0) × (p.0 ≤ 32)) g.1 (refl, leb-true _ _ within.0, leb-true _ _ within.1)
+    subst (λ (p : ℕ × List ℕ). (m ∷ bytes ≡ p.0 ∷ p.1) × (1 ≤ p.0) × (p.0 ≤ MOST_CHANNELS)) g.1 (refl, leb-true _ _ within.0, leb-true _ _ within.1)
 
-count_again : (n : ℕ) (rest : List ℕ) → 1 ≤ n → n ≤ 32 → count_at (n ∷ rest) ≡ Some (n, rest)
+count_again : (n : ℕ) (rest : List ℕ) → 1 ≤ n → n ≤ MOST_CHANNELS → count_at (n ∷ rest) ≡ Some (n, rest)
 unfolding count_at
-count_again n rest low high = rw (le-leb 1 n low, le-leb n 32 high) refl
+count_again n rest low high = rw (le-leb 1 n low, le-leb n MOST_CHANNELS high) refl
 
 pub header_takes : (bytes : List ℕ) (x : List Channel × List ℕ) → header_at bytes ≡ Some x → AreChannels x.0
     × (bytes ≡ header_bytes x.0 ++ x.1)

@@ -1,32 +1,13 @@
--- Sums over the channels, each with its number.
-use Rattle.std.proofs.Common.{◌≡◌, ℕ, zero, suc, ◌+◌, ◌<◌, ◌≤◌, List, [], ◌∷◌, Some, length, get_or, slice_get, sum_by, refl, ap, sym}
+-- Sums of the sizes of the channels that a mask names.
+use Rattle.std.proofs.Common.{◌≡◌, ℕ, zero, suc, ◌+◌, ◌<◌, ◌≤◌, List, [], ◌∷◌, Some, length, get_or, slice_get, refl, ap, sym}
 use Rattle.std.proofs.Common.{◌≢◌, ◌∙◌, arith, add-zero, zero-add, cond, eqb}
 use Rattle.std.specs.Int.{bit_at}
 use Rattle.vec_clock.specs.vidi_bits.Number.{has}
 use Rattle.vec_clock.specs.trace_model.Mask.{IsLowest}
-use Rattle.trace_code.specs.Heads.{sizes_under}
-use Rattle.std.specs.List.{enumerate_from}
-use Rattle.std.proofs.lemmas.List.Sums.{sum_by-cons}
+use Rattle.vec_clock.specs.trace_model.Length.{sizes_under}
 use Rattle.std.proofs.lemmas.Option.{same_Some, slice_get-get_or}
+use Rattle.vec_clock.proofs.trace_model_lemmas.LengthLemmas.{total, total-cons, total-same}
 
--- the sum of f over the channels from channel n on, whose sizes these are
-abbrev pub total : (ℕ × ℕ → ℕ) → ℕ → List ℕ → ℕ
-total f n sizes = sum_by f (enumerate_from n sizes)
-
-pub total-cons : (f : ℕ × ℕ → ℕ) (n size : ℕ) (sizes : List ℕ) → total f n (size ∷ sizes) ≡ f (n, size) + total f (n + 1) sizes
-total-cons f n size sizes = sum_by-cons f (n, size) (enumerate_from (n + 1) sizes)
-
--- two functions that agree on these channels have one sum
-pub total-same : (f g : ℕ × ℕ → ℕ) (n : ℕ) (sizes : List ℕ) → ((c size : ℕ) → n ≤ c → c < n + length sizes → f (c, size) ≡ g (c, size))
-    → total f n sizes ≡ total g n sizes
-total-same f g n [] h = refl
-total-same f g n (size ∷ sizes) h =
-    let rest : total f (n + 1) sizes ≡ total g (n + 1) sizes = total-same f g (n + 1) sizes (λ c b l m. h c b (omega arith) (omega arith))
-    in
-    let here : f (n, size) ≡ g (n, size) = h n size (omega arith) (omega arith) in
-    rw (total-cons f n size sizes, total-cons g n size sizes) (omega arith)
-
--- ---- the sizes of the channels that a mask names
 none : (f : ℕ × ℕ → ℕ) (n : ℕ) (sizes : List ℕ) → ((c size : ℕ) → n ≤ c → c < n + length sizes → f (c, size) ≡ 0) → total f n sizes ≡ 0
 none f n [] h = refl
 none f n (size ∷ sizes) h =

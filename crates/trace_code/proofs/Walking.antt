@@ -1,5 +1,5 @@
 -- Going on by a packet.
-use Rattle.std.proofs.Common.{◌≡◌, ℕ, suc, ◌+◌, ◌-◌, ◌*◌, ◌^◌, ◌<◌, ◌≤◌, Bool, true, false, cond, List, [], ◌∷◌, Some, length, get_or, take, drop}
+use Rattle.std.proofs.Common.{◌≡◌, ℕ, suc, ◌+◌, ◌-◌, ◌^◌, ◌<◌, ◌≤◌, Bool, true, false, cond, List, [], ◌∷◌, Some, length, get_or, take, drop}
 use Rattle.std.proofs.Common.{slice_get, replicate, map, sum_by, eqb, ⊎_elim, refl, sym, ap, subst, ◌∙◌, add-one, arith}
 use Rattle.std.specs.Prelude.{◌↔◌}
 use Rattle.std.specs.List.{enumerate_from}
@@ -11,21 +11,22 @@ use Rattle.std.proofs.lemmas.Option.{same_Some}
 use Rattle.std.proofs.lemmas.List.Sums.{sum_by-cons}
 use Rattle.vec_clock.specs.trace_model.declared.channel.Channel.{Channel}
 use Rattle.vec_clock.specs.trace_model.declared.event.Kind.{Kind}
-use Rattle.vec_clock.specs.trace_model.declared.event.Kind.TheVariants.{Start, End}
+use Rattle.vec_clock.specs.trace_model.declared.event.Kind.TheVariants.{Start, End, Reset}
+use Rattle.vec_clock.proofs.trace_model_lemmas.RowLaws.{has-none}
 use Rattle.vec_clock.specs.trace_model.declared.packet.Packet.{Packet}
 use Rattle.vec_clock.specs.trace_model.declared.trace.Trace.{Trace}
 use Rattle.vec_clock.specs.trace_model.Channel.{content_bytes}
 use Rattle.vec_clock.specs.trace_model.Clock.{clock as clock_of}
 use Rattle.vec_clock.specs.vidi_bits.Number.{has}
 use Rattle.vec_clock.specs.trace_model.Counting.{IsNth}
-use Rattle.vec_clock.specs.trace_model.Length.{mask_len, contents_len}
+use Rattle.vec_clock.specs.trace_model.Length.{head_len, mask_len, contents_len, sizes_under}
 use Rattle.vec_clock.specs.trace_model.Packet.{widths_under, does, count}
 use Rattle.vec_clock.proofs.trace_model_lemmas.CountingLemmas.{count-suc_no, nth-unique, nth-below, nth-count}
 use Rattle.trace_code.specs.Encoding.{number_bytes, HasEncoding}
 use Rattle.trace_code.specs.PacketReading.{low_value}
 use Rattle.trace_code.proofs.RowBytes.{contents_len-widths, contents-least}
 use Rattle.vec_clock.proofs.Counting.{counts-first, counts-long, counts-on, counts-small, counts-at}
-use Rattle.trace_code.specs.Heads.{mask_of, sizes_under, AreMasks}
+use Rattle.trace_code.specs.Heads.{mask_of, AreMasks}
 use Rattle.trace_code.specs.Standing.{IsAt, StandsAt, bytes_from}
 use Rattle.trace_code.proofs.Here.{Here, here, at-end, contents-long}
 
@@ -224,7 +225,7 @@ read-masks t p sizes rest clock len starts ends contents at l n s e c =
     }
 
 pub long-enough : (t : Trace) (p : ℕ) (sizes rest clock : List ℕ) (len : ℕ) → IsAt t p sizes rest clock → p < length t.packets
-    → len ≡ mask_len (length sizes) → 1 + 2 * len ≤ length rest
+    → len ≡ head_len (length sizes) → len ≤ length rest
 long-enough t p sizes rest clock len at l n = let h = (here-by t p sizes rest clock at l).long in omega (arith, n, h)
 
 -- the masks of the packet that stands there, as they are read
@@ -241,6 +242,8 @@ event-is t p sizes rest clock starts ends contents r Start c packet there =
     ap (λ m. has m c) r.starts_is ∙ ap (λ (q : Packet). has q.starts c) (same_Some r.here_is.packet packet (sym r.here_is.at ∙ there))
 event-is t p sizes rest clock starts ends contents r End c packet there =
     ap (λ m. has m c) r.ends_is ∙ ap (λ (q : Packet). has q.ends c) (same_Some r.here_is.packet packet (sym r.here_is.at ∙ there))
+event-is t p sizes rest clock starts ends contents r Reset c packet there =
+    has-none c ∙ sym r.here_is.lawful.plain.1 ∙ ap (λ (q : Packet). q.reset) (same_Some r.here_is.packet packet (sym r.here_is.at ∙ there))
 
 pub shorter : (t : Trace) (p : ℕ) (sizes rest clock : List ℕ) (starts ends : ℕ) (contents after : List ℕ) (size : ℕ)
     → Read t p sizes rest clock starts ends contents → after ≡ drop size contents → length after < length rest
@@ -275,7 +278,7 @@ ends-below t p sizes rest clock starts ends contents r n long =
     subst (λ k. ends < 2 ^ k) (sym long) (subst (λ e. e < 2 ^ length t.channels) (sym r.ends_is) r.here_is.lawful.ends)
 
 pub packet-within : (t : Trace) (p : ℕ) (sizes rest clock : List ℕ) (starts ends : ℕ) (contents : List ℕ) → IsAt t p sizes rest clock
-    → Read t p sizes rest clock starts ends contents → 1 + 2 * mask_len (length sizes) + sizes_under starts sizes ≤ length rest
+    → Read t p sizes rest clock starts ends contents → head_len (length sizes) + sizes_under starts sizes ≤ length rest
 packet-within t p sizes rest clock starts ends contents at r =
     let m = mask_len (length sizes) in
     let long = r.here_is.long in

@@ -1,15 +1,9 @@
 -- The head of a packet.
-use Rattle.std.specs.Prelude.{◌≡◌, ℕ, ◌+◌, ◌-◌, ◌*◌, ◌^◌, ◌<◌, List, take, drop, sum_by, if◌then◌else◌}
-use Rattle.std.specs.List.{enumerate_from}
-use Rattle.vec_clock.specs.vidi_bits.Number.{has}
+use Rattle.std.specs.Prelude.{◌≡◌, ℕ, ◌+◌, ◌-◌, ◌*◌, ◌^◌, ◌<◌, List, take, drop}
 use Rattle.vec_clock.specs.trace_model.declared.event.Kind.{Kind}
-use Rattle.vec_clock.specs.trace_model.declared.event.Kind.TheVariants.{Start, End}
+use Rattle.vec_clock.specs.trace_model.declared.event.Kind.TheVariants.{Start, End, Reset}
 use Rattle.vec_clock.specs.trace_model.Length.{mask_len}
 use Rattle.trace_code.specs.PacketReading.{low_value}
-
--- of channels with these content bytes, the content bytes of those that a mask names
-abbrev pub sizes_under : ℕ → List ℕ → ℕ
-sizes_under mask sizes = sum_by (λ (d : ℕ × ℕ). if has mask d.0 then d.1 else 0) (enumerate_from 0 sizes)
 
 -- the masks of n channels in the packet at the front of the bytes
 pub record AreMasks (n starts ends : ℕ) (rest : List ℕ) : Type 0 where
@@ -26,3 +20,4 @@ pub record IsWord (m starts ends under both : ℕ) : Type 0 where
 abbrev pub mask_of : Kind → ℕ → ℕ → ℕ
 mask_of Start starts ends = starts
 mask_of End starts ends = ends
+mask_of Reset starts ends = 0

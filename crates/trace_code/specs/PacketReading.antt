@@ -5,7 +5,7 @@ use Rattle.std.specs.List.{flat_map, fold}
 use Rattle.vec_clock.specs.trace_model.declared.channel.Channel.{Channel}
 use Rattle.vec_clock.specs.trace_model.declared.packet.Packet.{Packet}
 use Rattle.vec_clock.specs.trace_model.Channel.{byte_count}
-use Rattle.vec_clock.specs.trace_model.Packet.{IsPacket, widths_under}
+use Rattle.vec_clock.specs.trace_model.Packet.{IsPacket, plain_packet, widths_under}
 use Rattle.vec_clock.specs.trace_model.Trace.{Alternates}
 use Rattle.vec_clock.specs.trace_model.Length.{mask_len}
 use Rattle.trace_code.specs.Encoding.{packet_bytes}
@@ -58,7 +58,7 @@ packet_at channels bytes = do
   rest ← tag_at bytes
   masks ← masks_at (length channels) rest
   contents ← numbers_at (widths_under masks.0 channels) masks.2
-  Some (record { starts = masks.0; ends = masks.1; contents = contents.0 }, contents.1)
+  Some (plain_packet masks.0 masks.1 contents.0, contents.1)
 
 -- the bytes are these packets, each lawful after those before it, and a rest that begins with none that is lawful after them
 pub record AreAll (channels : List Channel) (bytes : List ℕ) (packets : List Packet) (rest : List ℕ) : Type 0 where

@@ -6,6 +6,7 @@ use Rattle.std.specs.Str.{bytes_eq}
 use Rattle.vec_clock.specs.trace_model.declared.channel.Channel.{Channel}
 use Rattle.vec_clock.specs.trace_model.declared.channel.Dir.{Dir}
 use Rattle.vec_clock.specs.trace_model.declared.channel.Dir.TheVariants.{Inward, Outward}
+use Rattle.vec_clock.specs.trace_model.declared.packet.TheConstants.{MOST_CHANNELS}
 use Rattle.vec_clock.specs.trace_model.Channel.{is_letter, is_letter_or_digit, IsChannel}
 use Rattle.trace_code.specs.declared.error.CodeError.{CodeError}
 use Rattle.trace_code.specs.declared.error.CodeError.TheVariants.{BadTrace, Memory}
@@ -76,10 +77,10 @@ channels_at (suc n) bytes = do
   others ← channels_at n first.1
   Some (first.0 ∷ others.0, others.1)
 
--- a count from 1 to 32
+-- a count of channels, from 1 to the most
 unfoldable pub count_at : List ℕ → Option (ℕ × List ℕ)
 count_at [] = None
-count_at (n ∷ rest) = if nat_le 1 n && nat_le n 32 then Some (n, rest) else None
+count_at (n ∷ rest) = if nat_le 1 n && nat_le n MOST_CHANNELS then Some (n, rest) else None
 
 -- the header, whatever its names and the sizes of its contents
 unfoldable pub header_at : List ℕ → Option (List Channel × List ℕ)
@@ -91,5 +92,5 @@ header_at bytes = do
 -- the channels of a header, whatever their names and the sizes of their contents
 pub record AreChannels (channels : List Channel) : Type 0 where
   pub some : 1 ≤ length channels
-  pub few : length channels ≤ 32
+  pub few : length channels ≤ MOST_CHANNELS
   pub each : All IsChannel channels

@@ -2,7 +2,7 @@
 use Rattle.std.specs.Prelude.{◌≡◌, ℕ, List, [], ◌∷◌, ◌++◌, Option, Some, None}
 use Rattle.vec_clock.specs.trace_model.declared.channel.Channel.{Channel}
 use Rattle.vec_clock.specs.trace_model.declared.packet.Packet.{Packet}
-use Rattle.vec_clock.specs.trace_model.Packet.{IsPacket}
+use Rattle.vec_clock.specs.trace_model.Packet.{plain_packet, IsPacket}
 use Rattle.vec_clock.specs.trace_model.Trace.{Alternates, InFlight}
 use Rattle.trace_code.specs.Encoding.{packet_bytes}
 
@@ -13,7 +13,7 @@ Passes made None read = read ≡ None
 
 -- a packet, with the bytes after it, of which the contents weren't kept
 abbrev pub packet_with : List ℕ → ℕ → ℕ → Packet
-packet_with contents starts ends = record { starts = starts; ends = ends; contents = contents }
+packet_with contents starts ends = plain_packet starts ends contents
 
 -- a packet at the front of the bytes that is lawful after packets that leave `flying` in flight, and leaves `after`
 pub record Follows (channels : List Channel) (bytes : List ℕ) (flying after : ℕ) (rest : List ℕ) : Type 0 where

@@ -3,8 +3,9 @@ use Rattle.std.specs.Prelude.{◌≡◌, ℕ, ◌+◌, ◌*◌, ◌<◌, Some, s
 use Rattle.vec_clock.specs.trace_model.declared.channel.Channel.{Channel}
 use Rattle.vec_clock.specs.trace_model.declared.event.Kind.{Kind}
 use Rattle.vec_clock.specs.trace_model.declared.trace.Trace.{Trace}
+use Rattle.vec_clock.specs.trace_model.Length.{sizes_under}
 use Rattle.trace_code.specs.declared.cursor.Cursor.{Cursor}
-use Rattle.trace_code.specs.Heads.{sizes_under, AreMasks}
+use Rattle.trace_code.specs.Heads.{AreMasks}
 use Rattle.trace_code.specs.Standing.{StandsAt}
 use Rattle.trace_code.specs.Tallied.{tallied}
 

@@ -13,11 +13,10 @@ ghost use Rattle.trace_code.specs.Stands.{WalksOver, Stands};
 use crate::error::CodeError;
 use crate::head::Head;
 use crate::header::read_header;
-use crate::number::mask_len;
 use crate::tally::Tally;
 use crate::walk::{is_end, number_of, seek, sizes_of, skip};
 use std::alloc::Global;
-use vec_clock::trace_model::{Channels, Kind};
+use vec_clock::trace_model::{Channels, Kind, head_len};
 use vec_clock::vidi_bits::{Bytes, Memory, copied};
 
 /// The channels of an encoded trace, and the bytes of its packets and of its end.
@@ -138,7 +137,7 @@ impl<'a> Cursor<'a> {
             → IsNth (does Kind.Start self.now.channel) t.packets j p packet
             → result ≡ slice_index (content_of t.channels packet self.now.channel) port }
     {
-        let (_head, contents) = self.rest.split_at(1 + 2 * mask_len(self.head.channels()));
+        let (_head, contents) = self.rest.split_at(head_len(self.head.channels()));
         let (_below, own) = contents.split_at(self.below);
         number_of(self.widths.as_slice(), port, own)
     }

@@ -3,6 +3,7 @@
 ghost use Rattle.std.specs.Prelude.{◌≡◌, ◌≢◌, ℕ, ◌<◌, ◌≤◌, ◌^◌, ◌↔◌, IsTrue, List, [], ◌∷◌, ◌++◌, length, All, IfOk, IfSome, IfNone};
 ghost use Rattle.std.specs.Prelude.{MatchResult};
 ghost use Rattle.vec_clock.specs.trace_model.declared.packet.Packet.{Packet};
+ghost use Rattle.vec_clock.specs.trace_model.declared.packet.TheConstants.{MOST_CHANNELS};
 ghost use Rattle.vec_clock.specs.trace_model.declared.trace.Trace.{Trace};
 ghost use Rattle.vec_clock.specs.trace_model.Channel.{IsChannel};
 ghost use Rattle.vec_clock.specs.trace_model.Packet.{IsPacket};
@@ -30,7 +31,7 @@ fn next_packet<'a>(
     flying: u128,
     bytes: &'a [u8],
 ) -> Result<Option<(Packet, u128, &'a [u8])>, Memory>
-    requires few { length channels.now ≤ 32 }
+    requires few { length channels.now ≤ MOST_CHANNELS }
     requires each { All IsChannel channels.now }
     ensures found { IfOk result (λ o. IfSome o (λ x. IsPacket channels.now x.0 × (bytes.now ≡ packet_bytes channels.now x.0 ++ x.2.now))) }
     ensures follows { IfOk result (λ o. IfSome o (λ x. (ps : List Packet) → Alternates ps → InFlight ps flying → Alternates (ps ++ x.0 ∷ [])
@@ -54,7 +55,7 @@ pub(crate) fn read_packets<'a>(
     channels: &[Channel],
     bytes: &'a [u8],
 ) -> Result<(Packets, &'a [u8]), Memory>
-    requires few { length channels.now ≤ 32 }
+    requires few { length channels.now ≤ MOST_CHANNELS }
     requires each { All IsChannel channels.now }
     ensures { IfOk result (λ x. AreAll channels.now bytes.now x.0 x.1.now) }
 {

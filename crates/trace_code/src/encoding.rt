@@ -1,16 +1,16 @@
 //! Writing a whole trace.
 
-ghost use Rattle.std.specs.Prelude.{◌≡◌, ◌+◌, ◌≤◌, ◌++◌, length, All, OnOk, IfOk, sum_by};
+ghost use Rattle.std.specs.Prelude.{◌≡◌, ◌≤◌, ◌++◌, length, All, OnOk, IfOk};
 ghost use Rattle.std.specs.List.{flat_map};
-ghost use Rattle.vec_clock.specs.trace_model.Channel.{IsChannel, IsTable, content_bytes};
-ghost use Rattle.vec_clock.specs.trace_model.Length.{head_len};
+ghost use Rattle.vec_clock.specs.trace_model.Channel.{IsChannel, IsTable};
+ghost use Rattle.vec_clock.specs.trace_model.Length.{longest_packet};
 ghost use Rattle.vec_clock.specs.trace_model.Packet.{IsPacket};
 ghost use Rattle.trace_code.specs.Encoding.{direction_byte, channel_bytes, header_bytes, packet_bytes, end_mark, encode, HasEncoding};
 
-use crate::header::{MAGIC, contents_len};
+use crate::header::MAGIC;
 use crate::writing::write_events;
 use std::alloc::Global;
-use vec_clock::trace_model::{Channel, Channels, Dir, Packet, Trace};
+use vec_clock::trace_model::{Channel, Channels, Dir, Packet, Trace, longest_packet};
 use vec_clock::vidi_bits::{Bytes, Items, Memory};
 
 /// The byte of a direction.
@@ -68,7 +68,7 @@ fn push_packets(
     requires few { length channels.now ≤ 128 }
     requires each { All IsChannel channels.now }
     requires packets { All (IsPacket channels.now) packets.now }
-    requires room { head_len (length channels.now) + sum_by content_bytes channels.now ≤ length buf.old }
+    requires room { longest_packet channels.now ≤ length buf.old }
     ensures { OnOk result (out.new.items ≡ out.old.items ++ flat_map (packet_bytes channels.now) packets.now) }
 {
     for packet in packets {
@@ -92,14 +92,6 @@ pub fn end_mark(packets: u32) -> [u8; 5]
 {
     let [a, b, c, d] = packets.to_be_bytes();
     [0, a, b, c, d]
-}
-
-/// The bytes of the longest packet of these channels, in which all of them start.
-fn longest_packet(channels: &[Channel]) -> usize
-    requires { IsTable channels.now }
-    ensures { result ≡ head_len (length channels.now) + sum_by content_bytes channels.now }
-{
-    1 + 2 * channels.len().div_ceil(8) + contents_len(channels)
 }
 
 /// The bytes of a trace (*Encoding*): a well-formed one with a lawful table of channels and fewer than

@@ -2,11 +2,11 @@
 
 ghost use Rattle.std.specs.Prelude.{◌≡◌, IsTrue, ◌≤◌, ◌<◌, ◌+◌, ◌*◌, ◌^◌, ℕ, length, drop, take};
 ghost use Rattle.vec_clock.specs.vidi_bits.Number.{has};
-ghost use Rattle.vec_clock.specs.trace_model.Length.{mask_len};
-ghost use Rattle.trace_code.specs.Heads.{mask_of, sizes_under, AreMasks, IsWord};
+ghost use Rattle.vec_clock.specs.trace_model.Length.{head_len, mask_len, sizes_under};
+ghost use Rattle.trace_code.specs.Heads.{mask_of, AreMasks, IsWord};
 
 use crate::number::{low_first, mask_len};
-use vec_clock::trace_model::{Kind, lowest, names};
+use vec_clock::trace_model::{Kind, head_len, lowest, names};
 use vec_clock::vidi_bits::{join, ones};
 
 /// The most packets that are looked at ahead.
@@ -28,7 +28,7 @@ pub(crate) struct Head {
     ghost some: { 0 < length sizes.items },
     ghost few: { length sizes.items ≤ 128 },
     ghost small: { (mask : ℕ) → sizes_under mask sizes.items < 2 ^ 32 },
-    ghost len_is: { len ≡ 1 + 2 * mask_len (length sizes.items) + sizes_under starts sizes.items },
+    ghost len_is: { len ≡ head_len (length sizes.items) + sizes_under starts sizes.items },
     ghost word: { length sizes.items ≤ 64 → IsWord (mask_len (length sizes.items)) starts ends under both },
 }
 
@@ -58,6 +58,7 @@ impl Head {
         ensures { result.sizes.items ≡ sizes.items }
     {
         let masks = mask_len(sizes.as_slice().len());
+        let head = head_len(sizes.as_slice().len());
         let contents = starts_len(sizes.as_slice(), 0);
         let under = if masks <= 8 {
             ones(16 * masks as u32)
@@ -68,7 +69,7 @@ impl Head {
             sizes,
             starts: 0,
             ends: 0,
-            len: 1 + 2 * masks + contents,
+            len: head + contents,
             under,
             both: 0,
         }
@@ -106,7 +107,7 @@ impl Head {
 
     /// Reads the masks of the packet at the front of the bytes.
     fn read(&mut self, rest: &[u8])
-        requires { 1 + 2 * mask_len (length self.old.sizes.items) ≤ length rest.now }
+        requires { head_len (length self.old.sizes.items) ≤ length rest.now }
         ensures sizes { self.new.sizes.items ≡ self.old.sizes.items }
         ensures masks { AreMasks (length self.old.sizes.items) self.new.starts self.new.ends rest.now }
     {
@@ -115,7 +116,8 @@ impl Head {
         let (ends, _contents) = behind.split_at(len);
         self.starts = low_first(starts);
         self.ends = low_first(ends);
-        self.len = 1 + 2 * len + starts_len(self.sizes.as_slice(), self.starts);
+        self.len = head_len(self.sizes.as_slice().len())
+            + starts_len(self.sizes.as_slice(), self.starts);
         if len <= 8 {
             self.both = join(self.ends, self.starts, 8 * len as u32);
         }
@@ -123,7 +125,7 @@ impl Head {
 
     /// Makes it the head of the packet at the front of the bytes.
     pub(crate) fn turn_to(&mut self, rest: &[u8])
-        requires { 1 + 2 * mask_len (length self.old.sizes.items) ≤ length rest.now }
+        requires { head_len (length self.old.sizes.items) ≤ length rest.now }
         ensures sizes { self.new.sizes.items ≡ self.old.sizes.items }
         ensures masks { AreMasks (length self.old.sizes.items) self.new.starts self.new.ends rest.now }
     {
@@ -157,6 +159,7 @@ impl Head {
         match kind {
             Kind::Start => names(self.starts, channel),
             Kind::End => names(self.ends, channel),
+            Kind::Reset => false,
         }
     }
 }

@@ -1,24 +1,23 @@
 //! Reading the header of a trace.
 
-ghost use Rattle.std.specs.Prelude.{◌≡◌, ℕ, ◌≤◌, ◌⊎◌, ◌≢◌, ◌↔◌, IsTrue, List, ◌++◌, length, All, sum_by, IfOk, IfErr, MatchResult, option_map};
+ghost use Rattle.std.specs.Prelude.{◌≡◌, ℕ, ◌≤◌, ◌⊎◌, ◌≢◌, ◌↔◌, IsTrue, List, ◌++◌, IfOk, IfErr, MatchResult, option_map};
 ghost use Rattle.std.specs.List.{AllPairs, list_all, Any};
 ghost use Rattle.vec_clock.specs.trace_model.declared.channel.Channel.{Channel};
-ghost use Rattle.vec_clock.specs.trace_model.Channel.{IsTable, content_bytes};
+ghost use Rattle.vec_clock.specs.trace_model.Channel.{IsTable};
 ghost use Rattle.trace_code.specs.Encoding.{header_bytes};
 ghost use Rattle.trace_code.specs.Reading.{Gives, magic_at, dir_at, counted_at, is_width, is_name, are_widths, name_at, widths_at};
 ghost use Rattle.trace_code.specs.Reading.{channel_at, channels_at, count_at, header_at, AreChannels};
 
 use crate::error::{CodeError, FAULT};
-use crate::number::numbers_len;
 use std::alloc::Global;
-use vec_clock::trace_model::{Channel, Channels, Dir, are_letters_or_digits, is_letter};
+use vec_clock::trace_model::{
+    Channel, Channels, Dir, MOST_CHANNELS, MOST_CONTENT_BYTES, all_contents_len,
+    are_letters_or_digits, is_letter,
+};
 use vec_clock::vidi_bits::{Bytes, Items, Name, copied};
 
 /// The first bytes of a trace of version 1.
 pub(crate) const MAGIC: [u8; 8] = *b"VIDITRC1";
-
-/// The most channels of a table.
-const MAX_CHANNELS: u8 = 32;
 
 /// The most bytes of a name.
 const MAX_NAME: usize = 64;
@@ -28,9 +27,6 @@ const MAX_PORTS: usize = 16;
 
 /// The most bits of a port.
 const MAX_WIDTH: u8 = 128;
-
-/// The most bytes of the contents of all channels.
-const MAX_CONTENT: usize = 1024;
 
 /// The bytes after the magic.
 #[tactic(auto, unfolding(crate::specs::Reading::magic_at))]
@@ -156,8 +152,13 @@ fn read_count(bytes: &[u8]) -> Option<(u8, &[u8])>
     ensures { option_map (λ x. (x.0, x.1.now)) result ≡ count_at bytes.now }
 {
     match bytes {
-        [count @ 1..=MAX_CHANNELS, rest @ ..] => Some((*count, rest)),
-        _ => None,
+        [] => None,
+        [count, rest @ ..] => {
+            if *count == 0 || usize::from(*count) > MOST_CHANNELS {
+                return None;
+            }
+            Some((*count, rest))
+        }
     }
 }
 
@@ -202,28 +203,6 @@ fn names_differ(channels: &[Channel]) -> bool
     true
 }
 
-/// The bytes of a channel's content.
-pub(crate) fn content_len(channel: &Channel) -> usize
-    requires { length channel.now.widths ≤ 16 }
-    ensures small { result ≤ 512 }
-    ensures value { result ≡ content_bytes channel.now }
-{
-    numbers_len(channel.widths.as_slice())
-}
-
-/// The bytes of the contents of all channels.
-pub(crate) fn contents_len(channels: &[Channel]) -> usize
-    requires few { length channels.now ≤ 32 }
-    requires ports { All (λ (c : Channel). length c.widths ≤ 16) channels.now }
-    ensures { result ≡ sum_by content_bytes channels.now }
-{
-    let mut total = 0;
-    for channel in channels {
-        total += content_len(channel);
-    }
-    total
-}
-
 /// The header at the front of the bytes, and the bytes after it. `BadTrace { at: 0 }` where no lawful
 /// header stands there.
 pub(crate) fn read_header(alloc: Global, bytes: &[u8]) -> Result<(Channels, &[u8]), CodeError>
@@ -236,7 +215,7 @@ pub(crate) fn read_header(alloc: Global, bytes: &[u8]) -> Result<(Channels, &[u8
     if !names_differ(channels.as_slice()) {
         return Err(FAULT);
     }
-    if contents_len(channels.as_slice()) > MAX_CONTENT {
+    if all_contents_len(channels.as_slice()) > MOST_CONTENT_BYTES {
         return Err(FAULT);
     }
     Ok((channels, rest))

@@ -2,6 +2,7 @@
 
 ghost use Rattle.std.specs.Prelude.{◌≡◌, ℕ, ◌≤◌, ◌⊎◌, List, [], ◌++◌, length, All, IfOk, IfErr, MatchResult, option_map, if◌then◌else◌};
 ghost use Rattle.vec_clock.specs.trace_model.declared.packet.Packet.{Packet};
+ghost use Rattle.vec_clock.specs.trace_model.declared.packet.TheConstants.{MOST_CHANNELS};
 ghost use Rattle.vec_clock.specs.trace_model.Packet.{widths_under, IsPacket};
 ghost use Rattle.vec_clock.specs.trace_model.Channel.{IsChannel};
 ghost use Rattle.trace_code.specs.Encoding.{packet_bytes};
@@ -52,7 +53,7 @@ fn read_start<'a>(
 
 /// The number of the ports of the channels that start.
 fn count_ports(channels: &[Channel], starts: u128) -> usize
-    requires few { length channels.now ≤ 32 }
+    requires few { length channels.now ≤ MOST_CHANNELS }
     requires each { All IsChannel channels.now }
     ensures { result ≡ length (widths_under starts channels.now) }
 {
@@ -72,7 +73,7 @@ fn read_contents<'a>(
     starts: u128,
     bytes: &'a [u8],
 ) -> Result<(Numbers, &'a [u8]), CodeError>
-    requires few { length channels.now ≤ 32 }
+    requires few { length channels.now ≤ MOST_CHANNELS }
     requires each { All IsChannel channels.now }
     ensures { Gives (λ x. (x.0, x.1.now)) result (numbers_at (widths_under starts channels.now) bytes.now) }
 {
@@ -117,7 +118,7 @@ fn read_packet_fields<'a>(
     channels: &[Channel],
     bytes: &'a [u8],
 ) -> Result<(Packet, &'a [u8]), CodeError>
-    requires few { length channels.now ≤ 32 }
+    requires few { length channels.now ≤ MOST_CHANNELS }
     requires each { All IsChannel channels.now }
     ensures { Gives (λ x. (x.0, x.1.now)) result (packet_at channels.now bytes.now) }
 {
@@ -125,6 +126,8 @@ fn read_packet_fields<'a>(
     let (starts, ends, rest) = read_masks(channels.len(), rest).ok_or(FAULT)?;
     let (contents, rest) = read_contents(alloc, channels, starts, rest)?;
     let packet = Packet {
+        gap: 0,
+        reset: false,
         starts,
         ends,
         contents,
@@ -139,7 +142,7 @@ pub(crate) fn read_packet<'a>(
     channels: &[Channel],
     bytes: &'a [u8],
 ) -> Result<(Packet, &'a [u8]), CodeError>
-    requires few { length channels.now ≤ 32 }
+    requires few { length channels.now ≤ MOST_CHANNELS }
     requires each { All IsChannel channels.now }
     ensures found { IfOk result (λ x. IsPacket channels.now x.0 × (bytes.now ≡ packet_bytes channels.now x.0 ++ x.1.now)) }
     ensures only { (p : Packet) (rest : List ℕ) → IsPacket channels.now p → bytes.now ≡ packet_bytes channels.now p ++ rest

@@ -2,6 +2,7 @@
 
 ghost use Rattle.std.specs.Prelude.{◌≡◌, ◌≢◌, ℕ, ◌≤◌, List, [], ◌∷◌, ◌++◌, length, All, IfSome, IfNone, if◌then◌else◌};
 ghost use Rattle.vec_clock.specs.trace_model.declared.packet.Packet.{Packet};
+ghost use Rattle.vec_clock.specs.trace_model.declared.packet.TheConstants.{MOST_CHANNELS};
 ghost use Rattle.vec_clock.specs.trace_model.Channel.{IsChannel};
 ghost use Rattle.vec_clock.specs.trace_model.Packet.{widths_under, IsPacket};
 ghost use Rattle.vec_clock.specs.trace_model.Trace.{Alternates, InFlight};
@@ -56,7 +57,7 @@ fn skip_start<'a>(channel: &Channel, starts: bool, bytes: &'a [u8]) -> Option<&'
 
 /// The bytes after the contents of the channels that start.
 fn skip_contents<'a>(channels: &[Channel], starts: u128, bytes: &'a [u8]) -> Option<&'a [u8]>
-    requires few { length channels.now ≤ 32 }
+    requires few { length channels.now ≤ MOST_CHANNELS }
     requires each { All IsChannel channels.now }
     ensures { Passes (λ ns rest. (ns, rest.now)) result (numbers_at (widths_under starts channels.now) bytes.now) }
 {
@@ -71,7 +72,7 @@ fn skip_contents<'a>(channels: &[Channel], starts: u128, bytes: &'a [u8]) -> Opt
 /// The starts and the ends of the packet at the front of the bytes, and the bytes after it.
 #[tactic(auto, unfolding(crate::specs::PacketReading::packet_at))]
 fn skip_fields<'a>(channels: &[Channel], bytes: &'a [u8]) -> Option<(u128, u128, &'a [u8])>
-    requires few { length channels.now ≤ 32 }
+    requires few { length channels.now ≤ MOST_CHANNELS }
     requires each { All IsChannel channels.now }
     ensures { Passes (λ ns x. (packet_with ns x.0 x.1, x.2.now)) result (packet_at channels.now bytes.now) }
 {
@@ -84,7 +85,7 @@ fn skip_fields<'a>(channels: &[Channel], bytes: &'a [u8]) -> Option<(u128, u128,
 /// The channels in flight after the packet at the front of the bytes, and the bytes after it. None where
 /// no packet stands there that is lawful after packets that leave `flying` in flight.
 fn skip_packet<'a>(channels: &[Channel], flying: u128, bytes: &'a [u8]) -> Option<(u128, &'a [u8])>
-    requires few { length channels.now ≤ 32 }
+    requires few { length channels.now ≤ MOST_CHANNELS }
     requires each { All IsChannel channels.now }
     ensures found { IfSome result (λ x. Follows channels.now bytes.now flying x.0 x.1.now) }
     ensures none { IfNone result ((ps : List Packet) (p : Packet) (rest : List ℕ) → InFlight ps flying
@@ -97,7 +98,7 @@ fn skip_packet<'a>(channels: &[Channel], flying: u128, bytes: &'a [u8]) -> Optio
 
 /// The length of the longest list of whole lawful packets at the front of the bytes, and the bytes after them.
 pub(crate) fn skip_packets<'a>(channels: &[Channel], bytes: &'a [u8]) -> (usize, &'a [u8])
-    requires few { length channels.now ≤ 32 }
+    requires few { length channels.now ≤ MOST_CHANNELS }
     requires each { All IsChannel channels.now }
     ensures { (packets : List Packet) × (length packets ≡ result.0) × AreAll channels.now bytes.now packets result.1.now }
 {

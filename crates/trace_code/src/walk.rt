@@ -12,11 +12,10 @@ ghost use Rattle.trace_code.specs.Standing.{IsAt, StandsAt};
 ghost use Rattle.trace_code.specs.Tallied.{tallied};
 
 use crate::head::Head;
-use crate::header::content_len;
 use crate::number::{byte_count, high_first, numbers_len};
 use crate::tally::Tally;
 use std::alloc::Global;
-use vec_clock::trace_model::{Channel, Kind};
+use vec_clock::trace_model::{Channel, Kind, content_len};
 use vec_clock::vidi_bits::Memory;
 
 /// The content bytes of each channel.

@@ -3,8 +3,8 @@
 ghost use Rattle.std.specs.Prelude.{◌≡◌, ℕ, true, ◌+◌, ◌*◌, ◌≤◌, ◌^◌, ◌<◌, [], ◌∷◌, ◌++◌, length, drop, All, sum_by, if◌then◌else◌};
 ghost use Rattle.std.specs.Int.{bytes_high_first};
 ghost use Rattle.vec_clock.specs.vidi_bits.Number.{has};
-ghost use Rattle.vec_clock.specs.trace_model.Channel.{byte_count, content_bytes, IsChannel, IsTable};
-ghost use Rattle.vec_clock.specs.trace_model.Length.{head_len, packet_len};
+ghost use Rattle.vec_clock.specs.trace_model.Channel.{byte_count, IsChannel, IsTable};
+ghost use Rattle.vec_clock.specs.trace_model.Length.{head_len, longest_packet, packet_len};
 ghost use Rattle.vec_clock.specs.trace_model.Packet.{widths_under};
 ghost use Rattle.vec_clock.specs.trace_model.Recording.{has_event};
 ghost use Rattle.vec_clock.specs.trace_model.Row.{IsOver};
@@ -148,7 +148,7 @@ fn has_event(row: &Row) -> bool
 pub fn write_packet(row: &Row, channels: &Channels, buf: &mut [u8]) -> usize
     requires table { IsTable channels.now }
     requires row { IsOver channels.now row.now }
-    requires room { head_len (length channels.now) + sum_by content_bytes channels.now ≤ length buf.old }
+    requires room { longest_packet channels.now ≤ length buf.old }
     ensures bytes { buf.new ≡ row_bytes channels.now row.now ++ drop result buf.old }
     ensures place { result ≡ length (row_bytes channels.now row.now) }
     ensures len { result ≡ packet_len channels.now row.now.starts row.now.ends }

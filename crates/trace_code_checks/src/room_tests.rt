@@ -1,88 +1,209 @@
-//! Gates and capacities of small tables.
+//! Gates, the permit to reset and capacities: of two channels, and of 128.
 
-ghost use Rattle.trace_code.specs.trace_model.Channel.{IsTable};
+ghost use Rattle.std.specs.Prelude.{◌≡◌, ◌+◌, ◌*◌, ◌≤◌, length, sum_by, IfOk, OnOk};
+ghost use Rattle.room_ledger.specs.trace_model.Channel.{content_bytes};
 
-use crate::bytes_tests::{NO_SEND, PASS, decoded};
+use room_ledger::trace_model::{Channel, Channels, Dir};
+use room_ledger::vidi_bits::{Bytes, Memory};
 use room_ledger::{Room, RoomError};
 use std::alloc::Global;
-use trace_code::trace_model::Channels;
 
-/// A cycle: its starts, its ends, the packet's length, the gates afterwards, the bytes used.
-type Cycle = (u128, u128, u32, u128, u32);
+/// A cycle: its starts, its ends and the length of its packet.
+type Emission = (u128, u128, u32);
 
-/// Whether a cycle in which nothing drains is this.
-fn is_cycle_right(room: &mut Room, cycle: &Cycle) -> bool {
-    let (starts, ends, len, gates, used) = *cycle;
+/// What comes behind it: whether the design is reset, and how many bytes may drain.
+type Behind = (bool, u32);
+
+/// The next cycle: the gates, the bytes used, and the permit to reset.
+type Next = (u128, u32, bool);
+
+/// Adds a channel with one port of this width, or without a port where it is 0.
+fn push_channel(channels: &mut Channels, alloc: Global, width: u8) -> Result<(), Memory>
+    requires { width ≤ 128 }
+    ensures count { OnOk result (length channels.new ≡ length channels.old + 1) }
+    ensures content { OnOk result (sum_by content_bytes channels.new ≤ sum_by content_bytes channels.old + 16) }
+{
+    let mut widths = Bytes::new(alloc);
+    if width > 0 {
+        widths.push(width)?;
+    }
+    let name = Bytes::new(alloc);
+    let dir = Dir::Inward;
+    channels.push(Channel { dir, name, widths })?;
+    Ok(())
+}
+
+/// So many of them.
+fn channels_of(alloc: Global, count: usize, width: u8) -> Result<Channels, Memory>
+    requires { width ≤ 128 }
+    ensures count { IfOk result (λ channels. length channels ≡ count) }
+    ensures content { IfOk result (λ channels. sum_by content_bytes channels ≤ 16 * count) }
+{
+    let mut channels = Channels::new(alloc);
+    for _ in 0..count {
+        push_channel(&mut channels, alloc, width)?;
+    }
+    Ok(channels)
+}
+
+/// A room of so many of them, or why there is none.
+fn room_of(
+    alloc: Global,
+    count: usize,
+    width: u8,
+    resets: bool,
+    capacity: u32,
+) -> Result<Room, RoomError>
+    requires some { 1 ≤ count }
+    requires few { count ≤ 128 }
+    requires width { width ≤ 128 }
+{
+    match channels_of(alloc, count, width) {
+        Ok(channels) => Room::new(alloc, &channels, resets, capacity),
+        Err(_) => Err(RoomError::Memory),
+    }
+}
+
+/// Whether so many of them need so many bytes: of these a room is made, and of one less it is refused.
+fn is_need(alloc: Global, count: usize, width: u8, resets: bool, bytes: u32) -> bool
+    requires some { 1 ≤ count }
+    requires few { count ≤ 128 }
+    requires width { width ≤ 128 }
+    requires least { 1 ≤ bytes }
+{
+    let less = bytes - 1;
+    let refused = match room_of(alloc, count, width, resets, less) {
+        Err(RoomError::TooSmall { need, given }) => need == bytes && given == less,
+        _ => false,
+    };
+    refused && room_of(alloc, count, width, resets, bytes).is_ok()
+}
+
+/// Whether a reset is lawful, its packet has 3 bytes, and no second one is lawful behind it.
+fn is_reset_right(room: &mut Room) -> bool {
+    if !room.may_reset() {
+        return false;
+    }
+    let three = room.reset() == 3;
+    three && !room.may_reset()
+}
+
+/// Whether a cycle may have these events, and makes this of the room.
+fn is_cycle_right(room: &mut Room, events: Emission, behind: Behind, next: Next) -> bool {
+    let (starts, ends, len) = events;
+    let (resets, allowance) = behind;
+    let (gates, used, permit) = next;
     if !room.fits(starts, ends) {
         return false;
     }
-    let emitted = room.emit(starts, ends) == len;
-    let drained = room.drain(Some(0)) == 0;
-    room.regrant();
-    let shown = room.gates() == gates && room.used() == used && !room.gate(1) == (gates < 2);
-    emitted && drained && shown
-}
-
-/// Whether a room drains by these bytes and then by the others, and is then as at first.
-fn is_drained(room: &mut Room) -> bool {
-    let part = room.drain(Some(5)) == 5;
-    let others = room.drain(None) == 7;
-    room.regrant();
-    part && others && room.gates() == 3 && room.used() == 0
-}
-
-// In cycle 0 a starts and completes, in cycle 1 both start and b completes, in cycle 2 a completes.
-const CYCLES: [Cycle; 3] = [(1, 1, 4, 3, 4), (3, 2, 5, 1, 9), (0, 1, 3, 0, 12)];
-
-fn are_gates_right(room: &mut Room) -> bool {
-    let mut right = room.gates() == 3 && room.used() == 0;
-    for cycle in &CYCLES {
-        right &= is_cycle_right(room, cycle);
+    let mut right = room.emit(starts, ends) == len;
+    if resets {
+        right &= is_reset_right(room);
     }
-    is_drained(room) && right
+    let _bytes = room.drain(Some(allowance));
+    room.regrant();
+    right &= room.gates() == gates && room.gate(1) == (gates & 2 == 2);
+    right && room.used() == used && room.may_reset() == permit
 }
 
-fn is_room_right(alloc: Global, channels: &Channels) -> bool
-    requires { IsTable channels.now }
-{
-    match Room::new(alloc, channels, 18) {
-        Ok(mut room) => are_gates_right(&mut room),
+fn are_cycles_right(room: &mut Room, cycles: &[(Emission, Behind, Next)]) -> bool {
+    let mut right = true;
+    for cycle in cycles {
+        let (events, behind, next) = *cycle;
+        right &= is_cycle_right(room, events, behind, next);
+    }
+    right
+}
+
+/// Whether a room of two channels of 8 bits each, all of whose gates are up at first, has these cycles.
+fn has_cycles(
+    alloc: Global,
+    resets: bool,
+    capacity: u32,
+    cycles: &[(Emission, Behind, Next)],
+) -> bool {
+    match room_of(alloc, 2, 8, resets, capacity) {
+        Ok(mut room) => {
+            let first = room.gates() == 3 && room.used() == 0 && room.may_reset() == resets;
+            are_cycles_right(&mut room, cycles) && first
+        }
         Err(_) => false,
     }
 }
 
-/// Whether a room of 14 bytes holds what these channels need, and one of 13 doesn't.
-fn is_need_right(alloc: Global, channels: &Channels) -> bool
-    requires { IsTable channels.now }
-{
-    match Room::new(alloc, channels, 13) {
-        Ok(_) => false,
-        Err(error) => {
-            let told = matches!(
-                error,
-                RoomError::TooSmall {
-                    need: 14,
-                    given: 13
-                }
-            );
-            told && Room::new(alloc, channels, 14).is_ok()
-        }
-    }
+// A head is 3 bytes long, and each of the two channels needs 2 * 3 + 1 = 7. In cycle 0 the first one, a, starts and completes, in cycle 1
+// both start and the other one, b, completes, in cycle 2 a completes: 4 + 7 + 7 = 18, 9 + 3 + 7 > 18, and 12 + 7 > 18. Then 5 bytes drain,
+// where 7 + 7 <= 18 and 7 + 7 + 7 > 18, and then the others.
+const STEPS: [(Emission, Behind, Next); 5] = [
+    ((1, 1, 4), (false, 0), (3, 4, false)),
+    ((3, 2, 5), (false, 0), (1, 9, false)),
+    ((0, 1, 3), (false, 0), (0, 12, false)),
+    ((0, 0, 0), (false, 5), (1, 7, false)),
+    ((0, 0, 0), (false, 7), (3, 0, false)),
+];
+
+// Behind cycle 1, in which a is in flight, and behind the three cycles after it the design is reset: 4 + 7 + 3 + 7 = 21. Then 9 + 3 + 3 <= 21
+// leaves the permit, and 12 + 3 + 7 > 21 no gate; 18 + 3 = 21 leaves it too, and 21 + 3 > 21 doesn't. After 4 bytes have drained 17 + 3 <= 21
+// and 17 + 3 + 7 > 21, after 7 more 10 + 3 + 7 <= 21 and 10 + 3 + 7 + 7 > 21, and then the others drain.
+const RESETS: [(Emission, Behind, Next); 8] = [
+    ((1, 1, 4), (false, 0), (3, 4, true)),
+    ((3, 2, 5), (true, 0), (0, 12, true)),
+    ((0, 0, 0), (true, 0), (0, 15, true)),
+    ((0, 0, 0), (true, 0), (0, 18, true)),
+    ((0, 0, 0), (true, 0), (0, 21, false)),
+    ((0, 0, 0), (false, 4), (0, 17, true)),
+    ((0, 0, 0), (false, 7), (1, 10, true)),
+    ((0, 0, 0), (false, 10), (3, 0, true)),
+];
+
+// With the least capacity: 7 + 7 + 3 = 17 leaves the permit behind the first reset, and 10 + 7 + 3 > 17 doesn't behind the second one.
+const WAITS: [(Emission, Behind, Next); 2] = [
+    ((1, 1, 4), (true, 0), (2, 7, true)),
+    ((0, 0, 0), (true, 0), (2, 10, false)),
+];
+
+// Gates go up while there is room.
+#[test]
+fn gates_follow_the_room(rt: HostRuntime) {
+    assert!(rt; has_cycles(rt.alloc(), false, 18, &STEPS));
 }
 
-// A channel a into the design and a channel b out of it, of one port of 8 bits each: a head is 3 bytes
-// long, and each channel needs 7.
-fn are_rooms_right(alloc: Global) -> bool {
-    match decoded(alloc, &PASS, &NO_SEND) {
-        Some(trace) => {
-            is_room_right(alloc, &trace.channels) && is_need_right(alloc, &trace.channels)
-        }
-        None => false,
-    }
+// The permit goes up before the gates, and a channel in flight loses its gate.
+#[test]
+fn permits_come_first(rt: HostRuntime) {
+    assert!(rt; has_cycles(rt.alloc(), true, 21, &RESETS));
+    assert!(rt; has_cycles(rt.alloc(), true, 17, &WAITS));
 }
 
-// Gates go up while there is room, and the capacity holds what all channels need.
 #[test]
 fn rooms_hold_what_channels_need(rt: HostRuntime) {
-    assert!(rt; are_rooms_right(rt.alloc()));
+    assert!(rt; is_need(rt.alloc(), 2, 8, false, 14));
+    assert!(rt; is_need(rt.alloc(), 2, 8, true, 17));
+}
+
+// The masks of 128 channels have 16 bytes each, so a head is 1 + 2 * 16 = 33 bytes long, and each channel needs 2 * 33 = 66: 8,448 bytes,
+// and 2,048 more where each has 16 bytes of content.
+#[test]
+fn many_channels_have_room(rt: HostRuntime) {
+    assert!(rt; is_need(rt.alloc(), 128, 0, false, 8448));
+    assert!(rt; is_need(rt.alloc(), 128, 0, true, 8451));
+    assert!(rt; is_need(rt.alloc(), 128, 128, false, 10496));
+}
+
+/// Whether all of 128 channels with 16 bytes of content each start and complete in one cycle, and so many gates go up behind it.
+fn is_full_cycle_right(alloc: Global) -> bool {
+    match room_of(alloc, 128, 128, false, 10496) {
+        Ok(mut room) => {
+            let events = (u128::MAX, u128::MAX, 2081);
+            room.gates() == u128::MAX
+                && is_cycle_right(&mut room, events, (false, 0), ((1 << 102) - 1, 2081, false))
+        }
+        Err(_) => false,
+    }
+}
+
+// The packet has 33 + 2,048 bytes. Behind it each gate takes 66 + 16 = 82: 2,081 + 102 * 82 = 10,445, and 82 more don't fit.
+#[test]
+fn many_channels_start(rt: HostRuntime) {
+    assert!(rt; is_full_cycle_right(rt.alloc()));
 }

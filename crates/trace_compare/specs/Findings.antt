@@ -4,7 +4,7 @@ use Rattle.std.specs.List.{flat_map, filter, zip, list_any, enumerate_from, rang
 use lib.Pointwise.{pointwise}
 use Rattle.vec_clock.specs.trace_model.declared.channel.Channel.{Channel}
 use Rattle.vec_clock.specs.trace_model.declared.event.Kind.{Kind}
-use Rattle.vec_clock.specs.trace_model.declared.event.Kind.TheVariants.{Start, End}
+use Rattle.vec_clock.specs.trace_model.declared.event.Kind.TheVariants.{Start, End, Reset}
 use Rattle.vec_clock.specs.trace_model.declared.packet.Packet.{Packet}
 use Rattle.vec_clock.specs.trace_model.declared.trace.Trace.{Trace}
 use Rattle.vec_clock.specs.trace_model.Clock.{clock}
@@ -18,14 +18,16 @@ use Rattle.trace_compare.specs.declared.report.What.TheVariants.{EarlyStart, Ear
 abbrev pub found : Bool → ℕ → What → ℕ → ℕ → List Finding
 found is_one c what index n = if is_one then record { channel = c; what = what; index = index; count = n } ∷ [] else []
 
--- ---- what only one has
+-- ---- what only one has (a finding is on a start or an end: the cases of a reset are never asked)
 abbrev pub missing : Kind → What
 missing Start = MissingStart
 missing End = MissingEnd
+missing Reset = MissingStart
 
 abbrev pub extra : Kind → What
 extra Start = ExtraStart
 extra End = ExtraEnd
+extra Reset = ExtraStart
 
 -- the first start, or end, of channel c that only a, or only b, has
 abbrev pub only_one : Kind → ℕ → List Packet → List Packet → List Finding
@@ -69,6 +71,7 @@ early_marks n kind c a b = map (is_early n a b) (in_both kind c a b)
 abbrev pub early : Kind → What
 early Start = EarlyStart
 early End = EarlyEnd
+early Reset = EarlyStart
 
 -- the first such start, or end, with the number of them
 abbrev pub early_ones : ℕ → Kind → ℕ → List Packet → List Packet → List Finding

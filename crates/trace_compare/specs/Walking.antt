@@ -5,6 +5,7 @@ use Rattle.vec_clock.specs.trace_model.declared.channel.Channel.{Channel}
 use Rattle.vec_clock.specs.trace_model.declared.event.Kind.{Kind}
 use Rattle.vec_clock.specs.trace_model.declared.packet.Packet.{Packet}
 use Rattle.vec_clock.specs.trace_model.Clock.{clock, Covers}
+use Rattle.vec_clock.specs.trace_model.Packet.{plain_packet}
 use Rattle.trace_compare.specs.declared.report.Finding.{Finding}
 use Rattle.trace_compare.specs.Findings.{events_from, differs, found, missing, extra, early, marked, first_marked}
 
@@ -24,7 +25,7 @@ pub record AreCovering (n : ℕ) (a b : List Packet) (covering : List ℕ) : Typ
 -- ---- the events of a channel at these places of two traces
 -- whether the contents of two starts are unequal
 abbrev pub no_packet : Packet
-no_packet = record { starts = 0; ends = 0; contents = [] }
+no_packet = plain_packet 0 0 []
 
 abbrev pub differing_at : List Channel → ℕ → List Packet → List Packet → List ℕ → List ℕ → List Bool
 differing_at channels c a b in_a in_b = map (λ (x : ℕ × ℕ). differs channels c

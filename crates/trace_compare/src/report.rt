@@ -44,7 +44,8 @@ pub(crate) fn missing(kind: Kind) -> What
     ensures { result ≡ missing kind }
 {
     match kind {
-        Kind::Start => What::MissingStart,
+        // It isn't asked of a reset, of which no channel has one.
+        Kind::Start | Kind::Reset => What::MissingStart,
         Kind::End => What::MissingEnd,
     }
 }
@@ -54,7 +55,8 @@ pub(crate) fn extra(kind: Kind) -> What
     ensures { result ≡ extra kind }
 {
     match kind {
-        Kind::Start => What::ExtraStart,
+        // It isn't asked of a reset.
+        Kind::Start | Kind::Reset => What::ExtraStart,
         Kind::End => What::ExtraEnd,
     }
 }
@@ -64,7 +66,8 @@ pub(crate) fn early(kind: Kind) -> What
     ensures { result ≡ early kind }
 {
     match kind {
-        Kind::Start => What::EarlyStart,
+        // It isn't asked of a reset.
+        Kind::Start | Kind::Reset => What::EarlyStart,
         Kind::End => What::EarlyEnd,
     }
 }

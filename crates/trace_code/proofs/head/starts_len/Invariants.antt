@@ -1,5 +1,5 @@
 use Rattle.std.proofs.Common.{◌≡◌, ◌+◌}
-use Rattle.trace_code.specs.Heads.{sizes_under}
+use Rattle.vec_clock.specs.trace_model.Length.{sizes_under}
 use Rattle.trace_code.proofs.head.starts_len.Given as goal
 
 abbrev pub invariant-starts : goal.invariant-starts

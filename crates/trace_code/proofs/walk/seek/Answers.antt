@@ -1,5 +1,5 @@
 use Rattle.std.proofs.Common.{◌≡◌, ℕ, ◌+◌, List, length, take, refl, subst, sym, ap, ◌∙◌, arith}
-use Rattle.vec_clock.specs.trace_model.Length.{mask_len}
+use Rattle.vec_clock.specs.trace_model.Length.{head_len}
 use Rattle.vec_clock.specs.trace_model.Packet.{count}
 use Rattle.trace_code.specs.Heads.{AreMasks}
 use Rattle.trace_code.specs.Standing.{IsAt}
@@ -17,7 +17,7 @@ turn_to-requires c =
     let p = c.requires.1 + inv.k in
     let now = inv.is t c.requires.1 c.requires.2 in
     let l = before-end t p c.is_end.result c.packets-test.true (c.is_end.ensures t p now) in
-    long-enough t p sizes c.packets.here.now clock (mask_len (length sizes)) now l refl
+    long-enough t p sizes c.packets.here.now clock (head_len (length sizes)) now l refl
 
 pub returns-then-has_event-clause-stands : goal.returns-then-has_event-clause-stands
 returns-then-has_event-clause-stands c t q at =

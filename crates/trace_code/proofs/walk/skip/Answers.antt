@@ -1,7 +1,6 @@
 use Rattle.std.proofs.Common.{◌∙◌, ap, arith, drop, length, refl, sym}
 use Rattle.std.proofs.lemmas.List.{length-drop}
-use Rattle.vec_clock.specs.trace_model.Length.{mask_len}
-use Rattle.trace_code.specs.Heads.{sizes_under}
+use Rattle.vec_clock.specs.trace_model.Length.{mask_len, sizes_under}
 use Rattle.trace_code.specs.Tallied.{tallied}
 use Rattle.trace_code.proofs.Masks.{behind-packet}
 use Rattle.trace_code.proofs.Tallying.{tallied-long}

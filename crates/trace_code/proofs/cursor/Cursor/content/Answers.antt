@@ -1,8 +1,8 @@
-use Rattle.std.proofs.Common.{ℕ, List, get_or, ◌≡◌, ◌+◌, ◌*◌, ◌≤◌, ◌<◌, length, take, drop, ap, sym, subst, ◌∙◌, All, sum_by}
+use Rattle.std.proofs.Common.{ℕ, List, get_or, ◌≡◌, ◌≤◌, ◌<◌, length, take, drop, ap, sym, subst, ◌∙◌, All, sum_by}
 use Rattle.vec_clock.specs.trace_model.declared.event.Kind.{Kind}
 use Rattle.vec_clock.specs.trace_model.declared.event.Kind.TheVariants.{Start}
 use Rattle.vec_clock.specs.trace_model.Channel.{byte_count}
-use Rattle.vec_clock.specs.trace_model.Length.{mask_len}
+use Rattle.vec_clock.specs.trace_model.Length.{head_len, mask_len}
 use Rattle.vec_clock.specs.trace_model.Packet.{count, does}
 use Rattle.vec_clock.proofs.trace_model_lemmas.CountingLemmas.{nth-below}
 use Rattle.trace_code.specs.PacketReading.{high_value}
@@ -20,8 +20,8 @@ split_at-requires c =
     let t = c.requires.stands.0 in
     let s = c.requires.stands.2.0 in
     let l = not-over t k.kind k.channel c.requires.stands.1 sizes k.rest.now clock s c.requires.stands.3 in
-    long-enough t s.place sizes k.rest.now clock c.mask_len.result s.at l
-    (c.mask_len.ensures ∙ ap mask_len c.channels.ensures)
+    long-enough t s.place sizes k.rest.now clock c.head_len.result s.at l
+    (c.head_len.ensures ∙ ap head_len c.channels.ensures)
 
 pub split_at-requires-2 : goal.split_at-requires-2
 split_at-requires-2 c =
@@ -32,8 +32,8 @@ split_at-requires-2 c =
     let s = c.requires.stands.2.0 in
     let a = at-start t k.kind k.channel c.requires.stands.1 sizes k.rest.now clock k.head.starts k.head.ends c.split_at.result.1.now s
     c.requires.start c.requires.stands.3
-    (c.split_at.ensures.back ∙ ap (λ n. drop (1 + 2 * n) k.rest.now)
-    (c.mask_len.ensures ∙ ap mask_len c.channels.ensures)
+    (c.split_at.ensures.back ∙ ap (λ n. drop n k.rest.now)
+    (c.head_len.ensures ∙ ap head_len c.channels.ensures)
     ∙ behind-head (mask_len (length sizes)) k.rest.now) in
     (below-within t k.channel c.requires.stands.1 sizes k.rest.now clock k.head.starts k.head.ends c.split_at.result.1.now c.args.self.now.below
     c.requires.stands.2.1.channel a c.requires.stands.2.1.at
@@ -76,8 +76,8 @@ number_of-requires-clause-long c =
     let s = c.requires.stands.2.0 in
     let a = at-start t k.kind k.channel c.requires.stands.1 sizes k.rest.now clock k.head.starts k.head.ends c.split_at.result.1.now s
     c.requires.start c.requires.stands.3
-    (c.split_at.ensures.back ∙ ap (λ n. drop (1 + 2 * n) k.rest.now)
-    (c.mask_len.ensures ∙ ap mask_len c.channels.ensures)
+    (c.split_at.ensures.back ∙ ap (λ n. drop n k.rest.now)
+    (c.head_len.ensures ∙ ap head_len c.channels.ensures)
     ∙ behind-head (mask_len (length sizes)) k.rest.now) in
     let b = (below-within t k.channel c.requires.stands.1 sizes k.rest.now clock k.head.starts k.head.ends c.split_at.result.1.now c.args.self.now.below
     c.requires.stands.2.1.channel a c.requires.stands.2.1.at
@@ -93,8 +93,8 @@ returns c t j p packet s is =
     let sizes = k.head.sizes.items in
     let a = at-start t k.kind k.channel j sizes k.rest.now clock k.head.starts k.head.ends c.split_at.result.1.now s.0 c.requires.start
     (subst (λ (i : Kind). j < count i k.channel t.packets) (sym c.requires.start) (nth-below (does Start k.channel) t.packets j p packet is))
-    (c.split_at.ensures.back ∙ ap (λ n. drop (1 + 2 * n) k.rest.now)
-    (c.mask_len.ensures ∙ ap mask_len c.channels.ensures)
+    (c.split_at.ensures.back ∙ ap (λ n. drop n k.rest.now)
+    (c.head_len.ensures ∙ ap head_len c.channels.ensures)
     ∙ behind-head (mask_len (length sizes)) k.rest.now) in
     let same : c.as_slice.result.now ≡ s.1.channel.widths = c.as_slice.ensures ∙ s.1.widths in
     c.number_of.ensures
