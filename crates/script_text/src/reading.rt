@@ -14,7 +14,7 @@ use crate::used::{blank_lines, number_in};
 use chan_map::Map;
 use chan_map::vidi_lines::{Line, each_line};
 use std::alloc::Global;
-use trace_model::{Channel, Channel, MOST_CYCLES};
+use trace_model::{Channel, MOST_CYCLES};
 
 /// Gathers what lines say, the first having this number.
 fn gathered(
