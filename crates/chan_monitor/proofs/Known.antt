@@ -154,7 +154,7 @@ known-mapped d m known = record {
 abbrev pub flying : ℕ → List Bool → Row
 flying n monitors =
     let up = mask_of (λ c. get_or monitors c false) n in
-    record { gates = up; valids = up; readies = mask_of (λ c. false) n; contents = []; starts = 0; ends = 0 }
+    record { fresh = false; gates = up; valids = up; readies = mask_of (λ c. false) n; contents = []; starts = 0; ends = 0 }
 
 flies : (b : Bool) → b ≡ ((b && b) && not ((b && b) && false))
 flies true = refl

@@ -44,15 +44,15 @@ first-some d m r pins before s e are init after =
     subst (λ (o : Option Reset). IsAfterReset d m o s) (sym e) (pins, are, (subst (λ u. IsAfter d pins r.cycles u s) init after))
 
 -- ---- a row by its parts
-pub row-is : (m : Map) (before : Option Row) (offers : Offers) (gates : ℕ) (out : List ℕ) (monitors : List Bool) (row : Row)
-    → AreMonitors (length m.channels) monitors before → row.gates ≡ gates
+pub row-is : (m : Map) (fresh : Bool) (before : Option Row) (offers : Offers) (gates : ℕ) (out : List ℕ) (monitors : List Bool) (row : Row)
+    → AreMonitors (length m.channels) monitors before → row.fresh ≡ fresh → row.gates ≡ gates
     → row.valids ≡ mask_of (valid_at m offers out) (length m.channels)
     → row.readies ≡ mask_of (ready_at m offers out) (length m.channels)
     → row.contents ≡ joined (content_here m offers out) 0 m.channels
     → row.starts ≡ mask_of (λ c. (has row.valids c && has row.gates c) && not (get_or monitors c false)) (length monitors)
     → row.ends ≡ ends_of (length monitors) row.valids row.gates row.readies
-    → row ≡ row_of m before offers gates out
-row-is m before offers gates out monitors row are g v r k s e =
+    → row ≡ row_of m fresh before offers gates out
+row-is m fresh before offers gates out monitors row are f g v r k s e =
     let n = length m.channels in
     let valids = mask_of (valid_at m offers out) n in
     let readies = mask_of (ready_at m offers out) n in
@@ -65,7 +65,7 @@ row-is m before offers gates out monitors row are g v r k s e =
     let ends : row.ends ≡ ends_of n valids gates readies =
     e ∙ ap (λ x. ends_of x row.valids row.gates row.readies) are.many ∙ ap (λ x. ends_of n x row.gates row.readies) v
     ∙ ap (λ x. ends_of n valids x row.readies) g ∙ ap (ends_of n valids gates) r in
-    λ i. record { gates = g i; valids = v i; readies = r i; contents = k i; starts = starts i; ends = ends i }
+    λ i. record { fresh = f i; gates = g i; valids = v i; readies = r i; contents = k i; starts = starts i; ends = ends i }
 
 -- ---- a cycle
 carries-on : (channels : List Channel) (offers : Offers) (gates c : ℕ) (x : Channel) (dir : Dir) → slice_get channels c ≡ Some x
@@ -84,15 +84,15 @@ pub record IsCycle (d : Design) (m : Map) (s : Values) (before : Option Row) (of
   pub shown : IsShown d m s before offers gates row
   pub driven : IsDriven d s pins v m (Some (handshakes row)) row
 
-cycle-is : (d : Design) (m : Map) (s : Values) (before : Option Row) (offers : Offers) (gates : ℕ) (pins : List ℕ) (v : Values) (row : Row)
+cycle-is : (d : Design) (m : Map) (s : Values) (fresh : Bool) (before : Option Row) (offers : Offers) (gates : ℕ) (pins : List ℕ) (v : Values) (row : Row)
     → IsMapped d m → AreOffers m.channels offers → AreZeroWhileDown m.channels offers → gates < 2 ^ length m.channels
-    → ArePins d m false (offered gates offers) pins → IsSettled d s pins v → row ≡ row_of m before offers gates (outputs d v)
+    → ArePins d m false (offered gates offers) pins → IsSettled d s pins v → row ≡ row_of m fresh before offers gates (outputs d v)
     → IsCycle d m s before offers gates pins v row
-cycle-is d m s before offers gates pins v row ready are zeros l entered settled is =
+cycle-is d m s fresh before offers gates pins v row ready are zeros l entered settled is =
     let out = outputs d v in
     let fits = fit-outputs d ready.nets v settled.keeps.fit in
-    let made = row_of m before offers gates out in
-    let carries = row-carries d m ready.mapped before offers are gates out fits in
+    let made = row_of m fresh before offers gates out in
+    let carries = row-carries d m ready.mapped fresh before offers are gates out fits in
     let agree : Agree m.channels (offered gates offers) made = carried m.channels offers (offered gates offers) made refl
     (offered-carries m.channels offers gates zeros) carries in
     let there : ArePins d m false made pins = record {
@@ -100,11 +100,11 @@ cycle-is d m s before offers gates pins v row ready are zeros l entered settled 
       numbers = subst (λ es. All (λ (e : PinNumber). get_or pins e.place 0 ≡ e.number) es)
           (entered-same m false (offered gates offers) made agree) entered.numbers;
     } in
-    let shows = row-shows d m ready.mapped before offers are gates out fits in
+    let shows = row-shows d m ready.mapped fresh before offers are gates out fits in
     subst (IsCycle d m s before offers gates pins v) (sym is) (record {
       shown = record {
-        over = row-over d m ready.mapped before offers are gates l out fits;
-        marked = row-marked m before offers gates out;
+        over = row-over d m ready.mapped fresh before offers are gates l out fits;
+        marked = row-marked m fresh before offers gates out;
         carries = carries;
         gates_are = refl;
         after = next d v s;
@@ -119,13 +119,13 @@ cycle-is d m s before offers gates pins v row ready are zeros l entered settled 
     })
 
 -- the same where the row is that of the outputs of an equal design
-pub cycle-in : (d e : Design) (m : Map) (s : Values) (before : Option Row) (offers : Offers) (gates : ℕ) (pins : List ℕ) (v : Values)
+pub cycle-in : (d e : Design) (m : Map) (s : Values) (fresh : Bool) (before : Option Row) (offers : Offers) (gates : ℕ) (pins : List ℕ) (v : Values)
     (row : Row) → e ≡ d → IsMapped d m → AreOffers m.channels offers → AreZeroWhileDown m.channels offers → gates < 2 ^ length m.channels
-    → ArePins d m false (offered gates offers) pins → IsSettled d s pins v → row ≡ row_of m before offers gates (outputs e v)
+    → ArePins d m false (offered gates offers) pins → IsSettled d s pins v → row ≡ row_of m fresh before offers gates (outputs e v)
     → IsCycle d m s before offers gates pins v row
-cycle-in d e m s before offers gates pins v row same ready are zeros l entered settled is =
-    cycle-is d m s before offers gates pins v row ready are zeros l entered settled
-    (is ∙ ap (λ f. row_of m before offers gates (outputs f v)) same)
+cycle-in d e m s fresh before offers gates pins v row same ready are zeros l entered settled is =
+    cycle-is d m s fresh before offers gates pins v row ready are zeros l entered settled
+    (is ∙ ap (λ f. row_of m fresh before offers gates (outputs f v)) same)
 
 -- the same for a design and a state that are equal
 pub cycle-of : (d e : Design) (m : Map) (s t : Values) (before : Option Row) (offers : Offers) (gates : ℕ) (pins : List ℕ) (v : Values)

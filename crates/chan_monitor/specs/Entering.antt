@@ -1,5 +1,5 @@
 -- Numbers that are entered at the input pins, one after the other.
-use Rattle.std.specs.Prelude.{◌≡◌, ℕ, ◌+◌, ◌<◌, Bool, List, [], ◌∷◌, ◌++◌, Some, All, length, map, slice_get, slice_set}
+use Rattle.std.specs.Prelude.{◌≡◌, ℕ, ◌+◌, ◌<◌, Bool, false, List, [], ◌∷◌, ◌++◌, Some, All, length, map, slice_get, slice_set}
 use Rattle.std.specs.List.{enumerate_from}
 use Rattle.std.specs.Option.{option_to_list}
 use Rattle.run_model.specs.vidi_bits.Number.{truth}
@@ -37,6 +37,7 @@ held_inputs m resets = map (reset_input resets) (option_to_list m.reset) ++ map 
 -- offers and gates as a row, before the design shows its part
 abbrev pub offered : ℕ → Offers → Row
 offered gates offers = record {
+  fresh = false;
   gates = gates;
   valids = offers.valids;
   readies = offers.readies;

@@ -181,7 +181,8 @@ pub(crate) fn show<B: Block>(
     requires zeros { AreZeroWhileDown map.now.channels offers.now }
     requires places { HasPlaces map.now.channels row.old }
     ensures row { (before : Option OneRow) → AreMonitors (length map.now.channels) monitors.now before
-        → row.new ≡ row_of map.now before offers.now gates (outputs (B.design block.now) (B.shown block.now)) }
+        → row.new ≡ row_of map.now row.old.fresh before offers.now gates (outputs (B.design block.now) (B.shown block.now)) }
+    ensures fresh { row.new.fresh ≡ row.old.fresh }
     ensures masks { result ≡ handshakes row.new }
 {
     let channels = map.channels.as_slice();

@@ -40,6 +40,7 @@ pub trait Shell {
 
     /// Settles everything for these offers and gates, and fills the row: it is the row of *IsRun*. Bit c of a mask is channel
     /// c. An inward channel's content is 0 while its valid is down; an outward channel's numbers in the offers are passed over.
+    /// Whether the row is fresh is the caller's to say, and stays.
     /// The row has a place for each port's number, as `row_over` makes it.
     fn drive(&mut self, offers: &Offers, gates: u128, row: &mut Row)
         requires offers { AreOffers (map self.old).channels offers.now }
@@ -48,6 +49,7 @@ pub trait Shell {
         requires places { HasPlaces (map self.old).channels row.old }
         ensures row { (d : Design) (s : Values) (before : Option Row) → runs self.old d s before
             → IsShown d (map self.old) s before offers.now gates row.new }
+        ensures fresh { row.new.fresh ≡ row.old.fresh }
         ensures runs { (d : Design) (s : Values) (before : Option Row) → runs self.old d s before → runs self.new d s before }
         ensures driven { driven self.new row.new }
         ensures map { map self.new ≡ map self.old }

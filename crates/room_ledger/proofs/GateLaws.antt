@@ -10,8 +10,8 @@ use Rattle.trace_model.specs.declared.row.Row.{Row}
 use Rattle.trace_model.specs.Length.{head_len}
 use Rattle.trace_model.specs.Row.{is_in_flight}
 use Rattle.trace_model.specs.Mask.{all_up}
-use Rattle.room_ledger.specs.Reservation.{whole, need, least, reserved, raised_below, permit_room, AreRaised}
-use Rattle.room_ledger.specs.Gates.{Plan, fresh_at, used_at, permit_at, charged_at, keeps, kept_room, AreGates}
+use Rattle.room_ledger.specs.Reservation.{whole, need, least, reserved, raised_below, reset_len, permit_room, AreRaised}
+use Rattle.room_ledger.specs.Gates.{Plan, left, row_len, fresh_at, used_at, permit_at, charged_at, keeps, kept_room, AreGates}
 use Rattle.room_ledger.specs.Laws.{EverythingDrains}
 use Rattle.room_ledger.proofs.Masks.{has-all, has-all_above, same-masks}
 use Rattle.trace_model.proofs.LengthLemmas.{total-same}
@@ -90,6 +90,27 @@ pub none-left : (sizes : List ℕ) (plan : Plan) (rows : List Row) → Everythin
     → used_at sizes plan rows t (fresh_at plan rows t) ≡ 0
 none-left sizes plan rows drains zero = refl
 none-left sizes plan rows drains (suc t) = drains t
+
+-- without a reset no more waits than with one
+left-least : (allowance : Option ℕ) (some more : ℕ) → some ≤ more → left allowance some ≤ left allowance more
+left-least None some more l = omega (arith, l)
+left-least (Some n) some more l = omega (arith, l)
+
+used-least : (sizes : List ℕ) (plan : Plan) (rows : List Row) (t : ℕ) (fresh : Bool)
+    → used_at sizes plan rows t false ≤ used_at sizes plan rows t fresh
+used-least sizes plan rows zero fresh = omega arith
+used-least sizes plan rows (suc t) false = omega arith
+used-least sizes plan rows (suc t) true =
+    let used = used_at sizes plan rows t (fresh_at plan rows t) in
+    let len = row_len sizes (slice_get rows t) in
+    left-least (plan.allowance t) (used + len) (used + (len + reset_len)) (omega arith)
+
+pub none-waits : (sizes : List ℕ) (plan : Plan) (rows : List Row) → EverythingDrains sizes plan rows → (t : ℕ)
+    → used_at sizes plan rows t false ≡ 0
+none-waits sizes plan rows drains t =
+    let less = used-least sizes plan rows t (fresh_at plan rows t) in
+    let none = none-left sizes plan rows drains t in
+    omega (arith, less, none)
 
 no-more : (sizes : List ℕ) (plan : Plan) (rows : List Row) (t : ℕ) (fresh : Bool) (gates : ℕ) → AreGates sizes plan rows t fresh gates
     → (c : ℕ) → length sizes ≤ c → has gates c ≡ false

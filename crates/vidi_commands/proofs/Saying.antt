@@ -30,30 +30,29 @@ not_writing words files F text left (inl (none, said, same)) = let e : WriteFaul
 not_writing words files F text left (inr (inl (said, same))) = let e : WriteFault ≡ Memory = said.0 in cc
 not_writing words files F text left (inr (inr (c, given, d))) = does-writing c files F text left d
 
-answered : (E : Status → List ℕ → Option Files → Type 0) (S : Option Files → Type 0) (W : Type 0) (old new : Option (List ℕ))
+answered : (E : Status → List ℕ → Option Files → Type 0) (S : Option Files → Type 0) (W V : Type 0) (old new : Option (List ℕ))
     (left : Option Files) (status : Status) (text : List ℕ)
-    → E status text left → status ≢ WriteFault → new ≡ append_known old text → Answers E S W old new left status
-answered E S W old new left Done text earned other told = (text, earned, told)
-answered E S W old new left Usage text earned other told = (text, earned, told)
-answered E S W old new left (ReadFault word) text earned other told = (text, earned, told)
-answered E S W old new left WriteFault text earned other told = absurd (other refl)
-answered E S W old new left (Refused word reason) text earned other told = (text, earned, told)
-answered E S W old new left (Unstable channel cycle) text earned other told = (text, earned, told)
-answered E S W old new left (Short helds events) text earned other told = (text, earned, told)
-answered E S W old new left Diverged text earned other told = (text, earned, told)
-answered E S W old new left Memory text earned other told = (text, earned, told)
+    → E status text left → status ≢ WriteFault → new ≡ append_known old text → Answers E S W V old new left status
+answered E S W V old new left Done text earned other told = (text, earned, told)
+answered E S W V old new left Usage text earned other told = (text, earned, told)
+answered E S W V old new left (ReadFault word) text earned other told = (text, earned, told)
+answered E S W V old new left WriteFault text earned other told = absurd (other refl)
+answered E S W V old new left (Refused word reason) text earned other told = (text, earned, told)
+answered E S W V old new left (Unstable channel cycle) text earned other told = (text, earned, told)
+answered E S W V old new left (Short helds events) text earned other told = (text, earned, told)
+answered E S W V old new left Diverged text earned other told = (text, earned, told)
+answered E S W V old new left Memory text earned other told = (text, earned, told)
 
 pub said : (words : List (List ℕ)) (files : Option Files) (F : List ℕ → Type 0) (S : Option Files → Type 0) (W V : Type 0)
     (old new : Option (List ℕ)) (left : Option Files) (status : Status) (text : List ℕ) (result : Status)
-    → Earns words files F status text left → (V → W) → Says status text V old new result
-    → Answers (Earns words files F) S W old new left result
-said words files F S W V old new left status text result earned why (inl (same, told)) =
+    → Earns words files F status text left → Says status text V old new result → Answers (Earns words files F) S W V old new left result
+said words files F S W V old new left status text result earned (inl (same, told)) =
     let other : status ≢ WriteFault = λ e. not_writing words files F text left
     (subst (λ (s : Status). Earns words files F s text left) e earned) in
-    subst (λ (s : Status). Answers (Earns words files F) S W old new left s) (sym same)
-    (answered (Earns words files F) S W old new left status text earned other told)
-said words files F S W V old new left status text result earned why (inr (fault, failed, some)) =
-    subst (λ (s : Status). Answers (Earns words files F) S W old new left s) (sym fault) (why failed, inl (status, text, earned, some))
+    subst (λ (s : Status). Answers (Earns words files F) S W V old new left s) (sym same)
+    (answered (Earns words files F) S W V old new left status text earned other told)
+said words files F S W V old new left status text result earned (inr (fault, failed, some)) =
+    subst (λ (s : Status). Answers (Earns words files F) S W V old new left s) (sym fault) (inl (failed, status, text, earned, some))
 
 quiet_does : (c : Command) (files : Option Files) (F : List ℕ → Type 0) (status : Status) (text : List ℕ) (left : Option Files)
     → ((name : List ℕ) → ¬ F name) → Does c files F status text left → Does c files (λ _. ⊥) status text left
@@ -80,20 +79,21 @@ quiet_earns words files F status text left quiet (inr (inr (c, given, d))) =
     inr (inr (c, given, quiet_does c files F status text left quiet d))
 
 -- where nothing failed, the answer is that of a call in which nothing fails
-pub quietly : (words : List (List ℕ)) (files : Option Files) (F : List ℕ → Type 0) (S : Option Files → Type 0) (W : Type 0)
-    (old new : Option (List ℕ)) (left : Option Files) (status : Status) → ((name : List ℕ) → ¬ F name) → ¬ W
-    → Answers (Earns words files F) S W old new left status → Answers (Earns words files (λ _. ⊥)) (λ _. ⊥) ⊥ old new left status
-quietly words files F S W old new left Done quiet kept (text, e, told) = (text, quiet_earns words files F Done text left quiet e, told)
-quietly words files F S W old new left Usage quiet kept (text, e, told) = (text, quiet_earns words files F Usage text left quiet e, told)
-quietly words files F S W old new left (ReadFault word) quiet kept (text, e, told)
+pub quietly : (words : List (List ℕ)) (files : Option Files) (F : List ℕ → Type 0) (S : Option Files → Type 0) (W V : Type 0)
+    (old new : Option (List ℕ)) (left : Option Files) (status : Status) → ((name : List ℕ) → ¬ F name) → ¬ W → ¬ V
+    → Answers (Earns words files F) S W V old new left status → Answers (Earns words files (λ _. ⊥)) (λ _. ⊥) ⊥ ⊥ old new left status
+quietly words files F S W V old new left Done quiet kept heard (text, e, told) = (text, quiet_earns words files F Done text left quiet e, told)
+quietly words files F S W V old new left Usage quiet kept heard (text, e, told) = (text, quiet_earns words files F Usage text left quiet e, told)
+quietly words files F S W V old new left (ReadFault word) quiet kept heard (text, e, told)
     = (text, quiet_earns words files F (ReadFault word) text left quiet e, told)
-quietly words files F S W old new left WriteFault quiet kept (failed, _) = absurd (kept failed)
-quietly words files F S W old new left (Refused word reason) quiet kept (text, e, told)
+quietly words files F S W V old new left WriteFault quiet kept heard (inl (failed, _)) = absurd (heard failed)
+quietly words files F S W V old new left WriteFault quiet kept heard (inr (failed, _)) = absurd (kept failed)
+quietly words files F S W V old new left (Refused word reason) quiet kept heard (text, e, told)
     = (text, quiet_earns words files F (Refused word reason) text left quiet e, told)
-quietly words files F S W old new left (Unstable channel cycle) quiet kept (text, e, told)
+quietly words files F S W V old new left (Unstable channel cycle) quiet kept heard (text, e, told)
     = (text, quiet_earns words files F (Unstable channel cycle) text left quiet e, told)
-quietly words files F S W old new left (Short helds events) quiet kept (text, e, told)
+quietly words files F S W V old new left (Short helds events) quiet kept heard (text, e, told)
     = (text, quiet_earns words files F (Short helds events) text left quiet e, told)
-quietly words files F S W old new left Diverged quiet kept (text, e, told)
+quietly words files F S W V old new left Diverged quiet kept heard (text, e, told)
     = (text, quiet_earns words files F Diverged text left quiet e, told)
-quietly words files F S W old new left Memory quiet kept (text, e, told) = (text, quiet_earns words files F Memory text left quiet e, told)
+quietly words files F S W V old new left Memory quiet kept heard (text, e, told) = (text, quiet_earns words files F Memory text left quiet e, told)

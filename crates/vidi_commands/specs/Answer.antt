@@ -54,11 +54,13 @@ abbrev pub IsBroken : (Status → List ℕ → Option Files → Type 0) → Opti
 IsBroken Earned old new left = (status : Status) × (text : List ℕ) × Earned status text left × AppendsSome old new text
 
 -- What a call answers, what the sink tells before and after, and the files that are left. An answer is earned and its whole text was
--- said. After `WriteFault`, which only a failed write causes, the text broke off, or a file's writing did and nothing was said.
-abbrev pub Answers : (Status → List ℕ → Option Files → Type 0) → (Option Files → Type 0) → Type 0 → Option (List ℕ) → Option (List ℕ)
-    → Option Files → Status → Type 0
-Answers Earned Stopped WriteFailed old new left WriteFault = WriteFailed × (IsBroken Earned old new left ⊎ (Stopped left × (new ≡ old)))
-Answers Earned Stopped WriteFailed old new left status = (text : List ℕ) × Earned status text left × (new ≡ append_known old text)
+-- said. `WriteFault` has one of two causes: a push to the sink failed, and the text of an answer that was earned broke off; or a write of
+-- the shelf failed, the writing of the command's file stopped, and nothing was said.
+abbrev pub Answers : (Status → List ℕ → Option Files → Type 0) → (Option Files → Type 0) → Type 0 → Type 0 → Option (List ℕ)
+    → Option (List ℕ) → Option Files → Status → Type 0
+Answers Earned Stopped ShelfFailed SinkFailed old new left WriteFault =
+    (SinkFailed × IsBroken Earned old new left) ⊎ (ShelfFailed × Stopped left × (new ≡ old))
+Answers Earned Stopped ShelfFailed SinkFailed old new left status = (text : List ℕ) × Earned status text left × (new ≡ append_known old text)
 
 -- A status was said with its text, or a write failed in the middle of the text.
 abbrev pub Says : Status → List ℕ → Type 0 → Option (List ℕ) → Option (List ℕ) → Status → Type 0

@@ -1,6 +1,6 @@
 //! The one public call.
 
-ghost use Rattle.std.specs.Prelude.{◌≡◌, ℕ, ◌≤◌, ◌⊎◌, List};
+ghost use Rattle.std.specs.Prelude.{◌≡◌, ℕ, ◌≤◌, List};
 ghost use Rattle.wrap_command.specs.vidi_io.Cause.{Rose};
 ghost use Rattle.wrap_command.specs.vidi_io.Shelf.{Later};
 ghost use Rattle.wrap_command.specs.vidi_io.Sink.{Frame};
@@ -35,20 +35,21 @@ use wrap_command::wrap;
 ///
 /// The clause `answers` has the cause of each answer: `Usage` where the words give no command, else
 /// what the command owes for the files that the shelf tells, with the files that are left. Reads and writes that
-/// fail are answered only where a count of faults rose. Want of memory alone is free.
+/// fail are answered only where a count of faults rose: `WriteFault` is a failed push to `out`, with a front of the
+/// text said, or a failed write of the shelf, with a file's writing stopped. Want of memory alone is free.
 pub fn vidi<S: Shelf, O: Sink>(alloc: Global, words: &Words, shelf: &mut S, out: &mut O) -> Status
     // Each answer with its cause, and what was said.
     ensures answers { Answers
         (Earns words.now (S.files shelf.old) (λ name. Rose (S.read_faults shelf.old name) (S.read_faults shelf.new name)))
         (Stops words.now (S.files shelf.old) (S.starts shelf.new ≡ S.starts shelf.old))
-        (Rose (S.write_faults shelf.old) (S.write_faults shelf.new) ⊎ Rose (O.faults out.old) (O.faults out.new))
+        (Rose (S.write_faults shelf.old) (S.write_faults shelf.new)) (Rose (O.faults out.old) (O.faults out.new))
         (O.told out.old) (O.told out.new) (S.files shelf.new) result }
 
     // Where no count rose, the answer is that of a call in which nothing fails.
     ensures complete { ((name : List ℕ) → ¬ Rose (S.read_faults shelf.old name) (S.read_faults shelf.new name))
         → ¬ Rose (S.write_faults shelf.old) (S.write_faults shelf.new)
         → ¬ Rose (O.faults out.old) (O.faults out.new)
-        → Answers (Earns words.now (S.files shelf.old) (λ name. ⊥)) (λ left. ⊥) ⊥ (O.told out.old) (O.told out.new)
+        → Answers (Earns words.now (S.files shelf.old) (λ name. ⊥)) (λ left. ⊥) ⊥ ⊥ (O.told out.old) (O.told out.new)
         (S.files shelf.new) result }
 
     // What every answer leaves.

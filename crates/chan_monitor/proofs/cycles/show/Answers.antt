@@ -23,6 +23,6 @@ returns-clause-row g c before are =
     let k = rw (c.as_slice-channels.ensures, c.as_slice-plugs.ensures) at c.fill.ensures in
     let long = c.fill.auto.contents in
     let filled = refill-is c.args.row.now.contents c.fill.new.contents (rw c.as_mut_slice.ensures.value at long) in
-    row-is c.args.map.now before c.args.offers.now c.args.gates
-    (outputs (g.B.Block.design c.args.block.now) (g.B.Block.shown c.args.block.now)) c.args.monitors.now _ are refl v r (filled ∙ k)
+    row-is c.args.map.now c.args.row.now.fresh before c.args.offers.now c.args.gates
+    (outputs (g.B.Block.design c.args.block.now) (g.B.Block.shown c.args.block.now)) c.args.monitors.now _ are refl refl v r (filled ∙ k)
     c.marks_of-marks.ensures.starts c.marks_of-marks.ensures.ends

@@ -7,13 +7,13 @@ use Rattle.vidi_commands.proofs.top.vidi.Goals as goal
 pub returns-in-Ok-clause-answers : goal.returns-in-Ok-clause-answers
 returns-in-Ok-clause-answers g c =
     said _ _ _ (Stops c.args.words.now (g.S.Shelf.files c.args.shelf.now) _) _ _ _ _ _ c.in-Ok.answer.status
-    (text_of c.in-Ok.answer.text) c.say.result c.in-Ok.ensures.owed (λ failed. inr failed) c.say.ensures.said
+    (text_of c.in-Ok.answer.text) c.say.result c.in-Ok.ensures.owed c.say.ensures.said
 
 pub returns-in-Err-Refused-clause-answers : goal.returns-in-Err-Refused-clause-answers
 returns-in-Err-Refused-clause-answers g c =
     let earned = rw c.in-Err-Refused.field-0-is at c.in-Err-Refused.ensures.owed in
     said _ _ _ (Stops c.args.words.now (g.S.Shelf.files c.args.shelf.now) _) _ _ _ _ _ c.in-Err-Refused.answer.status
-    (text_of c.in-Err-Refused.answer.text) c.say-in-Err-Refused.result earned (λ failed. inr failed) c.say-in-Err-Refused.ensures.said
+    (text_of c.in-Err-Refused.answer.text) c.say-in-Err-Refused.result earned c.say-in-Err-Refused.ensures.said
 
 pub returns-in-Err-Memory-clause-answers : goal.returns-in-Err-Memory-clause-answers
 returns-in-Err-Memory-clause-answers g c =
@@ -23,18 +23,15 @@ returns-in-Err-Memory-clause-answers g c =
 
 pub returns-in-Ok-clause-complete : goal.returns-in-Ok-clause-complete
 returns-in-Ok-clause-complete g c = λ reads writes pushes.
-    quietly _ _ _ (Stops c.args.words.now (g.S.Shelf.files c.args.shelf.now) _) _ _ _ _ c.say.result reads
-    (λ failed. elim failed [ inl shelf ↦ writes shelf | inr sink ↦ pushes sink ])
+    quietly _ _ _ (Stops c.args.words.now (g.S.Shelf.files c.args.shelf.now) _) _ _ _ _ _ c.say.result reads writes pushes
     (returns-in-Ok-clause-answers g c)
 
 pub returns-in-Err-Refused-clause-complete : goal.returns-in-Err-Refused-clause-complete
 returns-in-Err-Refused-clause-complete g c = λ reads writes pushes.
-    quietly _ _ _ (Stops c.args.words.now (g.S.Shelf.files c.args.shelf.now) _) _ _ _ _ c.say-in-Err-Refused.result reads
-    (λ failed. elim failed [ inl shelf ↦ writes shelf | inr sink ↦ pushes sink ])
+    quietly _ _ _ (Stops c.args.words.now (g.S.Shelf.files c.args.shelf.now) _) _ _ _ _ _ c.say-in-Err-Refused.result reads writes pushes
     (returns-in-Err-Refused-clause-answers g c)
 
 pub returns-in-Err-Memory-clause-complete : goal.returns-in-Err-Memory-clause-complete
 returns-in-Err-Memory-clause-complete g c = λ reads writes pushes.
-    quietly _ _ _ (Stops c.args.words.now (g.S.Shelf.files c.args.shelf.now) _) _ _ _ _ c.say_memory.result reads
-    (λ failed. elim failed [ inl shelf ↦ writes shelf | inr sink ↦ pushes sink ])
+    quietly _ _ _ (Stops c.args.words.now (g.S.Shelf.files c.args.shelf.now) _) _ _ _ _ _ c.say_memory.result reads writes pushes
     (returns-in-Err-Memory-clause-answers g c)

@@ -59,7 +59,7 @@ returns-clause-row g c d s before is =
     (cycle-of (g.B.Block.design c.args.self.now.block) d m (g.B.Block.state c.args.self.now.block) s before c.args.offers.now c.args.gates
     c.settle_offers.new.pins v c.show.new.row is.design_is is.state_is
     (cycle-in (g.B.Block.design c.args.self.now.block) (g.B.Block.design c.settle_offers.new.block) m
-    (g.B.Block.state c.args.self.now.block) before c.args.offers.now c.args.gates
+    (g.B.Block.state c.args.self.now.block) c.args.row.now.fresh before c.args.offers.now c.args.gates
     c.settle_offers.new.pins v c.show.new.row c.settle_offers.ensures.design (ready-of
     (g.B.Block.design c.args.self.now.block) d m is.design_is is.ready)
     c.requires.offers c.requires.zeros c.requires.gates c.settle_offers.ensures.entered c.settle_offers.ensures.settled
@@ -85,7 +85,7 @@ returns-clause-driven g c =
     c.settle_offers.new.pins (g.B.Block.inputs c.settle_offers.new.block) v m _ (Some c.show.result) c.show.new.row
     c.settle_offers.ensures.design c.settle_offers.ensures.state c.settle_offers.ensures.inputs (ap Some c.show.ensures.masks)
     (cycle-in d (g.B.Block.design c.settle_offers.new.block) m
-    (g.B.Block.state s.block) before c.args.offers.now c.args.gates
+    (g.B.Block.state s.block) c.args.row.now.fresh before c.args.offers.now c.args.gates
     c.settle_offers.new.pins v c.show.new.row c.settle_offers.ensures.design
     (known-ready d (g.B.Block.state s.block) m s.pins s.monitors s.running)
     c.requires.offers c.requires.zeros c.requires.gates c.settle_offers.ensures.entered c.settle_offers.ensures.settled
