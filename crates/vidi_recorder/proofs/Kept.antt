@@ -1,8 +1,7 @@
 -- What the trace of a run holds, and what a plan that drains everything makes of a run.
-use Rattle.std.proofs.Common.{◌≡◌, ℕ, suc, ◌+◌, ◌<◌, ◌≤◌, ◌&&◌, Bool, true, false, not, cond, List, [], ◌∷◌, ◌++◌, Option}
+use Rattle.std.proofs.Common.{◌≡◌, ℕ, suc, ◌+◌, ◌<◌, ◌≤◌, Bool, true, false, not, cond, List, [], ◌∷◌, ◌++◌}
 use Rattle.std.proofs.Common.{Some, None, length, take, drop, map, slice_get, count_by, refl, ap, sym, subst, ◌∙◌, arith, ⊎_elim, add-one}
 use Rattle.std.specs.List.{filter}
-use Rattle.std.proofs.Math.Bool.{and-false}
 use Rattle.std.proofs.lemmas.Bool.{cases_Bool, and_from}
 use Rattle.std.proofs.lemmas.List.{take-append-drop, length-take-le, length-map, length_push}
 use Rattle.std.proofs.lemmas.Option.{slice_get_within, same_Some}
@@ -14,17 +13,16 @@ use Rattle.trace_code.specs.trace_model.declared.row.Row.{Row}
 use Rattle.trace_code.specs.trace_model.Channel.{content_bytes}
 use Rattle.trace_code.specs.trace_model.Recording.{has_event, packet_of, packets_of, row_does}
 use Rattle.trace_code.specs.trace_model.Row.{completes, is_in_flight}
-use Rattle.trace_code.proofs.trace_model_lemmas.CountingLemmas.{count-cons, slice_get-append_left, slice_get-last}
+use Rattle.trace_code.proofs.trace_model_lemmas.CountingLemmas.{count-cons, slice_get-last}
 use Rattle.trace_code.proofs.trace_model_lemmas.RowLaws.{recorded-once, same-counts}
 use Rattle.env_script.specs.run_model.Played.{all_up}
 use Rattle.env_script.specs.run_model.Run.{AllUp, IsRun}
 use Rattle.env_script.proofs.run_model_lemmas.Contents.{has-all, same-masks_below}
 use Rattle.env_script.proofs.run_model_lemmas.RunLaws.{StayUp, run-keeps, kept}
-use Rattle.room_ledger.specs.Gates.{Plan, charged_at, fresh_at, is_fresh, keeps, used_at, AreGates}
-use Rattle.room_ledger.specs.Laws.{EverythingDrains}
+use Rattle.room_ledger.specs.Gates.{Plan, charged_at, keeps, used_at, AreGates}
 use Rattle.room_ledger.specs.Reservation.{least, AreRaised}
 use Rattle.room_ledger.proofs.Following.{used-front}
-use Rattle.room_ledger.proofs.GateLaws.{down-waits, some-row, none-left}
+use Rattle.room_ledger.proofs.GateLaws.{down-waits, none-waits, some-row}
 use Rattle.env_script.proofs.Lasting.{offers-stay}
 use Rattle.vidi_recorder.specs.Course.{Course, course, sizes_of, GatesUnder, IsRunOf}
 use Rattle.vidi_recorder.specs.Laws.{TheRunIsKept, NoHiddenGate, DrainedRunIsPlain}
@@ -123,29 +121,17 @@ plain w rows fits run none = record {
         absurd (omega (arith, some, zero-used)))
         (cases_Bool (has row.gates c)))
 
--- where no row is fresh
-none-used : (sizes : List ℕ) (plan : Plan) (rows : List Row) → ((t : ℕ) (row : Row) → slice_get rows t ≡ Some row → row.fresh ≡ false)
-    → EverythingDrains sizes plan rows → (t : ℕ) → used_at sizes plan rows t false ≡ 0
-none-used sizes plan rows none drains t =
-    ap (used_at sizes plan rows t) (sym (by (slice_get rows t) refl)) ∙ none-left sizes plan rows drains t
-  where
-    by : (o : Option Row) → slice_get rows t ≡ o → fresh_at plan rows t ≡ false
-    by None at = ap (λ o. plan.resets && is_fresh o) at ∙ and-false plan.resets
-    by (Some row) at = ap (λ o. plan.resets && is_fresh o) at ∙ ap (λ b. plan.resets && b) (none t row at) ∙ and-false plan.resets
-
 pub drained-plain : DrainedRunIsPlain
 drained-plain w rows None fits drains (run, stable, e) =
-    let used = none-used (sizes_of w.bound.channels) w.plan rows (λ t row at. (run.ruled t row at).2) drains in
-    (plain w rows fits run (λ t l. used t), stable, e)
+    (plain w rows fits run (λ t l. none-waits (sizes_of w.bound.channels) w.plan rows drains t), stable, e)
 drained-plain w rows (Some c) fits drains (stops, l) =
     let sizes = sizes_of w.bound.channels in
-    let long = length_push rows stops.next in
-    let used = none-used sizes w.plan rows (λ t row at.
-    (stops.played.ruled t row (slice_get-append_left rows (stops.next ∷ []) t (slice_get_within rows t row at) ∙ at)).2) drains in (
+    let long = length_push rows stops.next in (
       record {
         next = stops.next;
         played = plain w (rows ++ stops.next ∷ []) fits stops.played
-            (λ t k. used-front sizes w.plan rows (stops.next ∷ []) t false (omega (arith, k, long)) ∙ used t);
+            (λ t k. used-front sizes w.plan rows (stops.next ∷ []) t false (omega (arith, k, long))
+            ∙ none-waits sizes w.plan rows drains t);
         stable = stops.stable;
         unstable = stops.unstable;
       },
