@@ -7,7 +7,7 @@ use Rattle.script_text.specs.Offer.{Offer}
 use Rattle.script_text.proofs.Kept.{all_fit, stays_on}
 use Rattle.env_script.specs.Laws.{LastingOffers, ScriptLasts}
 use Rattle.env_script.specs.Offered.{offers_after, AreLasting}
-use Rattle.env_script.proofs.OfferLaws.{are-offers, stays-offered}
+use Rattle.env_script.proofs.OfferLaws.{are-offers, carries-each, stays-offered}
 
 pub offers-fit : (channels : List Channel) (offer : List Row → ℕ → Offer) → AreLasting channels offer
     → OffersFit channels (offers_after channels offer)
@@ -17,7 +17,7 @@ pub offers-stay : (channels : List Channel) (offer : List Row → ℕ → Offer)
     → OffersStay channels (offers_after channels offer)
 offers-stay channels offer lasting before row are carries c x at dir up unended =
     stays-offered channels (offer before) (offer (before ++ row ∷ [])) (lasting.fits before) (lasting.fits (before ++ row ∷ [])) c x at up
-    (λ was. lasting.stays before row c was unended)
+    (λ was. lasting.stays before row c (carries-each channels (offer before) (lasting.fits before) row carries) was unended)
 
 pub lasting-offers : LastingOffers
 lasting-offers channels offer lasting = (offers-fit channels offer lasting, offers-stay channels offer lasting)
@@ -25,5 +25,5 @@ lasting-offers channels offer lasting = (offers-fit channels offer lasting, offe
 pub script-lasts : ScriptLasts
 script-lasts channels script fits = record {
   fits = λ rows c x at. all_fit channels script rows c x fits at;
-  stays = λ rows row c up unended. stays_on script rows row c up unended;
+  stays = λ rows row c carries up unended. stays_on script rows row c up unended;
 }

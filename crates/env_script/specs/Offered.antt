@@ -7,7 +7,7 @@ use Rattle.run_model.specs.trace_model.declared.row.Row.{Row}
 use Rattle.run_model.specs.trace_model.Row.{completes}
 use Rattle.run_model.specs.Building.{joined, mask_of}
 use Rattle.run_model.specs.Offers.{no_content}
-use Rattle.script_text.specs.Offer.{Offer, FitsOffer}
+use Rattle.script_text.specs.Offer.{Offer, Carries, FitsOffer}
 
 -- the numbers on channel c: the content that is offered, else 0 for each port
 abbrev pub numbers_on : List Channel → (ℕ → Offer) → ℕ → List ℕ
@@ -32,7 +32,7 @@ AllFit channels offer = (c : ℕ) (x : Channel) → slice_get channels c ≡ Som
 -- what any environment keeps to: each offer fits its channel, and a valid with its content stays until it is taken (A3.2.1)
 pub record AreLasting (channels : List Channel) (offer : List Row → ℕ → Offer) : Type 0 where
   pub fits : (rows : List Row) → AllFit channels (offer rows)
-  pub stays : (rows : List Row) (row : Row) (c : ℕ) → (offer rows c).valid ≡ true → completes row c ≡ false
+  pub stays : (rows : List Row) (row : Row) (c : ℕ) → Carries channels (offer rows) row → (offer rows c).valid ≡ true → completes row c ≡ false
       → offer (rows ++ row ∷ []) c ≡ offer rows c
 
 -- the numbers of n ports, port by port; a port without a number has 0

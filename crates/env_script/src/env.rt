@@ -5,7 +5,7 @@ ghost use Rattle.run_model.specs.trace_model.declared.channel.Channel.{Channel};
 ghost use Rattle.run_model.specs.trace_model.declared.row.Row.{Row};
 ghost use Rattle.run_model.specs.trace_model.Packet.{widths_of};
 ghost use Rattle.run_model.specs.trace_model.Row.{IsOver, completes};
-ghost use Rattle.script_text.specs.declared.script.TheConstants.{MOST_CYCLES};
+ghost use Rattle.run_model.specs.trace_model.declared.packet.TheConstants.{MOST_CYCLES};
 ghost use Rattle.script_text.specs.Offer.{Offer, FitsOffer, Carries, EndsAreCompletions};
 
 use run_model::trace_model::Row;
@@ -50,7 +50,7 @@ pub trait Env {
         requires { channel < length (channels self.now) }
         ensures { result ≡ (current self.now channel).ready };
 
-    /// Goes on by a row that carries what is offered now. At most 50,000 rows are committed. It takes no memory.
+    /// Goes on by a row that carries what is offered now. At most `MOST_CYCLES` rows are committed. It takes no memory.
     fn commit(&mut self, row: &Row)
         requires over { IsOver (channels self.old) row.now }
         requires carries { Carries (channels self.old) (current self.old) row.now }
@@ -71,7 +71,8 @@ pub trait Env {
     ghost fits: { (env : Self) (rows : List Row) (c : ℕ) (channel : Channel) → slice_get (channels env) c ≡ Some channel
         → FitsOffer channel (offer (plan env) rows c) };
 
-    /// A valid and its content stay until a row completes the channel (AMBA AXI4 IHI 0022, A3.2.1).
-    ghost stays: { (env : Self) (rows : List Row) (row : Row) (c : ℕ) → (offer (plan env) rows c).valid ≡ true
+    /// A valid and its content stay until a row completes the channel (AMBA AXI4 IHI 0022, A3.2.1), as long as rows carry what is offered.
+    ghost stays: { (env : Self) (rows : List Row) (row : Row) (c : ℕ) → Carries (channels env) (offer (plan env) rows) row
+        → (offer (plan env) rows c).valid ≡ true
         → completes row c ≡ false → offer (plan env) (rows ++ row ∷ []) c ≡ offer (plan env) rows c };
 }

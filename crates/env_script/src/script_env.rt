@@ -138,7 +138,7 @@ impl<'a> Env for ScriptEnv<'a> {
 
     ghost fits = { λ s rows c channel at. all_fit s.channels.now s.script.now rows c channel s.fits at };
 
-    ghost stays = { λ s rows row c up unended. stays_on s.script.now rows row c up unended };
+    ghost stays = { λ s rows row c carries up unended. stays_on s.script.now rows row c up unended };
 
     fn valid(&self, channel: usize) -> bool {
         matches!(self.step(channel), Some(Step::Send { .. }))

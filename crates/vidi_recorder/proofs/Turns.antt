@@ -23,7 +23,7 @@ use Rattle.room_ledger.specs.Laws.{MayFollow, StandsAfter}
 use Rattle.room_ledger.specs.Ledger.{Ledger, MayEmit, Regranted}
 use Rattle.room_ledger.proofs.Following.{keeps-gates}
 use Rattle.env_script.specs.script_text.declared.stalls.Stalls.{Stalls}
-use Rattle.env_script.specs.script_text.Offer.{Offer, FitsOffer}
+use Rattle.env_script.specs.script_text.Offer.{Offer, Carries, FitsOffer}
 use Rattle.chan_monitor.specs.Shell.{IsShown}
 use Rattle.env_script.specs.Offered.{offers_after, offers_on, AllFit, AreLasting}
 use Rattle.env_script.proofs.Lasting.{offers-stay}
@@ -37,12 +37,13 @@ use Rattle.vidi_recorder.proofs.Turning.{last-push, reached-of, run-more, runs-m
 -- ---- what is offered
 pub lasting : (channels given : List Channel) (offer : List Row → ℕ → Offer) → given ≡ channels
     → ((rows : List Row) (c : ℕ) (x : Channel) → slice_get given c ≡ Some x → FitsOffer x (offer rows c))
-    → ((rows : List Row) (row : Row) (c : ℕ) → (offer rows c).valid ≡ true → completes row c ≡ false
+    → ((rows : List Row) (row : Row) (c : ℕ) → Carries given (offer rows) row → (offer rows c).valid ≡ true → completes row c ≡ false
     → offer (rows ++ row ∷ []) c ≡ offer rows c)
     → AreLasting channels offer
 lasting channels given offer same fits stays = record {
   fits = λ rows c x at. fits rows c x (subst (λ (cs : List Channel). slice_get cs c ≡ Some x) (sym same) at);
-  stays = stays;
+  stays = λ rows row c carries.
+      stays rows row c (subst (λ (cs : List Channel). Carries cs (offer rows) row) (sym same) carries);
 }
 
 pub fits-now : (channels : List Channel) (offer : List Row → ℕ → Offer) (current : ℕ → Offer) (rows : List Row)
